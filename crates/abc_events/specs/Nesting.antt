@@ -1,7 +1,6 @@
 -- The tree of a measure: its leaves in a row, in which each tuplet takes the next events behind it.
 use Rattle.std.specs.Prelude.{◌≡◌, ℕ, zero, suc, ◌-◌, ◌≤◌, List, [], ◌∷◌, ◌++◌}
-use Rattle.mus_score.specs.declared.score.Music.{Music}
-use Rattle.abc_events.specs.{Leaf.Leaf, declared.nesting.Open.Open, declared.nesting.Tree.Tree}
+use Rattle.{mus_score.specs.declared.score.Music.{Music}, abc_events.specs.{Leaf.Leaf, declared.nesting.Open.Open, declared.nesting.Tree.Tree}}
 use Rattle.mus_score.specs.declared.score.Music.TheVariants as music
 
 -- a row of events, each with its nodes, and of tuplets that take so many events, each with a row of its own

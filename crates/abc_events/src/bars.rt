@@ -1,6 +1,5 @@
 ghost use Rattle.std.specs.{Prelude.◌≡◌, Prelude.◌≤◌, Prelude.◌<◌, Prelude.◌^◌, Prelude.◌+◌, Prelude.ℕ, Prelude.Option, Prelude.None, Prelude.length, Prelude.reverse, Prelude.slice_index_or, Prelude.◌==◌, Prelude.IfOk, Prelude.OnOk, List.list_any};
-ghost use Rattle.mus_units.specs.declared.note.Bar.{Bar};
-ghost use Rattle.abc_steps.specs.Counts.{measures_begun};
+ghost use Rattle.{mus_units.specs.declared.note.Bar.{Bar}, abc_steps.specs.Counts.{measures_begun}};
 ghost use Rattle.abc_events.specs.Bars.{plain_bar, unseen_bar, union, union_with, is_seen, joined, bars_behind, bars_at, joined_or, first_bar, missing_bar, bars_of, is_near_bar, is_forced, with_bar, forced_behind, forced_bars};
 
 use abc_steps::counts::{counted, no_counts};

@@ -1,7 +1,6 @@
 -- The first of a set of faults: joined sets, and the least of a list.
 use Rattle.std.{proofs.{Common.{◌≡◌, ◌∙◌, refl, sym, ap, ℕ, List, [], ◌∷◌, ◌++◌, append-nil, Bool, true, false, cond, Option, Some, None, ⊎_elim, subst, arith}, lemmas.{Bool.Decides.nat_tests, List.Elements.{Contains-append_left, Contains-append_right, Contains-append_cases, All-nil, All-cons, All-contains}}}, specs.{Prelude.nat_lt, List.Contains}}
-use Rattle.abc_lines.specs.declared.fault.Fault.{Fault}
-use Rattle.abc_faults.specs.First.{rank_of, then_below, is_before, IsLeast, IsFirst, earlier, first_of}
+use Rattle.{abc_lines.specs.declared.fault.Fault.{Fault}, abc_faults.specs.First.{rank_of, then_below, is_before, IsLeast, IsFirst, earlier, first_of}}
 
 -- the order of faults by three numbers
 abbrev below : ℕ → ℕ → ℕ → ℕ → ℕ → ℕ → Bool

@@ -1,9 +1,8 @@
 -- One step of a walk along the steps of a voice.
-use Rattle.std.proofs.{Common.{◌≡◌, ◌∙◌, sym, ap, ℕ, ◌+◌, ◌<◌, ◌≤◌, List, [], ◌∷◌, ◌++◌, append_assoc, length, drop, take, get_or, reverse, Option}, lemmas.List.{drop_more, drop_all, take_more, reverse-append}}
+use Rattle.std.proofs.{Common.{◌≡◌, ◌∙◌, sym, ap, ℕ, ◌+◌, ◌<◌, List, [], ◌∷◌, ◌++◌, append_assoc, length, drop, take, get_or, reverse}, lemmas.List.{drop_more, take_more, reverse-append}}
 use Rattle.mus_units.specs.declared.pitch.Clef.{Clef}
-use Rattle.abc_lines.specs.declared.fault.Fault.{Fault}
 use Rattle.abc_steps.specs.{declared.step.Stood.Stood, declared.force.InForce.InForce, Looks.Steps, Places.place_at}
-use Rattle.abc_faults.{specs.First.earlier, specs.First.first_of, specs.Faults.grace_faults_of, specs.Faults.grace_faults, specs.Faults.faults_of, specs.Faults.faults_in, specs.Weights.weights_of, specs.Weights.weights_in, proofs.Firsts.earlier_none}
+use Rattle.abc_faults.{specs.Faults.grace_faults_of, specs.Faults.grace_faults, specs.Faults.faults_of, specs.Faults.faults_in, specs.Weights.weights_of, specs.Weights.weights_in}
 
 pub at_front : (steps : Steps) (i : ℕ) (at : Stood) → i < length steps → at ≡ get_or steps i at → drop i steps ≡ at ∷ drop (i + 1) steps
 at_front steps i at less is = drop_more steps i at less ∙ ap (λ x. x ∷ drop (i + 1) steps) (sym is)
@@ -22,10 +21,6 @@ walk_parts first steps i at less is =
     let behind = drop (i + 1) steps in
     ap (faults_in first before) (at_front steps i at less is)
     ∙ ap (λ z. faults_of (place_at first before) before at behind at.step ++ faults_in first z behind) (sym (nearest steps i at less is))
-
-pub walk_done : (first : InForce) (steps : Steps) (i : ℕ) (found all : Option Fault) → length steps ≤ i → earlier found (first_of (faults_in first (reverse (take i steps)) (drop i steps))) ≡ all → found ≡ all
-walk_done first steps i found all done h =
-    sym (earlier_none found) ∙ ap (λ z. earlier found (first_of (faults_in first (reverse (take i steps)) z))) (sym (drop_all i steps done)) ∙ h
 
 pub weigh_parts : (first : InForce) (steps : Steps) (i : ℕ) (at : Stood) → i < length steps → at ≡ get_or steps i at → weights_in first (reverse (take i steps)) (drop i steps)
     ≡ weights_of (place_at first (reverse (take i steps))) (reverse (take i steps)) at (drop (i + 1) steps) at.step ++ weights_in first (reverse (take (i + 1) steps)) (drop (i + 1) steps)

@@ -1,8 +1,7 @@
 -- All faults that hold in a voice, each at its place, by each step in turn with what stands before it, the nearest first, and what follows it.
 use Rattle.std.specs.{Prelude.{ℕ, ◌+◌, ◌-◌, List, [], ◌∷◌, ◌++◌, Bool, true, false, not, ◌&&◌, ◌||◌, nat_le, nat_lt, int_lt, pos, negsuc, is_none, if◌then◌else◌, count_by, flat_map}, List.{before_first, list_any}}
 use Rattle.mus_units.specs.{declared.note.Head.Head, declared.pitch.Clef.Clef, declared.key.Meter.Meter, Pitch.height_of, Parts.parts_list}
-use Rattle.abc_lines.specs.{declared.fault.FaultKind.FaultKind, declared.fault.Fault.Fault}
-use Rattle.abc_notes.specs.declared.part.GraceChord.{GraceChord}
+use Rattle.{abc_lines.specs.{declared.fault.FaultKind.FaultKind, declared.fault.Fault.Fault}, abc_notes.specs.declared.part.GraceChord.{GraceChord}}
 use Rattle.abc_steps.specs.{declared.{step.{Sound.Sound, Step.Step, Stood.Stood}, force.InForce.InForce, tuplets.Taking.Taking, place.Place.Place}, Kinds.is_sound, Looks.{Steps, since_event, has_left, has_right}, Lengths.written_length, Tuplets.{or_default, fits}, Places.{place_at, measure_of}}
 
 -- a fault of that kind at a step

@@ -1,8 +1,6 @@
 -- How many heads and rests stand at each place, and where there are too many of them so far.
 use Rattle.std.specs.{Prelude.{◌≡◌, ⊤, false, ℕ, ◌*◌, List, [], ◌∷◌, ◌++◌, length, max, min, Bool, nat_lt, if◌then◌else◌, sum_by, flat_map, Option, Some, None}, List.AllByRecursion}
-use Rattle.mus_units.specs.{declared.value.Value.Value, Parts.parts_list}
-use Rattle.abc_lines.specs.declared.fault.{FaultKind.FaultKind, Fault.Fault}
-use Rattle.abc_notes.specs.declared.part.GraceChord.{GraceChord}
+use Rattle.{mus_units.specs.{declared.value.Value.Value, Parts.parts_list}, abc_lines.specs.declared.fault.{FaultKind.FaultKind, Fault.Fault}, abc_notes.specs.declared.part.GraceChord.{GraceChord}}
 use Rattle.abc_steps.specs.{declared.step.Sound.Sound, declared.step.Step.Step, declared.step.Stood.Stood, declared.force.InForce.InForce, Looks.Steps, Looks.since_event, Lengths.written_length, declared.place.Place.Place, Places.place_at}
 use Rattle.abc_faults.specs.{declared.weights.Weight.Weight, First.then_below}
 

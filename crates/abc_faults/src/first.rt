@@ -1,6 +1,5 @@
 ghost use Rattle.std.specs.Prelude.{◌≡◌, ◌++◌, List};
-ghost use Rattle.abc_lines.specs.declared.fault.Fault.{Fault};
-ghost use Rattle.abc_faults.specs.First.{rank_of, is_before, earlier, IsFirst};
+ghost use Rattle.{abc_lines.specs.declared.fault.Fault.{Fault}, abc_faults.specs.First.{rank_of, is_before, earlier, IsFirst}};
 
 use abc_lines::{Fault, FaultKind};
 

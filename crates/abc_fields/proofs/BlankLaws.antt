@@ -1,7 +1,6 @@
 -- A text without the blanks at its ends is what stands between blanks in it.
 use Rattle.std.{proofs.{Common.{◌≡◌, refl, sym, ap, ◌∙◌, ℕ, suc, ◌+◌, ◌-◌, List, [], ◌∷◌, ◌++◌, Bool, true, false, length, take, drop, arith, cond, length-append, ◌==◌, not, reverse}, lemmas.{Bool.{and_parts, eqb-true, eqb-false, not-true}, List.{take-append-drop, append-nil, reverse-append, length-reverse, Folds.prefix_len-append, Sums.suffix_len-le-length}}, Math.Seq.take-append_seam}, specs.List.{list_all, prefix_len, suffix_len}}
-use Rattle.abc_lines.specs.Kinds.{is_blank, behind_blanks}
-use Rattle.abc_fields.{specs.Words.trimmed, specs.WordSpelling.IsBetweenBlanks, proofs.WordLaws.behind-cons}
+use Rattle.{abc_lines.specs.Kinds.{is_blank, behind_blanks}, abc_fields.{specs.Words.trimmed, specs.WordSpelling.IsBetweenBlanks, proofs.WordLaws.behind-cons}}
 
 -- How many at the end pass a test.
 suffix-cons : (p : ℕ → Bool) (b : ℕ) (s : List ℕ) → suffix_len p (b ∷ s) ≡ cond (suffix_len p s == length s) (length s + cond (p b) 1 0) (suffix_len p s)

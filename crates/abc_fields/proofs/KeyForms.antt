@@ -1,7 +1,6 @@
 -- A text reads as a key exactly where a good form of it spells the words of the text.
 use Rattle.std.{proofs.{Common.{◌≡◌, refl, sym, ap, ◌∙◌, subst, ℕ, List, [], ◌∷◌, Bool, true, false, map, inl, inr, ◌==◌, ◌⊎◌, pos, Option, Some, None, codes}, lemmas.{Bool.{eqb-true, eqb-false, ne_eqb}, Slice.Eq.bytes_eq-Decides}, Math.Bool.and-false}, specs.{Char.to_ascii_lowercase, Option.{option_map, option_and_then, option_or}, Str.bytes_eq}}
-use Rattle.mus_units.specs.{declared.pitch.Alter.Alter, declared.pitch.Letter.Letter}
-use Rattle.mus_pitch.specs.declared.circle.Mode.{Mode}
+use Rattle.{mus_units.specs.{declared.pitch.Alter.Alter, declared.pitch.Letter.Letter}, mus_pitch.specs.declared.circle.Mode.{Mode}}
 use Rattle.abc_fields.{specs.{Keys.{natural_of, signed, key_words, major_like, minor_like, mode_named, mode_by_three, mode_of, start_of, start_with, with_next_mode, without_mode, by_mode, mode_on, altered, tonic_of, fixed_start, first_words, key_by, key_from, key_of}, KeySpelling.{letter_byte, word_spelled, ModeName, maj_name, ion_name, mix_name, lyd_name, min_name, aeo_name, dor_name, phr_name, loc_name, three_letters, mode_of_name, ModeForm, minor_form, named_form, mode_spelled, IsGoodMode, mode_meant, Accident, plain_tonic, sharp_tonic, flat_tonic, accident_spelled, accident_meant, tonic_spelled, KeyHead, empty_head, none_head, bagpipe_head, signed_bagpipe_head, tonic_head, written_head, parted_head, kept_head, head_spelled, NoMode, BeginsNoKey, BeginOther, IsGoodHead, head_meant, SaysKey}, declared.key.{KeyText.KeyText, KeyWord.KeyWord, Start.Start, Tonic.Tonic}, Words.words_of}, proofs.{MeterForms.{none_is_some, same_bytes}, WordForms.{words-spelled, words-of-spelled}, KeyWordForms.{natural-takes, words-take, words-read}}}
 
 -- Modes.

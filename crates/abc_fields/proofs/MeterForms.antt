@@ -1,7 +1,6 @@
 -- A text reads as a meter exactly where a good form of that meter spells it; likewise unit lengths.
 use Rattle.std.{proofs.{Common.{◌≡◌, refl, sym, ap, ◌∙◌, subst, ℕ, suc, ◌+◌, ◌≤◌, ◌<◌, List, [], ◌∷◌, ◌++◌, Bool, true, false, length, take, drop, arith, inl, inr, ◌==◌, ◌⊎◌, not, nat_eq, nat_le, Option, Some, None, unwrap_or, codes, take-append-drop}, lemmas.{Bool.{and_parts, leb-true, le-leb, eqb-true, ne_eqb}, List.{Folds.list_all-append, Splits.{join_with_byte-slice_split, length-slice_split}}, Slice.Eq.bytes_eq-Decides}, Math.Seq.{take-append_seam, drop-append_seam}}, specs.{List.{list_all, join_with_byte, slice_split, starts_with}, Str.bytes_eq}}
-use Rattle.mus_units.specs.{declared.key.Meter.Meter, declared.value.Frac.Frac, Good.is_halving}
-use Rattle.abc_lines.specs.Kinds.{is_blank}
+use Rattle.{mus_units.specs.{declared.key.Meter.Meter, declared.value.Frac.Frac, Good.is_halving}, abc_lines.specs.Kinds.{is_blank}}
 use Rattle.abc_fields.{specs.{Meters.{is_plus, halving_of, added, sum_of, ratio, below_of, below_behind, plain_ratio, wrapped_ratio, ratio_by, ratio_of, meter_at, meter_of, one_over, unit_at, unit_of}, MeterSpelling.{MeterForm, common_form, cut_form, none_form, empty_form, sum_form, wrapped_form, meter_spelled, value_sum, IsGoodSum, IsGoodMeterForm, meter_meant, WritesMeter, SaysMeter, UnitForm, whole_form, over_form, unit_spelled, IsGoodUnitForm, unit_meant, WritesUnit, SaysUnit}, Numbers.{is_digit, is_number, value_of, number_of, place_of, before, from_first, behind_one}, Words.{trimmed, behind}}, proofs.BlankLaws.{trimmed-between, between-trimmed}}
 
 -- no byte of s is this one

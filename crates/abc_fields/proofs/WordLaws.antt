@@ -1,7 +1,6 @@
 -- The words of a text are its first word and the words of what follows it.
 use Rattle.std.{proofs.Common.{◌≡◌, refl, ap, sym, ◌∙◌, ℕ, suc, ◌+◌, List, [], ◌∷◌, Bool, true, false, not, take, drop, arith, subst}, specs.{Prelude.{⊤, Option, filter, ◌&&◌}, List.prefix_len}}
-use Rattle.abc_lines.specs.Kinds.{is_blank, behind_blanks}
-use Rattle.abc_fields.specs.Words.{is_empty, quoted_after, parts_words, pieces, words_in, word_len, word_and_rest, next_word, words_after}
+use Rattle.{abc_lines.specs.Kinds.{is_blank, behind_blanks}, abc_fields.specs.Words.{is_empty, quoted_after, parts_words, pieces, words_in, word_len, word_and_rest, next_word, words_after}}
 
 blank_passed : (quotes : Bool) (b : ℕ) (s : List ℕ) → is_blank b ≡ true → words_in quotes (b ∷ s) ≡ words_in quotes s
 unfolding words_in

@@ -1,8 +1,6 @@
 -- Directives: their name, and what those that bear on breaks and on signs say.
 use Rattle.std.specs.{Prelude.{ℕ, List, Bool, ◌||◌, not, if◌then◌else◌, take, drop, codes, Option, Some, None}, List.{prefix_len, list_any}, Str.bytes_eq}
-use Rattle.mus_units.specs.declared.key.Spread.{Spread}
-use Rattle.abc_lines.specs.Kinds.{is_blank}
-use Rattle.abc_fields.specs.{declared.directive.Breaks.Breaks, Words.words_of, Words.trimmed}
+use Rattle.{mus_units.specs.declared.key.Spread.{Spread}, abc_lines.specs.Kinds.{is_blank}, abc_fields.specs.{declared.directive.Breaks.Breaks, Words.words_of, Words.trimmed}}
 
 -- the name is what stands before the first blank
 abbrev pub name_len : List ℕ → ℕ

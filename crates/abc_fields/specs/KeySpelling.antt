@@ -1,8 +1,7 @@
 -- How keys are written: words, each a form with its spelling, when it is good, and what it means.
 use Prim.Native.Char.{code}
 use Rattle.std.specs.{Prelude.{◌≡◌, ℕ, ◌+◌, pos, List, [], ◌∷◌, ◌++◌, Bool, true, false, IsTrue, ⊤, ◌==◌, map, codes, Some}, Char.to_ascii_lowercase, List.list_any}
-use Rattle.mus_units.specs.{declared.pitch.Alter.Alter, declared.pitch.Letter.Letter}
-use Rattle.mus_pitch.specs.declared.circle.Mode.{Mode}
+use Rattle.{mus_units.specs.{declared.pitch.Alter.Alter, declared.pitch.Letter.Letter}, mus_pitch.specs.declared.circle.Mode.{Mode}}
 use Rattle.abc_fields.specs.{declared.key.KeyText.KeyText, declared.key.KeyWord.KeyWord, declared.key.Start.Start, Keys.start_of, Keys.start_with, Keys.key_by, VoiceSpelling.ClefForm, VoiceSpelling.clef_spelled, VoiceSpelling.clef_meant, WordSpelling.HasWords}
 
 -- A to G; a small letter stands 32 further

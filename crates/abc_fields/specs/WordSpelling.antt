@@ -1,7 +1,6 @@
 -- How blanks stand round a text and between words. A blank is a space or a tab.
 use Rattle.std.specs.{Prelude.{◌≡◌, ℕ, List, [], ◌∷◌, ◌++◌, IsTrue, ⊤, not}, List.list_all}
-use Rattle.abc_lines.specs.Kinds.{is_blank}
-use Rattle.abc_fields.specs.Words.{is_empty}
+use Rattle.{abc_lines.specs.Kinds.{is_blank}, abc_fields.specs.Words.{is_empty}}
 
 -- the text is this, between blanks or not
 pub record IsBetweenBlanks (text core : List ℕ) : Type 0 where

@@ -1,7 +1,6 @@
 -- What good fields give is good, and the ids that fields mention are distinct.
 use Rattle.std.{proofs.{Common.{◌≡◌, refl, ap, sym, ◌∙◌, ℕ, suc, ◌+◌, ◌≤◌, List, [], ◌∷◌, ◌++◌, Bool, true, false, map, length, arith, subst, cond, Bor, ◌<◌, get_or, drop, drop-cons, append_assoc}, lemmas.{List.Sums.sum_by-cons, Slice.Eq.bytes_eq-Decides}}, specs.{Prelude.{Option, Some, None, IfSome, if◌then◌else◌, count_by, fold, Ok}, List.list_any, Option.{option_or, option_copied}, Str.bytes_eq}}
-use Rattle.mus_units.specs.{declared.value.Frac.Frac, Good.IsGoodMeter, Good.IsGoodUnit}
-use Rattle.abc_lines.specs.declared.book.Line.{Line}
+use Rattle.{mus_units.specs.{declared.value.Frac.Frac, Good.IsGoodMeter, Good.IsGoodUnit}, abc_lines.specs.declared.book.Line.{Line}}
 use Rattle.abc_fields.specs.{declared.field.Field.Field, declared.key.KeyText.KeyText, declared.voice.VoiceDef.VoiceDef, Fields.IsGoodField, Fields.field_of, Keys.IsGoodKeyText, Last.last_of}
 use Rattle.abc_header.specs.{Good.GoodUnitIn, Headers.{AllGood, AreDistinct, key_in, meter_in, unit_in, fields_of, put_field, first_fault, fault_at, ids_with}, Voicing.{ids_after, ids_of, voice_from, voices_of}}
 

@@ -1,8 +1,6 @@
 -- Ids kept as keys of a set are the ids by their bytes.
 use Rattle.std.{proofs.Common.{◌≡◌, refl, ap, sym, ◌∙◌, ℕ, List, [], ◌∷◌, ◌++◌, Bool, true, false, map, suc, ◌+◌, ◌<◌, length, get_or, drop, drop-cons, append_assoc, arith}, specs.{Prelude.{◌||◌, if◌then◌else◌}, List.list_any, Str.bytes_eq}}
-use Rattle.indexmap.specs.IndexSet.{insert_key}
-use Rattle.abc_fields.specs.{declared.field.Field.Field, declared.voice.VoiceDef.VoiceDef}
-use Rattle.abc_header.specs.Voicing.{with_id, voice_from}
+use Rattle.{indexmap.specs.IndexSet.{insert_key}, abc_fields.specs.{declared.field.Field.Field, declared.voice.VoiceDef.VoiceDef}, abc_header.specs.Voicing.{with_id, voice_from}}
 
 any_by_name : {X : Type 0} (f : X → List ℕ) (ks : List X) (k : X) → list_any (λ y. bytes_eq (f k) (f y)) ks ≡ list_any (bytes_eq (f k)) (map f ks)
 any_by_name f [] k = refl

@@ -1,8 +1,7 @@
 -- How a directive is written: `%%` or `I:`, which mean the same, then its name, with blanks before
 -- it or not, and behind it what the directive says, between blanks.
 use Rattle.std.specs.Prelude.{◌≡◌, ℕ, List, [], ◌∷◌, ◌++◌, IsTrue, ⊤, not, reverse, codes}
-use Rattle.abc_lines.specs.Kinds.{is_blank}
-use Rattle.abc_fields.specs.WordSpelling.{IsFirstWord, IsBetweenBlanks}
+use Rattle.{abc_lines.specs.Kinds.{is_blank}, abc_fields.specs.WordSpelling.{IsFirstWord, IsBetweenBlanks}}
 
 pub data Lead : Type 0 where
   percents : Lead

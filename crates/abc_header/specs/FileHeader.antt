@@ -1,8 +1,7 @@
 -- What the file header states for all tunes and of the paper, and a tune's header of its staves: of
 -- each kind the last line that states one counts, and a line in another form states nothing.
 use Rattle.std.specs.{Prelude.{◌≡◌, ◌⊎◌, ◌≤◌, ℕ, List, [], ◌∷◌, ◌++◌, ⊤, Option, Some, None, codes}, Option.option_map}
-use Rattle.mus_units.specs.{declared.key.Meter.Meter, declared.key.Spread.Spread, declared.value.Frac.Frac}
-use Rattle.abc_lines.specs.{declared.book.Line.Line, declared.book.TuneText.TuneText}
+use Rattle.{mus_units.specs.{declared.key.Meter.Meter, declared.key.Spread.Spread, declared.value.Frac.Frac}, abc_lines.specs.{declared.book.Line.Line, declared.book.TuneText.TuneText}}
 use Rattle.abc_fields.specs.{declared.directive.Breaks.Breaks, FieldSpelling.SaysBreaks, FieldSpelling.SaysSpread, MeterSpelling.SaysMeter, MeterSpelling.SaysUnit}
 use Rattle.abc_header.specs.{declared.{defaults.Defaults.Defaults, paper.Paper.Paper}, Defaults.{default_breaks, line_of}, DirectiveSpelling.IsDirective, Headers.{first_line, head_lines, key_place}, Papers.{default_paper, width_of, height_of}, PaperSpelling.{WritesLength, WritesScale}}
 

@@ -1,7 +1,6 @@
 -- The voices that fields name: each id once, in order of first mention, with what its lines say.
 use Rattle.std.specs.{Prelude.{ℕ, List, [], ◌∷◌, ◌++◌, ◌&&◌, if◌then◌else◌, map, fold, Option, Some, None, is_some, unwrap_or}, List.list_any, Str.bytes_eq}
-use Rattle.mus_units.specs.{declared.pitch.Clef.Clef, declared.note.Wish.Wish}
-use Rattle.abc_fields.specs.{declared.voice.VoiceDef.VoiceDef, declared.field.Field.Field, Last.last_of}
+use Rattle.{mus_units.specs.{declared.pitch.Clef.Clef, declared.note.Wish.Wish}, abc_fields.specs.{declared.voice.VoiceDef.VoiceDef, declared.field.Field.Field, Last.last_of}}
 
 -- an id that stands there already doesn't come again
 abbrev pub with_id : List (List ℕ) → List ℕ → List (List ℕ)

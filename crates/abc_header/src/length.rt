@@ -1,8 +1,7 @@
 //! Lengths of paper, and its scale.
 
 ghost use Rattle.std.specs.{Prelude.{◌≡◌, ◌≤◌, ◌&&◌, nat_le, length, IfSome, IsTrue, take, drop, codes, ◌-◌}, List.prefix_len, Option.option_map};
-ghost use Rattle.abc_lines.specs.Kinds.{code};
-ghost use Rattle.abc_fields.specs.{Numbers.is_digit, Numbers.value_of, Words.behind};
+ghost use Rattle.{abc_lines.specs.Kinds.{code}, abc_fields.specs.{Numbers.is_digit, Numbers.value_of, Words.behind}};
 ghost use Rattle.abc_header.specs.Lengths.{digit_len, with_decimals, decimals, whole_of, hundredths_of, in_units, within_paper, length_of, is_scale, scale_by, scale_of};
 
 use abc_fields::numbers::capped_value;

@@ -1,8 +1,7 @@
 //! The voices that fields name, in order of first mention.
 
 ghost use Rattle.std.specs.Prelude.{◌≡◌, length, map, IfOk, OnOk, [], is_some, unwrap_or};
-ghost use Rattle.abc_fields.specs.Last.{last_of};
-ghost use Rattle.abc_header.specs.Voicing.{with_id, ids_after, clef_for, wish_for, voice_from};
+ghost use Rattle.{abc_fields.specs.Last.{last_of}, abc_header.specs.Voicing.{with_id, ids_after, clef_for, wish_for, voice_from}};
 
 use abc_fields::field::Field;
 use abc_fields::voice::VoiceDef;

@@ -1,12 +1,9 @@
 -- What is read goes on from part to part.
 use Rattle.std.{proofs.{Common.{◌≡◌, ℕ, suc, ◌+◌, ◌<◌, ◌≤◌, ◌^◌, List, [], ◌∷◌, ◌++◌, length, map, take, drop, get_or, refl, sym, ap, ◌∙◌, subst, arith, append_assoc, append-nil, drop-cons, Option, Some, None, Bool, true, false, ◌&&◌, All, flat_map}, Math.{Seq.take-suc, ListN.drop_of_length-le}, lemmas.List.{Sums.sum_by-cons, Elements.{All-nil, All-push, All-append, All-head, All-tail}}}, specs.Str.bytes_eq}
-use Rattle.mus_units.specs.declared.pitch.Clef.{Clef}
-use Rattle.abc_steps.specs.{declared.step.Step.Step, declared.step.Stood.Stood, Good.IsGoodStood, declared.step.Item.Item}
+use Rattle.{mus_units.specs.declared.pitch.Clef.{Clef}, abc_steps.specs.{declared.step.Step.Step, declared.step.Stood.Stood, Good.IsGoodStood, declared.step.Item.Item}}
 use Rattle.abc_items.specs.{Good.IsGoodItem, declared.body.Body.Body, Voices.{ids_after, declared_ids, stood, break_if, one_if, named_step, steps_in, own_next, steps_from}, Body.{Given, gives, fails, item_judged, judged, first_fault, items_in, LineGives, BodyGives, no_lines, one_line, IsBody, IsBodyError}, Reading.{Reads, Stops, ReadsSome, StopsBy, LinesStop}}
-use Rattle.abc_lines.specs.{declared.book.Line.Line, declared.fault.Fault.Fault, declared.fault.TuneError.TuneError, Good.size_of}
-use Rattle.abc_tokens.specs.declared.token.Placed.{Placed}
-use Rattle.abc_fields.specs.declared.directive.Breaks.{Breaks}
-use Rattle.abc_header.specs.declared.header.Header.{Header}
+use Rattle.{abc_lines.specs.{declared.book.Line.Line, declared.fault.Fault.Fault, declared.fault.TuneError.TuneError, Good.size_of}, abc_tokens.specs.declared.token.Placed.{Placed}}
+use Rattle.{abc_fields.specs.declared.directive.Breaks.{Breaks}, abc_header.specs.declared.header.Header.{Header}}
 
 -- one element more of a row that is made of another
 pub mapped-more : {X Y : Type 0} (f : X → Y) (xs : List X) (i : ℕ) (x : X) (done new : List Y) (y : Y) → i < length xs → x ≡ get_or xs i x → new ≡ done ++ y ∷ [] → y ≡ f x

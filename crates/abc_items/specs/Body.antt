@@ -3,13 +3,9 @@
 use Rattle.std.specs.{Prelude.{◌≡◌, ℕ, ◌+◌, ◌-◌, ◌*◌, ◌==◌, ◌&&◌, not, nat_lt, List, [], ◌∷◌, ◌++◌, Bool, true, false, if◌then◌else◌, map, flat_map, length, take, get_or, Option, Some, None, Result, Ok, Err, ⊤, nat_eq}, List.ends_with}
 use Rattle.mus_units.specs.declared.note.Head.{Head}
 use Rattle.abc_lines.specs.{declared.book.Line.Line, declared.fault.Fault.Fault, declared.fault.FaultKind.FaultKind, declared.fault.TuneError.TuneError, declared.kind.LineKind.LineKind, Kinds.kind_of}
-use Rattle.abc_pieces.specs.declared.token.{Token.Token, WrittenChord.WrittenChord}
-use Rattle.abc_notes.specs.declared.part.Len.{Len}
-use Rattle.abc_tokens.specs.{declared.token.Placed.Placed, Tokens.FrontOf}
-use Rattle.abc_fields.specs.{declared.directive.Breaks.Breaks, declared.field.Field.Field, Fields.field_of, Fields.named_field}
-use Rattle.abc_header.specs.{declared.header.Header.Header, Voicing.with_id}
-use Rattle.abc_steps.specs.{declared.step.Sound.Sound, declared.step.Step.Step, declared.step.Item.Item}
-use Rattle.abc_items.specs.Voices.{stood, ids_after, declared_ids}
+use Rattle.{abc_pieces.specs.declared.token.{Token.Token, WrittenChord.WrittenChord}, abc_notes.specs.declared.part.Len.{Len}, abc_tokens.specs.{declared.token.Placed.Placed, Tokens.FrontOf}}
+use Rattle.{abc_fields.specs.{declared.directive.Breaks.Breaks, declared.field.Field.Field, Fields.field_of, Fields.named_field}, abc_header.specs.{declared.header.Header.Header, Voicing.with_id}}
+use Rattle.{abc_steps.specs.{declared.step.Sound.Sound, declared.step.Step.Step, declared.step.Item.Item}, abc_items.specs.Voices.{stood, ids_after, declared_ids}}
 
 pub data Given : Type 0 where
   gives : Item → Given

@@ -1,9 +1,7 @@
 -- Between what a body is and the code: what has been read so far, whatever follows.
 use Rattle.std.specs.Prelude.{◌≡◌, ℕ, List, [], ◌∷◌, ◌++◌, take, Option, Some, None, Bool, true, false, ⊤}
-use Rattle.abc_lines.specs.declared.{book.Line.Line, fault.Fault.Fault, fault.TuneError.TuneError, fault.FaultKind.FaultKind}
-use Rattle.abc_fields.specs.declared.directive.Breaks.{Breaks}
-use Rattle.abc_steps.specs.declared.step.Item.{Item}
-use Rattle.abc_items.specs.{declared.body.Body.Body, Body.Given, Body.gives, Body.fails, Body.BodyGives, Body.judged, Body.first_fault, Body.items_in}
+use Rattle.{abc_lines.specs.declared.{book.Line.Line, fault.Fault.Fault, fault.TuneError.TuneError, fault.FaultKind.FaultKind}, abc_fields.specs.declared.directive.Breaks.{Breaks}}
+use Rattle.{abc_steps.specs.declared.step.Item.{Item}, abc_items.specs.{declared.body.Body.Body, Body.Given, Body.gives, Body.fails, Body.BodyGives, Body.judged, Body.first_fault, Body.items_in}}
 
 abbrev pub maybe_given : Option Item → List Given
 maybe_given None = []

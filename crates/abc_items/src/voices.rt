@@ -1,8 +1,7 @@
 ghost use Rattle.std.specs.{Prelude.{◌≡◌, ◌++◌, ◌∷◌, ◌&&◌, ◌||◌, not, ◌==◌, [], IfOk, OnOk, map, find, fold, length, unwrap_or, true, false, All}, List.list_any, Option.option_copied, Str.bytes_eq};
 ghost use Rattle.abc_steps.specs.Good.{IsGoodStood};
 ghost use Rattle.abc_items.specs.{Good.IsGoodItem, Voices.{claims, voice_one, ids_by_step, ids_after, declared_ids, ids_of, unnamed_of, declared, decides, clef_in, still_alone, first_clef, clef_first, start_clef, wish_in, wish_if, declared_wish, start_stem, start_of, starts_of, stood, break_if, clef_step, one_if, named_step, steps_in, own_next, steps_of}};
-ghost use Rattle.abc_fields.specs.Last.{last_of};
-ghost use Rattle.abc_header.specs.Voicing.{with_id};
+ghost use Rattle.{abc_fields.specs.Last.{last_of}, abc_header.specs.Voicing.{with_id}};
 
 use crate::copies::copy_stood;
 use abc_fields::VoiceDef;

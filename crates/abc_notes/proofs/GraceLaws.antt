@@ -1,7 +1,6 @@
 -- Reading a part of a grace group, and a group, gives the longest; where there is none its fault is found.
 use Rattle.std.{proofs.{Common.{◌≡◌, ℕ, zero, suc, ◌+◌, ◌-◌, ◌≤◌, ◌<◌, Bool, true, false, cond, eqb, List, [], ◌∷◌, ◌++◌, length, take, drop, Option, Some, None, refl, sym, ap, ◌∙◌, subst, arith, inl, inr, ◌⊎◌, append_assoc, append-nil, add-one, not, ◌&&◌, ◌||◌, IfSome, option_map, MatchOption}, lemmas.{Bool.{cond_both, and_parts, eqb-true, ne_eqb, or_cases, not-true, eqb-false, or_parts}, List.{length-append, length-drop, take-append-drop, append_cancel_left, append_cancel_right, nil_from_length}, Option.same_Some}, Math.Seq.{take-append_seam, drop-append_seam}}, specs.List.list_all}
-use Rattle.mus_units.specs.declared.pitch.{Alter.Alter, Letter.Letter, Alter.TheVariants.Sharp2, Letter.TheVariants.C}
-use Rattle.abc_lines.specs.declared.fault.FaultKind.TheVariants.{Unclosed}
+use Rattle.{mus_units.specs.declared.pitch.{Alter.Alter, Letter.Letter, Alter.TheVariants.Sharp2, Letter.TheVariants.C}, abc_lines.specs.declared.fault.FaultKind.TheVariants.{Unclosed}}
 use Rattle.abc_notes.{specs.{Items.{Inner, note_inside, letter_inside, named_inside, tie_inside, slur_inside, passed_inside, lone_inside, inner_then, IsInner, IsName, StandsInside, name_at, item_class, inner_at, is_letter_inside}, Graces.{GracePart, single, chorded, grace_part_then, IsGracePart, StandsInGrace, GraceParts, GraceLeads, part_has_length, GraceForm, is_in_grace, is_slash_byte, is_brace, grace_then, IsGrace, body_of_part, GraceFlawed, HasSlash, GraceFault, grace_unclosed, grace_open, grace_flawed, chorded_read, single_read, grace_part_at, brace_here, brace_in, brace_in_name, closes_at, last_closing, brace_in_chord, brace_behind, brace_in_part, brace_at, grace_from, grace_at, bodied, body_inside, inside_of_part, IsPartFlaw, item_within}, declared.part.{Flaw.Flaw, GraceChord.GraceChord, GraceItem.GraceItem}, Runs.{maybe, skip, span_all, begins, one_of}, Lengths.{LengthForm, length_then, length_at}, Notes.{sign_then, letter_byte}, Decorations.{is_deco_letter, is_name_byte}, Parts.{no_part, then_part, stuck_here, stuck_later, walk, is_done, length_at_place, later_or}, Chords.{ChordForm, chord_then, IsChord, bracket_at, chord_at, at_most}}, proofs.{ChordLaws.{TakesChord, bracket_at-closes, chord_at-takes, chord_at-reaches, chord-reads, chord-longer, has_lone, is_lone, le_lt, later_assoc, later_none, cut_off}, CutLaws.{two, none_left, some_left, first_close, name_end, length_past, moved, no_shorter, inner_append, length_append, length_free, Cut, cut_at, first_same, rest_same, Local, read_cut, leads_of_walk, wider, all_join, all_parts, clear_parts, free, is_named, inner_free, named_bad, CrossesIn, crossing, lone_at}, RunLaws.{Lacks, skip-takes, skip-lacks}, SpanLaws.{span_all-takes, span_all-after, span_all-append, span_all-stops}, PartLaws.{Reader, stands_at, less, longest_of, longest_is, none_of, walk-none, walk-some, by_parts, parts_of_walk, walk_of_parts}, LengthLaws.length_at-takes, InnerLaws.{inner_reader, inner-longer, place_small}, ItemLaws.{name_at-takes, name_at-reads}}}
 
 abbrev pub at_least : ℕ → Option ℕ → Type 0

@@ -2,8 +2,7 @@
 -- them. A name within may hold a closing bracket; a chord is as long as it can be.
 use Prim.Native.Char.{code}
 use Rattle.std.specs.{Prelude.{◌≡◌, ◌≤◌, ◌-◌, ℕ, suc, List, [], ◌∷◌, ◌++◌, length, take, drop, map, Bool, true, false, not, ◌==◌, ◌||◌, ◌&&◌, if◌then◌else◌, Option, Some, None}, List.list_all}
-use Rattle.mus_units.specs.{declared.note.Head.Head, declared.note.Deco.Deco}
-use Rattle.abc_lines.specs.declared.fault.FaultKind.TheVariants.{BadByte, Unclosed}
+use Rattle.{mus_units.specs.{declared.note.Head.Head, declared.note.Deco.Deco}, abc_lines.specs.declared.fault.FaultKind.TheVariants.{BadByte, Unclosed}}
 use Rattle.abc_notes.specs.{Items.{Inner, Sense, says_note, says_letter, says_name, says_tie, sense, inner_then, has_length, StandsInside, InnerParts, InnerFlawed, name_at, inner_at}, declared.part.{Flaw.Flaw, Len.Len}, Runs.span_all, Lengths.{LengthForm, length_then, IsLength, length_at}, Decorations.{deco_of_letter, deco_of_name}, Parts.{HasNone, Leads, walk, is_done, spelled_then, later_or}}
 
 pub record ChordForm : Type 0 where

@@ -2,8 +2,7 @@
 -- chord, may hold a closing brace; a group is as long as it can be.
 use Prim.Native.Char.{code}
 use Rattle.std.specs.{Prelude.{◌≡◌, ◌≤◌, ◌<◌, ◌-◌, ℕ, zero, suc, List, [], ◌∷◌, ◌++◌, length, take, drop, map, Bool, true, false, not, ◌==◌, ◌&&◌, if◌then◌else◌, Option, Some, None, option_map, MatchBool}, List.list_all}
-use Rattle.mus_units.specs.declared.note.Head.{Head}
-use Rattle.abc_lines.specs.declared.fault.FaultKind.TheVariants.{Unclosed}
+use Rattle.{mus_units.specs.declared.note.Head.{Head}, abc_lines.specs.declared.fault.FaultKind.TheVariants.{Unclosed}}
 use Rattle.abc_notes.specs.{Items.{Inner, Sense, says_note, sense, inner_then, IsInner, has_length, name_at, inner_at, IsBadByte, sense_of, is_note}, declared.part.{Flaw.Flaw, GraceChord.GraceChord, GraceItem.GraceItem}, Runs.{maybe, skip, span_all, begins}, Chords.{ChordForm, chord_then, IsChord, ChordFault, chord_at, senses}, Lengths.length_at, Parts.{Parts, Leads, Flawed, IsFlaw, goes_on_length, walk, is_done}}
 
 pub data GracePart : Type 0 where

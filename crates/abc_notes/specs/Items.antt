@@ -2,8 +2,7 @@
 -- there, which is blanks, slurs and a lone exclamation mark.
 use Prim.Native.Char.{code}
 use Rattle.std.specs.{Prelude.{◌≡◌, ◌≤◌, ℕ, List, [], ◌∷◌, ◌++◌, length, Bool, true, false, ◌==◌, ◌||◌, if◌then◌else◌, Option, Some, None, option_map, codes}, List.list_all}
-use Rattle.mus_units.specs.declared.note.Head.{Head}
-use Rattle.abc_lines.specs.declared.fault.FaultKind.TheVariants.{BadByte, BadLength}
+use Rattle.{mus_units.specs.declared.note.Head.{Head}, abc_lines.specs.declared.fault.FaultKind.TheVariants.{BadByte, BadLength}}
 use Rattle.abc_notes.specs.{declared.part.{Flaw.Flaw, Len.Len, Item.Item, ItemClass.ItemClass}, Runs.{maybe, one_of, is_note_letter, span_all}, Lengths.len_of, Notes.{NoteForm, note_then, IsNote, head_of, note_at}, Decorations.{is_deco_letter, is_name_byte}, Parts.{Parts, Flawed, goes_on_length}}
 
 pub data Inner : Type 0 where

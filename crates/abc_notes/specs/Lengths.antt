@@ -3,8 +3,7 @@
 -- one to six slashes, each of which halves. What they mean, and reading them.
 use Prim.Native.Char.{code}
 use Rattle.std.specs.{Prelude.{◌≡◌, ℕ, zero, suc, ◌≤◌, ◌^◌, List, [], ◌∷◌, ◌++◌, length, Bool, true, false, ◌==◌, if◌then◌else◌}, List.list_all, Str.Parse.digits_value}
-use Rattle.abc_notes.specs.{declared.part.Len.Len, Runs.copies, Runs.span, Runs.begins}
-use Rattle.mus_units.specs.Bytes.{is_digit}
+use Rattle.{abc_notes.specs.{declared.part.Len.Len, Runs.copies, Runs.span, Runs.begins}, mus_units.specs.Bytes.{is_digit}}
 
 -- the digits of a number: at least one, at most `most`, and no zero in front
 pub record IsNumber (most : ℕ) (ds : List ℕ) : Type 0 where

@@ -1,8 +1,7 @@
 //! The front of a list of bytes.
 
 ghost use Rattle.std.specs.{Prelude.◌≡◌, Prelude.◌≤◌, Prelude.◌==◌, Prelude.length, Prelude.take, List.prefix_len};
-ghost use Rattle.mus_units.specs.Bytes.{is_digit};
-ghost use Rattle.abc_notes.specs.Runs.{run_off, skip, span, span_all, is_mark};
+ghost use Rattle.{mus_units.specs.Bytes.{is_digit}, abc_notes.specs.Runs.{run_off, skip, span, span_all, is_mark}};
 
 use mus_units::bytes::is_digit;
 

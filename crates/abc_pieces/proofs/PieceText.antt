@@ -1,7 +1,6 @@
 -- What a piece is read as, where the code puts it together.
 use Rattle.std.{proofs.Common.{◌≡◌, ℕ, suc, ◌+◌, Bool, true, List, ◌∷◌, Option, Some, None, take, drop, refl, ap, arith}, specs.List.prefix_len}
-use Rattle.mus_units.specs.Bytes.{is_digit}
-use Rattle.abc_notes.specs.{Runs.span_all, Decorations.deco_of_letter}
+use Rattle.{mus_units.specs.Bytes.{is_digit}, abc_notes.specs.{Runs.span_all, Decorations.deco_of_letter}}
 use Rattle.abc_pieces.{specs.{declared.token.{Before.Before, Token.Token, Class.Class}, Forms.{is_ending, letter_form}, Reading.{Read, read, or_else, ending_read, seen, meaning, class_of}}, proofs.Classes.fact_of}
 
 pub ending_is : (bracket : Bool) (s : List ℕ) (b : ℕ) (rest : List ℕ) (k : ℕ) (text after : List ℕ) → s ≡ b ∷ rest → is_digit b ≡ true → k ≡ prefix_len is_ending rest → text ≡ take (1 + k) s → after ≡ drop (1 + k) s →

@@ -2,8 +2,7 @@
 -- colons alone. Which features it has, and reading one from left to right.
 use Prim.Native.Char.{code}
 use Rattle.std.specs.Prelude.{ℕ, ◌≤◌, List, Bool, true, false, ◌&&◌, ◌||◌, not, nat_lt, ◌==◌, if◌then◌else◌, Option, Some, None}
-use Rattle.mus_units.specs.declared.note.Bar.{Bar}
-use Rattle.abc_notes.specs.Runs.{copies, maybe, run_off, skip}
+use Rattle.{mus_units.specs.declared.note.Bar.{Bar}, abc_notes.specs.Runs.{copies, maybe, run_off, skip}}
 
 -- a bar with bar signs, or colons alone
 pub data BarForm : Type 0 where

@@ -1,8 +1,7 @@
 ghost use Rattle.std.specs.{Prelude.{◌≡◌, ◌≤◌, ◌^◌, ◌∷◌, false, ℕ, List, Bool, Some, None, length, take, ◌==◌, IfSome}, List.prefix_len};
 ghost use Rattle.abc_lines.specs.Kinds.{code};
 ghost use Rattle.abc_pieces.specs.{declared.token.Before.TheVariants.Other, Forms.{is_bar, is_broken, is_ending, is_text, is_plus_byte, is_passed, is_passed_sign, is_passed_letter, opening, letter_form, slur_form}, Reading.{class_of, piece_at, note_read, rest_read, gap_read, measures_read, bar_read, chord_read, grace_read, tuplet_read, ending_read, broken_read, says_read, plus_read, inline_read, space_read, bang_read, dot_read, opened, or_else, read, shown, meaning, found_within}};
-ghost use Rattle.abc_notes.specs.{Chords.is_inside, Runs.begins};
-ghost use Rattle.mus_units.specs.Bytes.{is_digit, is_blank};
+ghost use Rattle.{abc_notes.specs.{Chords.is_inside, Runs.begins}, mus_units.specs.Bytes.{is_digit, is_blank}};
 
 use crate::bar::read_bar;
 use crate::token::{Before, Class, Found, Opening};

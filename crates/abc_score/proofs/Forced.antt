@@ -2,8 +2,7 @@
 use Rattle.std.{proofs.{Common.{◌≡◌, refl, ℕ, ◌+◌, ◌≤◌, ◌<◌, List, [], ◌∷◌, ◌++◌, Bool, true, false, cond, reverse, arith}, lemmas.Bool.{Decides.nat_tests, and_parts, or_parts}}, specs.{Prelude.{⊤, ◌==◌, ◌&&◌, nat_le, nat_lt}, List.list_any}}
 use Rattle.mus_score.specs.Walks.{RiseWithin}
 use Rattle.abc_steps.specs.{declared.step.Step.Step, declared.step.Stood.Stood, declared.counts.Counts.Counts, Looks.Steps, Counts.all_further, Counts.begins_group, Counts.counts_of, Counts.further, Counts.groups, Counts.measure_at, Counts.nearest_at}
-use Rattle.abc_events.specs.Bars.{forced_at, forced_bars, forced_behind, is_forced, is_near_bar, with_bar}
-use Rattle.abc_score.specs.{declared.voices.VoiceRead.VoiceRead, Score.forced_of}
+use Rattle.{abc_events.specs.Bars.{forced_at, forced_bars, forced_behind, is_forced, is_near_bar, with_bar}, abc_score.specs.{declared.voices.VoiceRead.VoiceRead, Score.forced_of}}
 
 -- bars that rise from behind one, before n and not past another
 abbrev Rises : ℕ → ℕ → ℕ → List ℕ → Type 0

@@ -1,9 +1,7 @@
 -- The frame of a score that is put together from voices without faults.
 use Rattle.std.{proofs.{Common.{◌≡◌, ◌≢◌, ◌∙◌, refl, sym, ℕ, ◌≤◌, List, [], ◌∷◌, length, map, Bool, None, arith}, lemmas.List.{length-map, Elements.All-map, FromFn.length-map-range_with_len}}, specs.List.{All, AllByRecursion}}
 use Rattle.mus_score.{specs.declared.score.Voice.Voice, specs.GoodScore.IsLed, specs.Walks.Distinct, proofs.Scores.all_within_bars, proofs.Scores.distinct_pairs, proofs.Scores.rising_bars}
-use Rattle.abc_header.specs.{declared.header.Header.Header, Headers.HasGoodValues}
-use Rattle.abc_steps.specs.declared.step.Item.{Item}
-use Rattle.abc_items.specs.Voices.{unnamed_of}
+use Rattle.{abc_header.specs.{declared.header.Header.Header, Headers.HasGoodValues}, abc_steps.specs.declared.step.Item.{Item}, abc_items.specs.Voices.{unnamed_of}}
 use Rattle.abc_events.specs.{Bars.bar_of, Bars.bars_of, Leaves.leaves_of, Measures.measure_of, Signs.signs}
 use Rattle.abc_words.{specs.Rows.row_count, specs.Verses.verse_fault, specs.Verses.verses_of, proofs.FaultLaws.few_verses}
 use Rattle.abc_score.{specs.{declared.voices.VoiceRead.VoiceRead, Voices.{AreApart, IsOther, read_ids}, Framed.{IsFramed, IsFramedVoice}, Score.{forced_of, most_measures, score_with, sung_words, voice_of, written_measures}}, proofs.Forced.forced_rise}

@@ -1,9 +1,7 @@
 -- In each measure of a voice without faults tuplets are full and events good.
 use Rattle.std.{proofs.{Common.{◌≡◌, ◌∙◌, refl, sym, subst, ℕ, zero, suc, ◌+◌, ◌-◌, ◌≤◌, List, [], ◌∷◌, ◌++◌, length, Bool, true, false, cond, ◌==◌, ◌||◌, reverse, take, None, arith}, lemmas.List.{reverse-append, Elements.recursion_from_All}}, specs.{Prelude.flat_map, List.{AllByRecursion, before_first, position_or_len}}}
-use Rattle.mus_units.specs.{declared.note.Deco.Deco, declared.key.Meter.Meter, Good.IsGoodMeter}
-use Rattle.mus_score.specs.{declared.score.Music.Music, Good.outside}
-use Rattle.abc_notes.specs.declared.part.GraceChord.{GraceChord}
-use Rattle.abc_tokens.specs.Good.{AreGoodGraces}
+use Rattle.{mus_units.specs.{declared.note.Deco.Deco, declared.key.Meter.Meter, Good.IsGoodMeter}, mus_score.specs.{declared.score.Music.Music, Good.outside}}
+use Rattle.{abc_notes.specs.declared.part.GraceChord.{GraceChord}, abc_tokens.specs.Good.{AreGoodGraces}}
 use Rattle.abc_steps.specs.{declared.{step.{Sound.Sound, Step.Step, Stood.Stood}, force.InForce.InForce, place.Place.Place, tuplets.Taking.Taking}, Counts.{all_further, begins_group, further, groups, measure_at, nearest_at}, Force.force_at, Good.{IsGoodForce, IsGoodStep, IsGoodStood}, Kinds.{is_event, is_sound}, Looks.{Steps, since_event}, Places.{place_at, measure_of}, Tuplets.{after_event, fits, is_compound, opened, or_default, taking_at, taking_behind, usual_q}}
 use Rattle.abc_events.specs.{Leaf.Leaf, declared.written.Sign.Sign, Leaves.{Words, leaves_from, nodes_of, words_at}, Measures.leaves_in, Signs.{IsDrawn, further_rests, parted_at, rest_written, signs, signs_of, sound_written}, Waits.{graces_in, nothing, waiting_of}}
 use Rattle.abc_faults.specs.Faults.{ends_tuplets, faults_in, faults_of, grace_faults, is_free, rest_faults, sound_faults, sounds_behind}

@@ -2,8 +2,7 @@
 use Rattle.std.{proofs.{Common.{◌≡◌, ◌∙◌, refl, ap, ℕ, suc, ◌+◌, ◌*◌, ◌≤◌, List, [], ◌∷◌, map, length, Bool, true, false, ◌&&◌, ◌||◌, ◌==◌, nat_le, None, unwrap_or, IsTrue, div-le_self, le_trans, mul-le-mul_right, lit≤, arith}, lemmas.{Bool.{Decides.nat_tests, and_from}, Nat.le-div}}, specs.List.AllByRecursion}
 use Rattle.mus_units.specs.{declared.note.Head.Head, declared.key.Meter.Meter, declared.value.Value.Value, declared.value.TheConstants.WHOLE, Good.IsGoodMeter, Good.is_halving, Value.value_length}
 use Rattle.mus_score.{specs.declared.score.Event.Event, specs.declared.good.Judged.Judged, specs.declared.good.Place.Place, specs.Good.judged_within, specs.Good.is_rest, specs.Good.outside, proofs.Bounds.value_low, proofs.Bounds.value_high}
-use Rattle.abc_notes.specs.declared.part.GraceChord.{GraceChord}
-use Rattle.abc_tokens.specs.Good.{AreGoodGraces, HasGraceHead}
+use Rattle.{abc_notes.specs.declared.part.GraceChord.{GraceChord}, abc_tokens.specs.Good.{AreGoodGraces, HasGraceHead}}
 use Rattle.abc_steps.specs.{declared.{step.Stood.Stood, tuplets.Taking.Taking, place.Place.Place as Stand}, Force.meter_ticks}
 use Rattle.abc_events.specs.{declared.written.{Written.Written, Waiting.Waiting}, Leaves.{Words, eighth, first_part, later_part, later_parts, parts, some_more, node_of, note_or_rest, grace_event, grace_note, grace_nodes, nodes_of}, Signs.{rest_written, whole_value}}
 use Rattle.abc_faults.specs.Faults.{is_free}

@@ -1,10 +1,8 @@
 -- The words of a body stand on its lines in their order, so their lines rise.
 use Rattle.std.{proofs.Common.{◌≡◌, ◌∙◌, refl, sym, ap, subst, ℕ, zero, suc, ◌≤◌, ◌<◌, List, [], ◌∷◌, ◌++◌, Bool, true, false, Option, Some, None, drop, arith}, specs.Prelude.{⊤, flat_map, Result, Ok, Err}}
 use Rattle.abc_lines.specs.{declared.book.Line.Line, declared.fault.Fault.Fault, declared.fault.FaultKind.FaultKind, declared.kind.LineKind.LineKind, Good.NumbersRise, Kinds.kind_of}
-use Rattle.abc_pieces.specs.declared.token.Token.{Token}
-use Rattle.abc_tokens.specs.declared.token.Placed.{Placed}
-use Rattle.abc_fields.specs.{declared.directive.Breaks.Breaks, declared.field.Field.Field, Fields.field_of, Fields.named_field}
-use Rattle.abc_header.specs.declared.header.Header.{Header}
+use Rattle.{abc_pieces.specs.declared.token.Token.{Token}, abc_tokens.specs.declared.token.Placed.{Placed}}
+use Rattle.{abc_fields.specs.{declared.directive.Breaks.Breaks, declared.field.Field.Field, Fields.field_of, Fields.named_field}, abc_header.specs.declared.header.Header.{Header}}
 use Rattle.abc_steps.specs.declared.step.Item.{Item}
 use Rattle.abc_items.specs.Body.{Given, gives, fails, field_item, field_given, cut_given, is_on, token_given, placed_given, end_given, KindGives, BodyGives, no_lines, one_line, items_in, IsBody}
 use Rattle.abc_score.specs.Order.{DoWordsRiseFrom, DoWordsRise}

@@ -1,8 +1,7 @@
 -- The parts of a written event as a good voice asks for them: numbered, within reach, with words and good changes.
 use Rattle.std.{proofs.{Common.{◌≡◌, refl, sym, subst, ℕ, suc, ◌+◌, ◌≤◌, ◌<◌, List, [], ◌∷◌, ◌++◌, map, length, Bool, None, IfSome, unwrap_or, add-one, arith}, lemmas.List.{length-replicate, Elements.{All-nil, All-from_recursion}}}, specs.{Prelude.{⊤, flat_map}, List.{All, AllByRecursion}}}
 use Rattle.mus_units.specs.{declared.note.Head.Head, declared.pitch.Clef.Clef, declared.value.Value.Value, Good.IsGoodKey, Good.IsGoodMeter}
-use Rattle.mus_score.specs.{declared.score.Event.Event, GoodScore.IsInReach, GoodScore.clef_at}
-use Rattle.abc_notes.specs.declared.part.GraceChord.{GraceChord}
+use Rattle.{mus_score.specs.{declared.score.Event.Event, GoodScore.IsInReach, GoodScore.clef_at}, abc_notes.specs.declared.part.GraceChord.{GraceChord}}
 use Rattle.abc_events.specs.{declared.written.{Written.Written, Waiting.Waiting, Sign.Sign}, Leaves.{Words, first_part, later_part, later_parts, parts, some_more, later_head, grace_event, leaves_from, words_at}, Signs.with_tie}
 use Rattle.abc_score.proofs.{Rows.leaf_rows, Cores.Core, Cores.CoresCount, Cores.CoresReach, Cores.IsGoodCore, Cores.IsSung, Cores.sung, Singing.plain, Singing.with_graces, Singing.grace_of, Singing.nodes_sung, Singing.nodes_are_sung}
 

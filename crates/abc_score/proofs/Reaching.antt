@@ -1,9 +1,7 @@
 -- Heads and graces of a voice without faults are within reach, in the clef at their event.
 use Rattle.std.{proofs.{Common.{◌≡◌, ◌∙◌, refl, sym, ap, subst, ℕ, zero, suc, ◌+◌, ◌-◌, ℤ, pos, negsuc, ◌≤ℤ◌, int_lt, List, [], ◌∷◌, ◌++◌, Bool, true, false, cond, not, ◌||◌, Option, Some, None, is_some, unwrap_or, arith}, lemmas.{Int.ints, List.Sums.take_while-cons, Bool.or_parts}}, specs.{Prelude.flat_map, List.{AllByRecursion, before_first, list_any, take_while}}}
-use Rattle.mus_units.specs.{declared.note.Head.Head, declared.note.Deco.Deco, declared.pitch.Clef.Clef, Pitch.height_of}
-use Rattle.mus_score.specs.GoodScore.{IsInReach}
-use Rattle.abc_lines.specs.declared.fault.FaultKind.{FaultKind}
-use Rattle.abc_notes.specs.declared.part.GraceChord.{GraceChord}
+use Rattle.{mus_units.specs.{declared.note.Head.Head, declared.note.Deco.Deco, declared.pitch.Clef.Clef, Pitch.height_of}, mus_score.specs.GoodScore.{IsInReach}}
+use Rattle.{abc_lines.specs.declared.fault.FaultKind.{FaultKind}, abc_notes.specs.declared.part.GraceChord.{GraceChord}}
 use Rattle.abc_steps.specs.{declared.{step.{Sound.Sound, Step.Step, Stood.Stood}, force.InForce.InForce, place.Place.Place}, Force.{changes_at, force_at, force_behind, names_clef, when}, Kinds.is_event, Looks.{Steps, is_tied, since_event}, Places.{place_at, measure_of}, Tuplets.{fits, or_default, usual_q}}
 use Rattle.abc_events.{specs.{declared.written.Sign.Sign, Signs.{further_rests, parted_at, rest_written, signs, signs_of, sound_written, tied_heads, tuplet_of, with_tie}, Waits.{graces_in, waiting_of}}, proofs.BarRows.any_reverse}
 use Rattle.abc_faults.specs.Faults.{any_grace_off, any_off, faults_in, faults_of, grace_faults, grace_faults_of, is_off, rest_faults, sound_faults}

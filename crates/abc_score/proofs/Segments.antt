@@ -1,7 +1,6 @@
 -- The measures of a voice one after the other are the voice, where no event stands in an earlier measure than one before it.
 use Rattle.std.{proofs.{Common.{◌≡◌, ◌∙◌, refl, sym, ap, subst, ℕ, zero, suc, ◌+◌, ◌≤◌, ◌<◌, List, [], ◌∷◌, ◌++◌, map, sum_by, length, Bool, true, false, cond, arith, eqb-true}, lemmas.{Bool.{eqb-false, eq-eqb, Decides.nat_tests}, List.{map-append, Concat.flat_map-append, Folds.flat_map-map, Sums.{sum_by-cons, sum_by-append}}}}, specs.{Prelude.{⊤, flat_map, ◌==◌}, List.{AllByRecursion, range_with_len}}}
-use Rattle.mus_units.specs.declared.note.Bar.{Bar}
-use Rattle.mus_score.specs.{declared.score.Flat.Flat, declared.score.Music.Music, declared.score.Measure.Measure, GoodScore.events_of, Times.flats_of}
+use Rattle.{mus_units.specs.declared.note.Bar.{Bar}, mus_score.specs.{declared.score.Flat.Flat, declared.score.Music.Music, declared.score.Measure.Measure, GoodScore.events_of, Times.flats_of}}
 use Rattle.abc_events.specs.{Leaf.Leaf, Nesting.tree_of, Measures.leaves_in, Measures.measure_of, Measures.measures_in}
 use Rattle.abc_score.proofs.{Rows.leaf_rows, Rows.weight_of, Rows.tree_weight, Cores.core, Cores.IsSung, Cores.sung, Cores.tree_sings}
 

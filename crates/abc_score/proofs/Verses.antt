@@ -1,8 +1,6 @@
 -- The verses that are too many, in a body whose lines of words rise: the first of the list comes first.
 use Rattle.std.{proofs.{Common.{◌≡◌, ◌∙◌, refl, sym, ap, subst, ℕ, ◌≤◌, List, [], ◌∷◌, ◌++◌, Bool, true, false, cond, Option, Some, None, arith}, lemmas.Bool.Decides.nat_tests}, specs.Prelude.{⊤, nat_lt, nat_le}}
-use Rattle.abc_lines.specs.declared.fault.Fault.{Fault}
-use Rattle.abc_steps.specs.declared.step.Item.{Item}
-use Rattle.abc_faults.specs.First.{is_before, earlier, first_of, then_below}
+use Rattle.{abc_lines.specs.declared.fault.Fault.{Fault}, abc_steps.specs.declared.step.Item.{Item}, abc_faults.specs.First.{is_before, earlier, first_of, then_below}}
 use Rattle.abc_words.specs.{declared.verses.Verse.Verse, Rows.place_at, Verses.{verse_if, verses_from, verses_of, number_on, too_many, faults_from, verse_faults, first_of as head_of}}
 use Rattle.abc_score.specs.Order.{DoWordsRiseFrom, DoWordsRise}
 

@@ -1,9 +1,7 @@
 -- What the steps of a voice without faults are: each event has parts and good changes, and tuplets are full.
 use Rattle.std.{proofs.{Common.{◌≡◌, ◌∙◌, refl, sym, ap, subst, ℕ, zero, suc, ◌+◌, ◌-◌, ◌*◌, ◌/◌, ◌≤◌, List, [], ◌∷◌, ◌++◌, length, Bool, true, false, cond, not, nat_le, ◌==◌, Option, Some, None, IfSome, unwrap_or, is_none, option_map, zero-add, eqb-true, arith}, lemmas.{Bool.{leb-true, Decides.nat_tests}, Nat.mul-le, List.Sums.{sum_by-cons, take_while-cons}}}, specs.{Prelude.{⊤, count_by, nat_lt}, List.{AllByRecursion, list_any, take_while}}}
 use Rattle.mus_units.specs.{declared.{note.Deco.Deco, key.{Key.Key, Meter.Meter, Sign.Sign as KeySign}, value.{Frac.Frac, Value.Value}}, Good.{AreGoodSigns, IsGoodKey, IsGoodMeter, IsGoodUnit}, Parts.{cut_in, cut_next, longest_within, parts_list, units_of}}
-use Rattle.mus_pitch.proofs.SignLaws.{laid_good}
-use Rattle.abc_lines.specs.declared.fault.FaultKind.{FaultKind}
-use Rattle.abc_fields.specs.Keys.{GoodKeyIn, over_by}
+use Rattle.{mus_pitch.proofs.SignLaws.{laid_good}, abc_lines.specs.declared.fault.FaultKind.{FaultKind}, abc_fields.specs.Keys.{GoodKeyIn, over_by}}
 use Rattle.abc_steps.specs.{declared.{step.{Sound.Sound, Step.Step, Stood.Stood}, force.InForce.InForce, place.Place.Place, tuplets.Taking.Taking}, Force.{changes_at, force_at, force_behind, names_key, names_meter, when}, Good.{IsGoodForce, IsGoodSound, IsGoodStep, IsGoodStood}, Kinds.is_sound, Lengths.{left_factor, left_side, long_side, right_factor, right_side, short_side, written_length}, Looks.{Steps, broken_before, broken_behind, since_event}, Places.{place_at, measure_of}, Tuplets.{after_event, fits, one_less, opened, or_default, taking_behind, usual_q}}
 use Rattle.abc_events.specs.{declared.written.Sign.Sign, Signs.further_rests, Signs.parted_at, Signs.rest_written, Signs.signs, Signs.signs_of, Signs.sound_written, Signs.tuplet_of, Waits.waiting_of, Waits.nothing}
 use Rattle.abc_faults.specs.Faults.{any_off, ends_tuplets, fault_at, fault_if, faults_in, faults_of, grace_faults, is_free, is_past, misfit_of, rest_faults, sound_faults, sounds_behind, tuplet_faults}

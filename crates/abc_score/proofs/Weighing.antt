@@ -1,7 +1,6 @@
 -- What the signs of a voice weigh is at most what its steps weigh, and that of all voices is at most 50,000 where they aren't crowded.
 use Rattle.std.{proofs.{Common.{◌≡◌, ◌∙◌, refl, sym, ap, subst, ℕ, zero, suc, ◌+◌, ◌-◌, ◌*◌, ◌≤◌, max, List, [], ◌∷◌, ◌++◌, sum_by, length, Bool, true, false, cond, Option, Some, None, mul_comm, mul-le-mul_left, arith}, lemmas.{Bool.Decides.nat_tests, List.{length-map, Sums.{sum_by-cons, sum_by-append}}}}, specs.{Prelude.{flat_map, nat_lt, unwrap_or}, List.AllByRecursion}}
-use Rattle.mus_units.specs.{declared.note.Head.Head, declared.value.Value.Value, declared.note.Deco.Deco, Parts.parts_list}
-use Rattle.abc_notes.specs.declared.part.GraceChord.{GraceChord}
+use Rattle.{mus_units.specs.{declared.note.Head.Head, declared.value.Value.Value, declared.note.Deco.Deco, Parts.parts_list}, abc_notes.specs.declared.part.GraceChord.{GraceChord}}
 use Rattle.abc_lines.specs.declared.fault.Fault.{Fault}
 use Rattle.abc_steps.specs.{declared.{step.{Sound.Sound, Step.Step, Stood.Stood}, force.InForce.InForce, place.Place.Place}, Good.{IsGoodStep, IsGoodStood}, Lengths.written_length, Looks.{Steps, is_tied, since_event}, Places.{place_at, measure_of}, Tuplets.{fits, or_default, usual_q}}
 use Rattle.abc_events.specs.{declared.written.{Written.Written, Waiting.Waiting, Sign.Sign}, Leaves.{Words, leaves_from, nodes_of, words_at}, Signs.{further_rests, parted_at, rest_written, signs, signs_of, sound_written, tied_heads, tuplet_of, with_tie}, Waits.{graces_in, nothing, waiting_of}}

@@ -2,8 +2,7 @@
 use Rattle.std.{proofs.{Common.{◌≡◌, ◌∙◌, refl, sym, ap, subst, ℕ, zero, suc, ◌+◌, ◌≤◌, ◌<◌, List, [], ◌∷◌, ◌++◌, map, sum_by, length, reverse, take, drop, Bool, true, false, cond, ◌==◌, Option, Some, None, unwrap_or, slice_get, append-nil, arith}, lemmas.List.{drop_all, Elements.{All-from_recursion, recursion_from_All, All-map}, FromFn.length-map-range_with_len, Sums.{sum_by-cons, sum_by-append}}}, specs.{Prelude.flat_map, List.{All, AllByRecursion, range_with_len}}}
 use Rattle.mus_units.specs.declared.pitch.Clef.{Clef}
 use Rattle.mus_score.specs.{declared.score.Measure.Measure, declared.score.Voice.Voice, Good.IsGoodBody, GoodScore.AreCounted, GoodScore.AreInReach, GoodScore.IsGoodEvent, GoodScore.IsGoodScore, GoodScore.IsGoodVoice, GoodScore.events_of, GoodScore.voice_weight}
-use Rattle.abc_header.specs.{declared.header.Header.Header, Headers.HasGoodValues}
-use Rattle.abc_steps.specs.{declared.step.Item.Item, declared.force.InForce.InForce, Good.IsGoodStood, Looks.Steps}
+use Rattle.{abc_header.specs.{declared.header.Header.Header, Headers.HasGoodValues}, abc_steps.specs.{declared.step.Item.Item, declared.force.InForce.InForce, Good.IsGoodStood, Looks.Steps}}
 use Rattle.abc_items.specs.{declared.voices.VoiceStart.VoiceStart, Voices.starts_of, Voices.unnamed_of}
 use Rattle.abc_events.{specs.{Leaf.Leaf, declared.written.Sign.Sign, Bars.{bar_of, bars_of}, Leaves.{Words, leaves_from, leaves_of, words_at}, Measures.{leaves_in, measure_of, measures_in}, Nesting.tree_of, Signs.{IsDrawn, signs}}, proofs.Drawn.walk_drawn}
 use Rattle.abc_faults.specs.{Faults.faults_in, Weights.crowded}

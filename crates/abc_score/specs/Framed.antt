@@ -1,7 +1,6 @@
 -- The frame of a score: what a good score asks of all but the music of its voices.
 use Rattle.std.specs.{Prelude.◌≡◌, Prelude.◌≢◌, Prelude.◌≤◌, Prelude.◌<◌, Prelude.length, List.All, List.AllPairs, List.Sorted.IsStrictlyIncreasing}
-use Rattle.mus_units.specs.Good.{IsGoodKey, IsGoodMeter}
-use Rattle.mus_score.specs.{declared.score.Voice.Voice, declared.score.Score.Score, GoodScore.IsLed}
+use Rattle.{mus_units.specs.Good.{IsGoodKey, IsGoodMeter}, mus_score.specs.{declared.score.Voice.Voice, declared.score.Score.Score, GoodScore.IsLed}}
 
 -- of a voice: at most 8 verses, a gap of at most 1000 u above its staff, a good key and a good meter
 pub record IsFramedVoice (v : Voice) : Type 0 where

@@ -1,7 +1,6 @@
 -- Voices that are judged, and what is kept of their signs.
 use Rattle.std.specs.Prelude.{◌≡◌, [], List, map, true}
-use Rattle.abc_events.specs.Signs.{signs}
-use Rattle.abc_score.specs.declared.{keeping.Kept.Kept, keeping.Judged.Judged, voices.VoiceRead.VoiceRead}
+use Rattle.{abc_events.specs.Signs.{signs}, abc_score.specs.declared.{keeping.Kept.Kept, keeping.Judged.Judged, voices.VoiceRead.VoiceRead}}
 
 -- what is kept as whole is all signs of the voice
 abbrev pub IsKept : VoiceRead → Kept → Type 0

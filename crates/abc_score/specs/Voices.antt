@@ -1,9 +1,7 @@
 -- The voices of a body as they are read: each with what it begins with, and its steps.
 use Rattle.std.specs.{Prelude.{◌≢◌, ⊤, ℕ, ◌≤◌, ◌^◌, List, [], ◌∷◌, map, length}, List.All}
-use Rattle.abc_header.specs.declared.header.Header.{Header}
-use Rattle.abc_steps.specs.{declared.step.Item.Item, declared.force.InForce.InForce, Good.IsGoodForce, Good.IsGoodStood}
-use Rattle.abc_items.specs.{declared.voices.VoiceStart.VoiceStart, Voices.starts_of, Voices.steps_of, Voices.unnamed_of}
-use Rattle.abc_score.specs.declared.voices.VoiceRead.{VoiceRead}
+use Rattle.{abc_header.specs.declared.header.Header.{Header}, abc_steps.specs.{declared.step.Item.Item, declared.force.InForce.InForce, Good.IsGoodForce, Good.IsGoodStood}}
+use Rattle.{abc_items.specs.{declared.voices.VoiceStart.VoiceStart, Voices.starts_of, Voices.steps_of, Voices.unnamed_of}, abc_score.specs.declared.voices.VoiceRead.{VoiceRead}}
 
 -- a voice begins with its own first clef, and with the key, the meter and the unit length of the header
 abbrev pub first_force : Header → VoiceStart → InForce

@@ -1,8 +1,6 @@
 ghost use Rattle.std.specs.{Prelude.{◌≡◌, ◌≤◌, ◌^◌, ◌++◌, [], length, map, reverse, true, IfOk, OnOk}, List.All};
-ghost use Rattle.abc_faults.specs.{First.first_of, Faults.faults_in, Weights.capped};
-ghost use Rattle.abc_steps.specs.{Good.IsGoodForce, Lengths.parts_at};
-ghost use Rattle.abc_events.specs.Signs.{signs, signs_of, IsDrawn};
-ghost use Rattle.abc_score.specs.{Faults.voice_weights, Judged.IsKept, Voices.IsGoodRead};
+ghost use Rattle.{abc_faults.specs.{First.first_of, Faults.faults_in, Weights.capped}, abc_steps.specs.{Good.IsGoodForce, Lengths.parts_at}};
+ghost use Rattle.{abc_events.specs.Signs.{signs, signs_of, IsDrawn}, abc_score.specs.{Faults.voice_weights, Judged.IsKept, Voices.IsGoodRead}};
 
 use crate::voices::VoiceRead;
 use abc_events::{Sign, put_signs, signs};

@@ -1,6 +1,5 @@
 ghost use Rattle.std.specs.Prelude.{◌≡◌, ◌+◌, ◌++◌, ◌∷◌, ℕ, List, IfOk, OnOk};
-ghost use Rattle.abc_events.specs.declared.written.Sign.{Sign};
-ghost use Rattle.abc_score.specs.Score.{event_count, note_if, notes_from, sung_words};
+ghost use Rattle.{abc_events.specs.declared.written.Sign.{Sign}, abc_score.specs.Score.{event_count, note_if, notes_from, sung_words}};
 
 use abc_events::{Sign, Written};
 use abc_steps::Item;

@@ -1,6 +1,5 @@
 ghost use Rattle.std.specs.{Prelude.◌≡◌, Prelude.◌≤◌, Prelude.◌^◌, Prelude.length, Prelude.map, Prelude.IfOk, List.All};
-ghost use Rattle.abc_header.specs.Headers.{HasGoodValues};
-ghost use Rattle.abc_items.specs.{Good.IsGoodItem, Voices.ids_of};
+ghost use Rattle.{abc_header.specs.Headers.{HasGoodValues}, abc_items.specs.{Good.IsGoodItem, Voices.ids_of}};
 ghost use Rattle.abc_score.specs.Voices.{first_force, read_ids, voice_read, voices_read, AreApart, IsGoodRead};
 
 use abc_header::Header;

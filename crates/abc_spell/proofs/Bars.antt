@@ -1,8 +1,6 @@
 -- A bar in its plain spelling is read as itself.
 use Rattle.std.proofs.Common.{◌≡◌, ℕ, zero, suc, ◌≤◌, Bool, true, false, eqb, ltb, List, refl, sym, subst, arith, not, ◌&&◌, if◌then◌else◌, ne_eqb, lt-ltb}
-use Rattle.mus_units.specs.declared.note.Bar.{Bar}
-use Rattle.abc_pieces.specs.Bars.{BarForm, signs, colons, IsGood, meant, spelled}
-use Rattle.abc_spell.specs.Plain.{is_colons, bar_then}
+use Rattle.{mus_units.specs.declared.note.Bar.{Bar}, abc_pieces.specs.Bars.{BarForm, signs, colons, IsGood, meant, spelled}, abc_spell.specs.Plain.{is_colons, bar_then}}
 
 abbrev pub plain_bar : Bar → BarForm
 plain_bar b =

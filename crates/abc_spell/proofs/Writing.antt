@@ -1,7 +1,6 @@
 -- Writing a list one by one.
 use Rattle.std.proofs.Common.{◌≡◌, ℕ, zero, suc, List, ◌∷◌, ◌++◌, refl, ap, ◌∙◌, replicate, Result, Ok, Err, OnOk, append_assoc}
-use Rattle.abc_notes.specs.Runs.{copies}
-use Rattle.abc_spell.specs.Plain.{Puts}
+use Rattle.{abc_notes.specs.Runs.{copies}, abc_spell.specs.Plain.{Puts}}
 
 puts_copies : (old new : List ℕ) (n b : ℕ) → new ≡ old ++ replicate n b → Puts old new (copies n b)
 puts_copies old new n b is = λ x. ap (λ s. s ++ x) is ∙ append_assoc old (replicate n b) x ∙ ap (λ s. old ++ s) (joined n b x)

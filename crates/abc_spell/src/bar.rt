@@ -1,6 +1,5 @@
 ghost use Rattle.std.specs.Prelude.{◌≡◌, OnOk};
-ghost use Rattle.abc_notes.specs.Runs.{maybe};
-ghost use Rattle.abc_spell.specs.Plain.{Puts, bar_then, signs_then, is_colons};
+ghost use Rattle.{abc_notes.specs.Runs.{maybe}, abc_spell.specs.Plain.{Puts, bar_then, signs_then, is_colons}};
 
 use mus_units::{Bar, Memory, Text};
 

@@ -1,6 +1,5 @@
 ghost use Rattle.std.specs.Prelude.{◌≡◌, ◌∷◌, ◌++◌, [], OnOk, replicate};
-ghost use Rattle.abc_notes.specs.Notes.{sign_then, letter_byte};
-ghost use Rattle.abc_pieces.specs.declared.token.Token.TheVariants.{Note, Rest, Measures};
+ghost use Rattle.{abc_notes.specs.Notes.{sign_then, letter_byte}, abc_pieces.specs.declared.token.Token.TheVariants.{Note, Rest, Measures}};
 ghost use Rattle.abc_spell.specs.Plain.{Puts, len_then, pitch_then, head_then, is_small, number_or_empty, token_then};
 
 use abc_tokens::Len;

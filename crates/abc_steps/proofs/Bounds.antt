@@ -1,7 +1,6 @@
 -- Bounds of written lengths, and good keys.
 use Rattle.std.proofs.{Common.{◌≡◌, subst, sym, ℕ, ◌*◌, ◌^◌, ◌≤◌, arith, Option, Some, IsTrue, IfOk, Result, Ok, Err}, lemmas.Nat.mul-le}
-use Rattle.mus_units.specs.{declared.key.Key.Key, declared.value.Frac.Frac, Good.IsGoodKey, Good.IsGoodUnit, Good.is_halving}
-use Rattle.abc_fields.specs.Keys.{GoodKeyIn}
+use Rattle.{mus_units.specs.{declared.key.Key.Key, declared.value.Frac.Frac, Good.IsGoodKey, Good.IsGoodUnit, Good.is_halving}, abc_fields.specs.Keys.{GoodKeyIn}}
 use Rattle.abc_steps.specs.{declared.step.Sound.Sound, Good.IsGoodSound, Lengths.IsFactor, Lengths.IsLength}
 
 pub good_copy : {E : Type 0} (key : Option Key) (whole : Key) (copy : Result Key E) → key ≡ Some whole → GoodKeyIn key → IfOk copy (λ k. k ≡ whole) → IfOk copy (λ k. IsGoodKey k)

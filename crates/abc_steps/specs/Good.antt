@@ -1,9 +1,7 @@
 -- Good steps: the values of fields are good, a note, a chord or a rest has a length, a grace note has
 -- a head, and numbers are those that a music line can write.
 use Rattle.std.specs.Prelude.{⊤, ◌≤◌, ◌^◌}
-use Rattle.abc_tokens.specs.Good.{AreGoodGraces, IsGoodTuplet}
-use Rattle.mus_units.specs.Good.{IsGoodKey, IsGoodMeter, IsGoodUnit}
-use Rattle.abc_fields.specs.Keys.{IsGoodKeyText}
+use Rattle.{abc_tokens.specs.Good.{AreGoodGraces, IsGoodTuplet}, mus_units.specs.Good.{IsGoodKey, IsGoodMeter, IsGoodUnit}, abc_fields.specs.Keys.{IsGoodKeyText}}
 use Rattle.abc_steps.specs.{declared.step.Sound.Sound, declared.step.Step.Step, declared.step.Stood.Stood, declared.force.InForce.InForce}
 
 pub record IsGoodSound (s : Sound) : Type 0 where

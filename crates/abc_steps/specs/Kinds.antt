@@ -1,7 +1,6 @@
 -- Of what kind a step is.
 use Rattle.std.specs.Prelude.{List, [], ◌∷◌, Bool, true, false, ◌||◌}
-use Rattle.mus_units.specs.declared.note.Head.{Head}
-use Rattle.abc_steps.specs.declared.step.Step.{Step}
+use Rattle.{mus_units.specs.declared.note.Head.{Head}, abc_steps.specs.declared.step.Step.{Step}}
 
 abbrev pub has_head : List Head → Bool
 has_head [] = false

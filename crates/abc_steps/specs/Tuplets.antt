@@ -1,7 +1,6 @@
 -- Tuplets: how many events the open ones still take.
 use Rattle.std.specs.Prelude.{ℕ, zero, suc, ◌-◌, [], ◌∷◌, Bool, true, false, nat_le, if◌then◌else◌, ◌==◌, ◌||◌, ◌&&◌}
-use Rattle.mus_units.specs.declared.key.Meter.{Meter}
-use Rattle.abc_steps.specs.{declared.step.Step.Step, declared.tuplets.Taking.Taking, Looks.Steps}
+use Rattle.{mus_units.specs.declared.key.Meter.{Meter}, abc_steps.specs.{declared.step.Step.Step, declared.tuplets.Taking.Taking, Looks.Steps}}
 
 -- a number that is left out is 0
 abbrev pub or_default : ℕ → ℕ → ℕ

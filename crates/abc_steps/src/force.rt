@@ -1,6 +1,5 @@
 ghost use Rattle.std.specs.{Prelude.◌≡◌, Prelude.◌≤◌, Prelude.◌^◌, Prelude.IfOk, Prelude.OnOk, Prelude.OnErr, Prelude.Option, Prelude.MatchOption, Prelude.length, Prelude.is_some, List.list_any};
-ghost use Rattle.mus_units.specs.Good.{IsGoodKey, IsGoodMeter};
-ghost use Rattle.abc_fields.specs.Keys.{key_over, IsGoodKeyText};
+ghost use Rattle.{mus_units.specs.Good.{IsGoodKey, IsGoodMeter}, abc_fields.specs.Keys.{key_over, IsGoodKeyText}};
 ghost use Rattle.abc_steps.specs.{declared.step.Step.Step, Force.{force_behind, has_sign, names_key, names_clef, names_meter, when, changes_at, meter_ticks}, Good.{IsGoodStep, IsGoodForce}};
 
 use crate::step::{Step, Stood};

@@ -3,8 +3,7 @@
 use Prim.Native.Char.{code}
 use Rattle.std.specs.Prelude.{◌≡◌, ℕ, ◌+◌, ◌-◌, List, [], ◌∷◌, length, Bool, ◌==◌, if◌then◌else◌, Option, Some, None, MatchBool, MatchOption, option_map}
 use Rattle.abc_lines.specs.declared.{book.Line.Line, fault.Fault.Fault, fault.FaultKind.FaultKind, fault.TuneError.TuneError, fault.FaultKind.TheVariants.BadByte, fault.FaultKind.TheVariants.Unclosed, fault.FaultKind.TheVariants.BadLength, fault.FaultKind.TheVariants.BadTuplet}
-use Rattle.mus_units.specs.Bytes.{is_digit}
-use Rattle.abc_notes.specs.{Parts.IsLongest, Parts.HasNone, Parts.goes_on_length, Chords.ChordFault, Graces.GraceFault, declared.part.Flaw.Flaw}
+use Rattle.{mus_units.specs.Bytes.{is_digit}, abc_notes.specs.{Parts.IsLongest, Parts.HasNone, Parts.goes_on_length, Chords.ChordFault, Graces.GraceFault, declared.part.Flaw.Flaw}}
 use Rattle.abc_pieces.specs.{Forms.Form, Forms.StandsAt, Forms.meant, Forms.after, Forms.arrow, Forms.opening, declared.token.Token.Token, declared.token.Before.Before, declared.token.Opening.Opening}
 use Rattle.abc_tokens.specs.declared.token.Placed.{Placed}
 

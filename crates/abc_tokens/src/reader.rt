@@ -1,6 +1,5 @@
 ghost use Rattle.std.specs.Prelude.{◌≡◌, ◌≢◌, ◌≤◌, ◌<◌, ◌+◌, ◌-◌, ◌^◌, ◌++◌, ◌∷◌, ℕ, List, length, IfOk, IfErr, OnOk, [], None};
-ghost use Rattle.abc_lines.specs.{Kinds.code, Good.IsGoodLine};
-ghost use Rattle.abc_notes.specs.Chords.{chord_at};
+ghost use Rattle.{abc_lines.specs.{Kinds.code, Good.IsGoodLine}, abc_notes.specs.Chords.{chord_at}};
 ghost use Rattle.abc_pieces.specs.{Forms.opening, Forms.is_kept_field, declared.token.Opening.TheVariants.Chord, Reading.piece_at, Reading.token_of, Reading.found_within};
 ghost use Rattle.abc_tokens.specs.{declared.token.Placed.Placed, Good.AreGoodTokens, Tokens.{TokensOf, IsErrorOf, FrontOf, column, put, fault_at, kind_behind, kind_if, IsBracketFlaw, IsLineFlaw, IsOwnFlaw}};
 

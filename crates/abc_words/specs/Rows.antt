@@ -1,9 +1,7 @@
 -- The rows of a body, and which of them are a voice's. Music lines that a backslash joins are one
 -- row. What stands before a place is listed from the nearest on.
 use Rattle.std.specs.{Prelude.{ℕ, ◌+◌, List, [], ◌∷◌, Bool, false, not, ◌&&◌, ◌||◌, if◌then◌else◌, reverse, Option, Some, None}, Str.bytes_eq}
-use Rattle.abc_steps.specs.declared.step.Item.{Item}
-use Rattle.abc_items.specs.Voices.{claims, voice_next}
-use Rattle.abc_words.specs.declared.rows.Place.{Place}
+use Rattle.{abc_steps.specs.declared.step.Item.{Item}, abc_items.specs.Voices.{claims, voice_next}, abc_words.specs.declared.rows.Place.{Place}}
 
 -- the row of a place: how many music lines before it end without a backslash
 abbrev pub row_behind : Item → ℕ → ℕ

@@ -1,6 +1,5 @@
 ghost use Rattle.std.specs.{Prelude.◌≡◌, Prelude.◌<◌, Prelude.◌≤◌, Prelude.◌+◌, Prelude.◌^◌, Prelude.◌∷◌, Prelude.[], Prelude.List, Prelude.ℕ, Prelude.reverse, Prelude.length, Str.bytes_eq};
-ghost use Rattle.abc_steps.specs.declared.step.Item.{Item};
-ghost use Rattle.abc_words.specs.Rows.{behind_end, behind_step, place_at};
+ghost use Rattle.{abc_steps.specs.declared.step.Item.{Item}, abc_words.specs.Rows.{behind_end, behind_step, place_at}};
 
 use abc_items::voices::claims;
 use abc_steps::Item;

@@ -1,10 +1,7 @@
 -- A book that is set a batch of tunes at a time, and whose pages are written as they fill.
 use Rattle.std.{proofs.{Common.{◌≡◌, refl, sym, ap, ◌∙◌, subst, ℕ, ◌+◌, ◌≤◌, List, [], ◌++◌, append_assoc, length, take, drop, Option, arith}, lemmas.{Grind.flat_map-append, List.{append-nil, length-append, take-append-drop, Folds.list_any-append}}}, specs.Prelude.{◌||◌, All, OnOk, Result, Ok, Err}}
-use Rattle.abc_lines.specs.declared.book.TuneText.{TuneText}
-use Rattle.abc_header.specs.declared.paper.Paper.{Paper}
-use Rattle.ps_text.specs.{Document.{numbered, page_text}, Prolog.prolog, declared.sheet.Page.Page}
-use Rattle.set_book.specs.{declared.outcome.Outcome.Outcome, Outcomes.{AreOutcomes, IsOutcome}}
-use Rattle.set_lists.specs.Reports.{is_faulty, report, reports, some_fault}
+use Rattle.{abc_lines.specs.declared.book.TuneText.{TuneText}, abc_header.specs.declared.paper.Paper.{Paper}, ps_text.specs.{Document.{numbered, page_text}, Prolog.prolog, declared.sheet.Page.Page}}
+use Rattle.{set_book.specs.{declared.outcome.Outcome.Outcome, Outcomes.{AreOutcomes, IsOutcome}}, set_lists.specs.Reports.{is_faulty, report, reports, some_fault}}
 use Rattle.set_pages.{specs.{Press.{IsOpen, IsPressed, RisesBy, done_pages, no_press}, declared.plan.Plan.Plan, Sheet.{IsSetUnder, frame_of}}, proofs.{Joined.zip_append, Readying.set_outcomes, Whole.{none_open, none_pressed}}}
 use Rattle.set_tune.specs.Terms.{Terms}
 use Rattle.abcps.{specs.{Outcome.{Stream, TookAll}, Pressed.{AreCutOff, AreRunning, AreTaken, IsBegun, IsRunning, WasStopped, first_text}, declared.{pressing.Running.Running, status.Status.Status}}, proofs.Sent.{first_more, memory_behind, stopped_behind, stopped_longer, stream, took_behind}}

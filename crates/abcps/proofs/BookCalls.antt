@@ -1,13 +1,8 @@
 -- What is called for of a book that was set.
 use Rattle.std.{proofs.Common.{◌≡◌, ◌≤◌, ◌^◌, ◌∙◌, refl, sym, ap, subst, List, ℕ, Bool, true, false, length}, specs.List.All}
-use Rattle.abc_header.specs.declared.paper.Paper.{Paper}
-use Rattle.abc_lines.specs.Books.{book_of}
-use Rattle.gen_book.specs.Book.{book}
-use Rattle.set_book.specs.declared.outcome.Outcome.{Outcome}
-use Rattle.set_pages.{specs.Sheet.{IsPlan, IsSetUnder, sheet_of}, proofs.Readying.{book_counted, set_outcomes}}
-use Rattle.set_lists.specs.{Laws.ListsTheBook, Trials.trial_text}
-use Rattle.abcps.specs.{Books.{AreSet, terms_in, CallsSystems, IsListedBy, IsTried, Tries, paper_in, systems_by, systems_called, trial_of}, Called.Called}
-use Rattle.set_tune.specs.Terms.{Manner}
+use Rattle.{abc_header.specs.declared.paper.Paper.{Paper}, abc_lines.specs.Books.{book_of}, gen_book.specs.Book.{book}, set_book.specs.declared.outcome.Outcome.{Outcome}}
+use Rattle.{set_pages.{specs.Sheet.{IsPlan, IsSetUnder, sheet_of}, proofs.Readying.{book_counted, set_outcomes}}, set_lists.specs.{Laws.ListsTheBook, Trials.trial_text}}
+use Rattle.{abcps.specs.{Books.{AreSet, terms_in, CallsSystems, IsListedBy, IsTried, Tries, paper_in, systems_by, systems_called, trial_of}, Called.Called}, set_tune.specs.Terms.{Manner}}
 
 -- the tunes of a book are set on its paper
 pub set_under : (manner : Manner) (text : List ℕ) (paper : Paper) (outcomes : List Outcome) → paper ≡ paper_in text → AreSet manner text outcomes → All (IsSetUnder paper) outcomes

@@ -1,9 +1,7 @@
 -- The last pages of a document and its end.
 use Rattle.std.{proofs.{Common.{◌≡◌, refl, sym, ap, ◌∙◌, subst, ℕ, ◌+◌, ◌^◌, ◌<◌, List, ◌++◌, length, drop, Option, arith}, lemmas.List.length-append, Math.Seq.drop-append_seam}, specs.Prelude.All}
-use Rattle.abc_header.specs.declared.paper.Paper.{Paper}
-use Rattle.ps_text.specs.{Document.{numbered, page_text, trailer}, Range.IsPage, declared.sheet.Page.Page}
-use Rattle.set_book.specs.declared.outcome.Outcome.{Outcome}
-use Rattle.set_pages.{specs.{declared.plan.Plan.Plan, Press.AreLast, Sheet.sheet_of}, proofs.Fronts.all_right}
+use Rattle.{abc_header.specs.declared.paper.Paper.{Paper}, ps_text.specs.{Document.{numbered, page_text, trailer}, Range.IsPage, declared.sheet.Page.Page}}
+use Rattle.{set_book.specs.declared.outcome.Outcome.{Outcome}, set_pages.{specs.{declared.plan.Plan.Plan, Press.AreLast, Sheet.sheet_of}, proofs.Fronts.all_right}}
 use Rattle.abcps.{specs.{Outcome.TookAll, Pressed.{WasStopped, rest_text}, declared.status.Status.Status}, proofs.Sent.{stopped_behind, stopped_longer, stream, took_behind}}
 
 module _ (plan : Plan) (paper : Paper) (outcomes : List Outcome) (given pages : List Page) (last : AreLast plan paper outcomes given pages) where

@@ -2,13 +2,11 @@
 use Rattle.std.{proofs.{Common.{◌≡◌, refl, sym, ap, ◌∙◌, subst, ◌⊎◌, inl, inr, ℕ, ◌<◌, Bool, true, false, List, [], ◌∷◌, ◌++◌, length, take, drop, arith, Option}, lemmas.List.{append-nil, append_assoc, length-append, take-append-drop}, Math.Seq.take-append_seam}, specs.Prelude.{Result, Ok, Err}}
 use Rattle.abc_lines.specs.{declared.book.{Book.Book, TuneText.TuneText}, Books.book_of}
 use Rattle.abc_header.specs.{declared.{defaults.Defaults.Defaults, paper.Paper.Paper}, Defaults.defaults_of, Papers.{IsGoodPaper, height_of, paper_of}}
-use Rattle.ps_text.specs.{Document.document, declared.sheet.Page.Page}
-use Rattle.set_book.{specs.{declared.outcome.Outcome.Outcome, Outcomes.{AreOutcomes, IsOutcome}}, proofs.Once.outcomes_once}
+use Rattle.{ps_text.specs.{Document.document, declared.sheet.Page.Page}, set_book.{specs.{declared.outcome.Outcome.Outcome, Outcomes.{AreOutcomes, IsOutcome}}, proofs.Once.outcomes_once}}
 use Rattle.set_lists.specs.Reports.{some_fault}
 use Rattle.set_pages.{specs.{Sheet.{IsPlan, all_spots, frame_of, sheet_of}, declared.{plan.Plan.Plan, press.Press.Press}, Drawings.{all_blocks, all_drawings}, Press.{HasRoom, IsOpen, IsPressed, RisesBy, done_pages}}, proofs.{Fronts.{IsFront, done_first, done_front}, Whole.{one_plan, plan_rises, plan_stands, room_by, sheet_whole, stand_count}, Zips.{zip_back, zip_front}}}
 use Rattle.abcps.{specs.{Pressed.{AreCutOff, AreRunning, IsClosed, IsPlanned, IsPrinted, IsUnprinted, WasCounted, WasStopped, all_set, first_text, rest_text, some_left, status_if, unbegun}, Called.Called, Books.{AreSet, CallsPages, pages_called, paper_in, terms_in}, Outcome.{HasFront, IsAnswer, IsCutShort, IsEnd, IsQuiet, Stream, TookAll, TookFront}, declared.{pressing.{Printed.Printed, Running.Running}, status.Status.Status}}, proofs.{Sent.{document_parts, front_longer, stopped_behind, stopped_count, stopped_front, stopped_longer, stream, took_behind}, Answered.{answer_by, answered_end}, Batches.IsUnderway, BookCalls.set_under}}
-use Rattle.set_tune.specs.Terms.{Manner, Terms}
-use Rattle.abcps_words.specs.declared.command.Command.{Command}
+use Rattle.{set_tune.specs.Terms.{Manner, Terms}, abcps_words.specs.declared.command.Command.{Command}}
 
 -- pages that were given up are the first of a sheet, and so is their text of its document
 frame_same : (plan : Plan) (paper : Paper) (outcomes : List Outcome) → (sheet_of plan paper outcomes).frame ≡ frame_of paper

@@ -1,11 +1,9 @@
 -- The blocks of tunes that are set a batch at a time are those of all their outcomes, and have a plan.
 use Rattle.std.{proofs.{Common.{◌≡◌, refl, sym, ap, ◌∙◌, subst, ◌==◌, Bool, true, false, List, [], ◌∷◌, ◌++◌, append_assoc, length, take, drop, ℕ, arith}, lemmas.{Bool.Decides.nat_tests, List.{append-nil, take-append-drop}}}, specs.Prelude.All}
-use Rattle.abc_lines.specs.declared.book.TuneText.{TuneText}
-use Rattle.lay_pages.specs.{declared.filling.Block.Block, Filling.AreGoodBlocks}
+use Rattle.{abc_lines.specs.declared.book.TuneText.{TuneText}, lay_pages.specs.{declared.filling.Block.Block, Filling.AreGoodBlocks}}
 use Rattle.set_book.specs.{declared.outcome.Outcome.Outcome, Outcomes.{AreOutcomes, IsOutcome}}
 use Rattle.set_pages.{specs.{declared.plan.Plan.Plan, Drawings.all_blocks, Press.AreBlocksOn, Sheet.IsPlan}, proofs.{Joined.{blocks_append, zip_append}, Readying.set_outcomes}}
-use Rattle.set_tune.specs.Terms.{Terms}
-use Rattle.abcps.{specs.Pressed.{AreGathered, IsPlanned}, proofs.Batches.IsCounted}
+use Rattle.{set_tune.specs.Terms.{Terms}, abcps.{specs.Pressed.{AreGathered, IsPlanned}, proofs.Batches.IsCounted}}
 
 -- the blocks of a batch behind those of the tunes before it
 pub gathered_more : (terms : Terms) (before batch : List TuneText) (outcomes at : List Outcome) (old new : List Block) → at ≡ outcomes → AreOutcomes terms batch outcomes

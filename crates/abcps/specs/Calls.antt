@@ -1,16 +1,10 @@
 -- What each command calls for, of an input that it doesn't refuse.
 use Rattle.std.specs.{Prelude.{◌≡◌, ℕ, ◌*◌, List, [], Bool, true, false, if◌then◌else◌, length, flat_map}, List.list_any}
-use Rattle.gen_book.specs.Book.{book}
-use Rattle.ps_text.specs.{Document.Spells, declared.sheet.Sheet.Sheet}
-use Rattle.ps_read.specs.Answers.{IsRead, IsFirstFault}
-use Rattle.ps_heard.specs.HeardText.{heard_text}
-use Rattle.ps_steps.specs.{declared.paint.PagePaint.PagePaint, Steps.{Paints, Halts}}
-use Rattle.paint_text.specs.PaintText.{paint_text}
-use Rattle.sheet_text.specs.SheetText.{sheet_report}
+use Rattle.{gen_book.specs.Book.{book}, ps_text.specs.{Document.Spells, declared.sheet.Sheet.Sheet}, ps_read.specs.Answers.{IsRead, IsFirstFault}, ps_heard.specs.HeardText.{heard_text}}
+use Rattle.{ps_steps.specs.{declared.paint.PagePaint.PagePaint, Steps.{Paints, Halts}}, paint_text.specs.PaintText.{paint_text}, sheet_text.specs.SheetText.{sheet_report}}
 use Rattle.lay_cert.specs.{declared.check.{Judged.Judged, Verdict.Verdict}, Answers.IsJudged, Listing.{Entry, IsListing}, Reports.verdict_text}
 use Rattle.lay_cert.specs.Places as listing
-use Rattle.abcps_words.specs.declared.command.Command.{Command}
-use Rattle.set_tune.specs.Terms.{manner_by, unmoved}
+use Rattle.{abcps_words.specs.declared.command.Command.{Command}, set_tune.specs.Terms.{manner_by, unmoved}}
 use Rattle.abcps.specs.{Called.{Called, IsQuietly}, Books.{CallsPages, CallsSystems, Tries}, declared.{refusing.Refusal.Refusal, status.Status.Status}}
 
 -- Of `inspect` and `hear`: a report on the one sheet that spells the input, which is all that it shows, or what its tunes sound.

@@ -1,11 +1,7 @@
 -- What a run answers, and what it leaves on each stream: by cases on the answer.
 use Rattle.std.specs.{Prelude.{◌≡◌, ◌⊎◌, ◌<◌, ◌≤◌, ℕ, ◌+◌, List, [], Bool, false, length, take, Option}, Io.KnownBytes.{Keeps, Appends, Consumes, IsAtEnd}}
-use Rattle.eng_io.specs.Causes.{Rose}
-use Rattle.abc_lines.specs.Books.{book_of}
-use Rattle.ps_text.specs.Document.{document}
-use Rattle.set_book.specs.{declared.outcome.Outcome.Outcome, Outcomes.AreOutcomes}
-use Rattle.set_pages.specs.{Sheet.sheet_of, declared.plan.Plan.Plan}
-use Rattle.abcps_words.specs.{Command.{Asks, IsListed, limit_of}, declared.command.Command.Command, Usage.usage_line}
+use Rattle.{eng_io.specs.Causes.{Rose}, abc_lines.specs.Books.{book_of}, ps_text.specs.Document.{document}, set_book.specs.{declared.outcome.Outcome.Outcome, Outcomes.AreOutcomes}}
+use Rattle.{set_pages.specs.{Sheet.sheet_of, declared.plan.Plan.Plan}, abcps_words.specs.{Command.{Asks, IsListed, limit_of}, declared.command.Command.Command, Usage.usage_line}}
 use Rattle.abcps.specs.{Books.{terms_in, CallsPages, paper_in}, Called.Called, Calls.{Calls, Refuses}, Refusals.{refusal_line, refusal_status}, declared.{refusing.Refusal.Refusal, status.Status.Status}}
 use Rattle.set_tune.specs.Terms.{Manner, manner_by}
 

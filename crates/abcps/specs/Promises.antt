@@ -1,7 +1,6 @@
 -- What a run promises, one fact for each name.
 use Rattle.std.specs.Prelude.{◌≡◌, ◌≢◌, ◌⊎◌, ◌≤◌, ◌↔◌, List, ℕ, length, Some}
-use Rattle.eng_io.specs.Causes.{Rose}
-use Rattle.abcps_words.specs.{Command.{Asks, IsListed, limit_of}, declared.command.Command.Command, Usage.usage_line}
+use Rattle.{eng_io.specs.Causes.{Rose}, abcps_words.specs.{Command.{Asks, IsListed, limit_of}, declared.command.Command.Command, Usage.usage_line}}
 use Rattle.abcps.specs.{Outcome.{HasFailed, HasPart, Stream, IsQuiet, IsRead, IsReader, ReadTooMuch, TookAll, WasTold}, Called.Called, Calls.{Calls, Refuses, by_one_job}, Refusals.{IsRefusal, refusal_line, refusal_status}, declared.{refusing.Refusal.Refusal, status.Status.Status}}
 
 -- no stream counted a fault, where a count that stands at its end counts as risen

@@ -1,7 +1,6 @@
 -- What is answered to an input that is refused: the status, and the line on errors.
 use Rattle.std.specs.Prelude.{ℕ, List, [], ◌∷◌, ◌++◌, codes, decimal}
-use Rattle.paint_text.specs.PaintText.{halt_line}
-use Rattle.abcps.specs.declared.{refusing.Refusal.Refusal, status.Status.Status}
+use Rattle.{paint_text.specs.PaintText.{halt_line}, abcps.specs.declared.{refusing.Refusal.Refusal, status.Status.Status}}
 
 abbrev pub not_pages_line : ℕ → List ℕ
 not_pages_line line = codes "not pages at line " ++ decimal line ++ 10 ∷ []

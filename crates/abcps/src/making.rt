@@ -1,6 +1,5 @@
 ghost use Rattle.std.specs.Prelude.{◌≡◌, ◌≤◌, []};
-ghost use Rattle.abcps.specs.Outcome.{IsAnswer, observed};
-ghost use Rattle.abcps_words.specs.declared.command.Command.{Command};
+ghost use Rattle.{abcps.specs.Outcome.{IsAnswer, observed}, abcps_words.specs.declared.command.Command.{Command}};
 
 use crate::status::Status;
 use crate::telling::write_both;

@@ -1,9 +1,7 @@
 -- Marks that are alike but for their heights have the same boxes.
 use Rattle.std.{proofs.{Common.{◌≡◌, ◌∙◌, sym, ap, subst, refl, ℕ, ◌<◌, ℤ, pos, ◌+ℤ◌, ◌≤ℤ◌, List, length, get_or, arith}, lemmas.List.{get_or-map, length-map, Elements.Contains-get_or}}, specs.List.Contains}
 use Rattle.mus_laid.specs.{Boxes.sides_of, Shapes.laid_shape, Shapes.mark_shape, Shapes.marks_shape, declared.boxes.Sides.Sides, declared.laid.Laid.Laid, declared.laid.Mark.Mark}
-use Rattle.lay_columns.specs.Reaches.{rank_of}
-use Rattle.lay_tune.specs.Systems.{x_at}
-use Rattle.lay_apart.specs.Apart.{AreApart, IsBoxed, Keeps, gap_of}
+use Rattle.{lay_columns.specs.Reaches.{rank_of}, lay_tune.specs.Systems.{x_at}, lay_apart.specs.Apart.{AreApart, IsBoxed, Keeps, gap_of}}
 
 box_shape : (x : Mark) → (rank_of (mark_shape x) ≡ rank_of x) × (sides_of (mark_shape x) ≡ sides_of x)
 box_shape (Mark.Glyph glyph rank dx dy) = (refl, refl)

@@ -1,9 +1,7 @@
 -- The columns of a system: as many as its keys, and the first and the last stand in each lane.
 use Rattle.std.proofs.{Common.{◌≡◌, ◌∙◌, sym, ap, subst, ℕ, ◌-◌, ◌<◌, ◌≤◌, true, List, [], length, get_or, arith}, lemmas.{List.{get_or-map, length-map}, Option.slice_get-get_or}}
-use Rattle.mus_score.specs.{declared.score.Score.Score, GoodScore.IsGoodScore}
-use Rattle.mus_time.specs.{declared.keys.Class.Class, declared.keys.ColumnKey.ColumnKey, Keys.key_at, Onsets.timeline_of}
-use Rattle.mus_laid.specs.{declared.laid.StaffMarks.StaffMarks, declared.laid.SystemMarks.SystemMarks}
-use Rattle.mus_marks.specs.{Staff.staff_marks, Staff.verses_on, System.drawn_staves}
+use Rattle.{mus_score.specs.{declared.score.Score.Score, GoodScore.IsGoodScore}, mus_time.specs.{declared.keys.Class.Class, declared.keys.ColumnKey.ColumnKey, Keys.key_at, Onsets.timeline_of}}
+use Rattle.{mus_laid.specs.{declared.laid.StaffMarks.StaffMarks, declared.laid.SystemMarks.SystemMarks}, mus_marks.specs.{Staff.staff_marks, Staff.verses_on, System.drawn_staves}}
 use Rattle.lay_springs.{specs.Fit.StandsInAll, specs.Place.reach_at, proofs.Placing.reach_is}
 use Rattle.lay_columns.{specs.declared.column.Column.Column, specs.Columns.StandsWhereDue, specs.Columns.column_reach, specs.Columns.columns_of, specs.Lanes.gaps_of, specs.Reaches.stands_always, proofs.Facts.columns_keys, proofs.Facts.columns_stand}
 use Rattle.lay_tune.{specs.Spans.IsSystem, specs.Spans.score_gaps, specs.Spans.system_columns, specs.Spans.verses_of, proofs.Within.system_count}

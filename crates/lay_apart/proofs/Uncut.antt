@@ -4,8 +4,7 @@ use Rattle.std.{proofs.{Common.{◌≡◌, ◌∙◌, sym, ap, subst, inl, inr, 
 use Rattle.mus_laid.specs.{Boxes.sides_of, declared.boxes.Sides.Sides, declared.laid.Laid.Laid, declared.laid.Mark.Mark, declared.laid.StaffMarks.StaffMarks}
 use Rattle.lay_springs.specs.{declared.traits.Reach.Reach, Fit.StandsInAll, Place.StandApart, Place.reach_at}
 use Rattle.lay_columns.specs.{declared.column.Column.Column, Columns.CoverMarks, Columns.Covers, Columns.column_reach, Lanes.gaps_of, Lanes.lane_count, Lanes.lane_number, Lanes.lane_start, Reaches.rank_of}
-use Rattle.lay_shown.specs.Ranks.{AreRanked, IsRanked}
-use Rattle.lay_tune.{specs.Systems.x_at, proofs.Within.EndsWithin}
+use Rattle.{lay_shown.specs.Ranks.{AreRanked, IsRanked}, lay_tune.{specs.Systems.x_at, proofs.Within.EndsWithin}}
 use Rattle.lay_apart.{specs.Apart.AreApart, specs.Apart.IsBoxed, specs.Apart.gap_of, proofs.LaneGaps.HasLane, proofs.LaneGaps.number_of, proofs.LaneGaps.place_of_lane}
 
 -- columns that stand apart within a width, of which the first and the last stand in each lane

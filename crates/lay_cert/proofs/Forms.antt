@@ -1,8 +1,7 @@
 -- The text of a line, each part in front of what follows it.
 use Rattle.std.proofs.Common.{◌≡◌, ℕ, ◌∷◌, ◌++◌, ap, codes, decimal}
 use mathlib.Core.List.{append_assoc}
-use Rattle.lay_breaks.specs.declared.costs.Span.{Span}
-use Rattle.lay_cert.specs.{Lines.line_text, declared.lines.Line.Line}
+use Rattle.{lay_breaks.specs.declared.costs.Span.{Span}, lay_cert.specs.{Lines.line_text, declared.lines.Line.Line}}
 
 pub span_text : (s : Span) → line_text (Line.OneSpan s) ≡ codes "span " ++ (decimal s.a ++ (32 ∷ (decimal s.b ++ (32 ∷ decimal s.badness))))
 span_text s = ap (λ t. codes "span " ++ t) (append_assoc (decimal s.a) (32 ∷ decimal s.b) (32 ∷ decimal s.badness))

@@ -1,6 +1,5 @@
 ghost use Rattle.std.specs.Prelude.{◌≡◌, ◌+◌, ◌^◌, ◌<◌, ◌≤◌, ℕ, Option, Some, None, length, slice_index, false, refl};
-ghost use Rattle.lay_breaks.specs.Spans.{listed};
-ghost use Rattle.lay_cert.specs.Indexed.{looked_up, small_if_some};
+ghost use Rattle.{lay_breaks.specs.Spans.{listed}, lay_cert.specs.Indexed.{looked_up, small_if_some}};
 
 use lay_breaks::{Costs, Span};
 use mus_units::Row;

@@ -1,7 +1,6 @@
 -- The reach of a column in a lane covers the boxes of its marks there.
 use Rattle.std.{proofs.{Common.{◌≡◌, ℕ, zero, suc, ℤ, pos, negsuc, neg_ℤ, ◌≤ℤ◌, ◌⊎◌, ◌+◌, ◌<◌, ◌≤◌, Bool, List, [], ◌∷◌, ◌++◌, map, length, Option, Some, None, refl, sym, ap, ◌∙◌, subst, arith, inl, inr, option_and_then, option_map, slice_get, get_or}, lemmas.{Bool.cases_lt, Int.ints, List.{length-map, FromFn.{length-map-range_with_len, get_or-map-range_with_len}}, Option.{none-some, same_Some, slice_get-get_or, slice_get-map}}}, specs.List.Contains}
-use Rattle.mus_time.specs.{Onsets.greatest, declared.keys.ColumnKey.ColumnKey}
-use Rattle.mus_laid.specs.{declared.boxes.Sides.Sides, declared.laid.Laid.Laid, declared.laid.StaffMarks.StaffMarks}
+use Rattle.{mus_time.specs.{Onsets.greatest, declared.keys.ColumnKey.ColumnKey}, mus_laid.specs.{declared.boxes.Sides.Sides, declared.laid.Laid.Laid, declared.laid.StaffMarks.StaffMarks}}
 use Rattle.lay_springs.{specs.{declared.traits.Reach.Reach, Place.reach_at, Stands.{most_reach, reach_in}}, proofs.Longer.get_front}
 use Rattle.lay_columns.{specs.{declared.column.Column.Column, Columns.{column_reach, columns_from, CoverMarks, Covers}, Lanes.{lane_count, lane_start}, Reaches.{box_at, boxes_at, drawn_reach, drawn_row, left_of, reach_over, reaches_of, right_of, staff_reaches, standing, stands_always}}, proofs.{Facts.{near_all, near_over, reach_same}, Rows.box_is}}
 

@@ -1,7 +1,6 @@
 -- What is true of each column: it is small, has a place for each lane, and stands where it must.
 use Rattle.std.{proofs.{Common.{◌≡◌, ℕ, ℤ, pos, negsuc, ◌+◌, ◌-◌, ◌*◌, ◌/◌, ◌^◌, ◌≤◌, min, Bool, true, false, List, [], ◌∷◌, map, length, Option, Some, None, IfSome, refl, sym, ap, ◌∙◌, subst, arith, if◌then◌else◌, option_and_then, slice_get, get_or}, lemmas.{List.{length-append, length-map, length-replicate, Elements.{All-append, All-cons, All-map, All-nil}, FromFn.length-map-range_with_len}, Option.{slice_get-get_or, slice_get_within, get_or_from_slice_get}}}, specs.List.{All, find, range_with_len}}
-use Rattle.mus_time.specs.{Onsets.greatest, declared.keys.ColumnKey.ColumnKey}
-use Rattle.mus_laid.specs.{declared.boxes.Sides.Sides, declared.laid.Laid.Laid, declared.laid.StaffMarks.StaffMarks}
+use Rattle.{mus_time.specs.{Onsets.greatest, declared.keys.ColumnKey.ColumnKey}, mus_laid.specs.{declared.boxes.Sides.Sides, declared.laid.Laid.Laid, declared.laid.StaffMarks.StaffMarks}}
 use Rattle.lay_springs.specs.{declared.traits.Reach.Reach, Fit.StandsInAll, Stands.{cut_reach, most_reach, reach_in}}
 use Rattle.lay_columns.specs.{declared.column.Column.Column, Column.length_at, Columns.{columns_from, IsNear, IsSmall, IsUncut, StandsWhereDue}, Lanes.{gaps_of, lane_count, staff_gaps}, Naturals.{is_note, is_note_of, natural_for, natural_of, tick_or_end}, Reaches.{drawn_reach, drawn_row, left_of, reach_over, reaches_of, right_of, staff_reaches, standing, stands_always}}
 

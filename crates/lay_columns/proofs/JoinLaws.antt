@@ -1,7 +1,6 @@
 -- Columns of two lists of measures, one after the other.
 use Rattle.std.{proofs.{Common.{◌≡◌, ◌≢◌, ℕ, ◌+◌, ◌-◌, ◌<◌, ◌==◌, Bool, true, false, List, [], ◌∷◌, ◌++◌, map, length, Option, Some, None, refl, ap, ◌∙◌, arith, if◌then◌else◌, get_or}, lemmas.List.{append-nil, Elements.{All-head, All-tail, filter_map-append}, Folds.find-append}}, specs.{List.{All, find}, Option.option_or}}
-use Rattle.mus_time.specs.declared.keys.ColumnKey.{ColumnKey}
-use Rattle.mus_laid.specs.{Boxes.sides_of, declared.laid.Laid.Laid, declared.laid.Mark.Mark, declared.laid.StaffMarks.StaffMarks}
+use Rattle.{mus_time.specs.declared.keys.ColumnKey.{ColumnKey}, mus_laid.specs.{Boxes.sides_of, declared.laid.Laid.Laid, declared.laid.Mark.Mark, declared.laid.StaffMarks.StaffMarks}}
 use Rattle.lay_columns.{specs.{Columns.columns_from, Joining.{ColumnsJoin, IsBelow, MarksJoin, moved, moved_mark, OfOtherMeasures, StavesJoin}, Lanes.lane_count, Naturals.{is_note, is_note_of, natural_for, natural_of, tick_or_end}, Reaches.{box_at, boxes_at, drawn_reach, is_number, rank_of, reach_over, reaches_of, staff_reaches, standing, stands_always}}, proofs.Rows.same_range}
 
 -- ---- reaches

@@ -1,8 +1,6 @@
 -- The reaches of a column in a staff's lanes, mark by mark.
 use Rattle.std.{proofs.{Common.{◌≡◌, ◌≢◌, ℕ, ◌<◌, ◌&&◌, ◌==◌, max, true, List, [], ◌∷◌, ◌++◌, map, length, Option, Some, None, refl, sym, ap, ◌∙◌, subst, arith, inl, inr, if◌then◌else◌, nat_lt, get_or, set, get_or-set_same, get_or-set_other}, lemmas.{Bool.cases_eq, List.{append-nil, length-set, Elements.filter_map-append, FromFn.{fill_by_all, length-map-range_with_len, get_or-map-range_with_len}}}}, specs.List.{cons_option, range_with_len}}
-use Rattle.mus_time.specs.Onsets.{greatest}
-use Rattle.mus_laid.specs.{Boxes.sides_of, declared.boxes.Sides.Sides, declared.laid.Laid.Laid}
-use Rattle.lay_springs.specs.declared.traits.Reach.{Reach}
+use Rattle.{mus_time.specs.Onsets.{greatest}, mus_laid.specs.{Boxes.sides_of, declared.boxes.Sides.Sides, declared.laid.Laid.Laid}, lay_springs.specs.declared.traits.Reach.{Reach}}
 use Rattle.lay_columns.specs.{Lanes.lane_number, Reaches.left_of, Reaches.right_of, Reaches.rank_of, Reaches.box_at, Reaches.boxes_at, Reaches.reach_over, Reaches.drawn_reach, Reaches.drawn_row, Widened.widened, Widened.widened_row}
 
 -- ---- one more box

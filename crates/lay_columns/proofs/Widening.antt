@@ -1,7 +1,6 @@
 -- Bare columns, widened by the marks of each staff, have the reaches of their marks.
 use Rattle.std.{proofs.{Common.{◌≡◌, ◌≢◌, ℕ, zero, suc, ◌+◌, ◌<◌, ◌≤◌, ◌&&◌, ◌==◌, max, Bool, true, false, List, [], ◌∷◌, ◌++◌, map, length, replicate, Option, Some, None, refl, sym, ap, ◌∙◌, subst, arith, if◌then◌else◌, nat_lt}, Math.ListN.get_or-append, lemmas.List.{append-nil, append_assoc, length-append, length-map, replicate-append-replicate, set-append_left}}, specs.List.range_with_len}
-use Rattle.mus_laid.specs.{Boxes.sides_of, declared.boxes.Sides.Sides, declared.laid.Laid.Laid, declared.laid.StaffMarks.StaffMarks}
-use Rattle.mus_time.specs.declared.keys.ColumnKey.{ColumnKey}
+use Rattle.{mus_laid.specs.{Boxes.sides_of, declared.boxes.Sides.Sides, declared.laid.Laid.Laid, declared.laid.StaffMarks.StaffMarks}, mus_time.specs.declared.keys.ColumnKey.{ColumnKey}}
 use Rattle.lay_springs.specs.declared.traits.Reach.{Reach}
 use Rattle.lay_columns.{specs.{declared.column.Column.Column, Columns.{columns_from, columns_of}, Lanes.{lane_count, lane_number, lanes_of}, Naturals.natural_of, Reaches.{box_at, drawn_row, left_of, rank_of, reaches_of, right_of, staff_reaches, standing, stands_always}, Widened.{bare_columns, place_of, widened, widened_at, widened_by, widened_by_mark, widened_by_marks, widened_by_staves, widened_row, with_widened}}, proofs.{Covering.row_long, Rows.{box_is, none_more, row_length, row_more}}}
 

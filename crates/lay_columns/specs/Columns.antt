@@ -1,7 +1,6 @@
 -- The columns of a system: one for each key, with its reach in each lane and the natural length of the spring behind it.
 use Rattle.std.specs.Prelude.{◌≡◌, ℕ, ◌+◌, ◌*◌, ◌/◌, ◌<◌, ◌≤◌, ◌⊎◌, pos, neg_ℤ, ◌≤ℤ◌, true, List, [], ◌∷◌, length, All, Contains, Option, Some, IfSome, option_and_then, slice_get}
-use Rattle.mus_time.specs.declared.keys.ColumnKey.{ColumnKey}
-use Rattle.mus_laid.specs.{Boxes.sides_of, declared.boxes.Sides.Sides, declared.laid.Laid.Laid, declared.laid.StaffMarks.StaffMarks}
+use Rattle.{mus_time.specs.declared.keys.ColumnKey.{ColumnKey}, mus_laid.specs.{Boxes.sides_of, declared.boxes.Sides.Sides, declared.laid.Laid.Laid, declared.laid.StaffMarks.StaffMarks}}
 use Rattle.lay_springs.specs.{declared.traits.Reach.Reach, Fit.StandsInAll, Place.reach_at, Stands.{most_reach, reach_in}}
 use Rattle.lay_columns.specs.{declared.column.Column.Column, Column.length_at, Lanes.gaps_of, Lanes.lane_count, Lanes.lane_number, Lanes.lane_start, Naturals.natural_of, Reaches.rank_of, Reaches.reaches_of, Reaches.stands_always}
 

@@ -2,8 +2,7 @@
 use Rattle.std.specs.{Prelude.{ℕ, ℤ, pos, negsuc, ◌+◌, min, Bool, true, false, ◌&&◌, ◌==◌, if◌then◌else◌, List, [], ◌∷◌, ◌++◌, map, filter_map, Option, Some, None}, List.range_with_len}
 use Rattle.mus_time.specs.{Onsets.greatest, declared.keys.Class.Class}
 use Rattle.mus_laid.specs.{Boxes.sides_of, declared.boxes.Sides.Sides, declared.laid.Mark.Mark, declared.laid.Laid.Laid, declared.laid.StaffMarks.StaffMarks}
-use Rattle.lay_springs.specs.{declared.traits.Reach.Reach, Stands.most_reach}
-use Rattle.lay_columns.specs.{Lanes.lane_count, Lanes.lane_number}
+use Rattle.{lay_springs.specs.{declared.traits.Reach.Reach, Stands.most_reach}, lay_columns.specs.{Lanes.lane_count, Lanes.lane_number}}
 
 -- how far a box goes to the left, and to the right, of its column
 unfoldable pub left_of : ℤ → ℕ

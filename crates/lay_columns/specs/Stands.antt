@@ -1,7 +1,5 @@
 -- The reaches of a column in its lanes, of which a single one stands in place, and three do.
-use Rattle.std.specs.Prelude.{List, Option, None, replicate, slice_set}
-use Rattle.lay_springs.specs.declared.traits.Reach.{Reach}
-use Rattle.lay_columns.specs.declared.stands.{Single.Single, Held.Held, Lanes.Lanes}
+use Rattle.{std.specs.Prelude.{List, Option, None, replicate, slice_set}, lay_springs.specs.declared.traits.Reach.{Reach}, lay_columns.specs.declared.stands.{Single.Single, Held.Held, Lanes.Lanes}}
 
 abbrev pub single_held : Single → List (Option Reach)
 single_held single = slice_set (replicate single.lanes None) single.lane single.reach

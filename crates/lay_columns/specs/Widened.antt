@@ -1,8 +1,7 @@
 -- Columns before any mark, and widened by marks one after the other.
 use Rattle.std.specs.Prelude.{ℕ, ◌+◌, max, nat_lt, if◌then◌else◌, List, [], ◌∷◌, length, replicate, Option, Some, None, All, slice_get, slice_index_or, slice_set}
 use Rattle.mus_laid.specs.{Boxes.AreGoodMarks, Boxes.sides_of, declared.boxes.Sides.Sides, declared.laid.Laid.Laid, declared.laid.StaffMarks.StaffMarks}
-use Rattle.mus_time.specs.declared.keys.ColumnKey.{ColumnKey}
-use Rattle.lay_springs.specs.declared.traits.Reach.{Reach}
+use Rattle.{mus_time.specs.declared.keys.ColumnKey.{ColumnKey}, lay_springs.specs.declared.traits.Reach.{Reach}}
 use Rattle.lay_columns.specs.{declared.column.Column.Column, Lanes.lane_count, Lanes.lane_number, Naturals.natural_of, Reaches.left_of, Reaches.rank_of, Reaches.right_of, Reaches.standing, Reaches.stands_always}
 
 abbrev pub AreGoodStaves : List StaffMarks → Type 0

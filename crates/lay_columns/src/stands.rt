@@ -1,7 +1,5 @@
 ghost use Rattle.std.specs.Prelude.{◌≡◌, ◌<◌, IfOk, IfSome, None, OnOk, Option, Some, length, option_copied, replicate, slice_get, slice_index_or, slice_set};
-ghost use Rattle.std.proofs.Props.{props};
-ghost use Rattle.lay_columns.specs.Reaches.{standing};
-ghost use Rattle.lay_springs.specs.Stands.{TellsReach, reach_in};
+ghost use Rattle.{std.proofs.Props.{props}, lay_columns.specs.Reaches.{standing}, lay_springs.specs.Stands.{TellsReach, reach_in}};
 
 use lay_springs::{Reach, Stand, Stands, cut_reach};
 use mus_units::{Memory, Row};

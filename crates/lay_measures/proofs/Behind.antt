@@ -2,8 +2,7 @@
 use Rattle.std.{proofs.{Common.{◌≡◌, ◌∙◌, ℕ, ◌+◌, ◌-◌, ◌<◌, ◌≤◌, ◌==◌, ◌&&◌, not, Bool, true, false, if◌then◌else◌, min, List, [], ◌∷◌, ◌++◌, length, map, drop, Option, Some, None, refl, sym, ap, subst, arith}, lemmas.{Bool.Decides.nat_tests, List.{append-nil, Elements.{All-from_recursion, All-nil, recursion_from_All}, Sums.AllPass-from_list_all}}}, specs.List.{AllByRecursion, Contains, flat_map, list_all, slice_index, slice_range}}
 use Rattle.mus_score.specs.{declared.score.{Score.Score, Voice.Voice}, GoodScore.IsGoodScore, Seats.is_lower}
 use Rattle.mus_time.{specs.{declared.{keys.{Class.Class, ColumnKey.ColumnKey}, times.Timeline.Timeline}, Keys.{AreKeys, IsInSystem, has_features, head_key, measure_keys, voice_keys}, Onsets.{length_at, timeline_of}, Order.{Rises, class_number, is_below, rank_of}, Ranks.rank_at}, proofs.{Places.length_is, RankLaws.rank_at_place}}
-use Rattle.mus_laid.specs.{declared.drawn.Drawn.Drawn, declared.laid.{Laid.Laid, StaffMarks.StaffMarks}, Ranked.drawn_at}
-use Rattle.mus_ink.specs.Bars.{bar_marks}
+use Rattle.{mus_laid.specs.{declared.drawn.Drawn.Drawn, declared.laid.{Laid.Laid, StaffMarks.StaffMarks}, Ranked.drawn_at}, mus_ink.specs.Bars.{bar_marks}}
 use Rattle.mus_drawn.specs.{declared.drawn.{DrawnEvent.DrawnEvent, DrawnMeasure.DrawnMeasure, DrawnVoice.DrawnVoice}, Drawn.drawn_voice}
 use Rattle.mus_keys.{specs.Columns.keys_called, proofs.Called.{called_places, called_same}}
 use Rattle.mus_marks.{specs.{declared.events.Place.Place, Events.{bar_part, change_part, changes_nothing, event_marks, events_marks, graces_part, levels_behind, levels_in, measures_marks, note_part, note_rank, words_part}, Staff.{columns_part, head_part}, System.{drawn_staves, stands_lower}}, proofs.{Groups.grouped_all, Inside.head_inside, Unchanged.nothing_marks}}
@@ -137,6 +136,3 @@ plain_further s t m verses good timed some within plain begun are =
     by : (begun : List Column) → AreMeasureColumns true s t m verses begun → AreMeasureColumns false s t m verses (drop 1 begun)
     by [] are = none_behind s t m verses s.voices refl good are
     by (column ∷ columns) are = of_behind s t m verses column columns good timed some within plain are
-
-pub own_further : (s : Score) (t : Timeline) (m : ℕ) (verses : List ℕ) (own : List Column) → AreMeasureColumns ((m - 1) == m) s t m verses own → AreFurther s t m verses (Some own)
-own_further s t m verses own are _ _ = are

@@ -2,10 +2,8 @@
 use Rattle.std.{proofs.{Common.{◌≡◌, ◌∙◌, ℕ, zero, suc, ◌+◌, ◌-◌, ◌<◌, ◌≤◌, Bool, true, false, List, [], ◌∷◌, length, map, take, drop, Some, Ok, Err, IfOk, Result, refl, sym, ap, subst, arith}, lemmas.{Bool.Decides.nat_tests, List.{length-map, Elements.{All-from_recursion, Contains-append_left, Contains-append_right, recursion_from_All}}}}, specs.List.{All, AllByRecursion, Contains, flat_map, slice_index, slice_range}}
 use Rattle.mus_score.specs.{declared.score.Measure.Measure, declared.score.Score.Score, declared.score.Voice.Voice, Seats.is_lower, Times.flats_of, GoodScore.IsGoodScore, GoodScore.IsLed}
 use Rattle.mus_time.specs.{declared.{keys.{Class.Class, ColumnKey.ColumnKey}, times.Timeline.Timeline}, Onsets.timeline_of, Keys.{AreKeys, all_keys, bar_key, called_keys, events_keys, first_keys, further_keys, IsInSystem, key_at, keys_by, measures_keys, signed_at}, Order.{BelowAll, is_below, Rises}}
-use Rattle.mus_drawn.specs.{declared.drawn.DrawnMeasure.DrawnMeasure, declared.drawn.DrawnVoice.DrawnVoice}
-use Rattle.mus_laid.specs.Boxes.{AreGoodMarks}
-use Rattle.mus_stems.proofs.RunLaws.{all_append, all_drop, all_take}
-use Rattle.mus_keys.{specs.Columns.keys_called, proofs.Called.called_places}
+use Rattle.{mus_drawn.specs.{declared.drawn.DrawnMeasure.DrawnMeasure, declared.drawn.DrawnVoice.DrawnVoice}, mus_laid.specs.Boxes.{AreGoodMarks}}
+use Rattle.{mus_stems.proofs.RunLaws.{all_append, all_drop, all_take}, mus_keys.{specs.Columns.keys_called, proofs.Called.called_places}}
 use Rattle.mus_marks.{specs.System.drawn_staves, proofs.Fitting.staves_fit, proofs.Parts.columns_all, proofs.Parts.Fits, proofs.Parts.FitsMeasure, proofs.Parts.FitsVoice, proofs.Parts.measures_all, proofs.GoodMarks.goods, proofs.GoodMarks.IsGood}
 use Rattle.lay_columns.{specs.{declared.column.Column.Column, Columns.StandsWhereDue, Widened.AreGoodStaves}, proofs.Facts.columns_stand}
 use Rattle.lay_measures.specs.Measures.{AreMeasureColumns, EndWithBar, fixed_place, keys_in, measure_part, measure_staff, parts_from}

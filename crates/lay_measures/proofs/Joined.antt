@@ -1,12 +1,9 @@
 -- A system that is one measure longer has the columns of the system, then those of the further measure.
 use Rattle.std.{proofs.{Common.{◌≡◌, ◌≢◌, ◌∙◌, ℕ, ◌+◌, ◌-◌, ◌<◌, ◌≤◌, ◌==◌, true, false, List, [], ◌∷◌, ◌++◌, length, map, Some, None, refl, sym, ap, subst, arith}, lemmas.{Bool.Decides.nat_tests, List.{append-nil, append_assoc, length-map, Elements.{All-from_recursion, All-nil, Contains-append_right, filter_map-append, recursion_from_All}}}}, specs.List.{All, AllByRecursion, Contains, slice_index, slice_index_or, slice_range}}
-use Rattle.mus_units.specs.declared.note.Bar.{Bar}
-use Rattle.mus_score.specs.{declared.score.Score.Score, declared.score.Seat.Seat, declared.score.Voice.Voice, GoodScore.IsGoodScore, Seats.grouped}
+use Rattle.{mus_units.specs.declared.note.Bar.{Bar}, mus_score.specs.{declared.score.Score.Score, declared.score.Seat.Seat, declared.score.Voice.Voice, GoodScore.IsGoodScore, Seats.grouped}}
 use Rattle.mus_time.{specs.{declared.keys.{Class.Class, ColumnKey.ColumnKey}, Keys.{AreKeys, all_keys, bar_key, called_keys, first_keys, further_keys, IsInSystem, key_at, measures_keys, signed_at}, Onsets.{length_at, timeline_of}, Order.rank_of}, proofs.Places.{further_places, length_is, places_of}}
-use Rattle.mus_stems.proofs.RunLaws.{all_append}
-use Rattle.mus_laid.specs.{declared.laid.Laid.Laid, declared.laid.StaffMarks.StaffMarks, declared.laid.SystemMarks.SystemMarks}
-use Rattle.mus_drawn.specs.{declared.drawn.DrawnMeasure.DrawnMeasure, declared.drawn.DrawnVoice.DrawnVoice, Drawn.drawn_voice}
-use Rattle.mus_keys.proofs.Counts.{voice_count}
+use Rattle.{mus_stems.proofs.RunLaws.{all_append}, mus_laid.specs.{declared.laid.Laid.Laid, declared.laid.StaffMarks.StaffMarks, declared.laid.SystemMarks.SystemMarks}}
+use Rattle.{mus_drawn.specs.{declared.drawn.DrawnMeasure.DrawnMeasure, declared.drawn.DrawnVoice.DrawnVoice, Drawn.drawn_voice}, mus_keys.proofs.Counts.{voice_count}}
 use Rattle.mus_marks.{specs.Staff.columns_part, specs.Staff.staff_marks, specs.System.IsCall, specs.System.drawn_staves, specs.System.stands_lower, proofs.Groups.grouped_all, proofs.OneList.same_keys}
 use Rattle.lay_columns.{specs.{declared.column.Column.Column, Columns.columns_of, Joining.{AreJoined, IsBelow, moved, OfOtherMeasures, StavesJoin}, Reaches.{box_at, boxes_at, rank_of as mark_rank}}, proofs.JoinLaws.{columns_join, marks_join}}
 use Rattle.lay_measures.{proofs.{Slots.{AreBelow, bar_slots, columns_laid, columns_slots, events_slots, first_slots, head_slots, lay, lay_append, lay_below, lay_moved, lay_same, measures_laid, measures_slots}, Facts.led_voice, KeyLaws.{keys_grow, slice_long, slice_more}, Ranks.{bars_in, columns_in, Fit, IsPlaced, measures_in, rank_behind, rank_front, rank_less, slice_fit, voice_fit}, SameBoxes.{core_part, staff_same}}, specs.{Law.{AreColumnsFrom, MeasuresJoin, one_after_the_other}, Measures.{AreMeasureColumns, fixed_place, keys_in, measure_part, measure_staff, parts_from, staff_of_columns}}}

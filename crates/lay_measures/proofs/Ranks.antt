@@ -4,11 +4,9 @@ use Rattle.mus_units.specs.{declared.note.Bar.Bar, declared.pitch.Clef.Clef}
 use Rattle.mus_score.specs.{declared.score.Event.Event, declared.score.Flat.Flat, declared.score.Measure.Measure, declared.score.Seat.Seat, declared.score.Voice.Voice, Good.total_ticks, Seats.is_lower, Times.flats_of}
 use Rattle.mus_stems.{specs.declared.plans.StemPlan.StemPlan, proofs.RunLaws.all_append}
 use Rattle.mus_time.{specs.{declared.keys.{Class.Class, ColumnKey.ColumnKey}, Keys.{bar_key, events_keys, has_features, key_at, measures_keys, signed_through}, Onsets.{length_in, ticks_of_some}, Order.{class_number, is_below, rank_of}}, proofs.{Orders.lower, RankLaws.rank_most}}
-use Rattle.mus_ink.specs.{declared.graces.Group.Group, Bars.bar_marks, Decos.note_marks, Graces.group_of}
-use Rattle.mus_laid.specs.declared.drawn.Drawn.{Drawn}
+use Rattle.{mus_ink.specs.{declared.graces.Group.Group, Bars.bar_marks, Decos.note_marks, Graces.group_of}, mus_laid.specs.declared.drawn.Drawn.{Drawn}}
 use Rattle.mus_drawn.specs.{declared.{drawn.{DrawnEvent.DrawnEvent, DrawnMeasure.DrawnMeasure, Style.Style}, standing.Standing.Standing}, Drawn.{drawn_events, drawn_measure, drawn_measures, drawn_voice, raise_of, standing_after, standing_behind, standing_of, style_of}}
-use Rattle.mus_keys.specs.Columns.{note_key}
-use Rattle.mus_marks.specs.Events.{levels_behind, levels_in}
+use Rattle.{mus_keys.specs.Columns.{note_key}, mus_marks.specs.Events.{levels_behind, levels_in}}
 use Rattle.lay_measures.proofs.Slots.{Slot, bar_slots, change_slots, columns_slots, event_slots, events_slots, first_slots, graces_slots, head_slots, measures_slots, slot, words_of}
 
 -- ---- ranks

@@ -1,13 +1,10 @@
 -- Marks with the same boxes: where words go changes heights alone, and beams and arcs have no box.
 use Rattle.std.{proofs.{Common.{◌≡◌, ◌∙◌, ℕ, ℤ, ◌+◌, ◌<◌, ◌==◌, ◌&&◌, ◌||◌, Bool, true, false, if◌then◌else◌, List, [], ◌∷◌, ◌++◌, length, map, Option, Some, None, refl, sym, ap, subst}, lemmas.List.{append-nil, map-append, Elements.filter_map-append}}, specs.List.{flat_map, slice_range}}
-use Rattle.mus_units.specs.declared.note.Bar.{Bar}
-use Rattle.mus_score.specs.{declared.score.Flat.Flat, declared.score.Seat.Seat, Seats.is_lower}
-use Rattle.mus_time.specs.declared.keys.ColumnKey.{ColumnKey}
+use Rattle.{mus_units.specs.declared.note.Bar.{Bar}, mus_score.specs.{declared.score.Flat.Flat, declared.score.Seat.Seat, Seats.is_lower}, mus_time.specs.declared.keys.ColumnKey.{ColumnKey}}
 use Rattle.mus_laid.specs.{declared.{laid.{Laid.Laid, Mark.Mark, Lane.Lane}, drawn.{Bridge.Bridge, Drawn.Drawn, Span.Span}}, Ranked.{anchor_rank, bridge_at, by_columns, drawn_at, is_rank, stands_at}, Boxes.sides_of, Printed.printed}
 use Rattle.mus_ink.specs.{Distances.half_character, Drawing.back}
 use Rattle.mus_words.specs.{Syllables.{syllable, syllable_dx, syllable_if, syllables_from, verse_dy}, declared.texts.TextPlace.TextPlace, Words.words, Texts.{above_dy, above_from, below_dy, below_from, text_marks, texts_above, texts_below}}
-use Rattle.mus_drawn.specs.{declared.drawn.DrawnEvent.DrawnEvent, declared.drawn.DrawnMeasure.DrawnMeasure, declared.drawn.DrawnVoice.DrawnVoice}
-use Rattle.mus_bridges.specs.Bridges.{bridges_of}
+use Rattle.{mus_drawn.specs.{declared.drawn.DrawnEvent.DrawnEvent, declared.drawn.DrawnMeasure.DrawnMeasure, declared.drawn.DrawnVoice.DrawnVoice}, mus_bridges.specs.Bridges.{bridges_of}}
 use Rattle.mus_marks.{specs.{Staff.{bare_marks, columns_part, first_part, head_part, own_part, room_over, staff_bridges, staff_marks, staff_over, texts_behind, verses_on, written_parts}, declared.events.{Place.Place, Room.Room, Texts.Texts}, Events.{bar_part, change_part, event_marks, events_marks, graces_part, levels_behind, levels_in, measures_marks, note_part, note_rank, words_part}}, proofs.Columned.columned_taken}
 use Rattle.lay_columns.specs.{Lanes.lane_number, Reaches.box_at, Reaches.boxes_at, Reaches.is_number, Reaches.rank_of as mark_rank}
 use Rattle.lay_measures.specs.Measures.{fixed_place, parts_from}

@@ -1,13 +1,11 @@
 -- What stands in the columns of a staff, without its ranks: marks with the key of the column of each.
 -- With the rank of each key they are the marks of the staff, so that what moves the ranks moves them.
 use Rattle.std.{proofs.{Common.{◌≡◌, ◌∙◌, ℕ, pos, ◌+◌, ◌<◌, ◌==◌, ◌&&◌, ◌||◌, not, Bool, true, false, if◌then◌else◌, List, [], ◌∷◌, ◌++◌, map, Some, refl, sym, ap}, lemmas.List.{append-nil, append_assoc, map-append}}, specs.List.AllByRecursion}
-use Rattle.mus_units.specs.{declared.note.Bar.Bar, declared.pitch.Clef.Clef}
-use Rattle.mus_score.specs.{declared.score.Event.Event, declared.score.Flat.Flat, declared.score.Seat.Seat, Seats.is_lower}
+use Rattle.{mus_units.specs.{declared.note.Bar.Bar, declared.pitch.Clef.Clef}, mus_score.specs.{declared.score.Event.Event, declared.score.Flat.Flat, declared.score.Seat.Seat, Seats.is_lower}}
 use Rattle.mus_time.specs.{declared.keys.Class.Class, declared.keys.ColumnKey.ColumnKey, Keys.bar_key, Keys.has_features, Keys.head_key, Keys.key_at, Order.rank_of}
 use Rattle.mus_laid.specs.{declared.drawn.Drawn.Drawn, declared.drawn.Ink.Ink, declared.laid.Laid.Laid, Ranked.drawn_at, Ranked.ink_at}
 use Rattle.mus_ink.specs.{declared.graces.Group.Group, Bars.bar_marks, Changes.change_marks, Changes.head_marks, Decos.note_marks, Graces.grace_marks, Graces.group_of}
-use Rattle.mus_words.specs.{Syllables.syllables_from, Texts.text_marks}
-use Rattle.mus_drawn.specs.{declared.drawn.DrawnEvent.DrawnEvent, declared.drawn.DrawnMeasure.DrawnMeasure, Drawn.raise_of}
+use Rattle.{mus_words.specs.{Syllables.syllables_from, Texts.text_marks}, mus_drawn.specs.{declared.drawn.DrawnEvent.DrawnEvent, declared.drawn.DrawnMeasure.DrawnMeasure, Drawn.raise_of}}
 use Rattle.mus_keys.specs.Columns.{note_key}
 use Rattle.mus_marks.specs.{Events.change_part, Events.event_marks, Events.events_marks, Events.graces_from, Events.levels_behind, Events.levels_in, Events.measures_marks, Events.no_texts, Events.text_place, Staff.columns_part, Staff.head_part, Staff.meter_shown}
 use Rattle.lay_columns.specs.{Joining.{IsBelow, moved, moved_mark}, Reaches.rank_of as mark_rank}

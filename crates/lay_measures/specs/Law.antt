@@ -1,10 +1,7 @@
 -- The columns of measures, one after the other, are those of the system.
 use Rattle.std.specs.Prelude.{◌≡◌, ℕ, ◌+◌, ◌<◌, ◌≤◌, ◌==◌, ⊤, List, [], ◌∷◌, length, flat_map}
-use Rattle.mus_score.specs.{declared.score.Score.Score, GoodScore.IsGoodScore}
-use Rattle.mus_time.specs.{declared.times.Timeline.Timeline, Onsets.timeline_of}
-use Rattle.mus_laid.specs.declared.laid.SystemMarks.{SystemMarks}
-use Rattle.mus_marks.specs.System.{IsCall}
-use Rattle.lay_columns.specs.{declared.column.Column.Column, Columns.columns_of}
+use Rattle.{mus_score.specs.{declared.score.Score.Score, GoodScore.IsGoodScore}, mus_time.specs.{declared.times.Timeline.Timeline, Onsets.timeline_of}}
+use Rattle.{mus_laid.specs.declared.laid.SystemMarks.{SystemMarks}, mus_marks.specs.System.{IsCall}, lay_columns.specs.{declared.column.Column.Column, Columns.columns_of}}
 use Rattle.lay_measures.specs.Measures.{AreMeasureColumns}
 
 -- the columns of measure m, those of measure m + 1, and so on, in a system that begins with measure a

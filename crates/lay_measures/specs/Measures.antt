@@ -1,10 +1,8 @@
 -- The columns of one measure: in a system that begins with it, and in one that began before. Heights, and what texts stand in a
 -- column before, are of no account to columns, so that syllables and texts stand in a place that is always the same.
 use Rattle.std.specs.Prelude.{◌≡◌, ℕ, pos, ◌+◌, ◌-◌, ◌==◌, Bool, true, false, List, [], ◌∷◌, ◌++◌, drop, map, min, slice_get, slice_range, Option, Some, None}
-use Rattle.mus_score.specs.declared.score.Score.{Score}
-use Rattle.mus_time.specs.{declared.keys.Class.Class, declared.keys.ColumnKey.ColumnKey, declared.times.Timeline.Timeline, Keys.AreKeys}
-use Rattle.mus_laid.specs.{declared.laid.Laid.Laid, declared.laid.StaffMarks.StaffMarks}
-use Rattle.mus_drawn.specs.declared.drawn.{DrawnEvent.DrawnEvent, DrawnMeasure.DrawnMeasure, DrawnVoice.DrawnVoice}
+use Rattle.{mus_score.specs.declared.score.Score.{Score}, mus_time.specs.{declared.keys.Class.Class, declared.keys.ColumnKey.ColumnKey, declared.times.Timeline.Timeline, Keys.AreKeys}}
+use Rattle.{mus_laid.specs.{declared.laid.Laid.Laid, declared.laid.StaffMarks.StaffMarks}, mus_drawn.specs.declared.drawn.{DrawnEvent.DrawnEvent, DrawnMeasure.DrawnMeasure, DrawnVoice.DrawnVoice}}
 use Rattle.mus_keys.specs.Columns.{keys_called}
 use Rattle.mus_marks.specs.{declared.events.Place.Place, declared.events.Room.Room, Events.{changes_nothing, measures_marks}, Staff.columns_part, System.drawn_staves}
 use Rattle.lay_columns.specs.{declared.column.Column.Column, Columns.columns_of}

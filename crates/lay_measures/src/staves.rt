@@ -1,6 +1,5 @@
 ghost use Rattle.std.specs.Prelude.{◌≡◌, ◌≤◌, IfOk, map};
-ghost use Rattle.mus_score.specs.Seats.{grouped};
-ghost use Rattle.mus_marks.specs.{Staff.verses_on, System.stands_lower};
+ghost use Rattle.{mus_score.specs.Seats.{grouped}, mus_marks.specs.{Staff.verses_on, System.stands_lower}};
 
 use mus_drawn::DrawnVoice;
 use mus_marks::{lower_count, verses_on};

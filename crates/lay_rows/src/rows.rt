@@ -1,6 +1,5 @@
 ghost use Rattle.std.specs.Prelude.{◌≤◌, length, false, refl};
-ghost use Rattle.lay_breaks.specs.Rows.{AreSmall};
-ghost use Rattle.lay_rows.specs.Costs.{cost_in, cost_stops, cost_small};
+ghost use Rattle.{lay_breaks.specs.Rows.{AreSmall}, lay_rows.specs.Costs.{cost_in, cost_stops, cost_small}};
 
 use lay_breaks::Costs;
 use mus_units::Row;

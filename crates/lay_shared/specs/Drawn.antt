@@ -1,7 +1,6 @@
 -- The score that is drawn by a plan: the voices that it names, in order, each with its seat and the gap above its staff.
 use Rattle.std.specs.{Prelude.{ℕ, List, [], ◌∷◌, Bool, false, map, flat_map, slice_get, if◌then◌else◌}, Option.option_to_list}
-use Rattle.mus_units.specs.declared.note.Bar.{Bar}
-use Rattle.mus_score.specs.{declared.score.Score.Score, declared.score.Seat.Seat, declared.score.Voice.Voice, Seats.usual_gap, Seats.wide_gap}
+use Rattle.{mus_units.specs.declared.note.Bar.{Bar}, mus_score.specs.{declared.score.Score.Score, declared.score.Seat.Seat, declared.score.Voice.Voice, Seats.usual_gap, Seats.wide_gap}}
 use Rattle.lay_shared.specs.declared.{drawing.Sit.Sit, plan.Plan.Plan, plan.PlannedStaff.PlannedStaff}
 
 abbrev pub sit : ℕ → Seat → Bool → Sit

@@ -2,8 +2,7 @@
 -- stand blanks, `|`, `*`, `+` and `~`, which are passed over; behind an id stands no further byte of one.
 use Prim.Native.Char.{code}
 use Rattle.std.specs.{Prelude.{◌≡◌, ◌≤◌, ◌<◌, ⊤, ℕ, List, [], ◌∷◌, ◌++◌, Bool, true, false, ◌==◌, ◌&&◌, ◌||◌, not, if◌then◌else◌, length, codes, get_or, Option, Some, None}, List.list_all, Option.is_none}
-use Rattle.mus_units.specs.Bytes.{is_blank}
-use Rattle.lay_shared.specs.declared.signs.{Bracket.Bracket, Sign.Sign}
+use Rattle.{mus_units.specs.Bytes.{is_blank}, lay_shared.specs.declared.signs.{Bracket.Bracket, Sign.Sign}}
 
 abbrev pub is_passed : ℕ → Bool
 is_passed b = is_blank b || b == code "|" || b == code "*" || b == code "+" || b == code "~"

@@ -6,13 +6,10 @@ use Rattle.mus_score.specs.{declared.score.Flat.Flat, declared.score.Measure.Mea
 use Rattle.mus_time.{specs.declared.keys.ColumnKey.ColumnKey, specs.Keys.IsInSystem, specs.Keys.bar_key, specs.Keys.head_key, specs.Order.is_below, proofs.Orders.lower}
 use Rattle.mus_stems.proofs.RunLaws.{all_append, all_drop}
 use Rattle.mus_arcs.specs.{declared.{events.EventAt.EventAt, pairing.{Arc.Arc, Spot.Spot}, cutting.Piece.Piece}, Arcs.{arcs_of, copies, has_pitch, open_ends, slur, slurs, slurs_at, spot, tie, ties_at, ties_from}, Events.{at_measure, events_from, events_of_voice}, Pieces.piece_of}
-use Rattle.mus_laid.specs.declared.drawn.Bridge.{Bridge}
-use Rattle.mus_words.specs.Arcs.{Seen, arc_mark, slur_mark, tie_mark}
-use Rattle.mus_drawn.specs.{declared.drawn.DrawnEvent.DrawnEvent, declared.drawn.DrawnMeasure.DrawnMeasure, Drawn.drawn_voice}
-use Rattle.mus_keys.specs.Columns.{note_key}
+use Rattle.{mus_laid.specs.declared.drawn.Bridge.{Bridge}, mus_words.specs.Arcs.{Seen, arc_mark, slur_mark, tie_mark}}
+use Rattle.{mus_drawn.specs.{declared.drawn.DrawnEvent.DrawnEvent, declared.drawn.DrawnMeasure.DrawnMeasure, Drawn.drawn_voice}, mus_keys.specs.Columns.{note_key}}
 use Rattle.mus_bridges.specs.Arcs.{arc_between, arc_in, arcs_between, event_at, event_in, has_id, piece_between, seen_of}
-use Rattle.mus_marks.proofs.{GoingOn.{AllGoOn, GoOn, IsEarlier, later_below}, Inside.{HasEvent, HasMeasures, measure_at, there}}
-use Rattle.lay_shown.proofs.Between.{AreBetween, IsBetween, both}
+use Rattle.{mus_marks.proofs.{GoingOn.{AllGoOn, GoOn, IsEarlier, later_below}, Inside.{HasEvent, HasMeasures, measure_at, there}}, lay_shown.proofs.Between.{AreBetween, IsBetween, both}}
 
 -- ---- the arcs of a voice
 

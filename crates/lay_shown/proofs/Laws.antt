@@ -3,8 +3,7 @@ use Rattle.std.{proofs.{Common.{◌≡◌, ◌∙◌, refl, sym, ap, subst, ℕ,
 use Rattle.mus_score.specs.{declared.score.Score.Score, GoodScore.IsGoodScore}
 use Rattle.mus_time.{specs.declared.keys.ColumnKey.ColumnKey, specs.Keys.head_key, specs.Keys.voice_keys, specs.Onsets.timeline_of, specs.Order.rank_of, proofs.RankLaws.false_not_true, proofs.RankLaws.rank_at_place}
 use Rattle.mus_laid.specs.{declared.laid.Laid.Laid, declared.laid.StaffMarks.StaffMarks, declared.laid.SystemMarks.SystemMarks, Ranked.anchor_rank, Ranked.is_rank}
-use Rattle.mus_drawn.specs.{declared.drawn.DrawnVoice.DrawnVoice, Drawn.drawn_voice}
-use Rattle.mus_keys.proofs.{Called.staff_same, Counts.voice_count}
+use Rattle.{mus_drawn.specs.{declared.drawn.DrawnVoice.DrawnVoice, Drawn.drawn_voice}, mus_keys.proofs.{Called.staff_same, Counts.voice_count}}
 use Rattle.mus_marks.{specs.{Staff.staff_marks, System.{IsCall, drawn_staves, stands_lower}}, proofs.{Groups.{grouped_all, grouped_whole}, Inside.{AreAmong, here, there, voices_called}}}
 use Rattle.lay_shown.{specs.{Ranks.{AreAnchored, AreRanked, IsRanked, marks_ranks, staves_ranks}, Shown.IsShown}, proofs.{Bridged.voices_between, Planned.voice_planned, Printed.texts_printed, Standing.{HasRank, same_rank}, Staves.{IsInside, own_columns, staff_holds, staff_ranked}}}
 

@@ -1,7 +1,6 @@
 -- What is printed of a text has characters that a page may show, and so do decimals.
 use Rattle.std.{proofs.{Common.{ℕ, ◌+◌, ◌≤◌, ◌<◌, ◌%◌, ◌∙◌, List, [], ◌∷◌, ◌++◌, length, map, take, refl, arith}, lemmas.{Bool.{and_from, Decides.nat_tests}, Fmt.{decimal_by_steps, decimal_nonempty, length-decimal-le}, List.{length-map, length-take, Folds.list_all-append}}}, specs.{List.list_all, Prelude.{IsTrue, decimal}}}
-use Rattle.mus_laid.specs.Printed.{is_printable, printed, printed_byte, printed_within}
-use Rattle.lay_shown.specs.Texts.{IsPrinted}
+use Rattle.{mus_laid.specs.Printed.{is_printable, printed, printed_byte, printed_within}, lay_shown.specs.Texts.{IsPrinted}}
 
 byte_printable : (b : ℕ) → IsTrue (is_printable (printed_byte b))
 unfolding printed_byte

@@ -1,7 +1,6 @@
 -- The rows of a title block stand within it, and their texts can be printed.
 use Rattle.std.{proofs.{Common.{ℕ, ◌+◌, ◌≤◌, List, [], ◌∷◌, length, Option, arith}, lemmas.{Int.ints, List.Elements.All-from_recursion}}, specs.List.{All, AllByRecursion}}
-use Rattle.mus_units.specs.declared.glyph.Size.{Size}
-use Rattle.mus_stems.proofs.RunLaws.{all_append}
+use Rattle.{mus_units.specs.declared.glyph.Size.{Size}, mus_stems.proofs.RunLaws.{all_append}}
 use Rattle.lay_pages.specs.{declared.titles.{Place.Place, TitleRow.TitleRow, TitleBlock.TitleBlock}, Titles.{base_below, most_within, row_at, row_height, row_text, row_x, size_at, tempo_texts, title_block_of, with_row, with_text, with_texts}}
 use Rattle.lay_shown.{specs.Texts.IsPrinted, specs.Titles.IsGoodRow, proofs.PrintedTexts.within_printed}
 

@@ -1,7 +1,6 @@
 -- A system whose marks can be shown.
 use Rattle.std.specs.Prelude.{◌<◌, ◌≤◌, length, All}
-use Rattle.mus_laid.specs.declared.laid.SystemMarks.{SystemMarks}
-use Rattle.lay_shown.specs.{Ranks.AreAnchored, Ranks.AreRanked, Ranks.staves_ranks, Texts.HavePrinted}
+use Rattle.{mus_laid.specs.declared.laid.SystemMarks.{SystemMarks}, lay_shown.specs.{Ranks.AreAnchored, Ranks.AreRanked, Ranks.staves_ranks, Texts.HavePrinted}}
 
 -- it has a measure and a staff; its marks stand at its columns, each of which holds one; and its texts can be printed
 pub record IsShown (m : SystemMarks) : Type 0 where

@@ -1,7 +1,6 @@
 -- The rows of a title block, as they stand on a page.
 use Rattle.std.specs.Prelude.{ℕ, pos, ◌≤ℤ◌}
-use Rattle.lay_pages.specs.declared.titles.TitleRow.{TitleRow}
-use Rattle.lay_shown.specs.Texts.{IsPrinted}
+use Rattle.{lay_pages.specs.declared.titles.TitleRow.{TitleRow}, lay_shown.specs.Texts.{IsPrinted}}
 
 -- its text can be printed, and begins within the width of the body and the height of the block
 pub record IsGoodRow (width height : ℕ) (row : TitleRow) : Type 0 where

@@ -1,7 +1,6 @@
 -- The columns of a span, and how they grow by a measure.
 use Rattle.std.proofs.{Common.{◌≡◌, ℕ, zero, suc, ◌+◌, ◌-◌, ◌<◌, ◌≤◌, List, [], ◌∷◌, ◌++◌, length, take, drop, flat_map, slice_index_or, get_or, Option, option_and_then, slice_get, arith, sym, ◌∙◌, ap, subst, length-append}, lemmas.List.{take_more, get_or-drop, append-nil, append_assoc, length-drop, Concat.flat_map-append}}
-use Rattle.lay_springs.specs.{declared.traits.Reach.Reach, Place.reach_at, Fit.StandsInAll}
-use Rattle.lay_spans.specs.Columns.{measures_from, span_columns, EndsInAll}
+use Rattle.{lay_springs.specs.{declared.traits.Reach.Reach, Place.reach_at, Fit.StandsInAll}, lay_spans.specs.Columns.{measures_from, span_columns, EndsInAll}}
 
 -- a span has the columns of its first measure
 pub columns_some : {C : Type 0} (starts others : List (List C)) (a b : ℕ) → a < b → 0 < length (slice_index_or starts a []) → 0 < length (span_columns starts others a b)

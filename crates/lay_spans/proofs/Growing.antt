@@ -1,8 +1,7 @@
 -- The row of a bar, and the rows, while they grow.
 use Rattle.std.proofs.{Common.{◌≡◌, ℕ, ◌+◌, ◌-◌, ◌<◌, ◌≤◌, ℤ, Bool, List, [], ◌∷◌, ◌++◌, length, map, take, Option, None, Some, IsSome, slice_index, slice_index_or, get_or, true, false, arith, sym, ◌∙◌, ap, subst, refl, inl, inr, length-append}, Math.Seq.get_or-append_seam, lemmas.{Bool.{cases_lt, cases_eq, true≢false}, List.{get_or_append_left, length-map, take_all}, Option.{none-some, same_Some}}}
 use Rattle.lay_springs.{specs.{declared.{traits.Reach.Reach, progress.Progress.Progress}, Place.{reach_at, length_at, HasPlaced}}, proofs.{Clear.below_or_at, Longer.placed_on}}
-use Rattle.lay_breaks.specs.Spans.{AreSpans, listed}
-use Rattle.lay_rows.specs.Tables.{IsTable}
+use Rattle.{lay_breaks.specs.Spans.{AreSpans, listed}, lay_rows.specs.Tables.{IsTable}}
 use Rattle.lay_spans.{specs.{Columns.{measures_from, span_columns, AreMeasures}, Forced.ForcedInside, SpanList.{StandsAt, IsCost, IsNoSpan, IsSpanList}, Rows.{IsRowFrom, rows_spans}, Single.costs_small}, proofs.{Adding.{columns_some, columns_more}, Fitting.{longer_stands, seen_as}, Listing.{in_rows, past_rows, rows_form}}}
 
 -- the columns that are seen, with one measure more

@@ -1,7 +1,5 @@
-ghost use Rattle.std.specs.Prelude.{◌≡◌, ℕ, length, slice_index_or, false};
-ghost use Rattle.std.proofs.Props.{props};
-ghost use Rattle.lay_breaks.specs.Spans.{listed};
-ghost use Rattle.lay_rows.specs.Costs.{cost_in, cost_stops, cost_small};
+ghost use Rattle.std.{specs.Prelude.{◌≡◌, ℕ, length, slice_index_or, false}, proofs.Props.{props}};
+ghost use Rattle.{lay_breaks.specs.Spans.{listed}, lay_rows.specs.Costs.{cost_in, cost_stops, cost_small}};
 
 use lay_breaks::{Costs, Span};
 use lay_rows::Rows;

@@ -1,6 +1,5 @@
 ghost use Rattle.std.specs.Prelude.{◌≡◌, ◌+◌, ◌<◌, ◌≤◌, ◌^◌, ℕ, length, slice_index, slice_index_or, false};
-ghost use Rattle.lay_spans.specs.{Columns.AreMeasures, Rows.IsRowFrom, Single.{measures_prop, one_row, row_small}};
-ghost use Rattle.lay_springs.proofs.Ends.{spring_rises};
+ghost use Rattle.{lay_spans.specs.{Columns.AreMeasures, Rows.IsRowFrom, Single.{measures_prop, one_row, row_small}}, lay_springs.proofs.Ends.{spring_rises}};
 
 use crate::lent::Lent;
 use crate::rows::row_from;

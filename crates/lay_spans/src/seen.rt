@@ -1,5 +1,4 @@
-ghost use Rattle.std.specs.Prelude.{◌≡◌, ◌*◌, ◌/◌};
-ghost use Rattle.std.proofs.Props.{props};
+ghost use Rattle.std.{specs.Prelude.{◌≡◌, ◌*◌, ◌/◌}, proofs.Props.{props}};
 ghost use Rattle.lay_springs.specs.Stands.{TellsReach};
 
 use lay_springs::{Spaced, Spring, Stands};

@@ -1,6 +1,5 @@
 ghost use Rattle.std.specs.Prelude.{◌≡◌, ◌+◌, ◌<◌, ◌≤◌, ◌^◌, ℕ, IfOk, length, map, slice_index};
-ghost use Rattle.lay_breaks.specs.Spans.{AreSpans};
-ghost use Rattle.lay_spans.specs.{Columns.AreMeasures, Columns.span_columns, Forced.is_forced, SpanList.IsSpanList};
+ghost use Rattle.{lay_breaks.specs.Spans.{AreSpans}, lay_spans.specs.{Columns.AreMeasures, Columns.span_columns, Forced.is_forced, SpanList.IsSpanList}};
 
 use crate::costs::Spans;
 use crate::lent::Lent;

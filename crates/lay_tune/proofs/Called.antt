@@ -1,7 +1,6 @@
 -- A score calls for one system of given measures.
 use Rattle.std.proofs.Common.{◌≡◌, ◌∙◌, ℕ, ℤ, List, map, refl, sym, ap}
-use Rattle.mus_score.specs.declared.score.Score.{Score}
-use Rattle.mus_time.specs.{declared.keys.ColumnKey.ColumnKey, Keys.AreKeys, Keys.called_keys, Onsets.timeline_of}
+use Rattle.{mus_score.specs.declared.score.Score.{Score}, mus_time.specs.{declared.keys.ColumnKey.ColumnKey, Keys.AreKeys, Keys.called_keys, Onsets.timeline_of}}
 use Rattle.mus_laid.specs.{declared.laid.StaffMarks.StaffMarks, declared.laid.SystemMarks.SystemMarks}
 use Rattle.mus_marks.{specs.Staff.staff_marks, specs.System.drawn_staves, specs.Tilt.IsTilted, specs.Tilt.tilted_staff, proofs.OneList.same_keys}
 use Rattle.lay_tune.{specs.Spans.IsSystem, proofs.RisingKeys.have_keys}

@@ -1,8 +1,7 @@
 -- The spans of a score, and what stands open to a breaking of them.
 use Rattle.std.{proofs.{Common.{◌≡◌, ℕ, ◌-◌, ◌<◌, ◌≤◌, ◌*◌, ◌^◌, ◌==◌, not, Bool, List, [], ◌∷◌, length, map, Option, Some, None, IsSome, sym, ◌∙◌, ap, subst, refl, arith}, lemmas.{Bool.true≢false, List.{length-map, Elements.All-from_recursion, Sums.sum-map}}}, specs.List.{All, AllByRecursion, filter, sum_by}}
 use Rattle.mus_score.specs.{declared.score.Score.Score, declared.score.Voice.Voice, GoodScore.IsGoodScore, Seats.grouped, Seats.is_lower, Seats.stands_lower as lower}
-use Rattle.mus_laid.specs.{declared.laid.StaffMarks.StaffMarks, declared.laid.SystemMarks.SystemMarks}
-use Rattle.mus_drawn.specs.{declared.drawn.DrawnVoice.DrawnVoice, Drawn.drawn_voice}
+use Rattle.{mus_laid.specs.{declared.laid.StaffMarks.StaffMarks, declared.laid.SystemMarks.SystemMarks}, mus_drawn.specs.{declared.drawn.DrawnVoice.DrawnVoice, Drawn.drawn_voice}}
 use Rattle.mus_marks.{specs.Staff.verses_on, specs.System.drawn_staves, specs.System.stands_lower, proofs.Fitting.few_verses, proofs.Groups.grouped_map}
 use Rattle.lay_columns.specs.{declared.column.Column.Column, Column.length_rises, Columns.column_reach}
 use Rattle.lay_springs.{specs.{Place.{length_at, reach_at}, Fit.{Passes}}, proofs.{Longer.{cannot_stand, stand_few, stands}, Ends.length_rises as lengths_rise}}

@@ -1,8 +1,6 @@
 -- Columns that stand apart rise from 0, and those of a system end within the width.
 use Rattle.std.proofs.{Common.{◌≡◌, ◌∙◌, sym, ap, subst, refl, inl, inr, ℕ, if◌then◌else◌, ◌+◌, ◌-◌, ◌*◌, ◌/◌, ◌<◌, ◌≤◌, ◌==◌, ◌^◌, ℤ, pos, ◌+ℤ◌, ◌≤ℤ◌, min, Bool, true, false, List, length, map, Option, Some, arith}, lemmas.{Bool.{cases_lt, true≢false, Decides.nat_tests}, Int.ints, List.length-map}}
-use Rattle.mus_score.specs.declared.score.Score.{Score}
-use Rattle.mus_time.specs.{Keys.{AreKeys, called_keys}, Onsets.timeline_of}
-use Rattle.mus_laid.specs.{declared.laid.SystemMarks.SystemMarks}
+use Rattle.{mus_score.specs.declared.score.Score.{Score}, mus_time.specs.{Keys.{AreKeys, called_keys}, Onsets.timeline_of}, mus_laid.specs.{declared.laid.SystemMarks.SystemMarks}}
 use Rattle.mus_marks.{specs.Tilt.AreAbscissas, proofs.OneList.same_keys}
 use Rattle.lay_springs.{specs.{declared.{traits.Reach.Reach, margin.Placed.Placed}, Fit.{Fits, IsSet, counted, is_ragged}, Place.{IsPlace, StandApart, length_at, reach_at}}, proofs.{Ends.{apart_down, length_rises as lengths_rise}, Longer.{rises, stands}}}
 use Rattle.lay_columns.{specs.declared.column.Column.Column, specs.Column.length_rises, specs.Columns.column_reach, proofs.Facts.columns_keys}

@@ -1,6 +1,5 @@
 -- Why a score has no layout.
-use Rattle.std.specs.Prelude.{ℕ, ⊤, List}
-use Rattle.mus_score.specs.declared.score.Score.{Score}
+use Rattle.{std.specs.Prelude.{ℕ, ⊤, List}, mus_score.specs.declared.score.Score.{Score}}
 use Rattle.lay_breaks.specs.{declared.costs.Span.Span, declared.breaking.BreakError.BreakError, Breaking.IsReached, Breaking.NoneLegal, Spans.AreSpans, Spans.listed}
 use Rattle.lay_tune.specs.{declared.layout.LayoutError.LayoutError, Spans.AreSpansOf, Spans.is_forced_in, declared.layout.LayoutError.TheVariants.NoWay, declared.layout.LayoutError.TheVariants.Memory}
 

@@ -1,11 +1,8 @@
 -- The spans of a score that fit a width, told from the marks that the score calls for in each.
 use Rattle.std.specs.Prelude.{◌≡◌, ℕ, ◌<◌, ◌≤◌, ◌==◌, Bool, List, map, Some, IsSome}
-use Rattle.mus_score.specs.declared.score.Score.{Score}
-use Rattle.mus_time.specs.Onsets.{timeline_of}
-use Rattle.mus_laid.specs.declared.laid.SystemMarks.{SystemMarks}
+use Rattle.{mus_score.specs.declared.score.Score.{Score}, mus_time.specs.Onsets.{timeline_of}, mus_laid.specs.declared.laid.SystemMarks.{SystemMarks}}
 use Rattle.mus_marks.specs.{Staff.verses_on, System.IsCall, System.drawn_staves}
-use Rattle.lay_columns.specs.{declared.column.Column.Column, Column.length_at, Columns.column_reach, Columns.columns_of, Lanes.gaps_of}
-use Rattle.lay_breaks.specs.{declared.costs.Span.Span, Spans.listed}
+use Rattle.{lay_columns.specs.{declared.column.Column.Column, Column.length_at, Columns.column_reach, Columns.columns_of, Lanes.gaps_of}, lay_breaks.specs.{declared.costs.Span.Span, Spans.listed}}
 use Rattle.lay_spans.specs.{Badness.badness_of, Columns.span_columns, Forced.ForcedInside, Forced.is_forced, SpanList.IsForce, SpanList.StandsAt}
 
 -- how many verses each staff has

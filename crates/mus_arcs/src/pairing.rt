@@ -1,6 +1,5 @@
 ghost use Rattle.std.specs.{Prelude.◌≡◌, Prelude.◌++◌, Prelude.◌∷◌, Prelude.[], Prelude.◌≤◌, Prelude.length, Prelude.reverse, Prelude.drop, Prelude.IfOk, Prelude.OnOk, List.All, List.list_any};
-ghost use Rattle.mus_units.specs.Good.{same_letter};
-ghost use Rattle.mus_score.specs.GoodScore.{IsGoodVoice};
+ghost use Rattle.{mus_units.specs.Good.{same_letter}, mus_score.specs.GoodScore.{IsGoodVoice}};
 ghost use Rattle.mus_arcs.specs.{Arcs.{AreArcsOf, arcs_of, copies, has_pitch, open_ends, slur, slurs, slurs_at, spot, tie, ties_at, ties_from}, Events.events_of_voice};
 
 use crate::events::{EventAt, are_bare, events_of_voice};

@@ -1,7 +1,6 @@
 -- The beams that are laid event by event are those of the levels.
 use Rattle.std.{proofs.{Common.{◌≡◌, ℕ, zero, suc, ◌+◌, ◌-◌, ◌≤◌, ◌<◌, ◌==◌, ◌⊎◌, inl, inr, nat_lt, Bool, true, false, cond, ◌&&◌, List, [], ◌∷◌, ◌++◌, append-nil, map, take, drop, filter, refl, sym, ◌∙◌, ap, arith}, lemmas.Bool.{true≢false, false≢true, cases_lt, eq-eqb, ne_eqb, lt-ltb, ltb-true, ltb-false, le-ltb, and_right}}, specs.List.AllByRecursion}
-use Rattle.mus_stems.{specs.Runs.runs, specs.Runs.put_before, specs.Runs.run_more, proofs.RunLaws.maximal_runs, proofs.RunLaws.runs_front}
-use Rattle.mus_ink.proofs.Counting.{one_less}
+use Rattle.{mus_stems.{specs.Runs.runs, specs.Runs.put_before, specs.Runs.run_more, proofs.RunLaws.maximal_runs, proofs.RunLaws.runs_front}, mus_ink.proofs.Counting.{one_less}}
 use Rattle.mus_bridges.specs.{declared.stems.Stem.Stem, Beams.{goes_on, last_at, level_from, levels_from, levels_before, beams_at, beams_from, beam_marks}, Levels.{joins, Level, last_in, long_runs, is_at, LevelsRise, ByFirst, AreLevels, bridge_of, OfOtherKeys, KeysDiffer, BeamsByLevels}}
 use Rattle.mus_time.specs.{declared.keys.ColumnKey.ColumnKey, Order.same_key}
 

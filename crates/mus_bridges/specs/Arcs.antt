@@ -1,10 +1,7 @@
 -- The pieces of a voice's arcs in a system.
 use Rattle.std.specs.{Prelude.{ℕ, ◌-◌, ◌==◌, Bool, if◌then◌else◌, List, [], ◌∷◌, flat_map, slice_get, Option, Some, None}, List.find}
-use Rattle.mus_time.specs.{declared.keys.ColumnKey.ColumnKey, Keys.bar_key, Keys.head_key}
-use Rattle.mus_arcs.specs.{declared.pairing.Arc.Arc, declared.cutting.Piece.Piece, Pieces.piece_of}
-use Rattle.mus_laid.specs.declared.drawn.Bridge.{Bridge}
-use Rattle.mus_words.specs.Arcs.{Seen, arc_mark}
-use Rattle.mus_drawn.specs.{declared.drawn.DrawnEvent.DrawnEvent, declared.drawn.DrawnMeasure.DrawnMeasure}
+use Rattle.{mus_time.specs.{declared.keys.ColumnKey.ColumnKey, Keys.bar_key, Keys.head_key}, mus_arcs.specs.{declared.pairing.Arc.Arc, declared.cutting.Piece.Piece, Pieces.piece_of}}
+use Rattle.{mus_laid.specs.declared.drawn.Bridge.{Bridge}, mus_words.specs.Arcs.{Seen, arc_mark}, mus_drawn.specs.{declared.drawn.DrawnEvent.DrawnEvent, declared.drawn.DrawnMeasure.DrawnMeasure}}
 use Rattle.mus_keys.specs.Columns.{note_key}
 
 abbrev pub has_id : ℕ → DrawnEvent → Bool

@@ -1,6 +1,5 @@
 ghost use Rattle.std.specs.Prelude.{◌≡◌, ◌++◌, length, OnOk};
-ghost use Rattle.mus_drawn.specs.Good.{AreGoodMeasures};
-ghost use Rattle.mus_bridges.specs.Bridges.{bridges_of};
+ghost use Rattle.{mus_drawn.specs.Good.{AreGoodMeasures}, mus_bridges.specs.Bridges.{bridges_of}};
 
 use crate::arcs::put_arcs_between;
 use crate::beams::{put_beams_between, put_grace_beams_between};

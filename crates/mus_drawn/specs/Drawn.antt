@@ -3,8 +3,7 @@
 use Rattle.std.specs.Prelude.{ℕ, ◌+◌, ℤ, pos, negsuc, Bool, true, false, is_some, List, [], ◌∷◌, Option, Some, None, unwrap_or}
 use Rattle.mus_units.specs.{declared.key.Key.Key, declared.key.Sign.Sign, declared.note.Wish.Wish}
 use Rattle.mus_score.specs.{declared.score.Changes.Changes, declared.score.Flat.Flat, declared.score.Measure.Measure, declared.score.Voice.Voice, declared.score.Seat.Seat, GoodScore.clef_at, Times.flats_of}
-use Rattle.mus_arcs.specs.{Arcs.arcs_of, Events.events_of_voice}
-use Rattle.mus_stems.specs.{declared.plans.StemPlan.StemPlan, Plans.stems_of, Stills.clefs_from}
+use Rattle.{mus_arcs.specs.{Arcs.arcs_of, Events.events_of_voice}, mus_stems.specs.{declared.plans.StemPlan.StemPlan, Plans.stems_of, Stills.clefs_from}}
 use Rattle.mus_drawn.specs.declared.{standing.Standing.Standing, drawn.DrawnEvent.DrawnEvent, drawn.DrawnMeasure.DrawnMeasure, drawn.DrawnVoice.DrawnVoice, drawn.Opening.Opening, drawn.Style.Style}
 
 -- Clef, key and meter in force are those of the last event that names them, else those with which the voice begins.

@@ -2,8 +2,7 @@
 -- far and those of the event before are carried along. `Sounds` has what is meant.
 use Rattle.std.specs.{Prelude.{ℕ, ◌+◌, Bool, ◌&&◌, if◌then◌else◌, List, [], ◌∷◌, ◌++◌, flat_map, Option, Some, None}, List.{find, list_any}}
 use Rattle.mus_units.specs.declared.{key.Sign.Sign, key.Spread.Spread, note.Head.Head, pitch.Alter.Alter, pitch.Pitch.Pitch}
-use Rattle.mus_score.specs.{declared.score.Flat.Flat, declared.score.Measure.Measure, declared.score.Voice.Voice, Times.flats_of}
-use Rattle.mus_pitch.specs.Alteration.{alteration_of}
+use Rattle.{mus_score.specs.{declared.score.Flat.Flat, declared.score.Measure.Measure, declared.score.Voice.Voice, Times.flats_of}, mus_pitch.specs.Alteration.{alteration_of}}
 use Rattle.mus_arcs.specs.Arcs.{has_pitch}
 use Rattle.mus_drawn.specs.{declared.standing.Standing.Standing, Drawn.standing_after, Drawn.standing_behind, Drawn.standing_of, declared.sounds.Heard.Heard, declared.sounds.Sound.Sound}
 

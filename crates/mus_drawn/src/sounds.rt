@@ -1,6 +1,5 @@
 ghost use Rattle.std.specs.{Prelude.◌≡◌, Prelude.◌≤◌, Prelude.◌++◌, Prelude.[], Prelude.length, Prelude.flat_map, Prelude.All, Prelude.IfOk, Prelude.OnOk, List.find, List.list_any};
-ghost use Rattle.mus_score.specs.{Good.IsGoodBody, GoodScore.IsGoodScore, GoodScore.IsGoodVoice, Times.flats_of};
-ghost use Rattle.mus_arcs.specs.Arcs.{has_pitch};
+ghost use Rattle.{mus_score.specs.{Good.IsGoodBody, GoodScore.IsGoodScore, GoodScore.IsGoodVoice, Times.flats_of}, mus_arcs.specs.Arcs.{has_pitch}};
 ghost use Rattle.mus_drawn.specs.{Drawn.{standing_after, standing_behind, standing_of}, Hearing.{is_heard_at, is_tied_to, partner_of, heard_alter, heard, heard_from, said_at, said_behind, heard_at, heard_behind, sounds_from, events_sounds, measures_sounds, voices_sounds}, Sounds.sounds_of};
 
 use crate::standing::{Standing, change, standing_of};

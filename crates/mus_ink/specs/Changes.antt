@@ -1,7 +1,6 @@
 -- The head of a staff, and a change before an event.
 use Rattle.std.specs.Prelude.{ℕ, ◌+◌, ◌*◌, true, false, List, [], ◌∷◌, ◌++◌, length, Option, Some, None}
-use Rattle.mus_units.specs.{declared.pitch.Clef.Clef, declared.key.Sign.Sign, declared.key.Key.Key, declared.key.Meter.Meter}
-use Rattle.mus_score.specs.declared.score.Changes.{Changes}
+use Rattle.{mus_units.specs.{declared.pitch.Clef.Clef, declared.key.Sign.Sign, declared.key.Key.Key, declared.key.Meter.Meter}, mus_score.specs.declared.score.Changes.{Changes}}
 use Rattle.mus_laid.specs.declared.drawn.Drawn.{Drawn}
 use Rattle.mus_ink.specs.{Distances.clef_side, Distances.clef_width, Distances.entry_gap, Distances.entry_step, Distances.signature_side, Signatures.clef_mark, Signatures.entry_marks, Signatures.meter_if}
 

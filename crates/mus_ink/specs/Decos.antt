@@ -1,9 +1,7 @@
 -- The top of an event, its decorations, and all marks of an event but its syllables and texts.
 use Rattle.std.specs.{Prelude.{ℕ, ℤ, pos, ◌+ℤ◌, Bool, true, false, List, [], ◌∷◌, ◌++◌, Option, Some, None}, Int.int_max}
-use Rattle.mus_units.specs.{declared.glyph.Glyph.Glyph, declared.pitch.Clef.Clef, declared.note.Head.Head, declared.note.Deco.Deco}
-use Rattle.mus_score.specs.declared.score.Event.{Event}
-use Rattle.mus_stems.specs.declared.plans.StemPlan.{StemPlan}
-use Rattle.mus_laid.specs.declared.drawn.Drawn.{Drawn}
+use Rattle.{mus_units.specs.{declared.glyph.Glyph.Glyph, declared.pitch.Clef.Clef, declared.note.Head.Head, declared.note.Deco.Deco}, mus_score.specs.declared.score.Event.{Event}}
+use Rattle.{mus_stems.specs.declared.plans.StemPlan.{StemPlan}, mus_laid.specs.declared.drawn.Drawn.{Drawn}}
 use Rattle.mus_ink.specs.{Distances.deco_gap, Distances.deco_line, Distances.deco_step, Distances.top_line, Drawing.cut, Drawing.glyph, Kinds.deco_glyph, Notes.dy_of, Notes.highest_dy, Notes.heads_marks, Stems.stem_marks, Rests.rest_marks}
 
 abbrev pub with_stem : Bool → ℤ → ℤ → ℤ

@@ -1,11 +1,8 @@
 -- What is drawn in a column, with its lane: a glyph, a text of big characters, a stem; and a beam from one column to
 -- another. Nothing here says where these columns stand.
 use Rattle.std.specs.{Prelude.ℕ, Prelude.ℤ, Prelude.pos, Prelude.◌*ℤ◌, Prelude.◌-ℤ◌, Prelude.List, Int.int_min, Int.int_max}
-use Rattle.mus_units.specs.declared.glyph.{Glyph.Glyph, Way.Way, Size.Size}
-use Rattle.mus_time.specs.declared.keys.ColumnKey.{ColumnKey}
-use Rattle.mus_laid.specs.declared.{drawn.Ink.Ink, drawn.Drawn.Drawn, drawn.Bridge.Bridge, drawn.Span.Span, laid.Lane.Lane}
-use Rattle.mus_stems.specs.Distances.{step}
-use Rattle.mus_ink.specs.Distances.{furthest}
+use Rattle.{mus_units.specs.declared.glyph.{Glyph.Glyph, Way.Way, Size.Size}, mus_time.specs.declared.keys.ColumnKey.{ColumnKey}}
+use Rattle.{mus_laid.specs.declared.{drawn.Ink.Ink, drawn.Drawn.Drawn, drawn.Bridge.Bridge, drawn.Span.Span, laid.Lane.Lane}, mus_stems.specs.Distances.{step}, mus_ink.specs.Distances.{furthest}}
 
 -- to the left of a column, or down
 abbrev pub back : ℕ → ℤ

@@ -1,9 +1,7 @@
 -- Graces: each has a column of its own, and those before one event are a group.
 use Rattle.std.specs.{Prelude.{ℤ, pos, ◌+ℤ◌, ◌-ℤ◌, Bool, true, false, ◌&&◌, ◌==◌, if◌then◌else◌, List, [], ◌∷◌, ◌++◌, length, map}, Int.int_max}
-use Rattle.mus_units.specs.declared.{glyph.Glyph.Glyph, pitch.Clef.Clef, note.Head.Head, glyph.Way.Way}
-use Rattle.mus_score.specs.declared.score.Event.{Event}
-use Rattle.mus_stems.specs.{Heads.stand_of, Signs.signs_from, Ends.low_of, Ends.high_of, Ledgers.ledgers_of}
-use Rattle.mus_laid.specs.{declared.drawn.Drawn.Drawn, declared.drawn.Bridge.Bridge}
+use Rattle.{mus_units.specs.declared.{glyph.Glyph.Glyph, pitch.Clef.Clef, note.Head.Head, glyph.Way.Way}, mus_score.specs.declared.score.Event.{Event}}
+use Rattle.{mus_stems.specs.{Heads.stand_of, Signs.signs_from, Ends.low_of, Ends.high_of, Ledgers.ledgers_of}, mus_laid.specs.{declared.drawn.Drawn.Drawn, declared.drawn.Bridge.Bridge}}
 use Rattle.mus_time.specs.declared.keys.ColumnKey.{ColumnKey}
 use Rattle.mus_ink.specs.{declared.graces.Group.Group, Distances.{beam_thickness, grace_sign_side, grace_stem_length, grace_stem_side}, Drawing.{back, beam, cut, glyph, stem}, Notes.{dy_of, highest_dy, lowest_dy, sign_marks, ledger_marks}}
 

@@ -1,8 +1,7 @@
 -- The heads of an event, and what stands beside them: signs, ledger lines and dots.
 use Rattle.std.specs.{Prelude.{ℤ, pos, List, [], ◌∷◌, ◌++◌, Option, Some}, Int.{int_max, int_min}}
 use Rattle.mus_units.specs.{Pitch.height_of, declared.glyph.Glyph.Glyph, declared.pitch.Alter.Alter, declared.pitch.Clef.Clef, declared.note.Head.Head, declared.value.Base.Base}
-use Rattle.mus_stems.specs.{declared.dots.Spot.Spot, declared.plans.StemPlan.StemPlan}
-use Rattle.mus_laid.specs.declared.drawn.Drawn.{Drawn}
+use Rattle.{mus_stems.specs.{declared.dots.Spot.Spot, declared.plans.StemPlan.StemPlan}, mus_laid.specs.declared.drawn.Drawn.{Drawn}}
 use Rattle.mus_ink.specs.{Drawing.glyph, Drawing.steps_dy, Kinds.head_glyph, Kinds.sign_glyph}
 
 unfoldable pub dy_of : Clef → Head → ℤ

@@ -1,8 +1,6 @@
 -- Rests. raise is 0 where a voice has a staff of its own.
 use Rattle.std.specs.Prelude.{ℕ, zero, suc, ℤ, pos, ◌+◌, ◌*◌, ◌+ℤ◌, ◌-ℤ◌, List, [], ◌∷◌, ◌++◌}
-use Rattle.mus_units.specs.{declared.glyph.Glyph.Glyph, declared.value.Base.Base}
-use Rattle.mus_score.specs.declared.score.Look.{Look}
-use Rattle.mus_laid.specs.declared.drawn.Drawn.{Drawn}
+use Rattle.{mus_units.specs.{declared.glyph.Glyph.Glyph, declared.value.Base.Base}, mus_score.specs.declared.score.Look.{Look}, mus_laid.specs.declared.drawn.Drawn.{Drawn}}
 use Rattle.mus_ink.specs.{declared.kinds.RestRow.RestRow, Distances.dot_side, Distances.dot_step, Distances.rest_dot_line, Distances.rest_step, Drawing.cut, Drawing.glyph, Drawing.steps_dy, Kinds.rest_row}
 
 unfoldable pub raised : ℤ → ℤ → ℤ

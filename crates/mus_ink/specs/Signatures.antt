@@ -1,7 +1,6 @@
 -- Clefs, the entries of key signatures, and meters.
 use Rattle.std.specs.Prelude.{ℕ, ℤ, pos, ◌+◌, ◌*◌, Bool, true, false, List, [], ◌∷◌, Option, Some, None, codes, decimal}
-use Rattle.mus_units.specs.declared.{pitch.Letter.Letter, pitch.Alter.Alter, pitch.Clef.Clef, key.Sign.Sign, key.Meter.Meter}
-use Rattle.mus_laid.specs.declared.drawn.Drawn.{Drawn}
+use Rattle.{mus_units.specs.declared.{pitch.Letter.Letter, pitch.Alter.Alter, pitch.Clef.Clef, key.Sign.Sign, key.Meter.Meter}, mus_laid.specs.declared.drawn.Drawn.{Drawn}}
 use Rattle.mus_ink.specs.{declared.kinds.ClefRow.ClefRow, declared.kinds.Entries.Entries, Distances.entry_step, Distances.lower_number_line, Distances.meter_sign_line, Distances.upper_number_line, Drawing.big_text, Drawing.glyph, Drawing.steps_dy, Kinds.clef_row, Kinds.sign_glyph}
 
 -- a clef stands at the line that it names

@@ -1,7 +1,6 @@
 -- Stems, and the flags or stubs at their ends.
 use Rattle.std.specs.Prelude.{ℕ, zero, suc, ℤ, pos, ◌+◌, ◌-◌, ◌*◌, max, ◌+ℤ◌, ◌-ℤ◌, Bool, true, false, ◌&&◌, ◌==◌, if◌then◌else◌, List, [], ◌∷◌, ◌++◌}
-use Rattle.mus_stems.specs.declared.plans.StemPlan.{StemPlan}
-use Rattle.mus_laid.specs.declared.drawn.Drawn.{Drawn}
+use Rattle.{mus_stems.specs.declared.plans.StemPlan.{StemPlan}, mus_laid.specs.declared.drawn.Drawn.{Drawn}}
 use Rattle.mus_ink.specs.{Distances.beam_thickness, Distances.level_step, Distances.stem_side, Drawing.back, Drawing.cut, Drawing.glyph, Drawing.loose_glyph, Drawing.stem, Kinds.flag_glyph, Kinds.stub_glyph}
 
 -- a stem stands right of the heads, or left of them

@@ -1,6 +1,5 @@
 ghost use Rattle.std.specs.Prelude.{◌≡◌, OnOk};
-ghost use Rattle.mus_ink.specs.Bars.{bar_glyph, glyph_if, bar_marks};
-ghost use Rattle.mus_laid.specs.Ranked.{inked};
+ghost use Rattle.{mus_ink.specs.Bars.{bar_glyph, glyph_if, bar_marks}, mus_laid.specs.Ranked.{inked}};
 
 use crate::drawing::put_glyph;
 use mus_laid::Pen;

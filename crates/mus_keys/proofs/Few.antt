@@ -2,8 +2,7 @@
 use Rattle.std.{proofs.{Common.{◌≡◌, ◌∙◌, ℕ, zero, suc, ◌+◌, ◌-◌, ◌*◌, ◌≤◌, ◌<◌, Bool, true, false, not, ◌&&◌, ◌==◌, if◌then◌else◌, List, [], ◌∷◌, ◌++◌, length, length-append, drop, refl, sym, ap, subst, arith}, lemmas.List.{length-take, Sums.{count_by-le-length, length-filter, sum_by-cons}, Elements.recursion_from_All}}, specs.List.{AllByRecursion, Contains, flat_map, slice_index, slice_index_or, slice_range, sum_by}}
 use Rattle.mus_score.{specs.{declared.score.{Event.Event, Flat.Flat, Measure.Measure, Score.Score, Voice.Voice}, Good.{IsGoodBody, flat_count, total_ticks}, Seats.is_lower, GoodScore.{IsGoodScore, IsGoodVoice}, Times.flats_of}, proofs.Bounds.flats_few}
 use Rattle.mus_time.{specs.{Keys.{all_keys, AreKeys, called_keys, change_has_mark, change_keys, event_keys, events_keys, first_keys, grace_keys, has_features, is_for_each, key_at, keys_by, measures_keys, signed_after, signed_at, signed_through, voice_keys, measure_keys, further_keys}, declared.keys.{ColumnKey.ColumnKey, Class.Class}, Order.{BelowAll, Rises, is_below}}, proofs.{Orders.not_itself, RankLaws.false_not_true}}
-use Rattle.mus_stems.proofs.RunLaws.{all_drop, all_take}
-use Rattle.mus_keys.specs.Columns.{keys_called}
+use Rattle.{mus_stems.proofs.RunLaws.{all_drop, all_take}, mus_keys.specs.Columns.{keys_called}}
 
 -- a list without the element at a place
 abbrev without : List ColumnKey → ℕ → List ColumnKey

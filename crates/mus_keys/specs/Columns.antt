@@ -1,8 +1,7 @@
 -- The columns of voices as they are drawn. A drawn event has its place in time, and of the key before it what a change draws, so that
 -- nothing that stands before a measure is gone through to tell its columns.
 use Rattle.std.specs.Prelude.{ℕ, ◌+◌, Bool, true, false, nat_le, List, [], ◌∷◌, ◌++◌, length, slice_range}
-use Rattle.mus_units.specs.declared.note.Bar.{Bar}
-use Rattle.mus_score.specs.{declared.score.Score.Score, Seats.is_lower}
+use Rattle.{mus_units.specs.declared.note.Bar.{Bar}, mus_score.specs.{declared.score.Score.Score, Seats.is_lower}}
 use Rattle.mus_time.specs.{declared.keys.Class.Class, declared.keys.ColumnKey.ColumnKey, Keys.{bar_key, called_keys, event_keys, first_keys, further_keys, head_key, key_at, keys_by}}
 use Rattle.mus_drawn.specs.declared.drawn.{DrawnEvent.DrawnEvent, DrawnMeasure.DrawnMeasure, DrawnVoice.DrawnVoice}
 

@@ -1,6 +1,5 @@
 ghost use Rattle.std.specs.Prelude.{◌≤◌, ◌<◌, length};
-ghost use Rattle.mus_time.specs.Ranks.{AreRanked};
-ghost use Rattle.mus_keys.specs.Frame.{ranked_prop};
+ghost use Rattle.{mus_time.specs.Ranks.{AreRanked}, mus_keys.specs.Frame.{ranked_prop}};
 
 use mus_time::ColumnKey;
 

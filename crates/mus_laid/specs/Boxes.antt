@@ -1,8 +1,7 @@
 -- The boxes that marks fill: from the least to the greatest height, and from the left to the right
 -- of the column. Stems, beams and arcs have heights alone.
 use Rattle.std.specs.{Prelude.{ℕ, ℤ, pos, negsuc, ◌*◌, ◌≤◌, ◌+ℤ◌, ⊤, List, [], ◌∷◌, length, Option, Some, None}, Int.{int_min, int_max}, List.AllByRecursion}
-use Rattle.mus_units.specs.{declared.glyph.Glyph.Glyph, declared.glyph.Size.Size}
-use Rattle.glyph_paths.specs.Bounds.{bounds_in}
+use Rattle.{mus_units.specs.{declared.glyph.Glyph.Glyph, declared.glyph.Size.Size}, glyph_paths.specs.Bounds.{bounds_in}}
 use Rattle.mus_laid.specs.{declared.laid.Mark.Mark, declared.laid.Laid.Laid, declared.boxes.Heights.Heights, declared.boxes.Sides.Sides}
 
 -- a text has at most 60 characters

@@ -1,6 +1,5 @@
 ghost use Rattle.std.specs.Prelude.{◌≡◌, ◌∷◌, [], OnOk};
-ghost use Rattle.mus_time.specs.{Order.rank_of, Ranks.AreRanked};
-ghost use Rattle.mus_laid.specs.Ranked.{ink_at, inked};
+ghost use Rattle.{mus_time.specs.{Order.rank_of, Ranks.AreRanked}, mus_laid.specs.Ranked.{ink_at, inked}};
 
 use crate::drawn::{Drawn, Ink};
 use crate::laid::{Laid, Mark};

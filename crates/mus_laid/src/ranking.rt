@@ -1,6 +1,5 @@
 ghost use Rattle.std.specs.Prelude.{◌≡◌, ◌++◌, map, IfSome, OnOk};
-ghost use Rattle.mus_time.specs.{Order.rank_of, Ranks.AreRanked};
-ghost use Rattle.mus_laid.specs.Ranked.{bridge_at, span_at};
+ghost use Rattle.{mus_time.specs.{Order.rank_of, Ranks.AreRanked}, mus_laid.specs.Ranked.{bridge_at, span_at}};
 
 use crate::drawn::{Bridge, Span};
 use crate::laid::{Laid, Lane, Mark};

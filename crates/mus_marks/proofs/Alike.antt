@@ -4,8 +4,7 @@ use Rattle.std.{proofs.{Common.{◌≡◌, ◌∙◌, ℕ, zero, suc, ℤ, pos, 
 use Rattle.mus_units.specs.declared.{glyph.Glyph.Glyph, note.Bar.Bar, note.Deco.Deco, note.Head.Head, pitch.Clef.Clef}
 use Rattle.mus_score.specs.{declared.score.Event.Event, declared.score.Flat.Flat, declared.score.Score.Score, declared.score.Seat.Seat, GoodScore.IsGoodScore, Seats.is_lower}
 use Rattle.mus_time.specs.{declared.keys.ColumnKey.ColumnKey, Order.same_key, declared.times.Timeline.Timeline, Keys.called_keys}
-use Rattle.mus_arcs.specs.{declared.cutting.Piece.Piece, declared.pairing.Arc.Arc, Pieces.piece_of}
-use Rattle.mus_stems.specs.{declared.plans.StemPlan.StemPlan, Slope.with_end}
+use Rattle.{mus_arcs.specs.{declared.cutting.Piece.Piece, declared.pairing.Arc.Arc, Pieces.piece_of}, mus_stems.specs.{declared.plans.StemPlan.StemPlan, Slope.with_end}}
 use Rattle.mus_laid.specs.{declared.{drawn.{Bridge.Bridge, Drawn.Drawn}, laid.{Laid.Laid, Mark.Mark, SystemMarks.SystemMarks, Lane.Lane}}, Printed.printed, Ranked.{anchor_rank, at_rank, bridge_at, by_columns, drawn_at, is_rank, stands_at}, Shapes.{AreAlike, laid_shape, mark_shape, marks_shape, staff_shape}, Boxes.AreGoodMarks}
 use Rattle.mus_ink.specs.{Decos.{behind_deco, body_marks, deco_mark, deco_marks, first_deco, next_deco, note_marks, top_of}, Distances.half_character, Drawing.{back, beam, glyph, loose_glyph}, Kinds.{deco_glyph, flag_glyph, stub_glyph}, Notes.heads_marks, Stems.{flag_dy, flag_marks, flags_or_stubs, lower_edge, stem_dx, stem_if, stem_marks, stub_marks}}
 use Rattle.mus_words.specs.{Arcs.{arc_mark, slur_mark, tie_mark}, Syllables.{syllable_dx, syllable_if, syllables_from, verse_dy}, Texts.{above_dy, above_from, below_dy, below_from, text_marks, texts_above, texts_below}, Words.words}

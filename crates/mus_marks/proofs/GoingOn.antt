@@ -1,8 +1,7 @@
 -- Within a measure of a voice each event is later than those before it, has a greater id, and stands in a later column.
 use Rattle.std.{proofs.{Common.{◌≡◌, ℕ, suc, ◌+◌, ◌<◌, true, List, [], ◌∷◌, ◌++◌, arith}, lemmas.{Bool.Decides.nat_tests, List.Elements.recursion_from_All}}, specs.List.AllByRecursion}
 use Rattle.mus_score.{specs.{declared.score.{Flat.Flat, Measure.Measure, Voice.Voice}, Good.{IsGoodBody, IsGoodFlat}, GoodScore.{AreCounted, IsGoodVoice, events_of}, Times.flats_of}, proofs.Bounds.flats_good}
-use Rattle.mus_time.specs.Order.{is_below}
-use Rattle.mus_stems.specs.declared.plans.StemPlan.{StemPlan}
+use Rattle.{mus_time.specs.Order.{is_below}, mus_stems.specs.declared.plans.StemPlan.{StemPlan}}
 use Rattle.mus_drawn.specs.{declared.{drawn.{DrawnEvent.DrawnEvent, DrawnMeasure.DrawnMeasure, Style.Style}, standing.Standing.Standing}, Drawn.{drawn_event, drawn_events, drawn_measure, drawn_measures, drawn_voice, standing_after, standing_behind, standing_of, style_of}}
 use Rattle.mus_keys.specs.Columns.{note_key}
 

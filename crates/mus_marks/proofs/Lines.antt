@@ -1,8 +1,7 @@
 -- Marks reach at least over the lines of their staff.
 use Rattle.std.proofs.{Common.{ℤ, pos, ◌≤ℤ◌, List, [], ◌∷◌, arith}, lemmas.Int.{ints, clamps}}
 use Rattle.mus_laid.specs.{declared.boxes.Heights.Heights, declared.laid.Laid.Laid, Boxes.heights, Boxes.heights_of, Boxes.over_marks, Boxes.staff_heights, Boxes.widened}
-use Rattle.mus_ink.specs.Drawing.{cut}
-use Rattle.mus_marks.specs.Staff.{CoversLines, staff_over}
+use Rattle.{mus_ink.specs.Drawing.{cut}, mus_marks.specs.Staff.{CoversLines, staff_over}}
 
 low_over : (z : ℤ) (h : Heights) (all : List Laid) → h.low ≤ℤ z → (over_marks h all).low ≤ℤ z
 low_over z h [] p = p

@@ -2,8 +2,7 @@
 -- of beams and arcs, holds of all marks of a measure, of the columns of a system, and of a staff.
 use Rattle.std.{proofs.{Common.{◌≡◌, ℕ, zero, suc, ◌+◌, ◌-◌, ◌≤◌, ◌==◌, ◌&&◌, ◌||◌, not, Bool, true, false, if◌then◌else◌, List, [], ◌∷◌, ◌++◌, take, length, map, drop, Option, Some, None, arith}, lemmas.List.Sums.sum_by-cons}, specs.{List.{AllByRecursion, flat_map, slice_index_or, slice_range}, Prelude.IfSome}}
 use Rattle.mus_units.specs.{declared.key.Meter.Meter, declared.key.Sign.Sign, declared.note.Bar.Bar, declared.pitch.Clef.Clef, Good.IsGoodMeter}
-use Rattle.mus_score.specs.{declared.score.Event.Event, declared.score.Flat.Flat, declared.score.Seat.Seat, Seats.is_lower}
-use Rattle.mus_time.specs.{declared.keys.ColumnKey.ColumnKey, Keys.has_features}
+use Rattle.{mus_score.specs.{declared.score.Event.Event, declared.score.Flat.Flat, declared.score.Seat.Seat, Seats.is_lower}, mus_time.specs.{declared.keys.ColumnKey.ColumnKey, Keys.has_features}}
 use Rattle.mus_stems.proofs.RunLaws.{all_append, all_drop, all_take}
 use Rattle.mus_laid.specs.{declared.drawn.Bridge.Bridge, declared.drawn.Drawn.Drawn, declared.laid.Laid.Laid, Ranked.bridge_at, Ranked.by_columns, Ranked.drawn_at}
 use Rattle.mus_ink.{specs.{declared.graces.Group.Group, Bars.bar_marks, Changes.{change_marks, head_marks}, Decos.note_marks, Graces.grace_marks}, proofs.EachMark.{OfMarks, bar, change, grace, head, note}}

@@ -1,8 +1,6 @@
 -- The places of the voices of a staff, one after the other.
 use Rattle.std.proofs.{Common.{◌≡◌, ◌∙◌, ℕ, ◌+◌, ◌≤◌, ◌==◌, not, Bool, true, false, List, [], ◌∷◌, ◌++◌, length, Some, refl, sym, ap, append_assoc, arith}, lemmas.Bool.Decides.nat_tests}
-use Rattle.mus_time.specs.declared.keys.ColumnKey.{ColumnKey}
-use Rattle.mus_laid.specs.declared.laid.Laid.{Laid}
-use Rattle.mus_drawn.specs.declared.drawn.DrawnVoice.{DrawnVoice}
+use Rattle.{mus_time.specs.declared.keys.ColumnKey.{ColumnKey}, mus_laid.specs.declared.laid.Laid.{Laid}, mus_drawn.specs.declared.drawn.DrawnVoice.{DrawnVoice}}
 use Rattle.mus_marks.{specs.declared.events.Place.Place, specs.declared.events.Room.Room, specs.Places.place_behind, specs.Staff.own_part, specs.Staff.texts_behind, specs.Staff.verses_on, specs.Staff.written_parts, proofs.Parts.verses_cons}
 
 module _ (columns : ℕ) (v : DrawnVoice) (behind rest : List DrawnVoice) (place next : Place) (part : List Laid) (follows : Bool) (front : rest ≡ v ∷ behind) (is : next ≡ place_behind columns place v.verses part follows) where

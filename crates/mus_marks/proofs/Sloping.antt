@@ -4,8 +4,7 @@ use Rattle.mus_score.specs.{declared.score.Score.Score, GoodScore.IsGoodScore}
 use Rattle.mus_time.{specs.declared.keys.ColumnKey.ColumnKey, specs.declared.times.Timeline.Timeline, specs.Keys.AreKeys, specs.Keys.called_keys, proofs.RankLaws.rank_less, proofs.RankLaws.rank_rises_more}
 use Rattle.mus_stems.{specs.Slope.anchor_of, specs.Slope.AreAnchors, specs.Slope.IsPlace, specs.Slope.RisesAfter, specs.Slope.RisesInBeams, proofs.RunLaws.all_drop, proofs.RunLaws.all_take}
 use Rattle.mus_drawn.specs.{declared.drawn.DrawnEvent.DrawnEvent, declared.drawn.DrawnMeasure.DrawnMeasure, Drawn.drawn_voice, Good.AreGoodDrawn, Good.AreGoodMeasures}
-use Rattle.mus_keys.proofs.Goods.{good_slice}
-use Rattle.mus_keys.specs.Columns.{note_key}
+use Rattle.{mus_keys.proofs.Goods.{good_slice}, mus_keys.specs.Columns.{note_key}}
 use Rattle.mus_marks.{specs.{Events.note_rank, Tilt.{AllCanTilt, AreAbscissas, anchor_at}}, proofs.{GoingOn.{AllGoOn, GoOn, later_below, voice_goes_on}, Inside.{HasEvent, HasMeasures, measures_inside}}}
 
 module _ (s : Score) (t : Timeline) (a b : ℕ) (keys : List ColumnKey) (at : List ℤ) (places : AreAbscissas s t a b at) (are : AreKeys keys (called_keys s t.lengths a b)) where

@@ -1,15 +1,12 @@
 -- The marks of events and of the measures that they are in, but for beams and arcs: the change before an event, its graces, the event
 -- itself, and its syllables and texts. What each part draws is said without a place; here it comes into its column.
 use Rattle.std.specs.Prelude.{ℕ, ◌+◌, Bool, true, false, ◌&&◌, ◌||◌, ◌==◌, is_none, if◌then◌else◌, List, [], ◌∷◌, ◌++◌, map, slice_index_or, Option, Some, None}
-use Rattle.mus_units.specs.declared.pitch.Clef.{Clef}
-use Rattle.mus_score.specs.{declared.score.Changes.Changes, declared.score.Event.Event, declared.score.Flat.Flat, Seats.is_lower}
-use Rattle.mus_time.specs.{declared.keys.Class.Class, declared.keys.ColumnKey.ColumnKey, Keys.bar_key, Order.rank_of, Ranks.rank_at}
-use Rattle.mus_stems.specs.declared.plans.StemPlan.{StemPlan}
+use Rattle.{mus_units.specs.declared.pitch.Clef.{Clef}, mus_score.specs.{declared.score.Changes.Changes, declared.score.Event.Event, declared.score.Flat.Flat, Seats.is_lower}}
+use Rattle.{mus_time.specs.{declared.keys.Class.Class, declared.keys.ColumnKey.ColumnKey, Keys.bar_key, Order.rank_of, Ranks.rank_at}, mus_stems.specs.declared.plans.StemPlan.{StemPlan}}
 use Rattle.mus_laid.specs.{declared.drawn.Drawn.Drawn, declared.laid.Laid.Laid, Ranked.drawn_at}
 use Rattle.mus_ink.specs.{declared.graces.Group.Group, Bars.bar_marks, Changes.change_marks, Decos.note_marks, Graces.grace_marks, Graces.group_of}
 use Rattle.mus_words.specs.{declared.texts.TextPlace.TextPlace, Syllables.syllables_from, Texts.text_marks}
-use Rattle.mus_drawn.specs.{declared.drawn.DrawnEvent.DrawnEvent, declared.drawn.DrawnMeasure.DrawnMeasure, Drawn.raise_of}
-use Rattle.mus_keys.specs.Columns.{note_key}
+use Rattle.{mus_drawn.specs.{declared.drawn.DrawnEvent.DrawnEvent, declared.drawn.DrawnMeasure.DrawnMeasure, Drawn.raise_of}, mus_keys.specs.Columns.{note_key}}
 use Rattle.mus_marks.specs.{declared.events.Room.Room, declared.events.Texts.Texts, declared.events.Place.Place}
 
 abbrev pub note_rank : List ColumnKey → ℕ → DrawnEvent → ℕ

@@ -1,13 +1,11 @@
 -- The marks of a staff in a system, of the voices that stand on it: in the columns the head, the bar before the first measure and
 -- the measures; then the beams of notes, those of graces, and the arcs.
 use Rattle.std.specs.{Prelude.{ℕ, ◌+◌, pos, ◌≤ℤ◌, ◌==◌, Bool, true, false, not, ◌&&◌, ◌||◌, if◌then◌else◌, List, [], ◌∷◌, ◌++◌, length, map, sum, flat_map, count_by, slice_range, slice_index_or, Option, Some, None}, List.range_with_len}
-use Rattle.mus_units.specs.{declared.key.Meter.Meter, declared.note.Bar.Bar}
-use Rattle.mus_score.specs.{declared.score.Seat.Seat, Seats.is_lower}
+use Rattle.{mus_units.specs.{declared.key.Meter.Meter, declared.note.Bar.Bar}, mus_score.specs.{declared.score.Seat.Seat, Seats.is_lower}}
 use Rattle.mus_time.specs.{declared.keys.Class.Class, declared.keys.ColumnKey.ColumnKey, Keys.has_features, Keys.head_key, Order.rank_of, Ranks.rank_at}
 use Rattle.mus_laid.specs.{declared.laid.Laid.Laid, declared.laid.Lane.Lane, declared.laid.Mark.Mark, declared.laid.StaffMarks.StaffMarks, Boxes.staff_heights, Ranked.bridge_at, Ranked.by_columns, Ranked.drawn_at, Ranked.stands_at}
 use Rattle.mus_ink.specs.{Bars.bar_marks, Changes.head_marks, Drawing.cut}
-use Rattle.mus_drawn.specs.{declared.drawn.DrawnMeasure.DrawnMeasure, declared.drawn.DrawnVoice.DrawnVoice, declared.drawn.Opening.Opening}
-use Rattle.mus_bridges.specs.Bridges.{bridges_of}
+use Rattle.{mus_drawn.specs.{declared.drawn.DrawnMeasure.DrawnMeasure, declared.drawn.DrawnVoice.DrawnVoice, declared.drawn.Opening.Opening}, mus_bridges.specs.Bridges.{bridges_of}}
 use Rattle.mus_marks.specs.{declared.events.Place.Place, declared.events.Room.Room, declared.events.Texts.Texts, Events.measures_marks, Events.no_texts}
 
 -- the meter is drawn where the voice begins and where it changes

@@ -1,10 +1,7 @@
 -- What a score calls for in a system of measures a to b - 1: the columns that its voices stand in, and for each staff, in order, its marks.
 use Rattle.std.specs.Prelude.{◌≡◌, ℕ, Bool, List, map}
-use Rattle.mus_score.specs.{declared.score.Score.Score, Seats.grouped, Seats.is_lower}
-use Rattle.mus_time.specs.{declared.times.Timeline.Timeline, Keys.AreKeys, Keys.called_keys}
-use Rattle.mus_laid.specs.{declared.laid.SystemMarks.SystemMarks}
-use Rattle.mus_drawn.specs.{declared.drawn.DrawnVoice.DrawnVoice, Drawn.drawn_voice}
-use Rattle.mus_marks.specs.Staff.{staff_marks}
+use Rattle.{mus_score.specs.{declared.score.Score.Score, Seats.grouped, Seats.is_lower}, mus_time.specs.{declared.times.Timeline.Timeline, Keys.AreKeys, Keys.called_keys}}
+use Rattle.{mus_laid.specs.{declared.laid.SystemMarks.SystemMarks}, mus_drawn.specs.{declared.drawn.DrawnVoice.DrawnVoice, Drawn.drawn_voice}, mus_marks.specs.Staff.{staff_marks}}
 
 abbrev pub stands_lower : DrawnVoice → Bool
 stands_lower v = is_lower v.seat

@@ -1,8 +1,7 @@
 -- The marks of a system over the abscissas of its columns: as those that the score calls for, but the stems of a beam end
 -- on its line. What stands on the ends of stems (beams, decorations, texts, arcs) follows them.
 use Rattle.std.specs.Prelude.{◌≡◌, ℕ, ◌+◌, ◌^◌, ℤ, pos, ◌≤ℤ◌, ◌<ℤ◌, ◌<◌, ⊤, List, [], ◌∷◌, ◌++◌, length, map, take, drop, slice_range, slice_index_or}
-use Rattle.mus_score.specs.declared.score.Score.{Score}
-use Rattle.mus_time.specs.{declared.keys.ColumnKey.ColumnKey, declared.times.Timeline.Timeline, Keys.AreKeys, Keys.called_keys}
+use Rattle.{mus_score.specs.declared.score.Score.{Score}, mus_time.specs.{declared.keys.ColumnKey.ColumnKey, declared.times.Timeline.Timeline, Keys.AreKeys, Keys.called_keys}}
 use Rattle.mus_stems.specs.{declared.slopes.Anchor.Anchor, Slope.anchor_of, Slope.sloped_ends, Slope.with_end, Slope.AreAnchors, Slope.RisesInBeams}
 use Rattle.mus_laid.specs.{declared.laid.StaffMarks.StaffMarks, declared.laid.SystemMarks.SystemMarks}
 use Rattle.mus_drawn.specs.{declared.drawn.DrawnEvent.DrawnEvent, declared.drawn.DrawnMeasure.DrawnMeasure, declared.drawn.DrawnVoice.DrawnVoice}

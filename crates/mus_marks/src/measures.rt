@@ -1,6 +1,5 @@
 ghost use Rattle.std.specs.Prelude.{◌≡◌, ◌≤◌, ◌<◌, ◌+◌, ◌++◌, length, map, option_copied, OnOk};
-ghost use Rattle.mus_time.specs.{Keys.has_features, Ranks.AreRanked};
-ghost use Rattle.mus_drawn.specs.Good.{AreGoodMeasures};
+ghost use Rattle.{mus_time.specs.{Keys.has_features, Ranks.AreRanked}, mus_drawn.specs.Good.{AreGoodMeasures}};
 ghost use Rattle.mus_marks.specs.{Events.bar_part, Events.measures_marks, Places.HasVerses, Staff.meter_shown, Staff.head_part, Staff.first_part, Staff.columns_part};
 
 use crate::events::{Place, put_events};

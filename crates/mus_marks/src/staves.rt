@@ -1,7 +1,5 @@
 ghost use Rattle.std.specs.{Prelude.{◌≡◌, ◌≤◌, ◌+◌, ◌++◌, [], length, map, flat_map, option_copied, Some, None, All, IfOk, OnOk}, List.prefix_len};
-ghost use Rattle.mus_score.specs.Seats.{grouped};
-ghost use Rattle.mus_drawn.specs.Good.{AreGoodMeasures};
-ghost use Rattle.mus_bridges.specs.Bridges.{bridges_of};
+ghost use Rattle.{mus_score.specs.Seats.{grouped}, mus_drawn.specs.Good.{AreGoodMeasures}, mus_bridges.specs.Bridges.{bridges_of}};
 ghost use Rattle.mus_marks.specs.{Places.HasVerses, Places.place_behind, Silent.HasRoom, Silent.is_silent_staff, Staff.CoversLines, Staff.own_part, Staff.room_over, Staff.staff_marks, Staff.staff_over, Staff.verses_on, Staff.written_parts, System.stands_lower};
 
 use crate::counting::texts_behind;

@@ -1,9 +1,7 @@
 -- A moved score sounds so many semitones higher, head by head.
 use Rattle.std.{proofs.{Common.{◌≡◌, refl, sym, subst, ℕ, ◌+◌, zero, Bool, true, false, ◌&&◌, cond, List, [], ◌∷◌, ◌++◌, map, Option, None, arith}, lemmas.{Bool.and_parts, Int.ints, List.map-append}}, specs.{Prelude.{ℤ, pos, unwrap_or}, List.{AllByRecursion, AllZip, list_all, list_any}, Ordering.int_eq}}
 use Rattle.mus_units.specs.{Good.same_letter, declared.key.Key.Key, declared.key.Spread.Spread, declared.note.Head.Head, declared.pitch.Alter.Alter, declared.pitch.Pitch.Pitch}
-use Rattle.mus_pitch.specs.Alteration.{alteration_of}
-use Rattle.mus_score.specs.declared.score.{Score.Score, Voice.Voice}
-use Rattle.mus_arcs.specs.Arcs.{has_pitch}
+use Rattle.{mus_pitch.specs.Alteration.{alteration_of}, mus_score.specs.declared.score.{Score.Score, Voice.Voice}, mus_arcs.specs.Arcs.{has_pitch}}
 use Rattle.mus_drawn.specs.{declared.sounds.Sound.Sound, Drawn.standing_of, Sounds.Seen, Sounds.Sounding, Sounds.alter_by, Sounds.comes_tied, Sounds.event_sounds, Sounds.head_sounds, Sounds.seen_in, Sounds.sounds_as, Sounds.sounds_of, Sounds.tied_sound, Sounds.voice_sounds}
 use Rattle.mus_transpose.specs.{declared.moves.Move.Move, Moved.CanMove, Moved.body_may, Moved.head_moves, Moved.is_near, Moved.key_may, Moved.move_for, Moved.move_from, Moved.moved_head, Moved.moved_pitch, Moved.moved_score, Moved.moved_sign, Moved.sharps_in, Moved.sign_moves, Moved.voice_by, Moved.voice_may}
 use Rattle.mus_moved.{specs.Higher.{AreHigher, IsHigher, MovedSoundsHigher}, proofs.{Circle.{Higher, IsMove, move_is, steps_moved}, Seeing.{SeenMay, joined, moved_seen, seen_in_may, seen_in_moved}, Reaching.{Both, both_cond, carried, each, neither, own_higher, pitch_kept, Holds, Passed, unsigned_higher}}}

@@ -1,7 +1,6 @@
 -- What is taken from events that can be drawn is good.
 use Rattle.std.proofs.Common.{◌≡◌, ◌≤◌, List, [], ◌∷◌, length, map, refl, subst, sym, ap, suc}
-use Rattle.mus_units.specs.{declared.pitch.Clef.Clef, declared.note.Head.Head}
-use Rattle.mus_score.specs.{declared.score.Flat.Flat, GoodScore.clef_at}
+use Rattle.{mus_units.specs.{declared.pitch.Clef.Clef, declared.note.Head.Head}, mus_score.specs.{declared.score.Flat.Flat, GoodScore.clef_at}}
 use Rattle.mus_stems.specs.{declared.stills.Still.Still, Heads.stand_of, Stills.still_of, Stills.clefs_from, Stills.stills, Stills.CanStand, Stills.AllCanStand, Stills.IsGoodStill, Stills.AllGood}
 
 length-stands : (c : Clef) (hs : List Head) → length (map (stand_of c) hs) ≡ length hs

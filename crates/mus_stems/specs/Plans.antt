@@ -1,7 +1,6 @@
 -- The stem plans of the events of a measure.
 use Rattle.std.specs.{Prelude.{◌≡◌, ℕ, ℤ, pos, negsuc, ◌≤ℤ◌, Bool, List, [], ◌∷◌, map}, List.{flat_map, AllByRecursion, AllZip}}
-use Rattle.mus_units.specs.{declared.pitch.Clef.Clef, declared.note.Wish.Wish}
-use Rattle.mus_score.specs.declared.score.Flat.{Flat}
+use Rattle.{mus_units.specs.{declared.pitch.Clef.Clef, declared.note.Wish.Wish}, mus_score.specs.declared.score.Flat.{Flat}}
 use Rattle.mus_stems.specs.{declared.{stills.Still.Still, plans.StemPlan.StemPlan}, Heads.shifts_of, Displaced.AreDisplaced, Columns.AreInColumns, Signs.{first_sign, signs_from}, Ledgers.ledgers_of, Dots.{first_dot, dots_along}, Stills.{flags_of, stills}, Runs.AreMaximalRuns, Beams.{is_joined, beams}, Ends.{low_of, high_of, stands_up, own_end, run_end, from_of, has_stem}}
 
 -- the event at which a run begins

@@ -1,6 +1,5 @@
 ghost use Rattle.std.specs.{Prelude.◌≡◌, List.list_all};
-ghost use Rattle.mus_score.specs.GoodScore.{clef_at};
-ghost use Rattle.mus_transpose.specs.Moved.{are_in_reach, in_reach};
+ghost use Rattle.{mus_score.specs.GoodScore.{clef_at}, mus_transpose.specs.Moved.{are_in_reach, in_reach}};
 
 use mus_score::{Event, Flat, Head};
 use mus_units::{Clef, height};

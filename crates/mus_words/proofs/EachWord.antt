@@ -1,11 +1,8 @@
 -- One walk over the syllables and texts of an event: what holds of a syllable of each verse, and of a text above and
 -- one below, as they are printed, holds of all of them. What prints nothing is not drawn.
 use Rattle.std.{proofs.{Common.{◌≡◌, ℕ, suc, ℤ, ◌+◌, ◌≤◌, ◌<◌, Bool, true, false, ◌==◌, if◌then◌else◌, List, [], ◌∷◌, ◌++◌, length, Option, Some, None, refl, subst, arith}, lemmas.Bool.Decides.nat_tests, Math.Bool.beq}, specs.{List.{AllByRecursion, flat_map}, Prelude.decimal}}
-use Rattle.mus_units.specs.declared.note.Deco.{Deco}
-use Rattle.mus_score.specs.{declared.score.Flat.Flat, declared.score.Mention.Mention}
-use Rattle.mus_stems.proofs.RunLaws.{all_append}
-use Rattle.mus_laid.specs.{declared.drawn.Drawn.Drawn, Printed.printed, declared.laid.Lane.Lane}
-use Rattle.mus_ink.specs.{Distances.half_character, Drawing.back}
+use Rattle.{mus_units.specs.declared.note.Deco.{Deco}, mus_score.specs.{declared.score.Flat.Flat, declared.score.Mention.Mention}, mus_stems.proofs.RunLaws.{all_append}}
+use Rattle.{mus_laid.specs.{declared.drawn.Drawn.Drawn, Printed.printed, declared.laid.Lane.Lane}, mus_ink.specs.{Distances.half_character, Drawing.back}}
 use Rattle.mus_words.specs.{declared.texts.TextPlace.TextPlace, Syllables.{syllable_dx, syllable_if, syllables_from, verse_dy}, Texts.{above_from, below_from, shown_deco, shown_ending, shown_mention, shown_number, text_marks, texts_above, texts_below}, Words.{shown, words}}
 use Rattle.mus_laid.specs.declared.laid.Lane.TheVariants as lanes
 

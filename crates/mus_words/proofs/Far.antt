@@ -1,7 +1,6 @@
 -- Behind 2^32 texts each dy is cut, so no more of them need be counted.
 use Rattle.std.proofs.{Common.{◌≡◌, ℕ, ◌+◌, min, ℤ, pos, negsuc, ◌≤ℤ◌, arith}, lemmas.Int.{ints, clamps}}
-use Rattle.mus_ink.specs.Drawing.{cut}
-use Rattle.mus_words.specs.Texts.{above_dy, below_dy}
+use Rattle.{mus_ink.specs.Drawing.{cut}, mus_words.specs.Texts.{above_dy, below_dy}}
 
 pub far_above : (high : ℤ) (before k : ℕ) → negsuc 2147483647 ≤ℤ high → above_dy high (min before 4294967296 + min k 4294967296) ≡ above_dy high (before + k)
 unfolding above_dy cut

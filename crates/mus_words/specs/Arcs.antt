@@ -1,9 +1,7 @@
 -- Slurs and ties: the heights of their two ends, and how far they bulge.
 use Rattle.std.specs.{Prelude.{ℕ, ℤ, pos, ◌+ℤ◌, Bool, true, false, ◌&&◌, not, if◌then◌else◌, List, Option, Some, None}, List.{find, slice_get}}
-use Rattle.mus_units.specs.{declared.pitch.Clef.Clef, declared.note.Head.Head}
-use Rattle.mus_stems.specs.{declared.plans.StemPlan.StemPlan, Slope.with_end}
-use Rattle.mus_arcs.specs.{declared.pairing.Arc.Arc, declared.cutting.Piece.Piece, Arcs.has_pitch}
-use Rattle.mus_laid.specs.declared.drawn.{Span.Span, Bridge.Bridge}
+use Rattle.{mus_units.specs.{declared.pitch.Clef.Clef, declared.note.Head.Head}, mus_stems.specs.{declared.plans.StemPlan.StemPlan, Slope.with_end}}
+use Rattle.{mus_arcs.specs.{declared.pairing.Arc.Arc, declared.cutting.Piece.Piece, Arcs.has_pitch}, mus_laid.specs.declared.drawn.{Span.Span, Bridge.Bridge}}
 use Rattle.mus_time.specs.declared.keys.ColumnKey.{ColumnKey}
 use Rattle.mus_ink.specs.{Distances.cut_arc_line, Distances.slur_bulge, Distances.slur_gap, Distances.tie_gap, Drawing.back, Drawing.cut, Notes.dy_of, Decos.top_of}
 use Rattle.mus_words.specs.declared.arcs.End.{End}

@@ -1,8 +1,6 @@
 -- The texts above and below an event, each as it is printed and from the staff outwards.
 use Rattle.std.{specs.Prelude.{ℕ, ℤ, pos, ◌+◌, ◌*◌, ◌+ℤ◌, ◌-ℤ◌, Bool, true, false, if◌then◌else◌, List, [], ◌∷◌, ◌++◌, flat_map, Option, Some, None, decimal}, proofs.Math.Bool.beq}
-use Rattle.mus_units.specs.declared.note.Deco.{Deco}
-use Rattle.mus_score.specs.{declared.score.Flat.Flat, declared.score.Mention.Mention}
-use Rattle.mus_laid.specs.declared.{laid.Lane.Lane, drawn.Drawn.Drawn}
+use Rattle.{mus_units.specs.declared.note.Deco.{Deco}, mus_score.specs.{declared.score.Flat.Flat, declared.score.Mention.Mention}, mus_laid.specs.declared.{laid.Lane.Lane, drawn.Drawn.Drawn}}
 use Rattle.mus_ink.specs.{Distances.half_character, Distances.text_gap, Distances.text_step, Distances.verse_step, Drawing.back, Drawing.cut}
 use Rattle.mus_words.specs.{declared.texts.TextPlace.TextPlace, Words.words, Words.shown}
 use Rattle.mus_laid.specs.declared.laid.Lane.TheVariants as lanes

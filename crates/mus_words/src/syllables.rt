@@ -1,6 +1,5 @@
 ghost use Rattle.std.specs.Prelude.{◌≡◌, ◌+◌, ◌≤◌, ◌<◌, length, OnOk};
-ghost use Rattle.mus_laid.specs.Printed.{printed};
-ghost use Rattle.mus_words.specs.Syllables.{syllable_dx, verse_dy, syllable, syllable_if, syllables_from};
+ghost use Rattle.{mus_laid.specs.Printed.{printed}, mus_words.specs.Syllables.{syllable_dx, verse_dy, syllable, syllable_if, syllables_from}};
 ghost use Rattle.mus_laid.specs.Ranked.{inked};
 
 use crate::words::put_words;

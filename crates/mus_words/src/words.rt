@@ -1,6 +1,5 @@
 ghost use Rattle.std.specs.Prelude.{◌≡◌, ◌++◌, ◌∷◌, [], OnOk};
-ghost use Rattle.mus_words.specs.Words.{words, if_any, shown};
-ghost use Rattle.mus_laid.specs.Ranked.{inked};
+ghost use Rattle.{mus_words.specs.Words.{words, if_any, shown}, mus_laid.specs.Ranked.{inked}};
 
 use mus_laid::{Drawn, Ink, Lane, Pen, printed};
 use mus_units::{Memory, Row, Size, Text};

@@ -1,8 +1,7 @@
 //! Pages as text.
 
 ghost use Rattle.std.specs.{Prelude.◌≡◌, Prelude.◌++◌, Prelude.◌∷◌, Prelude.[], Prelude.codes, Prelude.flat_map, Prelude.OnOk, Fmt.signed_decimal};
-ghost use Rattle.ps_text.specs.Fields.{quoted};
-ghost use Rattle.paint_text.specs.PaintText.{spaced, seg_text, paint_line, page_text, paint_text};
+ghost use Rattle.{ps_text.specs.Fields.{quoted}, paint_text.specs.PaintText.{spaced, seg_text, paint_line, page_text, paint_text}};
 
 use eng_lines::put_number;
 use itoa::Buffer;

@@ -1,7 +1,6 @@
 -- What a listener keeps in mind behind some columns is what these columns tell.
 use Rattle.std.{proofs.{Common.{◌≡◌, refl, sym, ap, ◌∙◌, subst, ℕ, suc, ◌+◌, ◌-◌, ◌<◌, List, [], ◌∷◌, ◌++◌, map, reverse, length, drop, drop-cons, get_or, append-nil, append_assoc, arith}, lemmas.Grind.reverse_onto}, specs.List.{flat_map, range_with_len}}
-use Rattle.mus_units.specs.{declared.key.Sign.Sign, declared.key.Spread.Spread, declared.note.Head.Head, declared.pitch.Clef.Clef}
-use Rattle.ps_text.specs.declared.sheet.Staff.{Staff}
+use Rattle.{mus_units.specs.{declared.key.Sign.Sign, declared.key.Spread.Spread, declared.note.Head.Head, declared.pitch.Clef.Clef}, ps_text.specs.declared.sheet.Staff.{Staff}}
 use Rattle.ps_heard.specs.{declared.column.{Column.Column, Ear.Ear, Heard.Heard, Noted.Noted}, Ear.{closed, fresh, hear_column, hear_columns, hear_from}, Hearing.{all_heads, clef_at, head_at, heads_from, heard_at, heard_of, key_at, last_heads, listed, said_at, said_behind, said_with}}
 
 abbrev pub ear_with : Clef → List Sign → List Head → List Heard → List Heard → List Heard → Ear

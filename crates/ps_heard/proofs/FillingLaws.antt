@@ -1,7 +1,6 @@
 -- Columns that are filled mark after mark are the columns of the marks.
 use Rattle.std.{proofs.{Common.{◌≡◌, refl, sym, ap, ◌∙◌, subst, ℕ, zero, suc, ◌+◌, ◌<◌, Bool, true, false, ◌&&◌, List, [], ◌∷◌, ◌++◌, length, get_or, set, drop, drop-cons, arith, ℤ, pos, ◌-ℤ◌, append-nil, append_assoc}, lemmas.{Bool.{false≢true, or_parts}, Cmp.int_cmp_total, Grind.flat_map-append}}, specs.{Prelude.if◌then◌else◌, List.{flat_map, list_any, Sorted.IsStrictlySortedBy}, Ordering.{int_cmp, int_eq, is_eq, ordering_reverse}, declared.cmp.Ordering.TheVariants.Less}}
-use Rattle.mus_units.specs.{declared.glyph.Glyph.Glyph, declared.glyph.Size.Size, declared.glyph.Way.Way}
-use Rattle.ps_text.specs.declared.marks.PageMark.{PageMark}
+use Rattle.{mus_units.specs.{declared.glyph.Glyph.Glyph, declared.glyph.Size.Size, declared.glyph.Way.Way}, ps_text.specs.declared.marks.PageMark.{PageMark}}
 use Rattle.ps_heard.{specs.{declared.column.{Column.Column, Noted.Noted, Role.Role}, Columns.{column_at, columns_from, is_tie, note_at, noted, tie_at}, Filling.{at_place, with_mark, with_marks, with_note, with_tie}, Roles.role_of}, proofs.Places.{Below, itself, not_among}}
 
 -- ---- one column changed

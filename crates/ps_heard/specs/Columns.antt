@@ -2,8 +2,7 @@
 -- its columns. A column has what the glyphs at its anchor tell, in the staff's order, and the heights of the heads at which a
 -- tie ends there: an arc of bulge 400 or -400 ends that far from its head. The first column of a system leads it.
 use Rattle.std.specs.{Prelude.{ℤ, pos, negsuc, ◌-ℤ◌, ◌||◌, ◌&&◌, int_lt, if◌then◌else◌, Bool, true, false, List, [], ◌∷◌, flat_map}, Ordering.int_eq}
-use Rattle.ps_text.specs.declared.marks.PageMark.{PageMark}
-use Rattle.ps_heard.specs.{declared.column.Column.Column, declared.column.Noted.Noted, declared.column.Role.Role, Roles.role_of}
+use Rattle.{ps_text.specs.declared.marks.PageMark.{PageMark}, ps_heard.specs.{declared.column.Column.Column, declared.column.Noted.Noted, declared.column.Role.Role, Roles.role_of}}
 
 -- quiet glyphs tell nothing
 abbrev pub noted : Role → ℤ → List Noted

@@ -1,7 +1,6 @@
 -- How the columns of a staff are filled, mark after mark. This is the way that the program takes; what the columns are is said in Columns.
 use Rattle.std.specs.{Prelude.ℤ, Prelude.if◌then◌else◌, Prelude.List, Prelude.[], Prelude.◌∷◌, Prelude.◌++◌, Ordering.int_eq}
-use Rattle.ps_text.specs.declared.marks.PageMark.{PageMark}
-use Rattle.ps_heard.specs.{declared.column.Column.Column, declared.column.Role.Role, Columns.note_at, Columns.noted, Columns.tie_at}
+use Rattle.{ps_text.specs.declared.marks.PageMark.{PageMark}, ps_heard.specs.{declared.column.Column.Column, declared.column.Role.Role, Columns.note_at, Columns.noted, Columns.tie_at}}
 
 abbrev pub with_note : Role → ℤ → Column → Column
 with_note role dy c = record c { notes = c.notes ++ noted role dy }

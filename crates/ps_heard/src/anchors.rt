@@ -1,6 +1,5 @@
 ghost use Rattle.std.specs.{Prelude.◌≡◌, Prelude.◌<◌, Prelude.◌++◌, Prelude.false, Prelude.flat_map, Prelude.length, Prelude.IfOk, Prelude.OnOk, Prelude.MatchOption, List.HoldsAt, List.list_any, List.Sorted.IsStrictlySortedBy, Ordering.int_cmp, Ordering.int_eq};
-ghost use Rattle.ps_text.specs.Ranks.{anchor_of, anchors};
-ghost use Rattle.ps_heard.specs.Columns.{rising};
+ghost use Rattle.{ps_text.specs.Ranks.{anchor_of, anchors}, ps_heard.specs.Columns.{rising}};
 
 use mus_units::{Memory, Row};
 use ps_text::{PageMark, Staff};

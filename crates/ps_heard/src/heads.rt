@@ -1,8 +1,7 @@
 //! How a head of a column sounds.
 
 ghost use Rattle.std.specs.{Prelude.◌≡◌, List.find, List.list_any, Option.option_map, Ordering.int_eq};
-ghost use Rattle.mus_pitch.specs.Alteration.{key_sign, said_sign};
-ghost use Rattle.ps_heard.specs.Hearing.{sign_at, is_at, tied_from, head_at, heard_at, first_there};
+ghost use Rattle.{mus_pitch.specs.Alteration.{key_sign, said_sign}, ps_heard.specs.Hearing.{sign_at, is_at, tied_from, head_at, heard_at, first_there}};
 
 use crate::column::{Column, Ear, Heard, Noted, Role};
 use crate::pitches::pitch_at;

@@ -1,6 +1,5 @@
 ghost use Rattle.std.specs.{Prelude.◌≡◌, Prelude.◌≤ℤ◌, Prelude.pos, Int.int_div_euclid};
-ghost use Rattle.mus_units.specs.Pitch.{bottom_of};
-ghost use Rattle.ps_heard.specs.Roles.{pitch_at};
+ghost use Rattle.{mus_units.specs.Pitch.{bottom_of}, ps_heard.specs.Roles.{pitch_at}};
 
 use mus_pitch::pitch_of_steps;
 use mus_units::{Clef, Pitch};

@@ -1,8 +1,7 @@
 //! What a sheet sounds, as text.
 
 ghost use Rattle.std.specs.{Prelude.◌≡◌, Prelude.◌++◌, Prelude.flat_map, Prelude.OnOk, Fmt.signed_decimal};
-ghost use Rattle.ps_text.specs.Document.{numbered};
-ghost use Rattle.ps_heard.specs.HeardText.{half_steps, head_line, heard_text, letter_text, staff_text, tune_text};
+ghost use Rattle.{ps_text.specs.Document.{numbered}, ps_heard.specs.HeardText.{half_steps, head_line, heard_text, letter_text, staff_text, tune_text}};
 
 use crate::column::Heard;
 use crate::sheets::hear_tune;

@@ -1,8 +1,7 @@
 -- A run has one answer, since a text begins with one token at most.
 use Rattle.std.proofs.{Common.{◌≡◌, ◌⊎◌, inl, inr, ℕ, suc, ◌+◌, ◌<◌, ◌≤◌, List, [], ◌∷◌, refl, sym, subst, ◌∙◌, ap, arith}, Math.Nat.{zero-add, suc-add}}
 use Rattle.ps_steps.specs.{Steps.{Place, at, NextToken, from_pending, from_text, behind, Step, Steps, here, step, Ended, Unreadable, Stuck, Paints, Cannot, unreadable, used_up, stuck, Halts}, declared.{halt.Cause.Cause, paint.PagePaint.PagePaint, token.{Simple.Simple, Token.Token}}, State.{State, first_state}, Operators.{Outcome, went, halted, executed}}
-use Rattle.ps_tokens.specs.OneToken.{BeginsInOneWay}
-use Rattle.ps_machine.specs.OneAnswer.{HasOneAnswer}
+use Rattle.{ps_tokens.specs.OneToken.{BeginsInOneWay}, ps_machine.specs.OneAnswer.{HasOneAnswer}}
 
 -- the token and the place behind it
 record SameNext (t u : Token) (r q : Place) : Type 0 where

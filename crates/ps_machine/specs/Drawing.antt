@@ -1,6 +1,5 @@
 -- The graphics state that is drawn with, and those that are saved.
-use Rattle.std.specs.Prelude.{List}
-use Rattle.ps_steps.specs.declared.graphics.Graphics.{Graphics}
+use Rattle.{std.specs.Prelude.{List}, ps_steps.specs.declared.graphics.Graphics.{Graphics}}
 
 pub record Drawing : Type 0 where
   pub now : Graphics

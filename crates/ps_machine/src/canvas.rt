@@ -1,8 +1,7 @@
 //! The graphics state with its path, and those that are saved.
 
 ghost use Rattle.std.specs.Prelude.{◌≡◌, ◌++◌, ◌∷◌, [], IsTrue, IsFalse, OnOk, OnErr, IfOk};
-ghost use Rattle.ps_steps.specs.{Points.current, State.first_graphics};
-ghost use Rattle.ps_machine.specs.Pens.{followed};
+ghost use Rattle.{ps_steps.specs.{Points.current, State.first_graphics}, ps_machine.specs.Pens.{followed}};
 
 use mus_units::{Memory, Row};
 use ps_steps::{Number, Seg};

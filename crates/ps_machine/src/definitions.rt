@@ -1,8 +1,7 @@
 //! Names with their procedures.
 
 ghost use Rattle.std.specs.Prelude.{◌≡◌, OnOk, MatchOption, Some, None};
-ghost use Rattle.ps_steps.specs.{State.no_names, Operators.defined};
-ghost use Rattle.ps_machine.specs.Naming.{names_of};
+ghost use Rattle.{ps_steps.specs.{State.no_names, Operators.defined}, ps_machine.specs.Naming.{names_of}};
 
 use mus_units::Memory;
 use ps_steps::{Procedure, Simple};

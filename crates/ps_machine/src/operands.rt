@@ -1,8 +1,7 @@
 //! Operands, and numbers that may be too large.
 
 ghost use Rattle.std.specs.Prelude.{◌≡◌, ◌+ℤ◌, ◌*ℤ◌, false, true, MatchOption, reverse};
-ghost use Rattle.ps_steps.specs.Near.{is_near};
-ghost use Rattle.ps_machine.specs.Doing.{IsTwo, IsFontAndNumber, IsPointOfSix, IsSix};
+ghost use Rattle.{ps_steps.specs.Near.{is_near}, ps_machine.specs.Doing.{IsTwo, IsFontAndNumber, IsPointOfSix, IsSix}};
 
 use crate::state::Stop;
 use ps_steps::{Cause, Number, Value};

@@ -1,8 +1,6 @@
 -- Comment lines: they are passed over.
 use Rattle.std.{proofs.{Common.{◌≡◌, ℕ, Bool, true, false, List, [], ◌∷◌, ◌++◌, append_assoc, refl, sym, subst, ◌∙◌, ap, arith, decimal, not, ◌==◌}, lemmas.{Bool.{true≢false, and_parts, Decides.nat_tests}, List.Folds.list_all-append}}, specs.List.list_all}
-use Rattle.mus_units.specs.Bytes.{is_digit}
-use Rattle.ps_steps.specs.{Tokens.passed, State.State, Steps.at, Steps.Steps, Steps.here}
-use Rattle.ps_paint.proofs.Takes.{Takes, decimal_digits}
+use Rattle.{mus_units.specs.Bytes.{is_digit}, ps_steps.specs.{Tokens.passed, State.State, Steps.at, Steps.Steps, Steps.here}, ps_paint.proofs.Takes.{Takes, decimal_digits}}
 
 -- other than LF
 abbrev pub in_line : ℕ → Bool

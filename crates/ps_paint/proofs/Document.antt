@@ -1,7 +1,6 @@
 -- A document paints its sheet.
 use Rattle.std.proofs.Common.{◌≡◌, ℕ, List, [], ◌∷◌, ◌++◌, length, append_assoc, append-nil, map, refl, subst, ap, arith, decimal, codes}
-use Rattle.ps_text.specs.{Document.document, Document.trailer, Document.count_line, declared.sheet.Sheet.Sheet, Range.IsSheet}
-use Rattle.ps_steps.specs.{State.State, State.first_state, Steps.at, Steps.Steps}
+use Rattle.{ps_text.specs.{Document.document, Document.trailer, Document.count_line, declared.sheet.Sheet.Sheet, Range.IsSheet}, ps_steps.specs.{State.State, State.first_state, Steps.at, Steps.Steps}}
 use Rattle.ps_paint.{specs.{Laws.PaintsSheets, PaintOf.{page_paint, paint_of}}, proofs.{Takes.{Takes, both_taken}, Comments.{takes_comment, number_in_line}, Made.{all_names, all_made}, Starts.between, Pages.{Leads, both_lead, pages_drawn}, PrologLines.prolog_taken}}
 
 trailer_taken : (n : ℕ) (m : State) → Takes 0 (trailer n) m m

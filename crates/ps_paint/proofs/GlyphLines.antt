@@ -1,7 +1,6 @@
 -- The lines of glyphs.
 use Rattle.std.proofs.{Common.◌≡◌, Common.suc, Common.◌+◌, Common.◌≤◌, Common.ℤ, Common.pos, Common.true, Common.List, Common.[], Common.◌∷◌, Common.◌++◌, Common.refl, Common.arith, Math.IntN.◌+ℤ◌, lemmas.Int.ints, lemmas.Bool.leb-true}
-use Rattle.mus_units.specs.declared.glyph.Glyph.{Glyph}
-use Rattle.glyph_paths.specs.{Names.glyph_name, Outlines.outline_of}
+use Rattle.{mus_units.specs.declared.glyph.Glyph.{Glyph}, glyph_paths.specs.{Names.glyph_name, Outlines.outline_of}}
 use Rattle.ps_text.specs.{Document.mark_text, Line.glyph_line, declared.sheet.Frame.Frame, Range.IsFrame, Range.IsNumber, Range.IsOffset, Range.IsPlaced, declared.marks.PageMark.PageMark}
 use Rattle.ps_steps.specs.{declared.{paint.{Paint.Paint, PagePaint.PagePaint}, value.Value.{Value, TheVariants.Whole as whole_value}, graphics.Graphics.Graphics, token.Simple.TheVariants.Name as name_token}, State.Names, Operators.all_near}
 use Rattle.ps_paint.{specs.PaintOf.{mark_paints, outline_paints}, proofs.{Bodies.{Made, glyph_body}, Scales.IsClose, Runs.{Runs, no_more, then, both_runs}, Draws.{drawing, corner, saves, restores, translates, places}, Glyphs.{IsMid, cost, left, outline_runs}, GlyphTable.fine, Takes.{IsTokenWord, name_some}, Lines.{Draws, on_page, line_drawn, page_near, offset_near}}}

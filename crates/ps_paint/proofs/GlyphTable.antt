@@ -1,7 +1,6 @@
 -- What holds of the name and of the outline of each glyph.
 use Rattle.std.{proofs.Common.◌≡◌, proofs.Common.true, proofs.Common.false, proofs.Common.Some, proofs.Common.refl, proofs.Common.codes, proofs.Common.nat_le, proofs.Common.◌==◌, specs.List.list_all, specs.Str.bytes_eq}
-use Rattle.mus_units.specs.declared.glyph.Glyph.{Glyph}
-use Rattle.glyph_paths.specs.{Names.glyph_name, Outlines.outline_of}
+use Rattle.{mus_units.specs.declared.glyph.Glyph.{Glyph}, glyph_paths.specs.{Names.glyph_name, Outlines.outline_of}}
 use Rattle.ps_steps.specs.{Tokens.{is_regular, is_name, begins, word_token}, declared.token.Simple.TheVariants.Name as name_token}
 use Rattle.ps_paint.proofs.Glyphs.{is_drawn, cost}
 

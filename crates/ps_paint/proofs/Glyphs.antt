@@ -1,7 +1,6 @@
 -- Any outline is drawn as it is painted.
 use Rattle.std.{proofs.{Common.{◌≡◌, ℕ, ◌+◌, ℤ, pos, negsuc, true, false, Bool, ◌&&◌, List, [], ◌∷◌, ◌++◌, append_assoc, append-nil, arith, int_le}, Math.IntN.◌+ℤ◌, lemmas.{Int.ints, Bool.and_parts}}, specs.{List.flat_map, Int.Signed.◌≤ℤ◌}}
-use Rattle.glyph_paths.specs.declared.paths.PathOp.{PathOp}
-use Rattle.ps_text.specs.{declared.sheet.Frame.Frame, Range.IsFrame}
+use Rattle.{glyph_paths.specs.declared.paths.PathOp.{PathOp}, ps_text.specs.{declared.sheet.Frame.Frame, Range.IsFrame}}
 use Rattle.ps_steps.specs.{declared.paint.Seg.Seg, declared.paint.Paint.Paint, declared.paint.PagePaint.PagePaint, declared.value.Value.Value, declared.graphics.Graphics.Graphics, State.State, State.Names}
 use Rattle.ps_paint.{specs.PaintOf.{move, line, curve, stroked, filled, outline_paints}, proofs.{Bodies.{Made, step_tokens}, Scales.IsClose, Runs.{Runs, no_more, both_runs, pushes}, Draws.{drawing, page, moves, lines, curves, stroke_runs, fill_runs, some_path, has_path}}}
 

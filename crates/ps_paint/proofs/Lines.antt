@@ -1,7 +1,6 @@
 -- What whole lines of a page draw.
 use Rattle.std.{proofs.{Common.{◌≡◌, ℕ, suc, ◌+◌, ◌*◌, ◌≤◌, ℤ, pos, true, List, [], ◌∷◌, ◌++◌, length, length-append, append_assoc, append-nil, Some, arith, All}, Math.IntN.◌+ℤ◌, lemmas.{Int.ints, List.Elements.{All-head, All-tail}}}, specs.List.flat_map}
-use Rattle.glyph_paths.specs.Procedure.{numbers}
-use Rattle.ps_text.specs.{declared.sheet.Frame.Frame, Range.IsNumber, Range.IsOffset}
+use Rattle.{glyph_paths.specs.Procedure.{numbers}, ps_text.specs.{declared.sheet.Frame.Frame, Range.IsNumber, Range.IsOffset}}
 use Rattle.ps_steps.specs.{declared.{paint.{Paint.Paint, PagePaint.PagePaint}, token.Simple.{Simple, TheVariants.Name as name_token}, value.Value.Value, graphics.Graphics.Graphics}, Near.is_near, State.{State, Names}, Operators.all_near}
 use Rattle.ps_paint.proofs.{Scales.IsClose, Scales.near, Runs.Runs, Runs.pushed, Draws.corner, Draws.page, Takes.Takes, Takes.IsTokenWord, Takes.nothing_taken, Takes.both_taken, Takes.takes_line}
 

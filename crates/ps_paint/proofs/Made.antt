@@ -1,8 +1,6 @@
 -- The definitions that the prolog makes.
 use Rattle.std.proofs.Common.{◌≡◌, ℕ, List, [], ◌∷◌, Some, None, take, refl, codes}
-use Rattle.mus_units.specs.{declared.glyph.Glyph.Glyph, declared.glyph.Way.Way}
-use Rattle.glyph_paths.specs.Names.{glyph_name, glyphs_in_order}
-use Rattle.ps_text.specs.{Names.way_name, declared.sheet.Frame.Frame}
+use Rattle.{mus_units.specs.{declared.glyph.Glyph.Glyph, declared.glyph.Way.Way}, glyph_paths.specs.Names.{glyph_name, glyphs_in_order}, ps_text.specs.{Names.way_name, declared.sheet.Frame.Frame}}
 use Rattle.ps_steps.specs.{declared.token.Simple.Simple, State.Names, State.no_names, Operators.Operator, Operators.operator_name, Operators.defined, Operators.def_op}
 use Rattle.ps_paint.{specs.PaintOf.edge, proofs.Bodies.{Made, m_body, l_body, c_body, h_body, k_body, sf_body, vl_body, st_body, beam_body, ac_body, t1_body, t2_body, pg_body, glyph_body}}
 

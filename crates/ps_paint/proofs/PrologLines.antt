@@ -1,7 +1,6 @@
 -- A prolog makes its definitions and its font.
 use Rattle.std.{proofs.{Common.{◌≡◌, ℕ, ◌+◌, ◌*◌, ◌/◌, ◌%◌, ◌<◌, ◌≤◌, pos, true, false, cond, Bool, List, [], ◌∷◌, ◌++◌, length, length-append, append_assoc, map, Some, None, refl, subst, ◌∙◌, ap, arith, decimal, codes}, lemmas.{Fmt.decimal_digit, Int.ints, Bool.Decides.nat_tests}}, specs.Char.digit_value}
-use Rattle.mus_units.specs.{Bytes.is_digit, declared.glyph.Glyph.Glyph, declared.glyph.Way.Way}
-use Rattle.glyph_paths.specs.{Names.glyph_name, Names.glyphs_in_order, Procedure.numbers}
+use Rattle.{mus_units.specs.{Bytes.is_digit, declared.glyph.Glyph.Glyph, declared.glyph.Way.Way}, glyph_paths.specs.{Names.glyph_name, Names.glyphs_in_order, Procedure.numbers}}
 use Rattle.ps_text.specs.{Prolog.percent, Prolog.first_text, Prolog.box_start, Prolog.procedures, Prolog.page_start, Prolog.page_end, Prolog.last_text, Prolog.box_line, Prolog.scaling, Prolog.page_line, Prolog.glyph_lines, Prolog.heading, Prolog.prolog, declared.sheet.Frame.Frame, Range.IsFrame}
 use Rattle.ps_steps.specs.{Tokens.{font_line, font_front, simple_at, Body, word_token, pointed_number}, declared.token.{Simple.{Simple, TheVariants.{Pointed as pointed_token, Whole as whole_token, Label as label_token, Name as name_token, Font as font_token}}, Token.TheVariants.Simple as simple_token}, Near.{is_near, is_near_hundredths}, State.{State, Names, first_graphics, first_state, no_names}, Operators.defined, Steps.{at, from_text, Step, here, step}}
 use Rattle.ps_paint.{proofs.{Bodies.{m_body, l_body, c_body, h_body, k_body, sf_body, vl_body, st_body, beam_body, ac_body, t1_body, t2_body, pg_body, glyph_body, scale_name, translate_name, gsave_name}, Lexing.{Lexes, both_lexed, word_stands, IsNewName, lex_one, ends, lex_numbers, pieces_of, spaced, piece_token, piece_stands, lexed, lexed_to}, Made.{with_front, with_fixed, with_pg, with_glyphs, all_names}, Scales.near, Takes.{Takes, nothing_taken, both_taken, space_passed, IsTokenWord, digit_regular, digit_no_minus}, Comments.{takes_comment, two_in_line}, Defining.{definition, takes_definition, takes_glyph}, GlyphTable.fine, Starts.between, Pages.Leads}, specs.PaintOf.edge}

@@ -1,9 +1,6 @@
 -- Coordinates: how they add up, and that they are near.
 use Rattle.std.{proofs.{Common.{◌≡◌, ℕ, zero, suc, ◌*◌, ℤ, pos, negsuc, true, refl, arith}, Math.IntN.{◌+ℤ◌, ◌*ℤ◌, suc_ℤ-*ℤ, zero-*ℤ}, lemmas.Int.ints}, specs.Int.Signed.◌≤ℤ◌}
-use Rattle.mus_units.specs.declared.glyph.Size.{Size}
-use Rattle.ps_text.specs.{declared.sheet.Frame.Frame, Range.IsFrame}
-use Rattle.ps_steps.specs.Near.{is_near}
-use Rattle.ps_paint.specs.PaintOf.{to_x, to_y, height_of}
+use Rattle.{mus_units.specs.declared.glyph.Size.{Size}, ps_text.specs.{declared.sheet.Frame.Frame, Range.IsFrame}, ps_steps.specs.Near.{is_near}, ps_paint.specs.PaintOf.{to_x, to_y, height_of}}
 
 -- within 2^43 of 0
 pub record IsClose (v : ℤ) : Type 0 where

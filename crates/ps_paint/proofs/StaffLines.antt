@@ -1,7 +1,6 @@
 -- The lines of staves.
 use Rattle.std.proofs.{Common.◌≡◌, Common.ℕ, Common.true, Common.ℤ, Common.pos, Common.List, Common.[], Common.◌∷◌, Common.◌++◌, Common.refl, Common.arith, Common.nat_le, Common.codes, Math.IntN.◌+ℤ◌, Math.IntN.+ℤ_idl, Math.IntN.+ℤ_idr, lemmas.Int.ints}
-use Rattle.glyph_paths.specs.Procedure.{numbers}
-use Rattle.ps_text.specs.{Document.rules_line, declared.sheet.Frame.Frame, Range.IsFrame, Range.IsNumber, Range.IsOffset}
+use Rattle.{glyph_paths.specs.Procedure.{numbers}, ps_text.specs.{Document.rules_line, declared.sheet.Frame.Frame, Range.IsFrame, Range.IsNumber, Range.IsOffset}}
 use Rattle.ps_steps.specs.{declared.{paint.{Paint.Paint, Seg.Seg, PagePaint.PagePaint}, value.Value.{Value, TheVariants.Whole as whole_value}, graphics.Graphics.Graphics}, State.Names, Operators.all_near}
 use Rattle.ps_paint.{specs.PaintOf.{move, line, stroked, rules}, proofs.{Bodies.{Made, sf_body, rule_tokens}, Runs.{Runs, no_more, then, both_runs, pushes}, Draws.{drawing, corner, page, moves, lines, saves, restores, places, strokes, has_path}, Lines.{Draws, on_page, line_drawn, page_near, close_number, close_sum}, StemLines.{zero_close, zero_sum}}}
 

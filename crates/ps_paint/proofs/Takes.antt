@@ -1,7 +1,6 @@
 -- The tokens of texts that are written: a text that is tokens with blanks behind them.
 use Rattle.std.{proofs.{Common.{◌≡◌, ℕ, zero, suc, ◌+◌, ◌/◌, ◌%◌, ◌<◌, ◌≤◌, ◌^◌, ℤ, pos, negsuc, true, false, cond, Bool, List, [], ◌∷◌, ◌++◌, length, append_assoc, Some, refl, sym, subst, ◌∙◌, ap, arith, decimal, ◌||◌, ◌==◌}, Math.{IntN.neg_ℤ, Numerals.one-add}, lemmas.{Int.ints, Bool.{true≢false, and_parts, or_parts, not-true, Decides.nat_tests}, Fmt.{decimal_nonempty, decimal_is_IsNumeral}}}, specs.{Str.Parse.digits_value, List.list_all, Fmt.{digit_glyph, digits, digits_onto, signed_decimal}}}
-use Rattle.mus_units.specs.Bytes.{is_digit}
-use Rattle.glyph_paths.specs.Procedure.{numbers}
+use Rattle.{mus_units.specs.Bytes.{is_digit}, glyph_paths.specs.Procedure.{numbers}}
 use Rattle.ps_steps.{specs.{Near.is_near, declared.{token.{Simple.{Simple, TheVariants.{Name as name_token, Whole as whole_token}}, Token.TheVariants.Simple as simple_token}, value.Value.TheVariants.Whole as whole_value}, Tokens.{passed, IsWord, word_front, simple_at, is_regular, is_blank, is_delimiter, whole_number, word_token, is_name}, State.State, Operators.{went, executed, called, all_near}, Steps.{at, NextToken, from_text, behind, Steps, here, step}}, proofs.Joined.joined}
 use Rattle.ps_paint.proofs.Runs.{Runs, pushed}
 

@@ -1,7 +1,6 @@
 -- Words are shown where their line says, in marks and in titles.
 use Rattle.std.{proofs.{Common.{◌≡◌, ℕ, suc, ◌+◌, ◌≤◌, ℤ, pos, true, List, [], ◌∷◌, ◌++◌, length-append, append_assoc, Some, refl, arith, IsTrue, codes}, Math.IntN.{◌+ℤ◌, ◌*ℤ◌, +ℤ_idr}, lemmas.Int.ints}, specs.List.{flat_map, list_all}}
-use Rattle.mus_units.specs.declared.glyph.Size.{Size}
-use Rattle.glyph_paths.specs.Procedure.{numbers}
+use Rattle.{mus_units.specs.declared.glyph.Size.{Size}, glyph_paths.specs.Procedure.{numbers}}
 use Rattle.ps_text.specs.{Fields.{shown, in_parentheses}, Range.{is_shown, IsFrame, IsOffset, IsPlaced, IsTitle, IsWords}, Line.words_line, Names.size_name, Document.{mark_text, title_line, title_text}, declared.{sheet.Frame.Frame, marks.PageMark.PageMark}}
 use Rattle.ps_steps.specs.{declared.{paint.{Paint.Paint, PagePaint.PagePaint}, token.{Simple.{Simple, TheVariants.{Name as name_token, Words as words_token}}, Token.TheVariants.Simple as simple_token}, value.Value.{Value, TheVariants.{Whole as whole_value, Label as label_value, Font as font_value, Words as words_value}}, graphics.Graphics.Graphics}, Near.is_near, Tokens.{string_front, simple_at}, State.{State, Names}, Operators.{went, executed, operated, show_op, findfont_op, scalefont_op, setfont_op, all_near}, Steps.{at, from_text, Step, here, step}}
 use Rattle.ps_paint.{specs.PaintOf.{move, words_paint, mark_paints, height_of}, proofs.{Bodies.{Made, t1_body, t2_body, m_name, translate_name, show_name, grestore_name, font_tokens}, Scales.{IsClose, near_size}, Runs.{Runs, no_more, then, both_runs, does, is_in_range}, Draws.{drawing, corner, page, moves, saves, restores, places}, Takes.{Takes, both_taken, takes_line, IsTokenWord}, Lines.{Draws, on_page, page_near, offset_near, close_number, close_sum}}}

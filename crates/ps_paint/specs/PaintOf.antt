@@ -1,8 +1,7 @@
 -- What a sheet paints, in 1/10000 point: for each page, item by item and mark by mark, the paths that are filled or stroked
 -- and the words that are shown.
 use Rattle.std.specs.{Prelude.ℕ, Prelude.ℤ, Prelude.pos, Prelude.◌*◌, Prelude.◌+ℤ◌, Prelude.◌-ℤ◌, Prelude.◌*ℤ◌, Prelude.List, Prelude.[], Prelude.◌∷◌, Prelude.◌++◌, Prelude.map, List.flat_map}
-use Rattle.mus_units.specs.declared.glyph.{Size.Size, Way.Way}
-use Rattle.glyph_paths.specs.{declared.paths.PathOp.PathOp, Outlines.neg, Outlines.outline_of}
+use Rattle.{mus_units.specs.declared.glyph.{Size.Size, Way.Way}, glyph_paths.specs.{declared.paths.PathOp.PathOp, Outlines.neg, Outlines.outline_of}}
 use Rattle.ps_text.specs.{Line.quarter, Document.last_base, declared.marks.PageMark.PageMark, declared.sheet.Frame.Frame, declared.sheet.Staff.Staff, declared.sheet.Item.Item, declared.sheet.Page.Page, declared.sheet.Sheet.Sheet}
 use Rattle.ps_steps.specs.declared.paint.{Seg.Seg, Paint.Paint, PagePaint.PagePaint}
 

@@ -1,8 +1,7 @@
 -- The text of a line, each part in front of what follows it, and that its numbers may stand on a page.
 use Rattle.std.{proofs.{Common.{◌≡◌, ℕ, ℤ, pos, ◌≤◌, ◌^◌, true, ◌+◌, ◌/◌, ◌%◌, List, [], ◌∷◌, ◌++◌, Option, Some, None, is_some, refl, sym, ◌∙◌, ap, arith, codes, decimal, true≢false}, lemmas.{Fmt.decimal_digit, Int.ints}}, specs.List.{flat_map, list_all}}
 use mathlib.Core.List.{append_assoc}
-use Rattle.mus_units.specs.declared.glyph.Size.{Size}
-use Rattle.glyph_paths.specs.Procedure.{numbers}
+use Rattle.{mus_units.specs.declared.glyph.Size.{Size}, glyph_paths.specs.Procedure.{numbers}}
 use Rattle.ps_text.specs.{Document.{rules_line, join_line, title_line}, Fields.{shown, in_parentheses}, Names.size_name, Prolog.{page_line, page_start, page_end, scaling, percent}, declared.prolog.TheConstants.PAGE_START, Range.IsNumber, Scanning.is_field}
 
 abbrev pub title_numbers : ℤ → ℤ → List ℤ

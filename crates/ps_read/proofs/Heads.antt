@@ -1,10 +1,8 @@
 -- How lines begin, and that none has an LF within.
 use Rattle.std.{proofs.Common.{◌≡◌, ◌≢◌, ℕ, ℤ, pos, negsuc, zero, suc, ◌+◌, ◌/◌, ◌%◌, ◌<◌, ◌≤◌, ◌⊎◌, inl, inr, Bool, true, false, ◌==◌, if◌then◌else◌, List, [], ◌∷◌, ◌++◌, refl, sym, ◌∙◌, ap, subst, arith, codes, IsTrue, nat_lt, ◌&&◌, true≢false, eq-eqb, length, length-append}, specs.{Fmt.{decimal, signed_decimal, digits, digits_onto, digit_glyph}, List.{flat_map, list_all}}}
-use Rattle.mus_units.specs.{declared.glyph.Glyph.Glyph, declared.glyph.Size.Size, declared.glyph.Way.Way}
-use Rattle.glyph_paths.specs.{Names.glyph_name, Procedure.numbers}
+use Rattle.{mus_units.specs.{declared.glyph.Glyph.Glyph, declared.glyph.Size.Size, declared.glyph.Way.Way}, glyph_paths.specs.{Names.glyph_name, Procedure.numbers}}
 use Rattle.ps_text.specs.{Document.{rules_line, staff_line, join_line, system_line, title_line, tune_line, heading_line, count_line}, Fields.{shown, in_parentheses, is_special}, Line.{glyph_line, words_line, stem_line, beam_line, arc_line, points, mark_line}, Names.{size_name, way_name}, Prolog.{box_line, page_line, box_start, page_start, page_end, scaling, percent}, Range.{is_shown, IsWords, IsPageMark}, declared.marks.PageMark.PageMark}
-use Rattle.eng_lines.{specs.Lines.Lacks, proofs.Words.lacks_both, proofs.Words.head_of}
-use Rattle.ps_read.specs.{Lines.Line, Lines.line_text, Places.MayCome, declared.place.Place.Place}
+use Rattle.{eng_lines.{specs.Lines.Lacks, proofs.Words.lacks_both, proofs.Words.head_of}, ps_read.specs.{Lines.Line, Lines.line_text, Places.MayCome, declared.place.Place.Place}}
 use Rattle.ps_read.specs.Lines as line
 
 abbrev lacks_test : ℕ → List ℕ → Bool

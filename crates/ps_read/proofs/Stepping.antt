@@ -1,8 +1,7 @@
 -- A line that may come leads on, and where none of those in question may, that is told.
 use Rattle.std.proofs.{Common.{◌≡◌, ℕ, ℤ, ◌+◌, ◌<◌, ◌≤◌, ◌^◌, inl, inr, Bool, true, false, not, List, [], ◌∷◌, ◌++◌, length, Option, Some, None, is_some, IsSome, refl, sym, ◌∙◌, ap, arith, codes, decimal, MatchOption, Result, Ok, Err, IfOk, true≢false}, lemmas.Fmt.decimal_injective}
 use mathlib.Core.List.{append_assoc}
-use Rattle.mus_units.specs.{declared.glyph.Size.Size, declared.text.Memory.Memory}
-use Rattle.glyph_paths.specs.Names.{glyphs_in_order}
+use Rattle.{mus_units.specs.{declared.glyph.Size.Size, declared.text.Memory.Memory}, glyph_paths.specs.Names.{glyphs_in_order}}
 use Rattle.ps_text.specs.{Document.{rules_line, staff_line, join_line, system_line, title_line, tune_line, heading_line, count_line}, Line.mark_line, Prolog.{box_line, box_start, procedures, page_line, glyph_lines, last_text}, Range.{IsNumber, IsPageMark, IsTitle, IsFrame}, declared.{marks.PageMark.PageMark, sheet.{Frame.Frame, Staff.Staff, Sheet.Sheet, Item.Item}, prolog.TheConstants.BOX}}
 use Rattle.ps_read.{specs.{Lines.{Line, line_text, behind_line, IsFirstLine}, Places.{frame_of, with_item, with_page, with_mark, with_staff, with_join, open_system, IsUnderTop, MayCome, after_prolog, next}, Steps.{NoneOf, IsNextOf, IsStepOf, Any, IsItemLine, IsSystemLine, IsJoinLine, IsNoMark}, Titles.{title_of, joined_of, rules_of, IsMarkRead}, declared.{lines.{Rules.Rules, Title.Title}, place.{Joined.Joined, OpenPage.OpenPage, OpenSystem.OpenSystem, Place.Place}}}, proofs.Heads.{apart, no_mark, mark_start, join_start, title_start, no_line}}
 use Rattle.ps_read.specs.Lines as line

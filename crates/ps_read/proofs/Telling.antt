@@ -1,8 +1,7 @@
 -- What the lines so far have told, and that a line that may come adds its text to it.
 use Rattle.std.{proofs.{Common.{◌≡◌, ℕ, ℤ, pos, suc, ◌+◌, ◌<◌, ◌^◌, ◌+ℤ◌, List, [], ◌∷◌, ◌++◌, length, Option, Some, None, IsSome, refl, sym, ◌∙◌, ap, subst, arith, codes, All, lit<, length-append, true≢false}, lemmas.{Grind.flat_map-append, List.Elements.{All-push, All-nil}}}, specs.{Prelude.⊤, List.flat_map}}
 use mathlib.Core.List.{append_assoc, append-nil}
-use Rattle.mus_units.specs.declared.glyph.Size.{Size}
-use Rattle.glyph_paths.specs.Names.{glyphs_in_order}
+use Rattle.{mus_units.specs.declared.glyph.Size.{Size}, glyph_paths.specs.Names.{glyphs_in_order}}
 use Rattle.ps_text.specs.{Document.{numbered, mark_text, marks_text, rules_line, staff_line, staff_text, last_base, join_line, join_text, system_line, system_text, title_line, title_text, tune_line, tune_text, item_text, items_text, heading_line, heading_text, closing, page_text, count_line, trailer, document, Spells}, Line.mark_line, Prolog.{first_text, box_line, heading, procedures, page_line, glyph_lines, last_text, prolog}, Range.{IsNumber, IsPageMark, IsStaff, IsJoined, IsOrdinal, IsItem, IsAfter, InOrder, IsPage, IsFrame, IsSheet}, declared.{marks.PageMark.PageMark, sheet.{Frame.Frame, Staff.Staff, Item.Item, Page.Page, Sheet.Sheet}}}
 use Rattle.ps_read.specs.{Lines.{Line, line_text, lines_then, behind_line}, Places.{frame_of, with_item, with_page, with_mark, with_staff, open_system, ended, IsUnderTop, MayEnd, MayCome, after_prolog, next, Leads}, declared.place.{Joined.Joined, OpenPage.OpenPage, OpenSystem.OpenSystem, Place.Place}}
 use Rattle.ps_read.specs.Lines as line

@@ -1,8 +1,7 @@
 -- The lines of a document are good, each after those before it.
 use Rattle.std.{proofs.{Common.{◌≡◌, ◌≢◌, ℕ, ℤ, pos, suc, ◌+◌, ◌<◌, ◌≤◌, ◌^◌, ◌+ℤ◌, ◌⊎◌, inl, inr, Bool, true, false, ◌==◌, List, [], ◌∷◌, ◌++◌, length, drop, Some, refl, sym, ◌∙◌, ap, subst, arith, codes, All, length-append, true≢false, eq-eqb, eqb-true}, lemmas.List.Elements.{All-head, All-tail}}, specs.Prelude.⊤}
 use mathlib.Core.List.{append_assoc, append-nil}
-use Rattle.mus_units.specs.declared.glyph.Size.{Size}
-use Rattle.glyph_paths.specs.Names.{glyphs_in_order}
+use Rattle.{mus_units.specs.declared.glyph.Size.{Size}, glyph_paths.specs.Names.{glyphs_in_order}}
 use Rattle.ps_text.specs.{Document.{numbered, mark_text, marks_text, rules_line, staff_line, staff_text, last_base, join_line, join_text, system_line, system_text, tune_text, title_text, item_text, items_text, heading_line, heading_text, closing, page_text, count_line, trailer, document}, Prolog.{first_text, box_line, heading, procedures, page_line, glyph_lines, last_text, prolog}, Range.{IsNumber, IsPageMark, IsStaff, IsSystem, IsItem, InOrder, IsPage, IsFrame, IsSheet}, declared.{marks.PageMark.PageMark, sheet.{Frame.Frame, Staff.Staff, Item.Item, Page.Page, Sheet.Sheet}}}
 use Rattle.eng_lines.specs.Lines.{Lacks}
 use Rattle.ps_read.{specs.{Lines.{Line, line_text, lines_then, IsFirstLine}, Places.{with_item, open_system, ended, IsUnderTop, MayEnd, MayCome, after_prolog, next, Leads}, Steps.IsItemLine, declared.place.{Joined.Joined, OpenPage.OpenPage, OpenSystem.OpenSystem, Place.Place}}, proofs.Telling.first_told}

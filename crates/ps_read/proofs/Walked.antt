@@ -1,7 +1,6 @@
 -- What holds before each line is read, and what follows at the end.
 use Rattle.std.proofs.{Common.{◌≡◌, ℕ, ◌+◌, ◌≤◌, ◌==◌, true, List, [], ◌∷◌, ◌++◌, length, refl, sym, ◌∙◌, ap, subst, arith, length-append}, lemmas.{List.nil_from_length, Bool.eqb-true}}
-use Rattle.ps_text.specs.{Document.Spells, declared.sheet.Sheet.Sheet}
-use Rattle.eng_lines.{specs.Lines.Lacks, proofs.Words.one_cut, proofs.Words.lacks_none}
+use Rattle.{ps_text.specs.{Document.Spells, declared.sheet.Sheet.Sheet}, eng_lines.{specs.Lines.Lacks, proofs.Words.one_cut, proofs.Words.lacks_none}}
 use Rattle.ps_read.{specs.{Lines.{Line, line_text, lines_then}, Places.{MayCome, next, Leads}, Answers.{IsGoodThroughout, IsFirstFault, IsRead}, Steps.{Any, NoneOf, IsNextOf}, declared.place.Place.Place}, proofs.{Heads.{may_lack, no_line}, Telling.leads_tell, Through.document_way}}
 
 lines_push : (ls : List Line) (l : Line) (rest : List ℕ) → lines_then (ls ++ l ∷ []) rest ≡ lines_then ls (line_text l ++ 10 ∷ rest)

@@ -1,7 +1,6 @@
 -- The laws of documents.
 use Rattle.std.specs.Prelude.{◌≡◌, ℕ, List, [], ◌++◌, ◌↔◌}
-use Rattle.ps_text.specs.{Document.Spells, declared.sheet.Sheet.Sheet}
-use Rattle.ps_read.specs.Answers.{IsGoodThroughout}
+use Rattle.{ps_text.specs.{Document.Spells, declared.sheet.Sheet.Sheet}, ps_read.specs.Answers.{IsGoodThroughout}}
 
 -- a sheet spells a text exactly where each line of the text is good and the last is `%%EOF`
 abbrev pub GoodByLines : Type 0

@@ -1,7 +1,6 @@
 -- The lines of a document, without the LF that ends each: those that stand as they are, and those with numbers or words in them.
 use Rattle.std.specs.Prelude.{◌≡◌, ℕ, ℤ, ◌+◌, List, [], ◌∷◌, ◌++◌, length, drop}
-use Rattle.eng_lines.specs.Lines.{Lacks}
-use Rattle.mus_units.specs.declared.glyph.Size.{Size}
+use Rattle.{eng_lines.specs.Lines.{Lacks}, mus_units.specs.declared.glyph.Size.{Size}}
 use Rattle.ps_text.specs.{Document.rules_line, Document.staff_line, Document.join_line, Document.system_line, Document.title_line, Document.tune_line, Document.heading_line, Line.mark_line, Prolog.box_line, Prolog.page_line, declared.marks.PageMark.PageMark}
 
 pub data Line : Type 0 where

@@ -1,6 +1,5 @@
 ghost use Rattle.std.specs.Prelude.{IfOk, IfErr, ◌≡◌};
-ghost use Rattle.ps_read.specs.{Answers.IsRead, Answers.IsCause, Laws.GoodByLines, Laws.NoPrefix, Steps.IsStep};
-ghost use Rattle.eng_lines.specs.Lines.{Lacks};
+ghost use Rattle.{ps_read.specs.{Answers.IsRead, Answers.IsCause, Laws.GoodByLines, Laws.NoPrefix, Steps.IsStep}, eng_lines.specs.Lines.{Lacks}};
 ghost use Rattle.ps_read.specs.declared.reading.PagesError.TheVariants as answer;
 
 use crate::pages::{

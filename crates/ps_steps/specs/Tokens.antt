@@ -6,9 +6,7 @@
 -- is one token. A procedure from its `{` to its `}` is one token, and has no other procedure in it.
 use Prim.Native.Char.{code}
 use Rattle.std.specs.{Prelude.{◌≡◌, ℕ, ℤ, pos, neg_ℤ, ◌-◌, ◌≤◌, Bool, true, false, ◌&&◌, ◌||◌, not, ◌==◌, IsTrue, if◌then◌else◌, List, [], ◌∷◌, ◌++◌, length, take, drop, codes, Option, Some, None}, List.{list_all, flat_map}, Str.Parse.digits_value}
-use Rattle.mus_units.specs.Bytes.{is_digit, is_letter}
-use Rattle.ps_text.specs.{Fields.shown, Range.is_shown}
-use Rattle.ps_steps.specs.{Near.is_near, Near.is_near_hundredths, declared.halt.Cause.Cause}
+use Rattle.{mus_units.specs.Bytes.{is_digit, is_letter}, ps_text.specs.{Fields.shown, Range.is_shown}, ps_steps.specs.{Near.is_near, Near.is_near_hundredths, declared.halt.Cause.Cause}}
 pub use Rattle.ps_steps.specs.{declared.token.Simple.Simple, declared.token.Token.Token}
 pub use Rattle.ps_steps.specs.declared.token.Simple.TheVariants.{Whole as whole_token, Pointed as pointed_token, Far as far_token, Words as words_token, Label as label_token, Name as name_token, Font as font_token}
 pub use Rattle.ps_steps.specs.declared.token.Token.TheVariants.{Simple as simple_token, Procedure as procedure_token}

@@ -3,8 +3,7 @@ use Rattle.std.{proofs.{Common.{Result, Ok, Err, IfOk, cond, int_div, ◌<◌, �
 use lib.Signed.{mag}
 use mir.Syntax.{w64}
 use Rattle.ps_text.{specs.{Fields.{shown, in_parentheses}, declared.marks.PageMark.PageMark, Names.{size_name, way_name}, Range.{IsNumber, IsOffset, IsPageMark, is_shown}, Line.{mark_line, glyph_line, stem_line, beam_line, arc_line, words_line, points, ends_of, quarter}, Scanning.is_field, Reading.{is_small, glyph_named, glyph_at, glyph_from, words_at, words_from, stem_at, stem_from, offset_from, beam_from, arc_from, mark_from}}, proofs.Taken.numbers_cons}
-use Rattle.mus_units.specs.{declared.glyph.Glyph.Glyph, declared.glyph.Size.Size, declared.glyph.Way.Way}
-use Rattle.glyph_paths.specs.{Names.glyph_name, Names.glyphs_in_order, Procedure.numbers}
+use Rattle.{mus_units.specs.{declared.glyph.Glyph.Glyph, declared.glyph.Size.Size, declared.glyph.Way.Way}, glyph_paths.specs.{Names.glyph_name, Names.glyphs_in_order, Procedure.numbers}}
 
 pub small_low : (z : ℤ) → is_small z ≡ true → negsuc 2147483647 ≤ℤ z
 unfolding is_small

@@ -1,7 +1,6 @@
 -- What is left to be taken from the front of a line.
 use Rattle.std.{proofs.{Common.{◌≡◌, ℕ, ℤ, List, [], ◌∷◌, ◌++◌, refl, sym, ◌∙◌, append_assoc, append-nil, IsTrue}, lemmas.Bool.and_parts}, specs.{Fmt.signed_decimal, List.{flat_map, list_all, AllByRecursion}}}
-use Rattle.glyph_paths.specs.Procedure.{numbers}
-use Rattle.ps_text.specs.{Fields.shown, Range.is_shown, Range.IsNumber, Scanning.ReadsNumber}
+use Rattle.{glyph_paths.specs.Procedure.{numbers}, ps_text.specs.{Fields.shown, Range.is_shown, Range.IsNumber, Scanning.ReadsNumber}}
 
 -- some words were taken, and the others stand before a closing parenthesis
 pub record WordsLeft (text rest words tail : List ℕ) : Type 0 where

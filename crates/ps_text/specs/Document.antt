@@ -1,7 +1,6 @@
 -- The text of items, pages and documents, each line ended by an LF.
 use Rattle.std.specs.{Prelude.{◌≡◌, ℕ, ℤ, pos, ◌+◌, ◌+ℤ◌, List, [], ◌∷◌, ◌++◌, length, codes, decimal}, List.flat_map}
-use Rattle.mus_units.specs.declared.glyph.Size.{Size}
-use Rattle.glyph_paths.specs.{Characters.line_end, Characters.space, Procedure.numbers}
+use Rattle.{mus_units.specs.declared.glyph.Size.{Size}, glyph_paths.specs.{Characters.line_end, Characters.space, Procedure.numbers}}
 use Rattle.ps_text.specs.{Fields.in_parentheses, Line.mark_line, Names.size_name, Prolog.prolog, Range.IsSheet, declared.marks.PageMark.PageMark, declared.sheet.Staff.Staff, declared.sheet.Item.Item, declared.sheet.Page.Page, declared.sheet.Sheet.Sheet}
 
 -- the text of a numbered thing for each of a list, the first with the number k

@@ -1,7 +1,6 @@
 -- The line that spells a mark on a staff at y, without the LF that ends it.
 use Rattle.std.specs.Prelude.{ℕ, ℤ, pos, ◌+ℤ◌, ◌-ℤ◌, int_div, List, [], ◌∷◌, ◌++◌, codes}
-use Rattle.mus_units.specs.{declared.glyph.Glyph.Glyph, declared.glyph.Size.Size, declared.glyph.Way.Way}
-use Rattle.glyph_paths.specs.{Names.glyph_name, Procedure.numbers}
+use Rattle.{mus_units.specs.{declared.glyph.Glyph.Glyph, declared.glyph.Size.Size, declared.glyph.Way.Way}, glyph_paths.specs.{Names.glyph_name, Procedure.numbers}}
 use Rattle.ps_text.specs.{Fields.in_parentheses, Names.size_name, Names.way_name, declared.writing.Ends.Ends, declared.marks.PageMark.PageMark}
 
 unfoldable pub glyph_line : Glyph → ℤ → ℤ → ℤ → ℤ → List ℕ

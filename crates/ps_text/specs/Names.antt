@@ -1,6 +1,5 @@
 -- The names of the procedures that show words and fill beams.
-use Rattle.std.specs.Prelude.{ℕ, List, codes}
-use Rattle.mus_units.specs.{declared.glyph.Size.Size, declared.glyph.Way.Way}
+use Rattle.{std.specs.Prelude.{ℕ, List, codes}, mus_units.specs.{declared.glyph.Size.Size, declared.glyph.Way.Way}}
 
 abbrev pub size_name : Size → List ℕ
 size_name Size.Small = codes "t1"

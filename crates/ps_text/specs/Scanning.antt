@@ -1,7 +1,6 @@
 -- What the reader of a line takes from its front.
 use Rattle.std.specs.{Prelude.{◌≡◌, ℕ, ℤ, ◌/◌, ◌%◌, ◌≤◌, ◌<◌, ◌==◌, Bool, not, List, ◌∷◌, ◌++◌}, Fmt.signed_decimal}
-use Rattle.glyph_paths.specs.Characters.{digit, space}
-use Rattle.ps_text.specs.Range.{IsNumber}
+use Rattle.{glyph_paths.specs.Characters.{digit, space}, ps_text.specs.Range.{IsNumber}}
 
 -- a byte that is no space
 abbrev pub is_field : ℕ → Bool

@@ -1,6 +1,5 @@
 ghost use Rattle.std.specs.{Prelude.{◌≡◌, ℕ, ℤ, ◌<◌, ◌≤◌, ◌++◌, List, Some, None, IfOk, IfSome, IsNone, IsSomeAnd, length, true}, Fmt.signed_decimal, List.{AllByRecursion, prefix_len, list_all}};
-ghost use Rattle.glyph_paths.specs.Procedure.{numbers};
-ghost use Rattle.ps_text.specs.{Range.IsNumber, Scanning.is_field, Scanning.ReadsNumber};
+ghost use Rattle.{glyph_paths.specs.Procedure.{numbers}, ps_text.specs.{Range.IsNumber, Scanning.is_field, Scanning.ReadsNumber}};
 
 use mus_units::{Memory, Row};
 use std::alloc::Global;

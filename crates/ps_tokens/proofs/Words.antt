@@ -1,7 +1,6 @@
 -- How the reading of a string goes on, and how it ends.
 use Rattle.std.{proofs.{Common.{◌≡◌, ℕ, List, [], ◌∷◌, ◌++◌, append_assoc, append-nil, true, refl, sym, ◌∙◌, ap, IsTrue}, lemmas.{List.{flat_map_more, Folds.list_all-append}, Bool.and_parts}}, specs.List.{flat_map, list_all}}
-use Rattle.ps_text.specs.{Fields.shown, Range.is_shown}
-use Rattle.ps_steps.specs.Tokens.{IsString, IsOpen}
+use Rattle.{ps_text.specs.{Fields.shown, Range.is_shown}, ps_steps.specs.Tokens.{IsString, IsOpen}}
 use Rattle.ps_tokens.{specs.Spelling.IsCut, specs.Spelling.IsBroken, proofs.Strings.one_byte, proofs.Strings.not_close}
 
 -- words were read, and the rest is left

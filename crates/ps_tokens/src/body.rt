@@ -1,8 +1,7 @@
 //! Procedures and whole tokens.
 
 ghost use Rattle.std.specs.Prelude.{◌≡◌, ◌≤◌, length, false, IfOk};
-ghost use Rattle.ps_steps.specs.Tokens.{begins, is_skipped};
-ghost use Rattle.ps_tokens.specs.Reading.{IsBodyRead, IsTokenRead};
+ghost use Rattle.{ps_steps.specs.Tokens.{begins, is_skipped}, ps_tokens.specs.Reading.{IsBodyRead, IsTokenRead}};
 
 use crate::front::{Read, front};
 use crate::scan::skip;

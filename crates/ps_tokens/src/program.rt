@@ -1,8 +1,7 @@
 //! All tokens of a text.
 
 ghost use Rattle.std.specs.Prelude.{◌≡◌, false, IfOk};
-ghost use Rattle.ps_steps.specs.Tokens.{passed};
-ghost use Rattle.ps_tokens.specs.Programs.{IsRead};
+ghost use Rattle.{ps_steps.specs.Tokens.{passed}, ps_tokens.specs.Programs.{IsRead}};
 
 use crate::body::{TokenRead, token};
 use crate::scan::skip;

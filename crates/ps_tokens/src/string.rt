@@ -1,8 +1,7 @@
 //! Strings, as words are spelled in parentheses.
 
 ghost use Rattle.std.specs.Prelude.{◌≡◌, ◌∷◌, ◌≤◌, true, false, IfOk};
-ghost use Rattle.ps_text.specs.Fields.{is_special};
-ghost use Rattle.ps_steps.specs.Tokens.{Front};
+ghost use Rattle.{ps_text.specs.Fields.{is_special}, ps_steps.specs.Tokens.{Front}};
 ghost use Rattle.ps_tokens.specs.{Reading.read_of, Spelling.IsSpelling, Spelling.is_bare, Spelling.is_lead, Spelling.is_octal};
 
 use crate::front::Read;

@@ -1,8 +1,6 @@
 -- What a step of a writer, or a whole document, gave to a sink.
 use Rattle.std.specs.{Prelude.{◌≡◌, ℕ, ◌+◌, ◌^◌, ◌<◌, ◌≤◌, length, take, List, ◌++◌, Option, Result, Ok, Err, ⊤}, Io.KnownBytes.Appends}
-use Rattle.eng_io.specs.Causes.{Rose}
-use Rattle.ps_text.specs.Document.{heading_text}
-use Rattle.ps_write.specs.{declared.steps.DocError.DocError, declared.steps.DocWriter.DocWriter}
+use Rattle.{eng_io.specs.Causes.{Rose}, ps_text.specs.Document.{heading_text}, ps_write.specs.{declared.steps.DocError.DocError, declared.steps.DocWriter.DocWriter}}
 
 -- exactly the first bytes that the error counts went out, or, for want of memory, a front of the text
 abbrev pub WroteFront : Option (List ℕ) → Option (List ℕ) → List ℕ → DocError → Type 0

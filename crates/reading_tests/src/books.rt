@@ -1,5 +1,4 @@
-ghost use Rattle.std.specs.Prelude.{IfOk};
-ghost use Rattle.abc_lines.specs.Good.{IsGoodBook, IsGoodLine};
+ghost use Rattle.{std.specs.Prelude.{IfOk}, abc_lines.specs.Good.{IsGoodBook, IsGoodLine}};
 
 use abc_lines::{Book, Line, LineKind, cut_book, field_text, kind_of};
 use case_texts::{Report, within_limit};

@@ -1,5 +1,4 @@
-ghost use Rattle.std.specs.Prelude.{All};
-ghost use Rattle.mus_score.specs.{Good.IsGoodBody, GoodScore.IsGoodScore};
+ghost use Rattle.{std.specs.Prelude.{All}, mus_score.specs.{Good.IsGoodBody, GoodScore.IsGoodScore}};
 
 use case_texts::{Report, number_of, put_head, put_key};
 use mus_keys::keys_of;

@@ -1,10 +1,7 @@
 -- The lines of a body give one list of items and faults.
 use Rattle.std.{proofs.{Common.{◌≡◌, ◌∙◌, refl, sym, ap, subst, ◌≤◌, List, [], ◌∷◌, ◌++◌, take, drop, Option, Some, arith, append_assoc, ⊎_elim}, lemmas.{Bool.cases_lt, List.{take-append-drop, take-take}}}, specs.Prelude.flat_map}
-use Rattle.abc_lines.specs.{declared.{book.Line.Line, fault.Fault.Fault, kind.LineKind.LineKind}, Kinds.kind_of}
-use Rattle.abc_tokens.specs.declared.token.Placed.{Placed}
-use Rattle.abc_fields.specs.declared.directive.Breaks.{Breaks}
-use Rattle.abc_header.specs.declared.header.Header.{Header}
-use Rattle.abc_steps.specs.declared.step.Item.{Item}
+use Rattle.{abc_lines.specs.{declared.{book.Line.Line, fault.Fault.Fault, kind.LineKind.LineKind}, Kinds.kind_of}, abc_tokens.specs.declared.token.Placed.{Placed}}
+use Rattle.{abc_fields.specs.declared.directive.Breaks.{Breaks}, abc_header.specs.declared.header.Header.{Header}, abc_steps.specs.declared.step.Item.{Item}}
 use Rattle.abc_items.{specs.{Body.{Given, placed_given, end_given, MusicGives, KindGives, LineGives, BodyGives, no_lines, one_line, judged, first_fault, items_in, IsBody, HasFault}, Voices.declared_ids}, proofs.Laws.stays}
 use Rattle.set_book.proofs.LineFaults.{one_front_of}
 

@@ -1,10 +1,7 @@
 -- A score that has no layout has one reason, and a score that is laid out has none.
 use Rattle.std.proofs.Common.{◌≡◌, subst, ℕ, Bool, List, Option, arith}
-use Rattle.mus_score.specs.declared.score.Score.{Score}
-use Rattle.lay_breaks.specs.{declared.costs.Span.Span, Breaking.{IsReached, NoneLegal}, Spans.listed}
-use Rattle.lay_tune.specs.{Layout.IsNoWay, Spans.is_forced_in}
-use Rattle.set_tune.specs.{declared.tune.SetTune.SetTune, Setting.IsLaidOut}
-use Rattle.set_book.proofs.Spanned.{one_list}
+use Rattle.{mus_score.specs.declared.score.Score.{Score}, lay_breaks.specs.{declared.costs.Span.Span, Breaking.{IsReached, NoneLegal}, Spans.listed}}
+use Rattle.{lay_tune.specs.{Layout.IsNoWay, Spans.is_forced_in}, set_tune.specs.{declared.tune.SetTune.SetTune, Setting.IsLaidOut}, set_book.proofs.Spanned.{one_list}}
 
 pub one_reached : (cost : ℕ → ℕ → Option ℕ) (forced : ℕ → Bool) (n i j : ℕ) → IsReached cost forced n i → IsReached cost forced n j → i ≡ j
 one_reached cost forced n i j a b =

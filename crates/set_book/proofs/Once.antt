@@ -1,17 +1,11 @@
 -- A tune has one outcome.
 use Rattle.std.{proofs.{Common.{◌≡◌, ◌∙◌, refl, sym, ap, subst, ℕ, zero, suc, ℤ, pos, negsuc, List, [], ◌∷◌, Bool, Option, Some, None, Result, Ok, Err, inl, inr}, lemmas.Option.same_Some}, specs.Prelude.MatchOption}
-use Rattle.abc_lines.specs.declared.{book.{Line.Line, TuneText.TuneText}, fault.{Fault.Fault, FaultKind.FaultKind, TuneError.TuneError}}
-use Rattle.mus_units.specs.declared.key.Key.{Key}
-use Rattle.mus_transpose.specs.Moved.{CanMove, IsMoved, moved_score}
-use Rattle.abc_header.specs.{declared.{defaults.Defaults.Defaults, header.Header.Header}, Papers.{height_of, width_of}}
-use Rattle.abc_score.specs.Build.{IsFaultOf, IsScoreOf}
-use Rattle.mus_score.specs.{declared.score.Score.Score, GoodScore.IsGoodScore}
-use Rattle.lay_shared.{specs.{Alike.DoShare, Drawn.drawn_of, Plans.ids_of}, proofs.PlanLaws.{apart_ids, one_plan}}
-use Rattle.lay_breaks.specs.declared.{costs.Span.Span, breaking.Breaking.Breaking}
-use Rattle.lay_pages.specs.{declared.{stacking.Heights.Heights, titles.TitleBlock.TitleBlock}, Filling.first_tall, Titles.title_block_of}
-use Rattle.lay_springs.specs.declared.margin.Placed.{Placed}
-use Rattle.mus_laid.specs.declared.laid.SystemMarks.{SystemMarks}
-use Rattle.lay_tune.{specs.Layout.IsNoWay, proofs.Called.{has_system, one_system}}
+use Rattle.{abc_lines.specs.declared.{book.{Line.Line, TuneText.TuneText}, fault.{Fault.Fault, FaultKind.FaultKind, TuneError.TuneError}}, mus_units.specs.declared.key.Key.{Key}}
+use Rattle.{mus_transpose.specs.Moved.{CanMove, IsMoved, moved_score}, abc_header.specs.{declared.{defaults.Defaults.Defaults, header.Header.Header}, Papers.{height_of, width_of}}}
+use Rattle.{abc_score.specs.Build.{IsFaultOf, IsScoreOf}, mus_score.specs.{declared.score.Score.Score, GoodScore.IsGoodScore}}
+use Rattle.{lay_shared.{specs.{Alike.DoShare, Drawn.drawn_of, Plans.ids_of}, proofs.PlanLaws.{apart_ids, one_plan}}, lay_breaks.specs.declared.{costs.Span.Span, breaking.Breaking.Breaking}}
+use Rattle.{lay_pages.specs.{declared.{stacking.Heights.Heights, titles.TitleBlock.TitleBlock}, Filling.first_tall, Titles.title_block_of}, lay_springs.specs.declared.margin.Placed.{Placed}}
+use Rattle.{mus_laid.specs.declared.laid.SystemMarks.{SystemMarks}, lay_tune.{specs.Layout.IsNoWay, proofs.Called.{has_system, one_system}}}
 use Rattle.set_tune.{specs.{Setting.{CantDraw, CantMove, HasHeader, HasScore, IsDrawn, IsLaidTune, IsSetTune, IsWritten, layout_fault, IsFaultOfTune, IsMovedRefusal, of_header, of_score, of_share, of_move, no_way, too_tall}, Terms.{Manner, Terms}, declared.tune.SetTune.SetTune, Blocks.blocks_of}, proofs.Laid.same_Ok}
 use Rattle.set_book.{specs.{declared.outcome.Outcome.Outcome, Outcomes.{IsResult, IsOutcome, AreOutcomes}, Once.{HaveOneOutcome, IsOneSystem}}, proofs.{Scores.{one_header, one_score, one_score_fault, no_score_fault}, Layouts.one_layout, Faults.{one_way, no_way_laid}}}
 

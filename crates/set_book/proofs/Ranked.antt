@@ -1,12 +1,9 @@
 -- There is one first of the faults of a score: of their kinds each has a rank of its own.
 use Rattle.std.{proofs.{Common.{◌≡◌, ◌∙◌, refl, sym, ap, subst, ℕ, ◌+◌, ◌<◌, List, [], ◌∷◌, ◌++◌, get_or, Bool, true, false, cond, None, arith}, lemmas.{List.Elements.{All-from_recursion, All-contains}, Bool.Decides.nat_tests}}, specs.{Prelude.{◌-◌, ◌&&◌, not, nat_le, nat_lt, is_none, flat_map}, List.{AllByRecursion, Contains}}}
-use Rattle.abc_lines.specs.declared.fault.{Fault.Fault, FaultKind.FaultKind}
-use Rattle.abc_header.specs.declared.header.Header.{Header}
-use Rattle.mus_units.specs.{declared.pitch.Clef.Clef, Parts.parts_list}
+use Rattle.{abc_lines.specs.declared.fault.{Fault.Fault, FaultKind.FaultKind}, abc_header.specs.declared.header.Header.{Header}, mus_units.specs.{declared.pitch.Clef.Clef, Parts.parts_list}}
 use Rattle.abc_steps.specs.{declared.{force.InForce.InForce, place.Place.Place, step.{Item.Item, Sound.Sound, Step.Step, Stood.Stood}, tuplets.Taking.Taking}, Lengths.written_length, Looks.{Steps, since_event, has_left, has_right}, Places.{place_at, measure_of}, Tuplets.{fits, or_default}}
 use Rattle.abc_faults.specs.{Faults.{fault_at, fault_if, misfit_of, sounds_behind, any_off, any_grace_off, is_past, is_free, grace_faults_of, grace_faults, sound_faults, rest_faults, faults_of, faults_in}, declared.weights.Weight.Weight, First.{rank_of, then_below, is_before, IsLeast, IsFirst}, Weights.{crowd_fault, crowd_faults_at, crowd_up_to, crowded}}
-use Rattle.abc_words.specs.{declared.verses.Verse.Verse, Verses.{fault_in, faults_from, verse_faults, verses_of, number_on, too_many}}
-use Rattle.abc_items.specs.Voices.{unnamed_of}
+use Rattle.{abc_words.specs.{declared.verses.Verse.Verse, Verses.{fault_in, faults_from, verse_faults, verses_of, number_on, too_many}}, abc_items.specs.Voices.{unnamed_of}}
 use Rattle.abc_score.{specs.{declared.voices.VoiceRead.VoiceRead, Voices.voices_read, Faults.{voice_faults, voice_weights, faults_of_voices, score_faults}}, proofs.Basics.all_both}
 
 -- ---- the kind of a rank

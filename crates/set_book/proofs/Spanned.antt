@@ -1,7 +1,6 @@
 -- A score has one list of the spans that fit a width.
 use Rattle.std.proofs.{Common.{◌≡◌, ◌∙◌, ℕ, ◌<◌, ◌≤◌, ◌⊎◌, inl, inr, Bool, true, false, if◌then◌else◌, List, [], ◌∷◌, Option, Some, None, refl, sym, ap, subst, arith}, lemmas.Option.{none-some, same_Some}}
-use Rattle.mus_score.specs.declared.score.Score.{Score}
-use Rattle.lay_breaks.specs.{declared.costs.Span.Span, Spans.{AreSpans, IsNext, SpansFrom, ends_are, has_ends, has_these, listed}}
+use Rattle.{mus_score.specs.declared.score.Score.{Score}, lay_breaks.specs.{declared.costs.Span.Span, Spans.{AreSpans, IsNext, SpansFrom, ends_are, has_ends, has_these, listed}}}
 use Rattle.lay_tune.{specs.Spans.AreSpansOf, proofs.{Breakings.{cost_can_be, one_cost}, Called.has_system, Open.some_of}}
 
 -- ---- a list in order has a span once

@@ -1,11 +1,8 @@
 -- A tune has one outcome: what it is set as, or its fault, follows from the tune and its terms, and from nothing of how it was set. So a
 -- book has one list of outcomes, however many jobs set it.
 use Rattle.std.specs.Prelude.{◌≡◌, ℕ, List}
-use Rattle.abc_lines.specs.declared.{book.TuneText.TuneText, fault.{Fault.Fault, TuneError.TuneError}}
-use Rattle.abc_header.specs.declared.{defaults.Defaults.Defaults, header.Header.Header}
-use Rattle.mus_score.specs.declared.score.Score.{Score}
-use Rattle.mus_laid.specs.declared.laid.SystemMarks.{SystemMarks}
-use Rattle.lay_tune.specs.Spans.{IsSystem}
+use Rattle.{abc_lines.specs.declared.{book.TuneText.TuneText, fault.{Fault.Fault, TuneError.TuneError}}, abc_header.specs.declared.{defaults.Defaults.Defaults, header.Header.Header}}
+use Rattle.{mus_score.specs.declared.score.Score.{Score}, mus_laid.specs.declared.laid.SystemMarks.{SystemMarks}, lay_tune.specs.Spans.{IsSystem}}
 use Rattle.set_tune.specs.{Terms.{Manner, Terms}, declared.tune.SetTune.SetTune, Setting.{HasScore, IsFaultOfTune, IsMovedRefusal, IsSetTune}}
 use Rattle.set_book.specs.{declared.outcome.Outcome.Outcome, Outcomes.AreOutcomes}
 

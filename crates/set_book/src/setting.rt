@@ -1,8 +1,6 @@
 ghost use Rattle.std.specs.{Prelude.{◌≡◌, ◌≤◌, IfOk, All}, Thread.IsSync};
-ghost use Rattle.abc_lines.specs.Good.{IsGoodBook, IsGoodTune};
-ghost use Rattle.abc_header.specs.{Defaults.defaults_of, Good.IsGoodDefaults, Papers.IsGoodPaper};
-ghost use Rattle.set_book.specs.{Once.HaveOneOutcome, Outcomes.{AreOutcomes, IsOutcome}};
-ghost use Rattle.set_tune.specs.Terms.{terms_of};
+ghost use Rattle.{abc_lines.specs.Good.{IsGoodBook, IsGoodTune}, abc_header.specs.{Defaults.defaults_of, Good.IsGoodDefaults, Papers.IsGoodPaper}};
+ghost use Rattle.{set_book.specs.{Once.HaveOneOutcome, Outcomes.{AreOutcomes, IsOutcome}}, set_tune.specs.Terms.{terms_of}};
 
 use crate::gate::Gate;
 use crate::outcome::Outcome;

@@ -1,12 +1,9 @@
 -- What comes of tunes can be listed, and its listing tells the tunes that are set.
 use Rattle.std.{proofs.{Common.{◌≡◌, ◌∙◌, sym, ℕ, ◌<◌, ◌≤◌, ◌^◌, Bool, true, List, [], ◌∷◌, Option, Some, None, Result, Ok, Err, arith, refl}, lemmas.List.Elements.{All-cons, All-nil}}, specs.List.{All, cons_option, slice_index_or}}
-use Rattle.abc_lines.specs.declared.{book.TuneText.TuneText, fault.Fault.Fault}
-use Rattle.abc_header.specs.Papers.{width_of}
-use Rattle.mus_score.specs.declared.score.Score.{Score}
+use Rattle.{abc_lines.specs.declared.{book.TuneText.TuneText, fault.Fault.Fault}, abc_header.specs.Papers.{width_of}, mus_score.specs.declared.score.Score.{Score}}
 use Rattle.lay_breaks.specs.{declared.costs.Span.Span, Breaking.{IsLegal, IsPotential}, Spans.{AreSpans, listed}}
 use Rattle.lay_tune.{specs.{Spans.{AreSpansOf, is_forced_in}, Systems.IsSetSystem}, proofs.Rows.span_count}
-use Rattle.lay_cert.{specs.Listing.{EntriesFrom, IsEntry, none_forced}, proofs.Unforced.forced_by_spans}
-use Rattle.set_tune.specs.{Terms.Terms, declared.tune.SetTune.SetTune, Setting.IsSetTune}
+use Rattle.{lay_cert.{specs.Listing.{EntriesFrom, IsEntry, none_forced}, proofs.Unforced.forced_by_spans}, set_tune.specs.{Terms.Terms, declared.tune.SetTune.SetTune, Setting.IsSetTune}}
 use Rattle.set_book.{proofs.Spanned.listed_within, specs.{declared.outcome.Outcome.Outcome, Outcomes.{AreOutcomes, IsResult}}}
 use Rattle.set_lists.specs.{Laws.{ListsTheSet, OrdinalsRise, OutcomesAreListable}, Listing.{CanBeListed, IsListable, entries_of, entry_of, result_entry}}
 

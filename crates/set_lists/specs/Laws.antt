@@ -1,14 +1,10 @@
 -- The laws of the listing of a book.
 use Rattle.std.specs.Prelude.{◌≡◌, ℕ, ◌<◌, ◌≤◌, ◌^◌, ◌↔◌, ⊤, All, List, [], ◌∷◌, length, Result, Ok, Err}
 use Rattle.abc_lines.specs.{declared.{book.TuneText.TuneText, fault.{Fault.Fault, FaultKind.FaultKind}}, Books.book_of}
-use Rattle.abc_header.specs.{declared.{header.Header.Header, paper.Paper.Paper}, Papers.width_of}
-use Rattle.mus_score.specs.declared.score.Score.{Score}
-use Rattle.lay_breaks.specs.{declared.costs.Span.Span, Breaking.IsLegal, Spans.{AreSpans, listed}}
-use Rattle.lay_tune.specs.{Breakings.IsLegalIn, Spans.AreSpansOf}
-use Rattle.lay_cert.specs.Listing.{IsListing, none_forced}
-use Rattle.set_tune.specs.{Terms.Terms, declared.tune.SetTune.SetTune, Setting.{HasScore, layout_fault}}
-use Rattle.set_book.specs.{declared.outcome.Outcome.Outcome, Outcomes.{AreOutcomes, IsOutcome}}
-use Rattle.set_lists.specs.Listing.{AreListable, entries_of, listing_text}
+use Rattle.{abc_header.specs.{declared.{header.Header.Header, paper.Paper.Paper}, Papers.width_of}, mus_score.specs.declared.score.Score.{Score}}
+use Rattle.{lay_breaks.specs.{declared.costs.Span.Span, Breaking.IsLegal, Spans.{AreSpans, listed}}, lay_tune.specs.{Breakings.IsLegalIn, Spans.AreSpansOf}}
+use Rattle.{lay_cert.specs.Listing.{IsListing, none_forced}, set_tune.specs.{Terms.Terms, declared.tune.SetTune.SetTune, Setting.{HasScore, layout_fault}}}
+use Rattle.{set_book.specs.{declared.outcome.Outcome.Outcome, Outcomes.{AreOutcomes, IsOutcome}}, set_lists.specs.Listing.{AreListable, entries_of, listing_text}}
 
 -- the numbers of the tunes rise, the first past k, and have 32 bits
 abbrev pub OrdinalsRise : ℕ → List Outcome → Type 0

@@ -2,8 +2,7 @@
 use Rattle.std.{proofs.Common.{◌≡◌, refl, ap, ◌∙◌, ℕ, suc, Bool, true, false, not, List, [], ◌∷◌, ◌++◌, Option, None}, specs.Prelude.{⊤, ◌&&◌, nat_lt, Result, Ok, Err}}
 use Rattle.abc_lines.specs.declared.fault.Fault.{Fault}
 use Rattle.lay_pages.specs.{declared.{filling.Block.Block, stacking.Heights.Heights, titles.TitleRow.TitleRow}, Filling.{IsLoose, first_tall, group_height, height_of, tall_by, tall_from, with_kept}}
-use Rattle.set_tune.specs.{declared.tune.SetTune.SetTune, Blocks.{blocks_of, is_some_list, system_blocks, title_blocks}}
-use Rattle.set_book.specs.declared.outcome.Outcome.{Outcome}
+use Rattle.{set_tune.specs.{declared.tune.SetTune.SetTune, Blocks.{blocks_of, is_some_list, system_blocks, title_blocks}}, set_book.specs.declared.outcome.Outcome.{Outcome}}
 use Rattle.set_pages.specs.Drawings.{all_blocks, outcome_blocks, result_blocks}
 
 loose_height : (keep : Bool) (height others : ℕ) → keep ≡ false → with_kept keep height others ≡ height

@@ -2,8 +2,7 @@
 use Rattle.std.{proofs.{Common.{◌≡◌, refl, sym, ap, ◌∙◌, subst, inl, inr, ℕ, zero, suc, ◌+◌, Bool, true, false, cond, List, [], ◌∷◌, ◌++◌, length, take}, Math.Seq.{take-append_seam, drop-append_seam}, lemmas.List.{append-nil, append_assoc, Elements.{All-take, All-drop}}}, specs.Prelude.{◌||◌, ◌⊎◌, nat_le, nat_lt, All}}
 use Rattle.abc_header.specs.{declared.paper.Paper.Paper, Papers.{height_of, width_of}}
 use Rattle.lay_pages.specs.{declared.filling.{Block.Block, Place.Place, Spot.Spot}, Filling.{group_height, next_place, place_by, spots_from, spots_of, under}}
-use Rattle.ps_text.specs.declared.sheet.Page.{Page}
-use Rattle.set_book.specs.declared.outcome.Outcome.{Outcome}
+use Rattle.{ps_text.specs.declared.sheet.Page.{Page}, set_book.specs.declared.outcome.Outcome.{Outcome}}
 use Rattle.set_pages.{specs.{declared.{pages.Pages.Pages, plan.Plan.Plan, press.Press.Press}, Drawings.{Drawing, all_blocks, all_drawings, drawn}, Filling.{done_count, no_pages, restored, turned, with_drawing, with_drawings, with_items}, Press.{IsPressed, RisesBy, done_pages, next_spots}, Ready.{AreRising, AreRisingFrom, IsDrawn}, Sheet.{all_spots, pages_of, sheet_of}}, proofs.{Joined.{drawings_append, drawn_join, spots_append}, Turned.all_put, Zips.zip_length}}
 
 -- some pages are the first of all

@@ -2,8 +2,7 @@
 use Rattle.std.{proofs.{Common.{◌≡◌, refl, sym, ap, ◌∙◌, subst, ℕ, ◌+◌, List, [], ◌∷◌, ◌++◌, length, take, drop, Option, None}, lemmas.{Grind.flat_map-append, List.{Elements.All-append, length-append}}, Math.Seq.take-add}, specs.{Prelude.{◌||◌, nat_le, All}, List.AllZip}}
 use Rattle.abc_header.specs.{declared.paper.Paper.Paper, Papers.{height_of, width_of}}
 use Rattle.lay_pages.specs.{declared.filling.{Block.Block, Place.Place, Spot.Spot, Standing.Standing}, Filling.{AreGoodBlocks, IsLoose, behind_after, next_place, place_by, spot_at, spots_behind, spots_from, spots_of, standing_from, under}}
-use Rattle.ps_text.specs.declared.sheet.Page.{Page}
-use Rattle.set_book.specs.declared.outcome.Outcome.{Outcome}
+use Rattle.{ps_text.specs.declared.sheet.Page.{Page}, set_book.specs.declared.outcome.Outcome.{Outcome}}
 use Rattle.set_pages.{specs.{Filling.{no_pages, restored, with_drawing, with_drawings}, Press.{IsPressed, behind_by, next_behind, next_spots}, Ready.IsDrawn, declared.{pages.Pages.Pages, plan.Plan.Plan, press.Press.Press}, Drawings.{Drawing, all_blocks, all_drawings, outcome_blocks, outcome_drawings}, Sheet.{IsSetUnder, all_spots}}, proofs.{Fitting.{group_append, result_loose}, Restored.{all_same, gone_all}, Standing.good_append}}
 
 -- the place of a block doesn't hang on what stands behind its group

@@ -1,17 +1,11 @@
 -- What stands on the pages of a book is what a reader looks for: the tunes one after another, each with the systems of its breaking.
 use Rattle.std.{proofs.{Common.{◌≡◌, refl, sym, ap, ap₂, ◌∙◌, subst, ℕ, ◌+◌, ◌≤◌, ℤ, pos, ◌+ℤ◌, ◌-ℤ◌, ◌≤ℤ◌, Bool, true, false, cond, List, [], ◌∷◌, ◌++◌, length, take, drop, map, flat_map, Some, None, arith}, lemmas.{Int.ints, List.{append-nil, append_assoc, Elements.{All-cons, All-head, All-nil, All-tail}}}}, specs.{Prelude.{All, Result, Ok, Err, nat_lt}, List.AllZip}}
-use Rattle.abc_lines.specs.declared.fault.Fault.{Fault}
-use Rattle.abc_header.specs.{declared.paper.Paper.Paper, Papers.{IsGoodPaper, height_of, width_of}}
-use Rattle.mus_score.specs.declared.score.Score.{Score}
-use Rattle.mus_laid.specs.declared.laid.{StaffMarks.StaffMarks, SystemMarks.SystemMarks}
-use Rattle.lay_springs.specs.declared.margin.Placed.{Placed}
+use Rattle.{abc_lines.specs.declared.fault.Fault.{Fault}, abc_header.specs.{declared.paper.Paper.Paper, Papers.{IsGoodPaper, height_of, width_of}}, mus_score.specs.declared.score.Score.{Score}}
+use Rattle.{mus_laid.specs.declared.laid.{StaffMarks.StaffMarks, SystemMarks.SystemMarks}, lay_springs.specs.declared.margin.Placed.{Placed}}
 use Rattle.lay_pages.specs.{declared.{filling.{Block.Block, Spot.Spot}, stacking.Heights.Heights, titles.TitleRow.TitleRow}, Filling.AreWithin}
-use Rattle.lay_shown.specs.Ranks.{AreAnchored, AreRanked, staves_ranks}
-use Rattle.lay_tune.specs.Systems.{EachSpan, IsSetSystem, gaps_between}
-use Rattle.ps_text.specs.declared.sheet.{Item.Item, Page.Page, Staff.Staff}
-use Rattle.set_tune.specs.{declared.tune.SetTune.SetTune, Blocks.{blocks_of, system_blocks, title_blocks}}
-use Rattle.set_book.specs.declared.outcome.Outcome.{Outcome}
-use Rattle.set_staves.{specs.Marks.{staves_at, system_at}, proofs.Shown.{has_columns, shows_call}}
+use Rattle.{lay_shown.specs.Ranks.{AreAnchored, AreRanked, staves_ranks}, lay_tune.specs.Systems.{EachSpan, IsSetSystem, gaps_between}}
+use Rattle.{ps_text.specs.declared.sheet.{Item.Item, Page.Page, Staff.Staff}, set_tune.specs.{declared.tune.SetTune.SetTune, Blocks.{blocks_of, system_blocks, title_blocks}}}
+use Rattle.{set_book.specs.declared.outcome.Outcome.{Outcome}, set_staves.{specs.Marks.{staves_at, system_at}, proofs.Shown.{has_columns, shows_call}}}
 use Rattle.set_pages.{specs.{declared.pages.Pages.Pages, Drawings.{Drawing, all_blocks, all_drawings, drawings_from, drawn, outcome_blocks, outcome_drawings, result_blocks, result_drawings, row_at, system_contents, title_contents}, Filling.{no_pages, turned, with_drawing, with_drawings, with_items}, Clear.AreUnder, Read.{ShowSystems, ShowsOutcome, ShowsResult, ShowsRow, ShowsSystem, ShowsTune, begun, items_in}, Ready.AreRising, Sheet.{IsSetResult, IsSetUnder, pages_of}}, proofs.{Blocking.{columns_rise, result_laid}, Laying.{AreLaid, IsLaidSystem}, Readying.result_whole, Stacks.stacked_lie, Standing.result_count, Turned.{all_put, closed}}}
 
 -- ---- the items of all pages are those that the blocks draw

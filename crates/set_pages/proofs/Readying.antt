@@ -1,8 +1,7 @@
 -- What is set on a paper: a placement and good heights for each system of a tune, and no group that is higher than the page.
 use Rattle.std.{proofs.{Common.{◌≡◌, ◌∙◌, refl, sym, subst, ℕ, suc, ◌≤◌, Bool, true, false, if◌then◌else◌, List, [], ◌∷◌, length, None, arith}, lemmas.List.Elements.{All-cons, All-head, All-nil, All-tail, All-weaker}}, specs.Prelude.{All, Result, Ok, Err}}
 use Rattle.abc_lines.specs.{declared.{book.TuneText.TuneText, fault.Fault.Fault, reading.Reading.Reading}, Books.{begins_tune, book_of, tune_at, tunes_behind}, Lines.{readings, without_mark}}
-use Rattle.abc_header.specs.{declared.paper.Paper.Paper, Papers.{height_of, width_of}}
-use Rattle.lay_pages.specs.Filling.{first_tall}
+use Rattle.{abc_header.specs.{declared.paper.Paper.Paper, Papers.{height_of, width_of}}, lay_pages.specs.Filling.{first_tall}}
 use Rattle.lay_tune.{specs.Systems.{IsSetSystem, IsStack}, proofs.Rows.{beside_count, span_count}}
 use Rattle.set_tune.{specs.{Terms.Terms, declared.tune.SetTune.SetTune, Setting.IsLaidOut}, proofs.Laid.good_heights}
 use Rattle.set_book.specs.{declared.outcome.Outcome.Outcome, Outcomes.{AreOutcomes, IsOutcome, IsResult}}

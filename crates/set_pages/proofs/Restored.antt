@@ -1,7 +1,6 @@
 -- Pages are filled alike with those that were given up before them.
 use Rattle.std.{proofs.{Common.{◌≡◌, refl, sym, ap, ◌∙◌, ℕ, Bool, true, false, cond, List, [], ◌∷◌, length, arith}, lemmas.List.{append_assoc, length-append}}, specs.Prelude.nat_lt}
-use Rattle.lay_pages.specs.declared.filling.Spot.{Spot}
-use Rattle.ps_text.specs.declared.sheet.Page.{Page}
+use Rattle.{lay_pages.specs.declared.filling.Spot.{Spot}, ps_text.specs.declared.sheet.Page.{Page}}
 use Rattle.set_pages.specs.{declared.pages.Pages.Pages, Drawings.{Drawing, drawn}, Filling.{at_page, done_count, restored, turned, with_drawing, with_drawings, with_items}}
 
 -- they are as many

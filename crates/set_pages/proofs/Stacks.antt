@@ -1,12 +1,9 @@
 -- Staves under one another: each base lies between the top and the bottom of its system, and so do all marks.
 use Rattle.std.{proofs.{Common.{◌≡◌, refl, sym, ap, subst, ℕ, suc, ℤ, pos, ◌+ℤ◌, ◌-ℤ◌, ◌≤ℤ◌, List, [], ◌∷◌, map, length, arith}, lemmas.{Int.ints, List.Elements.{All-cons, All-nil}}}, specs.Prelude.All}
-use Rattle.mus_score.specs.declared.score.Score.{Score}
-use Rattle.mus_time.specs.{declared.keys.ColumnKey.ColumnKey, Onsets.timeline_of}
-use Rattle.mus_drawn.specs.declared.drawn.DrawnVoice.{DrawnVoice}
+use Rattle.{mus_score.specs.declared.score.Score.{Score}, mus_time.specs.{declared.keys.ColumnKey.ColumnKey, Onsets.timeline_of}, mus_drawn.specs.declared.drawn.DrawnVoice.{DrawnVoice}}
 use Rattle.mus_laid.specs.declared.laid.{StaffMarks.StaffMarks, SystemMarks.SystemMarks}
 use Rattle.mus_marks.{specs.{Staff.{CoversLines, staff_marks}, System.drawn_staves, Tilt.{IsTilted, tilted_staff, voice_tilted}}, proofs.Lines.covers}
-use Rattle.lay_pages.specs.Stacking.{AreGoodStaves, AreStacked}
-use Rattle.set_pages.specs.Clear.{AreUnder, LieBetween}
+use Rattle.{lay_pages.specs.Stacking.{AreGoodStaves, AreStacked}, set_pages.specs.Clear.{AreUnder, LieBetween}}
 
 -- the staves that are called for cover their lines
 staff_covers : (keys : List ColumnKey) (lengths : List ℕ) (a b : ℕ) (voices : List DrawnVoice) → CoversLines (staff_marks keys lengths a b voices)

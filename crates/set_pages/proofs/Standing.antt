@@ -1,11 +1,8 @@
 -- Blocks that fill pages: their pages rise by one at most, their tops lie on the page, and there is a drawing for each.
 use Rattle.std.{proofs.{Common.{◌≡◌, refl, ap, ◌∙◌, inl, inr, ℕ, suc, ◌+◌, ◌^◌, ◌≤◌, ℤ, pos, ◌-ℤ◌, ◌≤ℤ◌, Bool, List, [], ◌∷◌, ◌++◌, length, Option, Some, None, arith}, lemmas.{Int.ints, List.{length-append, Elements.{All-head, All-tail}}}}, specs.{Prelude.{◌⊎◌, All, Result, Ok, Err}, List.AllZip}}
-use Rattle.abc_lines.specs.declared.fault.Fault.{Fault}
-use Rattle.mus_laid.specs.declared.laid.SystemMarks.{SystemMarks}
-use Rattle.lay_springs.specs.declared.margin.Placed.{Placed}
+use Rattle.{abc_lines.specs.declared.fault.Fault.{Fault}, mus_laid.specs.declared.laid.SystemMarks.{SystemMarks}, lay_springs.specs.declared.margin.Placed.{Placed}}
 use Rattle.lay_pages.specs.{declared.{filling.{Block.Block, Spot.Spot}, stacking.Heights.Heights, titles.TitleRow.TitleRow}, Even.{AreStacked, ComeBehind, ComesBehind, same_page, next_page}, Filling.{AreGoodBlocks, AreWithin}}
-use Rattle.set_tune.specs.{declared.tune.SetTune.SetTune, Blocks.{blocks_of, is_some_list, system_blocks, title_blocks}}
-use Rattle.set_book.specs.declared.outcome.Outcome.{Outcome}
+use Rattle.{set_tune.specs.{declared.tune.SetTune.SetTune, Blocks.{blocks_of, is_some_list, system_blocks, title_blocks}}, set_book.specs.declared.outcome.Outcome.{Outcome}}
 use Rattle.set_staves.specs.Drawn.{IsTop}
 use Rattle.set_pages.specs.{Drawings.{Content, Drawing, all_blocks, all_drawings, drawings_from, result_blocks, result_drawings, system_contents, systems_of, title_contents}, Ready.{AreRising, AreRisingFrom, HasAllRows, IsReady, IsReadyOn, IsWhole, IsWholeResult}}
 

@@ -1,9 +1,7 @@
 -- One system more of a tune, and one outcome more of a book.
 use Rattle.std.{proofs.{Common.{◌≡◌, sym, ap, ◌∙◌, subst, ℕ, ◌+◌, ◌<◌, ◌≤◌, ℤ, map, List, [], ◌∷◌, ◌++◌, length, take, drop, get_or, Option, None, arith}, lemmas.List.{append_assoc, drop_more, length-drop, take_all, Elements.{All-map, All-more}, length-append}}, specs.{Prelude.{All, slice_index_or}, List.AllZip}}
-use Rattle.mus_laid.specs.declared.laid.SystemMarks.{SystemMarks}
-use Rattle.lay_springs.specs.declared.margin.Placed.{Placed}
-use Rattle.lay_pages.specs.declared.{filling.{Spot.Spot, Block.Block}, stacking.Heights.Heights, titles.TitleRow.TitleRow}
-use Rattle.ps_text.specs.{declared.sheet.Item.Item, Range.IsItem}
+use Rattle.{mus_laid.specs.declared.laid.SystemMarks.{SystemMarks}, lay_springs.specs.declared.margin.Placed.{Placed}}
+use Rattle.{lay_pages.specs.declared.{filling.{Spot.Spot, Block.Block}, stacking.Heights.Heights, titles.TitleRow.TitleRow}, ps_text.specs.{declared.sheet.Item.Item, Range.IsItem}}
 use Rattle.set_book.specs.declared.outcome.Outcome.{Outcome}
 use Rattle.set_pages.{specs.{declared.pages.Pages.Pages, Drawings.{all_blocks, all_drawings, drawing, drawings_from, outcome_blocks, outcome_drawings, row_at, system, system_contents}, Filling.with_drawings, Ready.{IsDrawn, IsReady, IsReadyAt}}, proofs.{Turned.with_more, Standing.{drawings_count, systems_count}, Zips.{zip_back, zip_front, zip_joined, zip_length}}}
 

@@ -1,7 +1,6 @@
 -- Pages that are filled one block after another are the pages of the sheet.
 use Rattle.std.{proofs.{Common.{◌≡◌, refl, sym, ap, ◌∙◌, subst, ⊎_elim, inl, ℕ, zero, suc, ◌+◌, ◌<◌, ◌≤◌, true, false, cond, List, [], ◌∷◌, ◌++◌, length, take, drop, arith}, lemmas.{List.{append-nil, append_assoc, length-append}, Bool.{Decides.nat_tests, eq-eqb, ne_eqb}}}, specs.{Prelude.{◌==◌, nat_lt}, List.AllZip}}
-use Rattle.lay_pages.specs.declared.filling.Spot.{Spot}
-use Rattle.ps_text.specs.declared.sheet.Page.{Page}
+use Rattle.{lay_pages.specs.declared.filling.Spot.{Spot}, ps_text.specs.declared.sheet.Page.{Page}}
 use Rattle.set_pages.specs.{declared.pages.Pages.Pages, Drawings.{Drawing, drawn}, Filling.{done_count, no_pages, turned, with_drawing, with_drawings, with_items}, Ready.{AreRising, AreRisingFrom}, Sheet.{items_on, page_count, pages_from, pages_of}}
 
 -- the pages when all is put: those that are done, and the one that is being filled

@@ -2,8 +2,7 @@
 use Rattle.std.{proofs.{Common.{◌≡◌, refl, sym, ap, ◌∙◌, subst, ℕ, ◌-◌, ◌*◌, ◌+◌, ◌^◌, ◌<◌, ◌≤◌, List, [], ◌∷◌, ◌++◌, length, take, drop, Bool, true, false, Some, None, arith}, lemmas.{List.{append-nil, append_assoc, length-append, take_all, Elements.All-nil}, Option.none-some, Bool.Decides.nat_tests}}, specs.{Prelude.{All, nat_lt}, List.AllZip}}
 use Rattle.abc_header.specs.{declared.paper.Paper.Paper, Papers.{IsGoodPaper, height_of, width_of}}
 use Rattle.lay_pages.{specs.{declared.filling.{Block.Block, Spot.Spot}, Even.AreStacked, Filling.{AreGoodBlocks, AreWithin, first_tall, spots_of}}, proofs.{Filled.filled_so, Fitting.{ready_first, within_from}, Pages.{filled_stacked, one_spots, within_count}}}
-use Rattle.ps_text.specs.{declared.sheet.{Frame.Frame, Page.Page, Sheet.Sheet}, Range.{IsFrame, IsPage}}
-use Rattle.set_book.specs.declared.outcome.Outcome.{Outcome}
+use Rattle.{ps_text.specs.{declared.sheet.{Frame.Frame, Page.Page, Sheet.Sheet}, Range.{IsFrame, IsPage}}, set_book.specs.declared.outcome.Outcome.{Outcome}}
 use Rattle.set_pages.{specs.{Press.{AreBlocksOn, AreLast, HasRoom, IsBookSheet, IsOpen, IsPressed, IsSheetOf, RisesBy, StandShown, behind_by, done_pages, next_behind, next_spots, no_press}, declared.{plan.Plan.Plan, pages.Pages.Pages, press.Press.Press}, Drawings.{Drawing, all_blocks, all_drawings}, Filling.{done_count, no_pages, restored, turned, with_drawings}, Ready.{AreRising, IsDrawn, IsReady, IsReadyOn}, Read.ShowsBook, Sheet.{AreStanding, IsEvenPlan, IsPlan, IsSetUnder, all_spots, frame_of, page_count, pages_of, points, sheet_of}}, proofs.{Fitting.all_fit, Fronts.{all_left, all_right, done_first, plan_rising}, Joined.{blocks_append, pressed_more}, Ordered.{all_begun, pages_good}, Blocking.all_ready, Reading.{page_items, parts_at, parts_whole, shows_tunes}, Readying.{all_whole, each_fits}, Standing.{all_count, ready_at, rising}, Turned.{all_put, closed}, Zips.zip_length, Laying.quotient_narrow}}
 
 -- no group of the book is too tall

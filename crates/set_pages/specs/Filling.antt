@@ -1,8 +1,6 @@
 -- Pages as they are filled, one block after another.
 use Rattle.std.specs.Prelude.{ℕ, ◌+◌, nat_lt, if◌then◌else◌, List, [], ◌∷◌, ◌++◌, length}
-use Rattle.lay_pages.specs.declared.filling.Spot.{Spot}
-use Rattle.ps_text.specs.declared.sheet.{Item.Item, Page.Page}
-use Rattle.set_pages.specs.{declared.pages.Pages.Pages, Drawings.{Drawing, drawn}}
+use Rattle.{lay_pages.specs.declared.filling.Spot.{Spot}, ps_text.specs.declared.sheet.{Item.Item, Page.Page}, set_pages.specs.{declared.pages.Pages.Pages, Drawings.{Drawing, drawn}}}
 
 abbrev pub no_pages : Pages
 no_pages = record { gone = 0; done = []; items = [] }

@@ -3,8 +3,7 @@ use Rattle.std.specs.{Prelude.{◌≡◌, ⊤, ℕ, ◌+◌, ◌-◌, ◌^◌, �
 use Rattle.abc_header.specs.{declared.paper.Paper.Paper, Papers.{height_of, width_of}}
 use Rattle.lay_pages.specs.{declared.filling.{Block.Block, Spot.Spot, Standing.Standing}, Filling.{AreGoodBlocks, AreWithin, CanFollow, behind_after, spots_behind}}
 use Rattle.set_pages.specs.{Sheet.{AreStanding, IsPlan, IsSetUnder, all_spots, sheet_of}, declared.{plan.Plan.Plan, press.Press.Press}, Drawings.{all_blocks, all_drawings}, Filling.{done_count, no_pages, restored, with_drawings}, Read.ShowsBook, Ready.{AreRising, IsDrawn}}
-use Rattle.ps_text.specs.{declared.sheet.{Page.Page, Sheet.Sheet}, Range.IsSheet}
-use Rattle.set_book.specs.declared.outcome.Outcome.{Outcome}
+use Rattle.{ps_text.specs.{declared.sheet.{Page.Page, Sheet.Sheet}, Range.IsSheet}, set_book.specs.declared.outcome.Outcome.{Outcome}}
 
 -- nothing was pressed yet
 abbrev pub no_press : Press

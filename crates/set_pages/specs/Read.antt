@@ -1,17 +1,9 @@
 -- What a reader finds on the pages of a book: its tunes one after another, and in each of their systems what the score calls for.
 use Rattle.std.specs.{Prelude.{◌≡◌, ⊤, ℕ, ℤ, pos, List, [], ◌∷◌, ◌++◌, All, map, flat_map, Result, Ok, Err}, List.AllZip}
-use Rattle.abc_lines.specs.declared.fault.Fault.{Fault}
-use Rattle.abc_header.specs.{declared.paper.Paper.Paper, Papers.{height_of, width_of}}
-use Rattle.mus_laid.specs.declared.laid.SystemMarks.{SystemMarks}
-use Rattle.lay_springs.specs.declared.margin.Placed.{Placed}
-use Rattle.lay_pages.specs.declared.titles.TitleRow.{TitleRow}
-use Rattle.lay_tune.specs.Systems.{gaps_between}
-use Rattle.lay_apart.specs.Apart.{AreApart}
-use Rattle.ps_text.specs.declared.sheet.{Item.Item, Page.Page, Sheet.Sheet, Staff.Staff}
-use Rattle.set_tune.specs.declared.tune.SetTune.{SetTune}
-use Rattle.set_book.specs.declared.outcome.Outcome.{Outcome}
-use Rattle.set_staves.specs.Marks.{HasColumns, ShowsCall}
-use Rattle.set_pages.specs.{Clear.AreUnder, Sheet.frame_of}
+use Rattle.{abc_lines.specs.declared.fault.Fault.{Fault}, abc_header.specs.{declared.paper.Paper.Paper, Papers.{height_of, width_of}}, mus_laid.specs.declared.laid.SystemMarks.{SystemMarks}}
+use Rattle.{lay_springs.specs.declared.margin.Placed.{Placed}, lay_pages.specs.declared.titles.TitleRow.{TitleRow}, lay_tune.specs.Systems.{gaps_between}, lay_apart.specs.Apart.{AreApart}}
+use Rattle.{ps_text.specs.declared.sheet.{Item.Item, Page.Page, Sheet.Sheet, Staff.Staff}, set_tune.specs.declared.tune.SetTune.{SetTune}, set_book.specs.declared.outcome.Outcome.{Outcome}}
+use Rattle.{set_staves.specs.Marks.{HasColumns, ShowsCall}, set_pages.specs.{Clear.AreUnder, Sheet.frame_of}}
 
 -- all that stands on the pages of a sheet, in order
 abbrev pub items_in : List Page → List Item

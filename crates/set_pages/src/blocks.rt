@@ -1,6 +1,5 @@
 ghost use Rattle.std.specs.Prelude.{◌≡◌, ◌++◌, All, IfOk, OnOk};
-ghost use Rattle.lay_pages.specs.Filling.{AreGoodBlocks};
-ghost use Rattle.set_pages.specs.{Drawings.{all_blocks, outcome_blocks}, Ready.IsWhole};
+ghost use Rattle.{lay_pages.specs.Filling.{AreGoodBlocks}, set_pages.specs.{Drawings.{all_blocks, outcome_blocks}, Ready.IsWhole}};
 
 use lay_pages::Block;
 use mus_units::{Memory, Row};

@@ -1,6 +1,5 @@
 ghost use Rattle.std.specs.Prelude.{◌≡◌, ◌≤◌, ◌++◌, All, IfSome, OnOk};
-ghost use Rattle.ps_text.specs.Range.{IsItem};
-ghost use Rattle.set_pages.specs.{Drawings.tune_items, Filling.{at_page, done_count, no_pages, turned, with_items}};
+ghost use Rattle.{ps_text.specs.Range.{IsItem}, set_pages.specs.{Drawings.tune_items, Filling.{at_page, done_count, no_pages, turned, with_items}}};
 
 use mus_units::{Memory, Row};
 use ps_text::{Item, Page};

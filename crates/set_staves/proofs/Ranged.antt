@@ -1,7 +1,6 @@
 -- A system that is drawn may stand on a page.
 use Rattle.std.proofs.{Common.{◌≡◌, ℕ, ◌^◌, ◌<◌, ◌≤◌, ℤ, pos, ◌+ℤ◌, List, [], ◌∷◌, length, All, sym, subst, arith}, lemmas.{Int.ints, List.Elements.All-head}}
-use Rattle.mus_laid.specs.declared.laid.StaffMarks.{StaffMarks}
-use Rattle.ps_text.specs.{Range.IsNumber, Range.IsStaff, Range.IsJoined, Range.IsSystem, declared.sheet.Staff.Staff}
+use Rattle.{mus_laid.specs.declared.laid.StaffMarks.{StaffMarks}, ps_text.specs.{Range.IsNumber, Range.IsStaff, Range.IsJoined, Range.IsSystem, declared.sheet.Staff.Staff}}
 use Rattle.set_staves.specs.{Drawn.IsBase, Marks.staves_at}
 
 -- the line that joins staves begins on the page

@@ -1,6 +1,5 @@
 ghost use Rattle.std.specs.Prelude.{◌≡◌, ◌+ℤ◌, All, IfOk, length};
-ghost use Rattle.ps_text.specs.Range.{IsStaff};
-ghost use Rattle.lay_shown.specs.{Ranks.AreRanked, Texts.HavePrinted};
+ghost use Rattle.{ps_text.specs.Range.{IsStaff}, lay_shown.specs.{Ranks.AreRanked, Texts.HavePrinted}};
 ghost use Rattle.set_staves.specs.{Drawn.IsBase, Drawn.IsOnPage, Drawn.IsWidth, Marks.RisesAlong, Marks.staff_at, Marks.staves_at};
 
 use crate::marks::place_marks;

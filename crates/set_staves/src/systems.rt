@@ -1,6 +1,5 @@
 ghost use Rattle.std.specs.Prelude.{◌≡◌, All, IfOk, length};
-ghost use Rattle.ps_text.specs.Range.{IsItem};
-ghost use Rattle.lay_shown.specs.Shown.{IsShown};
+ghost use Rattle.{ps_text.specs.Range.{IsItem}, lay_shown.specs.Shown.{IsShown}};
 ghost use Rattle.set_staves.specs.{Drawn.IsBase, Drawn.IsOnPage, Drawn.IsTop, Drawn.IsWidth, Marks.RisesAlong, Marks.ShowsCall, Marks.staves_of, Marks.system_at};
 
 use crate::staves::staves_for;

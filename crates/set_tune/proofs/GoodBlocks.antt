@@ -1,7 +1,6 @@
 -- The blocks of a tune have good heights.
 use Rattle.std.{proofs.{Common.{ℕ, ◌≤◌, ◌^◌, pos, ◌≤ℤ◌, Bool, List, [], ◌∷◌, ◌++◌, arith}, lemmas.{Int.ints, List.Elements.{All-head, All-tail}}}, specs.List.All}
-use Rattle.lay_pages.specs.{declared.{stacking.Heights.Heights, titles.TitleRow.TitleRow}, Filling.AreGoodBlocks}
-use Rattle.set_tune.specs.Blocks.{HasGoodHeight, block_height, system_blocks, title_blocks}
+use Rattle.{lay_pages.specs.{declared.{stacking.Heights.Heights, titles.TitleRow.TitleRow}, Filling.AreGoodBlocks}, set_tune.specs.Blocks.{HasGoodHeight, block_height, system_blocks, title_blocks}}
 
 good_systems : (heights : List Heights) → All HasGoodHeight heights → AreGoodBlocks (system_blocks heights)
 good_systems [] all = tt

@@ -3,15 +3,10 @@ use Rattle.std.{proofs.{Common.{◌≡◌, ℕ, ℤ, pos, negsuc, zero, suc, ◌
 use Rattle.abc_lines.specs.{declared.{book.{Line.Line, TuneText.TuneText}, fault.{Fault.Fault, FaultKind.FaultKind}}, Good.{IsGoodTune, size_of}}
 use Rattle.abc_fields.specs.{declared.field.Field.Field, Fields.field_of}
 use Rattle.abc_header.specs.{declared.{defaults.Defaults.Defaults, header.Header.Header}, Headers.{IsHeaderBy, IsHeaderOf, composer_in, fields_of, key_place, put_field, title_in}}
-use Rattle.abc_steps.specs.declared.step.Item.{Item}
-use Rattle.abc_score.specs.{declared.voices.VoiceRead.VoiceRead, Build.IsScoreOf, Score.score_with, Voices.voices_read}
-use Rattle.mus_units.specs.declared.key.Key.{Key}
-use Rattle.mus_transpose.specs.Moved.{IsMoved, move_from, voice_by}
-use Rattle.lay_shared.{specs.Plans.{IsPlanFor, ids_of}, proofs.{DrawnLaws.drawn_heard, PlanLaws.spelled-plan}}
-use Rattle.mus_score.specs.{declared.score.{Score.Score, Voice.Voice}, GoodScore.IsGoodScore}
-use Rattle.mus_laid.specs.declared.laid.SystemMarks.{SystemMarks}
-use Rattle.lay_breaks.specs.Breaking.{RisesFrom, last_from}
-use Rattle.lay_pages.specs.declared.{stacking.Heights.Heights, titles.TitleRow.TitleRow}
+use Rattle.{abc_steps.specs.declared.step.Item.{Item}, abc_score.specs.{declared.voices.VoiceRead.VoiceRead, Build.IsScoreOf, Score.score_with, Voices.voices_read}}
+use Rattle.{mus_units.specs.declared.key.Key.{Key}, mus_transpose.specs.Moved.{IsMoved, move_from, voice_by}}
+use Rattle.{lay_shared.{specs.Plans.{IsPlanFor, ids_of}, proofs.{DrawnLaws.drawn_heard, PlanLaws.spelled-plan}}, mus_score.specs.{declared.score.{Score.Score, Voice.Voice}, GoodScore.IsGoodScore}}
+use Rattle.{mus_laid.specs.declared.laid.SystemMarks.{SystemMarks}, lay_breaks.specs.Breaking.{RisesFrom, last_from}, lay_pages.specs.declared.{stacking.Heights.Heights, titles.TitleRow.TitleRow}}
 use Rattle.lay_tune.{specs.Systems.{Beside, IsSetSystem, IsStack}, proofs.Rows.{beside_count, span_count}}
 use Rattle.set_tune.specs.{declared.tune.SetTune.SetTune, Blocks.{HasGoodHeight, blocks_of, is_some_list, system_block, system_blocks, title_blocks}, Terms.Manner, Setting.{HasScore, IsDrawn, IsLaidOut}}
 

@@ -2,18 +2,11 @@
 use Rattle.std.specs.Prelude.{◌≡◌, ◌⊎◌, ⊤, ℕ, ◌+◌, ◌≤◌, ℤ, List, Bool, All, length, slice_index_or, Option, Some, None, Result, Ok, Err}
 use Rattle.abc_lines.specs.declared.{book.{Line.Line, TuneText.TuneText}, fault.{Fault.Fault, FaultKind.FaultKind, TuneError.TuneError}}
 use Rattle.abc_header.specs.{declared.{defaults.Defaults.Defaults, header.Header.Header}, Headers.{IsHeaderOf, first_line, header_fault}, Papers.{height_of, width_of}}
-use Rattle.abc_score.specs.Build.{IsFaultOf, IsScoreOf}
-use Rattle.mus_score.specs.{declared.score.Score.Score, GoodScore.IsGoodScore}
-use Rattle.mus_laid.specs.Boxes.{AreGoodMarks}
-use Rattle.lay_breaks.specs.{declared.costs.Span.Span, Breaking.{IsChosen, IsPotential, sum_from}, Spans.{AreSpans, listed}}
-use Rattle.lay_pages.specs.{Filling.first_tall, Titles.title_block_of}
+use Rattle.{abc_score.specs.Build.{IsFaultOf, IsScoreOf}, mus_score.specs.{declared.score.Score.Score, GoodScore.IsGoodScore}, mus_laid.specs.Boxes.{AreGoodMarks}}
+use Rattle.{lay_breaks.specs.{declared.costs.Span.Span, Breaking.{IsChosen, IsPotential, sum_from}, Spans.{AreSpans, listed}}, lay_pages.specs.{Filling.first_tall, Titles.title_block_of}}
 use Rattle.lay_tune.specs.{Breakings.IsLeastBreaking, Layout.IsNoWay, Spans.{AreSpansOf, is_forced_in}, Systems.{Beside, EachSpan, IsSetSystem, IsStack}}
-use Rattle.lay_shared.specs.{declared.plan.Plan.Plan, Alike.DoShare, Drawn.drawn_of, Plans.{Spells, ids_of}}
-use Rattle.mus_units.specs.declared.key.Key.{Key}
-use Rattle.mus_transpose.specs.Moved.{IsMoved}
-use Rattle.mus_drawn.specs.Sounds.{sounds_of}
-use Rattle.mus_moved.specs.Higher.{AreHigher}
-use Rattle.set_tune.specs.{Terms.{Manner, Terms}, declared.tune.SetTune.SetTune, Blocks.blocks_of}
+use Rattle.{lay_shared.specs.{declared.plan.Plan.Plan, Alike.DoShare, Drawn.drawn_of, Plans.{Spells, ids_of}}, mus_units.specs.declared.key.Key.{Key}, mus_transpose.specs.Moved.{IsMoved}}
+use Rattle.{mus_drawn.specs.Sounds.{sounds_of}, mus_moved.specs.Higher.{AreHigher}, set_tune.specs.{Terms.{Manner, Terms}, declared.tune.SetTune.SetTune, Blocks.blocks_of}}
 
 -- The header of the tune, which has no fault.
 pub record HasHeader (tune : TuneText) (defaults : Defaults) (header : Header) : Type 0 where

@@ -1,8 +1,6 @@
 -- Abscissas that rise all along rise in each beam, and are those of a system that has as many columns.
 use Rattle.std.proofs.Common.{◌≡◌, ◌∙◌, ◌<◌, ◌<ℤ◌, ◌+◌, ℕ, zero, suc, ℤ, pos, List, [], ◌∷◌, length, slice_index_or, ap, arith}
-use Rattle.mus_score.specs.declared.score.Score.{Score}
-use Rattle.mus_time.specs.{declared.times.Timeline.Timeline, Keys.called_keys}
-use Rattle.mus_laid.specs.declared.laid.SystemMarks.{SystemMarks}
+use Rattle.{mus_score.specs.declared.score.Score.{Score}, mus_time.specs.{declared.times.Timeline.Timeline, Keys.called_keys}, mus_laid.specs.declared.laid.SystemMarks.{SystemMarks}}
 use Rattle.mus_marks.{specs.{System.IsCall, Tilt.AreAbscissas}, proofs.OneList.same_keys}
 use Rattle.mus_stems.specs.{declared.{plans.StemPlan.StemPlan, slopes.Anchor.Anchor}, Slope.{anchor_of, anchors, ArePlaces, IsPlace, RisesAfter, RisesInBeams}}
 use Rattle.setting_tests.specs.Rising.{AreRising, RisesFrom}

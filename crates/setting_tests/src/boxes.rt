@@ -1,7 +1,6 @@
 //! The boxes of marks, and texts as they are printed.
 
-ghost use Rattle.std.specs.Prelude.{All};
-ghost use Rattle.mus_laid.specs.Boxes.{AreGoodMarks};
+ghost use Rattle.{std.specs.Prelude.{All}, mus_laid.specs.Boxes.{AreGoodMarks}};
 
 use crate::marks::put_laid;
 use case_texts::Report;

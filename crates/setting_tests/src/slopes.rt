@@ -1,9 +1,7 @@
 //! Beams that slope.
 
-ghost use Rattle.std.specs.Prelude.{IsTrue};
-ghost use Rattle.mus_score.specs.{Good.IsGoodBody, GoodScore.IsGoodScore, GoodScore.IsGoodVoice};
-ghost use Rattle.mus_stems.specs.{Plans.AllEndsNear, Slope.ArePlaces};
-ghost use Rattle.setting_tests.specs.Rising.{AreRising, RisesFrom};
+ghost use Rattle.{std.specs.Prelude.{IsTrue}, mus_score.specs.{Good.IsGoodBody, GoodScore.IsGoodScore, GoodScore.IsGoodVoice}};
+ghost use Rattle.{mus_stems.specs.{Plans.AllEndsNear, Slope.ArePlaces}, setting_tests.specs.Rising.{AreRising, RisesFrom}};
 
 use crate::marks::put_system;
 use crate::plans::{can_all_stand, put_plans};

@@ -1,6 +1,5 @@
 use Rattle.std.proofs.Common.{◌≡◌, ◌≤◌, ◌<◌, ◌+◌, ◌*◌, ℕ, None, length, reverse, take, slice_index_or}
-use Rattle.abc_steps.specs.Counts.{counts_of}
-use Rattle.abc_events.specs.Bars.{bars_at}
+use Rattle.{abc_steps.specs.Counts.{counts_of}, abc_events.specs.Bars.{bars_at}}
 use Rattle.abc_events.proofs.bars.all_bars.Given as goal
 
 abbrev pub invariant-loop-s : goal.invariant-loop-s

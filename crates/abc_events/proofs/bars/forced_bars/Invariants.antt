@@ -1,6 +1,5 @@
 use Rattle.std.proofs.Common.{◌≡◌, ◌≤◌, ◌*◌, reverse, take}
-use Rattle.abc_steps.specs.Counts.{counts_of}
-use Rattle.abc_events.specs.Bars.{forced_at}
+use Rattle.{abc_steps.specs.Counts.{counts_of}, abc_events.specs.Bars.{forced_at}}
 use Rattle.abc_events.proofs.bars.forced_bars.Given as goal
 
 abbrev pub invariant-loop-s : goal.invariant-loop-s

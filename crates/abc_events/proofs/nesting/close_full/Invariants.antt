@@ -1,5 +1,4 @@
-use Rattle.std.proofs.Common.{length}
-use Rattle.abc_events.specs.Nesting.{Puts}
+use Rattle.{std.proofs.Common.{length}, abc_events.specs.Nesting.{Puts}}
 use Rattle.abc_events.proofs.nesting.close_full.Given as goal
 
 abbrev pub invariant-loop-o : goal.invariant-loop-o

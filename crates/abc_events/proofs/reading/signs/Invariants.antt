@@ -1,6 +1,5 @@
 use Rattle.std.proofs.Common.{◌≡◌, ◌≤◌, ◌*◌, ◌++◌, [], reverse, take, drop}
-use Rattle.abc_steps.specs.{Good.IsGoodForce, Places.place_at}
-use Rattle.abc_events.specs.Signs.{signs}
+use Rattle.{abc_steps.specs.{Good.IsGoodForce, Places.place_at}, abc_events.specs.Signs.{signs}}
 use Rattle.abc_events.proofs.reading.signs.Given as goal
 
 abbrev pub invariant-loop-i : goal.invariant-loop-i

@@ -1,5 +1,4 @@
-use Rattle.std.proofs.Common.{sym, subst}
-use Rattle.abc_faults.{specs.declared.weights.Weight.Weight, specs.First.IsLeast, specs.Weights.crowded, proofs.Crowds.found_at, proofs.Crowds.none_found}
+use Rattle.{std.proofs.Common.{sym, subst}, abc_faults.{specs.declared.weights.Weight.Weight, specs.First.IsLeast, specs.Weights.crowded, proofs.Crowds.found_at, proofs.Crowds.none_found}}
 use Rattle.abc_faults.proofs.crowd.first_crowded.Goals as goal
 
 pub returns-then-w-left : goal.returns-then-w-left

@@ -1,5 +1,4 @@
-use Rattle.std.proofs.Common.{true, false}
-use Rattle.abc_faults.proofs.Firsts.{joined}
+use Rattle.{std.proofs.Common.{true, false}, abc_faults.proofs.Firsts.{joined}}
 use Rattle.abc_faults.proofs.first.earlier.Goals as goal
 
 pub returns-then-is_before-clause-joined : goal.returns-then-is_before-clause-joined

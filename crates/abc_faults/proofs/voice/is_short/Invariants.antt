@@ -1,6 +1,5 @@
 use Rattle.std.{proofs.Common.◌≡◌, proofs.Common.drop, specs.Prelude.nat_lt, specs.Prelude.count_by, specs.List.before_first}
-use Rattle.abc_steps.specs.Kinds.{is_sound}
-use Rattle.abc_faults.specs.Faults.{ends_tuplets}
+use Rattle.{abc_steps.specs.Kinds.{is_sound}, abc_faults.specs.Faults.{ends_tuplets}}
 use Rattle.abc_faults.proofs.voice.is_short.Given as goal
 
 abbrev pub invariant-loop-s : goal.invariant-loop-s

@@ -1,6 +1,4 @@
-use Rattle.std.proofs.Common.{subst, sym, IfSome}
-use Rattle.mus_units.specs.Good.{IsGoodMeter}
-use Rattle.abc_fields.proofs.GoodLaws.{meter_good}
+use Rattle.{std.proofs.Common.{subst, sym, IfSome}, mus_units.specs.Good.{IsGoodMeter}, abc_fields.proofs.GoodLaws.{meter_good}}
 use Rattle.abc_fields.proofs.meter.read_meter.Goals as goal
 
 pub returns-clause-good : goal.returns-clause-good

@@ -1,7 +1,5 @@
 use Rattle.std.{proofs.Common.◌≡◌, proofs.Common.drop, specs.Prelude.IfSome, specs.Option.option_or}
-use Rattle.mus_units.specs.Good.{IsGoodMeter}
-use Rattle.abc_fields.specs.Last.{last_of}
-use Rattle.abc_header.specs.Defaults.{line_meter}
+use Rattle.{mus_units.specs.Good.{IsGoodMeter}, abc_fields.specs.Last.{last_of}, abc_header.specs.Defaults.{line_meter}}
 use Rattle.abc_header.proofs.defaults.last_meter.Given as goal
 
 abbrev pub invariant-loop-line : goal.invariant-loop-line

@@ -1,6 +1,5 @@
 use Rattle.std.{proofs.Common.◌≡◌, proofs.Common.drop, specs.Option.option_or}
-use Rattle.abc_fields.specs.Last.{last_of}
-use Rattle.abc_header.specs.Defaults.{line_spread}
+use Rattle.{abc_fields.specs.Last.{last_of}, abc_header.specs.Defaults.{line_spread}}
 use Rattle.abc_header.proofs.defaults.last_spread.Given as goal
 
 abbrev pub invariant-loop-line : goal.invariant-loop-line

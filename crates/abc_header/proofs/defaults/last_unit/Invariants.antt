@@ -1,6 +1,5 @@
 use Rattle.std.{proofs.Common.◌≡◌, proofs.Common.drop, specs.Option.option_or}
-use Rattle.abc_header.specs.{Good.GoodUnitIn, Defaults.line_unit}
-use Rattle.abc_fields.specs.Last.{last_of}
+use Rattle.{abc_header.specs.{Good.GoodUnitIn, Defaults.line_unit}, abc_fields.specs.Last.{last_of}}
 use Rattle.abc_header.proofs.defaults.last_unit.Given as goal
 
 abbrev pub invariant-loop-line : goal.invariant-loop-line

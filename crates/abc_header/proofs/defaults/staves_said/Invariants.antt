@@ -1,6 +1,5 @@
 use Rattle.std.{proofs.Common.◌≡◌, proofs.Common.drop, specs.Option.option_map, specs.Option.option_or}
-use Rattle.abc_fields.specs.Last.{last_of}
-use Rattle.abc_header.specs.Defaults.{line_of, line_staves}
+use Rattle.{abc_fields.specs.Last.{last_of}, abc_header.specs.Defaults.{line_of, line_staves}}
 use Rattle.abc_header.proofs.defaults.staves_said.Given as goal
 
 abbrev pub invariant-loop-line : goal.invariant-loop-line

@@ -1,6 +1,4 @@
-use Rattle.std.{proofs.Common.subst, proofs.Common.sym, specs.Prelude.IfSome}
-use Rattle.abc_fields.specs.Keys.{IsGoodKeyText}
-use Rattle.abc_header.proofs.HeaderLaws.{last_key-good, good_copied}
+use Rattle.{std.{proofs.Common.subst, proofs.Common.sym, specs.Prelude.IfSome}, abc_fields.specs.Keys.{IsGoodKeyText}, abc_header.proofs.HeaderLaws.{last_key-good, good_copied}}
 use Rattle.abc_header.proofs.header.good_key.Goals as goal
 
 pub returns-clause-good : goal.returns-clause-good

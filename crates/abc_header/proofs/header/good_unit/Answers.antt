@@ -1,5 +1,4 @@
-use Rattle.std.proofs.Common.{subst, sym}
-use Rattle.abc_header.{specs.Good.GoodUnitIn, proofs.HeaderLaws.last_unit-good}
+use Rattle.{std.proofs.Common.{subst, sym}, abc_header.{specs.Good.GoodUnitIn, proofs.HeaderLaws.last_unit-good}}
 use Rattle.abc_header.proofs.header.good_unit.Goals as goal
 
 pub returns-clause-good : goal.returns-clause-good

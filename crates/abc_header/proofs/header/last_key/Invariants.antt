@@ -1,6 +1,5 @@
 use Rattle.std.{proofs.Common.◌≡◌, proofs.Common.drop, specs.Option.option_or, specs.Option.option_copied}
-use Rattle.abc_fields.specs.Last.{last_of}
-use Rattle.abc_header.specs.Headers.{key_in}
+use Rattle.{abc_fields.specs.Last.{last_of}, abc_header.specs.Headers.{key_in}}
 use Rattle.abc_header.proofs.header.last_key.Given as goal
 
 abbrev pub invariant-loop-field : goal.invariant-loop-field

@@ -1,5 +1,4 @@
-use Rattle.std.proofs.Common.{subst, sym}
-use Rattle.mus_units.specs.Good.{AreGoodSigns}
+use Rattle.{std.proofs.Common.{subst, sym}, mus_units.specs.Good.{AreGoodSigns}}
 use Rattle.abc_header.proofs.header.same_key.Goals as goal
 
 pub returns-clause-good : goal.returns-clause-good

@@ -1,6 +1,5 @@
 use Rattle.std.{proofs.Common.◌≡◌, proofs.Common.◌≤◌, proofs.Common.drop, specs.Prelude.IfSome, specs.Option.option_or}
-use Rattle.abc_fields.specs.Last.{last_of}
-use Rattle.abc_header.specs.Papers.{line_length}
+use Rattle.{abc_fields.specs.Last.{last_of}, abc_header.specs.Papers.{line_length}}
 use Rattle.abc_header.proofs.paper.last_length.Given as goal
 
 abbrev pub invariant-loop-line : goal.invariant-loop-line

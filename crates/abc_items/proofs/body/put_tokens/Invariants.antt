@@ -1,6 +1,5 @@
 use Rattle.std.{proofs.Common.{◌≡◌, ◌++◌, length, List, All, flat_map}, specs.Vec.Iter.{into_iter_items, into_iter_len}}
-use Rattle.abc_tokens.specs.Good.{AreGoodTokens}
-use Rattle.abc_items.specs.{Good.IsGoodItem, Body.Given, Body.placed_given, Body.judged, Body.first_fault, Body.items_in}
+use Rattle.{abc_tokens.specs.Good.{AreGoodTokens}, abc_items.specs.{Good.IsGoodItem, Body.Given, Body.placed_given, Body.judged, Body.first_fault, Body.items_in}}
 use Rattle.abc_items.proofs.body.put_tokens.Given as goal
 
 abbrev pub invariant-loop-placed : goal.invariant-loop-placed

@@ -1,6 +1,5 @@
 use Rattle.std.proofs.Common.{◌≤◌, ◌^◌, take, drop, All}
-use Rattle.abc_items.specs.{Good.IsGoodItem, Body.BodyGives, Reading.ReadsSome}
-use Rattle.abc_lines.specs.Good.{size_of}
+use Rattle.{abc_items.specs.{Good.IsGoodItem, Body.BodyGives, Reading.ReadsSome}, abc_lines.specs.Good.{size_of}}
 use Rattle.abc_items.proofs.body.read_lines.Given as goal
 
 abbrev pub invariant-loop-line : goal.invariant-loop-line

@@ -1,6 +1,4 @@
-use Rattle.std.{proofs.Common.{arith, subst, sym, All}, specs.Str.bytes_eq}
-use Rattle.abc_steps.specs.Good.{IsGoodStood}
-use Rattle.abc_items.{specs.Voices.steps_of, proofs.Laws.{steps_good, steps_whole}}
+use Rattle.{std.{proofs.Common.{arith, subst, sym, All}, specs.Str.bytes_eq}, abc_steps.specs.Good.{IsGoodStood}, abc_items.{specs.Voices.steps_of, proofs.Laws.{steps_good, steps_whole}}}
 use Rattle.abc_items.proofs.voices.steps_of.Goals as goal
 
 pub returns-clause-good : goal.returns-clause-good

@@ -1,5 +1,4 @@
-use Rattle.std.proofs.Common.{length}
-use Rattle.abc_lines.proofs.Stages.{Part}
+use Rattle.{std.proofs.Common.{length}, abc_lines.proofs.Stages.{Part}}
 use Rattle.abc_lines.proofs.cut.add_part.Given as goal
 
 abbrev pub invariant-lines : goal.invariant-lines

@@ -1,5 +1,4 @@
-use Rattle.std.proofs.Common.{length}
-use Rattle.abc_lines.{specs.Forward.tunes_from, specs.Lines.readings, proofs.Stages.Tunes}
+use Rattle.{std.proofs.Common.{length}, abc_lines.{specs.Forward.tunes_from, specs.Lines.readings, proofs.Stages.Tunes}}
 use Rattle.abc_lines.proofs.cut.tunes_at.Given as goal
 
 abbrev pub invariant-lines : goal.invariant-lines

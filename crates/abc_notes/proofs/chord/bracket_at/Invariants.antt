@@ -1,5 +1,4 @@
-use Rattle.std.proofs.Common.{length, option_map}
-use Rattle.abc_notes.proofs.ChordLaws.{Seeking}
+use Rattle.{std.proofs.Common.{length, option_map}, abc_notes.proofs.ChordLaws.{Seeking}}
 use Rattle.abc_notes.proofs.chord.bracket_at.Given as goal
 
 abbrev pub invariant-parts : goal.invariant-parts

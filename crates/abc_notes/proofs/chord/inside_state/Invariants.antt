@@ -1,5 +1,4 @@
-use Rattle.std.proofs.Common.{length}
-use Rattle.abc_notes.proofs.InnerLaws.{Inside}
+use Rattle.{std.proofs.Common.{length}, abc_notes.proofs.InnerLaws.{Inside}}
 use Rattle.abc_notes.proofs.chord.inside_state.Given as goal
 
 abbrev pub invariant-parts : goal.invariant-parts

@@ -1,5 +1,4 @@
-use Rattle.std.proofs.Common.{length}
-use Rattle.abc_notes.proofs.GraceLaws.{Group}
+use Rattle.{std.proofs.Common.{length}, abc_notes.proofs.GraceLaws.{Group}}
 use Rattle.abc_notes.proofs.grace.grace_state.Given as goal
 
 abbrev pub invariant-parts : goal.invariant-parts

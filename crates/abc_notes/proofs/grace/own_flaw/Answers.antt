@@ -1,5 +1,4 @@
-use Rattle.std.proofs.Common.{rules}
-use Rattle.abc_notes.proofs.GraceLaws.{no_chord}
+use Rattle.{std.proofs.Common.{rules}, abc_notes.proofs.GraceLaws.{no_chord}}
 use Rattle.abc_notes.proofs.grace.own_flaw.Goals as goal
 
 pub chord_fault-requires-clause-none : goal.chord_fault-requires-clause-none

@@ -1,6 +1,5 @@
 use Rattle.std.{proofs.Common.{ℕ, List, subst, sym, ◌≡◌, ◌≤◌, length, true}, specs.List.list_all}
-use Rattle.mus_units.specs.Bytes.{is_digit}
-use Rattle.abc_notes.{specs.Lengths.IsCount, proofs.LengthLaws.number-count, proofs.LengthLaws.count-few, proofs.LengthLaws.count-digits}
+use Rattle.{mus_units.specs.Bytes.{is_digit}, abc_notes.{specs.Lengths.IsCount, proofs.LengthLaws.number-count, proofs.LengthLaws.count-few, proofs.LengthLaws.count-digits}}
 use Rattle.abc_notes.proofs.length.number_at.Goals as goal
 
 pub returns-clause-good : goal.returns-clause-good

@@ -1,5 +1,4 @@
-use Rattle.std.proofs.Common.{rules}
-use Rattle.abc_pieces.proofs.PieceText.{ending_is}
+use Rattle.{std.proofs.Common.{rules}, abc_pieces.proofs.PieceText.{ending_is}}
 use Rattle.abc_pieces.proofs.piece.ending.Goals as goal
 
 pub returns-clause-read : goal.returns-clause-read

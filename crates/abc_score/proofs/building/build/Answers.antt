@@ -1,7 +1,5 @@
 use Rattle.std.proofs.Common.{◌∙◌, ◌≤◌, List, length, ap, drop, subst, sym}
-use Rattle.abc_steps.specs.declared.step.Item.{Item}
-use Rattle.abc_items.specs.Voices.{ids_of}
-use Rattle.abc_score.proofs.{Ids.few_ids, Lines.words_rise_behind}
+use Rattle.{abc_steps.specs.declared.step.Item.{Item}, abc_items.specs.Voices.{ids_of}, abc_score.proofs.{Ids.few_ids, Lines.words_rise_behind}}
 use Rattle.abc_score.proofs.building.build.Goals as goal
 
 pub score_in-requires-clause-rise : goal.score_in-requires-clause-rise

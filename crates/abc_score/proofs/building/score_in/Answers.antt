@@ -1,8 +1,5 @@
 use Rattle.std.{proofs.Common.{◌≡◌, ◌∙◌, ◌≤◌, List, ℕ, ap, subst, sym}, specs.Prelude.None, specs.List.All}
-use Rattle.abc_faults.specs.First.{IsFirst}
-use Rattle.mus_score.specs.GoodScore.{IsGoodScore}
-use Rattle.abc_items.specs.Voices.{unnamed_of}
-use Rattle.abc_words.specs.Verses.{verse_fault}
+use Rattle.{abc_faults.specs.First.{IsFirst}, mus_score.specs.GoodScore.{IsGoodScore}, abc_items.specs.Voices.{unnamed_of}, abc_words.specs.Verses.{verse_fault}}
 use Rattle.abc_score.{specs.{declared.voices.VoiceRead.VoiceRead, Faults.faults_of_voices, Framed.IsFramed, Score.most_measures, Score.score_with}, proofs.{Clear.clear_verses, Clear.few_measures, Wholes.good_score}}
 use Rattle.abc_score.proofs.building.score_in.Goals as goal
 

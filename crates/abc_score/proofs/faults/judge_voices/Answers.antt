@@ -1,6 +1,5 @@
 use Rattle.std.{proofs.Common.{◌∙◌, ◌∷◌, [], map, ap, subst, sym}, proofs.lemmas.List.Elements.All-push, proofs.lemmas.List.map-append, specs.List.All, specs.Prelude.flat_map, specs.Vec.Iter.into_iter_items}
-use Rattle.abc_faults.{specs.Weights.capped, proofs.{Caps.capped_append, Firsts.found_more, Walks.part_more}}
-use Rattle.abc_events.proofs.Taken.{all_left, count_left}
+use Rattle.{abc_faults.{specs.Weights.capped, proofs.{Caps.capped_append, Firsts.found_more, Walks.part_more}}, abc_events.proofs.Taken.{all_left, count_left}}
 use Rattle.abc_score.specs.{declared.keeping.Judged.Judged, Faults.voice_faults, Faults.voice_weights, Judged.HasKept, Judged.reads_of, Voices.IsGoodRead}
 use Rattle.abc_score.proofs.faults.judge_voices.Goals as goal
 

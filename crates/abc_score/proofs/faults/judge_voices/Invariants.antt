@@ -1,6 +1,5 @@
 use Rattle.std.{proofs.Common.◌≡◌, proofs.Common.◌++◌, proofs.Common.length, proofs.Common.map, specs.List.All, specs.Prelude.flat_map, specs.Vec.Iter.into_iter_items, specs.Vec.Iter.into_iter_len}
-use Rattle.abc_faults.specs.{First.earlier, First.first_of, Weights.capped}
-use Rattle.abc_score.specs.{Faults.voice_faults, Faults.voice_weights, Judged.HasKept, Judged.reads_of, Voices.IsGoodRead}
+use Rattle.{abc_faults.specs.{First.earlier, First.first_of, Weights.capped}, abc_score.specs.{Faults.voice_faults, Faults.voice_weights, Judged.HasKept, Judged.reads_of, Voices.IsGoodRead}}
 use Rattle.abc_score.proofs.faults.judge_voices.Given as goal
 
 abbrev pub invariant-loop-read : goal.invariant-loop-read

@@ -1,7 +1,6 @@
 use Rattle.std.proofs.Common.{◌≡◌, ◌∙◌, ◌+◌, ◌++◌, ◌<◌, ℕ, List, [], length, get_or, sym, ap, reverse, take, drop, map, arith}
 use Rattle.abc_faults.{specs.{First.first_of, Faults.{faults_of, faults_in}, Weights.{capped, weights_of, weights_in}}, proofs.{Caps.capped_append, Firsts.found_more, Walks.{at_front, nearest, part_more, walk_parts, weigh_parts}}}
-use Rattle.abc_steps.specs.{declared.{step.Stood.Stood, force.InForce.InForce}, Looks.Steps, Places.place_at}
-use Rattle.abc_events.specs.Signs.{signs, signs_of}
+use Rattle.{abc_steps.specs.{declared.{step.Stood.Stood, force.InForce.InForce}, Looks.Steps, Places.place_at}, abc_events.specs.Signs.{signs, signs_of}}
 use Rattle.abc_score.proofs.keeping.judge_voice.Goals as goal
 
 sign_parts : (first : InForce) (steps : Steps) (i : ℕ) (at : Stood) → i < length steps → at ≡ get_or steps i at → signs first (reverse (take i steps)) (drop i steps)

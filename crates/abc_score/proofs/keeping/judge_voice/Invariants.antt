@@ -1,7 +1,5 @@
 use Rattle.std.proofs.Common.{◌≡◌, ◌≤◌, ◌*◌, ◌++◌, [], reverse, take, drop, map, true}
-use Rattle.abc_steps.specs.{Good.IsGoodForce, Places.place_at}
-use Rattle.abc_faults.specs.{First.earlier, First.first_of, Faults.faults_in, Weights.capped, Weights.weights_in}
-use Rattle.abc_events.specs.Signs.{signs}
+use Rattle.{abc_steps.specs.{Good.IsGoodForce, Places.place_at}, abc_faults.specs.{First.earlier, First.first_of, Faults.faults_in, Weights.capped, Weights.weights_in}, abc_events.specs.Signs.{signs}}
 use Rattle.abc_score.proofs.keeping.judge_voice.Given as goal
 
 abbrev pub invariant-loop-i : goal.invariant-loop-i

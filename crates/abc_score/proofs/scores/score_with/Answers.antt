@@ -1,6 +1,5 @@
 use Rattle.std.{proofs.Common.{◌≡◌, subst, sym}, specs.Prelude.None}
-use Rattle.abc_items.specs.Voices.{unnamed_of}
-use Rattle.abc_words.specs.Verses.{verse_fault}
+use Rattle.{abc_items.specs.Voices.{unnamed_of}, abc_words.specs.Verses.{verse_fault}}
 use Rattle.abc_score.{specs.declared.voices.VoiceRead.VoiceRead, specs.{Framed.IsFramed, Judged.reads_of, Voices.IsGoodRead}, proofs.Frames.framed, proofs.Taken.all_of}
 use Rattle.abc_score.proofs.scores.score_with.Goals as goal
 

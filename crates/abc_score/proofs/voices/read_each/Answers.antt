@@ -1,6 +1,5 @@
 use Rattle.std.{proofs.Common.subst, proofs.Common.sym, proofs.lemmas.List.Elements.All-push, specs.List.All, specs.Vec.Iter.into_iter_items}
-use Rattle.abc_score.{specs.Voices.voice_read, specs.Voices.IsGoodRead, proofs.Taken.mapped_taken}
-use Rattle.abc_events.proofs.Taken.{count_left}
+use Rattle.{abc_score.{specs.Voices.voice_read, specs.Voices.IsGoodRead, proofs.Taken.mapped_taken}, abc_events.proofs.Taken.{count_left}}
 use Rattle.abc_score.proofs.voices.read_each.Goals as goal
 
 pub loop-start-preserved : goal.loop-start-preserved

@@ -1,6 +1,4 @@
-use Rattle.std.{proofs.Common.subst, proofs.Common.sym, specs.List.All}
-use Rattle.abc_steps.specs.Good.{IsGoodForce, IsGoodStood}
-use Rattle.abc_score.specs.Voices.{first_force}
+use Rattle.{std.{proofs.Common.subst, proofs.Common.sym, specs.List.All}, abc_steps.specs.Good.{IsGoodForce, IsGoodStood}, abc_score.specs.Voices.{first_force}}
 use Rattle.abc_score.proofs.voices.read_voice.Goals as goal
 
 pub returns-clause-good : goal.returns-clause-good

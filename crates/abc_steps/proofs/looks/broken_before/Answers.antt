@@ -1,5 +1,4 @@
-use Rattle.std.proofs.Common.{reverse}
-use Rattle.abc_steps.{specs.Looks.broken_before, specs.Looks.is_some_sound, specs.Looks.nearest_event, specs.Looks.since_event, proofs.Between.none_between}
+use Rattle.{std.proofs.Common.{reverse}, abc_steps.{specs.Looks.broken_before, specs.Looks.is_some_sound, specs.Looks.nearest_event, specs.Looks.since_event, proofs.Between.none_between}}
 use Rattle.abc_steps.proofs.looks.broken_before.Goals as goal
 
 pub returns-then-is_empty : goal.returns-then-is_empty

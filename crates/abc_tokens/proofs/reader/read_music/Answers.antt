@@ -1,6 +1,4 @@
-use Rattle.std.proofs.Common.{length}
-use Rattle.abc_pieces.specs.declared.token.Before.TheVariants.{Other}
-use Rattle.abc_tokens.proofs.Line.{tokens_of, error_of, one_list}
+use Rattle.{std.proofs.Common.{length}, abc_pieces.specs.declared.token.Before.TheVariants.{Other}, abc_tokens.proofs.Line.{tokens_of, error_of, one_list}}
 use Rattle.abc_tokens.proofs.reader.read_music.Goals as goal
 
 pub returns-in-Some-clause-fault : goal.returns-in-Some-clause-fault

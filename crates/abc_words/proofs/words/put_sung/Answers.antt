@@ -1,5 +1,4 @@
-use Rattle.std.proofs.{Common.length, Common.sym, lemmas.Bool.ltb-false}
-use Rattle.abc_words.proofs.WordLaws.{not_sung}
+use Rattle.{std.proofs.{Common.length, Common.sym, lemmas.Bool.ltb-false}, abc_words.proofs.WordLaws.{not_sung}}
 use Rattle.abc_words.proofs.words.put_sung.Goals as goal
 
 pub returns-in-None : goal.returns-in-None

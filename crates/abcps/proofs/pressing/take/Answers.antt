@@ -1,6 +1,5 @@
 use Rattle.std.{proofs.Common.{◌≡◌, ◌∙◌, refl, ap, sym}, specs.Prelude.◌||◌}
-use Rattle.set_lists.specs.Reports.{some_fault}
-use Rattle.abcps.proofs.{Batches.running_more, pressing.take.Goals.{then-run, else-run}}
+use Rattle.{set_lists.specs.Reports.{some_fault}, abcps.proofs.{Batches.running_more, pressing.take.Goals.{then-run, else-run}}}
 use Rattle.abcps.proofs.pressing.take.Goals as goal
 
 pub returns-clause-running : goal.returns-clause-running

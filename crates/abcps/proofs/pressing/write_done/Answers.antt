@@ -1,7 +1,5 @@
 use Rattle.std.{proofs.Common.{◌∙◌, ◌+◌, length, refl, sym, subst, ap}, specs.Prelude.All}
-use Rattle.ps_text.specs.Range.{IsPage}
-use Rattle.set_pages.proofs.Whole.{done_good}
-use Rattle.abcps.proofs.Batches.{running_written}
+use Rattle.{ps_text.specs.Range.{IsPage}, set_pages.proofs.Whole.{done_good}, abcps.proofs.Batches.{running_written}}
 use Rattle.abcps.proofs.pressing.write_done.Goals as goal
 
 pub write_pages-requires-clause-good : goal.write_pages-requires-clause-good

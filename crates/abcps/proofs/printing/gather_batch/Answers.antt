@@ -1,6 +1,4 @@
-use Rattle.set_tune.specs.Terms.{terms_of}
-use Rattle.set_pages.{proofs.Readying.all_whole}
-use Rattle.abcps.proofs.{Batches.batch_set, Gathered.gathered_more}
+use Rattle.{set_tune.specs.Terms.{terms_of}, set_pages.{proofs.Readying.all_whole}, abcps.proofs.{Batches.batch_set, Gathered.gathered_more}}
 use denote.{Exit.no, Param.Send.{arg_send, param_send}}
 use Rattle.set_book.proofs.Sent.{outcome_send}
 use Rattle.abcps.proofs.printing.gather_batch.Goals as goal

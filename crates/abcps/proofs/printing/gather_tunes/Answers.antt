@@ -1,6 +1,4 @@
-use Rattle.set_tune.specs.Terms.{terms_of}
-use Rattle.std.{proofs.{Common.{sym, subst}, lemmas.List.Elements.{All-drop, All-take}}, specs.Prelude.All}
-use Rattle.abc_lines.specs.Good.{IsGoodTune}
+use Rattle.{set_tune.specs.Terms.{terms_of}, std.{proofs.{Common.{sym, subst}, lemmas.List.Elements.{All-drop, All-take}}, specs.Prelude.All}, abc_lines.specs.Good.{IsGoodTune}}
 use Rattle.abcps.proofs.{Batches.IsCounted, Gathered.{IsGathering, gathering_done, gathering_first, gathering_more, none_left}}
 use Rattle.abcps.proofs.printing.gather_tunes.Goals as goal
 

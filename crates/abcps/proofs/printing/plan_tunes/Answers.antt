@@ -1,6 +1,4 @@
-use Rattle.set_tune.specs.Terms.{terms_of}
-use Rattle.std.proofs.Common.{rules}
-use Rattle.abcps.proofs.Gathered.{blocks_on, planned_by}
+use Rattle.{set_tune.specs.Terms.{terms_of}, std.proofs.Common.{rules}, abcps.proofs.Gathered.{blocks_on, planned_by}}
 use Rattle.abcps.proofs.printing.plan_tunes.Goals as goal
 
 pub even_plan-requires-clause-blocks : goal.even_plan-requires-clause-blocks

@@ -1,7 +1,6 @@
 use Rattle.set_tune.specs.Terms.{manner_of, terms_of}
 use Rattle.std.{proofs.Common.{◌≡◌, ◌∙◌, refl, sym, ap, subst, rules, Err}, specs.Prelude.All}
-use Rattle.abc_lines.specs.declared.book.Book.{Book}
-use Rattle.abc_header.specs.Papers.{IsGoodPaper}
+use Rattle.{abc_lines.specs.declared.book.Book.{Book}, abc_header.specs.Papers.{IsGoodPaper}}
 use Rattle.abcps.{specs.{Pressed.{unbegun, AreCutOff, AreRunning, IsPlanned, IsPrinted}, declared.status.Status.Status, Books.paper_in, Outcome.IsQuiet}, proofs.{Batches.IsCounted, Cut.{of_book, printed, unprinted}, Sent.stream}}
 use Rattle.abcps.proofs.printing.print_book.Goals as goal
 use Rattle.set_pages.proofs.Readying.{book_counted}

@@ -1,7 +1,4 @@
-use Rattle.set_tune.specs.Terms.{terms_of}
-use Rattle.std.{proofs.Common.length, specs.Prelude.All}
-use Rattle.abc_lines.specs.Good.{IsGoodTune}
-use Rattle.abcps.proofs.{Batches.{IsCounted, IsUnderway}, Sent.stream}
+use Rattle.{set_tune.specs.Terms.{terms_of}, std.{proofs.Common.length, specs.Prelude.All}, abc_lines.specs.Good.{IsGoodTune}, abcps.proofs.{Batches.{IsCounted, IsUnderway}, Sent.stream}}
 use Rattle.abcps.proofs.printing.print_tunes.Given as goal
 
 abbrev pub invariant-batches : goal.invariant-batches

@@ -1,6 +1,4 @@
-use Rattle.set_tune.specs.Terms.{terms_of}
-use Rattle.std.proofs.Common.{sym, subst}
-use Rattle.abcps.proofs.Batches.{batch_set, on_ok}
+use Rattle.{set_tune.specs.Terms.{terms_of}, std.proofs.Common.{sym, subst}, abcps.proofs.Batches.{batch_set, on_ok}}
 use denote.{Exit.no, Param.Send.{arg_send, param_send}}
 use Rattle.set_book.{specs.Outcomes.AreOutcomes, proofs.Sent.outcome_send}
 use Rattle.abcps.proofs.printing.take_batch.Goals as goal

@@ -1,5 +1,4 @@
-use Rattle.std.proofs.Common.{inr, subst, rules}
-use Rattle.abcps.specs.Outcome.{WasTold}
+use Rattle.{std.proofs.Common.{inr, subst, rules}, abcps.specs.Outcome.{WasTold}}
 use Rattle.abcps.proofs.telling.refuse.Goals as goal
 
 pub returns : goal.returns

@@ -1,5 +1,4 @@
-use Rattle.std.proofs.Common.{string_bytes, map}
-use Rattle.abcps_words.proofs.Alone.{asks_by, none_by, good_of}
+use Rattle.{std.proofs.Common.{string_bytes, map}, abcps_words.proofs.Alone.{asks_by, none_by, good_of}}
 use Rattle.abcps_words.proofs.command.command_of.Goals as goal
 
 pub returns-clause-asks : goal.returns-clause-asks

@@ -1,5 +1,4 @@
-use Rattle.std.proofs.Common.{string_bytes, map, length}
-use Rattle.abcps_words.proofs.Flags.{IsRead}
+use Rattle.{std.proofs.Common.{string_bytes, map, length}, abcps_words.proofs.Flags.{IsRead}}
 use Rattle.abcps_words.proofs.options.options_of.Given as goal
 
 abbrev pub invariant-loop-rest : goal.invariant-loop-rest

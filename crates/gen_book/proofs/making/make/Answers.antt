@@ -1,5 +1,4 @@
-use Rattle.std.proofs.Common.{arith}
-use Rattle.gen_book.proofs.More.{one_tune}
+use Rattle.{std.proofs.Common.{arith}, gen_book.proofs.More.{one_tune}}
 use Rattle.gen_book.proofs.making.make.Goals as goal
 
 pub loop-i-preserved : goal.loop-i-preserved

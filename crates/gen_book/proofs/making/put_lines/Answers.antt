@@ -1,5 +1,4 @@
-use Rattle.std.proofs.Common.{arith}
-use Rattle.gen_book.proofs.More.{one_line}
+use Rattle.{std.proofs.Common.{arith}, gen_book.proofs.More.{one_line}}
 use Rattle.gen_book.proofs.making.put_lines.Goals as goal
 
 pub loop-k-preserved : goal.loop-k-preserved

@@ -1,6 +1,5 @@
 use Rattle.std.proofs.Common.{◌++◌, ◌∷◌, codes, decimal, ◌∙◌, arith}
-use Rattle.lay_cert.proofs.Forms.{span_text}
-use Rattle.eng_lines.proofs.Words.{one_field, after_prefix}
+use Rattle.{lay_cert.proofs.Forms.{span_text}, eng_lines.proofs.Words.{one_field, after_prefix}}
 use Rattle.lay_cert.proofs.numbers.read_span.Goals as goal
 
 pub returns-in_err-b : goal.returns-in_err-b

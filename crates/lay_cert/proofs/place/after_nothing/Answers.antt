@@ -1,5 +1,4 @@
-use Rattle.std.proofs.Common.{refl}
-use Rattle.lay_cert.specs.declared.lines.Line.{Line}
+use Rattle.{std.proofs.Common.{refl}, lay_cert.specs.declared.lines.Line.{Line}}
 use Rattle.lay_cert.proofs.place.after_nothing.Goals as goal
 
 pub returns-then-branch : goal.returns-then-branch

@@ -1,5 +1,4 @@
-use Rattle.lay_breaks.specs.Spans.{listed_stops}
-use Rattle.lay_cert.proofs.{Indexing.agrees, Kept.small_cost}
+use Rattle.{lay_breaks.specs.Spans.{listed_stops}, lay_cert.proofs.{Indexing.agrees, Kept.small_cost}}
 use Rattle.lay_cert.proofs.place.prove.Goals as goal
 
 pub invariant_of-costs : goal.invariant_of-costs

@@ -1,5 +1,4 @@
-use Rattle.std.proofs.Common.{arith}
-use Rattle.lay_cert.proofs.Put.{put_next_potential}
+use Rattle.{std.proofs.Common.{arith}, lay_cert.proofs.Put.{put_next_potential}}
 use Rattle.lay_cert.proofs.write.put_potentials.Goals as goal
 
 pub loop-least-preserved : goal.loop-least-preserved

@@ -1,6 +1,5 @@
 use Rattle.std.proofs.Common.{◌≡◌, drop}
-use Rattle.mus_laid.specs.Boxes.{AreGoodMarks}
-use Rattle.lay_columns.specs.Widened.{widened_by_marks}
+use Rattle.{mus_laid.specs.Boxes.{AreGoodMarks}, lay_columns.specs.Widened.{widened_by_marks}}
 use Rattle.lay_columns.proofs.reaches.widen_all.Given as goal
 
 abbrev pub invariant-loop-laid : goal.invariant-loop-laid

@@ -1,9 +1,6 @@
 use Rattle.std.{proofs.Common.{◌≡◌, ◌∙◌, ◌+◌, ◌≤◌, ◌==◌, length, map, ap, subst, sym, arith}, specs.List.{All, Contains, slice_index}}
-use Rattle.mus_time.{specs.declared.keys.Class.Class, specs.Keys.IsInSystem, specs.Keys.key_at, specs.Order.Rises, specs.Ranks.AreRanked}
-use Rattle.mus_score.specs.Seats.{grouped}
-use Rattle.mus_keys.proofs.Counts.{lengths_count, voices_count}
-use Rattle.mus_marks.{specs.Staff.verses_on, specs.System.stands_lower, proofs.Fitting.few_verses}
-use Rattle.lay_columns.specs.Widened.{AreGoodStaves}
+use Rattle.{mus_time.{specs.declared.keys.Class.Class, specs.Keys.IsInSystem, specs.Keys.key_at, specs.Order.Rises, specs.Ranks.AreRanked}, mus_score.specs.Seats.{grouped}}
+use Rattle.{mus_keys.proofs.Counts.{lengths_count, voices_count}, mus_marks.{specs.Staff.verses_on, specs.System.stands_lower, proofs.Fitting.few_verses}, lay_columns.specs.Widened.{AreGoodStaves}}
 use Rattle.lay_measures.{specs.Measures.EndWithBar, specs.Measures.keys_in, specs.Measures.measure_staff, proofs.Facts.called_has_bar, proofs.Facts.end_with_bar, proofs.Facts.ok_through, proofs.Facts.places, proofs.Facts.staves_good}
 use Rattle.lay_measures.proofs.measures.measure_columns.Goals as goal
 

@@ -1,6 +1,5 @@
 use Rattle.std.proofs.Common.{◌≡◌, ◌≤◌, ◌+◌, ◌++◌, drop}
-use Rattle.mus_marks.specs.Staff.{verses_on}
-use Rattle.lay_measures.specs.Measures.{measure_part, parts_from}
+use Rattle.{mus_marks.specs.Staff.{verses_on}, lay_measures.specs.Measures.{measure_part, parts_from}}
 use Rattle.lay_measures.proofs.measures.measure_staff.Given as goal
 
 abbrev pub invariant-loop-v : goal.invariant-loop-v

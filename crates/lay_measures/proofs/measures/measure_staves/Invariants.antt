@@ -1,8 +1,5 @@
 use Rattle.std.{proofs.Common.{◌≡◌, ◌≤◌, ◌++◌, length, map}, specs.List.All}
-use Rattle.mus_score.specs.Seats.{grouped}
-use Rattle.mus_drawn.specs.Good.{AreGoodMeasures}
-use Rattle.mus_marks.specs.{Staff.verses_on, System.stands_lower}
-use Rattle.lay_measures.specs.Measures.{measure_staff}
+use Rattle.{mus_score.specs.Seats.{grouped}, mus_drawn.specs.Good.{AreGoodMeasures}, mus_marks.specs.{Staff.verses_on, System.stands_lower}, lay_measures.specs.Measures.{measure_staff}}
 use Rattle.lay_measures.proofs.measures.measure_staves.Given as goal
 
 abbrev pub invariant-staves : goal.invariant-staves

@@ -1,6 +1,5 @@
 use Rattle.std.proofs.Common.{◌+◌, ◌-◌, drop, take, subst, sym}
-use Rattle.mus_drawn.specs.Good.{AreGoodMeasures}
-use Rattle.mus_keys.proofs.Goods.{good_slice}
+use Rattle.{mus_drawn.specs.Good.{AreGoodMeasures}, mus_keys.proofs.Goods.{good_slice}}
 use Rattle.lay_measures.proofs.measures.put_part.Goals as goal
 
 pub put_columns_part-requires-clause-good : goal.put_columns_part-requires-clause-good

@@ -1,6 +1,5 @@
 use Rattle.std.proofs.Common.{◌≡◌, ◌≤◌, ◌++◌, length, map}
-use Rattle.mus_score.specs.Seats.{grouped}
-use Rattle.mus_marks.specs.{Staff.verses_on, System.stands_lower}
+use Rattle.{mus_score.specs.Seats.{grouped}, mus_marks.specs.{Staff.verses_on, System.stands_lower}}
 use Rattle.lay_measures.proofs.staves.staff_verses.Given as goal
 
 abbrev pub invariant-staves : goal.invariant-staves

@@ -1,6 +1,5 @@
 use Rattle.std.proofs.Common.{◌≡◌, sym, subst, rules}
-use Rattle.mus_score.specs.GoodScore.{IsGoodScore}
-use Rattle.lay_shared.{specs.Drawn.drawn_of, proofs.DrawnLaws.drawn_good}
+use Rattle.{mus_score.specs.GoodScore.{IsGoodScore}, lay_shared.{specs.Drawn.drawn_of, proofs.DrawnLaws.drawn_good}}
 use Rattle.lay_shared.proofs.drawing.drawn.Goals as goal
 
 pub returns-clause-good : goal.returns-clause-good

@@ -1,6 +1,5 @@
 use Rattle.std.proofs.{Common.{◌≡◌, ◌≢◌, ◌<◌, ◌^◌, AllPairs, IfOk, length, map, subst, sym}, lemmas.Result.IfOk-weaker}
-use Rattle.mus_score.specs.declared.score.Voice.{Voice}
-use Rattle.lay_shared.{specs.Plans.ids_of, proofs.PlanLaws.apart_ids, proofs.PlanLaws.few_ids}
+use Rattle.{mus_score.specs.declared.score.Voice.{Voice}, lay_shared.{specs.Plans.ids_of, proofs.PlanLaws.apart_ids, proofs.PlanLaws.few_ids}}
 use Rattle.lay_shared.proofs.plan.ids_of.Goals as goal
 
 pub returns-clause-few : goal.returns-clause-few

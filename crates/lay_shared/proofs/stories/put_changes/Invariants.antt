@@ -1,6 +1,5 @@
 use Rattle.std.proofs.Common.{◌≡◌, ◌++◌, ◌+◌, drop}
-use Rattle.mus_score.specs.Good.{total_ticks}
-use Rattle.lay_shared.specs.Alike.{event_changes}
+use Rattle.{mus_score.specs.Good.{total_ticks}, lay_shared.specs.Alike.{event_changes}}
 use Rattle.lay_shared.proofs.stories.put_changes.Given as goal
 
 abbrev pub invariant-loop-f : goal.invariant-loop-f

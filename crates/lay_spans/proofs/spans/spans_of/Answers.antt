@@ -1,6 +1,5 @@
 use Rattle.std.proofs.{Common.{◌≡◌, length, slice_index_or, false, sym, ◌∙◌, ap, subst}, Math.Path.fun_ext}
-use Rattle.lay_breaks.specs.Spans.{AreSpans, listed}
-use Rattle.lay_rows.specs.Tables.{IsTable}
+use Rattle.{lay_breaks.specs.Spans.{AreSpans, listed}, lay_rows.specs.Tables.{IsTable}}
 use Rattle.lay_spans.{specs.{Forced.is_forced, SpanList.IsSpanList, Rows.{IsRowFrom, rows_spans}}, proofs.{Growing.{rows_are_spans, rows_tell_spans}, Listing.rows_listed, spans.spans_of.Goals.In_ok-list}}
 use Rattle.lay_spans.proofs.spans.spans_of.Goals as goal
 

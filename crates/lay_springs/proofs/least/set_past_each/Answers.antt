@@ -1,5 +1,4 @@
-use Rattle.std.proofs.{Common.{w64, arith}, lemmas.Int.{ints, to_z-of_z}}
-use Rattle.lay_springs.specs.Stands.{reach_in_near}
+use Rattle.{std.proofs.{Common.{w64, arith}, lemmas.Int.{ints, to_z-of_z}}, lay_springs.specs.Stands.{reach_in_near}}
 use Rattle.lay_springs.proofs.least.set_past_each.Goals as goal
 
 pub advance_each-requires-clause-small : goal.advance_each-requires-clause-small

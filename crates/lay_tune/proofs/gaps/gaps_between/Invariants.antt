@@ -1,6 +1,5 @@
 use Rattle.std.{proofs.Common.{◌≡◌, ◌+◌, ◌++◌, drop, map, not}, specs.List.filter}
-use Rattle.mus_score.specs.Seats.{stands_lower}
-use Rattle.lay_tune.specs.Systems.{gaps_between}
+use Rattle.{mus_score.specs.Seats.{stands_lower}, lay_tune.specs.Systems.{gaps_between}}
 use Rattle.lay_tune.proofs.gaps.gaps_between.Given as goal
 
 abbrev pub invariant-loop-v : goal.invariant-loop-v

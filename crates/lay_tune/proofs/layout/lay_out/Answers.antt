@@ -1,6 +1,5 @@
 use Rattle.std.proofs.Common.{◌∙◌, ◌≤◌, subst, sym}
-use Rattle.mus_marks.{specs.Staff.verses_on, proofs.Fitting.few_verses}
-use Rattle.lay_tune.{specs.Spans.AreColumnsOf, proofs.Joins.columns_join}
+use Rattle.{mus_marks.{specs.Staff.verses_on, proofs.Fitting.few_verses}, lay_tune.{specs.Spans.AreColumnsOf, proofs.Joins.columns_join}}
 use Rattle.lay_tune.proofs.layout.lay_out.Goals as goal
 
 pub staff_verses-requires : goal.staff_verses-requires

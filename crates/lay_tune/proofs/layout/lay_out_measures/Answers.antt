@@ -1,7 +1,5 @@
 use Rattle.std.proofs.Common.{◌∙◌, ap, arith, length, subst, sym, ◌<◌, ◌≤◌, ℕ, None, slice_index_or}
-use Rattle.lay_columns.specs.Lanes.{gaps_of}
-use Rattle.lay_breaks.specs.{Breaking.IsPotential, Spans.{AreSpans, listed}}
-use Rattle.lay_spans.specs.Forced.{is_forced}
+use Rattle.{lay_columns.specs.Lanes.{gaps_of}, lay_breaks.specs.{Breaking.IsPotential, Spans.{AreSpans, listed}}, lay_spans.specs.Forced.{is_forced}}
 use Rattle.lay_tune.{specs.Layout.IsCauseIn, proofs.Breakings.least_read, proofs.Open.cause_read, proofs.Open.chosen_read, proofs.Open.few_lanes, proofs.Open.spans_read}
 use Rattle.lay_tune.proofs.layout.lay_out_measures.Goals as goal
 

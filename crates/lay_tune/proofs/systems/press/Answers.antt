@@ -1,7 +1,5 @@
 use Rattle.std.proofs.{Common.{◌∙◌, ap, drop, length, map, refl, subst, sym}, lemmas.List.take_at}
-use Rattle.lay_springs.specs.Fit.{CanStand, Fits, Passes}
-use Rattle.lay_columns.specs.Columns.{column_reach}
-use Rattle.lay_spans.proofs.Fitting.{seen_as}
+use Rattle.{lay_springs.specs.Fit.{CanStand, Fits, Passes}, lay_columns.specs.Columns.{column_reach}, lay_spans.proofs.Fitting.{seen_as}}
 use Rattle.lay_tune.{specs.Spans.column_length, proofs.Open.never_passes, proofs.Within.counts_same, proofs.Within.justified_seen}
 use Rattle.lay_tune.proofs.systems.press.Goals as goal
 

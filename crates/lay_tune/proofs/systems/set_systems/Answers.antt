@@ -1,7 +1,5 @@
 use Rattle.std.{proofs.{Common.{◌≡◌, ◌∙◌, ℕ, ◌+◌, ◌<◌, ◌≤◌, List, [], ◌∷◌, ◌++◌, drop, length, slice_index_or, sym, subst, arith}, lemmas.List.{append-nil, drop_all, drop_more, Elements.{All-append, All-cons, All-nil}}}, specs.List.All}
-use Rattle.mus_laid.specs.{Boxes.AreGoodMarks, declared.laid.SystemMarks.SystemMarks}
-use Rattle.lay_springs.specs.declared.margin.Placed.{Placed}
-use Rattle.lay_breaks.specs.Spans.{listed}
+use Rattle.{mus_laid.specs.{Boxes.AreGoodMarks, declared.laid.SystemMarks.SystemMarks}, lay_springs.specs.declared.margin.Placed.{Placed}, lay_breaks.specs.Spans.{listed}}
 use Rattle.lay_tune.{specs.Systems.AllSpans, specs.Systems.Beside, specs.Systems.CanBeSet, specs.Systems.EachSpan, specs.Systems.IsSetSystem, specs.Systems.IsStack, proofs.Rows.beside_more, proofs.Rows.span_more}
 use Rattle.lay_tune.proofs.systems.set_systems.Goals as goal
 

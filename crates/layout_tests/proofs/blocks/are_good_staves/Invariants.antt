@@ -1,5 +1,4 @@
-use Rattle.std.proofs.Common.{drop}
-use Rattle.lay_pages.specs.Stacking.{AreGoodStaves}
+use Rattle.{std.proofs.Common.{drop}, lay_pages.specs.Stacking.{AreGoodStaves}}
 use Rattle.layout_tests.proofs.blocks.are_good_staves.Given as goal
 
 abbrev pub invariant-loop-staff : goal.invariant-loop-staff

@@ -1,5 +1,4 @@
-use Rattle.std.proofs.Common.{refl}
-use Rattle.mus_arcs.proofs.PieceLaws.{piece_iff}
+use Rattle.{std.proofs.Common.{refl}, mus_arcs.proofs.PieceLaws.{piece_iff}}
 use Rattle.mus_arcs.proofs.cutting.pieces.Goals as goal
 
 pub returns-then-a-arc-clause-touches : goal.returns-then-a-arc-clause-touches

@@ -1,5 +1,4 @@
-use Rattle.std.proofs.{Common.arith, lemmas.Grind.common_steps}
-use Rattle.mus_arcs.proofs.ArcLaws.{copies-more}
+use Rattle.{std.proofs.{Common.arith, lemmas.Grind.common_steps}, mus_arcs.proofs.ArcLaws.{copies-more}}
 use Rattle.mus_arcs.proofs.pairing.put_ends.Goals as goal
 
 pub times-preserved : goal.times-preserved

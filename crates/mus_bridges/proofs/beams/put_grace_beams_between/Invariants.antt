@@ -1,6 +1,5 @@
 use Rattle.std.proofs.Common.{◌≡◌, ◌+◌, ◌++◌, drop}
-use Rattle.mus_drawn.specs.Good.{AreGoodMeasures}
-use Rattle.mus_bridges.specs.Bridges.{grace_beams_between}
+use Rattle.{mus_drawn.specs.Good.{AreGoodMeasures}, mus_bridges.specs.Bridges.{grace_beams_between}}
 use Rattle.mus_bridges.proofs.beams.put_grace_beams_between.Given as goal
 
 abbrev pub invariant-loop-d : goal.invariant-loop-d

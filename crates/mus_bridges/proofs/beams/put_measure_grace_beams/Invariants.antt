@@ -1,6 +1,5 @@
 use Rattle.std.{proofs.Common.◌≡◌, proofs.Common.◌++◌, proofs.Common.drop, specs.List.flat_map}
-use Rattle.mus_drawn.specs.Good.{AreGoodDrawn}
-use Rattle.mus_bridges.specs.Bridges.{event_grace_beam}
+use Rattle.{mus_drawn.specs.Good.{AreGoodDrawn}, mus_bridges.specs.Bridges.{event_grace_beam}}
 use Rattle.mus_bridges.proofs.beams.put_measure_grace_beams.Given as goal
 
 abbrev pub invariant-loop-e : goal.invariant-loop-e

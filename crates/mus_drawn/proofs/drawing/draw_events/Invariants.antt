@@ -1,6 +1,5 @@
 use Rattle.std.{proofs.Common.{◌≡◌, ◌≤◌, ◌+◌, ◌*◌, ◌++◌, length}, specs.Vec.Iter.{into_iter_items, into_iter_len}}
-use Rattle.mus_score.specs.Good.{longest_ticks, total_ticks}
-use Rattle.mus_drawn.specs.Drawn.{drawn_events, standing_behind}
+use Rattle.{mus_score.specs.Good.{longest_ticks, total_ticks}, mus_drawn.specs.Drawn.{drawn_events, standing_behind}}
 use Rattle.mus_drawn.proofs.drawing.draw_events.Given as goal
 
 abbrev pub invariant-loop-flat : goal.invariant-loop-flat

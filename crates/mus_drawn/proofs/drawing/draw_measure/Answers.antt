@@ -1,6 +1,5 @@
 use Rattle.std.{proofs.Common.subst, proofs.Common.sym, proofs.Common.ap, proofs.Common.◌≡◌, proofs.Common.◌≤◌, proofs.Common.length, proofs.Common.◌∙◌, proofs.Common.arith, specs.Prelude.map, specs.Prelude.sum, specs.List.sum_by}
-use Rattle.mus_score.specs.{Good.weight, Times.flats_of}
-use Rattle.mus_units.specs.Good.{IsGoodKey}
+use Rattle.{mus_score.specs.{Good.weight, Times.flats_of}, mus_units.specs.Good.{IsGoodKey}}
 use Rattle.mus_drawn.{specs.Drawn.opening_of, specs.Drawn.standing_behind, specs.Good.AllCanDraw, proofs.GoodLaws.key_behind, proofs.GoodLaws.measure_good}
 use Rattle.mus_drawn.proofs.drawing.draw_measure.Goals as goal
 

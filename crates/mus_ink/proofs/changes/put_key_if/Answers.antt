@@ -1,6 +1,5 @@
 use Rattle.std.proofs.Common.{◌≤◌, length, sym, subst, IfSome}
-use Rattle.mus_units.specs.Good.{IsGoodKey}
-use Rattle.mus_ink.proofs.Keys.{few_signs}
+use Rattle.{mus_units.specs.Good.{IsGoodKey}, mus_ink.proofs.Keys.{few_signs}}
 use Rattle.mus_ink.proofs.changes.put_key_if.Goals as goal
 
 pub put_new_entries-requires-clause-few : goal.put_new_entries-requires-clause-few

@@ -1,6 +1,5 @@
 use Rattle.std.proofs.Common.{◌≡◌, drop}
-use Rattle.mus_laid.specs.Ranked.{inked}
-use Rattle.mus_ink.specs.Decos.{deco_marks}
+use Rattle.{mus_laid.specs.Ranked.{inked}, mus_ink.specs.Decos.{deco_marks}}
 use Rattle.mus_ink.proofs.decos.put_decos.Given as goal
 
 abbrev pub invariant-loop-deco : goal.invariant-loop-deco

@@ -1,6 +1,5 @@
 use Rattle.std.proofs.Common.{◌≡◌, drop}
-use Rattle.mus_laid.specs.Ranked.{inked}
-use Rattle.mus_ink.specs.Graces.{grace_heads}
+use Rattle.{mus_laid.specs.Ranked.{inked}, mus_ink.specs.Graces.{grace_heads}}
 use Rattle.mus_ink.proofs.graces.put_grace_heads.Given as goal
 
 abbrev pub invariant-loop-head : goal.invariant-loop-head

@@ -1,6 +1,5 @@
 use Rattle.std.proofs.Common.{◌≡◌, ◌∙◌, ap, rules, to_z, of_z, w32}
-use Rattle.mus_units.specs.Pitch.{height_of}
-use Rattle.mus_ink.{specs.Drawing.cut, specs.Drawing.steps_dy, specs.Notes.dy_of, proofs.Cuts.cut_inside}
+use Rattle.{mus_units.specs.Pitch.{height_of}, mus_ink.{specs.Drawing.cut, specs.Drawing.steps_dy, specs.Notes.dy_of, proofs.Cuts.cut_inside}}
 use Rattle.mus_ink.proofs.notes.head_dy.Goals as goal
 
 pub returns : goal.returns

@@ -1,6 +1,5 @@
 use Rattle.std.proofs.Common.{◌≡◌, drop}
-use Rattle.mus_laid.specs.Ranked.{inked}
-use Rattle.mus_ink.specs.Notes.{dot_marks}
+use Rattle.{mus_laid.specs.Ranked.{inked}, mus_ink.specs.Notes.{dot_marks}}
 use Rattle.mus_ink.proofs.notes.put_dots.Given as goal
 
 abbrev pub invariant-loop-dot : goal.invariant-loop-dot

@@ -1,6 +1,5 @@
 use Rattle.std.proofs.Common.{◌≡◌, length}
-use Rattle.mus_laid.specs.Ranked.{inked}
-use Rattle.mus_ink.specs.Notes.{note_heads}
+use Rattle.{mus_laid.specs.Ranked.{inked}, mus_ink.specs.Notes.{note_heads}}
 use Rattle.mus_ink.proofs.notes.put_heads.Given as goal
 
 abbrev pub invariant-loop-head : goal.invariant-loop-head

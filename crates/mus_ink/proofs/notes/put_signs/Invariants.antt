@@ -1,6 +1,5 @@
 use Rattle.std.proofs.Common.{◌≡◌, length}
-use Rattle.mus_laid.specs.Ranked.{inked}
-use Rattle.mus_ink.specs.Notes.{sign_marks}
+use Rattle.{mus_laid.specs.Ranked.{inked}, mus_ink.specs.Notes.{sign_marks}}
 use Rattle.mus_ink.proofs.notes.put_signs.Given as goal
 
 abbrev pub invariant-loop-head : goal.invariant-loop-head

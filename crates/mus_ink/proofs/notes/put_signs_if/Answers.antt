@@ -1,6 +1,5 @@
 use Rattle.std.proofs.Common.{◌≡◌, ◌∙◌, sym, subst, rules}
-use Rattle.mus_laid.specs.Ranked.{inked}
-use Rattle.mus_ink.proofs.Counting.{no_signs}
+use Rattle.{mus_laid.specs.Ranked.{inked}, mus_ink.proofs.Counting.{no_signs}}
 use Rattle.mus_ink.proofs.notes.put_signs_if.Goals as goal
 
 pub returns-then-have_no_sign : goal.returns-then-have_no_sign

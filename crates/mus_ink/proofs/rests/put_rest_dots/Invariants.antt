@@ -1,6 +1,5 @@
 use Rattle.std.proofs.Common.{◌≡◌, ◌-◌}
-use Rattle.mus_laid.specs.Ranked.{inked}
-use Rattle.mus_ink.specs.Rests.{rest_dots}
+use Rattle.{mus_laid.specs.Ranked.{inked}, mus_ink.specs.Rests.{rest_dots}}
 use Rattle.mus_ink.proofs.rests.put_rest_dots.Given as goal
 
 abbrev pub invariant-loop-k : goal.invariant-loop-k

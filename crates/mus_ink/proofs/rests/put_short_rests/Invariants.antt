@@ -1,6 +1,5 @@
 use Rattle.std.proofs.Common.{◌≡◌, ◌-◌}
-use Rattle.mus_laid.specs.Ranked.{inked}
-use Rattle.mus_ink.specs.Rests.{short_rests}
+use Rattle.{mus_laid.specs.Ranked.{inked}, mus_ink.specs.Rests.{short_rests}}
 use Rattle.mus_ink.proofs.rests.put_short_rests.Given as goal
 
 abbrev pub invariant-loop-k : goal.invariant-loop-k

@@ -1,6 +1,5 @@
 use Rattle.std.proofs.Common.{◌≡◌, drop}
-use Rattle.mus_laid.specs.Ranked.{inked}
-use Rattle.mus_ink.specs.Signatures.{entry_marks}
+use Rattle.{mus_laid.specs.Ranked.{inked}, mus_ink.specs.Signatures.{entry_marks}}
 use Rattle.mus_ink.proofs.signatures.put_entries.Given as goal
 
 abbrev pub invariant-loop-sign : goal.invariant-loop-sign

@@ -1,6 +1,5 @@
 use Rattle.std.proofs.Common.{◌≡◌, ◌-◌}
-use Rattle.mus_laid.specs.Ranked.{inked}
-use Rattle.mus_ink.specs.Stems.{stub_marks}
+use Rattle.{mus_laid.specs.Ranked.{inked}, mus_ink.specs.Stems.{stub_marks}}
 use Rattle.mus_ink.proofs.stems.put_stubs.Given as goal
 
 abbrev pub invariant-loop-k : goal.invariant-loop-k

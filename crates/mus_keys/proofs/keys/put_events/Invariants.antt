@@ -1,6 +1,5 @@
 use Rattle.std.proofs.Common.{◌≡◌, ◌++◌, drop}
-use Rattle.mus_drawn.specs.Good.{AreGoodDrawn}
-use Rattle.mus_keys.specs.Columns.{events_columns}
+use Rattle.{mus_drawn.specs.Good.{AreGoodDrawn}, mus_keys.specs.Columns.{events_columns}}
 use Rattle.mus_keys.proofs.keys.put_events.Given as goal
 
 abbrev pub invariant-loop-e : goal.invariant-loop-e

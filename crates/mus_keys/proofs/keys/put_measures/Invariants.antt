@@ -1,6 +1,5 @@
 use Rattle.std.proofs.Common.{◌≡◌, ◌+◌, ◌++◌, drop}
-use Rattle.mus_drawn.specs.Good.{AreGoodMeasures}
-use Rattle.mus_keys.specs.Columns.{measures_columns}
+use Rattle.{mus_drawn.specs.Good.{AreGoodMeasures}, mus_keys.specs.Columns.{measures_columns}}
 use Rattle.mus_keys.proofs.keys.put_measures.Given as goal
 
 abbrev pub invariant-loop-d : goal.invariant-loop-d

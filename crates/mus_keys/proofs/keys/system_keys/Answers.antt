@@ -1,6 +1,5 @@
 use Rattle.std.{proofs.Common.{◌∙◌, true, ap, subst, sym, arith}, specs.List.{flat_map}}
-use Rattle.mus_time.specs.Keys.{AreKeys}
-use Rattle.mus_keys.{specs.Columns.staff_columns, proofs.{Called.{keys_placed, voices_same}, Counts.{lengths_count, voices_count}, Few.few_keys}}
+use Rattle.{mus_time.specs.Keys.{AreKeys}, mus_keys.{specs.Columns.staff_columns, proofs.{Called.{keys_placed, voices_same}, Counts.{lengths_count, voices_count}, Few.few_keys}}}
 use Rattle.mus_keys.proofs.keys.system_keys.Goals as goal
 
 pub keys_called-requires-clause-within : goal.keys_called-requires-clause-within

@@ -1,5 +1,4 @@
-use Rattle.std.proofs.Common.{arith, sym}
-use Rattle.mus_laid.proofs.ByColumns.{put_far}
+use Rattle.{std.proofs.Common.{arith, sym}, mus_laid.proofs.ByColumns.{put_far}}
 use Rattle.mus_laid.proofs.columns.put_mark.Goals as goal
 
 pub returns-else-place-len : goal.returns-else-place-len

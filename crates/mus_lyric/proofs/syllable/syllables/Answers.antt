@@ -1,5 +1,4 @@
-use Rattle.std.proofs.Common.{rules}
-use Rattle.mus_lyric.proofs.SyllableLaws.{is_spelt, is_one, is_value}
+use Rattle.{std.proofs.Common.{rules}, mus_lyric.proofs.SyllableLaws.{is_spelt, is_one, is_value}}
 use Rattle.mus_lyric.proofs.syllable.syllables.Goals as goal
 
 pub returns-clause-spelt : goal.returns-clause-spelt

@@ -1,5 +1,4 @@
-use Rattle.std.proofs.Common.{arith, sym}
-use Rattle.mus_marks.proofs.Counts.{counted_far}
+use Rattle.{std.proofs.Common.{arith, sym}, mus_marks.proofs.Counts.{counted_far}}
 use Rattle.mus_marks.proofs.counting.count_mark.Goals as goal
 
 pub returns-else-place-len : goal.returns-else-place-len

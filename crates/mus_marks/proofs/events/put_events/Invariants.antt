@@ -1,6 +1,5 @@
 use Rattle.std.{proofs.Common.◌≡◌, proofs.Common.◌++◌, proofs.Common.length, specs.Option.option_copied}
-use Rattle.mus_drawn.specs.Good.{AreGoodDrawn}
-use Rattle.mus_marks.specs.Events.{events_marks}
+use Rattle.{mus_drawn.specs.Good.{AreGoodDrawn}, mus_marks.specs.Events.{events_marks}}
 use Rattle.mus_marks.proofs.events.put_events.Given as goal
 
 abbrev pub invariant-loop-rest : goal.invariant-loop-rest

@@ -1,6 +1,5 @@
 use Rattle.std.proofs.Common.{◌≡◌, ◌++◌, drop}
-use Rattle.mus_drawn.specs.Good.{AllCanGrace}
-use Rattle.mus_marks.specs.Events.{graces_from}
+use Rattle.{mus_drawn.specs.Good.{AllCanGrace}, mus_marks.specs.Events.{graces_from}}
 use Rattle.mus_marks.proofs.events.put_graces.Given as goal
 
 abbrev pub invariant-loop-i : goal.invariant-loop-i

@@ -1,6 +1,4 @@
-use Rattle.std.proofs.Common.{subst, sym}
-use Rattle.mus_units.specs.Good.{AreGoodSigns}
-use Rattle.mus_marks.proofs.Goods.{first_good}
+use Rattle.{std.proofs.Common.{subst, sym}, mus_units.specs.Good.{AreGoodSigns}, mus_marks.proofs.Goods.{first_good}}
 use Rattle.mus_marks.proofs.measures.put_head_part.Goals as goal
 
 pub put_head-requires : goal.put_head-requires

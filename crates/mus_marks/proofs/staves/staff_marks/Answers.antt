@@ -1,5 +1,4 @@
-use Rattle.std.proofs.Common.{subst, sym}
-use Rattle.mus_marks.{specs.Staff.CoversLines, proofs.Lines.covers}
+use Rattle.{std.proofs.Common.{subst, sym}, mus_marks.{specs.Staff.CoversLines, proofs.Lines.covers}}
 use Rattle.mus_marks.proofs.staves.staff_marks.Goals as goal
 
 pub returns-clause-lines : goal.returns-clause-lines

@@ -1,6 +1,5 @@
 use Rattle.std.{proofs.Common.{◌≡◌, ◌++◌, ◌+◌, ◌≤◌, [], length}, specs.List.All}
-use Rattle.mus_drawn.specs.Good.{AreGoodMeasures}
-use Rattle.mus_marks.specs.Staff.{verses_on, written_parts}
+use Rattle.{mus_drawn.specs.Good.{AreGoodMeasures}, mus_marks.specs.Staff.{verses_on, written_parts}}
 use Rattle.mus_marks.proofs.staves.written_parts.Given as goal
 
 abbrev pub invariant-loop-rest : goal.invariant-loop-rest

@@ -1,8 +1,5 @@
 use Rattle.std.{proofs.Common.{◌∙◌, ◌≤◌, map, refl, ap, subst, sym, arith}, specs.List.All}
-use Rattle.mus_score.specs.Seats.{grouped}
-use Rattle.mus_time.specs.Ranks.{AreRanked}
-use Rattle.mus_laid.specs.Boxes.{AreGoodMarks}
-use Rattle.mus_keys.proofs.Counts.{lengths_count, voices_count}
+use Rattle.{mus_score.specs.Seats.{grouped}, mus_time.specs.Ranks.{AreRanked}, mus_laid.specs.Boxes.{AreGoodMarks}, mus_keys.proofs.Counts.{lengths_count, voices_count}}
 use Rattle.mus_marks.{specs.Staff.staff_marks, specs.Staff.verses_on, specs.System.drawn_staves, specs.System.stands_lower, proofs.Fitting.few_verses, proofs.Fitting.staves_fit, proofs.GoodMarks.staves_good}
 use Rattle.mus_marks.proofs.systems.marks_of.Goals as goal
 

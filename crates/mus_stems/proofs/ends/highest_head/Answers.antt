@@ -1,5 +1,4 @@
-use Rattle.std.proofs.{Common.arith, lemmas.Int.ints}
-use Rattle.mus_stems.proofs.Ranges.{high_near}
+use Rattle.{std.proofs.{Common.arith, lemmas.Int.ints}, mus_stems.proofs.Ranges.{high_near}}
 use Rattle.mus_stems.proofs.ends.highest_head.Goals as goal
 
 pub returns-clause-low : goal.returns-clause-low

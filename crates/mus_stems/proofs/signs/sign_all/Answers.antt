@@ -1,5 +1,4 @@
-use Rattle.std.proofs.{Common.arith, lemmas.Int.ints}
-use Rattle.mus_stems.proofs.Counting.{sign_step}
+use Rattle.{std.proofs.{Common.arith, lemmas.Int.ints}, mus_stems.proofs.Counting.{sign_step}}
 use Rattle.mus_stems.proofs.signs.sign_all.Goals as goal
 
 pub loop-n-preserved : goal.loop-n-preserved

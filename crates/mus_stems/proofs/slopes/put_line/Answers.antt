@@ -1,5 +1,4 @@
-use Rattle.std.proofs.{Common.arith, lemmas.Int.ints}
-use Rattle.mus_stems.proofs.SlopeLaws.{base_near}
+use Rattle.{std.proofs.{Common.arith, lemmas.Int.ints}, mus_stems.proofs.SlopeLaws.{base_near}}
 use Rattle.mus_stems.proofs.slopes.put_line.Goals as goal
 
 pub put_ends-requires-clause-base : goal.put_ends-requires-clause-base

@@ -1,6 +1,5 @@
 use Rattle.std.proofs.Common.{◌≡◌, ◌++◌, map, true, drop}
-use Rattle.mus_score.specs.Times.{all_products_fit}
-use Rattle.mus_time.specs.Beats.{beats_in_row, beats_within}
+use Rattle.{mus_score.specs.Times.{all_products_fit}, mus_time.specs.Beats.{beats_in_row, beats_within}}
 use Rattle.mus_time.proofs.beats.+walk.Given as goal
 
 abbrev pub invariant-put_nodes-loop-m : goal.invariant-put_nodes-loop-m

@@ -1,5 +1,4 @@
-use Rattle.std.proofs.{Common.rules, lemmas.List.Sorted.IsPartitionPoint-from_clause}
-use Rattle.mus_time.{specs.Order.is_below, proofs.RankLaws.parted, proofs.RankLaws.ranked}
+use Rattle.{std.proofs.{Common.rules, lemmas.List.Sorted.IsPartitionPoint-from_clause}, mus_time.{specs.Order.is_below, proofs.RankLaws.parted, proofs.RankLaws.ranked}}
 use Rattle.mus_time.proofs.ranks.rank_of.Goals as goal
 
 pub returns : goal.returns

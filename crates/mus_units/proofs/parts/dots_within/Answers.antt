@@ -1,5 +1,4 @@
-use Rattle.std.proofs.Common.{arith}
-use Rattle.mus_units.proofs.Longest.{dots_greatest, dots_more}
+use Rattle.{std.proofs.Common.{arith}, mus_units.proofs.Longest.{dots_greatest, dots_more}}
 use Rattle.mus_units.proofs.parts.dots_within.Goals as goal
 
 pub returns-then-left-base-clause-longest : goal.returns-then-left-base-clause-longest

@@ -1,6 +1,5 @@
 use Rattle.std.proofs.Common.{◌≡◌, ◌+◌, drop}
-use Rattle.mus_laid.specs.Ranked.{inked}
-use Rattle.mus_words.specs.Syllables.{syllables_from}
+use Rattle.{mus_laid.specs.Ranked.{inked}, mus_words.specs.Syllables.{syllables_from}}
 use Rattle.mus_words.proofs.syllables.put_syllables.Given as goal
 
 abbrev pub invariant-loop-word : goal.invariant-loop-word

@@ -1,6 +1,5 @@
 use Rattle.std.proofs.Common.{◌≡◌, ◌+◌, length, drop}
-use Rattle.mus_laid.specs.Ranked.{inked}
-use Rattle.mus_words.specs.Texts.{below_from}
+use Rattle.{mus_laid.specs.Ranked.{inked}, mus_words.specs.Texts.{below_from}}
 use Rattle.mus_words.proofs.texts.put_below.Given as goal
 
 abbrev pub invariant-loop-k : goal.invariant-loop-k

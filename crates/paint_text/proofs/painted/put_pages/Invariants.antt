@@ -1,6 +1,5 @@
 use Rattle.std.proofs.Common.{◌≡◌, ◌++◌, ◌+◌, drop}
-use Rattle.ps_text.specs.Document.{numbered}
-use Rattle.paint_text.specs.PaintText.{page_text}
+use Rattle.{ps_text.specs.Document.{numbered}, paint_text.specs.PaintText.{page_text}}
 use Rattle.paint_text.proofs.painted.put_pages.Given as goal
 
 abbrev pub invariant-loop-page : goal.invariant-loop-page

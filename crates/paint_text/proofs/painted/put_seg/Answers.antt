@@ -1,5 +1,4 @@
-use Rattle.std.proofs.Common.{arith}
-use Rattle.ps_text.proofs.Signs.{as_passed}
+use Rattle.{std.proofs.Common.{arith}, ps_text.proofs.Signs.{as_passed}}
 use Rattle.paint_text.proofs.painted.put_seg.Goals as goal
 
 pub returns-in-Curve : goal.returns-in-Curve

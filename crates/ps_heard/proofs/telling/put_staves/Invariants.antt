@@ -1,6 +1,5 @@
 use Rattle.std.proofs.Common.{◌≡◌, ◌++◌, drop}
-use Rattle.ps_text.specs.Document.{numbered}
-use Rattle.ps_heard.specs.HeardText.{staff_text}
+use Rattle.{ps_text.specs.Document.{numbered}, ps_heard.specs.HeardText.{staff_text}}
 use Rattle.ps_heard.proofs.telling.put_staves.Given as goal
 
 abbrev pub invariant-loop-heads : goal.invariant-loop-heads

@@ -1,5 +1,4 @@
-use Rattle.std.proofs.Common.{sym, subst}
-use Rattle.ps_read.{specs.Steps.Any, specs.Steps.IsNextOf, specs.declared.place.Place.Place, proofs.Stepping.on_headed}
+use Rattle.{std.proofs.Common.{sym, subst}, ps_read.{specs.Steps.Any, specs.Steps.IsNextOf, specs.declared.place.Place.Place, proofs.Stepping.on_headed}}
 use Rattle.ps_read.proofs.pages.after_heading.Goals as goal
 
 pub returns-then-is_text : goal.returns-then-is_text

@@ -1,6 +1,5 @@
 use Rattle.std.proofs.Common.{◌<◌, ◌+◌, ◌^◌, ap, ◌∙◌, subst}
-use Rattle.ps_text.specs.Document.{heading_line}
-use Rattle.ps_read.proofs.Stepping.{on_trailer, on_heading}
+use Rattle.{ps_text.specs.Document.{heading_line}, ps_read.proofs.Stepping.{on_trailer, on_heading}}
 use Rattle.ps_read.proofs.pages.after_page.Goals as goal
 
 pub returns-then-is_text : goal.returns-then-is_text

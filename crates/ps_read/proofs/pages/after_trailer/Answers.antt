@@ -1,6 +1,5 @@
 use Rattle.std.proofs.Common.{ap, ◌∙◌}
-use Rattle.ps_text.specs.Document.{count_line}
-use Rattle.ps_read.proofs.Stepping.{on_count}
+use Rattle.{ps_text.specs.Document.{count_line}, ps_read.proofs.Stepping.{on_count}}
 use Rattle.ps_read.proofs.pages.after_trailer.Goals as goal
 
 pub returns-then-branch : goal.returns-then-branch

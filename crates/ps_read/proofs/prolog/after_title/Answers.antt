@@ -1,5 +1,4 @@
-use Rattle.ps_text.specs.Prolog.{procedures}
-use Rattle.ps_read.proofs.Stepping.{on_titled, none_titled}
+use Rattle.{ps_text.specs.Prolog.{procedures}, ps_read.proofs.Stepping.{on_titled, none_titled}}
 use Rattle.ps_read.proofs.prolog.after_title.Goals as goal
 
 pub returns-in_ok-rest-in-Some : goal.returns-in_ok-rest-in-Some

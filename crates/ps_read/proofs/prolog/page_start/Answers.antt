@@ -1,5 +1,4 @@
-use Rattle.std.proofs.Common.{arith}
-use Rattle.ps_read.proofs.Stepping.{on_page_start}
+use Rattle.{std.proofs.Common.{arith}, ps_read.proofs.Stepping.{on_page_start}}
 use Rattle.ps_read.proofs.prolog.page_start.Goals as goal
 
 pub returns : goal.returns

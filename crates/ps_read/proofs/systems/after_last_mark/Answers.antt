@@ -1,6 +1,5 @@
 use Rattle.std.proofs.Common.{◌+◌, ◌∙◌, ap}
-use Rattle.ps_text.specs.Document.{staff_line}
-use Rattle.ps_read.proofs.Stepping.{on_next_staff, none_next_staff, some_join, none_join}
+use Rattle.{ps_text.specs.Document.{staff_line}, ps_read.proofs.Stepping.{on_next_staff, none_next_staff, some_join, none_join}}
 use Rattle.ps_read.proofs.systems.after_last_mark.Goals as goal
 
 pub returns-then-is_none : goal.returns-then-is_none

@@ -1,5 +1,4 @@
-use Rattle.std.proofs.Common.{subst}
-use Rattle.ps_read.{specs.Titles.IsMarkRead, proofs.Stepping.on_mark}
+use Rattle.{std.proofs.Common.{subst}, ps_read.{specs.Titles.IsMarkRead, proofs.Stepping.on_mark}}
 use Rattle.ps_read.proofs.systems.after_mark.Goals as goal
 
 pub returns-in_ok-staff-in-Some : goal.returns-in_ok-staff-in-Some

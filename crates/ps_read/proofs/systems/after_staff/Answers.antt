@@ -1,6 +1,4 @@
-use Rattle.std.proofs.{Common.subst, Common.w64, lemmas.Int.to_z-of_z}
-use Rattle.ps_text.proofs.Numbers.{fits}
-use Rattle.ps_read.{specs.Titles.IsRulesRead, proofs.Stepping.on_rules}
+use Rattle.{std.proofs.{Common.subst, Common.w64, lemmas.Int.to_z-of_z}, ps_text.proofs.Numbers.{fits}, ps_read.{specs.Titles.IsRulesRead, proofs.Stepping.on_rules}}
 use Rattle.ps_read.proofs.systems.after_staff.Goals as goal
 
 pub returns : goal.returns

@@ -1,5 +1,4 @@
-use Rattle.std.proofs.Common.{subst, refl}
-use Rattle.ps_read.{specs.Titles.IsJoinRead, proofs.Stepping.on_join, proofs.Stepping.not_joined}
+use Rattle.{std.proofs.Common.{subst, refl}, ps_read.{specs.Titles.IsJoinRead, proofs.Stepping.on_join, proofs.Stepping.not_joined}}
 use Rattle.ps_read.proofs.systems.join_next.Goals as goal
 
 pub returns-in-Some : goal.returns-in-Some

@@ -1,5 +1,4 @@
-use Rattle.std.proofs.{Common.arith, lemmas.Int.ints}
-use Rattle.ps_text.proofs.FoundMarks.{small_low, small_high}
+use Rattle.{std.proofs.{Common.arith, lemmas.Int.ints}, ps_text.proofs.FoundMarks.{small_low, small_high}}
 use Rattle.ps_text.proofs.reading.narrowed.Goals as goal
 
 pub overflow_cast-result : goal.overflow_cast-result

@@ -1,6 +1,5 @@
 use Rattle.std.{proofs.Common.{◌≡◌, ℕ, ℤ, ◌++◌, List, length, true}, specs.List.{AllByRecursion, list_all}}
-use Rattle.glyph_paths.specs.Procedure.{numbers}
-use Rattle.ps_text.{specs.Range.IsNumber, specs.Scanning.is_field, proofs.Taken.NumbersLeft}
+use Rattle.{glyph_paths.specs.Procedure.{numbers}, ps_text.{specs.Range.IsNumber, specs.Scanning.is_field, proofs.Taken.NumbersLeft}}
 use Rattle.ps_text.proofs.scanning.take_numbers.Given as goal
 
 abbrev pub invariant-loop-z : goal.invariant-loop-z

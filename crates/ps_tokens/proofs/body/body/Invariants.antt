@@ -1,5 +1,4 @@
-use Rattle.std.proofs.Common.{length}
-use Rattle.ps_tokens.proofs.Bodies.{BodyStage}
+use Rattle.{std.proofs.Common.{length}, ps_tokens.proofs.Bodies.{BodyStage}}
 use Rattle.ps_tokens.proofs.body.body.Given as goal
 
 abbrev pub invariant-loop-here : goal.invariant-loop-here

@@ -1,6 +1,5 @@
 use Rattle.std.proofs.Common.{sym, ◌∙◌}
-use Rattle.ps_steps.specs.Tokens.{word_front, no_word}
-use Rattle.ps_tokens.proofs.Fronts.{run_word}
+use Rattle.{ps_steps.specs.Tokens.{word_front, no_word}, ps_tokens.proofs.Fronts.{run_word}}
 use Rattle.ps_tokens.proofs.front.regular.Goals as goal
 
 pub returns-in-Some : goal.returns-in-Some

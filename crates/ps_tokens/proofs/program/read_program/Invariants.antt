@@ -1,6 +1,4 @@
-use Rattle.std.proofs.Common.{length, false}
-use Rattle.ps_steps.specs.Tokens.{passed}
-use Rattle.ps_tokens.proofs.Programs.{ProgramStage}
+use Rattle.{std.proofs.Common.{length, false}, ps_steps.specs.Tokens.{passed}, ps_tokens.proofs.Programs.{ProgramStage}}
 use Rattle.ps_tokens.proofs.program.read_program.Given as goal
 
 abbrev pub invariant-loop-rest : goal.invariant-loop-rest

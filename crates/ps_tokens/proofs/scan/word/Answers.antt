@@ -1,5 +1,4 @@
-use Rattle.ps_steps.specs.Tokens.{is_regular}
-use Rattle.ps_tokens.proofs.Fronts.{run_passes, run_stops}
+use Rattle.{ps_steps.specs.Tokens.{is_regular}, ps_tokens.proofs.Fronts.{run_passes, run_stops}}
 use Rattle.ps_tokens.proofs.scan.word.Goals as goal
 
 pub returns-clause-regular : goal.returns-clause-regular

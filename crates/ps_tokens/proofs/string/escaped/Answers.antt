@@ -1,6 +1,5 @@
 use Rattle.std.proofs.{Common.rules, Common.◌≡◌, Common.true, lemmas.List.nil_from_length}
-use Rattle.ps_text.specs.Fields.{is_special}
-use Rattle.ps_tokens.proofs.Spellings.{cut_slash, special_byte}
+use Rattle.{ps_text.specs.Fields.{is_special}, ps_tokens.proofs.Spellings.{cut_slash, special_byte}}
 use Rattle.ps_tokens.proofs.string.escaped.Goals as goal
 
 pub returns-in-None : goal.returns-in-None

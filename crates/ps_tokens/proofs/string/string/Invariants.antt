@@ -1,5 +1,4 @@
-use Rattle.std.proofs.Common.{length}
-use Rattle.ps_tokens.proofs.Words.{WordsStage}
+use Rattle.{std.proofs.Common.{length}, ps_tokens.proofs.Words.{WordsStage}}
 use Rattle.ps_tokens.proofs.string.string.Given as goal
 
 abbrev pub invariant-loop-b : goal.invariant-loop-b

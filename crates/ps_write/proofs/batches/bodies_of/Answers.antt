@@ -1,5 +1,4 @@
-use Rattle.std.proofs.lemmas.Slice.Zip.{AllZip-map}
-use Rattle.ps_text.specs.Document.{body_text}
+use Rattle.{std.proofs.lemmas.Slice.Zip.{AllZip-map}, ps_text.specs.Document.{body_text}}
 use Rattle.ps_write.proofs.batches.bodies_of.Goals as goal
 
 pub returns : goal.returns

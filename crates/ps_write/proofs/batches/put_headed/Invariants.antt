@@ -1,6 +1,5 @@
 use Rattle.std.{proofs.Common.{◌≡◌, ◌+◌, ◌^◌, ◌<◌, ◌++◌, length}, specs.Vec.Iter.{into_iter_items, into_iter_len}}
-use Rattle.ps_text.specs.Document.{numbered}
-use Rattle.ps_write.specs.Written.{headed_text}
+use Rattle.{ps_text.specs.Document.{numbered}, ps_write.specs.Written.{headed_text}}
 use Rattle.ps_write.proofs.batches.put_headed.Given as goal
 
 abbrev pub invariant-loop-body : goal.invariant-loop-body

@@ -1,7 +1,4 @@
-use Rattle.std.proofs.Common.{subst}
-use Rattle.abc_header.specs.Defaults.{defaults_of}
-use Rattle.set_tune.specs.Terms.{terms_of}
-use Rattle.set_book.specs.Outcomes.{AreOutcomes}
+use Rattle.{std.proofs.Common.{subst}, abc_header.specs.Defaults.{defaults_of}, set_tune.specs.Terms.{terms_of}, set_book.specs.Outcomes.{AreOutcomes}}
 use Rattle.set_book.proofs.setting.set_all.Goals as goal
 
 pub returns : goal.returns

@@ -1,6 +1,5 @@
 use Rattle.std.proofs.Common.{◌++◌, [], ◌∙◌, ap}
-use Rattle.lay_cert.specs.{Lines.lines_then, Listing.entry_lines}
-use Rattle.set_lists.specs.Listing.{entry_of}
+use Rattle.{lay_cert.specs.{Lines.lines_then, Listing.entry_lines}, set_lists.specs.Listing.{entry_of}}
 use Rattle.set_lists.proofs.listing.put_tune.Goals as goal
 
 pub returns : goal.returns

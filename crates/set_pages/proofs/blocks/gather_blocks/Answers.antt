@@ -1,6 +1,5 @@
 use Rattle.std.proofs.Common.{◌<◌, length, arith, subst, sym}
-use Rattle.lay_pages.specs.Filling.{AreGoodBlocks}
-use Rattle.set_pages.{specs.Drawings.outcome_blocks, proofs.{Standing.good_append, Stepping.blocks_value}}
+use Rattle.{lay_pages.specs.Filling.{AreGoodBlocks}, set_pages.{specs.Drawings.outcome_blocks, proofs.{Standing.good_append, Stepping.blocks_value}}}
 use Rattle.set_pages.proofs.blocks.gather_blocks.Goals as goal
 
 pub loop-outcome-preserved : goal.loop-outcome-preserved

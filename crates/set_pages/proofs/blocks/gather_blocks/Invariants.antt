@@ -1,6 +1,5 @@
 use Rattle.std.proofs.Common.{◌≡◌, ◌++◌, drop}
-use Rattle.lay_pages.specs.Filling.{AreGoodBlocks}
-use Rattle.set_pages.specs.Drawings.{all_blocks}
+use Rattle.{lay_pages.specs.Filling.{AreGoodBlocks}, set_pages.specs.Drawings.{all_blocks}}
 use Rattle.set_pages.proofs.blocks.gather_blocks.Given as goal
 
 abbrev pub invariant-loop-outcome : goal.invariant-loop-outcome

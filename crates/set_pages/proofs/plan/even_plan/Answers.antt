@@ -1,6 +1,4 @@
-use Rattle.std.proofs.Common.{ap, subst}
-use Rattle.lay_pages.specs.Filling.{IsPageError}
-use Rattle.set_pages.proofs.Whole.{even_fits}
+use Rattle.{std.proofs.Common.{ap, subst}, lay_pages.specs.Filling.{IsPageError}, set_pages.proofs.Whole.{even_fits}}
 use Rattle.set_pages.proofs.plan.even_plan.Goals as goal
 
 pub unreachable-requires : goal.unreachable-requires

@@ -1,5 +1,4 @@
-use Rattle.std.proofs.Common.{[]}
-use Rattle.set_pages.proofs.Whole.{sheet_pressed}
+use Rattle.{std.proofs.Common.{[]}, set_pages.proofs.Whole.{sheet_pressed}}
 use Rattle.set_pages.proofs.press.sheet_of_press.Goals as goal
 
 pub returns : goal.returns

@@ -1,5 +1,4 @@
-use Rattle.std.proofs.Common.{[]}
-use Rattle.set_pages.proofs.Whole.{book_sheet, plan_rises, room_alone}
+use Rattle.{std.proofs.Common.{[]}, set_pages.proofs.Whole.{book_sheet, plan_rises, room_alone}}
 use Rattle.set_pages.proofs.sheet.sheet_for.Goals as goal
 
 pub press_outcomes-requires-clause-room : goal.press_outcomes-requires-clause-room

@@ -1,6 +1,5 @@
 use Rattle.std.{proofs.Common.{◌≡◌, ◌++◌, drop, map, take}, specs.Prelude.All}
-use Rattle.ps_text.specs.Range.{IsItem}
-use Rattle.set_pages.specs.Drawings.{row_at}
+use Rattle.{ps_text.specs.Range.{IsItem}, set_pages.specs.Drawings.{row_at}}
 use Rattle.set_pages.proofs.titles.put_rows.Given as goal
 
 abbrev pub invariant-loop-row : goal.invariant-loop-row

@@ -1,5 +1,4 @@
-use Rattle.std.proofs.{Common.arith, Common.to_z-of_z, lemmas.Int.ints}
-use Rattle.set_staves.proofs.OnPage.{spans}
+use Rattle.{std.proofs.{Common.arith, Common.to_z-of_z, lemmas.Int.ints}, set_staves.proofs.OnPage.{spans}}
 use Rattle.set_staves.proofs.marks.page_mark.Goals as goal
 
 pub returns-in-Beam-clause-good : goal.returns-in-Beam-clause-good

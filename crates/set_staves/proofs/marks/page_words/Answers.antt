@@ -1,6 +1,5 @@
 use Rattle.std.proofs.{Common.◌≡◌, Common.subst, Common.sym, lemmas.Result.IfOk-weaker}
-use Rattle.ps_text.specs.Range.{IsWords}
-use Rattle.set_staves.proofs.OnPage.{words_shown}
+use Rattle.{ps_text.specs.Range.{IsWords}, set_staves.proofs.OnPage.{words_shown}}
 use Rattle.set_staves.proofs.marks.page_words.Goals as goal
 
 pub returns-clause-good : goal.returns-clause-good

@@ -1,6 +1,5 @@
 use Rattle.std.proofs.Common.{◌≡◌, All, map, take}
-use Rattle.ps_text.specs.Range.{IsPageMark}
-use Rattle.set_staves.specs.Marks.{page_mark}
+use Rattle.{ps_text.specs.Range.{IsPageMark}, set_staves.specs.Marks.{page_mark}}
 use Rattle.set_staves.proofs.marks.place_marks.Given as goal
 
 abbrev pub invariant-loop-laid : goal.invariant-loop-laid

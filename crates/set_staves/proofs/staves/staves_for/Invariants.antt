@@ -1,6 +1,5 @@
 use Rattle.std.proofs.Common.{◌≡◌, ◌++◌, All, drop, length}
-use Rattle.ps_text.specs.Range.{IsStaff}
-use Rattle.set_staves.specs.Marks.{staves_at}
+use Rattle.{ps_text.specs.Range.{IsStaff}, set_staves.specs.Marks.{staves_at}}
 use Rattle.set_staves.proofs.staves.staves_for.Given as goal
 
 abbrev pub invariant-loop-staff : goal.invariant-loop-staff

@@ -1,5 +1,4 @@
-use Rattle.std.proofs.Common.{drop}
-use Rattle.mus_laid.specs.Boxes.{AreGoodMarks}
+use Rattle.{std.proofs.Common.{drop}, mus_laid.specs.Boxes.{AreGoodMarks}}
 use Rattle.setting_tests.proofs.boxes.put_boxes.Given as goal
 
 abbrev pub invariant-loop-laid : goal.invariant-loop-laid

@@ -1,5 +1,4 @@
-use Rattle.std.proofs.Common.{drop, map}
-use Rattle.mus_stems.specs.Heads.{AllNear, stand_of}
+use Rattle.{std.proofs.Common.{drop, map}, mus_stems.specs.Heads.{AllNear, stand_of}}
 use Rattle.setting_tests.proofs.plans.are_near.Given as goal
 
 abbrev pub invariant-loop-head : goal.invariant-loop-head

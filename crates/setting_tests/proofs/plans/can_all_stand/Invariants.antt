@@ -1,5 +1,4 @@
-use Rattle.std.proofs.Common.{drop}
-use Rattle.mus_stems.specs.Stills.{AllCanStand, clefs_from}
+use Rattle.{std.proofs.Common.{drop}, mus_stems.specs.Stills.{AllCanStand, clefs_from}}
 use Rattle.setting_tests.proofs.plans.can_all_stand.Given as goal
 
 abbrev pub invariant-loop-flat : goal.invariant-loop-flat

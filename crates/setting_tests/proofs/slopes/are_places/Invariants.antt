@@ -1,5 +1,4 @@
-use Rattle.std.proofs.Common.{drop}
-use Rattle.mus_stems.specs.Slope.{ArePlaces}
+use Rattle.{std.proofs.Common.{drop}, mus_stems.specs.Slope.{ArePlaces}}
 use Rattle.setting_tests.proofs.slopes.are_places.Given as goal
 
 abbrev pub invariant-loop-x : goal.invariant-loop-x

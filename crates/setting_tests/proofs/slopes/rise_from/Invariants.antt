@@ -1,5 +1,4 @@
-use Rattle.std.proofs.Common.{drop}
-use Rattle.setting_tests.specs.Rising.{RisesFrom}
+use Rattle.{std.proofs.Common.{drop}, setting_tests.specs.Rising.{RisesFrom}}
 use Rattle.setting_tests.proofs.slopes.rise_from.Given as goal
 
 abbrev pub invariant-loop-x : goal.invariant-loop-x

@@ -1,6 +1,5 @@
 use Rattle.std.proofs.Common.{◌≡◌, ◌++◌, ◌+◌, drop}
-use Rattle.ps_text.specs.Document.{numbered}
-use Rattle.sheet_text.specs.SheetText.{page_report}
+use Rattle.{ps_text.specs.Document.{numbered}, sheet_text.specs.SheetText.{page_report}}
 use Rattle.sheet_text.proofs.report.put_pages.Given as goal
 
 abbrev pub invariant-loop-page : goal.invariant-loop-page

@@ -1,6 +1,5 @@
 use Rattle.std.proofs.Common.{rules, ◌≡◌, ◌≢◌, ◌∙◌, ◌<◌, ◌==◌, if◌then◌else◌, [], None, Some, IfSome, arith, replicate, set, ap, sym, subst}
-use Rattle.lay_springs.specs.Stands.{cut_reach, reach_in}
-use Rattle.lay_columns.{specs.Stands.all_held, proofs.Lone.{lone_told, none_told, nowhere, others}}
+use Rattle.{lay_springs.specs.Stands.{cut_reach, reach_in}, lay_columns.{specs.Stands.all_held, proofs.Lone.{lone_told, none_told, nowhere, others}}}
 use Rattle.lay_columns.proofs.stands.Reaches.stands.Goals as goal
 
 pub returns : goal.returns
