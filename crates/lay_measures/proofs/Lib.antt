@@ -1,4 +1,4 @@
-mod Behind
+pub mod Behind
 pub mod Facts
 mod HeadKeys
 mod Joined

@@ -1,5 +1,5 @@
 pub mod DrawnLaws
-mod EachLaws
+pub mod EachLaws
 pub mod PlanLaws
-mod SignLaws
-mod TreeLaws
+pub mod SignLaws
+pub mod TreeLaws
