@@ -1,7 +1,7 @@
-pub mod Behind
+mod Behind
 pub mod Facts
 mod HeadKeys
-mod Joined
+pub mod Joined
 mod KeyLaws
 mod Ranks
 mod SameBoxes
