@@ -1,12 +1,12 @@
 -- A book whose document was written, and one whose document was not written to its end.
-use Rattle.std.{proofs.{Common.{◌≡◌, refl, sym, ap, ◌∙◌, subst, ◌⊎◌, inl, inr, ℕ, ◌<◌, Bool, true, false, List, [], ◌∷◌, ◌++◌, length, take, drop, arith, Option}, lemmas.List.{append-nil, append_assoc, length-append, take-append-drop}, Math.Seq.take-append_seam}, specs.Prelude.{Result, Ok, Err}}
-use Rattle.abc_lines.specs.{declared.book.{Book.Book, TuneText.TuneText}, Books.book_of}
+use Rattle.std.{proofs.{Common.{◌≡◌, refl, sym, ap, ◌∙◌, subst, ◌⊎◌, inl, inr, ℕ, ◌<◌, Bool, true, false, List, [], ◌∷◌, ◌++◌, length, take, drop, arith, Option}, lemmas.List.{append-nil, append_assoc, length-append, take-append-drop, Elements.{All-head, All-tail}}}, specs.Prelude.{All, Result, Ok, Err}}
+use Rattle.abc_lines.specs.{declared.{book.{Book.Book, TuneText.TuneText}, fault.Fault.Fault}, Books.book_of}
 use Rattle.abc_header.specs.{declared.{defaults.Defaults.Defaults, paper.Paper.Paper}, Defaults.defaults_of, Papers.{IsGoodPaper, height_of, paper_of}}
 use Rattle.{ps_text.specs.{Document.document, declared.sheet.Page.Page}, set_book.{specs.{declared.outcome.Outcome.Outcome, Outcomes.{AreOutcomes, IsOutcome}}, proofs.Once.outcomes_once}}
-use Rattle.set_lists.specs.Reports.{some_fault}
-use Rattle.set_pages.{specs.{Sheet.{IsPlan, all_spots, frame_of, sheet_of}, declared.{plan.Plan.Plan, press.Press.Press}, Drawings.{all_blocks, all_drawings}, Press.{HasRoom, IsOpen, IsPressed, RisesBy, done_pages}}, proofs.{Fronts.{IsFront, done_first, done_front}, Whole.{one_plan, plan_rises, plan_stands, room_by, sheet_whole, stand_count}, Zips.{zip_back, zip_front}}}
+use Rattle.{set_lists.specs.Reports.{some_fault}, lay_pages.specs.Filling.{AreGoodBlocks}, set_every.proofs.Every.{every_tune}}
+use Rattle.set_pages.{specs.{Sheet.{IsPlan, IsSetResult, IsSetUnder, all_spots, frame_of, sheet_of}, declared.{plan.Plan.Plan, press.Press.Press}, Drawings.{all_blocks, all_drawings, outcome_blocks, result_blocks}, Press.{HasRoom, IsOpen, IsPressed, RisesBy, done_pages}}, proofs.{Fronts.{IsFront, done_first, done_front}, Standing.good_append, Whole.{one_plan, plan_rises, plan_stands, room_by, sheet_whole, stand_count}, Zips.{zip_back, zip_front}}}
 use Rattle.abcps.{specs.{Pressed.{AreCutOff, AreRunning, IsClosed, IsPlanned, IsPrinted, IsUnprinted, WasCounted, WasStopped, all_set, first_text, rest_text, some_left, status_if, unbegun}, Called.Called, Books.{AreSet, CallsPages, pages_called, paper_in, terms_in}, Outcome.{HasFront, IsAnswer, IsCutShort, IsEnd, IsQuiet, Stream, TookAll, TookFront}, declared.{pressing.{Printed.Printed, Running.Running}, status.Status.Status}}, proofs.{Sent.{document_parts, front_longer, stopped_behind, stopped_count, stopped_front, stopped_longer, stream, took_behind}, Answered.{answer_by, answered_end}, Batches.IsUnderway, BookCalls.set_under}}
-use Rattle.{set_tune.specs.Terms.{Manner, Terms}, abcps_words.specs.declared.command.Command.{Command}}
+use Rattle.{set_tune.{specs.{Blocks.{blocks_of, is_some_list}, Terms.{Manner, Terms}, declared.tune.SetTune.SetTune}, proofs.{GoodBlocks.good_blocks, Laid.good_heights}}, abcps_words.specs.declared.command.Command.{Command}}
 
 -- pages that were given up are the first of a sheet, and so is their text of its document
 frame_same : (plan : Plan) (paper : Paper) (outcomes : List Outcome) → (sheet_of plan paper outcomes).frame ≡ frame_of paper
@@ -102,8 +102,16 @@ count_left before rest tunes tune whole =
     let same = ap length whole in
     omega (arith, both, same)
 
-first_tunes : (before rest tunes : List TuneText) → before ++ rest ≡ tunes → before ≡ take (length before) tunes
-first_tunes before rest tunes whole = sym (take-append_seam before rest) ∙ ap (λ l. take (length before) l) whole
+-- the blocks of tunes that are set have good heights
+result_good : (paper : Paper) (r : Result SetTune Fault) → IsSetResult paper r → AreGoodBlocks (result_blocks r)
+unfolding blocks_of
+result_good paper (Ok t) set = good_blocks t.title.rows t.title.height (is_some_list t.heights) t.heights (good_heights t.score t.systems t.heights set.3.laid.layout.heights)
+result_good paper (Err fault) set = tt
+
+blocks_good : (paper : Paper) (outcomes : List Outcome) → All (IsSetUnder paper) outcomes → AreGoodBlocks (all_blocks outcomes)
+blocks_good paper [] set = tt
+blocks_good paper (o ∷ os) set =
+    good_append (outcome_blocks o) (all_blocks os) (result_good paper o.result (All-head (IsSetUnder paper) o os set).result) (blocks_good paper os (All-tail (IsSetUnder paper) o os set))
 
 module _ (manner : Manner) (even : Bool) (text : List ℕ) (plan : Plan) (o : Stream) (why : Status) (good : IsGoodPaper (paper_in text))
     (planned : IsPlanned even (terms_in manner text) (book_of text).tunes plan)
@@ -115,22 +123,32 @@ module _ (manner : Manner) (even : Bool) (text : List ℕ) (plan : Plan) (o : St
       subst (λ l. WasStopped why o l) (sym (parts_of plan (paper_in text) cut.outcomes given (done_first plan (paper_in text) cut.outcomes cut.given cut.press cut.pressed)))
       (stopped_longer why o (first_text (paper_in text) given) (rest_text given (sheet_of plan (paper_in text) cut.outcomes)) cut.wrote)
 
+  module _ (all : List Outcome) (set : AreSet manner text all) where
+    behind : AreOutcomes (terms_in manner text) (cut.before ++ cut.rest) all
+    behind = subst (λ l. AreOutcomes (terms_in manner text) l all) (sym cut.whole) set
+
+    parted_all : IsPlan even (paper_in text) all plan
+    parted_all = plan_of_all even (terms_in manner text) (book_of text).tunes plan all planned set
+
+    -- it is one of the document of all tunes
+    front_whole : HasFront o (document (sheet_of plan (paper_in text) all))
+    front_whole =
+        let given = cut.given ++ done_pages cut.press in
+        let under = set_under manner text (paper_in text) all refl set in
+        let stand = plan_stands even (paper_in text) all plan good under (blocks_good (paper_in text) all under) parted_all in
+        let front = front_called (terms_in manner text) plan cut.before cut.rest cut.outcomes all cut.given cut.press cut.set cut.pressed behind (stand_count plan (paper_in text) all under stand.stand) in
+        text_front plan (paper_in text) all given o front (stopped_front why o (first_text (paper_in text) given) cut.wrote)
+
+    -- and of that of the tunes that were set
+    front_first : HasFront o (document (sheet_of plan (paper_in text) (take (length cut.before) all)))
+    front_first =
+        let one = outcomes_once (terms_in manner text) cut.before (take (length cut.before) all) cut.outcomes (zip_front (IsOutcome (terms_in manner text)) cut.before cut.rest all behind) cut.set in
+        subst (λ os. HasFront o (document (sheet_of plan (paper_in text) os))) (sym one) (stopped_front why o (document (sheet_of plan (paper_in text) cut.outcomes)) stopped_all)
+
   front_all : (called : Called) → CallsPages manner even text called → HasFront o called.page
   front_all called calls =
-      let given = cut.given ++ done_pages cut.press in
-      let whole = subst (λ l. AreOutcomes (terms_in manner text) l calls.outcomes) (sym cut.whole) calls.set in
-      let same = one_plan even (paper_in text) calls.outcomes plan calls.plan (plan_of_all even (terms_in manner text) (book_of text).tunes plan calls.outcomes planned calls.set) calls.parted in
-      let count = subst (λ p. length (all_drawings calls.outcomes) ≡ length (all_spots p (paper_in text) calls.outcomes)) same
-      (stand_count calls.plan (paper_in text) calls.outcomes (set_under manner text (paper_in text) calls.outcomes refl calls.set) calls.blocks) in
-      let front = front_called (terms_in manner text) plan cut.before cut.rest cut.outcomes calls.outcomes cut.given cut.press cut.set cut.pressed whole count in
-      subst (λ l. HasFront o l) (ap (λ p. document (sheet_of p (paper_in text) calls.outcomes)) (sym same) ∙ ap document (sym calls.whole) ∙ calls.read.spelled)
-      (text_front plan (paper_in text) calls.outcomes given o front (stopped_front why o (first_text (paper_in text) given) cut.wrote))
-
-  first_filled : even ≡ false → HasFront o (document (sheet_of Plan.Filled (paper_in text) cut.outcomes))
-  first_filled e =
-      subst (λ p. HasFront o (document (sheet_of p (paper_in text) cut.outcomes)))
-      (subst (λ b. IsPlanned b (terms_in manner text) (book_of text).tunes plan) e planned)
-      (stopped_front why o (document (sheet_of plan (paper_in text) cut.outcomes)) stopped_all)
+      let same = one_plan even (paper_in text) calls.outcomes plan calls.plan (parted_all calls.outcomes calls.set) calls.parted in
+      subst (λ l. HasFront o l) (ap (λ p. document (sheet_of p (paper_in text) calls.outcomes)) (sym same) ∙ ap document (sym calls.whole) ∙ calls.read.spelled) (front_whole calls.outcomes calls.set)
 
   unprinted_by : (rest : List TuneText) → cut.rest ≡ rest → IsUnprinted manner even text o why
   unprinted_by [] none =
@@ -140,13 +158,17 @@ module _ (manner : Manner) (even : Bool) (text : List ℕ) (plan : Plan) (o : St
       all_set (pages_called plan (paper_in text) cut.outcomes) (calls_pages manner even text cut.outcomes plan cut.given cut.press set parted good cut.free cut.pressed) stopped_all
   unprinted_by (tune ∷ rest) is =
       let whole = ap (λ l. cut.before ++ l) (sym is) ∙ cut.whole in
+      let all = every_tune.book text manner in
       some_left
       (record {
         count = length cut.before;
         left = count_left cut.before rest (book_of text).tunes tune whole;
-        outcomes = cut.outcomes;
-        set = subst (λ l. AreOutcomes (terms_in manner text) l cut.outcomes) (first_tunes cut.before cut.rest (book_of text).tunes cut.whole) cut.set;
-        first = first_filled;
+        outcomes = all.0;
+        set = all.1;
+        plan = plan;
+        parted = parted_all all.0 all.1;
+        whole = front_whole all.0 all.1;
+        first = front_first all.0 all.1;
         all = front_all;
       })
       (stopped_count why o (document (sheet_of plan (paper_in text) cut.outcomes)) stopped_all)

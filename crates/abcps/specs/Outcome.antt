@@ -1,8 +1,8 @@
 -- What a run answers, and what it leaves on each stream: by cases on the answer.
-use Rattle.std.specs.{Prelude.{◌≡◌, ◌⊎◌, ◌<◌, ◌≤◌, ℕ, ◌+◌, List, [], Bool, false, length, take, Option}, Io.KnownBytes.{Keeps, Appends, Consumes, IsAtEnd}}
-use Rattle.{eng_io.specs.Causes.{Rose}, abc_lines.specs.Books.{book_of}, ps_text.specs.Document.{document}, set_book.specs.{declared.outcome.Outcome.Outcome, Outcomes.AreOutcomes}}
-use Rattle.{set_pages.specs.{Sheet.sheet_of, declared.plan.Plan.Plan}, abcps_words.specs.{Command.{Asks, IsListed, limit_of}, declared.command.Command.Command, Usage.usage_line}}
-use Rattle.abcps.specs.{Books.{terms_in, CallsPages, paper_in}, Called.Called, Calls.{Calls, Refuses}, Refusals.{refusal_line, refusal_status}, declared.{refusing.Refusal.Refusal, status.Status.Status}}
+use Rattle.std.specs.{Prelude.{◌≡◌, ◌⊎◌, ◌<◌, ◌≤◌, ℕ, ◌+◌, List, [], Bool, length, take, Option}, Io.KnownBytes.{Keeps, Appends, Consumes, IsAtEnd}}
+use Rattle.{eng_io.specs.Causes.{Rose}, abc_lines.specs.Books.{book_of}, ps_text.specs.Document.{document}, set_book.specs.declared.outcome.Outcome.{Outcome}}
+use Rattle.{set_pages.specs.{Sheet.{IsPlan, sheet_of}, declared.plan.Plan.Plan}, abcps_words.specs.{Command.{Asks, IsListed, limit_of}, declared.command.Command.Command, Usage.usage_line}}
+use Rattle.abcps.specs.{Books.{AreSet, CallsPages, paper_in}, Called.Called, Calls.{Calls, Refuses}, Refusals.{refusal_line, refusal_status}, declared.{refusing.Refusal.Refusal, status.Status.Status}}
 use Rattle.set_tune.specs.Terms.{Manner, manner_by}
 
 -- a stream before and after a call: its bytes, where known, and its count of faults
@@ -57,14 +57,17 @@ WasTold s line = TookAll s line ⊎ TookFront s line
 abbrev pub WasCut : Called → Stream → Stream → Type 0
 WasCut called o e = (TookFront o called.page × IsQuiet e) ⊎ (TookAll o called.page × TookFront e called.told)
 
--- `set` ended while some tunes of its book were left: so many were set, and what output took is a front of whatever is called for of the
--- whole book, and where blocks are filled of the document of these tunes alone.
+-- `set` ended while some tunes of its book were left, so many having been set. Each of its tunes has an outcome all the same, and what
+-- output took is a front of the document of all of them; and of the document of the tunes that were set, by the same plan.
 pub record IsCutShort (manner : Manner) (even : Bool) (text : List ℕ) (o : Stream) : Type 0 where
   pub count : ℕ
   pub left : count < length (book_of text).tunes
   pub outcomes : List Outcome
-  pub set : AreOutcomes (terms_in manner text) (take count (book_of text).tunes) outcomes
-  pub first : even ≡ false → HasFront o (document (sheet_of Plan.Filled (paper_in text) outcomes))
+  pub set : AreSet manner text outcomes
+  pub plan : Plan
+  pub parted : IsPlan even (paper_in text) outcomes plan
+  pub whole : HasFront o (document (sheet_of plan (paper_in text) outcomes))
+  pub first : HasFront o (document (sheet_of plan (paper_in text) (take count outcomes)))
   pub all : (called : Called) → CallsPages manner even text called → HasFront o called.page
 
 abbrev pub WasCutShort : Command → List ℕ → Stream → Type 0

@@ -1,0 +1,5 @@
+mod Bodies
+mod Flaws
+mod GoodFields
+mod Headers
+pub mod Scores

@@ -1,0 +1,138 @@
+-- There is a place of any columns.
+use Rattle.std.{specs.{Int.int_max}, proofs.{Common.{◌≡◌, ℕ, zero, suc, ◌+◌, ◌-◌, ◌*◌, ◌<◌, ◌≤◌, subst, ℤ, pos, ◌+ℤ◌, ◌≤ℤ◌, List, length, take, replicate, Option, None, Some, IfSome, slice_index, slice_index_or, slice_set, sym, ap, ◌∙◌, arith, refl}, lemmas.{Int.{ints, clamps}, List.{length-set, length-replicate}}}}
+use Rattle.lay_springs.{specs.{declared.traits.Reach.Reach, Place.{IsPlacedTo, IsPlace}}, proofs.{Clear.below_or_at, Longer.fewer_apart, Placing.{placed_first, placed_more, place_of}}}
+
+-- the least number that is at least `from` and whatever is asked
+pub record Top (from : ℤ) (Asked : ℤ → Type 0) : Type 0 where
+  pub v : ℤ
+  pub past : from ≤ℤ v
+  pub all : (w : ℤ) → Asked w → w ≤ℤ v
+  pub least : (u : ℤ) → from ≤ℤ u → ((w : ℤ) → Asked w → w ≤ℤ u) → v ≤ℤ u
+
+-- asked by one of the first m
+pub record AskedBelow (m : ℕ) (f : ℕ → ℤ → Type 0) (w : ℤ) : Type 0 where
+  pub by : ℕ
+  pub within : by < m
+  pub asks : f by w
+
+-- where each of the first m has a top over any number, so have all of them
+pub top_of : (f : ℕ → ℤ → Type 0) → ((i : ℕ) (from : ℤ) → Top from (f i)) → (m : ℕ) (from : ℤ) → Top from (AskedBelow m f)
+top_of f one zero from = record { v = from; past = omega (arith, ints); all = λ w a. absurd (let l = a.within in omega arith); least = λ u p q. p }
+top_of f one (suc m) from =
+    let r = top_of f one m from in
+    let l = one m r.v in
+    record {
+      v = l.v;
+      past = let a = r.past in let b = l.past in omega (arith, ints);
+      all = λ w a. below_or_at (λ k. f k w → w ≤ℤ l.v) a.by m (let t = a.within in omega arith)
+          (λ t h. let p = r.all w (record { by = a.by; within = t; asks = h }) in let q = l.past in omega (arith, ints))
+          (λ h. l.all w h) a.asks;
+      least = λ u p q. l.least u (r.least u p (λ w a. q w (record { by = a.by; within = let t = a.within in omega arith; asks = a.asks })))
+          (λ w h. q w (record { by = m; within = omega arith; asks = h }));
+    }
+
+-- what a reach asks for, where a column has one
+abbrev pub AskedAt : Option Reach → (Reach → ℤ) → ℤ → Type 0
+AskedAt o f w = (r : Reach) × (o ≡ Some r) × (w ≡ f r)
+
+pub top_at : (o : Option Reach) (f : Reach → ℤ) (from : ℤ) → Top from (AskedAt o f)
+top_at None f from = record { v = from; past = omega (arith, ints); all = λ w a. absurd (let e = a.1 in cc); least = λ u p q. p }
+top_at (Some r) f from = record {
+  v = int_max from (f r);
+  past = omega (arith, ints, clamps);
+  all = λ w a. let same : r ≡ a.0 = (let e = a.1 in cc) in let is : w ≡ f r = a.2 ∙ ap f (sym same) in rw is (omega (arith, ints, clamps));
+  least = λ u p q. let t = q (f r) (r, refl, refl) in omega (arith, ints, clamps);
+}
+
+-- what two reaches ask for
+abbrev pub AskedBy : Option Reach → Option Reach → (Reach → Reach → ℤ) → ℤ → Type 0
+AskedBy o p f w = (r : Reach) × (o ≡ Some r) × AskedAt p (f r) w
+
+top_by : (o p : Option Reach) (f : Reach → Reach → ℤ) (from : ℤ) → Top from (AskedBy o p f)
+top_by None p f from = record { v = from; past = omega (arith, ints); all = λ w a. absurd (let e = a.1 in cc); least = λ u p q. p }
+top_by (Some r) p f from =
+    let t = top_at p (f r) from in
+    record {
+      v = t.v;
+      past = t.past;
+      all = λ w a. let same : r ≡ a.0 = (let e = a.1 in cc) in t.all w (subst (λ x. AskedAt p (f x) w) (sym same) a.2);
+      least = λ u l q. t.least u l (λ w a. q w (r, refl, a));
+    }
+
+abbrev at : List ℤ → ℕ → ℤ
+at x k = slice_index_or x k (pos 0)
+
+module _ (n : ℕ) (reach : ℕ → ℕ → Option Reach) (gaps : List ℕ) (spring : ℕ → ℕ)
+    (near : (k lane : ℕ) → lane < length gaps → IfSome (reach k lane) (λ r. (r.left ≤ 1048576) × (r.right ≤ 1048576)))
+    (narrow : (lane : ℕ) → lane < length gaps → slice_index gaps lane ≤ 1048576)
+    (short : (i : ℕ) → spring i ≤ 1048576) where
+  -- the first j + 1 columns are placed
+  abbrev Placed : ℕ → Type 0
+  Placed j = (x : List ℤ) × (length x ≡ n) × IsPlacedTo (j + 1) reach gaps (λ _. spring) 0 0 0 x
+
+  first : 0 < n → Placed 0
+  first some =
+      let lanes = length gaps in
+      let t = top_of (λ lane w. AskedAt (reach 0 lane) (λ s. pos s.left) w) (λ lane from. top_at (reach 0 lane) (λ s. pos s.left) from) lanes (pos 0) in
+      let zeros = replicate n (pos 0) in
+      let count : length (replicate n (pos 0)) ≡ n = length-replicate n (pos 0) in (
+        slice_set zeros 0 t.v,
+        length-set zeros 0 t.v ∙ count,
+        placed_first reach gaps (λ _. spring) 0 zeros t.v (omega (arith, some, count)) t.past
+            (λ lane s l e. t.all (pos s.left) (record { by = lane; within = l; asks = (s, e, refl) }))
+            (λ w b h. t.least w b (λ z a. rw a.asks.2 (h a.by a.asks.0 a.within a.asks.1)))
+            (t.least (pos 1048576) (omega (arith, ints)) (λ z a.
+            let k = rw a.asks.1 at (near 0 a.by a.within) in let m = k.0 in rw a.asks.2 (omega (arith, ints)))),
+      )
+
+  abbrev Asks : List ℤ → ℕ → ℕ → ℕ → ℤ → Type 0
+  Asks x j i lane w = AskedBy (reach i lane) (reach j lane) (λ r s. at x i +ℤ pos (r.right + slice_index gaps lane + s.left)) w
+
+  next : (j : ℕ) → j + 1 < n → Placed j → Placed (j + 1)
+  next j l (x, count, placed) =
+      let lanes = length gaps in
+      let from : ℤ = int_max (at x j +ℤ pos 100) (at x j +ℤ pos (spring j)) in
+      let over = λ (i : ℕ). top_of (Asks x (j + 1) i) (λ lane from. top_by (reach i lane) (reach (j + 1) lane) (λ r s. at x i +ℤ pos (r.right + slice_index gaps lane + s.left)) from) lanes in
+      let t = top_of (λ i. AskedBelow lanes (Asks x (j + 1) i)) over (j + 1) from in
+      let past = t.past in
+      let last = placed.small j (omega arith) in
+      let low = last.0 in
+      let high = last.1 in
+      let len = short j in (
+        slice_set x (j + 1) t.v,
+        length-set x (j + 1) t.v ∙ count,
+        placed_more reach gaps (λ _. spring) 0 0 0 0 0 x (j + 1) t.v (omega arith) (omega (arith, l, count)) placed (omega arith) (omega arith)
+            (λ k e. let z : j ≡ k = omega arith in rw (← z) (omega (arith, ints, clamps)))
+            (λ k e. let z : j ≡ k = omega arith in rw (← z) (omega (arith, ints, clamps)))
+            (λ k lt lane r s le er es. t.all _ (record { by = k; within = lt; asks = record { by = lane; within = le; asks = (r, er, (s, es, refl)) } }))
+            (λ g drop y e a.
+            let before = fewer_apart (j + 1) (j + 1 + 1) reach reach gaps spring spring y (omega arith) (λ i lane l. refl) (λ i l. refl) a in
+            let below = placed.near 0 0 y refl before j (omega arith) in
+            let step = a.steps j (omega arith) in
+            let spr = a.springs j (omega arith) in
+            let less : t.v ≤ℤ at y (j + 1) = t.least (at y (j + 1)) (omega (arith, ints, clamps)) (λ w h.
+            let b = placed.near 0 0 y refl before h.by h.within in
+            let c = a.lanes h.by (j + 1) h.within (omega arith) h.asks.by h.asks.asks.0 h.asks.asks.2.0 h.asks.within h.asks.asks.1 h.asks.asks.2.1 in
+            rw h.asks.asks.2.2 (omega (arith, ints))) in
+            omega (arith, ints, less)) (
+              omega (arith, ints, clamps),
+              t.least (pos (1048576 + 3145728 * (j + 1))) (omega (arith, ints, clamps)) (λ w h.
+                  let up = (placed.small h.by h.within).1 in
+                  let before = h.within in
+                  let right = (rw h.asks.asks.1 at (near h.by h.asks.by h.asks.within)).1 in
+                  let left = (rw h.asks.asks.2.1 at (near (j + 1) h.asks.by h.asks.within)).0 in
+                  let gap = narrow h.asks.by h.asks.within in
+                  rw h.asks.asks.2.2 (omega (arith, ints))),
+            ),
+      )
+
+  placed_to : (j : ℕ) → j < n → Placed j
+  placed_to zero l = first l
+  placed_to (suc j) l = let e : j + 1 ≡ suc j = omega arith in subst Placed e (next j (omega arith) (placed_to j (omega arith)))
+
+  pub has_place : 0 < n → (x : List ℤ) × IsPlace n reach gaps spring x
+  has_place some =
+      let p = placed_to (n - 1) (omega arith) in
+      let e : n - 1 + 1 ≡ n = omega arith in
+      let count = p.1 in
+      (take n p.0, place_of n reach gaps (λ _. spring) 0 0 0 p.0 (omega (arith, count)) (subst (λ j. IsPlacedTo j reach gaps (λ _. spring) 0 0 0 p.0) e p.2))

@@ -1,0 +1,4 @@
+mod Defaults
+mod Draws
+pub mod Every
+mod Moves
