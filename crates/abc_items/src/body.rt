@@ -10,7 +10,7 @@ use abc_fields::{Breaks, read_field};
 use abc_header::Header;
 use abc_lines::{Fault, FaultKind, Line, LineKind, TuneError, kind_of};
 use abc_steps::Item;
-use abc_tokens::{Placed, read_front};
+use abc_tokens::{Behind, Placed, read_part, start};
 use mus_units::{Memory, Row, Text};
 use std::alloc::Global;
 
@@ -113,13 +113,17 @@ fn read_music_line(
     ensures stops { IfErr result (λ e. StopsBy (MusicGives breaks line.now) body.old e) }
     ensures good { OnOk result (All IsGoodItem body.new.items) }
 {
-    let front = read_front(alloc, line, breaks.bang)?;
-    match put_tokens(alloc, breaks, line, front.tokens, body) {
-        Ok(()) => match put_end(alloc, breaks, line, front.fault, body) {
-            Ok(()) => Ok(()),
-            Err(e) => Err(e),
-        },
-        Err(e) => Err(e),
+    let mut place = start(line);
+    loop {
+        let part = read_part(alloc, line, breaks.bang, place)?;
+        match put_tokens(alloc, breaks, line, part.tokens, body) {
+            Ok(()) => {}
+            Err(e) => return Err(e),
+        }
+        match part.behind {
+            Behind::More(next) => place = next,
+            Behind::End(fault) => return put_end(alloc, breaks, line, fault, body),
+        }
     }
 }
 

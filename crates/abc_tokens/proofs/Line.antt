@@ -1,21 +1,20 @@
 -- A line as a loop reads it.
-use Rattle.std.proofs.Common.{◌≡◌, ℕ, ◌≤◌, ◌<◌, Bool, List, [], ◌∷◌, ◌++◌, length, Option, Some, None, refl, sym, ap, ◌∙◌, subst, arith, append_assoc, append-nil, option_map}
+use Rattle.std.proofs.Common.{◌≡◌, ℕ, ◌≤◌, ◌<◌, Bool, List, [], ◌∷◌, ◌++◌, length, Option, Some, None, refl, sym, ap, ◌∙◌, subst, arith, append_assoc, append-nil, length-append, ◌+◌, option_map}
 use Rattle.abc_lines.specs.declared.{book.Line.Line, fault.Fault.Fault, fault.TuneError.TuneError}
 use Rattle.abc_notes.{specs.{Parts.{IsLongest, HasNone}, Chords.{ChordForm, chord_at}, Graces.{GraceForm, grace_at}, declared.part.Flaw.Flaw}, proofs.PartLaws.{less, longest_of, none_of, longest_is, at_nil}}
 use Rattle.abc_pieces.{specs.{Forms.{Form, chord_form, grace_form, StandsAt, meant, after, opening}, Reading.{Read, read, piece_at, seen, meaning, class_of, opened, chord_read, grace_read}, declared.token.{Token.Token, Before.Before, Opening.Opening}}, proofs.PieceReader.piece_reader}
-use Rattle.abc_tokens.specs.{declared.token.Placed.Placed, Tokens.{Tokens, ends, goes, Faulty, stuck, later, Front, clear, breaks, leads, column, put, TokensOf, FrontAt, FrontOf, IsLineFlaw, fault_at, IsErrorOf}}
+use Rattle.abc_tokens.specs.{declared.token.{Placed.Placed, Place.Place}, Tokens.{Tokens, ends, goes, Faulty, stuck, later, Front, clear, breaks, leads, column, put, TokensOf, FrontAt, FrontOf, IsLineFlaw, fault_at, IsErrorOf, IsStart, FrontFrom, LeadsTo}}
 
 abbrev longest_piece : Bool → Before → List ℕ → Form → List ℕ → Type 0
 longest_piece bang before s f rest = IsLongest Form (StandsAt bang before) s f rest
 
--- where a loop stands: what follows is what the line gives, behind the tokens so far
-pub record Stage (bang : Bool) (line : List ℕ) (so_far : List Placed) (before : Before) (at : ℕ) (rest : List ℕ) : Type 0 where
-  pub front : (ts : List Placed) (end : Option Flaw) → Front bang (length line) before at rest ts end → FrontAt bang line (so_far ++ ts) end
-  pub within : length rest ≤ length line
-
 put_append : (t : Option Token) (at : ℕ) (ts : List Placed) → put t at ts ≡ put t at [] ++ ts
 put_append None at ts = refl
 put_append (Some t) at ts = refl
+
+pub put_few : (t : Option Token) (at : ℕ) (so_far new : List Placed) → new ≡ so_far ++ put t at [] → length new ≤ length so_far + 1
+put_few None at so_far new is = omega (arith, ap length is, length-append so_far [])
+put_few (Some t) at so_far new is = omega (arith, ap length is, length-append so_far (put (Some t) at []))
 
 -- what a call of the reader tells
 pub record Found (bang : Bool) (before : Before) (s : List ℕ) (t : Option Token) (next : Before) (rest : List ℕ) : Type 0 where
@@ -42,27 +41,37 @@ is_read bang before s f rest l = longest_is (piece_reader bang before) s f rest 
 pub consumes : (bang : Bool) (before : Before) (s : List ℕ) (t : Option Token) (next : Before) (rest : List ℕ) → Some (seen t next rest) ≡ meaning (piece_at bang before s) → length rest < length s
 consumes bang before s t next rest h = let f = found bang before s t next rest h in less (piece_reader bang before) s (f.form, rest) f.is
 
-pub step : (bang : Bool) (line : List ℕ) (so_far new : List Placed) (before : Before) (at here : ℕ) (s : List ℕ) (t : Option Token) (next : Before) (rest : List ℕ) →
-    Stage bang line so_far before at s → Some (seen t next rest) ≡ meaning (piece_at bang before s) → here ≡ column (length line) (length s) → new ≡ so_far ++ put t here [] → Stage bang line new next (length s) rest
-step bang line so_far new before at here s t next rest stage h place is =
-    let n = length line in
-    let f = found bang before s t next rest h in
-    let l = longest bang before s f.form rest f.is in
-    let shorter = consumes bang before s t next rest h in
-    record {
-      front = λ ts end more.
-          let all : List Placed = put (meant f.form) (column n (length s)) ts in
-          let one = stage.front all end (leads before at s f.form rest ts all end l (subst (λ b. Front bang n b (length s) rest ts end) f.tells more) refl) in
-          let joined : so_far ++ all ≡ new ++ ts =
-          ap (λ us. so_far ++ us) (ap (λ o. put o (column n (length s)) ts) (sym f.token) ∙ put_append t (column n (length s)) ts) ∙ sym (append_assoc so_far (put t (column n (length s)) []) ts)
-          ∙ ap (λ c. (so_far ++ put t c []) ++ ts) (sym place) ∙ ap (λ us. us ++ ts) (sym is) in
-          subst (λ us. FrontAt bang line us end) joined one;
-      within = omega (arith, shorter, stage.within);
-    }
+-- one piece further
+pub step : (bang : Bool) (line : Line) (place at next : Place) (so_far new : List Placed) (here : ℕ) (t : Option Token) →
+    LeadsTo bang line place so_far at → Some (seen t next.before next.rest.now) ≡ meaning (piece_at bang at.before at.rest.now) → next.at ≡ length at.rest.now → here ≡ column (length line.text) next.at → new ≡ so_far ++ put t here [] → LeadsTo bang line place new next
+step bang line place at next so_far new here t so h where_is is_column is =
+    let f = found bang at.before at.rest.now t next.before next.rest.now h in
+    let l = longest bang at.before at.rest.now f.form next.rest.now f.is in
+    λ ts fault more.
+    let all : List Placed = put t here ts in
+    let front = subst (λ a. Front bang (length line.text) (after f.form) a next.rest.now ts more.0) where_is (subst (λ b. Front bang (length line.text) b next.at next.rest.now ts more.0) f.tells more.1) in
+    let one = leads at.before at.at at.rest.now f.form next.rest.now ts all more.0 l front (ap (λ o. put o here ts) f.token ∙ ap (λ c. put (meant f.form) c ts) (is_column ∙ ap (column (length line.text)) where_is)) in
+    subst (λ us. FrontFrom bang line place us fault) (ap (λ us. so_far ++ us) (put_append t here ts) ∙ sym (append_assoc so_far (put t here []) ts) ∙ ap (λ us. us ++ ts) (sym is)) (so all fault (more.0, one, more.2))
 
-pub done_at : (bang : Bool) (line : List ℕ) (so_far : List Placed) (before : Before) (at : ℕ) (rest : List ℕ) → Stage bang line so_far before at rest → length rest ≡ 0 → FrontAt bang line so_far None
-done_at bang line so_far before at [] stage h = subst (λ us. FrontAt bang line us None) (append-nil so_far) (stage.front [] None (clear before at))
-done_at bang line so_far before at (b ∷ rest) stage h = absurd (omega (arith, h))
+from_start : (bang : Bool) (line : Line) (ts : List Placed) (end : Option Flaw) (before : Before) (at : ℕ) (rest : List ℕ) → rest ≡ line.text → before ≡ Before.Other → at ≡ 0 → Front bang (length line.text) before at rest ts end → FrontAt bang line.text ts end
+from_start bang line ts end before at rest r b a front = subst (λ x. Front bang (length line.text) Before.Other 0 x ts end) r (subst (λ x. Front bang (length line.text) Before.Other x rest ts end) a (subst (λ x. Front bang (length line.text) x at rest ts end) b front))
+
+-- tokens lead from the start of a line to a place
+abbrev pub ReadTo : Bool → Line → List Placed → Place → Type 0
+ReadTo bang line so_far place = (more : List Placed) (fault : Option Fault) → FrontFrom bang line place more fault → FrontOf bang line (so_far ++ more) fault
+
+pub read_none : (bang : Bool) (line : Line) (place : Place) → IsStart line place → ReadTo bang line [] place
+read_none bang line place start = λ more fault from. (from.0, from_start bang line more from.0 place.before place.at place.rest.now start.rest start.before start.at from.1, from.2)
+
+pub read_more : (bang : Bool) (line : Line) (place next : Place) (so_far ts new : List Placed) → ReadTo bang line so_far place → LeadsTo bang line place ts next → new ≡ so_far ++ ts → ReadTo bang line new next
+read_more bang line place next so_far ts new so on is = λ more fault from. subst (λ us. FrontOf bang line us fault) (sym (append_assoc so_far ts more) ∙ ap (λ us. us ++ more) (sym is)) (so (ts ++ more) fault (on more fault from))
+
+ends_there : (bang : Bool) (n : ℕ) (before : Before) (at : ℕ) (rest : List ℕ) → length rest ≡ 0 → Front bang n before at rest [] None
+ends_there bang n before at [] h = clear before at
+ends_there bang n before at (b ∷ rest) h = absurd (omega (arith, h))
+
+pub done_at : (bang : Bool) (line : Line) (place at : Place) (so_far : List Placed) → LeadsTo bang line place so_far at → length at.rest.now ≡ 0 → FrontFrom bang line place so_far None
+done_at bang line place at so_far so h = subst (λ us. FrontFrom bang line place us None) (append-nil so_far) (so [] None (None, ends_there bang (length line.text) at.before at.at at.rest.now h, refl))
 
 no_read : (r : Read) → None ≡ meaning r → r ≡ None
 no_read None h = refl
@@ -117,12 +126,12 @@ no_list bang n _ _ _ _ ts (later before at s f rest flaw l more) b =
     let r = behind_it bang n before s ts f rest (is_read bang before s f rest l) b in
     no_list bang n (after f) (length s) rest flaw r.ts more r.tokens
 
-pub stuck_at : (bang : Bool) (line : List ℕ) (so_far : List Placed) (before : Before) (at byte : ℕ) (rest t : List ℕ) (flaw : Flaw) → Stage bang line so_far before at rest → rest ≡ byte ∷ t →
-    None ≡ meaning (piece_at bang before rest) → IsLineFlaw bang before at byte t flaw → FrontAt bang line so_far (Some flaw)
-stuck_at bang line so_far before at byte rest t flaw stage cut none is =
-    let nothing = none_of (piece_reader bang before) (byte ∷ t) (none_at bang before rest t byte cut none) in
-    let one : Front bang (length line) before at rest [] (Some flaw) = rw cut (breaks before at byte t flaw nothing is) in
-    subst (λ us. FrontAt bang line us (Some flaw)) (append-nil so_far) (stage.front [] (Some flaw) one)
+pub stuck_at : (bang : Bool) (line : Line) (place at : Place) (so_far : List Placed) (byte : ℕ) (t : List ℕ) (flaw : Flaw) (fault : Fault) → LeadsTo bang line place so_far at → at.rest.now ≡ byte ∷ t →
+    None ≡ meaning (piece_at bang at.before at.rest.now) → IsLineFlaw bang at.before at.at byte t flaw → fault ≡ fault_at line flaw → FrontFrom bang line place so_far (Some fault)
+stuck_at bang line place at so_far byte t flaw fault so cut none is told =
+    let nothing = none_of (piece_reader bang at.before) (byte ∷ t) (none_at bang at.before at.rest.now t byte cut none) in
+    let one : Front bang (length line.text) at.before at.at at.rest.now [] (Some flaw) = rw cut (breaks at.before at.at byte t flaw nothing is) in
+    subst (λ us. FrontFrom bang line place us (Some fault)) (append-nil so_far) (so [] (Some fault) (Some flaw, one, ap Some told))
 
 -- a line without a fault has the tokens of its front, and a line with one has that fault
 front_tokens : (bang : Bool) (n : ℕ) (before : Before) (at : ℕ) (s : List ℕ) (ts : List Placed) (end : Option Flaw) → Front bang n before at s ts end → end ≡ None → Tokens bang n before s ts
@@ -153,23 +162,19 @@ pub error_of : (bang : Bool) (line : Line) (ts : List Placed) (fault : Option Fa
 error_of bang line ts fault one front is = error_by bang line ts one front.0 front.1 (sym is ∙ front.2)
 
 -- ---- where no piece stands, no chord and no grace group does
-from_chord : (r : Option (ChordForm × List ℕ)) → option_map {U = Form × List ℕ} (λ (z : ChordForm × List ℕ). (chord_form z.0, z.1)) r ≡ None → r ≡ None
-from_chord None e = refl
-from_chord (Some z) e = absurd cc
-
-from_grace : (r : Option (GraceForm × List ℕ)) → option_map {U = Form × List ℕ} (λ (z : GraceForm × List ℕ). (grace_form z.0, z.1)) r ≡ None → r ≡ None
-from_grace None e = refl
-from_grace (Some z) e = absurd cc
+pub unmapped : {T U : Type 0} (f : T → U) (o : Option T) → option_map f o ≡ None → o ≡ None
+unmapped f None e = refl
+unmapped f (Some x) e = absurd cc
 
 pub no_chord : (bang : Bool) (before : Before) (byte : ℕ) (t : List ℕ) → byte ≡ 91 → piece_at bang before (byte ∷ t) ≡ None → opening t ≡ Opening.Chord → chord_at bang t ≡ None
 unfolding piece_at class_of chord_read
 no_chord bang before byte t is none chord =
     let here : piece_at bang before (91 ∷ t) ≡ None = ap (λ b. piece_at bang before (b ∷ t)) (sym is) ∙ none in
     let opened_is : opened Opening.Chord bang t ≡ None = ap (λ o. opened o bang t) (sym chord) ∙ here in
-    from_chord (chord_at bang t) opened_is
+    unmapped (λ (z : ChordForm × List ℕ). (chord_form z.0, z.1)) (chord_at bang t) opened_is
 
 pub no_grace : (bang : Bool) (before : Before) (byte : ℕ) (t : List ℕ) → byte ≡ 123 → piece_at bang before (byte ∷ t) ≡ None → grace_at bang t ≡ None
 unfolding piece_at class_of grace_read
 no_grace bang before byte t is none =
     let here : piece_at bang before (123 ∷ t) ≡ None = ap (λ b. piece_at bang before (b ∷ t)) (sym is) ∙ none in
-    from_grace (grace_at bang t) here
+    unmapped (λ (z : GraceForm × List ℕ). (grace_form z.0, z.1)) (grace_at bang t) here

@@ -1,11 +1,11 @@
 -- The tokens of a music line: piece by piece, each the longest that stands at the front of what is
 -- left; and the first fault of a line that has no such list.
 use Prim.Native.Char.{code}
-use Rattle.std.specs.Prelude.{◌≡◌, ℕ, ◌+◌, ◌-◌, List, [], ◌∷◌, length, Bool, ◌==◌, if◌then◌else◌, Option, Some, None, MatchBool, MatchOption, option_map}
+use Rattle.std.specs.Prelude.{◌≡◌, ℕ, ◌+◌, ◌-◌, ◌≤◌, ◌<◌, List, [], ◌∷◌, ◌++◌, length, Bool, ◌==◌, if◌then◌else◌, Option, Some, None, MatchBool, MatchOption, option_map}
 use Rattle.abc_lines.specs.declared.{book.Line.Line, fault.Fault.Fault, fault.FaultKind.FaultKind, fault.TuneError.TuneError, fault.FaultKind.TheVariants.BadByte, fault.FaultKind.TheVariants.Unclosed, fault.FaultKind.TheVariants.BadLength, fault.FaultKind.TheVariants.BadTuplet}
 use Rattle.{mus_units.specs.Bytes.{is_digit}, abc_notes.specs.{Parts.IsLongest, Parts.HasNone, Parts.goes_on_length, Chords.ChordFault, Graces.GraceFault, declared.part.Flaw.Flaw}}
 use Rattle.abc_pieces.specs.{Forms.Form, Forms.StandsAt, Forms.meant, Forms.after, Forms.arrow, Forms.opening, declared.token.Token.Token, declared.token.Before.Before, declared.token.Opening.Opening}
-use Rattle.abc_tokens.specs.declared.token.Placed.{Placed}
+use Rattle.abc_tokens.specs.declared.token.{Placed.Placed, Place.Place, Behind.Behind}
 
 -- where s begins in a line of n bytes that ends with it
 abbrev pub column : ℕ → ℕ → ℕ
@@ -88,3 +88,25 @@ IsErrorOf bang line (TuneError.Fault fault) = (flaw : Flaw) × FlawOf bang line.
 -- the tokens before the first fault of a line, and that fault if the line has one
 abbrev pub FrontOf : Bool → Line → List Placed → Option Fault → Type 0
 FrontOf bang line ts fault = (end : Option Flaw) × FrontAt bang line.text ts end × (fault ≡ option_map (fault_at line) end)
+
+-- the place where a line begins
+pub record IsStart (line : Line) (place : Place) : Type 0 where
+  pub rest : place.rest.now ≡ line.text
+  pub before : place.before ≡ Before.Other
+  pub at : place.at ≡ 0
+
+abbrev pub IsPlaceIn : Line → Place → Type 0
+IsPlaceIn line place = (length place.rest.now ≤ length line.text) × (place.at ≤ length line.text)
+
+-- the same from a place on
+abbrev pub FrontFrom : Bool → Line → Place → List Placed → Option Fault → Type 0
+FrontFrom bang line place ts fault = (end : Option Flaw) × Front bang (length line.text) place.before place.at place.rest.now ts end × (fault ≡ option_map (fault_at line) end)
+
+-- tokens lead from a place to a later one: whatever stands from there on stands behind them
+abbrev pub LeadsTo : Bool → Line → Place → List Placed → Place → Type 0
+LeadsTo bang line place ts next = (more : List Placed) (fault : Option Fault) → FrontFrom bang line next more fault → FrontFrom bang line place (ts ++ more) fault
+
+-- a part of a line: tokens that lead to a later place, or all that stands before the first fault or the end
+abbrev pub PartOf : Bool → Line → Place → List Placed → Behind → Type 0
+PartOf bang line place ts (Behind.More next) = LeadsTo bang line place ts next × IsPlaceIn line next × (length next.rest.now < length place.rest.now)
+PartOf bang line place ts (Behind.End fault) = FrontFrom bang line place ts fault

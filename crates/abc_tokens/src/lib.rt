@@ -7,5 +7,5 @@ pub mod token;
 
 pub use abc_pieces::{Apart, GraceChord, Len, Token, WrittenChord};
 pub use mus_units::{Bar, Deco, Head};
-pub use reader::{read_front, read_music};
-pub use token::{Front, Placed};
+pub use reader::{read_front, read_music, read_part, start};
+pub use token::{Behind, Front, Part, Place, Placed};

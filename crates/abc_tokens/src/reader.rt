@@ -1,9 +1,9 @@
 ghost use Rattle.std.specs.Prelude.{◌≡◌, ◌≢◌, ◌≤◌, ◌<◌, ◌+◌, ◌-◌, ◌^◌, ◌++◌, ◌∷◌, ℕ, List, length, IfOk, IfErr, OnOk, [], None};
 ghost use Rattle.{abc_lines.specs.{Kinds.code, Good.IsGoodLine}, abc_notes.specs.Chords.{chord_at}};
 ghost use Rattle.abc_pieces.specs.{Forms.opening, Forms.is_kept_field, declared.token.Opening.TheVariants.Chord, Reading.piece_at, Reading.token_of, Reading.found_within};
-ghost use Rattle.abc_tokens.specs.{declared.token.Placed.Placed, Good.AreGoodTokens, Tokens.{TokensOf, IsErrorOf, FrontOf, column, put, fault_at, kind_behind, kind_if, IsBracketFlaw, IsLineFlaw, IsOwnFlaw}};
+ghost use Rattle.abc_tokens.specs.{declared.token.Placed.Placed, Good.AreGoodTokens, Tokens.{TokensOf, IsErrorOf, FrontOf, IsStart, IsPlaceIn, PartOf, column, put, fault_at, kind_behind, kind_if, IsBracketFlaw, IsLineFlaw, IsOwnFlaw}};
 
-use crate::token::{Front, Placed};
+use crate::token::{Behind, Front, Part, Place, Placed};
 use abc_lines::{Fault, FaultKind, Line, TuneError};
 use abc_notes::chord::{chord_fault, goes_on_length, read_decos, read_heads};
 use abc_notes::decoration::{deco_of_letter, deco_of_name};
@@ -13,6 +13,9 @@ use abc_pieces::{Apart, Before, Flaw, Found, Opening, Token, WrittenChord};
 use mus_units::bytes::is_digit;
 use mus_units::{Memory, Row, Text};
 use std::alloc::Global;
+
+/// The most tokens of a part.
+const MOST: usize = 1000;
 
 /// The tokens of a music line with their columns, or the first fault of the line.
 /// `bang` says that `!` is a line break. Linear in the line.
@@ -40,28 +43,73 @@ pub fn read_front(alloc: Global, line: &Line, bang: bool) -> Result<Front, Memor
     ensures front { IfOk result (λ front. FrontOf bang line.now front.tokens front.fault) }
     ensures good { IfOk result (λ front. AreGoodTokens front.tokens) }
 {
-    let text = line.text.as_slice();
-    let mut out = Row::with_room(alloc, text.len().min(64))?;
-    let mut rest = text;
-    let mut before = Before::Other;
-    let mut at = 0;
-    'pieces: while let Some((first, behind)) = rest.split_first() {
-        let here = rest.len();
-        let Some(piece) = piece_at(bang, before, rest) else {
-            let flaw = line_flaw(bang, before, at, *first, behind);
-            return Ok(Front {
-                tokens: out,
-                fault: Some(fault_at(line, flaw)),
+    let mut tokens = Row::new(alloc);
+    let mut place = start(line);
+    loop {
+        let part = read_part(alloc, line, bang, place)?;
+        tokens.append(part.tokens)?;
+        match part.behind {
+            Behind::More(next) => place = next,
+            Behind::End(fault) => return Ok(Front { tokens, fault }),
+        }
+    }
+}
+
+/// The place where a music line begins.
+pub fn start(line: &Line) -> Place<'_>
+    ensures { IsStart line.now result }
+{
+    Place {
+        rest: line.text.as_slice(),
+        before: Before::Other,
+        at: 0,
+    }
+}
+
+/// The tokens of a music line from a place on, up to its first fault or to the
+/// thousandth of them, and what stands behind them. So a line is read in parts,
+/// and no more than a thousand of its tokens are held at once. Linear in what is
+/// read.
+pub fn read_part<'a>(
+    alloc: Global,
+    line: &Line,
+    bang: bool,
+    place: Place<'a>,
+) -> Result<Part<'a>, Memory>
+    requires line { IsGoodLine line.now }
+    requires place { IsPlaceIn line.now place }
+    ensures part { IfOk result (λ part. PartOf bang line.now place.entry part.tokens part.behind) }
+    ensures few { IfOk result (λ part. length part.tokens ≤ 1000) }
+    ensures good { IfOk result (λ part. AreGoodTokens part.tokens) }
+{
+    let mut tokens = Row::with_room(alloc, place.rest.len().min(MOST))?;
+    let mut place = place;
+    'pieces: while tokens.len() < MOST {
+        let Some((first, behind)) = place.rest.split_first() else {
+            return Ok(Part {
+                tokens,
+                behind: Behind::End(None),
             });
         };
-        add(alloc, &mut out, bang, piece.found, column(text.len(), here))?;
-        rest = piece.rest;
-        before = piece.after;
-        at = here;
+        let Some(piece) = piece_at(bang, place.before, place.rest) else {
+            let flaw = line_flaw(bang, place.before, place.at, *first, behind);
+            return Ok(Part {
+                tokens,
+                behind: Behind::End(Some(fault_at(line, flaw))),
+            });
+        };
+        let left = place.rest.len();
+        let column = column(line.text.len(), left);
+        add(alloc, &mut tokens, bang, piece.found, column)?;
+        place = Place {
+            rest: piece.rest,
+            before: piece.after,
+            at: left,
+        };
     }
-    Ok(Front {
-        tokens: out,
-        fault: None,
+    Ok(Part {
+        tokens,
+        behind: Behind::More(place),
     })
 }
 

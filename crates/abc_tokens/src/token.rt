@@ -1,5 +1,5 @@
 use abc_lines::Fault;
-use abc_pieces::Token;
+use abc_pieces::{Before, Token};
 use mus_units::Row;
 
 /// A token and the column of its first byte, counted from 1.
@@ -14,4 +14,28 @@ pub struct Placed {
 pub struct Front {
     pub tokens: Row<Placed>,
     pub fault: Option<Fault>,
+}
+
+/// A place in a music line: what is left of its bytes, what the piece before tells
+/// of the next, and how far from the end of the line that piece begins.
+#[derive(Clone, Copy)]
+pub struct Place<'a> {
+    pub rest: &'a [u8],
+    pub before: Before,
+    pub at: usize,
+}
+
+/// What stands behind a part of a music line: more of the line, or its end, with
+/// the fault that it has there.
+#[derive(Clone, Copy)]
+pub enum Behind<'a> {
+    More(Place<'a>),
+    End(Option<Fault>),
+}
+
+/// Some tokens of a music line, and what stands behind them.
+#[derive(Drop)]
+pub struct Part<'a> {
+    pub tokens: Row<Placed>,
+    pub behind: Behind<'a>,
 }

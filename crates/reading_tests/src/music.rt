@@ -1,10 +1,10 @@
 use crate::books::line_of;
 use crate::tokens::put_tokens;
-use abc_lines::TuneError;
+use abc_lines::{Fault, TuneError};
 use abc_spell::spell;
-use abc_tokens::{Placed, Token, read_front, read_music};
-use case_texts::{Report, put_fault};
-use mus_units::{Memory, Row};
+use abc_tokens::{Behind, Placed, Token, read_front, read_music, read_part, start};
+use case_texts::{Report, number_of, put_fault};
+use mus_units::{Memory, Row, Text};
 use std::alloc::Global;
 
 /// Whether an argument says that an exclamation mark is a line break.
@@ -24,13 +24,41 @@ pub(crate) fn put_music(out: &mut Report, word: &str, bytes: &[u8]) -> Result<()
 pub(crate) fn put_front(out: &mut Report, word: &str, bytes: &[u8]) -> Result<(), Memory> {
     let front = read_front(out.alloc, &line_of(out.alloc, bytes)?, is_bang(word))?;
     put_tokens(out, front.tokens.as_slice())?;
-    match front.fault {
+    put_end(out, front.fault)
+}
+
+fn put_end(out: &mut Report, fault: Option<Fault>) -> Result<(), Memory> {
+    match fault {
         Some(fault) => {
             out.line(b"then")?;
             put_fault(out, TuneError::Fault(fault))
         }
         None => Ok(()),
     }
+}
+
+/// Adds the number of tokens of the first part of a music line, which is a text so many times over,
+/// and then those of the second, or the fault.
+pub(crate) fn put_parts(out: &mut Report, times: &str, bytes: &[u8]) -> Result<(), Memory> {
+    let text = repeated(out.alloc, number_of(times), bytes)?;
+    let line = line_of(out.alloc, text.as_slice())?;
+    let first = read_part(out.alloc, &line, false, start(&line))?;
+    out.show(first.tokens.len())?;
+    match first.behind {
+        Behind::More(place) => {
+            let second = read_part(out.alloc, &line, false, place)?;
+            put_tokens(out, second.tokens.as_slice())
+        }
+        Behind::End(fault) => put_end(out, fault),
+    }
+}
+
+fn repeated(alloc: Global, times: u64, bytes: &[u8]) -> Result<Text, Memory> {
+    let mut text = Text::new(alloc);
+    for _ in 0..times {
+        text.append(bytes)?;
+    }
+    Ok(text)
 }
 
 /// Adds the plain spelling of the tokens of a music line, or its fault.

@@ -1,16 +1,29 @@
-use Rattle.std.proofs.Common.{◌++◌, refl, flat_map}
-use Rattle.abc_items.{specs.Body.placed_given, specs.Body.end_given, specs.Body.MusicGives, proofs.Laws.reads_both, proofs.Laws.stops_by, proofs.Laws.stops_before}
+use Rattle.std.proofs.lemmas.Result.{on_ok_weaker, IfErr-weaker}
+use Rattle.abc_tokens.specs.{declared.token.Behind.Behind, Tokens.{FrontFrom, PartOf}}
+use Rattle.abc_items.{specs.{Body.{end_given, MusicGives}, Reading.{Stops, StopsBy}}, proofs.MusicLaws.{part_more, part_stops, part_ends, end_stops}}
 use Rattle.abc_items.proofs.body.read_music_line.Goals as goal
 
 pub returns-in-Err-clause-stops : goal.returns-in-Err-clause-stops
 returns-in-Err-clause-stops c =
-    stops_by (MusicGives c.args.breaks c.args.line.now) c.args.body.now (flat_map (placed_given c.args.breaks c.args.line.now) c.in_ok-front.front.tokens ++ end_given c.args.breaks c.args.line.now c.in_ok-front.front.fault) c.in-Err.e
-    (c.in_ok-front.front.tokens, c.in_ok-front.front.fault, c.in_ok-front.ensures.front, refl)
-    (stops_before c.args.body.now (flat_map (placed_given c.args.breaks c.args.line.now) c.in_ok-front.front.tokens) (end_given c.args.breaks c.args.line.now c.in_ok-front.front.fault) c.in-Err.e c.in-Err.ensures.stops)
+    part_stops c.args.breaks c.args.line.now c.args.body.now c.loop-part.place c.loop-part.body c.loop-part.invariant.stage c.in_ok-part.part.tokens c.in_ok-part.part.behind c.in-Err.e c.in_ok-part.ensures.part c.in-Err.ensures.stops
 
-pub returns-in-Ok-put_end-clause-reads : goal.returns-in-Ok-put_end-clause-reads
-returns-in-Ok-put_end-clause-reads c = record {
-  given = flat_map (placed_given c.args.breaks c.args.line.now) c.in_ok-front.front.tokens ++ end_given c.args.breaks c.args.line.now c.in_ok-front.front.fault;
-  gives_so = (c.in_ok-front.front.tokens, c.in_ok-front.front.fault, c.in_ok-front.ensures.front, refl);
-  reads = reads_both c.args.body.now c.put_tokens.new.body c.put_end.new.body (flat_map (placed_given c.args.breaks c.args.line.now) c.in_ok-front.front.tokens) (end_given c.args.breaks c.args.line.now c.in_ok-front.front.fault) c.in-Ok.ensures.reads c.in-Ok-put_end.ensures.reads;
-}
+pub loop-part-preserved : goal.loop-part-preserved
+loop-part-preserved c =
+    let part : PartOf c.args.breaks.bang c.args.line.now c.loop-part.place c.in_ok-part.part.tokens (Behind.More c.in-More.next) = rw c.in-More.is at c.in_ok-part.ensures.part in
+    record {
+      stage = part_more c.args.breaks c.args.line.now c.args.body.now c.loop-part.place c.loop-part.body c.loop-part.invariant.stage c.in_ok-part.part.tokens c.in-More.next c.put_tokens.new.body part.0 c.in-Ok.ensures.reads;
+      within = part.1;
+      good = c.in-Ok.ensures.good;
+    }
+
+pub returns-in-End-clause-reads : goal.returns-in-End-clause-reads
+returns-in-End-clause-reads c =
+    let part : FrontFrom c.args.breaks.bang c.args.line.now c.loop-part.place c.in_ok-part.part.tokens c.in-End.fault = rw c.in-End.is at c.in_ok-part.ensures.part in
+    on_ok_weaker c.put_end.result
+    (part_ends c.args.breaks c.args.line.now c.args.body.now c.loop-part.place c.loop-part.body c.loop-part.invariant.stage c.in_ok-part.part.tokens c.in-End.fault c.put_tokens.new.body c.put_end.new.body part c.in-Ok.ensures.reads) c.put_end.ensures.reads
+
+pub returns-in-End-clause-stops : goal.returns-in-End-clause-stops
+returns-in-End-clause-stops c =
+    let part : FrontFrom c.args.breaks.bang c.args.line.now c.loop-part.place c.in_ok-part.part.tokens c.in-End.fault = rw c.in-End.is at c.in_ok-part.ensures.part in
+    IfErr-weaker c.put_end.result (Stops c.put_tokens.new.body (end_given c.args.breaks c.args.line.now c.in-End.fault)) (StopsBy (MusicGives c.args.breaks c.args.line.now) c.args.body.now)
+    (λ e. end_stops c.args.breaks c.args.line.now c.args.body.now c.loop-part.place c.loop-part.body c.loop-part.invariant.stage c.in_ok-part.part.tokens c.in-End.fault c.put_tokens.new.body e part c.in-Ok.ensures.reads) c.put_end.ensures.stops

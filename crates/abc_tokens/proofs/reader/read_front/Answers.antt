@@ -1,40 +1,17 @@
-use Rattle.std.proofs.Common.{◌≡◌, ◌∷◌, length, arith, rules, ap, subst, List, ℕ, refl, Some, None}
-use Rattle.abc_pieces.specs.{Reading.token_of, declared.token.Before.TheVariants.Other}
-use Rattle.abc_tokens.{specs.Tokens.FrontAt, proofs.GoodLaws.good_front, proofs.Line.done_at, proofs.Line.stuck_at, proofs.Line.step, proofs.Line.consumes}
+use Rattle.std.proofs.Common.{subst, sym, length}
+use Rattle.abc_pieces.specs.declared.token.Before.TheVariants.{Other}
+use Rattle.abc_tokens.{specs.{declared.token.Behind.Behind, Tokens.{FrontOf, FrontFrom, PartOf}}, proofs.{GoodLaws.good_front, Line.read_more}}
 use Rattle.abc_tokens.proofs.reader.read_front.Goals as goal
 
-pub fault_at-requires-clause-within : goal.fault_at-requires-clause-within
-fault_at-requires-clause-within c =
-    let cut : c.pieces.rest.now ≡ c.in-Some.first.now ∷ c.in-Some.behind.now = search rules in
-    let n = length c.as_slice-text.result.now in
-    let most = c.line_flaw-flaw.ensures.within n c.pieces.invariant.at_within (omega (arith, ap length cut, c.pieces.invariant.stage.within)) in
-    omega (arith, most, ap length c.as_slice-text.ensures)
+pub loop-tokens-preserved : goal.loop-tokens-preserved
+loop-tokens-preserved c =
+    let part : PartOf c.args.bang c.args.line.now c.loop-tokens.place c.in_ok-part.part.tokens (Behind.More c.in-More.next) = rw c.in-More.is at c.in_ok-part.ensures.part in
+    record { read = read_more c.args.bang c.args.line.now c.loop-tokens.place c.in-More.next c.loop-tokens.tokens c.in_ok-part.part.tokens c.append.new.self c.loop-tokens.invariant.read part.0 c.in_ok-append.ensures.ok; within = part.1 }
 
-pub pieces-smaller : goal.pieces-smaller
-pieces-smaller c = consumes c.args.bang c.pieces.before c.pieces.rest.now (token_of c.args.bang c.in-Some-piece_at.piece.found) c.in-Some-piece_at.piece.after c.in-Some-piece_at.piece.rest.now c.in-Some-piece_at.ensures.read
+pub returns-in-End-clause-front : goal.returns-in-End-clause-front
+returns-in-End-clause-front c =
+    let part : FrontFrom c.args.bang c.args.line.now c.loop-tokens.place c.in_ok-part.part.tokens c.in-End.fault = rw c.in-End.is at c.in_ok-part.ensures.part in
+    subst (λ us. FrontOf c.args.bang c.args.line.now us c.in-End.fault) (sym c.in_ok-append.ensures.ok) (c.loop-tokens.invariant.read c.in_ok-part.part.tokens c.in-End.fault part)
 
-pub pieces-preserved : goal.pieces-preserved
-pieces-preserved c =
-    record {
-      stage = step c.args.bang c.as_slice-text.result.now c.pieces.out c.add.new.out c.pieces.before c.pieces.at c.column.result c.pieces.rest.now (token_of c.args.bang c.in-Some-piece_at.piece.found) c.in-Some-piece_at.piece.after c.in-Some-piece_at.piece.rest.now
-          c.pieces.invariant.stage c.in-Some-piece_at.ensures.read c.column.ensures c.in_ok-add.ensures;
-      at_within = c.pieces.invariant.stage.within;
-    }
-
-pub returns-in_default-piece_at-clause-front : goal.returns-in_default-piece_at-clause-front
-returns-in_default-piece_at-clause-front c = (
-  Some c.line_flaw-flaw.result,
-  subst (λ (t : List ℕ). FrontAt c.args.bang t c.pieces.out (Some c.line_flaw-flaw.result)) c.as_slice-text.ensures
-      (stuck_at c.args.bang c.as_slice-text.result.now c.pieces.out c.pieces.before c.pieces.at c.in-Some.first.now c.pieces.rest.now c.in-Some.behind.now c.line_flaw-flaw.result
-      c.pieces.invariant.stage (search rules) c.in_default-piece_at.ensures.read c.line_flaw-flaw.ensures.flaw),
-  ap Some c.fault_at.ensures,
-)
-
-pub returns-clause-front : goal.returns-clause-front
-returns-clause-front c = (None, subst (λ (t : List ℕ). FrontAt c.args.bang t c.pieces.out None) c.as_slice-text.ensures (done_at c.args.bang c.as_slice-text.result.now c.pieces.out c.pieces.before c.pieces.at c.pieces.rest.now c.pieces.invariant.stage c.in_default.ensures.cases), refl)
-
-pub returns-in_default-piece_at-clause-good : goal.returns-in_default-piece_at-clause-good
-returns-in_default-piece_at-clause-good c = let front = returns-in_default-piece_at-clause-front c in good_front c.args.bang (length c.args.line.now.text) Other 0 c.args.line.now.text c.pieces.out front.0 front.1
-
-pub returns-clause-good : goal.returns-clause-good
-returns-clause-good c = let front = returns-clause-front c in good_front c.args.bang (length c.args.line.now.text) Other 0 c.args.line.now.text c.pieces.out front.0 front.1
+pub returns-in-End-clause-good : goal.returns-in-End-clause-good
+returns-in-End-clause-good c = let front = returns-in-End-clause-front c in good_front c.args.bang (length c.args.line.now.text) Other 0 c.args.line.now.text c.append.new.self front.0 front.1

@@ -1,9 +1,9 @@
-use Rattle.std.proofs.Common.{◌≤◌, length}
-use Rattle.abc_tokens.proofs.Line.{Stage}
+use Rattle.std.proofs.Common.{length}
+use Rattle.abc_tokens.{specs.Tokens.{IsPlaceIn}, proofs.Line.{ReadTo}}
 use Rattle.abc_tokens.proofs.reader.read_front.Given as goal
 
-abbrev pub invariant-pieces : goal.invariant-pieces
-invariant-pieces l = record { stage : Stage l.bang l.text l.out l.before l.at l.rest; at_within : l.at ≤ length l.text }
+abbrev pub invariant-loop-tokens : goal.invariant-loop-tokens
+invariant-loop-tokens l = record { read : ReadTo l.bang l.line l.tokens l.place; within : IsPlaceIn l.line l.place }
 
-abbrev pub decreases-pieces : goal.decreases-pieces
-decreases-pieces l = length l.rest
+abbrev pub decreases-loop-tokens : goal.decreases-loop-tokens
+decreases-loop-tokens l = length l.place.rest.now
