@@ -6,7 +6,7 @@ use Rattle.abc_pieces.specs.{declared.token.{Before.Before, Opening.Opening}, Fo
 use Rattle.abc_tokens.{specs.Tokens.{IsBracketFlaw, IsLineFlaw, IsOwnFlaw, kind_behind}, proofs.Line.{no_chord, no_grace}}
 
 -- a test passes or fails
-pub tested : {A : Type 0} (b : Bool) → (b ≡ true → A) → (b ≡ false → A) → A
+tested : {A : Type 0} (b : Bool) → (b ≡ true → A) → (b ≡ false → A) → A
 tested true passes fails = passes refl
 tested false passes fails = fails refl
 

@@ -56,7 +56,8 @@ written_good letter text =
 pub named_good : (letter : ℕ) (text : List ℕ) → GoodRead (named_field letter text)
 unfolding named_field
 named_good letter text =
-    either GoodRead (letter == 75) (key_field (key_of text)) _ (key_read (key_of text) (key_good text)) (either GoodRead (letter == 77) (meter_field (meter_of text)) _ (meter_read (meter_of text) (meter_good text))
+    either GoodRead (letter == 75) (key_field (key_of text)) _ (key_read (key_of text) (key_good text))
+    (either GoodRead (letter == 77) (meter_field (meter_of text)) _ (meter_read (meter_of text) (meter_good text))
     (either GoodRead (letter == 76) (unit_field (unit_of text)) _ (unit_read (unit_of text) (unit_good text))
     (either GoodRead (letter == 86) (voice_field (voice_of text)) (Ok (written_field letter text)) (voice_read (voice_of text)) (written_good letter text))))
 

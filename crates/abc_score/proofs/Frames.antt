@@ -1,10 +1,9 @@
--- The frame of a score that is put together from voices without faults.
-use Rattle.std.{proofs.{Common.{◌≡◌, ◌≢◌, ◌∙◌, refl, sym, ℕ, ◌≤◌, List, [], ◌∷◌, length, map, Bool, None, arith}, lemmas.List.{length-map, Elements.All-map, FromFn.length-map-range_with_len}}, specs.List.{All, AllByRecursion}}
-use Rattle.mus_score.{specs.declared.score.Voice.Voice, specs.GoodScore.IsLed, specs.Walks.Distinct, proofs.Scores.all_within_bars, proofs.Scores.distinct_pairs, proofs.Scores.rising_bars}
-use Rattle.{abc_header.specs.{declared.header.Header.Header, Headers.HasGoodValues}, abc_steps.specs.declared.step.Item.{Item}, abc_items.specs.Voices.{unnamed_of}}
+-- The voices of a score: each has all its measures, no two have one id, and the first begins a staff.
+use Rattle.std.{proofs.{Common.{◌≡◌, ◌≢◌, ◌∙◌, refl, sym, ℕ, List, [], ◌∷◌, length, map}, lemmas.List.{Elements.All-map, FromFn.length-map-range_with_len}}, specs.List.{All, AllByRecursion}}
+use Rattle.mus_score.specs.{declared.score.Voice.Voice, GoodScore.IsLed, Walks.Distinct}
+use Rattle.{abc_header.specs.declared.header.Header.{Header}, abc_steps.specs.declared.step.Item.{Item}, abc_items.specs.Voices.{unnamed_of}}
 use Rattle.abc_events.specs.{Bars.bar_of, Bars.bars_of, Leaves.leaves_of, Measures.measure_of, Signs.signs}
-use Rattle.abc_words.{specs.Rows.row_count, specs.Verses.verse_fault, specs.Verses.verses_of, proofs.FaultLaws.few_verses}
-use Rattle.abc_score.{specs.{declared.voices.VoiceRead.VoiceRead, Voices.{AreApart, IsOther, read_ids}, Framed.{IsFramed, IsFramedVoice}, Score.{forced_of, most_measures, score_with, sung_words, voice_of, written_measures}}, proofs.Forced.forced_rise}
+use Rattle.abc_score.specs.{declared.voices.VoiceRead.VoiceRead, Voices.{AreApart, IsOther, read_ids}, Score.{sung_words, voice_of, written_measures}}
 
 -- a voice has as many measures as it is given
 length_written : (unnamed : List ℕ) (items : List Item) (n : ℕ) (v : VoiceRead) → length (written_measures unnamed items n v) ≡ n
@@ -23,7 +22,7 @@ id_voice : (header : Header) (items : List Item) (n : ℕ) (v : VoiceRead) → (
 unfolding voice_of
 id_voice header items n v = refl
 
-lengths_agree : (header : Header) (items : List Item) (n : ℕ) (voices : List VoiceRead) → All (λ (v : Voice). length v.measures ≡ n) (map (voice_of header items n) voices)
+pub lengths_agree : (header : Header) (items : List Item) (n : ℕ) (voices : List VoiceRead) → All (λ (v : Voice). length v.measures ≡ n) (map (voice_of header items n) voices)
 lengths_agree header items n voices = All-map (λ (v : Voice). length v.measures ≡ n) (voice_of header items n) voices (λ k d less. length_voice header items n _)
 
 other_voices : (header : Header) (items : List Item) (n : ℕ) (v : VoiceRead) (voices : List VoiceRead) → IsOther v.start.id (read_ids voices) → AllByRecursion (λ (w : Voice). (voice_of header items n v).id ≢ w.id) (map (voice_of header items n) voices)
@@ -31,41 +30,12 @@ other_voices header items n v [] others = tt
 other_voices header items n v (w ∷ voices) others =
     ((λ e. others.0 (sym (id_voice header items n v) ∙ (e ∙ id_voice header items n w))), other_voices header items n v voices others.1)
 
-voices_apart : (header : Header) (items : List Item) (n : ℕ) (voices : List VoiceRead) → AreApart (read_ids voices) → Distinct (map (voice_of header items n) voices)
+pub voices_apart : (header : Header) (items : List Item) (n : ℕ) (voices : List VoiceRead) → AreApart (read_ids voices) → Distinct (map (voice_of header items n) voices)
 voices_apart header items n [] apart = tt
 voices_apart header items n (v ∷ voices) apart = (other_voices header items n v voices apart.0, voices_apart header items n voices apart.1)
 
-pub voice_framed : (header : Header) (items : List Item) (n : ℕ) (v : VoiceRead) → HasGoodValues header → verse_fault v.start.id (unnamed_of header) items ≡ None → IsFramedVoice (voice_of header items n v)
-unfolding voice_of
-voice_framed header items n v good clear = record {
-  few_verses = few_verses (verses_of v.start.id (unnamed_of header) items) (row_count items) clear;
-  near = omega arith;
-  key = good.key;
-  meter = good.meter;
-}
-
-voices_framed : (header : Header) (items : List Item) (n : ℕ) (voices : List VoiceRead) → HasGoodValues header → All (λ v. verse_fault v.start.id (unnamed_of header) items ≡ None) voices → All IsFramedVoice (map (voice_of header items n) voices)
-voices_framed header items n voices good clear = All-map IsFramedVoice (voice_of header items n) voices (λ k d less. voice_framed header items n _ good (clear k d less))
-
 -- a voice as it is read has its staff for itself
-voices_led : (header : Header) (items : List Item) (n : ℕ) (voices : List VoiceRead) → IsLed (map (voice_of header items n) voices)
+pub voices_led : (header : Header) (items : List Item) (n : ℕ) (voices : List VoiceRead) → IsLed (map (voice_of header items n) voices)
 unfolding voice_of
 voices_led header items n [] = tt
 voices_led header items n (v ∷ voices) = refl
-
-pub framed : (header : Header) (items : List Item) (flow : Bool) (voices : List VoiceRead) → HasGoodValues header → All (λ v. verse_fault v.start.id (unnamed_of header) items ≡ None) voices
-    → length voices ≤ 16 → AreApart (read_ids voices) → most_measures voices ≤ 2000 → IsFramed (score_with header items flow voices)
-unfolding score_with
-framed header items flow voices good clear few apart within =
-    let n = most_measures voices in
-    let long = length-map voices (voice_of header items n) in
-    record {
-      few_voices = omega (arith, long, few);
-      few_measures = within;
-      voices = voices_framed header items n voices good clear;
-      measures = lengths_agree header items n voices;
-      ids = distinct_pairs (map (voice_of header items n) voices) (voices_apart header items n voices apart);
-      forced = all_within_bars n (forced_of flow voices n) (forced_rise flow voices n);
-      forced_rise = rising_bars n (forced_of flow voices n) (forced_rise flow voices n);
-      led = voices_led header items n voices;
-    }

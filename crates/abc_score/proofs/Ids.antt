@@ -2,8 +2,8 @@
 use Rattle.std.{proofs.{Common.{◌≡◌, ◌∙◌, refl, sym, ap, subst, ℕ, ◌+◌, ◌≤◌, List, [], ◌∷◌, ◌++◌, length, map, Bool, true, false, cond, None, arith}, lemmas.{Bool.{Decides.{nat_tests, not_from_Decides}, or_parts}, List.{Sums.sum_by-cons, length-map}, Slice.Eq.bytes_eq-Decides}}, specs.{Prelude.{◌≢◌, count_by, fold, nat_lt}, List.list_any, Str.bytes_eq}}
 use Rattle.{abc_lines.specs.declared.book.Line.{Line}, abc_header.specs.{declared.header.Header.Header, Headers.AreDistinct, Headers.HasGoodValues, Voicing.with_id}}
 use Rattle.{abc_fields.specs.declared.voice.VoiceDef.{VoiceDef}, abc_steps.specs.declared.step.Item.{Item}}
-use Rattle.abc_items.specs.{Voices.{claims, declared_ids, ids_after, ids_by_step, ids_of, start_of, starts_of}, declared.voices.VoiceStart.VoiceStart, Body.{Given, gives, fails, first_fault, items_in, judged, voice_judged, IsBody}}
-use Rattle.abc_score.specs.{declared.voices.VoiceRead.VoiceRead, Voices.AreApart, Voices.IsOther, Voices.read_ids, Voices.voice_read}
+use Rattle.abc_items.specs.{Voices.{claims, declared_ids, ids_after, ids_by_step, ids_of, start_of, starts_of}, Body.{Given, gives, fails, first_fault, items_in, judged, voice_judged, IsBody}}
+use Rattle.abc_score.specs.Voices.{AreApart, IsOther, read_ids, voice_read, voices_read}
 
 differ : (s t : List ℕ) → bytes_eq s t ≡ false → s ≢ t
 differ s t e = not_from_Decides (bytes_eq s t) (bytes_eq-Decides s t) e
@@ -69,7 +69,7 @@ items_apart : (ids : List (List ℕ)) (items : List Item) → AreApart ids → A
 items_apart ids [] apart = apart
 items_apart ids (i ∷ items) apart = items_apart (ids_after ids i) items (item_apart ids i apart)
 
-pub ids_apart : (header : Header) (items : List Item) → HasGoodValues header → AreApart (ids_of header items)
+ids_apart : (header : Header) (items : List Item) → HasGoodValues header → AreApart (ids_of header items)
 ids_apart header items good = items_apart (declared_ids header) items (declared_apart header.voices good.distinct)
 
 -- at most 16
@@ -101,12 +101,8 @@ ids_read : (header : Header) (items : List Item) (ids : List (List ℕ)) → rea
 ids_read header items [] = refl
 ids_read header items (id ∷ ids) = ap (λ others. id ∷ others) (ids_read header items ids)
 
-pub few_read : (header : Header) (items : List Item) (starts : List VoiceStart) (voices : List VoiceRead) → length (ids_of header items) ≤ 16 → starts ≡ starts_of header items → voices ≡ map (voice_read header items) starts → length voices ≤ 16
-few_read header items starts voices few begun read =
-    let long = ap (λ (vs : List VoiceRead). length vs) (read ∙ ap (map (voice_read header items)) begun) ∙ length-map (starts_of header items) (voice_read header items) ∙ length-map (ids_of header items) (start_of header items) in
-    omega (arith, long, few)
+pub few_read : (header : Header) (items : List Item) → length (ids_of header items) ≤ 16 → length (voices_read header items) ≤ 16
+few_read header items few = omega (arith, length-map (starts_of header items) (voice_read header items), length-map (ids_of header items) (start_of header items), few)
 
-pub apart_read : (header : Header) (items : List Item) (starts : List VoiceStart) (voices : List VoiceRead) → HasGoodValues header → starts ≡ starts_of header items → voices ≡ map (voice_read header items) starts → AreApart (read_ids voices)
-apart_read header items starts voices good begun read =
-    let are = ap read_ids (read ∙ ap (map (voice_read header items)) begun) ∙ ids_read header items (ids_of header items) in
-    subst AreApart (sym are) (ids_apart header items good)
+pub apart_read : (header : Header) (items : List Item) → HasGoodValues header → AreApart (read_ids (voices_read header items))
+apart_read header items good = subst AreApart (sym (ids_read header items (ids_of header items))) (ids_apart header items good)

@@ -1,13 +1,13 @@
 -- A score of voices without faults is good.
-use Rattle.std.{proofs.{Common.{◌≡◌, ◌∙◌, refl, sym, ap, subst, ℕ, zero, suc, ◌+◌, ◌≤◌, ◌<◌, List, [], ◌∷◌, ◌++◌, map, sum_by, length, reverse, take, drop, Bool, true, false, cond, ◌==◌, Option, Some, None, unwrap_or, slice_get, append-nil, arith}, lemmas.List.{drop_all, Elements.{All-from_recursion, recursion_from_All, All-map}, FromFn.length-map-range_with_len, Sums.{sum_by-cons, sum_by-append}}}, specs.{Prelude.flat_map, List.{All, AllByRecursion, range_with_len}}}
+use Rattle.std.{proofs.{Common.{◌≡◌, ◌∙◌, refl, sym, ap, subst, ℕ, zero, suc, ◌+◌, ◌≤◌, ◌<◌, List, [], ◌∷◌, ◌++◌, map, sum_by, length, reverse, take, drop, Bool, true, false, cond, ◌==◌, Option, Some, None, unwrap_or, slice_get, append-nil, arith}, lemmas.List.{drop_all, length-map, Elements.{All-from_recursion, recursion_from_All, All-map}, FromFn.length-map-range_with_len, Sums.{sum_by-cons, sum_by-append}}}, specs.{Prelude.flat_map, List.{All, AllByRecursion, range_with_len}, Str.bytes_eq}}
 use Rattle.mus_units.specs.declared.pitch.Clef.{Clef}
-use Rattle.mus_score.specs.{declared.score.Measure.Measure, declared.score.Voice.Voice, Good.IsGoodBody, GoodScore.AreCounted, GoodScore.AreInReach, GoodScore.IsGoodEvent, GoodScore.IsGoodScore, GoodScore.IsGoodVoice, GoodScore.events_of, GoodScore.voice_weight}
-use Rattle.{abc_header.specs.{declared.header.Header.Header, Headers.HasGoodValues}, abc_steps.specs.{declared.step.Item.Item, declared.force.InForce.InForce, Good.IsGoodStood, Looks.Steps}}
-use Rattle.abc_items.specs.{declared.voices.VoiceStart.VoiceStart, Voices.starts_of, Voices.unnamed_of}
+use Rattle.mus_score.{specs.{declared.score.{Measure.Measure, Voice.Voice}, Good.IsGoodBody, GoodScore.{AreCounted, AreInReach, IsGoodEvent, IsGoodScore, IsGoodVoice, events_of, voice_weight}}, proofs.Scores.{all_within_bars, distinct_pairs, rising_bars}}
+use Rattle.{abc_header.specs.{declared.header.Header.Header, Headers.HasGoodValues}, abc_steps.specs.{declared.step.Item.Item, declared.force.InForce.InForce, Good.IsGoodForce, Good.IsGoodStood, Looks.Steps}}
+use Rattle.abc_items.{specs.{declared.voices.VoiceStart.VoiceStart, Good.IsGoodItem, Voices.{ids_of, starts_of, steps_of, unnamed_of}}, proofs.Laws.steps_good}
 use Rattle.abc_events.{specs.{Leaf.Leaf, declared.written.Sign.Sign, Bars.{bar_of, bars_of}, Leaves.{Words, leaves_from, leaves_of, words_at}, Measures.{leaves_in, measure_of, measures_in}, Nesting.tree_of, Signs.{IsDrawn, signs}}, proofs.Drawn.walk_drawn}
 use Rattle.abc_faults.specs.{Faults.faults_in, Weights.crowded}
-use Rattle.abc_words.{specs.declared.music.MusicRow.MusicRow, specs.Verses.verse_count, specs.Verses.verse_fault, specs.Verses.verse_faults, specs.Words.event_words, specs.Words.music_rows, specs.Words.verse_sung, specs.Words.word_of}
-use Rattle.abc_score.{proofs.{Basics.{none_before, none_behind}, Cores.{CoresCount, CoresReach, IsGoodCore, count_of, events_of_cores, reach_of}, Frames.{length_voice, voice_framed}, Full.all_full, Nested.nested_good, Parts.{event_number, signs_count, signs_good, signs_reach, signs_sung}, Reaching.voice_reach, Rising.{own_most, voice_rise}, Rows.{leaf_rows, tree_weight, weight_of}, Segments.{Rise, measures_sing, measures_weigh}, Walks.{walk_changes, walk_parts}, Weighing.{count, leaves_weigh, not_crowded, sign_weight, signs_weigh}}, specs.{Faults.{faults_of_voices, voice_faults, voice_weights}, Framed.IsFramed, Score.{event_count, most_measures, notes_from, own_measures, score_with, sung_words, voice_of, written_measures}, Voices.{IsGoodRead, voice_read, voices_read}, declared.voices.VoiceRead.VoiceRead}}
+use Rattle.abc_words.{specs.{declared.music.MusicRow.MusicRow, Rows.row_count, Verses.{verse_count, verse_fault, verse_faults, verses_of}, Words.{event_words, music_rows, verse_sung, word_of}}, proofs.FaultLaws.few_verses}
+use Rattle.abc_score.{proofs.{Basics.{none_before, none_behind}, Clear.{clear_verses, few_measures}, Cores.{CoresCount, CoresReach, IsGoodCore, count_of, events_of_cores, reach_of}, Forced.forced_rise, Frames.{length_voice, lengths_agree, voices_apart, voices_led}, Full.all_full, Ids.{apart_read, few_read}, Nested.nested_good, Parts.{event_number, signs_count, signs_good, signs_reach, signs_sung}, Reaching.voice_reach, Rising.{own_most, voice_rise}, Rows.{leaf_rows, tree_weight, weight_of}, Segments.{Rise, measures_sing, measures_weigh}, Walks.{walk_changes, walk_parts}, Weighing.{count, leaves_weigh, not_crowded, sign_weight, signs_weigh}}, specs.{Faults.{score_faults, voice_faults, voice_weights}, Score.{event_count, forced_of, most_measures, notes_from, own_measures, score_of, score_with, sung_words, voice_of, written_measures}, Voices.{voice_read, voices_read}, declared.voices.VoiceRead.VoiceRead}}
 
 -- ---- words
 made_at : (f : ℕ → Words) (n from k : ℕ) → k < n → slice_get (map f (range_with_len from n)) k ≡ Some (f (from + k))
@@ -73,10 +73,15 @@ weight_in k (Leaf.Opens m p q r ∷ ls) = by_test (m == k) (weight_in k ls) wher
   by_test true less = less
   by_test false less = less
 
--- what is known of a voice
-pub record IsClear (header : Header) (items : List Item) (n : ℕ) (v : VoiceRead) : Type 0 where
-  pub read : IsGoodRead v
+-- how every voice is read: it begins with its own clef and with good values, and its steps are good
+record IsWellRead (v : VoiceRead) : Type 0 where
   pub clef : v.first.clef ≡ v.start.clef
+  pub first : IsGoodForce v.first
+  pub steps : AllByRecursion IsGoodStood v.steps
+
+-- what is known of a voice
+record IsClear (header : Header) (items : List Item) (n : ℕ) (v : VoiceRead) : Type 0 where
+  pub read : IsWellRead v
   pub verses : verse_fault v.start.id (unnamed_of header) items ≡ None
   pub clear : faults_in v.first [] v.steps ≡ []
   pub own : own_measures v ≤ n
@@ -97,28 +102,25 @@ leaves_with header items v = leaves_from (words_in header items v) 0 0 (signs v.
 length_bars : (v : VoiceRead) (n : ℕ) → length (bars_of v.steps n) ≡ n
 length_bars v n = length-map-range_with_len (bar_of v.steps) 0 n
 
-goods : (v : VoiceRead) → IsGoodRead v → AllByRecursion IsGoodStood v.steps
-goods v read = recursion_from_All IsGoodStood v.steps read.steps
-
-rise_in : (header : Header) (items : List Item) (n : ℕ) (v : VoiceRead) → IsGoodRead v → own_measures v ≤ n → Rise 0 (length (bars_of v.steps n)) (leaves_with header items v)
+rise_in : (header : Header) (items : List Item) (n : ℕ) (v : VoiceRead) → IsWellRead v → own_measures v ≤ n → Rise 0 (length (bars_of v.steps n)) (leaves_with header items v)
 rise_in header items n v read own =
     let long : length (bars_of v.steps n) ≡ n = length_bars v n in
-    voice_rise (words_in header items v) v.first v.steps (length (bars_of v.steps n)) (goods v read) (omega (arith, long, own))
+    voice_rise (words_in header items v) v.first v.steps (length (bars_of v.steps n)) read.steps (omega (arith, long, own))
 
 measures_are : (header : Header) (items : List Item) (n : ℕ) (v : VoiceRead) → written_measures (unnamed_of header) items n v ≡ measures_in (leaves_with header items v) (bars_of v.steps n)
 unfolding written_measures
 measures_are header items n v = refl
 
-weight_is : (header : Header) (items : List Item) (n : ℕ) (v : VoiceRead) → IsGoodRead v → own_measures v ≤ n → sum_by (λ (m : Measure). weight_of m.body) (written_measures (unnamed_of header) items n v) ≡ sum_by sign_weight (signs v.first [] v.steps)
+weight_is : (header : Header) (items : List Item) (n : ℕ) (v : VoiceRead) → IsWellRead v → own_measures v ≤ n → sum_by (λ (m : Measure). weight_of m.body) (written_measures (unnamed_of header) items n v) ≡ sum_by sign_weight (signs v.first [] v.steps)
 weight_is header items n v read own =
     ap (sum_by (λ (m : Measure). weight_of m.body)) (measures_are header items n v)
     ∙ measures_weigh (leaves_with header items v) (bars_of v.steps n) (rise_in header items n v read own) ∙ leaves_weigh (words_in header items v) 0 0 (signs v.first [] v.steps)
 
-pub weight_high : (header : Header) (items : List Item) (n : ℕ) (v : VoiceRead) → IsGoodRead v → own_measures v ≤ n → voice_weight (voice_of header items n v) ≤ sum_by count (voice_weights v)
+weight_high : (header : Header) (items : List Item) (n : ℕ) (v : VoiceRead) → IsWellRead v → own_measures v ≤ n → voice_weight (voice_of header items n v) ≤ sum_by count (voice_weights v)
 unfolding voice_of
 weight_high header items n v read own =
     let is = weight_is header items n v read own in
-    let less = signs_weigh v.first [] v.steps (goods v read) in
+    let less = signs_weigh v.first [] v.steps read.steps in
     subst (λ k. k ≤ sum_by count (voice_weights v)) (sym is) less
 
 body_good : (header : Header) (items : List Item) (n : ℕ) (v : VoiceRead) → IsClear header items n v → sum_by count (voice_weights v) ≤ 50000 → (k : ℕ) → IsGoodBody (tree_of (leaves_in k (leaves_with header items v)))
@@ -127,9 +129,9 @@ body_good header items n v is few k =
     let own = tree_weight (leaves_in k ls) in
     let within = weight_in k ls in
     let all = leaves_weigh (words_in header items v) 0 0 (signs v.first [] v.steps) in
-    let less = signs_weigh v.first [] v.steps (goods v is.read) in
+    let less = signs_weigh v.first [] v.steps is.read.steps in
     record {
-      good = nested_good (leaves_in k ls) (all_full (words_in header items v) k v.first v.steps is.read.first (goods v is.read) is.clear (all_drawn v.first v.steps));
+      good = nested_good (leaves_in k ls) (all_full (words_in header items v) k v.first v.steps is.read.first is.read.steps is.clear (all_drawn v.first v.steps));
       few = within_all (weight_of (tree_of (leaves_in k ls))) (sum_by weight_of (leaf_rows (leaves_in k ls))) (sum_by weight_of (leaf_rows ls)) (sum_by sign_weight (signs v.first [] v.steps)) (sum_by count (voice_weights v)) own within all less few;
     } where
       within_all : (a b c d e : ℕ) → a ≡ b → b ≤ c → c ≡ d → d ≤ e → e ≤ 50000 → a ≤ 50000
@@ -151,8 +153,8 @@ row_good header items n v is few =
     let ls = leaves_with header items v in
     let bars = bars_of v.steps n in
     let ms = measures_in ls bars in
-    let parts = walk_parts v.first [] v.steps is.read.first tt (goods v is.read) is.clear in
-    let changes = walk_changes v.first [] v.steps is.read.first tt (goods v is.read) in
+    let parts = walk_parts v.first [] v.steps is.read.first tt is.read.steps is.clear in
+    let changes = walk_changes v.first [] v.steps is.read.first tt is.read.steps in
     let sings = sym (measures_sing ls bars (rise_in header items n v is.read is.own) (signs_sung words 0 0 ss parts)) in
     record {
       bodies = All-map (λ (m : Measure). IsGoodBody m.body) (measure_of ls bars) (range_with_len 0 (length bars)) (λ k d less. body_good header items n v is few _);
@@ -166,23 +168,23 @@ unfolding voice_of
 music_good header items n v is few =
     let verses = verse_count v.start.id (unnamed_of header) items in
     let row = row_good header items n v is few in
-    let at_start = subst (λ clef. IsGoodRow verses clef (measures_in (leaves_with header items v) (bars_of v.steps n))) is.clef row in
+    let at_start = subst (λ clef. IsGoodRow verses clef (measures_in (leaves_with header items v) (bars_of v.steps n))) is.read.clef row in
     let own = subst (IsGoodRow verses v.start.clef) (sym (measures_are header items n v)) at_start in
     record { bodies = own.bodies; events = own.events; reach = own.reach; ids = own.ids }
 
 voice_good : (header : Header) (items : List Item) (n : ℕ) (v : VoiceRead) → HasGoodValues header → n ≤ 2000 → IsClear header items n v → sum_by count (voice_weights v) ≤ 50000 → IsGoodVoice (voice_of header items n v)
+unfolding voice_of
 voice_good header items n v good most is few =
     let long : length (voice_of header items n v).measures ≡ n = length_voice header items n v in
     let weight = weight_high header items n v is.read is.own in
-    let frame = voice_framed header items n v good is.verses in
     let music = music_good header items n v is few in
     record {
       few_measures = omega (arith, long, most);
-      few_verses = frame.few_verses;
-      near = frame.near;
+      few_verses = few_verses (verses_of v.start.id (unnamed_of header) items) (row_count items) is.verses;
+      near = omega arith;
       few_heads = omega (arith, weight, few);
-      key = frame.key;
-      meter = frame.meter;
+      key = good.key;
+      meter = good.meter;
       bodies = music.bodies;
       events = music.events;
       reach = music.reach;
@@ -207,45 +209,54 @@ voices_weigh header items n (v ∷ voices) all =
       joined : (a b c d e f : ℕ) → a ≡ b + c → b ≤ e → c ≤ f → d ≡ e + f → a ≤ d
       joined a b c d e f x y z w = omega arith
 
-all_clear : (header : Header) (items : List Item) (n : ℕ) (voices : List VoiceRead) → AllByRecursion IsGoodRead voices → AllByRecursion (λ (v : VoiceRead). v.first.clef ≡ v.start.clef) voices
-    → AllByRecursion (λ (v : VoiceRead). verse_fault v.start.id (unnamed_of header) items ≡ None) voices → AllByRecursion (λ (v : VoiceRead). own_measures v ≤ n) voices → flat_map (voice_faults (unnamed_of header) items) voices ≡ []
-    → AllByRecursion (IsClear header items n) voices
-all_clear header items n [] reads clefs verses owns e = tt
-all_clear header items n (v ∷ voices) reads clefs verses owns e =
+all_clear : (header : Header) (items : List Item) (n : ℕ) (voices : List VoiceRead) → AllByRecursion IsWellRead voices → AllByRecursion (λ (v : VoiceRead). verse_fault v.start.id (unnamed_of header) items ≡ None) voices
+    → AllByRecursion (λ (v : VoiceRead). own_measures v ≤ n) voices → flat_map (voice_faults (unnamed_of header) items) voices ≡ [] → AllByRecursion (IsClear header items n) voices
+all_clear header items n [] reads verses owns e = tt
+all_clear header items n (v ∷ voices) reads verses owns e =
     let own = faults_in v.first [] v.steps in
     let sung = verse_faults v.start.id (unnamed_of header) items in
     let others = flat_map (voice_faults (unnamed_of header) items) voices in (
-      record { read = reads.0; clef = clefs.0; verses = verses.0; clear = none_before own sung (none_before (own ++ sung) others e); own = owns.0 },
-      all_clear header items n voices reads.1 clefs.1 verses.1 owns.1 (none_behind (own ++ sung) others e),
+      record { read = reads.0; verses = verses.0; clear = none_before own sung (none_before (own ++ sung) others e); own = owns.0 },
+      all_clear header items n voices reads.1 verses.1 owns.1 (none_behind (own ++ sung) others e),
     )
 
--- a voice begins with its own clef
-first_clefs : (header : Header) (items : List Item) (starts : List VoiceStart) → AllByRecursion (λ (v : VoiceRead). v.first.clef ≡ v.start.clef) (map (voice_read header items) starts)
-first_clefs header items [] = tt
-first_clefs header items (start ∷ starts) = (refl, first_clefs header items starts)
+all_read : (header : Header) (items : List Item) (starts : List VoiceStart) → HasGoodValues header → All IsGoodItem items → AllByRecursion IsWellRead (map (voice_read header items) starts)
+all_read header items [] good given = tt
+all_read header items (start ∷ starts) good given =
+    let steps = steps_good start.id (bytes_eq start.id (unnamed_of header)) items given in (
+      record {
+        clef = refl;
+        first = record { key = good.key; meter = good.meter; unit = good.unit };
+        steps = recursion_from_All IsGoodStood (steps_of start.id (unnamed_of header) items) steps;
+      },
+      all_read header items starts good given,
+    )
 
-pub read_clefs : (header : Header) (items : List Item) (voices : List VoiceRead) → voices ≡ voices_read header items → AllByRecursion (λ (v : VoiceRead). v.first.clef ≡ v.start.clef) voices
-read_clefs header items voices e = subst (AllByRecursion (λ (v : VoiceRead). v.first.clef ≡ v.start.clef)) (sym e) (first_clefs header items (starts_of header items))
-
-pub good_score : (header : Header) (items : List Item) (flow : Bool) (voices : List VoiceRead) → HasGoodValues header → All IsGoodRead voices → All (λ v. verse_fault v.start.id (unnamed_of header) items ≡ None) voices
-    → voices ≡ voices_read header items → most_measures voices ≤ 2000 → faults_of_voices (unnamed_of header) items voices ≡ [] → IsFramed (score_with header items flow voices) → IsGoodScore (score_with header items flow voices)
+pub good_score : (header : Header) (items : List Item) (flow : Bool) → HasGoodValues header → All IsGoodItem items → length (ids_of header items) ≤ 16 → score_faults header items ≡ []
+    → IsGoodScore (score_of header items flow)
 unfolding score_with
-good_score header items flow voices good reads verses are most e framed =
+good_score header items flow good given few e =
+    let unnamed = unnamed_of header in
+    let voices = voices_read header items in
     let n = most_measures voices in
-    let own = flat_map (voice_faults (unnamed_of header) items) voices in
+    let own = flat_map (voice_faults unnamed items) voices in
     let weights = flat_map voice_weights voices in
-    let few = not_crowded weights (none_behind own (crowded weights) e) in
-    let clear = all_clear header items n voices (recursion_from_All IsGoodRead voices reads) (read_clefs header items voices are)
-    (recursion_from_All (λ (v : VoiceRead). verse_fault v.start.id (unnamed_of header) items ≡ None) voices verses) (own_most voices) (none_before own (crowded weights) e) in
+    let light = not_crowded weights (none_behind own (crowded weights) e) in
+    let within = few_measures unnamed items voices e in
+    let each = recursion_from_All (λ (v : VoiceRead). verse_fault v.start.id unnamed items ≡ None) voices (clear_verses unnamed items voices e) in
+    let clear = all_clear header items n voices (all_read header items (starts_of header items) good given) each (own_most voices) (none_before own (crowded weights) e) in
     let weigh = voices_weigh header items n voices clear in
+    let long = length-map voices (voice_of header items n) in
+    let forced = forced_of flow voices n in
+    let rise = forced_rise flow voices n in
     record {
-      few_voices = framed.few_voices;
-      few_measures = framed.few_measures;
-      few_heads = omega (arith, weigh, few);
-      voices = All-from_recursion IsGoodVoice (map (voice_of header items n) voices) (voices_good header items n voices good most clear few);
-      measures = framed.measures;
-      ids = framed.ids;
-      forced = framed.forced;
-      forced_rise = framed.forced_rise;
-      led = framed.led;
+      few_voices = omega (arith, long, few_read header items few);
+      few_measures = within;
+      few_heads = omega (arith, weigh, light);
+      voices = All-from_recursion IsGoodVoice (map (voice_of header items n) voices) (voices_good header items n voices good within clear light);
+      measures = lengths_agree header items n voices;
+      ids = distinct_pairs (map (voice_of header items n) voices) (voices_apart header items n voices (apart_read header items good));
+      forced = all_within_bars n forced rise;
+      forced_rise = rising_bars n forced rise;
+      led = voices_led header items n voices;
     }

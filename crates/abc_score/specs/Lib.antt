@@ -1,6 +1,5 @@
 pub mod Build
 pub mod Faults
-pub mod Framed
 pub mod Judged
 pub mod Order
 pub mod Score

@@ -1,7 +1,7 @@
-ghost use Rattle.std.specs.{Prelude.ℕ, Prelude.◌≡◌, Prelude.◌≤◌, Prelude.length, Prelude.map, Prelude.IfOk, Prelude.None, List.All};
-ghost use Rattle.{abc_header.specs.Headers.{HasGoodValues}, abc_items.specs.Voices.{unnamed_of}, abc_words.specs.Verses.{verse_count, verse_fault}};
+ghost use Rattle.std.specs.{Prelude.ℕ, Prelude.◌≡◌, Prelude.◌≤◌, Prelude.map, Prelude.IfOk, Prelude.None, List.All};
+ghost use Rattle.{abc_items.specs.Voices.{unnamed_of}, abc_words.specs.Verses.{verse_count, verse_fault}};
 ghost use Rattle.abc_events.specs.{Bars.bars_of, Leaves.leaves_of};
-ghost use Rattle.abc_score.specs.{declared.keeping.Judged.Judged, Judged.{IsKept, HasKept, reads_of}, Voices.read_ids, Voices.AreApart, Voices.IsGoodRead, Framed.IsFramed, Score.forced_of, Score.most_measures, Score.score_with, Score.sung_words, Score.voice_of, Score.written_measures};
+ghost use Rattle.abc_score.specs.{declared.keeping.Judged.Judged, Judged.{IsKept, HasKept, reads_of}, Voices.IsGoodRead, Score.forced_of, Score.most_measures, Score.score_with, Score.sung_words, Score.voice_of, Score.written_measures};
 
 use crate::keeping::{Judged, Kept, signs_of_voice};
 use crate::sung::sung_words;
@@ -137,9 +137,9 @@ fn forced_of(alloc: Global, flow: bool, voices: &[Judged], n: u32) -> Result<Row
     }
 }
 
-/// The score of these voices, each of which has its measures, with the bars that are forced.
+/// The score of these voices, none of which has a fault.
 #[tactic(auto, unfolding(crate::specs::Score::score_with))]
-fn joined(
+pub fn score_with(
     alloc: Global,
     header: &Header,
     items: &[Item],
@@ -160,26 +160,4 @@ fn joined(
         forced,
         spread: header.spread,
     })
-}
-
-/// The score of these voices, none of which has a fault.
-pub fn score_with(
-    alloc: Global,
-    header: &Header,
-    items: &[Item],
-    flow: bool,
-    voices: Row<Judged>,
-) -> Result<Score, Memory>
-    requires header { HasGoodValues header.now }
-    requires good { All IsGoodRead (reads_of voices) }
-    requires kept { All HasKept voices }
-    requires clear { All (λ v. verse_fault v.start.id (unnamed_of header.now) items.now ≡ None) (reads_of voices) }
-    requires few { most_measures (reads_of voices) ≤ 2000 }
-    requires few_voices { length (reads_of voices) ≤ 16 }
-    requires apart { AreApart (read_ids (reads_of voices)) }
-    ensures value { IfOk result (λ score. score ≡ score_with header.now items.now flow (reads_of voices)) }
-    ensures framed { IfOk result IsFramed }
-{
-    let score = joined(alloc, header, items, flow, voices)?;
-    Ok(score)
 }

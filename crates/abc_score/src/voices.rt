@@ -1,6 +1,6 @@
 ghost use Rattle.std.specs.{Prelude.◌≡◌, Prelude.◌≤◌, Prelude.◌^◌, Prelude.length, Prelude.map, Prelude.IfOk, List.All};
-ghost use Rattle.{abc_header.specs.Headers.{HasGoodValues}, abc_items.specs.{Good.IsGoodItem, Voices.ids_of}};
-ghost use Rattle.abc_score.specs.Voices.{first_force, read_ids, voice_read, voices_read, AreApart, IsGoodRead};
+ghost use Rattle.{abc_header.specs.Headers.{HasGoodValues}, abc_items.specs.Good.{IsGoodItem}};
+ghost use Rattle.abc_score.specs.Voices.{first_force, voice_read, voices_read, IsGoodRead};
 
 use abc_header::Header;
 use abc_items::{VoiceStart, steps_of, unnamed_of, voices_of};
@@ -87,11 +87,8 @@ fn read_each(
 pub fn read_voices(alloc: Global, header: &Header, items: &[Item]) -> Result<Row<VoiceRead>, Memory>
     requires header { HasGoodValues header.now }
     requires items { All IsGoodItem items.now }
-    requires few { length (ids_of header.now items.now) ≤ 16 }
     ensures value { IfOk result (λ voices. voices ≡ voices_read header.now items.now) }
     ensures good { IfOk result (λ voices. All IsGoodRead voices) }
-    ensures few { IfOk result (λ voices. length voices ≤ 16) }
-    ensures apart { IfOk result (λ voices. AreApart (read_ids voices)) }
 {
     let starts = voices_of(alloc, header, items)?;
     let voices = read_each(alloc, header, items, starts)?;

@@ -1,7 +1,10 @@
 use Rattle.std.{proofs.Common.{◌≡◌, ◌∙◌, ◌≤◌, List, ℕ, ap, subst, sym}, specs.Prelude.None, specs.List.All}
 use Rattle.{abc_faults.specs.First.{IsFirst}, mus_score.specs.GoodScore.{IsGoodScore}, abc_items.specs.Voices.{unnamed_of}, abc_words.specs.Verses.{verse_fault}}
-use Rattle.abc_score.{specs.{declared.voices.VoiceRead.VoiceRead, Faults.faults_of_voices, Framed.IsFramed, Score.most_measures, Score.score_with}, proofs.{Clear.clear_verses, Clear.few_measures, Wholes.good_score}}
+use Rattle.abc_score.{specs.{declared.{keeping.Judged.Judged, voices.VoiceRead.VoiceRead}, Faults.faults_of_voices, Score.most_measures, Score.score_with, Voices.IsGoodRead, Voices.voices_read}, proofs.{Clear.clear_verses, Clear.few_measures, Taken.all_of, Wholes.good_score}}
 use Rattle.abc_score.proofs.building.score_in.Goals as goal
+
+pub score_with-requires-clause-good : goal.score_with-requires-clause-good
+score_with-requires-clause-good c = all_of (λ (j : Judged). j.read) IsGoodRead c.in_ok-judged.judged.voices (subst (All IsGoodRead) (sym c.in_ok-judged.ensures.reads) c.in_ok-voices.ensures.good)
 
 pub score_with-requires-clause-clear : goal.score_with-requires-clause-clear
 score_with-requires-clause-clear c =
@@ -10,7 +13,8 @@ score_with-requires-clause-clear c =
     let voices = c.in_ok-voices.voices in
     let none = subst (IsFirst (faults_of_voices c.unnamed_of.result.now items voices)) c.in-None.is c.in_ok-judged.ensures.fault in
     let clear = ap (λ (id : List ℕ). faults_of_voices id items voices) (sym c.unnamed_of.ensures) ∙ none in
-    subst (All (λ (v : VoiceRead). verse_fault v.start.id unnamed items ≡ None)) (sym c.in_ok-judged.ensures.reads) (clear_verses unnamed items voices clear)
+    let P : VoiceRead → Type 0 = λ v. verse_fault v.start.id unnamed items ≡ None in
+    all_of (λ (j : Judged). j.read) P c.in_ok-judged.judged.voices (subst (All P) (sym c.in_ok-judged.ensures.reads) (clear_verses unnamed items voices clear))
 
 pub score_with-requires-clause-few : goal.score_with-requires-clause-few
 score_with-requires-clause-few c =
@@ -25,8 +29,7 @@ returns-in_ok-score_with-in-None-clause-good c =
     let items = c.args.items.now in
     let voices = c.in_ok-voices.voices in
     let none = subst (IsFirst (faults_of_voices c.unnamed_of.result.now items voices)) c.in-None.is c.in_ok-judged.ensures.fault in
-    let clear = ap (λ (id : List ℕ). faults_of_voices id items voices) (sym c.unnamed_of.ensures) ∙ none in
-    let made = c.in_ok-score_with-in-None.ensures.value ∙ ap (score_with header items c.args.flow) c.in_ok-judged.ensures.reads in
-    let framed = subst IsFramed made c.in_ok-score_with-in-None.ensures.framed in
-    subst IsGoodScore (sym made)
-    (good_score header items c.args.flow voices c.requires.header c.in_ok-voices.ensures.good (clear_verses (unnamed_of header) items voices clear) c.in_ok-voices.ensures.value (few_measures (unnamed_of header) items voices clear) clear framed)
+    let read = c.in_ok-voices.ensures.value in
+    let clear = ap (λ (id : List ℕ). faults_of_voices id items (voices_read header items)) (sym c.unnamed_of.ensures) ∙ ap (faults_of_voices c.unnamed_of.result.now items) (sym read) ∙ none in
+    let made = c.in_ok-score_with-in-None.ensures ∙ ap (score_with header items c.args.flow) (c.in_ok-judged.ensures.reads ∙ read) in
+    subst IsGoodScore (sym made) (good_score header items c.args.flow c.requires.header c.requires.items c.requires.few clear)
