@@ -61,8 +61,7 @@ close_puts os o body e f =
     ∙ ap finish (sym (fill_last os o (filled body f)))
 
 pub end_puts : (os : List Open) (o : Open) (body : List Music) → whole os (o.before ++ music.Tuplet o.p o.q body ∷ []) none_more ≡ whole (os ++ o ∷ []) body none_more
-end_puts os o body =
-    ap (λ z. finish (fill os z)) (sym (end_one o o.left body)) ∙ ap finish (sym (fill_last os o (filled body none_more)))
+end_puts os o body = ap (λ z. finish (fill os z)) (sym (end_one o o.left body)) ∙ ap finish (sym (fill_last os o (filled body none_more)))
 
 -- As the code says it: what was popped, pushed and put.
 pub event_answer : (stack os stack' : List Open) (o : Open) (left : ℕ) (body body' : List Music) (w : List Music) → stack ≡ os ++ o ∷ [] → body' ≡ body ++ w → stack' ≡ os ++ leaving left o ∷ [] → IsReady stack → left ≡ o.left - 1 → Puts stack body stack' body' (one w)

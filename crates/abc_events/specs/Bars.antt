@@ -1,7 +1,6 @@
 -- The bars of a voice: those that stand at one place between two events are one, and the forced ones.
 use Rattle.std.specs.{Prelude.{ℕ, ◌+◌, List, [], ◌∷◌, ◌++◌, map, reverse, Bool, true, false, not, ◌==◌, ◌&&◌, ◌||◌, if◌then◌else◌, nat_le, nat_lt, Option, Some, None}, List.{list_any, range_with_len}}
-use Rattle.mus_units.specs.declared.note.Bar.{Bar}
-use Rattle.abc_steps.specs.{declared.step.Step.Step, declared.counts.Counts.Counts, declared.counts.Nearest.Nearest, Looks.Steps, Counts.counts_of, Counts.measures_begun}
+use Rattle.{mus_units.specs.declared.note.Bar.{Bar}, abc_steps.specs.{declared.step.Step.Step, declared.counts.Counts.Counts, declared.counts.Nearest.Nearest, Looks.Steps, Counts.counts_of, Counts.measures_begun}}
 
 abbrev pub plain_bar : Bar
 plain_bar = record { end = false; start = false; last = false; initial = false; double = false; dotted = false; unseen = false }

@@ -1,11 +1,10 @@
 -- The lines of a body have a first fault, or they are a body whose items are good.
 use Rattle.std.{proofs.{Common.{◌≡◌, refl, sym, subst, ℕ, zero, suc, ◌*◌, ◌^◌, ◌≤◌, ◌<◌, ◌⊎◌, inl, inr, List, [], ◌∷◌, ◌++◌, length, Bool, true, false, All, Option, Some, None, flat_map, option_map, arith}, lemmas.{List.Elements.{All-nil, All-cons}, Nat.mul-le}, Math.Seq.take-length}, specs.Prelude.{⊤, Result, Ok, Err}}
-use Rattle.mus_units.specs.declared.note.Head.{Head}
-use Rattle.abc_lines.specs.{declared.{book.Line.Line, fault.Fault.Fault, fault.FaultKind.FaultKind, kind.LineKind.LineKind}, Kinds.kind_of}
-use Rattle.{abc_notes.{specs.declared.part.{Flaw.Flaw, Len.Len}, proofs.PartLaws.{less, longest_of, none_of}}, abc_pieces.{specs.{declared.token.{Before.Before, Token.Token, WrittenChord.WrittenChord}, Forms.{Form, after, meant}, Reading.piece_at}, proofs.PieceReader.piece_reader}}
+use Rattle.{mus_units.specs.declared.note.Head.{Head}, abc_lines.specs.{declared.{book.Line.Line, fault.Fault.Fault, fault.FaultKind.FaultKind, kind.LineKind.LineKind}, Kinds.kind_of}}
+use Rattle.abc_notes.{specs.declared.part.{Flaw.Flaw, Len.Len}, proofs.PartLaws.{less, longest_of, none_of}}
+use Rattle.abc_pieces.{specs.{declared.token.{Before.Before, Token.Token, WrittenChord.WrittenChord}, Forms.{Form, after, meant}, Reading.piece_at}, proofs.PieceReader.piece_reader}
 use Rattle.abc_tokens.{specs.{declared.token.Placed.Placed, Good.{AreGoodHeads, AreGoodTokens, IsGoodLen, IsGoodToken}, Tokens.{Front, clear, breaks, leads, column, put, fault_at}}, proofs.GoodLaws.good_front}
-use Rattle.{abc_fields.specs.{declared.{directive.Breaks.Breaks, field.Field.Field}, Fields.{field_of, named_field}}, abc_header.specs.declared.header.Header.Header}
-use Rattle.abc_steps.specs.{declared.step.Item.Item, Good.IsGoodSound}
+use Rattle.{abc_fields.specs.{declared.{directive.Breaks.Breaks, field.Field.Field}, Fields.{field_of, named_field}}, abc_header.specs.declared.header.Header.Header, abc_steps.specs.{declared.step.Item.Item, Good.IsGoodSound}}
 use Rattle.abc_items.specs.{Good.IsGoodItem, Voices.declared_ids}
 use Rattle.abc_items.specs.Body.{Given, gives, fails, field_given, chord_sound, sound, first_len, is_on, cut_given, token_given, placed_given, end_given, KindGives, BodyGives, no_lines, one_line, judged, first_fault, items_in, IsBody, HasFault}
 use Rattle.abc_every.proofs.{Flaws.line_flaw, GoodFields.{GoodRead, field_good, named_good}}
@@ -122,8 +121,7 @@ items_good (gives i ∷ given) good = All-cons IsGoodItem i (items_in given) goo
 abbrev HasBody : Header → List Line → Type 0
 HasBody h lines = ((f : Fault) × HasFault h lines f) ⊎ ((items : List Item) × IsBody h lines items × All IsGoodItem items)
 
-body_by : (h : Header) (lines : List Line) (given : List Given) (fault : Option Fault) → BodyGives h.breaks lines given → AreGood given
-    → first_fault (judged (declared_ids h) given) ≡ fault → HasBody h lines
+body_by : (h : Header) (lines : List Line) (given : List Given) (fault : Option Fault) → BodyGives h.breaks lines given → AreGood given → first_fault (judged (declared_ids h) given) ≡ fault → HasBody h lines
 body_by h lines given (Some fault) so good e = inl (fault, record { count = length lines; given = given; gives_so = subst (λ ls. BodyGives h.breaks ls given) (sym (take-length lines)) so; first = e })
 body_by h lines given None so good e = inr (items_in given, record { given = given; gives_so = so; clear = e; are = refl }, items_good given good)
 

@@ -2,8 +2,7 @@
 use Rattle.std.{proofs.Common.{◌≡◌, refl, sym, ap, ◌∙◌, ℕ, suc, ◌+◌, Bool, true, false, eqb, eqb-true, List, [], ◌∷◌, length, Option, Some, None, MatchBool, MatchOption}, proofs.lemmas.Bool.eqb-false}
 use Rattle.abc_lines.specs.declared.fault.FaultKind.{FaultKind, TheVariants.{BadByte, BadLength, Unclosed}}
 use Rattle.abc_notes.{specs.{declared.part.Flaw.Flaw, Chords.{ChordFault, is_bracket, is_inside, chord_at}, Graces.{GraceFault, IsGraceOwn, grace_at, grace_part_at, is_in_grace, part_has_length}, Items.{IsBadByte, has_length, inner_at}, Parts.{Flawed, IsFlaw, goes_on_length, is_done, length_at_place, stuck_here, stuck_later, walk}, Runs.{begins, skip, span_all}}, proofs.{ChordLaws.{chord-unclosed, chord-open, chord-headless, chord-flawed}, InnerLaws.inner_reader, GraceLaws.{no_chord as no_chord_in, part_reader, grace-unclosed, grace-open, grace-flawed}, PartLaws.{Reader, by_parts, longest_of, none_of, walk-none, walk-some}}}
-use Rattle.abc_pieces.specs.{declared.token.{Before.Before, Opening.Opening}, Forms.opening, Reading.piece_at}
-use Rattle.abc_tokens.{specs.Tokens.{IsBracketFlaw, IsLineFlaw, IsOwnFlaw, kind_behind}, proofs.Line.{no_chord, no_grace}}
+use Rattle.{abc_pieces.specs.{declared.token.{Before.Before, Opening.Opening}, Forms.opening, Reading.piece_at}, abc_tokens.{specs.Tokens.{IsBracketFlaw, IsLineFlaw, IsOwnFlaw, kind_behind}, proofs.Line.{no_chord, no_grace}}}
 
 -- a test passes or fails
 tested : {A : Type 0} (b : Bool) → (b ≡ true → A) → (b ≡ false → A) → A

@@ -20,8 +20,7 @@ few_if n fault others true e none = absurd cc
 few_if n fault others false e none = (grind (arith, nat_tests), none)
 
 few_after : (ids : List (List ℕ)) (line : Line) (lines : List Line) (read : Result Field FaultKind) → option_or (fault_at ids line read) (first_fault (ids_with ids read) lines) ≡ None
-    → ((known : List (List ℕ)) → length known ≤ 16 → first_fault known lines ≡ None → length (fold ids_after known (fields_of lines)) ≤ 16)
-    → length (fold ids_after ids (put_field read (fields_of lines))) ≤ 16
+    → ((known : List (List ℕ)) → length known ≤ 16 → first_fault known lines ≡ None → length (fold ids_after known (fields_of lines)) ≤ 16) → length (fold ids_after ids (put_field read (fields_of lines))) ≤ 16
 few_after ids line lines (Err kind) none next = absurd cc
 few_after ids line lines (Ok f) none next =
     let known = ids_after ids f in
@@ -58,8 +57,7 @@ unit_or (Some unit) other meter good others = good
 unit_or None (Some unit) meter good others = others
 unit_or None None meter good others = default_good meter
 
-values_good : (fs : List Field) (defaults : Defaults) (staves : Option Line) (body : ℕ) → AllGood fs → IsGoodDefaults defaults → length (ids_of fs) ≤ 16
-    → HasGoodValues (header_of fs defaults staves body)
+values_good : (fs : List Field) (defaults : Defaults) (staves : Option Line) (body : ℕ) → AllGood fs → IsGoodDefaults defaults → length (ids_of fs) ≤ 16 → HasGoodValues (header_of fs defaults staves body)
 values_good fs defaults staves body all good few = record {
   key = signs_good (last_of key_in fs) (last_key-good fs all);
   meter = meter_or (last_of meter_in fs) defaults.meter (last_meter-good fs all) good.0;

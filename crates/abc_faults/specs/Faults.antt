@@ -29,8 +29,7 @@ misfit_of _ = FaultKind.TupletCrosses
 
 -- one that fits is short where the measure ends before it has its events
 abbrev pub tuplet_faults : ℕ → Taking → Stood → Steps → List Fault
-tuplet_faults r open_ones at behind =
-    if fits r open_ones then fault_if (nat_lt (sounds_behind behind) r) FaultKind.TupletShort at else fault_at (misfit_of open_ones) at ∷ []
+tuplet_faults r open_ones at behind = if fits r open_ones then fault_if (nat_lt (sounds_behind behind) r) FaultKind.TupletShort at else fault_at (misfit_of open_ones) at ∷ []
 
 -- Heads. They stand from 14 steps below the bottom line of the staff to 22 above it.
 abbrev pub is_off : Clef → Head → Bool

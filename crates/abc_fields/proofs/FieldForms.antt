@@ -1,8 +1,7 @@
 -- The function that the code follows and the relation that is meant agree: a line reads as a field
 -- exactly where it says it, and is refused exactly where it says nothing.
 use Rattle.std.{proofs.{Common.{◌≡◌, refl, sym, ap, ◌∙◌, subst, ℕ, List, Bool, true, false, ◌==◌, ◌||◌, Option, Some, None, Result, Ok, Err, IfOk, IfErr, unwrap_or, codes}, lemmas.{Bool.{eqb-true, not-true, or_parts}, Slice.Eq.bytes_eq-Decides}}, specs.Str.bytes_eq}
-use Rattle.mus_units.specs.declared.key.Spread.{Spread}
-use Rattle.abc_lines.specs.{declared.book.Line.Line, declared.fault.FaultKind.FaultKind, declared.fault.TuneError.TuneError, declared.kind.LineKind.LineKind, Kinds.kind_of, Kinds.field_text}
+use Rattle.{mus_units.specs.declared.key.Spread.{Spread}, abc_lines.specs.{declared.book.Line.Line, declared.fault.FaultKind.FaultKind, declared.fault.TuneError.TuneError, declared.kind.LineKind.LineKind, Kinds.kind_of, Kinds.field_text}}
 use Rattle.abc_fields.{specs.{Fields.{key_field, meter_field, unit_field, voice_field, written_field, named_field, breaks_field, spread_field, directive_field, field_by, field_of, Refuses, IsFaultOfLine}, declared.{directive.Breaks.Breaks, field.{Field.Field, FieldError.FieldError}}, Directives.{name_of, rest_of, has_word, names_breaks, breaks_of, spread_of}, Keys.key_of, Meters.{meter_of, unit_of}, Voices.voice_of, MeterSpelling.{SaysMeter, SaysUnit}, FieldSpelling.{SaysBreaks, SaysSpread, is_known, NamedSays, DirectiveSays, KindSays, Says, NamedBad, KindBad, IsBad, NamedRefuses, IsBadLine}, KeySpelling.SaysKey, VoiceSpelling.SaysVoice}, proofs.{KeyForms.{key-says, key-read}, MeterForms.{none_is_some, meter-says, meter-read, unit-says, unit-read, same_bytes}, VoiceForms.{voice-says, voice-read}}}
 
 abbrev Reading : Type 0
@@ -48,8 +47,7 @@ record Unread (letter : ℕ) : Type 0 where
   unit : (letter == 76) ≡ false
   voice : (letter == 86) ≡ false
 
-written_says : (letter : ℕ) (text : List ℕ) (w t c q : Bool) → Unread letter → (letter == 119) ≡ w → (letter == 84) ≡ t → (letter == 67) ≡ c → (letter == 81) ≡ q
-    → NamedSays letter text (written_field letter text)
+written_says : (letter : ℕ) (text : List ℕ) (w t c q : Bool) → Unread letter → (letter == 119) ≡ w → (letter == 84) ≡ t → (letter == 67) ≡ c → (letter == 81) ≡ q → NamedSays letter text (written_field letter text)
 written_says letter text true t c q un e f g h = rw e (eqb-true letter 119 e, refl)
 written_says letter text false true c q un e f g h = rw (e, f) (eqb-true letter 84 f, refl)
 written_says letter text false false true q un e f g h = rw (e, f, g) (eqb-true letter 67 g, refl)

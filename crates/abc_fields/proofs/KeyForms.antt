@@ -122,8 +122,7 @@ begins_other name k a b c low other good = ne_eqb a k (λ is. eqb_not (first_of 
     eqb_not x y e is = eqb-false x y e is
 
 tonic-written : (letter : Letter) (accident : Accident) (mode : ModeForm) → IsGoodMode mode → tonic_of (tonic_spelled letter accident (mode_spelled mode)) ≡ Some (with_mode letter (accident_meant accident) (mode_meant mode))
-tonic-written letter accident minor_form good =
-    tonic-at letter (accident_spelled accident (codes "m")) ∙ altered-read letter accident 109 [] Mode.Min refl refl mode-minor
+tonic-written letter accident minor_form good = tonic-at letter (accident_spelled accident (codes "m")) ∙ altered-read letter accident 109 [] Mode.Min refl refl mode-minor
 tonic-written letter accident (named_form name a b c more) good =
     tonic-at letter (accident_spelled accident (a ∷ b ∷ c ∷ more))
     ∙ altered-read letter accident a (b ∷ c ∷ more) (mode_of_name name) (begins_other name 35 a b c refl (not_sharp name) good) (begins_other name 98 a b c refl (not_flat name) good) (mode-read (named_form name a b c more) good)
@@ -206,8 +205,7 @@ untonic w (Some tonic) e no_key = absurd (untonic_form w no_key (tonic-takes w t
 
 kept-read : (more : List (List ℕ)) → BeginOther more → first_words more ≡ begun Start.Kept more
 kept-read [] good = absurd good
-kept-read (w ∷ more) good =
-    words_kept w more (fixed_if w (bytes_eq w (codes "none")) (bytes_eq w (codes "HP")) (bytes_eq w (codes "Hp")) refl refl refl good) (untonic w (tonic_of w) refl good)
+kept-read (w ∷ more) good = words_kept w more (fixed_if w (bytes_eq w (codes "none")) (bytes_eq w (codes "HP")) (bytes_eq w (codes "Hp")) refl refl refl good) (untonic w (tonic_of w) refl good)
 
 -- a good beginning is read
 head-read : (head : KeyHead) (more : List (List ℕ)) → IsGoodHead head more → first_words (head_spelled head more) ≡ begun (head_meant head) more

@@ -157,8 +157,7 @@ passed_if w read false e no_sign no_clef h = absurd (none_is_some read h)
 passed_if w read true e no_sign no_clef h = record { form = passed_word w; good = record { equals = e; no_sign = no_sign; no_clef = no_clef }; spelled = refl; meant = some_word KeyWord.Passed read h }
 
 name_if : (w : List ℕ) (read : KeyWord) (o : Option Clef) → clef_of w ≡ o
-    → ((alter : Alter) (letter : Letter) (lower : Bool) → w ≡ alter_spelled alter ++ letter_spelled letter lower ∷ [] → ⊥) → ((name : List ℕ) → w ≡ codes "clef=" ++ name → ⊥)
-    → by_name w o ≡ Some read → IsWord w read
+    → ((alter : Alter) (letter : Letter) (lower : Bool) → w ≡ alter_spelled alter ++ letter_spelled letter lower ∷ [] → ⊥) → ((name : List ℕ) → w ≡ codes "clef=" ++ name → ⊥) → by_name w o ≡ Some read → IsWord w read
 name_if w read (Some clef) e no_sign no_clef h =
     let found = clef-takes w clef e in
     record { form = name_word found.form; good = tt; spelled = found.spelled; meant = ap (λ c. KeyWord.Names c) found.meant ∙ some_word (KeyWord.Names clef) read h }

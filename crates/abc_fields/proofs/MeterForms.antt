@@ -147,8 +147,7 @@ added-takes : (terms : List (List ℕ)) (total n : ℕ) → total ≤ 99 → add
 added-takes [] total n small h =
     let same : total ≡ n = ap (λ o. unwrap_or o 0) h in
     record { numbers = refl; value = omega (arith, same); few = omega (arith, same, small) }
-added-takes (term ∷ terms) total n small h =
-    added_if term terms total n (is_number term) (nat_le (total + value_of term) 99) refl refl (λ k few e. added-takes terms k n few e) h
+added-takes (term ∷ terms) total n small h = added_if term terms total n (is_number term) (nat_le (total + value_of term) 99) refl refl (λ k few e. added-takes terms k n few e) h
 
 added-reaches : (terms : List (List ℕ)) (total : ℕ) → list_all is_number terms ≡ true → total + value_sum terms ≤ 99 → added total terms ≡ Some (total + value_sum terms)
 added-reaches [] total all few = ap Some (omega arith)
@@ -174,17 +173,14 @@ halving-no n e = rw e refl
 below_if : (s : List ℕ) (d : ℕ) (is half : Bool) → is_number s ≡ is → is_halving (value_of s) ≡ half → below_of s ≡ Some d → Below s d
 below_if s d false half e f h = absurd (none_is_some d (sym (ap halving_of (number-no s e)) ∙ h))
 below_if s d true false e f h = absurd (none_is_some d (sym (ap halving_of (number-yes s e) ∙ halving-no (value_of s) f) ∙ h))
-below_if s d true true e f h =
-    record { number = e; halving = f; value = ap (λ o. unwrap_or o 0) (sym (below-reaches s e f) ∙ h) }
+below_if s d true true e f h = record { number = e; halving = f; value = ap (λ o. unwrap_or o 0) (sym (below-reaches s e f) ∙ h) }
 
 below-takes : (s : List ℕ) (d : ℕ) → below_of s ≡ Some d → Below s d
 below-takes s d h = below_if s d (is_number s) (is_halving (value_of s)) refl refl h
 
-sum-reaches : (term : List ℕ) (terms : List (List ℕ)) → list_all is_number (term ∷ terms) ≡ true → value_sum (term ∷ terms) ≤ 99
-    → sum_of (join_with_byte 43 (term ∷ terms)) ≡ Some (value_sum (term ∷ terms))
+sum-reaches : (term : List ℕ) (terms : List (List ℕ)) → list_all is_number (term ∷ terms) ≡ true → value_sum (term ∷ terms) ≤ 99 → sum_of (join_with_byte 43 (term ∷ terms)) ≡ Some (value_sum (term ∷ terms))
 unfolding sum_of
-sum-reaches term terms all few =
-    ap (added 0) (split-joined term terms all) ∙ added-reaches (term ∷ terms) 0 all (omega (arith, few)) ∙ ap Some (omega arith)
+sum-reaches term terms all few = ap (added 0) (split-joined term terms all) ∙ added-reaches (term ∷ terms) 0 all (omega (arith, few)) ∙ ap Some (omega arith)
 
 record Sum (s : List ℕ) (n : ℕ) : Type 0 where
   terms : List (List ℕ)
@@ -226,13 +222,11 @@ record IsRatio (above below : Option ℕ) (meter : Meter) : Type 0 where
 ratio-takes : (above below : Option ℕ) (meter : Meter) → ratio above below ≡ Some meter → IsRatio above below meter
 ratio-takes None below meter h = absurd (none_is_some meter h)
 ratio-takes (Some n) None meter h = absurd (none_is_some meter h)
-ratio-takes (Some n) (Some d) meter h =
-    record { num = n; den = d; above_is = refl; below_is = refl; meter_is = ap (λ o. unwrap_or o meter) h }
+ratio-takes (Some n) (Some d) meter h = record { num = n; den = d; above_is = refl; below_is = refl; meter_is = ap (λ o. unwrap_or o meter) h }
 
 -- a sum above a number that halves is a good form
 sum-good : (above below : List ℕ) (n d : ℕ) → (sum : Sum above n) → Below below d → IsGoodSum sum.terms below
-sum-good above below n d sum half =
-    record { some = sum.some; numbers = sum.numbers; few = sum.few; number = half.number; halving = half.halving }
+sum-good above below n d sum half = record { some = sum.some; numbers = sum.numbers; few = sum.few; number = half.number; halving = half.halving }
 
 ratio-same : (n d k e : ℕ) (meter : Meter) → k ≡ n → e ≡ d → Meter.Ratio n d ≡ meter → Meter.Ratio k e ≡ meter
 ratio-same n d k e meter nums dens is = ap (λ x. Meter.Ratio x e) nums ∙ ap (λ x. Meter.Ratio n x) dens ∙ is
@@ -326,8 +320,7 @@ digit-first d s h =
     let not_open : (40 == d) ≡ false = not_digit 40 d (inl (omega arith)) h in
     rw (not_c, not_n, not_open) refl
 
-digit_begins : (term : List ℕ) (terms : List (List ℕ)) (below : List ℕ) → is_number term ≡ true
-    → meter_at (join_with_byte 43 (term ∷ terms) ++ 47 ∷ below) ≡ plain_ratio (join_with_byte 43 (term ∷ terms) ++ 47 ∷ below)
+digit_begins : (term : List ℕ) (terms : List (List ℕ)) (below : List ℕ) → is_number term ≡ true → meter_at (join_with_byte 43 (term ∷ terms) ++ 47 ∷ below) ≡ plain_ratio (join_with_byte 43 (term ∷ terms) ++ 47 ∷ below)
 digit_begins [] terms below h = cc
 digit_begins (d ∷ ds) [] below h = digit-first d (ds ++ 47 ∷ below) (and_parts _ _ (number-digits (d ∷ ds) h)).0
 digit_begins (d ∷ ds) (next ∷ terms) below h = digit-first d ((ds ++ 43 ∷ join_with_byte 43 (next ∷ terms)) ++ 47 ∷ below) (and_parts _ _ (number-digits (d ∷ ds) h)).0

@@ -166,8 +166,7 @@ record ArePropertiesOf (ws : List (List ℕ)) (read : List VoiceWord) : Type 0 w
   meant : map property_meant forms ≡ read
 
 words_case : (w : List ℕ) (ws : List (List ℕ)) (read : List VoiceWord) (one : Option VoiceWord) (more : Option (List VoiceWord)) → voice_word w ≡ one → voice_words ws ≡ more
-    → ((vs : List VoiceWord) → voice_words ws ≡ Some vs → ArePropertiesOf ws vs)
-    → option_and_then (λ v. option_map (λ vs. v ∷ vs) more) one ≡ Some read → ArePropertiesOf (w ∷ ws) read
+    → ((vs : List VoiceWord) → voice_words ws ≡ Some vs → ArePropertiesOf ws vs) → option_and_then (λ v. option_map (λ vs. v ∷ vs) more) one ≡ Some read → ArePropertiesOf (w ∷ ws) read
 words_case w ws read None more e f rest h = absurd (none_is_some read h)
 words_case w ws read (Some v) None e f rest h = absurd (none_is_some read h)
 words_case w ws read (Some v) (Some vs) e f rest h =

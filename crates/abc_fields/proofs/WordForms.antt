@@ -102,8 +102,7 @@ blank-none text all =
 -- a text has the words that stand in it
 pub words-of-spelled : (words : List (List ℕ)) (text : List ℕ) → HasWords text words → words_of text ≡ words
 words-of-spelled [] text has = words-none text (blank-none text has)
-words-of-spelled (word ∷ words) text has =
-    words-more text word has.0 (first-read text word has.0 has.1) ∙ ap (λ ws. word ∷ ws) (words-of-spelled words has.0 has.2)
+words-of-spelled (word ∷ words) text has = words-more text word has.0 (first-read text word has.0 has.1) ∙ ap (λ ws. word ∷ ws) (words-of-spelled words has.0 has.2)
 
 nothing-left : (t : List ℕ) → word_and_rest false t ≡ None → t ≡ []
 nothing-left [] e = refl

@@ -9,8 +9,7 @@ blank_passed quotes b s e = rw e refl
 pub behind-cons : (b : ℕ) (s : List ℕ) → is_blank b ≡ true → behind_blanks (b ∷ s) ≡ behind_blanks s
 behind-cons b s e = rw e (let more : 1 + prefix_len is_blank s ≡ suc (prefix_len is_blank s) = omega arith in rw more refl)
 
-behind_more : (quotes : Bool) (b : ℕ) (s : List ℕ) (blank : Bool) → is_blank b ≡ blank → words_in quotes s ≡ words_in quotes (behind_blanks s)
-    → words_in quotes (b ∷ s) ≡ words_in quotes (behind_blanks (b ∷ s))
+behind_more : (quotes : Bool) (b : ℕ) (s : List ℕ) (blank : Bool) → is_blank b ≡ blank → words_in quotes s ≡ words_in quotes (behind_blanks s) → words_in quotes (b ∷ s) ≡ words_in quotes (behind_blanks (b ∷ s))
 behind_more quotes b s true e same = blank_passed quotes b s e ∙ same ∙ ap (words_in quotes) (sym (behind-cons b s e))
 behind_more quotes b s false e same = rw e refl
 
@@ -77,8 +76,7 @@ words_as_filter : (quotes : Bool) (s : List ℕ) → words_in quotes s ≡ filte
 unfolding words_in
 words_as_filter quotes s = refl
 
-words-cut : (quotes : Bool) (b : ℕ) (s : List ℕ) → is_blank b ≡ false
-    → words_in quotes (b ∷ s) ≡ take (word_len quotes false (b ∷ s)) (b ∷ s) ∷ words_in quotes (drop (word_len quotes false (b ∷ s)) (b ∷ s))
+words-cut : (quotes : Bool) (b : ℕ) (s : List ℕ) → is_blank b ≡ false → words_in quotes (b ∷ s) ≡ take (word_len quotes false (b ∷ s)) (b ∷ s) ∷ words_in quotes (drop (word_len quotes false (b ∷ s)) (b ∷ s))
 words-cut quotes b s e =
     let n = word_len quotes (quoted_after quotes false b) s in
     let long = word_len-more quotes b s e in

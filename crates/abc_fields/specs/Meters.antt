@@ -1,8 +1,7 @@
 -- Meters and unit lengths: how they are written and what they mean.
 use Prim.Native.Char.{code}
 use Rattle.std.specs.{Prelude.{ℕ, ◌+◌, ◌*◌, List, [], ◌∷◌, Bool, ◌==◌, nat_le, nat_lt, codes, Option, Some, None, if◌then◌else◌}, List.slice_split, Option.option_and_then, Str.bytes_eq}
-use Rattle.mus_units.specs.{declared.key.Meter.Meter, declared.value.Frac.Frac, Good.is_halving}
-use Rattle.abc_fields.specs.{Numbers.number_of, Numbers.before, Numbers.from_first, Numbers.behind_one, Words.trimmed, Words.behind}
+use Rattle.{mus_units.specs.{declared.key.Meter.Meter, declared.value.Frac.Frac, Good.is_halving}, abc_fields.specs.{Numbers.number_of, Numbers.before, Numbers.from_first, Numbers.behind_one, Words.trimmed, Words.behind}}
 
 abbrev pub halving_of : Option ℕ → Option ℕ
 halving_of None = None

@@ -492,8 +492,7 @@ fn mode_on(letter: Letter, alter: Alter, text: &[u8]) -> Option<Tonic>
     })
 }
 
-/// The mode that a word names: `m` is minor, any other counts by its first three
-/// letters in any case.
+/// The mode that a word names: `m` is minor, any other counts by its first three letters in any case.
 #[tactic(auto, unfolding(crate::specs::Keys::mode_of))]
 fn mode_of(word: &[u8]) -> Option<Mode>
     ensures { result ≡ mode_of word.now }

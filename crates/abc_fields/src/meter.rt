@@ -160,8 +160,7 @@ fn unit_at(text: &[u8]) -> Option<Frac>
     }
 }
 
-/// The unit length without an `L:` line: a sixteenth where the meter is below
-/// 3/4, else an eighth.
+/// The unit length without an `L:` line: a sixteenth where the meter is below 3/4, else an eighth.
 pub fn default_unit(meter: Meter) -> Frac
     ensures value { result ≡ default_unit meter }
     ensures good { IsGoodUnit result }

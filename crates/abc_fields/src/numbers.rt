@@ -1,8 +1,7 @@
 //! Numbers as they are written.
 
 ghost use Rattle.std.specs.{Prelude.{◌≡◌, ◌≤◌, ◌<◌, IfSome, IsTrue, length, nat_le, ◌&&◌, not, ◌==◌, ◌+◌, ◌*◌, ◌-◌, min}, List.list_all};
-ghost use Rattle.abc_lines.specs.Kinds.{code};
-ghost use Rattle.abc_fields.specs.Numbers.{is_digit, begins_zero, is_number, number_of, value_of, place_of, before, from_first, behind_one};
+ghost use Rattle.{abc_lines.specs.Kinds.{code}, abc_fields.specs.Numbers.{is_digit, begins_zero, is_number, number_of, value_of, place_of, before, from_first, behind_one}};
 
 use mus_units::bytes::is_digit;
 
@@ -33,8 +32,7 @@ fn is_short(text: &[u8]) -> bool
     1 <= text.len() && text.len() <= 4
 }
 
-/// Whether a text is a number of music: one to four digits, the first of them no
-/// zero.
+/// Whether a text is a number of music: one to four digits, the first of them no zero.
 fn is_number(text: &[u8]) -> bool
     ensures { result ≡ is_number text.now }
 {

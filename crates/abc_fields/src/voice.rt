@@ -6,9 +6,8 @@ use crate::words::{behind, ends_quoted, is_same, next_word};
 use mus_units::{Clef, Memory, Row, Text, Wish};
 use std::alloc::Global;
 
-/// What a voice's field says: its id of 1 to 20 bytes, the last clef that it names,
-/// and the last way of stems. `asks` tells whether it names a way; where it
-/// doesn't, `stem` is `Auto`.
+/// What a voice's field says: its id of 1 to 20 bytes, the last clef that it names, and the last way of
+/// stems. `asks` tells whether it names a way; where it doesn't, `stem` is `Auto`.
 #[derive(Drop)]
 pub struct VoiceDef {
     pub id: Text,

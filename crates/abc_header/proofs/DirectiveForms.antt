@@ -146,8 +146,7 @@ unblank-bare (b ∷ s) all = (and_parts _ _ all).0
 
 -- the text without the blanks at its start, from its first word on
 word-found : (text name after : List ℕ) → IsFirstWord text name after → behind_blanks text ≡ name ++ after
-word-found text name after first =
-    ap behind_blanks first.cut ∙ blanks-passed first.blanks (name ++ after) first.blank ∙ bare-stays name after first.some (unblank-bare name first.whole)
+word-found text name after first = ap behind_blanks first.cut ∙ blanks-passed first.blanks (name ++ after) first.blank ∙ bare-stays name after first.some (unblank-bare name first.whole)
 
 name-read : (name after : List ℕ) → list_all unblank name ≡ true → Parts after → name_of (name ++ after) ≡ name
 unfolding name_of

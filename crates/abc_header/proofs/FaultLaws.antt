@@ -137,16 +137,14 @@ takes_case : (done : List Line) (line : Line) (lines : List Line) (fault : Fault
     → (first_fault (ids_of (fields_of (done ++ line ∷ []))) lines ≡ Some fault → FirstBehind (done ++ line ∷ []) lines fault)
     → first_fault (ids_of (fields_of done)) (line ∷ lines) ≡ Some fault → FirstBehind done (line ∷ lines) fault
 takes_case done line lines fault None e more h = later done line lines fault e (more (sym (first_passed done line lines e) ∙ h))
-takes_case done line lines fault (Some one) e more h =
-    met done line lines fault (e ∙ (sym (first_met done line lines one e) ∙ h))
+takes_case done line lines fault (Some one) e more h = met done line lines fault (e ∙ (sym (first_met done line lines one e) ∙ h))
 
 first-takes : (lines done : List Line) (fault : Fault) → first_fault (ids_of (fields_of done)) lines ≡ Some fault → FirstBehind done lines fault
 first-takes [] done fault h = absurd (none_is_some fault h)
 first-takes (line ∷ lines) done fault h = takes_case done line lines fault (fault_of_line done line) refl (λ e. first-takes lines (done ++ line ∷ []) fault e) h
 
 clear_case : (done : List Line) (line : Line) (lines : List Line) (o : Option Fault) → fault_of_line done line ≡ o
-    → (first_fault (ids_of (fields_of (done ++ line ∷ []))) lines ≡ None → ClearBehind (done ++ line ∷ []) lines)
-    → first_fault (ids_of (fields_of done)) (line ∷ lines) ≡ None → ClearBehind done (line ∷ lines)
+    → (first_fault (ids_of (fields_of (done ++ line ∷ []))) lines ≡ None → ClearBehind (done ++ line ∷ []) lines) → first_fault (ids_of (fields_of done)) (line ∷ lines) ≡ None → ClearBehind done (line ∷ lines)
 clear_case done line lines None e more h = one_clear done line lines e (more (sym (first_passed done line lines e) ∙ h))
 clear_case done line lines (Some one) e more h = absurd (none_is_some one (sym h ∙ first_met done line lines one e))
 

@@ -28,13 +28,11 @@ none_if States f line (Some x) reads e silent = absurd (silent x (reads.takes li
 
 silent-unread : {X : Type 0} (States : Line → X → Type 0) (f : Line → Option X) → Reads States f → (lines : List Line) → AreSilent States lines → last_of f lines ≡ None
 silent-unread States f reads [] silent = refl
-silent-unread States f reads (line ∷ lines) silent =
-    ap (λ o. option_or o (f line)) (silent-unread States f reads lines silent.1) ∙ none_if States f line (f line) reads refl silent.0
+silent-unread States f reads (line ∷ lines) silent = ap (λ o. option_or o (f line)) (silent-unread States f reads lines silent.1) ∙ none_if States f line (f line) reads refl silent.0
 
 last_if : {X : Type 0} (States : Line → X → Type 0) (f : Line → Option X) (line : Line) (lines : List Line) (x : X) (o : Option X)
     → Reads States f → last_of f lines ≡ o → ((y : X) → o ≡ Some y → IsLastOf States lines y) → option_or o (f line) ≡ Some x → IsLastOf States (line ∷ lines) x
-last_if States f line lines x None reads e more h =
-    record { before = []; line = line; after = lines; cut = refl; states = reads.takes line x h; silent = unread-silent States f reads lines e }
+last_if States f line lines x None reads e more h = record { before = []; line = line; after = lines; cut = refl; states = reads.takes line x h; silent = unread-silent States f reads lines e }
 last_if States f line lines x (Some y) reads e more h =
     let last = more x h in
     record { before = line ∷ last.before; line = last.line; after = last.after; cut = ap (λ ls. line ∷ ls) last.cut; states = last.states; silent = last.silent }
@@ -153,8 +151,7 @@ record HasLetter (letter : ℕ) (line text : List ℕ) : Type 0 where
   cut : line ≡ letter ∷ codes ":" ++ rest
   is : behind_blanks rest ≡ text
 
-letter_if : (letter a b : ℕ) (s text : List ℕ) (percent field directive same : Bool)
-    → is_percent_line (a ∷ b ∷ s) ≡ percent → is_field (a ∷ b ∷ s) ≡ field → (a == 73) ≡ directive → (a == letter) ≡ same
+letter_if : (letter a b : ℕ) (s text : List ℕ) (percent field directive same : Bool) → is_percent_line (a ∷ b ∷ s) ≡ percent → is_field (a ∷ b ∷ s) ≡ field → (a == 73) ≡ directive → (a == letter) ≡ same
     → text_if letter (a ∷ b ∷ s) (kind_of (a ∷ b ∷ s)) ≡ Some text → HasLetter letter (a ∷ b ∷ s) text
 letter_if letter a b s text true field directive same e f g k h = absurd (none_is_some text (rw e at h))
 letter_if letter a b s text false false directive same e f g k h = absurd (none_is_some text (rw (e, f) at h))
@@ -233,8 +230,7 @@ pub defaults_answer : (lines : List Line) (answer : Result Defaults Memory) → 
 defaults_answer lines (Ok d) h = subst (AreDefaultsBy lines) (sym h) (defaults-are lines)
 defaults_answer lines (Err e) h = tt
 
-pub defaults_answer_one : (lines : List Line) (answer : Result Defaults Memory) → IfOk answer (λ d. d ≡ defaults_of lines)
-    → IfOk answer (λ d. (defaults : Defaults) → AreDefaultsBy lines defaults → defaults ≡ d)
+pub defaults_answer_one : (lines : List Line) (answer : Result Defaults Memory) → IfOk answer (λ d. d ≡ defaults_of lines) → IfOk answer (λ d. (defaults : Defaults) → AreDefaultsBy lines defaults → defaults ≡ d)
 defaults_answer_one lines (Ok d) h = λ defaults are. defaults-one lines defaults are ∙ sym h
 defaults_answer_one lines (Err e) h = tt
 
@@ -254,8 +250,7 @@ header_staves : (tune : TuneText) (defaults : Defaults) (header : Header) → Is
 unfolding IsHeaderOf
 header_staves tune defaults header h = staves_up_to tune defaults header (key_place tune.lines) h
 
-pub staves_answer : (tune : TuneText) (defaults : Defaults) (answer : Result Header TuneError) → IfOk answer (IsHeaderOf tune defaults)
-    → IfOk answer (λ header. AreStavesOf tune defaults header.staves)
+pub staves_answer : (tune : TuneText) (defaults : Defaults) (answer : Result Header TuneError) → IfOk answer (IsHeaderOf tune defaults) → IfOk answer (λ header. AreStavesOf tune defaults header.staves)
 staves_answer tune defaults (Ok header) h = header_staves tune defaults header h
 staves_answer tune defaults (Err e) h = tt
 

@@ -68,8 +68,7 @@ none_counted : {X : Type 0} (p : X → Bool) (xs : List X) → list_any p xs ≡
 none_counted p [] e = refl
 none_counted p (x ∷ xs) e = none_more p x xs (p x) refl e (none_counted p xs)
 
-once_new : (ids : List (List ℕ)) (id x : List ℕ) (same : Bool) → bytes_eq x id ≡ same → list_any (bytes_eq id) ids ≡ false → count_by (bytes_eq x) ids ≤ 1
-    → count_by (bytes_eq x) (ids ++ id ∷ []) ≤ 1
+once_new : (ids : List (List ℕ)) (id x : List ℕ) (same : Bool) → bytes_eq x id ≡ same → list_any (bytes_eq id) ids ≡ false → count_by (bytes_eq x) ids ≤ 1 → count_by (bytes_eq x) (ids ++ id ∷ []) ≤ 1
 once_new ids id x true e new once =
     let here : x ≡ id = bytes-same x id e in
     let none : count_by (bytes_eq x) ids ≡ 0 = subst (λ y. count_by (bytes_eq y) ids ≡ 0) (sym here) (none_counted (bytes_eq id) ids new) in

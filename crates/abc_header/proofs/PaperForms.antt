@@ -67,8 +67,7 @@ read_behind w s = decimals w s (behind (codes ".") s)
 decimals-read : (w : ℕ) (ds rest : List ℕ) → length ds ≤ 2 → list_all is_digit ds ≡ true → Stops is_digit rest → behind (codes ".") rest ≡ None
     → read_behind w (point_spelled ds rest) ≡ read_as (100 * w + value_of (take 2 (ds ++ codes "00"))) rest
 decimals-read w [] rest few all stops none = ap (decimals w rest) none ∙ ap (λ v. read_as v rest) (omega arith)
-decimals-read w (d ∷ ds) rest few all stops none =
-    ap (decimals w (point_spelled (d ∷ ds) rest)) (point-found ((d ∷ ds) ++ rest)) ∙ behind-point w (d ∷ ds) rest all stops ∙ with-read w d ds rest few
+decimals-read w (d ∷ ds) rest few all stops none = ap (decimals w (point_spelled (d ∷ ds) rest)) (point-found ((d ∷ ds) ++ rest)) ∙ behind-point w (d ∷ ds) rest all stops ∙ with-read w d ds rest few
 
 point-stops : (ds rest : List ℕ) → Stops is_digit rest → Stops is_digit (point_spelled ds rest)
 point-stops [] rest stops = stops

@@ -16,8 +16,7 @@ insert_either f ks k false = map_push f ks k
 
 -- inserting a key mentions its id
 pub names_insert : {X : Type 0} (f : X → List ℕ) (ks : List X) (k : X) → map f (insert_key (λ x y. bytes_eq (f x) (f y)) ks k) ≡ with_id (map f ks) (f k)
-names_insert f ks k =
-    insert_either f ks k (list_any (λ y. bytes_eq (f k) (f y)) ks) ∙ ap (λ known. if known then map f ks else map f ks ++ f k ∷ []) (any_by_name f ks k)
+names_insert f ks k = insert_either f ks k (list_any (λ y. bytes_eq (f k) (f y)) ks) ∙ ap (λ known. if known then map f ks else map f ks ++ f k ∷ []) (any_by_name f ks k)
 
 -- voices by the ids that keys have
 pub voices_by_key : {X : Type 0} (f : X → List ℕ) (fs : List Field) (ks : List X) → map (λ k. voice_from fs (f k)) ks ≡ map (voice_from fs) (map f ks)

@@ -1,8 +1,7 @@
 -- What the file header sets for every tune: the last good value of each kind counts.
 use Prim.Native.Char.{code}
 use Rattle.std.specs.{Prelude.{ℕ, List, true, false, ◌==◌, if◌then◌else◌, codes, Option, Some, None, unwrap_or}, Option.{option_and_then, option_map}, Str.bytes_eq}
-use Rattle.mus_units.specs.{declared.key.Meter.Meter, declared.key.Spread.Spread, declared.value.Frac.Frac}
-use Rattle.abc_lines.specs.{declared.book.Line.Line, declared.kind.LineKind.LineKind, Kinds.kind_of, Kinds.field_text}
+use Rattle.{mus_units.specs.{declared.key.Meter.Meter, declared.key.Spread.Spread, declared.value.Frac.Frac}, abc_lines.specs.{declared.book.Line.Line, declared.kind.LineKind.LineKind, Kinds.kind_of, Kinds.field_text}}
 use Rattle.abc_fields.specs.{declared.directive.Breaks.Breaks, Directives.name_of, Directives.rest_of, Directives.breaks_of, Directives.spread_of, Last.last_of, Meters.meter_of, Meters.unit_of}
 use Rattle.abc_header.specs.declared.defaults.Defaults.{Defaults}
 

@@ -1,7 +1,6 @@
 -- When a line of a header is at fault, by the lines before it, and which fault is the first.
 use Rattle.std.specs.Prelude.{◌≡◌, ◌<◌, ◌⊎◌, ℕ, List, [], ◌∷◌, ◌++◌, length, ⊤, Option, Some, None}
-use Rattle.abc_lines.specs.declared.{book.Line.Line, book.TuneText.TuneText, fault.FaultKind.FaultKind, fault.Fault.Fault, fault.TuneError.TuneError}
-use Rattle.abc_fields.specs.{declared.field.Field.Field, FieldSpelling.Says, FieldSpelling.IsBad}
+use Rattle.{abc_lines.specs.declared.{book.Line.Line, book.TuneText.TuneText, fault.FaultKind.FaultKind, fault.Fault.Fault, fault.TuneError.TuneError}, abc_fields.specs.{declared.field.Field.Field, FieldSpelling.Says, FieldSpelling.IsBad}}
 use Rattle.abc_header.specs.{Headers.key_place, Headers.fields_of, Headers.line_fault, Headers.head_lines, Headers.no_key, Voicing.ids_of}
 
 -- the text of the line is in no good form of its letter

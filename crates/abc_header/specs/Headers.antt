@@ -135,8 +135,7 @@ header_fault tune = fault_by tune (key_place tune.lines)
 
 abbrev pub IsHeaderBy : TuneText → Defaults → Header → Option ℕ → Type 0
 IsHeaderBy tune defaults header None = ⊥
-IsHeaderBy tune defaults header (Some place) =
-    header ≡ header_of (fields_of (head_lines tune place)) defaults (staves_from (head_lines tune place) defaults (first_line tune.lines)) (place + 1)
+IsHeaderBy tune defaults header (Some place) = header ≡ header_of (fields_of (head_lines tune place)) defaults (staves_from (head_lines tune place) defaults (first_line tune.lines)) (place + 1)
 
 -- the header of a tune that has a `K:`
 unfoldable pub IsHeaderOf : TuneText → Defaults → Header → Type 0

@@ -1,6 +1,5 @@
 ghost use Rattle.std.specs.{Prelude.{◌≡◌, ◌≤◌, ◌<◌, length, map, position, IfOk, IfErr, IfSome, Some, None, Ok, unwrap_or, nat_lt, []}, List.filter_map, Option.{option_map, option_copied}};
-ghost use Rattle.abc_fields.specs.{Fields.field_of, Fields.IsGoodField, Keys.key_over, Keys.IsGoodKeyText, Last.last_of};
-ghost use Rattle.mus_units.specs.Good.{IsGoodKey, IsGoodMeter, IsGoodUnit};
+ghost use Rattle.{abc_fields.specs.{Fields.field_of, Fields.IsGoodField, Keys.key_over, Keys.IsGoodKeyText, Last.last_of}, mus_units.specs.Good.{IsGoodKey, IsGoodMeter, IsGoodUnit}};
 ghost use Rattle.abc_header.specs.{Good.{IsGoodDefaults, GoodUnitIn}, Voicing.{with_id, ids_after, ids_of, clef_for, wish_for, voice_from, voices_of}, FileHeader.AreStavesOf, HeaderFaults.{IsClearHeader, IsHeaderRefusal}, Headers.{is_key_line, key_place, title_in, composer_in, tempo_in, key_in, meter_in, unit_in, breaks_in, spread_in, key_signs, key_clef, unit_by, meter_from, staves_from, header_of, fields_of, line_fault, fault_at, no_key, first_fault, header_fault, first_line, head_lines, IsHeaderOf, IsHeaderFault, AllGood, HasGoodValues, IsGoodHeader}};
 
 use crate::defaults::{Defaults, last_staves, text_of};
@@ -35,9 +34,8 @@ pub struct Header {
     pub body: u32,
 }
 
-/// The header of a tune, or its first fault: a tune without `K:` at its first line,
-/// else the first line up to the `K:` that has a fault of its field or mentions a
-/// seventeenth voice, at column 1.
+/// The header of a tune, or its first fault: a tune without `K:` at its first line, else the first line
+/// up to the `K:` that has a fault of its field or mentions a seventeenth voice, at column 1.
 pub fn read_header(alloc: Global, tune: &TuneText, defaults: &Defaults) -> Result<Header, TuneError>
     requires { IsGoodDefaults defaults.now }
     ensures value { IfOk result (λ header. IsHeaderOf tune.now defaults.now header) }

@@ -6,8 +6,7 @@ use crate::defaults::said_by;
 use crate::length::{read_length, read_scale};
 use abc_lines::{Book, Line};
 
-/// The paper: its size and margins in hundredths of a point, and the scale in
-/// percent.
+/// The paper: its size and margins in hundredths of a point, and the scale in percent.
 #[derive(Clone, Copy, PartialEq, Eq)]
 pub struct Paper {
     pub wide: u32,
@@ -19,9 +18,8 @@ pub struct Paper {
     pub scale: u16,
 }
 
-/// The paper that the file header states: of each directive the last good value
-/// counts. Where the body would be below 10,000 in width or height, all values are
-/// the defaults. Takes no memory.
+/// The paper that the file header states: of each directive the last good value counts. Where the body
+/// would be below 10,000 in width or height, all values are the defaults. Takes no memory.
 pub fn read_paper(book: &Book) -> Paper
     ensures states { IsPaperBy book.now.header result }
     ensures only { (paper : Paper) → IsPaperBy book.now.header paper → paper ≡ result }

@@ -62,8 +62,7 @@ pub(crate) fn mention(alloc: Global, ids: &mut VoiceIds, field: &Field) -> Resul
     }
 }
 
-/// The voice of each id: the last clef and the last way of stems that its lines
-/// name.
+/// The voice of each id: the last clef and the last way of stems that its lines name.
 pub(crate) fn voices_of(
     alloc: Global,
     ids: &VoiceIds,

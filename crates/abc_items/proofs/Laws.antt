@@ -60,8 +60,7 @@ stops_by Gives b g (TuneError.Fault fault) so s = record { given = g; gives_so =
 
 -- a token that stops
 pub stops_within : (of : Placed → List Given) (a b : Body) (all rest more : List Placed) (x : Placed) (e : TuneError)
-    → ((h : List Given) → first_fault (judged a.ids (flat_map of all ++ h)) ≡ first_fault (judged b.ids (flat_map of rest ++ h)))
-    → rest ≡ x ∷ more → Stops b (of x) e → Stops a (flat_map of all) e
+    → ((h : List Given) → first_fault (judged a.ids (flat_map of all ++ h)) ≡ first_fault (judged b.ids (flat_map of rest ++ h))) → rest ≡ x ∷ more → Stops b (of x) e → Stops a (flat_map of all) e
 stops_within of a b all rest more x TuneError.Memory faults is s = tt
 stops_within of a b all rest more x (TuneError.Fault fault) faults is s =
     ap (λ g. first_fault (judged a.ids g)) (sym (append-nil (flat_map of all))) ∙ faults [] ∙ ap (λ r. first_fault (judged b.ids (flat_map of r ++ []))) is
@@ -152,5 +151,4 @@ steps_good id own (i ∷ items) good =
     All-append IsGoodStood (steps_in id own i) (steps_from id (own_next id own i) items) (item_steps_good id own i (All-head IsGoodItem i items good)) (steps_good id (own_next id own i) items (All-tail IsGoodItem i items good))
 
 pub steps_whole : (id : List ℕ) (own : Bool) (items : List Item) (i : ℕ) (steps all : List Stood) → length items ≤ i → steps ++ steps_from id own (drop i items) ≡ all → steps ≡ all
-steps_whole id own items i steps all past so_far =
-    sym (append-nil steps) ∙ ap (λ is. steps ++ steps_from id own is) (sym (drop_of_length-le items past)) ∙ so_far
+steps_whole id own items i steps all past so_far = sym (append-nil steps) ∙ ap (λ is. steps ++ steps_from id own is) (sym (drop_of_length-le items past)) ∙ so_far

@@ -1,8 +1,7 @@
 ghost use Rattle.std.specs.Prelude.{◌≡◌, ◌≤◌, ◌^◌, ◌∷◌, [], All, nat_lt, length, flat_map, OnOk, IfOk, IfErr, IfSome};
 ghost use Rattle.abc_tokens.specs.Good.{AreGoodTokens, IsGoodToken};
 ghost use Rattle.abc_items.specs.{Good.IsGoodItem, Voices.declared_ids, Body.{gives, placed_given, field_given, is_joined, end_item, end_given, item_judged, MusicGives, LineGives, BodyGives, IsBody, IsBodyError}, Reading.{maybe_given, Reads, Stops, ReadsSome, StopsBy, LinesStop, judged_as, past_fault}};
-ghost use Rattle.{abc_lines.specs.{Good.IsGoodLine, Good.size_of, declared.kind.LineKind.LineKind, Kinds.kind_of}, abc_fields.specs.Fields.{field_of}};
-ghost use Rattle.abc_header.specs.Voicing.{with_id};
+ghost use Rattle.{abc_lines.specs.{Good.IsGoodLine, Good.size_of, declared.kind.LineKind.LineKind, Kinds.kind_of}, abc_fields.specs.Fields.{field_of}, abc_header.specs.Voicing.{with_id}};
 
 use crate::token::{field_item, token_item};
 use crate::voices::{declared_ids, is_mentioned, mention_item};

@@ -1,8 +1,7 @@
 //! What a field and a token of a music line give to the body.
 
 ghost use Rattle.std.specs.Prelude.{◌≡◌, ◌≤◌, ◌^◌, true, ◌*◌, ◌-◌, ◌∷◌, [], map, get_or, IfOk, IfErr, IfSome, Ok, Err};
-ghost use Rattle.{abc_tokens.specs.Good.{AreGoodHeads, IsGoodLen, IsGoodToken}, abc_steps.specs.Good.{IsGoodSound}};
-ghost use Rattle.abc_fields.specs.{Fields.{IsGoodField, named_field}, Keys.IsGoodKeyText};
+ghost use Rattle.{abc_tokens.specs.Good.{AreGoodHeads, IsGoodLen, IsGoodToken}, abc_steps.specs.Good.{IsGoodSound}, abc_fields.specs.{Fields.{IsGoodField, named_field}, Keys.IsGoodKeyText}};
 ghost use Rattle.abc_items.specs.{Good.IsGoodItem, Body.{head_of, first_len, chord_sound, is_on, cut_given, step_at, field_item, field_given, token_given}, Reading.{maybe_given, IsGivenError}};
 
 use abc_fields::{Breaks, Field, FieldError, KeyText, read_named};

@@ -92,8 +92,7 @@ tune-step before more line number false is within h next =
 
 tune-listed : (before more : List Reading) (number : ℕ) → number ≤ length before → belongs_to number before ≡ true → listed (belongs_to number) before more ≡ part_from (suc (length before)) more
 tune-listed before [] number within h = sym (part-nil _)
-tune-listed before (line ∷ more) number within h =
-    tune-step before more line number (is_end_of_part line) refl within h (tune-listed (line ∷ before) more number (omega (arith, within)))
+tune-listed before (line ∷ more) number within h = tune-step before more line number (is_end_of_part line) refl within h (tune-listed (line ∷ before) more number (omega (arith, within)))
 
 -- where all lines have come to `more` behind `before`: no later tune has a line among those
 abbrev Comes : (all before more : List Reading) → Type 0

@@ -8,8 +8,7 @@ pub struct Line {
     pub text: Text,
 }
 
-/// The lines of one tune, from its `X:` line on, and its place among the tunes of
-/// the book, from 1.
+/// The lines of one tune, from its `X:` line on, and its place among the tunes of the book, from 1.
 #[derive(Drop)]
 pub struct TuneText {
     pub ordinal: u32,

@@ -8,8 +8,7 @@ use mus_units::bytes::behind_blanks;
 use mus_units::{Memory, Row, Text};
 use std::alloc::Global;
 
-/// A place in a book: what is left of its bytes, and the number of the line that
-/// begins there.
+/// A place in a book: what is left of its bytes, and the number of the line that begins there.
 #[derive(Clone, Copy)]
 pub struct Place<'a> {
     pub rest: &'a [u8],

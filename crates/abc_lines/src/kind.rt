@@ -59,8 +59,7 @@ pub(crate) fn is_percent_line(text: &[u8]) -> bool
     *first == b'%' && *second == b'%'
 }
 
-/// Whether a letter and a colon stand first, and not a letter of music before a
-/// bar.
+/// Whether a letter and a colon stand first, and not a letter of music before a bar.
 pub(crate) fn is_field(text: &[u8]) -> bool
     ensures { result ≡ is_field text.now }
 {

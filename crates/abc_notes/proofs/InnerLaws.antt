@@ -161,8 +161,7 @@ heads-next bang out new total last next s behind item f push is so_far =
     rw (push, is) (append_assoc out (given_head last item) _ ∙ ap (λ hs. out ++ hs) (sym here) ∙ so_far)
 
 pub heads-end : (bang : Bool) (out new total : List (Head × Len)) (last : Option (Head × Len)) (s : List ℕ) → inner_at bang s ≡ None → new ≡ out ++ last_head last → out ++ heads_after last (senses bang s) ≡ total → new ≡ total
-heads-end bang out new total last s none push so_far =
-    push ∙ ap (λ ss. out ++ heads_after last ss) (sym (senses-none bang s none)) ∙ so_far
+heads-end bang out new total last s none push so_far = push ∙ ap (λ ss. out ++ heads_after last ss) (sym (senses-none bang s none)) ∙ so_far
 
 -- parts that each give what they say of
 pub said-next : {X : Type 0} (gives : List Sense → List X) (one : Sense → List X) → ((item : Sense) (more : List Sense) → gives (item ∷ more) ≡ one item ++ gives more) → (bang : Bool) (out new total : List X) (s behind : List ℕ) (item : Sense) →

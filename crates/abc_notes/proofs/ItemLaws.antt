@@ -46,8 +46,7 @@ closed-reads (b ∷ name) x some = refl
 
 pub name_at-reads : (name x : List ℕ) → IsName name → name_at (name ++ (33 ∷ x)) ≡ Some (pair name x)
 unfolding name_at
-name_at-reads name x good =
-    rw (span_all-append is_name_byte name (33 ∷ x) good.bytes, span_all-stops is_name_byte (33 ∷ x) refl, append-nil) (closed-reads name x good.some)
+name_at-reads name x good = rw (span_all-append is_name_byte name (33 ∷ x) good.bytes, span_all-stops is_name_byte (33 ∷ x) refl, append-nil) (closed-reads name x good.some)
 
 -- ---- what is read stands at the front
 abbrev pub TakesInner : Bool → List ℕ → ReadInner → Type 0

@@ -92,12 +92,9 @@ length-copies (suc k) = ap suc (length-copies k)
 below-takes : (s count rest sl after be last : List ℕ) → s ≡ count ++ rest → IsCount 4 count → rest ≡ sl ++ after → list_all is_slash sl ≡ true → length sl ≤ 6 → after ≡ be ++ last → IsCount 4 be →
     let z = below_at count (sl, after) (be, last) in (s ≡ length_then z.0 z.1) × IsLength z.0
 below-takes s count rest [] after be last e good f pass few g below = (e ∙ ap (λ t. count ++ t) f, good)
-below-takes s count rest (c ∷ []) after [] last e good f pass few g below =
-    (e ∙ ap (λ t. count ++ t) (f ∙ slashes-are (c ∷ []) after pass), (good, omega arith, omega arith))
-below-takes s count rest (c ∷ []) after (d ∷ ds) last e good f pass few g below =
-    (e ∙ ap (λ t. count ++ t) (f ∙ slashes-are (c ∷ []) after pass ∙ ap (λ t. 47 ∷ t) g), (good, below))
-below-takes s count rest (c ∷ d ∷ sl) after be last e good f pass few g below =
-    (e ∙ ap (λ t. count ++ t) (f ∙ slashes-are (c ∷ d ∷ sl) after pass), (good, omega arith, few))
+below-takes s count rest (c ∷ []) after [] last e good f pass few g below = (e ∙ ap (λ t. count ++ t) (f ∙ slashes-are (c ∷ []) after pass), (good, omega arith, omega arith))
+below-takes s count rest (c ∷ []) after (d ∷ ds) last e good f pass few g below = (e ∙ ap (λ t. count ++ t) (f ∙ slashes-are (c ∷ []) after pass ∙ ap (λ t. 47 ∷ t) g), (good, below))
+below-takes s count rest (c ∷ d ∷ sl) after be last e good f pass few g below = (e ∙ ap (λ t. count ++ t) (f ∙ slashes-are (c ∷ d ∷ sl) after pass), (good, omega arith, few))
 
 pub length_at-takes : (s : List ℕ) → let z = length_at s in (s ≡ length_then z.0 z.1) × IsLength z.0
 unfolding length_at

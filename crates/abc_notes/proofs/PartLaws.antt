@@ -101,5 +101,4 @@ module _ {I : Type 0} {Stands : I → List ℕ → List ℕ → Type 0} {at : Li
 
   pub walk_of_parts : (s : List ℕ) (is : List I) → Parts I Stands s is → walk at s ≡ (is, [])
   walk_of_parts _ _ no_part = walk-none [] at_nil
-  walk_of_parts _ _ (then_part s part rest more l others) =
-      walk-some s (part, rest) (longest_is s part rest l) ∙ rw (walk_of_parts rest more others) refl
+  walk_of_parts _ _ (then_part s part rest more l others) = walk-some s (part, rest) (longest_is s part rest l) ∙ rw (walk_of_parts rest more others) refl

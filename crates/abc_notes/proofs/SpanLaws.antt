@@ -79,8 +79,7 @@ pub span_all-less : (p : ℕ → Bool) (s : List ℕ) → ((length (span_all p s
 span_all-less p s = rw (span_all-is p (length s) s (omega arith)) (span-less p (length s) s)
 
 pub span_all-append : (p : ℕ → Bool) (ds x : List ℕ) → list_all p ds ≡ true → span_all p (ds ++ x) ≡ (ds ++ (span_all p x).0, (span_all p x).1)
-span_all-append p ds x h =
-    rw (span_all-is p (length ds + length x) (ds ++ x) (omega (arith, length-append ds x)), span_all-is p (length x) x (omega arith)) (span-append p (length x) ds x h)
+span_all-append p ds x h = rw (span_all-is p (length ds + length x) (ds ++ x) (omega (arith, length-append ds x)), span_all-is p (length x) x (omega arith)) (span-append p (length x) ds x h)
 
 -- what follows does not pass
 span-after : (p : ℕ → Bool) (n : ℕ) (s : List ℕ) → length s ≤ n → begins p (span p n s).1 ≡ false

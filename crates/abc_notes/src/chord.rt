@@ -205,8 +205,7 @@ fn add_deco(alloc: Global, decos: &mut Row<Deco>, item: Item<'_>) -> Result<(), 
     }
 }
 
-/// A chord that is read: the text between its brackets, its length, and what
-/// follows.
+/// A chord that is read: the text between its brackets, its length, and what follows.
 #[derive(Clone, Copy)]
 pub struct Chord<'a> {
     pub inside: &'a [u8],
@@ -228,8 +227,7 @@ pub fn chord_at(bang: bool, bytes: &[u8]) -> Option<Chord<'_>>
     Some(Chord { inside, len, rest })
 }
 
-/// The closing bracket of the longest chord behind an opening bracket, and what
-/// follows it.
+/// The closing bracket of the longest chord behind an opening bracket, and what follows it.
 fn bracket_at(bang: bool, bytes: &[u8]) -> Option<&[u8]>
     requires { length bytes.now ≤ 2 ^ 30 }
     ensures read { option_map (λ x. x.now) result ≡ bracket_at bang bytes.now }
@@ -266,8 +264,7 @@ fn bracket_here(head: bool, bytes: &[u8]) -> Option<&[u8]>
     }
 }
 
-/// The bracket that closes the chord where the exclamation mark in front begins
-/// no name.
+/// The bracket that closes the chord where the exclamation mark in front begins no name.
 #[tactic(auto, unfolding(crate::specs::Chords::bracket_in_name))]
 pub fn bracket_in_name(bang: bool, head: bool, bytes: &[u8]) -> Option<&[u8]>
     requires { length bytes.now ≤ 2 ^ 30 }

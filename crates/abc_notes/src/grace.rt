@@ -13,8 +13,7 @@ use abc_lines::FaultKind;
 use mus_units::{Memory, Row};
 use std::alloc::Global;
 
-/// The part of a grace group at the front, as long as it can be, and what
-/// follows it.
+/// The part of a grace group at the front, as long as it can be, and what follows it.
 #[tactic(auto, unfolding(crate::specs::Graces::grace_part_at))]
 pub fn grace_part_at(bang: bool, bytes: &[u8]) -> Option<(GraceItem<'_>, &[u8])>
     requires { length bytes.now ≤ 2 ^ 30 }
@@ -101,8 +100,7 @@ fn own_flaw(bang: bool, bytes: &[u8]) -> Flaw
     }
 }
 
-/// A grace group that is read: whether it has a slash, the text between its
-/// braces, and what follows.
+/// A grace group that is read: whether it has a slash, the text between its braces, and what follows.
 #[derive(Clone, Copy)]
 pub struct Grace<'a> {
     pub slash: bool,
@@ -128,8 +126,7 @@ pub fn grace_at(bang: bool, bytes: &[u8]) -> Option<Grace<'_>>
     })
 }
 
-/// The closing brace of the longest grace group whose parts begin here, and what
-/// follows it.
+/// The closing brace of the longest grace group whose parts begin here, and what follows it.
 #[cycle(braces)]
 fn brace_at(bang: bool, bytes: &[u8]) -> Option<&[u8]>
     requires { length bytes.now ≤ 2 ^ 30 }
@@ -238,8 +235,7 @@ fn brace_here(bytes: &[u8]) -> Option<&[u8]>
     }
 }
 
-/// The brace that closes the group where the exclamation mark in front begins no
-/// name.
+/// The brace that closes the group where the exclamation mark in front begins no name.
 #[tactic(auto, unfolding(crate::specs::Graces::brace_in_name))]
 fn brace_in_name(bang: bool, bytes: &[u8]) -> Option<&[u8]>
     requires { length bytes.now ≤ 2 ^ 30 }

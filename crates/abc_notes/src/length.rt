@@ -1,8 +1,7 @@
 //! The length of a note.
 
 ghost use Rattle.std.specs.{Prelude.◌≡◌, Prelude.ℕ, Prelude.List, Prelude.◌<◌, Prelude.◌≤◌, Prelude.◌^◌, Prelude.length, Prelude.take, Prelude.true, List.prefix_len, List.list_all, Str.Parse.digits_value};
-ghost use Rattle.mus_units.specs.Bytes.{is_digit};
-ghost use Rattle.abc_notes.specs.{Runs.span, Lengths.{IsNumber, IsCount, limit_at, count_of, number_at, length_at, len_of, is_slash, length_read}};
+ghost use Rattle.{mus_units.specs.Bytes.{is_digit}, abc_notes.specs.{Runs.span, Lengths.{IsNumber, IsCount, limit_at, count_of, number_at, length_at, len_of, is_slash, length_read}}};
 
 use crate::bytes::digits_off;
 use crate::part::Len;
@@ -34,8 +33,7 @@ pub fn length_at(bytes: &[u8]) -> (Len, &[u8])
     }
 }
 
-/// The number of at most so many digits at the front, or no digit, and what
-/// follows.
+/// The number of at most so many digits at the front, or no digit, and what follows.
 pub fn number_at(most: usize, bytes: &[u8]) -> (&[u8], &[u8])
     ensures read { (result.0.now, result.1.now) ≡ number_at most bytes.now }
     ensures good { IsCount most result.0.now }

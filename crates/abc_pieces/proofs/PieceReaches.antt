@@ -108,8 +108,7 @@ space-reaches b more x pass =
 
 says-reaches : (text x : List ℕ) → list_all is_text text ≡ true → Reaches x (says_form text) (says_read (text ++ (34 ∷ x)))
 unfolding says_read
-says-reaches text x pass =
-    record { form = says_form text; rest = x; is = rw (span_all-append is_text text (34 ∷ x) pass, span_all-stops is_text (34 ∷ x) refl, append-nil) refl; ends = inr refl }
+says-reaches text x pass = record { form = says_form text; rest = x; is = rw (span_all-append is_text text (34 ∷ x) pass, span_all-stops is_text (34 ∷ x) refl, append-nil) refl; ends = inr refl }
 
 inline-reaches : (letter : ℕ) (text x : List ℕ) → list_all is_inside text ≡ true → Reaches x (inline_form letter text) (inline_read (letter ∷ 58 ∷ (text ++ (93 ∷ x))))
 unfolding inline_read
@@ -307,8 +306,7 @@ ending_at-reaches : (bang : Bool) (before : Before) (bracket : Bool) (d : ℕ) (
 unfolding class_of
 ending_at-reaches bang before true d more x digit pass allowed =
     rw (at_class bang before 91 (d ∷ (more ++ x)) Class.Bracket refl ∙ opened_ending bang d (more ++ x) digit) (ending-reaches true d more x digit pass)
-ending_at-reaches bang before false d more x digit pass allowed =
-    rw (at_class bang before d (more ++ x) Class.Digit (digit_class d digit), allowed) (ending-reaches false d more x digit pass)
+ending_at-reaches bang before false d more x digit pass allowed = rw (at_class bang before d (more ++ x) Class.Digit (digit_class d digit), allowed) (ending-reaches false d more x digit pass)
 
 pub piece_at-reaches : (bang : Bool) (before : Before) (f : Form) (x : List ℕ) → IsGood bang f → IsAllowed before f → Reaches x f (piece_at bang before (spelled f x))
 unfolding class_of dot_read bang_read tuplet_read

@@ -80,8 +80,7 @@ r-reads : (p : ℕ) (q r x : List ℕ) → IsCount 1 q → behind_q p (number_at
 r-reads p q r x good = rw (count-stops 1 q 58 (r ++ x) refl good, skip-yes 58 (r ++ x)) refl
 
 r-reaches : (p : ℕ) (q r x : List ℕ) → IsCount 1 q → IsCount 2 r → Ends x (with_r p q r) (behind_q p (number_at 1 (q ++ (58 ∷ (r ++ x)))))
-r-reaches p q r x good small =
-    rw (r-reads p q r x good) (elim (count-reads 2 r x small) [ inl shorter ↦ inl shorter.0 | inr same ↦ inr (rw same refl) ])
+r-reaches p q r x good small = rw (r-reads p q r x good) (elim (count-reads 2 r x small) [ inl shorter ↦ inl shorter.0 | inr same ↦ inr (rw same refl) ])
 
 at_digit : (p : ℕ) (t : List ℕ) → is_tuplet_digit p ≡ true → tuplet_at (p ∷ t) ≡ Some (behind_p p t)
 unfolding tuplet_at

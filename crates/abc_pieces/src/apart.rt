@@ -4,8 +4,7 @@ use mus_units::Memory;
 use std::alloc::Global;
 use std::marker::Model;
 
-/// A value that stands apart, so that what holds it is small. Contracts see the
-/// value.
+/// A value that stands apart, so that what holds it is small. Contracts see the value.
 #[derive(Drop)]
 pub struct Apart<T> {
     value: Box<T>,

@@ -70,8 +70,7 @@ most_within unnamed items (v ∷ voices) most e few =
     most_within unnamed items voices (max most (own_measures v)) (none_behind (own ++ verses) others e) (omega (arith, here, few))
 
 pub few_measures : (unnamed : List ℕ) (items : List Item) (voices : List VoiceRead) → faults_of_voices unnamed items voices ≡ [] → most_measures voices ≤ 2000
-few_measures unnamed items voices e =
-    most_within unnamed items voices 0 (none_before (flat_map (voice_faults unnamed items) voices) (crowded (flat_map voice_weights voices)) e) (omega arith)
+few_measures unnamed items voices e = most_within unnamed items voices 0 (none_before (flat_map (voice_faults unnamed items) voices) (crowded (flat_map voice_weights voices)) e) (omega arith)
 
 pub clear_verses : (unnamed : List ℕ) (items : List Item) (voices : List VoiceRead) → faults_of_voices unnamed items voices ≡ [] → All (λ v. verse_fault v.start.id unnamed items ≡ None) voices
 clear_verses unnamed items voices e = each voices (none_before (flat_map (voice_faults unnamed items) voices) (crowded (flat_map voice_weights voices)) e) where

@@ -39,8 +39,7 @@ count_of n (f ∷ fs) h = (h.0, count_of (suc n) fs h.1)
 
 pub events_of_cores : (verses : ℕ) (fs : List Flat) → AllByRecursion (IsGoodCore verses) (map core fs) → All (IsGoodEvent verses) fs
 events_of_cores verses [] h = All-nil (IsGoodEvent verses)
-events_of_cores verses (f ∷ fs) h =
-    All-cons (IsGoodEvent verses) f fs (record { words = h.0.words; key = h.0.key; meter = h.0.meter }) (events_of_cores verses fs h.1)
+events_of_cores verses (f ∷ fs) h = All-cons (IsGoodEvent verses) f fs (record { words = h.0.words; key = h.0.key; meter = h.0.meter }) (events_of_cores verses fs h.1)
 
 -- ---- rows of nodes
 row_flats-append : (xs ys : List Leafing) (qs ps : ℕ) (w : Waits) → (in_row (xs ++ ys) qs ps w).flats ≡ (in_row xs qs ps w).flats ++ (in_row ys qs ps (in_row xs qs ps w).waits).flats

@@ -1,7 +1,6 @@
 -- The voices of a score: each has all its measures, no two have one id, and the first begins a staff.
 use Rattle.std.{proofs.{Common.{◌≡◌, ◌≢◌, ◌∙◌, refl, sym, ℕ, List, [], ◌∷◌, length, map}, lemmas.List.{Elements.All-map, FromFn.length-map-range_with_len}}, specs.List.{All, AllByRecursion}}
-use Rattle.mus_score.specs.{declared.score.Voice.Voice, GoodScore.IsLed, Walks.Distinct}
-use Rattle.{abc_header.specs.declared.header.Header.{Header}, abc_steps.specs.declared.step.Item.{Item}, abc_items.specs.Voices.{unnamed_of}}
+use Rattle.{mus_score.specs.{declared.score.Voice.Voice, GoodScore.IsLed, Walks.Distinct}, abc_header.specs.declared.header.Header.{Header}, abc_steps.specs.declared.step.Item.{Item}, abc_items.specs.Voices.{unnamed_of}}
 use Rattle.abc_events.specs.{Bars.bar_of, Bars.bars_of, Leaves.leaves_of, Measures.measure_of, Signs.signs}
 use Rattle.abc_score.specs.{declared.voices.VoiceRead.VoiceRead, Voices.{AreApart, IsOther, read_ids}, Score.{sung_words, voice_of, written_measures}}
 
@@ -27,8 +26,7 @@ lengths_agree header items n voices = All-map (λ (v : Voice). length v.measures
 
 other_voices : (header : Header) (items : List Item) (n : ℕ) (v : VoiceRead) (voices : List VoiceRead) → IsOther v.start.id (read_ids voices) → AllByRecursion (λ (w : Voice). (voice_of header items n v).id ≢ w.id) (map (voice_of header items n) voices)
 other_voices header items n v [] others = tt
-other_voices header items n v (w ∷ voices) others =
-    ((λ e. others.0 (sym (id_voice header items n v) ∙ (e ∙ id_voice header items n w))), other_voices header items n v voices others.1)
+other_voices header items n v (w ∷ voices) others = ((λ e. others.0 (sym (id_voice header items n v) ∙ (e ∙ id_voice header items n w))), other_voices header items n v voices others.1)
 
 pub voices_apart : (header : Header) (items : List Item) (n : ℕ) (voices : List VoiceRead) → AreApart (read_ids voices) → Distinct (map (voice_of header items n) voices)
 voices_apart header items n [] apart = tt

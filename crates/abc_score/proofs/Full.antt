@@ -23,8 +23,7 @@ all_reversed P (x ∷ xs) all = subst (AllByRecursion P) (sym (reverse-append (x
 
 pub all_since : (P : Stood → Type 0) (before : Steps) → AllByRecursion P before → AllByRecursion P (since_event before)
 unfolding since_event
-all_since P before all =
-    all_reversed P (before_first (λ s. is_event s.step) before) (all_taken P (position_or_len (λ (s : Stood). is_event s.step) before) before all)
+all_since P before all = all_reversed P (before_first (λ s. is_event s.step) before) (all_taken P (position_or_len (λ (s : Stood). is_event s.step) before) before all)
 
 more_graces : (xs ys : List GraceChord) → AreGoodGraces xs → AreGoodGraces ys → AreGoodGraces (xs ++ ys)
 more_graces [] ys a b = b
@@ -58,8 +57,7 @@ own_event k m n t nodes ls same good some h = by_test (m == k) (subst (λ i. Wel
 
 at_event : (k i m n : ℕ) (t : Taking) (nodes : List Music) (ls : List Leaf) → i ≡ m → n ≡ m → IsGoodAt (place_of t) nodes → HasSome (place_of t) nodes → WellNested (taken_in k n (after_event t)) ls
     → WellNested (taken_in k m t) (cond (i == k) (Leaf.Event i nodes ∷ ls) ls)
-at_event k i m n t nodes ls is same good some h =
-    subst (λ x. WellNested (taken_in k x t) (cond (i == k) (Leaf.Event i nodes ∷ ls) ls)) is (own_event k i n t nodes ls (same ∙ sym is) good some h)
+at_event k i m n t nodes ls is same good some h = subst (λ x. WellNested (taken_in k x t) (cond (i == k) (Leaf.Event i nodes ∷ ls) ls)) is (own_event k i n t nodes ls (same ∙ sym is) good some h)
 
 at_tuplet : (k m n : ℕ) (t : Taking) (p q r : ℕ) (ls : List Leaf) → n ≡ m → fits r t ≡ true → 1 ≤ r → IsRatio p q → WellNested (taken_in k n (opened r t)) ls
     → WellNested (taken_in k m t) (cond (m == k) (Leaf.Opens m p q r ∷ ls) ls)
@@ -98,8 +96,7 @@ unfolding sound_written
 sound_whole now before behind at s = refl
 
 rests_full : (words : List Words) (k : ℕ) (now : Place) (at : Stood) (seen : Bool) (measure n : ℕ) (rest : List Sign) → is_free now.force.meter ≡ false → IsGoodMeter now.force.meter
-    → ((j id : ℕ) → WellNested Taking.Nothing (leaves_in k (leaves_from words j id rest)))
-    → (j id : ℕ) → WellNested Taking.Nothing (leaves_in k (leaves_from words j id (further_rests now at seen measure n ++ rest)))
+    → ((j id : ℕ) → WellNested Taking.Nothing (leaves_in k (leaves_from words j id rest))) → (j id : ℕ) → WellNested Taking.Nothing (leaves_in k (leaves_from words j id (further_rests now at seen measure n ++ rest)))
 rests_full words k now at seen measure zero rest held good h j id = h j id
 rests_full words k now at seen measure (suc n) rest held good h j id =
     let w = rest_written now at seen measure false in
@@ -126,8 +123,7 @@ default_high usual (suc q) high few = few
 
 step_full : (words : List Words) (k : ℕ) (first : InForce) (before behind : Steps) (at : Stood) (s : Step) (rest : List Sign)
     → IsGoodForce (force_at first before) → AllByRecursion IsGoodStood before → IsGoodStep s → faults_of (place_at first before) before at behind s ≡ []
-    → AllByRecursion IsDrawn (signs_of (place_at first before) before at behind s)
-    → Enough (taking_at before) (cond (ends_tuplets s) 0 (cond (is_sound s) 1 0 + sounds_behind behind))
+    → AllByRecursion IsDrawn (signs_of (place_at first before) before at behind s) → Enough (taking_at before) (cond (ends_tuplets s) 0 (cond (is_sound s) 1 0 + sounds_behind behind))
     → ((j id : ℕ) → WellNested (taken_in k (cond (begins_group s (nearest_at before)) (groups before + 1) (groups before) + (all_further before + further s)) (taking_behind s (taking_at before))) (leaves_in k (leaves_from words j id rest)))
     → (j id : ℕ) → WellNested (taken_in k (measure_at before) (taking_at before)) (leaves_in k (leaves_from words j id (signs_of (place_at first before) before at behind s ++ rest)))
 unfolding signs_of faults_of begins_group further taking_behind ends_tuplets is_sound
@@ -199,5 +195,4 @@ walk_full words k first before (at ∷ behind) force good goods e drawn enough j
 
 pub all_full : (words : List Words) (k : ℕ) (first : InForce) (steps : Steps) → IsGoodForce first → AllByRecursion IsGoodStood steps → faults_in first [] steps ≡ [] → AllByRecursion IsDrawn (signs first [] steps)
     → WellNested Taking.Nothing (leaves_in k (leaves_from words 0 0 (signs first [] steps)))
-all_full words k first steps force goods e drawn =
-    to_nothing k 0 (leaves_in k (leaves_from words 0 0 (signs first [] steps))) (walk_full words k first [] steps force tt goods e drawn tt 0 0)
+all_full words k first steps force goods e drawn = to_nothing k 0 (leaves_in k (leaves_from words 0 0 (signs first [] steps))) (walk_full words k first [] steps force tt goods e drawn tt 0 0)

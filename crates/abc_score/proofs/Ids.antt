@@ -1,8 +1,7 @@
 -- The voices of a body: no two have one id, and at most 16 are mentioned.
 use Rattle.std.{proofs.{Common.{◌≡◌, ◌∙◌, refl, sym, ap, subst, ℕ, ◌+◌, ◌≤◌, List, [], ◌∷◌, ◌++◌, length, map, Bool, true, false, cond, None, arith}, lemmas.{Bool.{Decides.{nat_tests, not_from_Decides}, or_parts}, List.{Sums.sum_by-cons, length-map}, Slice.Eq.bytes_eq-Decides}}, specs.{Prelude.{◌≢◌, count_by, fold, nat_lt}, List.list_any, Str.bytes_eq}}
-use Rattle.{abc_lines.specs.declared.book.Line.{Line}, abc_header.specs.{declared.header.Header.Header, Headers.AreDistinct, Headers.HasGoodValues, Voicing.with_id}}
-use Rattle.{abc_fields.specs.declared.voice.VoiceDef.{VoiceDef}, abc_steps.specs.declared.step.Item.{Item}}
-use Rattle.abc_items.specs.{Voices.{claims, declared_ids, ids_after, ids_by_step, ids_of, start_of, starts_of}, Body.{Given, gives, fails, first_fault, items_in, judged, voice_judged, IsBody}}
+use Rattle.{abc_lines.specs.declared.book.Line.{Line}, abc_header.specs.{declared.header.Header.Header, Headers.AreDistinct, Headers.HasGoodValues, Voicing.with_id}, abc_fields.specs.declared.voice.VoiceDef.{VoiceDef}}
+use Rattle.{abc_steps.specs.declared.step.Item.{Item}, abc_items.specs.{Voices.{claims, declared_ids, ids_after, ids_by_step, ids_of, start_of, starts_of}, Body.{Given, gives, fails, first_fault, items_in, judged, voice_judged, IsBody}}}
 use Rattle.abc_score.specs.Voices.{AreApart, IsOther, read_ids, voice_read, voices_read}
 
 differ : (s t : List ℕ) → bytes_eq s t ≡ false → s ≢ t

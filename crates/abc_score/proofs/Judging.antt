@@ -5,8 +5,7 @@ use Rattle.mus_score.{specs.declared.score.Event.Event, specs.declared.good.Judg
 use Rattle.{abc_notes.specs.declared.part.GraceChord.{GraceChord}, abc_tokens.specs.Good.{AreGoodGraces, HasGraceHead}}
 use Rattle.abc_steps.specs.{declared.{step.Stood.Stood, tuplets.Taking.Taking, place.Place.Place as Stand}, Force.meter_ticks}
 use Rattle.abc_events.specs.{declared.written.{Written.Written, Waiting.Waiting}, Leaves.{Words, eighth, first_part, later_part, later_parts, parts, some_more, node_of, note_or_rest, grace_event, grace_note, grace_nodes, nodes_of}, Signs.{rest_written, whole_value}}
-use Rattle.abc_faults.specs.Faults.{is_free}
-use Rattle.abc_score.proofs.{Rows.judged_note, Rows.judged_rest, Rows.judged_grace, Nested.IsGoodAt, Nested.HasSome, Nested.judged_at, Nested.place_of, Nested.good_append, Nested.some_behind}
+use Rattle.{abc_faults.specs.Faults.{is_free}, abc_score.proofs.{Rows.judged_note, Rows.judged_rest, Rows.judged_grace, Nested.IsGoodAt, Nested.HasSome, Nested.judged_at, Nested.place_of, Nested.good_append, Nested.some_behind}}
 
 -- ---- events
 pub record IsPlayed (e : Event) : Type 0 where
@@ -50,8 +49,7 @@ node_some at (h ∷ hs) e = ap (λ (j : Place → Judged). (j at).some) (judged_
 
 all_at : (t : Taking) (es : List Event) → AllByRecursion IsPlayed es → IsGoodAt (place_of t) (map node_of es)
 all_at t [] played = refl
-all_at t (e ∷ es) played =
-    and_from (judged_within (node_of e) (place_of t)).good (judged_at (place_of t) (map node_of es)).good (node_at t e.heads e refl played.0) (all_at t es played.1)
+all_at t (e ∷ es) played = and_from (judged_within (node_of e) (place_of t)).good (judged_at (place_of t) (map node_of es)).good (node_at t e.heads e refl played.0) (all_at t es played.1)
 
 some_at : (at : Place) (es : List Event) → 1 ≤ length es → HasSome at (map node_of es)
 some_at at [] some = absurd (omega arith)

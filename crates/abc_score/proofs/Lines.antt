@@ -1,10 +1,8 @@
 -- The words of a body stand on its lines in their order, so their lines rise.
 use Rattle.std.{proofs.Common.{◌≡◌, ◌∙◌, refl, sym, ap, subst, ℕ, zero, suc, ◌≤◌, ◌<◌, List, [], ◌∷◌, ◌++◌, Bool, true, false, Option, Some, None, drop, arith}, specs.Prelude.{⊤, flat_map, Result, Ok, Err}}
-use Rattle.abc_lines.specs.{declared.book.Line.Line, declared.fault.Fault.Fault, declared.fault.FaultKind.FaultKind, declared.kind.LineKind.LineKind, Good.NumbersRise, Kinds.kind_of}
-use Rattle.{abc_pieces.specs.declared.token.Token.{Token}, abc_tokens.specs.declared.token.Placed.{Placed}}
-use Rattle.{abc_fields.specs.{declared.directive.Breaks.Breaks, declared.field.Field.Field, Fields.field_of, Fields.named_field}, abc_header.specs.declared.header.Header.{Header}}
-use Rattle.abc_steps.specs.declared.step.Item.{Item}
-use Rattle.abc_items.specs.Body.{Given, gives, fails, field_item, field_given, cut_given, is_on, token_given, placed_given, end_given, KindGives, BodyGives, no_lines, one_line, items_in, IsBody}
+use Rattle.{abc_lines.specs.{declared.book.Line.Line, declared.fault.Fault.Fault, declared.fault.FaultKind.FaultKind, declared.kind.LineKind.LineKind, Good.NumbersRise, Kinds.kind_of}, abc_pieces.specs.declared.token.Token.{Token}}
+use Rattle.{abc_tokens.specs.declared.token.Placed.{Placed}, abc_fields.specs.{declared.directive.Breaks.Breaks, declared.field.Field.Field, Fields.field_of, Fields.named_field}, abc_header.specs.declared.header.Header.{Header}}
+use Rattle.{abc_steps.specs.declared.step.Item.{Item}, abc_items.specs.Body.{Given, gives, fails, field_item, field_given, cut_given, is_on, token_given, placed_given, end_given, KindGives, BodyGives, no_lines, one_line, items_in, IsBody}}
 use Rattle.abc_score.specs.Order.{DoWordsRiseFrom, DoWordsRise}
 
 -- words that are given on a line
@@ -98,9 +96,7 @@ rise_behind [] (suc k) rise = tt
 rise_behind (line ∷ lines) (suc k) rise = rise_behind lines k (others_rise line lines rise)
 
 pub words_rise : (header : Header) (lines : List Line) (items : List Item) → NumbersRise lines → IsBody header lines items → DoWordsRise items
-words_rise header lines items rise body =
-    subst DoWordsRise (sym body.are) (given_rise header.breaks lines body.given 0 body.gives_so rise (from_zero lines))
+words_rise header lines items rise body = subst DoWordsRise (sym body.are) (given_rise header.breaks lines body.given 0 body.gives_so rise (from_zero lines))
 
 pub words_rise_behind : (header : Header) (lines behind : List Line) (items found : List Item) (k : ℕ) → NumbersRise lines → behind ≡ drop k lines → IsBody header behind items → found ≡ items → DoWordsRise found
-words_rise_behind header lines behind items found k rise cut body same =
-    subst DoWordsRise (sym same) (words_rise header behind items (subst NumbersRise (sym cut) (rise_behind lines k rise)) body)
+words_rise_behind header lines behind items found k rise cut body same = subst DoWordsRise (sym same) (words_rise header behind items (subst NumbersRise (sym cut) (rise_behind lines k rise)) body)

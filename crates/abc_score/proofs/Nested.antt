@@ -2,8 +2,7 @@
 use Rattle.std.{proofs.{Common.{◌≡◌, ◌∙◌, refl, sym, ap, subst, ℕ, zero, suc, ◌-◌, ◌≤◌, List, [], ◌∷◌, ◌++◌, map, Bool, true, false, cond, ◌&&◌, ◌||◌, nat_le, arith}, lemmas.Bool.{leb-true, and_parts, and_from, or_right, Decides.nat_tests}}, specs.Prelude.⊤}
 use Rattle.mus_score.specs.{declared.score.Music.Music, declared.good.Judged.Judged, declared.good.Place.Place, Good.all_judged, Good.judged_within, Good.outside}
 use Rattle.abc_steps.specs.{declared.tuplets.Taking.Taking, Tuplets.fits, Tuplets.one_less, Tuplets.after_event, Tuplets.opened}
-use Rattle.abc_events.specs.{Leaf.Leaf, Nesting.Forest, Nesting.none_more, Nesting.one, Nesting.group, Nesting.cut, Nesting.nest, Nesting.music_of, Nesting.tree_of}
-use Rattle.abc_score.proofs.Rows.{judged_tuplet}
+use Rattle.{abc_events.specs.{Leaf.Leaf, Nesting.Forest, Nesting.none_more, Nesting.one, Nesting.group, Nesting.cut, Nesting.nest, Nesting.music_of, Nesting.tree_of}, abc_score.proofs.Rows.{judged_tuplet}}
 use Rattle.mus_score.specs.declared.score.Music.TheVariants as music
 
 -- ---- bodies at a place
@@ -205,8 +204,7 @@ unfolding fits
 opens_fine Taking.Nothing p q r f fit ratio fine =
     let inner = music_of (cut r f).taken in
     and_from (judged_within (music.Tuplet p q inner) outside).good (judged_at outside (music_of (cut r f).left)).good (outer_tuplet p q inner ratio fine.some fine.taken) fine.behind
-opens_fine (Taking.One left) p q r f fit ratio fine =
-    opens_in_one left p q r f ratio (subst (λ b. Fine (cond b (Taking.Two r left) (Taking.One left)) f) fit fine)
+opens_fine (Taking.One left) p q r f fit ratio fine = opens_in_one left p q r f ratio (subst (λ b. Fine (cond b (Taking.Two r left) (Taking.One left)) f) fit fine)
 opens_fine (Taking.Two inner outer) p q r f fit ratio fine = absurd cc
 
 -- ---- the leaves of a measure

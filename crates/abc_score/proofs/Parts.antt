@@ -58,8 +58,7 @@ abbrev CoreReaches : Event → List Event → List Core → Clef → Type 0
 CoreReaches e gs cs clef = All (IsInReach clef) e.heads × All (λ (g : Event). All (IsInReach clef) g.heads) gs × CoresReach clef cs
 
 core_reach : (before clef : Clef) (e : Event) (gs : List Event) (cs : List Core) → clef_at before e ≡ clef → DoReach clef e.heads → All (λ (g : Event). All (IsInReach clef) g.heads) gs → CoresReach clef cs → CoresReach before ((e, gs) ∷ cs)
-core_reach before clef e gs cs is heads graces others =
-    subst (CoreReaches e gs cs) (sym is) (All-from_recursion (IsInReach clef) e.heads heads, graces, others)
+core_reach before clef e gs cs is heads graces others = subst (CoreReaches e gs cs) (sym is) (All-from_recursion (IsInReach clef) e.heads heads, graces, others)
 
 later_reach : (clef : Clef) (w : Written) (verses id : ℕ) (vs : List Value) (cs : List Core) → DoReach clef w.heads → CoresReach clef cs → CoresReach clef (map plain (later_parts w verses id vs) ++ cs)
 later_reach clef w verses id [] cs all h = h

@@ -118,8 +118,7 @@ clef_here first (s ∷ before) = by_test (is_event s.step) refl (clef_here first
 
 waiting_clef : (first : InForce) (before : Steps) (decos : List Deco) → unwrap_or (waiting_of (force_at first before) (since_event before) decos).changes.clef (event_clef first before) ≡ (force_at first before).clef
 unfolding waiting_of changes_at
-waiting_clef first before decos =
-    ap (λ b. unwrap_or (when b (force_at first before).clef) (event_clef first before)) (any_since before) ∙ clef_here first before
+waiting_clef first before decos = ap (λ b. unwrap_or (when b (force_at first before).clef) (event_clef first before)) (any_since before) ∙ clef_here first before
 
 -- ---- all steps
 no_heads : (clef : Clef) (now : Place) (at : Stood) (seen : Bool) (measure : ℕ) (parted : Bool) → DoReach clef (rest_written now at seen measure parted).heads

@@ -71,8 +71,7 @@ at_own n low top m nodes ls same e rise others =
     ∙ ap (λ z. nodes ∷ z) (others e (rise_lower low m top ls (omega (arith, same)) rise))
 
 -- it stands further on
-before_own : (n low top m : ℕ) (nodes : List Music) (ls : List Leaf) → low < m → Rise m top ls
-    → flat_map (λ k. leaf_rows (leaves_in k (Leaf.Event m nodes ∷ ls))) (range_with_len (low + 1) n) ≡ nodes ∷ leaf_rows ls
+before_own : (n low top m : ℕ) (nodes : List Music) (ls : List Leaf) → low < m → Rise m top ls → flat_map (λ k. leaf_rows (leaves_in k (Leaf.Event m nodes ∷ ls))) (range_with_len (low + 1) n) ≡ nodes ∷ leaf_rows ls
     → flat_map (λ k. leaf_rows (leaves_in k (Leaf.Event m nodes ∷ ls))) (range_with_len low (suc n)) ≡ nodes ∷ leaf_rows ls
 before_own n low top m nodes ls less rise others =
     let more = flat_map (λ k. leaf_rows (leaves_in k (Leaf.Event m nodes ∷ ls))) (range_with_len (low + 1) n) in
@@ -129,5 +128,4 @@ sum_each leaves bars (k ∷ ks) =
     omega (arith, first, own, others, both)
 
 pub measures_weigh : (leaves : List Leaf) (bars : List Bar) → Rise 0 (length bars) leaves → sum_by (λ (m : Measure). weight_of m.body) (measures_in leaves bars) ≡ sum_by weight_of (leaf_rows leaves)
-measures_weigh leaves bars rise =
-    sum_each leaves bars (range_with_len 0 (length bars)) ∙ ap (sum_by weight_of) (segments leaves (length bars) (length bars) 0 (omega arith) rise)
+measures_weigh leaves bars rise = sum_each leaves bars (range_with_len 0 (length bars)) ∙ ap (sum_by weight_of) (segments leaves (length bars) (length bars) 0 (omega arith) rise)

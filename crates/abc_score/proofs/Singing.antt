@@ -79,15 +79,13 @@ length_parts w waiting words id [] = refl
 length_parts w waiting words id (v ∷ vs) = ap suc (length_later w (length words) (id + 1) vs)
 
 pub nodes_sing : (w : Written) (waiting : Waiting) (words : Words) (id : ℕ) → 1 ≤ length w.values → Sings (nodes_of w waiting words id) (event_cores w waiting words id)
-nodes_sing w waiting words id some =
-    graced_sings waiting.graces waiting.slash (parts w waiting words id w.values) (omega (arith, some, length_parts w waiting words id w.values))
+nodes_sing w waiting words id some = graced_sings waiting.graces waiting.slash (parts w waiting words id w.values) (omega (arith, some, length_parts w waiting words id w.values))
 
 pub nodes_sung : (w : Written) (waiting : Waiting) (words : Words) (id : ℕ) → 1 ≤ length w.values → sung (nodes_of w waiting words id) ≡ event_cores w waiting words id
 nodes_sung w waiting words id some = let sings = nodes_sing w waiting words id some in sings.cores 1 1 nothing refl
 
 pub nodes_are_sung : (w : Written) (waiting : Waiting) (words : Words) (id : ℕ) → 1 ≤ length w.values → IsSung (nodes_of w waiting words id)
-nodes_are_sung w waiting words id some =
-    subst (Sings (nodes_of w waiting words id)) (sym (nodes_sung w waiting words id some)) (nodes_sing w waiting words id some)
+nodes_are_sung w waiting words id some = subst (Sings (nodes_of w waiting words id)) (sym (nodes_sung w waiting words id some)) (nodes_sing w waiting words id some)
 
 -- ---- their weight
 heads_weight : (heads : List Head) (e : Event) → e.heads ≡ heads → weight (note_or_rest heads e) ≡ max 1 (length heads)

@@ -164,8 +164,7 @@ meter_when false meter good = tt
 
 waiting_changes : (now : InForce) (waits : Steps) (decos : List Deco) → IsGoodForce now → IfSome (waiting_of now waits decos).changes.key IsGoodKey × IfSome (waiting_of now waits decos).changes.meter IsGoodMeter
 unfolding waiting_of changes_at
-waiting_changes now waits decos force =
-    (key_when (list_any (λ s. names_key s.step) waits) now.key force.key, meter_when (list_any (λ s. names_meter s.step) waits) now.meter force.meter)
+waiting_changes now waits decos force = (key_when (list_any (λ s. names_key s.step) waits) now.key force.key, meter_when (list_any (λ s. names_meter s.step) waits) now.meter force.meter)
 
 step_changes : (now : Place) (before behind : Steps) (at : Stood) (s : Step) → IsGoodForce now.force → AllByRecursion HasGoodChanges (signs_of now before at behind s)
 unfolding signs_of
@@ -228,8 +227,7 @@ after_enough (Taking.Two inner outer) n enough = by_test (nat_le inner 1) refl w
 opened_enough : (r : ℕ) (t : Taking) (n : ℕ) → fits r t ≡ true → 1 ≤ r → r ≤ n → Enough t n → Enough (opened r t) n
 unfolding fits
 opened_enough r Taking.Nothing n fit some few enough = (some, few)
-opened_enough r (Taking.One left) n fit some few enough =
-    subst (λ b. Enough (cond b (Taking.Two r left) (Taking.One left)) n) (sym fit) (some, leb-true r left fit, enough.1)
+opened_enough r (Taking.One left) n fit some few enough = subst (λ b. Enough (cond b (Taking.Two r left) (Taking.One left)) n) (sym fit) (some, leb-true r left fit, enough.1)
 opened_enough r (Taking.Two inner outer) n fit some few enough = absurd cc
 
 pub default_some : (p r : ℕ) → 2 ≤ p → 1 ≤ or_default p r

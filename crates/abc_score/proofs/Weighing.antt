@@ -1,7 +1,6 @@
 -- What the signs of a voice weigh is at most what its steps weigh, and that of all voices is at most 50,000 where they aren't crowded.
 use Rattle.std.{proofs.{Common.{◌≡◌, ◌∙◌, refl, sym, ap, subst, ℕ, zero, suc, ◌+◌, ◌-◌, ◌*◌, ◌≤◌, max, List, [], ◌∷◌, ◌++◌, sum_by, length, Bool, true, false, cond, Option, Some, None, mul_comm, mul-le-mul_left, arith}, lemmas.{Bool.Decides.nat_tests, List.{length-map, Sums.{sum_by-cons, sum_by-append}}}}, specs.{Prelude.{flat_map, nat_lt, unwrap_or}, List.AllByRecursion}}
-use Rattle.{mus_units.specs.{declared.note.Head.Head, declared.value.Value.Value, declared.note.Deco.Deco, Parts.parts_list}, abc_notes.specs.declared.part.GraceChord.{GraceChord}}
-use Rattle.abc_lines.specs.declared.fault.Fault.{Fault}
+use Rattle.{mus_units.specs.{declared.note.Head.Head, declared.value.Value.Value, declared.note.Deco.Deco, Parts.parts_list}, abc_notes.specs.declared.part.GraceChord.{GraceChord}, abc_lines.specs.declared.fault.Fault.{Fault}}
 use Rattle.abc_steps.specs.{declared.{step.{Sound.Sound, Step.Step, Stood.Stood}, force.InForce.InForce, place.Place.Place}, Good.{IsGoodStep, IsGoodStood}, Lengths.written_length, Looks.{Steps, is_tied, since_event}, Places.{place_at, measure_of}, Tuplets.{fits, or_default, usual_q}}
 use Rattle.abc_events.specs.{declared.written.{Written.Written, Waiting.Waiting, Sign.Sign}, Leaves.{Words, leaves_from, nodes_of, words_at}, Signs.{further_rests, parted_at, rest_written, signs, signs_of, sound_written, tied_heads, tuplet_of, with_tie}, Waits.{graces_in, nothing, waiting_of}}
 use Rattle.abc_faults.specs.{declared.weights.Weight.Weight, First.then_below, Weights.{count_parts, count_up_to, crowd_faults_at, crowd_fault, crowd_up_to, crowded, grace_weights, grace_weights_of, sound_count, stands_before, weight_at, weights_in, weights_of}}
@@ -25,8 +24,7 @@ leaves_weigh words k id (Sign.Event w waiting ∷ ss) =
     let own = nodes_weight w waiting (words_at words k) id in
     let rest = leaves_weigh words (k + 1) (id + length w.values) ss in
     a ∙ (ap (λ n. n + sum_by weight_of others) own ∙ (ap (λ n. written_weight w waiting + n) rest ∙ sym b))
-leaves_weigh words k id (Sign.Opens measure p q r ∷ ss) =
-    leaves_weigh words k id ss ∙ sym (sum_by-cons sign_weight (Sign.Opens measure p q r) ss ∙ omega arith)
+leaves_weigh words k id (Sign.Opens measure p q r ∷ ss) = leaves_weigh words k id ss ∙ sym (sum_by-cons sign_weight (Sign.Opens measure p q r) ss ∙ omega arith)
 
 abbrev pub count : Weight → ℕ
 count w = w.count

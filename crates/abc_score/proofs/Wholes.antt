@@ -47,8 +47,7 @@ no_words rows _ _ = refl
 -- without verses it is the same whether each event has an empty row of words or none
 pub leaves_unsung : (id unnamed : List ℕ) (items : List Item) (ss : List Sign) → verse_count id unnamed items ≡ 0 → leaves_of [] ss ≡ leaves_of (sung_words id unnamed items ss) ss
 unfolding sung_words
-leaves_unsung id unnamed items ss none =
-    rw none (leaves_alike [] _ 0 0 ss (no_words (music_rows id unnamed items (notes_from 0 ss)) (range_with_len 0 (event_count ss))))
+leaves_unsung id unnamed items ss none = rw none (leaves_alike [] _ 0 0 ss (no_words (music_rows id unnamed items (notes_from 0 ss)) (range_with_len 0 (event_count ss))))
 
 -- ---- a voice
 all_drawn : (first : InForce) (steps : Steps) → AllByRecursion IsDrawn (signs first [] steps)

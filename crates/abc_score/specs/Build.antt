@@ -1,8 +1,7 @@
 -- What the building of a tune's score answers: the score of a body without fault, or the first fault, of the body and only then of the score.
 use Rattle.std.specs.Prelude.{◌≡◌, ◌⊎◌, ⊤, List, drop, Bool, Some, None}
-use Rattle.abc_lines.specs.{declared.book.Line.Line, declared.book.TuneText.TuneText, declared.fault.Fault.Fault, declared.fault.TuneError.TuneError}
-use Rattle.{abc_header.specs.declared.header.Header.{Header}, abc_steps.specs.declared.step.Item.{Item}, abc_items.specs.Body.{HasFault, IsBody}, abc_faults.specs.First.{IsFirst}}
-use Rattle.{mus_score.specs.declared.score.Score.{Score}, abc_score.specs.{Faults.score_faults, Score.score_of}}
+use Rattle.{abc_lines.specs.{declared.book.Line.Line, declared.book.TuneText.TuneText, declared.fault.Fault.Fault, declared.fault.TuneError.TuneError}, abc_header.specs.declared.header.Header.{Header}}
+use Rattle.{abc_steps.specs.declared.step.Item.{Item}, abc_items.specs.Body.{HasFault, IsBody}, abc_faults.specs.First.{IsFirst}, mus_score.specs.declared.score.Score.{Score}, abc_score.specs.{Faults.score_faults, Score.score_of}}
 
 -- the lines behind the header
 abbrev pub body_lines : Header → TuneText → List Line

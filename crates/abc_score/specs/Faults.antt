@@ -2,8 +2,7 @@
 -- many, and the places up to which all voices together have too many heads and rests.
 use Rattle.std.specs.Prelude.{ℕ, List, [], ◌++◌, flat_map}
 use Rattle.{abc_lines.specs.declared.fault.Fault.{Fault}, abc_header.specs.declared.header.Header.{Header}, abc_steps.specs.declared.step.Item.{Item}, abc_items.specs.Voices.{unnamed_of}}
-use Rattle.{abc_faults.specs.{declared.weights.Weight.Weight, Faults.faults_in, Weights.crowded, Weights.weights_in}, abc_words.specs.Verses.{verse_faults}}
-use Rattle.abc_score.specs.{declared.voices.VoiceRead.VoiceRead, Voices.voices_read}
+use Rattle.{abc_faults.specs.{declared.weights.Weight.Weight, Faults.faults_in, Weights.crowded, Weights.weights_in}, abc_words.specs.Verses.{verse_faults}, abc_score.specs.{declared.voices.VoiceRead.VoiceRead, Voices.voices_read}}
 
 abbrev pub voice_faults : List ℕ → List Item → VoiceRead → List Fault
 voice_faults unnamed items v = faults_in v.first [] v.steps ++ verse_faults v.start.id unnamed items

@@ -1,7 +1,6 @@
 -- The score of a body, put together from its voices.
 use Rattle.std.specs.Prelude.{ℕ, ◌+◌, List, [], ◌∷◌, ◌++◌, map, fold, max, reverse, Bool, true, false, Option}
-use Rattle.mus_units.specs.declared.note.Head.{Head}
-use Rattle.mus_score.specs.{declared.score.Measure.Measure, declared.score.Voice.Voice, declared.score.Score.Score, Seats.usual_gap, declared.score.Seat.Seat}
+use Rattle.{mus_units.specs.declared.note.Head.{Head}, mus_score.specs.{declared.score.Measure.Measure, declared.score.Voice.Voice, declared.score.Score.Score, Seats.usual_gap, declared.score.Seat.Seat}}
 use Rattle.{abc_header.specs.declared.header.Header.{Header}, abc_steps.specs.{declared.step.Item.Item, Counts.measures_begun}, abc_items.specs.Voices.{unnamed_of}}
 use Rattle.abc_events.specs.{declared.written.Written.Written, declared.written.Sign.Sign, Signs.signs, Bars.bars_of, Bars.first_bar, Bars.forced_bars, Measures.measures_of}
 use Rattle.{abc_words.specs.{declared.music.SungNote.SungNote, Verses.verse_count, Words.words_of}, abc_score.specs.{declared.voices.VoiceRead.VoiceRead, Voices.voices_read}}

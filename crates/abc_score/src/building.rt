@@ -1,7 +1,6 @@
 ghost use Rattle.std.specs.{Prelude.◌≡◌, Prelude.◌≤◌, Prelude.None, Prelude.length, Prelude.drop, Prelude.IfOk, Prelude.IfErr, List.All};
-ghost use Rattle.{abc_lines.specs.Good.{IsGoodTune}, abc_header.specs.Headers.{HasGoodValues, IsGoodHeader}, abc_items.specs.{Good.IsGoodItem, Voices.ids_of}};
-ghost use Rattle.{abc_faults.specs.First.{IsFirst}, mus_score.specs.GoodScore.{IsGoodScore}};
-ghost use Rattle.abc_score.specs.{Faults.score_faults, Score.score_of, Order.DoWordsRise, Build.IsErrorIn, Build.IsFaultOf, Build.IsScoreOf};
+ghost use Rattle.{abc_lines.specs.Good.{IsGoodTune}, abc_header.specs.Headers.{HasGoodValues, IsGoodHeader}, abc_items.specs.{Good.IsGoodItem, Voices.ids_of}, abc_faults.specs.First.{IsFirst}};
+ghost use Rattle.{mus_score.specs.GoodScore.{IsGoodScore}, abc_score.specs.{Faults.score_faults, Score.score_of, Order.DoWordsRise, Build.IsErrorIn, Build.IsFaultOf, Build.IsScoreOf}};
 
 use crate::faults::fault_of_score;
 use crate::scores::score_with;

@@ -1,6 +1,5 @@
 ghost use Rattle.std.specs.{Prelude.ℕ, Prelude.◌≡◌, Prelude.◌≤◌, Prelude.map, Prelude.IfOk, Prelude.None, List.All};
-ghost use Rattle.{abc_items.specs.Voices.{unnamed_of}, abc_words.specs.Verses.{verse_count, verse_fault}};
-ghost use Rattle.abc_events.specs.{Bars.bars_of, Leaves.leaves_of};
+ghost use Rattle.{abc_items.specs.Voices.{unnamed_of}, abc_words.specs.Verses.{verse_count, verse_fault}, abc_events.specs.{Bars.bars_of, Leaves.leaves_of}};
 ghost use Rattle.abc_score.specs.{declared.keeping.Judged.Judged, Judged.{IsKept, HasKept, reads_of}, Voices.IsGoodRead, Score.forced_of, Score.most_measures, Score.score_with, Score.sung_words, Score.voice_of, Score.written_measures};
 
 use crate::keeping::{Judged, Kept, signs_of_voice};

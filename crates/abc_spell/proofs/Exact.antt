@@ -85,8 +85,7 @@ measures_piece false c x good h = rw (count_exact 3 c x good h) refl
 -- ---- tuplets, slurs, ties, arrows
 tuplet_exact : (p : ℕ) (q r x : List ℕ) → IsTuplet (with_r p q r) → Stops x → tuplet_at (tuplet_then (with_r p q r) x) ≡ Some (with_r p q r, x)
 unfolding tuplet_at
-tuplet_exact p q r x good h =
-    rw (good.0, skip-yes 58 (q ++ (58 ∷ (r ++ x))), count-stops 1 q 58 (r ++ x) refl good.1, skip-yes 58 (r ++ x), count_exact 2 r x good.2 h) refl
+tuplet_exact p q r x good h = rw (good.0, skip-yes 58 (q ++ (58 ∷ (r ++ x))), count-stops 1 q 58 (r ++ x) refl good.1, skip-yes 58 (r ++ x), count_exact 2 r x good.2 h) refl
 
 pub tuplet_piece : (p : ℕ) (q r x : List ℕ) → IsTuplet (with_r p q r) → Stops x → IsExact (tuplet_form (with_r p q r)) x
 unfolding piece_at class_of tuplet_read

@@ -23,8 +23,7 @@ len_append : (len : Len) (s x : List ℕ) → len_then len s ++ x ≡ len_then l
 len_append len s x = append_assoc (decimal len.num) (47 ∷ (decimal len.den ++ s)) x ∙ ap (λ t. decimal len.num ++ (47 ∷ t)) (append_assoc (decimal len.den) s x)
 
 chord_head_append : (h : Head × Len) (s x : List ℕ) → chord_head_then h s ++ x ≡ chord_head_then h (s ++ x)
-chord_head_append h s x =
-    head_append h.0 (len_then h.1 (maybe h.0.tied 45 s)) x ∙ ap (head_then h.0) (len_append h.1 (maybe h.0.tied 45 s) x ∙ ap (len_then h.1) (maybe_append h.0.tied 45 s x))
+chord_head_append h s x = head_append h.0 (len_then h.1 (maybe h.0.tied 45 s)) x ∙ ap (head_then h.0) (len_append h.1 (maybe h.0.tied 45 s) x ∙ ap (len_then h.1) (maybe_append h.0.tied 45 s x))
 
 deco_append : (d : Deco) (s x : List ℕ) → deco_then d s ++ x ≡ deco_then d (s ++ x)
 deco_append d s x = ap (λ t. 33 ∷ t) (append_assoc (name_of d) (33 ∷ s) x)
@@ -128,8 +127,7 @@ no_decos (h ∷ hs) = decos_tied h.0.tied (head_parts hs) ∙ no_decos hs
 
 decos_mean : (ds : List Deco) (ps : List Inner) → GoodDecos ds → decos_of (map sense ps) ≡ [] → decos_of (map sense (deco_parts ds ps)) ≡ ds
 decos_mean [] ps good none = none
-decos_mean (d ∷ ds) ps good none =
-    ap (λ (e : Deco). e ∷ decos_of (map sense (deco_parts ds ps))) good.0.means ∙ ap (λ (list : List Deco). d ∷ list) (decos_mean ds ps good.1 none)
+decos_mean (d ∷ ds) ps good none = ap (λ (e : Deco). e ∷ decos_of (map sense (deco_parts ds ps))) good.0.means ∙ ap (λ (list : List Deco). d ∷ list) (decos_mean ds ps good.1 none)
 
 pub chord_heads : (hs : List (Head × Len)) (ds : List Deco) → GoodHeads hs → heads_of (map sense (deco_parts ds (head_parts hs))) ≡ hs
 chord_heads hs ds good = heads_behind ds (head_parts hs) ∙ heads_mean hs good
@@ -320,8 +318,7 @@ untied_is h e = ap (λ (b : Bool). tied_if b h) (sym e)
 
 notes_mean : (hs : List Head) → Untied hs → heads_in (map sense (note_parts hs)) ≡ hs
 notes_mean [] good = refl
-notes_mean (h ∷ hs) good =
-    ap (λ (head : Head). head ∷ heads_in (map sense (note_parts hs))) (head_means h (whole []) ∙ untied_is h good.0) ∙ ap (λ (list : List Head). h ∷ list) (notes_mean hs good.1)
+notes_mean (h ∷ hs) good = ap (λ (head : Head). head ∷ heads_in (map sense (note_parts hs))) (head_means h (whole []) ∙ untied_is h good.0) ∙ ap (λ (list : List Head). h ∷ list) (notes_mean hs good.1)
 
 abbrev grace_chord : List Head → GraceChord
 grace_chord hs = record { heads = hs }

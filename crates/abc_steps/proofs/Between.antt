@@ -15,5 +15,4 @@ is_none [] e = refl
 is_none (x ∷ xs) e = let none : length (x ∷ xs) ≡ 0 = grind (arith, nat_tests, e) in absurd (omega (arith, none))
 
 pub none_between : (has_length is_empty : Bool) (found between : Steps) → found ≡ between → is_empty ≡ (length found == 0) → is_empty ≡ true → None ≡ cond has_length (broken_among between) None
-none_between has_length is_empty found between same tests holds =
-    sym (nothing_between has_length between (sym same ∙ is_none found (sym tests ∙ holds)))
+none_between has_length is_empty found between same tests holds = sym (nothing_between has_length between (sym same ∙ is_none found (sym tests ∙ holds)))

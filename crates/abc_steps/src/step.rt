@@ -47,10 +47,9 @@ pub struct Stood {
     pub column: u32,
 }
 
-/// What a body has one after the other: a step of the voice that is current, the
-/// end of a music line, a voice that becomes current, or the text of a `w:` line.
-/// `joined` tells that the line ends in a backslash, `breaks` that its end is a
-/// line break.
+/// What a body has one after the other: a step of the voice that is current, the end of a music line, a
+/// voice that becomes current, or the text of a `w:` line. `joined` tells that the line ends in a
+/// backslash, `breaks` that its end is a line break.
 #[derive(Drop)]
 pub enum Item {
     Step(Stood),

@@ -1,5 +1,4 @@
-//! The tokens of a music line, with the columns where they begin, and the first
-//! fault of the line.
+//! The tokens of a music line, with the columns where they begin, and the first fault of the line.
 #![tactic(auto)]
 
 pub mod reader;

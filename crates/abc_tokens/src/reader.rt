@@ -66,10 +66,9 @@ pub fn start(line: &Line) -> Place<'_>
     }
 }
 
-/// The tokens of a music line from a place on, up to its first fault or to the
-/// thousandth of them, and what stands behind them. So a line is read in parts,
-/// and no more than a thousand of its tokens are held at once. Linear in what is
-/// read.
+/// The tokens of a music line from a place on, up to its first fault or to the thousandth of them, and
+/// what stands behind them. So a line is read in parts, and no more than a thousand of its tokens are
+/// held at once. Linear in what is read.
 pub fn read_part<'a>(
     alloc: Global,
     line: &Line,

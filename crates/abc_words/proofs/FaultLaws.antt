@@ -15,16 +15,13 @@ fault_here before behind v many = rw (le-leb 8 (number_on v.row before) many) re
 
 -- a walk along the verses
 pub one_taken : {X : Type 0} (xs : List X) (i : ℕ) (x : X) → i < length xs → x ≡ get_or xs i x → take (i + 1) xs ≡ take i xs ++ x ∷ []
-one_taken xs i x inside here =
-    ap (λ n. take n xs) (let e : i + 1 ≡ suc i = omega arith in e) ∙ (take-suc xs i x inside ∙ ap (λ y. take i xs ++ y ∷ []) (sym here))
+one_taken xs i x inside here = ap (λ n. take n xs) (let e : i + 1 ≡ suc i = omega arith in e) ∙ (take-suc xs i x inside ∙ ap (λ y. take i xs ++ y ∷ []) (sym here))
 
 pub one_left : {X : Type 0} (xs : List X) (i : ℕ) (x : X) → i < length xs → x ≡ get_or xs i x → drop i xs ≡ x ∷ drop (i + 1) xs
-one_left xs i x inside here =
-    drop-cons xs i x inside ∙ (ap (λ y. y ∷ drop (suc i) xs) (sym here) ∙ ap (λ n. x ∷ drop n xs) (let e : suc i ≡ i + 1 = omega arith in e))
+one_left xs i x inside here = drop-cons xs i x inside ∙ (ap (λ y. y ∷ drop (suc i) xs) (sym here) ∙ ap (λ n. x ∷ drop n xs) (let e : suc i ≡ i + 1 = omega arith in e))
 
 pub faults_on : (verses : List Verse) (i : ℕ) (v : Verse) → i < length verses → v ≡ get_or verses i v → number_on v.row (take i verses) < 8
-    → first_of (faults_from (take i verses) (drop i verses)) ≡ first_of (faults_from [] verses)
-    → first_of (faults_from (take (i + 1) verses) (drop (i + 1) verses)) ≡ first_of (faults_from [] verses)
+    → first_of (faults_from (take i verses) (drop i verses)) ≡ first_of (faults_from [] verses) → first_of (faults_from (take (i + 1) verses) (drop (i + 1) verses)) ≡ first_of (faults_from [] verses)
 faults_on verses i v inside here few so_far =
     ap (λ vs. first_of (faults_from vs (drop (i + 1) verses))) (one_taken verses i v inside here) ∙ (ap first_of (sym (fault_free (take i verses) (drop (i + 1) verses) v few))
     ∙ (ap (λ vs. first_of (faults_from (take i verses) vs)) (sym (one_left verses i v inside here)) ∙ so_far))

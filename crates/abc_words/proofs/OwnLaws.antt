@@ -16,8 +16,7 @@ free_from count event (n ∷ notes) free = by_test (nat_lt n.measure count) (fre
   by_test false rest = free
 
 -- nothing is sung on an event that has no note
-silent_print : (text : List ℕ) (event : ℕ) (goes : ℕ → List NoteAt → List Sung) (notes : List NoteAt) → IsFree event notes
-    → ((count : ℕ) (left : List NoteAt) → IsFree event left → word_of (goes count left) event ≡ None)
+silent_print : (text : List ℕ) (event : ℕ) (goes : ℕ → List NoteAt → List Sung) (notes : List NoteAt) → IsFree event notes → ((count : ℕ) (left : List NoteAt) → IsFree event left → word_of (goes count left) event ≡ None)
     → word_of (on_first (λ note left. record { event = note.event; text = text } ∷ goes note.measure left) notes) event ≡ None
 silent_print text event goes [] free rest = refl
 silent_print text event goes (n ∷ notes) free rest =

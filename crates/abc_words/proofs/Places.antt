@@ -7,5 +7,4 @@ from_places f xs n d len at =
     (λ k less. let within : k < n = omega arith in at k within ∙ sym (get_or-map-range_with_len f 0 n k k d within (omega arith)))
 
 pub made_more : {X : Type 0} (f : ℕ → X) (k : ℕ) (done new : List X) (x : X) → x ≡ f k → done ≡ map f (range_with_len 0 k) → new ≡ done ++ x ∷ [] → new ≡ map f (range_with_len 0 (k + 1))
-made_more f k done new x is so_far put =
-    put ∙ (ap (λ y. done ++ y ∷ []) is ∙ (ap (λ xs. xs ++ f k ∷ []) so_far ∙ sym (map-range_with_len_more f 0 k k (omega arith))))
+made_more f k done new x is so_far put = put ∙ (ap (λ y. done ++ y ∷ []) is ∙ (ap (λ xs. xs ++ f k ∷ []) so_far ∙ sym (map-range_with_len_more f 0 k k (omega arith))))

@@ -37,8 +37,7 @@ filled verses ends notes k a b c empty texts all = all ∙ (ap (λ r. with_notes
 
 pub rows_made : (id unnamed : List ℕ) (items : List Item) (notes : List SungNote) (verses : List Verse) (ends : List ℕ) (n : ℕ) (start texts all : List MusicRow)
     → verses ≡ verses_of id unnamed items → ends ≡ row_ends items → n ≡ row_count items → length start ≡ n → length texts ≡ length start → length all ≡ length texts
-    → ((k : ℕ) → k < n → slice_index_or start k no_music ≡ no_music)
-    → ((k : ℕ) → k < length start → slice_index_or texts k no_music ≡ with_texts (slice_index_or start k no_music) (texts_on k verses))
+    → ((k : ℕ) → k < n → slice_index_or start k no_music ≡ no_music) → ((k : ℕ) → k < length start → slice_index_or texts k no_music ≡ with_texts (slice_index_or start k no_music) (texts_on k verses))
     → ((k : ℕ) → k < length texts → slice_index_or all k no_music ≡ with_notes (slice_index_or texts k no_music) (notes_on k ends notes)) → all ≡ music_rows id unnamed items notes
 rows_made id unnamed items notes verses ends n start texts all are ends_are rows long long_texts long_all empty with_them full =
     let made : all ≡ map (music_row verses ends notes) (range_with_len 0 n) =
@@ -50,5 +49,4 @@ rows_made id unnamed items notes verses ends n start texts all are ends_are rows
 
 -- a row without a text for a verse
 pub not_sung : (row : MusicRow) (texts : List (List ℕ)) (verse : ℕ) (sung : List Sung) → texts ≡ row.texts → length texts ≤ verse → sung ≡ sung ++ sung_in verse row
-not_sung row texts verse sung are past =
-    sym (append-nil sung) ∙ ap (λ found. sung ++ sung_with row.notes found) (sym (ap (λ ts. slice_get ts verse) (sym are) ∙ slice_get_past texts verse past))
+not_sung row texts verse sung are past = sym (append-nil sung) ∙ ap (λ found. sung ++ sung_with row.notes found) (sym (ap (λ ts. slice_get ts verse) (sym are) ∙ slice_get_past texts verse past))

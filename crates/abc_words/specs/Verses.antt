@@ -1,7 +1,6 @@
 -- The verses of a voice: the texts of its `w:` lines, each on its last row there; how many verses the voice has; and which texts are too many.
 use Rattle.std.specs.{Prelude.{ℕ, ◌==◌, nat_le, max, List, [], ◌∷◌, ◌++◌, Bool, true, false, if◌then◌else◌, map, fold, count_by, Option, Some, None}, List.range_with_len}
-use Rattle.{abc_lines.specs.declared.fault.{Fault.Fault, FaultKind.FaultKind}, abc_steps.specs.declared.step.Item.{Item}}
-use Rattle.abc_words.specs.{declared.rows.Place.Place, declared.verses.Verse.Verse, Rows.place_at, Rows.row_count}
+use Rattle.{abc_lines.specs.declared.fault.{Fault.Fault, FaultKind.FaultKind}, abc_steps.specs.declared.step.Item.{Item}, abc_words.specs.{declared.rows.Place.Place, declared.verses.Verse.Verse, Rows.place_at, Rows.row_count}}
 
 -- Words belong to the voice that is current, on its last row; they are passed over where it has none.
 abbrev pub verse_if : Bool → Option ℕ → List ℕ → ℕ → List Verse

@@ -77,8 +77,7 @@ HaveOwnWords id unnamed items notes count words =
 
 -- an event without a note has no words
 abbrev pub HasNoOtherWords : List ℕ → List ℕ → List Item → List SungNote → ℕ → List (List (Option (List ℕ))) → Type 0
-HasNoOtherWords id unnamed items notes count words =
-    (event verse : ℕ) → All (λ n. n.event ≡ event → ⊥) notes → event < count → verse < verse_count id unnamed items → word_at words event verse ≡ None
+HasNoOtherWords id unnamed items notes count words = (event verse : ℕ) → All (λ n. n.event ≡ event → ⊥) notes → event < count → verse < verse_count id unnamed items → word_at words event verse ≡ None
 
 -- ---- rows as they are filled
 abbrev pub no_music : MusicRow

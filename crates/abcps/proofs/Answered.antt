@@ -16,10 +16,8 @@ answered_whole called o e s end is page told = absurd end
 -- output has its whole text, and then errors was told its own
 pub answered_end : (called : Called) (o e : Stream) (s : Status) → IsEnd called.status → TookAll o called.page
     → ((s ≡ called.status) × TookAll e called.told) ⊎ ((s ≡ Status.WriteFault) × TookFront e called.told) → IsAnswered (Is called) s o e
-answered_end called o e s end page (inl told) =
-    answered_whole called o e s (subst IsEnd (sym told.0) end) told.0 page told.1
-answered_end called o e s end page (inr cut) =
-    subst (λ t. IsAnswered (Is called) t o e) (sym cut.0) (called, refl, inr (page, cut.1))
+answered_end called o e s end page (inl told) = answered_whole called o e s (subst IsEnd (sym told.0) end) told.0 page told.1
+answered_end called o e s end page (inr cut) = subst (λ t. IsAnswered (Is called) t o e) (sym cut.0) (called, refl, inr (page, cut.1))
 
 -- what is answered for something is answered for what it is
 pub answered_weaker : (C D : Called → Type 0) → ((called : Called) → C called → D called) → (o e : Stream) (s : Status) → IsAnswered C s o e → IsAnswered D s o e
@@ -32,8 +30,7 @@ answered_weaker C D give o e Status.Memory (quiet, inr part) = (quiet, inr (part
 answered_weaker C D give o e s r = absurd r
 
 -- what is answered for something is answered for what a command calls for, if that is it
-pub answer_of : (c : Command) (text : List ℕ) (C : Called → Type 0) → ((called : Called) → C called → Calls c text called)
-    → (o e : Stream) (s : Status) → IsAnswered C s o e → IsAnswer c s text o e
+pub answer_of : (c : Command) (text : List ℕ) (C : Called → Type 0) → ((called : Called) → C called → Calls c text called) → (o e : Stream) (s : Status) → IsAnswered C s o e → IsAnswer c s text o e
 answer_of c text C give o e Status.Done r = (r.0, give r.0 r.1, r.2, r.3, r.4)
 answer_of c text C give o e Status.SomeRefused r = (r.0, give r.0 r.1, r.2, r.3, r.4)
 answer_of c text C give o e Status.NotLeast r = (r.0, give r.0 r.1, r.2, r.3, r.4)
@@ -50,10 +47,8 @@ answer_by c text called calls o e s r = answer_of c text (Is called) (λ other i
 pub answer_refused : (c : Command) (text : List ℕ) (refusal : Refusal) (o e : Stream) (s : Status) → Refuses c text refusal → IsQuiet o
     → ((s ≡ Status.Memory) × IsQuiet e) ⊎ ((s ≡ refusal_status refusal) × WasTold e (refusal_line refusal)) → IsAnswer c s text o e
 answer_refused c text refusal o e s refuses quiet (inl none) = subst (λ t. IsAnswer c t text o e) (sym none.0) (none.1, inl quiet)
-answer_refused c text (Refusal.NotPages line) o e s refuses quiet (inr told) =
-    subst (λ t. IsAnswer c t text o e) (sym told.0) (Refusal.NotPages line, refuses, refl, quiet, told.1)
-answer_refused c text (Refusal.Halted token cause) o e s refuses quiet (inr told) =
-    subst (λ t. IsAnswer c t text o e) (sym told.0) (Refusal.Halted token cause, refuses, refl, quiet, told.1)
+answer_refused c text (Refusal.NotPages line) o e s refuses quiet (inr told) = subst (λ t. IsAnswer c t text o e) (sym told.0) (Refusal.NotPages line, refuses, refl, quiet, told.1)
+answer_refused c text (Refusal.Halted token cause) o e s refuses quiet (inr told) = subst (λ t. IsAnswer c t text o e) (sym told.0) (Refusal.Halted token cause, refuses, refl, quiet, told.1)
 
 -- what was read of a command that reads
 pub read_of : (c : Command) (i : Stream) (text : List ℕ) → IsReader c → ReadAll (limit_of c) i text → IsRead c i text
@@ -89,7 +84,5 @@ abbrev pub untouched : Option (List ℕ) → ℕ → Stream
 untouched left count = record { before = left; after = left; count_before = count; count_after = count }
 
 -- what was asked without an input was answered
-pub unread_obeyed : (c d : Command) (left : Option (List ℕ)) (count : ℕ) (o e : Stream) (s : Status) → c ≡ d → IsRead d (untouched left count) []
-    → IsAnswer d s [] o e → IsObeyed c s (untouched left count) o e
-unread_obeyed c d left count o e s is read r =
-    subst (λ x. IsObeyed x s (untouched left count) o e) (sym is) (obeyed_of d (untouched left count) o e [] s read r)
+pub unread_obeyed : (c d : Command) (left : Option (List ℕ)) (count : ℕ) (o e : Stream) (s : Status) → c ≡ d → IsRead d (untouched left count) [] → IsAnswer d s [] o e → IsObeyed c s (untouched left count) o e
+unread_obeyed c d left count o e s is read r = subst (λ x. IsObeyed x s (untouched left count) o e) (sym is) (obeyed_of d (untouched left count) o e [] s read r)

@@ -41,8 +41,7 @@ abbrev pub IsCounted : TuneText → Type 0
 IsCounted tune = 1 ≤ tune.ordinal
 
 -- the outcomes of a batch, as they are pressed
-pub batch_set : (terms : Terms) (batch : List TuneText) (outcomes at : List Outcome) → All IsCounted batch → at ≡ outcomes
-    → AreOutcomes terms batch outcomes → All (IsSetUnder terms.paper) at
+pub batch_set : (terms : Terms) (batch : List TuneText) (outcomes at : List Outcome) → All IsCounted batch → at ≡ outcomes → AreOutcomes terms batch outcomes → All (IsSetUnder terms.paper) at
 batch_set terms batch outcomes at counted same set = subst (λ os. All (IsSetUnder terms.paper) os) (sym same) (set_outcomes terms batch outcomes counted set)
 
 -- the tunes before those that are left were set, and the document was written so far
@@ -51,8 +50,7 @@ pub record IsUnderway (terms : Terms) (plan : Plan) (tunes rest : List TuneText)
   pub whole : before ++ rest ≡ tunes
   pub running : AreRunning terms plan before o r
 
-pub underway_first : (terms : Terms) (plan : Plan) (tunes : List TuneText) (o : Stream) (r : Running) → RisesBy plan → TookAll o (prolog (frame_of terms.paper)) → IsBegun r
-    → IsUnderway terms plan tunes tunes o r
+pub underway_first : (terms : Terms) (plan : Plan) (tunes : List TuneText) (o : Stream) (r : Running) → RisesBy plan → TookAll o (prolog (frame_of terms.paper)) → IsBegun r → IsUnderway terms plan tunes tunes o r
 underway_first terms plan tunes o r rises took begun = record {
   before = [];
   whole = refl;
@@ -67,8 +65,7 @@ underway_first terms plan tunes o r rises took begun = record {
 }
 
 -- the document was not begun
-pub cut_first : (terms : Terms) (plan : Plan) (tunes : List TuneText) (o : Stream) (why : Status) → RisesBy plan → WasStopped why o (prolog (frame_of terms.paper))
-    → AreCutOff terms plan tunes o why
+pub cut_first : (terms : Terms) (plan : Plan) (tunes : List TuneText) (o : Stream) (why : Status) → RisesBy plan → WasStopped why o (prolog (frame_of terms.paper)) → AreCutOff terms plan tunes o why
 cut_first terms plan tunes o why rises stopped = record {
   before = [];
   rest = tunes;
@@ -139,8 +136,7 @@ module _ (terms : Terms) (plan : Plan) (tunes rest : List TuneText) where
       let run = way.running in
       record {
         before = way.before ++ batch;
-        whole =
-            append_assoc way.before batch later ∙ ap (λ l. way.before ++ l) (ap (λ l. l ++ later) front ∙ ap (λ l. take n rest ++ l) back ∙ take-append-drop n rest) ∙ way.whole;
+        whole = append_assoc way.before batch later ∙ ap (λ l. way.before ++ l) (ap (λ l. l ++ later) front ∙ ap (λ l. take n rest ++ l) back ∙ take-append-drop n rest) ∙ way.whole;
         running = record {
           outcomes = run.outcomes ++ taken.outcomes;
           given = run.given;

@@ -41,19 +41,16 @@ calls_pages manner even text outcomes plan given press set planned good free pre
     }
 
 -- the plan of all outcomes of some tunes
-pub plan_of_all : (even : Bool) (terms : Terms) (tunes : List TuneText) (plan : Plan) (all : List Outcome) → IsPlanned even terms tunes plan
-    → AreOutcomes terms tunes all → IsPlan even terms.paper all plan
+pub plan_of_all : (even : Bool) (terms : Terms) (tunes : List TuneText) (plan : Plan) (all : List Outcome) → IsPlanned even terms tunes plan → AreOutcomes terms tunes all → IsPlan even terms.paper all plan
 plan_of_all false terms tunes plan all planned set = planned
-plan_of_all true terms tunes plan all planned set =
-    subst (λ os. IsPlan true terms.paper os plan) (outcomes_once terms tunes planned.0 all planned.1 set) planned.2
+plan_of_all true terms tunes plan all planned set = subst (λ os. IsPlan true terms.paper os plan) (outcomes_once terms tunes planned.0 all planned.1 set) planned.2
 
 pub planned_rises : (even : Bool) (terms : Terms) (tunes : List TuneText) (plan : Plan) → IsPlanned even terms tunes plan → RisesBy plan
 planned_rises false terms tunes plan planned = plan_rises false terms.paper [] plan planned
 planned_rises true terms tunes plan planned = plan_rises true terms.paper planned.0 plan planned.2
 
 -- the first of some outcomes are those of the first tunes
-first_outcomes : (terms : Terms) (before rest : List TuneText) (outcomes all : List Outcome) → AreOutcomes terms before outcomes
-    → AreOutcomes terms (before ++ rest) all → all ≡ outcomes ++ drop (length before) all
+first_outcomes : (terms : Terms) (before rest : List TuneText) (outcomes all : List Outcome) → AreOutcomes terms before outcomes → AreOutcomes terms (before ++ rest) all → all ≡ outcomes ++ drop (length before) all
 first_outcomes terms before rest outcomes all set whole =
     sym (take-append-drop (length before) all)
     ∙ ap (λ l. l ++ drop (length before) all) (outcomes_once terms before (take (length before) all) outcomes (zip_front (IsOutcome terms) before rest all whole) set)

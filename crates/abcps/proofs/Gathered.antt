@@ -1,9 +1,8 @@
 -- The blocks of tunes that are set a batch at a time are those of all their outcomes, and have a plan.
 use Rattle.std.{proofs.{Common.{◌≡◌, refl, sym, ap, ◌∙◌, subst, ◌==◌, Bool, true, false, List, [], ◌∷◌, ◌++◌, append_assoc, length, take, drop, ℕ, arith}, lemmas.{Bool.Decides.nat_tests, List.{append-nil, take-append-drop}}}, specs.Prelude.All}
-use Rattle.{abc_lines.specs.declared.book.TuneText.{TuneText}, lay_pages.specs.{declared.filling.Block.Block, Filling.AreGoodBlocks}}
-use Rattle.set_book.specs.{declared.outcome.Outcome.Outcome, Outcomes.{AreOutcomes, IsOutcome}}
-use Rattle.set_pages.{specs.{declared.plan.Plan.Plan, Drawings.all_blocks, Press.AreBlocksOn, Sheet.IsPlan}, proofs.{Joined.{blocks_append, zip_append}, Readying.set_outcomes}}
-use Rattle.{set_tune.specs.Terms.{Terms}, abcps.{specs.Pressed.{AreGathered, IsPlanned}, proofs.Batches.IsCounted}}
+use Rattle.{abc_lines.specs.declared.book.TuneText.{TuneText}, lay_pages.specs.{declared.filling.Block.Block, Filling.AreGoodBlocks}, set_book.specs.{declared.outcome.Outcome.Outcome, Outcomes.{AreOutcomes, IsOutcome}}}
+use Rattle.{set_pages.{specs.{declared.plan.Plan.Plan, Drawings.all_blocks, Press.AreBlocksOn, Sheet.IsPlan}, proofs.{Joined.{blocks_append, zip_append}, Readying.set_outcomes}}, set_tune.specs.Terms.{Terms}}
+use Rattle.abcps.{specs.Pressed.{AreGathered, IsPlanned}, proofs.Batches.IsCounted}
 
 -- the blocks of a batch behind those of the tunes before it
 pub gathered_more : (terms : Terms) (before batch : List TuneText) (outcomes at : List Outcome) (old new : List Block) → at ≡ outcomes → AreOutcomes terms batch outcomes
@@ -28,8 +27,7 @@ pub gathering_more : (terms : Terms) (tunes rest batch later : List TuneText) (n
     → ((before : List TuneText) → AreGathered terms before old → AreGathered terms (before ++ batch) new) → IsGathering terms tunes rest old → IsGathering terms tunes later new
 gathering_more terms tunes rest batch later n old new front back more way = record {
   before = way.before ++ batch;
-  whole =
-      append_assoc way.before batch later ∙ ap (λ l. way.before ++ l) (ap (λ l. l ++ later) front ∙ ap (λ l. take n rest ++ l) back ∙ take-append-drop n rest) ∙ way.whole;
+  whole = append_assoc way.before batch later ∙ ap (λ l. way.before ++ l) (ap (λ l. l ++ later) front ∙ ap (λ l. take n rest ++ l) back ∙ take-append-drop n rest) ∙ way.whole;
   gathered = more way.before way.gathered;
 }
 
@@ -38,8 +36,7 @@ none_left [] b tells is = refl
 none_left (tune ∷ l) b tells is = absurd (grind (arith, nat_tests))
 
 pub gathering_done : (terms : Terms) (tunes rest : List TuneText) (blocks : List Block) → rest ≡ [] → IsGathering terms tunes rest blocks → AreGathered terms tunes blocks
-gathering_done terms tunes rest blocks none way =
-    subst (λ l. AreGathered terms l blocks) (sym (append-nil way.before) ∙ ap (λ l. way.before ++ l) (sym none) ∙ way.whole) way.gathered
+gathering_done terms tunes rest blocks none way = subst (λ l. AreGathered terms l blocks) (sym (append-nil way.before) ∙ ap (λ l. way.before ++ l) (sym none) ∙ way.whole) way.gathered
 
 -- they are blocks of outcomes on the paper, and their plan is that of the tunes
 pub blocks_on : (terms : Terms) (tunes : List TuneText) (blocks at : List Block) → at ≡ blocks → All IsCounted tunes → AreGathered terms tunes blocks → AreBlocksOn terms.paper at

@@ -1,11 +1,9 @@
 -- A command calls for one answer on an input, however many jobs set its book; and for none on an input that it refuses.
 use Rattle.std.proofs.Common.{◌≡◌, ◌∙◌, refl, sym, ap, subst, ℕ, List, [], ◌∷◌, Bool, arith}
-use Rattle.{abc_lines.specs.Books.{book_of}, abc_header.specs.declared.paper.Paper.{Paper}, gen_book.specs.Book.{book}}
-use Rattle.lay_breaks.{specs.{Breaking.sum_from, Spans.listed}, proofs.Unique.one_is_chosen}
+use Rattle.{abc_lines.specs.Books.{book_of}, abc_header.specs.declared.paper.Paper.{Paper}, gen_book.specs.Book.{book}, lay_breaks.{specs.{Breaking.sum_from, Spans.listed}, proofs.Unique.one_is_chosen}}
 use Rattle.lay_cert.{specs.{Answers.IsJudged, Listing.{Entry, none_forced}, Verdicts.{IsVerdict, AreVerdicts}, declared.check.{Judged.Judged, Verdict.{Verdict, TheVariants.{Least, NotLeast}}}}, proofs.Alone.tells_one}
-use Rattle.{paint_text.specs.PaintText.{paint_text}, sheet_text.specs.SheetText.{sheet_report}, ps_machine.specs.OneAnswer.{HasOneAnswer}, ps_heard.specs.HeardText.{heard_text}}
-use Rattle.{ps_text.specs.{Document.document, declared.sheet.Sheet.Sheet}, set_book.specs.{declared.outcome.Outcome.Outcome, Once.HaveOneOutcome}}
-use Rattle.{set_pages.{specs.{declared.plan.Plan.Plan, Sheet.{IsPlan, sheet_of}}, proofs.Whole.one_plan}, set_lists.specs.{Reports.reports, Trials.trial_text}}
+use Rattle.{paint_text.specs.PaintText.{paint_text}, sheet_text.specs.SheetText.{sheet_report}, ps_machine.specs.OneAnswer.{HasOneAnswer}, ps_heard.specs.HeardText.{heard_text}, ps_text.specs.{Document.document, declared.sheet.Sheet.Sheet}}
+use Rattle.{set_book.specs.{declared.outcome.Outcome.Outcome, Once.HaveOneOutcome}, set_pages.{specs.{declared.plan.Plan.Plan, Sheet.{IsPlan, sheet_of}}, proofs.Whole.one_plan}, set_lists.specs.{Reports.reports, Trials.trial_text}}
 use Rattle.abcps_words.specs.declared.command.Command.{Command}
 use Rattle.abcps.specs.{Books.{AreSet, terms_in, CallsPages, CallsSystems, Tries, paper_in, status_of, systems_by, trial_of}, Calls.{Calls, CallsOne, IsPainted, Judges, NeverBoth, Shows, budget_of, by_one_job, status_by, verdicts_text}, declared.{status.Status.Status, refusing.Refusal.Refusal}, Called.{Called, IsQuietly}}
 use Rattle.set_tune.specs.Terms.{Manner, manner_by, unmoved}
@@ -26,8 +24,7 @@ one_set one manner text os ps a b = one.outcomes (terms_in manner text) (book_of
 
 -- what one outcome and one plan give is one
 by_plan : {A : Type 0} (make : Plan → List Outcome → A) (even : Bool) (paper : Paper) (os ps : List Outcome) (plan other : Plan) → os ≡ ps → IsPlan even paper os plan → IsPlan even paper ps other → make plan os ≡ make other ps
-by_plan make even paper os ps plan other same is also =
-    ap (λ l. make plan l) same ∙ ap (λ p. make p ps) (one_plan even paper ps other plan also (subst (λ l. IsPlan even paper l plan) same is))
+by_plan make even paper os ps plan other same is also = ap (λ l. make plan l) same ∙ ap (λ p. make p ps) (one_plan even paper ps other plan also (subst (λ l. IsPlan even paper l plan) same is))
 
 pages_once : HaveOneOutcome → (manner : Manner) (even : Bool) (text : List ℕ) (c d : Called) → CallsPages manner even text c → CallsPages manner even text d → c ≡ d
 pages_once one manner even text c d a b =
@@ -123,14 +120,12 @@ by_one c text called a = a
 
 -- commands that differ in nothing but jobs call for one answer
 pub calls_one : HaveOneOutcome → HasOneAnswer → CallsOne
-calls_one one alone c d text called other same a b =
-    called_once one alone (by_one_job c) text other called (subst (λ x. Calls x text other) same (by_one d text other b)) (by_one c text called a)
+calls_one one alone c d text called other same a b = called_once one alone (by_one_job c) text other called (subst (λ x. Calls x text other) same (by_one d text other b)) (by_one c text called a)
 
 -- an input that is refused calls for nothing
 pub never_both : HasOneAnswer → NeverBoth
 never_both alone Command.Inspect text called (Refusal.NotPages line) calls refuses = refuses.unspelled calls.sheet calls.read.spells
 never_both alone (Command.Hear spread) text called (Refusal.NotPages line) calls refuses = refuses.unspelled calls.sheet calls.read.spells
 never_both alone Command.Check text called (Refusal.NotPages line) calls refuses = refuses.unspelled calls.verdicts.0 calls.verdicts.1
-never_both alone Command.Paint text called (Refusal.Halted token cause) calls refuses =
-    alone.either text (budget_of text) calls.pages token cause calls.paints refuses
+never_both alone Command.Paint text called (Refusal.Halted token cause) calls refuses = alone.either text (budget_of text) calls.pages token cause calls.paints refuses
 never_both alone c text called refusal calls refuses = absurd refuses

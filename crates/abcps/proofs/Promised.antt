@@ -27,8 +27,7 @@ module _ (alone : CallsOne) (either : NeverBoth) (words : List (List ℕ)) (i o 
   usage_by s run not = absurd (not (run.0, run.1))
 
   -- what is answered where both texts are written
-  done_with : (c : Command) (text : List ℕ) (s : Status) → (called : Called) → Calls c text called → s ≡ called.status → TookAll o called.page → TookAll e called.told
-      → IsDone c s text o e
+  done_with : (c : Command) (text : List ℕ) (s : Status) → (called : Called) → Calls c text called → s ≡ called.status → TookAll o called.page → TookAll e called.told → IsDone c s text o e
   done_with c text s called calls ends page told = record {
     called = called;
     calls = calls;
@@ -52,8 +51,7 @@ module _ (alone : CallsOne) (either : NeverBoth) (words : List (List ℕ)) (i o 
       let r = run.2.2 in
       (run.0, run.2.0, record { asked = run.1; read = run.2.1 }, done_with run.0 run.2.0 s r.0 r.1 r.2 r.3 r.4)
 
-  memory_part : (c : Command) → Asks words c → (IsQuiet o ⊎ ((text : List ℕ) × IsRead c i text × HasPart c text o))
-      → IsQuiet o ⊎ ((c : Command) × (text : List ℕ) × IsWhole c words i text × HasPart c text o)
+  memory_part : (c : Command) → Asks words c → (IsQuiet o ⊎ ((text : List ℕ) × IsRead c i text × HasPart c text o)) → IsQuiet o ⊎ ((c : Command) × (text : List ℕ) × IsWhole c words i text × HasPart c text o)
   memory_part c asked (inl none) = inl none
   memory_part c asked (inr part) = inr (c, part.0, record { asked = asked; read = part.1 }, part.2)
 
@@ -114,14 +112,11 @@ module _ (alone : CallsOne) (either : NeverBoth) (words : List (List ℕ)) (i o 
   refused_reads c text refusal refuses = absurd refuses
 
   refused_told : (c : Command) (told : List ℕ) (s : Status) → IsToldTo c i told → (text : List ℕ) → IsRead c i text → WasRefused c s text o e → IsRefused c s told o e
-  refused_told c told s is text read r =
-      refused_with c told s (r.0, subst (λ t. Refuses c t r.0) (read_told c told text (refused_reads c text r.0 r.1) is read) r.1, r.2, r.3, r.4)
+  refused_told c told s is text read r = refused_with c told s (r.0, subst (λ t. Refuses c t r.0) (read_told c told text (refused_reads c text r.0 r.1) is read) r.1, r.2, r.3, r.4)
 
   refused_by : (s : Status) → IsRun s words i o e → IsRefusal s → (c : Command) × (text : List ℕ) × IsWhole c words i text × IsRefused c s text o e
-  refused_by Status.NotPages run is =
-      (run.0, run.2.0, record { asked = run.1; read = run.2.1 }, refused_with run.0 run.2.0 Status.NotPages run.2.2)
-  refused_by Status.Halted run is =
-      (run.0, run.2.0, record { asked = run.1; read = run.2.1 }, refused_with run.0 run.2.0 Status.Halted run.2.2)
+  refused_by Status.NotPages run is = (run.0, run.2.0, record { asked = run.1; read = run.2.1 }, refused_with run.0 run.2.0 Status.NotPages run.2.2)
+  refused_by Status.Halted run is = (run.0, run.2.0, record { asked = run.1; read = run.2.1 }, refused_with run.0 run.2.0 Status.Halted run.2.2)
   refused_by s run is = absurd is
 
   too_long : (most : ℕ) (told text : List ℕ) → (i.before ≡ Some told) × (length told ≤ most) → ReadTooMuch most i text → ⊥
@@ -141,8 +136,7 @@ module _ (alone : CallsOne) (either : NeverBoth) (words : List (List ℕ)) (i o 
   not_failed c text good (inr cut) = good.output cut.1
 
   -- a command was obeyed, no fault was counted, and memory was found
-  obeyed_as : (c : Command) (s : Status) → IsObeyed c s i o e → (told : List ℕ) → NoFault i o e → IsToldTo c i told → (s ≡ Status.Memory → ⊥) → (s ≡ Status.Usage → ⊥)
-      → IsDone c s told o e ⊎ IsRefused c s told o e
+  obeyed_as : (c : Command) (s : Status) → IsObeyed c s i o e → (told : List ℕ) → NoFault i o e → IsToldTo c i told → (s ≡ Status.Memory → ⊥) → (s ≡ Status.Usage → ⊥) → IsDone c s told o e ⊎ IsRefused c s told o e
   obeyed_as c Status.Usage r told good is ample listed = absurd (listed refl)
   obeyed_as c Status.ReadFault r told good is ample listed = absurd (good.input r.1)
   obeyed_as c Status.TooLong r told good is ample listed = absurd (not_too_long c told r.1.0 r.0 is r.1.1)
@@ -157,8 +151,7 @@ module _ (alone : CallsOne) (either : NeverBoth) (words : List (List ℕ)) (i o 
   obeyed one d Status.Usage run asked = absurd (run.0 (d, asked))
   obeyed one d s run asked = (λ is. cc, subst (λ c. IsObeyed c s i o e) (one words run.0 d run.1 asked) run.2)
 
-  answered_as : AsksOne → (s : Status) → IsRun s words i o e → (c : Command) (text : List ℕ) → IsGiven c words i o e text → (s ≡ Status.Memory → ⊥)
-      → IsDone c s text o e ⊎ IsRefused c s text o e
+  answered_as : AsksOne → (s : Status) → IsRun s words i o e → (c : Command) (text : List ℕ) → IsGiven c words i o e text → (s ≡ Status.Memory → ⊥) → IsDone c s text o e ⊎ IsRefused c s text o e
   answered_as one s run c text given ample =
       let r = obeyed one c s run given.asked in
       obeyed_as c s r.1 text given.good given.told ample r.0

@@ -39,8 +39,7 @@ module _ (b m a : Option (List ℕ)) (n k l : ℕ) (xs : List ℕ) (sent : Appen
   took_behind ys took = (Appends-trans b m a xs ys sent took.0, took.1 ∙ same)
 
   front_behind : (ys : List ℕ) → HasFront (stream m a k l) ys → HasFront (stream b a n l) (xs ++ ys)
-  front_behind ys front =
-      (length xs + front.0, subst (λ text. Appends b a text) (sym (take-append-add xs ys front.0)) (Appends-trans b m a xs (take front.0 ys) sent front.1))
+  front_behind ys front = (length xs + front.0, subst (λ text. Appends b a text) (sym (take-append-add xs ys front.0)) (Appends-trans b m a xs (take front.0 ys) sent front.1))
 
   pub stopped_behind : (why : Status) (ys : List ℕ) → WasStopped why (stream m a k l) ys → WasStopped why (stream b a n l) (xs ++ ys)
   stopped_behind Status.WriteFault ys cut =

@@ -1,8 +1,7 @@
 -- What the commands that set a book call for.
 use Rattle.std.specs.Prelude.{◌≡◌, ⊤, ℕ, List, [], Bool, true, false, if◌then◌else◌, length}
-use Rattle.{abc_lines.specs.Books.{book_of}, abc_header.specs.{declared.paper.Paper.Paper, Defaults.defaults_of, Papers.paper_of}, gen_book.specs.Book.{book}}
-use Rattle.{ps_text.specs.{Document.{Spells, document}, declared.sheet.Sheet.Sheet}, set_book.specs.{declared.outcome.Outcome.Outcome, Outcomes.AreOutcomes}}
-use Rattle.set_pages.specs.{declared.plan.Plan.Plan, Press.IsBookSheet, Read.ShowsBook, Sheet.{AreStanding, IsPlan, sheet_of}}
+use Rattle.{abc_lines.specs.Books.{book_of}, abc_header.specs.{declared.paper.Paper.Paper, Defaults.defaults_of, Papers.paper_of}, gen_book.specs.Book.{book}, ps_text.specs.{Document.{Spells, document}, declared.sheet.Sheet.Sheet}}
+use Rattle.{set_book.specs.{declared.outcome.Outcome.Outcome, Outcomes.AreOutcomes}, set_pages.specs.{declared.plan.Plan.Plan, Press.IsBookSheet, Read.ShowsBook, Sheet.{AreStanding, IsPlan, sheet_of}}}
 use Rattle.set_lists.specs.{declared.trials.Trial.Trial, Reports.{reports, some_fault}, Systems.systems_text, Laws.ListsTheScores, Listing.listing_text, Trials.{fault_count, set_count, system_count, total_of, trial_text}}
 use Rattle.{set_tune.specs.Terms.{Manner, Terms, terms_by}, abcps.specs.{Called.{Called, IsQuietly}, declared.status.Status.Status}}
 

@@ -3,8 +3,7 @@ use Rattle.std.specs.Prelude.{◌≡◌, ℕ, ◌+◌, List, [], ◌++◌, Bool,
 use Rattle.{abc_lines.specs.declared.book.TuneText.{TuneText}, abc_header.specs.{declared.paper.Paper.Paper, Papers.IsGoodPaper}, eng_io.specs.Causes.{Rose}}
 use Rattle.{ps_text.specs.{Document.{numbered, page_text, trailer}, Prolog.prolog, declared.sheet.{Page.Page, Sheet.Sheet}}, set_book.specs.{declared.outcome.Outcome.Outcome, Outcomes.AreOutcomes}}
 use Rattle.{set_lists.specs.Reports.{reports, some_fault}, lay_pages.specs.{declared.filling.Block.Block, Filling.AreGoodBlocks}}
-use Rattle.set_pages.specs.{Press.{IsOpen, IsPressed, RisesBy, done_pages}, Sheet.{IsPlan, frame_of, sheet_of}, declared.{press.Press.Press, plan.Plan.Plan}, Drawings.all_blocks}
-use Rattle.set_tune.specs.Terms.{Manner, Terms}
+use Rattle.{set_pages.specs.{Press.{IsOpen, IsPressed, RisesBy, done_pages}, Sheet.{IsPlan, frame_of, sheet_of}, declared.{press.Press.Press, plan.Plan.Plan}, Drawings.all_blocks}, set_tune.specs.Terms.{Manner, Terms}}
 use Rattle.abcps.specs.{Called.Called, Books.{CallsPages, status_of}, Outcome.{IsCutShort, IsQuiet, Stream, TookAll, TookFront, TookPart}, declared.{pressing.{Printed.Printed, Running.Running}, status.Status.Status}}
 
 abbrev pub status_if : Bool → Status

@@ -64,8 +64,7 @@ pub record Promises (s : Status) (words : List (List ℕ)) (i o e : Stream) : Ty
   -- for want of memory errors has nothing, and output nothing or a front of its text, or of the document of a book of which `set` had tunes left
   pub memory : s ≡ Status.Memory → IsQuiet e × (IsQuiet o ⊎ ((c : Command) × (text : List ℕ) × IsWhole c words i text × HasPart c text o))
   -- every other answer is the one that is called for, and both sinks have their whole texts
-  pub done : s ≢ Status.Usage → s ≢ Status.ReadFault → s ≢ Status.TooLong → (IsRefusal s → ⊥) → s ≢ Status.WriteFault → s ≢ Status.Memory
-      → (c : Command) × (text : List ℕ) × IsWhole c words i text × IsDone c s text o e
+  pub done : s ≢ Status.Usage → s ≢ Status.ReadFault → s ≢ Status.TooLong → (IsRefusal s → ⊥) → s ≢ Status.WriteFault → s ≢ Status.Memory → (c : Command) × (text : List ℕ) × IsWhole c words i text × IsDone c s text o e
   -- Where the words ask for a command, no fault is counted and the input is told within the limit: unless memory runs out, all
   -- that the command calls for is done, or its input is refused.
   pub answered : (c : Command) (text : List ℕ) → IsGiven c words i o e text → s ≢ Status.Memory → IsDone c s text o e ⊎ IsRefused c s text o e

@@ -1,6 +1,5 @@
 ghost use Rattle.std.specs.Prelude.{◌≡◌, ◌≤◌, ◌^◌, [], All, IfOk, OnOk, length};
-ghost use Rattle.{abc_header.specs.Papers.{IsGoodPaper}, gen_book.specs.Book.{book}};
-ghost use Rattle.{ps_text.specs.{Document.document, declared.sheet.Sheet.Sheet, Range.IsSheet}, set_tune.specs.Terms.{manner_of}};
+ghost use Rattle.{abc_header.specs.Papers.{IsGoodPaper}, gen_book.specs.Book.{book}, ps_text.specs.{Document.document, declared.sheet.Sheet.Sheet, Range.IsSheet}, set_tune.specs.Terms.{manner_of}};
 ghost use Rattle.{set_lists.specs.{Listing.AreListable, Reports.reports, Trials.trial_text}, set_pages.specs.{Press.IsBookSheet, Sheet.IsSetUnder}};
 ghost use Rattle.abcps.specs.{Books.{AreSet, IsTried, paper_in, status_of, systems_by, systems_called, trial_of}, Outcome.{IsAnswer, IsAnswered, IsEnd, observed}};
 ghost use Rattle.abcps_words.specs.declared.command.Command.{Command};

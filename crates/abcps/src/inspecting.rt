@@ -1,6 +1,5 @@
 ghost use Rattle.std.specs.Prelude.{◌≡◌, [], IfOk};
-ghost use Rattle.sheet_text.specs.SheetText.{sheet_report};
-ghost use Rattle.abcps.specs.{Calls.Shows, Outcome.{IsAnswer, IsAnswered, observed}, declared.status.Status.Status};
+ghost use Rattle.{sheet_text.specs.SheetText.{sheet_report}, abcps.specs.{Calls.Shows, Outcome.{IsAnswer, IsAnswered, observed}, declared.status.Status.Status}};
 ghost use Rattle.abcps_words.specs.declared.command.Command.{Command};
 
 use crate::refusing::Refusal;

@@ -1,6 +1,5 @@
 ghost use Rattle.std.specs.Prelude.{◌≡◌, ◌≤◌, [], IfOk, length};
-ghost use Rattle.paint_text.specs.PaintText.{paint_text};
-ghost use Rattle.abcps.specs.{Calls.budget_of, Outcome.{IsAnswer, IsAnswered, observed}, declared.status.Status.Status};
+ghost use Rattle.{paint_text.specs.PaintText.{paint_text}, abcps.specs.{Calls.budget_of, Outcome.{IsAnswer, IsAnswered, observed}, declared.status.Status.Status}};
 ghost use Rattle.abcps_words.specs.declared.command.Command.{Command};
 
 use crate::refusing::Refusal;

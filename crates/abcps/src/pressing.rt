@@ -1,8 +1,6 @@
 ghost use Rattle.std.specs.Prelude.{◌≡◌, ◌+◌, ◌^◌, ◌<◌, ◌≤◌, ◌++◌, [], List, false, All, IfOk, OnOk, length};
-ghost use Rattle.abc_lines.specs.Good.{IsGoodTune};
-ghost use Rattle.abc_header.specs.{declared.{defaults.Defaults.Defaults, paper.Paper.Paper}, Good.IsGoodDefaults, Papers.{IsGoodPaper, height_of}};
-ghost use Rattle.ps_text.specs.{declared.sheet.Page.Page, Document.{numbered, page_text}, Prolog.prolog, Range.IsPage};
-ghost use Rattle.set_book.specs.declared.outcome.Outcome.{Outcome};
+ghost use Rattle.{abc_lines.specs.Good.{IsGoodTune}, abc_header.specs.{declared.{defaults.Defaults.Defaults, paper.Paper.Paper}, Good.IsGoodDefaults, Papers.{IsGoodPaper, height_of}}};
+ghost use Rattle.{ps_text.specs.{declared.sheet.Page.Page, Document.{numbered, page_text}, Prolog.prolog, Range.IsPage}, set_book.specs.declared.outcome.Outcome.{Outcome}};
 ghost use Rattle.set_pages.specs.{declared.plan.Plan.Plan, Drawings.all_blocks, Press.{HasRoom, IsOpen, done_pages}, Sheet.{IsSetUnder, frame_of}};
 ghost use Rattle.abcps.specs.{Outcome.{IsEnd, observed}, Pressed.{IsBegun, IsClosed, IsRunning, IsUnderWay, WasGiven, status_if}};
 

@@ -1,7 +1,6 @@
 ghost use Rattle.std.specs.Prelude.{◌≡◌, ◌≤◌, ◌^◌, ◌++◌, Bool, List, All, IfOk, OnOk, length};
-ghost use Rattle.abc_lines.specs.{declared.book.TuneText.TuneText, Books.book_of, Good.{IsGoodBook, IsGoodTune}};
-ghost use Rattle.{abc_header.specs.{Good.IsGoodDefaults, Papers.{IsGoodPaper, height_of}}, set_tune.specs.Terms.{manner_of, terms_of}};
-ghost use Rattle.{set_book.specs.{declared.outcome.Outcome.Outcome, Outcomes.AreOutcomes}, set_pages.specs.{Drawings.all_blocks, Press.{HasRoom, IsOpen}}};
+ghost use Rattle.{abc_lines.specs.{declared.book.TuneText.TuneText, Books.book_of, Good.{IsGoodBook, IsGoodTune}}, abc_header.specs.{Good.IsGoodDefaults, Papers.{IsGoodPaper, height_of}}};
+ghost use Rattle.{set_tune.specs.Terms.{manner_of, terms_of}, set_book.specs.{declared.outcome.Outcome.Outcome, Outcomes.AreOutcomes}, set_pages.specs.{Drawings.all_blocks, Press.{HasRoom, IsOpen}}};
 ghost use Rattle.abcps.specs.{Pressed.{AreGathered, ArePrinted, AreTaken, IsPlanned, IsPrinted}, Outcome.observed};
 
 use crate::dropping::give_up;

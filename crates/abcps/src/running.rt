@@ -1,6 +1,5 @@
 ghost use Rattle.std.specs.Prelude.{◌≡◌, ◌≤◌, length, map, string_bytes};
-ghost use Rattle.abcps_words.specs.Command.{IsGoodCommand, limit_of};
-ghost use Rattle.abcps.specs.{Calls.{CallsOne, NeverBoth}, Outcome.{IsAnswer, IsObeyed, IsReader, IsRun, observed}, Promises.Promises};
+ghost use Rattle.{abcps_words.specs.Command.{IsGoodCommand, limit_of}, abcps.specs.{Calls.{CallsOne, NeverBoth}, Outcome.{IsAnswer, IsObeyed, IsReader, IsRun, observed}, Promises.Promises}};
 
 use crate::books::{set, systems, trial};
 use crate::hearing::hear;

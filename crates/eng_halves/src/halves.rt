@@ -7,8 +7,7 @@ use std::thread::{Threads, join};
 
 /// Work that is done on each item by itself, with an outcome for it.
 ///
-/// What the work reads besides the item it holds itself, so that several
-/// threads may share it.
+/// What the work reads besides the item it holds itself, so that several threads may share it.
 pub trait Work<T, O> {
     // The items that may be worked on.
     ghost takes: { Self → T → Type 0 };
@@ -24,10 +23,9 @@ pub trait Work<T, O> {
 
 /// The outcomes of the work on the items, one for each item and in their order.
 ///
-/// The items are halved, and the jobs with them, until a
-/// half has one job or one item; halves are worked on side by side where
-/// threads can be made, and each item by the jobs that are left for it.
-/// `Memory` comes where memory ran out in any half.
+/// The items are halved, and the jobs with them, until a half has one job or one item; halves are worked
+/// on side by side where threads can be made, and each item by the jobs that are left for it. `Memory`
+/// comes where memory ran out in any half.
 #[cycle(halves)]
 #[tactic(auto, using(crate::proofs::ZipLaws::all_zip_halves))]
 pub fn work_all<R: Threads + Sync, T: Sync, O: Send + Drop, W: Work<T, O> + Sync>(

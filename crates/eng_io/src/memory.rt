@@ -72,9 +72,8 @@ impl Source for MemSource {
     }
 }
 
-/// A sink that keeps its bytes and takes at most `piece` of them in each call. The
-/// calls numbered in `fails`, from 0, fail; any other call may fail for want of
-/// memory, and `refusals` counts those.
+/// A sink that keeps its bytes and takes at most `piece` of them in each call. The calls numbered in
+/// `fails`, from 0, fail; any other call may fail for want of memory, and `refusals` counts those.
 #[derive(Drop)]
 pub struct MemSink {
     pub bytes: Text,

@@ -23,9 +23,8 @@ pub enum ReadError {
     Memory,
 }
 
-/// Reads a source to its end, in at most `limit` bytes. It takes at most one byte
-/// more than that, which is TooLong; Fault comes only where the source's count
-/// rose. Each turn takes a byte or is the last.
+/// Reads a source to its end, in at most `limit` bytes. It takes at most one byte more than that, which
+/// is TooLong; Fault comes only where the source's count rose. Each turn takes a byte or is the last.
 pub fn read_all<S: Source>(alloc: Global, src: &mut S, limit: u64) -> Result<Text, ReadError>
     requires { limit ≤ 2 ^ 40 }
     ensures took { ReadTook (S.left src.old) (S.left src.new) limit result }

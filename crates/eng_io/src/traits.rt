@@ -14,9 +14,8 @@ pub trait Source {
     // how many faults it has counted
     ghost faults: { Self → ℕ };
 
-    /// Puts the next bytes at the front of `buf` and tells how many. No byte for a
-    /// `buf` that isn't empty is the end of input. Failed takes nothing, and comes
-    /// only where the count rose.
+    /// Puts the next bytes at the front of `buf` and tells how many. No byte for a `buf` that isn't
+    /// empty is the end of input. Failed takes nothing, and comes only where the count rose.
     fn read(&mut self, buf: &mut [u8]) -> Result<usize, Failed>
         ensures bound { ReadsAtMost result buf.new }
         ensures bytes { ReadConsumes (left self.old) (left self.new) result buf.new }

@@ -53,8 +53,7 @@ lacks_each b (x ∷ s) h = (
     same x b e = grind arith
 
 -- cut at the first place of the byte
-cut_here : (b : ℕ) (s : List ℕ) (i : ℕ) → i < length s → eqb (slice_index_or s i 0) b ≡ true
-    → ((k : ℕ) → k < i → eqb (slice_index_or s k 0) b ≡ false) → (s ≡ take i s ++ b ∷ drop (suc i) s) × Lacks b (take i s)
+cut_here : (b : ℕ) (s : List ℕ) (i : ℕ) → i < length s → eqb (slice_index_or s i 0) b ≡ true → ((k : ℕ) → k < i → eqb (slice_index_or s k 0) b ≡ false) → (s ≡ take i s ++ b ∷ drop (suc i) s) × Lacks b (take i s)
 cut_here b [] i l e h = absurd (omega arith)
 cut_here b (x ∷ s) zero l e h = (ap (λ y. y ∷ s) (eqb-true x b e), tt)
 cut_here b (x ∷ s) (suc i) l e h =

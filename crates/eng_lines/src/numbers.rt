@@ -20,8 +20,7 @@ fn first_at(byte: u8, bytes: &[u8]) -> Option<usize>
     bytes.iter().position(|b| *b == byte)
 }
 
-/// The bytes before the first such byte, and those after it; `None` exactly where
-/// there is none.
+/// The bytes before the first such byte, and those after it; `None` exactly where there is none.
 pub fn cut_at(byte: u8, bytes: &[u8]) -> Option<(&[u8], &[u8])>
     ensures { MatchOption result (Lacks byte bytes.now) (λ z. (bytes.now ≡ z.0.now ++ byte ∷ z.1.now) × Lacks byte z.0.now) }
 {
@@ -90,8 +89,7 @@ pub fn numbers_behind(prefix: &[u8], bytes: &[u8]) -> Option<(u32, u32)>
     Some((a, b))
 }
 
-/// The number below 2^32 behind the prefix; `None` exactly where the bytes are no such
-/// line.
+/// The number below 2^32 behind the prefix; `None` exactly where the bytes are no such line.
 pub fn number_behind(prefix: &[u8], bytes: &[u8]) -> Option<u32>
     ensures { MatchOption result ((a : ℕ) → a < 2 ^ 32 → bytes.now ≡ prefix.now ++ decimal a → ⊥)
         (λ a. (bytes.now ≡ prefix.now ++ decimal a) × (a < 2 ^ 32)) }

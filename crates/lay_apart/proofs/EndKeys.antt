@@ -22,8 +22,7 @@ none_below : (a : ℕ) (k : ColumnKey) → a ≤ k.measure → is_below k (head_
 unfolding is_below
 none_below a k from below = grind (arith, nat_tests, from, below)
 
-head_first : (lengths : List ℕ) (a b : ℕ) (ks : List ColumnKey) → Rises ks → All (IsInSystem lengths a b) ks → Contains ks (head_key a)
-    → (d : ColumnKey) → (get_or ks 0 d).class ≡ Class.Head
+head_first : (lengths : List ℕ) (a b : ℕ) (ks : List ColumnKey) → Rises ks → All (IsInSystem lengths a b) ks → Contains ks (head_key a) → (d : ColumnKey) → (get_or ks 0 d).class ≡ Class.Head
 head_first lengths a b ks rise all (zero, inside, is) d = ap (λ k. k.class) (get_or_default ks 0 d (head_key a) inside ∙ is)
 head_first lengths a b ks rise all (suc i, inside, is) d =
     let below : is_below (get_or ks 0 d) (head_key a) ≡ true =
@@ -52,8 +51,7 @@ bar_class lengths a b k below place = by k.class refl
     by Class.Note e = grind (arith, nat_tests, e, same, late, below)
     by Class.Bar e = refl
 
-bar_last : (lengths : List ℕ) (a b : ℕ) (ks : List ColumnKey) → Rises ks → All (IsInSystem lengths a b) ks → Contains ks (bar_key lengths (b - 1))
-    → (d : ColumnKey) → (get_or ks (length ks - 1) d).class ≡ Class.Bar
+bar_last : (lengths : List ℕ) (a b : ℕ) (ks : List ColumnKey) → Rises ks → All (IsInSystem lengths a b) ks → Contains ks (bar_key lengths (b - 1)) → (d : ColumnKey) → (get_or ks (length ks - 1) d).class ≡ Class.Bar
 bar_last lengths a b ks rise all (i, inside, is) d =
     let bar = bar_key lengths (b - 1) in
     let last = length ks - 1 in

@@ -1,8 +1,7 @@
 -- The marks of a staff are in its lanes, if they are in any: syllables are as many as the verses of its voices.
-use Rattle.std.{proofs.Common.ℕ, proofs.Common.List, proofs.Common.arith, proofs.lemmas.List.Elements.All-contains, proofs.lemmas.List.Elements.All-from_recursion, specs.List.AllByRecursion, specs.List.Contains}
-use Rattle.{mus_units.specs.{declared.key.Meter.Meter, Good.IsGoodMeter}, mus_time.specs.declared.keys.ColumnKey.{ColumnKey}, mus_laid.specs.{declared.laid.Laid.Laid, Ranked.drawn_at}}
-use Rattle.{mus_ink.specs.Signatures.{meter_marks}, mus_drawn.specs.declared.drawn.DrawnVoice.{DrawnVoice}}
-use Rattle.{mus_marks.{specs.Staff.staff_marks, specs.Staff.verses_on, proofs.Parts.FitsVoice, proofs.Parts.OfLaid, proofs.Parts.staff_all}, lay_apart.proofs.LaneGaps.{HasLane}}
+use Rattle.std.{proofs.{Common.ℕ, Common.List, Common.arith, lemmas.List.Elements.All-contains, lemmas.List.Elements.All-from_recursion}, specs.{List.AllByRecursion, List.Contains}}
+use Rattle.{mus_units.specs.{declared.key.Meter.Meter, Good.IsGoodMeter}, mus_time.specs.declared.keys.ColumnKey.{ColumnKey}, mus_laid.specs.{declared.laid.Laid.Laid, Ranked.drawn_at}, mus_ink.specs.Signatures.{meter_marks}}
+use Rattle.{mus_drawn.specs.declared.drawn.DrawnVoice.{DrawnVoice}, mus_marks.{specs.{Staff.staff_marks, Staff.verses_on}, proofs.{Parts.FitsVoice, Parts.OfLaid, Parts.staff_all}}, lay_apart.proofs.LaneGaps.{HasLane}}
 
 module _ (verses : ℕ) where
   abbrev IsLaned : Laid → Type 0

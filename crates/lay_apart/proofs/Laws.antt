@@ -1,17 +1,14 @@
 -- The columns of a system that is set rise within the width, and boxes of marks in one lane of a staff stay apart there.
 use Rattle.std.{proofs.{Common.{◌≡◌, ◌∙◌, sym, ap, subst, refl, ℕ, ◌^◌, ◌<◌, ◌≤◌, ◌==◌, List, [], ◌∷◌, length, map, get_or, Option, Some, None, option_map, arith}, lemmas.{Option.{get_or_from_slice_get, none-some, same_Some, slice_get-get_or, slice_get-map, slice_get_within}, List.Elements.All-from_recursion}}, specs.List.{All, AllByRecursion, Contains, slice_get}}
 use Rattle.{mus_score.specs.{declared.score.Score.Score, declared.score.Voice.Voice, GoodScore.IsGoodScore, Seats.grouped}, mus_time.specs.Onsets.{timeline_of}}
-use Rattle.mus_laid.specs.{declared.laid.Laid.Laid, declared.laid.StaffMarks.StaffMarks, declared.laid.SystemMarks.SystemMarks, Shapes.staff_shape}
-use Rattle.mus_drawn.specs.{declared.drawn.DrawnVoice.DrawnVoice, Drawn.drawn_voice}
-use Rattle.mus_marks.{specs.Staff.staff_marks, specs.Staff.verses_on, specs.System.drawn_staves, specs.System.stands_lower, proofs.Fitting.staves_fit, proofs.Parts.FitsVoice}
-use Rattle.{lay_springs.specs.{declared.margin.Placed.Placed, Place.length_at, Place.reach_at}, lay_columns.{specs.Columns.column_reach, proofs.Covering.columns_cover}}
-use Rattle.lay_shown.{specs.Ranks.AreRanked, specs.Shown.IsShown, proofs.Alike.same_in}
+use Rattle.{mus_laid.specs.{declared.laid.Laid.Laid, declared.laid.StaffMarks.StaffMarks, declared.laid.SystemMarks.SystemMarks, Shapes.staff_shape}, mus_drawn.specs.{declared.drawn.DrawnVoice.DrawnVoice, Drawn.drawn_voice}}
+use Rattle.{mus_marks.{specs.{Staff.staff_marks, Staff.verses_on, System.drawn_staves, System.stands_lower}, proofs.{Fitting.staves_fit, Parts.FitsVoice}}, lay_springs.specs.{declared.margin.Placed.Placed, Place.length_at, Place.reach_at}}
+use Rattle.{lay_columns.{specs.Columns.column_reach, proofs.Covering.columns_cover}, lay_shown.{specs.{Ranks.AreRanked, Shown.IsShown}, proofs.Alike.same_in}}
 use Rattle.lay_tune.{specs.{Spans.{IsSystem, column_length, score_gaps, system_columns, verses_of}, Systems.{IsPlaced, IsSetSystem, StandWithin}}, proofs.Within.{justified_within, placed_stand, system_count}}
-use Rattle.lay_apart.{specs.Apart.AreApart, proofs.Alike.same_apart, proofs.EndKeys.some_keys, proofs.LaneGaps.HasLane, proofs.LaneMarks.lane_of, proofs.SystemColumns.first_stands, proofs.SystemColumns.last_stands, proofs.Uncut.StandBetween, proofs.Uncut.staff_apart}
+use Rattle.lay_apart.{specs.Apart.AreApart, proofs.{Alike.same_apart, EndKeys.some_keys, LaneGaps.HasLane, LaneMarks.lane_of, SystemColumns.first_stands, SystemColumns.last_stands, Uncut.StandBetween, Uncut.staff_apart}}
 
 pub columns_stand : (s : Score) (width a b : ℕ) (m : SystemMarks) (p : Placed) → IsSetSystem s width a b m p → StandWithin width (length m.keys) p.at
-columns_stand s width a b m p set =
-    subst (λ keys. StandWithin width (length keys) p.at) set.alike.keys (placed_stand s width set.flat p set.placed)
+columns_stand s width a b m p set = subst (λ keys. StandWithin width (length keys) p.at) set.alike.keys (placed_stand s width set.flat p set.placed)
 
 -- the voices of a staff
 made_of : {X Y : Type 0} (f : X → Y) (xs : List X) (k : ℕ) (y : Y) → slice_get (map f xs) k ≡ Some y → (x : X) × (slice_get xs k ≡ Some x) × (f x ≡ y)

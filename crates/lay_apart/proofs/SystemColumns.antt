@@ -2,10 +2,9 @@
 use Rattle.std.proofs.{Common.{◌≡◌, ◌∙◌, sym, ap, subst, ℕ, ◌-◌, ◌<◌, ◌≤◌, true, List, [], length, get_or, arith}, lemmas.{List.{get_or-map, length-map}, Option.slice_get-get_or}}
 use Rattle.{mus_score.specs.{declared.score.Score.Score, GoodScore.IsGoodScore}, mus_time.specs.{declared.keys.Class.Class, declared.keys.ColumnKey.ColumnKey, Keys.key_at, Onsets.timeline_of}}
 use Rattle.{mus_laid.specs.{declared.laid.StaffMarks.StaffMarks, declared.laid.SystemMarks.SystemMarks}, mus_marks.specs.{Staff.staff_marks, Staff.verses_on, System.drawn_staves}}
-use Rattle.lay_springs.{specs.Fit.StandsInAll, specs.Place.reach_at, proofs.Placing.reach_is}
-use Rattle.lay_columns.{specs.declared.column.Column.Column, specs.Columns.StandsWhereDue, specs.Columns.column_reach, specs.Columns.columns_of, specs.Lanes.gaps_of, specs.Reaches.stands_always, proofs.Facts.columns_keys, proofs.Facts.columns_stand}
-use Rattle.lay_tune.{specs.Spans.IsSystem, specs.Spans.score_gaps, specs.Spans.system_columns, specs.Spans.verses_of, proofs.Within.system_count}
-use Rattle.lay_apart.proofs.EndKeys.{first_class, last_class, some_keys}
+use Rattle.lay_springs.{specs.{Fit.StandsInAll, Place.reach_at}, proofs.Placing.reach_is}
+use Rattle.lay_columns.{specs.{declared.column.Column.Column, Columns.StandsWhereDue, Columns.column_reach, Columns.columns_of, Lanes.gaps_of, Reaches.stands_always}, proofs.{Facts.columns_keys, Facts.columns_stand}}
+use Rattle.{lay_tune.{specs.{Spans.IsSystem, Spans.score_gaps, Spans.system_columns, Spans.verses_of}, proofs.Within.system_count}, lay_apart.proofs.EndKeys.{first_class, last_class, some_keys}}
 
 module _ (keys : List ColumnKey) (staves : List StaffMarks) (lengths verses : List ℕ) where
   abbrev columns : List Column
@@ -15,8 +14,7 @@ module _ (keys : List ColumnKey) (staves : List StaffMarks) (lengths verses : Li
   no_column = record { key = key_at 0 0 Class.Head 0; reaches = []; natural = 0 }
 
   -- a column of a class that stands in each lane does so
-  pub stands_at : (i : ℕ) → i < length keys → length verses ≡ length staves → ((d : ColumnKey) → stands_always (get_or keys i d).class ≡ true)
-      → StandsInAll (reach_at column_reach columns i) (length (gaps_of verses))
+  pub stands_at : (i : ℕ) → i < length keys → length verses ≡ length staves → ((d : ColumnKey) → stands_always (get_or keys i d).class ≡ true) → StandsInAll (reach_at column_reach columns i) (length (gaps_of verses))
   stands_at i l same always lane m =
       let count : length columns ≡ length keys = sym (length-map columns (λ c. c.key)) ∙ ap (λ ks. length ks) (columns_keys staves lengths verses 0 keys) in
       let inside : i < length columns = subst (λ n. i < n) (sym count) l in

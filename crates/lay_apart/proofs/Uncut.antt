@@ -59,8 +59,7 @@ module _ (n : ℕ) (reach : ℕ → ℕ → Option Reach) (gaps : List ℕ) (spr
   ]
 
 -- ---- boxes
-clear_boxes : (x y first second : ℤ) (right gap left : ℕ) → (x +ℤ pos (right + gap + left)) ≤ℤ y → first ≤ℤ pos right → neg_ℤ second ≤ℤ pos left
-    → ((x +ℤ first) +ℤ pos gap) ≤ℤ (y +ℤ second)
+clear_boxes : (x y first second : ℤ) (right gap left : ℕ) → (x +ℤ pos (right + gap + left)) ≤ℤ y → first ≤ℤ pos right → neg_ℤ second ≤ℤ pos left → ((x +ℤ first) +ℤ pos gap) ≤ℤ (y +ℤ second)
 clear_boxes x y first second right gap left clear l m = omega (arith, ints)
 
 box_low : (x left : ℤ) (reach : ℕ) → pos reach ≤ℤ x → neg_ℤ left ≤ℤ pos reach → pos 0 ≤ℤ (x +ℤ left)
@@ -94,8 +93,7 @@ module _ (staves : List StaffMarks) (verses : List ℕ) (columns : List Column) 
     pub inside : pos reach.left ≤ℤ x_at at r
     pub ends : (x_at at r +ℤ pos reach.right) ≤ℤ pos width
 
-  has_reach : (x : Laid) (r number : ℕ) (box : Sides) → Contains staff.marks x → rank_of x.mark ≡ Some r → sides_of x.mark ≡ Some box
-      → lane_number x.lane ≡ Some number → number < lane_count count → HasReach r number box
+  has_reach : (x : Laid) (r number : ℕ) (box : Sides) → Contains staff.marks x → rank_of x.mark ≡ Some r → sides_of x.mark ≡ Some box → lane_number x.lane ≡ Some number → number < lane_count count → HasReach r number box
   has_reach x r number box inside at_rank at_box at_lane low =
       let place = place_of_lane verses s count number at_count low in
       let l = below x r inside at_rank in

@@ -74,8 +74,7 @@ module _ (cost : ℕ → ℕ → Option ℕ) (forced : ℕ → Bool) where
       )
 
   -- what the table says of a bar whose spans have all been tried
-  pub table_none : (n m i : ℕ) (ps : List (Option ℕ)) (fs : List ℕ) → i ≤ n → i ≤ m → slice_index_or ps i None ≡ None
-      → IsTable cost forced n m ps fs → (r : List ℕ) → IsBack cost forced r → top r ≡ i → ⊥
+  pub table_none : (n m i : ℕ) (ps : List (Option ℕ)) (fs : List ℕ) → i ≤ n → i ≤ m → slice_index_or ps i None ≡ None → IsTable cost forced n m ps fs → (r : List ℕ) → IsBack cost forced r → top r ≡ i → ⊥
   table_none n m i ps fs le lm is h r b e = elim (cases_eq i 0) [
     | inl z ↦ none-some 0 (sym (subst (λ i. slice_index_or ps i None ≡ None) z is) ∙ h.zero_is)
     | inr z ↦ row_none m i (slice_index fs i) (omega arith) lm (rw is at (h.rows i (omega arith) le)) r b e
@@ -84,8 +83,7 @@ module _ (cost : ℕ → ℕ → Option ℕ) (forced : ℕ → Bool) where
   zero_least : IsLeastBack cost forced 0 0
   zero_least = record { way = ([], tt, refl, refl); least = λ r b e. omega arith }
 
-  pub table_some : (n m i v : ℕ) (ps : List (Option ℕ)) (fs : List ℕ) → i ≤ n → i ≤ m → slice_index_or ps i None ≡ Some v
-      → IsTable cost forced n m ps fs → IsLeastBack cost forced i v
+  pub table_some : (n m i v : ℕ) (ps : List (Option ℕ)) (fs : List ℕ) → i ≤ n → i ≤ m → slice_index_or ps i None ≡ Some v → IsTable cost forced n m ps fs → IsLeastBack cost forced i v
   table_some n m i v ps fs le lm is h = elim (cases_eq i 0) [
     | inl z ↦
         let e : v ≡ 0 = same_Some v 0 (sym (subst (λ i. slice_index_or ps i None ≡ Some v) z is) ∙ h.zero_is) in
@@ -94,8 +92,7 @@ module _ (cost : ℕ → ℕ → Option ℕ) (forced : ℕ → Bool) where
   ]
 
   -- what the numbers in the table lead back is chosen
-  pub follows_chosen : (n : ℕ) (ps : List (Option ℕ)) (fs : List ℕ) → IsTable cost forced n n ps fs
-      → (r : List ℕ) (i v : ℕ) → i ≤ n → slice_index_or ps i None ≡ Some v → Follows fs i r → IsChosenBack cost forced i r
+  pub follows_chosen : (n : ℕ) (ps : List (Option ℕ)) (fs : List ℕ) → IsTable cost forced n n ps fs → (r : List ℕ) (i v : ℕ) → i ≤ n → slice_index_or ps i None ≡ Some v → Follows fs i r → IsChosenBack cost forced i r
   follows_chosen n ps fs h [] i v le is f = subst (λ i. IsChosenBack cost forced i []) (sym f) chosen_zero
   follows_chosen n ps fs h (x ∷ r) i v le is f =
       let row = rw is at (h.rows i f.1 le) in
@@ -105,8 +102,7 @@ module _ (cost : ℕ → ℕ → Option ℕ) (forced : ℕ → Bool) where
       (chosen_more n i v (slice_index fs i) r f.1 le row
       (from (slice_index_or ps (slice_index fs i) None) refl (λ w e. follows_chosen n ps fs h r (slice_index fs i) w (omega arith) e f.2) row below))
     where
-      from : (o : Option ℕ) → slice_index_or ps (slice_index fs i) None ≡ o
-          → ((w : ℕ) → slice_index_or ps (slice_index fs i) None ≡ Some w → IsChosenBack cost forced (slice_index fs i) r)
+      from : (o : Option ℕ) → slice_index_or ps (slice_index fs i) None ≡ o → ((w : ℕ) → slice_index_or ps (slice_index fs i) None ≡ Some w → IsChosenBack cost forced (slice_index fs i) r)
           → IsRow cost forced n i (Some v) (slice_index fs i) → slice_index fs i < i → IsChosenBack cost forced (slice_index fs i) r
       from None e more row below = absurd (table_none n n (slice_index fs i) ps fs (omega arith) (omega arith) e h row.way.0 row.way.1.back row.way.2)
       from (Some w) e more row below = more w e

@@ -42,13 +42,11 @@ LexAtMost (x ∷ xs) (y ∷ ys) = (x < y) ⊎ ((x ≡ y) × LexAtMost xs ys)
 pub record IsChosen (cost : ℕ → ℕ → Option ℕ) (forced : ℕ → Bool) (n : ℕ) (breaks : List ℕ) : Type 0 where
   pub legal : IsLegal cost forced breaks n
   pub least : (other : List ℕ) → IsLegal cost forced other n → sum_from cost 0 breaks ≤ sum_from cost 0 other
-  pub latest : (other : List ℕ) → IsLegal cost forced other n → sum_from cost 0 other ≡ sum_from cost 0 breaks
-      → LexAtMost (reverse other) (reverse breaks)
+  pub latest : (other : List ℕ) → IsLegal cost forced other n → sum_from cost 0 other ≡ sum_from cost 0 breaks → LexAtMost (reverse other) (reverse breaks)
 
 -- of one row of costs one breaking alone is chosen
 abbrev pub OneIsChosen : Type 0
-OneIsChosen = (cost : ℕ → ℕ → Option ℕ) (forced : ℕ → Bool) (n : ℕ) (breaks others : List ℕ)
-    → IsChosen cost forced n breaks → IsChosen cost forced n others → breaks ≡ others
+OneIsChosen = (cost : ℕ → ℕ → Option ℕ) (forced : ℕ → Bool) (n : ℕ) (breaks others : List ℕ) → IsChosen cost forced n breaks → IsChosen cost forced n others → breaks ≡ others
 
 -- v is the least sum of a legal prefix that ends at bar i
 pub record IsLeastSum (cost : ℕ → ℕ → Option ℕ) (forced : ℕ → Bool) (i v : ℕ) : Type 0 where

@@ -20,8 +20,7 @@ stop_in xs i j l e = elim (cases_lt j (length xs)) [
 pub rows_stop : (rows : List (List ℕ)) (a b c : ℕ) → a < b → b < c → row_cost rows a b ≡ None → row_cost rows a c ≡ None
 rows_stop rows a b c l m e = at (slice_get rows a) e
   where
-    at : (o : Option (List ℕ)) → option_and_then (λ row. slice_get row (b - a - 1)) o ≡ None
-        → option_and_then (λ row. slice_get row (c - a - 1)) o ≡ None
+    at : (o : Option (List ℕ)) → option_and_then (λ row. slice_get row (b - a - 1)) o ≡ None → option_and_then (λ row. slice_get row (c - a - 1)) o ≡ None
     at None e = refl
     at (Some row) e = stop_in row (b - a - 1) (c - a - 1) (omega arith) e
 

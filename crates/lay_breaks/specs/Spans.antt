@@ -31,8 +31,7 @@ listed [] a b = None
 listed (s ∷ ss) a b = if has_ends a b s then Some s.badness else listed ss a b
 
 -- What follows from the form: the two laws of costs.
-pub listed_small : (n : ℕ) (last : Option Span) (ss : List Span) → SpansFrom n last ss
-    → (a b : ℕ) → IfSome (listed ss a b) (λ v. v ≤ 2 ^ 40)
+pub listed_small : (n : ℕ) (last : Option Span) (ss : List Span) → SpansFrom n last ss → (a b : ℕ) → IfSome (listed ss a b) (λ v. v ≤ 2 ^ 40)
 listed_small n last [] h a b = tt
 listed_small n last (s ∷ ss) h a b =
     elim (has_ends a b s) as (λ t. IfSome (if t then Some s.badness else listed ss a b) (λ v. v ≤ 2 ^ 40)) [
@@ -54,19 +53,16 @@ pub listed_first : (a b : ℕ) (s : Span) (ss : List Span) → s.a ≡ a → s.b
 listed_first a b s ss e f = rw (has_these a b s e f) refl
 
 -- where a span is listed, the span with one bar less is, or it is the one before the list
-one_less : (n : ℕ) (last : Option Span) (ss : List Span) (a c : ℕ) → a < c → SpansFrom n last ss → IsSome (listed ss a (c + 1))
-    → IsSome (listed ss a c) ⊎ MatchOption last ⊥ (λ p. (p.a ≡ a) × (p.b ≡ c))
+one_less : (n : ℕ) (last : Option Span) (ss : List Span) (a c : ℕ) → a < c → SpansFrom n last ss → IsSome (listed ss a (c + 1)) → IsSome (listed ss a c) ⊎ MatchOption last ⊥ (λ p. (p.a ≡ a) × (p.b ≡ c))
 one_less n last [] a c l h e = absurd (true≢false (sym e))
 one_less n last (s ∷ ss) a c l h e = at (λ k. one_less n (Some s) ss a c l h.1 k) (has_ends a (c + 1) s) refl e
   where
-    before : (last : Option Span) → MatchOption last (s.b ≡ s.a + 1) (λ p. IsNext p s) → s.a ≡ a → s.b ≡ c + 1
-        → MatchOption last ⊥ (λ p. (p.a ≡ a) × (p.b ≡ c))
+    before : (last : Option Span) → MatchOption last (s.b ≡ s.a + 1) (λ p. IsNext p s) → s.a ≡ a → s.b ≡ c + 1 → MatchOption last ⊥ (λ p. (p.a ≡ a) × (p.b ≡ c))
     before None f ea eb = absurd (omega arith)
     before (Some p) (inl f) ea eb = let k = f.1 in absurd (omega arith)
     before (Some p) (inr f) ea eb = let k = f.0 in let m = f.1 in (omega arith, omega arith)
 
-    at : (IsSome (listed ss a (c + 1)) → IsSome (listed ss a c) ⊎ ((s.a ≡ a) × (s.b ≡ c)))
-        → (t : Bool) → has_ends a (c + 1) s ≡ t → IsSome (if t then Some s.badness else listed ss a (c + 1))
+    at : (IsSome (listed ss a (c + 1)) → IsSome (listed ss a c) ⊎ ((s.a ≡ a) × (s.b ≡ c))) → (t : Bool) → has_ends a (c + 1) s ≡ t → IsSome (if t then Some s.badness else listed ss a (c + 1))
         → IsSome (listed (s ∷ ss) a c) ⊎ MatchOption last ⊥ (λ p. (p.a ≡ a) × (p.b ≡ c))
     at more true is e = let k = ends_are a (c + 1) s is in inr (before last h.0.follows k.0 k.1)
     at more false is e = elim (more e) [
@@ -87,8 +83,7 @@ none_from : (o q : Option ℕ) → (IsSome q → IsSome o) → o ≡ None → q 
 none_from o None f e = refl
 none_from o (Some v) f e = absurd (true≢false (sym (f refl) ∙ ap is_some e))
 
-pub listed_stops : (n : ℕ) (spans : List Span) → AreSpans n spans
-    → (a b c : ℕ) → a < b → b < c → listed spans a b ≡ None → listed spans a c ≡ None
+pub listed_stops : (n : ℕ) (spans : List Span) → AreSpans n spans → (a b c : ℕ) → a < b → b < c → listed spans a b ≡ None → listed spans a c ≡ None
 listed_stops n spans h a b c l m e =
     let k : b + (c - b) ≡ c = omega arith in
     none_from (listed spans a b) (listed spans a c)

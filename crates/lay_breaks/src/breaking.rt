@@ -21,8 +21,7 @@ pub struct Breaking {
 /// Why there is no breaking.
 #[derive(Clone, Copy, PartialEq, Eq)]
 pub enum BreakError {
-    /// There is no legal breaking; `reached` is the greatest bar at which a
-    /// legal prefix ends.
+    /// There is no legal breaking; `reached` is the greatest bar at which a legal prefix ends.
     NoWay { reached: u32 },
     /// Memory ran out.
     Memory,
@@ -39,9 +38,8 @@ impl From<AllocError> for BreakError {
 /// The legal breaking of the bars 1 to `n` that is least in sum; among equals
 /// the one that, read from its end, is lexicographically greatest.
 ///
-/// `n` is the number of bars of `costs`. `NoWay` comes exactly where no legal
-/// breaking exists. From each bar it asks for the spans from the shortest on, up
-/// to the first that doesn't fit.
+/// `n` is the number of bars of `costs`. `NoWay` comes exactly where no legal breaking exists. From each
+/// bar it asks for the spans from the shortest on, up to the first that doesn't fit.
 pub fn least<K: Costs>(alloc: Global, costs: &K, n: u32) -> Result<Breaking, BreakError>
     requires bars { n ≡ K.bars costs.now }
     requires few { n ≤ 8388608 }
@@ -68,8 +66,7 @@ pub fn least<K: Costs>(alloc: Global, costs: &K, n: u32) -> Result<Breaking, Bre
     }
 }
 
-/// The law that one breaking alone is chosen: two calls that know the same costs
-/// agree.
+/// The law that one breaking alone is chosen: two calls that know the same costs agree.
 pub fn one_is_chosen()
     ensures { OneIsChosen }
 {}

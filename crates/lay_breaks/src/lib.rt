@@ -1,8 +1,7 @@
 //! The breaking of a row of bars into spans that costs least.
 //!
-//! Whoever knows what the span from each bar to each later one costs implements
-//! `Costs`; `least` then gives the one legal breaking that is least in sum and,
-//! among equals, last.
+//! Whoever knows what the span from each bar to each later one costs implements `Costs`; `least` then
+//! gives the one legal breaking that is least in sum and, among equals, last.
 #![tactic(auto)]
 
 pub mod breaking;

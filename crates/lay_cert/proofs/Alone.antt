@@ -66,16 +66,14 @@ abbrev span_of : ℕ → ℕ → ℕ → Span
 span_of a b badness = record { a = a; b = b; badness = badness }
 
 -- lines of one kind with the same text tell the same
-pub tune_alone : (tune bars t b : ℕ) → tune < 2 ^ 64 → bars < 2 ^ 64 → t < 2 ^ 64 → b < 2 ^ 64
-    → line_text (Line.Tune tune bars) ≡ line_text (Line.Tune t b) → (tune ≡ t) × (bars ≡ b)
+pub tune_alone : (tune bars t b : ℕ) → tune < 2 ^ 64 → bars < 2 ^ 64 → t < 2 ^ 64 → b < 2 ^ 64 → line_text (Line.Tune tune bars) ≡ line_text (Line.Tune t b) → (tune ≡ t) × (bars ≡ b)
 tune_alone tune bars t b la lb ka kb e =
     let r = after_prefix (codes "tune ") (line_text (Line.Tune tune bars)) (decimal tune ++ (32 ∷ (codes "measures " ++ decimal bars))) (decimal t ++ (32 ∷ (codes "measures " ++ decimal b)))
     (tune_text tune bars) (e ∙ tune_text t b) in
     let f = one_field tune t _ (codes "measures " ++ decimal bars) (codes "measures " ++ decimal b) la ka refl r in
     (f.0, decimal_injective bars b lb kb (after_prefix (codes "measures ") (codes "measures " ++ decimal bars) (decimal bars) (decimal b) refl f.1))
 
-pub span_alone : (s t : Span) → s.a < 2 ^ 64 → s.b < 2 ^ 64 → s.badness < 2 ^ 64 → t.a < 2 ^ 64 → t.b < 2 ^ 64 → t.badness < 2 ^ 64
-    → line_text (Line.OneSpan s) ≡ line_text (Line.OneSpan t) → s ≡ t
+pub span_alone : (s t : Span) → s.a < 2 ^ 64 → s.b < 2 ^ 64 → s.badness < 2 ^ 64 → t.a < 2 ^ 64 → t.b < 2 ^ 64 → t.badness < 2 ^ 64 → line_text (Line.OneSpan s) ≡ line_text (Line.OneSpan t) → s ≡ t
 span_alone s t ha hb hc ka kb kc e =
     let r = after_prefix (codes "span ") (line_text (Line.OneSpan s)) (decimal s.a ++ (32 ∷ (decimal s.b ++ (32 ∷ decimal s.badness)))) (decimal t.a ++ (32 ∷ (decimal t.b ++ (32 ∷ decimal t.badness))))
     (span_text s) (e ∙ span_text t) in
@@ -87,8 +85,7 @@ span_alone s t ha hb hc ka kb kc e =
 pub choice_alone : (bar b : ℕ) → bar < 2 ^ 64 → b < 2 ^ 64 → line_text (Line.Choose bar) ≡ line_text (Line.Choose b) → bar ≡ b
 choice_alone bar b l k e = decimal_injective bar b l k (after_prefix (codes "choose ") (line_text (Line.Choose bar)) (decimal bar) (decimal b) refl e)
 
-same_tune : (es : List Entry) (tune bars : ℕ) (m : Line) → MayCome (between es) (Line.Tune tune bars) → MayCome (between es) m
-    → line_text (Line.Tune tune bars) ≡ line_text m → Line.Tune tune bars ≡ m
+same_tune : (es : List Entry) (tune bars : ℕ) (m : Line) → MayCome (between es) (Line.Tune tune bars) → MayCome (between es) m → line_text (Line.Tune tune bars) ≡ line_text m → Line.Tune tune bars ≡ m
 same_tune es tune bars (Line.Tune t b) h k e =
     let la = h.1 in let lb = h.2 in let ka = k.1 in let kb = k.2 in
     let f = tune_alone tune bars t b (omega arith) (omega arith) (omega arith) (omega arith) e in
@@ -101,8 +98,7 @@ same_end es Line.End k e = refl
 same_end es (Line.Tune t b) k e = absurd (apart _ _ refl e)
 same_end es m k e = absurd k
 
-same_span : (es : List Entry) (x : Entry) (s : Span) (m : Line) → x.bars ≤ 4000 → MayCome (choosing es x) (Line.OneSpan s) → MayCome (choosing es x) m
-    → line_text (Line.OneSpan s) ≡ line_text m → Line.OneSpan s ≡ m
+same_span : (es : List Entry) (x : Entry) (s : Span) (m : Line) → x.bars ≤ 4000 → MayCome (choosing es x) (Line.OneSpan s) → MayCome (choosing es x) m → line_text (Line.OneSpan s) ≡ line_text m → Line.OneSpan s ≡ m
 same_span es x s (Line.OneSpan t) f h k e =
     let ha = h.1.rises in let hb = h.1.within in let hc = h.1.small in let ka = k.1.rises in let kb = k.1.within in let kc = k.1.small in
     ap Line.OneSpan (span_alone s t (omega arith) (omega arith) (omega arith) (omega arith) (omega arith) (omega arith) e)
@@ -121,15 +117,13 @@ same_choice es x bar (Line.OneSpan s) g h k e = absurd (apart _ _ refl e)
 same_choice es x bar (Line.Total t) g h k e = absurd (apart _ _ refl e)
 same_choice es x bar m g h k e = absurd k
 
-same_total : (es : List Entry) (x : Entry) (total : ℕ) (m : Line) → MayCome (choosing es x) (Line.Total total) → MayCome (choosing es x) m
-    → line_text (Line.Total total) ≡ line_text m → Line.Total total ≡ m
+same_total : (es : List Entry) (x : Entry) (total : ℕ) (m : Line) → MayCome (choosing es x) (Line.Total total) → MayCome (choosing es x) m → line_text (Line.Total total) ≡ line_text m → Line.Total total ≡ m
 same_total es x total (Line.Total t) h k e = ap Line.Total (h.1 ∙ sym k.1)
 same_total es x total (Line.OneSpan s) h k e = absurd (apart _ _ refl e)
 same_total es x total (Line.Choose b) h k e = absurd (apart _ _ refl e)
 same_total es x total m h k e = absurd k
 
-same_potential : (es : List Entry) (x : Entry) (bar : ℕ) (least : Option ℕ) (m : Line) → MayCome (proving es x) (Line.Potential bar least)
-    → MayCome (proving es x) m → Line.Potential bar least ≡ m
+same_potential : (es : List Entry) (x : Entry) (bar : ℕ) (least : Option ℕ) (m : Line) → MayCome (proving es x) (Line.Potential bar least) → MayCome (proving es x) m → Line.Potential bar least ≡ m
 same_potential es x bar least (Line.Potential b o) h k =
     let e : bar ≡ b = h.0 ∙ sym k.0 in
     let f = one_potential (listed x.spans) none_forced bar least o h.1 (subst (λ i. IsPotential (listed x.spans) none_forced i o) (sym e) k.1) in
@@ -152,8 +146,7 @@ one_line (proving es x) (Line.Potential bar least) m h k g e = same_potential es
 one_line p l m h k g e = absurd h
 
 -- From one place good lines through the same text are the same lines.
-pub one_way : (p : Place) (ls ms : List Line) (es fs : List Entry) (more : List ℕ) → IsGood p → Leads p ls (ended es) → Leads p ms (ended fs)
-    → lines_then ls more ≡ lines_then ms [] → (es ≡ fs) × (more ≡ [])
+pub one_way : (p : Place) (ls ms : List Line) (es fs : List Entry) (more : List ℕ) → IsGood p → Leads p ls (ended es) → Leads p ms (ended fs) → lines_then ls more ≡ lines_then ms [] → (es ≡ fs) × (more ≡ [])
 one_way p [] [] es fs more g h k e = (ap entries (sym h ∙ k), e)
   where
     entries : Place → List Entry
@@ -167,8 +160,7 @@ one_way p (l ∷ ls) (m ∷ ms) es fs more g h k e =
     one_way (next p l) ls ms es fs more (step_good p l h.0 g) h.1 (subst (λ m. Leads (next p m) ms (ended fs)) (sym s) k.1) c.1
 
 -- Where the text is stuck, no lines lead through it.
-pub no_way : (p : Place) (ls ms : List Line) (q : Place) (fs : List Entry) (rest : List ℕ) → IsGood p → Leads p ls q → IsStuck q rest
-    → Leads p ms (ended fs) → lines_then ls rest ≡ lines_then ms [] → ⊥
+pub no_way : (p : Place) (ls ms : List Line) (q : Place) (fs : List Entry) (rest : List ℕ) → IsGood p → Leads p ls q → IsStuck q rest → Leads p ms (ended fs) → lines_then ls rest ≡ lines_then ms [] → ⊥
 no_way p [] [] q fs rest g h s k e = s.1 fs e (sym h ∙ k)
 no_way p [] (m ∷ ms) q fs rest g h s k e = s.0 m (lines_then ms []) e (subst (λ p. MayCome p m) h k.0)
 no_way p (l ∷ ls) [] q fs rest g h s k e = absurd (subst (λ p. MayCome p l) k h.0)
@@ -188,16 +180,14 @@ good_by_lines text es = (
 )
 
 pub tells_one : TellsOne
-tells_one text es fs h k =
-    (one_way begun (listing_lines es) (listing_lines fs) es fs [] tt (listing_leads es h.entries) (listing_leads fs k.entries) (sym h.lines ∙ k.lines)).0
+tells_one text es fs h k = (one_way begun (listing_lines es) (listing_lines fs) es fs [] tt (listing_leads es h.entries) (listing_leads fs k.entries) (sym h.lines ∙ k.lines)).0
 
 pub faults_tell_none : FaultsTellNone
 faults_tell_none text number es h k = no_way begun h.0 (listing_lines es) h.2 es h.1 tt h.4 h.5 (listing_leads es k.entries) (sym h.3 ∙ k.lines)
 
 lines_on : (ls : List Line) (rest more : List ℕ) → lines_then ls rest ++ more ≡ lines_then ls (rest ++ more)
 lines_on [] rest more = refl
-lines_on (l ∷ ls) rest more =
-    append_assoc (line_text l) (10 ∷ lines_then ls rest) more ∙ ap (λ t. line_text l ++ 10 ∷ t) (lines_on ls rest more)
+lines_on (l ∷ ls) rest more = append_assoc (line_text l) (10 ∷ lines_then ls rest) more ∙ ap (λ t. line_text l ++ 10 ∷ t) (lines_on ls rest more)
 
 pub no_prefix : NoPrefix
 no_prefix text more es fs h k =

@@ -22,8 +22,7 @@ somewhere : (a b v : ℕ) (spans : List Span) → listed spans a b ≡ Some v �
 somewhere a b v [] e = absurd (none-some v e)
 somewhere a b v (x ∷ xs) e = at (has_ends a b x) refl e (λ k. somewhere a b v xs k)
   where
-    at : (t : Bool) → has_ends a b x ≡ t → (if t then Some x.badness else listed xs a b) ≡ Some v
-        → (listed xs a b ≡ Some v → (i : ℕ) × (t : Span) × (slice_get xs i ≡ Some t) × (has_ends a b t ≡ true))
+    at : (t : Bool) → has_ends a b x ≡ t → (if t then Some x.badness else listed xs a b) ≡ Some v → (listed xs a b ≡ Some v → (i : ℕ) × (t : Span) × (slice_get xs i ≡ Some t) × (has_ends a b t ≡ true))
         → (i : ℕ) × (t : Span) × (slice_get (x ∷ xs) i ≡ Some t) × (has_ends a b t ≡ true)
     at true is e more = (0, x, refl, is)
     at false is e more = let m = more e in (suc m.0, m.1, m.2, m.3)
@@ -85,8 +84,7 @@ each_rises n last (s ∷ ss) zero t h e = subst (λ t. t.a < t.b) (same_Some s t
 each_rises n last (s ∷ ss) (suc i) t h e = each_rises n (Some s) ss i t h.1 e
 
 -- the last span stands last
-last_stands : (last : Option Span) (ss : List Span) (p : Span) → last_span_from last ss ≡ Some p
-    → ((ss ≡ []) × (last ≡ Some p)) ⊎ ((i : ℕ) × (suc i ≡ length ss) × (slice_get ss i ≡ Some p))
+last_stands : (last : Option Span) (ss : List Span) (p : Span) → last_span_from last ss ≡ Some p → ((ss ≡ []) × (last ≡ Some p)) ⊎ ((i : ℕ) × (suc i ≡ length ss) × (slice_get ss i ≡ Some p))
 last_stands last [] p e = inl (refl, e)
 last_stands last (s ∷ ss) p e = elim (last_stands (Some s) ss p e) [
   | inl h ↦ let n = ap length h.0 in inr (0, omega arith, h.1)

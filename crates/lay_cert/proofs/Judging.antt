@@ -4,8 +4,7 @@ use Rattle.lay_breaks.specs.{Breaking.last_from, Spans.MayFollow, Spans.listed, 
 use Rattle.lay_cert.{specs.{Lines.{line_text, lines_then}, Listing.{Entry, IsListing}, Places.{Place, begun, between, choosing, proving, ended, MayCome, next, Leads, IsStuck, IsFirstFault, last_tune_from, last_span_from}, Verdicts.{AreVerdicts, IsVerdict}, Stands.{IsChoosing, Proves, Stands, NoneMayCome, IsStep, entry_of}, Answers.IsJudged, declared.{lines.Line.Line, check.{Judged.Judged, Verdict.Verdict}, place.{Choosing.Choosing, Proving.Proving, Stage.Stage}}}, proofs.{Grown.{listed_within, push_tune}, Steps.{leads_good, leads_more, one_more}, Through.begun_with, Alone.{apart, tune_alone, span_alone, choice_alone, may_lack, told_by_lines, faults_tell_none}}}
 use Rattle.eng_lines.{specs.Lines.Lacks, proofs.Words.one_cut, proofs.Words.lacks_none}
 
-pub none_refused : (es : List Entry) (raw : List ℕ) (tune bars : ℕ) → raw ≡ line_text (Line.Tune tune bars) → tune < 2 ^ 32 → bars < 2 ^ 32
-    → (tune ≤ last_tune_from 0 es) ⊎ (4000 < bars) → NoneMayCome (between es) raw
+pub none_refused : (es : List Entry) (raw : List ℕ) (tune bars : ℕ) → raw ≡ line_text (Line.Tune tune bars) → tune < 2 ^ 32 → bars < 2 ^ 32 → (tune ≤ last_tune_from 0 es) ⊎ (4000 < bars) → NoneMayCome (between es) raw
 none_refused es raw tune bars is lt lb out (Line.Tune t b) e m =
     let k0 = m.0 in let k1 = m.1 in let k2 = m.2 in
     let f = tune_alone tune bars t b (omega arith) (omega arith) (omega arith) (omega arith) (sym is ∙ e) in
@@ -24,8 +23,7 @@ none_span es c s h la lb lc f (Line.Choose b) e m = apart _ _ refl e
 none_span es c s h la lb lc f (Line.Total t) e m = apart _ _ refl e
 none_span es c s h la lb lc f l e m = absurd m
 
-pub none_break : (es : List Entry) (c : Choosing) (bar : ℕ) → IsChoosing c → bar < 2 ^ 32 → listed c.spans c.at bar ≡ None
-    → NoneMayCome (choosing es (entry_of c)) (line_text (Line.Choose bar))
+pub none_break : (es : List Entry) (c : Choosing) (bar : ℕ) → IsChoosing c → bar < 2 ^ 32 → listed c.spans c.at bar ≡ None → NoneMayCome (choosing es (entry_of c)) (line_text (Line.Choose bar))
 none_break es c bar h l f (Line.Choose b) e m =
     let w = (listed_within c.bars None c.spans (last_from 0 c.breaks) b h.spans m).1 in let few = h.few in
     let is : b ≡ bar = sym (choice_alone bar b (omega arith) (omega arith) e) in
@@ -42,8 +40,7 @@ none_choosing es c raw h f g k (Line.OneSpan s) e m =
     let ka = m.1.rises in let kb = m.1.within in let kc = m.1.small in let few = h.few in f s (omega arith) (omega arith) (omega arith) e
 none_choosing es c raw h f g k (Line.Choose b) e m =
     let w = (listed_within c.bars None c.spans (last_from 0 c.breaks) b h.spans m).1 in let few = h.few in g b (omega arith) e
-none_choosing es c raw h f g k (Line.Total t) e m =
-    k (h.at ∙ m.0) (e ∙ ap (λ t. line_text (Line.Total t)) (m.1 ∙ sym h.total))
+none_choosing es c raw h f g k (Line.Total t) e m = k (h.at ∙ m.0) (e ∙ ap (λ t. line_text (Line.Total t)) (m.1 ∙ sym h.total))
 none_choosing es c raw h f g k l e m = absurd m
 
 -- an entry is known by its parts
@@ -52,8 +49,7 @@ entry_same c t n ss bs et en es eb =
     ap (λ t. begun_with t n ss bs) (sym et) ∙ (ap (λ n. begun_with c.tune n ss bs) (sym en)
     ∙ (ap (λ ss. begun_with c.tune c.bars ss bs) (sym es) ∙ ap (λ bs. begun_with c.tune c.bars c.spans bs) (sym eb)))
 
-pub verdicts_more : (es : List Entry) (js : List Judged) (e : Entry) (j : Judged) → AreVerdicts es js → j.tune ≡ e.tune → IsVerdict e j.verdict
-    → AreVerdicts (es ++ e ∷ []) (js ++ j ∷ [])
+pub verdicts_more : (es : List Entry) (js : List Judged) (e : Entry) (j : Judged) → AreVerdicts es js → j.tune ≡ e.tune → IsVerdict e j.verdict → AreVerdicts (es ++ e ∷ []) (js ++ j ∷ [])
 verdicts_more [] [] e j h t v = (t, v, tt)
 verdicts_more (x ∷ es) (k ∷ js) e j h t v = (h.0, h.1, verdicts_more es js e j h.2 t v)
 verdicts_more es js e j h t v = absurd h
@@ -127,8 +123,7 @@ verdict_on e p (Verdict.NotLeast t b bs) k = k
 
 -- the potential of the last bar
 pub proved_all : (es : List Entry) (js : List Judged) (e : Entry) (v : Proving) (raw : List ℕ) → AreVerdicts es js → Proves v e → v.next ≡ v.bars
-    → raw ≡ line_text (Line.Potential v.next (slice_index_or v.potentials v.next None))
-    → IsStep (proving es e) raw (js ++ record { tune = v.tune; verdict = v.verdict } ∷ []) (Some (Stage.Between v.tune))
+    → raw ≡ line_text (Line.Potential v.next (slice_index_or v.potentials v.next None)) → IsStep (proving es e) raw (js ++ record { tune = v.tune; verdict = v.verdict } ∷ []) (Some (Stage.Between v.tune))
 proved_all es js e v raw known h last is =
     let p : Option ℕ = slice_index_or v.potentials v.next None in
     let n = h.next in let b = h.bars in

@@ -5,8 +5,7 @@ use Rattle.lay_cert.{specs.{Lines.{line_text, lines_then}, Laws.InParts, Reports
 
 pub lines_both : (ls ms : List Line) → lines_then (ls ++ ms) [] ≡ lines_then ls [] ++ lines_then ms []
 lines_both [] ms = refl
-lines_both (l ∷ ls) ms =
-    ap (λ t. line_text l ++ 10 ∷ t) (lines_both ls ms) ∙ sym (append_assoc (line_text l) (10 ∷ lines_then ls []) (lines_then ms []))
+lines_both (l ∷ ls) ms = ap (λ t. line_text l ++ 10 ∷ t) (lines_both ls ms) ∙ sym (append_assoc (line_text l) (10 ∷ lines_then ls []) (lines_then ms []))
 
 -- further lines put
 pub put_both : (old now new : List ℕ) (ls ms : List Line) → now ≡ old ++ lines_then ls [] → new ≡ now ++ lines_then ms [] → new ≡ old ++ lines_then (ls ++ ms) []
@@ -19,8 +18,7 @@ put_next f xs i d old now new l e g =
     ∙ (ap (λ ls. old ++ lines_then ls []) (sym (map-append f (take i xs) (slice_index_or xs i d ∷ []))) ∙ ap (λ t. old ++ lines_then (map f t) []) (sym (take_more xs i d l)))
 
 pub put_next_potential : (ps : List (Option ℕ)) (i bar : ℕ) (old now new : List ℕ) → i < length ps → bar ≡ i
-    → now ≡ old ++ lines_then (potential_lines 0 (take i ps)) [] → new ≡ now ++ lines_then (Line.Potential bar (slice_index_or ps i None) ∷ []) []
-    → new ≡ old ++ lines_then (potential_lines 0 (take (i + 1) ps)) []
+    → now ≡ old ++ lines_then (potential_lines 0 (take i ps)) [] → new ≡ now ++ lines_then (Line.Potential bar (slice_index_or ps i None) ∷ []) [] → new ≡ old ++ lines_then (potential_lines 0 (take (i + 1) ps)) []
 put_next_potential ps i bar old now new l is e g =
     let n : length (take i ps) ≡ i = search (rules, length-take) in
     let at : 0 + length (take i ps) ≡ bar = omega arith in
@@ -30,8 +28,7 @@ put_next_potential ps i bar old now new l is e g =
     ∙ ap (λ t. old ++ lines_then (potential_lines 0 t) []) (sym (take_more ps i None l))))
 
 -- the lines of an entry put in their parts
-pub put_whole : (old one two three four five : List ℕ) (t m : Line) (ss cs ps : List Line)
-    → one ≡ old ++ lines_then (t ∷ []) [] → two ≡ one ++ lines_then ss [] → three ≡ two ++ lines_then cs []
+pub put_whole : (old one two three four five : List ℕ) (t m : Line) (ss cs ps : List Line) → one ≡ old ++ lines_then (t ∷ []) [] → two ≡ one ++ lines_then ss [] → three ≡ two ++ lines_then cs []
     → four ≡ three ++ lines_then (m ∷ []) [] → five ≡ four ++ lines_then ps [] → five ≡ old ++ lines_then ((t ∷ ss) ++ cs ++ (m ∷ ps)) []
 put_whole old one two three four five t m ss cs ps a b c d e =
     let x = put_both old one two (t ∷ []) ss a b in
@@ -53,8 +50,7 @@ bars_more [] b = append-nil (32 ∷ decimal b)
 bars_more (x ∷ bs) b = ap (λ t. 32 ∷ decimal x ++ t) (bars_more bs b) ∙ sym (append_assoc (32 ∷ decimal x) (bars_text bs) (32 ∷ decimal b))
 
 -- one more bar put
-pub put_next_bar : (bs : List ℕ) (i : ℕ) (old now new : List ℕ) → i < length bs → now ≡ old ++ bars_text (take i bs)
-    → new ≡ now ++ (32 ∷ decimal (slice_index_or bs i 0)) → new ≡ old ++ bars_text (take (i + 1) bs)
+pub put_next_bar : (bs : List ℕ) (i : ℕ) (old now new : List ℕ) → i < length bs → now ≡ old ++ bars_text (take i bs) → new ≡ now ++ (32 ∷ decimal (slice_index_or bs i 0)) → new ≡ old ++ bars_text (take (i + 1) bs)
 put_next_bar bs i old now new l e f =
     f ∙ (ap (λ t. t ++ (32 ∷ decimal (slice_index_or bs i 0))) e ∙ (append_assoc old (bars_text (take i bs)) (32 ∷ decimal (slice_index_or bs i 0))
     ∙ (ap (λ t. old ++ t) (sym (bars_more (take i bs) (slice_index_or bs i 0))) ∙ ap (λ t. old ++ bars_text t) (sym (take_more bs i 0 l)))))

@@ -17,8 +17,7 @@ push_known P ps p h k i l = elim (cases_lt i (length ps)) [
       subst (λ i. P i (slice_index_or (ps ++ p ∷ []) i None)) e (subst (λ q. P (length ps) q) (sym (get_or-append_seam ps p [] None)) k)
 ]
 
-whole : (k : ℕ) (e : Entry) (p : Option ℕ) → IsProving k e → length e.potentials ≡ e.bars
-    → IsPotential (listed e.spans) none_forced (length e.potentials) p → IsEntry (one_more e p)
+whole : (k : ℕ) (e : Entry) (p : Option ℕ) → IsProving k e → length e.potentials ≡ e.bars → IsPotential (listed e.spans) none_forced (length e.potentials) p → IsEntry (one_more e p)
 whole k e p h is known = record {
   numbered = h.begun.numbered;
   few = h.begun.few;
@@ -29,8 +28,7 @@ whole k e p h is known = record {
   potentials = λ i l. push_known (IsPotential (listed e.spans) none_forced) e.potentials p h.potentials known i (omega (arith, is));
 }
 
-part : (k : ℕ) (e : Entry) (p : Option ℕ) → IsProving k e → length e.potentials < e.bars
-    → IsPotential (listed e.spans) none_forced (length e.potentials) p → IsProving k (one_more e p)
+part : (k : ℕ) (e : Entry) (p : Option ℕ) → IsProving k e → length e.potentials < e.bars → IsPotential (listed e.spans) none_forced (length e.potentials) p → IsProving k (one_more e p)
 part k e p h l known = record {
   begun = record { past = h.begun.past; numbered = h.begun.numbered; few = h.begun.few; spans = h.begun.spans; choice = h.begun.choice };
   ends = h.ends;
@@ -40,8 +38,7 @@ part k e p h l known = record {
 }
 
 -- by whether the potential is that of the last bar
-potential_cases : (e : Entry) (P : Bool → Type 0) → (length e.potentials ≡ e.bars → P true) → (length e.potentials < e.bars → P false)
-    → length e.potentials ≤ e.bars → P (length e.potentials == e.bars)
+potential_cases : (e : Entry) (P : Bool → Type 0) → (length e.potentials ≡ e.bars → P true) → (length e.potentials < e.bars → P false) → length e.potentials ≤ e.bars → P (length e.potentials == e.bars)
 potential_cases e P f g le = at (length e.potentials == e.bars) refl
   where
     at : (t : Bool) → (length e.potentials == e.bars) ≡ t → P t
@@ -128,8 +125,7 @@ leads_good p (l ∷ ls) q h g = leads_good (next p l) ls q h.1 (step_good p l h.
 
 pub leads_lines : (p : Place) (ls : List Line) (q : Place) → Leads p ls q → IsGood p → lines_of q ≡ lines_of p ++ ls
 leads_lines p [] q h g = ap lines_of (sym h) ∙ sym (append-nil (lines_of p))
-leads_lines p (l ∷ ls) q h g =
-    leads_lines (next p l) ls q h.1 (step_good p l h.0 g) ∙ (ap (λ t. t ++ ls) (step_lines p l h.0 g) ∙ append_assoc (lines_of p) (l ∷ []) ls)
+leads_lines p (l ∷ ls) q h g = leads_lines (next p l) ls q h.1 (step_good p l h.0 g) ∙ (ap (λ t. t ++ ls) (step_lines p l h.0 g) ∙ append_assoc (lines_of p) (l ∷ []) ls)
 
 pub leads_more : (p : Place) (ls : List Line) (q : Place) (l : Line) → Leads p ls q → MayCome q l → Leads p (ls ++ l ∷ []) (next q l)
 leads_more p [] q l h m = (subst (λ p. MayCome p l) (sym h) m, ap (λ p. next p l) h)

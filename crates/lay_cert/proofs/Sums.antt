@@ -1,14 +1,12 @@
 -- How large the sums of a listing are, and that each is one.
 use Rattle.std.proofs.Common.{◌≡◌, ℕ, ◌+◌, ◌*◌, ◌^◌, ◌≤◌, Bool, List, [], ◌∷◌, Option, Some, None, IfSome, unwrap_or, refl, ap, arith}
-use Rattle.lay_breaks.specs.{Breaking.RisesFrom, Breaking.last_from, Breaking.sum_from, Breaking.IsLegal, Breaking.IsPotential, Spans.AreSpans, Spans.listed, Spans.listed_small}
-use Rattle.lay_cert.specs.Listing.{none_forced}
+use Rattle.{lay_breaks.specs.{Breaking.RisesFrom, Breaking.last_from, Breaking.sum_from, Breaking.IsLegal, Breaking.IsPotential, Spans.AreSpans, Spans.listed, Spans.listed_small}, lay_cert.specs.Listing.{none_forced}}
 
 price_small : (o : Option ℕ) → IfSome o (λ v. v ≤ 2 ^ 40) → unwrap_or o 0 ≤ 2 ^ 40
 price_small None h = omega arith
 price_small (Some v) h = h
 
-pub sum_within : (cost : ℕ → ℕ → Option ℕ) → ((a b : ℕ) → IfSome (cost a b) (λ v. v ≤ 2 ^ 40))
-    → (a : ℕ) (bs : List ℕ) → RisesFrom a bs → sum_from cost a bs + a * 2 ^ 40 ≤ last_from a bs * 2 ^ 40
+pub sum_within : (cost : ℕ → ℕ → Option ℕ) → ((a b : ℕ) → IfSome (cost a b) (λ v. v ≤ 2 ^ 40)) → (a : ℕ) (bs : List ℕ) → RisesFrom a bs → sum_from cost a bs + a * 2 ^ 40 ≤ last_from a bs * 2 ^ 40
 sum_within cost small a [] h = omega arith
 sum_within cost small a (b ∷ bs) h =
     let ih = sum_within cost small b bs h.1 in let p = price_small (cost a b) (small a b) in let l = h.0 in omega arith

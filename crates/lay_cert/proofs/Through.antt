@@ -51,8 +51,7 @@ potentials_lead es e so_far q (r ∷ qs) n known =
           subst (λ j. IsPotential (listed e.spans) none_forced j (slice_index_or (r ∷ qs) i None)) at (known (suc i) (omega arith)))))),
     )
 
-after_total : (es : List Entry) (e : Entry) (ps : List (Option ℕ)) → length ps ≡ e.bars + 1
-    → ((i : ℕ) → i ≤ e.bars → IsPotential (listed e.spans) none_forced i (slice_index_or ps i None))
+after_total : (es : List Entry) (e : Entry) (ps : List (Option ℕ)) → length ps ≡ e.bars + 1 → ((i : ℕ) → i ≤ e.bars → IsPotential (listed e.spans) none_forced i (slice_index_or ps i None))
     → Leads (proving es (told e [])) (potential_lines 0 ps) (between (es ++ told e ps ∷ []))
 after_total es e [] n known = absurd (omega arith)
 after_total es e (p ∷ ps) n known =

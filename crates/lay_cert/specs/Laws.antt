@@ -25,6 +25,5 @@ InParts = (es : List Entry) → lines_then (listing_lines es) [] ≡ lines_then 
 
 -- where no span passes a forced bar, the legal breakings are those of the same spans with no bar forced
 abbrev pub ForcedBySpans : Type 0
-ForcedBySpans = (cost : ℕ → ℕ → Option ℕ) (forced : ℕ → Bool) → forced 0 ≡ false
-    → ((a f b : ℕ) → a < f → f < b → forced f ≡ true → cost a b ≡ None)
+ForcedBySpans = (cost : ℕ → ℕ → Option ℕ) (forced : ℕ → Bool) → forced 0 ≡ false → ((a f b : ℕ) → a < f → f < b → forced f ≡ true → cost a b ≡ None)
     → (breaks : List ℕ) (i : ℕ) → IsLegal cost forced breaks i ↔ IsLegal cost none_forced breaks i

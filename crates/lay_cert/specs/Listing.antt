@@ -1,8 +1,7 @@
 -- What a listing is: for each tune the spans that fit among its bars, a choice of breaks, their total, and the potential of each bar.
 -- A breaking of a tune's listing is a rising list of bars that ends with the last and whose spans are all listed. No bar is forced.
 use Rattle.std.specs.Prelude.{◌≡◌, ℕ, ◌+◌, ◌<◌, ◌≤◌, ◌^◌, Bool, false, List, [], ◌∷◌, ◌++◌, length, Option, None, map, slice_index_or}
-use Rattle.lay_breaks.specs.{Breaking.IsLegal, Breaking.sum_from, Breaking.IsPotential, Spans.AreSpans, Spans.listed, declared.costs.Span.Span}
-use Rattle.lay_cert.specs.{Lines.lines_then, declared.lines.Line.Line}
+use Rattle.{lay_breaks.specs.{Breaking.IsLegal, Breaking.sum_from, Breaking.IsPotential, Spans.AreSpans, Spans.listed, declared.costs.Span.Span}, lay_cert.specs.{Lines.lines_then, declared.lines.Line.Line}}
 
 abbrev pub none_forced : ℕ → Bool
 none_forced b = false

@@ -57,13 +57,11 @@ Leads p (l ∷ ls) q = MayCome p l × Leads (next p l) ls q
 
 -- no good line stands next, nor is this the end
 abbrev pub IsStuck : Place → List ℕ → Type 0
-IsStuck p rest =
-    ((l : Line) (more : List ℕ) → rest ≡ line_text l ++ 10 ∷ more → MayCome p l → ⊥) × ((es : List Entry) → rest ≡ [] → p ≡ ended es → ⊥)
+IsStuck p rest = ((l : Line) (more : List ℕ) → rest ≡ line_text l ++ 10 ∷ more → MayCome p l → ⊥) × ((es : List Entry) → rest ≡ [] → p ≡ ended es → ⊥)
 
 -- the number of the first line that isn't good, or one past the last where all are good and the last isn't `end`
 abbrev pub IsFirstFault : List ℕ → ℕ → Type 0
-IsFirstFault text number =
-    (ls : List Line) × (rest : List ℕ) × (p : Place) × (text ≡ lines_then ls rest) × Leads begun ls p × IsStuck p rest × (number ≡ length ls + 1)
+IsFirstFault text number = (ls : List Line) × (rest : List ℕ) × (p : Place) × (text ≡ lines_then ls rest) × Leads begun ls p × IsStuck p rest × (number ≡ length ls + 1)
 
 -- each line is good, and the last is `end`
 abbrev pub IsGoodThroughout : List ℕ → List Entry → Type 0

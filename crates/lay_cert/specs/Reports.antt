@@ -10,5 +10,4 @@ bars_text (b ∷ bs) = 32 ∷ decimal b ++ bars_text bs
 
 abbrev pub verdict_text : ℕ → Verdict → List ℕ
 verdict_text tune (Least total) = codes "least " ++ decimal tune ++ 32 ∷ decimal total ++ 10 ∷ []
-verdict_text tune (NotLeast total better breaks) =
-    codes "notleast " ++ decimal tune ++ 32 ∷ decimal total ++ 32 ∷ decimal better ++ bars_text breaks ++ 10 ∷ []
+verdict_text tune (NotLeast total better breaks) = codes "notleast " ++ decimal tune ++ 32 ∷ decimal total ++ 32 ∷ decimal better ++ bars_text breaks ++ 10 ∷ []

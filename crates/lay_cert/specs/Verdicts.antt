@@ -5,10 +5,8 @@ use Rattle.lay_breaks.specs.{Breaking.IsLegal, Breaking.IsChosen, Breaking.sum_f
 use Rattle.lay_cert.specs.{Listing.Entry, Listing.none_forced, declared.check.Verdict.Verdict, declared.check.Judged.Judged, declared.check.Verdict.TheVariants.Least, declared.check.Verdict.TheVariants.NotLeast}
 
 abbrev pub IsVerdict : Entry → Verdict → Type 0
-IsVerdict e (Least total) =
-    (total ≡ e.total) × ((other : List ℕ) → IsLegal (listed e.spans) none_forced other e.bars → total ≤ sum_from (listed e.spans) 0 other)
-IsVerdict e (NotLeast total better breaks) =
-    (total ≡ e.total) × (better < total) × (better ≡ sum_from (listed e.spans) 0 breaks) × IsChosen (listed e.spans) none_forced e.bars breaks
+IsVerdict e (Least total) = (total ≡ e.total) × ((other : List ℕ) → IsLegal (listed e.spans) none_forced other e.bars → total ≤ sum_from (listed e.spans) 0 other)
+IsVerdict e (NotLeast total better breaks) = (total ≡ e.total) × (better < total) × (better ≡ sum_from (listed e.spans) 0 breaks) × IsChosen (listed e.spans) none_forced e.bars breaks
 
 -- one verdict for each entry, in order
 abbrev pub AreVerdicts : List Entry → List Judged → Type 0

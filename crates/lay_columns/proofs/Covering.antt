@@ -16,8 +16,7 @@ boxes_first rank lane m marks = by (box_at rank lane m) refl
     by None e = rw e refl
     by (Some box) e = rw e refl
 
-furthest : (f : Sides → ℕ) (rank lane : ℕ) (box : Sides) (marks : List Laid) (k : ℕ) (d : Laid) → k < length marks
-    → box_at rank lane (get_or marks k d) ≡ Some box → f box ≤ greatest (map f (boxes_at rank lane marks))
+furthest : (f : Sides → ℕ) (rank lane : ℕ) (box : Sides) (marks : List Laid) (k : ℕ) (d : Laid) → k < length marks → box_at rank lane (get_or marks k d) ≡ Some box → f box ≤ greatest (map f (boxes_at rank lane marks))
 furthest f rank lane box [] k d l e = grind (arith, l)
 furthest f rank lane box (m ∷ marks) zero d l e = rw (boxes_first rank lane m marks, e) (omega arith)
 furthest f rank lane box (m ∷ marks) (suc k) d l e =
@@ -28,8 +27,7 @@ furthest f rank lane box (m ∷ marks) (suc k) d l e =
     by None h = h
     by (Some b) h = omega (arith, h)
 
-some_box : (rank lane : ℕ) (box : Sides) (marks : List Laid) (k : ℕ) (d : Laid) → k < length marks
-    → box_at rank lane (get_or marks k d) ≡ Some box → (b : Sides) × (bs : List Sides) × (boxes_at rank lane marks ≡ b ∷ bs)
+some_box : (rank lane : ℕ) (box : Sides) (marks : List Laid) (k : ℕ) (d : Laid) → k < length marks → box_at rank lane (get_or marks k d) ≡ Some box → (b : Sides) × (bs : List Sides) × (boxes_at rank lane marks ≡ b ∷ bs)
 some_box rank lane box [] k d l e = absurd (none l)
   where
     none : k < 0 → ⊥
@@ -37,8 +35,7 @@ some_box rank lane box [] k d l e = absurd (none l)
 some_box rank lane box (m ∷ marks) zero d l e = (box, boxes_at rank lane marks, boxes_first rank lane m marks ∙ ap (taken (boxes_at rank lane marks)) e)
 some_box rank lane box (m ∷ marks) (suc k) d l e = by (box_at rank lane m) refl (some_box rank lane box marks k d (omega (arith, l)) e)
   where
-    by : (o : Option Sides) → box_at rank lane m ≡ o → (b : Sides) × (bs : List Sides) × (boxes_at rank lane marks ≡ b ∷ bs)
-        → (b : Sides) × (bs : List Sides) × (boxes_at rank lane (m ∷ marks) ≡ b ∷ bs)
+    by : (o : Option Sides) → box_at rank lane m ≡ o → (b : Sides) × (bs : List Sides) × (boxes_at rank lane marks ≡ b ∷ bs) → (b : Sides) × (bs : List Sides) × (boxes_at rank lane (m ∷ marks) ≡ b ∷ bs)
     by None q (b, bs, h) = (b, bs, boxes_first rank lane m marks ∙ ap (taken (boxes_at rank lane marks)) q ∙ h)
     by (Some first) q h = (first, boxes_at rank lane marks, boxes_first rank lane m marks ∙ ap (taken (boxes_at rank lane marks)) q)
 
@@ -58,8 +55,7 @@ right_covers (pos n) right h near = elim (cases_lt right most_reach) [
   | inr ge ↦ inr (omega (arith, near, ge))
 ]
 
-covered : (rank lane : ℕ) (box : Sides) (marks : List Laid) (laid : Laid) → Contains marks laid → box_at rank lane laid ≡ Some box
-    → (reach : Reach) × (drawn_reach marks rank lane ≡ Some reach) × Covers reach box
+covered : (rank lane : ℕ) (box : Sides) (marks : List Laid) (laid : Laid) → Contains marks laid → box_at rank lane laid ≡ Some box → (reach : Reach) × (drawn_reach marks rank lane ≡ Some reach) × Covers reach box
 covered rank lane box marks laid (k, l, at) e =
     let e' : box_at rank lane (get_or marks k laid) ≡ Some box = ap (box_at rank lane) at ∙ e in
     let left = furthest (λ s. left_of s.left) rank lane box marks k laid l e' in
@@ -85,11 +81,9 @@ get_right (x ∷ xs) ys k =
     ap (λ t. slice_get (x ∷ (xs ++ ys)) t) e ∙ get_right xs ys k
 
 pub row_long : (always : Bool) (rank : ℕ) (marks : List Laid) (verses : ℕ) → length (staff_reaches always rank marks verses) ≡ lane_count verses
-row_long always rank marks verses =
-    length-map (drawn_row marks (lane_count verses) rank) (standing always) ∙ length-map-range_with_len (drawn_reach marks rank) 0 (lane_count verses)
+row_long always rank marks verses = length-map (drawn_row marks (lane_count verses) rank) (standing always) ∙ length-map-range_with_len (drawn_reach marks rank) 0 (lane_count verses)
 
-row_at : (always : Bool) (rank lane : ℕ) (marks : List Laid) (verses : ℕ) → lane < lane_count verses
-    → slice_get (staff_reaches always rank marks verses) lane ≡ Some (standing always (drawn_reach marks rank lane))
+row_at : (always : Bool) (rank lane : ℕ) (marks : List Laid) (verses : ℕ) → lane < lane_count verses → slice_get (staff_reaches always rank marks verses) lane ≡ Some (standing always (drawn_reach marks rank lane))
 row_at always rank lane marks verses l =
     let long : lane < length (drawn_row marks (lane_count verses) rank) =
     subst (λ t. lane < t) (sym (length-map-range_with_len (drawn_reach marks rank) 0 (lane_count verses))) l in
@@ -97,8 +91,7 @@ row_at always rank lane marks verses l =
     ∙ ap (λ t. option_map (standing always) t) (slice_get-get_or (drawn_row marks (lane_count verses) rank) lane None long
     ∙ ap (λ t. Some t) (get_or-map-range_with_len (drawn_reach marks rank) 0 (lane_count verses) lane lane None l (omega arith)))
 
-lane_at : (always : Bool) (rank : ℕ) (staves : List StaffMarks) (verses : List ℕ) (s lane count : ℕ) (staff : StaffMarks)
-    → slice_get staves s ≡ Some staff → slice_get verses s ≡ Some count → lane < lane_count count
+lane_at : (always : Bool) (rank : ℕ) (staves : List StaffMarks) (verses : List ℕ) (s lane count : ℕ) (staff : StaffMarks) → slice_get staves s ≡ Some staff → slice_get verses s ≡ Some count → lane < lane_count count
     → slice_get (reaches_of always rank staves verses) (lane_start verses s + lane) ≡ Some (standing always (drawn_reach staff.marks rank lane))
 lane_at always rank [] verses s lane count staff e f l = absurd (none-some staff e)
 lane_at always rank (x ∷ staves) [] s lane count staff e f l = absurd (none-some count f)

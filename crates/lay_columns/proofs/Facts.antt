@@ -85,8 +85,7 @@ staff_long always rank marks verses =
     let c = length-replicate {A = ℕ} (2 + verses) 300 in
     grind (arith, a, b, c)
 
-pub reaches_long : (always : Bool) (rank : ℕ) (staves : List StaffMarks) (verses : List ℕ) → length verses ≡ length staves
-    → length (reaches_of always rank staves verses) ≡ length (gaps_of verses)
+pub reaches_long : (always : Bool) (rank : ℕ) (staves : List StaffMarks) (verses : List ℕ) → length verses ≡ length staves → length (reaches_of always rank staves verses) ≡ length (gaps_of verses)
 reaches_long always rank [] [] h = refl
 reaches_long always rank [] (v ∷ verses) h = grind (arith, h)
 reaches_long always rank (staff ∷ staves) [] h = refl
@@ -125,11 +124,9 @@ module _ (staves : List StaffMarks) (lengths verses : List ℕ) where
   abbrev column_at : ℕ → ColumnKey → List ColumnKey → Column
   column_at rank key behind = record { key = key; reaches = reaches_of (stands_always key.class) rank staves verses; natural = natural_of key behind lengths }
 
-  all_columns : (P : Column → Type 0) → ((rank : ℕ) (key : ColumnKey) (behind : List ColumnKey) → P (column_at rank key behind))
-      → (rank : ℕ) (keys : List ColumnKey) → All P (columns_from rank keys staves lengths verses)
+  all_columns : (P : Column → Type 0) → ((rank : ℕ) (key : ColumnKey) (behind : List ColumnKey) → P (column_at rank key behind)) → (rank : ℕ) (keys : List ColumnKey) → All P (columns_from rank keys staves lengths verses)
   all_columns P h rank [] = All-nil P
-  all_columns P h rank (key ∷ behind) =
-      All-cons P (column_at rank key behind) (columns_from (rank + 1) behind staves lengths verses) (h rank key behind) (all_columns P h (rank + 1) behind)
+  all_columns P h rank (key ∷ behind) = All-cons P (column_at rank key behind) (columns_from (rank + 1) behind staves lengths verses) (h rank key behind) (all_columns P h (rank + 1) behind)
 
   pub columns_keys : (rank : ℕ) (keys : List ColumnKey) → map (λ c. c.key) (columns_from rank keys staves lengths verses) ≡ keys
   columns_keys rank [] = refl

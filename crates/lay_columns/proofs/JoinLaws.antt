@@ -38,15 +38,12 @@ find_more keys more m h = find-append (is_note_of m) keys more ∙ ap (option_or
     by None = refl
     by (Some key) = refl
 
-natural_more : (key : ColumnKey) (keys more : List ColumnKey) (lengths : List ℕ) → All (λ l. l.measure ≢ key.measure) more
-    → natural_of key (keys ++ more) lengths ≡ natural_of key keys lengths
-natural_more key keys more lengths h =
-    ap (λ t. if is_note key then natural_for (tick_or_end key.measure t lengths - key.tick) else 0) (find_more keys more key.measure h)
+natural_more : (key : ColumnKey) (keys more : List ColumnKey) (lengths : List ℕ) → All (λ l. l.measure ≢ key.measure) more → natural_of key (keys ++ more) lengths ≡ natural_of key keys lengths
+natural_more key keys more lengths h = ap (λ t. if is_note key then natural_for (tick_or_end key.measure t lengths - key.tick) else 0) (find_more keys more key.measure h)
 
 -- ---- columns
 module _ (joined first second : List StaffMarks) (lengths verses : List ℕ) where
-  pub behind_same : (n rank : ℕ) (keys : List ColumnKey) → StavesJoin n joined first second
-      → columns_from (n + rank) keys joined lengths verses ≡ columns_from rank keys second lengths verses
+  pub behind_same : (n rank : ℕ) (keys : List ColumnKey) → StavesJoin n joined first second → columns_from (n + rank) keys joined lengths verses ≡ columns_from rank keys second lengths verses
   behind_same n rank [] h = refl
   behind_same n rank (key ∷ keys) h =
       let e : n + rank + 1 ≡ n + (rank + 1) = omega arith in
@@ -66,8 +63,7 @@ module _ (joined first second : List StaffMarks) (lengths verses : List ℕ) whe
       rw (r, s, b) refl
 
 pub columns_join : ColumnsJoin
-columns_join front behind joined first second lengths verses o h =
-    front_same joined first second lengths verses (length front) 0 front behind (omega arith) o h
+columns_join front behind joined first second lengths verses o h = front_same joined first second lengths verses (length front) 0 front behind (omega arith) o h
 
 -- ---- marks
 boxes_none : (rank lane : ℕ) (xs : List Laid) → All (λ l. box_at rank lane l ≡ None) xs → boxes_at rank lane xs ≡ []

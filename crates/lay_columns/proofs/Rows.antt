@@ -50,8 +50,7 @@ pub row_length : (marks : List Laid) (lanes rank : ℕ) → length (drawn_row ma
 row_length marks lanes rank = length-map-range_with_len (drawn_reach marks rank) 0 lanes
 
 -- a box at rank r in lane l widens that place alone
-pub row_more : (marks : List Laid) (laid : Laid) (lanes r l : ℕ) (box : Sides)
-    → ((rank lane : ℕ) → box_at rank lane laid ≡ (if (rank == r) && (lane == l) then Some box else None)) → l < lanes
+pub row_more : (marks : List Laid) (laid : Laid) (lanes r l : ℕ) (box : Sides) → ((rank lane : ℕ) → box_at rank lane laid ≡ (if (rank == r) && (lane == l) then Some box else None)) → l < lanes
     → widened_row (drawn_row marks lanes r) l box ≡ drawn_row (marks ++ laid ∷ []) lanes r
 row_more marks laid lanes r l box is lt =
     let long : l < length (drawn_row marks lanes r) = subst (λ t. l < t) (sym (row_length marks lanes r)) lt in
@@ -69,7 +68,6 @@ row_more marks laid lanes r l box is lt =
     apart k ne = grind (arith, ne)
 
 -- a mark that stands at none of these places widens none
-pub none_more : (marks : List Laid) (laid : Laid) (lanes rank : ℕ) → ((lane : ℕ) → lane < lanes → box_at rank lane laid ≡ None)
-    → drawn_row marks lanes rank ≡ drawn_row (marks ++ laid ∷ []) lanes rank
+pub none_more : (marks : List Laid) (laid : Laid) (lanes rank : ℕ) → ((lane : ℕ) → lane < lanes → box_at rank lane laid ≡ None) → drawn_row marks lanes rank ≡ drawn_row (marks ++ laid ∷ []) lanes rank
 none_more marks laid lanes rank is = same_range (drawn_reach marks rank) (drawn_reach (marks ++ laid ∷ []) rank) lanes None
     (λ k m. sym (drawn_more rank k marks laid ∙ ap (extended (drawn_reach marks rank k)) (is k m)))

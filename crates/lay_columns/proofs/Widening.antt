@@ -1,7 +1,6 @@
 -- Bare columns, widened by the marks of each staff, have the reaches of their marks.
 use Rattle.std.{proofs.{Common.{◌≡◌, ◌≢◌, ℕ, zero, suc, ◌+◌, ◌<◌, ◌≤◌, ◌&&◌, ◌==◌, max, Bool, true, false, List, [], ◌∷◌, ◌++◌, map, length, replicate, Option, Some, None, refl, sym, ap, ◌∙◌, subst, arith, if◌then◌else◌, nat_lt}, Math.ListN.get_or-append, lemmas.List.{append-nil, append_assoc, length-append, length-map, replicate-append-replicate, set-append_left}}, specs.List.range_with_len}
-use Rattle.{mus_laid.specs.{Boxes.sides_of, declared.boxes.Sides.Sides, declared.laid.Laid.Laid, declared.laid.StaffMarks.StaffMarks}, mus_time.specs.declared.keys.ColumnKey.{ColumnKey}}
-use Rattle.lay_springs.specs.declared.traits.Reach.{Reach}
+use Rattle.{mus_laid.specs.{Boxes.sides_of, declared.boxes.Sides.Sides, declared.laid.Laid.Laid, declared.laid.StaffMarks.StaffMarks}, mus_time.specs.declared.keys.ColumnKey.{ColumnKey}, lay_springs.specs.declared.traits.Reach.{Reach}}
 use Rattle.lay_columns.{specs.{declared.column.Column.Column, Columns.{columns_from, columns_of}, Lanes.{lane_count, lane_number, lanes_of}, Naturals.natural_of, Reaches.{box_at, drawn_row, left_of, rank_of, reaches_of, right_of, staff_reaches, standing, stands_always}, Widened.{bare_columns, place_of, widened, widened_at, widened_by, widened_by_mark, widened_by_marks, widened_by_staves, widened_row, with_widened}}, proofs.{Covering.row_long, Rows.{box_is, none_more, row_length, row_more}}}
 
 -- ---- one place of a row
@@ -38,8 +37,7 @@ widened_stood true None box =
 
 row_stood : (always : Bool) (row : List (Option Reach)) (place : ℕ) (box : Sides) → widened_row (map (standing always) row) place box ≡ map (standing always) (widened_row row place box)
 row_stood always [] place box = let e : nat_lt place 0 ≡ false = grind arith in rw e refl
-row_stood always (o ∷ row) zero box =
-    rw (inside (length (map (standing always) row)), inside (length row)) (ap (λ t. Some t ∷ map (standing always) row) (widened_stood always o box))
+row_stood always (o ∷ row) zero box = rw (inside (length (map (standing always) row)), inside (length row)) (ap (λ t. Some t ∷ map (standing always) row) (widened_stood always o box))
 row_stood always (o ∷ row) (suc place) box =
     row_next (standing always o) (map (standing always) row) place box ∙ ap (λ t. standing always o ∷ t) (row_stood always row place box)
     ∙ sym (ap (λ t. map (standing always) t) (row_next o row place box))
@@ -50,21 +48,18 @@ module _ (lengths : List ℕ) where
   made f rank [] = []
   made f rank (key ∷ behind) = record { key = key; reaches = f rank (stands_always key.class); natural = natural_of key behind lengths } ∷ made f (rank + 1) behind
 
-  made_same : (f g : ℕ → Bool → List (Option Reach)) (rank : ℕ) (keys : List ColumnKey) → ((k : ℕ) (always : Bool) → rank ≤ k → f k always ≡ g k always)
-      → made f rank keys ≡ made g rank keys
+  made_same : (f g : ℕ → Bool → List (Option Reach)) (rank : ℕ) (keys : List ColumnKey) → ((k : ℕ) (always : Bool) → rank ≤ k → f k always ≡ g k always) → made f rank keys ≡ made g rank keys
   made_same f g rank [] h = refl
   made_same f g rank (key ∷ behind) h =
       let here = h rank (stands_always key.class) (omega arith) in
       let rest = made_same f g (rank + 1) behind (λ k always l. h k always (omega (arith, l))) in
       rw (here, rest) refl
 
-  at_next : (c : Column) (columns : List Column) (rank place : ℕ) (box : Sides) (o : Option Column)
-      → with_widened (c ∷ columns) (suc rank) place box o ≡ c ∷ with_widened columns rank place box o
+  at_next : (c : Column) (columns : List Column) (rank place : ℕ) (box : Sides) (o : Option Column) → with_widened (c ∷ columns) (suc rank) place box o ≡ c ∷ with_widened columns rank place box o
   at_next c columns rank place box None = refl
   at_next c columns rank place box (Some column) = refl
 
-  made_widened : (f g : ℕ → Bool → List (Option Reach)) (r place : ℕ) (box : Sides)
-      → ((always : Bool) → widened_row (f r always) place box ≡ g r always) → ((k : ℕ) (always : Bool) → k ≢ r → f k always ≡ g k always)
+  made_widened : (f g : ℕ → Bool → List (Option Reach)) (r place : ℕ) (box : Sides) → ((always : Bool) → widened_row (f r always) place box ≡ g r always) → ((k : ℕ) (always : Bool) → k ≢ r → f k always ≡ g k always)
       → (first i : ℕ) (keys : List ColumnKey) → first + i ≡ r → widened_at (made f first keys) i place box ≡ made g first keys
   made_widened f g r place box here apart first zero [] e = refl
   made_widened f g r place box here apart first (suc i) [] e = refl
@@ -190,8 +185,7 @@ module _ (lengths : List ℕ) where
   bare_made n rank [] = refl
   bare_made n rank (key ∷ behind) = let e = bare_made n (rank + 1) behind in rw e refl
 
-  from_made : (staves : List StaffMarks) (verses : List ℕ) (rank : ℕ) (keys : List ColumnKey)
-      → made (λ k always. reaches_of always k staves verses) rank keys ≡ columns_from rank keys staves lengths verses
+  from_made : (staves : List StaffMarks) (verses : List ℕ) (rank : ℕ) (keys : List ColumnKey) → made (λ k always. reaches_of always k staves verses) rank keys ≡ columns_from rank keys staves lengths verses
   from_made staves verses rank [] = refl
   from_made staves verses rank (key ∷ behind) = let e = from_made staves verses (rank + 1) behind in rw e refl
 

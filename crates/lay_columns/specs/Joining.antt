@@ -23,8 +23,7 @@ abbrev pub OfOtherMeasures : List ColumnKey → List ColumnKey → Type 0
 OfOtherMeasures front behind = All (λ k. All (λ l. l.measure ≢ k.measure) behind) front
 
 abbrev pub ColumnsJoin : Type 0
-ColumnsJoin = (front behind : List ColumnKey) (joined first second : List StaffMarks) (lengths verses : List ℕ) → OfOtherMeasures front behind
-    → StavesJoin (length front) joined first second
+ColumnsJoin = (front behind : List ColumnKey) (joined first second : List StaffMarks) (lengths verses : List ℕ) → OfOtherMeasures front behind → StavesJoin (length front) joined first second
     → columns_of (front ++ behind) joined lengths verses ≡ columns_of front first lengths verses ++ columns_of behind second lengths verses
 
 -- a mark in the column that stands n further on
@@ -45,5 +44,4 @@ IsBelow n (Some rank) = rank < n
 
 -- marks of the first n columns, then others moved n further on, then some without a box
 abbrev pub MarksJoin : Type 0
-MarksJoin = (n : ℕ) (first second loose : List Laid) → All (λ l. IsBelow n (rank_of l.mark)) first → All (λ l. rank_of l.mark ≡ None) loose
-    → AreJoined n (first ++ map (moved n) second ++ loose) first second
+MarksJoin = (n : ℕ) (first second loose : List Laid) → All (λ l. IsBelow n (rank_of l.mark)) first → All (λ l. rank_of l.mark ≡ None) loose → AreJoined n (first ++ map (moved n) second ++ loose) first second

@@ -1,7 +1,6 @@
 -- How far a column reaches in a lane: as far as the boxes of its marks there, to the left and to the right, at least 0, and cut at 2^20.
 use Rattle.std.specs.{Prelude.{ℕ, ℤ, pos, negsuc, ◌+◌, min, Bool, true, false, ◌&&◌, ◌==◌, if◌then◌else◌, List, [], ◌∷◌, ◌++◌, map, filter_map, Option, Some, None}, List.range_with_len}
-use Rattle.mus_time.specs.{Onsets.greatest, declared.keys.Class.Class}
-use Rattle.mus_laid.specs.{Boxes.sides_of, declared.boxes.Sides.Sides, declared.laid.Mark.Mark, declared.laid.Laid.Laid, declared.laid.StaffMarks.StaffMarks}
+use Rattle.{mus_time.specs.{Onsets.greatest, declared.keys.Class.Class}, mus_laid.specs.{Boxes.sides_of, declared.boxes.Sides.Sides, declared.laid.Mark.Mark, declared.laid.Laid.Laid, declared.laid.StaffMarks.StaffMarks}}
 use Rattle.{lay_springs.specs.{declared.traits.Reach.Reach, Stands.most_reach}, lay_columns.specs.{Lanes.lane_count, Lanes.lane_number}}
 
 -- how far a box goes to the left, and to the right, of its column
@@ -27,8 +26,7 @@ is_number n (Some m) = n == m
 
 -- the box of a mark, where it stands at a column and in a lane of its staff
 abbrev pub box_at : ℕ → ℕ → Laid → Option Sides
-box_at rank lane laid =
-    if is_number rank (rank_of laid.mark) && is_number lane (lane_number laid.lane) then sides_of laid.mark else None
+box_at rank lane laid = if is_number rank (rank_of laid.mark) && is_number lane (lane_number laid.lane) then sides_of laid.mark else None
 
 abbrev pub boxes_at : ℕ → ℕ → List Laid → List Sides
 boxes_at rank lane marks = filter_map (box_at rank lane) marks
@@ -66,5 +64,4 @@ staff_reaches always rank marks verses = map (standing always) (drawn_row marks 
 abbrev pub reaches_of : Bool → ℕ → List StaffMarks → List ℕ → List (Option Reach)
 reaches_of always rank [] verses = []
 reaches_of always rank (staff ∷ staves) [] = []
-reaches_of always rank (staff ∷ staves) (verses ∷ more) =
-    staff_reaches always rank staff.marks verses ++ reaches_of always rank staves more
+reaches_of always rank (staff ∷ staves) (verses ∷ more) = staff_reaches always rank staff.marks verses ++ reaches_of always rank staves more

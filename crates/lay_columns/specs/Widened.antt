@@ -21,8 +21,7 @@ widened None box = record { left = left_of box.left; right = right_of box.right 
 widened (Some reach) box = record { left = max reach.left (left_of box.left); right = max reach.right (right_of box.right) }
 
 abbrev pub widened_row : List (Option Reach) → ℕ → Sides → List (Option Reach)
-widened_row row place box =
-    if nat_lt place (length row) then slice_set row place (Some (widened (slice_index_or row place None) box)) else row
+widened_row row place box = if nat_lt place (length row) then slice_set row place (Some (widened (slice_index_or row place None) box)) else row
 
 abbrev pub widened_column : Column → ℕ → Sides → Column
 widened_column column place box = record { key = column.key; reaches = widened_row column.reaches place box; natural = column.natural }
@@ -56,5 +55,4 @@ widened_by_marks columns start lanes (laid ∷ more) = widened_by_marks (widened
 abbrev pub widened_by_staves : List Column → ℕ → List StaffMarks → List ℕ → List Column
 widened_by_staves columns start [] verses = columns
 widened_by_staves columns start (staff ∷ staves) [] = columns
-widened_by_staves columns start (staff ∷ staves) (verses ∷ more) =
-    widened_by_staves (widened_by_marks columns start (lane_count verses) staff.marks) (start + lane_count verses) staves more
+widened_by_staves columns start (staff ∷ staves) (verses ∷ more) = widened_by_staves (widened_by_marks columns start (lane_count verses) staff.marks) (start + lane_count verses) staves more

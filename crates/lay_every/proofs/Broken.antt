@@ -67,13 +67,11 @@ module _ (cost : ℕ → ℕ → Option ℕ) (forced : ℕ → Bool) (n : ℕ)
   module _ (a p : ℕ) (best : IsLeastBack cost forced a p) where
     -- what goes on behind bar b
     abbrev GoesOn : ℕ → Type 0
-    GoesOn b = (ps : List (Option ℕ)) (fs : List ℕ) → length ps ≡ n + 1 → length fs ≡ n + 1 → ((f : ℕ) → a < f → f < b → forced f ≡ true → ⊥)
-        → IsTrying cost forced n a b ps fs → Filled (a + 1)
+    GoesOn b = (ps : List (Option ℕ)) (fs : List ℕ) → length ps ≡ n + 1 → length fs ≡ n + 1 → ((f : ℕ) → a < f → f < b → forced f ≡ true → ⊥) → IsTrying cost forced n a b ps fs → Filled (a + 1)
 
     by_forced : (b : ℕ) (ps : List (Option ℕ)) (fs : List ℕ) (t : Bool) → forced b ≡ t → a < b → length ps ≡ n + 1 → length fs ≡ n + 1
         → ((f : ℕ) → a < f → f < b → forced f ≡ true → ⊥) → IsTrying cost forced n a (b + 1) ps fs → GoesOn (b + 1) → Filled (a + 1)
-    by_forced b ps fs true is l long wide none h on =
-        filled_as (a + 1) ps fs long wide (trying_done cost forced n a (b + 1) ps fs (omega arith) (λ i m k s. s.free b l (omega arith) is) h)
+    by_forced b ps fs true is l long wide none h on = filled_as (a + 1) ps fs long wide (trying_done cost forced n a (b + 1) ps fs (omega arith) (λ i m k s. s.free b l (omega arith) is) h)
     by_forced b ps fs false is l long wide none h on =
         on ps fs long wide
         (λ f m k t. elim (cases_eq f b) [

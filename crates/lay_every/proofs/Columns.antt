@@ -2,10 +2,8 @@
 use Rattle.std.proofs.Common.{◌≡◌, ℕ, zero, suc, ◌-◌, ◌<◌, ◌≤◌, ◌==◌, Bool, List, [], ◌∷◌, ◌++◌, length, length-append, map, slice_index_or, refl, sym, ◌∙◌, ap, subst, arith}
 use Rattle.{mus_score.specs.{declared.score.Score.Score, GoodScore.IsGoodScore}, mus_time.specs.{declared.keys.ColumnKey.ColumnKey, declared.times.Timeline.Timeline, Keys.AreKeys, Onsets.timeline_of}}
 use Rattle.{mus_laid.specs.declared.laid.StaffMarks.{StaffMarks}, mus_keys.specs.Columns.{keys_called}, mus_marks.specs.System.{drawn_staves}}
-use Rattle.lay_columns.{specs.{declared.column.Column.Column, Columns.{column_reach, columns_of}}, proofs.Facts.columns_keys}
-use Rattle.lay_measures.{specs.Measures.{AreMeasureColumns, keys_in, measure_staff}, proofs.Joined.measures_join}
-use Rattle.lay_spans.{specs.Columns.AreMeasures, proofs.Growing.each_more}
-use Rattle.lay_tune.{specs.{Measures.{EachMeasure, IsMeasure}, Spans.{AreColumnsOf, score_gaps, verses_of}}, proofs.{Joins.{columns_join, measure_of}, RisingKeys.have_keys}}
+use Rattle.{lay_columns.{specs.{declared.column.Column.Column, Columns.{column_reach, columns_of}}, proofs.Facts.columns_keys}, lay_measures.{specs.Measures.{AreMeasureColumns, keys_in, measure_staff}, proofs.Joined.measures_join}}
+use Rattle.{lay_spans.{specs.Columns.AreMeasures, proofs.Growing.each_more}, lay_tune.{specs.{Measures.{EachMeasure, IsMeasure}, Spans.{AreColumnsOf, score_gaps, verses_of}}, proofs.{Joins.{columns_join, measure_of}, RisingKeys.have_keys}}}
 
 -- what each of n places has, as a list
 pub has_each : {X : Type 0} (d : X) (P : ℕ → X → Type 0) (n : ℕ) → ((m : ℕ) → m < n → (x : X) × P m x) → (xs : List X) × (length xs ≡ n) × ((m : ℕ) → m < n → P m (slice_index_or xs m d))

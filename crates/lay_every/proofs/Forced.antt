@@ -1,7 +1,6 @@
 -- There is a greatest force, or the columns can't stand within the width at all.
 use Rattle.std.{proofs.{Common.{ℕ, zero, suc, ◌-◌, ◌<◌, ◌≤◌, inl, inr, ◌⊎◌, ℤ, pos, negsuc, ◌+ℤ◌, ◌≤ℤ◌, List, length, Option, IfSome, slice_index, slice_index_or, arith, refl, sym, subst}, lemmas.{Int.ints, Bool.{cases_lt, cases_eq}}}, specs.Prelude.◌<ℤ◌}
-use Rattle.lay_springs.{specs.{declared.traits.Reach.Reach, Fit.{IsEndOf, EndsAt, Fits, Passes, CanStand}}, proofs.Longer.cannot_stand}
-use Rattle.lay_every.proofs.Made.{AskedAt, top_at, top_of, has_place}
+use Rattle.{lay_springs.{specs.{declared.traits.Reach.Reach, Fit.{IsEndOf, EndsAt, Fits, Passes, CanStand}}, proofs.Longer.cannot_stand}, lay_every.proofs.Made.{AskedAt, top_at, top_of, has_place}}
 
 has_end : (reach : ℕ → Option Reach) (lanes : ℕ) (at : ℤ) → (e : ℤ) × IsEndOf reach lanes at e
 has_end reach lanes at =
@@ -42,8 +41,7 @@ module _ (n : ℕ) (reach : ℕ → ℕ → Option Reach) (gaps : List ℕ) (spr
   never : (force : ℕ) → Passes n reach gaps spring width force → CanStand n reach gaps spring width force → ⊥
   never force p c = cannot_stand n reach gaps spring width force force some (λ i. omega arith) p c
 
-  below : (m : ℕ) → m ≤ 2048 → ((g : ℕ) → m < g → g ≤ 2048 → CanStand n reach gaps spring width g → ⊥)
-      → ((force : ℕ) × IsGreatest n reach gaps spring width force) ⊎ (CanStand n reach gaps spring width 0 → ⊥)
+  below : (m : ℕ) → m ≤ 2048 → ((g : ℕ) → m < g → g ≤ 2048 → CanStand n reach gaps spring width g → ⊥) → ((force : ℕ) × IsGreatest n reach gaps spring width force) ⊎ (CanStand n reach gaps spring width 0 → ⊥)
   below zero b none = elim (fits_or_passes 0 b) [
     | inl f ↦ inl (0, record { bound = b; fits = f; greatest = none })
     | inr p ↦ inr (never 0 p)

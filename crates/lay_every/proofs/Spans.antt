@@ -5,8 +5,7 @@ use Rattle.lay_springs.{specs.{Place.{length_at, reach_at}, Stands.reach_in_near
 use Rattle.lay_columns.{specs.{declared.column.Column.Column, Column.{length_scales, length_short}, Columns.column_reach}, proofs.Gaps.gaps_narrow}
 use Rattle.lay_spans.specs.{Badness.badness_of, Columns.{AreMeasures, span_columns}, Forced.is_forced, Rows.{IsRowFrom, rows_spans}, SpanList.IsCost}
 use Rattle.lay_spans.proofs.{Adding.columns_some, Growing.{costs_more, free_more, rows_are_spans, rows_tell_spans, stops_at, stops_behind}}
-use Rattle.lay_tune.{specs.Spans.{AreSpansOf, CanStandIn, IsForceOf, column_length, score_gaps, verses_of}, proofs.Open.spans_read}
-use Rattle.lay_every.proofs.{Columns.{has_each, have_measures}, Forced.has_force}
+use Rattle.{lay_tune.{specs.Spans.{AreSpansOf, CanStandIn, IsForceOf, column_length, score_gaps, verses_of}, proofs.Open.spans_read}, lay_every.proofs.{Columns.{has_each, have_measures}, Forced.has_force}}
 
 -- the reaches and the springs of any columns are small
 pub columns_near : (columns : List Column) (k lane : ℕ) → IfSome (reach_at column_reach columns k lane) (λ r. (r.left ≤ 1048576) × (r.right ≤ 1048576))

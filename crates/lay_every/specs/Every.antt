@@ -1,7 +1,6 @@
 -- Every score is laid out on a width, or has no way there.
 use Rattle.std.specs.Prelude.{◌≡◌, ℕ, ◌+◌, ◌<◌, ◌≤◌, ◌⊎◌, List, length, All, None, slice_index_or}
-use Rattle.{mus_score.specs.{declared.score.Score.Score, GoodScore.IsGoodScore}, mus_laid.specs.Boxes.{AreGoodMarks}}
-use Rattle.lay_breaks.specs.{declared.costs.Span.Span, Breaking.{IsChosen, IsPotential, sum_from}, Spans.{AreSpans, listed}}
+use Rattle.{mus_score.specs.{declared.score.Score.Score, GoodScore.IsGoodScore}, mus_laid.specs.Boxes.{AreGoodMarks}, lay_breaks.specs.{declared.costs.Span.Span, Breaking.{IsChosen, IsPotential, sum_from}, Spans.{AreSpans, listed}}}
 use Rattle.lay_tune.specs.{declared.layout.Layout.Layout, Breakings.IsLeastBreaking, Layout.IsNoWay, Spans.{AreSpansOf, is_forced_in}, Systems.{Beside, EachSpan, IsSetSystem, IsStack}}
 
 -- What a layout of a score on a width is: the spans that fit and what each costs, the breaking that is chosen among them with its
@@ -20,5 +19,4 @@ pub record IsLayout (s : Score) (width : ℕ) (l : Layout) : Type 0 where
 
 -- a good score, with a voice where it has a measure, has a layout, or no breaking of it is legal
 abbrev pub EveryScoreIsLaid : Type 0
-EveryScoreIsLaid = (s : Score) (width : ℕ) → IsGoodScore s → (0 < s.measures → 1 ≤ length s.voices)
-    → ((l : Layout) × IsLayout s width l) ⊎ ((reached : ℕ) × (spans : List Span) × IsNoWay s width reached spans)
+EveryScoreIsLaid = (s : Score) (width : ℕ) → IsGoodScore s → (0 < s.measures → 1 ≤ length s.voices) → ((l : Layout) × IsLayout s width l) ⊎ ((reached : ℕ) × (spans : List Span) × IsNoWay s width reached spans)

@@ -3,8 +3,7 @@ use Rattle.std.{proofs.{Common.{◌≡◌, ◌∙◌, ℕ, ◌+◌, ◌-◌, ◌
 use Rattle.mus_score.specs.{declared.score.{Score.Score, Voice.Voice}, GoodScore.IsGoodScore, Seats.is_lower}
 use Rattle.mus_time.{specs.{declared.{keys.{Class.Class, ColumnKey.ColumnKey}, times.Timeline.Timeline}, Keys.{AreKeys, IsInSystem, has_features, head_key, measure_keys, voice_keys}, Onsets.{length_at, timeline_of}, Order.{Rises, class_number, is_below, rank_of}, Ranks.rank_at}, proofs.{Places.length_is, RankLaws.rank_at_place}}
 use Rattle.{mus_laid.specs.{declared.drawn.Drawn.Drawn, declared.laid.{Laid.Laid, StaffMarks.StaffMarks}, Ranked.drawn_at}, mus_ink.specs.Bars.{bar_marks}}
-use Rattle.mus_drawn.specs.{declared.drawn.{DrawnEvent.DrawnEvent, DrawnMeasure.DrawnMeasure, DrawnVoice.DrawnVoice}, Drawn.drawn_voice}
-use Rattle.mus_keys.{specs.Columns.keys_called, proofs.Called.{called_places, called_same}}
+use Rattle.{mus_drawn.specs.{declared.drawn.{DrawnEvent.DrawnEvent, DrawnMeasure.DrawnMeasure, DrawnVoice.DrawnVoice}, Drawn.drawn_voice}, mus_keys.{specs.Columns.keys_called, proofs.Called.{called_places, called_same}}}
 use Rattle.mus_marks.{specs.{declared.events.Place.Place, Events.{bar_part, change_part, changes_nothing, event_marks, events_marks, graces_part, levels_behind, levels_in, measures_marks, note_part, note_rank, words_part}, Staff.{columns_part, head_part}, System.{drawn_staves, stands_lower}}, proofs.{Groups.grouped_all, Inside.head_inside, Unchanged.nothing_marks}}
 use Rattle.lay_columns.{specs.{declared.column.Column.Column, Columns.columns_of, Joining.{AreJoined, IsBelow, StavesJoin, moved}, Reaches.rank_of as mark_rank}, proofs.JoinLaws.{behind_same, marks_join}}
 use Rattle.lay_measures.{specs.Measures.{AreFurther, AreMeasureColumns, begins_plain, first_plain, fixed_place, keys_in, measure_part, measure_staff, parts_from, staff_of_columns}, proofs.{HeadKeys.{ArePlain, one_plain, own_keys}, Joined.{HasMeasures, all_weaker, both_joined, voices_fit}, KeyLaws.slice_long, Ranks.{IsPlaced, measures_in, slice_fit}, Slots.{AreBelow, head_laid, head_slots, lay_below, lay_moved, measures_laid, measures_slots, slot}}}

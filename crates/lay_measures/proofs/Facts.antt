@@ -136,5 +136,4 @@ module _ (keys : List ColumnKey) (lengths : List ℕ) (m : ℕ) where
   each_good begins (vs ∷ staves) fits = (parts_good begins 1 vs (omega arith) fits.0, each_good begins staves fits.1)
 
   pub staves_good : (begins : Bool) (s : Score) → IsGoodScore s → AreGoodStaves (map (measure_staff begins keys lengths m) (drawn_staves s))
-  staves_good begins s good =
-      All-from_recursion (λ s. AreGoodMarks s.marks) (map (measure_staff begins keys lengths m) (drawn_staves s)) (each_good begins (drawn_staves s) (staves_fit s good))
+  staves_good begins s good = All-from_recursion (λ s. AreGoodMarks s.marks) (map (measure_staff begins keys lengths m) (drawn_staves s)) (each_good begins (drawn_staves s) (staves_fit s good))

@@ -15,8 +15,7 @@ apart : (a b : ℕ) → a < b → (a == b) ≡ false
 apart a b h = grind (arith, nat_tests)
 
 -- ---- slots of one more measure
-slots_on : (lengths : List ℕ) (first m : ℕ) (xs ys : List DrawnMeasure)
-    → measures_slots lengths first m false (xs ++ ys) ≡ measures_slots lengths first m false xs ++ measures_slots lengths first (m + length xs) false ys
+slots_on : (lengths : List ℕ) (first m : ℕ) (xs ys : List DrawnMeasure) → measures_slots lengths first m false (xs ++ ys) ≡ measures_slots lengths first m false xs ++ measures_slots lengths first (m + length xs) false ys
 slots_on lengths first m [] ys = let e : m ≡ m + 0 = omega arith in ap (λ k. measures_slots lengths first k false ys) e
 slots_on lengths first m (x ∷ xs) ys =
     let own = events_slots first m false 0 0 x.events ++ bar_slots lengths m x in
@@ -254,8 +253,7 @@ module _ (s : Score) (good : IsGoodScore s) (a : ℕ) (verses : List ℕ) where
       subst (λ k. AreColumns s a k verses (columns ++ one_after_the_other (c ∷ cs))) e
       (subst (λ t. AreColumns s a (b + 1 + length cs) verses t) (append_assoc columns c (one_after_the_other cs)) rest)
 
-  system_columns : (b : ℕ) (m : SystemMarks) (columns : List Column) → a < b → b ≤ s.measures → IsCall s (timeline_of s) a b m → AreColumns s a b verses columns
-      → columns_of m.keys m.staves (ticks s) verses ≡ columns
+  system_columns : (b : ℕ) (m : SystemMarks) (columns : List Column) → a < b → b ≤ s.measures → IsCall s (timeline_of s) a b m → AreColumns s a b verses columns → columns_of m.keys m.staves (ticks s) verses ≡ columns
   system_columns b m columns order within call (keys, are, value) =
       ap (λ t. columns_of m.keys t (ticks s) verses) call.staves
       ∙ columns_same (ticks s) verses a b s.measures m.keys order within (drawn_staves s) fits (bars b m.keys within call.keys)

@@ -88,8 +88,7 @@ module _ {X : Type 0} (f g h : X → List ColumnKey) (k : ColumnKey) where
       more (inl i) = inl (Contains-append_right (f v) (flat_map f vs) k i)
       more (inr i) = inr (Contains-append_right (g v) (flat_map g vs) k i)
 
-      by : Contains (h v) k ⊎ Contains (flat_map h vs) k → (Contains (flat_map h vs) k → Contains (flat_map f vs) k ⊎ Contains (flat_map g vs) k)
-          → Contains (flat_map f (v ∷ vs)) k ⊎ Contains (flat_map g (v ∷ vs)) k
+      by : Contains (h v) k ⊎ Contains (flat_map h vs) k → (Contains (flat_map h vs) k → Contains (flat_map f vs) k ⊎ Contains (flat_map g vs) k) → Contains (flat_map f (v ∷ vs)) k ⊎ Contains (flat_map g (v ∷ vs)) k
       by (inl i) rest = own (Contains-append_cases (f v) (g v) k (subst (λ t. Contains t k) is.0 i))
       by (inr i) rest = more (rest i)
 

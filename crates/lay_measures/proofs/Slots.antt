@@ -4,9 +4,8 @@ use Rattle.std.{proofs.{Common.{◌≡◌, ◌∙◌, ℕ, pos, ◌+◌, ◌<◌
 use Rattle.{mus_units.specs.{declared.note.Bar.Bar, declared.pitch.Clef.Clef}, mus_score.specs.{declared.score.Event.Event, declared.score.Flat.Flat, declared.score.Seat.Seat, Seats.is_lower}}
 use Rattle.mus_time.specs.{declared.keys.Class.Class, declared.keys.ColumnKey.ColumnKey, Keys.bar_key, Keys.has_features, Keys.head_key, Keys.key_at, Order.rank_of}
 use Rattle.mus_laid.specs.{declared.drawn.Drawn.Drawn, declared.drawn.Ink.Ink, declared.laid.Laid.Laid, Ranked.drawn_at, Ranked.ink_at}
-use Rattle.mus_ink.specs.{declared.graces.Group.Group, Bars.bar_marks, Changes.change_marks, Changes.head_marks, Decos.note_marks, Graces.grace_marks, Graces.group_of}
-use Rattle.{mus_words.specs.{Syllables.syllables_from, Texts.text_marks}, mus_drawn.specs.{declared.drawn.DrawnEvent.DrawnEvent, declared.drawn.DrawnMeasure.DrawnMeasure, Drawn.raise_of}}
-use Rattle.mus_keys.specs.Columns.{note_key}
+use Rattle.{mus_ink.specs.{declared.graces.Group.Group, Bars.bar_marks, Changes.change_marks, Changes.head_marks, Decos.note_marks, Graces.grace_marks, Graces.group_of}, mus_words.specs.{Syllables.syllables_from, Texts.text_marks}}
+use Rattle.{mus_drawn.specs.{declared.drawn.DrawnEvent.DrawnEvent, declared.drawn.DrawnMeasure.DrawnMeasure, Drawn.raise_of}, mus_keys.specs.Columns.{note_key}}
 use Rattle.mus_marks.specs.{Events.change_part, Events.event_marks, Events.events_marks, Events.graces_from, Events.levels_behind, Events.levels_in, Events.measures_marks, Events.no_texts, Events.text_place, Staff.columns_part, Staff.head_part, Staff.meter_shown}
 use Rattle.lay_columns.specs.{Joining.{IsBelow, moved, moved_mark}, Reaches.rank_of as mark_rank}
 use Rattle.lay_measures.specs.Measures.{fixed_place, fixed_room}
@@ -41,8 +40,7 @@ lay_moved n keys keys' (x ∷ xs) h =
 
 pub lay_same : (keys keys' : List ColumnKey) (xs : List Slot) → AllByRecursion (λ x. rank_of keys' x.key ≡ rank_of keys x.key) xs → lay keys' xs ≡ lay keys xs
 lay_same keys keys' [] h = refl
-lay_same keys keys' (x ∷ xs) h =
-    ap (λ q. map (drawn_at q) x.marks ++ lay keys' xs) h.0 ∙ ap (λ t. map (drawn_at (rank_of keys x.key)) x.marks ++ t) (lay_same keys keys' xs h.1)
+lay_same keys keys' (x ∷ xs) h = ap (λ q. map (drawn_at q) x.marks ++ lay keys' xs) h.0 ∙ ap (λ t. map (drawn_at (rank_of keys x.key)) x.marks ++ t) (lay_same keys keys' xs h.1)
 
 -- ---- ranks below some number
 abbrev pub AreBelow : ℕ → List Laid → Type 0
@@ -94,16 +92,14 @@ event_slots first m in_head before after e =
 
 abbrev pub events_slots : ℕ → ℕ → Bool → ℕ → ℕ → List DrawnEvent → List Slot
 events_slots first m in_head group flags [] = []
-events_slots first m in_head group flags (e ∷ es) =
-    event_slots first m in_head (levels_in e.plan group flags) (levels_behind e.plan es) e ++ events_slots first m false e.plan.group e.plan.flags es
+events_slots first m in_head group flags (e ∷ es) = event_slots first m in_head (levels_in e.plan group flags) (levels_behind e.plan es) e ++ events_slots first m false e.plan.group e.plan.flags es
 
 abbrev pub bar_slots : List ℕ → ℕ → DrawnMeasure → List Slot
 bar_slots lengths m d = if is_lower d.seat then [] else slot (bar_key lengths m) (bar_marks d.bar)
 
 abbrev pub measures_slots : List ℕ → ℕ → ℕ → Bool → List DrawnMeasure → List Slot
 measures_slots lengths first m in_head [] = []
-measures_slots lengths first m in_head (d ∷ ds) =
-    (events_slots first m in_head 0 0 d.events ++ bar_slots lengths m d) ++ measures_slots lengths first (m + 1) false ds
+measures_slots lengths first m in_head (d ∷ ds) = (events_slots first m in_head 0 0 d.events ++ bar_slots lengths m d) ++ measures_slots lengths first (m + 1) false ds
 
 abbrev pub head_slots : ℕ → List DrawnMeasure → List Slot
 head_slots a [] = []
@@ -138,8 +134,7 @@ module _ (keys : List ColumnKey) where
   where_so false k xs = refl
 
   module _ (first : ℕ) where
-    event_laid : (m : ℕ) (in_head : Bool) (before after : ℕ) (e : DrawnEvent)
-        → event_marks keys (Some (fixed_place first)) m in_head before after e ≡ lay keys (event_slots first m in_head before after e)
+    event_laid : (m : ℕ) (in_head : Bool) (before after : ℕ) (e : DrawnEvent) → event_marks keys (Some (fixed_place first)) m in_head before after e ≡ lay keys (event_slots first m in_head before after e)
     unfolding event_marks
     event_laid m in_head before after e =
         let changes = change_slots m (in_head || is_lower e.seat) e in
@@ -152,15 +147,13 @@ module _ (keys : List ColumnKey) where
         (one keys (note_key m e) (note_marks e.clef (raise_of e.seat) e.flat.event e.plan before after)))
         (one keys (note_key m e) (words_of first e.flat))
 
-    events_laid : (m : ℕ) (in_head : Bool) (group flags : ℕ) (es : List DrawnEvent)
-        → events_marks keys (Some (fixed_place first)) m in_head group flags es ≡ lay keys (events_slots first m in_head group flags es)
+    events_laid : (m : ℕ) (in_head : Bool) (group flags : ℕ) (es : List DrawnEvent) → events_marks keys (Some (fixed_place first)) m in_head group flags es ≡ lay keys (events_slots first m in_head group flags es)
     events_laid m in_head group flags [] = refl
     events_laid m in_head group flags (e ∷ es) =
         both keys _ _ (event_slots first m in_head (levels_in e.plan group flags) (levels_behind e.plan es) e) (events_slots first m false e.plan.group e.plan.flags es)
         (event_laid m in_head (levels_in e.plan group flags) (levels_behind e.plan es) e) (events_laid m false e.plan.group e.plan.flags es)
 
-    pub measures_laid : (lengths : List ℕ) (m : ℕ) (in_head : Bool) (ds : List DrawnMeasure)
-        → measures_marks keys lengths (Some (fixed_place first)) m in_head ds ≡ lay keys (measures_slots lengths first m in_head ds)
+    pub measures_laid : (lengths : List ℕ) (m : ℕ) (in_head : Bool) (ds : List DrawnMeasure) → measures_marks keys lengths (Some (fixed_place first)) m in_head ds ≡ lay keys (measures_slots lengths first m in_head ds)
     measures_laid lengths m in_head [] = refl
     measures_laid lengths m in_head (d ∷ ds) =
         both keys _ _ (events_slots first m in_head 0 0 d.events ++ bar_slots lengths m d) (measures_slots lengths first (m + 1) false ds)

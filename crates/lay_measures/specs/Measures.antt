@@ -2,10 +2,8 @@
 -- column before, are of no account to columns, so that syllables and texts stand in a place that is always the same.
 use Rattle.std.specs.Prelude.{◌≡◌, ℕ, pos, ◌+◌, ◌-◌, ◌==◌, Bool, true, false, List, [], ◌∷◌, ◌++◌, drop, map, min, slice_get, slice_range, Option, Some, None}
 use Rattle.{mus_score.specs.declared.score.Score.{Score}, mus_time.specs.{declared.keys.Class.Class, declared.keys.ColumnKey.ColumnKey, declared.times.Timeline.Timeline, Keys.AreKeys}}
-use Rattle.{mus_laid.specs.{declared.laid.Laid.Laid, declared.laid.StaffMarks.StaffMarks}, mus_drawn.specs.declared.drawn.{DrawnEvent.DrawnEvent, DrawnMeasure.DrawnMeasure, DrawnVoice.DrawnVoice}}
-use Rattle.mus_keys.specs.Columns.{keys_called}
-use Rattle.mus_marks.specs.{declared.events.Place.Place, declared.events.Room.Room, Events.{changes_nothing, measures_marks}, Staff.columns_part, System.drawn_staves}
-use Rattle.lay_columns.specs.{declared.column.Column.Column, Columns.columns_of}
+use Rattle.{mus_laid.specs.{declared.laid.Laid.Laid, declared.laid.StaffMarks.StaffMarks}, mus_drawn.specs.declared.drawn.{DrawnEvent.DrawnEvent, DrawnMeasure.DrawnMeasure, DrawnVoice.DrawnVoice}, mus_keys.specs.Columns.{keys_called}}
+use Rattle.{mus_marks.specs.{declared.events.Place.Place, declared.events.Room.Room, Events.{changes_nothing, measures_marks}, Staff.columns_part, System.drawn_staves}, lay_columns.specs.{declared.column.Column.Column, Columns.columns_of}}
 
 -- over the lines of the staff
 abbrev pub fixed_room : Room
@@ -59,8 +57,7 @@ further_of m begun None = drop (min m 1) begun
 further_of m begun (Some own) = own
 
 abbrev pub AreFurther : Score → Timeline → ℕ → List ℕ → Option (List Column) → Type 0
-AreFurther s t m verses own =
-    (begun : List Column) → AreMeasureColumns true s t m verses begun → AreMeasureColumns ((m - 1) == m) s t m verses (further_of m begun own)
+AreFurther s t m verses own = (begun : List Column) → AreMeasureColumns true s t m verses begun → AreMeasureColumns ((m - 1) == m) s t m verses (further_of m begun own)
 
 -- the last column is that of a bar
 pub record EndWithBar (columns : List Column) : Type 0 where

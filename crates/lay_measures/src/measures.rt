@@ -1,7 +1,6 @@
 ghost use Rattle.std.specs.Prelude.{◌≡◌, ◌≤◌, ◌<◌, ◌+◌, ◌++◌, ◌==◌, All, IfOk, OnOk, length, map};
-ghost use Rattle.{mus_score.specs.{GoodScore.IsGoodScore, Seats.grouped}, mus_time.specs.{Keys.IsInSystem, Onsets.timeline_of}};
-ghost use Rattle.{mus_drawn.specs.{Drawn.drawn_voice, Good.AreGoodMeasures}, mus_marks.specs.{Staff.verses_on, System.drawn_staves, System.stands_lower}};
-ghost use Rattle.lay_columns.specs.{Columns.IsSmall, Columns.IsUncut, Columns.StandsWhereDue, Lanes.gaps_of};
+ghost use Rattle.{mus_score.specs.{GoodScore.IsGoodScore, Seats.grouped}, mus_time.specs.{Keys.IsInSystem, Onsets.timeline_of}, mus_drawn.specs.{Drawn.drawn_voice, Good.AreGoodMeasures}};
+ghost use Rattle.{mus_marks.specs.{Staff.verses_on, System.drawn_staves, System.stands_lower}, lay_columns.specs.{Columns.IsSmall, Columns.IsUncut, Columns.StandsWhereDue, Lanes.gaps_of}};
 ghost use Rattle.lay_measures.specs.Measures.{AreMeasureColumns, EndWithBar, fixed_place, measure_part, measure_staff, staff_of_columns};
 
 use lay_columns::{Column, columns_in};

@@ -99,8 +99,7 @@ value_more high place next block rest more spots new all spot cut pushed here th
 pub standing_more : (high : ℕ) (place next : Place) (block : Block) (rest more : List Block) (last : Option Standing) → rest ≡ block ∷ more → (more ≡ [] → ⊥) → next ≡ next_place high place block more
     → standing_from high place rest ≡ last → standing_from high next more ≡ last
 standing_more high place next block rest [] last cut some then so_far = absurd (some refl)
-standing_more high place next block rest (b ∷ more) last cut some then so_far =
-    ap (λ p. standing_from high p (b ∷ more)) then ∙ ap (λ bs. standing_from high place bs) (sym cut) ∙ so_far
+standing_more high place next block rest (b ∷ more) last cut some then so_far = ap (λ p. standing_from high p (b ∷ more)) then ∙ ap (λ bs. standing_from high place bs) (sym cut) ∙ so_far
 
 pub some_of : (blocks : List Block) → false ≡ (length blocks == 0) → blocks ≡ [] → ⊥
 some_of [] e h = cc

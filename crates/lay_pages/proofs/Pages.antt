@@ -82,8 +82,7 @@ kept_fits high down group (e ∷ ends) block [] kept fits =
     (fits.0, fits.1, omega (arith, fit), subst (AreFitting high 0 e ends) (drop-nil fits.0) fits.3)
 kept_fits high down group (e ∷ ends) block (next ∷ more) kept fits = at block.keep kept fits
   where
-    at : (keep : Bool) → keep ≡ true
-        → AreFitting high down group (e ∷ ends) (pos (with_kept keep (height_of block.height) (group_height (next ∷ more))) ∷ heights_from keep (next ∷ more))
+    at : (keep : Bool) → keep ≡ true → AreFitting high down group (e ∷ ends) (pos (with_kept keep (height_of block.height) (group_height (next ∷ more))) ∷ heights_from keep (next ∷ more))
         → AreFitting high (down + height_of block.height + 1500) group (e ∷ ends) (group_heights (next ∷ more))
     at true k f =
         let fit : down + (height_of block.height + 1500 + group_height (next ∷ more) + 1500 + stacked (take f.0 (heights_from next.keep more))) ≤ high + 1500 = f.2 in
@@ -95,8 +94,7 @@ loose_first : (block : Block) (more : List Block) → block.keep ≡ false → g
 loose_first block [] loose = refl
 loose_first block (next ∷ more) loose = at block.keep loose
   where
-    at : (keep : Bool) → keep ≡ false
-        → pos (with_kept keep (height_of block.height) (group_height (next ∷ more))) ∷ heights_from keep (next ∷ more) ≡ pos (height_of block.height) ∷ group_heights (next ∷ more)
+    at : (keep : Bool) → keep ≡ false → pos (with_kept keep (height_of block.height) (group_height (next ∷ more))) ∷ heights_from keep (next ∷ more) ≡ pos (height_of block.height) ∷ group_heights (next ∷ more)
     at true k = absurd cc
     at false k = refl
 
@@ -180,8 +178,7 @@ parted_within high group ends place (block ∷ more) good fits = (
 )
 
 -- ---- and comes behind the one before it
-comes : (high : ℕ) (ends : List ℕ) (group : ℕ) (place : Place) (block : Block) → pos 0 ≤ℤ block.height
-    → ComesBehind high block (spot_at high place) (spot_at high (place_behind (turns ends group block) place block))
+comes : (high : ℕ) (ends : List ℕ) (group : ℕ) (place : Place) (block : Block) → pos 0 ≤ℤ block.height → ComesBehind high block (spot_at high place) (spot_at high (place_behind (turns ends group block) place block))
 comes high ends group place block good = by block.keep refl (ends_page ends group)
   where
     by : (keep : Bool) → block.keep ≡ keep → (turn : Bool) → ComesBehind high block (spot_at high place) (spot_at high (place_behind (not keep && turn) place block))
@@ -225,8 +222,7 @@ filled_if high blocks (Err e) within fill = tt
 -- ---- of the chosen parting
 pub chosen_fits : (high : ℕ) (blocks : List Block) (heights : List ℤ) (groups : ℕ) (breaks : List ℕ) → heights ≡ group_heights blocks → groups ≡ length heights
     → IsChosen (page_cost high heights) (λ b. false) groups breaks → AreFitting high 0 0 breaks (group_heights blocks)
-chosen_fits high blocks heights groups breaks is count chosen =
-    subst (AreFitting high 0 0 breaks) is (fitting high heights 0 breaks chosen.legal.rises (chosen.legal.ends ∙ count) chosen.legal.fits)
+chosen_fits high blocks heights groups breaks is count chosen = subst (AreFitting high 0 0 breaks) is (fitting high heights 0 breaks chosen.legal.rises (chosen.legal.ends ∙ count) chosen.legal.fits)
 
 -- ---- one parting is chosen, so blocks have one list of spots
 pub one_spots : (even : Bool) (high : ℕ) (blocks : List Block) (spots others : List Spot) → AreSpots even high blocks spots → AreSpots even high blocks others → spots ≡ others

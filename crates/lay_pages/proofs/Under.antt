@@ -1,7 +1,6 @@
 -- Staves under one another are those that the function of the bases gives.
 use Rattle.std.proofs.{Common.{◌≡◌, refl, sym, ap, ap₂, ◌∙◌, ℕ, suc, ◌+◌, ◌-◌, ◌<◌, ℤ, pos, negsuc, ◌+ℤ◌, ◌-ℤ◌, ◌≤ℤ◌, List, [], ◌∷◌, length, drop, get_or, add-one, drop-cons, arith, subst}, lemmas.Int.ints}
-use Rattle.mus_laid.specs.declared.laid.StaffMarks.{StaffMarks}
-use Rattle.lay_pages.specs.Stacking.{AreGoodStaves, AreStacked, above_base, below_base, under_top, bases_behind, bases_under, bottom_behind, bottom_under}
+use Rattle.{mus_laid.specs.declared.laid.StaffMarks.{StaffMarks}, lay_pages.specs.Stacking.{AreGoodStaves, AreStacked, above_base, below_base, under_top, bases_behind, bases_under, bottom_behind, bottom_under}}
 
 at_top : (top base : ℕ) (high : ℤ) → base ≡ top + above_base high → pos 2000 ≤ℤ high → under_top base +ℤ high ≡ under_top top
 at_top top base (pos n) up good = omega (arith, ints, up)
@@ -13,8 +12,7 @@ at_bottom base bottom (negsuc n) down good = omega (arith, ints, down)
 
 -- one staff of some, by the gap before it
 pub one_more : (staves : List StaffMarks) (gaps : List ℕ) (n bottom base low : ℕ) (s : StaffMarks) (g : ℕ) → n < length staves → n < length gaps → s ≡ get_or staves n s → g ≡ get_or gaps n g
-    → base ≡ bottom + g + above_base s.high → low ≡ base + below_base s.low
-    → (bases_behind bottom (drop n staves) (drop n gaps) ≡ under_top base ∷ bases_behind low (drop (n + 1) staves) (drop (n + 1) gaps))
+    → base ≡ bottom + g + above_base s.high → low ≡ base + below_base s.low → (bases_behind bottom (drop n staves) (drop n gaps) ≡ under_top base ∷ bases_behind low (drop (n + 1) staves) (drop (n + 1) gaps))
     × (bottom_behind bottom (drop n staves) (drop n gaps) ≡ bottom_behind low (drop (n + 1) staves) (drop (n + 1) gaps))
 one_more staves gaps n bottom base low s g l m es eg up down =
     let first : drop n staves ≡ s ∷ drop (n + 1) staves = rw (add-one, drop-cons staves n s) (ap (λ t. t ∷ drop (suc n) staves) (sym es)) in
@@ -40,8 +38,7 @@ stacked_from top base low (gap ∷ gaps) staff (next ∷ more) up down count goo
 )
 stacked_from top base low gaps staff more up down count good = absurd (omega (arith, count))
 
-pub stacked_so : (gaps : List ℕ) (staves : List StaffMarks) → length gaps ≡ length staves - 1 → AreGoodStaves staves
-    → AreStacked (pos 0) gaps staves (bases_under staves gaps) (under_top (bottom_under staves gaps))
+pub stacked_so : (gaps : List ℕ) (staves : List StaffMarks) → length gaps ≡ length staves - 1 → AreGoodStaves staves → AreStacked (pos 0) gaps staves (bases_under staves gaps) (under_top (bottom_under staves gaps))
 stacked_so [] [] count good = omega (arith, ints)
 stacked_so (gap ∷ gaps) [] count good = absurd (omega (arith, count))
 stacked_so gaps (staff ∷ more) count good =

@@ -29,8 +29,7 @@ abbrev pub square : ℕ → ℕ
 square n = n * n
 
 abbrev pub page_cost : ℕ → List ℤ → ℕ → ℕ → Option ℕ
-page_cost high heights a b =
-    if nat_le (span_height heights a b) high then Some (if b == length heights then 0 else square ((high - span_height heights a b) / 100)) else None
+page_cost high heights a b = if nat_le (span_height heights a b) high then Some (if b == length heights then 0 else square ((high - span_height heights a b) / 100)) else None
 
 -- heights of groups that fit on a page
 abbrev pub AreHeights : ℕ → List ℤ → Type 0

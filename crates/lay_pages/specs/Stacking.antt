@@ -12,8 +12,7 @@ AreGoodStaves (staff ∷ more) = ((staff.low ≤ℤ pos 0) × (pos 2000 ≤ℤ s
 abbrev pub AreStacked : ℤ → List ℕ → List StaffMarks → List ℤ → ℤ → Type 0
 AreStacked top [] [] [] bottom = bottom ≡ top
 AreStacked top [] (staff ∷ []) (base ∷ []) bottom = (base +ℤ staff.high ≡ top) × (bottom ≡ base +ℤ staff.low)
-AreStacked top (gap ∷ gaps) (staff ∷ next ∷ more) (base ∷ bases) bottom =
-    (base +ℤ staff.high ≡ top) × AreStacked ((base +ℤ staff.low) -ℤ pos gap) gaps (next ∷ more) bases bottom
+AreStacked top (gap ∷ gaps) (staff ∷ next ∷ more) (base ∷ bases) bottom = (base +ℤ staff.high ≡ top) × AreStacked ((base +ℤ staff.low) -ℤ pos gap) gaps (next ∷ more) bases bottom
 AreStacked top _ _ _ bottom = ⊥
 
 -- The same by how far each base line lies under the top of the block.
@@ -32,8 +31,7 @@ under_top down = pos 0 -ℤ pos down
 abbrev pub bases_behind : ℕ → List StaffMarks → List ℕ → List ℤ
 bases_behind bottom [] gaps = []
 bases_behind bottom (staff ∷ more) [] = []
-bases_behind bottom (staff ∷ more) (gap ∷ gaps) =
-    under_top (bottom + gap + above_base staff.high) ∷ bases_behind (bottom + gap + above_base staff.high + below_base staff.low) more gaps
+bases_behind bottom (staff ∷ more) (gap ∷ gaps) = under_top (bottom + gap + above_base staff.high) ∷ bases_behind (bottom + gap + above_base staff.high + below_base staff.low) more gaps
 
 abbrev pub bases_under : List StaffMarks → List ℕ → List ℤ
 bases_under [] gaps = []

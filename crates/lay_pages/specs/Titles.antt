@@ -1,8 +1,7 @@
 -- The title block of a tune: a row for each title, in the middle; a row for each composer, at the
 -- right; and a row for the tempo, at the left. A text of which nothing is printed has no row.
 use Rattle.std.specs.Prelude.{ℕ, ◌+◌, ◌-◌, ◌*◌, ◌/◌, pos, min, List, [], ◌∷◌, ◌++◌, length, Option, Some, None}
-use Rattle.{mus_units.specs.declared.glyph.Size.{Size}, mus_laid.specs.{Boxes.character_width, Printed.printed_within}}
-use Rattle.lay_pages.specs.{declared.titles.Place.Place, declared.titles.TitleRow.TitleRow, declared.titles.TitleBlock.TitleBlock}
+use Rattle.{mus_units.specs.declared.glyph.Size.{Size}, mus_laid.specs.{Boxes.character_width, Printed.printed_within}, lay_pages.specs.{declared.titles.Place.Place, declared.titles.TitleRow.TitleRow, declared.titles.TitleBlock.TitleBlock}}
 
 -- a row is so high, and its base line so far below its top
 abbrev pub row_height : Size → ℕ
@@ -54,5 +53,4 @@ abbrev pub no_rows : TitleBlock
 no_rows = record { rows = []; height = 0 }
 
 abbrev pub title_block_of : ℕ → List (List ℕ) → List (List ℕ) → Option (List ℕ) → TitleBlock
-title_block_of width titles composers tempo =
-    with_texts width Place.Left (with_texts width Place.Right (with_texts width Place.Middle no_rows titles) composers) (tempo_texts tempo)
+title_block_of width titles composers tempo = with_texts width Place.Left (with_texts width Place.Right (with_texts width Place.Middle no_rows titles) composers) (tempo_texts tempo)

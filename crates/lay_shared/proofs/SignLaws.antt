@@ -83,8 +83,7 @@ id_more (c ∷ word) b all e =
     rw (parts.0, more) refl
 
 written_if : (ids : List (List ℕ)) (word : List ℕ) (b : ℕ) (text : List ℕ) (is : Bool) → is_id b ≡ is → list_all is_id word ≡ true → list_all is_known (signs_from ids word (b ∷ text)) ≡ true
-    → ((w : List ℕ) → list_all is_id w ≡ true → list_all is_known (signs_from ids w text) ≡ true → Writes ids (signs_from ids w text) (w ++ text))
-    → Writes ids (signs_from ids word (b ∷ text)) (word ++ b ∷ text)
+    → ((w : List ℕ) → list_all is_id w ≡ true → list_all is_known (signs_from ids w text) ≡ true → Writes ids (signs_from ids w text) (w ++ text)) → Writes ids (signs_from ids word (b ∷ text)) (word ++ b ∷ text)
 written_if ids word b text true e all known more =
     let inside : list_all is_known (signs_from ids (word ++ b ∷ []) text) ≡ true = rw e at known in
     let there = more (word ++ b ∷ []) (id_more word b all e) inside in

@@ -16,8 +16,7 @@ itself Bracket.Curly = refl
 voices-run : (us vs : List ℕ) (bs : List Bracket) (leads : Bool) (staves : List PlannedStaff) (behind : List Sign)
     → run (reading (Some us) bs leads staves) (voice_signs vs behind) ≡ run (reading (Some (us ++ vs)) bs leads staves) behind
 voices-run us [] bs leads staves behind = ap (λ ws. run (reading (Some ws) bs leads staves) behind) (sym (append-nil us))
-voices-run us (v ∷ vs) bs leads staves behind =
-    voices-run (us ++ v ∷ []) vs bs leads staves behind ∙ ap (λ ws. run (reading (Some ws) bs leads staves) behind) (append_assoc us (v ∷ []) vs)
+voices-run us (v ∷ vs) bs leads staves behind = voices-run (us ++ v ∷ []) vs bs leads staves behind ∙ ap (λ ws. run (reading (Some ws) bs leads staves) behind) (append_assoc us (v ∷ []) vs)
 
 -- whether the next staff leads its group, behind these
 abbrev leads_behind : Bool → List (List ℕ) → Bool
@@ -107,8 +106,7 @@ staff-left bs ss (v ∷ vs, more, e, some, rest) = subst (λ s. Behind bs (Sign.
 
 group-behind : (b : Bracket) (inner : Trees) (more ss : List Sign) (bs : List Bracket) → ss ≡ tree_signs inner (Sign.Ends b ∷ more) → Behind bs more → Behind bs (Sign.Opens b ∷ ss)
 group-behind b inner more ss [] e (trees, f) = (group_tree b inner trees, ap (λ s. Sign.Opens b ∷ s) (e ∙ ap (λ s. tree_signs inner (Sign.Ends b ∷ s)) f))
-group-behind b inner more ss (c ∷ bs) e (trees, others, f, rest) =
-    (group_tree b inner trees, others, ap (λ s. Sign.Opens b ∷ s) (e ∙ ap (λ s. tree_signs inner (Sign.Ends b ∷ s)) f), rest)
+group-behind b inner more ss (c ∷ bs) e (trees, others, f, rest) = (group_tree b inner trees, others, ap (λ s. Sign.Opens b ∷ s) (e ∙ ap (λ s. tree_signs inner (Sign.Ends b ∷ s)) f), rest)
 
 pub none_some : {X : Type 0} (x : X) → None ≡ Some x → ⊥
 none_some x e = cc
@@ -124,8 +122,7 @@ Sound ss = (inside : Option (List ℕ)) (bs : List Bracket) (leads : Bool) (stav
 closed-behind : (b c : Bracket) (same : Bool) (bs : List Bracket) (leads : Bool) (staves got : List PlannedStaff) (ss : List Sign) → same_bracket b c ≡ same
     → run (outside (c ∷ bs) leads staves) (Sign.Ends b ∷ ss) ≡ Some got → Sound ss → Behind (c ∷ bs) (Sign.Ends b ∷ ss)
 closed-behind b c false bs leads staves got ss e h sound = absurd (none_some got (rw e at h))
-closed-behind b c true bs leads staves got ss e h sound =
-    (no_tree, ss, ap (λ x. Sign.Ends x ∷ ss) (same-is b c e), sound None bs (leads || is_empty bs) staves got (rw e at h))
+closed-behind b c true bs leads staves got ss e h sound = (no_tree, ss, ap (λ x. Sign.Ends x ∷ ss) (same-is b c e), sound None bs (leads || is_empty bs) staves got (rw e at h))
 
 sound : (ss : List Sign) → Sound ss
 sound [] None [] leads staves got h = (no_tree, refl)
@@ -134,8 +131,7 @@ sound (Sign.Voice v ∷ ss) (Some us) bs leads staves got h =
     let left = sound ss (Some (us ++ v ∷ [])) bs leads staves got h in
     (v ∷ left.0, left.1, ap (λ s. Sign.Voice v ∷ s) left.2, subst (λ s. 1 ≤ length s) (append_assoc us (v ∷ []) left.0) left.3, left.4)
 sound (Sign.StaffOpens ∷ ss) None bs leads staves got h = staff-left bs ss (sound ss (Some []) bs leads staves got h)
-sound (Sign.StaffEnds ∷ ss) (Some (u ∷ us)) bs leads staves got h =
-    ([], ss, refl, omega arith, sound ss None bs (is_empty bs) (staves ++ planned leads (u ∷ us) ∷ []) got h)
+sound (Sign.StaffEnds ∷ ss) (Some (u ∷ us)) bs leads staves got h = ([], ss, refl, omega arith, sound ss None bs (is_empty bs) (staves ++ planned leads (u ∷ us) ∷ []) got h)
 sound (Sign.Opens b ∷ ss) None bs leads staves got h =
     let left = sound ss None (b ∷ bs) leads staves got h in
     group-behind b left.0 left.1 ss bs left.2 left.3

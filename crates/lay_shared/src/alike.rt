@@ -1,8 +1,7 @@
 //! Whether the voices of each staff are alike.
 
 ghost use Rattle.std.specs.{Prelude.◌≡◌, Prelude.All, Prelude.Decides, Prelude.IfOk, Prelude.length, List.AllByRecursion};
-ghost use Rattle.mus_score.specs.GoodScore.{IsGoodScore, IsGoodVoice};
-ghost use Rattle.lay_shared.specs.{Alike.AreAlike, Alike.DoShare, Alike.story_at, Alike.story_of, Plans.IsPlanFor};
+ghost use Rattle.{mus_score.specs.GoodScore.{IsGoodScore, IsGoodVoice}, lay_shared.specs.{Alike.AreAlike, Alike.DoShare, Alike.story_at, Alike.story_of, Plans.IsPlanFor}};
 
 use crate::plan::{Plan, PlannedStaff};
 use crate::stories::{Change, Story, story_of};

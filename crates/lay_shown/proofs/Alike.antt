@@ -22,8 +22,7 @@ ranks_shape : (all : List Laid) → marks_ranks (marks_shape all) ≡ marks_rank
 ranks_shape [] = refl
 ranks_shape (x ∷ all) = by x.mark (ranks_shape all)
   where
-    by : (mark : Mark) → marks_ranks (marks_shape all) ≡ marks_ranks all
-        → marks_ranks (marks_shape (record { mark = mark; lane = x.lane } ∷ all)) ≡ marks_ranks (record { mark = mark; lane = x.lane } ∷ all)
+    by : (mark : Mark) → marks_ranks (marks_shape all) ≡ marks_ranks all → marks_ranks (marks_shape (record { mark = mark; lane = x.lane } ∷ all)) ≡ marks_ranks (record { mark = mark; lane = x.lane } ∷ all)
     by (Mark.Glyph glyph rank dx dy) e = ap (λ t. rank ∷ t) e
     by (Mark.Words size rank dx dy text) e = ap (λ t. rank ∷ t) e
     by (Mark.Stem rank dx from to) e = ap (λ t. rank ∷ t) e

@@ -1,14 +1,11 @@
 -- Arcs go from the column of an event to that of a later one. The head stands before all notes of a system and
 -- the bar of its last measure behind them, so that an end which the system cuts stands outside of them too.
 use Rattle.std.{proofs.{Common.{◌≡◌, ◌∙◌, ℕ, zero, suc, ◌-◌, ◌<◌, ◌≤◌, ◌⊎◌, inl, inr, Bool, true, false, nat_lt, nat_le, ◌==◌, ◌&&◌, if◌then◌else◌, List, [], ◌∷◌, ◌++◌, length, map, reverse, Option, Some, None, refl, sym, ap, subst, arith}, lemmas.{Bool.{cases_lt, Decides.nat_tests}, List.{Elements.{All-contains, All-from_recursion, recursion_from_All}, Sorted.{All-permutation, IsPermutation-reverse}}, Option.{get_or_from_slice_get, none-some, same_Some, slice_get_within}}}, specs.List.{All, AllByRecursion, Contains, find, list_any, slice_get, slice_index, slice_range}}
-use Rattle.mus_units.specs.declared.note.Head.{Head}
-use Rattle.mus_score.specs.{declared.score.Flat.Flat, declared.score.Measure.Measure, declared.score.Voice.Voice, GoodScore.AreCounted, GoodScore.IsGoodVoice, GoodScore.events_of, Times.flats_of}
-use Rattle.mus_time.{specs.declared.keys.ColumnKey.ColumnKey, specs.Keys.IsInSystem, specs.Keys.bar_key, specs.Keys.head_key, specs.Order.is_below, proofs.Orders.lower}
-use Rattle.mus_stems.proofs.RunLaws.{all_append, all_drop}
+use Rattle.{mus_units.specs.declared.note.Head.{Head}, mus_score.specs.{declared.score.Flat.Flat, declared.score.Measure.Measure, declared.score.Voice.Voice, GoodScore.AreCounted, GoodScore.IsGoodVoice, GoodScore.events_of, Times.flats_of}}
+use Rattle.{mus_time.{specs.{declared.keys.ColumnKey.ColumnKey, Keys.IsInSystem, Keys.bar_key, Keys.head_key, Order.is_below}, proofs.Orders.lower}, mus_stems.proofs.RunLaws.{all_append, all_drop}}
 use Rattle.mus_arcs.specs.{declared.{events.EventAt.EventAt, pairing.{Arc.Arc, Spot.Spot}, cutting.Piece.Piece}, Arcs.{arcs_of, copies, has_pitch, open_ends, slur, slurs, slurs_at, spot, tie, ties_at, ties_from}, Events.{at_measure, events_from, events_of_voice}, Pieces.piece_of}
-use Rattle.{mus_laid.specs.declared.drawn.Bridge.{Bridge}, mus_words.specs.Arcs.{Seen, arc_mark, slur_mark, tie_mark}}
-use Rattle.{mus_drawn.specs.{declared.drawn.DrawnEvent.DrawnEvent, declared.drawn.DrawnMeasure.DrawnMeasure, Drawn.drawn_voice}, mus_keys.specs.Columns.{note_key}}
-use Rattle.mus_bridges.specs.Arcs.{arc_between, arc_in, arcs_between, event_at, event_in, has_id, piece_between, seen_of}
+use Rattle.{mus_laid.specs.declared.drawn.Bridge.{Bridge}, mus_words.specs.Arcs.{Seen, arc_mark, slur_mark, tie_mark}, mus_drawn.specs.{declared.drawn.DrawnEvent.DrawnEvent, declared.drawn.DrawnMeasure.DrawnMeasure, Drawn.drawn_voice}}
+use Rattle.{mus_keys.specs.Columns.{note_key}, mus_bridges.specs.Arcs.{arc_between, arc_in, arcs_between, event_at, event_in, has_id, piece_between, seen_of}}
 use Rattle.{mus_marks.proofs.{GoingOn.{AllGoOn, GoOn, IsEarlier, later_below}, Inside.{HasEvent, HasMeasures, measure_at, there}}, lay_shown.proofs.Between.{AreBetween, IsBetween, both}}
 
 -- ---- the arcs of a voice
@@ -126,8 +123,7 @@ found : (id : ℕ) (es : List DrawnEvent) (e : DrawnEvent) → find (has_id id) 
 found id [] e h = absurd (none-some e h)
 found id (x ∷ xs) e h = by (has_id id x) refl h (found id xs e)
   where
-    by : (c : Bool) → has_id id x ≡ c → (if c then Some x else find (has_id id) xs) ≡ Some e → (find (has_id id) xs ≡ Some e → Contains xs e × (e.flat.event.id ≡ id))
-        → Contains (x ∷ xs) e × (e.flat.event.id ≡ id)
+    by : (c : Bool) → has_id id x ≡ c → (if c then Some x else find (has_id id) xs) ≡ Some e → (find (has_id id) xs ≡ Some e → Contains xs e × (e.flat.event.id ≡ id)) → Contains (x ∷ xs) e × (e.flat.event.id ≡ id)
     by true is g more =
         let own : x ≡ e = same_Some x e g in
         ((0, omega arith, own), ap (λ z. z.flat.event.id) (sym own) ∙ same_number x.flat.event.id id is)
@@ -234,8 +230,7 @@ module _ (keys : List ColumnKey) (lengths : List ℕ) (a b : ℕ) (ds : List Dra
       (measure_at keys lengths a b (b - 1) ds at.0 are.measures (omega (arith, order)) (omega (arith, order)) at.1).bar
 
   has_note : (m id : ℕ) (e : DrawnEvent) → a ≤ m → m < b → IsAt ds m id e → Contains keys (note_key m e)
-  has_note m id e from to at =
-      (event_of (HasEvent keys m) at.measure.events e (measure_at keys lengths a b m ds at.measure are.measures from to at.there).events at.within).note
+  has_note m id e from to at = (event_of (HasEvent keys m) at.measure.events e (measure_at keys lengths a b m ds at.measure are.measures from to at.there).events at.within).note
 
   -- an event of the system stands before its last bar
   before_last : (m id : ℕ) (e : DrawnEvent) → a ≤ m → m < b → IsAt ds m id e → is_below (note_key m e) (bar_key lengths (b - 1)) ≡ true
@@ -257,14 +252,12 @@ module _ (keys : List ColumnKey) (lengths : List ℕ) (a b : ℕ) (ds : List Dra
     | inr same ↦ subst (λ k. is_below (note_key m e) (note_key k f) ≡ true) same (later_below m e f (same_measure m n first last e f same less at at'))
   ]
 
-  ends : (arc : Arc) (e f : DrawnEvent) → GoesOn arc → arc.from < b → a ≤ arc.to → IsAt ds arc.from arc.first e → IsAt ds arc.to arc.last f
-      → (c d : Bool) → nat_lt arc.from a ≡ c → nat_le b arc.to ≡ d
+  ends : (arc : Arc) (e f : DrawnEvent) → GoesOn arc → arc.from < b → a ≤ arc.to → IsAt ds arc.from arc.first e → IsAt ds arc.to arc.last f → (c d : Bool) → nat_lt arc.from a ≡ c → nat_le b arc.to ≡ d
       → IsBetween keys (if c then head_key a else note_key arc.from e) (if d then bar_key lengths (b - 1) else note_key arc.to f)
   ends arc e f on begun over at at' true true p q =
       let order = are.order in
       record { first = are.head; last = has_last_bar; rise = head_bar_below lengths a (b - 1) (omega (arith, order)) }
-  ends arc e f on begun over at at' true false p q =
-      record { first = are.head; last = has_note arc.to arc.last f over (not_most b arc.to q) at'; rise = head_below a arc.to f over }
+  ends arc e f on begun over at at' true false p q = record { first = are.head; last = has_note arc.to arc.last f over (not_most b arc.to q) at'; rise = head_below a arc.to f over }
   ends arc e f on begun over at at' false true p q =
       let from = not_less arc.from a p in
       record { first = has_note arc.from arc.first e from begun at; last = has_last_bar; rise = before_last arc.from arc.first e from begun at }
@@ -286,8 +279,7 @@ module _ (keys : List ColumnKey) (lengths : List ℕ) (a b : ℕ) (ds : List Dra
   unfolding piece_of
   piece_goes arc on = by (nat_lt arc.from b && nat_le a arc.to) refl
     where
-      by : (c : Bool) → (nat_lt arc.from b && nat_le a arc.to) ≡ c
-          → AreBetween keys (piece_between lengths a b ds arc (if c then Some (record { cut_left = nat_lt arc.from a; cut_right = nat_le b arc.to }) else None))
+      by : (c : Bool) → (nat_lt arc.from b && nat_le a arc.to) ≡ c → AreBetween keys (piece_between lengths a b ds arc (if c then Some (record { cut_left = nat_lt arc.from a; cut_right = nat_le b arc.to }) else None))
       by true is = let has = has_piece arc a b is in between arc on has.0 has.1 (event_at ds arc.from arc.first) (event_at ds arc.to arc.last) refl refl
       by false is = tt
 

@@ -1,10 +1,8 @@
 -- Beams go from the column of an event to that of a later one: within a measure the keys of notes rise.
 use Rattle.std.{proofs.{Common.{◌≡◌, ◌∙◌, ℕ, zero, suc, ◌+◌, ◌-◌, Bool, true, false, if◌then◌else◌, List, [], ◌∷◌, map, sym, arith}, lemmas.Bool.Decides.nat_tests}, specs.List.{AllByRecursion, Contains}}
-use Rattle.mus_time.{specs.declared.keys.ColumnKey.ColumnKey, specs.Order.is_below, specs.Order.same_key, proofs.RankLaws.false_not_true}
-use Rattle.mus_drawn.specs.{declared.drawn.DrawnEvent.DrawnEvent, declared.drawn.DrawnMeasure.DrawnMeasure}
+use Rattle.{mus_time.{specs.{declared.keys.ColumnKey.ColumnKey, Order.is_below, Order.same_key}, proofs.RankLaws.false_not_true}, mus_drawn.specs.{declared.drawn.DrawnEvent.DrawnEvent, declared.drawn.DrawnMeasure.DrawnMeasure}}
 use Rattle.mus_bridges.specs.{declared.stems.Stem.Stem, Beams.beam_marks, Beams.beams_at, Beams.beams_from, Beams.goes_on, Beams.last_at, Beams.level_from, Beams.levels_before, Beams.levels_from, Beams.stem_of, Bridges.beams_between, Bridges.stem_at}
-use Rattle.mus_marks.{proofs.GoingOn.AllGoOn, proofs.GoingOn.GoOn, proofs.GoingOn.IsEarlier, proofs.GoingOn.later_below, proofs.Inside.HasEvent, proofs.Inside.HasMeasures}
-use Rattle.lay_shown.proofs.Between.{AreBetween, both, unless}
+use Rattle.{mus_marks.proofs.{GoingOn.AllGoOn, GoingOn.GoOn, GoingOn.IsEarlier, GoingOn.later_below, Inside.HasEvent, Inside.HasMeasures}, lay_shown.proofs.Between.{AreBetween, both, unless}}
 
 -- ---- over stems
 same_itself : (k : ColumnKey) → same_key k k ≡ true

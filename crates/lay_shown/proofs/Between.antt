@@ -1,7 +1,6 @@
 -- Beams and arcs that go from one of the columns of a system to a later one have ranks of such columns.
 use Rattle.std.{proofs.Common.{◌≡◌, Bool, true, false, if◌then◌else◌, List, [], ◌∷◌, ◌++◌, length, map, refl}, specs.List.{AllByRecursion, Contains}}
-use Rattle.mus_stems.proofs.RunLaws.{all_append}
-use Rattle.mus_time.{specs.declared.keys.ColumnKey.ColumnKey, specs.Order.is_below, specs.Order.rank_of, proofs.RankLaws.rank_less, proofs.RankLaws.rank_rises_more}
+use Rattle.{mus_stems.proofs.RunLaws.{all_append}, mus_time.{specs.{declared.keys.ColumnKey.ColumnKey, Order.is_below, Order.rank_of}, proofs.{RankLaws.rank_less, RankLaws.rank_rises_more}}}
 use Rattle.{mus_laid.specs.{declared.drawn.Bridge.Bridge, declared.drawn.Span.Span, Ranked.bridge_at, Ranked.span_at}, lay_shown.{specs.Ranks.IsRanked, proofs.Standing.Ranked}}
 
 module _ (keys : List ColumnKey) where

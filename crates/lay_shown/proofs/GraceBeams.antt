@@ -1,9 +1,8 @@
 -- The beam of graces goes from the column of the first to that of the last, where there are two or more.
 use Rattle.std.{proofs.{Common.{◌≡◌, ℕ, suc, ◌+◌, ◌<◌, true, false, ◌==◌, List, [], ◌∷◌, length, refl, ap, subst, arith}, lemmas.Bool.Decides.nat_tests}, specs.List.{AllByRecursion, flat_map}}
-use Rattle.{mus_score.specs.declared.score.Event.{Event}, mus_time.specs.{declared.keys.Class.Class, declared.keys.ColumnKey.ColumnKey, Keys.key_at, Order.is_below}}
-use Rattle.{mus_ink.specs.Graces.{grace_beam, group_of}, mus_drawn.specs.{declared.drawn.DrawnEvent.DrawnEvent, declared.drawn.DrawnMeasure.DrawnMeasure}}
-use Rattle.{mus_bridges.specs.Bridges.{beam_over, event_grace_beam, grace_beams_between}, mus_marks.{proofs.Inside.HasEvent, proofs.Inside.HasMeasures}}
-use Rattle.lay_shown.proofs.Between.{AreBetween, both, unless}
+use Rattle.{mus_score.specs.declared.score.Event.{Event}, mus_time.specs.{declared.keys.Class.Class, declared.keys.ColumnKey.ColumnKey, Keys.key_at, Order.is_below}, mus_ink.specs.Graces.{grace_beam, group_of}}
+use Rattle.{mus_drawn.specs.{declared.drawn.DrawnEvent.DrawnEvent, declared.drawn.DrawnMeasure.DrawnMeasure}, mus_bridges.specs.Bridges.{beam_over, event_grace_beam, grace_beams_between}}
+use Rattle.{mus_marks.proofs.{Inside.HasEvent, Inside.HasMeasures}, lay_shown.proofs.Between.{AreBetween, both, unless}}
 
 further_below : (m tick i j : ℕ) → i < j → is_below (key_at m tick Class.Grace i) (key_at m tick Class.Grace j) ≡ true
 unfolding is_below
@@ -27,8 +26,7 @@ module _ (keys : List ColumnKey) where
 
   events_go : (m : ℕ) (es : List DrawnEvent) → AllByRecursion (HasEvent keys m) es → AreBetween keys (flat_map (event_grace_beam m) es)
   events_go m [] all = tt
-  events_go m (e ∷ es) all =
-      both keys (event_grace_beam m e) (flat_map (event_grace_beam m) es) (over_graces m e e.flat.graces refl all.0) (events_go m es all.1)
+  events_go m (e ∷ es) all = both keys (event_grace_beam m e) (flat_map (event_grace_beam m) es) (over_graces m e e.flat.graces refl all.0) (events_go m es all.1)
 
   pub grace_beams_go : (lengths : List ℕ) (m : ℕ) (ds : List DrawnMeasure) → HasMeasures keys lengths m ds → AreBetween keys (grace_beams_between m ds)
   grace_beams_go lengths m [] have = tt

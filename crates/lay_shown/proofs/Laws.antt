@@ -8,8 +8,7 @@ use Rattle.mus_marks.{specs.{Staff.staff_marks, System.{IsCall, drawn_staves, st
 use Rattle.lay_shown.{specs.{Ranks.{AreAnchored, AreRanked, IsRanked, marks_ranks, staves_ranks}, Shown.IsShown}, proofs.{Bridged.voices_between, Planned.voice_planned, Printed.texts_printed, Standing.{HasRank, same_rank}, Staves.{IsInside, own_columns, staff_holds, staff_ranked}}}
 
 -- what one of some things has, others have by that thing
-of_each : {X K N : Type 0} (f : X → List K) (g : X → List N) (k : K) (n : N) (xs : List X) → AllByRecursion (λ x. Contains (f x) k → Contains (g x) n) xs
-    → Contains (flat_map f xs) k → Contains (flat_map g xs) n
+of_each : {X K N : Type 0} (f : X → List K) (g : X → List N) (k : K) (n : N) (xs : List X) → AllByRecursion (λ x. Contains (f x) k → Contains (g x) n) xs → Contains (flat_map f xs) k → Contains (flat_map g xs) n
 of_each f g k n [] h (i, inside, is) = absurd (omega (arith, inside))
 of_each f g k n (x ∷ xs) h has = elim (Contains-append_cases (f x) (flat_map f xs) k has) [
   | inl own ↦ Contains-append_left (g x) (flat_map g xs) n (h.0 own)
@@ -30,8 +29,7 @@ rank_is r (Some q) e = ap Some (equal r q e)
 
 rank_held : (r : ℕ) (x : Laid) (xs : List Laid) → anchor_rank x.mark ≡ Some r → Contains xs x → Contains (marks_ranks xs) r
 rank_held r x [] is (i, inside, same) = absurd (omega (arith, inside))
-rank_held r x (y ∷ xs) is (zero, inside, same) =
-    subst (λ o. Contains (cons_option o (marks_ranks xs)) r) (sym (ap (λ (l : Laid). anchor_rank l.mark) same ∙ is)) (here r (marks_ranks xs))
+rank_held r x (y ∷ xs) is (zero, inside, same) = subst (λ o. Contains (cons_option o (marks_ranks xs)) r) (sym (ap (λ (l : Laid). anchor_rank l.mark) same ∙ is)) (here r (marks_ranks xs))
 rank_held r x (y ∷ xs) is (suc i, inside, same) = by (anchor_rank y.mark) (rank_held r x xs is (i, omega (arith, inside), same))
   where
     by : (o : Option ℕ) → Contains (marks_ranks xs) r → Contains (cons_option o (marks_ranks xs)) r
@@ -68,14 +66,12 @@ module _ (s : Score) (a b : ℕ) (m : SystemMarks) (good : IsGoodScore s) (rises
 
   each_ranked : (staves : List (List DrawnVoice)) → AllByRecursion (AllByRecursion (IsInside m.keys lengths a b)) staves → AllByRecursion (λ (s : StaffMarks). AreRanked (length m.keys) s.marks) (map staff staves)
   each_ranked [] h = tt
-  each_ranked (voices ∷ staves) h =
-      (All-from_recursion (λ laid. IsRanked (length m.keys) laid.mark) (staff voices).marks (staff_ranked m.keys lengths a b voices rises h.0), each_ranked staves h.1)
+  each_ranked (voices ∷ staves) h = (All-from_recursion (λ laid. IsRanked (length m.keys) laid.mark) (staff voices).marks (staff_ranked m.keys lengths a b voices rises h.0), each_ranked staves h.1)
 
   each_holds : (k : ColumnKey) → Contains m.keys k → (staves : List (List DrawnVoice)) → AllByRecursion (AllByRecursion (IsInside m.keys lengths a b)) staves
       → AllByRecursion (λ voices. Contains (flat_map (own_columns lengths a b) voices) k → Contains (marks_ranks (staff voices).marks) (rank_of m.keys k)) staves
   each_holds k inside [] h = tt
-  each_holds k inside (voices ∷ staves) h =
-      (λ has. ranks_hold (rank_of m.keys k) (staff voices).marks (staff_holds m.keys lengths a b voices rises h.0 k inside has), each_holds k inside staves h.1)
+  each_holds k inside (voices ∷ staves) h = (λ has. ranks_hold (rank_of m.keys k) (staff voices).marks (staff_holds m.keys lengths a b voices rises h.0 k inside has), each_holds k inside staves h.1)
 
   -- a column that is called for is called for by a staff
   staff_calls : (k : ColumnKey) → Contains m.keys k → Contains (flat_map (flat_map (own_columns lengths a b)) (drawn_staves s)) k

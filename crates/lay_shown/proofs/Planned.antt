@@ -105,12 +105,10 @@ pub record IsMeasureAt (seat : Seat) (d : DrawnMeasure) : Type 0 where
   pub events : ArePlanned seat d.events
 
 module _ (style : Style) where
-  events_planned : (tick : ℕ) (now : Standing) (fs : List Flat) (ps : List StemPlan) → Along (λ f p. IsPlanOf f.event p) fs ps
-      → ArePlanned style.seat (drawn_events style tick now fs ps)
+  events_planned : (tick : ℕ) (now : Standing) (fs : List Flat) (ps : List StemPlan) → Along (λ f p. IsPlanOf f.event p) fs ps → ArePlanned style.seat (drawn_events style tick now fs ps)
   events_planned tick now [] ps h = tt
   events_planned tick now (f ∷ fs) [] h = tt
-  events_planned tick now (f ∷ fs) (p ∷ ps) h =
-      (record { sits = refl; plan = h.0 }, events_planned (tick + f.duration) (standing_after now f.event.changes) fs ps h.1)
+  events_planned tick now (f ∷ fs) (p ∷ ps) h = (record { sits = refl; plan = h.0 }, events_planned (tick + f.duration) (standing_after now f.event.changes) fs ps h.1)
 
   measure_planned : (now : Standing) (m : Measure) → IsMeasureAt style.seat (drawn_measure style now m)
   unfolding drawn_measure

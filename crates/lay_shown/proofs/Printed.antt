@@ -1,11 +1,10 @@
 -- The texts of the marks that a score calls for can be printed.
 use Rattle.std.{proofs.{Common.{ℕ, ◌≤◌, length, List, [], ◌∷◌, map, refl, sym, subst, arith}, lemmas.{Bool.Decides.nat_tests, List.Elements.All-from_recursion}}, specs.List.{All, AllByRecursion}}
-use Rattle.{mus_units.specs.{declared.key.Meter.Meter, Good.IsGoodMeter}, mus_score.specs.{declared.score.Score.Score, GoodScore.IsGoodScore}}
-use Rattle.mus_time.specs.{declared.keys.ColumnKey.ColumnKey, declared.times.Timeline.Timeline}
-use Rattle.mus_laid.specs.{declared.drawn.Span.Span, declared.laid.Laid.Laid, declared.laid.StaffMarks.StaffMarks, declared.laid.SystemMarks.SystemMarks, Ranked.drawn_at, Ranked.span_at}
-use Rattle.{mus_ink.specs.Signatures.{meter_marks}, mus_words.proofs.EachWord.{IsShown}, mus_drawn.specs.declared.drawn.DrawnVoice.{DrawnVoice}}
-use Rattle.mus_marks.{specs.Staff.staff_marks, specs.Staff.verses_on, specs.System.IsCall, specs.System.drawn_staves, proofs.Fitting.staves_fit, proofs.Parts.FitsVoice, proofs.Parts.OfLaid, proofs.Parts.staff_all}
-use Rattle.lay_shown.{specs.Texts.HasPrinted, specs.Texts.HavePrinted, specs.Texts.IsPrinted, proofs.PrintedTexts.digits_printed, proofs.PrintedTexts.text_printed}
+use Rattle.{mus_units.specs.{declared.key.Meter.Meter, Good.IsGoodMeter}, mus_score.specs.{declared.score.Score.Score, GoodScore.IsGoodScore}, mus_time.specs.{declared.keys.ColumnKey.ColumnKey, declared.times.Timeline.Timeline}}
+use Rattle.{mus_laid.specs.{declared.drawn.Span.Span, declared.laid.Laid.Laid, declared.laid.StaffMarks.StaffMarks, declared.laid.SystemMarks.SystemMarks, Ranked.drawn_at, Ranked.span_at}, mus_ink.specs.Signatures.{meter_marks}}
+use Rattle.{mus_words.proofs.EachWord.{IsShown}, mus_drawn.specs.declared.drawn.DrawnVoice.{DrawnVoice}}
+use Rattle.mus_marks.{specs.{Staff.staff_marks, Staff.verses_on, System.IsCall, System.drawn_staves}, proofs.{Fitting.staves_fit, Parts.FitsVoice, Parts.OfLaid, Parts.staff_all}}
+use Rattle.lay_shown.{specs.{Texts.HasPrinted, Texts.HavePrinted, Texts.IsPrinted}, proofs.{PrintedTexts.digits_printed, PrintedTexts.text_printed}}
 
 abbrev IsGood : Laid → Type 0
 IsGood laid = HasPrinted laid.mark

@@ -1,15 +1,14 @@
 -- The marks of the voices of a staff that stand in columns stand in those that these voices call for, and each of these holds one. A lower
 -- voice of a staff has columns of its notes and graces alone.
 use Rattle.std.{proofs.{Common.{◌≡◌, ℕ, zero, suc, ◌+◌, ◌-◌, ◌<◌, ◌≤◌, inl, inr, Bool, true, false, not, ◌==◌, ◌&&◌, ◌||◌, if◌then◌else◌, List, [], ◌∷◌, ◌++◌, append_assoc, length, length-drop, length-take, map, drop, Option, refl, subst, arith}, lemmas.{Bool.Decides.nat_tests, List.Elements.{Contains-append_cases, Contains-append_left, Contains-append_right, filter-append}}}, specs.List.{AllByRecursion, Contains, slice_range}}
-use Rattle.{mus_units.specs.{declared.note.Bar.Bar, declared.pitch.Clef.Clef}, mus_score.specs.{declared.score.Event.Event, declared.score.Seat.Seat, Seats.is_lower}}
-use Rattle.mus_stems.proofs.RunLaws.{all_append, all_drop, all_take}
+use Rattle.{mus_units.specs.{declared.note.Bar.Bar, declared.pitch.Clef.Clef}, mus_score.specs.{declared.score.Event.Event, declared.score.Seat.Seat, Seats.is_lower}, mus_stems.proofs.RunLaws.{all_append, all_drop, all_take}}
 use Rattle.mus_time.{specs.{declared.keys.{Class.Class, ColumnKey.ColumnKey}, Order.rank_of, Keys.{bar_key, change_has_mark, change_keys, event_keys, grace_keys, has_features, head_key, is_for_each, key_at, keys_by}}, proofs.RankLaws.rank_less}
 use Rattle.mus_laid.specs.{declared.drawn.Drawn.Drawn, declared.drawn.Ink.Ink, declared.laid.Laid.Laid, Ranked.anchor_rank, Ranked.drawn_at, Ranked.ink_at, Ranked.is_rank, Ranked.stands_at}
 use Rattle.mus_ink.specs.{declared.graces.Group.Group, Bars.bar_marks, Changes.change_marks, Changes.head_marks, Decos.note_marks, Graces.grace_marks, Graces.group_of}
 use Rattle.mus_drawn.specs.{declared.drawn.DrawnEvent.DrawnEvent, declared.drawn.DrawnMeasure.DrawnMeasure, declared.drawn.DrawnVoice.DrawnVoice, Drawn.raise_of}
-use Rattle.{mus_keys.specs.Columns.{events_columns, has_old, measures_columns, voice_columns}, mus_keys.specs.Columns.{note_key}}
+use Rattle.mus_keys.specs.{Columns.{events_columns, has_old, measures_columns, voice_columns}, Columns.{note_key}}
 use Rattle.mus_marks.{specs.{declared.events.Place.Place, Events.{change_part, event_marks, events_marks, graces_from, levels_behind, levels_in, measures_marks, words_marks, words_part}, Staff.{columns_part, head_part, meter_shown, own_part}}, proofs.Inside.{AreAmong, among_left, among_right, here}}
-use Rattle.lay_shown.{specs.Ranks.IsRanked, proofs.Filled.HasSome, proofs.Filled.bar_some, proofs.Filled.change_has, proofs.Filled.grace_some, proofs.Filled.has_some, proofs.Filled.head_some, proofs.Filled.note_some, proofs.Planned.ArePlanned, proofs.Planned.IsMeasureAt, proofs.Planned.IsPlanOf}
+use Rattle.lay_shown.{specs.Ranks.IsRanked, proofs.{Filled.HasSome, Filled.bar_some, Filled.change_has, Filled.grace_some, Filled.has_some, Filled.head_some, Filled.note_some, Planned.ArePlanned, Planned.IsMeasureAt, Planned.IsPlanOf}}
 
 -- `AreRanked` by recursion on the marks
 abbrev pub Ranked : ℕ → List Laid → Type 0
@@ -87,8 +86,7 @@ module _ (keys : List ColumnKey) where
   none lower = record { ranked = λ among. tt; anchored = λ k has. absurd (no_key lower k has) }
 
   -- one column, if it has a mark
-  any : (lower : Bool) (key : ColumnKey) (ds : List Drawn) → keys_by lower (key ∷ []) ≡ key ∷ []
-      → Fill lower (if has_some ds then key ∷ [] else []) (map (drawn_at (rank_of keys key)) ds)
+  any : (lower : Bool) (key : ColumnKey) (ds : List Drawn) → keys_by lower (key ∷ []) ≡ key ∷ [] → Fill lower (if has_some ds then key ∷ [] else []) (map (drawn_at (rank_of keys key)) ds)
   any lower key [] own = none lower
   any lower key (d ∷ ds) own = record {
     ranked = λ among. drawn_ranked (length keys) (rank_of keys key) (d ∷ ds) (rank_less keys key (subst (λ t. AreAmong t keys) own among key (here key [])));
@@ -106,8 +104,7 @@ module _ (keys : List ColumnKey) where
   not_lower : (b : Bool) (key : ColumnKey) → is_for_each key ≡ false → Fill true (if b then key ∷ [] else []) []
   not_lower b key other = record { ranked = λ among. tt; anchored = λ k has. absurd (no_key false k (subst (λ t. Contains t k) (left_out b key other) has)) }
 
-  by_first : (lower : Bool) (key : ColumnKey) (ds : List Drawn) → is_for_each key ≡ false → HasSome ds
-      → Fill lower (key ∷ []) (if lower then [] else map (drawn_at (rank_of keys key)) ds)
+  by_first : (lower : Bool) (key : ColumnKey) (ds : List Drawn) → is_for_each key ≡ false → HasSome ds → Fill lower (key ∷ []) (if lower then [] else map (drawn_at (rank_of keys key)) ds)
   by_first true key ds other some = not_lower true key other
   by_first false key ds other some = one false key ds refl some
 

@@ -1,10 +1,9 @@
 -- The marks of a staff stand in columns of the system, and each column that its voices call for holds one.
 use Rattle.std.{proofs.{Common.{ℕ, ◌+◌, ◌<◌, ◌≤◌, inl, inr, List, [], ◌∷◌, ◌++◌, length, Option, Some, arith}, lemmas.List.Elements.Contains-append_cases}, specs.List.{AllByRecursion, Contains, flat_map}}
-use Rattle.{mus_score.specs.Seats.{is_lower}, mus_stems.proofs.RunLaws.{all_append}}
-use Rattle.{mus_time.{specs.declared.keys.ColumnKey.ColumnKey, specs.Keys.keys_by, specs.Order.rank_of, proofs.RankLaws.rank_less}, mus_laid.specs.{declared.laid.Laid.Laid, Ranked.by_columns}}
-use Rattle.{mus_drawn.specs.declared.drawn.DrawnVoice.{DrawnVoice}, mus_keys.specs.Columns.{voice_columns}, mus_bridges.specs.Bridges.{bridges_of}}
+use Rattle.{mus_score.specs.Seats.{is_lower}, mus_stems.proofs.RunLaws.{all_append}, mus_time.{specs.{declared.keys.ColumnKey.ColumnKey, Keys.keys_by, Order.rank_of}, proofs.RankLaws.rank_less}}
+use Rattle.{mus_laid.specs.{declared.laid.Laid.Laid, Ranked.by_columns}, mus_drawn.specs.declared.drawn.DrawnVoice.{DrawnVoice}, mus_keys.specs.Columns.{voice_columns}, mus_bridges.specs.Bridges.{bridges_of}}
 use Rattle.mus_marks.{specs.{declared.events.{Place.Place, Room.Room, Texts.Texts}, Staff.{own_part, room_over, staff_bridges, staff_marks, staff_over, texts_behind, verses_on, bare_marks, written_parts}}, proofs.{Columned.{columned_all, columned_has}, Inside.AreAmong}}
-use Rattle.lay_shown.{specs.Ranks.IsRanked, proofs.Between.AreBetween, proofs.Between.both, proofs.Between.bridges_ranked, proofs.Planned.IsMeasureAt, proofs.Standing.HasRank, proofs.Standing.Ranked, proofs.Standing.columns, proofs.Standing.rank_left, proofs.Standing.rank_right}
+use Rattle.lay_shown.{specs.Ranks.IsRanked, proofs.{Between.AreBetween, Between.both, Between.bridges_ranked, Planned.IsMeasureAt, Standing.HasRank, Standing.Ranked, Standing.columns, Standing.rank_left, Standing.rank_right}}
 
 -- the columns that a voice calls for on its staff
 abbrev pub own_columns : List ℕ → ℕ → ℕ → DrawnVoice → List ColumnKey

@@ -9,8 +9,7 @@ abbrev Stand : ℕ → ℕ → List TitleRow → Type 0
 Stand width height rows = AllByRecursion (IsGoodRow width height) rows
 
 good_in_more : (width low high : ℕ) (row : TitleRow) → low ≤ high → IsGoodRow width low row → IsGoodRow width high row
-good_in_more width low high row more good =
-    record { left = good.left; right = good.right; top = good.top; bottom = omega (arith, ints, more, good.bottom); text = good.text }
+good_in_more width low high row more good = record { left = good.left; right = good.right; top = good.top; bottom = omega (arith, ints, more, good.bottom); text = good.text }
 
 stand_in_more : (width low high : ℕ) (rows : List TitleRow) → low ≤ high → Stand width low rows → Stand width high rows
 stand_in_more width low high [] more stand = tt
@@ -51,8 +50,7 @@ texts_stand width place block (text ∷ texts) stand =
     texts_stand width place (with_text width place block text) texts
     (with_row_stand width block place (row_text width place text) (text_of_row width place text) stand)
 
-pub rows_stand : (width : ℕ) (titles composers : List (List ℕ)) (tempo : Option (List ℕ))
-    → All (IsGoodRow width (title_block_of width titles composers tempo).height) (title_block_of width titles composers tempo).rows
+pub rows_stand : (width : ℕ) (titles composers : List (List ℕ)) (tempo : Option (List ℕ)) → All (IsGoodRow width (title_block_of width titles composers tempo).height) (title_block_of width titles composers tempo).rows
 rows_stand width titles composers tempo =
     All-from_recursion (IsGoodRow width (title_block_of width titles composers tempo).height) _
     (texts_stand width Place.Left _ (tempo_texts tempo) (texts_stand width Place.Right _ composers (texts_stand width Place.Middle _ titles tt)))

@@ -49,8 +49,7 @@ get_back : {C : Type 0} (xs ys : List C) (i : ℕ) → slice_get (xs ++ ys) (len
 get_back [] ys i = let e : zero + i ≡ i = omega arith in ap (λ k. slice_get ys k) e
 get_back (x ∷ xs) ys i = let e : suc (length xs) + i ≡ suc (length xs + i) = omega arith in ap (λ k. slice_get (x ∷ (xs ++ ys)) k) e ∙ get_back xs ys i
 
-pub ends_so : {C : Type 0} (reach : C → ℕ → Option Reach) (lanes : ℕ) (xs ys : List C) → EndsInAll reach lanes ys
-    → StandsInAll (reach_at reach (xs ++ ys) (length (xs ++ ys) - 1)) lanes
+pub ends_so : {C : Type 0} (reach : C → ℕ → Option Reach) (lanes : ℕ) (xs ys : List C) → EndsInAll reach lanes ys → StandsInAll (reach_at reach (xs ++ ys) (length (xs ++ ys) - 1)) lanes
 ends_so reach lanes xs ys h = λ lane l.
     let s = h.last lane l in
     let some = h.some in

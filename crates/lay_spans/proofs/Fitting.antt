@@ -23,8 +23,7 @@ longer_stands reach len gaps width force starts others a b c h l m n some stands
 
 -- a force that is too great for a span is too great for the span with one measure more
 pub still_above : {C : Type 0} (reach : C → ℕ → Option Reach) (len : C → ℕ → ℕ) (gaps : List ℕ) (width most : ℕ) (starts others : List (List C)) (a m : ℕ)
-    → AreMeasures reach (length gaps) starts others → a < length starts → m < length starts
-    → ((g : ℕ) → most < g → g ≤ 2048 → (a < m) × (StandsAt reach len gaps width g (span_columns starts others a m) → ⊥))
+    → AreMeasures reach (length gaps) starts others → a < length starts → m < length starts → ((g : ℕ) → most < g → g ≤ 2048 → (a < m) × (StandsAt reach len gaps width g (span_columns starts others a m) → ⊥))
     → (g : ℕ) → most < g → g ≤ 2048 → StandsAt reach len gaps width g (span_columns starts others a (m + 1)) → ⊥
 still_above reach len gaps width most starts others a m h inside l before g past within stands =
     let shorter = before g past within in
@@ -74,14 +73,10 @@ force_of f reach len gaps width most seen columns force e small bound fits great
 
 -- columns whose end passes the width can't stand there
 pub passes_never : {C : Type 0} (reach : C → ℕ → Option Reach) (len : C → ℕ → ℕ) (gaps : List ℕ) (width : ℕ) (columns : List C) (force : Option ℕ)
-    → 0 < length columns → IfNone force (Passes (length columns) (reach_at reach columns) gaps (length_at len columns) width 0)
-    → IfNone force (StandsAt reach len gaps width 0 columns → ⊥)
+    → 0 < length columns → IfNone force (Passes (length columns) (reach_at reach columns) gaps (length_at len columns) width 0) → IfNone force (StandsAt reach len gaps width 0 columns → ⊥)
 passes_never reach len gaps width columns (Some f) some h = tt
-passes_never reach len gaps width columns None some h =
-    cannot_stand (length columns) (reach_at reach columns) gaps (length_at len columns) width 0 0 some (λ i. omega arith) h
+passes_never reach len gaps width columns None some h = cannot_stand (length columns) (reach_at reach columns) gaps (length_at len columns) width 0 0 some (λ i. omega arith) h
 
 pub never_stands : {D C : Type 0} (f : D → C) (reach : C → ℕ → Option Reach) (len : C → ℕ → ℕ) (gaps : List ℕ) (width : ℕ)
-    (seen : List D) (columns : List C) → map f seen ≡ columns → (StandsAt (λ s lane. reach (f s) lane) (λ s g. len (f s) g) gaps width 0 seen → ⊥)
-    → StandsAt reach len gaps width 0 columns → ⊥
-never_stands f reach len gaps width seen columns e never stands =
-    never (subst (λ T. T) (sym (seen_as f reach len (λ n r l. CanStand n r gaps l width 0) seen columns e)) stands)
+    (seen : List D) (columns : List C) → map f seen ≡ columns → (StandsAt (λ s lane. reach (f s) lane) (λ s g. len (f s) g) gaps width 0 seen → ⊥) → StandsAt reach len gaps width 0 columns → ⊥
+never_stands f reach len gaps width seen columns e never stands = never (subst (λ T. T) (sym (seen_as f reach len (λ n r l. CanStand n r gaps l width 0) seen columns e)) stands)

@@ -6,10 +6,8 @@ use Rattle.lay_spans.{specs.{Columns.{measures_from, span_columns, AreMeasures},
 
 -- the columns that are seen, with one measure more
 pub seen_more : {D C : Type 0} (f : D → C) (old new : List D) (starts others : List (List C)) (a m : ℕ) → a ≤ m → m < length starts → length others ≡ length starts
-    → map f old ≡ span_columns starts others a m → map f new ≡ map f old ++ slice_index_or (measures_from starts others a) (m - a) []
-    → map f new ≡ span_columns starts others a (m + 1)
-seen_more f old new starts others a m l k same e added =
-    added ∙ ap (λ cs. cs ++ slice_index_or (measures_from starts others a) (m - a) []) e ∙ sym (columns_more starts others a m l k same)
+    → map f old ≡ span_columns starts others a m → map f new ≡ map f old ++ slice_index_or (measures_from starts others a) (m - a) [] → map f new ≡ span_columns starts others a (m + 1)
+seen_more f old new starts others a m l k same e added = added ∙ ap (λ cs. cs ++ slice_index_or (measures_from starts others a) (m - a) []) e ∙ sym (columns_more starts others a m l k same)
 
 -- columns that are placed are placed among those that are seen with one measure more
 pub placed_more : {D C : Type 0} (f : D → C) (reach : C → ℕ → Option Reach) (len : C → ℕ → ℕ) (gaps : List ℕ) (p : Progress) (x x' more fronts : List ℤ)
@@ -28,8 +26,7 @@ placed_more f reach len gaps p x x' more fronts seen starts others a m l k same 
     (placed_on reach len (span_columns starts others a m) next gaps p x more fronts (omega arith) h)))
 
 -- what holds of each place of a list holds of each once one more is added
-pub each_more : {X : Type 0} (P : ℕ → X → Type 0) (xs : List X) (x d : X) → ((k : ℕ) → k < length xs → P k (get_or xs k d)) → P (length xs) x
-    → (k : ℕ) → k < length (xs ++ x ∷ []) → P k (get_or (xs ++ x ∷ []) k d)
+pub each_more : {X : Type 0} (P : ℕ → X → Type 0) (xs : List X) (x d : X) → ((k : ℕ) → k < length xs → P k (get_or xs k d)) → P (length xs) x → (k : ℕ) → k < length (xs ++ x ∷ []) → P k (get_or (xs ++ x ∷ []) k d)
 each_more P xs x d each here k l =
     let n = length-append xs (x ∷ []) in
     below_or_at (λ k. P k (get_or (xs ++ x ∷ []) k d)) k (length xs) (omega arith)
@@ -38,8 +35,7 @@ each_more P xs x d each here k l =
 
 pub costs_more : {C : Type 0} (reach : C → ℕ → Option Reach) (len : C → ℕ → ℕ) (gaps : List ℕ) (width : ℕ) (starts others : List (List C)) (forced : ℕ → Bool)
     (a m : ℕ) (row : List ℕ) (v : ℕ) → a + length row ≡ m → ((k : ℕ) → k < length row → IsCost reach len gaps width starts others forced a (a + 1 + k) (slice_index row k))
-    → IsCost reach len gaps width starts others forced a (m + 1) v
-    → (k : ℕ) → k < length (row ++ v ∷ []) → IsCost reach len gaps width starts others forced a (a + 1 + k) (slice_index (row ++ v ∷ []) k)
+    → IsCost reach len gaps width starts others forced a (m + 1) v → (k : ℕ) → k < length (row ++ v ∷ []) → IsCost reach len gaps width starts others forced a (a + 1 + k) (slice_index (row ++ v ∷ []) k)
 costs_more reach len gaps width starts others forced a m row v e each here =
     let same : m + 1 ≡ a + 1 + length row = omega arith in
     each_more (λ k v. IsCost reach len gaps width starts others forced a (a + 1 + k) v) row v 0 each
@@ -71,8 +67,7 @@ stops_at reach len gaps width starts others forced a m row h inside l e each nev
 
 -- or behind a forced bar
 pub stops_behind : {C : Type 0} (reach : C → ℕ → Option Reach) (len : C → ℕ → ℕ) (gaps : List ℕ) (width : ℕ) (starts others : List (List C)) (forced : ℕ → Bool)
-    (a m : ℕ) (row : List ℕ) → m < length starts → a + length row ≡ m + 1 → a ≤ m
-    → ((k : ℕ) → k < length row → IsCost reach len gaps width starts others forced a (a + 1 + k) (slice_index row k)) → forced (m + 1) ≡ true
+    (a m : ℕ) (row : List ℕ) → m < length starts → a + length row ≡ m + 1 → a ≤ m → ((k : ℕ) → k < length row → IsCost reach len gaps width starts others forced a (a + 1 + k) (slice_index row k)) → forced (m + 1) ≡ true
     → IsRowFrom reach len gaps width starts others forced a row
 stops_behind reach len gaps width starts others forced a m row l e k each is = record {
   within = omega arith;
@@ -91,8 +86,7 @@ rows_are_spans reach len gaps width starts others forced rows h =
     tt
 
 pub rows_tell_spans : {C : Type 0} (reach : C → ℕ → Option Reach) (len : C → ℕ → ℕ) (gaps : List ℕ) (width : ℕ) (starts others : List (List C)) (forced : ℕ → Bool)
-    (rows : List (List ℕ)) → IsTable (λ a row. IsRowFrom reach len gaps width starts others forced a row) (length starts) rows
-    → IsSpanList reach len gaps width starts others forced (rows_spans 0 rows)
+    (rows : List (List ℕ)) → IsTable (λ a row. IsRowFrom reach len gaps width starts others forced a row) (length starts) rows → IsSpanList reach len gaps width starts others forced (rows_spans 0 rows)
 rows_tell_spans {C} reach len gaps width starts others forced rows h = record {
   each = λ a b v l m is.
       let row = slice_index_or rows a [] in

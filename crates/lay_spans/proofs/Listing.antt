@@ -1,7 +1,6 @@
 -- Rows of costs as a list of spans.
 use Rattle.std.proofs.{Common.{◌≡◌, ℕ, suc, ◌+◌, ◌-◌, ◌<◌, ◌≤◌, ◌^◌, ◌⊎◌, List, [], ◌∷◌, ◌++◌, length, Option, None, Some, MatchOption, slice_index, slice_index_or, nat_lt, option_and_then, slice_get, true, false, arith, sym, ◌∙◌, ap, subst, refl, inl, inr}, lemmas.{Bool.{cases_eq, cases_lt, Decides.nat_tests}, List.get_or_past, Option.{slice_get_past, slice_get-get_or}}}
-use Rattle.{lay_breaks.specs.{declared.costs.Span.Span, Spans.AreSpans, Spans.SpansFrom, Spans.listed, Spans.has_ends, Spans.has_these}, lay_rows.specs.Costs.{cost_in}}
-use Rattle.lay_spans.specs.Rows.{row_spans, rows_spans}
+use Rattle.{lay_breaks.specs.{declared.costs.Span.Span, Spans.AreSpans, Spans.SpansFrom, Spans.listed, Spans.has_ends, Spans.has_these}, lay_rows.specs.Costs.{cost_in}, lay_spans.specs.Rows.{row_spans, rows_spans}}
 
 pub listed_here : (a b : ℕ) (s : Span) (ss : List Span) → s.a ≡ a → s.b ≡ b → listed (s ∷ ss) a b ≡ Some s.badness
 listed_here a b s ss e f = rw (has_these a b s e f) refl
@@ -24,19 +23,16 @@ in_row a b (v ∷ vs) rest c l m = elim (cases_eq b c) [
 
 pub past_row : (a b : ℕ) (row : List ℕ) (rest : List Span) (c : ℕ) → b + length row ≤ c → listed (row_spans a b row ++ rest) a c ≡ listed rest a c
 past_row a b [] rest c l = refl
-past_row a b (v ∷ vs) rest c l =
-    listed_behind a c (record { a = a; b = b; badness = v }) (row_spans a (b + 1) vs ++ rest) (λ e f. omega arith) ∙ past_row a (b + 1) vs rest c (omega arith)
+past_row a b (v ∷ vs) rest c l = listed_behind a c (record { a = a; b = b; badness = v }) (row_spans a (b + 1) vs ++ rest) (λ e f. omega arith) ∙ past_row a (b + 1) vs rest c (omega arith)
 
 pub other_row : (m b : ℕ) (row : List ℕ) (rest : List Span) (a c : ℕ) → (m ≡ a → ⊥) → listed (row_spans m b row ++ rest) a c ≡ listed rest a c
 other_row m b [] rest a c d = refl
-other_row m b (v ∷ vs) rest a c d =
-    listed_behind a c (record { a = m; b = b; badness = v }) (row_spans m (b + 1) vs ++ rest) (λ e f. d e) ∙ other_row m (b + 1) vs rest a c d
+other_row m b (v ∷ vs) rest a c d = listed_behind a c (record { a = m; b = b; badness = v }) (row_spans m (b + 1) vs ++ rest) (λ e f. d e) ∙ other_row m (b + 1) vs rest a c d
 
 -- the spans of the rows from m on
 pub before_rows : (m : ℕ) (rows : List (List ℕ)) (a c : ℕ) → a < m → listed (rows_spans m rows) a c ≡ None
 before_rows m [] a c l = refl
-before_rows m (row ∷ rows) a c l =
-    other_row m (m + 1) row (rows_spans (m + 1) rows) a c (λ e. omega arith) ∙ before_rows (m + 1) rows a c (omega arith)
+before_rows m (row ∷ rows) a c l = other_row m (m + 1) row (rows_spans (m + 1) rows) a c (λ e. omega arith) ∙ before_rows (m + 1) rows a c (omega arith)
 
 pub in_rows : (m : ℕ) (rows : List (List ℕ)) (a c : ℕ) → m ≤ a → a < c → c ≤ a + length (slice_index_or rows (a - m) [])
     → listed (rows_spans m rows) a c ≡ Some (slice_index (slice_index_or rows (a - m) []) (c - (a + 1)))
@@ -91,8 +87,7 @@ later None m h = tt
 later (Some p) m h = let l = h in omega arith
 
 pub rows_form : (n m : ℕ) (last : Option Span) (rows : List (List ℕ)) → ((k : ℕ) → k < length rows → m + k + length (slice_index_or rows k []) ≤ n)
-    → ((k i : ℕ) → k < length rows → i < length (slice_index_or rows k []) → slice_index (slice_index_or rows k []) i ≤ 2 ^ 40)
-    → Before m last → SpansFrom n last (rows_spans m rows)
+    → ((k i : ℕ) → k < length rows → i < length (slice_index_or rows k []) → slice_index (slice_index_or rows k []) i ≤ 2 ^ 40) → Before m last → SpansFrom n last (rows_spans m rows)
 rows_form n m last [] within small before = tt
 rows_form n m last (row ∷ rows) within small before =
     let w = within 0 (omega arith) in

@@ -22,21 +22,18 @@ at_small force l =
     [ true ↦ omega arith | false ↦ omega arith ]
 
 counted_small : (last : Bool) (force : ℕ) → force ≤ 2048 → counted last force ≤ 2048
-counted_small last force l =
-    elim (is_ragged last force) as (λ t. (if t then 256 else force) ≤ 2048) [ true ↦ omega arith | false ↦ omega arith ]
+counted_small last force l = elim (is_ragged last force) as (λ t. (if t then 256 else force) ≤ 2048) [ true ↦ omega arith | false ↦ omega arith ]
 
 badness_small : (last : Bool) (force : ℕ) → force ≤ 2048 → badness_of last force ≤ 2 ^ 40
 badness_small last force l = at_small (counted last force) (counted_small last force l)
 
 pub costs_small : {C : Type 0} (reach : C → ℕ → Option Reach) (len : C → ℕ → ℕ) (gaps : List ℕ) (width : ℕ) (starts others : List (List C)) (forced : ℕ → Bool)
     (a b v : ℕ) → IsCost reach len gaps width starts others forced a b v → v ≤ 2 ^ 40
-costs_small reach len gaps width starts others forced a b v h =
-    subst (λ v. v ≤ 2 ^ 40) (sym h.pressed.2) (badness_small (b == length starts) h.pressed.0 h.pressed.1.bound)
+costs_small reach len gaps width starts others forced a b v h = subst (λ v. v ≤ 2 ^ 40) (sym h.pressed.2) (badness_small (b == length starts) h.pressed.0 h.pressed.1.bound)
 
 module _ {C : Type 0} (reach : C → ℕ → Option Reach) (len : C → ℕ → ℕ) (gaps : List ℕ) (width : ℕ) where
   not_weaker : (columns : List C) (f g : ℕ) → IsForce reach len gaps width columns f → IsForce reach len gaps width columns g → f < g → ⊥
-  not_weaker columns f g h k less =
-      h.greatest g less k.bound (stands (length columns) (reach_at reach columns) gaps (length_at len columns) width g k.fits)
+  not_weaker columns f g h k less = h.greatest g less k.bound (stands (length columns) (reach_at reach columns) gaps (length_at len columns) width g k.fits)
 
   -- columns have one force
   pub one_force : (columns : List C) (f g : ℕ) → IsForce reach len gaps width columns f → IsForce reach len gaps width columns g → f ≡ g
@@ -66,8 +63,7 @@ module _ {C : Type 0} (reach : C → ℕ → Option Reach) (len : C → ℕ → 
         (one_force (span_columns starts others a b) h.pressed.0 k.pressed.0 h.pressed.1 k.pressed.1) ∙ sym k.pressed.2)
 
     module _ (rises : (c : C) (f g : ℕ) → f ≤ g → g < 2 ^ 16 → len c f ≤ len c g) where
-      not_shorter : (a : ℕ) (row other : List ℕ) → IsRowFrom reach len gaps width starts others forced a row
-          → IsRowFrom reach len gaps width starts others forced a other → length row < length other → ⊥
+      not_shorter : (a : ℕ) (row other : List ℕ) → IsRowFrom reach len gaps width starts others forced a row → IsRowFrom reach len gaps width starts others forced a other → length row < length other → ⊥
       not_shorter a row other h k l =
           let cost = k.each (length row) l in
           let force = cost.pressed.1 in
@@ -79,8 +75,7 @@ module _ {C : Type 0} (reach : C → ℕ → Option Reach) (len : C → ℕ → 
           ]
 
       -- a bar has one row
-      pub one_row : (a : ℕ) (row other : List ℕ) → IsRowFrom reach len gaps width starts others forced a row
-          → IsRowFrom reach len gaps width starts others forced a other → row ≡ other
+      pub one_row : (a : ℕ) (row other : List ℕ) → IsRowFrom reach len gaps width starts others forced a row → IsRowFrom reach len gaps width starts others forced a other → row ≡ other
       one_row a row other h k = elim (cases_lt (length row) (length other)) [
         | inl less ↦ absurd (not_shorter a row other h k less)
         | inr more ↦ elim (cases_lt (length other) (length row)) [

@@ -24,8 +24,7 @@ pub record IsCost {C : Type 0} (reach : C → ℕ → Option Reach) (len : C →
 
 -- the span from bar a to bar b is none: a forced bar stands strictly inside, or its columns pass the width even at force 0
 abbrev pub IsNoSpan : {C : Type 0} → (C → ℕ → Option Reach) → (C → ℕ → ℕ) → List ℕ → ℕ → List (List C) → List (List C) → (ℕ → Bool) → ℕ → ℕ → Type 0
-IsNoSpan reach len gaps width starts others forced a b =
-    ForcedInside forced a b ⊎ (StandsAt reach len gaps width 0 (span_columns starts others a b) → ⊥)
+IsNoSpan reach len gaps width starts others forced a b = ForcedInside forced a b ⊎ (StandsAt reach len gaps width 0 (span_columns starts others a b) → ⊥)
 
 -- the list has each span that fits, with what it costs, and no other
 pub record IsSpanList {C : Type 0} (reach : C → ℕ → Option Reach) (len : C → ℕ → ℕ) (gaps : List ℕ) (width : ℕ) (starts others : List (List C)) (forced : ℕ → Bool) (spans : List Span) : Type 0 where

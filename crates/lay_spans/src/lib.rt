@@ -1,8 +1,7 @@
 //! The spans of measures that fit a system, with their badness.
 //!
-//! From the columns of each measure, as they stand where it begins a system and
-//! where it doesn't, come the spans that fit within a width, what each costs, and
-//! the costs that a breaking is chosen by.
+//! From the columns of each measure, as they stand where it begins a system and where it doesn't, come
+//! the spans that fit within a width, what each costs, and the costs that a breaking is chosen by.
 #![tactic(auto)]
 
 pub mod breaks;

@@ -17,8 +17,7 @@ module _ (reach : ℕ → Option Reach) (lane : ℕ) where
       (λ eu. let b : s ≡ u = same_Some s u (sym es ∙ eu) in rw (← b) m)
       eu
 
-pub inside_bound : (reach : ℕ → Option Reach) (lanes : ℕ) → lanes < 4294967296
-    → ((lane : ℕ) → lane < 4294967296 → IfSome (reach lane) (λ r. (r.left ≤ 1048576) × (r.right ≤ 1048576))) → IsInside reach lanes (pos 1048576)
+pub inside_bound : (reach : ℕ → Option Reach) (lanes : ℕ) → lanes < 4294967296 → ((lane : ℕ) → lane < 4294967296 → IfSome (reach lane) (λ r. (r.left ≤ 1048576) × (r.right ≤ 1048576))) → IsInside reach lanes (pos 1048576)
 inside_bound reach lanes few near lane s l es =
     let a = rw es at (near lane (omega arith)) in
     let left = a.0 in

@@ -6,8 +6,7 @@ abbrev at : List ℤ → ℕ → ℤ
 at x k = slice_index_or x k (pos 0)
 
 pub past_more : (reach : ℕ → Option Reach) (gaps : List ℕ) (lane : ℕ) (front : List ℤ) (old new : ℤ) (s : Reach) → reach lane ≡ Some s
-    → old ≤ℤ new → (pos 0 ≤ℤ at front lane → (at front lane +ℤ pos (slice_index gaps lane + s.left)) ≤ℤ new)
-    → IsPast reach gaps lane front old → IsPast reach gaps (lane + 1) front new
+    → old ≤ℤ new → (pos 0 ≤ℤ at front lane → (at front lane +ℤ pos (slice_index gaps lane + s.left)) ≤ℤ new) → IsPast reach gaps lane front old → IsPast reach gaps (lane + 1) front new
 past_more reach gaps lane front old new s es l m h k u lt eu =
     below_or_at (λ k. reach k ≡ Some u → pos 0 ≤ℤ at front k → (at front k +ℤ pos (slice_index gaps k + u.left)) ≤ℤ new) k lane lt
     (λ lt eu p. let d = h k u lt eu p in omega (arith, ints))
@@ -51,8 +50,7 @@ module _ (reach : ℕ → ℕ → Option Reach) (lanes j : ℕ) (v : ℤ) where
   one_covers None old new h = omega (arith, ints)
   one_covers (Some r) old new h = h.0
 
-  one_small : (o : Option Reach) (old new : ℤ) → IfSome o (λ r. (r.left ≤ 1048576) × (r.right ≤ 1048576)) → v ≤ℤ pos (2 ^ 60)
-      → old ≤ℤ pos (2 ^ 61) → Advances o v old new → new ≤ℤ pos (2 ^ 61)
+  one_small : (o : Option Reach) (old new : ℤ) → IfSome o (λ r. (r.left ≤ 1048576) × (r.right ≤ 1048576)) → v ≤ℤ pos (2 ^ 60) → old ≤ℤ pos (2 ^ 61) → Advances o v old new → new ≤ℤ pos (2 ^ 61)
   one_small None old new near l s h = omega (arith, ints)
   one_small (Some r) old new near l s h =
       let a = near.1 in elim h.2 [ inl e ↦ omega (arith, ints) | inr e ↦ omega (arith, ints) ]
@@ -75,8 +73,7 @@ module _ (reach : ℕ → ℕ → Option Reach) (lanes j : ℕ) (v : ℤ) where
       small = λ lane lt. one_small (reach j lane) _ _ (near lane lt) high (fronts.small lane lt) (advances lane lt);
     }
       where
-        old : (lane : ℕ) → lane < lanes → at front' lane ≡ at front lane → pos 0 ≤ℤ at front' lane
-            → (k : ℕ) × (r : Reach) × (k < j + 1) × (reach k lane ≡ Some r) × (at front' lane ≡ (at x' k +ℤ pos r.right))
+        old : (lane : ℕ) → lane < lanes → at front' lane ≡ at front lane → pos 0 ≤ℤ at front' lane → (k : ℕ) × (r : Reach) × (k < j + 1) × (reach k lane ≡ Some r) × (at front' lane ≡ (at x' k +ℤ pos r.right))
         old lane lt e some =
             let k = fronts.stands lane lt (rw e at some) in
             (k.0, k.1, (let l = k.2 in omega arith), k.3, rw (same k.0 k.2) (e ∙ k.4))

@@ -2,8 +2,7 @@
 use Rattle.std.proofs.{Common.{◌≡◌, ℕ, zero, suc, ◌+◌, ◌-◌, ◌*◌, ◌<◌, ◌≤◌, ℤ, pos, ◌≤ℤ◌, List, [], ◌∷◌, ◌++◌, length, Option, option_map, option_and_then, unwrap_or, slice_get, slice_index_or, arith, sym, ◌∙◌, ap, refl, length-append}, lemmas.{Int.ints, List.get_or_append_left, Nat.le-div}}
 use Rattle.lay_springs.{specs.{declared.{traits.Reach.Reach, progress.Progress.Progress}, Place.{reach_at, length_at, StandApart, HasPlaced}, Fit.{Fits, Passes, CanStand, StandsInAll, LongerFitsLess, most_columns}}, proofs.{Ends.apart_down, Moved.moved_apart}}
 
-pub stands : (n : ℕ) (reach : ℕ → ℕ → Option Reach) (gaps : List ℕ) (spring : ℕ → ℕ → ℕ) (width force : ℕ)
-    → Fits n reach gaps spring width force → CanStand n reach gaps spring width force
+pub stands : (n : ℕ) (reach : ℕ → ℕ → Option Reach) (gaps : List ℕ) (spring : ℕ → ℕ → ℕ) (width force : ℕ) → Fits n reach gaps spring width force → CanStand n reach gaps spring width force
 stands n reach gaps spring width force h = record {
   y = h.1.x;
   apart = h.1.place.apart;
@@ -21,8 +20,7 @@ cannot_stand n reach gaps spring width f g some le p h =
     omega (arith, ints)
 
 -- abscissas rise
-pub rises : (n : ℕ) (reach : ℕ → ℕ → Option Reach) (gaps : List ℕ) (spring : ℕ → ℕ) (y : List ℤ) → StandApart n reach gaps spring y
-    → (d i : ℕ) → i + d < n → slice_index_or y i (pos 0) ≤ℤ slice_index_or y (i + d) (pos 0)
+pub rises : (n : ℕ) (reach : ℕ → ℕ → Option Reach) (gaps : List ℕ) (spring : ℕ → ℕ) (y : List ℤ) → StandApart n reach gaps spring y → (d i : ℕ) → i + d < n → slice_index_or y i (pos 0) ≤ℤ slice_index_or y (i + d) (pos 0)
 rises n reach gaps spring y h zero i l = let e : i + 0 ≡ i = omega arith in rw e (omega (arith, ints))
 rises n reach gaps spring y h (suc d) i l =
     let ih = rises n reach gaps spring y h d i (omega arith) in
@@ -31,8 +29,7 @@ rises n reach gaps spring y h (suc d) i l =
     rw e (omega (arith, ints))
 
 -- neighbors stand 100 apart
-spaced : (n : ℕ) (reach : ℕ → ℕ → Option Reach) (gaps : List ℕ) (spring : ℕ → ℕ) (y : List ℤ) → StandApart n reach gaps spring y
-    → (d : ℕ) → d < n → pos (d * 100) ≤ℤ slice_index_or y d (pos 0)
+spaced : (n : ℕ) (reach : ℕ → ℕ → Option Reach) (gaps : List ℕ) (spring : ℕ → ℕ) (y : List ℤ) → StandApart n reach gaps spring y → (d : ℕ) → d < n → pos (d * 100) ≤ℤ slice_index_or y d (pos 0)
 spaced n reach gaps spring y h zero l = h.begins l
 spaced n reach gaps spring y h (suc d) l =
     let ih = spaced n reach gaps spring y h d (omega arith) in
@@ -42,8 +39,7 @@ spaced n reach gaps spring y h (suc d) l =
     omega (arith, ints)
 
 -- so few stand within a width
-pub stand_few : (n : ℕ) (reach : ℕ → ℕ → Option Reach) (gaps : List ℕ) (spring : ℕ → ℕ → ℕ) (width force : ℕ) → 0 < n
-    → CanStand n reach gaps spring width force → n ≤ most_columns width
+pub stand_few : (n : ℕ) (reach : ℕ → ℕ → Option Reach) (gaps : List ℕ) (spring : ℕ → ℕ → ℕ) (width force : ℕ) → 0 < n → CanStand n reach gaps spring width force → n ≤ most_columns width
 stand_few n reach gaps spring width force some h =
     let last = spaced n reach gaps (spring force) h.y h.apart (n - 1) (omega arith) in
     let end = h.past in

@@ -30,8 +30,7 @@ moved_apart n reach gaps spring x at rest d some move h = record {
       omega (arith, ints);
 }
 
-pub set_apart : (n : ℕ) (reach : ℕ → ℕ → Option Reach) (gaps : List ℕ) (spring : ℕ → ℕ → ℕ) (width force : ℕ) (at : List ℤ) → 0 < n
-    → IsSet n reach gaps spring width force at → StandApart n reach gaps (spring force) at
+pub set_apart : (n : ℕ) (reach : ℕ → ℕ → Option Reach) (gaps : List ℕ) (spring : ℕ → ℕ → ℕ) (width force : ℕ) (at : List ℤ) → 0 < n → IsSet n reach gaps spring width force at → StandApart n reach gaps (spring force) at
 set_apart n reach gaps spring width force at some is = elim (cases_lt 1 n) [
   | inl several ↦ (let m = is.moved several in moved_apart n reach gaps (spring force) is.x at m.1 (n - 1) (omega arith) m.4 is.place.apart)
   | inr alone ↦ subst (StandApart n reach gaps (spring force)) (sym (is.alone (omega arith))) is.place.apart

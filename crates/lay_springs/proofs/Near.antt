@@ -13,11 +13,9 @@ pub slack_up : (natural count natural' count' drop : ℕ) → natural ≤ natura
 slack_up natural count natural' count' drop l m = let up = mul-le-mul_right drop l in omega arith
 
 -- the next column, where the spring before it alone holds it or doesn't
-pub next_near : (natural count natural' count' n g drop : ℕ) (before next y z : ℤ)
-    → (((before +ℤ pos (n * (g + drop) / 256)) ≡ next) × (natural' ≡ natural + n) × (count' ≡ count + 1))
+pub next_near : (natural count natural' count' n g drop : ℕ) (before next y z : ℤ) → (((before +ℤ pos (n * (g + drop) / 256)) ≡ next) × (natural' ≡ natural + n) × (count' ≡ count + 1))
     ⊎ (((before +ℤ pos (n * (g + drop) / 256)) ≢ next) × (natural' ≡ natural) × (count' ≡ count)) → before ≤ℤ (y +ℤ pos (slack natural count drop)) → (y +ℤ pos (n * g / 256)) ≤ℤ z
-    → (before +ℤ pos (n * (g + drop) / 256)) ≤ℤ next → ((w : ℤ) → (z +ℤ pos (slack natural count drop)) ≤ℤ w → (before +ℤ pos (n * (g + drop) / 256)) ≤ℤ w → next ≤ℤ w)
-    → next ≤ℤ (z +ℤ pos (slack natural' count' drop))
+    → (before +ℤ pos (n * (g + drop) / 256)) ≤ℤ next → ((w : ℤ) → (z +ℤ pos (slack natural count drop)) ≤ℤ w → (before +ℤ pos (n * (g + drop) / 256)) ≤ℤ w → next ≤ℤ w) → next ≤ℤ (z +ℤ pos (slack natural' count' drop))
 next_near natural count natural' count' n g drop before next y z held old spring past least = elim held [
   | inl h ↦ (
       let more = slack_more natural count n g drop in

@@ -80,8 +80,7 @@ pub length_is : {C : Type 0} (len : C → ℕ → ℕ) (cols : List C) (force i 
 length_is len cols force i c e = rw e refl
 
 -- what holds of the reaches of each column holds of those of a list
-pub near_at : {C : Type 0} (reach : C → ℕ → Option Reach) (cols : List C) (P : Reach → Type 0) (lane : ℕ)
-    → ((c : C) → IfSome (reach c lane) P) → (k : ℕ) → IfSome (reach_at reach cols k lane) P
+pub near_at : {C : Type 0} (reach : C → ℕ → Option Reach) (cols : List C) (P : Reach → Type 0) (lane : ℕ) → ((c : C) → IfSome (reach c lane) P) → (k : ℕ) → IfSome (reach_at reach cols k lane) P
 near_at reach cols P lane h k = at_col (slice_get cols k)
   where
     at_col : (o : _) → IfSome (option_and_then (λ c. reach c lane) o) P

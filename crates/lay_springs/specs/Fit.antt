@@ -56,7 +56,5 @@ StandsInAll reach lanes = (lane : ℕ) → lane < lanes → (s : Reach) × (reac
 
 -- a longer list of columns, whose last stands in each lane, can't stand within a width where a list that it continues can't
 abbrev pub LongerFitsLess : {C : Type 0} → (C → ℕ → Option Reach) → (C → ℕ → ℕ) → Type 0
-LongerFitsLess {C} reach len = (short rest : List C) (gaps : List ℕ) (width force : ℕ) → 0 < length short → 0 < length rest
-    → StandsInAll (reach_at reach (short ++ rest) (length (short ++ rest) - 1)) (length gaps)
-    → CanStand (length (short ++ rest)) (reach_at reach (short ++ rest)) gaps (length_at len (short ++ rest)) width force
-    → CanStand (length short) (reach_at reach short) gaps (length_at len short) width force
+LongerFitsLess {C} reach len = (short rest : List C) (gaps : List ℕ) (width force : ℕ) → 0 < length short → 0 < length rest → StandsInAll (reach_at reach (short ++ rest) (length (short ++ rest) - 1)) (length gaps)
+    → CanStand (length (short ++ rest)) (reach_at reach (short ++ rest)) gaps (length_at len (short ++ rest)) width force → CanStand (length short) (reach_at reach short) gaps (length_at len short) width force

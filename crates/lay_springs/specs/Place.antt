@@ -12,8 +12,7 @@ length_at len cols force i = unwrap_or (option_map (λ c. len c force) (slice_ge
 
 -- a column at v is clear of a column before it that stands at `at`: in each lane in which both stand, its gap is between them
 abbrev pub IsClear : (ℕ → Option Reach) → (ℕ → Option Reach) → List ℕ → ℕ → ℤ → ℤ → Type 0
-IsClear first second gaps lanes at v = (lane : ℕ) (r s : Reach) → lane < lanes → first lane ≡ Some r → second lane ≡ Some s
-    → (at +ℤ pos (r.right + slice_index gaps lane + s.left)) ≤ℤ v
+IsClear first second gaps lanes at v = (lane : ℕ) (r s : Reach) → lane < lanes → first lane ≡ Some r → second lane ≡ Some s → (at +ℤ pos (r.right + slice_index gaps lane + s.left)) ≤ℤ v
 
 -- a column at v begins at 0 or past it, in each lane too
 abbrev pub IsInside : (ℕ → Option Reach) → ℕ → ℤ → Type 0

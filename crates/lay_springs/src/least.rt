@@ -1,6 +1,5 @@
 ghost use Rattle.std.specs.Prelude.{◌≡◌, ◌+◌, ◌*◌, ◌≢◌, ◌⊎◌, ◌^◌, ◌<◌, ◌≤◌, ℕ, ℤ, pos, negsuc, ◌+ℤ◌, ◌≤ℤ◌, IfOk, length, take, slice_index, slice_index_or, slice_set};
-ghost use Rattle.lay_springs.specs.Stands.{reach_in};
-ghost use Rattle.lay_springs.specs.Place.{reach_at, length_at, IsPlace, IsPlacedTo, IsNear, IsFront, HasPlaced, IsPast, Advances, IsInside};
+ghost use Rattle.lay_springs.specs.{Stands.{reach_in}, Place.{reach_at, length_at, IsPlace, IsPlacedTo, IsNear, IsFront, HasPlaced, IsPast, Advances, IsInside}};
 
 use crate::progress::{Progress, Tight};
 use crate::traits::{Reach, Spaced, Spring, Stand, Stands, reach_in};

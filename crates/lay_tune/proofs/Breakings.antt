@@ -76,8 +76,7 @@ module _ (s : Score) (width : ℕ) where
     legal_cost breaks h = let e = h.ends in all_cost 0 breaks h.rises (omega (arith, e)) h.fits
 
     -- so the breaking that is chosen among them is the least of the score
-    pub least_of : (breaks : List ℕ) (total : ℕ) → IsChosen (listed spans) (is_forced_in s) s.measures breaks → total ≡ sum_from (listed spans) 0 breaks
-        → IsLeastBreaking s width breaks total
+    pub least_of : (breaks : List ℕ) (total : ℕ) → IsChosen (listed spans) (is_forced_in s) s.measures breaks → total ≡ sum_from (listed spans) 0 breaks → IsLeastBreaking s width breaks total
     least_of breaks total chosen is = record {
       legal = legal_in breaks chosen.legal;
       costs = subst (CostTogether s width 0 breaks) (sym is) (legal_cost breaks chosen.legal);

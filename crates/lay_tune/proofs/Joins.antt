@@ -1,10 +1,9 @@
 -- The columns of each measure are what spans of measures are tried with, and those of the systems.
 use Rattle.std.{proofs.{Math.Seq.get_or-append_seam, Common.{◌≡◌, ◌∙◌, ℕ, suc, ◌+◌, ◌-◌, ◌<◌, ◌≤◌, ◌==◌, true, false, Option, None, List, [], ◌∷◌, ◌++◌, length, length-append, take, drop, flat_map, get_or, refl, sym, ap, subst, arith}, lemmas.{Bool.Decides.nat_tests, List.{get_or-drop, get_or-take, length-map, length-drop, length-take-le}}}, specs.List.{All, slice_index_or}}
 use Rattle.{mus_score.specs.{declared.score.Score.Score, GoodScore.IsGoodScore}, mus_time.specs.{declared.times.Timeline.Timeline, Onsets.timeline_of}}
-use Rattle.lay_columns.specs.{declared.column.Column.Column, Columns.StandsWhereDue, Columns.column_reach, Lanes.gaps_of, Reaches.stands_always}
-use Rattle.mus_marks.specs.{Staff.verses_on, System.drawn_staves}
+use Rattle.{lay_columns.specs.{declared.column.Column.Column, Columns.StandsWhereDue, Columns.column_reach, Lanes.gaps_of, Reaches.stands_always}, mus_marks.specs.{Staff.verses_on, System.drawn_staves}}
 use Rattle.lay_measures.{specs.{Measures.AreFurther, Measures.AreMeasureColumns, Measures.EndWithBar, Measures.further_of, Law.AreColumnsFrom, Law.MeasuresJoin}, proofs.Facts.{measure_bar, measure_stands}}
-use Rattle.lay_spans.{specs.Columns.EndsInAll, specs.Columns.measures_from, proofs.Adding.ends_so, proofs.Growing.each_more}
+use Rattle.lay_spans.{specs.{Columns.EndsInAll, Columns.measures_from}, proofs.{Adding.ends_so, Growing.each_more}}
 use Rattle.lay_tune.specs.{Measures.EachFurther, Measures.EachMeasure, Measures.IsMeasure, Spans.AreColumnsOf, Spans.system_columns, Spans.verses_of}
 
 -- columns that end with a bar end in each lane
@@ -29,8 +28,7 @@ measure_of s t a m verses columns good times is some within h =
       ends = subst (λ vs. EndsInAll column_reach (length (gaps_of vs)) columns) is (bar_ends verses columns bar stands);
     }
 
-pub measure_more : (P : ℕ → List Column → Type 0) (n : ℕ) (rows : List (List Column)) (columns : List Column)
-    → EachMeasure P n rows → P n columns → EachMeasure P (n + 1) (rows ++ columns ∷ [])
+pub measure_more : (P : ℕ → List Column → Type 0) (n : ℕ) (rows : List (List Column)) (columns : List Column) → EachMeasure P n rows → P n columns → EachMeasure P (n + 1) (rows ++ columns ∷ [])
 measure_more P n rows columns h p =
     let k = h.count in
     let l = length-append rows (columns ∷ []) in
@@ -65,8 +63,7 @@ behind_any s a m columns h = subst (λ begins. AreMeasureColumns begins s (timel
     apart a m h = grind (arith, nat_tests)
 
 -- those of the measures from i on, in a system that begins with measure a
-further_ones : (s : Score) (a i : ℕ) (rows : List (List Column)) → a < i → ((j : ℕ) → j < length rows → AreBehind s (i + j) (get_or rows j []))
-    → AreColumnsFrom s (timeline_of s) a i (verses_of s) rows
+further_ones : (s : Score) (a i : ℕ) (rows : List (List Column)) → a < i → ((j : ℕ) → j < length rows → AreBehind s (i + j) (get_or rows j [])) → AreColumnsFrom s (timeline_of s) a i (verses_of s) rows
 further_ones s a i [] less h = tt
 further_ones s a i (row ∷ rows) less h =
     let here : i + 0 ≡ i = omega arith in (

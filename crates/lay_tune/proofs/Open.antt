@@ -2,8 +2,7 @@
 use Rattle.std.{proofs.{Common.{◌≡◌, ℕ, ◌-◌, ◌<◌, ◌≤◌, ◌*◌, ◌^◌, ◌==◌, not, Bool, List, [], ◌∷◌, length, map, Option, Some, None, IsSome, sym, ◌∙◌, ap, subst, refl, arith}, lemmas.{Bool.true≢false, List.{length-map, Elements.All-from_recursion, Sums.sum-map}}}, specs.List.{All, AllByRecursion, filter, sum_by}}
 use Rattle.mus_score.specs.{declared.score.Score.Score, declared.score.Voice.Voice, GoodScore.IsGoodScore, Seats.grouped, Seats.is_lower, Seats.stands_lower as lower}
 use Rattle.{mus_laid.specs.{declared.laid.StaffMarks.StaffMarks, declared.laid.SystemMarks.SystemMarks}, mus_drawn.specs.{declared.drawn.DrawnVoice.DrawnVoice, Drawn.drawn_voice}}
-use Rattle.mus_marks.{specs.Staff.verses_on, specs.System.drawn_staves, specs.System.stands_lower, proofs.Fitting.few_verses, proofs.Groups.grouped_map}
-use Rattle.lay_columns.specs.{declared.column.Column.Column, Column.length_rises, Columns.column_reach}
+use Rattle.{mus_marks.{specs.{Staff.verses_on, System.drawn_staves, System.stands_lower}, proofs.{Fitting.few_verses, Groups.grouped_map}}, lay_columns.specs.{declared.column.Column.Column, Column.length_rises, Columns.column_reach}}
 use Rattle.lay_springs.{specs.{Place.{length_at, reach_at}, Fit.{Passes}}, proofs.{Longer.{cannot_stand, stand_few, stands}, Ends.length_rises as lengths_rise}}
 use Rattle.lay_breaks.specs.{declared.costs.Span.Span, declared.breaking.BreakError.BreakError, Answers.IsCause, Breaking.FitsFrom, Breaking.IsChosen, Breaking.IsReached, Breaking.NoneLegal, Breaking.RisesFrom, Breaking.last_from, Spans.AreSpans, Spans.listed}
 use Rattle.lay_spans.{specs.Badness.badness_of, specs.Columns.AreMeasures, specs.Columns.span_columns, specs.Forced.is_forced, specs.SpanList.IsSpanList, proofs.Adding.columns_some}
@@ -79,10 +78,8 @@ spans_read s width starts others spans gaps forced count is all join h =
     }
 
 -- the chosen breaking can be set
-pub chosen_read : (s : Score) (width : ℕ) (starts others : List (List Column)) (spans : List Span) (gaps forced breaks bars : List ℕ)
-    → length starts ≡ s.measures → gaps ≡ score_gaps s → forced ≡ s.forced → bars ≡ breaks
-    → AreMeasures column_reach (length (score_gaps s)) starts others → AreColumnsOf s starts others
-    → IsSpanList column_reach column_length gaps width starts others (is_forced (length starts) forced) spans
+pub chosen_read : (s : Score) (width : ℕ) (starts others : List (List Column)) (spans : List Span) (gaps forced breaks bars : List ℕ) → length starts ≡ s.measures → gaps ≡ score_gaps s → forced ≡ s.forced → bars ≡ breaks
+    → AreMeasures column_reach (length (score_gaps s)) starts others → AreColumnsOf s starts others → IsSpanList column_reach column_length gaps width starts others (is_forced (length starts) forced) spans
     → width < 2 ^ 32 → IsChosen (listed spans) (is_forced s.measures forced) s.measures breaks → AllSpans (CanBeSet s width (listed spans)) 0 bars
 chosen_read s width starts others spans gaps forced breaks bars count is all ends measures join h narrow chosen =
     let exact = spans_read s width starts others spans gaps forced count is all join h in
@@ -127,8 +124,7 @@ small_verses s good =
 pub staves_count : (s : Score) → length (drawn_staves s) ≤ length s.voices
 staves_count s = let few = few_groups stands_lower (map drawn_voice s.voices) in let each = length-map s.voices drawn_voice in omega (arith, few, each)
 
-pub few_lanes : (s : Score) (verses gaps : List ℕ) → IsGoodScore s → verses ≡ verses_of s
-    → (All (λ v. v ≤ 255) verses → length gaps ≤ 258 * length verses) → length gaps < 4294967296
+pub few_lanes : (s : Score) (verses gaps : List ℕ) → IsGoodScore s → verses ≡ verses_of s → (All (λ v. v ≤ 255) verses → length gaps ≤ 258 * length verses) → length gaps < 4294967296
 few_lanes s verses gaps good is few =
     let small = few (subst (λ these. All (λ v. v ≤ 255) these) (sym is) (small_verses s good)) in
     let count : length verses ≡ length (drawn_staves s) = ap (λ these. length these) is ∙ length-map (drawn_staves s) verses_on in
@@ -149,7 +145,5 @@ gaps_of_voices (v ∷ vs) =
     let all = length-map (filter (λ v. not (lower v)) vs) (λ v. v.gap) in
     omega (arith, drawn, same, all, count_grouped lower v vs)
 
-pub gaps_count : (s : Score) (m : SystemMarks) (gaps : List ℕ) (staff : List DrawnVoice → StaffMarks) → gaps ≡ gaps_between s.voices → m.staves ≡ map staff (drawn_staves s)
-    → length gaps ≡ length m.staves - 1
-gaps_count s m gaps staff is stand =
-    ap (λ gs. length gs) is ∙ gaps_of_voices s.voices ∙ ap (λ n. n - 1) (sym (ap (λ these. length these) stand ∙ length-map (drawn_staves s) staff))
+pub gaps_count : (s : Score) (m : SystemMarks) (gaps : List ℕ) (staff : List DrawnVoice → StaffMarks) → gaps ≡ gaps_between s.voices → m.staves ≡ map staff (drawn_staves s) → length gaps ≡ length m.staves - 1
+gaps_count s m gaps staff is stand = ap (λ gs. length gs) is ∙ gaps_of_voices s.voices ∙ ap (λ n. n - 1) (sym (ap (λ these. length these) stand ∙ length-map (drawn_staves s) staff))

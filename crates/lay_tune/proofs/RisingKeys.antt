@@ -17,8 +17,7 @@ same_class : (k l : Class) → class_number k ≡ class_number l → k ≡ l
 same_class k l h = grind (arith, nat_tests)
 
 same_key : (m n t u : ℕ) (c d : Class) (p q : ℕ) → m ≡ n → t ≡ u → c ≡ d → p ≡ q → key_at m t c p ≡ key_at n u d q
-same_key m n t u c d p q e f g h =
-    ap (λ x. key_at x t c p) e ∙ (ap (λ x. key_at n x c p) f ∙ (ap (λ x. key_at n u x p) g ∙ ap (λ x. key_at n u d x) h))
+same_key m n t u c d p q e f g h = ap (λ x. key_at x t c p) e ∙ (ap (λ x. key_at n x c p) f ∙ (ap (λ x. key_at n u x p) g ∙ ap (λ x. key_at n u d x) h))
 
 neither_below : (k l : ColumnKey) → is_below k l ≡ false → is_below l k ≡ false → k ≡ l
 unfolding is_below

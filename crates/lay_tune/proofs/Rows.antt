@@ -17,8 +17,7 @@ span_more P breaks xs ys x y a b i e before p more rest h =
     (before (x ∷ more) (y ∷ rest) (subst (λ bs. EachSpan P a bs (x ∷ more) (y ∷ rest)) (sym e) (p, h))))
 
 -- as many as the spans
-pub span_count : {X Y : Type 0} (P : ℕ → ℕ → X → Y → Type 0) (a : ℕ) (breaks : List ℕ) (xs : List X) (ys : List Y) → EachSpan P a breaks xs ys
-    → (length xs ≡ length breaks) × (length ys ≡ length breaks)
+pub span_count : {X Y : Type 0} (P : ℕ → ℕ → X → Y → Type 0) (a : ℕ) (breaks : List ℕ) (xs : List X) (ys : List Y) → EachSpan P a breaks xs ys → (length xs ≡ length breaks) × (length ys ≡ length breaks)
 span_count P a [] [] [] h = (refl, refl)
 span_count P a (b ∷ bs) (x ∷ xs) (y ∷ ys) h = let more = span_count P b bs xs ys h.1 in (ap suc more.0, ap suc more.1)
 span_count P a _ _ _ h = absurd h

@@ -4,8 +4,7 @@ use Rattle.{mus_score.specs.Seats.{grouped, put_before}, mus_marks.proofs.Groups
 
 module _ {A : Type 0} (joins : A → Bool) where
   -- there is a group for the first element, and one for each other that doesn't join the one before it
-  count_before : (x y : A) (groups : List (List A)) (first : List A) (more : List (List A)) → groups ≡ (y ∷ first) ∷ more
-      → length (put_before joins x groups) ≡ (if joins y then length groups else suc (length groups))
+  count_before : (x y : A) (groups : List (List A)) (first : List A) (more : List (List A)) → groups ≡ (y ∷ first) ∷ more → length (put_before joins x groups) ≡ (if joins y then length groups else suc (length groups))
   count_before x y groups first more e = ap (λ gs. length (put_before joins x gs)) e ∙ by (joins y) ∙ ap (λ gs. if joins y then length gs else suc (length gs)) (sym e)
     where
       by : (c : Bool) → length (if c then (x ∷ y ∷ first) ∷ more else (x ∷ []) ∷ (y ∷ first) ∷ more) ≡ (if c then length ((y ∷ first) ∷ more) else suc (length ((y ∷ first) ∷ more)))

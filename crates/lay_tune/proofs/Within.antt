@@ -1,7 +1,6 @@
 -- Columns that stand apart rise from 0, and those of a system end within the width.
 use Rattle.std.proofs.{Common.{◌≡◌, ◌∙◌, sym, ap, subst, refl, inl, inr, ℕ, if◌then◌else◌, ◌+◌, ◌-◌, ◌*◌, ◌/◌, ◌<◌, ◌≤◌, ◌==◌, ◌^◌, ℤ, pos, ◌+ℤ◌, ◌≤ℤ◌, min, Bool, true, false, List, length, map, Option, Some, arith}, lemmas.{Bool.{cases_lt, true≢false, Decides.nat_tests}, Int.ints, List.length-map}}
-use Rattle.{mus_score.specs.declared.score.Score.{Score}, mus_time.specs.{Keys.{AreKeys, called_keys}, Onsets.timeline_of}, mus_laid.specs.{declared.laid.SystemMarks.SystemMarks}}
-use Rattle.mus_marks.{specs.Tilt.AreAbscissas, proofs.OneList.same_keys}
+use Rattle.{mus_score.specs.declared.score.Score.{Score}, mus_time.specs.{Keys.{AreKeys, called_keys}, Onsets.timeline_of}, mus_laid.specs.declared.laid.SystemMarks.SystemMarks, mus_marks.{specs.Tilt.AreAbscissas, proofs.OneList.same_keys}}
 use Rattle.lay_springs.{specs.{declared.{traits.Reach.Reach, margin.Placed.Placed}, Fit.{Fits, IsSet, counted, is_ragged}, Place.{IsPlace, StandApart, length_at, reach_at}}, proofs.{Ends.{apart_down, length_rises as lengths_rise}, Longer.{rises, stands}}}
 use Rattle.lay_columns.{specs.declared.column.Column.Column, specs.Column.length_rises, specs.Columns.column_reach, proofs.Facts.columns_keys}
 use Rattle.lay_spans.{specs.Badness.{badness_at}, specs.Columns.span_columns, specs.SpanList.StandsAt, proofs.Fitting.seen_as}
@@ -13,8 +12,7 @@ pub record EndsWithin (n : ℕ) (reach : ℕ → ℕ → Option Reach) (gaps : L
   pub reaches : (lane : ℕ) (r : Reach) → lane < length gaps → reach (n - 1) lane ≡ Some r → (x_at at (n - 1) +ℤ pos r.right) ≤ℤ pos width
 
 -- ---- abscissas rise
-pub rise_to : (n : ℕ) (reach : ℕ → ℕ → Option Reach) (gaps : List ℕ) (spring : ℕ → ℕ) (at : List ℤ) → StandApart n reach gaps spring at
-    → (i k : ℕ) → i ≤ k → k < n → x_at at i ≤ℤ x_at at k
+pub rise_to : (n : ℕ) (reach : ℕ → ℕ → Option Reach) (gaps : List ℕ) (spring : ℕ → ℕ) (at : List ℤ) → StandApart n reach gaps spring at → (i k : ℕ) → i ≤ k → k < n → x_at at i ≤ℤ x_at at k
 rise_to n reach gaps spring at h i k l m =
     let e : i + (k - i) ≡ k = omega arith in
     rw e at (rises n reach gaps spring at h (k - i) i (omega arith))
@@ -40,8 +38,7 @@ stand_within n reach gaps spring width at count h ends = record {
 -- ---- the end
 module _ (n : ℕ) (reach : ℕ → ℕ → Option Reach) (gaps : List ℕ) (spring : ℕ → ℕ → ℕ) (width force weak : ℕ) where
   -- at a force that isn't above one that fits
-  place_within : (at : List ℤ) → 0 < n → ((i : ℕ) → spring weak i ≤ spring force i)
-      → Fits n reach gaps spring width force → IsPlace n reach gaps (spring weak) at → EndsWithin n reach gaps width at
+  place_within : (at : List ℤ) → 0 < n → ((i : ℕ) → spring weak i ≤ spring force i) → Fits n reach gaps spring width force → IsPlace n reach gaps (spring weak) at → EndsWithin n reach gaps width at
   place_within at some le fits place =
       let last = place.least fits.1.x (apart_down n reach gaps (spring weak) (spring force) fits.1.x le fits.1.place.apart) (n - 1) (omega arith) in
       record {
@@ -62,8 +59,7 @@ module _ (n : ℕ) (reach : ℕ → ℕ → Option Reach) (gaps : List ℕ) (spr
       let comes_to = m.3 in
       record { past = let a = m.2.past in omega (arith, ints); reaches = λ lane r l e. let a = m.2.reaches lane r l e in omega (arith, ints) }
 
-  pub set_within : (at : List ℤ) → 0 < n → ((i : ℕ) → spring weak i ≤ spring force i)
-      → Fits n reach gaps spring width force → IsSet n reach gaps spring width weak at → EndsWithin n reach gaps width at
+  pub set_within : (at : List ℤ) → 0 < n → ((i : ℕ) → spring weak i ≤ spring force i) → Fits n reach gaps spring width force → IsSet n reach gaps spring width weak at → EndsWithin n reach gaps width at
   set_within at some le fits is = elim (cases_lt 1 n) [
     | inl several ↦ moved_within at several is
     | inr alone ↦ subst (EndsWithin n reach gaps width) (sym (is.alone (omega arith))) (place_within is.x some le fits is.place)
@@ -100,8 +96,7 @@ pub justified_seen : {D : Type 0} (f : D → Column) (gaps : List ℕ) (width : 
     → IsForceOf gaps width (map f seen) force → p.ragged ≡ is_ragged last force → p.force ≡ counted last force
     → (p.ragged ≡ true → IsPlace (length seen) (reach_at (λ s lane. column_reach (f s) lane) seen) gaps (length_at (λ s force. column_length (f s) force) seen p.force) p.at)
     → (p.ragged ≡ false → IsSet (length seen) (reach_at (λ s lane. column_reach (f s) lane) seen) gaps (length_at (λ s force. column_length (f s) force) seen) width p.force p.at)
-    → StandApart (length seen) (reach_at (λ s lane. column_reach (f s) lane) seen) gaps (length_at (λ s force. column_length (f s) force) seen p.force) p.at
-    → IsJustified gaps width last (map f seen) p
+    → StandApart (length seen) (reach_at (λ s lane. column_reach (f s) lane) seen) gaps (length_at (λ s force. column_length (f s) force) seen p.force) p.at → IsJustified gaps width last (map f seen) p
 justified_seen f gaps width last seen force p pressed ragged counted loose set apart = record {
   pressed = (force, pressed, counted, ragged);
   loose = λ is. subst (λ T. T) (seen_as f column_reach column_length (λ n r l. IsPlace n r gaps (l p.force) p.at) seen (map f seen) refl) (loose is);
@@ -115,10 +110,8 @@ ragged_last true force e = (refl, grind (arith, nat_tests))
 
 -- the greatest force that was tried counts as the columns' own, where none that costs so much is above all that were tried
 pub counts_same : (gaps : List ℕ) (width : ℕ) (last : Bool) (cost : ℕ) (columns : List Column) (most found : ℕ) → (h : HaveForce gaps width last cost columns) → most ≤ 2048
-    → ((f : ℕ) → f ≤ 2048 → badness_at f ≤ cost → f ≤ most) → (cost ≡ 0 → most ≡ 256) → found ≤ most
-    → Fits (length columns) (reach_at column_reach columns) gaps (length_at column_length columns) width found
-    → ((g : ℕ) → found < g → g ≤ most → StandsAt column_reach column_length gaps width g columns → ⊥)
-    → (counted last found ≡ counted last h.pressed.0) × (is_ragged last found ≡ is_ragged last h.pressed.0)
+    → ((f : ℕ) → f ≤ 2048 → badness_at f ≤ cost → f ≤ most) → (cost ≡ 0 → most ≡ 256) → found ≤ most → Fits (length columns) (reach_at column_reach columns) gaps (length_at column_length columns) width found
+    → ((g : ℕ) → found < g → g ≤ most → StandsAt column_reach column_length gaps width g columns → ⊥) → (counted last found ≡ counted last h.pressed.0) × (is_ragged last found ≡ is_ragged last h.pressed.0)
 counts_same gaps width last cost columns most found h small high natural bound fits greatest = by (is_ragged last h.pressed.0) refl
   where
     weaker : (g : ℕ) → g ≤ h.pressed.0 → StandsAt column_reach column_length gaps width g columns
@@ -152,8 +145,7 @@ counts_same gaps width last cost columns most found h small high natural bound f
 
 -- ---- the columns of a system
 pub system_count : (s : Score) (m : SystemMarks) → length (system_columns s m) ≡ length m.keys
-system_count s m =
-    sym (length-map (system_columns s m) (λ c. c.key)) ∙ ap (λ ks. length ks) (columns_keys m.staves (timeline_of s).lengths (verses_of s) 0 m.keys)
+system_count s m = sym (length-map (system_columns s m) (λ c. c.key)) ∙ ap (λ ks. length ks) (columns_keys m.staves (timeline_of s).lengths (verses_of s) 0 m.keys)
 
 -- what is known of a span that can be set, by the columns of its measures
 pub span_set : {s : Score} {width a b : ℕ} {costs : ℕ → ℕ → Option ℕ} {gaps : List ℕ} (starts others : List (List Column)) (columns : List Column)

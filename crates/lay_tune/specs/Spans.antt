@@ -1,7 +1,6 @@
 -- The spans of a score that fit a width, told from the marks that the score calls for in each.
 use Rattle.std.specs.Prelude.{◌≡◌, ℕ, ◌<◌, ◌≤◌, ◌==◌, Bool, List, map, Some, IsSome}
-use Rattle.{mus_score.specs.declared.score.Score.{Score}, mus_time.specs.Onsets.{timeline_of}, mus_laid.specs.declared.laid.SystemMarks.{SystemMarks}}
-use Rattle.mus_marks.specs.{Staff.verses_on, System.IsCall, System.drawn_staves}
+use Rattle.{mus_score.specs.declared.score.Score.{Score}, mus_time.specs.Onsets.{timeline_of}, mus_laid.specs.declared.laid.SystemMarks.{SystemMarks}, mus_marks.specs.{Staff.verses_on, System.IsCall, System.drawn_staves}}
 use Rattle.{lay_columns.specs.{declared.column.Column.Column, Column.length_at, Columns.column_reach, Columns.columns_of, Lanes.gaps_of}, lay_breaks.specs.{declared.costs.Span.Span, Spans.listed}}
 use Rattle.lay_spans.specs.{Badness.badness_of, Columns.span_columns, Forced.ForcedInside, Forced.is_forced, SpanList.IsForce, SpanList.StandsAt}
 
@@ -45,8 +44,7 @@ pub record IsSpanCost (s : Score) (width a b v : ℕ) : Type 0 where
 -- the list has exactly the spans of the score that fit the width and have no forced bar strictly inside, each with what it costs
 pub record AreSpansOf (s : Score) (width : ℕ) (spans : List Span) : Type 0 where
   pub each : (a b v : ℕ) → a < b → b ≤ s.measures → listed spans a b ≡ Some v → IsSpanCost s width a b v
-  pub fits : (a b : ℕ) (m : SystemMarks) → a < b → b ≤ s.measures → (ForcedInside (is_forced_in s) a b → ⊥)
-      → IsSystem s a b m → CanStandIn (score_gaps s) width (system_columns s m) → IsSome (listed spans a b)
+  pub fits : (a b : ℕ) (m : SystemMarks) → a < b → b ≤ s.measures → (ForcedInside (is_forced_in s) a b → ⊥) → IsSystem s a b m → CanStandIn (score_gaps s) width (system_columns s m) → IsSome (listed spans a b)
 
 -- The columns of each measure, as they stand where it begins a system and where it doesn't, are those of the systems: put one
 -- after the other they are the columns of the marks that the score calls for.

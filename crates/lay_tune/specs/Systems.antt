@@ -1,10 +1,9 @@
 -- The systems of a breaking: where their columns stand, and their staves under one another.
 use Rattle.std.specs.Prelude.{◌≡◌, ⊤, ℕ, ◌+◌, ◌<◌, ◌≤◌, ◌==◌, ◌^◌, Bool, true, false, not, ℤ, pos, ◌-ℤ◌, ◌≤ℤ◌, ◌<ℤ◌, List, [], ◌∷◌, length, map, filter, drop, Option, Some, slice_index_or}
-use Rattle.{mus_score.specs.{declared.score.Score.Score, declared.score.Voice.Voice, Seats.stands_lower}, mus_time.specs.Onsets.{timeline_of}}
-use Rattle.{mus_laid.specs.{declared.laid.SystemMarks.SystemMarks, Shapes.AreAlike}, mus_marks.specs.Tilt.{IsTilted}, lay_columns.specs.{declared.column.Column.Column, Columns.column_reach}}
-use Rattle.lay_springs.specs.{declared.margin.Placed.Placed, Place.IsPlace, Place.StandApart, Place.length_at, Place.reach_at, Fit.IsSet, Fit.counted, Fit.is_ragged}
-use Rattle.{lay_spans.specs.Badness.{badness_of}, lay_pages.specs.{declared.stacking.Heights.Heights, Stacking.AreStacked}}
-use Rattle.lay_tune.specs.Spans.{IsForceOf, IsSystem, column_length, score_gaps, system_columns}
+use Rattle.{mus_score.specs.{declared.score.Score.Score, declared.score.Voice.Voice, Seats.stands_lower}, mus_time.specs.Onsets.{timeline_of}, mus_laid.specs.{declared.laid.SystemMarks.SystemMarks, Shapes.AreAlike}}
+use Rattle.{mus_marks.specs.Tilt.{IsTilted}, lay_columns.specs.{declared.column.Column.Column, Columns.column_reach}}
+use Rattle.{lay_springs.specs.{declared.margin.Placed.Placed, Place.IsPlace, Place.StandApart, Place.length_at, Place.reach_at, Fit.IsSet, Fit.counted, Fit.is_ragged}, lay_spans.specs.Badness.{badness_of}}
+use Rattle.{lay_pages.specs.{declared.stacking.Heights.Heights, Stacking.AreStacked}, lay_tune.specs.Spans.{IsForceOf, IsSystem, column_length, score_gaps, system_columns}}
 
 -- Two things for each span of a breaking, in order; the first span begins at bar a.
 abbrev pub EachSpan : {X Y : Type 0} → (ℕ → ℕ → X → Y → Type 0) → ℕ → List ℕ → List X → List Y → Type 0

@@ -1,7 +1,6 @@
 ghost use Rattle.std.specs.Prelude.{◌≡◌, ◌+◌, ◌<◌, ◌≤◌, ℕ, Option, All, IfErr, IfOk, length, map, slice_index_or};
-ghost use Rattle.{mus_score.specs.GoodScore.{IsGoodScore}, mus_time.specs.Onsets.{timeline_of}, mus_drawn.specs.{Drawn.drawn_voice, Good.AreGoodMeasures}};
-ghost use Rattle.{mus_laid.specs.Boxes.{AreGoodMarks}, lay_columns.specs.Columns.{column_reach}};
-ghost use Rattle.lay_breaks.specs.{Breaking.IsChosen, Breaking.IsPotential, Breaking.sum_from, Spans.AreSpans, Spans.listed};
+ghost use Rattle.{mus_score.specs.GoodScore.{IsGoodScore}, mus_time.specs.Onsets.{timeline_of}, mus_drawn.specs.{Drawn.drawn_voice, Good.AreGoodMeasures}, mus_laid.specs.Boxes.{AreGoodMarks}};
+ghost use Rattle.{lay_columns.specs.Columns.{column_reach}, lay_breaks.specs.{Breaking.IsChosen, Breaking.IsPotential, Breaking.sum_from, Spans.AreSpans, Spans.listed}};
 ghost use Rattle.lay_spans.specs.Columns.{AreMeasures};
 ghost use Rattle.lay_tune.specs.declared.layout.LayoutError.TheVariants as errors;
 ghost use Rattle.lay_tune.specs.{Breakings.IsLeastBreaking, Layout.{IsCauseIn, layout_error}, Spans.{AreColumnsOf, AreSpansOf, is_forced_in, score_gaps, verses_of}, Systems.{Beside, EachSpan, IsSetSystem, IsStack}};

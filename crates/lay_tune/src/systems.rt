@@ -1,7 +1,6 @@
 ghost use Rattle.std.specs.Prelude.{◌≡◌, ◌+◌, ◌<◌, ◌≤◌, ◌^◌, ◌==◌, ℕ, All, IfOk, length, map, slice_index};
-ghost use Rattle.{mus_score.specs.GoodScore.{IsGoodScore}, mus_time.specs.Onsets.{timeline_of}, mus_drawn.specs.{Drawn.drawn_voice, Good.AreGoodMeasures}};
-ghost use Rattle.{mus_laid.specs.Boxes.{AreGoodMarks}, lay_breaks.specs.Spans.{listed}};
-ghost use Rattle.lay_tune.specs.{Spans.{AreColumnsOf, score_gaps}, Systems.{AllSpans, Beside, CanBeSet, EachSpan, HaveForce, IsJustified, IsSetSystem, IsStack}};
+ghost use Rattle.{mus_score.specs.GoodScore.{IsGoodScore}, mus_time.specs.Onsets.{timeline_of}, mus_drawn.specs.{Drawn.drawn_voice, Good.AreGoodMeasures}, mus_laid.specs.Boxes.{AreGoodMarks}};
+ghost use Rattle.{lay_breaks.specs.Spans.{listed}, lay_tune.specs.{Spans.{AreColumnsOf, score_gaps}, Systems.{AllSpans, Beside, CanBeSet, EachSpan, HaveForce, IsJustified, IsSetSystem, IsStack}}};
 
 use crate::gaps::gaps_between;
 use lay_breaks::Costs;

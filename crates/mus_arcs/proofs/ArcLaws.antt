@@ -5,8 +5,7 @@ use Rattle.mus_arcs.specs.{declared.pairing.Arc.Arc, declared.pairing.Spot.Spot,
 pub copies-more : (n : ℕ) (at : Spot) → copies (n + 1) at ≡ at ∷ copies n at
 copies-more n at = rw add-one refl
 
-pub slurs-less : (count n : ℕ) (start end : Spot) (ends : List Spot) → n < count
-    → slurs (copies (count - n) start) (end ∷ ends) ≡ slur start end ++ slurs (copies (count - (n + 1)) start) ends
+pub slurs-less : (count n : ℕ) (start end : Spot) (ends : List Spot) → n < count → slurs (copies (count - n) start) (end ∷ ends) ≡ slur start end ++ slurs (copies (count - (n + 1)) start) ends
 slurs-less count n start end ends lt =
     let e : count - n ≡ suc (count - (n + 1)) = omega arith in rw e refl
 

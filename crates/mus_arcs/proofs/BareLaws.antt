@@ -1,7 +1,6 @@
 -- Where no slur and no tie begins at the events of a voice, it has no arcs.
 use Rattle.std.{proofs.{Common.{◌≡◌, ℕ, suc, List, [], ◌∷◌, Bool, true, false, not, ◌&&◌, ◌==◌, map, refl, sym, ◌∙◌, ap, subst, arith}, lemmas.{Bool.{and_parts, eqb-true, false≢true}, List.Elements.{All-nil, All-cons, All-head, All-tail, All-append, All-map}}}, specs.List.{All, list_all}}
-use Rattle.mus_units.specs.declared.note.Head.{Head}
-use Rattle.mus_score.specs.{declared.score.{Event.Event, Measure.Measure, Voice.Voice, Music.{Music, map-Music, TheOpen.Music-F, TheFolds.{fold-roll-Music, ind-Music}}}, GoodScore.IsGoodVoice}
+use Rattle.{mus_units.specs.declared.note.Head.{Head}, mus_score.specs.{declared.score.{Event.Event, Measure.Measure, Voice.Voice, Music.{Music, map-Music, TheOpen.Music-F, TheFolds.{fold-roll-Music, ind-Music}}}, GoodScore.IsGoodVoice}}
 use Rattle.mus_arcs.{specs.{declared.{events.EventAt.EventAt, pairing.Arc.Arc}, Arcs.{AreArcsOf, arcs_of, ties_at, ties_from}, Events.{at_measure, bare_step, events_in, events_of_voice, events_step, events_within, is_bare, is_bare_event, walked_from}}, proofs.{EventLaws.walked, OrderLaws.voice-in_order, RuleLaws.{arcs_of-by_rule, arcs_of-ties_are}}}
 
 abbrev IsBare : EventAt → Type 0

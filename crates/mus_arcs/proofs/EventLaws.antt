@@ -6,8 +6,7 @@ use Rattle.mus_arcs.specs.Events.{at_measure, body_events, events_from, events_i
 Agrees : Music → Type 0
 Agrees m = (qs ps : ℕ) (w : Waits) → map (λ f. f.event) (leaves_within m qs ps w).flats ≡ events_within m
 
-in_row-events : (ms : List ((m : Music) × Agrees m)) (qs ps : ℕ) (w : Waits)
-    → map (λ f. f.event) (in_row (map leaves_within (map (λ e. e.0) ms)) qs ps w).flats ≡ join (map events_within (map (λ e. e.0) ms))
+in_row-events : (ms : List ((m : Music) × Agrees m)) (qs ps : ℕ) (w : Waits) → map (λ f. f.event) (in_row (map leaves_within (map (λ e. e.0) ms)) qs ps w).flats ≡ join (map events_within (map (λ e. e.0) ms))
 unfolding Agrees
 in_row-events [] qs ps w = refl
 in_row-events (e ∷ ms) qs ps w =
@@ -23,8 +22,7 @@ layer (Music-F.Rest e) qs ps w = refl
 layer (Music-F.Grace body slash) qs ps w = refl
 layer (Music-F.Tuplet p q body) qs ps w = in_row-events body (qs * q) (ps * p) (record w { tuplets = w.tuplets ++ p ∷ [] })
 
-rolled : (x : Music-F Music) (qs ps : ℕ) (w : Waits)
-    → map (λ f. f.event) (leaves_step (map-Music Music Leafing leaves_within x) qs ps w).flats ≡ events_step (map-Music Music (List Event) events_within x)
+rolled : (x : Music-F Music) (qs ps : ℕ) (w : Waits) → map (λ f. f.event) (leaves_step (map-Music Music Leafing leaves_within x) qs ps w).flats ≡ events_step (map-Music Music (List Event) events_within x)
     → map (λ f. f.event) (leaves_within (roll-Music x) qs ps w).flats ≡ events_within (roll-Music x)
 rolled x qs ps w e = ap (λ z. map (λ f. f.event) (z qs ps w).flats) (fold-roll-Music Leafing leaves_step x) ∙ e ∙ sym (fold-roll-Music (List Event) events_step x)
 
@@ -44,8 +42,7 @@ all_agree-nodes [] = refl
 all_agree-nodes (m ∷ ms) = ap (λ x. m ∷ x) (all_agree-nodes ms)
 
 pub body_events-walked : (body : List Music) → body_events body ≡ events_in body
-body_events-walked body =
-    subst (λ ms. body_events ms ≡ events_in ms) (all_agree-nodes body) (in_row-events (all_agree body) 1 1 nothing)
+body_events-walked body = subst (λ ms. body_events ms ≡ events_in ms) (all_agree-nodes body) (in_row-events (all_agree body) 1 1 nothing)
 
 pub walked : (number : ℕ) (measures : List Measure) → walked_from number measures ≡ events_from number measures
 walked number [] = refl

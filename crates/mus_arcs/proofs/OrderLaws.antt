@@ -1,7 +1,6 @@
 -- The arcs that are found from the last event back are in order, where the ids of the events rise.
 use Rattle.std.{proofs.{Common.{◌≡◌, ◌<◌, ◌≤◌, ℕ, zero, suc, List, [], ◌∷◌, ◌++◌, map, true, false, ◌==◌, ◌&&◌, drop, get_or, reverse, sym, ◌∙◌, subst, arith}, lemmas.List.{reverse-append, Elements.{All-nil, All-cons, All-head, All-tail, All-append, All-drop, All-weaker}, Sorted.{All-permutation, IsPermutation-reverse}, Concat.flat_map-cons}}, specs.{Prelude.if◌then◌else◌, List.{All, list_any}}}
-use Rattle.mus_units.specs.declared.note.Head.{Head}
-use Rattle.mus_score.specs.{declared.score.Flat.Flat, declared.score.Measure.Measure, declared.score.Voice.Voice, GoodScore.AreCounted, GoodScore.IsGoodVoice, GoodScore.events_of, Times.flats_of}
+use Rattle.{mus_units.specs.declared.note.Head.{Head}, mus_score.specs.{declared.score.Flat.Flat, declared.score.Measure.Measure, declared.score.Voice.Voice, GoodScore.AreCounted, GoodScore.IsGoodVoice, GoodScore.events_of, Times.flats_of}}
 use Rattle.mus_arcs.{specs.{declared.{events.EventAt.EventAt, pairing.{Arc.Arc, Spot.Spot}}, Arcs.{AreInOrder, ComesBefore, ComesFirst, arcs_of, at_one, copies, earlier, has_pitch, open_ends, slur, slurs, slurs_at, spot, tie, ties_at, ties_from}, Events.{at_measure, events_from, events_of_voice}}, proofs.RuleLaws.{IsSlurFrom, IsTieBehind, IsTieFrom, slurs-are, slurs_at-are, tie-is, ties-are, ties_at-are}}
 
 all_across : (P Q : Arc → Type 0) (R : Arc → Arc → Type 0) (xs ys : List Arc) → ((x y : Arc) → P x → Q y → R x y) → All P xs → All Q ys → All (λ x. All (R x) ys) xs
@@ -93,8 +92,7 @@ ends-not_falling e events behind h =
 open_ends-not_falling : (events : List EventAt) → AreRising events → NotFalling (open_ends events)
 unfolding AreRising NotFalling
 open_ends-not_falling [] rising = tt
-open_ends-not_falling (e ∷ events) rising =
-    drop-not_falling e.begins (copies e.ends (spot e) ++ open_ends events) (ends-not_falling e events rising.0 (open_ends-not_falling events rising.1))
+open_ends-not_falling (e ∷ events) rising = drop-not_falling e.begins (copies e.ends (spot e) ++ open_ends events) (ends-not_falling e events rising.0 (open_ends-not_falling events rising.1))
 
 -- ---- slurs from one event, the inner first
 Widens : List Arc → Type 0
@@ -198,5 +196,4 @@ arcs_of-in_order (e ∷ events) rising =
     (λ a b is lt. earlier (omega arith)) (at_event e events) (arcs_of-behind e.event events rising.0))
 
 pub voice-in_order : (v : Voice) → IsGoodVoice v → AreInOrder (arcs_of (events_of_voice v))
-voice-in_order v good =
-    arcs_of-in_order (events_of_voice v) (numbered-rising 0 (events_of_voice v) (measures-numbered 0 v.measures 0 good.ids))
+voice-in_order v good = arcs_of-in_order (events_of_voice v) (numbered-rising 0 (events_of_voice v) (measures-numbered 0 v.measures 0 good.ids))

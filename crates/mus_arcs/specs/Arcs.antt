@@ -1,7 +1,6 @@
 -- The arcs of a voice: slurs from a start to the end that takes it, and ties to the very next event.
 use Rattle.std.specs.{Prelude.{◌≡◌, ◌<◌, ◌≤◌, ℕ, zero, suc, List, [], ◌∷◌, ◌++◌, Bool, true, false, ◌&&◌, ◌==◌, not, if◌then◌else◌, filter, reverse, drop, IsTrue, IsPermutation, MatchBool}, List.{All, list_any}, Ordering.int_eq}
-use Rattle.mus_units.specs.{declared.note.Head.Head, declared.pitch.Pitch.Pitch, Good.same_letter}
-use Rattle.mus_arcs.specs.{declared.events.EventAt.EventAt, declared.pairing.Arc.Arc, declared.pairing.Spot.Spot}
+use Rattle.{mus_units.specs.{declared.note.Head.Head, declared.pitch.Pitch.Pitch, Good.same_letter}, mus_arcs.specs.{declared.events.EventAt.EventAt, declared.pairing.Arc.Arc, declared.pairing.Spot.Spot}}
 
 abbrev pub spot : EventAt → Spot
 spot e = record { event = e.event; measure = e.measure }

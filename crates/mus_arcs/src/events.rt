@@ -1,13 +1,11 @@
 ghost use Rattle.std.specs.{Prelude.◌≡◌, Prelude.◌++◌, Prelude.◌∷◌, Prelude.[], Prelude.◌≤◌, Prelude.not, Prelude.length, Prelude.map, Prelude.IfOk, Prelude.OnOk, List.{All, list_all}};
-ghost use Rattle.mus_score.specs.GoodScore.{IsGoodVoice};
-ghost use Rattle.mus_arcs.specs.Events.{at_measure, events_in, events_of_voice, events_within, is_bare, is_bare_event, walked_from};
+ghost use Rattle.{mus_score.specs.GoodScore.{IsGoodVoice}, mus_arcs.specs.Events.{at_measure, events_in, events_of_voice, events_within, is_bare, is_bare_event, walked_from}};
 
 use mus_score::{Event, Head, Measure, Music, Voice};
 use mus_units::{Few, Memory, Row};
 use std::alloc::Global;
 
-/// What arcs ask of an event: its id and its measure, how many slurs begin and
-/// end there, and its heads.
+/// What arcs ask of an event: its id and its measure, how many slurs begin and end there, and its heads.
 #[derive(Drop)]
 pub struct EventAt {
     pub event: u32,

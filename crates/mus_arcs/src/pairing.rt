@@ -7,9 +7,8 @@ use mus_score::{Head, Voice};
 use mus_units::{Memory, Pitch, Row};
 use std::alloc::Global;
 
-/// A slur or a tie from the event `first` of the measure `from` to the event
-/// `last` of the measure `to`. `head` is the place of a tie's head in its first
-/// event, and 0 for a slur.
+/// A slur or a tie from the event `first` of the measure `from` to the event `last` of the measure `to`.
+/// `head` is the place of a tie's head in its first event, and 0 for a slur.
 #[derive(Clone, Copy, PartialEq, Eq)]
 pub struct Arc {
     pub tie: bool,

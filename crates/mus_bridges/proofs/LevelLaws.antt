@@ -167,8 +167,7 @@ levels_are k group flags (p ∷ q ∷ qs) =
     begun : (g : Bool) → goes_on k p q ≡ g → nat_lt k p.flags ≡ true →
         cond g (record { level = k; first = p; last = last_at k q qs } ∷ []) [] ++ long_runs k (skip (g && nat_lt k p.flags) ((q ∷ r) ∷ rs))
         ≡ long_runs k (cond (g && nat_lt k p.flags) ((p ∷ q ∷ r) ∷ rs) ((p ∷ []) ∷ (q ∷ r) ∷ rs))
-    begun true e f =
-        rw f (ap (λ z. record { level = k; first = p; last = z } ∷ long_runs k rs) (run_last k q qs (ltb-true k q.flags (and_both (q.group == p.group) (nat_lt k q.flags) e).1)))
+    begun true e f = rw f (ap (λ z. record { level = k; first = p; last = z } ∷ long_runs k rs) (run_last k q qs (ltb-true k q.flags (and_both (q.group == p.group) (nat_lt k q.flags) e).1)))
     begun false e f = refl
 
     by : (b : Bool) → goes_on_from k group flags p ≡ b → (k < p.flags) ⊎ (p.flags ≤ k) →

@@ -1,8 +1,7 @@
 -- The pieces of a voice's arcs in a system.
 use Rattle.std.specs.{Prelude.{ℕ, ◌-◌, ◌==◌, Bool, if◌then◌else◌, List, [], ◌∷◌, flat_map, slice_get, Option, Some, None}, List.find}
-use Rattle.{mus_time.specs.{declared.keys.ColumnKey.ColumnKey, Keys.bar_key, Keys.head_key}, mus_arcs.specs.{declared.pairing.Arc.Arc, declared.cutting.Piece.Piece, Pieces.piece_of}}
-use Rattle.{mus_laid.specs.declared.drawn.Bridge.{Bridge}, mus_words.specs.Arcs.{Seen, arc_mark}, mus_drawn.specs.{declared.drawn.DrawnEvent.DrawnEvent, declared.drawn.DrawnMeasure.DrawnMeasure}}
-use Rattle.mus_keys.specs.Columns.{note_key}
+use Rattle.{mus_time.specs.{declared.keys.ColumnKey.ColumnKey, Keys.bar_key, Keys.head_key}, mus_arcs.specs.{declared.pairing.Arc.Arc, declared.cutting.Piece.Piece, Pieces.piece_of}, mus_laid.specs.declared.drawn.Bridge.{Bridge}}
+use Rattle.{mus_words.specs.Arcs.{Seen, arc_mark}, mus_drawn.specs.{declared.drawn.DrawnEvent.DrawnEvent, declared.drawn.DrawnMeasure.DrawnMeasure}, mus_keys.specs.Columns.{note_key}}
 
 abbrev pub has_id : ℕ → DrawnEvent → Bool
 has_id id e = e.flat.event.id == id
@@ -28,8 +27,7 @@ right_key lengths b piece m e = if piece.cut_right then bar_key lengths (b - 1) 
 abbrev pub arc_between : List ℕ → ℕ → ℕ → Piece → Arc → Option DrawnEvent → Option DrawnEvent → List Bridge
 arc_between lengths a b piece arc None last = []
 arc_between lengths a b piece arc (Some e) None = []
-arc_between lengths a b piece arc (Some e) (Some f) =
-    arc_mark (left_key a piece arc.from e) (right_key lengths b piece arc.to f) piece arc (seen_of e) (seen_of f) ∷ []
+arc_between lengths a b piece arc (Some e) (Some f) = arc_mark (left_key a piece arc.from e) (right_key lengths b piece arc.to f) piece arc (seen_of e) (seen_of f) ∷ []
 
 abbrev pub piece_between : List ℕ → ℕ → ℕ → List DrawnMeasure → Arc → Option Piece → List Bridge
 piece_between lengths a b ds arc None = []

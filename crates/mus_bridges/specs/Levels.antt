@@ -36,8 +36,7 @@ LevelsRise k (l ∷ ls) = (k ≤ l.level) × LevelsRise (l.level + 1) ls
 -- some that begin at the first of the events, by level, and then those that begin further on
 abbrev pub ByFirst : List Stem → List Level → Type 0
 ByFirst [] ls = ls ≡ []
-ByFirst (e ∷ es) ls =
-    (here : List Level) × (behind : List Level) × (ls ≡ here ++ behind) × AllByRecursion (λ l. l.first ≡ e) here × LevelsRise 0 here × ByFirst es behind
+ByFirst (e ∷ es) ls = (here : List Level) × (behind : List Level) × (ls ≡ here ++ behind) × AllByRecursion (λ l. l.first ≡ e) here × LevelsRise 0 here × ByFirst es behind
 
 -- what is drawn of the levels of the events of a measure
 pub record AreLevels (es : List Stem) (ls : List Level) : Type 0 where

@@ -1,6 +1,5 @@
 ghost use Rattle.std.specs.{Prelude.◌≡◌, Prelude.◌++◌, Prelude.OnOk, Prelude.option_copied, List.find};
-ghost use Rattle.mus_words.specs.Arcs.{seen};
-ghost use Rattle.mus_bridges.specs.Arcs.{has_id, event_at, seen_of, left_key, right_key, arc_between, piece_between, arc_in, arcs_between};
+ghost use Rattle.{mus_words.specs.Arcs.{seen}, mus_bridges.specs.Arcs.{has_id, event_at, seen_of, left_key, right_key, arc_between, piece_between, arc_in, arcs_between}};
 
 use mus_arcs::{Arc, Piece, pieces};
 use mus_drawn::{DrawnEvent, DrawnMeasure};

@@ -1,9 +1,7 @@
 -- Events within reach of the staff can be drawn.
 use Rattle.std.{proofs.{Common.{◌≡◌, ◌≤◌, ◌+◌, ◌*◌, ℕ, List, [], ◌∷◌, ◌++◌, length, map, max, refl, arith}, lemmas.List.{Elements.{All-head, All-tail}, Sums.sum_by-cons}}, specs.List.{All, sum_by}}
-use Rattle.mus_units.specs.{declared.note.Head.Head, declared.pitch.Clef.Clef}
-use Rattle.mus_score.specs.{declared.score.Flat.Flat, Good.IsGoodFlat, Good.flat_weight, Good.heads_in, GoodScore.AreInReach, GoodScore.IsInReach, GoodScore.clef_at}
-use Rattle.mus_stems.specs.{Heads.AllNear, Heads.stand_of, Stills.AllCanStand, Stills.CanStand, Stills.clefs_from}
-use Rattle.mus_drawn.specs.{declared.standing.Standing.Standing, Drawn.standing_after, Drawn.standing_behind}
+use Rattle.{mus_units.specs.{declared.note.Head.Head, declared.pitch.Clef.Clef}, mus_score.specs.{declared.score.Flat.Flat, Good.IsGoodFlat, Good.flat_weight, Good.heads_in, GoodScore.AreInReach, GoodScore.IsInReach, GoodScore.clef_at}}
+use Rattle.{mus_stems.specs.{Heads.AllNear, Heads.stand_of, Stills.AllCanStand, Stills.CanStand, Stills.clefs_from}, mus_drawn.specs.{declared.standing.Standing.Standing, Drawn.standing_after, Drawn.standing_behind}}
 
 pub near_of : (clef : Clef) (heads : List Head) → All (IsInReach clef) heads → AllNear (map (stand_of clef) heads)
 unfolding stand_of

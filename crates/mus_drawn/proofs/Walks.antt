@@ -10,8 +10,7 @@ measures_cut ms i m inside here =
 
 pub reach_here : (now : Standing) (ms : List Measure) (i : ℕ) (m : Measure) → i < length ms → m ≡ get_or ms i m → AreInReach now.clef (events_of (drop i ms))
     → AreInReach now.clef (flats_of m.body) × AreInReach (standing_behind now (flats_of m.body)).clef (events_of (drop (i + 1) ms))
-reach_here now ms i m inside here h =
-    reach_cut now (flats_of m.body) (events_of (drop (i + 1) ms)) (subst (λ x. AreInReach now.clef (events_of x)) (measures_cut ms i m inside here) h)
+reach_here now ms i m inside here h = reach_cut now (flats_of m.body) (events_of (drop (i + 1) ms)) (subst (λ x. AreInReach now.clef (events_of x)) (measures_cut ms i m inside here) h)
 
 pub can_here : (ms : List Measure) (i : ℕ) (m : Measure) → i < length ms → m ≡ get_or ms i m → AllCanDraw (events_of (drop i ms)) → AllCanDraw (flats_of m.body) × AllCanDraw (events_of (drop (i + 1) ms))
 can_here ms i m inside here h = can_cut (flats_of m.body) (events_of (drop (i + 1) ms)) (subst (λ x. AllCanDraw (events_of x)) (measures_cut ms i m inside here) h)

@@ -44,8 +44,7 @@ drawn_event style tick now f p = record { seat = style.seat; flat = f; tick = ti
 abbrev pub drawn_events : Style → ℕ → Standing → List Flat → List StemPlan → List DrawnEvent
 drawn_events style tick now [] ps = []
 drawn_events style tick now (f ∷ fs) [] = []
-drawn_events style tick now (f ∷ fs) (p ∷ ps) =
-    drawn_event style tick now f p ∷ drawn_events style (tick + f.duration) (standing_after now f.event.changes) fs ps
+drawn_events style tick now (f ∷ fs) (p ∷ ps) = drawn_event style tick now f p ∷ drawn_events style (tick + f.duration) (standing_after now f.event.changes) fs ps
 
 -- What a head shows: what is in force at the first event of the measure, or before it where it has none.
 abbrev pub opening_at : Standing → Bool → Opening

@@ -2,8 +2,7 @@
 -- far and those of the event before are carried along. `Sounds` has what is meant.
 use Rattle.std.specs.{Prelude.{ℕ, ◌+◌, Bool, ◌&&◌, if◌then◌else◌, List, [], ◌∷◌, ◌++◌, flat_map, Option, Some, None}, List.{find, list_any}}
 use Rattle.mus_units.specs.declared.{key.Sign.Sign, key.Spread.Spread, note.Head.Head, pitch.Alter.Alter, pitch.Pitch.Pitch}
-use Rattle.{mus_score.specs.{declared.score.Flat.Flat, declared.score.Measure.Measure, declared.score.Voice.Voice, Times.flats_of}, mus_pitch.specs.Alteration.{alteration_of}}
-use Rattle.mus_arcs.specs.Arcs.{has_pitch}
+use Rattle.{mus_score.specs.{declared.score.Flat.Flat, declared.score.Measure.Measure, declared.score.Voice.Voice, Times.flats_of}, mus_pitch.specs.Alteration.{alteration_of}, mus_arcs.specs.Arcs.{has_pitch}}
 use Rattle.mus_drawn.specs.{declared.standing.Standing.Standing, Drawn.standing_after, Drawn.standing_behind, Drawn.standing_of, declared.sounds.Heard.Heard, declared.sounds.Sound.Sound}
 
 abbrev pub is_heard_at : Pitch → Heard → Bool
@@ -23,13 +22,11 @@ heard_alter None None p said spread signs = alteration_of p None said spread sig
 
 -- a head, behind those of its event so far; said are the heads before it in its measure
 abbrev pub heard : Spread → List Sign → List Heard → List Head → List Heard → Head → Heard
-heard spread signs before said so_far h =
-    record { head = h; alter = heard_alter h.sign (partner_of before so_far h.pitch) h.pitch said spread signs }
+heard spread signs before said so_far h = record { head = h; alter = heard_alter h.sign (partner_of before so_far h.pitch) h.pitch said spread signs }
 
 abbrev pub heard_from : Spread → List Sign → List Heard → List Head → List Heard → List Head → List Heard
 heard_from spread signs before said so_far [] = so_far
-heard_from spread signs before said so_far (h ∷ hs) =
-    heard_from spread signs before (said ++ h ∷ []) (so_far ++ heard spread signs before said so_far h ∷ []) hs
+heard_from spread signs before said so_far (h ∷ hs) = heard_from spread signs before (said ++ h ∷ []) (so_far ++ heard spread signs before said so_far h ∷ []) hs
 
 -- the heads that are said in a measure before those of an event, and behind them
 abbrev pub said_at : List Head → Flat → List Head
@@ -40,19 +37,16 @@ said_behind said f = said_at said f ++ f.event.heads
 
 -- the heads of an event; before are those of the event before it in its voice
 abbrev pub heard_at : Spread → Standing → List Head → List Heard → Flat → List Heard
-heard_at spread now said before f =
-    heard_from spread (standing_after now f.event.changes).key.signs before (said_at said f) [] f.event.heads
+heard_at spread now said before f = heard_from spread (standing_after now f.event.changes).key.signs before (said_at said f) [] f.event.heads
 
 abbrev pub heard_behind : Spread → Standing → List Head → List Heard → List Flat → List Heard
 heard_behind spread now said before [] = before
-heard_behind spread now said before (f ∷ fs) =
-    heard_behind spread (standing_after now f.event.changes) (said_behind said f) (heard_at spread now said before f) fs
+heard_behind spread now said before (f ∷ fs) = heard_behind spread (standing_after now f.event.changes) (said_behind said f) (heard_at spread now said before f) fs
 
 -- heads from number k on
 abbrev pub sounds_from : ℕ → ℕ → ℕ → List Heard → List Sound
 sounds_from voice event k [] = []
-sounds_from voice event k (x ∷ xs) =
-    record { voice = voice; event = event; head = k; pitch = x.head.pitch; alter = x.alter } ∷ sounds_from voice event (k + 1) xs
+sounds_from voice event k (x ∷ xs) = record { voice = voice; event = event; head = k; pitch = x.head.pitch; alter = x.alter } ∷ sounds_from voice event (k + 1) xs
 
 abbrev pub events_sounds : ℕ → Spread → Standing → List Head → List Heard → List Flat → List Sound
 events_sounds voice spread now said before [] = []

@@ -3,8 +3,7 @@
 -- reaches it, the signs of graces too; else its key's. Graces are not listed.
 use Rattle.std.specs.{Prelude.{ℕ, ◌+◌, Bool, ◌&&◌, if◌then◌else◌, List, [], ◌∷◌, ◌++◌, flat_map, Option, Some, None}, List.list_any}
 use Rattle.mus_units.specs.declared.{key.Sign.Sign, key.Spread.Spread, note.Head.Head, pitch.Alter.Alter, pitch.Pitch.Pitch}
-use Rattle.mus_score.specs.{declared.score.Flat.Flat, declared.score.Measure.Measure, declared.score.Score.Score, declared.score.Voice.Voice, Times.flats_of}
-use Rattle.{mus_pitch.specs.Alteration.{alteration_of}, mus_arcs.specs.Arcs.{has_pitch}}
+use Rattle.{mus_score.specs.{declared.score.Flat.Flat, declared.score.Measure.Measure, declared.score.Score.Score, declared.score.Voice.Voice, Times.flats_of}, mus_pitch.specs.Alteration.{alteration_of}, mus_arcs.specs.Arcs.{has_pitch}}
 use Rattle.mus_drawn.specs.{declared.sounds.Sound.Sound, declared.standing.Standing.Standing, Drawn.standing_behind, Drawn.standing_of}
 
 -- an event with what can be seen from it: the heads before it in its measure, its own graces' too, and its key's signs

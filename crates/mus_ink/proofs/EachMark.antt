@@ -2,8 +2,7 @@
 -- the marks of a good meter holds of all marks of the parts.
 use Rattle.std.{proofs.Common.{ℕ, zero, suc, ℤ, ◌+◌, ◌-◌, max, Bool, true, false, ◌==◌, ◌&&◌, if◌then◌else◌, List, [], ◌∷◌, ◌++◌, Option, Some, None}, specs.{List.AllByRecursion, Prelude.IfSome}}
 use Rattle.mus_units.specs.{declared.glyph.Glyph.Glyph, declared.key.Key.Key, declared.key.Meter.Meter, declared.key.Sign.Sign, declared.note.Bar.Bar, declared.note.Deco.Deco, declared.note.Head.Head, declared.pitch.Alter.Alter, declared.pitch.Clef.Clef, declared.value.Base.Base, Good.IsGoodMeter}
-use Rattle.mus_score.specs.{declared.score.Changes.Changes, declared.score.Event.Event, declared.score.Look.Look}
-use Rattle.mus_stems.{proofs.RunLaws.all_append, specs.declared.dots.Spot.Spot, specs.declared.plans.StemPlan.StemPlan}
+use Rattle.{mus_score.specs.{declared.score.Changes.Changes, declared.score.Event.Event, declared.score.Look.Look}, mus_stems.{proofs.RunLaws.all_append, specs.{declared.dots.Spot.Spot, declared.plans.StemPlan.StemPlan}}}
 use Rattle.mus_ink.specs.{declared.graces.Group.Group, Bars.{bar_marks, glyph_if}, Changes.{behind_clef, change_marks, clef_if, head_marks, key_if, new_entries}, Decos.{behind_deco, body_marks, deco_mark, deco_marks, note_marks}, Distances.{entry_gap, signature_side}, Kinds.{deco_glyph, head_glyph}, Graces.{at_end, grace_body, grace_heads, grace_marks}, Notes.{dot_marks, heads_marks, ledger_marks, note_heads, sign_mark, sign_marks}, Rests.{rest_dots, rest_glyphs, rest_marks, short_rests}, Signatures.{entry_mark, entry_marks, meter_if, meter_marks}, Stems.{flag_marks, flags_or_stubs, stem_if, stem_marks, stub_marks}, Drawing.{glyph, loose_glyph, stem}}
 use Rattle.mus_laid.specs.declared.drawn.Drawn.{Drawn}
 

@@ -1,13 +1,11 @@
 -- The head of a staff, and a change before an event.
 use Rattle.std.specs.Prelude.{ℕ, ◌+◌, ◌*◌, true, false, List, [], ◌∷◌, ◌++◌, length, Option, Some, None}
-use Rattle.{mus_units.specs.{declared.pitch.Clef.Clef, declared.key.Sign.Sign, declared.key.Key.Key, declared.key.Meter.Meter}, mus_score.specs.declared.score.Changes.{Changes}}
-use Rattle.mus_laid.specs.declared.drawn.Drawn.{Drawn}
+use Rattle.{mus_units.specs.{declared.pitch.Clef.Clef, declared.key.Sign.Sign, declared.key.Key.Key, declared.key.Meter.Meter}, mus_score.specs.declared.score.Changes.{Changes}, mus_laid.specs.declared.drawn.Drawn.{Drawn}}
 use Rattle.mus_ink.specs.{Distances.clef_side, Distances.clef_width, Distances.entry_gap, Distances.entry_step, Distances.signature_side, Signatures.clef_mark, Signatures.entry_marks, Signatures.meter_if}
 
 -- the clef, the entries and the meter drawn there
 unfoldable pub head_marks : Clef → List Sign → Option Meter → List Drawn
-head_marks c signs meter =
-    clef_mark clef_side c ∷ entry_marks c false signature_side 0 signs ++ meter_if (signature_side + entry_step * length signs) meter
+head_marks c signs meter = clef_mark clef_side c ∷ entry_marks c false signature_side 0 signs ++ meter_if (signature_side + entry_step * length signs) meter
 
 abbrev pub clef_if : Option Clef → List Drawn
 clef_if None = []

@@ -41,5 +41,4 @@ body_marks c raise (h ∷ hs) e plan before after = heads_marks c e.value.base (
 
 -- an event: its clef, how much its rest is raised, its stem plan, and the levels of the events beside it in its beam
 unfoldable pub note_marks : Clef → ℤ → Event → StemPlan → ℕ → ℕ → List Drawn
-note_marks c raise e plan before after =
-    body_marks c raise e.heads e plan before after ++ deco_marks (first_deco (top_of c e.heads plan)) e.decos
+note_marks c raise e plan before after = body_marks c raise e.heads e plan before after ++ deco_marks (first_deco (top_of c e.heads plan)) e.decos

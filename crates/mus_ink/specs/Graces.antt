@@ -1,8 +1,7 @@
 -- Graces: each has a column of its own, and those before one event are a group.
 use Rattle.std.specs.{Prelude.{ℤ, pos, ◌+ℤ◌, ◌-ℤ◌, Bool, true, false, ◌&&◌, ◌==◌, if◌then◌else◌, List, [], ◌∷◌, ◌++◌, length, map}, Int.int_max}
 use Rattle.{mus_units.specs.declared.{glyph.Glyph.Glyph, pitch.Clef.Clef, note.Head.Head, glyph.Way.Way}, mus_score.specs.declared.score.Event.{Event}}
-use Rattle.{mus_stems.specs.{Heads.stand_of, Signs.signs_from, Ends.low_of, Ends.high_of, Ledgers.ledgers_of}, mus_laid.specs.{declared.drawn.Drawn.Drawn, declared.drawn.Bridge.Bridge}}
-use Rattle.mus_time.specs.declared.keys.ColumnKey.{ColumnKey}
+use Rattle.{mus_stems.specs.{Heads.stand_of, Signs.signs_from, Ends.low_of, Ends.high_of, Ledgers.ledgers_of}, mus_laid.specs.{declared.drawn.Drawn.Drawn, declared.drawn.Bridge.Bridge}, mus_time.specs.declared.keys.ColumnKey.{ColumnKey}}
 use Rattle.mus_ink.specs.{declared.graces.Group.Group, Distances.{beam_thickness, grace_sign_side, grace_stem_length, grace_stem_side}, Drawing.{back, beam, cut, glyph, stem}, Notes.{dy_of, highest_dy, lowest_dy, sign_marks, ledger_marks}}
 
 -- where the stem of a grace alone ends, by its highest head
@@ -49,8 +48,7 @@ ends group first = at_end group.alone Glyph.Gf group.end ++ at_end (first && gro
 
 -- one grace of a group
 unfoldable pub grace_marks : Clef → Group → Bool → Event → List Drawn
-grace_marks c group first g =
-    grace_body c g.heads ++ stem (pos grace_stem_side) (stem_from c g.heads) group.end ∷ [] ++ ends group first
+grace_marks c group first g = grace_body c g.heads ++ stem (pos grace_stem_side) (stem_from c g.heads) group.end ∷ [] ++ ends group first
 
 -- the beam of a group of two graces or more, from the column of the first to that of the last
 unfoldable pub beam_edge : ℤ → ℤ

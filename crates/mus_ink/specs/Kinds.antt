@@ -1,6 +1,5 @@
 -- What is drawn by which glyph, and where: a row for each clef, sign, base and decoration.
-use Rattle.std.specs.Prelude.{ℤ, pos, negsuc, Bool, true, false, Option, Some, None}
-use Rattle.mus_units.specs.declared.{glyph.Glyph.Glyph, pitch.Alter.Alter, pitch.Clef.Clef, note.Deco.Deco, value.Base.Base}
+use Rattle.{std.specs.Prelude.{ℤ, pos, negsuc, Bool, true, false, Option, Some, None}, mus_units.specs.declared.{glyph.Glyph.Glyph, pitch.Alter.Alter, pitch.Clef.Clef, note.Deco.Deco, value.Base.Base}}
 use Rattle.mus_ink.specs.{declared.kinds.Entries.Entries, declared.kinds.ClefRow.ClefRow, declared.kinds.RestRow.RestRow}
 
 -- a clef: its glyph, the line that it names, and the heights of sharps and of flats of a signature, those of

@@ -1,8 +1,7 @@
 -- The heads of an event, and what stands beside them: signs, ledger lines and dots.
 use Rattle.std.specs.{Prelude.{ℤ, pos, List, [], ◌∷◌, ◌++◌, Option, Some}, Int.{int_max, int_min}}
 use Rattle.mus_units.specs.{Pitch.height_of, declared.glyph.Glyph.Glyph, declared.pitch.Alter.Alter, declared.pitch.Clef.Clef, declared.note.Head.Head, declared.value.Base.Base}
-use Rattle.{mus_stems.specs.{declared.dots.Spot.Spot, declared.plans.StemPlan.StemPlan}, mus_laid.specs.declared.drawn.Drawn.{Drawn}}
-use Rattle.mus_ink.specs.{Drawing.glyph, Drawing.steps_dy, Kinds.head_glyph, Kinds.sign_glyph}
+use Rattle.{mus_stems.specs.{declared.dots.Spot.Spot, declared.plans.StemPlan.StemPlan}, mus_laid.specs.declared.drawn.Drawn.{Drawn}, mus_ink.specs.{Drawing.glyph, Drawing.steps_dy, Kinds.head_glyph, Kinds.sign_glyph}}
 
 unfoldable pub dy_of : Clef → Head → ℤ
 dy_of c h = steps_dy (height_of h.pitch c)
@@ -41,5 +40,4 @@ dot_marks (s ∷ ss) = glyph Glyph.Dt s.dx s.dy ∷ dot_marks ss
 
 -- signs, ledgers, heads and dots
 unfoldable pub heads_marks : Clef → Base → List Head → StemPlan → List Drawn
-heads_marks c base heads plan =
-    sign_marks c heads plan.signs ++ ledger_marks plan.ledgers ++ note_heads c (head_glyph base) heads plan.shifts ++ dot_marks plan.dots
+heads_marks c base heads plan = sign_marks c heads plan.signs ++ ledger_marks plan.ledgers ++ note_heads c (head_glyph base) heads plan.shifts ++ dot_marks plan.dots

@@ -1,7 +1,6 @@
 ghost use Rattle.std.specs.{Prelude.{◌≡◌, ◌∷◌, [], OnOk}, List.list_all, Option.is_none};
 ghost use Rattle.mus_units.specs.Pitch.{height_of};
-ghost use Rattle.mus_ink.specs.{Drawing.{cut, glyph}, Notes.{dy_of, highest_dy, lowest_dy, sign_mark, sign_marks, ledger_marks, note_heads, dot_marks, heads_marks}};
-ghost use Rattle.mus_laid.specs.Ranked.{inked};
+ghost use Rattle.{mus_ink.specs.{Drawing.{cut, glyph}, Notes.{dy_of, highest_dy, lowest_dy, sign_mark, sign_marks, ledger_marks, note_heads, dot_marks, heads_marks}}, mus_laid.specs.Ranked.{inked}};
 
 use crate::drawing::{cut, put_glyph, steps_dy};
 use crate::kinds::{head_glyph, sign_glyph};

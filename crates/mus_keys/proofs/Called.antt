@@ -73,8 +73,7 @@ module _ (lengths : List ℕ) (style : Style) where
 -- a voice with a staff of its own calls for the columns that its drawing has, and a lower one for those of its notes and graces
 pub voice_same : (lengths : List ℕ) (a b : ℕ) (v : Voice) → all_keys lengths a b v ≡ voice_columns lengths a b (drawn_voice v)
 unfolding drawn_voice
-voice_same lengths a b v =
-    ap (λ t. head_key a ∷ first_keys a v.first ++ t) (some_measures lengths (style_of v) a a (b - a) true (has_entries v.key) (standing_of v) v.measures refl)
+voice_same lengths a b v = ap (λ t. head_key a ∷ first_keys a v.first ++ t) (some_measures lengths (style_of v) a a (b - a) true (has_entries v.key) (standing_of v) v.measures refl)
 
 -- voices call for the columns that they have on their staves, as they are drawn
 pub staff_same : (lengths : List ℕ) (a b : ℕ) (v : Voice) → voice_keys lengths a b v ≡ staff_columns true lengths a b (drawn_voice v)

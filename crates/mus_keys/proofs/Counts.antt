@@ -1,7 +1,6 @@
 -- Voices have as many measures drawn as they have, and a score as many lengths as measures.
 use Rattle.std.{proofs.{Common.{◌≡◌, ◌∙◌, ℕ, suc, List, [], ◌∷◌, length, map, refl, sym, ap, subst}, lemmas.List.Elements.All-map}, specs.List.All}
-use Rattle.mus_score.specs.{declared.score.{Measure.Measure, Score.Score, Voice.Voice}, GoodScore.IsGoodScore, Times.flats_of}
-use Rattle.mus_time.{specs.{declared.times.Timeline.Timeline, Onsets.timeline_of}, proofs.Places.length_of_lengths}
+use Rattle.{mus_score.specs.{declared.score.{Measure.Measure, Score.Score, Voice.Voice}, GoodScore.IsGoodScore, Times.flats_of}, mus_time.{specs.{declared.times.Timeline.Timeline, Onsets.timeline_of}, proofs.Places.length_of_lengths}}
 use Rattle.mus_drawn.specs.{declared.standing.Standing.Standing, declared.drawn.DrawnVoice.DrawnVoice, declared.drawn.Style.Style, Drawn.drawn_measures, Drawn.drawn_voice, Drawn.standing_behind, Drawn.standing_of, Drawn.style_of}
 
 drawn_count : (style : Style) (now : Standing) (ms : List Measure) → length (drawn_measures style now ms) ≡ length ms

@@ -1,6 +1,5 @@
 ghost use Rattle.std.specs.Prelude.{◌≡◌, ◌≤◌, ◌<◌, ◌+◌, ◌++◌, All, Contains, IfOk, OnOk, flat_map, length, map, slice_range, true};
-ghost use Rattle.mus_score.specs.GoodScore.{IsGoodScore};
-ghost use Rattle.mus_time.specs.{Keys.AreKeys, Keys.IsInSystem, Keys.called_keys, Onsets.timeline_of, Ranks.AreRanked};
+ghost use Rattle.{mus_score.specs.GoodScore.{IsGoodScore}, mus_time.specs.{Keys.AreKeys, Keys.IsInSystem, Keys.called_keys, Onsets.timeline_of, Ranks.AreRanked}};
 ghost use Rattle.mus_drawn.specs.{Drawn.drawn_voice, Good.AreGoodDrawn, Good.AreGoodMeasures};
 ghost use Rattle.mus_keys.specs.Columns.{events_columns, front_columns, has_old, keys_called, measures_columns, note_key, range_columns, staff_columns};
 

@@ -18,8 +18,7 @@ nowhere r x (column ∷ columns) none =
     ∙ ap (λ t. column ∷ t) (nowhere (r + 1) x columns (λ k. let e : r + suc k ≡ r + 1 + k = omega arith in ap (λ n. stands_at n x) (sym e) ∙ none (suc k)))
 
 -- in the i-th column from rank r on
-there : (r i q : ℕ) (x : Laid) (columns : List (List Laid)) (d : List Laid) → anchor_rank x.mark ≡ Some q → r + i ≡ q → i < length columns
-    → with_mark r x columns ≡ set columns i (get_or columns i d ++ x ∷ [])
+there : (r i q : ℕ) (x : Laid) (columns : List (List Laid)) (d : List Laid) → anchor_rank x.mark ≡ Some q → r + i ≡ q → i < length columns → with_mark r x columns ≡ set columns i (get_or columns i d ++ x ∷ [])
 there r i q x [] d is at inside = absurd (omega (arith, inside))
 there r zero q x (column ∷ columns) d is at inside =
     ap (λ b. cond b (column ++ x ∷ []) column ∷ with_mark (r + 1) x columns) (stands r q x is (omega (arith, at)))

@@ -1,8 +1,7 @@
 -- Marks by the ranks of their columns: what is drawn in a column by the rank of the column, and what goes from one
 -- column to another by the ranks of both. Nothing else of a mark depends on the system that it stands in.
 use Rattle.std.specs.{Prelude.{ℕ, ◌+◌, Bool, false, ◌==◌, List, [], ◌∷◌, ◌++◌, filter, flat_map, map, if◌then◌else◌, Option, Some, None}, List.range_with_len}
-use Rattle.mus_time.specs.{declared.keys.ColumnKey.ColumnKey, Order.rank_of}
-use Rattle.mus_laid.specs.declared.{drawn.Ink.Ink, drawn.Drawn.Drawn, drawn.Span.Span, drawn.Bridge.Bridge, laid.Laid.Laid, laid.Mark.Mark, laid.Lane.Lane, pen.Pen.Pen}
+use Rattle.{mus_time.specs.{declared.keys.ColumnKey.ColumnKey, Order.rank_of}, mus_laid.specs.declared.{drawn.Ink.Ink, drawn.Drawn.Drawn, drawn.Span.Span, drawn.Bridge.Bridge, laid.Laid.Laid, laid.Mark.Mark, laid.Lane.Lane, pen.Pen.Pen}}
 
 abbrev pub ink_at : ℕ → Ink → Mark
 ink_at r (Ink.Glyph glyph dx dy) = Mark.Glyph glyph r dx dy

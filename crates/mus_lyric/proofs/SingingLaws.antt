@@ -74,8 +74,7 @@ one_way : (count : ℕ) (all : List NoteAt) (syls : List Syl) (sung : List Sung)
     → (passed notes : List NoteAt) → all ≡ passed ++ notes → AreBefore count passed → sung ≡ sung_from syls count notes
 unfolding goes_on
 one_way _ _ _ _ (ends count all) passed notes e h = refl
-one_way _ _ _ _ (bar count all syls sung s) passed notes e h =
-    one_way (count + 1) all syls sung s passed notes e (later count (count + 1) passed (omega arith) h)
+one_way _ _ _ _ (bar count all syls sung s) passed notes e h = one_way (count + 1) all syls sung s passed notes e (later count (count + 1) passed (omega arith) h)
 one_way _ _ _ _ (takes count all syl syls note left sung t k s) passed notes e h =
     let same : notes_from count notes ≡ note ∷ k.behind =
     sym (notes_from-before count passed notes h) ∙ ap (notes_from count) (sym e ∙ k.are) ∙ notes_from-before count k.before (note ∷ k.behind) k.earlier ∙ notes_from-reaches count note k.behind k.reaches in
@@ -87,8 +86,7 @@ one_way _ _ _ _ (dropped count all syl syls sung t none s) passed notes e h =
 
 -- a syllable or a skip, on what the count finds, where all that follows is sung
 sings_on : (syl : Syl) (syls : List Syl) (count : ℕ) (passed notes found : List NoteAt) → TakesNote syl → AreBefore count passed → Found count notes found
-    → ((count : ℕ) (passed notes : List NoteAt) → AreBefore count passed → Sings count (passed ++ notes) syls (sung_from syls count notes))
-    → Sings count (passed ++ notes) (syl ∷ syls) (on_first (goes_on syl syls) found)
+    → ((count : ℕ) (passed notes : List NoteAt) → AreBefore count passed → Sings count (passed ++ notes) syls (sung_from syls count notes)) → Sings count (passed ++ notes) (syl ∷ syls) (on_first (goes_on syl syls) found)
 unfolding Found goes_on
 sings_on syl syls count passed notes [] t h f on =
     dropped count (passed ++ notes) syl syls [] t (All-append (λ n. n.measure < count) passed notes h f)

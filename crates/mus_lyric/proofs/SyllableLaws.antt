@@ -5,8 +5,7 @@ use Rattle.mus_lyric.specs.declared.syllable.Syl.TheVariants as syl
 
 behind_run-printed : (before run : List ℕ) (more : List Character) → behind_run before (printed run ++ more) ≡ behind_run (before ++ run) more
 behind_run-printed before [] more = rw append-nil refl
-behind_run-printed before (byte ∷ run) more =
-    behind_run-printed (before ++ byte ∷ []) run more ∙ ap (λ x. behind_run x more) (append_assoc before (byte ∷ []) run)
+behind_run-printed before (byte ∷ run) more = behind_run-printed (before ++ byte ∷ []) run more ∙ ap (λ x. behind_run x more) (append_assoc before (byte ∷ []) run)
 
 behind_run-ended : (first : ℕ) (run : List ℕ) (more : List Character) → EndsRun more → behind_run (first ∷ run) more ≡ syl.Print (first ∷ run) ∷ behind_run [] more
 behind_run-ended first run [] e = refl
@@ -20,10 +19,8 @@ behind_run-ended first run (BarLine ∷ more) e = refl
 one_spelt : (characters : List Character) (syls : List Syl) → Spells characters syls → syls ≡ behind_run [] characters
 one_spelt _ _ nothing = refl
 one_spelt _ _ (blank more syls s) = one_spelt more syls s
-one_spelt _ _ (word first run more syls e s) =
-    ap (λ x. syl.Print (first ∷ run) ∷ x) (one_spelt more syls s) ∙ sym (behind_run-printed (first ∷ []) run more ∙ behind_run-ended first run more e)
-one_spelt _ _ (hyphened first run more syls s) =
-    ap (λ x. syl.Print (first ∷ run ++ 45 ∷ []) ∷ x) (one_spelt more syls s) ∙ sym (behind_run-printed (first ∷ []) run (Hyphen ∷ more))
+one_spelt _ _ (word first run more syls e s) = ap (λ x. syl.Print (first ∷ run) ∷ x) (one_spelt more syls s) ∙ sym (behind_run-printed (first ∷ []) run more ∙ behind_run-ended first run more e)
+one_spelt _ _ (hyphened first run more syls s) = ap (λ x. syl.Print (first ∷ run ++ 45 ∷ []) ∷ x) (one_spelt more syls s) ∙ sym (behind_run-printed (first ∷ []) run (Hyphen ∷ more))
 one_spelt _ _ (hyphen more syls s) = ap (λ x. syl.Print (45 ∷ []) ∷ x) (one_spelt more syls s)
 one_spelt _ _ (underscore more syls s) = ap (λ x. syl.Print (95 ∷ []) ∷ x) (one_spelt more syls s)
 one_spelt _ _ (star more syls s) = ap (λ x. syl.Skip ∷ x) (one_spelt more syls s)

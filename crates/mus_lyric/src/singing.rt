@@ -19,13 +19,11 @@ pub struct Sung {
     pub text: Text,
 }
 
-/// What is sung where the notes of a line of music meet the syllables of a line
-/// of words.
+/// What is sung where the notes of a line of music meet the syllables of a line of words.
 ///
-/// Each syllable and each skip takes the first note not yet taken whose measure
-/// is at least the count: the measure of the last note taken, at first that of
-/// the first note, plus one for each bar sign since. What finds no note is
-/// dropped.
+/// Each syllable and each skip takes the first note not yet taken whose measure is at least the count:
+/// the measure of the last note taken, at first that of the first note, plus one for each bar sign
+/// since. What finds no note is dropped.
 pub fn align(alloc: Global, syls: &[Syl], notes: &[NoteAt]) -> Result<Row<Sung>, Memory>
     ensures sung { IfOk result (λ sung. AreSungOn notes.now syls.now sung) }
     ensures one_list { IfOk result (λ sung. (other : List Sung) → AreSungOn notes.now syls.now other → other ≡ sung) }

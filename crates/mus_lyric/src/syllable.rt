@@ -17,10 +17,9 @@ pub enum Syl {
 
 /// The syllables of a line of words.
 ///
-/// A syllable runs to a blank, `-`, `_`, `*` or `|`; a `-` directly behind it is
-/// printed with it and ends it. Any other `-` is a syllable, and so is `_`; `*`
-/// is a note that is passed over and `|` a bar sign. `~` is printed as a space
-/// and `\-` as a hyphen.
+/// A syllable runs to a blank, `-`, `_`, `*` or `|`; a `-` directly behind it is printed with it and
+/// ends it. Any other `-` is a syllable, and so is `_`; `*` is a note that is passed over and `|` a bar
+/// sign. `~` is printed as a space and `\-` as a hyphen.
 pub fn syllables(alloc: Global, words: &[u8]) -> Result<Row<Syl>, Memory>
     ensures spelt { IfOk result (λ syls. AreSyllablesOf words.now syls) }
     ensures one_list { IfOk result (λ syls. (other : List Syl) → AreSyllablesOf words.now other → other ≡ syls) }
@@ -37,8 +36,7 @@ pub fn syllables(alloc: Global, words: &[u8]) -> Result<Row<Syl>, Memory>
     Ok(syls)
 }
 
-/// Adds a character to the run before it, or ends that run and adds what the
-/// character is by itself.
+/// Adds a character to the run before it, or ends that run and adds what the character is by itself.
 fn put_character(
     alloc: Global,
     character: Character,

@@ -224,8 +224,7 @@ texts_shaped before part (n ∷ ns) =
     ∙ ap (λ t. texts_with (slice_index_or before n no_texts) part n ∷ t) (texts_shaped before part ns)
 
 same_texts : (n : ℕ) (before : List Texts) (part other : List Laid) → marks_shape part ≡ marks_shape other → texts_behind n before part ≡ texts_behind n before other
-same_texts n before part other e =
-    sym (texts_shaped before part (range_with_len 0 n)) ∙ ap (texts_behind n before) e ∙ texts_shaped before other (range_with_len 0 n)
+same_texts n before part other e = sym (texts_shaped before part (range_with_len 0 n)) ∙ ap (texts_behind n before) e ∙ texts_shaped before other (range_with_len 0 n)
 
 -- ---- beams and arcs
 abbrev flat : Stem → Stem
@@ -290,8 +289,7 @@ module _ (keys : List ColumnKey) where
 
   grace_beams : (m : ℕ) (ds : List DrawnMeasure) → grace_beams_between m ds ≡ grace_beams_between m (map flat_measure ds)
   grace_beams m [] = refl
-  grace_beams m (d ∷ ds) =
-      ap (λ t. t ++ grace_beams_between (m + 1) ds) (grace_event m d.events) ∙ ap (λ t. flat_map (event_grace_beam m) (map flat_event d.events) ++ t) (grace_beams (m + 1) ds)
+  grace_beams m (d ∷ ds) = ap (λ t. t ++ grace_beams_between (m + 1) ds) (grace_event m d.events) ∙ ap (λ t. flat_map (event_grace_beam m) (map flat_event d.events) ++ t) (grace_beams (m + 1) ds)
 
   module _ (lengths : List ℕ) (a b : ℕ) where
     arc : (piece : Piece) (x : Arc) (e f : DrawnEvent) → map span (arc_between lengths a b piece x (Some e) (Some f)) ≡ map span (arc_between lengths a b piece x (Some (flat_event e)) (Some (flat_event f)))
@@ -358,8 +356,7 @@ module _ (keys : List ColumnKey) (lengths : List ℕ) (a b : ℕ) where
 
   -- a staff of voices with all ends at 0
   abbrev flat_staff : ℕ → List DrawnVoice → List Laid
-  flat_staff verses vs =
-      by_columns (length keys) (map marks_shape (written_parts keys lengths (no_room verses) a b 1 [] vs)) ++ map (span keys) (flat_map (bridges_of lengths a b) vs)
+  flat_staff verses vs = by_columns (length keys) (map marks_shape (written_parts keys lengths (no_room verses) a b 1 [] vs)) ++ map (span keys) (flat_map (bridges_of lengths a b) vs)
 
   staff : (vs : List DrawnVoice) → staff_shape (staff_marks keys lengths a b vs) ≡ flat_staff (verses_on vs) (map flat_all vs)
   unfolding staff_marks staff_over room_over
@@ -374,8 +371,7 @@ module _ (keys : List ColumnKey) (lengths : List ℕ) (a b : ℕ) where
 
   tilted_flat : (at : List ℤ) (vs : List DrawnVoice) → map flat_all (map (voice_tilted keys at a b) vs) ≡ map flat_all vs
   tilted_flat at [] = refl
-  tilted_flat at (v ∷ vs) =
-      ap (λ t. record v { measures = t } ∷ map flat_all (map (voice_tilted keys at a b) vs)) (flat_voice a _ v) ∙ ap (λ t. flat_all v ∷ t) (tilted_flat at vs)
+  tilted_flat at (v ∷ vs) = ap (λ t. record v { measures = t } ∷ map flat_all (map (voice_tilted keys at a b) vs)) (flat_voice a _ v) ∙ ap (λ t. flat_all v ∷ t) (tilted_flat at vs)
 
   each_alike : (at : List ℤ) (staves : List (List DrawnVoice)) → map staff_shape (map (staff_marks keys lengths a b) staves) ≡ map staff_shape (map (tilted_staff keys lengths at a b) staves)
   each_alike at [] = refl

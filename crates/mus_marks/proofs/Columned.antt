@@ -1,7 +1,6 @@
 -- Lists of marks put together by columns: what holds of all marks of the lists, which marks stand in the columns, and what is taken from one column.
 use Rattle.std.{proofs.{Common.{◌≡◌, ◌∙◌, ℕ, zero, suc, ◌+◌, ◌<◌, Bool, true, false, cond, ◌⊎◌, inl, inr, List, [], ◌∷◌, ◌++◌, Option, Some, None, refl, sym, ap, subst, arith}, lemmas.{Bool.Decides.nat_tests, List.{append-nil, Elements.{filter_map-append, Contains-append_cases, Contains-append_left, Contains-append_right}}}}, specs.List.{AllByRecursion, Contains, cons_option, filter, filter_map, flat_map, range_with_len}}
-use Rattle.{mus_stems.proofs.RunLaws.{all_append}, mus_laid.specs.{declared.laid.Laid.Laid, Ranked.anchor_rank, Ranked.at_rank, Ranked.by_columns, Ranked.is_rank, Ranked.stands_at}}
-use Rattle.mus_marks.proofs.Inside.{filter_has, none_there}
+use Rattle.{mus_stems.proofs.RunLaws.{all_append}, mus_laid.specs.{declared.laid.Laid.Laid, Ranked.anchor_rank, Ranked.at_rank, Ranked.by_columns, Ranked.is_rank, Ranked.stands_at}, mus_marks.proofs.Inside.{filter_has, none_there}}
 
 -- ---- what holds of all
 module _ (P : Laid → Type 0) where

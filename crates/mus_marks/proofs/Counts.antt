@@ -84,5 +84,4 @@ all_counted n before part = part_counted (λ k. slice_index_or before k no_texts
 -- ---- columns as they have been counted so far
 pub texts_more : (before texts new : List Texts) (i : ℕ) → texts ≡ map (λ k. slice_index_or before k no_texts) (range_with_len 0 i) → new ≡ texts ++ slice_index_or before i no_texts ∷ []
     → new ≡ map (λ k. slice_index_or before k no_texts) (range_with_len 0 (i + 1))
-texts_more before texts new i so_far put =
-    put ∙ ap (λ t. t ++ slice_index_or before i no_texts ∷ []) so_far ∙ sym (map-range_with_len_more (λ k. slice_index_or before k no_texts) 0 i i (omega arith))
+texts_more before texts new i so_far put = put ∙ ap (λ t. t ++ slice_index_or before i no_texts ∷ []) so_far ∙ sym (map-range_with_len_more (λ k. slice_index_or before k no_texts) 0 i i (omega arith))

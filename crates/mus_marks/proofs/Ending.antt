@@ -106,13 +106,11 @@ flat_voice a ends v =
     ∙ sym (map-append flat_measure (take a v.measures) (drop a v.measures)) ∙ ap (map flat_measure) (take-append-drop a v.measures)
 
 pub ended_length : (a : ℕ) (ends : List (List ℤ)) (v : DrawnVoice) → length (voice_ended a ends v).measures ≡ length v.measures
-ended_length a ends v =
-    sym (length-map (voice_ended a ends v).measures flat_measure) ∙ ap length (flat_voice a ends v) ∙ length-map v.measures flat_measure
+ended_length a ends v = sym (length-map (voice_ended a ends v).measures flat_measure) ∙ ap length (flat_voice a ends v) ∙ length-map v.measures flat_measure
 
 all_ended : (P : DrawnMeasure → Type 0) → ((ends : List ℤ) (d : DrawnMeasure) → P d → P (measure_ended ends d)) → (a : ℕ) (ends : List (List ℤ)) (v : DrawnVoice) → AllByRecursion P v.measures
     → AllByRecursion P (voice_ended a ends v).measures
-all_ended P keeps a ends v all =
-    all_append P (take a v.measures) _ (all_take P a v.measures all) (over_all measure_ended P keeps ends (drop a v.measures) (all_drop P a v.measures all))
+all_ended P keeps a ends v all = all_append P (take a v.measures) _ (all_take P a v.measures all) (over_all measure_ended P keeps ends (drop a v.measures) (all_drop P a v.measures all))
 
 pub ended_good : (a : ℕ) (ends : List (List ℤ)) (v : DrawnVoice) → AreGoodMeasures v.measures → AreGoodMeasures (voice_ended a ends v).measures
 ended_good = all_ended IsGoodMeasure (λ ends d good. record {
@@ -133,8 +131,7 @@ ended_back a ends v within =
     ∙ ap (λ z. record v { measures = take a ms ++ z }) (undone measure_ended measure_left measure_back ends (drop a ms))
     ∙ ap (λ z. record v { measures = z }) (take-append-drop a ms)
 
-voices_back : (a : ℕ) (ends : List (List (List ℤ))) (vs : List DrawnVoice) → AllByRecursion (λ v. a ≤ length v.measures) vs
-    → over (voice_ended a) (over (voice_left a) vs ends) (over (voice_ended a) ends vs) ≡ vs
+voices_back : (a : ℕ) (ends : List (List (List ℤ))) (vs : List DrawnVoice) → AllByRecursion (λ v. a ≤ length v.measures) vs → over (voice_ended a) (over (voice_left a) vs ends) (over (voice_ended a) ends vs) ≡ vs
 voices_back a [] [] long = refl
 voices_back a [] (v ∷ vs) long = refl
 voices_back a (t ∷ ts) [] long = refl

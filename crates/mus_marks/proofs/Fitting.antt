@@ -42,8 +42,7 @@ module _ (verses : ℕ) where
 
 pub voice_fits : (v : Voice) → IsGoodVoice v → FitsVoice (drawn_voice v)
 unfolding drawn_voice
-voice_fits v good =
-    measures_fit v.verses (style_of v) (standing_of v) v.measures good.meter (recursion_from_All (IsGoodEvent v.verses) (events_of v.measures) good.events)
+voice_fits v good = measures_fit v.verses (style_of v) (standing_of v) v.measures good.meter (recursion_from_All (IsGoodEvent v.verses) (events_of v.measures) good.events)
 
 -- the voices of each staff of a good score
 voices_fit : (vs : List Voice) → AllByRecursion IsGoodVoice vs → AllByRecursion FitsVoice (map drawn_voice vs)

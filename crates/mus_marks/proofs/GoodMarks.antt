@@ -1,9 +1,8 @@
 -- The texts of a staff have at most 60 characters.
 use Rattle.std.{proofs.{Common.{ℕ, ◌≤◌, List, [], ◌∷◌, length, map, take, subst, sym, arith}, lemmas.{List.{length-map, length-take, Elements.All-from_recursion}, Fmt.length-decimal-le, Bool.Decides.nat_tests}}, specs.{List.{All, AllByRecursion}, Prelude.{IsTrue, decimal}}}
 use Rattle.{mus_units.specs.{declared.key.Meter.Meter, Good.IsGoodMeter, Good.is_halving}, mus_time.specs.declared.keys.ColumnKey.{ColumnKey}}
-use Rattle.mus_laid.specs.{declared.drawn.Span.Span, declared.laid.Laid.Laid, Boxes.AreGoodMarks, Boxes.IsGoodMark, Printed.printed_byte, Ranked.drawn_at, Ranked.span_at}
-use Rattle.{mus_ink.specs.Signatures.{meter_marks}, mus_words.proofs.EachWord.{IsShown}, mus_drawn.specs.declared.drawn.DrawnVoice.{DrawnVoice}}
-use Rattle.mus_marks.{specs.Staff.staff_marks, specs.Staff.verses_on, proofs.Parts.FitsVoice, proofs.Parts.OfLaid, proofs.Parts.staff_all}
+use Rattle.{mus_laid.specs.{declared.drawn.Span.Span, declared.laid.Laid.Laid, Boxes.AreGoodMarks, Boxes.IsGoodMark, Printed.printed_byte, Ranked.drawn_at, Ranked.span_at}, mus_ink.specs.Signatures.{meter_marks}}
+use Rattle.{mus_words.proofs.EachWord.{IsShown}, mus_drawn.specs.declared.drawn.DrawnVoice.{DrawnVoice}, mus_marks.{specs.{Staff.staff_marks, Staff.verses_on}, proofs.{Parts.FitsVoice, Parts.OfLaid, Parts.staff_all}}}
 
 halving_small : (n : ℕ) → IsTrue (is_halving n) → n ≤ 64
 halving_small n h = grind (arith, nat_tests, h)

@@ -122,8 +122,7 @@ each_among f keys (v ∷ vs) h = (among_left (f v) (flat_map f vs) keys h, each_
 
 -- all columns that a voice calls for are among the keys of the system
 pub voices_called : (s : Score) (lengths : List ℕ) (a b : ℕ) (keys : List ColumnKey) → AreKeys keys (called_keys s lengths a b) → All (λ v. AreAmong (voice_keys lengths a b v) keys) s.voices
-voices_called s lengths a b keys are =
-    All-from_recursion (λ v. AreAmong (voice_keys lengths a b v) keys) s.voices (each_among (voice_keys lengths a b) keys s.voices are.all)
+voices_called s lengths a b keys are = All-from_recursion (λ v. AreAmong (voice_keys lengths a b v) keys) s.voices (each_among (voice_keys lengths a b) keys s.voices are.all)
 
 -- all columns of the first voice, which is no lower one, are among them
 leader_among : (lengths : List ℕ) (a b : ℕ) (v : Voice) (vs : List Voice) (keys : List ColumnKey) → is_lower v.seat ≡ false → AreAmong (flat_map (voice_keys lengths a b) (v ∷ vs)) keys → AreAmong (voice_columns lengths a b (drawn_voice v)) keys

@@ -3,12 +3,10 @@
 use Rattle.std.{proofs.{Common.{◌≡◌, ℕ, zero, suc, ◌+◌, ◌-◌, ◌≤◌, ◌==◌, ◌&&◌, ◌||◌, not, Bool, true, false, if◌then◌else◌, List, [], ◌∷◌, ◌++◌, take, length, map, drop, Option, Some, None, arith}, lemmas.List.Sums.sum_by-cons}, specs.{List.{AllByRecursion, flat_map, slice_index_or, slice_range}, Prelude.IfSome}}
 use Rattle.mus_units.specs.{declared.key.Meter.Meter, declared.key.Sign.Sign, declared.note.Bar.Bar, declared.pitch.Clef.Clef, Good.IsGoodMeter}
 use Rattle.{mus_score.specs.{declared.score.Event.Event, declared.score.Flat.Flat, declared.score.Seat.Seat, Seats.is_lower}, mus_time.specs.{declared.keys.ColumnKey.ColumnKey, Keys.has_features}}
-use Rattle.mus_stems.proofs.RunLaws.{all_append, all_drop, all_take}
-use Rattle.mus_laid.specs.{declared.drawn.Bridge.Bridge, declared.drawn.Drawn.Drawn, declared.laid.Laid.Laid, Ranked.bridge_at, Ranked.by_columns, Ranked.drawn_at}
+use Rattle.{mus_stems.proofs.RunLaws.{all_append, all_drop, all_take}, mus_laid.specs.{declared.drawn.Bridge.Bridge, declared.drawn.Drawn.Drawn, declared.laid.Laid.Laid, Ranked.bridge_at, Ranked.by_columns, Ranked.drawn_at}}
 use Rattle.mus_ink.{specs.{declared.graces.Group.Group, Bars.bar_marks, Changes.{change_marks, head_marks}, Decos.note_marks, Graces.grace_marks}, proofs.EachMark.{OfMarks, bar, change, grace, head, note}}
-use Rattle.mus_words.{specs.Syllables.syllables_from, specs.Texts.text_marks, proofs.EachWord.OfWords, proofs.EachWord.syllables_all, proofs.EachWord.texts_all}
-use Rattle.mus_drawn.specs.{declared.drawn.DrawnEvent.DrawnEvent, declared.drawn.DrawnMeasure.DrawnMeasure, declared.drawn.DrawnVoice.DrawnVoice, Drawn.raise_of}
-use Rattle.mus_bridges.specs.Bridges.{bridges_of}
+use Rattle.mus_words.{specs.{Syllables.syllables_from, Texts.text_marks}, proofs.{EachWord.OfWords, EachWord.syllables_all, EachWord.texts_all}}
+use Rattle.{mus_drawn.specs.{declared.drawn.DrawnEvent.DrawnEvent, declared.drawn.DrawnMeasure.DrawnMeasure, declared.drawn.DrawnVoice.DrawnVoice, Drawn.raise_of}, mus_bridges.specs.Bridges.{bridges_of}}
 use Rattle.mus_marks.{specs.{declared.events.{Place.Place, Room.Room, Texts.Texts}, Events.{change_part, event_marks, events_marks, graces_from, graces_part, measures_marks, no_texts, note_part, text_place, words_marks, words_part}, Staff.{bare_marks, columns_part, first_part, head_part, own_part, room_over, staff_marks, staff_over, verses_on, written_parts}}, proofs.Columned.columned_all}
 
 -- measures with good meters, whose events have a place for each of some verses
@@ -132,8 +130,7 @@ module _ (verses : ℕ) (keys : List ColumnKey) (P : Laid → Type 0) (w : OfLai
 
   head_all : (own a : ℕ) (ds : List DrawnMeasure) → Fits own ds → AllByRecursion P (head_part keys a ds)
   head_all own a [] fits = tt
-  head_all own a (d ∷ ds) fits =
-      unless (is_lower d.seat) _ (head_at _ d.opening.clef d.opening.key.signs _ (if_meter ((a == 0) || d.opening.anew) d.opening.meter fits.0.0))
+  head_all own a (d ∷ ds) fits = unless (is_lower d.seat) _ (head_at _ d.opening.clef d.opening.key.signs _ (if_meter ((a == 0) || d.opening.anew) d.opening.meter fits.0.0))
 
   any : (b : Bool) (xs : List Laid) → AllByRecursion P xs → AllByRecursion P (if b then xs else [])
   any true xs all = all
@@ -151,8 +148,7 @@ module _ (verses : ℕ) (keys : List ColumnKey) (P : Laid → Type 0) (w : OfLai
   some_fit own a b ds fits = all_take (FitsMeasure own) (b - a) (drop a ds) (all_drop (FitsMeasure own) a ds fits)
 
   pub voice_all : (lengths : List ℕ) (place : Option Place) (a b : ℕ) (v : DrawnVoice) → InPlace verses v.verses place → FitsVoice v → AllByRecursion P (own_part keys lengths place a b v)
-  voice_all lengths place a b v numbered fits =
-      columns_all v.verses lengths place a v.seat v.first (slice_range v.measures a b) numbered (some_fit v.verses a b v.measures fits)
+  voice_all lengths place a b v numbered fits = columns_all v.verses lengths place a v.seat v.first (slice_range v.measures a b) numbered (some_fit v.verses a b v.measures fits)
 
   written_all : (lengths : List ℕ) (room : Room) (a b first : ℕ) (before : List Texts) (vs : List DrawnVoice) → 1 ≤ first → first + verses_on vs ≤ verses + 1 → AllByRecursion FitsVoice vs
       → AllByRecursion (AllByRecursion P) (written_parts keys lengths room a b first before vs)

@@ -1,7 +1,6 @@
 -- Where events have no syllables and no texts, a voice has in columns what it has without them, wherever they would go.
 use Rattle.std.{proofs.{Common.{◌≡◌, ◌∙◌, ℕ, ℤ, ◌+◌, Bool, true, false, not, ◌&&◌, ◌||◌, ◌==◌, List, [], ◌∷◌, ◌++◌, length, map, Option, Some, None, is_none, refl, sym, ap, arith}, lemmas.Bool.and_parts}, specs.List.{flat_map, list_all, slice_index_or, slice_range}}
-use Rattle.{mus_units.specs.declared.note.Deco.{Deco}, mus_score.specs.{declared.score.{Flat.Flat, Mention.Mention}, Seats.is_lower}, mus_time.specs.declared.keys.ColumnKey.{ColumnKey}}
-use Rattle.mus_laid.specs.Ranked.{drawn_at}
+use Rattle.{mus_units.specs.declared.note.Deco.{Deco}, mus_score.specs.{declared.score.{Flat.Flat, Mention.Mention}, Seats.is_lower}, mus_time.specs.declared.keys.ColumnKey.{ColumnKey}, mus_laid.specs.Ranked.{drawn_at}}
 use Rattle.mus_words.specs.{declared.texts.TextPlace.TextPlace, Syllables.syllables_from, Texts.{above_from, below_from, shown_deco, shown_ending, shown_mention, shown_number, text_marks, texts_above, texts_below}}
 use Rattle.mus_drawn.specs.declared.drawn.{DrawnEvent.DrawnEvent, DrawnMeasure.DrawnMeasure, DrawnVoice.DrawnVoice}
 use Rattle.mus_marks.specs.{declared.events.{Place.Place, Room.Room, Texts.Texts}, Events.{bar_part, change_part, event_marks, events_marks, graces_part, levels_behind, levels_in, measures_marks, no_texts, note_part, note_rank, text_place, words_marks}, Silent.{are_silent, is_silent, is_silent_staff, is_text}, Staff.{columns_part, first_part, head_part, own_part, texts_behind, written_parts}}

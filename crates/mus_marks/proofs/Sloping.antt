@@ -1,10 +1,9 @@
 -- Stems of drawn events can end on lines: own ends and abscissas are in range, and abscissas rise from event to event.
 use Rattle.std.{proofs.{Common.{◌≡◌, ℕ, zero, suc, ℤ, pos, ◌+◌, ◌-◌, ◌<◌, ◌≤◌, ◌<ℤ◌, List, [], ◌∷◌, length, map, drop, subst, arith}, lemmas.{Int.ints, List.{get_or-map, length-map, Elements.All-map}}}, specs.List.{All, AllByRecursion, slice_index_or, slice_range}}
 use Rattle.mus_score.specs.{declared.score.Score.Score, GoodScore.IsGoodScore}
-use Rattle.mus_time.{specs.declared.keys.ColumnKey.ColumnKey, specs.declared.times.Timeline.Timeline, specs.Keys.AreKeys, specs.Keys.called_keys, proofs.RankLaws.rank_less, proofs.RankLaws.rank_rises_more}
-use Rattle.mus_stems.{specs.Slope.anchor_of, specs.Slope.AreAnchors, specs.Slope.IsPlace, specs.Slope.RisesAfter, specs.Slope.RisesInBeams, proofs.RunLaws.all_drop, proofs.RunLaws.all_take}
-use Rattle.mus_drawn.specs.{declared.drawn.DrawnEvent.DrawnEvent, declared.drawn.DrawnMeasure.DrawnMeasure, Drawn.drawn_voice, Good.AreGoodDrawn, Good.AreGoodMeasures}
-use Rattle.{mus_keys.proofs.Goods.{good_slice}, mus_keys.specs.Columns.{note_key}}
+use Rattle.mus_time.{specs.{declared.keys.ColumnKey.ColumnKey, declared.times.Timeline.Timeline, Keys.AreKeys, Keys.called_keys}, proofs.{RankLaws.rank_less, RankLaws.rank_rises_more}}
+use Rattle.mus_stems.{specs.{Slope.anchor_of, Slope.AreAnchors, Slope.IsPlace, Slope.RisesAfter, Slope.RisesInBeams}, proofs.{RunLaws.all_drop, RunLaws.all_take}}
+use Rattle.{mus_drawn.specs.{declared.drawn.DrawnEvent.DrawnEvent, declared.drawn.DrawnMeasure.DrawnMeasure, Drawn.drawn_voice, Good.AreGoodDrawn, Good.AreGoodMeasures}, mus_keys.{proofs.Goods.{good_slice}, specs.Columns.{note_key}}}
 use Rattle.mus_marks.{specs.{Events.note_rank, Tilt.{AllCanTilt, AreAbscissas, anchor_at}}, proofs.{GoingOn.{AllGoOn, GoOn, later_below, voice_goes_on}, Inside.{HasEvent, HasMeasures, measures_inside}}}
 
 module _ (s : Score) (t : Timeline) (a b : ℕ) (keys : List ColumnKey) (at : List ℤ) (places : AreAbscissas s t a b at) (are : AreKeys keys (called_keys s t.lengths a b)) where
@@ -45,8 +44,7 @@ module _ (s : Score) (t : Timeline) (a b : ℕ) (keys : List ColumnKey) (at : Li
 
   measures : (m : ℕ) (ds : List DrawnMeasure) → HasMeasures keys t.lengths m ds → AreGoodMeasures ds → AllGoOn ds → AllCanTilt keys at m ds
   measures m [] has good on = tt
-  measures m (d ∷ ds) has good on =
-      (record { anchors = all_in m d.events has.0.events good.0.events; rise = rises m d.events has.0.events on.0 }, measures (m + 1) ds has.1 good.1 on.1)
+  measures m (d ∷ ds) has good on = (record { anchors = all_in m d.events has.0.events good.0.events; rise = rises m d.events has.0.events on.0 }, measures (m + 1) ds has.1 good.1 on.1)
 
   -- each voice of a good score
   pub voices_can : IsGoodScore s → b ≤ s.measures → All (λ v. AreGoodMeasures v.measures) (map drawn_voice s.voices) → All (λ v. AllCanTilt keys at a (slice_range v.measures a b)) (map drawn_voice s.voices)

@@ -3,11 +3,9 @@
 use Rattle.std.specs.Prelude.{ℕ, ◌+◌, Bool, true, false, ◌&&◌, ◌||◌, ◌==◌, is_none, if◌then◌else◌, List, [], ◌∷◌, ◌++◌, map, slice_index_or, Option, Some, None}
 use Rattle.{mus_units.specs.declared.pitch.Clef.{Clef}, mus_score.specs.{declared.score.Changes.Changes, declared.score.Event.Event, declared.score.Flat.Flat, Seats.is_lower}}
 use Rattle.{mus_time.specs.{declared.keys.Class.Class, declared.keys.ColumnKey.ColumnKey, Keys.bar_key, Order.rank_of, Ranks.rank_at}, mus_stems.specs.declared.plans.StemPlan.{StemPlan}}
-use Rattle.mus_laid.specs.{declared.drawn.Drawn.Drawn, declared.laid.Laid.Laid, Ranked.drawn_at}
-use Rattle.mus_ink.specs.{declared.graces.Group.Group, Bars.bar_marks, Changes.change_marks, Decos.note_marks, Graces.grace_marks, Graces.group_of}
-use Rattle.mus_words.specs.{declared.texts.TextPlace.TextPlace, Syllables.syllables_from, Texts.text_marks}
-use Rattle.{mus_drawn.specs.{declared.drawn.DrawnEvent.DrawnEvent, declared.drawn.DrawnMeasure.DrawnMeasure, Drawn.raise_of}, mus_keys.specs.Columns.{note_key}}
-use Rattle.mus_marks.specs.{declared.events.Room.Room, declared.events.Texts.Texts, declared.events.Place.Place}
+use Rattle.{mus_laid.specs.{declared.drawn.Drawn.Drawn, declared.laid.Laid.Laid, Ranked.drawn_at}, mus_ink.specs.{declared.graces.Group.Group, Bars.bar_marks, Changes.change_marks, Decos.note_marks, Graces.grace_marks, Graces.group_of}}
+use Rattle.{mus_words.specs.{declared.texts.TextPlace.TextPlace, Syllables.syllables_from, Texts.text_marks}, mus_drawn.specs.{declared.drawn.DrawnEvent.DrawnEvent, declared.drawn.DrawnMeasure.DrawnMeasure, Drawn.raise_of}}
+use Rattle.{mus_keys.specs.Columns.{note_key}, mus_marks.specs.{declared.events.Room.Room, declared.events.Texts.Texts, declared.events.Place.Place}}
 
 abbrev pub note_rank : List ColumnKey → ℕ → DrawnEvent → ℕ
 note_rank keys m e = rank_of keys (note_key m e)
@@ -24,8 +22,7 @@ change_part keys m false e = map (drawn_at (rank_at keys m e.tick Class.Change 0
 -- graces from the i-th on, each in a column of its own; the first of a group has its slash
 abbrev pub graces_from : List ColumnKey → ℕ → ℕ → Clef → Group → ℕ → List Event → List Laid
 graces_from keys m tick clef group i [] = []
-graces_from keys m tick clef group i (g ∷ gs) =
-    map (drawn_at (rank_at keys m tick Class.Grace i)) (grace_marks clef group (i == 0) g) ++ graces_from keys m tick clef group (i + 1) gs
+graces_from keys m tick clef group i (g ∷ gs) = map (drawn_at (rank_at keys m tick Class.Grace i)) (grace_marks clef group (i == 0) g) ++ graces_from keys m tick clef group (i + 1) gs
 
 abbrev pub graces_part : List ColumnKey → ℕ → DrawnEvent → List Laid
 graces_part keys m e = graces_from keys m e.tick e.clef (group_of e.clef e.flat.graces e.flat.slash) 0 e.flat.graces
@@ -45,8 +42,7 @@ text_place room before = record { low = room.low; high = room.high; verses = roo
 -- syllables and texts in the column of rank r, where their place is known
 abbrev pub words_marks : Option Place → ℕ → Flat → List Drawn
 words_marks None r f = []
-words_marks (Some place) r f =
-    syllables_from place.room.low place.first f.event.words ++ text_marks (text_place place.room (slice_index_or place.before r no_texts)) f
+words_marks (Some place) r f = syllables_from place.room.low place.first f.event.words ++ text_marks (text_place place.room (slice_index_or place.before r no_texts)) f
 
 abbrev pub words_part : ℕ → Option Place → Flat → List Laid
 words_part r place f = map (drawn_at r) (words_marks place r f)
@@ -77,5 +73,4 @@ bar_part keys lengths m d = if is_lower d.seat then [] else map (drawn_at (rank_
 -- measures from number m on; the head draws the change before the first event of the first of them
 abbrev pub measures_marks : List ColumnKey → List ℕ → Option Place → ℕ → Bool → List DrawnMeasure → List Laid
 measures_marks keys lengths place m in_head [] = []
-measures_marks keys lengths place m in_head (d ∷ ds) =
-    (events_marks keys place m in_head 0 0 d.events ++ bar_part keys lengths m d) ++ measures_marks keys lengths place (m + 1) false ds
+measures_marks keys lengths place m in_head (d ∷ ds) = (events_marks keys place m in_head 0 0 d.events ++ bar_part keys lengths m d) ++ measures_marks keys lengths place (m + 1) false ds

@@ -1,7 +1,6 @@
 -- What the words of a voice need of their place, and how texts are counted mark by mark.
 use Rattle.std.specs.Prelude.{ℕ, ◌+◌, ◌≤◌, Bool, true, false, ◌&&◌, if◌then◌else◌, List, [], ◌∷◌, Option, IfSome}
-use Rattle.mus_laid.specs.{declared.laid.Laid.Laid, Ranked.stands_at}
-use Rattle.mus_marks.specs.{declared.events.Place.Place, declared.events.Texts.Texts, Staff.is_above, Staff.is_below_staff, Staff.is_words, Staff.texts_behind}
+use Rattle.{mus_laid.specs.{declared.laid.Laid.Laid, Ranked.stands_at}, mus_marks.specs.{declared.events.Place.Place, declared.events.Texts.Texts, Staff.is_above, Staff.is_below_staff, Staff.is_words, Staff.texts_behind}}
 
 -- eight verses from the first on have numbers
 abbrev pub HasVerses : Option Place → Type 0

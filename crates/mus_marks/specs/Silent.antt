@@ -1,7 +1,6 @@
 -- Events that have no syllables and no texts. On a staff of such events it is of no account where these would go.
 use Rattle.std.specs.{Prelude.{◌≡◌, ℕ, Bool, true, false, not, ◌&&◌, ◌==◌, is_none, List, [], length, slice_range}, List.list_all}
-use Rattle.{mus_units.specs.declared.note.Deco.{Deco}, mus_score.specs.declared.score.Flat.{Flat}, mus_time.specs.declared.keys.ColumnKey.{ColumnKey}}
-use Rattle.mus_drawn.specs.declared.drawn.{DrawnMeasure.DrawnMeasure, DrawnVoice.DrawnVoice}
+use Rattle.{mus_units.specs.declared.note.Deco.{Deco}, mus_score.specs.declared.score.Flat.{Flat}, mus_time.specs.declared.keys.ColumnKey.{ColumnKey}, mus_drawn.specs.declared.drawn.{DrawnMeasure.DrawnMeasure, DrawnVoice.DrawnVoice}}
 use Rattle.mus_marks.specs.{declared.events.Room.Room, Staff.bare_marks, Staff.room_over, Staff.verses_on, Staff.written_parts}
 
 -- a fingering or a dynamic mark

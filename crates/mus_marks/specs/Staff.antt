@@ -4,9 +4,8 @@ use Rattle.std.specs.{Prelude.{ℕ, ◌+◌, pos, ◌≤ℤ◌, ◌==◌, Bool, 
 use Rattle.{mus_units.specs.{declared.key.Meter.Meter, declared.note.Bar.Bar}, mus_score.specs.{declared.score.Seat.Seat, Seats.is_lower}}
 use Rattle.mus_time.specs.{declared.keys.Class.Class, declared.keys.ColumnKey.ColumnKey, Keys.has_features, Keys.head_key, Order.rank_of, Ranks.rank_at}
 use Rattle.mus_laid.specs.{declared.laid.Laid.Laid, declared.laid.Lane.Lane, declared.laid.Mark.Mark, declared.laid.StaffMarks.StaffMarks, Boxes.staff_heights, Ranked.bridge_at, Ranked.by_columns, Ranked.drawn_at, Ranked.stands_at}
-use Rattle.mus_ink.specs.{Bars.bar_marks, Changes.head_marks, Drawing.cut}
-use Rattle.{mus_drawn.specs.{declared.drawn.DrawnMeasure.DrawnMeasure, declared.drawn.DrawnVoice.DrawnVoice, declared.drawn.Opening.Opening}, mus_bridges.specs.Bridges.{bridges_of}}
-use Rattle.mus_marks.specs.{declared.events.Place.Place, declared.events.Room.Room, declared.events.Texts.Texts, Events.measures_marks, Events.no_texts}
+use Rattle.{mus_ink.specs.{Bars.bar_marks, Changes.head_marks, Drawing.cut}, mus_drawn.specs.{declared.drawn.DrawnMeasure.DrawnMeasure, declared.drawn.DrawnVoice.DrawnVoice, declared.drawn.Opening.Opening}}
+use Rattle.{mus_bridges.specs.Bridges.{bridges_of}, mus_marks.specs.{declared.events.Place.Place, declared.events.Room.Room, declared.events.Texts.Texts, Events.measures_marks, Events.no_texts}}
 
 -- the meter is drawn where the voice begins and where it changes
 abbrev pub meter_shown : ℕ → Opening → Option Meter
@@ -21,8 +20,7 @@ head_part keys a (d ∷ ds) =
 
 -- the bar before the first measure, where it has features; the first voice of a staff draws it
 abbrev pub first_part : List ColumnKey → ℕ → Seat → Bar → List Laid
-first_part keys a seat bar =
-    if not (is_lower seat) && (a == 0) && has_features bar then map (drawn_at (rank_at keys 0 0 Class.First 0)) (bar_marks bar) else []
+first_part keys a seat bar = if not (is_lower seat) && (a == 0) && has_features bar then map (drawn_at (rank_at keys 0 0 Class.First 0)) (bar_marks bar) else []
 
 unfoldable pub columns_part : List ColumnKey → List ℕ → Option Place → ℕ → Seat → Bar → List DrawnMeasure → List Laid
 columns_part keys lengths place a seat first ds = head_part keys a ds ++ first_part keys a seat first ++ measures_marks keys lengths place a true ds

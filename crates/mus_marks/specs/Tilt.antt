@@ -3,8 +3,7 @@
 use Rattle.std.specs.Prelude.{◌≡◌, ℕ, ◌+◌, ◌^◌, ℤ, pos, ◌≤ℤ◌, ◌<ℤ◌, ◌<◌, ⊤, List, [], ◌∷◌, ◌++◌, length, map, take, drop, slice_range, slice_index_or}
 use Rattle.{mus_score.specs.declared.score.Score.{Score}, mus_time.specs.{declared.keys.ColumnKey.ColumnKey, declared.times.Timeline.Timeline, Keys.AreKeys, Keys.called_keys}}
 use Rattle.mus_stems.specs.{declared.slopes.Anchor.Anchor, Slope.anchor_of, Slope.sloped_ends, Slope.with_end, Slope.AreAnchors, Slope.RisesInBeams}
-use Rattle.mus_laid.specs.{declared.laid.StaffMarks.StaffMarks, declared.laid.SystemMarks.SystemMarks}
-use Rattle.mus_drawn.specs.{declared.drawn.DrawnEvent.DrawnEvent, declared.drawn.DrawnMeasure.DrawnMeasure, declared.drawn.DrawnVoice.DrawnVoice}
+use Rattle.{mus_laid.specs.{declared.laid.StaffMarks.StaffMarks, declared.laid.SystemMarks.SystemMarks}, mus_drawn.specs.{declared.drawn.DrawnEvent.DrawnEvent, declared.drawn.DrawnMeasure.DrawnMeasure, declared.drawn.DrawnVoice.DrawnVoice}}
 use Rattle.mus_marks.specs.{Events.note_rank, Staff.staff_marks, System.drawn_staves}
 
 -- what the line of its beam takes from an event of measure m: where its column stands is its abscissa

@@ -1,7 +1,6 @@
 ghost use Rattle.std.specs.Prelude.{◌≡◌, ◌≤◌, ◌<◌, map, All, IfOk};
-ghost use Rattle.{mus_score.specs.GoodScore.{IsGoodScore}, mus_time.specs.{Keys.IsInSystem, Onsets.timeline_of}};
-ghost use Rattle.{mus_drawn.specs.{Drawn.drawn_voice, Good.AreGoodMeasures}, mus_laid.specs.Boxes.{AreGoodMarks}};
-ghost use Rattle.mus_marks.specs.{Staff.CoversLines, System.IsCall};
+ghost use Rattle.{mus_score.specs.GoodScore.{IsGoodScore}, mus_time.specs.{Keys.IsInSystem, Onsets.timeline_of}, mus_drawn.specs.{Drawn.drawn_voice, Good.AreGoodMeasures}};
+ghost use Rattle.{mus_laid.specs.Boxes.{AreGoodMarks}, mus_marks.specs.{Staff.CoversLines, System.IsCall}};
 
 use crate::staves::staves;
 use mus_drawn::DrawnVoice;

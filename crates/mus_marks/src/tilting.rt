@@ -1,8 +1,6 @@
 ghost use Rattle.std.specs.Prelude.{◌≡◌, ◌≤◌, ◌<◌, ◌+◌, length, map, pos, slice_index_or, slice_range, All, IfOk};
-ghost use Rattle.mus_score.specs.{GoodScore.IsGoodScore, Seats.grouped};
-ghost use Rattle.mus_time.specs.{Keys.{AreKeys, IsInSystem, called_keys}, Onsets.timeline_of, Ranks.AreRanked};
-ghost use Rattle.{mus_drawn.specs.{Drawn.drawn_voice, Good.AreGoodMeasures}, mus_stems.specs.Slope.{anchor_of}};
-ghost use Rattle.mus_laid.specs.{Boxes.AreGoodMarks, Shapes.AreAlike};
+ghost use Rattle.{mus_score.specs.{GoodScore.IsGoodScore, Seats.grouped}, mus_time.specs.{Keys.{AreKeys, IsInSystem, called_keys}, Onsets.timeline_of, Ranks.AreRanked}};
+ghost use Rattle.{mus_drawn.specs.{Drawn.drawn_voice, Good.AreGoodMeasures}, mus_stems.specs.Slope.{anchor_of}, mus_laid.specs.{Boxes.AreGoodMarks, Shapes.AreAlike}};
 ghost use Rattle.mus_marks.specs.{Staff.{CoversLines, verses_on}, System.{IsCall, stands_lower}, Tilt.{CanTilt, AllCanTilt, ends_over, sloped_over, over, event_ended, end_left, measure_ended, measure_left, voice_ended, voice_left, tilted_staff, AreAbscissas, IsTilted}};
 
 use crate::staves::staves;

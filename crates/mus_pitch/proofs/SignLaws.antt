@@ -20,10 +20,8 @@ few_of p f n order few = rw (← take-map f n order) (le_trans (sum_by-take-le (
 -- the signs of a number of sharps or flats
 pub signs_of_good : (n : ℤ) → AreGoodSigns (signs_of n)
 unfolding signs_of
-signs_of_good (pos n) letter =
-    few_of (λ (s : Sign). same_letter s.letter letter) (signed alters.Sharp) n sharp_order (once_each alters.Sharp letter)
-signs_of_good (negsuc n) letter =
-    few_of (λ (s : Sign). same_letter s.letter letter) (signed alters.Flat) (suc n) (reverse sharp_order) (once_each_back alters.Flat letter)
+signs_of_good (pos n) letter = few_of (λ (s : Sign). same_letter s.letter letter) (signed alters.Sharp) n sharp_order (once_each alters.Sharp letter)
+signs_of_good (negsuc n) letter = few_of (λ (s : Sign). same_letter s.letter letter) (signed alters.Flat) (suc n) (reverse sharp_order) (once_each_back alters.Flat letter)
 
 -- no sign of a letter is left once it is taken away
 none_left : (signs : List Sign) (add : Sign) (letter : Letter) → same_letter add.letter letter ≡ true

@@ -4,9 +4,8 @@ ghost use Rattle.{mus_units.specs.Good.{same_letter}, mus_pitch.specs.Alteration
 use crate::signs::same_letter;
 use mus_units::{Alter, Head, Key, Pitch, Sign, Spread};
 
-/// The alteration of a note at `p`, ties aside: its own sign, else the last sign
-/// among the earlier heads of its measure that the spread reaches, else its
-/// key's, else natural. Takes no memory.
+/// The alteration of a note at `p`, ties aside: its own sign, else the last sign among the earlier heads
+/// of its measure that the spread reaches, else its key's, else natural. Takes no memory.
 pub fn in_force(p: Pitch, own: Option<Alter>, said: &[Head], spread: Spread, key: &Key) -> Alter
     ensures { result ≡ alteration_of p own said.now spread key.now.signs }
 {

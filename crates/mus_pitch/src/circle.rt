@@ -15,8 +15,7 @@ pub enum Mode {
     Lyd,
 }
 
-/// The number of sharps of a key, negative for flats. None where it is outside
-/// -7 to 7. Takes no memory.
+/// The number of sharps of a key, negative for flats. None where it is outside -7 to 7. Takes no memory.
 pub fn signature(tonic: Letter, alter: Alter, mode: Mode) -> Option<i8>
     ensures value { result ≡ signature_of tonic alter mode }
     ensures low { IfSome result (λ n. negsuc 6 ≤ℤ n) }

@@ -92,8 +92,7 @@ scaled_high : (ticks qs ps : ℕ) → ticks ≤ 99 * whole_note → qs ≤ 81 �
 scaled_high ticks qs ps t q = le_trans (div-le_self (ticks * qs) ps) (mul-le ticks qs (99 * whole_note) 81 t q)
 
 scaled_low : (ticks qs ps : ℕ) → ps ≤ ticks → 1 ≤ qs → 1 ≤ ps → 1 ≤ scaled ticks qs ps
-scaled_low ticks qs ps t q p =
-    le-div 1 (ticks * qs) ps p (subst (λ z. z ≤ ticks * qs) (sym (one-mul ps)) (le_trans t (le-mul_of_pos_right ticks q)))
+scaled_low ticks qs ps t q p = le-div 1 (ticks * qs) ps p (subst (λ z. z ≤ ticks * qs) (sym (one-mul ps)) (le_trans t (le-mul_of_pos_right ticks q)))
 
 reaches : (at : Place) (ticks qs ps : ℕ) → Around at qs ps → MayLast at ticks → ps ≤ ticks
 reaches at ticks qs ps a m = elim (cases_Bool at.inner) [

@@ -4,8 +4,7 @@ use Rattle.mus_score.specs.{declared.score.Voice.Voice, Walks.Distinct, Walks.Ri
 
 pub distinct_pairs : (vs : List Voice) → Distinct vs → AllPairs (λ v w. v.id ≢ w.id) vs
 distinct_pairs [] h = λ i j d a b. absurd (omega arith)
-distinct_pairs (v ∷ vs) h =
-    AllPairs-cons (λ v w. v.id ≢ w.id) v vs (All-from_recursion (λ w. v.id ≢ w.id) vs h.0) (distinct_pairs vs h.1)
+distinct_pairs (v ∷ vs) h = AllPairs-cons (λ v w. v.id ≢ w.id) v vs (All-from_recursion (λ w. v.id ≢ w.id) vs h.0) (distinct_pairs vs h.1)
 
 within_bars : (low from to : ℕ) (bs : List ℕ) → low ≤ from → RiseWithin from to bs → AllByRecursion (λ b. (suc low ≤ b) × (b < to)) bs
 within_bars low from to [] l h = tt

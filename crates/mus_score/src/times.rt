@@ -176,11 +176,10 @@ fn put_nodes<'a>(
     Ok(())
 }
 
-/// The events of a body that are no graces, from left to right: each with its duration in ticks,
-/// the `p` of the tuplets that begin at it, outer first, and the graces before it. What stands
-/// in a tuplet's end waits for the next event; graces behind the last event belong to none. Each
-/// duration comes out even: times the product of the `p` around the event it is the event's ticks
-/// times the product of the `q`.
+/// The events of a body that are no graces, from left to right: each with its duration in ticks, the `p`
+/// of the tuplets that begin at it, outer first, and the graces before it. What stands in a tuplet's end
+/// waits for the next event; graces behind the last event belong to none. Each duration comes out even:
+/// times the product of the `p` around the event it is the event's ticks times the product of the `q`.
 #[tactic(auto, using(crate::proofs::Bounds::body_bounds))]
 pub fn flatten(alloc: Global, body: &[Music]) -> Result<Row<Flat<'_>>, Memory>
     requires { IsGoodBody body.now }

@@ -36,8 +36,7 @@ signed first k (t ∷ ts) xs apart free =
         SignedAfter first (signs_along first k ts xs) k ts →
         (sign_of (cond g (signs_along first (k + 1) ts (slice_set xs t.place (Some (sign_at first k)))) (signs_along first k ts xs)) t ≡ sign_where first k g)
         × SignedAfter first (cond g (signs_along first (k + 1) ts (slice_set xs t.place (Some (sign_at first k)))) (signs_along first k ts xs)) (cond g (k + 1) k) ts
-    step true h h' =
-        (others_stay first (k + 1) ts (slice_set xs t.place (Some (sign_at first k))) t.place apart.0 ∙ get_or-set_same xs t.place (Some (sign_at first k)) None free.0.0, h)
+    step true h h' = (others_stay first (k + 1) ts (slice_set xs t.place (Some (sign_at first k))) t.place apart.0 ∙ get_or-set_same xs t.place (Some (sign_at first k)) None free.0.0, h)
     step false h h' = (others_stay first k ts xs t.place apart.0 ∙ free.0.1, h')
 
 all_free : (ss : List Stand) (ts : List Taken) → AllByRecursion (IsHead false ss) ts → AllByRecursion (Free (replicate (length ss) None)) ts

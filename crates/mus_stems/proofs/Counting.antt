@@ -20,8 +20,7 @@ taken_step up n ss lt =
 -- a push takes the first of what is left
 pub pushed : {A : Type 0} (out new whole : List A) (x y : A) (more rest : List A) →
     new ≡ out ++ x ∷ [] → x ≡ y → rest ≡ y ∷ more → out ++ rest ≡ whole → new ++ more ≡ whole
-pushed out new whole x y more rest e f g h =
-    ap (λ t. t ++ more) (e ∙ ap (λ t. out ++ t ∷ []) f) ∙ append_assoc out (y ∷ []) more ∙ ap (λ t. out ++ t) (sym g) ∙ h
+pushed out new whole x y more rest e f g h = ap (λ t. t ++ more) (e ∙ ap (λ t. out ++ t ∷ []) f) ∙ append_assoc out (y ∷ []) more ∙ ap (λ t. out ++ t) (sym g) ∙ h
 
 pub shift_step : (up : Bool) (n : ℕ) (ss : List Stand) (dx v : ℤ) (last next : Option Last) (shifts new whole : List ℤ) → n < 45 → v ≡ pos n -ℤ pos 22 →
     ((rest : List Taken) → shifted dx next rest new ≡ shifted dx last (taken_at up v 0 ss rest) shifts) →

@@ -203,8 +203,7 @@ Apart (t ∷ ts) = AllByRecursion (λ u. u.place ≡ t.place → ⊥) ts × Apar
 apart_from : (up : Bool) (ss : List Stand) (t : Taken) (ts : List Taken) → IsHead up ss t → AllByRecursion (IsHead up ss) ts → AllByRecursion (IsBefore t) ts →
     AllByRecursion (λ u. u.place ≡ t.place → ⊥) ts
 apart_from up ss t [] is are before = tt {0}
-apart_from up ss t (u ∷ us) is are before =
-    (λ e. not_itself u (subst (λ x. IsBefore x u) (same_place up ss t u is are.0 (sym e)) before.0), apart_from up ss t us is are.1 before.1)
+apart_from up ss t (u ∷ us) is are before = (λ e. not_itself u (subst (λ x. IsBefore x u) (same_place up ss t u is are.0 (sym e)) before.0), apart_from up ss t us is are.1 before.1)
 
 all_apart : (up : Bool) (ss : List Stand) (ts : List Taken) → InOrder ts → AllByRecursion (IsHead up ss) ts → Apart ts
 all_apart up ss [] order are = tt {0}

@@ -110,8 +110,7 @@ put_apart joined d ((e ∷ r) ∷ rs) ends = ap (λ b. cond b ((d ∷ e ∷ r) �
 front_run : {A : Type 0} (joined : A → A → Bool) (d : A) (es more : List A) (rs : List (List A)) →
     JoinedAfter joined d es → EndsBefore joined d es rs → runs joined more ≡ rs → runs joined (d ∷ es ++ more) ≡ (d ∷ es) ∷ rs
 front_run joined d [] more rs all ends h = ap (λ t. put_before joined d t) h ∙ put_apart joined d rs ends
-front_run joined d (e ∷ es) more rs all ends h =
-    ap (λ t. put_before joined d t) (front_run joined e es more rs all.1 ends h) ∙ ap (λ b. cond b ((d ∷ e ∷ es) ∷ rs) ((d ∷ []) ∷ (e ∷ es) ∷ rs)) all.0
+front_run joined d (e ∷ es) more rs all ends h = ap (λ t. put_before joined d t) (front_run joined e es more rs all.1 ends h) ∙ ap (λ b. cond b ((d ∷ e ∷ es) ∷ rs) ((d ∷ []) ∷ (e ∷ es) ∷ rs)) all.0
 
 pub runs_of_whole : {A : Type 0} (joined : A → A → Bool) (rs : List (List A)) → AreRuns joined rs → runs joined (flat_map (λ r. r) rs) ≡ rs
 runs_of_whole joined [] are = refl

@@ -1,7 +1,6 @@
 -- Which way the stems of a run go, and where they begin and end.
 use Rattle.std.specs.{Prelude.{ℤ, pos, ◌+ℤ◌, ◌-ℤ◌, ◌*ℤ◌, Bool, true, false, ◌&&◌, nat_lt, int_lt, if◌then◌else◌, List, [], ◌∷◌, length}, Int.{int_min, int_max}}
-use Rattle.mus_units.specs.declared.note.Wish.{Wish}
-use Rattle.mus_stems.specs.{declared.heads.Stand.Stand, declared.stills.Still.Still, Distances.step, Distances.middle_line, Distances.stem_length, Heads.lowest, Heads.highest, Stills.is_short}
+use Rattle.{mus_units.specs.declared.note.Wish.{Wish}, mus_stems.specs.{declared.heads.Stand.Stand, declared.stills.Still.Still, Distances.step, Distances.middle_line, Distances.stem_length, Heads.lowest, Heads.highest, Stills.is_short}}
 
 -- the heights of the lowest and the highest head, 0 without a head
 abbrev pub low_of : List Stand → ℤ

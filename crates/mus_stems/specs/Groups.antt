@@ -1,8 +1,7 @@
 -- Beams are told by the `group` of plans: where the ids of events rise, the plans of a beam are a maximal run of
 -- neighbours with one group, the id of the event at which the beam begins.
 use Rattle.std.specs.{Prelude.◌≡◌, Prelude.ℤ, Prelude.Bool, Prelude.◌==◌, Prelude.List, Prelude.length, Prelude.map, List.Sorted.IsStrictlyIncreasing}
-use Rattle.mus_units.specs.declared.note.Wish.{Wish}
-use Rattle.mus_stems.specs.{declared.stills.Still.Still, declared.plans.StemPlan.StemPlan, Runs.runs, Beams.beams, Plans.run_plans, Plans.plans_of_runs, Slope.anchors, Slope.shares_beam}
+use Rattle.{mus_units.specs.declared.note.Wish.{Wish}, mus_stems.specs.{declared.stills.Still.Still, declared.plans.StemPlan.StemPlan, Runs.runs, Beams.beams, Plans.run_plans, Plans.plans_of_runs, Slope.anchors, Slope.shares_beam}}
 
 -- plans whose beams begin at one event
 unfoldable pub same_group : StemPlan → StemPlan → Bool

@@ -1,8 +1,7 @@
 -- Displaced heads: heads are taken from the lowest up where the stem goes up, and from the highest down where it goes down, at one height
 -- in the order of the text. A head at most one step past the one taken before it goes to the other side of the stem, unless that one did.
 use Rattle.std.specs.{Prelude.{ℕ, zero, suc, ℤ, pos, negsuc, ◌+◌, ◌+ℤ◌, ◌-ℤ◌, ◌≤ℤ◌, Bool, true, false, not, ◌&&◌, int_le, if◌then◌else◌, List, [], ◌∷◌, length, replicate, Option, Some, None, is_some}, Ordering.int_eq, Int.{int_min, int_max}, List.{slice_set, AllByRecursion}}
-use Rattle.mus_units.specs.{Pitch.height_of, declared.note.Head.Head, declared.pitch.Clef.Clef}
-use Rattle.mus_stems.specs.{declared.heads.Stand.Stand, declared.heads.Last.Last, Distances.right_of_stem, Distances.left_of_stem}
+use Rattle.{mus_units.specs.{Pitch.height_of, declared.note.Head.Head, declared.pitch.Clef.Clef}, mus_stems.specs.{declared.heads.Stand.Stand, declared.heads.Last.Last, Distances.right_of_stem, Distances.left_of_stem}}
 
 -- where a head stands in a clef, and whether a sign is written before it
 unfoldable pub stand_of : Clef → Head → Stand

@@ -14,8 +14,7 @@ use mus_score::Flat;
 use mus_units::{Clef, Few, Memory, Row, Wish};
 use std::alloc::Global;
 
-/// How an event is drawn beside its heads. Each dx and dy is in u, a dy counted up from the bottom
-/// line.
+/// How an event is drawn beside its heads. Each dx and dy is in u, a dy counted up from the bottom line.
 ///
 /// `up` is the way of the stem and `has` whether there is one; it goes from dy `from` to dy `to`,
 /// the end that the events of its beam share, while `own` is the end that the event has by itself.

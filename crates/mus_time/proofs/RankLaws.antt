@@ -85,8 +85,7 @@ pub rank_rises : (ks : List ColumnKey) (k l : ColumnKey) → is_below k l ≡ tr
 rank_rises [] k l h = omega arith
 rank_rises (x ∷ ks) k l h = by (is_below x k) (is_below x l) (below_through x k l) (rank_rises ks k l h)
   where
-    by : (b c : Bool) → (b ≡ true → is_below k l ≡ true → c ≡ true) → rank_of ks k ≤ rank_of ks l
-        → (if b then 1 + rank_of ks k else rank_of ks k) ≤ (if c then 1 + rank_of ks l else rank_of ks l)
+    by : (b c : Bool) → (b ≡ true → is_below k l ≡ true → c ≡ true) → rank_of ks k ≤ rank_of ks l → (if b then 1 + rank_of ks k else rank_of ks k) ≤ (if c then 1 + rank_of ks l else rank_of ks l)
     by true true f more = omega (arith, more)
     by true false f more = absurd (false_not_true (f refl h))
     by false true f more = omega (arith, more)
@@ -102,8 +101,7 @@ rank_rises_more (x ∷ ks) k l h (zero, inside, is) =
     omega (arith, e, f, more)
 rank_rises_more (x ∷ ks) k l h (suc i, inside, is) = by (is_below x k) (is_below x l) (below_through x k l) (rank_rises_more ks k l h (i, omega (arith, inside), is))
   where
-    by : (b c : Bool) → (b ≡ true → is_below k l ≡ true → c ≡ true) → rank_of ks k < rank_of ks l
-        → (if b then 1 + rank_of ks k else rank_of ks k) < (if c then 1 + rank_of ks l else rank_of ks l)
+    by : (b c : Bool) → (b ≡ true → is_below k l ≡ true → c ≡ true) → rank_of ks k < rank_of ks l → (if b then 1 + rank_of ks k else rank_of ks k) < (if c then 1 + rank_of ks l else rank_of ks l)
     by true true f more = omega (arith, more)
     by true false f more = absurd (false_not_true (f refl h))
     by false true f more = omega (arith, more)

@@ -1,7 +1,6 @@
 -- Beats: what times take from the events of a body that are no graces, from left to right: the id, and how long the event lasts.
 use Rattle.std.specs.Prelude.{ℕ, ◌+◌, ◌*◌, List, [], ◌∷◌, ◌++◌, map}
-use Rattle.mus_score.specs.{declared.score.{Event.Event, Flat.Flat, Music.{Music, TheOpen.Music-F, TheFolds.fold-Music}}, Times.{InTuplets, flats_of, scaled}}
-use Rattle.mus_time.specs.declared.{beats.Beat.Beat, times.Onset.Onset}
+use Rattle.{mus_score.specs.{declared.score.{Event.Event, Flat.Flat, Music.{Music, TheOpen.Music-F, TheFolds.fold-Music}}, Times.{InTuplets, flats_of, scaled}}, mus_time.specs.declared.{beats.Beat.Beat, times.Onset.Onset}}
 
 abbrev pub beat_of : Flat → Beat
 beat_of f = record { event = f.event.id; ticks = f.duration }
@@ -30,5 +29,4 @@ beats_within = fold-Music (InTuplets (List Beat)) beats_step
 -- onsets in a measure, from a tick on
 abbrev pub beat_onsets : ℕ → ℕ → ℕ → List Beat → List Onset
 beat_onsets voice measure tick [] = []
-beat_onsets voice measure tick (b ∷ bs) =
-    record { voice = voice; measure = measure; event = b.event; tick = tick } ∷ beat_onsets voice measure (tick + b.ticks) bs
+beat_onsets voice measure tick (b ∷ bs) = record { voice = voice; measure = measure; event = b.event; tick = tick } ∷ beat_onsets voice measure (tick + b.ticks) bs

@@ -82,8 +82,7 @@ events_changed : (g : Event → Event) (fs : List Flat) → map (λ f. f.event) 
 events_changed g [] = refl
 events_changed g (f ∷ fs) = ap (λ es. g f.event ∷ es) (events_changed g fs)
 
-grace_changed : (g : Event → Event) (w : Waits) (here others : Leaves) → here ≡ leaving g others
-    → map g w.graces ++ map (λ f. f.event) here.flats ≡ map g (w.graces ++ map (λ f. f.event) others.flats)
+grace_changed : (g : Event → Event) (w : Waits) (here others : Leaves) → here ≡ leaving g others → map g w.graces ++ map (λ f. f.event) here.flats ≡ map g (w.graces ++ map (λ f. f.event) others.flats)
 grace_changed g w here others e = rw (e, events_changed g others.flats, map-append g w.graces (map (λ f. f.event) others.flats)) refl
 
 leaf_changed : (g : Event → Event) → ((e : Event) → (g e).ticks ≡ e.ticks) → (e : Event) → Changes g (leaf (g e)) (leaf e)

@@ -1,6 +1,5 @@
 ghost use Rattle.std.specs.{Prelude.{◌≡◌, ◌≤◌, ◌+ℤ◌, pos, negsuc, length, true, false, IfOk, MatchOption}, Cmp.Lexicographic.pointwise};
-ghost use Rattle.mus_pitch.specs.Circle.{is_signature};
-ghost use Rattle.mus_transpose.specs.Moved.{Within, Gives, key_by, key_may, on_circle, same_sign, sharps_by, sharps_in};
+ghost use Rattle.{mus_pitch.specs.Circle.{is_signature}, mus_transpose.specs.Moved.{Within, Gives, key_by, key_may, on_circle, same_sign, sharps_by, sharps_in}};
 
 use crate::moves::{Move, MoveError, Moved};
 use mus_pitch::key_of;

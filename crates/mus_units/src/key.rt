@@ -11,8 +11,7 @@ pub struct Sign {
     pub alter: Alter,
 }
 
-/// A key signature: its entries in the order in which they are drawn, at most
-/// one per letter.
+/// A key signature: its entries in the order in which they are drawn, at most one per letter.
 #[derive(Drop)]
 pub struct Key {
     pub signs: Row<Sign>,
@@ -39,8 +38,7 @@ pub fn copy_optional_key(alloc: Global, key: &Option<Key>) -> Result<Option<Key>
     }
 }
 
-/// A meter. `Common` and `Cut` are the signs C and C with a stroke, which
-/// count as 4/4 and 2/2.
+/// A meter. `Common` and `Cut` are the signs C and C with a stroke, which count as 4/4 and 2/2.
 #[derive(Clone, Copy, PartialEq, Eq)]
 pub enum Meter {
     Free,

@@ -4,8 +4,7 @@ use crate::pitch::{Alter, Pitch};
 use crate::text::{Memory, Row, Text};
 use std::alloc::Global;
 
-/// A note head as written: its pitch, the sign before it, and whether a tie
-/// begins at it.
+/// A note head as written: its pitch, the sign before it, and whether a tie begins at it.
 #[derive(Clone, Copy, PartialEq, Eq)]
 pub struct Head {
     pub pitch: Pitch,

@@ -133,9 +133,8 @@ pub fn value_of(num: u64, den: u64) -> Option<Value>
     if units(v) == left { Some(v) } else { None }
 }
 
-/// The parts of the length `num / den` of a whole note: one to eight values with
-/// that sum, each the longest that isn't above what the ones before it leave.
-/// None exactly where there is no such list.
+/// The parts of the length `num / den` of a whole note: one to eight values with that sum, each the
+/// longest that isn't above what the ones before it leave. None exactly where there is no such list.
 pub fn parts_of(alloc: Global, num: u64, den: u64) -> Result<Option<Row<Value>>, Memory>
     requires some { 1 ≤ num }
     requires above { 1 ≤ den }

@@ -4,8 +4,7 @@ use std::alloc::{AllocError, AllocFailed, Global};
 use std::marker::Model;
 use std::slice;
 
-/// Memory ran out. Every call that allocates may answer it, and no clause says
-/// when.
+/// Memory ran out. Every call that allocates may answer it, and no clause says when.
 #[derive(Clone, Copy, PartialEq, Eq)]
 pub struct Memory;
 

@@ -25,8 +25,7 @@ pub enum Base {
     N64,
 }
 
-/// A base with up to three dots: its length is the base and its halves, one for
-/// each dot.
+/// A base with up to three dots: its length is the base and its halves, one for each dot.
 #[derive(Clone, Copy, PartialEq, Eq)]
 pub struct Value {
     pub base: Base,

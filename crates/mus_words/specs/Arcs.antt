@@ -1,10 +1,8 @@
 -- Slurs and ties: the heights of their two ends, and how far they bulge.
 use Rattle.std.specs.{Prelude.{ℕ, ℤ, pos, ◌+ℤ◌, Bool, true, false, ◌&&◌, not, if◌then◌else◌, List, Option, Some, None}, List.{find, slice_get}}
-use Rattle.{mus_units.specs.{declared.pitch.Clef.Clef, declared.note.Head.Head}, mus_stems.specs.{declared.plans.StemPlan.StemPlan, Slope.with_end}}
-use Rattle.{mus_arcs.specs.{declared.pairing.Arc.Arc, declared.cutting.Piece.Piece, Arcs.has_pitch}, mus_laid.specs.declared.drawn.{Span.Span, Bridge.Bridge}}
-use Rattle.mus_time.specs.declared.keys.ColumnKey.{ColumnKey}
-use Rattle.mus_ink.specs.{Distances.cut_arc_line, Distances.slur_bulge, Distances.slur_gap, Distances.tie_gap, Drawing.back, Drawing.cut, Notes.dy_of, Decos.top_of}
-use Rattle.mus_words.specs.declared.arcs.End.{End}
+use Rattle.{mus_units.specs.{declared.pitch.Clef.Clef, declared.note.Head.Head}, mus_stems.specs.{declared.plans.StemPlan.StemPlan, Slope.with_end}, mus_arcs.specs.{declared.pairing.Arc.Arc, declared.cutting.Piece.Piece, Arcs.has_pitch}}
+use Rattle.{mus_laid.specs.declared.drawn.{Span.Span, Bridge.Bridge}, mus_time.specs.declared.keys.ColumnKey.{ColumnKey}}
+use Rattle.{mus_ink.specs.{Distances.cut_arc_line, Distances.slur_bulge, Distances.slur_gap, Distances.tie_gap, Drawing.back, Drawing.cut, Notes.dy_of, Decos.top_of}, mus_words.specs.declared.arcs.End.{End}}
 
 -- the event at an end of an arc
 pub record Seen : Type 0 where
@@ -26,8 +24,7 @@ piece_dy true false own other = other
 piece_dy true true own other = pos cut_arc_line
 
 abbrev pub piece_mark : ColumnKey → ColumnKey → Piece → ℤ → ℤ → ℤ → Bridge
-piece_mark left right piece from to bulge =
-    arc_between left right (piece_dy piece.cut_left piece.cut_right from to) (piece_dy piece.cut_right piece.cut_left to from) bulge
+piece_mark left right piece from to bulge = arc_between left right (piece_dy piece.cut_left piece.cut_right from to) (piece_dy piece.cut_right piece.cut_left to from) bulge
 
 -- a slur ends above the tops of its events
 unfoldable pub slur_dy : Seen → ℤ

@@ -1,8 +1,7 @@
 -- The texts above and below an event, each as it is printed and from the staff outwards.
 use Rattle.std.{specs.Prelude.{ℕ, ℤ, pos, ◌+◌, ◌*◌, ◌+ℤ◌, ◌-ℤ◌, Bool, true, false, if◌then◌else◌, List, [], ◌∷◌, ◌++◌, flat_map, Option, Some, None, decimal}, proofs.Math.Bool.beq}
 use Rattle.{mus_units.specs.declared.note.Deco.{Deco}, mus_score.specs.{declared.score.Flat.Flat, declared.score.Mention.Mention}, mus_laid.specs.declared.{laid.Lane.Lane, drawn.Drawn.Drawn}}
-use Rattle.mus_ink.specs.{Distances.half_character, Distances.text_gap, Distances.text_step, Distances.verse_step, Drawing.back, Drawing.cut}
-use Rattle.mus_words.specs.{declared.texts.TextPlace.TextPlace, Words.words, Words.shown}
+use Rattle.{mus_ink.specs.{Distances.half_character, Distances.text_gap, Distances.text_step, Distances.verse_step, Drawing.back, Drawing.cut}, mus_words.specs.{declared.texts.TextPlace.TextPlace, Words.words, Words.shown}}
 use Rattle.mus_laid.specs.declared.laid.Lane.TheVariants as lanes
 
 abbrev pub shown_ending : Option (List ℕ) → List (List ℕ)
@@ -25,8 +24,7 @@ shown_mention below m = if beq m.below below then shown m.text else []
 
 -- above: the ending, the numbers of the tuplets that begin there, the decorations, then what stood between quotes
 unfoldable pub texts_above : Flat → List (List ℕ)
-texts_above f =
-    shown_ending f.event.ending ++ flat_map shown_number f.tuplets ++ flat_map (shown_deco false) f.event.decos ++ flat_map (shown_mention false) f.event.mentions
+texts_above f = shown_ending f.event.ending ++ flat_map shown_number f.tuplets ++ flat_map (shown_deco false) f.event.decos ++ flat_map (shown_mention false) f.event.mentions
 
 -- below: the decorations, then what stood between quotes
 unfoldable pub texts_below : Flat → List (List ℕ)
@@ -49,5 +47,4 @@ below_from low verses k (t ∷ ts) = words lanes.Below (back half_character) (be
 
 -- the texts of an event, behind those that its column has already
 unfoldable pub text_marks : TextPlace → Flat → List Drawn
-text_marks place f =
-    above_from place.high place.above (texts_above f) ++ below_from place.low place.verses place.below (texts_below f)
+text_marks place f = above_from place.high place.above (texts_above f) ++ below_from place.low place.verses place.below (texts_below f)

@@ -10,8 +10,7 @@ ear_with c k said before here heard = record { clef = c; key = record { signs = 
 abbrev pub ear_at : Spread → List Column → Ear
 ear_at spread cols = ear_with (clef_at cols) (key_at cols) (said_at cols) (last_heads spread cols) [] (all_heads spread cols)
 
-walked : (spread : Spread) (col : Column) (c : Clef) (k : List Sign) (before heard : List Heard) (ns : List Noted) (said : List Head) (here : List Heard)
-    → hear_from spread col (ear_with c k said before here heard) ns
+walked : (spread : Spread) (col : Column) (c : Clef) (k : List Sign) (before heard : List Heard) (ns : List Noted) (said : List Head) (here : List Heard) → hear_from spread col (ear_with c k said before here heard) ns
     ≡ ear_with c k (said_behind c col said ns) before (here ++ heads_from spread col c k before said ns) heard
 walked spread col c k before heard [] said here = ap (λ h. ear_with c k said before h heard) (sym (append-nil here))
 walked spread col c k before heard (n ∷ ns) said here =
@@ -22,8 +21,7 @@ walked spread col c k before heard (n ∷ ns) said here =
 
 column_law : (spread : Spread) (earlier : List Column) (col : Column) → hear_column spread (ear_at spread earlier) col ≡ ear_at spread (col ∷ earlier)
 unfolding hear_column
-column_law spread earlier col =
-    ap closed (walked spread col (clef_at (col ∷ earlier)) (key_at (col ∷ earlier)) (last_heads spread earlier) (all_heads spread earlier) col.notes (said_at earlier) [])
+column_law spread earlier col = ap closed (walked spread col (clef_at (col ∷ earlier)) (key_at (col ∷ earlier)) (last_heads spread earlier) (all_heads spread earlier) col.notes (said_at earlier) [])
 
 turned : (col : Column) (cols earlier : List Column) → reverse (col ∷ cols) ++ earlier ≡ reverse cols ++ (col ∷ earlier)
 turned col cols earlier = ap (λ t. t ++ earlier) (reverse_onto cols col []) ∙ append_assoc (reverse cols) (col ∷ []) earlier
@@ -44,8 +42,7 @@ columns_append spread ear (x ∷ xs) ys = columns_append spread (hear_column spr
 
 -- one step of the loop over systems
 pub system_more : (spread : Spread) (f : List Staff → List Column) (systems : List (List Staff)) (i : ℕ) (s : List Staff) (ear new target : Ear) → i < length systems
-    → s ≡ get_or systems i s → new ≡ hear_columns spread ear (f s) → hear_columns spread ear (flat_map f (drop i systems)) ≡ target
-    → hear_columns spread new (flat_map f (drop (i + 1) systems)) ≡ target
+    → s ≡ get_or systems i s → new ≡ hear_columns spread ear (f s) → hear_columns spread ear (flat_map f (drop i systems)) ≡ target → hear_columns spread new (flat_map f (drop (i + 1) systems)) ≡ target
 system_more spread f systems i s ear new target inside here is before =
     let one : i + 1 ≡ suc i = omega arith in
     let rest = drop (suc i) systems in

@@ -56,11 +56,9 @@ present x f (y ∷ ys) (c ∷ cs) (suc k) v s h l at is =
 
 -- ---- what a mark tells of each column
 nothing_one : (c : Column) → record c { notes = c.notes ++ []; ties = c.ties ++ [] } ≡ c
-nothing_one c =
-    ap (λ t. record { leads = c.leads; notes = t; ties = c.ties ++ [] }) (append-nil c.notes) ∙ ap (λ t. record { leads = c.leads; notes = c.notes; ties = t }) (append-nil c.ties)
+nothing_one c = ap (λ t. record { leads = c.leads; notes = t; ties = c.ties ++ [] }) (append-nil c.notes) ∙ ap (λ t. record { leads = c.leads; notes = c.notes; ties = t }) (append-nil c.ties)
 
-glyph_one : (c : Column) (b : Bool) (ns : List Noted)
-    → record c { notes = c.notes ++ (if b then ns else []); ties = c.ties ++ [] } ≡ (if b then record c { notes = c.notes ++ ns } else c)
+glyph_one : (c : Column) (b : Bool) (ns : List Noted) → record c { notes = c.notes ++ (if b then ns else []); ties = c.ties ++ [] } ≡ (if b then record c { notes = c.notes ++ ns } else c)
 glyph_one c true ns = ap (λ t. record { leads = c.leads; notes = c.notes ++ ns; ties = t }) (append-nil c.ties)
 glyph_one c false ns = nothing_one c
 
@@ -79,14 +77,12 @@ glyph_passed g x dx dy at low high role ys cs new e f h k is =
     is ∙ ap (λ z. at_place z (with_note role high) ys cs) e ∙ ap (λ r. at_place x (with_note r high) ys cs) (k ∙ ap (role_of g) f)
     ∙ ap (λ z. at_place x (with_note (role_of g dy) z) ys cs) h ∙ sym (glyph_told g x dx dy ys cs)
 
-tie_one : (c : Column) (b t : Bool) (dy : ℤ) → t ≡ true
-    → record c { notes = c.notes ++ []; ties = c.ties ++ (if b && t then dy ∷ [] else []) } ≡ (if b then record c { ties = c.ties ++ dy ∷ [] } else c)
+tie_one : (c : Column) (b t : Bool) (dy : ℤ) → t ≡ true → record c { notes = c.notes ++ []; ties = c.ties ++ (if b && t then dy ∷ [] else []) } ≡ (if b then record c { ties = c.ties ++ dy ∷ [] } else c)
 tie_one c b false dy e = absurd (false≢true e)
 tie_one c true true dy e = ap (λ t. record { leads = c.leads; notes = t; ties = c.ties ++ dy ∷ [] }) (append-nil c.notes)
 tie_one c false true dy e = nothing_one c
 
-tie_told : (x1 x2 from to bulge : ℤ) (ys : List ℤ) (cs : List Column) → is_tie bulge ≡ true
-    → with_mark (PageMark.Arc x1 x2 from to bulge) ys cs ≡ at_place x2 (with_tie (to -ℤ bulge)) ys cs
+tie_told : (x1 x2 from to bulge : ℤ) (ys : List ℤ) (cs : List Column) → is_tie bulge ≡ true → with_mark (PageMark.Arc x1 x2 from to bulge) ys cs ≡ at_place x2 (with_tie (to -ℤ bulge)) ys cs
 tie_told x1 x2 from to bulge [] cs e = refl
 tie_told x1 x2 from to bulge (y ∷ ys) [] e = refl
 tie_told x1 x2 from to bulge (y ∷ ys) (c ∷ cs) e =
@@ -126,8 +122,7 @@ no_tie true t dy e = ap (λ u. if u then dy ∷ [] else []) e
 no_tie false t dy e = refl
 
 pub slur_told : (x1 x2 from to bulge : ℤ) (ys : List ℤ) (cs : List Column) → is_tie bulge ≡ false → with_mark (PageMark.Arc x1 x2 from to bulge) ys cs ≡ cs
-slur_told x1 x2 from to bulge ys cs e =
-    quiet_told (PageMark.Arc x1 x2 from to bulge) ys cs (λ y. refl) (λ y. no_tie (int_eq x2 y) (is_tie bulge) (to -ℤ bulge) e)
+slur_told x1 x2 from to bulge ys cs e = quiet_told (PageMark.Arc x1 x2 from to bulge) ys cs (λ y. refl) (λ y. no_tie (int_eq x2 y) (is_tie bulge) (to -ℤ bulge) e)
 
 -- ---- mark after mark
 pub mark_length : (m : PageMark) (ys : List ℤ) (cs : List Column) → length (with_mark m ys cs) ≡ length cs

@@ -30,8 +30,7 @@ not_among x [] b = refl
 not_among x (w ∷ ws) b = ap (λ t. t || list_any (int_eq x) ws) (apart x w b.0) ∙ not_among x ws b.1
 
 -- ---- in rising order
-below_if : (w x y : ℤ) (ys : List ℤ) (a b : Bool) → int_cmp w x ≡ Less → int_cmp w y ≡ Less → Below w ys → Below w (inserted x ys)
-    → Below w (if a then x ∷ y ∷ ys else if b then y ∷ ys else y ∷ inserted x ys)
+below_if : (w x y : ℤ) (ys : List ℤ) (a b : Bool) → int_cmp w x ≡ Less → int_cmp w y ≡ Less → Below w ys → Below w (inserted x ys) → Below w (if a then x ∷ y ∷ ys else if b then y ∷ ys else y ∷ inserted x ys)
 below_if w x y ys true b l m rest more = (l, (m, rest))
 below_if w x y ys false true l m rest more = (m, rest)
 below_if w x y ys false false l m rest more = (m, more)
@@ -70,8 +69,7 @@ swapped false q r = refl
 among_if : (z x y : ℤ) (ys : List ℤ) (a b : Bool) → int_eq x y ≡ b → list_any (int_eq z) (inserted x ys) ≡ (int_eq z x || list_any (int_eq z) ys)
     → list_any (int_eq z) (if a then x ∷ y ∷ ys else if b then y ∷ ys else y ∷ inserted x ys) ≡ (int_eq z x || (int_eq z y || list_any (int_eq z) ys))
 among_if z x y ys true b f more = refl
-among_if z x y ys false true f more =
-    twice (int_eq z y) (list_any (int_eq z) ys) ∙ ap (λ w. int_eq z w || (int_eq z y || list_any (int_eq z) ys)) (sym (eq_is x y f))
+among_if z x y ys false true f more = twice (int_eq z y) (list_any (int_eq z) ys) ∙ ap (λ w. int_eq z w || (int_eq z y || list_any (int_eq z) ys)) (sym (eq_is x y f))
 among_if z x y ys false false f more = ap (λ t. int_eq z y || t) more ∙ swapped (int_eq z y) (int_eq z x) (list_any (int_eq z) ys)
 
 among_inserted : (z x : ℤ) (ys : List ℤ) → list_any (int_eq z) (inserted x ys) ≡ (int_eq z x || list_any (int_eq z) ys)
@@ -91,8 +89,7 @@ or_left true p q e f = absurd (false≢true (sym e))
 or_left false p q e f = f
 
 tail_same : (z x : ℤ) (xs ys : List ℤ) (b : Bool) → int_eq z x ≡ b → Below x xs → Below x ys → Same (x ∷ xs) (x ∷ ys) → list_any (int_eq z) xs ≡ list_any (int_eq z) ys
-tail_same z x xs ys true e l m same =
-    subst (λ w. list_any (int_eq w) xs ≡ list_any (int_eq w) ys) (sym (eq_is z x e)) (not_among x xs l ∙ sym (not_among x ys m))
+tail_same z x xs ys true e l m same = subst (λ w. list_any (int_eq w) xs ≡ list_any (int_eq w) ys) (sym (eq_is z x e)) (not_among x xs l ∙ sym (not_among x ys m))
 tail_same z x xs ys false e l m same = or_left (int_eq z x) (list_any (int_eq z) xs) (list_any (int_eq z) ys) e (same z)
 
 missing : (x : ℤ) (xs ws : List ℤ) → Below x ws → Same (x ∷ xs) ws → ⊥
@@ -108,8 +105,7 @@ joined : (x y : ℤ) (xs ys : List ℤ) → x ≡ y → xs ≡ ys → x ∷ xs �
 joined x y xs ys e f = rw (e, f) refl
 
 tails : (x y : ℤ) (xs ys : List ℤ) → x ≡ y → Below x xs → Below y ys → Same (x ∷ xs) (y ∷ ys) → Same xs ys
-tails x y xs ys e l m same z =
-    tail_same z x xs ys (int_eq z x) refl l (subst (λ w. Below w ys) (sym e) m) (subst (λ w. Same (x ∷ xs) (w ∷ ys)) (sym e) same)
+tails x y xs ys e l m same z = tail_same z x xs ys (int_eq z x) refl l (subst (λ w. Below w ys) (sym e) m) (subst (λ w. Same (x ∷ xs) (w ∷ ys)) (sym e) same)
 
 only_one : (xs ys : List ℤ) → IsStrictlySortedBy int_cmp xs → IsStrictlySortedBy int_cmp ys → Same xs ys → xs ≡ ys
 unfolding IsStrictlySortedBy
@@ -143,8 +139,7 @@ index_by a b x Equal Less e f l = absurd (false≢true (ap is_eq (sym (int_cmp_t
 index_by a b x Equal Equal e f l = omega arith
 index_by a b x Equal Greater e f l = omega arith
 index_by a b x Greater Less e f l = absurd (false≢true (ap is_gt (sym (int_cmp_total.trans a b x l f) ∙ e)))
-index_by a b x Greater Equal e f l =
-    absurd (false≢true (ap is_gt (sym (subst (λ z. int_cmp a z ≡ Less) (int_cmp-IsAntisymmetric b x f) l) ∙ e)))
+index_by a b x Greater Equal e f l = absurd (false≢true (ap is_gt (sym (subst (λ z. int_cmp a z ≡ Less) (int_cmp-IsAntisymmetric b x f) l) ∙ e)))
 index_by a b x Greater Greater e f l = omega arith
 
 lt_of : (i j : ℕ) → nat_lt i j ≡ true → i < j
@@ -155,8 +150,7 @@ le_of i j e = grind (arith, nat_tests)
 
 index_cases : (xs : List ℤ) (x : ℤ) (i j : ℕ) (d : ℤ) (b : Bool) → nat_lt i j ≡ b → IsStrictlySortedBy int_cmp xs → i ≤ j → j < length xs
     → ordering_index (int_cmp (get_or xs i d) x) ≤ ordering_index (int_cmp (get_or xs j d) x)
-index_cases xs x i j d true e s l h =
-    index_by (get_or xs i d) (get_or xs j d) x (int_cmp (get_or xs i d) x) (int_cmp (get_or xs j d) x) refl refl (Less-from_sorted int_cmp xs i j d s (lt_of i j e) h)
+index_cases xs x i j d true e s l h = index_by (get_or xs i d) (get_or xs j d) x (int_cmp (get_or xs i d) x) (int_cmp (get_or xs j d) x) refl refl (Less-from_sorted int_cmp xs i j d s (lt_of i j e) h)
 index_cases xs x i j d false e s l h =
     let g = le_of i j e in
     let same : i ≡ j = omega arith in
@@ -166,8 +160,7 @@ index_cases xs x i j d false e s l h =
 pub sought : (xs : List ℤ) (x : ℤ) → IsStrictlySortedBy int_cmp xs → IsNonDecreasingBy (λ y. ordering_index (int_cmp y x)) xs
 sought xs x s i j d l h = index_cases xs x i j d (nat_lt i j) refl s l h
 
-lies : (x : ℤ) (xs : List ℤ) (i k : ℕ) (b : Bool) → nat_lt k i ≡ b → k < length xs → get_or xs k x ≡ x
-    → IsPartitionPoint (λ y. int_cmp y x ≡ Less) (λ y. int_cmp y x ≡ Greater) xs i → ⊥
+lies : (x : ℤ) (xs : List ℤ) (i k : ℕ) (b : Bool) → nat_lt k i ≡ b → k < length xs → get_or xs k x ≡ x → IsPartitionPoint (λ y. int_cmp y x ≡ Less) (λ y. int_cmp y x ≡ Greater) xs i → ⊥
 lies x xs i k true l h e p = false≢true (ap is_eq (sym (subst (λ w. int_cmp w x ≡ Less) e (p.0 k x (omega arith) (lt_of k i l)))) ∙ itself x)
 lies x xs i k false l h e p = false≢true (ap is_eq (sym (subst (λ w. int_cmp w x ≡ Greater) e (p.1 k x (le_of k i l) h))) ∙ itself x)
 

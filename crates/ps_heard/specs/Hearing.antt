@@ -7,8 +7,7 @@
 -- octave in the last earlier column of heads. Heads of grace notes count for signs, and are not listed.
 use Rattle.std.specs.{Prelude.{ℤ, ◌||◌, ◌&&◌, not, Bool, true, false, if◌then◌else◌, List, [], ◌∷◌, ◌++◌, reverse, Option, Some, None, unwrap_or}, List.{find, list_any}, Option.option_map, Ordering.int_eq}
 use Rattle.mus_units.specs.{Good.same_letter, declared.key.Sign.Sign, declared.key.Spread.Spread, declared.note.Head.Head, declared.pitch.Alter.Alter, declared.pitch.Clef.Clef, declared.pitch.Pitch.Pitch}
-use Rattle.mus_pitch.specs.Alteration.{key_sign, said_sign}
-use Rattle.ps_heard.specs.{declared.column.Column.Column, declared.column.Heard.Heard, declared.column.Noted.Noted, declared.column.Role.Role, Roles.pitch_at}
+use Rattle.{mus_pitch.specs.Alteration.{key_sign, said_sign}, ps_heard.specs.{declared.column.Column.Column, declared.column.Heard.Heard, declared.column.Noted.Noted, declared.column.Role.Role, Roles.pitch_at}}
 
 -- the last clef among what is noted, else the one before
 abbrev pub clef_or : Clef → Role → Clef

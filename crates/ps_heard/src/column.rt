@@ -20,9 +20,8 @@ pub struct Noted {
     pub dy: i32,
 }
 
-/// The marks of a staff at one anchor: whether the anchor is the first of its
-/// system, what its glyphs tell, in the staff's order, and the heights of the heads
-/// at which a tie ends.
+/// The marks of a staff at one anchor: whether the anchor is the first of its system, what its glyphs
+/// tell, in the staff's order, and the heights of the heads at which a tie ends.
 #[derive(Drop)]
 pub struct Column {
     pub leads: bool,
@@ -37,9 +36,8 @@ pub struct Heard {
     pub alter: Alter,
 }
 
-/// What a listener keeps in mind: the clef and the key, the heads so far in the
-/// measure, the heads of the last column of heads, those so far in this column, and
-/// all heads of the columns before it.
+/// What a listener keeps in mind: the clef and the key, the heads so far in the measure, the heads of
+/// the last column of heads, those so far in this column, and all heads of the columns before it.
 #[derive(Drop)]
 pub struct Ear {
     pub clef: Clef,

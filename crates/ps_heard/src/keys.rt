@@ -74,8 +74,7 @@ fn has_heads(notes: &[Noted]) -> bool
     notes.iter().any(|note| is_head(note.role))
 }
 
-/// Whether a column of these gives the key: it leads its system, or has signs and no
-/// heads.
+/// Whether a column of these gives the key: it leads its system, or has signs and no heads.
 pub fn gives_key(leads: bool, notes: &[Noted]) -> bool
     ensures { result ≡ gives_key leads notes.now }
 {

@@ -102,10 +102,9 @@ fn put_tune(alloc: Global, out: &mut Text, spread: Spread, tune: &Part<'_>) -> R
     put_staves(out, staves.as_slice())
 }
 
-/// Adds the text of what a sheet sounds: for each tune a line `tune` and its ordinal,
-/// for each of its staves, from 0, a line `staff` and its place, and for each head a
-/// line with its letter, its alteration in half steps and its octave, as `F 1 5`. At an
-/// error a part of it was added.
+/// Adds the text of what a sheet sounds: for each tune a line `tune` and its ordinal, for each of its
+/// staves, from 0, a line `staff` and its place, and for each head a line with its letter, its
+/// alteration in half steps and its octave, as `F 1 5`. At an error a part of it was added.
 pub fn put_heard(alloc: Global, out: &mut Text, s: &Sheet, spread: Spread) -> Result<(), Memory>
     ensures { OnOk result (out.new ≡ out.old ++ heard_text spread s.now) }
 {

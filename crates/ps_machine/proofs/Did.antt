@@ -60,8 +60,7 @@ curve_far a b c d x y m on e =
 
 -- a point that was passed as a machine's numbers
 pub point_passed : (g : Graphics) (x y : ℤ) (e : Stop) → FitsSigned w64 x → FitsSigned w64 y → IsPoint g (to_z w64 (of_z w64 x)) (to_z w64 (of_z w64 y)) (Err e) → IsPoint g x y (Err e)
-point_passed g x y e across above h =
-    subst (λ z. IsPoint g x z (Err e)) (to_z-of_z w64 y above) (subst (λ z. IsPoint g z (to_z w64 (of_z w64 y)) (Err e)) (to_z-of_z w64 x across) h)
+point_passed g x y e across above h = subst (λ z. IsPoint g x z (Err e)) (to_z-of_z w64 y above) (subst (λ z. IsPoint g z (to_z w64 (of_z w64 y)) (Err e)) (to_z-of_z w64 x across) h)
 
 -- a curve stops where one of its points is past the range
 pub first_stops : (a b c d x y : ℤ) (m k : State) (e : Stop) → ((o : Outcome) → at_point m.now.path o ≡ o) → IsPoint m.now a b (Err e) → DidOrStopped (curveto (a ∷ b ∷ c ∷ d ∷ x ∷ y ∷ []) m) (Err e) k

@@ -38,8 +38,7 @@ saved_more pieces (s ∷ saved) x h = ap (λ p. graphics_of p s.pen ∷ saved_of
 abbrev with_piece : Drawing → Seg → Drawing
 with_piece d x = record d { now = record d.now { path = d.now.path ++ x ∷ [] } }
 
-graphics_more : (pieces : List Seg) (pen : Pen) (x : Seg) → pen.first ≤ length pieces
-    → graphics_of (pieces ++ x ∷ []) (followed pen x) ≡ record (graphics_of pieces pen) { path = drop pen.first pieces ++ x ∷ [] }
+graphics_more : (pieces : List Seg) (pen : Pen) (x : Seg) → pen.first ≤ length pieces → graphics_of (pieces ++ x ∷ []) (followed pen x) ≡ record (graphics_of pieces pen) { path = drop pen.first pieces ++ x ∷ [] }
 graphics_more pieces pen (Seg.Move x y) within = ap (λ p. record (graphics_of pieces pen) { path = p }) (drop-append-le pen.first pieces (Seg.Move x y ∷ []) within)
 graphics_more pieces pen (Seg.Line x y) within = ap (λ p. record (graphics_of pieces pen) { path = p }) (drop-append-le pen.first pieces (Seg.Line x y ∷ []) within)
 graphics_more pieces pen (Seg.Curve a b c d x y) within = ap (λ p. record (graphics_of pieces pen) { path = p }) (drop-append-le pen.first pieces (Seg.Curve a b c d x y ∷ []) within)

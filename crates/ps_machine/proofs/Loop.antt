@@ -1,8 +1,7 @@
 -- How a run goes on, token by token.
 use Rattle.std.proofs.Common.{◌≡◌, ℕ, ◌+◌, ◌<◌, ◌≤◌, false, List, [], ◌∷◌, ◌++◌, Option, Some, None, refl, arith}
 use Rattle.ps_steps.{specs.{declared.{halt.Cause.Cause, token.{Simple.Simple, Token.Token}}, Tokens.{NoToken, passed}, State.{State, first_state}, Operators.{went, halted, executed}, Steps.{Place, at, NextToken, from_pending, from_text, Steps, here, step, Paints, unreadable, used_up, stuck, Halts}}, proofs.Joined.{now, joined}}
-use Rattle.ps_tokens.specs.Programs.{IsRead, all_read, fault_read, token_read}
-use Rattle.ps_machine.specs.{declared.run.Next.Next, Nexts.token_of, Nexts.IsTaken, Nexts.of_calls, Nexts.of_text, Nexts.IsFirst, Nexts.IsNext}
+use Rattle.{ps_tokens.specs.Programs.{IsRead, all_read, fault_read, token_read}, ps_machine.specs.{declared.run.Next.Next, Nexts.token_of, Nexts.IsTaken, Nexts.of_calls, Nexts.of_text, Nexts.IsFirst, Nexts.IsNext}}
 
 -- the run has come so far: its calls, its state, and the tokens of the text that are left
 pub record Come (text : List ℕ) (budget count : ℕ) (calls : List Simple) (m : State) (left : List Token) (fault : Option Cause) : Type 0 where

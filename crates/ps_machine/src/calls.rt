@@ -42,8 +42,7 @@ impl<'a> Calls<'a> {
         Ok(())
     }
 
-    /// Takes the first token that is left. A procedure of which nothing is left
-    /// takes no place any more.
+    /// Takes the first token that is left. A procedure of which nothing is left takes no place any more.
     pub fn next(&mut self) -> Result<Option<&'a Simple>, Memory>
         ensures { IfOk result (λ t. MatchOption t ((self.old ≡ []) × (self.new ≡ [])) (λ s. self.old ≡ s.now ∷ self.new)) }
     {

@@ -30,10 +30,9 @@ pub struct Saved {
     count: usize,
 }
 
-/// The graphics state, and those that are saved with the latest last. The pieces of
-/// all their paths stand in one list, so that saving a state copies none: a state
-/// that is saved has those that stood there, and no piece is taken away or changed
-/// while a state has it.
+/// The graphics state, and those that are saved with the latest last. The pieces of all their paths
+/// stand in one list, so that saving a state copies none: a state that is saved has those that stood
+/// there, and no piece is taken away or changed while a state has it.
 #[derive(Drop)]
 pub struct Canvas {
     pieces: Vec<Seg>,

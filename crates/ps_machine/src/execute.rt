@@ -35,8 +35,7 @@ fn execute_name<'a>(
     }
 }
 
-/// A token that is to be executed: one that may stand in a procedure, or a
-/// procedure.
+/// A token that is to be executed: one that may stand in a procedure, or a procedure.
 #[derive(Drop)]
 pub enum Ready<'a> {
     Simple(&'a Simple),

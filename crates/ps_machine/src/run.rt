@@ -1,8 +1,7 @@
 //! Runs of a text.
 
 ghost use Rattle.std.specs.Prelude.{◌≡◌, IfOk, IfErr};
-ghost use Rattle.ps_steps.specs.{State.first_state, Steps.Paints, Steps.IsHalt};
-ghost use Rattle.ps_machine.specs.{Doing.state_of, Nexts.IsFirst, Nexts.IsNext, Sheets.GivesItsSheet};
+ghost use Rattle.{ps_steps.specs.{State.first_state, Steps.Paints, Steps.IsHalt}, ps_machine.specs.{Doing.state_of, Nexts.IsFirst, Nexts.IsNext, Sheets.GivesItsSheet}};
 
 use crate::calls::Calls;
 use crate::canvas::Canvas;
@@ -16,8 +15,7 @@ use ps_steps::{Cause, MachineError, PagePaint, Token};
 use ps_tokens::read_program;
 use std::alloc::Global;
 
-/// What comes next: a token, with the tokens of the text that are left behind
-/// it; or nothing.
+/// What comes next: a token, with the tokens of the text that are left behind it; or nothing.
 #[derive(Drop)]
 pub enum Next<'a> {
     End,
@@ -99,10 +97,9 @@ fn run_bytes(alloc: Global, b: &[u8], budget: u64) -> Result<Row<PagePaint>, Mac
     }
 }
 
-/// Runs the bytes of a text: executes its tokens, at most `budget` of them, and
-/// gives what was painted on each page, in 1/10000 point. Halt comes exactly at
-/// the first token where the run can't go on, with the first cause that holds
-/// there: bytes that begin no token, then a budget that is used up, then what
+/// Runs the bytes of a text: executes its tokens, at most `budget` of them, and gives what was painted
+/// on each page, in 1/10000 point. Halt comes exactly at the first token where the run can't go on, with
+/// the first cause that holds there: bytes that begin no token, then a budget that is used up, then what
 /// keeps the token from being executed. Memory says nothing of the text.
 ///
 /// A document with a budget of at least 100 tokens for each of its bytes gives

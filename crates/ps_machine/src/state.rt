@@ -9,9 +9,8 @@ use mus_units::{Memory, Row};
 use ps_steps::{Cause, PagePaint, Paint, Value};
 use std::alloc::{AllocError, AllocFailed};
 
-/// The machine: its stack with the top last, its definitions, whether the font
-/// was made, the graphics state with those that are saved, the paints of the page
-/// and the pages before it.
+/// The machine: its stack with the top last, its definitions, whether the font was made, the graphics
+/// state with those that are saved, the paints of the page and the pages before it.
 #[derive(Drop)]
 pub struct Machine<'a> {
     pub stack: Vec<Value<'a>>,

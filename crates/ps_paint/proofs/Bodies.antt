@@ -1,7 +1,6 @@
 -- The procedures that the prolog defines, as tokens.
 use Rattle.std.specs.{Prelude.◌≡◌, Prelude.ℤ, Prelude.pos, Prelude.List, Prelude.[], Prelude.◌∷◌, Prelude.◌++◌, Prelude.codes, Prelude.Some, Prelude.None, List.flat_map}
-use Rattle.{mus_units.specs.declared.glyph.{Glyph.Glyph, Way.Way}, glyph_paths.specs.{declared.paths.PathOp.PathOp, Names.glyph_name, Outlines.outline_of}}
-use Rattle.ps_text.specs.{Names.way_name, declared.sheet.Frame.Frame}
+use Rattle.{mus_units.specs.declared.glyph.{Glyph.Glyph, Way.Way}, glyph_paths.specs.{declared.paths.PathOp.PathOp, Names.glyph_name, Outlines.outline_of}, ps_text.specs.{Names.way_name, declared.sheet.Frame.Frame}}
 use Rattle.ps_steps.specs.{declared.token.Simple.{Simple, TheVariants.{Whole as whole_token, Pointed as pointed_token, Label as label_token, Name as name_token}}, State.Names, Operators.{Operator, operator_name}}
 use Rattle.ps_paint.specs.PaintOf.{edge}
 

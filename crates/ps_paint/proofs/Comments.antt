@@ -11,8 +11,7 @@ skip_line : (line s : List ℕ) → list_all in_line line ≡ true → passed tr
 skip_line [] s e = refl
 skip_line (b ∷ line) s e = one (b == 10) ((and_parts (in_line b) (list_all in_line line) e).0) (skip_line line s ((and_parts (in_line b) (list_all in_line line) e).1))
   where
-    one : (t : Bool) → not t ≡ true → passed true (line ++ 10 ∷ s) ≡ passed false s
-        → elim t as (λ _. List ℕ) [ true ↦ passed false (line ++ 10 ∷ s) | false ↦ passed true (line ++ 10 ∷ s) ] ≡ passed false s
+    one : (t : Bool) → not t ≡ true → passed true (line ++ 10 ∷ s) ≡ passed false s → elim t as (λ _. List ℕ) [ true ↦ passed false (line ++ 10 ∷ s) | false ↦ passed true (line ++ 10 ∷ s) ] ≡ passed false s
     one true h k = absurd (true≢false (sym h))
     one false h k = k
 

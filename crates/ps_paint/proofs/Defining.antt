@@ -1,7 +1,6 @@
 -- What the lines of a prolog define.
 use Rattle.std.{proofs.{Common.{◌≡◌, ℕ, ℤ, true, false, Bool, ◌&&◌, List, [], ◌∷◌, ◌++◌, append_assoc, None, refl, sym, ◌∙◌, ap, arith, codes}, lemmas.{Int.ints, Bool.{true≢false, and_parts}}}, specs.List.flat_map}
-use Rattle.mus_units.specs.declared.glyph.Glyph.{Glyph}
-use Rattle.glyph_paths.specs.{declared.paths.PathOp.PathOp, Names.glyph_name, Outlines.outline_of, Procedure.step_text, Procedure.path_text, Procedure.procedure_text}
+use Rattle.{mus_units.specs.declared.glyph.Glyph.{Glyph}, glyph_paths.specs.{declared.paths.PathOp.PathOp, Names.glyph_name, Outlines.outline_of, Procedure.step_text, Procedure.path_text, Procedure.procedure_text}}
 use Rattle.ps_steps.specs.{declared.{token.{Simple.{Simple, TheVariants.{Label as label_token, Name as name_token}}, Token.TheVariants.{Simple as simple_token, Procedure as procedure_token}}, value.Value.TheVariants.{Label as label_value, Body as body_value}}, Near.is_near, Tokens.{opening_front, simple_at, procedure_at, Body}, State.State, Operators.{went, def_op, all_near, defined}, Steps.{at, NextToken, from_text, Step, step}}
 use Rattle.ps_paint.proofs.{Bodies.{gsave_name, grestore_name, translate_name, m_name, l_name, c_name, h_name, k_name, step_tokens, glyph_body}, Glyphs.{is_small, is_drawn, small_is}, GlyphTable.fine, Scales.near, Runs.does, Takes.{Takes, takes_word, IsTokenWord, space_passed, line_end_passed}, Lexing.{Lexes, nothing_lexed, both_lexed, IsNewName, label_stands, lex_one, ends, lex_numbers, piece_stands, lexed}}
 
@@ -40,8 +39,7 @@ lex_steps false (PathOp.Stroke ∷ rest) e = absurd (true≢false (sym e))
 lex_steps true (PathOp.Stroke ∷ rest) e = both_lexed (lex_one (piece_stands (codes "k") k_name refl) space_passed) (lex_steps false rest e)
 
 label_next : (name t : List ℕ) (m : State) → IsNewName name → NextToken (at m (47 ∷ name ++ 32 ∷ t)) (simple_token (label_token name)) (at m t)
-label_next name t m n =
-    from_text m (47 ∷ name ++ 32 ∷ t) (32 ∷ t) (simple_token (label_token name)) (simple_at (label_token name) (32 ∷ t) ((label_stands n).front 32 t refl))
+label_next name t m n = from_text m (47 ∷ name ++ 32 ∷ t) (32 ∷ t) (simple_token (label_token name)) (simple_at (label_token name) (32 ∷ t) ((label_stands n).front 32 t refl))
 
 -- the line `/NAME {BODY} def`
 abbrev pub definition : List ℕ → List ℕ → List ℕ

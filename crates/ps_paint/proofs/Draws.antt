@@ -68,8 +68,7 @@ module _ (f : Frame) (ds : Names) (fr : IsFrame f) (made : Made f ds) (saved : L
       does (codes "translate") translate_op m (went [] k) (made.free translate_op) refl e
 
   -- from the corner
-  pub places : (a b font : ℤ) (st : List Value) → IsClose a → IsClose b
-      → executed (simple_token translate_name) (on (whole_value b ∷ whole_value a ∷ st) (corner f font)) ≡ went [] (on st (drawing f a b [] font))
+  pub places : (a b font : ℤ) (st : List Value) → IsClose a → IsClose b → executed (simple_token translate_name) (on (whole_value b ∷ whole_value a ∷ st) (corner f font)) ≡ went [] (on st (drawing f a b [] font))
   places a b font st ca cb = rw (+ℤ_idl a, +ℤ_idl b) at (translates a b (pos 0) (pos 0) [] font st (rw (+ℤ_idl a) ca) (rw (+ℤ_idl b) cb))
 
   pub strokes : (x y : ℤ) (path : List Seg) (font : ℤ) (st : List Value)
@@ -93,8 +92,7 @@ module _ (f : Frame) (ds : Names) (fr : IsFrame f) (made : Made f ds) (saved : L
       (near_x f (x +ℤ a) fr ca) (near_y f (y +ℤ b) fr cb) (near_x f (x +ℤ c) fr cc) (near_y f (y +ℤ d) fr cd) (near_x f (x +ℤ p) fr cp) (near_y f (y +ℤ q) fr cq)) in
       calls made.c (then (does (codes "curveto") curveto_op m (went [] k) (made.free curveto_op) refl e) no_more) no_more
 
-  pub stroke_runs : (x y : ℤ) (path : List Seg) (font : ℤ) (st : List Value)
-      → Runs 2 (k_name ∷ []) (on st (drawing f x y path font)) (page ds st (drawing f x y [] font) saved (ps ++ stroked f path ∷ []) pages)
+  pub stroke_runs : (x y : ℤ) (path : List Seg) (font : ℤ) (st : List Value) → Runs 2 (k_name ∷ []) (on st (drawing f x y path font)) (page ds st (drawing f x y [] font) saved (ps ++ stroked f path ∷ []) pages)
   stroke_runs x y path font st = calls made.k (then (strokes x y path font st) no_more) no_more
 
   pub fill_runs : (x y : ℤ) (path : List Seg) (font : ℤ) (st : List Value) → some_path path ≡ true

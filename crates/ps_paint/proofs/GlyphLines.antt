@@ -18,8 +18,7 @@ mid_sum : (z d : ℤ) → IsNumber z → IsOffset d → IsMid (z +ℤ d)
 mid_sum z d n o = record { low = omega (arith, ints); high = omega (arith, ints) }
 
 module _ (f : Frame) (ds : Names) (fr : IsFrame f) (made : Made f ds) where
-  glyph_runs : (g : Glyph) (x y dx dy : ℤ) (st : List Value) (saved : List Graphics) (ps : List Paint) (pages : List PagePaint)
-      → IsMid x → IsMid y → IsMid (x +ℤ dx) → IsMid (y +ℤ dy)
+  glyph_runs : (g : Glyph) (x y dx dy : ℤ) (st : List Value) (saved : List Graphics) (ps : List Paint) (pages : List PagePaint) → IsMid x → IsMid y → IsMid (x +ℤ dx) → IsMid (y +ℤ dy)
       → Runs (suc (suc (suc (cost (outline_of g) + 1)))) (glyph_body g) (on_page f ds (whole_value y ∷ whole_value x ∷ whole_value dy ∷ whole_value dx ∷ st) saved ps pages)
       (on_page f ds st saved (ps ++ mark_paints f y (PageMark.Glyph g x dx dy)) pages)
   glyph_runs g x y dx dy st saved ps pages mx my mp mq =

@@ -31,8 +31,7 @@ abbrev pub left : Frame → ℤ → ℤ → List Seg → List PathOp → List Se
 left f x y path [] = path
 left f x y path (PathOp.Move a b ∷ rest) = left f x y (path ++ move f (x +ℤ a) (y +ℤ b) ∷ []) rest
 left f x y path (PathOp.Line a b ∷ rest) = left f x y (path ++ line f (x +ℤ a) (y +ℤ b) ∷ []) rest
-left f x y path (PathOp.Curve a b c d p q ∷ rest) =
-    left f x y (path ++ curve f (x +ℤ a) (y +ℤ b) (x +ℤ c) (y +ℤ d) (x +ℤ p) (y +ℤ q) ∷ []) rest
+left f x y path (PathOp.Curve a b c d p q ∷ rest) = left f x y (path ++ curve f (x +ℤ a) (y +ℤ b) (x +ℤ c) (y +ℤ d) (x +ℤ p) (y +ℤ q) ∷ []) rest
 left f x y path (PathOp.Fill ∷ rest) = left f x y [] rest
 left f x y path (PathOp.Stroke ∷ rest) = left f x y [] rest
 

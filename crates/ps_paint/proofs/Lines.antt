@@ -12,8 +12,7 @@ on_page f ds st saved ps pages = page ds st (corner f (pos 900)) saved ps pages
 pub record Draws (f : Frame) (ds : Names) (text : List ℕ) (new : List Paint) : Type 0 where
   pub count : ℕ
   pub few : count ≤ 100 * length text
-  pub draw : (st : List Value) (saved : List Graphics) (ps : List Paint) (pages : List PagePaint)
-      → Takes count text (on_page f ds st saved ps pages) (on_page f ds st saved (ps ++ new) pages)
+  pub draw : (st : List Value) (saved : List Graphics) (ps : List Paint) (pages : List PagePaint) → Takes count text (on_page f ds st saved ps pages) (on_page f ds st saved (ps ++ new) pages)
 
 pub nothing_drawn : {f : Frame} {ds : Names} → Draws f ds [] []
 nothing_drawn {f} {ds} = record { count = 0; few = omega arith; draw = λ st saved ps pages. rw (append-nil ps) nothing_taken }

@@ -21,8 +21,7 @@ last_number s [] a = (All-head IsStaff s [] a).base
 last_number s (t ∷ rest) a = last_number t rest (All-tail IsStaff s (t ∷ rest) a)
 
 three_lines : (a r ms : List ℕ) → ((a ++ 10 ∷ []) ++ (r ++ 10 ∷ [])) ++ ms ≡ (a ++ 10 ∷ r) ++ 10 ∷ ms
-three_lines a r ms =
-    ap (λ t. t ++ ms) (sym (append_assoc (a ++ 10 ∷ []) r (10 ∷ []))) ∙ (append_assoc ((a ++ 10 ∷ []) ++ r) (10 ∷ []) ms ∙ ap (λ t. t ++ 10 ∷ ms) (append_assoc a (10 ∷ []) r))
+three_lines a r ms = ap (λ t. t ++ ms) (sym (append_assoc (a ++ 10 ∷ []) r (10 ∷ []))) ∙ (append_assoc ((a ++ 10 ∷ []) ++ r) (10 ∷ []) ms ∙ ap (λ t. t ++ 10 ∷ ms) (append_assoc a (10 ∷ []) r))
 
 heading_some : (k : ℕ) → 1 ≤ length (heading_text k)
 unfolding heading_text heading_line
@@ -80,5 +79,4 @@ module _ (f : Frame) (ds : Names) (fr : IsFrame f) (made : Made f ds) where
 
   pub pages_drawn : (k : ℕ) (ps : List Page) (before : List PagePaint) → All IsPage ps → Leads (numbered page_text k ps) (between ds before) (between ds (before ++ map (page_paint f) ps))
   pages_drawn k [] before a = record { count = 0; few = omega arith; takes = rw (append-nil before) nothing_taken }
-  pages_drawn k (p ∷ ps) before a =
-      both_lead (page_drawn k p before (All-head IsPage p ps a)) (rw append_assoc at (pages_drawn (k + 1) ps (before ++ page_paint f p ∷ []) (All-tail IsPage p ps a)))
+  pages_drawn k (p ∷ ps) before a = both_lead (page_drawn k p before (All-head IsPage p ps a)) (rw append_assoc at (pages_drawn (k + 1) ps (before ++ page_paint f p ∷ []) (All-tail IsPage p ps a)))

@@ -30,8 +30,7 @@ pub both_runs : {n j : ℕ} {ts us : List Simple} {m k l : State} → Runs n ts 
 both_runs {n} {j} {ts} {us} {m} {k} {l} r q = record { run = λ rest s. rw (append_assoc ts us rest) (joined n j _ (now (us ++ rest) k s) _ (r.run (us ++ rest) s) (q.run rest s)) }
 
 -- what an operator does, where its name was given no procedure
-pub does : (name : List ℕ) (o : Operator) (m : State) (x : Outcome) → m.names name ≡ None → operator_named name ≡ Some o → operated o m ≡ x
-    → executed (simple_token (name_token name)) m ≡ x
+pub does : (name : List ℕ) (o : Operator) (m : State) (x : Outcome) → m.names name ≡ None → operator_named name ≡ Some o → operated o m ≡ x → executed (simple_token (name_token name)) m ≡ x
 does name o m x h g e = ap (λ z. called z name m) h ∙ ap (λ z. operated_if z m) g ∙ e
 
 pub is_in_range : (zs : List ℤ) (x : Outcome) → all_near zs ≡ true → in_range zs x ≡ x

@@ -53,8 +53,7 @@ module _ (f : Frame) (ds : Names) (fr : IsFrame f) (made : Made f ds) where
       (then (strokes f ds fr made k ps pages (pos 0) y (five w y) (pos 900) st)
       (then (restores f ds fr made saved q pages st (drawing f (pos 0) y [] (pos 900)) o) no_more))))))))
 
-  five_drawn : (w y : ℤ) → IsNumber w → IsNumber y
-      → Draws f ds ((numbers (w ∷ pos 2000 ∷ w ∷ pos 1500 ∷ w ∷ pos 1000 ∷ w ∷ pos 500 ∷ w ∷ pos 0 ∷ pos 0 ∷ y ∷ []) ++ codes "sf") ++ 10 ∷ []) (stroked f (rules f w y) ∷ [])
+  five_drawn : (w y : ℤ) → IsNumber w → IsNumber y → Draws f ds ((numbers (w ∷ pos 2000 ∷ w ∷ pos 1500 ∷ w ∷ pos 1000 ∷ w ∷ pos 500 ∷ w ∷ pos 0 ∷ pos 0 ∷ y ∷ []) ++ codes "sf") ++ 10 ∷ []) (stroked f (rules f w y) ∷ [])
   five_drawn w y nw ny =
       let zs = w ∷ pos 2000 ∷ w ∷ pos 1500 ∷ w ∷ pos 1000 ∷ w ∷ pos 500 ∷ w ∷ pos 0 ∷ pos 0 ∷ y ∷ [] in
       let near : all_near zs ≡ true = rw (page_near w nw, page_near y ny) refl in

@@ -13,8 +13,7 @@ abbrev pub within : Frame → Names → List Paint → List PagePaint → State
 within f ds ps pages = on_page f ds [] (first_graphics ∷ []) ps pages
 
 -- the scale in another size
-scaled_to : (z q : ℤ) (m : State) → int_rem z (pos 100) ≡ pos 0 → int_le (pos 100) z ≡ true → int_div z (pos 100) ≡ q → is_near q ≡ true
-    → scaled z m ≡ went [] (record m { now = record m.now { scale = q } })
+scaled_to : (z q : ℤ) (m : State) → int_rem z (pos 100) ≡ pos 0 → int_le (pos 100) z ≡ true → int_div z (pos 100) ≡ q → is_near q ≡ true → scaled z m ≡ went [] (record m { now = record m.now { scale = q } })
 scaled_to z q m r l d n =
     let k : ℤ → Outcome = λ s. went [] (record m { now = record m.now { scale = s } }) in
     let t : (same (int_rem z (pos 100)) (pos 0) && int_le (pos 100) z) ≡ true = rw (r, l) refl in

@@ -11,8 +11,7 @@ pub zero_sum : (y : ℤ) → IsNumber y → IsClose (pos 0 +ℤ y)
 zero_sum y n = rw (+ℤ_idl y) (close_number y n)
 
 module _ (f : Frame) (ds : Names) (fr : IsFrame f) (made : Made f ds) where
-  stem_runs : (x y dx from to : ℤ) (st : List Value) (saved : List Graphics) (ps : List Paint) (pages : List PagePaint)
-      → IsClose x → IsClose y → IsClose (x +ℤ dx) → IsClose (y +ℤ from) → IsClose (y +ℤ to)
+  stem_runs : (x y dx from to : ℤ) (st : List Value) (saved : List Graphics) (ps : List Paint) (pages : List PagePaint) → IsClose x → IsClose y → IsClose (x +ℤ dx) → IsClose (y +ℤ from) → IsClose (y +ℤ to)
       → Runs 8 st_body (on_page f ds (whole_value y ∷ whole_value x ∷ whole_value from ∷ whole_value dx ∷ whole_value to ∷ whole_value dx ∷ st) saved ps pages)
       (on_page f ds st saved (ps ++ mark_paints f y (PageMark.Stem x dx from to)) pages)
   stem_runs x y dx from to st saved ps pages cx cy cd cf ct =

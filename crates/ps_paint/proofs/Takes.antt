@@ -149,5 +149,4 @@ takes_numbers (z ∷ zs) m e =
 -- a line of numbers and of a name that runs a procedure
 pub takes_line : {n : ℕ} {body : List Simple} {m k : State} (zs : List ℤ) (name : List ℕ) → all_near zs ≡ true → IsTokenWord (name_token name) name → m.names name ≡ Some body
     → Runs n body (record m { stack = pushed zs m.stack }) k → Takes (length zs + suc n) ((numbers zs ++ name) ++ 10 ∷ []) m k
-takes_line {n} {body} {m} {k} zs name near word made run =
-    rw (append_assoc (numbers zs) name (10 ∷ [])) (both_taken (takes_numbers zs m near) (takes_call word line_end_passed made run))
+takes_line {n} {body} {m} {k} zs name near word made run = rw (append_assoc (numbers zs) name (10 ∷ [])) (both_taken (takes_numbers zs m near) (takes_call word line_end_passed made run))

@@ -88,8 +88,7 @@ module _ (f : Frame) (ds : Names) (fr : IsFrame f) (made : Made f ds) where
       (then (shows size (x +ℤ dx) (y +ℤ dy) x y words st (o ∷ saved) ps pages)
       (then (restores f ds fr made saved q pages st (drawing f x y (move f (x +ℤ dx) (y +ℤ dy) ∷ []) (height_of size)) o) no_more)))
 
-  words_runs : (size : Size) (x y dx dy : ℤ) (words : List ℕ) (st : List Value) (saved : List Graphics) (ps : List Paint) (pages : List PagePaint)
-      → IsClose x → IsClose y → IsClose (x +ℤ dx) → IsClose (y +ℤ dy)
+  words_runs : (size : Size) (x y dx dy : ℤ) (words : List ℕ) (st : List Value) (saved : List Graphics) (ps : List Paint) (pages : List PagePaint) → IsClose x → IsClose y → IsClose (x +ℤ dx) → IsClose (y +ℤ dy)
       → Runs (size_cost size) (size_body size) (on_page f ds (whole_value y ∷ whole_value x ∷ whole_value dy ∷ whole_value dx ∷ words_value words ∷ st) saved ps pages)
       (on_page f ds st saved (ps ++ mark_paints f y (PageMark.Words size x dx dy words)) pages)
   unfolding size_body size_cost

@@ -45,8 +45,7 @@ abbrev pub outline_paints : Frame → ℤ → ℤ → List Seg → List PathOp �
 outline_paints f x y path [] = []
 outline_paints f x y path (PathOp.Move a b ∷ rest) = outline_paints f x y (path ++ move f (x +ℤ a) (y +ℤ b) ∷ []) rest
 outline_paints f x y path (PathOp.Line a b ∷ rest) = outline_paints f x y (path ++ line f (x +ℤ a) (y +ℤ b) ∷ []) rest
-outline_paints f x y path (PathOp.Curve a b c d p q ∷ rest) =
-    outline_paints f x y (path ++ curve f (x +ℤ a) (y +ℤ b) (x +ℤ c) (y +ℤ d) (x +ℤ p) (y +ℤ q) ∷ []) rest
+outline_paints f x y path (PathOp.Curve a b c d p q ∷ rest) = outline_paints f x y (path ++ curve f (x +ℤ a) (y +ℤ b) (x +ℤ c) (y +ℤ d) (x +ℤ p) (y +ℤ q) ∷ []) rest
 outline_paints f x y path (PathOp.Fill ∷ rest) = filled path ∷ outline_paints f x y [] rest
 outline_paints f x y path (PathOp.Stroke ∷ rest) = stroked f path ∷ outline_paints f x y [] rest
 
@@ -66,8 +65,7 @@ beam_paint f x1 a x2 b = filled (move f x1 a ∷ line f x2 b ∷ line f x2 (b +�
 
 -- an arc from (x1, a) to (x2, b), whose inner points are a quarter of the way from its ends, and so far above them
 abbrev pub arc_paint : Frame → ℤ → ℤ → ℤ → ℤ → ℤ → Paint
-arc_paint f x1 a x2 b bulge =
-    stroked f (move f x1 a ∷ curve f (x1 +ℤ quarter x1 x2) (a +ℤ bulge) (x2 -ℤ quarter x1 x2) (b +ℤ bulge) x2 b ∷ [])
+arc_paint f x1 a x2 b bulge = stroked f (move f x1 a ∷ curve f (x1 +ℤ quarter x1 x2) (a +ℤ bulge) (x2 -ℤ quarter x1 x2) (b +ℤ bulge) x2 b ∷ [])
 
 -- a mark of a staff at y
 abbrev pub mark_paints : Frame → ℤ → PageMark → List Paint
@@ -83,8 +81,7 @@ rule f width y = move f (pos 0) y ∷ line f width y ∷ []
 
 -- the five lines of a staff at y, from the lowest, in one stroke
 abbrev pub rules : Frame → ℤ → ℤ → List Seg
-rules f width y =
-    rule f width y ++ rule f width (y +ℤ pos 500) ++ rule f width (y +ℤ pos 1000) ++ rule f width (y +ℤ pos 1500) ++ rule f width (y +ℤ pos 2000)
+rules f width y = rule f width y ++ rule f width (y +ℤ pos 500) ++ rule f width (y +ℤ pos 1000) ++ rule f width (y +ℤ pos 1500) ++ rule f width (y +ℤ pos 2000)
 
 -- a staff: its lines, and its marks
 abbrev pub staff_paints : Frame → Staff → List Paint

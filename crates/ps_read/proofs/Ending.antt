@@ -85,8 +85,7 @@ none_over : (q : Place) (m : Line) → stage q ≡ over → MayCome q m → ⊥
 none_over (Place.Ended t) m e k = absurd k
 none_over q m e k = absurd cc
 
-way_ends : (p q : Place) (ls ms : List Line) (more : List ℕ) (s t : Sheet) → stage p ≡ stage q → Leads p ls (Place.Ended s) → Leads q ms (Place.Ended t)
-    → lines_then ls more ≡ lines_then ms [] → more ≡ []
+way_ends : (p q : Place) (ls ms : List Line) (more : List ℕ) (s t : Sheet) → stage p ≡ stage q → Leads p ls (Place.Ended s) → Leads q ms (Place.Ended t) → lines_then ls more ≡ lines_then ms [] → more ≡ []
 way_ends p q [] [] more s t a h k e = e
 way_ends p q [] (m ∷ ms) more s t a h k e = absurd (none_over q m (sym a ∙ ap stage h) k.0)
 way_ends p q (l ∷ ls) [] more s t a h k e = absurd (no_line (line_text l) (lines_then ls more) (sym e))

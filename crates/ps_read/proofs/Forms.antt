@@ -7,8 +7,7 @@ use Rattle.ps_text.specs.{Document.{rules_line, join_line, title_line}, Fields.{
 abbrev pub title_numbers : ℤ → ℤ → List ℤ
 title_numbers x y = pos 0 ∷ pos 0 ∷ x ∷ y ∷ []
 
-pub title_form : (x y : ℤ) (size : Size) (words : List ℕ)
-    → title_line x y size words ≡ codes "(" ++ (flat_map shown words ++ (41 ∷ (32 ∷ (numbers (title_numbers x y) ++ size_name size))))
+pub title_form : (x y : ℤ) (size : Size) (words : List ℕ) → title_line x y size words ≡ codes "(" ++ (flat_map shown words ++ (41 ∷ (32 ∷ (numbers (title_numbers x y) ++ size_name size))))
 unfolding title_line in_parentheses
 title_form x y size words = simp append_assoc
 

@@ -8,8 +8,7 @@ use Rattle.ps_read.specs.Lines as line
 use Rattle.eng_lines.proofs.Words.{one_field, after_prefix}
 
 -- two numbers behind a prefix, or one, are told by the text
-pub pair_alone : (p : List ℕ) (a b c d : ℕ) → a < 2 ^ 32 → b < 2 ^ 32 → c < 2 ^ 32 → d < 2 ^ 32
-    → p ++ decimal a ++ 32 ∷ decimal b ≡ p ++ decimal c ++ 32 ∷ decimal d → (a ≡ c) × (b ≡ d)
+pub pair_alone : (p : List ℕ) (a b c d : ℕ) → a < 2 ^ 32 → b < 2 ^ 32 → c < 2 ^ 32 → d < 2 ^ 32 → p ++ decimal a ++ 32 ∷ decimal b ≡ p ++ decimal c ++ 32 ∷ decimal d → (a ≡ c) × (b ≡ d)
 pair_alone p a b c d la lb lc ld e =
     let r = after_prefix p _ (decimal a ++ 32 ∷ decimal b) (decimal c ++ 32 ∷ decimal d) (append_assoc p (decimal a) (32 ∷ decimal b)) (e ∙ append_assoc p (decimal c) (32 ∷ decimal d)) in
     let f = one_field a c _ (decimal b) (decimal d) (omega (arith, la)) (omega (arith, lc)) refl r in
@@ -26,8 +25,7 @@ on_begun raw e = record { line = line.Fixed raw; asked = tt; spelled = refl; may
     only (line.Fixed text) a q k = refl
     only m a q k = absurd k
 
-pub on_titled : (raw : List ℕ) (w h : ℕ) (rest : List ℕ) → raw ≡ BOX.now ++ decimal w ++ 32 ∷ decimal h → w < 2 ^ 32 → h < 2 ^ 32 → rest ≡ procedures
-    → IsNextOf Any Place.Titled raw (Place.Boxed w h rest)
+pub on_titled : (raw : List ℕ) (w h : ℕ) (rest : List ℕ) → raw ≡ BOX.now ++ decimal w ++ 32 ∷ decimal h → w < 2 ^ 32 → h < 2 ^ 32 → rest ≡ procedures → IsNextOf Any Place.Titled raw (Place.Boxed w h rest)
 unfolding box_line box_start
 on_titled raw w h rest e lw lh is = record { line = line.Box w h; asked = tt; spelled = e; may = (lw, lh); only = only }
   where
@@ -140,8 +138,7 @@ unfolding system_line
 none_system p raw f (line.System a b) u q k = f a b k.0 k.1 q
 none_system p raw f m u q k = absurd u
 
-pub not_rising : (raw : List ℕ) (a b c d : ℕ) → raw ≡ codes "% system " ++ decimal a ++ 32 ∷ decimal b → a < 2 ^ 32 → b < 2 ^ 32 → b ≤ a
-    → c < d → d < 2 ^ 32 → raw ≡ codes "% system " ++ decimal c ++ 32 ∷ decimal d → ⊥
+pub not_rising : (raw : List ℕ) (a b c d : ℕ) → raw ≡ codes "% system " ++ decimal a ++ 32 ∷ decimal b → a < 2 ^ 32 → b < 2 ^ 32 → b ≤ a → c < d → d < 2 ^ 32 → raw ≡ codes "% system " ++ decimal c ++ 32 ∷ decimal d → ⊥
 not_rising raw a b c d e la lb ge l ld q =
     let f = pair_alone (codes "% system ") c d a b (omega (arith, l, ld)) ld la lb (sym q ∙ e) in
     let f0 = f.0 in let f1 = f.1 in omega (arith, f0, f1, ge, l)
@@ -156,8 +153,7 @@ on_grestore p raw e = record { line = line.Fixed raw; asked = tt; spelled = refl
     only (line.System a b) u q k = absurd (apart (codes "grestore") (system_line a b) refl (sym e ∙ q))
     only m u q k = absurd u
 
-pub on_tune : (p : OpenPage) (raw : List ℕ) (n : ℕ) (r : OpenPage) → raw ≡ codes "% tune " ++ decimal n → n < 2 ^ 32 → 1 ≤ n → r ≡ with_item p (Item.Tune n)
-    → IsNextOf IsItemLine (Place.Items p) raw (Place.Items r)
+pub on_tune : (p : OpenPage) (raw : List ℕ) (n : ℕ) (r : OpenPage) → raw ≡ codes "% tune " ++ decimal n → n < 2 ^ 32 → 1 ≤ n → r ≡ with_item p (Item.Tune n) → IsNextOf IsItemLine (Place.Items p) raw (Place.Items r)
 unfolding tune_line system_line
 on_tune p raw n r e l some is = record { line = line.Tune n; asked = tt; spelled = e; may = record { low = some; high = l }; only = only }
   where
@@ -217,8 +213,7 @@ on_title p raw t r e g one is = record { line = line.Title t.x t.y t.size t.text
 
 -- the lines of systems
 pub on_join : (o : OpenSystem) (raw : List ℕ) (j : Joined) (r : OpenSystem) → o.join ≡ None → raw ≡ join_line j.top j.foot → IsNumber j.top → IsNumber j.foot
-    → ((top foot : ℤ) → IsNumber top → IsNumber foot → raw ≡ join_line top foot → j ≡ joined_of top foot) → r ≡ with_join o j.top j.foot
-    → IsNextOf IsJoinLine (Place.System o) raw (Place.System r)
+    → ((top foot : ℤ) → IsNumber top → IsNumber foot → raw ≡ join_line top foot → j ≡ joined_of top foot) → r ≡ with_join o j.top j.foot → IsNextOf IsJoinLine (Place.System o) raw (Place.System r)
 on_join o raw j r none e top foot one is = record { line = line.Join j.top j.foot; asked = tt; spelled = e; may = (none, top, foot); only = only }
   where
     place_of : Joined → Place
@@ -238,8 +233,7 @@ on_first_staff o raw e = record { line = line.StaffHead 0; asked = tt; spelled =
     only m u q k = absurd k
 
 pub on_rules : (o : OpenSystem) (raw : List ℕ) (w : ℕ) (y : ℤ) → raw ≡ rules_line w y → 1 ≤ w → w ≤ 2 ^ 31 → IsNumber y → IsUnderTop o.join o.staves y
-    → ((v : ℕ) (z : ℤ) → 1 ≤ v → v ≤ 2 ^ 31 → IsNumber z → raw ≡ rules_line v z → rules_of w y ≡ rules_of v z)
-    → IsNextOf Any (Place.Staff o) raw (Place.Marks o (record { y = y; width = w; marks = [] }))
+    → ((v : ℕ) (z : ℤ) → 1 ≤ v → v ≤ 2 ^ 31 → IsNumber z → raw ≡ rules_line v z → rules_of w y ≡ rules_of v z) → IsNextOf Any (Place.Staff o) raw (Place.Marks o (record { y = y; width = w; marks = [] }))
 on_rules o raw w y e some wide number under one = record { line = line.Rules w y; asked = tt; spelled = e; may = (some, wide, number, under); only = only }
   where
     place_of : Rules → Place
@@ -249,8 +243,7 @@ on_rules o raw w y e some wide number under one = record { line = line.Rules w y
     only (line.Rules v z) u q k = sym (ap place_of (one v z k.0 k.1 k.2 q))
     only m u q k = absurd k
 
-pub on_next_staff : (o : OpenSystem) (s : Staff) (raw : List ℕ) (r : OpenSystem) → raw ≡ staff_line (length o.staves + 1) → IsSome o.join → r ≡ with_staff o s
-    → IsNextOf IsNoMark (Place.Marks o s) raw (Place.Staff r)
+pub on_next_staff : (o : OpenSystem) (s : Staff) (raw : List ℕ) (r : OpenSystem) → raw ≡ staff_line (length o.staves + 1) → IsSome o.join → r ≡ with_staff o s → IsNextOf IsNoMark (Place.Marks o s) raw (Place.Staff r)
 unfolding staff_line tune_line system_line
 on_next_staff o s raw r e some is = record { line = line.StaffHead (length o.staves + 1); asked = tt; spelled = e; may = (some, refl); only = only }
   where
@@ -295,8 +288,7 @@ not_joined None b e f = refl
 not_joined (Some j) b e f = absurd (true≢false (sym e ∙ f))
 
 -- what is told of the mark of a line, from its text behind the mark to that before it
-pub mark_read : (y : ℤ) (raw : List ℕ) (r : Result (Option PageMark) Memory)
-    → IfOk r (λ o. MatchOption o ((m : PageMark) → IsPageMark y m → mark_line y m ≡ raw → ⊥) (λ m. IsPageMark y m × (mark_line y m ≡ raw)))
+pub mark_read : (y : ℤ) (raw : List ℕ) (r : Result (Option PageMark) Memory) → IfOk r (λ o. MatchOption o ((m : PageMark) → IsPageMark y m → mark_line y m ≡ raw → ⊥) (λ m. IsPageMark y m × (mark_line y m ≡ raw)))
     → IfOk r (λ o. (m : PageMark) → IsPageMark y m → mark_line y m ≡ raw → o ≡ Some m) → IfOk r (IsMarkRead y raw)
 mark_read y raw (Ok None) h k = λ m g e. h m g (sym e)
 mark_read y raw (Ok (Some m)) h k = (h.0, sym h.1, λ n g e. same n (k n g (sym e)))

@@ -109,8 +109,7 @@ joins : (j : Option Joined) (ss : List Staff) (s : Staff) → IsJoinedBy j ss �
 joins None ss s h m = ap (λ ss. join_text (ss ++ s ∷ [])) h
 joins (Some j) [] s h m = let l = m.0 in absurd (omega arith)
 joins (Some j) (t ∷ []) s h m = ap (λ a. join_line a s.y ++ 10 ∷ []) h.0 ∙ ap (λ b. join_line j.top b ++ 10 ∷ []) m.1
-joins (Some j) (t ∷ u ∷ ss) s h m =
-    ap (λ a. join_line a (last_base u (ss ++ s ∷ [])) ++ 10 ∷ []) h.0 ∙ ap (λ b. join_line j.top b ++ 10 ∷ []) (last_base_push u ss s ∙ m.1)
+joins (Some j) (t ∷ u ∷ ss) s h m = ap (λ a. join_line a (last_base u (ss ++ s ∷ [])) ++ 10 ∷ []) h.0 ∙ ap (λ b. join_line j.top b ++ 10 ∷ []) (last_base_push u ss s ∙ m.1)
 
 pub ended_text : (o : OpenSystem) (s : Staff) → IsJoinedBy o.join o.staves → MayEnd o.join o.staves s.y → page_front (ended o s) ≡ system_front (with_staff o s)
 unfolding system_text
@@ -191,8 +190,7 @@ pub first_told : codes "%!PS-Adobe-3.0" ++ 10 ∷ [] ≡ first_text
 unfolding first_text
 first_told = refl
 
-scale_told : (w h l b s : ℕ) (t : List ℕ) → t ≡ (first_text ++ (box_line w h ++ 10 ∷ [])) ++ procedures
-    → (t ++ (page_line l b s ++ 10 ∷ [])) ++ (glyph_lines glyphs_in_order ++ last_text) ≡ prolog (frame_of w h l b s)
+scale_told : (w h l b s : ℕ) (t : List ℕ) → t ≡ (first_text ++ (box_line w h ++ 10 ∷ [])) ++ procedures → (t ++ (page_line l b s ++ 10 ∷ [])) ++ (glyph_lines glyphs_in_order ++ last_text) ≡ prolog (frame_of w h l b s)
 unfolding prolog heading
 scale_told w h l b s t e = rw e (simp append_assoc)
 
@@ -220,8 +218,7 @@ rules_told o w y t h =
     let e : t ++ (rules_line w y ++ 10 ∷ []) ≡ system_front o ++ staff_text (length o.staves) s = rw h (simp append_assoc) in
     e ∙ sym (system_more o s)
 
-mark_told : (o : OpenSystem) (s : Staff) (m : PageMark) (t : List ℕ) → t ≡ system_front (with_staff o s)
-    → t ++ (mark_line s.y m ++ 10 ∷ []) ≡ system_front (with_staff o (with_mark s m))
+mark_told : (o : OpenSystem) (s : Staff) (m : PageMark) (t : List ℕ) → t ≡ system_front (with_staff o s) → t ++ (mark_line s.y m ++ 10 ∷ []) ≡ system_front (with_staff o (with_mark s m))
 unfolding mark_text
 mark_told o s m t h =
     ap (λ t. t ++ (mark_line s.y m ++ 10 ∷ [])) (h ∙ system_more o s) ∙ (append_assoc (system_front o) (staff_text (length o.staves) s) (mark_line s.y m ++ 10 ∷ [])
@@ -256,10 +253,8 @@ pub step_tells : (p : Place) (l : Line) (t : List ℕ) → MayCome p l → Tells
 step_tells Place.Begun (line.Fixed text) t m h = told t [] text (codes "%!PS-Adobe-3.0") h m ∙ first_told
 step_tells Place.Titled (line.Box w k) t m h = ap (λ t. (t ++ (box_line w k ++ 10 ∷ [])) ++ procedures) h
 step_tells (Place.Boxed w k rest) (line.Fixed text) t m h = line_taken t text rest (behind_line text rest) _ m.first h
-step_tells (Place.Boxed w k rest) (line.PageStart l b s) t m h =
-    (scale_told w k l b s t (sym (append-nil t) ∙ (ap (λ r. t ++ r) (sym m.0) ∙ h)), m.1)
-step_tells (Place.Framed f rest) (line.Fixed text) t m h =
-    prolog_ends f (behind_line text rest) (t ++ (text ++ 10 ∷ [])) (line_taken t text rest (behind_line text rest) (prolog f) m.first h.0) h.1
+step_tells (Place.Boxed w k rest) (line.PageStart l b s) t m h = (scale_told w k l b s t (sym (append-nil t) ∙ (ap (λ r. t ++ r) (sym m.0) ∙ h)), m.1)
+step_tells (Place.Framed f rest) (line.Fixed text) t m h = prolog_ends f (behind_line text rest) (t ++ (text ++ 10 ∷ [])) (line_taken t text rest (behind_line text rest) (prolog f) m.first h.0) h.1
 step_tells (Place.Between s) (line.Heading k) t m h =
     (told t (front s) (heading_line k) (heading_line (length s.pages + 1)) h.0 (ap heading_line m.0), h.1, let e = m.0 in let l = m.1 in omega (arith, e, l))
 step_tells (Place.Between s) (line.Fixed text) t m h = (told t (front s) text (codes "%%Trailer") h.0 m, h.1)
@@ -277,16 +272,14 @@ step_tells (Place.Items p) (line.Title x y size words) t m h =
       open_more p i h.1 m (order_free p.items i h.1.order h.2),
       open_push p.items i (free_title x y size words),
     )
-step_tells (Place.Items p) (line.System a b) t m h =
-    (ap (λ t. t ++ (system_line a b ++ 10 ∷ [])) h.0, open_system_good p a b h.1 m.0 m.1, refl)
+step_tells (Place.Items p) (line.System a b) t m h = (ap (λ t. t ++ (system_line a b ++ 10 ∷ [])) h.0, open_system_good p a b h.1 m.0 m.1, refl)
 step_tells (Place.Items p) (line.Fixed text) t m h = (told t (page_front p) text (codes "grestore") h.0 m, h.1)
 step_tells (Place.System o) (line.Join top foot) t m h = (
   join_told (page_front o.page) (system_line o.a o.b) (join_line top foot) t o.join o.staves m.0 h.2 h.0,
   record { page = h.1.page; rising = h.1.rising; last = h.1.last; joined = subst (λ ss. IsJoinedBy (Some (record { top = top; foot = foot })) ss) (sym h.2) m.1; good = h.1.good },
   h.2,
 )
-step_tells (Place.System o) (line.StaffHead k) t m h =
-    (told t (system_front o) (staff_line k) (staff_line (length o.staves)) h.0 (ap staff_line (m ∙ sym (ap length h.2))), h.1)
+step_tells (Place.System o) (line.StaffHead k) t m h = (told t (system_front o) (staff_line k) (staff_line (length o.staves)) h.0 (ap staff_line (m ∙ sym (ap length h.2))), h.1)
 step_tells (Place.Staff o) (line.Rules w y) t m h =
     (rules_told o w y t h.0, record { system = h.1; staff = record { base = m.2; some = m.0; wide = m.1; drawn = All-nil (IsPageMark y) }; under = m.3 })
 step_tells (Place.Marks o s) (line.Mark y k) t m h = (

@@ -13,8 +13,7 @@ Way p q t = (ls : List Line) × (t ≡ lines_then ls []) × Leads p ls q
 
 lines_both : (ls ms : List Line) → lines_then (ls ++ ms) [] ≡ lines_then ls [] ++ lines_then ms []
 lines_both [] ms = refl
-lines_both (l ∷ ls) ms =
-    ap (λ t. line_text l ++ 10 ∷ t) (lines_both ls ms) ∙ sym (append_assoc (line_text l) (10 ∷ lines_then ls []) (lines_then ms []))
+lines_both (l ∷ ls) ms = ap (λ t. line_text l ++ 10 ∷ t) (lines_both ls ms) ∙ sym (append_assoc (line_text l) (10 ∷ lines_then ls []) (lines_then ms []))
 
 leads_both : (p : Place) (ls : List Line) (q : Place) (ms : List Line) (r : Place) → Leads p ls q → Leads q ms r → Leads p (ls ++ ms) r
 leads_both p [] q ms r h k = subst (λ q. Leads q ms r) (sym h) k
@@ -151,8 +150,7 @@ prolog_way f h =
 abbrev staff_of : ℤ → ℕ → List PageMark → Staff
 staff_of y w ms = record { y = y; width = w; marks = ms }
 
-marks_way : (o : OpenSystem) (y : ℤ) (w : ℕ) (done ms : List PageMark) → All (IsPageMark y) ms
-    → Way (Place.Marks o (staff_of y w done)) (Place.Marks o (staff_of y w (done ++ ms))) (marks_text y ms)
+marks_way : (o : OpenSystem) (y : ℤ) (w : ℕ) (done ms : List PageMark) → All (IsPageMark y) ms → Way (Place.Marks o (staff_of y w done)) (Place.Marks o (staff_of y w (done ++ ms))) (marks_text y ms)
 unfolding marks_text mark_text
 marks_way o y w done [] h = ([], refl, ap (λ ms. Place.Marks o (staff_of y w ms)) (sym (append-nil done)))
 marks_way o y w done (m ∷ ms) h =
@@ -166,8 +164,7 @@ unfolding staff_text
 staff_parts k s = simp append_assoc
 
 -- from where the number of a staff may come to the end of its marks
-staff_way : (p : Place) (o : OpenSystem) (s : Staff) (k : ℕ) → Way p (Place.Staff o) (staff_line k ++ 10 ∷ []) → IsStaff s → IsUnderTop o.join o.staves s.y
-    → Way p (Place.Marks o s) (staff_text k s)
+staff_way : (p : Place) (o : OpenSystem) (s : Staff) (k : ℕ) → Way p (Place.Staff o) (staff_line k ++ 10 ∷ []) → IsStaff s → IsUnderTop o.join o.staves s.y → Way p (Place.Marks o s) (staff_text k s)
 staff_way p o s k way h u =
     way_is _ _ _ _ (staff_parts k s)
     (way_both p (Place.Staff o) (Place.Marks o s) (staff_line k ++ 10 ∷ []) _ way
@@ -213,8 +210,7 @@ foot_number : (s : Staff) (us : List Staff) → All IsStaff (s ∷ us) → IsNum
 foot_number s [] h = (All-head IsStaff s [] h).base
 foot_number s (u ∷ us) h = foot_number u us (All-tail IsStaff s (u ∷ us) h)
 
-system_way : (p : OpenPage) (a b : ℕ) (ss : List Staff) → IsSystem a b ss
-    → (o : OpenSystem) × (t : Staff) × Way (Place.System (open_system p a b)) (Place.Marks o t) (join_text ss ++ numbered staff_text 0 ss)
+system_way : (p : OpenPage) (a b : ℕ) (ss : List Staff) → IsSystem a b ss → (o : OpenSystem) × (t : Staff) × Way (Place.System (open_system p a b)) (Place.Marks o t) (join_text ss ++ numbered staff_text 0 ss)
     × EndsAs o t (with_item p (Item.System a b ss))
 system_way p a b [] h = let some = h.some in absurd (omega (arith, some))
 system_way p a b (s ∷ []) h =
@@ -291,8 +287,7 @@ item_first p q r i is a b =
     (way_is _ _ _ _ (sym (append_assoc (item_text i) (items_text is) (codes "grestore\n")))
     (way_both q r (Place.Closed (with_items (with_item p i) is)) (item_text i) (items_text is ++ codes "grestore\n") a b))
 
-items_way : (p : OpenPage) (q : Place) (is : List Item) → IsLike p q → (q ≡ Place.Items p) ⊎ NoTitleFirst is → All IsItem is → InOrder is
-    → Way q (Place.Closed (with_items p is)) (items_text is ++ codes "grestore\n")
+items_way : (p : OpenPage) (q : Place) (is : List Item) → IsLike p q → (q ≡ Place.Items p) ⊎ NoTitleFirst is → All IsItem is → InOrder is → Way q (Place.Closed (with_items p is)) (items_text is ++ codes "grestore\n")
 unfolding items_text
 items_way p q [] like first h o =
     way_to _ _ _ _ (ap (λ is. Place.Closed (record { sheet = p.sheet; items = is })) (sym (append-nil p.items))) (like_line p q (line.Fixed (codes "grestore")) like tt refl)
@@ -320,8 +315,7 @@ page_parts : (k : ℕ) (p : Page) → (heading_line k ++ 10 ∷ []) ++ ((codes "
 unfolding page_text heading_text closing
 page_parts k p = simp append_assoc
 
-page_way : (s : Sheet) (p : Page) → IsPage p → length s.pages + 1 < 2 ^ 32
-    → Way (Place.Between s) (Place.Between (record { frame = s.frame; pages = s.pages ++ p ∷ [] })) (page_text (length s.pages + 1) p)
+page_way : (s : Sheet) (p : Page) → IsPage p → length s.pages + 1 < 2 ^ 32 → Way (Place.Between s) (Place.Between (record { frame = s.frame; pages = s.pages ++ p ∷ [] })) (page_text (length s.pages + 1) p)
 page_way s p h few =
     let z = Place.Between (record { frame = s.frame; pages = s.pages ++ p ∷ [] }) in
     let g : OpenPage = record { sheet = s; items = [] } in

@@ -34,12 +34,10 @@ pub record IsReading (text : List ℕ) (p : Place) (rest : List ℕ) (number : �
   pub ways : WaysOn text (length lines) p rest
 
 -- behind one more line
-ways_more : (text : List ℕ) (count : ℕ) (p t : Place) (rest raw behind : List ℕ) → WaysOn text count p rest → rest ≡ raw ++ 10 ∷ behind → Lacks 10 raw
-    → IsNextOf Any p raw t → WaysOn text (count + 1) t behind
+ways_more : (text : List ℕ) (count : ℕ) (p t : Place) (rest raw behind : List ℕ) → WaysOn text count p rest → rest ≡ raw ++ 10 ∷ behind → Lacks 10 raw → IsNextOf Any p raw t → WaysOn text (count + 1) t behind
 ways_more text count p t rest raw behind ways cut lacks step ms r q e l n = let w = ways ms r q e l (omega (arith, n)) in at w.0 w.1 w.2 w.3
   where
-    at : (ks : List Line) → rest ≡ lines_then ks r → Leads p ks q → length ms ≡ count + length ks
-        → (js : List Line) × (behind ≡ lines_then js r) × Leads t js q × (length ms ≡ count + 1 + length js)
+    at : (ks : List Line) → rest ≡ lines_then ks r → Leads p ks q → length ms ≡ count + length ks → (js : List Line) × (behind ≡ lines_then js r) × Leads t js q × (length ms ≡ count + 1 + length js)
     at [] f h k = absurd (omega (arith, n, k))
     at (j ∷ js) f h k =
         let c = one_cut 10 raw (line_text j) behind (lines_then js r) lacks (may_lack p j h.0) (sym cut ∙ f) in (
@@ -80,8 +78,7 @@ pub stuck_at_end : (p : Place) (rest : List ℕ) → Lacks 10 rest → ((s : She
 stuck_at_end p rest lacks f = record { line = λ l more e m. lacks_none 10 (line_text l) more rest lacks e; last = f }
 
 -- the cause of a fault
-pub first_fault : (text : List ℕ) (p : Place) (rest : List ℕ) (number : ℕ) → IsReading text p rest number → IsStuck p rest
-    → IsFirstFault text number × ((s : Sheet) → Spells s text → ⊥)
+pub first_fault : (text : List ℕ) (p : Place) (rest : List ℕ) (number : ℕ) → IsReading text p rest number → IsStuck p rest → IsFirstFault text number × ((s : Sheet) → Spells s text → ⊥)
 first_fault text p rest number h stuck = (
   record {
     before = length h.lines;

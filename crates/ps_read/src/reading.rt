@@ -56,8 +56,7 @@ fn step(alloc: Global, place: Place, raw: &[u8]) -> Result<Option<Place>, Memory
 
 /// The sheet that the bytes spell.
 ///
-/// A last piece without an LF is a line that isn't good. Each line is read
-/// once.
+/// A last piece without an LF is a line that isn't good. Each line is read once.
 pub fn read_document(alloc: Global, b: &[u8]) -> Result<Sheet, PagesError>
     ensures sheet { IfOk result (IsRead b.now) }
     ensures cause { IfErr result (IsCause b.now) }

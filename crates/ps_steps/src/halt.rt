@@ -5,13 +5,11 @@ ghost use Rattle.ps_steps.specs.declared.halt.MachineError.TheVariants as errors
 
 use mus_units::Memory;
 
-/// Why a run halts at a token. Where several causes hold there, the first in
-/// this order is told: BadToken, Unclosed, Budget, and then the others as they
-/// stand here.
+/// Why a run halts at a token. Where several causes hold there, the first in this order is told:
+/// BadToken, Unclosed, Budget, and then the others as they stand here.
 #[derive(Clone, Copy, PartialEq, Eq)]
 pub enum Cause {
-    /// The bytes there begin no token, within a procedure too; or a `{` stands
-    /// in a procedure.
+    /// The bytes there begin no token, within a procedure too; or a `{` stands in a procedure.
     BadToken,
     /// A string or a procedure doesn't end; or a `}` has no `{`.
     Unclosed,
@@ -25,8 +23,7 @@ pub enum Cause {
     Point,
     /// A `grestore` with nothing saved.
     Restore,
-    /// The two factors of a `scale` differ; or the new scale is no whole number
-    /// from 1 on.
+    /// The two factors of a `scale` differ; or the new scale is no whole number from 1 on.
     Scale,
     /// A number that the token makes or paints is past 2^60 in size.
     Range,

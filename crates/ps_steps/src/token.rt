@@ -70,8 +70,7 @@ impl Number {
     }
 }
 
-/// A number with a point, which counts hundredths: within 2^60 of 0, so within
-/// 100 times that.
+/// A number with a point, which counts hundredths: within 2^60 of 0, so within 100 times that.
 #[derive(Drop)]
 pub struct Hundredths {
     count: i128,
@@ -89,8 +88,7 @@ impl Model for Hundredths {
 }
 
 impl Hundredths {
-    /// So many hundredths; none where they are more than 100 times 2^60, or
-    /// less than that below 0.
+    /// So many hundredths; none where they are more than 100 times 2^60, or less than that below 0.
     pub fn new(count: i128) -> Option<Hundredths>
         ensures value { MatchOption result (is_near_hundredths count ≡ false) (λ h. h ≡ count) }
         ensures near { MatchOption result (true ≡ true) (λ h. is_near_hundredths count ≡ true) }
@@ -118,8 +116,7 @@ impl Hundredths {
     }
 }
 
-/// A token that may stand in a procedure. A number past 2^60 in size is far,
-/// whatever it is.
+/// A token that may stand in a procedure. A number past 2^60 in size is far, whatever it is.
 #[derive(Drop)]
 pub enum Simple {
     /// A whole number.

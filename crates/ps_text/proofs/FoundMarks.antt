@@ -150,8 +150,7 @@ wordless_numbers y (PageMark.Glyph glyph x dx dy) h = (offset_number dx h.across
 wordless_numbers y (PageMark.Words size x dx dy words) h = (offset_number dx h.0.across, (offset_number dy h.0.above, (h.0.anchor, (h.0.base, tt))))
 wordless_numbers y (PageMark.Stem x dx from to) h =
     (offset_number dx h.start.across, (offset_number to h.end, (offset_number dx h.start.across, (offset_number from h.start.above, (h.start.anchor, (h.start.base, tt))))))
-wordless_numbers y (PageMark.Beam way x1 x2 from to) h =
-    (h.stretch.first, (h.left.above, (h.stretch.last, (h.right.above, (h.stretch.last, (h.right.point, (h.stretch.first, (h.left.point, tt))))))))
+wordless_numbers y (PageMark.Beam way x1 x2 from to) h = (h.stretch.first, (h.left.above, (h.stretch.last, (h.right.above, (h.stretch.last, (h.right.point, (h.stretch.first, (h.left.point, tt))))))))
 wordless_numbers y (PageMark.Arc x1 x2 from to bulge) h =
     let q = quarter_in (x2 -ℤ x1) (omega (arith, ints, h.stretch.rising)) in
     let inner : IsNumber (x1 +ℤ quarter x1 x2) = record { low = omega (arith, ints, q.0, h.stretch.first.low); high = omega (arith, ints, q.1, h.stretch.last.high) } in
@@ -173,11 +172,9 @@ wordless_found y (PageMark.Glyph glyph x dx dy) w h = glyph_found y x dx dy glyp
 wordless_found y (PageMark.Words size x dx dy words) w h = absurd w
 wordless_found y (PageMark.Stem x dx from to) w h = stem_found y x dx from to h.start.across h.start.above h.end
 wordless_found y (PageMark.Beam way x1 x2 from to) w h = beam_found way y x1 x2 from to x1 ((y +ℤ from) +ℤ pos 250) x2 ((y +ℤ to) +ℤ pos 250) h.left.offset h.right.offset
-wordless_found y (PageMark.Arc x1 x2 from to bulge) w h =
-    arc_found y x1 x2 from to bulge (x1 +ℤ quarter x1 x2) (x2 -ℤ quarter x1 x2) ((y +ℤ to) +ℤ bulge) h.left.offset h.right.offset h.rises
+wordless_found y (PageMark.Arc x1 x2 from to bulge) w h = arc_found y x1 x2 from to bulge (x1 +ℤ quarter x1 x2) (x2 -ℤ quarter x1 x2) ((y +ℤ to) +ℤ bulge) h.left.offset h.right.offset h.rises
 
-words_text : (size : Size) (x dx dy y : ℤ) (words rest : List ℕ) → words_line size x dx dy words y ≡ 40 ∷ rest
-    → rest ≡ flat_map shown words ++ 41 ∷ 32 ∷ (numbers (dx ∷ dy ∷ x ∷ y ∷ []) ++ size_name size)
+words_text : (size : Size) (x dx dy y : ℤ) (words rest : List ℕ) → words_line size x dx dy words y ≡ 40 ∷ rest → rest ≡ flat_map shown words ++ 41 ∷ 32 ∷ (numbers (dx ∷ dy ∷ x ∷ y ∷ []) ++ size_name size)
 unfolding words_line in_parentheses
 words_text size x dx dy y words rest e =
     let line : 40 ∷ (flat_map shown words ++ 41 ∷ 32 ∷ (numbers (dx ∷ dy ∷ x ∷ y ∷ []) ++ size_name size)) ≡ 40 ∷ rest = sym (simp append_assoc) ∙ e in

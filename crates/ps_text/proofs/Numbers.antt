@@ -29,8 +29,7 @@ is_false false f = refl
 
 -- a digit is no space
 digit_is_field : (c : ℕ) → digit_value c < 10 → is_field c ≡ true
-digit_is_field c h =
-    is_false (c == 32) (λ e. let k : c ≡ 32 = grind (arith, nat_tests) in let d = rw k at h in omega (arith, d))
+digit_is_field c h = is_false (c == 32) (λ e. let k : c ≡ 32 = grind (arith, nat_tests) in let d = rw k at h in omega (arith, d))
 
 digits_are_fields : (cs : List ℕ) → AllDigits 10 cs → list_all is_field cs ≡ true
 digits_are_fields [] h = refl

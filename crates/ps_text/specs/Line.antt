@@ -7,8 +7,7 @@ unfoldable pub glyph_line : Glyph → ℤ → ℤ → ℤ → ℤ → List ℕ
 glyph_line glyph x dx dy y = numbers (dx ∷ dy ∷ x ∷ y ∷ []) ++ glyph_name glyph
 
 unfoldable pub words_line : Size → ℤ → ℤ → ℤ → List ℕ → ℤ → List ℕ
-words_line size x dx dy words y =
-    in_parentheses words ++ numbers (dx ∷ dy ∷ x ∷ y ∷ []) ++ size_name size
+words_line size x dx dy words y = in_parentheses words ++ numbers (dx ∷ dy ∷ x ∷ y ∷ []) ++ size_name size
 
 unfoldable pub stem_line : ℤ → ℤ → ℤ → ℤ → ℤ → List ℕ
 stem_line x dx from to y = numbers (dx ∷ to ∷ dx ∷ from ∷ x ∷ y ∷ []) ++ codes "st"
@@ -31,8 +30,7 @@ quarter x1 x2 = int_div (x2 -ℤ x1) (pos 4)
 
 -- an arc has its inner points a quarter of the way from its ends
 unfoldable pub arc_line : ℤ → ℤ → ℤ → ℤ → ℤ → ℤ → List ℕ
-arc_line x1 x2 from to bulge y =
-    points (x1 +ℤ quarter x1 x2) (x2 -ℤ quarter x1 x2) x1 x2 (ends_of y from to bulge) ++ codes "ac"
+arc_line x1 x2 from to bulge y = points (x1 +ℤ quarter x1 x2) (x2 -ℤ quarter x1 x2) x1 x2 (ends_of y from to bulge) ++ codes "ac"
 
 -- the line of a mark on a staff at y
 abbrev pub mark_line : ℤ → PageMark → List ℕ

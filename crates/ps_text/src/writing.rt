@@ -33,9 +33,8 @@ fn ends_of(y: i64, x1: i64, x2: i64, from: i64, to: i64, rise: i64) -> Ends
     }
 }
 
-/// Adds the four points of a beam or an arc: the one above the left end, at
-/// `p`, the one above the right end, at `q`, the right end and the left one;
-/// and a name of two letters.
+/// Adds the four points of a beam or an arc: the one above the left end, at `p`, the one above the right
+/// end, at `q`, the right end and the left one; and a name of two letters.
 #[tactic(auto, using(crate::proofs::Signs::as_passed), unfolding(crate::specs::Line::points))]
 fn put_points(
     out: &mut Text,

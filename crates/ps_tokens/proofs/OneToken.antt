@@ -206,8 +206,7 @@ not_both s _ _ _ (simple_at t r f) (closing_at q g) = let e : found t r ≡ clos
 not_both s _ _ _ (simple_at t r f) (no_body q cause g n) = let e : found t r ≡ opening q = one_front s _ _ f g in cc
 not_both s _ _ _ (procedure_at o r ts f a) (unread_at cause g) = let e : opening o ≡ unread cause = one_front s _ _ f g in cc
 not_both s _ _ _ (procedure_at o r ts f a) (closing_at q g) = let e : opening o ≡ closing q = one_front s _ _ f g in cc
-not_both s _ _ _ (procedure_at o r ts f a) (no_body q cause g n) =
-    body_or_none q ts r cause (subst (λ w. Body w ts r) (opening_same o q (one_front s _ _ f g)) a) n
+not_both s _ _ _ (procedure_at o r ts f a) (no_body q cause g n) = body_or_none q ts r cause (subst (λ w. Body w ts r) (opening_same o q (one_front s _ _ f g)) a) n
 
 some_text : (s r : List ℕ) (t : Token) → TokenAt s t r → s ≡ [] → ⊥
 some_text s _ _ (simple_at t r f) e = front_some s _ f e
@@ -245,8 +244,7 @@ one_fault s _ _ (closing_at r f) (closing_at q g) = refl
 one_fault s _ _ (closing_at r f) (no_body q d g n) = let e : closing r ≡ opening q = one_front s _ _ f g in cc
 one_fault s _ _ (no_body r c f m) (unread_at d g) = let e : opening r ≡ unread d = one_front s _ _ f g in cc
 one_fault s _ _ (no_body r c f m) (closing_at q g) = let e : opening r ≡ closing q = one_front s _ _ f g in cc
-one_fault s _ _ (no_body r c f m) (no_body q d g n) =
-    one_fault_within q c d (subst (λ w. NoBody w c) (opening_same r q (one_front s _ _ f g)) m) n
+one_fault s _ _ (no_body r c f m) (no_body q d g n) = one_fault_within q c d (subst (λ w. NoBody w c) (opening_same r q (one_front s _ _ f g)) m) n
 
 pub begins_in_one_way : BeginsInOneWay
 begins_in_one_way = record { token = one_token; cause = one_fault; either = not_both; some = some_text }

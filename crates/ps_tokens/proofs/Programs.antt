@@ -1,7 +1,6 @@
 -- How the reading of a text goes on.
 use Rattle.std.proofs.Common.{◌≡◌, ℕ, false, List, [], ◌∷◌, ◌++◌, append_assoc, append-nil, Option, Some, None}
-use Rattle.ps_steps.specs.{declared.halt.Cause.Cause, Tokens.TokenAt, Tokens.NoToken, Tokens.passed, Tokens.begins, Tokens.is_skipped, declared.token.Token.Token}
-use Rattle.ps_tokens.specs.Programs.{IsRead, all_read, fault_read, token_read}
+use Rattle.{ps_steps.specs.{declared.halt.Cause.Cause, Tokens.TokenAt, Tokens.NoToken, Tokens.passed, Tokens.begins, Tokens.is_skipped, declared.token.Token.Token}, ps_tokens.specs.Programs.{IsRead, all_read, fault_read, token_read}}
 
 -- what was read so far, and what is left
 pub record ProgramStage (text : List ℕ) (so_far : List Token) (rest : List ℕ) : Type 0 where

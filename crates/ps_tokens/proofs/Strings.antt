@@ -43,8 +43,7 @@ unfolding octal_read escaped_read
 read_shown b rest h = by_sort (sort_of b h)
   where
     high : 160 ≤ b → b < 256 → byte_read (shown b ++ rest) ≡ Some (b, rest)
-    high l m =
-        ap (λ x. byte_read (x ++ rest)) (shown_octal b l) ∙ (octal_is (48 + b / 64) ((48 + b / 8 % 8) ∷ (48 + b % 8) ∷ rest) (digit_is_plain b m) ∙ pair_is _ b rest (omega arith))
+    high l m = ap (λ x. byte_read (x ++ rest)) (shown_octal b l) ∙ (octal_is (48 + b / 64) ((48 + b / 8 % 8) ∷ (48 + b % 8) ∷ rest) (digit_is_plain b m) ∙ pair_is _ b rest (omega arith))
 
     special : (k : ℕ) → shown k ≡ 92 ∷ k ∷ [] → is_special k ≡ true → b ≡ k → byte_read (shown b ++ rest) ≡ Some (b, rest)
     special k e t q = rw q (ap (λ x. byte_read (x ++ rest)) e ∙ ap (λ x. elim x as (λ _. Option (ℕ × List ℕ)) [ true ↦ Some (k, rest) | false ↦ octal_read k rest ]) t)

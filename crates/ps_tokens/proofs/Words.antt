@@ -1,7 +1,6 @@
 -- How the reading of a string goes on, and how it ends.
 use Rattle.std.{proofs.{Common.{◌≡◌, ℕ, List, [], ◌∷◌, ◌++◌, append_assoc, append-nil, true, refl, sym, ◌∙◌, ap, IsTrue}, lemmas.{List.{flat_map_more, Folds.list_all-append}, Bool.and_parts}}, specs.List.{flat_map, list_all}}
-use Rattle.{ps_text.specs.{Fields.shown, Range.is_shown}, ps_steps.specs.Tokens.{IsString, IsOpen}}
-use Rattle.ps_tokens.{specs.Spelling.IsCut, specs.Spelling.IsBroken, proofs.Strings.one_byte, proofs.Strings.not_close}
+use Rattle.{ps_text.specs.{Fields.shown, Range.is_shown}, ps_steps.specs.Tokens.{IsString, IsOpen}, ps_tokens.{specs.{Spelling.IsCut, Spelling.IsBroken}, proofs.{Strings.one_byte, Strings.not_close}}}
 
 -- words were read, and the rest is left
 pub record WordsStage (bytes words rest : List ℕ) : Type 0 where
@@ -37,8 +36,7 @@ no_words (x ∷ w) (c ∷ v) rest t q a b i e =
     no_words w v rest t q (and_parts (is_shown x) (list_all is_shown w) a).1 (and_parts (is_shown c) (list_all is_shown v) b).1 i p.1
 
 pub words_no_string : (bytes words rest : List ℕ) → WordsStage bytes words rest → IsBroken rest → (v q : List ℕ) → IsString bytes v q → ⊥
-words_no_string bytes words rest s i v q j =
-    no_words words v rest [] q s.good j.good i (ap (λ x. flat_map shown words ++ x) (append-nil rest) ∙ (sym s.spelled ∙ j.spelled))
+words_no_string bytes words rest s i v q j = no_words words v rest [] q s.good j.good i (ap (λ x. flat_map shown words ++ x) (append-nil rest) ∙ (sym s.spelled ∙ j.spelled))
 
 pub words_no_open : (bytes words rest : List ℕ) → WordsStage bytes words rest → IsBroken rest → IsOpen bytes → ⊥
 words_no_open bytes words rest s i o =

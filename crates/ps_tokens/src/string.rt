@@ -1,17 +1,15 @@
 //! Strings, as words are spelled in parentheses.
 
 ghost use Rattle.std.specs.Prelude.{◌≡◌, ◌∷◌, ◌≤◌, true, false, IfOk};
-ghost use Rattle.{ps_text.specs.Fields.{is_special}, ps_steps.specs.Tokens.{Front}};
-ghost use Rattle.ps_tokens.specs.{Reading.read_of, Spelling.IsSpelling, Spelling.is_bare, Spelling.is_lead, Spelling.is_octal};
+ghost use Rattle.{ps_text.specs.Fields.{is_special}, ps_steps.specs.Tokens.{Front}, ps_tokens.specs.{Reading.read_of, Spelling.IsSpelling, Spelling.is_bare, Spelling.is_lead, Spelling.is_octal}};
 
 use crate::front::Read;
 use mus_units::{Memory, Text};
 use ps_steps::{Cause, Simple};
 use std::alloc::Global;
 
-/// What stands at the front of bytes within a string: a byte as it is spelled,
-/// the closing parenthesis, the beginning of a spelled byte and then the end of
-/// the bytes, or nothing that a string has.
+/// What stands at the front of bytes within a string: a byte as it is spelled, the closing parenthesis,
+/// the beginning of a spelled byte and then the end of the bytes, or nothing that a string has.
 #[derive(Drop)]
 pub enum Spelling<'a> {
     Byte(u8, &'a [u8]),

@@ -30,10 +30,8 @@ sent_all old new start written all s =
 
 -- a first part that failed
 pub wrote_first : (old new : Option (List ℕ)) (text rest : List ℕ) (e : DocError) → WroteFront old new text e → WroteFront old new (text ++ rest) e
-wrote_first old new text rest (DocError.Write e) w =
-    (rw (take-append-le e.written text rest w.1) w.0, omega (arith, length-append text rest, w.1))
-wrote_first old new text rest DocError.Memory w =
-    (w.0, rw (take-append-le w.0 text rest w.2) w.1, omega (arith, length-append text rest, w.2))
+wrote_first old new text rest (DocError.Write e) w = (rw (take-append-le e.written text rest w.1) w.0, omega (arith, length-append text rest, w.1))
+wrote_first old new text rest DocError.Memory w = (w.0, rw (take-append-le w.0 text rest w.2) w.1, omega (arith, length-append text rest, w.2))
 
 -- a second one, told for both
 pub wrote_second : (old mid new : Option (List ℕ)) (front text : List ℕ) (n : ℕ) (e : DocError) → length front ≡ n → Appends old mid front → WroteFront mid new text e → WroteFront old new (front ++ text) (counted_from n e)

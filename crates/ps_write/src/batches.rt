@@ -1,6 +1,5 @@
 ghost use Rattle.std.specs.Prelude.{◌≡◌, ◌+◌, ◌^◌, ◌<◌, ◌≤◌, ◌++◌, All, IfOk, OnOk, length, map};
-ghost use Rattle.ps_text.specs.{Document.body_text, Document.numbered, Document.page_text, Range.IsPage};
-ghost use Rattle.ps_write.specs.Written.{Counted, FitsAfter, IsNext, Wrote, headed_text};
+ghost use Rattle.{ps_text.specs.{Document.body_text, Document.numbered, Document.page_text, Range.IsPage}, ps_write.specs.Written.{Counted, FitsAfter, IsNext, Wrote, headed_text}};
 
 use crate::steps::{DocError, DocWriter, send};
 use eng_halves::{Jobs, Work, work_all};

@@ -83,5 +83,4 @@ fault_along header lines f g a b less =
     let same = sym e ∙ b.first in cc
 
 pub one_body_fault : (header : Header) (lines : List Line) (f g : Fault) → HasFault header lines f → HasFault header lines g → f ≡ g
-one_body_fault header lines f g a b =
-    ⊎_elim (λ less. fault_along header lines f g a b (omega (arith, less))) (λ less. sym (fault_along header lines g f b a less)) (cases_lt a.count b.count)
+one_body_fault header lines f g a b = ⊎_elim (λ less. fault_along header lines f g a b (omega (arith, less))) (λ less. sym (fault_along header lines g f b a less)) (cases_lt a.count b.count)

@@ -26,8 +26,7 @@ abbrev breaking_of : List ℕ → ℕ → List (Option ℕ) → Breaking
 breaking_of breaks total potentials = record { breaks = breaks; total = total; potentials = potentials }
 
 same_breaking : (breaks bars : List ℕ) (v w : ℕ) (os ps : List (Option ℕ)) → breaks ≡ bars → v ≡ w → os ≡ ps → breaking_of breaks v os ≡ breaking_of bars w ps
-same_breaking breaks bars v w os ps e f g =
-    ap (λ x. breaking_of x v os) e ∙ (ap (λ x. breaking_of bars x os) f ∙ ap (λ x. breaking_of bars w x) g)
+same_breaking breaks bars v w os ps e f g = ap (λ x. breaking_of x v os) e ∙ (ap (λ x. breaking_of bars x os) f ∙ ap (λ x. breaking_of bars w x) g)
 
 pub one_breaking : (cost : ℕ → ℕ → Option ℕ) (forced : ℕ → Bool) (n : ℕ) (x y : Breaking) → IsBreaking cost forced n x → IsBreaking cost forced n y → x ≡ y
 one_breaking cost forced n x y h k =

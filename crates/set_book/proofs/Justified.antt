@@ -29,8 +29,7 @@ moved_alike n reach lanes width x at to h g k less =
     h.4 k less ∙ (ap (λ r. slice_index_or x k (pos 0) +ℤ pos (r * k / (n - 1))) rest ∙ sym (g.4 k less))
 
 -- columns are set to a width in one way
-one_set : (n : ℕ) (reach : ℕ → ℕ → Option Reach) (gaps : List ℕ) (spring : ℕ → ℕ → ℕ) (width force : ℕ) (at to : List ℤ)
-    → IsSet n reach gaps spring width force at → IsSet n reach gaps spring width force to → at ≡ to
+one_set : (n : ℕ) (reach : ℕ → ℕ → Option Reach) (gaps : List ℕ) (spring : ℕ → ℕ → ℕ) (width force : ℕ) (at to : List ℤ) → IsSet n reach gaps spring width force at → IsSet n reach gaps spring width force to → at ≡ to
 one_set n reach gaps spring width force at to h g =
     let same = one_place n reach gaps (spring force) h.x g.x h.place g.place in
     let count = h.count in

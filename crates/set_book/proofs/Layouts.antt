@@ -1,9 +1,8 @@
 -- A score has one layout on a width.
 use Rattle.std.proofs.Common.{◌≡◌, ◌∙◌, ℕ, List, [], ◌∷◌, refl, sym, ap, subst}
-use Rattle.{mus_score.specs.{declared.score.Score.Score, GoodScore.IsGoodScore}, mus_time.specs.Onsets.{timeline_of}, mus_laid.specs.declared.laid.SystemMarks.{SystemMarks}}
-use Rattle.{mus_marks.specs.Tilt.{IsTilted}, lay_springs.specs.declared.margin.Placed.{Placed}, lay_breaks.specs.{declared.{breaking.Breaking.Breaking, costs.Span.Span}, Spans.listed}}
-use Rattle.lay_tune.{specs.{Spans.is_forced_in, Systems.{Beside, EachSpan, IsPlaced, IsSetSystem, IsStack}}, proofs.Called.{one_system, one_tilted}}
-use Rattle.set_tune.specs.{declared.tune.SetTune.SetTune, Setting.IsLaidOut}
+use Rattle.{mus_score.specs.{declared.score.Score.Score, GoodScore.IsGoodScore}, mus_time.specs.Onsets.{timeline_of}, mus_laid.specs.declared.laid.SystemMarks.{SystemMarks}, mus_marks.specs.Tilt.{IsTilted}}
+use Rattle.{lay_springs.specs.declared.margin.Placed.{Placed}, lay_breaks.specs.{declared.{breaking.Breaking.Breaking, costs.Span.Span}, Spans.listed}}
+use Rattle.{lay_tune.{specs.{Spans.is_forced_in, Systems.{Beside, EachSpan, IsPlaced, IsSetSystem, IsStack}}, proofs.Called.{one_system, one_tilted}}, set_tune.specs.{declared.tune.SetTune.SetTune, Setting.IsLaidOut}}
 use Rattle.set_book.proofs.{Chosen.{IsBreaking, one_breaking}, Justified.one_placed, Spanned.one_list, Stacked.{one_beside, one_stacked}}
 
 -- a score has one system of any measures on a width

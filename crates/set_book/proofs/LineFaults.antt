@@ -1,7 +1,6 @@
 -- A music line gives one list of tokens up to its first fault, and one such fault, or none.
 use Rattle.std.{proofs.Common.{◌≡◌, ◌∙◌, refl, sym, ap, subst, ℕ, List, [], ◌∷◌, length, Bool, Option, Some, None}, specs.Prelude.{MatchBool, MatchOption, ◌==◌, option_map}}
-use Rattle.abc_lines.specs.declared.{book.Line.Line, fault.{Fault.Fault, FaultKind.{FaultKind, TheVariants.{BadByte, Unclosed}}}}
-use Rattle.abc_notes.specs.{declared.part.Flaw.Flaw, Parts.{IsLongest, HasNone}, Graces.GraceFault}
+use Rattle.{abc_lines.specs.declared.{book.Line.Line, fault.{Fault.Fault, FaultKind.{FaultKind, TheVariants.{BadByte, Unclosed}}}}, abc_notes.specs.{declared.part.Flaw.Flaw, Parts.{IsLongest, HasNone}, Graces.GraceFault}}
 use Rattle.abc_pieces.{specs.{Forms.{Form, StandsAt, meant, after, opening}, declared.token.{Before.Before, Opening.Opening}}, proofs.PieceReader.piece_reader}
 use Rattle.abc_tokens.specs.{declared.token.Placed.Placed, Tokens.{Front, clear, breaks, leads, FrontOf, column, put, kind_behind, IsHere, IsBracketFlaw, IsOwnFlaw, IsLineFlaw, fault_at}}
 use Rattle.set_book.proofs.{PartFaults.{by_test, none_at_end, one_longest}, ChordFaults.{one_chord_fault, one_grace_fault}}

@@ -1,8 +1,7 @@
 -- A tune has one outcome.
 use Rattle.std.{proofs.{Common.{◌≡◌, ◌∙◌, refl, sym, ap, subst, ℕ, zero, suc, ℤ, pos, negsuc, List, [], ◌∷◌, Bool, Option, Some, None, Result, Ok, Err, inl, inr}, lemmas.Option.same_Some}, specs.Prelude.MatchOption}
-use Rattle.{abc_lines.specs.declared.{book.{Line.Line, TuneText.TuneText}, fault.{Fault.Fault, FaultKind.FaultKind, TuneError.TuneError}}, mus_units.specs.declared.key.Key.{Key}}
-use Rattle.{mus_transpose.specs.Moved.{CanMove, IsMoved, moved_score}, abc_header.specs.{declared.{defaults.Defaults.Defaults, header.Header.Header}, Papers.{height_of, width_of}}}
-use Rattle.{abc_score.specs.Build.{IsFaultOf, IsScoreOf}, mus_score.specs.{declared.score.Score.Score, GoodScore.IsGoodScore}}
+use Rattle.{abc_lines.specs.declared.{book.{Line.Line, TuneText.TuneText}, fault.{Fault.Fault, FaultKind.FaultKind, TuneError.TuneError}}, mus_units.specs.declared.key.Key.{Key}, mus_transpose.specs.Moved.{CanMove, IsMoved, moved_score}}
+use Rattle.{abc_header.specs.{declared.{defaults.Defaults.Defaults, header.Header.Header}, Papers.{height_of, width_of}}, abc_score.specs.Build.{IsFaultOf, IsScoreOf}, mus_score.specs.{declared.score.Score.Score, GoodScore.IsGoodScore}}
 use Rattle.{lay_shared.{specs.{Alike.DoShare, Drawn.drawn_of, Plans.ids_of}, proofs.PlanLaws.{apart_ids, one_plan}}, lay_breaks.specs.declared.{costs.Span.Span, breaking.Breaking.Breaking}}
 use Rattle.{lay_pages.specs.{declared.{stacking.Heights.Heights, titles.TitleBlock.TitleBlock}, Filling.first_tall, Titles.title_block_of}, lay_springs.specs.declared.margin.Placed.{Placed}}
 use Rattle.{mus_laid.specs.declared.laid.SystemMarks.{SystemMarks}, lay_tune.{specs.Layout.IsNoWay, proofs.Called.{has_system, one_system}}}

@@ -88,5 +88,4 @@ module _ {I : Type 0} {Stands : I → List ℕ → List ℕ → Type 0} {at : Li
 
       pub one_flaw : (before : Option ℕ) (text : List ℕ) (f g : Flaw) → Flawed I Stands is_lengthy Own before text f → Flawed I Stands is_lengthy Own before text g → f ≡ g
       one_flaw _ _ _ g (stuck_here before byte rest f none is) b = stuck_one before (byte ∷ rest) byte rest f g refl none is b
-      one_flaw _ _ _ g (stuck_later before text part behind f l more) b =
-          one_flaw (length_at_place (is_lengthy part) (length text)) behind f g more (later_flaw before text part behind g l b)
+      one_flaw _ _ _ g (stuck_later before text part behind f l more) b = one_flaw (length_at_place (is_lengthy part) (length text)) behind f g more (later_flaw before text part behind g l b)

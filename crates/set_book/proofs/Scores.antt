@@ -1,8 +1,7 @@
 -- A tune has one header, and one score or one fault of its score, and not both.
 use Rattle.std.proofs.Common.{◌≡◌, ◌∙◌, sym, ap, subst, inl, inr, ℕ, Bool, Option, Some, None}
-use Rattle.abc_lines.specs.declared.{book.TuneText.TuneText, fault.{Fault.Fault, TuneError.TuneError}}
-use Rattle.{abc_header.specs.{declared.{defaults.Defaults.Defaults, header.Header.Header}, Headers.{IsHeaderBy, IsHeaderOf, key_place}}, abc_faults.specs.First.{IsFirst, IsLeast}}
-use Rattle.{mus_score.specs.declared.score.Score.{Score}, abc_score.specs.{Faults.score_faults, Score.score_of, Build.{body_lines, IsScoreOf, HasScoreFault, IsFaultOf}}}
+use Rattle.{abc_lines.specs.declared.{book.TuneText.TuneText, fault.{Fault.Fault, TuneError.TuneError}}, abc_header.specs.{declared.{defaults.Defaults.Defaults, header.Header.Header}, Headers.{IsHeaderBy, IsHeaderOf, key_place}}}
+use Rattle.{abc_faults.specs.First.{IsFirst, IsLeast}, mus_score.specs.declared.score.Score.{Score}, abc_score.specs.{Faults.score_faults, Score.score_of, Build.{body_lines, IsScoreOf, HasScoreFault, IsFaultOf}}}
 use Rattle.set_book.proofs.{Bodies.{one_items, no_body_fault, one_body_fault}, Ranked.{score_ranked, one_least, none_or_least}}
 
 by_place : (tune : TuneText) (defaults : Defaults) (h k : Header) (place : Option ℕ) → IsHeaderBy tune defaults h place → IsHeaderBy tune defaults k place → h ≡ k

@@ -75,8 +75,7 @@ heads_same p s (inr h) (inl e) = sym e
 heads_same p s (inr h) (inr k) = absurd (not_both_past p s h k)
 
 -- what the lists behind one and the same span list
-behind : (n : ℕ) (s : Span) (xs ys : List Span) → SpansFrom n (Some s) xs → SpansFrom n (Some s) ys
-    → (a b : ℕ) → listed (s ∷ xs) a b ≡ listed (s ∷ ys) a b → listed xs a b ≡ listed ys a b
+behind : (n : ℕ) (s : Span) (xs ys : List Span) → SpansFrom n (Some s) xs → SpansFrom n (Some s) ys → (a b : ℕ) → listed (s ∷ xs) a b ≡ listed (s ∷ ys) a b → listed xs a b ≡ listed ys a b
 behind n s xs ys h k a b e = at (has_ends a b s) refl e
   where
     at : (t : Bool) → has_ends a b s ≡ t → (if t then Some s.badness else listed xs a b) ≡ (if t then Some s.badness else listed ys a b) → listed xs a b ≡ listed ys a b
@@ -120,8 +119,7 @@ agree None (Some v) on back = back v refl
 agree (Some v) p on back = sym (on v refl)
 
 -- a span that one list has the other has
-also : (s : Score) (width : ℕ) (xs ys : List Span) → AreSpans s.measures xs → AreSpansOf s width xs → AreSpansOf s width ys
-    → (a b v : ℕ) → listed xs a b ≡ Some v → listed ys a b ≡ Some v
+also : (s : Score) (width : ℕ) (xs ys : List Span) → AreSpans s.measures xs → AreSpansOf s width xs → AreSpansOf s width ys → (a b v : ℕ) → listed xs a b ≡ Some v → listed ys a b ≡ Some v
 also s width xs ys form exact others a b v e =
     let within = listed_within s.measures None xs form a b v e in
     let cost = exact.each a b v within.0 within.1 e in

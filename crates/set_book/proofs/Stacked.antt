@@ -43,6 +43,5 @@ pub one_beside : {X Y : Type 0} (P : X → Y → Type 0) → ((x : X) (y z : Y) 
 one_beside P one [] [] [] h k = refl
 one_beside P one [] [] (z ∷ zs) h k = absurd k
 one_beside P one (x ∷ xs) (y ∷ ys) [] h k = absurd k
-one_beside P one (x ∷ xs) (y ∷ ys) (z ∷ zs) h k =
-    ap (λ w. w ∷ ys) (one x y z h.0 k.0) ∙ ap (λ t. z ∷ t) (one_beside P one xs ys zs h.1 k.1)
+one_beside P one (x ∷ xs) (y ∷ ys) (z ∷ zs) h k = ap (λ w. w ∷ ys) (one x y z h.0 k.0) ∙ ap (λ t. z ∷ t) (one_beside P one xs ys zs h.1 k.1)
 one_beside P one _ _ zs h k = absurd h

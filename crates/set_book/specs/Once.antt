@@ -1,9 +1,8 @@
 -- A tune has one outcome: what it is set as, or its fault, follows from the tune and its terms, and from nothing of how it was set. So a
 -- book has one list of outcomes, however many jobs set it.
 use Rattle.std.specs.Prelude.{◌≡◌, ℕ, List}
-use Rattle.{abc_lines.specs.declared.{book.TuneText.TuneText, fault.{Fault.Fault, TuneError.TuneError}}, abc_header.specs.declared.{defaults.Defaults.Defaults, header.Header.Header}}
-use Rattle.{mus_score.specs.declared.score.Score.{Score}, mus_laid.specs.declared.laid.SystemMarks.{SystemMarks}, lay_tune.specs.Spans.{IsSystem}}
-use Rattle.set_tune.specs.{Terms.{Manner, Terms}, declared.tune.SetTune.SetTune, Setting.{HasScore, IsFaultOfTune, IsMovedRefusal, IsSetTune}}
+use Rattle.{abc_lines.specs.declared.{book.TuneText.TuneText, fault.{Fault.Fault, TuneError.TuneError}}, abc_header.specs.declared.{defaults.Defaults.Defaults, header.Header.Header}, mus_score.specs.declared.score.Score.{Score}}
+use Rattle.{mus_laid.specs.declared.laid.SystemMarks.{SystemMarks}, lay_tune.specs.Spans.{IsSystem}, set_tune.specs.{Terms.{Manner, Terms}, declared.tune.SetTune.SetTune, Setting.{HasScore, IsFaultOfTune, IsMovedRefusal, IsSetTune}}}
 use Rattle.set_book.specs.{declared.outcome.Outcome.Outcome, Outcomes.AreOutcomes}
 
 -- the one system of these measures of a score
@@ -23,7 +22,6 @@ pub record HaveOneOutcome : Type 0 where
   -- a tune has one score
   pub score : (tune : TuneText) (defaults : Defaults) (manner : Manner) (h k : Header) (s t : Score) → HasScore tune defaults manner h s → HasScore tune defaults manner k t → s ≡ t
   -- a tune that has a score has no fault of its header, its body or its score
-  pub scored : (tune : TuneText) (defaults : Defaults) (manner : Manner) (h : Header) (s : Score) (f : Fault)
-      → HasScore tune defaults manner h s → IsMovedRefusal tune defaults manner (TuneError.Fault f) → ⊥
+  pub scored : (tune : TuneText) (defaults : Defaults) (manner : Manner) (h : Header) (s : Score) (f : Fault) → HasScore tune defaults manner h s → IsMovedRefusal tune defaults manner (TuneError.Fault f) → ⊥
   -- a score calls for one system of any measures
   pub system : (s : Score) (a b : ℕ) → (m : SystemMarks) × IsOneSystem s a b m

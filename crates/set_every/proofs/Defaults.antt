@@ -1,7 +1,6 @@
 -- Any file header gives good defaults.
 use Rattle.std.{proofs.Common.{List, [], ◌∷◌, Option, Some, None, IfSome}, specs.{Prelude.unwrap_or, Option.{option_and_then, option_or}}}
-use Rattle.{mus_units.specs.{declared.{key.Meter.Meter, value.Frac.Frac}, Good.{IsGoodMeter, IsGoodUnit}}, abc_lines.specs.declared.book.Line.{Line}}
-use Rattle.abc_fields.{specs.Last.last_of, proofs.GoodLaws.{meter_good, unit_good}}
+use Rattle.{mus_units.specs.{declared.{key.Meter.Meter, value.Frac.Frac}, Good.{IsGoodMeter, IsGoodUnit}}, abc_lines.specs.declared.book.Line.{Line}, abc_fields.{specs.Last.last_of, proofs.GoodLaws.{meter_good, unit_good}}}
 use Rattle.abc_header.specs.{Defaults.{defaults_of, line_meter, line_unit}, Good.{GoodUnitIn, IsGoodDefaults}}
 
 -- what holds of each that is named holds of the last that is

@@ -68,10 +68,8 @@ shared_if line w plan good spells (yes share) = (Ok (drawn_of w plan), (plan, sp
 shared_if line w plan good spells (no apart) = (Err (share_fault line FaultKind.BadShare), inr (plan, spells, apart, refl), tt)
 
 spelled_if : (line : Line) (w : Score) (read : Option Plan) → IsGoodScore w → plan_by (signs_from (ids_of w) [] line.text) ≡ read → HasDrawn (Some line) w
-spelled_if line w None good e =
-    (Err (share_fault line FaultKind.BadScore), inl ((λ plan spells. let clash = sym e ∙ spelled-read (ids_of w) line.text plan (apart_ids w good) spells in cc), refl), tt)
-spelled_if line w (Some plan) good e =
-    shared_if line w plan good (subst (λ r. IfSome r (Spells (ids_of w) line.text)) e (read-spells (ids_of w) line.text)) (do_share w plan)
+spelled_if line w None good e = (Err (share_fault line FaultKind.BadScore), inl ((λ plan spells. let clash = sym e ∙ spelled-read (ids_of w) line.text plan (apart_ids w good) spells in cc), refl), tt)
+spelled_if line w (Some plan) good e = shared_if line w plan good (subst (λ r. IfSome r (Spells (ids_of w) line.text)) e (read-spells (ids_of w) line.text)) (do_share w plan)
 
 pub has_drawn : (staves : Option Line) (w : Score) → IsGoodScore w → (r : Result Score Fault) × IsDrawn staves w r × IfOk r IsGoodScore
 has_drawn None w good = (Ok w, refl, good)

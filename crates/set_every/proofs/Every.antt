@@ -97,8 +97,7 @@ has_outcomes terms (tune ∷ tunes) with =
     (first.0 ∷ others.0, (first.1, others.1))
 
 of_book : (text : List ℕ) (manner : Manner) → (os : List Outcome) × AreOutcomes (terms_of_book text manner) (book_of text).tunes os
-of_book text manner =
-    has_outcomes (terms_of_book text manner) (book_of text).tunes (defaults_good (book_of text).header)
+of_book text manner = has_outcomes (terms_of_book text manner) (book_of text).tunes (defaults_good (book_of text).header)
 
 pub every_tune : EveryTuneHasAnOutcome
 every_tune = record { tune = has_outcome; book = of_book }

@@ -1,8 +1,6 @@
 -- Every tune has an outcome: it is set, or it has a fault. So each book has a list of outcomes, whatever memory there is to find it.
-use Rattle.std.specs.Prelude.{ℕ, List}
-use Rattle.abc_lines.specs.{declared.book.TuneText.TuneText, Books.book_of}
-use Rattle.abc_header.specs.{Defaults.defaults_of, Good.IsGoodDefaults, Papers.paper_of}
-use Rattle.{set_tune.specs.Terms.{Manner, Terms, terms_by}, set_book.specs.{declared.outcome.Outcome.Outcome, Outcomes.{AreOutcomes, IsOutcome}}}
+use Rattle.{std.specs.Prelude.{ℕ, List}, abc_lines.specs.{declared.book.TuneText.TuneText, Books.book_of}, abc_header.specs.{Defaults.defaults_of, Good.IsGoodDefaults, Papers.paper_of}, set_tune.specs.Terms.{Manner, Terms, terms_by}}
+use Rattle.set_book.specs.{declared.outcome.Outcome.Outcome, Outcomes.{AreOutcomes, IsOutcome}}
 
 -- what the tunes of a book are set by
 abbrev pub terms_of_book : List ℕ → Manner → Terms

@@ -14,8 +14,7 @@ module _ (terms : Terms) where
 
   all_breakings : (tunes : List TuneText) (os : List Outcome) → AreOutcomes terms tunes os → All (λ o. HasItsBreakings (width_of terms.paper) o.result) os
   all_breakings [] [] h = All-nil (λ o. HasItsBreakings (width_of terms.paper) o.result)
-  all_breakings (t ∷ ts) (o ∷ os) h =
-      All-cons (λ o. HasItsBreakings (width_of terms.paper) o.result) o os (its_breakings t o.result h.0.result) (all_breakings ts os h.1)
+  all_breakings (t ∷ ts) (o ∷ os) h = All-cons (λ o. HasItsBreakings (width_of terms.paper) o.result) o os (its_breakings t o.result h.0.result) (all_breakings ts os h.1)
   all_breakings ts os h = absurd h
 
 pub lists_the_book : ListsTheBook
@@ -46,8 +45,7 @@ module _ (one : HaveOneOutcome) (tune : TuneText) (terms : Terms) (header : Head
       (subst (λ x. IsLegalIn x (width_of terms.paper) breaks) (one.score tune terms.defaults terms.manner header h score s has scored) legal)
   told _ reached e (too_tall t block laid tall) breaks legal = let clash : FaultKind.TooTall block ≡ FaultKind.NoWay reached = e in cc
 
-  came_by : (f : Fault) → IsFaultOfTune tune terms f → ((breaks : List ℕ) → IsLegalIn score (width_of terms.paper) breaks → ⊥)
-      → (reached : ℕ) × (f ≡ layout_fault tune (FaultKind.NoWay reached))
+  came_by : (f : Fault) → IsFaultOfTune tune terms f → ((breaks : List ℕ) → IsLegalIn score (width_of terms.paper) breaks → ⊥) → (reached : ℕ) × (f ≡ layout_fault tune (FaultKind.NoWay reached))
   came_by _ (of_header f fault) none = absurd (one.scored tune terms.defaults terms.manner header score f has (inl (inl fault)))
   came_by _ (of_score h f read fault) none = absurd (one.scored tune terms.defaults terms.manner header score f has (inl (inr (h, read, fault))))
   came_by _ (of_share f c) none = absurd (one.scored tune terms.defaults terms.manner header score f has (inr (inl c)))
@@ -55,8 +53,7 @@ module _ (one : HaveOneOutcome) (tune : TuneText) (terms : Terms) (header : Head
   came_by _ (no_way h s i spans scored way) none = (i, refl)
   came_by _ (too_tall t block laid tall) none = absurd (none t.breaking.breaks (laid_legal t laid))
 
-  came : (r : Result SetTune Fault) → IsResult tune terms r → ((breaks : List ℕ) → IsLegalIn score (width_of terms.paper) breaks → ⊥)
-      → (reached : ℕ) × (r ≡ Err (layout_fault tune (FaultKind.NoWay reached)))
+  came : (r : Result SetTune Fault) → IsResult tune terms r → ((breaks : List ℕ) → IsLegalIn score (width_of terms.paper) breaks → ⊥) → (reached : ℕ) × (r ≡ Err (layout_fault tune (FaultKind.NoWay reached)))
   came (Ok t) is none = absurd (none t.breaking.breaks (laid_legal t is.laid))
   came (Err f) is none = let by = came_by f is none in (by.0, ap Err by.1)
 

@@ -6,8 +6,7 @@ next_begins : (p s : Span) → IsNext p s → p.a ≤ s.a
 next_begins p s (inl h) = let l = h.0 in omega arith
 next_begins p s (inr h) = let e = h.0 in omega arith
 
-begin_in_order : (n : ℕ) (last : Option Span) (ss : List Span) → SpansFrom n last ss
-    → (k : ℕ) (d : Span) → suc k < length ss → (slice_index_or ss k d).a ≤ (slice_index_or ss (suc k) d).a
+begin_in_order : (n : ℕ) (last : Option Span) (ss : List Span) → SpansFrom n last ss → (k : ℕ) (d : Span) → suc k < length ss → (slice_index_or ss k d).a ≤ (slice_index_or ss (suc k) d).a
 begin_in_order n last (s ∷ t ∷ ss) h zero d l = next_begins s t h.1.0.follows
 begin_in_order n last (s ∷ t ∷ ss) h (suc k) d l = begin_in_order n (Some s) (t ∷ ss) h.1 k d (omega (arith, l))
 begin_in_order n last ss h k d l = absurd (omega (arith, l))
@@ -23,8 +22,7 @@ pub listed_is : (ss : List Span) (a b : ℕ) → option_map (λ s. s.badness) (f
 listed_is [] a b = refl
 listed_is (s ∷ ss) a b = at (listed_is ss a b) (has_ends a b s)
   where
-    at : option_map (λ s. s.badness) (find (has_ends a b) ss) ≡ listed ss a b
-        → (t : Bool) → option_map (λ s. s.badness) (if t then Some s else find (has_ends a b) ss) ≡ (if t then Some s.badness else listed ss a b)
+    at : option_map (λ s. s.badness) (find (has_ends a b) ss) ≡ listed ss a b → (t : Bool) → option_map (λ s. s.badness) (if t then Some s else find (has_ends a b) ss) ≡ (if t then Some s.badness else listed ss a b)
     at more true = refl
     at more false = more
 

@@ -31,8 +31,7 @@ few_lines bytes =
 
 module _ (terms : Terms) (all : List Reading) where
   -- the outcomes of the tunes that begin behind some lines, the first of which has a number past k
-  rise_behind : (before lines : List Reading) (k : ℕ) (os : List Outcome) → k + length lines < 2 ^ 32
-      → AreOutcomes terms (tunes_behind all (suc k) before lines) os → OrdinalsRise k os
+  rise_behind : (before lines : List Reading) (k : ℕ) (os : List Outcome) → k + length lines < 2 ^ 32 → AreOutcomes terms (tunes_behind all (suc k) before lines) os → OrdinalsRise k os
   rise_behind before [] k [] l h = tt
   rise_behind before [] k (o ∷ os) l h = absurd h
   rise_behind before (line ∷ more) k os l h =

@@ -1,8 +1,7 @@
 -- What comes of tunes can be listed, and its listing tells the tunes that are set.
 use Rattle.std.{proofs.{Common.{◌≡◌, ◌∙◌, sym, ℕ, ◌<◌, ◌≤◌, ◌^◌, Bool, true, List, [], ◌∷◌, Option, Some, None, Result, Ok, Err, arith, refl}, lemmas.List.Elements.{All-cons, All-nil}}, specs.List.{All, cons_option, slice_index_or}}
 use Rattle.{abc_lines.specs.declared.{book.TuneText.TuneText, fault.Fault.Fault}, abc_header.specs.Papers.{width_of}, mus_score.specs.declared.score.Score.{Score}}
-use Rattle.lay_breaks.specs.{declared.costs.Span.Span, Breaking.{IsLegal, IsPotential}, Spans.{AreSpans, listed}}
-use Rattle.lay_tune.{specs.{Spans.{AreSpansOf, is_forced_in}, Systems.IsSetSystem}, proofs.Rows.span_count}
+use Rattle.{lay_breaks.specs.{declared.costs.Span.Span, Breaking.{IsLegal, IsPotential}, Spans.{AreSpans, listed}}, lay_tune.{specs.{Spans.{AreSpansOf, is_forced_in}, Systems.IsSetSystem}, proofs.Rows.span_count}}
 use Rattle.{lay_cert.{specs.Listing.{EntriesFrom, IsEntry, none_forced}, proofs.Unforced.forced_by_spans}, set_tune.specs.{Terms.Terms, declared.tune.SetTune.SetTune, Setting.IsSetTune}}
 use Rattle.set_book.{proofs.Spanned.listed_within, specs.{declared.outcome.Outcome.Outcome, Outcomes.{AreOutcomes, IsResult}}}
 use Rattle.set_lists.specs.{Laws.{ListsTheSet, OrdinalsRise, OutcomesAreListable}, Listing.{CanBeListed, IsListable, entries_of, entry_of, result_entry}}
@@ -60,8 +59,7 @@ module _ (terms : Terms) where
 
   all_listable : (tunes : List TuneText) (os : List Outcome) → AreOutcomes terms tunes os → All (λ o. IsListable o.result) os
   all_listable [] [] h = All-nil (λ o. IsListable o.result)
-  all_listable (t ∷ ts) (o ∷ os) h =
-      All-cons (λ o. IsListable o.result) o os (is_listable t o.result h.0.result) (all_listable ts os h.1)
+  all_listable (t ∷ ts) (o ∷ os) h = All-cons (λ o. IsListable o.result) o os (is_listable t o.result h.0.result) (all_listable ts os h.1)
   all_listable ts os h = absurd h
 
   -- the entries of outcomes whose numbers rise past k have numbers past each j up to k
@@ -71,10 +69,8 @@ module _ (terms : Terms) where
       at o.result h.0.result (entries ts os o.ordinal o.ordinal h.1 rise.2 (omega arith))
       (entries ts os o.ordinal j h.1 rise.2 (let m = rise.0 in omega (arith, l, m)))
     where
-      at : (r : Result SetTune Fault) → IsResult t terms r → EntriesFrom o.ordinal (entries_of os) → EntriesFrom j (entries_of os)
-          → EntriesFrom j (cons_option (result_entry o.ordinal r) (entries_of os))
-      at (Ok tune) is further same =
-          (let m = rise.0 in omega (arith, l, m), is_entry t terms tune is o.ordinal rise.1, further)
+      at : (r : Result SetTune Fault) → IsResult t terms r → EntriesFrom o.ordinal (entries_of os) → EntriesFrom j (entries_of os) → EntriesFrom j (cons_option (result_entry o.ordinal r) (entries_of os))
+      at (Ok tune) is further same = (let m = rise.0 in omega (arith, l, m), is_entry t terms tune is o.ordinal rise.1, further)
       at (Err fault) is further same = same
   entries ts os k j h rise l = absurd h
 

@@ -1,8 +1,7 @@
 -- The laws of the listing of a book.
 use Rattle.std.specs.Prelude.{◌≡◌, ℕ, ◌<◌, ◌≤◌, ◌^◌, ◌↔◌, ⊤, All, List, [], ◌∷◌, length, Result, Ok, Err}
-use Rattle.abc_lines.specs.{declared.{book.TuneText.TuneText, fault.{Fault.Fault, FaultKind.FaultKind}}, Books.book_of}
-use Rattle.{abc_header.specs.{declared.{header.Header.Header, paper.Paper.Paper}, Papers.width_of}, mus_score.specs.declared.score.Score.{Score}}
-use Rattle.{lay_breaks.specs.{declared.costs.Span.Span, Breaking.IsLegal, Spans.{AreSpans, listed}}, lay_tune.specs.{Breakings.IsLegalIn, Spans.AreSpansOf}}
+use Rattle.{abc_lines.specs.{declared.{book.TuneText.TuneText, fault.{Fault.Fault, FaultKind.FaultKind}}, Books.book_of}, abc_header.specs.{declared.{header.Header.Header, paper.Paper.Paper}, Papers.width_of}}
+use Rattle.{mus_score.specs.declared.score.Score.{Score}, lay_breaks.specs.{declared.costs.Span.Span, Breaking.IsLegal, Spans.{AreSpans, listed}}, lay_tune.specs.{Breakings.IsLegalIn, Spans.AreSpansOf}}
 use Rattle.{lay_cert.specs.Listing.{IsListing, none_forced}, set_tune.specs.{Terms.Terms, declared.tune.SetTune.SetTune, Setting.{HasScore, layout_fault}}}
 use Rattle.{set_book.specs.{declared.outcome.Outcome.Outcome, Outcomes.{AreOutcomes, IsOutcome}}, set_lists.specs.Listing.{AreListable, entries_of, listing_text}}
 
@@ -21,8 +20,7 @@ OutcomesAreListable = (terms : Terms) (tunes : List TuneText) (outcomes : List O
 
 -- what is written of tunes whose numbers rise is a listing, and it tells the tunes without a fault
 abbrev pub ListsTheSet : Type 0
-ListsTheSet = (terms : Terms) (tunes : List TuneText) (outcomes : List Outcome)
-    → AreOutcomes terms tunes outcomes → OrdinalsRise 0 outcomes → IsListing (listing_text outcomes) (entries_of outcomes)
+ListsTheSet = (terms : Terms) (tunes : List TuneText) (outcomes : List Outcome) → AreOutcomes terms tunes outcomes → OrdinalsRise 0 outcomes → IsListing (listing_text outcomes) (entries_of outcomes)
 
 -- the breakings of a tune's entry, of which no bar is forced, are the legal breakings of its score
 abbrev pub BreakingsOfListing : Type 0
@@ -41,8 +39,7 @@ pub record ListsTheScores (paper : Paper) (text : List ℕ) (outcomes : List Out
 
 -- what is written of a book is such a listing
 abbrev pub ListsTheBook : Type 0
-ListsTheBook = (bytes : List ℕ) (terms : Terms) (outcomes : List Outcome) → length bytes ≤ 2 ^ 30
-    → AreOutcomes terms (book_of bytes).tunes outcomes → ListsTheScores terms.paper (listing_text outcomes) outcomes
+ListsTheBook = (bytes : List ℕ) (terms : Terms) (outcomes : List Outcome) → length bytes ≤ 2 ^ 30 → AreOutcomes terms (book_of bytes).tunes outcomes → ListsTheScores terms.paper (listing_text outcomes) outcomes
 
 -- the tune is told that it has no way: legal breakings of its first measures go up to some bar, and none to the last
 abbrev pub HasNoWay : TuneText → Outcome → Type 0
@@ -50,6 +47,5 @@ HasNoWay tune outcome = (reached : ℕ) × (outcome.result ≡ Err (layout_fault
 
 -- A tune that has a score is told that it has no way exactly where its score has no legal breaking on the width of the body.
 abbrev pub NoWayIsExact : Type 0
-NoWayIsExact = (tune : TuneText) (terms : Terms) (header : Header) (score : Score) (outcome : Outcome)
-    → HasScore tune terms.defaults terms.manner header score → IsOutcome terms tune outcome
+NoWayIsExact = (tune : TuneText) (terms : Terms) (header : Header) (score : Score) (outcome : Outcome) → HasScore tune terms.defaults terms.manner header score → IsOutcome terms tune outcome
     → HasNoWay tune outcome ↔ ((breaks : List ℕ) → IsLegalIn score (width_of terms.paper) breaks → ⊥)

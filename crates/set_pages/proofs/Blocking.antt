@@ -1,11 +1,9 @@
 -- What the blocks of outcomes draw is ready to be drawn wherever they lie on a page.
 use Rattle.std.{proofs.{Common.{◌≡◌, sym, subst, get_or, ℕ, ◌^◌, ◌<◌, ◌≤◌, ℤ, pos, ◌-ℤ◌, ◌≤ℤ◌, Bool, List, [], ◌∷◌, ◌++◌, length, Option, Some, None, arith}, lemmas.{Int.ints, List.Elements.{All-head, All-tail, All-weaker}}}, specs.{Prelude.{All, IfSome, Result, Ok, Err}, List.AllZip}}
-use Rattle.{abc_lines.specs.declared.fault.Fault.{Fault}, abc_header.specs.{declared.paper.Paper.Paper, Papers.{IsGoodPaper, width_of}}, mus_score.specs.declared.score.Score.{Score}}
-use Rattle.{mus_laid.specs.declared.laid.SystemMarks.{SystemMarks}, lay_springs.specs.declared.margin.Placed.{Placed}}
-use Rattle.{lay_pages.specs.declared.{stacking.Heights.Heights, titles.{TitleRow.TitleRow, TitleBlock.TitleBlock}}, lay_shown.{specs.Titles.IsGoodRow, proofs.TitleRows.rows_stand}}
-use Rattle.set_tune.{specs.{declared.tune.SetTune.SetTune, Blocks.{block_height, blocks_of, is_some_list, system_block, system_blocks, title_blocks}}, proofs.Laid.heard_moved}
-use Rattle.{set_book.specs.declared.outcome.Outcome.{Outcome}, set_staves.{specs.{Drawn.{IsBase, IsOnPage, IsTop}, Marks.{RisesAlong, x_at}}, proofs.Shown.x_read}}
-use Rattle.lay_tune.specs.Systems.{StandWithin, gaps_between}
+use Rattle.{abc_lines.specs.declared.fault.Fault.{Fault}, abc_header.specs.{declared.paper.Paper.Paper, Papers.{IsGoodPaper, width_of}}, mus_score.specs.declared.score.Score.{Score}, mus_laid.specs.declared.laid.SystemMarks.{SystemMarks}}
+use Rattle.{lay_springs.specs.declared.margin.Placed.{Placed}, lay_pages.specs.declared.{stacking.Heights.Heights, titles.{TitleRow.TitleRow, TitleBlock.TitleBlock}}, lay_shown.{specs.Titles.IsGoodRow, proofs.TitleRows.rows_stand}}
+use Rattle.{set_tune.{specs.{declared.tune.SetTune.SetTune, Blocks.{block_height, blocks_of, is_some_list, system_block, system_blocks, title_blocks}}, proofs.Laid.heard_moved}, set_book.specs.declared.outcome.Outcome.{Outcome}}
+use Rattle.{set_staves.{specs.{Drawn.{IsBase, IsOnPage, IsTop}, Marks.{RisesAlong, x_at}}, proofs.Shown.x_read}, lay_tune.specs.Systems.{StandWithin, gaps_between}}
 use Rattle.set_pages.{specs.{Drawings.{all_blocks, all_drawings, drawing, drawings_from, outcome_blocks, outcome_drawings, result_blocks, result_drawings, system, system_contents, title, title_contents}, Ready.{IsReadyOn, IsReadyRow}, Sheet.{IsSetResult, IsSetUnder}}, proofs.{Laying.{AreLaid, IsLaidSystem, paper_narrow, tune_laid}, Stacks.{IsBetween, stacked_lie}, Joined.zip_append}}
 
 -- the tune that a block begins has an ordinal

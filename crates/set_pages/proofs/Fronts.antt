@@ -1,7 +1,6 @@
 -- Pages that were given up are the first of the sheet, whatever is pressed behind them.
 use Rattle.std.{proofs.{Common.{◌≡◌, refl, sym, ap, ◌∙◌, subst, inl, inr, ℕ, zero, suc, ◌+◌, Bool, true, false, cond, List, [], ◌∷◌, ◌++◌, length, take}, Math.Seq.{take-append_seam, drop-append_seam}, lemmas.List.{append-nil, append_assoc, Elements.{All-take, All-drop}}}, specs.Prelude.{◌||◌, ◌⊎◌, nat_le, nat_lt, All}}
-use Rattle.abc_header.specs.{declared.paper.Paper.Paper, Papers.{height_of, width_of}}
-use Rattle.lay_pages.specs.{declared.filling.{Block.Block, Place.Place, Spot.Spot}, Filling.{group_height, next_place, place_by, spots_from, spots_of, under}}
+use Rattle.{abc_header.specs.{declared.paper.Paper.Paper, Papers.{height_of, width_of}}, lay_pages.specs.{declared.filling.{Block.Block, Place.Place, Spot.Spot}, Filling.{group_height, next_place, place_by, spots_from, spots_of, under}}}
 use Rattle.{ps_text.specs.declared.sheet.Page.{Page}, set_book.specs.declared.outcome.Outcome.{Outcome}}
 use Rattle.set_pages.{specs.{declared.{pages.Pages.Pages, plan.Plan.Plan, press.Press.Press}, Drawings.{Drawing, all_blocks, all_drawings, drawn}, Filling.{done_count, no_pages, restored, turned, with_drawing, with_drawings, with_items}, Press.{IsPressed, RisesBy, done_pages, next_spots}, Ready.{AreRising, AreRisingFrom, IsDrawn}, Sheet.{all_spots, pages_of, sheet_of}}, proofs.{Joined.{drawings_append, drawn_join, spots_append}, Turned.all_put, Zips.zip_length}}
 
@@ -49,8 +48,7 @@ none_front width (d ∷ ds) = record { rest = []; whole = refl }
 
 put_front : (width : ℕ) (ds : List Drawing) (ss : List Spot) → length ds ≡ length ss → AreRising ss → IsFront (with_drawings width no_pages ds ss).done (pages_of width ds ss)
 put_front width ds [] same rising = none_front width ds
-put_front width ds (s ∷ ss) same rising =
-    record { rest = record { items = (with_drawings width no_pages ds (s ∷ ss)).items } ∷ []; whole = sym (all_put width ds s ss same rising) }
+put_front width ds (s ∷ ss) same rising = record { rest = record { items = (with_drawings width no_pages ds (s ∷ ss)).items } ∷ []; whole = sym (all_put width ds s ss same rising) }
 
 rising_take_from : (n page : ℕ) (ss : List Spot) → AreRisingFrom page ss → AreRisingFrom page (take n ss)
 rising_take_from (suc n) page (s ∷ ss) rising = (rising.0, rising_take_from n s.page ss rising.1)
@@ -90,8 +88,7 @@ done_front plan paper first more given p pressed count =
     (put_front width (all_drawings all) (all_spots plan paper all) count (plan_rising plan paper all pressed.rises))
 
 -- the same of the sheet of these outcomes alone
-pub done_first : (plan : Plan) (paper : Paper) (outcomes : List Outcome) (given : List Page) (p : Press) → IsPressed plan paper outcomes given p
-    → IsFront (given ++ done_pages p) (sheet_of plan paper outcomes).pages
+pub done_first : (plan : Plan) (paper : Paper) (outcomes : List Outcome) (given : List Page) (p : Press) → IsPressed plan paper outcomes given p → IsFront (given ++ done_pages p) (sheet_of plan paper outcomes).pages
 unfolding sheet_of
 done_first plan paper outcomes given p pressed =
     let width = width_of paper in

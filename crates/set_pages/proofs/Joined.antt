@@ -6,10 +6,8 @@ use Rattle.{ps_text.specs.declared.sheet.Page.{Page}, set_book.specs.declared.ou
 use Rattle.set_pages.{specs.{Filling.{no_pages, restored, with_drawing, with_drawings}, Press.{IsPressed, behind_by, next_behind, next_spots}, Ready.IsDrawn, declared.{pages.Pages.Pages, plan.Plan.Plan, press.Press.Press}, Drawings.{Drawing, all_blocks, all_drawings, outcome_blocks, outcome_drawings}, Sheet.{IsSetUnder, all_spots}}, proofs.{Fitting.{group_append, result_loose}, Restored.{all_same, gone_all}, Standing.good_append}}
 
 -- the place of a block doesn't hang on what stands behind its group
-next_same : (high : ℕ) (place : Place) (block next : Block) (bs more : List Block) → IsLoose (next ∷ bs)
-    → next_place high place block (next ∷ bs ++ more) ≡ next_place high place block (next ∷ bs)
-next_same high place block next bs more loose =
-    ap (λ height. place_by (block.keep || nat_le (under place block + height) high) place.page (under place block)) (group_append next bs more loose)
+next_same : (high : ℕ) (place : Place) (block next : Block) (bs more : List Block) → IsLoose (next ∷ bs) → next_place high place block (next ∷ bs ++ more) ≡ next_place high place block (next ∷ bs)
+next_same high place block next bs more loose = ap (λ height. place_by (block.keep || nat_le (under place block + height) high) place.page (under place block)) (group_append next bs more loose)
 
 -- where blocks stand behind others
 from_append : (high : ℕ) (place : Place) (block : Block) (bs more : List Block) → IsLoose (block ∷ bs)
@@ -19,8 +17,7 @@ from_append high place block (next ∷ bs) more loose =
     ap (λ p. spot_at high place ∷ spots_from high p (next ∷ bs ++ more)) (next_same high place block next bs more loose)
     ∙ ap (λ spots. spot_at high place ∷ spots) (from_append high (next_place high place block (next ∷ bs)) next bs more loose)
 
-standing_append : (high : ℕ) (place : Place) (block : Block) (bs more : List Block) → IsLoose (block ∷ bs)
-    → standing_from high place (block ∷ bs ++ more) ≡ behind_after high (standing_from high place (block ∷ bs)) more
+standing_append : (high : ℕ) (place : Place) (block : Block) (bs more : List Block) → IsLoose (block ∷ bs) → standing_from high place (block ∷ bs ++ more) ≡ behind_after high (standing_from high place (block ∷ bs)) more
 standing_append high place block [] [] loose = refl
 standing_append high place block [] (b ∷ more) loose = refl
 standing_append high place block (next ∷ bs) more loose =
@@ -101,8 +98,7 @@ pressed_more plan paper outcomes more given p q spots pressed set at pages behin
           ∙ ap (λ ds. with_drawings (width_of paper) no_pages ds (all_spots plan paper outcomes ++ spots)) (sym (drawings_append outcomes more))
           ∙ ap (λ ss. with_drawings (width_of paper) no_pages (all_drawings (outcomes ++ more)) ss) (sym joined);
       behind = behind_append plan paper outcomes more p q.behind pressed.behind behind;
-      put =
-          put ∙ ap (λ n. n + length (all_blocks more)) pressed.put ∙ sym (length-append (all_blocks outcomes) (all_blocks more)) ∙ ap length (sym (blocks_append outcomes more));
+      put = put ∙ ap (λ n. n + length (all_blocks more)) pressed.put ∙ sym (length-append (all_blocks outcomes) (all_blocks more)) ∙ ap length (sym (blocks_append outcomes more));
       drawn =
           subst (λ ds. AllZip (IsDrawn (width_of paper)) ds (all_spots plan paper (outcomes ++ more))) (sym (drawings_append outcomes more))
           (subst (AllZip (IsDrawn (width_of paper)) (all_drawings outcomes ++ all_drawings more)) (sym joined)

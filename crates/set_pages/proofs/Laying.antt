@@ -1,11 +1,10 @@
 -- The systems of a tune that is laid out on a paper: each can be shown, its columns stand within the width, its boxes stay apart and
 -- its staves stand under one another.
 use Rattle.std.{proofs.Common.{ℕ, ◌*◌, ◌+◌, ◌-◌, ◌/◌, ◌^◌, ◌<◌, ◌≤◌, List, [], ◌∷◌, length, arith}, specs.Prelude.{⊤, All}}
-use Rattle.{abc_header.specs.{declared.paper.Paper.Paper, Papers.{IsGoodPaper, width_of}}, mus_score.specs.{declared.score.Score.Score, GoodScore.IsGoodScore}}
-use Rattle.{mus_laid.specs.declared.laid.SystemMarks.{SystemMarks}, lay_springs.specs.declared.margin.Placed.{Placed}, lay_breaks.specs.Breaking.{RisesFrom, last_from}}
-use Rattle.{lay_pages.specs.{declared.stacking.Heights.Heights, Stacking.AreGoodStaves}, lay_tune.{specs.Systems.{Beside, EachSpan, IsSetSystem, IsStack, StandWithin}, proofs.Open.past_last}}
-use Rattle.{lay_shown.{specs.Shown.IsShown, proofs.{Alike.alike_shown, Laws.call_shown}}, lay_apart.{specs.Apart.AreApart, proofs.Laws.{boxes_apart, columns_stand}}}
-use Rattle.{set_tune.specs.{declared.tune.SetTune.SetTune, Setting.IsLaidOut}, set_pages.proofs.Stacks.{tilted_good}}
+use Rattle.{abc_header.specs.{declared.paper.Paper.Paper, Papers.{IsGoodPaper, width_of}}, mus_score.specs.{declared.score.Score.Score, GoodScore.IsGoodScore}, mus_laid.specs.declared.laid.SystemMarks.{SystemMarks}}
+use Rattle.{lay_springs.specs.declared.margin.Placed.{Placed}, lay_breaks.specs.Breaking.{RisesFrom, last_from}, lay_pages.specs.{declared.stacking.Heights.Heights, Stacking.AreGoodStaves}}
+use Rattle.{lay_tune.{specs.Systems.{Beside, EachSpan, IsSetSystem, IsStack, StandWithin}, proofs.Open.past_last}, lay_shown.{specs.Shown.IsShown, proofs.{Alike.alike_shown, Laws.call_shown}}}
+use Rattle.{lay_apart.{specs.Apart.AreApart, proofs.Laws.{boxes_apart, columns_stand}}, set_tune.specs.{declared.tune.SetTune.SetTune, Setting.IsLaidOut}, set_pages.proofs.Stacks.{tilted_good}}
 
 -- a system that is laid out
 pub record IsLaidSystem (s : Score) (width : ℕ) (m : SystemMarks) (p : Placed) (h : Heights) : Type 0 where
@@ -53,8 +52,7 @@ paper_narrow paper good =
     let wide = good.small_wide in
     quotient_narrow ((paper.wide - (paper.left + paper.right)) * 100) paper.scale (omega arith) good.low_scale
 
-pub tune_laid : (width : ℕ) (t : SetTune) → IsGoodScore t.score → (0 < t.score.measures → 1 ≤ length t.score.voices) → width < 2 ^ 20 → IsLaidOut width t
-    → AreLaid t.score width t.systems t.placed t.heights
+pub tune_laid : (width : ℕ) (t : SetTune) → IsGoodScore t.score → (0 < t.score.measures → 1 ≤ length t.score.voices) → width < 2 ^ 20 → IsLaidOut width t → AreLaid t.score width t.systems t.placed t.heights
 tune_laid width t good heard narrow laid =
     let legal = laid.chosen.legal in
     let within : last_from 0 t.breaking.breaks ≤ t.score.measures = omega (arith, legal.ends) in

@@ -1,9 +1,8 @@
 -- The items of each page are good and in order: a title stands only in the block that begins a tune.
 use Rattle.std.{proofs.{Common.{ℕ, zero, suc, ℤ, Bool, true, false, cond, List, [], ◌∷◌, ◌++◌, map, Option, Some, None}, lemmas.List.Elements.{All-append, All-cons, All-nil}}, specs.{Prelude.{◌==◌, ⊤, All, Result, Ok, Err}, List.AllZip}}
-use Rattle.{abc_lines.specs.declared.fault.Fault.{Fault}, lay_springs.specs.declared.margin.Placed.{Placed}}
-use Rattle.{lay_pages.specs.declared.{filling.Spot.Spot, stacking.Heights.Heights, titles.TitleRow.TitleRow}, mus_laid.specs.declared.laid.SystemMarks.{SystemMarks}}
-use Rattle.{ps_text.specs.{declared.sheet.Item.Item, Range.{InOrder, IsAfter, IsItem, IsPage}}, set_tune.specs.declared.tune.SetTune.{SetTune}, set_book.specs.declared.outcome.Outcome.{Outcome}}
-use Rattle.set_staves.specs.Marks.{system_at}
+use Rattle.{abc_lines.specs.declared.fault.Fault.{Fault}, lay_springs.specs.declared.margin.Placed.{Placed}, lay_pages.specs.declared.{filling.Spot.Spot, stacking.Heights.Heights, titles.TitleRow.TitleRow}}
+use Rattle.{mus_laid.specs.declared.laid.SystemMarks.{SystemMarks}, ps_text.specs.{declared.sheet.Item.Item, Range.{InOrder, IsAfter, IsItem, IsPage}}, set_tune.specs.declared.tune.SetTune.{SetTune}}
+use Rattle.{set_book.specs.declared.outcome.Outcome.{Outcome}, set_staves.specs.Marks.{system_at}}
 use Rattle.set_pages.specs.{Drawings.{Content, Drawing, title, system, all_drawings, content_items, drawings_from, drawn, outcome_drawings, result_drawings, row_at, system_contents, systems_of, title_contents, tune_items}, Ready.IsDrawn, Sheet.{items_on, pages_from}}
 
 -- each may stand behind any item
@@ -73,8 +72,7 @@ if_good true xs ys front back = All-append IsItem xs ys front back
 if_good false xs ys front back = back
 
 items_good : (width page : ℕ) (ds : List Drawing) (ss : List Spot) → AllZip (IsDrawn width) ds ss → All IsItem (items_on width page ds ss)
-items_good width page (d ∷ ds) (s ∷ ss) good =
-    if_good (s.page == page) (drawn width s.top d) (items_on width page ds ss) good.0 (items_good width page ds ss good.1)
+items_good width page (d ∷ ds) (s ∷ ss) good = if_good (s.page == page) (drawn width s.top d) (items_on width page ds ss) good.0 (items_good width page ds ss good.1)
 items_good width page ds ss good = All-nil IsItem
 
 pub pages_good : (width : ℕ) (ds : List Drawing) (ss : List Spot) (k n : ℕ) → AllZip (IsDrawn width) ds ss → AreBegun ds → All IsPage (pages_from width ds ss k n)

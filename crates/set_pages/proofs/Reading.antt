@@ -2,9 +2,8 @@
 use Rattle.std.{proofs.{Common.{◌≡◌, refl, sym, ap, ap₂, ◌∙◌, subst, ℕ, ◌+◌, ◌≤◌, ℤ, pos, ◌+ℤ◌, ◌-ℤ◌, ◌≤ℤ◌, Bool, true, false, cond, List, [], ◌∷◌, ◌++◌, length, take, drop, map, flat_map, Some, None, arith}, lemmas.{Int.ints, List.{append-nil, append_assoc, Elements.{All-cons, All-head, All-nil, All-tail}}}}, specs.{Prelude.{All, Result, Ok, Err, nat_lt}, List.AllZip}}
 use Rattle.{abc_lines.specs.declared.fault.Fault.{Fault}, abc_header.specs.{declared.paper.Paper.Paper, Papers.{IsGoodPaper, height_of, width_of}}, mus_score.specs.declared.score.Score.{Score}}
 use Rattle.{mus_laid.specs.declared.laid.{StaffMarks.StaffMarks, SystemMarks.SystemMarks}, lay_springs.specs.declared.margin.Placed.{Placed}}
-use Rattle.lay_pages.specs.{declared.{filling.{Block.Block, Spot.Spot}, stacking.Heights.Heights, titles.TitleRow.TitleRow}, Filling.AreWithin}
-use Rattle.{lay_shown.specs.Ranks.{AreAnchored, AreRanked, staves_ranks}, lay_tune.specs.Systems.{EachSpan, IsSetSystem, gaps_between}}
-use Rattle.{ps_text.specs.declared.sheet.{Item.Item, Page.Page, Staff.Staff}, set_tune.specs.{declared.tune.SetTune.SetTune, Blocks.{blocks_of, system_blocks, title_blocks}}}
+use Rattle.{lay_pages.specs.{declared.{filling.{Block.Block, Spot.Spot}, stacking.Heights.Heights, titles.TitleRow.TitleRow}, Filling.AreWithin}, lay_shown.specs.Ranks.{AreAnchored, AreRanked, staves_ranks}}
+use Rattle.{lay_tune.specs.Systems.{EachSpan, IsSetSystem, gaps_between}, ps_text.specs.declared.sheet.{Item.Item, Page.Page, Staff.Staff}, set_tune.specs.{declared.tune.SetTune.SetTune, Blocks.{blocks_of, system_blocks, title_blocks}}}
 use Rattle.{set_book.specs.declared.outcome.Outcome.{Outcome}, set_staves.{specs.Marks.{staves_at, system_at}, proofs.Shown.{has_columns, shows_call}}}
 use Rattle.set_pages.{specs.{declared.pages.Pages.Pages, Drawings.{Drawing, all_blocks, all_drawings, drawings_from, drawn, outcome_blocks, outcome_drawings, result_blocks, result_drawings, row_at, system_contents, title_contents}, Filling.{no_pages, turned, with_drawing, with_drawings, with_items}, Clear.AreUnder, Read.{ShowSystems, ShowsOutcome, ShowsResult, ShowsRow, ShowsSystem, ShowsTune, begun, items_in}, Ready.AreRising, Sheet.{IsSetResult, IsSetUnder, pages_of}}, proofs.{Blocking.{columns_rise, result_laid}, Laying.{AreLaid, IsLaidSystem}, Readying.result_whole, Stacks.stacked_lie, Standing.result_count, Turned.{all_put, closed}}}
 
@@ -19,8 +18,7 @@ last_items (p ∷ pages) items = ap (λ l. p.items ++ l) (last_items pages items
 
 more_items : (p : Pages) (b : Bool) (more : List Item) → items_in (closed (with_items (cond b (turned p) p) more)) ≡ items_in (closed p) ++ more
 more_items p true more = last_items (closed p) more
-more_items p false more =
-    last_items p.done (p.items ++ more) ∙ sym (append_assoc (items_in p.done) p.items more) ∙ ap (λ l. l ++ more) (sym (last_items p.done p.items))
+more_items p false more = last_items p.done (p.items ++ more) ∙ sym (append_assoc (items_in p.done) p.items more) ∙ ap (λ l. l ++ more) (sym (last_items p.done p.items))
 
 put_items : (width : ℕ) (p : Pages) (ds : List Drawing) (ss : List Spot) → items_in (closed (with_drawings width p ds ss)) ≡ items_in (closed p) ++ items_at width ds ss
 put_items width p [] ss = sym (append-nil (items_in (closed p)))
@@ -119,8 +117,7 @@ shows_tune paper ordinal t (row ∷ rows) height keep (spot ∷ spots) some set 
 shows_result : (paper : Paper) (ordinal : ℕ) (r : Result SetTune Fault) (spots : List Spot) → IsGoodPaper paper → IsSetResult paper r → AreWithin (height_of paper) (result_blocks r) spots
     → ShowsResult paper ordinal r (items_at (width_of paper) (result_drawings ordinal r) spots)
 unfolding blocks_of
-shows_result paper ordinal (Ok t) spots good set within =
-    shows_tune paper ordinal t t.title.rows t.title.height _ spots refl set.3.laid.layout.systems (result_laid paper t good set) within
+shows_result paper ordinal (Ok t) spots good set within = shows_tune paper ordinal t t.title.rows t.title.height _ spots refl set.3.laid.layout.systems (result_laid paper t good set) within
 shows_result paper ordinal (Err fault) spots good set within = refl
 
 -- ---- all tunes, each with its part of the items

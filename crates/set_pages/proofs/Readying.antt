@@ -1,10 +1,8 @@
 -- What is set on a paper: a placement and good heights for each system of a tune, and no group that is higher than the page.
 use Rattle.std.{proofs.{Common.{◌≡◌, ◌∙◌, refl, sym, subst, ℕ, suc, ◌≤◌, Bool, true, false, if◌then◌else◌, List, [], ◌∷◌, length, None, arith}, lemmas.List.Elements.{All-cons, All-head, All-nil, All-tail, All-weaker}}, specs.Prelude.{All, Result, Ok, Err}}
 use Rattle.abc_lines.specs.{declared.{book.TuneText.TuneText, fault.Fault.Fault, reading.Reading.Reading}, Books.{begins_tune, book_of, tune_at, tunes_behind}, Lines.{readings, without_mark}}
-use Rattle.{abc_header.specs.{declared.paper.Paper.Paper, Papers.{height_of, width_of}}, lay_pages.specs.Filling.{first_tall}}
-use Rattle.lay_tune.{specs.Systems.{IsSetSystem, IsStack}, proofs.Rows.{beside_count, span_count}}
-use Rattle.set_tune.{specs.{Terms.Terms, declared.tune.SetTune.SetTune, Setting.IsLaidOut}, proofs.Laid.good_heights}
-use Rattle.set_book.specs.{declared.outcome.Outcome.Outcome, Outcomes.{AreOutcomes, IsOutcome, IsResult}}
+use Rattle.{abc_header.specs.{declared.paper.Paper.Paper, Papers.{height_of, width_of}}, lay_pages.specs.Filling.{first_tall}, lay_tune.{specs.Systems.{IsSetSystem, IsStack}, proofs.Rows.{beside_count, span_count}}}
+use Rattle.{set_tune.{specs.{Terms.Terms, declared.tune.SetTune.SetTune, Setting.IsLaidOut}, proofs.Laid.good_heights}, set_book.specs.{declared.outcome.Outcome.Outcome, Outcomes.{AreOutcomes, IsOutcome, IsResult}}}
 use Rattle.set_pages.{specs.{Drawings.result_blocks, Ready.{HasAllRows, IsWhole, IsWholeResult}, Sheet.{IsSetResult, IsSetUnder}}, proofs.Fitting.AllFit}
 
 -- the systems of a tune
@@ -28,8 +26,7 @@ result_fits paper (Err fault) h = refl
 
 pub each_fits : (paper : Paper) (outcomes : List Outcome) → All (IsSetUnder paper) outcomes → AllFit (height_of paper) outcomes
 each_fits paper [] h = tt
-each_fits paper (o ∷ outcomes) h =
-    (result_fits paper o.result (All-head (IsSetUnder paper) o outcomes h).result, each_fits paper outcomes (All-tail (IsSetUnder paper) o outcomes h))
+each_fits paper (o ∷ outcomes) h = (result_fits paper o.result (All-head (IsSetUnder paper) o outcomes h).result, each_fits paper outcomes (All-tail (IsSetUnder paper) o outcomes h))
 
 -- the outcomes of tunes are set on their paper, or have a fault
 result_set : (terms : Terms) (tune : TuneText) (r : Result SetTune Fault) → IsResult tune terms r → IsSetResult terms.paper r
@@ -39,8 +36,7 @@ result_set terms tune (Err fault) h = tt
 outcome_set : (terms : Terms) (tune : TuneText) (o : Outcome) → 1 ≤ tune.ordinal → IsOutcome terms tune o → IsSetUnder terms.paper o
 outcome_set terms tune o some h = record { result = result_set terms tune o.result h.result; ordinal = subst (λ n. 1 ≤ n) (sym h.ordinal) some }
 
-pub set_outcomes : (terms : Terms) (tunes : List TuneText) (outcomes : List Outcome) → All (λ tune. 1 ≤ tune.ordinal) tunes
-    → AreOutcomes terms tunes outcomes → All (IsSetUnder terms.paper) outcomes
+pub set_outcomes : (terms : Terms) (tunes : List TuneText) (outcomes : List Outcome) → All (λ tune. 1 ≤ tune.ordinal) tunes → AreOutcomes terms tunes outcomes → All (IsSetUnder terms.paper) outcomes
 set_outcomes terms [] [] some h = All-nil (IsSetUnder terms.paper)
 set_outcomes terms (tune ∷ tunes) (o ∷ outcomes) some h =
     All-cons (IsSetUnder terms.paper) o outcomes (outcome_set terms tune o (All-head (λ t. 1 ≤ t.ordinal) tune tunes some) h.0)
@@ -53,8 +49,7 @@ tunes_counted all ordinal before [] some = All-nil (λ tune. 1 ≤ tune.ordinal)
 tunes_counted all ordinal before (line ∷ more) some =
     by (begins_tune line) (tunes_counted all (suc ordinal) (line ∷ before) more (omega arith)) (tunes_counted all ordinal (line ∷ before) more some)
   where
-    by : (b : Bool) → All (λ tune. 1 ≤ tune.ordinal) (tunes_behind all (suc ordinal) (line ∷ before) more) → All (λ tune. 1 ≤ tune.ordinal) (tunes_behind all ordinal (line ∷ before) more)
-        → All (λ tune. 1 ≤ tune.ordinal)
+    by : (b : Bool) → All (λ tune. 1 ≤ tune.ordinal) (tunes_behind all (suc ordinal) (line ∷ before) more) → All (λ tune. 1 ≤ tune.ordinal) (tunes_behind all ordinal (line ∷ before) more) → All (λ tune. 1 ≤ tune.ordinal)
         (if b then tune_at all ordinal (suc (length before)) ∷ tunes_behind all (suc ordinal) (line ∷ before) more else tunes_behind all ordinal (line ∷ before) more)
     by true begun other = All-cons (λ (tune : TuneText). 1 ≤ tune.ordinal) (tune_at all ordinal (suc (length before))) _ some begun
     by false begun other = other

@@ -12,8 +12,7 @@ turned_same given p true = ap (λ done. record { gone = 0; done = done; items = 
 turned_same given p false = refl
 
 at_same : (given : List Page) (page : ℕ) (p : Pages) → p.gone ≡ length given → restored given (at_page page p) ≡ at_page page (restored given p)
-at_same given page p gone =
-    turned_same given p (nat_lt (done_count p) page) ∙ ap (λ n. cond (nat_lt n page) (turned (restored given p)) (restored given p)) (sym (count_same given p gone))
+at_same given page p gone = turned_same given p (nat_lt (done_count p) page) ∙ ap (λ n. cond (nat_lt n page) (turned (restored given p)) (restored given p)) (sym (count_same given p gone))
 
 -- how many were given up stays
 gone_by : (p : Pages) (b : Bool) → (cond b (turned p) p).gone ≡ p.gone

@@ -2,8 +2,7 @@
 use Rattle.std.{proofs.{Common.{◌≡◌, refl, ap, ◌∙◌, inl, inr, ℕ, suc, ◌+◌, ◌^◌, ◌≤◌, ℤ, pos, ◌-ℤ◌, ◌≤ℤ◌, Bool, List, [], ◌∷◌, ◌++◌, length, Option, Some, None, arith}, lemmas.{Int.ints, List.{length-append, Elements.{All-head, All-tail}}}}, specs.{Prelude.{◌⊎◌, All, Result, Ok, Err}, List.AllZip}}
 use Rattle.{abc_lines.specs.declared.fault.Fault.{Fault}, mus_laid.specs.declared.laid.SystemMarks.{SystemMarks}, lay_springs.specs.declared.margin.Placed.{Placed}}
 use Rattle.lay_pages.specs.{declared.{filling.{Block.Block, Spot.Spot}, stacking.Heights.Heights, titles.TitleRow.TitleRow}, Even.{AreStacked, ComeBehind, ComesBehind, same_page, next_page}, Filling.{AreGoodBlocks, AreWithin}}
-use Rattle.{set_tune.specs.{declared.tune.SetTune.SetTune, Blocks.{blocks_of, is_some_list, system_blocks, title_blocks}}, set_book.specs.declared.outcome.Outcome.{Outcome}}
-use Rattle.set_staves.specs.Drawn.{IsTop}
+use Rattle.{set_tune.specs.{declared.tune.SetTune.SetTune, Blocks.{blocks_of, is_some_list, system_blocks, title_blocks}}, set_book.specs.declared.outcome.Outcome.{Outcome}, set_staves.specs.Drawn.{IsTop}}
 use Rattle.set_pages.specs.{Drawings.{Content, Drawing, all_blocks, all_drawings, drawings_from, result_blocks, result_drawings, system_contents, systems_of, title_contents}, Ready.{AreRising, AreRisingFrom, HasAllRows, IsReady, IsReadyOn, IsWhole, IsWholeResult}}
 
 -- pages rise by one at most
@@ -74,8 +73,7 @@ all_count (o ∷ outcomes) whole =
     simp length-append (omega arith)
 
 -- drawings that are ready wherever their blocks lie on a page are ready at their spots
-ready_here : (high : ℕ) (d : Drawing) (block : Block) (spot : Spot) → high ≤ 2 ^ 39 → pos 0 ≤ℤ block.height → spot.top ≤ℤ pos high → pos 0 ≤ℤ (spot.top -ℤ block.height)
-    → IsReadyOn d block → IsReady d spot
+ready_here : (high : ℕ) (d : Drawing) (block : Block) (spot : Spot) → high ≤ 2 ^ 39 → pos 0 ≤ℤ block.height → spot.top ≤ℤ pos high → pos 0 ≤ℤ (spot.top -ℤ block.height) → IsReadyOn d block → IsReady d spot
 ready_here high d block spot small good below above on = on spot.top (top_within high block.height spot.top good below above small) above
 
 pub ready_at : (high : ℕ) (ds : List Drawing) (blocks : List Block) (spots : List Spot) → high ≤ 2 ^ 39 → AreGoodBlocks blocks → AllZip IsReadyOn ds blocks → AreWithin high blocks spots → AllZip IsReady ds spots

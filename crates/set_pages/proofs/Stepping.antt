@@ -1,8 +1,7 @@
 -- One system more of a tune, and one outcome more of a book.
 use Rattle.std.{proofs.{Common.{◌≡◌, sym, ap, ◌∙◌, subst, ℕ, ◌+◌, ◌<◌, ◌≤◌, ℤ, map, List, [], ◌∷◌, ◌++◌, length, take, drop, get_or, Option, None, arith}, lemmas.List.{append_assoc, drop_more, length-drop, take_all, Elements.{All-map, All-more}, length-append}}, specs.{Prelude.{All, slice_index_or}, List.AllZip}}
-use Rattle.{mus_laid.specs.declared.laid.SystemMarks.{SystemMarks}, lay_springs.specs.declared.margin.Placed.{Placed}}
-use Rattle.{lay_pages.specs.declared.{filling.{Spot.Spot, Block.Block}, stacking.Heights.Heights, titles.TitleRow.TitleRow}, ps_text.specs.{declared.sheet.Item.Item, Range.IsItem}}
-use Rattle.set_book.specs.declared.outcome.Outcome.{Outcome}
+use Rattle.{mus_laid.specs.declared.laid.SystemMarks.{SystemMarks}, lay_springs.specs.declared.margin.Placed.{Placed}, lay_pages.specs.declared.{filling.{Spot.Spot, Block.Block}, stacking.Heights.Heights, titles.TitleRow.TitleRow}}
+use Rattle.{ps_text.specs.{declared.sheet.Item.Item, Range.IsItem}, set_book.specs.declared.outcome.Outcome.{Outcome}}
 use Rattle.set_pages.{specs.{declared.pages.Pages.Pages, Drawings.{all_blocks, all_drawings, drawing, drawings_from, outcome_blocks, outcome_drawings, row_at, system, system_contents}, Filling.with_drawings, Ready.{IsDrawn, IsReady, IsReadyAt}}, proofs.{Turned.with_more, Standing.{drawings_count, systems_count}, Zips.{zip_back, zip_front, zip_joined, zip_length}}}
 
 pub cut_at : {X : Type 0} (xs : List X) (i : ℕ) (x : X) → i < length xs → x ≡ get_or xs i x → drop i xs ≡ x ∷ drop (i + 1) xs
@@ -43,8 +42,7 @@ outcome_ready o os left rest here more e split ready =
     )
 
 pub outcome_value : (width : ℕ) (o : Outcome) (os left : List Outcome) (rest here more : List Spot) (old new whole : Pages) → left ≡ o ∷ os → IsSplit (length (outcome_drawings o)) rest here more
-    → AllZip IsReady (all_drawings left) rest → new ≡ with_drawings width old (outcome_drawings o) here
-    → with_drawings width old (all_drawings left) rest ≡ whole → with_drawings width new (all_drawings os) more ≡ whole
+    → AllZip IsReady (all_drawings left) rest → new ≡ with_drawings width old (outcome_drawings o) here → with_drawings width old (all_drawings left) rest ≡ whole → with_drawings width new (all_drawings os) more ≡ whole
 outcome_value width o os left rest here more old new whole e split ready put so_far =
     let r : AllZip IsReady (outcome_drawings o ++ all_drawings os) rest = subst (λ l. AllZip IsReady (all_drawings l) rest) e ready in
     let w : with_drawings width old (outcome_drawings o ++ all_drawings os) rest ≡ whole = subst (λ l. with_drawings width old (all_drawings l) rest ≡ whole) e so_far in

@@ -62,8 +62,7 @@ standing_by true paper outcomes (Plan.At spots) set good is = record {
 
 -- a spot for each thing that is drawn
 pub stand_count : (plan : Plan) (paper : Paper) (outcomes : List Outcome) → All (IsSetUnder paper) outcomes → AreStanding plan paper outcomes → length (all_drawings outcomes) ≡ length (all_spots plan paper outcomes)
-stand_count plan paper outcomes set stand =
-    all_count outcomes (all_whole paper outcomes set) ∙ sym (within_count (height_of paper) (all_blocks outcomes) (all_spots plan paper outcomes) stand.within)
+stand_count plan paper outcomes set stand = all_count outcomes (all_whole paper outcomes set) ∙ sym (within_count (height_of paper) (all_blocks outcomes) (all_spots plan paper outcomes) stand.within)
 
 -- the sheet of a book shows its tunes
 book_shown : (plan : Plan) (paper : Paper) (outcomes : List Outcome) → IsGoodPaper paper → All (IsSetUnder paper) outcomes → AreStanding plan paper outcomes → ShowsBook paper outcomes (sheet_of plan paper outcomes)
@@ -123,8 +122,7 @@ room_by true paper first more rest (Plan.At spots) p put is =
 
 -- no group of blocks is too tall
 pub even_fits : (paper : Paper) (high : ℕ) (blocks : List Block) (block : ℕ) → high ≡ height_of paper → AreBlocksOn paper blocks → first_tall high blocks ≡ Some block → ⊥
-even_fits paper high blocks block h on tall =
-    absurd (none-some block (sym (fits_at paper on.outcomes high blocks (all_blocks on.outcomes) h on.value refl on.set) ∙ tall))
+even_fits paper high blocks block h on tall = absurd (none-some block (sym (fits_at paper on.outcomes high blocks (all_blocks on.outcomes) h on.value refl on.set) ∙ tall))
 
 -- the pages when all is put: where a block was, its page is turned
 abbrev pub done_of : Bool → Pages → List Page
@@ -146,8 +144,7 @@ some_by n (s ∷ ss) e = grind (arith, nat_tests)
 all_done : (width : ℕ) (ds : List Drawing) (ss : List Spot) (some : Bool) (p : Pages) → AllZip (IsDrawn width) ds ss → AreRising ss → p ≡ with_drawings width no_pages ds ss → some ≡ are_some ss
     → done_of some p ≡ pages_of width ds ss
 all_done width ds [] some p drawn rise pages is = ap (λ b. done_of b p) is ∙ ap (λ (q : Pages). q.done) pages ∙ none_put width ds
-all_done width ds (s ∷ ss) some p drawn rise pages is =
-    ap (λ b. done_of b p) is ∙ ap closed pages ∙ all_put width ds s ss (zip_length (IsDrawn width) ds (s ∷ ss) drawn) rise
+all_done width ds (s ∷ ss) some p drawn rise pages is = ap (λ b. done_of b p) is ∙ ap closed pages ∙ all_put width ds s ss (zip_length (IsDrawn width) ds (s ∷ ss) drawn) rise
 
 -- with the pages that were given up before them
 done_behind : (given : List Page) (some : Bool) (p : Pages) → given ++ done_of some p ≡ done_of some (restored given p)
@@ -233,8 +230,7 @@ pages_of_sheet plan paper outcomes frame pages f p = ap (λ x. record { frame = 
 -- the sheet of what was pressed where no page was given up
 pub sheet_pressed : (plan : Plan) (paper : Paper) (outcomes : List Outcome) (frame : Frame) (pages : List Page) → frame ≡ frame_of paper → AreLast plan paper outcomes [] pages
     → IsSheetOf plan paper outcomes (record { frame = frame; pages = pages })
-sheet_pressed plan paper outcomes frame pages f last =
-    subst (λ sheet. IsSheetOf plan paper outcomes sheet) (sym (pages_of_sheet plan paper outcomes frame pages f last.whole)) last.sheet
+sheet_pressed plan paper outcomes frame pages f last = subst (λ sheet. IsSheetOf plan paper outcomes sheet) (sym (pages_of_sheet plan paper outcomes frame pages f last.whole)) last.sheet
 
 -- the pages that are done may be written
 pub done_good : (plan : Plan) (paper : Paper) (outcomes : List Outcome) (given : List Page) (p : Press) → IsPressed plan paper outcomes given p → All IsPage (done_pages p)
@@ -267,8 +263,7 @@ none_open = record { behind = tt; few = omega arith }
 
 -- the sheet of a book, whose outcomes are pressed at once
 pub room_alone : (even : Bool) (paper : Paper) (outcomes : List Outcome) (plan : Plan) (p : Press) → p ≡ no_press → IsPlan even paper outcomes plan → HasRoom plan (height_of paper) p (all_blocks outcomes)
-room_alone even paper outcomes plan p is planned =
-    room_by even paper [] outcomes [] plan p (ap (λ (q : Press). q.put) is) (subst (λ os. IsPlan even paper os plan) (sym (append-nil outcomes)) planned)
+room_alone even paper outcomes plan p is planned = room_by even paper [] outcomes [] plan p (ap (λ (q : Press). q.put) is) (subst (λ os. IsPlan even paper os plan) (sym (append-nil outcomes)) planned)
 
 pub book_sheet : (even : Bool) (paper : Paper) (outcomes : List Outcome) (plan : Plan) (sheet : Sheet) (p : Press) → IsGoodPaper paper → IsPlan even paper outcomes plan → IsPressed plan paper outcomes [] p
     → IsSheetOf plan paper outcomes sheet → IsBookSheet even paper outcomes sheet

@@ -12,6 +12,5 @@ pub record LieBetween (low high : ℤ) (base : ℤ) (s : StaffMarks) : Type 0 wh
 abbrev pub AreUnder : ℤ → List ℕ → List StaffMarks → List ℤ → Type 0
 AreUnder high [] [] bases = ⊤
 AreUnder high [] (s ∷ []) (b ∷ []) = LieBetween (pos 0) high b s
-AreUnder high (gap ∷ gaps) (s ∷ next ∷ staves) (b ∷ bases) =
-    LieBetween (pos 0) high b s × AreUnder ((b +ℤ s.low) -ℤ pos gap) gaps (next ∷ staves) bases
+AreUnder high (gap ∷ gaps) (s ∷ next ∷ staves) (b ∷ bases) = LieBetween (pos 0) high b s × AreUnder ((b +ℤ s.low) -ℤ pos gap) gaps (next ∷ staves) bases
 AreUnder high _ _ _ = ⊥

@@ -24,8 +24,7 @@ pub record ShowsSystem (paper : Paper) (gaps : List ℕ) (a b : ℕ) (m : System
 -- For each span of a breaking, the first of which begins at bar a, one system.
 abbrev pub ShowSystems : Paper → List ℕ → ℕ → List ℕ → List SystemMarks → List Placed → List Item → Type 0
 ShowSystems paper gaps a [] [] [] [] = ⊤
-ShowSystems paper gaps a (b ∷ breaks) (m ∷ systems) (p ∷ placed) (item ∷ items) =
-    ShowsSystem paper gaps a b m p item × ShowSystems paper gaps b breaks systems placed items
+ShowSystems paper gaps a (b ∷ breaks) (m ∷ systems) (p ∷ placed) (item ∷ items) = ShowsSystem paper gaps a b m p item × ShowSystems paper gaps b breaks systems placed items
 ShowSystems paper gaps a _ _ _ _ = ⊥
 
 -- a row of a title block: its text, in its size, where it begins

@@ -2,9 +2,8 @@
 -- plan says, and each page has what its blocks draw.
 use Rattle.std.specs.Prelude.{⊤, ℕ, zero, suc, ◌+◌, ◌/◌, ◌≤◌, ◌==◌, if◌then◌else◌, List, [], ◌∷◌, ◌++◌, Result, Ok, Err, Bool, true, false, ◌≡◌, take, length}
 use Rattle.{abc_lines.specs.declared.{book.TuneText.TuneText, fault.Fault.Fault}, abc_header.specs.{declared.{defaults.Defaults.Defaults, paper.Paper.Paper}, Papers.{height_of, width_of}}}
-use Rattle.lay_pages.specs.{declared.filling.Spot.Spot, Even.{AreSpots, AreStacked}, Filling.{AreFilled, AreWithin, spots_of}}
-use Rattle.{set_pages.specs.{declared.plan.Plan.Plan, Drawings.{Drawing, all_blocks, all_drawings, drawn}}, ps_text.specs.declared.sheet.{Frame.Frame, Item.Item, Page.Page, Sheet.Sheet}}
-use Rattle.{set_tune.specs.{Terms.{Manner, terms_by}, declared.tune.SetTune.SetTune, Setting.IsSetTune}, set_book.specs.declared.outcome.Outcome.{Outcome}}
+use Rattle.{lay_pages.specs.{declared.filling.Spot.Spot, Even.{AreSpots, AreStacked}, Filling.{AreFilled, AreWithin, spots_of}}, set_pages.specs.{declared.plan.Plan.Plan, Drawings.{Drawing, all_blocks, all_drawings, drawn}}}
+use Rattle.{ps_text.specs.declared.sheet.{Frame.Frame, Item.Item, Page.Page, Sheet.Sheet}, set_tune.specs.{Terms.{Manner, terms_by}, declared.tune.SetTune.SetTune, Setting.IsSetTune}, set_book.specs.declared.outcome.Outcome.{Outcome}}
 
 -- whole points, rounded up
 abbrev pub points : ℕ → ℕ

@@ -1,6 +1,5 @@
 ghost use Rattle.std.specs.Prelude.{◌≡◌, ◌≤◌, All, IfOk};
-ghost use Rattle.{abc_header.specs.Papers.{IsGoodPaper}, ps_text.specs.Range.{IsFrame}};
-ghost use Rattle.set_pages.specs.{Press.IsBookSheet, Sheet.{IsPlan, IsSetUnder, frame_of, points}};
+ghost use Rattle.{abc_header.specs.Papers.{IsGoodPaper}, ps_text.specs.Range.{IsFrame}, set_pages.specs.{Press.IsBookSheet, Sheet.{IsPlan, IsSetUnder, frame_of, points}}};
 
 use crate::blocks::all_blocks;
 use crate::plan::{Plan, even_plan};

@@ -1,6 +1,5 @@
 ghost use Rattle.std.specs.Prelude.{◌≡◌, ◌++◌, All, IfOk, OnOk, map};
-ghost use Rattle.ps_text.specs.Range.{IsItem};
-ghost use Rattle.set_pages.specs.{Drawings.{drawing, row_at, title, tune_items}, Filling.{at_page, with_items}, Ready.{IsReadyAt, IsReadyRow}};
+ghost use Rattle.{ps_text.specs.Range.{IsItem}, set_pages.specs.{Drawings.{drawing, row_at, title, tune_items}, Filling.{at_page, with_items}, Ready.{IsReadyAt, IsReadyRow}}};
 
 use crate::pages::{Pages, begin};
 use lay_pages::{Spot, TitleRow};

@@ -37,17 +37,14 @@ alike_at : (at : List ℤ) → RisesAlong at → (i j : ℕ) → i < length at �
 alike_at at rise i j l m = alike (x_at at i) (x_at at j) i j (λ o. rises at rise i j o m) (λ o. rises at rise j i o l) (λ e. ap (x_at at) e)
 
 -- a rank is among some exactly where its abscissa is among theirs
-any_at : (at : List ℤ) → RisesAlong at → (i : ℕ) (all : List ℕ) → i < length at → AllByRecursion (λ r. r < length at) all
-    → list_any (is_same (x_at at i)) (map (x_at at) all) ≡ list_any (λ y. i == y) all
+any_at : (at : List ℤ) → RisesAlong at → (i : ℕ) (all : List ℕ) → i < length at → AllByRecursion (λ r. r < length at) all → list_any (is_same (x_at at i)) (map (x_at at) all) ≡ list_any (λ y. i == y) all
 any_at at rise i [] l h = refl
 any_at at rise i (r ∷ all) l (here, more) = ap₂ (λ a b. a || b) (alike_at at rise i r l here) (any_at at rise i all l more)
 
 -- as many different abscissas are below one as different ranks are below its rank
-count_at : (at : List ℤ) → RisesAlong at → (i : ℕ) (all : List ℕ) → i < length at → AllByRecursion (λ r. r < length at) all
-    → count_below (x_at at i) (map (x_at at) all) ≡ distinct_below i all
+count_at : (at : List ℤ) → RisesAlong at → (i : ℕ) (all : List ℕ) → i < length at → AllByRecursion (λ r. r < length at) all → count_below (x_at at i) (map (x_at at) all) ≡ distinct_below i all
 count_at at rise i [] l h = refl
-count_at at rise i (r ∷ all) l (here, more) =
-    rw (below_at at rise r i here l, any_at at rise r all here more, count_at at rise i all l more) refl
+count_at at rise i (r ∷ all) l (here, more) = rw (below_at at rise r i here l, any_at at rise r all here more, count_at at rise i all l more) refl
 
 -- the rank of the abscissa of a column is the column's, where each column is some anchor's
 pub ranked_at : (at : List ℤ) → RisesAlong at → (i : ℕ) (all : List ℕ) → i < length at → AllByRecursion (λ r. r < length at) all

@@ -1,13 +1,11 @@
 -- The ranks read off a system are those that its marks call for.
 use Rattle.std.{proofs.{Common.{◌≡◌, ℕ, zero, suc, ◌<◌, Bool, true, false, List, [], ◌∷◌, ◌++◌, length, map, get_or, ℤ, pos, ◌+ℤ◌, Some, refl, sym, ap, ap₂, subst, ◌∙◌, arith, flat_map}, lemmas.{Bool.eqb-true, List.{map-append, Elements.{All-cons, All-head, All-nil, All-tail, recursion_from_All}}}}, specs.{Prelude.{IsTrue, ◌==◌, ◌||◌}, List.{All, AllByRecursion, Contains, cons_option, list_any}}}
 use Rattle.mus_laid.specs.{declared.laid.Mark.Mark, declared.laid.Laid.Laid, declared.laid.StaffMarks.StaffMarks, Ranked.anchor_rank}
-use Rattle.ps_text.specs.{Ranks.anchor_of, Ranks.anchors, Ranks.rank_of, Ranks.ranked, Ranks.all_ranked, Ranks.ranks, declared.sheet.Staff.Staff}
-use Rattle.lay_shown.specs.Ranks.{AreAnchored, AreRanked, IsRanked, marks_ranks, staves_ranks}
-use Rattle.set_staves.{specs.Marks.x_at, specs.Marks.page_mark, specs.Marks.called_mark, specs.Marks.called_marks, specs.Marks.staff_at, specs.Marks.staves_at, specs.Marks.RisesAlong, specs.Marks.HasColumns, specs.Marks.ShowsIn, specs.Marks.ShowsCall, proofs.Rising.ranked_at}
+use Rattle.{ps_text.specs.{Ranks.anchor_of, Ranks.anchors, Ranks.rank_of, Ranks.ranked, Ranks.all_ranked, Ranks.ranks, declared.sheet.Staff.Staff}, lay_shown.specs.Ranks.{AreAnchored, AreRanked, IsRanked, marks_ranks, staves_ranks}}
+use Rattle.set_staves.{specs.{Marks.x_at, Marks.page_mark, Marks.called_mark, Marks.called_marks, Marks.staff_at, Marks.staves_at, Marks.RisesAlong, Marks.HasColumns, Marks.ShowsIn, Marks.ShowsCall}, proofs.Rising.ranked_at}
 
 -- ---- the anchors of a system are the abscissas of its anchors' ranks
-mark_anchors : (at : List ℤ) (mark : Mark) (xs : List ℤ) (rs : List ℕ) → xs ≡ map (x_at at) rs
-    → anchor_of (page_mark at mark) ++ xs ≡ map (x_at at) (cons_option (anchor_rank mark) rs)
+mark_anchors : (at : List ℤ) (mark : Mark) (xs : List ℤ) (rs : List ℕ) → xs ≡ map (x_at at) rs → anchor_of (page_mark at mark) ++ xs ≡ map (x_at at) (cons_option (anchor_rank mark) rs)
 mark_anchors at (Mark.Glyph glyph rank dx dy) xs rs e = ap (λ t. x_at at rank ∷ t) e
 mark_anchors at (Mark.Words size rank dx dy text) xs rs e = ap (λ t. x_at at rank ∷ t) e
 mark_anchors at (Mark.Stem rank dx from to) xs rs e = ap (λ t. x_at at rank ∷ t) e
@@ -25,8 +23,7 @@ staves_anchors width at top (s ∷ more) [] e = absurd (omega arith)
 staves_anchors width at top (s ∷ more) (b ∷ bases) e =
     ap₂ (λ xs ys. xs ++ ys) (marks_anchors at s.marks) (staves_anchors width at top more bases (omega arith)) ∙ sym (map-append (x_at at) (marks_ranks s.marks) (staves_ranks more))
 
-anchors_at : (width : ℕ) (at : List ℤ) (top : ℤ) (staves : List StaffMarks) (bases : List ℤ) → length bases ≡ length staves
-    → anchors (staves_at width at top staves bases) ≡ map (x_at at) (staves_ranks staves)
+anchors_at : (width : ℕ) (at : List ℤ) (top : ℤ) (staves : List StaffMarks) (bases : List ℤ) → length bases ≡ length staves → anchors (staves_at width at top staves bases) ≡ map (x_at at) (staves_ranks staves)
 unfolding anchors
 anchors_at width at top staves bases e = staves_anchors width at top staves bases e
 
@@ -71,13 +68,11 @@ mark_read at all read (Mark.Stem rank dx from to) h = rw (read rank h) refl
 mark_read at all read (Mark.Beam way first last from to) h = rw (read first (omega (arith, h.0, h.1)), read last h.1) refl
 mark_read at all read (Mark.Arc first last from to bulge) h = rw (read first (omega (arith, h.0, h.1)), read last h.1) refl
 
-marks_read : (at all : List ℤ) → IsRead at all → (ms : List Laid) → Ranked (length at) ms
-    → all_ranked all (map (λ laid. page_mark at laid.mark) ms) ≡ Some (map (λ laid. called_mark laid.mark) ms)
+marks_read : (at all : List ℤ) → IsRead at all → (ms : List Laid) → Ranked (length at) ms → all_ranked all (map (λ laid. page_mark at laid.mark) ms) ≡ Some (map (λ laid. called_mark laid.mark) ms)
 marks_read at all read [] h = refl
 marks_read at all read (laid ∷ more) h = rw (mark_read at all read laid.mark h.0, marks_read at all read more h.1) refl
 
-staff_read : (width : ℕ) (at : List ℤ) (base : ℤ) (system : List Staff) → IsRead at (anchors system) → (s : StaffMarks) → Ranked (length at) s.marks
-    → ranks system (staff_at width at base s) ≡ Some (called_marks s)
+staff_read : (width : ℕ) (at : List ℤ) (base : ℤ) (system : List Staff) → IsRead at (anchors system) → (s : StaffMarks) → Ranked (length at) s.marks → ranks system (staff_at width at base s) ≡ Some (called_marks s)
 unfolding ranks
 staff_read width at base system read s h = marks_read at (anchors system) read s.marks h
 
@@ -85,8 +80,7 @@ staves_read : (width : ℕ) (at : List ℤ) (top : ℤ) (system : List Staff) �
     → length bases ≡ length staves → StavesRanked (length at) staves → ShowsIn system (staves_at width at top staves bases) staves
 staves_read width at top system read [] bases e h = tt
 staves_read width at top system read (s ∷ more) [] e h = absurd (omega arith)
-staves_read width at top system read (s ∷ more) (b ∷ bases) e h =
-    (staff_read width at (top +ℤ b) system read s h.0, staves_read width at top system read more bases (omega arith) h.1)
+staves_read width at top system read (s ∷ more) (b ∷ bases) e h = (staff_read width at (top +ℤ b) system read s h.0, staves_read width at top system read more bases (omega arith) h.1)
 
 by_recursion : (n : ℕ) (staves : List StaffMarks) → All (λ s. AreRanked n s.marks) staves → StavesRanked n staves
 by_recursion n [] h = tt
@@ -111,8 +105,7 @@ x_read (x ∷ at) (suc k) d inside = x_read at k d (omega arith)
 
 each_set : (at : List ℤ) (ranks : List ℕ) → AreBelow (length at) ranks → All (Contains at) (map (x_at at) ranks)
 each_set at [] below = All-nil (Contains at)
-each_set at (r ∷ ranks) below =
-    All-cons (Contains at) (x_at at r) (map (x_at at) ranks) (r, below.0, sym (x_read at r (x_at at r) below.0)) (each_set at ranks below.1)
+each_set at (r ∷ ranks) below = All-cons (Contains at) (x_at at r) (map (x_at at) ranks) (r, below.0, sym (x_read at r (x_at at r) below.0)) (each_set at ranks below.1)
 
 anchored_by : (at : List ℤ) (k r : ℕ) (ranks : List ℕ) (b : Bool) → (k == r) ≡ b → (IsTrue (list_any (λ r. k == r) ranks) → Contains (map (x_at at) ranks) (x_at at k))
     → IsTrue (b || list_any (λ r. k == r) ranks) → Contains (x_at at r ∷ map (x_at at) ranks) (x_at at k)

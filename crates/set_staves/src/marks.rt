@@ -1,6 +1,5 @@
 ghost use Rattle.std.specs.Prelude.{◌≡◌, ◌<◌, All, IfOk, length, map};
-ghost use Rattle.ps_text.specs.Range.{IsPageMark, IsWords};
-ghost use Rattle.lay_shown.specs.{Ranks.AreRanked, Ranks.IsRanked, Texts.HasPrinted, Texts.HavePrinted, Texts.IsPrinted};
+ghost use Rattle.{ps_text.specs.Range.{IsPageMark, IsWords}, lay_shown.specs.{Ranks.AreRanked, Ranks.IsRanked, Texts.HasPrinted, Texts.HavePrinted, Texts.IsPrinted}};
 ghost use Rattle.set_staves.specs.{Drawn.IsOnPage, Marks.RisesAlong, Marks.page_mark, Marks.x_at};
 
 use mus_laid::{Laid, Mark};

@@ -14,7 +14,6 @@ low_height height = omega (arith, ints)
 high_height : (height : ℕ) → block_height height ≤ℤ pos (2 ^ 40)
 high_height height = omega (arith, ints)
 
-pub good_blocks : (rows : List TitleRow) (height : ℕ) (keep : Bool) (heights : List Heights) → All HasGoodHeight heights
-    → AreGoodBlocks (title_blocks rows height keep ++ system_blocks heights)
+pub good_blocks : (rows : List TitleRow) (height : ℕ) (keep : Bool) (heights : List Heights) → All HasGoodHeight heights → AreGoodBlocks (title_blocks rows height keep ++ system_blocks heights)
 good_blocks [] height keep heights all = good_systems heights all
 good_blocks (row ∷ rows) height keep heights all = ((low_height height, high_height height), good_systems heights all)

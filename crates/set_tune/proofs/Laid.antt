@@ -1,18 +1,15 @@
 -- What the setting of a tune rests on: a score with measures has a voice, a tune has few titles, and few blocks of good heights.
 use Rattle.std.{proofs.{Common.{◌≡◌, ℕ, ℤ, pos, negsuc, zero, suc, ◌+◌, ◌<◌, ◌≤◌, ◌^◌, Bool, List, [], ◌∷◌, ◌++◌, length, map, take, Option, Some, None, Result, Ok, Err, sym, subst, refl, arith}, lemmas.{List.{length-append, length-map, Sums.sum_by-cons, Elements.{All-cons, All-nil}}, Option.same_Some}}, specs.List.{cons_option, All, filter_map}}
-use Rattle.abc_lines.specs.{declared.{book.{Line.Line, TuneText.TuneText}, fault.{Fault.Fault, FaultKind.FaultKind}}, Good.{IsGoodTune, size_of}}
-use Rattle.abc_fields.specs.{declared.field.Field.Field, Fields.field_of}
-use Rattle.abc_header.specs.{declared.{defaults.Defaults.Defaults, header.Header.Header}, Headers.{IsHeaderBy, IsHeaderOf, composer_in, fields_of, key_place, put_field, title_in}}
-use Rattle.{abc_steps.specs.declared.step.Item.{Item}, abc_score.specs.{declared.voices.VoiceRead.VoiceRead, Build.IsScoreOf, Score.score_with, Voices.voices_read}}
-use Rattle.{mus_units.specs.declared.key.Key.{Key}, mus_transpose.specs.Moved.{IsMoved, move_from, voice_by}}
+use Rattle.{abc_lines.specs.{declared.{book.{Line.Line, TuneText.TuneText}, fault.{Fault.Fault, FaultKind.FaultKind}}, Good.{IsGoodTune, size_of}}, abc_fields.specs.{declared.field.Field.Field, Fields.field_of}}
+use Rattle.{abc_header.specs.{declared.{defaults.Defaults.Defaults, header.Header.Header}, Headers.{IsHeaderBy, IsHeaderOf, composer_in, fields_of, key_place, put_field, title_in}}, abc_steps.specs.declared.step.Item.{Item}}
+use Rattle.{abc_score.specs.{declared.voices.VoiceRead.VoiceRead, Build.IsScoreOf, Score.score_with, Voices.voices_read}, mus_units.specs.declared.key.Key.{Key}, mus_transpose.specs.Moved.{IsMoved, move_from, voice_by}}
 use Rattle.{lay_shared.{specs.Plans.{IsPlanFor, ids_of}, proofs.{DrawnLaws.drawn_heard, PlanLaws.spelled-plan}}, mus_score.specs.{declared.score.{Score.Score, Voice.Voice}, GoodScore.IsGoodScore}}
 use Rattle.{mus_laid.specs.declared.laid.SystemMarks.{SystemMarks}, lay_breaks.specs.Breaking.{RisesFrom, last_from}, lay_pages.specs.declared.{stacking.Heights.Heights, titles.TitleRow.TitleRow}}
 use Rattle.lay_tune.{specs.Systems.{Beside, IsSetSystem, IsStack}, proofs.Rows.{beside_count, span_count}}
 use Rattle.set_tune.specs.{declared.tune.SetTune.SetTune, Blocks.{HasGoodHeight, blocks_of, is_some_list, system_block, system_blocks, title_blocks}, Terms.Manner, Setting.{HasScore, IsDrawn, IsLaidOut}}
 
 -- ---- voices
-has_voice : (header : Header) (items : List Item) (flow : Bool) (voices : List VoiceRead)
-    → 0 < (score_with header items flow voices).measures → 1 ≤ length (score_with header items flow voices).voices
+has_voice : (header : Header) (items : List Item) (flow : Bool) (voices : List VoiceRead) → 0 < (score_with header items flow voices).measures → 1 ≤ length (score_with header items flow voices).voices
 unfolding score_with
 has_voice header items flow [] h = absurd (omega (arith, h))
 has_voice header items flow (v ∷ vs) h = omega arith
@@ -48,8 +45,7 @@ heard_drawn (Some line) written drawn (plan, spells, share, is) h some =
     subst (λ (s : Score). 1 ≤ length s.voices) (sym is) (drawn_heard written plan fits)
 
 -- moved too
-pub heard_moved : (tune : TuneText) (defaults : Defaults) (manner : Manner) (header : Header) (score : Score) → HasScore tune defaults manner header score
-    → 0 < score.measures → 1 ≤ length score.voices
+pub heard_moved : (tune : TuneText) (defaults : Defaults) (manner : Manner) (header : Header) (score : Score) → HasScore tune defaults manner header score → 0 < score.measures → 1 ≤ length score.voices
 heard_moved tune defaults manner header score has some =
     let like = like_moved has.drawn score header.key manner.by has.moved in
     let voices = like.0 in
@@ -59,8 +55,7 @@ heard_moved tune defaults manner header score has some =
 -- ---- titles and composers
 
 -- what a field gives, where a field of another kind gives nothing, comes of a line that has a byte
-given_first : (f : Field → Option (List ℕ)) → f Field.Other ≡ None → (fs : List Field) (n : ℕ) → length (filter_map f fs) ≤ n
-    → length (filter_map f (put_field (field_of []) fs)) ≤ n
+given_first : (f : Field → Option (List ℕ)) → f Field.Other ≡ None → (fs : List Field) (n : ℕ) → length (filter_map f fs) ≤ n → length (filter_map f (put_field (field_of []) fs)) ≤ n
 unfolding field_of
 given_first f none fs n h = subst (λ (o : Option (List ℕ)). length (cons_option o (filter_map f fs)) ≤ n) (sym none) h
 
@@ -72,8 +67,7 @@ given_put : (f : Field → Option (List ℕ)) (r : Result Field FaultKind) (fs :
 given_put f (Err kind) fs n h = omega (arith, h)
 given_put f (Ok g) fs n h = cons_few (f g) (filter_map f fs) n h
 
-given_few : (f : Field → Option (List ℕ)) → f Field.Other ≡ None → (text : List ℕ) (fs : List Field) (n : ℕ)
-    → length (filter_map f fs) ≤ n → length (filter_map f (put_field (field_of text) fs)) ≤ length text + n
+given_few : (f : Field → Option (List ℕ)) → f Field.Other ≡ None → (text : List ℕ) (fs : List Field) (n : ℕ) → length (filter_map f fs) ≤ n → length (filter_map f (put_field (field_of text) fs)) ≤ length text + n
 given_few f none [] fs n h = omega (arith, given_first f none fs n h)
 given_few f none (byte ∷ text) fs n h = omega (arith, given_put f (field_of (byte ∷ text)) fs n h)
 
@@ -82,8 +76,7 @@ size_cons line lines = sum_by-cons (λ x. x) (length line.text) (map (λ (l : Li
 
 fields_few : (f : Field → Option (List ℕ)) → f Field.Other ≡ None → (lines : List Line) → length (filter_map f (fields_of lines)) ≤ size_of lines
 fields_few f none [] = omega arith
-fields_few f none (line ∷ lines) =
-    omega (arith, given_few f none line.text (fields_of lines) (size_of lines) (fields_few f none lines), size_cons line lines)
+fields_few f none (line ∷ lines) = omega (arith, given_few f none line.text (fields_of lines) (size_of lines) (fields_few f none lines), size_cons line lines)
 
 size_within : (n : ℕ) (lines : List Line) → size_of (take n lines) ≤ size_of lines
 size_within (suc n) (line ∷ lines) = omega (arith, size_within n lines, size_cons line (take n lines), size_cons line lines)
@@ -92,8 +85,7 @@ size_within n lines = omega arith
 few_by : (f : Field → Option (List ℕ)) → f Field.Other ≡ None → (tune : TuneText) (n : ℕ) → IsGoodTune tune → length (filter_map f (fields_of (take n tune.lines))) ≤ 2 ^ 32
 few_by f none tune n good = omega (arith, fields_few f none (take n tune.lines), size_within n tune.lines, good.small)
 
-titles_by : (tune : TuneText) (defaults : Defaults) (header : Header) (place : Option ℕ) → IsGoodTune tune → IsHeaderBy tune defaults header place
-    → (length header.titles ≤ 2 ^ 32) × (length header.composers ≤ 2 ^ 32)
+titles_by : (tune : TuneText) (defaults : Defaults) (header : Header) (place : Option ℕ) → IsGoodTune tune → IsHeaderBy tune defaults header place → (length header.titles ≤ 2 ^ 32) × (length header.composers ≤ 2 ^ 32)
 titles_by tune defaults header None good is = absurd is
 titles_by tune defaults header (Some place) good is = (
   subst (λ (h : Header). length h.titles ≤ 2 ^ 32) (sym is) (few_by title_in refl tune (place + 1) good),
@@ -101,8 +93,7 @@ titles_by tune defaults header (Some place) good is = (
 )
 
 -- a good tune has few titles and composers
-pub few_titles : (tune : TuneText) (defaults : Defaults) (header : Header) → IsGoodTune tune → IsHeaderOf tune defaults header
-    → (length header.titles ≤ 2 ^ 32) × (length header.composers ≤ 2 ^ 32)
+pub few_titles : (tune : TuneText) (defaults : Defaults) (header : Header) → IsGoodTune tune → IsHeaderOf tune defaults header → (length header.titles ≤ 2 ^ 32) × (length header.composers ≤ 2 ^ 32)
 unfolding IsHeaderOf
 few_titles tune defaults header good is = titles_by tune defaults header (key_place tune.lines) good is
 

@@ -32,8 +32,7 @@ laid_tune tune terms header score width t has is laid = record {
   layout = subst (λ w. IsLaidOut w t) is laid.layout;
 }
 
-tall_error : (tune : TuneText) (terms : Terms) (high : ℕ) (t : SetTune) (e : TuneError)
-    → IsLaidTune tune terms t → high ≡ height_of terms.paper → IsTallRefusal tune high t e → IsRefusal tune terms e
+tall_error : (tune : TuneText) (terms : Terms) (high : ℕ) (t : SetTune) (e : TuneError) → IsLaidTune tune terms t → high ≡ height_of terms.paper → IsTallRefusal tune high t e → IsRefusal tune terms e
 tall_error tune terms high t TuneError.Memory laid is h = tt
 tall_error tune terms high t (TuneError.Fault fault) laid is (block, first, at) =
     subst (IsFaultOfTune tune terms) (sym at)

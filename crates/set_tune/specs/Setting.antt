@@ -1,12 +1,11 @@
 -- A tune that is set, and the one fault of a tune that isn't.
 use Rattle.std.specs.Prelude.{◌≡◌, ◌⊎◌, ⊤, ℕ, ◌+◌, ◌≤◌, ℤ, List, Bool, All, length, slice_index_or, Option, Some, None, Result, Ok, Err}
 use Rattle.abc_lines.specs.declared.{book.{Line.Line, TuneText.TuneText}, fault.{Fault.Fault, FaultKind.FaultKind, TuneError.TuneError}}
-use Rattle.abc_header.specs.{declared.{defaults.Defaults.Defaults, header.Header.Header}, Headers.{IsHeaderOf, first_line, header_fault}, Papers.{height_of, width_of}}
-use Rattle.{abc_score.specs.Build.{IsFaultOf, IsScoreOf}, mus_score.specs.{declared.score.Score.Score, GoodScore.IsGoodScore}, mus_laid.specs.Boxes.{AreGoodMarks}}
-use Rattle.{lay_breaks.specs.{declared.costs.Span.Span, Breaking.{IsChosen, IsPotential, sum_from}, Spans.{AreSpans, listed}}, lay_pages.specs.{Filling.first_tall, Titles.title_block_of}}
-use Rattle.lay_tune.specs.{Breakings.IsLeastBreaking, Layout.IsNoWay, Spans.{AreSpansOf, is_forced_in}, Systems.{Beside, EachSpan, IsSetSystem, IsStack}}
-use Rattle.{lay_shared.specs.{declared.plan.Plan.Plan, Alike.DoShare, Drawn.drawn_of, Plans.{Spells, ids_of}}, mus_units.specs.declared.key.Key.{Key}, mus_transpose.specs.Moved.{IsMoved}}
-use Rattle.{mus_drawn.specs.Sounds.{sounds_of}, mus_moved.specs.Higher.{AreHigher}, set_tune.specs.{Terms.{Manner, Terms}, declared.tune.SetTune.SetTune, Blocks.blocks_of}}
+use Rattle.{abc_header.specs.{declared.{defaults.Defaults.Defaults, header.Header.Header}, Headers.{IsHeaderOf, first_line, header_fault}, Papers.{height_of, width_of}}, abc_score.specs.Build.{IsFaultOf, IsScoreOf}}
+use Rattle.{mus_score.specs.{declared.score.Score.Score, GoodScore.IsGoodScore}, mus_laid.specs.Boxes.{AreGoodMarks}, lay_breaks.specs.{declared.costs.Span.Span, Breaking.{IsChosen, IsPotential, sum_from}, Spans.{AreSpans, listed}}}
+use Rattle.{lay_pages.specs.{Filling.first_tall, Titles.title_block_of}, lay_tune.specs.{Breakings.IsLeastBreaking, Layout.IsNoWay, Spans.{AreSpansOf, is_forced_in}, Systems.{Beside, EachSpan, IsSetSystem, IsStack}}}
+use Rattle.{lay_shared.specs.{declared.plan.Plan.Plan, Alike.DoShare, Drawn.drawn_of, Plans.{Spells, ids_of}}, mus_units.specs.declared.key.Key.{Key}, mus_transpose.specs.Moved.{IsMoved}, mus_drawn.specs.Sounds.{sounds_of}}
+use Rattle.{mus_moved.specs.Higher.{AreHigher}, set_tune.specs.{Terms.{Manner, Terms}, declared.tune.SetTune.SetTune, Blocks.blocks_of}}
 
 -- The header of the tune, which has no fault.
 pub record HasHeader (tune : TuneText) (defaults : Defaults) (header : Header) : Type 0 where
@@ -109,14 +108,12 @@ pub data IsFaultOfTune (tune : TuneText) (terms : Terms) : Fault → Type 0 wher
   of_move : CantMove tune terms.defaults terms.manner → IsFaultOfTune tune terms (layout_fault tune FaultKind.BadMove)
   no_way : (header : Header) (score : Score) (reached : ℕ) (spans : List Span) → HasScore tune terms.defaults terms.manner header score
       → IsNoWay score (width_of terms.paper) reached spans → IsFaultOfTune tune terms (layout_fault tune (FaultKind.NoWay reached))
-  too_tall : (t : SetTune) (block : ℕ) → IsLaidTune tune terms t → first_tall (height_of terms.paper) (blocks_of t.title t.heights) ≡ Some block
-      → IsFaultOfTune tune terms (layout_fault tune (FaultKind.TooTall block))
+  too_tall : (t : SetTune) (block : ℕ) → IsLaidTune tune terms t → first_tall (height_of terms.paper) (blocks_of t.title t.heights) ≡ Some block → IsFaultOfTune tune terms (layout_fault tune (FaultKind.TooTall block))
 
 -- The same of the stages up to the score; want of memory says nothing.
 abbrev pub IsScoreRefusal : TuneText → Defaults → TuneError → Type 0
 IsScoreRefusal tune defaults TuneError.Memory = ⊤
-IsScoreRefusal tune defaults (TuneError.Fault fault) =
-    (header_fault tune ≡ Some fault) ⊎ ((header : Header) × HasHeader tune defaults header × IsFaultOf header tune (TuneError.Fault fault))
+IsScoreRefusal tune defaults (TuneError.Fault fault) = (header_fault tune ≡ Some fault) ⊎ ((header : Header) × HasHeader tune defaults header × IsFaultOf header tune (TuneError.Fault fault))
 
 -- why the written score isn't drawn
 abbrev pub IsDrawRefusal : Option Line → Score → TuneError → Type 0
@@ -137,14 +134,12 @@ IsMovedRefusal tune defaults manner (TuneError.Fault fault) =
 -- why the score isn't laid out
 abbrev pub IsLayoutRefusal : TuneText → ℕ → Score → TuneError → Type 0
 IsLayoutRefusal tune width score TuneError.Memory = ⊤
-IsLayoutRefusal tune width score (TuneError.Fault fault) =
-    (reached : ℕ) × (spans : List Span) × IsNoWay score width reached spans × (fault ≡ layout_fault tune (FaultKind.NoWay reached))
+IsLayoutRefusal tune width score (TuneError.Fault fault) = (reached : ℕ) × (spans : List Span) × IsNoWay score width reached spans × (fault ≡ layout_fault tune (FaultKind.NoWay reached))
 
 -- why a tune that is laid out isn't set
 abbrev pub IsTallRefusal : TuneText → ℕ → SetTune → TuneError → Type 0
 IsTallRefusal tune high t TuneError.Memory = ⊤
-IsTallRefusal tune high t (TuneError.Fault fault) =
-    (block : ℕ) × (first_tall high (blocks_of t.title t.heights) ≡ Some block) × (fault ≡ layout_fault tune (FaultKind.TooTall block))
+IsTallRefusal tune high t (TuneError.Fault fault) = (block : ℕ) × (first_tall high (blocks_of t.title t.heights) ≡ Some block) × (fault ≡ layout_fault tune (FaultKind.TooTall block))
 
 -- want of memory says nothing
 abbrev pub IsRefusal : TuneText → Terms → TuneError → Type 0

@@ -1,11 +1,10 @@
 ghost use Rattle.std.specs.{Prelude.{◌≡◌, ◌≤◌, ◌<◌, ◌^◌, ℕ, length, IfErr, IfOk, IfSome, None, Some, Ok}, Option.option_copied};
 ghost use Rattle.{mus_score.specs.GoodScore.{IsGoodScore}, abc_lines.specs.Good.{IsGoodTune}};
 ghost use Rattle.abc_lines.specs.declared.fault.TuneError.TheVariants as errors;
-ghost use Rattle.abc_header.specs.{Good.IsGoodDefaults, Headers.first_line, Papers.{IsGoodPaper, height_of, width_of}};
-ghost use Rattle.lay_pages.specs.{Filling.first_tall, Titles.title_block_of};
+ghost use Rattle.{abc_header.specs.{Good.IsGoodDefaults, Headers.first_line, Papers.{IsGoodPaper, height_of, width_of}}, lay_pages.specs.{Filling.first_tall, Titles.title_block_of}};
 ghost use Rattle.set_tune.specs.{Blocks.blocks_of, Setting.{HasScore, IsDrawn, IsDrawRefusal, IsLaid, IsLaidOut, IsLayoutRefusal, IsMoveRefusal, IsMovedRefusal, IsRefusal, IsScoreRefusal, IsSetTune, IsTallRefusal, IsWritten, layout_fault, share_fault}, Terms.{manner_of, terms_by, terms_of, unmoved}};
-ghost use Rattle.{lay_shared.specs.{Plans.{IsPlanFor, Spells, ids_of}, declared.plan.Plan.Plan}, mus_transpose.specs.Moved.{IsMoved}};
-ghost use Rattle.{mus_drawn.specs.Sounds.{sounds_of}, mus_moved.specs.Higher.{AreHigher}};
+ghost use Rattle.{lay_shared.specs.{Plans.{IsPlanFor, Spells, ids_of}, declared.plan.Plan.Plan}, mus_transpose.specs.Moved.{IsMoved}, mus_drawn.specs.Sounds.{sounds_of}};
+ghost use Rattle.mus_moved.specs.Higher.{AreHigher};
 
 use crate::blocks::blocks_of;
 use crate::how::How;

@@ -2,8 +2,7 @@
 use Rattle.std.proofs.Common.{◌≡◌, ◌∙◌, ◌<◌, ◌<ℤ◌, ◌+◌, ℕ, zero, suc, ℤ, pos, List, [], ◌∷◌, length, slice_index_or, ap, arith}
 use Rattle.{mus_score.specs.declared.score.Score.{Score}, mus_time.specs.{declared.times.Timeline.Timeline, Keys.called_keys}, mus_laid.specs.declared.laid.SystemMarks.{SystemMarks}}
 use Rattle.mus_marks.{specs.{System.IsCall, Tilt.AreAbscissas}, proofs.OneList.same_keys}
-use Rattle.mus_stems.specs.{declared.{plans.StemPlan.StemPlan, slopes.Anchor.Anchor}, Slope.{anchor_of, anchors, ArePlaces, IsPlace, RisesAfter, RisesInBeams}}
-use Rattle.setting_tests.specs.Rising.{AreRising, RisesFrom}
+use Rattle.{mus_stems.specs.{declared.{plans.StemPlan.StemPlan, slopes.Anchor.Anchor}, Slope.{anchor_of, anchors, ArePlaces, IsPlace, RisesAfter, RisesInBeams}}, setting_tests.specs.Rising.{AreRising, RisesFrom}}
 
 rises_after : (a : Anchor) (ps : List StemPlan) (xs : List ℤ) → RisesFrom a.x xs → RisesAfter a (anchors ps xs)
 unfolding anchor_of

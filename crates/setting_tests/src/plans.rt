@@ -1,8 +1,7 @@
 //! How events are drawn beside their heads.
 
 ghost use Rattle.std.specs.Prelude.{◌≡◌, IsTrue, All, length, map};
-ghost use Rattle.mus_score.specs.{Good.IsGoodBody, GoodScore.IsGoodScore, GoodScore.IsGoodVoice};
-ghost use Rattle.mus_stems.specs.{Heads.{AllNear, IsNear, stand_of}, Stills.{AllCanStand, CanStand, clefs_from}};
+ghost use Rattle.{mus_score.specs.{Good.IsGoodBody, GoodScore.IsGoodScore, GoodScore.IsGoodVoice}, mus_stems.specs.{Heads.{AllNear, IsNear, stand_of}, Stills.{AllCanStand, CanStand, clefs_from}}};
 
 use case_texts::Report;
 use mus_score::{Flat, Measure, Score, Voice, flatten};

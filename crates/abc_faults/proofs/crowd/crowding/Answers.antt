@@ -1,5 +1,4 @@
-use Rattle.std.proofs.Common.{List, subst}
-use Rattle.abc_faults.{specs.declared.weights.Weight.Weight, specs.First.IsFirst, specs.First.first_of, specs.Weights.crowded, proofs.Crowds.first_along, proofs.Crowds.same_crowd, proofs.Firsts.first_is}
+use Rattle.{std.proofs.Common.{List, subst}, abc_faults.{specs.{declared.weights.Weight.Weight, First.IsFirst, First.first_of, Weights.crowded}, proofs.{Crowds.first_along, Crowds.same_crowd, Firsts.first_is}}}
 use Rattle.abc_faults.proofs.crowd.crowding.Goals as goal
 
 first : (c : goal.After-drop-weights-inside) → IsFirst (crowded c.args.weights) c.first_crowded.result

@@ -1,5 +1,4 @@
-use Rattle.std.proofs.lemmas.Result.{on_ok_weaker, IfErr-weaker}
-use Rattle.abc_tokens.specs.{declared.token.Behind.Behind, Tokens.{FrontFrom, PartOf}}
+use Rattle.{std.proofs.lemmas.Result.{on_ok_weaker, IfErr-weaker}, abc_tokens.specs.{declared.token.Behind.Behind, Tokens.{FrontFrom, PartOf}}}
 use Rattle.abc_items.{specs.{Body.{end_given, MusicGives}, Reading.{Stops, StopsBy}}, proofs.MusicLaws.{part_more, part_stops, part_ends, end_stops}}
 use Rattle.abc_items.proofs.body.read_music_line.Goals as goal
 

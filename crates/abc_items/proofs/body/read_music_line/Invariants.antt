@@ -1,5 +1,4 @@
-use Rattle.std.proofs.Common.{length, All}
-use Rattle.{abc_tokens.specs.Tokens.{IsPlaceIn}, abc_items.{specs.Good.IsGoodItem, proofs.MusicLaws.LineStage}}
+use Rattle.{std.proofs.Common.{length, All}, abc_tokens.specs.Tokens.{IsPlaceIn}, abc_items.{specs.Good.IsGoodItem, proofs.MusicLaws.LineStage}}
 use Rattle.abc_items.proofs.body.read_music_line.Given as goal
 
 abbrev pub invariant-loop-part : goal.invariant-loop-part

@@ -13,8 +13,7 @@ lines-preserved c =
     join-next c.lines.out c.add_joined.new.out (c.args.out.now ++ joined (readings c.args.bytes.now)) c.lines.ahead.now _ _ c.in_ok-reading.reading off c.in_ok-reading.ensures (search rules) c.in_ok-add_joined.ensures c.lines.invariant
 
 pub lines-smaller : goal.lines-smaller
-lines-smaller c =
-    (line_off c.lines.ahead.now c.first_line.result.0.now c.first_line.result.1.now (search rules) c.first_line.ensures).shorter
+lines-smaller c = (line_off c.lines.ahead.now c.first_line.result.0.now c.first_line.result.1.now (search rules) c.first_line.ensures).shorter
 
 pub returns : goal.returns
 returns c = join-ends c.lines.out (c.args.out.now ++ joined (readings c.args.bytes.now)) c.lines.ahead.now (search rules) c.lines.invariant

@@ -1,5 +1,4 @@
-use Rattle.std.proofs.Common.{rules, arith}
-use Rattle.abc_lines.{specs.Forward.tunes_from, specs.Lines.readings, proofs.LineLaws.line_off, proofs.Stages.tunes-pass, proofs.Stages.tunes-next, proofs.Stages.tunes-end}
+use Rattle.{std.proofs.Common.{rules, arith}, abc_lines.{specs.{Forward.tunes_from, Lines.readings}, proofs.{LineLaws.line_off, Stages.tunes-pass, Stages.tunes-next, Stages.tunes-end}}}
 use Rattle.abc_lines.proofs.cut.tunes_at.Goals as goal
 
 pub tune_at-requires : goal.tune_at-requires
@@ -24,8 +23,7 @@ lines-preserved-else-begins_tune c =
     tunes-pass c.lines.tunes (tunes_from 1 c.args.place.number (readings c.args.place.rest.now)) c.lines.at.number c.lines.at.rest.now _ _ c.in_ok-reading.reading off c.in_ok-reading.ensures (search rules) c.lines.invariant
 
 pub lines-smaller-else-begins_tune : goal.lines-smaller-else-begins_tune
-lines-smaller-else-begins_tune c =
-    (line_off c.lines.at.rest.now c.first_line.result.0.now c.first_line.result.1.now (search rules) c.first_line.ensures).shorter
+lines-smaller-else-begins_tune c = (line_off c.lines.at.rest.now c.first_line.result.0.now c.first_line.result.1.now (search rules) c.first_line.ensures).shorter
 
 pub lines-preserved : goal.lines-preserved
 lines-preserved c =
@@ -33,8 +31,7 @@ lines-preserved c =
     tunes-pass c.lines.tunes (tunes_from 1 c.args.place.number (readings c.args.place.rest.now)) c.lines.at.number c.lines.at.rest.now _ _ c.in_ok-reading.reading off c.in_ok-reading.ensures (search rules) c.lines.invariant
 
 pub lines-smaller : goal.lines-smaller
-lines-smaller c =
-    (line_off c.lines.at.rest.now c.first_line.result.0.now c.first_line.result.1.now (search rules) c.first_line.ensures).shorter
+lines-smaller c = (line_off c.lines.at.rest.now c.first_line.result.0.now c.first_line.result.1.now (search rules) c.first_line.ensures).shorter
 
 pub returns : goal.returns
 returns c = tunes-end c.lines.tunes (tunes_from 1 c.args.place.number (readings c.args.place.rest.now)) c.lines.at.number c.lines.at.rest.now (search rules) c.lines.invariant

@@ -1,5 +1,4 @@
-use Rattle.std.proofs.Common.{rules}
-use Rattle.abc_notes.{specs.Items.sense_of, proofs.InnerLaws.inside-next, proofs.InnerLaws.inside-stuck, proofs.InnerLaws.inside-ends, proofs.InnerLaws.found_inner, proofs.InnerLaws.none_inner, proofs.InnerLaws.inner_less}
+use Rattle.{std.proofs.Common.{rules}, abc_notes.{specs.Items.sense_of, proofs.{InnerLaws.inside-next, InnerLaws.inside-stuck, InnerLaws.inside-ends, InnerLaws.found_inner, InnerLaws.none_inner, InnerLaws.inner_less}}}
 use Rattle.abc_notes.proofs.chord.inside_state.Goals as goal
 
 pub returns-in_default-item_at : goal.returns-in_default-item_at

@@ -1,5 +1,4 @@
-use Rattle.std.proofs.Common.{rules}
-use Rattle.abc_notes.{specs.Graces.{body_of_item, item_has_length, inside_of_item}, proofs.GraceLaws.{group-begins, group-next, group-stuck, group-ends, found_part, none_part, part_less}}
+use Rattle.{std.proofs.Common.{rules}, abc_notes.{specs.Graces.{body_of_item, item_has_length, inside_of_item}, proofs.GraceLaws.{group-begins, group-next, group-stuck, group-ends, found_part, none_part, part_less}}}
 use Rattle.abc_notes.proofs.grace.grace_state.Goals as goal
 
 pub parts-init : goal.parts-init

@@ -1,5 +1,4 @@
-use Rattle.std.proofs.Common.{rules, arith}
-use Rattle.abc_notes.{specs.Graces.{body_of_item, item_has_length, inside_of_item, body_inside}, proofs.GraceLaws.{body-next, body-end, found_part, none_part, part_less, item_wider}}
+use Rattle.{std.proofs.Common.{rules, arith}, abc_notes.{specs.Graces.{body_of_item, item_has_length, inside_of_item, body_inside}, proofs.GraceLaws.{body-next, body-end, found_part, none_part, part_less, item_wider}}}
 use Rattle.abc_notes.proofs.grace.read_body.Goals as goal
 
 pub add_part-requires : goal.add_part-requires

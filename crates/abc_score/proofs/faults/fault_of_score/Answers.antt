@@ -1,6 +1,5 @@
 use Rattle.std.{proofs.Common.{◌∙◌, ◌++◌, List, ap, map, subst, sym}, specs.Prelude.flat_map}
-use Rattle.abc_faults.{specs.declared.weights.Weight.Weight, specs.First.IsFirst, specs.Weights.capped, specs.Weights.crowded, proofs.Caps.crowded_capped, proofs.Firsts.first_is}
-use Rattle.abc_score.specs.Faults.{voice_faults, voice_weights}
+use Rattle.{abc_faults.{specs.{declared.weights.Weight.Weight, First.IsFirst, Weights.capped, Weights.crowded}, proofs.{Caps.crowded_capped, Firsts.first_is}}, abc_score.specs.Faults.{voice_faults, voice_weights}}
 use Rattle.abc_score.proofs.faults.fault_of_score.Goals as goal
 
 pub returns-clause-fault : goal.returns-clause-fault

@@ -1,6 +1,5 @@
 use Rattle.std.proofs.Common.{◌∙◌, [], sym, ap}
-use Rattle.{abc_faults.{specs.First.earlier, specs.First.first_of, specs.Faults.faults_in, proofs.Firsts.first_append}, abc_words.specs.Verses.{verse_fault, verse_faults}}
-use Rattle.abc_score.proofs.Verses.{verse_first}
+use Rattle.{abc_faults.{specs.{First.earlier, First.first_of, Faults.faults_in}, proofs.Firsts.first_append}, abc_words.specs.Verses.{verse_fault, verse_faults}, abc_score.proofs.Verses.{verse_first}}
 use Rattle.abc_score.proofs.faults.voice_fault.Goals as goal
 
 pub returns-clause-fault : goal.returns-clause-fault

@@ -1,6 +1,5 @@
 use Rattle.std.{proofs.Common.◌≡◌, proofs.Common.ap, specs.Prelude.None, specs.Vec.Iter.into_iter_items}
-use Rattle.{abc_items.specs.Voices.{unnamed_of}, abc_words.specs.Verses.{verse_fault}}
-use Rattle.abc_score.{specs.declared.keeping.Judged.Judged, specs.Judged.HasKept, specs.Judged.reads_of, specs.Voices.IsGoodRead, specs.Score.voice_of, proofs.Taken.mapped_taken}
+use Rattle.{abc_items.specs.Voices.{unnamed_of}, abc_words.specs.Verses.{verse_fault}, abc_score.{specs.{declared.keeping.Judged.Judged, Judged.HasKept, Judged.reads_of, Voices.IsGoodRead, Score.voice_of}, proofs.Taken.mapped_taken}}
 use Rattle.abc_events.proofs.Taken.{all_left, count_left}
 use Rattle.abc_score.proofs.scores.voices_with.Goals as goal
 

@@ -1,6 +1,5 @@
 use Rattle.std.{proofs.Common.◌≡◌, proofs.Common.◌++◌, proofs.Common.map, proofs.Common.length, specs.List.All, specs.Prelude.None, specs.Vec.Iter.into_iter_items, specs.Vec.Iter.into_iter_len}
-use Rattle.{abc_items.specs.Voices.{unnamed_of}, abc_words.specs.Verses.{verse_fault}}
-use Rattle.abc_score.specs.{declared.keeping.Judged.Judged, Judged.HasKept, Judged.reads_of, Voices.IsGoodRead, Score.voice_of}
+use Rattle.{abc_items.specs.Voices.{unnamed_of}, abc_words.specs.Verses.{verse_fault}, abc_score.specs.{declared.keeping.Judged.Judged, Judged.HasKept, Judged.reads_of, Voices.IsGoodRead, Score.voice_of}}
 use Rattle.abc_score.proofs.scores.voices_with.Given as goal
 
 abbrev pub invariant-loop-judged : goal.invariant-loop-judged

@@ -1,5 +1,4 @@
-use Rattle.std.proofs.Common.{subst, sym, length}
-use Rattle.abc_pieces.specs.declared.token.Before.TheVariants.{Other}
+use Rattle.{std.proofs.Common.{subst, sym, length}, abc_pieces.specs.declared.token.Before.TheVariants.{Other}}
 use Rattle.abc_tokens.{specs.{declared.token.Behind.Behind, Tokens.{FrontOf, FrontFrom, PartOf}}, proofs.{GoodLaws.good_front, Line.read_more}}
 use Rattle.abc_tokens.proofs.reader.read_front.Goals as goal
 

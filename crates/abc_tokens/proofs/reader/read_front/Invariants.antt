@@ -1,5 +1,4 @@
-use Rattle.std.proofs.Common.{length}
-use Rattle.abc_tokens.{specs.Tokens.{IsPlaceIn}, proofs.Line.{ReadTo}}
+use Rattle.{std.proofs.Common.{length}, abc_tokens.{specs.Tokens.{IsPlaceIn}, proofs.Line.{ReadTo}}}
 use Rattle.abc_tokens.proofs.reader.read_front.Given as goal
 
 abbrev pub invariant-loop-tokens : goal.invariant-loop-tokens

@@ -1,6 +1,5 @@
 use Rattle.std.proofs.Common.{◌≡◌, ◌∷◌, arith, rules, None, Some, length, refl, ap, ◌∙◌}
-use Rattle.abc_pieces.specs.Reading.{token_of}
-use Rattle.abc_tokens.{specs.{declared.token.Behind.Behind, Tokens.column}, proofs.{Fronts.good_part, Line.done_at, Line.stuck_at, Line.step, Line.consumes, Line.put_few}}
+use Rattle.{abc_pieces.specs.Reading.{token_of}, abc_tokens.{specs.{declared.token.Behind.Behind, Tokens.column}, proofs.{Fronts.good_part, Line.done_at, Line.stuck_at, Line.step, Line.consumes, Line.put_few}}}
 use Rattle.abc_tokens.proofs.reader.read_part.Goals as goal
 
 pub returns-in_default-clause-part : goal.returns-in_default-clause-part

@@ -9,5 +9,4 @@ returns-in-Ok g c =
     answer_printed (manner_of c.args.how) c.args.even c.args.how.jobs.count c.args.text _ _ c.end.result c.in-Ok.printed.status c.as_slice.result.now called.0 called.1 (c.as_slice.ensures ∙ called.2) called.3 called.4 c.end.ensures
 
 pub returns-in-Err : goal.returns-in-Err
-returns-in-Err g c =
-    answer_unprinted (manner_of c.args.how) c.args.even c.args.how.jobs.count c.args.text _ _ (Keeps-refl (g.E.Sink.taken c.args.errors.now), refl) c.in-Err.why c.in-Err.ensures
+returns-in-Err g c = answer_unprinted (manner_of c.args.how) c.args.even c.args.how.jobs.count c.args.text _ _ (Keeps-refl (g.E.Sink.taken c.args.errors.now), refl) c.in-Err.why c.in-Err.ensures

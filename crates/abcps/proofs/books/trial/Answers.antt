@@ -1,5 +1,4 @@
-use Rattle.{set_tune.specs.Terms.{unmoved}, std.{proofs.Common.{[], subst, sym}, specs.List.All}, set_pages.specs.Sheet.{IsSetUnder}}
-use Rattle.abcps.{specs.Books.{AreSet, IsTried}, proofs.{Answered.answer_of, BookCalls.{set_under, tries}}}
+use Rattle.{set_tune.specs.Terms.{unmoved}, std.{proofs.Common.{[], subst, sym}, specs.List.All}, set_pages.specs.Sheet.{IsSetUnder}, abcps.{specs.Books.{AreSet, IsTried}, proofs.{Answered.answer_of, BookCalls.{set_under, tries}}}}
 use Rattle.abcps.proofs.books.trial.Goals as goal
 use Rattle.abcps_words.specs.declared.command.Command.{Command}
 

@@ -1,6 +1,5 @@
 use Rattle.std.proofs.Common.{◌≡◌, ◌+◌, sym, subst, rules, Err}
-use Rattle.{ps_text.specs.Document.{numbered, page_text}, ps_write.specs.declared.steps.DocWriter.{DocWriter}}
-use Rattle.abcps.{specs.Pressed.WasGiven, specs.Status.status_after, proofs.Sent.step_stopped, proofs.Sent.stream}
+use Rattle.{ps_text.specs.Document.{numbered, page_text}, ps_write.specs.declared.steps.DocWriter.{DocWriter}, abcps.{specs.{Pressed.WasGiven, Status.status_after}, proofs.{Sent.step_stopped, Sent.stream}}}
 use Rattle.abcps.proofs.pressing.write_pages.Goals as goal
 
 pub returns-in_err-next-clause-wrote : goal.returns-in_err-next-clause-wrote

@@ -25,12 +25,10 @@ returns-in_err-run-2 g c =
     (g.O.Sink.faults c.args.output.now) (g.O.Sink.faults c.batches.output) (g.O.Sink.faults c.write_done.new.output) c.batches.run c.in_err-run-2.field-0.0 c.batches.invariant.underway c.in_err-run-2.ensures.wrote)
 
 pub take_batch-requires-clause-tunes : goal.take_batch-requires-clause-tunes
-take_batch-requires-clause-tunes g c κs within =
-    subst (λ tunes. All IsGoodTune tunes) (sym c.split_at.ensures.front) (All-take IsGoodTune c.min.result c.batches.rest.now c.batches.invariant.good)
+take_batch-requires-clause-tunes g c κs within = subst (λ tunes. All IsGoodTune tunes) (sym c.split_at.ensures.front) (All-take IsGoodTune c.min.result c.batches.rest.now c.batches.invariant.good)
 
 pub take_batch-requires-clause-counted : goal.take_batch-requires-clause-counted
-take_batch-requires-clause-counted g c κs within =
-    subst (λ tunes. All IsCounted tunes) (sym c.split_at.ensures.front) (All-take IsCounted c.min.result c.batches.rest.now c.batches.invariant.counted)
+take_batch-requires-clause-counted g c κs within = subst (λ tunes. All IsCounted tunes) (sym c.split_at.ensures.front) (All-take IsCounted c.min.result c.batches.rest.now c.batches.invariant.counted)
 
 pub take_batch-requires-clause-room : goal.take_batch-requires-clause-room
 take_batch-requires-clause-room g c κs within outcomes set =

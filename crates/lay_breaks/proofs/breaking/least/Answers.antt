@@ -24,8 +24,7 @@ returns-in_ok-breaks-in-Some-clause-total g c =
     c.in_ok-breaks-in-Some.breaks.items (follows g s c.in_ok-breaks-in-Some.breaks.items c.in_ok-breaks-in-Some.ensures)
 
 pub returns-in_ok-breaks-in-Some-clause-potentials : goal.returns-in_ok-breaks-in-Some-clause-potentials
-returns-in_ok-breaks-in-Some-clause-potentials g c =
-    whole.potential _ _ (g.met.K.Costs.begins_free c.args.costs.now) c.args.n _ _ c.in_ok-potentials.ensures.known
+returns-in_ok-breaks-in-Some-clause-potentials g c = whole.potential _ _ (g.met.K.Costs.begins_free c.args.costs.now) c.args.n _ _ c.in_ok-potentials.ensures.known
 
 pub returns-in-None-clause-no_way : goal.returns-in-None-clause-no_way
 returns-in-None-clause-no_way g c =

@@ -18,5 +18,4 @@ returns-in_ok-add_break-in-Some-clause-step c es js v =
     )
 
 pub returns-in-None-clause-step : goal.returns-in-None-clause-step
-returns-in-None-clause-step c es js v =
-    none_break es c.args.choosing c.args.bar c.requires.sound c.requires.small (sym c.next_cost.ensures ∙ c.in-None.is)
+returns-in-None-clause-step c es js v = none_break es c.args.choosing c.args.bar c.requires.sound c.requires.small (sym c.next_cost.ensures ∙ c.in-None.is)

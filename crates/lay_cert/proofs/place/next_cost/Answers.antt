@@ -3,8 +3,7 @@ use Rattle.lay_cert.{specs.Indexed.looked_up, proofs.Kept.listed_past, proofs.Ke
 use Rattle.lay_cert.proofs.place.next_cost.Goals as goal
 
 pub returns-then-bar-choosing : goal.returns-then-bar-choosing
-returns-then-bar-choosing c =
-    listed_past c.args.choosing.now.bars c.args.choosing.now.at c.args.bar c.args.choosing.now.spans c.requires.spans c.if-bar-choosing.true
+returns-then-bar-choosing c = listed_past c.args.choosing.now.bars c.args.choosing.now.at c.args.bar c.args.choosing.now.spans c.requires.spans c.if-bar-choosing.true
 
 pub cost_of-requires-clause-within : goal.cost_of-requires-clause-within
 cost_of-requires-clause-within c =

@@ -1,7 +1,5 @@
 use Rattle.std.{proofs.{Common.{◌≡◌, length-drop, ◌∙◌, ◌+◌, ◌++◌, ◌∷◌, [], length, sym, ap, subst, arith}, lemmas.List.Elements.All-drop}, specs.List.All}
-use Rattle.mus_drawn.specs.Good.{AreGoodMeasures}
-use Rattle.mus_marks.{specs.Staff.verses_on, specs.System.stands_lower, proofs.Groups.group_turn, proofs.Groups.rest_from, proofs.Parts.verses_drop, proofs.Parts.verses_take}
-use Rattle.lay_measures.specs.Measures.{measure_staff}
+use Rattle.{mus_drawn.specs.Good.{AreGoodMeasures}, mus_marks.{specs.{Staff.verses_on, System.stands_lower}, proofs.{Groups.group_turn, Groups.rest_from, Parts.verses_drop, Parts.verses_take}}, lay_measures.specs.Measures.{measure_staff}}
 use Rattle.lay_measures.proofs.measures.measure_staves.Goals as goal
 
 pub measure_staff-requires-clause-verses : goal.measure_staff-requires-clause-verses

@@ -3,8 +3,7 @@ use Rattle.lay_springs.specs.Place.{HasPlaced}
 use Rattle.lay_spans.{specs.{Columns.{measures_from, span_columns}, SpanList.{IsForce, IsCost}}, proofs.{Adding.columns_some, Fitting.{force_of, seen_as, still_above, never_stands}, Growing.{placed_more, seen_more, costs_more, free_more, stops_at, stops_behind}, rows.row_from.Goals.{After-as_slice-columns, After-greatest_force, In_ok-push}}}
 use Rattle.lay_spans.proofs.rows.row_from.Goals as goal
 
-columns : (g : _) (c : After-as_slice-columns g)
-    → map (λ s. s.column.now) c.as_slice-columns.result.now ≡ span_columns c.args.starts.now c.args.others.now c.args.a (c.loop-m.m + 1)
+columns : (g : _) (c : After-as_slice-columns g) → map (λ s. s.column.now) c.as_slice-columns.result.now ≡ span_columns c.args.starts.now c.args.others.now c.args.a (c.loop-m.m + 1)
 columns g c =
     ap (λ seen. map (λ s. s.column.now) seen) c.as_slice-columns.ensures
     ∙ seen_more (λ s. s.column.now) c.loop-m.seen c.see.new.seen c.args.starts.now c.args.others.now c.args.a c.loop-m.m
@@ -12,8 +11,7 @@ columns g c =
     (c.in_ok-see.ensures ∙ ap (λ r. map (λ s. s.column.now) c.loop-m.seen ++ r) c.measure.ensures)
 
 -- what the search wrote stands where it was lent
-at_is : (g : _) (c : After-greatest_force g)
-    → take c.resize.new.self.len (c.greatest_force.new.at ++ drop (length c.greatest_force.new.at) c.resize.new.self.items) ≡ c.greatest_force.new.at
+at_is : (g : _) (c : After-greatest_force g) → take c.resize.new.self.len (c.greatest_force.new.at ++ drop (length c.greatest_force.new.at) c.resize.new.self.items) ≡ c.greatest_force.new.at
 at_is g c = take_at c.greatest_force.new.at _ c.resize.new.self.len (c.greatest_force.auto.at ∙ (ap (λ at. length at) c.deref_mut.ensures.value ∙ sym c.resize.new.self.ok.0))
 
 -- no longer span fits

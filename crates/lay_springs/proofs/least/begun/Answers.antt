@@ -3,8 +3,7 @@ use Rattle.lay_springs.{specs.Place.{reach_at, IsInside}, proofs.{Placing.{place
 use Rattle.lay_springs.proofs.least.begun.Goals as goal
 
 bound : (g : _) (c : After-first_of-first g) → c.first_of-first.result ≤ℤ pos 1048576
-bound g c =
-    c.first_of-first.ensures.least (pos 1048576) (omega (arith, ints)) (inside_bound _ _ c.requires.lanes (g.met.C.Spaced.is_near c.index-cols-0.result))
+bound g c = c.first_of-first.ensures.least (pos 1048576) (omega (arith, ints)) (inside_bound _ _ c.requires.lanes (g.met.C.Spaced.is_near c.index-cols-0.result))
 
 pub returns-clause-placed : goal.returns-clause-placed
 returns-clause-placed g c = record {

@@ -1,9 +1,7 @@
-use Rattle.std.proofs.{Common.{length, arith, refl, subst}, lemmas.{Int.ints, List.take_all}}
-use Rattle.lay_springs.{specs.Place.{reach_at, length_at, IsPlace}, proofs.{Ends.end_down, Moved.set_apart, margin.set.Goals.After-settle}}
+use Rattle.{std.proofs.{Common.{length, arith, refl, subst}, lemmas.{Int.ints, List.take_all}}, lay_springs.{specs.Place.{reach_at, length_at, IsPlace}, proofs.{Ends.end_down, Moved.set_apart, margin.set.Goals.After-settle}}}
 use Rattle.lay_springs.proofs.margin.set.Goals as goal
 
-place : (g : _) (c : After-settle g)
-    → IsPlace (length c.args.cols.now) (reach_at g.C.Spaced.reach_of c.args.cols.now) c.args.gaps.now (length_at g.C.Spring.length_of c.args.cols.now c.args.force) c.settle.new.at
+place : (g : _) (c : After-settle g) → IsPlace (length c.args.cols.now) (reach_at g.C.Spaced.reach_of c.args.cols.now) c.args.gaps.now (length_at g.C.Spring.length_of c.args.cols.now c.args.force) c.settle.new.at
 place g c =
     subst (λ at. IsPlace (length c.args.cols.now) (reach_at g.C.Spaced.reach_of c.args.cols.now) c.args.gaps.now (length_at g.C.Spring.length_of c.args.cols.now c.args.force) at)
     (take_all (length c.args.cols.now) c.settle.new.at (let same = c.settle.auto.at in let room = c.requires.room in omega arith)) c.settle.ensures.place

@@ -3,8 +3,7 @@ use Rattle.{mus_marks.{specs.Staff.verses_on, proofs.Fitting.few_verses}, lay_tu
 use Rattle.lay_tune.proofs.layout.lay_out.Goals as goal
 
 pub staff_verses-requires : goal.staff_verses-requires
-staff_verses-requires g c =
-    subst (λ vs. verses_on vs ≤ 128) (sym (c.as_slice.ensures ∙ c.in_ok-drawn.ensures.voices)) (few_verses c.args.s.now c.requires.good)
+staff_verses-requires g c = subst (λ vs. verses_on vs ≤ 128) (sym (c.as_slice.ensures ∙ c.in_ok-drawn.ensures.voices)) (few_verses c.args.s.now c.requires.good)
 
 pub lay_out_measures-requires-clause-columns : goal.lay_out_measures-requires-clause-columns
 lay_out_measures-requires-clause-columns g c κs within =

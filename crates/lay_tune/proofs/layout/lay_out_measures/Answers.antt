@@ -47,6 +47,5 @@ returns-clause-least g c =
 
 pub returns-clause-potentials : goal.returns-clause-potentials
 returns-clause-potentials g c =
-    subst (λ forced. (i : ℕ) → i ≤ c.args.s.now.measures
-    → IsPotential (listed c.in_ok-spans.spans.list) (is_forced c.args.s.now.measures forced) i (slice_index_or c.in-Ok.breaking.potentials i None))
+    subst (λ forced. (i : ℕ) → i ≤ c.args.s.now.measures → IsPotential (listed c.in_ok-spans.spans.list) (is_forced c.args.s.now.measures forced) i (slice_index_or c.in-Ok.breaking.potentials i None))
     c.as_slice-forced.ensures c.in-Ok.ensures.potentials

@@ -1,6 +1,5 @@
 use Rattle.std.{proofs.Common.subst, proofs.Common.sym, proofs.Common.ap, proofs.Common.◌≡◌, proofs.Common.◌≤◌, proofs.Common.length, proofs.Common.◌∙◌, proofs.Common.arith, specs.Prelude.map, specs.Prelude.sum, specs.List.sum_by}
-use Rattle.{mus_score.specs.{Good.weight, Times.flats_of}, mus_units.specs.Good.{IsGoodKey}}
-use Rattle.mus_drawn.{specs.Drawn.opening_of, specs.Drawn.standing_behind, specs.Good.AllCanDraw, proofs.GoodLaws.key_behind, proofs.GoodLaws.measure_good}
+use Rattle.{mus_score.specs.{Good.weight, Times.flats_of}, mus_units.specs.Good.{IsGoodKey}, mus_drawn.{specs.{Drawn.opening_of, Drawn.standing_behind, Good.AllCanDraw}, proofs.{GoodLaws.key_behind, GoodLaws.measure_good}}}
 use Rattle.mus_drawn.proofs.drawing.draw_measure.Goals as goal
 
 pub returns-clause-good : goal.returns-clause-good
@@ -19,5 +18,4 @@ returns-clause-now c =
     c.in_ok-draw_events.ensures.now (omega (arith, each, same)) ∙ ap (standing_behind c.args.now.now) (c.in_ok-flats.ensures.flats ∙ ap flats_of c.as_slice.ensures)
 
 pub returns-clause-key : goal.returns-clause-key
-returns-clause-key c =
-    subst (λ n. IsGoodKey n.key) (sym (returns-clause-now c)) (key_behind c.args.now.now (flats_of c.args.m.now.body) c.requires.key c.requires.events)
+returns-clause-key c = subst (λ n. IsGoodKey n.key) (sym (returns-clause-now c)) (key_behind c.args.now.now (flats_of c.args.m.now.body) c.requires.key c.requires.events)

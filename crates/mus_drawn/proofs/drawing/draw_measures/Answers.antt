@@ -4,12 +4,10 @@ use Rattle.mus_drawn.{specs.Good.AllCanDraw, specs.Good.AreGoodMeasures, specs.G
 use Rattle.mus_drawn.proofs.drawing.draw_measures.Goals as goal
 
 pub draw_measure-requires-clause-reach : goal.draw_measure-requires-clause-reach
-draw_measure-requires-clause-reach c =
-    (reach_here c.loop-m.now c.args.measures.now c.loop-m.m-index c.m-item.result (omega arith) c.m-item.is c.loop-m.invariant.reach).0
+draw_measure-requires-clause-reach c = (reach_here c.loop-m.now c.args.measures.now c.loop-m.m-index c.m-item.result (omega arith) c.m-item.is c.loop-m.invariant.reach).0
 
 pub draw_measure-requires-clause-events : goal.draw_measure-requires-clause-events
-draw_measure-requires-clause-events c =
-    (can_here c.args.measures.now c.loop-m.m-index c.m-item.result (omega arith) c.m-item.is c.loop-m.invariant.events).0
+draw_measure-requires-clause-events c = (can_here c.args.measures.now c.loop-m.m-index c.m-item.result (omega arith) c.m-item.is c.loop-m.invariant.events).0
 
 pub loop-m-preserved : goal.loop-m-preserved
 loop-m-preserved c = record {

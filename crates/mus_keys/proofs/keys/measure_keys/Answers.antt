@@ -1,6 +1,5 @@
 use Rattle.std.{proofs.Common.{◌∙◌, ◌+◌, ap, subst, sym, arith}, specs.List.{All, flat_map}}
-use Rattle.mus_time.specs.Keys.{AreKeys, IsInSystem}
-use Rattle.mus_keys.{specs.Columns.{keys_called, staff_columns}, proofs.{Called.{called_places, called_same}, Counts.{lengths_count, voices_count}, Few.few_called}}
+use Rattle.{mus_time.specs.Keys.{AreKeys, IsInSystem}, mus_keys.{specs.Columns.{keys_called, staff_columns}, proofs.{Called.{called_places, called_same}, Counts.{lengths_count, voices_count}, Few.few_called}}}
 use Rattle.mus_keys.proofs.keys.measure_keys.Goals as goal
 
 pub keys_called-requires-clause-within : goal.keys_called-requires-clause-within

@@ -1,6 +1,5 @@
 use Rattle.std.{proofs.{Common.{◌≡◌, length-drop, ◌∙◌, ◌+◌, [], ◌∷◌, ◌++◌, length, ap, subst, sym, arith}, lemmas.List.Elements.{All-drop, All-push}}, specs.List.All}
-use Rattle.mus_drawn.specs.Good.{AreGoodMeasures}
-use Rattle.mus_marks.{specs.Staff.CoversLines, specs.Staff.staff_marks, specs.Staff.verses_on, specs.System.stands_lower, proofs.Groups.group_turn, proofs.Groups.rest_from, proofs.Parts.verses_drop, proofs.Parts.verses_take}
+use Rattle.{mus_drawn.specs.Good.{AreGoodMeasures}, mus_marks.{specs.{Staff.CoversLines, Staff.staff_marks, Staff.verses_on, System.stands_lower}, proofs.{Groups.group_turn, Groups.rest_from, Parts.verses_drop, Parts.verses_take}}}
 use Rattle.mus_marks.proofs.staves.staves.Goals as goal
 
 pub staff_marks-requires-clause-verses : goal.staff_marks-requires-clause-verses

@@ -1,6 +1,5 @@
 use Rattle.std.proofs.Common.{◌≡◌, ◌∙◌, ◌≤◌, ◌+◌, ◌-◌, not, length, take, drop, ap, arith}
-use Rattle.mus_drawn.specs.Good.{AreGoodMeasures}
-use Rattle.mus_marks.{specs.Places.place_behind, specs.Staff.verses_on, proofs.Goods.all_behind, proofs.Groups.front_is, proofs.Placed.next_first, proofs.Placed.next_part, proofs.Placed.next_room, proofs.Placed.none_behind}
+use Rattle.{mus_drawn.specs.Good.{AreGoodMeasures}, mus_marks.{specs.{Places.place_behind, Staff.verses_on}, proofs.{Goods.all_behind, Groups.front_is, Placed.next_first, Placed.next_part, Placed.next_room, Placed.none_behind}}}
 use Rattle.mus_marks.proofs.staves.written_parts.Goals as goal
 
 pub loop-rest-preserved : goal.loop-rest-preserved

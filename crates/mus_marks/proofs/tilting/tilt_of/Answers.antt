@@ -1,7 +1,6 @@
 use Rattle.std.{proofs.Common.{◌∙◌, ◌≤◌, map, refl, ap, subst, sym, arith}, specs.List.{All, slice_range}}
-use Rattle.{mus_score.specs.Seats.{grouped}, mus_time.specs.Ranks.{AreRanked}, mus_drawn.specs.Good.{AreGoodMeasures}}
-use Rattle.mus_keys.proofs.{Called.keys_placed, Counts.{lengths_count, voices_count}, Few.few_keys}
-use Rattle.mus_marks.{specs.Staff.verses_on, specs.System.stands_lower, specs.Tilt.AllCanTilt, specs.Tilt.tilted_staff, proofs.Fitting.few_verses, proofs.Sloping.voices_can, proofs.Alike.tilted_alike, proofs.Alike.tilted_good}
+use Rattle.{mus_score.specs.Seats.{grouped}, mus_time.specs.Ranks.{AreRanked}, mus_drawn.specs.Good.{AreGoodMeasures}, mus_keys.proofs.{Called.keys_placed, Counts.{lengths_count, voices_count}, Few.few_keys}}
+use Rattle.mus_marks.{specs.{Staff.verses_on, System.stands_lower, Tilt.AllCanTilt, Tilt.tilted_staff}, proofs.{Fitting.few_verses, Sloping.voices_can, Alike.tilted_alike, Alike.tilted_good}}
 use Rattle.mus_marks.proofs.tilting.tilt_of.Goals as goal
 
 pub invariant_of-frame : goal.invariant_of-frame

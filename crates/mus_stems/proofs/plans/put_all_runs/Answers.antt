@@ -1,5 +1,4 @@
-use Rattle.std.proofs.Common.{subst, sym}
-use Rattle.mus_stems.{specs.Beams.is_joined, specs.Plans.run_plans, specs.Stills.IsGoodStill, specs.Stills.AllGood, proofs.RunLaws.run_step, proofs.RunLaws.all_take, proofs.RunLaws.all_drop}
+use Rattle.{std.proofs.Common.{subst, sym}, mus_stems.{specs.{Beams.is_joined, Plans.run_plans, Stills.IsGoodStill, Stills.AllGood}, proofs.{RunLaws.run_step, RunLaws.all_take, RunLaws.all_drop}}}
 use Rattle.mus_stems.proofs.plans.put_all_runs.Goals as goal
 
 pub loop-d-preserved : goal.loop-d-preserved

@@ -1,12 +1,10 @@
 use Rattle.std.{proofs.Common.◌∷◌, proofs.Common.◌++◌, proofs.Common.Some, proofs.Common.◌∙◌, proofs.Common.ap, proofs.Common.codes, proofs.Common.lit≤, specs.List.flat_map}
-use Rattle.{glyph_paths.specs.Procedure.{numbers}, ps_text.specs.{Fields.shown, Names.size_name}}
-use Rattle.ps_read.{specs.Titles.title_of, proofs.Forms.title_numbers, proofs.Forms.title_form, proofs.Forms.small_number, proofs.Forms.size_is_field}
+use Rattle.{glyph_paths.specs.Procedure.{numbers}, ps_text.specs.{Fields.shown, Names.size_name}, ps_read.{specs.Titles.title_of, proofs.{Forms.title_numbers, Forms.title_form, Forms.small_number, Forms.size_is_field}}}
 use Rattle.ps_read.proofs.lines.scan_title.Goals as goal
 use Rattle.eng_lines.proofs.Words.{after_prefix}
 
 pub returns-in_default : goal.returns-in_default
-returns-in_default c x y size words good e =
-    absurd (c.in_default.ensures (flat_map shown words ++ (41 ∷ (32 ∷ (numbers (title_numbers x y) ++ size_name size)))) (e ∙ title_form x y size words))
+returns-in_default c x y size words good e = absurd (c.in_default.ensures (flat_map shown words ++ (41 ∷ (32 ∷ (numbers (title_numbers x y) ++ size_name size)))) (e ∙ title_form x y size words))
 
 pub returns-in_default-strip : goal.returns-in_default-strip
 returns-in_default-strip c x y size words good e =

@@ -6,8 +6,7 @@ pub returns-then-is_text : goal.returns-then-is_text
 returns-then-is_text c = on_grestore c.args.page c.args.raw.now (c.is_text.ensures.0 c.if-is_text.true)
 
 pub returns-in-Some-eq0 : goal.returns-in-Some-eq0
-returns-in-Some-eq0 c =
-    none_tune_zero c.args.page c.args.raw.now (c.in-Some-eq0.ensures.0 ∙ ap (λ n. codes "% tune " ++ decimal n) c.in-Some-eq0.field-0-test)
+returns-in-Some-eq0 c = none_tune_zero c.args.page c.args.raw.now (c.in-Some-eq0.ensures.0 ∙ ap (λ n. codes "% tune " ++ decimal n) c.in-Some-eq0.field-0-test)
 
 pub returns-in_ok-page-in-Some : goal.returns-in_ok-page-in-Some
 returns-in_ok-page-in-Some c =

@@ -4,8 +4,7 @@ use Rattle.ps_text.proofs.Numbers.{small, fits}
 use Rattle.ps_text.proofs.scanning.parsed.Goals as goal
 
 pub returns-in_default : goal.returns-in_default
-returns-in_default c z n e =
-    absurd (c.in_default.ensures.cases.0 (rw e (IsUtf8-from_ascii _ (IsAscii-signed z (small z n)))))
+returns-in_default c z n e = absurd (c.in_default.ensures.cases.0 (rw e (IsUtf8-from_ascii _ (IsAscii-signed z (small z n)))))
 
 pub returns-in-Ok-parse : goal.returns-in-Ok-parse
 returns-in-Ok-parse c z n e =

@@ -9,5 +9,4 @@ loop-z-preserved c zs name h n e =
     (λ k. let f = c.in-Some.ensures.last (rw k n) in let x : ⊥ = cc in x))
 
 pub returns : goal.returns
-returns c zs name h n e =
-    numbers_end c.loop-z.zs c.loop-z.rest.now zs name (c.loop-z.invariant zs name h n e) (λ x r k. c.in_default.ensures.reads x r k)
+returns c zs name h n e = numbers_end c.loop-z.zs c.loop-z.rest.now zs name (c.loop-z.invariant zs name h n e) (λ x r k. c.in_default.ensures.reads x r k)

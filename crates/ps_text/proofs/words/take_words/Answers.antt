@@ -7,5 +7,4 @@ loop-b-preserved c words tail h e =
     (λ r k. let f = c.in-Some.ensures.ends r k in let x : ⊥ = cc in x))
 
 pub returns : goal.returns
-returns c words tail h e =
-    words_end c.loop-b.text c.loop-b.rest.now words tail (c.loop-b.invariant words tail h e) (λ x r s k. c.in_default.ensures.reads x r s k)
+returns c words tail h e = words_end c.loop-b.text c.loop-b.rest.now words tail (c.loop-b.invariant words tail h e) (λ x r s k. c.in_default.ensures.reads x r s k)

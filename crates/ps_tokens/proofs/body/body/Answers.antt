@@ -1,6 +1,5 @@
 use Rattle.std.proofs.Common.{◌≡◌, [], sym, ◌∙◌, append-nil, arith}
-use Rattle.ps_steps.specs.{declared.halt.Cause.Cause, Tokens.unclosed, Tokens.nested, Tokens.unread_within, Tokens.closes, Tokens.found, Tokens.Front}
-use Rattle.ps_tokens.proofs.{Bodies.body_more, Shorter.found_shorter, Shorter.passed_length}
+use Rattle.{ps_steps.specs.{declared.halt.Cause.Cause, Tokens.unclosed, Tokens.nested, Tokens.unread_within, Tokens.closes, Tokens.found, Tokens.Front}, ps_tokens.proofs.{Bodies.body_more, Shorter.found_shorter, Shorter.passed_length}}
 use Rattle.ps_tokens.proofs.body.body.Goals as goal
 
 pub returns-then-is_empty : goal.returns-then-is_empty
@@ -23,9 +22,7 @@ returns-in-Closing c =
     rw append-nil at (c.loop-here.invariant.body [] c.in-Closing.after.now (closes c.loop-here.rest.now c.in-Closing.after.now (rw (c.in-Closing.is, c.skip-here.ensures.passed) at c.in_ok-t.ensures)))
 
 pub returns-in-Opening : goal.returns-in-Opening
-returns-in-Opening c =
-    c.loop-here.invariant.none Cause.BadToken (nested c.loop-here.rest.now c.in-Opening.field-0.now (rw (c.in-Opening.is, c.skip-here.ensures.passed) at c.in_ok-t.ensures))
+returns-in-Opening c = c.loop-here.invariant.none Cause.BadToken (nested c.loop-here.rest.now c.in-Opening.field-0.now (rw (c.in-Opening.is, c.skip-here.ensures.passed) at c.in_ok-t.ensures))
 
 pub returns-in-Unread : goal.returns-in-Unread
-returns-in-Unread c =
-    c.loop-here.invariant.none c.in-Unread.cause (unread_within c.loop-here.rest.now c.in-Unread.cause (rw (c.in-Unread.is, c.skip-here.ensures.passed) at c.in_ok-t.ensures))
+returns-in-Unread c = c.loop-here.invariant.none c.in-Unread.cause (unread_within c.loop-here.rest.now c.in-Unread.cause (rw (c.in-Unread.is, c.skip-here.ensures.passed) at c.in_ok-t.ensures))

@@ -1,6 +1,5 @@
 use Rattle.std.proofs.Common.{◌∙◌, ap, sym, subst, arith, rules}
-use Rattle.{abc_header.specs.Papers.{height_of}, lay_pages.specs.Filling.{AreGoodBlocks, IsLoose}}
-use Rattle.set_pages.{specs.Press.HasRoom, proofs.{Joined.all_loose, Readying.all_whole, Whole.{fits_at, pressed_by, ready_spots}}}
+use Rattle.{abc_header.specs.Papers.{height_of}, lay_pages.specs.Filling.{AreGoodBlocks, IsLoose}, set_pages.{specs.Press.HasRoom, proofs.{Joined.all_loose, Readying.all_whole, Whole.{fits_at, pressed_by, ready_spots}}}}
 use Rattle.set_pages.proofs.press.press_outcomes.Goals as goal
 
 pub all_blocks-requires : goal.all_blocks-requires

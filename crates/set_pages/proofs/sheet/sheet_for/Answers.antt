@@ -2,8 +2,7 @@ use Rattle.{std.proofs.Common.{[]}, set_pages.proofs.Whole.{book_sheet, plan_ris
 use Rattle.set_pages.proofs.sheet.sheet_for.Goals as goal
 
 pub press_outcomes-requires-clause-room : goal.press_outcomes-requires-clause-room
-press_outcomes-requires-clause-room c =
-    room_alone c.args.even c.args.paper.now c.args.outcomes.now c.in_ok-plan.plan c.open_press-press.result c.open_press-press.ensures.value c.in_ok-plan.ensures
+press_outcomes-requires-clause-room c = room_alone c.args.even c.args.paper.now c.args.outcomes.now c.in_ok-plan.plan c.open_press-press.result c.open_press-press.ensures.value c.in_ok-plan.ensures
 
 pub returns : goal.returns
 returns c =

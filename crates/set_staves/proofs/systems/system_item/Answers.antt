@@ -1,6 +1,5 @@
 use Rattle.std.{proofs.Common.{◌≡◌, length, sym, subst, rules, arith}, specs.List.All}
-use Rattle.{mus_laid.specs.declared.laid.StaffMarks.{StaffMarks}, lay_shown.specs.Ranks.{AreAnchored, AreRanked, staves_ranks}}
-use Rattle.set_staves.{proofs.Ranged.good_system, proofs.Shown.shows_call, specs.Marks.ShowsCall, specs.Marks.staves_at}
+use Rattle.{mus_laid.specs.declared.laid.StaffMarks.{StaffMarks}, lay_shown.specs.Ranks.{AreAnchored, AreRanked, staves_ranks}, set_staves.{proofs.{Ranged.good_system, Shown.shows_call}, specs.{Marks.ShowsCall, Marks.staves_at}}}
 use Rattle.set_staves.proofs.systems.system_item.Goals as goal
 
 pub returns-clause-good : goal.returns-clause-good

@@ -5,12 +5,10 @@ pub returns-in-Err-clause-fault : goal.returns-in-Err-clause-fault
 returns-in-Err-clause-fault g c = score_refused c.args.tune.now (terms_of c.args.defaults.now c.args.paper.now c.args.how) c.in-Err.error c.in-Err.ensures.fault
 
 pub lay-requires-clause-titles : goal.lay-requires-clause-titles
-lay-requires-clause-titles g c κs within =
-    (few_titles c.args.tune.now c.args.defaults.now c.in-Ok.read.0 c.requires.tune c.in-Ok.ensures.score.is.read.value).0
+lay-requires-clause-titles g c κs within = (few_titles c.args.tune.now c.args.defaults.now c.in-Ok.read.0 c.requires.tune c.in-Ok.ensures.score.is.read.value).0
 
 pub lay-requires-clause-composers : goal.lay-requires-clause-composers
-lay-requires-clause-composers g c κs within =
-    (few_titles c.args.tune.now c.args.defaults.now c.in-Ok.read.0 c.requires.tune c.in-Ok.ensures.score.is.read.value).1
+lay-requires-clause-composers g c κs within = (few_titles c.args.tune.now c.args.defaults.now c.in-Ok.read.0 c.requires.tune c.in-Ok.ensures.score.is.read.value).1
 
 pub lay-requires-clause-heard : goal.lay-requires-clause-heard
 lay-requires-clause-heard g c κs within = heard_moved c.args.tune.now c.args.defaults.now (manner_of c.args.how) c.in-Ok.read.0 c.in-Ok.read.1 c.in-Ok.ensures.score
