@@ -1,37 +1,12 @@
 -- The lines of a body have a first fault, or they are a body whose items are good.
-use Rattle.std.{proofs.{Common.{◌≡◌, refl, sym, subst, ℕ, zero, suc, ◌*◌, ◌^◌, ◌≤◌, ◌<◌, ◌⊎◌, inl, inr, List, [], ◌∷◌, ◌++◌, length, Bool, true, false, All, Option, Some, None, flat_map, option_map, arith}, lemmas.{List.Elements.{All-nil, All-cons}, Nat.mul-le}, Math.Seq.take-length}, specs.Prelude.{⊤, Result, Ok, Err}}
+use Rattle.std.{proofs.{Common.{◌≡◌, refl, sym, subst, ℕ, ◌*◌, ◌^◌, ◌≤◌, ◌⊎◌, inl, inr, List, [], ◌∷◌, ◌++◌, length, Bool, true, false, All, Option, Some, None, flat_map, option_map, arith}, lemmas.{List.Elements.{All-nil, All-cons}, Nat.mul-le}, Math.Seq.take-length}, specs.Prelude.{⊤, Result, Ok, Err}}
 use Rattle.{mus_units.specs.declared.note.Head.{Head}, abc_lines.specs.{declared.{book.Line.Line, fault.Fault.Fault, fault.FaultKind.FaultKind, kind.LineKind.LineKind}, Kinds.kind_of}}
-use Rattle.abc_notes.{specs.declared.part.{Flaw.Flaw, Len.Len}, proofs.PartLaws.{less, longest_of, none_of}}
-use Rattle.abc_pieces.{specs.{declared.token.{Before.Before, Token.Token, WrittenChord.WrittenChord}, Forms.{Form, after, meant}, Reading.piece_at}, proofs.PieceReader.piece_reader}
-use Rattle.abc_tokens.{specs.{declared.token.Placed.Placed, Good.{AreGoodHeads, AreGoodTokens, IsGoodLen, IsGoodToken}, Tokens.{Front, clear, breaks, leads, column, put, fault_at}}, proofs.GoodLaws.good_front}
+use Rattle.{abc_notes.specs.declared.part.Len.{Len}, abc_pieces.specs.declared.token.{Before.Before, Token.Token, WrittenChord.WrittenChord}}
+use Rattle.abc_tokens.{specs.{declared.token.Placed.Placed, Good.{AreGoodHeads, AreGoodTokens, IsGoodLen, IsGoodToken}, Tokens.fault_at}, proofs.{Fronts.has_front, GoodLaws.good_front}}
 use Rattle.{abc_fields.specs.{declared.{directive.Breaks.Breaks, field.Field.Field}, Fields.{field_of, named_field}}, abc_header.specs.declared.header.Header.Header, abc_steps.specs.{declared.step.Item.Item, Good.IsGoodSound}}
 use Rattle.abc_items.specs.{Good.IsGoodItem, Voices.declared_ids}
 use Rattle.abc_items.specs.Body.{Given, gives, fails, field_given, chord_sound, sound, first_len, is_on, cut_given, token_given, placed_given, end_given, KindGives, BodyGives, no_lines, one_line, judged, first_fault, items_in, IsBody, HasFault}
-use Rattle.abc_every.proofs.{Flaws.line_flaw, GoodFields.{GoodRead, field_good, named_good}}
-
--- ---- what a line gives up to its first fault
-abbrev HasFront : Bool → ℕ → Before → ℕ → List ℕ → Type 0
-HasFront bang n before at s = (ts : List Placed) × (end : Option Flaw) × Front bang n before at s ts end
-
-front_by : (bang : Bool) (n : ℕ) (before : Before) (at byte : ℕ) (s : List ℕ) (read : Option (Form × List ℕ)) → piece_at bang before (byte ∷ s) ≡ read
-    → ((next : Before) (t : List ℕ) → length t < length (byte ∷ s) → HasFront bang n next (length (byte ∷ s)) t) → HasFront bang n before at (byte ∷ s)
-front_by bang n before at byte s None e next =
-    let f = line_flaw bang before at byte s e in
-    ([], Some f.0, breaks before at byte s f.0 (none_of (piece_reader bang before) (byte ∷ s) e) f.1)
-front_by bang n before at byte s (Some z) e next =
-    let r = piece_reader bang before in
-    let more = next (after z.0) z.1 (less r (byte ∷ s) z e) in
-    let all = put (meant z.0) (column n (length (byte ∷ s))) more.0 in
-    (all, more.1, leads before at (byte ∷ s) z.0 z.1 more.0 all more.1 (longest_of r (byte ∷ s) z e) more.2 refl)
-
-front_within : (bang : Bool) (n most : ℕ) (before : Before) (at : ℕ) (s : List ℕ) → length s ≤ most → HasFront bang n before at s
-front_within bang n most before at [] few = ([], None, clear before at)
-front_within bang n zero before at (byte ∷ s) few = absurd (omega (arith, few))
-front_within bang n (suc most) before at (byte ∷ s) few =
-    front_by bang n before at byte s (piece_at bang before (byte ∷ s)) refl (λ next t shorter. front_within bang n most next (length (byte ∷ s)) t (omega (arith, few, shorter)))
-
-pub has_front : (bang : Bool) (n : ℕ) (before : Before) (at : ℕ) (s : List ℕ) → (ts : List Placed) × (end : Option Flaw) × Front bang n before at s ts end
-has_front bang n before at s = front_within bang n (length s) before at s (omega arith)
+use Rattle.abc_every.proofs.GoodFields.{GoodRead, field_good, named_good}
 
 -- ---- what is given is good
 abbrev AreGood : List Given → Type 0

@@ -1,5 +1,4 @@
 mod Bodies
-mod Flaws
 mod GoodFields
 mod Headers
 pub mod Scores
