@@ -100,5 +100,5 @@ body_by : (h : Header) (lines : List Line) (given : List Given) (fault : Option 
 body_by h lines given (Some fault) so good e = inl (fault, record { count = length lines; given = given; gives_so = subst (λ ls. BodyGives h.breaks ls given) (sym (take-length lines)) so; first = e })
 body_by h lines given None so good e = inr (items_in given, record { given = given; gives_so = so; clear = e; are = refl }, items_good given good)
 
-pub has_body : (h : Header) (lines : List Line) → ((f : Fault) × HasFault h lines f) ⊎ ((items : List Item) × IsBody h lines items × All IsGoodItem items)
+pub has_body : (h : Header) (lines : List Line) → HasBody h lines
 has_body h lines = let all = has_given h.breaks lines in body_by h lines all.0 (first_fault (judged (declared_ids h) all.0)) all.1 all.2 refl

@@ -1,4 +1,4 @@
 mod Bodies
 mod GoodFields
 mod Headers
-pub mod Scores
+mod Scores

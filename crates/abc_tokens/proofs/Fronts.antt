@@ -1,9 +1,9 @@
 -- Where no piece stands there is a fault, so a line has a front from each of its places on.
 use Rattle.std.{specs.Prelude.{◌==◌, MatchBool, MatchOption}, proofs.{Common.{◌≡◌, ℕ, zero, suc, ◌+◌, ◌≤◌, ◌<◌, Bool, true, false, List, [], ◌∷◌, ◌++◌, length, Option, Some, None, refl, sym, ap, ◌∙◌, subst, arith, append-nil, eqb-true, option_map}, lemmas.Bool.eqb-false}}
 use Rattle.abc_lines.specs.declared.{book.Line.Line, fault.Fault.Fault, fault.FaultKind.FaultKind, fault.FaultKind.TheVariants.{BadByte, Unclosed, BadLength}}
-use Rattle.abc_notes.{specs.{Parts.{Flawed, stuck_here, stuck_later, IsFlaw, goes_on_length, length_at_place, walk, is_done}, Items.{has_length, IsBadByte, inner_at}, Runs.{begins, skip, span_all}, Chords.{ChordFault, is_inside, is_bracket, chord_at}, Graces.{GraceFault, IsGraceOwn, part_has_length, is_in_grace, chorded_read, grace_part_at, grace_at}, declared.part.Flaw.Flaw}, proofs.{PartLaws.{Reader, none_of, longest_of, less, by_parts, walk-none, walk-some}, InnerLaws.inner_reader, ChordLaws.{chord-unclosed, chord-open, chord-headless, chord-flawed}, GraceLaws.{part_reader, grace-unclosed, grace-open, grace-flawed}}}
+use Rattle.abc_notes.{specs.{Parts.{Flawed, stuck_here, stuck_later, IsFlaw, goes_on_length, length_at_place, walk, is_done}, Items.{has_length, IsBadByte, inner_at}, Runs.{begins, skip, span_all}, Chords.{ChordFault, is_inside, is_bracket, chord_at}, Graces.{GraceFault, IsGraceOwn, part_has_length, is_in_grace, grace_part_at, grace_at}, declared.part.Flaw.Flaw}, proofs.{PartLaws.{Reader, none_of, longest_of, less, by_parts, walk-none, walk-some}, InnerLaws.inner_reader, ChordLaws.{chord-unclosed, chord-open, chord-headless, chord-flawed}, GraceLaws.{no_chord as no_chord_in_grace, part_reader, grace-unclosed, grace-open, grace-flawed}}}
 use Rattle.abc_pieces.{specs.{Forms.{meant, after, opening}, Reading.{Read, piece_at}, declared.token.{Before.Before, Opening.Opening}}, proofs.PieceReader.piece_reader}
-use Rattle.abc_tokens.{specs.{declared.token.{Placed.Placed, Place.Place, Behind.Behind}, Good.AreGoodTokens, Tokens.{Front, clear, breaks, leads, column, put, kind_behind, IsHere, IsBracketFlaw, IsOwnFlaw, fault_at, FrontFrom, PartOf}}, proofs.{GoodLaws.good_front, Line.{unmapped, no_chord, no_grace}}}
+use Rattle.abc_tokens.{specs.{declared.token.{Placed.Placed, Place.Place, Behind.Behind}, Good.AreGoodTokens, Tokens.{Front, clear, breaks, leads, column, put, kind_behind, IsHere, IsBracketFlaw, IsOwnFlaw, fault_at, FrontFrom, PartOf}}, proofs.{GoodLaws.good_front, Line.{no_chord, no_grace}}}
 
 abbrev HasFlaw : (Flaw → Type 0) → Type 0
 HasFlaw Is = (flaw : Flaw) × Is flaw
@@ -49,12 +49,8 @@ chord_flaw : (bang : Bool) (s : List ℕ) → chord_at bang s ≡ None → HasFl
 chord_flaw bang s none = chord_by bang s none (length (span_all is_inside s).1 == 0) (is_done (walk (inner_at bang) s)) (begins is_bracket (walk (inner_at bang) s).1) refl refl refl
 
 -- the fault of a grace group
-no_chord_there : (bang : Bool) (byte : ℕ) (s : List ℕ) → byte ≡ 91 → grace_part_at bang (byte ∷ s) ≡ None → chord_at bang s ≡ None
-unfolding grace_part_at
-no_chord_there bang byte s is none = unmapped chorded_read (chord_at bang s) (ap (λ b. grace_part_at bang (b ∷ s)) (sym is) ∙ none)
-
 grace_own : (bang : Bool) (byte : ℕ) (s : List ℕ) → grace_part_at bang (byte ∷ s) ≡ None → HasFlaw (IsGraceOwn bang (byte ∷ s))
-grace_own bang byte s none = by_test (byte == 91) (λ e. chord_flaw bang s (no_chord_there bang byte s (eqb-true byte 91 e) none)) (here BadByte (byte ∷ s))
+grace_own bang byte s none = by_test (byte == 91) (λ e. chord_flaw bang s (no_chord_in_grace bang (byte ∷ s) s byte refl (eqb-true byte 91 e) none)) (here BadByte (byte ∷ s))
 
 grace_by : (bang : Bool) (s : List ℕ) → grace_at bang s ≡ None → (ends done : Bool) → (length (span_all is_in_grace s).1 == 0) ≡ ends → is_done (walk (grace_part_at bang) (skip 47 s).1) ≡ done → HasFlaw (GraceFault bang s)
 grace_by bang s none true done e f = (record { kind = Unclosed; left = length s + 1 }, grace-unclosed bang s (span_all is_in_grace s).0 (span_all is_in_grace s).1 refl (eqb-true (length (span_all is_in_grace s).1) 0 e))

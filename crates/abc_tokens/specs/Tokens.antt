@@ -95,18 +95,24 @@ pub record IsStart (line : Line) (place : Place) : Type 0 where
   pub before : place.before ≡ Before.Other
   pub at : place.at ≡ 0
 
-abbrev pub IsPlaceIn : Line → Place → Type 0
-IsPlaceIn line place = (length place.rest.now ≤ length line.text) × (place.at ≤ length line.text)
+-- no more is left at a place than the line has, and the piece before it begins within the line
+abbrev pub IsWithin : Line → Place → Type 0
+IsWithin line place = (length place.rest.now ≤ length line.text) × (place.at ≤ length line.text)
 
--- the same from a place on
+-- the tokens from a place of a line up to its first fault, and that fault if there is one
 abbrev pub FrontFrom : Bool → Line → Place → List Placed → Option Fault → Type 0
 FrontFrom bang line place ts fault = (end : Option Flaw) × Front bang (length line.text) place.before place.at place.rest.now ts end × (fault ≡ option_map (fault_at line) end)
 
--- tokens lead from a place to a later one: whatever stands from there on stands behind them
+-- tokens lead from a place to another: whatever stands from there on stands behind them
 abbrev pub LeadsTo : Bool → Line → Place → List Placed → Place → Type 0
 LeadsTo bang line place ts next = (more : List Placed) (fault : Option Fault) → FrontFrom bang line next more fault → FrontFrom bang line place (ts ++ more) fault
 
 -- a part of a line: tokens that lead to a later place, or all that stands before the first fault or the end
 abbrev pub PartOf : Bool → Line → Place → List Placed → Behind → Type 0
-PartOf bang line place ts (Behind.More next) = LeadsTo bang line place ts next × IsPlaceIn line next × (length next.rest.now < length place.rest.now)
+PartOf bang line place ts (Behind.More next) = LeadsTo bang line place ts next × IsWithin line next × (length next.rest.now < length place.rest.now)
 PartOf bang line place ts (Behind.End fault) = FrontFrom bang line place ts fault
+
+-- a part has at most a thousand tokens, and just as many where more of the line stands behind them
+abbrev pub IsFull : List Placed → Behind → Type 0
+IsFull ts (Behind.More next) = length ts ≡ 1000
+IsFull ts (Behind.End fault) = length ts ≤ 1000

@@ -1,7 +1,7 @@
 ghost use Rattle.std.specs.Prelude.{◌≡◌, ◌≢◌, ◌≤◌, ◌<◌, ◌+◌, ◌-◌, ◌^◌, ◌++◌, ◌∷◌, ℕ, List, length, IfOk, IfErr, OnOk, [], None};
 ghost use Rattle.{abc_lines.specs.{Kinds.code, Good.IsGoodLine}, abc_notes.specs.Chords.{chord_at}};
 ghost use Rattle.abc_pieces.specs.{Forms.opening, Forms.is_kept_field, declared.token.Opening.TheVariants.Chord, Reading.piece_at, Reading.token_of, Reading.found_within};
-ghost use Rattle.abc_tokens.specs.{declared.token.Placed.Placed, Good.AreGoodTokens, Tokens.{TokensOf, IsErrorOf, FrontOf, IsStart, IsPlaceIn, PartOf, column, put, fault_at, kind_behind, kind_if, IsBracketFlaw, IsLineFlaw, IsOwnFlaw}};
+ghost use Rattle.abc_tokens.specs.{declared.token.Placed.Placed, Good.AreGoodTokens, Tokens.{TokensOf, IsErrorOf, FrontOf, IsFull, IsStart, IsWithin, PartOf, column, put, fault_at, kind_behind, kind_if, IsBracketFlaw, IsLineFlaw, IsOwnFlaw}};
 
 use crate::token::{Behind, Front, Part, Place, Placed};
 use abc_lines::{Fault, FaultKind, Line, TuneError};
@@ -67,8 +67,8 @@ pub fn start(line: &Line) -> Place<'_>
 }
 
 /// The tokens of a music line from a place on, up to its first fault or to the thousandth of them, and
-/// what stands behind them. So a line is read in parts, and no more than a thousand of its tokens are
-/// held at once. Linear in what is read.
+/// what stands behind them. So a line can be read in parts of which one alone is held at a time.
+/// Linear in what is read.
 pub fn read_part<'a>(
     alloc: Global,
     line: &Line,
@@ -76,9 +76,9 @@ pub fn read_part<'a>(
     place: Place<'a>,
 ) -> Result<Part<'a>, Memory>
     requires line { IsGoodLine line.now }
-    requires place { IsPlaceIn line.now place }
+    requires place { IsWithin line.now place }
     ensures part { IfOk result (λ part. PartOf bang line.now place.entry part.tokens part.behind) }
-    ensures few { IfOk result (λ part. length part.tokens ≤ 1000) }
+    ensures full { IfOk result (λ part. IsFull part.tokens part.behind) }
     ensures good { IfOk result (λ part. AreGoodTokens part.tokens) }
 {
     let mut tokens = Row::with_room(alloc, place.rest.len().min(MOST))?;

@@ -25,8 +25,8 @@ pub struct Place<'a> {
     pub at: usize,
 }
 
-/// What stands behind a part of a music line: more of the line, or its end, with
-/// the fault that it has there.
+/// What stands behind a part of a music line: more of the line from a place on, or
+/// no more: its first fault, or else its end.
 #[derive(Clone, Copy)]
 pub enum Behind<'a> {
     More(Place<'a>),

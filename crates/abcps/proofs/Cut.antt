@@ -3,7 +3,7 @@ use Rattle.std.{proofs.{Common.{◌≡◌, refl, sym, ap, ◌∙◌, subst, ◌�
 use Rattle.abc_lines.specs.{declared.{book.{Book.Book, TuneText.TuneText}, fault.Fault.Fault}, Books.book_of}
 use Rattle.abc_header.specs.{declared.{defaults.Defaults.Defaults, paper.Paper.Paper}, Defaults.defaults_of, Papers.{IsGoodPaper, height_of, paper_of}}
 use Rattle.{ps_text.specs.{Document.document, declared.sheet.Page.Page}, set_book.{specs.{declared.outcome.Outcome.Outcome, Outcomes.{AreOutcomes, IsOutcome}}, proofs.Once.outcomes_once}}
-use Rattle.{set_lists.specs.Reports.{some_fault}, lay_pages.specs.Filling.{AreGoodBlocks}, set_every.proofs.Every.{every_tune}}
+use Rattle.{set_lists.specs.Reports.{some_fault}, lay_pages.specs.Filling.{AreGoodBlocks}, set_every.specs.Every.{EveryTuneHasAnOutcome}}
 use Rattle.set_pages.{specs.{Sheet.{IsPlan, IsSetResult, IsSetUnder, all_spots, frame_of, sheet_of}, declared.{plan.Plan.Plan, press.Press.Press}, Drawings.{all_blocks, all_drawings, outcome_blocks, result_blocks}, Press.{HasRoom, IsOpen, IsPressed, RisesBy, done_pages}}, proofs.{Fronts.{IsFront, done_first, done_front}, Standing.good_append, Whole.{one_plan, plan_rises, plan_stands, room_by, sheet_whole, stand_count}, Zips.{zip_back, zip_front}}}
 use Rattle.abcps.{specs.{Pressed.{AreCutOff, AreRunning, IsClosed, IsPlanned, IsPrinted, IsUnprinted, WasCounted, WasStopped, all_set, first_text, rest_text, some_left, status_if, unbegun}, Called.Called, Books.{AreSet, CallsPages, pages_called, paper_in, terms_in}, Outcome.{HasFront, IsAnswer, IsCutShort, IsEnd, IsQuiet, Stream, TookAll, TookFront}, declared.{pressing.{Printed.Printed, Running.Running}, status.Status.Status}}, proofs.{Sent.{document_parts, front_longer, stopped_behind, stopped_count, stopped_front, stopped_longer, stream, took_behind}, Answered.{answer_by, answered_end}, Batches.IsUnderway, BookCalls.set_under}}
 use Rattle.{set_tune.{specs.{Blocks.{blocks_of, is_some_list}, Terms.{Manner, Terms}, declared.tune.SetTune.SetTune}, proofs.{GoodBlocks.good_blocks, Laid.good_heights}}, abcps_words.specs.declared.command.Command.{Command}}
@@ -77,7 +77,7 @@ room_underway even terms plan tunes rest batch n o r more front planned way set 
     planned_room even terms way.before batch (drop n rest) plan run.outcomes more run.given r.press
     (subst (λ l. IsPlanned even terms l plan) whole planned) run.set set run.running.pressed
 
--- the pages that were done when some tunes were set are the first of whatever the book calls for
+-- the pages that were done when some tunes were set are the first pages of the whole book
 front_called : (terms : Terms) (plan : Plan) (before rest : List TuneText) (outcomes all : List Outcome) (given : List Page) (press : Press)
     → AreOutcomes terms before outcomes → IsPressed plan terms.paper outcomes given press → AreOutcomes terms (before ++ rest) all → length (all_drawings all) ≡ length (all_spots plan terms.paper all)
     → IsFront (given ++ done_pages press) (sheet_of plan terms.paper all).pages
@@ -110,7 +110,7 @@ blocks_good paper [] set = tt
 blocks_good paper (o ∷ os) set =
     good_append (outcome_blocks o) (all_blocks os) (result_good paper o.result (All-head (IsSetUnder paper) o os set).result) (blocks_good paper os (All-tail (IsSetUnder paper) o os set))
 
-module _ (manner : Manner) (even : Bool) (text : List ℕ) (plan : Plan) (o : Stream) (why : Status) (good : IsGoodPaper (paper_in text))
+module _ (manner : Manner) (even : Bool) (text : List ℕ) (plan : Plan) (o : Stream) (why : Status) (every : EveryTuneHasAnOutcome) (good : IsGoodPaper (paper_in text))
     (planned : IsPlanned even (terms_in manner text) (book_of text).tunes plan)
     (cut : AreCutOff (terms_in manner text) plan (book_of text).tunes o why) where
   -- the front of a document that went out
@@ -127,7 +127,7 @@ module _ (manner : Manner) (even : Bool) (text : List ℕ) (plan : Plan) (o : St
     parted_all : IsPlan even (paper_in text) all plan
     parted_all = plan_of_all even (terms_in manner text) (book_of text).tunes plan all planned set
 
-    -- it is one of the document of all tunes
+    -- what went out is a front of the document of all tunes
     front_whole : HasFront o (document (sheet_of plan (paper_in text) all))
     front_whole =
         let given = cut.given ++ done_pages cut.press in
@@ -136,7 +136,7 @@ module _ (manner : Manner) (even : Bool) (text : List ℕ) (plan : Plan) (o : St
         let front = front_called (terms_in manner text) plan cut.before cut.rest cut.outcomes all cut.given cut.press cut.set cut.pressed behind (stand_count plan (paper_in text) all under stand.stand) in
         text_front plan (paper_in text) all given o front (stopped_front why o (first_text (paper_in text) given) cut.wrote)
 
-    -- and of that of the tunes that were set
+    -- and of the document of the tunes that were set
     front_first : HasFront o (document (sheet_of plan (paper_in text) (take (length cut.before) all)))
     front_first =
         let one = outcomes_once (terms_in manner text) cut.before (take (length cut.before) all) cut.outcomes (zip_front (IsOutcome (terms_in manner text)) cut.before cut.rest all behind) cut.set in
@@ -155,7 +155,7 @@ module _ (manner : Manner) (even : Bool) (text : List ℕ) (plan : Plan) (o : St
       all_set (pages_called plan (paper_in text) cut.outcomes) (calls_pages manner even text cut.outcomes plan cut.given cut.press set parted good cut.free cut.pressed) stopped_all
   unprinted_by (tune ∷ rest) is =
       let whole = ap (λ l. cut.before ++ l) (sym is) ∙ cut.whole in
-      let all = every_tune.book text manner in
+      let all = every.book text manner in
       some_left
       (record {
         count = length cut.before;

@@ -57,8 +57,9 @@ WasTold s line = TookAll s line ⊎ TookFront s line
 abbrev pub WasCut : Called → Stream → Stream → Type 0
 WasCut called o e = (TookFront o called.page × IsQuiet e) ⊎ (TookAll o called.page × TookFront e called.told)
 
--- `set` ended while some tunes of its book were left, so many having been set. Each of its tunes has an outcome all the same, and what
--- output took is a front of the document of all of them; and of the document of the tunes that were set, by the same plan.
+-- `set` ended while some tunes of its book were left. Each tune has an outcome all the same, and what output took is a front of the
+-- document of all of them, and of the document of the first of them, fewer than all, by the same plan; so it is one of whatever is
+-- called for of the book.
 pub record IsCutShort (manner : Manner) (even : Bool) (text : List ℕ) (o : Stream) : Type 0 where
   pub count : ℕ
   pub left : count < length (book_of text).tunes

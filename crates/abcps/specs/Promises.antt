@@ -59,9 +59,9 @@ pub record Promises (s : Status) (words : List (List ℕ)) (i o e : Stream) : Ty
   -- at which its run halts and the cause; nothing is written to output
   pub refused : IsRefusal s → (c : Command) × (text : List ℕ) × IsWhole c words i text × IsRefused c s text o e
   -- a fault of a sink is answered only where its count rose: output has a front of its text and errors nothing, or output has
-  -- all of it and errors a front of its own; where `set` had tunes left, output has a front of the document of all of its book
+  -- all of it and errors a front of its own; where `set` had tunes left, output has a front of the document of its whole book
   pub write_fault : s ≡ Status.WriteFault → (c : Command) × (text : List ℕ) × IsWhole c words i text × HasFailed c text o e
-  -- for want of memory errors has nothing, and output nothing or a front of its text, or of the document of a book of which `set` had tunes left
+  -- for want of memory errors has nothing, and output nothing or a front of its text, or of the document of a whole book of which `set` had tunes left
   pub memory : s ≡ Status.Memory → IsQuiet e × (IsQuiet o ⊎ ((c : Command) × (text : List ℕ) × IsWhole c words i text × HasPart c text o))
   -- every other answer is the one that is called for, and both sinks have their whole texts
   pub done : s ≢ Status.Usage → s ≢ Status.ReadFault → s ≢ Status.TooLong → (IsRefusal s → ⊥) → s ≢ Status.WriteFault → s ≢ Status.Memory → (c : Command) × (text : List ℕ) × IsWhole c words i text × IsDone c s text o e

@@ -12,6 +12,7 @@ use eng_io::Sink;
 use lay_pages::Block;
 use mus_units::{Memory, Row, Text};
 use set_book::{Gate, set_tunes};
+use set_every::every_tune_has_an_outcome;
 use set_pages::{Plan, even_plan, gather_blocks};
 use set_tune::How;
 use std::alloc::Global;
@@ -176,6 +177,7 @@ pub(crate) fn print_book<R: Threads + Sync, O: Sink, G: Gate + Sync>(
     requires within { length text ≤ 2 ^ 30 }
     ensures { IsPrinted (manner_of how) even text (observed O.taken O.faults output.old output.new) result }
 {
+    every_tune_has_an_outcome();
     let book = cut_text(alloc, text)?;
     let paper = read_paper(&book);
     let defaults = read_defaults(alloc, &book)?;

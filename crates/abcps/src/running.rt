@@ -15,7 +15,6 @@ use eng_io::{ReadError, Sink, Source, read_all};
 use mus_units::Text;
 use ps_machine::one_answer;
 use set_book::{Gate, one_outcome};
-use set_every::every_tune_has_an_outcome;
 use set_lists::no_way_is_exact;
 use set_tune::How;
 use std::alloc::Global;
@@ -155,8 +154,8 @@ pub fn never_both()
 ///
 /// `set` reads its book whole, and then writes pages as they fill, before the tunes behind them are
 /// set; it tells faults once the document is written. Where a write fails or memory runs out while
-/// tunes are left, what went out is a front of the document of all of them, since each has an outcome
-/// whether it was set or not; and nothing is told.
+/// tunes are left, what went out is a front of the whole book's document, since each tune has an
+/// outcome, set or not; and nothing is told.
 ///
 /// Faulty tunes of `set` and `systems` are told on `errors`, a line each. With `flow` no bar is
 /// forced, and a score is moved by `by` semitones before it is set; with `even` the groups of blocks
@@ -180,6 +179,5 @@ pub fn run<R: Threads + Sync, S: Source, O: Sink, E: Sink, G: Gate + Sync>(
     calls_one();
     never_both();
     no_way_is_exact();
-    every_tune_has_an_outcome();
     run_words(rt, alloc, words, input, output, errors, gate)
 }

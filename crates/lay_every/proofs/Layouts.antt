@@ -2,8 +2,8 @@
 use Rattle.std.{specs.{Prelude.{◌≤◌, ◌⊎◌}, List.{All, AllByRecursion}}, proofs.{Common.{ℕ, inl, inr, refl, List, [], ◌∷◌, arith}, lemmas.List.Elements.All-from_recursion}}
 use Rattle.{mus_score.specs.{declared.score.Score.Score, GoodScore.IsGoodScore}, mus_time.specs.Onsets.{timeline_of}, mus_laid.specs.{declared.laid.SystemMarks.SystemMarks, Boxes.AreGoodMarks}, mus_marks.proofs.Alike.{tilted_good}}
 use Rattle.{lay_springs.specs.declared.margin.Placed.{Placed}, lay_pages.specs.declared.stacking.Heights.{Heights}, lay_breaks.specs.{declared.costs.Span.Span, Breaking.{FitsFrom, RisesFrom, last_from}, Spans.{AreSpans, listed, listed_stops}}}
-use Rattle.lay_tune.{specs.{declared.layout.Layout.Layout, Layout.IsNoWay, Spans.{AreSpansOf, is_forced_in}, Systems.{Beside, EachSpan, IsSetSystem, IsStack}}, proofs.{Breakings.least_of, Open.{past_last, some_of}}}
-use Rattle.lay_every.{specs.Every.{EveryScoreIsLaid, IsLayout}, proofs.{Broken.has_breaking, Set.has_set_system, Spans.has_spans, Stacked.has_stack}}
+use Rattle.lay_tune.{specs.{declared.layout.Layout.Layout, Layout.{IsLayout, IsNoWay}, Spans.{AreSpansOf, is_forced_in}, Systems.{Beside, EachSpan, IsSetSystem, IsStack}}, proofs.{Breakings.least_of, Open.{past_last, some_of}}}
+use Rattle.lay_every.{specs.Every.EveryScoreIsLaid, proofs.{Broken.has_breaking, Set.has_set_system, Spans.has_spans, Stacked.has_stack}}
 
 -- the texts of a system are good
 abbrev HaveGoodTexts : SystemMarks → Type 0

@@ -1,7 +1,7 @@
 mod Broken
 mod Columns
 mod Forced
-pub mod Layouts
+mod Layouts
 mod Made
 mod Set
 mod Spans

@@ -1,4 +1,5 @@
-//! The law of existence of layouts: every score is laid out on a width, or has no way.
+//! The law of existence of layouts: every good score whose measures have a voice is laid out on a
+//! width, or has no way there.
 #![tactic(auto)]
 
 pub mod law;

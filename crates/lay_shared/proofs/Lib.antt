@@ -1,5 +1,5 @@
 pub mod DrawnLaws
-pub mod EachLaws
+mod EachLaws
 pub mod PlanLaws
-pub mod SignLaws
-pub mod TreeLaws
+mod SignLaws
+mod TreeLaws

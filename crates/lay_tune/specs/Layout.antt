@@ -1,7 +1,23 @@
--- Why a score has no layout.
-use Rattle.{std.specs.Prelude.{ℕ, ⊤, List}, mus_score.specs.declared.score.Score.{Score}}
-use Rattle.lay_breaks.specs.{declared.costs.Span.Span, declared.breaking.BreakError.BreakError, Breaking.IsReached, Breaking.NoneLegal, Spans.AreSpans, Spans.listed}
-use Rattle.lay_tune.specs.{declared.layout.LayoutError.LayoutError, Spans.AreSpansOf, Spans.is_forced_in, declared.layout.LayoutError.TheVariants.NoWay, declared.layout.LayoutError.TheVariants.Memory}
+-- What a layout of a score is, and why a score has none.
+use Rattle.std.specs.Prelude.{◌≡◌, ◌+◌, ◌≤◌, ℕ, ⊤, List, length, All, None, slice_index_or}
+use Rattle.{mus_score.specs.declared.score.Score.{Score}, mus_laid.specs.Boxes.{AreGoodMarks}}
+use Rattle.lay_breaks.specs.{declared.costs.Span.Span, declared.breaking.BreakError.BreakError, Breaking.{IsChosen, IsPotential, IsReached, NoneLegal, sum_from}, Spans.AreSpans, Spans.listed}
+use Rattle.lay_tune.specs.{declared.layout.LayoutError.LayoutError, Spans.AreSpansOf, Spans.is_forced_in, declared.layout.LayoutError.TheVariants.NoWay, declared.layout.LayoutError.TheVariants.Memory, declared.layout.Layout.Layout, Breakings.IsLeastBreaking, Systems.{Beside, EachSpan, IsSetSystem, IsStack}}
+
+-- The score laid out on a width: the listed spans are exactly those that fit, the breaking is the chosen one over them and the one
+-- of least total of the score, and each of its systems has the marks that the score calls for, set to the width and tilted there,
+-- and its staves under one another.
+pub record IsLayout (s : Score) (width : ℕ) (l : Layout) : Type 0 where
+  pub form : AreSpans s.measures l.spans
+  pub spans : AreSpansOf s width l.spans
+  pub chosen : IsChosen (listed l.spans) (is_forced_in s) s.measures l.breaking.breaks
+  pub total : l.breaking.total ≡ sum_from (listed l.spans) 0 l.breaking.breaks
+  pub least : IsLeastBreaking s width l.breaking.breaks l.breaking.total
+  pub one_each : length l.breaking.potentials ≡ s.measures + 1
+  pub potentials : (i : ℕ) → i ≤ s.measures → IsPotential (listed l.spans) (is_forced_in s) i (slice_index_or l.breaking.potentials i None)
+  pub systems : EachSpan (IsSetSystem s width) 0 l.breaking.breaks l.systems l.placed
+  pub heights : Beside (IsStack s) l.systems l.heights
+  pub texts : All (λ m. All (λ staff. AreGoodMarks staff.marks) m.staves) l.systems
 
 -- no breaking into the spans that fit is legal; `reached` is the greatest bar at which a legal prefix ends
 pub record IsNoWay (s : Score) (width reached : ℕ) (spans : List Span) : Type 0 where

@@ -71,6 +71,6 @@ spelled_if : (line : Line) (w : Score) (read : Option Plan) → IsGoodScore w �
 spelled_if line w None good e = (Err (share_fault line FaultKind.BadScore), inl ((λ plan spells. let clash = sym e ∙ spelled-read (ids_of w) line.text plan (apart_ids w good) spells in cc), refl), tt)
 spelled_if line w (Some plan) good e = shared_if line w plan good (subst (λ r. IfSome r (Spells (ids_of w) line.text)) e (read-spells (ids_of w) line.text)) (do_share w plan)
 
-pub has_drawn : (staves : Option Line) (w : Score) → IsGoodScore w → (r : Result Score Fault) × IsDrawn staves w r × IfOk r IsGoodScore
+pub has_drawn : (staves : Option Line) (w : Score) → IsGoodScore w → HasDrawn staves w
 has_drawn None w good = (Ok w, refl, good)
 has_drawn (Some line) w good = spelled_if line w (plan_by (signs_from (ids_of w) [] line.text)) good refl

@@ -1,4 +1,4 @@
 mod Defaults
 mod Draws
-pub mod Every
+mod Every
 mod Moves

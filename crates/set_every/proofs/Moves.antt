@@ -20,6 +20,6 @@ moved_if d key by far good (yes can) =
     (Some (moved_score d key by), record { same = λ e. absurd (far e); higher = λ n. (can, refl) }, (is, refl, length-map d.voices (voice_by (move_from key by))))
 moved_if d key by far good (no cant) = (None, record { same = λ e. absurd (far e); higher = λ n. cant }, tt)
 
-pub has_moved : (d : Score) (key : Key) (by : ℤ) → IsGoodScore d → (r : Option Score) × IsMoved d key by r × IfSome r (λ t. IsGoodScore t × (t.measures ≡ d.measures) × (length t.voices ≡ length d.voices))
+pub has_moved : (d : Score) (key : Key) (by : ℤ) → IsGoodScore d → HasMoved d key by
 has_moved d key (pos zero) good = (Some d, record { same = λ e. refl; higher = λ n. absurd (n refl) }, (good, refl, refl))
 has_moved d key by good = moved_if d key by (λ e. cc) good (can_move d key by)

@@ -1,7 +1,13 @@
 ghost use Rattle.set_every.specs.Every.{EveryTuneHasAnOutcome};
 
+use abc_every::every_text_is_read;
+use lay_every::every_score_is_laid;
+
 /// The law of this crate: every tune has an outcome under good defaults, and so has every book a
 /// list of outcomes, of whatever size they are. Does nothing.
 pub fn every_tune_has_an_outcome()
     ensures { EveryTuneHasAnOutcome }
-{}
+{
+    every_text_is_read();
+    every_score_is_laid();
+}

@@ -61,20 +61,12 @@ pub record CantMove (tune : TuneText) (defaults : Defaults) (manner : Manner) : 
   pub draws : IsDrawn header.staves written (Ok drawn)
   pub moved : IsMoved drawn header.key manner.by None
 
--- The score laid out on a width: the listed spans are exactly those that fit, the breaking is the chosen one over them and the one
--- of least total of the score, and each of its systems has the marks that the score calls for, set to the width and tilted there,
--- and its staves under one another.
-pub record IsLaidOut (width : ℕ) (t : SetTune) : Type 0 where
-  pub form : AreSpans t.score.measures t.spans
-  pub spans : AreSpansOf t.score width t.spans
-  pub chosen : IsChosen (listed t.spans) (is_forced_in t.score) t.score.measures t.breaking.breaks
-  pub total : t.breaking.total ≡ sum_from (listed t.spans) 0 t.breaking.breaks
-  pub least : IsLeastBreaking t.score width t.breaking.breaks t.breaking.total
-  pub one_each : length t.breaking.potentials ≡ t.score.measures + 1
-  pub potentials : (i : ℕ) → i ≤ t.score.measures → IsPotential (listed t.spans) (is_forced_in t.score) i (slice_index_or t.breaking.potentials i None)
-  pub systems : EachSpan (IsSetSystem t.score width) 0 t.breaking.breaks t.systems t.placed
-  pub heights : Beside (IsStack t.score) t.systems t.heights
-  pub texts : All (λ m. All (λ staff. AreGoodMarks staff.marks) m.staves) t.systems
+-- the parts of a tune that are its layout
+abbrev pub layout_of : SetTune → Layout
+layout_of t = record { breaking = t.breaking; systems = t.systems; placed = t.placed; spans = t.spans; heights = t.heights }
+
+abbrev pub IsLaidOut : ℕ → SetTune → Type 0
+IsLaidOut width t = IsLayout t.score width (layout_of t)
 
 -- a header and a score laid out under a title block
 pub record IsLaid (width : ℕ) (header : Header) (score : Score) (t : SetTune) : Type 0 where

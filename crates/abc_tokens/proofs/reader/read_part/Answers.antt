@@ -35,3 +35,6 @@ pieces-preserved c =
 pub returns-clause-good : goal.returns-clause-good
 returns-clause-good c =
     good_part c.args.bang c.args.line.now c.args.place c.pieces.tokens (Behind.More c.pieces.place) (c.pieces.invariant.leads, c.pieces.invariant.within, omega (arith, c.pieces.invariant.shorter, c.pieces-test.false, c.len.ensures))
+
+pub returns-clause-full : goal.returns-clause-full
+returns-clause-full c = omega (arith, c.pieces.invariant.few, c.pieces-test.false, c.len.ensures)

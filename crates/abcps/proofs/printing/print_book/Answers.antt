@@ -40,7 +40,7 @@ returns-in_err-run g c =
     text c.in_ok-book.book c.read_paper-paper.result c.in_ok-defaults.defaults c.as_slice-tunes.result.now c.in_ok-book.ensures.book c.read_paper-paper.ensures.value
     c.in_ok-defaults.ensures.value c.as_slice-tunes.ensures c.in_err-run.ensures in
     subst (λ r. IsPrinted (manner_of c.args.how) c.args.even text (stream (g.O.Sink.taken c.args.output.now) (g.O.Sink.taken c.print_tunes.new.output) (g.O.Sink.faults c.args.output.now) (g.O.Sink.faults c.print_tunes.new.output)) r) (sym is)
-    (unprinted (manner_of c.args.how) c.args.even text c.in_ok-plan.plan _ c.in_err-run.field-0.0 good planned cut)
+    (unprinted (manner_of c.args.how) c.args.even text c.in_ok-plan.plan _ c.in_err-run.field-0.0 c.every_tune_has_an_outcome.ensures good planned cut)
 
 pub returns : goal.returns
 returns g c =
