@@ -2,7 +2,7 @@ use crate::asked::put_asked_for;
 use crate::books::{put_book, put_field_text, put_line_kind};
 use crate::fields::{put_field_of_line, put_named_field};
 use crate::headers::{put_defaults_of_book, put_headers_of_book};
-use crate::music::{put_front, put_music, put_parts, put_spelling};
+use crate::music::{put_front, put_line_parts, put_music, put_spelling};
 use crate::papers::{put_body_of_book, put_paper_of_book};
 use crate::pitches::{put_alteration, put_height, put_key, put_laid_key, put_signature};
 use crate::units::{put_parts, put_ticks, put_value_of};
@@ -20,7 +20,7 @@ impl Answers for Reading {
             "field_text" => put_field_text(out, input),
             "read_music" => put_music(out, case.word, input),
             "read_front" => put_front(out, case.word, input),
-            "read_part" => put_parts(out, case.word, input),
+            "read_part" => put_line_parts(out, case.word, input),
             "spell" => put_spelling(out, case.word, input),
             "read_field" => put_field_of_line(out, input),
             "read_named" => put_named_field(out, case.word, input),

@@ -39,7 +39,7 @@ fn put_end(out: &mut Report, fault: Option<Fault>) -> Result<(), Memory> {
 
 /// Adds the number of tokens of the first part of a music line, which is a text so many times over,
 /// and then those of the second, or the fault.
-pub(crate) fn put_parts(out: &mut Report, times: &str, bytes: &[u8]) -> Result<(), Memory> {
+pub(crate) fn put_line_parts(out: &mut Report, times: &str, bytes: &[u8]) -> Result<(), Memory> {
     let text = repeated(out.alloc, number_of(times), bytes)?;
     let line = line_of(out.alloc, text.as_slice())?;
     let first = read_part(out.alloc, &line, false, start(&line))?;
