@@ -1,5 +1,5 @@
 -- The staves of a system stand under one another.
-use Rattle.std.{specs.{Prelude.◌^◌, List.{AllByRecursion, filter}}, proofs.{Common.{◌≡◌, ◌∙◌, refl, sym, ap, subst, ℕ, ◌+◌, ◌-◌, ◌*◌, ◌≤◌, not, cond, Bool, true, false, ℤ, pos, ◌+ℤ◌, ◌-ℤ◌, ◌≤ℤ◌, List, [], ◌∷◌, ◌++◌, length, map, arith}, lemmas.{Int.{ints, clamps}, List.{length-map, Elements.recursion_from_All}}}}
+use Rattle.std.{specs.List.{AllByRecursion, filter}, proofs.{Common.{◌≡◌, ◌∙◌, refl, sym, ap, subst, ℕ, ◌-◌, ◌*◌, ◌≤◌, not, cond, Bool, true, false, ℤ, pos, ◌+ℤ◌, ◌-ℤ◌, ◌≤ℤ◌, List, [], ◌∷◌, ◌++◌, length, map, arith}, lemmas.{Int.{ints, clamps}, List.{length-map, Elements.recursion_from_All}}}}
 use Rattle.{mus_score.specs.{declared.{score.Score.Score, score.Voice.Voice}, GoodScore.{IsGoodScore, IsGoodVoice}, Seats.stands_lower}, mus_time.specs.{declared.keys.ColumnKey.ColumnKey, Onsets.timeline_of}}
 use Rattle.{mus_laid.specs.{declared.laid.{Laid.Laid, StaffMarks.StaffMarks, SystemMarks.SystemMarks}, Boxes.staff_heights, Ranked.by_columns}, mus_ink.specs.Drawing.{cut}, mus_drawn.specs.declared.drawn.DrawnVoice.{DrawnVoice}}
 use Rattle.mus_marks.{specs.{Staff.{CoversLines, bare_marks, room_over, staff_bridges, staff_marks, staff_over, written_parts, verses_on}, System.drawn_staves, Tilt.{IsTilted, tilted_staff, voice_tilted}}, proofs.Lines.covers}
