@@ -1,9 +1,9 @@
 -- A tune that is set, and the one fault of a tune that isn't.
-use Rattle.std.specs.Prelude.{◌≡◌, ◌⊎◌, ⊤, ℕ, ◌+◌, ◌≤◌, ℤ, List, Bool, All, length, slice_index_or, Option, Some, None, Result, Ok, Err}
+use Rattle.std.specs.Prelude.{◌≡◌, ◌⊎◌, ⊤, ℕ, ℤ, List, Bool, Option, Some, None, Result, Ok, Err}
 use Rattle.abc_lines.specs.declared.{book.{Line.Line, TuneText.TuneText}, fault.{Fault.Fault, FaultKind.FaultKind, TuneError.TuneError}}
 use Rattle.{abc_header.specs.{declared.{defaults.Defaults.Defaults, header.Header.Header}, Headers.{IsHeaderOf, first_line, header_fault}, Papers.{height_of, width_of}}, abc_score.specs.Build.{IsFaultOf, IsScoreOf}}
-use Rattle.{mus_score.specs.{declared.score.Score.Score, GoodScore.IsGoodScore}, mus_laid.specs.Boxes.{AreGoodMarks}, lay_breaks.specs.{declared.costs.Span.Span, Breaking.{IsChosen, IsPotential, sum_from}, Spans.{AreSpans, listed}}}
-use Rattle.{lay_pages.specs.{Filling.first_tall, Titles.title_block_of}, lay_tune.specs.{Breakings.IsLeastBreaking, Layout.IsNoWay, Spans.{AreSpansOf, is_forced_in}, Systems.{Beside, EachSpan, IsSetSystem, IsStack}}}
+use Rattle.{mus_score.specs.{declared.score.Score.Score, GoodScore.IsGoodScore}, lay_breaks.specs.declared.costs.Span.{Span}}
+use Rattle.{lay_pages.specs.{Filling.first_tall, Titles.title_block_of}, lay_tune.specs.{declared.layout.Layout.Layout, Layout.{IsLayout, IsNoWay}}}
 use Rattle.{lay_shared.specs.{declared.plan.Plan.Plan, Alike.DoShare, Drawn.drawn_of, Plans.{Spells, ids_of}}, mus_units.specs.declared.key.Key.{Key}, mus_transpose.specs.Moved.{IsMoved}, mus_drawn.specs.Sounds.{sounds_of}}
 use Rattle.{mus_moved.specs.Higher.{AreHigher}, set_tune.specs.{Terms.{Manner, Terms}, declared.tune.SetTune.SetTune, Blocks.blocks_of}}
 
