@@ -1,5 +1,5 @@
 -- A tune has a good score under its header, or a first fault of its body or its score.
-use Rattle.std.{proofs.Common.{◌≡◌, refl, ◌⊎◌, inl, inr, Bool, List, Option, Some, None}, specs.List.All}
+use Rattle.std.{proofs.Common.{refl, ◌⊎◌, inl, inr, Bool, List, Option, Some, None}, specs.List.All}
 use Rattle.{abc_lines.specs.declared.{book.TuneText.TuneText, fault.{Fault.Fault, TuneError.TuneError}}, abc_header.specs.{declared.header.Header.Header, Headers.HasGoodValues}, abc_steps.specs.declared.step.Item.{Item}}
 use Rattle.{abc_items.specs.{Body.IsBody, Good.IsGoodItem}, abc_faults.{specs.First.{IsFirst, first_of}, proofs.Firsts.first_is}, mus_score.specs.{declared.score.Score.Score, GoodScore.IsGoodScore}}
 use Rattle.{abc_score.{specs.{Build.{IsFaultOf, IsScoreOf, body_lines}, Faults.score_faults, Score.score_of}, proofs.{Ids.few_ids, Wholes.good_score}}, abc_every.{specs.Every.EveryTextIsRead, proofs.{Bodies.has_body, Headers.has_header}}}

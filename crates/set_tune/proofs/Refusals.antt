@@ -1,5 +1,5 @@
 -- The stages of a tune's setting, put together: what each refuses is the one fault of the tune.
-use Rattle.std.proofs.Common.{◌≡◌, sym, subst, inl, inr, ℕ, Bool, None, Some, Result, Ok, Err, IfErr}
+use Rattle.std.proofs.Common.{◌≡◌, sym, subst, inl, inr, ℕ, None, Some, Result, Ok, Err, IfErr}
 use Rattle.{abc_lines.specs.declared.{book.TuneText.TuneText, fault.TuneError.TuneError}, abc_header.specs.{declared.header.Header.Header, Papers.{height_of, width_of}}}
 use Rattle.{mus_score.specs.declared.score.Score.{Score}, lay_pages.specs.{Titles.title_block_of, Filling.first_tall}, lay_tune.specs.Layout.{IsNoWay}}
 use Rattle.set_tune.specs.{Terms.Terms, declared.tune.SetTune.SetTune, Blocks.blocks_of, Setting.{HasScore, IsFaultOfTune, IsLaid, IsLaidOut, IsLaidTune, IsLayoutRefusal, IsMovedRefusal, IsRefusal, IsTallRefusal, of_header, of_score, of_share, of_move, no_way, too_tall}}

@@ -1,4 +1,4 @@
-use Rattle.std.proofs.Common.{◌≡◌, ◌∙◌, None, Some, inl, refl, subst, sym}
+use Rattle.std.proofs.Common.{◌∙◌, Some, inl, refl, subst, sym}
 use Rattle.set_tune.{specs.Setting.IsDrawRefusal, proofs.Refusals.none_some}
 use Rattle.set_tune.proofs.setting.draw_by.Goals as goal
 
