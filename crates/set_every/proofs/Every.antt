@@ -79,8 +79,9 @@ module _ (every_text : EveryTextIsRead) (every_score : EveryScoreIsLaid) where
       let others = has_outcomes terms tunes good in
       (first.0 ∷ others.0, (first.1, others.1))
 
-  of_book : (text : List ℕ) (manner : Manner) → (os : List Outcome) × AreOutcomes (terms_of_book text manner) (book_of text).tunes os
-  of_book text manner = has_outcomes (terms_of_book text manner) (book_of text).tunes (defaults_good (book_of text).header)
-
   pub every_tune : EveryTuneHasAnOutcome
-  every_tune = record { tune = has_outcome; book = λ text manner. has_outcomes (terms_by (defaults_of (book_of text).header) (paper_of (book_of text).header) manner) (book_of text).tunes (defaults_good (book_of text).header) }
+  every_tune = record {
+    tune = has_outcome;
+    book = λ text manner.
+        has_outcomes (terms_by (defaults_of (book_of text).header) (paper_of (book_of text).header) manner) (book_of text).tunes (defaults_good (book_of text).header);
+  }
