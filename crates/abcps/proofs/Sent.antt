@@ -1,5 +1,5 @@
 -- What a sink took of texts that were given to it one after another, and how much of a document its first pages are.
-use Rattle.std.{proofs.{Common.{◌≡◌, refl, sym, ap, ◌∙◌, subst, ℕ, zero, suc, ◌+◌, List, [], ◌∷◌, ◌++◌, length, take, drop, Option, Err, arith}, lemmas.List.append_assoc, Math.Seq.{drop-append_seam, take-append-add, take-append_seam}, KnownBytes.{Appends-nil, Appends-trans}}, specs.Io.KnownBytes.Appends}
+use Rattle.std.{proofs.{Common.{◌≡◌, refl, sym, ap, ◌∙◌, subst, ℕ, suc, ◌+◌, List, [], ◌∷◌, ◌++◌, length, take, drop, Option, Err, arith}, lemmas.List.append_assoc, Math.Seq.{drop-append_seam, take-append-add, take-append_seam}, KnownBytes.{Appends-nil, Appends-trans}}, specs.Io.KnownBytes.Appends}
 use Rattle.{eng_io.specs.Causes.{Rose}, abc_header.specs.declared.paper.Paper.{Paper}}
 use Rattle.ps_text.specs.{Document.document, Document.numbered, Document.page_text, Document.trailer, Prolog.prolog, declared.sheet.Page.Page, declared.sheet.Sheet.Sheet}
 use Rattle.{ps_write.specs.{Written.Counted, Written.WroteFront, declared.steps.DocError.DocError}, set_pages.{specs.Sheet.frame_of, proofs.Fronts.IsFront}}

@@ -3,7 +3,7 @@ use Rattle.std.proofs.Common.{◌≡◌, refl, ℕ, inl, inr, List, [], ◌∷�
 use Rattle.{abc_lines.specs.{declared.{book.TuneText.TuneText, fault.{Fault.Fault, FaultKind.FaultKind}}, Books.book_of}, abc_header.specs.{declared.header.Header.Header, Defaults.defaults_of, Good.IsGoodDefaults, Headers.HasGoodValues, Papers.{height_of, paper_of, width_of}}}
 use Rattle.{mus_score.specs.{declared.score.Score.Score, GoodScore.IsGoodScore}, mus_moved.proofs.Sounding.moved_sounds_higher, mus_transpose.specs.Moved.IsMoved}
 use Rattle.{abc_every.specs.Every.EveryTextIsRead, lay_every.specs.Every.EveryScoreIsLaid, lay_pages.specs.{Filling.first_tall, Titles.title_block_of}, lay_tune.specs.declared.layout.Layout.Layout}
-use Rattle.set_tune.{specs.{Setting.{HasHeader, HasScore, IsDrawn, IsFaultOfTune, IsLaidTune, IsWritten, layout_fault, of_header, of_score, of_share, of_move, no_way, too_tall}, Terms.{Manner, Terms, terms_by}, declared.tune.SetTune.SetTune, Blocks.blocks_of}, proofs.Laid.heard_moved}
+use Rattle.set_tune.{specs.{Setting.{HasHeader, HasScore, IsDrawn, IsFaultOfTune, IsLaidTune, IsWritten, layout_fault, of_header, of_score, of_share, of_move, no_way, too_tall}, Terms.{Terms, terms_by}, declared.tune.SetTune.SetTune, Blocks.blocks_of}, proofs.Laid.heard_moved}
 use Rattle.set_book.specs.{declared.outcome.Outcome.Outcome, Outcomes.{AreOutcomes, IsOutcome, IsResult}}
 use Rattle.set_every.{specs.Every.EveryTuneHasAnOutcome, proofs.{Defaults.defaults_good, Draws.has_drawn, Moves.has_moved}}
 
