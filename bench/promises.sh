@@ -256,7 +256,7 @@ def check_tests(crate, calls, cell, tests):
 def check_readme(crates, everything, files):
     """Of README's tables: each crate but those of tests and the program itself has a row, the calls of a row are of its
     crates, and the clauses behind a call are clauses of it; the clauses of the promises are those of the top call."""
-    fields = {field for part in ("abcps", "set_tune") for path in glob.glob(f"crates/{part}/specs/*.antt") for field in re.findall(rf"^  pub ({NAME}) :", read(path), re.M)}
+    fields = {field for part in ("abcps", "set_tune", "lay_tune", "set_every") for path in glob.glob(f"crates/{part}/specs/*.antt") for field in re.findall(rf"^  pub ({NAME}) :", read(path), re.M)}
     laws = {law for path in glob.glob("crates/abcps/proofs/*.antt") for law in re.findall(rf"^pub ({NAME}) :", read(path), re.M)}
     lines, head, named = read("README.md").split("\n"), [], set()
     for row, behind in zip(lines, lines[1:] + [""]):
