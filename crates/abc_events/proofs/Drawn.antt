@@ -24,10 +24,7 @@ find_few p (x ∷ xs) few = by_test (p x) (find_few p xs (λ k d less. few (suc 
 
 few_by_test : (xs : List Value) → list_all (λ v. nat_le v.dots 3) xs ≡ true → AreFew xs
 few_by_test [] h = All-nil IsFew
-few_by_test (x ∷ xs) h =
-    let parts = and_parts (nat_le x.dots 3) (list_all (λ v. nat_le v.dots 3) xs) h in
-    let test : nat_le x.dots 3 ≡ true = parts.0 in
-    All-cons IsFew x xs (grind (arith, test)) (few_by_test xs parts.1)
+few_by_test (x ∷ xs) h = let parts = and_parts (nat_le x.dots 3) (list_all (λ v. nat_le v.dots 3) xs) h in let test : nat_le x.dots 3 ≡ true = parts.0 in All-cons IsFew x xs (grind (arith, test)) (few_by_test xs parts.1)
 
 values_few : AreFew all_values
 values_few = few_by_test all_values refl
@@ -59,9 +56,7 @@ parts_few num den = by_test (512 * num / den * den == 512 * num) where
 
 sound_few : (now : Place) (before behind : Steps) (at : Stood) (s : Sound) → AreFew (sound_written now before at s behind).values
 unfolding sound_written
-sound_few now before behind at s =
-    let length = written_length now.force.unit s before behind in
-    parts_few length.num length.den
+sound_few now before behind at s = let length = written_length now.force.unit s before behind in parts_few length.num length.den
 
 rest_few : (now : Place) (at : Stood) (seen : Bool) (measure : ℕ) (parted : Bool) → AreFew (rest_written now at seen measure parted).values
 unfolding rest_written
@@ -91,7 +86,5 @@ signs_drawn first before (at ∷ behind) = All-append IsDrawn (signs_of (place_a
 -- at the end of the walk
 pub walk_drawn : (first : InForce) (steps : Steps) (i : ℕ) (out : List Sign) → length steps ≤ i → out ++ signs first (reverse (take i steps)) (drop i steps) ≡ signs first [] steps → All IsDrawn out
 walk_drawn first steps i out past e =
-    let end : drop i steps ≡ [] = drop_all i steps past in
-    let is : out ≡ signs first [] steps = sym (append-nil out) ∙ (ap (λ xs. out ++ signs first (reverse (take i steps)) xs) (sym end) ∙ e) in
-    let P : List Sign → Type 0 = λ r. All IsDrawn r in
-    subst P (sym is) (signs_drawn first [] steps)
+    let end : drop i steps ≡ [] = drop_all i steps past in let is : out ≡ signs first [] steps = sym (append-nil out) ∙ (ap (λ xs. out ++ signs first (reverse (take i steps)) xs) (sym end) ∙ e) in
+    let P : List Sign → Type 0 = λ r. All IsDrawn r in subst P (sym is) (signs_drawn first [] steps)

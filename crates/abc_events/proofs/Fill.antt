@@ -49,8 +49,7 @@ event_puts os o n body w e f =
 
 pub group_puts : (os : List Open) (o : Open) (n p q r : ℕ) (body : List Music) → o.left ≡ suc n → (f : Forest) → whole ((os ++ leaving (suc n - r) o ∷ []) ++ record { p = p; q = q; left = r; before = body } ∷ []) [] f ≡ whole (os ++ o ∷ []) body (group p q r (cut r f).taken (cut r f).left)
 group_puts os o n p q r body e f =
-    let inner : Open = record { p = p; q = q; left = r; before = body } in
-    let g : Forest = group p q r (cut r f).taken (cut r f).left in
+    let inner : Open = record { p = p; q = q; left = r; before = body } in let g : Forest = group p q r (cut r f).taken (cut r f).left in
     ap finish (fill_last (os ++ leaving (suc n - r) o ∷ []) inner (filled [] f)) ∙ ap finish (fill_last os (leaving (suc n - r) o) (fill_one inner (filled [] f)))
     ∙ ap (λ z. finish (fill os z)) (group_one o n p q r body f) ∙ ap (λ k. finish (fill os (fill_one (leaving k o) (filled body g)))) (sym e)
     ∙ ap finish (sym (fill_last os o (filled body g)))
@@ -66,15 +65,11 @@ end_puts os o body = ap (λ z. finish (fill os z)) (sym (end_one o o.left body))
 -- As the code says it: what was popped, pushed and put.
 pub event_answer : (stack os stack' : List Open) (o : Open) (left : ℕ) (body body' : List Music) (w : List Music) → stack ≡ os ++ o ∷ [] → body' ≡ body ++ w → stack' ≡ os ++ leaving left o ∷ [] → IsReady stack → left ≡ o.left - 1 → Puts stack body stack' body' (one w)
 event_answer stack os stack' o left body body' w was put is ready less f =
-    let some : 1 ≤ o.left = last_ready os o (subst IsReady was ready) in
-    let more : o.left ≡ suc left = omega arith in
-    rw (was, put, is) (event_puts os o left body w more f)
+    let some : 1 ≤ o.left = last_ready os o (subst IsReady was ready) in let more : o.left ≡ suc left = omega arith in rw (was, put, is) (event_puts os o left body w more f)
 
 pub group_answer : (stack os next stack' : List Open) (o : Open) (left p q r : ℕ) (body body' : List Music) → stack ≡ os ++ o ∷ [] → next ≡ os ++ leaving left o ∷ [] → stack' ≡ next ++ record { p = p; q = q; left = r; before = body } ∷ [] → body' ≡ [] → IsReady stack → left ≡ o.left - r → Puts stack body stack' body' (λ f. group p q r (cut r f).taken (cut r f).left)
 group_answer stack os next stack' o left p q r body body' was mid is put ready less f =
-    let some : 1 ≤ o.left = last_ready os o (subst IsReady was ready) in
-    let more : o.left ≡ suc (o.left - 1) = omega arith in
-    let same : left ≡ suc (o.left - 1) - r = omega arith in
+    let some : 1 ≤ o.left = last_ready os o (subst IsReady was ready) in let more : o.left ≡ suc (o.left - 1) = omega arith in let same : left ≡ suc (o.left - 1) - r = omega arith in
     rw (is, mid, was, put, same) (group_puts os o (o.left - 1) p q r body more f)
 
 pub close_answer : (stack os : List Open) (o : Open) (body body' : List Music) → stack ≡ os ++ o ∷ [] → body' ≡ o.before ++ music.Tuplet o.p o.q body ∷ [] → o.left ≡ 0 → (f : Forest) → whole os body' f ≡ whole stack body f

@@ -18,9 +18,7 @@ step_idle now _ line column waits e = refl
 all_idle : (now : InForce) (waits : Steps) → list_any (λ (s : Stood). tells s.step) waits ≡ false → nothing ≡ waiting_of now waits []
 unfolding waiting_of changes_at
 all_idle now [] e = refl
-all_idle now (s ∷ waits) e =
-    let both = or_parts (tells s.step) (list_any (λ (s : Stood). tells s.step) waits) e in
-    all_idle now waits both.1 ∙ step_idle now s.step s.line s.column waits both.0
+all_idle now (s ∷ waits) e = let both = or_parts (tells s.step) (list_any (λ (s : Stood). tells s.step) waits) e in all_idle now waits both.1 ∙ step_idle now s.step s.line s.column waits both.0
 
 pub nothing_for : (now : InForce) (waits : Steps) (inside : List Deco) → (length inside == 0) ≡ true → list_any (λ (s : Stood). tells s.step) waits ≡ false → nothing ≡ waiting_of now waits inside
 nothing_for now waits inside none idle = all_idle now waits idle ∙ ap (waiting_of now waits) (sym (is_none inside none))

@@ -5,15 +5,13 @@ use Rattle.abc_events.specs.{declared.written.Written.Written, declared.written.
 
 next_rest : (now : Place) (at : Stood) (seen : Bool) (measure i count : ℕ) → i < count → further_rests now at seen (measure + i) (count - i) ≡ Sign.Event (rest_written now at seen (measure + i) false) nothing ∷ further_rests now at seen (measure + (i + 1)) (count - (i + 1))
 next_rest now at seen measure i count less =
-    let left : count - i ≡ suc (count - (i + 1)) = omega arith in
-    let place : measure + i + 1 ≡ measure + (i + 1) = omega arith in
+    let left : count - i ≡ suc (count - (i + 1)) = omega arith in let place : measure + i + 1 ≡ measure + (i + 1) = omega arith in
     ap (λ n. further_rests now at seen (measure + i) n) left ∙ ap (λ m. Sign.Event (rest_written now at seen (measure + i) false) nothing ∷ further_rests now at seen m (count - (i + 1))) place
 
 -- as the code says it: what was made and pushed
 pub rest_pushed : (now : Place) (at : Stood) (seen : Bool) (measure i j count : ℕ) (w : Written) (waiting : Waiting) (out out' all : List Sign) → i < count → j ≡ i → w ≡ rest_written now at seen (measure + j) false → waiting ≡ nothing → out' ≡ out ++ Sign.Event w waiting ∷ [] → out ++ further_rests now at seen (measure + i) (count - i) ≡ all → out' ++ further_rests now at seen (measure + (i + 1)) (count - (i + 1)) ≡ all
 rest_pushed now at seen measure i j count w waiting out out' all less same made none put e =
-    let more = further_rests now at seen (measure + (i + 1)) (count - (i + 1)) in
-    let one = Sign.Event (rest_written now at seen (measure + i) false) nothing in
+    let more = further_rests now at seen (measure + (i + 1)) (count - (i + 1)) in let one = Sign.Event (rest_written now at seen (measure + i) false) nothing in
     let is : w ≡ rest_written now at seen (measure + i) false = made ∙ ap (λ k. rest_written now at seen (measure + k) false) same in
     let both : Sign.Event w waiting ≡ one = ap (λ x. Sign.Event x waiting) is ∙ ap (λ x. Sign.Event (rest_written now at seen (measure + i) false) x) none in
     ap (λ xs. xs ++ more) (put ∙ ap (λ x. out ++ x ∷ []) both) ∙ (append_assoc out (one ∷ []) more ∙ (ap (λ xs. out ++ xs) (sym (next_rest now at seen measure i count less)) ∙ e))

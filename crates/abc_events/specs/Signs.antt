@@ -68,8 +68,7 @@ further_rests now at seen measure zero = []
 further_rests now at seen measure (suc n) = Sign.Event (rest_written now at seen measure false) nothing ∷ further_rests now at seen (measure + 1) n
 
 abbrev pub rests_of : Place → Steps → Stood → Bool → ℕ → List Sign
-rests_of now waits at seen count =
-    Sign.Event (rest_written now at seen (measure_of now) (parted_at now waits)) (waiting_of now.force waits []) ∷ further_rests now at seen (measure_of now + 1) (count - 1)
+rests_of now waits at seen count = Sign.Event (rest_written now at seen (measure_of now) (parted_at now waits)) (waiting_of now.force waits []) ∷ further_rests now at seen (measure_of now + 1) (count - 1)
 
 -- a tuplet that doesn't fit into the open ones begins nothing
 abbrev pub tuplet_of : Place → ℕ → ℕ → ℕ → List Sign

@@ -40,10 +40,8 @@ product a b some high more most = (omega (arith, mul-le 1 1 a b some more), omeg
 
 chord_good : (chord : WrittenChord) → AreGoodHeads chord.heads → IsGoodLen chord.len → IsGoodSound (chord_sound chord)
 chord_good chord heads len =
-    let first = first_good chord.heads heads in
-    let num = product (first_len chord.heads).num chord.len.num first.some first.num_high len.some len.num_high in
-    let den = product (first_len chord.heads).den chord.len.den first.above first.den_high len.above len.den_high in
-    record { some = num.0; num_high = num.1; above = den.0; den_high = den.1 }
+    let first = first_good chord.heads heads in let num = product (first_len chord.heads).num chord.len.num first.some first.num_high len.some len.num_high in
+    let den = product (first_len chord.heads).den chord.len.den first.above first.den_high len.above len.den_high in record { some = num.0; num_high = num.1; above = den.0; den_high = den.1 }
 
 cut_good : (on : Bool) (line at : ℕ) → AreGood (cut_given on line at)
 cut_good true line at = (tt, tt)
@@ -63,8 +61,7 @@ token_good sets line at _ good = (tt, tt)
 
 tokens_good : (sets : Breaks) (line : Line) (ts : List Placed) → AreGoodTokens ts → AreGood (flat_map (placed_given sets line) ts)
 tokens_good sets line [] good = tt
-tokens_good sets line (placed ∷ ts) good =
-    both_good (placed_given sets line placed) (flat_map (placed_given sets line) ts) (token_good sets line placed.column placed.token good.0) (tokens_good sets line ts good.1)
+tokens_good sets line (placed ∷ ts) good = both_good (placed_given sets line placed) (flat_map (placed_given sets line) ts) (token_good sets line placed.column placed.token good.0) (tokens_good sets line ts good.1)
 
 end_good : (sets : Breaks) (line : Line) (fault : Option Fault) → AreGood (end_given sets line fault)
 end_good sets line None = (tt, tt)
@@ -73,19 +70,15 @@ end_good sets line (Some fault) = tt
 -- ---- what lines give
 line_by : (sets : Breaks) (line : Line) (kind : LineKind) → (given : List Given) × KindGives sets line kind given × AreGood given
 line_by sets line LineKind.Music =
-    let n = length line.text in
-    let front = has_front sets.bang n Before.Other 0 line.text in
-    let fault = option_map (fault_at line) front.1 in
-    let tokens = flat_map (placed_given sets line) front.0 in
-    let good = tokens_good sets line front.0 (good_front sets.bang n Before.Other 0 line.text front.0 front.1 front.2) in
+    let n = length line.text in let front = has_front sets.bang n Before.Other 0 line.text in let fault = option_map (fault_at line) front.1 in
+    let tokens = flat_map (placed_given sets line) front.0 in let good = tokens_good sets line front.0 (good_front sets.bang n Before.Other 0 line.text front.0 front.1 front.2) in
     (tokens ++ end_given sets line fault, (front.0, fault, (front.1, front.2, refl), refl), both_good tokens (end_given sets line fault) good (end_good sets line fault))
 line_by sets line _ = (field_given (field_of line.text) line.number 1, refl, field_given_good (field_of line.text) line.number 1 (field_good line.text))
 
 has_given : (sets : Breaks) (lines : List Line) → (given : List Given) × BodyGives sets lines given × AreGood given
 has_given sets [] = ([], no_lines, tt)
 has_given sets (line ∷ lines) =
-    let first = line_by sets line (kind_of line.text) in
-    let others = has_given sets lines in
+    let first = line_by sets line (kind_of line.text) in let others = has_given sets lines in
     (first.0 ++ others.0, one_line line lines first.0 others.0 (first.0 ++ others.0) first.1 others.1 refl, both_good first.0 others.0 first.2 others.2)
 
 items_good : (given : List Given) → AreGood given → All IsGoodItem (items_in given)

@@ -23,9 +23,7 @@ few_after : (ids : List (List ℕ)) (line : Line) (lines : List Line) (read : Re
     → ((known : List (List ℕ)) → length known ≤ 16 → first_fault known lines ≡ None → length (fold ids_after known (fields_of lines)) ≤ 16) → length (fold ids_after ids (put_field read (fields_of lines))) ≤ 16
 few_after ids line lines (Err kind) none next = absurd cc
 few_after ids line lines (Ok f) none next =
-    let known = ids_after ids f in
-    let few = few_if (length known) (line_fault FaultKind.TooManyVoices line) (first_fault known lines) (nat_lt 16 (length known)) refl none in
-    next known few.0 few.1
+    let known = ids_after ids f in let few = few_if (length known) (line_fault FaultKind.TooManyVoices line) (first_fault known lines) (nat_lt 16 (length known)) refl none in next known few.0 few.1
 
 few_ids : (lines : List Line) (ids : List (List ℕ)) → length ids ≤ 16 → first_fault ids lines ≡ None → length (fold ids_after ids (fields_of lines)) ≤ 16
 few_ids [] ids few none = few
@@ -48,8 +46,7 @@ meter_or None other good others = others
 meter_or (Some m) other good others = good
 
 default_good : (meter : Meter) → IsGoodUnit (default_unit meter)
-default_good (Meter.Ratio num den) =
-    cond_both {A = Frac} (nat_lt (4 * num) (3 * den)) (record { num = 1; den = 16 }) (record { num = 1; den = 8 }) (λ u. IsGoodUnit u) (λ e. (refl, refl)) (λ e. (refl, refl))
+default_good (Meter.Ratio num den) = cond_both {A = Frac} (nat_lt (4 * num) (3 * den)) (record { num = 1; den = 16 }) (record { num = 1; den = 8 }) (λ u. IsGoodUnit u) (λ e. (refl, refl)) (λ e. (refl, refl))
 default_good _ = (refl, refl)
 
 unit_or : (own other : Option Frac) (meter : Meter) → GoodUnitIn own → GoodUnitIn other → IsGoodUnit (unit_by own other meter)
@@ -77,9 +74,7 @@ by_place tune defaults (Some place) good at = by_fault (first_fault [] (head_lin
     by_fault : (fault : Option Fault) → first_fault [] (head_lines tune place) ≡ fault → HasHeader tune defaults (Some place)
     by_fault (Some fault) e = inl (fault, e)
     by_fault None e =
-        let lines = head_lines tune place in
-        let staves = staves_from lines defaults (first_line tune.lines) in
-        let within = (position-Some is_key_line tune.lines place (line_of 0 []) at).0 in
+        let lines = head_lines tune place in let staves = staves_from lines defaults (first_line tune.lines) in let within = (position-Some is_key_line tune.lines place (line_of 0 []) at).0 in
         let values = values_good (fields_of lines) defaults staves (place + 1) (fields_good lines) good (few_ids lines [] (omega arith) e) in
         inr (header_of (fields_of lines) defaults staves (place + 1), refl, e, (values, omega (arith, within)))
 

@@ -15,10 +15,7 @@ module _ (h : Header) (tune : TuneText) (flow : Bool) (good : HasGoodValues h) w
       inr (score_of h items flow, record { items = items; body = body; clear = clear; value = refl }, good_score h items flow good given (few_ids h (body_lines h tune) items good body) clear)
 
   has_score : HasScore
-  has_score = elim (has_body h (body_lines h tune)) [
-    | inl f ↦ inl (f.0, inl f.1)
-    | inr b ↦ (let faults = score_faults h b.0 in score_by b.0 b.1 b.2 (first_of faults) (first_is faults))
-  ]
+  has_score = elim (has_body h (body_lines h tune)) [ inl f ↦ inl (f.0, inl f.1) | inr b ↦ (let faults = score_faults h b.0 in score_by b.0 b.1 b.2 (first_of faults) (first_is faults)) ]
 
 pub every_text : EveryTextIsRead
 every_text = record { header = has_header; score = has_score }

@@ -14,44 +14,31 @@ suffix_all_if p b s false e f whole = absurd (eqb-false (suffix_len p s) (length
 
 suffix-all : (p : ℕ → Bool) (s : List ℕ) → list_all p s ≡ true → suffix_len p s ≡ length s
 suffix-all p [] all = refl
-suffix-all p (b ∷ s) all =
-    let parts = and_parts _ _ all in
-    suffix_all_if p b s (suffix_len p s == length s) refl parts.0 (suffix-all p s parts.1)
+suffix-all p (b ∷ s) all = let parts = and_parts _ _ all in suffix_all_if p b s (suffix_len p s == length s) refl parts.0 (suffix-all p s parts.1)
 
 suffix_stays_if : (p : ℕ → Bool) (b : ℕ) (s : List ℕ) (n : ℕ) (all : Bool) → (suffix_len p s == length s) ≡ all → p b ≡ false → suffix_len p s ≡ n → suffix_len p (b ∷ s) ≡ n
-suffix_stays_if p b s n true e f is =
-    let whole : suffix_len p s ≡ length s = eqb-true (suffix_len p s) (length s) e in
-    suffix-cons p b s ∙ rw (e, f) (omega (arith, whole, is))
+suffix_stays_if p b s n true e f is = let whole : suffix_len p s ≡ length s = eqb-true (suffix_len p s) (length s) e in suffix-cons p b s ∙ rw (e, f) (omega (arith, whole, is))
 suffix_stays_if p b s n false e f is = suffix-cons p b s ∙ rw e is
 
 suffix-append : (p : ℕ → Bool) (core back : List ℕ) → list_all (λ b. not (p b)) core ≡ true → list_all p back ≡ true → suffix_len p (core ++ back) ≡ length back
 suffix-append p [] back none all = suffix-all p back all
 suffix-append p (b ∷ core) back none all =
-    let parts = and_parts _ _ none in
-    suffix_stays_if p b (core ++ back) (length back) (suffix_len p (core ++ back) == length (core ++ back)) refl (not-true (p b) parts.0) (suffix-append p core back parts.1 all)
+    let parts = and_parts _ _ none in suffix_stays_if p b (core ++ back) (length back) (suffix_len p (core ++ back) == length (core ++ back)) refl (not-true (p b) parts.0) (suffix-append p core back parts.1 all)
 
 -- those at the end pass it
 passes_if : (p : ℕ → Bool) (b : ℕ) (s : List ℕ) (whole does : Bool) → (suffix_len p s == length s) ≡ whole → p b ≡ does
     → list_all p (drop (length s - suffix_len p s) s) ≡ true → list_all p (drop (length (b ∷ s) - suffix_len p (b ∷ s)) (b ∷ s)) ≡ true
 passes_if p b s true true e f all =
-    let same : suffix_len p s ≡ length s = eqb-true (suffix_len p s) (length s) e in
-    let size : suffix_len p (b ∷ s) ≡ suc (length s) = suffix-cons p b s ∙ rw (e, f) (omega arith) in
-    let none : length (b ∷ s) - suffix_len p (b ∷ s) ≡ 0 = omega (arith, size) in
-    let none_more : length s - suffix_len p s ≡ 0 = omega (arith, same) in
-    let rest : list_all p s ≡ true = rw none_more at all in
-    rw none (rw (f, rest) refl)
+    let same : suffix_len p s ≡ length s = eqb-true (suffix_len p s) (length s) e in let size : suffix_len p (b ∷ s) ≡ suc (length s) = suffix-cons p b s ∙ rw (e, f) (omega arith) in
+    let none : length (b ∷ s) - suffix_len p (b ∷ s) ≡ 0 = omega (arith, size) in let none_more : length s - suffix_len p s ≡ 0 = omega (arith, same) in
+    let rest : list_all p s ≡ true = rw none_more at all in rw none (rw (f, rest) refl)
 passes_if p b s true false e f all =
-    let same : suffix_len p s ≡ length s = eqb-true (suffix_len p s) (length s) e in
-    let size : suffix_len p (b ∷ s) ≡ length s = suffix-cons p b s ∙ rw (e, f) (omega arith) in
-    let one : length (b ∷ s) - suffix_len p (b ∷ s) ≡ 1 = omega (arith, size) in
-    let none_more : length s - suffix_len p s ≡ 0 = omega (arith, same) in
-    let rest : list_all p s ≡ true = rw none_more at all in
-    rw one rest
+    let same : suffix_len p s ≡ length s = eqb-true (suffix_len p s) (length s) e in let size : suffix_len p (b ∷ s) ≡ length s = suffix-cons p b s ∙ rw (e, f) (omega arith) in
+    let one : length (b ∷ s) - suffix_len p (b ∷ s) ≡ 1 = omega (arith, size) in let none_more : length s - suffix_len p s ≡ 0 = omega (arith, same) in
+    let rest : list_all p s ≡ true = rw none_more at all in rw one rest
 passes_if p b s false does e f all =
-    let size : suffix_len p (b ∷ s) ≡ suffix_len p s = suffix-cons p b s ∙ rw e refl in
-    let few = suffix_len-le-length p s in
-    let more : length (b ∷ s) - suffix_len p (b ∷ s) ≡ suc (length s - suffix_len p s) = omega (arith, size, few) in
-    rw more all
+    let size : suffix_len p (b ∷ s) ≡ suffix_len p s = suffix-cons p b s ∙ rw e refl in let few = suffix_len-le-length p s in
+    let more : length (b ∷ s) - suffix_len p (b ∷ s) ≡ suc (length s - suffix_len p s) = omega (arith, size, few) in rw more all
 
 suffix-passes : (p : ℕ → Bool) (s : List ℕ) → list_all p (drop (length s - suffix_len p s) s) ≡ true
 suffix-passes p [] = refl
@@ -91,12 +78,9 @@ pub stays : (b : ℕ) (s : List ℕ) → is_blank b ≡ false → behind_blanks 
 stays b s e = rw e refl
 
 core-left : (core back : List ℕ) → list_all (λ b. not (is_blank b)) core ≡ true → list_all is_blank back ≡ true → ended (behind_blanks (core ++ back)) ≡ core
-core-left [] back none all =
-    let nothing : behind_blanks back ≡ [] = ap behind_blanks (sym (append-nil back)) ∙ blanks-passed back [] all in
-    ap ended nothing
+core-left [] back none all = let nothing : behind_blanks back ≡ [] = ap behind_blanks (sym (append-nil back)) ∙ blanks-passed back [] all in ap ended nothing
 core-left (b ∷ core) back none all =
-    let here : is_blank b ≡ false = not-true (is_blank b) (and_parts _ _ none).0 in
-    let size : suffix_len is_blank ((b ∷ core) ++ back) ≡ length back = suffix-append is_blank (b ∷ core) back none all in
+    let here : is_blank b ≡ false = not-true (is_blank b) (and_parts _ _ none).0 in let size : suffix_len is_blank ((b ∷ core) ++ back) ≡ length back = suffix-append is_blank (b ∷ core) back none all in
     let both : length ((b ∷ core) ++ back) ≡ length (b ∷ core) + length back = length-append (b ∷ core) back in
     let left : length ((b ∷ core) ++ back) - suffix_len is_blank ((b ∷ core) ++ back) ≡ length (b ∷ core) = omega (arith, size, both) in
     ap ended (stays b (core ++ back) here) ∙ ap (λ n. take n ((b ∷ core) ++ back)) left ∙ take-append_seam (b ∷ core) back

@@ -74,13 +74,9 @@ named-other : (letter : ℕ) (text : List ℕ) → is_known letter ≡ false →
 unfolding named_field
 named-other letter text un =
     let parts = or_parts ((letter == 75 || letter == 77) || (letter == 76 || letter == 86)) ((letter == 119 || letter == 84) || (letter == 67 || letter == 81)) un in
-    let read = or_parts (letter == 75 || letter == 77) (letter == 76 || letter == 86) parts.0 in
-    let one = or_parts (letter == 75) (letter == 77) read.0 in
-    let two = or_parts (letter == 76) (letter == 86) read.1 in
-    let kept = or_parts (letter == 119 || letter == 84) (letter == 67 || letter == 81) parts.1 in
-    let three = or_parts (letter == 119) (letter == 84) kept.0 in
-    let four = or_parts (letter == 67) (letter == 81) kept.1 in
-    rw (one.0, one.1, two.0, two.1, three.0, three.1, four.0, four.1) refl
+    let read = or_parts (letter == 75 || letter == 77) (letter == 76 || letter == 86) parts.0 in let one = or_parts (letter == 75) (letter == 77) read.0 in
+    let two = or_parts (letter == 76) (letter == 86) read.1 in let kept = or_parts (letter == 119 || letter == 84) (letter == 67 || letter == 81) parts.1 in
+    let three = or_parts (letter == 119) (letter == 84) kept.0 in let four = or_parts (letter == 67) (letter == 81) kept.1 in rw (one.0, one.1, two.0, two.1, three.0, three.1, four.0, four.1) refl
 
 pub named-read : (letter : ℕ) (text : List ℕ) (field : Field) → NamedSays letter text field → named_field letter text ≡ Ok field
 unfolding named_field

@@ -29,10 +29,7 @@ not_zero d h e = grind (arith, nat_tests)
 
 number-positive : (s : List ℕ) → is_number s ≡ true → 1 ≤ value_of s
 number-positive [] h = cc
-number-positive (d ∷ ds) h =
-    let tests = and_parts _ _ h in
-    let digits = and_parts _ _ tests.1 in
-    first_digit d ds (not_zero d (digit-low d (and_parts _ _ digits.0).0) digits.1)
+number-positive (d ∷ ds) h = let tests = and_parts _ _ h in let digits = and_parts _ _ tests.1 in first_digit d ds (not_zero d (digit-low d (and_parts _ _ digits.0).0) digits.1)
 
 number_if : (s : List ℕ) (is : Bool) → is_number s ≡ is → IfSome (if is then Some (value_of s) else None) (λ n. 1 ≤ n)
 number_if s true e = number-positive s e

@@ -63,8 +63,7 @@ record IsMode (s : List ℕ) : Type 0 where
 
 three-takes : (s : List ℕ) (mode : Mode) → mode_by_three s ≡ Some mode → IsMode s
 three-takes (a ∷ b ∷ c ∷ s) mode h =
-    let low : List ℕ = to_ascii_lowercase a ∷ to_ascii_lowercase b ∷ to_ascii_lowercase c ∷ [] in
-    let three = three_either low mode (or_mode (major_like low) (minor_like low) mode h) in
+    let low : List ℕ = to_ascii_lowercase a ∷ to_ascii_lowercase b ∷ to_ascii_lowercase c ∷ [] in let three = three_either low mode (or_mode (major_like low) (minor_like low) mode h) in
     record { form = named_form three.name a b c s; good = three.is; spelled = refl }
 three-takes _ mode h = absurd (none_is_some mode h)
 
@@ -133,9 +132,7 @@ data IsTonic (w : List ℕ) : Type 0 where
 
 on_case : (w s : List ℕ) (letter : Letter) (accident : Accident) (o : Option Mode) (tonic : Tonic) → w ≡ tonic_spelled letter accident s → mode_of s ≡ o → option_map (λ m. with_mode letter (accident_meant accident) m) o ≡ Some tonic → IsTonic w
 on_case w s letter accident None tonic is e h = absurd (none_is_some tonic h)
-on_case w s letter accident (Some mode) tonic is e h =
-    let found = mode-takes s mode e in
-    moded letter accident found.form found.good (is ∙ ap (tonic_spelled letter accident) found.spelled)
+on_case w s letter accident (Some mode) tonic is e h = let found = mode-takes s mode e in moded letter accident found.form found.good (is ∙ ap (tonic_spelled letter accident) found.spelled)
 
 on-takes : (w s : List ℕ) (letter : Letter) (accident : Accident) (tonic : Tonic) → w ≡ tonic_spelled letter accident s → mode_on letter (accident_meant accident) s ≡ Some tonic → IsTonic w
 on-takes w [] letter accident tonic is h = bare letter accident is

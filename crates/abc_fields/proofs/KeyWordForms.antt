@@ -49,8 +49,7 @@ alone_if (b ∷ c ∷ s) letter h = absurd (none_is_some letter h)
 signed_some : (alter : Alter) (w s : List ℕ) (sign : Sign) (o : Option Letter) → w ≡ alter_spelled alter ++ s → letter_alone s ≡ o → option_map (λ l. record { letter = l; alter = alter }) o ≡ Some sign → IsSign w sign
 signed_some alter w s sign None is e h = absurd (none_is_some sign h)
 signed_some alter w s sign (Some letter) is e h =
-    let alone = alone_if s letter e in
-    record { alter = alter; letter = letter; lower = alone.0; spelled = is ∙ ap (λ t. alter_spelled alter ++ t) alone.1; meant = ap (λ o. unwrap_or o sign) h }
+    let alone = alone_if s letter e in record { alter = alter; letter = letter; lower = alone.0; spelled = is ∙ ap (λ t. alter_spelled alter ++ t) alone.1; meant = ap (λ o. unwrap_or o sign) h }
 
 signed-takes : (alter : Alter) (w : List ℕ) (sign : Sign) (o : Option (List ℕ)) → behind (alter_spelled alter) w ≡ o → signed alter o ≡ Some sign → IsSign w sign
 signed-takes alter w sign None e h = absurd (none_is_some sign h)
@@ -126,11 +125,9 @@ no_sign_if w (Some sign) e none = let is = sign-takes w sign e in absurd (none i
 word_passed : (w : List ℕ) → IsPassed w → key_word w ≡ Some KeyWord.Passed
 unfolding key_word
 word_passed w good =
-    let not_exp : bytes_eq w (codes "exp") ≡ false = not_exp_if w (bytes_eq w (codes "exp")) refl good.equals in
-    let no_sign : sign_of w ≡ None = no_sign_if w (sign_of w) refl good.no_sign in
+    let not_exp : bytes_eq w (codes "exp") ≡ false = not_exp_if w (bytes_eq w (codes "exp")) refl good.equals in let no_sign : sign_of w ≡ None = no_sign_if w (sign_of w) refl good.no_sign in
     let no_clef : behind (codes "clef=") w ≡ None = no_front (codes "clef=") w good.no_clef in
-    let no_name : clef_of w ≡ None = no_clef_read w (λ form is. not_both w (clef_spelled form) good.equals (clef-no-equals form) is) in
-    let equals : has_equals w ≡ true = good.equals in
+    let no_name : clef_of w ≡ None = no_clef_read w (λ form is. not_both w (clef_spelled form) good.equals (clef-no-equals form) is) in let equals : has_equals w ≡ true = good.equals in
     rw (not_exp, no_sign, no_clef, no_name, equals) refl
 
 word-read : (form : KeyWordForm) → IsGoodWord form → key_word (word_spelled form) ≡ Some (word_meant form)
@@ -159,8 +156,7 @@ passed_if w read true e no_sign no_clef h = record { form = passed_word w; good 
 name_if : (w : List ℕ) (read : KeyWord) (o : Option Clef) → clef_of w ≡ o
     → ((alter : Alter) (letter : Letter) (lower : Bool) → w ≡ alter_spelled alter ++ letter_spelled letter lower ∷ [] → ⊥) → ((name : List ℕ) → w ≡ codes "clef=" ++ name → ⊥) → by_name w o ≡ Some read → IsWord w read
 name_if w read (Some clef) e no_sign no_clef h =
-    let found = clef-takes w clef e in
-    record { form = name_word found.form; good = tt; spelled = found.spelled; meant = ap (λ c. KeyWord.Names c) found.meant ∙ some_word (KeyWord.Names clef) read h }
+    let found = clef-takes w clef e in record { form = name_word found.form; good = tt; spelled = found.spelled; meant = ap (λ c. KeyWord.Names c) found.meant ∙ some_word (KeyWord.Names clef) read h }
 name_if w read None e no_sign no_clef h = passed_if w read (has_equals w) refl no_sign no_clef h
 
 clef_if : (w name : List ℕ) (read : KeyWord) (o : Option Clef) → w ≡ codes "clef=" ++ name → clef_of name ≡ o → option_map (λ c. KeyWord.Names c) o ≡ Some read → IsWord w read
@@ -178,8 +174,7 @@ sign_if : (w : List ℕ) (read : KeyWord) (o : Option Sign) → sign_of w ≡ o 
 sign_if w read (Some sign) e h =
     let found = sign-takes w sign e in
     record { form = sign_word found.alter found.letter found.lower; good = tt; spelled = found.spelled; meant = ap (λ s. KeyWord.Adds s) found.meant ∙ some_word (KeyWord.Adds sign) read h }
-sign_if w read None e h =
-    front_if w read (behind (codes "clef=") w) refl (λ alter letter lower is. none_is_some (record { letter = letter; alter = alter }) (sym e ∙ ap sign_of is ∙ sign-read alter letter lower)) h
+sign_if w read None e h = front_if w read (behind (codes "clef=") w) refl (λ alter letter lower is. none_is_some (record { letter = letter; alter = alter }) (sym e ∙ ap sign_of is ∙ sign-read alter letter lower)) h
 
 exp_if : (w : List ℕ) (read : KeyWord) (exp : Bool) → bytes_eq w (codes "exp") ≡ exp → key_word w ≡ Some read → IsWord w read
 unfolding key_word
@@ -200,8 +195,7 @@ words_case : (w : List ℕ) (ws : List (List ℕ)) (read : List KeyWord) (one : 
 words_case w ws read None more e f rest h = absurd (none_is_some read h)
 words_case w ws read (Some k) None e f rest h = absurd (none_is_some read h)
 words_case w ws read (Some k) (Some ks) e f rest h =
-    let first = word-takes w k e in
-    let others = rest ks f in
+    let first = word-takes w k e in let others = rest ks f in
     record {
       forms = first.form ∷ others.forms;
       good = (first.good, others.good);

@@ -14,10 +14,7 @@ none_is_some x e = cc
 place-at : (byte : ℕ) (s rest : List ℕ) → (byte == byte) ≡ true → lacks byte s ≡ true → place_of byte (s ++ byte ∷ rest) ≡ length s
 place-at byte [] rest same all = rw same refl
 place-at byte (b ∷ s) rest same all =
-    let parts = and_parts _ _ all in
-    let other : not (b == byte) ≡ true = parts.0 in
-    let shorter : place_of byte (s ++ byte ∷ rest) ≡ length s = place-at byte s rest same parts.1 in
-    rw other (omega (arith, shorter))
+    let parts = and_parts _ _ all in let other : not (b == byte) ≡ true = parts.0 in let shorter : place_of byte (s ++ byte ∷ rest) ≡ length s = place-at byte s rest same parts.1 in rw other (omega (arith, shorter))
 
 before-at : (byte : ℕ) (s rest : List ℕ) → (byte == byte) ≡ true → lacks byte s ≡ true → before byte (s ++ byte ∷ rest) ≡ s
 unfolding before
@@ -50,8 +47,7 @@ cut-whole byte s = take-append-drop (place_of byte s) s
 behind_if : (front s rest : List ℕ) (does : Bool) → starts_with nat_eq s front ≡ does → behind front s ≡ Some rest → s ≡ front ++ rest
 unfolding behind
 behind_if front s rest true e h =
-    let same : front ≡ take (length front) s = (bytes_eq-Decides front (take (length front) s)).0 e in
-    let left : drop (length front) s ≡ rest = ap (λ o. unwrap_or o rest) (rw e at h) in
+    let same : front ≡ take (length front) s = (bytes_eq-Decides front (take (length front) s)).0 e in let left : drop (length front) s ≡ rest = ap (λ o. unwrap_or o rest) (rw e at h) in
     sym (take-append-drop (length front) s) ∙ ap (λ t. t ++ drop (length front) s) (sym same) ∙ ap (λ t. front ++ t) left
 behind_if front s rest false e h = absurd (none_is_some rest (rw e at h))
 
@@ -60,24 +56,14 @@ behind-takes front s rest h = behind_if front s rest (starts_with nat_eq s front
 
 -- Digits are none of the signs.
 digit_not : (k b : ℕ) → (k < 48) ⊎ (57 < k) → is_digit b ≡ true → (b == k) ≡ false
-digit_not k b out h =
-    let tests = and_parts _ _ h in
-    let low : 48 ≤ b = leb-true 48 b tests.0 in
-    let high : b ≤ 57 = leb-true b 57 tests.1 in
-    ne_eqb b k (λ same. omega (arith, out, low, high, same))
+digit_not k b out h = let tests = and_parts _ _ h in let low : 48 ≤ b = leb-true 48 b tests.0 in let high : b ≤ 57 = leb-true b 57 tests.1 in ne_eqb b k (λ same. omega (arith, out, low, high, same))
 
 not_digit : (k b : ℕ) → (k < 48) ⊎ (57 < k) → is_digit b ≡ true → (k == b) ≡ false
-not_digit k b out h =
-    let tests = and_parts _ _ h in
-    let low : 48 ≤ b = leb-true 48 b tests.0 in
-    let high : b ≤ 57 = leb-true b 57 tests.1 in
-    ne_eqb k b (λ same. omega (arith, out, low, high, same))
+not_digit k b out h = let tests = and_parts _ _ h in let low : 48 ≤ b = leb-true 48 b tests.0 in let high : b ≤ 57 = leb-true b 57 tests.1 in ne_eqb k b (λ same. omega (arith, out, low, high, same))
 
 digits-lack : (k : ℕ) (s : List ℕ) → (k < 48) ⊎ (57 < k) → list_all is_digit s ≡ true → lacks k s ≡ true
 digits-lack k [] out all = refl
-digits-lack k (b ∷ s) out all =
-    let parts = and_parts _ _ all in
-    rw (digit_not k b out parts.0) (digits-lack k s out parts.1)
+digits-lack k (b ∷ s) out all = let parts = and_parts _ _ all in rw (digit_not k b out parts.0) (digits-lack k s out parts.1)
 
 number-digits : (s : List ℕ) → is_number s ≡ true → list_all is_digit s ≡ true
 number-digits s h = (and_parts _ _ (and_parts _ _ h).1).0
@@ -85,30 +71,20 @@ number-digits s h = (and_parts _ _ (and_parts _ _ h).1).0
 -- Terms with a plus sign between each two are parted there again.
 split-digits : (s rest : List ℕ) → list_all is_digit s ≡ true → slice_split is_plus (s ++ 43 ∷ rest) ≡ s ∷ slice_split is_plus rest
 split-digits [] rest all = refl
-split-digits (b ∷ s) rest all =
-    let parts = and_parts _ _ all in
-    let more = split-digits s rest parts.1 in
-    rw (digit_not 43 b (inl (omega arith)) parts.0, more) refl
+split-digits (b ∷ s) rest all = let parts = and_parts _ _ all in let more = split-digits s rest parts.1 in rw (digit_not 43 b (inl (omega arith)) parts.0, more) refl
 
 split-alone : (s : List ℕ) → list_all is_digit s ≡ true → slice_split is_plus s ≡ s ∷ []
 split-alone [] all = refl
-split-alone (b ∷ s) all =
-    let parts = and_parts _ _ all in
-    let more = split-alone s parts.1 in
-    rw (digit_not 43 b (inl (omega arith)) parts.0, more) refl
+split-alone (b ∷ s) all = let parts = and_parts _ _ all in let more = split-alone s parts.1 in rw (digit_not 43 b (inl (omega arith)) parts.0, more) refl
 
 split-joined : (term : List ℕ) (terms : List (List ℕ)) → list_all is_number (term ∷ terms) ≡ true → slice_split is_plus (join_with_byte 43 (term ∷ terms)) ≡ term ∷ terms
 split-joined term [] all = split-alone term (number-digits term (and_parts _ _ all).0)
-split-joined term (next ∷ terms) all =
-    let parts = and_parts _ _ all in
-    split-digits term (join_with_byte 43 (next ∷ terms)) (number-digits term parts.0) ∙ ap (λ ts. term ∷ ts) (split-joined next terms parts.1)
+split-joined term (next ∷ terms) all = let parts = and_parts _ _ all in split-digits term (join_with_byte 43 (next ∷ terms)) (number-digits term parts.0) ∙ ap (λ ts. term ∷ ts) (split-joined next terms parts.1)
 
 joined-lacks : (k : ℕ) (term : List ℕ) (terms : List (List ℕ)) → (k < 48) ⊎ (57 < k) → (43 == k) ≡ false → list_all is_number (term ∷ terms) ≡ true → lacks k (join_with_byte 43 (term ∷ terms)) ≡ true
 joined-lacks k term [] out other all = digits-lack k term out (number-digits term (and_parts _ _ all).0)
 joined-lacks k term (next ∷ terms) out other all =
-    let parts = and_parts _ _ all in
-    let here = digits-lack k term out (number-digits term parts.0) in
-    let more = joined-lacks k next terms out other parts.1 in
+    let parts = and_parts _ _ all in let here = digits-lack k term out (number-digits term parts.0) in let more = joined-lacks k next terms out other parts.1 in
     list_all-append (λ b. not (b == k)) term (43 ∷ join_with_byte 43 (next ∷ terms)) ∙ rw (here, other, more) refl
 
 -- Numbers.
@@ -140,20 +116,16 @@ added_if : (term : List ℕ) (terms : List (List ℕ)) (total n : ℕ) (is few :
 added_if term terms total n false few e f more h = absurd (none_is_some n (sym (added-no term terms total e) ∙ h))
 added_if term terms total n true false e f more h = absurd (none_is_some n (sym (added-past term terms total e f) ∙ h))
 added_if term terms total n true true e f more h =
-    let rest = more (total + value_of term) (leb-true _ _ f) (sym (added-on term terms total e f) ∙ h) in
-    record { numbers = rw (e, rest.numbers) refl; value = omega (arith, rest.value); few = rest.few }
+    let rest = more (total + value_of term) (leb-true _ _ f) (sym (added-on term terms total e f) ∙ h) in record { numbers = rw (e, rest.numbers) refl; value = omega (arith, rest.value); few = rest.few }
 
 added-takes : (terms : List (List ℕ)) (total n : ℕ) → total ≤ 99 → added total terms ≡ Some n → Added total terms n
-added-takes [] total n small h =
-    let same : total ≡ n = ap (λ o. unwrap_or o 0) h in
-    record { numbers = refl; value = omega (arith, same); few = omega (arith, same, small) }
+added-takes [] total n small h = let same : total ≡ n = ap (λ o. unwrap_or o 0) h in record { numbers = refl; value = omega (arith, same); few = omega (arith, same, small) }
 added-takes (term ∷ terms) total n small h = added_if term terms total n (is_number term) (nat_le (total + value_of term) 99) refl refl (λ k few e. added-takes terms k n few e) h
 
 added-reaches : (terms : List (List ℕ)) (total : ℕ) → list_all is_number terms ≡ true → total + value_sum terms ≤ 99 → added total terms ≡ Some (total + value_sum terms)
 added-reaches [] total all few = ap Some (omega arith)
 added-reaches (term ∷ terms) total all few =
-    let parts = and_parts _ _ all in
-    added-on term terms total parts.0 (le-leb _ _ (omega (arith, few))) ∙ added-reaches terms (total + value_of term) parts.1 (omega (arith, few)) ∙ ap Some (omega arith)
+    let parts = and_parts _ _ all in added-on term terms total parts.0 (le-leb _ _ (omega (arith, few))) ∙ added-reaches terms (total + value_of term) parts.1 (omega (arith, few)) ∙ ap Some (omega arith)
 
 -- What stands above and below.
 halving-yes : (n : ℕ) → is_halving n ≡ true → halving_of (Some n) ≡ Some n
@@ -237,19 +209,13 @@ begun byte t (inl empty) some = absurd (some empty)
 begun byte t (inr is) some = is
 
 no_number : (t : List ℕ) (d : ℕ) → below_of (behind_one t) ≡ Some d → (t ≡ []) → ⊥
-no_number t d h empty =
-    let half = below-takes (behind_one t) d h in
-    let nothing : is_number (behind_one t) ≡ false = ap (λ x. is_number (behind_one x)) empty in
-    cc
+no_number t d h empty = let half = below-takes (behind_one t) d h in let nothing : is_number (behind_one t) ≡ false = ap (λ x. is_number (behind_one x)) empty in cc
 
 plain-takes : (s : List ℕ) (meter : Meter) → plain_ratio s ≡ Some meter → WritesMeter s meter
 unfolding plain_ratio
 plain-takes s meter h =
-    let parts = ratio-takes (sum_of (before 47 s)) (below_of (behind_one (from_first 47 s))) meter h in
-    let sum = sum-takes (before 47 s) parts.num parts.above_is in
-    let below = behind_one (from_first 47 s) in
-    let half = below-takes below parts.den parts.below_is in
-    let slash = begun 47 (from_first 47 s) (from-found 47 s) (no_number (from_first 47 s) parts.den parts.below_is) in
+    let parts = ratio-takes (sum_of (before 47 s)) (below_of (behind_one (from_first 47 s))) meter h in let sum = sum-takes (before 47 s) parts.num parts.above_is in
+    let below = behind_one (from_first 47 s) in let half = below-takes below parts.den parts.below_is in let slash = begun 47 (from_first 47 s) (from-found 47 s) (no_number (from_first 47 s) parts.den parts.below_is) in
     record {
       form = sum_form sum.terms below;
       good = sum-good (before 47 s) below parts.num parts.den sum half;
@@ -267,15 +233,12 @@ slash_if t d None e h = absurd (none_is_some d h)
 slash_if t d (Some below) e h = record { below = below; half = below-takes below d h; slash = behind-takes (codes "/") t below e }
 
 slash-empty : (t below : List ℕ) → behind_one t ≡ 47 ∷ below → (t ≡ []) → ⊥
-slash-empty t below h empty =
-    let nothing : behind_one t ≡ [] = ap behind_one empty in
-    cc
+slash-empty t below h empty = let nothing : behind_one t ≡ [] = ap behind_one empty in cc
 
 wrapped-takes : (s : List ℕ) (meter : Meter) → wrapped_ratio s ≡ Some meter → WritesMeter (40 ∷ s) meter
 unfolding wrapped_ratio
 wrapped-takes s meter h =
-    let parts = ratio-takes (sum_of (before 41 s)) (below_behind (behind (codes "/") (behind_one (from_first 41 s)))) meter h in
-    let sum = sum-takes (before 41 s) parts.num parts.above_is in
+    let parts = ratio-takes (sum_of (before 41 s)) (below_behind (behind (codes "/") (behind_one (from_first 41 s)))) meter h in let sum = sum-takes (before 41 s) parts.num parts.above_is in
     let low = slash_if (behind_one (from_first 41 s)) parts.den (behind (codes "/") (behind_one (from_first 41 s))) refl parts.below_is in
     let close = begun 41 (from_first 41 s) (from-found 41 s) (slash-empty (from_first 41 s) low.below low.slash) in
     record {
@@ -315,10 +278,8 @@ meter_at-takes s meter h = at_if s meter (bytes_eq s (codes "C")) (bytes_eq s (c
 digit-first : (d : ℕ) (s : List ℕ) → is_digit d ≡ true → meter_at (d ∷ s) ≡ plain_ratio (d ∷ s)
 unfolding meter_at ratio_of behind
 digit-first d s h =
-    let not_c : (d == 67) ≡ false = digit_not 67 d (inr (omega arith)) h in
-    let not_n : (d == 110) ≡ false = digit_not 110 d (inr (omega arith)) h in
-    let not_open : (40 == d) ≡ false = not_digit 40 d (inl (omega arith)) h in
-    rw (not_c, not_n, not_open) refl
+    let not_c : (d == 67) ≡ false = digit_not 67 d (inr (omega arith)) h in let not_n : (d == 110) ≡ false = digit_not 110 d (inr (omega arith)) h in
+    let not_open : (40 == d) ≡ false = not_digit 40 d (inl (omega arith)) h in rw (not_c, not_n, not_open) refl
 
 digit_begins : (term : List ℕ) (terms : List (List ℕ)) (below : List ℕ) → is_number term ≡ true → meter_at (join_with_byte 43 (term ∷ terms) ++ 47 ∷ below) ≡ plain_ratio (join_with_byte 43 (term ∷ terms) ++ 47 ∷ below)
 digit_begins [] terms below h = cc
@@ -357,11 +318,8 @@ unblank s = list_all (λ b. not (is_blank b)) s
 digits-unblank : (s : List ℕ) → list_all is_digit s ≡ true → unblank s ≡ true
 digits-unblank [] all = refl
 digits-unblank (b ∷ s) all =
-    let parts = and_parts _ _ all in
-    let no_space : (b == 32) ≡ false = digit_not 32 b (inl (omega arith)) parts.0 in
-    let no_tab : (b == 9) ≡ false = digit_not 9 b (inl (omega arith)) parts.0 in
-    let more : unblank s ≡ true = digits-unblank s parts.1 in
-    rw (no_space, no_tab, more) refl
+    let parts = and_parts _ _ all in let no_space : (b == 32) ≡ false = digit_not 32 b (inl (omega arith)) parts.0 in let no_tab : (b == 9) ≡ false = digit_not 9 b (inl (omega arith)) parts.0 in
+    let more : unblank s ≡ true = digits-unblank s parts.1 in rw (no_space, no_tab, more) refl
 
 unblank-append : (s t : List ℕ) → unblank s ≡ true → unblank t ≡ true → unblank (s ++ t) ≡ true
 unblank-append s t one two = list_all-append (λ b. not (is_blank b)) s t ∙ rw (one, two) refl
@@ -369,9 +327,7 @@ unblank-append s t one two = list_all-append (λ b. not (is_blank b)) s t ∙ rw
 sum-unblank : (terms : List (List ℕ)) → list_all is_number terms ≡ true → unblank (join_with_byte 43 terms) ≡ true
 sum-unblank [] all = refl
 sum-unblank (term ∷ []) all = digits-unblank term (number-digits term (and_parts _ _ all).0)
-sum-unblank (term ∷ next ∷ terms) all =
-    let parts = and_parts _ _ all in
-    unblank-append term (43 ∷ join_with_byte 43 (next ∷ terms)) (digits-unblank term (number-digits term parts.0)) (sum-unblank (next ∷ terms) parts.1)
+sum-unblank (term ∷ next ∷ terms) all = let parts = and_parts _ _ all in unblank-append term (43 ∷ join_with_byte 43 (next ∷ terms)) (digits-unblank term (number-digits term parts.0)) (sum-unblank (next ∷ terms) parts.1)
 
 form-unblank : (form : MeterForm) → IsGoodMeterForm form → unblank (meter_spelled form) ≡ true
 form-unblank (sum_form terms below) good = unblank-append (join_with_byte 43 terms) (47 ∷ below) (sum-unblank terms good.numbers) (digits-unblank below (number-digits below good.number))
@@ -398,8 +354,7 @@ unit_at-takes-over s unit (Some below) e h = over_if s below unit (below_of belo
     over_if : (s below : List ℕ) (unit : Frac) (o : Option ℕ) → below_of below ≡ o → s ≡ 49 ∷ 47 ∷ below → one_over o ≡ Some unit → WritesUnit s unit
     over_if s below unit None e is h = absurd (none_is_some unit h)
     over_if s below unit (Some d) e is h =
-        let half = below-takes below d e in
-        record { form = over_form below; good = (half.number, half.halving); spelled = is; meant = ap (λ n. record { num = 1; den = n }) half.value ∙ ap (λ o. unwrap_or o unit) h }
+        let half = below-takes below d e in record { form = over_form below; good = (half.number, half.halving); spelled = is; meant = ap (λ n. record { num = 1; den = n }) half.value ∙ ap (λ o. unwrap_or o unit) h }
 
 unit_if : (s : List ℕ) (unit : Frac) (whole : Bool) → bytes_eq s (codes "1") ≡ whole → unit_at s ≡ Some unit → WritesUnit s unit
 unfolding unit_at

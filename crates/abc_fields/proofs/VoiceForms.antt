@@ -45,16 +45,12 @@ without-no w e = rw e refl
 clef_if : (w : List ℕ) (clef : Clef) (above below : Bool) → ends_with nat_eq w (codes "+8") ≡ above → ends_with nat_eq w (codes "-8") ≡ below → clef_of w ≡ Some clef → IsClef w clef
 unfolding clef_of
 clef_if w clef true below e f h =
-    let octave : has_octave w ≡ true = rw e refl in
-    let name = named-takes (take (length w - 2) w) clef (sym (ap named_clef (without-yes w octave)) ∙ h) in
+    let octave : has_octave w ≡ true = rw e refl in let name = named-takes (take (length w - 2) w) clef (sym (ap named_clef (without-yes w octave)) ∙ h) in
     record { form = above_clef clef; spelled = ends-cut w (codes "+8") e ∙ ap (λ t. t ++ codes "+8") name; meant = refl }
 clef_if w clef false true e f h =
-    let octave : has_octave w ≡ true = rw (e, f) refl in
-    let name = named-takes (take (length w - 2) w) clef (sym (ap named_clef (without-yes w octave)) ∙ h) in
+    let octave : has_octave w ≡ true = rw (e, f) refl in let name = named-takes (take (length w - 2) w) clef (sym (ap named_clef (without-yes w octave)) ∙ h) in
     record { form = below_clef clef; spelled = ends-cut w (codes "-8") f ∙ ap (λ t. t ++ codes "-8") name; meant = refl }
-clef_if w clef false false e f h =
-    let octave : has_octave w ≡ false = rw (e, f) refl in
-    record { form = plain_clef clef; spelled = named-takes w clef (sym (ap named_clef (without-no w octave)) ∙ h); meant = refl }
+clef_if w clef false false e f h = let octave : has_octave w ≡ false = rw (e, f) refl in record { form = plain_clef clef; spelled = named-takes w clef (sym (ap named_clef (without-no w octave)) ∙ h); meant = refl }
 
 pub clef-takes : (w : List ℕ) (clef : Clef) → clef_of w ≡ Some clef → IsClef w clef
 clef-takes w clef h = clef_if w clef (ends_with nat_eq w (codes "+8")) (ends_with nat_eq w (codes "-8")) refl refl h
@@ -142,8 +138,7 @@ other_property_if w read None e no_clef no_stem h =
       meant = some_property VoiceWord.Passed read h;
     }
 other_property_if w read (Some clef) e no_clef no_stem h =
-    let found = clef-takes w clef e in
-    record { form = name_property found.form; good = tt; spelled = found.spelled; meant = ap (λ c. VoiceWord.Names c) found.meant ∙ some_property (VoiceWord.Names clef) read h }
+    let found = clef-takes w clef e in record { form = name_property found.form; good = tt; spelled = found.spelled; meant = ap (λ c. VoiceWord.Names c) found.meant ∙ some_property (VoiceWord.Names clef) read h }
 
 by_stem-takes : (w : List ℕ) (read : VoiceWord) (o : Option (List ℕ)) → behind (codes "stem=") w ≡ o → ((name : List ℕ) → w ≡ codes "clef=" ++ name → ⊥) → by_stem w o ≡ Some read → IsProperty w read
 unfolding behind
@@ -170,8 +165,7 @@ words_case : (w : List ℕ) (ws : List (List ℕ)) (read : List VoiceWord) (one 
 words_case w ws read None more e f rest h = absurd (none_is_some read h)
 words_case w ws read (Some v) None e f rest h = absurd (none_is_some read h)
 words_case w ws read (Some v) (Some vs) e f rest h =
-    let first = property-takes w v e in
-    let others = rest vs f in
+    let first = property-takes w v e in let others = rest vs f in
     record {
       forms = first.form ∷ others.forms;
       good = (first.good, others.good);
@@ -193,17 +187,7 @@ voice_properties : (text id rest : List ℕ) (voice : VoiceDef) (read : Option (
 voice_properties text id rest voice None first short closed e h = absurd (none_is_some voice h)
 voice_properties text id rest voice (Some vs) first short closed e h =
     let all = properties-take (properties_of rest) vs e in
-    record {
-      id = id;
-      rest = rest;
-      forms = all.forms;
-      first = first;
-      short = short;
-      closed = closed;
-      good = all.good;
-      spelled = all.spelled;
-      meant = ap (voice_def id) all.meant ∙ ap (λ o. unwrap_or o voice) h;
-    }
+    record { id = id; rest = rest; forms = all.forms; first = first; short = short; closed = closed; good = all.good; spelled = all.spelled; meant = ap (voice_def id) all.meant ∙ ap (λ o. unwrap_or o voice) h }
 
 voice-good : (id rest : List ℕ) → is_good_voice id rest ≡ true → voice_by_id (Some (id, rest)) ≡ option_map (voice_def id) (voice_words (properties_of rest))
 voice-good id rest e = rw e refl

@@ -26,8 +26,7 @@ first_if : (text t id rest : List ℕ) → behind_blanks text ≡ t → BeginsWo
 first_if text [] id rest e begins h = absurd (none_is_some (id, rest) h)
 first_if text (b ∷ s) id rest e begins h =
     let same = some_pair (take (word_len false false (b ∷ s)) (b ∷ s), drop (word_len false false (b ∷ s)) (b ∷ s)) (id, rest) h in
-    let word : take (word_len false false (b ∷ s)) (b ∷ s) ≡ id = ap (λ p. p.0) same in
-    let left : drop (word_len false false (b ∷ s)) (b ∷ s) ≡ rest = ap (λ p. p.1) same in
+    let word : take (word_len false false (b ∷ s)) (b ∷ s) ≡ id = ap (λ p. p.0) same in let left : drop (word_len false false (b ∷ s)) (b ∷ s) ≡ rest = ap (λ p. p.1) same in
     record {
       blanks = take (prefix_len is_blank text) text;
       blank = front-passes is_blank text;
@@ -50,10 +49,8 @@ stops-here (b ∷ s) parts = let blank : is_blank b ≡ true = parts in rw blank
 word-length : (word rest : List ℕ) → list_all (λ b. not (is_blank b)) word ≡ true → Parts rest → word_len false false (word ++ rest) ≡ length word
 word-length [] rest whole parts = stops-here rest parts
 word-length (b ∷ word) rest whole parts =
-    let tests = and_parts _ _ whole in
-    let here : is_blank b ≡ false = not-true (is_blank b) tests.0 in
-    let more : word_len false false (word ++ rest) ≡ length word = word-length word rest tests.1 parts in
-    rw (here, more) refl
+    let tests = and_parts _ _ whole in let here : is_blank b ≡ false = not-true (is_blank b) tests.0 in
+    let more : word_len false false (word ++ rest) ≡ length word = word-length word rest tests.1 parts in rw (here, more) refl
 
 abbrev cut_off : ℕ → List ℕ → Option (List ℕ × List ℕ)
 cut_off n s = Some (take n s, drop n s)
@@ -95,9 +92,7 @@ words-none text e = words-next false text ∙ ap (words_after false) e
 
 blank-none : (text : List ℕ) → list_all is_blank text ≡ true → next_word false text ≡ None
 unfolding next_word
-blank-none text all =
-    let nothing : behind_blanks text ≡ [] = ap behind_blanks (sym (append-nil text)) ∙ blanks-passed text [] all in
-    ap (word_and_rest false) nothing
+blank-none text all = let nothing : behind_blanks text ≡ [] = ap behind_blanks (sym (append-nil text)) ∙ blanks-passed text [] all in ap (word_and_rest false) nothing
 
 -- a text has the words that stand in it
 pub words-of-spelled : (words : List (List ℕ)) (text : List ℕ) → HasWords text words → words_of text ≡ words

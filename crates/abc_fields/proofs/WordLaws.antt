@@ -78,8 +78,7 @@ words_as_filter quotes s = refl
 
 words-cut : (quotes : Bool) (b : ℕ) (s : List ℕ) → is_blank b ≡ false → words_in quotes (b ∷ s) ≡ take (word_len quotes false (b ∷ s)) (b ∷ s) ∷ words_in quotes (drop (word_len quotes false (b ∷ s)) (b ∷ s))
 words-cut quotes b s e =
-    let n = word_len quotes (quoted_after quotes false b) s in
-    let long = word_len-more quotes b s e in
+    let n = word_len quotes (quoted_after quotes false b) s in let long = word_len-more quotes b s e in
     let after = words-pieces_after quotes (drop (word_len quotes false (b ∷ s)) (b ∷ s)) (word-stops quotes false (b ∷ s)) in
     words_as_filter quotes (b ∷ s) ∙ ap (λ ps. filter (λ w. not (is_empty w)) ps) (pieces-cut quotes false (b ∷ s))
     ∙ subst (λ k. filter (λ w. not (is_empty w)) (take k (b ∷ s) ∷ pieces_after quotes (drop k (b ∷ s))) ≡ take k (b ∷ s) ∷ filter (λ w. not (is_empty w)) (pieces_after quotes (drop k (b ∷ s)))) (sym long) (kept_first b s n (pieces_after quotes (drop (suc n) (b ∷ s))))

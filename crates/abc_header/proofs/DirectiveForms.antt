@@ -24,9 +24,7 @@ bare-stays (b ∷ s) t some bare = word-stays (b ∷ (s ++ t)) (not-true (is_bla
 blanks-reversed : (s : List ℕ) → list_all is_blank s ≡ true → list_all is_blank (reverse s) ≡ true
 blanks-reversed [] all = refl
 blanks-reversed (b ∷ s) all =
-    let parts = and_parts _ _ all in
-    let here : is_blank b ≡ true = parts.0 in
-    let more : list_all is_blank (reverse s) ≡ true = blanks-reversed s parts.1 in
+    let parts = and_parts _ _ all in let here : is_blank b ≡ true = parts.0 in let more : list_all is_blank (reverse s) ≡ true = blanks-reversed s parts.1 in
     ap (list_all is_blank) (reverse-append (b ∷ []) s) ∙ list_all-append is_blank (reverse s) (b ∷ []) ∙ rw (more, here) refl
 
 blanks-behind : (core back : List ℕ) → BeginsBare (reverse core) → list_all is_blank back ≡ true → suffix_len is_blank (core ++ back) ≡ length back
@@ -38,12 +36,9 @@ abbrev ended : List ℕ → List ℕ
 ended t = take (length t - suffix_len is_blank t) t
 
 core-left : (core back : List ℕ) → IsBare core → list_all is_blank back ≡ true → ended (behind_blanks (core ++ back)) ≡ core
-core-left [] back bare all =
-    let nothing : behind_blanks back ≡ [] = ap behind_blanks (sym (append-nil back)) ∙ blanks-passed back [] all in
-    ap ended nothing
+core-left [] back bare all = let nothing : behind_blanks back ≡ [] = ap behind_blanks (sym (append-nil back)) ∙ blanks-passed back [] all in ap ended nothing
 core-left (b ∷ core) back bare all =
-    let size = blanks-behind (b ∷ core) back bare.1 all in
-    let both = length-append (b ∷ core) back in
+    let size = blanks-behind (b ∷ core) back bare.1 all in let both = length-append (b ∷ core) back in
     let left : length ((b ∷ core) ++ back) - suffix_len is_blank ((b ∷ core) ++ back) ≡ length (b ∷ core) = omega (arith, size, both) in
     ap ended (bare-stays (b ∷ core) back refl bare.0) ∙ ap (λ n. take n ((b ∷ core) ++ back)) left ∙ take-append_seam (b ∷ core) back
 
@@ -61,8 +56,7 @@ front-kept (suc n) (b ∷ s) begins = word-bare (b ∷ s) begins
 
 ended-reversed : (s : List ℕ) → reverse (ended s) ≡ behind_blanks (reverse s)
 ended-reversed s =
-    let n = length s - suffix_len is_blank s in
-    let few = suffix_len-le-length is_blank s in
+    let n = length s - suffix_len is_blank s in let few = suffix_len-le-length is_blank s in
     let size : length (reverse (drop n s)) ≡ suffix_len is_blank s = length-reverse (drop n s) ∙ length-drop n s ∙ omega (arith, few) in
     let parts : reverse s ≡ reverse (drop n s) ++ reverse (take n s) = ap reverse (sym (take-append-drop n s)) ∙ reverse-append (take n s) (drop n s) in
     sym (drop-append_seam (reverse (drop n s)) (reverse (take n s))) ∙ ap (λ k. drop k (reverse (drop n s) ++ reverse (take n s))) size
@@ -71,8 +65,7 @@ ended-reversed s =
 trimmed-bare : (text : List ℕ) → IsBare (trimmed text)
 unfolding trimmed
 trimmed-bare text =
-    let s = behind_blanks text in
-    (front-kept (length s - suffix_len is_blank s) s (behind-begins text), subst BeginsBare (sym (ended-reversed s)) (word-bare (behind_blanks (reverse s)) (behind-begins (reverse s))))
+    let s = behind_blanks text in (front-kept (length s - suffix_len is_blank s) s (behind-begins text), subst BeginsBare (sym (ended-reversed s)) (word-bare (behind_blanks (reverse s)) (behind-begins (reverse s))))
 
 -- The lead of a directive.
 abbrev IsDirectiveKind : LineKind → Type 0
@@ -93,14 +86,10 @@ pair-is a b k l s e f = ap (λ x. pair x b s) (eqb-true a k e) ∙ ap (λ x. pai
 field_if : (a b : ℕ) (s : List ℕ) (is letter : Bool) → is_field (a ∷ b ∷ s) ≡ is → (a == 73) ≡ letter → IsDirectiveKind (if is then field_kind a else LineKind.Music) → IsLed (a ∷ b ∷ s)
 field_if a b s false letter e f h = absurd h
 field_if a b s true false e f h = let wrong : IsDirectiveKind (LineKind.Field a) = rw f at h in absurd wrong
-field_if a b s true true e f h =
-    let colon : (b == 58) ≡ true = (and_parts _ _ (and_parts _ _ e).0).1 in
-    record { lead = instruction; text = s; led = pair-is a b 73 58 s f colon }
+field_if a b s true true e f h = let colon : (b == 58) ≡ true = (and_parts _ _ (and_parts _ _ e).0).1 in record { lead = instruction; text = s; led = pair-is a b 73 58 s f colon }
 
 percent_if : (a b : ℕ) (s : List ℕ) (is : Bool) → is_percent_line (a ∷ b ∷ s) ≡ is → IsDirectiveKind (kind_of (a ∷ b ∷ s)) → IsLed (a ∷ b ∷ s)
-percent_if a b s true e h =
-    let parts = and_parts _ _ e in
-    record { lead = percents; text = s; led = pair-is a b 37 37 s parts.0 parts.1 }
+percent_if a b s true e h = let parts = and_parts _ _ e in record { lead = percents; text = s; led = pair-is a b 37 37 s parts.0 parts.1 }
 percent_if a b s false e h = field_if a b s (is_field (a ∷ b ∷ s)) (a == 73) refl refl (rw e at h)
 
 directive-led : (line : List ℕ) → IsDirectiveKind (kind_of line) → IsLed line
@@ -160,8 +149,7 @@ rest-read name after whole parts = ap trimmed (ap (λ n. drop n (name ++ after))
 pub directive-read : (line name says : List ℕ) → IsDirective line name says → said_by name line ≡ Some says
 unfolding said_by
 directive-read line name says is =
-    let word = is.named in
-    let text = word-found is.text name is.after word in
+    let word = is.named in let text = word-found is.text name is.after word in
     let same : bytes_eq (name_of (name ++ is.after)) name ≡ true = (bytes_eq-Decides (name_of (name ++ is.after)) name).1 (name-read name is.after word.whole word.parted) in
     ap (λ l. rest_if name l (kind_of l)) is.led ∙ ap (rest_if name (lead_spelled is.lead ++ is.text)) (lead-kind is.lead is.text)
     ∙ ap (rest_named name) (lead-text is.lead is.text ∙ text) ∙ rw same refl
@@ -192,12 +180,8 @@ kind_takes line name says LineKind.Directive h = (tt, named_if (field_text line)
 pub directive-takes : (line name says : List ℕ) → not (is_empty name) ≡ true → said_by name line ≡ Some says → IsDirective line name says
 unfolding said_by
 directive-takes line name says some h =
-    let parts = kind_takes line name says (kind_of line) h in
-    let led = directive-led line parts.0 in
-    let text : field_text line ≡ behind_blanks led.text = ap field_text led.led ∙ lead-text led.lead led.text in
-    let named : IsNamed (behind_blanks led.text) name says = subst (λ t. IsNamed t name says) text parts.1 in
-    let found = behind_blanks led.text in
-    let after = drop (name_len found) found in
+    let parts = kind_takes line name says (kind_of line) h in let led = directive-led line parts.0 in let text : field_text line ≡ behind_blanks led.text = ap field_text led.led ∙ lead-text led.lead led.text in
+    let named : IsNamed (behind_blanks led.text) name says = subst (λ t. IsNamed t name says) text parts.1 in let found = behind_blanks led.text in let after = drop (name_len found) found in
     record {
       lead = led.lead;
       text = led.text;

@@ -56,8 +56,7 @@ fault-takes before line fault h = read_fault before line (field_of line.text) fa
 many-read : (before : List Line) (line : Line) (f : Field) → 16 < length (ids_of (fields_of before ++ f ∷ [])) → fault_at (ids_of (fields_of before)) line (Ok f) ≡ Some (line_fault FaultKind.TooManyVoices line)
 many-read before line f many =
     let more : 16 < length (ids_after (ids_of (fields_of before)) f) = subst (λ ids. 16 < length ids) (fold-push (fields_of before) f []) many in
-    let test : nat_lt 16 (length (ids_after (ids_of (fields_of before)) f)) ≡ true = lt-ltb 16 (length (ids_after (ids_of (fields_of before)) f)) more in
-    rw test refl
+    let test : nat_lt 16 (length (ids_after (ids_of (fields_of before)) f)) ≡ true = lt-ltb 16 (length (ids_after (ids_of (fields_of before)) f)) more in rw test refl
 
 fault-reaches : (before : List Line) (line : Line) (fault : Fault) → IsFaultBehind before line fault → fault_of_line before line ≡ Some fault
 fault-reaches before line fault (inl bad) = ap (fault_at (ids_of (fields_of before)) line) (line-refused line.text bad.kind bad.bad) ∙ ap Some bad.is
@@ -96,17 +95,14 @@ nothing_clear done before line after fault e is = not_empty before after line e
 
 one_clear : (done : List Line) (line : Line) (lines : List Line) → fault_of_line done line ≡ None → ClearBehind (done ++ line ∷ []) lines → ClearBehind done (line ∷ lines)
 one_clear done line lines none clear [] other after fault e is =
-    let same : line ≡ other = ap (head_or line) e in
-    let here : IsFaultBehind done line fault = subst (λ l. IsFaultBehind done l fault) (sym same) (subst (λ ls. IsFaultBehind ls other fault) (append-nil done) is) in
+    let same : line ≡ other = ap (head_or line) e in let here : IsFaultBehind done line fault = subst (λ l. IsFaultBehind done l fault) (sym same) (subst (λ ls. IsFaultBehind ls other fault) (append-nil done) is) in
     none_is_some fault (sym none ∙ fault-reaches done line fault here)
 one_clear done line lines none clear (first ∷ before) other after fault e is =
-    let same : line ≡ first = ap (head_or line) e in
-    let there : IsFaultBehind (done ++ line ∷ before) other fault = subst (λ l. IsFaultBehind (done ++ l ∷ before) other fault) (sym same) is in
+    let same : line ≡ first = ap (head_or line) e in let there : IsFaultBehind (done ++ line ∷ before) other fault = subst (λ l. IsFaultBehind (done ++ l ∷ before) other fault) (sym same) is in
     clear before other after fault (ap tail_of e) (subst (λ ls. IsFaultBehind ls other fault) (sym (append_assoc done (line ∷ []) before)) there)
 
 first_passed : (done : List Line) (line : Line) (lines : List Line) → fault_of_line done line ≡ None → first_fault (ids_of (fields_of done)) (line ∷ lines) ≡ first_fault (ids_of (fields_of (done ++ line ∷ []))) lines
-first_passed done line lines none =
-    ap (λ o. option_or o (first_fault (ids_with (ids_of (fields_of done)) (field_of line.text)) lines)) none ∙ ap (λ ids. first_fault ids lines) (sym (ids-push done line))
+first_passed done line lines none = ap (λ o. option_or o (first_fault (ids_with (ids_of (fields_of done)) (field_of line.text)) lines)) none ∙ ap (λ ids. first_fault ids lines) (sym (ids-push done line))
 
 first_met : (done : List Line) (line : Line) (lines : List Line) (fault : Fault) → fault_of_line done line ≡ Some fault → first_fault (ids_of (fields_of done)) (line ∷ lines) ≡ Some fault
 first_met done line lines fault some = ap (λ o. option_or o (first_fault (ids_with (ids_of (fields_of done)) (field_of line.text)) lines)) some
@@ -124,14 +120,7 @@ later done line lines fault none first =
 
 met : (done : List Line) (line : Line) (lines : List Line) (fault : Fault) → fault_of_line done line ≡ Some fault → FirstBehind done (line ∷ lines) fault
 met done line lines fault some =
-    record {
-      before = [];
-      line = line;
-      after = lines;
-      cut = refl;
-      is = subst (λ ls. IsFaultBehind ls line fault) (sym (append-nil done)) (fault-takes done line fault some);
-      clear = nothing_clear done;
-    }
+    record { before = []; line = line; after = lines; cut = refl; is = subst (λ ls. IsFaultBehind ls line fault) (sym (append-nil done)) (fault-takes done line fault some); clear = nothing_clear done }
 
 takes_case : (done : List Line) (line : Line) (lines : List Line) (fault : Fault) (o : Option Fault) → fault_of_line done line ≡ o
     → (first_fault (ids_of (fields_of (done ++ line ∷ []))) lines ≡ Some fault → FirstBehind (done ++ line ∷ []) lines fault)
@@ -154,9 +143,7 @@ clear-takes (line ∷ lines) done h = clear_case done line lines (fault_of_line 
 
 -- the fault that is found is the first
 pub first-fault : (lines : List Line) (fault : Fault) → first_fault [] lines ≡ Some fault → IsFirstFault lines fault
-first-fault lines fault h =
-    let first = first-takes lines [] fault h in
-    record { before = first.before; line = first.line; after = first.after; cut = first.cut; is = first.is; clear = first.clear }
+first-fault lines fault h = let first = first-takes lines [] fault h in record { before = first.before; line = first.line; after = first.after; cut = first.cut; is = first.is; clear = first.clear }
 
 -- and where none is found there is none
 pub no-fault : (lines : List Line) → first_fault [] lines ≡ None → AreClear lines

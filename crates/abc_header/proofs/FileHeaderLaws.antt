@@ -18,9 +18,7 @@ both-none (Some x) p h = absurd (none_is_some x (sym h))
 
 unread-silent : {X : Type 0} (States : Line → X → Type 0) (f : Line → Option X) → Reads States f → (lines : List Line) → last_of f lines ≡ None → AreSilent States lines
 unread-silent States f reads [] h = tt
-unread-silent States f reads (line ∷ lines) h =
-    let parts = both-none (last_of f lines) (f line) h in
-    (λ x states. none_is_some x (sym parts.1 ∙ reads.reaches line x states), unread-silent States f reads lines parts.0)
+unread-silent States f reads (line ∷ lines) h = let parts = both-none (last_of f lines) (f line) h in (λ x states. none_is_some x (sym parts.1 ∙ reads.reaches line x states), unread-silent States f reads lines parts.0)
 
 none_if : {X : Type 0} (States : Line → X → Type 0) (f : Line → Option X) (line : Line) (o : Option X) → Reads States f → f line ≡ o → ((x : X) → States line x → ⊥) → o ≡ None
 none_if States f line None reads e silent = refl
@@ -34,8 +32,7 @@ last_if : {X : Type 0} (States : Line → X → Type 0) (f : Line → Option X) 
     → Reads States f → last_of f lines ≡ o → ((y : X) → o ≡ Some y → IsLastOf States lines y) → option_or o (f line) ≡ Some x → IsLastOf States (line ∷ lines) x
 last_if States f line lines x None reads e more h = record { before = []; line = line; after = lines; cut = refl; states = reads.takes line x h; silent = unread-silent States f reads lines e }
 last_if States f line lines x (Some y) reads e more h =
-    let last = more x h in
-    record { before = line ∷ last.before; line = last.line; after = last.after; cut = ap (λ ls. line ∷ ls) last.cut; states = last.states; silent = last.silent }
+    let last = more x h in record { before = line ∷ last.before; line = last.line; after = last.after; cut = ap (λ ls. line ∷ ls) last.cut; states = last.states; silent = last.silent }
 
 last-takes : {X : Type 0} (States : Line → X → Type 0) (f : Line → Option X) → Reads States f → (lines : List Line) (x : X) → last_of f lines ≡ Some x → IsLastOf States lines x
 last-takes States f reads [] x h = absurd (none_is_some x h)
@@ -112,17 +109,14 @@ spread-reads =
 
 mapped_said : (line : Line) (said : Option (List ℕ)) (staves : Line) → option_map (line_of line.number) said ≡ Some staves → (said ≡ Some staves.text) × (staves.number ≡ line.number)
 mapped_said line None staves h = absurd (none_is_some staves h)
-mapped_said line (Some text) staves h =
-    let same = some_is (line_of line.number text) staves h in
-    (ap (λ (l : Line). Some l.text) same, sym (ap (λ (l : Line). l.number) same))
+mapped_said line (Some text) staves h = let same = some_is (line_of line.number text) staves h in (ap (λ (l : Line). Some l.text) same, sym (ap (λ (l : Line). l.number) same))
 
 staves-reads : Reads StatesStaves line_staves
 unfolding line_staves
 staves-reads =
     record {
       takes = λ line staves h.
-          let said = mapped_said line (said_by (codes "score") line.text) staves h in
-          record { directive = directive-takes line.text (codes "score") staves.text refl said.0; number = said.1 };
+          let said = mapped_said line (said_by (codes "score") line.text) staves h in record { directive = directive-takes line.text (codes "score") staves.text refl said.0; number = said.1 };
       reaches = λ line staves states.
           ap (option_map (line_of line.number)) (directive-read line.text (codes "score") staves.text states.directive) ∙ ap (λ n. Some (line_of n staves.text)) (sym states.number);
     }
@@ -158,8 +152,7 @@ letter_if letter a b s text false false directive same e f g k h = absurd (none_
 letter_if letter a b s text false true true same e f g k h = absurd (none_is_some text (rw (e, f, g) at h))
 letter_if letter a b s text false true false false e f g k h = absurd (none_is_some text (rw (e, f, g, k) at h))
 letter_if letter a b s text false true false true e f g k h =
-    let colon : (b == 58) ≡ true = (and_parts _ _ (and_parts _ _ f).0).1 in
-    record { rest = s; cut = pair-is a b letter 58 s k colon; is = some_is (behind_blanks s) text (rw (e, f, g, k) at h) }
+    let colon : (b == 58) ≡ true = (and_parts _ _ (and_parts _ _ f).0).1 in record { rest = s; cut = pair-is a b letter 58 s k colon; is = some_is (behind_blanks s) text (rw (e, f, g, k) at h) }
 
 letter-takes : (letter : ℕ) (line text : List ℕ) → text_of letter line ≡ Some text → HasLetter letter line text
 unfolding text_of
@@ -180,8 +173,7 @@ unfolding line_meter
 meter-reads =
     record {
       takes = λ line meter h.
-          let chain = then-takes meter_of (text_of 77 line.text) meter h in
-          let has = letter-takes 77 line.text chain.middle chain.first in
+          let chain = then-takes meter_of (text_of 77 line.text) meter h in let has = letter-takes 77 line.text chain.middle chain.first in
           record { text = has.rest; field = has.cut; says = meter-says has.rest meter (sym (meter-once has.rest) ∙ ap meter_of has.is ∙ chain.second) };
       reaches = λ line meter states. ap (option_and_then meter_of) (ap (text_of 77) states.field ∙ meter-letter states.text) ∙ meter-once states.text ∙ meter-read states.text meter states.says;
     }
@@ -191,8 +183,7 @@ unfolding line_unit
 unit-reads =
     record {
       takes = λ line unit h.
-          let chain = then-takes unit_of (text_of 76 line.text) unit h in
-          let has = letter-takes 76 line.text chain.middle chain.first in
+          let chain = then-takes unit_of (text_of 76 line.text) unit h in let has = letter-takes 76 line.text chain.middle chain.first in
           record { text = has.rest; field = has.cut; says = unit-says has.rest unit (sym (unit-once has.rest) ∙ ap unit_of has.is ∙ chain.second) };
       reaches = λ line unit states. ap (option_and_then unit_of) (ap (text_of 76) states.field ∙ unit-letter states.text) ∙ unit-once states.text ∙ unit-read states.text unit states.says;
     }
@@ -211,9 +202,7 @@ defaults-are lines =
     }
 
 same_defaults : (d e : Defaults) → d.meter ≡ e.meter → d.unit ≡ e.unit → d.breaks ≡ e.breaks → d.spread ≡ e.spread → d.staves ≡ e.staves → d ≡ e
-same_defaults d e m u b s v =
-    let same : record { meter = d.meter; unit = d.unit; breaks = d.breaks; spread = d.spread; staves = d.staves } ≡ e = rw (m, u, b, s, v) refl in
-    same
+same_defaults d e m u b s v = let same : record { meter = d.meter; unit = d.unit; breaks = d.breaks; spread = d.spread; staves = d.staves } ≡ e = rw (m, u, b, s, v) refl in same
 
 -- and no other values are
 pub defaults-one : (lines : List Line) (defaults : Defaults) → AreDefaultsBy lines defaults → defaults ≡ defaults_of lines
@@ -269,9 +258,7 @@ stated-is lines =
     }
 
 same_paper : (p q : Paper) → p.wide ≡ q.wide → p.high ≡ q.high → p.left ≡ q.left → p.right ≡ q.right → p.top ≡ q.top → p.bottom ≡ q.bottom → p.scale ≡ q.scale → p ≡ q
-same_paper p q w h l r t b s =
-    let same : record { wide = p.wide; high = p.high; left = p.left; right = p.right; top = p.top; bottom = p.bottom; scale = p.scale } ≡ q = rw (w, h, l, r, t, b, s) refl in
-    same
+same_paper p q w h l r t b s = let same : record { wide = p.wide; high = p.high; left = p.left; right = p.right; top = p.top; bottom = p.bottom; scale = p.scale } ≡ q = rw (w, h, l, r, t, b, s) refl in same
 
 stated-one : (lines : List Line) (paper : Paper) → IsStatedPaper lines paper → paper ≡ stated lines
 unfolding length_in scale_in
@@ -287,14 +274,10 @@ stated-one lines paper is =
 
 roomy : (paper : Paper) → HasRoom paper → is_wide_enough paper ≡ true
 roomy paper room =
-    let wide : nat_le 10000 (width_of paper) ≡ true = le-leb 10000 (width_of paper) room.0 in
-    let high : nat_le 10000 (height_of paper) ≡ true = le-leb 10000 (height_of paper) room.1 in
-    rw (wide, high) refl
+    let wide : nat_le 10000 (width_of paper) ≡ true = le-leb 10000 (width_of paper) room.0 in let high : nat_le 10000 (height_of paper) ≡ true = le-leb 10000 (height_of paper) room.1 in rw (wide, high) refl
 
 room_of : (paper : Paper) → is_wide_enough paper ≡ true → HasRoom paper
-room_of paper e =
-    let parts = and_parts _ _ e in
-    (leb-true 10000 (width_of paper) parts.0, leb-true 10000 (height_of paper) parts.1)
+room_of paper e = let parts = and_parts _ _ e in (leb-true 10000 (width_of paper) parts.0, leb-true 10000 (height_of paper) parts.1)
 
 true_false : true ≡ false → ⊥
 true_false e = cc

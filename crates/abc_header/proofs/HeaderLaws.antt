@@ -70,8 +70,7 @@ none_counted p (x ∷ xs) e = none_more p x xs (p x) refl e (none_counted p xs)
 
 once_new : (ids : List (List ℕ)) (id x : List ℕ) (same : Bool) → bytes_eq x id ≡ same → list_any (bytes_eq id) ids ≡ false → count_by (bytes_eq x) ids ≤ 1 → count_by (bytes_eq x) (ids ++ id ∷ []) ≤ 1
 once_new ids id x true e new once =
-    let here : x ≡ id = bytes-same x id e in
-    let none : count_by (bytes_eq x) ids ≡ 0 = subst (λ y. count_by (bytes_eq y) ids ≡ 0) (sym here) (none_counted (bytes_eq id) ids new) in
+    let here : x ≡ id = bytes-same x id e in let none : count_by (bytes_eq x) ids ≡ 0 = subst (λ y. count_by (bytes_eq y) ids ≡ 0) (sym here) (none_counted (bytes_eq id) ids new) in
     rw (count_by-push (bytes_eq x) ids id, none, e) (omega arith)
 once_new ids id x false e new once = rw (count_by-push (bytes_eq x) ids id, e) (omega (arith, once))
 
@@ -116,8 +115,7 @@ pub stage_more : (lines : List Line) (i : ℕ) (line : Line) (done new : List Fi
     → i < length lines → line ≡ get_or lines i line → new ≡ done ++ f ∷ [] → field_of line.text ≡ Ok f → now ≡ ids_after known f
     → fault_at known line (Ok f) ≡ None → IsGoodField f → length now ≤ 16 → Stage lines i done known → Stage lines (i + 1) new now
 stage_more lines i line done new known now f inside here pushed read noted none good few stage =
-    let one : i + 1 ≡ suc i = omega arith in
-    let rest : List Line = drop (suc i) lines in
+    let one : i + 1 ≡ suc i = omega arith in let rest : List Line = drop (suc i) lines in
     let cut : drop i lines ≡ line ∷ drop (suc i) lines = drop-cons lines i line inside ∙ ap (λ l. l ∷ drop (suc i) lines) (sym here) in
     let passed : first_fault known (line ∷ drop (suc i) lines) ≡ first_fault (ids_after known f) (drop (suc i) lines) =
     ap (λ r. option_or (fault_at known line r) (first_fault (ids_with known r) (drop (suc i) lines))) read

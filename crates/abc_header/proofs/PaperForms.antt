@@ -27,11 +27,7 @@ stopped p (b ∷ s) stops = let no : p b ≡ false = stops in rw no refl
 
 pub front-length : (p : ℕ → Bool) (w s : List ℕ) → list_all p w ≡ true → Stops p s → prefix_len p (w ++ s) ≡ length w
 front-length p [] s all stops = stopped p s stops
-front-length p (b ∷ w) s all stops =
-    let parts = and_parts _ _ all in
-    let here : p b ≡ true = parts.0 in
-    let more : prefix_len p (w ++ s) ≡ length w = front-length p w s parts.1 stops in
-    rw (here, more) (omega arith)
+front-length p (b ∷ w) s all stops = let parts = and_parts _ _ all in let here : p b ≡ true = parts.0 in let more : prefix_len p (w ++ s) ≡ length w = front-length p w s parts.1 stops in rw (here, more) (omega arith)
 
 digits-taken : (ds s : List ℕ) → list_all is_digit ds ≡ true → Stops is_digit s → take (digit_len (ds ++ s)) (ds ++ s) ≡ ds
 digits-taken ds s all stops = ap (λ n. take n (ds ++ s)) (front-length is_digit ds s all stops) ∙ take-append_seam ds s
@@ -58,8 +54,7 @@ with-read w d (e ∷ f ∷ ds) rest few = absurd (omega (arith, few))
 
 behind-point : (w : ℕ) (ds rest : List ℕ) → list_all is_digit ds ≡ true → Stops is_digit rest
     → with_decimals w (take (digit_len (ds ++ rest)) (ds ++ rest)) (drop (digit_len (ds ++ rest)) (ds ++ rest)) ≡ with_decimals w ds rest
-behind-point w ds rest all stops =
-    ap (λ t. with_decimals w t (drop (digit_len (ds ++ rest)) (ds ++ rest))) (digits-taken ds rest all stops) ∙ ap (λ t. with_decimals w ds t) (digits-left ds rest all stops)
+behind-point w ds rest all stops = ap (λ t. with_decimals w t (drop (digit_len (ds ++ rest)) (ds ++ rest))) (digits-taken ds rest all stops) ∙ ap (λ t. with_decimals w ds t) (digits-left ds rest all stops)
 
 abbrev read_behind : ℕ → List ℕ → Option (ℕ × List ℕ)
 read_behind w s = decimals w s (behind (codes ".") s)
@@ -77,8 +72,7 @@ number-read : (number : PaperNumber) (rest : List ℕ) → IsGoodNumber number �
     → hundredths_of (number_spelled number rest) ≡ read_as (hundredths number) rest
 unfolding hundredths_of
 number-read number rest good few stops none =
-    let left = point_spelled number.decimals rest in
-    let halts = point-stops number.decimals rest stops in
+    let left = point_spelled number.decimals rest in let halts = point-stops number.decimals rest stops in
     ap (λ t. option_and_then (λ w. read_behind w t) (whole_of (take (digit_len (number.whole ++ left)) (number.whole ++ left)))) (digits-left number.whole left good.whole_digits halts)
     ∙ ap (λ t. option_and_then (λ w. read_behind w left) (whole_of t)) (digits-taken number.whole left good.whole_digits halts)
     ∙ ap (option_and_then (λ w. read_behind w left)) (whole-read number.whole good.some few)
@@ -107,8 +101,7 @@ whole-takes (d ∷ ds) w all h = whole_if d ds w (nat_le (value_of (d ∷ ds)) 1
 with-takes : (w : ℕ) (ds t rest : List ℕ) (z : ℕ × List ℕ) → IsWhole ds w → list_all is_digit t ≡ true → with_decimals w t rest ≡ Some z → IsNumberBefore (ds ++ (codes "." ++ (t ++ rest))) z
 with-takes w ds [] rest z whole all h = absurd (none_is_some z h)
 with-takes w ds (a ∷ []) rest z whole all h =
-    let same : (w * 100 + (a - 48) * 10, rest) ≡ z = some_is (w * 100 + (a - 48) * 10, rest) z h in
-    let size : w * 100 + (a - 48) * 10 ≡ z.0 = ap (λ p. p.0) same in
+    let same : (w * 100 + (a - 48) * 10, rest) ≡ z = some_is (w * 100 + (a - 48) * 10, rest) z h in let size : w * 100 + (a - 48) * 10 ≡ z.0 = ap (λ p. p.0) same in
     record {
       number = record { whole = ds; decimals = a ∷ [] };
       good = record { some = whole.some; whole_digits = whole.all; few = omega arith; decimal_digits = all };
@@ -116,8 +109,7 @@ with-takes w ds (a ∷ []) rest z whole all h =
       meant = omega (arith, whole.value, size);
     }
 with-takes w ds (a ∷ b ∷ []) rest z whole all h =
-    let same : (w * 100 + ((a - 48) * 10 + (b - 48)), rest) ≡ z = some_is (w * 100 + ((a - 48) * 10 + (b - 48)), rest) z h in
-    let size : w * 100 + ((a - 48) * 10 + (b - 48)) ≡ z.0 = ap (λ p. p.0) same in
+    let same : (w * 100 + ((a - 48) * 10 + (b - 48)), rest) ≡ z = some_is (w * 100 + ((a - 48) * 10 + (b - 48)), rest) z h in let size : w * 100 + ((a - 48) * 10 + (b - 48)) ≡ z.0 = ap (λ p. p.0) same in
     record {
       number = record { whole = ds; decimals = a ∷ b ∷ [] };
       good = record { some = whole.some; whole_digits = whole.all; few = omega arith; decimal_digits = all };
@@ -128,8 +120,7 @@ with-takes w ds (a ∷ b ∷ c ∷ t) rest z whole all h = absurd (none_is_some 
 
 decimals-takes : (w : ℕ) (ds s : List ℕ) (o : Option (List ℕ)) (z : ℕ × List ℕ) → IsWhole ds w → behind (codes ".") s ≡ o → decimals w s o ≡ Some z → IsNumberBefore (ds ++ s) z
 decimals-takes w ds s None z whole e h =
-    let same : (w * 100, s) ≡ z = some_is (w * 100, s) z h in
-    let size : w * 100 ≡ z.0 = ap (λ p. p.0) same in
+    let same : (w * 100, s) ≡ z = some_is (w * 100, s) z h in let size : w * 100 ≡ z.0 = ap (λ p. p.0) same in
     record {
       number = record { whole = ds; decimals = [] };
       good = record { some = whole.some; whole_digits = whole.all; few = omega arith; decimal_digits = refl };
@@ -137,17 +128,14 @@ decimals-takes w ds s None z whole e h =
       meant = omega (arith, whole.value, size);
     }
 decimals-takes w ds s (Some t) z whole e h =
-    let point : s ≡ codes "." ++ t = behind-takes (codes ".") s t e in
-    let parts : take (digit_len t) t ++ drop (digit_len t) t ≡ t = take-append-drop (digit_len t) t in
+    let point : s ≡ codes "." ++ t = behind-takes (codes ".") s t e in let parts : take (digit_len t) t ++ drop (digit_len t) t ≡ t = take-append-drop (digit_len t) t in
     subst (λ x. IsNumberBefore (ds ++ x) z) (ap (λ x. codes "." ++ x) parts ∙ sym point)
     (with-takes w ds (take (digit_len t) t) (drop (digit_len t) t) z whole (front-passes is_digit t) h)
 
 number-takes : (s : List ℕ) (z : ℕ × List ℕ) → hundredths_of s ≡ Some z → IsNumberBefore s z
 unfolding hundredths_of
 number-takes s z h =
-    let digits = take (digit_len s) s in
-    let left = drop (digit_len s) s in
-    let chain = then-takes (λ w. read_behind w left) (whole_of digits) z h in
+    let digits = take (digit_len s) s in let left = drop (digit_len s) s in let chain = then-takes (λ w. read_behind w left) (whole_of digits) z h in
     subst (λ t. IsNumberBefore t z) (take-append-drop (digit_len s) s)
     (decimals-takes chain.middle digits left (behind (codes ".") left) z (whole-takes digits chain.middle (front-passes is_digit s) chain.first) refl chain.second)
 
@@ -194,20 +182,15 @@ few_points centimetres w d few = omega (arith, few)
 -- Lengths.
 within_if : (u size : ℕ) (few : Bool) → nat_le u 100000 ≡ few → within_paper u ≡ Some size → (u ≡ size) × (size ≤ 100000)
 within_if u size false e h = absurd (none_is_some size (rw e at h))
-within_if u size true e h =
-    let same : u ≡ size = some_is u size (rw e at h) in
-    let few : u ≤ 100000 = leb-true u 100000 e in
-    (same, omega (arith, same, few))
+within_if u size true e h = let same : u ≡ size = some_is u size (rw e at h) in let few : u ≤ 100000 = leb-true u 100000 e in (same, omega (arith, same, few))
 
 -- a text reads as a length only where a good form of it spells the text
 pub length-writes : (text : List ℕ) (size : ℕ) → length_of text ≡ Some size → WritesLength text size
 unfolding length_of
 length-writes text size h =
     let chain = then-takes (λ number. option_and_then within_paper (in_units number.0 number.1)) (hundredths_of text) size h in
-    let inner = then-takes within_paper (in_units chain.middle.0 chain.middle.1) size chain.second in
-    let read = number-takes text chain.middle chain.first in
-    let measured = unit-takes chain.middle.0 inner.middle chain.middle.1 inner.first in
-    let within = within_if inner.middle size (nat_le inner.middle 100000) refl inner.second in
+    let inner = then-takes within_paper (in_units chain.middle.0 chain.middle.1) size chain.second in let read = number-takes text chain.middle chain.first in
+    let measured = unit-takes chain.middle.0 inner.middle chain.middle.1 inner.first in let within = within_if inner.middle size (nat_le inner.middle 100000) refl inner.second in
     record {
       number = read.number;
       unit = measured.unit;
@@ -227,9 +210,7 @@ form-read number unit good few =
 
 -- and wherever one does
 pub length-read : (text : List ℕ) (size : ℕ) → WritesLength text size → length_of text ≡ Some size
-length-read text size writes =
-    let same = writes.meant in
-    ap length_of writes.spelled ∙ form-read writes.number writes.unit writes.good (subst (λ u. u ≤ 100000) (sym same) writes.small) ∙ ap Some same
+length-read text size writes = let same = writes.meant in ap length_of writes.spelled ∙ form-read writes.number writes.unit writes.good (subst (λ u. u ≤ 100000) (sym same) writes.small) ∙ ap Some same
 
 -- The scale.
 record IsScaleBy (z : ℕ × List ℕ) (percent : ℕ) : Type 0 where
@@ -241,28 +222,16 @@ record IsScaleBy (z : ℕ × List ℕ) (percent : ℕ) : Type 0 where
 scale_if : (z : ℕ × List ℕ) (percent : ℕ) (is : Bool) → (is_scale z.0 && bytes_eq z.1 []) ≡ is → scale_by z ≡ Some percent → IsScaleBy z percent
 scale_if z percent false e h = absurd (none_is_some percent (rw e at h))
 scale_if z percent true e h =
-    let parts = and_parts _ _ e in
-    let bounds = and_parts _ _ parts.0 in
-    let same : z.0 ≡ percent = some_is z.0 percent (rw e at h) in
-    let least : 40 ≤ z.0 = leb-true 40 z.0 bounds.0 in
-    let most : z.0 ≤ 150 = leb-true z.0 150 bounds.1 in
-    record { value = same; alone = same_bytes z.1 [] parts.1; low = omega (arith, same, least); high = omega (arith, same, most) }
+    let parts = and_parts _ _ e in let bounds = and_parts _ _ parts.0 in let same : z.0 ≡ percent = some_is z.0 percent (rw e at h) in let least : 40 ≤ z.0 = leb-true 40 z.0 bounds.0 in
+    let most : z.0 ≤ 150 = leb-true z.0 150 bounds.1 in record { value = same; alone = same_bytes z.1 [] parts.1; low = omega (arith, same, least); high = omega (arith, same, most) }
 
 -- a text reads as a scale only where a good form of it spells the text
 pub scale-writes : (text : List ℕ) (percent : ℕ) → scale_of text ≡ Some percent → WritesScale text percent
 unfolding scale_of
 scale-writes text percent h =
-    let chain = then-takes scale_by (hundredths_of text) percent h in
-    let read = number-takes text chain.middle chain.first in
+    let chain = then-takes scale_by (hundredths_of text) percent h in let read = number-takes text chain.middle chain.first in
     let scale = scale_if chain.middle percent (is_scale chain.middle.0 && bytes_eq chain.middle.1 []) refl chain.second in
-    record {
-      number = read.number;
-      good = read.good;
-      spelled = read.spelled ∙ ap (number_spelled read.number) scale.alone;
-      meant = read.meant ∙ scale.value;
-      low = scale.low;
-      high = scale.high;
-    }
+    record { number = read.number; good = read.good; spelled = read.spelled ∙ ap (number_spelled read.number) scale.alone; meant = read.meant ∙ scale.value; low = scale.low; high = scale.high }
 
 alone-pointless : behind (codes ".") [] ≡ None
 unfolding behind
@@ -271,13 +240,10 @@ alone-pointless = refl
 scale-form-read : (number : PaperNumber) → IsGoodNumber number → 40 ≤ hundredths number → hundredths number ≤ 150 → scale_of (number_spelled number []) ≡ Some (hundredths number)
 unfolding scale_of
 scale-form-read number good low high =
-    let small : value_of number.whole ≤ 100000 = omega (arith, high) in
-    let least : nat_le 40 (hundredths number) ≡ true = le-leb 40 (hundredths number) low in
-    let most : nat_le (hundredths number) 150 ≡ true = le-leb (hundredths number) 150 high in
-    ap (option_and_then scale_by) (number-read number [] good small tt alone-pointless) ∙ rw (least, most) refl
+    let small : value_of number.whole ≤ 100000 = omega (arith, high) in let least : nat_le 40 (hundredths number) ≡ true = le-leb 40 (hundredths number) low in
+    let most : nat_le (hundredths number) 150 ≡ true = le-leb (hundredths number) 150 high in ap (option_and_then scale_by) (number-read number [] good small tt alone-pointless) ∙ rw (least, most) refl
 
 -- and wherever one does
 pub scale-read : (text : List ℕ) (percent : ℕ) → WritesScale text percent → scale_of text ≡ Some percent
 scale-read text percent writes =
-    let same = writes.meant in
-    ap scale_of writes.spelled ∙ scale-form-read writes.number writes.good (subst (λ v. 40 ≤ v) (sym same) writes.low) (subst (λ v. v ≤ 150) (sym same) writes.high) ∙ ap Some same
+    let same = writes.meant in ap scale_of writes.spelled ∙ scale-form-read writes.number writes.good (subst (λ v. 40 ≤ v) (sym same) writes.low) (subst (λ v. v ≤ 150) (sym same) writes.high) ∙ ap Some same

@@ -27,7 +27,6 @@ voices_by_key f fs (k ∷ ks) = ap (λ vs. voice_from fs (f k) ∷ vs) (voices_b
 pub voices-more : {X : Type 0} (f : X → VoiceDef) (ids : List X) (i : ℕ) (item : X) (done new : List VoiceDef) (def : VoiceDef)
     → i < length ids → item ≡ get_or ids i item → new ≡ done ++ def ∷ [] → def ≡ f item → done ++ map f (drop i ids) ≡ map f ids → new ++ map f (drop (i + 1) ids) ≡ map f ids
 voices-more f ids i item done new def inside here pushed made so_far =
-    let one : i + 1 ≡ suc i = omega arith in
-    let cut : drop i ids ≡ get_or ids i item ∷ drop (suc i) ids = drop-cons ids i item inside in
+    let one : i + 1 ≡ suc i = omega arith in let cut : drop i ids ≡ get_or ids i item ∷ drop (suc i) ids = drop-cons ids i item inside in
     rw one (ap (λ vs. vs ++ map f (drop (suc i) ids)) pushed ∙ append_assoc done (def ∷ []) (map f (drop (suc i) ids))
     ∙ ap (λ d. done ++ d ∷ map f (drop (suc i) ids)) (made ∙ ap f here) ∙ ap (λ ks. done ++ map f ks) (sym cut) ∙ so_far)

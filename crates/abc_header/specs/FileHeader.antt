@@ -80,9 +80,7 @@ pub record AreDefaultsBy (lines : List Line) (defaults : Defaults) : Type 0 wher
 -- The staves of a tune whose header has these lines and whose first line has this number: the last
 -- that its lines state, else the file's, told of at that line.
 abbrev pub AreStavesBy : List Line → ℕ → Option Line → Option Line → Type 0
-AreStavesBy lines first other staves =
-    ((own : Line) × IsLastOf StatesStaves lines own × (staves ≡ Some own))
-    ⊎ (AreSilent StatesStaves lines × (staves ≡ option_map (λ (line : Line). line_of first line.text) other))
+AreStavesBy lines first other staves = ((own : Line) × IsLastOf StatesStaves lines own × (staves ≡ Some own)) ⊎ (AreSilent StatesStaves lines × (staves ≡ option_map (λ (line : Line). line_of first line.text) other))
 
 -- a tune's header ends with its first `K:`
 abbrev pub AreStavesUpTo : TuneText → Option Line → Option ℕ → Option Line → Type 0

@@ -9,8 +9,7 @@ use Rattle.{abc_fields.specs.declared.directive.Breaks.{Breaks}, abc_header.spec
 pub mapped-more : {X Y : Type 0} (f : X → Y) (xs : List X) (i : ℕ) (x : X) (done new : List Y) (y : Y) → i < length xs → x ≡ get_or xs i x → new ≡ done ++ y ∷ [] → y ≡ f x
     → done ++ map f (drop i xs) ≡ map f xs → new ++ map f (drop (i + 1) xs) ≡ map f xs
 mapped-more f xs i x done new y inside here pushed made so_far =
-    let one : i + 1 ≡ suc i = omega arith in
-    let cut : drop i xs ≡ get_or xs i x ∷ drop (suc i) xs = drop-cons xs i x inside in
+    let one : i + 1 ≡ suc i = omega arith in let cut : drop i xs ≡ get_or xs i x ∷ drop (suc i) xs = drop-cons xs i x inside in
     rw one (ap (λ vs. vs ++ map f (drop (suc i) xs)) pushed ∙ append_assoc done (y ∷ []) (map f (drop (suc i) xs))
     ∙ ap (λ d. done ++ d ∷ map f (drop (suc i) xs)) (made ∙ ap f here) ∙ ap (λ ks. done ++ map f ks) (sym cut) ∙ so_far)
 
@@ -95,14 +94,11 @@ added a b lines e = sum_by-cons (λ x. x) (length a.text) (map (λ (line : Line)
 
 pub size_cut : (lines : List Line) (i : ℕ) (line : Line) → i < length lines → line ≡ get_or lines i line → size_of (drop i lines) ≡ length line.text + size_of (drop (i + 1) lines)
 size_cut lines i line inside here =
-    let one : suc i ≡ i + 1 = omega arith in
-    let cut : drop i lines ≡ get_or lines i line ∷ drop (suc i) lines = drop-cons lines i line inside in
+    let one : suc i ≡ i + 1 = omega arith in let cut : drop i lines ≡ get_or lines i line ∷ drop (suc i) lines = drop-cons lines i line inside in
     ap size_of cut ∙ added (get_or lines i line) line (drop (suc i) lines) (sym here) ∙ ap (λ n. length line.text + size_of (drop n lines)) one
 
 pub size_behind : (lines : List Line) (i : ℕ) (line : Line) → i < length lines → line ≡ get_or lines i line → size_of (drop i lines) ≤ 2 ^ 30 → (length line.text ≤ 2 ^ 30) × (size_of (drop (i + 1) lines) ≤ 2 ^ 30)
-size_behind lines i line inside here small =
-    let whole = size_cut lines i line inside here in
-    (omega (arith, whole, small), omega (arith, whole, small))
+size_behind lines i line inside here small = let whole = size_cut lines i line inside here in (omega (arith, whole, small), omega (arith, whole, small))
 
 -- the whole body
 pub body_is : (header : Header) (lines : List Line) (b c : Body) → b.ids ≡ declared_ids header → b.items ≡ [] → ReadsSome (BodyGives header.breaks lines) b c → IsBody header lines c.items
@@ -115,12 +111,7 @@ body_is header lines b c ids items all = record {
 
 pub body_error : (header : Header) (lines : List Line) (b : Body) (e : TuneError) → b.ids ≡ declared_ids header → LinesStop header.breaks lines b e → IsBodyError header lines e
 body_error header lines b TuneError.Memory ids all = tt
-body_error header lines b (TuneError.Fault fault) ids all = record {
-  count = all.0;
-  given = all.1.given;
-  gives_so = all.1.gives_so;
-  first = ap (λ x. first_fault (judged x all.1.given)) (sym ids) ∙ all.1.stops;
-}
+body_error header lines b (TuneError.Fault fault) ids all = record { count = all.0; given = all.1.given; gives_so = all.1.gives_so; first = ap (λ x. first_fault (judged x all.1.given)) (sym ids) ∙ all.1.stops }
 
 -- the steps of good items are good
 own_good : (own : Bool) (s : Stood) → IsGoodStood s → All IsGoodStood (one_if own s)

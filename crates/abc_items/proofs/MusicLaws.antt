@@ -54,8 +54,7 @@ module _ (breaks : Breaks) (line : Line) (before : Body) (place : Place) (body :
 
   pub part_stops : (tokens : List Placed) (behind : Behind) (e : TuneError) → PartOf breaks.bang line place tokens behind → Stops body (tokens_give breaks line tokens) e → StopsBy (MusicGives breaks line) before e
   part_stops tokens behind e part stops =
-      let all = behind_part breaks.bang line place tokens behind part in
-      let last = end_given breaks line all.1 in
+      let all = behind_part breaks.bang line place tokens behind part in let last = end_given breaks line all.1 in
       stops_so (tokens ++ all.0) all.1 e all.2
       (subst (λ g. Stops body g e) (sym (append_assoc (tokens_give breaks line tokens) (tokens_give breaks line all.0) last) ∙ ap (λ g. g ++ last) (sym (flat_map-append (placed_given breaks line) tokens all.0)))
       (stops_before body (tokens_give breaks line tokens) (tokens_give breaks line all.0 ++ last) e stops))

@@ -40,9 +40,7 @@ abbrev pub head_of : Head × Len → Head
 head_of h = h.0
 
 abbrev pub chord_sound : WrittenChord → Sound
-chord_sound chord =
-    let first = first_len chord.heads in
-    record { heads = map head_of chord.heads; seen = true; decos = chord.decos; num = first.num * chord.len.num; den = first.den * chord.len.den }
+chord_sound chord = let first = first_len chord.heads in record { heads = map head_of chord.heads; seen = true; decos = chord.decos; num = first.num * chord.len.num; den = first.den * chord.len.den }
 
 -- a line break that is on, by the byte that it stands for: a dollar sign or an exclamation mark
 abbrev pub is_on : Breaks → ℕ → Bool

@@ -29,18 +29,15 @@ book_parts h g t u e f = rw (e, f) refl
 header-done : (before more : List Reading) → is_in_header before ≡ false → listed is_in_header before more ≡ []
 header-done before [] h = refl
 header-done before (line ∷ more) h =
-    let here : is_in_header (line ∷ before) ≡ false = and_right (not (is_end_of_part line)) (is_in_header before) h in
-    rw here (header-done (line ∷ before) more here)
+    let here : is_in_header (line ∷ before) ≡ false = and_right (not (is_end_of_part line)) (is_in_header before) h in rw here (header-done (line ∷ before) more here)
 
 header-step : (before more : List Reading) (line : Reading) (e : Bool) → is_end_of_part line ≡ e → is_in_header before ≡ true →
     (is_in_header (line ∷ before) ≡ true → listed is_in_header (line ∷ before) more ≡ part_from (suc (suc (length before))) more) →
     listed is_in_header before (line ∷ more) ≡ part_from (suc (length before)) (line ∷ more)
 header-step before more line true is h next =
-    let here : is_in_header (line ∷ before) ≡ false = rw is refl in
-    rw (here, part-cons, is) (header-done (line ∷ before) more here)
+    let here : is_in_header (line ∷ before) ≡ false = rw is refl in rw (here, part-cons, is) (header-done (line ∷ before) more here)
 header-step before more line false is h next =
-    let here : is_in_header (line ∷ before) ≡ true = rw is h in
-    rw (here, part-cons, is) (ap (λ ls. line_at (suc (length before)) line more ++ ls) (next here))
+    let here : is_in_header (line ∷ before) ≡ true = rw is h in rw (here, part-cons, is) (ap (λ ls. line_at (suc (length before)) line more ++ ls) (next here))
 
 pub header-listed : (before more : List Reading) → is_in_header before ≡ true → listed is_in_header before more ≡ part_from (suc (length before)) more
 header-listed before [] h = sym (part-nil _)
@@ -104,8 +101,7 @@ comes-on all before more line comes = λ number later. comes number (omega (arit
 begins : (all before more : List Reading) (line : Reading) (ordinal : ℕ) → begins_tune line ≡ true → Comes all before (line ∷ more) →
     tune_at all ordinal (suc (length before)) ≡ tune_from ordinal (suc (length before)) line more
 begins all before more line ordinal is comes =
-    let number : ℕ = suc (length before) in
-    let here : belongs_to (suc (length before)) (line ∷ before) ≡ true = rw is (eq-eqb _ _ refl) in
+    let number : ℕ = suc (length before) in let here : belongs_to (suc (length before)) (line ∷ before) ≡ true = rw is (eq-eqb _ _ refl) in
     ap (tune_of_lines ordinal) (comes (suc (length before)) (omega arith) ∙ rw here (ap (λ ls. line_at (suc (length before)) line more ++ ls) (tune-listed (line ∷ before) more (suc (length before)) (omega arith) here)))
 
 tunes-listed : (all before more : List Reading) (ordinal : ℕ) → Comes all before more → tunes_behind all ordinal before more ≡ tunes_from ordinal (suc (length before)) more

@@ -32,8 +32,7 @@ latin-le s = cond_both (is_utf8 s) (map narrow (chars s)) s (λ t. length t ≤ 
 comment-le : (s : List ℕ) → length (without_comment s) ≤ length s
 unfolding without_comment
 comment-le s =
-    let front = take (comment_len false s) s in
-    omega (arith, length-take-le (comment_len false s) s, length-take-le (length front - suffix_len is_blank front) front)
+    let front = take (comment_len false s) s in omega (arith, length-take-le (comment_len false s) s, length-take-le (length front - suffix_len is_blank front) front)
 
 written-le : (s : List ℕ) → text_len (written s) ≤ length s
 written-le s = cond_both (eqb (length s) 0) Comment (Written s) (λ r. text_len r ≤ length s) (λ e. omega arith) (λ e. omega arith)
@@ -41,8 +40,7 @@ written-le s = cond_both (eqb (length s) 0) Comment (Written s) (λ r. text_len 
 reading-le : (s : List ℕ) → text_len (reading s) ≤ length s
 unfolding reading
 reading-le s =
-    let t = in_latin (without_return s) in
-    let shorter : length t ≤ length s = omega (arith, latin-le (without_return s), return-le s) in
+    let t = in_latin (without_return s) in let shorter : length t ≤ length s = omega (arith, latin-le (without_return s), return-le s) in
     cond_both (is_empty_text t) Empty (cond (is_percent_line t) (Written t) (written (without_comment t))) (λ r. text_len r ≤ length s) (λ e. omega arith)
     (λ e. cond_both (is_percent_line t) (Written t) (written (without_comment t)) (λ r. text_len r ≤ length s) (λ f. omega (arith, shorter))
     (λ f. omega (arith, shorter, written-le (without_comment t), comment-le t)))
@@ -51,8 +49,7 @@ total-le : (n : ℕ) (s : List ℕ) → length s ≤ n → total (readings s) �
 total-le n [] h = rw readings-nil (omega arith)
 total-le zero (b ∷ s) h = absurd (omega (arith, h))
 total-le (suc n) (b ∷ s) h =
-    let off = first_line_off b s in
-    rw off.readings (omega (arith, off.parts, reading-le (first_line (b ∷ s)).0, total-le n (first_line (b ∷ s)).1 (omega (arith, off.shorter, h))))
+    let off = first_line_off b s in rw off.readings (omega (arith, off.parts, reading-le (first_line (b ∷ s)).0, total-le n (first_line (b ∷ s)).1 (omega (arith, off.shorter, h))))
 
 -- a part has no more bytes than its lines
 and-nil : (c : Bool) → (c && false) ≡ true → ⊥
@@ -133,8 +130,7 @@ not_joining : (s : List ℕ) → starts_with nat_eq s (88 ∷ 58 ∷ []) ≡ tru
 not_joining [] h = refl
 not_joining (x ∷ []) h = absurd (and-nil (nat_eq 88 x) h)
 not_joining (x ∷ y ∷ s) h =
-    let is : 88 ≡ x = eqb-true 88 x (and_parts (nat_eq 88 x) (nat_eq 58 y && true) h).0 in
-    subst (λ (b : ℕ). (nat_eq 43 b && (nat_eq 58 y && true)) ≡ false) is refl
+    let is : 88 ≡ x = eqb-true 88 x (and_parts (nat_eq 88 x) (nat_eq 58 y && true) h).0 in subst (λ (b : ℕ). (nat_eq 43 b && (nat_eq 58 y && true)) ≡ false) is refl
 
 some_line : (number : ℕ) (line : Reading) (more : List Reading) (rest : List Line) → begins_tune line ≡ true → 1 ≤ length (line_at number line more ++ rest)
 some_line number Empty more rest h = absurd cc

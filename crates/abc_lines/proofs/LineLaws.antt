@@ -12,9 +12,7 @@ first-end b s h = rw h refl
 first-on : (b : ℕ) (s : List ℕ) → is_end b ≡ false → first_line (b ∷ s) ≡ pair (b ∷ (first_line s).0) (first_line s).1
 unfolding first_line
 first-on b s h =
-    let k = position_or_len is_end s in
-    let more : 1 + k ≡ suc k = omega arith in
-    rw (h, more) refl
+    let k = position_or_len is_end s in let more : 1 + k ≡ suc k = omega arith in rw (h, more) refl
 
 first-nil : first_line [] ≡ pair [] []
 unfolding first_line
@@ -94,8 +92,7 @@ first_line_off b s = record { readings = readings-cons b s; shorter = shorter b 
 pub line_off : (s line rest : List ℕ) → (length s ≡ 0 → ⊥) → (◌≡◌ {A = List ℕ × List ℕ} (line, rest) (first_line s)) → Off s line rest
 line_off [] line rest some is = absurd (some refl)
 line_off (b ∷ s) line rest some is =
-    let first : line ≡ (first_line (b ∷ s)).0 = ap (λ (p : List ℕ × List ℕ). p.0) is in
-    let others : rest ≡ (first_line (b ∷ s)).1 = ap (λ (p : List ℕ × List ℕ). p.1) is in
+    let first : line ≡ (first_line (b ∷ s)).0 = ap (λ (p : List ℕ × List ℕ). p.0) is in let others : rest ≡ (first_line (b ∷ s)).1 = ap (λ (p : List ℕ × List ℕ). p.1) is in
     record { readings = rw (first, others) (readings-cons b s); shorter = rw others (shorter b s); parts = rw (first, others) (first_line-parts (b ∷ s)) }
 
 pub latin-text : (line : List ℕ) → IsUtf8 line → in_latin line ≡ map narrow (chars line)

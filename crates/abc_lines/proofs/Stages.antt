@@ -10,13 +10,11 @@ join-next out new total s line rest r off is goes push so_far =
 
 pub join-stops : (out total s line rest : List ℕ) (r : Reading) → Off s line rest → r ≡ reading line → goes_on r ≡ false → out ++ joined (readings s) ≡ total → out ≡ total
 join-stops out total s line rest r off is stops so_far =
-    let here : joined (readings s) ≡ [] = rw (off.readings, ← is, stops) refl in
-    sym (append-nil out) ∙ ap (λ t. out ++ t) (sym here) ∙ so_far
+    let here : joined (readings s) ≡ [] = rw (off.readings, ← is, stops) refl in sym (append-nil out) ∙ ap (λ t. out ++ t) (sym here) ∙ so_far
 
 pub join-ends : (out total s : List ℕ) → length s ≡ 0 → out ++ joined (readings s) ≡ total → out ≡ total
 join-ends out total s none so_far =
-    let here : joined (readings s) ≡ [] = rw (readings-none s none) refl in
-    sym (append-nil out) ∙ ap (λ t. out ++ t) (sym here) ∙ so_far
+    let here : joined (readings s) ≡ [] = rw (readings-none s none) refl in sym (append-nil out) ∙ ap (λ t. out ++ t) (sym here) ∙ so_far
 
 -- a part is listed from the place (from, start) on, and stands at (number, s)
 pub record Part (first out : List Line) (from number : ℕ) (start s : List ℕ) : Type 0 where
@@ -48,13 +46,11 @@ part-next first out new from number start s line rest r off is on push so_far =
 pub part-stops : (first out : List Line) (from number : ℕ) (start s line rest : List ℕ) (r : Reading) → Off s line rest → r ≡ reading line → is_end_of_part r ≡ true →
     Part first out from number start s → out ≡ first ++ part_from from (readings start)
 part-stops first out from number start s line rest r off is stops so_far =
-    let here : part_from number (readings s) ≡ [] = rw (off.readings, ← is, part-cons, stops) refl in
-    sym (append-nil out) ∙ ap (λ t. out ++ t) (sym here) ∙ so_far.lines
+    let here : part_from number (readings s) ≡ [] = rw (off.readings, ← is, part-cons, stops) refl in sym (append-nil out) ∙ ap (λ t. out ++ t) (sym here) ∙ so_far.lines
 
 pub part-ends : (first out : List Line) (from number : ℕ) (start s : List ℕ) → length s ≡ 0 → Part first out from number start s → out ≡ first ++ part_from from (readings start)
 part-ends first out from number start s none so_far =
-    let here : part_from number (readings s) ≡ [] = rw (readings-none s none) (part-nil number) in
-    sym (append-nil out) ∙ ap (λ t. out ++ t) (sym here) ∙ so_far.lines
+    let here : part_from number (readings s) ≡ [] = rw (readings-none s none) (part-nil number) in sym (append-nil out) ∙ ap (λ t. out ++ t) (sym here) ∙ so_far.lines
 
 -- the tunes so far, at the place (number, s)
 pub record Tunes (out : List TuneText) (total : List TuneText) (number : ℕ) (s : List ℕ) : Type 0 where
@@ -84,8 +80,7 @@ tunes-next out new total count number other s line rest after r tune off is begi
 
 pub tunes-end : (out total : List TuneText) (number : ℕ) (s : List ℕ) → length s ≡ 0 → Tunes out total number s → out ≡ total
 tunes-end out total number s none so_far =
-    let here : tunes_from (suc (length out)) number (readings s) ≡ [] = rw (readings-none s none) (tunes-nil _ number) in
-    sym (append-nil out) ∙ ap (λ t. out ++ t) (sym here) ∙ so_far.tunes
+    let here : tunes_from (suc (length out)) number (readings s) ≡ [] = rw (readings-none s none) (tunes-nil _ number) in sym (append-nil out) ∙ ap (λ t. out ++ t) (sym here) ∙ so_far.tunes
 
 pub book_found : (bytes : List ℕ) (header : List Line) (tunes found : List TuneText) (first : List Line) (s : List ℕ) →
     s ≡ without_mark bytes → first ≡ [] → header ≡ first ++ part_from 1 (readings s) → tunes ≡ found → found ≡ tunes_from 1 1 (readings s) →

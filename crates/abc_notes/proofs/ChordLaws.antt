@@ -40,12 +40,10 @@ pub record NameClosed (bang head : Bool) (s c : List ℕ) : Type 0 where
 in-closes : (bang head : Bool) (s c : List ℕ) (r : Option (List ℕ × List ℕ)) → bang ≡ false → IfSome r (λ z. IsName z.0 × (s ≡ z.0 ++ (33 ∷ z.1))) → bracket_in bang head s r ≡ Some c → NameClosed bang head s c
 in-closes bang head s c None off t e = absurd cc
 in-closes bang head s c (Some named) off t e =
-    let inside = span_all is_inside named.0 in
-    let w = walk (inner_at bang) inside.0 in
+    let inside = span_all is_inside named.0 in let w = walk (inner_at bang) inside.0 in
     cond_both {A = Option (List ℕ)} (not (eqb (length inside.1) 0) && (is_done w && (head || has_head w.0))) (Some (drop (length inside.0) s)) None (λ r. r ≡ Some c → NameClosed bang head s c)
     (λ h e.
-    let p = and_parts (not (eqb (length inside.1) 0)) (is_done w && (head || has_head w.0)) h in
-    let q = and_parts (is_done w) (head || has_head w.0) p.1 in
+    let p = and_parts (not (eqb (length inside.1) 0)) (is_done w && (head || has_head w.0)) h in let q = and_parts (is_done w) (head || has_head w.0) p.1 in
     let end = name_end 93 inside.1 (eqb-false (length inside.1) 0 (not-true (eqb (length inside.1) 0) p.0)) (span_all-after is_inside named.0) in
     let whole : named.0 ≡ inside.0 ++ (93 ∷ end.0) = span_all-takes is_inside named.0 ∙ ap (λ x. inside.0 ++ x) end.1 in
     let cut : s ≡ inside.0 ++ (93 ∷ (end.0 ++ (33 ∷ named.1))) = t.1 ∙ ap (λ x. x ++ (33 ∷ named.1)) whole ∙ append_assoc inside.0 (93 ∷ end.0) (33 ∷ named.1) in
@@ -89,12 +87,9 @@ in_name-closes bang head text c e = let f = in_name-finds bang head text c e in 
 -- a part and what closes behind it
 then-closes : (bang head : Bool) (text c : List ℕ) (z : Inner × List ℕ) → inner_at bang text ≡ Some z → Closed bang (head || has_length z.0) z.1 c → Closed bang head text c
 then-closes bang head text c z e k =
-    let r = inner_reader bang in
-    let u = inner_then z.0 k.front in
-    let cut : text ≡ u ++ c = (stands_at r text z e).cut ∙ ap (inner_then z.0) k.cut ∙ sym (inner_append z.0 k.front c) in
+    let r = inner_reader bang in let u = inner_then z.0 k.front in let cut : text ≡ u ++ c = (stands_at r text z e).cut ∙ ap (inner_then z.0) k.cut ∙ sym (inner_append z.0 k.front c) in
     let a = read_cut r (inner_local bang) u c z (ap (inner_at bang) (sym cut) ∙ e) (omega (arith, ap length k.cut, length-append k.front c)) in
-    let front : a.front ≡ k.front = append_cancel_right a.front k.front c (sym a.behind ∙ k.cut) in
-    let at : inner_at bang u ≡ Some (z.0, k.front) = a.at_cut ∙ ap (λ (x : List ℕ). Some (z.0, x)) front in
+    let front : a.front ≡ k.front = append_cancel_right a.front k.front c (sym a.behind ∙ k.cut) in let at : inner_at bang u ≡ Some (z.0, k.front) = a.at_cut ∙ ap (λ (x : List ℕ). Some (z.0, x)) front in
     record {
       front = u;
       rest = k.rest;
@@ -155,9 +150,7 @@ in_name-found : (bang head : Bool) (before after rest : List ℕ) (parts : List 
     bracket_in_name bang head (33 ∷ ((before ++ (93 ∷ after)) ++ (33 ∷ rest))) ≡ Some (93 ∷ (after ++ (33 ∷ rest)))
 unfolding bracket_in_name
 in_name-found bang head before after rest parts off good inner has =
-    let name = before ++ (93 ∷ after) in
-    let names = all_parts is_name_byte before (93 ∷ after) good.bytes in
-    let clear = clear_parts bang is_inside before parts inside_wide inner names.0 in
+    let name = before ++ (93 ∷ after) in let names = all_parts is_name_byte before (93 ∷ after) good.bytes in let clear = clear_parts bang is_inside before parts inside_wide inner names.0 in
     let cut : span_all is_inside name ≡ (before ++ [], 93 ∷ after) = span_all-append is_inside before (93 ∷ after) clear ∙ rw (span_all-stops is_inside (93 ∷ after) refl) refl in
     let drops : drop (length before) (name ++ (33 ∷ rest)) ≡ 93 ∷ (after ++ (33 ∷ rest)) = ap (drop (length before)) (append_assoc before (93 ∷ after) (33 ∷ rest)) ∙ drop-append_seam before (93 ∷ (after ++ (33 ∷ rest))) in
     rw (off, name_at-reads name rest good, cut, append-nil, ← off, walk_of_parts (inner_reader bang) before parts inner, has, drops)
@@ -179,14 +172,11 @@ same_part f g x y h = ap (λ (p : Inner × List ℕ). p.0) (same_Some (inner_pai
 cross-found : (bang head : Bool) (u t : List ℕ) (part : Inner) (v : List ℕ) (more : List Inner) (z : Inner × List ℕ) → inner_at bang u ≡ Some (part, v) → InnerParts bang v more → (head || has_head (part ∷ more)) ≡ true →
     inner_at bang (u ++ (93 ∷ t)) ≡ Some z → length z.1 < length (93 ∷ t) → FoundLast bang head (u ++ (93 ∷ t)) t
 cross-found bang head u t part v more z at others has e short =
-    let stands = stands_at (inner_reader bang) (u ++ (93 ∷ t)) z e in
-    by_name (crossing bang is_inside 93 z.0 u t z.1 inside_wide refl refl stands.good stands.cut short)
+    let stands = stands_at (inner_reader bang) (u ++ (93 ∷ t)) z e in by_name (crossing bang is_inside 93 z.0 u t z.1 inside_wide refl refl stands.good stands.cut short)
   where
     by_name : CrossesIn bang z.0 u 93 → FoundLast bang head (u ++ (93 ∷ t)) t
     by_name k =
-        let stands = stands_at (inner_reader bang) (u ++ (93 ∷ t)) z e in
-        let before = k.crosses.before in
-        let after = k.crosses.after in
+        let stands = stands_at (inner_reader bang) (u ++ (93 ∷ t)) z e in let before = k.crosses.before in let after = k.crosses.after in
         let names = all_parts is_name_byte before (93 ∷ after) (ap (list_all is_name_byte) (sym k.crosses.name_is) ∙ k.good.bytes) in
         let alone : inner_at bang u ≡ Some (lone_inside, before) = ap (inner_at bang) k.crosses.text ∙ lone_at bang before k.off names.0 in
         let same : inner_pair part v ≡ inner_pair lone_inside before = same_Some (inner_pair part v) (inner_pair lone_inside before) (sym at ∙ alone) in
@@ -204,9 +194,7 @@ le_lt a b = elim (cases_lt b a) [ inl h ↦ inr h | inr h ↦ inl h ]
 last-reaches : (bang head : Bool) (u t : List ℕ) (ps : List Inner) → InnerParts bang u ps → (head || has_head ps) ≡ true → FoundLast bang head (u ++ (93 ∷ t)) t
 last-reaches bang head _ t _ no_part has = here-found bang head t (sym (or-false head) ∙ has)
 last-reaches bang head _ t _ (then_part u part v more l others) has =
-    let r = inner_reader bang in
-    let at = longest_is r u part v l in
-    let o = r.reaches part (u ++ (93 ∷ t)) (v ++ (93 ∷ t)) (moved r (inner_local bang) part u v (93 ∷ t) l.stands) in
+    let r = inner_reader bang in let at = longest_is r u part v l in let o = r.reaches part (u ++ (93 ∷ t)) (v ++ (93 ∷ t)) (moved r (inner_local bang) part u v (93 ∷ t) l.stands) in
     elim o.2 [
       | inr same ↦ then-found bang head (u ++ (93 ∷ t)) t (part, v ++ (93 ∷ t)) (o.1 ∙ ap Some same) (last-reaches bang (head || has_length part) v t more others (or_assoc head (has_length part) (has_head more) ∙ has))
       | inl shorter ↦ elim (le_lt (length (93 ∷ t)) (length o.0.1)) [
@@ -226,8 +214,7 @@ has_lone (part ∷ more) = is_lone part || has_lone more
 
 cross-lone : (bang : Bool) (u t v : List ℕ) (part : Inner) (z : Inner × List ℕ) → inner_at bang u ≡ Some (part, v) → inner_at bang (u ++ (93 ∷ t)) ≡ Some z → length z.1 < length (93 ∷ t) → part ≡ lone_inside
 cross-lone bang u t v part z at e past =
-    let stands = stands_at (inner_reader bang) (u ++ (93 ∷ t)) z e in
-    by_name (crossing bang is_inside 93 z.0 u t z.1 inside_wide refl refl stands.good stands.cut past)
+    let stands = stands_at (inner_reader bang) (u ++ (93 ∷ t)) z e in by_name (crossing bang is_inside 93 z.0 u t z.1 inside_wide refl refl stands.good stands.cut past)
   where
     by_name : CrossesIn bang z.0 u 93 → part ≡ lone_inside
     by_name k =
@@ -239,9 +226,7 @@ cross-lone bang u t v part z at e past =
 last-exact : (bang head : Bool) (u t : List ℕ) (ps : List Inner) → InnerParts bang u ps → (head || has_head ps) ≡ true → has_lone ps ≡ false → last_at bang head (u ++ (93 ∷ t)) ≡ Some (93 ∷ t)
 last-exact bang head _ t _ no_part has whole = last_at-none bang head (93 ∷ t) (at_bracket bang t) ∙ rw (sym (or-false head) ∙ has) refl
 last-exact bang head _ t _ (then_part u part v more l others) has whole =
-    let r = inner_reader bang in
-    let at = longest_is r u part v l in
-    let o = r.reaches part (u ++ (93 ∷ t)) (v ++ (93 ∷ t)) (moved r (inner_local bang) part u v (93 ∷ t) l.stands) in
+    let r = inner_reader bang in let at = longest_is r u part v l in let o = r.reaches part (u ++ (93 ∷ t)) (v ++ (93 ∷ t)) (moved r (inner_local bang) part u v (93 ∷ t) l.stands) in
     elim o.2 [
       | inr same ↦
           (let later = last-exact bang (head || has_length part) v t more others (or_assoc head (has_length part) (has_head more) ∙ has) (others_whole (is_lone part) (has_lone more) whole) in
@@ -264,19 +249,14 @@ abbrev pub TakesChord : Bool → List ℕ → Option (ChordForm × List ℕ) →
 TakesChord bang s r = IfSome r (λ z. IsChord bang z.0 × (s ≡ chord_then z.0 z.1))
 
 pub cut_off : (s front c : List ℕ) → s ≡ front ++ c → take (length s - length c) s ≡ front
-cut_off s front c cut =
-    let n : length s - length c ≡ length front = omega (arith, ap length cut, length-append front c) in
-    rw n (ap (take (length front)) cut ∙ take-append_seam front c)
+cut_off s front c cut = let n : length s - length c ≡ length front = omega (arith, ap length cut, length-append front c) in rw n (ap (take (length front)) cut ∙ take-append_seam front c)
 
 chord_from-takes : (bang : Bool) (s : List ℕ) (r : Option (List ℕ)) → bracket_at bang s ≡ r → TakesChord bang s (chord_from bang s r)
 chord_from-takes bang s None e = tt
 chord_from-takes bang s (Some []) e = tt
 chord_from-takes bang s (Some (b ∷ c)) e =
-    let k = bracket_at-closes bang s (b ∷ c) e in
-    let inside : take (length s - length (b ∷ c)) s ≡ k.front = cut_off s k.front (b ∷ c) k.cut in
-    let l = length_at-takes c in
-    let read = walk_of_parts (inner_reader bang) k.front k.parts k.good in
-    let mark : b ≡ 93 = first_same b 93 c k.rest k.is in
+    let k = bracket_at-closes bang s (b ∷ c) e in let inside : take (length s - length (b ∷ c)) s ≡ k.front = cut_off s k.front (b ∷ c) k.cut in let l = length_at-takes c in
+    let read = walk_of_parts (inner_reader bang) k.front k.parts k.good in let mark : b ≡ 93 = first_same b 93 c k.rest k.is in
     rw (inside, read) (record { parts = k.good; head = k.has; length = l.1 }, k.cut ∙ ap (λ x. k.front ++ (x ∷ c)) mark ∙ ap (λ x. k.front ++ (93 ∷ x)) l.0)
 
 pub chord_at-takes : (bang : Bool) (s : List ℕ) → TakesChord bang s (chord_at bang s)
@@ -296,10 +276,8 @@ found_at bang s c e = e
 
 chord_there : (bang : Bool) (f : ChordForm) (x : List ℕ) → IsChord bang f → bracket_at bang (chord_then f x) ≡ Some (93 ∷ length_then f.length x) → chord_at bang (chord_then f x) ≡ Some (chord_with f (length_at (length_then f.length x)))
 chord_there bang f x good e =
-    let c = 93 ∷ length_then f.length x in
-    let inside : take (length (f.inside ++ c) - length c) (f.inside ++ c) ≡ f.inside = cut_off (f.inside ++ c) f.inside c refl in
-    let read = walk_of_parts (inner_reader bang) f.inside f.parts good.parts in
-    at_closing bang (chord_then f x) c e ∙ rw (inside, read) refl
+    let c = 93 ∷ length_then f.length x in let inside : take (length (f.inside ++ c) - length c) (f.inside ++ c) ≡ f.inside = cut_off (f.inside ++ c) f.inside c refl in
+    let read = walk_of_parts (inner_reader bang) f.inside f.parts good.parts in at_closing bang (chord_then f x) c e ∙ rw (inside, read) refl
 
 -- a bracket behind another one stands behind the length there
 behind_length : (l : LengthForm) (x inside front rest : List ℕ) → IsLength l → inside ++ (93 ∷ length_then l x) ≡ front ++ (93 ∷ rest) → length (93 ∷ rest) < length (93 ∷ length_then l x) → length rest < length x
@@ -315,8 +293,7 @@ behind_length l x inside front rest good e shorter = from_cut (cut_at front insi
 longer_chord : (bang : Bool) (f : ChordForm) (x c : List ℕ) → IsChord bang f → bracket_at bang (chord_then f x) ≡ Some c → length c < length (93 ∷ length_then f.length x) → (z : ChordForm × List ℕ) × (chord_at bang (chord_then f x) ≡ Some z) × ((length z.1 < length x) ⊎ (z ≡ (f, x)))
 longer_chord bang f x [] good e shorter = absurd (let k = bracket_at-closes bang (chord_then f x) [] e in omega (arith, ap length k.is))
 longer_chord bang f x (b ∷ c) good e shorter =
-    let k = bracket_at-closes bang (chord_then f x) (b ∷ c) e in
-    let mark : b ≡ 93 = first_same b 93 c k.rest k.is in
+    let k = bracket_at-closes bang (chord_then f x) (b ∷ c) e in let mark : b ≡ 93 = first_same b 93 c k.rest k.is in
     let near = behind_length f.length x f.inside k.front c good.length (k.cut ∙ ap (λ y. k.front ++ (y ∷ c)) mark) (omega (arith, shorter)) in
     let inside = take (length (chord_then f x) - length (b ∷ c)) (chord_then f x) in
     let l = length_at-takes c in (
@@ -386,9 +363,7 @@ inner_leads bang s = leads_of_walk (inner_reader bang) (inner_local bang) s
 
 pub chord-open : (bang : Bool) (s : List ℕ) → is_done (walk (inner_at bang) s) ≡ true → ChordFault bang s (record { kind = Unclosed; left = length s + 1 })
 chord-open bang s done =
-    let w = walk (inner_at bang) s in
-    let none : w.1 ≡ [] = nil_from_length w.1 (eqb-true (length w.1) 0 done) in
-    rw add-one (chord_open s w.0 (subst (λ t. InnerLeads bang s w.0 t) none (inner_leads bang s)))
+    let w = walk (inner_at bang) s in let none : w.1 ≡ [] = nil_from_length w.1 (eqb-true (length w.1) 0 done) in rw add-one (chord_open s w.0 (subst (λ t. InnerLeads bang s w.0 t) none (inner_leads bang s)))
 
 -- parts with a head up to a bracket are a chord
 last_here : (bang head : Bool) (ps : List Inner) (rest : List ℕ) → (head || has_head ps) ≡ true → last_bracket bang head ps (93 ∷ rest) ≡ Some (93 ∷ rest)
@@ -404,8 +379,7 @@ headless_as bang s rest true e stop none =
 
 pub chord-headless : (bang : Bool) (s : List ℕ) → chord_at bang s ≡ None → begins is_bracket (walk (inner_at bang) s).1 ≡ true → ChordFault bang s (record { kind = BadByte; left = length s + 1 })
 chord-headless bang s none at =
-    let w = walk (inner_at bang) s in
-    let stop = first_close 93 w.1 at in
+    let w = walk (inner_at bang) s in let stop = first_close 93 w.1 at in
     rw add-one (chord_headless s w.0 stop.0 (subst (λ t. InnerLeads bang s w.0 t) stop.1 (inner_leads bang s)) (headless_as bang s stop.0 (has_head w.0) refl stop.1 none))
 
 none_behind : (bang : Bool) (s t : List ℕ) → (walk (inner_at bang) s).1 ≡ t → HasNone Inner (StandsInside bang) t

@@ -5,9 +5,7 @@ use Rattle.abc_notes.{specs.{Graces.{GracePart, single, chorded, StandsInGrace, 
 -- ---- the bracket in a name that is a part
 abbrev name_bracket : Bool → Bool → List ℕ → Option (List ℕ)
 name_bracket bang head name =
-    let inside = span_all is_inside name in
-    let w = walk (inner_at bang) inside.0 in
-    cond {A = Option (List ℕ)} (not (eqb (length inside.1) 0) && (is_done w && (head || has_head w.0))) (Some (inside.1 ++ (33 ∷ []))) None
+    let inside = span_all is_inside name in let w = walk (inner_at bang) inside.0 in cond {A = Option (List ℕ)} (not (eqb (length inside.1) 0) && (is_done w && (head || has_head w.0))) (Some (inside.1 ++ (33 ∷ []))) None
 
 -- from it on up to the end of the part
 abbrev own_bracket : Bool → Bool → Inner → Option (List ℕ)
@@ -21,8 +19,7 @@ cond_map false a b x e = refl
 named_own : (head : Bool) (name x : List ℕ) → IsName name → bracket_in_name false head (33 ∷ (name ++ (33 ∷ x))) ≡ option_map (λ m. m ++ x) (name_bracket false head name)
 unfolding bracket_in_name
 named_own head name x good =
-    let inside = span_all is_inside name in
-    let w = walk (inner_at false) inside.0 in
+    let inside = span_all is_inside name in let w = walk (inner_at false) inside.0 in
     let line : name ++ (33 ∷ x) ≡ inside.0 ++ (inside.1 ++ (33 ∷ x)) = ap (λ n. n ++ (33 ∷ x)) (span_all-takes is_inside name) ∙ append_assoc inside.0 inside.1 (33 ∷ x) in
     let drops : drop (length inside.0) (name ++ (33 ∷ x)) ≡ (inside.1 ++ (33 ∷ [])) ++ x = ap (drop (length inside.0)) line ∙ drop-append_seam inside.0 (inside.1 ++ (33 ∷ x)) ∙ sym (append_assoc inside.1 (33 ∷ []) x) in
     rw (name_at-reads name x good) (cond_map (not (eqb (length inside.1) 0) && (is_done w && (head || has_head w.0))) (drop (length inside.0) (name ++ (33 ∷ x))) (inside.1 ++ (33 ∷ [])) x drops)
@@ -64,8 +61,7 @@ no_mark bang head [] h = refl
 no_mark bang head (b ∷ s) h =
     cond_both {A = Option (List ℕ)} (eqb b 33 && not bang) _ None (λ r. r ≡ None)
     (λ m.
-    let p = and_parts (eqb b 33) (not bang) m in
-    let q = and_parts (is_name_byte b) (list_all is_name_byte s) h in
+    let p = and_parts (eqb b 33) (not bang) m in let q = and_parts (is_name_byte b) (list_all is_name_byte s) h in
     absurd (let clash : is_name_byte 33 ≡ true = subst (λ x. is_name_byte x ≡ true) (eqb-true b 33 p.0) q.0 in cc))
     (λ m. refl)
 
@@ -82,8 +78,7 @@ quiet_parts bang head _ _ (then_part u part rest more l others) h =
 
 quiet_mark : (bang head : Bool) (u : List ℕ) (ps : List Inner) → bang ≡ false → InnerParts bang u ps → list_all is_name_byte u ≡ true → last_at bang head (33 ∷ u) ≡ None
 quiet_mark bang head u ps off good h =
-    let at = lone_at bang u off h in
-    let later = quiet_parts bang (head || has_length lone_inside) u ps good h in
+    let at = lone_at bang u off h in let later = quiet_parts bang (head || has_length lone_inside) u ps good h in
     last_at-some bang head (33 ∷ u) (lone_inside, u) at ∙ ap (λ r. later_or r (bracket_in_name bang head (33 ∷ u))) later ∙ lone_own bang head u off at
 
 -- ---- the state of the loop over the inside of a chord
@@ -118,13 +113,10 @@ upto_mark : (bang : Bool) (w front rest v y : List ℕ) (mark last : Option (Lis
     later_or (brace_between bang (option_map (λ m. m ++ rest) mark) (Some y)) last ≡ option_map (λ c. c ++ y) (brace_in_chord bang (front ++ v))
 upto_mark bang w front rest v y None last cut is at found = rw (found, chord-none bang (front ++ v) at) refl
 upto_mark bang w front rest v y (Some m) last cut is at found =
-    let k = bracket_at-closes bang (front ++ v) (m ++ v) at in
-    let b = m ++ rest in
-    let whole : b ≡ (m ++ v) ++ y = ap (λ x. m ++ x) is ∙ sym (append_assoc m v y) in
+    let k = bracket_at-closes bang (front ++ v) (m ++ v) at in let b = m ++ rest in let whole : b ≡ (m ++ v) ++ y = ap (λ x. m ++ x) is ∙ sym (append_assoc m v y) in
     let chord : take (length b - length y) b ≡ m ++ v = cut_off b (m ++ v) y whole in
     let line : w ≡ k.front ++ b = cut ∙ ap (λ x. front ++ x) is ∙ sym (append_assoc front v y) ∙ ap (λ x. x ++ y) k.cut ∙ append_assoc k.front (m ++ v) y ∙ ap (λ x. k.front ++ x) (sym whole) in
-    let short : take (length (front ++ v) - length (m ++ v)) (front ++ v) ≡ k.front = cut_off (front ++ v) k.front (m ++ v) k.cut in
-    let long : take (length w - length b) w ≡ k.front = cut_off w k.front b line in
+    let short : take (length (front ++ v) - length (m ++ v)) (front ++ v) ≡ k.front = cut_off (front ++ v) k.front (m ++ v) k.cut in let long : take (length w - length b) w ≡ k.front = cut_off w k.front b line in
     ap (later_or (option_map (λ (c : List ℕ). c ++ y) (brace_behind bang (take (length b - length y) b)))) found
     ∙ ap (λ (t : List ℕ). later_or (option_map (λ (c : List ℕ). c ++ y) (brace_behind bang t)) (option_map (λ (c : List ℕ). c ++ b) (brace_in_chord bang (take (length w - length b) w)))) chord
     ∙ ap (λ (t : List ℕ). later_or (option_map (λ (c : List ℕ). c ++ y) (brace_behind bang (m ++ v))) (option_map (λ (c : List ℕ). c ++ b) (brace_in_chord bang t))) long
@@ -146,21 +138,16 @@ pub record Candidate (bang head : Bool) (rest closing : List ℕ) : Type 0 where
 
 pub candidate : (bang head : Bool) (rest closing : List ℕ) → bracket_in_name bang head rest ≡ Some closing → Candidate bang head rest closing
 candidate bang head rest closing e =
-    let f = in_name-finds bang head rest closing e in
-    let k = f.2 in
-    record { before = 33 ∷ k.before; cut = f.1 ∙ ap (λ x. 33 ∷ x) k.cut; quiet = quiet_mark bang head k.before k.parts k.off k.good k.names }
+    let f = in_name-finds bang head rest closing e in let k = f.2 in record { before = 33 ∷ k.before; cut = f.1 ∙ ap (λ x. 33 ∷ x) k.cut; quiet = quiet_mark bang head k.before k.parts k.off k.good k.names }
 
 candidate-found : (bang head : Bool) (w : List ℕ) (bracket last : Option (List ℕ)) (rest closing : List ℕ) → Passing bang head w bracket last rest → bracket_in_name bang head rest ≡ Some closing → later_or (brace_between bang bracket (Some closing)) last ≡ brace_upto bang w (Some closing)
 candidate-found bang head w bracket last rest closing stage e =
-    let c = candidate bang head rest closing e in
-    let line : w ≡ (stage.front ++ c.before) ++ closing = stage.cut ∙ ap (λ x. stage.front ++ x) c.cut ∙ sym (append_assoc stage.front c.before closing) in
+    let c = candidate bang head rest closing e in let line : w ≡ (stage.front ++ c.before) ++ closing = stage.cut ∙ ap (λ x. stage.front ++ x) c.cut ∙ sym (append_assoc stage.front c.before closing) in
     passing-upto bang head w c.before closing bracket last rest stage c.cut c.quiet ∙ ap (λ (t : List ℕ). option_map (λ (x : List ℕ). x ++ closing) (brace_in_chord bang t)) (sym (cut_off w (stage.front ++ c.before) closing line))
 
 behind_mark : (mark : Option (List ℕ)) (rest v y : List ℕ) → rest ≡ v ++ y → stands_behind (option_map (λ m. m ++ rest) mark) (Some y)
 behind_mark None rest v y is = tt
-behind_mark (Some m) rest v y is =
-    let whole : m ++ rest ≡ (m ++ v) ++ y = ap (λ x. m ++ x) is ∙ sym (append_assoc m v y) in
-    whole ∙ ap (λ x. x ++ y) (sym (cut_off (m ++ rest) (m ++ v) y whole))
+behind_mark (Some m) rest v y is = let whole : m ++ rest ≡ (m ++ v) ++ y = ap (λ x. m ++ x) is ∙ sym (append_assoc m v y) in whole ∙ ap (λ x. x ++ y) (sym (cut_off (m ++ rest) (m ++ v) y whole))
 
 passing-behind : (bang head : Bool) (w v y : List ℕ) (bracket last : Option (List ℕ)) (rest : List ℕ) → Passing bang head w bracket last rest → rest ≡ v ++ y → stands_behind bracket (Some y)
 passing-behind bang head w v y bracket last rest stage is = rw stage.is (behind_mark stage.mark rest v y is)
@@ -186,8 +173,7 @@ rest-behind bang head w bracket last rest stage = passing-behind bang head w [] 
 small_mark : (bang head : Bool) (front rest : List ℕ) (mark : Option (List ℕ)) (n : ℕ) → bracket_at bang (front ++ []) ≡ later_or (last_at bang head []) (option_map (λ m. m ++ []) mark) → length front + length rest ≤ n → at_most_bytes n (option_map (λ m. m ++ rest) mark)
 small_mark bang head front rest None n e h = tt
 small_mark bang head front rest (Some m) n e h =
-    let quiet : last_at bang head [] ≡ None = last_at-none bang head [] (nothing_read bang) in
-    let short = bracket_within bang (front ++ []) (m ++ []) (e ∙ ap (λ r. later_or r (Some (m ++ []))) quiet) in
+    let quiet : last_at bang head [] ≡ None = last_at-none bang head [] (nothing_read bang) in let short = bracket_within bang (front ++ []) (m ++ []) (e ∙ ap (λ r. later_or r (Some (m ++ []))) quiet) in
     omega (arith, h, short, length-append front [], length-append m [], length-append m rest)
 
 pub passing-small : (bang head : Bool) (w : List ℕ) (bracket last : Option (List ℕ)) (rest : List ℕ) (n : ℕ) → Passing bang head w bracket last rest → length w ≤ n → at_most_bytes n bracket
@@ -208,9 +194,7 @@ passing-size bang head w bracket last rest stage = size_most (length w) bracket 
 pub passing-next : (bang head new : Bool) (w : List ℕ) (bracket last next found : Option (List ℕ)) (rest behind : List ℕ) (part : Inner) → Passing bang head w bracket last rest → inner_at bang rest ≡ Some (inner_pair part behind) → new ≡ (head || has_length part) →
     next ≡ later_or (bracket_in_name bang head rest) bracket → found ≡ brace_upto bang w next → Passing bang new w next found behind
 passing-next bang head new w bracket last next found rest behind part stage e newly nextly so_far =
-    let stands = stands_at (inner_reader bang) rest (part, behind) e in
-    let one = inner_then part [] in
-    let own = own_bracket bang head part in
+    let stands = stands_at (inner_reader bang) rest (part, behind) e in let one = inner_then part [] in let own = own_bracket bang head part in
     let split : rest ≡ one ++ behind = stands.cut ∙ sym (inner_append part [] behind) in
     let named : bracket_in_name bang head rest ≡ option_map (λ (m : List ℕ). m ++ behind) own = ap (bracket_in_name bang head) stands.cut ∙ part_own bang head part behind stands.good (ap (inner_at bang) (sym stands.cut) ∙ e) in
     rw newly (record {
@@ -221,13 +205,10 @@ passing-next bang head new w bracket last next found rest behind part stage e ne
           let before : bracket ≡ option_map (λ (m : List ℕ). m ++ (one ++ behind)) stage.mark = stage.is ∙ ap (λ (x : List ℕ). option_map (λ (m : List ℕ). m ++ x) stage.mark) split in
           nextly ∙ ap (λ r. later_or r bracket) named ∙ ap (later_or (option_map (λ (m : List ℕ). m ++ behind) own)) before ∙ joined one behind own stage.mark;
       brackets = λ v y is.
-          let u = inner_then part v in
-          let line : rest ≡ u ++ y = stands.cut ∙ ap (inner_then part) is ∙ sym (inner_append part v y) in
+          let u = inner_then part v in let line : rest ≡ u ++ y = stands.cut ∙ ap (inner_then part) is ∙ sym (inner_append part v y) in
           let a = read_cut (inner_reader bang) (inner_local bang) u y (part, behind) (ap (inner_at bang) (sym line) ∙ e) (omega (arith, ap length is, length-append v y)) in
-          let here : a.front ≡ v = append_cancel_right a.front v y (sym a.behind ∙ is) in
-          let at : inner_at bang u ≡ Some (inner_pair part v) = a.at_cut ∙ ap (λ (x : List ℕ). Some (inner_pair part x)) here in
-          let text : (stage.front ++ one) ++ v ≡ stage.front ++ u = append_assoc stage.front one v ∙ ap (λ x. stage.front ++ x) (inner_append part [] v) in
-          let later = last_at bang (head || has_length part) v in
+          let here : a.front ≡ v = append_cancel_right a.front v y (sym a.behind ∙ is) in let at : inner_at bang u ≡ Some (inner_pair part v) = a.at_cut ∙ ap (λ (x : List ℕ). Some (inner_pair part x)) here in
+          let text : (stage.front ++ one) ++ v ≡ stage.front ++ u = append_assoc stage.front one v ∙ ap (λ x. stage.front ++ x) (inner_append part [] v) in let later = last_at bang (head || has_length part) v in
           let marks : option_map (λ (m : List ℕ). m ++ u) stage.mark ≡ option_map (λ (m : List ℕ). m ++ (one ++ v)) stage.mark = ap (λ (x : List ℕ). option_map (λ (m : List ℕ). m ++ x) stage.mark) (sym (inner_append part [] v)) in
           ap (bracket_at bang) text ∙ stage.brackets u y line
           ∙ ap (λ r. later_or r (option_map (λ (m : List ℕ). m ++ u) stage.mark)) (last_at-some bang head u (part, v) at ∙ ap (later_or later) (part_own bang head part v stands.good at))
@@ -268,8 +249,7 @@ all-in-chord now bang w (Some x) e = chord-within bang w (now x) (sym e)
 clear_closed : (bang : Bool) (w d : List ℕ) → list_all is_in_grace w ≡ true → ClosedGroup bang (91 ∷ w) d → ⊥
 clear_closed bang w d clear k =
     let all : list_all is_in_grace (k.front ++ (125 ∷ k.rest)) ≡ true = ap (list_all is_in_grace) (sym (k.cut ∙ ap (λ x. k.front ++ x) k.is)) ∙ clear in
-    let here : is_in_grace 125 ≡ true = (and_parts (is_in_grace 125) (list_all is_in_grace k.rest) (all_parts is_in_grace k.front (125 ∷ k.rest) all).1).0 in
-    cc
+    let here : is_in_grace 125 ≡ true = (and_parts (is_in_grace 125) (list_all is_in_grace k.rest) (all_parts is_in_grace k.front (125 ∷ k.rest) all).1).0 in cc
 
 pub clear-none : (bang : Bool) (w : List ℕ) → list_all is_in_grace w ≡ true → brace_in_chord bang w ≡ None
 unfolding brace_in_chord
@@ -280,9 +260,7 @@ same_brace_in : (bang : Bool) (item : GraceItem) (part : GracePart) (text : List
 same_brace_in bang (GraceItem.Part p) (single f) text e = refl
 same_brace_in bang (GraceItem.Part p) (chorded f) text e = absurd cc
 same_brace_in bang (GraceItem.Chord inside) (single f) text e = absurd cc
-same_brace_in bang (GraceItem.Chord inside) (chorded f) text e =
-    let same : inside.now ≡ f.inside = cc in
-    ap (λ (t : List ℕ). option_map (λ (b : List ℕ). b ++ drop (suc (length t)) text) (brace_in_chord bang t)) same
+same_brace_in bang (GraceItem.Chord inside) (chorded f) text e = let same : inside.now ≡ f.inside = cc in ap (λ (t : List ℕ). option_map (λ (b : List ℕ). b ++ drop (suc (length t)) text) (brace_in_chord bang t)) same
 
 pub item-brace : (bang : Bool) (item : GraceItem) (text : List ℕ) (body : List GraceChord) (lengthy : Bool) (behind : List ℕ) → (f : FoundPart bang text body lengthy (inside_of_item item) behind) → brace_in_item bang item text ≡ brace_in_part bang f.part text
 item-brace bang item text body lengthy behind f = same_brace_in bang item f.part text f.encloses
@@ -291,8 +269,7 @@ item_stands : (bang : Bool) (item : GraceItem) (part : GracePart) (text behind :
 item_stands bang (GraceItem.Part p) part text behind e stands = tt
 item_stands bang (GraceItem.Chord inside) (single f) text behind e stands = absurd cc
 item_stands bang (GraceItem.Chord inside) (chorded f) text behind e stands =
-    let same : inside.now ≡ f.inside = cc in
-    let tail = 93 ∷ length_then f.length behind in
+    let same : inside.now ≡ f.inside = cc in let tail = 93 ∷ length_then f.length behind in
     let drops : drop (suc (length inside.now)) text ≡ tail = ap (λ (t : List ℕ). drop (suc (length t)) text) same ∙ ap (drop (suc (length f.inside))) stands.cut ∙ drop-append_seam (91 ∷ f.inside) tail in (
       omega (arith, ap length same, ap length stands.cut, length-append f.inside tail),
       rw (same, walk_of_parts (inner_reader bang) f.inside f.parts stands.good.parts) refl,
@@ -309,27 +286,17 @@ pub behind_length : (s rest : List ℕ) (len : Len) → length_read len rest ≡
 behind_length s rest len e = ap (λ p. p.1) e
 
 pub length_shorter : (s rest : List ℕ) (len : Len) → length_read len rest ≡ length_read (len_of (length_at s).0) (length_at s).1 → length rest ≤ length s
-length_shorter s rest len e =
-    let takes = length_at-takes s in
-    omega (arith, ap length (behind_length s rest len e), ap length takes.0, length-length_then (length_at s).0 (length_at s).1)
+length_shorter s rest len e = let takes = length_at-takes s in omega (arith, ap length (behind_length s rest len e), ap length takes.0, length-length_then (length_at s).0 (length_at s).1)
 
 pub brace_fits : (bang : Bool) (s rest brace : List ℕ) (len : Len) → length_read len rest ≡ length_read (len_of (length_at s).0) (length_at s).1 → Some brace ≡ brace_at bang rest → length brace ≤ length s
-brace_fits bang s rest brace len e found =
-    let k = brace_at-closes bang rest brace (sym found) in
-    omega (arith, length_shorter s rest len e, ap length k.cut, length-append k.front brace)
+brace_fits bang s rest brace len e found = let k = brace_at-closes bang rest brace (sym found) in omega (arith, length_shorter s rest len e, ap length k.cut, length-append k.front brace)
 
 pub past_is : (bang : Bool) (bracket closing chord s rest brace : List ℕ) (b : ℕ) (len : Len) → bracket ≡ take (length bracket - length closing) bracket ++ closing → chord ≡ take (length bracket - length closing) bracket → chord ≡ b ∷ s →
     length_read len rest ≡ length_read (len_of (length_at s).0) (length_at s).1 → Some brace ≡ brace_at bang rest → Some (drop (length chord - length brace) bracket) ≡ brace_between bang (Some bracket) (Some closing)
 past_is bang bracket closing chord s rest brace b len behind is first e found =
-    let k = brace_at-closes bang rest brace (sym found) in
-    let l = length_at s in
-    let takes = length_at-takes s in
-    let x = length_then l.0 [] in
-    let y = b ∷ (x ++ k.front) in
-    let same : rest ≡ l.1 = behind_length s rest len e in
-    let split : s ≡ (x ++ k.front) ++ brace = takes.0 ∙ sym (length_append l.0 [] l.1) ∙ ap (λ t. x ++ t) (sym same ∙ k.cut) ∙ sym (append_assoc x k.front brace) in
-    let spelled : chord ≡ y ++ brace = first ∙ ap (λ t. b ∷ t) split in
-    let line : bracket ≡ y ++ (brace ++ closing) = behind ∙ ap (λ t. t ++ closing) (sym is ∙ spelled) ∙ append_assoc y brace closing in
+    let k = brace_at-closes bang rest brace (sym found) in let l = length_at s in let takes = length_at-takes s in let x = length_then l.0 [] in let y = b ∷ (x ++ k.front) in
+    let same : rest ≡ l.1 = behind_length s rest len e in let split : s ≡ (x ++ k.front) ++ brace = takes.0 ∙ sym (length_append l.0 [] l.1) ∙ ap (λ t. x ++ t) (sym same ∙ k.cut) ∙ sym (append_assoc x k.front brace) in
+    let spelled : chord ≡ y ++ brace = first ∙ ap (λ t. b ∷ t) split in let line : bracket ≡ y ++ (brace ++ closing) = behind ∙ ap (λ t. t ++ closing) (sym is ∙ spelled) ∙ append_assoc y brace closing in
     let count : length chord - length brace ≡ length y = omega (arith, ap length spelled, length-append y brace) in
     let drops : drop (length chord - length brace) bracket ≡ brace ++ closing = ap (λ n. drop n bracket) count ∙ ap (drop (length y)) line ∙ drop-append_seam y (brace ++ closing) in
     let reads : brace_behind bang (take (length bracket - length closing) bracket) ≡ Some brace = ap (brace_behind bang) (sym is ∙ first) ∙ ap (brace_at bang) (sym same) ∙ sym found in
@@ -339,8 +306,7 @@ past_is bang bracket closing chord s rest brace b len behind is first e found =
 drops_in_chord : (bang : Bool) (text inside brace : List ℕ) → text ≡ (91 ∷ inside) ++ drop (suc (length inside)) text → Some brace ≡ brace_in_chord bang inside → drop (length inside + 1 - length brace) text ≡ brace ++ drop (suc (length inside)) text
 unfolding brace_in_chord
 drops_in_chord bang text inside brace cut found =
-    let k = brace_at-closes bang (91 ∷ inside) brace (sym found) in
-    let tail = drop (suc (length inside)) text in
+    let k = brace_at-closes bang (91 ∷ inside) brace (sym found) in let tail = drop (suc (length inside)) text in
     let count : length inside + 1 - length brace ≡ length k.front = omega (arith, ap length k.cut, length-append k.front brace) in
     let line : text ≡ k.front ++ (brace ++ tail) = cut ∙ ap (λ t. t ++ tail) k.cut ∙ append_assoc k.front brace tail in
     ap (λ n. drop n text) count ∙ ap (drop (length k.front)) line ∙ drop-append_seam k.front (brace ++ tail)

@@ -23,8 +23,7 @@ sign_append _ v y = refl
 
 note_append : (f : NoteForm) (v y : List ℕ) → note_then f v ++ y ≡ note_then f (v ++ y)
 note_append f v y =
-    let b = letter_byte f.low f.letter in
-    let t = length_then f.length v in
+    let b = letter_byte f.low f.letter in let t = length_then f.length v in
     sign_append f.sign (b ∷ (f.marks ++ t)) y ∙ ap (λ s. sign_then f.sign (b ∷ s)) (append_assoc f.marks t y ∙ ap (λ s. f.marks ++ s) (length_append f.length v y))
 
 pub inner_append : (f : Inner) (v y : List ℕ) → inner_then f v ++ y ≡ inner_then f (v ++ y)
@@ -49,8 +48,7 @@ pub cut_at : (u w y x : List ℕ) → u ++ y ≡ w ++ x → length y ≤ length 
 cut_at u [] y x e h = record { between = u; behind = sym e; front = refl }
 cut_at [] (b ∷ w) y x e h = absurd (omega (arith, h, ap length e, length-append w x))
 cut_at (a ∷ u) (b ∷ w) y x e h =
-    let r = cut_at u w y x (rest_same a b (u ++ y) (w ++ x) e) h in
-    record { between = r.between; behind = r.behind; front = ap (λ c. c ∷ u) (first_same a b (u ++ y) (w ++ x) e) ∙ ap (λ s. b ∷ s) r.front }
+    let r = cut_at u w y x (rest_same a b (u ++ y) (w ++ x) e) h in record { between = r.between; behind = r.behind; front = ap (λ c. c ∷ u) (first_same a b (u ++ y) (w ++ x) e) ∙ ap (λ s. b ∷ s) r.front }
 
 -- ---- parts that may stand before any text
 pub record Local (I : Type 0) (Stands : I → List ℕ → List ℕ → Type 0) (one : I → List ℕ → List ℕ) : Type 0 where
@@ -70,16 +68,12 @@ module _ {I : Type 0} {Stands : I → List ℕ → List ℕ → Type 0} {at : Li
   -- a part that ends before the cut is read there too
   pub read_cut : (u y : List ℕ) (z : I × List ℕ) → at (u ++ y) ≡ Some z → length y ≤ length z.1 → AtCut u y z
   read_cut u y z e h =
-      let stands = stands_at r (u ++ y) z e in
-      let spelt : u ++ y ≡ one z.0 [] ++ z.1 = k.spells z.0 (u ++ y) z.1 stands ∙ sym (k.appends z.0 [] z.1) in
-      let c = cut_at u (one z.0 []) y z.1 spelt h in
-      let here : u ≡ one z.0 c.between = c.front ∙ k.appends z.0 [] c.between in
-      let o = r.reaches z.0 u c.between (k.moves z.0 (u ++ y) z.1 u c.between stands here) in
+      let stands = stands_at r (u ++ y) z e in let spelt : u ++ y ≡ one z.0 [] ++ z.1 = k.spells z.0 (u ++ y) z.1 stands ∙ sym (k.appends z.0 [] z.1) in let c = cut_at u (one z.0 []) y z.1 spelt h in
+      let here : u ≡ one z.0 c.between = c.front ∙ k.appends z.0 [] c.between in let o = r.reaches z.0 u c.between (k.moves z.0 (u ++ y) z.1 u c.between stands here) in
       elim o.2 [
         | inl shorter ↦
             (let other = stands_at r u o.0 o.1 in
-            let whole : u ++ y ≡ one o.0.0 (o.0.1 ++ y) = ap (λ s. s ++ y) (k.spells o.0.0 u o.0.1 other) ∙ k.appends o.0.0 o.0.1 y in
-            let l = longest_of r (u ++ y) z e in
+            let whole : u ++ y ≡ one o.0.0 (o.0.1 ++ y) = ap (λ s. s ++ y) (k.spells o.0.0 u o.0.1 other) ∙ k.appends o.0.0 o.0.1 y in let l = longest_of r (u ++ y) z e in
             absurd (omega (arith, shorter, l.longest o.0.0 (o.0.1 ++ y) (k.moves o.0.0 u o.0.1 (u ++ y) (o.0.1 ++ y) other whole), length-append o.0.1 y, ap length c.behind, length-append c.between y)))
         | inr same ↦ record { front = c.between; behind = c.behind; at_cut = o.1 ∙ ap Some same }
       ]
@@ -91,8 +85,7 @@ module _ {I : Type 0} {Stands : I → List ℕ → List ℕ → Type 0} {at : Li
   -- and one that ends before the cut is the same there
   pub no_shorter : (part : I) (u v y : List ℕ) (z : I × List ℕ) → at u ≡ Some (part, v) → at (u ++ y) ≡ Some z → length z.1 < length (v ++ y) → length y ≤ length z.1 → ⊥
   no_shorter part u v y z here e shorter before =
-      let a = read_cut u y z e before in
-      let same : a.front ≡ v = ap (λ (p : I × List ℕ). p.1) (same_Some {A = I × List ℕ} (z.0, a.front) (part, v) (sym a.at_cut ∙ here)) in
+      let a = read_cut u y z e before in let same : a.front ≡ v = ap (λ (p : I × List ℕ). p.1) (same_Some {A = I × List ℕ} (z.0, a.front) (part, v) (sym a.at_cut ∙ here)) in
       omega (arith, shorter, ap length a.behind, length-append a.front y, length-append v y, ap length same)
 
   -- the bytes of what is read off a text are the text
@@ -147,14 +140,12 @@ length_free (halved c k) good = all_join free c (copies k 47 []) (digits_free c 
 -- no closing byte stands in a length
 pub length_past : (close : ℕ) (l : LengthForm) (rest m d t : List ℕ) → free close ≡ false → IsLength l → d ≡ close ∷ t → length_then l rest ≡ m ++ d → length rest < length d → ⊥
 length_past close l rest m d t closes good is e short =
-    let c = cut_at (length_then l []) m rest d (length_append l [] rest ∙ e) (omega (arith, short)) in
-    by_between c.between c.behind c.front
+    let c = cut_at (length_then l []) m rest d (length_append l [] rest ∙ e) (omega (arith, short)) in by_between c.between c.behind c.front
   where
     by_between : (b : List ℕ) → d ≡ b ++ rest → length_then l [] ≡ m ++ b → ⊥
     by_between [] behind front = omega (arith, short, ap length behind)
     by_between (b ∷ bs) behind front =
-        let all : list_all free (m ++ (b ∷ bs)) ≡ true = ap (list_all free) (sym front) ∙ length_free l good in
-        let here : free b ≡ true = (and_parts (free b) (list_all free bs) (all_parts free m (b ∷ bs) all).1).0 in
+        let all : list_all free (m ++ (b ∷ bs)) ≡ true = ap (list_all free) (sym front) ∙ length_free l good in let here : free b ≡ true = (and_parts (free b) (list_all free bs) (all_parts free m (b ∷ bs) all).1).0 in
         let clash : free close ≡ true = subst (λ y. free y ≡ true) (sym (first_same close b t (bs ++ rest) (sym is ∙ behind))) here in
         let never = sym closes ∙ clash in cc
 
@@ -164,8 +155,7 @@ sign_free _ x h = h
 
 note_free : (f : NoteForm) → IsNote f → list_all free (note_then f []) ≡ true
 note_free f good =
-    let b = letter_byte f.low f.letter in
-    let t = length_then f.length [] in
+    let b = letter_byte f.low f.letter in let t = length_then f.length [] in
     sign_free f.sign (b ∷ (f.marks ++ t)) (and_from (free b) (list_all free (f.marks ++ t)) (letter_free f.low f.letter) (all_join free f.marks t (wider is_mark free f.marks mark_free good.marks) (length_free f.length good.length)))
 
 letter_inside_free : (b : ℕ) → is_letter_inside b ≡ true → free b ≡ true
@@ -230,8 +220,7 @@ crosses_by bang q close f u bs wide closes other good e = absurd (none_named q c
 pub crossing : (bang : Bool) (q : ℕ → Bool) (close : ℕ) (f : Inner) (u t rest : List ℕ) → ((b : ℕ) → free b ≡ true → q b ≡ true) → q close ≡ false → eqb close 33 ≡ false → IsInner bang f →
     u ++ (close ∷ t) ≡ inner_then f rest → length rest < length (close ∷ t) → CrossesIn bang f u close
 crossing bang q close f u t rest wide closes other good e short =
-    let c = cut_at (inner_then f []) u rest (close ∷ t) (inner_append f [] rest ∙ sym e) (omega (arith, short)) in
-    by_between c.between c.behind c.front
+    let c = cut_at (inner_then f []) u rest (close ∷ t) (inner_append f [] rest ∙ sym e) (omega (arith, short)) in by_between c.between c.behind c.front
   where
     by_between : (m : List ℕ) → close ∷ t ≡ m ++ rest → inner_then f [] ≡ u ++ m → CrossesIn bang f u close
     by_between [] is front = absurd (omega (arith, short, ap length is))
@@ -284,8 +273,7 @@ clear_step : (bang : Bool) (q : ℕ → Bool) (text : List ℕ) (part : Inner) (
     (list_all is_name_byte rest ≡ true → list_all q rest ≡ true) → is_named part ≡ b → list_all q text ≡ true
 clear_step bang q text part rest true wide stands h next n = absurd (named_bad part rest n (ap (list_all is_name_byte) (sym stands.cut) ∙ h))
 clear_step bang q text part rest false wide stands h next n =
-    let cut : text ≡ inner_then part [] ++ rest = stands.cut ∙ sym (inner_append part [] rest) in
-    let names = all_parts is_name_byte (inner_then part []) rest (ap (list_all is_name_byte) (sym cut) ∙ h) in
+    let cut : text ≡ inner_then part [] ++ rest = stands.cut ∙ sym (inner_append part [] rest) in let names = all_parts is_name_byte (inner_then part []) rest (ap (list_all is_name_byte) (sym cut) ∙ h) in
     ap (list_all q) cut ∙ all_join q (inner_then part []) rest (wider free q (inner_then part []) wide (inner_free bang part stands.good n)) (next names.1)
 
 -- parts in a name close no group

@@ -59,17 +59,10 @@ no_bracket : (b : ℕ) (ks : List ℕ) → list_all (λ k. not (eqb k 91)) ks �
 no_bracket b [] h is = absurd cc
 no_bracket b (k ∷ ks) h is =
     let p = and_parts (not (eqb k 91)) (list_all (λ k. not (eqb k 91)) ks) h in
-    elim (or_cases (eqb b k) (one_of ks b) is) [
-      | inl here ↦ rw (eqb-true b k here) (not-true (eqb k 91) p.0)
-      | inr later ↦ no_bracket b ks p.1 later
-    ]
+    elim (or_cases (eqb b k) (one_of ks b) is) [ inl here ↦ rw (eqb-true b k here) (not-true (eqb k 91) p.0) | inr later ↦ no_bracket b ks p.1 later ]
 
 letter_apart : (b : ℕ) → is_letter_inside b ≡ true → eqb b 91 ≡ false
-letter_apart b h =
-    elim (or_cases (eqb b 46) (is_deco_letter b) h) [
-      | inl dot ↦ rw (eqb-true b 46 dot) refl
-      | inr letter ↦ no_bracket b (126 ∷ 72 ∷ 76 ∷ 77 ∷ 79 ∷ 80 ∷ 83 ∷ 84 ∷ 117 ∷ 118 ∷ []) refl letter
-    ]
+letter_apart b h = elim (or_cases (eqb b 46) (is_deco_letter b) h) [ inl dot ↦ rw (eqb-true b 46 dot) refl | inr letter ↦ no_bracket b (126 ∷ 72 ∷ 76 ∷ 77 ∷ 79 ∷ 80 ∷ 83 ∷ 84 ∷ 117 ∷ 118 ∷ []) refl letter ]
 
 by_sign : (bang : Bool) (sign : Option Alter) (low : Bool) (l : Letter) (t : List ℕ) → let s = sign_then sign (letter_byte low l ∷ t) in grace_part_at bang s ≡ option_map single_read (inner_at bang s)
 unfolding grace_part_at
@@ -96,19 +89,14 @@ part-reaches bang (single f) x good =
     let o = (inner_reader bang).reaches f (inner_then f x) x (record { good = good; cut = refl }) in
     (single_read o.0, single_at bang f x good ∙ ap (option_map single_read) o.1, elim o.2 [ inl shorter ↦ inl shorter | inr same ↦ inr (ap single_read same) ])
 part-reaches bang (chorded f) x good =
-    let o = chord_at-reaches bang f x good in
-    (chorded_read o.0, at_bracket bang (chord_then f x) ∙ ap (option_map chorded_read) o.1, elim o.2 [ inl shorter ↦ inl shorter | inr same ↦ inr (ap chorded_read same) ])
+    let o = chord_at-reaches bang f x good in (chorded_read o.0, at_bracket bang (chord_then f x) ∙ ap (option_map chorded_read) o.1, elim o.2 [ inl shorter ↦ inl shorter | inr same ↦ inr (ap chorded_read same) ])
 
 part-longer : (p : GracePart) (x : List ℕ) → length x < length (grace_part_then p x)
 part-longer (single f) x = inner-longer f x
 part-longer (chorded f) x = omega (arith, chord-longer f x)
 
 pub part_reader : (bang : Bool) → Reader GracePart (StandsInGrace bang) (grace_part_at bang)
-part_reader bang = record {
-  takes = part-takes bang;
-  reaches = λ p s x stands. rw stands.cut (part-reaches bang p x stands.good);
-  longer = λ p s x stands. rw stands.cut (part-longer p x);
-}
+part_reader bang = record { takes = part-takes bang; reaches = λ p s x stands. rw stands.cut (part-reaches bang p x stands.good); longer = λ p s x stands. rw stands.cut (part-longer p x) }
 
 -- ---- what a call of the reader tells
 pub record FoundPart (bang : Bool) (s : List ℕ) (body : List GraceChord) (lengthy : Bool) (inside : Option (List ℕ)) (behind : List ℕ) : Type 0 where
@@ -157,8 +145,7 @@ place_behind false n here h = tt
 pub group-next : (bang : Bool) (w : List ℕ) (body : List GraceChord) (lengthy : Bool) (inside : Option (List ℕ)) (before place : Option ℕ) (rest behind : List ℕ) → Group bang w before rest → FoundPart bang rest body lengthy inside behind →
     place ≡ length_at_place lengthy (length rest) → Group bang w place behind
 group-next bang w body lengthy inside before place rest behind stage f placed =
-    let step = walk-some (part_reader bang) rest (f.part, behind) f.at in
-    let shorter = part_less bang rest body lengthy inside behind f in
+    let step = walk-some (part_reader bang) rest (f.part, behind) f.at in let shorter = part_less bang rest body lengthy inside behind f in
     rw placed (record {
       left = sym (ap (λ (z : List GracePart × List ℕ). z.1) step) ∙ stage.left;
       flaw = λ flaw h. stage.flaw flaw (stuck_later before rest f.part behind flaw (longest_of (part_reader bang) rest (f.part, behind) f.at) (subst (λ b. GraceFlawed bang (length_at_place b (length rest)) behind flaw) f.has h));
@@ -194,13 +181,10 @@ group-ends bang w before (b ∷ rest) stage none = absurd (omega (arith, none))
 -- ---- the body
 pub body-next : (bang : Bool) (out new total body : List GraceChord) (lengthy : Bool) (inside : Option (List ℕ)) (s behind : List ℕ) → FoundPart bang s body lengthy inside behind → new ≡ out ++ body → out ++ body_inside bang s ≡ total → new ++ body_inside bang behind ≡ total
 body-next bang out new total body lengthy inside s behind f push so_far =
-    let here : body_inside bang s ≡ body ++ body_inside bang behind = rw (walk-some (part_reader bang) s (f.part, behind) f.at, f.gives) refl in
-    rw push (append_assoc out body _ ∙ ap (λ b. out ++ b) (sym here) ∙ so_far)
+    let here : body_inside bang s ≡ body ++ body_inside bang behind = rw (walk-some (part_reader bang) s (f.part, behind) f.at, f.gives) refl in rw push (append_assoc out body _ ∙ ap (λ b. out ++ b) (sym here) ∙ so_far)
 
 pub body-end : (bang : Bool) (out total : List GraceChord) (s : List ℕ) → grace_part_at bang s ≡ None → out ++ body_inside bang s ≡ total → out ≡ total
-body-end bang out total s none so_far =
-    let here : body_inside bang s ≡ [] = rw (walk-none (part_reader bang) s none) refl in
-    sym (append-nil out) ∙ ap (λ b. out ++ b) (sym here) ∙ so_far
+body-end bang out total s none so_far = let here : body_inside bang s ≡ [] = rw (walk-none (part_reader bang) s none) refl in sym (append-nil out) ∙ ap (λ b. out ++ b) (sym here) ∙ so_far
 
 -- ---- a brace that is found closes good parts
 part_append : (p : GracePart) (v y : List ℕ) → grace_part_then p v ++ y ≡ grace_part_then p (v ++ y)
@@ -232,12 +216,10 @@ lone_part bang s off h = other_byte bang 33 s refl ∙ ap (option_map single_rea
 in-closes : (bang : Bool) (s c : List ℕ) (r : Option (List ℕ × List ℕ)) → bang ≡ false → IfSome r (λ z. IsName z.0 × (s ≡ z.0 ++ (33 ∷ z.1))) → brace_in bang s r ≡ Some c → ClosedGroup bang (33 ∷ s) c
 in-closes bang s c None off t e = absurd cc
 in-closes bang s c (Some named) off t e =
-    let inside = span_all is_in_grace named.0 in
-    let w = walk (grace_part_at bang) inside.0 in
+    let inside = span_all is_in_grace named.0 in let w = walk (grace_part_at bang) inside.0 in
     cond_both {A = Option (List ℕ)} (not (eqb (length inside.1) 0) && is_done w) (Some (drop (length inside.0) s)) None (λ r. r ≡ Some c → ClosedGroup bang (33 ∷ s) c)
     (λ h e.
-    let p = and_parts (not (eqb (length inside.1) 0)) (is_done w) h in
-    let end = name_end 125 inside.1 (eqb-false (length inside.1) 0 (not-true (eqb (length inside.1) 0) p.0)) (span_all-after is_in_grace named.0) in
+    let p = and_parts (not (eqb (length inside.1) 0)) (is_done w) h in let end = name_end 125 inside.1 (eqb-false (length inside.1) 0 (not-true (eqb (length inside.1) 0) p.0)) (span_all-after is_in_grace named.0) in
     let whole : named.0 ≡ inside.0 ++ (125 ∷ end.0) = span_all-takes is_in_grace named.0 ∙ ap (λ x. inside.0 ++ x) end.1 in
     let cut : s ≡ inside.0 ++ (125 ∷ (end.0 ++ (33 ∷ named.1))) = t.1 ∙ ap (λ x. x ++ (33 ∷ named.1)) whole ∙ append_assoc inside.0 (125 ∷ end.0) (33 ∷ named.1) in
     let is : c ≡ 125 ∷ (end.0 ++ (33 ∷ named.1)) = sym (same_Some (drop (length inside.0) s) c e) ∙ ap (drop (length inside.0)) cut ∙ drop-append_seam inside.0 (125 ∷ (end.0 ++ (33 ∷ named.1))) in
@@ -264,28 +246,16 @@ in_name-closes bang (b ∷ s) c e =
 -- a part and what closes behind it
 then-closes : (bang : Bool) (text c : List ℕ) (z : GracePart × List ℕ) → grace_part_at bang text ≡ Some z → ClosedGroup bang z.1 c → ClosedGroup bang text c
 then-closes bang text c z e k =
-    let r = part_reader bang in
-    let u = grace_part_then z.0 k.front in
-    let cut : text ≡ u ++ c = (stands_at r text z e).cut ∙ ap (grace_part_then z.0) k.cut ∙ sym (part_append z.0 k.front c) in
+    let r = part_reader bang in let u = grace_part_then z.0 k.front in let cut : text ≡ u ++ c = (stands_at r text z e).cut ∙ ap (grace_part_then z.0) k.cut ∙ sym (part_append z.0 k.front c) in
     let a = read_cut r (part_local bang) u c z (ap (grace_part_at bang) (sym cut) ∙ e) (omega (arith, ap length k.cut, length-append k.front c)) in
-    let front : a.front ≡ k.front = append_cancel_right a.front k.front c (sym a.behind ∙ k.cut) in
-    let at : grace_part_at bang u ≡ Some (z.0, k.front) = a.at_cut ∙ ap (λ (x : List ℕ). Some (z.0, x)) front in
+    let front : a.front ≡ k.front = append_cancel_right a.front k.front c (sym a.behind ∙ k.cut) in let at : grace_part_at bang u ≡ Some (z.0, k.front) = a.at_cut ∙ ap (λ (x : List ℕ). Some (z.0, x)) front in
     record { front = u; rest = k.rest; parts = z.0 ∷ k.parts; is = k.is; cut = cut; good = then_part u z.0 k.front k.parts (longest_of r u (z.0, k.front) at) k.good }
 
 -- ---- the last brace before which parts alone stand
 closes_there : (bang : Bool) (text : List ℕ) (n : ℕ) → closes_at bang text n ≡ true → ClosedGroup bang text (drop n text)
 closes_there bang text n h =
-    let w = walk (grace_part_at bang) (take n text) in
-    let p = and_parts (begins is_brace (drop n text)) (is_done w) h in
-    let first = first_close 125 (drop n text) p.0 in
-    record {
-      front = take n text;
-      rest = first.0;
-      parts = w.0;
-      is = first.1;
-      cut = sym (take-append-drop n text);
-      good = parts_of_walk (part_reader bang) (take n text) (eqb-true (length w.1) 0 p.1);
-    }
+    let w = walk (grace_part_at bang) (take n text) in let p = and_parts (begins is_brace (drop n text)) (is_done w) h in let first = first_close 125 (drop n text) p.0 in
+    record { front = take n text; rest = first.0; parts = w.0; is = first.1; cut = sym (take-append-drop n text); good = parts_of_walk (part_reader bang) (take n text) (eqb-true (length w.1) 0 p.1) }
 
 found_closes : (bang : Bool) (text c : List ℕ) (n : ℕ) → last_closing bang text n ≡ Some c → ClosedGroup bang text c
 found_closes bang text c zero e =
@@ -322,8 +292,7 @@ closing_at bang text d n false k e h next = elim (le_lt (length k.front) n) [
 
 found_reaches : (bang : Bool) (text d : List ℕ) (k : ClosedGroup bang text d) (n : ℕ) → length k.front ≤ n → AtLast bang text d (last_closing bang text n)
 found_reaches bang text d k zero h =
-    let none : length k.front ≡ 0 = omega (arith, h) in
-    let here : closes_at bang text 0 ≡ true = subst (λ n. closes_at bang text n ≡ true) none (closes_so bang text d k) in
+    let none : length k.front ≡ 0 = omega (arith, h) in let here : closes_at bang text 0 ≡ true = subst (λ n. closes_at bang text n ≡ true) none (closes_so bang text d k) in
     (text, rw here refl, omega (arith, none, ap length k.cut, length-append k.front d))
 found_reaches bang text d k (suc n) h = closing_at bang text d n (closes_at bang text (suc n)) k refl h (found_reaches bang text d k n)
 
@@ -352,10 +321,7 @@ none_there bang text (Some c) e h = absurd (h c (brace_at-closes bang text c e))
 last_is : (bang : Bool) (text : List ℕ) (r : Option (List ℕ)) → IsLastBrace bang text r → brace_at bang text ≡ r
 last_is bang text None h = none_there bang text (brace_at bang text) refl h
 last_is bang text (Some c) h =
-    let o = brace_at-last bang text c h.0 in
-    let k = brace_at-closes bang text o.0 o.1 in
-    let same : o.0 ≡ c = same_tail text k.front h.0.front o.0 c k.cut h.0.cut (omega (arith, o.2, h.1 o.0 k)) in
-    o.1 ∙ ap Some same
+    let o = brace_at-last bang text c h.0 in let k = brace_at-closes bang text o.0 o.1 in let same : o.0 ≡ c = same_tail text k.front h.0.front o.0 c k.cut h.0.cut (omega (arith, o.2, h.1 o.0 k)) in o.1 ∙ ap Some same
 
 at_brace : (bang : Bool) (t : List ℕ) → grace_part_at bang (125 ∷ t) ≡ None
 unfolding inner_at item_class
@@ -399,8 +365,7 @@ first_part bang text d z e k = first_of_parts bang k.front text k.rest k.parts z
 
 behind_closes : (bang : Bool) (text d : List ℕ) (z : GracePart × List ℕ) → grace_part_at bang text ≡ Some z → ClosedGroup bang text d → length d ≤ length z.1 → ClosedGroup bang z.1 d
 behind_closes bang text d z e k short =
-    let a = read_cut (part_reader bang) (part_local bang) k.front d z (ap (grace_part_at bang) (sym k.cut) ∙ e) short in
-    let f = first_part bang text d z e k in
+    let a = read_cut (part_reader bang) (part_local bang) k.front d z (ap (grace_part_at bang) (sym k.cut) ∙ e) short in let f = first_part bang text d z e k in
     let same : f.behind ≡ a.front = ap (λ (p : GracePart × List ℕ). p.1) (same_Some (part_with f.part f.behind) (part_with z.0 a.front) (sym f.at ∙ a.at_cut)) in
     record { front = a.front; rest = k.rest; parts = f.more; is = k.is; cut = a.behind; good = subst (λ (x : List ℕ). GraceParts bang x f.more) same f.others }
 
@@ -446,8 +411,7 @@ clear_single bang f rest false good n h more = ap (list_all is_in_grace) (sym (i
 
 clear_chord : (bang : Bool) (f : ChordForm) (rest : List ℕ) → IsChord bang f → list_all is_name_byte (chord_then f rest) ≡ true → list_all is_in_grace rest ≡ true → list_all is_in_grace (chord_then f rest) ≡ true
 clear_chord bang f rest good h more =
-    let names = all_parts is_name_byte f.inside (93 ∷ length_then f.length rest) h in
-    let inside = clear_parts bang is_in_grace f.inside f.parts in_grace_wide good.parts names.0 in
+    let names = all_parts is_name_byte f.inside (93 ∷ length_then f.length rest) h in let inside = clear_parts bang is_in_grace f.inside f.parts in_grace_wide good.parts names.0 in
     let len = all_join is_in_grace (length_then f.length []) rest (wider free is_in_grace (length_then f.length []) in_grace_wide (length_free f.length good.length)) more in
     all_join is_in_grace f.inside (93 ∷ length_then f.length rest) inside (ap (list_all is_in_grace) (sym (length_append f.length [] rest)) ∙ len)
 
@@ -469,9 +433,7 @@ in_name-found : (bang : Bool) (before after rest : List ℕ) (parts : List Grace
     brace_in_name bang (33 ∷ ((before ++ (125 ∷ after)) ++ (33 ∷ rest))) ≡ Some (125 ∷ (after ++ (33 ∷ rest)))
 unfolding brace_in_name
 in_name-found bang before after rest parts off good group =
-    let name = before ++ (125 ∷ after) in
-    let names = all_parts is_name_byte before (125 ∷ after) good.bytes in
-    let clear = clear_group bang before parts group names.0 in
+    let name = before ++ (125 ∷ after) in let names = all_parts is_name_byte before (125 ∷ after) good.bytes in let clear = clear_group bang before parts group names.0 in
     let cut : span_all is_in_grace name ≡ (before ++ [], 125 ∷ after) = span_all-append is_in_grace before (125 ∷ after) clear ∙ rw (span_all-stops is_in_grace (125 ∷ after) refl) refl in
     let drops : drop (length before) (name ++ (33 ∷ rest)) ≡ 125 ∷ (after ++ (33 ∷ rest)) = ap (drop (length before)) (append_assoc before (125 ∷ after) (33 ∷ rest)) ∙ drop-append_seam before (125 ∷ (after ++ (33 ∷ rest))) in
     rw (off, name_at-reads name rest good, cut, append-nil, ← off, walk_of_parts (part_reader bang) before parts group, drops)
@@ -488,9 +450,7 @@ cross_single bang text d f rest e k short =
 
     by_name : CrossesIn bang f k.front 125 → text ≡ inner_then f rest → brace_in_name bang text ≡ Some d
     by_name c cut =
-        let before = c.crosses.before in
-        let after = c.crosses.after in
-        let first = first_part bang text d (single f, rest) e k in
+        let before = c.crosses.before in let after = c.crosses.after in let first = first_part bang text d (single f, rest) e k in
         let names = all_parts is_name_byte before (125 ∷ after) (ap (list_all is_name_byte) (sym c.crosses.name_is) ∙ c.good.bytes) in
         let alone : grace_part_at bang k.front ≡ Some (part_with (single lone_inside) before) = ap (grace_part_at bang) c.crosses.text ∙ lone_part bang before c.off names.0 in
         let same : part_with first.part first.behind ≡ part_with (single lone_inside) before = same_Some (part_with first.part first.behind) (part_with (single lone_inside) before) (sym first.at ∙ alone) in
@@ -523,10 +483,7 @@ brace_inside bang f rest d good k short = elim (le_lt (length (tail_of f rest)) 
     by_between (b ∷ m) is near = length_past 125 f.length rest m d k.rest refl good.length k.is (rest_same 93 b (length_then f.length rest) (m ++ d) is) short
 
     by_cut : Cut k.front (91 ∷ f.inside) d (tail_of f rest) → ⊥
-    by_cut c = elim (le_lt (length (tail_of f rest)) (length d)) [
-      | inl far ↦ same_end c.between c.behind far
-      | inr near ↦ by_between c.between c.behind near
-    ]
+    by_cut c = elim (le_lt (length (tail_of f rest)) (length d)) [ inl far ↦ same_end c.between c.behind far | inr near ↦ by_between c.between c.behind near ]
       where
         same_end : (m : List ℕ) → tail_of f rest ≡ m ++ d → length (tail_of f rest) ≤ length d → ⊥
         same_end [] is far = apart (first_same 93 125 (length_then f.length rest) k.rest (is ∙ k.is))
@@ -552,8 +509,7 @@ mapped tail c (Some b) e = (b, refl, sym (same_Some (b ++ tail) c e))
 
 chord_closes : (bang : Bool) (f : ChordForm) (rest c : List ℕ) → option_map (λ b. b ++ tail_of f rest) (brace_at bang (91 ∷ f.inside)) ≡ Some c → ClosedGroup bang (91 ∷ chord_then f rest) c
 chord_closes bang f rest c e =
-    let m = mapped (tail_of f rest) c (brace_at bang (91 ∷ f.inside)) e in
-    let k = brace_at-closes bang (91 ∷ f.inside) m.0 m.1 in
+    let m = mapped (tail_of f rest) c (brace_at bang (91 ∷ f.inside)) e in let k = brace_at-closes bang (91 ∷ f.inside) m.0 m.1 in
     record {
       front = k.front;
       rest = k.rest ++ tail_of f rest;
@@ -573,8 +529,7 @@ in_chord bang f rest good = rw (chord_tail f rest) (record { closes = chord_clos
 in_part : (bang : Bool) (text rest : List ℕ) (p : GracePart) → grace_part_at bang text ≡ Some (part_with p rest) → InPart bang text (p, rest) (brace_in_part bang p text)
 in_part bang text rest (single f) e = in_single bang text f rest e
 in_part bang text rest (chorded f) e =
-    let stands = stands_at (part_reader bang) text (chorded f, rest) e in
-    subst (λ t. InPart bang t (chorded f, rest) (brace_in_part bang (chorded f) t)) (sym stands.cut) (in_chord bang f rest stands.good)
+    let stands = stands_at (part_reader bang) text (chorded f, rest) e in subst (λ t. InPart bang t (chorded f, rest) (brace_in_part bang (chorded f) t)) (sym stands.cut) (in_chord bang f rest stands.good)
 
 pub brace-part : (bang : Bool) (text rest : List ℕ) (p : GracePart) → grace_part_at bang text ≡ Some (part_with p rest) → brace_at bang text ≡ later_or (brace_at bang rest) (brace_in_part bang p text)
 brace-part bang text rest p e = brace-some bang text (p, rest) (brace_in_part bang p text) e (in_part bang text rest p e)
@@ -582,9 +537,7 @@ brace-part bang text rest p e = brace-some bang text (p, rest) (brace_in_part ba
 -- the chord of a text, and shorter ones
 pub chord-none : (bang : Bool) (w : List ℕ) → bracket_at bang w ≡ None → brace_in_chord bang w ≡ None
 unfolding chord_at brace_in_chord
-chord-none bang w none =
-    let here : grace_part_at bang (91 ∷ w) ≡ None = at_bracket bang w ∙ rw none refl in
-    brace-none bang (91 ∷ w) here
+chord-none bang w none = let here : grace_part_at bang (91 ∷ w) ≡ None = at_bracket bang w ∙ rw none refl in brace-none bang (91 ∷ w) here
 
 abbrev form_of : Bool → List ℕ → List ℕ → ChordForm
 form_of bang inside rest = record { inside = inside; parts = (walk (inner_at bang) inside).0; length = (length_at rest).0 }
@@ -597,9 +550,7 @@ pub chord-some : (bang : Bool) (w c : List ℕ) → bracket_at bang w ≡ Some c
 unfolding brace_in_chord
 chord-some bang w [] e = absurd (let k = bracket_at-closes bang w [] e in omega (arith, ap length k.is))
 chord-some bang w (b ∷ c) e =
-    let k = bracket_at-closes bang w (b ∷ c) e in
-    let inside : take (length w - length (b ∷ c)) w ≡ k.front = cut_off w k.front (b ∷ c) k.cut in
-    let f = form_of bang (take (length w - length (b ∷ c)) w) c in
+    let k = bracket_at-closes bang w (b ∷ c) e in let inside : take (length w - length (b ∷ c)) w ≡ k.front = cut_off w k.front (b ∷ c) k.cut in let f = form_of bang (take (length w - length (b ∷ c)) w) c in
     let at : grace_part_at bang (91 ∷ w) ≡ Some (part_with (chorded f) (length_at c).1) = at_bracket bang w ∙ ap (option_map chorded_read) (read_form bang w c b e) in
     let tail : drop (suc (length f.inside)) (91 ∷ w) ≡ b ∷ c = ap (λ (t : List ℕ). drop (length t) w) inside ∙ ap (drop (length k.front)) k.cut ∙ drop-append_seam k.front (b ∷ c) in
     brace-part bang (91 ∷ w) (length_at c).1 (chorded f) at ∙ ap (λ (t : List ℕ). later_or (brace_at bang (length_at c).1) (option_map (λ (x : List ℕ). x ++ t) (brace_at bang (91 ∷ f.inside)))) tail
@@ -618,9 +569,7 @@ with_length f l = record { inside = f.inside; parts = f.parts; length = l }
 
 chord_kept : (bang : Bool) (f : ChordForm) (v t : List ℕ) (z : GracePart × List ℕ) → IsChord bang f → has_lone f.parts ≡ false → grace_part_at bang (91 ∷ chord_then f (v ++ (125 ∷ t))) ≡ Some z → length (125 ∷ t) ≤ length z.1
 chord_kept bang f v t z good whole e =
-    let x = v ++ (125 ∷ t) in
-    let l = length_at (length_then f.length x) in
-    let takes = length_at-takes (length_then f.length x) in
+    let x = v ++ (125 ∷ t) in let l = length_at (length_then f.length x) in let takes = length_at-takes (length_then f.length x) in
     let read : grace_part_at bang (91 ∷ chord_then f x) ≡ Some (part_with (chorded (with_length f l.0)) l.1) = at_bracket bang (chord_then f x) ∙ ap (option_map chorded_read) (chord-reads bang f x good whole) in
     let same : z.1 ≡ l.1 = ap (λ (p : GracePart × List ℕ). p.1) (same_Some z (part_with (chorded (with_length f l.0)) l.1) (sym e ∙ read)) in
     elim (le_lt (length (125 ∷ t)) (length z.1)) [
@@ -657,9 +606,7 @@ part_kept bang (chorded f) v t z good whole at e = chord_kept bang f v t z good 
 nothing_past : (bang : Bool) (u t d : List ℕ) (ps : List GracePart) → GraceParts bang u ps → has_lone_part ps ≡ false → ClosedGroup bang (u ++ (125 ∷ t)) d → length (125 ∷ t) ≤ length d
 nothing_past bang _ t d _ no_part whole k = omega (arith, ap length (front_none bang (125 ∷ t) d (at_brace bang t) k))
 nothing_past bang _ t d _ (then_part u part v more l others) whole k =
-    let r = part_reader bang in
-    let w = or_parts (lone_part_is part) (has_lone_part more) whole in
-    let at : grace_part_at bang u ≡ Some (part_with part v) = longest_is r u part v l in
+    let r = part_reader bang in let w = or_parts (lone_part_is part) (has_lone_part more) whole in let at : grace_part_at bang u ≡ Some (part_with part v) = longest_is r u part v l in
     let o = r.reaches part (u ++ (125 ∷ t)) (v ++ (125 ∷ t)) (moved r (part_local bang) part u v (125 ∷ t) l.stands) in
     let kept : length (125 ∷ t) ≤ length o.0.1 = part_kept bang part v t o.0 l.stands.good w.0 (ap (grace_part_at bang) (sym l.stands.cut) ∙ at) (ap (λ (x : List ℕ). grace_part_at bang (x ++ (125 ∷ t))) (sym l.stands.cut) ∙ o.1) in
     elim o.2 [
@@ -688,11 +635,8 @@ grace_from-takes : (bang slash : Bool) (s t : List ℕ) (r : Option (List ℕ)) 
 grace_from-takes bang slash s t None cut first e = tt
 grace_from-takes bang slash s t (Some []) cut first e = tt
 grace_from-takes bang slash s t (Some (b ∷ c)) cut first e =
-    let k = brace_at-closes bang t (b ∷ c) e in
-    let inside : take (length t - length (b ∷ c)) t ≡ k.front = cut_off t k.front (b ∷ c) k.cut in
-    let read = walk_of_parts (part_reader bang) k.front k.parts k.good in
-    let mark : b ≡ 125 = first_same b 125 c k.rest k.is in
-    let whole : t ≡ k.front ++ (125 ∷ c) = k.cut ∙ ap (λ x. k.front ++ (x ∷ c)) mark in
+    let k = brace_at-closes bang t (b ∷ c) e in let inside : take (length t - length (b ∷ c)) t ≡ k.front = cut_off t k.front (b ∷ c) k.cut in
+    let read = walk_of_parts (part_reader bang) k.front k.parts k.good in let mark : b ≡ 125 = first_same b 125 c k.rest k.is in let whole : t ≡ k.front ++ (125 ∷ c) = k.cut ∙ ap (λ x. k.front ++ (x ∷ c)) mark in
     rw (inside, read) (
       record { parts = k.good; slash_is_read = λ h. first_of is_slash_byte k.front (125 ∷ c) (ap (begins is_slash_byte) (sym whole) ∙ first h) },
       cut ∙ ap (maybe slash 47) whole,
@@ -720,10 +664,8 @@ grace_pair f x = (f, x)
 
 grace_there : (bang : Bool) (f : GraceForm) (x : List ℕ) → IsGrace bang f → brace_at bang (f.inside ++ (125 ∷ x)) ≡ Some (125 ∷ x) → grace_at bang (grace_then f x) ≡ Some (grace_pair f x)
 grace_there bang f x good e =
-    let c = 125 ∷ x in
-    let inside : take (length (f.inside ++ c) - length c) (f.inside ++ c) ≡ f.inside = cut_off (f.inside ++ c) f.inside c refl in
-    let read = walk_of_parts (part_reader bang) f.inside f.parts good.parts in
-    at_closing bang f x c good e ∙ rw (inside, read) refl
+    let c = 125 ∷ x in let inside : take (length (f.inside ++ c) - length c) (f.inside ++ c) ≡ f.inside = cut_off (f.inside ++ c) f.inside c refl in
+    let read = walk_of_parts (part_reader bang) f.inside f.parts good.parts in at_closing bang f x c good e ∙ rw (inside, read) refl
 
 longer_grace : (bang : Bool) (f : GraceForm) (x c : List ℕ) → IsGrace bang f → brace_at bang (f.inside ++ (125 ∷ x)) ≡ Some c → length c < length (125 ∷ x) → (z : GraceForm × List ℕ) × (grace_at bang (grace_then f x) ≡ Some z) × ((length z.1 < length x) ⊎ (z ≡ (f, x)))
 longer_grace bang f x [] good e shorter = absurd (let k = brace_at-closes bang (f.inside ++ (125 ∷ x)) [] e in omega (arith, ap length k.is))
@@ -743,9 +685,7 @@ same_brace bang text c d k l same = same_tail text k.front l.front c d k.cut l.c
 
 pub grace_at-reaches : (bang : Bool) (f : GraceForm) (x : List ℕ) → IsGrace bang f → (z : GraceForm × List ℕ) × (grace_at bang (grace_then f x) ≡ Some z) × ((length z.1 < length x) ⊎ (z ≡ (f, x)))
 grace_at-reaches bang f x good =
-    let text = f.inside ++ (125 ∷ x) in
-    let there = group_there bang f x good in
-    let o = brace_at-last bang text (125 ∷ x) there in
+    let text = f.inside ++ (125 ∷ x) in let there = group_there bang f x good in let o = brace_at-last bang text (125 ∷ x) there in
     elim (le_lt (length (125 ∷ x)) (length o.0)) [
       | inl far ↦
           (let same : o.0 ≡ 125 ∷ x = same_brace bang text o.0 (125 ∷ x) (brace_at-closes bang text o.0 o.1) there (omega (arith, far, o.2)) in
@@ -756,12 +696,8 @@ grace_at-reaches bang f x good =
 -- where no exclamation mark is passed over, the group itself is read
 pub grace-reads : (bang : Bool) (f : GraceForm) (x : List ℕ) → IsGrace bang f → has_lone_part f.parts ≡ false → grace_at bang (grace_then f x) ≡ Some (f, x)
 grace-reads bang f x good whole =
-    let text = f.inside ++ (125 ∷ x) in
-    let there = group_there bang f x good in
-    let o = brace_at-last bang text (125 ∷ x) there in
-    let closed = brace_at-closes bang text o.0 o.1 in
-    let far = nothing_past bang f.inside x o.0 f.parts good.parts whole closed in
-    let same : o.0 ≡ 125 ∷ x = same_brace bang text o.0 (125 ∷ x) closed there (omega (arith, far, o.2)) in
+    let text = f.inside ++ (125 ∷ x) in let there = group_there bang f x good in let o = brace_at-last bang text (125 ∷ x) there in let closed = brace_at-closes bang text o.0 o.1 in
+    let far = nothing_past bang f.inside x o.0 f.parts good.parts whole closed in let same : o.0 ≡ 125 ∷ x = same_brace bang text o.0 (125 ∷ x) closed there (omega (arith, far, o.2)) in
     grace_there bang f x good (o.1 ∙ ap Some same)
 
 pub grace-longer : (f : GraceForm) (x : List ℕ) → length x < length (grace_then f x)
@@ -812,8 +748,7 @@ grace_leads bang s = leads_of_walk (part_reader bang) (part_local bang) s
 
 pub grace-open : (bang slash : Bool) (s t : List ℕ) → slashed slash t ≡ skip 47 s → is_done (walk (grace_part_at bang) t) ≡ true → GraceFault bang s (record { kind = Unclosed; left = length s + 1 })
 grace-open bang slash s t at done =
-    let w = walk (grace_part_at bang) t in
-    let none : w.1 ≡ [] = nil_from_length w.1 (eqb-true (length w.1) 0 done) in
+    let w = walk (grace_part_at bang) t in let none : w.1 ≡ [] = nil_from_length w.1 (eqb-true (length w.1) 0 done) in
     rw add-one (grace_open s slash t w.0 (has_slash slash s t at) (subst (λ x. GraceLeads bang t w.0 x) none (grace_leads bang t)))
 
 -- parts up to a brace are a group
@@ -838,9 +773,7 @@ from_some bang slash s t (b ∷ c) at found none =
     let clash = sym none ∙ some in cc
 
 no_brace_there : (bang slash : Bool) (s t rest : List ℕ) → slashed slash t ≡ skip 47 s → grace_at bang s ≡ None → (walk (grace_part_at bang) t).1 ≡ 125 ∷ rest → ⊥
-no_brace_there bang slash s t rest at none stop =
-    let found = closed_within bang t rest stop in
-    from_some bang slash s t found.0 at found.1 none
+no_brace_there bang slash s t rest at none stop = let found = closed_within bang t rest stop in from_some bang slash s t found.0 at found.1 none
 
 pub grace-flawed : (bang slash : Bool) (s t w r : List ℕ) (flaw : Flaw) → slashed slash t ≡ skip 47 s → two w r ≡ span_all is_in_grace s → (length r ≡ 0 → ⊥) → grace_at bang s ≡ None →
     is_done (walk (grace_part_at bang) t) ≡ false → GraceFlawed bang None t flaw → GraceFault bang s flaw

@@ -23,9 +23,7 @@ length-sign_then (Some Sharp2) x = omega arith
 length-sign_then _ x = omega arith
 
 pub note-longer : (f : NoteForm) (x : List ℕ) → length x < length (note_then f x)
-note-longer f x =
-    let rest = f.marks ++ length_then f.length x in
-    omega (arith, length-sign_then f.sign (letter_byte f.low f.letter ∷ rest), length-append f.marks (length_then f.length x), length-length_then f.length x)
+note-longer f x = let rest = f.marks ++ length_then f.length x in omega (arith, length-sign_then f.sign (letter_byte f.low f.letter ∷ rest), length-append f.marks (length_then f.length x), length-length_then f.length x)
 
 pub inner-longer : (f : Inner) (x : List ℕ) → length x < length (inner_then f x)
 inner-longer (note_inside f) x = note-longer f x
@@ -54,8 +52,7 @@ pub record FoundInner (bang : Bool) (s : List ℕ) (item : Sense) (behind : List
 from_read : (bang : Bool) (s : List ℕ) (item : Sense) (behind : List ℕ) (r : Option (Inner × List ℕ)) → inner_at bang s ≡ r → Some (sensed item behind) ≡ option_map (λ z. sensed (sense z.0) z.1) r → FoundInner bang s item behind
 from_read bang s item behind None e h = absurd cc
 from_read bang s item behind (Some z) e h =
-    let same : sensed item behind ≡ sensed (sense z.0) z.1 = cc in
-    record { part = z.0; at = e ∙ ap (λ x. Some (inner_pair z.0 x)) (sym (ap (λ p. p.1) same)); says = ap (λ p. p.0) same }
+    let same : sensed item behind ≡ sensed (sense z.0) z.1 = cc in record { part = z.0; at = e ∙ ap (λ x. Some (inner_pair z.0 x)) (sym (ap (λ p. p.1) same)); says = ap (λ p. p.0) same }
 
 pub found_inner : (bang : Bool) (s : List ℕ) (item : Sense) (behind : List ℕ) → Some (sensed item behind) ≡ option_map (λ z. sensed (sense z.0) z.1) (inner_at bang s) → FoundInner bang s item behind
 found_inner bang s item behind h = from_read bang s item behind (inner_at bang s) refl h
@@ -85,8 +82,7 @@ place_small false n here h = tt
 pub inside-next : (bang : Bool) (w : List ℕ) (head new note : Bool) (before place : Option ℕ) (rest behind : List ℕ) (item : Sense) → Inside bang w head before rest → FoundInner bang rest item behind →
     note ≡ is_note item → new ≡ (head || note) → place ≡ length_at_place note (length rest) → Inside bang w new place behind
 inside-next bang w head new note before place rest behind item stage f noted newly placed =
-    let step = walk-some (inner_reader bang) rest (f.part, behind) f.at in
-    let is : note ≡ has_length f.part = noted ∙ ap is_note f.says in
+    let step = walk-some (inner_reader bang) rest (f.part, behind) f.at in let is : note ≡ has_length f.part = noted ∙ ap is_note f.says in
     rw placed (record {
       left = sym (ap (λ (z : List Inner × List ℕ). z.1) step) ∙ stage.left;
       heads =
@@ -107,17 +103,14 @@ flaw_here (Some at) byte rest =
 
 flaw_small : (before : Option ℕ) (byte here n : ℕ) → at_most n before → here ≤ n → (inner_flaw before byte here).left ≤ n
 flaw_small None byte here n small h = h
-flaw_small (Some at) byte here n small h =
-    cond_both {A = Flaw} (goes_on_length byte) (record { kind = BadLength; left = at }) (record { kind = BadByte; left = here }) (λ f. f.left ≤ n) (λ e. small) (λ e. h)
+flaw_small (Some at) byte here n small h = cond_both {A = Flaw} (goes_on_length byte) (record { kind = BadLength; left = at }) (record { kind = BadByte; left = here }) (λ f. f.left ≤ n) (λ e. small) (λ e. h)
 
 pub inside-stuck : (bang : Bool) (w : List ℕ) (head : Bool) (before : Option ℕ) (byte here : ℕ) (rest t : List ℕ) (flaw : Flaw) → Inside bang w head before rest → rest ≡ byte ∷ t → here ≡ length rest →
     inner_at bang rest ≡ None → flaw ≡ inner_flaw before byte here →
     (is_done (walk (inner_at bang) w) ≡ false) × InnerFlawed bang None w flaw × (flaw.left ≤ length w)
 inside-stuck bang w head before byte here rest t flaw stage cut place none is =
-    let stops : walk (inner_at bang) rest ≡ ([], rest) = walk-none (inner_reader bang) rest none in
-    let left : (walk (inner_at bang) w).1 ≡ rest = sym stage.left ∙ ap (λ (z : List Inner × List ℕ). z.1) stops in
-    let none_here : inner_at bang (byte ∷ t) ≡ None = subst (λ (x : List ℕ). inner_at bang x ≡ None) cut none in
-    let here_is : here ≡ suc (length t) = place ∙ ap length cut in
+    let stops : walk (inner_at bang) rest ≡ ([], rest) = walk-none (inner_reader bang) rest none in let left : (walk (inner_at bang) w).1 ≡ rest = sym stage.left ∙ ap (λ (z : List Inner × List ℕ). z.1) stops in
+    let none_here : inner_at bang (byte ∷ t) ≡ None = subst (λ (x : List ℕ). inner_at bang x ≡ None) cut none in let here_is : here ≡ suc (length t) = place ∙ ap length cut in
     let stuck : InnerFlawed bang before (byte ∷ t) flaw = stuck_here before byte t flaw (none_of (inner_reader bang) (byte ∷ t) none_here) (rw (is, here_is) (flaw_here before byte t)) in (
       rw (left, cut) (ne_eqb (suc (length t)) 0 (omega arith)),
       stage.flaw flaw (rw cut stuck),
@@ -167,8 +160,7 @@ heads-end bang out new total last s none push so_far = push ∙ ap (λ ss. out +
 pub said-next : {X : Type 0} (gives : List Sense → List X) (one : Sense → List X) → ((item : Sense) (more : List Sense) → gives (item ∷ more) ≡ one item ++ gives more) → (bang : Bool) (out new total : List X) (s behind : List ℕ) (item : Sense) →
     FoundInner bang s item behind → new ≡ out ++ one item → out ++ gives (senses bang s) ≡ total → new ++ gives (senses bang behind) ≡ total
 said-next gives one cons bang out new total s behind item f push so_far =
-    let here = ap gives (senses-some bang s item behind f) ∙ cons item (senses bang behind) in
-    rw push (append_assoc out (one item) _ ∙ ap (λ xs. out ++ xs) (sym here) ∙ so_far)
+    let here = ap gives (senses-some bang s item behind f) ∙ cons item (senses bang behind) in rw push (append_assoc out (one item) _ ∙ ap (λ xs. out ++ xs) (sym here) ∙ so_far)
 
 pub said-end : {X : Type 0} (gives : List Sense → List X) → gives [] ≡ [] → (bang : Bool) (out total : List X) (s : List ℕ) → inner_at bang s ≡ None → out ++ gives (senses bang s) ≡ total → out ≡ total
 said-end gives nothing bang out total s none so_far = sym (append-nil out) ∙ ap (λ xs. out ++ xs) (sym (ap gives (senses-none bang s none) ∙ nothing)) ∙ so_far

@@ -11,17 +11,11 @@ pub below_all : (ks : List ℕ) (n b : ℕ) → list_all (λ k. ltb k n) ks ≡ 
 below_all [] n b h is = absurd cc
 below_all (k ∷ ks) n b h is =
     let p = and_parts (ltb k n) (list_all (λ k. ltb k n) ks) h in
-    elim (or_cases (eqb b k) (one_of ks b) is) [
-      | inl here ↦ (let e : b ≡ k = eqb-true b k here in let lt : k < n = ltb-true k n p.0 in omega arith)
-      | inr later ↦ below_all ks n b p.1 later
-    ]
+    elim (or_cases (eqb b k) (one_of ks b) is) [ inl here ↦ (let e : b ≡ k = eqb-true b k here in let lt : k < n = ltb-true k n p.0 in omega arith) | inr later ↦ below_all ks n b p.1 later ]
 
 -- one test implies another, as each byte shows
 pub implied : (p q : ℕ → Bool) (n b : ℕ) → agree_below (λ x. not (p x) || q x) (λ x. true) n ≡ true → b < n → p b ≡ true → q b ≡ true
-implied p q n b all lt h =
-    let e : (not (p b) || q b) ≡ true = agree_below_at (λ x. not (p x) || q x) (λ x. true) n b all lt in
-    let f : (not true || q b) ≡ true = subst (λ (t : Bool). (not t || q b) ≡ true) h e in
-    f
+implied p q n b all lt h = let e : (not (p b) || q b) ≡ true = agree_below_at (λ x. not (p x) || q x) (λ x. true) n b all lt in let f : (not true || q b) ≡ true = subst (λ (t : Bool). (not t || q b) ≡ true) h e in f
 
 -- ---- names
 some_name : (b : ℕ) (name rest s : List ℕ) (mark : ℕ) → s ≡ (b ∷ name) ++ (mark ∷ rest) → list_all is_name_byte (b ∷ name) ≡ true →
@@ -125,13 +119,7 @@ by_sign bang _ _ _ t = refl
 
 note-reaches : (f : NoteForm) (x : List ℕ) → IsNote f → ReachesInner x (note_inside f) (noted (note_at (note_then f x)))
 note-reaches f x good =
-    let r = note_at-reaches f x good in
-    record {
-      part = note_inside r.0.0;
-      rest = r.0.1;
-      is = ap noted r.1;
-      ends = elim r.2 [ inl shorter ↦ inl shorter.0 | inr is ↦ inr (ap (λ z. inner_read (note_inside z.0) z.1) is) ];
-    }
+    let r = note_at-reaches f x good in record { part = note_inside r.0.0; rest = r.0.1; is = ap noted r.1; ends = elim r.2 [ inl shorter ↦ inl shorter.0 | inr is ↦ inr (ap (λ z. inner_read (note_inside z.0) z.1) is) ] }
 
 pub at_class : (bang : Bool) (b : ℕ) (s : List ℕ) (c : ItemClass) → item_class b ≡ c → inner_at bang (b ∷ s) ≡ inner_by_class c bang b s
 unfolding inner_at

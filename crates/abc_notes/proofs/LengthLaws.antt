@@ -40,18 +40,12 @@ begins_append p (b ∷ a) x h = refl
 
 number-reads-as : (n : ℕ) (ds x : List ℕ) → IsNumber n ds → number_at n (ds ++ x) ≡ (ds ++ (span is_digit (n - length ds) x).0, (span is_digit (n - length ds) x).1)
 number-reads-as n ds x good =
-    let no_zero : begins is_zero (ds ++ x) ≡ false = begins_append is_zero ds x good.some ∙ good.no_zero in
-    let k = n - length ds in
-    let sum : length ds + k ≡ n = omega (arith, good.few) in
+    let no_zero : begins is_zero (ds ++ x) ≡ false = begins_append is_zero ds x good.some ∙ good.no_zero in let k = n - length ds in let sum : length ds + k ≡ n = omega (arith, good.few) in
     let reads : span is_digit n (ds ++ x) ≡ (ds ++ (span is_digit k x).0, (span is_digit k x).1) = subst (λ m. span is_digit m (ds ++ x) ≡ (ds ++ (span is_digit k x).0, (span is_digit k x).1)) sum (span-append is_digit k ds x good.digits) in
     by_zero n (ds ++ x) (λ z. z ≡ (ds ++ (span is_digit k x).0, (span is_digit k x).1)) (λ e. absurd cc) (λ e. reads)
 
 number-reads : (n : ℕ) (ds x : List ℕ) → IsNumber n ds → Stops is_digit x ds (number_at n (ds ++ x))
-number-reads n ds x good =
-    rw (number-reads-as n ds x good) (elim (span-less is_digit (n - length ds) x) [
-      | inl shorter ↦ inl shorter
-      | inr same ↦ inr (rw (same, append-nil) refl)
-    ])
+number-reads n ds x good = rw (number-reads-as n ds x good) (elim (span-less is_digit (n - length ds) x) [ inl shorter ↦ inl shorter | inr same ↦ inr (rw (same, append-nil) refl) ])
 
 pub count-reads : (n : ℕ) (c x : List ℕ) → IsCount n c → Stops is_digit x c (number_at n (c ++ x))
 count-reads n [] x good = number-less n x
@@ -59,10 +53,7 @@ count-reads n (d ∷ ds) x good = number-reads n (d ∷ ds) x good
 
 -- before a byte that is no digit the number is read as it stands
 pub count-stops : (n : ℕ) (c : List ℕ) (k : ℕ) (x : List ℕ) → is_digit k ≡ false → IsCount n c → number_at n (c ++ (k ∷ x)) ≡ (c, k ∷ x)
-count-stops n c k x other good = elim (count-reads n c (k ∷ x) good) [
-  | inl shorter ↦ absurd (both_ways (is_digit k) other shorter.1)
-  | inr same ↦ same
-]
+count-stops n c k x other good = elim (count-reads n c (k ∷ x) good) [ inl shorter ↦ absurd (both_ways (is_digit k) other shorter.1) | inr same ↦ same ]
 
 abbrev read_as : LengthForm → List ℕ → LengthForm × List ℕ
 read_as f x = (f, x)
@@ -99,8 +90,7 @@ below-takes s count rest (c ∷ d ∷ sl) after be last e good f pass few g belo
 pub length_at-takes : (s : List ℕ) → let z = length_at s in (s ≡ length_then z.0 z.1) × IsLength z.0
 unfolding length_at
 length_at-takes s =
-    let count = number_at 4 s in
-    let sl = span is_slash 6 count.1 in
+    let count = number_at 4 s in let sl = span is_slash 6 count.1 in
     below-takes s count.0 count.1 sl.0 sl.1 (number_at 4 sl.1).0 (number_at 4 sl.1).1
     (number-takes 4 s) (number-count 4 s) (span-takes is_slash 6 count.1) (span-pass is_slash 6 count.1) (span-length is_slash 6 count.1) (number-takes 4 sl.1) (number-count 4 sl.1)
 
@@ -130,9 +120,7 @@ from_count count s = let sl = span is_slash 6 s in below_at count sl (number_at 
 
 length-from : (count s : List ℕ) → length (from_count count s).1 ≤ length s
 unfolding from_count
-length-from count s =
-    let sl = span is_slash 6 s in
-    omega (arith, length-below count sl (number_at 4 sl.1) (length-number 4 sl.1), length-span is_slash 6 s)
+length-from count s = let sl = span is_slash 6 s in omega (arith, length-below count sl (number_at 4 sl.1) (length-number 4 sl.1), length-span is_slash 6 s)
 
 length_at-is : (s : List ℕ) → length_at s ≡ from_count (number_at 4 s).0 (number_at 4 s).1
 unfolding length_at from_count
@@ -149,9 +137,7 @@ whole-reaches count x =
 -- one slash, and no further one
 one_slash : (count x : List ℕ) → begins is_slash x ≡ false → from_count count (47 ∷ x) ≡ below_at count (47 ∷ [], x) (number_at 4 x)
 unfolding from_count
-one_slash count x h =
-    let one : span is_slash 6 (47 ∷ x) ≡ (47 ∷ [], x) = span-append is_slash 5 (47 ∷ []) x refl ∙ rw (span-stops is_slash 5 x h) refl in
-    rw one refl
+one_slash count x h = let one : span is_slash 6 (47 ∷ x) ≡ (47 ∷ [], x) = span-append is_slash 5 (47 ∷ []) x refl ∙ rw (span-stops is_slash 5 x h) refl in rw one refl
 
 no_slash : (d : ℕ) (ds x : List ℕ) → IsNumber 4 (d ∷ ds) → begins is_slash ((d ∷ ds) ++ x) ≡ false
 no_slash d ds x good = let r = digit_range d (and_parts _ _ good.digits).0 in ne_eqb d 47 (omega (arith, r.0))
@@ -159,10 +145,7 @@ no_slash d ds x good = let r = digit_range d (and_parts _ _ good.digits).0 in ne
 over-reaches : (count : List ℕ) (d : ℕ) (ds x : List ℕ) → IsNumber 4 (d ∷ ds) → Stops goes_on x (over count (d ∷ ds)) (from_count count (47 ∷ ((d ∷ ds) ++ x)))
 over-reaches count d ds x good =
     rw (one_slash count ((d ∷ ds) ++ x) (no_slash d ds x good), number-reads-as 4 (d ∷ ds) x good)
-    (elim (span-less is_digit (4 - length (d ∷ ds)) x) [
-      | inl shorter ↦ inl (shorter.0, either_left x shorter.1)
-      | inr same ↦ inr (rw same (ap (λ t. read_as (over count (d ∷ t)) x) (append-nil ds)))
-    ])
+    (elim (span-less is_digit (4 - length (d ∷ ds)) x) [ inl shorter ↦ inl (shorter.0, either_left x shorter.1) | inr same ↦ inr (rw same (ap (λ t. read_as (over count (d ∷ t)) x) (append-nil ds))) ])
 
 -- a number was read, so it is below the slash
 below-one : (count x : List ℕ) (be : List ℕ × List ℕ) → x ≡ be.0 ++ be.1 → length be.1 < length x → length (below_at count (47 ∷ [], x) be).1 < length x
@@ -172,11 +155,7 @@ below-one count x (d ∷ ds, last) e h = h
 -- up to six slashes, and no more of them
 last_slash : (count : List ℕ) (k : ℕ) (x : List ℕ) → 1 ≤ k → Stops goes_on x (halved count k) (below_at count (copies k 47 [], x) (number_at 4 x))
 last_slash count zero x some = absurd (omega (arith, some))
-last_slash count (suc zero) x some =
-    elim (number-less 4 x) [
-      | inl shorter ↦ inl (below-one count x (number_at 4 x) (number-takes 4 x) shorter.0, either_left x shorter.1)
-      | inr same ↦ inr (rw same refl)
-    ]
+last_slash count (suc zero) x some = elim (number-less 4 x) [ inl shorter ↦ inl (below-one count x (number_at 4 x) (number-takes 4 x) shorter.0, either_left x shorter.1) | inr same ↦ inr (rw same refl) ]
 last_slash count (suc (suc k)) x some = inr (ap (λ n. read_as (halved count (suc (suc n))) x) (length-copies k))
 
 counted : (count s : List ℕ) (sl : List ℕ × List ℕ) → span is_slash 6 s ≡ sl → from_count count s ≡ below_at count sl (number_at 4 sl.1)
@@ -185,10 +164,7 @@ counted count s sl e = rw e refl
 
 halved-reaches : (count : List ℕ) (k : ℕ) (x : List ℕ) → 1 ≤ k → k ≤ 6 → Stops goes_on x (halved count k) (from_count count (copies k 47 x))
 halved-reaches count k x some few =
-    let slashes = copies k 47 [] in
-    let n = 6 - k in
-    let six : length slashes + n ≡ 6 = omega (arith, length-copies k) in
-    let m = span is_slash n x in
+    let slashes = copies k 47 [] in let n = 6 - k in let six : length slashes + n ≡ 6 = omega (arith, length-copies k) in let m = span is_slash n x in
     let read : span is_slash 6 (copies k 47 x) ≡ (slashes ++ m.0, m.1) = rw (copies-split k x) (subst (λ (l : ℕ). span is_slash l (slashes ++ x) ≡ (slashes ++ m.0, m.1)) six (span-append is_slash n slashes x (copies-pass k))) in
     let whole_read : from_count count (copies k 47 x) ≡ below_at count (slashes ++ m.0, m.1) (number_at 4 m.1) = counted count (copies k 47 x) (slashes ++ m.0, m.1) read in
     rw whole_read (elim (span-less is_slash n x) [

@@ -7,19 +7,9 @@ use Rattle.abc_notes.{specs.{Runs.{skip, span_all, begins, is_mark}, Lengths.{Le
 sign_at-takes : (s : List ℕ) → s ≡ sign_then (sign_at s).0 (sign_at s).1
 unfolding sign_at
 sign_at-takes s =
-    let up = skip 94 s in
-    let up_two = skip 94 up.1 in
-    let down = skip 95 s in
-    let down_two = skip 95 down.1 in
-    let plain = skip 61 s in
-    let R : Type 0 = Option Alter × List ℕ in
-    let P : R → Type 0 = λ z. s ≡ sign_then z.0 z.1 in
-    let two_up : R = (Some Sharp2, up_two.1) in
-    let one_up : R = (Some Sharp, up.1) in
-    let two_down : R = (Some Flat2, down_two.1) in
-    let one_down : R = (Some Flat, down.1) in
-    let level : R = (Some Natural, plain.1) in
-    let bare : R = (None, s) in
+    let up = skip 94 s in let up_two = skip 94 up.1 in let down = skip 95 s in let down_two = skip 95 down.1 in let plain = skip 61 s in let R : Type 0 = Option Alter × List ℕ in
+    let P : R → Type 0 = λ z. s ≡ sign_then z.0 z.1 in let two_up : R = (Some Sharp2, up_two.1) in let one_up : R = (Some Sharp, up.1) in let two_down : R = (Some Flat2, down_two.1) in
+    let one_down : R = (Some Flat, down.1) in let level : R = (Some Natural, plain.1) in let bare : R = (None, s) in
     cond_both {A = R} up.0 (cond up_two.0 two_up one_up) (cond down.0 (cond down_two.0 two_down one_down) (cond plain.0 level bare)) P
     (λ u. let e : s ≡ 94 ∷ up.1 = skip-takes 94 s ∙ rw u refl in
     cond_both {A = R} up_two.0 two_up one_up P
@@ -87,9 +77,7 @@ TakesNote s read = IfSome read (λ z. (s ≡ note_then z.0 z.1) × IsNote z.0)
 from-takes : (s : List ℕ) (sign : Option Alter) (b : ℕ) (rest : List ℕ) (l : Option (Bool × Letter)) → s ≡ sign_then sign (b ∷ rest) → IfSome l (λ z. b ≡ letter_byte z.0 z.1) → TakesNote s (note_from sign l rest)
 from-takes s sign b rest None e is = tt
 from-takes s sign b rest (Some l) e is =
-    let marks = span_all is_mark rest in
-    let len = length_at marks.1 in
-    let p = length_at-takes marks.1 in
+    let marks = span_all is_mark rest in let len = length_at marks.1 in let p = length_at-takes marks.1 in
     let behind : rest ≡ marks.0 ++ length_then len.0 len.1 = span_all-takes is_mark rest ∙ ap (λ t. marks.0 ++ t) p.0 in (
       e ∙ ap (λ t. sign_then sign (t ∷ rest)) is ∙ ap (λ t. sign_then sign (letter_byte l.0 l.1 ∷ t)) behind,
       record { marks = span_all-pass is_mark rest; length = p.1 },
@@ -112,9 +100,7 @@ abbrev pub NoteStops : List ℕ → NoteForm → Option (NoteForm × List ℕ) �
 NoteStops x f read = (z : NoteForm × List ℕ) × (read ≡ Some z) × (((length z.1 < length x) × (begins note_goes_on x ≡ true)) ⊎ (z ≡ (f, x)))
 
 digit_no_mark : (d : ℕ) → is_digit d ≡ true → is_mark d ≡ false
-digit_no_mark d h =
-    let r = digit_range d h in
-    or_from (eqb d 39) (eqb d 44) (ne_eqb d 39 (omega (arith, r.0))) (ne_eqb d 44 (omega (arith, r.0)))
+digit_no_mark d h = let r = digit_range d h in or_from (eqb d 39) (eqb d 44) (ne_eqb d 39 (omega (arith, r.0))) (ne_eqb d 44 (omega (arith, r.0)))
 
 count_no_mark : (d : ℕ) (ds : List ℕ) → IsNumber 4 (d ∷ ds) → is_mark d ≡ false
 count_no_mark d ds good = digit_no_mark d (and_parts _ _ good.digits).0
@@ -130,9 +116,7 @@ length_no_mark (halved [] (suc k)) x good = inl refl
 length_no_mark (halved (d ∷ ds) k) x good = inl (count_no_mark d ds good.0)
 
 finish : Option Alter → Bool → Letter → List ℕ × List ℕ → NoteForm × List ℕ
-finish sign low letter marks =
-    let len = length_at marks.1 in
-    (record { sign = sign; low = low; letter = letter; marks = marks.0; length = len.0 }, len.1)
+finish sign low letter marks = let len = length_at marks.1 in (record { sign = sign; low = low; letter = letter; marks = marks.0; length = len.0 }, len.1)
 
 note-read : (sign : Option Alter) (low : Bool) (letter : Letter) (r : List ℕ) → note_at (sign_then sign (letter_byte low letter ∷ r)) ≡ Some (finish sign low letter (span_all is_mark r))
 unfolding note_at finish
@@ -156,11 +140,7 @@ Ends x f z = ((length z.1 < length x) × (begins note_goes_on x ≡ true)) ⊎ (
 -- the marks were read as they stand
 exact : (f : NoteForm) (x : List ℕ) → IsNote f → Ends x f (finish f.sign f.low f.letter (f.marks, length_then f.length x))
 unfolding finish
-exact f x good =
-    elim (length_at-reaches f.length x good.length) [
-      | inl shorter ↦ inl (shorter.0, length_first x shorter.1)
-      | inr same ↦ inr (rw same refl)
-    ]
+exact f x good = elim (length_at-reaches f.length x good.length) [ inl shorter ↦ inl (shorter.0, length_first x shorter.1) | inr same ↦ inr (rw same refl) ]
 
 marks-read : (f : NoteForm) (x : List ℕ) → IsNote f → Ends x f (finish f.sign f.low f.letter (span_all is_mark (f.marks ++ length_then f.length x)))
 marks-read f x good =
@@ -180,6 +160,4 @@ marks-read f x good =
     ])
 
 pub note_at-reaches : (f : NoteForm) (x : List ℕ) → IsNote f → NoteStops x f (note_at (note_then f x))
-note_at-reaches f x good =
-    let r = f.marks ++ length_then f.length x in
-    (finish f.sign f.low f.letter (span_all is_mark r), note-read f.sign f.low f.letter r, marks-read f x good)
+note_at-reaches f x good = let r = f.marks ++ length_then f.length x in (finish f.sign f.low f.letter (span_all is_mark r), note-read f.sign f.low f.letter r, marks-read f x good)

@@ -18,21 +18,14 @@ module _ {I : Type 0} {Stands : I → List ℕ → List ℕ → Type 0} {at : Li
   longest_of s z e = record {
     stands = stands_at s z e;
     longest = λ other behind stands.
-        let o = r.reaches other s behind stands in
-        let same : z ≡ o.0 = same_Some z o.0 (sym e ∙ o.1) in
-        elim o.2 [ inl shorter ↦ rw same (omega (arith, shorter)) | inr equal ↦ rw (same, equal) (omega arith) ];
+        let o = r.reaches other s behind stands in let same : z ≡ o.0 = same_Some z o.0 (sym e ∙ o.1) in elim o.2 [ inl shorter ↦ rw same (omega (arith, shorter)) | inr equal ↦ rw (same, equal) (omega arith) ];
   }
 
   pub none_of : (s : List ℕ) → at s ≡ None → HasNone I Stands s
   none_of s e part rest stands = let o = r.reaches part s rest stands in let same : None ≡ Some o.0 = sym e ∙ o.1 in cc
 
   pub longest_is : (s : List ℕ) (part : I) (rest : List ℕ) → IsLongest I Stands s part rest → at s ≡ Some (part, rest)
-  longest_is s part rest l =
-      let o = r.reaches part s rest l.stands in
-      elim o.2 [
-        | inl shorter ↦ absurd (omega (arith, shorter, l.longest o.0.0 o.0.1 (stands_at s o.0 o.1)))
-        | inr equal ↦ o.1 ∙ ap Some equal
-      ]
+  longest_is s part rest l = let o = r.reaches part s rest l.stands in elim o.2 [ inl shorter ↦ absurd (omega (arith, shorter, l.longest o.0.0 o.0.1 (stands_at s o.0 o.1))) | inr equal ↦ o.1 ∙ ap Some equal ]
 
   nothing_there : (o : Option (I × List ℕ)) → at [] ≡ o → o ≡ None
   nothing_there None e = refl
@@ -44,9 +37,7 @@ module _ {I : Type 0} {Stands : I → List ℕ → List ℕ → Type 0} {at : Li
   same_step : (n m : ℕ) (s : List ℕ) (o : Option (I × List ℕ)) → at s ≡ o → length s ≤ suc n → length s ≤ suc m →
       ((t : List ℕ) → length t ≤ n → length t ≤ m → walk_from at n t ≡ walk_from at m t) → walk_on (walk_from at n) s o ≡ walk_on (walk_from at m) s o
   same_step n m s None e a b next = refl
-  same_step n m s (Some z) e a b next =
-      let shorter = less s z e in
-      rw (next z.1 (omega (arith, shorter, a)) (omega (arith, shorter, b))) refl
+  same_step n m s (Some z) e a b next = let shorter = less s z e in rw (next z.1 (omega (arith, shorter, a)) (omega (arith, shorter, b))) refl
 
   empty_walk : (m : ℕ) → walk_on (walk_from at m) [] (at []) ≡ ([], [])
   empty_walk m = rw at_nil refl
@@ -95,9 +86,7 @@ module _ {I : Type 0} {Stands : I → List ℕ → List ℕ → Type 0} {at : Li
       nothing (x ∷ s) e done = absurd (let left = ap (λ (w : List I × List ℕ). length w.1) (walk-none (x ∷ s) e) in omega (arith, left, done))
 
       goes_on : (s : List ℕ) (z : I × List ℕ) → at s ≡ Some z → (length (walk at z.1).1 ≡ 0 → Parts I Stands z.1 (walk at z.1).0) → length (walk at s).1 ≡ 0 → Parts I Stands s (walk at s).0
-      goes_on s z e next done =
-          let step = walk-some s z e in
-          rw step (then_part s z.0 z.1 (walk at z.1).0 (longest_of s z e) (next (sym (ap (λ (w : List I × List ℕ). length w.1) step) ∙ done)))
+      goes_on s z e next done = let step = walk-some s z e in rw step (then_part s z.0 z.1 (walk at z.1).0 (longest_of s z e) (next (sym (ap (λ (w : List I × List ℕ). length w.1) step) ∙ done)))
 
   pub walk_of_parts : (s : List ℕ) (is : List I) → Parts I Stands s is → walk at s ≡ (is, [])
   walk_of_parts _ _ no_part = walk-none [] at_nil

@@ -16,8 +16,7 @@ run_off-takes b [] = refl
 run_off-takes b (x ∷ s) =
     cond_both (eqb x b) (1 + prefix_len (λ y. eqb y b) s) 0 (λ n. x ∷ s ≡ copies n b (drop n (x ∷ s)))
     (λ e. let k = prefix_len (λ y. eqb y b) s in
-    let more : 1 + k ≡ suc k = omega arith in
-    let is : x ≡ b = eqb-true x b e in
+    let more : 1 + k ≡ suc k = omega arith in let is : x ≡ b = eqb-true x b e in
     rw more (ap (λ z. z ∷ s) is ∙ ap (λ z. b ∷ z) (run_off-takes b s)))
     (λ e. refl)
 
@@ -33,9 +32,7 @@ pub run_off-copies : (b n : ℕ) (s : List ℕ) → run_off b (copies n b s) ≡
 unfolding run_off
 run_off-copies b zero s = rw zero-add refl
 run_off-copies b (suc n) s =
-    let k = prefix_len (λ y. eqb y b) (copies n b s) in
-    let more : 1 + k ≡ suc k = omega arith in
-    let sum : suc n + prefix_len (λ y. eqb y b) s ≡ suc (n + prefix_len (λ y. eqb y b) s) = omega arith in
+    let k = prefix_len (λ y. eqb y b) (copies n b s) in let more : 1 + k ≡ suc k = omega arith in let sum : suc n + prefix_len (λ y. eqb y b) s ≡ suc (n + prefix_len (λ y. eqb y b) s) = omega arith in
     rw (same b, more, sum) (ap (λ p. (suc p.0, p.1)) (run_off-copies b n s))
 
 pub run_off-lacks : (b : ℕ) (s : List ℕ) → Lacks b s → run_off b s ≡ (0, s)

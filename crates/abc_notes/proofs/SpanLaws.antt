@@ -5,8 +5,7 @@ use Rattle.abc_notes.specs.Runs.{span, span_all, begins}
 pub span-cons : (p : ℕ → Bool) (n x : ℕ) (s : List ℕ) → span p (suc n) (x ∷ s) ≡ cond {A = List ℕ × List ℕ} (p x) (x ∷ (span p n s).0, (span p n s).1) ([], x ∷ s)
 unfolding span
 span-cons p n x s =
-    let k = prefix_len p (take n s) in
-    let more : 1 + k ≡ suc k = omega arith in
+    let k = prefix_len p (take n s) in let more : 1 + k ≡ suc k = omega arith in
     cond_both (p x) (1 + k) 0 (λ m. (take m (x ∷ s), drop m (x ∷ s)) ≡ cond {A = List ℕ × List ℕ} (p x) (x ∷ take k s, drop k s) ([], x ∷ s))
     (λ e. rw (e, more) refl)
     (λ e. rw e refl)
@@ -60,9 +59,7 @@ span-less p (suc n) (x ∷ s) =
 pub span-append : (p : ℕ → Bool) (n : ℕ) (ds x : List ℕ) → list_all p ds ≡ true → span p (length ds + n) (ds ++ x) ≡ (ds ++ (span p n x).0, (span p n x).1)
 span-append p n [] x h = rw zero-add refl
 span-append p n (d ∷ ds) x h =
-    let both = and_parts (p d) (list_all p ds) h in
-    let more : suc (length ds) + n ≡ suc (length ds + n) = omega arith in
-    rw (more, span-cons, both.0) (ap (λ z. (d ∷ z.0, z.1)) (span-append p n ds x both.1))
+    let both = and_parts (p d) (list_all p ds) h in let more : suc (length ds) + n ≡ suc (length ds + n) = omega arith in rw (more, span-cons, both.0) (ap (λ z. (d ∷ z.0, z.1)) (span-append p n ds x both.1))
 
 -- with no limit
 pub span_all-is : (p : ℕ → Bool) (n : ℕ) (s : List ℕ) → length s ≤ n → span_all p s ≡ span p n s

@@ -79,9 +79,7 @@ bracket_here head (byte ∷ rest) = if byte == code "]" && head then Some (byte 
 abbrev pub bracket_in : Bool → Bool → List ℕ → Option (List ℕ × List ℕ) → Option (List ℕ)
 bracket_in bang head text None = None
 bracket_in bang head text (Some named) =
-    let inside = span_all is_inside named.0 in
-    let w = walk (inner_at bang) inside.0 in
-    if not (length inside.1 == 0) && (is_done w && (head || has_head w.0)) then Some (drop (length inside.0) text) else None
+    let inside = span_all is_inside named.0 in let w = walk (inner_at bang) inside.0 in if not (length inside.1 == 0) && (is_done w && (head || has_head w.0)) then Some (drop (length inside.0) text) else None
 
 -- the bracket that closes a chord where the exclamation mark in front begins no name
 unfoldable pub bracket_in_name : Bool → Bool → List ℕ → Option (List ℕ)
@@ -100,9 +98,7 @@ abbrev pub chord_from : Bool → List ℕ → Option (List ℕ) → Option (Chor
 chord_from bang text None = None
 chord_from bang text (Some []) = None
 chord_from bang text (Some (bracket ∷ rest)) =
-    let inside = take (length text - suc (length rest)) text in
-    let len = length_at rest in
-    Some (record { inside = inside; parts = (walk (inner_at bang) inside).0; length = len.0 }, len.1)
+    let inside = take (length text - suc (length rest)) text in let len = length_at rest in Some (record { inside = inside; parts = (walk (inner_at bang) inside).0; length = len.0 }, len.1)
 
 unfoldable pub chord_at : Bool → List ℕ → Option (ChordForm × List ℕ)
 chord_at bang text = chord_from bang text (bracket_at bang text)

@@ -109,9 +109,7 @@ brace_here (byte ∷ rest) = if byte == code "}" then Some (byte ∷ rest) else 
 -- the first brace in a name, where parts alone stand before it
 abbrev pub brace_in : Bool → List ℕ → Option (List ℕ × List ℕ) → Option (List ℕ)
 brace_in bang text None = None
-brace_in bang text (Some named) =
-    let inside = span_all is_in_grace named.0 in
-    if not (length inside.1 == 0) && is_done (walk (grace_part_at bang) inside.0) then Some (drop (length inside.0) text) else None
+brace_in bang text (Some named) = let inside = span_all is_in_grace named.0 in if not (length inside.1 == 0) && is_done (walk (grace_part_at bang) inside.0) then Some (drop (length inside.0) text) else None
 
 -- the brace that closes a group where the exclamation mark in front begins no name
 unfoldable pub brace_in_name : Bool → List ℕ → Option (List ℕ)
@@ -167,9 +165,7 @@ brace_in_part bang (chorded f) text = option_map (λ brace. brace ++ drop (suc (
 abbrev pub grace_from : Bool → Bool → List ℕ → Option (List ℕ) → Option (GraceForm × List ℕ)
 grace_from bang slash text None = None
 grace_from bang slash text (Some []) = None
-grace_from bang slash text (Some (brace ∷ rest)) =
-    let inside = take (length text - suc (length rest)) text in
-    Some (record { slash = slash; inside = inside; parts = (walk (grace_part_at bang) inside).0 }, rest)
+grace_from bang slash text (Some (brace ∷ rest)) = let inside = take (length text - suc (length rest)) text in Some (record { slash = slash; inside = inside; parts = (walk (grace_part_at bang) inside).0 }, rest)
 
 unfoldable pub grace_at : Bool → List ℕ → Option (GraceForm × List ℕ)
 grace_at bang text = let slash = skip (code "/") text in grace_from bang slash.0 slash.1 (brace_at bang slash.1)

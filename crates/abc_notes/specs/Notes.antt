@@ -59,11 +59,7 @@ note_read head len rest = (head, len, rest)
 -- reading from left to right
 unfoldable pub sign_at : List ℕ → Option Alter × List ℕ
 sign_at s =
-    let up = skip (code "^") s in
-    let up_two = skip (code "^") up.1 in
-    let down = skip (code "_") s in
-    let down_two = skip (code "_") down.1 in
-    let plain = skip (code "=") s in
+    let up = skip (code "^") s in let up_two = skip (code "^") up.1 in let down = skip (code "_") s in let down_two = skip (code "_") down.1 in let plain = skip (code "=") s in
     if up.0 then (if up_two.0 then (Some Sharp2, up_two.1) else (Some Sharp, up.1))
     else (if down.0 then (if down_two.0 then (Some Flat2, down_two.1) else (Some Flat, down.1))
     else (if plain.0 then (Some Natural, plain.1) else (None, s)))
@@ -89,10 +85,7 @@ letter_at b = either_letter (upper_at b) (lower_at b)
 -- what stands behind the sign and the letter
 abbrev pub note_from : Option Alter → Option (Bool × Letter) → List ℕ → Option (NoteForm × List ℕ)
 note_from sign None rest = None
-note_from sign (Some l) rest =
-    let marks = span_all is_mark rest in
-    let len = length_at marks.1 in
-    Some (record { sign = sign; low = l.0; letter = l.1; marks = marks.0; length = len.0 }, len.1)
+note_from sign (Some l) rest = let marks = span_all is_mark rest in let len = length_at marks.1 in Some (record { sign = sign; low = l.0; letter = l.1; marks = marks.0; length = len.0 }, len.1)
 
 abbrev pub note_behind : Option Alter → List ℕ → Option (NoteForm × List ℕ)
 note_behind sign [] = None

@@ -28,15 +28,11 @@ reach_by wrap f x o r = record {
 
 note-reaches : (f : NoteForm) (x : List ℕ) → IsNote f → Reaches x (note_form f) (note_read (note_then f x))
 unfolding note_read
-note-reaches f x good =
-    let r = note_at-reaches f x good in
-    reach_by note_form f x _ (r.0, r.1, elim r.2 [ inl shorter ↦ inl shorter.0 | inr equal ↦ inr equal ])
+note-reaches f x good = let r = note_at-reaches f x good in reach_by note_form f x _ (r.0, r.1, elim r.2 [ inl shorter ↦ inl shorter.0 | inr equal ↦ inr equal ])
 
 bar-reaches : (f : BarForm) (x : List ℕ) → IsBar f → Reaches x (bar_form f) (bar_read (bar_then f x))
 unfolding bar_read
-bar-reaches f x good =
-    let r = form_at-reaches f x good in
-    reach_by bar_form f x _ (r.0, r.1, elim r.2 [ inl shorter ↦ inl shorter.0 | inr equal ↦ inr equal ])
+bar-reaches f x good = let r = form_at-reaches f x good in reach_by bar_form f x _ (r.0, r.1, elim r.2 [ inl shorter ↦ inl shorter.0 | inr equal ↦ inr equal ])
 
 either-reaches : (x : List ℕ) (f : Form) (r other : Read) → Reaches x f r → Reaches x f (or_else r other)
 either-reaches x f (Some z) other t = t
@@ -59,8 +55,7 @@ rest-reaches seen len x good =
 gap-reaches : (len : LengthForm) (x : List ℕ) → IsLength len → Reaches x (gap_form len) (gap_read (length_then len x))
 unfolding gap_read
 gap-reaches len x good =
-    let z = length_at (length_then len x) in
-    record { form = gap_form z.0; rest = z.1; is = refl; ends = elim (length_at-reaches len x good) [ inl shorter ↦ inl shorter.0 | inr equal ↦ inr (rw equal refl) ] }
+    let z = length_at (length_then len x) in record { form = gap_form z.0; rest = z.1; is = refl; ends = elim (length_at-reaches len x good) [ inl shorter ↦ inl shorter.0 | inr equal ↦ inr (rw equal refl) ] }
 
 measures-reaches : (seen : Bool) (count x : List ℕ) → IsCount 3 count → Reaches x (measures_form seen count) (measures_read (measures_byte seen) (count ++ x))
 unfolding measures_read
@@ -112,13 +107,11 @@ says-reaches text x pass = record { form = says_form text; rest = x; is = rw (sp
 
 inline-reaches : (letter : ℕ) (text x : List ℕ) → list_all is_inside text ≡ true → Reaches x (inline_form letter text) (inline_read (letter ∷ 58 ∷ (text ++ (93 ∷ x))))
 unfolding inline_read
-inline-reaches letter text x pass =
-    record { form = inline_form letter text; rest = x; is = rw (span_all-append is_inside text (93 ∷ x) pass, span_all-stops is_inside (93 ∷ x) refl, append-nil) refl; ends = inr refl }
+inline-reaches letter text x pass = record { form = inline_form letter text; rest = x; is = rw (span_all-append is_inside text (93 ∷ x) pass, span_all-stops is_inside (93 ∷ x) refl, append-nil) refl; ends = inr refl }
 
 plus-reaches : (text x : List ℕ) → list_all is_plus_byte text ≡ true → Reaches x (plus_form text) (plus_read (text ++ (43 ∷ x)))
 unfolding plus_read
-plus-reaches text x pass =
-    record { form = plus_form text; rest = x; is = rw (span_all-append is_plus_byte text (43 ∷ x) pass, span_all-stops is_plus_byte (43 ∷ x) refl, append-nil) refl; ends = inr refl }
+plus-reaches text x pass = record { form = plus_form text; rest = x; is = rw (span_all-append is_plus_byte text (43 ∷ x) pass, span_all-stops is_plus_byte (43 ∷ x) refl, append-nil) refl; ends = inr refl }
 
 lone_plus : (x text behind : List ℕ) → x ≡ text ++ behind → Reaches x (passed_form 43) (plus_closed x (text, behind))
 lone_plus x text [] e = same x (passed_form 43)
@@ -163,12 +156,7 @@ arrow_same false = refl
 broken-reaches : (before : Before) (right : Bool) (k : ℕ) (x : List ℕ) → is_broken right before ≡ false → suc k ≤ 3 → Reaches x (broken_form right (suc k)) (broken_read before (arrow right) (copies k (arrow right) x))
 unfolding broken_read
 broken-reaches before right k x allowed few =
-    let b = arrow right in
-    let p : ℕ → Bool = λ y. eqb y b in
-    let own = copies k b [] in
-    let n = 2 - k in
-    let m = span p n x in
-    let two : length own + n ≡ 2 = omega (arith, length-copies b k, few) in
+    let b = arrow right in let p : ℕ → Bool = λ y. eqb y b in let own = copies k b [] in let n = 2 - k in let m = span p n x in let two : length own + n ≡ 2 = omega (arith, length-copies b k, few) in
     let spanned : span p 2 (copies k b x) ≡ (own ++ m.0, m.1) = rw (copies-split b k x) (subst (λ (l : ℕ). span p l (own ++ x) ≡ (own ++ m.0, m.1)) two (span-append p n own x (copies-pass b k (arrow_same right)))) in
     record {
       form = broken_form right (suc (length (own ++ m.0)));
@@ -224,8 +212,7 @@ bar_at-reaches bang before (colons (suc n)) x good = bar-reaches (colons (suc n)
 
 pub length-bar : (f : BarForm) (x : List ℕ) → IsBar f → length x < length (bar_then f x)
 length-bar (signs d b o n c a) x good =
-    let t = maybe c 93 (copies a 58 x) in
-    let u = maybe o 91 (copies n 124 t) in
+    let t = maybe c 93 (copies a 58 x) in let u = maybe o 91 (copies n 124 t) in
     omega (arith, good, length-maybe d 46 (copies b 58 u), length-copies_then b 58 u, length-maybe o 91 (copies n 124 t), length-copies_then n 124 t, length-maybe c 93 (copies a 58 x), length-copies_then a 58 x)
 length-bar (colons n) x good = omega (arith, good, length-copies_then n 58 x)
 
@@ -239,8 +226,7 @@ dot_apart c x t no_dot e = let is : 46 ≡ c = first_is 46 c x t e in both_ways 
 dot_longer : (f : BarForm) (x rest : List ℕ) → IsBar f → 46 ∷ x ≡ bar_then f rest → length rest < length x
 dot_longer (signs d b o zero c a) x rest good e = absurd (omega (arith, good))
 dot_longer (signs true b o (suc m) c a) x rest good e =
-    let t = maybe c 93 (copies a 58 rest) in
-    let u = maybe o 91 (copies (suc m) 124 t) in
+    let t = maybe c 93 (copies a 58 rest) in let u = maybe o 91 (copies (suc m) 124 t) in
     omega (arith, ap length e, length-copies_then b 58 u, length-maybe o 91 (copies (suc m) 124 t), length-copies_then (suc m) 124 t, length-maybe c 93 (copies a 58 rest), length-copies_then a 58 rest)
 dot_longer (signs false (suc b) o (suc m) c a) x rest good e = absurd (dot_apart 58 x _ refl e)
 dot_longer (signs false zero true (suc m) c a) x rest good e = absurd (dot_apart 91 x _ refl e)
@@ -294,9 +280,7 @@ opened_ending : (bang : Bool) (d : ℕ) (t : List ℕ) → is_digit d ≡ true �
 opened_ending bang d t digit = rw (ne_eqb d 124 (let lt = digit_below d digit in omega arith), digit) refl
 
 opened_inline : (bang : Bool) (l : ℕ) (t : List ℕ) → is_letter l ≡ true → opened (opening (l ∷ 58 ∷ t)) bang (l ∷ 58 ∷ t) ≡ inline_read (l ∷ 58 ∷ t)
-opened_inline bang l t letter =
-    let p = and_parts (not (eqb l 124)) (not (is_digit l)) (letter_apart l letter) in
-    rw (not-true (eqb l 124) p.0, not-true (is_digit l) p.1, letter) refl
+opened_inline bang l t letter = let p = and_parts (not (eqb l 124)) (not (is_digit l)) (letter_apart l letter) in rw (not-true (eqb l 124) p.0, not-true (is_digit l) p.1, letter) refl
 
 opened_chord : (bang : Bool) (f : ChordForm) (x : List ℕ) → opening (chord_then f []) ≡ Opening.Chord → opened (opening (chord_then f x)) bang (chord_then f x) ≡ chord_read bang (chord_then f x)
 opened_chord bang f x h = let e : opening (chord_then f x) ≡ Opening.Chord = opening-behind f.inside (length_then f.length x) (length_then f.length []) ∙ h in rw e refl
@@ -304,8 +288,7 @@ opened_chord bang f x h = let e : opening (chord_then f x) ≡ Opening.Chord = o
 ending_at-reaches : (bang : Bool) (before : Before) (bracket : Bool) (d : ℕ) (more x : List ℕ) → is_digit d ≡ true → list_all is_ending more ≡ true → IsAllowed before (ending_form bracket d more) →
     Reaches x (ending_form bracket d more) (piece_at bang before (spelled (ending_form bracket d more) x))
 unfolding class_of
-ending_at-reaches bang before true d more x digit pass allowed =
-    rw (at_class bang before 91 (d ∷ (more ++ x)) Class.Bracket refl ∙ opened_ending bang d (more ++ x) digit) (ending-reaches true d more x digit pass)
+ending_at-reaches bang before true d more x digit pass allowed = rw (at_class bang before 91 (d ∷ (more ++ x)) Class.Bracket refl ∙ opened_ending bang d (more ++ x) digit) (ending-reaches true d more x digit pass)
 ending_at-reaches bang before false d more x digit pass allowed = rw (at_class bang before d (more ++ x) Class.Digit (digit_class d digit), allowed) (ending-reaches false d more x digit pass)
 
 pub piece_at-reaches : (bang : Bool) (before : Before) (f : Form) (x : List ℕ) → IsGood bang f → IsAllowed before f → Reaches x f (piece_at bang before (spelled f x))

@@ -16,7 +16,6 @@ pub piece_reader : (bang : Bool) (before : Before) → Reader Form (StandsAt ban
 piece_reader bang before = record {
   takes = λ s. stands bang before s (piece_at bang before s) (piece_at-takes bang before s);
   reaches = λ f s x t.
-      let o = piece_at-reaches bang before f x t.good t.allowed in
-      ((o.form, o.rest), ap (piece_at bang before) t.cut ∙ o.is, elim o.ends [ inl shorter ↦ inl shorter | inr same ↦ inr (some_is o.form f o.rest x same) ]);
+      let o = piece_at-reaches bang before f x t.good t.allowed in ((o.form, o.rest), ap (piece_at bang before) t.cut ∙ o.is, elim o.ends [ inl shorter ↦ inl shorter | inr same ↦ inr (some_is o.form f o.rest x same) ]);
   longer = λ f s x t. rw t.cut (longer bang f x t.good);
 }

@@ -30,9 +30,7 @@ bar-takes bang before s = from_bar bang before s (form_at s) (form_at-takes s)
 
 rest-takes : (bang : Bool) (before : Before) (b : ℕ) (s : List ℕ) → b ≡ rest_byte (eqb b 122) → Takes bang before (b ∷ s) (rest_read b s)
 unfolding rest_read
-rest-takes bang before b s h =
-    let t = length_at-takes s in
-    record { good = t.1; allowed = tt; cut = ap (λ x. x ∷ s) h ∙ ap (λ x. rest_byte (eqb b 122) ∷ x) t.0 }
+rest-takes bang before b s h = let t = length_at-takes s in record { good = t.1; allowed = tt; cut = ap (λ x. x ∷ s) h ∙ ap (λ x. rest_byte (eqb b 122) ∷ x) t.0 }
 
 gap-takes : (bang : Bool) (before : Before) (s : List ℕ) → Takes bang before (121 ∷ s) (gap_read s)
 unfolding gap_read
@@ -128,15 +126,12 @@ digit-takes bang before b s h =
 
 same_bytes : (b : ℕ) (xs rest : List ℕ) → list_all (λ x. eqb x b) xs ≡ true → xs ++ rest ≡ copies (length xs) b rest
 same_bytes b [] rest h = refl
-same_bytes b (x ∷ xs) rest h =
-    let p = and_parts _ _ h in
-    ap (λ y. y ∷ (xs ++ rest)) (eqb-true x b p.0) ∙ ap (λ y. b ∷ y) (same_bytes b xs rest p.1)
+same_bytes b (x ∷ xs) rest h = let p = and_parts _ _ h in ap (λ y. y ∷ (xs ++ rest)) (eqb-true x b p.0) ∙ ap (λ y. b ∷ y) (same_bytes b xs rest p.1)
 
 broken-takes : (bang : Bool) (before : Before) (b : ℕ) (s : List ℕ) → b ≡ arrow (eqb b 62) → Takes bang before (b ∷ s) (broken_read before b s)
 unfolding broken_read
 broken-takes bang before b s h =
-    let right = eqb b 62 in
-    let more = span (λ x. eqb x b) 2 s in
+    let right = eqb b 62 in let more = span (λ x. eqb x b) 2 s in
     cond_both (is_broken right before) None (read (broken_form right (suc (length more.0))) more.1) (Takes bang before (b ∷ s))
     (λ e. tt)
     (λ e. record {

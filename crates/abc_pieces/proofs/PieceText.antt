@@ -6,9 +6,7 @@ use Rattle.abc_pieces.{specs.{declared.token.{Before.Before, Token.Token, Class.
 pub ending_is : (bracket : Bool) (s : List ℕ) (b : ℕ) (rest : List ℕ) (k : ℕ) (text after : List ℕ) → s ≡ b ∷ rest → is_digit b ≡ true → k ≡ prefix_len is_ending rest → text ≡ take (1 + k) s → after ≡ drop (1 + k) s →
     Some (seen (Some (Token.Ending text)) Before.Other after) ≡ meaning (ending_read bracket s)
 unfolding ending_read span_all
-ending_is bracket s b rest k text after cut digit count front back =
-    let more : 1 + k ≡ suc k = omega arith in
-    rw (front, back, more, cut, digit, ← count) refl
+ending_is bracket s b rest k text after cut digit count front back = let more : 1 + k ≡ suc k = omega arith in rw (front, back, more, cut, digit, ← count) refl
 
 pub letter_or_bar : (r : Read) (t : Option Token) (next : Before) (rest left : List ℕ) → None ≡ meaning r → seen t next left ≡ seen (Some (Token.Deco (deco_of_letter 46))) Before.Other rest →
     Some (seen t next left) ≡ meaning (or_else r (read (letter_form 46) rest))

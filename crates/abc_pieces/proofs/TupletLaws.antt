@@ -11,10 +11,7 @@ Good s z = IsTuplet z.0 × (s ≡ tuplet_then z.0 z.1)
 
 q-takes : (p : ℕ) (s t : List ℕ) → is_tuplet_digit p ≡ true → s ≡ p ∷ 58 ∷ t → Good s (behind_q p (number_at 1 t))
 q-takes p s t digit cut =
-    let q = number_at 1 t in
-    let colon = skip 58 q.1 in
-    let r = number_at 2 colon.1 in
-    let whole : s ≡ p ∷ 58 ∷ (q.0 ++ q.1) = cut ∙ ap (λ u. p ∷ 58 ∷ u) (number-takes 1 t) in
+    let q = number_at 1 t in let colon = skip 58 q.1 in let r = number_at 2 colon.1 in let whole : s ≡ p ∷ 58 ∷ (q.0 ++ q.1) = cut ∙ ap (λ u. p ∷ 58 ∷ u) (number-takes 1 t) in
     cond_both {A = TupletForm × List ℕ} colon.0 (with_r p q.0 r.0, r.1) (with_q p q.0, q.1) (Good s)
     (λ e. (
       (digit, number-count 1 t, number-count 2 colon.1),
@@ -43,8 +40,7 @@ Ends x f z = (length z.1 < length x) ⊎ (z ≡ tuplet_with f x)
 
 length-behind_q : (p : ℕ) (q : List ℕ × List ℕ) → length (behind_q p q).1 ≤ length q.1
 length-behind_q p q =
-    let colon = skip 58 q.1 in
-    let r = number_at 2 colon.1 in
+    let colon = skip 58 q.1 in let r = number_at 2 colon.1 in
     cond_both {A = TupletForm × List ℕ} colon.0 (with_r p q.0 r.0, r.1) (with_q p q.0, q.1) (λ z. length z.1 ≤ length q.1)
     (λ e. omega (arith, length-skip 58 q.1, length-number 2 colon.1)) (λ e. omega arith)
 
@@ -68,8 +64,7 @@ q-reaches p q x good =
       | inl shorter ↦ inl (omega (arith, shorter.0, length-behind_q p (number_at 1 (q ++ x))))
       | inr same ↦ rw same (elim (skip-less 58 x) [
         | inl less ↦
-            let colon = skip 58 x in
-            let r = number_at 2 colon.1 in
+            let colon = skip 58 x in let r = number_at 2 colon.1 in
             cond_both {A = TupletForm × List ℕ} colon.0 (with_r p q r.0, r.1) (with_q p q, x) (Ends x (with_q p q))
             (λ e. inl (omega (arith, less.0, length-number 2 colon.1))) (λ e. inr refl)
         | inr all ↦ inr (rw all refl)

@@ -11,8 +11,7 @@ pub data BarForm : Type 0 where
 
 -- its bytes, and what follows them
 abbrev pub spelled : BarForm → List ℕ → List ℕ
-spelled (signs dot before bracket lines close after) rest =
-    maybe dot (code ".") (copies before (code ":") (maybe bracket (code "[") (copies lines (code "|") (maybe close (code "]") (copies after (code ":") rest)))))
+spelled (signs dot before bracket lines close after) rest = maybe dot (code ".") (copies before (code ":") (maybe bracket (code "[") (copies lines (code "|") (maybe close (code "]") (copies after (code ":") rest)))))
 spelled (colons n) rest = copies n (code ":") rest
 
 abbrev pub IsGood : BarForm → Type 0
@@ -32,8 +31,7 @@ meant (colons n) = record { end = true; start = true; last = false; initial = fa
 -- reading from left to right
 unfoldable pub form_at : List ℕ → Option (BarForm × List ℕ)
 form_at bytes =
-    let dot = skip (code ".") bytes in
-    let before = run_off (code ":") dot.1 in
+    let dot = skip (code ".") bytes in let before = run_off (code ":") dot.1 in
     let bracket = skip (code "[") before.1 in
     let lines = run_off (code "|") bracket.1 in
     let close = skip (code "]") lines.1 in

@@ -68,10 +68,7 @@ ending_read bracket [] = None
 ending_read bracket (b ∷ s) = let more = span_all is_ending s in if is_digit b then read (ending_form bracket b more.0) more.1 else None
 
 unfoldable pub broken_read : Before → ℕ → List ℕ → Read
-broken_read before b s =
-    let right = b == code ">" in
-    let more = span (λ x. x == b) 2 s in
-    if is_broken right before then None else read (broken_form right (suc (length more.0))) more.1
+broken_read before b s = let right = b == code ">" in let more = span (λ x. x == b) 2 s in if is_broken right before then None else read (broken_form right (suc (length more.0))) more.1
 
 abbrev pub closed : (List ℕ → Form) → List ℕ × List ℕ → Read
 closed form (text, []) = None

@@ -16,9 +16,7 @@ pub record IsPlain (t : Token) : Type 0 where
 -- ---- each kind
 note_plain : (f : NoteForm) → IsNote f → IsPlain (Token.Note (head_of f) (len_of f.length))
 note_plain f good =
-    let head = head_of f in
-    let len = len_of f.length in
-    let l = len_again f.length good.length in
+    let head = head_of f in let len = len_of f.length in let l = len_again f.length good.length in
     record {
       form = note_form (head_form head (len_form len));
       means = ap (λ (h : Head). Some (Token.Note h (len_of (len_form len)))) (head_means head (len_form len)) ∙ ap (λ (k : Len). Some (Token.Note head k)) l.means;
@@ -29,37 +27,20 @@ note_plain f good =
 rest_plain : (seen : Bool) (f : LengthForm) → IsLength f → IsPlain (Token.Rest seen (len_of f))
 rest_plain seen f good =
     let l = len_again f good in
-    record {
-      form = rest_form seen (len_form (len_of f));
-      means = ap (λ (k : Len). Some (Token.Rest seen k)) l.means;
-      spells = λ x. refl;
-      exact = λ x h. rest_piece seen (len_form (len_of f)) x l.good h;
-    }
+    record { form = rest_form seen (len_form (len_of f)); means = ap (λ (k : Len). Some (Token.Rest seen k)) l.means; spells = λ x. refl; exact = λ x h. rest_piece seen (len_form (len_of f)) x l.good h }
 
 measures_plain : (seen : Bool) (count : List ℕ) → IsCount 3 count → IsPlain (Token.Measures seen (count_of count))
 measures_plain seen count good =
-    let a = count_again 3 count (omega arith) (omega arith) good in
-    let n = count_of count in
-    record {
-      form = measures_form seen (decimal n);
-      means = ap (λ (k : ℕ). Some (Token.Measures seen k)) (count_means 3 n a);
-      spells = λ x. refl;
-      exact = λ x h. measures_piece seen (decimal n) x (is_count 3 n a) h;
-    }
+    let a = count_again 3 count (omega arith) (omega arith) good in let n = count_of count in
+    record { form = measures_form seen (decimal n); means = ap (λ (k : ℕ). Some (Token.Measures seen k)) (count_means 3 n a); spells = λ x. refl; exact = λ x h. measures_piece seen (decimal n) x (is_count 3 n a) h }
 
 abbrev chord_of : List (Head × Len) → List Deco → Len → Token
 chord_of heads decos len = Token.Chord (record { heads = heads; decos = decos; len = len })
 
 chord_plain : (bang : Bool) (f : ChordForm) → IsGood bang (chord_form f) → IsPlain (chord_of (heads_of (map sense f.parts)) (decos_of (map sense f.parts)) (len_of f.length))
 chord_plain bang f good =
-    let hs = heads_of (map sense f.parts) in
-    let ds = decos_of (map sense f.parts) in
-    let len = len_of f.length in
-    let heads = heads_from bang f.inside f.parts good.0.parts in
-    let decos = decos_from bang f.inside f.parts good.0.parts in
-    let l = len_again f.length good.0.length in
-    let some = some_heads f.parts good.0.head in
-    let plain = plain_chord hs ds len in
+    let hs = heads_of (map sense f.parts) in let ds = decos_of (map sense f.parts) in let len = len_of f.length in let heads = heads_from bang f.inside f.parts good.0.parts in
+    let decos = decos_from bang f.inside f.parts good.0.parts in let l = len_again f.length good.0.length in let some = some_heads f.parts good.0.head in let plain = plain_chord hs ds len in
     record {
       form = chord_form plain;
       means = ap (λ (list : List (Head × Len)). Some (chord_of list (decos_of (map sense plain.parts)) (len_of (len_form len)))) (chord_heads hs ds heads)
@@ -70,8 +51,7 @@ chord_plain bang f good =
 
 grace_plain : (bang : Bool) (f : GraceForm) → IsGood bang (grace_form f) → IsPlain (Token.Grace f.slash (body_of f.parts))
 grace_plain bang f good =
-    let body = body_of f.parts in
-    let b = body_from bang f.inside f.parts good.parts in
+    let body = body_of f.parts in let b = body_from bang f.inside f.parts good.parts in
     record {
       form = grace_form (plain_grace f.slash body);
       means = ap (λ (list : List GraceChord). Some (Token.Grace f.slash list)) (body_means body b);
@@ -84,8 +64,7 @@ tuplet_digit p h = let r = and_parts _ _ h in (leb-true 50 p r.0, leb-true p 57 
 
 tuplet_number : (p : ℕ) → (50 ≤ p) × (p ≤ 57) → decimal (p - 48) ≡ p ∷ []
 tuplet_number p r =
-    let is : digits_value 10 (p ∷ []) ≡ p - 48 = omega (arith, digit_value-is p (omega (arith, r.0)) (omega (arith, r.1))) in
-    let digit : is_digit p ≡ true = digit_from p (omega (arith, r.0), r.1) in
+    let is : digits_value 10 (p ∷ []) ≡ p - 48 = omega (arith, digit_value-is p (omega (arith, r.0)) (omega (arith, r.1))) in let digit : is_digit p ≡ true = digit_from p (omega (arith, r.0), r.1) in
     ap decimal (sym is) ∙ digits_again 1 (p ∷ []) (omega arith) (record { some = omega arith; few = omega arith; digits = rw digit refl; no_zero = ne_eqb p 48 (omega (arith, r.0)) })
 
 first_of : (d e : ℕ) (ds : List ℕ) → e ∷ [] ≡ d ∷ ds → d ≡ e
@@ -94,16 +73,12 @@ first_of d e ds h = cc
 empty_again : (most : ℕ) (q : List ℕ) → most ≤ 4 → IsCount most q → number_or_empty (value_or_zero q) ≡ q
 empty_again most [] few good = refl
 empty_again most (d ∷ ds) few good =
-    let n : ℕ = digits_value 10 (d ∷ ds) in
-    let is : decimal n ≡ d ∷ ds = digits_again most (d ∷ ds) few good in
-    let not_zero : eqb n 0 ≡ false = ne_eqb n 0 (λ z. both_ways (eqb d 48) good.no_zero (eq-eqb d 48 (first_of d 48 ds (sym (decimal_digit 0 (omega arith)) ∙ sym (ap decimal z) ∙ is)))) in
-    rw not_zero is
+    let n : ℕ = digits_value 10 (d ∷ ds) in let is : decimal n ≡ d ∷ ds = digits_again most (d ∷ ds) few good in
+    let not_zero : eqb n 0 ≡ false = ne_eqb n 0 (λ z. both_ways (eqb d 48) good.no_zero (eq-eqb d 48 (first_of d 48 ds (sym (decimal_digit 0 (omega arith)) ∙ sym (ap decimal z) ∙ is)))) in rw not_zero is
 
 tuplet_plain : (p : ℕ) (q r : List ℕ) → IsTuplet (with_r p q r) → IsPlain (Token.Tuplet (p - 48) (value_or_zero q) (value_or_zero r))
 tuplet_plain p q r good =
-    let digit = tuplet_number p (tuplet_digit p good.0) in
-    let second = empty_again 1 q (omega arith) good.1 in
-    let third = empty_again 2 r (omega arith) good.2 in
+    let digit = tuplet_number p (tuplet_digit p good.0) in let second = empty_again 1 q (omega arith) good.1 in let third = empty_again 2 r (omega arith) good.2 in
     record {
       form = tuplet_form (with_r p q r);
       means = refl;
@@ -114,9 +89,7 @@ tuplet_plain p q r good =
     }
 
 bar_plain : (f : BarForm) → IsGood false (bar_form f) → IsPlain (Token.Bar (bar_of f))
-bar_plain f good =
-    let s = same_bar f good in
-    record { form = bar_form (plain_bar (bar_of f)); means = ap (λ (b : Bar). Some (Token.Bar b)) s.0; spells = s.2; exact = λ x h. bar_piece (plain_bar (bar_of f)) x s.1 h }
+bar_plain f good = let s = same_bar f good in record { form = bar_form (plain_bar (bar_of f)); means = ap (λ (b : Bar). Some (Token.Bar b)) s.0; spells = s.2; exact = λ x h. bar_piece (plain_bar (bar_of f)) x s.1 h }
 
 deco_plain : (d : Deco) → GoodDeco d → IsPlain (Token.Deco d)
 deco_plain d good = record { form = named_form (name_of d); means = ap (λ (e : Deco). Some (Token.Deco e)) good.means; spells = λ x. refl; exact = λ x h. named_piece (name_of d) x good.name }
@@ -179,9 +152,7 @@ pub record Found (n : ℕ) (before : Before) (s : List ℕ) (ts : List Token) : 
 
 one : (n : ℕ) (t : Token) (x : List ℕ) (ts : List Token) → (p : IsPlain t) → Stops x → Found n (after p.form) x ts → Found n Before.Other (token_then t x) (t ∷ ts)
 one n t x ts p stops later =
-    let s = token_then t x in
-    let c = column n (length s) in
-    let e : piece_at false Before.Other s ≡ read p.form x = ap (piece_at false Before.Other) (sym (p.spells x)) ∙ p.exact x stops in
+    let s = token_then t x in let c = column n (length s) in let e : piece_at false Before.Other s ≡ read p.form x = ap (piece_at false Before.Other) (sym (p.spells x)) ∙ p.exact x stops in
     let l : IsLongest Form (StandsAt false Before.Other) s p.form x = longest_of (piece_reader false Before.Other) s (p.form, x) e in
     record {
       placed = record { token = t; column = c } ∷ later.placed;
@@ -201,9 +172,7 @@ next_stops (t ∷ ts) = at_quote (token_then t (all_then next_then ts []))
 
 next_found : (n : ℕ) (before : Before) (ts : List Token) → AllPlain ts → Found n before (all_then next_then ts []) ts
 next_found n before [] good = record { placed = []; tokens = ends before; same = refl }
-next_found n before (t ∷ ts) good =
-    let x = all_then next_then ts [] in
-    quoted n before (token_then t x) (t ∷ ts) (one n t x ts good.0 (next_stops ts) (next_found n (after good.0.form) ts good.1))
+next_found n before (t ∷ ts) good = let x = all_then next_then ts [] in quoted n before (token_then t x) (t ∷ ts) (one n t x ts good.0 (next_stops ts) (next_found n (after good.0.form) ts good.1))
 
 text_found : (n : ℕ) (ts : List Token) → AllPlain ts → Found n Before.Other (plain_text ts) ts
 text_found n [] good = record { placed = []; tokens = ends Before.Other; same = refl }

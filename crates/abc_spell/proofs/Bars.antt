@@ -10,9 +10,7 @@ plain_bar b =
 
 -- a bar by its features as the bytes show them
 abbrev flags : Bool → Bool → Bool → Bool → Bool → Bool → Bar
-flags d e o w c s =
-    let alone = not d && not e && o && not w && c && not s in
-    record { end = e; start = s; last = c && not alone; initial = o && not alone; double = w; dotted = d; unseen = alone }
+flags d e o w c s = let alone = not d && not e && o && not w && c && not s in record { end = e; start = s; last = c && not alone; initial = o && not alone; double = w; dotted = d; unseen = alone }
 
 abbrev pub SameBar : Bar → Type 0
 SameBar b = (meant (plain_bar b) ≡ b) × IsGood (plain_bar b) × ((x : List ℕ) → spelled (plain_bar b) x ≡ bar_then b x)
@@ -37,6 +35,5 @@ one_first (suc (suc n)) h = let e : ltb 1 (suc (suc n)) ≡ true = lt-ltb 1 (suc
 
 pub same_bar : (f : BarForm) → IsGood f → SameBar (meant f)
 same_bar (signs d b o n c a) good =
-    let is : meant (signs d b o n c a) ≡ flags d (ltb 0 b) o (ltb 1 n) c (ltb 0 a) = rw (none_first b, one_first n good, none_first a) refl in
-    subst SameBar (sym is) (same_flags d (ltb 0 b) o (ltb 1 n) c (ltb 0 a))
+    let is : meant (signs d b o n c a) ≡ flags d (ltb 0 b) o (ltb 1 n) c (ltb 0 a) = rw (none_first b, one_first n good, none_first a) refl in subst SameBar (sym is) (same_flags d (ltb 0 b) o (ltb 1 n) c (ltb 0 a))
 same_bar (colons n) good = (refl, omega arith, λ x. refl)

@@ -27,9 +27,7 @@ abbrev note_pair : NoteForm → List ℕ → NoteForm × List ℕ
 note_pair f x = (f, x)
 
 pub note_exact : (f : NoteForm) (x : List ℕ) → IsNote f → begins note_goes_on x ≡ false → note_at (note_then f x) ≡ Some (note_pair f x)
-note_exact f x good h =
-    let r = note_at-reaches f x good in
-    elim r.2 [ inl shorter ↦ absurd (both_ways (begins note_goes_on x) h shorter.1) | inr same ↦ r.1 ∙ ap Some same ]
+note_exact f x good h = let r = note_at-reaches f x good in elim r.2 [ inl shorter ↦ absurd (both_ways (begins note_goes_on x) h shorter.1) | inr same ↦ r.1 ∙ ap Some same ]
 
 -- the first byte of a head
 pub record First (s : List ℕ) : Type 0 where
@@ -170,9 +168,7 @@ unfolding piece_at class_of says_read
 says_piece text x pass = rw (span_all-append is_text text (34 ∷ x) pass, span_all-stops is_text (34 ∷ x) refl, append-nil) refl
 
 opened_inline : (l : ℕ) (t : List ℕ) → is_letter l ≡ true → opened (opening (l ∷ 58 ∷ t)) false (l ∷ 58 ∷ t) ≡ inline_read (l ∷ 58 ∷ t)
-opened_inline l t letter =
-    let p = and_parts (not (eqb l 124)) (not (is_digit l)) (letter_apart l letter) in
-    rw (not-true (eqb l 124) p.0, not-true (is_digit l) p.1, letter) refl
+opened_inline l t letter = let p = and_parts (not (eqb l 124)) (not (is_digit l)) (letter_apart l letter) in rw (not-true (eqb l 124) p.0, not-true (is_digit l) p.1, letter) refl
 
 inline_is_read : (l : ℕ) (text x : List ℕ) → list_all is_inside text ≡ true → inline_read (l ∷ 58 ∷ (text ++ (93 ∷ x))) ≡ read (inline_form l text) x
 unfolding inline_read

@@ -15,9 +15,7 @@ all_append f h (a ∷ list) s x = h a (all_then f list s) x ∙ ap (f a) (all_ap
 
 head_append : (head : Head) (s x : List ℕ) → head_then head s ++ x ≡ head_then head (s ++ x)
 head_append head s x =
-    let o = head.pitch.octave in
-    let b = letter_byte (is_small o) head.pitch.letter in
-    sign_append head.sign (b ∷ (marks_of o ++ s)) x ∙ ap (λ t. sign_then head.sign (b ∷ t)) (append_assoc (marks_of o) s x)
+    let o = head.pitch.octave in let b = letter_byte (is_small o) head.pitch.letter in sign_append head.sign (b ∷ (marks_of o ++ s)) x ∙ ap (λ t. sign_then head.sign (b ∷ t)) (append_assoc (marks_of o) s x)
 
 len_append : (len : Len) (s x : List ℕ) → len_then len s ++ x ≡ len_then len (s ++ x)
 len_append len s x = append_assoc (decimal len.num) (47 ∷ (decimal len.den ++ s)) x ∙ ap (λ t. decimal len.num ++ (47 ∷ t)) (append_assoc (decimal len.den) s x)
@@ -84,8 +82,7 @@ inside_is : (hs : List (Head × Len)) (ds : List Deco) → all_then inner_then (
 inside_is hs ds = decos_spell ds (head_parts hs) [] ∙ ap (all_then deco_then ds) (heads_spell hs [])
 
 pub chord_spell : (hs : List (Head × Len)) (ds : List Deco) (x : List ℕ) → all_then inner_then (deco_parts ds (head_parts hs)) [] ++ x ≡ all_then deco_then ds (all_then chord_head_then hs x)
-chord_spell hs ds x =
-    ap (λ s. s ++ x) (inside_is hs ds) ∙ all_append deco_then deco_append ds (all_then chord_head_then hs []) x ∙ ap (all_then deco_then ds) (all_append chord_head_then chord_head_append hs [] x)
+chord_spell hs ds x = ap (λ s. s ++ x) (inside_is hs ds) ∙ all_append deco_then deco_append ds (all_then chord_head_then hs []) x ∙ ap (all_then deco_then ds) (all_append chord_head_then chord_head_append hs [] x)
 
 -- meaning
 not_tied : (hs : List (Head × Len)) → is_tied (map sense (head_parts hs)) ≡ false
@@ -110,9 +107,7 @@ with_len head len = (head, len)
 pub heads_mean : (hs : List (Head × Len)) → GoodHeads hs → heads_of (map sense (head_parts hs)) ≡ hs
 heads_mean [] good = refl
 heads_mean (h ∷ hs) good =
-    let form = len_form h.1 in
-    let more = map sense (tied_parts h.0.tied (head_parts hs)) in
-    let others : heads_of more ≡ hs = heads_tied h.0.tied (head_parts hs) ∙ heads_mean hs good.1 in
+    let form = len_form h.1 in let more = map sense (tied_parts h.0.tied (head_parts hs)) in let others : heads_of more ≡ hs = heads_tied h.0.tied (head_parts hs) ∙ heads_mean hs good.1 in
     ap (λ (b : Bool). with_len (tied_if b (head_of (head_form h.0 form))) (len_of form) ∷ heads_of more) (tied_is h.0.tied hs)
     ∙ ap (λ (head : Head). with_len (tied_if h.0.tied head) (len_of form) ∷ heads_of more) (head_means h.0 form) ∙ ap (λ (len : Len). with_len h.0 len ∷ heads_of more) good.0.means
     ∙ ap (λ (list : List (Head × Len)). h ∷ list) others
@@ -161,9 +156,7 @@ unfolding inner_at item_class
 inner_named name x good = rw (name_at-reads name x good) refl
 
 head_stops : (head : Head) (x : List ℕ) → begins note_goes_on (head_then head x) ≡ false
-head_stops head x =
-    let b = first_is head.sign (is_small head.pitch.octave) head.pitch.letter (marks_of head.pitch.octave ++ x) in
-    ap (begins note_goes_on) b.is ∙ b.stops
+head_stops head x = let b = first_is head.sign (is_small head.pitch.octave) head.pitch.letter (marks_of head.pitch.octave ++ x) in ap (begins note_goes_on) b.is ∙ b.stops
 
 heads_stop : (hs : List (Head × Len)) → begins note_goes_on (all_then inner_then (head_parts hs) []) ≡ false
 heads_stop [] = refl
@@ -181,15 +174,13 @@ tie_part false ps later = later
 heads_parts : (hs : List (Head × Len)) → GoodHeads hs → InnerParts false (all_then inner_then (head_parts hs) []) (head_parts hs)
 heads_parts [] good = no_part
 heads_parts (h ∷ hs) good =
-    let more = tied_parts h.0.tied (head_parts hs) in
-    let form = head_form h.0 (len_form h.1) in
+    let more = tied_parts h.0.tied (head_parts hs) in let form = head_form h.0 (len_form h.1) in
     part (note_inside form) (all_then inner_then more []) more (inner_note form (all_then inner_then more []) (head_good h.0 (len_form h.1) good.0.good) (tied_stop h.0.tied hs)) (tie_part h.0.tied (head_parts hs) (heads_parts hs good.1))
 
 decos_parts : (ds : List Deco) (ps : List Inner) → GoodDecos ds → InnerParts false (all_then inner_then ps []) ps → InnerParts false (all_then inner_then (deco_parts ds ps) []) (deco_parts ds ps)
 decos_parts [] ps good later = later
 decos_parts (d ∷ ds) ps good later =
-    let more = deco_parts ds ps in
-    part (named_inside (name_of d)) (all_then inner_then more []) more (inner_named (name_of d) (all_then inner_then more []) good.0.name) (decos_parts ds ps good.1 later)
+    let more = deco_parts ds ps in part (named_inside (name_of d)) (all_then inner_then more []) more (inner_named (name_of d) (all_then inner_then more []) good.0.name) (decos_parts ds ps good.1 later)
 
 -- ---- a plain chord is a chord
 tied_whole : (b : Bool) (ps : List Inner) → has_lone ps ≡ false → has_lone (tied_parts b ps) ≡ false
@@ -207,11 +198,7 @@ chord_whole hs (d ∷ ds) = chord_whole hs ds
 
 pub chord_good : (hs : List (Head × Len)) (ds : List Deco) (len : Len) → 1 ≤ length hs → GoodHeads hs → GoodDecos ds → GoodLen len → IsChord false (plain_chord hs ds len)
 chord_good [] ds len some heads decos good = absurd (omega (arith, some))
-chord_good (h ∷ hs) ds len some heads decos good = record {
-  parts = decos_parts ds (head_parts (h ∷ hs)) decos (heads_parts (h ∷ hs) heads);
-  head = head_behind ds (head_parts (h ∷ hs));
-  length = good.good;
-}
+chord_good (h ∷ hs) ds len some heads decos good = record { parts = decos_parts ds (head_parts (h ∷ hs)) decos (heads_parts (h ∷ hs) heads); head = head_behind ds (head_parts (h ∷ hs)); length = good.good }
 
 -- what stands behind the bracket is no bar, no ending and no inline field
 abbrev is_colon : ℕ → Bool
@@ -238,9 +225,7 @@ opens_chord : (hs : List (Head × Len)) (ds : List Deco) (x : List ℕ) → 1 �
 opens_chord hs (d ∷ ds) x some good = refl
 opens_chord [] [] x some good = absurd (omega (arith, some))
 opens_chord (h ∷ hs) [] x some good =
-    let o = h.0.pitch.octave in
-    let num = decimal h.1.num in
-    let t = 47 ∷ (decimal h.1.den ++ maybe h.0.tied 45 (all_then chord_head_then hs x)) in
+    let o = h.0.pitch.octave in let num = decimal h.1.num in let t = 47 ∷ (decimal h.1.den ++ maybe h.0.tied 45 (all_then chord_head_then hs x)) in
     let digits = no_colon_first num t (wider is_digit (λ b. not (eqb b 58)) num digit_colon (count-digits 4 num good.0.good.0)) refl in
     let marks = no_colon_first (marks_of o) (num ++ t) (wider is_mark (λ b. not (eqb b 58)) (marks_of o) mark_colon (good_marks o)) digits in
     open_head h.0.sign (is_small o) h.0.pitch.letter (marks_of o ++ (num ++ t)) marks
@@ -340,8 +325,7 @@ notes_stop (h ∷ hs) = head_stops h (all_then inner_then (note_parts hs) [])
 notes_parts : (hs : List Head) → InnerParts false (all_then inner_then (note_parts hs) []) (note_parts hs)
 notes_parts [] = no_part
 notes_parts (h ∷ hs) =
-    let form = head_form h (whole []) in
-    let rest = all_then inner_then (note_parts hs) [] in
+    let form = head_form h (whole []) in let rest = all_then inner_then (note_parts hs) [] in
     part (note_inside form) rest (note_parts hs) (inner_note form rest (head_good h (whole []) tt) (notes_stop hs)) (notes_parts hs)
 
 notes_chord : (h : Head) (hs : List Head) → IsChord false (of_parts (note_parts (h ∷ hs)) (whole []))
@@ -360,8 +344,7 @@ single_class b u h = rw h refl
 
 single_exact : (h : Head) (x : List ℕ) → begins note_goes_on x ≡ false → grace_part_at false (head_then h x) ≡ Some (part_pair (single (note_inside (head_form h (whole [])))) x)
 single_exact h x stops =
-    let form = head_form h (whole []) in
-    let b = first_is h.sign (is_small h.pitch.octave) h.pitch.letter (marks_of h.pitch.octave ++ x) in
+    let form = head_form h (whole []) in let b = first_is h.sign (is_small h.pitch.octave) h.pitch.letter (marks_of h.pitch.octave ++ x) in
     ap (grace_part_at false) b.is ∙ single_class b.byte b.rest b.bracket ∙ ap (λ s. option_map single_read (inner_at false s)) (sym b.is) ∙ ap (option_map single_read) (inner_note form x (head_good h (whole []) tt) stops)
 
 notes_whole : (hs : List Head) → has_lone (note_parts hs) ≡ false
@@ -379,9 +362,7 @@ part_exact (h ∷ g ∷ hs) x some stops = chorded_exact (of_parts (note_parts (
 -- a byte that begins a part of a grace group goes on nothing, and is no slash
 begins_part : (p : ℕ → Bool) (hs : List Head) (x : List ℕ) → 1 ≤ length hs → p 91 ≡ false → ((s : List ℕ) → (b : First s) → p b.byte ≡ false) → begins p (grace_part_then (plain_part hs) x) ≡ false
 begins_part p [] x some h k = absurd (omega (arith, some))
-begins_part p (h ∷ []) x some bracket k =
-    let b = first_is h.sign (is_small h.pitch.octave) h.pitch.letter (marks_of h.pitch.octave ++ x) in
-    ap (begins p) b.is ∙ k (head_then h x) b
+begins_part p (h ∷ []) x some bracket k = let b = first_is h.sign (is_small h.pitch.octave) h.pitch.letter (marks_of h.pitch.octave ++ x) in ap (begins p) b.is ∙ k (head_then h x) b
 begins_part p (h ∷ g ∷ hs) x some bracket k = bracket
 
 body_begins : (p : ℕ → Bool) (body : List GraceChord) → GoodBody body → p 91 ≡ false → ((s : List ℕ) → (b : First s) → p b.byte ≡ false) → begins p (all_then grace_part_then (plain_parts body) []) ≡ false
@@ -391,8 +372,7 @@ body_begins p (c ∷ cs) good h k = begins_part p c.heads (all_then grace_part_t
 body_parts : (body : List GraceChord) → GoodBody body → GraceParts false (all_then grace_part_then (plain_parts body) []) (plain_parts body)
 body_parts [] good = no_part
 body_parts (c ∷ cs) good =
-    let rest = all_then grace_part_then (plain_parts cs) [] in
-    let p = plain_part c.heads in
+    let rest = all_then grace_part_then (plain_parts cs) [] in let p = plain_part c.heads in
     then_part (grace_part_then p rest) p rest (plain_parts cs) (longest_of (part_reader false) (grace_part_then p rest) (p, rest) (part_exact c.heads rest good.0 (body_begins note_goes_on cs good.2 refl (λ s b. b.stops)))) (body_parts cs good.2)
 
 part_whole : (hs : List Head) → 1 ≤ length hs → lone_part_is (plain_part hs) ≡ false

@@ -15,11 +15,7 @@ digit_to : (b : ℕ) → is_digit b ≡ true → (48 ≤ b) × (b ≤ 57)
 digit_to b h = let r = digit_range b h in (r.0, omega (arith, r.1))
 
 tells : IsDigitsTest AreDigits
-tells = record {
-  empty = refl;
-  parts = λ c cs h. (let p = and_parts (is_digit c) (list_all is_digit cs) h in (digit_to c p.0, p.1));
-  more = λ c cs r h. and_from (is_digit c) (list_all is_digit cs) (digit_from c r) h;
-}
+tells = record { empty = refl; parts = λ c cs h. (let p = and_parts (is_digit c) (list_all is_digit cs) h in (digit_to c p.0, p.1)); more = λ c cs r h. and_from (is_digit c) (list_all is_digit cs) (digit_from c r) h }
 
 model : IsNumeralModel AreDigits (digits_value 10)
 model = numerals_by_value AreDigits tells
@@ -35,8 +31,7 @@ not_zero_first (d ∷ ds) h some e = absurd (both_ways (eqb d 48) h (eq-eqb d 48
 -- the digits of a number are those that are written for it
 pub digits_again : (most : ℕ) (ds : List ℕ) → most ≤ 4 → IsNumber most ds → decimal (digits_value 10 ds) ≡ ds
 digits_again most ds few h =
-    let below : digits_value 10 ds < 10 ^ length ds = digits_value-lt 10 ds (model.to ds h.digits) in
-    let limit : 10 ^ length ds ≤ 10000 = few_digits (length ds) (omega (arith, few, h.few)) in
+    let below : digits_value 10 ds < 10 ^ length ds = digits_value-lt 10 ds (model.to ds h.digits) in let limit : 10 ^ length ds ≤ 10000 = few_digits (length ds) (omega (arith, few, h.few)) in
     decimal-digits_value model ds h.digits (omega (arith, h.some)) (not_zero_first ds h.no_zero (omega (arith, h.some))) (omega (arith, below, limit))
 
 -- what is written for a number is a number, and means it
@@ -45,9 +40,7 @@ pub record Again (most n : ℕ) : Type 0 where
   pub means : digits_value 10 (decimal n) ≡ n
 
 pub number_again : (most : ℕ) (ds : List ℕ) → most ≤ 4 → IsNumber most ds → Again most (digits_value 10 ds)
-number_again most ds few h =
-    let e = digits_again most ds few h in
-    record { good = subst (IsNumber most) (sym e) h; means = ap (digits_value 10) e }
+number_again most ds few h = let e = digits_again most ds few h in record { good = subst (IsNumber most) (sym e) h; means = ap (digits_value 10) e }
 
 one_again : (most : ℕ) → 1 ≤ most → most ≤ 4 → Again most 1
 one_again most some few = number_again most (49 ∷ []) few (record { some = omega arith; few = omega (arith, some); digits = refl; no_zero = refl })

@@ -21,8 +21,7 @@ product_high a b c d A B C D ha hb hc hd = mul-le (a * b) (c * d) (A * B) (C * D
 
 pub good_length : (unit : Frac) (s : Sound) (l r : Frac) → IsGoodUnit unit → IsGoodSound s → IsFactor l → IsFactor r → IsLength (record { num = s.num * unit.num * (l.num * r.num); den = s.den * unit.den * (l.den * r.den) })
 good_length unit s l r u g left right =
-    let one : unit.num ≤ 1 = omega arith in
-    let num : s.num * unit.num * (l.num * r.num) ≤ 2 ^ 40 * 1 * (15 * 15) = product_high s.num unit.num l.num r.num (2 ^ 40) 1 15 15 g.num_high one left.num_high right.num_high in
+    let one : unit.num ≤ 1 = omega arith in let num : s.num * unit.num * (l.num * r.num) ≤ 2 ^ 40 * 1 * (15 * 15) = product_high s.num unit.num l.num r.num (2 ^ 40) 1 15 15 g.num_high one left.num_high right.num_high in
     let den : s.den * unit.den * (l.den * r.den) ≤ 2 ^ 40 * 64 * (8 * 8) = product_high s.den unit.den l.den r.den (2 ^ 40) 64 8 8 g.den_high (halving_high unit.den u.1) left.den_high right.den_high in
     record {
       some = product_some s.num unit.num l.num r.num g.some (omega arith) left.some right.some;

@@ -13,10 +13,7 @@ up_to_place p xs n e = ap (λ k. take k xs) (ap (λ k. unwrap_or k (length xs)) 
 -- the end of a list, read from its end
 turned : {X : Type 0} (xs : List X) (k : ℕ) → k ≤ length xs → drop (length xs - k) xs ≡ reverse (take k (reverse xs))
 turned xs k le =
-    let m : ℕ = length xs - k in
-    let a = take m xs in
-    let b = drop m xs in
-    let whole : reverse xs ≡ reverse b ++ reverse a = ap reverse (sym (take-append-drop m xs)) ∙ reverse-append a b in
+    let m : ℕ = length xs - k in let a = take m xs in let b = drop m xs in let whole : reverse xs ≡ reverse b ++ reverse a = ap reverse (sym (take-append-drop m xs)) ∙ reverse-append a b in
     let long : length (reverse b) ≡ k = length-reverse b ∙ (length-drop m xs ∙ omega arith) in
     let front : take k (reverse b ++ reverse a) ≡ reverse b = take-append-le k (reverse b) (reverse a) (omega arith) ∙ take_all k (reverse b) (omega arith) in
     sym (ap (λ ys. reverse (take k ys)) whole ∙ (ap reverse front ∙ reverse-reverse b))
@@ -25,6 +22,4 @@ pub back_to_place : {X : Type 0} (p : X → Bool) (xs : List X) (n : Option ℕ)
 back_to_place p xs n e =
     let k : ℕ = position_or_len p (reverse xs) in
     let same : unwrap_or n (length xs) ≡ k = ap (λ m. unwrap_or m (length xs)) e ∙ (ap (λ m. unwrap_or (position p (reverse xs)) m) (sym (length-reverse xs)) ∙ unwrap_position p (reverse xs)) in
-    let le : k ≤ length (reverse xs) = prefix_len-le-length (λ x. not (p x)) (reverse xs) in
-    let within : k ≤ length xs = rw (sym (length-reverse xs)) le in
-    ap (λ m. drop (length xs - m) xs) same ∙ turned xs k within
+    let le : k ≤ length (reverse xs) = prefix_len-le-length (λ x. not (p x)) (reverse xs) in let within : k ≤ length xs = rw (sym (length-reverse xs)) le in ap (λ m. drop (length xs - m) xs) same ∙ turned xs k within

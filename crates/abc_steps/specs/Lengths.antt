@@ -35,9 +35,7 @@ right_factor None = once
 
 unfoldable pub written_length : Frac → Sound → Steps → Steps → Frac
 written_length unit s before behind =
-    let left = left_factor (broken_behind behind) in
-    let right = right_factor (broken_before before) in
-    record { num = s.num * unit.num * (left.num * right.num); den = s.den * unit.den * (left.den * right.den) }
+    let left = left_factor (broken_behind behind) in let right = right_factor (broken_before before) in record { num = s.num * unit.num * (left.num * right.num); den = s.den * unit.den * (left.den * right.den) }
 
 -- the parts of what stands at a step: those of the length of a note, a chord or a rest, and none of any other step
 unfoldable pub parts_at : Frac → Steps → Step → Steps → Option (List Value)

@@ -27,14 +27,11 @@ module _ {I : Type 0} {Stands : I → List ℕ → List ℕ → Type 0} {at : Li
     where
       stuck : (s : List ℕ) → at s ≡ None → is_done (walk at s) ≡ false → (before : Option ℕ) → HasFlaw (Flawed I Stands lengthy Own before s)
       stuck [] none left before = absurd (let done = ap is_done (walk-none r [] none) in cc)
-      stuck (byte ∷ s) none left before =
-          let flaw = flaw_there before byte s none in
-          (flaw.0, stuck_here before byte s flaw.0 (none_of r (byte ∷ s) none) flaw.1)
+      stuck (byte ∷ s) none left before = let flaw = flaw_there before byte s none in (flaw.0, stuck_here before byte s flaw.0 (none_of r (byte ∷ s) none) flaw.1)
 
       goes_on : (s : List ℕ) (z : I × List ℕ) → at s ≡ Some z → (is_done (walk at z.1) ≡ false → (before : Option ℕ) → HasFlaw (Flawed I Stands lengthy Own before z.1)) → is_done (walk at s) ≡ false → (before : Option ℕ) → HasFlaw (Flawed I Stands lengthy Own before s)
       goes_on s z some next left before =
-          let flaw = next (sym (ap is_done (walk-some r s z some)) ∙ left) (length_at_place (lengthy z.0) (length s)) in
-          (flaw.0, stuck_later before s z.0 z.1 flaw.0 (longest_of r s z some) flaw.1)
+          let flaw = next (sym (ap is_done (walk-some r s z some)) ∙ left) (length_at_place (lengthy z.0) (length s)) in (flaw.0, stuck_later before s z.0 z.1 flaw.0 (longest_of r s z some) flaw.1)
 
 -- the fault of a chord
 chord_by : (bang : Bool) (s : List ℕ) → chord_at bang s ≡ None → (ends done headless : Bool) → (length (span_all is_inside s).1 == 0) ≡ ends → is_done (walk (inner_at bang) s) ≡ done → begins is_bracket (walk (inner_at bang) s).1 ≡ headless → HasFlaw (ChordFault bang s)
@@ -92,8 +89,7 @@ has_front bang n before at s = within (length s) before at s (omega arith) where
       let flaw = line_flaw at (IsOwnFlaw bang byte s) (kind_behind before byte) (own_flaw bang before byte s e) in
       ([], Some flaw.0, breaks before at byte s flaw.0 (none_of (piece_reader bang before) (byte ∷ s) e) flaw.1)
   read_on before at (byte ∷ s) (Some z) e next =
-      let more = next (after z.0) z.1 (less (piece_reader bang before) (byte ∷ s) z e) in
-      let all : List Placed = put (meant z.0) (column n (length (byte ∷ s))) more.0 in
+      let more = next (after z.0) z.1 (less (piece_reader bang before) (byte ∷ s) z e) in let all : List Placed = put (meant z.0) (column n (length (byte ∷ s))) more.0 in
       (all, more.1, leads before at (byte ∷ s) z.0 z.1 more.0 all more.1 (longest_of (piece_reader bang before) (byte ∷ s) z e) more.2 refl)
 
   within : (m : ℕ) (before : Before) (at : ℕ) (s : List ℕ) → length s ≤ m → HasFront bang n before at s
@@ -101,9 +97,7 @@ has_front bang n before at s = within (length s) before at s (omega arith) where
   within (suc m) before at s h = read_on before at s (piece_at bang before s) refl (λ next rest lt. within m next (length s) rest (omega (arith, lt, h)))
 
 pub front_from : (bang : Bool) (line : Line) (place : Place) → (more : List Placed) × (fault : Option Fault) × FrontFrom bang line place more fault
-front_from bang line place =
-    let f = has_front bang (length line.text) place.before place.at place.rest.now in
-    (f.0, option_map (fault_at line) f.1, (f.1, f.2, refl))
+front_from bang line place = let f = has_front bang (length line.text) place.before place.at place.rest.now in (f.0, option_map (fault_at line) f.1, (f.1, f.2, refl))
 
 -- some more tokens stand behind a part, with which the line is read up to its first fault
 pub behind_part : (bang : Bool) (line : Line) (place : Place) (ts : List Placed) (behind : Behind) → PartOf bang line place ts behind → (more : List Placed) × (fault : Option Fault) × FrontFrom bang line place (ts ++ more) fault
@@ -116,5 +110,4 @@ good_before (t ∷ ts) more good = (good.0, good_before ts more good.1)
 
 pub good_part : (bang : Bool) (line : Line) (place : Place) (ts : List Placed) (behind : Behind) → PartOf bang line place ts behind → AreGoodTokens ts
 good_part bang line place ts behind part =
-    let all = behind_part bang line place ts behind part in
-    good_before ts all.0 (good_front bang (length line.text) place.before place.at place.rest.now (ts ++ all.0) all.2.0 all.2.1)
+    let all = behind_part bang line place ts behind part in good_before ts all.0 (good_front bang (length line.text) place.before place.at place.rest.now (ts ++ all.0) all.2.0 all.2.1)

@@ -26,8 +26,7 @@ pub record Found (bang : Bool) (before : Before) (s : List ℕ) (t : Option Toke
 from_read : (bang : Bool) (before : Before) (s : List ℕ) (t : Option Token) (next : Before) (rest : List ℕ) (r : Read) → piece_at bang before s ≡ r → Some (seen t next rest) ≡ meaning r → Found bang before s t next rest
 from_read bang before s t next rest None e h = absurd cc
 from_read bang before s t next rest (Some z) e h =
-    let same : seen t next rest ≡ seen (meant z.0) (after z.0) z.1 = cc in
-    record { form = z.0; is = e ∙ ap (λ x. read z.0 x) (sym (ap (λ p. p.2) same)); token = ap (λ p. p.0) same; tells = ap (λ p. p.1) same }
+    let same : seen t next rest ≡ seen (meant z.0) (after z.0) z.1 = cc in record { form = z.0; is = e ∙ ap (λ x. read z.0 x) (sym (ap (λ p. p.2) same)); token = ap (λ p. p.0) same; tells = ap (λ p. p.1) same }
 
 pub found : (bang : Bool) (before : Before) (s : List ℕ) (t : Option Token) (next : Before) (rest : List ℕ) → Some (seen t next rest) ≡ meaning (piece_at bang before s) → Found bang before s t next rest
 found bang before s t next rest h = from_read bang before s t next rest (piece_at bang before s) refl h
@@ -45,8 +44,7 @@ consumes bang before s t next rest h = let f = found bang before s t next rest h
 pub step : (bang : Bool) (line : Line) (place at next : Place) (so_far new : List Placed) (here : ℕ) (t : Option Token) →
     LeadsTo bang line place so_far at → Some (seen t next.before next.rest.now) ≡ meaning (piece_at bang at.before at.rest.now) → next.at ≡ length at.rest.now → here ≡ column (length line.text) next.at → new ≡ so_far ++ put t here [] → LeadsTo bang line place new next
 step bang line place at next so_far new here t so h where_is is_column is =
-    let f = found bang at.before at.rest.now t next.before next.rest.now h in
-    let l = longest bang at.before at.rest.now f.form next.rest.now f.is in
+    let f = found bang at.before at.rest.now t next.before next.rest.now h in let l = longest bang at.before at.rest.now f.form next.rest.now f.is in
     λ ts fault more.
     let all : List Placed = put t here ts in
     let front = subst (λ a. Front bang (length line.text) (after f.form) a next.rest.now ts more.0) where_is (subst (λ b. Front bang (length line.text) b next.at next.rest.now ts more.0) f.tells more.1) in
@@ -104,17 +102,12 @@ behind_it : (bang : Bool) (n : ℕ) (before : Before) (s : List ℕ) (us : List 
 behind_it bang n _ _ _ f rest e (ends before) = absurd (let h : None ≡ read f rest = sym (at_nil (piece_reader bang before)) ∙ e in cc)
 behind_it bang n _ _ _ f rest e (goes before s g others ts all l more is) =
     let same = same_piece g f others rest (sym (is_read bang before s g others l) ∙ e) in
-    record {
-      ts = ts;
-      tokens = subst (λ x. Tokens bang n (after f) x ts) same.1 (subst (λ h. Tokens bang n (after h) others ts) same.0 more);
-      is = is ∙ ap (λ h. put (meant h) (column n (length s)) ts) same.0;
-    }
+    record { ts = ts; tokens = subst (λ x. Tokens bang n (after f) x ts) same.1 (subst (λ h. Tokens bang n (after h) others ts) same.0 more); is = is ∙ ap (λ h. put (meant h) (column n (length s)) ts) same.0 }
 
 pub one_list : (bang : Bool) (n : ℕ) (before : Before) (s : List ℕ) (ts us : List Placed) → Tokens bang n before s ts → Tokens bang n before s us → ts ≡ us
 one_list bang n _ _ _ us (ends before) b = sym (nil_list bang n before [] us refl b)
 one_list bang n _ _ _ us (goes before s f rest ts all l more is) b =
-    let r = behind_it bang n before s us f rest (is_read bang before s f rest l) b in
-    is ∙ ap (λ x. put (meant f) (column n (length s)) x) (one_list bang n (after f) rest ts r.ts more r.tokens) ∙ sym r.is
+    let r = behind_it bang n before s us f rest (is_read bang before s f rest l) b in is ∙ ap (λ x. put (meant f) (column n (length s)) x) (one_list bang n (after f) rest ts r.ts more r.tokens) ∙ sym r.is
 
 stuck_tokens : (bang : Bool) (n : ℕ) (before : Before) (byte : ℕ) (t s : List ℕ) (ts : List Placed) → s ≡ byte ∷ t → HasNone Form (StandsAt bang before) s → Tokens bang n before s ts → ⊥
 stuck_tokens bang n _ byte t _ _ e h (ends before) = cc
@@ -122,9 +115,7 @@ stuck_tokens bang n _ byte t _ _ e h (goes before s f rest ts all l more is) = h
 
 pub no_list : (bang : Bool) (n : ℕ) (before : Before) (at : ℕ) (s : List ℕ) (flaw : Flaw) (ts : List Placed) → Faulty bang before at s flaw → Tokens bang n before s ts → ⊥
 no_list bang n _ _ _ _ ts (stuck before at byte s flaw h is) b = stuck_tokens bang n before byte s (byte ∷ s) ts refl h b
-no_list bang n _ _ _ _ ts (later before at s f rest flaw l more) b =
-    let r = behind_it bang n before s ts f rest (is_read bang before s f rest l) b in
-    no_list bang n (after f) (length s) rest flaw r.ts more r.tokens
+no_list bang n _ _ _ _ ts (later before at s f rest flaw l more) b = let r = behind_it bang n before s ts f rest (is_read bang before s f rest l) b in no_list bang n (after f) (length s) rest flaw r.ts more r.tokens
 
 pub stuck_at : (bang : Bool) (line : Line) (place at : Place) (so_far : List Placed) (byte : ℕ) (t : List ℕ) (flaw : Flaw) (fault : Fault) → LeadsTo bang line place so_far at → at.rest.now ≡ byte ∷ t →
     None ≡ meaning (piece_at bang at.before at.rest.now) → IsLineFlaw bang at.before at.at byte t flaw → fault ≡ fault_at line flaw → FrontFrom bang line place so_far (Some fault)
@@ -154,8 +145,7 @@ tokens_of bang line ts fault front none = front_tokens bang (length line.text) B
 error_by : (bang : Bool) (line : Line) (ts : List Placed) (fault : Fault) (end : Option Flaw) → FrontAt bang line.text ts end → Some fault ≡ option_map (fault_at line) end → IsErrorOf bang line (TuneError.Fault fault)
 error_by bang line ts fault None front e = absurd cc
 error_by bang line ts fault (Some flaw) front e =
-    let whole = front_flaw bang (length line.text) Before.Other 0 line.text ts (Some flaw) flaw front refl in
-    let is : fault ≡ fault_at line flaw = cc in
+    let whole = front_flaw bang (length line.text) Before.Other 0 line.text ts (Some flaw) flaw front refl in let is : fault ≡ fault_at line flaw = cc in
     (flaw, whole, is, λ us. no_list bang (length line.text) Before.Other 0 line.text flaw us whole)
 
 pub error_of : (bang : Bool) (line : Line) (ts : List Placed) (fault : Option Fault) (one : Fault) → FrontOf bang line ts fault → fault ≡ Some one → IsErrorOf bang line (TuneError.Fault one)
@@ -170,11 +160,9 @@ pub no_chord : (bang : Bool) (before : Before) (byte : ℕ) (t : List ℕ) → b
 unfolding piece_at class_of chord_read
 no_chord bang before byte t is none chord =
     let here : piece_at bang before (91 ∷ t) ≡ None = ap (λ b. piece_at bang before (b ∷ t)) (sym is) ∙ none in
-    let opened_is : opened Opening.Chord bang t ≡ None = ap (λ o. opened o bang t) (sym chord) ∙ here in
-    unmapped (λ (z : ChordForm × List ℕ). (chord_form z.0, z.1)) (chord_at bang t) opened_is
+    let opened_is : opened Opening.Chord bang t ≡ None = ap (λ o. opened o bang t) (sym chord) ∙ here in unmapped (λ (z : ChordForm × List ℕ). (chord_form z.0, z.1)) (chord_at bang t) opened_is
 
 pub no_grace : (bang : Bool) (before : Before) (byte : ℕ) (t : List ℕ) → byte ≡ 123 → piece_at bang before (byte ∷ t) ≡ None → grace_at bang t ≡ None
 unfolding piece_at class_of grace_read
 no_grace bang before byte t is none =
-    let here : piece_at bang before (123 ∷ t) ≡ None = ap (λ b. piece_at bang before (b ∷ t)) (sym is) ∙ none in
-    unmapped (λ (z : GraceForm × List ℕ). (grace_form z.0, z.1)) (grace_at bang t) here
+    let here : piece_at bang before (123 ∷ t) ≡ None = ap (λ b. piece_at bang before (b ∷ t)) (sym is) ∙ none in unmapped (λ (z : GraceForm × List ℕ). (grace_form z.0, z.1)) (grace_at bang t) here

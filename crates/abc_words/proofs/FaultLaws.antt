@@ -3,9 +3,7 @@ use Rattle.std.{proofs.{Common.{◌≡◌, ℕ, suc, ◌+◌, ◌≤◌, ◌<◌
 use Rattle.abc_words.specs.{declared.verses.Verse.Verse, Verses.number_on, Verses.most_on, Verses.too_many, Verses.faults_from, Verses.first_of}
 
 pub number_more : (row : ℕ) (before : List Verse) (v : Verse) → number_on row (before ++ v ∷ []) ≡ number_on row before + cond (v.row == row) 1 0
-number_more row before v =
-    let both : number_on row (before ++ v ∷ []) ≡ number_on row before + (0 + cond (v.row == row) 1 0) = sum_by-append (λ (w : Verse). cond (w.row == row) 1 0) before (v ∷ []) in
-    omega arith
+number_more row before v = let both : number_on row (before ++ v ∷ []) ≡ number_on row before + (0 + cond (v.row == row) 1 0) = sum_by-append (λ (w : Verse). cond (w.row == row) 1 0) before (v ∷ []) in omega arith
 
 pub fault_free : (before behind : List Verse) (v : Verse) → number_on v.row before < 8 → faults_from before (v ∷ behind) ≡ faults_from (before ++ v ∷ []) behind
 fault_free before behind v few = rw (lt-leb 8 (number_on v.row before) few) refl
@@ -28,13 +26,11 @@ faults_on verses i v inside here few so_far =
 
 pub fault_found : (verses : List Verse) (i : ℕ) (v : Verse) → i < length verses → v ≡ get_or verses i v → 8 ≤ number_on v.row (take i verses)
     → first_of (faults_from (take i verses) (drop i verses)) ≡ first_of (faults_from [] verses) → Some (too_many v.line) ≡ first_of (faults_from [] verses)
-fault_found verses i v inside here many so_far =
-    sym (fault_here (take i verses) (drop (i + 1) verses) v many) ∙ (ap (λ vs. first_of (faults_from (take i verses) vs)) (sym (one_left verses i v inside here)) ∙ so_far)
+fault_found verses i v inside here many so_far = sym (fault_here (take i verses) (drop (i + 1) verses) v many) ∙ (ap (λ vs. first_of (faults_from (take i verses) vs)) (sym (one_left verses i v inside here)) ∙ so_far)
 
 pub counted_on : (verses : List Verse) (i k : ℕ) (v : Verse) (old new : ℕ) → i < length verses → v ≡ get_or verses i v
     → old ≡ number_on k (take i verses) → new ≡ old + cond (v.row == k) 1 0 → new ≡ number_on k (take (i + 1) verses)
-counted_on verses i k v old new inside here so_far put =
-    put ∙ (ap (λ n. n + cond (v.row == k) 1 0) so_far ∙ (sym (number_more k (take i verses) v) ∙ ap (number_on k) (sym (one_taken verses i v inside here))))
+counted_on verses i k v old new inside here so_far put = put ∙ (ap (λ n. n + cond (v.row == k) 1 0) so_far ∙ (sym (number_more k (take i verses) v) ∙ ap (number_on k) (sym (one_taken verses i v inside here))))
 
 -- where there is no fault, no row has more than eight
 AreFew : List Verse → Type 0

@@ -100,15 +100,12 @@ rows_behind (i ∷ items) before =
     let turned : reverse (i ∷ items) ++ before ≡ reverse items ++ (i ∷ before) = ap (λ xs. xs ++ before) (reverse-append (i ∷ []) items) ∙ append_assoc (reverse items) (i ∷ []) before in
     let rest : row_at (reverse items ++ (i ∷ before)) ≡ row_behind i (row_at before) + length (row_ends items) = rows_behind items (i ∷ before) in
     let here : row_behind i (row_at before) ≡ row_at before + length (row_end i) = row_more i (row_at before) in
-    let both : length (row_end i ++ row_ends items) ≡ length (row_end i) + length (row_ends items) = length-append (row_end i) (row_ends items) in
-    ap row_at turned ∙ omega arith
+    let both : length (row_end i ++ row_ends items) ≡ length (row_end i) + length (row_ends items) = length-append (row_end i) (row_ends items) in ap row_at turned ∙ omega arith
 
 row_within : (items : List Item) (line : ℕ) → row_of (row_ends items) line < row_count items
 row_within items line =
-    let whole : row_at (reverse items ++ []) ≡ row_at [] + length (row_ends items) = rows_behind items [] in
-    let same : row_at (reverse items ++ []) ≡ row_at (reverse items) = ap row_at (append-nil (reverse items)) in
-    let most : row_of (row_ends items) line ≤ length (row_ends items) = row_of_within (row_ends items) line in
-    omega arith
+    let whole : row_at (reverse items ++ []) ≡ row_at [] + length (row_ends items) = rows_behind items [] in let same : row_at (reverse items ++ []) ≡ row_at (reverse items) = ap row_at (append-nil (reverse items)) in
+    let most : row_of (row_ends items) line ≤ length (row_ends items) = row_of_within (row_ends items) line in omega arith
 
 -- the place of an event and a verse
 pub at_place : (rows : List MusicRow) (verses count event verse : ℕ) → event < count → verse < verses → word_at (map (event_words rows verses) (range_with_len 0 count)) event verse ≡ word_of (verse_sung rows verse) event
@@ -117,16 +114,13 @@ at_place rows verses count event verse less within =
     ∙ get_or-map-range_with_len (λ v. word_of (verse_sung rows v) event) 0 verses verse verse None within (omega arith)
 
 stand_apart : (ends : List ℕ) (notes : List SungNote) (i : ℕ) (d : SungNote) → AreApart notes → i < length notes → StandOn ends (get_or notes i d).event (row_of ends (get_or notes i d).line) notes
-stand_apart ends notes i d apart less k e inside same =
-    let at : k ≡ i = apart k i e d inside less same in
-    ap (λ (n : SungNote). row_of ends n.line) (ap (λ j. get_or notes j e) at ∙ get_or_default notes i e d less)
+stand_apart ends notes i d apart less k e inside same = let at : k ≡ i = apart k i e d inside less same in ap (λ (n : SungNote). row_of ends n.line) (ap (λ j. get_or notes j e) at ∙ get_or_default notes i e d less)
 
 pub own_words : (id unnamed : List ℕ) (items : List Item) (notes : List SungNote) (count i verse : ℕ) (d : SungNote) (words : List (List (Option (List ℕ))))
     → words ≡ words_of id unnamed items notes count → AreApart notes → i < length notes → (get_or notes i d).event < count → verse < verse_count id unnamed items
     → word_at words (get_or notes i d).event verse ≡ own_word id unnamed items notes (get_or notes i d) verse
 own_words id unnamed items notes count i verse d words are apart inside less within =
-    let rows : ℕ → MusicRow = music_row (verses_of id unnamed items) (row_ends items) notes in
-    let own : ℕ = row_of (row_ends items) (get_or notes i d).line in
+    let rows : ℕ → MusicRow = music_row (verses_of id unnamed items) (row_ends items) notes in let own : ℕ = row_of (row_ends items) (get_or notes i d).line in
     ap (λ ws. word_at ws (get_or notes i d).event verse) are
     ∙ (at_place (music_rows id unnamed items notes) (verse_count id unnamed items) count (get_or notes i d).event verse less within
     ∙ one_sings rows verse (get_or notes i d).event own 0 (row_count items)

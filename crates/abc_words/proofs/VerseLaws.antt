@@ -53,8 +53,7 @@ one_on i before items = ap (λ xs. xs ++ before) (reverse-append (i ∷ []) item
 all_within : (id unnamed : List ℕ) (before items : List Item) (n : ℕ) → row_at (reverse items ++ before) < n → All (IsWithin n) (verses_from id unnamed before items)
 all_within id unnamed before [] n less = All-nil (IsWithin n)
 all_within id unnamed before (i ∷ items) n less =
-    let here : row_at before < n = rows_rise (reverse (i ∷ items)) before n less in
-    let more : row_at (reverse items ++ (i ∷ before)) < n = subst (λ xs. row_at xs < n) (one_on i before items) less in
+    let here : row_at before < n = rows_rise (reverse (i ∷ items)) before n less in let more : row_at (reverse items ++ (i ∷ before)) < n = subst (λ xs. row_at xs < n) (one_on i before items) less in
     All-append (IsWithin n) (verse_at (place_at id unnamed before) i) (verses_from id unnamed (i ∷ before) items)
     (verse_within (place_at id unnamed before) i n (last_within id unnamed before n here))
     (all_within id unnamed (i ∷ before) items n more)
@@ -64,9 +63,7 @@ verses_within id unnamed items = all_within id unnamed [] items (row_count items
 
 pub found_within : (id unnamed : List ℕ) (items : List Item) (verses : List Verse) (rows : ℕ) → verses ≡ verses_of id unnamed items → rows ≡ row_count items → All (λ v. v.row < rows) verses
 found_within id unnamed items verses rows are is =
-    let P : List Verse → Type 0 = λ vs. All (λ v. v.row < rows) vs in
-    let Q : ℕ → Type 0 = λ n. All (λ v. v.row < n) (verses_of id unnamed items) in
-    subst P (sym are) (subst Q (sym is) (verses_within id unnamed items))
+    let P : List Verse → Type 0 = λ vs. All (λ v. v.row < rows) vs in let Q : ℕ → Type 0 = λ n. All (λ v. v.row < n) (verses_of id unnamed items) in subst P (sym are) (subst Q (sym is) (verses_within id unnamed items))
 
 -- ---- a body without words
 none_along : (id unnamed : List ℕ) (before items : List Item) → list_any is_words items ≡ false → verses_from id unnamed before items ≡ []
@@ -79,9 +76,7 @@ none_counted [] = refl
 none_counted (row ∷ rows) = none_counted rows
 
 pub no_words_no_count : (id unnamed : List ℕ) (items : List Item) → list_any is_words items ≡ false → 0 ≡ verse_count id unnamed items
-no_words_no_count id unnamed items none =
-    let rows = range_with_len 0 (row_count items) in
-    sym (ap (λ vs. fold max 0 (map (λ row. number_on row vs) rows)) (none_along id unnamed [] items none) ∙ none_counted rows)
+no_words_no_count id unnamed items none = let rows = range_with_len 0 (row_count items) in sym (ap (λ vs. fold max 0 (map (λ row. number_on row vs) rows)) (none_along id unnamed [] items none) ∙ none_counted rows)
 
 pub no_words_no_fault : (id unnamed : List ℕ) (items : List Item) → list_any is_words items ≡ false → None ≡ verse_fault id unnamed items
 no_words_no_fault id unnamed items none = ap (λ vs. first_of (faults_from [] vs)) (sym (none_along id unnamed [] items none))

@@ -13,8 +13,7 @@ spread_back word =
 -- the command with this front and these options
 abbrev rebuilt : List (List ℕ) → Options → Command
 rebuilt front o =
-    let key = key_of (head_of front) in
-    let tunes = digits_value 10 (head_of (tail_of front)) in
+    let key = key_of (head_of front) in let tunes = digits_value 10 (head_of (tail_of front)) in
     if key == 332 then Command.Set o.flow (unwrap_or o.jobs 1) (unwrap_or o.by (pos 0)) o.even else
     if key == 467 then Command.Systems o.flow o.table (unwrap_or o.by (pos 0)) else
     if key == 442 then Command.Inspect else
@@ -59,14 +58,7 @@ asked_is_good words c asks = good_by c asks.options asks.behind asks.tunes asks.
 -- what a command's front and its options, read from the same words, make of them
 module _ (words rest : List (List ℕ)) (c : Command) (o : Options) (flags : List Flag) (whole : words ≡ front_of c ++ rest) (is : IsSpelled flags rest) (says : o ≡ said flags) where
   asked : (d : Command) → front_of d ≡ front_of c → HasTunes d → Says o d → Asks words d
-  asked d e good tells = record {
-    options = flags;
-    behind = rest;
-    whole = whole ∙ ap (λ front. front ++ rest) (sym e);
-    tunes = good;
-    spelled = is;
-    says = subst (λ o. Says o d) says tells;
-  }
+  asked d e good tells = record { options = flags; behind = rest; whole = whole ∙ ap (λ front. front ++ rest) (sym e); tunes = good; spelled = is; says = subst (λ o. Says o d) says tells }
 
   pub asks_by : (r : Option Command) → MatchOption r ((d : Command) → front_of d ≡ front_of c → Says o d → ⊥) (λ d. (front_of d ≡ front_of c) × HasTunes d × Says o d) → IfSome r (λ d. Asks words d)
   asks_by None h = tt
@@ -74,9 +66,7 @@ module _ (words rest : List (List ℕ)) (c : Command) (o : Options) (flags : Lis
 
   pub none_by : (r : Option Command) → MatchOption r ((d : Command) → front_of d ≡ front_of c → Says o d → ⊥) (λ d. (front_of d ≡ front_of c) × HasTunes d × Says o d) → IfNone r (IsListed words → ⊥)
   none_by None h = λ listed. (
-      let a = listed.1 in
-      let fronts = same_front listed.0 c a.behind rest (sym a.whole ∙ whole) in
-      let same : a.options ≡ flags = one_spelling a.options flags rest (subst (IsSpelled a.options) fronts.1 a.spelled) is in
+      let a = listed.1 in let fronts = same_front listed.0 c a.behind rest (sym a.whole ∙ whole) in let same : a.options ≡ flags = one_spelling a.options flags rest (subst (IsSpelled a.options) fronts.1 a.spelled) is in
       h listed.0 fronts.0 (subst (λ o. Says o listed.0) (ap said same ∙ sym says) a.says))
   none_by (Some d) h = tt
 

@@ -35,16 +35,11 @@ what_follows (f ∷ seen) [] rest a b e = absurd (some_words f (flat_map flag_wo
 what_follows (f ∷ seen) (g ∷ flags) rest a b e =
     let both = one_flag f g (flat_map flag_words seen ++ rest) (flat_map flag_words flags) (All-head IsFlag f seen a) (All-head IsFlag g flags b)
     (sym (append_assoc (flag_words f) (flat_map flag_words seen) rest) ∙ e) in
-    let more = what_follows seen flags rest (All-tail IsFlag f seen a) (All-tail IsFlag g flags b) both.1 in
-    let same : g ∷ flags ≡ f ∷ (seen ++ more.0) = cc (both.0, more.1) in
-    (more.0, same, more.2, more.3)
+    let more = what_follows seen flags rest (All-tail IsFlag f seen a) (All-tail IsFlag g flags b) both.1 in let same : g ∷ flags ≡ f ∷ (seen ++ more.0) = cc (both.0, more.1) in (more.0, same, more.2, more.3)
 
 -- how many of a kind there are with one among them
 counted : (p : Flag → Bool) (xs : List Flag) (f : Flag) (ys : List Flag) → count_by p (xs ++ f ∷ ys) ≡ count_by p xs + (cond (p f) 1 0 + count_by p ys)
-counted p xs f ys =
-    let one = sum_by-append (λ x. cond (p x) 1 0) xs (f ∷ ys) in
-    let two = sum_by-append (λ x. cond (p x) 1 0) (f ∷ []) ys in
-    omega arith
+counted p xs f ys = let one = sum_by-append (λ x. cond (p x) 1 0) xs (f ∷ ys) in let two = sum_by-append (λ x. cond (p x) 1 0) (f ∷ []) ys in omega arith
 
 any_counted : (p : Flag → Bool) (xs : List Flag) (b : Bool) → list_any p xs ≡ b → cond b (1 ≤ count_by p xs) (count_by p xs ≡ 0)
 any_counted p [] true e = cc
@@ -142,11 +137,8 @@ fits seen once f none g = by_test (same_kind g f) refl
     by_test : (b : Bool) → same_kind g f ≡ b → count_by (same_kind g) (seen ++ f ∷ []) ≤ 1
     by_test true is =
         let n = any_counted (same_kind g) seen false (sym (kinds_said g seen) ∙ sym (kinds_alike (said seen) f g is) ∙ none) in
-        let c : count_by (same_kind g) (seen ++ f ∷ []) ≡ count_by (same_kind g) seen + (1 + 0) = rw is at (counted (same_kind g) seen f []) in
-        omega arith
-    by_test false is =
-        let c : count_by (same_kind g) (seen ++ f ∷ []) ≡ count_by (same_kind g) seen + (0 + 0) = rw is at (counted (same_kind g) seen f []) in
-        omega (arith, once g)
+        let c : count_by (same_kind g) (seen ++ f ∷ []) ≡ count_by (same_kind g) seen + (1 + 0) = rw is at (counted (same_kind g) seen f []) in omega arith
+    by_test false is = let c : count_by (same_kind g) (seen ++ f ∷ []) ≡ count_by (same_kind g) seen + (0 + 0) = rw is at (counted (same_kind g) seen f []) in omega (arith, once g)
 
 adds_one : (seen : List Flag) → IsOnce seen → (f : Flag) (o : Options) → added (said seen) f ≡ Some o → IsOnce (seen ++ f ∷ []) × (o ≡ said (seen ++ f ∷ []))
 adds_one seen once f o e = by_kind (has_kind (said seen) f) refl e
@@ -162,8 +154,7 @@ twice seen more f e once = by_kind (has_kind (said seen) f) refl e
     by_kind : (b : Bool) → has_kind (said seen) f ≡ b → cond {A = Option Options} b None (Some (with_flag (said seen) f)) ≡ None → ⊥
     by_kind true is e =
         let n = any_counted (same_kind f) seen true (sym (kinds_said f seen) ∙ is) in
-        let c : count_by (same_kind f) (seen ++ f ∷ more) ≡ count_by (same_kind f) seen + (1 + count_by (same_kind f) more) = rw (own_kind f) at (counted (same_kind f) seen f more) in
-        omega (arith, once f)
+        let c : count_by (same_kind f) (seen ++ f ∷ more) ≡ count_by (same_kind f) seen + (1 + count_by (same_kind f) more) = rw (own_kind f) at (counted (same_kind f) seen f more) in omega (arith, once f)
     by_kind false is e = cc
 
 pub one_more : (words rest behind : List (List ℕ)) (o p : Options) (f : Flag) → IsRead words rest o → IsFlag f → rest ≡ flag_words f ++ behind → added o f ≡ Some p → IsRead words behind p
@@ -199,15 +190,13 @@ repeated words rest behind o f read fine e adds flags is = (let l = left words r
     by_more : (more : List Flag) → flags ≡ read.seen ++ more → rest ≡ flat_map flag_words more → All IsFlag more → ⊥
     by_more [] a b good = some_words f behind (sym e ∙ b)
     by_more (g ∷ more) a b good =
-        let same = one_flag f g behind (flat_map flag_words more) fine (All-head IsFlag g more good) (sym e ∙ b) in
-        let stand : flags ≡ read.seen ++ f ∷ more = a ∙ ap (λ h. read.seen ++ h ∷ more) (sym same.0) in
+        let same = one_flag f g behind (flat_map flag_words more) fine (All-head IsFlag g more good) (sym e ∙ b) in let stand : flags ≡ read.seen ++ f ∷ more = a ∙ ap (λ h. read.seen ++ h ∷ more) (sym same.0) in
         twice read.seen more f (subst (λ o. added o f ≡ None) read.says adds) (subst IsOnce stand is.once)
 
 -- options that have the same words are the same
 pub one_spelling : (flags others : List Flag) (words : List (List ℕ)) → IsSpelled flags words → IsSpelled others words → flags ≡ others
 one_spelling flags others words a b =
-    let l = what_follows flags others [] a.in_range b.in_range (append-nil (flat_map flag_words flags) ∙ sym a.spelled ∙ b.spelled) in
-    by_more l.0 l.1 l.2
+    let l = what_follows flags others [] a.in_range b.in_range (append-nil (flat_map flag_words flags) ∙ sym a.spelled ∙ b.spelled) in by_more l.0 l.1 l.2
   where
     by_more : (more : List Flag) → others ≡ flags ++ more → [] ≡ flat_map flag_words more → flags ≡ others
     by_more [] e none = sym (append-nil flags) ∙ sym e

@@ -33,9 +33,7 @@ key_eq : (m n : ℕ) → m ≡ n → (m == n) ≡ true
 key_eq m n e = grind (arith, nat_tests)
 
 pub clash : (name : List ℕ) (words other : List (List ℕ)) → words ≡ other → head_of words ≡ name → (key_of name == key_of (head_of other)) ≡ false → ⊥
-clash name words other e is apart =
-    let same : key_of name ≡ key_of (head_of other) = sym (ap key_of is) ∙ ap (λ ws. key_of (head_of ws)) e in
-    true≢false (sym (key_eq (key_of name) (key_of (head_of other)) same) ∙ apart)
+clash name words other e is apart = let same : key_of name ≡ key_of (head_of other) = sym (ap key_of is) ∙ ap (λ ws. key_of (head_of ws)) e in true≢false (sym (key_eq (key_of name) (key_of (head_of other)) same) ∙ apart)
 
 pub no_jobs : (word : List ℕ) (words : List (List ℕ)) → word ≡ codes "--jobs" → LacksNumber 64 words → (f : Flag) (rest : List (List ℕ)) → IsFlag f → word ∷ words ≡ flag_words f ++ rest → ⊥
 no_jobs word words is none (Flag.Jobs n) rest good e = none n rest good (ap tail_of e)

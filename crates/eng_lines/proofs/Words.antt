@@ -57,17 +57,14 @@ cut_here : (b : ℕ) (s : List ℕ) (i : ℕ) → i < length s → eqb (slice_in
 cut_here b [] i l e h = absurd (omega arith)
 cut_here b (x ∷ s) zero l e h = (ap (λ y. y ∷ s) (eqb-true x b e), tt)
 cut_here b (x ∷ s) (suc i) l e h =
-    let m = cut_here b s i (omega arith) e (λ k lt. h (suc k) (omega arith)) in
-    (ap (λ t. x ∷ t) m.0, (λ q. true≢false (sym (same x b q) ∙ h 0 (omega arith)), m.1))
+    let m = cut_here b s i (omega arith) e (λ k lt. h (suc k) (omega arith)) in (ap (λ t. x ∷ t) m.0, (λ q. true≢false (sym (same x b q) ∙ h 0 (omega arith)), m.1))
   where
     same : (x b : ℕ) → x ≡ b → eqb x b ≡ true
     same x b e = grind arith
 
 pub cut_some : (b : ℕ) (s : List ℕ) (i : ℕ) → position (λ x. eqb x b) s ≡ Some i → (s ≡ take i s ++ b ∷ drop (i + 1) s) × Lacks b (take i s)
 cut_some b s i e =
-    let p = position-Some (λ x. eqb x b) s i 0 e in
-    let more : i + 1 ≡ suc i = omega arith in
-    rw more (cut_here b s i p.0 p.1 p.2)
+    let p = position-Some (λ x. eqb x b) s i 0 e in let more : i + 1 ≡ suc i = omega arith in rw more (cut_here b s i p.0 p.1 p.2)
 
 pub cut_none : (b : ℕ) (s : List ℕ) → position (λ x. eqb x b) s ≡ None → Lacks b s
 cut_none b s e = lacks_each b s (λ k l. elim (cases_lt (position_or_len (λ x. eqb x b) s) (length s)) [
@@ -81,8 +78,7 @@ cut_none b s e = lacks_each b s (λ k l. elim (cases_lt (position_or_len (λ x. 
 -- where the same bytes are a number, a space and more in two ways, the two are the same
 pub one_field : (a n : ℕ) (t r s : List ℕ) → a < 2 ^ 64 → n < 2 ^ 64 → t ≡ decimal a ++ 32 ∷ r → t ≡ decimal n ++ 32 ∷ s → (a ≡ n) × (r ≡ s)
 one_field a n t r s la ln e f =
-    let m = one_cut 32 (decimal a) (decimal n) r s (decimal_lacks 32 a (inl (omega arith)) la) (decimal_lacks 32 n (inl (omega arith)) ln) (sym e ∙ f) in
-    (decimal_injective a n la ln m.0, m.1)
+    let m = one_cut 32 (decimal a) (decimal n) r s (decimal_lacks 32 a (inl (omega arith)) la) (decimal_lacks 32 n (inl (omega arith)) ln) (sym e ∙ f) in (decimal_injective a n la ln m.0, m.1)
 
 pub after_prefix : (p t r s : List ℕ) → t ≡ p ++ r → t ≡ p ++ s → r ≡ s
 after_prefix p t r s e f = append_cancel_left p r s (sym e ∙ f)

@@ -47,9 +47,7 @@ close_of zs h z (inl c) = close_at zs h c.0 z c.1 c.2
 
 pub bounds_are_close : (g : Glyph) → AreClose (bounds_in g)
 bounds_are_close g =
-    let are = bounds_are g in
-    let points = points_close g in
-    let across : list_all is_close (coordinates abscissa (outline_of g)) ≡ true = grind (arith, nat_tests) in
+    let are = bounds_are g in let points = points_close g in let across : list_all is_close (coordinates abscissa (outline_of g)) ≡ true = grind (arith, nat_tests) in
     let up : list_all is_close (coordinates ordinate (outline_of g)) ≡ true = grind (arith, nat_tests) in
     record {
       left = close_of (coordinates abscissa (outline_of g)) across (bounds_in g).left are.left.1;

@@ -27,8 +27,7 @@ other xs ys e y (i, inside, is) =
 pub same_apart : (width : ℕ) (at : List ℤ) (xs ys : List Laid) → marks_shape xs ≡ marks_shape ys → AreApart width at xs → AreApart width at ys
 same_apart width at xs ys e h = record {
   apart = λ x y r q first second in_x in_y at_x at_y same order.
-      let u = other xs ys e x in_x in let v = other xs ys e y in_y in
-      let lane = ap (λ (l : Laid). l.lane) u.2 in
+      let u = other xs ys e x in_x in let v = other xs ys e y in_y in let lane = ap (λ (l : Laid). l.lane) u.2 in
       subst (λ l. ((x_at at r +ℤ first.right) +ℤ pos (gap_of l)) ≤ℤ (x_at at q +ℤ second.left)) lane
       (h.apart u.0 v.0 r q first second u.1 v.1 (boxed_alike u.0 x r first u.2 at_x) (boxed_alike v.0 y q second v.2 at_y)
       (lane ∙ same ∙ sym (ap (λ (l : Laid). l.lane) v.2)) order);

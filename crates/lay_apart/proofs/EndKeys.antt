@@ -53,14 +53,11 @@ bar_class lengths a b k below place = by k.class refl
 
 bar_last : (lengths : List ℕ) (a b : ℕ) (ks : List ColumnKey) → Rises ks → All (IsInSystem lengths a b) ks → Contains ks (bar_key lengths (b - 1)) → (d : ColumnKey) → (get_or ks (length ks - 1) d).class ≡ Class.Bar
 bar_last lengths a b ks rise all (i, inside, is) d =
-    let bar = bar_key lengths (b - 1) in
-    let last = length ks - 1 in
-    let within : last < length ks = omega (arith, inside) in
+    let bar = bar_key lengths (b - 1) in let last = length ks - 1 in let within : last < length ks = omega (arith, inside) in
     elim (cases_lt i last) [
       | inl before ↦ bar_class lengths a b (get_or ks last d) (subst (λ k. is_below k (get_or ks last d) ≡ true) is (below_at ks rise i last bar d before within)) (all last d within)
       | inr there ↦
-          let e : i ≡ last = omega (arith, inside, there) in
-          ap (λ k. k.class) (get_or_default ks last d bar within ∙ subst (λ j. get_or ks j bar ≡ bar) e is)
+          let e : i ≡ last = omega (arith, inside, there) in ap (λ k. k.class) (get_or_default ks last d bar within ∙ subst (λ j. get_or ks j bar ≡ bar) e is)
     ]
 
 -- ---- a system's keys

@@ -18,25 +18,15 @@ pub record IsPlaceOf (verses : List ℕ) (s count lane : ℕ) : Type 0 where
 
 place_first : (v : ℕ) (verses : List ℕ) (count lane : ℕ) → v ≡ count → lane < lane_count count → IsPlaceOf (v ∷ verses) zero count lane
 place_first v verses count lane e l =
-    let place : 0 + lane ≡ lane = omega arith in
-    let long = gaps_long v in
-    let both = length-append (staff_gaps v) (gaps_of verses) in
+    let place : 0 + lane ≡ lane = omega arith in let long = gaps_long v in let both = length-append (staff_gaps v) (gaps_of verses) in
     let inside : lane < length (staff_gaps v) = subst (λ n. lane < n) (sym (gaps_long v ∙ ap lane_count e)) l in
-    record {
-      inside = omega (arith, both, inside);
-      gap = ap (slice_index (gaps_of (v ∷ verses))) place ∙ get_or_append_left (staff_gaps v) (gaps_of verses) 0 lane inside ∙ ap (λ n. slice_index (staff_gaps n) lane) e;
-    }
+    record { inside = omega (arith, both, inside); gap = ap (slice_index (gaps_of (v ∷ verses))) place ∙ get_or_append_left (staff_gaps v) (gaps_of verses) 0 lane inside ∙ ap (λ n. slice_index (staff_gaps n) lane) e }
 
 place_behind : (v : ℕ) (verses : List ℕ) (s count lane : ℕ) → IsPlaceOf verses s count lane → IsPlaceOf (v ∷ verses) (suc s) count lane
 place_behind v verses s count lane h =
-    let both = length-append (staff_gaps v) (gaps_of verses) in
-    let long = gaps_long v in
-    let inside = h.inside in
+    let both = length-append (staff_gaps v) (gaps_of verses) in let long = gaps_long v in let inside = h.inside in
     let place : lane_count v + lane_start verses s + lane ≡ length (staff_gaps v) + (lane_start verses s + lane) = omega (arith, long) in
-    record {
-      inside = omega (arith, both, long, inside);
-      gap = ap (slice_index (gaps_of (v ∷ verses))) place ∙ get_or-append-add (staff_gaps v) (gaps_of verses) (lane_start verses s + lane) 0 ∙ h.gap;
-    }
+    record { inside = omega (arith, both, long, inside); gap = ap (slice_index (gaps_of (v ∷ verses))) place ∙ get_or-append-add (staff_gaps v) (gaps_of verses) (lane_start verses s + lane) 0 ∙ h.gap }
 
 pub place_of_lane : (verses : List ℕ) (s count lane : ℕ) → slice_get verses s ≡ Some count → lane < lane_count count → IsPlaceOf verses s count lane
 place_of_lane [] s count lane e l = absurd (none-some count e)

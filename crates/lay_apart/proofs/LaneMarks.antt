@@ -25,7 +25,6 @@ module _ (verses : ℕ) where
 pub lane_of : (keys : List ColumnKey) (lengths : List ℕ) (a b : ℕ) (voices : List DrawnVoice) → AllByRecursion FitsVoice voices
     → (laid : Laid) → Contains (staff_marks keys lengths a b voices).marks laid → HasLane (verses_on voices) laid.lane
 lane_of keys lengths a b voices fit laid has =
-    let verses = verses_on voices in
-    let all = (staff_marks keys lengths a b voices).marks in
+    let verses = verses_on voices in let all = (staff_marks keys lengths a b voices).marks in
     All-contains (IsLaned verses) all laid
     (All-from_recursion (IsLaned verses) all (staff_all verses keys (IsLaned verses) (all_laned verses keys) lengths a b voices (omega arith) fit)) has

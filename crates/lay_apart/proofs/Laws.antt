@@ -26,8 +26,7 @@ module _ (s : Score) (width a b : ℕ) (m : SystemMarks) (p : Placed) (good : Is
   between : 1 ≤ length s.voices → StandBetween (length (system_columns s m)) (reach_at column_reach (system_columns s m)) (score_gaps s)
       (length_at column_length (system_columns s m) p.force) width p.at
   between some =
-      let keys = some_keys s a b m.keys good order within some is.keys in
-      let any : 0 < length (system_columns s m) = subst (λ n. 0 < n) (sym (system_count s m)) keys in
+      let keys = some_keys s a b m.keys good order within some is.keys in let any : 0 < length (system_columns s m) = subst (λ n. 0 < n) (sym (system_count s m)) keys in
       record {
         apart = placed.apart;
         ends = justified_within (score_gaps s) width (m.b == s.measures) (system_columns s m) p any placed;
@@ -45,9 +44,7 @@ module _ (s : Score) (width a b : ℕ) (m : SystemMarks) (p : Placed) (good : Is
 
   one_apart : (k : ℕ) (staff : StaffMarks) → slice_get m.staves k ≡ Some staff → AreRanked (length m.keys) staff.marks → AreApart width p.at staff.marks
   one_apart k staff at ranked =
-      let marks = staff_marks m.keys (timeline_of s).lengths a b in
-      let voices = made_of marks (drawn_staves s) k staff (ap (λ staves. slice_get staves k) (sym is.staves) ∙ at) in
-      let count = verses_on voices.0 in
+      let marks = staff_marks m.keys (timeline_of s).lengths a b in let voices = made_of marks (drawn_staves s) k staff (ap (λ staves. slice_get staves k) (sym is.staves) ∙ at) in let count = verses_on voices.0 in
       let fit = good_at (AllByRecursion FitsVoice) (drawn_staves s) k voices.0 (All-from_recursion (AllByRecursion FitsVoice) (drawn_staves s) (staves_fit s good)) voices.1 in
       staff_apart m.staves (verses_of s) (system_columns s m) (length_at column_length (system_columns s m) p.force) width p.at (between (some_voice k voices.0 voices.1)) small
       (columns_cover m.staves (timeline_of s).lengths (verses_of s) m.keys) k count staff at

@@ -17,12 +17,10 @@ module _ (keys : List ColumnKey) (staves : List StaffMarks) (lengths verses : Li
   pub stands_at : (i : ℕ) → i < length keys → length verses ≡ length staves → ((d : ColumnKey) → stands_always (get_or keys i d).class ≡ true) → StandsInAll (reach_at column_reach columns i) (length (gaps_of verses))
   stands_at i l same always lane m =
       let count : length columns ≡ length keys = sym (length-map columns (λ c. c.key)) ∙ ap (λ ks. length ks) (columns_keys staves lengths verses 0 keys) in
-      let inside : i < length columns = subst (λ n. i < n) (sym count) l in
-      let column = get_or columns i no_column in
+      let inside : i < length columns = subst (λ n. i < n) (sym count) l in let column = get_or columns i no_column in
       let key : get_or keys i no_column.key ≡ column.key =
       ap (λ ks. get_or ks i no_column.key) (sym (columns_keys staves lengths verses 0 keys)) ∙ get_or-map (λ c. c.key) columns i no_column no_column.key inside in
-      let due : StandsWhereDue verses column = columns_stand staves lengths verses keys same i no_column inside in
-      let stands = due (ap (λ k. stands_always k.class) (sym key) ∙ always no_column.key) lane m in
+      let due : StandsWhereDue verses column = columns_stand staves lengths verses keys same i no_column inside in let stands = due (ap (λ k. stands_always k.class) (sym key) ∙ always no_column.key) lane m in
       (stands.0, ap (λ r. r lane) (reach_is column_reach columns i column (slice_get-get_or columns i no_column inside)) ∙ stands.1)
 
 module _ (s : Score) (a b : ℕ) (m : SystemMarks) (good : IsGoodScore s) (order : a < b) (within : b ≤ s.measures) (is : IsSystem s a b m) where

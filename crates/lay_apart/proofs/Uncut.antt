@@ -25,38 +25,24 @@ module _ (n : ℕ) (reach : ℕ → ℕ → Option Reach) (gaps : List ℕ) (spr
   left_inside : (k lane : ℕ) (r : Reach) → k < n → lane < length gaps → reach k lane ≡ Some r → pos r.left ≤ℤ x_at at k
   left_inside k lane r l m e = elim (cases_lt 0 k) [
     | inl later ↦
-        let s = h.first lane m in
-        let c = h.apart.lanes 0 k later l lane s.0 r m s.1 e in
-        let b = h.apart.begins (omega arith) in
-        omega (arith, ints)
+        let s = h.first lane m in let c = h.apart.lanes 0 k later l lane s.0 r m s.1 e in let b = h.apart.begins (omega arith) in omega (arith, ints)
     | inr here ↦
-        let z : k ≡ 0 = omega arith in
-        subst (λ i. pos r.left ≤ℤ x_at at i) (sym z) (h.apart.head (omega arith) lane r m (subst (λ i. reach i lane ≡ Some r) z e))
+        let z : k ≡ 0 = omega arith in subst (λ i. pos r.left ≤ℤ x_at at i) (sym z) (h.apart.head (omega arith) lane r m (subst (λ i. reach i lane ≡ Some r) z e))
   ]
 
   right_inside : (k lane : ℕ) (r : Reach) → k < n → lane < length gaps → reach k lane ≡ Some r → (x_at at k +ℤ pos r.right) ≤ℤ pos width
   right_inside k lane r l m e = elim (cases_lt k (n - 1)) [
     | inl before ↦
-        let s = h.last lane m in
-        let c = h.apart.lanes k (n - 1) before (omega arith) lane r s.0 m e s.1 in
-        let p = h.ends.past in
-        omega (arith, ints)
+        let s = h.last lane m in let c = h.apart.lanes k (n - 1) before (omega arith) lane r s.0 m e s.1 in let p = h.ends.past in omega (arith, ints)
     | inr there ↦
-        let z : k ≡ n - 1 = omega arith in
-        subst (λ i. (x_at at i +ℤ pos r.right) ≤ℤ pos width) (sym z) (h.ends.reaches lane r m (subst (λ i. reach i lane ≡ Some r) z e))
+        let z : k ≡ n - 1 = omega arith in subst (λ i. (x_at at i +ℤ pos r.right) ≤ℤ pos width) (sym z) (h.ends.reaches lane r m (subst (λ i. reach i lane ≡ Some r) z e))
   ]
 
   left_covered : (k lane : ℕ) (r : Reach) (box : Sides) → width < 2 ^ 20 → k < n → lane < length gaps → reach k lane ≡ Some r → Covers r box → neg_ℤ box.left ≤ℤ pos r.left
-  left_covered k lane r box small l m e c = elim c.0 [
-    | inl is ↦ is
-    | inr cut ↦ absurd (cut_left (x_at at k) r.left r.right width (left_inside k lane r l m e) (right_inside k lane r l m e) small cut)
-  ]
+  left_covered k lane r box small l m e c = elim c.0 [ inl is ↦ is | inr cut ↦ absurd (cut_left (x_at at k) r.left r.right width (left_inside k lane r l m e) (right_inside k lane r l m e) small cut) ]
 
   right_covered : (k lane : ℕ) (r : Reach) (box : Sides) → width < 2 ^ 20 → k < n → lane < length gaps → reach k lane ≡ Some r → Covers r box → box.right ≤ℤ pos r.right
-  right_covered k lane r box small l m e c = elim c.1 [
-    | inl is ↦ is
-    | inr cut ↦ absurd (cut_right (x_at at k) r.left r.right width (left_inside k lane r l m e) (right_inside k lane r l m e) small cut)
-  ]
+  right_covered k lane r box small l m e c = elim c.1 [ inl is ↦ is | inr cut ↦ absurd (cut_right (x_at at k) r.left r.right width (left_inside k lane r l m e) (right_inside k lane r l m e) small cut) ]
 
 -- ---- boxes
 clear_boxes : (x y first second : ℤ) (right gap left : ℕ) → (x +ℤ pos (right + gap + left)) ≤ℤ y → first ≤ℤ pos right → neg_ℤ second ≤ℤ pos left → ((x +ℤ first) +ℤ pos gap) ≤ℤ (y +ℤ second)
@@ -95,9 +81,7 @@ module _ (staves : List StaffMarks) (verses : List ℕ) (columns : List Column) 
 
   has_reach : (x : Laid) (r number : ℕ) (box : Sides) → Contains staff.marks x → rank_of x.mark ≡ Some r → sides_of x.mark ≡ Some box → lane_number x.lane ≡ Some number → number < lane_count count → HasReach r number box
   has_reach x r number box inside at_rank at_box at_lane low =
-      let place = place_of_lane verses s count number at_count low in
-      let l = below x r inside at_rank in
-      let c = cover s r number count staff x box at_staff at_count inside at_rank l at_lane low at_box in
+      let place = place_of_lane verses s count number at_count low in let l = below x r inside at_rank in let c = cover s r number count staff x box at_staff at_count inside at_rank l at_lane low at_box in
       record {
         reach = c.0;
         is = c.1;
@@ -110,8 +94,7 @@ module _ (staves : List StaffMarks) (verses : List ℕ) (columns : List Column) 
   two_apart : (x y : Laid) (r q : ℕ) (first second : Sides) → Contains staff.marks x → Contains staff.marks y → IsBoxed x r first → IsBoxed y q second
       → x.lane ≡ y.lane → r < q → ((x_at at r +ℤ first.right) +ℤ pos (gap_of x.lane)) ≤ℤ (x_at at q +ℤ second.left)
   two_apart x y r q first second in_x in_y at_x at_y same order =
-      let number = number_of count x.lane at_x.keeps (laned x in_x) in
-      let place = place_of_lane verses s count number.0 at_count number.1.low in
+      let number = number_of count x.lane at_x.keeps (laned x in_x) in let place = place_of_lane verses s count number.0 at_count number.1.low in
       let from = has_reach x r number.0 first in_x at_x.rank_is at_x.box_is number.1.is number.1.low in
       let to = has_reach y q number.0 second in_y at_y.rank_is at_y.box_is (ap lane_number (sym same) ∙ number.1.is) number.1.low in
       let clear = h.apart.lanes r q order (below y q in_y at_y.rank_is) (lane_start verses s + number.0) from.reach to.reach place.inside from.is to.is in
@@ -120,8 +103,7 @@ module _ (staves : List StaffMarks) (verses : List ℕ) (columns : List Column) 
 
   one_within : (x : Laid) (r : ℕ) (box : Sides) → Contains staff.marks x → IsBoxed x r box → (pos 0 ≤ℤ (x_at at r +ℤ box.left)) × ((x_at at r +ℤ box.right) ≤ℤ pos width)
   one_within x r box in_x at_x =
-      let number = number_of count x.lane at_x.keeps (laned x in_x) in
-      let has = has_reach x r number.0 box in_x at_x.rank_is at_x.box_is number.1.is number.1.low in
+      let number = number_of count x.lane at_x.keeps (laned x in_x) in let has = has_reach x r number.0 box in_x at_x.rank_is at_x.box_is number.1.is number.1.low in
       (box_low (x_at at r) box.left has.reach.left has.inside has.left, box_high (x_at at r) box.right has.reach.right width has.ends has.right)
 
   pub staff_apart : AreApart width at staff.marks

@@ -66,10 +66,7 @@ module _ (cost : ℕ → ℕ → Option ℕ) (forced : ℕ → Bool) where
         elim (cases_lt (top s) a) [
           | inl lt ↦ lex_under s r (let e = c.ends in omega arith)
           | inr ge ↦
-              let k : top s ≤ a = h.latest s l (q ∙ is) in
-              let e : top s ≡ a = omega arith in
-              let p = price r c.ends in let p' = price s e in
-              c.latest s l.back e (omega arith)
+              let k : top s ≤ a = h.latest s l (q ∙ is) in let e : top s ≡ a = omega arith in let p = price r c.ends in let p' = price s e in c.latest s l.back e (omega arith)
         ],
       )
 
@@ -95,9 +92,7 @@ module _ (cost : ℕ → ℕ → Option ℕ) (forced : ℕ → Bool) where
   pub follows_chosen : (n : ℕ) (ps : List (Option ℕ)) (fs : List ℕ) → IsTable cost forced n n ps fs → (r : List ℕ) (i v : ℕ) → i ≤ n → slice_index_or ps i None ≡ Some v → Follows fs i r → IsChosenBack cost forced i r
   follows_chosen n ps fs h [] i v le is f = subst (λ i. IsChosenBack cost forced i []) (sym f) chosen_zero
   follows_chosen n ps fs h (x ∷ r) i v le is f =
-      let row = rw is at (h.rows i f.1 le) in
-      let a : ℕ = slice_index fs i in
-      let below : slice_index fs i < i = h.falls i f.1 le in
+      let row = rw is at (h.rows i f.1 le) in let a : ℕ = slice_index fs i in let below : slice_index fs i < i = h.falls i f.1 le in
       subst (λ x. IsChosenBack cost forced i (x ∷ r)) (sym f.0)
       (chosen_more n i v (slice_index fs i) r f.1 le row
       (from (slice_index_or ps (slice_index fs i) None) refl (λ w e. follows_chosen n ps fs h r (slice_index fs i) w (omega arith) e f.2) row below))

@@ -5,9 +5,7 @@ use Rattle.lay_breaks.{specs.{Breaking.{IsLegal, sum_from, LexAtMost, IsPotentia
 module _ (cost : ℕ → ℕ → Option ℕ) (forced : ℕ → Bool) (free : forced 0 ≡ false) where
   -- what holds of each list of spans to bar i, read forwards, holds of each legal list
   pub every_legal : (i : ℕ) (P : List ℕ → Type 0) → ((r : List ℕ) → IsBack cost forced r → top r ≡ i → P (reverse r)) → (bs : List ℕ) → IsLegal cost forced bs i → P bs
-  every_legal i P p bs h =
-      let b = legal_back cost forced (reverse bs) i (subst (λ bs. IsLegal cost forced bs i) (sym (reverse-reverse bs)) h) in
-      subst P (reverse-reverse bs) (p (reverse bs) b.0 b.1)
+  every_legal i P p bs h = let b = legal_back cost forced (reverse bs) i (subst (λ bs. IsLegal cost forced bs i) (sym (reverse-reverse bs)) h) in subst P (reverse-reverse bs) (p (reverse bs) b.0 b.1)
 
   pub least_sum : (i v : ℕ) → IsLeastBack cost forced i v → IsLeastSum cost forced i v
   least_sum i v h = record {
@@ -28,11 +26,7 @@ module _ (cost : ℕ → ℕ → Option ℕ) (forced : ℕ → Bool) (free : for
 
     -- the last bar with a potential is the last that is reached
     pub reached : (k : ℕ) → k ≤ n → IsSome (slice_index_or ps k None) → ((i : ℕ) → i ≤ n → IsSome (slice_index_or ps i None) → i ≤ k) → IsReached cost forced n k
-    reached k le some greatest = record {
-      within = le;
-      legal = way (slice_index_or ps k None) some (potential k le);
-      greatest = λ i bs l h. greatest i l (is (slice_index_or ps i None) bs h (potential i l));
-    }
+    reached k le some greatest = record { within = le; legal = way (slice_index_or ps k None) some (potential k le); greatest = λ i bs l h. greatest i l (is (slice_index_or ps i None) bs h (potential i l)) }
       where
         way : (o : Option ℕ) → IsSome o → IsPotential cost forced k o → (bs : List ℕ) × IsLegal cost forced bs k
         way None s p = cc

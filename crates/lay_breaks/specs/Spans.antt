@@ -33,11 +33,7 @@ listed (s ∷ ss) a b = if has_ends a b s then Some s.badness else listed ss a b
 -- What follows from the form: the two laws of costs.
 pub listed_small : (n : ℕ) (last : Option Span) (ss : List Span) → SpansFrom n last ss → (a b : ℕ) → IfSome (listed ss a b) (λ v. v ≤ 2 ^ 40)
 listed_small n last [] h a b = tt
-listed_small n last (s ∷ ss) h a b =
-    elim (has_ends a b s) as (λ t. IfSome (if t then Some s.badness else listed ss a b) (λ v. v ≤ 2 ^ 40)) [
-      | true ↦ h.0.small
-      | false ↦ listed_small n (Some s) ss h.1 a b
-    ]
+listed_small n last (s ∷ ss) h a b = elim (has_ends a b s) as (λ t. IfSome (if t then Some s.badness else listed ss a b) (λ v. v ≤ 2 ^ 40)) [ true ↦ h.0.small | false ↦ listed_small n (Some s) ss h.1 a b ]
 
 pub ends_are : (a b : ℕ) (s : Span) → has_ends a b s ≡ true → (s.a ≡ a) × (s.b ≡ b)
 ends_are a b s e = grind (arith, nat_tests)
@@ -65,19 +61,12 @@ one_less n last (s ∷ ss) a c l h e = at (λ k. one_less n (Some s) ss a c l h.
     at : (IsSome (listed ss a (c + 1)) → IsSome (listed ss a c) ⊎ ((s.a ≡ a) × (s.b ≡ c))) → (t : Bool) → has_ends a (c + 1) s ≡ t → IsSome (if t then Some s.badness else listed ss a (c + 1))
         → IsSome (listed (s ∷ ss) a c) ⊎ MatchOption last ⊥ (λ p. (p.a ≡ a) × (p.b ≡ c))
     at more true is e = let k = ends_are a (c + 1) s is in inr (before last h.0.follows k.0 k.1)
-    at more false is e = elim (more e) [
-      | inl k ↦ inl (listed_more a c s ss k)
-      | inr k ↦ inl (listed_first a c s ss k.0 k.1)
-    ]
+    at more false is e = elim (more e) [ inl k ↦ inl (listed_more a c s ss k) | inr k ↦ inl (listed_first a c s ss k.0 k.1) ]
 
 still_listed : (n : ℕ) (spans : List Span) (a b d : ℕ) → AreSpans n spans → a < b → IsSome (listed spans a (b + d)) → IsSome (listed spans a b)
 still_listed n spans a b zero h l e = let k : b + 0 ≡ b = omega arith in subst (λ c. IsSome (listed spans a c)) k e
 still_listed n spans a b (suc d) h l e =
-    let k : b + suc d ≡ b + d + 1 = omega arith in
-    elim (one_less n None spans a (b + d) (omega arith) h (subst (λ c. IsSome (listed spans a c)) k e)) [
-      | inl m ↦ still_listed n spans a b d h l m
-      | inr m ↦ absurd m
-    ]
+    let k : b + suc d ≡ b + d + 1 = omega arith in elim (one_less n None spans a (b + d) (omega arith) h (subst (λ c. IsSome (listed spans a c)) k e)) [ inl m ↦ still_listed n spans a b d h l m | inr m ↦ absurd m ]
 
 none_from : (o q : Option ℕ) → (IsSome q → IsSome o) → o ≡ None → q ≡ None
 none_from o None f e = refl

@@ -48,8 +48,7 @@ may_lack (choosing es e) (Line.Choose bar) m g =
     let w = (listed_within e.bars None e.spans (last_from 0 e.breaks) bar g.1.spans m).1 in let f = g.1.few in
     lacks_both 10 (codes "choose ") (decimal bar) (lacks_by 10 (codes "choose ") refl) (digits_lack bar (omega arith))
 may_lack (choosing es e) (Line.Total total) m g =
-    let t = total_within e.bars (last_from 0 e.breaks) e.spans e.breaks g.1.spans g.1.choice in
-    let f = g.1.few in let is = m.1 in let ends = m.0 in
+    let t = total_within e.bars (last_from 0 e.breaks) e.spans e.breaks g.1.spans g.1.choice in let f = g.1.few in let is = m.1 in let ends = m.0 in
     lacks_both 10 (codes "total ") (decimal total) (lacks_by 10 (codes "total ") refl) (digits_lack total (omega arith))
 may_lack (proving es e) (Line.Potential bar least) m g =
     let f = g.1.begun.few in let s = g.1.some_left in let is = m.0 in
@@ -78,8 +77,7 @@ span_alone s t ha hb hc ka kb kc e =
     let r = after_prefix (codes "span ") (line_text (Line.OneSpan s)) (decimal s.a ++ (32 ∷ (decimal s.b ++ (32 ∷ decimal s.badness)))) (decimal t.a ++ (32 ∷ (decimal t.b ++ (32 ∷ decimal t.badness))))
     (span_text s) (e ∙ span_text t) in
     let a = one_field s.a t.a _ (decimal s.b ++ (32 ∷ decimal s.badness)) (decimal t.b ++ (32 ∷ decimal t.badness)) ha ka refl r in
-    let b = one_field s.b t.b _ (decimal s.badness) (decimal t.badness) hb kb refl a.1 in
-    let c = decimal_injective s.badness t.badness hc kc b.1 in
+    let b = one_field s.b t.b _ (decimal s.badness) (decimal t.badness) hb kb refl a.1 in let c = decimal_injective s.badness t.badness hc kc b.1 in
     ap (λ a. span_of a s.b s.badness) a.0 ∙ (ap (λ b. span_of t.a b s.badness) b.0 ∙ ap (λ c. span_of t.a t.b c) c)
 
 pub choice_alone : (bar b : ℕ) → bar < 2 ^ 64 → b < 2 ^ 64 → line_text (Line.Choose bar) ≡ line_text (Line.Choose b) → bar ≡ b
@@ -87,8 +85,7 @@ choice_alone bar b l k e = decimal_injective bar b l k (after_prefix (codes "cho
 
 same_tune : (es : List Entry) (tune bars : ℕ) (m : Line) → MayCome (between es) (Line.Tune tune bars) → MayCome (between es) m → line_text (Line.Tune tune bars) ≡ line_text m → Line.Tune tune bars ≡ m
 same_tune es tune bars (Line.Tune t b) h k e =
-    let la = h.1 in let lb = h.2 in let ka = k.1 in let kb = k.2 in
-    let f = tune_alone tune bars t b (omega arith) (omega arith) (omega arith) (omega arith) e in
+    let la = h.1 in let lb = h.2 in let ka = k.1 in let kb = k.2 in let f = tune_alone tune bars t b (omega arith) (omega arith) (omega arith) (omega arith) e in
     ap (λ t. Line.Tune t bars) f.0 ∙ ap (λ b. Line.Tune t b) f.1
 same_tune es tune bars Line.End h k e = absurd (apart _ _ refl e)
 same_tune es tune bars m h k e = absurd k
@@ -109,9 +106,7 @@ same_span es x s m f h k e = absurd k
 same_choice : (es : List Entry) (x : Entry) (bar : ℕ) (m : Line) → IsGood (choosing es x) → MayCome (choosing es x) (Line.Choose bar) → MayCome (choosing es x) m
     → line_text (Line.Choose bar) ≡ line_text m → Line.Choose bar ≡ m
 same_choice es x bar (Line.Choose b) g h k e =
-    let w = (listed_within x.bars None x.spans (last_from 0 x.breaks) bar g.1.spans h).1 in
-    let v = (listed_within x.bars None x.spans (last_from 0 x.breaks) b g.1.spans k).1 in
-    let f = g.1.few in
+    let w = (listed_within x.bars None x.spans (last_from 0 x.breaks) bar g.1.spans h).1 in let v = (listed_within x.bars None x.spans (last_from 0 x.breaks) b g.1.spans k).1 in let f = g.1.few in
     ap Line.Choose (choice_alone bar b (omega arith) (omega arith) e)
 same_choice es x bar (Line.OneSpan s) g h k e = absurd (apart _ _ refl e)
 same_choice es x bar (Line.Total t) g h k e = absurd (apart _ _ refl e)
@@ -125,8 +120,7 @@ same_total es x total m h k e = absurd k
 
 same_potential : (es : List Entry) (x : Entry) (bar : ℕ) (least : Option ℕ) (m : Line) → MayCome (proving es x) (Line.Potential bar least) → MayCome (proving es x) m → Line.Potential bar least ≡ m
 same_potential es x bar least (Line.Potential b o) h k =
-    let e : bar ≡ b = h.0 ∙ sym k.0 in
-    let f = one_potential (listed x.spans) none_forced bar least o h.1 (subst (λ i. IsPotential (listed x.spans) none_forced i o) (sym e) k.1) in
+    let e : bar ≡ b = h.0 ∙ sym k.0 in let f = one_potential (listed x.spans) none_forced bar least o h.1 (subst (λ i. IsPotential (listed x.spans) none_forced i o) (sym e) k.1) in
     ap (λ i. Line.Potential i least) e ∙ ap (λ o. Line.Potential b o) f
 same_potential es x bar least m h k = absurd k
 
@@ -155,8 +149,7 @@ one_way p [] [] es fs more g h k e = (ap entries (sym h ∙ k), e)
 one_way p [] (m ∷ ms) es fs more g h k e = absurd (subst (λ p. MayCome p m) h k.0)
 one_way p (l ∷ ls) [] es fs more g h k e = absurd (subst (λ p. MayCome p l) k h.0)
 one_way p (l ∷ ls) (m ∷ ms) es fs more g h k e =
-    let c = one_cut 10 (line_text l) (line_text m) (lines_then ls more) (lines_then ms []) (may_lack p l h.0 g) (may_lack p m k.0 g) e in
-    let s = one_line p l m h.0 k.0 g c.0 in
+    let c = one_cut 10 (line_text l) (line_text m) (lines_then ls more) (lines_then ms []) (may_lack p l h.0 g) (may_lack p m k.0 g) e in let s = one_line p l m h.0 k.0 g c.0 in
     one_way (next p l) ls ms es fs more (step_good p l h.0 g) h.1 (subst (λ m. Leads (next p m) ms (ended fs)) (sym s) k.1) c.1
 
 -- Where the text is stuck, no lines lead through it.
@@ -165,8 +158,7 @@ no_way p [] [] q fs rest g h s k e = s.1 fs e (sym h ∙ k)
 no_way p [] (m ∷ ms) q fs rest g h s k e = s.0 m (lines_then ms []) e (subst (λ p. MayCome p m) h k.0)
 no_way p (l ∷ ls) [] q fs rest g h s k e = absurd (subst (λ p. MayCome p l) k h.0)
 no_way p (l ∷ ls) (m ∷ ms) q fs rest g h s k e =
-    let c = one_cut 10 (line_text l) (line_text m) (lines_then ls rest) (lines_then ms []) (may_lack p l h.0 g) (may_lack p m k.0 g) e in
-    let is = one_line p l m h.0 k.0 g c.0 in
+    let c = one_cut 10 (line_text l) (line_text m) (lines_then ls rest) (lines_then ms []) (may_lack p l h.0 g) (may_lack p m k.0 g) e in let is = one_line p l m h.0 k.0 g c.0 in
     no_way (next p l) ls ms q fs rest (step_good p l h.0 g) h.1 s (subst (λ m. Leads (next p m) ms (ended fs)) (sym is) k.1) c.1
 
 -- the lines that lead to the end are those of the entries told

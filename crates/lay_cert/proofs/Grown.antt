@@ -7,8 +7,7 @@ use Rattle.lay_cert.specs.{Listing.Entry, Listing.IsEntry, Listing.EntriesFrom, 
 pub push_potential : (i : ℕ) (ps : List (Option ℕ)) (p : Option ℕ) → potential_lines i (ps ++ p ∷ []) ≡ potential_lines i ps ++ Line.Potential (i + length ps) p ∷ []
 push_potential i [] p = let e : i ≡ i + 0 = omega arith in ap (λ j. Line.Potential j p ∷ []) e
 push_potential i (q ∷ ps) p =
-    let e : i + 1 + length ps ≡ i + suc (length ps) = omega arith in
-    ap (λ t. Line.Potential i q ∷ t) (push_potential (i + 1) ps p ∙ ap (λ j. potential_lines (i + 1) ps ++ Line.Potential j p ∷ []) e)
+    let e : i + 1 + length ps ≡ i + suc (length ps) = omega arith in ap (λ t. Line.Potential i q ∷ t) (push_potential (i + 1) ps p ∙ ap (λ j. potential_lines (i + 1) ps ++ Line.Potential j p ∷ []) e)
 
 pub push_entry : (es : List Entry) (e : Entry) → all_lines (es ++ e ∷ []) ≡ all_lines es ++ entry_lines e
 push_entry [] e = append-nil (entry_lines e)
@@ -45,12 +44,7 @@ push_fits cost a b (x ∷ bs) h l = (h.0, push_fits cost x b bs h.1 l)
 -- of two legal prefixes without forced bars, only rising and fitting counts
 pub push_legal : (cost : ℕ → ℕ → Option ℕ) (bs : List ℕ) (b : ℕ) → IsLegal cost none_forced bs (last_from 0 bs) → last_from 0 bs < b
     → IsSome (cost (last_from 0 bs) b) → IsLegal cost none_forced (bs ++ b ∷ []) (last_from 0 (bs ++ b ∷ []))
-push_legal cost bs b h l some = record {
-  rises = push_rises 0 b bs h.rises l;
-  ends = refl;
-  every_forced = λ f le t. absurd (true≢false (sym t));
-  fits = push_fits cost 0 b bs h.fits some;
-}
+push_legal cost bs b h l some = record { rises = push_rises 0 b bs h.rises l; ends = refl; every_forced = λ f le t. absurd (true≢false (sym t)); fits = push_fits cost 0 b bs h.fits some }
 
 -- a listed span rises and lies among the bars
 pub listed_within : (n : ℕ) (last : Option Span) (ss : List Span) (a b : ℕ) → SpansFrom n last ss → IsSome (listed ss a b) → (a < b) × (b ≤ n)
@@ -58,6 +52,5 @@ listed_within n last [] a b h some = absurd (true≢false (sym some))
 listed_within n last (s ∷ ss) a b h some = at (has_ends a b s) refl (λ k. listed_within n (Some s) ss a b h.1 k) some
   where
     at : (t : Bool) → has_ends a b s ≡ t → (IsSome (listed ss a b) → (a < b) × (b ≤ n)) → IsSome (if t then Some s.badness else listed ss a b) → (a < b) × (b ≤ n)
-    at true e more some =
-        let k = ends_are a b s e in let r = h.0.rises in let w = h.0.within in (omega arith, omega arith)
+    at true e more some = let k = ends_are a b s e in let r = h.0.rises in let w = h.0.within in (omega arith, omega arith)
     at false e more some = more some

@@ -7,10 +7,7 @@ use Rattle.lay_cert.specs.{Places.last_span_from, Indexed.IsIndexed, Indexed.loo
 found : (a b j : ℕ) (spans : List Span) (s : Span) → slice_get spans j ≡ Some s → has_ends a b s ≡ true
     → ((i : ℕ) (t : Span) → slice_get spans i ≡ Some t → has_ends a b t ≡ true → i ≡ j) → listed spans a b ≡ Some s.badness
 found a b j [] s e h one = absurd (none-some s e)
-found a b zero (x ∷ xs) s e h one =
-    let is : x ≡ s = same_Some x s e in
-    let x_has : has_ends a b x ≡ true = ap (has_ends a b) is ∙ h in
-    rw x_has (ap (λ s. Some s.badness) is)
+found a b zero (x ∷ xs) s e h one = let is : x ≡ s = same_Some x s e in let x_has : has_ends a b x ≡ true = ap (has_ends a b) is ∙ h in rw x_has (ap (λ s. Some s.badness) is)
 found a b (suc j) (x ∷ xs) s e h one = at (has_ends a b x) refl (found a b j xs s e h (λ i t f k. let m = one (suc i) t f k in omega arith))
   where
     at : (t : Bool) → has_ends a b x ≡ t → listed xs a b ≡ Some s.badness → (if t then Some x.badness else listed xs a b) ≡ Some s.badness
@@ -40,11 +37,8 @@ module _ (spans : List Span) (firsts : List ℕ) (indexed : IsIndexed spans firs
   nothing : looked_up spans firsts a b ≡ None → (o : Option ℕ) → listed spans a b ≡ o → None ≡ o
   nothing e None f = refl
   nothing e (Some v) f =
-      let m = somewhere a b v spans f in
-      let at = stands_there m.0 m.1 m.2 m.3 in
-      let here : slice_get spans (slice_index firsts a + (b - a - 1)) ≡ Some m.1 = subst (λ i. slice_get spans i ≡ Some m.1) at m.2 in
-      let got : looked_up spans firsts a b ≡ Some m.1.badness = ap (λ o. option_and_then (λ s. cost_if a b s) o) here ∙ ap (λ t. if t then Some m.1.badness else None) m.3 in
-      absurd (none-some m.1.badness (sym e ∙ got))
+      let m = somewhere a b v spans f in let at = stands_there m.0 m.1 m.2 m.3 in let here : slice_get spans (slice_index firsts a + (b - a - 1)) ≡ Some m.1 = subst (λ i. slice_get spans i ≡ Some m.1) at m.2 in
+      let got : looked_up spans firsts a b ≡ Some m.1.badness = ap (λ o. option_and_then (λ s. cost_if a b s) o) here ∙ ap (λ t. if t then Some m.1.badness else None) m.3 in absurd (none-some m.1.badness (sym e ∙ got))
 
   pub agrees : looked_up spans firsts a b ≡ listed spans a b
   agrees = at (slice_get spans (slice_index firsts a + (b - a - 1))) refl
@@ -86,10 +80,7 @@ each_rises n last (s ∷ ss) (suc i) t h e = each_rises n (Some s) ss i t h.1 e
 -- the last span stands last
 last_stands : (last : Option Span) (ss : List Span) (p : Span) → last_span_from last ss ≡ Some p → ((ss ≡ []) × (last ≡ Some p)) ⊎ ((i : ℕ) × (suc i ≡ length ss) × (slice_get ss i ≡ Some p))
 last_stands last [] p e = inl (refl, e)
-last_stands last (s ∷ ss) p e = elim (last_stands (Some s) ss p e) [
-  | inl h ↦ let n = ap length h.0 in inr (0, omega arith, h.1)
-  | inr h ↦ let k = h.1 in inr (suc h.0, omega arith, h.2)
-]
+last_stands last (s ∷ ss) p e = elim (last_stands (Some s) ss p e) [ inl h ↦ let n = ap length h.0 in inr (0, omega arith, h.1) | inr h ↦ let k = h.1 in inr (suc h.0, omega arith, h.2) ]
 
 module _ (n : ℕ) (spans : List Span) (firsts : List ℕ) (s : Span) (h : AreSpans n spans) (m : MayFollow n (last_span_from None spans) s)
     (indexed : IsIndexed spans firsts) where
@@ -98,9 +89,7 @@ module _ (n : ℕ) (spans : List Span) (firsts : List ℕ) (s : Span) (h : AreSp
   index_first new l = record {
     each = λ i t e. elim (get_push spans s i t e) [
       | inl k ↦
-          let before = fresh t (last_span_from None spans) refl (earlier n None spans i t h k) m.follows in
-          let ne : t.a ≢ s.a = omega arith in
-          let other = get_or-set_other firsts s.a t.a (length spans) 0 ne in
+          let before = fresh t (last_span_from None spans) refl (earlier n None spans i t h k) m.follows in let ne : t.a ≢ s.a = omega arith in let other = get_or-set_other firsts s.a t.a (length spans) 0 ne in
           let old = indexed.each i t k in omega (arith, other, old)
       | inr k ↦ subst (λ t. i ≡ slice_index (slice_set firsts s.a (length spans)) t.a + (t.b - t.a - 1)) k.1
           (let same = get_or-set_same firsts s.a (length spans) 0 l in let at = k.0 in omega (arith, same, at))
@@ -116,18 +105,12 @@ module _ (n : ℕ) (spans : List Span) (firsts : List ℕ) (s : Span) (h : AreSp
       fresh : (t : Span) (o : Option Span) → last_span_from None spans ≡ o → MatchOption o ⊥ (λ p. t.a ≤ p.a) → MatchOption o (s.b ≡ s.a + 1) (λ p. IsNext p s) → t.a < s.a
       fresh t None e k f = absurd k
       fresh t (Some p) e k (inl f) = let l = f.0 in omega arith
-      fresh t (Some p) e k (inr f) = elim (last_stands None spans p e) [
-        | inl q ↦ absurd (none-some p q.1)
-        | inr q ↦ let r = each_rises n None spans q.0 p h q.2 in let ea = f.0 in let eb = f.1 in absurd (omega arith)
-      ]
+      fresh t (Some p) e k (inr f) = elim (last_stands None spans p e) [ inl q ↦ absurd (none-some p q.1) | inr q ↦ let r = each_rises n None spans q.0 p h q.2 in let ea = f.0 in let eb = f.1 in absurd (omega arith) ]
 
   -- the span is the one before it with one bar more
   pub index_later : s.b ≢ s.a + 1 → IsIndexed (spans ++ s ∷ []) firsts
   index_later later = record {
-    each = λ i t e. elim (get_push spans s i t e) [
-      | inl k ↦ indexed.each i t k
-      | inr k ↦ subst (λ t. i ≡ slice_index firsts t.a + (t.b - t.a - 1)) k.1 (k.0 ∙ behind (last_span_from None spans) refl m.follows)
-    ];
+    each = λ i t e. elim (get_push spans s i t e) [ inl k ↦ indexed.each i t k | inr k ↦ subst (λ t. i ≡ slice_index firsts t.a + (t.b - t.a - 1)) k.1 (k.0 ∙ behind (last_span_from None spans) refl m.follows) ];
     inside = λ a. let old = indexed.inside a in let more = length-append spans (s ∷ []) in omega (arith, old, more);
   }
     where
@@ -137,8 +120,6 @@ module _ (n : ℕ) (spans : List Span) (firsts : List ℕ) (s : Span) (h : AreSp
       behind (Some p) e (inr f) = elim (last_stands None spans p e) [
         | inl k ↦ absurd (none-some p k.1)
         | inr k ↦
-            let old = indexed.each k.0 p k.2 in
-            let same : slice_index firsts p.a ≡ slice_index firsts s.a = ap (slice_index firsts) (sym f.0) in
-            let ea = f.0 in let eb = f.1 in let n = k.1 in let up = m.rises in
-            omega (arith, old, same, ea, eb, n, up)
+            let old = indexed.each k.0 p k.2 in let same : slice_index firsts p.a ≡ slice_index firsts s.a = ap (slice_index firsts) (sym f.0) in
+            let ea = f.0 in let eb = f.1 in let n = k.1 in let up = m.rises in omega (arith, old, same, ea, eb, n, up)
       ]

@@ -6,9 +6,7 @@ use Rattle.eng_lines.{specs.Lines.Lacks, proofs.Words.one_cut, proofs.Words.lack
 
 pub none_refused : (es : List Entry) (raw : List ℕ) (tune bars : ℕ) → raw ≡ line_text (Line.Tune tune bars) → tune < 2 ^ 32 → bars < 2 ^ 32 → (tune ≤ last_tune_from 0 es) ⊎ (4000 < bars) → NoneMayCome (between es) raw
 none_refused es raw tune bars is lt lb out (Line.Tune t b) e m =
-    let k0 = m.0 in let k1 = m.1 in let k2 = m.2 in
-    let f = tune_alone tune bars t b (omega arith) (omega arith) (omega arith) (omega arith) (sym is ∙ e) in
-    let f0 = f.0 in let f1 = f.1 in
+    let k0 = m.0 in let k1 = m.1 in let k2 = m.2 in let f = tune_alone tune bars t b (omega arith) (omega arith) (omega arith) (omega arith) (sym is ∙ e) in let f0 = f.0 in let f1 = f.1 in
     elim out [ inl h ↦ absurd (omega arith) | inr h ↦ absurd (omega arith) ]
 none_refused es raw tune bars is lt lb out Line.End e m = apart _ _ refl (sym is ∙ e)
 none_refused es raw tune bars is lt lb out l e m = absurd m
@@ -16,8 +14,7 @@ none_refused es raw tune bars is lt lb out l e m = absurd m
 pub none_span : (es : List Entry) (c : Choosing) (s : Span) → IsChoosing c → s.a < 2 ^ 32 → s.b < 2 ^ 32 → s.badness < 2 ^ 64
     → (c.breaks ≡ [] → MayFollow c.bars c.last s → ⊥) → NoneMayCome (choosing es (entry_of c)) (line_text (Line.OneSpan s))
 none_span es c s h la lb lc f (Line.OneSpan t) e m =
-    let ka = m.1.rises in let kb = m.1.within in let kc = m.1.small in let few = h.few in
-    let is : t ≡ s = sym (span_alone s t (omega arith) (omega arith) lc (omega arith) (omega arith) (omega arith) e) in
+    let ka = m.1.rises in let kb = m.1.within in let kc = m.1.small in let few = h.few in let is : t ≡ s = sym (span_alone s t (omega arith) (omega arith) lc (omega arith) (omega arith) (omega arith) e) in
     f m.0 (subst (λ o. MayFollow c.bars o s) (sym h.last) (subst (λ t. MayFollow c.bars (last_span_from None c.spans) t) is m.1))
 none_span es c s h la lb lc f (Line.Choose b) e m = apart _ _ refl e
 none_span es c s h la lb lc f (Line.Total t) e m = apart _ _ refl e
@@ -25,10 +22,8 @@ none_span es c s h la lb lc f l e m = absurd m
 
 pub none_break : (es : List Entry) (c : Choosing) (bar : ℕ) → IsChoosing c → bar < 2 ^ 32 → listed c.spans c.at bar ≡ None → NoneMayCome (choosing es (entry_of c)) (line_text (Line.Choose bar))
 none_break es c bar h l f (Line.Choose b) e m =
-    let w = (listed_within c.bars None c.spans (last_from 0 c.breaks) b h.spans m).1 in let few = h.few in
-    let is : b ≡ bar = sym (choice_alone bar b (omega arith) (omega arith) e) in
-    let n : listed c.spans (last_from 0 c.breaks) b ≡ None = ap (λ b. listed c.spans (last_from 0 c.breaks) b) is ∙ (ap (λ a. listed c.spans a bar) (sym h.at) ∙ f) in
-    true≢false (sym m ∙ ap is_some n)
+    let w = (listed_within c.bars None c.spans (last_from 0 c.breaks) b h.spans m).1 in let few = h.few in let is : b ≡ bar = sym (choice_alone bar b (omega arith) (omega arith) e) in
+    let n : listed c.spans (last_from 0 c.breaks) b ≡ None = ap (λ b. listed c.spans (last_from 0 c.breaks) b) is ∙ (ap (λ a. listed c.spans a bar) (sym h.at) ∙ f) in true≢false (sym m ∙ ap is_some n)
 none_break es c bar h l f (Line.OneSpan s) e m = apart _ _ refl e
 none_break es c bar h l f (Line.Total t) e m = apart _ _ refl e
 none_break es c bar h l f m e k = absurd k
@@ -36,10 +31,8 @@ none_break es c bar h l f m e k = absurd k
 pub none_choosing : (es : List Entry) (c : Choosing) (raw : List ℕ) → IsChoosing c
     → ((s : Span) → s.a < 2 ^ 32 → s.b < 2 ^ 32 → s.badness < 2 ^ 64 → raw ≡ line_text (Line.OneSpan s) → ⊥) → ((bar : ℕ) → bar < 2 ^ 32 → raw ≡ line_text (Line.Choose bar) → ⊥)
     → (c.at ≡ c.bars → raw ≡ line_text (Line.Total c.total) → ⊥) → NoneMayCome (choosing es (entry_of c)) raw
-none_choosing es c raw h f g k (Line.OneSpan s) e m =
-    let ka = m.1.rises in let kb = m.1.within in let kc = m.1.small in let few = h.few in f s (omega arith) (omega arith) (omega arith) e
-none_choosing es c raw h f g k (Line.Choose b) e m =
-    let w = (listed_within c.bars None c.spans (last_from 0 c.breaks) b h.spans m).1 in let few = h.few in g b (omega arith) e
+none_choosing es c raw h f g k (Line.OneSpan s) e m = let ka = m.1.rises in let kb = m.1.within in let kc = m.1.small in let few = h.few in f s (omega arith) (omega arith) (omega arith) e
+none_choosing es c raw h f g k (Line.Choose b) e m = let w = (listed_within c.bars None c.spans (last_from 0 c.breaks) b h.spans m).1 in let few = h.few in g b (omega arith) e
 none_choosing es c raw h f g k (Line.Total t) e m = k (h.at ∙ m.0) (e ∙ ap (λ t. line_text (Line.Total t)) (m.1 ∙ sym h.total))
 none_choosing es c raw h f g k l e m = absurd m
 
@@ -74,8 +67,7 @@ pub record IsReading (text : List ℕ) (s : Stage) (js : List Judged) (rest : Li
 pub reading_more : (text : List ℕ) (s t : Stage) (js ks : List Judged) (rest raw behind : List ℕ) (number : ℕ) → IsReading text s js rest number
     → rest ≡ raw ++ 10 ∷ behind → ((p : Place) → Stands s js p → IsStep p raw ks (Some t)) → IsReading text t ks behind (number + 1)
 reading_more text s t js ks rest raw behind number h cut step =
-    let m = step h.place h.stands in
-    let n = h.counted in let k = length-append h.lines (m.0 ∷ []) in
+    let m = step h.place h.stands in let n = h.counted in let k = length-append h.lines (m.0 ∷ []) in
     record {
       lines = h.lines ++ m.0 ∷ [];
       place = next h.place m.0;
@@ -88,9 +80,7 @@ reading_more text s t js ks rest raw behind number h cut step =
 -- the cause of NotListing
 pub first_fault : (text : List ℕ) (s : Stage) (js : List Judged) (rest : List ℕ) (number : ℕ) (h : IsReading text s js rest number)
     → IsStuck h.place rest → IsFirstFault text number × ((es : List Entry) → IsListing text es → ⊥)
-first_fault text s js rest number h stuck =
-    let f : IsFirstFault text number = (h.lines, rest, h.place, h.so_far, h.leads, stuck, h.counted) in
-    (f, (λ es k. faults_tell_none text number es f k))
+first_fault text s js rest number h stuck = let f : IsFirstFault text number = (h.lines, rest, h.place, h.so_far, h.leads, stuck, h.counted) in (f, (λ es k. faults_tell_none text number es f k))
 
 pub stuck_at_line : (text : List ℕ) (s : Stage) (js ks : List Judged) (rest raw behind : List ℕ) (number : ℕ) (h : IsReading text s js rest number)
     → rest ≡ raw ++ 10 ∷ behind → Lacks 10 raw → ((p : Place) → Stands s js p → IsStep p raw ks None) → IsStuck h.place rest
@@ -125,9 +115,7 @@ verdict_on e p (Verdict.NotLeast t b bs) k = k
 pub proved_all : (es : List Entry) (js : List Judged) (e : Entry) (v : Proving) (raw : List ℕ) → AreVerdicts es js → Proves v e → v.next ≡ v.bars
     → raw ≡ line_text (Line.Potential v.next (slice_index_or v.potentials v.next None)) → IsStep (proving es e) raw (js ++ record { tune = v.tune; verdict = v.verdict } ∷ []) (Some (Stage.Between v.tune))
 proved_all es js e v raw known h last is =
-    let p : Option ℕ = slice_index_or v.potentials v.next None in
-    let n = h.next in let b = h.bars in
-    let all : length e.potentials ≡ e.bars = omega arith in
+    let p : Option ℕ = slice_index_or v.potentials v.next None in let n = h.next in let b = h.bars in let all : length e.potentials ≡ e.bars = omega arith in
     let j : Judged = record { tune = v.tune; verdict = v.verdict } in (
       Line.Potential v.next p,
       is,
@@ -141,9 +129,7 @@ pub proved_one : (es : List Entry) (js : List Judged) (e : Entry) (v : Proving) 
     → raw ≡ line_text (Line.Potential v.next (slice_index_or v.potentials v.next None))
     → IsStep (proving es e) raw js (Some (Stage.Proving (record { tune = v.tune; bars = v.bars; potentials = v.potentials; next = v.next + 1; verdict = v.verdict })))
 proved_one es js e v raw known h last is =
-    let p : Option ℕ = slice_index_or v.potentials v.next None in
-    let n = h.next in let b = h.bars in
-    let part : length e.potentials ≢ e.bars = omega arith in
+    let p : Option ℕ = slice_index_or v.potentials v.next None in let n = h.next in let b = h.bars in let part : length e.potentials ≢ e.bars = omega arith in
     let le = h.kept.some_left in let some : v.next < v.bars = omega arith in (
       Line.Potential v.next p,
       is,

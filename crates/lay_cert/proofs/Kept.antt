@@ -17,8 +17,7 @@ last_within n a ss [] h f l = l
 last_within n a ss (b ∷ bs) h f l = last_within n b ss bs h f.1 (listed_within n None ss a b h f.0).1
 
 pub at_within : (c : Choosing) → IsChoosing c → c.at ≤ c.bars
-at_within c h =
-    let l = last_within c.bars 0 c.spans c.breaks h.spans h.choice.fits (omega arith) in let e = h.at in omega arith
+at_within c h = let l = last_within c.bars 0 c.spans c.breaks h.spans h.choice.fits (omega arith) in let e = h.at in omega arith
 
 push_sum : (cost : ℕ → ℕ → Option ℕ) (a b : ℕ) (bs : List ℕ) → sum_from cost a (bs ++ b ∷ []) ≡ sum_from cost a bs + unwrap_or (cost (last_from a bs) b) 0
 push_sum cost a b [] = omega arith
@@ -29,20 +28,15 @@ small_cost n a b v ss h e = rw e at (listed_small n None ss h a b)
 
 pub total_fits : (c : Choosing) (bar cost : ℕ) → IsChoosing c → listed c.spans c.at bar ≡ Some cost → c.total + cost < 2 ^ 64
 total_fits c bar cost h e =
-    let t = total_within c.bars (last_from 0 c.breaks) c.spans c.breaks h.spans h.choice in
-    let is = h.total in let l = at_within c h in let a = h.at in let f = h.few in
-    let s = small_cost c.bars c.at bar cost c.spans h.spans e in
-    omega arith
+    let t = total_within c.bars (last_from 0 c.breaks) c.spans c.breaks h.spans h.choice in let is = h.total in let l = at_within c h in let a = h.at in let f = h.few in
+    let s = small_cost c.bars c.at bar cost c.spans h.spans e in omega arith
 
 pub kept_break : (c : Choosing) (bar cost : ℕ) → IsChoosing c → listed c.spans c.at bar ≡ Some cost
     → IsChoosing (record { tune = c.tune; bars = c.bars; spans = c.spans; last = c.last; firsts = c.firsts; breaks = c.breaks ++ bar ∷ []; at = bar; total = c.total + cost })
 kept_break c bar cost h e =
     let here : listed c.spans (last_from 0 c.breaks) bar ≡ Some cost = ap (λ a. listed c.spans a bar) (sym h.at) ∙ e in
-    let some : IsSome (listed c.spans (last_from 0 c.breaks) bar) = ap is_some here in
-    let w = listed_within c.bars None c.spans (last_from 0 c.breaks) bar h.spans some in
-    let p : unwrap_or (listed c.spans (last_from 0 c.breaks) bar) 0 ≡ cost = ap (λ o. unwrap_or o 0) here in
-    let s = push_sum (listed c.spans) 0 bar c.breaks in
-    let t = h.total in
+    let some : IsSome (listed c.spans (last_from 0 c.breaks) bar) = ap is_some here in let w = listed_within c.bars None c.spans (last_from 0 c.breaks) bar h.spans some in
+    let p : unwrap_or (listed c.spans (last_from 0 c.breaks) bar) 0 ≡ cost = ap (λ o. unwrap_or o 0) here in let s = push_sum (listed c.spans) 0 bar c.breaks in let t = h.total in
     record {
       few = h.few;
       spans = h.spans;
@@ -66,10 +60,7 @@ kept_span c s firsts h none m first later = record {
   few = h.few;
   spans = push_span c.bars None c.spans s h.spans follows;
   last = sym (push_last_span None c.spans s);
-  one_each = elim (cases_eq s.b (s.a + 1)) [
-    | inl e ↦ ap length (first e) ∙ (length-set c.firsts.items s.a (length c.spans) ∙ h.one_each)
-    | inr e ↦ ap length (later e) ∙ h.one_each
-  ];
+  one_each = elim (cases_eq s.b (s.a + 1)) [ inl e ↦ ap length (first e) ∙ (length-set c.firsts.items s.a (length c.spans) ∙ h.one_each) | inr e ↦ ap length (later e) ∙ h.one_each ];
   indexed = elim (cases_eq s.b (s.a + 1)) [
     | inl e ↦ subst (λ fs. IsIndexed (c.spans ++ s ∷ []) fs) (sym (first e))
         (index_first c.bars c.spans c.firsts.items s h.spans follows h.indexed e (let n = h.one_each in let r = follows.rises in let w = follows.within in omega arith))

@@ -20,8 +20,7 @@ put_next f xs i d old now new l e g =
 pub put_next_potential : (ps : List (Option ℕ)) (i bar : ℕ) (old now new : List ℕ) → i < length ps → bar ≡ i
     → now ≡ old ++ lines_then (potential_lines 0 (take i ps)) [] → new ≡ now ++ lines_then (Line.Potential bar (slice_index_or ps i None) ∷ []) [] → new ≡ old ++ lines_then (potential_lines 0 (take (i + 1) ps)) []
 put_next_potential ps i bar old now new l is e g =
-    let n : length (take i ps) ≡ i = search (rules, length-take) in
-    let at : 0 + length (take i ps) ≡ bar = omega arith in
+    let n : length (take i ps) ≡ i = search (rules, length-take) in let at : 0 + length (take i ps) ≡ bar = omega arith in
     put_both old now new (potential_lines 0 (take i ps)) (Line.Potential bar (slice_index_or ps i None) ∷ []) e g
     ∙ (ap (λ j. old ++ lines_then (potential_lines 0 (take i ps) ++ Line.Potential j (slice_index_or ps i None) ∷ []) []) (sym at)
     ∙ (ap (λ ls. old ++ lines_then ls []) (sym (push_potential 0 (take i ps) (slice_index_or ps i None)))
@@ -31,9 +30,7 @@ put_next_potential ps i bar old now new l is e g =
 pub put_whole : (old one two three four five : List ℕ) (t m : Line) (ss cs ps : List Line) → one ≡ old ++ lines_then (t ∷ []) [] → two ≡ one ++ lines_then ss [] → three ≡ two ++ lines_then cs []
     → four ≡ three ++ lines_then (m ∷ []) [] → five ≡ four ++ lines_then ps [] → five ≡ old ++ lines_then ((t ∷ ss) ++ cs ++ (m ∷ ps)) []
 put_whole old one two three four five t m ss cs ps a b c d e =
-    let x = put_both old one two (t ∷ []) ss a b in
-    let y = put_both old two three (t ∷ ss) cs x c in
-    let z = put_both old three four ((t ∷ ss) ++ cs) (m ∷ []) y d in
+    let x = put_both old one two (t ∷ []) ss a b in let y = put_both old two three (t ∷ ss) cs x c in let z = put_both old three four ((t ∷ ss) ++ cs) (m ∷ []) y d in
     put_both old four five (((t ∷ ss) ++ cs) ++ m ∷ []) ps z e ∙ ap (λ ls. old ++ lines_then ls []) (append_assoc ((t ∷ ss) ++ cs) (m ∷ []) ps)
 
 entries_are : (es : List Entry) → lines_then (all_lines es) [] ≡ entries_text es

@@ -68,13 +68,7 @@ step_good (choosing es e) (Line.Choose bar) m h =
     (h.0, record { past = h.1.past; numbered = h.1.numbered; few = h.1.few; spans = h.1.spans; choice = push_legal (listed e.spans) e.breaks bar h.1.choice w.0 m })
 step_good (choosing es e) (Line.Total total) m h = (
   h.0,
-  record {
-    begun = record { past = h.1.past; numbered = h.1.numbered; few = h.1.few; spans = h.1.spans; choice = h.1.choice };
-    ends = m.0;
-    total = m.1;
-    some_left = omega arith;
-    potentials = λ i l. absurd (omega arith);
-  },
+  record { begun = record { past = h.1.past; numbered = h.1.numbered; few = h.1.few; spans = h.1.spans; choice = h.1.choice }; ends = m.0; total = m.1; some_left = omega arith; potentials = λ i l. absurd (omega arith) },
 )
 step_good (proving es e) (Line.Potential bar least) m h =
     let known = subst (λ i. IsPotential (listed e.spans) none_forced i least) m.0 m.1 in
@@ -99,8 +93,7 @@ begun_break tune bars spans breaks bar = rw (map-append Line.Choose breaks (bar 
 
 proved_more : (e : Entry) (bar : ℕ) (least : Option ℕ) → bar ≡ length e.potentials → entry_lines (one_more e least) ≡ entry_lines e ++ Line.Potential bar least ∷ []
 proved_more e bar least is =
-    let at : 0 + length e.potentials ≡ bar = omega arith in
-    let more = push_potential 0 e.potentials least ∙ ap (λ i. potential_lines 0 e.potentials ++ Line.Potential i least ∷ []) at in
+    let at : 0 + length e.potentials ≡ bar = omega arith in let more = push_potential 0 e.potentials least ∙ ap (λ i. potential_lines 0 e.potentials ++ Line.Potential i least ∷ []) at in
     ap (λ t. begun_lines e ++ Line.Total e.total ∷ t) more
     ∙ sym (append_assoc (begun_lines e) (Line.Total e.total ∷ potential_lines 0 e.potentials) (Line.Potential bar least ∷ []))
 

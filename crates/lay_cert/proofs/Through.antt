@@ -38,8 +38,7 @@ potentials_lead es e so_far q [] n known =
       ap (λ t. if t then between (es ++ told e (so_far ++ q ∷ []) ∷ []) else proving es (told e (so_far ++ q ∷ []))) (eq-eqb (length so_far) e.bars is),
     )
 potentials_lead es e so_far q (r ∷ qs) n known =
-    let ne : length so_far < e.bars = omega arith in
-    let here : length so_far + 0 ≡ length so_far = omega arith in
+    let ne : length so_far < e.bars = omega arith in let here : length so_far + 0 ≡ length so_far = omega arith in
     let more : length (so_far ++ q ∷ []) ≡ length so_far + 1 = length-append so_far (q ∷ []) in (
       (refl, subst (λ i. IsPotential (listed e.spans) none_forced i q) here (known 0 (omega arith))),
       subst (λ p. Leads p (potential_lines (length so_far + 1) (r ∷ qs)) (between (es ++ told e (so_far ++ (q ∷ r ∷ qs)) ∷ [])))

@@ -20,8 +20,7 @@ furthest : (f : Sides → ℕ) (rank lane : ℕ) (box : Sides) (marks : List Lai
 furthest f rank lane box [] k d l e = grind (arith, l)
 furthest f rank lane box (m ∷ marks) zero d l e = rw (boxes_first rank lane m marks, e) (omega arith)
 furthest f rank lane box (m ∷ marks) (suc k) d l e =
-    let h = furthest f rank lane box marks k d (omega (arith, l)) e in
-    rw (boxes_first rank lane m marks) (by (box_at rank lane m) h)
+    let h = furthest f rank lane box marks k d (omega (arith, l)) e in rw (boxes_first rank lane m marks) (by (box_at rank lane m) h)
   where
     by : (o : Option Sides) → f box ≤ greatest (map f (boxes_at rank lane marks)) → f box ≤ greatest (map f (taken (boxes_at rank lane marks) o))
     by None h = h
@@ -42,31 +41,22 @@ some_box rank lane box (m ∷ marks) (suc k) d l e = by (box_at rank lane m) ref
 left_covers : (z : ℤ) (left : ℕ) → left_of z ≤ left → left ≤ most_reach → (neg_ℤ z ≤ℤ pos left) ⊎ (left ≡ most_reach)
 unfolding left_of
 left_covers (pos n) left h near = inl (omega (arith, ints))
-left_covers (negsuc n) left h near = elim (cases_lt left most_reach) [
-  | inl lt ↦ let m : n + 1 ≤ left = omega (arith, h, lt) in inl (omega (arith, ints, m))
-  | inr ge ↦ inr (omega (arith, near, ge))
-]
+left_covers (negsuc n) left h near = elim (cases_lt left most_reach) [ inl lt ↦ let m : n + 1 ≤ left = omega (arith, h, lt) in inl (omega (arith, ints, m)) | inr ge ↦ inr (omega (arith, near, ge)) ]
 
 right_covers : (z : ℤ) (right : ℕ) → right_of z ≤ right → right ≤ most_reach → (z ≤ℤ pos right) ⊎ (right ≡ most_reach)
 unfolding right_of
 right_covers (negsuc n) right h near = inl (omega (arith, ints))
-right_covers (pos n) right h near = elim (cases_lt right most_reach) [
-  | inl lt ↦ let m : n ≤ right = omega (arith, h, lt) in inl (omega (arith, ints, m))
-  | inr ge ↦ inr (omega (arith, near, ge))
-]
+right_covers (pos n) right h near = elim (cases_lt right most_reach) [ inl lt ↦ let m : n ≤ right = omega (arith, h, lt) in inl (omega (arith, ints, m)) | inr ge ↦ inr (omega (arith, near, ge)) ]
 
 covered : (rank lane : ℕ) (box : Sides) (marks : List Laid) (laid : Laid) → Contains marks laid → box_at rank lane laid ≡ Some box → (reach : Reach) × (drawn_reach marks rank lane ≡ Some reach) × Covers reach box
 covered rank lane box marks laid (k, l, at) e =
-    let e' : box_at rank lane (get_or marks k laid) ≡ Some box = ap (box_at rank lane) at ∙ e in
-    let left = furthest (λ s. left_of s.left) rank lane box marks k laid l e' in
-    let right = furthest (λ s. right_of s.right) rank lane box marks k laid l e' in
-    by (some_box rank lane box marks k laid l e') left right
+    let e' : box_at rank lane (get_or marks k laid) ≡ Some box = ap (box_at rank lane) at ∙ e in let left = furthest (λ s. left_of s.left) rank lane box marks k laid l e' in
+    let right = furthest (λ s. right_of s.right) rank lane box marks k laid l e' in by (some_box rank lane box marks k laid l e') left right
   where
     by : (b : Sides) × (bs : List Sides) × (boxes_at rank lane marks ≡ b ∷ bs) → left_of box.left ≤ greatest (map (λ s. left_of s.left) (boxes_at rank lane marks))
         → right_of box.right ≤ greatest (map (λ s. right_of s.right) (boxes_at rank lane marks)) → (reach : Reach) × (drawn_reach marks rank lane ≡ Some reach) × Covers reach box
     by (b, bs, q) left right =
-        let near = near_over (b ∷ bs) in
-        let left' = subst (λ t. left_of box.left ≤ greatest (map (λ s. left_of s.left) t)) q left in
+        let near = near_over (b ∷ bs) in let left' = subst (λ t. left_of box.left ≤ greatest (map (λ s. left_of s.left) t)) q left in
         let right' = subst (λ t. right_of box.right ≤ greatest (map (λ s. right_of s.right) t)) q right in (
           record { left = greatest (map (λ s. left_of s.left) (b ∷ bs)); right = greatest (map (λ s. right_of s.right) (b ∷ bs)) },
           ap reach_over q,
@@ -76,9 +66,7 @@ covered rank lane box marks laid (k, l, at) e =
 -- ---- the lanes of a staff among those of the system
 get_right : {X : Type 0} (xs ys : List X) (k : ℕ) → slice_get (xs ++ ys) (length xs + k) ≡ slice_get ys k
 get_right [] ys k = ap (λ t. slice_get ys t) (omega arith)
-get_right (x ∷ xs) ys k =
-    let e : suc (length xs) + k ≡ suc (length xs + k) = omega arith in
-    ap (λ t. slice_get (x ∷ (xs ++ ys)) t) e ∙ get_right xs ys k
+get_right (x ∷ xs) ys k = let e : suc (length xs) + k ≡ suc (length xs + k) = omega arith in ap (λ t. slice_get (x ∷ (xs ++ ys)) t) e ∙ get_right xs ys k
 
 pub row_long : (always : Bool) (rank : ℕ) (marks : List Laid) (verses : ℕ) → length (staff_reaches always rank marks verses) ≡ lane_count verses
 row_long always rank marks verses = length-map (drawn_row marks (lane_count verses) rank) (standing always) ∙ length-map-range_with_len (drawn_reach marks rank) 0 (lane_count verses)
@@ -96,16 +84,13 @@ lane_at : (always : Bool) (rank : ℕ) (staves : List StaffMarks) (verses : List
 lane_at always rank [] verses s lane count staff e f l = absurd (none-some staff e)
 lane_at always rank (x ∷ staves) [] s lane count staff e f l = absurd (none-some count f)
 lane_at always rank (x ∷ staves) (v ∷ verses) zero lane count staff e f l =
-    let x_is = same_Some x staff e in let v_is = same_Some v count f in
-    let l' : lane < lane_count v = subst (λ t. lane < lane_count t) (sym v_is) l in
-    let long : lane < length (staff_reaches always rank x.marks v) = subst (λ t. lane < t) (sym (row_long always rank x.marks v)) l' in
-    let place : 0 + lane ≡ lane = omega arith in
+    let x_is = same_Some x staff e in let v_is = same_Some v count f in let l' : lane < lane_count v = subst (λ t. lane < lane_count t) (sym v_is) l in
+    let long : lane < length (staff_reaches always rank x.marks v) = subst (λ t. lane < t) (sym (row_long always rank x.marks v)) l' in let place : 0 + lane ≡ lane = omega arith in
     ap (λ t. slice_get (staff_reaches always rank x.marks v ++ reaches_of always rank staves verses) t) place
     ∙ get_front (staff_reaches always rank x.marks v) (reaches_of always rank staves verses) lane long ∙ row_at always rank lane x.marks v l'
     ∙ ap (λ t. Some (standing always (drawn_reach t.marks rank lane))) x_is
 lane_at always rank (x ∷ staves) (v ∷ verses) (suc s) lane count staff e f l =
-    let long = row_long always rank x.marks v in
-    let place : lane_count v + lane_start verses s + lane ≡ length (staff_reaches always rank x.marks v) + (lane_start verses s + lane) = omega (arith, long) in
+    let long = row_long always rank x.marks v in let place : lane_count v + lane_start verses s + lane ≡ length (staff_reaches always rank x.marks v) + (lane_start verses s + lane) = omega (arith, long) in
     ap (λ t. slice_get (staff_reaches always rank x.marks v ++ reaches_of always rank staves verses) t) place
     ∙ get_right (staff_reaches always rank x.marks v) (reaches_of always rank staves verses) (lane_start verses s + lane)
     ∙ lane_at always rank staves verses s lane count staff e f l

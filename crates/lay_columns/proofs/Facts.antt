@@ -56,10 +56,7 @@ natural_small key behind lengths = by (is_note key)
 
 -- ---- uncut
 cut_same : (reach : Reach) → IsNear reach → cut_reach reach ≡ reach
-cut_same reach h =
-    let l : min reach.left (2 ^ 20) ≡ reach.left = let n = h.0 in omega (arith, n) in
-    let r : min reach.right (2 ^ 20) ≡ reach.right = let n = h.1 in omega (arith, n) in
-    rw (l, r) refl
+cut_same reach h = let l : min reach.left (2 ^ 20) ≡ reach.left = let n = h.0 in omega (arith, n) in let r : min reach.right (2 ^ 20) ≡ reach.right = let n = h.1 in omega (arith, n) in rw (l, r) refl
 
 pub reach_same : (reaches : List (Option Reach)) (lane : ℕ) → All (λ o. IfSome o IsNear) reaches → reach_in reaches lane ≡ option_and_then (λ o. o) (slice_get reaches lane)
 unfolding reach_in
@@ -70,8 +67,7 @@ reach_same reaches lane all = by (slice_get reaches lane) refl
     by (Some None) e = rw e refl
     by (Some (Some reach)) e =
         let near : IfSome (get_or reaches lane (Some reach)) IsNear = all lane (Some reach) (slice_get_within reaches lane (Some reach) e) in
-        let here = subst (λ t. IfSome t IsNear) (get_or_from_slice_get reaches lane (Some reach) (Some reach) e) near in
-        rw e (ap (λ t. Some t) (cut_same reach here))
+        let here = subst (λ t. IfSome t IsNear) (get_or_from_slice_get reaches lane (Some reach) (Some reach) e) near in rw e (ap (λ t. Some t) (cut_same reach here))
 
 pub spring_same : (natural force : ℕ) → natural ≤ 4000 → length_at natural force ≡ natural * force / 256
 unfolding length_at
@@ -80,21 +76,16 @@ spring_same natural force h = let e : min natural 4000 ≡ natural = omega (arit
 -- ---- a place for each lane
 staff_long : (always : Bool) (rank : ℕ) (marks : List Laid) (verses : ℕ) → length (staff_reaches always rank marks verses) ≡ length (staff_gaps verses)
 staff_long always rank marks verses =
-    let a = length-map (drawn_row marks (lane_count verses) rank) (standing always) in
-    let b = length-map-range_with_len (drawn_reach marks rank) 0 (lane_count verses) in
-    let c = length-replicate {A = ℕ} (2 + verses) 300 in
-    grind (arith, a, b, c)
+    let a = length-map (drawn_row marks (lane_count verses) rank) (standing always) in let b = length-map-range_with_len (drawn_reach marks rank) 0 (lane_count verses) in
+    let c = length-replicate {A = ℕ} (2 + verses) 300 in grind (arith, a, b, c)
 
 pub reaches_long : (always : Bool) (rank : ℕ) (staves : List StaffMarks) (verses : List ℕ) → length verses ≡ length staves → length (reaches_of always rank staves verses) ≡ length (gaps_of verses)
 reaches_long always rank [] [] h = refl
 reaches_long always rank [] (v ∷ verses) h = grind (arith, h)
 reaches_long always rank (staff ∷ staves) [] h = refl
 reaches_long always rank (staff ∷ staves) (v ∷ verses) h =
-    let a = staff_long always rank staff.marks v in
-    let b = reaches_long always rank staves verses (omega (arith, h)) in
-    let c = length-append (staff_reaches always rank staff.marks v) (reaches_of always rank staves verses) in
-    let d = length-append (staff_gaps v) (gaps_of verses) in
-    grind (arith, a, b, c, d)
+    let a = staff_long always rank staff.marks v in let b = reaches_long always rank staves verses (omega (arith, h)) in
+    let c = length-append (staff_reaches always rank staff.marks v) (reaches_of always rank staves verses) in let d = length-append (staff_gaps v) (gaps_of verses) in grind (arith, a, b, c, d)
 
 -- ---- stands where it must
 abbrev Stands : Option Reach → Type 0
@@ -114,10 +105,7 @@ stands_all rank (staff ∷ staves) (v ∷ verses) =
 
 stands_in : (reaches : List (Option Reach)) → All Stands reaches → StandsInAll (reach_in reaches) (length reaches)
 unfolding reach_in
-stands_in reaches all lane l =
-    let here = all lane None l in
-    let e : slice_get reaches lane ≡ Some (Some here.0) = slice_get-get_or reaches lane None l ∙ ap (λ t. Some t) here.1 in
-    (cut_reach here.0, rw e refl)
+stands_in reaches all lane l = let here = all lane None l in let e : slice_get reaches lane ≡ Some (Some here.0) = slice_get-get_or reaches lane None l ∙ ap (λ t. Some t) here.1 in (cut_reach here.0, rw e refl)
 
 -- ---- each column
 module _ (staves : List StaffMarks) (lengths verses : List ℕ) where
@@ -133,10 +121,7 @@ module _ (staves : List StaffMarks) (lengths verses : List ℕ) where
   columns_keys rank (key ∷ behind) = ap (λ t. key ∷ t) (columns_keys (rank + 1) behind)
 
   pub columns_small : (keys : List ColumnKey) → All IsSmall (columns_from 0 keys staves lengths verses)
-  columns_small keys = all_columns IsSmall (λ rank key behind. record {
-    natural = natural_small key behind lengths;
-    reaches = near_all (stands_always key.class) rank staves verses;
-  }) 0 keys
+  columns_small keys = all_columns IsSmall (λ rank key behind. record { natural = natural_small key behind lengths; reaches = near_all (stands_always key.class) rank staves verses }) 0 keys
 
   pub columns_uncut : (keys : List ColumnKey) → All IsUncut (columns_from 0 keys staves lengths verses)
   columns_uncut keys = all_columns IsUncut (λ rank key behind. record {

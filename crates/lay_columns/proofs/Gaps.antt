@@ -11,8 +11,5 @@ gaps_narrow (v ∷ verses) = All-append (λ g. g ≤ 2 ^ 20) (staff_gaps v) (gap
 pub gaps_few : (verses : List ℕ) → All (λ v. v ≤ 255) verses → length (gaps_of verses) ≤ 258 * length verses
 gaps_few [] h = omega arith
 gaps_few (v ∷ verses) h =
-    let a = gaps_few verses (All-tail (λ v. v ≤ 255) v verses h) in
-    let b = All-head (λ v. v ≤ 255) v verses h in
-    let c = length-append (staff_gaps v) (gaps_of verses) in
-    let d = length-replicate {A = ℕ} (2 + v) 300 in
-    grind (arith, a, b, c, d)
+    let a = gaps_few verses (All-tail (λ v. v ≤ 255) v verses h) in let b = All-head (λ v. v ≤ 255) v verses h in let c = length-append (staff_gaps v) (gaps_of verses) in
+    let d = length-replicate {A = ℕ} (2 + v) 300 in grind (arith, a, b, c, d)

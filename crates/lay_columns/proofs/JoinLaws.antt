@@ -6,8 +6,7 @@ use Rattle.lay_columns.{specs.{Columns.columns_from, Joining.{ColumnsJoin, IsBel
 -- ---- reaches
 staff_same : (always : Bool) (rank rank' : ℕ) (marks marks' : List Laid) (verses : ℕ) → ((lane : ℕ) → boxes_at rank lane marks ≡ boxes_at rank' lane marks')
     → staff_reaches always rank marks verses ≡ staff_reaches always rank' marks' verses
-staff_same always rank rank' marks marks' verses h =
-    ap (λ t. map (standing always) t) (same_range (drawn_reach marks rank) (drawn_reach marks' rank') (lane_count verses) None (λ k l. ap reach_over (h k)))
+staff_same always rank rank' marks marks' verses h = ap (λ t. map (standing always) t) (same_range (drawn_reach marks rank) (drawn_reach marks' rank') (lane_count verses) None (λ k l. ap reach_over (h k)))
 
 reaches_both : (always : Bool) (n rank : ℕ) (joined first second : List StaffMarks) (verses : List ℕ) → StavesJoin n joined first second
     → (rank < n → reaches_of always rank joined verses ≡ reaches_of always rank first verses) × (reaches_of always (n + rank) joined verses ≡ reaches_of always rank second verses)
@@ -18,8 +17,7 @@ reaches_both always n rank (x ∷ joined) [] second verses h = absurd h
 reaches_both always n rank (x ∷ joined) (a ∷ first) [] verses h = absurd h
 reaches_both always n rank (x ∷ joined) (a ∷ first) (b ∷ second) [] h = (λ l. refl, refl)
 reaches_both always n rank (x ∷ joined) (a ∷ first) (b ∷ second) (v ∷ verses) (h, more) =
-    let p = λ (l : rank < n). staff_same always rank rank x.marks a.marks v (λ lane. h.front rank lane l) in
-    let q = staff_same always (n + rank) rank x.marks b.marks v (λ lane. h.behind rank lane) in
+    let p = λ (l : rank < n). staff_same always rank rank x.marks a.marks v (λ lane. h.front rank lane l) in let q = staff_same always (n + rank) rank x.marks b.marks v (λ lane. h.behind rank lane) in
     let r = reaches_both always n rank joined first second verses more in (λ l. rw (p l, r.0 l) refl, rw (q, r.1) refl)
 
 -- ---- naturals
@@ -46,21 +44,16 @@ module _ (joined first second : List StaffMarks) (lengths verses : List ℕ) whe
   pub behind_same : (n rank : ℕ) (keys : List ColumnKey) → StavesJoin n joined first second → columns_from (n + rank) keys joined lengths verses ≡ columns_from rank keys second lengths verses
   behind_same n rank [] h = refl
   behind_same n rank (key ∷ keys) h =
-      let e : n + rank + 1 ≡ n + (rank + 1) = omega arith in
-      let r = (reaches_both (stands_always key.class) n rank joined first second verses h).1 in
-      let b = ap (λ t. columns_from t keys joined lengths verses) e ∙ behind_same n (rank + 1) keys h in
-      rw (r, b) refl
+      let e : n + rank + 1 ≡ n + (rank + 1) = omega arith in let r = (reaches_both (stands_always key.class) n rank joined first second verses h).1 in
+      let b = ap (λ t. columns_from t keys joined lengths verses) e ∙ behind_same n (rank + 1) keys h in rw (r, b) refl
 
   front_same : (n rank : ℕ) (keys more : List ColumnKey) → rank + length keys ≡ n → OfOtherMeasures keys more → StavesJoin n joined first second
       → columns_from rank (keys ++ more) joined lengths verses ≡ columns_from rank keys first lengths verses ++ columns_from 0 more second lengths verses
-  front_same n rank [] more e o h =
-      let p : rank ≡ n + 0 = omega (arith, e) in
-      ap (λ t. columns_from t more joined lengths verses) p ∙ behind_same n 0 more h
+  front_same n rank [] more e o h = let p : rank ≡ n + 0 = omega (arith, e) in ap (λ t. columns_from t more joined lengths verses) p ∙ behind_same n 0 more h
   front_same n rank (key ∷ keys) more e o h =
       let r = (reaches_both (stands_always key.class) n rank joined first second verses h).0 (omega (arith, e)) in
       let s = natural_more key keys more lengths (All-head (λ k. All (λ l. l.measure ≢ k.measure) more) key keys o) in
-      let b = front_same n (rank + 1) keys more (omega (arith, e)) (All-tail (λ k. All (λ l. l.measure ≢ k.measure) more) key keys o) h in
-      rw (r, s, b) refl
+      let b = front_same n (rank + 1) keys more (omega (arith, e)) (All-tail (λ k. All (λ l. l.measure ≢ k.measure) more) key keys o) h in rw (r, s, b) refl
 
 pub columns_join : ColumnsJoin
 columns_join front behind joined first second lengths verses o h = front_same joined first second lengths verses (length front) 0 front behind (omega arith) o h
@@ -68,9 +61,7 @@ columns_join front behind joined first second lengths verses o h = front_same jo
 -- ---- marks
 boxes_none : (rank lane : ℕ) (xs : List Laid) → All (λ l. box_at rank lane l ≡ None) xs → boxes_at rank lane xs ≡ []
 boxes_none rank lane [] h = refl
-boxes_none rank lane (x ∷ xs) h =
-    let e = All-head (λ l. box_at rank lane l ≡ None) x xs h in
-    rw e (boxes_none rank lane xs (All-tail (λ l. box_at rank lane l ≡ None) x xs h))
+boxes_none rank lane (x ∷ xs) h = let e = All-head (λ l. box_at rank lane l ≡ None) x xs h in rw e (boxes_none rank lane xs (All-tail (λ l. box_at rank lane l ≡ None) x xs h))
 
 no_rank : (rank lane : ℕ) (laid : Laid) → is_number rank (rank_of laid.mark) ≡ false → box_at rank lane laid ≡ None
 no_rank rank lane laid e = rw e refl

@@ -14,10 +14,7 @@ extended reach (Some box) = Some (widened reach box)
 
 reach_more : (boxes : List Sides) (box : Sides) → reach_over (boxes ++ box ∷ []) ≡ Some (widened (reach_over boxes) box)
 reach_more [] box = grind arith
-reach_more (b ∷ boxes) box =
-    let l = greatest_map_more (λ s. left_of s.left) (b ∷ boxes) box in
-    let r = greatest_map_more (λ s. right_of s.right) (b ∷ boxes) box in
-    rw (l, r) refl
+reach_more (b ∷ boxes) box = let l = greatest_map_more (λ s. left_of s.left) (b ∷ boxes) box in let r = greatest_map_more (λ s. right_of s.right) (b ∷ boxes) box in rw (l, r) refl
 
 drawn_more : (rank lane : ℕ) (marks : List Laid) (laid : Laid) → drawn_reach (marks ++ laid ∷ []) rank lane ≡ extended (drawn_reach marks rank lane) (box_at rank lane laid)
 drawn_more rank lane marks laid = ap reach_over (filter_map-append (box_at rank lane) marks (laid ∷ [])) ∙ by (boxes_at rank lane marks) (box_at rank lane laid)
@@ -53,8 +50,7 @@ row_length marks lanes rank = length-map-range_with_len (drawn_reach marks rank)
 pub row_more : (marks : List Laid) (laid : Laid) (lanes r l : ℕ) (box : Sides) → ((rank lane : ℕ) → box_at rank lane laid ≡ (if (rank == r) && (lane == l) then Some box else None)) → l < lanes
     → widened_row (drawn_row marks lanes r) l box ≡ drawn_row (marks ++ laid ∷ []) lanes r
 row_more marks laid lanes r l box is lt =
-    let long : l < length (drawn_row marks lanes r) = subst (λ t. l < t) (sym (row_length marks lanes r)) lt in
-    let yes : nat_lt l (length (drawn_row marks lanes r)) ≡ true = grind (arith, long) in
+    let long : l < length (drawn_row marks lanes r) = subst (λ t. l < t) (sym (row_length marks lanes r)) lt in let yes : nat_lt l (length (drawn_row marks lanes r)) ≡ true = grind (arith, long) in
     let at : get_or (drawn_row marks lanes r) l None ≡ drawn_reach marks r l = get_or-map-range_with_len (drawn_reach marks r) 0 lanes l l None lt (omega arith) in
     rw (yes, at)
     (set_range (drawn_reach marks r) (drawn_reach (marks ++ laid ∷ []) r) lanes l (Some (widened (drawn_reach marks r l) box)) lt

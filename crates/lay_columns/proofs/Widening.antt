@@ -16,9 +16,7 @@ inside n = grind arith
 
 row_front : (row back : List (Option Reach)) (place : ℕ) (box : Sides) → place < length row → widened_row (row ++ back) place box ≡ widened_row row place box ++ back
 row_front row back place box l =
-    let long = length-append row back in
-    let yes : nat_lt place (length row) ≡ true = grind (arith, l) in
-    let all : nat_lt place (length (row ++ back)) ≡ true = grind (arith, l, long) in
+    let long = length-append row back in let yes : nat_lt place (length row) ≡ true = grind (arith, l) in let all : nat_lt place (length (row ++ back)) ≡ true = grind (arith, l, long) in
     rw (yes, all, get_or-append row back None place l) (set-append_left row back place _ l)
 
 row_behind : (front row : List (Option Reach)) (place : ℕ) (box : Sides) → widened_row (front ++ row) (length front + place) box ≡ front ++ widened_row row place box
@@ -30,10 +28,7 @@ row_behind (x ∷ front) row place box =
 widened_stood : (always : Bool) (o : Option Reach) (box : Sides) → widened (standing always o) box ≡ widened o box
 widened_stood always (Some reach) box = refl
 widened_stood false None box = refl
-widened_stood true None box =
-    let l : max 0 (left_of box.left) ≡ left_of box.left = omega arith in
-    let r : max 0 (right_of box.right) ≡ right_of box.right = omega arith in
-    rw (l, r) refl
+widened_stood true None box = let l : max 0 (left_of box.left) ≡ left_of box.left = omega arith in let r : max 0 (right_of box.right) ≡ right_of box.right = omega arith in rw (l, r) refl
 
 row_stood : (always : Bool) (row : List (Option Reach)) (place : ℕ) (box : Sides) → widened_row (map (standing always) row) place box ≡ map (standing always) (widened_row row place box)
 row_stood always [] place box = let e : nat_lt place 0 ≡ false = grind arith in rw e refl
@@ -50,10 +45,7 @@ module _ (lengths : List ℕ) where
 
   made_same : (f g : ℕ → Bool → List (Option Reach)) (rank : ℕ) (keys : List ColumnKey) → ((k : ℕ) (always : Bool) → rank ≤ k → f k always ≡ g k always) → made f rank keys ≡ made g rank keys
   made_same f g rank [] h = refl
-  made_same f g rank (key ∷ behind) h =
-      let here = h rank (stands_always key.class) (omega arith) in
-      let rest = made_same f g (rank + 1) behind (λ k always l. h k always (omega (arith, l))) in
-      rw (here, rest) refl
+  made_same f g rank (key ∷ behind) h = let here = h rank (stands_always key.class) (omega arith) in let rest = made_same f g (rank + 1) behind (λ k always l. h k always (omega (arith, l))) in rw (here, rest) refl
 
   at_next : (c : Column) (columns : List Column) (rank place : ℕ) (box : Sides) (o : Option Column) → with_widened (c ∷ columns) (suc rank) place box o ≡ c ∷ with_widened columns rank place box o
   at_next c columns rank place box None = refl
@@ -67,11 +59,9 @@ module _ (lengths : List ℕ) where
       let at : first ≡ r = omega (arith, e) in
       let head : widened_row (f first (stands_always key.class)) place box ≡ g first (stands_always key.class) =
       subst (λ t. widened_row (f t (stands_always key.class)) place box ≡ g t (stands_always key.class)) (sym at) (here (stands_always key.class)) in
-      let rest = made_same f g (first + 1) behind (λ k always l. apart k always (omega (arith, l, at))) in
-      rw (head, rest) refl
+      let rest = made_same f g (first + 1) behind (λ k always l. apart k always (omega (arith, l, at))) in rw (head, rest) refl
   made_widened f g r place box here apart first (suc i) (key ∷ behind) e =
-      let head = apart first (stands_always key.class) (omega (arith, e)) in
-      let rest = made_widened f g r place box here apart (first + 1) i behind (omega (arith, e)) in
+      let head = apart first (stands_always key.class) (omega (arith, e)) in let rest = made_widened f g r place box here apart (first + 1) i behind (omega (arith, e)) in
       at_next _ (made f (first + 1) behind) i place box _ ∙ rw (head, rest) refl
 
   -- ---- the lanes of a staff, with those before and behind them
@@ -175,11 +165,7 @@ module _ (lengths : List ℕ) where
       front' k always = front k always ++ staff_reaches always k staff.marks v
 
       long' : (k : ℕ) (always : Bool) → length (front' k always) ≡ start + lane_count v
-      long' k always =
-          let a = length-append (front k always) (staff_reaches always k staff.marks v) in
-          let b = long k always in
-          let c = row_long always k staff.marks v in
-          omega (arith, a, b, c)
+      long' k always = let a = length-append (front k always) (staff_reaches always k staff.marks v) in let b = long k always in let c = row_long always k staff.marks v in omega (arith, a, b, c)
 
   bare_made : (n rank : ℕ) (keys : List ColumnKey) → bare_columns keys lengths n ≡ made (λ k always. replicate n (standing always None)) rank keys
   bare_made n rank [] = refl

@@ -35,11 +35,7 @@ module _ (cost : ℕ → ℕ → Option ℕ) (forced : ℕ → Bool) (n : ℕ)
     fs = 0 ∷ replicate n 0;
     long = let l = length-replicate n no_sum in omega (arith, l);
     wide = let l = length-replicate {A = ℕ} n 0 in omega (arith, l);
-    known = record {
-      zero_is = refl;
-      rows = rows;
-      falls = falls;
-    };
+    known = record { zero_is = refl; rows = rows; falls = falls };
   }
     where
       rows : (i : ℕ) → 0 < i → i ≤ n → IsRow cost forced 0 i (slice_index_or (Some 0 ∷ replicate n no_sum) i None) (slice_index (0 ∷ replicate n 0) i)
@@ -74,10 +70,7 @@ module _ (cost : ℕ → ℕ → Option ℕ) (forced : ℕ → Bool) (n : ℕ)
     by_forced b ps fs true is l long wide none h on = filled_as (a + 1) ps fs long wide (trying_done cost forced n a (b + 1) ps fs (omega arith) (λ i m k s. s.free b l (omega arith) is) h)
     by_forced b ps fs false is l long wide none h on =
         on ps fs long wide
-        (λ f m k t. elim (cases_eq f b) [
-          | inl same ↦ true≢false (sym t ∙ ap forced same ∙ is)
-          | inr d ↦ none f m (grind (arith, k, d)) t
-        ]) h
+        (λ f m k t. elim (cases_eq f b) [ inl same ↦ true≢false (sym t ∙ ap forced same ∙ is) | inr d ↦ none f m (grind (arith, k, d)) t ]) h
 
     by_cost : (b : ℕ) (ps : List (Option ℕ)) (fs : List ℕ) (o : Option ℕ) → cost a b ≡ o → b ≤ n → a < b → length ps ≡ n + 1 → length fs ≡ n + 1
         → ((f : ℕ) → a < f → f < b → forced f ≡ true → ⊥) → IsTrying cost forced n a b ps fs → GoesOn (b + 1) → Filled (a + 1)
@@ -112,10 +105,7 @@ module _ (cost : ℕ → ℕ → Option ℕ) (forced : ℕ → Bool) (n : ℕ)
   walked : (fs : List ℕ) → ((i : ℕ) → 0 < i → i ≤ n → slice_index fs i < i) → (k i : ℕ) → i ≤ k → i ≤ n → (r : List ℕ) × Follows fs i r
   walked fs falls k zero l m = ([], refl)
   walked fs falls zero (suc i) l m = absurd (omega (arith, l))
-  walked fs falls (suc k) (suc i) l m =
-      let f = falls (suc i) (omega arith) m in
-      let w = walked fs falls k (slice_index fs (suc i)) (omega (arith, f, l)) (omega (arith, f, m)) in
-      (suc i ∷ w.0, (refl, omega arith, w.1))
+  walked fs falls (suc k) (suc i) l m = let f = falls (suc i) (omega arith) m in let w = walked fs falls k (slice_index fs (suc i)) (omega (arith, f, l)) (omega (arith, f, m)) in (suc i ∷ w.0, (refl, omega arith, w.1))
 
   record Last (ps : List (Option ℕ)) : Type 0 where
     bar : ℕ
@@ -129,10 +119,7 @@ module _ (cost : ℕ → ℕ → Option ℕ) (forced : ℕ → Bool) (n : ℕ)
     where
       by : (o : Option ℕ) → slice_index_or ps (suc m) None ≡ o → (((i : ℕ) → i ≤ n → IsSome (slice_index_or ps i None) → i ≤ m) → Last ps) → Last ps
       by (Some v) e on = record { bar = suc m; within = l; some = rw e refl; greatest = top }
-      by None e on = on (λ i k s. elim (cases_eq i (suc m)) [
-        | inl same ↦ absurd (true≢false (sym s ∙ ap is_some (ap (λ j. slice_index_or ps j None) same ∙ e)))
-        | inr d ↦ (let t = top i k s in grind (arith, t, d))
-      ])
+      by None e on = on (λ i k s. elim (cases_eq i (suc m)) [ inl same ↦ absurd (true≢false (sym s ∙ ap is_some (ap (λ j. slice_index_or ps j None) same ∙ e))) | inr d ↦ (let t = top i k s in grind (arith, t, d)) ])
 
   pub has_breaking : HasBreaking cost forced n ⊎ (NoneLegal cost forced n × ((reached : ℕ) × IsReached cost forced n reached))
   has_breaking = by (slice_index_or t.ps n None) refl
@@ -142,8 +129,7 @@ module _ (cost : ℕ → ℕ → Option ℕ) (forced : ℕ → Bool) (n : ℕ)
 
       by : (o : Option ℕ) → slice_index_or t.ps n None ≡ o → HasBreaking cost forced n ⊎ (NoneLegal cost forced n × ((reached : ℕ) × IsReached cost forced n reached))
       by (Some v) e =
-          let w = walked t.fs t.known.falls n n (omega arith) (omega arith) in
-          let f = subst (λ r. Follows t.fs n r) (sym (reverse-reverse w.0)) w.1 in
+          let w = walked t.fs t.known.falls n n (omega arith) (omega arith) in let f = subst (λ r. Follows t.fs n r) (sym (reverse-reverse w.0)) w.1 in
           inl (record {
             breaks = reverse w.0;
             total = v;

@@ -19,8 +19,7 @@ pub record AskedBelow (m : ℕ) (f : ℕ → ℤ → Type 0) (w : ℤ) : Type 0 
 pub top_of : (f : ℕ → ℤ → Type 0) → ((i : ℕ) (from : ℤ) → Top from (f i)) → (m : ℕ) (from : ℤ) → Top from (AskedBelow m f)
 top_of f one zero from = record { v = from; past = omega (arith, ints); all = λ w a. absurd (let l = a.within in omega arith); least = λ u p q. p }
 top_of f one (suc m) from =
-    let r = top_of f one m from in
-    let l = one m r.v in
+    let r = top_of f one m from in let l = one m r.v in
     record {
       v = l.v;
       past = let a = r.past in let b = l.past in omega (arith, ints);
@@ -52,12 +51,7 @@ top_by : (o p : Option Reach) (f : Reach → Reach → ℤ) (from : ℤ) → Top
 top_by None p f from = record { v = from; past = omega (arith, ints); all = λ w a. absurd (let e = a.1 in cc); least = λ u p q. p }
 top_by (Some r) p f from =
     let t = top_at p (f r) from in
-    record {
-      v = t.v;
-      past = t.past;
-      all = λ w a. let same : r ≡ a.0 = (let e = a.1 in cc) in t.all w (subst (λ x. AskedAt p (f x) w) (sym same) a.2);
-      least = λ u l q. t.least u l (λ w a. q w (r, refl, a));
-    }
+    record { v = t.v; past = t.past; all = λ w a. let same : r ≡ a.0 = (let e = a.1 in cc) in t.all w (subst (λ x. AskedAt p (f x) w) (sym same) a.2); least = λ u l q. t.least u l (λ w a. q w (r, refl, a)) }
 
 abbrev at : List ℤ → ℕ → ℤ
 at x k = slice_index_or x k (pos 0)
@@ -72,9 +66,7 @@ module _ (n : ℕ) (reach : ℕ → ℕ → Option Reach) (gaps : List ℕ) (spr
 
   first : 0 < n → Placed 0
   first some =
-      let lanes = length gaps in
-      let t = top_of (λ lane w. AskedAt (reach 0 lane) (λ s. pos s.left) w) (λ lane from. top_at (reach 0 lane) (λ s. pos s.left) from) lanes (pos 0) in
-      let zeros = replicate n (pos 0) in
+      let lanes = length gaps in let t = top_of (λ lane w. AskedAt (reach 0 lane) (λ s. pos s.left) w) (λ lane from. top_at (reach 0 lane) (λ s. pos s.left) from) lanes (pos 0) in let zeros = replicate n (pos 0) in
       let count : length (replicate n (pos 0)) ≡ n = length-replicate n (pos 0) in (
         slice_set zeros 0 t.v,
         length-set zeros 0 t.v ∙ count,
@@ -90,14 +82,9 @@ module _ (n : ℕ) (reach : ℕ → ℕ → Option Reach) (gaps : List ℕ) (spr
 
   next : (j : ℕ) → j + 1 < n → Placed j → Placed (j + 1)
   next j l (x, count, placed) =
-      let lanes = length gaps in
-      let from : ℤ = int_max (at x j +ℤ pos 100) (at x j +ℤ pos (spring j)) in
+      let lanes = length gaps in let from : ℤ = int_max (at x j +ℤ pos 100) (at x j +ℤ pos (spring j)) in
       let over = λ (i : ℕ). top_of (Asks x (j + 1) i) (λ lane from. top_by (reach i lane) (reach (j + 1) lane) (λ r s. at x i +ℤ pos (r.right + slice_index gaps lane + s.left)) from) lanes in
-      let t = top_of (λ i. AskedBelow lanes (Asks x (j + 1) i)) over (j + 1) from in
-      let past = t.past in
-      let last = placed.small j (omega arith) in
-      let low = last.0 in
-      let high = last.1 in
+      let t = top_of (λ i. AskedBelow lanes (Asks x (j + 1) i)) over (j + 1) from in let past = t.past in let last = placed.small j (omega arith) in let low = last.0 in let high = last.1 in
       let len = short j in (
         slice_set x (j + 1) t.v,
         length-set x (j + 1) t.v ∙ count,
@@ -107,21 +94,15 @@ module _ (n : ℕ) (reach : ℕ → ℕ → Option Reach) (gaps : List ℕ) (spr
             (λ k lt lane r s le er es. t.all _ (record { by = k; within = lt; asks = record { by = lane; within = le; asks = (r, er, (s, es, refl)) } }))
             (λ g drop y e a.
             let before = fewer_apart (j + 1) (j + 1 + 1) reach reach gaps spring spring y (omega arith) (λ i lane l. refl) (λ i l. refl) a in
-            let below = placed.near 0 0 y refl before j (omega arith) in
-            let step = a.steps j (omega arith) in
-            let spr = a.springs j (omega arith) in
+            let below = placed.near 0 0 y refl before j (omega arith) in let step = a.steps j (omega arith) in let spr = a.springs j (omega arith) in
             let less : t.v ≤ℤ at y (j + 1) = t.least (at y (j + 1)) (omega (arith, ints, clamps)) (λ w h.
-            let b = placed.near 0 0 y refl before h.by h.within in
-            let c = a.lanes h.by (j + 1) h.within (omega arith) h.asks.by h.asks.asks.0 h.asks.asks.2.0 h.asks.within h.asks.asks.1 h.asks.asks.2.1 in
+            let b = placed.near 0 0 y refl before h.by h.within in let c = a.lanes h.by (j + 1) h.within (omega arith) h.asks.by h.asks.asks.0 h.asks.asks.2.0 h.asks.within h.asks.asks.1 h.asks.asks.2.1 in
             rw h.asks.asks.2.2 (omega (arith, ints))) in
             omega (arith, ints, less)) (
               omega (arith, ints, clamps),
               t.least (pos (1048576 + 3145728 * (j + 1))) (omega (arith, ints, clamps)) (λ w h.
-                  let up = (placed.small h.by h.within).1 in
-                  let before = h.within in
-                  let right = (rw h.asks.asks.1 at (near h.by h.asks.by h.asks.within)).1 in
-                  let left = (rw h.asks.asks.2.1 at (near (j + 1) h.asks.by h.asks.within)).0 in
-                  let gap = narrow h.asks.by h.asks.within in
+                  let up = (placed.small h.by h.within).1 in let before = h.within in let right = (rw h.asks.asks.1 at (near h.by h.asks.by h.asks.within)).1 in
+                  let left = (rw h.asks.asks.2.1 at (near (j + 1) h.asks.by h.asks.within)).0 in let gap = narrow h.asks.by h.asks.within in
                   rw h.asks.asks.2.2 (omega (arith, ints))),
             ),
       )
@@ -132,7 +113,5 @@ module _ (n : ℕ) (reach : ℕ → ℕ → Option Reach) (gaps : List ℕ) (spr
 
   pub has_place : 0 < n → (x : List ℤ) × IsPlace n reach gaps spring x
   has_place some =
-      let p = placed_to (n - 1) (omega arith) in
-      let e : n - 1 + 1 ≡ n = omega arith in
-      let count = p.1 in
+      let p = placed_to (n - 1) (omega arith) in let e : n - 1 + 1 ≡ n = omega arith in let count = p.1 in
       (take n p.0, place_of n reach gaps (λ _. spring) 0 0 0 p.0 (omega (arith, count)) (subst (λ j. IsPlacedTo j reach gaps (λ _. spring) 0 0 0 p.0) e p.2))

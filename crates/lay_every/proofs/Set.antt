@@ -16,8 +16,7 @@ has_set : (n : ℕ) (reach : ℕ → ℕ → Option Reach) (gaps : List ℕ) (sp
     → (at : List ℤ) × IsSet n reach gaps spring width force at × StandApart n reach gaps (spring force) at
 has_set n reach gaps spring width force (e, ends, l) = elim (cases_lt 1 n) [
   | inl several ↦
-      let rest = rest_of e width l in
-      let f = λ (k : ℕ). slice_index_or ends.x k (pos 0) +ℤ pos (rest.0 * k / (n - 1)) in
+      let rest = rest_of e width l in let f = λ (k : ℕ). slice_index_or ends.x k (pos 0) +ℤ pos (rest.0 * k / (n - 1)) in
       let is : IsSet n reach gaps spring width force (map f (range_with_len 0 n)) = record {
         x = ends.x;
         place = ends.place;
@@ -52,22 +51,12 @@ module _ (columns : List Column) (gaps : List ℕ) (width force : ℕ) (narrow :
       by : (b : Bool) → is_ragged last force ≡ b → (p : Placed) × IsJustified gaps width last columns p
       by true e = (
         record { force = 256; ragged = true; at = has_natural.0 },
-        record {
-          pressed = (force, h, sym (ap (λ b. if b then 256 else force) e), sym e);
-          loose = λ _. has_natural.1;
-          set = λ is. absurd (true≢false is);
-          apart = has_natural.1.apart;
-        },
+        record { pressed = (force, h, sym (ap (λ b. if b then 256 else force) e), sym e); loose = λ _. has_natural.1; set = λ is. absurd (true≢false is); apart = has_natural.1.apart },
       )
       by false e =
           let set = has_set (length columns) (reach_at column_reach columns) gaps (length_at column_length columns) width force h.fits in (
             record { force = force; ragged = false; at = set.0 },
-            record {
-              pressed = (force, h, sym (ap (λ b. if b then 256 else force) e), sym e);
-              loose = λ is. absurd (true≢false (sym is));
-              set = λ _. set.1;
-              apart = set.2;
-            },
+            record { pressed = (force, h, sym (ap (λ b. if b then 256 else force) e), sym e); loose = λ is. absurd (true≢false (sym is)); set = λ _. set.1; apart = set.2 },
           )
 
 -- a span that costs something has a system, set to the width
@@ -76,7 +65,6 @@ has_set_system s width a b v cost =
     let flat = has_system s a b in
     let placed = has_justified (system_columns s flat.0) (score_gaps s) width cost.pressed.0
     (λ lane l. gaps_narrow (verses_of s) lane 0 l) (cost.pressed.2 flat.0 flat.1) (flat.0.b == s.measures) in
-    let keys = flat.0.keys in
-    let m : SystemMarks = record { a = a; b = b; keys = keys; staves = map (tilted_staff keys (timeline_of s).lengths placed.0.at a b) (drawn_staves s) } in
+    let keys = flat.0.keys in let m : SystemMarks = record { a = a; b = b; keys = keys; staves = map (tilted_staff keys (timeline_of s).lengths placed.0.at a b) (drawn_staves s) } in
     let tilted : IsTilted s (timeline_of s) a b placed.0.at m = record { from = refl; to = refl; keys = flat.1.keys; staves = refl } in
     (m, placed.0, record { flat = flat.0; called = flat.1; placed = placed.1; tilted = tilted; alike = tilted_alike s (timeline_of s) a b placed.0.at m tilted flat.0 flat.1 })

@@ -22,10 +22,7 @@ module _ (gaps : List ℕ) (width : ℕ) (narrow : All (λ g. g ≤ 2 ^ 20) gaps
   pub has_force_in : (columns : List Column) → 0 < length columns → ((force : ℕ) × IsForceOf gaps width columns force) ⊎ (CanStandIn gaps width columns → ⊥)
   has_force_in columns some =
       elim (has_force (length columns) (reach_at column_reach columns) gaps (length_at column_length columns) width some
-      (λ k lane l. columns_near columns k lane) (λ lane l. narrow lane 0 l) (columns_short columns)) [
-        | inl f ↦ inl (f.0, record { bound = f.1.bound; fits = f.1.fits; greatest = f.1.greatest })
-        | inr never ↦ inr never
-      ]
+      (λ k lane l. columns_near columns k lane) (λ lane l. narrow lane 0 l) (columns_short columns)) [ inl f ↦ inl (f.0, record { bound = f.1.bound; fits = f.1.fits; greatest = f.1.greatest }) | inr never ↦ inr never ]
 
   -- the row of bar a
   module _ (starts others : List (List Column)) (forced : ℕ → Bool) (measures : AreMeasures column_reach (length gaps) starts others) (a : ℕ) (inside : a < length starts) where
@@ -45,9 +42,7 @@ module _ (gaps : List ℕ) (width : ℕ) (narrow : All (λ g. g ≤ 2 ^ 20) gaps
           | inl pressed ↦
               let v = badness_of ((m + 1) == length starts) pressed.0 in
               let more = costs_more column_reach column_length gaps width starts others forced a m row v count each (record { free = λ h. free h.0 h.1 h.2 h.3; pressed = (pressed.0, pressed.1, refl) }) in
-              let next : List ℕ = row ++ v ∷ [] in
-              let grown = length-append row (v ∷ []) in
-              let longer : a + length next ≡ m + 1 = omega (arith, count, grown) in
+              let next : List ℕ = row ++ v ∷ [] in let grown = length-append row (v ∷ []) in let longer : a + length next ≡ m + 1 = omega (arith, count, grown) in
               (elim (forced (m + 1)) as (λ t. forced (m + 1) ≡ t → (row : List ℕ) × IsRow row) [
                 | true ↦ λ is. (next, stops_behind column_reach column_length gaps width starts others forced a m next (omega (arith, left)) longer (omega (arith, count)) more is)
                 | false ↦ λ is. row_on d (m + 1) next (omega (arith, left)) longer more (free_more forced a m is free)
@@ -59,8 +54,7 @@ module _ (gaps : List ℕ) (width : ℕ) (narrow : All (λ g. g ≤ 2 ^ 20) gaps
 
 pub has_spans : (s : Score) (width : ℕ) → IsGoodScore s → (0 < s.measures → 1 ≤ length s.voices) → (spans : List Span) × AreSpans s.measures spans × AreSpansOf s width spans
 has_spans s width good heard =
-    let c = have_measures s good heard in
-    let forced = is_forced (length c.starts) s.forced in
+    let c = have_measures s good heard in let forced = is_forced (length c.starts) s.forced in
     let rows = has_each [] (IsRowFrom column_reach column_length (score_gaps s) width c.starts c.others forced) (length c.starts)
     (λ a l. has_row (score_gaps s) width (gaps_narrow (verses_of s)) c.starts c.others forced c.measures a l) in
     let table : IsTable (λ a row. IsRowFrom column_reach column_length (score_gaps s) width c.starts c.others forced a row) (length c.starts) rows.0 = record { count = rows.1; each = rows.2 } in (

@@ -25,8 +25,7 @@ over_sound all = record { covers = covers all; low = not_below (staff_heights al
 
 sound : (keys : List ColumnKey) (lengths : List ℕ) (a b : ℕ) (vs : List DrawnVoice) → IsSound (staff_marks keys lengths a b vs)
 unfolding staff_marks
-sound keys lengths a b vs =
-    over_sound (by_columns (length keys) (written_parts keys lengths (room_over (verses_on vs) (bare_marks keys lengths a b vs)) a b 1 [] vs) ++ staff_bridges keys lengths a b vs)
+sound keys lengths a b vs = over_sound (by_columns (length keys) (written_parts keys lengths (room_over (verses_on vs) (bare_marks keys lengths a b vs)) a b 1 [] vs) ++ staff_bridges keys lengths a b vs)
 
 all_sound : (keys : List ColumnKey) (lengths : List ℕ) (at : List ℤ) (a b : ℕ) (staves : List (List DrawnVoice)) → AllByRecursion IsSound (map (tilted_staff keys lengths at a b) staves)
 all_sound keys lengths at a b [] = tt
@@ -51,23 +50,14 @@ stack_from : (top : ℤ) (gaps : List ℕ) (staves : List StaffMarks) → length
     → (bases : List ℤ) × (bottom : ℤ) × AreStacked top gaps staves bases bottom × (bottom ≤ℤ top) × (top ≤ℤ (bottom +ℤ pos (2147484648 * length staves)))
 stack_from top [] [] e good near = ([], top, refl, omega (arith, ints), omega (arith, ints))
 stack_from top [] (staff ∷ []) e good near =
-    let low = good.0.low in
-    let high = good.0.high in
-    let under = good.0.covers.0 in
-    let over = good.0.covers.1 in
+    let low = good.0.low in let high = good.0.high in let under = good.0.covers.0 in let over = good.0.covers.1 in
     ((top -ℤ staff.high) ∷ [], (top -ℤ staff.high) +ℤ staff.low, (omega (arith, ints), refl), omega (arith, ints), omega (arith, ints))
 stack_from top [] (staff ∷ next ∷ more) e good near = absurd (omega (arith, e))
 stack_from top (gap ∷ gaps) [] e good near = absurd (omega (arith, e))
 stack_from top (gap ∷ gaps) (staff ∷ []) e good near = absurd (omega (arith, e))
 stack_from top (gap ∷ gaps) (staff ∷ next ∷ more) e good near =
-    let low = good.0.low in
-    let high = good.0.high in
-    let under = good.0.covers.0 in
-    let over = good.0.covers.1 in
-    let small = near.0 in
-    let rest = stack_from (((top -ℤ staff.high) +ℤ staff.low) -ℤ pos gap) gaps (next ∷ more) (omega (arith, e)) good.1 near.1 in
-    let below = rest.3 in
-    let far = rest.4 in
+    let low = good.0.low in let high = good.0.high in let under = good.0.covers.0 in let over = good.0.covers.1 in let small = near.0 in
+    let rest = stack_from (((top -ℤ staff.high) +ℤ staff.low) -ℤ pos gap) gaps (next ∷ more) (omega (arith, e)) good.1 near.1 in let below = rest.3 in let far = rest.4 in
     ((top -ℤ staff.high) ∷ rest.0, rest.1, (omega (arith, ints), rest.2), omega (arith, ints), omega (arith, ints))
 
 -- the tilted marks of a good score have a stack
@@ -77,15 +67,8 @@ has_stack s a b at m good is =
     let stack = stack_from (pos 0) (gaps_between s.voices) m.staves (gaps_count s m (gaps_between s.voices) staff refl is.staves)
     (subst (AllByRecursion IsSound) (sym is.staves) (all_sound m.keys (timeline_of s).lengths at a b (drawn_staves s)))
     (gaps_near s.voices (recursion_from_All IsGoodVoice s.voices good.voices)) in
-    let low = stack.3 in
-    let far = stack.4 in
-    let count : length m.staves ≡ length (drawn_staves s) = ap (λ these. length these) is.staves ∙ length-map (drawn_staves s) staff in
-    let few = good.few_voices in
+    let low = stack.3 in let far = stack.4 in let count : length m.staves ≡ length (drawn_staves s) = ap (λ these. length these) is.staves ∙ length-map (drawn_staves s) staff in let few = good.few_voices in
     let bottom : stack.1 ≡ (pos 0 -ℤ (pos 0 -ℤ stack.1)) = omega (arith, ints) in (
       record { bases = stack.0; height = pos 0 -ℤ stack.1 },
-      record {
-        stacked = subst (AreStacked (pos 0) (gaps_between s.voices) m.staves stack.0) bottom stack.2;
-        low = omega (arith, ints, low);
-        high = omega (arith, ints, far, count, few, staves_count s);
-      },
+      record { stacked = subst (AreStacked (pos 0) (gaps_between s.voices) m.staves stack.0) bottom stack.2; low = omega (arith, ints, low); high = omega (arith, ints, far, count, few, staves_count s) },
     )

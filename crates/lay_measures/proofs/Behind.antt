@@ -60,11 +60,8 @@ module _ (lengths : List ℕ) (m n : ℕ) (some : 1 ≤ m) (within : m < n) (own
   part_is : (first : ℕ) (v : DrawnVoice) → Behind v → measure_part true begun lengths m first v ≡ head_of first v ++ map (moved 1) (measure_part false own lengths m first v)
   unfolding columns_part
   part_is first v ((count, fit), plain) =
-      let ds = slice_range v.measures m (m + 1) in
-      let slots = measures_slots lengths first m false ds in
-      let long = slice_long m (m + 1) v.measures (omega (arith, within, count)) in
-      let placed = measures_in lengths m (m + 1) 2 (omega arith) first m false ds (omega arith) (omega (arith, long)) (slice_fit lengths m (m + 1) v.measures fit) in
-      let place = Some (fixed_place first) in
+      let ds = slice_range v.measures m (m + 1) in let slots = measures_slots lengths first m false ds in let long = slice_long m (m + 1) v.measures (omega (arith, within, count)) in
+      let placed = measures_in lengths m (m + 1) 2 (omega arith) first m false ds (omega arith) (omega (arith, long)) (slice_fit lengths m (m + 1) v.measures fit) in let place = Some (fixed_place first) in
       ap (λ c. (head_part begun m ds ++ (if c then map (drawn_at (rank_at begun 0 0 Class.First 0)) (bar_marks v.first) else [])) ++ measures_marks begun lengths place m true ds) (no_first (is_lower v.seat) (has_features v.first))
       ∙ ap (λ t. t ++ measures_marks begun lengths place m true ds) (append-nil (head_part begun m ds)) ∙ ap (λ t. head_part begun m ds ++ t)
       (measures_same begun lengths place m ds (one_plain m (m + 1 - m) v.measures (omega arith) plain) ∙ measures_laid begun first lengths m false ds
@@ -103,8 +100,7 @@ of_behind s t m verses column columns good timed some within plain are =
     let places = called_places true s m keys good within (subst (λ z. AreKeys keys (keys_called true s z.lengths m)) timed are.keys) in
     let from = all_weaker (IsInSystem (timeline_of s).lengths m (m + 1)) (λ k. m ≤ k.measure) (λ k h. h.from) keys (recursion_from_All (IsInSystem (timeline_of s).lengths m (m + 1)) keys places) in
     let head = head_inside s lengths m (m + 1) keys good (some_voice (voice_keys lengths m (m + 1)) column.key s.voices (are.keys.only column.key (0, omega arith, refl))) are.keys in
-    let called = own_keys lengths m some voices column.key own each from head (subst (AreKeys keys) (called_same true s lengths m) are.keys) in
-    let rise = subst (λ k. Rises (k ∷ own)) called.0 are.keys.rise in
+    let called = own_keys lengths m some voices column.key own each from head (subst (AreKeys keys) (called_same true s lengths m) are.keys) in let rise = subst (λ k. Rises (k ∷ own)) called.0 are.keys.rise in
     let long = λ (k : ℕ) (h : k < s.measures). subst (λ z. length_at s.voices k ≤ slice_index z.lengths k) (sym timed) (omega (arith, length_is s k h)) in
     let fit = grouped_all stands_lower (λ v. HasMeasures lengths s.measures v × (begins_plain m v ≡ true)) voices
     (both_pass (HasMeasures lengths s.measures) (λ v. begins_plain m v ≡ true) voices

@@ -16,10 +16,7 @@ single (suc m) [] h = absurd (omega (arith, h))
 single (suc m) (x ∷ xs) h = single m xs (omega (arith, h))
 
 pub slice_one : {X : Type 0} (m : ℕ) (xs : List X) → m < length xs → (x : X) × (slice_range xs m (m + 1) ≡ x ∷ [])
-slice_one m xs h =
-    let one = single m xs h in
-    let count : m + 1 - m ≡ 1 = omega arith in
-    (one.0, ap (λ n. take n (drop m xs)) count ∙ one.1)
+slice_one m xs h = let one = single m xs h in let count : m + 1 - m ≡ 1 = omega arith in (one.0, ap (λ n. take n (drop m xs)) count ∙ one.1)
 
 -- ---- answers
 pub ok_through : {X E : Type 0} (P Q : X → Type 0) → ((x : X) → P x → Q x) → (r : Result X E) → IfOk r P → IfOk r Q
@@ -38,8 +35,7 @@ bar_class : (lengths : List ℕ) (m : ℕ) (k : ColumnKey) → is_below (bar_key
 unfolding is_below
 bar_class lengths m k below place =
     let same : k.measure ≡ m = let from = place.from in let to = place.to in omega (arith, from, to) in
-    let late : k.tick ≤ slice_index lengths m = subst (λ n. k.tick ≤ slice_index lengths n) same place.within in
-    by k.class refl same late
+    let late : k.tick ≤ slice_index lengths m = subst (λ n. k.tick ≤ slice_index lengths n) same place.within in by k.class refl same late
   where
     by : (class : Class) → k.class ≡ class → k.measure ≡ m → k.tick ≤ slice_index lengths m → class ≡ Class.Bar
     by Class.Head e same late = grind (arith, nat_tests, e, same, late, below)
@@ -51,20 +47,16 @@ bar_class lengths m k below place =
 
 past_bar : (lengths : List ℕ) (m : ℕ) (c : Column) (cs : List Column) → BelowAll (bar_key lengths m) (keys_in (c ∷ cs)) → AllByRecursion (λ c. IsInSystem lengths m (m + 1) c.key) (c ∷ cs) → EndWithBar (c ∷ cs)
 past_bar lengths m c [] below all = record { front = []; last = c; parts = refl; bar = bar_class lengths m c.key below.0 all.0 }
-past_bar lengths m c (d ∷ cs) below all =
-    let more = past_bar lengths m d cs below.1 all.1 in
-    record { front = c ∷ more.front; last = more.last; parts = ap (λ t. c ∷ t) more.parts; bar = more.bar }
+past_bar lengths m c (d ∷ cs) below all = let more = past_bar lengths m d cs below.1 all.1 in record { front = c ∷ more.front; last = more.last; parts = ap (λ t. c ∷ t) more.parts; bar = more.bar }
 
 ends : (lengths : List ℕ) (m : ℕ) (cs : List Column) → Rises (keys_in cs) → AllByRecursion (λ c. IsInSystem lengths m (m + 1) c.key) cs → Contains (keys_in cs) (bar_key lengths m) → EndWithBar cs
 ends lengths m [] rise all (i, inside, is) = absurd (omega (arith, inside))
 ends lengths m (c ∷ []) rise all (zero, inside, is) = record { front = []; last = c; parts = refl; bar = ap (λ k. k.class) is }
 ends lengths m (c ∷ []) rise all (suc i, inside, is) = absurd (omega (arith, inside))
 ends lengths m (c ∷ d ∷ cs) rise all (zero, inside, is) =
-    let more = past_bar lengths m d cs (subst (λ k. BelowAll k (keys_in (d ∷ cs))) is rise.0) all.1 in
-    record { front = c ∷ more.front; last = more.last; parts = ap (λ t. c ∷ t) more.parts; bar = more.bar }
+    let more = past_bar lengths m d cs (subst (λ k. BelowAll k (keys_in (d ∷ cs))) is rise.0) all.1 in record { front = c ∷ more.front; last = more.last; parts = ap (λ t. c ∷ t) more.parts; bar = more.bar }
 ends lengths m (c ∷ d ∷ cs) rise all (suc i, inside, is) =
-    let more = ends lengths m (d ∷ cs) rise.1 all.1 (i, omega (arith, inside), is) in
-    record { front = c ∷ more.front; last = more.last; parts = ap (λ t. c ∷ t) more.parts; bar = more.bar }
+    let more = ends lengths m (d ∷ cs) rise.1 all.1 (i, omega (arith, inside), is) in record { front = c ∷ more.front; last = more.last; parts = ap (λ t. c ∷ t) more.parts; bar = more.bar }
 
 pub end_with_bar : (lengths : List ℕ) (m : ℕ) (cs : List Column) → Rises (keys_in cs) → All (λ c. IsInSystem lengths m (m + 1) c.key) cs → Contains (keys_in cs) (bar_key lengths m) → EndWithBar cs
 end_with_bar lengths m cs rise all h = ends lengths m cs rise (recursion_from_All (λ c. IsInSystem lengths m (m + 1) c.key) cs all) h
@@ -73,9 +65,7 @@ has_bar : (lengths : List ℕ) (m : ℕ) (in_head signed : Bool) (x : Measure) �
 has_bar lengths m in_head signed x = Contains-append_right (events_keys m in_head signed [] (flats_of x.body)) (bar_key lengths m ∷ []) (bar_key lengths m) (0, omega arith, refl)
 
 slice_bar : (lengths : List ℕ) (m : ℕ) (in_head signed : Bool) (xs : List Measure) → m < length xs → Contains (measures_keys lengths m in_head signed (slice_range xs m (m + 1))) (bar_key lengths m)
-slice_bar lengths m in_head signed xs h =
-    let one = slice_one m xs h in
-    subst (λ t. Contains (measures_keys lengths m in_head signed t) (bar_key lengths m)) (sym one.1) (has_bar lengths m in_head signed one.0)
+slice_bar lengths m in_head signed xs h = let one = slice_one m xs h in subst (λ t. Contains (measures_keys lengths m in_head signed t) (bar_key lengths m)) (sym one.1) (has_bar lengths m in_head signed one.0)
 
 -- the first voice calls for all keys of its own
 pub led_voice : (f : Voice → List ColumnKey) (n : ℕ) (k : ColumnKey) (vs : List Voice) → 1 ≤ length vs → IsLed vs → All (λ v. length v.measures ≡ n) vs

@@ -18,8 +18,7 @@ apart a b h = grind (arith, nat_tests)
 slots_on : (lengths : List ℕ) (first m : ℕ) (xs ys : List DrawnMeasure) → measures_slots lengths first m false (xs ++ ys) ≡ measures_slots lengths first m false xs ++ measures_slots lengths first (m + length xs) false ys
 slots_on lengths first m [] ys = let e : m ≡ m + 0 = omega arith in ap (λ k. measures_slots lengths first k false ys) e
 slots_on lengths first m (x ∷ xs) ys =
-    let own = events_slots first m false 0 0 x.events ++ bar_slots lengths m x in
-    let e : m + 1 + length xs ≡ m + length (x ∷ xs) = omega arith in
+    let own = events_slots first m false 0 0 x.events ++ bar_slots lengths m x in let e : m + 1 + length xs ≡ m + length (x ∷ xs) = omega arith in
     ap (λ t. own ++ t) (slots_on lengths first (m + 1) xs ys ∙ ap (λ k. measures_slots lengths first (m + 1) false xs ++ measures_slots lengths first k false ys) e)
     ∙ sym (append_assoc own (measures_slots lengths first (m + 1) false xs) (measures_slots lengths first (m + length (x ∷ xs)) false ys))
 
@@ -27,8 +26,7 @@ slots_from : (lengths : List ℕ) (first m : ℕ) (xs ys : List DrawnMeasure) �
     → measures_slots lengths first m true (xs ++ ys) ≡ measures_slots lengths first m true xs ++ measures_slots lengths first (m + length xs) false ys
 slots_from lengths first m [] ys some = absurd (omega (arith, some))
 slots_from lengths first m (x ∷ xs) ys some =
-    let own = events_slots first m true 0 0 x.events ++ bar_slots lengths m x in
-    let e : m + 1 + length xs ≡ m + length (x ∷ xs) = omega arith in
+    let own = events_slots first m true 0 0 x.events ++ bar_slots lengths m x in let e : m + 1 + length xs ≡ m + length (x ∷ xs) = omega arith in
     ap (λ t. own ++ t) (slots_on lengths first (m + 1) xs ys ∙ ap (λ k. measures_slots lengths first (m + 1) false xs ++ measures_slots lengths first k false ys) e)
     ∙ sym (append_assoc own (measures_slots lengths first (m + 1) false xs) (measures_slots lengths first (m + length (x ∷ xs)) false ys))
 
@@ -68,9 +66,7 @@ HasMeasures lengths n v = (length v.measures ≡ n) × Fit lengths 0 v.measures
 module _ (lengths : List ℕ) (a b n : ℕ) (keys : List ColumnKey) (order : a < b) (within : b ≤ n) (bars : HasBars lengths a b keys) where
   part_below : (first : ℕ) (v : DrawnVoice) → HasMeasures lengths n v → AreBelow (length keys) (core_part keys lengths a b first v)
   part_below first v (count, fit) =
-      let xs = slice_range v.measures a b in
-      let slots = columns_slots lengths first a v.seat v.first xs in
-      let long = slice_long a b v.measures (omega (arith, within, count)) in
+      let xs = slice_range v.measures a b in let slots = columns_slots lengths first a v.seat v.first xs in let long = slice_long a b v.measures (omega (arith, within, count)) in
       let slots_in = columns_in lengths a b 0 (omega arith) first v.seat v.first xs order (omega (arith, long, order)) (slice_fit lengths a b v.measures fit) refl in
       subst (AreBelow (length keys)) (sym (columns_laid keys lengths first a v.seat v.first xs))
       (lay_below (length keys) keys slots (all_weaker (λ x. IsPlaced lengths a b 0 x.key) (λ x. rank_of keys x.key < length keys)
@@ -92,20 +88,14 @@ both_joined n xs xt xu ys yt yu h g = record {
 }
   where
     two : (rank lane : ℕ) (xs xt ys yt : List Laid) → boxes_at rank lane xs ≡ boxes_at rank lane xt → boxes_at rank lane ys ≡ boxes_at rank lane yt → boxes_at rank lane (xs ++ ys) ≡ boxes_at rank lane (xt ++ yt)
-    two rank lane xs xt ys yt h g =
-        filter_map-append (box_at rank lane) xs ys ∙ ap (λ t. t ++ boxes_at rank lane ys) h ∙ ap (λ t. boxes_at rank lane xt ++ t) g ∙ sym (filter_map-append (box_at rank lane) xt yt)
+    two rank lane xs xt ys yt h g = filter_map-append (box_at rank lane) xs ys ∙ ap (λ t. t ++ boxes_at rank lane ys) h ∙ ap (λ t. boxes_at rank lane xt ++ t) g ∙ sym (filter_map-append (box_at rank lane) xt yt)
 
 module _ (lengths : List ℕ) (a b n : ℕ) (front behind : List ColumnKey) (order : a < b) (within : b < n) (until : Until b front) (from : From b behind) where
   part_more : (first : ℕ) (v : DrawnVoice) → HasMeasures lengths n v
       → core_part (front ++ behind) lengths a (b + 1) first v ≡ core_part front lengths a b first v ++ map (moved (length front)) (measure_part false behind lengths b first v)
   part_more first v (count, fit) =
-      let keys = front ++ behind in
-      let xs = slice_range v.measures a b in
-      let ys = slice_range v.measures b (b + 1) in
-      let begun = columns_slots lengths first a v.seat v.first xs in
-      let more = measures_slots lengths first b false ys in
-      let long = slice_long a b v.measures (omega (arith, within, count)) in
-      let long' = slice_long b (b + 1) v.measures (omega (arith, within, count)) in
+      let keys = front ++ behind in let xs = slice_range v.measures a b in let ys = slice_range v.measures b (b + 1) in let begun = columns_slots lengths first a v.seat v.first xs in
+      let more = measures_slots lengths first b false ys in let long = slice_long a b v.measures (omega (arith, within, count)) in let long' = slice_long b (b + 1) v.measures (omega (arith, within, count)) in
       let begun_in = columns_in lengths a b 0 (omega arith) first v.seat v.first xs order (omega (arith, long, order)) (slice_fit lengths a b v.measures fit) refl in
       let more_in = measures_in lengths b (b + 1) 0 (omega arith) first b false ys (omega arith) (omega (arith, long')) (slice_fit lengths b (b + 1) v.measures fit) in
       columns_laid keys lengths first a v.seat v.first (slice_range v.measures a (b + 1))
@@ -120,8 +110,7 @@ module _ (lengths : List ℕ) (a b n : ℕ) (front behind : List ColumnKey) (ord
     part_joined : (first : ℕ) (v : DrawnVoice) → HasMeasures lengths n v
         → AreJoined (length front) (core_part (front ++ behind) lengths a (b + 1) first v) (core_part front lengths a b first v) (measure_part false behind lengths b first v)
     part_joined first v h =
-        let begun = core_part front lengths a b first v in
-        let more = measure_part false behind lengths b first v in
+        let begun = core_part front lengths a b first v in let more = measure_part false behind lengths b first v in
         subst (λ t. AreJoined (length front) t begun more) (append-nil (begun ++ map (moved (length front)) more) ∙ sym (part_more first v h))
         (marks_join (length front) begun more []
         (All-from_recursion (λ l. IsBelow (length front) (mark_rank l.mark)) begun (part_below lengths a b n front order (omega (arith, within)) bars first v h))
@@ -157,13 +146,9 @@ module _ (lengths verses : List ℕ) (a b n : ℕ) (keys : List ColumnKey) (orde
   drawn_joined : (vs : List DrawnVoice) → AllByRecursion (HasMeasures lengths n) vs → HasBars lengths a b keys
       → AreJoined (length keys) (parts_from (core_part keys lengths a b) 1 vs) (staff_marks keys lengths a b vs).marks []
   drawn_joined vs h bars =
-      let core = parts_from (core_part keys lengths a b) 1 vs in
-      let below = All-from_recursion (λ l. IsBelow (length keys) (mark_rank l.mark)) core (parts_below lengths a b n keys order within bars 1 vs h) in
+      let core = parts_from (core_part keys lengths a b) 1 vs in let below = All-from_recursion (λ l. IsBelow (length keys) (mark_rank l.mark)) core (parts_below lengths a b n keys order within bars 1 vs h) in
       let alone = marks_join (length keys) core [] [] below (All-nil (λ l. mark_rank l.mark ≡ None)) in
-      record {
-        front = staff_same keys lengths a b vs;
-        behind = λ rank lane. ap (boxes_at (length keys + rank) lane) (sym (append-nil core) ∙ sym (append-nil (core ++ []))) ∙ alone.behind rank lane;
-      }
+      record { front = staff_same keys lengths a b vs; behind = λ rank lane. ap (boxes_at (length keys + rank) lane) (sym (append-nil core) ∙ sym (append-nil (core ++ []))) ∙ alone.behind rank lane }
 
   all_drawn : (staves : List (List DrawnVoice)) → AllByRecursion (AllByRecursion (HasMeasures lengths n)) staves → (1 ≤ length staves → HasBars lengths a b keys)
       → StavesJoin (length keys) (map (core_staff keys lengths a b) staves) (map (staff_marks keys lengths a b) staves) (map empty staves)
@@ -191,8 +176,7 @@ voices_fit lengths n (v ∷ vs) same fits =
 bars_called : (s : Score) (lengths : List ℕ) (a b : ℕ) → IsGoodScore s → 1 ≤ length s.voices → b ≤ s.measures → HasBars lengths a b (called_keys s lengths a b)
 bars_called s lengths a b good some within m from to =
     led_voice (λ v. all_keys lengths a b v) s.measures (bar_key lengths m) s.voices some good.led good.measures (λ v e.
-    let long = slice_long a b v.measures (omega (arith, within, e)) in
-    let at : a + (m - a) ≡ m = omega (arith, from) in
+    let long = slice_long a b v.measures (omega (arith, within, e)) in let at : a + (m - a) ≡ m = omega (arith, from) in
     Contains-append_right (key_at a 0 Class.Head 0 ∷ first_keys a v.first) (measures_keys lengths a true (signed_at a v) (slice_range v.measures a b)) (bar_key lengths m)
     (subst (λ k. Contains (measures_keys lengths a true (signed_at a v) (slice_range v.measures a b)) (bar_key lengths k)) at
     (bars_in lengths a true (signed_at a v) (slice_range v.measures a b) (m - a) (omega (arith, long, from, to)))))
@@ -215,24 +199,19 @@ module _ (s : Score) (good : IsGoodScore s) (a : ℕ) (verses : List ℕ) where
   fits = grouped_all stands_lower (HasMeasures (ticks s) s.measures) (map drawn_voice s.voices) (voices_fit (ticks s) s.measures s.voices all_same (λ k h. omega (arith, length_is s k h)))
 
   until : (b : ℕ) (keys : List ColumnKey) → a < b → b ≤ s.measures → AreKeys keys (called_keys s (ticks s) a b) → Until b keys
-  until b keys order within are =
-      all_weaker (IsInSystem (ticks s) a b) (λ k. k.measure < b) (λ k h. h.to) keys (recursion_from_All (IsInSystem (ticks s) a b) keys (places_of s a b keys good order within are))
+  until b keys order within are = all_weaker (IsInSystem (ticks s) a b) (λ k. k.measure < b) (λ k h. h.to) keys (recursion_from_All (IsInSystem (ticks s) a b) keys (places_of s a b keys good order within are))
 
   from : (b : ℕ) (keys : List ColumnKey) → b < s.measures → AreKeys keys (further_keys s (ticks s) b) → From b keys
-  from b keys within are =
-      all_weaker (IsInSystem (ticks s) b (b + 1)) (λ k. b ≤ k.measure) (λ k h. h.from) keys (recursion_from_All (IsInSystem (ticks s) b (b + 1)) keys (further_places s b keys good within are))
+  from b keys within are = all_weaker (IsInSystem (ticks s) b (b + 1)) (λ k. b ≤ k.measure) (λ k h. h.from) keys (recursion_from_All (IsInSystem (ticks s) b (b + 1)) keys (further_places s b keys good within are))
 
   bars : (b : ℕ) (keys : List ColumnKey) → b ≤ s.measures → AreKeys keys (called_keys s (ticks s) a b) → 1 ≤ length (drawn_staves s) → HasBars (ticks s) a b keys
   bars b keys within are some m h g =
-      let long = length-map s.voices drawn_voice in
-      let voices = some_grouped (map drawn_voice s.voices) some in
-      are.all (bar_key (ticks s) m) (bars_called s (ticks s) a b good (omega (arith, voices, long)) within m h g)
+      let long = length-map s.voices drawn_voice in let voices = some_grouped (map drawn_voice s.voices) some in are.all (bar_key (ticks s) m) (bars_called s (ticks s) a b good (omega (arith, voices, long)) within m h g)
 
   one_more : (b : ℕ) (columns further : List Column) → a < b → b < s.measures → AreColumns s a b verses columns → AreMeasureColumns (a == b) s (timeline_of s) b verses further
       → AreColumns s a (b + 1) verses (columns ++ further)
   one_more b columns further order within (keys, are, value) columns_there =
-      let behind = keys_in further in
-      let more = subst (λ begins. AreMeasureColumns begins s (timeline_of s) b verses further) (apart a b order) columns_there in
+      let behind = keys_in further in let more = subst (λ begins. AreMeasureColumns begins s (timeline_of s) b verses further) (apart a b order) columns_there in
       let below = until b keys order (omega (arith, within)) are in
       let above = from b behind within more.keys in (
         keys ++ behind,
@@ -243,12 +222,9 @@ module _ (s : Score) (good : IsGoodScore s) (a : ℕ) (verses : List ℕ) where
 
   many_more : (b : ℕ) (columns : List Column) (measures : List (List Column)) → a < b → b + length measures ≤ s.measures → AreColumns s a b verses columns → AreColumnsFrom s (timeline_of s) a b verses measures
       → AreColumns s a (b + length measures) verses (columns ++ one_after_the_other measures)
-  many_more b columns [] order within are more =
-      let e : b ≡ b + 0 = omega arith in
-      subst (λ k. AreColumns s a k verses (columns ++ [])) e (subst (λ t. AreColumns s a b verses t) (sym (append-nil columns)) are)
+  many_more b columns [] order within are more = let e : b ≡ b + 0 = omega arith in subst (λ k. AreColumns s a k verses (columns ++ [])) e (subst (λ t. AreColumns s a b verses t) (sym (append-nil columns)) are)
   many_more b columns (c ∷ cs) order within are more =
-      let e : b + 1 + length cs ≡ b + length (c ∷ cs) = omega arith in
-      let next = one_more b columns c order (omega (arith, within)) are more.0 in
+      let e : b + 1 + length cs ≡ b + length (c ∷ cs) = omega arith in let next = one_more b columns c order (omega (arith, within)) are more.0 in
       let rest = many_more (b + 1) (columns ++ c) cs (omega (arith, order)) (omega (arith, within)) next more.1 in
       subst (λ k. AreColumns s a k verses (columns ++ one_after_the_other (c ∷ cs))) e
       (subst (λ t. AreColumns s a (b + 1 + length cs) verses t) (append_assoc columns c (one_after_the_other cs)) rest)
@@ -263,8 +239,7 @@ module _ (s : Score) (good : IsGoodScore s) (a : ℕ) (verses : List ℕ) where
       → AreColumnsFrom s (timeline_of s) a a verses measures → columns_of m.keys m.staves (ticks s) verses ≡ one_after_the_other measures
   joined_from b m [] order e within call all = absurd (omega (arith, order, e))
   joined_from b m (first ∷ further) order e within call all =
-      let one = subst (λ begins. AreMeasureColumns begins s (timeline_of s) a verses first) (itself a) all.0 in
-      let e' : a + 1 + length further ≡ b = omega (arith, e) in
+      let one = subst (λ begins. AreMeasureColumns begins s (timeline_of s) a verses first) (itself a) all.0 in let e' : a + 1 + length further ≡ b = omega (arith, e) in
       system_columns b m (first ++ one_after_the_other further) order within call
       (subst (λ k. AreColumns s a k verses (first ++ one_after_the_other further)) e'
       (many_more (a + 1) first further (omega arith) (omega (arith, within, e')) (keys_in first, one.keys, sym one.value) all.1))

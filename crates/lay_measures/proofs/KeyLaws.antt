@@ -6,9 +6,7 @@ use Rattle.mus_time.{specs.{Keys.{AreKeys, all_keys, called_keys, events_keys, f
 -- ---- one more of some
 pub slice_more : {X : Type 0} (a b : ℕ) (xs : List X) → a ≤ b → slice_range xs a (b + 1) ≡ slice_range xs a b ++ slice_range xs b (b + 1)
 slice_more a b xs h =
-    let e : b + 1 - a ≡ (b - a) + 1 = omega (arith, h) in
-    let f : a + (b - a) ≡ b = omega (arith, h) in
-    let g : 1 ≡ b + 1 - b = omega arith in
+    let e : b + 1 - a ≡ (b - a) + 1 = omega (arith, h) in let f : a + (b - a) ≡ b = omega (arith, h) in let g : 1 ≡ b + 1 - b = omega arith in
     ap (λ k. take k (drop a xs)) e ∙ take-add (b - a) 1 (drop a xs) ∙ ap (λ t. take (b - a) (drop a xs) ++ take 1 t) (drop-drop (b - a) a xs ∙ ap (λ k. drop k xs) f)
     ∙ ap (λ k. take (b - a) (drop a xs) ++ take k (drop b xs)) g
 
@@ -30,11 +28,8 @@ keys_on : (lengths : List ℕ) (m : ℕ) (signed : Bool) (xs ys : List Measure)
     → measures_keys lengths m false signed (xs ++ ys) ≡ measures_keys lengths m false signed xs ++ measures_keys lengths (m + length xs) false (signed_behind signed xs) ys
 keys_on lengths m signed [] ys = let e : m ≡ m + 0 = omega arith in ap (λ k. measures_keys lengths k false signed ys) e
 keys_on lengths m signed (x ∷ xs) ys =
-    let fs = flats_of x.body in
-    let own = events_keys m false signed [] fs ++ key_at m (slice_index lengths m) Class.Bar 0 ∷ [] in
-    let e : m + 1 + length xs ≡ m + length (x ∷ xs) = omega arith in
-    let more = keys_on lengths (m + 1) (signed_through signed fs) xs ys in
-    let last = ap (λ k. measures_keys lengths k false (signed_behind signed (x ∷ xs)) ys) e in
+    let fs = flats_of x.body in let own = events_keys m false signed [] fs ++ key_at m (slice_index lengths m) Class.Bar 0 ∷ [] in let e : m + 1 + length xs ≡ m + length (x ∷ xs) = omega arith in
+    let more = keys_on lengths (m + 1) (signed_through signed fs) xs ys in let last = ap (λ k. measures_keys lengths k false (signed_behind signed (x ∷ xs)) ys) e in
     behind_own (events_keys m false signed [] fs) (key_at m (slice_index lengths m) Class.Bar 0) _ _ _ (more ∙ ap (λ t. measures_keys lengths (m + 1) false (signed_through signed fs) xs ++ t) last)
   where
     behind_own : (ks : List ColumnKey) (k : ColumnKey) (xs ys zs : List ColumnKey) → xs ≡ ys ++ zs → ks ++ k ∷ xs ≡ (ks ++ k ∷ ys) ++ zs
@@ -44,9 +39,7 @@ keys_from : (lengths : List ℕ) (m : ℕ) (signed : Bool) (xs ys : List Measure
     → measures_keys lengths m true signed (xs ++ ys) ≡ measures_keys lengths m true signed xs ++ measures_keys lengths (m + length xs) false (signed_behind signed xs) ys
 keys_from lengths m signed [] ys some = absurd (omega (arith, some))
 keys_from lengths m signed (x ∷ xs) ys some =
-    let fs = flats_of x.body in
-    let e : m + 1 + length xs ≡ m + length (x ∷ xs) = omega arith in
-    let more = keys_on lengths (m + 1) (signed_through signed fs) xs ys in
+    let fs = flats_of x.body in let e : m + 1 + length xs ≡ m + length (x ∷ xs) = omega arith in let more = keys_on lengths (m + 1) (signed_through signed fs) xs ys in
     let last = ap (λ k. measures_keys lengths k false (signed_behind signed (x ∷ xs)) ys) e in
     ap (λ t. events_keys m true signed [] fs ++ key_at m (slice_index lengths m) Class.Bar 0 ∷ t)
     (more ∙ ap (λ t. measures_keys lengths (m + 1) false (signed_through signed fs) xs ++ t) last)
@@ -59,13 +52,8 @@ keys_by_more false xs ys = refl
 
 voice_more : (lengths : List ℕ) (a b : ℕ) (v : Voice) → a < b → b < length v.measures → voice_keys lengths a (b + 1) v ≡ voice_keys lengths a b v ++ measure_keys lengths b v
 voice_more lengths a b v h w =
-    let xs = slice_range v.measures a b in
-    let ys = slice_range v.measures b (b + 1) in
-    let long = slice_long a b v.measures (omega (arith, w)) in
-    let e : a + length xs ≡ b = omega (arith, long, h) in
-    let signed = signed_at_more a b v (omega (arith, h)) in
-    let head = key_at a 0 Class.Head 0 ∷ first_keys a v.first in
-    let more = measures_keys lengths b false (signed_at b v) ys in
+    let xs = slice_range v.measures a b in let ys = slice_range v.measures b (b + 1) in let long = slice_long a b v.measures (omega (arith, w)) in let e : a + length xs ≡ b = omega (arith, long, h) in
+    let signed = signed_at_more a b v (omega (arith, h)) in let head = key_at a 0 Class.Head 0 ∷ first_keys a v.first in let more = measures_keys lengths b false (signed_at b v) ys in
     let all : all_keys lengths a (b + 1) v ≡ all_keys lengths a b v ++ more =
     ap (λ t. head ++ measures_keys lengths a true (signed_at a v) t) (slice_more a b v.measures (omega (arith, h)))
     ∙ ap (λ t. head ++ t) (keys_from lengths a (signed_at a v) xs ys (omega (arith, long, h)))
@@ -117,15 +105,8 @@ pub keys_grow : (s : Score) (lengths : List ℕ) (a b : ℕ) (front behind : Lis
     → AllByRecursion (λ k. k.measure < b) front → AllByRecursion (λ k. b ≤ k.measure) behind
     → AreKeys front (called_keys s lengths a b) → AreKeys behind (further_keys s lengths b) → AreKeys (front ++ behind) (called_keys s lengths a (b + 1))
 keys_grow s lengths a b front behind h w same below above first further =
-    let f = voice_keys lengths a b in
-    let g = measure_keys lengths b in
-    let all = voice_keys lengths a (b + 1) in
-    let is = all_more lengths a b s.measures s.voices h w same in
-    record {
-      rise = rises_join b front behind first.rise further.rise below above;
-      all = λ k i. to k (parts f g all k s.voices is i);
-      only = λ k i. from k (Contains-append_cases front behind k i);
-    }
+    let f = voice_keys lengths a b in let g = measure_keys lengths b in let all = voice_keys lengths a (b + 1) in let is = all_more lengths a b s.measures s.voices h w same in
+    record { rise = rises_join b front behind first.rise further.rise below above; all = λ k i. to k (parts f g all k s.voices is i); only = λ k i. from k (Contains-append_cases front behind k i) }
   where
     to : (k : ColumnKey) → Contains (called_keys s lengths a b) k ⊎ Contains (further_keys s lengths b) k → Contains (front ++ behind) k
     to k (inl i) = Contains-append_left front behind k (first.all k i)

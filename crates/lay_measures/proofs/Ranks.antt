@@ -16,9 +16,7 @@ upper k l h = grind (arith, nat_tests)
 
 rank_none : (b : ℕ) (ys : List ColumnKey) (k : ColumnKey) → k.measure < b → AllByRecursion (λ l. b ≤ l.measure) ys → rank_of ys k ≡ 0
 rank_none b [] k h from = refl
-rank_none b (y ∷ ys) k h from =
-    let f = from.0 in
-    ap (λ c. if c then 1 + rank_of ys k else rank_of ys k) (upper k y (omega (arith, h, f))) ∙ rank_none b ys k h from.1
+rank_none b (y ∷ ys) k h from = let f = from.0 in ap (λ c. if c then 1 + rank_of ys k else rank_of ys k) (upper k y (omega (arith, h, f))) ∙ rank_none b ys k h from.1
 
 pub rank_front : (b : ℕ) (xs ys : List ColumnKey) (k : ColumnKey) → k.measure < b → AllByRecursion (λ l. b ≤ l.measure) ys → rank_of (xs ++ ys) k ≡ rank_of xs k
 rank_front b [] ys k h from = rank_none b ys k h from
@@ -26,17 +24,12 @@ rank_front b (x ∷ xs) ys k h from = ap (λ n. if is_below x k then 1 + n else 
 
 pub rank_behind : (b : ℕ) (xs ys : List ColumnKey) (k : ColumnKey) → b ≤ k.measure → AllByRecursion (λ l. l.measure < b) xs → rank_of (xs ++ ys) k ≡ length xs + rank_of ys k
 rank_behind b [] ys k h to = omega arith
-rank_behind b (x ∷ xs) ys k h to =
-    let t = to.0 in
-    let more = rank_behind b xs ys k h to.1 in
-    ap (λ c. if c then 1 + rank_of (xs ++ ys) k else rank_of (xs ++ ys) k) (lower x k (omega (arith, h, t))) ∙ omega (arith, more)
+rank_behind b (x ∷ xs) ys k h to = let t = to.0 in let more = rank_behind b xs ys k h to.1 in ap (λ c. if c then 1 + rank_of (xs ++ ys) k else rank_of (xs ++ ys) k) (lower x k (omega (arith, h, t))) ∙ omega (arith, more)
 
 pub rank_less : (xs : List ColumnKey) (k l : ColumnKey) → Contains xs l → is_below l k ≡ false → rank_of xs k < length xs
 rank_less [] k l (i, inside, is) h = absurd (omega (arith, inside))
 rank_less (x ∷ xs) k l (zero, inside, is) h =
-    let e : rank_of (x ∷ xs) k ≡ rank_of xs k = ap (λ c. if c then 1 + rank_of xs k else rank_of xs k) (subst (λ z. is_below z k ≡ false) (sym is) h) in
-    let most = rank_most xs k in
-    omega (arith, e, most)
+    let e : rank_of (x ∷ xs) k ≡ rank_of xs k = ap (λ c. if c then 1 + rank_of xs k else rank_of xs k) (subst (λ z. is_below z k ≡ false) (sym is) h) in let most = rank_most xs k in omega (arith, e, most)
 rank_less (x ∷ xs) k l (suc i, inside, is) h = by (is_below x k) (rank_less xs k l (i, omega (arith, inside), is) h)
   where
     by : (c : Bool) → rank_of xs k < length xs → (if c then 1 + rank_of xs k else rank_of xs k) < suc (length xs)
@@ -57,8 +50,7 @@ bars_in lengths m in_head signed (x ∷ xs) zero h =
     subst (λ n. Contains (measures_keys lengths m in_head signed (x ∷ xs)) (bar_key lengths n)) e
     (Contains-append_right (events_keys m in_head signed [] (flats_of x.body)) _ (bar_key lengths m) (0, omega arith, refl))
 bars_in lengths m in_head signed (x ∷ xs) (suc i) h =
-    let e : m + 1 + i ≡ m + suc i = omega arith in
-    let more = bars_in lengths (m + 1) false (signed_through signed (flats_of x.body)) xs i (omega (arith, h)) in
+    let e : m + 1 + i ≡ m + suc i = omega arith in let more = bars_in lengths (m + 1) false (signed_through signed (flats_of x.body)) xs i (omega (arith, h)) in
     subst (λ n. Contains (measures_keys lengths m in_head signed (x ∷ xs)) (bar_key lengths n)) e
     (Contains-append_right (events_keys m in_head signed [] (flats_of x.body)) _ (bar_key lengths (m + 1 + i)) (suc more.0, omega (arith, more.1), more.2))
 
@@ -78,8 +70,7 @@ events_ticks : (style : Style) (high tick : ℕ) (now : Standing) (fs : List Fla
 events_ticks style high tick now [] ps h = tt
 events_ticks style high tick now (f ∷ fs) [] h = tt
 events_ticks style high tick now (f ∷ fs) (p ∷ ps) h =
-    let e = sum_by-cons (λ x. x.duration) f fs in
-    (omega (arith, h), events_ticks style high (tick + f.duration) (standing_after now f.event.changes) fs ps (omega (arith, h, e)))
+    let e = sum_by-cons (λ x. x.duration) f fs in (omega (arith, h), events_ticks style high (tick + f.duration) (standing_after now f.event.changes) fs ps (omega (arith, h, e)))
 
 -- measures from number m on are within their lengths
 abbrev pub Fit : List ℕ → ℕ → List DrawnMeasure → Type 0
@@ -144,8 +135,7 @@ module _ (lengths : List ℕ) (a b least : ℕ) (low : least ≤ 2) where
   module _ (first : ℕ) where
     event_in : (m : ℕ) (in_head : Bool) (before after : ℕ) (e : DrawnEvent) → a ≤ m → m < b → e.tick ≤ slice_index lengths m → AreIn (event_slots first m in_head before after e)
     event_in m in_head before after e from to h =
-        let changes = change_slots m (in_head || is_lower e.seat) e in
-        let graces = graces_slots m e.tick e.clef (group_of e.clef e.flat.graces e.flat.slash) 0 e.flat.graces in
+        let changes = change_slots m (in_head || is_lower e.seat) e in let graces = graces_slots m e.tick e.clef (group_of e.clef e.flat.graces e.flat.slash) 0 e.flat.graces in
         let own = note_marks e.clef (raise_of e.seat) e.flat.event e.plan before after in
         both_in (changes ++ graces ++ slot (note_key m e) own) (slot (note_key m e) (words_of first e.flat))
         (both_in (changes ++ graces) (slot (note_key m e) own)

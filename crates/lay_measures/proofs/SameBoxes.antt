@@ -134,9 +134,7 @@ written_same : (keys : List ColumnKey) (lengths : List ℕ) (room : Room) (a b f
     → flat_map (boxes_at rank lane) (written_parts keys lengths room a b first before vs) ≡ boxes_at rank lane (parts_from (core_part keys lengths a b) first vs)
 written_same keys lengths room a b first before [] rank lane = refl
 written_same keys lengths room a b first before (v ∷ vs) rank lane =
-    let place : Place = record { room = room; first = first; before = before } in
-    let part = own_part keys lengths (Some place) a b v in
-    let core = core_part keys lengths a b in
+    let place : Place = record { room = room; first = first; before = before } in let part = own_part keys lengths (Some place) a b v in let core = core_part keys lengths a b in
     ap (λ t. boxes_at rank lane part ++ t) (written_same keys lengths room a b (first + v.verses) (texts_behind (length keys) before part) vs rank lane)
     ∙ ap (λ t. t ++ boxes_at rank lane (parts_from core (first + v.verses) vs)) (columns_same place (fixed_place first) refl keys lengths a v.seat v.first (slice_range v.measures a b) rank lane)
     ∙ sym (filter_map-append (box_at rank lane) (core first v) (parts_from core (first + v.verses) vs))
@@ -145,9 +143,7 @@ pub staff_same : (keys : List ColumnKey) (lengths : List ℕ) (a b : ℕ) (vs : 
     → boxes_at rank lane (parts_from (core_part keys lengths a b) 1 vs) ≡ boxes_at rank lane (staff_marks keys lengths a b vs).marks
 unfolding staff_marks staff_over
 staff_same keys lengths a b vs rank lane inside =
-    let room = room_over (verses_on vs) (bare_marks keys lengths a b vs) in
-    let parts = written_parts keys lengths room a b 1 [] vs in
-    let bridges = staff_bridges keys lengths a b vs in
+    let room = room_over (verses_on vs) (bare_marks keys lengths a b vs) in let parts = written_parts keys lengths room a b 1 [] vs in let bridges = staff_bridges keys lengths a b vs in
     sym (filter_map-append (box_at rank lane) (by_columns (length keys) parts) bridges
     ∙ ap (λ t. boxes_at rank lane (by_columns (length keys) parts) ++ t) (bridges_none keys (flat_map (bridges_of lengths a b) vs) rank lane)
     ∙ append-nil (boxes_at rank lane (by_columns (length keys) parts)) ∙ columned_taken (box_at rank lane) rank (no_box rank lane) (length keys) parts inside

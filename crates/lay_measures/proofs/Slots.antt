@@ -137,10 +137,8 @@ module _ (keys : List ColumnKey) where
     event_laid : (m : ℕ) (in_head : Bool) (before after : ℕ) (e : DrawnEvent) → event_marks keys (Some (fixed_place first)) m in_head before after e ≡ lay keys (event_slots first m in_head before after e)
     unfolding event_marks
     event_laid m in_head before after e =
-        let changes = change_slots m (in_head || is_lower e.seat) e in
-        let graces = graces_slots m e.tick e.clef (group_of e.clef e.flat.graces e.flat.slash) 0 e.flat.graces in
-        let own = slot (note_key m e) (note_marks e.clef (raise_of e.seat) e.flat.event e.plan before after) in
-        let texts = slot (note_key m e) (words_of first e.flat) in
+        let changes = change_slots m (in_head || is_lower e.seat) e in let graces = graces_slots m e.tick e.clef (group_of e.clef e.flat.graces e.flat.slash) 0 e.flat.graces in
+        let own = slot (note_key m e) (note_marks e.clef (raise_of e.seat) e.flat.event e.plan before after) in let texts = slot (note_key m e) (words_of first e.flat) in
         both keys _ _ (changes ++ graces ++ own) texts
         (both keys _ _ (changes ++ graces) own
         (both keys _ _ changes graces (change_laid m (in_head || is_lower e.seat) e) (graces_laid m e.tick e.clef (group_of e.clef e.flat.graces e.flat.slash) 0 e.flat.graces))

@@ -10,9 +10,7 @@ pub at_top : (high : ℕ) → pos high -ℤ pos 0 ≡ pos high
 at_top high = omega (arith, ints)
 
 too_high : (high down group : ℕ) (height : ℤ) → pos 0 ≤ℤ height → nat_le (down + height_of height + 1500 + group) high ≡ false → (((pos high -ℤ pos down) -ℤ height) -ℤ pos 1500) <ℤ pos group
-too_high high down group (pos n) good miss =
-    let past : high + 1 ≤ down + n + 1500 + group = grind (arith, nat_tests) in
-    omega (arith, ints, past)
+too_high high down group (pos n) good miss = let past : high + 1 ≤ down + n + 1500 + group = grind (arith, nat_tests) in omega (arith, ints, past)
 too_high high down group (negsuc n) good miss = absurd (omega (arith, ints))
 
 follows : (high : ℕ) (place : Place) (block : Block) (more : List Block) → pos 0 ≤ℤ block.height → Follows high block (spot_at high place) more (spot_at high (next_place high place block more))

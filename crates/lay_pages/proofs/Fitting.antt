@@ -26,9 +26,7 @@ bottom_within high down (pos n) good fits = omega (arith, ints)
 bottom_within high down (negsuc n) good fits = absurd (omega (arith, ints))
 
 pub on_the_page : (high : ℕ) (place : Place) (block : Block) (more : List Block) → AreGoodBlocks (block ∷ more) → IsReady high place (block ∷ more) → pos 0 ≤ℤ ((pos high -ℤ pos place.down) -ℤ block.height)
-on_the_page high place block more good ready =
-    let first = first_low block more in let fits = ready.fits in
-    bottom_within high place.down block.height good.0.0 (omega (arith, first, fits))
+on_the_page high place block more good ready = let first = first_low block more in let fits = ready.fits in bottom_within high place.down block.height good.0.0 (omega (arith, first, fits))
 
 -- no group from here on is too tall: not the one that begins here, and none behind it
 not_tall : (b : Bool) (n : ℕ) (others : Option ℕ) → tall_by b n others ≡ None → (b ≡ false) × (others ≡ None)
@@ -74,8 +72,7 @@ pub ready_first : (high : ℕ) (blocks : List Block) → tall_from high 0 false 
 ready_first high [] none = record { fits = omega arith; number = 0; tied = false; none = none }
 ready_first high (block ∷ more) none =
     let here = not_tall (not false && nat_lt high (group_height (block ∷ more))) 0 (tall_from high 1 block.keep more) none in
-    let low = fits_high false high (group_height (block ∷ more)) here.0 refl in
-    record { fits = omega (arith, low); number = 0; tied = false; none = none }
+    let low = fits_high false high (group_height (block ∷ more)) here.0 refl in record { fits = omega (arith, low); number = 0; tied = false; none = none }
 
 pub ready_more : (high : ℕ) (place : Place) (block : Block) (more : List Block) → (more ≡ [] → ⊥) → IsReady high place (block ∷ more) → IsReady high (next_place high place block more) more
 ready_more high place block [] some ready = absurd (some refl)
@@ -108,8 +105,7 @@ some_of (block ∷ blocks) e h = cc
 pub first_room : (high : ℕ) (behind : Option Standing) (blocks : List Block) → CanFollow behind → tall_from high 0 false blocks ≡ None → (first_place high behind blocks).down + group_height blocks ≤ high
 first_room high None blocks can none = (ready_first high blocks none).fits
 first_room high (Some last) blocks can none =
-    let low = (ready_first high blocks none).fits in
-    loose_room last.block.keep last.place.page (under last.place last.block) (group_height blocks) high can.keep (omega (arith, low))
+    let low = (ready_first high blocks none).fits in loose_room last.block.keep last.place.page (under last.place last.block) (group_height blocks) high can.keep (omega (arith, low))
 
 pub behind_within : (high : ℕ) (behind : Option Standing) (blocks : List Block) (place : Place) (spots : List Spot) → place ≡ first_place high behind blocks → spots ≡ spots_from high place blocks
     → AreGoodBlocks blocks → CanFollow behind → tall_from high 0 false blocks ≡ None → AreWithin high blocks spots

@@ -14,15 +14,13 @@ low_enough s high e = grind (arith, nat_tests)
 
 span_low : (high : ℕ) (hs : List ℤ) (a n : ℕ) → IsSome (page_cost high hs a (a + suc n)) → 0 + stacked (take (suc n) (drop a hs)) ≤ high + 1500
 span_low high hs a n some =
-    let fit = if_some (nat_le (span_height hs a (a + suc n)) high) _ some in
-    let count : a + suc n - a ≡ suc n = omega arith in
+    let fit = if_some (nat_le (span_height hs a (a + suc n)) high) _ some in let count : a + suc n - a ≡ suc n = omega arith in
     low_enough (stacked (take (suc n) (drop a hs))) high (subst (λ k. nat_le (page_height (take k (drop a hs))) high ≡ true) count fit)
 
 pub fitting : (high : ℕ) (hs : List ℤ) (a : ℕ) (bs : List ℕ) → RisesFrom a bs → last_from a bs ≡ length hs → FitsFrom (page_cost high hs) a bs → AreFitting high 0 a bs (drop a hs)
 fitting high hs a [] rises ends fits = drop_all a hs (omega (arith, ends))
 fitting high hs a (b ∷ bs) rises ends fits =
-    let n = b - a - 1 in
-    let l = rises.0 in
+    let n = b - a - 1 in let l = rises.0 in
     let is : b ≡ a + suc n = omega (arith, l) in (
       n,
       is,
@@ -45,11 +43,8 @@ single_low high (h ∷ hs) good = by h (All-head (λ h. (pos 0 ≤ℤ h) × (h �
 
 single_fits : (high : ℕ) (hs : List ℤ) (a : ℕ) → AreHeights high hs → IsSome (page_cost high hs a (suc a))
 single_fits high hs a good =
-    let low = single_low high (drop a hs) (All-drop (λ h. (pos 0 ≤ℤ h) × (h ≤ℤ pos high)) a hs good) in
-    let count : suc a - a ≡ 1 = omega arith in
-    let low' = subst (λ k. stacked (take k (drop a hs)) ≤ high + 1500) (sym count) low in
-    let fit : nat_le (span_height hs a (suc a)) high ≡ true = grind (arith, nat_tests, low') in
-    rw fit refl
+    let low = single_low high (drop a hs) (All-drop (λ h. (pos 0 ≤ℤ h) × (h ≤ℤ pos high)) a hs good) in let count : suc a - a ≡ 1 = omega arith in
+    let low' = subst (λ k. stacked (take k (drop a hs)) ≤ high + 1500) (sym count) low in let fit : nat_le (span_height hs a (suc a)) high ≡ true = grind (arith, nat_tests, low') in rw fit refl
 
 singles_rise : (a n : ℕ) → RisesFrom a (singles a n)
 singles_rise a zero = tt
@@ -64,12 +59,7 @@ singles_fit high hs a zero good = tt
 singles_fit high hs a (suc n) good = (single_fits high hs a good, singles_fit high hs (suc a) n good)
 
 pub some_legal : (high n : ℕ) (hs : List ℤ) → AreHeights high hs → NoneLegal (page_cost high hs) (λ b. false) n → ⊥
-some_legal high n hs good none = none (singles 0 n) (record {
-  rises = singles_rise 0 n;
-  ends = let end = singles_end 0 n in omega (arith, end);
-  every_forced = λ f le is. absurd cc;
-  fits = singles_fit high hs 0 n good;
-})
+some_legal high n hs good none = none (singles 0 n) (record { rises = singles_rise 0 n; ends = let end = singles_end 0 n in omega (arith, end); every_forced = λ f le is. absurd cc; fits = singles_fit high hs 0 n good })
 
 -- ---- behind a block the pages that are left fit
 
@@ -78,15 +68,12 @@ kept_fits : (high down group : ℕ) (ends : List ℕ) (block : Block) (more : Li
     → AreFitting high (down + height_of block.height + 1500) group ends (group_heights more)
 kept_fits high down group [] block more kept fits = absurd cc
 kept_fits high down group (e ∷ ends) block [] kept fits =
-    let fit : down + (height_of block.height + 1500 + stacked (take fits.0 [])) ≤ high + 1500 = fits.2 in
-    (fits.0, fits.1, omega (arith, fit), subst (AreFitting high 0 e ends) (drop-nil fits.0) fits.3)
+    let fit : down + (height_of block.height + 1500 + stacked (take fits.0 [])) ≤ high + 1500 = fits.2 in (fits.0, fits.1, omega (arith, fit), subst (AreFitting high 0 e ends) (drop-nil fits.0) fits.3)
 kept_fits high down group (e ∷ ends) block (next ∷ more) kept fits = at block.keep kept fits
   where
     at : (keep : Bool) → keep ≡ true → AreFitting high down group (e ∷ ends) (pos (with_kept keep (height_of block.height) (group_height (next ∷ more))) ∷ heights_from keep (next ∷ more))
         → AreFitting high (down + height_of block.height + 1500) group (e ∷ ends) (group_heights (next ∷ more))
-    at true k f =
-        let fit : down + (height_of block.height + 1500 + group_height (next ∷ more) + 1500 + stacked (take f.0 (heights_from next.keep more))) ≤ high + 1500 = f.2 in
-        (f.0, f.1, omega (arith, fit), f.3)
+    at true k f = let fit : down + (height_of block.height + 1500 + group_height (next ∷ more) + 1500 + stacked (take f.0 (heights_from next.keep more))) ≤ high + 1500 = f.2 in (f.0, f.1, omega (arith, fit), f.3)
     at false k f = absurd cc
 
 -- the last block of a group: its height is that of the group's rest
@@ -101,9 +88,7 @@ loose_first block (next ∷ more) loose = at block.keep loose
 stay_fits : (high down group e n : ℕ) (ends : List ℕ) (h : ℕ) (hs : List ℤ) → e ≡ group + suc n → (e == group + 1) ≡ false → down + stacked (take (suc n) (pos h ∷ hs)) ≤ high + 1500
     → AreFitting high 0 e ends (drop (suc n) (pos h ∷ hs)) → AreFitting high (down + h + 1500) (group + 1) (e ∷ ends) hs
 stay_fits high down group e zero ends h hs is stays fit more = absurd (grind (arith, nat_tests))
-stay_fits high down group e (suc n) ends h hs is stays fit more =
-    let fit' : down + (h + 1500 + stacked (take (suc n) hs)) ≤ high + 1500 = fit in
-    (n, omega (arith, is), omega (arith, fit'), more)
+stay_fits high down group e (suc n) ends h hs is stays fit more = let fit' : down + (h + 1500 + stacked (take (suc n) hs)) ≤ high + 1500 = fit in (n, omega (arith, is), omega (arith, fit'), more)
 
 turn_fits : (high down group e n : ℕ) (ends : List ℕ) (h : ℤ) (hs : List ℤ) → e ≡ group + suc n → (e == group + 1) ≡ true → AreFitting high 0 e ends (drop (suc n) (h ∷ hs)) → AreFitting high 0 (group + 1) ends hs
 turn_fits high down group e zero ends h hs is turn more = subst (λ k. AreFitting high 0 k ends hs) is more
@@ -165,8 +150,7 @@ first_high block more n = let low = first_low block more in omega (arith, low)
 
 pub place_low : (high group : ℕ) (ends : List ℕ) (down : ℕ) (block : Block) (more : List Block) → AreFitting high down group ends (group_heights (block ∷ more)) → down + height_of block.height ≤ high
 place_low high group [] down block more fits = absurd cc
-place_low high group (e ∷ ends) down block more fits =
-    let first = first_high block more fits.0 in let fit = fits.2 in omega (arith, first, fit)
+place_low high group (e ∷ ends) down block more fits = let first = first_high block more fits.0 in let fit = fits.2 in omega (arith, first, fit)
 
 pub parted_within : (high group : ℕ) (ends : List ℕ) (place : Place) (blocks : List Block) → AreGoodBlocks blocks → AreFitting high place.down group ends (group_heights blocks)
     → AreWithin high blocks (parted_from high ends group place blocks)

@@ -16,8 +16,7 @@ pub one_more : (staves : List StaffMarks) (gaps : List ℕ) (n bottom base low :
     × (bottom_behind bottom (drop n staves) (drop n gaps) ≡ bottom_behind low (drop (n + 1) staves) (drop (n + 1) gaps))
 one_more staves gaps n bottom base low s g l m es eg up down =
     let first : drop n staves ≡ s ∷ drop (n + 1) staves = rw (add-one, drop-cons staves n s) (ap (λ t. t ∷ drop (suc n) staves) (sym es)) in
-    let second : drop n gaps ≡ g ∷ drop (n + 1) gaps = rw (add-one, drop-cons gaps n g) (ap (λ t. t ∷ drop (suc n) gaps) (sym eg)) in
-    let high : bottom + g + above_base s.high ≡ base = sym up in
+    let second : drop n gaps ≡ g ∷ drop (n + 1) gaps = rw (add-one, drop-cons gaps n g) (ap (λ t. t ∷ drop (suc n) gaps) (sym eg)) in let high : bottom + g + above_base s.high ≡ base = sym up in
     let under : bottom + g + above_base s.high + below_base s.low ≡ low = ap (λ n. n + below_base s.low) high ∙ sym down in (
       ap₂ (bases_behind bottom) first second ∙ ap₂ (λ b z. under_top b ∷ bases_behind z (drop (n + 1) staves) (drop (n + 1) gaps)) high under,
       ap₂ (bottom_behind bottom) first second ∙ ap (λ z. bottom_behind z (drop (n + 1) staves) (drop (n + 1) gaps)) under,
@@ -50,7 +49,5 @@ pub stacked_at : (gaps : List ℕ) (staves slice : List StaffMarks) (bases : Lis
     → height ≡ pos bottom → length gaps ≡ length staves - 1 → AreGoodStaves staves → AreStacked (pos 0) gaps staves bases (pos 0 -ℤ height)
 stacked_at gaps staves slice bases bottom height s b l e count good =
     let so = stacked_so gaps slice (subst (λ ss. length gaps ≡ length ss - 1) (sym s) count) (subst AreGoodStaves (sym s) good) in
-    let of = subst (λ bs. AreStacked (pos 0) gaps slice bs (under_top (bottom_under slice gaps))) (sym b) so in
-    let to = subst (λ n. AreStacked (pos 0) gaps slice bases (under_top n)) (sym l) of in
-    let high = subst (λ y. AreStacked (pos 0) gaps slice bases (pos 0 -ℤ y)) (sym e) to in
-    subst (λ ss. AreStacked (pos 0) gaps ss bases (pos 0 -ℤ height)) s high
+    let of = subst (λ bs. AreStacked (pos 0) gaps slice bs (under_top (bottom_under slice gaps))) (sym b) so in let to = subst (λ n. AreStacked (pos 0) gaps slice bases (under_top n)) (sym l) of in
+    let high = subst (λ y. AreStacked (pos 0) gaps slice bases (pos 0 -ℤ y)) (sym e) to in subst (λ ss. AreStacked (pos 0) gaps ss bases (pos 0 -ℤ height)) s high

@@ -58,8 +58,7 @@ groups_behind group block = if block.keep then group else group + 1
 -- where blocks stand of which the first has this place
 abbrev pub parted_from : ℕ → List ℕ → ℕ → Place → List Block → List Spot
 parted_from high ends group place [] = []
-parted_from high ends group place (block ∷ more) =
-    spot_at high place ∷ parted_from high (ends_behind (turns ends group block) ends) (groups_behind group block) (place_behind (turns ends group block) place block) more
+parted_from high ends group place (block ∷ more) = spot_at high place ∷ parted_from high (ends_behind (turns ends group block) ends) (groups_behind group block) (place_behind (turns ends group block) place block) more
 
 abbrev pub parted_spots : ℕ → List ℕ → List Block → List Spot
 parted_spots high breaks blocks = parted_from high breaks 0 (record { page = 0; down = 0 }) blocks
@@ -109,8 +108,7 @@ if_none false v e = refl
 pub cost_stops : (high : ℕ) (hs : List ℤ) (a b c : ℕ) → a < b → b < c → page_cost high hs a b ≡ None → page_cost high hs a c ≡ None
 cost_stops high hs a b c l m e =
     let past = if_none (nat_le (span_height hs a b) high) (if b == length hs then 0 else square ((high - span_height hs a b) / 100)) e in
-    let more = stacked_more (b - a) (c - a) (drop a hs) (omega arith) in
-    let miss : nat_le (span_height hs a c) high ≡ false = grind (arith, nat_tests, past, more) in
+    let more = stacked_more (b - a) (c - a) (drop a hs) (omega arith) in let miss : nat_le (span_height hs a c) high ≡ false = grind (arith, nat_tests, past, more) in
     ap (λ t. if t then Some (if c == length hs then 0 else square ((high - span_height hs a c) / 100)) else None) miss
 
 square_small : (n : ℕ) → n ≤ 671089 → square n ≤ 2 ^ 40

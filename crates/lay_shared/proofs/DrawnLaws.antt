@@ -97,10 +97,8 @@ picked_sum : (f : Voice → ℕ) (v : Voice) (voices : List Voice) (ks : List �
 picked_sum f v voices [] = let none : 0 ≡ 0 * f v + 0 = omega arith in none
 picked_sum f v voices (zero ∷ ks) = sum_by-cons f v (picked (v ∷ voices) ks) ∙ ap (λ n. f v + n) (picked_sum f v voices ks) ∙ omega arith
 picked_sum f v voices (suc k ∷ ks) =
-    let here = sum_by-append f (option_to_list (slice_get voices k)) (picked (v ∷ voices) ks) in
-    let there = sum_by-append f (option_to_list (slice_get voices k)) (picked voices (further ks)) in
-    let more = picked_sum f v voices ks in
-    omega (arith, here, there, more)
+    let here = sum_by-append f (option_to_list (slice_get voices k)) (picked (v ∷ voices) ks) in let there = sum_by-append f (option_to_list (slice_get voices k)) (picked voices (further ks)) in
+    let more = picked_sum f v voices ks in omega (arith, here, there, more)
 
 none_picked : (f : Voice → ℕ) (ks : List ℕ) → sum_by f (picked [] ks) ≡ 0
 none_picked f [] = refl
@@ -113,18 +111,13 @@ at_most n x h = omega arith
 picked-le : (f : Voice → ℕ) (voices : List Voice) (ks : List ℕ) → IsOnce ks → sum_by f (picked voices ks) ≤ sum_by f voices
 picked-le f [] ks once = let none = none_picked f ks in omega (arith, none)
 picked-le f (v ∷ voices) ks once =
-    let cut = picked_sum f v voices ks in
-    let few = at_most (zeros ks) (f v) (one_zero ks once) in
-    let more = picked-le f voices (further ks) (further_once ks once) in
-    let whole = sum_by-cons f v voices in
-    omega (arith, cut, few, more, whole)
+    let cut = picked_sum f v voices ks in let few = at_most (zeros ks) (f v) (one_zero ks once) in let more = picked-le f voices (further ks) (further_once ks once) in
+    let whole = sum_by-cons f v voices in omega (arith, cut, few, more, whole)
 
 drawn-le : (f : Voice → ℕ) (voices : List Voice) (staves : List PlannedStaff) → ((at : Sit) (v : Voice) → f (seated at v) ≡ f v) → IsOnce (voices_of staves)
     → sum_by f (flat_map (drawn_at voices) (sits_of staves)) ≤ sum_by f voices
 drawn-le f voices staves same once =
-    let sum = drawn_sum f voices (sits_of staves) same ∙ ap (λ ks. sum_by f (picked voices ks)) (places staves) in
-    let few = picked-le f voices (voices_of staves) once in
-    omega (arith, sum, few)
+    let sum = drawn_sum f voices (sits_of staves) same ∙ ap (λ ks. sum_by f (picked voices ks)) (places staves) in let few = picked-le f voices (voices_of staves) once in omega (arith, sum, few)
 
 counted : (voices : List Voice) → sum_by (λ v. 1) voices ≡ length voices
 counted [] = refl
@@ -133,10 +126,7 @@ counted (v ∷ voices) = sum_by-cons (λ v. 1) v voices ∙ ap (λ n. 1 + n) (co
 -- ---- ids
 ids_apart : (voices : List Voice) (j k : ℕ) (v w : Voice) → AllPairs (λ v w. v.id ≢ w.id) voices → j ≢ k → slice_get voices j ≡ Some v → slice_get voices k ≡ Some w → v.id ≢ w.id
 ids_apart voices j k v w apart unlike e f =
-    let here = get_or_from_slice_get voices j v v e in
-    let there = get_or_from_slice_get voices k w v f in
-    let first = slice_get_within voices j v e in
-    let second = slice_get_within voices k w f in
+    let here = get_or_from_slice_get voices j v v e in let there = get_or_from_slice_get voices k w v f in let first = slice_get_within voices j v e in let second = slice_get_within voices k w f in
     elim (cases_lt j k) [
       | inl below ↦ λ same. apart j k v below second (ap (λ (x : Voice). x.id) here ∙ same ∙ sym (ap (λ (x : Voice). x.id) there))
       | inr above ↦ λ same. apart k j v (above_strictly j k above unlike) first (ap (λ (x : Voice). x.id) there ∙ sym same ∙ sym (ap (λ (x : Voice). x.id) here))
@@ -153,8 +143,7 @@ one_apart voices k v at rest (Some w) f apart e unlike more = (ids_apart voices 
 each_apart : (voices : List Voice) (k : ℕ) (v : Voice) (sits : List Sit) → AllPairs (λ v w. v.id ≢ w.id) voices → slice_get voices k ≡ Some v
     → AllByRecursion (λ j. k ≢ j) (map (λ (at : Sit). at.place) sits) → AllByRecursion (λ w. v.id ≢ w.id) (flat_map (drawn_at voices) sits)
 each_apart voices k v [] apart e unlike = tt
-each_apart voices k v (at ∷ sits) apart e unlike =
-    one_apart voices k v at (flat_map (drawn_at voices) sits) (slice_get voices at.place) refl apart e unlike.0 (each_apart voices k v sits apart e unlike.1)
+each_apart voices k v (at ∷ sits) apart e unlike = one_apart voices k v at (flat_map (drawn_at voices) sits) (slice_get voices at.place) refl apart e unlike.0 (each_apart voices k v sits apart e unlike.1)
 
 one_distinct : (voices : List Voice) (at : Sit) (rest : List Voice) (o : Option Voice) → slice_get voices at.place ≡ o
     → ((v : Voice) → slice_get voices at.place ≡ Some v → AllByRecursion (λ w. v.id ≢ w.id) rest) → Distinct rest → Distinct (map (seated at) (option_to_list o) ++ rest)
@@ -177,20 +166,14 @@ Leads [] = ⊥
 Leads (v ∷ vs) = is_lower v.seat ≡ false
 
 first_leads : (voices : List Voice) (v : ℕ) (leads : Bool) (vs : List ℕ) (rest : List Voice) → v < length voices → Leads (drawn_at voices (sit v (leading vs) leads) ++ rest)
-first_leads voices v leads vs rest known =
-    elim (slice_get_cases voices v).1 [
-      | inl found ↦ let e : slice_get voices v ≡ Some found.0 = found.2 in rw e (led_by vs)
-      | inr past ↦ absurd (omega (arith, past.0, known))
-    ]
+first_leads voices v leads vs rest known = elim (slice_get_cases voices v).1 [ inl found ↦ let e : slice_get voices v ≡ Some found.0 = found.2 in rw e (led_by vs) | inr past ↦ absurd (omega (arith, past.0, known)) ]
 
 staff_leads : (voices : List Voice) (leads : Bool) (vs : List ℕ) (rest : List Sit) → 1 ≤ length vs → ((k : ℕ) → (more : List ℕ) → vs ≡ k ∷ more → k < length voices) → Leads (flat_map (drawn_at voices) (staff_sits leads vs ++ rest))
 staff_leads voices leads [] rest some known = absurd (omega (arith, some))
 staff_leads voices leads (v ∷ vs) rest some known = first_leads voices v leads vs (flat_map (drawn_at voices) (map (lower leads) vs ++ rest)) (known v vs refl)
 
 first_known : (n : ℕ) (vs rest : List ℕ) (k : ℕ) (more : List ℕ) → vs ≡ k ∷ more → All (λ v. v < n) (vs ++ rest) → k < n
-first_known n vs rest k more e h =
-    let all : All (λ v. v < n) (k ∷ more ++ rest) = subst (λ x. All (λ v. v < n) (x ++ rest)) e h in
-    all 0 0 (omega arith)
+first_known n vs rest k more e h = let all : All (λ v. v < n) (k ∷ more ++ rest) = subst (λ x. All (λ v. v < n) (x ++ rest)) e h in all 0 0 (omega arith)
 
 drawn_leads : (voices : List Voice) (staves : List PlannedStaff) → 1 ≤ length staves → All (λ v. v < length voices) (voices_of staves) → All (λ staff. 1 ≤ length staff.voices) staves → Leads (flat_map (drawn_at voices) (sits_of staves))
 drawn_leads voices [] some known full = absurd (omega (arith, some))
@@ -210,13 +193,8 @@ drawn_heard s p plan = some_first (flat_map (drawn_at s.voices) (sits_of p.stave
 
 pub drawn_good : (s : Score) (p : Plan) → IsGoodScore s → IsPlanFor (length s.voices) p → IsGoodScore (drawn_of s p)
 drawn_good s p good plan =
-    let sits = sits_of p.staves in
-    let voices = flat_map (drawn_at s.voices) sits in
-    let once = subst IsOnce (sym (places p.staves)) plan.once in
-    let count = drawn-le (λ v. 1) s.voices p.staves (λ at v. refl) plan.once in
-    let weight = drawn-le voice_weight s.voices p.staves (λ at v. refl) plan.once in
-    let drawn = counted voices in
-    let all = counted s.voices in
+    let sits = sits_of p.staves in let voices = flat_map (drawn_at s.voices) sits in let once = subst IsOnce (sym (places p.staves)) plan.once in
+    let count = drawn-le (λ v. 1) s.voices p.staves (λ at v. refl) plan.once in let weight = drawn-le voice_weight s.voices p.staves (λ at v. refl) plan.once in let drawn = counted voices in let all = counted s.voices in
     record {
       few_voices = omega (arith, count, drawn, all, good.few_voices);
       few_measures = good.few_measures;

@@ -20,9 +20,7 @@ any_if v w vs false e h = (refl, rw e at h)
 
 none-same : (v : ℕ) (vs : List ℕ) → list_any (λ w. w == v) vs ≡ false → AllByRecursion (λ w. v ≢ w) vs
 none-same v [] h = tt
-none-same v (w ∷ vs) h =
-    let parts = any_if v w vs (w == v) refl h in
-    (same_if v w (w == v) refl parts.0, none-same v vs parts.1)
+none-same v (w ∷ vs) h = let parts = any_if v w vs (w == v) refl h in (same_if v w (w == v) refl parts.0, none-same v vs parts.1)
 
 not_false : (b : Bool) → not b ≡ true → b ≡ false
 not_false false h = refl
@@ -30,9 +28,7 @@ not_false true h = cc
 
 once-is : (vs : List ℕ) → is_once vs ≡ true → IsOnce vs
 once-is [] h = tt
-once-is (v ∷ vs) h =
-    let parts = and_parts (not (list_any (λ w. w == v) vs)) (is_once vs) h in
-    (none-same v vs (not_false (list_any (λ w. w == v) vs) parts.0), once-is vs parts.1)
+once-is (v ∷ vs) h = let parts = and_parts (not (list_any (λ w. w == v) vs)) (is_once vs) h in (none-same v vs (not_false (list_any (λ w. w == v) vs) parts.0), once-is vs parts.1)
 
 unlike_if : (v w : ℕ) (same : Bool) → (w == v) ≡ same → v ≢ w → (w == v) ≡ false
 unlike_if v w true e h = absurd (h (sym (eqb-true w v e)))
@@ -40,17 +36,11 @@ unlike_if v w false e h = e
 
 same-none : (v : ℕ) (vs : List ℕ) → AllByRecursion (λ w. v ≢ w) vs → list_any (λ w. w == v) vs ≡ false
 same-none v [] h = refl
-same-none v (w ∷ vs) h =
-    let here = unlike_if v w (w == v) refl h.0 in
-    let more = same-none v vs h.1 in
-    rw (here, more) refl
+same-none v (w ∷ vs) h = let here = unlike_if v w (w == v) refl h.0 in let more = same-none v vs h.1 in rw (here, more) refl
 
 is-once : (vs : List ℕ) → IsOnce vs → is_once vs ≡ true
 is-once [] h = refl
-is-once (v ∷ vs) h =
-    let here = same-none v vs h.0 in
-    let more = is-once vs h.1 in
-    rw (here, more) refl
+is-once (v ∷ vs) h = let here = same-none v vs h.0 in let more = is-once vs h.1 in rw (here, more) refl
 
 -- ---- the voices of trees
 known_voices : (vs : List ℕ) (behind : List Sign) → list_all is_known behind ≡ true → list_all is_known (voice_signs vs behind) ≡ true
@@ -151,9 +141,7 @@ spells_if : (ids : List (List ℕ)) (text : List ℕ) (fair : Bool) (got : Optio
 spells_if ids text false got e h = tt
 spells_if ids text true None e h = tt
 spells_if ids text true (Some staves) e h =
-    let ss = signs_from ids [] text in
-    let found = run-trees ss staves h in
-    let known : list_all is_known ss ≡ true = subst (λ x. list_all is_known x ≡ true) (sym found.1) (known-trees found.0 [] refl) in
+    let ss = signs_from ids [] text in let found = run-trees ss staves h in let known : list_all is_known ss ≡ true = subst (λ x. list_all is_known x ≡ true) (sym found.1) (known-trees found.0 [] refl) in
     let parts = and_parts (nat_le 1 (length (named ss))) (is_once (named ss)) e in
     record {
       signs = ss;
@@ -173,11 +161,8 @@ plan_same plan staves e = let same : record { staves = staves } ≡ plan = rw (s
 
 pub spelled-read : (ids : List (List ℕ)) (text : List ℕ) (plan : Plan) → AreApart ids → Spells ids text plan → plan_by (signs_from ids [] text) ≡ Some plan
 spelled-read ids text plan apart is =
-    let ss = is.signs in
-    let enough : nat_le 1 (length (named ss)) ≡ true = le-leb 1 (length (named ss)) is.some in
-    let once : is_once (named ss) ≡ true = is-once (named ss) is.once in
-    let fair : is_fair (named ss) ≡ true = rw (enough, once) refl in
-    let ran : run start ss ≡ Some (staves_of is.trees) = ap (run start) is.paired ∙ trees-run is.trees in
+    let ss = is.signs in let enough : nat_le 1 (length (named ss)) ≡ true = le-leb 1 (length (named ss)) is.some in let once : is_once (named ss) ≡ true = is-once (named ss) is.once in
+    let fair : is_fair (named ss) ≡ true = rw (enough, once) refl in let ran : run start ss ≡ Some (staves_of is.trees) = ap (run start) is.paired ∙ trees-run is.trees in
     ap plan_by (text-read ids ss text apart is.written) ∙ rw (fair, ran) (ap (λ p. Some p) (plan_same plan (staves_of is.trees) is.staves))
 
 good_if : (ids : List (List ℕ)) (text : List ℕ) (read : Option Plan) → IfSome read (Spells ids text) → IfSome read (IsPlanFor (length ids))
@@ -191,11 +176,8 @@ read-good ids text = good_if ids text (plan_by (signs_from ids [] text)) (read-s
 apart_by : (voices : List Voice) → AllPairs (λ v w. v.id ≢ w.id) voices → AreApart (map (λ (v : Voice). v.id) voices)
 apart_by [] h = λ i j d below inside. absurd (omega (arith, inside))
 apart_by (first ∷ voices) h = λ i j d below inside.
-    let vs = first ∷ voices in
-    let short : j < length vs = omega (arith, inside, length-map vs (λ (v : Voice). v.id)) in
-    let e = get_or-map (λ (v : Voice). v.id) vs i first d (omega (arith, below, short)) in
-    let f = get_or-map (λ (v : Voice). v.id) vs j first d short in
-    λ same. h i j first below short (sym e ∙ same ∙ f)
+    let vs = first ∷ voices in let short : j < length vs = omega (arith, inside, length-map vs (λ (v : Voice). v.id)) in
+    let e = get_or-map (λ (v : Voice). v.id) vs i first d (omega (arith, below, short)) in let f = get_or-map (λ (v : Voice). v.id) vs j first d short in λ same. h i j first below short (sym e ∙ same ∙ f)
 
 pub apart_ids : (s : Score) → IsGoodScore s → AreApart (ids_of s)
 apart_ids s good = apart_by s.voices good.ids

@@ -41,14 +41,11 @@ is_known _ = true
 
 passed-first : (ids : List (List ℕ)) (ss : List Sign) (b : ℕ) (text : List ℕ) → is_passed b ≡ true → Writes ids ss text → Writes ids ss (b ∷ text)
 passed-first ids [] b text e h = rw (e, h) refl
-passed-first ids (sign ∷ ss) b text e (behind, first, more) =
-    (behind, record { passed = b ∷ first.passed; over = rw (e, first.over) refl; cut = ap (λ t. b ∷ t) first.cut; stands = first.stands }, more)
+passed-first ids (sign ∷ ss) b text e (behind, first, more) = (behind, record { passed = b ∷ first.passed; over = rw (e, first.over) refl; cut = ap (λ t. b ∷ t) first.cut; stands = first.stands }, more)
 
 byte_by : (ids : List (List ℕ)) (ss : List Sign) (b : ℕ) (text : List ℕ) (o : Option Sign) → sign_at b ≡ o → IsSignOf b o → is_id b ≡ false → Writes ids ss text → Writes ids (option_to_list o ++ ss) (b ∷ text)
 byte_by ids ss b text None e is h more = passed-first ids ss b text (either_passed b (is_passed b) refl h e) more
-byte_by ids ss b text (Some sign) e is h more =
-    let parts = is ids text in
-    (text, record { passed = []; over = refl; cut = ap (λ s. s ++ text) (sym parts.0); stands = parts.1 }, more)
+byte_by ids ss b text (Some sign) e is h more = let parts = is ids text in (text, record { passed = []; over = refl; cut = ap (λ s. s ++ text) (sym parts.0); stands = parts.1 }, more)
 
 word_by : (ids : List (List ℕ)) (ss : List Sign) (b : ℕ) (word behind : List ℕ) (o : Option ℕ) → place_of (b ∷ word) ids ≡ o → list_all is_id (b ∷ word) ≡ true → BeginsNoId behind
     → list_all is_known (voice_sign o ∷ ss) ≡ true → Writes ids ss behind → Writes ids (voice_sign o ∷ ss) ((b ∷ word) ++ behind)
@@ -57,12 +54,7 @@ word_by ids ss b word behind (Some v) e all parted known more =
     let at = position-Some (λ id. bytes_eq id (b ∷ word)) ids v [] e in
     let same : id_at ids v ≡ b ∷ word = (bytes_eq-Decides (id_at ids v) (b ∷ word)).0 at.1 in (
       behind,
-      record {
-        passed = [];
-        over = refl;
-        cut = ap (λ s. s ++ behind) (sym same);
-        stands = record { known = at.0; some = rw same (omega arith); whole = rw same all; parted = parted };
-      },
+      record { passed = []; over = refl; cut = ap (λ s. s ++ behind) (sym same); stands = record { known = at.0; some = rw same (omega arith); whole = rw same all; parted = parted } },
       more,
     )
 
@@ -77,28 +69,21 @@ known_behind (r ∷ rs) ss h = known_behind rs ss (and_parts _ _ h).1
 
 id_more : (word : List ℕ) (b : ℕ) → list_all is_id word ≡ true → is_id b ≡ true → list_all is_id (word ++ b ∷ []) ≡ true
 id_more [] b all e = rw e refl
-id_more (c ∷ word) b all e =
-    let parts = and_parts (is_id c) (list_all is_id word) all in
-    let more = id_more word b parts.1 e in
-    rw (parts.0, more) refl
+id_more (c ∷ word) b all e = let parts = and_parts (is_id c) (list_all is_id word) all in let more = id_more word b parts.1 e in rw (parts.0, more) refl
 
 written_if : (ids : List (List ℕ)) (word : List ℕ) (b : ℕ) (text : List ℕ) (is : Bool) → is_id b ≡ is → list_all is_id word ≡ true → list_all is_known (signs_from ids word (b ∷ text)) ≡ true
     → ((w : List ℕ) → list_all is_id w ≡ true → list_all is_known (signs_from ids w text) ≡ true → Writes ids (signs_from ids w text) (w ++ text)) → Writes ids (signs_from ids word (b ∷ text)) (word ++ b ∷ text)
 written_if ids word b text true e all known more =
-    let inside : list_all is_known (signs_from ids (word ++ b ∷ []) text) ≡ true = rw e at known in
-    let there = more (word ++ b ∷ []) (id_more word b all e) inside in
+    let inside : list_all is_known (signs_from ids (word ++ b ∷ []) text) ≡ true = rw e at known in let there = more (word ++ b ∷ []) (id_more word b all e) inside in
     rw e (subst (Writes ids (signs_from ids (word ++ b ∷ []) text)) (append_assoc word (b ∷ []) text) there)
 written_if ids word b text false e all known more =
     let split : list_all is_known (word_signs ids word ++ (option_to_list (sign_at b) ++ signs_from ids [] text)) ≡ true = rw e at known in
-    let behind = known_behind (word_signs ids word) (option_to_list (sign_at b) ++ signs_from ids [] text) split in
-    let there = more [] refl (known_behind (option_to_list (sign_at b)) (signs_from ids [] text) behind) in
-    let byte = byte_by ids (signs_from ids [] text) b text (sign_at b) refl (sign-is b) e there in
-    rw e (word-written ids (option_to_list (sign_at b) ++ signs_from ids [] text) word (b ∷ text) all e split byte)
+    let behind = known_behind (word_signs ids word) (option_to_list (sign_at b) ++ signs_from ids [] text) split in let there = more [] refl (known_behind (option_to_list (sign_at b)) (signs_from ids [] text) behind) in
+    let byte = byte_by ids (signs_from ids [] text) b text (sign_at b) refl (sign-is b) e there in rw e (word-written ids (option_to_list (sign_at b) ++ signs_from ids [] text) word (b ∷ text) all e split byte)
 
 signs-written : (ids : List (List ℕ)) (text word : List ℕ) → list_all is_id word ≡ true → list_all is_known (signs_from ids word text) ≡ true → Writes ids (signs_from ids word text) (word ++ text)
 signs-written ids [] word all known =
-    let whole = append-nil (word_signs ids word) in
-    let same : list_all is_known (word_signs ids word ++ []) ≡ true = rw whole known in
+    let whole = append-nil (word_signs ids word) in let same : list_all is_known (word_signs ids word ++ []) ≡ true = rw whole known in
     subst (λ ss. Writes ids ss (word ++ [])) whole (word-written ids [] word [] all tt same refl)
 signs-written ids (b ∷ text) word all known = written_if ids word b text (is_id b) refl all known (signs-written ids text)
 
@@ -108,18 +93,12 @@ text-written ids text known = signs-written ids text [] refl known
 -- ---- what is written is read
 over-passed : (ids : List (List ℕ)) (passed text : List ℕ) → list_all is_passed passed ≡ true → signs_from ids [] (passed ++ text) ≡ signs_from ids [] text
 over-passed ids [] text h = refl
-over-passed ids (b ∷ passed) text h =
-    let parts = and_parts _ _ h in
-    let here : is_passed b ≡ true = parts.0 in
-    let plain = passed-plain b here in
-    rw (here, plain) (over-passed ids passed text parts.1)
+over-passed ids (b ∷ passed) text h = let parts = and_parts _ _ h in let here : is_passed b ≡ true = parts.0 in let plain = passed-plain b here in rw (here, plain) (over-passed ids passed text parts.1)
 
 over-word : (ids : List (List ℕ)) (more word text : List ℕ) → list_all is_id more ≡ true → signs_from ids word (more ++ text) ≡ signs_from ids (word ++ more) text
 over-word ids [] word text h = ap (λ w. signs_from ids w text) (sym (append-nil word))
 over-word ids (b ∷ more) word text h =
-    let parts = and_parts _ _ h in
-    let here : is_id b ≡ true = parts.0 in
-    rw here (over-word ids more (word ++ b ∷ []) text parts.1 ∙ ap (λ w. signs_from ids w text) (append_assoc word (b ∷ []) more))
+    let parts = and_parts _ _ h in let here : is_id b ≡ true = parts.0 in rw here (over-word ids more (word ++ b ∷ []) text parts.1 ∙ ap (λ w. signs_from ids w text) (append_assoc word (b ∷ []) more))
 
 word-ends : (ids : List (List ℕ)) (word text : List ℕ) → BeginsNoId text → signs_from ids word text ≡ word_signs ids word ++ signs_from ids [] text
 word-ends ids word [] h = sym (append-nil (word_signs ids word))
@@ -137,8 +116,7 @@ place-found ids v apart inside =
     let itself : bytes_eq (id_at ids v) (id_at ids v) ≡ true = (bytes_eq-Decides (id_at ids v) (id_at ids v)).1 refl in
     let first : position_or_len (λ id. bytes_eq id (id_at ids v)) ids ≡ v =
     position_or_len_is (λ id. bytes_eq id (id_at ids v)) ids v [] (omega (arith, inside)) (λ k below. unlike ids k v apart below inside (bytes_eq (id_at ids k) (id_at ids v)) refl) (λ below. itself) in
-    let within = lt-ltb v (length ids) inside in
-    rw (first, within) refl
+    let within = lt-ltb v (length ids) inside in rw (first, within) refl
 
 voice_read : (ids : List (List ℕ)) (v : ℕ) (word : List ℕ) → place_of word ids ≡ Some v → 1 ≤ length word → word_signs ids word ≡ Sign.Voice v ∷ []
 voice_read ids v [] e some = absurd (omega (arith, some))

@@ -47,9 +47,7 @@ inner-run (staff_tree v vs more) b bs leads staves behind =
     ∙ ap (λ s. run (outside (b ∷ bs) (leads_behind false (shares_of more)) s) behind) (append_assoc staves (planned leads (v ∷ vs) ∷ []) (group_of false (shares_of more)))
     ∙ ap (λ l. run (outside (b ∷ bs) l (staves ++ planned leads (v ∷ vs) ∷ group_of false (shares_of more))) behind) (sym (leads-append leads ((v ∷ vs) ∷ []) (shares_of more)))
 inner-run (group_tree c inner more) b bs leads staves behind =
-    let still = leads_behind leads (shares_of inner) in
-    let done = staves ++ group_of leads (shares_of inner) in
-    let same = itself c in
+    let still = leads_behind leads (shares_of inner) in let done = staves ++ group_of leads (shares_of inner) in let same = itself c in
     let on : run (outside (c ∷ b ∷ bs) still done) (Sign.Ends c ∷ tree_signs more behind) ≡ run (outside (b ∷ bs) still done) (tree_signs more behind) =
     rw same (ap (λ l. run (outside (b ∷ bs) l done) (tree_signs more behind)) (or_false still)) in
     inner-run inner c (b ∷ bs) leads staves (Sign.Ends c ∷ tree_signs more behind) ∙ on ∙ inner-run more b bs still done behind
@@ -63,15 +61,12 @@ or_true false = refl
 
 outer-run : (trees : Trees) (staves : List PlannedStaff) (behind : List Sign) → run (outside [] true staves) (tree_signs trees behind) ≡ run (outside [] true (staves ++ staves_of trees)) behind
 outer-run no_tree staves behind = ap (λ s. run (outside [] true s) behind) (sym (append-nil staves))
-outer-run (voice_tree v more) staves behind =
-    outer-run more (staves ++ planned true (v ∷ []) ∷ []) behind ∙ ap (λ s. run (outside [] true s) behind) (append_assoc staves (planned true (v ∷ []) ∷ []) (staves_of more))
+outer-run (voice_tree v more) staves behind = outer-run more (staves ++ planned true (v ∷ []) ∷ []) behind ∙ ap (λ s. run (outside [] true s) behind) (append_assoc staves (planned true (v ∷ []) ∷ []) (staves_of more))
 outer-run (staff_tree v vs more) staves behind =
     voices-run (v ∷ []) vs [] true staves (Sign.StaffEnds ∷ tree_signs more behind) ∙ outer-run more (staves ++ planned true (v ∷ vs) ∷ []) behind
     ∙ ap (λ s. run (outside [] true s) behind) (append_assoc staves (planned true (v ∷ vs) ∷ []) (staves_of more))
 outer-run (group_tree c inner more) staves behind =
-    let still = leads_behind true (shares_of inner) in
-    let done = staves ++ group_of true (shares_of inner) in
-    let same = itself c in
+    let still = leads_behind true (shares_of inner) in let done = staves ++ group_of true (shares_of inner) in let same = itself c in
     let on : run (outside (c ∷ []) still done) (Sign.Ends c ∷ tree_signs more behind) ≡ run (outside [] true done) (tree_signs more behind) =
     rw same (ap (λ l. run (outside [] l done) (tree_signs more behind)) (or_true still)) in
     inner-run inner c [] true staves (Sign.Ends c ∷ tree_signs more behind) ∙ on ∙ outer-run more done behind
@@ -128,13 +123,10 @@ sound : (ss : List Sign) → Sound ss
 sound [] None [] leads staves got h = (no_tree, refl)
 sound (Sign.Voice v ∷ ss) None bs leads staves got h = voice-behind v bs ss (sound ss None bs (is_empty bs) (staves ++ planned leads (v ∷ []) ∷ []) got h)
 sound (Sign.Voice v ∷ ss) (Some us) bs leads staves got h =
-    let left = sound ss (Some (us ++ v ∷ [])) bs leads staves got h in
-    (v ∷ left.0, left.1, ap (λ s. Sign.Voice v ∷ s) left.2, subst (λ s. 1 ≤ length s) (append_assoc us (v ∷ []) left.0) left.3, left.4)
+    let left = sound ss (Some (us ++ v ∷ [])) bs leads staves got h in (v ∷ left.0, left.1, ap (λ s. Sign.Voice v ∷ s) left.2, subst (λ s. 1 ≤ length s) (append_assoc us (v ∷ []) left.0) left.3, left.4)
 sound (Sign.StaffOpens ∷ ss) None bs leads staves got h = staff-left bs ss (sound ss (Some []) bs leads staves got h)
 sound (Sign.StaffEnds ∷ ss) (Some (u ∷ us)) bs leads staves got h = ([], ss, refl, omega arith, sound ss None bs (is_empty bs) (staves ++ planned leads (u ∷ us) ∷ []) got h)
-sound (Sign.Opens b ∷ ss) None bs leads staves got h =
-    let left = sound ss None (b ∷ bs) leads staves got h in
-    group-behind b left.0 left.1 ss bs left.2 left.3
+sound (Sign.Opens b ∷ ss) None bs leads staves got h = let left = sound ss None (b ∷ bs) leads staves got h in group-behind b left.0 left.1 ss bs left.2 left.3
 sound (Sign.Ends b ∷ ss) None (c ∷ bs) leads staves got h = closed-behind b c (same_bracket b c) bs leads staves got ss refl h (sound ss)
 sound ss inside bs leads staves got h = absurd (none_some got h)
 

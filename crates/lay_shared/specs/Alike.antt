@@ -9,8 +9,7 @@ has_change changes = is_some changes.clef || is_some changes.key || is_some chan
 -- the changes of events that follow so many ticks of their measure
 abbrev pub event_changes : ℕ → ℕ → List Flat → List Change
 event_changes measure tick [] = []
-event_changes measure tick (f ∷ fs) =
-    (if has_change f.event.changes then record { measure = measure; tick = tick; changes = f.event.changes } ∷ [] else []) ++ event_changes measure (tick + f.duration) fs
+event_changes measure tick (f ∷ fs) = (if has_change f.event.changes then record { measure = measure; tick = tick; changes = f.event.changes } ∷ [] else []) ++ event_changes measure (tick + f.duration) fs
 
 -- the changes of measures, of which the first has this number
 abbrev pub changes_from : ℕ → List Measure → List Change

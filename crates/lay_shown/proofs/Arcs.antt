@@ -47,9 +47,7 @@ EachBehind (e ∷ es) = AllByRecursion (IsBehind e) es × EachBehind es
 
 behind : (e : EventAt) (n m : ℕ) (es : List EventAt) → e.event < n → e.measure ≤ m → AreNumbered n m es → AllByRecursion (IsBehind e) es
 behind e n m [] less from h = tt
-behind e n m (x ∷ xs) less from h =
-    let own = h.0 in let on = h.1 in
-    ((omega (arith, own, less), omega (arith, on, from)), behind e (suc n) x.measure xs (omega (arith, less)) (omega (arith, on, from)) h.2)
+behind e n m (x ∷ xs) less from h = let own = h.0 in let on = h.1 in ((omega (arith, own, less), omega (arith, on, from)), behind e (suc n) x.measure xs (omega (arith, less)) (omega (arith, on, from)) h.2)
 
 each_behind : (n m : ℕ) (es : List EventAt) → AreNumbered n m es → EachBehind es
 each_behind n m [] h = tt
@@ -124,9 +122,7 @@ found id [] e h = absurd (none-some e h)
 found id (x ∷ xs) e h = by (has_id id x) refl h (found id xs e)
   where
     by : (c : Bool) → has_id id x ≡ c → (if c then Some x else find (has_id id) xs) ≡ Some e → (find (has_id id) xs ≡ Some e → Contains xs e × (e.flat.event.id ≡ id)) → Contains (x ∷ xs) e × (e.flat.event.id ≡ id)
-    by true is g more =
-        let own : x ≡ e = same_Some x e g in
-        ((0, omega arith, own), ap (λ z. z.flat.event.id) (sym own) ∙ same_number x.flat.event.id id is)
+    by true is g more = let own : x ≡ e = same_Some x e g in ((0, omega arith, own), ap (λ z. z.flat.event.id) (sym own) ∙ same_number x.flat.event.id id is)
     by false is g more = let further = more g in (there e x xs further.0, further.1)
 
 -- an event of measure m of a voice
@@ -157,16 +153,10 @@ event_of P es e all within = All-contains P es e (All-from_recursion P es all) w
 -- of two events of a measure the one with the greater id is later
 in_turn : (es : List DrawnEvent) (e f : DrawnEvent) → GoOn es → Contains es e → Contains es f → e.flat.event.id < f.flat.event.id → e.tick < f.tick
 in_turn [] e f on (i, inside, is) there less = absurd (omega (arith, inside))
-in_turn (x ∷ xs) e f on (zero, inside, is) (zero, inside', is') less =
-    let same : e.flat.event.id ≡ f.flat.event.id = ap (λ z. z.flat.event.id) (sym is ∙ is') in
-    absurd (omega (arith, less, same))
-in_turn (x ∷ xs) e f on (zero, inside, is) (suc j, inside', is') less =
-    let behind = event_of (IsEarlier x) xs f on.0 (j, omega (arith, inside'), is') in
-    subst (λ z. z.tick < f.tick) is behind.0
+in_turn (x ∷ xs) e f on (zero, inside, is) (zero, inside', is') less = let same : e.flat.event.id ≡ f.flat.event.id = ap (λ z. z.flat.event.id) (sym is ∙ is') in absurd (omega (arith, less, same))
+in_turn (x ∷ xs) e f on (zero, inside, is) (suc j, inside', is') less = let behind = event_of (IsEarlier x) xs f on.0 (j, omega (arith, inside'), is') in subst (λ z. z.tick < f.tick) is behind.0
 in_turn (x ∷ xs) e f on (suc i, inside, is) (zero, inside', is') less =
-    let behind = event_of (IsEarlier x) xs e on.0 (i, omega (arith, inside), is) in
-    let back = subst (λ z. z.flat.event.id < e.flat.event.id) is' behind.1 in
-    absurd (omega (arith, less, back))
+    let behind = event_of (IsEarlier x) xs e on.0 (i, omega (arith, inside), is) in let back = subst (λ z. z.flat.event.id < e.flat.event.id) is' behind.1 in absurd (omega (arith, less, back))
 in_turn (x ∷ xs) e f on (suc i, inside, is) (suc j, inside', is') less = in_turn xs e f on.1 (i, omega (arith, inside), is) (j, omega (arith, inside'), is') less
 
 -- ---- the order of their columns
@@ -183,16 +173,10 @@ unfolding is_below
 own_bar_above lengths m n e same h = grind (arith, nat_tests)
 
 less_or_same : (m n : ℕ) → m ≤ n → (m < n) ⊎ (m ≡ n)
-less_or_same m n h = elim (cases_lt m n) [
-  | inl less ↦ inl less
-  | inr more ↦ inr (omega (arith, h, more))
-]
+less_or_same m n h = elim (cases_lt m n) [ inl less ↦ inl less | inr more ↦ inr (omega (arith, h, more)) ]
 
 bar_above : (lengths : List ℕ) (m n : ℕ) (e : DrawnEvent) → m ≤ n → (m ≡ n → e.tick ≤ slice_index lengths n) → is_below (note_key m e) (bar_key lengths n) ≡ true
-bar_above lengths m n e le within = elim (less_or_same m n le) [
-  | inl sooner ↦ lower (note_key m e) (bar_key lengths n) sooner
-  | inr same ↦ own_bar_above lengths m n e same (within same)
-]
+bar_above lengths m n e le within = elim (less_or_same m n le) [ inl sooner ↦ lower (note_key m e) (bar_key lengths n) sooner | inr same ↦ own_bar_above lengths m n e same (within same) ]
 
 -- ---- pieces
 not_less : (m n : ℕ) → nat_lt m n ≡ false → n ≤ m
@@ -224,9 +208,7 @@ module _ (keys : List ColumnKey) (lengths : List ℕ) (a b : ℕ) (ds : List Dra
 
   has_last_bar : Contains keys (bar_key lengths (b - 1))
   has_last_bar =
-      let order = are.order in
-      let enough = are.enough in
-      let at = some_measure ds (b - 1) (omega (arith, order, enough)) in
+      let order = are.order in let enough = are.enough in let at = some_measure ds (b - 1) (omega (arith, order, enough)) in
       (measure_at keys lengths a b (b - 1) ds at.0 are.measures (omega (arith, order)) (omega (arith, order)) at.1).bar
 
   has_note : (m id : ℕ) (e : DrawnEvent) → a ≤ m → m < b → IsAt ds m id e → Contains keys (note_key m e)
@@ -241,9 +223,7 @@ module _ (keys : List ColumnKey) (lengths : List ℕ) (a b : ℕ) (ds : List Dra
   -- of two events of one measure
   same_measure : (m n first last : ℕ) (e f : DrawnEvent) → m ≡ n → first < last → IsAt ds m first e → IsAt ds n last f → e.tick < f.tick
   same_measure m n first last e f same less at at' =
-      let one : at.measure ≡ at'.measure = same_Some at.measure at'.measure (sym at.there ∙ ap (λ k. slice_get ds k) same ∙ at'.there) in
-      let i = at.id_is in
-      let j = at'.id_is in
+      let one : at.measure ≡ at'.measure = same_Some at.measure at'.measure (sym at.there ∙ ap (λ k. slice_get ds k) same ∙ at'.there) in let i = at.id_is in let j = at'.id_is in
       in_turn at'.measure.events e f (measure_of (λ d. GoOn d.events) ds n at'.measure are.on at'.there) (subst (λ d. Contains d.events e) one at.within) at'.within (omega (arith, less, i, j))
 
   note_before : (m n first last : ℕ) (e f : DrawnEvent) → m ≤ n → first < last → IsAt ds m first e → IsAt ds n last f → is_below (note_key m e) (note_key n f) ≡ true
@@ -254,13 +234,10 @@ module _ (keys : List ColumnKey) (lengths : List ℕ) (a b : ℕ) (ds : List Dra
 
   ends : (arc : Arc) (e f : DrawnEvent) → GoesOn arc → arc.from < b → a ≤ arc.to → IsAt ds arc.from arc.first e → IsAt ds arc.to arc.last f → (c d : Bool) → nat_lt arc.from a ≡ c → nat_le b arc.to ≡ d
       → IsBetween keys (if c then head_key a else note_key arc.from e) (if d then bar_key lengths (b - 1) else note_key arc.to f)
-  ends arc e f on begun over at at' true true p q =
-      let order = are.order in
-      record { first = are.head; last = has_last_bar; rise = head_bar_below lengths a (b - 1) (omega (arith, order)) }
+  ends arc e f on begun over at at' true true p q = let order = are.order in record { first = are.head; last = has_last_bar; rise = head_bar_below lengths a (b - 1) (omega (arith, order)) }
   ends arc e f on begun over at at' true false p q = record { first = are.head; last = has_note arc.to arc.last f over (not_most b arc.to q) at'; rise = head_below a arc.to f over }
   ends arc e f on begun over at at' false true p q =
-      let from = not_less arc.from a p in
-      record { first = has_note arc.from arc.first e from begun at; last = has_last_bar; rise = before_last arc.from arc.first e from begun at }
+      let from = not_less arc.from a p in record { first = has_note arc.from arc.first e from begun at; last = has_last_bar; rise = before_last arc.from arc.first e from begun at }
   ends arc e f on begun over at at' false false p q = record {
     first = has_note arc.from arc.first e (not_less arc.from a p) begun at;
     last = has_note arc.to arc.last f over (not_most b arc.to q) at';

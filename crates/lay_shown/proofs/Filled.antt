@@ -59,9 +59,7 @@ meter_has dx (Some (Meter.Ratio num den)) = refl
 pub change_has : (c : Clef) (old : List Sign) (ch : Changes) → has_some (change_marks c old ch) ≡ change_has_mark (nat_le 1 (length old)) ch
 unfolding change_marks
 change_has c old ch =
-    let x = behind_clef ch.clef in
-    let key = key_if c (x + entry_gap) old ch.key in
-    let meter = meter_if (x + entry_step * count_if old ch.key) ch.meter in
+    let x = behind_clef ch.clef in let key = key_if c (x + entry_gap) old ch.key in let meter = meter_if (x + entry_step * count_if old ch.key) ch.meter in
     either (clef_if ch.clef ++ key) meter ∙ ap (λ b. b || has_some meter) (either (clef_if ch.clef) key)
     ∙ rw (clef_has ch.clef, key_has c (x + entry_gap) old ch.key, meter_has (x + entry_step * count_if old ch.key) ch.meter) refl
 
@@ -92,8 +90,7 @@ heads_some c g h hs (dx ∷ dxs) e = refl
 all_heads_some : (c : Clef) (base : Base) (h : Head) (hs : List Head) (p : StemPlan) → length p.shifts ≡ length (h ∷ hs) → HasSome (heads_marks c base (h ∷ hs) p)
 unfolding heads_marks
 all_heads_some c base h hs p e =
-    let g = head_glyph base in
-    let beside = sign_marks c (h ∷ hs) p.signs ++ ledger_marks p.ledgers in
+    let g = head_glyph base in let beside = sign_marks c (h ∷ hs) p.signs ++ ledger_marks p.ledgers in
     left (beside ++ note_heads c g (h ∷ hs) p.shifts) (dot_marks p.dots) (right beside (note_heads c g (h ∷ hs) p.shifts) (heads_some c g h hs p.shifts e))
 
 body_some : (c : Clef) (raise : ℤ) (hs : List Head) (e : Event) (p : StemPlan) (before after : ℕ) → p.flags ≡ flags_of e.value.base → length p.shifts ≡ length hs → HasSome (body_marks c raise hs e p before after)

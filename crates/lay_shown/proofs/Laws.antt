@@ -60,9 +60,7 @@ module _ (s : Score) (a b : ℕ) (m : SystemMarks) (good : IsGoodScore s) (rises
       })
 
   staves_inside : AllByRecursion (AllByRecursion (IsInside m.keys lengths a b)) (drawn_staves s)
-  staves_inside =
-      let voices = map drawn_voice s.voices in
-      grouped_all stands_lower (IsInside m.keys lengths a b) voices (recursion_from_All (IsInside m.keys lengths a b) voices voices_inside)
+  staves_inside = let voices = map drawn_voice s.voices in grouped_all stands_lower (IsInside m.keys lengths a b) voices (recursion_from_All (IsInside m.keys lengths a b) voices voices_inside)
 
   each_ranked : (staves : List (List DrawnVoice)) → AllByRecursion (AllByRecursion (IsInside m.keys lengths a b)) staves → AllByRecursion (λ (s : StaffMarks). AreRanked (length m.keys) s.marks) (map staff staves)
   each_ranked [] h = tt
@@ -76,8 +74,7 @@ module _ (s : Score) (a b : ℕ) (m : SystemMarks) (good : IsGoodScore s) (rises
   -- a column that is called for is called for by a staff
   staff_calls : (k : ColumnKey) → Contains m.keys k → Contains (flat_map (flat_map (own_columns lengths a b)) (drawn_staves s)) k
   staff_calls k inside =
-      let own = own_columns lengths a b in
-      let voices = map drawn_voice s.voices in
+      let own = own_columns lengths a b in let voices = map drawn_voice s.voices in
       subst (λ t. Contains t k) (over_groups own (drawn_staves s))
       (subst (λ t. Contains (flat_map own t) k) (sym (grouped_whole stands_lower voices))
       (subst (λ t. Contains t k) (sym (flat_map-map own drawn_voice s.voices))
@@ -86,9 +83,7 @@ module _ (s : Score) (a b : ℕ) (m : SystemMarks) (good : IsGoodScore s) (rises
 
   staves_anchored : AreAnchored (length m.keys) (staves_ranks (map staff (drawn_staves s)))
   staves_anchored i inside =
-      let key = get_or m.keys i (head_key a) in
-      let held = Contains-get_or m.keys i (head_key a) inside in
-      let ranks = λ (voices : List DrawnVoice). marks_ranks (staff voices).marks in
+      let key = get_or m.keys i (head_key a) in let held = Contains-get_or m.keys i (head_key a) inside in let ranks = λ (voices : List DrawnVoice). marks_ranks (staff voices).marks in
       found i (staves_ranks (map staff (drawn_staves s)))
       (subst (λ ns. Contains ns i) (sym (flat_map-map (λ (t : StaffMarks). marks_ranks t.marks) staff (drawn_staves s)))
       (subst (Contains (flat_map ranks (drawn_staves s))) (rank_at_place m.keys i (head_key a) call.keys.rise inside)
@@ -104,8 +99,7 @@ module _ (s : Score) (a b : ℕ) (m : SystemMarks) (good : IsGoodScore s) (rises
 -- what a score with a voice calls for in some of its measures can be shown
 pub call_shown : (s : Score) (a b : ℕ) (m : SystemMarks) → IsGoodScore s → 1 ≤ length s.voices → a < b → b ≤ s.measures → IsCall s (timeline_of s) a b m → IsShown m
 call_shown s a b m good some rises within call =
-    let staff = staff_marks m.keys (timeline_of s).lengths a b in
-    let count = length-map (drawn_staves s) staff in
+    let staff = staff_marks m.keys (timeline_of s).lengths a b in let count = length-map (drawn_staves s) staff in
     let staves = staves_some s a b m good rises within call some in record {
       rises = let from = call.from in let to = call.to in omega (arith, rises);
       staves = subst (λ (staves : List StaffMarks). 1 ≤ length staves) (sym call.staves) (omega (arith, count, staves));

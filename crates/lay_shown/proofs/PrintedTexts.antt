@@ -12,9 +12,7 @@ bytes_printable (b ∷ t) = and_from _ _ (byte_printable b) (bytes_printable t)
 
 -- at most n characters of a text, if these are any
 pub within_printed : (n : ℕ) (t : List ℕ) → n ≤ 60 → 1 ≤ length (printed_within n t) → IsPrinted (printed_within n t)
-within_printed n t most some =
-    let mapped = length-map (take n t) printed_byte in let taken = length-take n t in
-    record { printable = bytes_printable (take n t); some = some; few = omega (arith, mapped, taken, most) }
+within_printed n t most some = let mapped = length-map (take n t) printed_byte in let taken = length-take n t in record { printable = bytes_printable (take n t); some = some; few = omega (arith, mapped, taken, most) }
 
 pub text_printed : (t : List ℕ) → 1 ≤ length (printed t) → IsPrinted (printed t)
 text_printed t some = within_printed 60 t (omega arith) some

@@ -110,10 +110,7 @@ module _ (keys : List ColumnKey) where
 
   -- what else stands among the columns of the system
   beside : {lower : Bool} {ks : List ColumnKey} {xs : List Laid} (ys : List Laid) → (AreAmong (keys_by lower ks) keys → Ranked (length keys) ys) → Fill lower ks xs → Fill lower ks (xs ++ ys)
-  beside {lower} {ks} {xs} ys h p = record {
-    ranked = λ among. all_append (λ l. IsRanked (length keys) l.mark) xs ys (p.ranked among) (h among);
-    anchored = λ k has. rank_left (rank_of keys k) xs ys (p.anchored k has);
-  }
+  beside {lower} {ks} {xs} ys h p = record { ranked = λ among. all_append (λ l. IsRanked (length keys) l.mark) xs ys (p.ranked among) (h among); anchored = λ k has. rank_left (rank_of keys k) xs ys (p.anchored k has) }
 
   -- ---- events
   change : (lower : Bool) (m : ℕ) (in_head : Bool) (e : DrawnEvent) → Fill lower (change_keys m e.tick in_head (has_old e) e.flat.event.changes) (change_part keys m (in_head || lower) e)
@@ -126,21 +123,16 @@ module _ (keys : List ColumnKey) where
   graces : (lower : Bool) (m tick : ℕ) (clef : Clef) (group : Group) (i : ℕ) (gs : List Event) → Fill lower (grace_keys m tick i gs) (graces_from keys m tick clef group i gs)
   graces lower m tick clef group i [] = none lower
   graces lower m tick clef group i (g ∷ gs) =
-      let key = key_at m tick Class.Grace i in
-      two (one lower key (grace_marks clef group (i == 0) g) (kept lower key refl) (grace_some clef group (i == 0) g)) (graces lower m tick clef group (i + 1) gs)
+      let key = key_at m tick Class.Grace i in two (one lower key (grace_marks clef group (i == 0) g) (kept lower key refl) (grace_some clef group (i == 0) g)) (graces lower m tick clef group (i + 1) gs)
 
   event : (place : Option Place) (m : ℕ) (in_head : Bool) (before after : ℕ) (e : DrawnEvent) → IsPlanOf e.flat.event e.plan
       → Fill (is_lower e.seat) (event_keys m e.tick in_head (has_old e) e.flat) (event_marks keys place m in_head before after e)
   unfolding event_marks
   event place m in_head before after e plan =
-      let key = note_key m e in
-      let lower = is_lower e.seat in
-      let own = kept lower key refl in
-      let front = change_keys m e.tick in_head (has_old e) e.flat.event.changes ++ grace_keys m e.tick 0 e.flat.graces in
+      let key = note_key m e in let lower = is_lower e.seat in let own = kept lower key refl in let front = change_keys m e.tick in_head (has_old e) e.flat.event.changes ++ grace_keys m e.tick 0 e.flat.graces in
       beside (words_part (rank_of keys key) place e.flat)
       (λ among.
-      let all = subst (λ t. AreAmong t keys) (keys_join lower front (key ∷ [])) among in
-      let last = subst (λ t. AreAmong t keys) own (among_right (keys_by lower front) (keys_by lower (key ∷ [])) keys all) in
+      let all = subst (λ t. AreAmong t keys) (keys_join lower front (key ∷ [])) among in let last = subst (λ t. AreAmong t keys) own (among_right (keys_by lower front) (keys_by lower (key ∷ [])) keys all) in
       drawn_ranked (length keys) (rank_of keys key) (words_marks place (rank_of keys key) e.flat) (rank_less keys key (last key (here key []))))
       (two (two (change lower m in_head e) (graces lower m e.tick e.clef (group_of e.clef e.flat.graces e.flat.slash) 0 e.flat.graces))
       (one lower key (note_marks e.clef (raise_of e.seat) e.flat.event e.plan before after) own (note_some e.clef (raise_of e.seat) e.flat.event e.plan before after plan)))
@@ -184,9 +176,6 @@ module _ (keys : List ColumnKey) where
       → Fill (is_lower v.seat) (voice_columns lengths a b v) (own_part keys lengths place a b v)
   unfolding columns_part
   columns lengths place a b v order within plans =
-      let ds = slice_range v.measures a b in
-      let taken = length-take (b - a) (drop a v.measures) in
-      let behind = length-drop a v.measures in
-      let some : 1 ≤ length ds = omega (arith, taken, behind, order, within) in
+      let ds = slice_range v.measures a b in let taken = length-take (b - a) (drop a v.measures) in let behind = length-drop a v.measures in let some : 1 ≤ length ds = omega (arith, taken, behind, order, within) in
       let sliced = all_take (IsMeasureAt v.seat) (b - a) (drop a v.measures) (all_drop (IsMeasureAt v.seat) a v.measures plans) in
       two (two (head v.seat a ds some sliced) (first (is_lower v.seat) (a == 0) (has_features v.first) v.first)) (measures lengths v.seat place a true ds sliced)

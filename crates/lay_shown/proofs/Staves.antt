@@ -22,17 +22,14 @@ module _ (keys : List ColumnKey) (lengths : List ℕ) (a b : ℕ) where
       → AllByRecursion (Ranked (length keys)) (written_parts keys lengths room a b first before voices)
   parts_ranked room first before [] order h = tt
   parts_ranked room first before (v ∷ voices) order h =
-      let place : Option Place = Some (record { room = room; first = first; before = before }) in
-      let part = own_part keys lengths place a b v in
+      let place : Option Place = Some (record { room = room; first = first; before = before }) in let part = own_part keys lengths place a b v in
       ((columns keys lengths place a b v order h.0.long h.0.planned).ranked h.0.among, parts_ranked room (first + v.verses) (texts_behind (length keys) before part) voices order h.1)
 
   parts_hold : (room : Room) (first : ℕ) (before : List Texts) (voices : List DrawnVoice) → a < b → AllByRecursion IsInside voices
       → (k : ColumnKey) → Contains (flat_map (own_columns lengths a b) voices) k → HasRank (rank_of keys k) (flat_map (λ part. part) (written_parts keys lengths room a b first before voices))
   parts_hold room first before [] order h k has = absurd (let inside = has.1 in omega (arith, inside))
   parts_hold room first before (v ∷ voices) order h k has =
-      let place : Option Place = Some (record { room = room; first = first; before = before }) in
-      let part = own_part keys lengths place a b v in
-      let behind = texts_behind (length keys) before part in
+      let place : Option Place = Some (record { room = room; first = first; before = before }) in let part = own_part keys lengths place a b v in let behind = texts_behind (length keys) before part in
       let more = flat_map (λ part. part) (written_parts keys lengths room a b (first + v.verses) behind voices) in
       elim (Contains-append_cases (own_columns lengths a b v) (flat_map (own_columns lengths a b) voices) k has) as (λ c. HasRank (rank_of keys k) (part ++ more)) [
         | inl own ↦ rank_left (rank_of keys k) part more ((columns keys lengths place a b v order h.0.long h.0.planned).anchored k own)
@@ -59,7 +56,6 @@ module _ (keys : List ColumnKey) (lengths : List ℕ) (a b : ℕ) where
       → HasRank (rank_of keys k) (staff_marks keys lengths a b voices).marks
   unfolding staff_marks staff_over
   staff_holds voices order h k inside has =
-      let r = rank_of keys k in
-      let held = parts_hold _ 1 [] voices order h k has in
+      let r = rank_of keys k in let held = parts_hold _ 1 [] voices order h k has in
       rank_left r (by_columns (length keys) (parts_of voices)) (staff_bridges keys lengths a b voices)
       (held.0, columned_has r held.0 held.2 (length keys) (parts_of voices) (rank_less keys k inside) held.1, held.2)

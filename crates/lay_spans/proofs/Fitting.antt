@@ -8,12 +8,8 @@ pub longer_stands : {C : Type 0} (reach : C → ℕ → Option Reach) (len : C �
     → AreMeasures reach (length gaps) starts others → a < b → b < c → c ≤ length starts → 0 < length (span_columns starts others a b)
     → StandsAt reach len gaps width force (span_columns starts others a c) → StandsAt reach len gaps width force (span_columns starts others a b)
 longer_stands reach len gaps width force starts others a b c h l m n some stands =
-    let d : ℕ = c - b - 1 in
-    let same : b + (c - b - 1) + 1 ≡ c = omega arith in
-    let longer = columns_continue starts others a b (c - b - 1) l (omega arith) h.same in
-    let last = slice_index_or others (b + (c - b - 1)) [] in
-    let ends = h.ended (b + (c - b - 1)) (omega arith) in
-    let rest = longer.0 ++ last in
+    let d : ℕ = c - b - 1 in let same : b + (c - b - 1) + 1 ≡ c = omega arith in let longer = columns_continue starts others a b (c - b - 1) l (omega arith) h.same in
+    let last = slice_index_or others (b + (c - b - 1)) [] in let ends = h.ended (b + (c - b - 1)) (omega arith) in let rest = longer.0 ++ last in
     let is : span_columns starts others a c ≡ span_columns starts others a b ++ rest = sym (ap (λ i. span_columns starts others a i) same) ∙ longer.1 in
     longer_fits_less reach len (span_columns starts others a b) rest gaps width force some
     (let n = length-append longer.0 last in let k = ends.some in omega arith)
@@ -26,8 +22,7 @@ pub still_above : {C : Type 0} (reach : C → ℕ → Option Reach) (len : C →
     → AreMeasures reach (length gaps) starts others → a < length starts → m < length starts → ((g : ℕ) → most < g → g ≤ 2048 → (a < m) × (StandsAt reach len gaps width g (span_columns starts others a m) → ⊥))
     → (g : ℕ) → most < g → g ≤ 2048 → StandsAt reach len gaps width g (span_columns starts others a (m + 1)) → ⊥
 still_above reach len gaps width most starts others a m h inside l before g past within stands =
-    let shorter = before g past within in
-    let some = shorter.0 in
+    let shorter = before g past within in let some = shorter.0 in
     shorter.1 (longer_stands reach len gaps width g starts others a m (m + 1) h some (omega arith) (omega arith)
     (columns_some starts others a m some (h.begun a inside)) stands)
 

@@ -16,8 +16,7 @@ pub placed_more : {D C : Type 0} (f : D → C) (reach : C → ℕ → Option Rea
     → HasPlaced (length (span_columns starts others a m)) (reach_at reach (span_columns starts others a m)) gaps (length_at len (span_columns starts others a m)) p x fronts
     → HasPlaced (length seen) (reach_at (λ s lane. reach (f s) lane) seen) gaps (length_at (λ s force. len (f s) force) seen) p x' fronts
 placed_more f reach len gaps p x x' more fronts seen starts others a m l k same e room grown h =
-    let next = slice_index_or (measures_from starts others a) (m - a) [] in
-    let longer = columns_more starts others a m l k same in
+    let next = slice_index_or (measures_from starts others a) (m - a) [] in let longer = columns_more starts others a m l k same in
     let within : length x ≤ length seen =
     let n = length-map seen f in let count = ap (λ cs. length cs) (e ∙ longer) in let sum = length-append (span_columns starts others a m) (slice_index_or (measures_from starts others a) (m - a) []) in omega arith in
     let at : x' ≡ x ++ more = grown ∙ ap (λ at. at ++ more) (take_all (length seen) x within) in
@@ -69,11 +68,7 @@ stops_at reach len gaps width starts others forced a m row h inside l e each nev
 pub stops_behind : {C : Type 0} (reach : C → ℕ → Option Reach) (len : C → ℕ → ℕ) (gaps : List ℕ) (width : ℕ) (starts others : List (List C)) (forced : ℕ → Bool)
     (a m : ℕ) (row : List ℕ) → m < length starts → a + length row ≡ m + 1 → a ≤ m → ((k : ℕ) → k < length row → IsCost reach len gaps width starts others forced a (a + 1 + k) (slice_index row k)) → forced (m + 1) ≡ true
     → IsRowFrom reach len gaps width starts others forced a row
-stops_behind reach len gaps width starts others forced a m row l e k each is = record {
-  within = omega arith;
-  each = each;
-  stops = λ b past within. inl (m + 1, omega arith, omega arith, is);
-}
+stops_behind reach len gaps width starts others forced a m row l e k each is = record { within = omega arith; each = each; stops = λ b past within. inl (m + 1, omega arith, omega arith, is) }
 
 -- the rows as a list of spans
 pub rows_are_spans : {C : Type 0} (reach : C → ℕ → Option Reach) (len : C → ℕ → ℕ) (gaps : List ℕ) (width : ℕ) (starts others : List (List C)) (forced : ℕ → Bool)
@@ -89,13 +84,11 @@ pub rows_tell_spans : {C : Type 0} (reach : C → ℕ → Option Reach) (len : C
     (rows : List (List ℕ)) → IsTable (λ a row. IsRowFrom reach len gaps width starts others forced a row) (length starts) rows → IsSpanList reach len gaps width starts others forced (rows_spans 0 rows)
 rows_tell_spans {C} reach len gaps width starts others forced rows h = record {
   each = λ a b v l m is.
-      let row = slice_index_or rows a [] in
-      let from = h.each a (omega arith) in
+      let row = slice_index_or rows a [] in let from = h.each a (omega arith) in
       elim (cases_lt (a + length (slice_index_or rows a [])) b) [
         | inl past ↦ absurd (none-some v (sym (out a b l past) ∙ is))
         | inr within ↦
-            let same : a + 1 + (b - (a + 1)) ≡ b = omega arith in
-            let v-is : slice_index (slice_index_or rows a []) (b - (a + 1)) ≡ v = same_Some _ _ (sym (inside a b l within) ∙ is) in
+            let same : a + 1 + (b - (a + 1)) ≡ b = omega arith in let v-is : slice_index (slice_index_or rows a []) (b - (a + 1)) ≡ v = same_Some _ _ (sym (inside a b l within) ∙ is) in
             subst (λ v. IsCost reach len gaps width starts others forced a b v) v-is
             (subst (λ c. IsCost reach len gaps width starts others forced a c (slice_index (slice_index_or rows a []) (b - (a + 1)))) same
             (from.each (b - (a + 1)) (omega arith)))
@@ -117,11 +110,7 @@ rows_tell_spans {C} reach len gaps width starts others forced rows h = record {
 
     stopped : (a b : ℕ) → a < b → b ≤ length starts → listed (rows_spans 0 rows) a b ≡ None → IsNoSpan reach len gaps width starts others forced a b
     stopped a b l m is =
-        let from = h.each a (omega arith) in
-        elim (cases_lt (a + length (slice_index_or rows a [])) b) [
-          | inl past ↦ from.stops b past m
-          | inr within ↦ absurd (none-some _ (sym is ∙ inside a b l within))
-        ]
+        let from = h.each a (omega arith) in elim (cases_lt (a + length (slice_index_or rows a [])) b) [ inl past ↦ from.stops b past m | inr within ↦ absurd (none-some _ (sym is ∙ inside a b l within)) ]
 
     fitting : (a b : ℕ) (o : Option ℕ) → listed (rows_spans 0 rows) a b ≡ o → (listed (rows_spans 0 rows) a b ≡ None → IsNoSpan reach len gaps width starts others forced a b)
         → (ForcedInside forced a b → ⊥) → StandsAt reach len gaps width 0 (span_columns starts others a b) → IsSome (listed (rows_spans 0 rows) a b)

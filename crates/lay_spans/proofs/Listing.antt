@@ -6,9 +6,7 @@ pub listed_here : (a b : ℕ) (s : Span) (ss : List Span) → s.a ≡ a → s.b 
 listed_here a b s ss e f = rw (has_these a b s e f) refl
 
 pub listed_behind : (a b : ℕ) (s : Span) (ss : List Span) → (s.a ≡ a → s.b ≡ b → ⊥) → listed (s ∷ ss) a b ≡ listed ss a b
-listed_behind a b s ss h =
-    let t : has_ends a b s ≡ false = grind (arith, nat_tests) in
-    rw t refl
+listed_behind a b s ss h = let t : has_ends a b s ≡ false = grind (arith, nat_tests) in rw t refl
 
 -- the spans of a row
 pub in_row : (a b : ℕ) (row : List ℕ) (rest : List Span) (c : ℕ) → b ≤ c → c < b + length row → listed (row_spans a b row ++ rest) a c ≡ Some (slice_index row (c - b))
@@ -16,8 +14,7 @@ in_row a b [] rest c l m = absurd (omega arith)
 in_row a b (v ∷ vs) rest c l m = elim (cases_eq b c) [
   | inl e ↦ let z : c - b ≡ 0 = omega arith in rw z (listed_here a c (record { a = a; b = b; badness = v }) (row_spans a (b + 1) vs ++ rest) refl e)
   | inr d ↦
-      let lt : b + 1 ≤ c = grind arith in
-      let s : c - b ≡ suc (c - (b + 1)) = omega arith in
+      let lt : b + 1 ≤ c = grind arith in let s : c - b ≡ suc (c - (b + 1)) = omega arith in
       rw s (listed_behind a c (record { a = a; b = b; badness = v }) (row_spans a (b + 1) vs ++ rest) (λ e f. d f) ∙ in_row a (b + 1) vs rest c lt (omega arith))
 ]
 
@@ -42,10 +39,7 @@ in_rows m (row ∷ rows) a c l k n = elim (cases_eq m a) [
       rw z (subst (λ i. listed (row_spans i (i + 1) row ++ rows_spans (i + 1) rows) a c ≡ Some (slice_index row (c - (a + 1)))) (sym e)
       (in_row a (a + 1) row (rows_spans (a + 1) rows) c (omega arith) (omega arith)))
   | inr d ↦
-      let lt : m + 1 ≤ a = grind arith in
-      let s : a - m ≡ suc (a - (m + 1)) = omega arith in
-      let n' = rw s at n in
-      rw s (other_row m (m + 1) row (rows_spans (m + 1) rows) a c d ∙ in_rows (m + 1) rows a c lt k n')
+      let lt : m + 1 ≤ a = grind arith in let s : a - m ≡ suc (a - (m + 1)) = omega arith in let n' = rw s at n in rw s (other_row m (m + 1) row (rows_spans (m + 1) rows) a c d ∙ in_rows (m + 1) rows a c lt k n')
 ]
 
 pub past_rows : (m : ℕ) (rows : List (List ℕ)) (a c : ℕ) → m ≤ a → a + length (slice_index_or rows (a - m) []) < c → listed (rows_spans m rows) a c ≡ None
@@ -55,10 +49,7 @@ past_rows m (row ∷ rows) a c l n = elim (cases_eq m a) [
       subst (λ i. listed (row_spans i (i + 1) row ++ rows_spans (i + 1) rows) a c ≡ None) (sym e)
       (past_row a (a + 1) row (rows_spans (a + 1) rows) c (omega arith) ∙ before_rows (a + 1) rows a c (omega arith))
   | inr d ↦
-      let lt : m + 1 ≤ a = grind arith in
-      let s : a - m ≡ suc (a - (m + 1)) = omega arith in
-      let n' = rw s at n in
-      other_row m (m + 1) row (rows_spans (m + 1) rows) a c d ∙ past_rows (m + 1) rows a c lt n'
+      let lt : m + 1 ≤ a = grind arith in let s : a - m ≡ suc (a - (m + 1)) = omega arith in let n' = rw s at n in other_row m (m + 1) row (rows_spans (m + 1) rows) a c d ∙ past_rows (m + 1) rows a c lt n'
 ]
 
 -- the last span so far begins before bar m
@@ -102,15 +93,11 @@ rows_form n m last (row ∷ rows) within small before =
 -- a span begins before it ends, which is at bar n or before it
 pub none_falls : (n : ℕ) (last : Option Span) (ss : List Span) → SpansFrom n last ss → (a b : ℕ) → b ≤ a → listed ss a b ≡ None
 none_falls n last [] h a b l = refl
-none_falls n last (s ∷ ss) h a b l =
-    let r = h.0.rises in
-    listed_behind a b s ss (λ e g. omega arith) ∙ none_falls n (Some s) ss h.1 a b l
+none_falls n last (s ∷ ss) h a b l = let r = h.0.rises in listed_behind a b s ss (λ e g. omega arith) ∙ none_falls n (Some s) ss h.1 a b l
 
 in_row_or_past : (rows : List (List ℕ)) (a b : ℕ) → a < b → slice_get (slice_index_or rows a []) (b - a - 1) ≡ listed (rows_spans 0 rows) a b
 in_row_or_past rows a b l =
-    let z : a - 0 ≡ a = omega arith in
-    let row = slice_index_or rows a [] in
-    let same : b - (a + 1) ≡ b - a - 1 = omega arith in
+    let z : a - 0 ≡ a = omega arith in let row = slice_index_or rows a [] in let same : b - (a + 1) ≡ b - a - 1 = omega arith in
     elim (cases_lt (a + length (slice_index_or rows a [])) b) [
       | inl past ↦
           slice_get_past row (b - a - 1) (omega arith) ∙ sym (past_rows 0 rows a b (omega arith) (subst (λ i. a + length (slice_index_or rows i []) < b) (sym z) past))

@@ -16,8 +16,7 @@ square_small x l = let k = mul-le-mul_left x l in omega arith
 
 at_small : (force : ℕ) → force ≤ 2048 → badness_at force ≤ 2 ^ 40
 at_small force l =
-    let high = square_small (force - 256) (omega arith) in
-    let low = square_small (256 - force) (omega arith) in
+    let high = square_small (force - 256) (omega arith) in let low = square_small (256 - force) (omega arith) in
     elim (nat_le 256 force) as (λ t. (if t then (force - 256) * (force - 256) else 4 * ((256 - force) * (256 - force))) ≤ 2 ^ 40)
     [ true ↦ omega arith | false ↦ omega arith ]
 
@@ -39,10 +38,7 @@ module _ {C : Type 0} (reach : C → ℕ → Option Reach) (len : C → ℕ → 
   pub one_force : (columns : List C) (f g : ℕ) → IsForce reach len gaps width columns f → IsForce reach len gaps width columns g → f ≡ g
   one_force columns f g h k = elim (cases_lt f g) [
     | inl less ↦ absurd (not_weaker columns f g h k less)
-    | inr more ↦ elim (cases_lt g f) [
-      | inl less ↦ absurd (not_weaker columns g f k h less)
-      | inr same ↦ omega arith
-    ]
+    | inr more ↦ elim (cases_lt g f) [ inl less ↦ absurd (not_weaker columns g f k h less) | inr same ↦ omega arith ]
   ]
 
   -- columns that a force presses can stand
@@ -65,10 +61,7 @@ module _ {C : Type 0} (reach : C → ℕ → Option Reach) (len : C → ℕ → 
     module _ (rises : (c : C) (f g : ℕ) → f ≤ g → g < 2 ^ 16 → len c f ≤ len c g) where
       not_shorter : (a : ℕ) (row other : List ℕ) → IsRowFrom reach len gaps width starts others forced a row → IsRowFrom reach len gaps width starts others forced a other → length row < length other → ⊥
       not_shorter a row other h k l =
-          let cost = k.each (length row) l in
-          let force = cost.pressed.1 in
-          let within = k.within in
-          let bound = force.bound in
+          let cost = k.each (length row) l in let force = cost.pressed.1 in let within = k.within in let bound = force.bound in
           elim (h.stops (a + 1 + length row) (omega arith) (omega arith)) [
             | inl inside ↦ cost.free inside
             | inr never ↦ never (can_stand (span_columns starts others a (a + 1 + length row)) cost.pressed.0 (λ c. rises c 0 cost.pressed.0 (omega arith) (omega arith)) force)

@@ -16,13 +16,7 @@ end_more reach lane at old new r er le reached least h = record {
 
 -- springs that are no longer let the columns stand where longer ones do
 pub apart_down : (n : ℕ) (reach : ℕ → ℕ → Option Reach) (gaps : List ℕ) (weak strong : ℕ → ℕ) (x : List ℤ) → ((i : ℕ) → weak i ≤ strong i) → StandApart n reach gaps strong x → StandApart n reach gaps weak x
-apart_down n reach gaps weak strong x le h = record {
-  begins = h.begins;
-  head = h.head;
-  lanes = h.lanes;
-  steps = h.steps;
-  springs = λ i l. let s = h.springs i l in let k = le i in omega (arith, ints);
-}
+apart_down n reach gaps weak strong x le h = record { begins = h.begins; head = h.head; lanes = h.lanes; steps = h.steps; springs = λ i l. let s = h.springs i l in let k = le i in omega (arith, ints) }
 
 -- the end doesn't fall as the force rises
 pub end_down : (n : ℕ) (reach : ℕ → ℕ → Option Reach) (gaps : List ℕ) (spring : ℕ → ℕ → ℕ) (f g : ℕ) (d e : ℤ) → 0 < n → ((i : ℕ) → spring f i ≤ spring g i)

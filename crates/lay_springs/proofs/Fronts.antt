@@ -16,33 +16,18 @@ past_more reach gaps lane front old new s es l m h k u lt eu =
 module _ (reach : ℕ → ℕ → Option Reach) (gaps : List ℕ) (spring : ℕ → ℕ → ℕ) (force natural count j : ℕ) (x front : List ℤ)
     (placed : IsPlacedTo j reach gaps spring force natural count x) (fronts : IsFront j reach (length gaps) x front) where
   pub front_clear : (v : ℤ) → IsPast (reach j) gaps (length gaps) front v → (i : ℕ) → i < j → IsClear (reach i) (reach j) gaps (length gaps) (at x i) v
-  front_clear v past i l lane r s lt er es =
-      let c = fronts.covers lane i r lt l er in
-      let low = (placed.small i l).0 in
-      let p = past lane s lt es (omega (arith, ints)) in
-      omega (arith, ints)
+  front_clear v past i l lane r s lt er es = let c = fronts.covers lane i r lt l er in let low = (placed.small i l).0 in let p = past lane s lt es (omega (arith, ints)) in omega (arith, ints)
 
   -- past a column that stands in a list that is at most so far below, at another force too
   pub front_below : (weak : ℕ → ℕ) (y : List ℤ) (d : ℕ) (w : ℤ) → StandApart (j + 1) reach gaps weak y
       → ((k : ℕ) → k < j → at x k ≤ℤ (at y k +ℤ pos d)) → (at y j +ℤ pos d) ≤ℤ w → IsPast (reach j) gaps (length gaps) front w
-  front_below weak y d w h near up lane s lt es some =
-      let k = fronts.stands lane lt some in
-      let e = k.4 in
-      let c = h.lanes k.0 j k.2 (omega arith) lane k.1 s lt k.3 es in
-      let b = near k.0 k.2 in
-      omega (arith, ints)
+  front_below weak y d w h near up lane s lt es some = let k = fronts.stands lane lt some in let e = k.4 in let c = h.lanes k.0 j k.2 (omega arith) lane k.1 s lt k.3 es in let b = near k.0 k.2 in omega (arith, ints)
 
   pub past_bound : ((k lane : ℕ) → lane < length gaps → IfSome (reach k lane) (λ r. (r.left ≤ 1048576) × (r.right ≤ 1048576)))
       → ((lane : ℕ) → lane < length gaps → slice_index gaps lane ≤ 1048576) → IsPast (reach j) gaps (length gaps) front (pos (1048576 + 3145728 * j))
   past_bound near narrow lane s lt es some =
-      let k = fronts.stands lane lt some in
-      let l = k.2 in
-      let e = k.4 in
-      let high = (placed.small k.0 k.2).1 in
-      let right = (rw k.3 at (near k.0 lane lt)).1 in
-      let left = (rw es at (near j lane lt)).0 in
-      let gap = narrow lane lt in
-      omega (arith, ints)
+      let k = fronts.stands lane lt some in let l = k.2 in let e = k.4 in let high = (placed.small k.0 k.2).1 in let right = (rw k.3 at (near k.0 lane lt)).1 in
+      let left = (rw es at (near j lane lt)).0 in let gap = narrow lane lt in omega (arith, ints)
 
 module _ (reach : ℕ → ℕ → Option Reach) (lanes j : ℕ) (v : ℤ) where
   -- one lane, where column j stands at v
@@ -52,8 +37,7 @@ module _ (reach : ℕ → ℕ → Option Reach) (lanes j : ℕ) (v : ℤ) where
 
   one_small : (o : Option Reach) (old new : ℤ) → IfSome o (λ r. (r.left ≤ 1048576) × (r.right ≤ 1048576)) → v ≤ℤ pos (2 ^ 60) → old ≤ℤ pos (2 ^ 61) → Advances o v old new → new ≤ℤ pos (2 ^ 61)
   one_small None old new near l s h = omega (arith, ints)
-  one_small (Some r) old new near l s h =
-      let a = near.1 in elim h.2 [ inl e ↦ omega (arith, ints) | inr e ↦ omega (arith, ints) ]
+  one_small (Some r) old new near l s h = let a = near.1 in elim h.2 [ inl e ↦ omega (arith, ints) | inr e ↦ omega (arith, ints) ]
 
   here_covers : (o : Option Reach) (r : Reach) (old new : ℤ) → o ≡ Some r → Advances o v old new → (v +ℤ pos r.right) ≤ℤ new
   here_covers None r old new e h = absurd (none-some r e)
@@ -74,17 +58,12 @@ module _ (reach : ℕ → ℕ → Option Reach) (lanes j : ℕ) (v : ℤ) where
     }
       where
         old : (lane : ℕ) → lane < lanes → at front' lane ≡ at front lane → pos 0 ≤ℤ at front' lane → (k : ℕ) × (r : Reach) × (k < j + 1) × (reach k lane ≡ Some r) × (at front' lane ≡ (at x' k +ℤ pos r.right))
-        old lane lt e some =
-            let k = fronts.stands lane lt (rw e at some) in
-            (k.0, k.1, (let l = k.2 in omega arith), k.3, rw (same k.0 k.2) (e ∙ k.4))
+        old lane lt e some = let k = fronts.stands lane lt (rw e at some) in (k.0, k.1, (let l = k.2 in omega arith), k.3, rw (same k.0 k.2) (e ∙ k.4))
 
         stood : (lane : ℕ) → lane < lanes → (o : Option Reach) → reach j lane ≡ o → Advances o v (at front lane) (at front' lane) → pos 0 ≤ℤ at front' lane
             → (k : ℕ) × (r : Reach) × (k < j + 1) × (reach k lane ≡ Some r) × (at front' lane ≡ (at x' k +ℤ pos r.right))
         stood lane lt None e h some = old lane lt h some
-        stood lane lt (Some r) e h some = elim h.2 [
-          | inl q ↦ old lane lt q some
-          | inr q ↦ (j, r, omega arith, e, rw here q)
-        ]
+        stood lane lt (Some r) e h some = elim h.2 [ inl q ↦ old lane lt q some | inr q ↦ (j, r, omega arith, e, rw here q) ]
 
 pub front_start : (reach : ℕ → ℕ → Option Reach) (lanes : ℕ) (x front : List ℤ) → ((lane : ℕ) → lane < lanes → at front lane ≡ negsuc 0) → IsFront 0 reach lanes x front
 front_start reach lanes x front h = record {

@@ -16,35 +16,22 @@ cannot_stand n reach gaps spring width f g some le p h =
     let last = p.1.place.least h.y (apart_down n reach gaps (spring f) (spring g) h.y le h.apart) (n - 1) (omega arith) in
     let d = p.1.end.least (pos width) (let q = h.past in omega (arith, ints))
     (λ lane r l e. let q = h.reaches lane r l e in omega (arith, ints)) in
-    let over = p.2 in
-    omega (arith, ints)
+    let over = p.2 in omega (arith, ints)
 
 -- abscissas rise
 pub rises : (n : ℕ) (reach : ℕ → ℕ → Option Reach) (gaps : List ℕ) (spring : ℕ → ℕ) (y : List ℤ) → StandApart n reach gaps spring y → (d i : ℕ) → i + d < n → slice_index_or y i (pos 0) ≤ℤ slice_index_or y (i + d) (pos 0)
 rises n reach gaps spring y h zero i l = let e : i + 0 ≡ i = omega arith in rw e (omega (arith, ints))
-rises n reach gaps spring y h (suc d) i l =
-    let ih = rises n reach gaps spring y h d i (omega arith) in
-    let s = h.steps (i + d) (omega arith) in
-    let e : i + suc d ≡ i + d + 1 = omega arith in
-    rw e (omega (arith, ints))
+rises n reach gaps spring y h (suc d) i l = let ih = rises n reach gaps spring y h d i (omega arith) in let s = h.steps (i + d) (omega arith) in let e : i + suc d ≡ i + d + 1 = omega arith in rw e (omega (arith, ints))
 
 -- neighbors stand 100 apart
 spaced : (n : ℕ) (reach : ℕ → ℕ → Option Reach) (gaps : List ℕ) (spring : ℕ → ℕ) (y : List ℤ) → StandApart n reach gaps spring y → (d : ℕ) → d < n → pos (d * 100) ≤ℤ slice_index_or y d (pos 0)
 spaced n reach gaps spring y h zero l = h.begins l
-spaced n reach gaps spring y h (suc d) l =
-    let ih = spaced n reach gaps spring y h d (omega arith) in
-    let s = h.steps d (omega arith) in
-    let e : d + 1 ≡ suc d = omega arith in
-    let s' = rw e at s in
-    omega (arith, ints)
+spaced n reach gaps spring y h (suc d) l = let ih = spaced n reach gaps spring y h d (omega arith) in let s = h.steps d (omega arith) in let e : d + 1 ≡ suc d = omega arith in let s' = rw e at s in omega (arith, ints)
 
 -- so few stand within a width
 pub stand_few : (n : ℕ) (reach : ℕ → ℕ → Option Reach) (gaps : List ℕ) (spring : ℕ → ℕ → ℕ) (width force : ℕ) → 0 < n → CanStand n reach gaps spring width force → n ≤ most_columns width
 stand_few n reach gaps spring width force some h =
-    let last = spaced n reach gaps (spring force) h.y h.apart (n - 1) (omega arith) in
-    let end = h.past in
-    let parts = le-div (n - 1) width 100 (omega arith) (omega (arith, ints)) in
-    omega (arith, parts)
+    let last = spaced n reach gaps (spring force) h.y h.apart (n - 1) (omega arith) in let end = h.past in let parts = le-div (n - 1) width 100 (omega arith) (omega (arith, ints)) in omega (arith, parts)
 
 -- what keeps columns apart keeps the first of them apart
 pub fewer_apart : (n m : ℕ) (reach reach' : ℕ → ℕ → Option Reach) (gaps : List ℕ) (spring spring' : ℕ → ℕ) (y : List ℤ) → n ≤ m
@@ -63,17 +50,9 @@ pub stand_prefix : (n m : ℕ) (reach reach' : ℕ → ℕ → Option Reach) (ga
 stand_prefix n m reach reach' gaps spring spring' width force some longer same len all h = record {
   y = h.y;
   apart = fewer_apart n m reach reach' gaps (spring force) (spring' force) h.y (omega arith) same len h.apart;
-  past =
-      let up = rises m reach' gaps (spring' force) h.y h.apart (m - n) (n - 1) (omega arith) in
-      let e : n - 1 + (m - n) ≡ m - 1 = omega arith in
-      let up' = rw e at up in
-      let p = h.past in
-      omega (arith, ints);
+  past = let up = rises m reach' gaps (spring' force) h.y h.apart (m - n) (n - 1) (omega arith) in let e : n - 1 + (m - n) ≡ m - 1 = omega arith in let up' = rw e at up in let p = h.past in omega (arith, ints);
   reaches = λ lane r l e.
-      let s = all lane l in
-      let c = h.apart.lanes (n - 1) (m - 1) (omega arith) (omega arith) lane r s.0 l (same (n - 1) lane (omega arith) ∙ e) s.1 in
-      let p = h.past in
-      omega (arith, ints);
+      let s = all lane l in let c = h.apart.lanes (n - 1) (m - 1) (omega arith) (omega arith) lane r s.0 l (same (n - 1) lane (omega arith) ∙ e) s.1 in let p = h.past in omega (arith, ints);
 }
 
 pub get_front : {C : Type 0} → (xs ys : List C) (i : ℕ) → i < length xs → slice_get (xs ++ ys) i ≡ slice_get xs i

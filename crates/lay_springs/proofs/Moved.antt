@@ -11,23 +11,11 @@ moved_apart n reach gaps spring x at rest d some move h = record {
   begins = λ l. let a = move 0 l in let b = h.begins l in omega (arith, ints);
   head = λ l lane s k e. let a = move 0 l in let b = h.head l lane s k e in omega (arith, ints);
   lanes = λ i j lt l lane r s k er es.
-      let a = move i (omega arith) in
-      let b = move j l in
-      let c = h.lanes i j lt l lane r s k er es in
-      let m = share_rises rest i j d some (omega arith) in
-      omega (arith, ints);
+      let a = move i (omega arith) in let b = move j l in let c = h.lanes i j lt l lane r s k er es in let m = share_rises rest i j d some (omega arith) in omega (arith, ints);
   steps = λ i l.
-      let a = move i (omega arith) in
-      let b = move (i + 1) l in
-      let c = h.steps i l in
-      let m = share_rises rest i (i + 1) d some (omega arith) in
-      omega (arith, ints);
+      let a = move i (omega arith) in let b = move (i + 1) l in let c = h.steps i l in let m = share_rises rest i (i + 1) d some (omega arith) in omega (arith, ints);
   springs = λ i l.
-      let a = move i (omega arith) in
-      let b = move (i + 1) l in
-      let c = h.springs i l in
-      let m = share_rises rest i (i + 1) d some (omega arith) in
-      omega (arith, ints);
+      let a = move i (omega arith) in let b = move (i + 1) l in let c = h.springs i l in let m = share_rises rest i (i + 1) d some (omega arith) in omega (arith, ints);
 }
 
 pub set_apart : (n : ℕ) (reach : ℕ → ℕ → Option Reach) (gaps : List ℕ) (spring : ℕ → ℕ → ℕ) (width force : ℕ) (at : List ℤ) → 0 < n → IsSet n reach gaps spring width force at → StandApart n reach gaps (spring force) at

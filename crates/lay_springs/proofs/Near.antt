@@ -18,12 +18,10 @@ pub next_near : (natural count natural' count' n g drop : ℕ) (before next y z 
     → (before +ℤ pos (n * (g + drop) / 256)) ≤ℤ next → ((w : ℤ) → (z +ℤ pos (slack natural count drop)) ≤ℤ w → (before +ℤ pos (n * (g + drop) / 256)) ≤ℤ w → next ≤ℤ w) → next ≤ℤ (z +ℤ pos (slack natural' count' drop))
 next_near natural count natural' count' n g drop before next y z held old spring past least = elim held [
   | inl h ↦ (
-      let more = slack_more natural count n g drop in
-      let is = h.0 in
+      let more = slack_more natural count n g drop in let is = h.0 in
       rw (h.1, h.2) (omega (arith, ints, old, spring, more, is)))
   | inr h ↦ (
-      let ne = h.0 in
-      let near = least (int_max (z +ℤ pos (slack natural count drop)) (before +ℤ pos (n * (g + drop) / 256))) (omega (arith, ints, clamps)) (omega (arith, ints, clamps)) in
+      let ne = h.0 in let near = least (int_max (z +ℤ pos (slack natural count drop)) (before +ℤ pos (n * (g + drop) / 256))) (omega (arith, ints, clamps)) (omega (arith, ints, clamps)) in
       rw (h.1, h.2) (omega (arith, ints, clamps, ne, near, past)))
 ]
 
@@ -32,7 +30,6 @@ pub end_near : (n : ℕ) (reach : ℕ → ℕ → Option Reach) (gaps : List ℕ
     → IsNear n reach gaps spring force natural count x → IsEndOf (reach (n - 1)) (length gaps) (slice_index_or x (n - 1) (pos 0)) e
     → (g drop width : ℕ) → g + drop ≡ force → CanStand n reach gaps spring width g → e ≤ℤ pos (width + slack natural count drop)
 end_near n reach gaps spring force natural count x e some near end g drop width is stands =
-    let last = near g drop stands.y is stands.apart (n - 1) (omega arith) in
-    let past = stands.past in
+    let last = near g drop stands.y is stands.apart (n - 1) (omega arith) in let past = stands.past in
     end.least (pos (width + slack natural count drop)) (omega (arith, ints))
     (λ lane r l er. let reached = stands.reaches lane r l er in omega (arith, ints))

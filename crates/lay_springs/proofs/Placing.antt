@@ -10,13 +10,7 @@ module _ (reach : ℕ → ℕ → Option Reach) (gaps : List ℕ) (spring : ℕ 
   pub placed_first : (x : List ℤ) (v : ℤ) → 0 < length x → pos 0 ≤ℤ v → IsInside (reach 0) (length gaps) v
       → ((w : ℤ) → pos 0 ≤ℤ w → IsInside (reach 0) (length gaps) w → v ≤ℤ w) → v ≤ℤ pos 1048576 → IsPlacedTo 1 reach gaps spring force 0 0 (slice_set x 0 v)
   placed_first x v room begins inside least small = record {
-    apart = record {
-      begins = λ _. rw here begins;
-      head = λ _. rw here inside;
-      lanes = λ i j lt le. absurd (omega arith);
-      steps = λ i l. absurd (omega arith);
-      springs = λ i l. absurd (omega arith);
-    };
+    apart = record { begins = λ _. rw here begins; head = λ _. rw here inside; lanes = λ i j lt le. absurd (omega arith); steps = λ i l. absurd (omega arith); springs = λ i l. absurd (omega arith) };
     near = λ g drop y e h k l. let z : 0 ≡ k = omega arith in let first = least (at y 0) (h.begins (omega arith)) (h.head (omega arith)) in
         subst (λ k. at (slice_set x 0 v) k ≤ℤ (at y k +ℤ pos (slack 0 0 drop))) z (rw here (omega (arith, ints)));
     small = λ k l. let z : 0 ≡ k = omega arith in

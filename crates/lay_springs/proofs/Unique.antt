@@ -7,6 +7,5 @@ one_place n reach gaps spring x y h k =
     let c = h.count in
     ext_get_or (pos 0) x y (h.count ∙ sym k.count)
     (λ i l.
-    let a = h.least y k.apart i (omega arith) in
-    let b = k.least x h.apart i (omega arith) in
+    let a = h.least y k.apart i (omega arith) in let b = k.least x h.apart i (omega arith) in
     omega (arith, ints))

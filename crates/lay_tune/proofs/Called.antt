@@ -8,8 +8,7 @@ abbrev marks_of : ℕ → ℕ → List ColumnKey → List StaffMarks → SystemM
 marks_of a b keys staves = record { a = a; b = b; keys = keys; staves = staves }
 
 same_marks : (a b c d : ℕ) (keys others : List ColumnKey) (staves more : List StaffMarks) → a ≡ c → b ≡ d → keys ≡ others → staves ≡ more → marks_of a b keys staves ≡ marks_of c d others more
-same_marks a b c d keys others staves more e f g h =
-    ap (λ x. marks_of x b keys staves) e ∙ (ap (λ x. marks_of c x keys staves) f ∙ (ap (λ x. marks_of c d x staves) g ∙ ap (λ x. marks_of c d others x) h))
+same_marks a b c d keys others staves more e f g h = ap (λ x. marks_of x b keys staves) e ∙ (ap (λ x. marks_of c x keys staves) f ∙ (ap (λ x. marks_of c d x staves) g ∙ ap (λ x. marks_of c d others x) h))
 
 -- there is a system of any measures
 pub has_system : (s : Score) (a b : ℕ) → (m : SystemMarks) × IsSystem s a b m

@@ -25,9 +25,7 @@ pub span_open : (s : Score) (width : ℕ) (starts others : List (List Column)) (
     → length starts ≡ s.measures → AreMeasures column_reach lanes starts others → AreColumnsOf s starts others → AreSpansOf s width spans
     → width < 2 ^ 32 → (a b : ℕ) → a < b → b ≤ s.measures → IsSome (listed spans a b) → CanBeSet s width (listed spans) a b
 span_open s width starts others spans lanes count measures join h narrow a b l m some =
-    let v = some_of (listed spans a b) some in
-    let cost = h.each a b v.0 l m v.1 in
-    let begun = measures.begun a (omega arith) in
+    let v = some_of (listed spans a b) some in let cost = h.each a b v.0 l m v.1 in let begun = measures.begun a (omega arith) in
     let first : 0 < length (span_columns starts others a b) = columns_some starts others a b l begun in
     record {
       rises = l;
@@ -35,9 +33,7 @@ span_open s width starts others spans lanes count measures join h narrow a b l m
       cost = v.0;
       costs_so = v.1;
       columns = λ marks is.
-          let columns = system_columns s marks in
-          let force = cost.pressed.2 marks is in
-          let some = subst (λ columns. 0 < length columns) (sym (join a b marks l m is)) first in
+          let columns = system_columns s marks in let force = cost.pressed.2 marks is in let some = subst (λ columns. 0 < length columns) (sym (join a b marks l m is)) first in
           let few = stand_few (length columns) (reach_at column_reach columns) (score_gaps s) (length_at column_length columns) width cost.pressed.0 some
           (stands (length columns) (reach_at column_reach columns) (score_gaps s) (length_at column_length columns) width cost.pressed.0 force.fits) in
           record { some = some; few = omega (arith, few, narrow); pressed = (cost.pressed.0, force, cost.pressed.1) };
@@ -50,9 +46,7 @@ past_last a (b ∷ bs) r = let h = past_last b bs r.1 in let l = r.0 in omega ar
 all_open : (P : ℕ → ℕ → Type 0) (cost : ℕ → ℕ → Option ℕ) (n : ℕ) → ((a b : ℕ) → a < b → b ≤ n → IsSome (cost a b) → P a b)
     → (a : ℕ) (bs : List ℕ) → RisesFrom a bs → FitsFrom cost a bs → last_from a bs ≤ n → AllSpans P a bs
 all_open P cost n h a [] r f l = tt
-all_open P cost n h a (b ∷ bs) r f l =
-    let p = past_last b bs r.1 in
-    (h a b r.0 (omega arith) f.0, all_open P cost n h b bs r.1 f.1 l)
+all_open P cost n h a (b ∷ bs) r f l = let p = past_last b bs r.1 in (h a b r.0 (omega arith) f.0, all_open P cost n h b bs r.1 f.1 l)
 
 -- the spans of the columns of measures are those of the score
 pub spans_read : (s : Score) (width : ℕ) (starts others : List (List Column)) (spans : List Span) (gaps forced : List ℕ)
@@ -83,8 +77,7 @@ pub chosen_read : (s : Score) (width : ℕ) (starts others : List (List Column))
     → width < 2 ^ 32 → IsChosen (listed spans) (is_forced s.measures forced) s.measures breaks → AllSpans (CanBeSet s width (listed spans)) 0 bars
 chosen_read s width starts others spans gaps forced breaks bars count is all ends measures join h narrow chosen =
     let exact = spans_read s width starts others spans gaps forced count is all join h in
-    let legal = (subst (λ these. IsChosen (listed spans) (is_forced s.measures these) s.measures breaks) all chosen).legal in
-    let last = legal.ends in
+    let legal = (subst (λ these. IsChosen (listed spans) (is_forced s.measures these) s.measures breaks) all chosen).legal in let last = legal.ends in
     subst (λ these. AllSpans (CanBeSet s width (listed spans)) 0 these) (sym ends)
     (all_open (CanBeSet s width (listed spans)) (listed spans) s.measures
     (λ a b l m some. span_open s width starts others spans (length (score_gaps s)) count measures join exact narrow a b l m some)
@@ -107,16 +100,11 @@ cause_read s width spans forced BreakError.Memory all form exact h = tt
 -- a score has few lanes
 small_sums : (n : ℕ) (staves : List (List DrawnVoice)) → n ≤ 255 → AllByRecursion (λ vs. sum_by (λ v. v.verses) vs ≤ n) staves → AllByRecursion (λ k. k ≤ 255) (map verses_on staves)
 small_sums n [] l h = tt
-small_sums n (vs ∷ staves) l h =
-    let all = sum-map (λ (v : DrawnVoice). v.verses) vs in
-    let here = h.0 in
-    (omega (arith, l, all, here), small_sums n staves l h.1)
+small_sums n (vs ∷ staves) l h = let all = sum-map (λ (v : DrawnVoice). v.verses) vs in let here = h.0 in (omega (arith, l, all, here), small_sums n staves l h.1)
 
 small_verses : (s : Score) → IsGoodScore s → All (λ n. n ≤ 255) (verses_of s)
 small_verses s good =
-    let voices = map drawn_voice s.voices in
-    let most = few_verses s good in
-    let all = sum-map (λ (v : DrawnVoice). v.verses) (map drawn_voice s.voices) in
+    let voices = map drawn_voice s.voices in let most = few_verses s good in let all = sum-map (λ (v : DrawnVoice). v.verses) (map drawn_voice s.voices) in
     All-from_recursion (λ n. n ≤ 255) (verses_of s)
     (small_sums (sum_by (λ v. v.verses) voices) (drawn_staves s) (omega (arith, most, all)) (none_more stands_lower (λ v. v.verses) voices))
 
@@ -127,10 +115,7 @@ staves_count s = let few = few_groups stands_lower (map drawn_voice s.voices) in
 pub few_lanes : (s : Score) (verses gaps : List ℕ) → IsGoodScore s → verses ≡ verses_of s → (All (λ v. v ≤ 255) verses → length gaps ≤ 258 * length verses) → length gaps < 4294967296
 few_lanes s verses gaps good is few =
     let small = few (subst (λ these. All (λ v. v ≤ 255) these) (sym is) (small_verses s good)) in
-    let count : length verses ≡ length (drawn_staves s) = ap (λ these. length these) is ∙ length-map (drawn_staves s) verses_on in
-    let staves = staves_count s in
-    let voices = good.few_voices in
-    omega arith
+    let count : length verses ≡ length (drawn_staves s) = ap (λ these. length these) is ∙ length-map (drawn_staves s) verses_on in let staves = staves_count s in let voices = good.few_voices in omega arith
 
 -- as many gaps as staves but the first
 same_seat : (v : Voice) → is_lower (drawn_voice v).seat ≡ is_lower v.seat
@@ -140,10 +125,8 @@ same_seat v = refl
 gaps_of_voices : (vs : List Voice) → length (gaps_between vs) ≡ length (grouped stands_lower (map drawn_voice vs)) - 1
 gaps_of_voices [] = refl
 gaps_of_voices (v ∷ vs) =
-    let drawn = ap (λ groups. length groups) (grouped_map drawn_voice lower stands_lower same_seat (v ∷ vs)) in
-    let same = length-map (grouped lower (v ∷ vs)) (map drawn_voice) in
-    let all = length-map (filter (λ v. not (lower v)) vs) (λ v. v.gap) in
-    omega (arith, drawn, same, all, count_grouped lower v vs)
+    let drawn = ap (λ groups. length groups) (grouped_map drawn_voice lower stands_lower same_seat (v ∷ vs)) in let same = length-map (grouped lower (v ∷ vs)) (map drawn_voice) in
+    let all = length-map (filter (λ v. not (lower v)) vs) (λ v. v.gap) in omega (arith, drawn, same, all, count_grouped lower v vs)
 
 pub gaps_count : (s : Score) (m : SystemMarks) (gaps : List ℕ) (staff : List DrawnVoice → StaffMarks) → gaps ≡ gaps_between s.voices → m.staves ≡ map staff (drawn_staves s) → length gaps ≡ length m.staves - 1
 gaps_count s m gaps staff is stand = ap (λ gs. length gs) is ∙ gaps_of_voices s.voices ∙ ap (λ n. n - 1) (sym (ap (λ these. length these) stand ∙ length-map (drawn_staves s) staff))

@@ -22,8 +22,7 @@ same_key m n t u c d p q e f g h = ap (λ x. key_at x t c p) e ∙ (ap (λ x. ke
 neither_below : (k l : ColumnKey) → is_below k l ≡ false → is_below l k ≡ false → k ≡ l
 unfolding is_below
 neither_below k l h g =
-    let measures = neither_first k.measure l.measure _ _ h g in
-    let ticks = neither_first k.tick l.tick _ _ measures.1 measures.2 in
+    let measures = neither_first k.measure l.measure _ _ h g in let ticks = neither_first k.tick l.tick _ _ measures.1 measures.2 in
     let classes = neither_first (class_number k.class) (class_number l.class) _ _ ticks.1 ticks.2 in
     same_key k.measure l.measure k.tick l.tick k.class l.class k.place l.place
     measures.0 ticks.0 (same_class k.class l.class classes.0) (neither_place k.place l.place classes.1 classes.2)
@@ -45,20 +44,13 @@ themselves keys rise = record { rise = rise; all = λ k has. has; only = λ k ha
 
 -- the key is in the list
 twice : (k l : ColumnKey) (ls : List ColumnKey) → k ≡ l → Rises (l ∷ ls) → AreKeys (l ∷ ls) (k ∷ l ∷ ls)
-twice k l ls e rise = record {
-  rise = rise;
-  all = λ x has. elim (first_or x k (l ∷ ls) has) [ inl f ↦ first x l ls (sym e ∙ f) | inr more ↦ more ];
-  only = λ x has. there x k (l ∷ ls) has;
-}
+twice k l ls e rise = record { rise = rise; all = λ x has. elim (first_or x k (l ∷ ls) has) [ inl f ↦ first x l ls (sym e ∙ f) | inr more ↦ more ]; only = λ x has. there x k (l ∷ ls) has }
 
 -- the key is put into the list behind the first
 put_behind : (k l : ColumnKey) (ls keys : List ColumnKey) → is_below l k ≡ true → BelowAll l ls → AreKeys keys (k ∷ ls) → AreKeys (l ∷ keys) (k ∷ l ∷ ls)
 put_behind k l ls keys h below are = record {
   rise = (
-    below_each l keys (λ x has. elim (first_or x k ls (are.only x has)) [
-      | inl e ↦ subst (λ y. is_below l y ≡ true) e h
-      | inr more ↦ below_in l x ls below more
-    ]),
+    below_each l keys (λ x has. elim (first_or x k ls (are.only x has)) [ inl e ↦ subst (λ y. is_below l y ≡ true) e h | inr more ↦ below_in l x ls below more ]),
     are.rise,
   );
   all = λ x has. elim (first_or x k (l ∷ ls) has) [
@@ -90,7 +82,4 @@ one_more k called keys more are with_it = record {
 -- every list of keys has a rising list of the same keys
 pub have_keys : (called : List ColumnKey) → (keys : List ColumnKey) × AreKeys keys called
 have_keys [] = ([], themselves [] tt)
-have_keys (k ∷ called) =
-    let most = have_keys called in
-    let all = put k most.0 most.1.rise in
-    (all.0, one_more k called most.0 all.0 most.1 all.1)
+have_keys (k ∷ called) = let most = have_keys called in let all = put k most.0 most.1.rise in (all.0, one_more k called most.0 all.0 most.1 all.1)

@@ -22,18 +22,13 @@ module _ {A : Type 0} (joins : A → Bool) where
 
   pub few_groups : (xs : List A) → length (grouped joins xs) ≤ length xs
   few_groups [] = omega arith
-  few_groups (x ∷ xs) =
-      let count = count_grouped x xs in
-      let starts = length-filter (λ y. not (joins y)) xs in
-      omega (arith, count, starts, count_by-le-length (λ y. not (joins y)) xs)
+  few_groups (x ∷ xs) = let count = count_grouped x xs in let starts = length-filter (λ y. not (joins y)) xs in omega (arith, count, starts, count_by-le-length (λ y. not (joins y)) xs)
 
   -- no group has more than all have
   module _ (f : A → ℕ) where
     each_less : (n : ℕ) (groups : List (List A)) → sum_by f (flat_map (λ g. g) groups) ≤ n → AllByRecursion (λ g. sum_by f g ≤ n) groups
     each_less n [] h = tt
-    each_less n (g ∷ groups) h =
-        let both = sum_by-append f g (flat_map (λ g. g) groups) in
-        (omega (arith, h, both), each_less n groups (omega (arith, h, both)))
+    each_less n (g ∷ groups) h = let both = sum_by-append f g (flat_map (λ g. g) groups) in (omega (arith, h, both), each_less n groups (omega (arith, h, both)))
 
     pub none_more : (xs : List A) → AllByRecursion (λ g. sum_by f g ≤ sum_by f xs) (grouped joins xs)
     none_more xs = each_less (sum_by f xs) (grouped joins xs) (subst (λ ys. sum_by f ys ≤ sum_by f xs) (sym (grouped_whole joins xs)) (omega arith))

@@ -13,15 +13,10 @@ pub record EndsWithin (n : ℕ) (reach : ℕ → ℕ → Option Reach) (gaps : L
 
 -- ---- abscissas rise
 pub rise_to : (n : ℕ) (reach : ℕ → ℕ → Option Reach) (gaps : List ℕ) (spring : ℕ → ℕ) (at : List ℤ) → StandApart n reach gaps spring at → (i k : ℕ) → i ≤ k → k < n → x_at at i ≤ℤ x_at at k
-rise_to n reach gaps spring at h i k l m =
-    let e : i + (k - i) ≡ k = omega arith in
-    rw e at (rises n reach gaps spring at h (k - i) i (omega arith))
+rise_to n reach gaps spring at h i k l m = let e : i + (k - i) ≡ k = omega arith in rw e at (rises n reach gaps spring at h (k - i) i (omega arith))
 
 pub stand_low : (n : ℕ) (reach : ℕ → ℕ → Option Reach) (gaps : List ℕ) (spring : ℕ → ℕ) (at : List ℤ) → StandApart n reach gaps spring at → (k : ℕ) → k < n → pos 0 ≤ℤ x_at at k
-stand_low n reach gaps spring at h k l =
-    let up = rise_to n reach gaps spring at h 0 k (omega arith) l in
-    let first = h.begins (omega arith) in
-    omega (arith, ints)
+stand_low n reach gaps spring at h k l = let up = rise_to n reach gaps spring at h 0 k (omega arith) l in let first = h.begins (omega arith) in omega (arith, ints)
 
 pub stand_within : (n : ℕ) (reach : ℕ → ℕ → Option Reach) (gaps : List ℕ) (spring : ℕ → ℕ) (width : ℕ) (at : List ℤ) → length at ≡ n
     → StandApart n reach gaps spring at → (0 < n → EndsWithin n reach gaps width at) → StandWithin width n at
@@ -30,9 +25,7 @@ stand_within n reach gaps spring width at count h ends = record {
   rise = λ i l. let s = h.steps i l in omega (arith, ints);
   low = λ i l. stand_low n reach gaps spring at h i l;
   high = λ i l.
-      let up = rise_to n reach gaps spring at h i (n - 1) (omega arith) (omega arith) in
-      let p = (ends (omega arith)).past in
-      omega (arith, ints);
+      let up = rise_to n reach gaps spring at h i (n - 1) (omega arith) (omega arith) in let p = (ends (omega arith)).past in omega (arith, ints);
 }
 
 -- ---- the end
@@ -41,10 +34,7 @@ module _ (n : ℕ) (reach : ℕ → ℕ → Option Reach) (gaps : List ℕ) (spr
   place_within : (at : List ℤ) → 0 < n → ((i : ℕ) → spring weak i ≤ spring force i) → Fits n reach gaps spring width force → IsPlace n reach gaps (spring weak) at → EndsWithin n reach gaps width at
   place_within at some le fits place =
       let last = place.least fits.1.x (apart_down n reach gaps (spring weak) (spring force) fits.1.x le fits.1.place.apart) (n - 1) (omega arith) in
-      record {
-        past = let a = fits.1.end.past in let b = fits.2 in omega (arith, ints);
-        reaches = λ lane r l e. let a = fits.1.end.reaches lane r l e in let b = fits.2 in omega (arith, ints);
-      }
+      record { past = let a = fits.1.end.past in let b = fits.2 in omega (arith, ints); reaches = λ lane r l e. let a = fits.1.end.reaches lane r l e in let b = fits.2 in omega (arith, ints) }
 
   share_whole : (rest d : ℕ) → 0 < d → rest * d / d ≡ rest
   share_whole rest d l = grind arith
@@ -52,12 +42,8 @@ module _ (n : ℕ) (reach : ℕ → ℕ → Option Reach) (gaps : List ℕ) (spr
   -- the last of columns that are set moves by all that was left
   moved_within : (at : List ℤ) → 1 < n → IsSet n reach gaps spring width weak at → EndsWithin n reach gaps width at
   moved_within at several is =
-      let m = is.moved several in
-      let rest = m.1 in
-      let whole : rest * (n - 1) / (n - 1) ≡ rest = share_whole rest (n - 1) (omega arith) in
-      let there = rw whole at (m.4 (n - 1) (omega arith)) in
-      let comes_to = m.3 in
-      record { past = let a = m.2.past in omega (arith, ints); reaches = λ lane r l e. let a = m.2.reaches lane r l e in omega (arith, ints) }
+      let m = is.moved several in let rest = m.1 in let whole : rest * (n - 1) / (n - 1) ≡ rest = share_whole rest (n - 1) (omega arith) in let there = rw whole at (m.4 (n - 1) (omega arith)) in
+      let comes_to = m.3 in record { past = let a = m.2.past in omega (arith, ints); reaches = λ lane r l e. let a = m.2.reaches lane r l e in omega (arith, ints) }
 
   pub set_within : (at : List ℤ) → 0 < n → ((i : ℕ) → spring weak i ≤ spring force i) → Fits n reach gaps spring width force → IsSet n reach gaps spring width weak at → EndsWithin n reach gaps width at
   set_within at some le fits is = elim (cases_lt 1 n) [
@@ -133,14 +119,11 @@ counts_same gaps width last cost columns most found h small high natural bound f
     by : (b : Bool) → is_ragged last h.pressed.0 ≡ b → (counted last found ≡ counted last h.pressed.0) × (is_ragged last found ≡ is_ragged last h.pressed.0)
     by false e =
         let costs = h.pressed.2 ∙ ap (λ b. badness_at (if b then 256 else h.pressed.0)) e in
-        let own = high h.pressed.0 h.pressed.1.bound (subst (λ v. badness_at h.pressed.0 ≤ v) (sym costs) (omega arith)) in
-        let same : found ≡ h.pressed.0 = omega (arith, own, least) in
+        let own = high h.pressed.0 h.pressed.1.bound (subst (λ v. badness_at h.pressed.0 ≤ v) (sym costs) (omega arith)) in let same : found ≡ h.pressed.0 = omega (arith, own, least) in
         (ap (counted last) same, ap (is_ragged last) same)
     by true e =
-        let ends = ragged_last last h.pressed.0 e in
-        let all = natural (h.pressed.2 ∙ ap (λ b. badness_at (if b then 256 else h.pressed.0)) e) in
-        let same : found ≡ 256 = omega (arith, ends.1, all, least) in
-        let ragged : is_ragged last found ≡ true = rw (same, ends.0) refl in
+        let ends = ragged_last last h.pressed.0 e in let all = natural (h.pressed.2 ∙ ap (λ b. badness_at (if b then 256 else h.pressed.0)) e) in
+        let same : found ≡ 256 = omega (arith, ends.1, all, least) in let ragged : is_ragged last found ≡ true = rw (same, ends.0) refl in
         (ap (λ b. if b then 256 else found) ragged ∙ sym (ap (λ b. if b then 256 else h.pressed.0) e), ragged ∙ sym e)
 
 -- ---- the columns of a system
@@ -153,8 +136,7 @@ pub span_set : {s : Score} {width a b : ℕ} {costs : ℕ → ℕ → Option ℕ
     → HaveForce gaps width (b == s.measures) fits.cost columns × ((p : Placed) → IsJustified gaps width (b == s.measures) columns p → IsPlaced s width (has_system s a b).0 p)
     × AreKeys (map (λ c. c.key) columns) (called_keys s (timeline_of s).lengths a b)
 span_set {s} {width} {a} {b} {costs} {gaps} starts others columns fits join are is =
-    let m = (has_system s a b).0 in
-    let call = (has_system s a b).1 in
+    let m = (has_system s a b).0 in let call = (has_system s a b).1 in
     let same : system_columns s (has_system s a b).0 ≡ columns = join a b m fits.rises fits.within call ∙ sym is in (
       subst (λ gs. HaveForce gs width (b == s.measures) fits.cost columns) (sym are)
           (subst (HaveForce (score_gaps s) width (b == s.measures) fits.cost) same (fits.columns m call)),

@@ -6,12 +6,10 @@ pub copies-more : (n : ℕ) (at : Spot) → copies (n + 1) at ≡ at ∷ copies 
 copies-more n at = rw add-one refl
 
 pub slurs-less : (count n : ℕ) (start end : Spot) (ends : List Spot) → n < count → slurs (copies (count - n) start) (end ∷ ends) ≡ slur start end ++ slurs (copies (count - (n + 1)) start) ends
-slurs-less count n start end ends lt =
-    let e : count - n ≡ suc (count - (n + 1)) = omega arith in rw e refl
+slurs-less count n start end ends lt = let e : count - n ≡ suc (count - (n + 1)) = omega arith in rw e refl
 
 pub drop-less : (count n : ℕ) (end : Spot) (ends : List Spot) → n < count → drop (count - n) (end ∷ ends) ≡ drop (count - (n + 1)) ends
-drop-less count n end ends lt =
-    let e : count - n ≡ suc (count - (n + 1)) = omega arith in rw e refl
+drop-less count n end ends lt = let e : count - n ≡ suc (count - (n + 1)) = omega arith in rw e refl
 
 pub slurs-none : (starts : List Spot) → slurs starts [] ≡ []
 slurs-none [] = refl

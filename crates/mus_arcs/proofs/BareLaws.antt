@@ -19,8 +19,7 @@ no_ties e (next ∷ events) h = untied e 0 e.heads next h
 none_of : (events : List EventAt) → All IsBare events → arcs_of events ≡ []
 none_of [] h = refl
 none_of (e ∷ events) h =
-    let parts = and_parts (e.begins == 0) (list_all (λ g. not g.tied) e.heads) (All-head IsBare e events h) in
-    rw (eqb-true e.begins 0 parts.0, no_ties e events parts.1) (none_of events (All-tail IsBare e events h))
+    let parts = and_parts (e.begins == 0) (list_all (λ g. not g.tied) e.heads) (All-head IsBare e events h) in rw (eqb-true e.begins 0 parts.0, no_ties e events parts.1) (none_of events (All-tail IsBare e events h))
 
 abbrev AllBare : List Event → Type 0
 AllBare events = All (λ e. is_bare_event e ≡ true) events
@@ -37,9 +36,7 @@ bare_node = ind-Music (λ m. is_bare m ≡ true → AllBare (events_within m)) (
 
 bare_body : (body : List Music) → list_all is_bare body ≡ true → AllBare (events_in body)
 bare_body [] h = All-nil (λ e. is_bare_event e ≡ true)
-bare_body (m ∷ ms) h =
-    let parts = and_parts (is_bare m) (list_all is_bare ms) h in
-    All-append (λ e. is_bare_event e ≡ true) (events_within m) (events_in ms) (bare_node m parts.0) (bare_body ms parts.1)
+bare_body (m ∷ ms) h = let parts = and_parts (is_bare m) (list_all is_bare ms) h in All-append (λ e. is_bare_event e ≡ true) (events_within m) (events_in ms) (bare_node m parts.0) (bare_body ms parts.1)
 
 all_bare : (number : ℕ) (ms : List Measure) → list_all (λ m. list_all is_bare m.body) ms ≡ true → All IsBare (walked_from number ms)
 all_bare number [] h = All-nil IsBare
@@ -52,6 +49,4 @@ pub no_arcs : (v : Voice) → list_all (λ m. list_all is_bare m.body) v.measure
 no_arcs v h = ap arcs_of (sym (walked 0 v.measures)) ∙ none_of (walked_from 0 v.measures) (all_bare 0 v.measures h)
 
 pub are_arcs : (v : Voice) (arcs : List Arc) → IsGoodVoice v → arcs ≡ arcs_of (events_of_voice v) → AreArcsOf (events_of_voice v) arcs
-are_arcs v arcs good e =
-    let all = events_of_voice v in
-    subst (AreArcsOf all) (sym e) (record { slurs_are = arcs_of-by_rule all; ties_are = arcs_of-ties_are all; in_order = voice-in_order v good })
+are_arcs v arcs good e = let all = events_of_voice v in subst (AreArcsOf all) (sym e) (record { slurs_are = arcs_of-by_rule all; ties_are = arcs_of-ties_are all; in_order = voice-in_order v good })

@@ -10,8 +10,7 @@ in_row-events : (ms : List ((m : Music) × Agrees m)) (qs ps : ℕ) (w : Waits) 
 unfolding Agrees
 in_row-events [] qs ps w = refl
 in_row-events (e ∷ ms) qs ps w =
-    let first = leaves_within e.0 qs ps w in
-    let others = in_row (map leaves_within (map (λ d. d.0) ms)) qs ps first.waits in
+    let first = leaves_within e.0 qs ps w in let others = in_row (map leaves_within (map (λ d. d.0) ms)) qs ps first.waits in
     map-append (λ f. f.event) first.flats others.flats ∙ ap (λ x. x ++ map (λ f. f.event) others.flats) (e.1 qs ps w) ∙ ap (λ x. events_within e.0 ++ x) (in_row-events ms qs ps first.waits)
 
 -- a layer, by its nodes and what is known of them
@@ -46,5 +45,4 @@ body_events-walked body = subst (λ ms. body_events ms ≡ events_in ms) (all_ag
 
 pub walked : (number : ℕ) (measures : List Measure) → walked_from number measures ≡ events_from number measures
 walked number [] = refl
-walked number (m ∷ ms) =
-    ap (λ x. map (at_measure number) x ++ walked_from (suc number) ms) (sym (body_events-walked m.body)) ∙ ap (λ x. map (at_measure number) (body_events m.body) ++ x) (walked (suc number) ms)
+walked number (m ∷ ms) = ap (λ x. map (at_measure number) x ++ walked_from (suc number) ms) (sym (body_events-walked m.body)) ∙ ap (λ x. map (at_measure number) (body_events m.body) ++ x) (walked (suc number) ms)

@@ -9,8 +9,7 @@ few_in f n h = omega (arith, h)
 flats_heads : (fs : List Flat) → sum_by flat_weight fs ≤ 50000 → All (λ e. length e.heads ≤ 50000) (map (λ f. f.event) fs)
 flats_heads [] few = All-nil (λ e. length e.heads ≤ 50000)
 flats_heads (f ∷ fs) few =
-    let sum = sum_by-cons flat_weight f fs in
-    All-cons (λ e. length e.heads ≤ 50000) f.event (map (λ g. g.event) fs) (few_in f (sum_by flat_weight fs) (omega (arith, sum, few))) (flats_heads fs (omega (arith, sum, few)))
+    let sum = sum_by-cons flat_weight f fs in All-cons (λ e. length e.heads ≤ 50000) f.event (map (λ g. g.event) fs) (few_in f (sum_by flat_weight fs) (omega (arith, sum, few))) (flats_heads fs (omega (arith, sum, few)))
 
 body_heads : (m : Measure) → IsGoodBody m.body → All (λ e. length e.heads ≤ 50000) (body_events m.body)
 body_heads m good =

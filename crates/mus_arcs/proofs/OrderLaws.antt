@@ -29,8 +29,7 @@ AreNumbered n (e ∷ events) = (e.event ≡ n) × AreNumbered (suc n) events
 numbered-from : (n : ℕ) (events : List EventAt) → AreNumbered n events → All (λ e. n ≤ e.event) events
 unfolding AreNumbered
 numbered-from n [] h = All-nil (λ e. n ≤ e.event)
-numbered-from n (e ∷ events) h =
-    All-cons (λ x. n ≤ x.event) e events (omega (arith, h.0)) (All-weaker (λ x. suc n ≤ x.event) (λ x. n ≤ x.event) (λ x le. omega arith) events (numbered-from (suc n) events h.1))
+numbered-from n (e ∷ events) h = All-cons (λ x. n ≤ x.event) e events (omega (arith, h.0)) (All-weaker (λ x. suc n ≤ x.event) (λ x. n ≤ x.event) (λ x le. omega arith) events (numbered-from (suc n) events h.1))
 
 numbered-rising : (n : ℕ) (events : List EventAt) → AreNumbered n events → AreRising events
 unfolding AreNumbered AreRising
@@ -102,10 +101,7 @@ Widens (a ∷ arcs) = All (λ other. a.last ≤ other.last) arcs × Widens arcs
 slur-last : (k : ℕ) (start end : Spot) → k ≤ end.event → All (λ a. k ≤ a.last) (slur start end)
 slur-last k start end le =
     let arc : Arc = record { tie = false; first = start.event; last = end.event; head = 0; from = start.measure; to = end.measure } in
-    elim (start.event == end.event) as (λ b. All (λ a. k ≤ a.last) (if b then [] else arc ∷ [])) [
-      | true ↦ All-nil (λ a. k ≤ a.last)
-      | false ↦ All-cons (λ a. k ≤ a.last) arc [] le (All-nil (λ a. k ≤ a.last))
-    ]
+    elim (start.event == end.event) as (λ b. All (λ a. k ≤ a.last) (if b then [] else arc ∷ [])) [ true ↦ All-nil (λ a. k ≤ a.last) | false ↦ All-cons (λ a. k ≤ a.last) arc [] le (All-nil (λ a. k ≤ a.last)) ]
 
 slurs-last : (k n : ℕ) (at : Spot) (ends : List Spot) → All (λ end. k ≤ end.event) ends → All (λ a. k ≤ a.last) (slurs (copies n at) ends)
 slurs-last k zero at ends h = All-nil (λ a. k ≤ a.last)
@@ -138,8 +134,7 @@ turned : (event : ℕ) (arcs : List Arc) → Widens arcs → All (IsSlurFrom eve
 unfolding Widens
 turned event [] h are = tt
 turned event (a ∷ arcs) h are =
-    let own = All-head (IsSlurFrom event) a arcs are in
-    let others = All-tail (IsSlurFrom event) a arcs are in
+    let own = All-head (IsSlurFrom event) a arcs are in let others = All-tail (IsSlurFrom event) a arcs are in
     let before = all_both (IsSlurFrom event) (λ x. a.last ≤ x.last) (λ x. All (ComesBefore x) (a ∷ [])) arcs
     (λ x s le. All-cons (ComesBefore x) a [] (at_one (s.first ∙ sym own.first) (slur_first x a s.slur own.slur le)) (All-nil (ComesBefore x))) others h.0 in
     subst AreInOrder (sym (reverse-append (a ∷ []) arcs)) (in_order-append (reverse arcs) (a ∷ []) (turned event arcs h.1 others) (All-nil (ComesBefore a), tt)

@@ -11,14 +11,12 @@ length-copies (suc n) at = ap suc (length-copies n at)
 slurs-starts : (starts more ends : List Spot) → slurs (starts ++ more) ends ≡ slurs starts ends ++ slurs more (drop (length starts) ends)
 slurs-starts [] more ends = refl
 slurs-starts (start ∷ starts) more [] = sym (ap (slurs more) (drop-nil (suc (length starts))) ∙ slurs-none more)
-slurs-starts (start ∷ starts) more (end ∷ ends) =
-    ap (λ x. slur start end ++ x) (slurs-starts starts more ends) ∙ sym (append_assoc (slur start end) (slurs starts ends) (slurs more (drop (length starts) ends)))
+slurs-starts (start ∷ starts) more (end ∷ ends) = ap (λ x. slur start end ++ x) (slurs-starts starts more ends) ∙ sym (append_assoc (slur start end) (slurs starts ends) (slurs more (drop (length starts) ends)))
 
 slurs-ends : (starts ends more : List Spot) → slurs starts (ends ++ more) ≡ slurs starts ends ++ slurs (drop (length ends) starts) more
 slurs-ends starts [] more = ap (λ x. x ++ slurs starts more) (sym (slurs-none starts))
 slurs-ends [] (end ∷ ends) more = ap (λ x. slurs x more) (sym (drop-nil (suc (length ends))))
-slurs-ends (start ∷ starts) (end ∷ ends) more =
-    ap (λ x. slur start end ++ x) (slurs-ends starts ends more) ∙ sym (append_assoc (slur start end) (slurs starts ends) (slurs (drop (length ends) starts) more))
+slurs-ends (start ∷ starts) (end ∷ ends) more = ap (λ x. slur start end ++ x) (slurs-ends starts ends more) ∙ sym (append_assoc (slur start end) (slurs starts ends) (slurs (drop (length ends) starts) more))
 
 -- the middle one of three parts goes to the front
 to_front : (xs ys zs : List Arc) → IsPermutation (xs ++ (ys ++ zs)) (ys ++ (xs ++ zs))
@@ -34,16 +32,13 @@ slurs_of (e ∷ events) = slurs_at e events ++ slurs_of events
 around_event : (b n : ℕ) (at : Spot) (starts ends : List Spot)
     → slurs (copies b at ++ starts) (copies n at) ++ slurs (drop n (copies b at ++ starts)) ends ≡ slurs (copies b at) (copies n at ++ ends) ++ slurs starts (drop b (copies n at ++ ends))
 around_event b n at starts ends =
-    let by_ends = slurs-ends (copies b at ++ starts) (copies n at) ends in
-    let by_starts = slurs-starts (copies b at) starts (copies n at ++ ends) in
+    let by_ends = slurs-ends (copies b at ++ starts) (copies n at) ends in let by_starts = slurs-starts (copies b at) starts (copies n at ++ ends) in
     ap (λ k. slurs (copies b at ++ starts) (copies n at) ++ slurs (drop k (copies b at ++ starts)) ends) (sym (length-copies n at)) ∙ sym by_ends
     ∙ by_starts ∙ ap (λ k. slurs (copies b at) (copies n at ++ ends) ++ slurs starts (drop k (copies n at ++ ends))) (length-copies b at)
 
 shuffled : (taken mine later rest mine_rest : List Arc) → taken ++ rest ≡ mine ++ mine_rest → IsPermutation (taken ++ (later ++ rest)) ((reverse mine ++ later) ++ mine_rest)
 shuffled taken mine later rest mine_rest e =
-    let front = to_front taken later rest in
-    let same = subst (λ l. IsPermutation (taken ++ (later ++ rest)) (later ++ l)) e front in
-    let back = to_front later mine mine_rest in
+    let front = to_front taken later rest in let same = subst (λ l. IsPermutation (taken ++ (later ++ rest)) (later ++ l)) e front in let back = to_front later mine mine_rest in
     let turned = IsPermutation-append_left (later ++ mine_rest) mine (reverse mine) (IsPermutation-reverse mine) in
     subst (λ l. IsPermutation (taken ++ (later ++ rest)) l) (sym (append_assoc (reverse mine) later mine_rest))
     (IsPermutation-trans _ _ _ same (IsPermutation-trans _ _ _ back turned))
@@ -52,10 +47,8 @@ by_rule : (starts : List Spot) (events : List EventAt) → IsPermutation (slurs_
 unfolding slurs_of
 by_rule starts [] = subst (λ l. IsPermutation [] l) (sym (slurs-none starts)) (IsPermutation-refl [])
 by_rule starts (e ∷ events) =
-    let unpaired = copies e.begins (spot e) ++ starts in
-    let taken = slurs unpaired (copies e.ends (spot e)) in
-    let mine = slurs (copies e.begins (spot e)) (copies e.ends (spot e) ++ open_ends events) in
-    let later = slurs_of events in
+    let unpaired = copies e.begins (spot e) ++ starts in let taken = slurs unpaired (copies e.ends (spot e)) in
+    let mine = slurs (copies e.begins (spot e)) (copies e.ends (spot e) ++ open_ends events) in let later = slurs_of events in
     IsPermutation-trans _ _ _
     (IsPermutation-append_right taken _ _ (by_rule (drop e.ends unpaired) events))
     (shuffled taken mine later (slurs (drop e.ends unpaired) (open_ends events)) (slurs starts (open_ends (e ∷ events))) (around_event e.begins e.ends (spot e) starts (open_ends events)))
@@ -92,8 +85,7 @@ slurs-are (suc n) at (end ∷ ends) = All-append (IsSlurFrom at.event) (slur at 
 
 pub slurs_at-are : (e : EventAt) (events : List EventAt) → All (IsSlurFrom e.event) (slurs_at e events)
 slurs_at-are e events =
-    let mine = slurs (copies e.begins (spot e)) (copies e.ends (spot e) ++ open_ends events) in
-    All-permutation (IsSlurFrom e.event) mine (reverse mine) (IsPermutation-reverse mine) (slurs-are e.begins (spot e) _)
+    let mine = slurs (copies e.begins (spot e)) (copies e.ends (spot e) ++ open_ends events) in All-permutation (IsSlurFrom e.event) mine (reverse mine) (IsPermutation-reverse mine) (slurs-are e.begins (spot e) _)
 
 pub tie-is : (e : EventAt) (place : ℕ) (head : Head) (next : EventAt) → All (IsTieFrom e.event place) (tie e place head next)
 tie-is e place head next =

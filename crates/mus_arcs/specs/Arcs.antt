@@ -25,9 +25,7 @@ slurs (start ∷ starts) (end ∷ ends) = slur start end ++ slurs starts ends
 -- last start that is not taken. `starts` are those not taken before these events, the last first.
 abbrev pub slurs_by_ends : List Spot → List EventAt → List Arc
 slurs_by_ends starts [] = []
-slurs_by_ends starts (e ∷ events) =
-    let unpaired = copies e.begins (spot e) ++ starts in
-    slurs unpaired (copies e.ends (spot e)) ++ slurs_by_ends (drop e.ends unpaired) events
+slurs_by_ends starts (e ∷ events) = let unpaired = copies e.begins (spot e) ++ starts in slurs unpaired (copies e.ends (spot e)) ++ slurs_by_ends (drop e.ends unpaired) events
 
 abbrev pub has_pitch : Pitch → Head → Bool
 has_pitch p head = same_letter head.pitch.letter p.letter && int_eq head.pitch.octave p.octave

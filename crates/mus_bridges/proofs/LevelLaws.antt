@@ -63,12 +63,9 @@ some_at k j (suc n) p qs low high = by (cases_lt j k) (λ l. some_at k (j + 1) n
     split = filter_append k (level_at j p qs) (levels_at (j + 1) n p qs) ∙ ap (λ t. t ++ filter (is_at k) (levels_at (j + 1) n p qs)) (one_level k j p qs)
 
     by : (j < k) ⊎ (k ≤ j) → (j < k → filter (is_at k) (levels_at (j + 1) n p qs) ≡ level_at k p qs) → filter (is_at k) (levels_at j (suc n) p qs) ≡ level_at k p qs
-    by (inl l) more =
-        let other : (j == k) ≡ false = ne_eqb j k (λ e. omega (arith, e, l)) in
-        split ∙ (λ i. cond (other i) (level_at j p qs) [] ++ more l i)
+    by (inl l) more = let other : (j == k) ≡ false = ne_eqb j k (λ e. omega (arith, e, l)) in split ∙ (λ i. cond (other i) (level_at j p qs) [] ++ more l i)
     by (inr g) more =
-        let same : j ≡ k = omega (arith, low, g) in
-        split ∙ (λ i. cond (eq-eqb j k same i) (level_at (same i) p qs) [] ++ none_at k (j + 1) n p qs (λ l. absurd (omega (arith, l, g))) i) ∙ append-nil (level_at k p qs)
+        let same : j ≡ k = omega (arith, low, g) in split ∙ (λ i. cond (eq-eqb j k same i) (level_at (same i) p qs) [] ++ none_at k (j + 1) n p qs (λ l. absurd (omega (arith, l, g))) i) ∙ append-nil (level_at k p qs)
 
 alone : (k j n : ℕ) (p : Stem) → filter (is_at k) (levels_at j n p []) ≡ []
 alone k j zero p = refl
@@ -106,10 +103,8 @@ begins_not : (k group flags : ℕ) (p : Stem) (qs : List Stem) → goes_on_from 
     filter (is_at k) (levels_at (levels_before p group flags) (p.flags - levels_before p group flags) p qs) ≡ []
 unfolding goes_on_from levels_before
 begins_not k group flags p qs e =
-    let parts = and_both ((p.group == group) && nat_lt k p.flags) (nat_lt k flags) e in
-    let more = and_both (p.group == group) (nat_lt k p.flags) parts.0 in
-    let below : k < flags = ltb-true k flags parts.1 in
-    rw more.0 (none_at k flags (p.flags - flags) p qs (λ l. absurd (omega (arith, l, below))))
+    let parts = and_both ((p.group == group) && nat_lt k p.flags) (nat_lt k flags) e in let more = and_both (p.group == group) (nat_lt k p.flags) parts.0 in
+    let below : k < flags = ltb-true k flags parts.1 in rw more.0 (none_at k flags (p.flags - flags) p qs (λ l. absurd (omega (arith, l, below))))
 
 begins_here : (k group flags : ℕ) (p : Stem) (qs : List Stem) → k < p.flags → goes_on_from k group flags p ≡ false →
     filter (is_at k) (levels_at (levels_before p group flags) (p.flags - levels_before p group flags) p qs) ≡ level_at k p qs
@@ -122,9 +117,7 @@ begins_here k group flags p qs has e = step (p.group == group) (ap (λ b. ((p.gr
 
 begins_never : (k group flags : ℕ) (p : Stem) (qs : List Stem) → p.flags ≤ k →
     filter (is_at k) (levels_at (levels_before p group flags) (p.flags - levels_before p group flags) p qs) ≡ []
-begins_never k group flags p qs few =
-    let lb = levels_before p group flags in
-    none_at k lb (p.flags - lb) p qs (λ l. omega (arith, few, l))
+begins_never k group flags p qs few = let lb = levels_before p group flags in none_at k lb (p.flags - lb) p qs (λ l. omega (arith, few, l))
 
 -- the levels that are drawn are those of the runs, event by event
 levels_are : (k group flags : ℕ) (es : List Stem) → filter (is_at k) (levels_of group flags es) ≡ long_runs k (fresh k group flags es)
@@ -171,8 +164,7 @@ levels_are k group flags (p ∷ q ∷ qs) =
     begun false e f = refl
 
     by : (b : Bool) → goes_on_from k group flags p ≡ b → (k < p.flags) ⊎ (p.flags ≤ k) →
-        filter (is_at k) here ++ long_runs k (skip (goes_on_from k p.group p.flags q) ((q ∷ r) ∷ rs))
-        ≡ long_runs k (skip (goes_on_from k group flags p) (put_before (joins k) p ((q ∷ r) ∷ rs)))
+        filter (is_at k) here ++ long_runs k (skip (goes_on_from k p.group p.flags q) ((q ∷ r) ∷ rs)) ≡ long_runs k (skip (goes_on_from k group flags p) (put_before (joins k) p ((q ∷ r) ∷ rs)))
     by true e h =
         ap (λ t. t ++ long_runs k (skip (goes_on_from k p.group p.flags q) ((q ∷ r) ∷ rs))) (begins_not k group flags p (q ∷ qs) e)
         ∙ two (goes_on_from k p.group p.flags q) (goes_on_from k group flags p) e

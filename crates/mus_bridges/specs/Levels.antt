@@ -45,10 +45,7 @@ pub record AreLevels (es : List Stem) (ls : List Level) : Type 0 where
 
 -- the beam of a level, between the lower edges at its ends
 abbrev pub bridge_of : Level → Bridge
-bridge_of l =
-    let p = l.first in
-    let q = l.last in
-    beam (way_of p.up) p.key q.key (lower_edge p.up p.to l.level) (lower_edge q.up q.to l.level)
+bridge_of l = let p = l.first in let q = l.last in beam (way_of p.up) p.key q.key (lower_edge p.up p.to l.level) (lower_edge q.up q.to l.level)
 
 pub record AreBeams (es : List Stem) (marks : List Bridge) : Type 0 where
   pub levels : List Level

@@ -53,8 +53,7 @@ drawn_good style tick now (f ∷ fs) (p ∷ ps) good reach can near few count =
 pub measure_good : (style : Style) (now : Standing) (fs flats : List Flat) (plans : List StemPlan) (o : Opening) (es : List DrawnEvent) (bar : Bar) → flats ≡ fs → o ≡ opening_of now flats → es ≡ drawn_events style 0 now flats plans
     → IsGoodKey now.key → AreInReach now.clef fs → AllCanDraw fs → AllEndsNear plans → sum_by flat_weight flats ≤ 50000 → sum_by flat_count flats ≤ 50000 → IsGoodMeasure (record { seat = style.seat; opening = o; events = es; bar = bar })
 measure_good style now fs flats plans o es bar same opens made good reach can near few count =
-    let can_here = subst AllCanDraw (sym same) can in
-    let reach_here = subst (AreInReach now.clef) (sym same) reach in
+    let can_here = subst AllCanDraw (sym same) can in let reach_here = subst (AreInReach now.clef) (sym same) reach in
     record {
       opening = subst (λ x. IsGoodKey x.key) (sym opens) (opening_good now flats good can_here);
       events = subst AreGoodDrawn (sym made) (drawn_good style 0 now flats plans good reach_here can_here near few count);
@@ -67,5 +66,4 @@ can_cut (f ∷ fs) gs h = let r = can_cut fs gs h.1 in ((h.0, r.0), r.1)
 pub voice_can_draw : (verses : ℕ) (fs : List Flat) → verses ≤ 8 → All (IsGoodEvent verses) fs → AllCanDraw fs
 voice_can_draw verses [] few h = tt
 voice_can_draw verses (f ∷ fs) few h =
-    let own = All-head (IsGoodEvent verses) f fs h in
-    (record { key = own.key; words = omega (arith, few, own.words) }, voice_can_draw verses fs few (All-tail (IsGoodEvent verses) f fs h))
+    let own = All-head (IsGoodEvent verses) f fs h in (record { key = own.key; words = omega (arith, few, own.words) }, voice_can_draw verses fs few (All-tail (IsGoodEvent verses) f fs h))

@@ -58,16 +58,12 @@ by_partner None None p said spread signs = refl
 head_is : (spread : Spread) (before : List Seen) (e : Seen) (earlier : List Head) (h : Head) →
     heard spread e.signs (heard_before spread before) (e.said ++ earlier) (heard_along (sounds_as spread before e) [] earlier) h ≡ record { head = h; alter = sounds_as spread before e earlier h }
 head_is spread [] e earlier h =
-    let sound = sounds_as spread [] e in
-    let otherwise = alteration_of h.pitch None (e.said ++ earlier) spread e.signs in
-    let so_far = heard_along sound [] earlier in
+    let sound = sounds_as spread [] e in let otherwise = alteration_of h.pitch None (e.said ++ earlier) spread e.signs in let so_far = heard_along sound [] earlier in
     ap (λ a. record { head = h; alter = a })
     (by_partner h.sign (partner_of [] so_far h.pitch) h.pitch (e.said ++ earlier) spread e.signs
     ∙ ap (λ t. alter_by h.sign t otherwise) (none_cond (list_any (is_heard_at h.pitch) so_far)))
 head_is spread (d ∷ before) e earlier h =
-    let sound = sounds_as spread (d ∷ before) e in
-    let otherwise = alteration_of h.pitch None (e.said ++ earlier) spread e.signs in
-    let so_far = heard_along sound [] earlier in
+    let sound = sounds_as spread (d ∷ before) e in let otherwise = alteration_of h.pitch None (e.said ++ earlier) spread e.signs in let so_far = heard_along sound [] earlier in
     let tied = tied_sound (sounds_as spread before d) h.pitch [] d.heads in
     ap (λ a. record { head = h; alter = a })
     (by_partner h.sign (partner_of (heard_before spread (d ∷ before)) so_far h.pitch) h.pitch (e.said ++ earlier) spread e.signs ∙ ap (λ t. alter_by h.sign t otherwise)
@@ -79,8 +75,7 @@ heads_are : (spread : Spread) (before : List Seen) (e : Seen) (earlier hs : List
     heard_from spread e.signs (heard_before spread before) (e.said ++ earlier) (heard_along (sounds_as spread before e) [] earlier) hs ≡ heard_along (sounds_as spread before e) [] (earlier ++ hs)
 heads_are spread before e earlier [] = ap (λ t. heard_along (sounds_as spread before e) [] t) (sym (append-nil earlier))
 heads_are spread before e earlier (h ∷ hs) =
-    let sound = sounds_as spread before e in
-    let so_far = heard_along sound [] earlier in
+    let sound = sounds_as spread before e in let so_far = heard_along sound [] earlier in
     let next : so_far ++ heard spread e.signs (heard_before spread before) (e.said ++ earlier) so_far h ∷ [] ≡ heard_along sound [] (earlier ++ h ∷ [])
     = ap (λ x. so_far ++ x ∷ []) (head_is spread before e earlier h) ∙ sym (along_append sound [] earlier h) in
     (λ i. heard_from spread e.signs (heard_before spread before) (append_assoc e.said earlier (h ∷ []) i) (next i) hs) ∙ heads_are spread before e (earlier ++ h ∷ []) hs
@@ -107,15 +102,13 @@ event_is spread now front before f =
 
 sounds_are : (sound : Sounding) (voice event k : ℕ) (earlier hs : List Head) → sounds_from voice event k (heard_along sound earlier hs) ≡ head_sounds sound voice event k earlier hs
 sounds_are sound voice event k earlier [] = refl
-sounds_are sound voice event k earlier (h ∷ hs) =
-    ap (λ t. record { voice = voice; event = event; head = k; pitch = h.pitch; alter = sound earlier h } ∷ t) (sounds_are sound voice event (k + 1) (earlier ++ h ∷ []) hs)
+sounds_are sound voice event k earlier (h ∷ hs) = ap (λ t. record { voice = voice; event = event; head = k; pitch = h.pitch; alter = sound earlier h } ∷ t) (sounds_are sound voice event (k + 1) (earlier ++ h ∷ []) hs)
 
 events_are : (voice : ℕ) (spread : Spread) (now : Standing) (front : List Flat) (before : List Seen) (fs : List Flat) →
     events_sounds voice spread (standing_behind now front) (flat_map all_heads front) (heard_before spread before) fs ≡ event_sounds voice spread before (seen_from now front fs)
 events_are voice spread now front before [] = refl
 events_are voice spread now front before (f ∷ fs) =
-    let e = seen now front f in
-    let h = event_is spread now front before f in
+    let e = seen now front f in let h = event_is spread now front before f in
     (λ i. sounds_from voice f.event.id 0 (h i) ++ events_sounds voice spread (sym (standing_next now front f) i) (sym (said_next front f) i) (h i) fs)
     ∙ (λ i. sounds_are (sounds_as spread before e) voice f.event.id 0 [] f.event.heads i ++ events_are voice spread now (front ++ f ∷ []) (e ∷ before) fs i)
 
@@ -144,8 +137,7 @@ measures_are : (voice : ℕ) (spread : Spread) (now : Standing) (before : List S
     measures_sounds voice spread now (heard_before spread before) ms ≡ event_sounds voice spread before (seen_in now ms)
 measures_are voice spread now before [] = refl
 measures_are voice spread now before (m ∷ ms) =
-    let fs = flats_of m.body in
-    let now_behind = standing_behind now fs in
+    let fs = flats_of m.body in let now_behind = standing_behind now fs in
     (λ i. events_are voice spread now [] before fs i ++ measures_sounds voice spread now_behind (behind_are spread now [] before fs i) ms)
     ∙ ap (λ t. event_sounds voice spread before (seen_from now [] fs) ++ t) (measures_are voice spread now_behind (behind before (seen_from now [] fs)) ms)
     ∙ sym (sounds_append voice spread before (seen_from now [] fs) (seen_in now_behind ms))

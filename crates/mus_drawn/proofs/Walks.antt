@@ -4,9 +4,7 @@ use Rattle.mus_score.specs.{declared.score.Flat.Flat, declared.score.Measure.Mea
 use Rattle.mus_drawn.{specs.{declared.{drawn.{DrawnMeasure.DrawnMeasure, Style.Style}, standing.Standing.Standing}, Drawn.{standing_behind, drawn_measure, drawn_measures}, Good.AllCanDraw}, proofs.{Reaches.reach_cut, GoodLaws.can_cut}}
 
 pub measures_cut : (ms : List Measure) (i : ℕ) (m : Measure) → i < length ms → m ≡ get_or ms i m → drop i ms ≡ m ∷ drop (i + 1) ms
-measures_cut ms i m inside here =
-    let one : suc i ≡ i + 1 = omega arith in
-    drop-cons ms i m inside ∙ ap (λ x. x ∷ drop (suc i) ms) (sym here) ∙ ap (λ n. m ∷ drop n ms) one
+measures_cut ms i m inside here = let one : suc i ≡ i + 1 = omega arith in drop-cons ms i m inside ∙ ap (λ x. x ∷ drop (suc i) ms) (sym here) ∙ ap (λ n. m ∷ drop n ms) one
 
 pub reach_here : (now : Standing) (ms : List Measure) (i : ℕ) (m : Measure) → i < length ms → m ≡ get_or ms i m → AreInReach now.clef (events_of (drop i ms))
     → AreInReach now.clef (flats_of m.body) × AreInReach (standing_behind now (flats_of m.body)).clef (events_of (drop (i + 1) ms))

@@ -56,12 +56,7 @@ opening_of now (f ∷ fs) = opening_at (standing_after now f.event.changes) (is_
 
 unfoldable pub drawn_measure : Style → Standing → Measure → DrawnMeasure
 drawn_measure style now m =
-    let flats = flats_of m.body in record {
-      seat = style.seat;
-      opening = opening_of now flats;
-      events = drawn_events style 0 now flats (stems_of style.wish flats (clefs_from now.clef flats));
-      bar = m.bar;
-    }
+    let flats = flats_of m.body in record { seat = style.seat; opening = opening_of now flats; events = drawn_events style 0 now flats (stems_of style.wish flats (clefs_from now.clef flats)); bar = m.bar }
 
 abbrev pub drawn_measures : Style → Standing → List Measure → List DrawnMeasure
 drawn_measures style now [] = []

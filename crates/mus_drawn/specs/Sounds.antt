@@ -34,8 +34,7 @@ alter_by None None otherwise = otherwise
 -- a head of an event behind those before it in the event, where the events before are seen from it, the nearest first
 abbrev pub sounds_as : Spread → List Seen → Seen → Sounding
 sounds_as spread [] e earlier h = alter_by h.sign None (alteration_of h.pitch None (e.said ++ earlier) spread e.signs)
-sounds_as spread (d ∷ before) e earlier h =
-    alter_by h.sign (comes_tied (tied_sound (sounds_as spread before d) h.pitch [] d.heads) h.pitch earlier) (alteration_of h.pitch None (e.said ++ earlier) spread e.signs)
+sounds_as spread (d ∷ before) e earlier h = alter_by h.sign (comes_tied (tied_sound (sounds_as spread before d) h.pitch [] d.heads) h.pitch earlier) (alteration_of h.pitch None (e.said ++ earlier) spread e.signs)
 
 -- the heads of an event, those of its graces first
 abbrev pub grace_heads : Flat → List Head
@@ -59,8 +58,7 @@ seen_in now (m ∷ ms) = seen_from now [] (flats_of m.body) ++ seen_in (standing
 -- heads from number k on
 abbrev pub head_sounds : Sounding → ℕ → ℕ → ℕ → List Head → List Head → List Sound
 head_sounds sound voice event k earlier [] = []
-head_sounds sound voice event k earlier (h ∷ hs) =
-    record { voice = voice; event = event; head = k; pitch = h.pitch; alter = sound earlier h } ∷ head_sounds sound voice event (k + 1) (earlier ++ h ∷ []) hs
+head_sounds sound voice event k earlier (h ∷ hs) = record { voice = voice; event = event; head = k; pitch = h.pitch; alter = sound earlier h } ∷ head_sounds sound voice event (k + 1) (earlier ++ h ∷ []) hs
 
 -- events in a row, behind those before them, the nearest first
 abbrev pub event_sounds : ℕ → Spread → List Seen → List Seen → List Sound

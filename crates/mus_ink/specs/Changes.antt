@@ -36,6 +36,4 @@ count_if old (Some key) = new_count old key.signs
 
 -- a change: the clef in force there, the old key's signs, and what changes
 unfoldable pub change_marks : Clef → List Sign → Changes → List Drawn
-change_marks c old changes =
-    let x = behind_clef changes.clef in
-    clef_if changes.clef ++ key_if c (x + entry_gap) old changes.key ++ meter_if (x + entry_step * count_if old changes.key) changes.meter
+change_marks c old changes = let x = behind_clef changes.clef in clef_if changes.clef ++ key_if c (x + entry_gap) old changes.key ++ meter_if (x + entry_step * count_if old changes.key) changes.meter

@@ -38,9 +38,7 @@ at_end false g end = []
 
 -- signs, ledgers and heads
 unfoldable pub grace_body : Clef → List Head → List Drawn
-grace_body c heads =
-    let stands = map (stand_of c) heads in
-    sign_marks c heads (signs_from (back grace_sign_side) stands) ++ ledger_marks (ledgers_of (low_of stands) (high_of stands)) ++ grace_heads c heads
+grace_body c heads = let stands = map (stand_of c) heads in sign_marks c heads (signs_from (back grace_sign_side) stands) ++ ledger_marks (ledgers_of (low_of stands) (high_of stands)) ++ grace_heads c heads
 
 -- a grace alone has a flag, and the first of a group its slash
 abbrev pub ends : Group → Bool → List Drawn

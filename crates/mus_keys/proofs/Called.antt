@@ -67,8 +67,7 @@ module _ (lengths : List ℕ) (style : Style) where
   some_measures m zero n in_head signed now xs s = first_measures m n in_head signed now xs s
   some_measures m (suc a) zero in_head signed now [] s = refl
   some_measures m (suc a) (suc n) in_head signed now [] s = refl
-  some_measures m (suc a) n in_head signed now (x ∷ xs) s =
-      some_measures m a n in_head (signed_through signed (flats_of x.body)) (standing_behind now (flats_of x.body)) xs (through_same signed now (flats_of x.body) s)
+  some_measures m (suc a) n in_head signed now (x ∷ xs) s = some_measures m a n in_head (signed_through signed (flats_of x.body)) (standing_behind now (flats_of x.body)) xs (through_same signed now (flats_of x.body) s)
 
 -- a voice with a staff of its own calls for the columns that its drawing has, and a lower one for those of its notes and graces
 pub voice_same : (lengths : List ℕ) (a b : ℕ) (v : Voice) → all_keys lengths a b v ≡ voice_columns lengths a b (drawn_voice v)
@@ -99,8 +98,7 @@ called_same false s lengths m = each_same (measure_keys lengths m) (staff_column
 pub keys_placed : (s : Score) (t : Timeline) (a b : ℕ) (keys : List ColumnKey) → t ≡ timeline_of s → IsGoodScore s → a < b → b ≤ s.measures
     → AreKeys keys (called_keys s t.lengths a b) → All (IsInSystem t.lengths a b) keys
 keys_placed s t a b keys timed good order within are =
-    let same = ap (λ t. t.lengths) timed in
-    subst (λ ls. All (IsInSystem ls a b) keys) (sym same) (places_of s a b keys good order within (subst (λ ls. AreKeys keys (called_keys s ls a b)) same are))
+    let same = ap (λ t. t.lengths) timed in subst (λ ls. All (IsInSystem ls a b) keys) (sym same) (places_of s a b keys good order within (subst (λ ls. AreKeys keys (called_keys s ls a b)) same are))
 
 pub called_places : (begins : Bool) (s : Score) (m : ℕ) (keys : List ColumnKey) → IsGoodScore s → m < s.measures → AreKeys keys (keys_called begins s (timeline_of s).lengths m) → All (IsInSystem (timeline_of s).lengths m (m + 1)) keys
 called_places true s m keys good within are = places_of s m (m + 1) keys good (omega arith) (omega (arith, within)) are

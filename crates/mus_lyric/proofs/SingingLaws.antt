@@ -12,8 +12,7 @@ behind_all count (note ∷ before) notes h = behind_all count before notes (All-
 notes_from-before : (count : ℕ) (before notes : List NoteAt) → AreBefore count before → notes_from count (before ++ notes) ≡ notes_from count notes
 notes_from-before count [] notes h = refl
 notes_from-before count (note ∷ before) notes h =
-    let lt : note.measure < count = All-head (λ n. n.measure < count) note before h in
-    rw (lt-ltb note.measure count lt) (notes_from-before count before notes (All-tail (λ n. n.measure < count) note before h))
+    let lt : note.measure < count = All-head (λ n. n.measure < count) note before h in rw (lt-ltb note.measure count lt) (notes_from-before count before notes (All-tail (λ n. n.measure < count) note before h))
 
 notes_from-reaches : (count : ℕ) (note : NoteAt) (notes : List NoteAt) → count ≤ note.measure → notes_from count (note ∷ notes) ≡ note ∷ notes
 notes_from-reaches count note notes le = rw (le-ltb note.measure count le) refl
@@ -21,8 +20,7 @@ notes_from-reaches count note notes le = rw (le-ltb note.measure count le) refl
 notes_from-none : (count : ℕ) (notes : List NoteAt) → AreBefore count notes → notes_from count notes ≡ []
 notes_from-none count [] h = refl
 notes_from-none count (note ∷ notes) h =
-    let lt : note.measure < count = All-head (λ n. n.measure < count) note notes h in
-    rw (lt-ltb note.measure count lt) (notes_from-none count notes (All-tail (λ n. n.measure < count) note notes h))
+    let lt : note.measure < count = All-head (λ n. n.measure < count) note notes h in rw (lt-ltb note.measure count lt) (notes_from-none count notes (All-tail (λ n. n.measure < count) note notes h))
 
 -- what was passed over to come to the first note that the count reaches
 record Passes (count : ℕ) (notes : List NoteAt) (note : NoteAt) (behind : List NoteAt) : Type 0 where
@@ -38,12 +36,7 @@ Found count notes (note ∷ behind) = Passes count notes note behind
 passing : (count : ℕ) (note : NoteAt) (notes found : List NoteAt) → note.measure < count → Found count notes found → Found count (note ∷ notes) found
 unfolding Found
 passing count note notes [] lt h = All-cons (λ n. n.measure < count) note notes lt h
-passing count note notes (first ∷ behind) lt h = record {
-  before = note ∷ h.before;
-  are = ap (λ x. note ∷ x) h.are;
-  earlier = All-cons (λ n. n.measure < count) note h.before lt h.earlier;
-  reaches = h.reaches;
-}
+passing count note notes (first ∷ behind) lt h = record { before = note ∷ h.before; are = ap (λ x. note ∷ x) h.are; earlier = All-cons (λ n. n.measure < count) note h.before lt h.earlier; reaches = h.reaches }
 
 found : (count : ℕ) (notes : List NoteAt) → Found count notes (notes_from count notes)
 unfolding Found
@@ -92,17 +85,9 @@ sings_on syl syls count passed notes [] t h f on =
     dropped count (passed ++ notes) syl syls [] t (All-append (λ n. n.measure < count) passed notes h f)
     (subst (Sings count (passed ++ notes) syls) (sung_from-none syls count notes f) (on count passed notes h))
 sings_on syl syls count passed notes (note ∷ behind) t h f on =
-    let before : List NoteAt = passed ++ f.before in
-    let earlier : AreBefore count before = All-append (λ n. n.measure < count) passed f.before h f.earlier in
+    let before : List NoteAt = passed ++ f.before in let earlier : AreBefore count before = All-append (λ n. n.measure < count) passed f.before h f.earlier in
     takes count (passed ++ notes) syl syls note (before ++ behind) (sung_from syls note.measure behind) t
-    (record {
-      before = before;
-      behind = behind;
-      are = ap (λ x. passed ++ x) f.are ∙ sym (append_assoc passed f.before (note ∷ behind));
-      left_are = refl;
-      earlier = earlier;
-      reaches = f.reaches;
-    })
+    (record { before = before; behind = behind; are = ap (λ x. passed ++ x) f.are ∙ sym (append_assoc passed f.before (note ∷ behind)); left_are = refl; earlier = earlier; reaches = f.reaches })
     (on note.measure before behind (later count note.measure before f.reaches earlier))
 
 sings : (syls : List Syl) (count : ℕ) (passed notes : List NoteAt) → AreBefore count passed → Sings count (passed ++ notes) syls (sung_from syls count notes)

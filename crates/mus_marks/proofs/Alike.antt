@@ -114,8 +114,7 @@ module _ (keys : List ColumnKey) (place : Place) where
       → marks_shape (event_marks keys (Some place) m in_head before after e) ≡ marks_shape (event_marks keys (Some none) m in_head before after (flat_event e))
   unfolding event_marks
   event m in_head before after e =
-      let r = note_rank keys m e in let drawn = in_head || is_lower e.seat in
-      let front = change_part keys m drawn (flat_event e) ++ graces_part keys m e in
+      let r = note_rank keys m e in let drawn = in_head || is_lower e.seat in let front = change_part keys m drawn (flat_event e) ++ graces_part keys m e in
       joined laid_shape (change_part keys m drawn e ++ graces_part keys m e ++ note_part keys m before after e) (words_part r (Some place) e.flat) (front ++ note_part keys m before after (flat_event e)) (words_part r (Some none) e.flat)
       (joined laid_shape (change_part keys m drawn e ++ graces_part keys m e) (note_part keys m before after e) front (note_part keys m before after (flat_event e))
       (ap (λ t. marks_shape (t ++ graces_part keys m e)) (change m drawn e)) (ranked r _ _ (note r e.clef (raise_of e.seat) e.flat.event e.plan (pos 0) before after)))
@@ -327,8 +326,7 @@ slice_flat a b ds = sym (take-map flat_measure (b - a) (drop a ds)) ∙ ap (take
 module _ (keys : List ColumnKey) (lengths : List ℕ) (a b : ℕ) where
   bridges : (v : DrawnVoice) → map (span keys) (bridges_of lengths a b v) ≡ map (span keys) (bridges_of lengths a b (flat_all v))
   bridges v =
-      let ds = slice_range v.measures a b in
-      let es = slice_range (map flat_measure v.measures) a b in
+      let ds = slice_range v.measures a b in let es = slice_range (map flat_measure v.measures) a b in
       joined (span keys) (beams_between a ds ++ grace_beams_between a ds) (arcs_between lengths a b v.measures v.arcs) (beams_between a es ++ grace_beams_between a es) _
       (joined (span keys) (beams_between a ds) (grace_beams_between a ds) (beams_between a es) (grace_beams_between a es)
       (all_beams keys a ds ∙ ap (λ t. map (span keys) (beams_between a t)) (slice_flat a b v.measures))
@@ -343,9 +341,7 @@ module _ (keys : List ColumnKey) (lengths : List ℕ) (a b : ℕ) where
       → map marks_shape (written_parts keys lengths room a b first before vs) ≡ map marks_shape (written_parts keys lengths (no_room room.verses) a b first before (map flat_all vs))
   written room first before [] = refl
   written room first before (v ∷ vs) =
-      let place : Place = record { room = room; first = first; before = before } in
-      let part = own_part keys lengths (Some place) a b v in
-      let other = own_part keys lengths (Some (unplaced place)) a b (flat_all v) in
+      let place : Place = record { room = room; first = first; before = before } in let part = own_part keys lengths (Some place) a b v in let other = own_part keys lengths (Some (unplaced place)) a b (flat_all v) in
       ap (λ t. t ∷ map marks_shape (written_parts keys lengths room a b (first + v.verses) (texts_behind (length keys) before part) vs)) (own place v)
       ∙ ap (λ t. marks_shape other ∷ t) (written room (first + v.verses) (texts_behind (length keys) before part) vs
       ∙ ap (λ t. map marks_shape (written_parts keys lengths (no_room room.verses) a b (first + v.verses) t (map flat_all vs))) (same_texts (length keys) before part other (own place v)))
@@ -361,9 +357,7 @@ module _ (keys : List ColumnKey) (lengths : List ℕ) (a b : ℕ) where
   staff : (vs : List DrawnVoice) → staff_shape (staff_marks keys lengths a b vs) ≡ flat_staff (verses_on vs) (map flat_all vs)
   unfolding staff_marks staff_over room_over
   staff vs =
-      let room = room_over (verses_on vs) (bare_marks keys lengths a b vs) in
-      let parts = written_parts keys lengths room a b 1 [] vs in
-      let bridges = flat_map (bridges_of lengths a b) vs in
+      let room = room_over (verses_on vs) (bare_marks keys lengths a b vs) in let parts = written_parts keys lengths room a b 1 [] vs in let bridges = flat_map (bridges_of lengths a b) vs in
       map-append laid_shape (by_columns (length keys) parts) (map (bridge_at keys) bridges)
       ∙ ap (λ t. t ++ marks_shape (map (bridge_at keys) bridges)) (columns_shaped (length keys) parts ∙ ap (by_columns (length keys)) (written room 1 [] vs))
       ∙ ap (λ t. by_columns (length keys) (map marks_shape (written_parts keys lengths (no_room (verses_on vs)) a b 1 [] (map flat_all vs))) ++ t)

@@ -58,8 +58,7 @@ module _ {X : Type 0} (h : Laid → Option X) (r : ℕ) (only : (x : Laid) → s
 
   rank_away : (k : ℕ) (parts : List (List Laid)) → (k ≡ r → ⊥) → filter_map h (at_rank parts k) ≡ []
   rank_away k [] other = refl
-  rank_away k (part ∷ parts) other =
-      filter_map-append h (filter (stands_at k) part) (at_rank parts k) ∙ ap (λ t. t ++ filter_map h (at_rank parts k)) (taken_away k part other) ∙ rank_away k parts other
+  rank_away k (part ∷ parts) other = filter_map-append h (filter (stands_at k) part) (at_rank parts k) ∙ ap (λ t. t ++ filter_map h (at_rank parts k)) (taken_away k part other) ∙ rank_away k parts other
 
   ranks_away : (parts : List (List Laid)) (k n : ℕ) → r < k → filter_map h (flat_map (at_rank parts) (range_with_len k n)) ≡ []
   ranks_away parts k zero less = refl
@@ -98,8 +97,7 @@ module _ (r : ℕ) (x : Laid) (stands : stands_at r x ≡ true) where
   ranks_have : (parts : List (List Laid)) (k i n : ℕ) → k + i ≡ r → i < n → Contains (at_rank parts r) x → Contains (flat_map (at_rank parts) (range_with_len k n)) x
   ranks_have parts k i zero e less has = absurd (omega (arith, less))
   ranks_have parts k zero (suc n) e less has =
-      let same : r ≡ k = omega (arith, e) in
-      Contains-append_left (at_rank parts k) (flat_map (at_rank parts) (range_with_len (k + 1) n)) x (subst (λ q. Contains (at_rank parts q) x) same has)
+      let same : r ≡ k = omega (arith, e) in Contains-append_left (at_rank parts k) (flat_map (at_rank parts) (range_with_len (k + 1) n)) x (subst (λ q. Contains (at_rank parts q) x) same has)
   ranks_have parts k (suc i) (suc n) e less has =
       Contains-append_right (at_rank parts k) (flat_map (at_rank parts) (range_with_len (k + 1) n)) x (ranks_have parts (k + 1) i n (omega (arith, e)) (omega (arith, less)) has)
 

@@ -30,8 +30,7 @@ at_place r (suc i) q x (t ∷ texts) d is at inside =
 
 short : (r q : ℕ) (x : Laid) (texts : List Texts) → anchor_rank x.mark ≡ Some q → r + length texts ≤ q → with_text r x texts ≡ texts
 short r q x [] is far = refl
-short r q x (t ∷ texts) is far =
-    ap (λ b. cond b (counted x t) t ∷ with_text (r + 1) x texts) (stands_not r q x is (λ e. omega (arith, e, far))) ∙ ap (λ z. t ∷ z) (short (r + 1) q x texts is (omega (arith, far)))
+short r q x (t ∷ texts) is far = ap (λ b. cond b (counted x t) t ∷ with_text (r + 1) x texts) (stands_not r q x is (λ e. omega (arith, e, far))) ∙ ap (λ z. t ∷ z) (short (r + 1) q x texts is (omega (arith, far)))
 
 pub counted_there : (q : ℕ) (x : Laid) (texts : List Texts) (d : Texts) → anchor_rank x.mark ≡ Some q → q < length texts → set texts q (counted x (get_or texts q d)) ≡ with_text 0 x texts
 counted_there q x texts d is inside = sym (at_place 0 q q x texts d is (omega arith) inside)

@@ -123,9 +123,7 @@ ended_fits verses = all_ended (FitsMeasure verses) (λ ends d fits. (fits.0, ove
 
 ended_back : (a : ℕ) (ends : List (List ℤ)) (v : DrawnVoice) → a ≤ length v.measures → voice_ended a (voice_left a v ends) (voice_ended a ends v) ≡ v
 ended_back a ends v within =
-    let ms = v.measures in
-    let both = seam a ms (over measure_ended ends (drop a ms)) within in
-    let left = voice_left a v ends in
+    let ms = v.measures in let both = seam a ms (over measure_ended ends (drop a ms)) within in let left = voice_left a v ends in
     ap (λ z. record v { measures = z ++ over measure_ended left (drop a (voice_ended a ends v).measures) }) both.0
     ∙ ap (λ z. record v { measures = take a ms ++ over measure_ended left z }) both.1
     ∙ ap (λ z. record v { measures = take a ms ++ z }) (undone measure_ended measure_left measure_back ends (drop a ms))
@@ -135,8 +133,7 @@ voices_back : (a : ℕ) (ends : List (List (List ℤ))) (vs : List DrawnVoice) �
 voices_back a [] [] long = refl
 voices_back a [] (v ∷ vs) long = refl
 voices_back a (t ∷ ts) [] long = refl
-voices_back a (t ∷ ts) (v ∷ vs) long =
-    ap (λ z. z ∷ over (voice_ended a) (over (voice_left a) vs ts) (over (voice_ended a) ts vs)) (ended_back a t v long.0) ∙ ap (λ z. v ∷ z) (voices_back a ts vs long.1)
+voices_back a (t ∷ ts) (v ∷ vs) long = ap (λ z. z ∷ over (voice_ended a) (over (voice_left a) vs ts) (over (voice_ended a) ts vs)) (ended_back a t v long.0) ∙ ap (λ z. v ∷ z) (voices_back a ts vs long.1)
 
 pub whole : {A : Type 0} (n : ℕ) (xs ys : List A) → length xs ≡ n → take n (xs ++ ys) ≡ xs
 whole zero [] ys h = refl

@@ -56,9 +56,7 @@ staves_fit s good = grouped_all stands_lower FitsVoice (map drawn_voice s.voices
 verses_few : (vs : List Voice) → AllByRecursion IsGoodVoice vs → verses_on (map drawn_voice vs) ≤ 8 * length vs
 unfolding drawn_voice
 verses_few [] good = omega arith
-verses_few (v ∷ vs) good =
-    let count = verses_cons (drawn_voice v) (map drawn_voice vs) in let own = good.0.few_verses in
-    omega (arith, count, own, verses_few vs good.1)
+verses_few (v ∷ vs) good = let count = verses_cons (drawn_voice v) (map drawn_voice vs) in let own = good.0.few_verses in omega (arith, count, own, verses_few vs good.1)
 
 pub few_verses : (s : Score) → IsGoodScore s → verses_on (map drawn_voice s.voices) ≤ 128
 few_verses s good = omega (arith, verses_few s.voices (recursion_from_All IsGoodVoice s.voices good.voices), good.few_voices)

@@ -20,8 +20,7 @@ events_behind : (style : Style) (e : DrawnEvent) (tick id : ℕ) (now : Standing
 events_behind style e tick id now [] ps later more count = tt
 events_behind style e tick id now (f ∷ fs) [] later more count = tt
 events_behind style e tick id now (f ∷ fs) (p ∷ ps) later more count =
-    let own = count.0 in
-    ((later, omega (arith, own, more)), events_behind style e (tick + f.duration) (suc id) (standing_after now f.event.changes) fs ps (omega (arith, later)) (omega (arith, more)) count.1)
+    let own = count.0 in ((later, omega (arith, own, more)), events_behind style e (tick + f.duration) (suc id) (standing_after now f.event.changes) fs ps (omega (arith, later)) (omega (arith, more)) count.1)
 
 events_go_on : (style : Style) (tick id : ℕ) (now : Standing) (fs : List Flat) (ps : List StemPlan) → AllByRecursion IsGoodFlat fs → AreCounted id fs → GoOn (drawn_events style tick now fs ps)
 events_go_on style tick id now [] ps good count = tt
@@ -43,8 +42,7 @@ measure_goes_on style now m n good count = events_go_on style 0 n now (flats_of 
 measures_go_on : (style : Style) (now : Standing) (ms : List Measure) (n : ℕ) → AllByRecursion (λ m. IsGoodBody m.body) ms → AreCounted n (events_of ms) → AllGoOn (drawn_measures style now ms)
 measures_go_on style now [] n good count = tt
 measures_go_on style now (m ∷ ms) n good count =
-    let parts = counted_cut n (flats_of m.body) (events_of ms) count in
-    (measure_goes_on style now m n good.0 parts.0, measures_go_on style (standing_behind now (flats_of m.body)) ms parts.1.0 good.1 parts.1.1)
+    let parts = counted_cut n (flats_of m.body) (events_of ms) count in (measure_goes_on style now m n good.0 parts.0, measures_go_on style (standing_behind now (flats_of m.body)) ms parts.1.0 good.1 parts.1.1)
 
 pub voice_goes_on : (v : Voice) → IsGoodVoice v → AllGoOn (drawn_voice v).measures
 unfolding drawn_voice

@@ -18,14 +18,10 @@ unfolding meter_marks
 meter r dx Meter.Free good = tt
 meter r dx Meter.Common good = (omega arith, tt)
 meter r dx Meter.Cut good = (omega arith, tt)
-meter r dx (Meter.Ratio num den) good =
-    let small = halving_small den good.2 in (digits_few num good.1, (digits_few den (omega (arith, small)), tt))
+meter r dx (Meter.Ratio num den) good = let small = halving_small den good.2 in (digits_few num good.1, (digits_few den (omega (arith, small)), tt))
 
 shown_few : (t : List ℕ) → IsShown t → length t ≤ 60
-shown_few t h =
-    let mapped = length-map (take 60 h.text) printed_byte in
-    let taken = length-take 60 h.text in
-    subst (λ u. length u ≤ 60) (sym h.is) (omega (arith, mapped, taken))
+shown_few t h = let mapped = length-map (take 60 h.text) printed_byte in let taken = length-take 60 h.text in subst (λ u. length u ≤ 60) (sym h.is) (omega (arith, mapped, taken))
 
 span_good : (first last : ℕ) (span : Span) → IsGoodMark (span_at first last span)
 span_good first last (Span.Beam way from to) = tt

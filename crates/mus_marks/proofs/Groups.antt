@@ -30,9 +30,7 @@ module _ {A : Type 0} (joins : A → Bool) where
   group_step : {B : Type 0} (f : List A → B) (x : A) (more rest group after : List A) (n : ℕ) (out new whole : List B) → rest ≡ x ∷ more → n ≡ prefix_len joins more → group ≡ take (n + 1) rest → after ≡ drop (n + 1) rest
       → new ≡ out ++ f group ∷ [] → out ++ map f (grouped joins rest) ≡ whole → new ++ map f (grouped joins after) ≡ whole
   group_step f x more rest group after n out new whole e1 e2 e3 e4 e5 so_far =
-      let k = prefix_len joins more in
-      let g : group ≡ x ∷ take k more = e3 ∙ rw (e1, e2, one_past k) refl in
-      let a : after ≡ drop k more = e4 ∙ rw (e1, e2, one_past k) refl in
+      let k = prefix_len joins more in let g : group ≡ x ∷ take k more = e3 ∙ rw (e1, e2, one_past k) refl in let a : after ≡ drop k more = e4 ∙ rw (e1, e2, one_past k) refl in
       rw (e5, g, a) (append_assoc out (f (x ∷ take k more) ∷ []) (map f (grouped joins (drop k more))) ∙ sym (ap (λ t. out ++ map f t) (ap (grouped joins) e1 ∙ grouped_front x more)) ∙ so_far)
 
   pub group_turn : {B : Type 0} (f : List A → B) (rest : List A) (n : ℕ) (out new whole : List B) → 1 ≤ length rest → n ≡ prefix_len joins (take (length rest - 1) (drop 1 rest))

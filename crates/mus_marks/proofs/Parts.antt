@@ -114,8 +114,7 @@ module _ (verses : ℕ) (keys : List ColumnKey) (P : Laid → Type 0) (w : OfLai
   events_all : (own : ℕ) (place : Option Place) (m : ℕ) (in_head : Bool) (group flags : ℕ) (es : List DrawnEvent) → InPlace verses own place → AllByRecursion (FitsEvent own) es
       → AllByRecursion P (events_marks keys place m in_head group flags es)
   events_all own place m in_head group flags [] numbered fits = tt
-  events_all own place m in_head group flags (e ∷ es) numbered fits =
-      two _ _ (event_all own place m in_head _ _ e numbered fits.0) (events_all own place m false e.plan.group e.plan.flags es numbered fits.1)
+  events_all own place m in_head group flags (e ∷ es) numbered fits = two _ _ (event_all own place m in_head _ _ e numbered fits.0) (events_all own place m false e.plan.group e.plan.flags es numbered fits.1)
 
   pub measures_all : (own : ℕ) (lengths : List ℕ) (place : Option Place) (m : ℕ) (in_head : Bool) (ds : List DrawnMeasure) → InPlace verses own place → Fits own ds
       → AllByRecursion P (measures_marks keys lengths place m in_head ds)

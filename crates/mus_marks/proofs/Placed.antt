@@ -13,8 +13,7 @@ module _ (columns : ℕ) (v : DrawnVoice) (behind rest : List DrawnVoice) (place
 
   pub next_first : place.first + verses_on rest ≤ 129 → next.first + verses_on behind ≤ 129
   next_first few =
-      let count = ap verses_on front ∙ verses_cons v behind in let first = ap (λ p. p.first) is in
-      by follows (omega (arith, few, count)) first
+      let count = ap verses_on front ∙ verses_cons v behind in let first = ap (λ p. p.first) is in by follows (omega (arith, few, count)) first
     where
       by : (b : Bool) → place.first + (v.verses + verses_on behind) ≤ 129 → next.first ≡ (place_behind columns place v.verses part b).first → next.first + verses_on behind ≤ 129
       by true h e = omega (arith, h, e)

@@ -48,8 +48,7 @@ abbrev pub words_part : ℕ → Option Place → Flat → List Laid
 words_part r place f = map (drawn_at r) (words_marks place r f)
 
 unfoldable pub event_marks : List ColumnKey → Option Place → ℕ → Bool → ℕ → ℕ → DrawnEvent → List Laid
-event_marks keys place m in_head before after e =
-    change_part keys m (in_head || is_lower e.seat) e ++ graces_part keys m e ++ note_part keys m before after e ++ words_part (note_rank keys m e) place e.flat
+event_marks keys place m in_head before after e = change_part keys m (in_head || is_lower e.seat) e ++ graces_part keys m e ++ note_part keys m before after e ++ words_part (note_rank keys m e) place e.flat
 
 -- the levels of an event, where its beam is that of the plan
 abbrev pub levels_in : StemPlan → ℕ → ℕ → ℕ

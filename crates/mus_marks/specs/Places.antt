@@ -8,10 +8,7 @@ HasVerses place = IfSome place (λ p. p.first ≤ 240)
 
 -- the texts of a column, with a mark that stands in it
 abbrev pub counted : Laid → Texts → Texts
-counted x texts = record {
-  above = if is_words x.mark && is_above x.lane then texts.above + 1 else texts.above;
-  below = if is_words x.mark && is_below_staff x.lane then texts.below + 1 else texts.below;
-}
+counted x texts = record { above = if is_words x.mark && is_above x.lane then texts.above + 1 else texts.above; below = if is_words x.mark && is_below_staff x.lane then texts.below + 1 else texts.below }
 
 -- those of columns from rank r on, with a mark; and with the marks of a part
 abbrev pub with_text : ℕ → Laid → List Texts → List Texts

@@ -76,8 +76,7 @@ texts_behind n before part = map (λ r. texts_with (slice_index_or before r no_t
 abbrev pub written_parts : List ColumnKey → List ℕ → Room → ℕ → ℕ → ℕ → List Texts → List DrawnVoice → List (List Laid)
 written_parts keys lengths room a b first before [] = []
 written_parts keys lengths room a b first before (v ∷ vs) =
-    let part = own_part keys lengths (Some (record { room = room; first = first; before = before })) a b v in
-    part ∷ written_parts keys lengths room a b (first + v.verses) (texts_behind (length keys) before part) vs
+    let part = own_part keys lengths (Some (record { room = room; first = first; before = before })) a b v in part ∷ written_parts keys lengths room a b (first + v.verses) (texts_behind (length keys) before part) vs
 
 -- marks, and how low and how high they reach
 unfoldable pub staff_over : List Laid → StaffMarks
@@ -87,8 +86,7 @@ staff_over all = record { marks = all; low = cut (staff_heights all).low; high =
 -- what goes between columns, voice by voice. The head, the bar before the first measure, changes and bars are the first voice's.
 unfoldable pub staff_marks : List ColumnKey → List ℕ → ℕ → ℕ → List DrawnVoice → StaffMarks
 staff_marks keys lengths a b voices =
-    let room = room_over (verses_on voices) (bare_marks keys lengths a b voices) in
-    staff_over (by_columns (length keys) (written_parts keys lengths room a b 1 [] voices) ++ staff_bridges keys lengths a b voices)
+    let room = room_over (verses_on voices) (bare_marks keys lengths a b voices) in staff_over (by_columns (length keys) (written_parts keys lengths room a b 1 [] voices) ++ staff_bridges keys lengths a b voices)
 
 -- a staff covers at least its lines
 abbrev pub CoversLines : StaffMarks → Type 0

@@ -25,8 +25,7 @@ sign_decides s t = (same, λ e. subst (λ u. same_sign s u ≡ true) e (grind (a
     same : same_sign s t ≡ true → s ≡ t
     same e =
         let parts = and_parts (same_letter s.letter t.letter) (int_eq (alter_of s.alter) (alter_of t.alter)) e in
-        let a = alters_same s.alter t.alter ((Decides-int_eq (alter_of s.alter) (alter_of t.alter)).0 parts.1) in
-        λ i. record { letter = letters_same s.letter t.letter parts.0 i; alter = a i }
+        let a = alters_same s.alter t.alter ((Decides-int_eq (alter_of s.alter) (alter_of t.alter)).0 parts.1) in λ i. record { letter = letters_same s.letter t.letter parts.0 i; alter = a i }
 
 few_sharps : (a : Alter) (n : ℕ) → n < 7 → is_signature (sharps_by a (pos (suc n))) ≡ true
 few_sharps Alter.Flat n few = grind (arith, nat_tests, ints)
@@ -81,8 +80,7 @@ numbered n few many = (omega (arith, ints), omega (arith, ints))
 in_key : (p : Pitch) (n : ℤ) → is_signature n ≡ true → InWindow n (place p.letter (key_alter p (signs_of n)))
 unfolding fits
 in_key p n few =
-    let bounds = is_few n few in
-    let k = numbered n bounds.0 bounds.1 in
+    let bounds = is_few n few in let k = numbered n bounds.0 bounds.1 in
     in_window n (place p.letter (key_alter p (signs_of n))) (subst (λ m. fits p.letter m ≡ true) k.1 (in_keys p.letter (unsigned_abs (n +ℤ pos 7)) k.0))
 
 -- ---- letters and semitones of a pitch
@@ -126,8 +124,7 @@ div_exact (negsuc a) w e = omega (arith, ints)
 pub move_is : (sharps by : ℤ) → IsMove (move_for sharps by)
 unfolding move_for
 move_is sharps by =
-    let rounds = div_rem ((sharps +ℤ (pos 7 *ℤ by)) +ℤ pos 5) in
-    let change = new_sharps sharps by -ℤ sharps in
+    let rounds = div_rem ((sharps +ℤ (pos 7 *ℤ by)) +ℤ pos 5) in let change = new_sharps sharps by -ℤ sharps in
     record {
       octaves = octaves_between change by;
       fifths = div_exact ((pos 7 *ℤ change) -ℤ by) ((pos 4 *ℤ by) -ℤ (pos 7 *ℤ int_div_euclid ((sharps +ℤ (pos 7 *ℤ by)) +ℤ pos 5) (pos 12))) (omega (arith, ints));
@@ -146,13 +143,8 @@ lattice n by j d t h s h' s' e f g v w = omega (arith, ints)
 -- the alteration that a key has for a letter, and the moved key for the moved one
 pub key_higher : (m : Move) (p : Pitch) (k : Key) → IsMove m → key_may m k ≡ true → Higher m p (key_alter p k.signs) (key_alter (moved_pitch m p) (key_by m k).signs)
 key_higher m p k move may =
-    let n = sharps_in k.signs in
-    let keys = and_parts (on_circle k) (is_signature (n +ℤ m.sharps)) may in
-    let signs = key_signs k keys.0 in
-    let q = moved_pitch m p in
-    let a = key_alter p (signs_of n) in
-    let b = key_alter q (signs_of (n +ℤ m.sharps)) in
-    let v : InWindow n ((pos 7 *ℤ semitones p a) -ℤ (pos 12 *ℤ steps p)) = rw (fifths_are p a) (in_key p n signs.0) in
+    let n = sharps_in k.signs in let keys = and_parts (on_circle k) (is_signature (n +ℤ m.sharps)) may in let signs = key_signs k keys.0 in let q = moved_pitch m p in
+    let a = key_alter p (signs_of n) in let b = key_alter q (signs_of (n +ℤ m.sharps)) in let v : InWindow n ((pos 7 *ℤ semitones p a) -ℤ (pos 12 *ℤ steps p)) = rw (fifths_are p a) (in_key p n signs.0) in
     let w : InWindow (n +ℤ m.sharps) ((pos 7 *ℤ semitones q b) -ℤ (pos 12 *ℤ steps q)) = rw (fifths_are q b) (in_key q (n +ℤ m.sharps) keys.1) in
     subst (λ s. Higher m p (key_alter p s) b) (sym signs.1)
     (record { by = lattice n m.semitones m.sharps m.letters move.octaves (semitones p a) (steps p) (semitones q b) (steps q) move.fifths move.letters (steps_moved m p) v w })

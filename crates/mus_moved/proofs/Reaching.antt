@@ -19,8 +19,7 @@ same_pitch p r = same_letter p.letter r.letter && int_eq p.octave r.octave
 apart_decides : (p r : Pitch) → Decides (same_letter p.letter r.letter) ((k : ℤ) × (steps p -ℤ steps r ≡ pos 7 *ℤ k)) × Decides (same_pitch p r) (steps p -ℤ steps r ≡ pos 0)
 unfolding steps
 apart_decides p r =
-    let a = few_letters p.letter in
-    let b = few_letters r.letter in
+    let a = few_letters p.letter in let b = few_letters r.letter in
     let letters = Decides-eqb (number_of p.letter) (number_of r.letter) in (
       Decides-like (same_letter p.letter r.letter) (λ (e : number_of p.letter ≡ number_of r.letter). (p.octave -ℤ r.octave, omega (arith, ints))) (λ h. let e = h.1 in omega (arith, ints)) letters,
       Decides-like (same_pitch p r) (λ (h : (number_of p.letter ≡ number_of r.letter) × (p.octave ≡ r.octave)). let e = h.0 in let o = h.1 in omega (arith, ints)) (λ e. (omega (arith, ints), omega (arith, ints)))
@@ -29,8 +28,7 @@ apart_decides p r =
 
 kept : (P : ℤ → Type 0) (b c : Bool) (m : Move) (p r : Pitch) → Decides b (P (steps (moved_pitch m p) -ℤ steps (moved_pitch m r))) → Decides c (P (steps p -ℤ steps r)) → b ≡ c
 kept P b c m p r d e =
-    let apart : steps (moved_pitch m p) -ℤ steps (moved_pitch m r) ≡ steps p -ℤ steps r = omega (arith, ints, steps_moved m p, steps_moved m r) in
-    same_from_decides b c (subst (λ z. Decides b (P z)) apart d) e
+    let apart : steps (moved_pitch m p) -ℤ steps (moved_pitch m r) ≡ steps p -ℤ steps r = omega (arith, ints, steps_moved m p, steps_moved m r) in same_from_decides b c (subst (λ z. Decides b (P z)) apart d) e
 
 letter_kept : (m : Move) (p r : Pitch) → same_letter (moved_pitch m p).letter (moved_pitch m r).letter ≡ same_letter p.letter r.letter
 letter_kept m p r =
@@ -55,8 +53,7 @@ reach_letter Spread.Pitch p r e = e
 pub carried : {m : Move} {a b : Alter} (p r : Pitch) → same_letter p.letter r.letter ≡ true → Higher m p a b → Higher m r a b
 unfolding semitones steps
 carried {m} p r e h =
-    let here = letters_same p.letter r.letter e in
-    let there = letters_same (moved_pitch m p).letter (moved_pitch m r).letter (letter_kept m p r ∙ e) in
+    let here = letters_same p.letter r.letter e in let there = letters_same (moved_pitch m p).letter (moved_pitch m r).letter (letter_kept m p r ∙ e) in
     record { by = omega (arith, ints, steps_moved m p, steps_moved m r, ap number_of here, ap number_of there, ap natural_of here, ap natural_of there) }
 
 alter_is : (z : ℤ) (a : Alter) → is_some (alter_from z) ≡ true → alter_of (unwrap_or (alter_from z) a) ≡ z

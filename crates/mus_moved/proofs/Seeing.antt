@@ -54,8 +54,7 @@ seen_from_moved m now front (f ∷ fs) =
 pub seen_in_moved : (m : Move) (now : Standing) (ms : List Measure) → seen_in (moved_standing m now) (map (measure_by m) ms) ≡ map (moved_seen m) (seen_in now ms)
 seen_in_moved m now [] = refl
 seen_in_moved m now (x ∷ ms) =
-    let fs = flats_of x.body in
-    let others = map (measure_by m) ms in
+    let fs = flats_of x.body in let others = map (measure_by m) ms in
     (λ i. let gs = flats_changed (event_by m) (λ e. refl) x.body i in seen_from (moved_standing m now) [] gs ++ seen_in (standing_behind (moved_standing m now) gs) others)
     ∙ (λ i. seen_from_moved m now [] fs i ++ seen_in (behind_moved m now fs i) others)
     ∙ ap (λ es. map (moved_seen m) (seen_from now [] fs) ++ es) (seen_in_moved m (standing_behind now fs) ms)
@@ -81,9 +80,7 @@ row_passes test [] [] z qs ps w e g = (tt {0}, g)
 row_passes test [] (b ∷ bs) z qs ps w e g = absurd z
 row_passes test (l ∷ ls) [] z qs ps w e g = absurd z
 row_passes test (l ∷ ls) (b ∷ bs) z qs ps w e g =
-    let parts = and_parts b (all_true bs) e in
-    let first = z.0 qs ps w parts.0 g in
-    let others = row_passes test ls bs z.1 qs ps (l qs ps w).waits parts.1 first.1 in
+    let parts = and_parts b (all_true bs) e in let first = z.0 qs ps w parts.0 g in let others = row_passes test ls bs z.1 qs ps (l qs ps w).waits parts.1 first.1 in
     (joined (Passes test) (l qs ps w).flats (in_row ls qs ps (l qs ps w).waits).flats first.0 others.0, others.1)
 
 events_pass : (test : Event → Bool) (fs : List Flat) → AllByRecursion (Passes test) fs → Holds test (map (λ f. f.event) fs)
@@ -95,8 +92,7 @@ passes test = record {
   note = leaf_passes test;
   rest = leaf_passes test;
   grace = λ xs ys slash z qs ps w e g.
-      let inside = (in_row xs 1 1 nothing).flats in
-      (tt {0}, joined (Passed test) w.graces (map (λ f. f.event) inside) g (events_pass test inside (row_passes test xs ys z 1 1 nothing e (tt {0})).0));
+      let inside = (in_row xs 1 1 nothing).flats in (tt {0}, joined (Passed test) w.graces (map (λ f. f.event) inside) g (events_pass test inside (row_passes test xs ys z 1 1 nothing e (tt {0})).0));
   tuplet = λ xs ys p q z qs ps w e g. row_passes test xs ys z (qs * q) (ps * p) (record w { tuplets = w.tuplets ++ p ∷ [] }) e g;
 }
 
@@ -153,7 +149,5 @@ seen_from_may m now front (f ∷ fs) key before all =
 pub seen_in_may : (m : Move) (now : Standing) (ms : List Measure) → key_may m now.key ≡ true → list_all (λ x. body_may m x.body) ms ≡ true → AllByRecursion (SeenMay m) (seen_in now ms)
 seen_in_may m now [] key may = tt {0}
 seen_in_may m now (x ∷ ms) key may =
-    let fs = flats_of x.body in
-    let parts = and_parts (body_may m x.body) (list_all (λ y. body_may m y.body) ms) may in
-    let all = flats_may m x.body parts.0 in
+    let fs = flats_of x.body in let parts = and_parts (body_may m x.body) (list_all (λ y. body_may m y.body) ms) may in let all = flats_may m x.body parts.0 in
     joined (SeenMay m) (seen_from now [] fs) (seen_in (standing_behind now fs) ms) (seen_from_may m now [] fs key (tt {0}) all) (seen_in_may m (standing_behind now fs) ms (key_behind m now fs key all) parts.1)

@@ -45,9 +45,7 @@ head_higher m spread e earlier h tied tied' move may before one both =
 sounds_higher : (m : Move) (spread : Spread) (before : List Seen) (e : Seen) → IsMove m → AllByRecursion (SeenMay m) before → SeenMay m e → SoundsHigher m (sounds_as spread before e) (sounds_as spread (map (moved_seen m) before) (moved_seen m e))
 sounds_higher m spread [] e move front may earlier h before one = head_higher m spread e earlier h None None move may before one neither
 sounds_higher m spread (d ∷ ds) e move front may earlier h before one =
-    let f = sounds_as spread ds d in
-    let g = sounds_as spread (map (moved_seen m) ds) (moved_seen m d) in
-    let tied = tied_sound f h.pitch [] d.heads in
+    let f = sounds_as spread ds d in let g = sounds_as spread (map (moved_seen m) ds) (moved_seen m d) in let tied = tied_sound f h.pitch [] d.heads in
     let tied' = tied_sound g (moved_pitch m h.pitch) [] (map (moved_head m) d.heads) in
     head_higher m spread e earlier h (comes_tied tied h.pitch earlier) (comes_tied tied' (moved_pitch m h.pitch) (map (moved_head m) earlier)) move may before one
     (subst (λ b. Both (Higher m h.pitch) (comes_tied tied h.pitch earlier) (cond b None tied')) (sym (earlier_kept m h.pitch earlier))
@@ -76,8 +74,7 @@ events_higher : (m : Move) (voice : ℕ) (spread : Spread) (before es : List See
     → AllHigher m (event_sounds voice spread before es) (event_sounds voice spread (map (moved_seen m) before) (map (moved_seen m) es))
 events_higher m voice spread before [] move front may = tt {0}
 events_higher m voice spread before (e ∷ es) move front may =
-    let f = sounds_as spread before e in
-    let g = sounds_as spread (map (moved_seen m) before) (moved_seen m e) in
+    let f = sounds_as spread before e in let g = sounds_as spread (map (moved_seen m) before) (moved_seen m e) in
     all_joined m (head_sounds f voice e.id 0 [] e.heads) (event_sounds voice spread (e ∷ before) es)
     (head_sounds g voice e.id 0 [] (map (moved_head m) e.heads)) (event_sounds voice spread (map (moved_seen m) (e ∷ before)) (map (moved_seen m) es))
     (heads_higher m f g voice e.id 0 [] e.heads (sounds_higher m spread before e move front may.0) (tt {0}) may.0.heads)
@@ -86,10 +83,8 @@ events_higher m voice spread before (e ∷ es) move front may =
 voices_higher : (m : Move) (i : ℕ) (spread : Spread) (vs : List Voice) → IsMove m → list_all (voice_may m) vs ≡ true → AllHigher m (voice_sounds i spread vs) (voice_sounds i spread (map (voice_by m) vs))
 voices_higher m i spread [] move may = tt {0}
 voices_higher m i spread (v ∷ vs) move may =
-    let parts = and_parts (voice_may m v) (list_all (voice_may m) vs) may in
-    let own = and_parts (key_may m v.key) (list_all (λ x. body_may m x.body) v.measures) parts.0 in
-    let es = seen_in (standing_of v) v.measures in
-    let w = voice_by m v in
+    let parts = and_parts (voice_may m v) (list_all (voice_may m) vs) may in let own = and_parts (key_may m v.key) (list_all (λ x. body_may m x.body) v.measures) parts.0 in
+    let es = seen_in (standing_of v) v.measures in let w = voice_by m v in
     all_joined m (event_sounds i spread [] es) (voice_sounds (i + 1) spread vs)
     (event_sounds i spread [] (seen_in (standing_of w) w.measures)) (voice_sounds (i + 1) spread (map (voice_by m) vs))
     (subst (λ ds. AllHigher m (event_sounds i spread [] es) (event_sounds i spread [] ds)) (sym (seen_in_moved m (standing_of v) v.measures))
@@ -104,8 +99,7 @@ unmoved (x ∷ xs) = (record { voice = refl; event = refl; head = refl; written 
 score_higher : (s t : Score) (header : Key) (by : ℤ) → CanMove s header by × (t ≡ moved_score s header by) → AreHigher by (sounds_of s) (sounds_of t)
 unfolding move_for
 score_higher s t header by moved =
-    let m = move_from header by in
-    let heads = voices_higher m 0 s.spread s.voices (move_is (sharps_in header.signs) by) moved.0.voices in
+    let m = move_from header by in let heads = voices_higher m 0 s.spread s.voices (move_is (sharps_in header.signs) by) moved.0.voices in
     record { letters = m.letters; heads = subst (λ (u : Score). AllHigher m (sounds_of s) (sounds_of u)) (sym moved.1) heads }
 
 pub moved_sounds_higher : MovedSoundsHigher

@@ -33,8 +33,7 @@ none_left (s ∷ signs) add letter e =
 -- a sign laid on good signs
 pub with_sign-good : (signs : List Sign) (add : Sign) → AreGoodSigns signs → AreGoodSigns (with_sign signs add)
 with_sign-good signs add good letter =
-    let one : Sign → ℕ = λ s. cond (same_letter s.letter letter) 1 0 in
-    let stays = λ (s : Sign). not (same_letter s.letter add.letter) in
+    let one : Sign → ℕ = λ s. cond (same_letter s.letter letter) 1 0 in let stays = λ (s : Sign). not (same_letter s.letter add.letter) in
     grind (arith, sum_by_push one (filter stays signs) add, good letter, none_left signs add letter, sum_by-filter_both stays (λ s. not (stays s)) (λ s. refl) one signs)
 
 -- signs laid on good signs

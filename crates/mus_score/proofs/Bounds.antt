@@ -74,9 +74,7 @@ within_nines : (a n : ℕ) → a * nines n ≤ 81 → a ≤ 81
 within_nines a n h = le_trans (le-mul_of_pos_right a (nines_some n)) h
 
 more_nines : (a b n : ℕ) → a * (9 * nines n) ≤ 81 → b ≤ 9 → a * b * nines n ≤ 81
-more_nines a b n h k =
-    let e : a * 9 * nines n ≤ 81 = subst (λ z. z ≤ 81) (sym (mul_assoc a 9 (nines n))) h in
-    le_trans (mul-le (a * b) (nines n) (a * 9) (nines n) (mul-le a b a 9 (omega arith) k) (omega arith)) e
+more_nines a b n h k = let e : a * 9 * nines n ≤ 81 = subst (λ z. z ≤ 81) (sym (mul_assoc a 9 (nines n))) h in le_trans (mul-le (a * b) (nines n) (a * 9) (nines n) (mul-le a b a 9 (omega arith) k) (omega arith)) e
 
 -- ticks that may stand at a place
 pub record MayLast (at : Place) (ticks : ℕ) : Type 0 where
@@ -95,10 +93,7 @@ scaled_low : (ticks qs ps : ℕ) → ps ≤ ticks → 1 ≤ qs → 1 ≤ ps → 
 scaled_low ticks qs ps t q p = le-div 1 (ticks * qs) ps p (subst (λ z. z ≤ ticks * qs) (sym (one-mul ps)) (le_trans t (le-mul_of_pos_right ticks q)))
 
 reaches : (at : Place) (ticks qs ps : ℕ) → Around at qs ps → MayLast at ticks → ps ≤ ticks
-reaches at ticks qs ps a m = elim (cases_Bool at.inner) [
-  | inl i ↦ le_trans (within_nines ps at.deeper a.few_p) (m.long i)
-  | inr o ↦ subst (λ z. z ≤ ticks) (sym (a.plain o)) m.low
-]
+reaches at ticks qs ps a m = elim (cases_Bool at.inner) [ inl i ↦ le_trans (within_nines ps at.deeper a.few_p) (m.long i) | inr o ↦ subst (λ z. z ≤ ticks) (sym (a.plain o)) m.low ]
 
 -- What a node or several keep at a place, where w is their weight, f says that products fit, d is their duration and l their leaves.
 pub record Kept (at : Place) (w : ℕ) (f : InTuplets Bool) (d : InTuplets ℕ) (l : Leafing) (qs ps : ℕ) : Type 0 where
@@ -116,8 +111,7 @@ Keeps j w f d l = (at : Place) (qs ps : ℕ) → Around at qs ps → (j at).good
 
 event_keeps : (at : Place) (qs ps : ℕ) (e : Event) (w : ℕ) → Around at qs ps → MayLast at e.ticks → e.value.dots ≤ 3 → w ≡ max 1 (length e.heads) → (at.grace ≡ true → length e.heads ≡ w) → Kept at w (is_scalable e.ticks) (scaled e.ticks) (leaf e) qs ps
 event_keeps at qs ps e w a m dots is notes =
-    let q : qs ≤ 81 = within_nines qs at.deeper a.few_q in
-    let high : scaled e.ticks qs ps ≤ longest_ticks = scaled_high e.ticks qs ps m.high q in
+    let q : qs ≤ 81 = within_nines qs at.deeper a.few_q in let high : scaled e.ticks qs ps ≤ longest_ticks = scaled_high e.ticks qs ps m.high q in
     let low : 1 ≤ scaled e.ticks qs ps = scaled_low e.ticks qs ps (reaches at e.ticks qs ps a m) a.some_q a.some_p in
     record {
       fits = scalable e.ticks qs ps m.high q a.some_p;
@@ -132,11 +126,8 @@ event_keeps at qs ps e w a m dots is notes =
 
 note_keeps : (e : Event) → Keeps (λ at. judged (is_note e) true) (length e.heads) (is_scalable e.ticks) (scaled e.ticks) (leaf e)
 note_keeps e at qs ps a good =
-    let t : e.ticks ≡ value_length e.value = note_ticks e good in
-    let l : 81 ≤ value_length e.value = value_low e.value in
-    let h : value_length e.value ≤ 99 * whole_note = value_high e.value in
-    let n : 1 ≤ length e.heads = note_heads e good in
-    event_keeps at qs ps e (length e.heads) a (record { low = omega arith; high = omega arith; long = λ _. omega arith }) (note_dots e good) (omega arith) (λ _. refl)
+    let t : e.ticks ≡ value_length e.value = note_ticks e good in let l : 81 ≤ value_length e.value = value_low e.value in let h : value_length e.value ≤ 99 * whole_note = value_high e.value in
+    let n : 1 ≤ length e.heads = note_heads e good in event_keeps at qs ps e (length e.heads) a (record { low = omega arith; high = omega arith; long = λ _. omega arith }) (note_dots e good) (omega arith) (λ _. refl)
 
 pub guarded : (b c : Bool) → (if b then false else c) ≡ true → (b ≡ false) × (c ≡ true)
 guarded true c h = absurd (cc)
@@ -144,18 +135,13 @@ guarded false c h = (refl, h)
 
 rest_lasts : (b : Bool) (e : Event) → is_rest b e ≡ true → (1 ≤ e.ticks) × (e.ticks ≤ 99 * whole_note) × (b ≡ true → 81 ≤ e.ticks)
 rest_lasts true e h =
-    let t : e.ticks ≡ value_length e.value = rest_ticks_inner e h in
-    let l : 81 ≤ value_length e.value = value_low e.value in
-    let k : value_length e.value ≤ 99 * whole_note = value_high e.value in
+    let t : e.ticks ≡ value_length e.value = rest_ticks_inner e h in let l : 81 ≤ value_length e.value = value_low e.value in let k : value_length e.value ≤ 99 * whole_note = value_high e.value in
     (omega arith, omega arith, λ _. omega arith)
 rest_lasts false e h = (rest_ticks_low e h, rest_ticks_high e h, λ i. absurd (cc))
 
 rest_keeps : (e : Event) → Keeps (λ at. judged (if at.grace then false else is_rest at.inner e) true) 1 (is_scalable e.ticks) (scaled e.ticks) (leaf e)
 rest_keeps e at qs ps a good =
-    let g = guarded at.grace (is_rest at.inner e) good in
-    let t = rest_lasts at.inner e g.1 in
-    let z : length e.heads ≡ 0 = rest_heads at.inner e g.1 in
-    let o : at.grace ≡ false = g.0 in
+    let g = guarded at.grace (is_rest at.inner e) good in let t = rest_lasts at.inner e g.1 in let z : length e.heads ≡ 0 = rest_heads at.inner e g.1 in let o : at.grace ≡ false = g.0 in
     event_keeps at qs ps e 1 a (record { low = t.0; high = t.1; long = t.2 }) (rest_dots at.inner e g.1) (omega arith) (λ k. absurd (cc))
 
 -- Lists of nodes.
@@ -185,28 +171,16 @@ more_kept at qs ps w v f fs d ds l ls a b = record {
       sum_by-append (λ x. x.duration) (l qs ps waits).flats (in_row ls qs ps (l qs ps waits).waits).flats
       ∙ (let x = a.total waits in let y = b.total (l qs ps waits).waits in omega arith);
   weights = λ waits.
-      let e = sum_by-append flat_weight (l qs ps waits).flats (in_row ls qs ps (l qs ps waits).waits).flats in
-      let x = a.weights waits in
-      let y = b.weights (l qs ps waits).waits in
-      omega arith;
+      let e = sum_by-append flat_weight (l qs ps waits).flats (in_row ls qs ps (l qs ps waits).waits).flats in let x = a.weights waits in let y = b.weights (l qs ps waits).waits in omega arith;
   counts = λ waits.
-      let e = sum_by-append flat_count (l qs ps waits).flats (in_row ls qs ps (l qs ps waits).waits).flats in
-      let x = a.counts waits in
-      let y = b.counts (l qs ps waits).waits in
-      omega arith;
+      let e = sum_by-append flat_count (l qs ps waits).flats (in_row ls qs ps (l qs ps waits).waits).flats in let x = a.counts waits in let y = b.counts (l qs ps waits).waits in omega arith;
   few = λ waits.
-      let e = length-append (l qs ps waits).flats (in_row ls qs ps (l qs ps waits).waits).flats in
-      let x = a.few waits in
-      let y = b.few (l qs ps waits).waits in
-      omega arith;
+      let e = length-append (l qs ps waits).flats (in_row ls qs ps (l qs ps waits).waits).flats in let x = a.few waits in let y = b.few (l qs ps waits).waits in omega arith;
   notes = λ g waits.
-      let fs = (l qs ps waits).flats in
-      let gs = (in_row ls qs ps (l qs ps waits).waits).flats in
+      let fs = (l qs ps waits).flats in let gs = (in_row ls qs ps (l qs ps waits).waits).flats in
       let e : heads_in (map (λ x. x.event) (fs ++ gs)) ≡ heads_in (map (λ x. x.event) fs) + heads_in (map (λ x. x.event) gs) =
       ap heads_in (map-append (λ x. x.event) fs gs) ∙ sum_by-append (λ x. length x.heads) (map (λ x. x.event) fs) (map (λ x. x.event) gs) in
-      let x = a.notes g waits in
-      let y = b.notes g (l qs ps waits).waits in
-      omega arith;
+      let x = a.notes g waits in let y = b.notes g (l qs ps waits).waits in omega arith;
 }
 
 abbrev MusicKeeps : Music → Type 0
@@ -218,9 +192,7 @@ BodyKeeps ms = Keeps (all_judged (map judged_within ms)) (sum (map weight ms)) (
 body_keeps : (ms : List Music) → AllByRecursion MusicKeeps ms → BodyKeeps ms
 body_keeps [] all at qs ps a good = none_kept at qs ps
 body_keeps (m ∷ ms) all at qs ps a good =
-    let g = and_parts (judged_within m at).good (all_judged (map judged_within ms) at).good good in
-    let first = all.0 at qs ps a g.0 in
-    let others = body_keeps ms all.1 at qs ps a g.1 in
+    let g = and_parts (judged_within m at).good (all_judged (map judged_within ms) at).good good in let first = all.0 at qs ps a g.0 in let others = body_keeps ms all.1 at qs ps a g.1 in
     let e : weight m + sum (map weight ms) ≡ sum (map weight (m ∷ ms)) = sym (sum_by-cons (λ x. x) (weight m) (map weight ms)) in
     subst (λ w. Kept at w (all_fit (map products_fit (m ∷ ms))) (sum_within (map duration_within (m ∷ ms))) (in_row (map leaves_within (m ∷ ms))) qs ps) e
     (more_kept at qs ps (weight m) (sum (map weight ms)) (products_fit m) (map products_fit ms) (duration_within m) (map duration_within ms) (leaves_within m) (map leaves_within ms) first others)
@@ -230,23 +202,17 @@ grace_keeps : (ms : List Music) (slash : Bool) → BodyKeeps ms → Keeps (good_
 grace_keeps ms slash body at qs ps a good =
     let g = guarded at.grace (all_judged (map judged_within ms) (record at { grace = true })).good good in
     let some : nines at.deeper ≤ 81 = le_trans (omega (arith, mul-le-mul_right (nines at.deeper) a.some_q)) a.few_q in
-    let inside = body (record at { grace = true }) 1 1 (record { some_q = omega arith; some_p = omega arith; few_q = omega arith; few_p = omega arith; plain = λ _. refl }) g.1 in
-    let o : at.grace ≡ false = g.0 in
+    let inside = body (record at { grace = true }) 1 1 (record { some_q = omega arith; some_p = omega arith; few_q = omega arith; few_p = omega arith; plain = λ _. refl }) g.1 in let o : at.grace ≡ false = g.0 in
     record {
       fits = inside.fits;
       short = omega arith;
       flats = λ waits. tt;
       total = λ waits. refl;
       weights = λ waits.
-          let n = inside.notes refl nothing in
-          let e = sum_by-append (λ x. length x.heads) waits.graces (map (λ x. x.event) (in_row (map leaves_within ms) 1 1 nothing).flats) in
-          omega arith;
+          let n = inside.notes refl nothing in let e = sum_by-append (λ x. length x.heads) waits.graces (map (λ x. x.event) (in_row (map leaves_within ms) 1 1 nothing).flats) in omega arith;
       counts = λ waits.
-          let n = inside.few nothing in
-          let gs = (in_row (map leaves_within ms) 1 1 nothing).flats in
-          let e = length-append waits.graces (map (λ x. x.event) gs) in
-          let k = length-map gs (λ (x : Flat). x.event) in
-          omega arith;
+          let n = inside.few nothing in let gs = (in_row (map leaves_within ms) 1 1 nothing).flats in let e = length-append waits.graces (map (λ x. x.event) gs) in
+          let k = length-map gs (λ (x : Flat). x.event) in omega arith;
       few = λ waits. omega arith;
       notes = λ k. absurd (cc);
     }
@@ -260,18 +226,14 @@ pub record GoodTuplet (p q deeper : ℕ) (j : Place → Judged) : Type 0 where
 
 tuplet_parts : (p q : ℕ) (n b : Bool) → (nat_le 2 p && nat_le p 9 && nat_le 1 q && nat_le q 9 && n && b) ≡ true → (2 ≤ p) × (p ≤ 9) × (1 ≤ q) × (q ≤ 9) × (b ≡ true)
 tuplet_parts p q n b h =
-    let e = and_parts (nat_le 2 p && nat_le p 9 && nat_le 1 q && nat_le q 9 && n) b h in
-    let d = and_parts (nat_le 2 p && nat_le p 9 && nat_le 1 q && nat_le q 9) n e.0 in
-    let c = and_parts (nat_le 2 p && nat_le p 9 && nat_le 1 q) (nat_le q 9) d.0 in
-    let b = and_parts (nat_le 2 p && nat_le p 9) (nat_le 1 q) c.0 in
-    let a = and_parts (nat_le 2 p) (nat_le p 9) b.0 in
+    let e = and_parts (nat_le 2 p && nat_le p 9 && nat_le 1 q && nat_le q 9 && n) b h in let d = and_parts (nat_le 2 p && nat_le p 9 && nat_le 1 q && nat_le q 9) n e.0 in
+    let c = and_parts (nat_le 2 p && nat_le p 9 && nat_le 1 q) (nat_le q 9) d.0 in let b = and_parts (nat_le 2 p && nat_le p 9) (nat_le 1 q) c.0 in let a = and_parts (nat_le 2 p) (nat_le p 9) b.0 in
     (leb-true 2 p a.0, leb-true p 9 a.1, leb-true 1 q b.1, leb-true q 9 c.1, e.1)
 
 pub deeper_good : (p q deeper : ℕ) (js : List (Place → Judged)) → (tuplet_judged p q js deeper).good ≡ true → (d : ℕ) × (deeper ≡ suc d) × GoodTuplet p q d (all_judged js)
 deeper_good p q zero js h = absurd (cc)
 deeper_good p q (suc d) js h =
-    let inside = all_judged js (record { deeper = d; inner = true; grace = false }) in
-    let t = tuplet_parts p q inside.some inside.good h in
+    let inside = all_judged js (record { deeper = d; inner = true; grace = false }) in let t = tuplet_parts p q inside.some inside.good h in
     (d, refl, record { some_p = omega (arith, t.0); few_p = t.1; some_q = t.2; few_q = t.3; inside = t.4 })
 
 pub tuplet_good : (g : Bool) (p q deeper : ℕ) (js : List (Place → Judged)) → (if g then judged false false else tuplet_judged p q js deeper).good ≡ true → (g ≡ false) × ((d : ℕ) × (deeper ≡ suc d) × GoodTuplet p q d (all_judged js))
@@ -280,13 +242,9 @@ tuplet_good false p q deeper js h = (refl, deeper_good p q deeper js h)
 
 tuplet_keeps : (p q : ℕ) (ms : List Music) → BodyKeeps ms → Keeps (good_step (Music-F.Tuplet p q (map judged_within ms))) (weight_step (Music-F.Tuplet p q (map weight ms))) (products_step (Music-F.Tuplet p q (map products_fit ms))) (duration_step (Music-F.Tuplet p q (map duration_within ms))) (leaves_step (Music-F.Tuplet p q (map leaves_within ms)))
 tuplet_keeps p q ms body at qs ps a good =
-    let g = tuplet_good at.grace p q at.deeper (map judged_within ms) good in
-    let d : ℕ = g.1.0 in
-    let t : GoodTuplet p q d (all_judged (map judged_within ms)) = g.1.2 in
-    let more_q : qs * (9 * nines d) ≤ 81 = subst (λ z. qs * nines z ≤ 81) g.1.1 a.few_q in
-    let more_p : ps * (9 * nines d) ≤ 81 = subst (λ z. ps * nines z ≤ 81) g.1.1 a.few_p in
-    let few_q = more_nines qs q d more_q t.few_q in
-    let few_p = more_nines ps p d more_p t.few_p in
+    let g = tuplet_good at.grace p q at.deeper (map judged_within ms) good in let d : ℕ = g.1.0 in let t : GoodTuplet p q d (all_judged (map judged_within ms)) = g.1.2 in
+    let more_q : qs * (9 * nines d) ≤ 81 = subst (λ z. qs * nines z ≤ 81) g.1.1 a.few_q in let more_p : ps * (9 * nines d) ≤ 81 = subst (λ z. ps * nines z ≤ 81) g.1.1 a.few_p in
+    let few_q = more_nines qs q d more_q t.few_q in let few_p = more_nines ps p d more_p t.few_p in
     let inside = body (record { deeper = d; inner = true; grace = false }) (qs * q) (ps * p) (record {
       some_q = mul-le 1 1 qs q a.some_q t.some_q;
       some_p = mul-le 1 1 ps p a.some_p t.some_p;
@@ -294,10 +252,7 @@ tuplet_keeps p q ms body at qs ps a good =
       few_p = few_p;
       plain = λ o. absurd (cc);
     }) t.inside in
-    let o : at.grace ≡ false = g.0 in
-    let high_q : qs * q ≤ 81 = within_nines (qs * q) d few_q in
-    let high_p : ps * p ≤ 81 = within_nines (ps * p) d few_p in
-    let f = inside.fits in
+    let o : at.grace ≡ false = g.0 in let high_q : qs * q ≤ 81 = within_nines (qs * q) d few_q in let high_p : ps * p ≤ 81 = within_nines (ps * p) d few_p in let f = inside.fits in
     record {
       fits = grind (arith, nat_tests);
       short = inside.short;
@@ -311,8 +266,7 @@ tuplet_keeps p q ms body at qs ps a good =
 
 -- Every node.
 keeps_along : (i j : Place → Judged) (v w : ℕ) (e f : InTuplets Bool) (c d : InTuplets ℕ) (k l : Leafing) → i ≡ j → v ≡ w → e ≡ f → c ≡ d → k ≡ l → Keeps i v e c k → Keeps j w f d l
-keeps_along i j v w e f c d k l ij vw ef cd kl h =
-    subst (λ z. Keeps j w f d z) kl (subst (λ z. Keeps j w f z k) cd (subst (λ z. Keeps j w z c k) ef (subst (λ z. Keeps j z e c k) vw (subst (λ z. Keeps z v e c k) ij h))))
+keeps_along i j v w e f c d k l ij vw ef cd kl h = subst (λ z. Keeps j w f d z) kl (subst (λ z. Keeps j w f z k) cd (subst (λ z. Keeps j w z c k) ef (subst (λ z. Keeps j z e c k) vw (subst (λ z. Keeps z v e c k) ij h))))
 
 abbrev StepKeeps : Music-F Music → Type 0
 StepKeeps x = Keeps (good_step (map-Music Music (Place → Judged) judged_within x)) (weight_step (map-Music Music ℕ weight x)) (products_step (map-Music Music (InTuplets Bool) products_fit x)) (duration_step (map-Music Music (InTuplets ℕ) duration_within x)) (leaves_step (map-Music Music Leafing leaves_within x))

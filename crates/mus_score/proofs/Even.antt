@@ -51,18 +51,13 @@ regrouped : (ps f p m l : ℕ) → ps * (f * ((p * m) * l)) ≡ (ps * p) * ((f *
 regrouped ps f p m l = omega arith
 
 taken_out : (t u qs ps k : ℕ) → t ≡ u * part → ps * k ≡ part → t * qs ≡ ps * (u * k * qs)
-taken_out t u qs ps k e h =
-    let g : t * qs ≡ u * (ps * k) * qs = ap (λ z. z * qs) e ∙ ap (λ z. u * z * qs) (sym h) in
-    let r : u * (ps * k) * qs ≡ ps * (u * k * qs) = omega arith in
-    g ∙ r
+taken_out t u qs ps k e h = let g : t * qs ≡ u * (ps * k) * qs = ap (λ z. z * qs) e ∙ ap (λ z. u * z * qs) (sym h) in let r : u * (ps * k) * qs ≡ ps * (u * k * qs) = omega arith in g ∙ r
 
 divided : (t qs ps k : ℕ) → 1 ≤ ps → t * qs ≡ ps * k → ps * scaled t qs ps ≡ t * qs
 divided t qs ps k some e = ap (λ z. ps * (z / ps)) e ∙ ap (λ z. ps * z) (mul-div_cancel_left k some) ∙ sym e
 
 value_even : (at : Place) (v : Value) (t qs ps : ℕ) → t ≡ value_length v → v.dots ≤ 3 → Divides at ps → ps * scaled t qs ps ≡ t * qs
-value_even at v t qs ps e dots d =
-    let k = d.factor * left at.deeper in
-    divided t qs ps (units_of v * k * qs) d.some (taken_out t (units_of v) qs ps k (e ∙ value_parts v dots) d.all)
+value_even at v t qs ps e dots d = let k = d.factor * left at.deeper in divided t qs ps (units_of v * k * qs) d.some (taken_out t (units_of v) qs ps k (e ∙ value_parts v dots) d.all)
 
 plain_even : (t qs ps : ℕ) → ps ≡ 1 → ps * scaled t qs ps ≡ t * qs
 plain_even t qs ps e = divided t qs ps (t * qs) (omega arith) (let r : 1 * (t * qs) ≡ t * qs = omega arith in sym (subst (λ z. z * (t * qs) ≡ t * qs) (sym e) r))
@@ -97,18 +92,14 @@ BodyEven ms = Evens (all_judged (map judged_within ms)) (in_row (map leaves_with
 body_even : (ms : List Music) → AllByRecursion MusicEven ms → BodyEven ms
 body_even [] all at qs ps d good waits = tt
 body_even (m ∷ ms) all at qs ps d good waits =
-    let g = and_parts (judged_within m at).good (all_judged (map judged_within ms) at).good good in
-    let others = in_row (map leaves_within ms) qs ps (leaves_within m qs ps waits).waits in
+    let g = and_parts (judged_within m at).good (all_judged (map judged_within ms) at).good good in let others = in_row (map leaves_within ms) qs ps (leaves_within m qs ps waits).waits in
     zip_append (leaves_within m qs ps waits).flats others.flats (ratios_within m qs ps) (ratios_in_row (map ratios_within ms) qs ps)
     (all.0 at qs ps d g.0 waits) (body_even ms all.1 at qs ps d g.1 (leaves_within m qs ps waits).waits)
 
 tuplet_even : (p q : ℕ) (ms : List Music) → BodyEven ms → Evens (good_step (Music-F.Tuplet p q (map judged_within ms))) (leaves_step (Music-F.Tuplet p q (map leaves_within ms))) (ratios_step (Music-F.Tuplet p q (map ratios_within ms)))
 tuplet_even p q ms body at qs ps d good waits =
-    let g = tuplet_good at.grace p q at.deeper (map judged_within ms) good in
-    let deeper : ℕ = g.1.0 in
-    let t : GoodTuplet p q deeper (all_judged (map judged_within ms)) = g.1.2 in
-    let k = divisor p t.some_p t.few_p in
-    let outer : ps * (d.factor * (2520 * left deeper)) ≡ part = subst (λ z. ps * (d.factor * left z) ≡ part) g.1.1 d.all in
+    let g = tuplet_good at.grace p q at.deeper (map judged_within ms) good in let deeper : ℕ = g.1.0 in let t : GoodTuplet p q deeper (all_judged (map judged_within ms)) = g.1.2 in
+    let k = divisor p t.some_p t.few_p in let outer : ps * (d.factor * (2520 * left deeper)) ≡ part = subst (λ z. ps * (d.factor * left z) ≡ part) g.1.1 d.all in
     let split : ps * (d.factor * ((p * k.0) * left deeper)) ≡ part = subst (λ z. ps * (d.factor * (z * left deeper)) ≡ part) (sym k.1) outer in
     body (record { deeper = deeper; inner = true; grace = false }) (qs * q) (ps * p) (record {
       some = let a = d.some in let b = t.some_p in grind arith;

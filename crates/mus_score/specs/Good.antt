@@ -33,8 +33,7 @@ all_judged (m ∷ ms) at = judged ((m at).good && (all_judged ms at).good) ((m a
 abbrev pub tuplet_judged : ℕ → ℕ → List (Place → Judged) → ℕ → Judged
 tuplet_judged p q body zero = judged false false
 tuplet_judged p q body (suc deeper) =
-    let inside = all_judged body (record { deeper = deeper; inner = true; grace = false }) in
-    judged (nat_le 2 p && nat_le p 9 && nat_le 1 q && nat_le q 9 && inside.some && inside.good) inside.some
+    let inside = all_judged body (record { deeper = deeper; inner = true; grace = false }) in judged (nat_le 2 p && nat_le p 9 && nat_le 1 q && nat_le q 9 && inside.some && inside.good) inside.some
 
 abbrev pub good_step : Music-F (Place → Judged) → Place → Judged
 good_step (Music-F.Note e) at = judged (is_note e) true

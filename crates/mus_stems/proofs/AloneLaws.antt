@@ -38,9 +38,7 @@ unsigned (d ∷ ss) (suc k) s none is = unsigned ss k s (or_parts d.signed (list
 
 stay_free : (first : ℤ) (ss : List Stand) (ts : List Taken) (xs : List (Option ℤ)) → list_any (λ d. d.signed) ss ≡ false → AllByRecursion (IsHead false ss) ts → signs_along first 0 ts xs ≡ xs
 stay_free first ss [] xs none are = refl
-stay_free first ss (t ∷ ts) xs none are =
-    let free : t.signed ≡ false = sym (ap (λ (u : Taken). u.signed) are.0.2) ∙ unsigned ss t.place are.0.0 none are.0.1 in
-    rw free (stay_free first ss ts xs none are.1)
+stay_free first ss (t ∷ ts) xs none are = let free : t.signed ≡ false = sym (ap (λ (u : Taken). u.signed) are.0.2) ∙ unsigned ss t.place are.0.0 none are.0.1 in rw free (stay_free first ss ts xs none are.1)
 
 pub none_signed : (first : ℤ) (ss : List Stand) → AllNear ss → list_any (λ d. d.signed) ss ≡ false → signs_from first ss ≡ replicate (length ss) None
 unfolding signs_from

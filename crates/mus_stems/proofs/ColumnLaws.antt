@@ -20,8 +20,7 @@ Free xs t = (t.place < length xs) × (sign_of xs t ≡ None)
 still_free : (xs : List (Option ℤ)) (t : Taken) (z : Option ℤ) (ts : List Taken) → AllByRecursion (λ u. u.place ≡ t.place → ⊥) ts → AllByRecursion (Free xs) ts → AllByRecursion (Free (slice_set xs t.place z)) ts
 unfolding Free
 still_free xs t z [] apart free = tt {0}
-still_free xs t z (u ∷ us) apart free =
-    ((subst (λ n. u.place < n) (sym (length-set xs t.place z)) free.0.0, get_or-set_other xs t.place u.place z None apart.0 ∙ free.0.1), still_free xs t z us apart.1 free.1)
+still_free xs t z (u ∷ us) apart free = ((subst (λ n. u.place < n) (sym (length-set xs t.place z)) free.0.0, get_or-set_other xs t.place u.place z None apart.0 ∙ free.0.1), still_free xs t z us apart.1 free.1)
 
 signed : (first : ℤ) (k : ℕ) (ts : List Taken) (xs : List (Option ℤ)) → Apart ts → AllByRecursion (Free xs) ts → SignedAfter first (signs_along first k ts xs) k ts
 unfolding Free
@@ -42,9 +41,7 @@ signed first k (t ∷ ts) xs apart free =
 all_free : (ss : List Stand) (ts : List Taken) → AllByRecursion (IsHead false ss) ts → AllByRecursion (Free (replicate (length ss) None)) ts
 unfolding Free
 all_free ss [] are = tt {0}
-all_free ss (t ∷ ts) are =
-    let h = head_within false ss t are.0 in
-    ((subst (λ n. t.place < n) (sym (length-replicate (length ss) None)) h, get_or-replicate (length ss) t.place None None h), all_free ss ts are.1)
+all_free ss (t ∷ ts) are = let h = head_within false ss t are.0 in ((subst (λ n. t.place < n) (sym (length-replicate (length ss) None)) h, get_or-replicate (length ss) t.place None None h), all_free ss ts are.1)
 
 lengths_stay : (first : ℤ) (k : ℕ) (ts : List Taken) (xs : List (Option ℤ)) → length (signs_along first k ts xs) ≡ length xs
 lengths_stay first k [] xs = refl

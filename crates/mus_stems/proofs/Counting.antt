@@ -13,9 +13,7 @@ dots_step first dy k n lt = rw (one_less k n lt) refl
 
 pub taken_step : (up : Bool) (n : ℕ) (ss : List Stand) → n < 45 →
     taken_from up (pos n -ℤ pos 22) (45 - n) ss ≡ taken_at up (pos n -ℤ pos 22) 0 ss (taken_from up (pos (n + 1) -ℤ pos 22) (45 - (n + 1)) ss)
-taken_step up n ss lt =
-    let e : (pos n -ℤ pos 22) +ℤ pos 1 ≡ pos (n + 1) -ℤ pos 22 = omega (arith, ints) in
-    rw (one_less n 45 lt, e) refl
+taken_step up n ss lt = let e : (pos n -ℤ pos 22) +ℤ pos 1 ≡ pos (n + 1) -ℤ pos 22 = omega (arith, ints) in rw (one_less n 45 lt, e) refl
 
 -- a push takes the first of what is left
 pub pushed : {A : Type 0} (out new whole : List A) (x y : A) (more rest : List A) →
@@ -27,8 +25,7 @@ pub shift_step : (up : Bool) (n : ℕ) (ss : List Stand) (dx v : ℤ) (last next
     shifted dx last (taken_from up (pos n -ℤ pos 22) (45 - n) ss) shifts ≡ whole →
     shifted dx next (taken_from up (pos (n + 1) -ℤ pos 22) (45 - (n + 1)) ss) new ≡ whole
 shift_step up n ss dx v last next shifts new whole lt e m inv =
-    let rest = taken_from up (pos (n + 1) -ℤ pos 22) (45 - (n + 1)) ss in
-    m rest ∙ ap (λ t. shifted dx last (taken_at up t 0 ss rest) shifts) e ∙ ap (λ t. shifted dx last t shifts) (sym (taken_step up n ss lt)) ∙ inv
+    let rest = taken_from up (pos (n + 1) -ℤ pos 22) (45 - (n + 1)) ss in m rest ∙ ap (λ t. shifted dx last (taken_at up t 0 ss rest) shifts) e ∙ ap (λ t. shifted dx last t shifts) (sym (taken_step up n ss lt)) ∙ inv
 
 pub sign_step : (n : ℕ) (ss : List Stand) (first v : ℤ) (k next : ℕ) (signs new whole : List (Option ℤ)) → n < 45 → v ≡ pos n -ℤ pos 22 →
     ((rest : List Taken) → signs_along first next rest new ≡ signs_along first k (taken_at false v 0 ss rest) signs) →

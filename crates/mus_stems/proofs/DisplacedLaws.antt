@@ -38,8 +38,7 @@ Free xs t = (t.place < length xs) × (dx_of xs t ≡ pos 0)
 still_free : (xs : List ℤ) (t : Taken) (dx : ℤ) (ts : List Taken) → AllByRecursion (λ u. u.place ≡ t.place → ⊥) ts → AllByRecursion (Free xs) ts → AllByRecursion (Free (slice_set xs t.place dx)) ts
 unfolding Free
 still_free xs t dx [] apart free = tt {0}
-still_free xs t dx (u ∷ us) apart free =
-    ((subst (λ n. u.place < n) (sym (length-set xs t.place dx)) free.0.0, get_or-set_other xs t.place u.place dx (pos 0) apart.0 ∙ free.0.1), still_free xs t dx us apart.1 free.1)
+still_free xs t dx (u ∷ us) apart free = ((subst (λ n. u.place < n) (sym (length-set xs t.place dx)) free.0.0, get_or-set_other xs t.place u.place dx (pos 0) apart.0 ∙ free.0.1), still_free xs t dx us apart.1 free.1)
 
 follows : (up : Bool) (b : Option Last) (ts : List Taken) (xs : List ℤ) → Apart ts → AllByRecursion (Free xs) ts → Follows up (shifted (shift_of up) b ts xs) b ts
 unfolding Follows Free last_of
@@ -54,8 +53,7 @@ follows up b (t ∷ ts) xs apart free =
         Follows up (shifted (shift_of up) (Some (record { level = t.level; moved = false })) ts xs) (Some (record { level = t.level; moved = false })) ts →
         (dx_of (cond g (shifted (shift_of up) (Some (record { level = t.level; moved = true })) ts (slice_set xs t.place (shift_of up))) (shifted (shift_of up) (Some (record { level = t.level; moved = false })) ts xs)) t ≡ dx_where up g)
         × Follows up (cond g (shifted (shift_of up) (Some (record { level = t.level; moved = true })) ts (slice_set xs t.place (shift_of up))) (shifted (shift_of up) (Some (record { level = t.level; moved = false })) ts xs)) (Some (record { level = t.level; moved = g })) ts
-    step true h h' =
-        (others_stay (shift_of up) (Some (record { level = t.level; moved = true })) ts (slice_set xs t.place (shift_of up)) t.place apart.0 ∙ get_or-set_same xs t.place (shift_of up) (pos 0) free.0.0, h)
+    step true h h' = (others_stay (shift_of up) (Some (record { level = t.level; moved = true })) ts (slice_set xs t.place (shift_of up)) t.place apart.0 ∙ get_or-set_same xs t.place (shift_of up) (pos 0) free.0.0, h)
     step false h h' = (others_stay (shift_of up) (Some (record { level = t.level; moved = false })) ts xs t.place apart.0 ∙ free.0.1, h')
 
 -- whether a head is displaced can be read off its dx
@@ -84,8 +82,7 @@ all_free : (up : Bool) (ss : List Stand) (ts : List Taken) → AllByRecursion (I
 unfolding Free
 all_free up ss [] are = tt {0}
 all_free up ss (t ∷ ts) are =
-    let h = head_within up ss t are.0 in
-    ((subst (λ n. t.place < n) (sym (length-replicate (length ss) (pos 0))) h, get_or-replicate (length ss) t.place (pos 0) (pos 0) h), all_free up ss ts are.1)
+    let h = head_within up ss t are.0 in ((subst (λ n. t.place < n) (sym (length-replicate (length ss) (pos 0))) h, get_or-replicate (length ss) t.place (pos 0) (pos 0) h), all_free up ss ts are.1)
 
 lengths_stay : (dx : ℤ) (b : Option Last) (ts : List Taken) (xs : List ℤ) → length (shifted dx b ts xs) ≡ length xs
 lengths_stay dx b [] xs = refl
@@ -112,8 +109,7 @@ shifts_displace up ss near =
 same_after : (up : Bool) (xs ys : List ℤ) (b : Taken) (ts : List Taken) → dx_of xs b ≡ dx_of ys b → DisplacedAfter up xs b ts → DisplacedAfter up ys b ts → AllByRecursion (λ t. dx_of xs t ≡ dx_of ys t) ts
 same_after up xs ys b [] e p q = tt {0}
 same_after up xs ys b (t ∷ ts) e p q =
-    let same : dx_of xs t ≡ dx_of ys t = p.0 ∙ ap (λ z. dx_where up (is_step_past b.level t.level && not (not (int_eq z (pos 0))))) e ∙ sym q.0 in
-    (same, same_after up xs ys t ts same p.1 q.1)
+    let same : dx_of xs t ≡ dx_of ys t = p.0 ∙ ap (λ z. dx_where up (is_step_past b.level t.level && not (not (int_eq z (pos 0))))) e ∙ sym q.0 in (same, same_after up xs ys t ts same p.1 q.1)
 
 same_all : (up : Bool) (xs ys : List ℤ) (ts : List Taken) → Displaced up xs ts → Displaced up ys ts → AllByRecursion (λ t. dx_of xs t ≡ dx_of ys t) ts
 same_all up xs ys [] p q = tt {0}
@@ -133,11 +129,8 @@ same_lists up ss ts none xs ys a e f same = ext_get_or none xs ys (e ∙ sym f) 
         found (s ∷ ss) (suc k) lt = found ss k (omega (arith, lt))
 
     each : (k : ℕ) → k < length xs → slice_index_or xs k none ≡ slice_index_or ys k none
-    each k lt =
-        let h = first k (subst (λ n. k < n) e lt) in
-        of_each (λ t. slice_index_or xs t.place none ≡ slice_index_or ys t.place none) ts (head_at up k h.0) same (a.all k h.0 h.1)
+    each k lt = let h = first k (subst (λ n. k < n) e lt) in of_each (λ t. slice_index_or xs t.place none ≡ slice_index_or ys t.place none) ts (head_at up k h.0) same (a.all k h.0 h.1)
 
 pub one_displacing : (up : Bool) (ss : List Stand) (xs ys : List ℤ) → AreDisplaced up ss xs → AreDisplaced up ss ys → xs ≡ ys
 one_displacing up ss xs ys p q =
-    let same = one_order up ss p.order q.order p.taken q.taken in
-    same_lists up ss p.order (pos 0) xs ys p.taken p.each q.each (same_all up xs ys p.order p.displaced (subst (Displaced up ys) (sym same) q.displaced))
+    let same = one_order up ss p.order q.order p.taken q.taken in same_lists up ss p.order (pos 0) xs ys p.taken p.each q.each (same_all up xs ys p.order p.displaced (subst (Displaced up ys) (sym same) q.displaced))

@@ -118,8 +118,7 @@ anchor_groups (p ∷ ps) (x ∷ xs) h = ap (λ t. p.group ∷ t) (anchor_groups 
 
 pub slopes_by_beams : SlopesByBeams
 slopes_by_beams wish es xs rise same =
-    let plans = plans_of_runs wish (beams es) in
-    let enough : length xs ≡ length plans = same ∙ sym (runs_length is_joined (run_plans wish) (run_length wish) es) in
+    let plans = plans_of_runs wish (beams es) in let enough : length xs ≡ length plans = same ∙ sym (runs_length is_joined (run_plans wish) (run_length wish) es) in
     run_lengths (λ (a : Anchor). a.group) shares_beam alike_anchors (anchors plans xs) ∙ ap (λ t. map (λ r. length r) (runs eqb t)) (anchor_groups plans xs enough)
     ∙ sym (run_lengths (λ (p : StemPlan). p.group) same_group alike_plans plans) ∙ ap (λ t. map (λ r. length r) t) (beams_by_groups wish es rise)
     ∙ lengths_of (run_plans wish) (run_length wish) (beams es)

@@ -138,9 +138,7 @@ from_all up v (suc n) j ss s is low high =
     step true there back more =
         subst (λ i. IsAmong (taken_at up v 0 ss (taken_from up (v +ℤ pos 1) n ss)) (head_at up i s)) {x = 0 + j} {y = j} (omega arith)
         (at_all up v 0 j ss (taken_from up (v +ℤ pos 1) n ss) s is (there refl))
-    step false there back more =
-        let differs : level_of up s.height ≡ v → ⊥ = (λ e. false≢true (back e)) in
-        at_among up v 0 ss (taken_from up (v +ℤ pos 1) n ss) (head_at up j s) (more (omega (arith, ints, low, differs)))
+    step false there back more = let differs : level_of up s.height ≡ v → ⊥ = (λ e. false≢true (back e)) in at_among up v 0 ss (taken_from up (v +ℤ pos 1) n ss) (head_at up j s) (more (omega (arith, ints, low, differs)))
 
 near_at : (ss : List Stand) (k : ℕ) (s : Stand) → AllNear ss → slice_get ss k ≡ Some s → IsNear s
 near_at [] k s near is = absurd (grind (arith, is))
@@ -182,19 +180,14 @@ orders_same (t ∷ ts) (u ∷ us) ot ou there back =
     λ i. e i ∷ more i
 
 all_there : (up : Bool) (ss : List Stand) (ts us : List Taken) → AreTaken up ss ts → AreTaken up ss us → (t : Taken) → IsAmong ts t → IsAmong us t
-all_there up ss ts us a b t among =
-    let h = of_each (IsHead up ss) ts t a.only among in
-    subst (IsAmong us) h.2 (b.all t.place h.0 h.1)
+all_there up ss ts us a b t among = let h = of_each (IsHead up ss) ts t a.only among in subst (IsAmong us) h.2 (b.all t.place h.0 h.1)
 
 pub one_order : (up : Bool) (ss : List Stand) (ts us : List Taken) → AreTaken up ss ts → AreTaken up ss us → ts ≡ us
 one_order up ss ts us a b = orders_same ts us a.order b.order (all_there up ss ts us a b) (all_there up ss us ts b a)
 
 -- heads that are taken stand at places of their own
 same_place : (up : Bool) (ss : List Stand) (t u : Taken) → IsHead up ss t → IsHead up ss u → t.place ≡ u.place → t ≡ u
-same_place up ss t u p q e =
-    let s : Some p.0 ≡ Some q.0 = sym p.1 ∙ ap (λ n. slice_get ss n) e ∙ q.1 in
-    let g : p.0 ≡ q.0 = grind (arith, s) in
-    sym p.2 ∙ (λ i. head_at up (e i) (g i)) ∙ q.2
+same_place up ss t u p q e = let s : Some p.0 ≡ Some q.0 = sym p.1 ∙ ap (λ n. slice_get ss n) e ∙ q.1 in let g : p.0 ≡ q.0 = grind (arith, s) in sym p.2 ∙ (λ i. head_at up (e i) (g i)) ∙ q.2
 
 abbrev pub Apart : List Taken → Type 0
 Apart [] = Unit {0}

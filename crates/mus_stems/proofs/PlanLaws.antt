@@ -36,22 +36,14 @@ runs_drawn wish [] good = tt {0}
 runs_drawn wish (r ∷ rs) good = zip_append wish (map (in_run r) r) (in_runs rs) (run_plans wish r) (plans_of_runs wish rs) (along_drawn wish r r good.0) (runs_drawn wish rs good.1)
 
 pub are_plans : (wish : Wish) (es : List Still) (plans : List StemPlan) → plans ≡ plans_of_runs wish (beams es) → AllGood es → ArePlans wish es plans
-are_plans wish es plans e good =
-    subst (ArePlans wish es) (sym e) (record { runs = beams es; maximal = runs_are_maximal is_joined es; drawn = runs_drawn wish (beams es) (all_in_runs IsGoodStill is_joined es good) })
+are_plans wish es plans e good = subst (ArePlans wish es) (sym e) (record { runs = beams es; maximal = runs_are_maximal is_joined es; drawn = runs_drawn wish (beams es) (all_in_runs IsGoodStill is_joined es good) })
 
 one_plan : (wish : Wish) (i : InRun) (p q : StemPlan) → IsPlan wish i p → IsPlan wish i q → p ≡ q
 one_plan wish i p q a b =
-    let ss = i.event.stands in
-    let way : p.up ≡ q.up = a.way ∙ sym b.way in
-    let shifts : p.shifts ≡ q.shifts = one_displacing q.up ss p.shifts q.shifts (subst (λ up. AreDisplaced up ss p.shifts) way a.shifts) b.shifts in
+    let ss = i.event.stands in let way : p.up ≡ q.up = a.way ∙ sym b.way in let shifts : p.shifts ≡ q.shifts = one_displacing q.up ss p.shifts q.shifts (subst (λ up. AreDisplaced up ss p.shifts) way a.shifts) b.shifts in
     let signs : p.signs ≡ q.signs = one_column (first_sign q.shifts) ss p.signs q.signs (subst (λ xs. AreInColumns (first_sign xs) ss p.signs) shifts a.signs) b.signs in
-    let from = a.from ∙ ap (λ up. from_of up ss) way ∙ sym b.from in
-    let own = a.own ∙ ap (λ up. own_end up ss) way ∙ sym b.own in
-    let to = a.to ∙ ap (λ up. run_end up i.run) way ∙ sym b.to in
-    let has = a.has ∙ sym b.has in
-    let group = a.group ∙ sym b.group in
-    let flags = a.flags ∙ sym b.flags in
-    let ledgers = a.ledgers ∙ sym b.ledgers in
+    let from = a.from ∙ ap (λ up. from_of up ss) way ∙ sym b.from in let own = a.own ∙ ap (λ up. own_end up ss) way ∙ sym b.own in let to = a.to ∙ ap (λ up. run_end up i.run) way ∙ sym b.to in
+    let has = a.has ∙ sym b.has in let group = a.group ∙ sym b.group in let flags = a.flags ∙ sym b.flags in let ledgers = a.ledgers ∙ sym b.ledgers in
     let dots = a.dots ∙ ap (λ xs. dots_along (first_dot xs) i.event.dots ss) shifts ∙ sym b.dots in
     λ k. record {
       up = way k;
@@ -73,10 +65,7 @@ one_each wish [] [] (q ∷ qs) a b = absurd b
 one_each wish [] (p ∷ ps) qs a b = absurd a
 one_each wish (i ∷ is) [] qs a b = absurd a
 one_each wish (i ∷ is) (p ∷ ps) [] a b = absurd b
-one_each wish (i ∷ is) (p ∷ ps) (q ∷ qs) a b =
-    let e = one_plan wish i p q a.0 b.0 in
-    let more = one_each wish is ps qs a.1 b.1 in
-    λ k. e k ∷ more k
+one_each wish (i ∷ is) (p ∷ ps) (q ∷ qs) a b = let e = one_plan wish i p q a.0 b.0 in let more = one_each wish is ps qs a.1 b.1 in λ k. e k ∷ more k
 
 pub no_others : OnePlan
 no_others wish es plans others a b =

@@ -40,9 +40,7 @@ pub run_step : {A B : Type 0} (joined : A → A → Bool) (f : List A → List B
     rest ≡ d ∷ more → n ≡ run_more joined d more → run ≡ take (n + 1) rest → after ≡ drop (n + 1) rest → new ≡ out ++ f run →
     out ++ flat_map f (runs joined rest) ≡ whole → new ++ flat_map f (runs joined after) ≡ whole
 run_step joined f d more rest run after n out new whole e1 e2 e3 e4 e5 inv =
-    let k = run_more joined d more in
-    let r = run_is joined d more rest run n e1 e2 e3 in
-    let a = behind_is joined d more rest after n e1 e2 e4 in
+    let k = run_more joined d more in let r = run_is joined d more rest run n e1 e2 e3 in let a = behind_is joined d more rest after n e1 e2 e4 in
     rw (e5, r, a) (append_assoc out (f (d ∷ take k more)) (flat_map f (runs joined (drop k more))) ∙ sym (ap (λ t. out ++ flat_map f t) (ap (λ t. runs joined t) e1 ∙ runs_front joined d more)) ∙ inv)
 
 -- an element in front of runs gives runs of the longer list

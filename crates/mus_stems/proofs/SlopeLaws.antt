@@ -24,9 +24,7 @@ first_before a (b ∷ es) r = let h = first_before b es r.1 in let g = r.0 in om
 all_between : (lo climb : ℤ) (a : Anchor) (es : List Anchor) → lo ≤ℤ a.x → IsAnchor a → AreAnchors es → RiseFrom a es →
     AreOver (record { first = lo; last = (last_of a es).x; climb = climb }) (a ∷ es)
 all_between lo climb a [] after is are r = (between lo a.x a is after (omega (arith, ints)) climb, tt {0})
-all_between lo climb a (b ∷ es) after is are r =
-    let g = r.0 in
-    (between lo (last_of b es).x a is after (first_before a (b ∷ es) r) climb, all_between lo climb b es (omega (arith, ints, g, after)) are.0 are.1 r.1)
+all_between lo climb a (b ∷ es) after is are r = let g = r.0 in (between lo (last_of b es).x a is after (first_before a (b ∷ es) r) climb, all_between lo climb b es (omega (arith, ints, g, after)) are.0 are.1 r.1)
 
 last_anchor : (a : Anchor) (es : List Anchor) → IsAnchor a → AreAnchors es → IsAnchor (last_of a es)
 last_anchor a [] is are = is
@@ -34,20 +32,14 @@ last_anchor a (b ∷ es) is are = last_anchor b es are.0 are.1
 
 -- a quotient is at most 500 where 500 times the divisor is no less than what is divided
 pub quotient_near : (z m : ℤ) → pos 0 <ℤ m → unsigned_abs z ≤ 500 * unsigned_abs m → (negsuc 499 ≤ℤ int_div_euclid z m) × (int_div_euclid z m ≤ℤ pos 500)
-quotient_near (pos a) (pos b) some few =
-    let q : a / b ≤ 500 = div-le_of_le-mul b (omega (arith, few)) in
-    (omega (arith, ints), omega (arith, ints, q))
-quotient_near (negsuc a) (pos b) some few =
-    let b_some : 0 < b = omega (arith, ints, some) in
-    let q : a / b < 500 = (div-lt_iff_lt-mul b_some).1 (omega (arith, few)) in
-    (omega (arith, ints, q), omega (arith, ints))
+quotient_near (pos a) (pos b) some few = let q : a / b ≤ 500 = div-le_of_le-mul b (omega (arith, few)) in (omega (arith, ints), omega (arith, ints, q))
+quotient_near (negsuc a) (pos b) some few = let b_some : 0 < b = omega (arith, ints, some) in let q : a / b < 500 = (div-lt_iff_lt-mul b_some).1 (omega (arith, few)) in (omega (arith, ints, q), omega (arith, ints))
 quotient_near z (negsuc b) some few = absurd (omega (arith, ints, some))
 
 pub rise_near : (climb along length : ℤ) → negsuc 499 ≤ℤ climb → climb ≤ℤ pos 500 → pos 0 ≤ℤ along → along ≤ℤ length → pos 0 <ℤ length →
     (negsuc 499 ≤ℤ int_div_euclid (climb *ℤ along) length) × (int_div_euclid (climb *ℤ along) length ≤ℤ pos 500)
 rise_near climb along length low high begun within some =
-    let c : unsigned_abs climb ≤ 500 = omega (arith, ints, low, high) in
-    let a : unsigned_abs along ≤ unsigned_abs length = omega (arith, ints, begun, within) in
+    let c : unsigned_abs climb ≤ 500 = omega (arith, ints, low, high) in let a : unsigned_abs along ≤ unsigned_abs length = omega (arith, ints, begun, within) in
     quotient_near (climb *ℤ along) length some (subst (λ n. n ≤ 500 * unsigned_abs length) (sym (unsigned_abs-mul climb along)) (mul-le-mul c a))
 
 -- the rise of a line over an event of its beam
@@ -58,10 +50,7 @@ rise_over line a is over =
     rise_near line.climb (a.x -ℤ line.first) (line.last -ℤ line.first) is.low is.high (omega (arith, ints, after)) (omega (arith, ints, before)) (omega (arith, ints, rising))
 
 ask_near : (line : Line) (a : Anchor) → IsLine line → IsOver line a → IsBase (a.own -ℤ rise_at line a.x)
-ask_near line a is over =
-    let r = rise_over line a is over in
-    let low = over.own_low in let high = over.own_high in
-    (omega (arith, ints, low, r.1), omega (arith, ints, high, r.0))
+ask_near line a is over = let r = rise_over line a is over in let low = over.own_low in let high = over.own_high in (omega (arith, ints, low, r.1), omega (arith, ints, high, r.0))
 
 further_near : (up : Bool) (y z : ℤ) → IsBase y → IsBase z → IsBase (further up y z)
 unfolding further
@@ -75,24 +64,19 @@ along_near up line z (a ∷ es) is near are = along_near up line (further up z (
 -- the base of a beam is near
 pub base_near : (line : Line) (a : Anchor) (others beam : List Anchor) (base : ℤ) → base ≡ base_along a.up line (a.own -ℤ rise_at line a.x) others →
     beam ≡ a ∷ others → IsLine line → AreOver line beam → IsBase base
-base_near line a others beam base e f is are =
-    let over = subst (AreOver line) f are in
-    subst IsBase (sym e) (along_near a.up line (a.own -ℤ rise_at line a.x) others is (ask_near line a is over.0) over.1)
+base_near line a others beam base e f is are = let over = subst (AreOver line) f are in subst IsBase (sym e) (along_near a.up line (a.own -ℤ rise_at line a.x) others is (ask_near line a is over.0) over.1)
 
 -- the line of a beam goes to the right, and its events stand over it
 pub line_goes : (a b z : Anchor) (beam others more : List Anchor) (line : Line) → beam ≡ a ∷ others → others ≡ b ∷ more → z ≡ last_of b more → line ≡ line_of a z →
     AreAnchors beam → Rise beam → IsLine line × AreOver line beam
 unfolding line_of
 line_goes a b z beam others more line e f g h are rise =
-    let whole = e ∙ ap (λ t. a ∷ t) f in
-    let are1 = subst AreAnchors whole are in
-    let rise1 = subst Rise whole rise in
+    let whole = e ∙ ap (λ t. a ∷ t) f in let are1 = subst AreAnchors whole are in let rise1 = subst Rise whole rise in
     let goes : IsLine (line_of a (last_of b more)) =
     (let r = rise1.0 in let l = first_before b more rise1.1 in
     record { first = are1.0.2.0; rising = omega (arith, ints, r, l); last = (last_anchor b more are1.1.0 are1.1.1).2.1; low = omega (arith, ints, clamps); high = omega (arith, ints, clamps) }) in
     let over : AreOver (line_of a (last_of b more)) (a ∷ b ∷ more) = all_between a.x (line_of a (last_of b more)).climb a (b ∷ more) (omega (arith, ints)) are1.0 are1.1 rise1 in
-    let same : line ≡ line_of a (last_of b more) = h ∙ ap (line_of a) g in
-    (subst IsLine (sym same) goes, subst (λ t. AreOver line t) (sym whole) (subst (λ l. AreOver l (a ∷ b ∷ more)) (sym same) over))
+    let same : line ≡ line_of a (last_of b more) = h ∙ ap (line_of a) g in (subst IsLine (sym same) goes, subst (λ t. AreOver line t) (sym whole) (subst (λ l. AreOver l (a ∷ b ∷ more)) (sym same) over))
 
 -- the abscissas of a beam rise, and so do those behind it
 rise_front : (a : Anchor) (es : List Anchor) → RisesAfter a es → RiseFrom a (take (run_more shares_beam a es) es)

@@ -12,8 +12,7 @@ Agrees m = Agree (beats_within m) (leaves_within m)
 body_agrees : (ms : List Music) → AllByRecursion Agrees ms → Agree (beats_in_row (map beats_within ms)) (in_row (map leaves_within ms))
 body_agrees [] all qs ps w = refl
 body_agrees (m ∷ ms) all qs ps w =
-    let first = leaves_within m qs ps w in
-    let others = in_row (map leaves_within ms) qs ps first.waits in
+    let first = leaves_within m qs ps w in let others = in_row (map leaves_within ms) qs ps first.waits in
     map-append beat_of first.flats others.flats ∙ ap (λ bs. bs ++ map beat_of others.flats) (all.0 qs ps w)
     ∙ ap (λ bs. beats_within m qs ps ++ bs) (body_agrees ms all.1 qs ps first.waits)
 

@@ -39,8 +39,7 @@ event_up_to m tick high in_head signed f h =
 events_up_to : (m high : ℕ) (in_head signed : Bool) (before fs : List Flat) → total_ticks before + total_ticks fs ≤ high → AllByRecursion (UpTo m high) (events_keys m in_head signed before fs)
 events_up_to m high in_head signed before [] h = tt
 events_up_to m high in_head signed before (f ∷ fs) h =
-    let e = sum_by-cons (λ x. x.duration) f fs in
-    let d = sum_by-cons (λ x. x.duration) f before in
+    let e = sum_by-cons (λ x. x.duration) f fs in let d = sum_by-cons (λ x. x.duration) f before in
     all_append (UpTo m high) (event_keys m (total_ticks before) in_head signed f) (events_keys m false (signed_after signed f.event.changes.key) (f ∷ before) fs)
     (event_up_to m (total_ticks before) high in_head signed f (omega arith))
     (events_up_to m high false (signed_after signed f.event.changes.key) (f ∷ before) fs (omega arith))
@@ -51,11 +50,7 @@ all_weaker P Q f [] a = tt
 all_weaker P Q f (k ∷ ks) a = (f k a.0, all_weaker P Q f ks a.1)
 
 in_system : (lengths : List ℕ) (a b m : ℕ) → a ≤ m → m < b → (k : ColumnKey) → UpTo m (slice_index lengths m) k → IsInSystem lengths a b k
-in_system lengths a b m from to k u = record {
-  from = subst (λ z. a ≤ z) (sym u.measure) from;
-  to = subst (λ z. z < b) (sym u.measure) to;
-  within = subst (λ z. k.tick ≤ slice_index lengths z) (sym u.measure) u.tick;
-}
+in_system lengths a b m from to k u = record { from = subst (λ z. a ≤ z) (sym u.measure) from; to = subst (λ z. z < b) (sym u.measure) to; within = subst (λ z. k.tick ≤ slice_index lengths z) (sym u.measure) u.tick }
 
 -- measures from number m on are within their lengths
 abbrev MeasuresFit : List ℕ → ℕ → List Measure → Type 0
@@ -65,9 +60,7 @@ MeasuresFit lengths m (x ∷ xs) = (total_ticks (flats_of x.body) ≤ slice_inde
 measures_in : (lengths : List ℕ) (a b m : ℕ) (in_head signed : Bool) (xs : List Measure) → a ≤ m → m + length xs ≤ b → MeasuresFit lengths m xs → AllByRecursion (IsInSystem lengths a b) (measures_keys lengths m in_head signed xs)
 measures_in lengths a b m in_head signed [] from to fit = tt
 measures_in lengths a b m in_head signed (x ∷ xs) from to fit =
-    let fs = flats_of x.body in
-    let high : total_ticks [] + total_ticks fs ≤ slice_index lengths m = omega (arith, fit.0) in
-    let before : m < b = omega arith in
+    let fs = flats_of x.body in let high : total_ticks [] + total_ticks fs ≤ slice_index lengths m = omega (arith, fit.0) in let before : m < b = omega arith in
     all_append (IsInSystem lengths a b) (events_keys m in_head signed [] fs) (key_at m (slice_index lengths m) Class.Bar 0 ∷ measures_keys lengths (m + 1) false (signed_through signed fs) xs)
     (all_weaker (UpTo m (slice_index lengths m)) (IsInSystem lengths a b) (in_system lengths a b m from before) (events_keys m in_head signed [] fs) (events_up_to m (slice_index lengths m) in_head signed [] fs high)) (
       in_system lengths a b m from before (key_at m (slice_index lengths m) Class.Bar 0) (record { measure = refl; tick = omega arith }),
@@ -116,8 +109,7 @@ kept_all P true (k ∷ ks) h = kept_one P (is_for_each k) k (filter is_for_each 
 
 voice_in : (lengths : List ℕ) (a b : ℕ) (v : Voice) → a < b → b ≤ length v.measures → ((k : ℕ) → k < length v.measures → length_in k v ≤ slice_index lengths k) → AllByRecursion (IsInSystem lengths a b) (voice_keys lengths a b v)
 voice_in lengths a b v order within fits =
-    let some = slice_range v.measures a b in
-    let count : length some ≤ b - a = omega (arith, length-take (b - a) (drop a v.measures)) in
+    let some = slice_range v.measures a b in let count : length some ≤ b - a = omega (arith, length-take (b - a) (drop a v.measures)) in
     kept_all (IsInSystem lengths a b) (is_lower v.seat) (all_keys lengths a b v) (
       record { from = omega arith; to = order; within = omega arith },
       all_append (IsInSystem lengths a b) (first_keys a v.first) (measures_keys lengths a true (signed_at a v) some)
@@ -136,9 +128,7 @@ called_in lengths a b n (v ∷ vs) order within same fits =
 -- The rising keys stand where those that are called for do.
 pub places_of : (s : Score) (a b : ℕ) (keys : List ColumnKey) → IsGoodScore s → a < b → b ≤ s.measures → AreKeys keys (called_keys s (timeline_of s).lengths a b) → All (IsInSystem (timeline_of s).lengths a b) keys
 places_of s a b keys good order within are =
-    let lengths = (timeline_of s).lengths in
-    let P : ColumnKey → Type 0 = IsInSystem lengths a b in
-    let same = recursion_from_All (λ v. length v.measures ≡ s.measures) s.voices good.measures in
+    let lengths = (timeline_of s).lengths in let P : ColumnKey → Type 0 = IsInSystem lengths a b in let same = recursion_from_All (λ v. length v.measures ≡ s.measures) s.voices good.measures in
     let called = All-from_recursion P (called_keys s lengths a b) (called_in lengths a b s.measures s.voices order within same (λ k h. omega (arith, length_is s k h))) in
     λ k d h. All-contains P (called_keys s lengths a b) (get_or keys k d) called (are.only (get_or keys k d) (Contains-get_or keys k d h))
 
@@ -155,8 +145,6 @@ further_in lengths m n (v ∷ vs) order same fits =
 
 pub further_places : (s : Score) (m : ℕ) (keys : List ColumnKey) → IsGoodScore s → m < s.measures → AreKeys keys (further_keys s (timeline_of s).lengths m) → All (IsInSystem (timeline_of s).lengths m (m + 1)) keys
 further_places s m keys good within are =
-    let lengths = (timeline_of s).lengths in
-    let P : ColumnKey → Type 0 = IsInSystem lengths m (m + 1) in
-    let same = recursion_from_All (λ v. length v.measures ≡ s.measures) s.voices good.measures in
+    let lengths = (timeline_of s).lengths in let P : ColumnKey → Type 0 = IsInSystem lengths m (m + 1) in let same = recursion_from_All (λ v. length v.measures ≡ s.measures) s.voices good.measures in
     let called = All-from_recursion P (further_keys s lengths m) (further_in lengths m s.measures s.voices within same (λ k h. omega (arith, length_is s k h))) in
     λ k d h. All-contains P (further_keys s lengths m) (get_or keys k d) called (are.only (get_or keys k d) (Contains-get_or keys k d h))

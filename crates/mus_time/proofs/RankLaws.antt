@@ -57,9 +57,7 @@ rank_most (x ∷ xs) k = by (is_below x k) (rank_most xs k)
 pub rank_less : (xs : List ColumnKey) (k : ColumnKey) → Contains xs k → rank_of xs k < length xs
 rank_less [] k (i, inside, is) = absurd (omega (arith, inside))
 rank_less (x ∷ xs) k (zero, inside, is) =
-    let e : rank_of (x ∷ xs) k ≡ rank_of xs k = ap (λ c. if c then 1 + rank_of xs k else rank_of xs k) (subst (λ z. is_below z k ≡ false) (sym is) (not_itself k)) in
-    let most = rank_most xs k in
-    omega (arith, e, most)
+    let e : rank_of (x ∷ xs) k ≡ rank_of xs k = ap (λ c. if c then 1 + rank_of xs k else rank_of xs k) (subst (λ z. is_below z k ≡ false) (sym is) (not_itself k)) in let most = rank_most xs k in omega (arith, e, most)
 rank_less (x ∷ xs) k (suc i, inside, is) = by (is_below x k) (rank_less xs k (i, omega (arith, inside), is))
   where
     by : (c : Bool) → rank_of xs k < length xs → (if c then 1 + rank_of xs k else rank_of xs k) < suc (length xs)
@@ -76,8 +74,7 @@ pub rank_at_place : (keys : List ColumnKey) (i : ℕ) (d : ColumnKey) → Rises 
 rank_at_place [] i d rise inside = absurd (omega (arith, inside))
 rank_at_place (k ∷ ks) zero d rise inside = first_rank k ks rise.0
 rank_at_place (k ∷ ks) (suc i) d rise inside =
-    let at = slice_index_or ks i d in
-    let more = rank_at_place ks i d rise.1 (omega (arith, inside)) in
+    let at = slice_index_or ks i d in let more = rank_at_place ks i d rise.1 (omega (arith, inside)) in
     ap (λ c. if c then 1 + rank_of ks at else rank_of ks at) (below_at k ks i d rise.0 (omega (arith, inside))) ∙ omega (arith, more)
 
 -- ranks rise with keys
@@ -96,9 +93,7 @@ pub rank_rises_more : (ks : List ColumnKey) (k l : ColumnKey) → is_below k l �
 rank_rises_more [] k l h (i, inside, is) = absurd (omega (arith, inside))
 rank_rises_more (x ∷ ks) k l h (zero, inside, is) =
     let e : rank_of (x ∷ ks) k ≡ rank_of ks k = ap (λ c. if c then 1 + rank_of ks k else rank_of ks k) (subst (λ z. is_below z k ≡ false) (sym is) (not_itself k)) in
-    let f : rank_of (x ∷ ks) l ≡ 1 + rank_of ks l = ap (λ c. if c then 1 + rank_of ks l else rank_of ks l) (subst (λ z. is_below z l ≡ true) (sym is) h) in
-    let more = rank_rises ks k l h in
-    omega (arith, e, f, more)
+    let f : rank_of (x ∷ ks) l ≡ 1 + rank_of ks l = ap (λ c. if c then 1 + rank_of ks l else rank_of ks l) (subst (λ z. is_below z l ≡ true) (sym is) h) in let more = rank_rises ks k l h in omega (arith, e, f, more)
 rank_rises_more (x ∷ ks) k l h (suc i, inside, is) = by (is_below x k) (is_below x l) (below_through x k l) (rank_rises_more ks k l h (i, omega (arith, inside), is))
   where
     by : (b c : Bool) → (b ≡ true → is_below k l ≡ true → c ≡ true) → rank_of ks k < rank_of ks l → (if b then 1 + rank_of ks k else rank_of ks k) < (if c then 1 + rank_of ks l else rank_of ks l)

@@ -27,10 +27,7 @@ weights_kept : (m : Move) (body : List Music) → sum (map weight (body_by m bod
 weights_kept m body = ap sum (fold_same (event_by m) weight_step (λ e. length-map e.heads (moved_head m)) (λ e. refl) body)
 
 body_good : (m : Move) (body : List Music) → IsGoodBody body → IsGoodBody (body_by m body)
-body_good m body good = record {
-  good = ap (λ js. (all_judged js outside).good) (fold_same (event_by m) good_step (note_judged m) (rest_judged m) body) ∙ good.good;
-  few = omega (arith, weights_kept m body, good.few);
-}
+body_good m body good = record { good = ap (λ js. (all_judged js outside).good) (fold_same (event_by m) good_step (note_judged m) (rest_judged m) body) ∙ good.good; few = omega (arith, weights_kept m body, good.few) }
 
 -- ---- events
 pub events_moved : (m : Move) (ms : List Measure) → events_of (map (measure_by m) ms) ≡ map (changed_flat (event_by m)) (events_of ms)
@@ -86,17 +83,13 @@ ReachAll vs = All (λ v. AreInReach v.clef (events_of v.measures)) vs
 
 voices_good : (m : Move) (vs : List Voice) → ReachAll (map (voice_by m) vs) → All IsGoodVoice vs → All IsGoodVoice (map (voice_by m) vs)
 voices_good m vs reach good = λ k d lt.
-    let inside : k < length vs = omega (arith, length-map vs (voice_by m), lt) in
-    let v = get_or vs k d in
-    let e = get_or-map (voice_by m) vs k d d inside in
+    let inside : k < length vs = omega (arith, length-map vs (voice_by m), lt) in let v = get_or vs k d in let e = get_or-map (voice_by m) vs k d d inside in
     subst IsGoodVoice (sym e) (voice_good m v (subst (λ (w : Voice). AreInReach w.clef (events_of w.measures)) e (reach k d lt)) (good k d inside))
 
 ids_apart : (m : Move) (vs : List Voice) → AllPairs (λ v w. v.id ≢ w.id) vs → AllPairs (λ v w. v.id ≢ w.id) (map (voice_by m) vs)
 ids_apart m vs h = λ i j d below lt.
-    let inside : j < length vs = omega (arith, length-map vs (voice_by m), lt) in
-    let e = ap (λ (v : Voice). v.id) (get_or-map (voice_by m) vs i d d (omega arith)) in
-    let f = ap (λ (v : Voice). v.id) (get_or-map (voice_by m) vs j d d inside) in
-    λ same. h i j d below inside (sym e ∙ same ∙ f)
+    let inside : j < length vs = omega (arith, length-map vs (voice_by m), lt) in let e = ap (λ (v : Voice). v.id) (get_or-map (voice_by m) vs i d d (omega arith)) in
+    let f = ap (λ (v : Voice). v.id) (get_or-map (voice_by m) vs j d d inside) in λ same. h i j d below inside (sym e ∙ same ∙ f)
 
 led_still : (m : Move) (vs : List Voice) → IsLed vs → IsLed (map (voice_by m) vs)
 led_still m [] h = tt
@@ -126,15 +119,12 @@ heads_decide : (clef : Clef) (hs : List Head) → Decides (list_all (in_reach cl
 heads_decide clef hs = Decides-by_and (in_reach clef) (IsInReach clef) (list_all (in_reach clef)) (head_decides clef) refl (λ _ _. refl) hs
 
 graces_decide : (clef : Clef) (gs : List Event) → Decides (list_all (λ g. list_all (in_reach clef) g.heads) gs) (All (λ g. All (IsInReach clef) g.heads) gs)
-graces_decide clef gs =
-    let test = λ (g : Event). list_all (in_reach clef) g.heads in
-    Decides-by_and test (λ g. All (IsInReach clef) g.heads) (list_all test) (λ g. heads_decide clef g.heads) refl (λ _ _. refl) gs
+graces_decide clef gs = let test = λ (g : Event). list_all (in_reach clef) g.heads in Decides-by_and test (λ g. All (IsInReach clef) g.heads) (list_all test) (λ g. heads_decide clef g.heads) refl (λ _ _. refl) gs
 
 flats_decide : (before : Clef) (fs : List Flat) → Decides (are_in_reach before fs) (AreInReach before fs)
 flats_decide before [] = (λ e. tt, λ h. refl)
 flats_decide before (f ∷ fs) =
-    let clef = clef_at before f.event in
-    let graces = list_all (λ (g : Event). list_all (in_reach clef) g.heads) f.graces in
+    let clef = clef_at before f.event in let graces = list_all (λ (g : Event). list_all (in_reach clef) g.heads) f.graces in
     Decides-like (list_all (in_reach clef) f.event.heads && (graces && are_in_reach clef fs)) (λ h. (h.0, h.1.0, h.1.1)) (λ h. (h.0, (h.1, h.2)))
     (Decides-and (list_all (in_reach clef) f.event.heads) (graces && are_in_reach clef fs) (heads_decide clef f.event.heads)
     (Decides-and graces (are_in_reach clef fs) (graces_decide clef f.graces) (flats_decide clef fs)))
@@ -152,15 +142,10 @@ pub has_moved : (s : Score) (key : Key) (by : ℤ) (m : Move) (t : Score) → m 
     → on_circle key ≡ true → list_all (voice_may m) s.voices ≡ true → all_in_reach t.voices ≡ true → CanMove s key by × (t ≡ moved_score s key by)
 has_moved s key by m t move is header voices reach =
     let e : t ≡ moved_score s key by = is ∙ ap (λ (n : Move). score_by n s) move in (
-      record {
-        header = header;
-        voices = ap (λ (n : Move). list_all (voice_may n) s.voices) (sym move) ∙ voices;
-        reach = subst (λ (u : Score). ReachAll u.voices) e ((voices_decide t.voices).0 reach);
-      },
+      record { header = header; voices = ap (λ (n : Move). list_all (voice_may n) s.voices) (sym move) ∙ voices; reach = subst (λ (u : Score). ReachAll u.voices) e ((voices_decide t.voices).0 reach) },
       e,
     )
 
 pub out_of_reach : (s : Score) (key : Key) (by : ℤ) (m : Move) (t : Score) → m ≡ move_from key by → t ≡ score_by m s → all_in_reach t.voices ≡ false → CanMove s key by → ⊥
 out_of_reach s key by m t move is out can =
-    let e : t ≡ moved_score s key by = is ∙ ap (λ (n : Move). score_by n s) move in
-    false≢true (sym out ∙ (voices_decide t.voices).1 (subst (λ (u : Score). ReachAll u.voices) (sym e) can.reach))
+    let e : t ≡ moved_score s key by = is ∙ ap (λ (n : Move). score_by n s) move in false≢true (sym out ∙ (voices_decide t.voices).1 (subst (λ (u : Score). ReachAll u.voices) (sym e) can.reach))

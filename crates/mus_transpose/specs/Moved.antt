@@ -108,10 +108,7 @@ key_may m k = on_circle k && is_signature (sharps_in k.signs +ℤ m.sharps)
 
 -- ---- events, the graces among them
 abbrev pub event_by : Move → Event → Event
-event_by m e = record e {
-  heads = map (moved_head m) e.heads;
-  changes = record { clef = e.changes.clef; key = option_map (key_by m) e.changes.key; meter = e.changes.meter };
-}
+event_by m e = record e { heads = map (moved_head m) e.heads; changes = record { clef = e.changes.clef; key = option_map (key_by m) e.changes.key; meter = e.changes.meter } }
 
 abbrev pub event_may : Move → Event → Bool
 event_may m e = list_all (head_moves m) e.heads && unwrap_or (option_map (key_may m) e.changes.key) true

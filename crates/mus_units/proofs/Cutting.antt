@@ -5,16 +5,11 @@ use Rattle.mus_units.{specs.{declared.value.Value.Value, Parts.{units_of, IsLong
 pub parts_within : (vs : List Value) (left : ℕ) → ArePartsOf left vs → left ≤ 2047 * length vs
 parts_within [] left h = omega arith
 parts_within (v ∷ vs) left h =
-    let rest = parts_within vs (left - units_of v) h.1 in
-    let short = value_short v h.0.dots in
-    omega arith
+    let rest = parts_within vs (left - units_of v) h.1 in let short = value_short v h.0.dots in omega arith
 
 pub too_long : (vs : List Value) (num den all : ℕ) → ((left other : ℕ) → left * den ≡ 512 * num → other * den ≡ 512 * num → left ≡ other) → all * den ≡ 512 * num → 16384 ≤ all → IsPartsOf num den vs → ⊥
 too_long vs num den all only is long h =
-    let same : all ≡ h.parts.0 = only all h.parts.0 is h.parts.1 in
-    let k = parts_within vs h.parts.0 h.parts.2 in
-    let few = h.few in
-    omega arith
+    let same : all ≡ h.parts.0 = only all h.parts.0 is h.parts.1 in let k = parts_within vs h.parts.0 h.parts.2 in let few = h.few in omega arith
 
 -- what the parts so far leave of the whole
 pub record IsCut (all : ℕ) (so_far : List Value) (left : ℕ) : Type 0 where
@@ -35,9 +30,7 @@ cut_more all so_far next left rest v cut longest some less is = rw (is, less) (r
   by_list : (vs ws : List Value) → length vs ≡ length so_far + length ws → ArePartsOf left ws → (us : List Value) × (length vs ≡ length (so_far ++ v ∷ []) + length us) × ArePartsOf (left - units_of v) us
   by_list vs [] e h = absurd (omega arith)
   by_list vs (w ∷ us) e h =
-      let same = same_units left w v h.0 longest in
-      let one = length-append so_far (v ∷ []) in
-      let sum : length vs ≡ length (so_far ++ v ∷ []) + length us = omega arith in
+      let same = same_units left w v h.0 longest in let one = length-append so_far (v ∷ []) in let sum : length vs ≡ length (so_far ++ v ∷ []) + length us = omega arith in
       (us, sum, subst (λ u. ArePartsOf (left - u) us) same h.1)
 
   only : (vs : List Value) → ArePartsOf all vs → (us : List Value) × (length vs ≡ length (so_far ++ v ∷ []) + length us) × ArePartsOf (left - units_of v) us

@@ -60,15 +60,11 @@ shorter_behind v u (x ∷ xs) h (inr i) = shorter_behind v u xs (grind (arith, n
 first_is : (left : ℕ) (v : Value) (xs : List Value) → descends xs ≡ true → IsLongest left v → IsIn xs v → find (λ y. nat_le (units_of y) left) xs ≡ Some v
 first_is left v [] d is i = absurd i
 first_is left v (x ∷ xs) d is (inl e) =
-    let fits : nat_le (units_of x) left ≡ true = (let k : units_of x ≤ left = subst (λ y. units_of y ≤ left) e is.within in grind (arith, nat_tests)) in
-    rw (fits, e) refl
+    let fits : nat_le (units_of x) left ≡ true = (let k : units_of x ≤ left = subst (λ y. units_of y ≤ left) e is.within in grind (arith, nat_tests)) in rw (fits, e) refl
 first_is left v (x ∷ xs) d is (inr i) =
-    let behind : list_all (λ y. nat_lt (units_of y) (units_of x)) xs ≡ true = grind (arith, nat_tests) in
-    let dots : x.dots ≤ 3 = grind (arith, nat_tests) in
-    let rest : descends xs ≡ true = grind (arith, nat_tests) in
-    let shorter = shorter_behind v (units_of x) xs behind i in
-    let none : nat_le (units_of x) left ≡ false = (let m : units_of x ≤ left → units_of x ≤ units_of v = is.longest x dots in grind (arith, nat_tests)) in
-    rw none (first_is left v xs rest is i)
+    let behind : list_all (λ y. nat_lt (units_of y) (units_of x)) xs ≡ true = grind (arith, nat_tests) in let dots : x.dots ≤ 3 = grind (arith, nat_tests) in
+    let rest : descends xs ≡ true = grind (arith, nat_tests) in let shorter = shorter_behind v (units_of x) xs behind i in
+    let none : nat_le (units_of x) left ≡ false = (let m : units_of x ≤ left → units_of x ≤ units_of v = is.longest x dots in grind (arith, nat_tests)) in rw none (first_is left v xs rest is i)
 
 pub longest_is_listed : (left : ℕ) (v : Value) → IsLongest left v → longest_within left ≡ Some v
 longest_is_listed left v is = first_is left v all_values refl is (value_in v is.dots)
@@ -76,9 +72,7 @@ longest_is_listed left v is = first_is left v all_values refl is (value_in v is.
 none_of : (left : ℕ) (xs : List Value) → descends xs ≡ true → left < 8 → find (λ y. nat_le (units_of y) left) xs ≡ None
 none_of left [] d h = refl
 none_of left (x ∷ xs) d h =
-    let long : nat_le (units_of x) left ≡ false = grind (arith, nat_tests) in
-    let rest : descends xs ≡ true = grind (arith, nat_tests) in
-    rw long (none_of left xs rest h)
+    let long : nat_le (units_of x) left ≡ false = grind (arith, nat_tests) in let rest : descends xs ≡ true = grind (arith, nat_tests) in rw long (none_of left xs rest h)
 
 pub none_is_listed : (left : ℕ) → left < 8 → longest_within left ≡ None
 none_is_listed left h = none_of left all_values refl h
@@ -88,9 +82,7 @@ pub too_long_to_cut : (n left : ℕ) → 2047 * n < left → cut_in n left ≡ N
 too_long_to_cut zero left h =
     let some : (left == 0) ≡ false = grind (arith, nat_tests) in rw some refl
 too_long_to_cut (suc n) left h =
-    let some : (left == 0) ≡ false = grind (arith, nat_tests) in
-    let fits : nat_le 1920 left ≡ true = grind (arith, nat_tests) in
-    let rest = too_long_to_cut n (left - 1920) (omega arith) in
+    let some : (left == 0) ≡ false = grind (arith, nat_tests) in let fits : nat_le 1920 left ≡ true = grind (arith, nat_tests) in let rest = too_long_to_cut n (left - 1920) (omega arith) in
     rw (some, fits, rest) refl
 
 -- the parts so far, and what is left
@@ -100,20 +92,17 @@ cut_at_end (suc n) left e = rw e refl
 
 pub cut_on : (n left : ℕ) (v : Value) → 1 ≤ left → IsLongest left v → cut_in (suc n) left ≡ option_map (λ vs. v ∷ vs) (cut_in n (left - units_of v))
 cut_on n left v some is =
-    let more : (left == 0) ≡ false = grind (arith, nat_tests) in
-    rw (more, longest_is_listed left v is) refl
+    let more : (left == 0) ≡ false = grind (arith, nat_tests) in rw (more, longest_is_listed left v is) refl
 
 pub cut_short : (n left : ℕ) → 1 ≤ left → left < 8 → cut_in (suc n) left ≡ None
 cut_short n left some short =
-    let more : (left == 0) ≡ false = grind (arith, nat_tests) in
-    rw (more, none_is_listed left short) refl
+    let more : (left == 0) ≡ false = grind (arith, nat_tests) in rw (more, none_is_listed left short) refl
 
 -- a length that isn't whole has none
 pub listed_none : (num den : ℕ) → ((left : ℕ) → left * den ≡ 512 * num → ⊥) → None ≡ parts_list num den
 unfolding parts_list
 listed_none num den none =
-    let not_whole : (512 * num / den * den == 512 * num) ≡ false = (let k = none (512 * num / den) in grind (arith, nat_tests)) in
-    rw not_whole refl
+    let not_whole : (512 * num / den * den == 512 * num) ≡ false = (let k = none (512 * num / den) in grind (arith, nat_tests)) in rw not_whole refl
 
 whole_is : (num den all : ℕ) → 1 ≤ den → all * den ≡ 512 * num → 512 * num / den ≡ all
 whole_is num den all some is = rw (← is) (mul-div_cancel all some)
@@ -121,26 +110,21 @@ whole_is num den all some is = rw (← is) (mul-div_cancel all some)
 pub listed_is : (num den all : ℕ) → 1 ≤ den → all * den ≡ 512 * num → parts_list num den ≡ cut_in 8 all
 unfolding parts_list
 listed_is num den all some is =
-    let whole : (all * den == 512 * num) ≡ true = grind (arith, nat_tests) in
-    rw (whole_is num den all some is, whole) refl
+    let whole : (all * den == 512 * num) ≡ true = grind (arith, nat_tests) in rw (whole_is num den all some is, whole) refl
 
 -- what is left to cut behind the parts so far
 pub done_at : (num den all left i : ℕ) (parts : List Value) → 1 ≤ den → all * den ≡ 512 * num → left ≡ 0 → option_map (λ vs. parts ++ vs) (cut_in (8 - i) left) ≡ cut_in 8 all → Some parts ≡ parts_list num den
 done_at num den all left i parts some is none so_far =
-    let put : option_map (λ vs. parts ++ vs) (cut_in (8 - i) left) ≡ Some parts = rw (cut_at_end (8 - i) left none, append-nil parts) refl in
-    sym (listed_is num den all some is ∙ sym so_far ∙ put)
+    let put : option_map (λ vs. parts ++ vs) (cut_in (8 - i) left) ≡ Some parts = rw (cut_at_end (8 - i) left none, append-nil parts) refl in sym (listed_is num den all some is ∙ sym so_far ∙ put)
 
 pub fails_at : (num den all left i : ℕ) (parts : List Value) → 1 ≤ den → all * den ≡ 512 * num → i < 8 → 1 ≤ left → left < 8 → option_map (λ vs. parts ++ vs) (cut_in (8 - i) left) ≡ cut_in 8 all → None ≡ parts_list num den
 fails_at num den all left i parts some is room more short so_far =
-    let turn : 8 - i ≡ suc (7 - i) = omega arith in
-    let put : option_map (λ vs. parts ++ vs) (cut_in (8 - i) left) ≡ None = rw (turn, cut_short (7 - i) left more short) refl in
+    let turn : 8 - i ≡ suc (7 - i) = omega arith in let put : option_map (λ vs. parts ++ vs) (cut_in (8 - i) left) ≡ None = rw (turn, cut_short (7 - i) left more short) refl in
     sym (listed_is num den all some is ∙ sym so_far ∙ put)
 
 pub left_over : (num den all left i : ℕ) (parts : List Value) → 1 ≤ den → all * den ≡ 512 * num → 8 ≤ i → 1 ≤ left → option_map (λ vs. parts ++ vs) (cut_in (8 - i) left) ≡ cut_in 8 all → None ≡ parts_list num den
 left_over num den all left i parts some is end more so_far =
-    let turn : 8 - i ≡ 0 = omega arith in
-    let rest : (left == 0) ≡ false = grind (arith, nat_tests) in
-    let put : option_map (λ vs. parts ++ vs) (cut_in (8 - i) left) ≡ None = rw (turn, rest) refl in
+    let turn : 8 - i ≡ 0 = omega arith in let rest : (left == 0) ≡ false = grind (arith, nat_tests) in let put : option_map (λ vs. parts ++ vs) (cut_in (8 - i) left) ≡ None = rw (turn, rest) refl in
     sym (listed_is num den all some is ∙ sym so_far ∙ put)
 
 pub long_at : (num den all : ℕ) → 1 ≤ den → all * den ≡ 512 * num → 16384 ≤ all → None ≡ parts_list num den

@@ -61,9 +61,7 @@ above_shown f =
 
 below_shown : (f : Flat) → AllByRecursion IsShown (texts_below f)
 unfolding texts_below
-below_shown f =
-    let e = f.event in
-    all_append IsShown (flat_map (shown_deco true) e.decos) _ (each_shown (shown_deco true) (deco_shown true) e.decos) (each_shown (shown_mention true) (mention_shown true) e.mentions)
+below_shown f = let e = f.event in all_append IsShown (flat_map (shown_deco true) e.decos) _ (each_shown (shown_deco true) (deco_shown true) e.decos) (each_shown (shown_mention true) (mention_shown true) e.mentions)
 
 module _ (IsVerse : ℕ → Type 0) (P : Drawn → Type 0) (w : OfWords IsVerse P) where
   syllable_any : (low : ℤ) (n : ℕ) (b : Bool) (t : List ℕ) → (length (printed t) == 0) ≡ b → IsVerse n

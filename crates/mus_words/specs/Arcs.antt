@@ -60,8 +60,7 @@ slur_mark left right piece from to = piece_mark left right piece (slur_dy from) 
 -- n is the number of the tie's head in the first event
 unfoldable pub tie_mark : ColumnKey → ColumnKey → Piece → ℕ → Seen → Seen → Bridge
 tie_mark left right piece n from to =
-    let head = slice_get from.heads n in let up = bulges_up from.plan in
-    piece_mark left right piece (tie_dy up from.clef head) (tie_dy up to.clef (tied_head head to.heads)) (tie_bulge up)
+    let head = slice_get from.heads n in let up = bulges_up from.plan in piece_mark left right piece (tie_dy up from.clef head) (tie_dy up to.clef (tied_head head to.heads)) (tie_bulge up)
 
 unfoldable pub arc_mark : ColumnKey → ColumnKey → Piece → Arc → Seen → Seen → Bridge
 arc_mark left right piece arc from to = if arc.tie then tie_mark left right piece arc.head from to else slur_mark left right piece from to

@@ -43,8 +43,7 @@ module _ (text : List ℕ) (budget count : ℕ) (calls : List Simple) (m : State
 
   pub come_unread : (cause : Cause) → calls ≡ [] → left ≡ [] → fault ≡ Some cause → Halts text budget count cause
   come_unread cause e f g =
-      let x = faulty c.rest cause (rw (f, g) at c.read) in
-      record { last = now calls m c.rest; within = c.within; run = c.run; halted = unreadable cause (record { calls = e; some = x.some; none = x.none }) }
+      let x = faulty c.rest cause (rw (f, g) at c.read) in record { last = now calls m c.rest; within = c.within; run = c.run; halted = unreadable cause (record { calls = e; some = x.some; none = x.none }) }
 
   module _ (t : Token) (calls2 : List Simple) (left2 : List Token) (taken : IsTaken calls left t calls2 left2) where
     pub come_more : (body new : List Simple) (k : State) → count < budget → executed t m ≡ went body k → new ≡ body ++ calls2 → Come text budget (count + 1) new k left2 fault

@@ -17,9 +17,7 @@ record Left (n k : ℕ) (r q : Place) : Type 0 where
 module _ (alone : BeginsInOneWay) where
   one_next : (p r q : Place) (t u : Token) → NextToken p t r → NextToken p u q → SameNext t u r q
   one_next _ _ _ _ _ (from_pending t ts m s) (from_pending _ _ _ _) = record { token = refl; place = refl }
-  one_next _ _ _ _ _ (from_text m s r t x) (from_text _ _ q u y) =
-      let z = alone.token s r q t u x y in
-      record { token = z.0; place = ap (at m) z.1 }
+  one_next _ _ _ _ _ (from_text m s r t x) (from_text _ _ q u y) = let z = alone.token s r q t u x y in record { token = z.0; place = ap (at m) z.1 }
 
   ended_stops : (p r : Place) (t : Token) → Ended p → NextToken p t r → ⊥
   ended_stops _ _ _ e (from_pending t ts m s) = absurd (nothing e.calls)
@@ -48,8 +46,7 @@ module _ (alone : BeginsInOneWay) where
   follows n _ _ q _ s e (here p) = record { more = n; sum = sym (zero-add n); steps = s }
   follows _ _ _ _ _ (here p) e (step k _ o r t ts) = absurd (ended_stops p t.rest t.token e t.next)
   follows _ _ _ _ _ (step n p o q s ss) e (step k _ u r t ts) =
-      let l = follows n k o q r ss e (subst (λ x. Steps k x r) (one_step p u o t s) ts) in
-      record { more = l.more; sum = ap suc l.sum ∙ sym (suc-add k l.more); steps = l.steps }
+      let l = follows n k o q r ss e (subst (λ x. Steps k x r) (one_step p u o t s) ts) in record { more = l.more; sum = ap suc l.sum ∙ sym (suc-add k l.more); steps = l.steps }
 
   still : (j : ℕ) (p q : Place) → Ended p → Steps j p q → p ≡ q
   still _ _ _ e (here p) = refl
@@ -58,8 +55,7 @@ module _ (alone : BeginsInOneWay) where
   -- pages are painted in one way
   one_painting : (text : List ℕ) (budget : ℕ) (ps qs : List PagePaint) → Paints text budget ps → Paints text budget qs → ps ≡ qs
   one_painting text budget ps qs a b =
-      let l = follows a.count b.count (at first_state text) a.last b.last a.run a.ended b.run in
-      let e = still l.more b.last a.last b.ended l.steps in
+      let l = follows a.count b.count (at first_state text) a.last b.last a.run a.ended b.run in let e = still l.more b.last a.last b.ended l.steps in
       sym a.painted ∙ (ap (λ (p : Place). p.state.pages) (sym e) ∙ b.painted)
 
   cannot_go : (budget count n j : ℕ) (p q : Place) (cause : Cause) → Cannot budget count p cause → Steps j p q → Ended q → n ≡ count + j → n ≤ budget → ⊥
@@ -69,8 +65,7 @@ module _ (alone : BeginsInOneWay) where
   cannot_go budget count n _ _ _ _ (unreadable cause u) (step j p o q t ts) e x w = unreadable_stops p t.rest t.token cause u t.next
   cannot_go budget count n _ _ _ _ (used_up b r) (step j p o q t ts) e x w = absurd (omega arith)
   cannot_go budget count n _ _ _ _ (stuck cause l s) (step j p o q t ts) e x w =
-      let m = one_next p t.rest s.rest t.token s.token t.next s.next in
-      absurd (differ (executed s.token p.state) t.body t.state cause (subst (λ z. executed z p.state ≡ went t.body t.state) m.token t.went) s.halts)
+      let m = one_next p t.rest s.rest t.token s.token t.next s.next in absurd (differ (executed s.token p.state) t.body t.state cause (subst (λ z. executed z p.state ≡ went t.body t.state) m.token t.went) s.halts)
     where
       differ : (o : Outcome) (b : List Simple) (m : State) (cause : Cause) → o ≡ went b m → o ≡ halted cause → ⊥
       differ o b m cause e f = cc
@@ -78,8 +73,7 @@ module _ (alone : BeginsInOneWay) where
   -- and where they are, the run doesn't halt
   no_halt : (text : List ℕ) (budget token : ℕ) (cause : Cause) (ps : List PagePaint) → Paints text budget ps → Halts text budget token cause → ⊥
   no_halt text budget token cause ps a h =
-      let l = follows a.count token (at first_state text) a.last h.last a.run a.ended h.run in
-      cannot_go budget token a.count l.more h.last a.last cause h.halted l.steps a.ended l.sum a.within
+      let l = follows a.count token (at first_state text) a.last h.last a.run a.ended h.run in cannot_go budget token a.count l.more h.last a.last cause h.halted l.steps a.ended l.sum a.within
 
   -- of two runs from one place one goes on where the other stands
   meets : (n k : ℕ) (p q r : Place) → Steps n p q → Steps k p r → Left n k r q ⊎ Left k n q r
@@ -101,9 +95,7 @@ module _ (alone : BeginsInOneWay) where
   one_unread p c d a b = alone.cause p.text c d a.none b.none
 
   one_stuck : (p : Place) (c d : Cause) → Stuck p c → Stuck p d → c ≡ d
-  one_stuck p c d a b =
-      let n = one_next p a.rest b.rest a.token b.token a.next b.next in
-      same_halt (executed b.token p.state) c d (subst (λ t. executed t p.state ≡ halted c) n.token a.halts) b.halts
+  one_stuck p c d a b = let n = one_next p a.rest b.rest a.token b.token a.next b.next in same_halt (executed b.token p.state) c d (subst (λ t. executed t p.state ≡ halted c) n.token a.halts) b.halts
 
   -- a run that can't go on has one cause
   one_cause : (budget count : ℕ) (p : Place) (c d : Cause) → Cannot budget count p c → Cannot budget count p d → c ≡ d
@@ -122,16 +114,13 @@ module _ (alone : BeginsInOneWay) where
   stands budget count p q _ (unreadable cause u) few t = unreadable_stops p t.rest t.token cause u t.next
   stands budget count p q _ (used_up b r) few t = absurd (omega arith)
   stands budget count p q _ (stuck cause l s) few t =
-      let m = one_next p t.rest s.rest t.token s.token t.next s.next in
-      differ (executed s.token p.state) t.body t.state cause (subst (λ z. executed z p.state ≡ went t.body t.state) m.token t.went) s.halts
+      let m = one_next p t.rest s.rest t.token s.token t.next s.next in differ (executed s.token p.state) t.body t.state cause (subst (λ z. executed z p.state ≡ went t.body t.state) m.token t.went) s.halts
 
   one_end : (budget n k : ℕ) (q r : Place) (c d : Cause) → (l : Left n k r q) → n ≤ budget → Cannot budget n q c → Cannot budget k r d → (n ≡ k) × (c ≡ d)
   one_end budget n k q r c d l within a b = by_steps l.more l.sum r q l.steps a b
     where
       by_steps : (j : ℕ) → n ≡ k + j → (r q : Place) → Steps j r q → Cannot budget n q c → Cannot budget k r d → (n ≡ k) × (c ≡ d)
-      by_steps _ e _ _ (here p) a b =
-          let same : n ≡ k = omega (arith, e) in
-          (same, one_cause budget k p c d (subst (λ i. Cannot budget i p c) same a) b)
+      by_steps _ e _ _ (here p) a b = let same : n ≡ k = omega (arith, e) in (same, one_cause budget k p c d (subst (λ i. Cannot budget i p c) same a) b)
       by_steps _ e _ _ (step j p o q t ts) a b = absurd (stands budget k p o d b (omega (arith, e, within)) t)
 
   -- a run halts at one token, and for one cause

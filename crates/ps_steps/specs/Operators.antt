@@ -133,10 +133,7 @@ setlinewidth [] m = halted Cause.Stack
 
 -- the font that was made, at size 1
 abbrev pub findfont : List Value → State → Outcome
-findfont (label_value name ∷ st) m = elim (m.made && bytes_eq name (codes "EngFont")) [
-  | true ↦ done (record m { stack = font_value (pos 1) ∷ st })
-  | false ↦ halted Cause.Name
-]
+findfont (label_value name ∷ st) m = elim (m.made && bytes_eq name (codes "EngFont")) [ true ↦ done (record m { stack = font_value (pos 1) ∷ st }) | false ↦ halted Cause.Name ]
 findfont (v ∷ st) m = halted Cause.Kind
 findfont [] m = halted Cause.Stack
 
@@ -153,9 +150,7 @@ setfont [] m = halted Cause.Stack
 -- words are shown at the current point, in the size of the font times the scale, and the path stays as it is
 abbrev pub shown_at : List ℕ → Option (ℤ × ℤ) → State → Outcome
 shown_at words None m = halted Cause.Point
-shown_at words (Some p) m =
-    let size = m.now.font *ℤ m.now.scale in
-    in_range (size ∷ []) (done (record m { paints = m.paints ++ Paint.Show size p.0 p.1 words ∷ [] }))
+shown_at words (Some p) m = let size = m.now.font *ℤ m.now.scale in in_range (size ∷ []) (done (record m { paints = m.paints ++ Paint.Show size p.0 p.1 words ∷ [] }))
 
 abbrev pub show : List Value → State → Outcome
 show (words_value words ∷ st) m = shown_at words (current m.now.path) (record m { stack = st })

@@ -58,8 +58,7 @@ by_glyph y zs name h =
     let a = and_parts (not (bytes_eq name (codes "st"))) (not (bytes_eq name (codes "ac")) && (not (bytes_eq name (codes "bu")) && (not (bytes_eq name (codes "bd")) && not (bytes_eq name (codes "gb"))))) h in
     let b = and_parts (not (bytes_eq name (codes "ac"))) (not (bytes_eq name (codes "bu")) && (not (bytes_eq name (codes "bd")) && not (bytes_eq name (codes "gb")))) a.1 in
     let c = and_parts (not (bytes_eq name (codes "bu"))) (not (bytes_eq name (codes "bd")) && not (bytes_eq name (codes "gb"))) b.1 in
-    let d = and_parts (not (bytes_eq name (codes "bd"))) (not (bytes_eq name (codes "gb"))) c.1 in
-    rw (not-true _ a.0, not-true _ b.0, not-true _ c.0, not-true _ d.0, not-true _ d.1) refl
+    let d = and_parts (not (bytes_eq name (codes "bd"))) (not (bytes_eq name (codes "gb"))) c.1 in rw (not-true _ a.0, not-true _ b.0, not-true _ c.0, not-true _ d.0, not-true _ d.1) refl
 
 pub glyph_found : (y x dx dy : ℤ) (g : Glyph) → IsOffset dx → IsOffset dy → mark_from y (dx ∷ dy ∷ x ∷ y ∷ []) (glyph_name g) ≡ Some (PageMark.Glyph g x dx dy)
 unfolding glyph_at
@@ -148,8 +147,7 @@ quarter_in (negsuc n) h = absurd (omega (arith, ints))
 wordless_numbers : (y : ℤ) (m : PageMark) → IsPageMark y m → AllByRecursion IsNumber (mark_numbers y m)
 wordless_numbers y (PageMark.Glyph glyph x dx dy) h = (offset_number dx h.across, (offset_number dy h.above, (h.anchor, (h.base, tt))))
 wordless_numbers y (PageMark.Words size x dx dy words) h = (offset_number dx h.0.across, (offset_number dy h.0.above, (h.0.anchor, (h.0.base, tt))))
-wordless_numbers y (PageMark.Stem x dx from to) h =
-    (offset_number dx h.start.across, (offset_number to h.end, (offset_number dx h.start.across, (offset_number from h.start.above, (h.start.anchor, (h.start.base, tt))))))
+wordless_numbers y (PageMark.Stem x dx from to) h = (offset_number dx h.start.across, (offset_number to h.end, (offset_number dx h.start.across, (offset_number from h.start.above, (h.start.anchor, (h.start.base, tt))))))
 wordless_numbers y (PageMark.Beam way x1 x2 from to) h = (h.stretch.first, (h.left.above, (h.stretch.last, (h.right.above, (h.stretch.last, (h.right.point, (h.stretch.first, (h.left.point, tt))))))))
 wordless_numbers y (PageMark.Arc x1 x2 from to bulge) h =
     let q = quarter_in (x2 -ℤ x1) (omega (arith, ints, h.stretch.rising)) in
@@ -176,9 +174,7 @@ wordless_found y (PageMark.Arc x1 x2 from to bulge) w h = arc_found y x1 x2 from
 
 words_text : (size : Size) (x dx dy y : ℤ) (words rest : List ℕ) → words_line size x dx dy words y ≡ 40 ∷ rest → rest ≡ flat_map shown words ++ 41 ∷ 32 ∷ (numbers (dx ∷ dy ∷ x ∷ y ∷ []) ++ size_name size)
 unfolding words_line in_parentheses
-words_text size x dx dy y words rest e =
-    let line : 40 ∷ (flat_map shown words ++ 41 ∷ 32 ∷ (numbers (dx ∷ dy ∷ x ∷ y ∷ []) ++ size_name size)) ≡ 40 ∷ rest = sym (simp append_assoc) ∙ e in
-    cc
+words_text size x dx dy y words rest e = let line : 40 ∷ (flat_map shown words ++ 41 ∷ 32 ∷ (numbers (dx ∷ dy ∷ x ∷ y ∷ []) ++ size_name size)) ≡ 40 ∷ rest = sym (simp append_assoc) ∙ e in cc
 
 is_wordless : (y : ℤ) (m : PageMark) (first : ℕ) (rest : List ℕ) → (first ≡ 40 → ⊥) → mark_line y m ≡ first ∷ rest → IsWordless m
 unfolding words_line in_parentheses
@@ -204,8 +200,7 @@ pub found_wordless : (y : ℤ) (line rest : List ℕ) (first : ℕ) (o : Option 
     → ((zs : List ℤ) (name : List ℕ) → AllByRecursion IsNumber zs → list_all is_field name ≡ true → line ≡ numbers zs ++ name → o ≡ mark_from y zs name)
     → (m : PageMark) → IsPageMark y m → mark_line y m ≡ line → o ≡ Some m
 found_wordless y line rest first o is not reads m h e =
-    let w = is_wordless y m first rest not (e ∙ is) in
-    reads (mark_numbers y m) (mark_name m) (wordless_numbers y m h) (name_is_field m) (sym e ∙ wordless_line y m w) ∙ wordless_found y m w h
+    let w = is_wordless y m first rest not (e ∙ is) in reads (mark_numbers y m) (mark_name m) (wordless_numbers y m h) (name_is_field m) (sym e ∙ wordless_line y m w) ∙ wordless_found y m w h
 
 -- no line of a mark is empty
 not_empty : (xs ys : List ℕ) (b : ℕ) → xs ++ b ∷ ys ≡ [] → ⊥

@@ -45,15 +45,11 @@ signed_is_field (negsuc n) h = decimal_is_field (suc n) (omega (arith, ints))
 -- a field ends where a space follows it
 pub prefix_len-field : (xs rest : List ℕ) → list_all is_field xs ≡ true → prefix_len is_field (xs ++ 32 ∷ rest) ≡ length xs
 prefix_len-field [] rest h = refl
-prefix_len-field (x ∷ xs) rest h =
-    let p = and_parts (is_field x) (list_all is_field xs) h in
-    rw (p.0, prefix_len-field xs rest p.1) (omega arith)
+prefix_len-field (x ∷ xs) rest h = let p = and_parts (is_field x) (list_all is_field xs) h in rw (p.0, prefix_len-field xs rest p.1) (omega arith)
 
 pub prefix_len-last : (xs : List ℕ) → list_all is_field xs ≡ true → prefix_len is_field xs ≡ length xs
 prefix_len-last [] h = refl
-prefix_len-last (x ∷ xs) h =
-    let p = and_parts (is_field x) (list_all is_field xs) h in
-    rw (p.0, prefix_len-last xs p.1) (omega arith)
+prefix_len-last (x ∷ xs) h = let p = and_parts (is_field x) (list_all is_field xs) h in rw (p.0, prefix_len-last xs p.1) (omega arith)
 
 -- the number at the front, and what stands from its space on
 pub front_of_number : (z : ℤ) (rest bytes : List ℕ) → ReadsNumber z rest bytes → take (prefix_len is_field bytes) bytes ≡ signed_decimal z
@@ -64,9 +60,7 @@ back_of_number z rest bytes h = rw (h.spelled, prefix_len-field (signed_decimal 
 
 -- a slice without its first byte
 pub tail_of : (back rest : List ℕ) (b : ℕ) → back ≡ b ∷ rest → take (length back - 1) (drop 1 back) ≡ rest
-tail_of back rest b e =
-    let n : length {A = ℕ} (b ∷ rest) - 1 ≡ length rest = omega arith in
-    rw (e, n) (take-length rest)
+tail_of back rest b e = let n : length {A = ℕ} (b ∷ rest) - 1 ≡ length rest = omega arith in rw (e, n) (take-length rest)
 
 pub no_back : (bytes : List ℕ) → list_all is_field bytes ≡ true → length (drop (prefix_len is_field bytes) bytes) < 1
 no_back bytes h = rw (prefix_len-last bytes h, drop-length bytes) (omega arith)

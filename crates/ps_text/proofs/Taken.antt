@@ -13,8 +13,7 @@ words_more : (text rest words tail left : List ℕ) (b : ℕ) (after : List ℕ)
     → ((x : ℕ) (r : List ℕ) → IsTrue (is_shown x) → rest ≡ shown x ++ r → (b ≡ x) × (after ≡ r)) → ((r : List ℕ) → rest ≡ 41 ∷ r → ⊥) → WordsLeft (text ++ b ∷ []) after words tail
 words_more text rest words tail [] b after w g f reads ends = absurd (ends tail f)
 words_more text rest words tail (x ∷ xs) b after w g f reads ends =
-    let both = and_parts (is_shown x) (list_all is_shown xs) g in
-    let p = reads x (flat_map shown xs ++ 41 ∷ tail) both.0 (f ∙ append_assoc (shown x) (flat_map shown xs) (41 ∷ tail)) in
+    let both = and_parts (is_shown x) (list_all is_shown xs) g in let p = reads x (flat_map shown xs ++ 41 ∷ tail) both.0 (f ∙ append_assoc (shown x) (flat_map shown xs) (41 ∷ tail)) in
     record { left = xs; whole = rw (p.0, append_assoc) w; good = both.1; follows = p.1 }
 
 pub words_step : (text rest words tail : List ℕ) (b : ℕ) (after : List ℕ) → WordsLeft text rest words tail
@@ -25,8 +24,7 @@ words_last : (text rest words tail left : List ℕ) → text ++ left ≡ words �
     → ((x : ℕ) (r : List ℕ) → IsTrue (is_shown x) → rest ≡ shown x ++ r → ⊥) → (text ≡ words) × (rest ≡ 41 ∷ tail)
 words_last text rest words tail [] w g f none = (sym (append-nil text) ∙ w, f)
 words_last text rest words tail (x ∷ xs) w g f none =
-    let both = and_parts (is_shown x) (list_all is_shown xs) g in
-    absurd (none x (flat_map shown xs ++ 41 ∷ tail) both.0 (f ∙ append_assoc (shown x) (flat_map shown xs) (41 ∷ tail)))
+    let both = and_parts (is_shown x) (list_all is_shown xs) g in absurd (none x (flat_map shown xs ++ 41 ∷ tail) both.0 (f ∙ append_assoc (shown x) (flat_map shown xs) (41 ∷ tail)))
 
 pub words_end : (text rest words tail : List ℕ) → WordsLeft text rest words tail → ((x : ℕ) (r : List ℕ) → IsTrue (is_shown x) → rest ≡ shown x ++ r → ⊥) → (text ≡ words) × (rest ≡ 41 ∷ tail)
 words_end text rest words tail s none = words_last text rest words tail s.left s.whole s.good s.follows none
@@ -53,8 +51,7 @@ numbers_more : (row : List ℤ) (rest : List ℕ) (zs : List ℤ) (name : List �
     → ((x : ℤ) (r : List ℕ) → ReadsNumber x r rest → (z ≡ x) × (after ≡ r)) → (rest ≡ name → ⊥) → NumbersLeft (row ++ z ∷ []) after zs name
 numbers_more row rest zs name [] z after w g f reads ends = absurd (ends (f ∙ numbers_nil name))
 numbers_more row rest zs name (x ∷ xs) z after w g f reads ends =
-    let p = reads x (numbers xs ++ name) (record { number = g.0; spelled = f ∙ numbers_cons x xs name }) in
-    record { left = xs; whole = rw (p.0, append_assoc) w; good = g.1; follows = p.1 }
+    let p = reads x (numbers xs ++ name) (record { number = g.0; spelled = f ∙ numbers_cons x xs name }) in record { left = xs; whole = rw (p.0, append_assoc) w; good = g.1; follows = p.1 }
 
 pub numbers_step : (row : List ℤ) (rest : List ℕ) (zs : List ℤ) (name : List ℕ) (z : ℤ) (after : List ℕ) → NumbersLeft row rest zs name
     → ((x : ℤ) (r : List ℕ) → ReadsNumber x r rest → (z ≡ x) × (after ≡ r)) → (rest ≡ name → ⊥) → NumbersLeft (row ++ z ∷ []) after zs name

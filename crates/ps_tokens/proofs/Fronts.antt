@@ -24,15 +24,11 @@ one_run p [] [] r q a b c d e = (refl, e)
 one_run p [] (x ∷ v) r q a b c d e = absurd (true≢false (sym (and_parts (p x) (list_all p v) b).0 ∙ (ap (begins p) (sym e) ∙ c)))
 one_run p (x ∷ w) [] r q a b c d e = absurd (true≢false (sym (and_parts (p x) (list_all p w) a).0 ∙ (ap (begins p) e ∙ d)))
 one_run p (x ∷ w) (y ∷ v) r q a b c d e =
-    let h : x ≡ y = ap (λ s. get_or s 0 0) e in
-    let m = one_run p w v r q (and_parts (p x) (list_all p w) a).1 (and_parts (p y) (list_all p v) b).1 c d (ap (drop 1) e) in
-    (ap (λ t. x ∷ t) m.0 ∙ ap (λ z. z ∷ v) h, m.1)
+    let h : x ≡ y = ap (λ s. get_or s 0 0) e in let m = one_run p w v r q (and_parts (p x) (list_all p w) a).1 (and_parts (p y) (list_all p v) b).1 c d (ap (drop 1) e) in (ap (λ t. x ∷ t) m.0 ∙ ap (λ z. z ∷ v) h, m.1)
 
 -- where the longest word is no name, no word is
 pub no_name : (s w r : List ℕ) → s ≡ w ++ r → list_all is_regular w ≡ true → begins is_regular r ≡ false → is_name w ≡ false → (v q : List ℕ) → IsWord s v q → is_name v ≡ true → ⊥
-no_name s w r e a m n v q i t =
-    let u = one_run is_regular w v r q a i.regular m i.maximal (sym e ∙ i.cut) in
-    true≢false (sym t ∙ (sym (ap is_name u.0) ∙ n))
+no_name s w r e a m n v q i t = let u = one_run is_regular w v r q a i.regular m i.maximal (sym e ∙ i.cut) in true≢false (sym t ∙ (sym (ap is_name u.0) ∙ n))
 
 pub name_some : (w : List ℕ) → is_name w ≡ true → 1 ≤ length w
 name_some [] e = absurd (true≢false (sym e))

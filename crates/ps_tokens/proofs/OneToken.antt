@@ -59,9 +59,7 @@ some_none o t e f = cc
 
 one_worded : (s : List ℕ) (x y : Read) → Worded s x → Worded s y → x ≡ y
 one_worded s _ _ (as_word w r t i e) (as_word v q u j f) =
-    let z = one_word s w r v q i j in
-    let same : t ≡ u = some_same t u (sym e ∙ (ap word_token z.0 ∙ f)) in
-    ap (λ x. found x r) same ∙ ap (found u) z.1
+    let z = one_word s w r v q i j in let same : t ≡ u = some_same t u (sym e ∙ (ap word_token z.0 ∙ f)) in ap (λ x. found x r) same ∙ ap (found u) z.1
   where
     some_same : (t u : Simple) → Some t ≡ Some u → t ≡ u
     some_same t u e = cc
@@ -176,17 +174,13 @@ one_body _ _ _ _ _ (closes s r f) (closes _ q g) = (refl, closing_same r q (one_
 one_body _ _ _ _ _ (closes s r f) (goes_on _ q _ u us g b) = let e : closing r ≡ found u q = one_front (passed false s) _ _ f g in cc
 one_body _ _ _ _ _ (goes_on s r _ t ts f a) (closes _ q g) = let e : found t r ≡ closing q = one_front (passed false s) _ _ f g in cc
 one_body _ _ _ _ _ (goes_on s r l t ts f a) (goes_on _ q m u us g b) =
-    let z = found_same t u r q (one_front (passed false s) _ _ f g) in
-    let y = one_body q ts us l m (subst (λ w. Body w ts l) z.1 a) b in
-    (ap (λ w. w ∷ ts) z.0 ∙ ap (λ w. u ∷ w) y.0, y.1)
+    let z = found_same t u r q (one_front (passed false s) _ _ f g) in let y = one_body q ts us l m (subst (λ w. Body w ts l) z.1 a) b in (ap (λ w. w ∷ ts) z.0 ∙ ap (λ w. u ∷ w) y.0, y.1)
 
 one_token : (s r q : List ℕ) (t u : Token) → TokenAt s t r → TokenAt s u q → (t ≡ u) × (r ≡ q)
 one_token s _ _ _ _ (simple_at t r f) (simple_at u q g) = let z = found_same t u r q (one_front s _ _ f g) in (ap simple_token z.0, z.1)
 one_token s _ _ _ _ (simple_at t r f) (procedure_at o q us g b) = let e : found t r ≡ opening o = one_front s _ _ f g in cc
 one_token s _ _ _ _ (procedure_at o r ts f a) (simple_at u q g) = let e : opening o ≡ found u q = one_front s _ _ f g in cc
-one_token s _ _ _ _ (procedure_at o r ts f a) (procedure_at p q us g b) =
-    let y = one_body p ts us r q (subst (λ w. Body w ts r) (opening_same o p (one_front s _ _ f g)) a) b in
-    (ap procedure_token y.0, y.1)
+one_token s _ _ _ _ (procedure_at o r ts f a) (procedure_at p q us g b) = let y = one_body p ts us r q (subst (λ w. Body w ts r) (opening_same o p (one_front s _ _ f g)) a) b in (ap procedure_token y.0, y.1)
 
 body_or_none : (s : List ℕ) (ts : List Simple) (r : List ℕ) (cause : Cause) → Body s ts r → NoBody s cause → ⊥
 body_or_none _ _ _ _ (closes s r f) (unclosed _ e) = front_some (passed false s) (closing r) f e
@@ -196,9 +190,7 @@ body_or_none _ _ _ _ (closes s r f) (later _ q t cause g n) = let e : closing r 
 body_or_none _ _ _ _ (goes_on s r l t ts f a) (unclosed _ e) = front_some (passed false s) (found t r) f e
 body_or_none _ _ _ _ (goes_on s r l t ts f a) (nested _ q g) = let e : found t r ≡ opening q = one_front (passed false s) _ _ f g in cc
 body_or_none _ _ _ _ (goes_on s r l t ts f a) (unread_within _ cause g) = let e : found t r ≡ unread cause = one_front (passed false s) _ _ f g in cc
-body_or_none _ _ _ _ (goes_on s r l t ts f a) (later _ q u cause g n) =
-    let z = found_same t u r q (one_front (passed false s) _ _ f g) in
-    body_or_none q ts l cause (subst (λ w. Body w ts l) z.1 a) n
+body_or_none _ _ _ _ (goes_on s r l t ts f a) (later _ q u cause g n) = let z = found_same t u r q (one_front (passed false s) _ _ f g) in body_or_none q ts l cause (subst (λ w. Body w ts l) z.1 a) n
 
 not_both : (s r : List ℕ) (t : Token) (cause : Cause) → TokenAt s t r → NoToken s cause → ⊥
 not_both s _ _ _ (simple_at t r f) (unread_at cause g) = let e : found t r ≡ unread cause = one_front s _ _ f g in cc
@@ -231,9 +223,7 @@ one_fault_within _ _ _ (unread_within s c f) (later _ q t d g n) = let e : unrea
 one_fault_within _ _ _ (later s r t c f m) (unclosed _ e) = absurd (front_some (passed false s) (found t r) f e)
 one_fault_within _ _ _ (later s r t c f m) (nested _ q g) = let e : found t r ≡ opening q = one_front (passed false s) _ _ f g in cc
 one_fault_within _ _ _ (later s r t c f m) (unread_within _ d g) = let e : found t r ≡ unread d = one_front (passed false s) _ _ f g in cc
-one_fault_within _ _ _ (later s r t c f m) (later _ q u d g n) =
-    let z = found_same t u r q (one_front (passed false s) _ _ f g) in
-    one_fault_within q c d (subst (λ w. NoBody w c) z.1 m) n
+one_fault_within _ _ _ (later s r t c f m) (later _ q u d g n) = let z = found_same t u r q (one_front (passed false s) _ _ f g) in one_fault_within q c d (subst (λ w. NoBody w c) z.1 m) n
 
 one_fault : (s : List ℕ) (c d : Cause) → NoToken s c → NoToken s d → c ≡ d
 one_fault s _ _ (unread_at c f) (unread_at d g) = unread_same c d (one_front s _ _ f g)

@@ -8,10 +8,7 @@ pub record ProgramStage (text : List ℕ) (so_far : List Token) (rest : List ℕ
   pub starts : begins is_skipped rest ≡ false
 
 pub program_more : (text rest r after : List ℕ) (so_far : List Token) (t : Token) → ProgramStage text so_far rest → TokenAt rest t r → after ≡ passed false r → begins is_skipped after ≡ false → ProgramStage text (so_far ++ t ∷ []) after
-program_more text rest r after so_far t p h e s = record {
-  more = λ ts fault x. rw (append_assoc so_far (t ∷ []) ts) (p.more (t ∷ ts) fault (token_read rest r t ts fault h (rw e at x)));
-  starts = s;
-}
+program_more text rest r after so_far t p h e s = record { more = λ ts fault x. rw (append_assoc so_far (t ∷ []) ts) (p.more (t ∷ ts) fault (token_read rest r t ts fault h (rw e at x))); starts = s }
 
 pub program_ends : (text rest : List ℕ) (so_far : List Token) → ProgramStage text so_far rest → rest ≡ [] → IsRead text so_far None
 program_ends text rest so_far p e = rw append-nil at (p.more [] None (rw e all_read))

@@ -46,13 +46,8 @@ octal_numbers x y z s h k l m = octal_at (48 + x) (48 + y) (48 + z) (x * 64 + y 
 
 pub octal_byte : (a b c : ℕ) (s : List ℕ) → is_lead a ≡ true → is_octal b ≡ true → is_octal c ≡ true → 160 ≤ (a - 48) * 64 + (b - 48) * 8 → IsByte (92 ∷ a ∷ b ∷ c ∷ s) ((a - 48) * 64 + (b - 48) * 8 + (c - 48)) s
 octal_byte a b c s e f g l =
-    let x = lead_range a e in
-    let y = octal_range b f in
-    let z = octal_range c g in
-    let i : a ≡ 48 + (a - 48) = omega (arith, x.0) in
-    let j : b ≡ 48 + (b - 48) = omega (arith, y.0) in
-    let k : c ≡ 48 + (c - 48) = omega (arith, z.0) in
-    let o = octal_numbers (a - 48) (b - 48) (c - 48) s (omega (arith, x.1)) (omega (arith, y.1)) (omega (arith, z.1)) l in
+    let x = lead_range a e in let y = octal_range b f in let z = octal_range c g in let i : a ≡ 48 + (a - 48) = omega (arith, x.0) in let j : b ≡ 48 + (b - 48) = omega (arith, y.0) in
+    let k : c ≡ 48 + (c - 48) = omega (arith, z.0) in let o = octal_numbers (a - 48) (b - 48) (c - 48) s (omega (arith, x.1)) (omega (arith, y.1)) (omega (arith, z.1)) l in
     record { good = o.good; spelled = three a b c _ _ _ s i j k ∙ o.spelled }
 
 -- the beginnings of a spelled byte
@@ -99,10 +94,7 @@ record Digits (b : ℕ) (s u : List ℕ) : Type 0 where
   is : s ≡ (48 + b / 64) ∷ (48 + b / 8 % 8) ∷ (48 + b % 8) ∷ u
 
 digits_of : (b a : ℕ) (s u : List ℕ) → is_special a ≡ false → IsTrue (is_shown b) → 92 ∷ a ∷ s ≡ shown b ++ u → Digits b (a ∷ s) u
-digits_of b a s u n h e = elim (escaped_of b (a ∷ s) u h e) [
-  | as_it_is f k ↦ absurd (differ a b is_special (head_equal a b s u k) n f)
-  | as_digits l m k ↦ record { low = l; high = m; is = k }
-]
+digits_of b a s u n h e = elim (escaped_of b (a ∷ s) u h e) [ as_it_is f k ↦ absurd (differ a b is_special (head_equal a b s u k) n f) | as_digits l m k ↦ record { low = l; high = m; is = k } ]
 
 broken_slash : (a : ℕ) (s : List ℕ) → is_special a ≡ false → ((b : ℕ) (t u : List ℕ) → Digits b (a ∷ (s ++ t)) u → ⊥) → IsBroken (92 ∷ a ∷ s)
 broken_slash a s n f = record { no_byte = λ b t u h e. f b t u (digits_of b a (s ++ t) u n h e); no_close = λ t u e. apart 92 41 (a ∷ (s ++ t)) u (λ k. omega (arith, k)) e }

@@ -88,8 +88,7 @@ one_words (x ∷ w) [] r q a b e = absurd (not_close x (flat_map shown w ++ 41 �
 one_words (x ∷ w) (c ∷ v) r q a b e =
     let p = one_byte x c (flat_map shown w ++ 41 ∷ r) (flat_map shown v ++ 41 ∷ q) (and_parts (is_shown x) (list_all is_shown w) a).0 (and_parts (is_shown c) (list_all is_shown v) b).0
     (sym (append_assoc (shown x) (flat_map shown w) (41 ∷ r)) ∙ (e ∙ append_assoc (shown c) (flat_map shown v) (41 ∷ q))) in
-    let rest = one_words w v r q (and_parts (is_shown x) (list_all is_shown w) a).1 (and_parts (is_shown c) (list_all is_shown v) b).1 p.1 in
-    (ap (λ y. y ∷ w) p.0 ∙ ap (λ t. c ∷ t) rest.0, rest.1)
+    let rest = one_words w v r q (and_parts (is_shown x) (list_all is_shown w) a).1 (and_parts (is_shown c) (list_all is_shown v) b).1 p.1 in (ap (λ y. y ∷ w) p.0 ∙ ap (λ t. c ∷ t) rest.0, rest.1)
 
 -- a string stands at the front in one way
 pub one_string : (s w r v q : List ℕ) → IsString s w r → IsString s v q → (w ≡ v) × (r ≡ q)

@@ -25,8 +25,7 @@ sent_more old mid new start before written text rest all s p e = record {
 -- all of it did
 pub sent_all : (old new : Option (List ℕ)) (start written : ℕ) (all : List ℕ) → Sent old new start written [] all → Appends old new all × (written ≡ start + length all)
 sent_all old new start written all s =
-    let e : s.front ≡ all = sym (s.whole ∙ append-nil s.front) in
-    (subst (λ (text : List ℕ). Appends old new text) e s.sent, subst (λ (text : List ℕ). written ≡ start + length text) e s.count)
+    let e : s.front ≡ all = sym (s.whole ∙ append-nil s.front) in (subst (λ (text : List ℕ). Appends old new text) e s.sent, subst (λ (text : List ℕ). written ≡ start + length text) e s.count)
 
 -- a first part that failed
 pub wrote_first : (old new : Option (List ℕ)) (text rest : List ℕ) (e : DocError) → WroteFront old new text e → WroteFront old new (text ++ rest) e
@@ -37,8 +36,7 @@ wrote_first old new text rest DocError.Memory w = (w.0, rw (take-append-le w.0 t
 pub wrote_second : (old mid new : Option (List ℕ)) (front text : List ℕ) (n : ℕ) (e : DocError) → length front ≡ n → Appends old mid front → WroteFront mid new text e → WroteFront old new (front ++ text) (counted_from n e)
 wrote_second old mid new front text n (DocError.Write e) k p w =
     (rw (← k, take-append-add front text e.written) (Appends-trans old mid new front (take e.written text) p w.0), omega (arith, length-append front text, w.1, k))
-wrote_second old mid new front text n DocError.Memory k p w =
-    (n + w.0, rw (← k, take-append-add front text w.0) (Appends-trans old mid new front (take w.0 text) p w.1), omega (arith, length-append front text, w.2, k))
+wrote_second old mid new front text n DocError.Memory k p w = (n + w.0, rw (← k, take-append-add front text w.0) (Appends-trans old mid new front (take w.0 text) p w.1), omega (arith, length-append front text, w.2, k))
 
 -- a part that failed after n bytes, told for the whole
 pub wrote_part : (old mid new : Option (List ℕ)) (start before n : ℕ) (text rest all : List ℕ) (e : DocError) → Sent old mid start before (text ++ rest) all → start + n ≡ before → WroteFront mid new text e → WroteFront old new all (counted_from n e)

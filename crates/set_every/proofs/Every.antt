@@ -64,20 +64,14 @@ module _ (every_text : EveryTextIsRead) (every_score : EveryScoreIsLaid) where
     ]
 
     has_result : IsGoodDefaults terms.defaults → HasResult
-    has_result good = elim (every_text.header tune terms.defaults good) [
-      | inl f ↦ faulty f.0 (of_header f.0 f.1)
-      | inr h ↦ writes h.0 (record { value = h.1; clear = h.2 }) h.3.0
-    ]
+    has_result good = elim (every_text.header tune terms.defaults good) [ inl f ↦ faulty f.0 (of_header f.0 f.1) | inr h ↦ writes h.0 (record { value = h.1; clear = h.2 }) h.3.0 ]
 
     has_outcome : IsGoodDefaults terms.defaults → (o : Outcome) × IsOutcome terms tune o
     has_outcome good = let r = has_result good in (record { ordinal = tune.ordinal; result = r.0 }, record { ordinal = refl; result = r.1 })
 
   has_outcomes : (terms : Terms) (tunes : List TuneText) → IsGoodDefaults terms.defaults → (os : List Outcome) × AreOutcomes terms tunes os
   has_outcomes terms [] good = ([], tt)
-  has_outcomes terms (tune ∷ tunes) good =
-      let first = has_outcome tune terms good in
-      let others = has_outcomes terms tunes good in
-      (first.0 ∷ others.0, (first.1, others.1))
+  has_outcomes terms (tune ∷ tunes) good = let first = has_outcome tune terms good in let others = has_outcomes terms tunes good in (first.0 ∷ others.0, (first.1, others.1))
 
   pub every_tune : EveryTuneHasAnOutcome
   every_tune = record {

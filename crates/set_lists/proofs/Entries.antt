@@ -16,8 +16,6 @@ outcomes_are (o ∷ os) = ap (λ t. result_text o.ordinal o.result ++ t) (outcom
 pub put_all : (os : List Outcome) (old one two three : List ℕ) → one ≡ old ++ lines_then (Line.Listing ∷ []) [] → two ≡ one ++ outcomes_text os
     → three ≡ two ++ lines_then (Line.End ∷ []) [] → three ≡ old ++ listing_text os
 put_all os old one two three e f g =
-    let first = lines_then (Line.Listing ∷ []) [] in
-    let last = lines_then (Line.End ∷ []) [] in
-    let middle = outcomes_text os in
+    let first = lines_then (Line.Listing ∷ []) [] in let last = lines_then (Line.End ∷ []) [] in let middle = outcomes_text os in
     g ∙ (ap (λ t. t ++ last) (f ∙ ap (λ t. t ++ middle) e) ∙ (append_assoc (old ++ first) middle last ∙ (append_assoc old first (middle ++ last)
     ∙ ap (λ t. old ++ t) (ap (λ t. first ++ (t ++ last)) (outcomes_are os) ∙ sym (in_parts (entries_of os))))))

@@ -32,8 +32,7 @@ module _ (one : HaveOneOutcome) (tune : TuneText) (terms : Terms) (header : Head
     (has : HasScore tune terms.defaults terms.manner header score) where
   -- a score that is laid out has a legal breaking
   laid_legal : (t : SetTune) → IsLaidTune tune terms t → IsLegalIn score (width_of terms.paper) t.breaking.breaks
-  laid_legal t laid =
-      subst (λ s. IsLegalIn s (width_of terms.paper) t.breaking.breaks) (one.score tune terms.defaults terms.manner t.header header t.score score laid.score has) laid.layout.least.legal
+  laid_legal t laid = subst (λ s. IsLegalIn s (width_of terms.paper) t.breaking.breaks) (one.score tune terms.defaults terms.manner t.header header t.score score laid.score has) laid.layout.least.legal
 
   told : (f : Fault) (reached : ℕ) → f.kind ≡ FaultKind.NoWay reached → IsFaultOfTune tune terms f → (breaks : List ℕ) → IsLegalIn score (width_of terms.paper) breaks → ⊥
   told _ reached e (of_header f fault) breaks legal = one.scored tune terms.defaults terms.manner header score f has (inl (inl fault))

@@ -23,10 +23,7 @@ unmarked bytes = at (starts_with nat_eq bytes byte_order_mark)
 few_lines : (bytes : List ℕ) → length (readings bytes) ≤ length bytes + 1
 unfolding readings
 few_lines bytes =
-    let mapped = length-map (lines_of bytes) reading in
-    let l = dropped (slice_split is_end bytes) in
-    let split = length-slice_split is_end bytes in
-    let m = count_by-le-length is_end bytes in
+    let mapped = length-map (lines_of bytes) reading in let l = dropped (slice_split is_end bytes) in let split = length-slice_split is_end bytes in let m = count_by-le-length is_end bytes in
     omega (arith, mapped, l, split, m)
 
 module _ (terms : Terms) (all : List Reading) where
@@ -43,9 +40,7 @@ module _ (terms : Terms) (all : List Reading) where
           → AreOutcomes terms (if t then tune_at all (suc k) (suc (length before)) ∷ tunes_behind all (suc (suc k)) (line ∷ before) more
           else tunes_behind all (suc k) (line ∷ before) more) ps → OrdinalsRise k ps
       at true [] further same h = absurd h
-      at true (p ∷ ps) further same h =
-          let e : p.ordinal ≡ suc k = h.0.ordinal in
-          (omega (arith, e), omega (arith, e, l), subst (λ j. OrdinalsRise j ps) (sym e) (further ps h.1))
+      at true (p ∷ ps) further same h = let e : p.ordinal ≡ suc k = h.0.ordinal in (omega (arith, e), omega (arith, e, l), subst (λ j. OrdinalsRise j ps) (sym e) (further ps h.1))
       at false ps further same h = same h
 
 pub book_rises : BookRises

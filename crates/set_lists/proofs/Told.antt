@@ -8,8 +8,7 @@ use Rattle.set_lists.specs.{Laws.{ListsTheSet, OrdinalsRise, OutcomesAreListable
 
 -- ---- spans pass no forced bar
 pub unforced : (s : Score) (width : ℕ) (spans : List Span) → AreSpans s.measures spans → AreSpansOf s width spans → (breaks : List ℕ) (i : ℕ)
-    → (IsLegal (listed spans) (is_forced_in s) breaks i → IsLegal (listed spans) none_forced breaks i)
-    × (IsLegal (listed spans) none_forced breaks i → IsLegal (listed spans) (is_forced_in s) breaks i)
+    → (IsLegal (listed spans) (is_forced_in s) breaks i → IsLegal (listed spans) none_forced breaks i) × (IsLegal (listed spans) none_forced breaks i → IsLegal (listed spans) (is_forced_in s) breaks i)
 unforced s width spans form exact breaks i =
     let both = forced_by_spans (listed spans) (is_forced_in s) refl stops breaks i in (both.0, both.1)
   where
@@ -18,9 +17,7 @@ unforced s width spans form exact breaks i =
       where
         at : (o : Option ℕ) → listed spans a b ≡ o → o ≡ None
         at None e = refl
-        at (Some v) e =
-            let ends = listed_within s.measures None spans form a b v e in
-            absurd ((exact.each a b v ends.0 ends.1 e).free (f, l, m, t))
+        at (Some v) e = let ends = listed_within s.measures None spans form a b v e in absurd ((exact.each a b v ends.0 ends.1 e).free (f, l, m, t))
 
 potential : (s : Score) (width : ℕ) (spans : List Span) → AreSpans s.measures spans → AreSpansOf s width spans
     → (i : ℕ) (o : Option ℕ) → IsPotential (listed spans) (is_forced_in s) i o → IsPotential (listed spans) none_forced i o

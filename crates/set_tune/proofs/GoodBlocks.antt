@@ -4,9 +4,7 @@ use Rattle.{lay_pages.specs.{declared.{stacking.Heights.Heights, titles.TitleRow
 
 good_systems : (heights : List Heights) → All HasGoodHeight heights → AreGoodBlocks (system_blocks heights)
 good_systems [] all = tt
-good_systems (h ∷ hs) all =
-    let own : HasGoodHeight h = All-head HasGoodHeight h hs all in
-    ((own.low, own.high), good_systems hs (All-tail HasGoodHeight h hs all))
+good_systems (h ∷ hs) all = let own : HasGoodHeight h = All-head HasGoodHeight h hs all in ((own.low, own.high), good_systems hs (All-tail HasGoodHeight h hs all))
 
 low_height : (height : ℕ) → pos 0 ≤ℤ block_height height
 low_height height = omega (arith, ints)

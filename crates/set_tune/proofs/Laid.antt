@@ -37,9 +37,7 @@ like_moved s t key (negsuc n) is = subst (IsLike s) (sym (is.higher (λ e. cc)).
 
 -- drawn too
 heard_drawn : (staves : Option Line) (written drawn : Score) → IsDrawn staves written (Ok drawn) → (0 < written.measures → 1 ≤ length written.voices) → 0 < drawn.measures → 1 ≤ length drawn.voices
-heard_drawn None written drawn draws h some =
-    let same = same_Ok drawn written draws in
-    subst (λ (s : Score). 1 ≤ length s.voices) (sym same) (h (subst (λ (s : Score). 0 < s.measures) same some))
+heard_drawn None written drawn draws h some = let same = same_Ok drawn written draws in subst (λ (s : Score). 1 ≤ length s.voices) (sym same) (h (subst (λ (s : Score). 0 < s.measures) same some))
 heard_drawn (Some line) written drawn (plan, spells, share, is) h some =
     let fits = subst (λ n. IsPlanFor n plan) (length-map written.voices (λ (v : Voice). v.id)) (spelled-plan (ids_of written) line.text plan spells) in
     subst (λ (s : Score). 1 ≤ length s.voices) (sym is) (drawn_heard written plan fits)
@@ -47,10 +45,8 @@ heard_drawn (Some line) written drawn (plan, spells, share, is) h some =
 -- moved too
 pub heard_moved : (tune : TuneText) (defaults : Defaults) (manner : Manner) (header : Header) (score : Score) → HasScore tune defaults manner header score → 0 < score.measures → 1 ≤ length score.voices
 heard_moved tune defaults manner header score has some =
-    let like = like_moved has.drawn score header.key manner.by has.moved in
-    let voices = like.0 in
-    let first = heard_drawn header.staves has.written has.drawn has.draws (heard header tune manner.flow has.written has.is.value) (subst (λ n. 0 < n) like.1 some) in
-    omega (arith, first, voices)
+    let like = like_moved has.drawn score header.key manner.by has.moved in let voices = like.0 in
+    let first = heard_drawn header.staves has.written has.drawn has.draws (heard header tune manner.flow has.written has.is.value) (subst (λ n. 0 < n) like.1 some) in omega (arith, first, voices)
 
 -- ---- titles and composers
 

@@ -4,11 +4,8 @@ use Rattle.abc_events.proofs.measures.trees_of.Goals as goal
 
 pub loop-sign-preserved : goal.loop-sign-preserved
 loop-sign-preserved c =
-    let old = c.loop-sign.trees.items in
-    let made = c.put_sign.new.trees in
-    let given : c.deref_mut.result.now ≡ c.loop-sign.trees.items = grind (arith, common_steps) in
-    let long : length c.deref_mut.result.now ≡ c.args.n = grind (arith, common_steps) in
-    let full : c.loop-sign.trees.len ≡ length made = grind (arith, common_steps) in
+    let old = c.loop-sign.trees.items in let made = c.put_sign.new.trees in let given : c.deref_mut.result.now ≡ c.loop-sign.trees.items = grind (arith, common_steps) in
+    let long : length c.deref_mut.result.now ≡ c.args.n = grind (arith, common_steps) in let full : c.loop-sign.trees.len ≡ length made = grind (arith, common_steps) in
     let back : take c.loop-sign.trees.len (made ++ drop (length made) old) ≡ made = take-append-le c.loop-sign.trees.len made (drop (length made) old) (omega arith) ∙ take_all c.loop-sign.trees.len made (omega arith) in
     record {
       len = grind (arith, common_steps);

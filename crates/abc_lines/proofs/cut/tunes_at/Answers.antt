@@ -3,8 +3,7 @@ use Rattle.abc_lines.proofs.cut.tunes_at.Goals as goal
 
 pub tune_at-requires : goal.tune_at-requires
 tune_at-requires c =
-    let off = line_off c.lines.at.rest.now c.first_line.result.0.now c.first_line.result.1.now (search rules) c.first_line.ensures in
-    omega (arith, off.shorter, c.lines.invariant.within)
+    let off = line_off c.lines.at.rest.now c.first_line.result.0.now c.first_line.result.1.now (search rules) c.first_line.ensures in omega (arith, off.shorter, c.lines.invariant.within)
 
 pub lines-preserved-then-begins_tune : goal.lines-preserved-then-begins_tune
 lines-preserved-then-begins_tune c =
@@ -14,8 +13,7 @@ lines-preserved-then-begins_tune c =
 
 pub lines-smaller-then-begins_tune : goal.lines-smaller-then-begins_tune
 lines-smaller-then-begins_tune c =
-    let off = line_off c.lines.at.rest.now c.first_line.result.0.now c.first_line.result.1.now (search rules) c.first_line.ensures in
-    omega (arith, off.shorter, c.in_ok-tune.ensures.further)
+    let off = line_off c.lines.at.rest.now c.first_line.result.0.now c.first_line.result.1.now (search rules) c.first_line.ensures in omega (arith, off.shorter, c.in_ok-tune.ensures.further)
 
 pub lines-preserved-else-begins_tune : goal.lines-preserved-else-begins_tune
 lines-preserved-else-begins_tune c =

@@ -10,8 +10,7 @@ pub returns-in-Ok-clause-fault : goal.returns-in-Ok-clause-fault
 returns-in-Ok-clause-fault c = chord-open c.args.bang c.args.bytes.now c.in-Ok.ensures.0
 
 pub returns-in-Err-clause-fault : goal.returns-in-Err-clause-fault
-returns-in-Err-clause-fault c =
-    chord-headless c.args.bang c.args.bytes.now c.requires.none (ap (begins is_bracket) (sym c.behind_parts.ensures) ∙ sym c.begins_with_bracket.ensures ∙ c.if-begins_with_bracket.true)
+returns-in-Err-clause-fault c = chord-headless c.args.bang c.args.bytes.now c.requires.none (ap (begins is_bracket) (sym c.behind_parts.ensures) ∙ sym c.begins_with_bracket.ensures ∙ c.if-begins_with_bracket.true)
 
 pub returns-in-Err-2-clause-fault : goal.returns-in-Err-2-clause-fault
 returns-in-Err-2-clause-fault c =

@@ -47,9 +47,7 @@ brace_behind_chords-parts-smaller t c = inner_less c.args.bang c.parts.rest.now 
 
 pub brace_behind_chords-parts-preserved : goal.brace_behind_chords-parts-preserved
 brace_behind_chords-parts-preserved t c =
-    let bracket = option_map (λ x. x.now) c.parts.bracket in
-    let last = option_map (λ x. x.now) c.parts.last in
-    let closing = option_map (λ x. x.now) c.bracket_in_name-closing.result in
+    let bracket = option_map (λ x. x.now) c.parts.bracket in let last = option_map (λ x. x.now) c.parts.last in let closing = option_map (λ x. x.now) c.bracket_in_name-closing.result in
     let f = found_inner c.args.bang c.parts.rest.now (sense_of c.in-Some.item) c.in-Some.behind.now c.in-Some.ensures in
     passing-next c.args.bang c.parts.head c.either-head.result c.args.inside.now bracket last (option_map (λ x. x.now) c.later_or-bracket.result) (option_map (λ x. x.now) c.later_or-last.result) c.parts.rest.now c.in-Some.behind.now f.part c.parts.invariant f.at
     (c.either-head.ensures ∙ ap (λ b. c.parts.head || b) (c.is_note.ensures ∙ ap is_note f.says))
@@ -69,8 +67,7 @@ brace_behind_chords-brace_between-requires-2 t c =
 
 pub brace_behind_chords-returns-clause-read : goal.brace_behind_chords-returns-clause-read
 brace_behind_chords-returns-clause-read t c =
-    let bracket = option_map (λ x. x.now) c.parts.bracket in
-    let last = option_map (λ x. x.now) c.parts.last in
+    let bracket = option_map (λ x. x.now) c.parts.bracket in let last = option_map (λ x. x.now) c.parts.last in
     c.later_or.ensures ∙ ap (λ r. later_or r last) c.brace_between-2.ensures
     ∙ passing-ends c.args.bang c.parts.head c.args.inside.now bracket last c.parts.rest.now c.parts.invariant (none_inner c.args.bang c.parts.rest.now c.in_default.ensures) c.requires.good
 
@@ -95,8 +92,7 @@ brace_in_chord-returns-then-is_empty-clause-read t c =
 
 pub brace_past-brace_at-requires : goal.brace_past-brace_at-requires
 brace_past-brace_at-requires t c =
-    let first : c.split_at.result.0.now ≡ c.in_ok-behind.field-0-0.now ∷ c.in_ok-behind.behind.now = search rules in
-    let fits : length c.split_at.result.0.now ≤ length c.args.bracket.now = search rules in
+    let first : c.split_at.result.0.now ≡ c.in_ok-behind.field-0-0.now ∷ c.in_ok-behind.behind.now = search rules in let fits : length c.split_at.result.0.now ≤ length c.args.bracket.now = search rules in
     let shorter = length_shorter c.in_ok-behind.behind.now c.length_at.result.1.now c.length_at.result.0 c.length_at.ensures in
     (omega (arith, c.decreases, ap length first, fits, shorter), omega (arith, c.requires.small, ap length first, fits, shorter))
 

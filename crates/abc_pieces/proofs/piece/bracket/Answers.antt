@@ -3,6 +3,4 @@ use Rattle.abc_pieces.specs.{declared.token.Opening.Opening, Forms.opening}
 use Rattle.abc_pieces.proofs.piece.bracket.Goals as goal
 
 pub returns-in-Ending-clause-read : goal.returns-in-Ending-clause-read
-returns-in-Ending-clause-read c =
-    let e : opening c.args.rest.now ≡ Opening.Ending = sym c.opening.ensures ∙ c.in-Ending.is in
-    rw e (c.ending.ensures.read c.args.bang true)
+returns-in-Ending-clause-read c = let e : opening c.args.rest.now ≡ Opening.Ending = sym c.opening.ensures ∙ c.in-Ending.is in rw e (c.ending.ensures.read c.args.bang true)

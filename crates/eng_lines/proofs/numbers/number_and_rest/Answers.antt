@@ -7,6 +7,5 @@ returns-in_err-front c = rw c.from_residual.ensures (λ n rest l e. lacks_none 3
 
 pub returns-in_err-small_number : goal.returns-in_err-small_number
 returns-in_err-small_number c = rw c.from_residual-in_err-small_number.ensures (λ n rest l e.
-    let v = c.in_ok-front.ensures in
-    let m = one_cut 32 c.in_ok-front.front.now (decimal n) c.in_ok-front.rest.now rest v.1 (decimal_lacks 32 n (inl (omega arith)) (omega arith)) (sym v.0 ∙ e) in
+    let v = c.in_ok-front.ensures in let m = one_cut 32 c.in_ok-front.front.now (decimal n) c.in_ok-front.rest.now rest v.1 (decimal_lacks 32 n (inl (omega arith)) (omega arith)) (sym v.0 ∙ e) in
     c.in_err-small_number.ensures n l m.0)

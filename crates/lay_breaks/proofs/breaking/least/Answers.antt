@@ -28,8 +28,7 @@ returns-in_ok-breaks-in-Some-clause-potentials g c = whole.potential _ _ (g.met.
 
 pub returns-in-None-clause-no_way : goal.returns-in-None-clause-no_way
 returns-in-None-clause-no_way g c =
-    let free = g.met.K.Costs.begins_free c.args.costs.now in
-    let l = c.in_ok-potentials.ensures.one_each in
+    let free = g.met.K.Costs.begins_free c.args.costs.now in let l = c.in_ok-potentials.ensures.one_each in
     let none : slice_index_or c.in_ok-potentials.field-0.potentials.items c.args.n None ≡ None =
     sym (get_or_read_under c.in_ok-potentials.field-0.potentials.items c.args.n _ _ None c.index.ensures (omega arith) c.in_ok-potentials.field-0.potentials.ok.0) ∙ c.in-None.is in
     let e = c.last_reached.ensures in

@@ -4,8 +4,7 @@ use Rattle.lay_cert.proofs.place.break_next.Goals as goal
 
 pub returns-in_ok-add_break-in-Some-clause-step : goal.returns-in_ok-add_break-in-Some-clause-step
 returns-in_ok-add_break-in-Some-clause-step c es js v =
-    let k = c.args.choosing in
-    let m = c.in_ok-add_break-in-Some.ensures.more in
+    let k = c.args.choosing in let m = c.in_ok-add_break-in-Some.ensures.more in
     let at = c.requires.sound.at in (
       Line.Choose c.args.bar,
       refl,

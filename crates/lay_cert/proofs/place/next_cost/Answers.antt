@@ -6,9 +6,7 @@ pub returns-then-bar-choosing : goal.returns-then-bar-choosing
 returns-then-bar-choosing c = listed_past c.args.choosing.now.bars c.args.choosing.now.at c.args.bar c.args.choosing.now.spans c.requires.spans c.if-bar-choosing.true
 
 pub cost_of-requires-clause-within : goal.cost_of-requires-clause-within
-cost_of-requires-clause-within c =
-    let n = ap length c.as_slice-2.ensures.value in let l = at_within c.args.choosing.now c.requires in let k = c.requires.one_each in
-    omega (arith, n, l, k)
+cost_of-requires-clause-within c = let n = ap length c.as_slice-2.ensures.value in let l = at_within c.args.choosing.now c.requires in let k = c.requires.one_each in omega (arith, n, l, k)
 
 pub returns : goal.returns
 returns c =

@@ -14,8 +14,7 @@ returns-then-not-is_empty-clause-step c es js v =
 
 pub returns-clause-step : goal.returns-clause-step
 returns-clause-step c es js v =
-    let k = c.args.choosing in
-    let m = c.in_ok-add_span.ensures.more in
+    let k = c.args.choosing in let m = c.in_ok-add_span.ensures.more in
     let none : k.breaks ≡ [] = sym c.as_slice.ensures ∙ no_length c.as_slice.result.now (sym c.is_empty.ensures ∙ c.if-not-is_empty.false) in (
       Line.OneSpan c.args.span,
       refl,

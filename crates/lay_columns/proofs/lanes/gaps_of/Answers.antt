@@ -4,8 +4,7 @@ use Rattle.lay_columns.proofs.lanes.gaps_of.Goals as goal
 
 pub returns-clause-value : goal.returns-clause-value
 returns-clause-value c =
-    let past : length c.args.verses.now ≤ c.loop-count.count-index = grind (arith, c.loop-count-test.false) in
-    let none = drop_all c.loop-count.count-index c.args.verses.now past in
+    let past : length c.args.verses.now ≤ c.loop-count.count-index = grind (arith, c.loop-count-test.false) in let none = drop_all c.loop-count.count-index c.args.verses.now past in
     sym (append-nil c.loop-count.out) ∙ ap (λ t. c.loop-count.out ++ gaps_of t) (sym none) ∙ c.loop-count.invariant
 
 pub returns-clause-narrow : goal.returns-clause-narrow

@@ -7,9 +7,7 @@ loop-staff-preserved c =
     let turn = zip_turn c.args.staves.now c.args.gaps.now c.loop-staff.yielded c.into_iter-staff-iterator.result c.loop-staff.staff-iterator c.next.new.self _ (search rules) (search rules) c.loop-staff.yielded_by (c.in-Some.staff, c.in-Some.gap) refl c.in-Some.ensures.steps in
     let n = length c.loop-staff.yielded in
     let next : length c.loop-staff.yielded + 1 ≡ length (c.loop-staff.yielded ++ (c.in-Some.staff, c.in-Some.gap) ∷ []) = sym (length-append c.loop-staff.yielded ((c.in-Some.staff, c.in-Some.gap) ∷ [])) in
-    let base = c.loop-staff.bottom + c.from.result + c.above_base.result in
-    let low = base + c.below_base.result in
-    let gap : c.from.result ≡ c.in-Some.gap.now = search rules in
+    let base = c.loop-staff.bottom + c.from.result + c.above_base.result in let low = base + c.below_base.result in let gap : c.from.result ≡ c.in-Some.gap.now = search rules in
     let up : c.loop-staff.bottom + c.from.result + c.above_base.result ≡ c.loop-staff.bottom + c.in-Some.gap.now + above_base c.in-Some.staff.now.high = search (arith, ints, to_z-of_z, gap, c.above_base.ensures.value) in
     let down : c.loop-staff.bottom + c.from.result + c.above_base.result + c.below_base.result ≡ c.loop-staff.bottom + c.from.result + c.above_base.result + below_base c.in-Some.staff.now.low = search (arith, ints, to_z-of_z, c.below_base.ensures.value) in
     let here : to_z w64 (of_z w64 c.under_top.result) ≡ under_top (c.loop-staff.bottom + c.from.result + c.above_base.result) = search (arith, ints, to_z-of_z, c.under_top.ensures) in

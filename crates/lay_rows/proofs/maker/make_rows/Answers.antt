@@ -9,9 +9,7 @@ table g c =
 
 pub invariant_of-result : goal.invariant_of-result
 invariant_of-result g c =
-    let made = table g (goal.at.invariant_of-result g c).In_ok-rows in
-    let count = made.count in
-    let short = c.requires.short in
+    let made = table g (goal.at.invariant_of-result g c).In_ok-rows in let count = made.count in let short = c.requires.short in
     record {
       few = omega arith;
       small = table_small (g.M.RowMaker.is_row c.args.maker.now) c.args.n c.in_ok-rows.rows

@@ -5,9 +5,7 @@ pub returns-then-most_columns-cols-clause-none : goal.returns-then-most_columns-
 returns-then-most_columns-cols-clause-none g c = λ stands.
     let few = stand_few (length c.args.cols.now) (reach_at g.C.Spaced.reach_of c.args.cols.now) c.args.gaps.now (length_at g.C.Spring.length_of c.args.cols.now)
     c.args.width 0 c.requires.some stands in
-    let more = c.if-most_columns-cols.true in
-    let most = c.most_columns.ensures in
-    omega arith
+    let more = c.if-most_columns-cols.true in let most = c.most_columns.ensures in omega arith
 
 pub returns-clause-none : goal.returns-clause-none
 returns-clause-none g c =

@@ -26,10 +26,8 @@ returns-in_default g c =
 
 count : (g : _) (c : In_ok-push g) → c.args.a + length c.push.new.self ≡ c.loop-m.m + 1
 count g c =
-    let k : length c.push.new.self ≡ length (c.loop-m.row ++ c.badness.result ∷ []) = ap (λ row. length row) c.in_ok-push.ensures.ok in
-    let n = length-append c.loop-m.row (c.badness.result ∷ []) in
-    let i = c.loop-m.invariant.count in
-    omega arith
+    let k : length c.push.new.self ≡ length (c.loop-m.row ++ c.badness.result ∷ []) = ap (λ row. length row) c.in_ok-push.ensures.ok in let n = length-append c.loop-m.row (c.badness.result ∷ []) in
+    let i = c.loop-m.invariant.count in omega arith
 
 -- the span with this measure
 module _ (g : _) (c : In_ok-push g)
@@ -55,8 +53,7 @@ module _ (g : _) (c : In_ok-push g)
 
 pub returns-then-marks-m : goal.returns-then-marks-m
 returns-then-marks-m g c =
-    let b = (goal.at.returns-then-marks-m g c).After-as_slice-columns in
-    let pushed = (goal.at.returns-then-marks-m g c).In_ok-push in
+    let b = (goal.at.returns-then-marks-m g c).After-as_slice-columns in let pushed = (goal.at.returns-then-marks-m g c).In_ok-push in
     stops_behind g.C.Spaced.reach_of g.C.Spring.length_of c.args.gaps.now c.args.width c.args.starts.now c.args.others.now (λ b. slice_index_or c.args.marks.now b false)
     c.args.a c.loop-m.m c.push.new.self (let l = c.loop-m-test.true in omega arith) (count g pushed) (let l = c.loop-m.invariant.count in omega arith)
     (each g pushed (columns g b))
@@ -64,11 +61,8 @@ returns-then-marks-m g c =
 
 pub loop-m-preserved : goal.loop-m-preserved
 loop-m-preserved g c =
-    let b = (goal.at.loop-m-preserved g c).After-as_slice-columns in
-    let pushed = (goal.at.loop-m-preserved g c).In_ok-push in
-    let pressed = force g pushed (columns g b) in
-    let l = c.loop-m.invariant.count in
-    let lent = (goal.at.loop-m-preserved g c).After-greatest_force in
+    let b = (goal.at.loop-m-preserved g c).After-as_slice-columns in let pushed = (goal.at.loop-m-preserved g c).In_ok-push in let pressed = force g pushed (columns g b) in
+    let l = c.loop-m.invariant.count in let lent = (goal.at.loop-m-preserved g c).After-greatest_force in
     record {
       columns = sym (ap (λ seen. map (λ s. s.column.now) seen) c.as_slice-columns.ensures) ∙ columns g b;
       count = count g pushed;
@@ -102,8 +96,7 @@ loop-m-init g c =
 
 pub greatest_force-requires-clause-some : goal.greatest_force-requires-clause-some
 greatest_force-requires-clause-some g c =
-    let count = ap (λ cs. length cs) (columns g (goal.at.greatest_force-requires-clause-some g c).After-as_slice-columns) in
-    let same = length-map c.as_slice-columns.result.now (λ s. s.column.now) in
+    let count = ap (λ cs. length cs) (columns g (goal.at.greatest_force-requires-clause-some g c).After-as_slice-columns) in let same = length-map c.as_slice-columns.result.now (λ s. s.column.now) in
     let some = columns_some c.args.starts.now c.args.others.now c.args.a (c.loop-m.m + 1) (let l = c.loop-m.invariant.count in omega arith) (c.requires.measures.begun c.args.a c.requires.inside) in
     omega (arith, count, same, some)
 

@@ -20,13 +20,10 @@ form g c =
 
 pub invariant_of-result : goal.invariant_of-result
 invariant_of-result g c =
-    let made = (goal.at.invariant_of-result g c).In_ok-list in
-    record { same = λ a b. rows_listed (length c.args.starts.now) c.in_ok-rows.rows.rows (form g made) a b ∙ ap (λ spans. listed spans a b) (list g made) }
+    let made = (goal.at.invariant_of-result g c).In_ok-list in record { same = λ a b. rows_listed (length c.args.starts.now) c.in_ok-rows.rows.rows (form g made) a b ∙ ap (λ spans. listed spans a b) (list g made) }
 
 pub returns-clause-form : goal.returns-clause-form
-returns-clause-form g c =
-    let made = (goal.at.returns-clause-form g c).In_ok-list in
-    subst (λ spans. AreSpans (length c.args.starts.now) spans) (list g made) (form g made)
+returns-clause-form g c = let made = (goal.at.returns-clause-form g c).In_ok-list in subst (λ spans. AreSpans (length c.args.starts.now) spans) (list g made) (form g made)
 
 pub returns-clause-bars : goal.returns-clause-bars
 returns-clause-bars g c = (table g (goal.at.returns-clause-bars g c).In_ok-list).count

@@ -4,14 +4,9 @@ use Rattle.lay_springs.proofs.forces.fit_within.Goals as goal
 
 pub loop-low-preserved : goal.loop-low-preserved
 loop-low-preserved g c =
-    let i = c.loop-low.invariant in
-    let tried = c.highest-force.ensures in
-    let less = c.in-Some.ensures.below in
+    let i = c.loop-low.invariant in let tried = c.highest-force.ensures in let less = c.in-Some.ensures.below in
     let half = c.div_ceil-half.ensures in record {
-      between = elim (cases_lt c.in-Some.past c.loop-low.low) [
-        | inl under ↦ absurd (c.in-Some.ensures.never (c.loop-low.low - 1) (omega arith) (stands _ _ _ _ _ _ (i.fits (omega arith))))
-        | inr above ↦ above
-      ];
+      between = elim (cases_lt c.in-Some.past c.loop-low.low) [ inl under ↦ absurd (c.in-Some.ensures.never (c.loop-low.low - 1) (omega arith) (stands _ _ _ _ _ _ (i.fits (omega arith)))) | inr above ↦ above ];
       within = let h = tried.high in let w = i.within in omega arith;
       few = let b = tried.below in omega arith;
       short = let s = i.short in omega arith;
@@ -44,10 +39,7 @@ loop-low-init g c =
         passes = λ none. absurd (omega arith);
       })
       | else-placed-gt0 w ↦
-          let e = w.too_long-high.ensures in
-          let placed = w.place_to.ensures.placed in
-          let same = w.place_to.ensures.force in
-          let bound = rw same at e.bound in
+          let e = w.too_long-high.ensures in let placed = w.place_to.ensures.placed in let same = w.place_to.ensures.force in let bound = rw same at e.bound in
           rw (w.at-is, w.front-is, w.placed-is, w.high-is) (record {
             between = omega arith;
             within = bound;

@@ -4,8 +4,7 @@ use Rattle.lay_springs.proofs.guesses.stretched.Goals as goal
 
 pub loop-j-init : goal.loop-j-init
 loop-j-init g c =
-    let begins = c.requires.begins.le in
-    let small = c.requires.small.le in
+    let begins = c.requires.begins.le in let small = c.requires.small.le in
     record {
       begins = omega (arith, ints);
       small = omega (arith, ints);
@@ -18,8 +17,7 @@ loop-j-init g c =
 
 pub loop-j-preserved : goal.loop-j-preserved
 loop-j-preserved g c =
-    let i = c.loop-j.invariant in
-    let one = c.length-in-loop-j.result in
+    let i = c.loop-j.invariant in let one = c.length-in-loop-j.result in
     let spring : (f : ℕ) → length_at g.C.Spring.length_of c.args.cols.now f c.loop-j.j ≡ one * f / 256 =
     λ f. length_is g.C.Spring.length_of c.args.cols.now f c.loop-j.j c.index-cols-j-in-loop-j.result
     (slice_get_read c.args.cols.now (length c.args.cols.now) c.loop-j.j c.index-cols-j-in-loop-j.result refl (omega arith) c.index-cols-j-in-loop-j.is)
@@ -28,24 +26,18 @@ loop-j-preserved g c =
     c.length.ensures ∙ sym (length_is g.C.Spring.length_of c.args.cols.now c.args.placed.force c.loop-j.j c.index-cols-j.result
     (slice_get_read c.args.cols.now (length c.args.cols.now) c.loop-j.j c.index-cols-j.result refl (omega arith) c.index-cols-j.is)) ∙ spring c.args.placed.force in
     let short = spring_short _ c.args.placed.force _ c.length.result (g.met.C.Spring.is_short c.index-cols-j.result) (g.met.C.Spring.scales c.index-cols-j.result c.args.placed.force) (let force = c.requires.force in omega arith) c.length.ensures in
-    let natural : one ≤ 4096 = rw c.length-in-loop-j.ensures (g.met.C.Spring.is_short c.index-cols-j-in-loop-j.result) in
-    let first = c.from-end.ensures in
-    let second = c.from.ensures in
-    let begins = i.begins in
-    let small = i.small in
+    let natural : one ≤ 4096 = rw c.length-in-loop-j.ensures (g.met.C.Spring.is_short c.index-cols-j-in-loop-j.result) in let first = c.from-end.ensures in let second = c.from.ensures in
+    let begins = i.begins in let small = i.small in
     record {
       begins = omega (arith, ints);
       small = omega (arith, ints);
       natural = let n = i.natural in omega arith;
       count = let n = i.count in omega arith;
       near = λ gaps near f drop y e apart.
-          let old = i.near gaps near f drop y e apart in
-          let step = rw (spring f) at (apart.springs c.loop-j.j (omega arith)) in
-          let more = rw e at (slack_more c.loop-j.springs.natural c.loop-j.springs.count one f drop) in
-          rw (first, here, second) (omega (arith, ints));
+          let old = i.near gaps near f drop y e apart in let step = rw (spring f) at (apart.springs c.loop-j.j (omega arith)) in
+          let more = rw e at (slack_more c.loop-j.springs.natural c.loop-j.springs.count one f drop) in rw (first, here, second) (omega (arith, ints));
     }
 
 pub returns-clause-near : goal.returns-clause-near
 returns-clause-near g c = λ gaps near f drop y e apart.
-    let last : c.loop-j.j ≡ length c.args.cols.now - 1 = let end = c.loop-j.auto.j-end in let done = c.loop-j-test.false in omega arith in
-    rw last at (c.loop-j.invariant.near gaps near f drop y e apart)
+    let last : c.loop-j.j ≡ length c.args.cols.now - 1 = let end = c.loop-j.auto.j-end in let done = c.loop-j-test.false in omega arith in rw last at (c.loop-j.invariant.near gaps near f drop y e apart)

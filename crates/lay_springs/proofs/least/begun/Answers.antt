@@ -23,8 +23,7 @@ returns-clause-placed g c = record {
       slice_get_read c.args.cols.now (length c.args.cols.now) 0 c.index-cols-0-2.result refl c.requires.some c.index-cols-0-2.is in
       let fits : FitsSigned w64 c.first_of-first.result = record { sfits = c.first_of-first.type_inv } in
       let same : to_z w64 (of_z w64 c.first_of-first.result) ≡ c.first_of-first.result = to_z-of_z w64 c.first_of-first.result fits in
-      let top = bound g (goal.at.returns-clause-placed g c).After-first_of-first in
-      let moves = rw same at c.begin_fronts.ensures in
+      let top = bound g (goal.at.returns-clause-placed g c).After-first_of-first in let moves = rw same at c.begin_fronts.ensures in
       rw same (front_more (reach_at g.C.Spaced.reach_of c.args.cols.now) (length c.args.gaps.now) 0 c.first_of-first.result
       c.args.at.now (slice_set c.args.at.now 0 c.first_of-first.result) (replicate (length c.args.gaps.now) (negsuc 0)) c.begin_fronts.new.front
       (λ k l. absurd (omega arith))

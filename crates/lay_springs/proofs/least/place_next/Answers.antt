@@ -56,9 +56,7 @@ module _ (g : _) (c : After-set_past-next g) where
       → ((k : ℕ) → k < c.args.j → slice_index_or c.args.at.now k (pos 0) ≤ℤ (slice_index_or y k (pos 0) +ℤ pos d))
       → (w : ℤ) → (slice_index_or y c.args.j (pos 0) +ℤ pos d) ≤ℤ w → (slice_index_or c.args.at.now (c.args.j - 1) (pos 0) +ℤ pos c.length-spring.result) ≤ℤ w → v ≤ℤ w
   from_near weak y d h near w up spring =
-      let z : c.args.j - 1 + 1 ≡ c.args.j = omega arith in
-      let one = rw z at (h.steps (c.args.j - 1) (omega arith)) in
-      let below = near (c.args.j - 1) (omega arith) in
+      let z : c.args.j - 1 + 1 ≡ c.args.j = omega arith in let one = rw z at (h.steps (c.args.j - 1) (omega arith)) in let below = near (c.args.j - 1) (omega arith) in
       let from = c.after.ensures.least w (omega (arith, ints, low, high)) (omega (arith, ints, low, high)) in
       c.set_past-next.ensures.least w (rw (to_z-of_z w64 c.after.result (record { sfits = c.after.type_inv })) from)
       (subst (λ r. IsPast r c.args.gaps.now (length c.args.gaps.now) c.args.front.now w) col_is
@@ -66,24 +64,18 @@ module _ (g : _) (c : After-set_past-next g) where
 
 pub set_past-next-requires-clause-near : goal.set_past-next-requires-clause-near
 set_past-next-requires-clause-near g c =
-    let before = c.requires.placed.small (c.args.j - 1) (omega arith) in
-    let low = before.0 in
-    let high = before.1 in
+    let before = c.requires.placed.small (c.args.j - 1) (omega arith) in let low = before.0 in let high = before.1 in
     let short = spring_short _ c.args.force _ c.length-spring.result (g.met.C.Spring.is_short c.index-cols-j-2.result) (g.met.C.Spring.scales c.index-cols-j-2.result c.args.force) c.ranges.force.fits c.length-spring.ensures in
-    let from = c.after.ensures.least (pos 1152921504606846976) (omega (arith, ints)) (omega (arith, ints)) in
-    omega (arith, ints)
+    let from = c.after.ensures.least (pos 1152921504606846976) (omega (arith, ints)) (omega (arith, ints)) in omega (arith, ints)
 
 pub returns-clause-tight : goal.returns-clause-tight
 returns-clause-tight g c =
-    let short : c.length-natural.result ≤ 4096 = rw c.length-natural.ensures (g.met.C.Spring.is_short c.index-cols-j.result) in
-    let t = c.requires.tight in
+    let short : c.length-natural.result ≤ 4096 = rw c.length-natural.ensures (g.met.C.Spring.is_short c.index-cols-j.result) in let t = c.requires.tight in
     elim c.tightened.ensures [ inl h ↦ rw (h.1, h.2) (omega arith, omega arith) | inr h ↦ rw (h.1, h.2) (omega arith, omega arith) ]
 
 pub returns-clause-placed : goal.returns-clause-placed
 returns-clause-placed g c =
-    let s = (goal.at.returns-clause-placed g c).After-set_past-next in
-    let t = c.tightened.ensures in
-    let z : c.args.j - 1 + 1 ≡ c.args.j = omega arith in
+    let s = (goal.at.returns-clause-placed g c).After-set_past-next in let t = c.tightened.ensures in let z : c.args.j - 1 + 1 ≡ c.args.j = omega arith in
     rw (same g s) (placed_more _ c.args.gaps.now _ c.args.force c.args.tight.natural c.args.tight.count c.tightened.result.natural c.tightened.result.count
     c.args.at.now c.args.j (v g s) c.requires.past (omega arith) c.requires.placed
     (elim t [ inl h ↦ rw h.1 (omega arith) | inr h ↦ rw h.1 (omega arith) ])

@@ -11,8 +11,7 @@ rest_of-rest-requires-clause-fits g c = λ e end.
     let f = c.requires.fits in
     let d = end_down (length c.args.cols.now) (reach_at g.C.Spaced.reach_of c.args.cols.now) c.args.gaps.now (length_at g.C.Spring.length_of c.args.cols.now) c.args.force c.args.force e f.0 c.requires.some
     (λ i. omega arith) (record { x = c.settle.new.at; place = place g (goal.at.rest_of-rest-requires-clause-fits g c).After-settle; end = end }) f.1 in
-    let w = f.2 in
-    omega (arith, ints)
+    let w = f.2 in omega (arith, ints)
 
 pub returns-then-cols-eq1-clause-set : goal.returns-then-cols-eq1-clause-set
 returns-then-cols-eq1-clause-set g c = record {
@@ -25,8 +24,7 @@ returns-then-cols-eq1-clause-set g c = record {
 
 pub returns-clause-set : goal.returns-clause-set
 returns-clause-set g c =
-    let r = c.rest_of-rest.ensures in
-    let placed = place g (goal.at.returns-clause-set g c).After-settle in
+    let r = c.rest_of-rest.ensures in let placed = place g (goal.at.returns-clause-set g c).After-settle in
     record {
       x = c.settle.new.at;
       place = placed;

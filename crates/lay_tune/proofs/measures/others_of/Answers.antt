@@ -4,8 +4,7 @@ use Rattle.lay_tune.proofs.measures.others_of.Goals as goal
 
 pub loop-m-preserved : goal.loop-m-preserved
 loop-m-preserved c =
-    let s = c.args.s.now in let m = c.loop-m.m in let less = c.loop-m-test.true in
-    let starts = c.args.columns.now.starts in let own = c.args.columns.now.own in
+    let s = c.args.s.now in let m = c.loop-m.m in let less = c.loop-m-test.true in let starts = c.args.columns.now.starts in let own = c.args.columns.now.own in
     let count = c.requires.starts.count in let owned = c.requires.own.count in
     let begun = c.as_slice-begun.ensures ∙ c.index-starts-m.is ∙ ap (λ xs. slice_index_or xs m c.index-starts-m.result) c.as_slice-starts.ensures
     ∙ get_or_default starts m c.index-starts-m.result [] (omega (arith, less, count)) in

@@ -20,8 +20,7 @@ justify-requires-clause-placed c =
 
 pub returns : goal.returns
 returns c =
-    let columns = map (λ s. s.column.now) c.args.columns.now in
-    let found = c.in-Some.ensures in
+    let columns = map (λ s. s.column.now) c.args.columns.now in let found = c.in-Some.ensures in
     let counts = counts_same c.args.gaps.now c.args.width c.args.last c.args.cost columns c.most_force-most.result c.in-Some.force c.requires.fits
     c.most_force-most.ensures.bound c.most_force-most.ensures.most c.most_force-most.ensures.natural found.bound
     (subst (λ T. T) (seen_as (λ s. s.column.now) column_reach column_length (λ n r l. Fits n r c.args.gaps.now l c.args.width c.in-Some.force) c.args.columns.now columns refl) found.fits)

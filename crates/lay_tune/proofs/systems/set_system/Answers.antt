@@ -24,8 +24,7 @@ tilt_of-requires-clause-places c =
     let s = c.args.s.now in
     let placed = (span_set c.args.starts.now c.args.others.now (map (λ s. s.column.now) c.as_slice-columns.result.now) c.requires.fits c.requires.columns c.requires.gaps
     (ap (map (λ s. s.column.now)) c.as_slice-columns.ensures ∙ c.in_ok-seen.ensures)).1 c.in_ok-placed.placed c.in_ok-placed.ensures in
-    let narrow = c.ranges.width.fits in
-    let flat = has_system s c.args.a c.args.b in
+    let narrow = c.ranges.width.fits in let flat = has_system s c.args.a c.args.b in
     subst (λ at. AreAbscissas s c.args.t.now c.args.a c.args.b at) (sym c.as_slice.ensures)
     (subst (λ t. AreAbscissas s t c.args.a c.args.b c.in_ok-placed.placed.at) (sym c.requires.times)
     (abscissas_of s c.args.width c.args.a c.args.b flat.0 c.in_ok-placed.placed (omega arith) flat.1 placed))
@@ -36,9 +35,7 @@ stack-requires-clause-good c = good_staves c.in_ok-marks.marks.staves c.in_ok-ma
 pub stack-requires-clause-few : goal.stack-requires-clause-few
 stack-requires-clause-few c =
     let count = ap (λ these. length these) c.in_ok-marks.ensures.tilted.staves ∙ length-map (drawn_staves c.args.s.now) (tilted_staff c.in_ok-marks.marks.keys c.args.t.now.lengths c.as_slice.result.now c.args.a c.args.b) in
-    let staves = staves_count c.args.s.now in
-    let voices = c.requires.good.few_voices in
-    omega (arith, count, staves, voices)
+    let staves = staves_count c.args.s.now in let voices = c.requires.good.few_voices in omega (arith, count, staves, voices)
 
 pub stack-requires-clause-gaps : goal.stack-requires-clause-gaps
 stack-requires-clause-gaps c =
@@ -47,8 +44,7 @@ stack-requires-clause-gaps c =
 
 pub returns-clause-system : goal.returns-clause-system
 returns-clause-system c =
-    let s = c.args.s.now in
-    let flat = has_system s c.args.a c.args.b in
+    let s = c.args.s.now in let flat = has_system s c.args.a c.args.b in
     let tilted = c.in_ok-marks in record {
       flat = flat.0;
       called = flat.1;

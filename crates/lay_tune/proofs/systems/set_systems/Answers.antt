@@ -8,12 +8,8 @@ Good m = All (λ staff. AreGoodMarks staff.marks) m.staves
 
 pub loop-b-preserved : goal.loop-b-preserved
 loop-b-preserved c =
-    let s = c.args.s.now in
-    let Is : ℕ → ℕ → SystemMarks → Placed → Type 0 = IsSetSystem c.args.s.now c.args.width in
-    let breaks = c.args.breaks.now in
-    let i = c.loop-b.b-index in
-    let b = slice_index_or c.args.breaks.now c.loop-b.b-index 0 in
-    let inside : c.loop-b.b-index < length c.args.breaks.now = grind (arith, c.loop-b-test.true) in
+    let s = c.args.s.now in let Is : ℕ → ℕ → SystemMarks → Placed → Type 0 = IsSetSystem c.args.s.now c.args.width in let breaks = c.args.breaks.now in let i = c.loop-b.b-index in
+    let b = slice_index_or c.args.breaks.now c.loop-b.b-index 0 in let inside : c.loop-b.b-index < length c.args.breaks.now = grind (arith, c.loop-b-test.true) in
     let next : drop c.loop-b.b-index c.args.breaks.now ≡ slice_index_or c.args.breaks.now c.loop-b.b-index 0 ∷ drop (c.loop-b.b-index + 1) c.args.breaks.now =
     drop_more c.args.breaks.now c.loop-b.b-index 0 inside in
     record {
@@ -34,8 +30,7 @@ loop-b-preserved c =
 
 pub returns-clause-systems : goal.returns-clause-systems
 returns-clause-systems c =
-    let past : length c.args.breaks.now ≤ c.loop-b.b-index = grind (arith, c.loop-b-test.false) in
-    let none = drop_all c.loop-b.b-index c.args.breaks.now past in
+    let past : length c.args.breaks.now ≤ c.loop-b.b-index = grind (arith, c.loop-b-test.false) in let none = drop_all c.loop-b.b-index c.args.breaks.now past in
     subst (λ marks. EachSpan (IsSetSystem c.args.s.now c.args.width) 0 c.args.breaks.now marks c.loop-b.placed) (append-nil c.loop-b.marks)
     (subst (λ placed. EachSpan (IsSetSystem c.args.s.now c.args.width) 0 c.args.breaks.now (c.loop-b.marks ++ []) placed) (append-nil c.loop-b.placed)
     (c.loop-b.invariant.systems [] [] (subst (λ bs. EachSpan (IsSetSystem c.args.s.now c.args.width) c.loop-b.a bs [] []) (sym none) tt)))

@@ -28,7 +28,4 @@ returns-clause-places c =
 
 pub returns-clause-ranked : goal.returns-clause-ranked
 returns-clause-ranked c =
-    record {
-      rise = c.rising_keys.ensures.rise;
-      few = few_called c.args.begins c.args.s.now c.args.t.now.lengths c.args.m c.rising_keys.result c.requires.good c.requires.within (returns-clause-keys c);
-    }
+    record { rise = c.rising_keys.ensures.rise; few = few_called c.args.begins c.args.s.now c.args.t.now.lengths c.args.m c.rising_keys.result c.requires.good c.requires.within (returns-clause-keys c) }

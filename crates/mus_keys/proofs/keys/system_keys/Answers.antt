@@ -23,5 +23,4 @@ pub returns-clause-places : goal.returns-clause-places
 returns-clause-places c = keys_placed c.args.s.now c.args.t.now c.args.a c.args.b c.rising_keys.result c.requires.times c.requires.good c.requires.order c.requires.within (returns-clause-keys c)
 
 pub returns-clause-ranked : goal.returns-clause-ranked
-returns-clause-ranked c =
-    record { rise = c.rising_keys.ensures.rise; few = few_keys c.args.s.now c.args.t.now.lengths c.args.a c.args.b c.rising_keys.result c.requires.good c.requires.within (returns-clause-keys c) }
+returns-clause-ranked c = record { rise = c.rising_keys.ensures.rise; few = few_keys c.args.s.now c.args.t.now.lengths c.args.a c.args.b c.rising_keys.result c.requires.good c.requires.within (returns-clause-keys c) }

@@ -3,13 +3,11 @@ use Rattle.{mus_drawn.specs.Good.{AreGoodMeasures}, mus_marks.{specs.{Staff.Cove
 use Rattle.mus_marks.proofs.staves.staves.Goals as goal
 
 pub staff_marks-requires-clause-verses : goal.staff_marks-requires-clause-verses
-staff_marks-requires-clause-verses c =
-    let few = c.loop-rest.invariant.verses in omega (arith, few, verses_take (c.lower_count-count.result + 1) c.loop-rest.rest.now)
+staff_marks-requires-clause-verses c = let few = c.loop-rest.invariant.verses in omega (arith, few, verses_take (c.lower_count-count.result + 1) c.loop-rest.rest.now)
 
 pub loop-rest-preserved : goal.loop-rest-preserved
 loop-rest-preserved c =
-    let rest = c.loop-rest.rest.now in let so_far = c.loop-rest.invariant in let n = c.lower_count-count.result in let back = rest_from (n + 1) rest in
-    let same = ap verses_on back in let few = so_far.verses in
+    let rest = c.loop-rest.rest.now in let so_far = c.loop-rest.invariant in let n = c.lower_count-count.result in let back = rest_from (n + 1) rest in let same = ap verses_on back in let few = so_far.verses in
     record {
       each = subst (All (λ v. length v.measures ≡ length c.args.frame.now.lengths.now)) (sym back) (All-drop (λ v. length v.measures ≡ length c.args.frame.now.lengths.now) (n + 1) rest so_far.each);
       good = subst (All (λ v. AreGoodMeasures v.measures)) (sym back) (All-drop (λ v. AreGoodMeasures v.measures) (n + 1) rest so_far.good);

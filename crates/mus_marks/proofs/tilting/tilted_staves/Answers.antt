@@ -23,13 +23,11 @@ pub exchange_voices-requires-2 : goal.exchange_voices-requires-2
 exchange_voices-requires-2 c = λ k d inside.
     let keys = c.args.frame.now.keys.now in let at = c.args.at.now in let a = c.args.frame.now.a in let b = c.args.frame.now.b in let vs = c.args.voices.now in
     let tilted = all_tilted keys at a b vs c.exchange_voices.new.voices c.as_mut_slice.result.now c.exchange_voices.ensures.voices (c.as_mut_slice.ensures.value ∙ c.ends.view_is ∙ c.in_ok-ends.ensures) in
-    let same = tilted_count keys at a b (length c.args.frame.now.lengths.now) vs c.exchange_voices.new.voices tilted c.requires.each k d inside in
-    omega (arith, same, c.args.frame.now.within, c.args.frame.now.order)
+    let same = tilted_count keys at a b (length c.args.frame.now.lengths.now) vs c.exchange_voices.new.voices tilted c.requires.each k d inside in omega (arith, same, c.args.frame.now.within, c.args.frame.now.order)
 
 pub returns-clause-kept : goal.returns-clause-kept
 returns-clause-kept c =
-    let a = c.args.frame.now.a in let vs = c.args.voices.now in
-    let count = ap length c.exchange_voices.ensures.ends ∙ over_count (voice_left a) vs c.as_mut_slice.result.now ∙ c.as_mut_slice.ensures.len in
+    let a = c.args.frame.now.a in let vs = c.args.voices.now in let count = ap length c.exchange_voices.ensures.ends ∙ over_count (voice_left a) vs c.as_mut_slice.result.now ∙ c.as_mut_slice.ensures.len in
     let same = whole c.ends.inside.items.len c.exchange_voices.new.ends _ count in
     put_back a c.as_mut_slice.result.now c.as_mut_slice-2.result.now vs c.exchange_voices.new.voices c.exchange_voices-2.new.voices
     (λ k d inside. let same = c.requires.each k d inside in omega (arith, same, c.args.frame.now.within, c.args.frame.now.order))

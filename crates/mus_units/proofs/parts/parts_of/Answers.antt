@@ -34,8 +34,7 @@ returns-then-left-eq0-2-clause-parts c = parts_made c.args.num c.args.den c.in-S
 
 pub loop-i-preserved : goal.loop-i-preserved
 loop-i-preserved c =
-    let one = length-append c.loop-i.parts (c.in-Some-longest.v ∷ []) in
-    let put : length c.push.new.self ≡ length (c.loop-i.parts ++ c.in-Some-longest.v ∷ []) = ap length c.in_ok-push.ensures.ok in
+    let one = length-append c.loop-i.parts (c.in-Some-longest.v ∷ []) in let put : length c.push.new.self ≡ length (c.loop-i.parts ++ c.in-Some-longest.v ∷ []) = ap length c.in_ok-push.ensures.ok in
     record {
       cut = cut_more c.in-Some.all c.loop-i.parts c.push.new.self c.loop-i.left (c.loop-i.left - c.units-left.result) c.in-Some-longest.v c.loop-i.invariant.cut c.in-Some-longest.ensures (omega (arith, c.if-left-eq0.false)) (ap (λ u. c.loop-i.left - u) c.units-left.ensures.value) c.in_ok-push.ensures.ok;
       count = omega (arith, c.loop-i.invariant.count);

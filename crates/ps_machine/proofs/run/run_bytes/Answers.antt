@@ -23,17 +23,12 @@ returns-then-token-budget-clause-halted c =
 
 pub loop-calls-preserved : goal.loop-calls-preserved
 loop-calls-preserved c =
-    let n = rw c.in-Token.is at c.in_ok-coming.ensures in
-    let x = c.in-Ok.ensures in
-    let w = c.loop-calls.invariant.within in
-    let l : c.loop-calls.token < c.args.budget = omega (arith, w, c.if-token-budget.false) in
+    let n = rw c.in-Token.is at c.in_ok-coming.ensures in let x = c.in-Ok.ensures in let w = c.loop-calls.invariant.within in let l : c.loop-calls.token < c.args.budget = omega (arith, w, c.if-token-budget.false) in
     come_more c.args.b.now c.args.budget c.loop-calls.token c.loop-calls.calls (state_of c.loop-calls.m) c.loop-calls.rest.now c.loop-calls.fault-1 c.loop-calls.invariant (token_of c.in-Token.t) c.coming.new.calls c.in-Token.after.now n x.0 c.execute.new.calls (state_of c.execute.new.m) l x.1 x.2
 
 pub returns-in-Err-Halted-clause-halted : goal.returns-in-Err-Halted-clause-halted
 returns-in-Err-Halted-clause-halted c =
-    let n = rw c.in-Token.is at c.in_ok-coming.ensures in
-    let w = c.loop-calls.invariant.within in
-    let l : c.loop-calls.token < c.args.budget = omega (arith, w, c.if-token-budget.false) in
+    let n = rw c.in-Token.is at c.in_ok-coming.ensures in let w = c.loop-calls.invariant.within in let l : c.loop-calls.token < c.args.budget = omega (arith, w, c.if-token-budget.false) in
     let h =
     come_stuck c.args.b.now c.args.budget c.loop-calls.token c.loop-calls.calls (state_of c.loop-calls.m) c.loop-calls.rest.now c.loop-calls.fault-1 c.loop-calls.invariant (token_of c.in-Token.t) c.coming.new.calls c.in-Token.after.now n c.in-Err-Halted.cause l (rw c.in-Err-Halted.field-0-is at c.in-Err-Halted.ensures) in
     rw (← c.in-Err-Halted.cause-is) at h

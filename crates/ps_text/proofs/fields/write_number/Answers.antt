@@ -19,9 +19,7 @@ returns-clause-short c = omega (arith, length-decimal-le 19 c.unsigned_abs.resul
 
 pub returns-clause-written : goal.returns-clause-written
 returns-clause-written c =
-    let w = c.write_digits-start in
-    let long = length-decimal-le 19 c.unsigned_abs.result (omega arith) (omega arith) (omega arith) in
-    let e : w.result - 1 + 1 ≡ w.result = omega arith in
+    let w = c.write_digits-start in let long = length-decimal-le 19 c.unsigned_abs.result (omega arith) (omega arith) (omega arith) in let e : w.result - 1 + 1 ≡ w.result = omega arith in
     let f : c.args.end - 1 + 1 ≡ c.args.end = omega arith in
     let room : w.result - 1 < length w.new.buf =
     omega (arith, ap length w.ensures.written, length-drop w.result w.new.buf, length-append (decimal c.unsigned_abs.result) (drop (c.args.end - 1) (set c.args.line.now (c.args.end - 1) 32)), length-drop (c.args.end - 1) (set c.args.line.now (c.args.end - 1) 32), length-set c.args.line.now (c.args.end - 1) 32)

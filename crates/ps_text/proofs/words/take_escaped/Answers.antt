@@ -3,10 +3,7 @@ use Rattle.ps_text.{specs.Fields.is_special, proofs.Numbers.tail_of, proofs.Show
 use Rattle.ps_text.proofs.words.take_escaped.Goals as goal
 
 pub returns-in-empty-clause-reads : goal.returns-in-empty-clause-reads
-returns-in-empty-clause-reads c b rest h e = let l = c.in-empty.len_below in elim (escaped_of b c.args.bytes.now rest h e) [
-  | as_it_is s k ↦ omega (arith, ap length k)
-  | as_digits l m k ↦ omega (arith, ap length k)
-]
+returns-in-empty-clause-reads c b rest h e = let l = c.in-empty.len_below in elim (escaped_of b c.args.bytes.now rest h e) [ as_it_is s k ↦ omega (arith, ap length k) | as_digits l m k ↦ omega (arith, ap length k) ]
 
 pub returns-then-is_special-clause-reads : goal.returns-then-is_special-clause-reads
 returns-then-is_special-clause-reads c b rest h e = let v = c.is_special.ensures in let t = c.if-is_special.true in elim (escaped_of b c.args.bytes.now rest h e) [

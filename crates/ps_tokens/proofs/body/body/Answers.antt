@@ -4,8 +4,7 @@ use Rattle.ps_tokens.proofs.body.body.Goals as goal
 
 pub returns-then-is_empty : goal.returns-then-is_empty
 returns-then-is_empty c =
-    let e : c.skip-here.result.now ≡ [] = grind (arith, c.if-is_empty.true, c.is_empty.ensures) in
-    c.loop-here.invariant.none Cause.Unclosed (unclosed c.loop-here.rest.now (sym c.skip-here.ensures.passed ∙ e))
+    let e : c.skip-here.result.now ≡ [] = grind (arith, c.if-is_empty.true, c.is_empty.ensures) in c.loop-here.invariant.none Cause.Unclosed (unclosed c.loop-here.rest.now (sym c.skip-here.ensures.passed ∙ e))
 
 pub loop-here-smaller : goal.loop-here-smaller
 loop-here-smaller c =
@@ -18,8 +17,7 @@ loop-here-preserved c =
     rw c.in_ok-push-in-Found.ensures.ok (body_more c.args.bytes.now c.loop-here.rest.now c.skip-here.result.now c.in-Found.after.now c.loop-here.tokens c.in-Found.t c.skip-here.ensures.passed f c.loop-here.invariant)
 
 pub returns-in-Closing : goal.returns-in-Closing
-returns-in-Closing c =
-    rw append-nil at (c.loop-here.invariant.body [] c.in-Closing.after.now (closes c.loop-here.rest.now c.in-Closing.after.now (rw (c.in-Closing.is, c.skip-here.ensures.passed) at c.in_ok-t.ensures)))
+returns-in-Closing c = rw append-nil at (c.loop-here.invariant.body [] c.in-Closing.after.now (closes c.loop-here.rest.now c.in-Closing.after.now (rw (c.in-Closing.is, c.skip-here.ensures.passed) at c.in_ok-t.ensures)))
 
 pub returns-in-Opening : goal.returns-in-Opening
 returns-in-Opening c = c.loop-here.invariant.none Cause.BadToken (nested c.loop-here.rest.now c.in-Opening.field-0.now (rw (c.in-Opening.is, c.skip-here.ensures.passed) at c.in_ok-t.ensures))

@@ -4,8 +4,7 @@ use Rattle.ps_tokens.proofs.program.read_program.Goals as goal
 
 pub returns-then-is_empty : goal.returns-then-is_empty
 returns-then-is_empty c =
-    let e : c.loop-rest.rest.now ≡ [] = grind (arith, c.if-is_empty.true, c.is_empty.ensures) in
-    program_ends (passed false c.args.bytes.now) c.loop-rest.rest.now c.loop-rest.tokens c.loop-rest.invariant e
+    let e : c.loop-rest.rest.now ≡ [] = grind (arith, c.if-is_empty.true, c.is_empty.ensures) in program_ends (passed false c.args.bytes.now) c.loop-rest.rest.now c.loop-rest.tokens c.loop-rest.invariant e
 
 pub loop-rest-smaller : goal.loop-rest-smaller
 loop-rest-smaller c =

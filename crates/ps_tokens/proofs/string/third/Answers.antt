@@ -15,5 +15,4 @@ returns-then-is_octal c =
 
 pub returns-else-is_octal : goal.returns-else-is_octal
 returns-else-is_octal c =
-    let f : is_octal c.in-Some.c.now ≡ false = search (rules, c.if-is_octal.false, c.is_octal.ensures) in
-    rw c.in-Some.ensures.cases.0 (broken_third c.args.a c.args.b c.in-Some.c.now c.in-Some.rest.now c.requires.lead f)
+    let f : is_octal c.in-Some.c.now ≡ false = search (rules, c.if-is_octal.false, c.is_octal.ensures) in rw c.in-Some.ensures.cases.0 (broken_third c.args.a c.args.b c.in-Some.c.now c.in-Some.rest.now c.requires.lead f)

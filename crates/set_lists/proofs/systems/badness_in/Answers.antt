@@ -4,9 +4,7 @@ use Rattle.set_lists.proofs.systems.badness_in.Goals as goal
 
 pub returns : goal.returns
 returns c =
-    let spans = c.args.spans.now in
-    let a = c.args.a in
-    let i = c.partition_point-first.result in
+    let spans = c.args.spans.now in let a = c.args.a in let i = c.partition_point-first.result in
     let point = IsPartitionPoint-from_clause (λ s. nat_lt s.a a) spans i c.partition_point-first.ensures.partitioned
     (IsPartitionedBy-ltb (λ s. s.a) spans a (in_order c.args.bars spans c.requires)) (λ x r f h. search rules) in
     c.badness_among.ensures ∙ (ap (λ ss. badness_in ss a c.args.b) c.split_at.ensures.back
