@@ -1,15 +1,14 @@
 -- A document paints its sheet.
-use Rattle.std.proofs.Common.{◌≡◌, ℕ, List, [], ◌∷◌, ◌++◌, length, append_assoc, append-nil, map, refl, subst, ap, arith, decimal, codes}
-use Rattle.{ps_text.specs.{Document.document, Document.trailer, Document.count_line, declared.sheet.Sheet.Sheet, Range.IsSheet}, ps_steps.specs.{State.State, State.first_state, Steps.at, Steps.Steps}}
-use Rattle.ps_paint.{specs.{Laws.PaintsSheets, PaintOf.{page_paint, paint_of}}, proofs.{Takes.{Takes, both_taken}, Comments.{takes_comment, number_in_line}, Made.{all_names, all_made}, Starts.between, Pages.{Leads, both_lead, pages_drawn}, PrologLines.prolog_taken}}
+use Rattle.std.proofs.Common.{◌≡◌, ℕ, List, [], ◌∷◌, ◌++◌, length, append_assoc, append-nil, map, refl, ap, arith, decimal, codes}
+use Rattle.{ps_text.specs.{Document.{document, trailer, count_line}, declared.sheet.Sheet.Sheet, Range.IsSheet}, ps_steps.specs.{State.{State, first_state}, Steps.{at, Steps}}, ps_paint.specs.Laws.PaintsSheets}
+use Rattle.ps_paint.{specs.PaintOf.{page_paint, paint_of}, proofs.{Takes.{Takes, both_taken}, Comments.{takes_comment, number_in_line}, Made.{all_names, all_made}, Starts.between, Lines.{Leads, both_lead, stays}}}
+use Rattle.ps_paint.proofs.{Pages.pages_drawn, PrologLines.prolog_taken}
 
 trailer_taken : (n : ℕ) (m : State) → Takes 0 (trailer n) m m
 unfolding trailer count_line
 trailer_taken n m =
-    let a = takes_comment (codes "%Trailer") m refl in
-    let b = takes_comment (codes "%Pages: " ++ decimal n) m (number_in_line n) in
-    let c = takes_comment (codes "%EOF") m refl in
-    subst (λ t. Takes 0 t m m) (parts (codes "%%Trailer\n") (codes "%%Pages: " ++ decimal n) (codes "%%EOF\n")) (both_taken (both_taken a b) c)
+    let a = takes_comment (codes "%Trailer") m refl in let b = takes_comment (codes "%Pages: " ++ decimal n) m (number_in_line n) in let c = takes_comment (codes "%EOF") m refl in
+    rw (parts (codes "%%Trailer\n") (codes "%%Pages: " ++ decimal n) (codes "%%EOF\n")) at (both_taken (both_taken a b) c)
   where
     parts : (x y z : List ℕ) → (x ++ (y ++ 10 ∷ [])) ++ z ≡ (x ++ y) ++ 10 ∷ z
     parts x y z = simp append_assoc
@@ -17,24 +16,13 @@ trailer_taken n m =
 document_led : (s : Sheet) → IsSheet s → Leads (document s) first_state (between (all_names s.frame) (paint_of s))
 unfolding document paint_of
 document_led s h =
-    let ds = all_names s.frame in
-    let pages = pages_drawn s.frame ds h.frame (all_made s.frame) 1 s.pages [] h.pages in
+    let ds = all_names s.frame in let pages = pages_drawn (all_made s.frame h.frame) 1 s.pages [] h.pages in
     let end : Leads (trailer (length s.pages)) (between ds (map (page_paint s.frame) s.pages)) (between ds (map (page_paint s.frame) s.pages)) =
-    record { count = 0; few = omega arith; takes = trailer_taken (length s.pages) (between ds (map (page_paint s.frame) s.pages)) } in
-    both_lead (both_lead (prolog_taken s.frame h.frame) pages) end
+    stays (trailer_taken (length s.pages) (between ds (map (page_paint s.frame) s.pages))) in both_lead (both_lead (prolog_taken s.frame h.frame) pages) end
 
 pub paints_sheets : PaintsSheets
 paints_sheets s text budget spells enough =
-    let l = document_led s spells.good in
-    let k = between (all_names s.frame) (paint_of s) in
-    let run : Steps l.count (at first_state (document s)) (at k []) = subst (λ t. Steps l.count (at first_state t) (at k [])) (append-nil (document s)) (l.takes.take []) in
-    let few = l.few in
+    let l = document_led s spells.good in let k = between (all_names s.frame) (paint_of s) in
+    let run : Steps l.count (at first_state (document s)) (at k []) = rw (append-nil (document s)) at (l.takes.take []) in let few = l.few in
     let same = ap (λ t. length t) spells.spelled in
-    record {
-      count = l.count;
-      last = at k [];
-      within = omega (arith, few, same, enough);
-      run = rw spells.spelled at run;
-      ended = record { calls = refl; text = refl };
-      painted = refl;
-    }
+    record { count = l.count; last = at k []; within = omega (arith, few, same, enough); run = rw spells.spelled at run; ended = record { calls = refl; text = refl }; painted = refl }

@@ -1,8 +1,9 @@
 -- What the short procedures of the prolog draw.
-use Rattle.std.proofs.{Common.◌≡◌, Common.ℤ, Common.pos, Common.true, Common.false, Common.Bool, Common.List, Common.[], Common.◌∷◌, Common.◌++◌, Common.refl, Common.sym, Common.codes, Common.true≢false, Math.IntN.◌+ℤ◌, Math.IntN.◌*ℤ◌, Math.IntN.+ℤ_idl}
-use Rattle.ps_text.specs.{declared.sheet.Frame.Frame, Range.IsFrame}
-use Rattle.ps_steps.specs.{Operators.{Outcome, went, executed, operated, in_range, moveto_op, lineto_op, curveto_op, closepath_op, fill_op, stroke_op, gsave_op, grestore_op, translate_op}, declared.{paint.{Seg.Seg, Paint.Paint, PagePaint.PagePaint}, value.Value.{Value, TheVariants.Whole as whole_value}, graphics.Graphics.Graphics, token.Token.TheVariants.Simple as simple_token}, Near.is_near, State.{State, Names}}
-use Rattle.ps_paint.{specs.PaintOf.{to_x, to_y, move, line, curve, stroked, filled}, proofs.{Bodies.{Made, gsave_name, grestore_name, translate_name, stroke_name, m_name, l_name, c_name, h_name, k_name}, Scales.{IsClose, moved_x, moved_y, near_x, near_y, near_width}, Runs.{Runs, no_more, then, calls, does, is_in_range}}}
+use Rattle.std.proofs.{Common.{◌≡◌, ℤ, pos, true, false, Bool, List, [], ◌∷◌, ◌++◌, refl, sym, codes, true≢false}, Math.IntN.◌*ℤ◌}
+use Rattle.{ps_text.specs.{declared.sheet.Frame.Frame, Range.IsFrame}, ps_steps.specs.Operators.{add_seg, all_near, close_path, moveto_op, lineto_op, curveto_op, closepath_op, fill_op, stroke_op, gsave_op, grestore_op}}
+use Rattle.{ps_steps.{specs.{Operators.translate_op, declared.{paint.{Seg.Seg, Paint.Paint, PagePaint.PagePaint}, value.{Value.{Value, TheVariants.{Whole as whole_value}}}, graphics.Graphics.Graphics}}}}
+use Rattle.{ps_steps.{specs.{declared.{token.{Simple.{TheVariants.{Name as call}}}}, State.{State, Names}}}, ps_paint.{specs.PaintOf.{to_x, to_y, move, line, curve, stroked, filled}, proofs.{Bodies.Made, Scales.Comes}}}
+use Rattle.ps_paint.proofs.{Scales.{comes_to, near_place, near_width}, Runs.{Runs, both_runs, calls, acts, op, is_in_range}}
 
 -- the graphics of a page with the origin at (x, y)
 abbrev pub drawing : Frame → ℤ → ℤ → List Seg → ℤ → Graphics
@@ -15,12 +16,6 @@ corner f font = drawing f (pos 0) (pos 0) [] font
 abbrev pub page : Names → List Value → Graphics → List Graphics → List Paint → List PagePaint → State
 page ds st g saved ps pages = record { stack = st; names = ds; made = true; now = g; saved = saved; paints = ps; pages = pages }
 
-in_two : (a b : ℤ) (x : Outcome) → is_near a ≡ true → is_near b ≡ true → in_range (a ∷ b ∷ []) x ≡ x
-in_two a b x h k = is_in_range (a ∷ b ∷ []) x (rw (h, k) refl)
-
-in_six : (a b c d e g : ℤ) (x : Outcome) → is_near a ≡ true → is_near b ≡ true → is_near c ≡ true → is_near d ≡ true → is_near e ≡ true → is_near g ≡ true → in_range (a ∷ b ∷ c ∷ d ∷ e ∷ g ∷ []) x ≡ x
-in_six a b c d e g x ha hb hc hd he hg = is_in_range (a ∷ b ∷ c ∷ d ∷ e ∷ g ∷ []) x (rw (ha, hb, hc, hd, he, hg) refl)
-
 -- whether there is a path
 abbrev pub some_path : List Seg → Bool
 some_path [] = false
@@ -30,79 +25,49 @@ pub has_path : (path : List Seg) (s : Seg) → some_path (path ++ s ∷ []) ≡ 
 has_path [] s = refl
 has_path (p ∷ path) s = refl
 
-module _ (f : Frame) (ds : Names) (fr : IsFrame f) (made : Made f ds) (saved : List Graphics) (ps : List Paint) (pages : List PagePaint) where
-  -- the state that the page is in
-  abbrev pub on : List Value → Graphics → State
-  on st g = page ds st g saved ps pages
+closes : (path : List Seg) (m : State) → some_path path ≡ true → close_path path m ≡ add_seg Seg.Close m
+closes [] m some = absurd (true≢false (sym some))
+closes (s ∷ path) m some = refl
 
-  pub moves : (a b x y : ℤ) (path : List Seg) (font : ℤ) (st : List Value) → IsClose (x +ℤ a) → IsClose (y +ℤ b)
-      → Runs 2 (m_name ∷ []) (on (whole_value b ∷ whole_value a ∷ st) (drawing f x y path font)) (on st (drawing f x y (path ++ move f (x +ℤ a) (y +ℤ b) ∷ []) font))
-  moves a b x y path font st ca cb =
-      let m = on (whole_value b ∷ whole_value a ∷ st) (drawing f x y path font) in
-      let k = on st (drawing f x y (path ++ move f (x +ℤ a) (y +ℤ b) ∷ []) font) in
-      let e : operated moveto_op m ≡ went [] k = rw (moved_x f x a, moved_y f y b) (in_two (to_x f (x +ℤ a)) (to_y f (y +ℤ b)) (went [] k) (near_x f (x +ℤ a) fr ca) (near_y f (y +ℤ b) fr cb)) in
-      calls made.m (then (does (codes "moveto") moveto_op m (went [] k) (made.free moveto_op) refl e) no_more) no_more
+-- a point of a page is in range
+near_point : {f : Frame} {v a p w b q : ℤ} → IsFrame f → Comes v a p → Comes w b q → all_near (to_x f p ∷ to_y f q ∷ []) ≡ true
+near_point {f} {p = p} {q = q} fr u v = rw (near_place f.left f.scale p fr.left fr.greatest_scale u.close, near_place f.bottom f.scale q fr.bottom fr.greatest_scale v.close) refl
 
-  pub lines : (a b x y : ℤ) (path : List Seg) (font : ℤ) (st : List Value) → some_path path ≡ true → IsClose (x +ℤ a) → IsClose (y +ℤ b)
-      → Runs 2 (l_name ∷ []) (on (whole_value b ∷ whole_value a ∷ st) (drawing f x y path font)) (on st (drawing f x y (path ++ line f (x +ℤ a) (y +ℤ b) ∷ []) font))
-  lines a b x y [] font st some ca cb = absurd (true≢false (sym some))
-  lines a b x y (s ∷ path) font st some ca cb =
-      let m = on (whole_value b ∷ whole_value a ∷ st) (drawing f x y (s ∷ path) font) in
-      let k = on st (drawing f x y (s ∷ path ++ line f (x +ℤ a) (y +ℤ b) ∷ []) font) in
-      let e : operated lineto_op m ≡ went [] k = rw (moved_x f x a, moved_y f y b) (in_two (to_x f (x +ℤ a)) (to_y f (y +ℤ b)) (went [] k) (near_x f (x +ℤ a) fr ca) (near_y f (y +ℤ b) fr cb)) in
-      calls made.l (then (does (codes "lineto") lineto_op m (went [] k) (made.free lineto_op) refl e) no_more) no_more
+module _ {f : Frame} {ds : Names} (made : Made f ds) {saved : List Graphics} {ps : List Paint} {pages : List PagePaint} {st : List Value} where
+  pub saves : {g : Graphics} → Runs 1 (op gsave_op ∷ []) (page ds st g saved ps pages) (page ds st g (g ∷ saved) ps pages)
+  saves = acts gsave_op (made.free gsave_op) refl
 
-  -- the operators that stand in a procedure as they are
-  pub saves : (st : List Value) (g : Graphics) → executed (simple_token gsave_name) (on st g) ≡ went [] (page ds st g (g ∷ saved) ps pages)
-  saves st g = does (codes "gsave") gsave_op (on st g) (went [] (page ds st g (g ∷ saved) ps pages)) (made.free gsave_op) refl refl
+  pub restores : {g o : Graphics} → Runs 1 (op grestore_op ∷ []) (page ds st g (o ∷ saved) ps pages) (page ds st o saved ps pages)
+  restores = acts grestore_op (made.free grestore_op) refl
 
-  pub restores : (st : List Value) (g o : Graphics) → executed (simple_token grestore_name) (page ds st g (o ∷ saved) ps pages) ≡ went [] (on st o)
-  restores st g o = does (codes "grestore") grestore_op (page ds st g (o ∷ saved) ps pages) (went [] (on st o)) (made.free grestore_op) refl refl
+  pub translates : {x y a b p q font : ℤ} {path : List Seg} → Comes x a p → Comes y b q
+      → Runs 1 (op translate_op ∷ []) (page ds (whole_value b ∷ whole_value a ∷ st) (drawing f x y path font) saved ps pages) (page ds st (drawing f p q path font) saved ps pages)
+  translates {p = p} {q = q} u v =
+      acts translate_op (made.free translate_op) (rw (comes_to f.left f.scale u, comes_to f.bottom f.scale v) (is_in_range (to_x f p ∷ to_y f q ∷ []) _ (near_point made.frame u v)))
 
-  pub translates : (a b x y : ℤ) (path : List Seg) (font : ℤ) (st : List Value) → IsClose (x +ℤ a) → IsClose (y +ℤ b)
-      → executed (simple_token translate_name) (on (whole_value b ∷ whole_value a ∷ st) (drawing f x y path font)) ≡ went [] (on st (drawing f (x +ℤ a) (y +ℤ b) path font))
-  translates a b x y path font st ca cb =
-      let m = on (whole_value b ∷ whole_value a ∷ st) (drawing f x y path font) in
-      let k = on st (drawing f (x +ℤ a) (y +ℤ b) path font) in
-      let e : operated translate_op m ≡ went [] k = rw (moved_x f x a, moved_y f y b) (in_two (to_x f (x +ℤ a)) (to_y f (y +ℤ b)) (went [] k) (near_x f (x +ℤ a) fr ca) (near_y f (y +ℤ b) fr cb)) in
-      does (codes "translate") translate_op m (went [] k) (made.free translate_op) refl e
+  pub moves : {x y a b p q font : ℤ} {path : List Seg} → Comes x a p → Comes y b q
+      → Runs 2 (call (codes "m") ∷ []) (page ds (whole_value b ∷ whole_value a ∷ st) (drawing f x y path font) saved ps pages) (page ds st (drawing f x y (path ++ move f p q ∷ []) font) saved ps pages)
+  moves {p = p} {q = q} u v =
+      calls made.m (acts moveto_op (made.free moveto_op) (rw (comes_to f.left f.scale u, comes_to f.bottom f.scale v) (is_in_range (to_x f p ∷ to_y f q ∷ []) _ (near_point made.frame u v))))
 
-  -- from the corner
-  pub places : (a b font : ℤ) (st : List Value) → IsClose a → IsClose b → executed (simple_token translate_name) (on (whole_value b ∷ whole_value a ∷ st) (corner f font)) ≡ went [] (on st (drawing f a b [] font))
-  places a b font st ca cb = rw (+ℤ_idl a, +ℤ_idl b) at (translates a b (pos 0) (pos 0) [] font st (rw (+ℤ_idl a) ca) (rw (+ℤ_idl b) cb))
+  pub lines : {x y a b p q font : ℤ} {path : List Seg} → some_path path ≡ true → Comes x a p → Comes y b q
+      → Runs 2 (call (codes "l") ∷ []) (page ds (whole_value b ∷ whole_value a ∷ st) (drawing f x y path font) saved ps pages) (page ds st (drawing f x y (path ++ line f p q ∷ []) font) saved ps pages)
+  lines {path = []} some u v = absurd (true≢false (sym some))
+  lines {p = p} {q = q} {path = s ∷ path} some u v =
+      calls made.l (acts lineto_op (made.free lineto_op) (rw (comes_to f.left f.scale u, comes_to f.bottom f.scale v) (is_in_range (to_x f p ∷ to_y f q ∷ []) _ (near_point made.frame u v))))
 
-  pub strokes : (x y : ℤ) (path : List Seg) (font : ℤ) (st : List Value)
-      → executed (simple_token stroke_name) (on st (drawing f x y path font)) ≡ went [] (page ds st (drawing f x y [] font) saved (ps ++ stroked f path ∷ []) pages)
-  strokes x y path font st =
-      let m = on st (drawing f x y path font) in
-      let k = page ds st (drawing f x y [] font) saved (ps ++ stroked f path ∷ []) pages in
-      let e : operated stroke_op m ≡ went [] k = is_in_range ((pos 60 *ℤ pos f.scale) ∷ []) (went [] k) (rw (near_width f fr) refl) in
-      does (codes "stroke") stroke_op m (went [] k) (made.free stroke_op) refl e
+  pub curves : {x y a b c d e g p q r s t w font : ℤ} {path : List Seg} → some_path path ≡ true → Comes x a p → Comes y b q → Comes x c r → Comes y d s → Comes x e t → Comes y g w
+      → Runs 2 (call (codes "c") ∷ []) (page ds (whole_value g ∷ whole_value e ∷ whole_value d ∷ whole_value c ∷ whole_value b ∷ whole_value a ∷ st) (drawing f x y path font) saved ps pages)
+      (page ds st (drawing f x y (path ++ curve f p q r s t w ∷ []) font) saved ps pages)
+  curves {path = []} some i j k l u v = absurd (true≢false (sym some))
+  curves {p = p} {q = q} {r = r} {s = s} {t = t} {w = w} {path = n ∷ path} some i j k l u v =
+      let across = f.left in let above = f.bottom in let z = f.scale in let fr = made.frame in
+      let near : all_near (to_x f p ∷ to_y f q ∷ to_x f r ∷ to_y f s ∷ to_x f t ∷ to_y f w ∷ []) ≡ true = simp (near_point fr i j, near_point fr k l, near_point fr u v) in
+      calls made.c (acts curveto_op (made.free curveto_op) (rw (comes_to across z i, comes_to above z j, comes_to across z k, comes_to above z l, comes_to across z u, comes_to above z v)
+      (is_in_range (to_x f p ∷ to_y f q ∷ to_x f r ∷ to_y f s ∷ to_x f t ∷ to_y f w ∷ []) _ near)))
 
-  pub curves : (a b c d p q x y : ℤ) (path : List Seg) (font : ℤ) (st : List Value) → some_path path ≡ true
-      → IsClose (x +ℤ a) → IsClose (y +ℤ b) → IsClose (x +ℤ c) → IsClose (y +ℤ d) → IsClose (x +ℤ p) → IsClose (y +ℤ q)
-      → Runs 2 (c_name ∷ []) (on (whole_value q ∷ whole_value p ∷ whole_value d ∷ whole_value c ∷ whole_value b ∷ whole_value a ∷ st) (drawing f x y path font))
-      (on st (drawing f x y (path ++ curve f (x +ℤ a) (y +ℤ b) (x +ℤ c) (y +ℤ d) (x +ℤ p) (y +ℤ q) ∷ []) font))
-  curves a b c d p q x y [] font st some ca cb cc cd cp cq = absurd (true≢false (sym some))
-  curves a b c d p q x y (s ∷ path) font st some ca cb cc cd cp cq =
-      let m = on (whole_value q ∷ whole_value p ∷ whole_value d ∷ whole_value c ∷ whole_value b ∷ whole_value a ∷ st) (drawing f x y (s ∷ path) font) in
-      let k = on st (drawing f x y (s ∷ path ++ curve f (x +ℤ a) (y +ℤ b) (x +ℤ c) (y +ℤ d) (x +ℤ p) (y +ℤ q) ∷ []) font) in
-      let e : operated curveto_op m ≡ went [] k = rw (moved_x f x a, moved_y f y b, moved_x f x c, moved_y f y d, moved_x f x p, moved_y f y q)
-      (in_six (to_x f (x +ℤ a)) (to_y f (y +ℤ b)) (to_x f (x +ℤ c)) (to_y f (y +ℤ d)) (to_x f (x +ℤ p)) (to_y f (y +ℤ q)) (went [] k)
-      (near_x f (x +ℤ a) fr ca) (near_y f (y +ℤ b) fr cb) (near_x f (x +ℤ c) fr cc) (near_y f (y +ℤ d) fr cd) (near_x f (x +ℤ p) fr cp) (near_y f (y +ℤ q) fr cq)) in
-      calls made.c (then (does (codes "curveto") curveto_op m (went [] k) (made.free curveto_op) refl e) no_more) no_more
+  pub fills : {g : Graphics} → some_path g.path ≡ true → Runs 3 (call (codes "h") ∷ []) (page ds st g saved ps pages) (page ds st (record g { path = [] }) saved (ps ++ filled g.path ∷ []) pages)
+  fills {g} some = calls made.h (both_runs (acts closepath_op (made.free closepath_op) (closes g.path _ some)) (acts fill_op (made.free fill_op) refl))
 
-  pub stroke_runs : (x y : ℤ) (path : List Seg) (font : ℤ) (st : List Value) → Runs 2 (k_name ∷ []) (on st (drawing f x y path font)) (page ds st (drawing f x y [] font) saved (ps ++ stroked f path ∷ []) pages)
-  stroke_runs x y path font st = calls made.k (then (strokes x y path font st) no_more) no_more
-
-  pub fill_runs : (x y : ℤ) (path : List Seg) (font : ℤ) (st : List Value) → some_path path ≡ true
-      → Runs 3 (h_name ∷ []) (on st (drawing f x y path font)) (page ds st (drawing f x y [] font) saved (ps ++ filled path ∷ []) pages)
-  fill_runs x y [] font st some = absurd (true≢false (sym some))
-  fill_runs x y (s ∷ path) font st some =
-      let m = on st (drawing f x y (s ∷ path) font) in
-      let k = on st (drawing f x y (s ∷ path ++ Seg.Close ∷ []) font) in
-      let l = page ds st (drawing f x y [] font) saved (ps ++ filled (s ∷ path) ∷ []) pages in
-      calls made.h
-      (then (does (codes "closepath") closepath_op m (went [] k) (made.free closepath_op) refl refl)
-      (then (does (codes "fill") fill_op k (went [] l) (made.free fill_op) refl refl) no_more))
-      no_more
+  pub strokes : (x y : ℤ) {font : ℤ} {path : List Seg} → Runs 1 (op stroke_op ∷ []) (page ds st (drawing f x y path font) saved ps pages) (page ds st (drawing f x y [] font) saved (ps ++ stroked f path ∷ []) pages)
+  strokes x y = acts stroke_op (made.free stroke_op) (is_in_range ((pos 60 *ℤ pos f.scale) ∷ []) _ (rw (near_width f made.frame) refl))

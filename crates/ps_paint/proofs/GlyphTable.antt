@@ -1,8 +1,7 @@
 -- What holds of the name and of the outline of each glyph.
-use Rattle.std.{proofs.Common.◌≡◌, proofs.Common.true, proofs.Common.false, proofs.Common.Some, proofs.Common.refl, proofs.Common.codes, proofs.Common.nat_le, proofs.Common.◌==◌, specs.List.list_all, specs.Str.bytes_eq}
-use Rattle.{mus_units.specs.declared.glyph.Glyph.{Glyph}, glyph_paths.specs.{Names.glyph_name, Outlines.outline_of}}
-use Rattle.ps_steps.specs.{Tokens.{is_regular, is_name, begins, word_token}, declared.token.Simple.TheVariants.Name as name_token}
-use Rattle.ps_paint.proofs.Glyphs.{is_drawn, cost}
+use Rattle.std.{proofs.Common.{◌≡◌, true, false, Some, refl, codes, nat_le, ◌==◌}, specs.{List.list_all, Str.bytes_eq}}
+use Rattle.{mus_units.specs.declared.glyph.Glyph.Glyph, glyph_paths.specs.{Names.glyph_name, Outlines.outline_of}, ps_steps.specs.Tokens.{is_regular, is_name, begins, word_token}}
+use Rattle.{ps_steps.{specs.{declared.{token.{Simple.{TheVariants.{Name as name_token}}}}}}, ps_paint.proofs.Glyphs.{are_small, is_drawn, cost}}
 
 -- its name may be defined, is no operator of the prolog's lines, and its outline is drawn in a few tokens
 pub record IsFine (g : Glyph) : Type 0 where
@@ -11,9 +10,10 @@ pub record IsFine (g : Glyph) : Type 0 where
   pub other : begins (λ b. b == 67) (glyph_name g) ≡ false
   pub token : word_token (glyph_name g) ≡ Some (name_token (glyph_name g))
   pub no_def : bytes_eq (glyph_name g) (codes "def") ≡ false
+  pub small : are_small (outline_of g) ≡ true
   pub drawn : is_drawn false (outline_of g) ≡ true
   pub few : nat_le (cost (outline_of g)) 90 ≡ true
 
 pub fine : (g : Glyph) → IsFine g
-fine Glyph.Hb = record { regular = refl; good = refl; other = refl; token = refl; no_def = refl; drawn = refl; few = refl }
-fine _ = record { regular = refl; good = refl; other = refl; token = refl; no_def = refl; drawn = refl; few = refl }
+fine Glyph.Hb = record { regular = refl; good = refl; other = refl; token = refl; no_def = refl; small = refl; drawn = refl; few = refl }
+fine _ = record { regular = refl; good = refl; other = refl; token = refl; no_def = refl; small = refl; drawn = refl; few = refl }

@@ -1,8 +1,9 @@
 -- The tokens in the text of a procedure.
-use Rattle.std.{proofs.{Common.{◌≡◌, ℕ, ℤ, true, false, Bool, ◌&&◌, List, [], ◌∷◌, ◌++◌, drop, append_assoc, map, Option, Some, None, refl, sym, subst, ◌∙◌, ap, arith, ◌==◌, not}, lemmas.Bool.{true≢false, not-true, and_parts, Decides.nat_tests}}, specs.{List.{flat_map, list_all}, Fmt.signed_decimal}}
-use Rattle.glyph_paths.specs.Procedure.{numbers}
-use Rattle.ps_steps.specs.{declared.token.Simple.{Simple, TheVariants.{Whole as whole_token, Label as label_token}}, Near.is_near, Tokens.{passed, IsFont, Front, word_front, label_front, closing_front, found, Body, closes, goes_on, is_regular, is_name, begins, word_token}, Operators.all_near}
-use Rattle.ps_paint.proofs.{Runs.wholes, Takes.IsTokenWord, Takes.IsPassed, Takes.space_passed, Takes.word_stays, Takes.word_at, Takes.number_word, Takes.name_some}
+use Rattle.std.proofs.{Common.{◌≡◌, ℕ, ℤ, true, false, Bool, ◌&&◌, List, [], ◌∷◌, ◌++◌, drop, append_assoc, map, Option, Some, None, refl, sym, subst, ◌∙◌, ap, arith, ◌==◌, not}, lemmas.Bool.{true≢false, and_parts}}
+use Rattle.std.{proofs.lemmas.Bool.Decides.nat_tests, specs.{List.{flat_map, list_all}, Fmt.signed_decimal}}
+use Rattle.{glyph_paths.specs.Procedure.numbers, ps_steps.{specs.{declared.{token.{Simple.{Simple, TheVariants.{Whole as whole_token, Label as label_token}}}}, Near.is_near, Tokens.{passed, IsFont, label_front}}}}
+use Rattle.{ps_steps.specs.{Tokens.{closing_front, Body, closes, goes_on, is_regular, is_name, begins, word_token}, Operators.all_near}, ps_paint.proofs.{Runs.wholes, Takes.{IsPassed, space_passed, Stands, word_stands}}}
+use Rattle.ps_paint.proofs.Takes.{word_at, number_word, name_some}
 
 body_passed : (s u : List ℕ) (ts : List Simple) (r : List ℕ) → passed false u ≡ passed false s → Body s ts r → Body u ts r
 body_passed _ u _ r e (closes s _ f) = closes u r (rw e f)
@@ -18,16 +19,6 @@ nothing_lexed = record { lex = λ rest after us b. b }
 pub both_lexed : {s t : List ℕ} {ts us : List Simple} → Lexes s ts → Lexes t us → Lexes (s ++ t) (ts ++ us)
 both_lexed {s} {t} {ts} {us} x y = record { lex = λ rest after vs b. rw (append_assoc s t rest, append_assoc ts us vs) (x.lex (t ++ rest) after (us ++ vs) (y.lex rest after vs b)) }
 
--- these bytes are the token, whatever stands behind the byte after them
-pub record Stands (t : Simple) (w : List ℕ) : Type 0 where
-  pub front : (b : ℕ) (rest : List ℕ) → is_regular b ≡ false → Front (passed false (w ++ b ∷ rest)) (found t (b ∷ rest))
-
-pub word_stands : {t : Simple} {w : List ℕ} → IsTokenWord t w → Stands t w
-word_stands {t} {w} i = record {
-  front = λ b rest stop.
-      subst (λ u. Front u (found t (b ∷ rest))) (sym (word_stays w (b ∷ rest) i.some i.regular)) (word_front w (b ∷ rest) t (word_at w rest b i.some i.regular stop) i.token);
-}
-
 -- a name that may be defined: it begins otherwise than the font's line
 pub record IsNewName (name : List ℕ) : Type 0 where
   pub regular : list_all is_regular name ≡ true
@@ -39,10 +30,7 @@ no_font [] s n r e = true≢false (sym n.good)
 no_font (b ∷ w) s n r e = true≢false (sym (ap (λ u. begins (λ c. c == 67) (drop 1 u)) e) ∙ n.other)
 
 pub label_stands : {name : List ℕ} → IsNewName name → Stands (label_token name) (47 ∷ name)
-label_stands {name} n = record {
-  front = λ b rest stop.
-      label_front (name ++ b ∷ rest) name (b ∷ rest) refl (no_font name (b ∷ rest) n) (word_at name rest b (name_some name n.good) n.regular stop) n.good;
-}
+label_stands {name} n = record { front = λ b rest stop. label_front (name ++ b ∷ rest) name (b ∷ rest) refl (no_font name (b ∷ rest) n) (word_at name rest b (name_some name n.good) n.regular stop) n.good }
 
 pub lex_one : {t : Simple} {w : List ℕ} {b : ℕ} → Stands t w → IsPassed b → Lexes (w ++ b ∷ []) (t ∷ [])
 lex_one {t} {w} {b} i p = record {
@@ -78,22 +66,12 @@ none_some : (t : Simple) → None ≡ Some t → ⊥
 none_some t e = cc
 
 label_is : (w : List ℕ) (t : Simple) → label_piece w ≡ Some t → Stands t (47 ∷ w)
-label_is w t e = by_test (list_all is_regular w && (is_name w && not (begins (λ b. b == 67) w))) refl e
-  where
-    by_test : (x : Bool) → (list_all is_regular w && (is_name w && not (begins (λ b. b == 67) w))) ≡ x → elim x as (λ _. Option Simple) [ true ↦ Some (label_token w) | false ↦ None ] ≡ Some t → Stands t (47 ∷ w)
-    by_test true h k =
-        let p = and_parts (list_all is_regular w) (is_name w && not (begins (λ b. b == 67) w)) h in
-        let q = and_parts (is_name w) (not (begins (λ b. b == 67) w)) p.1 in
-        let same : label_token w ≡ t = cc in
-        subst (λ u. Stands u (47 ∷ w)) same (label_stands (record { regular = p.0; good = q.0; other = not-true (begins (λ b. b == 67) w) q.1 }))
-    by_test false h k = absurd (none_some t k)
+label_is w t e =
+    let new : IsNewName w = record { regular = grind arith; good = grind arith; other = grind arith } in
+    let same : label_token w ≡ t = grind arith in rw same at (label_stands new)
 
 word_is : (b : ℕ) (w : List ℕ) (t : Simple) → word_piece (b ∷ w) ≡ Some t → Stands t (b ∷ w)
-word_is b w t e = by_test (list_all is_regular (b ∷ w)) refl e
-  where
-    by_test : (x : Bool) → list_all is_regular (b ∷ w) ≡ x → elim x as (λ _. Option Simple) [ true ↦ word_token (b ∷ w) | false ↦ None ] ≡ Some t → Stands t (b ∷ w)
-    by_test true h k = word_stands (record { some = omega arith; regular = h; token = k })
-    by_test false h k = absurd (none_some t k)
+word_is b w t e = word_stands (record { some = omega arith; regular = grind arith; token = grind arith })
 
 pub piece_stands : (w : List ℕ) (t : Simple) → piece_token w ≡ Some t → Stands t w
 piece_stands [] t e = absurd (none_some t e)
@@ -118,10 +96,7 @@ pieces_lexed : (ws : List (List ℕ)) (ts : List Simple) → map piece_token ws 
 pieces_lexed [] [] e = nothing_lexed
 pieces_lexed [] (t ∷ ts) e = absurd cc
 pieces_lexed (w ∷ ws) [] e = absurd cc
-pieces_lexed (w ∷ ws) (t ∷ ts) e =
-    let one : piece_token w ≡ Some t = cc in
-    let more : map piece_token ws ≡ map (λ t. Some t) ts = cc in
-    both_lexed (lex_one (piece_stands w t one) space_passed) (pieces_lexed ws ts more)
+pieces_lexed (w ∷ ws) (t ∷ ts) e = let one : piece_token w ≡ Some t = cc in let more : map piece_token ws ≡ map (λ t. Some t) ts = cc in both_lexed (lex_one (piece_stands w t one) space_passed) (pieces_lexed ws ts more)
 
 -- a fixed text
 pub lexed : (text : List ℕ) (ts : List Simple) → spaced (pieces_of text) ≡ text → map piece_token (pieces_of text) ≡ map (λ t. Some t) ts → Lexes text ts
@@ -134,10 +109,10 @@ pieces_end [] w (t ∷ []) e rest = let one : piece_token w ≡ Some t = cc in e
 pieces_end [] w (t ∷ u ∷ ts) e rest = absurd cc
 pieces_end (v ∷ ws) w [] e rest = absurd cc
 pieces_end (v ∷ ws) w (t ∷ ts) e rest =
-    let one : piece_token v ≡ Some t = cc in
-    let more : map piece_token (ws ++ w ∷ []) ≡ map (λ u. Some u) ts = cc in
+    let one : piece_token v ≡ Some t = cc in let more : map piece_token (ws ++ w ∷ []) ≡ map (λ u. Some u) ts = cc in
     let b = (lex_one (piece_stands v t one) space_passed).lex ((spaced ws ++ w) ++ 125 ∷ rest) rest ts (pieces_end ws w ts more rest) in
     rw (append_assoc (v ++ 32 ∷ []) (spaced ws) w, append_assoc (v ++ 32 ∷ []) (spaced ws ++ w) (125 ∷ rest)) b
 
-pub lexed_to : (text last : List ℕ) (ts : List Simple) → spaced (pieces_of text) ≡ text → map piece_token (pieces_of text ++ last ∷ []) ≡ map (λ t. Some t) ts → (rest : List ℕ) → Body ((text ++ last) ++ 125 ∷ rest) ts rest
+pub lexed_to : (text last : List ℕ) (ts : List Simple) → spaced (pieces_of text) ≡ text → map piece_token (pieces_of text ++ last ∷ []) ≡ map (λ t. Some t) ts → (rest : List ℕ)
+    → Body ((text ++ last) ++ 125 ∷ rest) ts rest
 lexed_to text last ts e f rest = subst (λ s. Body ((s ++ last) ++ 125 ∷ rest) ts rest) e (pieces_end (pieces_of text) last ts f rest)

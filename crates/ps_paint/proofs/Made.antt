@@ -1,21 +1,19 @@
 -- The definitions that the prolog makes.
-use Rattle.std.proofs.Common.{◌≡◌, ℕ, List, [], ◌∷◌, Some, None, take, refl, codes}
-use Rattle.{mus_units.specs.{declared.glyph.Glyph.Glyph, declared.glyph.Way.Way}, glyph_paths.specs.Names.{glyph_name, glyphs_in_order}, ps_text.specs.{Names.way_name, declared.sheet.Frame.Frame}}
-use Rattle.ps_steps.specs.{declared.token.Simple.Simple, State.Names, State.no_names, Operators.Operator, Operators.operator_name, Operators.defined, Operators.def_op}
-use Rattle.ps_paint.{specs.PaintOf.edge, proofs.Bodies.{Made, m_body, l_body, c_body, h_body, k_body, sf_body, vl_body, st_body, beam_body, ac_body, t1_body, t2_body, pg_body, glyph_body}}
+use Rattle.std.proofs.Common.{◌≡◌, ℕ, List, [], ◌∷◌, Some, None, refl, codes}
+use Rattle.{mus_units.specs.declared.glyph.{Glyph.Glyph, Size.Size, Way.Way}, glyph_paths.specs.Names.{glyph_name, glyphs_in_order}, ps_text.specs.{Names.{size_name, way_name}, Range.IsFrame, declared.sheet.Frame.Frame}}
+use Rattle.ps_steps.specs.{declared.token.Simple.Simple, State.{Names, no_names}, Operators.{Operator, operator_name, defined, def_op, moveto_op, lineto_op, curveto_op, closepath_op, fill_op, stroke_op}}
+use Rattle.ps_paint.{specs.PaintOf.edge, proofs.{Runs.op, Bodies.{Made, sf_body, vl_body, st_body, beam_body, ac_body, size_body, pg_body, glyph_body}}}
 
 -- the names of its fixed lines and their procedures, in their order
 abbrev pub fixed_bodies : List (List ℕ × List Simple)
-fixed_bodies = (codes "m", m_body) ∷ (codes "l", l_body) ∷ (codes "c", c_body) ∷ (codes "h", h_body) ∷ (codes "k", k_body) ∷ (codes "sf", sf_body) ∷ (codes "vl", vl_body) ∷ (codes "st", st_body)
-    ∷ (codes "bu", beam_body (edge Way.Up)) ∷ (codes "bd", beam_body (edge Way.Down)) ∷ (codes "gb", beam_body (edge Way.Grace)) ∷ (codes "ac", ac_body) ∷ (codes "t1", t1_body) ∷ (codes "t2", t2_body) ∷ []
+fixed_bodies = (codes "m", op moveto_op ∷ []) ∷ (codes "l", op lineto_op ∷ []) ∷ (codes "c", op curveto_op ∷ []) ∷ (codes "h", op closepath_op ∷ op fill_op ∷ []) ∷ (codes "k", op stroke_op ∷ [])
+    ∷ (codes "sf", sf_body) ∷ (codes "vl", vl_body) ∷ (codes "st", st_body)
+    ∷ (codes "bu", beam_body (edge Way.Up)) ∷ (codes "bd", beam_body (edge Way.Down)) ∷ (codes "gb", beam_body (edge Way.Grace))
+    ∷ (codes "ac", ac_body) ∷ (codes "t1", size_body Size.Small) ∷ (codes "t2", size_body Size.Big) ∷ []
 
 abbrev pub with_bodies : List (List ℕ × List Simple) → Names → Names
 with_bodies [] ds = ds
 with_bodies (b ∷ bs) ds = with_bodies bs (defined b.0 b.1 ds)
-
--- the definitions of the first so many of them, and of all
-abbrev pub with_front : ℕ → Names
-with_front n = with_bodies (take n fixed_bodies) no_names
 
 abbrev pub with_fixed : Names
 with_fixed = with_bodies fixed_bodies no_names
@@ -47,6 +45,11 @@ unfolding glyphs_in_order
 of_beam f Way.Up = refl
 of_beam f _ = refl
 
-pub all_made : (f : Frame) → Made f (all_names f)
+of_size : (f : Frame) (size : Size) → all_names f (size_name size) ≡ Some (size_body size)
 unfolding glyphs_in_order
-all_made f = record { free = free f; m = refl; l = refl; c = refl; h = refl; k = refl; sf = refl; vl = refl; st = refl; beam = of_beam f; ac = refl; t1 = refl; t2 = refl; pg = refl; glyph = of_glyph f }
+of_size f Size.Small = refl
+of_size f Size.Big = refl
+
+pub all_made : (f : Frame) → IsFrame f → Made f (all_names f)
+unfolding glyphs_in_order
+all_made f fr = record { frame = fr; free = free f; m = refl; l = refl; c = refl; h = refl; k = refl; sf = refl; vl = refl; st = refl; beam = of_beam f; ac = refl; words = of_size f; pg = refl; glyph = of_glyph f }

@@ -1,17 +1,12 @@
 -- Marks, staves, systems, items and pages are drawn as they are painted.
-use Rattle.std.{proofs.{Common.{◌≡◌, ℕ, ◌+◌, ◌*◌, ◌≤◌, ℤ, pos, List, [], ◌∷◌, ◌++◌, length, length-append, append_assoc, append-nil, map, refl, sym, subst, ◌∙◌, ap, arith, decimal, codes, All}, Math.IntN.◌+ℤ◌, lemmas.{Int.ints, List.Elements.{All-head, All-tail}}}, specs.List.flat_map}
-use Rattle.ps_text.specs.{Document.{numbered, mark_text, marks_text, rules_line, staff_line, staff_text, last_base, join_text, system_line, system_text, tune_line, tune_text, item_text, items_text, page_text, heading_text, heading_line, closing}, declared.{marks.PageMark.PageMark, sheet.{Frame.Frame, Staff.Staff, Item.Item, Page.Page}}, Range.{IsFrame, IsNumber, IsPageMark, IsStaff, IsJoined, IsItem, IsPage}}
-use Rattle.ps_steps.specs.{declared.paint.PagePaint.PagePaint, State.State, State.Names, State.first_graphics}
-use Rattle.ps_paint.{specs.PaintOf.{mark_paints, staff_paints, join_paints, item_paints, page_paint}, proofs.{Bodies.Made, Takes.{Takes, nothing_taken, both_taken}, Comments.{takes_comment, number_in_line, two_in_line}, Lines.{Draws, nothing_drawn, passed_over, both_drawn, all_drawn}, StemLines.{stem_drawn, join_drawn}, StaffLines.rules_drawn, GlyphLines.glyph_line_drawn, WordLines.{words_drawn, title_drawn}, BeamLines.beam_drawn, ArcLines.arc_drawn, Starts.{between, page_begun, page_ended}}}
-
--- a text leads from one state to another, in at most 100 tokens a byte
-pub record Leads (text : List ℕ) (m k : State) : Type 0 where
-  pub count : ℕ
-  pub few : count ≤ 100 * length text
-  pub takes : Takes count text m k
-
-pub both_lead : {s t : List ℕ} {m k l : State} → Leads s m k → Leads t k l → Leads (s ++ t) m l
-both_lead {s} {t} x y = record { count = x.count + y.count; few = let a = x.few in let b = y.few in omega (arith, length-append s t); takes = both_taken x.takes y.takes }
+use Rattle.std.proofs.{Common.{◌≡◌, ℕ, ◌+◌, ◌≤◌, ℤ, pos, List, [], ◌∷◌, ◌++◌, length, length-append, append_assoc, append-nil, map, refl, subst, arith, decimal, codes, All}, Math.IntN.◌+ℤ◌, lemmas.Int.ints}
+use Rattle.std.{proofs.lemmas.List.Elements.{All-head, All-tail}, specs.List.flat_map}
+use Rattle.ps_text.specs.Document.{numbered, mark_text, marks_text, rules_line, staff_line, staff_text, last_base, join_text, system_line, system_text, tune_line, tune_text, item_text, items_text, page_text}
+use Rattle.ps_text.specs.{Document.{heading_text, heading_line, closing}, declared.{marks.PageMark.PageMark, sheet.{Frame.Frame, Staff.Staff, Item.Item, Page.Page}}, Range.{IsNumber, IsPageMark, IsStaff, IsJoined}}
+use Rattle.{ps_text.specs.Range.{IsItem, IsPage}, ps_steps.specs.{declared.paint.PagePaint.PagePaint, State.{Names, first_graphics}}, ps_paint.specs.PaintOf.{mark_paints, staff_paints, join_paints, item_paints}}
+use Rattle.ps_paint.{specs.PaintOf.page_paint, proofs.{Bodies.Made, Takes.{nothing_taken, both_taken}, Comments.{takes_comment, number_in_line, two_in_line}, Lines.{Leads, both_lead, stays, Draws, nothing_drawn}}}
+use Rattle.ps_paint.proofs.{Lines.{passed_over, both_drawn, all_drawn}, StemLines.{stem_drawn, join_drawn}, StaffLines.rules_drawn, GlyphLines.glyph_drawn, WordLines.{words_drawn, title_drawn}, BeamLines.beam_drawn}
+use Rattle.ps_paint.proofs.{ArcLines.arc_drawn, Starts.{between, page_begun, page_ended}}
 
 wide_number : (n : ℕ) → n ≤ 2147483648 → IsNumber (pos n)
 wide_number n l = record { low = omega (arith, ints); high = omega (arith, ints) }
@@ -21,7 +16,7 @@ last_number s [] a = (All-head IsStaff s [] a).base
 last_number s (t ∷ rest) a = last_number t rest (All-tail IsStaff s (t ∷ rest) a)
 
 three_lines : (a r ms : List ℕ) → ((a ++ 10 ∷ []) ++ (r ++ 10 ∷ [])) ++ ms ≡ (a ++ 10 ∷ r) ++ 10 ∷ ms
-three_lines a r ms = ap (λ t. t ++ ms) (sym (append_assoc (a ++ 10 ∷ []) r (10 ∷ []))) ∙ (append_assoc ((a ++ 10 ∷ []) ++ r) (10 ∷ []) ms ∙ ap (λ t. t ++ 10 ∷ ms) (append_assoc a (10 ∷ []) r))
+three_lines a r ms = simp append_assoc
 
 heading_some : (k : ℕ) → 1 ≤ length (heading_text k)
 unfolding heading_text heading_line
@@ -31,24 +26,21 @@ page_parts : (k : ℕ) (p : Page) → page_text k p ≡ (heading_text k ++ flat_
 unfolding page_text items_text
 page_parts k p = refl
 
-module _ (f : Frame) (ds : Names) (fr : IsFrame f) (made : Made f ds) where
+module _ {f : Frame} {ds : Names} (made : Made f ds) where
   mark_drawn : (y : ℤ) (m : PageMark) → IsPageMark y m → Draws f ds (mark_text y m) (mark_paints f y m)
-  mark_drawn y (PageMark.Glyph glyph x dx dy) h = glyph_line_drawn f ds fr made glyph y x dx dy h
-  mark_drawn y (PageMark.Words size x dx dy words) h = words_drawn f ds fr made size y x dx dy words h.0 h.1
-  mark_drawn y (PageMark.Stem x dx from to) h = stem_drawn f ds fr made y x dx from to h
-  mark_drawn y (PageMark.Beam way x1 x2 from to) h = beam_drawn f ds fr made y way x1 x2 from to h
-  mark_drawn y (PageMark.Arc x1 x2 from to bulge) h = arc_drawn f ds fr made y x1 x2 from to bulge h
+  mark_drawn y (PageMark.Glyph glyph x dx dy) h = glyph_drawn made glyph y x dx dy h
+  mark_drawn y (PageMark.Words size x dx dy words) h = words_drawn made size y x dx dy words h.0 h.1
+  mark_drawn y (PageMark.Stem x dx from to) h = stem_drawn made y x dx from to h
+  mark_drawn y (PageMark.Beam way x1 x2 from to) h = beam_drawn made y way x1 x2 from to h
+  mark_drawn y (PageMark.Arc x1 x2 from to bulge) h = arc_drawn made y x1 x2 from to bulge h
 
   staff_drawn : (k : ℕ) (s : Staff) → IsStaff s → Draws f ds (staff_text k s) (staff_paints f s)
   unfolding staff_text staff_line marks_text
   staff_drawn k s h =
-      let a = 37 ∷ (codes " staff " ++ decimal k) in
-      let r = rules_line s.width s.y in
-      let ms = flat_map (mark_text s.y) s.marks in
+      let a = 37 ∷ (codes " staff " ++ decimal k) in let r = rules_line s.width s.y in let ms = flat_map (mark_text s.y) s.marks in
       let comment : Draws f ds (a ++ 10 ∷ []) [] = passed_over (λ m. takes_comment (codes " staff " ++ decimal k) m (number_in_line k)) in
-      let rules = rules_drawn f ds fr made s.width s.y (wide_number s.width h.wide) h.base in
-      let marks : Draws f ds ms (flat_map (mark_paints f s.y) s.marks) = all_drawn (mark_drawn s.y) s.marks h.drawn in
-      subst (λ t. Draws f ds t (staff_paints f s)) (three_lines a r ms) (both_drawn (both_drawn comment rules) marks)
+      let rules = rules_drawn made s.width s.y (wide_number s.width h.wide) h.base in let marks : Draws f ds ms (flat_map (mark_paints f s.y) s.marks) = all_drawn (mark_drawn s.y) s.marks h.drawn in
+      rw (three_lines a r ms) at (both_drawn (both_drawn comment rules) marks)
 
   staves_drawn : (k : ℕ) (staves : List Staff) → All IsStaff staves → Draws f ds (numbered staff_text k staves) (flat_map (staff_paints f) staves)
   staves_drawn k [] a = nothing_drawn
@@ -57,26 +49,27 @@ module _ (f : Frame) (ds : Names) (fr : IsFrame f) (made : Made f ds) where
   joined_drawn : (staves : List Staff) → IsJoined staves → All IsStaff staves → Draws f ds (join_text staves) (join_paints f staves)
   joined_drawn [] j a = nothing_drawn
   joined_drawn (s ∷ []) j a = nothing_drawn
-  joined_drawn (s ∷ t ∷ rest) j a = join_drawn f ds fr made (s.y +ℤ pos 2000) (last_base t rest) j (last_number t rest (All-tail IsStaff s (t ∷ rest) a))
+  joined_drawn (s ∷ t ∷ rest) j a = join_drawn made (s.y +ℤ pos 2000) (last_base t rest) j (last_number t rest (All-tail IsStaff s (t ∷ rest) a))
 
   item_drawn : (i : Item) → IsItem i → Draws f ds (item_text i) (item_paints f i)
   unfolding tune_text tune_line system_text system_line
   item_drawn (Item.Tune ordinal) h = passed_over (λ m. takes_comment (codes " tune " ++ decimal ordinal) m (number_in_line ordinal))
-  item_drawn (Item.Title x y size words) h = title_drawn f ds fr made x y size words h
+  item_drawn (Item.Title x y size words) h = title_drawn made x y size words h
   item_drawn (Item.System a b staves) h =
       let c = 37 ∷ (codes " system " ++ decimal a ++ 32 ∷ decimal b) in
       let comment : Draws f ds (c ++ 10 ∷ []) [] = passed_over (λ m. takes_comment (codes " system " ++ decimal a ++ 32 ∷ decimal b) m (two_in_line a b)) in
-      subst (λ t. Draws f ds (t ++ numbered staff_text 0 staves) (item_paints f (Item.System a b staves))) (append_assoc c (10 ∷ []) (join_text staves)) (both_drawn (both_drawn comment (joined_drawn staves h.joined h.good)) (staves_drawn 0 staves h.good))
+      subst (λ t. Draws f ds (t ++ numbered staff_text 0 staves) (item_paints f (Item.System a b staves))) (append_assoc c (10 ∷ []) (join_text staves))
+      (both_drawn (both_drawn comment (joined_drawn staves h.joined h.good)) (staves_drawn 0 staves h.good))
 
   page_drawn : (k : ℕ) (p : Page) (pages : List PagePaint) → IsPage p → Leads (page_text k p) (between ds pages) (between ds (pages ++ page_paint f p ∷ []))
   page_drawn k p pages h =
-      let d : Draws f ds (flat_map item_text p.items) (flat_map (item_paints f) p.items) = all_drawn item_drawn p.items h.items in
+      let d : Draws f ds (flat_map item_text p.items) (flat_map (item_paints f) p.items) = all_drawn item_drawn p.items h.items in let l = d.draw [] (first_graphics ∷ []) [] pages in
       rw (page_parts k p) (record {
-        count = (18 + d.count) + 2;
-        few = let x = d.few in omega (arith, heading_some k, length-append (heading_text k ++ flat_map item_text p.items) closing, length-append (heading_text k) (flat_map item_text p.items));
-        takes = both_taken (both_taken (page_begun f ds fr made k pages) (d.draw [] (first_graphics ∷ []) [] pages)) (page_ended f ds fr made (flat_map (item_paints f) p.items) pages);
+        count = (18 + l.count) + 2;
+        few = let x = l.few in omega (arith, heading_some k, length-append (heading_text k ++ flat_map item_text p.items) closing, length-append (heading_text k) (flat_map item_text p.items));
+        takes = both_taken (both_taken (page_begun made k pages) l.takes) (page_ended made (flat_map (item_paints f) p.items) pages);
       })
 
   pub pages_drawn : (k : ℕ) (ps : List Page) (before : List PagePaint) → All IsPage ps → Leads (numbered page_text k ps) (between ds before) (between ds (before ++ map (page_paint f) ps))
-  pages_drawn k [] before a = record { count = 0; few = omega arith; takes = rw (append-nil before) nothing_taken }
+  pages_drawn k [] before a = rw (append-nil before) (stays nothing_taken)
   pages_drawn k (p ∷ ps) before a = both_lead (page_drawn k p before (All-head IsPage p ps a)) (rw append_assoc at (pages_drawn (k + 1) ps (before ++ page_paint f p ∷ []) (All-tail IsPage p ps a)))

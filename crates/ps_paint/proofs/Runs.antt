@@ -1,8 +1,10 @@
 -- Runs over the tokens of procedures, put together.
-use Rattle.std.proofs.Common.{◌≡◌, ℕ, suc, ◌+◌, ℤ, true, List, [], ◌∷◌, ◌++◌, length, append_assoc, Some, None, refl, ◌∙◌, ap}
-use Rattle.ps_steps.{specs.{declared.{token.{Simple.{Simple, TheVariants.{Name as name_token, Whole as whole_token}}, Token.TheVariants.Simple as simple_token}, value.Value.{Value, TheVariants.Whole as whole_value}}, State.State, Operators.{Outcome, went, executed, called, operated, operated_if, operator_named, Operator, in_range, all_near}, Steps.{from_pending, Step, Steps, here, step}}, proofs.Joined.{joined, now}}
+use Rattle.std.proofs.Common.{◌≡◌, ℕ, suc, ◌+◌, ℤ, true, List, [], ◌∷◌, ◌++◌, length, append_assoc, Some, None, refl}
+use Rattle.{ps_steps.{specs.{declared.{token.{Simple.{Simple, TheVariants.{Name as name_token, Whole as whole_token}}, Token.{TheVariants.{Simple as simple_token}}}, value.Value.Value}}}}
+use Rattle.{ps_steps.{specs.{declared.{value.{Value.{TheVariants.{Whole as whole_value}}}}, State.State, Operators.{Outcome, all_near, in_range, went, executed, operated, operator_name, operator_named, Operator}}}}
+use Rattle.ps_steps.{specs.{Operators.def_op, Steps.{from_pending, Step, Steps, here, step}}, proofs.Joined.{joined, now}}
 
-pub simple_step : (t : Simple) (ts body : List Simple) (m k : State) (s : List ℕ) → executed (simple_token t) m ≡ went body k → Step (now (t ∷ ts) m s) (now (body ++ ts) k s)
+simple_step : (t : Simple) (ts body : List Simple) (m k : State) (s : List ℕ) → executed (simple_token t) m ≡ went body k → Step (now (t ∷ ts) m s) (now (body ++ ts) k s)
 simple_step t ts body m k s e = record { token = simple_token t; rest = now ts m s; body = body; state = k; next = from_pending t ts m s; went = e; is = refl }
 
 -- whatever follows, these tokens lead from one state to another in n steps
@@ -16,22 +18,28 @@ no_more {m} = record { run = λ rest s. here (now rest m s) }
 pub then : {n : ℕ} {t : Simple} {ts : List Simple} {m k l : State} → executed (simple_token t) m ≡ went [] k → Runs n ts k l → Runs (suc n) (t ∷ ts) m l
 then {n} {t} {ts} {m} {k} {l} e r = record { run = λ rest s. step n _ (now (ts ++ rest) k s) _ (simple_step t (ts ++ rest) [] m k s e) (r.run rest s) }
 
--- a name that was given a procedure, and further tokens
-pub calls : {n j : ℕ} {name : List ℕ} {body ts : List Simple} {m k l : State} → m.names name ≡ Some body → Runs n body m k → Runs j ts k l → Runs (suc (n + j)) (name_token name ∷ ts) m l
-calls {n} {j} {name} {body} {ts} {m} {k} {l} h r q = record {
-  run = λ rest s.
-      step (n + j) _ (now (body ++ (ts ++ rest)) m s) _
-      (simple_step (name_token name) (ts ++ rest) body m m s (ap (λ o. called o name m) h))
-      (joined n j _ (now (ts ++ rest) k s) _ (r.run (ts ++ rest) s) (q.run rest s));
-}
+-- a name that was given a procedure
+pub calls : {n : ℕ} {name : List ℕ} {body : List Simple} {m k : State} → m.names name ≡ Some body → Runs n body m k → Runs (suc n) (name_token name ∷ []) m k
+calls {n} {name} {body} {m} h r = record { run = λ rest s. step n _ (now (body ++ rest) m s) _ (simple_step (name_token name) rest body m m s (rw h refl)) (r.run rest s) }
 
 -- runs one after the other
 pub both_runs : {n j : ℕ} {ts us : List Simple} {m k l : State} → Runs n ts m k → Runs j us k l → Runs (n + j) (ts ++ us) m l
 both_runs {n} {j} {ts} {us} {m} {k} {l} r q = record { run = λ rest s. rw (append_assoc ts us rest) (joined n j _ (now (us ++ rest) k s) _ (r.run (us ++ rest) s) (q.run rest s)) }
 
--- what an operator does, where its name was given no procedure
-pub does : (name : List ℕ) (o : Operator) (m : State) (x : Outcome) → m.names name ≡ None → operator_named name ≡ Some o → operated o m ≡ x → executed (simple_token (name_token name)) m ≡ x
-does name o m x h g e = ap (λ z. called z name m) h ∙ ap (λ z. operated_if z m) g ∙ e
+-- an operator, by its name
+abbrev pub op : Operator → Simple
+op o = name_token (operator_name o)
+
+named : (o : Operator) → operator_named (operator_name o) ≡ Some o
+named def_op = refl
+named _ = refl
+
+-- what it does, where its name was given no procedure
+pub does : (m : State) {k : State} (o : Operator) → m.names (operator_name o) ≡ None → operated o m ≡ went [] k → executed (simple_token (op o)) m ≡ went [] k
+does m o h e = rw (h, named o) e
+
+pub acts : {m k : State} (o : Operator) → m.names (operator_name o) ≡ None → operated o m ≡ went [] k → Runs 1 (op o ∷ []) m k
+acts {m} o h e = then (does m o h e) no_more
 
 pub is_in_range : (zs : List ℤ) (x : Outcome) → all_near zs ≡ true → in_range zs x ≡ x
 is_in_range zs x e = rw (e, in_range) refl
@@ -45,6 +53,6 @@ pushed [] st = st
 pushed (z ∷ zs) st = pushed zs (whole_value z ∷ st)
 
 -- numbers are pushed
-pub pushes : (zs : List ℤ) (m : State) → Runs (length zs) (wholes zs) m (record m { stack = pushed zs m.stack })
-pushes [] m = no_more
-pushes (z ∷ zs) m = then {t = whole_token z} {k = record m { stack = whole_value z ∷ m.stack }} refl (pushes zs (record m { stack = whole_value z ∷ m.stack }))
+pub pushes : {m : State} (zs : List ℤ) → Runs (length zs) (wholes zs) m (record m { stack = pushed zs m.stack })
+pushes [] = no_more
+pushes {m} (z ∷ zs) = then {t = whole_token z} {k = record m { stack = whole_value z ∷ m.stack }} refl (pushes zs)

@@ -1,8 +1,11 @@
 -- The tokens of texts that are written: a text that is tokens with blanks behind them.
-use Rattle.std.{proofs.{Common.{◌≡◌, ℕ, zero, suc, ◌+◌, ◌/◌, ◌%◌, ◌<◌, ◌≤◌, ◌^◌, ℤ, pos, negsuc, true, false, cond, Bool, List, [], ◌∷◌, ◌++◌, length, append_assoc, Some, refl, sym, subst, ◌∙◌, ap, arith, decimal, ◌||◌, ◌==◌}, Math.{IntN.neg_ℤ, Numerals.one-add}, lemmas.{Int.ints, Bool.{true≢false, and_parts, or_parts, not-true, Decides.nat_tests}, Fmt.{decimal_nonempty, decimal_is_IsNumeral}}}, specs.{Str.Parse.digits_value, List.list_all, Fmt.{digit_glyph, digits, digits_onto, signed_decimal}}}
-use Rattle.{mus_units.specs.Bytes.{is_digit}, glyph_paths.specs.Procedure.{numbers}}
-use Rattle.ps_steps.{specs.{Near.is_near, declared.{token.{Simple.{Simple, TheVariants.{Name as name_token, Whole as whole_token}}, Token.TheVariants.Simple as simple_token}, value.Value.TheVariants.Whole as whole_value}, Tokens.{passed, IsWord, word_front, simple_at, is_regular, is_blank, is_delimiter, whole_number, word_token, is_name}, State.State, Operators.{went, executed, called, all_near}, Steps.{at, NextToken, from_text, behind, Steps, here, step}}, proofs.Joined.joined}
-use Rattle.ps_paint.proofs.Runs.{Runs, pushed}
+use Rattle.std.proofs.{Common.{◌≡◌, ℕ, zero, suc, ◌+◌, ◌/◌, ◌%◌, ◌<◌, ◌≤◌, ◌^◌, ℤ, pos, negsuc, true, false, Bool, List, [], ◌∷◌, ◌++◌, length, append_assoc, Some, None, refl, sym, arith, decimal, ◌==◌}, Math.IntN.neg_ℤ}
+use Rattle.std.{proofs.{Math.Numerals.one-add, lemmas.{Int.ints, Bool.{true≢false, and_parts, Decides.nat_tests}, Fmt.{decimal_nonempty, decimal_is_IsNumeral}}}, specs.{Str.Parse.digits_value, List.list_all}}
+use Rattle.std.specs.Fmt.{digit_glyph, digits, digits_onto, signed_decimal}
+use Rattle.{mus_units.specs.Bytes.is_digit, glyph_paths.specs.Procedure.numbers, ps_steps.{specs.{Near.is_near, declared.{token.{Simple.{Simple, TheVariants.{Name as name_token, Whole as whole_token}}}}}}}
+use Rattle.{ps_steps.{specs.{declared.{token.{Token.{TheVariants.{Simple as simple_token}}}, value.{Value.{TheVariants.{Whole as whole_value}}}}, Tokens.{passed, IsWord, word_front, simple_at, Front, found}}}}
+use Rattle.ps_steps.specs.{Tokens.{is_regular, whole_number, word_token, is_name}, State.State, Operators.{Operator, def_op, operator_name, operated, went, executed, all_near}, Steps.{at, NextToken, from_text, behind}}
+use Rattle.{ps_steps.{specs.Steps.{Step, Steps, here, step}, proofs.Joined.joined}, ps_paint.proofs.Runs.{Runs, no_more, op, does, pushed}}
 
 -- whatever follows, the text leads from one state to another in n steps
 pub record Takes (n : ℕ) (text : List ℕ) (m k : State) : Type 0 where
@@ -23,14 +26,10 @@ name_some [] e = absurd (true≢false (sym e))
 name_some (b ∷ w) e = omega arith
 
 skip_regular : (b : ℕ) (s : List ℕ) → is_regular b ≡ true → passed false (b ∷ s) ≡ b ∷ s
-skip_regular b s e =
-    let n = or_parts (is_blank b) (is_delimiter b) (not-true (is_blank b || is_delimiter b) e) in
-    let p : (b == 37) ≡ false = (or_parts _ (b == 37) n.1).1 in
-    ap (λ x. elim x as (λ _. List ℕ) [ true ↦ passed false s | false ↦ elim (b == 37) as (λ _. List ℕ) [ true ↦ passed true s | false ↦ b ∷ s ] ]) n.0
-    ∙ ap (λ x. elim x as (λ _. List ℕ) [ true ↦ passed true s | false ↦ b ∷ s ]) p
+skip_regular b s e = grind (arith, nat_tests)
 
 -- a word is no blank and no comment
-pub word_stays : (w rest : List ℕ) → 1 ≤ length w → list_all is_regular w ≡ true → passed false (w ++ rest) ≡ w ++ rest
+word_stays : (w rest : List ℕ) → 1 ≤ length w → list_all is_regular w ≡ true → passed false (w ++ rest) ≡ w ++ rest
 word_stays [] rest l e = absurd (omega arith)
 word_stays (b ∷ w) rest l e = skip_regular b (w ++ rest) ((and_parts (is_regular b) (list_all is_regular w) e).0)
 
@@ -41,14 +40,7 @@ glyph_digit d l = grind (arith, nat_tests)
 digits_before : (k n : ℕ) (acc : List ℕ) → list_all is_digit acc ≡ true → list_all is_digit (digits_onto k 10 false n acc) ≡ true
 digits_before zero n acc h = h
 digits_before (suc k) n acc h =
-    let small : n % 10 < 10 = omega arith in
-    let one : list_all is_digit (digit_glyph false (n % 10) ∷ acc) ≡ true = rw (glyph_digit (n % 10) small) h in
-    by_test (n / 10 == 0) one (digits_before k (n / 10) (digit_glyph false (n % 10) ∷ acc) one)
-  where
-    by_test : (t : Bool) → list_all is_digit (digit_glyph false (n % 10) ∷ acc) ≡ true → list_all is_digit (digits_onto k 10 false (n / 10) (digit_glyph false (n % 10) ∷ acc)) ≡ true
-        → list_all is_digit (cond t (digit_glyph false (n % 10) ∷ acc) (digits_onto k 10 false (n / 10) (digit_glyph false (n % 10) ∷ acc))) ≡ true
-    by_test true x y = x
-    by_test false x y = y
+    let one : list_all is_digit (digit_glyph false (n % 10) ∷ acc) ≡ true = rw (glyph_digit (n % 10) (omega arith), h) refl in grind (arith, one, digits_before k (n / 10) (digit_glyph false (n % 10) ∷ acc) one)
 
 pub decimal_digits : (n : ℕ) → list_all is_digit (decimal n) ≡ true
 unfolding digits
@@ -60,9 +52,9 @@ digit_regular b e = grind (arith, nat_tests)
 pub digit_no_minus : (b : ℕ) → is_digit b ≡ true → (b == 45) ≡ false
 digit_no_minus b e = grind (arith, nat_tests)
 
-pub digits_regular : (ds : List ℕ) → list_all is_digit ds ≡ true → list_all is_regular ds ≡ true
-digits_regular [] e = refl
-digits_regular (b ∷ ds) e = rw (digit_regular b ((and_parts (is_digit b) (list_all is_digit ds) e).0), digits_regular ds ((and_parts (is_digit b) (list_all is_digit ds) e).1)) refl
+pub digits_pass : (p : ℕ → Bool) → ((b : ℕ) → is_digit b ≡ true → p b ≡ true) → (ds : List ℕ) → list_all is_digit ds ≡ true → list_all p ds ≡ true
+digits_pass p one [] e = refl
+digits_pass p one (b ∷ ds) e = let t = and_parts (is_digit b) (list_all is_digit ds) e in rw (one b t.0, digits_pass p one ds t.1) refl
 
 digits_word : (ds : List ℕ) → 0 < length ds → list_all is_digit ds ≡ true → word_token ds ≡ Some (whole_number (pos (digits_value 10 ds)))
 digits_word [] l e = absurd (omega arith)
@@ -71,9 +63,6 @@ digits_word (b ∷ ds) l e = rw (digit_no_minus b ((and_parts (is_digit b) (list
 minus_word : (ds : List ℕ) → 0 < length ds → list_all is_digit ds ≡ true → word_token (45 ∷ ds) ≡ Some (whole_number (neg_ℤ (pos (digits_value 10 ds))))
 minus_word [] l e = absurd (omega arith)
 minus_word (b ∷ ds) l e = rw e refl
-
-near_whole : (z : ℤ) → is_near z ≡ true → whole_number z ≡ whole_token z
-near_whole z e = rw e refl
 
 -- a word, and the token that it is
 pub record IsTokenWord (t : Simple) (w : List ℕ) : Type 0 where
@@ -84,22 +73,18 @@ pub record IsTokenWord (t : Simple) (w : List ℕ) : Type 0 where
 -- a number within 2^60 of 0 is read as it is written
 pub number_word : (z : ℤ) → is_near z ≡ true → IsTokenWord (whole_token z) (signed_decimal z)
 number_word (pos n) near =
-    let small : n < 2 ^ 64 = grind (arith, ints) in
-    let digits = decimal_digits n in
-    let value = (decimal_is_IsNumeral n small).1 in
+    let small : n < 2 ^ 64 = grind (arith, ints) in let digits = decimal_digits n in let value = (decimal_is_IsNumeral n small).1 in
     record {
       some = omega (arith, decimal_nonempty n small);
-      regular = digits_regular (decimal n) digits;
-      token = digits_word (decimal n) (decimal_nonempty n small) digits ∙ ap (λ v. Some (whole_number (pos v))) value ∙ ap (λ t. Some t) (near_whole (pos n) near);
+      regular = digits_pass is_regular digit_regular (decimal n) digits;
+      token = rw (digits_word (decimal n) (decimal_nonempty n small) digits, value, near) refl;
     }
 number_word (negsuc n) near =
-    let small : suc n < 2 ^ 64 = grind (arith, ints) in
-    let digits = decimal_digits (suc n) in
-    let value = (decimal_is_IsNumeral (suc n) small).1 in
+    let small : suc n < 2 ^ 64 = grind (arith, ints) in let digits = decimal_digits (suc n) in let value = (decimal_is_IsNumeral (suc n) small).1 in
     record {
       some = omega arith;
-      regular = digits_regular (decimal (suc n)) digits;
-      token = minus_word (decimal (suc n)) (decimal_nonempty (suc n) small) digits ∙ ap (λ v. Some (whole_number (neg_ℤ (pos v)))) value ∙ ap (λ t. Some t) (near_whole (negsuc n) near);
+      regular = digits_pass is_regular digit_regular (decimal (suc n)) digits;
+      token = rw (minus_word (decimal (suc n)) (decimal_nonempty (suc n) small) digits, value, near) refl;
     }
 
 -- a byte that is passed over
@@ -113,38 +98,44 @@ space_passed = record { stop = refl; passes = λ s. refl }
 pub line_end_passed : IsPassed 10
 line_end_passed = record { stop = refl; passes = λ s. refl }
 
-next_word : (t : Simple) (w rest : List ℕ) (b : ℕ) (m : State) → IsTokenWord t w → IsPassed b → NextToken (at m (w ++ b ∷ rest)) (simple_token t) (at m rest)
-next_word t w rest b m i p =
-    let here : NextToken (record { pending = []; state = m; text = w ++ b ∷ rest }) (simple_token t) (at m (b ∷ rest)) =
-    from_text m (w ++ b ∷ rest) (b ∷ rest) (simple_token t) (simple_at t (b ∷ rest) (word_front w (b ∷ rest) t (word_at w rest b i.some i.regular p.stop) i.token)) in
-    let place : NextToken (at m (w ++ b ∷ rest)) (simple_token t) (at m (b ∷ rest)) =
-    subst (λ u. NextToken (record { pending = []; state = m; text = u }) (simple_token t) (at m (b ∷ rest))) (sym (word_stays w (b ∷ rest) i.some i.regular)) here in
-    subst (λ u. NextToken (at m (w ++ b ∷ rest)) (simple_token t) (record { pending = []; state = m; text = u })) (p.passes rest) place
+-- these bytes are the token, whatever stands behind the byte after them
+pub record Stands (t : Simple) (w : List ℕ) : Type 0 where
+  pub front : (b : ℕ) (rest : List ℕ) → is_regular b ≡ false → Front (passed false (w ++ b ∷ rest)) (found t (b ∷ rest))
 
--- a word and a blank that are executed
-pub takes_word : {t : Simple} {w : List ℕ} {b : ℕ} {m k : State} → IsTokenWord t w → IsPassed b → executed (simple_token t) m ≡ went [] k → Takes 1 (w ++ b ∷ []) m k
-takes_word {t} {w} {b} {m} {k} i p e = record {
+pub word_stands : {t : Simple} {w : List ℕ} → IsTokenWord t w → Stands t w
+word_stands {t} {w} i = record { front = λ b rest stop. rw (word_stays w (b ∷ rest) i.some i.regular) (word_front w (b ∷ rest) t (word_at w rest b i.some i.regular stop) i.token) }
+
+-- a token and a blank are executed
+pub takes_token : {n : ℕ} {t : Simple} {w : List ℕ} {body : List Simple} {b : ℕ} {m k l : State} → Stands t w → IsPassed b → executed (simple_token t) m ≡ went body k → Runs n body k l → Takes (suc n) (w ++ b ∷ []) m l
+takes_token {n} {t} {w} {body} {b} {m} {k} {l} i p e r = record {
   take = λ rest.
-      rw (append_assoc w (b ∷ []) rest) (step 0 (at m (w ++ b ∷ rest)) (at k rest) (at k rest)
-      (record { token = simple_token t; rest = at m rest; body = []; state = k; next = next_word t w rest b m i p; went = e; is = refl }) (here (at k rest)));
+      let next : NextToken (at m (w ++ b ∷ rest)) (simple_token t) (at m (b ∷ rest)) = from_text m (passed false (w ++ b ∷ rest)) (b ∷ rest) (simple_token t) (simple_at t (b ∷ rest) (i.front b rest p.stop)) in
+      let one : Step (at m (w ++ b ∷ rest)) (behind body k (at m rest)) = record { token = simple_token t; rest = at m rest; body = body; state = k; next = rw (p.passes rest) at next; went = e; is = refl } in
+      rw (append_assoc w (b ∷ []) rest) (step n _ _ (at l rest) one (r.run [] (passed false rest)));
 }
 
--- a name and a blank that run a procedure
+-- a word that calls nothing
+takes_word : {t : Simple} {w : List ℕ} {b : ℕ} {m k : State} → IsTokenWord t w → IsPassed b → executed (simple_token t) m ≡ went [] k → Takes 1 (w ++ b ∷ []) m k
+takes_word i p e = takes_token (word_stands i) p e no_more
+
+-- an operator, and the end of its line
+operator_word : (o : Operator) → IsTokenWord (op o) (operator_name o)
+operator_word def_op = record { some = omega arith; regular = refl; token = refl }
+operator_word _ = record { some = omega arith; regular = refl; token = refl }
+
+pub takes_operator : {m k : State} (o : Operator) → m.names (operator_name o) ≡ None → operated o m ≡ went [] k → Takes 1 (operator_name o ++ 10 ∷ []) m k
+takes_operator {m} o free e = takes_word (operator_word o) line_end_passed (does m o free e)
+
+-- a name that runs a procedure
 pub takes_call : {n : ℕ} {name : List ℕ} {body : List Simple} {b : ℕ} {m k : State} → IsTokenWord (name_token name) name → IsPassed b → m.names name ≡ Some body → Runs n body m k → Takes (suc n) (name ++ b ∷ []) m k
-takes_call {n} {name} {body} {b} {m} {k} i p h r = record {
-  take = λ rest.
-      rw (append_assoc name (b ∷ []) rest) (step n (at m (name ++ b ∷ rest)) (behind body m (at m rest)) (at k rest)
-      (record { token = simple_token (name_token name); rest = at m rest; body = body; state = m; next = next_word (name_token name) name rest b m i p; went = ap (λ o. called o name m) h; is = refl })
-      (r.run [] (passed false rest)));
-}
+takes_call {m = m} i p h r = takes_token {k = m} (word_stands i) p (rw h refl) r
 
-pub takes_numbers : (zs : List ℤ) (m : State) → all_near zs ≡ true → Takes (length zs) (numbers zs) m (record m { stack = pushed zs m.stack })
+takes_numbers : (zs : List ℤ) (m : State) → all_near zs ≡ true → Takes (length zs) (numbers zs) m (record m { stack = pushed zs m.stack })
 unfolding numbers
 takes_numbers [] m e = nothing_taken
 takes_numbers (z ∷ zs) m e =
-    let k : State = record m { stack = whole_value z ∷ m.stack } in
-    let one : Takes 1 (signed_decimal z ++ 32 ∷ []) m k = takes_word (number_word z ((and_parts (is_near z) (all_near zs) e).0)) space_passed refl in
-    subst (λ c. Takes c (numbers (z ∷ zs)) m (record m { stack = pushed zs (whole_value z ∷ m.stack) })) (one-add (length zs)) (both_taken one (takes_numbers zs k ((and_parts (is_near z) (all_near zs) e).1)))
+    let k : State = record m { stack = whole_value z ∷ m.stack } in let one : Takes 1 (signed_decimal z ++ 32 ∷ []) m k = takes_word (number_word z ((and_parts (is_near z) (all_near zs) e).0)) space_passed refl in
+    rw (one-add (length zs)) at (both_taken one (takes_numbers zs k ((and_parts (is_near z) (all_near zs) e).1)))
 
 -- a line of numbers and of a name that runs a procedure
 pub takes_line : {n : ℕ} {body : List Simple} {m k : State} (zs : List ℤ) (name : List ℕ) → all_near zs ≡ true → IsTokenWord (name_token name) name → m.names name ≡ Some body

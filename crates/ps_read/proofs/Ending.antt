@@ -1,9 +1,8 @@
 -- No good line but the last is `%%EOF`, so no proper prefix of a document is a document.
-use Rattle.std.proofs.{Common.◌≡◌, Common.ℕ, Common.inl, Common.List, Common.[], Common.◌∷◌, Common.◌++◌, Common.refl, Common.sym, Common.◌∙◌, Common.ap, Common.codes, Common.◌==◌, Common.if◌then◌else◌, lemmas.Bool.ne_eqb}
-use mathlib.Core.List.{append_assoc}
+use Rattle.std.proofs.{Common.◌≡◌, Common.ℕ, Common.List, Common.[], Common.◌∷◌, Common.◌++◌, Common.refl, Common.sym, Common.◌∙◌, Common.ap, Common.arith, Common.codes, Common.◌==◌, Common.if◌then◌else◌, lemmas.Bool.ne_eqb}
 use Rattle.glyph_paths.specs.Names.{glyphs_in_order}
 use Rattle.ps_text.specs.{Document.staff_line, Document.system_line, Document.tune_line, Document.heading_line, Document.count_line, Prolog.procedures, Prolog.glyph_lines, Prolog.last_text, declared.sheet.Frame.Frame, declared.sheet.Sheet.Sheet}
-use Rattle.ps_read.{specs.{Laws.NoPrefix, Lines.{Line, line_text, lines_then, behind_line, IsFirstLine}, Places.{MayCome, after_prolog, next, Leads}, declared.place.Place.Place}, proofs.{Heads.{may_lack, no_mark, IsMarkStart, mark_start, join_start, rules_start, title_start, no_line, same_start}, Through.document_way}}
+use Rattle.ps_read.{specs.{Laws.NoPrefix, Lines.{Line, line_text, lines_then, behind_line, IsFirstLine}, Places.{MayCome, after_prolog, next, Leads}, declared.place.Place.Place}, proofs.{Heads.{may_lack, IsMarkStart, mark_start, join_start, rules_start, title_start, no_line, same_start}, Through.{document_way, lines_on}}}
 use Rattle.ps_read.specs.Lines as line
 use Rattle.eng_lines.proofs.Words.{one_cut, head_of}
 
@@ -50,36 +49,18 @@ in_box [] text m = absurd (no_line text (behind_line text []) m.first)
 in_box (b ∷ rest) text m = refl
 
 mark_late : (text : List ℕ) → IsMarkStart (head_of text) → late ≡ on late text
-mark_late text h =
-    let other = ne_eqb (head_of text) 37 (λ e. no_mark 37 (head_of text ∷ []) (37 ∷ []) h refl (inl refl) (ap (λ b. b ∷ []) e)) in
-    ap (λ b. if b then (if same_start 5 text last_line then over else late) else late) (sym other)
+mark_late text h = let other = ne_eqb (head_of text) 37 h.0 in ap (λ b. if b then (if same_start 5 text last_line then over else late) else late) (sym other)
 
 stage_on : (p : Place) (l : Line) → MayCome p l → stage (next p l) ≡ on (stage p) (line_text l)
 unfolding heading_line count_line tune_line system_line staff_line
-stage_on Place.Begun (line.Fixed text) m = refl
-stage_on Place.Titled (line.Box w h) m = refl
 stage_on (Place.Boxed w h rest) (line.Fixed text) m = in_box rest text m
 stage_on (Place.Boxed w h rest) (line.PageStart l b s) m = rw m.0 refl
 stage_on (Place.Framed f rest) (line.Fixed text) m = after_framed f (behind_line text rest)
-stage_on (Place.Between s) (line.Heading k) m = refl
-stage_on (Place.Between s) (line.Fixed text) m = ap (on late) (sym m)
-stage_on (Place.Headed s) (line.Fixed text) m = ap (on late) (sym m)
-stage_on (Place.Items p) (line.Tune k) m = refl
 stage_on (Place.Items p) (line.Title x y size words) m = mark_late (line_text (line.Title x y size words)) (title_start x y size words)
-stage_on (Place.Items p) (line.System a b) m = refl
-stage_on (Place.Items p) (line.Fixed text) m = ap (on late) (sym m)
 stage_on (Place.System o) (line.Join x y) m = mark_late (line_text (line.Join x y)) (join_start x y)
-stage_on (Place.System o) (line.StaffHead k) m = refl
 stage_on (Place.Staff o) (line.Rules w y) m = mark_late (line_text (line.Rules w y)) (rules_start w y)
 stage_on (Place.Marks o s) (line.Mark y k) m = mark_late (line_text (line.Mark y k)) (mark_start y k)
-stage_on (Place.Marks o s) (line.StaffHead k) m = refl
-stage_on (Place.Marks o s) (line.Tune k) m = refl
-stage_on (Place.Marks o s) (line.System a b) m = refl
-stage_on (Place.Marks o s) (line.Fixed text) m = ap (on late) (sym m.1)
-stage_on (Place.Closed p) (line.Fixed text) m = ap (on late) (sym m)
-stage_on (Place.Trailer s) (line.Fixed text) m = ap (on late) (sym m)
-stage_on (Place.Counted s) (line.Fixed text) m = ap (on late) (sym m)
-stage_on p l m = absurd m
+stage_on p l m = grind (arith, m)
 
 none_over : (q : Place) (m : Line) → stage q ≡ over → MayCome q m → ⊥
 none_over (Place.Ended t) m e k = absurd k
@@ -91,15 +72,9 @@ way_ends p q [] (m ∷ ms) more s t a h k e = absurd (none_over q m (sym a ∙ a
 way_ends p q (l ∷ ls) [] more s t a h k e = absurd (no_line (line_text l) (lines_then ls more) (sym e))
 way_ends p q (l ∷ ls) (m ∷ ms) more s t a h k e =
     let c = one_cut 10 (line_text l) (line_text m) (lines_then ls more) (lines_then ms []) (may_lack p l h.0) (may_lack q m k.0) e in
-    let b = stage_on p l h.0 ∙ (ap (on (stage p)) c.0 ∙ (ap (λ i. on i (line_text m)) a ∙ sym (stage_on q m k.0))) in
-    way_ends (next p l) (next q m) ls ms more s t b h.1 k.1 c.1
-
-lines_on : (ls : List Line) (more : List ℕ) → lines_then ls [] ++ more ≡ lines_then ls more
-lines_on [] more = refl
-lines_on (l ∷ ls) more = append_assoc (line_text l) (10 ∷ lines_then ls []) more ∙ ap (λ t. line_text l ++ 10 ∷ t) (lines_on ls more)
+    let b = stage_on p l h.0 ∙ (ap (on (stage p)) c.0 ∙ (ap (λ i. on i (line_text m)) a ∙ sym (stage_on q m k.0))) in way_ends (next p l) (next q m) ls ms more s t b h.1 k.1 c.1
 
 pub no_prefix : NoPrefix
 no_prefix text more s t h k =
-    let w = document_way s h.good in let v = document_way t k.good in
-    way_ends Place.Begun Place.Begun w.0 v.0 more s t refl w.2 v.2
-    (sym (lines_on w.0 more) ∙ (ap (λ x. x ++ more) (sym w.1 ∙ h.spelled) ∙ (sym k.spelled ∙ v.1)))
+    let w = document_way s text h in let v = document_way t (text ++ more) k in
+    way_ends Place.Begun Place.Begun w.0 v.0 more s t refl w.2 v.2 (sym (lines_on w.0 more) ∙ (ap (λ x. x ++ more) (sym w.1) ∙ v.1))

@@ -1,8 +1,8 @@
 -- The text of a line, each part in front of what follows it, and that its numbers may stand on a page.
-use Rattle.std.{proofs.{Common.{◌≡◌, ℕ, ℤ, pos, ◌≤◌, ◌^◌, true, ◌+◌, ◌/◌, ◌%◌, List, [], ◌∷◌, ◌++◌, Option, Some, None, is_some, refl, sym, ◌∙◌, ap, arith, codes, decimal, true≢false}, lemmas.{Fmt.decimal_digit, Int.ints}}, specs.List.{flat_map, list_all}}
+use Rattle.std.{proofs.{Common.{◌≡◌, ℕ, ℤ, pos, ◌≤◌, ◌^◌, true, ◌+◌, ◌/◌, ◌%◌, List, [], ◌∷◌, ◌++◌, refl, ◌∙◌, ap, arith, codes, decimal}, lemmas.{Fmt.decimal_digit, Int.ints}}, specs.List.{flat_map, list_all}}
 use mathlib.Core.List.{append_assoc}
 use Rattle.{mus_units.specs.declared.glyph.Size.{Size}, glyph_paths.specs.Procedure.{numbers}}
-use Rattle.ps_text.specs.{Document.{rules_line, join_line, title_line}, Fields.{shown, in_parentheses}, Names.size_name, Prolog.{page_line, page_start, page_end, scaling, percent}, declared.prolog.TheConstants.PAGE_START, Range.IsNumber, Scanning.is_field}
+use Rattle.ps_text.specs.{Document.{title_line}, Fields.{shown, in_parentheses}, Names.size_name, Prolog.{page_line, page_start, page_end, scaling, percent}, declared.prolog.TheConstants.PAGE_START, Range.IsNumber, Scanning.is_field}
 
 abbrev pub title_numbers : ℤ → ℤ → List ℤ
 title_numbers x y = pos 0 ∷ pos 0 ∷ x ∷ y ∷ []
@@ -18,16 +18,8 @@ pub size_is_field : (size : Size) → list_all is_field (size_name size) ≡ tru
 size_is_field Size.Small = refl
 size_is_field Size.Big = refl
 
-pub join_form : (top foot : ℤ) → join_line top foot ≡ numbers (pos 0 ∷ top ∷ pos 0 ∷ foot ∷ []) ++ codes "vl"
-unfolding join_line
-join_form top foot = refl
-
 abbrev pub rules_numbers : ℕ → ℤ → List ℤ
 rules_numbers w y = pos w ∷ pos 2000 ∷ pos w ∷ pos 1500 ∷ pos w ∷ pos 1000 ∷ pos w ∷ pos 500 ∷ pos w ∷ pos 0 ∷ pos 0 ∷ y ∷ []
-
-pub rules_form : (w : ℕ) (y : ℤ) → rules_line w y ≡ numbers (rules_numbers w y) ++ codes "sf"
-unfolding rules_line
-rules_form w y = refl
 
 abbrev pub after_bottom : ℕ → List ℕ
 after_bottom s = percent s ++ (32 ∷ (percent s ++ page_end))
@@ -43,13 +35,3 @@ page_form l b s =
 pub percent_bytes : (p : ℕ) (rest : List ℕ) → p ≤ 150 → percent p ++ rest ≡ (48 + p / 100) ∷ 46 ∷ (48 + p / 10 % 10) ∷ (48 + p % 10) ∷ rest
 unfolding percent
 percent_bytes p rest l = ap (λ s. (s ++ 46 ∷ (48 + p / 10 % 10) ∷ (48 + p % 10) ∷ []) ++ rest) (decimal_digit (p / 100) (omega arith))
-
-pub not_some : {A : Type 0} (x : A) → ◌≡◌ {A = Option A} None (Some x) → ⊥
-not_some x e = true≢false (sym (ap is_some e))
-
-pub three : (a b c x y z : ℕ) → a ≡ x → b ≡ y → ◌≡◌ {A = Option ℕ} (Some c) (Some z) → ◌≡◌ {A = Option (ℕ × ℕ × ℕ)} (Some (a, b, c)) (Some (x, y, z))
-three a b c x y z e f g = ap {B = Option (ℕ × ℕ × ℕ)} (λ a. Some (a, b, c)) e ∙ (ap {B = Option (ℕ × ℕ × ℕ)} (λ b. Some (x, b, c)) f ∙ ap pack g)
-  where
-    pack : Option ℕ → Option (ℕ × ℕ × ℕ)
-    pack None = None
-    pack (Some c) = Some (x, y, c)

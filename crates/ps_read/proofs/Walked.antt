@@ -1,15 +1,7 @@
 -- What holds before each line is read, and what follows at the end.
-use Rattle.std.proofs.{Common.{◌≡◌, ℕ, ◌+◌, ◌≤◌, ◌==◌, true, List, [], ◌∷◌, ◌++◌, length, refl, sym, ◌∙◌, ap, subst, arith, length-append}, lemmas.{List.nil_from_length, Bool.eqb-true}}
+use Rattle.std.proofs.{Common.{◌≡◌, ℕ, ◌+◌, ◌≤◌, List, [], ◌∷◌, ◌++◌, length, refl, sym, ◌∙◌, ap, subst, arith, length-append}}
 use Rattle.{ps_text.specs.{Document.Spells, declared.sheet.Sheet.Sheet}, eng_lines.{specs.Lines.Lacks, proofs.Words.one_cut, proofs.Words.lacks_none}}
-use Rattle.ps_read.{specs.{Lines.{Line, line_text, lines_then}, Places.{MayCome, next, Leads}, Answers.{IsGoodThroughout, IsFirstFault, IsRead}, Steps.{Any, NoneOf, IsNextOf}, declared.place.Place.Place}, proofs.{Heads.{may_lack, no_line}, Telling.leads_tell, Through.document_way}}
-
-lines_push : (ls : List Line) (l : Line) (rest : List ℕ) → lines_then (ls ++ l ∷ []) rest ≡ lines_then ls (line_text l ++ 10 ∷ rest)
-lines_push [] l rest = refl
-lines_push (k ∷ ls) l rest = ap (λ t. line_text k ++ 10 ∷ t) (lines_push ls l rest)
-
-leads_more : (p : Place) (ls : List Line) (q : Place) (l : Line) → Leads p ls q → MayCome q l → Leads p (ls ++ l ∷ []) (next q l)
-leads_more p [] q l h m = (subst (λ p. MayCome p l) (sym h) m, ap (λ p. next p l) h)
-leads_more p (k ∷ ls) q l h m = (h.0, leads_more (next p k) ls q l h.1 m)
+use Rattle.ps_read.{specs.{Lines.{Line, line_text, lines_then}, Places.{MayCome, next, Leads}, Answers.{IsGoodThroughout, IsFirstFault, IsRead}, Steps.{Any, NoneOf, IsNextOf}, declared.place.Place.Place}, proofs.{Heads.{may_lack, no_line}, Telling.lines_spell, Through.{document_way, lines_both, leads_both}}}
 
 -- good lines that pass through a text are at least as many as others that begin it
 as_many : (p q x y : Place) (ls ms : List Line) (rest : List ℕ) → Leads p ls q → Leads x ms y → lines_then ls rest ≡ lines_then ms [] → length ls ≤ length ms
@@ -17,8 +9,7 @@ as_many p q x y [] ms rest h k e = omega arith
 as_many p q x y (l ∷ ls) [] rest h k e = absurd (no_line (line_text l) (lines_then ls rest) (sym e))
 as_many p q x y (l ∷ ls) (m ∷ ms) rest h k e =
     let c = one_cut 10 (line_text l) (line_text m) (lines_then ls rest) (lines_then ms []) (may_lack p l h.0) (may_lack x m k.0) e in
-    let n = as_many (next p l) q (next x m) y ls ms rest h.1 k.1 c.1 in
-    omega (arith, n)
+    let n = as_many (next p l) q (next x m) y ls ms rest h.1 k.1 c.1 in omega (arith, n)
 
 -- the ways of good lines from a place on through what is left
 abbrev pub WaysOn : List ℕ → ℕ → Place → List ℕ → Type 0
@@ -50,15 +41,11 @@ ways_more text count p t rest raw behind ways cut lacks step ms r q e l n = let 
 pub reading_more : (text : List ℕ) (p t : Place) (rest raw behind : List ℕ) (number : ℕ) → IsReading text p rest number
     → rest ≡ raw ++ 10 ∷ behind → Lacks 10 raw → IsNextOf Any p raw t → IsReading text t behind (number + 1)
 reading_more text p t rest raw behind number h cut lacks step =
-    let l = step.line in
-    let more = h.lines ++ l ∷ [] in
-    let k = length-append h.lines (l ∷ []) in
-    let n = h.counted in
-    let e : length h.lines + 1 ≡ length more = omega (arith, k) in
+    let l = step.line in let more = h.lines ++ l ∷ [] in let k = length-append h.lines (l ∷ []) in let n = h.counted in let e : length h.lines + 1 ≡ length more = omega (arith, k) in
     record {
       lines = more;
-      so_far = h.so_far ∙ (ap (λ r. lines_then h.lines r) (cut ∙ ap (λ r. r ++ 10 ∷ behind) step.spelled) ∙ sym (lines_push h.lines l behind));
-      leads = subst (λ q. Leads Place.Begun more q) (step.only l tt step.spelled step.may) (leads_more Place.Begun h.lines p l h.leads step.may);
+      so_far = h.so_far ∙ (ap (λ r. lines_then h.lines r) (cut ∙ ap (λ r. r ++ 10 ∷ behind) step.spelled) ∙ sym (lines_both h.lines (l ∷ []) behind));
+      leads = subst (λ q. Leads Place.Begun more q) (step.only l tt step.spelled step.may) (leads_both Place.Begun h.lines p (l ∷ []) (next p l) h.leads (step.may, refl));
       counted = omega (arith, k, n);
       ways = subst (λ c. WaysOn text c t behind) e (ways_more text (length h.lines) p t rest raw behind h.ways cut lacks step);
     }
@@ -85,12 +72,10 @@ first_fault text p rest number h stuck = (
     good = record { lines = h.lines; rest = rest; place = p; parted = h.so_far; leads = h.leads; counted = refl };
     after = h.counted;
     bad = λ g. let c = g.counted in
-        let w = h.ways g.lines g.rest g.place g.parted g.leads (omega (arith, c)) in
-        let n = w.3 in
-        one_on g.rest g.place w.0 w.1 w.2 (omega (arith, c, n));
+        let w = h.ways g.lines g.rest g.place g.parted g.leads (omega (arith, c)) in let n = w.3 in one_on g.rest g.place w.0 w.1 w.2 (omega (arith, c, n));
     unfinished = λ s k. whole s k;
   },
-  λ s k. let w = document_way s k.good in whole s (w.0, sym k.spelled ∙ w.1, w.2),
+  λ s k. whole s (document_way s text k),
 )
   where
     one_on : (r : List ℕ) (q : Place) (ks : List Line) → rest ≡ lines_then ks r → Leads p ks q → 1 ≤ length ks → ⊥
@@ -102,22 +87,15 @@ first_fault text p rest number h stuck = (
     end_on s (k ∷ ks) e l = stuck.line k (lines_then ks []) e l.0
 
     whole : (s : Sheet) → IsGoodThroughout text s → ⊥
-    whole s k =
-        let n = as_many Place.Begun p Place.Begun (Place.Ended s) h.lines k.0 rest h.leads k.2 (sym h.so_far ∙ k.1) in
-        let w = h.ways k.0 [] (Place.Ended s) k.1 k.2 n in
-        end_on s w.0 w.1 w.2
+    whole s k = let n = as_many Place.Begun p Place.Begun (Place.Ended s) h.lines k.0 rest h.leads k.2 (sym h.so_far ∙ k.1) in let w = h.ways k.0 [] (Place.Ended s) k.1 k.2 n in end_on s w.0 w.1 w.2
 
 -- the sheet at the end
 pub read_all : (text : List ℕ) (s : Sheet) (rest : List ℕ) (number : ℕ) → IsReading text (Place.Ended s) rest number → rest ≡ [] → IsRead text s
 read_all text s rest number h e =
-    let so_far : text ≡ lines_then h.lines [] = h.so_far ∙ ap (λ r. lines_then h.lines r) e in
-    let k = leads_tell Place.Begun (Place.Ended s) h.lines [] h.leads refl in
     record {
-      spells = record { good = k.good; spelled = k.spelled ∙ sym so_far };
-      only = λ t g. let w = document_way t g.good in
-          let n = as_many Place.Begun (Place.Ended s) Place.Begun (Place.Ended t) h.lines w.0 rest h.leads w.2 (sym h.so_far ∙ (sym g.spelled ∙ w.1)) in
-          let v = h.ways w.0 [] (Place.Ended t) (sym g.spelled ∙ w.1) w.2 n in
-          last t v.0 v.1 v.2;
+      spells = lines_spell s text (h.lines, h.so_far ∙ ap (λ r. lines_then h.lines r) e, h.leads);
+      only = λ t g. let w = document_way t text g in let n = as_many Place.Begun (Place.Ended s) Place.Begun (Place.Ended t) h.lines w.0 rest h.leads w.2 (sym h.so_far ∙ w.1) in
+          let v = h.ways w.0 [] (Place.Ended t) w.1 w.2 n in last t v.0 v.1 v.2;
     }
   where
     sheet_of : Place → Sheet
@@ -127,6 +105,3 @@ read_all text s rest number h e =
     last : (t : Sheet) (ks : List Line) → rest ≡ lines_then ks [] → Leads (Place.Ended s) ks (Place.Ended t) → t ≡ s
     last t [] f l = sym (ap sheet_of l)
     last t (k ∷ ks) f l = absurd l.0
-
-pub no_length : (xs : List ℕ) → (length xs == 0) ≡ true → xs ≡ []
-no_length xs e = nil_from_length xs (eqb-true (length xs) 0 e)

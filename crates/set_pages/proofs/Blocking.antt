@@ -1,10 +1,10 @@
 -- What the blocks of outcomes draw is ready to be drawn wherever they lie on a page.
-use Rattle.std.{proofs.{Common.{◌≡◌, sym, subst, get_or, ℕ, ◌^◌, ◌<◌, ◌≤◌, ℤ, pos, ◌-ℤ◌, ◌≤ℤ◌, Bool, List, [], ◌∷◌, ◌++◌, length, Option, Some, None, arith}, lemmas.{Int.ints, List.Elements.{All-head, All-tail, All-weaker}}}, specs.{Prelude.{All, IfSome, Result, Ok, Err}, List.AllZip}}
+use Rattle.std.{proofs.{Common.{ℕ, ◌^◌, ◌<◌, ◌≤◌, ℤ, pos, ◌-ℤ◌, ◌≤ℤ◌, Bool, List, [], ◌∷◌, ◌++◌, length, Option, Some, None, arith}, lemmas.{Int.ints, List.Elements.{All-head, All-tail, All-weaker}}}, specs.{Prelude.{All, IfSome, Result, Ok, Err}, List.AllZip}}
 use Rattle.{abc_lines.specs.declared.fault.Fault.{Fault}, abc_header.specs.{declared.paper.Paper.Paper, Papers.{IsGoodPaper, width_of}}, mus_score.specs.declared.score.Score.{Score}, mus_laid.specs.declared.laid.SystemMarks.{SystemMarks}}
-use Rattle.{lay_springs.specs.declared.margin.Placed.{Placed}, lay_pages.specs.declared.{stacking.Heights.Heights, titles.{TitleRow.TitleRow, TitleBlock.TitleBlock}}, lay_shown.{specs.Titles.IsGoodRow, proofs.TitleRows.rows_stand}}
+use Rattle.{lay_springs.specs.declared.margin.Placed.{Placed}, lay_pages.specs.declared.{stacking.Heights.Heights, titles.{TitleRow.TitleRow}}, lay_shown.{specs.Titles.IsGoodRow, proofs.TitleRows.rows_stand}}
 use Rattle.{set_tune.{specs.{declared.tune.SetTune.SetTune, Blocks.{block_height, blocks_of, is_some_list, system_block, system_blocks, title_blocks}}, proofs.Laid.heard_moved}, set_book.specs.declared.outcome.Outcome.{Outcome}}
-use Rattle.{set_staves.{specs.{Drawn.{IsBase, IsOnPage, IsTop}, Marks.{RisesAlong, x_at}}, proofs.Shown.x_read}, lay_tune.specs.Systems.{StandWithin, gaps_between}}
-use Rattle.set_pages.{specs.{Drawings.{all_blocks, all_drawings, drawing, drawings_from, outcome_blocks, outcome_drawings, result_blocks, result_drawings, system, system_contents, title, title_contents}, Ready.{IsReadyOn, IsReadyRow}, Sheet.{IsSetResult, IsSetUnder}}, proofs.{Laying.{AreLaid, IsLaidSystem, paper_narrow, tune_laid}, Stacks.{IsBetween, stacked_lie}, Joined.zip_append}}
+use Rattle.{set_staves.{specs.{Drawn.{IsBase, IsOnPage, IsTop}, Marks.{RisesAlong}}, proofs.Shown.x_read}, lay_tune.specs.Systems.{StandWithin, gaps_between}}
+use Rattle.set_pages.{specs.{Drawings.{all_blocks, all_drawings, drawing, drawings_from, outcome_blocks, outcome_drawings, result_blocks, result_drawings, system, system_contents, title_contents}, Ready.{IsReadyOn, IsReadyRow}, Sheet.{IsSetResult, IsSetUnder}}, proofs.{Laying.{AreLaid, IsLaidSystem, paper_narrow, tune_laid}, Stacks.{IsBetween, stacked_lie}, Joined.zip_append}}
 
 -- the tune that a block begins has an ordinal
 abbrev IsCounted : Option ℕ → Type 0
@@ -12,26 +12,15 @@ IsCounted begins = IfSome begins (λ k. 1 ≤ k)
 
 -- what is laid out of a tune that is set
 pub result_laid : (paper : Paper) (t : SetTune) → IsGoodPaper paper → IsSetResult paper (Ok t) → AreLaid t.score (width_of paper) t.systems t.placed t.heights
-result_laid paper t good set =
-    let laid = set.3.laid in
-    tune_laid (width_of paper) t laid.score.good (heard_moved set.0 set.1 set.2 t.header t.score laid.score) (paper_narrow paper good) laid.layout
+result_laid paper t good set = let laid = set.3.laid in tune_laid (width_of paper) t laid.score.good (heard_moved set.0 set.1 set.2 t.header t.score laid.score) (paper_narrow paper good) laid.layout
 
 -- ---- blocks that are ready wherever they lie on a page
-on_page : (z y : ℤ) (width : ℕ) → width < 2 ^ 20 → pos 0 ≤ℤ z → z ≤ℤ pos width → z ≡ y → IsOnPage y
-on_page z y width narrow low high same = subst IsOnPage same (record { low = low; high = omega (arith, ints, high, narrow) })
-
-base_within : (top height base : ℤ) → IsTop top → pos 0 ≤ℤ (top -ℤ height) → IsBetween (pos 0 -ℤ height) (pos 0) base → IsBase top base
-base_within top height base at above between = record { low = omega (arith, ints, at.low, above, between.above); high = omega (arith, ints, at.high, between.below) }
-
-bases_within : (top height : ℤ) (bases : List ℤ) → IsTop top → pos 0 ≤ℤ (top -ℤ height) → All (IsBetween (pos 0 -ℤ height) (pos 0)) bases → All (IsBase top) bases
-bases_within top height bases at above between = All-weaker (IsBetween (pos 0 -ℤ height) (pos 0)) (IsBase top) (λ base b. base_within top height base at above b) bases between
-
 pub columns_rise : (width count : ℕ) (at : List ℤ) → StandWithin width count at → RisesAlong at
 columns_rise width count at stand i inside = stand.rise i (omega (arith, inside, stand.count_is))
 
 columns_within : (width count : ℕ) (at : List ℤ) → width < 2 ^ 20 → StandWithin width count at → All IsOnPage at
-columns_within width count at narrow stand k d inside = on_page (x_at at k) (get_or at k d) width narrow
-    (stand.low k (omega (arith, inside, stand.count_is))) (stand.high k (omega (arith, inside, stand.count_is))) (x_read at k d inside)
+columns_within width count at narrow stand k d inside =
+    let there : k < count = omega (arith, inside, stand.count_is) in rw (← x_read at k d inside) (record { low = stand.low k there; high = omega (arith, ints, stand.high k there, narrow) })
 
 system_ready : (s : Score) (width : ℕ) (begins : Option ℕ) (m : SystemMarks) (p : Placed) (h : Heights) → width < 2 ^ 20 → IsCounted begins → IsLaidSystem s width m p h
     → IsReadyOn (drawing begins (system m p.at h.bases)) (system_block h)
@@ -44,7 +33,8 @@ system_ready s width begins m p h narrow counted laid top at above =
         rise = columns_rise width (length m.keys) p.at laid.columns;
         numbers = columns_within width (length m.keys) p.at narrow laid.columns;
         bases = lie.count;
-        heights = bases_within top h.height h.bases at above (lie.between (pos 0) (omega (arith, ints)));
+        heights = All-weaker (IsBetween (pos 0 -ℤ h.height) (pos 0)) (IsBase top) (λ base b. record { low = omega (arith, ints, at.low, above, b.above); high = omega (arith, ints, at.high, b.below) })
+            h.bases (lie.between (pos 0) (omega (arith, ints)));
       };
       within = at;
     }
@@ -56,36 +46,27 @@ row_ready width height top row narrow at above good = record {
   printed = good.text;
 }
 
-title_ready : (width ordinal height : ℕ) (rows : List TitleRow) (keep : Bool) → width < 2 ^ 20 → 1 ≤ ordinal → All (IsGoodRow width height) rows
-    → IsReadyOn (drawing (Some ordinal) (title rows)) (record { height = block_height height; keep = keep })
-title_ready width ordinal height rows keep narrow some good top at above = record {
-  begins = some;
-  content = All-weaker (IsGoodRow width height) (IsReadyRow top) (λ row g. row_ready width height top row narrow at above g) rows good;
-  within = at;
-}
-
 -- ---- a block for each thing that is drawn
 systems_ready : (s : Score) (width : ℕ) (begins : Option ℕ) (systems : List SystemMarks) (placed : List Placed) (heights : List Heights) → width < 2 ^ 20 → IsCounted begins
     → AreLaid s width systems placed heights → AllZip IsReadyOn (drawings_from begins (system_contents systems placed heights)) (system_blocks heights)
 systems_ready s width begins [] [] [] narrow counted laid = tt
-systems_ready s width begins (m ∷ systems) (p ∷ placed) (h ∷ heights) narrow counted laid =
-    (system_ready s width begins m p h narrow counted laid.0, systems_ready s width None systems placed heights narrow tt laid.1)
+systems_ready s width begins (m ∷ systems) (p ∷ placed) (h ∷ heights) narrow counted laid = (system_ready s width begins m p h narrow counted laid.0, systems_ready s width None systems placed heights narrow tt laid.1)
 systems_ready s width begins systems placed heights narrow counted laid = absurd laid
 
 tune_ready : (s : Score) (width ordinal : ℕ) (rows : List TitleRow) (height : ℕ) (keep : Bool) (systems : List SystemMarks) (placed : List Placed) (heights : List Heights) → width < 2 ^ 20
     → 1 ≤ ordinal → All (IsGoodRow width height) rows → AreLaid s width systems placed heights
     → AllZip IsReadyOn (drawings_from (Some ordinal) (title_contents rows ++ system_contents systems placed heights)) (title_blocks rows height keep ++ system_blocks heights)
 tune_ready s width ordinal [] height keep systems placed heights narrow some good laid = systems_ready s width (Some ordinal) systems placed heights narrow some laid
-tune_ready s width ordinal (row ∷ rows) height keep systems placed heights narrow some good laid =
-    (title_ready width ordinal height (row ∷ rows) keep narrow some good, systems_ready s width None systems placed heights narrow tt laid)
+tune_ready s width ordinal (row ∷ rows) height keep systems placed heights narrow some good laid = (
+  λ top at above. record { begins = some; content = All-weaker (IsGoodRow width height) (IsReadyRow top) (λ r g. row_ready width height top r narrow at above g) (row ∷ rows) good; within = at },
+  systems_ready s width None systems placed heights narrow tt laid,
+)
 
 result_ready : (paper : Paper) (ordinal : ℕ) (r : Result SetTune Fault) → IsGoodPaper paper → 1 ≤ ordinal → IsSetResult paper r → AllZip IsReadyOn (result_drawings ordinal r) (result_blocks r)
 unfolding blocks_of
 result_ready paper ordinal (Err fault) good some set = tt
 result_ready paper ordinal (Ok t) good some set =
-    let laid = set.3.laid in
-    let rows : All (IsGoodRow (width_of paper) t.title.height) t.title.rows =
-    subst (λ (b : TitleBlock). All (IsGoodRow (width_of paper) b.height) b.rows) (sym laid.title) (rows_stand (width_of paper) t.header.titles t.header.composers t.header.tempo) in
+    let rows : All (IsGoodRow (width_of paper) t.title.height) t.title.rows = rw set.3.laid.title (rows_stand (width_of paper) t.header.titles t.header.composers t.header.tempo) in
     tune_ready t.score (width_of paper) ordinal t.title.rows t.title.height (is_some_list t.heights) t.systems t.placed t.heights (paper_narrow paper good) some rows (result_laid paper t good set)
 
 pub all_ready : (paper : Paper) (outcomes : List Outcome) → IsGoodPaper paper → All (IsSetUnder paper) outcomes → AllZip IsReadyOn (all_drawings outcomes) (all_blocks outcomes)

@@ -1,18 +1,14 @@
 -- The blocks of tunes of which none has a group that is too tall have none together: no block is tied to one of the next tune.
-use Rattle.std.{proofs.Common.{◌≡◌, refl, ap, ◌∙◌, ℕ, suc, Bool, true, false, not, List, [], ◌∷◌, ◌++◌, Option, None}, specs.Prelude.{⊤, ◌&&◌, nat_lt, Result, Ok, Err}}
+use Rattle.std.{proofs.Common.{◌≡◌, refl, ap, ℕ, suc, Bool, true, false, not, List, [], ◌∷◌, ◌++◌, Option, None}, specs.Prelude.{◌&&◌, nat_lt, Result, Ok, Err}}
 use Rattle.abc_lines.specs.declared.fault.Fault.{Fault}
 use Rattle.lay_pages.specs.{declared.{filling.Block.Block, stacking.Heights.Heights, titles.TitleRow.TitleRow}, Filling.{IsLoose, first_tall, group_height, height_of, tall_by, tall_from, with_kept}}
-use Rattle.{set_tune.specs.{declared.tune.SetTune.SetTune, Blocks.{blocks_of, is_some_list, system_blocks, title_blocks}}, set_book.specs.declared.outcome.Outcome.{Outcome}}
-use Rattle.set_pages.specs.Drawings.{all_blocks, outcome_blocks, result_blocks}
-
-loose_height : (keep : Bool) (height others : ℕ) → keep ≡ false → with_kept keep height others ≡ height
-loose_height true height others e = absurd cc
-loose_height false height others e = refl
+use Rattle.{set_tune.specs.{declared.tune.SetTune.SetTune, Blocks.{blocks_of, is_some_list, system_blocks, title_blocks}}}
+use Rattle.set_pages.specs.Drawings.{result_blocks}
 
 -- a group ends with the last block
 pub group_append : (block : Block) (bs more : List Block) → IsLoose (block ∷ bs) → group_height (block ∷ bs ++ more) ≡ group_height (block ∷ bs)
 group_append block [] [] loose = refl
-group_append block [] (next ∷ more) loose = loose_height block.keep (height_of block.height) (group_height (next ∷ more)) loose
+group_append block [] (next ∷ more) loose = rw loose
 group_append block (next ∷ bs) more loose = ap (λ n. with_kept block.keep (height_of block.height) n) (group_append next bs more loose)
 
 -- wherever the counting begins
@@ -23,22 +19,15 @@ counted false n m others new to e = to e
 any_count : (high n m : ℕ) (tied : Bool) (bs : List Block) → tall_from high n tied bs ≡ None → tall_from high m tied bs ≡ None
 any_count high n m tied [] none = refl
 any_count high n m tied (block ∷ bs) none =
-    counted (not tied && nat_lt high (group_height (block ∷ bs))) n m (tall_from high (suc n) block.keep bs) (tall_from high (suc m) block.keep bs)
-    (any_count high (suc n) (suc m) block.keep bs) none
-
-tied_loose : (high n m : ℕ) (keep : Bool) (bs : List Block) → keep ≡ false → tall_from high n false bs ≡ None → tall_from high m keep bs ≡ None
-tied_loose high n m true bs e none = absurd cc
-tied_loose high n m false bs e none = any_count high n m false bs none
+    counted (not tied && nat_lt high (group_height (block ∷ bs))) n m _ _ (any_count high (suc n) (suc m) block.keep bs) none
 
 tall_append : (high n : ℕ) (tied : Bool) (block : Block) (bs more : List Block) → IsLoose (block ∷ bs) → tall_from high n tied (block ∷ bs) ≡ None → tall_from high 0 false more ≡ None
     → tall_from high n tied (block ∷ bs ++ more) ≡ None
 tall_append high n tied block [] more loose none none_more =
-    ap (λ height. tall_by (not tied && nat_lt high height) n (tall_from high (suc n) block.keep more)) (group_append block [] more loose)
-    ∙ counted (not tied && nat_lt high (group_height (block ∷ []))) n n None (tall_from high (suc n) block.keep more) (λ e. tied_loose high 0 (suc n) block.keep more loose none_more) none
+    rw (group_append block [] more loose) (counted (not tied && nat_lt high (group_height (block ∷ []))) n n None _ (λ e. rw loose (any_count high 0 (suc n) false more none_more)) none)
 tall_append high n tied block (next ∷ bs) more loose none none_more =
-    ap (λ height. tall_by (not tied && nat_lt high height) n (tall_from high (suc n) block.keep (next ∷ bs ++ more))) (group_append block (next ∷ bs) more loose)
-    ∙ counted (not tied && nat_lt high (group_height (block ∷ next ∷ bs))) n n (tall_from high (suc n) block.keep (next ∷ bs)) (tall_from high (suc n) block.keep (next ∷ bs ++ more))
-    (λ e. tall_append high (suc n) block.keep next bs more loose e none_more) none
+    rw (group_append block (next ∷ bs) more loose)
+    (counted (not tied && nat_lt high (group_height (block ∷ next ∷ bs))) n n _ _ (λ e. tall_append high (suc n) block.keep next bs more loose e none_more) none)
 
 pub first_append : (high : ℕ) (bs more : List Block) → IsLoose bs → first_tall high bs ≡ None → first_tall high more ≡ None → first_tall high (bs ++ more) ≡ None
 first_append high [] more loose none none_more = none_more
@@ -59,11 +48,3 @@ pub result_loose : (r : Result SetTune Fault) → IsLoose (result_blocks r)
 unfolding blocks_of
 result_loose (Ok t) = tune_loose t.title.rows t.title.height t.heights
 result_loose (Err fault) = tt
-
-abbrev pub AllFit : ℕ → List Outcome → Type 0
-AllFit high [] = ⊤
-AllFit high (o ∷ outcomes) = (first_tall high (outcome_blocks o) ≡ None) × AllFit high outcomes
-
-pub all_fit : (high : ℕ) (outcomes : List Outcome) → AllFit high outcomes → first_tall high (all_blocks outcomes) ≡ None
-all_fit high [] fit = refl
-all_fit high (o ∷ outcomes) fit = first_append high (outcome_blocks o) (all_blocks outcomes) (result_loose o.result) fit.0 (all_fit high outcomes fit.1)

@@ -1,8 +1,8 @@
 -- Pages that were given up are the first of the sheet, whatever is pressed behind them.
-use Rattle.std.{proofs.{Common.{◌≡◌, refl, sym, ap, ◌∙◌, subst, inl, inr, ℕ, zero, suc, ◌+◌, Bool, true, false, cond, List, [], ◌∷◌, ◌++◌, length, take}, Math.Seq.{take-append_seam, drop-append_seam}, lemmas.List.{append-nil, append_assoc, Elements.{All-take, All-drop}}}, specs.Prelude.{◌||◌, ◌⊎◌, nat_le, nat_lt, All}}
+use Rattle.std.{proofs.{Common.{◌≡◌, refl, sym, ap, ◌∙◌, subst, inl, inr, ℕ, suc, ◌+◌, Bool, true, false, cond, List, [], ◌∷◌, ◌++◌, length, take, arith}, Math.Seq.{take-append_seam, drop-append_seam}, lemmas.{Grind.flat_map-append, List.{append-nil, append_assoc, Elements.{All-take, All-drop}}, Slice.Zip.AllZip-long}}, specs.Prelude.{◌||◌, ◌⊎◌, nat_le, nat_lt, All}}
 use Rattle.{abc_header.specs.{declared.paper.Paper.Paper, Papers.{height_of, width_of}}, lay_pages.specs.{declared.filling.{Block.Block, Place.Place, Spot.Spot}, Filling.{group_height, next_place, place_by, spots_from, spots_of, under}}}
 use Rattle.{ps_text.specs.declared.sheet.Page.{Page}, set_book.specs.declared.outcome.Outcome.{Outcome}}
-use Rattle.set_pages.{specs.{declared.{pages.Pages.Pages, plan.Plan.Plan, press.Press.Press}, Drawings.{Drawing, all_blocks, all_drawings, drawn}, Filling.{done_count, no_pages, restored, turned, with_drawing, with_drawings, with_items}, Press.{IsPressed, RisesBy, done_pages, next_spots}, Ready.{AreRising, AreRisingFrom, IsDrawn}, Sheet.{all_spots, pages_of, sheet_of}}, proofs.{Joined.{drawings_append, drawn_join, spots_append}, Turned.all_put, Zips.zip_length}}
+use Rattle.set_pages.{specs.{declared.{pages.Pages.Pages, plan.Plan.Plan, press.Press.Press}, Drawings.{Drawing, all_blocks, all_drawings, drawn}, Filling.{done_count, no_pages, restored, turned, with_drawing, with_drawings, with_items}, Press.{IsPressed, RisesBy, done_pages, next_spots}, Ready.{AreRising, AreRisingFrom, IsDrawn}, Sheet.{all_spots, pages_of, sheet_of}}, proofs.{Joined.{drawn_join, spots_append}, Turned.all_put}}
 
 -- some pages are the first of all
 pub record IsFront (front all : List Page) : Type 0 where
@@ -34,21 +34,17 @@ rises_by false page down = inr refl
 
 rises_from : (high : ℕ) (place : Place) (b : Block) (bs : List Block) → AreRisingFrom place.page (spots_from high (next_place high place b bs) bs)
 rises_from high place b [] = tt
-rises_from high place b (next ∷ bs) =
-    (rises_by (b.keep || nat_le (under place b + group_height (next ∷ bs)) high) place.page (under place b), rises_from high (next_place high place b (next ∷ bs)) next bs)
+rises_from high place b (next ∷ bs) = (rises_by (b.keep || nat_le (under place b + group_height (next ∷ bs)) high) place.page (under place b), rises_from high (next_place high place b (next ∷ bs)) next bs)
 
 rises : (high : ℕ) (bs : List Block) → AreRising (spots_of high bs)
 rises high [] = tt
 rises high (b ∷ bs) = (refl, rises_from high (record { page = 0; down = 0 }) b bs)
 
 -- the pages that are done when all is put are the first of the sheet
-none_front : (width : ℕ) (ds : List Drawing) → IsFront (with_drawings width no_pages ds []).done (pages_of width ds [])
-none_front width [] = record { rest = []; whole = refl }
-none_front width (d ∷ ds) = record { rest = []; whole = refl }
-
 put_front : (width : ℕ) (ds : List Drawing) (ss : List Spot) → length ds ≡ length ss → AreRising ss → IsFront (with_drawings width no_pages ds ss).done (pages_of width ds ss)
-put_front width ds [] same rising = none_front width ds
+put_front width [] [] same rising = record { rest = []; whole = refl }
 put_front width ds (s ∷ ss) same rising = record { rest = record { items = (with_drawings width no_pages ds (s ∷ ss)).items } ∷ []; whole = sym (all_put width ds s ss same rising) }
+put_front width ds [] same rising = absurd (omega (arith, same))
 
 rising_take_from : (n page : ℕ) (ss : List Spot) → AreRisingFrom page ss → AreRisingFrom page (take n ss)
 rising_take_from (suc n) page (s ∷ ss) rising = (rising.0, rising_take_from n s.page ss rising.1)
@@ -62,40 +58,22 @@ pub plan_rising : (plan : Plan) (paper : Paper) (outcomes : List Outcome) → Ri
 plan_rising Plan.Filled paper outcomes rising = rises (height_of paper) (all_blocks outcomes)
 plan_rising (Plan.At spots) paper outcomes rising = rising_take (length (all_blocks outcomes)) spots rising
 
--- what is put behind the outcomes that were pressed
-put_behind : (plan : Plan) (paper : Paper) (first more : List Outcome) (given : List Page) (p : Press) → IsPressed plan paper first given p
-    → with_drawings (width_of paper) no_pages (all_drawings (first ++ more)) (all_spots plan paper (first ++ more))
-    ≡ with_drawings (width_of paper) (restored given p.pages) (all_drawings more) (next_spots plan (height_of paper) p (all_blocks more))
-put_behind plan paper first more given p pressed =
-    let width = width_of paper in
-    let behind = next_spots plan (height_of paper) p (all_blocks more) in
-    ap (λ ds. with_drawings width no_pages ds (all_spots plan paper (first ++ more))) (drawings_append first more)
-    ∙ ap (λ ss. with_drawings width no_pages (all_drawings first ++ all_drawings more) ss) (spots_append plan paper first more p behind pressed.behind pressed.put refl)
-    ∙ drawn_join (IsDrawn width) width no_pages (all_drawings first) (all_drawings more) (all_spots plan paper first) behind pressed.drawn
-    ∙ ap (λ q. with_drawings width q (all_drawings more) behind) (sym pressed.pages)
-
 -- The pages that are done when some outcomes are pressed, those that were given up among them, are the first pages of the sheet of these
 -- outcomes and of whatever comes behind them.
 pub done_front : (plan : Plan) (paper : Paper) (first more : List Outcome) (given : List Page) (p : Press) → IsPressed plan paper first given p
     → length (all_drawings (first ++ more)) ≡ length (all_spots plan paper (first ++ more)) → IsFront (given ++ done_pages p) (sheet_of plan paper (first ++ more)).pages
 unfolding sheet_of
 done_front plan paper first more given p pressed count =
-    let width = width_of paper in
-    let all = first ++ more in
-    let grown = grown_all width (restored given p.pages) (all_drawings more) (next_spots plan (height_of paper) p (all_blocks more)) in
+    let width = width_of paper in let all = first ++ more in let behind = next_spots plan (height_of paper) p (all_blocks more) in let grown = grown_all width (restored given p.pages) (all_drawings more) behind in
+    let joined = drawn_join (IsDrawn width) width no_pages (all_drawings first) (all_drawings more) (all_spots plan paper first) behind pressed.drawn in
     front_of_front (given ++ done_pages p) (with_drawings width no_pages (all_drawings all) (all_spots plan paper all)).done (pages_of width (all_drawings all) (all_spots plan paper all))
-    (record { rest = grown.rest; whole = ap (λ (q : Pages). q.done) (put_behind plan paper first more given p pressed) ∙ grown.whole })
+    (record { rest = grown.rest; whole = rw (flat_map-append, spots_append plan paper first more p behind pressed.behind pressed.put refl, joined, ← pressed.pages) grown.whole })
     (put_front width (all_drawings all) (all_spots plan paper all) count (plan_rising plan paper all pressed.rises))
 
 -- the same of the sheet of these outcomes alone
 pub done_first : (plan : Plan) (paper : Paper) (outcomes : List Outcome) (given : List Page) (p : Press) → IsPressed plan paper outcomes given p → IsFront (given ++ done_pages p) (sheet_of plan paper outcomes).pages
-unfolding sheet_of
 done_first plan paper outcomes given p pressed =
-    let width = width_of paper in
-    let ds = all_drawings outcomes in
-    let ss = all_spots plan paper outcomes in
-    subst (λ front. IsFront front (pages_of width ds ss)) (ap (λ (q : Pages). q.done) (sym pressed.pages))
-    (put_front width ds ss (zip_length (IsDrawn width) ds ss pressed.drawn) (plan_rising plan paper outcomes pressed.rises))
+    rw append-nil at (done_front plan paper outcomes [] given p pressed (rw append-nil (sym (AllZip-long (IsDrawn (width_of paper)) (all_drawings outcomes) (all_spots plan paper outcomes) pressed.drawn))))
 
 -- what holds of all holds of those in front, and of those behind
 pub all_left : {X : Type 0} (P : X → Type 0) (xs ys : List X) → All P (xs ++ ys) → All P xs

@@ -48,12 +48,9 @@ pub quotient_narrow : (x s : ℕ) → x ≤ 10000000 → 40 ≤ s → x / s < 2 
 quotient_narrow x s few some = grind arith
 
 pub paper_narrow : (paper : Paper) → IsGoodPaper paper → width_of paper < 2 ^ 20
-paper_narrow paper good =
-    let wide = good.small_wide in
-    quotient_narrow ((paper.wide - (paper.left + paper.right)) * 100) paper.scale (omega arith) good.low_scale
+paper_narrow paper good = let wide = good.small_wide in quotient_narrow ((paper.wide - (paper.left + paper.right)) * 100) paper.scale (omega arith) good.low_scale
 
 pub tune_laid : (width : ℕ) (t : SetTune) → IsGoodScore t.score → (0 < t.score.measures → 1 ≤ length t.score.voices) → width < 2 ^ 20 → IsLaidOut width t → AreLaid t.score width t.systems t.placed t.heights
 tune_laid width t good heard narrow laid =
-    let legal = laid.chosen.legal in
-    let within : last_from 0 t.breaking.breaks ≤ t.score.measures = omega (arith, legal.ends) in
+    let legal = laid.chosen.legal in let within : last_from 0 t.breaking.breaks ≤ t.score.measures = omega (arith, legal.ends) in
     systems_laid t.score width 0 t.breaking.breaks t.systems t.placed t.heights good heard narrow legal.rises within laid.systems laid.heights

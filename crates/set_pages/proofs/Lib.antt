@@ -1,6 +1,5 @@
 pub mod Zips
 pub mod Turned
-pub mod Restored
 pub mod Ordered
 pub mod Fitting
 pub mod Stacks

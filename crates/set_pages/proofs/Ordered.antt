@@ -1,5 +1,5 @@
 -- The items of each page are good and in order: a title stands only in the block that begins a tune.
-use Rattle.std.{proofs.{Common.{ℕ, zero, suc, ℤ, Bool, true, false, cond, List, [], ◌∷◌, ◌++◌, map, Option, Some, None}, lemmas.List.Elements.{All-append, All-cons, All-nil}}, specs.{Prelude.{◌==◌, ⊤, All, Result, Ok, Err}, List.AllZip}}
+use Rattle.std.{proofs.{Common.{ℕ, zero, suc, ℤ, Bool, true, false, cond, List, [], ◌∷◌, ◌++◌, map, Option, Some, None}, lemmas.List.Elements.{All-append, All-cons, All-head, All-nil, All-tail}}, specs.{Prelude.{◌==◌, ⊤, All, Result, Ok, Err}, List.AllZip}}
 use Rattle.{abc_lines.specs.declared.fault.Fault.{Fault}, lay_springs.specs.declared.margin.Placed.{Placed}, lay_pages.specs.declared.{filling.Spot.Spot, stacking.Heights.Heights, titles.TitleRow.TitleRow}}
 use Rattle.{mus_laid.specs.declared.laid.SystemMarks.{SystemMarks}, ps_text.specs.{declared.sheet.Item.Item, Range.{InOrder, IsAfter, IsItem, IsPage}}, set_tune.specs.declared.tune.SetTune.{SetTune}}
 use Rattle.{set_book.specs.declared.outcome.Outcome.{Outcome}, set_staves.specs.Marks.{system_at}}
@@ -40,42 +40,34 @@ abbrev pub begun : Option ℕ → Content → Type 0
 begun None (title rows) = ⊥
 begun _ _ = ⊤
 
-abbrev pub AreBegun : List Drawing → Type 0
-AreBegun [] = ⊤
-AreBegun (d ∷ ds) = begun d.begins d.content × AreBegun ds
+abbrev pub IsBegun : Drawing → Type 0
+IsBegun d = begun d.begins d.content
 
-titles_order : (top : ℤ) (row : TitleRow) (rows : List TitleRow) → InOrder (row_at top row ∷ map (row_at top) rows)
-titles_order top row [] = tt
-titles_order top row (next ∷ rows) = (tt, titles_order top next rows)
-
-tune_order : (ordinal : ℕ) (top : ℤ) (rows : List TitleRow) → InOrder (Item.Tune ordinal ∷ map (row_at top) rows)
-tune_order ordinal top [] = tt
-tune_order ordinal top (row ∷ rows) = (tt, titles_order top row rows)
+titles_order : (top : ℤ) (i : Item) (rows : List TitleRow) → ((row : TitleRow) → IsAfter i (row_at top row)) → InOrder (i ∷ map (row_at top) rows)
+titles_order top i [] after = tt
+titles_order top i (row ∷ rows) after = (after row, titles_order top (row_at top row) rows (λ next. tt))
 
 drawn_ordered : (width : ℕ) (top : ℤ) (begins : Option ℕ) (content : Content) → begun begins content → IsOrdered (tune_items begins ++ content_items width top content)
 drawn_ordered width top None (title rows) h = absurd h
 drawn_ordered width top None (system m at bases) h = record { order = tt; free = free_system width top m at bases }
-drawn_ordered width top (Some ordinal) (title rows) h = record { order = tune_order ordinal top rows; free = free_tune ordinal }
+drawn_ordered width top (Some ordinal) (title rows) h = record { order = titles_order top (Item.Tune ordinal) rows (λ row. tt); free = free_tune ordinal }
 drawn_ordered width top (Some ordinal) (system m at bases) h = record { order = (tt, tt); free = free_tune ordinal }
 
-if_ordered : (b : Bool) (xs ys : List Item) → IsOrdered xs → IsOrdered ys → IsOrdered (cond b xs [] ++ ys)
-if_ordered true xs ys front back = ordered_append xs ys front back
-if_ordered false xs ys front back = back
+if_put : (P : List Item → Type 0) (b : Bool) (xs ys : List Item) → (P xs → P ys → P (xs ++ ys)) → P xs → P ys → P (cond b xs [] ++ ys)
+if_put P true xs ys join front back = join front back
+if_put P false xs ys join front back = back
 
-pub items_ordered : (width page : ℕ) (ds : List Drawing) (ss : List Spot) → AreBegun ds → IsOrdered (items_on width page ds ss)
-items_ordered width page (d ∷ ds) (s ∷ ss) begun =
-    if_ordered (s.page == page) (drawn width s.top d) (items_on width page ds ss) (drawn_ordered width s.top d.begins d.content begun.0) (items_ordered width page ds ss begun.1)
-items_ordered width page ds ss begun = record { order = tt; free = tt }
-
-if_good : (b : Bool) (xs ys : List Item) → All IsItem xs → All IsItem ys → All IsItem (cond b xs [] ++ ys)
-if_good true xs ys front back = All-append IsItem xs ys front back
-if_good false xs ys front back = back
+pub items_ordered : (width page : ℕ) (ds : List Drawing) (ss : List Spot) → All IsBegun ds → IsOrdered (items_on width page ds ss)
+items_ordered width page (d ∷ ds) (s ∷ ss) all =
+    if_put IsOrdered (s.page == page) (drawn width s.top d) (items_on width page ds ss) (ordered_append (drawn width s.top d) (items_on width page ds ss))
+    (drawn_ordered width s.top d.begins d.content (All-head IsBegun d ds all)) (items_ordered width page ds ss (All-tail IsBegun d ds all))
+items_ordered width page ds ss all = record { order = tt; free = tt }
 
 items_good : (width page : ℕ) (ds : List Drawing) (ss : List Spot) → AllZip (IsDrawn width) ds ss → All IsItem (items_on width page ds ss)
-items_good width page (d ∷ ds) (s ∷ ss) good = if_good (s.page == page) (drawn width s.top d) (items_on width page ds ss) good.0 (items_good width page ds ss good.1)
+items_good width page (d ∷ ds) (s ∷ ss) good = if_put (All IsItem) (s.page == page) (drawn width s.top d) _ (All-append IsItem (drawn width s.top d) _) good.0 (items_good width page ds ss good.1)
 items_good width page ds ss good = All-nil IsItem
 
-pub pages_good : (width : ℕ) (ds : List Drawing) (ss : List Spot) (k n : ℕ) → AllZip (IsDrawn width) ds ss → AreBegun ds → All IsPage (pages_from width ds ss k n)
+pub pages_good : (width : ℕ) (ds : List Drawing) (ss : List Spot) (k n : ℕ) → AllZip (IsDrawn width) ds ss → All IsBegun ds → All IsPage (pages_from width ds ss k n)
 pages_good width ds ss k zero good begun = All-nil IsPage
 pages_good width ds ss k (suc n) good begun =
     All-cons IsPage (record { items = items_on width k ds ss }) (pages_from width ds ss (suc k) n)
@@ -83,23 +75,19 @@ pages_good width ds ss k (suc n) good begun =
     (pages_good width ds ss (suc k) n good begun)
 
 -- each title of a tune begins it
-systems_begun : (begins : Option ℕ) (systems : List SystemMarks) (placed : List Placed) (heights : List Heights) → AreBegun (drawings_from begins (system_contents systems placed heights))
-systems_begun None (m ∷ systems) (p ∷ placed) (h ∷ heights) = (tt, systems_begun None systems placed heights)
-systems_begun (Some ordinal) (m ∷ systems) (p ∷ placed) (h ∷ heights) = (tt, systems_begun None systems placed heights)
-systems_begun begins systems placed heights = tt
+systems_begun : (begins : Option ℕ) (systems : List SystemMarks) (placed : List Placed) (heights : List Heights) → All IsBegun (drawings_from begins (system_contents systems placed heights))
+systems_begun None (m ∷ systems) (p ∷ placed) (h ∷ heights) = All-cons IsBegun _ _ tt (systems_begun None systems placed heights)
+systems_begun (Some ordinal) (m ∷ systems) (p ∷ placed) (h ∷ heights) = All-cons IsBegun _ _ tt (systems_begun None systems placed heights)
+systems_begun begins systems placed heights = All-nil IsBegun
 
-tune_begun : (ordinal : ℕ) (rows : List TitleRow) (t : SetTune) → AreBegun (drawings_from (Some ordinal) (title_contents rows ++ systems_of t))
+tune_begun : (ordinal : ℕ) (rows : List TitleRow) (t : SetTune) → All IsBegun (drawings_from (Some ordinal) (title_contents rows ++ systems_of t))
 tune_begun ordinal [] t = systems_begun (Some ordinal) t.systems t.placed t.heights
-tune_begun ordinal (row ∷ rows) t = (tt, systems_begun None t.systems t.placed t.heights)
+tune_begun ordinal (row ∷ rows) t = All-cons IsBegun _ _ tt (systems_begun None t.systems t.placed t.heights)
 
-result_begun : (ordinal : ℕ) (r : Result SetTune Fault) → AreBegun (result_drawings ordinal r)
+result_begun : (ordinal : ℕ) (r : Result SetTune Fault) → All IsBegun (result_drawings ordinal r)
 result_begun ordinal (Ok t) = tune_begun ordinal t.title.rows t
-result_begun ordinal (Err fault) = tt
+result_begun ordinal (Err fault) = All-nil IsBegun
 
-begun_append : (xs ys : List Drawing) → AreBegun xs → AreBegun ys → AreBegun (xs ++ ys)
-begun_append [] ys front back = back
-begun_append (x ∷ xs) ys front back = (front.0, begun_append xs ys front.1 back)
-
-pub all_begun : (outcomes : List Outcome) → AreBegun (all_drawings outcomes)
-all_begun [] = tt
-all_begun (o ∷ outcomes) = begun_append (outcome_drawings o) (all_drawings outcomes) (result_begun o.ordinal o.result) (all_begun outcomes)
+pub all_begun : (outcomes : List Outcome) → All IsBegun (all_drawings outcomes)
+all_begun [] = All-nil IsBegun
+all_begun (o ∷ outcomes) = All-append IsBegun (outcome_drawings o) (all_drawings outcomes) (result_begun o.ordinal o.result) (all_begun outcomes)

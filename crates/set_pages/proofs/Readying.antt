@@ -1,20 +1,15 @@
 -- What is set on a paper: a placement and good heights for each system of a tune, and no group that is higher than the page.
-use Rattle.std.{proofs.{Common.{◌≡◌, ◌∙◌, refl, sym, subst, ℕ, suc, ◌≤◌, Bool, true, false, if◌then◌else◌, List, [], ◌∷◌, length, None, arith}, lemmas.List.Elements.{All-cons, All-head, All-nil, All-tail, All-weaker}}, specs.Prelude.{All, Result, Ok, Err}}
+use Rattle.std.{proofs.{Common.{◌≡◌, ◌∙◌, refl, sym, ℕ, suc, ◌≤◌, true, false, if◌then◌else◌, List, [], ◌∷◌, length, None, arith}, lemmas.List.Elements.{All-cons, All-head, All-nil, All-tail, All-weaker}}, specs.Prelude.{All, Result, Ok, Err}}
 use Rattle.abc_lines.specs.{declared.{book.TuneText.TuneText, fault.Fault.Fault, reading.Reading.Reading}, Books.{begins_tune, book_of, tune_at, tunes_behind}, Lines.{readings, without_mark}}
 use Rattle.{abc_header.specs.{declared.paper.Paper.Paper, Papers.{height_of, width_of}}, lay_pages.specs.Filling.{first_tall}, lay_tune.{specs.Systems.{IsSetSystem, IsStack}, proofs.Rows.{beside_count, span_count}}}
-use Rattle.{set_tune.{specs.{Terms.Terms, declared.tune.SetTune.SetTune, Setting.IsLaidOut}, proofs.Laid.good_heights}, set_book.specs.{declared.outcome.Outcome.Outcome, Outcomes.{AreOutcomes, IsOutcome, IsResult}}}
-use Rattle.set_pages.{specs.{Drawings.result_blocks, Ready.{HasAllRows, IsWhole, IsWholeResult}, Sheet.{IsSetResult, IsSetUnder}}, proofs.Fitting.AllFit}
+use Rattle.{set_tune.{specs.{Terms.Terms, declared.tune.SetTune.SetTune}, proofs.Laid.good_heights}, set_book.specs.{declared.outcome.Outcome.Outcome, Outcomes.{AreOutcomes, IsResult}}}
+use Rattle.set_pages.{specs.{Drawings.{all_blocks, outcome_blocks, result_blocks}, Ready.{IsWhole, IsWholeResult}, Sheet.{IsSetResult, IsSetUnder}}, proofs.Fitting.{first_append, result_loose}}
 
 -- the systems of a tune
-pub laid_whole : (width : ℕ) (t : SetTune) → IsLaidOut width t → HasAllRows t
-laid_whole width t laid = record {
-  placed = let both = span_count (IsSetSystem t.score width) 0 t.breaking.breaks t.systems t.placed laid.systems in both.1 ∙ sym both.0;
-  heights = beside_count (IsStack t.score) t.systems t.heights laid.heights;
-  good = good_heights t.score t.systems t.heights laid.heights;
-}
-
 pub result_whole : (paper : Paper) (r : Result SetTune Fault) → IsSetResult paper r → IsWholeResult r
-result_whole paper (Ok t) h = laid_whole (width_of paper) t h.3.laid.layout
+result_whole paper (Ok t) h =
+    let laid = h.3.laid.layout in let both = span_count (IsSetSystem t.score (width_of paper)) 0 t.breaking.breaks t.systems t.placed laid.systems in
+    record { placed = both.1 ∙ sym both.0; heights = beside_count (IsStack t.score) t.systems t.heights laid.heights; good = good_heights t.score t.systems t.heights laid.heights }
 result_whole paper (Err fault) h = tt
 
 pub all_whole : (paper : Paper) (outcomes : List Outcome) → All (IsSetUnder paper) outcomes → All IsWhole outcomes
@@ -24,22 +19,21 @@ result_fits : (paper : Paper) (r : Result SetTune Fault) → IsSetResult paper r
 result_fits paper (Ok t) h = h.3.fits
 result_fits paper (Err fault) h = refl
 
-pub each_fits : (paper : Paper) (outcomes : List Outcome) → All (IsSetUnder paper) outcomes → AllFit (height_of paper) outcomes
-each_fits paper [] h = tt
-each_fits paper (o ∷ outcomes) h = (result_fits paper o.result (All-head (IsSetUnder paper) o outcomes h).result, each_fits paper outcomes (All-tail (IsSetUnder paper) o outcomes h))
+pub all_fit : (paper : Paper) (outcomes : List Outcome) → All (IsSetUnder paper) outcomes → first_tall (height_of paper) (all_blocks outcomes) ≡ None
+all_fit paper [] h = refl
+all_fit paper (o ∷ outcomes) h =
+    first_append (height_of paper) (outcome_blocks o) (all_blocks outcomes) (result_loose o.result) (result_fits paper o.result (All-head (IsSetUnder paper) o outcomes h).result)
+    (all_fit paper outcomes (All-tail (IsSetUnder paper) o outcomes h))
 
 -- the outcomes of tunes are set on their paper, or have a fault
 result_set : (terms : Terms) (tune : TuneText) (r : Result SetTune Fault) → IsResult tune terms r → IsSetResult terms.paper r
 result_set terms tune (Ok t) h = (tune, terms.defaults, terms.manner, h)
 result_set terms tune (Err fault) h = tt
 
-outcome_set : (terms : Terms) (tune : TuneText) (o : Outcome) → 1 ≤ tune.ordinal → IsOutcome terms tune o → IsSetUnder terms.paper o
-outcome_set terms tune o some h = record { result = result_set terms tune o.result h.result; ordinal = subst (λ n. 1 ≤ n) (sym h.ordinal) some }
-
 pub set_outcomes : (terms : Terms) (tunes : List TuneText) (outcomes : List Outcome) → All (λ tune. 1 ≤ tune.ordinal) tunes → AreOutcomes terms tunes outcomes → All (IsSetUnder terms.paper) outcomes
 set_outcomes terms [] [] some h = All-nil (IsSetUnder terms.paper)
 set_outcomes terms (tune ∷ tunes) (o ∷ outcomes) some h =
-    All-cons (IsSetUnder terms.paper) o outcomes (outcome_set terms tune o (All-head (λ t. 1 ≤ t.ordinal) tune tunes some) h.0)
+    All-cons (IsSetUnder terms.paper) o outcomes (record { result = result_set terms tune o.result h.0.result; ordinal = rw h.0.ordinal (All-head (λ t. 1 ≤ t.ordinal) tune tunes some) })
     (set_outcomes terms tunes outcomes (All-tail (λ t. 1 ≤ t.ordinal) tune tunes some) h.1)
 set_outcomes terms tunes outcomes some h = absurd h
 
@@ -47,12 +41,11 @@ set_outcomes terms tunes outcomes some h = absurd h
 tunes_counted : (all : List Reading) (ordinal : ℕ) (before lines : List Reading) → 1 ≤ ordinal → All (λ tune. 1 ≤ tune.ordinal) (tunes_behind all ordinal before lines)
 tunes_counted all ordinal before [] some = All-nil (λ tune. 1 ≤ tune.ordinal)
 tunes_counted all ordinal before (line ∷ more) some =
-    by (begins_tune line) (tunes_counted all (suc ordinal) (line ∷ before) more (omega arith)) (tunes_counted all ordinal (line ∷ before) more some)
-  where
-    by : (b : Bool) → All (λ tune. 1 ≤ tune.ordinal) (tunes_behind all (suc ordinal) (line ∷ before) more) → All (λ tune. 1 ≤ tune.ordinal) (tunes_behind all ordinal (line ∷ before) more) → All (λ tune. 1 ≤ tune.ordinal)
-        (if b then tune_at all ordinal (suc (length before)) ∷ tunes_behind all (suc ordinal) (line ∷ before) more else tunes_behind all ordinal (line ∷ before) more)
-    by true begun other = All-cons (λ (tune : TuneText). 1 ≤ tune.ordinal) (tune_at all ordinal (suc (length before))) _ some begun
-    by false begun other = other
+    elim (begins_tune line) as (λ b. All (λ tune. 1 ≤ tune.ordinal)
+    (if b then tune_at all ordinal (suc (length before)) ∷ tunes_behind all (suc ordinal) (line ∷ before) more else tunes_behind all ordinal (line ∷ before) more)) [
+      | true ↦ All-cons (λ (tune : TuneText). 1 ≤ tune.ordinal) _ _ some (tunes_counted all (suc ordinal) (line ∷ before) more (omega arith))
+      | false ↦ tunes_counted all ordinal (line ∷ before) more some
+    ]
 
 pub book_counted : (text : List ℕ) → All (λ tune. 1 ≤ tune.ordinal) (book_of text).tunes
 unfolding book_of

@@ -1,20 +1,17 @@
 -- Staves under one another: each base lies between the top and the bottom of its system, and so do all marks.
-use Rattle.std.{proofs.{Common.{◌≡◌, refl, sym, ap, subst, ℕ, suc, ℤ, pos, ◌+ℤ◌, ◌-ℤ◌, ◌≤ℤ◌, List, [], ◌∷◌, map, length, arith}, lemmas.{Int.ints, List.Elements.{All-cons, All-nil}}}, specs.Prelude.All}
+use Rattle.std.{proofs.{Common.{◌≡◌, refl, ap, ℕ, suc, ℤ, pos, ◌+ℤ◌, ◌-ℤ◌, ◌≤ℤ◌, List, [], ◌∷◌, map, length, arith}, lemmas.{Int.ints, List.Elements.{All-cons, All-nil}}}, specs.Prelude.All}
 use Rattle.{mus_score.specs.declared.score.Score.{Score}, mus_time.specs.{declared.keys.ColumnKey.ColumnKey, Onsets.timeline_of}, mus_drawn.specs.declared.drawn.DrawnVoice.{DrawnVoice}}
-use Rattle.{mus_laid.specs.declared.laid.{StaffMarks.StaffMarks, SystemMarks.SystemMarks}, mus_marks.{specs.{Staff.{CoversLines, staff_marks}, System.drawn_staves, Tilt.{IsTilted, tilted_staff, voice_tilted}}, proofs.Lines.covers}}
+use Rattle.{mus_laid.specs.declared.laid.{StaffMarks.StaffMarks, SystemMarks.SystemMarks}, mus_marks.{specs.{Staff.{staff_marks}, System.drawn_staves, Tilt.{IsTilted, tilted_staff}}, proofs.Lines.covers}}
 use Rattle.{lay_pages.specs.Stacking.{AreGoodStaves, AreStacked}, set_pages.specs.Clear.{AreUnder, LieBetween}}
 
 -- the staves that are called for cover their lines
-staff_covers : (keys : List ColumnKey) (lengths : List ℕ) (a b : ℕ) (voices : List DrawnVoice) → CoversLines (staff_marks keys lengths a b voices)
-unfolding staff_marks
-staff_covers keys lengths a b voices = covers _
-
 called_good : (keys : List ColumnKey) (lengths : List ℕ) (at : List ℤ) (a b : ℕ) (staves : List (List DrawnVoice)) → AreGoodStaves (map (tilted_staff keys lengths at a b) staves)
+unfolding staff_marks
 called_good keys lengths at a b [] = tt
-called_good keys lengths at a b (voices ∷ staves) = (staff_covers keys lengths a b (map (voice_tilted keys at a b) voices), called_good keys lengths at a b staves)
+called_good keys lengths at a b (voices ∷ staves) = (covers _, called_good keys lengths at a b staves)
 
 pub tilted_good : (s : Score) (a b : ℕ) (at : List ℤ) (m : SystemMarks) → IsTilted s (timeline_of s) a b at m → AreGoodStaves m.staves
-tilted_good s a b at m tilted = subst AreGoodStaves (sym tilted.staves) (called_good m.keys (timeline_of s).lengths at a b (drawn_staves s))
+tilted_good s a b at m tilted = rw tilted.staves (called_good m.keys (timeline_of s).lengths at a b (drawn_staves s))
 
 -- a base line between two heights
 pub record IsBetween (low high : ℤ) (base : ℤ) : Type 0 where
@@ -43,8 +40,7 @@ stacked_lie top bottom [] (staff ∷ []) (base ∷ []) good stacked =
       under = λ shift high below above. lie_between shift top bottom high base staff at (omega (arith, ints)) below above;
     }
 stacked_lie top bottom (gap ∷ gaps) (staff ∷ next ∷ staves) (base ∷ bases) good stacked =
-    let l = good.0.0 in let h = good.0.1 in let at = stacked.0 in
-    let more = stacked_lie ((base +ℤ staff.low) -ℤ pos gap) bottom gaps (next ∷ staves) bases good.1 stacked.1 in
+    let l = good.0.0 in let h = good.0.1 in let at = stacked.0 in let more = stacked_lie ((base +ℤ staff.low) -ℤ pos gap) bottom gaps (next ∷ staves) bases good.1 stacked.1 in
     let under = more.low in record {
       low = omega (arith, ints);
       count = ap suc more.count;

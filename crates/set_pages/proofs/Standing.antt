@@ -1,19 +1,16 @@
 -- Blocks that fill pages: their pages rise by one at most, their tops lie on the page, and there is a drawing for each.
-use Rattle.std.{proofs.{Common.{◌≡◌, refl, ap, ◌∙◌, inl, inr, ℕ, suc, ◌+◌, ◌^◌, ◌≤◌, ℤ, pos, ◌-ℤ◌, ◌≤ℤ◌, Bool, List, [], ◌∷◌, ◌++◌, length, Option, Some, None, arith}, lemmas.{Int.ints, List.{length-append, Elements.{All-head, All-tail}}}}, specs.{Prelude.{◌⊎◌, All, Result, Ok, Err}, List.AllZip}}
+use Rattle.std.{proofs.{Common.{◌≡◌, refl, ap, inl, inr, ℕ, suc, ◌+◌, ◌^◌, ◌≤◌, ℤ, pos, ◌-ℤ◌, ◌≤ℤ◌, Bool, List, [], ◌∷◌, ◌++◌, length, Option, Some, None, arith}, lemmas.{Int.ints, List.{length-append, length-map, Elements.{All-head, All-tail}}}}, specs.{Prelude.{All, Result, Ok, Err}, List.AllZip}}
 use Rattle.{abc_lines.specs.declared.fault.Fault.{Fault}, mus_laid.specs.declared.laid.SystemMarks.{SystemMarks}, lay_springs.specs.declared.margin.Placed.{Placed}}
-use Rattle.lay_pages.specs.{declared.{filling.{Block.Block, Spot.Spot}, stacking.Heights.Heights, titles.TitleRow.TitleRow}, Even.{AreStacked, ComeBehind, ComesBehind, same_page, next_page}, Filling.{AreGoodBlocks, AreWithin}}
-use Rattle.{set_tune.specs.{declared.tune.SetTune.SetTune, Blocks.{blocks_of, is_some_list, system_blocks, title_blocks}}, set_book.specs.declared.outcome.Outcome.{Outcome}, set_staves.specs.Drawn.{IsTop}}
+use Rattle.lay_pages.specs.{declared.{filling.{Block.Block, Spot.Spot}, stacking.Heights.Heights, titles.TitleRow.TitleRow}, Even.{AreStacked, ComeBehind, same_page, next_page}, Filling.{AreGoodBlocks, AreWithin}}
+use Rattle.{set_tune.specs.{declared.tune.SetTune.SetTune, Blocks.{blocks_of, is_some_list, title_blocks}}, set_book.specs.declared.outcome.Outcome.{Outcome}, set_staves.specs.Drawn.{IsTop}}
 use Rattle.set_pages.specs.{Drawings.{Content, Drawing, all_blocks, all_drawings, drawings_from, result_blocks, result_drawings, system_contents, systems_of, title_contents}, Ready.{AreRising, AreRisingFrom, HasAllRows, IsReady, IsReadyOn, IsWhole, IsWholeResult}}
 
 -- pages rise by one at most
-comes_page : (high : ℕ) (block : Block) (spot next : Spot) → ComesBehind high block spot next → (next.page ≡ spot.page) ⊎ (next.page ≡ suc spot.page)
-comes_page high block spot next (same_page page top) = inl page
-comes_page high block spot next (next_page keep page top) = inr page
-
-rising_from : (high : ℕ) (block : Block) (blocks : List Block) (spot : Spot) (spots : List Spot) → AreWithin high (block ∷ blocks) (spot ∷ spots) → ComeBehind high (block ∷ blocks) (spot ∷ spots) → AreRisingFrom spot.page spots
+rising_from : (high : ℕ) (block : Block) (blocks : List Block) (spot : Spot) (spots : List Spot) → AreWithin high (block ∷ blocks) (spot ∷ spots) → ComeBehind high (block ∷ blocks) (spot ∷ spots)
+    → AreRisingFrom spot.page spots
 rising_from high block blocks spot [] within come = tt
 rising_from high block [] spot (next ∷ spots) within come = absurd within.1
-rising_from high block (more ∷ blocks) spot (next ∷ spots) within come = (comes_page high block spot next come.0, rising_from high more blocks next spots within.1 come.1)
+rising_from high block (more ∷ blocks) spot (next ∷ spots) within come = (elim come.0 [ same_page page top ↦ inl page | next_page keep page top ↦ inr page ], rising_from high more blocks next spots within.1 come.1)
 
 pub rising : (high : ℕ) (blocks : List Block) (spots : List Spot) → AreWithin high blocks spots → AreStacked high blocks spots → AreRising spots
 rising high blocks [] within stacked = tt
@@ -39,22 +36,8 @@ titles_count : (rows : List TitleRow) (height : ℕ) (keep : Bool) → length (t
 titles_count [] height keep = refl
 titles_count (row ∷ rows) height keep = refl
 
-blocks_count : (heights : List Heights) → length (system_blocks heights) ≡ length heights
-blocks_count [] = refl
-blocks_count (h ∷ heights) = ap suc (blocks_count heights)
-
-tune_count : (t : SetTune) → HasAllRows t → length (title_contents t.title.rows ++ systems_of t) ≡ length (title_blocks t.title.rows t.title.height (is_some_list t.heights) ++ system_blocks t.heights)
-tune_count t whole =
-    let a = titles_count t.title.rows t.title.height (is_some_list t.heights) in
-    let b = systems_count t.systems t.placed t.heights whole.placed whole.heights in
-    let c = blocks_count t.heights in
-    let d = whole.heights in
-    simp length-append (omega arith)
-
 pub tune_drawings_count : (ordinal : ℕ) (t : SetTune) → HasAllRows t → length (drawings_from (Some ordinal) (title_contents t.title.rows ++ systems_of t)) ≡ length (title_contents t.title.rows) + length t.systems
-tune_drawings_count ordinal t whole =
-    drawings_count (Some ordinal) (title_contents t.title.rows ++ systems_of t) ∙ length-append (title_contents t.title.rows) (systems_of t)
-    ∙ ap (λ n. length (title_contents t.title.rows) + n) (systems_count t.systems t.placed t.heights whole.placed whole.heights)
+tune_drawings_count ordinal t whole = simp (drawings_count, length-append, systems_count t.systems t.placed t.heights whole.placed whole.heights)
 
 pub good_append : (xs ys : List Block) → AreGoodBlocks xs → AreGoodBlocks ys → AreGoodBlocks (xs ++ ys)
 good_append [] ys front back = back
@@ -62,24 +45,20 @@ good_append (x ∷ xs) ys front back = (front.0, good_append xs ys front.1 back)
 
 pub result_count : (ordinal : ℕ) (r : Result SetTune Fault) → IsWholeResult r → length (result_drawings ordinal r) ≡ length (result_blocks r)
 unfolding blocks_of
-result_count ordinal (Ok t) whole = drawings_count (Some ordinal) (title_contents t.title.rows ++ systems_of t) ∙ tune_count t whole
+result_count ordinal (Ok t) whole =
+    let systems = systems_count t.systems t.placed t.heights whole.placed whole.heights in
+    simp (drawings_count, length-append, length-map, titles_count t.title.rows t.title.height (is_some_list t.heights), systems, whole.heights)
 result_count ordinal (Err fault) whole = refl
 
 pub all_count : (outcomes : List Outcome) → All IsWhole outcomes → length (all_drawings outcomes) ≡ length (all_blocks outcomes)
 all_count [] whole = refl
-all_count (o ∷ outcomes) whole =
-    let here = result_count o.ordinal o.result (All-head IsWhole o outcomes whole) in
-    let more = all_count outcomes (All-tail IsWhole o outcomes whole) in
-    simp length-append (omega arith)
+all_count (o ∷ outcomes) whole = let here = result_count o.ordinal o.result (All-head IsWhole o outcomes whole) in let more = all_count outcomes (All-tail IsWhole o outcomes whole) in simp length-append (omega arith)
 
 -- drawings that are ready wherever their blocks lie on a page are ready at their spots
-ready_here : (high : ℕ) (d : Drawing) (block : Block) (spot : Spot) → high ≤ 2 ^ 39 → pos 0 ≤ℤ block.height → spot.top ≤ℤ pos high → pos 0 ≤ℤ (spot.top -ℤ block.height) → IsReadyOn d block → IsReady d spot
-ready_here high d block spot small good below above on = on spot.top (top_within high block.height spot.top good below above small) above
-
 pub ready_at : (high : ℕ) (ds : List Drawing) (blocks : List Block) (spots : List Spot) → high ≤ 2 ^ 39 → AreGoodBlocks blocks → AllZip IsReadyOn ds blocks → AreWithin high blocks spots → AllZip IsReady ds spots
 ready_at high [] [] [] small good on within = tt
 ready_at high [] [] (spot ∷ spots) small good on within = absurd within
 ready_at high (d ∷ ds) (block ∷ blocks) [] small good on within = absurd within
 ready_at high (d ∷ ds) (block ∷ blocks) (spot ∷ spots) small good on within =
-    (ready_here high d block spot small good.0.0 within.0.0 within.0.1 on.0, ready_at high ds blocks spots small good.1 on.1 within.1)
+    (on.0 spot.top (top_within high block.height spot.top good.0.0 within.0.0 within.0.1 small) within.0.1, ready_at high ds blocks spots small good.1 on.1 within.1)
 ready_at high ds blocks spots small good on within = absurd on

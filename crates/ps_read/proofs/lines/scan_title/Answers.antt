@@ -10,8 +10,7 @@ pub returns-in_default-strip : goal.returns-in_default-strip
 returns-in_default-strip c x y size words good e =
     let more = numbers (title_numbers x y) ++ size_name size in
     let s = after_prefix (codes "(") c.args.raw.now c.in-Some.shown.now (flat_map shown words ++ (41 ∷ (32 ∷ more))) c.in-Some.ensures (e ∙ title_form x y size words) in
-    let t = c.in_ok-text.ensures words (32 ∷ more) good.good.shown s in
-    absurd (c.in_default-strip.ensures more t.1)
+    let t = c.in_ok-text.ensures words (32 ∷ more) good.good.shown s in absurd (c.in_default-strip.ensures more t.1)
 
 pub returns : goal.returns
 returns c x y size words good e =
@@ -19,6 +18,5 @@ returns c x y size words good e =
     let s = after_prefix (codes "(") c.args.raw.now c.in-Some.shown.now (flat_map shown words ++ (41 ∷ (32 ∷ more))) c.in-Some.ensures (e ∙ title_form x y size words) in
     let t = c.in_ok-text.ensures words (32 ∷ more) good.good.shown s in
     let n = after_prefix (codes ") ") c.in_ok-text.rest.now c.in-Some-strip.numbers.now more c.in-Some-strip.ensures t.1 in
-    let z = small_number 0 (lit≤ tt) in
-    let k = c.in_ok-zs.ensures (title_numbers x y) (size_name size) (z, (z, (good.across, (good.base, tt)))) (size_is_field size) n in
+    let z = small_number 0 (lit≤ tt) in let k = c.in_ok-zs.ensures (title_numbers x y) (size_name size) (z, (z, (good.across, (good.base, tt)))) (size_is_field size) n in
     c.title_of.ensures x y size (c.as_slice.ensures ∙ k.0) k.1 ∙ ap (λ words. Some (title_of x y size words)) t.0

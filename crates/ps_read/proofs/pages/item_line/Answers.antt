@@ -10,8 +10,7 @@ returns-in-Some-eq0 c = none_tune_zero c.args.page c.args.raw.now (c.in-Some-eq0
 
 pub returns-in_ok-page-in-Some : goal.returns-in_ok-page-in-Some
 returns-in_ok-page-in-Some c =
-    let k = c.in-Some.ensures in let t = c.in-Some.ordinal-test in
-    on_tune c.args.page c.args.raw.now c.in-Some.ordinal c.in_ok-page-in-Some.page k.0 k.1 (omega (arith, t)) c.in_ok-page-in-Some.ensures
+    let k = c.in-Some.ensures in let t = c.in-Some.ordinal-test in on_tune c.args.page c.args.raw.now c.in-Some.ordinal c.in_ok-page-in-Some.page k.0 k.1 (omega (arith, t)) c.in_ok-page-in-Some.ensures
 
 pub returns-in-None : goal.returns-in-None
 returns-in-None c = from_system c.args.page c.args.raw.now c.system_line.result (λ e. true≢false (sym (c.is_text.ensures.1 e) ∙ c.if-is_text.false))

@@ -1,5 +1,5 @@
-use Rattle.std.proofs.Common.{◌==◌, ◌∷◌, length, ap, sym, ◌∙◌, subst, arith, length-append, true≢false}
-use Rattle.ps_read.{specs.Steps.IsStep, proofs.Walked.IsReading, proofs.Walked.first_fault, proofs.Walked.stuck_at_line, proofs.Walked.stuck_at_end, proofs.Walked.reading_more, proofs.Walked.read_all, proofs.Walked.no_length}
+use Rattle.std.proofs.{Common.{◌==◌, ◌∷◌, length, ap, sym, ◌∙◌, subst, arith, length-append, true≢false, eqb-true}, lemmas.List.nil_from_length}
+use Rattle.ps_read.{specs.Steps.IsStep, proofs.Walked.IsReading, proofs.Walked.first_fault, proofs.Walked.stuck_at_line, proofs.Walked.stuck_at_end, proofs.Walked.reading_more, proofs.Walked.read_all}
 use Rattle.ps_read.proofs.reading.read_document.Goals as goal
 
 pub returns-in_default-2-clause-cause : goal.returns-in_default-2-clause-cause
@@ -28,7 +28,7 @@ pub returns-in-Ended-clause-sheet : goal.returns-in-Ended-clause-sheet
 returns-in-Ended-clause-sheet c =
     let l = c.loop-raw in
     read_all c.args.b.now c.in-Ended.sheet l.rest.now l.line (subst (λ p. IsReading c.args.b.now p l.rest.now l.line) c.in-Ended.is l.invariant.reading)
-    (no_length l.rest.now (sym c.is_empty.ensures ∙ c.if-not-is_empty.false))
+    (nil_from_length l.rest.now (eqb-true (length l.rest.now) 0 (sym c.is_empty.ensures ∙ c.if-not-is_empty.false)))
 
 pub returns : goal.returns
 returns c =

@@ -1,35 +1,23 @@
-use Rattle.std.proofs.Common.{◌<◌, ◌+◌, ◌∙◌, length, drop, take, arith, ap}
-use Rattle.set_pages.{specs.Drawings.outcome_drawings, proofs.Stepping.{IsSplit, cut_at, outcome_count, outcome_drawn, outcome_ready, outcome_value}}
+use Rattle.std.proofs.Common.{arith}
+use Rattle.set_pages.proofs.Stepping.{outcome_count, outcome_drawn, outcome_ready, outcome_value}
 use Rattle.set_pages.proofs.drawing.put_outcomes.Goals as goal
 
 pub split_at-requires : goal.split_at-requires
 split_at-requires c =
-    let inside : c.loop-outcome.outcome-index < length c.args.outcomes.now = omega arith in
-    let next = cut_at c.args.outcomes.now c.loop-outcome.outcome-index c.outcome-item.result inside c.outcome-item.is in
-    let count = outcome_count c.outcome-item.result (drop (c.loop-outcome.outcome-index + 1) c.args.outcomes.now) _ c.loop-outcome.rest.now next c.loop-outcome.invariant.ready in
-    let blocks = c.block_count.ensures in
-    omega (arith, count, blocks)
+    let count = outcome_count c.outcome-item.result c.args.outcomes.now c.loop-outcome.outcome-index c.loop-outcome.rest.now (omega arith) c.outcome-item.is c.loop-outcome.invariant.ready in
+    omega (arith, count, c.block_count.ensures)
 
 pub put_outcome-requires-clause-ready : goal.put_outcome-requires-clause-ready
 put_outcome-requires-clause-ready c =
-    let inside : c.loop-outcome.outcome-index < length c.args.outcomes.now = omega arith in
-    let next = cut_at c.args.outcomes.now c.loop-outcome.outcome-index c.outcome-item.result inside c.outcome-item.is in
-    let split : IsSplit (length (outcome_drawings c.outcome-item.result)) c.loop-outcome.rest.now c.split_at.result.0.now c.split_at.result.1.now = record {
-      front = c.split_at.ensures.front ∙ ap (λ n. take n c.loop-outcome.rest.now) c.block_count.ensures;
-      back = c.split_at.ensures.back ∙ ap (λ n. drop n c.loop-outcome.rest.now) c.block_count.ensures;
-    } in
-    (outcome_ready c.outcome-item.result (drop (c.loop-outcome.outcome-index + 1) c.args.outcomes.now) _ c.loop-outcome.rest.now _ _ next split c.loop-outcome.invariant.ready).0
+    (outcome_ready c.outcome-item.result c.args.outcomes.now c.loop-outcome.outcome-index c.loop-outcome.rest.now (omega arith) c.outcome-item.is c.block_count.result _ _ c.block_count.ensures
+    c.split_at.ensures.front c.split_at.ensures.back c.loop-outcome.invariant.ready).0
 
 pub loop-outcome-preserved : goal.loop-outcome-preserved
 loop-outcome-preserved c =
-    let inside : c.loop-outcome.outcome-index < length c.args.outcomes.now = omega arith in
-    let next = cut_at c.args.outcomes.now c.loop-outcome.outcome-index c.outcome-item.result inside c.outcome-item.is in
-    let split : IsSplit (length (outcome_drawings c.outcome-item.result)) c.loop-outcome.rest.now c.split_at.result.0.now c.split_at.result.1.now = record {
-      front = c.split_at.ensures.front ∙ ap (λ n. take n c.loop-outcome.rest.now) c.block_count.ensures;
-      back = c.split_at.ensures.back ∙ ap (λ n. drop n c.loop-outcome.rest.now) c.block_count.ensures;
-    } in
-    record {
-      value = outcome_value c.args.width c.outcome-item.result (drop (c.loop-outcome.outcome-index + 1) c.args.outcomes.now) (drop c.loop-outcome.outcome-index c.args.outcomes.now) c.loop-outcome.rest.now c.split_at.result.0.now c.split_at.result.1.now c.loop-outcome.pages c.put_outcome.new.pages _ next split c.loop-outcome.invariant.ready c.in_ok-put_outcome.ensures.value c.loop-outcome.invariant.value;
-      ready = (outcome_ready c.outcome-item.result (drop (c.loop-outcome.outcome-index + 1) c.args.outcomes.now) (drop c.loop-outcome.outcome-index c.args.outcomes.now) c.loop-outcome.rest.now c.split_at.result.0.now c.split_at.result.1.now next split c.loop-outcome.invariant.ready).1;
-      good = outcome_drawn c.args.width c.outcome-item.result (drop (c.loop-outcome.outcome-index + 1) c.args.outcomes.now) (drop c.loop-outcome.outcome-index c.args.outcomes.now) c.loop-outcome.rest.now c.split_at.result.0.now c.split_at.result.1.now _ next split c.in_ok-put_outcome.ensures.good c.loop-outcome.invariant.good;
+    let o = c.outcome-item.result in let all = c.args.outcomes.now in let i = c.loop-outcome.outcome-index in let rest = c.loop-outcome.rest.now in let n = c.block_count.result in
+    let here = c.split_at.result.0.now in let more = c.split_at.result.1.now in let front = c.split_at.ensures.front in let back = c.split_at.ensures.back in let so_far = c.loop-outcome.invariant in record {
+      value = outcome_value o all i rest (omega arith) c.outcome-item.is n here more c.block_count.ensures front back c.args.width c.loop-outcome.pages c.put_outcome.new.pages _ so_far.ready
+          c.in_ok-put_outcome.ensures.value so_far.value;
+      ready = (outcome_ready o all i rest (omega arith) c.outcome-item.is n here more c.block_count.ensures front back so_far.ready).1;
+      good = outcome_drawn o all i rest (omega arith) c.outcome-item.is n here more c.block_count.ensures front back c.args.width _ c.in_ok-put_outcome.ensures.good so_far.good;
     }
