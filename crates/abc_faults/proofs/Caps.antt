@@ -7,9 +7,9 @@ pub capped_append : (xs ys : List Weight) → map capped (xs ++ ys) ≡ map capp
 capped_append xs ys = map-append capped xs ys
 
 -- a count with caps, and the whole count: the same where it is not too many
-record IsCapped (few all : ℕ) : Type 0 where
-  below : few ≤ all
-  same : few ≤ 50000 → few ≡ all
+pub record IsCapped (few all : ℕ) : Type 0 where
+  pub below : few ≤ all
+  pub same : few ≤ 50000 → few ≡ all
 
 both : (a b x y m n : ℕ) → IsCapped a b → IsCapped x y → m ≡ a + x → n ≡ b + y → IsCapped m n
 both a b x y m n h i e f = record { below = omega (arith, e, f, h.below, i.below); same = λ few. omega (arith, e, f, h.same (omega arith), i.same (omega arith)) }
@@ -21,7 +21,7 @@ count_capped w v = by_test (stands_before w v) where
   by_test true = record { below = omega arith; same = λ few. refl }
   by_test false = record { below = omega arith; same = λ few. omega arith }
 
-crowd_capped : (ws : List Weight) (w : Weight) → IsCapped (crowd_up_to (map capped ws) (capped w)) (crowd_up_to ws w)
+pub crowd_capped : (ws : List Weight) (w : Weight) → IsCapped (crowd_up_to (map capped ws) (capped w)) (crowd_up_to ws w)
 crowd_capped [] w = record { below = omega arith; same = λ few. refl }
 crowd_capped (v ∷ ws) w =
     let few = sum_by-cons (count_up_to (capped w)) (capped v) (map capped ws) in

@@ -75,9 +75,7 @@ earlier_first s t (Some f) None h i = let P : List Fault → Type 0 = λ z. IsLe
 earlier_first s t (Some f) (Some g) h i = of_two s t f g (is_before g f) refl h i
 
 alone : (f : Fault) → IsLeast (f ∷ []) f
-alone f =
-    let P : Fault → Type 0 = λ g. is_before g f ≡ false in
-    record { held = (0, omega arith, refl); least = λ g in'. All-contains P (f ∷ []) g (All-cons P f [] (not_before_itself f) (All-nil P)) in' }
+alone f = let P : Fault → Type 0 = λ g. is_before g f ≡ false in record { held = (0, omega arith, refl); least = λ g in'. All-contains P (f ∷ []) g (All-cons P f [] (not_before_itself f) (All-nil P)) in' }
 
 pub first_is : (fs : List Fault) → IsFirst fs (first_of fs)
 first_is [] = refl
@@ -91,7 +89,4 @@ found_more own rest whole found mine next all parts is_mine is_next h =
 
 -- the earlier of two, by the test of the code
 pub joined : (s t : List Fault) (a b : Option Fault) (f g : Fault) (x : Bool) → a ≡ Some f → b ≡ Some g → is_before g f ≡ x → IsFirst s a → IsFirst t b → IsFirst (s ++ t) (cond x (Some g) (Some f))
-joined s t a b f g x is_f is_g test h i =
-    let left : IsFirst s (Some f) = subst (IsFirst s) is_f h in
-    let right : IsFirst t (Some g) = subst (IsFirst t) is_g i in
-    of_two s t f g x test left right
+joined s t a b f g x is_f is_g test h i = let left : IsFirst s (Some f) = subst (IsFirst s) is_f h in let right : IsFirst t (Some g) = subst (IsFirst t) is_g i in of_two s t f g x test left right

@@ -18,5 +18,4 @@ from_places (w ∷ ws) h = (
 
 pub order_from_sorted : (ws : List Weight) → IsSorted ghosts.cmp ws → AreInOrder ws
 order_from_sorted ws h =
-    let lt : Weight → Weight → Bool = λ v w. is_lt (ghosts.cmp v w) in
-    from_places ws (λ i j d le less. less_before (get_or ws j d) (get_or ws i d) (sorted_far lt (ranks_by total-law (λ w. w)) ws h i j d le less))
+    let lt : Weight → Weight → Bool = λ v w. is_lt (ghosts.cmp v w) in from_places ws (λ i j d le less. less_before (get_or ws j d) (get_or ws i d) (sorted_far lt (ranks_by total-law (λ w. w)) ws h i j d le less))

@@ -10,16 +10,13 @@ one_if is = cond is 1 0
 
 goes_on : (s : Stood) (rest : Steps) → ends_tuplets s.step ≡ false → sounds (s ∷ rest) ≡ one_if (is_sound s.step) + sounds rest
 goes_on s rest e =
-    let passes : Stood → Bool = λ x. not (ends_tuplets x.step) in
-    let count : Steps → ℕ = count_by (λ x. is_sound x.step) in
+    let passes : Stood → Bool = λ x. not (ends_tuplets x.step) in let count : Steps → ℕ = count_by (λ x. is_sound x.step) in
     let first : take_while passes (s ∷ rest) ≡ cond (not (ends_tuplets s.step)) (s ∷ take_while passes rest) [] = take_while-cons passes s rest in
     let kept : take_while passes (s ∷ rest) ≡ s ∷ take_while passes rest = first ∙ ap (λ b. cond (not b) (s ∷ take_while passes rest) []) e in
     ap count kept ∙ sum_by-cons (λ x. one_if (is_sound x.step)) s (take_while passes rest)
 
 pub sounds_more : (behind : Steps) (i : ℕ) (s : Stood) → i < length behind → s ≡ get_or behind i s → ends_tuplets s.step ≡ false → sounds (drop i behind) ≡ one_if (is_sound s.step) + sounds (drop (i + 1) behind)
-sounds_more behind i s less is e =
-    let there : drop i behind ≡ s ∷ drop (i + 1) behind = drop_more behind i s less ∙ ap (λ x. x ∷ drop (i + 1) behind) (cc) in
-    ap sounds there ∙ goes_on s (drop (i + 1) behind) e
+sounds_more behind i s less is e = let there : drop i behind ≡ s ∷ drop (i + 1) behind = drop_more behind i s less ∙ ap (λ x. x ∷ drop (i + 1) behind) (cc) in ap sounds there ∙ goes_on s (drop (i + 1) behind) e
 
 pub step_on : (behind : Steps) (i left next : ℕ) (s : Stood) (short : Bool) → i < length behind → s ≡ get_or behind i s → ends_tuplets s.step ≡ false → next + one_if (is_sound s.step) ≡ left
     → nat_lt (sounds (drop i behind)) left ≡ short → nat_lt (sounds (drop (i + 1) behind)) next ≡ short

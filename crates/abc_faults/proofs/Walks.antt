@@ -15,16 +15,14 @@ grace_parts clef waits i s less is = ap (grace_faults clef) (at_front waits i s 
 pub walk_parts : (first : InForce) (steps : Steps) (i : ℕ) (at : Stood) → i < length steps → at ≡ get_or steps i at → faults_in first (reverse (take i steps)) (drop i steps)
     ≡ faults_of (place_at first (reverse (take i steps))) (reverse (take i steps)) at (drop (i + 1) steps) at.step ++ faults_in first (reverse (take (i + 1) steps)) (drop (i + 1) steps)
 walk_parts first steps i at less is =
-    let before = reverse (take i steps) in
-    let behind = drop (i + 1) steps in
+    let before = reverse (take i steps) in let behind = drop (i + 1) steps in
     ap (faults_in first before) (at_front steps i at less is)
     ∙ ap (λ z. faults_of (place_at first before) before at behind at.step ++ faults_in first z behind) (sym (nearest steps i at less is))
 
 pub weigh_parts : (first : InForce) (steps : Steps) (i : ℕ) (at : Stood) → i < length steps → at ≡ get_or steps i at → weights_in first (reverse (take i steps)) (drop i steps)
     ≡ weights_of (place_at first (reverse (take i steps))) (reverse (take i steps)) at (drop (i + 1) steps) at.step ++ weights_in first (reverse (take (i + 1) steps)) (drop (i + 1) steps)
 weigh_parts first steps i at less is =
-    let before = reverse (take i steps) in
-    let behind = drop (i + 1) steps in
+    let before = reverse (take i steps) in let behind = drop (i + 1) steps in
     ap (weights_in first before) (at_front steps i at less is)
     ∙ ap (λ z. weights_of (place_at first before) before at behind at.step ++ weights_in first z behind) (sym (nearest steps i at less is))
 

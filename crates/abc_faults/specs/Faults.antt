@@ -65,9 +65,7 @@ sound_faults_if undrawable now at s =
     ++ fault_if (is_past (measure_of now)) FaultKind.TooManyMeasures at
 
 unfoldable pub sound_faults : Place → Steps → Stood → Sound → Steps → List Fault
-sound_faults now before at s behind =
-    let length = written_length now.force.unit s before behind in
-    sound_faults_if (is_none (parts_list length.num length.den)) now at s
+sound_faults now before at s behind = let length = written_length now.force.unit s before behind in sound_faults_if (is_none (parts_list length.num length.den)) now at s
 
 -- whole measure rests, without their graces: the last of them must stand in a good measure too
 abbrev pub rest_faults : Place → Stood → ℕ → List Fault

@@ -18,9 +18,7 @@ count_parts (Some values) = length values
 
 -- the heads of a note or a chord, or the one rest, times its parts
 unfoldable pub sound_count : Place → Steps → Sound → Steps → ℕ
-sound_count now before s behind =
-    let whole = written_length now.force.unit s before behind in
-    max 1 (length s.heads) * count_parts (parts_list whole.num whole.den)
+sound_count now before s behind = let whole = written_length now.force.unit s before behind in max 1 (length s.heads) * count_parts (parts_list whole.num whole.den)
 
 abbrev pub grace_count : List GraceChord → ℕ
 grace_count body = sum_by (λ chord. length chord.heads) body

@@ -16,9 +16,7 @@ core f = (f.event, f.graces)
 -- ---- what a good voice asks, of events with their graces
 abbrev pub CoresReach : Clef → List Core → Type 0
 CoresReach before [] = ⊤
-CoresReach before (c ∷ cs) =
-    let clef = clef_at before c.0 in
-    All (IsInReach clef) c.0.heads × All (λ g. All (IsInReach clef) g.heads) c.1 × CoresReach clef cs
+CoresReach before (c ∷ cs) = let clef = clef_at before c.0 in All (IsInReach clef) c.0.heads × All (λ g. All (IsInReach clef) g.heads) c.1 × CoresReach clef cs
 
 abbrev pub CoresCount : ℕ → List Core → Type 0
 CoresCount n [] = ⊤
@@ -64,8 +62,7 @@ sings_none = record { cores = λ qs ps w e. refl; none = λ qs ps w e. e }
 pub sings_append : (xs ys : List Music) (cs ds : List Core) → Sings xs cs → Sings ys ds → Sings (xs ++ ys) (cs ++ ds)
 sings_append xs ys cs ds a b = record {
   cores = λ qs ps w e.
-      let r = in_row (map leaves_within xs) qs ps w in
-      let s = in_row (map leaves_within ys) qs ps r.waits in
+      let r = in_row (map leaves_within xs) qs ps w in let s = in_row (map leaves_within ys) qs ps r.waits in
       ap (λ (z : List Leafing). map core (in_row z qs ps w).flats) (map-append leaves_within xs ys)
       ∙ ap (map core) (row_flats-append (map leaves_within xs) (map leaves_within ys) qs ps w) ∙ map-append core r.flats s.flats
       ∙ ap (λ z. z ++ map core s.flats) (a.cores qs ps w e) ∙ ap (λ z. cs ++ z) (b.cores qs ps r.waits (a.none qs ps w e));
@@ -97,13 +94,10 @@ forest_sings : (f : Forest) → AllByRecursion IsSung (rows f) → Sings (music_
 forest_sings none_more h = sings_none
 forest_sings (one nodes f) h = sings_append nodes (music_of f) (sung nodes) (flat_map sung (rows f)) h.0 (forest_sings f h.1)
 forest_sings (group p q takes inner f) h =
-    let front = forest_sings inner (front_all IsSung (rows inner) (rows f) h) in
-    let back = forest_sings f (back_all IsSung (rows inner) (rows f) h) in
+    let front = forest_sings inner (front_all IsSung (rows inner) (rows f) h) in let back = forest_sings f (back_all IsSung (rows inner) (rows f) h) in
     subst (Sings (music.Tuplet p q (music_of inner) ∷ music_of f)) (sym (flat_map-append sung (rows inner) (rows f)))
     (sings_append (music.Tuplet p q (music_of inner) ∷ []) (music_of f) (flat_map sung (rows inner)) (flat_map sung (rows f))
     (sings_tuplet p q (music_of inner) (flat_map sung (rows inner)) front) back)
 
 pub tree_sings : (ls : List Leaf) → AllByRecursion IsSung (leaf_rows ls) → map core (flats_of (tree_of ls)) ≡ flat_map sung (leaf_rows ls)
-tree_sings ls h =
-    let sings = forest_sings (nest ls) (subst (AllByRecursion IsSung) (sym (nest_rows ls)) h) in
-    sings.cores 1 1 nothing refl ∙ ap (flat_map sung) (nest_rows ls)
+tree_sings ls h = let sings = forest_sings (nest ls) (subst (AllByRecursion IsSung) (sym (nest_rows ls)) h) in sings.cores 1 1 nothing refl ∙ ap (flat_map sung) (nest_rows ls)

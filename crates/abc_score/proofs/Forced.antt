@@ -23,8 +23,7 @@ below_new b top bar new within less = grind (arith, nat_tests)
 with_last : (from n top bar : ℕ) (bs : List ℕ) → list_any (λ b. b == bar) bs ≡ false → from < bar → bar < n → top ≤ bar → Rises from n top bs → Rises from n bar (bs ++ bar ∷ [])
 with_last from n top bar [] new above below less rise = (above, below, omega arith, tt)
 with_last from n top bar (b ∷ bs) new above below less (behind, before, within, rise) =
-    let parts = or_parts (b == bar) (list_any (λ x. x == bar) bs) new in
-    (behind, before, omega (arith, within, less), with_last b n top bar bs parts.1 (below_new b top bar parts.0 within less) below less rise)
+    let parts = or_parts (b == bar) (list_any (λ x. x == bar) bs) new in (behind, before, omega (arith, within, less), with_last b n top bar bs parts.1 (below_new b top bar parts.0 within less) below less rise)
 
 with_bar_rises : (n top bar : ℕ) (bs : List ℕ) → 1 ≤ bar → bar < n → top ≤ bar → Rises 0 n top bs → Rises 0 n bar (with_bar bar bs)
 with_bar_rises n top bar bs some below less rise = by_test (list_any (λ b. b == bar) bs) refl where
@@ -34,19 +33,14 @@ with_bar_rises n top bar bs some below less rise = by_test (list_any (λ b. b ==
 
 inside : (bar n : ℕ) → (nat_le 1 bar && nat_lt bar n) ≡ true → (1 ≤ bar) × (bar < n)
 inside bar n e =
-    let parts = and_parts (nat_le 1 bar) (nat_lt bar n) e in
-    let low : nat_le 1 bar ≡ true = parts.0 in
-    let high : nat_lt bar n ≡ true = parts.1 in
-    (grind (arith, nat_tests, low), grind (arith, nat_tests, high))
+    let parts = and_parts (nat_le 1 bar) (nat_lt bar n) e in let low : nat_le 1 bar ≡ true = parts.0 in let high : nat_lt bar n ≡ true = parts.1 in (grind (arith, nat_tests, low), grind (arith, nat_tests, high))
 
 step_rises : (n : ℕ) (counts : Counts) (s : Step) (bs : List ℕ) → Rises 0 n (counts.groups + counts.further) bs → Rises 0 n (counts.groups + counts.further) (forced_behind n counts s bs)
 unfolding forced_behind
 step_rises n counts Step.Break bs rise = by_test (is_forced n counts) refl where
   by_test : (t : Bool) → is_forced n counts ≡ t → Rises 0 n (counts.groups + counts.further) (cond t (with_bar (counts.groups + counts.further) bs) bs)
   by_test true e =
-      let bar = counts.groups + counts.further in
-      let parts = and_parts (is_near_bar counts.nearest) (nat_le 1 bar && nat_lt bar n) e in
-      let held = inside bar n parts.1 in
+      let bar = counts.groups + counts.further in let parts = and_parts (is_near_bar counts.nearest) (nat_le 1 bar && nat_lt bar n) e in let held = inside bar n parts.1 in
       with_bar_rises n bar bar bs held.0 held.1 (omega arith) rise
   by_test false e = rise
 step_rises n counts _ bs rise = rise

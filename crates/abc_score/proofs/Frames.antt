@@ -8,9 +8,7 @@ use Rattle.abc_score.specs.{declared.voices.VoiceRead.VoiceRead, Voices.{AreApar
 length_written : (unnamed : List ℕ) (items : List Item) (n : ℕ) (v : VoiceRead) → length (written_measures unnamed items n v) ≡ n
 unfolding written_measures
 length_written unnamed items n v =
-    let all = signs v.first [] v.steps in
-    let leaves = leaves_of (sung_words v.start.id unnamed items all) all in
-    let bars = bars_of v.steps n in
+    let all = signs v.first [] v.steps in let leaves = leaves_of (sung_words v.start.id unnamed items all) all in let bars = bars_of v.steps n in
     length-map-range_with_len (measure_of leaves bars) 0 (length bars) ∙ length-map-range_with_len (bar_of v.steps) 0 n
 
 pub length_voice : (header : Header) (items : List Item) (n : ℕ) (v : VoiceRead) → length (voice_of header items n v).measures ≡ n

@@ -128,9 +128,7 @@ step_full : (words : List Words) (k : ℕ) (first : InForce) (before behind : St
     → (j id : ℕ) → WellNested (taken_in k (measure_at before) (taking_at before)) (leaves_in k (leaves_from words j id (signs_of (place_at first before) before at behind s ++ rest)))
 unfolding signs_of faults_of begins_group further taking_behind ends_tuplets is_sound
 step_full words k first before behind at (Step.Sound s) rest force goods good e drawn enough h j id =
-    let now = place_at first before in
-    let w = sound_written now before at s behind in
-    let waiting = waiting_of now.force (since_event before) s.decos in
+    let now = place_at first before in let w = sound_written now before at s behind in let waiting = waiting_of now.force (since_event before) s.decos in
     let clear = none_before (sound_faults now before at s behind) (grace_faults now.force.clef (since_event before)) e in
     let same : groups before + (all_further before + 0) ≡ groups before + all_further before = omega arith in
     at_event k w.measure (measure_at before) (groups before + (all_further before + 0)) (taking_at before) (nodes_of w waiting (words_at words j) id)
@@ -139,13 +137,9 @@ step_full words k first before behind at (Step.Sound s) rest force goods good e 
     (sound_some (place_of (taking_at before)) w waiting (words_at words j) id (sound_parts now before behind at s force.unit good clear))
     (h (j + 1) (id + length w.values))
 step_full words k first before behind at (Step.Measures seen count) rest force goods good e drawn enough h j id =
-    let now = place_at first before in
-    let waits = since_event before in
-    let waiting = waiting_of now.force waits [] in
-    let w = rest_written now at seen (measure_of now) (parted_at now waits) in
+    let now = place_at first before in let waits = since_event before in let waiting = waiting_of now.force waits [] in let w = rest_written now at seen (measure_of now) (parted_at now waits) in
     let held = rest_clear now at count (none_before (rest_faults now at count) (grace_faults now.force.clef waits) e) in
-    let more = further_rests now at seen (measure_of now + 1) (count - 1) ++ rest in
-    let ls = leaves_in k (leaves_from words (j + 1) (id + length w.values) more) in
+    let more = further_rests now at seen (measure_of now + 1) (count - 1) ++ rest in let ls = leaves_in k (leaves_from words (j + 1) (id + length w.values) more) in
     from_nothing k (measure_at before) (taking_at before) (cond (w.measure == k) (Leaf.Event w.measure (nodes_of w waiting (words_at words j) id) ∷ ls) ls) (none_open (taking_at before) enough)
     (at_rest k w.measure (nodes_of w waiting (words_at words j) id) ls
     (rest_good now at seen (measure_of now) (parted_at now waits) waiting (words_at words j) id held force.meter (waiting_graces now.force before [] goods))
@@ -156,14 +150,9 @@ step_full words k first before behind at (Step.Bar bar) rest force goods good e 
     from_nothing k (measure_at before) (taking_at before) (leaves_in k (leaves_from words j id rest)) (none_open (taking_at before) enough)
     (to_nothing k _ (leaves_in k (leaves_from words j id rest)) (h j id))
 step_full words k first before behind at (Step.Tuplet p q r) rest force goods good e drawn enough h j id =
-    let now = place_at first before in
-    let wanted = or_default (usual_q p now.force.meter) q in
-    let takes = or_default p r in
-    let clear = tuplet_clear takes now.taking at behind e in
-    let usual = usual_some p now.force.meter in
-    let low : 1 ≤ wanted = default_low (usual_q p now.force.meter) q usual.0 in
-    let high : wanted ≤ 9 = default_high (usual_q p now.force.meter) q usual.1 good.q_high in
-    let same : groups before + (all_further before + 0) ≡ groups before + all_further before = omega arith in
+    let now = place_at first before in let wanted = or_default (usual_q p now.force.meter) q in let takes = or_default p r in let clear = tuplet_clear takes now.taking at behind e in
+    let usual = usual_some p now.force.meter in let low : 1 ≤ wanted = default_low (usual_q p now.force.meter) q usual.0 in
+    let high : wanted ≤ 9 = default_high (usual_q p now.force.meter) q usual.1 good.q_high in let same : groups before + (all_further before + 0) ≡ groups before + all_further before = omega arith in
     subst (λ b. WellNested (taken_in k (measure_at before) (taking_at before)) (leaves_in k (leaves_from words j id (cond b (Sign.Opens (measure_of now) p wanted takes ∷ []) [] ++ rest)))) (sym clear.0)
     (at_tuplet k (measure_at before) (groups before + (all_further before + 0)) (taking_at before) p wanted takes (leaves_in k (leaves_from words j id rest)) same clear.0
     (default_some p r good.p_low) (record { p_low = good.p_low; p_high = good.p_high; q_low = low; q_high = high }) (h j id))
@@ -179,16 +168,10 @@ sounds_none = refl
 walk_full : (words : List Words) (k : ℕ) (first : InForce) (before behind : Steps) → IsGoodForce first → AllByRecursion IsGoodStood before → AllByRecursion IsGoodStood behind → faults_in first before behind ≡ []
     → AllByRecursion IsDrawn (signs first before behind) → Enough (taking_at before) (sounds_behind behind)
     → (j id : ℕ) → WellNested (taken_in k (measure_at before) (taking_at before)) (leaves_in k (leaves_from words j id (signs first before behind)))
-walk_full words k first before [] force good goods e drawn enough j id =
-    from_nothing k (measure_at before) (taking_at before) [] (none_open (taking_at before) (subst (Enough (taking_at before)) sounds_none enough)) refl
+walk_full words k first before [] force good goods e drawn enough j id = from_nothing k (measure_at before) (taking_at before) [] (none_open (taking_at before) (subst (Enough (taking_at before)) sounds_none enough)) refl
 walk_full words k first before (at ∷ behind) force good goods e drawn enough j id =
-    let now = place_at first before in
-    let here = faults_of now before at behind at.step in
-    let later = faults_in first (at ∷ before) behind in
-    let own = signs_of now before at behind at.step in
-    let others = signs first (at ∷ before) behind in
-    let suffices = subst (Enough (taking_at before)) (sounds_on at behind) enough in
-    let clear = none_before here later e in
+    let now = place_at first before in let here = faults_of now before at behind at.step in let later = faults_in first (at ∷ before) behind in let own = signs_of now before at behind at.step in
+    let others = signs first (at ∷ before) behind in let suffices = subst (Enough (taking_at before)) (sounds_on at behind) enough in let clear = none_before here later e in
     step_full words k first before behind at at.step others (walk_force first before force good) good goods.0 clear (front_all IsDrawn own others drawn) suffices
     (λ j id. walk_full words k first (at ∷ before) behind force (goods.0, good) goods.1 (none_behind here later e) (back_all IsDrawn own others drawn)
     (next_enough now before behind at at.step goods.0 clear suffices) j id) j id

@@ -1,5 +1,5 @@
 -- The voices of a body: no two have one id, and at most 16 are mentioned.
-use Rattle.std.{proofs.{Common.{◌≡◌, ◌∙◌, refl, sym, ap, subst, ℕ, ◌+◌, ◌≤◌, List, [], ◌∷◌, ◌++◌, length, map, Bool, true, false, cond, None, arith}, lemmas.{Bool.{Decides.{nat_tests, not_from_Decides}, or_parts}, List.{Sums.sum_by-cons, length-map}, Slice.Eq.bytes_eq-Decides}}, specs.{Prelude.{◌≢◌, count_by, fold, nat_lt}, List.list_any, Str.bytes_eq}}
+use Rattle.std.{proofs.{Common.{◌≡◌, refl, sym, ap, subst, ℕ, ◌+◌, ◌≤◌, List, [], ◌∷◌, ◌++◌, length, map, Bool, true, false, cond, None, arith}, lemmas.{Bool.{Decides.{nat_tests, not_from_Decides}, or_parts}, List.{Sums.sum_by-cons, length-map}, Slice.Eq.bytes_eq-Decides}}, specs.{Prelude.{◌≢◌, count_by, fold, nat_lt}, List.list_any, Str.bytes_eq}}
 use Rattle.{abc_lines.specs.declared.book.Line.{Line}, abc_header.specs.{declared.header.Header.Header, Headers.AreDistinct, Headers.HasGoodValues, Voicing.with_id}, abc_fields.specs.declared.voice.VoiceDef.{VoiceDef}}
 use Rattle.{abc_steps.specs.declared.step.Item.{Item}, abc_items.specs.{Voices.{claims, declared_ids, ids_after, ids_by_step, ids_of, start_of, starts_of}, Body.{Given, gives, fails, first_fault, items_in, judged, voice_judged, IsBody}}}
 use Rattle.abc_score.specs.Voices.{AreApart, IsOther, read_ids, voice_read, voices_read}
@@ -14,8 +14,7 @@ other_last id last (other ∷ ids) new others = (others.0, other_last id last id
 apart_last : (id : List ℕ) (ids : List (List ℕ)) → list_any (bytes_eq id) ids ≡ false → AreApart ids → AreApart (ids ++ id ∷ [])
 apart_last id [] new apart = (tt, tt)
 apart_last id (other ∷ ids) new apart =
-    let parts = or_parts (bytes_eq id other) (list_any (bytes_eq id) ids) new in
-    (other_last other id ids (λ e. differ id other parts.0 (sym e)) apart.0, apart_last id ids parts.1 apart.1)
+    let parts = or_parts (bytes_eq id other) (list_any (bytes_eq id) ids) new in (other_last other id ids (λ e. differ id other parts.0 (sym e)) apart.0, apart_last id ids parts.1 apart.1)
 
 with_apart : (ids : List (List ℕ)) (id : List ℕ) → AreApart ids → AreApart (with_id ids id)
 with_apart ids id apart = by_test (list_any (bytes_eq id) ids) refl where
@@ -39,19 +38,14 @@ declared_apart [] distinct = tt
 declared_apart (def ∷ defs) distinct = (not_counted def.id defs here, declared_apart defs others) where
   here : count_by (λ (d : VoiceDef). bytes_eq def.id d.id) defs ≤ 0
   here =
-      let whole = sum_by-cons (λ (d : VoiceDef). cond (bytes_eq def.id d.id) 1 0) def defs in
-      let itself : bytes_eq def.id def.id ≡ true = (bytes_eq-Decides def.id def.id).1 refl in
-      let once = distinct def.id in
+      let whole = sum_by-cons (λ (d : VoiceDef). cond (bytes_eq def.id d.id) 1 0) def defs in let itself : bytes_eq def.id def.id ≡ true = (bytes_eq-Decides def.id def.id).1 refl in let once = distinct def.id in
       by_test (bytes_eq def.id def.id) itself whole once where
         by_test : (t : Bool) → t ≡ true → count_by (λ (d : VoiceDef). bytes_eq def.id d.id) (def ∷ defs) ≡ cond t 1 0 + count_by (λ (d : VoiceDef). bytes_eq def.id d.id) defs → count_by (λ (d : VoiceDef). bytes_eq def.id d.id) (def ∷ defs) ≤ 1 → count_by (λ (d : VoiceDef). bytes_eq def.id d.id) defs ≤ 0
         by_test true e whole once = omega (arith, whole, once)
         by_test false e whole once = absurd cc
 
   others : AreDistinct defs
-  others id =
-      let whole = sum_by-cons (λ (d : VoiceDef). cond (bytes_eq id d.id) 1 0) def defs in
-      let once = distinct id in
-      omega (arith, whole, once)
+  others id = let whole = sum_by-cons (λ (d : VoiceDef). cond (bytes_eq id d.id) 1 0) def defs in let once = distinct id in omega (arith, whole, once)
 
 -- those of a body
 step_apart : (ids : List (List ℕ)) (claimed : Bool) → AreApart ids → AreApart (ids_by_step ids claimed)
@@ -91,8 +85,7 @@ few_given ids (gives (Item.Voice def line column) ∷ given) few clear = by_test
 
 pub few_ids : (header : Header) (lines : List Line) (items : List Item) → HasGoodValues header → IsBody header lines items → length (ids_of header items) ≤ 16
 few_ids header lines items good body =
-    let declared = length-map header.voices (λ (def : VoiceDef). def.id) in
-    let few = few_given (declared_ids header) body.given (omega (arith, declared, good.few)) body.clear in
+    let declared = length-map header.voices (λ (def : VoiceDef). def.id) in let few = few_given (declared_ids header) body.given (omega (arith, declared, good.few)) body.clear in
     subst (λ (is : List Item). length (ids_of header is) ≤ 16) (sym body.are) few
 
 -- those of the voices that are read

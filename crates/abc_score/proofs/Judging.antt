@@ -29,8 +29,7 @@ is_inner_rest e none played = inner_test (length e.heads) e.value.dots e.ticks (
 
 rest_at : (t : Taking) (e : Event) → length e.heads ≡ 0 → IsPlayed e → (judged_within (note_or_rest [] e) (place_of t)).good ≡ true
 rest_at Taking.Nothing e none played =
-    let low = value_low e.value in
-    let high : value_length e.value ≤ 99 * WHOLE = value_high e.value in
+    let low = value_low e.value in let high : value_length e.value ≤ 99 * WHOLE = value_high e.value in
     ap (λ (j : Place → Judged). (j (place_of Taking.Nothing)).good) (judged_rest e)
     ∙ is_outer_rest e none played.dots (omega (arith, low, played.ticks)) (omega (arith, high, played.ticks))
 rest_at (Taking.One left) e none played = ap (λ (j : Place → Judged). (j (place_of (Taking.One left))).good) (judged_rest e) ∙ is_inner_rest e none played
@@ -124,9 +123,7 @@ meter_some Meter.Free held good = absurd cc
 meter_some Meter.Common held good = lit≤ tt
 meter_some Meter.Cut held good = lit≤ tt
 meter_some (Meter.Ratio num den) held good =
-    let low : 1 ≤ num = good.0 in
-    let few : den ≤ 64 = halving_high den good.2 in
-    let long : 1 * WHOLE ≤ num * WHOLE = mul-le-mul_right WHOLE low in
+    let low : 1 ≤ num = good.0 in let few : den ≤ 64 = halving_high den good.2 in let long : 1 * WHOLE ≤ num * WHOLE = mul-le-mul_right WHOLE low in
     le-div 1 (num * WHOLE) den (halving_some den good.2) (omega (arith, few, long))
 
 meter_high : (m : Meter) → IsGoodMeter m → unwrap_or (meter_ticks m) 0 ≤ 99 * WHOLE
@@ -150,8 +147,7 @@ pub rest_good : (now : Stand) (at : Stood) (seen : Bool) (measure : ℕ) (parted
     → IsGoodAt outside (nodes_of (rest_written now at seen measure parted) waiting words id)
 unfolding rest_written
 rest_good now at seen measure parted waiting words id held good graces =
-    let w = rest_written now at seen measure parted in
-    let first = first_part w waiting words id false whole_value in
+    let w = rest_written now at seen measure parted in let first = first_part w waiting words id false whole_value in
     good_append outside (grace_nodes waiting.graces waiting.slash) (node_of first ∷ []) (group_at Taking.Nothing waiting.graces waiting.slash graces)
     (and_from (judged_within (node_of first) outside).good true (whole_part now at seen measure parted waiting words id held good) refl)
 

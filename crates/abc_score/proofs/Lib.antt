@@ -1,6 +1,7 @@
 pub mod Basics
 pub mod Clear
 pub mod Cores
+pub mod Enough
 pub mod Forced
 pub mod Frames
 pub mod Full
@@ -14,6 +15,7 @@ pub mod Rising
 pub mod Rows
 pub mod Segments
 pub mod Singing
+pub mod Stops
 pub mod Taken
 pub mod Verses
 pub mod Walks

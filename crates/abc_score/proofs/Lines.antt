@@ -55,9 +55,7 @@ from_lower low high (_ ∷ items) less rise = from_lower low high items less ris
 
 with_line : (line low : ℕ) (g : List Given) (others : List Item) → low ≤ line → AreAt line g → DoWordsRiseFrom line others → DoWordsRiseFrom low (items_in g ++ others)
 with_line line low [] others less are rise = from_lower low line others less rise
-with_line line low (gives (Item.Words text at) ∷ g) others less are rise =
-    let same : at ≡ line = are.0 in
-    (omega arith, with_line line at g others (omega arith) are.1 rise)
+with_line line low (gives (Item.Words text at) ∷ g) others less are rise = let same : at ≡ line = are.0 in (omega arith, with_line line at g others (omega arith) are.1 rise)
 with_line line low (_ ∷ g) others less are rise = with_line line low g others less are rise
 
 items_both : (g h : List Given) → items_in (g ++ h) ≡ items_in g ++ items_in h
@@ -81,10 +79,8 @@ is_under line (next ∷ lines) rise = let less : line.number < next.number = ris
 given_rise : (breaks : Breaks) (lines : List Line) (given : List Given) (low : ℕ) → BodyGives breaks lines given → NumbersRise lines → IsUnder low lines → DoWordsRiseFrom low (items_in given)
 given_rise breaks _ _ low no_lines rise under = tt
 given_rise breaks _ _ low (one_line line lines first others all one more is) rise under =
-    let first_at = line_at breaks line (kind_of line.text) first one in
-    let later = given_rise breaks lines others line.number more (others_rise line lines rise) (is_under line lines rise) in
-    let whole = with_line line.number low first (items_in others) under first_at later in
-    subst (DoWordsRiseFrom low) (sym (items_both first others) ∙ ap items_in (sym is)) whole
+    let first_at = line_at breaks line (kind_of line.text) first one in let later = given_rise breaks lines others line.number more (others_rise line lines rise) (is_under line lines rise) in
+    let whole = with_line line.number low first (items_in others) under first_at later in subst (DoWordsRiseFrom low) (sym (items_both first others) ∙ ap items_in (sym is)) whole
 
 from_zero : (lines : List Line) → IsUnder 0 lines
 from_zero [] = tt

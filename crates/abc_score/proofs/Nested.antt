@@ -21,9 +21,7 @@ or_left false b c e more = more e
 
 pub good_append : (at : Place) (xs ys : List Music) → IsGoodAt at xs → IsGoodAt at ys → IsGoodAt at (xs ++ ys)
 good_append at [] ys a b = b
-good_append at (x ∷ xs) ys a b =
-    let parts = and_parts (judged_within x at).good (judged_at at xs).good a in
-    and_from (judged_within x at).good (judged_at at (xs ++ ys)).good parts.0 (good_append at xs ys parts.1 b)
+good_append at (x ∷ xs) ys a b = let parts = and_parts (judged_within x at).good (judged_at at xs).good a in and_from (judged_within x at).good (judged_at at (xs ++ ys)).good parts.0 (good_append at xs ys parts.1 b)
 
 pub some_append : (at : Place) (xs ys : List Music) → HasSome at xs → HasSome at (xs ++ ys)
 some_append at [] ys a = absurd cc
@@ -53,10 +51,7 @@ pub record IsRatio (p q : ℕ) : Type 0 where
 
 ratio_test : (p q : ℕ) (n b : Bool) → IsRatio p q → n ≡ true → b ≡ true → (nat_le 2 p && nat_le p 9 && nat_le 1 q && nat_le q 9 && n && b) ≡ true
 ratio_test p q n b ratio some good =
-    let a : nat_le 2 p ≡ true = test 2 p ratio.p_low in
-    let c : nat_le p 9 ≡ true = test p 9 ratio.p_high in
-    let d : nat_le 1 q ≡ true = test 1 q ratio.q_low in
-    let e : nat_le q 9 ≡ true = test q 9 ratio.q_high in
+    let a : nat_le 2 p ≡ true = test 2 p ratio.p_low in let c : nat_le p 9 ≡ true = test p 9 ratio.p_high in let d : nat_le 1 q ≡ true = test 1 q ratio.q_low in let e : nat_le q 9 ≡ true = test q 9 ratio.q_high in
     and_from (nat_le 2 p && nat_le p 9 && nat_le 1 q && nat_le q 9 && n) b
     (and_from (nat_le 2 p && nat_le p 9 && nat_le 1 q && nat_le q 9) n
     (and_from (nat_le 2 p && nat_le p 9 && nat_le 1 q) (nat_le q 9) (and_from (nat_le 2 p && nat_le p 9) (nat_le 1 q) (and_from (nat_le 2 p) (nat_le p 9) a c) d) e)
@@ -65,12 +60,10 @@ ratio_test p q n b ratio some good =
       test m n less = grind (arith, nat_tests)
 
 outer_tuplet : (p q : ℕ) (body : List Music) → IsRatio p q → HasSome within_one body → IsGoodAt within_one body → (judged_within (music.Tuplet p q body) outside).good ≡ true
-outer_tuplet p q body ratio some good =
-    ap (λ (j : Place → Judged). (j outside).good) (judged_tuplet p q body) ∙ ratio_test p q (judged_at within_one body).some (judged_at within_one body).good ratio some good
+outer_tuplet p q body ratio some good = ap (λ (j : Place → Judged). (j outside).good) (judged_tuplet p q body) ∙ ratio_test p q (judged_at within_one body).some (judged_at within_one body).good ratio some good
 
 inner_tuplet : (p q : ℕ) (body : List Music) → IsRatio p q → HasSome within_two body → IsGoodAt within_two body → (judged_within (music.Tuplet p q body) within_one).good ≡ true
-inner_tuplet p q body ratio some good =
-    ap (λ (j : Place → Judged). (j within_one).good) (judged_tuplet p q body) ∙ ratio_test p q (judged_at within_two body).some (judged_at within_two body).good ratio some good
+inner_tuplet p q body ratio some good = ap (λ (j : Place → Judged). (j within_one).good) (judged_tuplet p q body) ∙ ratio_test p q (judged_at within_two body).some (judged_at within_two body).good ratio some good
 
 inner_some : (p q : ℕ) (body : List Music) → HasSome within_two body → (judged_within (music.Tuplet p q body) within_one).some ≡ true
 inner_some p q body some = ap (λ (j : Place → Judged). (j within_one).some) (judged_tuplet p q body) ∙ some
@@ -115,21 +108,15 @@ event_more r nodes f good some fine = record {
 event_in_one : (r : ℕ) (nodes : List Music) (f : Forest) → IsGoodAt within_one nodes → HasSome within_one nodes → Fine (one_less (suc r)) f → FineOne (suc r) (one nodes f)
 event_in_one r nodes f good some fine = by_test (nat_le (suc r) 1) refl fine where
   by_test : (b : Bool) → nat_le (suc r) 1 ≡ b → Fine (cond b Taking.Nothing (Taking.One (suc r - 1))) f → FineOne (suc r) (one nodes f)
-  by_test true e fine =
-      let low : suc r ≤ 1 = leb-true (suc r) 1 e in
-      let is : 1 ≡ suc r = omega arith in
-      subst (λ n. FineOne n (one nodes f)) is (event_last nodes f good some fine)
-  by_test false e fine =
-      let is : suc r - 1 ≡ r = omega arith in
-      event_more r nodes f good some (subst (λ n. FineOne n f) is fine)
+  by_test true e fine = let low : suc r ≤ 1 = leb-true (suc r) 1 e in let is : 1 ≡ suc r = omega arith in subst (λ n. FineOne n (one nodes f)) is (event_last nodes f good some fine)
+  by_test false e fine = let is : suc r - 1 ≡ r = omega arith in event_more r nodes f good some (subst (λ n. FineOne n f) is fine)
 
 -- within two
 event_last_two : (s rest : ℕ) (nodes : List Music) (f : Forest) → rest ≡ s → IsGoodAt within_two nodes → HasSome within_two nodes → Fine (one_less (suc s)) f → FineTwo 1 rest (suc s) (one nodes f)
 event_last_two s rest nodes f same good some fine = by_test (nat_le (suc s) 1) refl fine where
   by_test : (b : Bool) → nat_le (suc s) 1 ≡ b → Fine (cond b Taking.Nothing (Taking.One (suc s - 1))) f → FineTwo 1 rest (suc s) (one nodes f)
   by_test true e fine =
-      let low : suc s ≤ 1 = leb-true (suc s) 1 e in
-      let is : 0 ≡ rest = omega arith in
+      let low : suc s ≤ 1 = leb-true (suc s) 1 e in let is : 0 ≡ rest = omega arith in
       subst (λ n. FineTwo 1 n (suc s) (one nodes f)) is (record {
         open_one = omega arith;
         within = omega arith;
@@ -139,16 +126,8 @@ event_last_two s rest nodes f same good some fine = by_test (nat_le (suc s) 1) r
         behind = fine;
       })
   by_test false e fine =
-      let is : suc s - 1 ≡ rest = omega arith in
-      let own = subst (λ n. FineOne n f) is fine in
-      record {
-        open_one = omega arith;
-        within = omega arith;
-        taken = good_append within_two nodes [] good refl;
-        some = some_append within_two nodes [] some;
-        others = own.taken;
-        behind = own.behind;
-      }
+      let is : suc s - 1 ≡ rest = omega arith in let own = subst (λ n. FineOne n f) is fine in
+      record { open_one = omega arith; within = omega arith; taken = good_append within_two nodes [] good refl; some = some_append within_two nodes [] some; others = own.taken; behind = own.behind }
 
 event_more_two : (r rest s : ℕ) (nodes : List Music) (f : Forest) → IsGoodAt within_two nodes → HasSome within_two nodes → FineTwo r rest s f → FineTwo (suc r) rest (suc s) (one nodes f)
 event_more_two r rest s nodes f good some fine = record {
@@ -164,14 +143,10 @@ event_in_two : (r s : ℕ) (nodes : List Music) (f : Forest) → suc r ≤ suc s
 event_in_two r s nodes f less good some fine = by_test (nat_le (suc r) 1) refl fine where
   by_test : (b : Bool) → nat_le (suc r) 1 ≡ b → Fine (cond b (one_less (suc s)) (Taking.Two (suc r - 1) (suc s - 1))) f → FineTwo (suc r) (suc s - suc r) (suc s) (one nodes f)
   by_test true e fine =
-      let low : suc r ≤ 1 = leb-true (suc r) 1 e in
-      let is : 1 ≡ suc r = omega arith in
-      let rest : suc s - suc r ≡ s = omega arith in
+      let low : suc r ≤ 1 = leb-true (suc r) 1 e in let is : 1 ≡ suc r = omega arith in let rest : suc s - suc r ≡ s = omega arith in
       subst (λ n. FineTwo n (suc s - suc r) (suc s) (one nodes f)) is (event_last_two s (suc s - suc r) nodes f rest good some fine)
   by_test false e fine =
-      let first : suc r - 1 ≡ r = omega arith in
-      let second : suc s - 1 ≡ s = omega arith in
-      let rest : suc s - 1 - (suc r - 1) ≡ suc s - suc r = omega arith in
+      let first : suc r - 1 ≡ r = omega arith in let second : suc s - 1 ≡ s = omega arith in let rest : suc s - 1 - (suc r - 1) ≡ suc s - suc r = omega arith in
       event_more_two r (suc s - suc r) s nodes f good some
       (subst (λ n. FineTwo n (suc s - suc r) s f) first (subst (λ n. FineTwo (suc r - 1) (suc s - suc r) n f) second (subst (λ n. FineTwo (suc r - 1) n (suc s - 1) f) rest fine)))
 
@@ -188,8 +163,7 @@ event_fine (Taking.Two (suc r) (suc s)) nodes f is good some fine = event_in_two
 opens_in_one : (left p q r : ℕ) (f : Forest) → IsRatio p q → FineTwo r (left - r) left f → FineOne left (group p q r (cut r f).taken (cut r f).left)
 opens_in_one zero p q r f ratio fine = let low : 1 ≤ r = fine.open_one in let high : r ≤ 0 = fine.within in absurd (omega arith)
 opens_in_one (suc l) p q r f ratio fine =
-    let inner = music_of (cut r f).taken in
-    let others = music_of (cut (suc l - r) (cut r f).left).taken in
+    let inner = music_of (cut r f).taken in let others = music_of (cut (suc l - r) (cut r f).left).taken in
     record {
       open_one = omega arith;
       taken = and_from (judged_within (music.Tuplet p q inner) within_one).good (judged_at within_one others).good (inner_tuplet p q inner ratio fine.some fine.taken) fine.others;

@@ -120,8 +120,7 @@ HasGoodChanges (Sign.Opens measure p q r) = ⊤
 abbrev pub SignsReach : Clef → List Sign → Type 0
 SignsReach before [] = ⊤
 SignsReach before (Sign.Event w waiting ∷ ss) =
-    AllByRecursion (IsInReach (unwrap_or waiting.changes.clef before)) w.heads
-    × AllByRecursion (λ (g : GraceChord). AllByRecursion (IsInReach (unwrap_or waiting.changes.clef before)) g.heads) waiting.graces
+    AllByRecursion (IsInReach (unwrap_or waiting.changes.clef before)) w.heads × AllByRecursion (λ (g : GraceChord). AllByRecursion (IsInReach (unwrap_or waiting.changes.clef before)) g.heads) waiting.graces
     × SignsReach (unwrap_or waiting.changes.clef before) ss
 SignsReach before (Sign.Opens measure p q r ∷ ss) = SignsReach before ss
 
@@ -144,8 +143,7 @@ signs_count words k id (Sign.Opens measure p q r ∷ ss) all = signs_count words
 pub signs_reach : (words : List Words) (k id : ℕ) (before : Clef) (ss : List Sign) → AllByRecursion HasParts ss → SignsReach before ss → CoresReach before (cores_from words k id ss)
 signs_reach words k id before [] all reach = tt
 signs_reach words k id before (Sign.Event w waiting ∷ ss) all reach =
-    let clef = unwrap_or waiting.changes.clef before in
-    let others = cores_from words (k + 1) (id + length w.values) ss in
+    let clef = unwrap_or waiting.changes.clef before in let others = cores_from words (k + 1) (id + length w.values) ss in
     let graces = All-from_recursion (λ (g : Event). All (IsInReach clef) g.heads) (map grace_of waiting.graces) (graces_reach clef waiting.graces reach.1) in
     subst (λ z. CoresReach before (z ++ others)) (sym (nodes_sung w waiting (words_at words k) id all.0))
     (parts_reach before (map grace_of waiting.graces) w waiting (words_at words k) id w.values others all.0 reach.0 graces (signs_reach words (k + 1) (id + length w.values) clef ss all.1 reach.2))

@@ -15,10 +15,7 @@ not_high : (z : ℤ) → int_lt (pos 22) z ≡ false → z ≤ℤ pos 22
 not_high z h = grind (arith, ints)
 
 head_reach : (clef : Clef) (h : Head) → is_off clef h ≡ false → IsInReach clef h
-head_reach clef h e =
-    let height = height_of h.pitch clef in
-    let parts = or_parts (int_lt height (negsuc 13)) (int_lt (pos 22) height) e in
-    (not_low height parts.0, not_high height parts.1)
+head_reach clef h e = let height = height_of h.pitch clef in let parts = or_parts (int_lt height (negsuc 13)) (int_lt (pos 22) height) e in (not_low height parts.0, not_high height parts.1)
 
 abbrev GracesReach : Clef → List GraceChord → Type 0
 GracesReach clef gs = AllByRecursion (λ (g : GraceChord). AllByRecursion (IsInReach clef) g.heads) gs
@@ -139,22 +136,15 @@ step_reach : (first : InForce) (before behind : Steps) (at : Stood) (s : Step) (
     → SignsReach (cond (is_event s) (force_at first before).clef (event_clef first before)) rest → SignsReach (event_clef first before) (signs_of (place_at first before) before at behind s ++ rest)
 unfolding signs_of faults_of is_event
 step_reach first before behind at (Step.Sound s) rest e h =
-    let now = place_at first before in
-    let clef = (force_at first before).clef in
-    let w = sound_written now before at s behind in
-    let waiting = waiting_of (force_at first before) (since_event before) s.decos in
+    let now = place_at first before in let clef = (force_at first before).clef in let w = sound_written now before at s behind in let waiting = waiting_of (force_at first before) (since_event before) s.decos in
     subst (λ (c : Clef). DoReach c w.heads × GracesReach c waiting.graces × SignsReach c rest) (sym (waiting_clef first before s.decos)) (
       sound_reach now before behind at s (none_before (sound_faults now before at s behind) (grace_faults clef (since_event before)) e),
       waiting_reach clef (force_at first before) (since_event before) s.decos (none_behind (sound_faults now before at s behind) (grace_faults clef (since_event before)) e),
       h,
     )
 step_reach first before behind at (Step.Measures seen count) rest e h =
-    let now = place_at first before in
-    let clef = (force_at first before).clef in
-    let waits = since_event before in
-    let w = rest_written now at seen (measure_of now) (parted_at now waits) in
-    let waiting = waiting_of (force_at first before) waits [] in
-    let others = further_rests now at seen (measure_of now + 1) (count - 1) ++ rest in
+    let now = place_at first before in let clef = (force_at first before).clef in let waits = since_event before in let w = rest_written now at seen (measure_of now) (parted_at now waits) in
+    let waiting = waiting_of (force_at first before) waits [] in let others = further_rests now at seen (measure_of now + 1) (count - 1) ++ rest in
     subst (λ (c : Clef). DoReach c w.heads × GracesReach c waiting.graces × SignsReach c others) (sym (waiting_clef first before [])) (
       no_heads clef now at seen (measure_of now) (parted_at now waits),
       waiting_reach clef (force_at first before) waits [] (none_behind (rest_faults now at count) (grace_faults clef waits) e),
@@ -166,8 +156,7 @@ step_reach first before behind at _ rest e h = h
 walk_reach : (first : InForce) (before behind : Steps) → faults_in first before behind ≡ [] → SignsReach (event_clef first before) (signs first before behind)
 walk_reach first before [] e = tt
 walk_reach first before (at ∷ behind) e =
-    let here = faults_of (place_at first before) before at behind at.step in
-    let later = faults_in first (at ∷ before) behind in
+    let here = faults_of (place_at first before) before at behind at.step in let later = faults_in first (at ∷ before) behind in
     step_reach first before behind at at.step (signs first (at ∷ before) behind) (none_before here later e) (walk_reach first (at ∷ before) behind (none_behind here later e))
 
 pub voice_reach : (first : InForce) (steps : Steps) → faults_in first [] steps ≡ [] → SignsReach first.clef (signs first [] steps)

@@ -45,10 +45,8 @@ turned at behind before = sym (ap (λ z. z ++ before) (reverse-append (at ∷ []
 begun_walk : (behind before : Steps) → measures_begun before ≤ measures_begun (reverse behind ++ before)
 begun_walk [] before = omega arith
 begun_walk (at ∷ behind) before =
-    let others = begun_walk behind (at ∷ before) in
-    let here = begun_grows at before in
-    let same : measures_begun (reverse behind ++ (at ∷ before)) ≡ measures_begun (reverse (at ∷ behind) ++ before) = ap measures_begun (turned at behind before) in
-    omega (arith, others, here, same)
+    let others = begun_walk behind (at ∷ before) in let here = begun_grows at before in
+    let same : measures_begun (reverse behind ++ (at ∷ before)) ≡ measures_begun (reverse (at ∷ behind) ++ before) = ap measures_begun (turned at behind before) in omega (arith, others, here, same)
 
 -- ---- one step more
 rest_measure : (now : Place) (at : Stood) (seen : Bool) (measure : ℕ) (parted : Bool) → (rest_written now at seen measure parted).measure ≡ measure
@@ -75,13 +73,10 @@ step_rise : (first : InForce) (before behind : Steps) (at : Stood) (s : Step) (t
     → SignsRise (measure_at before + further s) top rest → SignsRise (measure_at before) top (signs_of (place_at first before) before at behind s ++ rest)
 unfolding signs_of is_event further
 step_rise first before behind at (Step.Sound s) top rest good less rise =
-    let now = place_at first before in
-    let w = sound_written now before at s behind in
-    let is : w.measure ≡ measure_at before = sound_measure now before behind at s in
+    let now = place_at first before in let w = sound_written now before at s behind in let is : w.measure ≡ measure_at before = sound_measure now before behind at s in
     (omega (arith, is), omega (arith, is, less), subst (λ m. SignsRise m top rest) (sym is) (lower (measure_at before) (measure_at before + 0) top rest (omega arith) rise))
 step_rise first before behind at (Step.Measures seen count) top rest good less rise =
-    let now = place_at first before in
-    let w = rest_written now at seen (measure_of now) (parted_at now (since_event before)) in
+    let now = place_at first before in let w = rest_written now at seen (measure_of now) (parted_at now (since_event before)) in
     let is : w.measure ≡ measure_at before = rest_measure now at seen (measure_of now) (parted_at now (since_event before)) in
     let others = further_rests now at seen (measure_of now + 1) (count - 1) ++ rest in (
       omega (arith, is),
@@ -97,8 +92,7 @@ walk_rise first before [] top good less = tt
 walk_rise first before (at ∷ behind) top good less =
     let same : measures_begun (reverse behind ++ (at ∷ before)) ≡ measures_begun (reverse (at ∷ behind) ++ before) = ap measures_begun (turned at behind before) in
     let all : measures_begun (reverse behind ++ (at ∷ before)) ≤ top = omega (arith, same, less) in
-    let here : measures_begun (at ∷ before) ≤ top = let low = begun_walk behind (at ∷ before) in omega (arith, low, all) in
-    let others = signs first (at ∷ before) behind in
+    let here : measures_begun (at ∷ before) ≤ top = let low = begun_walk behind (at ∷ before) in omega (arith, low, all) in let others = signs first (at ∷ before) behind in
     let more = grows (begins_group at.step (nearest_at before)) (groups before) (all_further before) (further at.step) in
     step_rise first before behind at at.step top others good.0 (within (is_event at.step) (measure_at before + further at.step + 1) (measures_begun before) top here)
     (lower (measure_at before + further at.step) (measure_at (at ∷ before)) top others more (walk_rise first (at ∷ before) behind top good.1 all)) where

@@ -90,11 +90,8 @@ forest_weight none_more = refl
 forest_weight (one nodes f) = weight_of-append nodes (music_of f) ∙ ap (λ n. weight_of nodes + n) (forest_weight f) ∙ sym (sum_by-cons weight_of nodes (rows f))
 forest_weight (group p q takes inner f) =
     let first = weight_of-cons (music.Tuplet p q (music_of inner)) (music_of f) in
-    let own : weight (music.Tuplet p q (music_of inner)) ≡ weight_of (music_of inner) = weight_tuplet p q (music_of inner) in
-    let a = forest_weight inner in
-    let b = forest_weight f in
-    let both = sum_by-append weight_of (rows inner) (rows f) in
-    omega (arith, first, own, a, b, both)
+    let own : weight (music.Tuplet p q (music_of inner)) ≡ weight_of (music_of inner) = weight_tuplet p q (music_of inner) in let a = forest_weight inner in let b = forest_weight f in
+    let both = sum_by-append weight_of (rows inner) (rows f) in omega (arith, first, own, a, b, both)
 
 pub tree_weight : (ls : List Leaf) → weight_of (music_of (nest ls)) ≡ sum_by weight_of (leaf_rows ls)
 tree_weight ls = forest_weight (nest ls) ∙ ap (λ z. sum_by weight_of z) (nest_rows ls)

@@ -37,9 +37,7 @@ opens_in k m p q r ls = by_test (m == k) where
 none_in : (k low top : ℕ) (ls : List Leaf) → k < low → Rise low top ls → leaf_rows (leaves_in k ls) ≡ []
 none_in k low top [] less rise = refl
 none_in k low top (Leaf.Event measure nodes ∷ ls) less rise =
-    let first : low ≤ measure = rise.0 in
-    let above : k < measure = omega (arith, first, less) in
-    in_other k measure nodes ls (other_test k measure above) ∙ none_in k measure top ls above rise.2
+    let first : low ≤ measure = rise.0 in let above : k < measure = omega (arith, first, less) in in_other k measure nodes ls (other_test k measure above) ∙ none_in k measure top ls above rise.2
 none_in k low top (Leaf.Opens measure p q r ∷ ls) less rise = opens_in k measure p q r ls ∙ none_in k low top ls less rise
 
 -- ---- lists made of a range
@@ -121,11 +119,8 @@ measures_sing leaves bars rise all =
 sum_each : (leaves : List Leaf) (bars : List Bar) (ks : List ℕ) → sum_by (λ (m : Measure). weight_of m.body) (map (measure_of leaves bars) ks) ≡ sum_by weight_of (flat_map (λ k. leaf_rows (leaves_in k leaves)) ks)
 sum_each leaves bars [] = refl
 sum_each leaves bars (k ∷ ks) =
-    let first = sum_by-cons (λ (m : Measure). weight_of m.body) (measure_of leaves bars k) (map (measure_of leaves bars) ks) in
-    let own = tree_weight (leaves_in k leaves) in
-    let others = sum_each leaves bars ks in
-    let both = sum_by-append weight_of (leaf_rows (leaves_in k leaves)) (flat_map (λ k. leaf_rows (leaves_in k leaves)) ks) in
-    omega (arith, first, own, others, both)
+    let first = sum_by-cons (λ (m : Measure). weight_of m.body) (measure_of leaves bars k) (map (measure_of leaves bars) ks) in let own = tree_weight (leaves_in k leaves) in
+    let others = sum_each leaves bars ks in let both = sum_by-append weight_of (leaf_rows (leaves_in k leaves)) (flat_map (λ k. leaf_rows (leaves_in k leaves)) ks) in omega (arith, first, own, others, both)
 
 pub measures_weigh : (leaves : List Leaf) (bars : List Bar) → Rise 0 (length bars) leaves → sum_by (λ (m : Measure). weight_of m.body) (measures_in leaves bars) ≡ sum_by weight_of (leaf_rows leaves)
 measures_weigh leaves bars rise = sum_each leaves bars (range_with_len 0 (length bars)) ∙ ap (sum_by weight_of) (segments leaves (length bars) (length bars) 0 (omega arith) rise)

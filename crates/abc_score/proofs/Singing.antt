@@ -46,13 +46,8 @@ graces_in_row (g ∷ gs) =
 -- graces go to the event behind them
 group_sings : (gs : List GraceChord) (slash : Bool) (e : Event) (es : List Event) → Sings (music.Grace (map grace_note gs) slash ∷ node_of e ∷ map node_of es) ((e, map grace_of gs) ∷ map plain es)
 group_sings gs slash e es =
-    let body = map grace_note gs in
-    let found = map (λ f. f.event) (in_row (map leaves_within body) 1 1 nothing).flats in
-    let more = map leaves_within (map node_of es) in
-    let is_grace = leaves_grace body slash in
-    let grace : Leafing = leaves_step (Music-F.Grace (map leaves_within body) slash) in
-    let own = node_leaf e.heads e in
-    let behind = plain_sings es in
+    let body = map grace_note gs in let found = map (λ f. f.event) (in_row (map leaves_within body) 1 1 nothing).flats in let more = map leaves_within (map node_of es) in
+    let is_grace = leaves_grace body slash in let grace : Leafing = leaves_step (Music-F.Grace (map leaves_within body) slash) in let own = node_leaf e.heads e in let behind = plain_sings es in
     record {
       cores = λ qs ps w none.
           ap (λ (l : Leafing). map core (in_row (l ∷ leaves_within (node_of e) ∷ more) qs ps w).flats) is_grace
@@ -109,21 +104,15 @@ next_times n m = omega arith
 later_weight : (w : Written) (verses id : ℕ) (vs : List Value) → weight_of (map node_of (later_parts w verses id vs)) ≡ length vs * max 1 (length w.heads)
 later_weight w verses id [] = omega arith
 later_weight w verses id (v ∷ vs) =
-    let first = later_part w verses id (some_more vs) v in
-    let each : ℕ = max 1 (length w.heads) in
-    let all = weight_of-cons (node_of first) (map node_of (later_parts w verses (id + 1) vs)) in
-    let own : weight (node_of first) ≡ each = node_weight first ∙ ap (max 1) (later_heads w verses id (some_more vs) v) in
-    let others = later_weight w verses (id + 1) vs in
+    let first = later_part w verses id (some_more vs) v in let each : ℕ = max 1 (length w.heads) in let all = weight_of-cons (node_of first) (map node_of (later_parts w verses (id + 1) vs)) in
+    let own : weight (node_of first) ≡ each = node_weight first ∙ ap (max 1) (later_heads w verses id (some_more vs) v) in let others = later_weight w verses (id + 1) vs in
     all ∙ (ap (λ n. n + weight_of (map node_of (later_parts w verses (id + 1) vs))) own ∙ (ap (λ n. each + n) others ∙ next_times (length vs) each))
 
 parts_weight : (w : Written) (waiting : Waiting) (words : Words) (id : ℕ) (vs : List Value) → weight_of (map node_of (parts w waiting words id vs)) ≡ length vs * max 1 (length w.heads)
 parts_weight w waiting words id [] = omega arith
 parts_weight w waiting words id (v ∷ vs) =
-    let first = first_part w waiting words id (some_more vs) v in
-    let each : ℕ = max 1 (length w.heads) in
-    let all = weight_of-cons (node_of first) (map node_of (later_parts w (length words) (id + 1) vs)) in
-    let own : weight (node_of first) ≡ each = node_weight first ∙ ap (max 1) (first_heads w waiting words id (some_more vs) v) in
-    let others = later_weight w (length words) (id + 1) vs in
+    let first = first_part w waiting words id (some_more vs) v in let each : ℕ = max 1 (length w.heads) in let all = weight_of-cons (node_of first) (map node_of (later_parts w (length words) (id + 1) vs)) in
+    let own : weight (node_of first) ≡ each = node_weight first ∙ ap (max 1) (first_heads w waiting words id (some_more vs) v) in let others = later_weight w (length words) (id + 1) vs in
     all ∙ (ap (λ n. n + weight_of (map node_of (later_parts w (length words) (id + 1) vs))) own ∙ (ap (λ n. each + n) others ∙ next_times (length vs) each))
 
 abbrev pub heads_of_graces : List GraceChord → ℕ
@@ -136,19 +125,13 @@ chord_weight g = weight_note (grace_event g.heads)
 chords_weight : (gs : List GraceChord) → weight_of (map grace_note gs) ≡ heads_of_graces gs
 chords_weight [] = refl
 chords_weight (g ∷ gs) =
-    let all = weight_of-cons (grace_note g) (map grace_note gs) in
-    let own = chord_weight g in
-    let others = chords_weight gs in
-    let both = sum_by-cons (λ (g : GraceChord). length g.heads) g gs in
+    let all = weight_of-cons (grace_note g) (map grace_note gs) in let own = chord_weight g in let others = chords_weight gs in let both = sum_by-cons (λ (g : GraceChord). length g.heads) g gs in
     omega (arith, all, own, others, both)
 
 group_weight : (gs : List GraceChord) (slash : Bool) → weight_of (grace_nodes gs slash) ≡ heads_of_graces gs
 group_weight [] slash = refl
 group_weight (g ∷ gs) slash =
-    let all = weight_of-cons (music.Grace (map grace_note (g ∷ gs)) slash) [] in
-    let own = weight_grace (map grace_note (g ∷ gs)) slash in
-    let chords = chords_weight (g ∷ gs) in
-    omega (arith, all, own, chords)
+    let all = weight_of-cons (music.Grace (map grace_note (g ∷ gs)) slash) [] in let own = weight_grace (map grace_note (g ∷ gs)) slash in let chords = chords_weight (g ∷ gs) in omega (arith, all, own, chords)
 
 pub nodes_weight : (w : Written) (waiting : Waiting) (words : Words) (id : ℕ) → weight_of (nodes_of w waiting words id) ≡ heads_of_graces waiting.graces + length w.values * max 1 (length w.heads)
 nodes_weight w waiting words id =

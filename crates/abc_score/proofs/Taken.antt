@@ -3,8 +3,7 @@ use Rattle.std.{proofs.Common.{◌≡◌, ◌∙◌, sym, ap, zero, suc, List, [
 
 -- one element made of the first that was left
 pub mapped_taken : {X Y : Type 0} (f : X → Y) (xs ys : List X) (x : X) (done new all : List Y) (y : Y) → new ≡ done ++ y ∷ [] → y ≡ f x → xs ≡ x ∷ ys → done ++ map f xs ≡ all → new ++ map f ys ≡ all
-mapped_taken f xs ys x done new all y put made cut so_far =
-    ap (λ d. d ++ map f ys) put ∙ append_assoc done (y ∷ []) (map f ys) ∙ ap (λ z. done ++ z ∷ map f ys) made ∙ ap (λ zs. done ++ map f zs) (sym cut) ∙ so_far
+mapped_taken f xs ys x done new all y put made cut so_far = ap (λ d. d ++ map f ys) put ∙ append_assoc done (y ∷ []) (map f ys) ∙ ap (λ z. done ++ z ∷ map f ys) made ∙ ap (λ zs. done ++ map f zs) (sym cut) ∙ so_far
 
 -- what holds of all that is made of a list's elements holds of each of these as it is made
 pub all_of : {X Y : Type 0} (f : X → Y) (P : Y → Type 0) (xs : List X) → All P (map f xs) → All (λ x. P (f x)) xs

@@ -55,12 +55,8 @@ heads low before (v ∷ behind) rise = by_test (nat_le 8 (number_on v.row before
   by_test : (b : Bool) → (head_of (faults_from (before ++ v ∷ []) behind) ≡ first_of (faults_from (before ++ v ∷ []) behind)) × IsFrom v.line (head_of (faults_from (before ++ v ∷ []) behind))
       → (head_of (cond b (too_many v.line ∷ []) [] ++ faults_from (before ++ v ∷ []) behind) ≡ first_of (cond b (too_many v.line ∷ []) [] ++ faults_from (before ++ v ∷ []) behind))
       × IsFrom low (head_of (cond b (too_many v.line ∷ []) [] ++ faults_from (before ++ v ∷ []) behind))
-  by_test true others =
-      let P : Option Fault → Type 0 = IsFrom v.line in
-      (sym (head_first v.line (first_of (faults_from (before ++ v ∷ []) behind)) (subst P others.0 others.1)), (rise.0, refl))
+  by_test true others = let P : Option Fault → Type 0 = IsFrom v.line in (sym (head_first v.line (first_of (faults_from (before ++ v ∷ []) behind)) (subst P others.0 others.1)), (rise.0, refl))
   by_test false others = (others.0, higher low v.line (head_of (faults_from (before ++ v ∷ []) behind)) rise.0 others.1)
 
 pub verse_first : (id unnamed : List ℕ) (items : List Item) → DoWordsRise items → head_of (verse_faults id unnamed items) ≡ first_of (verse_faults id unnamed items)
-verse_first id unnamed items rise =
-    let both = heads 0 [] (verses_of id unnamed items) (verses_rise id unnamed [] items 0 rise) in
-    both.0
+verse_first id unnamed items rise = let both = heads 0 [] (verses_of id unnamed items) (verses_rise id unnamed [] items 0 rise) in both.0

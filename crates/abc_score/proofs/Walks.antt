@@ -12,17 +12,14 @@ pub sound_clear : (now : Place) (before behind : Steps) (at : Stood) (s : Sound)
     → (is_none (parts_list (written_length now.force.unit s before behind).num (written_length now.force.unit s before behind).den) ≡ false) × (any_off now.force.clef s.heads ≡ false)
 unfolding sound_faults
 sound_clear now before behind at s e =
-    let whole = written_length now.force.unit s before behind in
-    let undrawable = fault_if (is_none (parts_list whole.num whole.den)) FaultKind.Undrawable at in
-    let off = fault_if (any_off now.force.clef s.heads) FaultKind.StepRange at in
-    let past = fault_if (is_past (measure_of now)) FaultKind.TooManyMeasures at in
+    let whole = written_length now.force.unit s before behind in let undrawable = fault_if (is_none (parts_list whole.num whole.den)) FaultKind.Undrawable at in
+    let off = fault_if (any_off now.force.clef s.heads) FaultKind.StepRange at in let past = fault_if (is_past (measure_of now)) FaultKind.TooManyMeasures at in
     let front : undrawable ++ off ≡ [] = none_before (undrawable ++ off) past e in
     (no_fault (is_none (parts_list whole.num whole.den)) FaultKind.Undrawable at (none_before undrawable off front), no_fault (any_off now.force.clef s.heads) FaultKind.StepRange at (none_behind undrawable off front))
 
 pub rest_clear : (now : Place) (at : Stood) (count : ℕ) → rest_faults now at count ≡ [] → is_free now.force.meter ≡ false
 rest_clear now at count e =
-    let free = fault_if (is_free now.force.meter) FaultKind.RestWithoutMeter at in
-    let past = fault_if (is_past (measure_of now + (count - 1))) FaultKind.TooManyMeasures at in
+    let free = fault_if (is_free now.force.meter) FaultKind.RestWithoutMeter at in let past = fault_if (is_past (measure_of now + (count - 1))) FaultKind.TooManyMeasures at in
     no_fault (is_free now.force.meter) FaultKind.RestWithoutMeter at (none_before free past e)
 
 not_short : (n r : ℕ) → nat_lt n r ≡ false → r ≤ n
@@ -46,10 +43,7 @@ parts_some : (num den : ℕ) → 1 ≤ num → is_none (parts_list num den) ≡ 
 unfolding parts_list
 parts_some num den some e = by_test (512 * num / den * den == 512 * num) refl e where
   no_left : (left : ℕ) → left ≡ 0 → (left * den == 512 * num) ≡ true → ⊥
-  no_left left none is =
-      let whole : left * den ≡ 512 * num = eqb-true (left * den) (512 * num) is in
-      let nothing : left * den ≡ 0 = ap (λ n. n * den) none ∙ omega arith in
-      absurd (omega (arith, whole, nothing, some))
+  no_left left none is = let whole : left * den ≡ 512 * num = eqb-true (left * den) (512 * num) is in let nothing : left * den ≡ 0 = ap (λ n. n * den) none ∙ omega arith in absurd (omega (arith, whole, nothing, some))
 
   by_left : (b : Bool) → (512 * num / den == 0) ≡ b → (512 * num / den * den == 512 * num) ≡ true → is_none (cond b (Some []) (cut_next (cut_in 7) (512 * num / den) (longest_within (512 * num / den)))) ≡ false
       → 1 ≤ length (unwrap_or (cond b (Some []) (cut_next (cut_in 7) (512 * num / den) (longest_within (512 * num / den)))) [])
@@ -99,16 +93,14 @@ right_factor_some None = omega arith
 length_some : (unit : Frac) (s : Sound) (before behind : Steps) → IsGoodUnit unit → IsGoodSound s → 1 ≤ (written_length unit s before behind).num
 unfolding written_length
 length_some unit s before behind good sound =
-    let one : unit.num ≡ 1 = good.0 in
-    let some : 1 ≤ s.num = sound.some in
+    let one : unit.num ≡ 1 = good.0 in let some : 1 ≤ s.num = sound.some in
     mul-le 1 1 (s.num * unit.num) ((left_factor (broken_behind behind)).num * (right_factor (broken_before before)).num) (mul-le 1 1 s.num unit.num some (omega arith))
     (mul-le 1 1 (left_factor (broken_behind behind)).num (right_factor (broken_before before)).num (left_factor_some (broken_behind behind)) (right_factor_some (broken_before before)))
 
 pub sound_parts : (now : Place) (before behind : Steps) (at : Stood) (s : Sound) → IsGoodUnit now.force.unit → IsGoodSound s → sound_faults now before at s behind ≡ [] → 1 ≤ length (sound_written now before at s behind).values
 unfolding sound_written
 sound_parts now before behind at s unit good e =
-    let whole = written_length now.force.unit s before behind in
-    parts_some whole.num whole.den (length_some now.force.unit s before behind unit good) (sound_clear now before behind at s e).0
+    let whole = written_length now.force.unit s before behind in parts_some whole.num whole.den (length_some now.force.unit s before behind unit good) (sound_clear now before behind at s e).0
 
 further_each : (P : Sign → Type 0) (now : Place) (at : Stood) (seen : Bool) (measure n : ℕ) → ((m : ℕ) → P (Sign.Event (rest_written now at seen m false) nothing)) → AllByRecursion P (further_rests now at seen measure n)
 further_each P now at seen measure zero each = tt
@@ -147,9 +139,7 @@ walk_force first (s ∷ before) force good = force_good s.step (force_at first b
 pub walk_parts : (first : InForce) (before behind : Steps) → IsGoodForce first → AllByRecursion IsGoodStood before → AllByRecursion IsGoodStood behind → faults_in first before behind ≡ [] → AllByRecursion HasParts (signs first before behind)
 walk_parts first before [] force good goods e = tt
 walk_parts first before (at ∷ behind) force good goods e =
-    let now = place_at first before in
-    let here = faults_of now before at behind at.step in
-    let later = faults_in first (at ∷ before) behind in
+    let now = place_at first before in let here = faults_of now before at behind at.step in let later = faults_in first (at ∷ before) behind in
     all_both HasParts (signs_of now before at behind at.step) (signs first (at ∷ before) behind)
     (step_parts now before behind at at.step (walk_force first before force good) goods.0 (none_before here later e))
     (walk_parts first (at ∷ before) behind force (goods.0, good) goods.1 (none_behind here later e))
@@ -185,8 +175,7 @@ walk_changes first before (at ∷ behind) force good goods =
 pub sounds_on : (s : Stood) (rest : Steps) → sounds_behind (s ∷ rest) ≡ cond (ends_tuplets s.step) 0 (cond (is_sound s.step) 1 0 + sounds_behind rest)
 unfolding sounds_behind
 sounds_on s rest =
-    let passes : Stood → Bool = λ x. not (ends_tuplets x.step) in
-    let count : Steps → ℕ = count_by (λ x. is_sound x.step) in
+    let passes : Stood → Bool = λ x. not (ends_tuplets x.step) in let count : Steps → ℕ = count_by (λ x. is_sound x.step) in
     let first : take_while passes (s ∷ rest) ≡ cond (not (ends_tuplets s.step)) (s ∷ take_while passes rest) [] = take_while-cons passes s rest in
     ap count first ∙ by_test (ends_tuplets s.step) where
       by_test : (b : Bool) → count_by (λ (x : Stood). is_sound x.step) (cond (not b) (s ∷ take_while (λ (x : Stood). not (ends_tuplets x.step)) rest) [])
@@ -218,11 +207,7 @@ after_enough (Taking.One left) n enough = less_enough left n enough.1
 after_enough (Taking.Two inner outer) n enough = by_test (nat_le inner 1) refl where
   by_test : (b : Bool) → nat_le inner 1 ≡ b → Enough (cond b (one_less outer) (Taking.Two (inner - 1) (outer - 1))) n
   by_test true e = less_enough outer n enough.2
-  by_test false e =
-      let more : 2 ≤ inner = above_one inner e in
-      let less : inner ≤ outer = enough.1 in
-      let few : outer ≤ 1 + n = enough.2 in
-      (omega arith, omega arith, omega arith)
+  by_test false e = let more : 2 ≤ inner = above_one inner e in let less : inner ≤ outer = enough.1 in let few : outer ≤ 1 + n = enough.2 in (omega arith, omega arith, omega arith)
 
 opened_enough : (r : ℕ) (t : Taking) (n : ℕ) → fits r t ≡ true → 1 ≤ r → r ≤ n → Enough t n → Enough (opened r t) n
 unfolding fits

@@ -13,9 +13,7 @@ use Rattle.abc_score.{proofs.{Basics.{none_before, none_behind}, Clear.{clear_ve
 made_at : (f : ℕ → Words) (n from k : ℕ) → k < n → slice_get (map f (range_with_len from n)) k ≡ Some (f (from + k))
 made_at f zero from k less = absurd (omega arith)
 made_at f (suc n) from zero less = let same : from ≡ from + 0 = omega arith in ap (λ i. Some (f i)) same
-made_at f (suc n) from (suc k) less =
-    let same : from + 1 + k ≡ from + suc k = omega arith in
-    made_at f n (from + 1) k (omega (arith, less)) ∙ ap (λ i. Some (f i)) same
+made_at f (suc n) from (suc k) less = let same : from + 1 + k ≡ from + suc k = omega arith in made_at f n (from + 1) k (omega (arith, less)) ∙ ap (λ i. Some (f i)) same
 
 count_is : (ss : List Sign) → event_count ss ≡ event_number ss
 count_is [] = refl
@@ -29,9 +27,7 @@ length_words rows verses event = length-map-range_with_len (λ verse. word_of (v
 each_words : (id unnamed : List ℕ) (items : List Item) (ss : List Sign) (j : ℕ) → j < 0 + event_number ss → length (words_at (sung_words id unnamed items ss) j) ≡ verse_count id unnamed items
 unfolding sung_words
 each_words id unnamed items ss j less =
-    let rows = music_rows id unnamed items (notes_from 0 ss) in
-    let verses = verse_count id unnamed items in
-    let within : j < event_count ss = omega (arith, less, count_is ss) in
+    let rows = music_rows id unnamed items (notes_from 0 ss) in let verses = verse_count id unnamed items in let within : j < event_count ss = omega (arith, less, count_is ss) in
     ap (λ (o : Option Words). length (unwrap_or o [])) (made_at (event_words rows verses) (event_count ss) 0 j within) ∙ length_words rows verses (0 + j)
 
 -- leaves that have the same words at each place are the same
@@ -102,9 +98,7 @@ length_bars : (v : VoiceRead) (n : ℕ) → length (bars_of v.steps n) ≡ n
 length_bars v n = length-map-range_with_len (bar_of v.steps) 0 n
 
 rise_in : (header : Header) (items : List Item) (n : ℕ) (v : VoiceRead) → IsWellRead v → own_measures v ≤ n → Rise 0 (length (bars_of v.steps n)) (leaves_with header items v)
-rise_in header items n v read own =
-    let long : length (bars_of v.steps n) ≡ n = length_bars v n in
-    voice_rise (words_in header items v) v.first v.steps (length (bars_of v.steps n)) read.steps (omega (arith, long, own))
+rise_in header items n v read own = let long : length (bars_of v.steps n) ≡ n = length_bars v n in voice_rise (words_in header items v) v.first v.steps (length (bars_of v.steps n)) read.steps (omega (arith, long, own))
 
 measures_are : (header : Header) (items : List Item) (n : ℕ) (v : VoiceRead) → written_measures (unnamed_of header) items n v ≡ measures_in (leaves_with header items v) (bars_of v.steps n)
 unfolding written_measures
@@ -117,17 +111,11 @@ weight_is header items n v read own =
 
 weight_high : (header : Header) (items : List Item) (n : ℕ) (v : VoiceRead) → IsWellRead v → own_measures v ≤ n → voice_weight (voice_of header items n v) ≤ sum_by count (voice_weights v)
 unfolding voice_of
-weight_high header items n v read own =
-    let is = weight_is header items n v read own in
-    let less = signs_weigh v.first [] v.steps read.steps in
-    subst (λ k. k ≤ sum_by count (voice_weights v)) (sym is) less
+weight_high header items n v read own = let is = weight_is header items n v read own in let less = signs_weigh v.first [] v.steps read.steps in subst (λ k. k ≤ sum_by count (voice_weights v)) (sym is) less
 
 body_good : (header : Header) (items : List Item) (n : ℕ) (v : VoiceRead) → IsClear header items n v → sum_by count (voice_weights v) ≤ 50000 → (k : ℕ) → IsGoodBody (tree_of (leaves_in k (leaves_with header items v)))
 body_good header items n v is few k =
-    let ls = leaves_with header items v in
-    let own = tree_weight (leaves_in k ls) in
-    let within = weight_in k ls in
-    let all = leaves_weigh (words_in header items v) 0 0 (signs v.first [] v.steps) in
+    let ls = leaves_with header items v in let own = tree_weight (leaves_in k ls) in let within = weight_in k ls in let all = leaves_weigh (words_in header items v) 0 0 (signs v.first [] v.steps) in
     let less = signs_weigh v.first [] v.steps is.read.steps in
     record {
       good = nested_good (leaves_in k ls) (all_full (words_in header items v) k v.first v.steps is.read.first is.read.steps is.clear (all_drawn v.first v.steps));
@@ -146,15 +134,9 @@ pub record IsGoodRow (verses : ℕ) (clef : Clef) (ms : List Measure) : Type 0 w
 row_good : (header : Header) (items : List Item) (n : ℕ) (v : VoiceRead) → IsClear header items n v → sum_by count (voice_weights v) ≤ 50000
     → IsGoodRow (verse_count v.start.id (unnamed_of header) items) v.first.clef (measures_in (leaves_with header items v) (bars_of v.steps n))
 row_good header items n v is few =
-    let ss = signs v.first [] v.steps in
-    let words = words_in header items v in
-    let verses = verse_count v.start.id (unnamed_of header) items in
-    let ls = leaves_with header items v in
-    let bars = bars_of v.steps n in
-    let ms = measures_in ls bars in
-    let parts = walk_parts v.first [] v.steps is.read.first tt is.read.steps is.clear in
-    let changes = walk_changes v.first [] v.steps is.read.first tt is.read.steps in
-    let sings = sym (measures_sing ls bars (rise_in header items n v is.read is.own) (signs_sung words 0 0 ss parts)) in
+    let ss = signs v.first [] v.steps in let words = words_in header items v in let verses = verse_count v.start.id (unnamed_of header) items in let ls = leaves_with header items v in
+    let bars = bars_of v.steps n in let ms = measures_in ls bars in let parts = walk_parts v.first [] v.steps is.read.first tt is.read.steps is.clear in
+    let changes = walk_changes v.first [] v.steps is.read.first tt is.read.steps in let sings = sym (measures_sing ls bars (rise_in header items n v is.read is.own) (signs_sung words 0 0 ss parts)) in
     record {
       bodies = All-map (λ (m : Measure). IsGoodBody m.body) (measure_of ls bars) (range_with_len 0 (length bars)) (λ k d less. body_good header items n v is few _);
       events = events_of_cores verses (events_of ms) (subst (AllByRecursion (IsGoodCore verses)) sings (signs_good words verses 0 0 ss parts changes (each_words v.start.id (unnamed_of header) items ss)));
@@ -165,18 +147,14 @@ row_good header items n v is few =
 music_good : (header : Header) (items : List Item) (n : ℕ) (v : VoiceRead) → IsClear header items n v → sum_by count (voice_weights v) ≤ 50000 → IsGoodMusic (voice_of header items n v)
 unfolding voice_of
 music_good header items n v is few =
-    let verses = verse_count v.start.id (unnamed_of header) items in
-    let row = row_good header items n v is few in
+    let verses = verse_count v.start.id (unnamed_of header) items in let row = row_good header items n v is few in
     let at_start = subst (λ clef. IsGoodRow verses clef (measures_in (leaves_with header items v) (bars_of v.steps n))) is.read.clef row in
-    let own = subst (IsGoodRow verses v.start.clef) (sym (measures_are header items n v)) at_start in
-    record { bodies = own.bodies; events = own.events; reach = own.reach; ids = own.ids }
+    let own = subst (IsGoodRow verses v.start.clef) (sym (measures_are header items n v)) at_start in record { bodies = own.bodies; events = own.events; reach = own.reach; ids = own.ids }
 
 voice_good : (header : Header) (items : List Item) (n : ℕ) (v : VoiceRead) → HasGoodValues header → n ≤ 2000 → IsClear header items n v → sum_by count (voice_weights v) ≤ 50000 → IsGoodVoice (voice_of header items n v)
 unfolding voice_of
 voice_good header items n v good most is few =
-    let long : length (voice_of header items n v).measures ≡ n = length_voice header items n v in
-    let weight = weight_high header items n v is.read is.own in
-    let music = music_good header items n v is few in
+    let long : length (voice_of header items n v).measures ≡ n = length_voice header items n v in let weight = weight_high header items n v is.read is.own in let music = music_good header items n v is few in
     record {
       few_measures = omega (arith, long, most);
       few_verses = few_verses (verses_of v.start.id (unnamed_of header) items) (row_count items) is.verses;
@@ -200,10 +178,8 @@ voices_good header items n (v ∷ voices) good most all few =
 voices_weigh : (header : Header) (items : List Item) (n : ℕ) (voices : List VoiceRead) → AllByRecursion (IsClear header items n) voices → sum_by voice_weight (map (voice_of header items n) voices) ≤ sum_by count (flat_map voice_weights voices)
 voices_weigh header items n [] all = omega arith
 voices_weigh header items n (v ∷ voices) all =
-    let first = sum_by-cons voice_weight (voice_of header items n v) (map (voice_of header items n) voices) in
-    let own = weight_high header items n v all.0.read all.0.own in
-    let others = voices_weigh header items n voices all.1 in
-    let both = sum_by-append count (voice_weights v) (flat_map voice_weights voices) in
+    let first = sum_by-cons voice_weight (voice_of header items n v) (map (voice_of header items n) voices) in let own = weight_high header items n v all.0.read all.0.own in
+    let others = voices_weigh header items n voices all.1 in let both = sum_by-append count (voice_weights v) (flat_map voice_weights voices) in
     joined (sum_by voice_weight (map (voice_of header items n) (v ∷ voices))) (voice_weight (voice_of header items n v)) (sum_by voice_weight (map (voice_of header items n) voices)) (sum_by count (voice_weights v ++ flat_map voice_weights voices)) (sum_by count (voice_weights v)) (sum_by count (flat_map voice_weights voices)) first own others both where
       joined : (a b c d e f : ℕ) → a ≡ b + c → b ≤ e → c ≤ f → d ≡ e + f → a ≤ d
       joined a b c d e f x y z w = omega arith
@@ -212,8 +188,7 @@ all_clear : (header : Header) (items : List Item) (n : ℕ) (voices : List Voice
     → AllByRecursion (λ (v : VoiceRead). own_measures v ≤ n) voices → flat_map (voice_faults (unnamed_of header) items) voices ≡ [] → AllByRecursion (IsClear header items n) voices
 all_clear header items n [] reads verses owns e = tt
 all_clear header items n (v ∷ voices) reads verses owns e =
-    let own = faults_in v.first [] v.steps in
-    let sung = verse_faults v.start.id (unnamed_of header) items in
+    let own = faults_in v.first [] v.steps in let sung = verse_faults v.start.id (unnamed_of header) items in
     let others = flat_map (voice_faults (unnamed_of header) items) voices in (
       record { read = reads.0; verses = verses.0; clear = none_before own sung (none_before (own ++ sung) others e); own = owns.0 },
       all_clear header items n voices reads.1 verses.1 owns.1 (none_behind (own ++ sung) others e),
@@ -223,11 +198,7 @@ all_read : (header : Header) (items : List Item) (starts : List VoiceStart) → 
 all_read header items [] good given = tt
 all_read header items (start ∷ starts) good given =
     let steps = steps_good start.id (bytes_eq start.id (unnamed_of header)) items given in (
-      record {
-        clef = refl;
-        first = record { key = good.key; meter = good.meter; unit = good.unit };
-        steps = recursion_from_All IsGoodStood (steps_of start.id (unnamed_of header) items) steps;
-      },
+      record { clef = refl; first = record { key = good.key; meter = good.meter; unit = good.unit }; steps = recursion_from_All IsGoodStood (steps_of start.id (unnamed_of header) items) steps },
       all_read header items starts good given,
     )
 
@@ -235,19 +206,11 @@ pub good_score : (header : Header) (items : List Item) (flow : Bool) → HasGood
     → IsGoodScore (score_of header items flow)
 unfolding score_with
 good_score header items flow good given few e =
-    let unnamed = unnamed_of header in
-    let voices = voices_read header items in
-    let n = most_measures voices in
-    let own = flat_map (voice_faults unnamed items) voices in
-    let weights = flat_map voice_weights voices in
-    let light = not_crowded weights (none_behind own (crowded weights) e) in
-    let within = few_measures unnamed items voices e in
+    let unnamed = unnamed_of header in let voices = voices_read header items in let n = most_measures voices in let own = flat_map (voice_faults unnamed items) voices in
+    let weights = flat_map voice_weights voices in let light = not_crowded weights (none_behind own (crowded weights) e) in let within = few_measures unnamed items voices e in
     let each = recursion_from_All (λ (v : VoiceRead). verse_fault v.start.id unnamed items ≡ None) voices (clear_verses unnamed items voices e) in
     let clear = all_clear header items n voices (all_read header items (starts_of header items) good given) each (own_most voices) (none_before own (crowded weights) e) in
-    let weigh = voices_weigh header items n voices clear in
-    let long = length-map voices (voice_of header items n) in
-    let forced = forced_of flow voices n in
-    let rise = forced_rise flow voices n in
+    let weigh = voices_weigh header items n voices clear in let long = length-map voices (voice_of header items n) in let forced = forced_of flow voices n in let rise = forced_rise flow voices n in
     record {
       few_voices = omega (arith, long, few_read header items few);
       few_measures = within;

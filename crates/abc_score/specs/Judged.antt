@@ -1,6 +1,8 @@
 -- Voices that are judged, and what is kept of their signs.
-use Rattle.std.specs.Prelude.{◌≡◌, [], List, map, true}
-use Rattle.{abc_events.specs.Signs.{signs}, abc_score.specs.declared.{keeping.Kept.Kept, keeping.Judged.Judged, voices.VoiceRead.VoiceRead}}
+use Rattle.std.specs.{Prelude.{◌≡◌, ◌≤◌, ◌<◌, ◌⊎◌, ◌++◌, [], List, Option, map, true, false}, List.{Contains, list_all}}
+use Rattle.{abc_lines.specs.declared.fault.Fault.{Fault}, abc_steps.specs.{declared.step.Stood.Stood, Kinds.is_event, Looks.Steps}, abc_events.specs.Signs.{signs}}
+use Rattle.abc_faults.specs.{declared.weights.Weight.Weight, First.{first_of, is_before}, Weights.{capped, crowd_fault, crowd_up_to, stands_before, weight_at}}
+use Rattle.abc_score.specs.declared.{keeping.Kept.Kept, keeping.Judged.Judged, voices.VoiceRead.VoiceRead}
 
 -- what is kept as whole is all signs of the voice
 abbrev pub IsKept : VoiceRead → Kept → Type 0
@@ -11,3 +13,35 @@ HasKept j = IsKept j.read j.kept
 
 abbrev pub reads_of : List Judged → List VoiceRead
 reads_of voices = map (λ (j : Judged). j.read) voices
+
+-- there are too many heads and rests with an event, and the steps that follow it stand behind it
+pub record IsEnd (put : List Weight) (at : Stood) (behind : Steps) : Type 0 where
+  pub event : is_event at.step ≡ true
+  pub crowd : 50000 < crowd_up_to put (weight_at 0 at)
+  pub later : list_all (λ (s : Stood). stands_before (weight_at 0 at) (weight_at 0 s)) behind ≡ true
+
+-- there are too many up to a place that a fault isn't before
+pub record HasCrowd (put : List Weight) (f : Fault) : Type 0 where
+  pub at : Weight
+  pub held : Contains put at
+  pub crowd : 50000 < crowd_up_to put at
+  pub behind : is_before f (crowd_fault at) ≡ false
+
+-- some are among others up to a weight
+abbrev pub IsWithin : List Weight → List Weight → Weight → Type 0
+IsWithin some all w = (Contains some w → Contains all w) × (crowd_up_to some w ≤ crowd_up_to all w)
+
+-- some faults, and the weights that are put, tell the first fault: the others stand where there are too many already
+pub record AreEnough (some faults : List Fault) (put all : List Weight) : Type 0 where
+  pub held : (f : Fault) → Contains some f → Contains faults f
+  pub within : (w : Weight) → IsWithin put all w
+  pub others : (f : Fault) → Contains faults f → Contains some f ⊎ HasCrowd put f
+  pub light : (w : Weight) → IsWithin all put w ⊎ HasCrowd put (crowd_fault w)
+
+-- the first of enough faults is found, and enough weights are put
+pub record AreJudged (faults : List Fault) (all : List Weight) (found : Option Fault) (old new : List Weight) : Type 0 where
+  pub some : List Fault
+  pub weights : List Weight
+  pub first : found ≡ first_of some
+  pub put : new ≡ old ++ map capped weights
+  pub enough : AreEnough some faults weights all

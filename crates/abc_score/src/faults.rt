@@ -1,6 +1,5 @@
-ghost use Rattle.std.specs.{Prelude.◌≡◌, Prelude.◌++◌, Prelude.[], Prelude.flat_map, Prelude.map, Prelude.IfOk, Prelude.OnOk, List.All};
-ghost use Rattle.abc_faults.specs.{First.first_of, First.IsFirst, Weights.capped};
-ghost use Rattle.abc_score.specs.{Voices.IsGoodRead, Faults.faults_of_voices, Faults.voice_faults, Faults.voice_weights, Judged.{IsKept, HasKept, reads_of}, Order.DoWordsRise};
+ghost use Rattle.std.specs.{Prelude.{◌≡◌, flat_map, IfOk}, List.All};
+ghost use Rattle.{abc_faults.specs.First.{IsFirst}, abc_score.specs.{Voices.IsGoodRead, Faults.{faults_of_voices, voice_faults, voice_weights}, Judged.{AreJudged, IsKept, HasKept, reads_of}, Order.DoWordsRise}};
 
 use crate::keeping::{Judged, Kept, judge_voice};
 use crate::voices::VoiceRead;
@@ -18,7 +17,7 @@ pub struct Judgement {
     pub voices: Row<Judged>,
 }
 
-/// The first fault of a voice by itself and of its verses, and its signs. Puts its weights.
+/// The first fault of a voice by itself and of its verses, and its signs. Puts enough of its weights.
 fn voice_fault(
     alloc: Global,
     weights: &mut Row<Weight>,
@@ -28,8 +27,7 @@ fn voice_fault(
 ) -> Result<(Option<Fault>, Kept), Memory>
     requires good { IsGoodRead v.now }
     requires rise { DoWordsRise items.now }
-    ensures fault { IfOk result (λ r. r.0 ≡ first_of (voice_faults unnamed.now items.now v.now)) }
-    ensures weights { OnOk result (weights.new ≡ weights.old ++ map capped (voice_weights v.now)) }
+    ensures judged { IfOk result (λ r. AreJudged (voice_faults unnamed.now items.now v.now) (voice_weights v.now) r.0 weights.old weights.new) }
     ensures kept { IfOk result (λ r. IsKept v.now r.1) }
 {
     let (own, kept) = judge_voice(alloc, weights, v)?;
@@ -37,7 +35,7 @@ fn voice_fault(
     Ok((earlier(own, verses), kept))
 }
 
-/// The first fault of voices by themselves and of their verses, and the voices with it. Puts their weights.
+/// The first fault of voices by themselves and of their verses, and the voices with it. Puts enough of their weights.
 fn judge_voices(
     alloc: Global,
     weights: &mut Row<Weight>,
@@ -47,8 +45,7 @@ fn judge_voices(
 ) -> Result<Judgement, Memory>
     requires good { All IsGoodRead voices }
     requires rise { DoWordsRise items.now }
-    ensures fault { IfOk result (λ j. j.fault ≡ first_of (flat_map (voice_faults unnamed.now items.now) voices)) }
-    ensures weights { OnOk result (weights.new ≡ weights.old ++ map capped (flat_map voice_weights voices)) }
+    ensures judged { IfOk result (λ j. AreJudged (flat_map (voice_faults unnamed.now items.now) voices) (flat_map voice_weights voices) j.fault weights.old weights.new) }
     ensures reads { IfOk result (λ j. reads_of j.voices ≡ voices) }
     ensures kept { IfOk result (λ j. All HasKept j.voices) }
 {

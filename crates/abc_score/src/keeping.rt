@@ -1,12 +1,13 @@
-ghost use Rattle.std.specs.{Prelude.{◌≡◌, ◌≤◌, ◌^◌, ◌++◌, [], length, map, reverse, true, IfOk, OnOk}, List.All};
-ghost use Rattle.{abc_faults.specs.{First.first_of, Faults.faults_in, Weights.capped}, abc_steps.specs.{Good.IsGoodForce, Lengths.parts_at}};
-ghost use Rattle.{abc_events.specs.Signs.{signs, signs_of, IsDrawn}, abc_score.specs.{Faults.voice_weights, Judged.IsKept, Voices.IsGoodRead}};
+ghost use Rattle.std.specs.{Prelude.{◌≡◌, ◌≤◌, ◌^◌, ◌++◌, [], length, reverse, true, false, nat_lt, IfOk, OnOk}, List.{All, list_all}};
+ghost use Rattle.{abc_faults.specs.{First.then_below, Faults.faults_in, Weights.{crowd_up_to, stands_before, weight_at}}, abc_steps.specs.{declared.step.Stood.Stood, Good.IsGoodForce, Lengths.parts_at}};
+ghost use Rattle.{abc_events.specs.Signs.{signs, signs_of, IsDrawn}, abc_score.specs.{Faults.voice_weights, Judged.{AreJudged, IsEnd, IsKept}, Voices.IsGoodRead}};
 
 use crate::voices::VoiceRead;
 use abc_events::{Sign, put_signs, signs};
 use abc_faults::{Weight, earlier, judge_step};
 use abc_lines::Fault;
 use abc_steps::Stood;
+use abc_steps::kinds::is_event;
 use abc_steps::lengths::parts_at;
 use abc_steps::place::{Place, beginning, step_over};
 use mus_units::{Few, Memory, Row, Value};
@@ -14,6 +15,9 @@ use std::alloc::Global;
 
 /// How many signs of a voice are kept at most; those of a longer one are read again.
 const MOST_KEPT: usize = 50_000;
+
+/// How many heads and rests a tune has at most.
+const MOST_HEADS: usize = 50_000;
 
 /// The signs of a voice, all of them where `whole` is true.
 #[derive(Drop)]
@@ -59,15 +63,62 @@ fn keep(
     put_signs(alloc, &mut kept.signs, now, before, at, parts, behind)
 }
 
-/// The first fault of a voice by itself, None exactly where it has none, and its signs. Puts its weights.
+/// No signs, as of a voice that isn't judged to its end.
+fn none_kept(alloc: Global) -> Kept
+    ensures { result.whole ≡ false }
+{
+    let signs = Row::new(alloc);
+    Kept {
+        signs,
+        whole: false,
+    }
+}
+
+/// Whether a place stands behind a step.
+fn is_behind(at: &Stood, line: u32, column: u32) -> bool
+    ensures { result ≡ then_below at.now.line line (nat_lt at.now.column column) }
+{
+    at.line < line || (at.line == line && at.column < column)
+}
+
+/// How many heads and rests stand up to a step.
+#[tactic(auto, unfolding(abc_faults::specs::Weights::stands_before))]
+fn count_up_to(weights: &[Weight], at: &Stood) -> usize
+    ensures { result ≤ crowd_up_to weights.now (weight_at 0 at.now) }
+{
+    let mut count: usize = 0;
+    for w in weights {
+        if !is_behind(at, w.line, w.column) {
+            count = count.saturating_add(w.count as usize);
+        }
+    }
+    count
+}
+
+/// Whether all these steps stand behind one.
+#[tactic(auto, unfolding(abc_faults::specs::Weights::stands_before))]
+fn all_behind(at: &Stood, behind: &[Stood]) -> bool
+    ensures { result ≡ list_all (λ (s : Stood). stands_before (weight_at 0 at.now) (weight_at 0 s)) behind.now }
+{
+    behind.iter().all(|s| is_behind(at, s.line, s.column))
+}
+
+/// Whether there are too many heads and rests with an event, and all steps that follow it stand behind it.
+fn is_end(weights: &[Weight], at: &Stood, behind: &[Stood]) -> bool
+    ensures { result ≡ true → IsEnd weights.now at.now behind.now }
+{
+    is_event(&at.step) && count_up_to(weights, at) > MOST_HEADS && all_behind(at, behind)
+}
+
+/// The first fault of a voice by itself and its signs. Puts its weights. Where these are many, what
+/// follows an event with which there are too many is left out: it has no first fault.
 pub(crate) fn judge_voice(
     alloc: Global,
     weights: &mut Row<Weight>,
     v: &VoiceRead,
 ) -> Result<(Option<Fault>, Kept), Memory>
     requires { IsGoodRead v.now }
-    ensures fault { IfOk result (λ r. r.0 ≡ first_of (faults_in v.now.first [] v.now.steps)) }
-    ensures weights { OnOk result (weights.new ≡ weights.old ++ map capped (voice_weights v.now)) }
+    ensures judged { IfOk result (λ r. AreJudged (faults_in v.now.first [] v.now.steps) (voice_weights v.now) r.0 weights.old weights.new) }
     ensures kept { IfOk result (λ r. IsKept v.now r.1) }
 {
     let steps = v.steps.as_slice();
@@ -77,6 +128,8 @@ pub(crate) fn judge_voice(
         whole: true,
     };
     let mut now = beginning(alloc, &v.first)?;
+    let start = weights.len();
+    let mut limit = start.saturating_add(MOST_HEADS);
     for i in 0..steps.len() {
         let (before, _) = steps.split_at(i);
         let (_, behind) = steps.split_at(i + 1);
@@ -86,6 +139,13 @@ pub(crate) fn judge_voice(
             found,
             judge_step(weights, &now, before, at, &parts, behind)?,
         );
+        if weights.len() > limit {
+            let (_, own) = weights.as_slice().split_at(start);
+            if is_end(own, at, behind) {
+                return Ok((found, none_kept(alloc)));
+            }
+            limit = limit.saturating_mul(2);
+        }
         keep(alloc, &mut kept, &now, before, at, parts, behind)?;
         step_over(alloc, &mut now, at)?;
     }

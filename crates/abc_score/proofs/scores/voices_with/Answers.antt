@@ -5,8 +5,7 @@ use Rattle.abc_score.proofs.scores.voices_with.Goals as goal
 
 pub loop-judged-preserved : goal.loop-judged-preserved
 loop-judged-preserved c =
-    let old = into_iter_items c.loop-judged.judged-iterator in
-    let new = into_iter_items c.next.new.self in
+    let old = into_iter_items c.loop-judged.judged-iterator in let new = into_iter_items c.next.new.self in
     record {
       list = mapped_taken (voice_of c.args.header.now c.args.items.now c.args.n) (reads_of old) (reads_of new) c.in-Some.judged.read c.loop-judged.out c.push.new.self _ c.in_ok-voice_of.field-0
           c.in_ok-push.ensures.ok c.in_ok-voice_of.ensures (ap reads_of c.in-Some.ensures.steps.0) c.loop-judged.invariant.list;
