@@ -76,8 +76,7 @@ pub read_obeyed : (c : Command) (before after : Option (List ℕ)) (count_before
     → IsObeyed c s (record { before = before; after = after; count_before = count_before; count_after = count_after }) o e
 read_obeyed c before after count_before count_after limit text o e s reads is taken whole within count r =
     let i : Stream = record { before = before; after = after; count_before = count_before; count_after = count_after } in
-    let read : ReadAll (limit_of c) i text = record { taken = taken; whole = whole; within = subst (λ n. length text ≤ n) is within; count = count } in
-    obeyed_of c i o e text s (read_of c i text reads read) r
+    let read : ReadAll (limit_of c) i text = record { taken = taken; whole = whole; within = subst (λ n. length text ≤ n) is within; count = count } in obeyed_of c i o e text s (read_of c i text reads read) r
 
 -- a stream that is as it was
 abbrev pub untouched : Option (List ℕ) → ℕ → Stream

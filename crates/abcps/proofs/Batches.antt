@@ -32,8 +32,7 @@ running_more plan paper outcomes more given r s press told refused writer runnin
 pub running_written : (plan : Plan) (paper : Paper) (outcomes : List Outcome) (given : List Page) (r s : Running) → (IsPressed plan paper outcomes given r.press → IsPressed plan paper outcomes (given ++ done_pages r.press) s.press)
     → s.told ≡ r.told → s.refused ≡ r.refused → s.writer.pages ≡ r.writer.pages + length (done_pages r.press) → IsRunning plan paper outcomes given r → IsRunning plan paper outcomes (given ++ done_pages r.press) s
 running_written plan paper outcomes given r s press told refused count running =
-    let both = length-append given (done_pages r.press) in
-    let before = running.count in
+    let both = length-append given (done_pages r.press) in let before = running.count in
     record { pressed = press running.pressed; told = told ∙ running.told; refused = refused ∙ running.refused; count = omega (arith, both, count, before) }
 
 -- a tune is counted from 1
@@ -54,14 +53,7 @@ pub underway_first : (terms : Terms) (plan : Plan) (tunes : List TuneText) (o : 
 underway_first terms plan tunes o r rises took begun = record {
   before = [];
   whole = refl;
-  running = record {
-    outcomes = [];
-    given = [];
-    set = tt;
-    running = begun.none plan terms.paper rises;
-    free = begun.free;
-    wrote = subst (λ text. TookAll o text) (sym (append-nil (prolog (frame_of terms.paper)))) took;
-  };
+  running = record { outcomes = []; given = []; set = tt; running = begun.none plan terms.paper rises; free = begun.free; wrote = subst (λ text. TookAll o text) (sym (append-nil (prolog (frame_of terms.paper)))) took };
 }
 
 -- the document was not begun
@@ -86,8 +78,7 @@ module _ (terms : Terms) (plan : Plan) (tunes rest : List TuneText) where
       → ((outcomes : List Outcome) (given : List Page) → IsRunning plan terms.paper outcomes given r → IsRunning plan terms.paper outcomes (given ++ done_pages r.press) s) → IsOpen s.press
       → IsUnderway terms plan tunes rest (stream b a n l) s
   underway_written b m a n k l r s way took written free =
-      let run = way.running in
-      let sent = subst (λ j. TookAll (stream m a k l) (numbered page_text (j + 1) (done_pages r.press))) run.running.count took in
+      let run = way.running in let sent = subst (λ j. TookAll (stream m a k l) (numbered page_text (j + 1) (done_pages r.press))) run.running.count took in
       record {
         before = way.before;
         whole = way.whole;
@@ -124,8 +115,7 @@ module _ (terms : Terms) (plan : Plan) (tunes rest : List TuneText) where
   pub cut_written : (b m a : Option (List ℕ)) (n k l : ℕ) (r : Running) (why : Status) → IsUnderway terms plan tunes rest (stream b m n k) r
       → WasStopped why (stream m a k l) (numbered page_text (r.writer.pages + 1) (done_pages r.press)) → AreCutOff terms plan tunes (stream b a n l) why
   cut_written b m a n k l r why way stopped =
-      let run = way.running in
-      let sent = subst (λ j. WasStopped why (stream m a k l) (numbered page_text (j + 1) (done_pages r.press))) run.running.count stopped in
+      let run = way.running in let sent = subst (λ j. WasStopped why (stream m a k l) (numbered page_text (j + 1) (done_pages r.press))) run.running.count stopped in
       cut_by (stream b m n k) (stream b a n l) r why way
       (stopped_behind b m a n k l (first_text terms.paper run.given) run.wrote.0 run.wrote.1 why (numbered page_text (length run.given + 1) (done_pages r.press)) sent)
 
@@ -150,6 +140,5 @@ module _ (terms : Terms) (plan : Plan) (tunes rest : List TuneText) where
   -- or was not, for want of memory
   pub cut_memory : (o : Stream) (r : Running) (why : Status) → why ≡ Status.Memory → IsUnderway terms plan tunes rest o r → AreCutOff terms plan tunes o why
   cut_memory o r why is way =
-      let run = way.running in
-      let pages = numbered page_text (length run.given + 1) (done_pages r.press) in
+      let run = way.running in let pages = numbered page_text (length run.given + 1) (done_pages r.press) in
       cut_by o o r why way (subst (λ s. WasStopped s o (first_text terms.paper run.given ++ pages)) (sym is) (memory_behind o (first_text terms.paper run.given) pages run.wrote))

@@ -19,22 +19,13 @@ listed_by lists manner false text outcomes short set = tt
 -- what `systems` calls for
 pub calls_systems : ListsTheBook → (manner : Manner) (table : Bool) (text : List ℕ) (outcomes : List Outcome) → length text ≤ 2 ^ 30 → AreSet manner text outcomes
     → CallsSystems manner table text (systems_called table outcomes)
-calls_systems lists manner table text outcomes short set = record {
-  outcomes = outcomes;
-  set = set;
-  page = refl;
-  listed = listed_by lists manner table text outcomes short set;
-  told = refl;
-  status = refl;
-}
+calls_systems lists manner table text outcomes short set = record { outcomes = outcomes; set = set; page = refl; listed = listed_by lists manner table text outcomes short set; told = refl; status = refl }
 
 -- what `trial` calls for
 pub tries : (tunes : ℕ) (manner : Manner) (even : Bool) (text : List ℕ) (paper : Paper) (outcomes : List Outcome) (c : Called) → text ≡ book tunes → paper ≡ paper_in text → AreSet manner text outcomes
     → IsTried tunes even paper outcomes c → Tries tunes manner even c
 tries tunes manner even text paper outcomes c is on set tried =
-    let same = on ∙ ap paper_in is in
-    let booked = tried.booked in
-    let sheet = booked.made.value ∙ ap (λ (p : Paper). sheet_of booked.plan p outcomes) same in
+    let same = on ∙ ap paper_in is in let booked = tried.booked in let sheet = booked.made.value ∙ ap (λ (p : Paper). sheet_of booked.plan p outcomes) same in
     record {
       outcomes = outcomes;
       set = subst (λ t. AreSet manner t outcomes) is set;

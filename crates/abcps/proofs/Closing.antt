@@ -12,16 +12,12 @@ module _ (plan : Plan) (paper : Paper) (outcomes : List Outcome) (given pages : 
   last_count = sym (length-append given pages) ∙ sym (ap length last.whole)
 
   pub last_few : (n : ℕ) → n ≡ length given → n + length pages < 2 ^ 32
-  last_few n at =
-      let count = last_count in
-      let few = last.sheet.good.few in
-      omega (arith, count, few, at)
+  last_few n at = let count = last_count in let few = last.sheet.good.few in omega (arith, count, few, at)
 
   -- what stands behind the first pages, by the number of the pages
   rest_is : (n m : ℕ) → n ≡ length given → m ≡ n + length pages → rest_text given (sheet_of plan paper outcomes) ≡ numbered page_text (n + 1) pages ++ trailer m
   rest_is n m at end =
-      let rest : drop (length given) (sheet_of plan paper outcomes).pages ≡ pages = ap (λ l. drop (length given) l) last.whole ∙ drop-append_seam given pages in
-      let count = last_count in
+      let rest : drop (length given) (sheet_of plan paper outcomes).pages ≡ pages = ap (λ l. drop (length given) l) last.whole ∙ drop-append_seam given pages in let count = last_count in
       let all : length (sheet_of plan paper outcomes).pages ≡ m = omega (arith, count, at, end) in
       ap (λ l. numbered page_text (length given + 1) l ++ trailer (length (sheet_of plan paper outcomes).pages)) rest
       ∙ ap (λ j. numbered page_text (length given + 1) pages ++ trailer j) all ∙ ap (λ j. numbered page_text (j + 1) pages ++ trailer m) (sym at)

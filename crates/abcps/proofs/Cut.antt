@@ -3,7 +3,7 @@ use Rattle.std.{proofs.{Common.{◌≡◌, refl, sym, ap, ◌∙◌, subst, ◌�
 use Rattle.abc_lines.specs.{declared.{book.{Book.Book, TuneText.TuneText}, fault.Fault.Fault}, Books.book_of}
 use Rattle.abc_header.specs.{declared.{defaults.Defaults.Defaults, paper.Paper.Paper}, Defaults.defaults_of, Papers.{IsGoodPaper, height_of, paper_of}}
 use Rattle.{ps_text.specs.{Document.document, declared.sheet.Page.Page}, set_book.{specs.{declared.outcome.Outcome.Outcome, Outcomes.{AreOutcomes, IsOutcome}}, proofs.Once.outcomes_once}}
-use Rattle.{set_lists.specs.Reports.{some_fault}, lay_pages.specs.Filling.{AreGoodBlocks}, set_every.specs.Every.{EveryTuneHasAnOutcome}}
+use Rattle.{set_heard.proofs.Books.{books_are_heard}, set_lists.specs.Reports.{some_fault}, lay_pages.specs.Filling.{AreGoodBlocks}, set_every.specs.Every.{EveryTuneHasAnOutcome}}
 use Rattle.set_pages.{specs.{Sheet.{IsPlan, IsSetResult, IsSetUnder, all_spots, frame_of, sheet_of}, declared.{plan.Plan.Plan, press.Press.Press}, Drawings.{all_blocks, all_drawings, outcome_blocks, result_blocks}, Press.{HasRoom, IsOpen, IsPressed, RisesBy, done_pages}}, proofs.{Fronts.{IsFront, done_first, done_front}, Standing.good_append, Whole.{one_plan, plan_rises, plan_stands, room_by, sheet_whole, stand_count}, Zips.{zip_back, zip_front}}}
 use Rattle.abcps.{specs.{Pressed.{AreCutOff, AreRunning, IsClosed, IsPlanned, IsPrinted, IsUnprinted, WasCounted, WasStopped, all_set, first_text, rest_text, some_left, status_if, unbegun}, Called.Called, Books.{AreSet, CallsPages, pages_called, paper_in, terms_in}, Outcome.{HasFront, IsAnswer, IsCutShort, IsEnd, IsQuiet, Stream, TookAll, TookFront}, declared.{pressing.{Printed.Printed, Running.Running}, status.Status.Status}}, proofs.{Sent.{document_parts, front_longer, stopped_behind, stopped_count, stopped_front, stopped_longer, stream, took_behind}, Answered.{answer_by, answered_end}, Batches.IsUnderway, BookCalls.set_under}}
 use Rattle.{set_tune.{specs.{Blocks.{blocks_of, is_some_list}, Terms.{Manner, Terms}, declared.tune.SetTune.SetTune}, proofs.{GoodBlocks.good_blocks, Laid.good_heights}}, abcps_words.specs.declared.command.Command.{Command}}
@@ -24,14 +24,14 @@ parts_of plan paper outcomes given front = document_parts paper given (sheet_of 
 pub calls_pages : (manner : Manner) (even : Bool) (text : List ℕ) (outcomes : List Outcome) (plan : Plan) (given : List Page) (press : Press) → AreSet manner text outcomes → IsPlan even (paper_in text) outcomes plan
     → IsGoodPaper (paper_in text) → IsOpen press → IsPressed plan (paper_in text) outcomes given press → CallsPages manner even text (pages_called plan (paper_in text) outcomes)
 calls_pages manner even text outcomes plan given press set planned good free pressed =
-    let sheet = sheet_whole plan (paper_in text) outcomes given press good free pressed in
-    let stand = plan_stands even (paper_in text) outcomes plan good pressed.set pressed.good planned in
+    let sheet = sheet_whole plan (paper_in text) outcomes given press good free pressed in let stand = plan_stands even (paper_in text) outcomes plan good pressed.set pressed.good planned in
     record {
       outcomes = outcomes;
       set = set;
       sheet = sheet_of plan (paper_in text) outcomes;
       read = record { good = sheet.good; spelled = refl };
       shows = stand.shown;
+      sounds = books_are_heard (paper_in text) outcomes (sheet_of plan (paper_in text) outcomes) pressed.set stand.shown;
       plan = plan;
       parted = planned;
       blocks = stand.stand;
@@ -61,18 +61,14 @@ pub planned_room : (even : Bool) (terms : Terms) (before batch later : List Tune
     → HasRoom plan (height_of terms.paper) p (all_blocks more)
 planned_room false terms before batch later plan first more given p planned set also pressed = subst (λ q. HasRoom q (height_of terms.paper) p (all_blocks more)) (sym planned) tt
 planned_room true terms before batch later plan first more given p planned set also pressed =
-    let all = planned.0 in
-    let rest = drop (length before) all in
-    let one = first_outcomes terms before (batch ++ later) first all set planned.1 in
-    let behind : AreOutcomes terms (batch ++ later) rest = zip_back (IsOutcome terms) before (batch ++ later) all planned.1 in
-    let two = first_outcomes terms batch later more rest also behind in
+    let all = planned.0 in let rest = drop (length before) all in let one = first_outcomes terms before (batch ++ later) first all set planned.1 in
+    let behind : AreOutcomes terms (batch ++ later) rest = zip_back (IsOutcome terms) before (batch ++ later) all planned.1 in let two = first_outcomes terms batch later more rest also behind in
     room_by true terms.paper first more (drop (length batch) rest) plan p pressed.put (subst (λ os. IsPlan true terms.paper os plan) (one ∙ ap (λ os. first ++ os) two) planned.2)
 
 pub room_underway : (even : Bool) (terms : Terms) (plan : Plan) (tunes rest batch : List TuneText) (n : ℕ) (o : Stream) (r : Running) (more : List Outcome) → batch ≡ take n rest
     → IsPlanned even terms tunes plan → IsUnderway terms plan tunes rest o r → AreOutcomes terms batch more → HasRoom plan (height_of terms.paper) r.press (all_blocks more)
 room_underway even terms plan tunes rest batch n o r more front planned way set =
-    let run = way.running in
-    let cut : rest ≡ batch ++ drop n rest = sym (take-append-drop n rest) ∙ ap (λ l. l ++ drop n rest) (sym front) in
+    let run = way.running in let cut : rest ≡ batch ++ drop n rest = sym (take-append-drop n rest) ∙ ap (λ l. l ++ drop n rest) (sym front) in
     let whole : tunes ≡ way.before ++ (batch ++ drop n rest) = sym way.whole ∙ ap (λ l. way.before ++ l) cut in
     planned_room even terms way.before batch (drop n rest) plan run.outcomes more run.given r.press
     (subst (λ l. IsPlanned even terms l plan) whole planned) run.set set run.running.pressed
@@ -82,22 +78,17 @@ front_called : (terms : Terms) (plan : Plan) (before rest : List TuneText) (outc
     → AreOutcomes terms before outcomes → IsPressed plan terms.paper outcomes given press → AreOutcomes terms (before ++ rest) all → length (all_drawings all) ≡ length (all_spots plan terms.paper all)
     → IsFront (given ++ done_pages press) (sheet_of plan terms.paper all).pages
 front_called terms plan before rest outcomes all given press set pressed whole count =
-    let parts = first_outcomes terms before rest outcomes all set whole in
-    let more = drop (length before) all in
+    let parts = first_outcomes terms before rest outcomes all set whole in let more = drop (length before) all in
     subst (λ os. IsFront (given ++ done_pages press) (sheet_of plan terms.paper os).pages) (sym parts)
     (done_front plan terms.paper outcomes more given press pressed
     (subst (λ os. length (all_drawings os) ≡ length (all_spots plan terms.paper os)) parts count))
 
 text_front : (plan : Plan) (paper : Paper) (outcomes : List Outcome) (given : List Page) (o : Stream) → IsFront given (sheet_of plan paper outcomes).pages → HasFront o (first_text paper given)
     → HasFront o (document (sheet_of plan paper outcomes))
-text_front plan paper outcomes given o front has =
-    subst (λ l. HasFront o l) (sym (parts_of plan paper outcomes given front)) (front_longer o (first_text paper given) (rest_text given (sheet_of plan paper outcomes)) has)
+text_front plan paper outcomes given o front has = subst (λ l. HasFront o l) (sym (parts_of plan paper outcomes given front)) (front_longer o (first_text paper given) (rest_text given (sheet_of plan paper outcomes)) has)
 
 count_left : (before rest tunes : List TuneText) (tune : TuneText) → before ++ (tune ∷ rest) ≡ tunes → length before < length tunes
-count_left before rest tunes tune whole =
-    let both = length-append before (tune ∷ rest) in
-    let same = ap length whole in
-    omega (arith, both, same)
+count_left before rest tunes tune whole = let both = length-append before (tune ∷ rest) in let same = ap length whole in omega (arith, both, same)
 
 -- the blocks of tunes that are set have good heights
 result_good : (paper : Paper) (r : Result SetTune Fault) → IsSetResult paper r → AreGoodBlocks (result_blocks r)
@@ -107,8 +98,7 @@ result_good paper (Err fault) set = tt
 
 blocks_good : (paper : Paper) (outcomes : List Outcome) → All (IsSetUnder paper) outcomes → AreGoodBlocks (all_blocks outcomes)
 blocks_good paper [] set = tt
-blocks_good paper (o ∷ os) set =
-    good_append (outcome_blocks o) (all_blocks os) (result_good paper o.result (All-head (IsSetUnder paper) o os set).result) (blocks_good paper os (All-tail (IsSetUnder paper) o os set))
+blocks_good paper (o ∷ os) set = good_append (outcome_blocks o) (all_blocks os) (result_good paper o.result (All-head (IsSetUnder paper) o os set).result) (blocks_good paper os (All-tail (IsSetUnder paper) o os set))
 
 module _ (manner : Manner) (even : Bool) (text : List ℕ) (plan : Plan) (o : Stream) (why : Status) (every : EveryTuneHasAnOutcome) (good : IsGoodPaper (paper_in text))
     (planned : IsPlanned even (terms_in manner text) (book_of text).tunes plan)
@@ -130,8 +120,7 @@ module _ (manner : Manner) (even : Bool) (text : List ℕ) (plan : Plan) (o : St
     -- what went out is a front of the document of all tunes
     front_whole : HasFront o (document (sheet_of plan (paper_in text) all))
     front_whole =
-        let given = cut.given ++ done_pages cut.press in
-        let under = set_under manner text (paper_in text) all refl set in
+        let given = cut.given ++ done_pages cut.press in let under = set_under manner text (paper_in text) all refl set in
         let stand = plan_stands even (paper_in text) all plan good under (blocks_good (paper_in text) all under) parted_all in
         let front = front_called (terms_in manner text) plan cut.before cut.rest cut.outcomes all cut.given cut.press cut.set cut.pressed behind (stand_count plan (paper_in text) all under stand.stand) in
         text_front plan (paper_in text) all given o front (stopped_front why o (first_text (paper_in text) given) cut.wrote)
@@ -149,13 +138,11 @@ module _ (manner : Manner) (even : Bool) (text : List ℕ) (plan : Plan) (o : St
 
   unprinted_by : (rest : List TuneText) → cut.rest ≡ rest → IsUnprinted manner even text o why
   unprinted_by [] none =
-      let tunes = sym (append-nil cut.before) ∙ ap (λ l. cut.before ++ l) (sym none) ∙ cut.whole in
-      let set = subst (λ l. AreOutcomes (terms_in manner text) l cut.outcomes) tunes cut.set in
+      let tunes = sym (append-nil cut.before) ∙ ap (λ l. cut.before ++ l) (sym none) ∙ cut.whole in let set = subst (λ l. AreOutcomes (terms_in manner text) l cut.outcomes) tunes cut.set in
       let parted = plan_of_all even (terms_in manner text) (book_of text).tunes plan cut.outcomes planned set in
       all_set (pages_called plan (paper_in text) cut.outcomes) (calls_pages manner even text cut.outcomes plan cut.given cut.press set parted good cut.free cut.pressed) stopped_all
   unprinted_by (tune ∷ rest) is =
-      let whole = ap (λ l. cut.before ++ l) (sym is) ∙ cut.whole in
-      let all = every.book text manner in
+      let whole = ap (λ l. cut.before ++ l) (sym is) ∙ cut.whole in let all = every.book text manner in
       some_left
       (record {
         count = length cut.before;
@@ -206,9 +193,7 @@ module _ (manner : Manner) (even : Bool) (text : List ℕ) (plan : Plan) (b m a 
 pub of_book : (P : Defaults → Paper → List TuneText → Type 0) (text : List ℕ) (book : Book) (paper : Paper) (defaults : Defaults) (tunes : List TuneText) → book ≡ book_of text → paper ≡ paper_of book.header
     → defaults ≡ defaults_of book.header → tunes ≡ book.tunes → P defaults paper tunes → P (defaults_of (book_of text).header) (paper_in text) (book_of text).tunes
 of_book P text book paper defaults tunes is on under listed h =
-    let a = subst (λ l. P defaults paper l) listed h in
-    let b = subst (λ d. P d paper book.tunes) under a in
-    let c = subst (λ p. P (defaults_of book.header) p book.tunes) on b in
+    let a = subst (λ l. P defaults paper l) listed h in let b = subst (λ d. P d paper book.tunes) under a in let c = subst (λ p. P (defaults_of book.header) p book.tunes) on b in
     subst (λ (x : Book). P (defaults_of x.header) (paper_of x.header) x.tunes) is c
 
 -- what `set` answers where its document was written, and errors was told the reports

@@ -40,12 +40,7 @@ gathering_done terms tunes rest blocks none way = subst (λ l. AreGathered terms
 
 -- they are blocks of outcomes on the paper, and their plan is that of the tunes
 pub blocks_on : (terms : Terms) (tunes : List TuneText) (blocks at : List Block) → at ≡ blocks → All IsCounted tunes → AreGathered terms tunes blocks → AreBlocksOn terms.paper at
-blocks_on terms tunes blocks at same counted all = record {
-  outcomes = all.outcomes;
-  set = set_outcomes terms tunes all.outcomes counted all.set;
-  value = same ∙ all.value;
-  good = subst AreGoodBlocks (sym same) all.good;
-}
+blocks_on terms tunes blocks at same counted all = record { outcomes = all.outcomes; set = set_outcomes terms tunes all.outcomes counted all.set; value = same ∙ all.value; good = subst AreGoodBlocks (sym same) all.good }
 
 pub planned_by : (even : Bool) (terms : Terms) (tunes : List TuneText) (blocks at : List Block) (plan : Plan) → even ≡ true → at ≡ blocks → AreGathered terms tunes blocks
     → ((outcomes : List Outcome) → at ≡ all_blocks outcomes → IsPlan true terms.paper outcomes plan) → IsPlanned even terms tunes plan

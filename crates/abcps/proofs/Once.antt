@@ -45,8 +45,7 @@ systems_once one manner table text c d a b =
 
 trial_once : HaveOneOutcome → (tunes : ℕ) (manner : Manner) (even : Bool) (c d : Called) → Tries tunes manner even c → Tries tunes manner even d → c ≡ d
 trial_once one tunes manner even c d a b =
-    let same = one_set one manner (book tunes) a.outcomes b.outcomes a.set b.set in
-    let paper = paper_in (book tunes) in
+    let same = one_set one manner (book tunes) a.outcomes b.outcomes a.set b.set in let paper = paper_in (book tunes) in
     quiet_called c d (a.page ∙ by_plan (λ p os. trial_text (trial_of tunes os (sheet_of p paper os))) even paper a.outcomes b.outcomes a.plan b.plan same a.parted b.parted ∙ sym b.page) a.quietly b.quietly
 
 -- ---- the others
@@ -54,41 +53,29 @@ sheet_once : (report : Sheet → List ℕ) (text : List ℕ) (c d : Called) → 
 sheet_once report text c d a b = quiet_called c d (a.page ∙ ap report (b.read.only a.sheet a.read.spells) ∙ sym b.page) a.quietly b.quietly
 
 least_or_not : (e : Entry) (total other better : ℕ) (breaks : List ℕ) → IsVerdict e (Least total) → IsVerdict e (NotLeast other better breaks) → ⊥
-least_or_not e total other better breaks a b =
-    let least = a.1 breaks b.3.legal in
-    let own = a.0 in
-    let its = b.0 in
-    let less = b.1 in
-    let sum = b.2 in
-    omega (arith, least, own, its, less, sum)
+least_or_not e total other better breaks a b = let least = a.1 breaks b.3.legal in let own = a.0 in let its = b.0 in let less = b.1 in let sum = b.2 in omega (arith, least, own, its, less, sum)
 
 one_verdict : (e : Entry) (v w : Verdict) → IsVerdict e v → IsVerdict e w → v ≡ w
 one_verdict e (Least total) (Least other) a b = ap Least (a.0 ∙ sym b.0)
 one_verdict e (Least total) (NotLeast other better breaks) a b = absurd (least_or_not e total other better breaks a b)
 one_verdict e (NotLeast total better breaks) (Least other) a b = absurd (least_or_not e other total better breaks b a)
 one_verdict e (NotLeast total better breaks) (NotLeast other dear places) a b =
-    let same : breaks ≡ places = one_is_chosen (listed e.spans) none_forced e.bars breaks places a.3 b.3 in
-    let totals : total ≡ other = a.0 ∙ sym b.0 in
-    let sums : better ≡ dear = a.2 ∙ ap (sum_from (listed e.spans) 0) same ∙ sym b.2 in
-    cc
+    let same : breaks ≡ places = one_is_chosen (listed e.spans) none_forced e.bars breaks places a.3 b.3 in let totals : total ≡ other = a.0 ∙ sym b.0 in
+    let sums : better ≡ dear = a.2 ∙ ap (sum_from (listed e.spans) 0) same ∙ sym b.2 in cc
 
 abbrev judged_of : ℕ → Verdict → Judged
 judged_of tune verdict = record { tune = tune; verdict = verdict }
 
 one_judged : (e : Entry) (j k : Judged) → j.tune ≡ e.tune → k.tune ≡ e.tune → IsVerdict e j.verdict → IsVerdict e k.verdict → j ≡ k
 one_judged e j k a b v w =
-    let tune : j.tune ≡ k.tune = a ∙ sym b in
-    let verdict : j.verdict ≡ k.verdict = one_verdict e j.verdict k.verdict v w in
+    let tune : j.tune ≡ k.tune = a ∙ sym b in let verdict : j.verdict ≡ k.verdict = one_verdict e j.verdict k.verdict v w in
     let made : judged_of j.tune j.verdict ≡ judged_of k.tune k.verdict = cc in made
 
 one_verdicts : (es : List Entry) (js ks : List Judged) → AreVerdicts es js → AreVerdicts es ks → js ≡ ks
 one_verdicts [] [] [] a b = refl
 one_verdicts [] [] (k ∷ ks) a b = absurd b
 one_verdicts (e ∷ es) (j ∷ js) [] a b = absurd b
-one_verdicts (e ∷ es) (j ∷ js) (k ∷ ks) a b =
-    let first = one_judged e j k a.0 b.0 a.1 b.1 in
-    let others = one_verdicts es js ks a.2 b.2 in
-    cc
+one_verdicts (e ∷ es) (j ∷ js) (k ∷ ks) a b = let first = one_judged e j k a.0 b.0 a.1 b.1 in let others = one_verdicts es js ks a.2 b.2 in cc
 one_verdicts es js ks a b = absurd a
 
 judged_once : (text : List ℕ) (js ks : List Judged) → IsJudged text js → IsJudged text ks → js ≡ ks
@@ -96,8 +83,7 @@ judged_once text js ks a b = one_verdicts a.0 js ks a.2 (subst (λ es. AreVerdic
 
 verdicts_once : (text : List ℕ) (c d : Called) → Judges text c → Judges text d → c ≡ d
 verdicts_once text c d a b =
-    let same = judged_once text a.judged b.judged a.verdicts b.verdicts in
-    same_called c d (a.page ∙ ap verdicts_text same ∙ sym b.page) (a.told ∙ sym b.told) (a.status ∙ ap status_by same ∙ sym b.status)
+    let same = judged_once text a.judged b.judged a.verdicts b.verdicts in same_called c d (a.page ∙ ap verdicts_text same ∙ sym b.page) (a.told ∙ sym b.told) (a.status ∙ ap status_by same ∙ sym b.status)
 
 painted_once : HasOneAnswer → (text : List ℕ) (c d : Called) → IsPainted text c → IsPainted text d → c ≡ d
 painted_once alone text c d a b = quiet_called c d (a.page ∙ ap paint_text (alone.painted text (budget_of text) a.pages b.pages a.paints b.paints) ∙ sym b.page) a.quietly b.quietly

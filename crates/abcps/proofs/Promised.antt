@@ -7,19 +7,13 @@ use Rattle.abcps.specs.{Called.Called, Calls.{Calls, CallsOne, NeverBoth, Refuse
 whole_read : (before after : Option (List ℕ)) (told text : List ℕ) → before ≡ Some told → Consumes before after text → IsAtEnd after → text ≡ told
 whole_read None after told text e taken end = cc
 whole_read (Some xs) None told text e taken end = absurd taken
-whole_read (Some xs) (Some ys) told text e taken end =
-    let all : xs ≡ told = cc in
-    sym (sym all ∙ taken ∙ ap (λ zs. text ++ zs) end ∙ append-nil text)
+whole_read (Some xs) (Some ys) told text e taken end = let all : xs ≡ told = cc in sym (sym all ∙ taken ∙ ap (λ zs. text ++ zs) end ∙ append-nil text)
 
 -- what was taken is no longer than what there was
 taken_short : (before after : Option (List ℕ)) (told text : List ℕ) → before ≡ Some told → Consumes before after text → length text ≤ length told
 taken_short None after told text e taken = cc
 taken_short (Some xs) None told text e taken = absurd taken
-taken_short (Some xs) (Some ys) told text e taken =
-    let all : xs ≡ told = cc in
-    let sum : length told ≡ length (text ++ ys) = ap length (sym all ∙ taken) in
-    let both = length-append text ys in
-    omega arith
+taken_short (Some xs) (Some ys) told text e taken = let all : xs ≡ told = cc in let sum : length told ≡ length (text ++ ys) = ap length (sym all ∙ taken) in let both = length-append text ys in omega arith
 
 module _ (alone : CallsOne) (either : NeverBoth) (words : List (List ℕ)) (i o e : Stream) where
   usage_by : (s : Status) → IsRun s words i o e → (IsListed words → ⊥) → s ≡ Status.Usage
@@ -47,9 +41,7 @@ module _ (alone : CallsOne) (either : NeverBoth) (words : List (List ℕ)) (i o 
   done_by Status.Halted run a b c d f g = absurd (d tt)
   done_by Status.WriteFault run a b c d f g = absurd (f refl)
   done_by Status.Memory run a b c d f g = absurd (g refl)
-  done_by s run a b c d f g =
-      let r = run.2.2 in
-      (run.0, run.2.0, record { asked = run.1; read = run.2.1 }, done_with run.0 run.2.0 s r.0 r.1 r.2 r.3 r.4)
+  done_by s run a b c d f g = let r = run.2.2 in (run.0, run.2.0, record { asked = run.1; read = run.2.1 }, done_with run.0 run.2.0 s r.0 r.1 r.2 r.3 r.4)
 
   memory_part : (c : Command) → Asks words c → (IsQuiet o ⊎ ((text : List ℕ) × IsRead c i text × HasPart c text o)) → IsQuiet o ⊎ ((c : Command) × (text : List ℕ) × IsWhole c words i text × HasPart c text o)
   memory_part c asked (inl none) = inl none
@@ -120,9 +112,7 @@ module _ (alone : CallsOne) (either : NeverBoth) (words : List (List ℕ)) (i o 
   refused_by s run is = absurd is
 
   too_long : (most : ℕ) (told text : List ℕ) → (i.before ≡ Some told) × (length told ≤ most) → ReadTooMuch most i text → ⊥
-  too_long most told text is read =
-      let short = taken_short i.before i.after told text is.0 read.taken in
-      omega (arith, short, read.past, is.1)
+  too_long most told text is read = let short = taken_short i.before i.after told text is.0 read.taken in omega (arith, short, read.past, is.1)
 
   not_too_long : (c : Command) (told text : List ℕ) → IsReader c → IsToldTo c i told → ReadTooMuch (limit_of c) i text → ⊥
   not_too_long c told text reads is read = too_long (limit_of c) told text (told_reader c told reads is) read
@@ -152,9 +142,7 @@ module _ (alone : CallsOne) (either : NeverBoth) (words : List (List ℕ)) (i o 
   obeyed one d s run asked = (λ is. cc, subst (λ c. IsObeyed c s i o e) (one words run.0 d run.1 asked) run.2)
 
   answered_as : AsksOne → (s : Status) → IsRun s words i o e → (c : Command) (text : List ℕ) → IsGiven c words i o e text → (s ≡ Status.Memory → ⊥) → IsDone c s text o e ⊎ IsRefused c s text o e
-  answered_as one s run c text given ample =
-      let r = obeyed one c s run given.asked in
-      obeyed_as c s r.1 text given.good given.told ample r.0
+  answered_as one s run c text given ample = let r = obeyed one c s run given.asked in obeyed_as c s r.1 text given.good given.told ample r.0
 
   pub promised : AsksOne → (s : Status) → IsRun s words i o e → Promises s words i o e
   promised one s run = record {

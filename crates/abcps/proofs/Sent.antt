@@ -14,9 +14,7 @@ take_longer (suc n) (x ∷ xs) ys = let more = take_longer n xs ys in (suc more.
 take_longer n xs ys = (0, refl)
 
 pub front_longer : (o : Stream) (xs ys : List ℕ) → HasFront o xs → HasFront o (xs ++ ys)
-front_longer o xs ys front =
-    let longer = take_longer front.0 xs ys in
-    (longer.0, subst (λ l. Appends o.before o.after l) (sym longer.1) front.1)
+front_longer o xs ys front = let longer = take_longer front.0 xs ys in (longer.0, subst (λ l. Appends o.before o.after l) (sym longer.1) front.1)
 
 pub stopped_longer : (why : Status) (o : Stream) (xs ys : List ℕ) → WasStopped why o xs → WasStopped why o (xs ++ ys)
 stopped_longer Status.WriteFault o xs ys cut = let front = front_longer o xs ys (cut.0, cut.1) in (front.0, front.1, cut.2)
@@ -42,12 +40,8 @@ module _ (b m a : Option (List ℕ)) (n k l : ℕ) (xs : List ℕ) (sent : Appen
   front_behind ys front = (length xs + front.0, subst (λ text. Appends b a text) (sym (take-append-add xs ys front.0)) (Appends-trans b m a xs (take front.0 ys) sent front.1))
 
   pub stopped_behind : (why : Status) (ys : List ℕ) → WasStopped why (stream m a k l) ys → WasStopped why (stream b a n l) (xs ++ ys)
-  stopped_behind Status.WriteFault ys cut =
-      let front = front_behind ys (cut.0, cut.1) in
-      (front.0, front.1, subst (λ j. Rose j l) same cut.2)
-  stopped_behind Status.Memory ys cut =
-      let front = front_behind ys (cut.0, cut.1) in
-      (front.0, front.1, cut.2 ∙ same)
+  stopped_behind Status.WriteFault ys cut = let front = front_behind ys (cut.0, cut.1) in (front.0, front.1, subst (λ j. Rose j l) same cut.2)
+  stopped_behind Status.Memory ys cut = let front = front_behind ys (cut.0, cut.1) in (front.0, front.1, cut.2 ∙ same)
   stopped_behind why ys cut = absurd cut
 
 -- a step of a writer that failed
@@ -85,8 +79,7 @@ document_parts paper given sheet frame front =
     let same : 1 + length given ≡ length given + 1 = omega arith in
     ap (λ l. numbered page_text 1 l) front.whole ∙ numbered_append page_text 1 given front.rest ∙ ap (λ j. numbered page_text 1 given ++ numbered page_text j front.rest) same
     ∙ ap (λ l. numbered page_text 1 given ++ numbered page_text (length given + 1) l) (sym rest) in
-    let behind = numbered page_text (length given + 1) (drop (length given) sheet.pages) in
-    let end = trailer (length sheet.pages) in
+    let behind = numbered page_text (length given + 1) (drop (length given) sheet.pages) in let end = trailer (length sheet.pages) in
     document_text sheet ∙ ap (λ f. prolog f ++ (numbered page_text 1 sheet.pages ++ end)) frame ∙ ap (λ text. prolog (frame_of paper) ++ (text ++ end)) pages
     ∙ ap (λ text. prolog (frame_of paper) ++ text) (append_assoc (numbered page_text 1 given) behind end)
     ∙ sym (append_assoc (prolog (frame_of paper)) (numbered page_text 1 given) (behind ++ end))

@@ -1,7 +1,7 @@
 -- What the commands that set a book call for.
 use Rattle.std.specs.Prelude.{◌≡◌, ⊤, ℕ, List, [], Bool, true, false, if◌then◌else◌, length}
 use Rattle.{abc_lines.specs.Books.{book_of}, abc_header.specs.{declared.paper.Paper.Paper, Defaults.defaults_of, Papers.paper_of}, gen_book.specs.Book.{book}, ps_text.specs.{Document.{Spells, document}, declared.sheet.Sheet.Sheet}}
-use Rattle.{set_book.specs.{declared.outcome.Outcome.Outcome, Outcomes.AreOutcomes}, set_pages.specs.{declared.plan.Plan.Plan, Press.IsBookSheet, Read.ShowsBook, Sheet.{AreStanding, IsPlan, sheet_of}}}
+use Rattle.{set_book.specs.{declared.outcome.Outcome.Outcome, Outcomes.AreOutcomes}, set_pages.specs.{declared.plan.Plan.Plan, Press.IsBookSheet, Read.ShowsBook, Sheet.{AreStanding, IsPlan, sheet_of}}, set_heard.specs.Sounds.{SoundsBook}}
 use Rattle.set_lists.specs.{declared.trials.Trial.Trial, Reports.{reports, some_fault}, Systems.systems_text, Laws.ListsTheScores, Listing.listing_text, Trials.{fault_count, set_count, system_count, total_of, trial_text}}
 use Rattle.{set_tune.specs.Terms.{Manner, Terms, terms_by}, abcps.specs.{Called.{Called, IsQuietly}, declared.status.Status.Status}}
 
@@ -21,14 +21,16 @@ abbrev pub status_of : List Outcome → Status
 status_of outcomes = if some_fault outcomes then Status.SomeRefused else Status.Done
 
 -- Of `set`: the page spells one sheet. What a reader finds on it are the tunes without fault, in order: of each the systems of its chosen
--- breaking, with exactly the marks that its score calls for, set to the margin and apart; each block lies on its page and follows the one
--- before it; with even pages no other parting of the groups into pages that fit has a smaller total; and each fault is told.
+-- breaking, with exactly the marks that its score calls for, set to the margin and apart; what a listener hears of its clear tunes
+-- whose voices have a staff each is what their scores sound; each block lies on its page and follows the one before it; with even pages no other parting of the groups into pages that fit has
+-- a smaller total; and each fault is told.
 pub record CallsPages (manner : Manner) (even : Bool) (text : List ℕ) (c : Called) : Type 0 where
   pub outcomes : List Outcome
   pub set : AreSet manner text outcomes
   pub sheet : Sheet
   pub read : Spells sheet c.page
   pub shows : ShowsBook (paper_in text) outcomes sheet
+  pub sounds : SoundsBook outcomes sheet
   pub plan : Plan
   pub parted : IsPlan even (paper_in text) outcomes plan
   pub blocks : AreStanding plan (paper_in text) outcomes

@@ -10,12 +10,11 @@ ear_with c k said before here heard = record { clef = c; key = record { signs = 
 abbrev pub ear_at : Spread → List Column → Ear
 ear_at spread cols = ear_with (clef_at cols) (key_at cols) (said_at cols) (last_heads spread cols) [] (all_heads spread cols)
 
-walked : (spread : Spread) (col : Column) (c : Clef) (k : List Sign) (before heard : List Heard) (ns : List Noted) (said : List Head) (here : List Heard) → hear_from spread col (ear_with c k said before here heard) ns
+pub walked : (spread : Spread) (col : Column) (c : Clef) (k : List Sign) (before heard : List Heard) (ns : List Noted) (said : List Head) (here : List Heard) → hear_from spread col (ear_with c k said before here heard) ns
     ≡ ear_with c k (said_behind c col said ns) before (here ++ heads_from spread col c k before said ns) heard
 walked spread col c k before heard [] said here = ap (λ h. ear_with c k said before h heard) (sym (append-nil here))
 walked spread col c k before heard (n ∷ ns) said here =
-    let more = said_with n.role (head_at c n.dy col.notes) said in
-    let one = listed n.role (heard_at spread col c k before said n.dy) in
+    let more = said_with n.role (head_at c n.dy col.notes) said in let one = listed n.role (heard_at spread col c k before said n.dy) in
     walked spread col c k before heard ns more (here ++ one)
     ∙ ap (λ h. ear_with c k (said_behind c col more ns) before h heard) (append_assoc here one (heads_from spread col c k before more ns))
 
@@ -28,15 +27,14 @@ turned col cols earlier = ap (λ t. t ++ earlier) (reverse_onto cols col []) ∙
 
 columns_law : (spread : Spread) (cols earlier : List Column) → hear_columns spread (ear_at spread earlier) cols ≡ ear_at spread (reverse cols ++ earlier)
 columns_law spread [] earlier = refl
-columns_law spread (col ∷ cols) earlier =
-    ap (λ e. hear_columns spread e cols) (column_law spread earlier col) ∙ columns_law spread cols (col ∷ earlier) ∙ ap (ear_at spread) (sym (turned col cols earlier))
+columns_law spread (col ∷ cols) earlier = ap (λ e. hear_columns spread e cols) (column_law spread earlier col) ∙ columns_law spread cols (col ∷ earlier) ∙ ap (ear_at spread) (sym (turned col cols earlier))
 
 -- the heads that the listener lists are those of the staff
 pub heard_law : (spread : Spread) (cols : List Column) → (hear_columns spread fresh cols).heard ≡ heard_of spread cols
 unfolding heard_of
 heard_law spread cols = ap (λ e. e.heard) (columns_law spread cols []) ∙ ap (all_heads spread) (append-nil (reverse cols))
 
-columns_append : (spread : Spread) (ear : Ear) (xs ys : List Column) → hear_columns spread ear (xs ++ ys) ≡ hear_columns spread (hear_columns spread ear xs) ys
+pub columns_append : (spread : Spread) (ear : Ear) (xs ys : List Column) → hear_columns spread ear (xs ++ ys) ≡ hear_columns spread (hear_columns spread ear xs) ys
 columns_append spread ear [] ys = refl
 columns_append spread ear (x ∷ xs) ys = columns_append spread (hear_column spread ear x) xs ys
 
@@ -44,9 +42,7 @@ columns_append spread ear (x ∷ xs) ys = columns_append spread (hear_column spr
 pub system_more : (spread : Spread) (f : List Staff → List Column) (systems : List (List Staff)) (i : ℕ) (s : List Staff) (ear new target : Ear) → i < length systems
     → s ≡ get_or systems i s → new ≡ hear_columns spread ear (f s) → hear_columns spread ear (flat_map f (drop i systems)) ≡ target → hear_columns spread new (flat_map f (drop (i + 1) systems)) ≡ target
 system_more spread f systems i s ear new target inside here is before =
-    let one : i + 1 ≡ suc i = omega arith in
-    let rest = drop (suc i) systems in
-    let cut : drop i systems ≡ s ∷ rest = drop-cons systems i s inside ∙ ap (λ l. l ∷ rest) (sym here) in
+    let one : i + 1 ≡ suc i = omega arith in let rest = drop (suc i) systems in let cut : drop i systems ≡ s ∷ rest = drop-cons systems i s inside ∙ ap (λ l. l ∷ rest) (sym here) in
     rw one (ap (λ e. hear_columns spread e (flat_map f rest)) is ∙ sym (columns_append spread ear (f s) (flat_map f rest))
     ∙ ap (λ l. hear_columns spread ear (flat_map f l)) (sym cut) ∙ before)
 
@@ -54,6 +50,5 @@ system_more spread f systems i s ear new target inside here is before =
 pub list_more : {A : Type 0} (f : ℕ → A) (k n : ℕ) (out new target : List A) (v : A) → k < n → v ≡ f k → new ≡ out ++ v ∷ []
     → out ++ map f (range_with_len k (n - k)) ≡ target → new ++ map f (range_with_len (k + 1) (n - (k + 1))) ≡ target
 list_more f k n out new target v inside is pushed before =
-    let rest = map f (range_with_len (k + 1) (n - (k + 1))) in
-    let left : n - k ≡ suc (n - (k + 1)) = omega arith in
+    let rest = map f (range_with_len (k + 1) (n - (k + 1))) in let left : n - k ≡ suc (n - (k + 1)) = omega arith in
     ap (λ t. t ++ rest) pushed ∙ append_assoc out (v ∷ []) rest ∙ ap (λ w. out ++ (w ∷ rest)) is ∙ subst (λ m. out ++ map f (range_with_len k m) ≡ target) left before

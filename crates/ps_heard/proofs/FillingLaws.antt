@@ -18,9 +18,7 @@ joined c d cs ds e f = rw (e, f) refl
 pub absent : (x : ℤ) (f : Column → Column) (ys : List ℤ) (cs : List Column) → list_any (int_eq x) ys ≡ false → at_place x f ys cs ≡ cs
 absent x f [] cs e = refl
 absent x f (y ∷ ys) [] e = refl
-absent x f (y ∷ ys) (c ∷ cs) e =
-    let p = or_parts (int_eq x y) (list_any (int_eq x) ys) e in
-    joined (if int_eq x y then f c else c) c (at_place x f ys cs) cs (as_it_is f c (int_eq x y) p.0) (absent x f ys cs p.1)
+absent x f (y ∷ ys) (c ∷ cs) e = let p = or_parts (int_eq x y) (list_any (int_eq x) ys) e in joined (if int_eq x y then f c else c) c (at_place x f ys cs) cs (as_it_is f c (int_eq x y) p.0) (absent x f ys cs p.1)
 
 none_short : (k : ℕ) → k < 0 → ⊥
 none_short k h = omega arith
@@ -43,8 +41,7 @@ unfolding IsStrictlySortedBy
 present x f [] cs k v s h l at is = absurd (none_short k h)
 present x f (y ∷ ys) [] k v s h l at is = absurd (no_zero l)
 present x f (y ∷ ys) (c ∷ cs) zero v s h l at is =
-    let here : y ≡ x = at x in
-    let out : list_any (int_eq x) ys ≡ false = not_among x ys (subst (λ w. Below w ys) here s.0) in
+    let here : y ≡ x = at x in let out : list_any (int_eq x) ys ≡ false = not_among x ys (subst (λ w. Below w ys) here s.0) in
     joined (f v) (if int_eq x y then f c else c) cs (at_place x f ys cs)
     (ap f (sym is) ∙ sym (changed f c (int_eq x y) (subst (λ w. int_eq x w ≡ true) (sym here) (itself x))))
     (sym (absent x f ys cs out))
@@ -92,8 +89,7 @@ tie_told x1 x2 from to bulge (y ∷ ys) (c ∷ cs) e =
 
 pub tie_passed : (x1 x2 from to bulge at end passed : ℤ) (ys : List ℤ) (cs new : List Column) → is_tie bulge ≡ true → at ≡ x2 → passed ≡ end → end ≡ to -ℤ bulge
     → new ≡ at_place at (with_tie passed) ys cs → new ≡ with_mark (PageMark.Arc x1 x2 from to bulge) ys cs
-tie_passed x1 x2 from to bulge at end passed ys cs new tie e f h is =
-    is ∙ ap (λ z. at_place z (with_tie passed) ys cs) e ∙ ap (λ z. at_place x2 (with_tie z) ys cs) (f ∙ h) ∙ sym (tie_told x1 x2 from to bulge ys cs tie)
+tie_passed x1 x2 from to bulge at end passed ys cs new tie e f h is = is ∙ ap (λ z. at_place z (with_tie passed) ys cs) e ∙ ap (λ z. at_place x2 (with_tie z) ys cs) (f ∙ h) ∙ sym (tie_told x1 x2 from to bulge ys cs tie)
 
 -- a mark that tells nothing
 quiet_one : (c : Column) (ns : List Noted) (ts : List ℤ) → ns ≡ [] → ts ≡ [] → record c { notes = c.notes ++ ns; ties = c.ties ++ ts } ≡ c
@@ -153,16 +149,14 @@ mark_more leads ms m (y ∷ ys) =
 
 filled_behind : (leads : Bool) (done ms : List PageMark) (ys : List ℤ) → with_marks ms ys (columns_from leads done ys) ≡ columns_from leads (done ++ ms) ys
 filled_behind leads done [] ys = ap (λ t. columns_from leads t ys) (sym (append-nil done))
-filled_behind leads done (m ∷ ms) ys =
-    ap (with_marks ms ys) (mark_more leads done m ys) ∙ filled_behind leads (done ++ m ∷ []) ms ys ∙ ap (λ t. columns_from leads t ys) (append_assoc done (m ∷ []) ms)
+filled_behind leads done (m ∷ ms) ys = ap (with_marks ms ys) (mark_more leads done m ys) ∙ filled_behind leads (done ++ m ∷ []) ms ys ∙ ap (λ t. columns_from leads t ys) (append_assoc done (m ∷ []) ms)
 
 -- one step of the loop that makes empty columns
 pub empty_more : (leads : Bool) (ys : List ℤ) (i : ℕ) (v : Column) (out new target : List Column) → i < length ys → v ≡ record { leads = leads; notes = []; ties = [] }
     → new ≡ out ++ v ∷ [] → out ++ columns_from leads [] (drop i ys) ≡ target → new ++ columns_from false [] (drop (i + 1) ys) ≡ target
 unfolding column_at
 empty_more leads ys i v out new target inside is pushed before =
-    let one : i + 1 ≡ suc i = omega arith in
-    let rest = columns_from false [] (drop (suc i) ys) in
+    let one : i + 1 ≡ suc i = omega arith in let rest = columns_from false [] (drop (suc i) ys) in
     rw one (ap (λ t. t ++ rest) pushed ∙ append_assoc out (v ∷ []) rest ∙ ap (λ w. out ++ (w ∷ rest)) is
     ∙ ap (λ l. out ++ columns_from leads [] l) (sym (drop-cons ys i (pos 0) inside)) ∙ before)
 
@@ -170,8 +164,7 @@ empty_more leads ys i v out new target inside is pushed before =
 pub marks_more : (ys : List ℤ) (ms : List PageMark) (i : ℕ) (m : PageMark) (cols new target : List Column) → i < length ms → m ≡ get_or ms i m
     → new ≡ with_mark m ys cols → with_marks (drop i ms) ys cols ≡ target → with_marks (drop (i + 1) ms) ys new ≡ target
 marks_more ys ms i m cols new target inside here is before =
-    let one : i + 1 ≡ suc i = omega arith in
-    let cut : drop i ms ≡ m ∷ drop (suc i) ms = drop-cons ms i m inside ∙ ap (λ l. l ∷ drop (suc i) ms) (sym here) in
+    let one : i + 1 ≡ suc i = omega arith in let cut : drop i ms ≡ m ∷ drop (suc i) ms = drop-cons ms i m inside ∙ ap (λ l. l ∷ drop (suc i) ms) (sym here) in
     rw one (ap (with_marks (drop (suc i) ms) ys) is ∙ ap (λ l. with_marks l ys cols) (sym cut) ∙ before)
 
 -- all marks

@@ -1,3 +1,3 @@
-mod EarLaws
+pub mod EarLaws
 mod FillingLaws
-mod Places
+pub mod Places

@@ -98,8 +98,7 @@ missing x xs ws b same = false≢true (sym (not_among x ws b) ∙ sym (same x) �
 heads_by : (x y : ℤ) (xs ys : List ℤ) (a b : Bool) → int_lt x y ≡ a → int_eq x y ≡ b → Below x xs → Below y ys → Same (x ∷ xs) (y ∷ ys) → x ≡ y
 heads_by x y xs ys true b e f l m same = absurd (missing x xs (y ∷ ys) (less_of x y e, below_more x y ys (less_of x y e) m) same)
 heads_by x y xs ys false true e f l m same = eq_is x y f
-heads_by x y xs ys false false e f l m same =
-    let g = less_of y x (past x y e f) in absurd (missing y ys (x ∷ xs) (g, below_more y x xs g l) (λ z. sym (same z)))
+heads_by x y xs ys false false e f l m same = let g = less_of y x (past x y e f) in absurd (missing y ys (x ∷ xs) (g, below_more y x xs g l) (λ z. sym (same z)))
 
 joined : (x y : ℤ) (xs ys : List ℤ) → x ≡ y → xs ≡ ys → x ∷ xs ≡ y ∷ ys
 joined x y xs ys e f = rw (e, f) refl
@@ -112,9 +111,7 @@ unfolding IsStrictlySortedBy
 only_one [] [] s t same = refl
 only_one [] (y ∷ ys) s t same = absurd (missing y ys [] tt (λ z. sym (same z)))
 only_one (x ∷ xs) [] s t same = absurd (missing x xs [] tt same)
-only_one (x ∷ xs) (y ∷ ys) s t same =
-    let e = heads_by x y xs ys (int_lt x y) (int_eq x y) refl refl s.0 t.0 same in
-    joined x y xs ys e (only_one xs ys s.1 t.1 (tails x y xs ys e s.0 t.0 same))
+only_one (x ∷ xs) (y ∷ ys) s t same = let e = heads_by x y xs ys (int_lt x y) (int_eq x y) refl refl s.0 t.0 same in joined x y xs ys e (only_one xs ys s.1 t.1 (tails x y xs ys e s.0 t.0 same))
 
 same_tests : (p q : Bool) → (p ≡ true → q ≡ true) → (q ≡ true → p ≡ true) → p ≡ q
 same_tests true q f g = sym (f refl)
@@ -151,10 +148,7 @@ le_of i j e = grind (arith, nat_tests)
 index_cases : (xs : List ℤ) (x : ℤ) (i j : ℕ) (d : ℤ) (b : Bool) → nat_lt i j ≡ b → IsStrictlySortedBy int_cmp xs → i ≤ j → j < length xs
     → ordering_index (int_cmp (get_or xs i d) x) ≤ ordering_index (int_cmp (get_or xs j d) x)
 index_cases xs x i j d true e s l h = index_by (get_or xs i d) (get_or xs j d) x (int_cmp (get_or xs i d) x) (int_cmp (get_or xs j d) x) refl refl (Less-from_sorted int_cmp xs i j d s (lt_of i j e) h)
-index_cases xs x i j d false e s l h =
-    let g = le_of i j e in
-    let same : i ≡ j = omega arith in
-    subst (λ k. ordering_index (int_cmp (get_or xs i d) x) ≤ ordering_index (int_cmp (get_or xs k d) x)) same (omega arith)
+index_cases xs x i j d false e s l h = let g = le_of i j e in let same : i ≡ j = omega arith in subst (λ k. ordering_index (int_cmp (get_or xs i d) x) ≤ ordering_index (int_cmp (get_or xs k d) x)) same (omega arith)
 
 -- what is sought never falls along numbers that rise
 pub sought : (xs : List ℤ) (x : ℤ) → IsStrictlySortedBy int_cmp xs → IsNonDecreasingBy (λ y. ordering_index (int_cmp y x)) xs
@@ -166,8 +160,7 @@ lies x xs i k false l h e p = false≢true (ap is_eq (sym (subst (λ w. int_cmp 
 
 none_by : (x : ℤ) (xs : List ℤ) (i : ℕ) (b : Bool) → list_any (int_eq x) xs ≡ b → IsPartitionPoint (λ y. int_cmp y x ≡ Less) (λ y. int_cmp y x ≡ Greater) xs i → list_any (int_eq x) xs ≡ false
 none_by x xs i false e p = e
-none_by x xs i true e p =
-    let c = Contains-from_any eq_is x xs e in absurd (lies x xs i c.0 (nat_lt c.0 i) refl c.1 c.2 p)
+none_by x xs i true e p = let c = Contains-from_any eq_is x xs e in absurd (lies x xs i c.0 (nat_lt c.0 i) refl c.1 c.2 p)
 
 -- behind all that are less and before all that are greater there is none
 pub none_there : (x : ℤ) (xs : List ℤ) (i : ℕ) → IsPartitionPoint (λ y. int_cmp y x ≡ Less) (λ y. int_cmp y x ≡ Greater) xs i → list_any (int_eq x) xs ≡ false

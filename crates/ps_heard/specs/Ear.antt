@@ -6,10 +6,7 @@ use Rattle.ps_heard.specs.{declared.column.Column.Column, declared.column.Ear.Ea
 
 -- a mark: a bar ends the measure, a head is said, and listed where it is no grace note's
 abbrev pub hear_one : Spread → Column → Ear → Noted → Ear
-hear_one spread col ear n = record ear {
-  said = said_with n.role (head_at ear.clef n.dy col.notes) ear.said;
-  here = ear.here ++ listed n.role (heard_at spread col ear.clef ear.key.signs ear.before ear.said n.dy);
-}
+hear_one spread col ear n = record ear { said = said_with n.role (head_at ear.clef n.dy col.notes) ear.said; here = ear.here ++ listed n.role (heard_at spread col ear.clef ear.key.signs ear.before ear.said n.dy) }
 
 abbrev pub hear_from : Spread → Column → Ear → List Noted → Ear
 hear_from spread col ear [] = ear
@@ -17,10 +14,7 @@ hear_from spread col ear (n ∷ ns) = hear_from spread col (hear_one spread col 
 
 -- the clef and the key of a column
 abbrev pub opened : Ear → Column → Ear
-opened ear col = record ear {
-  clef = clef_behind ear.clef col.notes;
-  key = record { signs = if gives_key col.leads col.notes then entries (clef_behind ear.clef col.notes) col.notes else ear.key.signs };
-}
+opened ear col = record ear { clef = clef_behind ear.clef col.notes; key = record { signs = if gives_key col.leads col.notes then entries (clef_behind ear.clef col.notes) col.notes else ear.key.signs } }
 
 -- behind a column its heads are the last ones, if it has some
 abbrev pub closed : Ear → Ear

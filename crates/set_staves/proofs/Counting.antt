@@ -29,8 +29,4 @@ none_below (a ∷ rest) = let e = none_below rest in grind (arith, nat_tests, e)
 -- a list that has each number below r has r different numbers below r
 pub all_below : (r : ℕ) (all : List ℕ) → ((k : ℕ) → k < r → IsTrue (list_any (λ y. k == y) all)) → distinct_below r all ≡ r
 all_below zero all has = none_below all
-all_below (suc r) all has =
-    let found = ap one_if (has r (omega arith)) in
-    let less = all_below r all (λ k l. has k (omega arith)) in
-    let e = one_more r all in
-    omega (arith, found, less, e)
+all_below (suc r) all has = let found = ap one_if (has r (omega arith)) in let less = all_below r all (λ k l. has k (omega arith)) in let e = one_more r all in omega (arith, found, less, e)

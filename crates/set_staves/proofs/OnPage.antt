@@ -38,9 +38,7 @@ byte_shown b small h = grind (arith, nat_tests, small, h)
 
 bytes_shown : (t : List ℕ) → ((k : ℕ) → get_or t k 0 < 256) → IsTrue (list_all is_printable t) → IsTrue (list_all is_shown t)
 bytes_shown [] small h = refl
-bytes_shown (b ∷ t) small h =
-    let both = and_parts (is_printable b) (list_all is_printable t) h in
-    and_from _ _ (byte_shown b (small 0) both.0) (bytes_shown t (λ k. small (suc k)) both.1)
+bytes_shown (b ∷ t) small h = let both = and_parts (is_printable b) (list_all is_printable t) h in and_from _ _ (byte_shown b (small 0) both.0) (bytes_shown t (λ k. small (suc k)) both.1)
 
 pub words_shown : (t : List ℕ) → ((k : ℕ) → get_or t k 0 < 256) → IsPrinted t → IsWords t
 words_shown t small printed = record { shown = bytes_shown t small printed.printable; some = printed.some; few = printed.few }

@@ -3,13 +3,9 @@ use Rattle.std.{proofs.{Common.{◌≡◌, ℕ, zero, suc, ◌+◌, ◌-◌, ◌
 use Rattle.{ps_text.specs.Ranks.{is_same, count_below, rank_of}, set_staves.{specs.Marks.RisesAlong, specs.Marks.x_at, proofs.Counting.distinct_below, proofs.Counting.all_below}}
 
 further : (at : List ℤ) → RisesAlong at → (d i j : ℕ) → i + suc d ≡ j → j < length at → x_at at i <ℤ x_at at j
-further at rise zero i j e long =
-    let next : i + 1 ≡ j = omega arith in
-    subst (λ t. x_at at i <ℤ x_at at t) next (rise i (omega arith))
+further at rise zero i j e long = let next : i + 1 ≡ j = omega arith in subst (λ t. x_at at i <ℤ x_at at t) next (rise i (omega arith))
 further at rise (suc d) i j e long =
-    let before = further at rise d i (i + suc d) refl (omega arith) in
-    let next = rise (i + suc d) (omega arith) in
-    let last : x_at at (i + suc d + 1) ≡ x_at at j = ap (x_at at) (omega arith) in
+    let before = further at rise d i (i + suc d) refl (omega arith) in let next = rise (i + suc d) (omega arith) in let last : x_at at (i + suc d + 1) ≡ x_at at j = ap (x_at at) (omega arith) in
     omega (arith, ints, before, next, last)
 
 pub rises : (at : List ℤ) → RisesAlong at → (i j : ℕ) → i < j → j < length at → x_at at i <ℤ x_at at j
@@ -37,7 +33,7 @@ alike_at : (at : List ℤ) → RisesAlong at → (i j : ℕ) → i < length at �
 alike_at at rise i j l m = alike (x_at at i) (x_at at j) i j (λ o. rises at rise i j o m) (λ o. rises at rise j i o l) (λ e. ap (x_at at) e)
 
 -- a rank is among some exactly where its abscissa is among theirs
-any_at : (at : List ℤ) → RisesAlong at → (i : ℕ) (all : List ℕ) → i < length at → AllByRecursion (λ r. r < length at) all → list_any (is_same (x_at at i)) (map (x_at at) all) ≡ list_any (λ y. i == y) all
+pub any_at : (at : List ℤ) → RisesAlong at → (i : ℕ) (all : List ℕ) → i < length at → AllByRecursion (λ r. r < length at) all → list_any (is_same (x_at at i)) (map (x_at at) all) ≡ list_any (λ y. i == y) all
 any_at at rise i [] l h = refl
 any_at at rise i (r ∷ all) l (here, more) = ap₂ (λ a b. a || b) (alike_at at rise i r l here) (any_at at rise i all l more)
 
@@ -52,5 +48,4 @@ pub ranked_at : (at : List ℤ) → RisesAlong at → (i : ℕ) (all : List ℕ)
 unfolding rank_of
 ranked_at at rise i all l h has =
     let found : list_any (is_same (x_at at i)) (map (x_at at) all) ≡ true = any_at at rise i all l h ∙ has i l in
-    let count : count_below (x_at at i) (map (x_at at) all) ≡ i = count_at at rise i all l h ∙ all_below i all (λ k m. has k (omega arith)) in
-    rw (found, count) refl
+    let count : count_below (x_at at i) (map (x_at at) all) ≡ i = count_at at rise i all l h ∙ all_below i all (λ k m. has k (omega arith)) in rw (found, count) refl

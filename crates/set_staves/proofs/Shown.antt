@@ -84,15 +84,13 @@ staves_read width at top system read (s ∷ more) (b ∷ bases) e h = (staff_rea
 
 by_recursion : (n : ℕ) (staves : List StaffMarks) → All (λ s. AreRanked n s.marks) staves → StavesRanked n staves
 by_recursion n [] h = tt
-by_recursion n (s ∷ more) h =
-    (recursion_from_All (λ laid. IsRanked n laid.mark) s.marks (All-head (λ t. AreRanked n t.marks) s more h), by_recursion n more (All-tail (λ t. AreRanked n t.marks) s more h))
+by_recursion n (s ∷ more) h = (recursion_from_All (λ laid. IsRanked n laid.mark) s.marks (All-head (λ t. AreRanked n t.marks) s more h), by_recursion n more (All-tail (λ t. AreRanked n t.marks) s more h))
 
 -- where columns rise, marks have their ranks among them, and each column holds an anchor
 pub shows_call : (width : ℕ) (at : List ℤ) (top : ℤ) (staves : List StaffMarks) (bases : List ℤ) → RisesAlong at → length bases ≡ length staves
     → All (λ s. AreRanked (length at) s.marks) staves → AreAnchored (length at) (staves_ranks staves) → ShowsCall (staves_at width at top staves bases) staves
 shows_call width at top staves bases rise e h has =
-    let along = by_recursion (length at) staves h in
-    let below = staves_below (length at) staves along in
+    let along = by_recursion (length at) staves h in let below = staves_below (length at) staves along in
     staves_read width at top (staves_at width at top staves bases)
     (λ i l. ap (λ t. rank_of t (x_at at i)) (anchors_at width at top staves bases e) ∙ ranked_at at rise i (staves_ranks staves) l below has)
     staves bases e along

@@ -4,8 +4,7 @@ use Rattle.abcps.proofs.pressing.write_done.Goals as goal
 
 pub write_pages-requires-clause-good : goal.write_pages-requires-clause-good
 write_pages-requires-clause-good g c κs within =
-    let way = c.requires.way in
-    subst (λ pages. All IsPage pages) (sym (c.as_slice.ensures ∙ c.take_done-done.ensures.value)) (done_good way.plan way.paper way.outcomes way.given c.args.run.press way.running.pressed)
+    let way = c.requires.way in subst (λ pages. All IsPage pages) (sym (c.as_slice.ensures ∙ c.take_done-done.ensures.value)) (done_good way.plan way.paper way.outcomes way.given c.args.run.press way.running.pressed)
 
 pub returns-clause-running : goal.returns-clause-running
 returns-clause-running g c plan paper outcomes given running =

@@ -15,8 +15,7 @@ pub gather_batch-requires-clause-tunes : goal.gather_batch-requires-clause-tunes
 gather_batch-requires-clause-tunes g c κs within = subst (λ tunes. All IsGoodTune tunes) (sym c.split_at.ensures.front) (All-take IsGoodTune c.min.result c.batches.rest.now c.batches.invariant.good)
 
 pub gather_batch-requires-clause-counted : goal.gather_batch-requires-clause-counted
-gather_batch-requires-clause-counted g c κs within =
-    subst (λ tunes. All IsCounted tunes) (sym c.split_at.ensures.front) (All-take IsCounted c.min.result c.batches.rest.now c.batches.invariant.counted)
+gather_batch-requires-clause-counted g c κs within = subst (λ tunes. All IsCounted tunes) (sym c.split_at.ensures.front) (All-take IsCounted c.min.result c.batches.rest.now c.batches.invariant.counted)
 
 pub batches-preserved : goal.batches-preserved
 batches-preserved g c = record {

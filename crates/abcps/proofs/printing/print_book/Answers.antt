@@ -6,14 +6,10 @@ use Rattle.abcps.proofs.printing.print_book.Goals as goal
 use Rattle.set_pages.proofs.Readying.{book_counted}
 
 pub print_tunes-requires-clause-counted : goal.print_tunes-requires-clause-counted
-print_tunes-requires-clause-counted g c κs within =
-    let same = c.as_slice-tunes.ensures ∙ ap (λ (b : Book). b.tunes) c.in_ok-book.ensures.book in
-    subst (λ tunes. All IsCounted tunes) (sym same) (book_counted c.args.text)
+print_tunes-requires-clause-counted g c κs within = let same = c.as_slice-tunes.ensures ∙ ap (λ (b : Book). b.tunes) c.in_ok-book.ensures.book in subst (λ tunes. All IsCounted tunes) (sym same) (book_counted c.args.text)
 
 pub plan_tunes-requires-clause-counted : goal.plan_tunes-requires-clause-counted
-plan_tunes-requires-clause-counted g c κs within =
-    let same = c.as_slice-tunes.ensures ∙ ap (λ (b : Book). b.tunes) c.in_ok-book.ensures.book in
-    subst (λ tunes. All IsCounted tunes) (sym same) (book_counted c.args.text)
+plan_tunes-requires-clause-counted g c κs within = let same = c.as_slice-tunes.ensures ∙ ap (λ (b : Book). b.tunes) c.in_ok-book.ensures.book in subst (λ tunes. All IsCounted tunes) (sym same) (book_counted c.args.text)
 
 pub print_tunes-requires-clause-planned : goal.print_tunes-requires-clause-planned
 print_tunes-requires-clause-planned g c κs within = (c.args.even, c.in_ok-plan.ensures)
@@ -27,8 +23,7 @@ returns-in_err-plan g c =
 
 pub returns-in_err-run : goal.returns-in_err-run
 returns-in_err-run g c =
-    let is : c.from_residual-in_err-run.result ≡ Err c.in_err-run.field-0.0 = search rules in
-    let text = c.args.text in
+    let is : c.from_residual-in_err-run.result ≡ Err c.in_err-run.field-0.0 = search rules in let text = c.args.text in
     let good : IsGoodPaper (paper_in text) =
     of_book (λ defaults paper tunes. IsGoodPaper paper) text c.in_ok-book.book c.read_paper-paper.result c.in_ok-defaults.defaults c.as_slice-tunes.result.now c.in_ok-book.ensures.book c.read_paper-paper.ensures.value
     c.in_ok-defaults.ensures.value c.as_slice-tunes.ensures c.read_paper-paper.ensures.good in

@@ -11,6 +11,5 @@ loop-mark-preserved c = (
 
 pub returns : goal.returns
 returns c =
-    let out : length c.args.marks.now ≤ c.loop-mark.mark-index = omega arith in
-    let none : drop c.loop-mark.mark-index c.args.marks.now ≡ [] = drop_all c.loop-mark.mark-index c.args.marks.now out in
+    let out : length c.args.marks.now ≤ c.loop-mark.mark-index = omega arith in let none : drop c.loop-mark.mark-index c.args.marks.now ≡ [] = drop_all c.loop-mark.mark-index c.args.marks.now out in
     sym (ap (λ l. with_marks l c.args.places.now c.loop-mark.columns) none) ∙ c.loop-mark.invariant.0 ∙ filled _ c.args.marks.now c.args.places.now

@@ -4,8 +4,7 @@ use Rattle.ps_heard.proofs.columns.put_note.Goals as goal
 
 pub returns-in-Some : goal.returns-in-Some
 returns-in-Some c =
-    let x = to_z-of_z w64 c.args.x c.ranges.x in
-    let dy = to_z-of_z w32 c.args.dy c.ranges.dy in
+    let x = to_z-of_z w64 c.args.x c.ranges.x in let dy = to_z-of_z w32 c.args.dy c.ranges.dy in
     on_ok_weaker c.note.result
     (λ e. ap (set c.columns.inside.items.items c.in-Some.place) (e ∙ ap (λ z. with_note c.args.role z c.index_mut.result.now) dy)
     ∙ present c.args.x (with_note c.args.role c.args.dy) c.args.places.now c.columns.inside.items.items c.in-Some.place c.index_mut.result.now

@@ -4,8 +4,7 @@ use Rattle.ps_heard.proofs.columns.put_tie.Goals as goal
 
 pub returns-in-Some : goal.returns-in-Some
 returns-in-Some c =
-    let x = to_z-of_z w64 c.args.x c.ranges.x in
-    let dy = to_z-of_z w64 c.args.dy c.ranges.dy in
+    let x = to_z-of_z w64 c.args.x c.ranges.x in let dy = to_z-of_z w64 c.args.dy c.ranges.dy in
     on_ok_weaker c.tie.result
     (λ e. ap (set c.columns.inside.items.items c.in-Some.place) (e ∙ ap (λ z. with_tie z c.index_mut.result.now) dy)
     ∙ present c.args.x (with_tie c.args.dy) c.args.places.now c.columns.inside.items.items c.in-Some.place c.index_mut.result.now
@@ -16,5 +15,4 @@ returns-in-Some c =
 
 pub returns-in-None : goal.returns-in-None
 returns-in-None c =
-    let x = to_z-of_z w64 c.args.x c.ranges.x in
-    sym (absent c.args.x (with_tie c.args.dy) c.args.places.now c.args.columns.now (subst (λ z. list_any (int_eq z) c.args.places.now ≡ false) x c.in-None.ensures))
+    let x = to_z-of_z w64 c.args.x c.ranges.x in sym (absent c.args.x (with_tie c.args.dy) c.args.places.now c.args.columns.now (subst (λ z. list_any (int_eq z) c.args.places.now ≡ false) x c.in-None.ensures))

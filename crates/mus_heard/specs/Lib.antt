@@ -1,0 +1,5 @@
+pub mod Clear
+pub mod Columns
+pub mod Listened
+pub mod Noted
+pub mod Sounds

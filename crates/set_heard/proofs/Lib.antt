@@ -1,0 +1,5 @@
+pub mod Books
+mod Columns
+mod Staves
+mod Telling
+mod Tunes
