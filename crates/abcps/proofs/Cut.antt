@@ -1,11 +1,11 @@
 -- A book whose document was written, and one whose document was not written to its end.
-use Rattle.std.{proofs.{Common.{◌≡◌, refl, sym, ap, ◌∙◌, subst, ◌⊎◌, inl, inr, ℕ, ◌<◌, Bool, true, false, List, [], ◌∷◌, ◌++◌, length, take, drop, arith, Option}, lemmas.List.{append-nil, append_assoc, length-append, take-append-drop, Elements.{All-head, All-tail}}}, specs.Prelude.{All, Result, Ok, Err}}
+use Rattle.std.{proofs.{Common.{◌≡◌, refl, sym, ap, ◌∙◌, subst, ◌⊎◌, inl, inr, ℕ, ◌<◌, Bool, true, false, List, [], ◌∷◌, ◌++◌, length, take, drop, arith, Option}, lemmas.List.{append-nil, append_assoc, length-append, take-append-drop, Elements.{All-head, All-tail}}, Math.Seq.take-append_seam}, specs.Prelude.{All, Result, Ok, Err}}
 use Rattle.abc_lines.specs.{declared.{book.{Book.Book, TuneText.TuneText}, fault.Fault.Fault}, Books.book_of}
 use Rattle.abc_header.specs.{declared.{defaults.Defaults.Defaults, paper.Paper.Paper}, Defaults.defaults_of, Papers.{IsGoodPaper, height_of, paper_of}}
 use Rattle.{ps_text.specs.{Document.document, declared.sheet.Page.Page}, set_book.{specs.{declared.outcome.Outcome.Outcome, Outcomes.{AreOutcomes, IsOutcome}}, proofs.Once.outcomes_once}}
 use Rattle.{set_heard.proofs.Books.{books_are_heard}, set_lists.specs.Reports.{some_fault}, lay_pages.specs.Filling.{AreGoodBlocks}, set_every.specs.Every.{EveryTuneHasAnOutcome}}
 use Rattle.set_pages.{specs.{Sheet.{IsPlan, IsSetResult, IsSetUnder, all_spots, frame_of, sheet_of}, declared.{plan.Plan.Plan, press.Press.Press}, Drawings.{all_blocks, all_drawings, outcome_blocks, result_blocks}, Press.{HasRoom, IsOpen, IsPressed, RisesBy, done_pages}}, proofs.{Fronts.{IsFront, done_first, done_front}, Standing.good_append, Whole.{one_plan, plan_rises, plan_stands, room_by, sheet_whole, stand_count}, Zips.{zip_back, zip_front}}}
-use Rattle.abcps.{specs.{Pressed.{AreCutOff, AreRunning, IsClosed, IsPlanned, IsPrinted, IsUnprinted, WasCounted, WasStopped, all_set, first_text, rest_text, some_left, status_if, unbegun}, Called.Called, Books.{AreSet, CallsPages, pages_called, paper_in, terms_in}, Outcome.{HasFront, IsAnswer, IsCutShort, IsEnd, IsQuiet, Stream, TookAll, TookFront}, declared.{pressing.{Printed.Printed, Running.Running}, status.Status.Status}}, proofs.{Sent.{document_parts, front_longer, stopped_behind, stopped_count, stopped_front, stopped_longer, stream, took_behind}, Answered.{answer_by, answered_end}, Batches.IsUnderway, BookCalls.set_under}}
+use Rattle.abcps.{specs.{Pressed.{AreCutOff, AreRunning, CanPress, IsClosed, IsPlanned, IsPrinted, IsUnprinted, WasCounted, WasStopped, all_set, first_text, rest_text, some_left, status_if, unbegun}, Called.Called, Books.{AreSet, CallsPages, pages_called, paper_in, terms_in}, Outcome.{HasFront, IsAnswer, IsCutShort, IsEnd, IsQuiet, Stream, TookAll, TookFront}, declared.{pressing.{Printed.Printed, Running.Running}, status.Status.Status}}, proofs.{Sent.{document_parts, front_longer, stopped_behind, stopped_count, stopped_front, stopped_longer, stream, took_behind}, Answered.{answer_by, answered_end}, Batches.{IsAlong, IsUnderway, batch_set}, BookCalls.set_under}}
 use Rattle.{set_tune.{specs.{Blocks.{blocks_of, is_some_list}, Terms.{Manner, Terms}, declared.tune.SetTune.SetTune}, proofs.{GoodBlocks.good_blocks, Laid.good_heights}}, abcps_words.specs.declared.command.Command.{Command}}
 
 -- pages that were given up are the first of a sheet, and so is their text of its document
@@ -72,6 +72,18 @@ room_underway even terms plan tunes rest batch n o r more front planned way set 
     let whole : tunes ≡ way.before ++ (batch ++ drop n rest) = sym way.whole ∙ ap (λ l. way.before ++ l) cut in
     planned_room even terms way.before batch (drop n rest) plan run.outcomes more run.given r.press
     (subst (λ l. IsPlanned even terms l plan) whole planned) run.set set run.running.pressed
+
+-- what came of a batch can be pressed
+pub can_press : {terms : Terms} {plan : Plan} {tunes rest : List TuneText} {o : Stream} {r : Running} {outcomes : List Outcome} (even : Bool) → IsGoodPaper terms.paper → IsPlanned even terms tunes plan → IsAlong terms plan tunes rest o r outcomes → CanPress plan terms.paper outcomes r
+can_press {terms} {plan} {tunes} {rest} {o} {r} {outcomes} even good planned along = record {
+  good = good;
+  set = batch_set terms along.batch outcomes outcomes along.counted refl along.set;
+  room = room_underway even terms plan tunes (along.batch ++ rest) along.batch (length along.batch) o r outcomes (sym (take-append_seam along.batch rest)) planned along.way along.set;
+  free = along.way.running.free;
+  before = along.way.running.outcomes;
+  given = along.way.running.given;
+  running = along.way.running.running;
+}
 
 -- the pages that were done when some tunes were set are the first pages of the whole book
 front_called : (terms : Terms) (plan : Plan) (before rest : List TuneText) (outcomes all : List Outcome) (given : List Page) (press : Press)

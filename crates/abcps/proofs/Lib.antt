@@ -7,3 +7,4 @@ mod Closing
 mod Cut
 mod Promised
 mod Gathered
+mod Crossing

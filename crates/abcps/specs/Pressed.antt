@@ -1,10 +1,10 @@
 -- A book as it is set, pressed and written, a batch of its tunes after another.
-use Rattle.std.specs.Prelude.{◌≡◌, ℕ, ◌+◌, List, [], ◌++◌, Bool, true, false, if◌then◌else◌, drop, length, Result, Ok, Err}
-use Rattle.{abc_lines.specs.declared.book.TuneText.{TuneText}, abc_header.specs.{declared.paper.Paper.Paper, Papers.IsGoodPaper}, eng_io.specs.Causes.{Rose}}
+use Rattle.std.specs.Prelude.{◌≡◌, ℕ, ◌+◌, List, [], ◌++◌, All, Bool, true, false, if◌then◌else◌, drop, length, Result, Ok, Err}
+use Rattle.{abc_lines.specs.declared.book.TuneText.{TuneText}, abc_header.specs.{declared.paper.Paper.Paper, Papers.{IsGoodPaper, height_of}}, eng_io.specs.Causes.{Rose}}
 use Rattle.{ps_text.specs.{Document.{numbered, page_text, trailer}, Prolog.prolog, declared.sheet.{Page.Page, Sheet.Sheet}}, set_book.specs.{declared.outcome.Outcome.Outcome, Outcomes.AreOutcomes}}
 use Rattle.{set_lists.specs.Reports.{reports, some_fault}, lay_pages.specs.{declared.filling.Block.Block, Filling.AreGoodBlocks}}
-use Rattle.{set_pages.specs.{Press.{IsOpen, IsPressed, RisesBy, done_pages}, Sheet.{IsPlan, frame_of, sheet_of}, declared.{press.Press.Press, plan.Plan.Plan}, Drawings.all_blocks}, set_tune.specs.Terms.{Manner, Terms}}
-use Rattle.abcps.specs.{Called.Called, Books.{CallsPages, status_of}, Outcome.{IsCutShort, IsQuiet, Stream, TookAll, TookFront, TookPart}, declared.{pressing.{Printed.Printed, Running.Running}, status.Status.Status}}
+use Rattle.{set_pages.specs.{Press.{HasRoom, IsOpen, IsPressed, RisesBy, done_pages}, Sheet.{IsPlan, IsSetUnder, frame_of, sheet_of}, declared.{press.Press.Press, plan.Plan.Plan}, Drawings.all_blocks}, set_tune.specs.Terms.{Manner, Terms}}
+use Rattle.abcps.specs.{Called.Called, Books.{CallsPages, status_of}, Outcome.{IsCutShort, IsQuiet, Stream, TookAll, TookFront, TookPart}, declared.{pressing.{Printed.Printed, Running.Running, Unsent.Unsent}, status.Status.Status}}
 
 abbrev pub status_if : Bool → Status
 status_if refused = if refused then Status.SomeRefused else Status.Done
@@ -36,6 +36,33 @@ pub record IsUnderWay (r : Running) : Type 0 where
   pub given : List Page
   pub running : IsRunning plan paper outcomes given r
 
+-- these outcomes were taken and these pages written; behind them the pages that were done then are still to be written
+pub record IsUnsent (plan : Plan) (paper : Paper) (outcomes : List Outcome) (given : List Page) (u : Unsent) : Type 0 where
+  pub full : Press
+  pub pressed : IsPressed plan paper outcomes given full
+  pub free : IsOpen full
+  pub left : IsPressed plan paper outcomes (given ++ done_pages full) u.run.press
+  pub still : IsOpen u.run.press
+  pub told : u.run.told ≡ reports outcomes
+  pub refused : u.run.refused ≡ some_fault outcomes
+  pub before : u.run.writer.pages ≡ length given
+  pub count : u.count ≡ length (done_pages full)
+  pub text : u.text ≡ numbered page_text (length given + 1) (done_pages full)
+
+-- outcomes can be pressed behind those that were taken
+pub record CanPress (plan : Plan) (paper : Paper) (outcomes : List Outcome) (r : Running) : Type 0 where
+  pub good : IsGoodPaper paper
+  pub set : All (IsSetUnder paper) outcomes
+  pub room : HasRoom plan (height_of paper) r.press (all_blocks outcomes)
+  pub free : IsOpen r.press
+  pub before : List Outcome
+  pub given : List Page
+  pub running : IsRunning plan paper before given r
+
+-- they were pressed, and the text of the pages that are done is to be written
+abbrev pub ArePressed : Plan → Paper → List Outcome → Running → Unsent → Type 0
+ArePressed plan paper outcomes r u = (before : List Outcome) (given : List Page) → IsRunning plan paper before given r → IsUnsent plan paper (before ++ outcomes) given u
+
 -- no outcome was taken yet
 pub record IsBegun (r : Running) : Type 0 where
   pub free : IsOpen r.press
@@ -52,12 +79,6 @@ pub record AreGathered (terms : Terms) (tunes : List TuneText) (blocks : List Bl
 abbrev pub IsPlanned : Bool → Terms → List TuneText → Plan → Type 0
 IsPlanned false terms tunes plan = plan ≡ Plan.Filled
 IsPlanned true terms tunes plan = (all : List Outcome) × AreOutcomes terms tunes all × IsPlan true terms.paper all plan
-
--- what came of these tunes was taken behind what was taken before
-pub record AreTaken (terms : Terms) (plan : Plan) (tunes : List TuneText) (old new : Running) : Type 0 where
-  pub outcomes : List Outcome
-  pub set : AreOutcomes terms tunes outcomes
-  pub taken : (before : List Outcome) (given : List Page) → IsRunning plan terms.paper before given old → IsRunning plan terms.paper (before ++ outcomes) given new
 
 -- the text of a document up to the end of its first pages, and what stands behind them
 abbrev pub first_text : Paper → List Page → List ℕ

@@ -222,9 +222,6 @@ pub(crate) fn trial<R: Threads + Sync, O: Sink, E: Sink, G: Gate + Sync>(
     let Ok(text) = make(alloc, tunes) else {
         return Status::Memory;
     };
-    if text.len() > 1_073_741_824 {
-        return Status::Memory;
-    }
     let how = How { flow, by: 0, jobs };
     let Ok(book) = set_text(rt, alloc, text, how, gate) else {
         return Status::Memory;

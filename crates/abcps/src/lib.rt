@@ -2,7 +2,6 @@
 #![tactic(auto)]
 
 mod books;
-mod dropping;
 mod hearing;
 mod inspecting;
 mod judging;

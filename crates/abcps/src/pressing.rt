@@ -2,16 +2,15 @@ ghost use Rattle.std.specs.Prelude.{◌≡◌, ◌+◌, ◌^◌, ◌<◌, ◌≤
 ghost use Rattle.{abc_lines.specs.Good.{IsGoodTune}, abc_header.specs.{declared.{defaults.Defaults.Defaults, paper.Paper.Paper}, Good.IsGoodDefaults, Papers.{IsGoodPaper, height_of}}};
 ghost use Rattle.{ps_text.specs.{declared.sheet.Page.Page, Document.{numbered, page_text}, Prolog.prolog, Range.IsPage}, set_book.specs.declared.outcome.Outcome.{Outcome}};
 ghost use Rattle.set_pages.specs.{declared.plan.Plan.Plan, Drawings.all_blocks, Press.{HasRoom, IsOpen, done_pages}, Sheet.{IsSetUnder, frame_of}};
-ghost use Rattle.abcps.specs.{Outcome.{IsEnd, observed}, Pressed.{IsBegun, IsClosed, IsRunning, IsUnderWay, WasGiven, status_if}};
+ghost use Rattle.abcps.specs.{Outcome.{IsEnd, observed}, Pressed.{ArePressed, CanPress, IsBegun, IsClosed, IsRunning, IsUnderWay, IsUnsent, WasGiven, status_if}};
 
-use crate::dropping::give_up;
 use crate::status::Status;
 use abc_header::Paper;
 use eng_halves::Jobs;
 use eng_io::Sink;
-use mus_units::{Memory, Text};
+use mus_units::{Memory, Row, Text};
 use ps_text::Page;
-use ps_write::{DocWriter, begin, finish, pages};
+use ps_write::{DocWriter, begin, finish, pages, pages_text, send_pages};
 use set_book::Outcome;
 use set_lists::{has_fault, put_reports};
 use set_pages::{Plan, Press, close_press, frame_of, open_press, press_outcomes, take_done};
@@ -26,6 +25,15 @@ pub(crate) struct Running {
     told: Text,
     refused: bool,
     writer: DocWriter,
+}
+
+/// What runs along once some pages are kept no longer whose text is still to be written: so many, and
+/// their text.
+#[derive(Drop)]
+pub(crate) struct Unsent {
+    run: Running,
+    count: u32,
+    text: Text,
 }
 
 /// What is left to tell of a book whose document was written: the reports of its faults, and the answer.
@@ -67,7 +75,7 @@ pub(crate) fn begin_run<O: Sink>(
 }
 
 /// Takes what came of some tunes behind those before them; their blocks stand by the plan.
-pub(crate) fn take(
+fn take(
     alloc: Global,
     paper: &Paper,
     plan: &Plan,
@@ -87,6 +95,69 @@ pub(crate) fn take(
     Ok(())
 }
 
+/// The text of the pages that are done, made by all jobs. The pages themselves are kept no longer.
+fn finish_pages<R: Threads + Sync>(
+    rt: &R,
+    alloc: Global,
+    run: Running,
+    jobs: Jobs,
+) -> Result<Unsent, Memory>
+    requires way { IsUnderWay run }
+    requires open { IsOpen run.press }
+    ensures { IfOk result (λ unsent. (plan : Plan) (paper : Paper) (outcomes : List Outcome) (given : List Page) → IsRunning plan paper outcomes given run → IsUnsent plan paper outcomes given unsent) }
+{
+    let mut press = run.press;
+    let done = take_done(alloc, &mut press);
+    let text = pages_text(rt, alloc, run.writer.pages, done.as_slice(), jobs)?;
+    Ok(Unsent {
+        run: Running {
+            press,
+            told: run.told,
+            refused: run.refused,
+            writer: run.writer,
+        },
+        count: done.as_slice().len() as u32,
+        text,
+    })
+}
+
+/// Takes what came of some tunes behind those before them, whose blocks stand by the plan, and makes the
+/// text of the pages that are done then by all jobs.
+pub(crate) fn press_batch<R: Threads + Sync>(
+    rt: &R,
+    alloc: Global,
+    paper: &Paper,
+    plan: &Plan,
+    outcomes: Row<Outcome>,
+    run: Running,
+    jobs: Jobs,
+) -> Result<Unsent, Memory>
+    requires { CanPress plan.now paper.now outcomes run }
+    ensures { IfOk result (ArePressed plan.now paper.now outcomes run) }
+{
+    let mut run = run;
+    take(alloc, paper, plan, outcomes.as_slice(), &mut run)?;
+    let unsent = finish_pages(rt, alloc, run, jobs)?;
+    Ok(unsent)
+}
+
+/// Writes the text that is still to be written.
+pub(crate) fn send_unsent<O: Sink>(unsent: Unsent, output: &mut O) -> Result<Running, Status>
+    requires few { unsent.run.writer.pages + unsent.count < 2 ^ 32 }
+    ensures wrote { WasGiven (observed O.taken O.faults output.old output.new) unsent.text result }
+    ensures running { IfOk result (λ next. (plan : Plan) (paper : Paper) (outcomes : List Outcome) (given : List Page) (is : IsUnsent plan paper outcomes given unsent) → IsRunning plan paper outcomes (given ++ done_pages is.full) next) }
+    ensures press { IfOk result (λ next. next.press ≡ unsent.run.press) }
+{
+    let run = unsent.run;
+    let writer = send_pages(run.writer, unsent.count, unsent.text.as_slice(), output)?;
+    Ok(Running {
+        press: run.press,
+        told: run.told,
+        refused: run.refused,
+        writer,
+    })
+}
+
 /// Writes pages behind those that were written; their texts are made by all jobs.
 fn write_pages<R: Threads + Sync, O: Sink>(
     rt: &R,
@@ -103,32 +174,6 @@ fn write_pages<R: Threads + Sync, O: Sink>(
 {
     let next = pages(rt, alloc, writer, done, jobs, output)?;
     Ok(next)
-}
-
-/// Writes the pages that are done, and keeps them no longer.
-pub(crate) fn write_done<R: Threads + Sync, O: Sink>(
-    rt: &R,
-    alloc: Global,
-    run: Running,
-    jobs: Jobs,
-    output: &mut O,
-) -> Result<Running, Status>
-    requires way { IsUnderWay run }
-    requires open { IsOpen run.press }
-    ensures wrote { WasGiven (observed O.taken O.faults output.old output.new) (numbered page_text (run.writer.pages + 1) (done_pages run.press)) result }
-    ensures running { IfOk result (λ next. (plan : Plan) (paper : Paper) (outcomes : List Outcome) (given : List Page) → IsRunning plan paper outcomes given run → IsRunning plan paper outcomes (given ++ done_pages run.press) next) }
-    ensures open { IfOk result (λ next. IsOpen next.press) }
-{
-    let mut press = run.press;
-    let done = take_done(alloc, &mut press);
-    let writer = write_pages(rt, alloc, done.as_slice(), jobs, run.writer, output)?;
-    give_up(rt, done, jobs.count);
-    Ok(Running {
-        press,
-        told: run.told,
-        refused: run.refused,
-        writer,
-    })
 }
 
 /// Writes the pages that are left, and the end of the document.

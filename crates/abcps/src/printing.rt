@@ -1,28 +1,28 @@
-ghost use Rattle.std.specs.Prelude.{◌≡◌, ◌≤◌, ◌^◌, ◌++◌, Bool, List, All, IfOk, OnOk, length};
-ghost use Rattle.{abc_lines.specs.{declared.book.TuneText.TuneText, Books.book_of, Good.{IsGoodBook, IsGoodTune}}, abc_header.specs.{Good.IsGoodDefaults, Papers.{IsGoodPaper, height_of}}};
-ghost use Rattle.{set_tune.specs.Terms.{manner_of, terms_of}, set_book.specs.{declared.outcome.Outcome.Outcome, Outcomes.AreOutcomes}, set_pages.specs.{Drawings.all_blocks, Press.{HasRoom, IsOpen}}};
-ghost use Rattle.abcps.specs.{Pressed.{AreGathered, ArePrinted, AreTaken, IsPlanned, IsPrinted}, Outcome.observed};
+ghost use Rattle.std.specs.{Prelude.{◌≡◌, ◌≤◌, ◌^◌, ◌++◌, Bool, List, All, IfOk, OnOk, length}, Thread.IsSync};
+ghost use Rattle.{abc_lines.specs.{declared.book.TuneText.TuneText, Books.book_of, Good.{IsGoodBook, IsGoodTune}}, abc_header.specs.{Good.IsGoodDefaults, Papers.{IsGoodPaper}}};
+ghost use Rattle.{set_tune.specs.Terms.{manner_of, terms_of}, set_book.specs.Outcomes.AreOutcomes};
+ghost use Rattle.abcps.specs.{Pressed.{AreGathered, ArePressed, ArePrinted, CanPress, IsPlanned, IsPrinted}, Outcome.observed};
 
-use crate::dropping::give_up;
-use crate::pressing::{Printed, Running, begin_run, end_run, take, write_done};
+use crate::pressing::{Printed, Running, Unsent, begin_run, end_run, press_batch, send_unsent};
 use crate::status::Status;
 use abc_header::{Defaults, Paper, read_defaults, read_paper};
 use abc_lines::{Book, TuneText, cut_book};
 use eng_io::Sink;
 use lay_pages::Block;
 use mus_units::{Memory, Row, Text};
-use set_book::{Gate, set_tunes};
+use set_book::{Gate, Outcome, set_tunes};
 use set_every::every_tune_has_an_outcome;
 use set_pages::{Plan, even_plan, gather_blocks};
 use set_tune::How;
 use std::alloc::Global;
-use std::thread::Threads;
+use std::thread::{Threads, join};
 
 /// So many tunes are set before what came of them is pressed and dropped.
-const BATCH: usize = 64;
+const BATCH: usize = 32;
 
-/// Sets a batch of tunes, and takes what comes of them.
-fn take_batch<R: Threads + Sync, G: Gate + Sync>(
+/// Sets a batch of tunes while what came of the batch before it is pressed; by one job, first this and
+/// then that.
+fn set_beside<R: Threads + Sync, G: Gate + Sync>(
     rt: &R,
     alloc: Global,
     batch: &[TuneText],
@@ -30,22 +30,31 @@ fn take_batch<R: Threads + Sync, G: Gate + Sync>(
     paper: &Paper,
     plan: &Plan,
     how: How,
-    run: &mut Running,
+    outcomes: Row<Outcome>,
+    run: Running,
     gate: &G,
-) -> Result<(), Memory>
+) -> (Result<Row<Outcome>, Memory>, Result<Unsent, Memory>)
     requires tunes { All IsGoodTune batch.now }
-    requires counted { All (λ tune. 1 ≤ tune.ordinal) batch.now }
     requires defaults { IsGoodDefaults defaults.now }
     requires paper { IsGoodPaper paper.now }
-    requires open { IsOpen run.old.press }
-    requires room { (outcomes : List Outcome) → AreOutcomes (terms_of defaults.now paper.now how) batch.now outcomes → HasRoom plan.now (height_of paper.now) run.old.press (all_blocks outcomes) }
-    ensures taken { OnOk result (AreTaken (terms_of defaults.now paper.now how) plan.now batch.now run.old run.new) }
-    ensures open { OnOk result (IsOpen run.new.press) }
+    requires outcomes { CanPress plan.now paper.now outcomes run }
+    ensures set { IfOk result.0 (AreOutcomes (terms_of defaults.now paper.now how) batch.now) }
+    ensures pressed { IfOk result.1 (ArePressed plan.now paper.now outcomes run) }
 {
-    let outcomes = set_tunes(rt, alloc, batch, defaults, paper, how, how.jobs, gate)?;
-    let taken = take(alloc, paper, plan, outcomes.as_slice(), run);
-    give_up(rt, outcomes, how.jobs.count);
-    taken
+    if how.jobs.count == 1 {
+        let unsent = press_batch(rt, alloc, paper, plan, outcomes, run, how.jobs);
+        let set = set_tunes(rt, alloc, batch, defaults, paper, how, how.jobs, gate);
+        return (set, unsent);
+    }
+    let set = || -> Result<Row<Outcome>, Memory>
+        requires { IsSync R.row × IsSync G.row × All IsGoodTune batch.now × IsGoodDefaults defaults.now × IsGoodPaper paper.now }
+        ensures { IfOk result (AreOutcomes (terms_of defaults.entry.now paper.entry.now how) batch.entry.now) }
+    { set_tunes(rt, alloc, batch, defaults, paper, how, how.jobs, gate) };
+    let press = move || -> Result<Unsent, Memory>
+        requires { IsSync R.row × CanPress plan.now paper.now outcomes run }
+        ensures { IfOk result (ArePressed plan.entry.now paper.entry.now outcomes run) }
+    { press_batch(rt, alloc, paper, plan, outcomes, run, how.jobs) };
+    join(rt, set, press)
 }
 
 /// Sets a batch of tunes, and keeps their blocks alone.
@@ -67,7 +76,6 @@ fn gather_batch<R: Threads + Sync, G: Gate + Sync>(
 {
     let outcomes = set_tunes(rt, alloc, batch, defaults, paper, how, how.jobs, gate)?;
     gather_blocks(alloc, outcomes.as_slice(), blocks)?;
-    give_up(rt, outcomes, how.jobs.count);
     Ok(())
 }
 
@@ -123,8 +131,8 @@ fn plan_tunes<R: Threads + Sync, G: Gate + Sync>(
     Ok(plan)
 }
 
-/// Sets tunes a batch at a time. What is written before a batch is set are the pages that the
-/// batches before it filled, so no more is kept than one batch fills, and the reports.
+/// Sets tunes a batch at a time, each while the batch before it is pressed, whose pages are written
+/// before the next. So no more is kept than two batches fill, and the reports.
 fn print_tunes<R: Threads + Sync, O: Sink, G: Gate + Sync>(
     rt: &R,
     alloc: Global,
@@ -144,14 +152,20 @@ fn print_tunes<R: Threads + Sync, O: Sink, G: Gate + Sync>(
     ensures { ArePrinted (terms_of defaults.now paper.now how) plan.now tunes.now (observed O.taken O.faults output.old output.new) result }
 {
     let mut run = begin_run(alloc, paper, output)?;
+    let mut outcomes = Row::new(alloc);
     let mut rest = tunes;
     'batches: while !rest.is_empty() {
-        run = write_done(rt, alloc, run, how.jobs, output)?;
         let (batch, later) = rest.split_at(rest.len().min(BATCH));
-        take_batch(rt, alloc, batch, defaults, paper, plan, how, &mut run, gate)?;
+        let (set, pressed) = set_beside(
+            rt, alloc, batch, defaults, paper, plan, how, outcomes, run, gate,
+        );
+        let unsent = pressed?;
+        run = send_unsent(unsent, output)?;
+        outcomes = set?;
         rest = later;
     }
-    Ok(run)
+    let unsent = press_batch(rt, alloc, paper, plan, outcomes, run, how.jobs)?;
+    send_unsent(unsent, output)
 }
 
 /// The book of a text, which isn't held any longer.

@@ -1,4 +1,4 @@
-ghost use Rattle.std.specs.Prelude.{◌≡◌, ◌≤◌, ◌<◌, ◌^◌, ◌++◌, ◌∷◌, [], OnOk, IfOk, decimal};
+ghost use Rattle.std.specs.Prelude.{◌≡◌, ◌≤◌, ◌<◌, ◌^◌, ◌++◌, ◌∷◌, [], OnOk, IfOk, decimal, length};
 ghost use Rattle.gen_book.specs.Book.{next, letter_of, steps, half_behind, measure_behind, measures_behind, line_behind, lines_behind, key_of, heading, tune, tunes, book};
 
 use eng_lines::put_number;
@@ -129,12 +129,13 @@ fn put_tune(out: &mut Text, i: u32) -> Result<(), Memory>
     out.push(b'\n')
 }
 
-/// The generated book of 1 to 500 tunes, in ABC notation.
+/// The generated book of 1 to 500 tunes, in ABC notation: at most 350,000 bytes.
 #[tactic(auto, unfolding(crate::specs::Book::book))]
 pub fn make(alloc: Global, n: u32) -> Result<Text, Memory>
     requires some { 1 ≤ n }
     requires few { n ≤ 500 }
-    ensures { IfOk result (λ text. text ≡ book n) }
+    ensures value { IfOk result (λ text. text ≡ book n) }
+    ensures short { IfOk result (λ text. length text ≤ 350000) }
 {
     let mut out = Text::new(alloc);
     for i in 1..n + 1 {

@@ -74,23 +74,45 @@ fn put_headed(out: &mut Text, first: u64, bodies: Row<Text>) -> Result<(), Memor
     Ok(())
 }
 
+/// The text of pages that come behind so many, made by all jobs. The last of them is one that a document can
+/// number.
 #[tactic(auto, using(crate::proofs::Fronts::headed_pages))]
-fn pages_bytes<R: Threads + Sync>(
+pub fn pages_text<R: Threads + Sync>(
     rt: &R,
     alloc: Global,
-    first: u64,
+    before: u32,
     pages: &[Page],
     jobs: Jobs,
 ) -> Result<Text, Memory>
     requires good { All IsPage pages.now }
-    requires few_pages { first + length pages.now < 2 ^ 64 }
-    ensures { IfOk result (λ text. text ≡ numbered page_text first pages.now) }
+    requires few_pages { before + length pages.now < 2 ^ 32 }
+    ensures { IfOk result (λ text. text ≡ numbered page_text (before + 1) pages.now) }
 {
     let bodies = bodies_of(rt, alloc, pages, jobs)?;
     let mut text = Text::new(alloc);
     text.bytes.reserve(room_for(bodies.as_slice()))?;
-    put_headed(&mut text, first, bodies)?;
+    put_headed(&mut text, u64::from(before) + 1, bodies)?;
     Ok(text)
+}
+
+/// Writes the text of the next pages, which are so many. The last of them is one that a document can number.
+pub fn send_pages<O: Sink>(
+    w: DocWriter,
+    count: u32,
+    text: &[u8],
+    sink: &mut O,
+) -> Result<DocWriter, DocError>
+    requires few_pages { w.pages + count < 2 ^ 32 }
+    ensures wrote { Wrote (O.taken sink.old) (O.taken sink.new) text.now result }
+    ensures counts { Counted (O.faults sink.old) (O.faults sink.new) result }
+    ensures fits { FitsAfter w.written result }
+    ensures writer { IfOk result (λ v. IsNext (w.pages + count) w.written text.now v) }
+{
+    let written = send(sink, text, w.written)?;
+    Ok(DocWriter {
+        pages: w.pages + count,
+        written,
+    })
 }
 
 /// Writes the next pages, whose texts are made by all jobs and written in order. The last
@@ -110,10 +132,6 @@ pub fn pages<R: Threads + Sync, O: Sink>(
     ensures fits { FitsAfter w.written result }
     ensures writer { IfOk result (λ v. IsNext (w.pages + length pages.now) w.written (numbered page_text (w.pages + 1) pages.now) v) }
 {
-    let text = pages_bytes(rt, alloc, u64::from(w.pages) + 1, pages, jobs)?;
-    let written = send(sink, text.as_slice(), w.written)?;
-    Ok(DocWriter {
-        pages: w.pages + pages.len() as u32,
-        written,
-    })
+    let text = pages_text(rt, alloc, w.pages, pages, jobs)?;
+    send_pages(w, pages.len() as u32, text.as_slice(), sink)
 }

@@ -6,6 +6,6 @@ pub mod batches;
 pub mod steps;
 pub mod whole;
 
-pub use batches::pages;
+pub use batches::{pages, pages_text, send_pages};
 pub use steps::{DocError, DocWriter, begin, finish, page};
 pub use whole::write_document;

@@ -10,6 +10,6 @@ write_trial-requires-clause-set g c =
 pub returns : goal.returns
 returns g c =
     answer_of (Command.Trial c.args.tunes c.args.flow c.args.jobs.count c.args.even) [] (IsTried c.args.tunes c.args.even c.in-Ok-set_text.book.paper c.as_slice.result.now)
-    (λ called tried. tries c.args.tunes (unmoved c.args.flow) c.args.even c.in-Ok.text c.in-Ok-set_text.book.paper c.as_slice.result.now called c.in-Ok.ensures c.in-Ok-set_text.ensures.paper
+    (λ called tried. tries c.args.tunes (unmoved c.args.flow) c.args.even c.in-Ok.text c.in-Ok-set_text.book.paper c.as_slice.result.now called c.in-Ok.ensures.value c.in-Ok-set_text.ensures.paper
     (subst (λ outcomes. AreSet (unmoved c.args.flow) c.in-Ok.text outcomes) (sym c.as_slice.ensures) c.in-Ok-set_text.ensures.set) tried)
     _ _ c.write_trial.result c.write_trial.ensures

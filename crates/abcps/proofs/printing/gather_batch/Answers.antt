@@ -1,6 +1,4 @@
 use Rattle.{set_tune.specs.Terms.{terms_of}, set_pages.{proofs.Readying.all_whole}, abcps.proofs.{Batches.batch_set, Gathered.gathered_more}}
-use denote.{Exit.no, Param.Send.{arg_send, param_send}}
-use Rattle.set_book.proofs.Sent.{outcome_send}
 use Rattle.abcps.proofs.printing.gather_batch.Goals as goal
 
 pub gather_blocks-requires : goal.gather_blocks-requires
@@ -12,6 +10,3 @@ pub returns : goal.returns
 returns g c before so_far =
     gathered_more (terms_of c.args.defaults.now c.args.paper.now c.args.how) before c.args.batch.now c.in_ok-outcomes.outcomes c.as_slice.result.now _ _ c.as_slice.ensures c.in_ok-outcomes.ensures
     c.in_ok-gather_blocks.ensures.value c.in_ok-gather_blocks.ensures.good so_far
-
-pub give_up-requires-send-T : goal.give_up-requires-send-T
-give_up-requires-send-T g c κs within = param_send 1 _ (arg_send _ no _ outcome_send)
