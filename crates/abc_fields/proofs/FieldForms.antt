@@ -1,237 +1,159 @@
 -- The function that the code follows and the relation that is meant agree: a line reads as a field
 -- exactly where it says it, and is refused exactly where it says nothing.
-use Rattle.std.{proofs.{Common.{◌≡◌, refl, sym, ap, ◌∙◌, subst, ℕ, List, Bool, true, false, ◌==◌, ◌||◌, Option, Some, None, Result, Ok, Err, IfOk, IfErr, unwrap_or, codes}, lemmas.{Bool.{eqb-true, not-true, or_parts}, Slice.Eq.bytes_eq-Decides}}, specs.Str.bytes_eq}
-use Rattle.{mus_units.specs.declared.key.Spread.{Spread}, abc_lines.specs.{declared.book.Line.Line, declared.fault.FaultKind.FaultKind, declared.fault.TuneError.TuneError, declared.kind.LineKind.LineKind, Kinds.kind_of, Kinds.field_text}}
-use Rattle.abc_fields.{specs.{Fields.{key_field, meter_field, unit_field, voice_field, written_field, named_field, breaks_field, spread_field, directive_field, field_by, field_of, Refuses, IsFaultOfLine}, declared.{directive.Breaks.Breaks, field.{Field.Field, FieldError.FieldError}}, Directives.{name_of, rest_of, has_word, names_breaks, breaks_of, spread_of}, Keys.key_of, Meters.{meter_of, unit_of}, Voices.voice_of, MeterSpelling.{SaysMeter, SaysUnit}, FieldSpelling.{SaysBreaks, SaysSpread, is_known, NamedSays, DirectiveSays, KindSays, Says, NamedBad, KindBad, IsBad, NamedRefuses, IsBadLine}, KeySpelling.SaysKey, VoiceSpelling.SaysVoice}, proofs.{KeyForms.{key-says, key-read}, MeterForms.{none_is_some, meter-says, meter-read, unit-says, unit-read, same_bytes}, VoiceForms.{voice-says, voice-read}}}
+use Rattle.std.proofs.Common.{◌≡◌, refl, sym, ap, ◌∙◌, ℕ, List, false, ◌==◌, ◌||◌, Some, None, Result, Ok, Err, MatchResult, IfSome, codes}
+use Rattle.std.proofs.lemmas.{Bool.{cond_both, not-true, or_parts}, Option.{none-some, same_Some}, Result.{MatchResult-at_ok, MatchResult-at_err}}
+use Rattle.{mus_units.specs.declared.key.Spread.Spread, abc_lines.specs.declared.{fault.{FaultKind.FaultKind, TuneError.TuneError}, book.Line.Line}}
+use Rattle.abc_lines.specs.{declared.kind.LineKind.LineKind, Kinds.{kind_of, field_text}}
+use Rattle.abc_fields.specs.Fields.{key_field, meter_field, unit_field, voice_field, named_field, breaks_field, spread_field, directive_field}
+use Rattle.abc_fields.specs.{Fields.{field_by, field_of, Refuses, IsFaultOfLine}, declared.{directive.Breaks.Breaks, field.Field.Field}}
+use Rattle.abc_fields.specs.{declared.field.FieldError.FieldError, Directives.{name_of, rest_of, names_breaks, breaks_of, spread_of}, Keys.key_of}
+use Rattle.abc_fields.specs.{Meters.{meter_of, unit_of}, Voices.voice_of}
+use Rattle.abc_fields.specs.FieldSpelling.{SaysBreaks, SaysSpread, is_known, NamedSays, DirectiveSays, KindSays, Says, NamedBad, KindBad, IsBad}
+use Rattle.abc_fields.specs.FieldSpelling.{NamedRefuses, IsBadLine}
+use Rattle.abc_fields.proofs.{KeyForms.{key-says, key-read}, MeterForms.{meter-says, meter-read, unit-says, unit-read}}
+use Rattle.abc_fields.proofs.{ReadLaws.{some_holds, option_case, byte_case, word_case, not_word, nothing}, VoiceForms.{voice-says, voice-read}}
 
-abbrev Reading : Type 0
-Reading = Result Field FaultKind
+-- A letter and a text say the field that is read of them, or are the fault.
+module _ (letter : ℕ) (text : List ℕ) where
+  abbrev Answers : Result Field FaultKind → Type 0
+  Answers answer = MatchResult answer (NamedSays letter text) (NamedBad letter text)
 
-abbrev field_or : Field → Reading → Field
-field_or else_field (Ok field) = field
-field_or else_field (Err kind) = else_field
+  named-answers : Answers (named_field letter text)
+  unfolding named_field
+  named-answers =
+      byte_case Answers letter 75 _ _
+      (λ k. option_case (λ o. Answers (key_field o)) (key_of text)
+      (λ key e. (k, key-says text key e)) (λ none. (k, λ key says. none-some key (sym none ∙ key-read text key says))))
+      (λ not_k. byte_case Answers letter 77 _ _
+      (λ m. option_case (λ o. Answers (meter_field o)) (meter_of text)
+      (λ meter e. (m, meter-says text meter e)) (λ none. (m, λ meter says. none-some meter (sym none ∙ meter-read text meter says))))
+      (λ not_m. byte_case Answers letter 76 _ _
+      (λ l. option_case (λ o. Answers (unit_field o)) (unit_of text)
+      (λ unit e. (l, unit-says text unit e)) (λ none. (l, λ unit says. none-some unit (sym none ∙ unit-read text unit says))))
+      (λ not_l. byte_case Answers letter 86 _ _
+      (λ v. option_case (λ o. Answers (voice_field o)) (voice_of text)
+      (λ voice e. (v, voice-says text voice e)) (λ none. (v, λ voice says. none-some voice (sym none ∙ voice-read text voice says))))
+      (λ not_v. byte_case (NamedSays letter text) letter 119 _ _ (λ w. (w, refl))
+      (λ not_w. byte_case (NamedSays letter text) letter 84 _ _ (λ t. (t, refl))
+      (λ not_t. byte_case (NamedSays letter text) letter 67 _ _ (λ c. (c, refl))
+      (λ not_c. byte_case (NamedSays letter text) letter 81 _ _ (λ q. (q, refl))
+      (λ not_q. rw (not_k, not_m, not_l, not_v, not_w, not_t, not_c, not_q) refl))))))))
 
-abbrev kind_or : FaultKind → Reading → FaultKind
-kind_or other (Ok field) = other
-kind_or other (Err kind) = kind
+  pub named-says : (field : Field) → named_field letter text ≡ Ok field → NamedSays letter text field
+  named-says field h = MatchResult-at_ok (NamedSays letter text) (NamedBad letter text) field h named-answers
 
-abbrev IsField : Reading → Type 0
-IsField (Ok field) = Unit {0}
-IsField (Err kind) = ⊥
+  -- a letter and a text that are refused are in no good form of that letter
+  pub named-bad : (kind : FaultKind) → named_field letter text ≡ Err kind → NamedBad letter text kind
+  named-bad kind h = MatchResult-at_err (NamedSays letter text) (NamedBad letter text) kind h named-answers
 
-ok_is_err : (field : Field) (kind : FaultKind) → ◌≡◌ {A = Reading} (Ok field) (Err kind) → ⊥
-ok_is_err field kind e = subst IsField e tt
+  -- What a letter and a text say is read.
+  named-other : is_known letter ≡ false → named_field letter text ≡ Ok Field.Other
+  unfolding named_field
+  named-other un =
+      let parts = or_parts ((letter == 75 || letter == 77) || (letter == 76 || letter == 86)) _ un in
+      let read = or_parts (letter == 75 || letter == 77) (letter == 76 || letter == 86) parts.0 in
+      let kept = or_parts (letter == 119 || letter == 84) (letter == 67 || letter == 81) parts.1 in
+      let one = or_parts (letter == 75) (letter == 77) read.0 in
+      let two = or_parts (letter == 76) (letter == 86) read.1 in
+      let three = or_parts (letter == 119) (letter == 84) kept.0 in
+      let four = or_parts (letter == 67) (letter == 81) kept.1 in
+      rw (one.0, one.1, two.0, two.1, three.0, three.1, four.0, four.1) refl
 
-err_is_ok : (field : Field) (kind : FaultKind) → ◌≡◌ {A = Reading} (Err kind) (Ok field) → ⊥
-err_is_ok field kind e = subst IsField (sym e) tt
+  pub named-read : (field : Field) → NamedSays letter text field → named_field letter text ≡ Ok field
+  unfolding named_field
+  named-read (Field.Key key) says = rw (says.0, key-read text key says.1) refl
+  named-read (Field.Meter meter) says = rw (says.0, meter-read text meter says.1) refl
+  named-read (Field.Unit unit) says = rw (says.0, unit-read text unit says.1) refl
+  named-read (Field.Voice voice) says = rw (says.0, voice-read text voice says.1) refl
+  named-read Field.Other says = named-other (not-true (is_known letter) says)
+  named-read (Field.Breaks breaks) says = absurd says
+  named-read (Field.Spread spread) says = absurd says
+  named-read (Field.Words words) says = rw (says.0, says.1) refl
+  named-read (Field.Title title) says = rw (says.0, says.1) refl
+  named-read (Field.Composer composer) says = rw (says.0, says.1) refl
+  named-read (Field.Tempo tempo) says = rw (says.0, says.1) refl
 
-ok_same : (field read : Field) → ◌≡◌ {A = Reading} (Ok field) (Ok read) → field ≡ read
-ok_same field read e = ap (field_or field) e
-
-err_same : (kind other : FaultKind) → ◌≡◌ {A = Reading} (Err kind) (Err other) → kind ≡ other
-err_same kind other e = ap (kind_or kind) e
-
--- A letter and a text that read as a field say it.
-says-at : (letter : ℕ) (text : List ℕ) (read field : Field) → NamedSays letter text read → ◌≡◌ {A = Reading} (Ok read) (Ok field) → NamedSays letter text field
-says-at letter text read field says h = subst (λ f. NamedSays letter text f) (ok_same read field h) says
-
--- what is read of a text, where there is something, is the field
-read_case : {X : Type 0} (letter : ℕ) (text : List ℕ) (field : Field) (kind : FaultKind) (wrap : X → Field) (reading : Option X → Reading) (o : Option X) → reading None ≡ Err kind → ((x : X) → reading (Some x) ≡ Ok (wrap x))
-    → ((x : X) → o ≡ Some x → NamedSays letter text (wrap x)) → reading o ≡ Ok field → NamedSays letter text field
-read_case letter text field kind wrap reading None none some says h = absurd (err_is_ok field kind (sym none ∙ h))
-read_case letter text field kind wrap reading (Some x) none some says h = says-at letter text (wrap x) field (says x refl) (sym (some x) ∙ h)
-
-record Unread (letter : ℕ) : Type 0 where
-  key : (letter == 75) ≡ false
-  meter : (letter == 77) ≡ false
-  unit : (letter == 76) ≡ false
-  voice : (letter == 86) ≡ false
-
-written_says : (letter : ℕ) (text : List ℕ) (w t c q : Bool) → Unread letter → (letter == 119) ≡ w → (letter == 84) ≡ t → (letter == 67) ≡ c → (letter == 81) ≡ q → NamedSays letter text (written_field letter text)
-written_says letter text true t c q un e f g h = rw e (eqb-true letter 119 e, refl)
-written_says letter text false true c q un e f g h = rw (e, f) (eqb-true letter 84 f, refl)
-written_says letter text false false true q un e f g h = rw (e, f, g) (eqb-true letter 67 g, refl)
-written_says letter text false false false true un e f g h = rw (e, f, g, h) (eqb-true letter 81 h, refl)
-written_says letter text false false false false un e f g h = rw (e, f, g, h) (rw (un.key, un.meter, un.unit, un.voice, e, f, g, h) refl)
-
-named_if : (letter : ℕ) (text : List ℕ) (field : Field) (k m l v : Bool) → (letter == 75) ≡ k → (letter == 77) ≡ m → (letter == 76) ≡ l → (letter == 86) ≡ v
-    → named_field letter text ≡ Ok field → NamedSays letter text field
-unfolding named_field
-named_if letter text field true m l v e f g d h = read_case letter text field FaultKind.BadKey Field.Key key_field (key_of text) refl (λ key. refl) (λ key said. (eqb-true letter 75 e, key-says text key said)) (rw e at h)
-named_if letter text field false true l v e f g d h = read_case letter text field FaultKind.BadMeter Field.Meter meter_field (meter_of text) refl (λ meter. refl) (λ meter said. (eqb-true letter 77 f, meter-says text meter said)) (rw (e, f) at h)
-named_if letter text field false false true v e f g d h = read_case letter text field FaultKind.BadUnit Field.Unit unit_field (unit_of text) refl (λ unit. refl) (λ unit said. (eqb-true letter 76 g, unit-says text unit said)) (rw (e, f, g) at h)
-named_if letter text field false false false true e f g d h = read_case letter text field FaultKind.BadVoice Field.Voice voice_field (voice_of text) refl (λ voice. refl) (λ voice said. (eqb-true letter 86 d, voice-says text voice said)) (rw (e, f, g, d) at h)
-named_if letter text field false false false false e f g d h =
-    says-at letter text (written_field letter text) field
-    (written_says letter text (letter == 119) (letter == 84) (letter == 67) (letter == 81) (record { key = e; meter = f; unit = g; voice = d }) refl refl refl refl)
-    (rw (e, f, g, d) at h)
-
-pub named-says : (letter : ℕ) (text : List ℕ) (field : Field) → named_field letter text ≡ Ok field → NamedSays letter text field
-named-says letter text field h = named_if letter text field (letter == 75) (letter == 77) (letter == 76) (letter == 86) refl refl refl refl h
-
--- What a letter and a text say is read.
-named-other : (letter : ℕ) (text : List ℕ) → is_known letter ≡ false → named_field letter text ≡ Ok Field.Other
-unfolding named_field
-named-other letter text un =
-    let parts = or_parts ((letter == 75 || letter == 77) || (letter == 76 || letter == 86)) ((letter == 119 || letter == 84) || (letter == 67 || letter == 81)) un in
-    let read = or_parts (letter == 75 || letter == 77) (letter == 76 || letter == 86) parts.0 in let one = or_parts (letter == 75) (letter == 77) read.0 in
-    let two = or_parts (letter == 76) (letter == 86) read.1 in let kept = or_parts (letter == 119 || letter == 84) (letter == 67 || letter == 81) parts.1 in
-    let three = or_parts (letter == 119) (letter == 84) kept.0 in let four = or_parts (letter == 67) (letter == 81) kept.1 in rw (one.0, one.1, two.0, two.1, three.0, three.1, four.0, four.1) refl
-
-pub named-read : (letter : ℕ) (text : List ℕ) (field : Field) → NamedSays letter text field → named_field letter text ≡ Ok field
-unfolding named_field
-named-read letter text (Field.Key key) says = ap (λ b. named_field b text) says.0 ∙ ap key_field (key-read text key says.1)
-named-read letter text (Field.Meter meter) says = ap (λ b. named_field b text) says.0 ∙ ap meter_field (meter-read text meter says.1)
-named-read letter text (Field.Unit unit) says = ap (λ b. named_field b text) says.0 ∙ ap unit_field (unit-read text unit says.1)
-named-read letter text (Field.Voice voice) says = ap (λ b. named_field b text) says.0 ∙ ap voice_field (voice-read text voice says.1)
-named-read letter text (Field.Words words) says = ap (λ b. named_field b text) says.0 ∙ ap (λ t. Ok (Field.Words t)) (sym says.1)
-named-read letter text (Field.Title title) says = ap (λ b. named_field b text) says.0 ∙ ap (λ t. Ok (Field.Title t)) (sym says.1)
-named-read letter text (Field.Composer composer) says = ap (λ b. named_field b text) says.0 ∙ ap (λ t. Ok (Field.Composer t)) (sym says.1)
-named-read letter text (Field.Tempo tempo) says = ap (λ b. named_field b text) says.0 ∙ ap (λ t. Ok (Field.Tempo t)) (sym says.1)
-named-read letter text (Field.Breaks breaks) says = absurd says
-named-read letter text (Field.Spread spread) says = absurd says
-named-read letter text Field.Other says = named-other letter text (not-true (is_known letter) says)
-
--- A letter and a text that are refused are in no good form of that letter.
-bad-at : (letter : ℕ) (text : List ℕ) (read kind : FaultKind) → NamedBad letter text read → ◌≡◌ {A = Reading} (Err read) (Err kind) → NamedBad letter text kind
-bad-at letter text read kind bad h = subst (λ k. NamedBad letter text k) (err_same read kind h) bad
-
--- and where there is nothing, the fault is its own
-bad_case : {X : Type 0} (letter : ℕ) (text : List ℕ) (read kind : FaultKind) (wrap : X → Field) (reading : Option X → Reading) (o : Option X) → reading None ≡ Err read → ((x : X) → reading (Some x) ≡ Ok (wrap x))
-    → (o ≡ None → NamedBad letter text read) → reading o ≡ Err kind → NamedBad letter text kind
-bad_case letter text read kind wrap reading None none some bad h = bad-at letter text read kind (bad refl) (sym none ∙ h)
-bad_case letter text read kind wrap reading (Some x) none some bad h = absurd (ok_is_err (wrap x) kind (sym (some x) ∙ h))
-
-bad_if : (letter : ℕ) (text : List ℕ) (kind : FaultKind) (k m l v : Bool) → (letter == 75) ≡ k → (letter == 77) ≡ m → (letter == 76) ≡ l → (letter == 86) ≡ v
-    → named_field letter text ≡ Err kind → NamedBad letter text kind
-unfolding named_field
-bad_if letter text kind true m l v e f g d h = bad_case letter text FaultKind.BadKey kind Field.Key key_field (key_of text) refl (λ key. refl) (λ none. (eqb-true letter 75 e, λ key says. none_is_some key (sym none ∙ key-read text key says))) (rw e at h)
-bad_if letter text kind false true l v e f g d h = bad_case letter text FaultKind.BadMeter kind Field.Meter meter_field (meter_of text) refl (λ meter. refl) (λ none. (eqb-true letter 77 f, λ meter says. none_is_some meter (sym none ∙ meter-read text meter says))) (rw (e, f) at h)
-bad_if letter text kind false false true v e f g d h = bad_case letter text FaultKind.BadUnit kind Field.Unit unit_field (unit_of text) refl (λ unit. refl) (λ none. (eqb-true letter 76 g, λ unit says. none_is_some unit (sym none ∙ unit-read text unit says))) (rw (e, f, g) at h)
-bad_if letter text kind false false false true e f g d h = bad_case letter text FaultKind.BadVoice kind Field.Voice voice_field (voice_of text) refl (λ voice. refl) (λ none. (eqb-true letter 86 d, λ voice says. none_is_some voice (sym none ∙ voice-read text voice says))) (rw (e, f, g, d) at h)
-bad_if letter text kind false false false false e f g d h = absurd (ok_is_err (written_field letter text) kind (rw (e, f, g, d) at h))
-
-pub named-bad : (letter : ℕ) (text : List ℕ) (kind : FaultKind) → named_field letter text ≡ Err kind → NamedBad letter text kind
-named-bad letter text kind h = bad_if letter text kind (letter == 75) (letter == 77) (letter == 76) (letter == 86) refl refl refl refl h
-
--- Text of such a letter in no good form is refused.
-refused : {X : Type 0} (field : Option X → Reading) (Says : X → Type 0) (kind : FaultKind) (o : Option X) → field None ≡ Err kind → ((x : X) → o ≡ Some x → Says x) → ((x : X) → Says x → ⊥) → field o ≡ Err kind
-refused field Says kind None none says bad = none
-refused field Says kind (Some x) none says bad = absurd (bad x (says x refl))
-
-pub named-refused : (letter : ℕ) (text : List ℕ) (kind : FaultKind) → NamedBad letter text kind → named_field letter text ≡ Err kind
-unfolding named_field
-named-refused letter text FaultKind.BadKey bad = ap (λ b. named_field b text) bad.0 ∙ refused key_field (SaysKey text) FaultKind.BadKey (key_of text) refl (key-says text) bad.1
-named-refused letter text FaultKind.BadMeter bad = ap (λ b. named_field b text) bad.0 ∙ refused meter_field (SaysMeter text) FaultKind.BadMeter (meter_of text) refl (meter-says text) bad.1
-named-refused letter text FaultKind.BadUnit bad = ap (λ b. named_field b text) bad.0 ∙ refused unit_field (SaysUnit text) FaultKind.BadUnit (unit_of text) refl (unit-says text) bad.1
-named-refused letter text FaultKind.BadVoice bad = ap (λ b. named_field b text) bad.0 ∙ refused voice_field (SaysVoice text) FaultKind.BadVoice (voice_of text) refl (voice-says text) bad.1
-named-refused letter text _ bad = absurd bad
+  -- Text of such a letter in no good form is refused.
+  pub named-refused : (kind : FaultKind) → NamedBad letter text kind → named_field letter text ≡ Err kind
+  unfolding named_field
+  named-refused FaultKind.BadKey bad = rw (bad.0, nothing (key_of text) (key-says text) bad.1) refl
+  named-refused FaultKind.BadMeter bad = rw (bad.0, nothing (meter_of text) (meter-says text) bad.1) refl
+  named-refused FaultKind.BadUnit bad = rw (bad.0, nothing (unit_of text) (unit-says text) bad.1) refl
+  named-refused FaultKind.BadVoice bad = rw (bad.0, nothing (voice_of text) (voice-says text) bad.1) refl
+  named-refused _ bad = absurd bad
 
 -- Directives.
-is_name : (name word : List ℕ) → name ≡ word → bytes_eq name word ≡ true
-is_name name word e = (bytes_eq-Decides name word).1 e
-
-not_name : (name word : List ℕ) → bytes_eq name word ≡ false → name ≡ word → ⊥
-not_name name word e is = let yes : bytes_eq name word ≡ true = is_name name word is in cc
-
-breaks_if : (text : List ℕ) (breaks : Breaks) (some : Bool) → names_breaks text ≡ some → breaks_of text ≡ Some breaks → SaysBreaks text breaks
-unfolding breaks_of
-breaks_if text breaks false e h = absurd (none_is_some breaks (rw e at h))
-breaks_if text breaks true e h =
-    let same : record { eol = has_word text (codes "<EOL>"); dollar = has_word text (codes "$"); bang = has_word text (codes "!") } ≡ breaks = ap (λ o. unwrap_or o breaks) (rw e at h) in
-    record { some = e; eol = ap (λ b. b.eol) (sym same); dollar = ap (λ b. b.dollar) (sym same); bang = ap (λ b. b.bang) (sym same) }
-
 pub breaks-says : (text : List ℕ) (breaks : Breaks) → breaks_of text ≡ Some breaks → SaysBreaks text breaks
-breaks-says text breaks h = breaks_if text breaks (names_breaks text) refl h
-
-breaks-named : (text : List ℕ) → names_breaks text ≡ true → breaks_of text ≡ Some (record { eol = has_word text (codes "<EOL>"); dollar = has_word text (codes "$"); bang = has_word text (codes "!") })
 unfolding breaks_of
-breaks-named text e = rw e refl
+breaks-says text breaks h =
+    cond_both (names_breaks text) _ None (λ o. o ≡ Some breaks → SaysBreaks text breaks)
+    (λ some e. let same = same_Some _ breaks e in
+    record {
+      some = some;
+      eol = ap (λ (b : Breaks). b.eol) (sym same);
+      dollar = ap (λ (b : Breaks). b.dollar) (sym same);
+      bang = ap (λ (b : Breaks). b.bang) (sym same);
+    })
+    (λ none e. absurd (none-some breaks e)) h
 
 pub breaks-read : (text : List ℕ) (breaks : Breaks) → SaysBreaks text breaks → breaks_of text ≡ Some breaks
-breaks-read text breaks says =
-    breaks-named text says.some ∙ ap (λ b. Some (record { eol = b; dollar = has_word text (codes "$"); bang = has_word text (codes "!") })) (sym says.eol)
-    ∙ ap (λ b. Some (record { eol = breaks.eol; dollar = b; bang = has_word text (codes "!") })) (sym says.dollar)
-    ∙ ap (λ b. Some (record { eol = breaks.eol; dollar = breaks.dollar; bang = b })) (sym says.bang)
-
-spread-at : (text : List ℕ) (read spread : Spread) → SaysSpread text read → Some read ≡ Some spread → SaysSpread text spread
-spread-at text read spread says h = subst (λ s. SaysSpread text s) (ap (λ o. unwrap_or o read) h) says
-
-spread_if : (text : List ℕ) (spread : Spread) (none octave pitch : Bool) → bytes_eq text (codes "not") ≡ none → bytes_eq text (codes "octave") ≡ octave → bytes_eq text (codes "pitch") ≡ pitch
-    → spread_of text ≡ Some spread → SaysSpread text spread
-unfolding spread_of
-spread_if text spread true octave pitch e f g h = spread-at text Spread.Not spread (same_bytes text (codes "not") e) (rw e at h)
-spread_if text spread false true pitch e f g h = spread-at text Spread.Octave spread (same_bytes text (codes "octave") f) (rw (e, f) at h)
-spread_if text spread false false true e f g h = spread-at text Spread.Pitch spread (same_bytes text (codes "pitch") g) (rw (e, f, g) at h)
-spread_if text spread false false false e f g h = absurd (none_is_some spread (rw (e, f, g) at h))
+unfolding breaks_of
+breaks-read text breaks says = rw (says.some, ← says.eol, ← says.dollar, ← says.bang) refl
 
 pub spread-says : (text : List ℕ) (spread : Spread) → spread_of text ≡ Some spread → SaysSpread text spread
-spread-says text spread h = spread_if text spread (bytes_eq text (codes "not")) (bytes_eq text (codes "octave")) (bytes_eq text (codes "pitch")) refl refl refl h
+unfolding spread_of
+spread-says text spread h =
+    some_holds (SaysSpread text) h
+    (word_case (λ o. IfSome o (SaysSpread text)) text (codes "not") _ _ (λ is. is)
+    (λ _. word_case (λ o. IfSome o (SaysSpread text)) text (codes "octave") _ _ (λ is. is)
+    (λ _. word_case (λ o. IfSome o (SaysSpread text)) text (codes "pitch") _ _ (λ is. is) (λ _. tt))))
 
 pub spread-read : (text : List ℕ) (spread : Spread) → SaysSpread text spread → spread_of text ≡ Some spread
 unfolding spread_of
 spread-read text Spread.Not says = ap spread_of says
-spread-read text Spread.Octave says = ap spread_of says
-spread-read text Spread.Pitch says = ap spread_of says
-
-two_names : (name : List ℕ) → name ≡ codes "linebreak" → name ≡ codes "propagate-accidentals" → ⊥
-two_names name one two = let same : bytes_eq (codes "linebreak") (codes "propagate-accidentals") ≡ true = is_name (codes "linebreak") (codes "propagate-accidentals") (sym one ∙ two) in cc
-
-breaks_case : (name rest : List ℕ) (o : Option Breaks) → name ≡ codes "linebreak" → breaks_of rest ≡ o → DirectiveSays name rest (breaks_field o)
-breaks_case name rest None is e = (λ breaks says. none_is_some breaks (sym e ∙ breaks-read rest breaks says.1), λ spread says. two_names name is says.0)
-breaks_case name rest (Some breaks) is e = (is, breaks-says rest breaks e)
-
-spread_case : (name rest : List ℕ) (o : Option Spread) → bytes_eq name (codes "linebreak") ≡ false → name ≡ codes "propagate-accidentals" → spread_of rest ≡ o → DirectiveSays name rest (spread_field o)
-spread_case name rest None differs is e = (λ breaks says. not_name name (codes "linebreak") differs says.0, λ spread says. none_is_some spread (sym e ∙ spread-read rest spread says.1))
-spread_case name rest (Some spread) differs is e = (is, spread-says rest spread e)
-
-directive_if : (name rest : List ℕ) (linebreak propagate : Bool) → bytes_eq name (codes "linebreak") ≡ linebreak → bytes_eq name (codes "propagate-accidentals") ≡ propagate
-    → DirectiveSays name rest (directive_field name rest)
-unfolding directive_field
-directive_if name rest true propagate e f = rw e (breaks_case name rest (breaks_of rest) (same_bytes name (codes "linebreak") e) refl)
-directive_if name rest false true e f = rw (e, f) (spread_case name rest (spread_of rest) e (same_bytes name (codes "propagate-accidentals") f) refl)
-directive_if name rest false false e f = rw (e, f) (λ breaks says. not_name name (codes "linebreak") e says.0, λ spread says. not_name name (codes "propagate-accidentals") f says.0)
+spread-read text _ says = ap spread_of says
 
 -- a directive says what it reads as
 pub directive-says : (name rest : List ℕ) → DirectiveSays name rest (directive_field name rest)
-directive-says name rest = directive_if name rest (bytes_eq name (codes "linebreak")) (bytes_eq name (codes "propagate-accidentals")) refl refl
+unfolding directive_field
+directive-says name rest =
+    word_case (DirectiveSays name rest) name (codes "linebreak") _ _
+    (λ is. option_case (λ o. DirectiveSays name rest (breaks_field o)) (breaks_of rest) (λ breaks e. (is, breaks-says rest breaks e))
+    (λ none. (
+      λ breaks says. none-some breaks (sym none ∙ breaks-read rest breaks says.1),
+      λ spread says. not_word {w = codes "linebreak"} refl (sym is ∙ says.0),
+    )))
+    (λ no_breaks. word_case (DirectiveSays name rest) name (codes "propagate-accidentals") _ _
+    (λ is. option_case (λ o. DirectiveSays name rest (spread_field o)) (spread_of rest) (λ spread e. (is, spread-says rest spread e))
+    (λ none. (λ breaks says. not_word no_breaks says.0, λ spread says. none-some spread (sym none ∙ spread-read rest spread says.1))))
+    (λ no_spread. (λ breaks says. not_word no_breaks says.0, λ spread says. not_word no_spread says.0)))
 
 -- and it says nothing else
-one_breaks : (rest : List ℕ) (one two : Breaks) → SaysBreaks rest one → SaysBreaks rest two → one ≡ two
-one_breaks rest one two says says_two = ap (λ o. unwrap_or o one) (sym (breaks-read rest one says) ∙ breaks-read rest two says_two)
-
-one_spread : (rest : List ℕ) (one two : Spread) → SaysSpread rest one → SaysSpread rest two → one ≡ two
-one_spread rest one two says says_two = ap (λ o. unwrap_or o one) (sym (spread-read rest one says) ∙ spread-read rest two says_two)
-
-pub directive-one : (name rest : List ℕ) (one two : Field) → DirectiveSays name rest one → DirectiveSays name rest two → one ≡ two
-directive-one name rest (Field.Breaks one) (Field.Breaks two) a b = ap (λ x. Field.Breaks x) (one_breaks rest one two a.1 b.1)
-directive-one name rest (Field.Breaks one) (Field.Spread two) a b = absurd (two_names name a.0 b.0)
-directive-one name rest (Field.Breaks one) Field.Other a b = absurd (b.0 one a)
-directive-one name rest (Field.Spread one) (Field.Breaks two) a b = absurd (two_names name b.0 a.0)
-directive-one name rest (Field.Spread one) (Field.Spread two) a b = ap (λ x. Field.Spread x) (one_spread rest one two a.1 b.1)
-directive-one name rest (Field.Spread one) Field.Other a b = absurd (b.1 one a)
-directive-one name rest Field.Other (Field.Breaks two) a b = absurd (a.0 two b)
-directive-one name rest Field.Other (Field.Spread two) a b = absurd (a.1 two b)
-directive-one name rest Field.Other Field.Other a b = refl
-directive-one name rest (Field.Breaks one) _ a b = absurd b
-directive-one name rest (Field.Spread one) _ a b = absurd b
-directive-one name rest Field.Other _ a b = absurd b
-directive-one name rest _ two a b = absurd a
+pub directive-read : (name rest : List ℕ) (field : Field) → DirectiveSays name rest field → directive_field name rest ≡ field
+unfolding directive_field
+directive-read name rest (Field.Breaks breaks) says = rw (says.0, breaks-read rest breaks says.1) refl
+directive-read name rest (Field.Spread spread) says = rw (says.0, spread-read rest spread says.1) refl
+directive-read name rest Field.Other says =
+    word_case (λ field. field ≡ Field.Other) name (codes "linebreak") _ _
+    (λ is. ap breaks_field (nothing (breaks_of rest) (λ breaks e. (is, breaks-says rest breaks e)) says.0))
+    (λ _. word_case (λ field. field ≡ Field.Other) name (codes "propagate-accidentals") _ _
+    (λ is. ap spread_field (nothing (spread_of rest) (λ spread e. (is, spread-says rest spread e)) says.1)) (λ _. refl))
+directive-read name rest _ says = absurd says
 
 -- Lines.
-kind-says : (line : List ℕ) (kind : LineKind) (field : Field) → field_by line kind ≡ Ok field → KindSays line kind field
-kind-says line (LineKind.Field letter) field h = named-says letter (field_text line) field h
-kind-says line LineKind.Directive field h = subst (λ f. DirectiveSays (name_of (field_text line)) (rest_of (field_text line)) f) (ok_same (directive_field (name_of (field_text line)) (rest_of (field_text line))) field h) (directive-says (name_of (field_text line)) (rest_of (field_text line)))
-kind-says line LineKind.Music field h = sym (ok_same Field.Other field h)
+kind-answers : (line : List ℕ) (kind : LineKind) → MatchResult (field_by line kind) (KindSays line kind) (KindBad line kind)
+kind-answers line (LineKind.Field letter) = named-answers letter (field_text line)
+kind-answers line LineKind.Directive = directive-says (name_of (field_text line)) (rest_of (field_text line))
+kind-answers line LineKind.Music = refl
 
 -- a line reads as a field only where it says it
 pub line-says : (line : List ℕ) (field : Field) → field_of line ≡ Ok field → Says line field
 unfolding field_of
-line-says line field h = kind-says line (kind_of line) field h
+line-says line field h = MatchResult-at_ok (KindSays line (kind_of line)) (KindBad line (kind_of line)) field h (kind-answers line (kind_of line))
 
 kind-read : (line : List ℕ) (kind : LineKind) (field : Field) → KindSays line kind field → field_by line kind ≡ Ok field
 kind-read line (LineKind.Field letter) field says = named-read letter (field_text line) field says
-kind-read line LineKind.Directive field says = ap Ok (directive-one (name_of (field_text line)) (rest_of (field_text line)) (directive_field (name_of (field_text line)) (rest_of (field_text line))) field (directive-says (name_of (field_text line)) (rest_of (field_text line))) says)
+kind-read line LineKind.Directive field says = ap Ok (directive-read (name_of (field_text line)) (rest_of (field_text line)) field says)
 kind-read line LineKind.Music field says = ap Ok (sym says)
 
 -- and wherever it does
@@ -239,20 +161,14 @@ pub line-read : (line : List ℕ) (field : Field) → Says line field → field_
 unfolding field_of
 line-read line field says = kind-read line (kind_of line) field says
 
-kind-bad : (line : List ℕ) (kind : LineKind) (fault : FaultKind) → field_by line kind ≡ Err fault → KindBad line kind fault
-kind-bad line (LineKind.Field letter) fault h = named-bad letter (field_text line) fault h
-kind-bad line LineKind.Directive fault h = ok_is_err (directive_field (name_of (field_text line)) (rest_of (field_text line))) fault h
-kind-bad line LineKind.Music fault h = ok_is_err Field.Other fault h
-
 -- a line is refused only where its text is in no good form
 pub line-bad : (line : List ℕ) (fault : FaultKind) → field_of line ≡ Err fault → IsBad line fault
 unfolding field_of
-line-bad line fault h = kind-bad line (kind_of line) fault h
+line-bad line fault h = MatchResult-at_err (KindSays line (kind_of line)) (KindBad line (kind_of line)) fault h (kind-answers line (kind_of line))
 
 kind-refused : (line : List ℕ) (kind : LineKind) (fault : FaultKind) → KindBad line kind fault → field_by line kind ≡ Err fault
 kind-refused line (LineKind.Field letter) fault bad = named-refused letter (field_text line) fault bad
-kind-refused line LineKind.Directive fault bad = absurd bad
-kind-refused line LineKind.Music fault bad = absurd bad
+kind-refused line _ fault bad = absurd bad
 
 -- and wherever it is
 pub line-refused : (line : List ℕ) (fault : FaultKind) → IsBad line fault → field_of line ≡ Err fault
@@ -260,26 +176,10 @@ unfolding field_of
 line-refused line fault bad = kind-refused line (kind_of line) fault bad
 
 -- The same of what a call answers.
-pub named_answers : (letter : ℕ) (text : List ℕ) (answer : Result Field FieldError) → IfOk answer (λ field. named_field letter text ≡ Ok field) → IfOk answer (λ field. NamedSays letter text field)
-named_answers letter text (Ok field) h = named-says letter text field h
-named_answers letter text (Err e) h = tt
+pub named_refuses : (letter : ℕ) (text : List ℕ) (e : FieldError) → Refuses (named_field letter text) e → NamedRefuses letter text e
+named_refuses letter text FieldError.Memory h = tt
+named_refuses letter text (FieldError.Fault kind) h = named-bad letter text kind h
 
-named_refusals : (letter : ℕ) (text : List ℕ) (e : FieldError) → Refuses (named_field letter text) e → NamedRefuses letter text e
-named_refusals letter text FieldError.Memory h = tt
-named_refusals letter text (FieldError.Fault kind) h = named-bad letter text kind h
-
-pub named_refuses : (letter : ℕ) (text : List ℕ) (answer : Result Field FieldError) → IfErr answer (λ e. Refuses (named_field letter text) e) → IfErr answer (λ e. NamedRefuses letter text e)
-named_refuses letter text (Ok field) h = tt
-named_refuses letter text (Err e) h = named_refusals letter text e h
-
-pub line_answers : (line : List ℕ) (answer : Result Field TuneError) → IfOk answer (λ field. field_of line ≡ Ok field) → IfOk answer (λ field. Says line field)
-line_answers line (Ok field) h = line-says line field h
-line_answers line (Err e) h = tt
-
-line_faults : (line : Line) (e : TuneError) → IsFaultOfLine line e → IsBadLine line e
-line_faults line TuneError.Memory h = tt
-line_faults line (TuneError.Fault fault) h = (line-bad line.text fault.kind h.0, h.1, h.2)
-
-pub line_refuses : (line : Line) (answer : Result Field TuneError) → IfErr answer (λ e. IsFaultOfLine line e) → IfErr answer (λ e. IsBadLine line e)
-line_refuses line (Ok field) h = tt
-line_refuses line (Err e) h = line_faults line e h
+pub line_refuses : (line : Line) (e : TuneError) → IsFaultOfLine line e → IsBadLine line e
+line_refuses line TuneError.Memory h = tt
+line_refuses line (TuneError.Fault fault) h = (line-bad line.text fault.kind h.0, h.1, h.2)

@@ -6,6 +6,7 @@ pub mod KeyWordForms
 pub mod MeterForms
 pub mod MeterLaws
 pub mod NumberLaws
+pub mod ReadLaws
 pub mod VoiceForms
 pub mod WordForms
 pub mod WordLaws

@@ -1,134 +1,97 @@
 -- The words that are read one after another are those of the text, with blanks between them.
-use Rattle.std.{proofs.{Common.{◌≡◌, refl, sym, ap, ◌∙◌, subst, ℕ, List, [], ◌∷◌, ◌++◌, Bool, true, false, length, take, drop, not, Option, Some, None, unwrap_or, take-append-drop, append-nil}, lemmas.Bool.{and_parts, not-true}, Math.Seq.{take-append_seam, drop-append_seam}}, specs.List.{list_all, prefix_len}}
+use Rattle.std.proofs.Common.{◌≡◌, refl, sym, ap, ◌∙◌, subst, ℕ, List, [], ◌∷◌, ◌++◌, true, false, length, take, not, Option, Some, None, IfSome}
+use Rattle.std.proofs.{Common.{take-append-drop, append-nil}, lemmas.{Bool.{and_parts, not-true}, Option.none-some}}
+use Rattle.std.{proofs.Math.Seq.{take-append_seam, drop-append_seam}, specs.List.{list_all, prefix_len}}
 use Rattle.abc_lines.specs.Kinds.{is_blank, behind_blanks}
-use Rattle.abc_fields.{specs.{Words.{is_empty, word_len, word_and_rest, next_word, words_of, words_after}, WordSpelling.{Parts, IsFirstWord, HasWords}}, proofs.{BlankLaws.{front-passes, blanks-passed, stays}, MeterForms.none_is_some, WordLaws.{BeginsWord, BeginsBlank, behind-begins, word-stops, words-next}}}
+use Rattle.abc_fields.specs.{Words.{is_empty, word_len, word_and_rest, next_word, words_of, words_after}, WordSpelling.{Parts, IsFirstWord, HasWords}}
+use Rattle.abc_fields.proofs.{BlankLaws.{front-passes, blanks-passed, blanks-gone, stays}, ReadLaws.{by_test, option_case, some_holds}}
+use Rattle.abc_fields.proofs.WordLaws.{BeginsWord, behind-begins, word-some, word-stops, words-next}
 
 -- The first word.
-whole_more : (b : ℕ) (s : List ℕ) (parts : Bool) → is_blank b ≡ parts → list_all (λ c. not (is_blank c)) (take (word_len false false s) s) ≡ true → list_all (λ c. not (is_blank c)) (take (word_len false false (b ∷ s)) (b ∷ s)) ≡ true
-whole_more b s true e all = rw e refl
-whole_more b s false e all = rw e (rw (e, all) refl)
-
 word-whole : (s : List ℕ) → list_all (λ c. not (is_blank c)) (take (word_len false false s) s) ≡ true
 word-whole [] = refl
-word-whole (b ∷ s) = whole_more b s (is_blank b) refl (word-whole s)
+word-whole (b ∷ s) = by_test (is_blank b) (λ e. rw e refl) (λ e. let more = word-whole s in rw (e, e, more) refl)
 
-parts_blank : (s : List ℕ) → BeginsBlank s → Parts s
-parts_blank [] begins = tt
-parts_blank (b ∷ s) begins = begins
-
-word-some : (b : ℕ) (s : List ℕ) → is_blank b ≡ false → not (is_empty (take (word_len false false (b ∷ s)) (b ∷ s))) ≡ true
-word-some b s e = rw e refl
-
-some_pair : (a b : List ℕ × List ℕ) → Some a ≡ Some b → a ≡ b
-some_pair a b h = ap (λ o. unwrap_or o b) h
-
-first_if : (text t id rest : List ℕ) → behind_blanks text ≡ t → BeginsWord t → word_and_rest false t ≡ Some (id, rest) → IsFirstWord text id rest
-first_if text [] id rest e begins h = absurd (none_is_some (id, rest) h)
-first_if text (b ∷ s) id rest e begins h =
-    let same = some_pair (take (word_len false false (b ∷ s)) (b ∷ s), drop (word_len false false (b ∷ s)) (b ∷ s)) (id, rest) h in
-    let word : take (word_len false false (b ∷ s)) (b ∷ s) ≡ id = ap (λ p. p.0) same in let left : drop (word_len false false (b ∷ s)) (b ∷ s) ≡ rest = ap (λ p. p.1) same in
+first-of : (text t : List ℕ) → behind_blanks text ≡ t → BeginsWord t → IfSome (word_and_rest false t) (λ next. IsFirstWord text next.0 next.1)
+first-of text [] is begins = tt
+first-of text (b ∷ s) is begins =
     record {
       blanks = take (prefix_len is_blank text) text;
       blank = front-passes is_blank text;
-      some = subst (λ w. not (is_empty w) ≡ true) word (word-some b s begins);
-      whole = subst (λ w. list_all (λ c. not (is_blank c)) w ≡ true) word (word-whole (b ∷ s));
-      parted = subst Parts left (parts_blank (drop (word_len false false (b ∷ s)) (b ∷ s)) (word-stops false false (b ∷ s)));
+      some = word-some false b s begins;
+      whole = word-whole (b ∷ s);
+      parted = word-stops false false (b ∷ s);
       cut =
           sym (take-append-drop (prefix_len is_blank text) text)
-          ∙ ap (λ x. take (prefix_len is_blank text) text ++ x) (e ∙ sym (take-append-drop (word_len false false (b ∷ s)) (b ∷ s)) ∙ ap (λ x. x ++ drop (word_len false false (b ∷ s)) (b ∷ s)) word ∙ ap (λ x. id ++ x) left);
+          ∙ ap (λ t. take (prefix_len is_blank text) text ++ t) (is ∙ sym (take-append-drop (word_len false false (b ∷ s)) (b ∷ s)));
     }
 
-pub first-takes : (text id rest : List ℕ) → next_word false text ≡ Some (id, rest) → IsFirstWord text id rest
+pub first-takes : (text : List ℕ) (next : List ℕ × List ℕ) → next_word false text ≡ Some next → IsFirstWord text next.0 next.1
 unfolding next_word
-first-takes text id rest h = first_if text (behind_blanks text) id rest refl (behind-begins text) h
-
-stops-here : (rest : List ℕ) → Parts rest → word_len false false rest ≡ 0
-stops-here [] parts = refl
-stops-here (b ∷ s) parts = let blank : is_blank b ≡ true = parts in rw blank refl
+first-takes text next h =
+    some_holds (λ next. IsFirstWord text next.0 next.1) h (first-of text (behind_blanks text) refl (behind-begins text))
 
 word-length : (word rest : List ℕ) → list_all (λ b. not (is_blank b)) word ≡ true → Parts rest → word_len false false (word ++ rest) ≡ length word
-word-length [] rest whole parts = stops-here rest parts
+word-length [] [] whole parts = refl
+word-length [] (b ∷ s) whole parts = let blank : is_blank b ≡ true = parts in rw blank refl
 word-length (b ∷ word) rest whole parts =
-    let tests = and_parts _ _ whole in let here : is_blank b ≡ false = not-true (is_blank b) tests.0 in
-    let more : word_len false false (word ++ rest) ≡ length word = word-length word rest tests.1 parts in rw (here, more) refl
-
-abbrev cut_off : ℕ → List ℕ → Option (List ℕ × List ℕ)
-cut_off n s = Some (take n s, drop n s)
+    let tests = and_parts _ _ whole in
+    let here : is_blank b ≡ false = not-true (is_blank b) tests.0 in
+    let more = word-length word rest tests.1 parts in rw (here, more) refl
 
 abbrev pub both : List ℕ → List ℕ → Option (List ℕ × List ℕ)
 both a b = Some (a, b)
 
-word-first : (word rest : List ℕ) → not (is_empty word) ≡ true → list_all (λ b. not (is_blank b)) word ≡ true → Parts rest → word_and_rest false (behind_blanks (word ++ rest)) ≡ both word rest
+word-first : (word rest : List ℕ) → not (is_empty word) ≡ true → list_all (λ b. not (is_blank b)) word ≡ true → Parts rest
+    → word_and_rest false (behind_blanks (word ++ rest)) ≡ both word rest
 word-first [] rest some whole parts = cc
 word-first (b ∷ word) rest some whole parts =
     let here : is_blank b ≡ false = not-true (is_blank b) (and_parts _ _ whole).0 in
-    ap (word_and_rest false) (stays b (word ++ rest) here) ∙ ap (λ n. cut_off n (b ∷ (word ++ rest))) (word-length (b ∷ word) rest whole parts)
-    ∙ ap (λ t. both t (drop (length (b ∷ word)) ((b ∷ word) ++ rest))) (take-append_seam (b ∷ word) rest) ∙ ap (λ t. both (b ∷ word) t) (drop-append_seam (b ∷ word) rest)
+    ap (word_and_rest false) (stays b (word ++ rest) here)
+    ∙ rw (word-length (b ∷ word) rest whole parts, take-append_seam (b ∷ word) rest, drop-append_seam (b ∷ word) rest) refl
 
 pub first-read : (text word rest : List ℕ) → IsFirstWord text word rest → next_word false text ≡ both word rest
 unfolding next_word
 first-read text word rest first =
-    ap (λ t. word_and_rest false (behind_blanks t)) first.cut ∙ ap (word_and_rest false) (blanks-passed first.blanks (word ++ rest) first.blank)
-    ∙ word-first word rest first.some first.whole first.parted
+    rw (first.cut, blanks-passed first.blanks (word ++ rest) first.blank) (word-first word rest first.some first.whole first.parted)
 
 -- All words.
-abbrev first_or : List (List ℕ) → List ℕ
-first_or [] = []
-first_or (w ∷ ws) = w
-
-abbrev others_of : List (List ℕ) → List (List ℕ)
-others_of [] = []
-others_of (w ∷ ws) = ws
-
-abbrev IsSomeWord : List (List ℕ) → Type 0
-IsSomeWord [] = ⊥
-IsSomeWord (w ∷ ws) = Unit {0}
-
-words-more : (text word rest : List ℕ) → next_word false text ≡ both word rest → words_of text ≡ word ∷ words_of rest
-words-more text word rest e = words-next false text ∙ ap (words_after false) e
+words-more : (text : List ℕ) (next : List ℕ × List ℕ) → next_word false text ≡ Some next → words_of text ≡ next.0 ∷ words_of next.1
+words-more text next e = words-next false text ∙ ap (words_after false) e
 
 words-none : (text : List ℕ) → next_word false text ≡ None → words_of text ≡ []
 words-none text e = words-next false text ∙ ap (words_after false) e
 
 blank-none : (text : List ℕ) → list_all is_blank text ≡ true → next_word false text ≡ None
 unfolding next_word
-blank-none text all = let nothing : behind_blanks text ≡ [] = ap behind_blanks (sym (append-nil text)) ∙ blanks-passed text [] all in ap (word_and_rest false) nothing
+blank-none text all = rw (blanks-gone text all) refl
 
 -- a text has the words that stand in it
 pub words-of-spelled : (words : List (List ℕ)) (text : List ℕ) → HasWords text words → words_of text ≡ words
 words-of-spelled [] text has = words-none text (blank-none text has)
-words-of-spelled (word ∷ words) text has = words-more text word has.0 (first-read text word has.0 has.1) ∙ ap (λ ws. word ∷ ws) (words-of-spelled words has.0 has.2)
+words-of-spelled (word ∷ words) text has =
+    words-more text (word, has.0) (first-read text word has.0 has.1) ∙ ap (λ ws. word ∷ ws) (words-of-spelled words has.0 has.2)
 
 nothing-left : (t : List ℕ) → word_and_rest false t ≡ None → t ≡ []
 nothing-left [] e = refl
-nothing-left (b ∷ s) e = absurd (none_is_some (take (word_len false false (b ∷ s)) (b ∷ s), drop (word_len false false (b ∷ s)) (b ∷ s)) (sym e))
+nothing-left (b ∷ s) e = absurd (none-some _ (sym e))
 
 none-blank : (text : List ℕ) → next_word false text ≡ None → list_all is_blank text ≡ true
 unfolding next_word
 none-blank text e =
-    let nothing : behind_blanks text ≡ [] = nothing-left (behind_blanks text) e in
-    let whole : take (prefix_len is_blank text) text ≡ text =
-    sym (append-nil (take (prefix_len is_blank text) text)) ∙ ap (λ t. take (prefix_len is_blank text) text ++ t) (sym nothing)
-    ∙ take-append-drop (prefix_len is_blank text) text in
+    let nothing = nothing-left (behind_blanks text) e in
+    let whole : take (prefix_len is_blank text) text ≡ text = rw (nothing, append-nil) at (take-append-drop (prefix_len is_blank text) text) in
     subst (λ t. list_all is_blank t ≡ true) whole (front-passes is_blank text)
-
-spelled_case : (words : List (List ℕ)) (text : List ℕ) (next : Option (List ℕ × List ℕ)) → next_word false text ≡ next → words_of text ≡ words
-    → ((rest : List ℕ) → words_of rest ≡ others_of words → HasWords rest (others_of words)) → HasWords text words
-spelled_case [] text None e is more = none-blank text e
-spelled_case [] text (Some next) e is more = absurd (subst IsSomeWord (sym (words-more text next.0 next.1 e) ∙ is) tt)
-spelled_case (word ∷ words) text None e is more = absurd (subst IsSomeWord (sym is ∙ words-none text e) tt)
-spelled_case (word ∷ words) text (Some next) e is more =
-    let same : next.0 ∷ words_of next.1 ≡ word ∷ words = sym (words-more text next.0 next.1 e) ∙ is in
-    (next.1, subst (λ w. IsFirstWord text w next.1) (ap first_or same) (first-takes text next.0 next.1 e), more next.1 (ap others_of same))
 
 -- and the words that it has stand in it
 pub words-spelled : (words : List (List ℕ)) (text : List ℕ) → words_of text ≡ words → HasWords text words
-words-spelled [] text is = spelled_case [] text (next_word false text) refl is (λ rest e. blank_rest rest e)
-  where
-    blank_rest : (rest : List ℕ) → words_of rest ≡ [] → HasWords rest []
-    blank_rest rest e = blank_if rest (next_word false rest) refl e
-      where
-        blank_if : (rest : List ℕ) (next : Option (List ℕ × List ℕ)) → next_word false rest ≡ next → words_of rest ≡ [] → HasWords rest []
-        blank_if rest None e is = none-blank rest e
-        blank_if rest (Some next) e is = absurd (subst IsSomeWord (sym (words-more rest next.0 next.1 e) ∙ is) tt)
-words-spelled (word ∷ words) text is = spelled_case (word ∷ words) text (next_word false text) refl is (λ rest e. words-spelled words rest e)
+words-spelled [] text is =
+    option_case (λ _. HasWords text []) (next_word false text) (λ next e. let more = words-more text next e in cc) (none-blank text)
+words-spelled (word ∷ words) text is =
+    option_case (λ _. HasWords text (word ∷ words)) (next_word false text)
+    (λ next e.
+    let more = words-more text next e in
+    let first : next.0 ≡ word = cc in
+    let others : words_of next.1 ≡ words = cc in
+    (next.1, subst (λ w. IsFirstWord text w next.1) first (first-takes text next e), words-spelled words next.1 others))
+    (λ none. let nothing = words-none text none in absurd (cc))

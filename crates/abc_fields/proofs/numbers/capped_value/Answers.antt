@@ -1,13 +1,16 @@
-use Rattle.std.proofs.Common.{◌≡◌, ℕ, suc, ◌∷◌, ◌+◌, ◌*◌, ◌-◌, List, drop, get_or, arith, drop-cons, sym, ◌∙◌, ap, length, ◌<◌, min}
-use Rattle.abc_fields.{specs.Numbers.value_after, proofs.NumberLaws.value_after-min}
+use Rattle.std.proofs.Common.{◌≡◌, ℕ, suc, ◌∷◌, ◌+◌, ◌*◌, ◌-◌, List, drop, get_or, arith, drop-cons, min}
+use Rattle.abc_fields.proofs.NumberLaws.{value_after-min}
 use Rattle.abc_fields.proofs.numbers.capped_value.Goals as goal
 
 pub loop-digit-preserved : goal.loop-digit-preserved
 loop-digit-preserved c =
-    let ds : List ℕ = c.args.digits.now in let i : ℕ = c.loop-digit.digit-index in let v : ℕ = c.loop-digit.value in let inside : i < length ds = omega arith in
-    let one : i + 1 ≡ suc i = omega arith in let now : drop i ds ≡ get_or ds i 0 ∷ drop (suc i) ds = drop-cons ds i 0 inside in
-    let capped : min c.with_digit-value.result 10000000 ≡ min (v * 10 + (get_or ds i 0 - 48)) 10000000 = omega (arith, c.with_digit-value.ensures.value) in
+    let ds : List ℕ = c.args.digits.now in
+    let i : ℕ = c.loop-digit.digit-index in
+    let next : ℕ = c.loop-digit.value * 10 + (get_or ds i 0 - 48) in
+    let one : i + 1 ≡ suc i = omega arith in
+    let now : drop i ds ≡ get_or ds i 0 ∷ drop (suc i) ds = drop-cons ds i 0 (omega arith) in
+    let capped : min c.with_digit-value.result 10000000 ≡ min next 10000000 = omega (arith, c.with_digit-value.ensures.value) in
     record {
-      rest = rw one (value_after-min (drop (suc i) ds) c.with_digit-value.result (v * 10 + (get_or ds i 0 - 48)) capped ∙ ap (λ s. min (value_after v s) 10000000) (sym now) ∙ c.loop-digit.invariant.rest);
+      rest = rw (one, value_after-min (drop (suc i) ds) c.with_digit-value.result next capped) (rw now at c.loop-digit.invariant.rest);
       small = c.with_digit-value.ensures.small;
     }
