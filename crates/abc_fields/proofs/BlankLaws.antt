@@ -1,12 +1,12 @@
 -- A text without the blanks at its ends is what stands between blanks in it.
-use Rattle.std.proofs.Common.{◌≡◌, refl, sym, ap, ◌∙◌, subst, ℕ, suc, ◌+◌, ◌-◌, List, [], ◌∷◌, ◌++◌, Bool, true, false, length, take, drop, arith}
-use Rattle.std.proofs.{Common.{not, reverse}, lemmas.Bool.{and_parts, not-true}}
+use Rattle.std.proofs.Common.{◌≡◌, refl, sym, ap, ◌∙◌, subst, ℕ, suc, ◌+◌, ◌-◌, ◌≤◌, List, [], ◌∷◌, ◌++◌, Bool, true, false, length, take, drop}
+use Rattle.std.proofs.{Common.{arith, not, reverse}, lemmas.Bool.{and_parts, not-true}}
 use Rattle.std.proofs.lemmas.List.{take-append-drop, append-nil, length-append, length-drop, length-reverse, reverse-append, reverse-reverse}
-use Rattle.std.proofs.{lemmas.List.{Folds.list_all-append, Sums.suffix_len-le-length}, Math.Seq.take-append_seam}
+use Rattle.std.proofs.{lemmas.List.{Folds.list_all-append, Sums.suffix_len-le-length}, Math.Seq.{take-append_seam, drop-append_seam}}
 use Rattle.std.specs.{List.{list_all, prefix_len, suffix_len}, Prelude.⊤}
 use Rattle.abc_lines.specs.Kinds.{is_blank, behind_blanks}
 use Rattle.abc_fields.specs.{Words.trimmed, WordSpelling.IsBetweenBlanks}
-use Rattle.abc_fields.proofs.{ReadLaws.by_test, WordLaws.behind-cons}
+use Rattle.abc_fields.proofs.ReadLaws.{by_test}
 
 -- How many at the front pass a test, and that they do.
 abbrev pub Stops : (ℕ → Bool) → List ℕ → Type 0
@@ -19,6 +19,12 @@ prefix-stops p [] (b ∷ rest) all stops = rw stops refl
 prefix-stops p (b ∷ front) rest all stops =
     let here : p b ≡ true = (and_parts _ _ all).0 in let more = prefix-stops p front rest (and_parts _ _ all).1 stops in rw here (omega (arith, more))
 
+pub front-stops : (p : ℕ → Bool) (s : List ℕ) → Stops p (drop (prefix_len p s) s)
+front-stops p [] = tt
+front-stops p (b ∷ s) =
+    by_test (p b)
+    (λ e. let one : 1 + prefix_len p s ≡ suc (prefix_len p s) = omega arith in let more = front-stops p s in rw (e, one) more) (λ e. rw e e)
+
 pub front-passes : (p : ℕ → Bool) (s : List ℕ) → list_all p (take (prefix_len p s) s) ≡ true
 front-passes p [] = refl
 front-passes p (b ∷ s) =
@@ -27,7 +33,7 @@ front-passes p (b ∷ s) =
     (λ e. rw e refl)
 
 -- The same of the end, which is the front of the text from behind.
-reversed-passes : (p : ℕ → Bool) (s : List ℕ) → list_all p s ≡ true → list_all p (reverse s) ≡ true
+pub reversed-passes : (p : ℕ → Bool) (s : List ℕ) → list_all p s ≡ true → list_all p (reverse s) ≡ true
 reversed-passes p [] all = refl
 reversed-passes p (b ∷ s) all =
     let here : p b ≡ true = (and_parts _ _ all).0 in
@@ -38,26 +44,28 @@ none-stops : (p : ℕ → Bool) (s : List ℕ) → list_all (λ b. not (p b)) s 
 none-stops p [] none = tt
 none-stops p (b ∷ s) none = not-true (p b) (and_parts _ _ none).0
 
-suffix-append : (p : ℕ → Bool) (core back : List ℕ) → list_all (λ b. not (p b)) core ≡ true → list_all p back ≡ true
-    → suffix_len p (core ++ back) ≡ length back
-suffix-append p core back none all =
-    let stops = none-stops p (reverse core) (reversed-passes (λ b. not (p b)) core none) in
-    let passes = reversed-passes p back all in
-    ap (prefix_len p) (reverse-append core back) ∙ prefix-stops p (reverse back) (reverse core) passes stops ∙ length-reverse back
+pub cut-reversed : (n : ℕ) (s : List ℕ) → n ≤ length s
+    → (take n (reverse s) ≡ reverse (drop (length s - n) s)) × (drop n (reverse s) ≡ reverse (take (length s - n) s))
+cut-reversed n s few =
+    let front : List ℕ = take (length s - n) s in
+    let back : List ℕ = drop (length s - n) s in
+    let parts : reverse s ≡ reverse back ++ reverse front = ap reverse (sym (take-append-drop (length s - n) s)) ∙ reverse-append front back in
+    let size : n ≡ length (reverse back) = omega (arith, length-reverse back, length-drop (length s - n) s) in (
+      ap (take n) parts ∙ ap (λ k. take k (reverse back ++ reverse front)) size ∙ take-append_seam (reverse back) (reverse front),
+      ap (drop n) parts ∙ ap (λ k. drop k (reverse back ++ reverse front)) size ∙ drop-append_seam (reverse back) (reverse front),
+    )
 
 suffix-passes : (p : ℕ → Bool) (s : List ℕ) → list_all p (drop (length s - suffix_len p s) s) ≡ true
 suffix-passes p s =
-    let rest : ℕ = length s - suffix_len p s in
-    let back : List ℕ = drop rest s in
-    let front : List ℕ = take rest s in
-    let size : suffix_len p s ≡ length (reverse back) = omega (arith, length-reverse back, length-drop rest s, suffix_len-le-length p s) in
-    let same : take (suffix_len p s) (reverse s) ≡ reverse back =
-    ap (take (suffix_len p s)) (ap reverse (sym (take-append-drop rest s)) ∙ reverse-append front back)
-    ∙ ap (λ n. take n (reverse back ++ reverse front)) size ∙ take-append_seam (reverse back) (reverse front) in
+    let back : List ℕ = drop (length s - suffix_len p s) s in
+    let same = (cut-reversed (suffix_len p s) s (suffix_len-le-length p s)).0 in
     let passes = subst (λ t. list_all p t ≡ true) same (front-passes p (reverse s)) in
     subst (λ t. list_all p t ≡ true) (reverse-reverse back) (reversed-passes p (reverse back) passes)
 
 -- Blanks.
+pub behind-cons : (b : ℕ) (s : List ℕ) → is_blank b ≡ true → behind_blanks (b ∷ s) ≡ behind_blanks s
+behind-cons b s e = let more : 1 + prefix_len is_blank s ≡ suc (prefix_len is_blank s) = omega arith in rw (e, more) refl
+
 pub blanks-passed : (blanks s : List ℕ) → list_all is_blank blanks ≡ true → behind_blanks (blanks ++ s) ≡ behind_blanks s
 blanks-passed [] s all = refl
 blanks-passed (b ∷ blanks) s all = let parts = and_parts _ _ all in behind-cons b (blanks ++ s) parts.0 ∙ blanks-passed blanks s parts.1
@@ -86,17 +94,28 @@ trimmed-between text =
 abbrev ended : List ℕ → List ℕ
 ended t = take (length t - suffix_len is_blank t) t
 
-core-left : (core back : List ℕ) → list_all (λ b. not (is_blank b)) core ≡ true → list_all is_blank back ≡ true
-    → ended (behind_blanks (core ++ back)) ≡ core
-core-left [] back none all = ap ended (blanks-gone back all)
-core-left (b ∷ core) back none all =
-    let here : is_blank b ≡ false = not-true (is_blank b) (and_parts _ _ none).0 in
-    let size : length ((b ∷ core) ++ back) - suffix_len is_blank ((b ∷ core) ++ back) ≡ length (b ∷ core) =
-    omega (arith, suffix-append is_blank (b ∷ core) back none all, length-append (b ∷ core) back) in
-    ap ended (stays b (core ++ back) here) ∙ rw size (take-append_seam (b ∷ core) back)
+ended-left : (core back : List ℕ) → Stops is_blank (reverse core) → list_all is_blank back ≡ true → ended (core ++ back) ≡ core
+ended-left core back stops all =
+    let passes = reversed-passes is_blank back all in
+    let blanks : suffix_len is_blank (core ++ back) ≡ length back =
+    ap (prefix_len is_blank) (reverse-append core back) ∙ prefix-stops is_blank (reverse back) (reverse core) passes stops ∙ length-reverse back in
+    let size : length (core ++ back) - suffix_len is_blank (core ++ back) ≡ length core = omega (arith, blanks, length-append core back) in
+    rw size (take-append_seam core back)
 
--- what has no blank and stands between blanks is left
-pub between-trimmed : (text core : List ℕ) → list_all (λ b. not (is_blank b)) core ≡ true → IsBetweenBlanks text core → trimmed text ≡ core
+core-left : (core back : List ℕ) → Stops is_blank core → Stops is_blank (reverse core) → list_all is_blank back ≡ true
+    → ended (behind_blanks (core ++ back)) ≡ core
+core-left [] back begins ends all = ap ended (blanks-gone back all)
+core-left (b ∷ core) back begins ends all = ap ended (stays b (core ++ back) begins) ∙ ended-left (b ∷ core) back ends all
+
+-- what begins and ends with no blank, and stands between blanks, is left
+pub bare-trimmed : (text core : List ℕ) → Stops is_blank core → Stops is_blank (reverse core) → IsBetweenBlanks text core → trimmed text ≡ core
 unfolding trimmed
+bare-trimmed text core begins ends between =
+    rw (between.cut, blanks-passed between.front (core ++ between.back) between.front_blank)
+    (core-left core between.back begins ends between.back_blank)
+
+-- so is what has no blank at all
+pub between-trimmed : (text core : List ℕ) → list_all (λ b. not (is_blank b)) core ≡ true → IsBetweenBlanks text core → trimmed text ≡ core
 between-trimmed text core none between =
-    rw (between.cut, blanks-passed between.front (core ++ between.back) between.front_blank) (core-left core between.back none between.back_blank)
+    let ends = none-stops is_blank (reverse core) (reversed-passes (λ b. not (is_blank b)) core none) in
+    bare-trimmed text core (none-stops is_blank core none) ends between

@@ -114,9 +114,8 @@ module _ (w : List ℕ) (letter : Letter) where
   on-takes : (accident : Accident) (s : List ℕ) → w ≡ tonic_spelled letter accident s → Where (IsTonic w) (mode_on letter (accident_meant accident) s)
   on-takes accident [] is = bare letter accident is
   on-takes accident (b ∷ s) is =
-      where_map (IsTonic w) _ (mode_of (b ∷ s))
-      (where_then (mode_of (b ∷ s)) (mode-takes (b ∷ s))
-      (λ mode. moded letter accident mode.form mode.good (is ∙ ap (tonic_spelled letter accident) mode.spelled)))
+      where_map _ (mode_of (b ∷ s)) (mode-takes (b ∷ s))
+      (λ mode. moded letter accident mode.form mode.good (is ∙ ap (tonic_spelled letter accident) mode.spelled))
 
   altered-takes : (s : List ℕ) → w ≡ letter_byte letter ∷ s → Where (IsTonic w) (altered letter s)
   altered-takes [] is = bare letter plain_tonic is

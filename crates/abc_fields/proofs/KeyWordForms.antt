@@ -7,7 +7,7 @@ use Rattle.abc_fields.specs.KeySpelling.{letter_byte, letter_spelled, alter_spel
 use Rattle.abc_fields.specs.{KeySpelling.{passed_word, word_spelled, IsPassed, IsGoodWord, AreGoodWords, word_meant}, declared.key.KeyWord.KeyWord}
 use Rattle.abc_fields.specs.Keys.{natural_of, letter_of, letter_alone, signed, sign_of, clef_of, by_name, by_clef, by_sign, key_word, key_words}
 use Rattle.abc_fields.specs.{VoiceSpelling.{ClefForm, plain_clef, above_clef, below_clef, clef_spelled}, Words.behind}
-use Rattle.abc_fields.proofs.{MeterForms.behind-takes, VoiceForms.{clef-read, clef-takes, no_clef_read, no_front, behind-clef, clef_behind}}
+use Rattle.abc_fields.proofs.{MeterForms.{behind-takes, behind-front}, VoiceForms.{clef-read, clef-takes, no_clef_read, no_front, clef_behind}}
 use Rattle.abc_fields.proofs.ReadLaws.{Where, where_read, where_then, where_or, where_map, option_case, byte_case, word_case, HasForm, formed, unread}
 use Rattle.abc_fields.proofs.ReadLaws.{none_read, HaveForms, more_forms}
 
@@ -51,7 +51,7 @@ record IsSign (w : List ℕ) : Type 0 where
 signed-takes : (w : List ℕ) (alter : Alter) → Where (IsSign w) (signed alter (behind (alter_spelled alter) w))
 signed-takes w alter =
     option_case (λ o. Where (IsSign w) (signed alter o)) (behind (alter_spelled alter) w)
-    (λ s e. where_map (IsSign w) _ (letter_alone s) (alone s (behind-takes (alter_spelled alter) w s e))) (λ none. tt)
+    (λ s e. where_map _ (letter_alone s) (alone s (behind-takes (alter_spelled alter) w s e)) (λ sign. sign)) (λ none. tt)
   where
     alone : (s : List ℕ) → w ≡ alter_spelled alter ++ s → Where (IsSign w) (letter_alone s)
     alone (b ∷ []) is =
@@ -121,15 +121,14 @@ word-takes w =
     (λ _. option_case (λ o. Where (IsWord w) (by_sign w o)) (sign_of w)
     (λ sign e. let found = where_read e (sign-takes w) in formed (sign_word found.alter found.letter found.lower) tt found.spelled)
     (λ no_sign. option_case (λ o. Where (IsWord w) (by_clef w o)) (behind (codes "clef=") w)
-    (λ name e. where_map (IsWord w) _ (clef_of name)
-    (where_then (clef_of name) (clef_behind w name e) (λ clef. formed (clef_word clef.form) tt clef.spelled)))
+    (λ name e. where_map _ (clef_of name) (clef_behind w name e) (λ clef. formed (clef_word clef.form) tt clef.spelled))
     (λ no_clef. option_case (λ o. Where (IsWord w) (by_name w o)) (clef_of w)
     (λ clef e. let found = where_read e (clef-takes w) in formed (name_word found.form) tt found.spelled)
     (λ no_name. cond_both (has_equals w) _ _ (Where (IsWord w))
     (λ equals. formed (passed_word w) (record {
       equals = equals;
       no_sign = λ alter letter lower. unread sign_of no_sign (sign-read alter letter lower);
-      no_clef = λ name. unread (behind (codes "clef=")) no_clef (behind-clef name);
+      no_clef = λ name. unread (behind (codes "clef=")) no_clef (behind-front (codes "clef=") name);
     }) refl)
     (λ other. tt)))))
 

@@ -1,55 +1,48 @@
 -- A text reads as a meter exactly where a good form of that meter spells it; likewise unit lengths.
-use Rattle.std.proofs.Common.{◌≡◌, refl, sym, ap, ◌∙◌, ℕ, suc, ◌+◌, ◌≤◌, List, [], ◌∷◌, ◌++◌, Bool, true, false, length, take, drop, arith, inl, inr}
-use Rattle.std.proofs.Common.{◌==◌, ◌⊎◌, ◌||◌, not, nat_eq, nat_le, Option, Some, None, codes, take-append-drop}
-use Rattle.std.proofs.lemmas.Bool.{agree_below, agree_below_at, and_parts, cond_both, eq-eqb, eqb-true, leb-true, le-leb, not-false, not-true}
-use Rattle.std.proofs.lemmas.{Bool.not_from_true, Slice.Eq.bytes_eq-Decides, Option.same_Some, List.Folds.list_all-append}
+use Rattle.std.proofs.Common.{◌≡◌, refl, sym, ap, ◌∙◌, ℕ, ◌+◌, ◌≤◌, List, [], ◌∷◌, ◌++◌, Bool, true, false, length, take, drop, arith}
+use Rattle.std.proofs.Common.{◌==◌, ◌||◌, not, nat_eq, nat_le, Option, Some, None, codes, take-append-drop, append-nil}
+use Rattle.std.proofs.lemmas.Bool.{agree_below, agree_below_at, and_parts, cond_both, eqb-true, leb-true, le-leb, not-false, not-true}
+use Rattle.std.proofs.lemmas.{Slice.Eq.bytes_eq-Decides, Option.same_Some, List.Folds.list_all-append}
 use Rattle.std.proofs.{lemmas.List.Splits.{join_with_byte-slice_split, length-slice_split}, Math.Seq.{take-append_seam, drop-append_seam}}
 use Rattle.std.specs.{List.{list_all, join_with_byte, slice_split, starts_with}, Option.option_and_then}
 use Rattle.{mus_units.specs.{declared.{key.Meter.Meter, value.Frac.Frac}, Good.is_halving}, abc_lines.specs.Kinds.is_blank}
 use Rattle.abc_fields.specs.Meters.{is_plus, halving_of, added, plus, sum_of, ratio, below_of, below_behind, plain_ratio, wrapped_ratio, ratio_by}
-use Rattle.abc_fields.specs.Meters.{ratio_of, meter_at, meter_of, one_over, unit_at, unit_of}
+use Rattle.abc_fields.specs.Meters.{terms_after, ratio_of, meter_at, meter_of, one_over, unit_at, unit_of}
 use Rattle.abc_fields.specs.MeterSpelling.{MeterForm, common_form, cut_form, none_form, empty_form, sum_form, wrapped_form, meter_spelled, value_sum}
 use Rattle.abc_fields.specs.MeterSpelling.{IsGoodSum, IsGoodMeterForm, meter_meant, SaysMeter, UnitForm, whole_form, over_form, unit_spelled}
 use Rattle.abc_fields.specs.MeterSpelling.{IsGoodUnitForm, unit_meant, SaysUnit}
 use Rattle.abc_fields.specs.{Numbers.{is_digit, is_number, value_of, number_of, place_of, before, from_first, behind_one}, Words.{trimmed, behind}}
-use Rattle.abc_fields.proofs.BlankLaws.{prefix-stops, trimmed-between, between-trimmed}
+use Rattle.abc_fields.proofs.{BlankLaws.{Stops, front-stops, prefix-stops, trimmed-between, between-trimmed}, MeterLaws.split_cut}
 use Rattle.abc_fields.proofs.ReadLaws.{Where, where_read, where_then, option_case, word_case, HasForm, formed, form_meant}
 
--- no byte of s is this one
+-- it isn't this byte, and no byte of s is
+abbrev pub other : ℕ → ℕ → Bool
+other byte b = not (b == byte)
+
 abbrev pub lacks : ℕ → List ℕ → Bool
-lacks byte s = list_all (λ b. not (b == byte)) s
+lacks byte s = list_all (other byte) s
 
 pub none_is_some : {X : Type 0} (x : X) → ◌≡◌ {A = Option X} None (Some x) → ⊥
 none_is_some x e = cc
 
 -- What stands before and behind the first such byte.
-cut-at : (byte : ℕ) (s rest : List ℕ) → lacks byte s ≡ true
-    → (before byte (s ++ byte ∷ rest) ≡ s) × (from_first byte (s ++ byte ∷ rest) ≡ byte ∷ rest)
+cut-at : (byte : ℕ) (s rest : List ℕ) → lacks byte s ≡ true → Stops (other byte) rest
+    → (before byte (s ++ rest) ≡ s) × (from_first byte (s ++ rest) ≡ rest)
 unfolding before from_first
-cut-at byte s rest all =
-    let here = not_from_true (byte == byte) (eq-eqb byte byte refl) in
-    let place : place_of byte (s ++ byte ∷ rest) ≡ length s = prefix-stops (λ b. not (b == byte)) s (byte ∷ rest) all here in
-    (rw place (take-append_seam s (byte ∷ rest)), rw place (drop-append_seam s (byte ∷ rest)))
+cut-at byte s rest all stops =
+    let place : place_of byte (s ++ rest) ≡ length s = prefix-stops (other byte) s rest all stops in
+    (rw place (take-append_seam s rest), rw place (drop-append_seam s rest))
 
-abbrev Found : ℕ → List ℕ → Type 0
-Found byte t = (t ≡ []) ⊎ (t ≡ byte ∷ behind_one t)
-
-found : (byte : ℕ) (s : List ℕ) → Found byte (drop (place_of byte s) s)
-found byte [] = inl refl
-found byte (b ∷ s) =
-    cond_both (not (b == byte)) (1 + place_of byte s) 0 (λ n. Found byte (drop n (b ∷ s)))
-    (λ other. let more : 1 + place_of byte s ≡ suc (place_of byte s) = omega arith in rw more (found byte s))
-    (λ here. inr (ap (λ c. c ∷ s) (eqb-true b byte (not-false _ here))))
-
-begun : (byte : ℕ) (t : List ℕ) → Found byte t → (behind_one t ≡ [] → ⊥) → t ≡ byte ∷ behind_one t
-begun byte t (inl empty) some = absurd (some (ap behind_one empty))
-begun byte t (inr is) some = is
+begun : (byte : ℕ) (t : List ℕ) → Stops (other byte) t → (behind_one t ≡ [] → ⊥) → t ≡ byte ∷ behind_one t
+begun byte [] stops some = absurd (some refl)
+begun byte (b ∷ t) stops some = ap (λ c. c ∷ t) (eqb-true b byte (not-false _ stops))
 
 -- where something stands behind such a byte, the first of them parts the text
 parted : (byte : ℕ) (s : List ℕ) → (behind_one (from_first byte s) ≡ [] → ⊥) → s ≡ before byte s ++ byte ∷ behind_one (from_first byte s)
 unfolding before from_first
 parted byte s some =
-    sym (take-append-drop (place_of byte s) s) ∙ ap (λ t. take (place_of byte s) s ++ t) (begun byte (drop (place_of byte s) s) (found byte s) some)
+    let n : ℕ = place_of byte s in
+    sym (take-append-drop n s) ∙ ap (λ t. take n s ++ t) (begun byte (drop n s) (front-stops (other byte) s) some)
 
 -- What stands behind a front.
 pub behind-takes : (front s rest : List ℕ) → behind front s ≡ Some rest → s ≡ front ++ rest
@@ -60,6 +53,12 @@ behind-takes front s rest h =
     let same = (bytes_eq-Decides front (take (length front) s)).0 begins in
     sym (take-append-drop (length front) s) ∙ ap (λ t. t ++ drop (length front) s) (sym same) ∙ ap (λ t. front ++ t) (same_Some _ rest left))
     (λ other nothing. absurd (none_is_some rest nothing)) h
+
+pub behind-front : (front rest : List ℕ) → behind front (front ++ rest) ≡ Some rest
+unfolding behind
+behind-front front rest =
+    let same = (bytes_eq-Decides front (take (length front) (front ++ rest))).1 (sym (take-append_seam front rest)) in
+    rw (same, drop-append_seam front rest) refl
 
 -- A test that each of the ten digits passes.
 abbrev DigitsPass : (ℕ → Bool) → Type 0
@@ -90,22 +89,16 @@ sum-passes p (term ∷ next ∷ terms) passes sign all =
     list_all-append p term (43 ∷ join_with_byte 43 (next ∷ terms)) ∙ rw (here, sign, more) refl
 
 -- Terms with a plus sign between each two are parted there again.
-split-more : (s rest : List ℕ) → lacks 43 s ≡ true → slice_split is_plus (s ++ 43 ∷ rest) ≡ s ∷ slice_split is_plus rest
-split-more [] rest none = refl
-split-more (b ∷ s) rest none =
-    let here : (b == 43) ≡ false = not-true _ (and_parts _ _ none).0 in let more = split-more s rest (and_parts _ _ none).1 in rw (here, more) refl
-
-split-alone : (s : List ℕ) → lacks 43 s ≡ true → slice_split is_plus s ≡ s ∷ []
-split-alone [] none = refl
-split-alone (b ∷ s) none =
-    let here : (b == 43) ≡ false = not-true _ (and_parts _ _ none).0 in let more = split-alone s (and_parts _ _ none).1 in rw (here, more) refl
+split-at : (s rest : List ℕ) → lacks 43 s ≡ true → Stops (other 43) rest → slice_split is_plus (s ++ rest) ≡ s ∷ terms_after rest
+split-at s rest none stops = let cut = cut-at 43 s rest none stops in split_cut (s ++ rest) ∙ rw (cut.0, cut.1) refl
 
 split-joined : (term : List ℕ) (terms : List (List ℕ)) → list_all is_number (term ∷ terms) ≡ true
     → slice_split is_plus (join_with_byte 43 (term ∷ terms)) ≡ term ∷ terms
-split-joined term [] all = split-alone term (number-passes (λ b. not (b == 43)) term refl (and_parts _ _ all).0)
+split-joined term [] all =
+    ap (slice_split is_plus) (sym (append-nil term)) ∙ split-at term [] (number-passes (other 43) term refl (and_parts _ _ all).0) tt
 split-joined term (next ∷ terms) all =
     let parts = and_parts _ _ all in
-    split-more term (join_with_byte 43 (next ∷ terms)) (number-passes (λ b. not (b == 43)) term refl parts.0)
+    split-at term (43 ∷ join_with_byte 43 (next ∷ terms)) (number-passes (other 43) term refl parts.0) refl
     ∙ ap (λ ts. term ∷ ts) (split-joined next terms parts.1)
 
 -- Sums: terms on top of a total.
@@ -244,8 +237,8 @@ meter_at-takes s =
 digit-first : (d : ℕ) (s : List ℕ) → is_digit d ≡ true → meter_at (d ∷ s) ≡ plain_ratio (d ∷ s)
 unfolding meter_at ratio_of behind
 digit-first d s h =
-    let not_c : (d == 67) ≡ false = not-true _ (digit-passes (λ b. not (b == 67)) d refl h) in
-    let not_n : (d == 110) ≡ false = not-true _ (digit-passes (λ b. not (b == 110)) d refl h) in
+    let not_c : (d == 67) ≡ false = not-true _ (digit-passes (other 67) d refl h) in
+    let not_n : (d == 110) ≡ false = not-true _ (digit-passes (other 110) d refl h) in
     let not_open : (40 == d) ≡ false = not-true _ (digit-passes (λ b. not (40 == b)) d refl h) in
     rw (not_c, not_n, not_open) refl
 
@@ -260,21 +253,21 @@ digit_begins ((d ∷ ds) ∷ next ∷ terms) s some all =
 plain-read : (above below : List ℕ) (n d : ℕ) → lacks 47 above ≡ true → sum_of above ≡ Some n → below_of below ≡ Some d
     → plain_ratio (above ++ 47 ∷ below) ≡ Some (Meter.Ratio n d)
 unfolding plain_ratio
-plain-read above below n d none sum half = let cut = cut-at 47 above below none in rw (cut.0, cut.1, sum, half) refl
+plain-read above below n d none sum half = let cut = cut-at 47 above (47 ∷ below) none refl in rw (cut.0, cut.1, sum, half) refl
 
 wrapped-read : (above below : List ℕ) (n d : ℕ) → lacks 41 above ≡ true → sum_of above ≡ Some n → below_of below ≡ Some d
     → meter_at (40 ∷ (above ++ 41 ∷ 47 ∷ below)) ≡ Some (Meter.Ratio n d)
 unfolding meter_at ratio_of wrapped_ratio behind
-wrapped-read above below n d none sum half = let cut = cut-at 41 above (47 ∷ below) none in rw (cut.0, cut.1, sum, half) refl
+wrapped-read above below n d none sum half = let cut = cut-at 41 above (41 ∷ 47 ∷ below) none refl in rw (cut.0, cut.1, sum, half) refl
 
 form-read : (form : MeterForm) → IsGoodMeterForm form → meter_at (meter_spelled form) ≡ Some (meter_meant form)
 unfolding meter_at
 form-read (sum_form terms below) good =
     digit_begins terms (47 ∷ below) good.some good.numbers
-    ∙ plain-read (join_with_byte 43 terms) below (value_sum terms) (value_of below) (sum-passes (λ b. not (b == 47)) terms refl refl good.numbers)
+    ∙ plain-read (join_with_byte 43 terms) below (value_sum terms) (value_of below) (sum-passes (other 47) terms refl refl good.numbers)
     (sum-reaches terms good.some good.numbers good.few) (below-reaches below good.number good.halving)
 form-read (wrapped_form terms below) good =
-    wrapped-read (join_with_byte 43 terms) below (value_sum terms) (value_of below) (sum-passes (λ b. not (b == 41)) terms refl refl good.numbers)
+    wrapped-read (join_with_byte 43 terms) below (value_sum terms) (value_of below) (sum-passes (other 41) terms refl refl good.numbers)
     (sum-reaches terms good.some good.numbers good.few) (below-reaches below good.number good.halving)
 form-read _ good = refl
 

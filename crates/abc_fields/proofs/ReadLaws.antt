@@ -10,6 +10,15 @@ Where T o = IfSome o (λ _. T)
 pub some_holds : {X : Type 0} (P : X → Type 0) {o : Option X} {x : X} → o ≡ Some x → IfSome o P → P x
 some_holds P e has = subst (λ o. IfSome o P) e has
 
+pub some_from : {X : Type 0} {P : X → Type 0} (o : Option X) → ((x : X) → o ≡ Some x → P x) → IfSome o P
+some_from None all = tt
+some_from (Some x) all = all x refl
+
+pub some_then : {X Y : Type 0} {P : X → Type 0} (Q : Y → Type 0) (f : X → Option Y) (o : Option X)
+    → IfSome o P → ((x : X) → P x → IfSome (f x) Q) → IfSome (option_and_then f o) Q
+some_then Q f None has next = tt
+some_then Q f (Some x) has next = next x has
+
 pub where_read : {X T : Type 0} {o : Option X} {x : X} → o ≡ Some x → Where T o → T
 where_read {T = T} e has = some_holds (λ _. T) e has
 
@@ -21,9 +30,9 @@ pub where_or : {X : Type 0} (T : Type 0) (a b : Option X) → Where T a → Wher
 where_or T None b first second = second
 where_or T (Some x) b first second = first
 
-pub where_map : {X Y : Type 0} (T : Type 0) (f : X → Y) (o : Option X) → Where T o → Where T (option_map f o)
-where_map T f None has = tt
-where_map T f (Some x) has = has
+pub where_map : {X Y S T : Type 0} (f : X → Y) (o : Option X) → Where S o → (S → T) → Where T (option_map f o)
+where_map f None has next = tt
+where_map f (Some x) has next = next has
 
 -- by a test, whether something is read, whether a byte is this one, and whether a word is
 pub by_test : {T : Type 0} (test : Bool) → (test ≡ true → T) → (test ≡ false → T) → T

@@ -9,7 +9,7 @@ use Rattle.abc_fields.specs.{VoiceSpelling.{IsGoodProperty, AreGoodProperties, p
 use Rattle.abc_fields.specs.{declared.voice.VoiceWord.VoiceWord, Keys.{named_clef, clef_of}, Words.{next_word, properties_of, ends_quoted, behind}}
 use Rattle.abc_fields.specs.WordSpelling.{IsFirstWord}
 use Rattle.abc_fields.specs.Voices.{wish_of, by_stem, by_clef, voice_word, voice_words, voice_def, is_good_voice, voice_by_id, voice_of}
-use Rattle.abc_fields.proofs.{MeterForms.behind-takes, WordForms.{first-takes, first-read}}
+use Rattle.abc_fields.proofs.{MeterForms.{behind-takes, behind-front}, WordForms.{first-takes, first-read}}
 use Rattle.abc_fields.proofs.ReadLaws.{Where, where_read, where_then, where_map, option_case, word_case, HasForm, formed, unread, none_read, nothing}
 use Rattle.abc_fields.proofs.ReadLaws.{HaveForms, more_forms}
 
@@ -61,10 +61,6 @@ no_clef_read w none = none_read (clef_of w) (clef-takes w) (λ clef. none clef.f
 pub no_front : (front w : List ℕ) → ((rest : List ℕ) → w ≡ front ++ rest → ⊥) → behind front w ≡ None
 no_front front w none = nothing (behind front w) (behind-takes front w) none
 
-pub behind-clef : (name : List ℕ) → behind (codes "clef=") (codes "clef=" ++ name) ≡ Some name
-unfolding behind
-behind-clef name = refl
-
 pub clef_behind : (w name : List ℕ) → behind (codes "clef=") w ≡ Some name
     → Where (HasForm (λ clef. codes "clef=" ++ clef_spelled clef) (λ _. ⊤) w) (clef_of name)
 clef_behind w name e =
@@ -95,25 +91,19 @@ way-takes way =
 abbrev IsProperty : List ℕ → Type 0
 IsProperty w = HasForm property_spelled IsGoodProperty w
 
-behind-stem : (way : List ℕ) → behind (codes "stem=") (codes "stem=" ++ way) ≡ Some way
-unfolding behind
-behind-stem way = refl
-
 property-takes : (w : List ℕ) → Where (IsProperty w) (voice_word w)
 unfolding voice_word
 property-takes w =
     option_case (λ o. Where (IsProperty w) (by_clef w o)) (behind (codes "clef=") w)
-    (λ name e. where_map (IsProperty w) _ (clef_of name)
-    (where_then (clef_of name) (clef_behind w name e) (λ clef. formed (clef_property clef.form) tt clef.spelled)))
+    (λ name e. where_map _ (clef_of name) (clef_behind w name e) (λ clef. formed (clef_property clef.form) tt clef.spelled))
     (λ no_clef. option_case (λ o. Where (IsProperty w) (by_stem w o)) (behind (codes "stem=") w)
-    (λ way e. where_map (IsProperty w) _ (wish_of way)
-    (where_then (wish_of way) (way-takes way)
-    (λ wish. formed (stem_property wish.form) tt (behind-takes (codes "stem=") w way e ∙ ap (λ t. codes "stem=" ++ t) wish.spelled))))
+    (λ way e. where_map _ (wish_of way) (way-takes way)
+    (λ wish. formed (stem_property wish.form) tt (behind-takes (codes "stem=") w way e ∙ ap (λ t. codes "stem=" ++ t) wish.spelled)))
     (λ no_stem. option_case (λ o. IsProperty w) (clef_of w)
     (λ clef e. let found = where_read e (clef-takes w) in formed (name_property found.form) tt found.spelled)
     (λ no_name. formed (other_property w) (record {
-      no_clef = λ name. unread (behind (codes "clef=")) no_clef (behind-clef name);
-      no_stem = λ way. unread (behind (codes "stem=")) no_stem (behind-stem way);
+      no_clef = λ name. unread (behind (codes "clef=")) no_clef (behind-front (codes "clef=") name);
+      no_stem = λ way. unread (behind (codes "stem=")) no_stem (behind-front (codes "stem=") way);
       no_name = λ clef. unread clef_of no_name (clef-read clef);
     }) refl)))
 
@@ -141,8 +131,7 @@ voice-says text voice h =
     where_read h
     (option_case (λ o. Where (SaysVoice text voice) (voice_by_id o)) (next_word false text)
     (λ next e. cond_both (is_good_voice next.0 next.1) _ _ (Where (SaysVoice text voice))
-    (λ fine. where_map (SaysVoice text voice) _ (voice_words (properties_of next.1))
-    (where_then (voice_words (properties_of next.1)) (properties-take (properties_of next.1))
+    (λ fine. where_map _ (voice_words (properties_of next.1)) (properties-take (properties_of next.1))
     (λ all.
     let first = first-takes text next e in
     let tests = and_parts (nat_le (length next.0) 20) (not (ends_quoted false next.1)) fine in
@@ -156,7 +145,7 @@ voice-says text voice h =
       good = all.good;
       spelled = all.spelled;
       meant = same_Some _ voice (sym (voice-at text next.0 next.1 all.forms first fine all.good all.spelled) ∙ h);
-    })))
+    }))
     (λ bad. tt))
     (λ none. tt))
 

@@ -1,17 +1,14 @@
 -- The words of a text are its first word and the words of what follows it.
-use Rattle.std.proofs.Common.{◌≡◌, refl, ap, sym, ◌∙◌, ℕ, suc, ◌+◌, List, [], ◌∷◌, Bool, true, false, not, take, drop, arith, subst}
-use Rattle.std.{proofs.lemmas.Bool.and_parts, specs.{Prelude.{⊤, Option, filter}, List.prefix_len}}
+use Rattle.std.proofs.Common.{◌≡◌, refl, ap, sym, ◌∙◌, ℕ, List, [], ◌∷◌, Bool, true, false, not, take, drop}
+use Rattle.std.{proofs.lemmas.Bool.and_parts, specs.{Prelude.{⊤, Option, filter}}}
 use Rattle.abc_lines.specs.Kinds.{is_blank, behind_blanks}
 use Rattle.abc_fields.specs.Words.{is_empty, quoted_after, parts_words, pieces, words_in, word_len, word_and_rest, next_word, words_after}
 use Rattle.abc_fields.specs.WordSpelling.{Parts}
-use Rattle.abc_fields.proofs.ReadLaws.{by_test}
+use Rattle.abc_fields.proofs.{BlankLaws.{behind-cons, front-stops}, ReadLaws.by_test}
 
 blank_passed : (quotes : Bool) (b : ℕ) (s : List ℕ) → is_blank b ≡ true → words_in quotes (b ∷ s) ≡ words_in quotes s
 unfolding words_in
 blank_passed quotes b s e = rw e refl
-
-pub behind-cons : (b : ℕ) (s : List ℕ) → is_blank b ≡ true → behind_blanks (b ∷ s) ≡ behind_blanks s
-behind-cons b s e = let more : 1 + prefix_len is_blank s ≡ suc (prefix_len is_blank s) = omega arith in rw (e, more) refl
 
 words-behind : (quotes : Bool) (s : List ℕ) → words_in quotes s ≡ words_in quotes (behind_blanks s)
 words-behind quotes [] = refl
@@ -23,8 +20,7 @@ BeginsWord [] = ⊤
 BeginsWord (b ∷ s) = is_blank b ≡ false
 
 pub behind-begins : (s : List ℕ) → BeginsWord (behind_blanks s)
-behind-begins [] = tt
-behind-begins (b ∷ s) = by_test (is_blank b) (λ e. subst BeginsWord (sym (behind-cons b s e)) (behind-begins s)) (λ e. rw e e)
+behind-begins s = front-stops is_blank s
 
 abbrev pieces_after : Bool → List ℕ → List (List ℕ)
 pieces_after quotes [] = []
