@@ -3,4 +3,6 @@ use Rattle.{abc_fields.specs.Last.{last_of}, abc_header.specs.Defaults.{line_of,
 use Rattle.abc_header.proofs.defaults.staves_said.Given as goal
 
 abbrev pub invariant-loop-line : goal.invariant-loop-line
-invariant-loop-line l = option_or (last_of line_staves (drop l.line-index l.lines)) (option_map (λ said. line_of said.number said.text.now) l.last) ≡ last_of line_staves l.lines
+invariant-loop-line l =
+    option_or (last_of line_staves (drop l.line-index l.lines)) (option_map (λ said. line_of said.number said.text.now) l.last)
+    ≡ last_of line_staves l.lines

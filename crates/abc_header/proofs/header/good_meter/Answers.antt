@@ -1,4 +1,6 @@
-use Rattle.{std.{proofs.Common.subst, proofs.Common.sym, specs.Prelude.IfSome}, mus_units.specs.Good.{IsGoodMeter}, abc_header.proofs.HeaderLaws.{last_meter-good}}
+use Rattle.std.{proofs.Common.{subst, sym}, specs.Prelude.IfSome}
+use Rattle.mus_units.specs.Good.{IsGoodMeter}
+use Rattle.abc_header.proofs.HeaderLaws.{last_meter-good}
 use Rattle.abc_header.proofs.header.good_meter.Goals as goal
 
 pub returns-clause-good : goal.returns-clause-good

@@ -1,11 +1,20 @@
-use Rattle.abc_header.proofs.{FaultLaws.header_answers, FaultLaws.header_refuses, FileHeaderLaws.staves_answer}
+use Rattle.std.proofs.lemmas.Result.{IfOk-weaker, IfErr-weaker}
+use Rattle.abc_header.specs.{FileHeader.AreStavesOf, HeaderFaults.{IsClearHeader, IsHeaderRefusal}}
+use Rattle.abc_header.proofs.{FaultLaws.{header-clear, header-refusal}, FileHeaderLaws.header_staves}
 use Rattle.abc_header.proofs.header.read_header.Goals as goal
 
 pub returns-clause-clear : goal.returns-clause-clear
-returns-clause-clear c = header_answers c.args.tune.now c.tune_header.result c.tune_header.ensures.none
+returns-clause-clear c =
+    let tune = c.args.tune.now in
+    IfOk-weaker c.tune_header.result _ (λ _. IsClearHeader tune) (λ _ h. header-clear tune h) c.tune_header.ensures.none
 
 pub returns-clause-first : goal.returns-clause-first
-returns-clause-first c = header_refuses c.args.tune.now c.tune_header.result c.tune_header.ensures.fault
+returns-clause-first c =
+    let tune = c.args.tune.now in
+    IfErr-weaker c.tune_header.result _ (IsHeaderRefusal tune) (header-refusal tune) c.tune_header.ensures.fault
 
 pub returns-clause-staves : goal.returns-clause-staves
-returns-clause-staves c = staves_answer c.args.tune.now c.args.defaults.now c.tune_header.result c.tune_header.ensures.value
+returns-clause-staves c =
+    let tune = c.args.tune.now in
+    let defaults = c.args.defaults.now in
+    IfOk-weaker c.tune_header.result _ (λ header. AreStavesOf tune defaults header.staves) (header_staves tune defaults) c.tune_header.ensures.value
