@@ -1,69 +1,104 @@
 -- What a score without faults has: voices without verses that are too many, and at most 2000 measures.
-use Rattle.std.{proofs.{Common.{◌≡◌, ◌∙◌, refl, sym, ap, subst, ℕ, ◌+◌, ◌-◌, ◌≤◌, ◌<◌, List, [], ◌∷◌, ◌++◌, append-nil, append_assoc, Bool, true, false, cond, None, arith, map, reverse}, lemmas.List.{reverse-append, Elements.{All-nil, All-cons}}}, specs.{Prelude.{fold, max, flat_map, nat_le, is_none}, List.All}}
+use Rattle.std.{proofs.{Common.{◌≡◌, ◌∙◌, refl, sym, ap, subst, ℕ, ◌+◌, ◌-◌, ◌≤◌, ◌<◌, List, [], ◌∷◌, ◌++◌, append-nil, append_assoc, Bool, true, false, cond, None, arith, map, reverse}, lemmas.{Bool.leb-false, List.{reverse-append, Elements.{All-weaker, All-from_recursion}}}}, specs.{Prelude.{fold, max, flat_map, is_none}, List.{All, AllByRecursion}}}
 use Rattle.abc_lines.specs.declared.fault.FaultKind.{FaultKind}
-use Rattle.abc_steps.specs.{declared.{step.{Item.Item, Sound.Sound, Step.Step, Stood.Stood}, force.InForce.InForce}, Looks.{Steps, since_event}, Kinds.is_event, Counts.{further, measure_at, measures_begun}, Lengths.written_length, Places.{place_at, measure_of}}
+use Rattle.abc_steps.specs.{declared.{step.{Item.Item, Sound.Sound, Step.Step, Stood.Stood}, force.InForce.InForce, place.Place.Place}, Looks.{Steps, since_event}, Kinds.is_event, Counts.{further, measure_at, measures_begun}, Lengths.written_length, Places.{place_at, measure_of}}
 use Rattle.mus_units.specs.Parts.{parts_list}
-use Rattle.abc_faults.specs.{Faults.any_off, Faults.fault_if, Faults.faults_of, Faults.faults_in, Faults.grace_faults, Faults.is_free, Faults.is_past, Faults.rest_faults, Faults.sound_faults, Weights.crowded}
-use Rattle.abc_words.specs.Verses.{verse_fault, verse_faults, first_of as head_of}
-use Rattle.abc_score.{specs.declared.voices.VoiceRead.VoiceRead, specs.Faults.voice_faults, specs.Faults.voice_weights, specs.Faults.faults_of_voices, specs.Score.most_measures, specs.Score.own_measures, proofs.Basics.none_before, proofs.Basics.none_behind}
+use Rattle.abc_faults.specs.{Faults.any_off, Faults.fault_if, Faults.faults_of, Faults.faults_in, Faults.grace_faults, Faults.is_free, Faults.sound_faults}
+use Rattle.abc_words.specs.Verses.{verse_fault, first_of as head_of}
+use Rattle.abc_score.{specs.declared.voices.VoiceRead.VoiceRead, specs.Faults.voice_faults, specs.Faults.faults_of_voices, specs.Score.most_measures, specs.Score.own_measures, proofs.Basics.none_before, proofs.Basics.none_behind}
 
 -- a test that gives no fault
 pub no_fault : (b : Bool) (kind : FaultKind) (at : Stood) → fault_if b kind at ≡ [] → b ≡ false
 no_fault true kind at e = absurd cc
 no_fault false kind at e = refl
 
-within : (measure : ℕ) → nat_le 2000 measure ≡ false → measure < 2000
-within measure e = grind (arith, e)
+-- ---- steps
 
-sound_within : (first : InForce) (before behind : Steps) (at : Stood) (s : Sound) → sound_faults (place_at first before) before at s behind ≡ [] → measure_at before < 2000
-unfolding sound_faults
-sound_within first before behind at s e =
-    let now = place_at first before in let length = written_length now.force.unit s before behind in let undrawable = fault_if (is_none (parts_list length.num length.den)) FaultKind.Undrawable at in
-    let off = fault_if (any_off now.force.clef s.heads) FaultKind.StepRange at in let past = fault_if (is_past (measure_of now)) FaultKind.TooManyMeasures at in
-    let e' : past ≡ [] = none_behind (undrawable ++ off) past e in within (measure_at before) (no_fault (is_past (measure_of now)) FaultKind.TooManyMeasures at e')
+-- a note, a chord or a rest without faults
+pub record IsClearSound (now : Place) (before behind : Steps) (s : Sound) : Type 0 where
+  pub drawn : let whole = written_length now.force.unit s before behind in is_none (parts_list whole.num whole.den) ≡ false
+  pub near : any_off now.force.clef s.heads ≡ false
+  pub within : measure_of now < 2000
+  pub graces : grace_faults now.force.clef (since_event before) ≡ []
 
-rest_within : (first : InForce) (before : Steps) (at : Stood) (count : ℕ) → rest_faults (place_at first before) at count ≡ [] → measure_at before + (count - 1) < 2000
-rest_within first before at count e =
-    let now = place_at first before in let free = fault_if (is_free now.force.meter) FaultKind.RestWithoutMeter at in
-    let past = fault_if (is_past (measure_of now + (count - 1))) FaultKind.TooManyMeasures at in let e' : past ≡ [] = none_behind free past e in
-    within (measure_at before + (count - 1)) (no_fault (is_past (measure_of now + (count - 1))) FaultKind.TooManyMeasures at e')
+pub sound_clear : (now : Place) (before behind : Steps) (at : Stood) (s : Sound) → faults_of now before at behind (Step.Sound s) ≡ []
+    → IsClearSound now before behind s
+unfolding faults_of sound_faults
+sound_clear now before behind at s e =
+    let own = none_before _ _ e in let both = none_before _ _ own in
+    record {
+      drawn = no_fault _ _ _ (none_before _ _ both);
+      near = no_fault _ _ _ (none_behind _ _ both);
+      within = leb-false 2000 _ (no_fault _ _ _ (none_behind _ _ own));
+      graces = none_behind _ _ e;
+    }
+
+-- whole measure rests without faults
+pub record IsClearRest (now : Place) (before : Steps) (count : ℕ) : Type 0 where
+  pub metered : is_free now.force.meter ≡ false
+  pub within : measure_of now + (count - 1) < 2000
+  pub graces : grace_faults now.force.clef (since_event before) ≡ []
+
+pub rest_clear : (now : Place) (before behind : Steps) (at : Stood) (seen : Bool) (count : ℕ) → faults_of now before at behind (Step.Measures seen count) ≡ []
+    → IsClearRest now before count
+unfolding faults_of
+rest_clear now before behind at seen count e =
+    let own = none_before _ _ e in
+    record {
+      metered = no_fault _ _ _ (none_before _ _ own);
+      within = leb-false 2000 _ (no_fault _ _ _ (none_behind _ _ own));
+      graces = none_behind _ _ e;
+    }
 
 -- one step more: an event without a fault stands in a good measure
-step_within : (first : InForce) (before behind : Steps) (at : Stood) (s : Step) → faults_of (place_at first before) before at behind s ≡ [] → measures_begun before ≤ 2000
-    → cond (is_event s) (measure_at before + further s + 1) (measures_begun before) ≤ 2000
-unfolding faults_of is_event further
+step_within : (first : InForce) (before behind : Steps) (at : Stood) (s : Step) → faults_of (place_at first before) before at behind s ≡ []
+    → measures_begun before ≤ 2000 → cond (is_event s) (measure_at before + further s + 1) (measures_begun before) ≤ 2000
+unfolding is_event further
 step_within first before behind at (Step.Sound s) e few =
-    let now = place_at first before in let less = sound_within first before behind at s (none_before (sound_faults now before at s behind) (grace_faults now.force.clef (since_event before)) e) in omega (arith, less)
+    let clear = sound_clear (place_at first before) before behind at s e in omega (arith, clear.within)
 step_within first before behind at (Step.Measures seen count) e few =
-    let now = place_at first before in let less = rest_within first before at count (none_before (rest_faults now at count) (grace_faults now.force.clef (since_event before)) e) in omega (arith, less)
+    let clear = rest_clear (place_at first before) before behind at seen count e in omega (arith, clear.within)
 step_within first before behind at _ e few = few
 
-walk_within : (first : InForce) (before behind : Steps) → faults_in first before behind ≡ [] → measures_begun before ≤ 2000 → measures_begun (reverse behind ++ before) ≤ 2000
+pub turned : (at : Stood) (behind before : Steps) → reverse behind ++ (at ∷ before) ≡ reverse (at ∷ behind) ++ before
+turned at behind before = sym (ap (λ z. z ++ before) (reverse-append (at ∷ []) behind) ∙ append_assoc (reverse behind) (at ∷ []) before)
+
+walk_within : (first : InForce) (before behind : Steps) → faults_in first before behind ≡ [] → measures_begun before ≤ 2000
+    → measures_begun (reverse behind ++ before) ≤ 2000
 walk_within first before [] e few = few
 walk_within first before (at ∷ behind) e few =
-    let here = faults_of (place_at first before) before at behind at.step in let later = faults_in first (at ∷ before) behind in
-    let more = walk_within first (at ∷ before) behind (none_behind here later e) (step_within first before behind at at.step (none_before here later e) few) in
-    let same : reverse behind ++ (at ∷ before) ≡ reverse (at ∷ behind) ++ before = sym (ap (λ z. z ++ before) (reverse-append (at ∷ []) behind) ∙ append_assoc (reverse behind) (at ∷ []) before) in
-    subst (λ (z : Steps). measures_begun z ≤ 2000) same more
+    subst (λ (z : Steps). measures_begun z ≤ 2000) (turned at behind before)
+    (walk_within first (at ∷ before) behind (none_behind _ _ e) (step_within first before behind at at.step (none_before _ _ e) few))
 
+-- ---- voices
 own_within : (v : VoiceRead) → faults_in v.first [] v.steps ≡ [] → own_measures v ≤ 2000
 own_within v e = subst (λ (z : Steps). measures_begun z ≤ 2000) (append-nil (reverse v.steps)) (walk_within v.first [] v.steps e (omega arith))
 
-most_within : (unnamed : List ℕ) (items : List Item) (voices : List VoiceRead) (most : ℕ) → flat_map (voice_faults unnamed items) voices ≡ [] → most ≤ 2000 → fold max most (map own_measures voices) ≤ 2000
-most_within unnamed items [] most e few = few
-most_within unnamed items (v ∷ voices) most e few =
-    let own = faults_in v.first [] v.steps in let verses = verse_faults v.start.id unnamed items in let others = flat_map (voice_faults unnamed items) voices in
-    let here : own_measures v ≤ 2000 = own_within v (none_before own verses (none_before (own ++ verses) others e)) in
-    most_within unnamed items voices (max most (own_measures v)) (none_behind (own ++ verses) others e) (omega (arith, here, few))
+-- voices without faults, by themselves and for their verses
+pub record IsClearVoice (unnamed : List ℕ) (items : List Item) (v : VoiceRead) : Type 0 where
+  pub own : faults_in v.first [] v.steps ≡ []
+  pub verses : verse_fault v.start.id unnamed items ≡ None
 
-pub few_measures : (unnamed : List ℕ) (items : List Item) (voices : List VoiceRead) → faults_of_voices unnamed items voices ≡ [] → most_measures voices ≤ 2000
-few_measures unnamed items voices e = most_within unnamed items voices 0 (none_before (flat_map (voice_faults unnamed items) voices) (crowded (flat_map voice_weights voices)) e) (omega arith)
+each_clear : (unnamed : List ℕ) (items : List Item) (voices : List VoiceRead) → flat_map (voice_faults unnamed items) voices ≡ []
+    → AllByRecursion (IsClearVoice unnamed items) voices
+each_clear unnamed items [] e = tt
+each_clear unnamed items (v ∷ voices) e =
+    let here = none_before _ _ e in
+    (record { own = none_before _ _ here; verses = ap head_of (none_behind _ _ here) }, each_clear unnamed items voices (none_behind _ _ e))
 
-pub clear_verses : (unnamed : List ℕ) (items : List Item) (voices : List VoiceRead) → faults_of_voices unnamed items voices ≡ [] → All (λ v. verse_fault v.start.id unnamed items ≡ None) voices
-clear_verses unnamed items voices e = each voices (none_before (flat_map (voice_faults unnamed items) voices) (crowded (flat_map voice_weights voices)) e) where
-  each : (voices : List VoiceRead) → flat_map (voice_faults unnamed items) voices ≡ [] → All (λ v. verse_fault v.start.id unnamed items ≡ None) voices
-  each [] e = All-nil (λ (v : VoiceRead). verse_fault v.start.id unnamed items ≡ None)
-  each (v ∷ voices) e =
-      let own = faults_in v.first [] v.steps in let verses = verse_faults v.start.id unnamed items in let others = flat_map (voice_faults unnamed items) voices in
-      let here : verse_fault v.start.id unnamed items ≡ None = ap head_of (none_behind own verses (none_before (own ++ verses) others e)) in
-      All-cons (λ (v : VoiceRead). verse_fault v.start.id unnamed items ≡ None) v voices here (each voices (none_behind (own ++ verses) others e))
+pub voices_clear : (unnamed : List ℕ) (items : List Item) (voices : List VoiceRead) → faults_of_voices unnamed items voices ≡ []
+    → AllByRecursion (IsClearVoice unnamed items) voices
+voices_clear unnamed items voices e = each_clear unnamed items voices (none_before _ _ e)
+
+pub few_measures : (unnamed : List ℕ) (items : List Item) (voices : List VoiceRead) → AllByRecursion (IsClearVoice unnamed items) voices
+    → most_measures voices ≤ 2000
+few_measures unnamed items voices clear = most_within voices 0 clear (omega arith) where
+  most_within : (voices : List VoiceRead) (most : ℕ) → AllByRecursion (IsClearVoice unnamed items) voices → most ≤ 2000
+      → fold max most (map own_measures voices) ≤ 2000
+  most_within [] most clear few = few
+  most_within (v ∷ voices) most clear few =
+      most_within voices (max most (own_measures v)) clear.1 (let here = own_within v clear.0.own in omega (arith, here, few))
+
+pub clear_verses : (unnamed : List ℕ) (items : List Item) (voices : List VoiceRead) → AllByRecursion (IsClearVoice unnamed items) voices
+    → All (λ v. verse_fault v.start.id unnamed items ≡ None) voices
+clear_verses unnamed items voices clear = All-weaker (IsClearVoice unnamed items) _ (λ v h. h.verses) voices (All-from_recursion _ voices clear)

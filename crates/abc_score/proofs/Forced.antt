@@ -1,8 +1,9 @@
 -- The bars that are forced among n measures rise, each behind the first measure and before the last bar.
-use Rattle.std.{proofs.{Common.{◌≡◌, refl, ℕ, ◌+◌, ◌≤◌, ◌<◌, List, [], ◌∷◌, ◌++◌, Bool, true, false, cond, reverse, arith}, lemmas.Bool.{Decides.nat_tests, and_parts, or_parts}}, specs.{Prelude.{⊤, ◌==◌, ◌&&◌, nat_le, nat_lt}, List.list_any}}
+use Rattle.std.{proofs.{Common.{◌≡◌, ℕ, ◌+◌, ◌≤◌, ◌<◌, List, [], ◌∷◌, ◌++◌, Bool, true, false, reverse, arith}, lemmas.Bool.{Decides.nat_tests, and_parts, or_parts, cond_both, leb-true, ltb-true}}, specs.{Prelude.{⊤, ◌==◌, ◌&&◌, nat_le, nat_lt}, List.list_any}}
 use Rattle.mus_score.specs.Walks.{RiseWithin}
-use Rattle.abc_steps.specs.{declared.step.Step.Step, declared.step.Stood.Stood, declared.counts.Counts.Counts, Looks.Steps, Counts.all_further, Counts.begins_group, Counts.counts_of, Counts.further, Counts.groups, Counts.measure_at, Counts.nearest_at}
-use Rattle.{abc_events.specs.Bars.{forced_at, forced_bars, forced_behind, is_forced, is_near_bar, with_bar}, abc_score.specs.{declared.voices.VoiceRead.VoiceRead, Score.forced_of}}
+use Rattle.abc_steps.specs.{declared.step.Step.Step, declared.step.Stood.Stood, declared.counts.Counts.Counts, Looks.Steps, Counts.all_further, Counts.begins_group, Counts.counts_of, Counts.measure_at, Counts.nearest_at}
+use Rattle.abc_score.proofs.Basics.{either}
+use Rattle.{abc_events.specs.Bars.{forced_at, forced_bars, forced_behind, is_forced, with_bar}, abc_score.specs.{declared.voices.VoiceRead.VoiceRead, Score.forced_of}}
 
 -- bars that rise from behind one, before n and not past another
 abbrev Rises : ℕ → ℕ → ℕ → List ℕ → Type 0
@@ -20,41 +21,39 @@ within_n from n top (b ∷ bs) (above, below, within, rise) = (above, below, wit
 below_new : (b top bar : ℕ) → (b == bar) ≡ false → b ≤ top → top ≤ bar → b < bar
 below_new b top bar new within less = grind (arith, nat_tests)
 
-with_last : (from n top bar : ℕ) (bs : List ℕ) → list_any (λ b. b == bar) bs ≡ false → from < bar → bar < n → top ≤ bar → Rises from n top bs → Rises from n bar (bs ++ bar ∷ [])
+with_last : (from n top bar : ℕ) (bs : List ℕ) → list_any (λ b. b == bar) bs ≡ false → from < bar → bar < n → top ≤ bar
+    → Rises from n top bs → Rises from n bar (bs ++ bar ∷ [])
 with_last from n top bar [] new above below less rise = (above, below, omega arith, tt)
 with_last from n top bar (b ∷ bs) new above below less (behind, before, within, rise) =
-    let parts = or_parts (b == bar) (list_any (λ x. x == bar) bs) new in (behind, before, omega (arith, within, less), with_last b n top bar bs parts.1 (below_new b top bar parts.0 within less) below less rise)
+    let parts = or_parts (b == bar) _ new in
+    (behind, before, omega (arith, within, less), with_last b n top bar bs parts.1 (below_new b top bar parts.0 within less) below less rise)
 
 with_bar_rises : (n top bar : ℕ) (bs : List ℕ) → 1 ≤ bar → bar < n → top ≤ bar → Rises 0 n top bs → Rises 0 n bar (with_bar bar bs)
-with_bar_rises n top bar bs some below less rise = by_test (list_any (λ b. b == bar) bs) refl where
-  by_test : (t : Bool) → list_any (λ b. b == bar) bs ≡ t → Rises 0 n bar (cond t bs (bs ++ bar ∷ []))
-  by_test true e = wider 0 n top bar bs less rise
-  by_test false e = with_last 0 n top bar bs e (omega arith) below less rise
+with_bar_rises n top bar bs some below less rise =
+    cond_both (list_any (λ b. b == bar) bs) _ _ (Rises 0 n bar) (λ e. wider 0 n top bar bs less rise)
+    (λ e. with_last 0 n top bar bs e (omega arith) below less rise)
 
 inside : (bar n : ℕ) → (nat_le 1 bar && nat_lt bar n) ≡ true → (1 ≤ bar) × (bar < n)
 inside bar n e =
-    let parts = and_parts (nat_le 1 bar) (nat_lt bar n) e in let low : nat_le 1 bar ≡ true = parts.0 in let high : nat_lt bar n ≡ true = parts.1 in (grind (arith, nat_tests, low), grind (arith, nat_tests, high))
+    let parts = and_parts _ _ e in (leb-true 1 bar parts.0, ltb-true bar n parts.1)
 
-step_rises : (n : ℕ) (counts : Counts) (s : Step) (bs : List ℕ) → Rises 0 n (counts.groups + counts.further) bs → Rises 0 n (counts.groups + counts.further) (forced_behind n counts s bs)
+step_rises : (n : ℕ) (counts : Counts) (s : Step) (bs : List ℕ) → Rises 0 n (counts.groups + counts.further) bs
+    → Rises 0 n (counts.groups + counts.further) (forced_behind n counts s bs)
 unfolding forced_behind
-step_rises n counts Step.Break bs rise = by_test (is_forced n counts) refl where
-  by_test : (t : Bool) → is_forced n counts ≡ t → Rises 0 n (counts.groups + counts.further) (cond t (with_bar (counts.groups + counts.further) bs) bs)
-  by_test true e =
-      let bar = counts.groups + counts.further in let parts = and_parts (is_near_bar counts.nearest) (nat_le 1 bar && nat_lt bar n) e in let held = inside bar n parts.1 in
-      with_bar_rises n bar bar bs held.0 held.1 (omega arith) rise
-  by_test false e = rise
+step_rises n counts Step.Break bs rise =
+    let bar = counts.groups + counts.further in
+    cond_both (is_forced n counts) _ _ (Rises 0 n bar)
+    (λ e. let parts = and_parts _ _ e in let held = inside bar n parts.1 in with_bar_rises n bar bar bs held.0 held.1 (omega arith) rise) (λ e. rise)
 step_rises n counts _ bs rise = rise
 
 measure_grows : (s : Stood) (before : Steps) → measure_at before ≤ measure_at (s ∷ before)
-measure_grows s before = by_test (begins_group s.step (nearest_at before)) where
-  by_test : (t : Bool) → groups before + all_further before ≤ cond t (groups before + 1) (groups before) + (all_further before + further s.step)
-  by_test true = omega arith
-  by_test false = omega arith
+measure_grows s before =
+    either (λ g. measure_at before ≤ g + all_further (s ∷ before)) (begins_group s.step (nearest_at before)) _ _ (omega arith) (omega arith)
 
 forced_rises : (n : ℕ) (before : Steps) → Rises 0 n (measure_at before) (forced_at n before)
 forced_rises n [] = tt
 forced_rises n (s ∷ before) =
-    wider 0 n (measure_at before) (measure_at (s ∷ before)) (forced_behind n (counts_of before) s.step (forced_at n before)) (measure_grows s before)
+    wider 0 n (measure_at before) _ _ (measure_grows s before)
     (step_rises n (counts_of before) s.step (forced_at n before) (forced_rises n before))
 
 bars_rise : (n : ℕ) (steps : Steps) → RiseWithin 0 n (forced_bars steps n)

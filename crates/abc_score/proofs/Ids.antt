@@ -1,7 +1,7 @@
 -- The voices of a body: no two have one id, and at most 16 are mentioned.
-use Rattle.std.{proofs.{Common.{◌≡◌, refl, sym, ap, subst, ℕ, ◌+◌, ◌≤◌, List, [], ◌∷◌, ◌++◌, length, map, Bool, true, false, cond, None, arith}, lemmas.{Bool.{Decides.{nat_tests, not_from_Decides}, or_parts}, List.{Sums.sum_by-cons, length-map}, Slice.Eq.bytes_eq-Decides}}, specs.{Prelude.{◌≢◌, count_by, fold, nat_lt}, List.list_any, Str.bytes_eq}}
+use Rattle.std.{proofs.{Common.{◌≡◌, refl, sym, ap, subst, ℕ, ◌+◌, ◌≤◌, List, [], ◌∷◌, ◌++◌, length, map, Bool, true, false, cond, None, ⊎_elim, arith}, lemmas.{Bool.{cases_Bool, cond_both, Decides.{nat_tests, not_from_Decides}, or_parts}, List.{Sums.sum_by-cons, length-map}, Slice.Eq.bytes_eq-Decides}}, specs.{Prelude.{◌≢◌, count_by, fold, nat_lt}, List.list_any, Str.bytes_eq}}
 use Rattle.{abc_lines.specs.declared.book.Line.{Line}, abc_header.specs.{declared.header.Header.Header, Headers.AreDistinct, Headers.HasGoodValues, Voicing.with_id}, abc_fields.specs.declared.voice.VoiceDef.{VoiceDef}}
-use Rattle.{abc_steps.specs.declared.step.Item.{Item}, abc_items.specs.{Voices.{claims, declared_ids, ids_after, ids_by_step, ids_of, start_of, starts_of}, Body.{Given, gives, fails, first_fault, items_in, judged, voice_judged, IsBody}}}
+use Rattle.{abc_steps.specs.declared.step.Item.{Item}, abc_items.specs.{Voices.{claims, declared_ids, ids_after, ids_by_step, ids_of, start_of, starts_of}, Body.{Given, gives, fails, first_fault, items_in, judged, IsBody}}}
 use Rattle.abc_score.specs.Voices.{AreApart, IsOther, read_ids, voice_read, voices_read}
 
 differ : (s t : List ℕ) → bytes_eq s t ≡ false → s ≢ t
@@ -14,56 +14,43 @@ other_last id last (other ∷ ids) new others = (others.0, other_last id last id
 apart_last : (id : List ℕ) (ids : List (List ℕ)) → list_any (bytes_eq id) ids ≡ false → AreApart ids → AreApart (ids ++ id ∷ [])
 apart_last id [] new apart = (tt, tt)
 apart_last id (other ∷ ids) new apart =
-    let parts = or_parts (bytes_eq id other) (list_any (bytes_eq id) ids) new in (other_last other id ids (λ e. differ id other parts.0 (sym e)) apart.0, apart_last id ids parts.1 apart.1)
-
-with_apart : (ids : List (List ℕ)) (id : List ℕ) → AreApart ids → AreApart (with_id ids id)
-with_apart ids id apart = by_test (list_any (bytes_eq id) ids) refl where
-  by_test : (t : Bool) → list_any (bytes_eq id) ids ≡ t → AreApart (cond t ids (ids ++ id ∷ []))
-  by_test true e = apart
-  by_test false e = apart_last id ids e apart
+    let parts = or_parts (bytes_eq id other) _ new in
+    (other_last other id ids (λ e. differ id other parts.0 (sym e)) apart.0, apart_last id ids parts.1 apart.1)
 
 -- declared voices
-not_counted : (id : List ℕ) (defs : List VoiceDef) → count_by (λ (def : VoiceDef). bytes_eq id def.id) defs ≤ 0 → IsOther id (map (λ (def : VoiceDef). def.id) defs)
+abbrev times : List ℕ → List VoiceDef → ℕ
+times id defs = count_by (λ (def : VoiceDef). bytes_eq id def.id) defs
+
+times_on : (id : List ℕ) (def : VoiceDef) (defs : List VoiceDef) → times id (def ∷ defs) ≡ cond (bytes_eq id def.id) 1 0 + times id defs
+times_on id def defs = sum_by-cons (λ (d : VoiceDef). cond (bytes_eq id d.id) 1 0) def defs
+
+not_counted : (id : List ℕ) (defs : List VoiceDef) → times id defs ≤ 0 → IsOther id (map (λ (def : VoiceDef). def.id) defs)
 not_counted id [] none = tt
 not_counted id (def ∷ defs) none =
-    let whole = sum_by-cons (λ (d : VoiceDef). cond (bytes_eq id d.id) 1 0) def defs in
-    by_test (not_counted id defs) (bytes_eq id def.id) refl whole where
-      by_test : (count_by (λ (d : VoiceDef). bytes_eq id d.id) defs ≤ 0 → IsOther id (map (λ (d : VoiceDef). d.id) defs))
-          → (t : Bool) → bytes_eq id def.id ≡ t → count_by (λ (d : VoiceDef). bytes_eq id d.id) (def ∷ defs) ≡ cond t 1 0 + count_by (λ (d : VoiceDef). bytes_eq id d.id) defs → IsOther id (map (λ (d : VoiceDef). d.id) (def ∷ defs))
-      by_test others true e whole = absurd (omega (arith, whole, none))
-      by_test others false e whole = (differ id def.id e, others (omega (arith, whole, none)))
+    let whole = times_on id def defs in
+    ⊎_elim (λ e. let one = ap {B = ℕ} (λ t. cond t 1 0) e in absurd (omega (arith, whole, one, none))) (λ e. (differ id def.id e, not_counted id defs (omega (arith, whole, none))))
+    (cases_Bool (bytes_eq id def.id))
 
 declared_apart : (defs : List VoiceDef) → AreDistinct defs → AreApart (map (λ (def : VoiceDef). def.id) defs)
 declared_apart [] distinct = tt
-declared_apart (def ∷ defs) distinct = (not_counted def.id defs here, declared_apart defs others) where
-  here : count_by (λ (d : VoiceDef). bytes_eq def.id d.id) defs ≤ 0
-  here =
-      let whole = sum_by-cons (λ (d : VoiceDef). cond (bytes_eq def.id d.id) 1 0) def defs in let itself : bytes_eq def.id def.id ≡ true = (bytes_eq-Decides def.id def.id).1 refl in let once = distinct def.id in
-      by_test (bytes_eq def.id def.id) itself whole once where
-        by_test : (t : Bool) → t ≡ true → count_by (λ (d : VoiceDef). bytes_eq def.id d.id) (def ∷ defs) ≡ cond t 1 0 + count_by (λ (d : VoiceDef). bytes_eq def.id d.id) defs → count_by (λ (d : VoiceDef). bytes_eq def.id d.id) (def ∷ defs) ≤ 1 → count_by (λ (d : VoiceDef). bytes_eq def.id d.id) defs ≤ 0
-        by_test true e whole once = omega (arith, whole, once)
-        by_test false e whole once = absurd cc
-
-  others : AreDistinct defs
-  others id = let whole = sum_by-cons (λ (d : VoiceDef). cond (bytes_eq id d.id) 1 0) def defs in let once = distinct id in omega (arith, whole, once)
+declared_apart (def ∷ defs) distinct =
+    let once = distinct def.id in let itself = ap {B = ℕ} (λ t. cond t 1 0) ((bytes_eq-Decides def.id def.id).1 refl) in
+    (not_counted def.id defs (omega (arith, itself, times_on def.id def defs, once)), declared_apart defs (λ id. omega (arith, times_on id def defs, distinct id)))
 
 -- those of a body
-step_apart : (ids : List (List ℕ)) (claimed : Bool) → AreApart ids → AreApart (ids_by_step ids claimed)
-step_apart [] true apart = (tt, tt)
-step_apart [] false apart = tt
-step_apart (id ∷ ids) claimed apart = apart
-
 item_apart : (ids : List (List ℕ)) (i : Item) → AreApart ids → AreApart (ids_after ids i)
-item_apart ids (Item.Step s) apart = step_apart ids (claims s.step) apart
-item_apart ids (Item.Voice def line column) apart = with_apart ids def.id apart
+item_apart ids (Item.Step s) apart = step_apart ids (claims s.step) apart where
+  step_apart : (ids : List (List ℕ)) (claimed : Bool) → AreApart ids → AreApart (ids_by_step ids claimed)
+  step_apart [] true apart = (tt, tt)
+  step_apart [] false apart = tt
+  step_apart (id ∷ ids) claimed apart = apart
+item_apart ids (Item.Voice def line column) apart =
+    cond_both (list_any (bytes_eq def.id) ids) _ _ AreApart (λ e. apart) (λ e. apart_last def.id ids e apart)
 item_apart ids _ apart = apart
 
 items_apart : (ids : List (List ℕ)) (items : List Item) → AreApart ids → AreApart (fold ids_after ids items)
 items_apart ids [] apart = apart
 items_apart ids (i ∷ items) apart = items_apart (ids_after ids i) items (item_apart ids i apart)
-
-ids_apart : (header : Header) (items : List Item) → HasGoodValues header → AreApart (ids_of header items)
-ids_apart header items good = items_apart (declared_ids header) items (declared_apart header.voices good.distinct)
 
 -- at most 16
 few_by_step : (ids : List (List ℕ)) (claimed : Bool) → length ids ≤ 16 → length (ids_by_step ids claimed) ≤ 16
@@ -71,22 +58,22 @@ few_by_step [] true few = omega arith
 few_by_step [] false few = few
 few_by_step (id ∷ ids) claimed few = few
 
-few_given : (ids : List (List ℕ)) (given : List Given) → length ids ≤ 16 → first_fault (judged ids given) ≡ None → length (fold ids_after ids (items_in given)) ≤ 16
+few_given : (ids : List (List ℕ)) (given : List Given) → length ids ≤ 16 → first_fault (judged ids given) ≡ None
+    → length (fold ids_after ids (items_in given)) ≤ 16
 few_given ids [] few clear = few
 few_given ids (fails fault ∷ given) few clear = absurd cc
 few_given ids (gives (Item.Step s) ∷ given) few clear = few_given (ids_by_step ids (claims s.step)) given (few_by_step ids (claims s.step) few) clear
 few_given ids (gives (Item.LineEnd joined breaks line column) ∷ given) few clear = few_given ids given few clear
 few_given ids (gives (Item.Words text line) ∷ given) few clear = few_given ids given few clear
-few_given ids (gives (Item.Voice def line column) ∷ given) few clear = by_test (few_given (with_id ids def.id) given) (nat_lt 16 (length (with_id ids def.id))) refl clear where
-  by_test : (length (with_id ids def.id) ≤ 16 → first_fault (judged (with_id ids def.id) given) ≡ None → length (fold ids_after (with_id ids def.id) (items_in given)) ≤ 16)
-      → (t : Bool) → nat_lt 16 (length (with_id ids def.id)) ≡ t → first_fault (voice_judged t (Item.Voice def line column) line column ∷ judged (with_id ids def.id) given) ≡ None → length (fold ids_after (with_id ids def.id) (items_in given)) ≤ 16
-  by_test others true e clear = absurd cc
-  by_test others false e clear = others (grind (arith, nat_tests, e)) clear
+few_given ids (gives (Item.Voice def line column) ∷ given) few clear =
+    ⊎_elim (λ e. let over = rw e at clear in absurd cc) (λ e. few_given (with_id ids def.id) given (grind (arith, nat_tests, e)) (rw e at clear))
+    (cases_Bool (nat_lt 16 (length (with_id ids def.id))))
 
 pub few_ids : (header : Header) (lines : List Line) (items : List Item) → HasGoodValues header → IsBody header lines items → length (ids_of header items) ≤ 16
 few_ids header lines items good body =
-    let declared = length-map header.voices (λ (def : VoiceDef). def.id) in let few = few_given (declared_ids header) body.given (omega (arith, declared, good.few)) body.clear in
-    subst (λ (is : List Item). length (ids_of header is) ≤ 16) (sym body.are) few
+    let declared = length-map header.voices (λ (def : VoiceDef). def.id) in
+    subst (λ (is : List Item). length (ids_of header is) ≤ 16) (sym body.are)
+    (few_given (declared_ids header) body.given (omega (arith, declared, good.few)) body.clear)
 
 -- those of the voices that are read
 ids_read : (header : Header) (items : List Item) (ids : List (List ℕ)) → read_ids (map (voice_read header items) (map (start_of header items) ids)) ≡ ids
@@ -94,7 +81,9 @@ ids_read header items [] = refl
 ids_read header items (id ∷ ids) = ap (λ others. id ∷ others) (ids_read header items ids)
 
 pub few_read : (header : Header) (items : List Item) → length (ids_of header items) ≤ 16 → length (voices_read header items) ≤ 16
-few_read header items few = omega (arith, length-map (starts_of header items) (voice_read header items), length-map (ids_of header items) (start_of header items), few)
+few_read header items few =
+    omega (arith, length-map (starts_of header items) (voice_read header items), length-map (ids_of header items) (start_of header items), few)
 
 pub apart_read : (header : Header) (items : List Item) → HasGoodValues header → AreApart (read_ids (voices_read header items))
-apart_read header items good = subst AreApart (sym (ids_read header items (ids_of header items))) (ids_apart header items good)
+apart_read header items good =
+    subst AreApart (sym (ids_read header items (ids_of header items))) (items_apart (declared_ids header) items (declared_apart header.voices good.distinct))

@@ -36,7 +36,8 @@ token_at breaks line column _ = tt
 
 tokens_at : (breaks : Breaks) (line : Line) (tokens : List Placed) → AreAt line.number (flat_map (placed_given breaks line) tokens)
 tokens_at breaks line [] = tt
-tokens_at breaks line (t ∷ tokens) = both_at line.number (placed_given breaks line t) (flat_map (placed_given breaks line) tokens) (token_at breaks line t.column t.token) (tokens_at breaks line tokens)
+tokens_at breaks line (t ∷ tokens) =
+    both_at line.number (placed_given breaks line t) _ (token_at breaks line t.column t.token) (tokens_at breaks line tokens)
 
 end_at : (breaks : Breaks) (line : Line) (fault : Option Fault) → AreAt line.number (end_given breaks line fault)
 end_at breaks line None = tt
@@ -44,8 +45,8 @@ end_at breaks line (Some fault) = tt
 
 line_at : (breaks : Breaks) (line : Line) (kind : LineKind) (given : List Given) → KindGives breaks line kind given → AreAt line.number given
 line_at breaks line LineKind.Music given (tokens, fault, front, is) =
-    subst (AreAt line.number) (sym is) (both_at line.number (flat_map (placed_given breaks line) tokens) (end_given breaks line fault) (tokens_at breaks line tokens) (end_at breaks line fault))
-line_at breaks line _ given is = subst (AreAt line.number) (sym is) (given_at (field_of line.text) line.number 1)
+    rw is (both_at line.number (flat_map (placed_given breaks line) tokens) _ (tokens_at breaks line tokens) (end_at breaks line fault))
+line_at breaks line _ given is = rw is (given_at (field_of line.text) line.number 1)
 
 -- from a lower line on
 from_lower : (low high : ℕ) (items : List Item) → low ≤ high → DoWordsRiseFrom high items → DoWordsRiseFrom low items
@@ -55,7 +56,8 @@ from_lower low high (_ ∷ items) less rise = from_lower low high items less ris
 
 with_line : (line low : ℕ) (g : List Given) (others : List Item) → low ≤ line → AreAt line g → DoWordsRiseFrom line others → DoWordsRiseFrom low (items_in g ++ others)
 with_line line low [] others less are rise = from_lower low line others less rise
-with_line line low (gives (Item.Words text at) ∷ g) others less are rise = let same : at ≡ line = are.0 in (omega arith, with_line line at g others (omega arith) are.1 rise)
+with_line line low (gives (Item.Words text at) ∷ g) others less are rise =
+    let same : at ≡ line = are.0 in (omega arith, with_line line at g others (omega arith) are.1 rise)
 with_line line low (_ ∷ g) others less are rise = with_line line low g others less are rise
 
 items_both : (g h : List Given) → items_in (g ++ h) ≡ items_in g ++ items_in h
@@ -76,11 +78,13 @@ is_under : (line : Line) (lines : List Line) → NumbersRise (line ∷ lines) �
 is_under line [] rise = tt
 is_under line (next ∷ lines) rise = let less : line.number < next.number = rise.0 in omega arith
 
-given_rise : (breaks : Breaks) (lines : List Line) (given : List Given) (low : ℕ) → BodyGives breaks lines given → NumbersRise lines → IsUnder low lines → DoWordsRiseFrom low (items_in given)
+given_rise : (breaks : Breaks) (lines : List Line) (given : List Given) (low : ℕ) → BodyGives breaks lines given → NumbersRise lines
+    → IsUnder low lines → DoWordsRiseFrom low (items_in given)
 given_rise breaks _ _ low no_lines rise under = tt
 given_rise breaks _ _ low (one_line line lines first others all one more is) rise under =
-    let first_at = line_at breaks line (kind_of line.text) first one in let later = given_rise breaks lines others line.number more (others_rise line lines rise) (is_under line lines rise) in
-    let whole = with_line line.number low first (items_in others) under first_at later in subst (DoWordsRiseFrom low) (sym (items_both first others) ∙ ap items_in (sym is)) whole
+    let later = given_rise breaks lines others line.number more (others_rise line lines rise) (is_under line lines rise) in
+    subst (DoWordsRiseFrom low) (sym (items_both first others) ∙ ap items_in (sym is))
+    (with_line line.number low first (items_in others) under (line_at breaks line (kind_of line.text) first one) later)
 
 from_zero : (lines : List Line) → IsUnder 0 lines
 from_zero [] = tt
@@ -91,8 +95,8 @@ rise_behind lines zero rise = rise
 rise_behind [] (suc k) rise = tt
 rise_behind (line ∷ lines) (suc k) rise = rise_behind lines k (others_rise line lines rise)
 
-pub words_rise : (header : Header) (lines : List Line) (items : List Item) → NumbersRise lines → IsBody header lines items → DoWordsRise items
-words_rise header lines items rise body = subst DoWordsRise (sym body.are) (given_rise header.breaks lines body.given 0 body.gives_so rise (from_zero lines))
-
-pub words_rise_behind : (header : Header) (lines behind : List Line) (items found : List Item) (k : ℕ) → NumbersRise lines → behind ≡ drop k lines → IsBody header behind items → found ≡ items → DoWordsRise found
-words_rise_behind header lines behind items found k rise cut body same = subst DoWordsRise (sym same) (words_rise header behind items (subst NumbersRise (sym cut) (rise_behind lines k rise)) body)
+pub words_rise_behind : (header : Header) (lines behind : List Line) (items found : List Item) (k : ℕ) → NumbersRise lines → behind ≡ drop k lines
+    → IsBody header behind items → found ≡ items → DoWordsRise found
+words_rise_behind header lines behind items found k rise cut body same =
+    let own = subst NumbersRise (sym cut) (rise_behind lines k rise) in
+    subst DoWordsRise (sym (same ∙ body.are)) (given_rise header.breaks behind body.given 0 body.gives_so own (from_zero behind))

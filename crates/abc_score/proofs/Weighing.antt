@@ -1,10 +1,10 @@
 -- What the signs of a voice weigh is at most what its steps weigh, and that of all voices is at most 50,000 where they aren't crowded.
-use Rattle.std.{proofs.{Common.{◌≡◌, ◌∙◌, refl, sym, ap, subst, ℕ, zero, suc, ◌+◌, ◌-◌, ◌*◌, ◌≤◌, max, List, [], ◌∷◌, sum_by, length, Bool, true, false, cond, Option, Some, None, mul_comm, mul-le-mul_left, arith}, lemmas.{Bool.Decides.nat_tests, List.{length-map, Sums.{sum_by-cons, sum_by-append}, Elements.Contains-append_right}}}, specs.{Prelude.{flat_map, nat_lt, unwrap_or}, List.{AllByRecursion, Contains}}}
+use Rattle.std.{proofs.{Common.{◌≡◌, ◌∙◌, refl, sym, ap, subst, ℕ, zero, suc, ◌+◌, ◌-◌, ◌*◌, ◌≤◌, max, List, [], ◌∷◌, sum_by, length, Bool, true, false, cond, Option, Some, None, mul_comm, mul-le-mul_left, arith}, lemmas.{Bool.{Decides.nat_tests}, List.{length-map, Sums.{sum_by-cons, sum_by-append}, Elements.Contains-append_right}}}, specs.{Prelude.{flat_map, nat_lt, unwrap_or}, List.{AllByRecursion, Contains}}}
 use Rattle.{mus_units.specs.{declared.note.Head.Head, declared.value.Value.Value, declared.note.Deco.Deco, Parts.parts_list}, abc_notes.specs.declared.part.GraceChord.{GraceChord}}
-use Rattle.abc_steps.specs.{declared.{step.{Sound.Sound, Step.Step, Stood.Stood}, force.InForce.InForce, place.Place.Place}, Good.{IsGoodStep, IsGoodStood}, Lengths.written_length, Looks.{Steps, is_tied, since_event}, Places.{place_at, measure_of}, Tuplets.{fits, or_default, usual_q}}
-use Rattle.abc_events.specs.{declared.written.{Written.Written, Waiting.Waiting, Sign.Sign}, Leaves.{Words, leaves_from, nodes_of, words_at}, Signs.{further_rests, parted_at, rest_written, signs, signs_of, sound_written, tied_heads, tuplet_of, with_tie}, Waits.{graces_in, nothing, waiting_of}}
+use Rattle.abc_steps.specs.{declared.{step.{Sound.Sound, Step.Step, Stood.Stood}, force.InForce.InForce, place.Place.Place}, Good.{IsGoodStep, IsGoodStood}, Lengths.written_length, Looks.{Steps, is_tied, since_event}, Places.{place_at, measure_of}}
+use Rattle.abc_events.specs.{declared.written.{Written.Written, Waiting.Waiting, Sign.Sign}, Leaves.{Words, leaves_from, nodes_of, words_at}, Signs.{further_rests, parted_at, rest_written, signs, signs_of, sound_written, tied_heads, with_tie}, Waits.{graces_in, nothing, waiting_of}}
 use Rattle.abc_faults.{specs.{declared.weights.Weight.Weight, First.then_below, Weights.{count_parts, count_up_to, crowd_fault, crowd_up_to, crowded, grace_weights, grace_weights_of, sound_count, stands_before, weight_at, weights_in, weights_of}}, proofs.Crowds.{crowd_held, not_before_itself}}
-use Rattle.abc_score.proofs.{Rows.leaf_rows, Rows.weight_of, Singing.heads_of_graces, Singing.nodes_weight}
+use Rattle.abc_score.proofs.{Basics.with_tuplet, Rows.leaf_rows, Rows.weight_of, Singing.heads_of_graces, Singing.nodes_weight}
 
 -- ---- signs
 abbrev pub written_weight : Written → Waiting → ℕ
@@ -17,10 +17,12 @@ sign_weight (Sign.Opens measure p q r) = 0
 pub leaves_weigh : (words : List Words) (k id : ℕ) (ss : List Sign) → sum_by weight_of (leaf_rows (leaves_from words k id ss)) ≡ sum_by sign_weight ss
 leaves_weigh words k id [] = refl
 leaves_weigh words k id (Sign.Event w waiting ∷ ss) =
-    let nodes = nodes_of w waiting (words_at words k) id in let others = leaf_rows (leaves_from words (k + 1) (id + length w.values) ss) in let a = sum_by-cons weight_of nodes others in
-    let b = sum_by-cons sign_weight (Sign.Event w waiting) ss in let own = nodes_weight w waiting (words_at words k) id in let rest = leaves_weigh words (k + 1) (id + length w.values) ss in
-    a ∙ (ap (λ n. n + sum_by weight_of others) own ∙ (ap (λ n. written_weight w waiting + n) rest ∙ sym b))
-leaves_weigh words k id (Sign.Opens measure p q r ∷ ss) = leaves_weigh words k id ss ∙ sym (sum_by-cons sign_weight (Sign.Opens measure p q r) ss ∙ omega arith)
+    let others = leaf_rows (leaves_from words (k + 1) (id + length w.values) ss) in
+    sum_by-cons weight_of (nodes_of w waiting (words_at words k) id) others
+    ∙ ap (λ n. n + sum_by weight_of others) (nodes_weight w waiting (words_at words k) id)
+    ∙ ap (λ n. written_weight w waiting + n) (leaves_weigh words (k + 1) (id + length w.values) ss) ∙ sym (sum_by-cons sign_weight (Sign.Event w waiting) ss)
+leaves_weigh words k id (Sign.Opens measure p q r ∷ ss) =
+    leaves_weigh words k id ss ∙ sym (sum_by-cons sign_weight (Sign.Opens measure p q r) ss ∙ omega arith)
 
 abbrev pub count : Weight → ℕ
 count w = w.count
@@ -33,11 +35,11 @@ waits_step at _ = refl
 waits_weight : (waits : Steps) → heads_of_graces (flat_map (λ s. graces_in s.step) waits) ≡ sum_by count (grace_weights waits)
 waits_weight [] = refl
 waits_weight (s ∷ waits) =
-    sum_by-append (λ (g : GraceChord). length g.heads) (graces_in s.step) (flat_map (λ s. graces_in s.step) waits)
-    ∙ (ap (λ n. n + heads_of_graces (flat_map (λ s. graces_in s.step) waits)) (waits_step s s.step) ∙ (ap (λ n. sum_by count (grace_weights_of s s.step) + n) (waits_weight waits)
-    ∙ sym (sum_by-append count (grace_weights_of s s.step) (grace_weights waits))))
+    let left = sum_by-append (λ (g : GraceChord). length g.heads) (graces_in s.step) (flat_map (λ s. graces_in s.step) waits) in
+    let right = sum_by-append count (grace_weights_of s s.step) (grace_weights waits) in
+    omega (arith, left, waits_step s s.step, waits_weight waits, right)
 
-pub waiting_weight : (now : InForce) (waits : Steps) (decos : List Deco) → heads_of_graces (waiting_of now waits decos).graces ≡ sum_by count (grace_weights waits)
+waiting_weight : (now : InForce) (waits : Steps) (decos : List Deco) → heads_of_graces (waiting_of now waits decos).graces ≡ sum_by count (grace_weights waits)
 unfolding waiting_of
 waiting_weight now waits decos = waits_weight waits
 
@@ -49,59 +51,43 @@ length_tied : (heads : List Head) (behind : Steps) → length (tied_heads heads 
 length_tied [] behind = refl
 length_tied (h ∷ hs) behind = length-map (h ∷ hs) (with_tie (is_tied behind))
 
-pub sound_heads : (now : Place) (before behind : Steps) (at : Stood) (s : Sound) → length (sound_written now before at s behind).heads ≡ length s.heads
-unfolding sound_written
-sound_heads now before behind at s = length_tied s.heads behind
-
-sound_values : (now : Place) (before behind : Steps) (at : Stood) (s : Sound) → max 1 (length s.heads) * length (sound_written now before at s behind).values ≤ sound_count now before s behind
+sound_weight : (now : Place) (before behind : Steps) (at : Stood) (s : Sound) →
+    let w = sound_written now before at s behind in length w.values * max 1 (length w.heads) ≤ sound_count now before s behind
 unfolding sound_written sound_count
-sound_values now before behind at s = let whole = written_length now.force.unit s before behind in mul-le-mul_left (max 1 (length s.heads)) (few_values (parts_list whole.num whole.den))
-
-sound_weight : (now : Place) (before behind : Steps) (at : Stood) (s : Sound) (waiting : Waiting) → heads_of_graces waiting.graces ≡ sum_by count (grace_weights (since_event before)) → written_weight (sound_written now before at s behind) waiting ≤ sum_by count (grace_weights (since_event before)) + sound_count now before s behind
-sound_weight now before behind at s waiting graces =
-    let w = sound_written now before at s behind in
-    let turned : length w.values * max 1 (length w.heads) ≡ max 1 (length s.heads) * length w.values = mul_comm (length w.values) (max 1 (length w.heads)) ∙ ap (λ n. max 1 n * length w.values) (sound_heads now before behind at s) in
-    let own = sound_values now before behind at s in
-    joined (heads_of_graces waiting.graces) (sum_by count (grace_weights (since_event before))) (length w.values * max 1 (length w.heads)) (max 1 (length s.heads) * length w.values) (sound_count now before s behind) graces turned own where
-      joined : (a b c d e : ℕ) → a ≡ b → c ≡ d → d ≤ e → a + c ≤ b + e
-      joined a b c d e x y z = omega arith
-
-rest_weight : (now : Place) (at : Stood) (seen : Bool) (measure : ℕ) (parted : Bool) (waiting : Waiting) → written_weight (rest_written now at seen measure parted) waiting ≡ heads_of_graces waiting.graces + 1
-unfolding rest_written
-rest_weight now at seen measure parted waiting = omega arith
+sound_weight now before behind at s =
+    let whole = written_length now.force.unit s before behind in let values = parts_list whole.num whole.den in
+    let turned = mul_comm (length (unwrap_or values [])) (max 1 (length (tied_heads s.heads behind))) ∙ ap (λ n. max 1 n * length (unwrap_or values [])) (length_tied s.heads behind) in
+    subst (λ n. n ≤ max 1 (length s.heads) * count_parts values) (sym turned) (mul-le-mul_left (max 1 (length s.heads)) (few_values values))
 
 further_weight : (now : Place) (at : Stood) (seen : Bool) (measure n : ℕ) → sum_by sign_weight (further_rests now at seen measure n) ≡ n
+unfolding rest_written
 further_weight now at seen measure zero = refl
 further_weight now at seen measure (suc n) =
     let all = sum_by-cons sign_weight (Sign.Event (rest_written now at seen measure false) nothing) (further_rests now at seen (measure + 1) n) in
-    let own = rest_weight now at seen measure false nothing in let others = further_weight now at seen (measure + 1) n in
-    all ∙ (ap (λ k. k + sum_by sign_weight (further_rests now at seen (measure + 1) n)) own ∙ (ap (λ k. 1 + k) others ∙ omega arith))
+    omega (arith, all, further_weight now at seen (measure + 1) n)
 
-tuplet_weight : (now : Place) (p q r : ℕ) → sum_by sign_weight (tuplet_of now p q r) ≤ 0
-tuplet_weight now p q r = by_test (fits (or_default p r) now.taking) where
-  by_test : (b : Bool) → sum_by sign_weight (cond b (Sign.Opens (measure_of now) p (or_default (usual_q p now.force.meter) q) (or_default p r) ∷ []) []) ≤ 0
-  by_test true = omega arith
-  by_test false = omega arith
-
-step_weight : (now : Place) (before behind : Steps) (at : Stood) (s : Step) → IsGoodStep s → sum_by sign_weight (signs_of now before at behind s) ≤ sum_by count (weights_of now before at behind s)
-unfolding signs_of weights_of
+step_weight : (now : Place) (before behind : Steps) (at : Stood) (s : Step) → IsGoodStep s
+    → sum_by sign_weight (signs_of now before at behind s) ≤ sum_by count (weights_of now before at behind s)
+unfolding signs_of weights_of rest_written
 step_weight now before behind at (Step.Sound s) good =
-    let waits = since_event before in let own = sound_weight now before behind at s (waiting_of now.force waits s.decos) (waiting_weight now.force waits s.decos) in
-    let all = sum_by-append count (grace_weights waits) (weight_at (sound_count now before s behind) at ∷ []) in omega (arith, own, all)
+    let waits = since_event before in let own = sound_weight now before behind at s in let graces = waiting_weight now.force waits s.decos in
+    omega (arith, own, graces, sum_by-append count (grace_weights waits) (weight_at (sound_count now before s behind) at ∷ []))
 step_weight now before behind at (Step.Measures seen n) good =
-    let waits = since_event before in let waiting = waiting_of now.force waits [] in let first = rest_written now at seen (measure_of now) (parted_at now waits) in
-    let more = further_rests now at seen (measure_of now + 1) (n - 1) in let own = rest_weight now at seen (measure_of now) (parted_at now waits) waiting in
-    let graces = waiting_weight now.force waits [] in let others = further_weight now at seen (measure_of now + 1) (n - 1) in let here = sum_by-cons sign_weight (Sign.Event first waiting) more in
-    let all = sum_by-append count (grace_weights waits) (weight_at n at ∷ []) in let some : 1 ≤ n = good.0 in omega (arith, own, graces, others, here, all, some)
-step_weight now before behind at (Step.Tuplet p q r) good = tuplet_weight now p q r
+    let waits = since_event before in let first = rest_written now at seen (measure_of now) (parted_at now waits) in
+    let others = further_weight now at seen (measure_of now + 1) (n - 1) in let graces = waiting_weight now.force waits [] in let some : 1 ≤ n = good.0 in
+    let here = sum_by-cons sign_weight (Sign.Event first (waiting_of now.force waits [])) (further_rests now at seen (measure_of now + 1) (n - 1)) in
+    omega (arith, graces, others, here, sum_by-append count (grace_weights waits) (weight_at n at ∷ []), some)
+step_weight now before behind at (Step.Tuplet p q r) good = with_tuplet (λ z. sum_by sign_weight z ≤ 0) now p q r (λ m x y z. omega arith) (omega arith)
 step_weight now before behind at _ good = omega arith
 
-pub signs_weigh : (first : InForce) (before behind : Steps) → AllByRecursion IsGoodStood behind → sum_by sign_weight (signs first before behind) ≤ sum_by count (weights_in first before behind)
+pub signs_weigh : (first : InForce) (before behind : Steps) → AllByRecursion IsGoodStood behind
+    → sum_by sign_weight (signs first before behind) ≤ sum_by count (weights_in first before behind)
 signs_weigh first before [] good = omega arith
 signs_weigh first before (at ∷ behind) good =
-    let now = place_at first before in let here = step_weight now before behind at at.step good.0 in let later = signs_weigh first (at ∷ before) behind good.1 in
+    let now = place_at first before in let here = step_weight now before behind at at.step good.0 in
     let a = sum_by-append sign_weight (signs_of now before at behind at.step) (signs first (at ∷ before) behind) in
-    let b = sum_by-append count (weights_of now before at behind at.step) (weights_in first (at ∷ before) behind) in omega (arith, here, later, a, b)
+    let b = sum_by-append count (weights_of now before at behind at.step) (weights_in first (at ∷ before) behind) in
+    omega (arith, here, signs_weigh first (at ∷ before) behind good.1, a, b)
 
 -- ---- crowds
 abbrev below : ℕ → ℕ → ℕ → ℕ → Bool
@@ -110,41 +96,40 @@ below a b x y = then_below a x (nat_lt b y)
 below_later : (a b x y m n : ℕ) → below a b x y ≡ true → below a b m n ≡ false → below x y m n ≡ false
 below_later a b x y m n h i = grind (arith, nat_tests)
 
-later_behind : (v w u : Weight) → stands_before v w ≡ true → stands_before v u ≡ false → stands_before w u ≡ false
-unfolding stands_before
-later_behind v w u h i = below_later v.line v.column w.line w.column u.line u.column h i
-
 -- one that stands before none
 record Latest (ws : List Weight) : Type 0 where
   weight : Weight
   held : Contains ws weight
   behind : AllByRecursion (λ v. stands_before weight v ≡ false) ws
 
-later_all : (m w : Weight) (ws : List Weight) → stands_before m w ≡ true → AllByRecursion (λ v. stands_before m v ≡ false) ws → AllByRecursion (λ v. stands_before w v ≡ false) ws
+later_all : (m w : Weight) (ws : List Weight) → stands_before m w ≡ true → AllByRecursion (λ v. stands_before m v ≡ false) ws
+    → AllByRecursion (λ v. stands_before w v ≡ false) ws
+unfolding stands_before
 later_all m w [] before all = tt
-later_all m w (v ∷ vs) before all = (later_behind m w v before all.0, later_all m w vs before all.1)
-
-latest_more : (w : Weight) (ws : List Weight) → Latest ws → Latest (w ∷ ws)
-latest_more w ws o = by_test (stands_before o.weight w) refl where
-  by_test : (b : Bool) → stands_before o.weight w ≡ b → Latest (w ∷ ws)
-  by_test true e = record { weight = w; held = (0, omega arith, refl); behind = (not_before_itself w, later_all o.weight w ws e o.behind) }
-  by_test false e = record { weight = o.weight; held = Contains-append_right (w ∷ []) ws o.weight o.held; behind = (e, o.behind) }
+later_all m w (v ∷ vs) before all = (below_later m.line m.column w.line w.column v.line v.column before all.0, later_all m w vs before all.1)
 
 latest_of : (w : Weight) (ws : List Weight) → Latest (w ∷ ws)
 latest_of w [] = record { weight = w; held = (0, omega arith, refl); behind = (not_before_itself w, tt) }
-latest_of w (v ∷ vs) = latest_more w (v ∷ vs) (latest_of v vs)
+latest_of w (v ∷ vs) = more (v ∷ vs) (latest_of v vs) where
+  more : (ws : List Weight) → Latest ws → Latest (w ∷ ws)
+  more ws o = by_test (stands_before o.weight w) refl where
+    by_test : (b : Bool) → stands_before o.weight w ≡ b → Latest (w ∷ ws)
+    by_test true e = record { weight = w; held = (0, omega arith, refl); behind = (not_before_itself w, later_all o.weight w ws e o.behind) }
+    by_test false e = record { weight = o.weight; held = Contains-append_right (w ∷ []) ws o.weight o.held; behind = (e, o.behind) }
 
 all_count : (m : Weight) (ws : List Weight) → AllByRecursion (λ v. stands_before m v ≡ false) ws → crowd_up_to ws m ≡ sum_by count ws
 all_count m [] all = refl
 all_count m (w ∷ ws) all =
     let here : count_up_to m w ≡ w.count = ap (λ b. cond b 0 w.count) all.0 in
-    sum_by-cons (count_up_to m) w ws ∙ (ap (λ n. n + crowd_up_to ws m) here ∙ (ap (λ n. w.count + n) (all_count m ws all.1) ∙ sym (sum_by-cons count w ws)))
+    omega (arith, sum_by-cons (count_up_to m) w ws, here, all_count m ws all.1, sum_by-cons count w ws)
 
 few_with : (ws : List Weight) → Latest ws → crowded ws ≡ [] → sum_by count ws ≤ 50000
 few_with ws o e = by_test (nat_lt 50000 (crowd_up_to ws o.weight)) refl where
   by_test : (b : Bool) → nat_lt 50000 (crowd_up_to ws o.weight) ≡ b → sum_by count ws ≤ 50000
-  by_test true t = let held = subst (λ fs. Contains fs (crowd_fault o.weight)) e (crowd_held ws o.weight o.held (grind (arith, nat_tests))) in absurd (omega (arith, held.1))
-  by_test false t = let few : crowd_up_to ws o.weight ≤ 50000 = grind (arith, nat_tests) in omega (arith, few, all_count o.weight ws o.behind)
+  by_test true t =
+      let held = subst (λ fs. Contains fs (crowd_fault o.weight)) e (crowd_held ws o.weight o.held (grind (arith, nat_tests))) in absurd (omega (arith, held.1))
+  by_test false t =
+      let few : crowd_up_to ws o.weight ≤ 50000 = grind (arith, nat_tests) in omega (arith, few, all_count o.weight ws o.behind)
 
 pub not_crowded : (ws : List Weight) → crowded ws ≡ [] → sum_by count ws ≤ 50000
 not_crowded [] e = omega arith
