@@ -1,11 +1,15 @@
 -- What a score without faults has: voices without verses that are too many, and at most 2000 measures.
-use Rattle.std.{proofs.{Common.{◌≡◌, ◌∙◌, refl, sym, ap, subst, ℕ, ◌+◌, ◌-◌, ◌≤◌, ◌<◌, List, [], ◌∷◌, ◌++◌, append-nil, append_assoc, Bool, true, false, cond, None, arith, map, reverse}, lemmas.{Bool.leb-false, List.{reverse-append, Elements.{All-weaker, All-from_recursion}}}}, specs.{Prelude.{fold, max, flat_map, is_none}, List.{All, AllByRecursion}}}
-use Rattle.abc_lines.specs.declared.fault.FaultKind.{FaultKind}
-use Rattle.abc_steps.specs.{declared.{step.{Item.Item, Sound.Sound, Step.Step, Stood.Stood}, force.InForce.InForce, place.Place.Place}, Looks.{Steps, since_event}, Kinds.is_event, Counts.{further, measure_at, measures_begun}, Lengths.written_length, Places.{place_at, measure_of}}
-use Rattle.mus_units.specs.Parts.{parts_list}
-use Rattle.abc_faults.specs.{Faults.any_off, Faults.fault_if, Faults.faults_of, Faults.faults_in, Faults.grace_faults, Faults.is_free, Faults.sound_faults}
+use Rattle.std.{specs.{Prelude.{fold, max, flat_map, is_none}, List.{All, AllByRecursion}}, proofs.Common.{cond, None, arith, map, reverse}}
+use Rattle.std.proofs.Common.{◌≡◌, ◌∙◌, refl, sym, ap, subst, ℕ, ◌+◌, ◌-◌, ◌≤◌, ◌<◌, List, [], ◌∷◌, ◌++◌, append-nil, append_assoc, Bool, true, false}
+use Rattle.std.proofs.lemmas.{Bool.leb-false, List.{reverse-append, Elements.{All-weaker, All-from_recursion}}}
+use Rattle.{abc_lines.specs.declared.fault.FaultKind.FaultKind, mus_units.specs.Parts.parts_list}
+use Rattle.abc_faults.specs.Faults.{any_off, fault_if, faults_of, faults_in, grace_faults, is_free, sound_faults}
 use Rattle.abc_words.specs.Verses.{verse_fault, first_of as head_of}
-use Rattle.abc_score.{specs.declared.voices.VoiceRead.VoiceRead, specs.Faults.voice_faults, specs.Faults.faults_of_voices, specs.Score.most_measures, specs.Score.own_measures, proofs.Basics.none_before, proofs.Basics.none_behind}
+use Rattle.abc_steps.specs.{Counts.{further, measure_at, measures_begun}, Places.{place_at, measure_of}, Looks.{Steps, since_event}, Kinds.is_event}
+use Rattle.abc_steps.specs.Lengths.{written_length}
+use Rattle.abc_steps.specs.declared.{step.{Item.Item, Sound.Sound, Step.Step, Stood.Stood}, force.InForce.InForce, place.Place.Place}
+use Rattle.abc_score.proofs.Basics.{none_before, none_behind}
+use Rattle.abc_score.specs.{declared.voices.VoiceRead.VoiceRead, Faults.{voice_faults, faults_of_voices}, Score.{most_measures, own_measures}}
 
 -- a test that gives no fault
 pub no_fault : (b : Bool) (kind : FaultKind) (at : Stood) → fault_if b kind at ≡ [] → b ≡ false
@@ -39,7 +43,8 @@ pub record IsClearRest (now : Place) (before : Steps) (count : ℕ) : Type 0 whe
   pub within : measure_of now + (count - 1) < 2000
   pub graces : grace_faults now.force.clef (since_event before) ≡ []
 
-pub rest_clear : (now : Place) (before behind : Steps) (at : Stood) (seen : Bool) (count : ℕ) → faults_of now before at behind (Step.Measures seen count) ≡ []
+pub rest_clear : (now : Place) (before behind : Steps) (at : Stood) (seen : Bool) (count : ℕ)
+    → faults_of now before at behind (Step.Measures seen count) ≡ []
     → IsClearRest now before count
 unfolding faults_of
 rest_clear now before behind at seen count e =

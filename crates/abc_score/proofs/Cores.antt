@@ -1,12 +1,13 @@
 -- The events of a body, each with the graces before it, whatever tuplets are around them.
 use Rattle.std.proofs.Common.{◌≡◌, ◌∙◌, refl, sym, ap, subst, ℕ, suc, ◌*◌, List, [], ◌∷◌, ◌++◌, map, length, append-nil, append_assoc, IfSome}
-use Rattle.std.{proofs.lemmas.List.{map-append, Concat.flat_map-append, Elements.{All-nil, All-cons}}, specs.{Prelude.{⊤, flat_map}, List.{All, AllByRecursion}}}
-use Rattle.mus_units.specs.{declared.pitch.Clef.Clef, Good.IsGoodKey, Good.IsGoodMeter}
-use Rattle.mus_score.specs.declared.{score.{Event.Event, Flat.Flat, Music.Music}, times.Waits.Waits}
-use Rattle.mus_score.specs.GoodScore.{AreCounted, AreInReach, IsGoodEvent, IsInReach, clef_at}
-use Rattle.mus_score.specs.Times.{Leafing, in_row, leaves_step, leaves_within, flats_of, nothing}
+use Rattle.std.proofs.lemmas.List.{map-append, Concat.flat_map-append, Elements.{All-nil, All-cons}}
+use Rattle.std.specs.{Prelude.{⊤, flat_map}, List.{All, AllByRecursion}}
+use Rattle.mus_units.specs.{declared.pitch.Clef.Clef, Good.{IsGoodKey, IsGoodMeter}}
 use Rattle.abc_events.specs.{Leaf.Leaf, Nesting.{Forest, none_more, one, group, nest, music_of, tree_of}}
 use Rattle.abc_score.proofs.{Basics.{front_all, back_all}, Rows.{rows, leaf_rows, nest_rows, at_tuplet}}
+use Rattle.mus_score.specs.GoodScore.{AreCounted, AreInReach, IsGoodEvent, IsInReach, clef_at}
+use Rattle.mus_score.specs.Times.{Leafing, in_row, leaves_step, leaves_within, flats_of, nothing}
+use Rattle.mus_score.specs.declared.{score.{Event.Event, Flat.Flat, Music.Music}, times.Waits.Waits}
 use Rattle.mus_score.specs.declared.score.Music.TheVariants as music
 
 -- an event and the graces before it

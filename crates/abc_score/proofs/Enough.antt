@@ -1,20 +1,21 @@
 -- Enough faults and weights tell the first fault of all.
-use Rattle.std.{
-  proofs.{
-    Common.{◌≡◌, ◌∙◌, refl, sym, ap, subst, List, [], ◌∷◌, ◌++◌, append_assoc, append-nil, map, Bool, true, false, Option, Some, None, ⊎_elim, inl, inr, arith},
-    Math.Logic.⊎_map,
-    lemmas.List.{Sums.sum_by-append, Elements.{Contains-append_left, Contains-append_right, Contains-append_cases, All-from_recursion, All-contains}},
-  },
-  specs.{Prelude.{◌<◌, ◌⊎◌}, List.{AllByRecursion, Contains}},
-}
-use Rattle.{abc_lines.specs.declared.fault.Fault.{Fault}, abc_score.specs.Judged.{HasCrowd, IsWithin, AreEnough, AreJudged}}
-use Rattle.abc_faults.{
-  specs.{declared.weights.Weight.Weight, First.{earlier, first_of, is_before, IsFirst}, Weights.{IsBehind, capped, count_up_to, crowd_fault, crowd_up_to, crowded, stands_before}},
-  proofs.{Caps.capped_append, Firsts.{first_append, not_before, not_before_itself}, Crowds.{IsFaultOf, before_all, crowd_held, fault_of, none_up_to, same_order, weight_held}},
-}
+use Rattle.std.proofs.{Common.{None, ⊎_elim, inl, inr, arith}, lemmas.List.Sums.sum_by-append, Math.Logic.⊎_map}
+use Rattle.std.proofs.Common.{◌≡◌, ◌∙◌, refl, sym, ap, subst, List, [], ◌∷◌, ◌++◌, append_assoc, append-nil, map, Bool, true, false, Option, Some}
+use Rattle.std.proofs.lemmas.List.Elements.{Contains-append_left, Contains-append_right, Contains-append_cases, All-from_recursion, All-contains}
+use Rattle.std.specs.{Prelude.{◌<◌, ◌⊎◌}, List.{AllByRecursion, Contains}}
+use Rattle.{abc_lines.specs.declared.fault.Fault.Fault, abc_score.specs.Judged.{HasCrowd, IsWithin, AreEnough, AreJudged}}
+use Rattle.abc_faults.proofs.{Crowds.{IsFaultOf, before_all, crowd_held, fault_of, none_up_to, same_order, weight_held}, Caps.capped_append}
+use Rattle.abc_faults.proofs.Firsts.{first_append, not_before, not_before_itself}
+use Rattle.abc_faults.specs.{First.{earlier, first_of, is_before, IsFirst}, declared.weights.Weight.Weight}
+use Rattle.abc_faults.specs.Weights.{IsBehind, capped, count_up_to, crowd_fault, crowd_up_to, crowded, stands_before}
 
 pub all_enough : (faults : List Fault) (all : List Weight) → AreEnough faults faults all all
-all_enough faults all = record { held = λ f h. h; within = λ w. (λ h. h, omega arith); others = λ f h. inl h; light = λ w. inl (λ h. h, omega arith) }
+all_enough faults all = record {
+  held = λ f h. h;
+  within = λ w. (λ h. h, omega arith);
+  others = λ f h. inl h;
+  light = λ w. inl (λ h. h, omega arith);
+}
 
 front_within : (xs ys : List Weight) (w : Weight) → IsWithin xs (xs ++ ys) w
 front_within xs ys w = (Contains-append_left xs ys w, omega (arith, sum_by-append (count_up_to w) xs ys))
@@ -23,86 +24,112 @@ back_within : (xs ys : List Weight) (w : Weight) → IsWithin ys (xs ++ ys) w
 back_within xs ys w = (Contains-append_right xs ys w, omega (arith, sum_by-append (count_up_to w) xs ys))
 
 -- ---- behind a crowd
-pub enough_behind : (some hidden : List Fault) (put light : List Weight) (at : Weight) → Contains put at → 50000 < crowd_up_to put at → AllByRecursion (λ f. is_before f (crowd_fault at) ≡ false) hidden
-    → AllByRecursion (IsBehind at) light → AreEnough some (some ++ hidden) put (put ++ light)
+pub enough_behind : (some hidden : List Fault) (put light : List Weight) (at : Weight) → Contains put at → 50000 < crowd_up_to put at
+    → AllByRecursion (λ f. is_before f (crowd_fault at) ≡ false) hidden → AllByRecursion (IsBehind at) light
+    → AreEnough some (some ++ hidden) put (put ++ light)
 enough_behind some hidden put light at held crowd late behind = record {
   held = Contains-append_left some hidden;
   within = front_within put light;
-  others = λ f h. ⊎_map (λ k. k) (λ k. by_crowd f (All-contains (λ f. is_before f (crowd_fault at) ≡ false) hidden f (All-from_recursion _ hidden late) k)) (Contains-append_cases some hidden f h);
+  others = λ f h. ⊎_map (λ k. k) (λ k. by_crowd f (held_in hidden late f k)) (Contains-append_cases some hidden f h);
   light = λ w. by_test w (stands_before w at) refl;
 } where
   by_crowd : (f : Fault) → is_before f (crowd_fault at) ≡ false → HasCrowd put f
   by_crowd f e = record { at = at; held = held; crowd = crowd; behind = e }
 
+  held_in : (fs : List Fault) → AllByRecursion (λ f. is_before f (crowd_fault at) ≡ false) fs → (f : Fault) → Contains fs f
+      → is_before f (crowd_fault at) ≡ false
+  held_in fs late f = All-contains (λ f. is_before f (crowd_fault at) ≡ false) fs f (All-from_recursion _ fs late)
+
   by_test : (w : Weight) (b : Bool) → stands_before w at ≡ b → IsWithin (put ++ light) put w ⊎ HasCrowd put (crowd_fault w)
   by_test w false e = inr (by_crowd (crowd_fault w) (same_order w at ∙ e))
   by_test w true e =
-      let not = λ (k : Contains light w). All-contains (IsBehind at) light w (All-from_recursion _ light behind) k in let none = none_up_to w light (before_all w at light e behind) in
-      inl (λ h. ⊎_elim (λ k. k) (λ k. let later : stands_before w at ≡ false = not k in absurd cc) (Contains-append_cases put light w h), omega (arith, none, sum_by-append (count_up_to w) put light))
+      let not = λ (k : Contains light w). All-contains (IsBehind at) light w (All-from_recursion _ light behind) k in
+      inl (
+        λ h. ⊎_elim (λ k. k) (λ k. let later : stands_before w at ≡ false = not k in absurd cc) (Contains-append_cases put light w h),
+        omega (arith, none_up_to w light (before_all w at light e behind), sum_by-append (count_up_to w) put light),
+      )
 
 -- ---- two parts
-held_both : {X : Type 0} (us vs xs ys : List X) (x : X) → (Contains us x → Contains xs x) → (Contains vs x → Contains ys x) → Contains (us ++ vs) x → Contains (xs ++ ys) x
-held_both us vs xs ys x a b h = ⊎_elim (λ k. Contains-append_left xs ys x (a k)) (λ k. Contains-append_right xs ys x (b k)) (Contains-append_cases us vs x h)
+held_both : {X : Type 0} (us vs xs ys : List X) (x : X) → (Contains us x → Contains xs x) → (Contains vs x → Contains ys x)
+    → Contains (us ++ vs) x → Contains (xs ++ ys) x
+held_both us vs xs ys x a b h =
+    ⊎_elim (λ k. Contains-append_left xs ys x (a k)) (λ k. Contains-append_right xs ys x (b k)) (Contains-append_cases us vs x h)
 
 within_both : (p q a b : List Weight) (w : Weight) → IsWithin p a w → IsWithin q b w → IsWithin (p ++ q) (a ++ b) w
-within_both p q a b w h i = (held_both p q a b w h.0 i.0, omega (arith, h.1, i.1, sum_by-append (count_up_to w) p q, sum_by-append (count_up_to w) a b))
+within_both p q a b w h i =
+    (held_both p q a b w h.0 i.0, omega (arith, h.1, i.1, sum_by-append (count_up_to w) p q, sum_by-append (count_up_to w) a b))
 
 crowd_within : (xs ys : List Weight) (f : Fault) → ((w : Weight) → IsWithin xs ys w) → HasCrowd xs f → HasCrowd ys f
 crowd_within xs ys f h c = record { at = c.at; held = (h c.at).0 c.held; crowd = omega (arith, c.crowd, (h c.at).1); behind = c.behind }
 
-enough_both : (s f : List Fault) (p a : List Weight) (t g : List Fault) (q b : List Weight) → AreEnough s f p a → AreEnough t g q b → AreEnough (s ++ t) (f ++ g) (p ++ q) (a ++ b)
-enough_both s f p a t g q b h i =
-    let front = λ (x : Fault). crowd_within p (p ++ q) x (front_within p q) in let back = λ (x : Fault). crowd_within q (p ++ q) x (back_within p q) in
+enough_both : {s f t g : List Fault} {p a q b : List Weight} → AreEnough s f p a → AreEnough t g q b → AreEnough (s ++ t) (f ++ g) (p ++ q) (a ++ b)
+enough_both {s = s} {f = f} {t = t} {g = g} {p = p} {a = a} {q = q} {b = b} h i =
+    let front = λ (x : Fault). crowd_within p (p ++ q) x (front_within p q) in
+    let back = λ (x : Fault). crowd_within q (p ++ q) x (back_within p q) in
     record {
       held = λ x. held_both s t f g x (h.held x) (i.held x);
       within = λ w. within_both p q a b w (h.within w) (i.within w);
-      others = λ x k. ⊎_elim (λ j. ⊎_map (Contains-append_left s t x) (front x) (h.others x j)) (λ j. ⊎_map (Contains-append_right s t x) (back x) (i.others x j)) (Contains-append_cases f g x k);
-      light = λ w. ⊎_elim (λ j. ⊎_map (λ k. within_both a b p q w j k) (back (crowd_fault w)) (i.light w)) (λ j. inr (front (crowd_fault w) j)) (h.light w);
+      others = λ x k.
+          ⊎_elim (λ j. ⊎_map (Contains-append_left s t x) (front x) (h.others x j))
+          (λ j. ⊎_map (Contains-append_right s t x) (back x) (i.others x j)) (Contains-append_cases f g x k);
+      light = λ w.
+          ⊎_elim (λ j. ⊎_map (λ k. within_both a b p q w j k) (back (crowd_fault w)) (i.light w)) (λ j. inr (front (crowd_fault w) j)) (h.light w);
     }
 
+-- ---- judged parts
 pub none_judged : (old : List Weight) → AreJudged [] [] None old old
 none_judged old = record { some = []; weights = []; first = refl; put = sym (append-nil old); enough = all_enough [] [] }
 
-pub judged_both : (f g : List Fault) (a b : List Weight) (found other : Option Fault) (old mid new : List Weight) → AreJudged f a found old mid → AreJudged g b other mid new → AreJudged (f ++ g) (a ++ b) (earlier found other) old new
-judged_both f g a b found other old mid new h i = record {
-  some = h.some ++ i.some;
-  weights = h.weights ++ i.weights;
-  first = ap (λ z. earlier z other) h.first ∙ (ap (earlier (first_of h.some)) i.first ∙ sym (first_append h.some i.some));
-  put = i.put ∙ (ap (λ z. z ++ map capped i.weights) h.put ∙ (append_assoc old (map capped h.weights) (map capped i.weights) ∙ ap (λ z. old ++ z) (sym (capped_append h.weights i.weights))));
-  enough = enough_both h.some f h.weights a i.some g i.weights b h.enough i.enough;
-}
+pub judged_both : {f g : List Fault} {a b : List Weight} {found other : Option Fault} {old mid new : List Weight} → AreJudged f a found old mid
+    → AreJudged g b other mid new → AreJudged (f ++ g) (a ++ b) (earlier found other) old new
+judged_both {other = other} {old = old} h i =
+    let both = append_assoc old (map capped h.weights) (map capped i.weights) ∙ ap (λ z. old ++ z) (sym (capped_append h.weights i.weights)) in
+    record {
+      some = h.some ++ i.some;
+      weights = h.weights ++ i.weights;
+      first = ap (λ z. earlier z other) h.first ∙ (ap (earlier (first_of h.some)) i.first ∙ sym (first_append h.some i.some));
+      put = i.put ∙ (ap (λ z. z ++ map capped i.weights) h.put ∙ both);
+      enough = enough_both h.enough i.enough;
+    }
 
 -- faults without weights
-pub judged_with : (f g : List Fault) (a : List Weight) (found other : Option Fault) (old new : List Weight) → AreJudged f a found old new → other ≡ first_of g → AreJudged (f ++ g) a (earlier found other) old new
-judged_with f g a found other old new h is =
+pub judged_with : {f : List Fault} {a : List Weight} {found other : Option Fault} {old new : List Weight} (g : List Fault)
+    → AreJudged f a found old new
+    → other ≡ first_of g → AreJudged (f ++ g) a (earlier found other) old new
+judged_with {f = f} {a = a} {found = found} {other = other} {old = old} {new = new} g h is =
     let more : AreJudged g [] other new new = record { some = g; weights = []; first = is; put = sym (append-nil new); enough = all_enough g [] } in
-    subst (λ z. AreJudged (f ++ g) z (earlier found other) old new) (append-nil a) (judged_both f g a [] found other old new new h more)
+    subst (λ z. AreJudged (f ++ g) z (earlier found other) old new) (append-nil a) (judged_both h more)
 
 -- ---- the first of all
-covered : (some faults : List Fault) (put all : List Weight) → AreEnough some faults put all → (f : Fault) → Contains (faults ++ crowded all) f → Contains some f ⊎ HasCrowd put f
-covered some faults put all h f k = ⊎_elim (h.others f) (λ j. by_weight (fault_of all all f j)) (Contains-append_cases faults (crowded all) f k) where
-  by_weight : IsFaultOf all all f → Contains some f ⊎ HasCrowd put f
-  by_weight o =
-      let w = o.weight in let itself = not_before_itself (crowd_fault w) in
-      let own : IsWithin all put w → HasCrowd put (crowd_fault w) = λ l. record { at = w; held = l.0 (weight_held all all f o); crowd = omega (arith, o.crowd, l.1); behind = itself } in
-      inr (subst (HasCrowd put) (sym o.is) (⊎_elim own (λ c. c) (h.light w)))
+module _ {some faults : List Fault} {put all : List Weight} (h : AreEnough some faults put all) where
+  covered : (f : Fault) → Contains (faults ++ crowded all) f → Contains some f ⊎ HasCrowd put f
+  covered f k = ⊎_elim (h.others f) (λ j. by_weight (fault_of all all f j)) (Contains-append_cases faults (crowded all) f k) where
+    by_weight : IsFaultOf all all f → Contains some f ⊎ HasCrowd put f
+    by_weight o =
+        let w = o.weight in
+        let itself = not_before_itself (crowd_fault w) in
+        let own : IsWithin all put w → HasCrowd put (crowd_fault w) =
+        λ l. record { at = w; held = l.0 (weight_held all all f o); crowd = omega (arith, o.crowd, l.1); behind = itself } in
+        inr (subst (HasCrowd put) (sym o.is) (⊎_elim own (λ c. c) (h.light w)))
 
--- one of those that are found, which the fault isn't before
-told : (some : List Fault) (put : List Weight) (f : Fault) → Contains some f ⊎ HasCrowd put f → (g : Fault) × (Contains (some ++ crowded put) g × (is_before f g ≡ false))
-told some put f (inl j) = (f, (Contains-append_left some (crowded put) f j, not_before_itself f))
-told some put f (inr c) = (crowd_fault c.at, (Contains-append_right some (crowded put) (crowd_fault c.at) (crowd_held put c.at c.held c.crowd), c.behind))
+  -- one of those that are found, which the fault isn't before
+  told : (f : Fault) → Contains some f ⊎ HasCrowd put f → (g : Fault) × (Contains (some ++ crowded put) g × (is_before f g ≡ false))
+  told f (inl j) = (f, (Contains-append_left some (crowded put) f j, not_before_itself f))
+  told f (inr c) = (crowd_fault c.at, (Contains-append_right some (crowded put) (crowd_fault c.at) (crowd_held put c.at c.held c.crowd), c.behind))
 
-crowd_kept : (put all : List Weight) → ((w : Weight) → IsWithin put all w) → (f : Fault) → IsFaultOf put put f → Contains (crowded all) f
-crowd_kept put all h f o = let w = o.weight in subst (Contains (crowded all)) (sym o.is) (crowd_held all w ((h w).0 (weight_held put put f o)) (omega (arith, o.crowd, (h w).1)))
+  crowd_kept : (f : Fault) → IsFaultOf put put f → Contains (crowded all) f
+  crowd_kept f o =
+      let within = h.within o.weight in
+      subst (Contains (crowded all)) (sym o.is) (crowd_held all o.weight (within.0 (weight_held put put f o)) (omega (arith, o.crowd, within.1)))
 
-none_if : (fs : List Fault) → ((f : Fault) → Contains fs f → ⊥) → fs ≡ []
-none_if [] h = refl
-none_if (f ∷ fs) h = absurd (h f (0, omega arith, refl))
+  none_if : (fs : List Fault) → ((f : Fault) → Contains fs f → ⊥) → fs ≡ []
+  none_if [] h = refl
+  none_if (f ∷ fs) h = absurd (h f (0, omega arith, refl))
 
-pub first_enough : (some faults : List Fault) (put all : List Weight) (found : Option Fault) → AreEnough some faults put all → IsFirst (some ++ crowded put) found → IsFirst (faults ++ crowded all) found
-first_enough some faults put all None h first =
-    none_if (faults ++ crowded all) (λ f k. let c = told some put f (covered some faults put all h f k) in let held = subst (λ fs. Contains fs c.0) first c.1.0 in absurd (omega (arith, held.1)))
-first_enough some faults put all (Some x) h first = record {
-  held = held_both some (crowded put) faults (crowded all) x (h.held x) (λ k. crowd_kept put all h.within x (fault_of put put x k)) first.held;
-  least = λ f k. let c = told some put f (covered some faults put all h f k) in not_before x c.0 f (first.least c.0 c.1.0) c.1.1;
-}
+  pub first_enough : (found : Option Fault) → IsFirst (some ++ crowded put) found → IsFirst (faults ++ crowded all) found
+  first_enough None first = none_if (faults ++ crowded all) (λ f k.
+      let c = told f (covered f k) in let held = subst (λ fs. Contains fs c.0) first c.1.0 in absurd (omega (arith, held.1)))
+  first_enough (Some x) first = record {
+    held = held_both some (crowded put) faults (crowded all) x (h.held x) (λ k. crowd_kept x (fault_of put put x k)) first.held;
+    least = λ f k. let c = told f (covered f k) in not_before x c.0 f (first.least c.0 c.1.0) c.1.1;
+  }

@@ -1,9 +1,11 @@
 -- The bars that are forced among n measures rise, each behind the first measure and before the last bar.
-use Rattle.std.{proofs.{Common.{◌≡◌, ℕ, ◌+◌, ◌≤◌, ◌<◌, List, [], ◌∷◌, ◌++◌, Bool, true, false, reverse, arith}, lemmas.Bool.{Decides.nat_tests, and_parts, or_parts, cond_both, leb-true, ltb-true}}, specs.{Prelude.{⊤, ◌==◌, ◌&&◌, nat_le, nat_lt}, List.list_any}}
-use Rattle.mus_score.specs.Walks.{RiseWithin}
-use Rattle.abc_steps.specs.{declared.step.Step.Step, declared.step.Stood.Stood, declared.counts.Counts.Counts, Looks.Steps, Counts.all_further, Counts.begins_group, Counts.counts_of, Counts.measure_at, Counts.nearest_at}
-use Rattle.abc_score.proofs.Basics.{either}
-use Rattle.{abc_events.specs.Bars.{forced_at, forced_bars, forced_behind, is_forced, with_bar}, abc_score.specs.{declared.voices.VoiceRead.VoiceRead, Score.forced_of}}
+use Rattle.std.proofs.Common.{◌≡◌, ℕ, ◌+◌, ◌≤◌, ◌<◌, List, [], ◌∷◌, ◌++◌, Bool, true, false, reverse, arith}
+use Rattle.std.proofs.lemmas.Bool.{Decides.nat_tests, and_parts, or_parts, cond_both, leb-true, ltb-true}
+use Rattle.std.specs.{Prelude.{⊤, ◌==◌, ◌&&◌, nat_le, nat_lt}, List.list_any}
+use Rattle.{mus_score.specs.Walks.RiseWithin, abc_events.specs.Bars.{forced_at, forced_bars, forced_behind, is_forced, with_bar}}
+use Rattle.abc_score.{proofs.Basics.either, specs.{declared.voices.VoiceRead.VoiceRead, Score.forced_of}}
+use Rattle.abc_steps.specs.{Counts.{all_further, begins_group, counts_of, measure_at, nearest_at}, Looks.Steps}
+use Rattle.abc_steps.specs.declared.{step.{Step.Step, Stood.Stood}, counts.Counts.Counts}
 
 -- bars that rise from behind one, before n and not past another
 abbrev Rises : ℕ → ℕ → ℕ → List ℕ → Type 0

@@ -1,11 +1,19 @@
 -- In each measure of a voice without faults tuplets are full and events good.
-use Rattle.std.{proofs.{Common.{◌≡◌, refl, sym, subst, ℕ, zero, suc, ◌+◌, ◌-◌, ◌≤◌, List, [], ◌∷◌, ◌++◌, Bool, true, false, cond, ◌==◌, reverse, take, arith}, lemmas.List.{reverse-append, Elements.{All-from_recursion, All-take, recursion_from_All}}}, specs.{Prelude.flat_map, List.{AllByRecursion, position_or_len}}}
-use Rattle.{mus_units.specs.{declared.note.Deco.Deco, declared.key.Meter.Meter, Good.IsGoodMeter}, mus_score.specs.{declared.score.Music.Music, Good.outside}}
-use Rattle.{abc_notes.specs.declared.part.GraceChord.{GraceChord}, abc_tokens.specs.Good.{AreGoodGraces}}
-use Rattle.abc_steps.specs.{declared.{step.{Step.Step, Stood.Stood}, force.InForce.InForce, place.Place.Place, tuplets.Taking.Taking}, Counts.{all_further, begins_group, further, groups, measure_at, nearest_at}, Force.force_at, Good.{IsGoodForce, IsGoodStep, IsGoodStood}, Kinds.{is_event, is_sound}, Looks.{Steps, since_event}, Places.{place_at, measure_of}, Tuplets.{after_event, is_compound, or_default, taking_at, taking_behind, usual_q}}
-use Rattle.abc_events.specs.{Leaf.Leaf, declared.written.Sign.Sign, Leaves.{Words, leaves_from, words_at}, Measures.leaves_in, Signs.{IsDrawn, further_rests, parted_at, rest_written, signs, signs_of, sound_written}, Waits.{graces_in, nothing, waiting_of}}
+use Rattle.std.proofs.{lemmas.List.{reverse-append, Elements.{All-from_recursion, All-take, recursion_from_All}}, Common.arith}
+use Rattle.std.proofs.Common.{◌≡◌, refl, sym, subst, ℕ, zero, suc, ◌+◌, ◌-◌, ◌≤◌, List, [], ◌∷◌, ◌++◌, Bool, true, false, cond, ◌==◌, reverse, take}
+use Rattle.std.specs.{Prelude.flat_map, List.{AllByRecursion, position_or_len}}
+use Rattle.{mus_units.specs.{declared.{note.Deco.Deco, key.Meter.Meter}, Good.IsGoodMeter}, abc_notes.specs.declared.part.GraceChord.GraceChord}
+use Rattle.{mus_score.specs.{declared.score.Music.Music, Good.outside}, abc_tokens.specs.Good.AreGoodGraces}
 use Rattle.abc_faults.specs.Faults.{ends_tuplets, faults_in, faults_of, is_free, sounds_behind}
-use Rattle.abc_score.proofs.{Nested.{HasSome, IsGoodAt, IsRatio, WellNested}, Judging.{IsFew, rest_good, rest_values, sound_good, sound_some}, Basics.{all_both, back_all, either, front_all, none_before, none_behind}, Clear.{rest_clear, sound_clear}, Walks.{Enough, next_enough, none_open, open_with, sound_parts, sounds_on, tuplet_clear, walk_force}}
+use Rattle.abc_steps.specs.{declared.{step.{Step.Step, Stood.Stood}, force.InForce.InForce, place.Place.Place, tuplets.Taking.Taking}, Force.force_at}
+use Rattle.abc_steps.specs.{Counts.{all_further, begins_group, further, groups, measure_at, nearest_at}, Good.{IsGoodForce, IsGoodStep, IsGoodStood}}
+use Rattle.abc_steps.specs.{Tuplets.{after_event, is_compound, or_default, taking_at, taking_behind, usual_q}, Places.{place_at, measure_of}}
+use Rattle.abc_steps.specs.{Kinds.{is_event, is_sound}, Looks.{Steps, since_event}}
+use Rattle.abc_events.specs.{Signs.{IsDrawn, further_rests, parted_at, rest_written, signs, signs_of, sound_written}, declared.written.Sign.Sign}
+use Rattle.abc_events.specs.{Waits.{graces_in, nothing, waiting_of}, Leaves.{Words, leaves_from, words_at}, Measures.leaves_in, Leaf.Leaf}
+use Rattle.abc_score.proofs.{Judging.{IsFew, rest_good, rest_values, sound_good, sound_some}, Nested.{HasSome, IsGoodAt, IsRatio, WellNested}}
+use Rattle.abc_score.proofs.{Basics.{all_both, back_all, either, front_all, none_before, none_behind}, Clear.{rest_clear, sound_clear}}
+use Rattle.abc_score.proofs.Walks.{Enough, next_enough, none_open, open_with, sound_parts, sounds_on, tuplet_clear, walk_force}
 
 -- ---- graces that wait
 all_reversed : {X : Type 0} (P : X → Type 0) (xs : List X) → AllByRecursion P xs → AllByRecursion P (reverse xs)
@@ -103,11 +111,13 @@ module _ (words : List Words) (k : ℕ) where
         → AllByRecursion IsGoodStood before → IsGoodStep s → faults_of (place_at first before) before at behind s ≡ []
         → AllByRecursion IsDrawn (signs_of (place_at first before) before at behind s)
         → Enough (taking_at before) (cond (ends_tuplets s) 0 (cond (is_sound s) 1 0 + sounds_behind behind))
-        → AreNested (cond (begins_group s (nearest_at before)) (groups before + 1) (groups before) + (all_further before + further s)) (taking_behind s (taking_at before)) rest
+        → AreNested (cond (begins_group s (nearest_at before)) (groups before + 1) (groups before) + (all_further before + further s))
+        (taking_behind s (taking_at before)) rest
         → AreNested (measure_at before) (taking_at before) (signs_of (place_at first before) before at behind s ++ rest)
     unfolding signs_of faults_of sound_written rest_written begins_group further taking_behind ends_tuplets is_sound
     step_full before behind at (Step.Sound s) rest force goods good e drawn enough h j id =
-        let now = place_at first before in let w = sound_written now before at s behind in let waiting = waiting_of now.force (since_event before) s.decos in
+        let now = place_at first before in let w = sound_written now before at s behind in
+        let waiting = waiting_of now.force (since_event before) s.decos in
         let graces = waiting_graces now.force before s.decos goods in let clear = sound_clear now before behind at s e in
         at_leaf k _ _ (taking_at before) _ _ _ (no_further before) (λ h. (
           open_with _ _ enough,
@@ -128,7 +138,8 @@ module _ (words : List Words) (k : ℕ) where
     step_full before behind at (Step.Tuplet p q r) rest force goods good e drawn enough h j id =
         let now = place_at first before in let clear = tuplet_clear (or_default p r) now.taking at behind e in
         let takes = default_within (usual_q p now.force.meter) q (usual_within p now.force.meter) good.q_high in
-        let ratio : IsRatio p (or_default (usual_q p now.force.meter) q) = record { p_low = good.p_low; p_high = good.p_high; q_low = takes.0; q_high = takes.1 } in
+        let ratio : IsRatio p (or_default (usual_q p now.force.meter) q) =
+        record { p_low = good.p_low; p_high = good.p_high; q_low = takes.0; q_high = takes.1 } in
         rw clear.0 (at_leaf k _ _ (taking_at before) _ _ _ (no_further before) (λ h. (open_with _ _ enough, clear.0, ratio, h)) (h j id))
     step_full before behind at _ rest force goods good e drawn enough h j id =
         subst (λ i. WellNested (taken_in k i (taking_at before)) (leaves_in k (leaves_from words j id rest))) (no_further before) (h j id)

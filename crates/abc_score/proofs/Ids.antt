@@ -1,8 +1,12 @@
 -- The voices of a body: no two have one id, and at most 16 are mentioned.
-use Rattle.std.{proofs.{Common.{◌≡◌, refl, sym, ap, subst, ℕ, ◌+◌, ◌≤◌, List, [], ◌∷◌, ◌++◌, length, map, Bool, true, false, cond, None, ⊎_elim, arith}, lemmas.{Bool.{cases_Bool, cond_both, Decides.{nat_tests, not_from_Decides}, or_parts}, List.{Sums.sum_by-cons, length-map}, Slice.Eq.bytes_eq-Decides}}, specs.{Prelude.{◌≢◌, count_by, fold, nat_lt}, List.list_any, Str.bytes_eq}}
-use Rattle.{abc_lines.specs.declared.book.Line.{Line}, abc_header.specs.{declared.header.Header.Header, Headers.AreDistinct, Headers.HasGoodValues, Voicing.with_id}, abc_fields.specs.declared.voice.VoiceDef.{VoiceDef}}
-use Rattle.{abc_steps.specs.declared.step.Item.{Item}, abc_items.specs.{Voices.{claims, declared_ids, ids_after, ids_by_step, ids_of, start_of, starts_of}, Body.{Given, gives, fails, first_fault, items_in, judged, IsBody}}}
+use Rattle.std.{specs.{Prelude.{◌≢◌, count_by, fold, nat_lt}, List.list_any, Str.bytes_eq}, proofs.lemmas.Slice.Eq.bytes_eq-Decides}
+use Rattle.std.proofs.Common.{◌≡◌, refl, sym, ap, subst, ℕ, ◌+◌, ◌≤◌, List, [], ◌∷◌, ◌++◌, length, map, Bool, true, false, cond, None, ⊎_elim, arith}
+use Rattle.std.proofs.lemmas.{Bool.{cases_Bool, cond_both, Decides.{nat_tests, not_from_Decides}, or_parts}, List.{Sums.sum_by-cons, length-map}}
+use Rattle.{abc_lines.specs.declared.book.Line.Line, abc_fields.specs.declared.voice.VoiceDef.VoiceDef, abc_steps.specs.declared.step.Item.Item}
+use Rattle.abc_header.specs.{declared.header.Header.Header, Headers.{AreDistinct, HasGoodValues}, Voicing.with_id}
 use Rattle.abc_score.specs.Voices.{AreApart, IsOther, read_ids, voice_read, voices_read}
+use Rattle.abc_items.specs.Body.{Given, gives, fails, first_fault, items_in, judged, IsBody}
+use Rattle.abc_items.specs.Voices.{claims, declared_ids, ids_after, ids_by_step, ids_of, start_of, starts_of}
 
 differ : (s t : List ℕ) → bytes_eq s t ≡ false → s ≢ t
 differ s t e = not_from_Decides (bytes_eq s t) (bytes_eq-Decides s t) e
@@ -28,14 +32,16 @@ not_counted : (id : List ℕ) (defs : List VoiceDef) → times id defs ≤ 0 →
 not_counted id [] none = tt
 not_counted id (def ∷ defs) none =
     let whole = times_on id def defs in
-    ⊎_elim (λ e. let one = ap {B = ℕ} (λ t. cond t 1 0) e in absurd (omega (arith, whole, one, none))) (λ e. (differ id def.id e, not_counted id defs (omega (arith, whole, none))))
+    ⊎_elim (λ e. let one = ap {B = ℕ} (λ t. cond t 1 0) e in absurd (omega (arith, whole, one, none)))
+    (λ e. (differ id def.id e, not_counted id defs (omega (arith, whole, none))))
     (cases_Bool (bytes_eq id def.id))
 
 declared_apart : (defs : List VoiceDef) → AreDistinct defs → AreApart (map (λ (def : VoiceDef). def.id) defs)
 declared_apart [] distinct = tt
 declared_apart (def ∷ defs) distinct =
     let once = distinct def.id in let itself = ap {B = ℕ} (λ t. cond t 1 0) ((bytes_eq-Decides def.id def.id).1 refl) in
-    (not_counted def.id defs (omega (arith, itself, times_on def.id def defs, once)), declared_apart defs (λ id. omega (arith, times_on id def defs, distinct id)))
+    let others = declared_apart defs (λ id. omega (arith, times_on id def defs, distinct id)) in
+    (not_counted def.id defs (omega (arith, itself, times_on def.id def defs, once)), others)
 
 -- those of a body
 item_apart : (ids : List (List ℕ)) (i : Item) → AreApart ids → AreApart (ids_after ids i)
@@ -69,14 +75,16 @@ few_given ids (gives (Item.Voice def line column) ∷ given) few clear =
     ⊎_elim (λ e. let over = rw e at clear in absurd cc) (λ e. few_given (with_id ids def.id) given (grind (arith, nat_tests, e)) (rw e at clear))
     (cases_Bool (nat_lt 16 (length (with_id ids def.id))))
 
-pub few_ids : (header : Header) (lines : List Line) (items : List Item) → HasGoodValues header → IsBody header lines items → length (ids_of header items) ≤ 16
+pub few_ids : (header : Header) (lines : List Line) (items : List Item) → HasGoodValues header → IsBody header lines items
+    → length (ids_of header items) ≤ 16
 few_ids header lines items good body =
     let declared = length-map header.voices (λ (def : VoiceDef). def.id) in
     subst (λ (is : List Item). length (ids_of header is) ≤ 16) (sym body.are)
     (few_given (declared_ids header) body.given (omega (arith, declared, good.few)) body.clear)
 
 -- those of the voices that are read
-ids_read : (header : Header) (items : List Item) (ids : List (List ℕ)) → read_ids (map (voice_read header items) (map (start_of header items) ids)) ≡ ids
+ids_read : (header : Header) (items : List Item) (ids : List (List ℕ))
+    → read_ids (map (voice_read header items) (map (start_of header items) ids)) ≡ ids
 ids_read header items [] = refl
 ids_read header items (id ∷ ids) = ap (λ others. id ∷ others) (ids_read header items ids)
 
@@ -86,4 +94,5 @@ few_read header items few =
 
 pub apart_read : (header : Header) (items : List Item) → HasGoodValues header → AreApart (read_ids (voices_read header items))
 apart_read header items good =
-    subst AreApart (sym (ids_read header items (ids_of header items))) (items_apart (declared_ids header) items (declared_apart header.voices good.distinct))
+    subst AreApart (sym (ids_read header items (ids_of header items)))
+    (items_apart (declared_ids header) items (declared_apart header.voices good.distinct))

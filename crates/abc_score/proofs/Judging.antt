@@ -1,11 +1,16 @@
 -- The nodes of a written event are good: of a note, a chord or a rest wherever it stands, and of a whole measure rest outside tuplets.
-use Rattle.std.{proofs.{Common.{◌≡◌, ◌∙◌, refl, ap, ℕ, suc, ◌+◌, ◌*◌, ◌≤◌, List, [], ◌∷◌, map, length, Bool, true, false, cond, ◌&&◌, ◌==◌, nat_le, None, unwrap_or, IsTrue, div-le_self, le_trans, mul-le-mul_right, lit≤, arith}, lemmas.{Bool.{Decides.nat_tests, and_from, or_left}, Nat.le-div}}, specs.List.AllByRecursion}
-use Rattle.mus_units.specs.{declared.note.Head.Head, declared.key.Meter.Meter, declared.value.Value.Value, declared.value.TheConstants.WHOLE, Good.IsGoodMeter, Good.is_halving, Value.value_length}
-use Rattle.mus_score.{specs.declared.score.Event.Event, specs.declared.good.Judged.Judged, specs.declared.good.Place.Place, specs.Good.good_step, specs.Good.judged_within, specs.Good.outside, proofs.Bounds.value_low, proofs.Bounds.value_high}
-use Rattle.{abc_notes.specs.declared.part.GraceChord.{GraceChord}, abc_tokens.specs.Good.{AreGoodGraces, HasGraceHead}}
+use Rattle.std.{proofs.Common.{None, unwrap_or, IsTrue, div-le_self, le_trans, mul-le-mul_right, lit≤, arith}, specs.List.AllByRecursion}
+use Rattle.std.proofs.Common.{◌≡◌, ◌∙◌, refl, ap, ℕ, suc, ◌+◌, ◌*◌, ◌≤◌, List, [], ◌∷◌, map, length, Bool, true, false, cond, ◌&&◌, ◌==◌, nat_le}
+use Rattle.std.proofs.lemmas.{Bool.{Decides.nat_tests, and_from, or_left}, Nat.le-div}
+use Rattle.{abc_notes.specs.declared.part.GraceChord.GraceChord, abc_tokens.specs.Good.{AreGoodGraces, HasGraceHead}, abc_faults.specs.Faults.is_free}
 use Rattle.abc_steps.specs.{declared.{step.Stood.Stood, tuplets.Taking.Taking, place.Place.Place as Stand}, Force.meter_ticks}
-use Rattle.abc_events.specs.{declared.written.{Written.Written, Waiting.Waiting}, Leaves.{Words, eighth, first_part, later_part, later_parts, parts, node_of, note_or_rest, grace_event, grace_note, grace_nodes, nodes_of}, Signs.{rest_written, whole_value}}
-use Rattle.{abc_faults.specs.Faults.{is_free}, abc_score.proofs.{Rows.at_note, Rows.at_rest, Rows.at_grace, Nested.IsGoodAt, Nested.HasSome, Nested.place_of, Nested.good_append, Nested.some_behind, Singing.parts_some}}
+use Rattle.abc_score.proofs.{Rows.{at_note, at_rest, at_grace}, Nested.{IsGoodAt, HasSome, place_of, good_append, some_behind}, Singing.parts_some}
+use Rattle.mus_units.specs.{declared.{note.Head.Head, key.Meter.Meter, value.{Value.Value, TheConstants.WHOLE}}, Good.{IsGoodMeter, is_halving}}
+use Rattle.mus_units.specs.Value.{value_length}
+use Rattle.mus_score.proofs.Bounds.{value_low, value_high}
+use Rattle.mus_score.specs.{declared.{score.Event.Event, good.{Judged.Judged, Place.Place}}, Good.{good_step, judged_within, outside}}
+use Rattle.abc_events.specs.{declared.written.{Written.Written, Waiting.Waiting}, Signs.{rest_written, whole_value}, Leaves.{grace_nodes, nodes_of}}
+use Rattle.abc_events.specs.Leaves.{Words, eighth, first_part, later_part, later_parts, parts, node_of, note_or_rest, grace_event, grace_note}
 
 -- ---- events
 pub record IsPlayed (e : Event) : Type 0 where
@@ -64,7 +69,8 @@ module _ (deeper : ℕ) (inner : Bool) where
 abbrev pub IsFew : Value → Type 0
 IsFew v = v.dots ≤ 3
 
-later_played : (w : Written) (verses id : ℕ) (vs : List Value) → w.whole ≡ None → AllByRecursion IsFew vs → AllByRecursion IsPlayed (later_parts w verses id vs)
+later_played : (w : Written) (verses id : ℕ) (vs : List Value) → w.whole ≡ None → AllByRecursion IsFew vs
+    → AllByRecursion IsPlayed (later_parts w verses id vs)
 unfolding later_part
 later_played w verses id [] none few = tt
 later_played w verses id (v ∷ vs) none few =
@@ -97,7 +103,8 @@ some_at at (e ∷ es) some = or_left _ _ (first e.heads) where
   first [] = ap (λ (j : Place → Judged). (j at).some) (at_rest good_step e)
   first (h ∷ hs) = ap (λ (j : Place → Judged). (j at).some) (at_note good_step e)
 
-pub sound_some : (at : Place) (w : Written) (waiting : Waiting) (words : Words) (id : ℕ) → 1 ≤ length w.values → HasSome at (nodes_of w waiting words id)
+pub sound_some : (at : Place) (w : Written) (waiting : Waiting) (words : Words) (id : ℕ) → 1 ≤ length w.values
+    → HasSome at (nodes_of w waiting words id)
 sound_some at w waiting words id some =
     some_behind at (grace_nodes waiting.graces waiting.slash) _ (some_at at _ (parts_some w waiting words id w.values some))
 

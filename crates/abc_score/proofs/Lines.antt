@@ -1,9 +1,13 @@
 -- The words of a body stand on its lines in their order, so their lines rise.
-use Rattle.std.{proofs.Common.{◌≡◌, ◌∙◌, refl, sym, ap, subst, ℕ, zero, suc, ◌≤◌, ◌<◌, List, [], ◌∷◌, ◌++◌, Bool, true, false, Option, Some, None, drop, arith}, specs.Prelude.{⊤, flat_map, Result, Ok, Err}}
-use Rattle.{abc_lines.specs.{declared.book.Line.Line, declared.fault.Fault.Fault, declared.fault.FaultKind.FaultKind, declared.kind.LineKind.LineKind, Good.NumbersRise, Kinds.kind_of}, abc_pieces.specs.declared.token.Token.{Token}}
-use Rattle.{abc_tokens.specs.declared.token.Placed.{Placed}, abc_fields.specs.{declared.directive.Breaks.Breaks, declared.field.Field.Field, Fields.field_of, Fields.named_field}, abc_header.specs.declared.header.Header.{Header}}
-use Rattle.{abc_steps.specs.declared.step.Item.{Item}, abc_items.specs.Body.{Given, gives, fails, field_item, field_given, cut_given, is_on, token_given, placed_given, end_given, KindGives, BodyGives, no_lines, one_line, items_in, IsBody}}
-use Rattle.abc_score.specs.Order.{DoWordsRiseFrom, DoWordsRise}
+use Rattle.std.{specs.Prelude.{⊤, flat_map, Result, Ok, Err}, proofs.Common.{drop, arith}}
+use Rattle.std.proofs.Common.{◌≡◌, ◌∙◌, refl, sym, ap, subst, ℕ, zero, suc, ◌≤◌, ◌<◌, List, [], ◌∷◌, ◌++◌, Bool, true, false, Option, Some, None}
+use Rattle.{abc_pieces.specs.declared.token.Token.Token, abc_tokens.specs.declared.token.Placed.Placed, abc_steps.specs.declared.step.Item.Item}
+use Rattle.abc_fields.specs.{declared.{directive.Breaks.Breaks, field.Field.Field}, Fields.{field_of, named_field}}
+use Rattle.{abc_header.specs.declared.header.Header.Header, abc_score.specs.Order.{DoWordsRiseFrom, DoWordsRise}}
+use Rattle.abc_lines.specs.{declared.{book.Line.Line, fault.{Fault.Fault, FaultKind.FaultKind}, kind.LineKind.LineKind}, Good.NumbersRise}
+use Rattle.abc_lines.specs.Kinds.{kind_of}
+use Rattle.abc_items.specs.Body.{Given, gives, fails, field_item, field_given, cut_given, is_on, token_given, placed_given, end_given, KindGives}
+use Rattle.abc_items.specs.Body.{BodyGives, no_lines, one_line, items_in, IsBody}
 
 -- words that are given on a line
 abbrev AreAt : ℕ → List Given → Type 0
@@ -54,7 +58,8 @@ from_lower low high [] less rise = tt
 from_lower low high (Item.Words text line ∷ items) less rise = let first : high ≤ line = rise.0 in (omega arith, rise.1)
 from_lower low high (_ ∷ items) less rise = from_lower low high items less rise
 
-with_line : (line low : ℕ) (g : List Given) (others : List Item) → low ≤ line → AreAt line g → DoWordsRiseFrom line others → DoWordsRiseFrom low (items_in g ++ others)
+with_line : (line low : ℕ) (g : List Given) (others : List Item) → low ≤ line → AreAt line g → DoWordsRiseFrom line others
+    → DoWordsRiseFrom low (items_in g ++ others)
 with_line line low [] others less are rise = from_lower low line others less rise
 with_line line low (gives (Item.Words text at) ∷ g) others less are rise =
     let same : at ≡ line = are.0 in (omega arith, with_line line at g others (omega arith) are.1 rise)
@@ -95,8 +100,8 @@ rise_behind lines zero rise = rise
 rise_behind [] (suc k) rise = tt
 rise_behind (line ∷ lines) (suc k) rise = rise_behind lines k (others_rise line lines rise)
 
-pub words_rise_behind : (header : Header) (lines behind : List Line) (items found : List Item) (k : ℕ) → NumbersRise lines → behind ≡ drop k lines
-    → IsBody header behind items → found ≡ items → DoWordsRise found
-words_rise_behind header lines behind items found k rise cut body same =
+pub words_rise_behind : {header : Header} {behind : List Line} {items found : List Item} (lines : List Line) (k : ℕ) → NumbersRise lines
+    → behind ≡ drop k lines → IsBody header behind items → found ≡ items → DoWordsRise found
+words_rise_behind {header = header} {behind = behind} lines k rise cut body same =
     let own = subst NumbersRise (sym cut) (rise_behind lines k rise) in
     subst DoWordsRise (sym (same ∙ body.are)) (given_rise header.breaks behind body.given 0 body.gives_so own (from_zero behind))

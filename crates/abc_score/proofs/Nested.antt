@@ -1,8 +1,9 @@
 -- The tree of a measure is good where its tuplets are full and its events good.
-use Rattle.std.{proofs.{Common.{◌≡◌, ◌∙◌, refl, sym, ap, subst, ℕ, zero, suc, ◌+◌, ◌-◌, ◌≤◌, List, [], ◌∷◌, ◌++◌, map, Bool, true, false, cond, ◌&&◌, ◌||◌, nat_le, arith}, lemmas.Bool.{and_parts, and_from, or_left, or_right, Decides.nat_tests}}, specs.Prelude.⊤}
-use Rattle.mus_score.specs.{declared.score.Music.Music, declared.good.Judged.Judged, declared.good.Place.Place, Good.all_judged, Good.good_step, Good.judged_within, Good.outside}
-use Rattle.abc_steps.specs.{declared.tuplets.Taking.Taking, Tuplets.fits, Tuplets.one_less, Tuplets.after_event, Tuplets.opened}
-use Rattle.{abc_events.specs.{Leaf.Leaf, Nesting.Forest, Nesting.none_more, Nesting.one, Nesting.group, Nesting.cut, Nesting.nest, Nesting.music_of, Nesting.tree_of}, abc_score.proofs.Rows.{at_tuplet}}
+use Rattle.std.{proofs.{lemmas.Bool.{and_parts, and_from, or_left, or_right, Decides.nat_tests}, Common.{◌||◌, nat_le, arith}}, specs.Prelude.⊤}
+use Rattle.std.proofs.Common.{◌≡◌, ◌∙◌, refl, sym, ap, subst, ℕ, zero, suc, ◌+◌, ◌-◌, ◌≤◌, List, [], ◌∷◌, ◌++◌, map, Bool, true, false, cond, ◌&&◌}
+use Rattle.mus_score.specs.{declared.{score.Music.Music, good.{Judged.Judged, Place.Place}}, Good.{all_judged, good_step, judged_within, outside}}
+use Rattle.{abc_steps.specs.{declared.tuplets.Taking.Taking, Tuplets.{fits, one_less, after_event, opened}}, abc_score.proofs.Rows.at_tuplet}
+use Rattle.abc_events.specs.{Leaf.Leaf, Nesting.{Forest, none_more, one, group, cut, nest, music_of, tree_of}}
 use Rattle.mus_score.specs.declared.score.Music.TheVariants as music
 
 -- ---- bodies at a place
@@ -105,7 +106,8 @@ behind_two (suc r) s rest f is fine =
     let same : s - suc r ≡ rest = omega arith in
     let own = subst (λ n. FineTwo (suc r) n f) same (subst (λ t. Fine t f) (two_left _ _ r s refl refl) fine) in (own.taken, own.others, own.behind)
 
-event_fine : (t : Taking) (nodes : List Music) (f : Forest) → IsOpen t → IsGoodAt (place_of t) nodes → HasSome (place_of t) nodes → Fine (after_event t) f
+event_fine : (t : Taking) (nodes : List Music) (f : Forest) → IsOpen t → IsGoodAt (place_of t) nodes → HasSome (place_of t) nodes
+    → Fine (after_event t) f
     → Fine t (one nodes f)
 unfolding after_event
 event_fine Taking.Nothing nodes f is good some fine = good_append outside nodes (music_of f) good fine

@@ -1,9 +1,13 @@
 -- The parts of a written event as a good voice asks for them: numbered, within reach, with words and good changes.
-use Rattle.std.{proofs.{Common.{◌≡◌, refl, sym, subst, ℕ, suc, ◌+◌, ◌≤◌, ◌<◌, List, [], ◌∷◌, ◌++◌, map, length, None, IfSome, unwrap_or, arith}, lemmas.List.{length-replicate, Elements.{All-nil, All-cons, All-from_recursion}}}, specs.{Prelude.{⊤, flat_map}, List.{All, AllByRecursion}}}
-use Rattle.mus_units.specs.{declared.note.Head.Head, declared.pitch.Clef.Clef, declared.value.Value.Value, Good.IsGoodKey, Good.IsGoodMeter}
-use Rattle.{mus_score.specs.{declared.score.Event.Event, GoodScore.IsInReach}, abc_notes.specs.declared.part.GraceChord.{GraceChord}}
-use Rattle.abc_events.specs.{declared.written.{Written.Written, Waiting.Waiting, Sign.Sign}, Leaves.{Words, first_part, later_part, later_parts, parts, some_more, later_head, grace_event, leaves_from, words_at}, Signs.with_tie}
-use Rattle.abc_score.{specs.Score.event_count, proofs.{Rows.leaf_rows, Cores.Core, Cores.CoresCount, Cores.CoresReach, Cores.IsGoodCore, Cores.IsSung, Cores.Reaches, Cores.sung, Singing.plain, Singing.with_graces, Singing.grace_of, Singing.nodes_sung, Singing.nodes_are_sung}}
+use Rattle.std.proofs.Common.{◌≡◌, refl, sym, subst, ℕ, suc, ◌+◌, ◌≤◌, ◌<◌, List, [], ◌∷◌, ◌++◌, map, length, None, IfSome, unwrap_or, arith}
+use Rattle.std.proofs.lemmas.List.{length-replicate, Elements.{All-nil, All-cons, All-from_recursion}}
+use Rattle.std.specs.{Prelude.{⊤, flat_map}, List.{All, AllByRecursion}}
+use Rattle.mus_units.specs.{declared.{note.Head.Head, pitch.Clef.Clef, value.Value.Value}, Good.{IsGoodKey, IsGoodMeter}}
+use Rattle.{mus_score.specs.{declared.score.Event.Event, GoodScore.IsInReach}, abc_notes.specs.declared.part.GraceChord.GraceChord}
+use Rattle.abc_events.specs.{declared.written.{Written.Written, Waiting.Waiting, Sign.Sign}, Signs.with_tie}
+use Rattle.abc_events.specs.Leaves.{Words, first_part, later_part, later_parts, parts, some_more, later_head, grace_event, leaves_from, words_at}
+use Rattle.abc_score.{proofs.{Cores.{Core, CoresCount, CoresReach, IsGoodCore, IsSung, Reaches, sung}, Rows.leaf_rows}, specs.Score.event_count}
+use Rattle.abc_score.proofs.Singing.{plain, with_graces, grace_of, nodes_sung, nodes_are_sung}
 
 -- ---- numbers
 later_count : (w : Written) (verses id from n : ℕ) (vs : List Value) (cs : List Core) → id ≡ from → from + length vs ≡ n → CoresCount n cs
@@ -22,7 +26,8 @@ parts_count gs w waiting words id n (v ∷ vs) cs e h = (refl, later_count w (le
 abbrev pub DoReach : Clef → List Head → Type 0
 DoReach clef hs = AllByRecursion (IsInReach clef) hs
 
-pub heads_reach : (clef : Clef) (f : Head → Head) → ((h : Head) → IsInReach clef h → IsInReach clef (f h)) → (hs : List Head) → DoReach clef hs → DoReach clef (map f hs)
+pub heads_reach : (clef : Clef) (f : Head → Head) → ((h : Head) → IsInReach clef h → IsInReach clef (f h)) → (hs : List Head) → DoReach clef hs
+    → DoReach clef (map f hs)
 heads_reach clef f keeps [] all = tt
 heads_reach clef f keeps (h ∷ hs) all = (keeps h all.0, heads_reach clef f keeps hs all.1)
 
@@ -36,10 +41,12 @@ later_reach clef w verses id (v ∷ vs) cs all h = (
   later_reach clef w verses (id + 1) vs cs all h,
 )
 
-graces_reach : (clef : Clef) (gs : List GraceChord) → AllByRecursion (λ (g : GraceChord). DoReach clef g.heads) gs → All (Reaches clef) (map grace_of gs)
+graces_reach : (clef : Clef) (gs : List GraceChord) → AllByRecursion (λ (g : GraceChord). DoReach clef g.heads) gs
+    → All (Reaches clef) (map grace_of gs)
 unfolding grace_event
 graces_reach clef [] all = All-nil (Reaches clef)
-graces_reach clef (g ∷ gs) all = All-cons (Reaches clef) (grace_of g) _ (All-from_recursion (IsInReach clef) g.heads all.0) (graces_reach clef gs all.1)
+graces_reach clef (g ∷ gs) all =
+    All-cons (Reaches clef) (grace_of g) _ (All-from_recursion (IsInReach clef) g.heads all.0) (graces_reach clef gs all.1)
 
 -- the clef behind what waits
 abbrev pub clef_of : Waiting → Clef → Clef
@@ -106,7 +113,8 @@ module _ (words : List Words) where
       (parts_count _ w waiting (words_at words k) id _ w.values _ refl (signs_count (k + 1) (id + length w.values) ss all.1))
   signs_count k id (Sign.Opens measure p q r ∷ ss) all = signs_count k id ss all.1
 
-  pub signs_reach : (k id : ℕ) (before : Clef) (ss : List Sign) → AllByRecursion IsWhole ss → SignsReach before ss → CoresReach before (cores_from words k id ss)
+  pub signs_reach : (k id : ℕ) (before : Clef) (ss : List Sign) → AllByRecursion IsWhole ss → SignsReach before ss
+      → CoresReach before (cores_from words k id ss)
   signs_reach k id before [] all reach = tt
   signs_reach k id before (Sign.Event w waiting ∷ ss) all reach =
       let clef = clef_of waiting before in let others = cores_from words (k + 1) (id + length w.values) ss in
@@ -115,7 +123,8 @@ module _ (words : List Words) where
       (signs_reach (k + 1) (id + length w.values) clef ss all.1 reach.2))
   signs_reach k id before (Sign.Opens measure p q r ∷ ss) all reach = signs_reach k id before ss all.1 reach
 
-  pub signs_good : (verses k id : ℕ) (ss : List Sign) → AllByRecursion IsWhole ss → ((j : ℕ) → j < k + event_count ss → length (words_at words j) ≡ verses)
+  pub signs_good : (verses k id : ℕ) (ss : List Sign) → AllByRecursion IsWhole ss
+      → ((j : ℕ) → j < k + event_count ss → length (words_at words j) ≡ verses)
       → AllByRecursion (IsGoodCore verses) (cores_from words k id ss)
   signs_good verses k id [] all each = tt
   signs_good verses k id (Sign.Event w waiting ∷ ss) all each =

@@ -1,11 +1,17 @@
 -- Heads and graces of a voice without faults are within reach, in the clef at their event.
-use Rattle.std.{proofs.{Common.{◌≡◌, ◌∙◌, refl, sym, ap, subst, ℕ, zero, suc, ◌+◌, ◌-◌, ℤ, pos, negsuc, ◌≤ℤ◌, int_lt, List, [], ◌∷◌, ◌++◌, Bool, true, false, cond, not, ◌||◌, Option, Some, None, is_some, unwrap_or, arith}, lemmas.{Int.ints, List.Sums.take_while-cons, Bool.or_parts}}, specs.{Prelude.flat_map, List.{AllByRecursion, before_first, list_any}}}
-use Rattle.{mus_units.specs.{declared.note.Head.Head, declared.note.Deco.Deco, declared.pitch.Clef.Clef, Pitch.height_of}}
-use Rattle.{abc_notes.specs.declared.part.GraceChord.{GraceChord}}
-use Rattle.abc_steps.specs.{declared.{step.{Step.Step, Stood.Stood}, force.InForce.InForce, place.Place.Place}, Force.{changes_at, force_at, force_behind, names_clef, when}, Kinds.is_event, Looks.{Steps, is_tied, since_event}, Places.{place_at, measure_of}}
-use Rattle.abc_events.{specs.{declared.written.Sign.Sign, Signs.{further_rests, rest_written, signs, signs_of, sound_written, tied_heads, with_tie}, Waits.{graces_in, waiting_of}}, proofs.BarRows.any_reverse}
+use Rattle.std.proofs.Common.{◌≡◌, ◌∙◌, refl, sym, ap, subst, ℕ, zero, suc, ◌+◌, ◌-◌, ℤ, pos, negsuc, ◌≤ℤ◌, int_lt, List, [], ◌∷◌, ◌++◌, Bool, true}
+use Rattle.std.proofs.Common.{false, cond, not, ◌||◌, Option, Some, None, is_some, unwrap_or, arith}
+use Rattle.std.proofs.lemmas.{Int.ints, List.Sums.take_while-cons, Bool.or_parts}
+use Rattle.std.specs.{Prelude.flat_map, List.{AllByRecursion, before_first, list_any}}
+use Rattle.mus_units.specs.{declared.{note.{Head.Head, Deco.Deco}, pitch.Clef.Clef}, Pitch.height_of}
+use Rattle.abc_notes.specs.declared.part.GraceChord.{GraceChord}
 use Rattle.abc_faults.specs.Faults.{any_grace_off, any_off, faults_in, faults_of, grace_faults, grace_faults_of, is_off}
-use Rattle.abc_score.proofs.{Parts.SignsReach, Parts.heads_reach, Parts.DoReach, Basics.all_both, Basics.with_tuplet, Basics.none_before, Basics.none_behind, Clear.no_fault, Clear.rest_clear, Clear.sound_clear}
+use Rattle.abc_steps.specs.{declared.{step.{Step.Step, Stood.Stood}, force.InForce.InForce, place.Place.Place}, Looks.{Steps, is_tied, since_event}}
+use Rattle.abc_steps.specs.{Force.{changes_at, force_at, force_behind, names_clef, when}, Places.{place_at, measure_of}, Kinds.is_event}
+use Rattle.abc_events.{specs.declared.written.Sign.Sign, proofs.BarRows.any_reverse}
+use Rattle.abc_events.specs.{Signs.{further_rests, rest_written, signs, signs_of, sound_written, tied_heads, with_tie}, Waits.{graces_in, waiting_of}}
+use Rattle.abc_score.proofs.{Basics.{all_both, with_tuplet, none_before, none_behind}, Clear.{no_fault, rest_clear, sound_clear}}
+use Rattle.abc_score.proofs.Parts.{SignsReach, heads_reach, DoReach}
 
 -- ---- heads and graces
 height_reach : (z : ℤ) → int_lt z (negsuc 13) ≡ false → int_lt (pos 22) z ≡ false → (negsuc 13 ≤ℤ z) × (z ≤ℤ pos 22)
@@ -37,7 +43,8 @@ step_graces clef at _ e = tt
 waits_reach : (clef : Clef) (waits : Steps) → grace_faults clef waits ≡ [] → GracesReach clef (flat_map (λ s. graces_in s.step) waits)
 waits_reach clef [] e = tt
 waits_reach clef (s ∷ waits) e =
-    all_both (λ (g : GraceChord). DoReach clef g.heads) _ _ (step_graces clef s s.step (none_before _ _ e)) (waits_reach clef waits (none_behind _ _ e))
+    all_both (λ (g : GraceChord). DoReach clef g.heads) _ _ (step_graces clef s s.step (none_before _ _ e))
+    (waits_reach clef waits (none_behind _ _ e))
 
 waiting_reach : (clef : Clef) (now : InForce) (waits : Steps) (decos : List Deco) → grace_faults clef waits ≡ []
     → GracesReach clef (waiting_of now waits decos).graces
@@ -59,18 +66,21 @@ any_near (s ∷ before) = cond (is_event s.step) false (names_clef s.step || any
 abbrev any_clef : Steps → Bool
 any_clef steps = list_any (λ (s : Stood). names_clef s.step) steps
 
-near_is : (before : Steps) → any_clef (before_first (λ (s : Stood). is_event s.step) before) ≡ any_near before
+abbrev near_steps : Steps → Steps
+near_steps before = before_first (λ (s : Stood). is_event s.step) before
+
+near_is : (before : Steps) → any_clef (near_steps before) ≡ any_near before
 near_is [] = refl
 near_is (s ∷ before) =
     ap any_clef (take_while-cons (λ (s : Stood). not (is_event s.step)) s before) ∙ by_test (is_event s.step) (near_is before) where
-      by_test : (b : Bool) → any_clef (before_first (λ (s : Stood). is_event s.step) before) ≡ any_near before
-          → any_clef (cond (not b) (s ∷ before_first (λ (s : Stood). is_event s.step) before) []) ≡ cond b false (names_clef s.step || any_near before)
+      by_test : (b : Bool) → any_clef (near_steps before) ≡ any_near before
+          → any_clef (cond (not b) (s ∷ near_steps before) []) ≡ cond b false (names_clef s.step || any_near before)
       by_test true others = refl
       by_test false others = ap (λ b. names_clef s.step || b) others
 
 any_since : (before : Steps) → any_clef (since_event before) ≡ any_near before
 unfolding since_event
-any_since before = any_reverse (λ (s : Stood). names_clef s.step) (before_first (λ s. is_event s.step) before) ∙ near_is before
+any_since before = any_reverse (λ (s : Stood). names_clef s.step) (near_steps before) ∙ near_is before
 
 event_force : (s : Step) (now : InForce) → is_event s ≡ true → force_behind s now ≡ now
 unfolding is_event force_behind
@@ -109,7 +119,8 @@ clef_here first (s ∷ before) = by_test (is_event s.step) refl (clef_here first
 waiting_clef : (first : InForce) (before : Steps) (decos : List Deco)
     → unwrap_or (waiting_of (force_at first before) (since_event before) decos).changes.clef (event_clef first before) ≡ (force_at first before).clef
 unfolding waiting_of changes_at
-waiting_clef first before decos = ap (λ b. unwrap_or (when b (force_at first before).clef) (event_clef first before)) (any_since before) ∙ clef_here first before
+waiting_clef first before decos =
+    ap (λ b. unwrap_or (when b (force_at first before).clef) (event_clef first before)) (any_since before) ∙ clef_here first before
 
 -- ---- all steps
 further_reach : (clef : Clef) (now : Place) (at : Stood) (seen : Bool) (measure n : ℕ) (rest : List Sign) → SignsReach clef rest
@@ -118,7 +129,8 @@ unfolding rest_written
 further_reach clef now at seen measure zero rest h = h
 further_reach clef now at seen measure (suc n) rest h = (tt, tt, further_reach clef now at seen (measure + 1) n rest h)
 
-step_reach : (first : InForce) (before behind : Steps) (at : Stood) (s : Step) (rest : List Sign) → faults_of (place_at first before) before at behind s ≡ []
+step_reach : (first : InForce) (before behind : Steps) (at : Stood) (s : Step) (rest : List Sign)
+    → faults_of (place_at first before) before at behind s ≡ []
     → SignsReach (cond (is_event s) (force_at first before).clef (event_clef first before)) rest
     → SignsReach (event_clef first before) (signs_of (place_at first before) before at behind s ++ rest)
 unfolding signs_of sound_written rest_written is_event
@@ -129,14 +141,16 @@ step_reach first before behind at (Step.Sound s) rest e h =
     (tied_reach now.clef s.heads behind (all_reach now.clef s.heads clear.near), waiting_reach now.clef now waits s.decos clear.graces, h)
 step_reach first before behind at (Step.Measures seen count) rest e h =
     let place = place_at first before in let now = place.force in let waits = since_event before in
-    let clear = rest_clear place before behind at seen count e in let others = further_rests place at seen (measure_of place + 1) (count - 1) ++ rest in
+    let clear = rest_clear place before behind at seen count e in
+    let others = further_rests place at seen (measure_of place + 1) (count - 1) ++ rest in
     subst (λ (c : Clef). DoReach c [] × GracesReach c (waiting_of now waits []).graces × SignsReach c others) (sym (waiting_clef first before []))
     (tt, waiting_reach now.clef now waits [] clear.graces, further_reach now.clef place at seen (measure_of place + 1) (count - 1) rest h)
 step_reach first before behind at (Step.Tuplet p q r) rest e h =
     with_tuplet (λ z. SignsReach (event_clef first before) (z ++ rest)) (place_at first before) p q r (λ m x y z. h) h
 step_reach first before behind at _ rest e h = h
 
-walk_reach : (first : InForce) (before behind : Steps) → faults_in first before behind ≡ [] → SignsReach (event_clef first before) (signs first before behind)
+walk_reach : (first : InForce) (before behind : Steps) → faults_in first before behind ≡ []
+    → SignsReach (event_clef first before) (signs first before behind)
 walk_reach first before [] e = tt
 walk_reach first before (at ∷ behind) e =
     step_reach first before behind at at.step _ (none_before _ _ e) (walk_reach first (at ∷ before) behind (none_behind _ _ e))

@@ -1,8 +1,12 @@
 -- No event of a voice stands in an earlier measure than one before it, and none past its own measures.
-use Rattle.std.{proofs.{Common.{◌≡◌, refl, sym, ap, subst, ℕ, zero, suc, ◌+◌, ◌-◌, ◌≤◌, ◌<◌, List, [], ◌∷◌, ◌++◌, map, Bool, true, false, cond, reverse, max, append-nil, arith}}, specs.{Prelude.fold, List.AllByRecursion}}
-use Rattle.abc_steps.specs.{declared.{step.{Step.Step, Stood.Stood}, force.InForce.InForce, place.Place.Place}, Counts.{all_further, begins_group, further, groups, measure_at, measures_begun, nearest_at}, Kinds.is_event, Looks.{Steps}, Places.{place_at}}
-use Rattle.abc_events.specs.{declared.written.Sign.Sign, Leaves.Words, Leaves.leaves_from, Signs.further_rests, Signs.rest_written, Signs.signs, Signs.signs_of, Signs.sound_written}
-use Rattle.abc_score.{specs.declared.voices.VoiceRead.VoiceRead, specs.Score.most_measures, specs.Score.own_measures, proofs.{Basics.{either, with_tuplet}, Clear.turned, Segments.{Rise, rise_lower}}}
+use Rattle.std.{specs.{Prelude.fold, List.AllByRecursion}, proofs.Common.{max, append-nil, arith}}
+use Rattle.std.proofs.Common.{◌≡◌, refl, sym, ap, subst, ℕ, zero, suc, ◌+◌, ◌-◌, ◌≤◌, ◌<◌, List, [], ◌∷◌, ◌++◌, map, Bool, true, false, cond, reverse}
+use Rattle.abc_steps.specs.{Counts.{all_further, begins_group, further, groups, measure_at, measures_begun, nearest_at}, Places.place_at, Looks.Steps}
+use Rattle.abc_steps.specs.{declared.{step.{Step.Step, Stood.Stood}, force.InForce.InForce, place.Place.Place}, Kinds.is_event}
+use Rattle.abc_events.specs.{Signs.{further_rests, rest_written, signs, signs_of, sound_written}, Leaves.{Words, leaves_from}}
+use Rattle.abc_events.specs.declared.written.Sign.{Sign}
+use Rattle.abc_score.proofs.{Basics.{either, with_tuplet}, Clear.turned, Segments.{Rise, rise_lower}}
+use Rattle.abc_score.specs.{declared.voices.VoiceRead.VoiceRead, Score.{most_measures, own_measures}}
 
 -- ---- measures begun
 grows : (b : Bool) (g f n : ℕ) → g + f + n ≤ cond b (g + 1) g + (f + n)
@@ -24,7 +28,8 @@ begun_grows s before = let low = begun_le before in either (λ n. measures_begun
 begun_walk : (behind before : Steps) → measures_begun before ≤ measures_begun (reverse behind ++ before)
 begun_walk [] before = omega arith
 begun_walk (at ∷ behind) before =
-    let same : measures_begun (reverse behind ++ (at ∷ before)) ≡ measures_begun (reverse (at ∷ behind) ++ before) = ap measures_begun (turned at behind before) in
+    let same : measures_begun (reverse behind ++ (at ∷ before)) ≡ measures_begun (reverse (at ∷ behind) ++ before) =
+    ap measures_begun (turned at behind before) in
     omega (arith, begun_walk behind (at ∷ before), begun_grows at before, same)
 
 -- ---- one step more
@@ -45,7 +50,8 @@ module _ (words : List Words) (first : InForce) (top : ℕ) where
   step_rise : (before behind : Steps) (at : Stood) (s : Step) (rest : List Sign) → cond (is_event s) (measure_at before + further s + 1) 0 ≤ top
       → DoRise (measure_at before + further s) rest → DoRise (measure_at before) (signs_of (place_at first before) before at behind s ++ rest)
   unfolding signs_of sound_written rest_written is_event further
-  step_rise before behind at (Step.Sound s) rest less rise k id = (omega arith, omega (arith, less), lower (measure_at before) (measure_at before + 0) rest (omega arith) rise (k + 1) _)
+  step_rise before behind at (Step.Sound s) rest less rise k id =
+      (omega arith, omega (arith, less), lower (measure_at before) (measure_at before + 0) rest (omega arith) rise (k + 1) _)
   step_rise before behind at (Step.Measures seen count) rest less rise k id =
       let others = further_rise (place_at first before) at seen (measure_at before) (count - 1) _ rest refl (omega (arith, less)) rise in
       (omega arith, omega (arith, less), others (k + 1) _)
@@ -73,7 +79,8 @@ most_from : (ns : List ℕ) (most : ℕ) → most ≤ fold max most ns
 most_from [] most = omega arith
 most_from (n ∷ ns) most = omega (arith, most_from ns (max most n))
 
-own_within : (vs : List VoiceRead) (most top : ℕ) → fold max most (map own_measures vs) ≤ top → AllByRecursion (λ (v : VoiceRead). own_measures v ≤ top) vs
+own_within : (vs : List VoiceRead) (most top : ℕ) → fold max most (map own_measures vs) ≤ top
+    → AllByRecursion (λ (v : VoiceRead). own_measures v ≤ top) vs
 own_within [] most top less = tt
 own_within (v ∷ vs) most top less =
     (omega (arith, most_from (map own_measures vs) (max most (own_measures v)), less), own_within vs (max most (own_measures v)) top less)

@@ -1,9 +1,9 @@
 -- The events of a tree in a row: tuplets around them change neither what they are nor what they weigh.
 use Rattle.std.proofs.Common.{◌≡◌, ◌∙◌, refl, sym, ap, ℕ, zero, suc, ◌+◌, ◌-◌, List, [], ◌∷◌, ◌++◌, map, sum, sum_by, Bool, append_assoc, arith}
 use Rattle.std.proofs.lemmas.List.{map-append, Sums.{sum_by-cons, sum_by-append}}
-use Rattle.mus_score.specs.declared.score.{Event.Event, Music.{Music, TheOpen.Music-F, TheViews.roll-Music}}
-use Rattle.mus_score.specs.{declared.score.Music.TheFolds.{fold-Music, fold-roll-Music}, Good.{weight, weight_step}}
 use Rattle.abc_events.specs.{Leaf.Leaf, Nesting.{Forest, none_more, one, group, cut, nest, music_of}}
+use Rattle.mus_score.specs.Good.{weight, weight_step}
+use Rattle.mus_score.specs.declared.score.{Event.Event, Music.{Music, TheOpen.Music-F, TheViews.roll-Music, TheFolds.{fold-Music, fold-roll-Music}}}
 use Rattle.mus_score.specs.declared.score.Music.TheVariants as music
 
 -- the nodes of each event, from the first to the last
@@ -38,7 +38,8 @@ module _ {A : Type 0} (step : Music-F A → A) where
   unfolding roll-Music denote.Hole.Carrier.roll
   at_rest e = fold-roll-Music A step (Music-F.Rest e)
 
-  pub at_grace : (body : List Music) (slash : Bool) → fold-Music A step (music.Grace body slash) ≡ step (Music-F.Grace (map (fold-Music A step) body) slash)
+  pub at_grace : (body : List Music) (slash : Bool)
+      → fold-Music A step (music.Grace body slash) ≡ step (Music-F.Grace (map (fold-Music A step) body) slash)
   unfolding roll-Music denote.Hole.Carrier.roll
   at_grace body slash = fold-roll-Music A step (Music-F.Grace body slash)
 

@@ -1,8 +1,11 @@
 -- The measures of a voice one after the other are the voice, where no event stands in an earlier measure than one before it.
-use Rattle.std.{proofs.{Common.{◌≡◌, ◌∙◌, refl, sym, ap, subst, ℕ, zero, suc, ◌+◌, ◌≤◌, ◌<◌, List, [], ◌∷◌, ◌++◌, map, sum_by, length, true, false, cond, arith, ⊎_elim}, lemmas.{Bool.{cases_lt, ne_eqb, eq-eqb}, List.{map-append, Concat.flat_map-append, Folds.flat_map-map, Sums.{sum_by-cons, sum_by-append}}}}, specs.{Prelude.{⊤, flat_map, ◌==◌}, List.{AllByRecursion, range_with_len}}}
-use Rattle.{mus_units.specs.declared.note.Bar.{Bar}, mus_score.specs.{declared.score.Flat.Flat, declared.score.Music.Music, declared.score.Measure.Measure, GoodScore.events_of, Times.flats_of}}
-use Rattle.abc_events.specs.{Leaf.Leaf, Measures.leaves_in, Measures.measure_of, Measures.measures_in}
-use Rattle.abc_score.proofs.{Basics.either, Rows.leaf_rows, Rows.weight_of, Rows.tree_weight, Cores.core, Cores.IsSung, Cores.sung, Cores.tree_sings}
+use Rattle.std.proofs.{lemmas.Bool.{cases_lt, ne_eqb, eq-eqb}, Common.{cond, arith, ⊎_elim}}
+use Rattle.std.proofs.Common.{◌≡◌, ◌∙◌, refl, sym, ap, subst, ℕ, zero, suc, ◌+◌, ◌≤◌, ◌<◌, List, [], ◌∷◌, ◌++◌, map, sum_by, length, true, false}
+use Rattle.std.proofs.lemmas.List.{map-append, Concat.flat_map-append, Folds.flat_map-map, Sums.{sum_by-cons, sum_by-append}}
+use Rattle.std.specs.{Prelude.{⊤, flat_map, ◌==◌}, List.{AllByRecursion, range_with_len}}
+use Rattle.{mus_units.specs.declared.note.Bar.Bar, abc_events.specs.{Leaf.Leaf, Measures.{leaves_in, measure_of, measures_in}}}
+use Rattle.mus_score.specs.{declared.score.{Flat.Flat, Music.Music, Measure.Measure}, GoodScore.events_of, Times.flats_of}
+use Rattle.abc_score.proofs.{Basics.either, Rows.{leaf_rows, weight_of, tree_weight}, Cores.{core, IsSung, sung, tree_sings}}
 
 -- events that stand in no earlier measure than one before them, from a measure on, and before another
 abbrev pub Rise : ℕ → ℕ → List Leaf → Type 0
@@ -96,8 +99,10 @@ pub weight_in : (k : ℕ) (ls : List Leaf) → sum_by weight_of (rows_in k ls) �
 weight_in k [] = omega arith
 weight_in k (Leaf.Event m nodes ∷ ls) =
     let all = sum_by-cons weight_of nodes (leaf_rows ls) in let own = sum_by-cons weight_of nodes (rows_in k ls) in let less = weight_in k ls in
-    either (λ z. sum_by weight_of (leaf_rows z) ≤ sum_by weight_of (nodes ∷ leaf_rows ls)) (m == k) _ _ (omega (arith, less, all, own)) (omega (arith, less, all))
-weight_in k (Leaf.Opens m p q r ∷ ls) = subst (λ z. sum_by weight_of z ≤ sum_by weight_of (leaf_rows ls)) (sym (opens_in k m p q r ls)) (weight_in k ls)
+    either (λ z. sum_by weight_of (leaf_rows z) ≤ sum_by weight_of (nodes ∷ leaf_rows ls)) (m == k) _ _
+    (omega (arith, less, all, own)) (omega (arith, less, all))
+weight_in k (Leaf.Opens m p q r ∷ ls) =
+    subst (λ z. sum_by weight_of z ≤ sum_by weight_of (leaf_rows ls)) (sym (opens_in k m p q r ls)) (weight_in k ls)
 
 map_flat : {X : Type 0} (f : X → List Flat) (xs : List X) → map core (flat_map f xs) ≡ flat_map (λ x. map core (f x)) xs
 map_flat f [] = refl
@@ -116,12 +121,14 @@ module _ (leaves : List Leaf) (bars : List Bar) where
       ∙ flat_same _ _ (λ k. tree_sings (leaves_in k leaves) (kept_in IsSung k leaves all)) ks
       ∙ flat_flat sung (λ k. rows_in k leaves) ks ∙ ap (flat_map sung) (all_rows (length bars) leaves rise)
 
-  sum_each : (ks : List ℕ) → sum_by (λ (m : Measure). weight_of m.body) (map (measure_of leaves bars) ks) ≡ sum_by weight_of (flat_map (λ k. rows_in k leaves) ks)
+  sum_each : (ks : List ℕ)
+      → sum_by (λ (m : Measure). weight_of m.body) (map (measure_of leaves bars) ks) ≡ sum_by weight_of (flat_map (λ k. rows_in k leaves) ks)
   sum_each [] = refl
   sum_each (k ∷ ks) =
       let first = sum_by-cons (λ (m : Measure). weight_of m.body) (measure_of leaves bars k) (map (measure_of leaves bars) ks) in
       let both = sum_by-append weight_of (rows_in k leaves) (flat_map (λ k. rows_in k leaves) ks) in
       omega (arith, first, tree_weight (leaves_in k leaves), sum_each ks, both)
 
-  pub measures_weigh : Rise 0 (length bars) leaves → sum_by (λ (m : Measure). weight_of m.body) (measures_in leaves bars) ≡ sum_by weight_of (leaf_rows leaves)
+  pub measures_weigh : Rise 0 (length bars) leaves
+      → sum_by (λ (m : Measure). weight_of m.body) (measures_in leaves bars) ≡ sum_by weight_of (leaf_rows leaves)
   measures_weigh rise = sum_each (range_with_len 0 (length bars)) ∙ ap (sum_by weight_of) (all_rows (length bars) leaves rise)

@@ -1,10 +1,13 @@
 -- The nodes of a written event: its parts, the first with its graces, and what they weigh.
-use Rattle.std.proofs.{Common.{◌≡◌, ◌∙◌, refl, sym, ap, subst, ℕ, suc, ◌+◌, ◌*◌, ◌≤◌, max, List, [], ◌∷◌, ◌++◌, map, sum_by, length, Bool, arith}, lemmas.List.{length-map, Sums.sum_by-cons}}
-use Rattle.mus_units.specs.{declared.note.Head.Head, declared.value.Value.Value}
-use Rattle.mus_score.specs.{declared.score.Event.Event, declared.score.Music.TheOpen.Music-F, Good.weight, Good.weight_step, Times.Leafing, Times.in_row, Times.leaf, Times.leaves_step, Times.leaves_within, Times.nothing}
-use Rattle.abc_notes.specs.declared.part.GraceChord.{GraceChord}
-use Rattle.abc_events.specs.{declared.written.{Written.Written, Waiting.Waiting}, Leaves.{Words, first_part, later_part, later_parts, parts, some_more, node_of, note_or_rest, grace_event, grace_note, grace_nodes, nodes_of}}
-use Rattle.abc_score.proofs.{Rows.weight_of, Rows.weight_of-append, Rows.weight_of-cons, Rows.at_note, Rows.at_rest, Rows.at_grace, Cores.Core, Cores.core, Cores.Sings, Cores.sings_none, Cores.sings_append, Cores.sung, Cores.IsSung}
+use Rattle.std.proofs.Common.{◌≡◌, ◌∙◌, refl, sym, ap, subst, ℕ, suc, ◌+◌, ◌*◌, ◌≤◌, max, List, [], ◌∷◌, ◌++◌, map, sum_by, length, Bool, arith}
+use Rattle.std.proofs.lemmas.List.{length-map, Sums.sum_by-cons}
+use Rattle.{mus_units.specs.declared.{note.Head.Head, value.Value.Value}, abc_notes.specs.declared.part.GraceChord.GraceChord}
+use Rattle.mus_score.specs.{Times.{Leafing, in_row, leaf, leaves_step, leaves_within, nothing}, declared.score.{Event.Event, Music.TheOpen.Music-F}}
+use Rattle.mus_score.specs.Good.{weight, weight_step}
+use Rattle.abc_events.specs.{declared.written.{Written.Written, Waiting.Waiting}, Leaves.{grace_nodes, nodes_of}}
+use Rattle.abc_events.specs.Leaves.{Words, first_part, later_part, later_parts, parts, some_more, node_of, note_or_rest, grace_event, grace_note}
+use Rattle.abc_score.proofs.Cores.{Core, core, Sings, sings_none, sings_append, sung, IsSung}
+use Rattle.abc_score.proofs.Rows.{weight_of, weight_of-append, weight_of-cons, at_note, at_rest, at_grace}
 use Rattle.mus_score.specs.declared.score.Music.TheVariants as music
 
 -- ---- which events
@@ -48,7 +51,8 @@ group_sings : (gs : List GraceChord) (slash : Bool) (e : Event) (es : List Event
 group_sings gs slash e es =
     let body = map grace_note gs in let more = map leaves_within (map node_of es) in let is_grace = at_grace leaves_step body slash in
     let grace : Leafing = leaves_step (Music-F.Grace (map leaves_within body) slash) in
-    let own = node_leaf e.heads e in let behind = plain_sings es in let found = map (λ f. f.event) (in_row (map leaves_within body) 1 1 nothing).flats in
+    let own = node_leaf e.heads e in let behind = plain_sings es in
+    let found = map (λ f. f.event) (in_row (map leaves_within body) 1 1 nothing).flats in
     record {
       cores = λ qs ps w none.
           ap (λ (l : Leafing). map core (in_row (l ∷ leaves_within (node_of e) ∷ more) qs ps w).flats) is_grace
@@ -67,7 +71,8 @@ graced_sings gs slash [] some = absurd (omega arith)
 graced_sings [] slash (e ∷ es) some = plain_sings (e ∷ es)
 graced_sings (g ∷ gs) slash (e ∷ es) some = group_sings (g ∷ gs) slash e es
 
-pub parts_some : (w : Written) (waiting : Waiting) (words : Words) (id : ℕ) (vs : List Value) → 1 ≤ length vs → 1 ≤ length (parts w waiting words id vs)
+pub parts_some : (w : Written) (waiting : Waiting) (words : Words) (id : ℕ) (vs : List Value) → 1 ≤ length vs
+    → 1 ≤ length (parts w waiting words id vs)
 parts_some w waiting words id [] some = some
 parts_some w waiting words id (v ∷ vs) some = omega arith
 
@@ -92,7 +97,8 @@ one_more : (n m : ℕ) (e : Event) (es : List Event) → length e.heads ≡ m �
     → weight_of (map node_of (e ∷ es)) ≡ suc n * max 1 m
 one_more n m e es long others =
     weight_of-cons (node_of e) (map node_of es)
-    ∙ (ap (λ k. k + weight_of (map node_of es)) (heads_weight e.heads e refl ∙ ap (max 1) long) ∙ (ap (λ k. max 1 m + k) others ∙ next n (max 1 m))) where
+    ∙ ap (λ k. k + weight_of (map node_of es)) (heads_weight e.heads e refl ∙ ap (max 1) long)
+    ∙ (ap (λ k. max 1 m + k) others ∙ next n (max 1 m)) where
       next : (n m : ℕ) → m + n * m ≡ suc n * m
       next n m = omega arith
 

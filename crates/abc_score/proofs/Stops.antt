@@ -1,10 +1,16 @@
 -- Behind an event with which there are too many heads and rests no fault comes first.
-use Rattle.std.{proofs.{Common.{◌≡◌, ◌∙◌, refl, sym, ap, subst, ℕ, ◌+◌, List, [], ◌∷◌, ◌++◌, append_assoc, append-nil, drop, take, reverse, get_or, length, map, min, Bool, true, false, cond, Option, None, arith}, lemmas.{Bool.{and_parts, Decides.nat_tests}, List.{reverse-append, Sums.take_while-cons, Elements.Contains-append_right}}, Math.Seq.drop-append_seam}, specs.{Prelude.{◌<◌, not, flat_map}, List.{AllByRecursion, Contains, before_first, list_all}}}
-use Rattle.{abc_lines.specs.declared.fault.{Fault.Fault, FaultKind.FaultKind}, mus_units.specs.declared.pitch.Clef.{Clef}}
-use Rattle.abc_steps.specs.{declared.{step.{Step.Step, Stood.Stood}, force.InForce.InForce, place.Place.Place}, Kinds.is_event, Looks.{Steps, since_event}, Places.place_at, Tuplets.{fits, or_default}}
-use Rattle.abc_faults.specs.{declared.weights.Weight.Weight, First.{earlier, first_of, is_before}, Faults.{fault_at, fault_if, misfit_of, grace_faults_of, grace_faults, sound_faults, faults_of, faults_in}}
-use Rattle.abc_faults.{specs.Weights.{IsBehind, capped, crowd_fault, crowd_up_to, grace_weights_of, grace_weights, stands_before, weight_at, weights_in, weights_of}, proofs.{Caps.{capped_append, crowd_capped}, Firsts.first_append, Walks.at_front}}
+use Rattle.std.proofs.{Common.{length, min, Bool, true, false, cond, Option, None, arith}, Math.Seq.drop-append_seam}
+use Rattle.std.proofs.Common.{◌≡◌, ◌∙◌, refl, sym, ap, subst, ℕ, ◌+◌, List, [], ◌∷◌, ◌++◌, append_assoc, append-nil, drop, take, reverse, get_or, map}
+use Rattle.std.proofs.lemmas.{Bool.{and_parts, Decides.nat_tests}, List.{reverse-append, Sums.take_while-cons, Elements.Contains-append_right}}
+use Rattle.std.specs.{Prelude.{◌<◌, not, flat_map}, List.{AllByRecursion, Contains, before_first, list_all}}
+use Rattle.{abc_lines.specs.declared.fault.{Fault.Fault, FaultKind.FaultKind}, mus_units.specs.declared.pitch.Clef.Clef}
 use Rattle.abc_score.{specs.Judged.{AreEnough, AreJudged, IsEnd}, proofs.{Basics.{all_both, either}, Enough.{all_enough, enough_behind}}}
+use Rattle.abc_steps.specs.{declared.{step.{Step.Step, Stood.Stood}, force.InForce.InForce, place.Place.Place}, Looks.{Steps, since_event}}
+use Rattle.abc_steps.specs.{Tuplets.{fits, or_default}, Places.place_at, Kinds.is_event}
+use Rattle.abc_faults.proofs.{Caps.{capped_append, crowd_capped}, Firsts.first_append, Walks.at_front}
+use Rattle.abc_faults.specs.{First.{earlier, first_of, is_before}, declared.weights.Weight.Weight, Weights.{weights_in, weights_of}}
+use Rattle.abc_faults.specs.Faults.{fault_at, fault_if, misfit_of, grace_faults_of, grace_faults, sound_faults, faults_of, faults_in}
+use Rattle.abc_faults.specs.Weights.{IsBehind, capped, crowd_fault, crowd_up_to, grace_weights_of, grace_weights, stands_before, weight_at}
 
 -- ---- what waits since an event
 none_wait : (P : Stood → Type 0) (at : Stood) (before : Steps) → is_event at.step ≡ true → AllByRecursion P (since_event (at ∷ before))
@@ -14,7 +20,8 @@ none_wait P at before e =
     let none = take_while-cons (λ (s : Stood). not (is_event s.step)) at before ∙ ap (λ b. cond (not b) (at ∷ near) []) e in
     subst (λ z. AllByRecursion P (reverse z)) (sym none) tt
 
-more_wait : (P : Stood → Type 0) (s : Stood) (before : Steps) → AllByRecursion P (since_event before) → P s → AllByRecursion P (since_event (s ∷ before))
+more_wait : (P : Stood → Type 0) (s : Stood) (before : Steps) → AllByRecursion P (since_event before) → P s
+    → AllByRecursion P (since_event (s ∷ before))
 unfolding since_event
 more_wait P s before w h =
     let near = before_first (λ s. is_event s.step) before in
@@ -50,7 +57,8 @@ module _ (P : Fault → Type 0) where
   step_at now before at behind (Step.Sound s) w h = search (all_both, if_at, graces_at)
   step_at now before at behind (Step.Measures seen count) w h = search (all_both, if_at, graces_at)
   step_at now before at behind (Step.Tuplet p q r) w h =
-      either (AllByRecursion P) (fits (or_default p r) now.taking) _ (fault_at (misfit_of now.taking) at ∷ []) (if_at _ FaultKind.TupletShort at h) (h _, tt)
+      either (AllByRecursion P) (fits (or_default p r) now.taking) _ (fault_at (misfit_of now.taking) at ∷ [])
+      (if_at _ FaultKind.TupletShort at h) (h _, tt)
   step_at now before at behind (Step.Broken right dots) w h = if_at _ FaultKind.BrokenAlone at h
   step_at now before at behind _ w h = tt
 
@@ -112,7 +120,8 @@ event_weight : (now : Place) (before : Steps) (at : Stood) (behind : Steps) (s :
     → (n : ℕ) × Contains (weights_of now before at behind s) (weight_at n at)
 unfolding is_event weights_of
 event_weight now before at behind (Step.Sound s) e = (_, Contains-append_right (grace_weights (since_event before)) _ _ (0, omega arith, refl))
-event_weight now before at behind (Step.Measures seen count) e = (count, Contains-append_right (grace_weights (since_event before)) _ _ (0, omega arith, refl))
+event_weight now before at behind (Step.Measures seen count) e =
+    (count, Contains-append_right (grace_weights (since_event before)) _ _ (0, omega arith, refl))
 event_weight now before at behind _ e = absurd cc
 
 same_crowd : (ws : List Weight) (m n : ℕ) (at : Stood) → crowd_up_to ws (weight_at m at) ≡ crowd_up_to ws (weight_at n at)
@@ -136,17 +145,18 @@ more_so_far : {faults hidden rest : List Fault} {all light others : List Weight}
     → (own : List Fault) (put : List Weight) → IsSoFar faults hidden all light found old new → hidden ≡ own ++ rest → light ≡ put ++ others
     → mine ≡ first_of own → next ≡ earlier found mine → newer ≡ new ++ map capped put
     → (h : IsSoFar faults rest all others next old newer) × ((w : Weight) → Contains put w → Contains h.weights w)
-more_so_far {mine = mine} {old = old} own put h parts weights is_mine is_next is_newer = (
-  record {
-    some = h.some ++ own;
-    weights = h.weights ++ put;
-    first = is_next ∙ (ap (λ z. earlier z mine) h.first ∙ (ap (earlier (first_of h.some)) is_mine ∙ sym (first_append h.some own)));
-    faults_are = append_assoc h.some own _ ∙ (ap (λ z. h.some ++ z) (sym parts) ∙ h.faults_are);
-    put = is_newer ∙ (ap (λ z. z ++ map capped put) h.put ∙ (append_assoc old (map capped h.weights) _ ∙ ap (λ z. old ++ z) (sym (capped_append h.weights put))));
-    weights_are = append_assoc h.weights put _ ∙ (ap (λ z. h.weights ++ z) (sym weights) ∙ h.weights_are);
-  },
-  λ w k. Contains-append_right h.weights put w k,
-)
+more_so_far {mine = mine} {old = old} own put h parts weights is_mine is_next is_newer =
+    let both = append_assoc old (map capped h.weights) _ ∙ ap (λ z. old ++ z) (sym (capped_append h.weights put)) in (
+      record {
+        some = h.some ++ own;
+        weights = h.weights ++ put;
+        first = is_next ∙ (ap (λ z. earlier z mine) h.first ∙ (ap (earlier (first_of h.some)) is_mine ∙ sym (first_append h.some own)));
+        faults_are = append_assoc h.some own _ ∙ (ap (λ z. h.some ++ z) (sym parts) ∙ h.faults_are);
+        put = is_newer ∙ (ap (λ z. z ++ map capped put) h.put ∙ both);
+        weights_are = append_assoc h.weights put _ ∙ (ap (λ z. h.weights ++ z) (sym weights) ∙ h.weights_are);
+      },
+      λ w k. Contains-append_right h.weights put w k,
+    )
 
 abbrev pub IsAt : InForce → Steps → Steps → Steps → Option Fault → List Weight → List Weight → Type 0
 IsAt first steps before behind found old new =
@@ -156,20 +166,22 @@ IsAt first steps before behind found old new =
 abbrev pub IsPut : InForce → Steps → Stood → Steps → List Weight → Type 0
 IsPut first before at behind put = (w : Weight) → Contains (weights_of (place_at first before) before at behind at.step) w → Contains put w
 
-pub step_so_far : (first : InForce) (steps : Steps) (i : ℕ) (at : Stood) (now : Place) (front back : Steps) (found mine next : Option Fault) (old new newer : List Weight)
-    → i < length steps → at ≡ get_or steps i at → now ≡ place_at first (reverse (take i steps)) → front ≡ take i steps → back ≡ drop (i + 1) steps
+pub step_so_far : {at : Stood} {now : Place} {front back : Steps} {found mine next : Option Fault} {old new newer : List Weight}
+    → (first : InForce) (steps : Steps) (i : ℕ) → i < length steps → at ≡ get_or steps i at → now ≡ place_at first (reverse (take i steps))
+    → front ≡ take i steps → back ≡ drop (i + 1) steps
     → IsAt first steps (reverse (take i steps)) (drop i steps) found old new → mine ≡ first_of (faults_of now (reverse front) at back at.step)
     → next ≡ earlier found mine → newer ≡ new ++ map capped (weights_of now (reverse front) at back at.step)
     → (h : IsAt first steps (at ∷ reverse (take i steps)) (drop (i + 1) steps) next old newer)
     × IsPut first (reverse (take i steps)) at (drop (i + 1) steps) h.weights
-step_so_far first steps i at now front back found mine next old new newer less is is_now is_front is_back h is_mine is_next is_newer =
-    let before = reverse (take i steps) in let there = at_front steps i at less is in
-    more_so_far (faults_of (place_at first before) before at (drop (i + 1) steps) at.step) (weights_of (place_at first before) before at (drop (i + 1) steps) at.step)
-    h (ap (faults_in first before) there) (ap (weights_in first before) there) (cc) is_next (cc)
+step_so_far {at = at} first steps i less is is_now is_front is_back h is_mine is_next is_newer =
+    let before = reverse (take i steps) in let behind = drop (i + 1) steps in let now = place_at first before in
+    let there = at_front steps i at less is in
+    more_so_far (faults_of now before at behind at.step) (weights_of now before at behind at.step) h (ap (faults_in first before) there)
+    (ap (weights_in first before) there) (cc) is_next (cc)
 
-pub judged_whole : (faults : List Fault) (all : List Weight) (found : Option Fault) (old new : List Weight) → IsSoFar faults [] all [] found old new
+pub judged_whole : {faults : List Fault} {all : List Weight} {found : Option Fault} {old new : List Weight} → IsSoFar faults [] all [] found old new
     → AreJudged faults all found old new
-judged_whole faults all found old new h = record {
+judged_whole {faults = faults} {all = all} {old = old} h = record {
   some = faults;
   weights = all;
   first = h.first ∙ ap first_of (sym (append-nil h.some) ∙ h.faults_are);
@@ -178,10 +190,10 @@ judged_whole faults all found old new h = record {
 }
 
 -- up to an event behind which nothing comes first
-pub judged_to : (first : InForce) (steps before : Steps) (at : Stood) (behind : Steps) (found : Option Fault) (old new : List Weight)
+pub judged_to : {at : Stood} {behind : Steps} {found : Option Fault} {old new : List Weight} (first : InForce) (steps before : Steps)
     → (h : IsAt first steps (at ∷ before) behind found old new) → IsPut first before at behind h.weights → IsEnd (drop (length old) new) at behind
     → AreJudged (faults_in first [] steps) (weights_in first [] steps) found old new
-judged_to first steps before at behind found old new h put end =
+judged_to {at = at} {behind = behind} {old = old} {new = new} first steps before h put end =
     let faults = faults_in first [] steps in let hidden = faults_in first (at ∷ before) behind in let light = weights_in first (at ∷ before) behind in
     let own : drop (length old) new ≡ map capped h.weights = ap (drop (length old)) h.put ∙ drop-append_seam old (map capped h.weights) in
     let event = event_weight (place_at first before) before at behind at.step end.event in let w = weight_at event.0 at in

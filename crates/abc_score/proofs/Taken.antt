@@ -1,9 +1,11 @@
 -- What a walk that takes a list apart has left.
-use Rattle.std.{proofs.Common.{◌≡◌, ◌∙◌, sym, ap, zero, suc, List, [], ◌∷◌, ◌++◌, append_assoc, map, arith}, specs.List.All}
+use Rattle.{std.{proofs.Common.{◌≡◌, ◌∙◌, sym, ap, zero, suc, List, [], ◌∷◌, ◌++◌, map, arith}, specs.List.All}, abc_faults.proofs.Walks.part_more}
 
 -- one element made of the first that was left
-pub mapped_taken : {X Y : Type 0} (f : X → Y) (xs ys : List X) (x : X) (done new all : List Y) (y : Y) → new ≡ done ++ y ∷ [] → y ≡ f x → xs ≡ x ∷ ys → done ++ map f xs ≡ all → new ++ map f ys ≡ all
-mapped_taken f xs ys x done new all y put made cut so_far = ap (λ d. d ++ map f ys) put ∙ append_assoc done (y ∷ []) (map f ys) ∙ ap (λ z. done ++ z ∷ map f ys) made ∙ ap (λ zs. done ++ map f zs) (sym cut) ∙ so_far
+pub mapped_taken : {X Y : Type 0} {xs ys : List X} {x : X} {new all : List Y} {y : Y} (f : X → Y) (done : List Y) → new ≡ done ++ y ∷ [] → y ≡ f x
+    → xs ≡ x ∷ ys → done ++ map f xs ≡ all → new ++ map f ys ≡ all
+mapped_taken {xs = xs} {ys = ys} {y = y} f done put made cut so_far =
+    part_more (y ∷ []) (map f ys) (map f xs) done _ _ (ap (map f) cut ∙ ap (λ z. z ∷ map f ys) (sym made)) put so_far
 
 -- what holds of all that is made of a list's elements holds of each of these as it is made
 pub all_of : {X Y : Type 0} (f : X → Y) (P : Y → Type 0) (xs : List X) → All P (map f xs) → All (λ x. P (f x)) xs

@@ -1,9 +1,10 @@
 -- The verses that are too many, in a body whose lines of words rise: the first of the list comes first.
-use Rattle.std.{proofs.{Common.{◌≡◌, ◌∙◌, refl, sym, ap, subst, ℕ, ◌≤◌, List, [], ◌∷◌, ◌++◌, Bool, true, false, Option, Some, None, arith}, lemmas.Bool.{cond-false, Decides.nat_tests}}, specs.Prelude.{⊤, nat_le}}
-use Rattle.{abc_lines.specs.declared.fault.Fault.{Fault}, abc_steps.specs.declared.step.Item.{Item}, abc_faults.specs.First.{is_before, earlier, first_of}}
-use Rattle.abc_words.specs.{declared.verses.Verse.Verse, Verses.{verse_if, verses_from, number_on, too_many, faults_from, verse_faults, first_of as head_of}}
-use Rattle.abc_score.proofs.Basics.{either}
-use Rattle.abc_score.specs.Order.{DoWordsRiseFrom, DoWordsRise}
+use Rattle.std.{proofs.lemmas.Bool.{cond-false, Decides.nat_tests}, specs.Prelude.{⊤, nat_le}}
+use Rattle.std.proofs.Common.{◌≡◌, ◌∙◌, refl, sym, ap, subst, ℕ, ◌≤◌, List, [], ◌∷◌, ◌++◌, Bool, true, false, Option, Some, None, arith}
+use Rattle.{abc_lines.specs.declared.fault.Fault.Fault, abc_steps.specs.declared.step.Item.Item}
+use Rattle.{abc_faults.specs.First.{is_before, earlier, first_of}, abc_score.{proofs.Basics.either, specs.Order.{DoWordsRiseFrom, DoWordsRise}}}
+use Rattle.abc_words.specs.Verses.{verse_if, verses_from, number_on, too_many, faults_from, verse_faults, first_of as head_of}
+use Rattle.abc_words.specs.declared.verses.Verse.{Verse}
 
 -- verses whose lines rise, from one on
 abbrev pub DoLinesRise : ℕ → List Verse → Type 0
@@ -14,12 +15,14 @@ lower : (low high : ℕ) (vs : List Verse) → low ≤ high → DoLinesRise high
 lower low high [] less rise = tt
 lower low high (v ∷ vs) less rise = let first : high ≤ v.line = rise.0 in (omega arith, rise.1)
 
-with_verse : (current : Bool) (last : Option ℕ) (text : List ℕ) (low line : ℕ) (vs : List Verse) → low ≤ line → DoLinesRise line vs → DoLinesRise low (verse_if current last text line ++ vs)
+with_verse : (current : Bool) (last : Option ℕ) (text : List ℕ) (low line : ℕ) (vs : List Verse) → low ≤ line → DoLinesRise line vs
+    → DoLinesRise low (verse_if current last text line ++ vs)
 with_verse true (Some row) text low line vs less rise = (less, rise)
 with_verse true None text low line vs less rise = lower low line vs less rise
 with_verse false last text low line vs less rise = lower low line vs less rise
 
-verses_rise : (id unnamed : List ℕ) (before behind : List Item) (low : ℕ) → DoWordsRiseFrom low behind → DoLinesRise low (verses_from id unnamed before behind)
+verses_rise : (id unnamed : List ℕ) (before behind : List Item) (low : ℕ) → DoWordsRiseFrom low behind
+    → DoLinesRise low (verses_from id unnamed before behind)
 verses_rise id unnamed before [] low rise = tt
 verses_rise id unnamed before (Item.Words text line ∷ behind) low rise =
     with_verse _ _ text low line _ rise.0 (verses_rise id unnamed (Item.Words text line ∷ before) behind line rise.1)
@@ -51,7 +54,9 @@ heads low before (v ∷ behind) rise =
     let others = heads v.line (before ++ v ∷ []) behind rise.1 in let more = faults_from (before ++ v ∷ []) behind in
     either (λ fs. (head_of (fs ++ more) ≡ first_of (fs ++ more)) × IsFrom low (head_of (fs ++ more)))
     (nat_le 8 (number_on v.row before)) (too_many v.line ∷ []) []
-    (sym (head_first v.line (first_of more) (subst (IsFrom v.line) others.0 others.1)), (rise.0, refl)) (others.0, higher low v.line _ rise.0 others.1)
+    (sym (head_first v.line (first_of more) (subst (IsFrom v.line) others.0 others.1)), (rise.0, refl))
+    (others.0, higher low v.line _ rise.0 others.1)
 
-pub verse_first : (id unnamed : List ℕ) (items : List Item) → DoWordsRise items → head_of (verse_faults id unnamed items) ≡ first_of (verse_faults id unnamed items)
+pub verse_first : (id unnamed : List ℕ) (items : List Item) → DoWordsRise items
+    → head_of (verse_faults id unnamed items) ≡ first_of (verse_faults id unnamed items)
 verse_first id unnamed items rise = let both = heads 0 [] _ (verses_rise id unnamed [] items 0 rise) in both.0

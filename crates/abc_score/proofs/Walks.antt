@@ -1,11 +1,19 @@
 -- What the steps of a voice without faults are: each event has parts and good changes, and tuplets are full.
-use Rattle.std.{proofs.{Common.{◌≡◌, ◌∙◌, refl, sym, ap, subst, ℕ, zero, suc, ◌+◌, ◌-◌, ◌*◌, ◌/◌, ◌≤◌, List, [], ◌∷◌, length, Bool, true, false, cond, not, nat_le, ◌==◌, Option, Some, None, IfSome, unwrap_or, is_none, option_map, zero-add, eqb-true, arith}, lemmas.{Bool.{cond_both, leb-true, leb-false, Decides.nat_tests}, Nat.mul-le, List.Sums.{sum_by-cons, take_while-cons}}}, specs.{Prelude.{⊤, count_by, nat_lt}, List.{AllByRecursion, before_first}}}
-use Rattle.mus_units.specs.{declared.{key.{Key.Key, Sign.Sign as KeySign}, value.{Value.Value}}, Good.{AreGoodSigns, IsGoodKey, IsGoodMeter, IsGoodUnit}, Parts.{cut_in, cut_next, longest_within, parts_list, units_of}}
-use Rattle.{mus_pitch.proofs.SignLaws.{laid_good}, abc_lines.specs.declared.fault.FaultKind.{FaultKind}, abc_fields.specs.Keys.{GoodKeyIn, over_by}}
-use Rattle.abc_steps.specs.{declared.{step.{Sound.Sound, Step.Step, Stood.Stood}, force.InForce.InForce, place.Place.Place, tuplets.Taking.Taking}, Force.{changes_at, force_at, force_behind, when}, Good.{IsGoodForce, IsGoodSound, IsGoodStep, IsGoodStood}, Kinds.is_sound, Lengths.{left_factor, left_side, right_factor, right_side, written_length}, Looks.{Steps}, Places.{place_at, measure_of}, Tuplets.{after_event, fits, one_less, opened, or_default, taking_behind}}
-use Rattle.abc_events.specs.{Signs.further_rests, Signs.signs, Signs.signs_of, Signs.sound_written, Waits.waiting_of}
+use Rattle.std.proofs.Common.{◌≡◌, ◌∙◌, refl, sym, ap, subst, ℕ, zero, suc, ◌+◌, ◌-◌, ◌*◌, ◌/◌, ◌≤◌, List, [], ◌∷◌, length, Bool, true, false, cond}
+use Rattle.std.proofs.Common.{not, nat_le, ◌==◌, Option, Some, None, IfSome, unwrap_or, is_none, option_map, zero-add, eqb-true, arith}
+use Rattle.std.proofs.lemmas.{Bool.{cond_both, leb-true, leb-false, Decides.nat_tests}, Nat.mul-le, List.Sums.{sum_by-cons, take_while-cons}}
+use Rattle.std.specs.{Prelude.{⊤, count_by, nat_lt}, List.{AllByRecursion, before_first}}
+use Rattle.{mus_pitch.proofs.SignLaws.laid_good, abc_lines.specs.declared.fault.FaultKind.FaultKind, abc_fields.specs.Keys.{GoodKeyIn, over_by}}
+use Rattle.abc_events.specs.{Signs.{further_rests, signs, signs_of, sound_written}, Waits.waiting_of}
 use Rattle.abc_faults.specs.Faults.{ends_tuplets, fault_at, fault_if, faults_in, faults_of, misfit_of, sounds_behind, tuplet_faults}
-use Rattle.abc_score.proofs.{Basics.all_both, Basics.with_tuplet, Basics.none_before, Basics.none_behind, Clear.{IsClearSound, no_fault, sound_clear}, Nested.IsOpen, Parts.IsWhole, Judging.rest_values}
+use Rattle.mus_units.specs.{Parts.{cut_in, cut_next, longest_within, parts_list, units_of}, Good.{AreGoodSigns, IsGoodKey, IsGoodMeter, IsGoodUnit}}
+use Rattle.mus_units.specs.declared.{key.{Key.Key, Sign.Sign as KeySign}, value.Value.Value}
+use Rattle.abc_steps.specs.{Lengths.{left_factor, left_side, right_factor, right_side, written_length}, Places.{place_at, measure_of}, Kinds.is_sound}
+use Rattle.abc_steps.specs.{Good.{IsGoodForce, IsGoodSound, IsGoodStep, IsGoodStood}, Force.{changes_at, force_at, force_behind, when}}
+use Rattle.abc_steps.specs.{Tuplets.{after_event, fits, one_less, opened, or_default, taking_behind}, Looks.Steps}
+use Rattle.abc_steps.specs.declared.{step.{Sound.Sound, Step.Step, Stood.Stood}, force.InForce.InForce, place.Place.Place, tuplets.Taking.Taking}
+use Rattle.abc_score.proofs.{Basics.{all_both, with_tuplet, none_before, none_behind}, Clear.{IsClearSound, no_fault, sound_clear}, Nested.IsOpen}
+use Rattle.abc_score.proofs.{Judging.rest_values, Parts.IsWhole}
 
 -- ---- parts
 cut_some : (others : ℕ → Option (List Value)) (left : ℕ) (o : Option Value) → is_none (cut_next others left o) ≡ false
@@ -70,7 +78,8 @@ step_whole : (now : Place) (before behind : Steps) (at : Stood) (s : Step) → I
     → faults_of now before at behind s ≡ [] → AllByRecursion IsWhole (signs_of now before at behind s)
 unfolding signs_of waiting_of changes_at
 step_whole now before behind at (Step.Sound s) force good e =
-    ((sound_parts now before behind at s force.unit good (sound_clear now before behind at s e), when_good IsGoodKey _ _ force.key, when_good IsGoodMeter _ _ force.meter), tt)
+    let parts = sound_parts now before behind at s force.unit good (sound_clear now before behind at s e) in
+    ((parts, when_good IsGoodKey _ _ force.key, when_good IsGoodMeter _ _ force.meter), tt)
 step_whole now before behind at (Step.Measures seen count) force good e = (
   (rest_values now at seen _ _, when_good IsGoodKey _ _ force.key, when_good IsGoodMeter _ _ force.meter),
   further_whole (measure_of now + 1) (count - 1),
@@ -85,7 +94,8 @@ pub walk_whole : (first : InForce) (before behind : Steps) → IsGoodForce first
     → faults_in first before behind ≡ [] → AllByRecursion IsWhole (signs first before behind)
 walk_whole first before [] force good goods e = tt
 walk_whole first before (at ∷ behind) force good goods e =
-    all_both IsWhole _ _ (step_whole (place_at first before) before behind at at.step (walk_force first before force good) goods.0 (none_before _ _ e))
+    let here = walk_force first before force good in
+    all_both IsWhole _ _ (step_whole (place_at first before) before behind at at.step here goods.0 (none_before _ _ e))
     (walk_whole first (at ∷ before) behind force (goods.0, good) goods.1 (none_behind _ _ e))
 
 -- ---- the events that open tuplets take
@@ -103,11 +113,12 @@ tuplet_clear r t at behind e = by_test (fits r t) e where
 pub sounds_on : (s : Stood) (rest : Steps) → sounds_behind (s ∷ rest) ≡ cond (ends_tuplets s.step) 0 (cond (is_sound s.step) 1 0 + sounds_behind rest)
 unfolding sounds_behind
 sounds_on s rest =
-    ap (count_by (λ (x : Stood). is_sound x.step)) (take_while-cons (λ (x : Stood). not (ends_tuplets x.step)) s rest) ∙ by_test (ends_tuplets s.step) where
-      by_test : (b : Bool) → count_by (λ (x : Stood). is_sound x.step) (cond (not b) (s ∷ before_first (λ (x : Stood). ends_tuplets x.step) rest) [])
-          ≡ cond b 0 (cond (is_sound s.step) 1 0 + count_by (λ (x : Stood). is_sound x.step) (before_first (λ (x : Stood). ends_tuplets x.step) rest))
-      by_test true = refl
-      by_test false = sum_by-cons (λ (x : Stood). cond (is_sound x.step) 1 0) s (before_first (λ (x : Stood). ends_tuplets x.step) rest)
+    let inside = before_first (λ (x : Stood). ends_tuplets x.step) rest in let count : Steps → ℕ = count_by (λ (x : Stood). is_sound x.step) in
+    ap count (take_while-cons (λ (x : Stood). not (ends_tuplets x.step)) s rest) ∙ by_test inside (ends_tuplets s.step) where
+      by_test : (inside : Steps) (b : Bool) → count_by (λ (x : Stood). is_sound x.step) (cond (not b) (s ∷ inside) [])
+          ≡ cond b 0 (cond (is_sound s.step) 1 0 + count_by (λ (x : Stood). is_sound x.step) inside)
+      by_test inside true = refl
+      by_test inside false = sum_by-cons (λ (x : Stood). cond (is_sound x.step) 1 0) s inside
 
 -- so many events suffice for the open ones
 abbrev pub Enough : Taking → ℕ → Type 0
@@ -148,7 +159,8 @@ default_some p zero low = omega arith
 default_some p (suc r) low = omega arith
 
 pub next_enough : (now : Place) (before behind : Steps) (at : Stood) (s : Step) → IsGoodStep s → faults_of now before at behind s ≡ []
-    → Enough now.taking (cond (ends_tuplets s) 0 (cond (is_sound s) 1 0 + sounds_behind behind)) → Enough (taking_behind s now.taking) (sounds_behind behind)
+    → Enough now.taking (cond (ends_tuplets s) 0 (cond (is_sound s) 1 0 + sounds_behind behind))
+    → Enough (taking_behind s now.taking) (sounds_behind behind)
 unfolding faults_of ends_tuplets is_sound taking_behind
 next_enough now before behind at (Step.Sound s) good e enough = after_enough now.taking (sounds_behind behind) enough
 next_enough now before behind at (Step.Measures seen count) good e enough = tt

@@ -1,10 +1,19 @@
 -- What the signs of a voice weigh is at most what its steps weigh, and that of all voices is at most 50,000 where they aren't crowded.
-use Rattle.std.{proofs.{Common.{◌≡◌, ◌∙◌, refl, sym, ap, subst, ℕ, zero, suc, ◌+◌, ◌-◌, ◌*◌, ◌≤◌, max, List, [], ◌∷◌, sum_by, length, Bool, true, false, cond, Option, Some, None, mul_comm, mul-le-mul_left, arith}, lemmas.{Bool.{Decides.nat_tests}, List.{length-map, Sums.{sum_by-cons, sum_by-append}, Elements.Contains-append_right}}}, specs.{Prelude.{flat_map, nat_lt, unwrap_or}, List.{AllByRecursion, Contains}}}
-use Rattle.{mus_units.specs.{declared.note.Head.Head, declared.value.Value.Value, declared.note.Deco.Deco, Parts.parts_list}, abc_notes.specs.declared.part.GraceChord.{GraceChord}}
-use Rattle.abc_steps.specs.{declared.{step.{Sound.Sound, Step.Step, Stood.Stood}, force.InForce.InForce, place.Place.Place}, Good.{IsGoodStep, IsGoodStood}, Lengths.written_length, Looks.{Steps, is_tied, since_event}, Places.{place_at, measure_of}}
-use Rattle.abc_events.specs.{declared.written.{Written.Written, Waiting.Waiting, Sign.Sign}, Leaves.{Words, leaves_from, nodes_of, words_at}, Signs.{further_rests, parted_at, rest_written, signs, signs_of, sound_written, tied_heads, with_tie}, Waits.{graces_in, nothing, waiting_of}}
-use Rattle.abc_faults.{specs.{declared.weights.Weight.Weight, First.then_below, Weights.{count_parts, count_up_to, crowd_fault, crowd_up_to, crowded, grace_weights, grace_weights_of, sound_count, stands_before, weight_at, weights_in, weights_of}}, proofs.Crowds.{crowd_held, not_before_itself}}
-use Rattle.abc_score.proofs.{Basics.with_tuplet, Rows.leaf_rows, Rows.weight_of, Singing.heads_of_graces, Singing.nodes_weight}
+use Rattle.std.proofs.Common.{◌≡◌, ◌∙◌, refl, sym, ap, subst, ℕ, zero, suc, ◌+◌, ◌-◌, ◌*◌, ◌≤◌, max, List, [], ◌∷◌, sum_by, length, Bool, true, false}
+use Rattle.std.proofs.Common.{cond, Option, Some, None, mul_comm, mul-le-mul_left, arith}
+use Rattle.std.proofs.lemmas.{Bool.Decides.nat_tests, List.{length-map, Sums.{sum_by-cons, sum_by-append}, Elements.Contains-append_right}}
+use Rattle.std.specs.{Prelude.{flat_map, nat_lt, unwrap_or}, List.{AllByRecursion, Contains}}
+use Rattle.mus_units.specs.{declared.{note.{Head.Head, Deco.Deco}, value.Value.Value}, Parts.parts_list}
+use Rattle.abc_notes.specs.declared.part.GraceChord.{GraceChord}
+use Rattle.abc_score.proofs.{Basics.with_tuplet, Rows.{leaf_rows, weight_of}, Singing.{heads_of_graces, nodes_weight}}
+use Rattle.abc_steps.specs.{declared.{step.{Sound.Sound, Step.Step, Stood.Stood}, force.InForce.InForce, place.Place.Place}, Lengths.written_length}
+use Rattle.abc_steps.specs.{Looks.{Steps, is_tied, since_event}, Good.{IsGoodStep, IsGoodStood}, Places.{place_at, measure_of}}
+use Rattle.abc_events.specs.{declared.written.{Written.Written, Waiting.Waiting, Sign.Sign}, Leaves.{Words, leaves_from, nodes_of, words_at}}
+use Rattle.abc_events.specs.Signs.{further_rests, parted_at, rest_written, signs, signs_of, sound_written, tied_heads, with_tie}
+use Rattle.abc_events.specs.Waits.{graces_in, nothing, waiting_of}
+use Rattle.abc_faults.proofs.Crowds.{crowd_held, not_before_itself}
+use Rattle.abc_faults.specs.{Weights.{stands_before, weight_at, weights_in, weights_of}, declared.weights.Weight.Weight, First.then_below}
+use Rattle.abc_faults.specs.Weights.{count_parts, count_up_to, crowd_fault, crowd_up_to, crowded, grace_weights, grace_weights_of, sound_count}
 
 -- ---- signs
 abbrev pub written_weight : Written → Waiting → ℕ
@@ -20,7 +29,8 @@ leaves_weigh words k id (Sign.Event w waiting ∷ ss) =
     let others = leaf_rows (leaves_from words (k + 1) (id + length w.values) ss) in
     sum_by-cons weight_of (nodes_of w waiting (words_at words k) id) others
     ∙ ap (λ n. n + sum_by weight_of others) (nodes_weight w waiting (words_at words k) id)
-    ∙ ap (λ n. written_weight w waiting + n) (leaves_weigh words (k + 1) (id + length w.values) ss) ∙ sym (sum_by-cons sign_weight (Sign.Event w waiting) ss)
+    ∙ ap (λ n. written_weight w waiting + n) (leaves_weigh words (k + 1) (id + length w.values) ss)
+    ∙ sym (sum_by-cons sign_weight (Sign.Event w waiting) ss)
 leaves_weigh words k id (Sign.Opens measure p q r ∷ ss) =
     leaves_weigh words k id ss ∙ sym (sum_by-cons sign_weight (Sign.Opens measure p q r) ss ∙ omega arith)
 
@@ -39,7 +49,8 @@ waits_weight (s ∷ waits) =
     let right = sum_by-append count (grace_weights_of s s.step) (grace_weights waits) in
     omega (arith, left, waits_step s s.step, waits_weight waits, right)
 
-waiting_weight : (now : InForce) (waits : Steps) (decos : List Deco) → heads_of_graces (waiting_of now waits decos).graces ≡ sum_by count (grace_weights waits)
+waiting_weight : (now : InForce) (waits : Steps) (decos : List Deco)
+    → heads_of_graces (waiting_of now waits decos).graces ≡ sum_by count (grace_weights waits)
 unfolding waiting_of
 waiting_weight now waits decos = waits_weight waits
 
@@ -55,8 +66,9 @@ sound_weight : (now : Place) (before behind : Steps) (at : Stood) (s : Sound) �
     let w = sound_written now before at s behind in length w.values * max 1 (length w.heads) ≤ sound_count now before s behind
 unfolding sound_written sound_count
 sound_weight now before behind at s =
-    let whole = written_length now.force.unit s before behind in let values = parts_list whole.num whole.den in
-    let turned = mul_comm (length (unwrap_or values [])) (max 1 (length (tied_heads s.heads behind))) ∙ ap (λ n. max 1 n * length (unwrap_or values [])) (length_tied s.heads behind) in
+    let whole = written_length now.force.unit s before behind in let values = parts_list whole.num whole.den in let parts = unwrap_or values [] in
+    let heads = tied_heads s.heads behind in
+    let turned = mul_comm (length parts) (max 1 (length heads)) ∙ ap (λ n. max 1 n * length parts) (length_tied s.heads behind) in
     subst (λ n. n ≤ max 1 (length s.heads) * count_parts values) (sym turned) (mul-le-mul_left (max 1 (length s.heads)) (few_values values))
 
 further_weight : (now : Place) (at : Stood) (seen : Bool) (measure n : ℕ) → sum_by sign_weight (further_rests now at seen measure n) ≡ n
@@ -74,10 +86,12 @@ step_weight now before behind at (Step.Sound s) good =
     omega (arith, own, graces, sum_by-append count (grace_weights waits) (weight_at (sound_count now before s behind) at ∷ []))
 step_weight now before behind at (Step.Measures seen n) good =
     let waits = since_event before in let first = rest_written now at seen (measure_of now) (parted_at now waits) in
-    let others = further_weight now at seen (measure_of now + 1) (n - 1) in let graces = waiting_weight now.force waits [] in let some : 1 ≤ n = good.0 in
+    let others = further_weight now at seen (measure_of now + 1) (n - 1) in let graces = waiting_weight now.force waits [] in
+    let some : 1 ≤ n = good.0 in
     let here = sum_by-cons sign_weight (Sign.Event first (waiting_of now.force waits [])) (further_rests now at seen (measure_of now + 1) (n - 1)) in
     omega (arith, graces, others, here, sum_by-append count (grace_weights waits) (weight_at n at ∷ []), some)
-step_weight now before behind at (Step.Tuplet p q r) good = with_tuplet (λ z. sum_by sign_weight z ≤ 0) now p q r (λ m x y z. omega arith) (omega arith)
+step_weight now before behind at (Step.Tuplet p q r) good =
+    with_tuplet (λ z. sum_by sign_weight z ≤ 0) now p q r (λ m x y z. omega arith) (omega arith)
 step_weight now before behind at _ good = omega arith
 
 pub signs_weigh : (first : InForce) (before behind : Steps) → AllByRecursion IsGoodStood behind
@@ -127,7 +141,8 @@ few_with : (ws : List Weight) → Latest ws → crowded ws ≡ [] → sum_by cou
 few_with ws o e = by_test (nat_lt 50000 (crowd_up_to ws o.weight)) refl where
   by_test : (b : Bool) → nat_lt 50000 (crowd_up_to ws o.weight) ≡ b → sum_by count ws ≤ 50000
   by_test true t =
-      let held = subst (λ fs. Contains fs (crowd_fault o.weight)) e (crowd_held ws o.weight o.held (grind (arith, nat_tests))) in absurd (omega (arith, held.1))
+      let held = subst (λ fs. Contains fs (crowd_fault o.weight)) e (crowd_held ws o.weight o.held (grind (arith, nat_tests))) in
+      absurd (omega (arith, held.1))
   by_test false t =
       let few : crowd_up_to ws o.weight ≤ 50000 = grind (arith, nat_tests) in omega (arith, few, all_count o.weight ws o.behind)
 

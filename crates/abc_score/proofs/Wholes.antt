@@ -1,12 +1,25 @@
 -- A score of voices without faults is good.
-use Rattle.std.{proofs.{Common.{◌≡◌, ◌∙◌, refl, sym, ap, subst, ℕ, suc, ◌+◌, ◌≤◌, ◌<◌, List, [], ◌∷◌, map, sum_by, length, le_trans, Bool, arith}, lemmas.{Option.unwrap_or-slice_get, List.{length-map, Elements.{All-from_recursion, recursion_from_All, All-map}, FromFn.{get_or-map-range_with_len, length-map-range_with_len}, Sums.{sum_by-cons, sum_by-append}}}}, specs.{Prelude.flat_map, List.{All, AllByRecursion, range_with_len}, Str.bytes_eq}}
-use Rattle.mus_score.{specs.{declared.score.{Measure.Measure}, Good.IsGoodBody, GoodScore.{AreInReach, IsGoodScore, IsGoodVoice, events_of, voice_weight}}, proofs.Scores.{all_within_bars, distinct_pairs, rising_bars}}
-use Rattle.{abc_header.specs.{declared.header.Header.Header, Headers.HasGoodValues}, abc_steps.specs.{declared.step.Item.Item, Good.IsGoodForce, Good.IsGoodStood}}
+use Rattle.std.proofs.Common.{◌≡◌, ◌∙◌, refl, sym, ap, subst, ℕ, suc, ◌+◌, ◌≤◌, ◌<◌, List, [], ◌∷◌, map, sum_by, length, le_trans, Bool, arith}
+use Rattle.std.proofs.lemmas.{List.Elements.{All-from_recursion, recursion_from_All, All-map}, Option.unwrap_or-slice_get}
+use Rattle.std.proofs.lemmas.List.{FromFn.{get_or-map-range_with_len, length-map-range_with_len}, Sums.{sum_by-cons, sum_by-append}, length-map}
+use Rattle.std.specs.{Prelude.flat_map, List.{All, AllByRecursion, range_with_len}, Str.bytes_eq}
+use Rattle.abc_header.specs.{declared.header.Header.Header, Headers.HasGoodValues}
+use Rattle.abc_steps.specs.{declared.step.Item.Item, Good.{IsGoodForce, IsGoodStood}}
 use Rattle.abc_items.{specs.{declared.voices.VoiceStart.VoiceStart, Good.IsGoodItem, Voices.{ids_of, starts_of, unnamed_of}}, proofs.Laws.steps_good}
-use Rattle.abc_events.{specs.{Leaf.Leaf, declared.written.Sign.Sign, Bars.{bar_of, bars_of}, Leaves.{Words, leaves_from, leaves_of, words_at}, Measures.{leaves_in, measure_of, measures_in}, Nesting.tree_of, Signs.{IsDrawn, signs}}, proofs.Drawn.signs_drawn}
-use Rattle.abc_words.{specs.{declared.music.MusicRow.MusicRow, Rows.row_count, Verses.{verse_count, verses_of}, Words.{event_words, music_rows, verse_sung, word_of}}, proofs.FaultLaws.few_verses}
-use Rattle.abc_score.proofs.{Basics.{none_behind}, Clear.{IsClearVoice, few_measures, voices_clear}, Cores.{CoresCount, CoresReach, IsGoodCore, count_of, events_of_cores, reach_of}, Forced.forced_rise, Frames.{length_voice, lengths_agree, voices_apart, voices_led}, Full.all_full, Ids.{apart_read, few_read}, Nested.nested_good, Parts.{signs_count, signs_good, signs_reach, signs_sung}, Reaching.voice_reach, Rising.{own_most, voice_rise}, Rows.{leaf_rows, tree_weight, weight_of}, Segments.{Rise, measures_sing, measures_weigh, weight_in}, Walks.walk_whole, Weighing.{count, leaves_weigh, not_crowded, signs_weigh}}
-use Rattle.abc_score.specs.{Faults.{score_faults, voice_weights}, Score.{event_count, forced_of, most_measures, notes_from, own_measures, score_of, score_with, sung_words, voice_of, written_measures}, Voices.{voice_read, voices_read}, declared.voices.VoiceRead.VoiceRead}
+use Rattle.mus_score.{proofs.Scores.{all_within_bars, distinct_pairs, rising_bars}, specs.Good.IsGoodBody}
+use Rattle.mus_score.specs.{GoodScore.{AreInReach, IsGoodScore, IsGoodVoice, events_of, voice_weight}, declared.score.Measure.Measure}
+use Rattle.abc_events.{specs.{declared.written.Sign.Sign, Signs.{IsDrawn, signs}, Nesting.tree_of, Leaf.Leaf}, proofs.Drawn.signs_drawn}
+use Rattle.abc_events.specs.{Leaves.{Words, leaves_from, leaves_of, words_at}, Measures.{leaves_in, measure_of, measures_in}, Bars.{bar_of, bars_of}}
+use Rattle.abc_words.{proofs.FaultLaws.few_verses, specs.Rows.row_count}
+use Rattle.abc_words.specs.{Words.{event_words, music_rows, verse_sung, word_of}, declared.music.MusicRow.MusicRow, Verses.{verse_count, verses_of}}
+use Rattle.abc_score.proofs.{Frames.{length_voice, lengths_agree, voices_apart, voices_led}, Parts.{signs_count, signs_good, signs_reach, signs_sung}}
+use Rattle.abc_score.proofs.{Clear.{IsClearVoice, few_measures, voices_clear}, Rows.{leaf_rows, tree_weight, weight_of}, Ids.{apart_read, few_read}}
+use Rattle.abc_score.proofs.{Segments.{Rise, measures_sing, measures_weigh, weight_in}, Weighing.{count, leaves_weigh, not_crowded, signs_weigh}}
+use Rattle.abc_score.proofs.{Reaching.voice_reach, Basics.none_behind, Forced.forced_rise, Nested.nested_good, Walks.walk_whole, Full.all_full}
+use Rattle.abc_score.proofs.{Cores.{CoresCount, CoresReach, IsGoodCore, count_of, events_of_cores, reach_of}, Rising.{own_most, voice_rise}}
+use Rattle.abc_score.specs.{Faults.{score_faults, voice_weights}, declared.voices.VoiceRead.VoiceRead, Voices.{voice_read, voices_read}}
+use Rattle.abc_score.specs.Score.{event_count, forced_of, most_measures, notes_from, own_measures, score_of, score_with, sung_words, voice_of}
+use Rattle.abc_score.specs.Score.{written_measures}
 
 -- ---- words
 
@@ -31,7 +44,8 @@ no_words rows (event ∷ events) (suc k) = no_words rows events k
 no_words rows _ _ = refl
 
 -- without verses it is the same whether each event has an empty row of words or none
-pub leaves_unsung : (id unnamed : List ℕ) (items : List Item) (ss : List Sign) → verse_count id unnamed items ≡ 0 → leaves_of [] ss ≡ leaves_of (sung_words id unnamed items ss) ss
+pub leaves_unsung : (id unnamed : List ℕ) (items : List Item) (ss : List Sign) → verse_count id unnamed items ≡ 0
+    → leaves_of [] ss ≡ leaves_of (sung_words id unnamed items ss) ss
 unfolding sung_words
 leaves_unsung id unnamed items ss none =
     rw none (leaves_alike [] _ 0 0 ss (no_words (music_rows id unnamed items (notes_from 0 ss)) (range_with_len 0 (event_count ss))))
@@ -97,7 +111,7 @@ module _ (header : Header) (items : List Item) (n : ℕ) where
         few_heads = le_trans (weight_high v is) few;
         key = good.key;
         meter = good.meter;
-        bodies = All-map (λ (m : Measure). IsGoodBody m.body) (measure_of ls bars) (range_with_len 0 (length bars)) (λ k d less. body_good v is few _);
+        bodies = All-map (λ (m : Measure). IsGoodBody m.body) (measure_of ls bars) (range_with_len 0 _) (λ k d less. body_good v is few _);
         events = events_of_cores verses events (subst (AllByRecursion (IsGoodCore verses)) sings good_words);
         reach = subst (λ clef. AreInReach clef events) is.read.clef (reach_of v.first.clef events (subst (CoresReach v.first.clef) sings reach));
         ids = count_of 0 events (subst (CoresCount 0) sings (signs_count words 0 0 ss whole));
@@ -138,7 +152,8 @@ pub good_score : (header : Header) (items : List Item) (flow : Bool) → HasGood
     → score_faults header items ≡ [] → IsGoodScore (score_of header items flow)
 unfolding score_with
 good_score header items flow good given few e =
-    let unnamed = unnamed_of header in let voices = voices_read header items in let n = most_measures voices in let made = map (voice_of header items n) voices in
+    let unnamed = unnamed_of header in let voices = voices_read header items in let n = most_measures voices in
+    let made = map (voice_of header items n) voices in
     let clears = voices_clear unnamed items voices e in let light = not_crowded (flat_map voice_weights voices) (none_behind _ _ e) in
     let within = few_measures unnamed items voices clears in let rise = forced_rise flow voices n in
     let known = all_known header items n voices (all_read header items (starts_of header items) good given) clears (own_most voices) in

@@ -1,11 +1,12 @@
-use Rattle.std.proofs.Common.{◌∙◌, ◌≤◌, List, length, ap, drop, subst, sym}
-use Rattle.{abc_steps.specs.declared.step.Item.{Item}, abc_items.specs.Voices.{ids_of}, abc_score.proofs.{Ids.few_ids, Lines.words_rise_behind}}
+use Rattle.{std.proofs.Common.{◌∙◌, ◌≤◌, List, length, ap, drop, subst, sym}, abc_steps.specs.declared.step.Item.Item, abc_items.specs.Voices.ids_of}
+use Rattle.abc_score.proofs.{Ids.few_ids, Lines.words_rise_behind}
 use Rattle.abc_score.proofs.building.build.Goals as goal
 
 pub score_in-requires-clause-rise : goal.score_in-requires-clause-rise
 score_in-requires-clause-rise c =
     let k = c.args.header.now.body in
-    words_rise_behind c.args.header.now c.args.tune.now.lines c.split_at.result.1.now c.in-Ok.items c.as_slice-in-Ok.result.now k c.requires.tune.rise (c.split_at.ensures.back ∙ ap (drop k) c.as_slice.ensures) c.in-Ok.ensures.items c.as_slice-in-Ok.ensures
+    words_rise_behind c.args.tune.now.lines k c.requires.tune.rise (c.split_at.ensures.back ∙ ap (drop k) c.as_slice.ensures) c.in-Ok.ensures.items
+    c.as_slice-in-Ok.ensures
 
 pub score_in-requires-clause-few : goal.score_in-requires-clause-few
 score_in-requires-clause-few c =

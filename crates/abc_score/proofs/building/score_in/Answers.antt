@@ -1,7 +1,8 @@
-use Rattle.std.{proofs.Common.{◌≡◌, ◌∙◌, ◌≤◌, List, ℕ, Option, [], ap, subst, sym}, specs.Prelude.None, specs.List.{All}}
-use Rattle.{abc_lines.specs.declared.fault.Fault.Fault, abc_faults.specs.First.{IsFirst}, abc_steps.specs.declared.step.Item.{Item}, mus_score.specs.GoodScore.{IsGoodScore}, abc_items.specs.Voices.unnamed_of, abc_words.specs.Verses.{verse_fault}}
-use Rattle.abc_score.specs.{declared.{keeping.Judged.Judged, voices.VoiceRead.VoiceRead}, Faults.faults_of_voices, Score.{most_measures, score_with}, Voices.{IsGoodRead}}
-use Rattle.abc_score.proofs.{Clear.{clear_verses, few_measures, voices_clear}, Taken.all_of, Wholes.good_score}
+use Rattle.{std.{proofs.Common.{◌≡◌, ◌∙◌, List, ℕ, Option, [], ap, subst, sym}, specs.Prelude.None}, abc_lines.specs.declared.fault.Fault.Fault}
+use Rattle.{abc_faults.specs.First.IsFirst, abc_steps.specs.declared.step.Item.Item, mus_score.specs.GoodScore.IsGoodScore}
+use Rattle.{abc_items.specs.Voices.unnamed_of, abc_words.specs.Verses.verse_fault}
+use Rattle.abc_score.{proofs.{Clear.{clear_verses, few_measures, voices_clear}, Taken.all_of, Wholes.good_score}, specs.Score.score_with}
+use Rattle.abc_score.specs.{declared.{keeping.Judged.Judged, voices.VoiceRead.VoiceRead}, Faults.faults_of_voices, Voices.IsGoodRead}
 use Rattle.abc_score.proofs.building.score_in.Goals as goal
 
 -- no fault is found among those of all voices
@@ -12,7 +13,7 @@ none_found id unnamed items voices fault same none first =
 
 pub score_with-requires-clause-good : goal.score_with-requires-clause-good
 score_with-requires-clause-good c =
-    all_of (λ (j : Judged). j.read) IsGoodRead c.in_ok-judged.judged.voices (subst (All IsGoodRead) (sym c.in_ok-judged.ensures.reads) c.in_ok-voices.ensures.good)
+    all_of (λ (j : Judged). j.read) IsGoodRead c.in_ok-judged.judged.voices (rw c.in_ok-judged.ensures.reads c.in_ok-voices.ensures.good)
 
 pub score_with-requires-clause-clear : goal.score_with-requires-clause-clear
 score_with-requires-clause-clear c =
@@ -20,13 +21,13 @@ score_with-requires-clause-clear c =
     let none = none_found _ _ items voices _ c.unnamed_of.ensures c.in-None.is c.in_ok-judged.ensures.fault in
     let P : VoiceRead → Type 0 = λ v. verse_fault v.start.id unnamed items ≡ None in
     all_of (λ (j : Judged). j.read) P c.in_ok-judged.judged.voices
-    (subst (All P) (sym c.in_ok-judged.ensures.reads) (clear_verses unnamed items voices (voices_clear unnamed items voices none)))
+    (rw c.in_ok-judged.ensures.reads (clear_verses unnamed items voices (voices_clear unnamed items voices none)))
 
 pub score_with-requires-clause-few : goal.score_with-requires-clause-few
 score_with-requires-clause-few c =
     let unnamed = unnamed_of c.args.header.now in let items = c.args.items.now in let voices = c.in_ok-voices.voices in
     let none = none_found _ _ items voices _ c.unnamed_of.ensures c.in-None.is c.in_ok-judged.ensures.fault in
-    subst (λ vs. most_measures vs ≤ 2000) (sym c.in_ok-judged.ensures.reads) (few_measures unnamed items voices (voices_clear unnamed items voices none))
+    rw c.in_ok-judged.ensures.reads (few_measures unnamed items voices (voices_clear unnamed items voices none))
 
 pub returns-in_ok-score_with-in-None-clause-good : goal.returns-in_ok-score_with-in-None-clause-good
 returns-in_ok-score_with-in-None-clause-good c =

@@ -1,5 +1,4 @@
-use Rattle.std.{proofs.Common.{◌≤◌, take}, specs.Prelude.sum_by}
-use Rattle.abc_faults.specs.Weights.{count_up_to, weight_at}
+use Rattle.{std.{proofs.Common.{◌≤◌, take}, specs.Prelude.sum_by}, abc_faults.specs.Weights.{count_up_to, weight_at}}
 use Rattle.abc_score.proofs.keeping.count_up_to.Given as goal
 
 abbrev pub invariant-loop-w : goal.invariant-loop-w

@@ -1,11 +1,13 @@
-use Rattle.std.proofs.{Common.{◌≡◌, ◌∙◌, ◌+◌, ◌++◌, ◌<◌, ℕ, [], length, get_or, sym, ap, subst, reverse, take, drop, rules, arith}, lemmas.List.drop_all}
-use Rattle.abc_faults.{specs.{Faults.faults_in, Weights.weights_in}, proofs.Walks.{at_front, nearest, part_more}}
-use Rattle.{abc_steps.specs.{declared.{step.Stood.Stood, force.InForce.InForce}, Looks.Steps, Places.place_at}, abc_events.specs.Signs.{signs, signs_of}}
-use Rattle.abc_score.{specs.Judged.{AreJudged, IsEnd}, proofs.Stops.{IsAt, judged_to, judged_whole, none_so_far, step_so_far}}
+use Rattle.std.proofs.{Common.{◌≡◌, ◌∙◌, ◌+◌, ◌++◌, ◌<◌, ℕ, length, get_or, sym, ap, reverse, take, drop, rules, arith}, lemmas.List.drop_all}
+use Rattle.{abc_faults.proofs.Walks.{at_front, nearest, part_more}, abc_events.specs.Signs.{signs, signs_of}}
+use Rattle.abc_steps.specs.{declared.{step.Stood.Stood, force.InForce.InForce}, Looks.Steps, Places.place_at}
+use Rattle.abc_score.proofs.Stops.{judged_to, judged_whole, none_so_far, step_so_far}
 use Rattle.abc_score.proofs.keeping.judge_voice.Goals as goal
 
-sign_parts : (first : InForce) (steps : Steps) (i : ℕ) (at : Stood) → i < length steps → at ≡ get_or steps i at → signs first (reverse (take i steps)) (drop i steps)
-    ≡ signs_of (place_at first (reverse (take i steps))) (reverse (take i steps)) at (drop (i + 1) steps) at.step ++ signs first (reverse (take (i + 1) steps)) (drop (i + 1) steps)
+sign_parts : (first : InForce) (steps : Steps) (i : ℕ) (at : Stood) → i < length steps → at ≡ get_or steps i at
+    → signs first (reverse (take i steps)) (drop i steps)
+    ≡ signs_of (place_at first (reverse (take i steps))) (reverse (take i steps)) at (drop (i + 1) steps) at.step
+    ++ signs first (reverse (take (i + 1) steps)) (drop (i + 1) steps)
 sign_parts first steps i at less is =
     let before = reverse (take i steps) in let behind = drop (i + 1) steps in
     ap (signs first before) (at_front steps i at less is)
@@ -16,16 +18,18 @@ loop-i-init c = search (rules, none_so_far)
 
 pub loop-i-preserved : goal.loop-i-preserved
 loop-i-preserved c =
-    let first = c.args.v.now.first in let steps = c.as_slice-steps.result.now in let i = c.loop-i.i in let at = c.index-steps-i.result in let before = reverse (take i steps) in
-    let behind = drop (i + 1) steps in let near = nearest steps i at c.loop-i-test.true c.index-steps-i.is in
-    let judged = step_so_far first steps i at _ _ _ _ _ _ _ _ _ c.loop-i-test.true c.index-steps-i.is c.loop-i.invariant.place
-    c.split_at.ensures.front c.split_at-in-loop-i.ensures.back c.loop-i.invariant.judged c.in_ok-judge_step.ensures.fault c.earlier-found.ensures.value c.in_ok-judge_step.ensures.weights in
+    let first = c.args.v.now.first in let steps = c.as_slice-steps.result.now in let i = c.loop-i.i in let at = c.index-steps-i.result in
+    let before = reverse (take i steps) in let behind = drop (i + 1) steps in let near = nearest steps i at c.loop-i-test.true c.index-steps-i.is in
+    let judged = step_so_far first steps i c.loop-i-test.true c.index-steps-i.is c.loop-i.invariant.place c.split_at.ensures.front
+    c.split_at-in-loop-i.ensures.back c.loop-i.invariant.judged c.in_ok-judge_step.ensures.fault c.earlier-found.ensures.value
+    c.in_ok-judge_step.ensures.weights in
     record {
-      judged = subst (λ z. IsAt first steps z behind c.earlier-found.result c.args.weights.now c.judge_step.new.weights) (sym near) judged.0;
+      judged = rw near judged.0;
       kept = λ whole.
           let kept = c.in_ok-keep.ensures whole in let own_signs = signs_of (place_at first before) before at behind at.step in
-          let is_put : c.keep.new.kept.signs ≡ c.loop-i.kept.signs ++ own_signs = cc (kept.1, c.loop-i.invariant.place, c.split_at.ensures.front, c.split_at-in-loop-i.ensures.back) in
-          part_more own_signs (signs first (reverse (take (i + 1) steps)) behind) (signs first before (drop i steps)) c.loop-i.kept.signs _ _
+          let is_put : c.keep.new.kept.signs ≡ c.loop-i.kept.signs ++ own_signs =
+          cc (kept.1, c.loop-i.invariant.place, c.split_at.ensures.front, c.split_at-in-loop-i.ensures.back) in
+          part_more own_signs _ (signs first before (drop i steps)) c.loop-i.kept.signs _ _
           (sign_parts first steps i at c.loop-i-test.true c.index-steps-i.is) is_put (c.loop-i.invariant.kept kept.0);
       place = c.in_ok-step_over.ensures.value first before c.loop-i.invariant.place ∙ ap (place_at first) (sym near);
       groups = omega (arith, c.in_ok-step_over.ensures.groups);
@@ -35,17 +39,16 @@ loop-i-preserved c =
 
 pub returns-then-is_end-clause-judged : goal.returns-then-is_end-clause-judged
 returns-then-is_end-clause-judged c =
-    let first = c.args.v.now.first in let steps = c.as_slice-steps.result.now in let i = c.loop-i.i in let at = c.index-steps-i.result in let before = reverse (take i steps) in let old = c.args.weights.now in
-    let judged = step_so_far first steps i at _ _ _ _ _ _ _ _ _ c.loop-i-test.true c.index-steps-i.is c.loop-i.invariant.place
-    c.split_at.ensures.front c.split_at-in-loop-i.ensures.back c.loop-i.invariant.judged c.in_ok-judge_step.ensures.fault c.earlier-found.ensures.value c.in_ok-judge_step.ensures.weights in
-    let own : c.split_at-then-len-limit.result.1.now ≡ drop (length old) c.judge_step.new.weights = cc (c.split_at-then-len-limit.ensures.back, c.as_slice.ensures, c.len-start.ensures) in
-    let end = subst (λ z. IsEnd z at (drop (i + 1) steps)) own (subst (λ z. IsEnd c.split_at-then-len-limit.result.1.now at z) c.split_at-in-loop-i.ensures.back (c.is_end.ensures c.if-is_end.true)) in
-    let all = judged_to first steps before at (drop (i + 1) steps) c.earlier-found.result old c.judge_step.new.weights judged.0 judged.1 end in
-    subst (λ z. AreJudged (faults_in first [] z) (weights_in first [] z) c.earlier-found.result old c.judge_step.new.weights) c.as_slice-steps.ensures all
+    let first = c.args.v.now.first in let steps = c.as_slice-steps.result.now in
+    let judged = step_so_far first steps c.loop-i.i c.loop-i-test.true c.index-steps-i.is c.loop-i.invariant.place c.split_at.ensures.front
+    c.split_at-in-loop-i.ensures.back c.loop-i.invariant.judged c.in_ok-judge_step.ensures.fault c.earlier-found.ensures.value
+    c.in_ok-judge_step.ensures.weights in
+    let own : c.split_at-then-len-limit.result.1.now ≡ drop (length c.args.weights.now) c.judge_step.new.weights =
+    cc (c.split_at-then-len-limit.ensures.back, c.as_slice.ensures, c.len-start.ensures) in
+    let end = rw (own, c.split_at-in-loop-i.ensures.back) at (c.is_end.ensures c.if-is_end.true) in
+    rw c.as_slice-steps.ensures at (judged_to first steps _ judged.0 judged.1 end)
 
 pub returns-clause-judged : goal.returns-clause-judged
 returns-clause-judged c =
-    let first = c.args.v.now.first in let steps = c.as_slice-steps.result.now in let before = reverse (take c.loop-i.i steps) in
-    let all = subst (λ z. IsAt first steps before z c.loop-i.found c.args.weights.now c.loop-i.weights) (drop_all c.loop-i.i steps c.loop-i-test.false) c.loop-i.invariant.judged in
-    subst (λ z. AreJudged (faults_in first [] z) (weights_in first [] z) c.loop-i.found c.args.weights.now c.loop-i.weights) c.as_slice-steps.ensures
-    (judged_whole (faults_in first [] steps) (weights_in first [] steps) c.loop-i.found c.args.weights.now c.loop-i.weights all)
+    let steps = c.as_slice-steps.result.now in
+    rw c.as_slice-steps.ensures at (judged_whole (rw (drop_all c.loop-i.i steps c.loop-i-test.false) at c.loop-i.invariant.judged))

@@ -1,6 +1,6 @@
-use Rattle.std.{proofs.Common.◌≡◌, proofs.Common.drop, specs.Prelude.fold, specs.Prelude.map, specs.Prelude.max}
-use Rattle.abc_score.specs.{Judged.reads_of, Score.own_measures}
+use Rattle.{std.{proofs.Common.{◌≡◌, drop}, specs.Prelude.{fold, map, max}}, abc_score.specs.{Judged.reads_of, Score.own_measures}}
 use Rattle.abc_score.proofs.scores.most_measures.Given as goal
 
 abbrev pub invariant-loop-judged : goal.invariant-loop-judged
-invariant-loop-judged l = fold max l.most (map own_measures (reads_of (drop l.judged-index l.voices))) ≡ fold max 0 (map own_measures (reads_of l.voices))
+invariant-loop-judged l =
+    fold max l.most (map own_measures (reads_of (drop l.judged-index l.voices))) ≡ fold max 0 (map own_measures (reads_of l.voices))

@@ -1,10 +1,12 @@
-use Rattle.std.{proofs.Common.◌≡◌, proofs.Common.◌++◌, proofs.Common.map, proofs.Common.length, specs.List.All, specs.Prelude.None, specs.Vec.Iter.into_iter_items, specs.Vec.Iter.into_iter_len}
-use Rattle.{abc_items.specs.Voices.{unnamed_of}, abc_words.specs.Verses.{verse_fault}, abc_score.specs.{declared.keeping.Judged.Judged, Judged.HasKept, Judged.reads_of, Voices.IsGoodRead, Score.voice_of}}
+use Rattle.std.{proofs.Common.{◌≡◌, ◌++◌, map, length}, specs.{List.All, Prelude.None, Vec.Iter.{into_iter_items, into_iter_len}}}
+use Rattle.{abc_items.specs.Voices.unnamed_of, abc_words.specs.Verses.verse_fault}
+use Rattle.abc_score.specs.{declared.keeping.Judged.Judged, Judged.{HasKept, reads_of}, Voices.IsGoodRead, Score.voice_of}
 use Rattle.abc_score.proofs.scores.voices_with.Given as goal
 
 abbrev pub invariant-loop-judged : goal.invariant-loop-judged
 invariant-loop-judged l = record {
-  list : l.out ++ map (voice_of l.header l.items l.n) (reads_of (into_iter_items l.judged-iterator)) ≡ map (voice_of l.header l.items l.n) (reads_of (into_iter_items l.initial.judged-iterator));
+  list : l.out ++ map (voice_of l.header l.items l.n) (reads_of (into_iter_items l.judged-iterator))
+      ≡ map (voice_of l.header l.items l.n) (reads_of (into_iter_items l.initial.judged-iterator));
   good : All (λ (j : Judged). IsGoodRead j.read) (into_iter_items l.judged-iterator);
   kept : All HasKept (into_iter_items l.judged-iterator);
   clear : All (λ (j : Judged). verse_fault j.read.start.id (unnamed_of l.header) l.items ≡ None) (into_iter_items l.judged-iterator);

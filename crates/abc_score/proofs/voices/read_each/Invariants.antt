@@ -1,10 +1,11 @@
-use Rattle.std.{proofs.Common.◌≡◌, proofs.Common.◌++◌, proofs.Common.map, proofs.Common.length, specs.List.All, specs.Vec.Iter.into_iter_items, specs.Vec.Iter.into_iter_len}
+use Rattle.std.{proofs.Common.{◌≡◌, ◌++◌, map, length}, specs.{List.All, Vec.Iter.{into_iter_items, into_iter_len}}}
 use Rattle.abc_score.specs.Voices.{voice_read, IsGoodRead}
 use Rattle.abc_score.proofs.voices.read_each.Given as goal
 
 abbrev pub invariant-loop-start : goal.invariant-loop-start
 invariant-loop-start l = record {
-  list : l.voices ++ map (voice_read l.header l.items) (into_iter_items l.start-iterator) ≡ map (voice_read l.header l.items) (into_iter_items l.initial.start-iterator);
+  list : l.voices ++ map (voice_read l.header l.items) (into_iter_items l.start-iterator)
+      ≡ map (voice_read l.header l.items) (into_iter_items l.initial.start-iterator);
   count : into_iter_len l.start-iterator ≡ length (into_iter_items l.start-iterator);
   good : All IsGoodRead l.voices;
 }
