@@ -1,6 +1,6 @@
 -- What a score without faults has: voices without verses that are too many, and at most 2000 measures.
-use Rattle.std.{specs.{Prelude.{fold, max, flat_map, is_none}, List.{All, AllByRecursion}}, proofs.Common.{cond, None, arith, map, reverse}}
-use Rattle.std.proofs.Common.{◌≡◌, ◌∙◌, refl, sym, ap, subst, ℕ, ◌+◌, ◌-◌, ◌≤◌, ◌<◌, List, [], ◌∷◌, ◌++◌, append-nil, append_assoc, Bool, true, false}
+use Rattle.std.{specs.{Prelude.{fold, max, flat_map, is_none}, List.{All, AllByRecursion}}, proofs.Common.{append_assoc, Bool, true, false}}
+use Rattle.std.proofs.Common.{cond, None, arith, map, reverse, ◌≡◌, ◌∙◌, refl, sym, ap, subst, ℕ, ◌+◌, ◌-◌, ◌≤◌, ◌<◌, List, [], ◌∷◌, ◌++◌, append-nil}
 use Rattle.std.proofs.lemmas.{Bool.leb-false, List.{reverse-append, Elements.{All-weaker, All-from_recursion}}}
 use Rattle.{abc_lines.specs.declared.fault.FaultKind.FaultKind, mus_units.specs.Parts.parts_list}
 use Rattle.abc_faults.specs.Faults.{any_off, fault_if, faults_of, faults_in, grace_faults, is_free, sound_faults}

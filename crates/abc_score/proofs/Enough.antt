@@ -1,6 +1,6 @@
 -- Enough faults and weights tell the first fault of all.
-use Rattle.std.proofs.{Common.{None, ⊎_elim, inl, inr, arith}, lemmas.List.Sums.sum_by-append, Math.Logic.⊎_map}
-use Rattle.std.proofs.Common.{◌≡◌, ◌∙◌, refl, sym, ap, subst, List, [], ◌∷◌, ◌++◌, append_assoc, append-nil, map, Bool, true, false, Option, Some}
+use Rattle.std.proofs.{Common.{true, false, Option, Some}, lemmas.List.Sums.sum_by-append, Math.Logic.⊎_map}
+use Rattle.std.proofs.Common.{None, ⊎_elim, inl, inr, arith, ◌≡◌, ◌∙◌, refl, sym, ap, subst, List, [], ◌∷◌, ◌++◌, append_assoc, append-nil, map, Bool}
 use Rattle.std.proofs.lemmas.List.Elements.{Contains-append_left, Contains-append_right, Contains-append_cases, All-from_recursion, All-contains}
 use Rattle.std.specs.{Prelude.{◌<◌, ◌⊎◌}, List.{AllByRecursion, Contains}}
 use Rattle.{abc_lines.specs.declared.fault.Fault.Fault, abc_score.specs.Judged.{HasCrowd, IsWithin, AreEnough, AreJudged}}

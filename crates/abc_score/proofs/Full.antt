@@ -1,49 +1,32 @@
 -- In each measure of a voice without faults tuplets are full and events good.
-use Rattle.std.proofs.{lemmas.List.{reverse-append, Elements.{All-from_recursion, All-take, recursion_from_All}}, Common.arith}
-use Rattle.std.proofs.Common.{◌≡◌, refl, sym, subst, ℕ, zero, suc, ◌+◌, ◌-◌, ◌≤◌, List, [], ◌∷◌, ◌++◌, Bool, true, false, cond, ◌==◌, reverse, take}
-use Rattle.std.specs.{Prelude.flat_map, List.{AllByRecursion, position_or_len}}
+use Rattle.std.{proofs.lemmas.List.Elements.recursion_from_All, specs.List.AllByRecursion}
+use Rattle.std.proofs.Common.{arith, ◌≡◌, refl, sym, subst, ℕ, zero, suc, ◌+◌, ◌-◌, ◌≤◌, List, [], ◌∷◌, ◌++◌, Bool, true, false, cond, ◌==◌}
 use Rattle.{mus_units.specs.{declared.{note.Deco.Deco, key.Meter.Meter}, Good.IsGoodMeter}, abc_notes.specs.declared.part.GraceChord.GraceChord}
-use Rattle.{mus_score.specs.{declared.score.Music.Music, Good.outside}, abc_tokens.specs.Good.AreGoodGraces}
+use Rattle.{mus_score.specs.{declared.score.Music.Music, Good.outside}, abc_tokens.specs.Good.{AreGoodGraces, HasGraceHead}}
 use Rattle.abc_faults.specs.Faults.{ends_tuplets, faults_in, faults_of, is_free, sounds_behind}
 use Rattle.abc_steps.specs.{declared.{step.{Step.Step, Stood.Stood}, force.InForce.InForce, place.Place.Place, tuplets.Taking.Taking}, Force.force_at}
 use Rattle.abc_steps.specs.{Counts.{all_further, begins_group, further, groups, measure_at, nearest_at}, Good.{IsGoodForce, IsGoodStep, IsGoodStood}}
 use Rattle.abc_steps.specs.{Tuplets.{after_event, is_compound, or_default, taking_at, taking_behind, usual_q}, Places.{place_at, measure_of}}
-use Rattle.abc_steps.specs.{Kinds.{is_event, is_sound}, Looks.{Steps, since_event}}
+use Rattle.abc_steps.specs.{Looks.{Steps, since_event}, Kinds.is_sound}
 use Rattle.abc_events.specs.{Signs.{IsDrawn, further_rests, parted_at, rest_written, signs, signs_of, sound_written}, declared.written.Sign.Sign}
 use Rattle.abc_events.specs.{Waits.{graces_in, nothing, waiting_of}, Leaves.{Words, leaves_from, words_at}, Measures.leaves_in, Leaf.Leaf}
 use Rattle.abc_score.proofs.{Judging.{IsFew, rest_good, rest_values, sound_good, sound_some}, Nested.{HasSome, IsGoodAt, IsRatio, WellNested}}
-use Rattle.abc_score.proofs.{Basics.{all_both, back_all, either, front_all, none_before, none_behind}, Clear.{rest_clear, sound_clear}}
+use Rattle.abc_score.proofs.{Basics.{back_all, either, front_all, none_before, none_behind}, Clear.{rest_clear, sound_clear}}
+use Rattle.abc_score.proofs.Since.{all_wait, each_at}
 use Rattle.abc_score.proofs.Walks.{Enough, next_enough, none_open, open_with, sound_parts, sounds_on, tuplet_clear, walk_force}
 
 -- ---- graces that wait
-all_reversed : {X : Type 0} (P : X → Type 0) (xs : List X) → AllByRecursion P xs → AllByRecursion P (reverse xs)
-all_reversed P [] all = tt
-all_reversed P (x ∷ xs) all =
-    subst (AllByRecursion P) (sym (reverse-append (x ∷ []) xs)) (all_both P (reverse xs) _ (all_reversed P xs all.1) (all.0, tt))
-
-all_since : (P : Stood → Type 0) (before : Steps) → AllByRecursion P before → AllByRecursion P (since_event before)
-unfolding since_event
-all_since P before all =
-    let n = position_or_len (λ (s : Stood). is_event s.step) before in
-    all_reversed P (take n before) (recursion_from_All P (take n before) (All-take P n before (All-from_recursion P before all)))
-
-more_graces : (xs ys : List GraceChord) → AreGoodGraces xs → AreGoodGraces ys → AreGoodGraces (xs ++ ys)
-more_graces [] ys a b = b
-more_graces (x ∷ xs) ys a b = (a.0, more_graces xs ys a.1 b)
-
 step_graces : (s : Step) → IsGoodStep s → AreGoodGraces (graces_in s)
 unfolding graces_in
 step_graces (Step.Grace slash body) good = good
 step_graces _ good = tt
 
-waits_graces : (waits : Steps) → AllByRecursion IsGoodStood waits → AreGoodGraces (flat_map (λ s. graces_in s.step) waits)
-waits_graces [] all = tt
-waits_graces (s ∷ waits) all = more_graces _ _ (step_graces s.step all.0) (waits_graces waits all.1)
-
 waiting_graces : (now : InForce) (before : Steps) (decos : List Deco) → AllByRecursion IsGoodStood before
     → AreGoodGraces (waiting_of now (since_event before) decos).graces
 unfolding waiting_of
-waiting_graces now before decos all = waits_graces (since_event before) (all_since IsGoodStood before all)
+waiting_graces now before decos all =
+    each_at (λ (g : GraceChord). HasGraceHead g.heads) IsGoodStood (λ s. graces_in s.step) (λ s good. step_graces s.step good) (since_event before)
+    (all_wait IsGoodStood before all)
 
 -- ---- one leaf more
 

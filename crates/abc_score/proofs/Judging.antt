@@ -1,6 +1,6 @@
 -- The nodes of a written event are good: of a note, a chord or a rest wherever it stands, and of a whole measure rest outside tuplets.
-use Rattle.std.{proofs.Common.{None, unwrap_or, IsTrue, div-le_self, le_trans, mul-le-mul_right, lit≤, arith}, specs.List.AllByRecursion}
-use Rattle.std.proofs.Common.{◌≡◌, ◌∙◌, refl, ap, ℕ, suc, ◌+◌, ◌*◌, ◌≤◌, List, [], ◌∷◌, map, length, Bool, true, false, cond, ◌&&◌, ◌==◌, nat_le}
+use Rattle.std.{proofs.Common.{◌≤◌, List, ◌∷◌, map, length, Bool, true, false, cond, ◌&&◌, ◌==◌, nat_le}, specs.List.AllByRecursion}
+use Rattle.std.proofs.Common.{None, unwrap_or, IsTrue, div-le_self, le_trans, mul-le-mul_right, lit≤, arith, ◌≡◌, ◌∙◌, refl, ap, ℕ, suc, ◌+◌, ◌*◌, []}
 use Rattle.std.proofs.lemmas.{Bool.{Decides.nat_tests, and_from, or_left}, Nat.le-div}
 use Rattle.{abc_notes.specs.declared.part.GraceChord.GraceChord, abc_tokens.specs.Good.{AreGoodGraces, HasGraceHead}, abc_faults.specs.Faults.is_free}
 use Rattle.abc_steps.specs.{declared.{step.Stood.Stood, tuplets.Taking.Taking, place.Place.Place as Stand}, Force.meter_ticks}
@@ -9,8 +9,8 @@ use Rattle.mus_units.specs.{declared.{note.Head.Head, key.Meter.Meter, value.{Va
 use Rattle.mus_units.specs.Value.{value_length}
 use Rattle.mus_score.proofs.Bounds.{value_low, value_high}
 use Rattle.mus_score.specs.{declared.{score.Event.Event, good.{Judged.Judged, Place.Place}}, Good.{good_step, judged_within, outside}}
-use Rattle.abc_events.specs.{declared.written.{Written.Written, Waiting.Waiting}, Signs.{rest_written, whole_value}, Leaves.{grace_nodes, nodes_of}}
-use Rattle.abc_events.specs.Leaves.{Words, eighth, first_part, later_part, later_parts, parts, node_of, note_or_rest, grace_event, grace_note}
+use Rattle.abc_events.specs.{declared.written.{Written.Written, Waiting.Waiting}, Signs.{rest_written, whole_value}, Leaves.{grace_event, grace_note}}
+use Rattle.abc_events.specs.Leaves.{grace_nodes, nodes_of, Words, eighth, first_part, later_part, later_parts, parts, node_of, note_or_rest}
 
 -- ---- events
 pub record IsPlayed (e : Event) : Type 0 where

@@ -14,6 +14,7 @@ pub mod Reaching
 pub mod Rising
 pub mod Rows
 pub mod Segments
+pub mod Since
 pub mod Singing
 pub mod Stops
 pub mod Taken

@@ -1,6 +1,6 @@
 -- The words of a body stand on its lines in their order, so their lines rise.
-use Rattle.std.{specs.Prelude.{⊤, flat_map, Result, Ok, Err}, proofs.Common.{drop, arith}}
-use Rattle.std.proofs.Common.{◌≡◌, ◌∙◌, refl, sym, ap, subst, ℕ, zero, suc, ◌≤◌, ◌<◌, List, [], ◌∷◌, ◌++◌, Bool, true, false, Option, Some, None}
+use Rattle.std.{specs.Prelude.{⊤, flat_map, Result, Ok, Err}, proofs.Common.{Some, None}}
+use Rattle.std.proofs.Common.{drop, arith, ◌≡◌, ◌∙◌, refl, sym, ap, subst, ℕ, zero, suc, ◌≤◌, ◌<◌, List, [], ◌∷◌, ◌++◌, Bool, true, false, Option}
 use Rattle.{abc_pieces.specs.declared.token.Token.Token, abc_tokens.specs.declared.token.Placed.Placed, abc_steps.specs.declared.step.Item.Item}
 use Rattle.abc_fields.specs.{declared.{directive.Breaks.Breaks, field.Field.Field}, Fields.{field_of, named_field}}
 use Rattle.{abc_header.specs.declared.header.Header.Header, abc_score.specs.Order.{DoWordsRiseFrom, DoWordsRise}}

@@ -1,6 +1,6 @@
 -- The tree of a measure is good where its tuplets are full and its events good.
-use Rattle.std.{proofs.{lemmas.Bool.{and_parts, and_from, or_left, or_right, Decides.nat_tests}, Common.{◌||◌, nat_le, arith}}, specs.Prelude.⊤}
-use Rattle.std.proofs.Common.{◌≡◌, ◌∙◌, refl, sym, ap, subst, ℕ, zero, suc, ◌+◌, ◌-◌, ◌≤◌, List, [], ◌∷◌, ◌++◌, map, Bool, true, false, cond, ◌&&◌}
+use Rattle.std.{proofs.{lemmas.Bool.{and_parts, and_from, or_left, or_right, Decides.nat_tests}, Common.{false, cond, ◌&&◌}}, specs.Prelude.⊤}
+use Rattle.std.proofs.Common.{◌||◌, nat_le, arith, ◌≡◌, ◌∙◌, refl, sym, ap, subst, ℕ, zero, suc, ◌+◌, ◌-◌, ◌≤◌, List, [], ◌∷◌, ◌++◌, map, Bool, true}
 use Rattle.mus_score.specs.{declared.{score.Music.Music, good.{Judged.Judged, Place.Place}}, Good.{all_judged, good_step, judged_within, outside}}
 use Rattle.{abc_steps.specs.{declared.tuplets.Taking.Taking, Tuplets.{fits, one_less, after_event, opened}}, abc_score.proofs.Rows.at_tuplet}
 use Rattle.abc_events.specs.{Leaf.Leaf, Nesting.{Forest, none_more, one, group, cut, nest, music_of, tree_of}}

@@ -1,17 +1,16 @@
 -- Heads and graces of a voice without faults are within reach, in the clef at their event.
+use Rattle.std.{proofs.lemmas.{Int.ints, List.Folds.list_any-append, Bool.or_parts}, specs.{Prelude.flat_map, List.{AllByRecursion, list_any}}}
 use Rattle.std.proofs.Common.{◌≡◌, ◌∙◌, refl, sym, ap, subst, ℕ, zero, suc, ◌+◌, ◌-◌, ℤ, pos, negsuc, ◌≤ℤ◌, int_lt, List, [], ◌∷◌, ◌++◌, Bool, true}
-use Rattle.std.proofs.Common.{false, cond, not, ◌||◌, Option, Some, None, is_some, unwrap_or, arith}
-use Rattle.std.proofs.lemmas.{Int.ints, List.Sums.take_while-cons, Bool.or_parts}
-use Rattle.std.specs.{Prelude.flat_map, List.{AllByRecursion, before_first, list_any}}
+use Rattle.std.proofs.Common.{false, cond, ◌||◌, Option, Some, None, is_some, unwrap_or, arith}
 use Rattle.mus_units.specs.{declared.{note.{Head.Head, Deco.Deco}, pitch.Clef.Clef}, Pitch.height_of}
 use Rattle.abc_notes.specs.declared.part.GraceChord.{GraceChord}
 use Rattle.abc_faults.specs.Faults.{any_grace_off, any_off, faults_in, faults_of, grace_faults, grace_faults_of, is_off}
 use Rattle.abc_steps.specs.{declared.{step.{Step.Step, Stood.Stood}, force.InForce.InForce, place.Place.Place}, Looks.{Steps, is_tied, since_event}}
 use Rattle.abc_steps.specs.{Force.{changes_at, force_at, force_behind, names_clef, when}, Places.{place_at, measure_of}, Kinds.is_event}
-use Rattle.abc_events.{specs.declared.written.Sign.Sign, proofs.BarRows.any_reverse}
 use Rattle.abc_events.specs.{Signs.{further_rests, rest_written, signs, signs_of, sound_written, tied_heads, with_tie}, Waits.{graces_in, waiting_of}}
+use Rattle.abc_events.specs.declared.written.Sign.{Sign}
 use Rattle.abc_score.proofs.{Basics.{all_both, with_tuplet, none_before, none_behind}, Clear.{no_fault, rest_clear, sound_clear}}
-use Rattle.abc_score.proofs.Parts.{SignsReach, heads_reach, DoReach}
+use Rattle.abc_score.proofs.{Parts.{SignsReach, heads_reach, DoReach}, Since.{since_none, since_on}}
 
 -- ---- heads and graces
 height_reach : (z : ℤ) → int_lt z (negsuc 13) ≡ false → int_lt (pos 22) z ≡ false → (negsuc 13 ≤ℤ z) × (z ≤ℤ pos 22)
@@ -58,30 +57,6 @@ abbrev pub event_clef : InForce → Steps → Clef
 event_clef first [] = first.clef
 event_clef first (s ∷ before) = cond (is_event s.step) (force_at first before).clef (event_clef first before)
 
--- whether a step since that one names a clef
-abbrev pub any_near : Steps → Bool
-any_near [] = false
-any_near (s ∷ before) = cond (is_event s.step) false (names_clef s.step || any_near before)
-
-abbrev any_clef : Steps → Bool
-any_clef steps = list_any (λ (s : Stood). names_clef s.step) steps
-
-abbrev near_steps : Steps → Steps
-near_steps before = before_first (λ (s : Stood). is_event s.step) before
-
-near_is : (before : Steps) → any_clef (near_steps before) ≡ any_near before
-near_is [] = refl
-near_is (s ∷ before) =
-    ap any_clef (take_while-cons (λ (s : Stood). not (is_event s.step)) s before) ∙ by_test (is_event s.step) (near_is before) where
-      by_test : (b : Bool) → any_clef (near_steps before) ≡ any_near before
-          → any_clef (cond (not b) (s ∷ near_steps before) []) ≡ cond b false (names_clef s.step || any_near before)
-      by_test true others = refl
-      by_test false others = ap (λ b. names_clef s.step || b) others
-
-any_since : (before : Steps) → any_clef (since_event before) ≡ any_near before
-unfolding since_event
-any_since before = any_reverse (λ (s : Stood). names_clef s.step) (near_steps before) ∙ near_is before
-
 event_force : (s : Step) (now : InForce) → is_event s ≡ true → force_behind s now ≡ now
 unfolding is_event force_behind
 event_force (Step.Sound s) now e = refl
@@ -98,29 +73,34 @@ not_clef (Step.Clef clef) now e = absurd cc
 not_clef (Step.Key text) now e = no_clef text.clef now.clef e
 not_clef _ now e = refl
 
--- a clef stands at an event if it is named since the last one, at which it stood if not
+-- the clef that a step names stands, and where none does, the one before
+abbrev any_clef : Steps → Bool
+any_clef steps = list_any (λ (s : Stood). names_clef s.step) steps
+
 abbrev Shows : Bool → Clef → Clef → Type 0
-Shows b last now = unwrap_or (when b now) last ≡ now
+Shows named last now = unwrap_or (when named now) last ≡ now
 
-clef_here : (first : InForce) (before : Steps) → Shows (any_near before) (event_clef first before) (force_at first before).clef
-clef_here first [] = refl
-clef_here first (s ∷ before) = by_test (is_event s.step) refl (clef_here first before) where
-  by_names : (b : Bool) (last : Clef) → names_clef s.step ≡ b → Shows (any_near before) last (force_at first before).clef
-      → Shows (b || any_near before) last (force_behind s.step (force_at first before)).clef
-  by_names true last e others = refl
-  by_names false last e others = subst (Shows (any_near before) last) (sym (not_clef s.step (force_at first before) e)) others
+shows_more : (named more : Bool) (last now next : Clef) → (more ≡ false → next ≡ now) → Shows named last now
+    → Shows (named || (more || false)) last next
+shows_more false false last now next same h = h ∙ sym (same refl)
+shows_more _ _ last now next same h = refl
 
-  by_test : (b : Bool) → is_event s.step ≡ b → Shows (any_near before) (event_clef first before) (force_at first before).clef
-      → Shows (cond b false (names_clef s.step || any_near before)) (cond b (force_at first before).clef (event_clef first before))
+clef_here : (first : InForce) (before : Steps) → Shows (any_clef (since_event before)) (event_clef first before) (force_at first before).clef
+clef_here first [] = rw since_none refl
+clef_here first (s ∷ before) = rw (since_on s before) (by_event (is_event s.step) refl (clef_here first before)) where
+  by_event : (b : Bool) → is_event s.step ≡ b → Shows (any_clef (since_event before)) (event_clef first before) (force_at first before).clef
+      → Shows (any_clef (cond b [] (since_event before ++ s ∷ []))) (cond b (force_at first before).clef (event_clef first before))
       (force_behind s.step (force_at first before)).clef
-  by_test true e others = sym (ap (λ (f : InForce). f.clef) (event_force s.step (force_at first before) e))
-  by_test false e others = by_names (names_clef s.step) (event_clef first before) refl others
+  by_event true e others = sym (ap (λ (f : InForce). f.clef) (event_force s.step (force_at first before) e))
+  by_event false e others =
+      let same = not_clef s.step (force_at first before) in
+      rw (list_any-append (λ (s : Stood). names_clef s.step) (since_event before) (s ∷ []))
+      (shows_more _ (names_clef s.step) _ (force_at first before).clef _ same others)
 
 waiting_clef : (first : InForce) (before : Steps) (decos : List Deco)
     → unwrap_or (waiting_of (force_at first before) (since_event before) decos).changes.clef (event_clef first before) ≡ (force_at first before).clef
 unfolding waiting_of changes_at
-waiting_clef first before decos =
-    ap (λ b. unwrap_or (when b (force_at first before).clef) (event_clef first before)) (any_since before) ∙ clef_here first before
+waiting_clef first before decos = clef_here first before
 
 -- ---- all steps
 further_reach : (clef : Clef) (now : Place) (at : Stood) (seen : Bool) (measure n : ℕ) (rest : List Sign) → SignsReach clef rest

@@ -1,6 +1,6 @@
 -- No event of a voice stands in an earlier measure than one before it, and none past its own measures.
-use Rattle.std.{specs.{Prelude.fold, List.AllByRecursion}, proofs.Common.{max, append-nil, arith}}
-use Rattle.std.proofs.Common.{◌≡◌, refl, sym, ap, subst, ℕ, zero, suc, ◌+◌, ◌-◌, ◌≤◌, ◌<◌, List, [], ◌∷◌, ◌++◌, map, Bool, true, false, cond, reverse}
+use Rattle.std.{proofs.Common.{true, false, cond, reverse}, specs.{Prelude.fold, List.AllByRecursion}}
+use Rattle.std.proofs.Common.{max, append-nil, arith, ◌≡◌, refl, sym, ap, subst, ℕ, zero, suc, ◌+◌, ◌-◌, ◌≤◌, ◌<◌, List, [], ◌∷◌, ◌++◌, map, Bool}
 use Rattle.abc_steps.specs.{Counts.{all_further, begins_group, further, groups, measure_at, measures_begun, nearest_at}, Places.place_at, Looks.Steps}
 use Rattle.abc_steps.specs.{declared.{step.{Step.Step, Stood.Stood}, force.InForce.InForce, place.Place.Place}, Kinds.is_event}
 use Rattle.abc_events.specs.{Signs.{further_rests, rest_written, signs, signs_of, sound_written}, Leaves.{Words, leaves_from}}

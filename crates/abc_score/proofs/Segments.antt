@@ -1,6 +1,6 @@
 -- The measures of a voice one after the other are the voice, where no event stands in an earlier measure than one before it.
-use Rattle.std.proofs.{lemmas.Bool.{cases_lt, ne_eqb, eq-eqb}, Common.{cond, arith, ⊎_elim}}
-use Rattle.std.proofs.Common.{◌≡◌, ◌∙◌, refl, sym, ap, subst, ℕ, zero, suc, ◌+◌, ◌≤◌, ◌<◌, List, [], ◌∷◌, ◌++◌, map, sum_by, length, true, false}
+use Rattle.std.proofs.{lemmas.Bool.{cases_lt, ne_eqb, eq-eqb}, Common.{length, true, false}}
+use Rattle.std.proofs.Common.{cond, arith, ⊎_elim, ◌≡◌, ◌∙◌, refl, sym, ap, subst, ℕ, zero, suc, ◌+◌, ◌≤◌, ◌<◌, List, [], ◌∷◌, ◌++◌, map, sum_by}
 use Rattle.std.proofs.lemmas.List.{map-append, Concat.flat_map-append, Folds.flat_map-map, Sums.{sum_by-cons, sum_by-append}}
 use Rattle.std.specs.{Prelude.{⊤, flat_map, ◌==◌}, List.{AllByRecursion, range_with_len}}
 use Rattle.{mus_units.specs.declared.note.Bar.Bar, abc_events.specs.{Leaf.Leaf, Measures.{leaves_in, measure_of, measures_in}}}

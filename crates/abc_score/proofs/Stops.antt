@@ -1,38 +1,16 @@
 -- Behind an event with which there are too many heads and rests no fault comes first.
-use Rattle.std.proofs.{Common.{length, min, Bool, true, false, cond, Option, None, arith}, Math.Seq.drop-append_seam}
-use Rattle.std.proofs.Common.{◌≡◌, ◌∙◌, refl, sym, ap, subst, ℕ, ◌+◌, List, [], ◌∷◌, ◌++◌, append_assoc, append-nil, drop, take, reverse, get_or, map}
-use Rattle.std.proofs.lemmas.{Bool.{and_parts, Decides.nat_tests}, List.{reverse-append, Sums.take_while-cons, Elements.Contains-append_right}}
-use Rattle.std.specs.{Prelude.{◌<◌, not, flat_map}, List.{AllByRecursion, Contains, before_first, list_all}}
+use Rattle.std.{proofs.Common.{append_assoc, append-nil, take, reverse, get_or, map}, specs.{Prelude.◌<◌, List.{AllByRecursion, Contains, list_all}}}
+use Rattle.std.proofs.{lemmas.{Bool.{and_parts, Decides.nat_tests}, List.Elements.Contains-append_right}, Math.Seq.drop-append_seam}
+use Rattle.std.proofs.Common.{length, min, Bool, true, false, Option, None, arith, ◌≡◌, ◌∙◌, refl, sym, ap, subst, ℕ, ◌+◌, List, [], ◌∷◌, ◌++◌, drop}
 use Rattle.{abc_lines.specs.declared.fault.{Fault.Fault, FaultKind.FaultKind}, mus_units.specs.declared.pitch.Clef.Clef}
-use Rattle.abc_score.{specs.Judged.{AreEnough, AreJudged, IsEnd}, proofs.{Basics.{all_both, either}, Enough.{all_enough, enough_behind}}}
 use Rattle.abc_steps.specs.{declared.{step.{Step.Step, Stood.Stood}, force.InForce.InForce, place.Place.Place}, Looks.{Steps, since_event}}
 use Rattle.abc_steps.specs.{Tuplets.{fits, or_default}, Places.place_at, Kinds.is_event}
 use Rattle.abc_faults.proofs.{Caps.{capped_append, crowd_capped}, Firsts.first_append, Walks.at_front}
-use Rattle.abc_faults.specs.{First.{earlier, first_of, is_before}, declared.weights.Weight.Weight, Weights.{weights_in, weights_of}}
+use Rattle.abc_faults.specs.{First.{earlier, first_of, is_before}, declared.weights.Weight.Weight, Weights.stands_before}
 use Rattle.abc_faults.specs.Faults.{fault_at, fault_if, misfit_of, grace_faults_of, grace_faults, sound_faults, faults_of, faults_in}
-use Rattle.abc_faults.specs.Weights.{IsBehind, capped, crowd_fault, crowd_up_to, grace_weights_of, grace_weights, stands_before, weight_at}
-
--- ---- what waits since an event
-none_wait : (P : Stood → Type 0) (at : Stood) (before : Steps) → is_event at.step ≡ true → AllByRecursion P (since_event (at ∷ before))
-unfolding since_event
-none_wait P at before e =
-    let near = before_first (λ s. is_event s.step) before in
-    let none = take_while-cons (λ (s : Stood). not (is_event s.step)) at before ∙ ap (λ b. cond (not b) (at ∷ near) []) e in
-    subst (λ z. AllByRecursion P (reverse z)) (sym none) tt
-
-more_wait : (P : Stood → Type 0) (s : Stood) (before : Steps) → AllByRecursion P (since_event before) → P s
-    → AllByRecursion P (since_event (s ∷ before))
-unfolding since_event
-more_wait P s before w h =
-    let near = before_first (λ s. is_event s.step) before in
-    subst (λ z. AllByRecursion P (reverse z)) (sym (take_while-cons (λ (s : Stood). not (is_event s.step)) s before))
-    (either (λ z. AllByRecursion P (reverse z)) (not (is_event s.step)) (s ∷ near) []
-    (subst (AllByRecursion P) (sym (reverse-append (s ∷ []) near)) (all_both P (reverse near) (s ∷ []) w (h, tt))) tt)
-
-each_at : {X : Type 0} (P : X → Type 0) (Q : Stood → Type 0) (of : Stood → List X) → ((s : Stood) → Q s → AllByRecursion P (of s))
-    → (waits : Steps) → AllByRecursion Q waits → AllByRecursion P (flat_map of waits)
-each_at P Q of h [] all = tt
-each_at P Q of h (s ∷ waits) all = all_both P (of s) _ (h s all.0) (each_at P Q of h waits all.1)
+use Rattle.abc_faults.specs.Weights.{weights_in, weights_of, IsBehind, capped, crowd_fault, crowd_up_to, grace_weights_of, grace_weights, weight_at}
+use Rattle.abc_score.proofs.{Basics.{all_both, either}, Enough.{all_enough, enough_behind}, Since.{each_at, more_wait, none_wait}}
+use Rattle.abc_score.specs.Judged.{AreEnough, AreJudged, IsEnd}
 
 -- ---- faults stand at the steps that follow
 module _ (P : Fault → Type 0) where

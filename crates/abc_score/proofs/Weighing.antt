@@ -1,7 +1,8 @@
 -- What the signs of a voice weigh is at most what its steps weigh, and that of all voices is at most 50,000 where they aren't crowded.
-use Rattle.std.proofs.Common.{◌≡◌, ◌∙◌, refl, sym, ap, subst, ℕ, zero, suc, ◌+◌, ◌-◌, ◌*◌, ◌≤◌, max, List, [], ◌∷◌, sum_by, length, Bool, true, false}
-use Rattle.std.proofs.Common.{cond, Option, Some, None, mul_comm, mul-le-mul_left, arith}
-use Rattle.std.proofs.lemmas.{Bool.Decides.nat_tests, List.{length-map, Sums.{sum_by-cons, sum_by-append}, Elements.Contains-append_right}}
+use Rattle.std.proofs.Common.{⊎_elim, ◌≡◌, ◌∙◌, refl, sym, ap, subst, ℕ, zero, suc, ◌+◌, ◌-◌, ◌*◌, ◌≤◌, max, List, [], ◌∷◌, sum_by, length, Bool}
+use Rattle.std.proofs.Common.{true, false, cond, Option, Some, None, mul_comm, mul-le-mul_left, arith}
+use Rattle.std.proofs.lemmas.Bool.{cases_Bool, cases_lt, Decides.nat_tests}
+use Rattle.std.proofs.lemmas.List.{length-map, Sums.{sum_by-cons, sum_by-append}, Elements.Contains-append_right}
 use Rattle.std.specs.{Prelude.{flat_map, nat_lt, unwrap_or}, List.{AllByRecursion, Contains}}
 use Rattle.mus_units.specs.{declared.{note.{Head.Head, Deco.Deco}, value.Value.Value}, Parts.parts_list}
 use Rattle.abc_notes.specs.declared.part.GraceChord.{GraceChord}
@@ -12,8 +13,8 @@ use Rattle.abc_events.specs.{declared.written.{Written.Written, Waiting.Waiting,
 use Rattle.abc_events.specs.Signs.{further_rests, parted_at, rest_written, signs, signs_of, sound_written, tied_heads, with_tie}
 use Rattle.abc_events.specs.Waits.{graces_in, nothing, waiting_of}
 use Rattle.abc_faults.proofs.Crowds.{crowd_held, not_before_itself}
-use Rattle.abc_faults.specs.{Weights.{stands_before, weight_at, weights_in, weights_of}, declared.weights.Weight.Weight, First.then_below}
-use Rattle.abc_faults.specs.Weights.{count_parts, count_up_to, crowd_fault, crowd_up_to, crowded, grace_weights, grace_weights_of, sound_count}
+use Rattle.abc_faults.specs.{Weights.{grace_weights, grace_weights_of, sound_count}, declared.weights.Weight.Weight, First.then_below}
+use Rattle.abc_faults.specs.Weights.{stands_before, weight_at, weights_in, weights_of, count_parts, count_up_to, crowd_fault, crowd_up_to, crowded}
 
 -- ---- signs
 abbrev pub written_weight : Written → Waiting → ℕ
@@ -124,12 +125,11 @@ later_all m w (v ∷ vs) before all = (below_later m.line m.column w.line w.colu
 
 latest_of : (w : Weight) (ws : List Weight) → Latest (w ∷ ws)
 latest_of w [] = record { weight = w; held = (0, omega arith, refl); behind = (not_before_itself w, tt) }
-latest_of w (v ∷ vs) = more (v ∷ vs) (latest_of v vs) where
-  more : (ws : List Weight) → Latest ws → Latest (w ∷ ws)
-  more ws o = by_test (stands_before o.weight w) refl where
-    by_test : (b : Bool) → stands_before o.weight w ≡ b → Latest (w ∷ ws)
-    by_test true e = record { weight = w; held = (0, omega arith, refl); behind = (not_before_itself w, later_all o.weight w ws e o.behind) }
-    by_test false e = record { weight = o.weight; held = Contains-append_right (w ∷ []) ws o.weight o.held; behind = (e, o.behind) }
+latest_of w (v ∷ vs) =
+    let o = latest_of v vs in
+    ⊎_elim (λ e. record { weight = w; held = (0, omega arith, refl); behind = (not_before_itself w, later_all o.weight w (v ∷ vs) e o.behind) })
+    (λ e. record { weight = o.weight; held = Contains-append_right (w ∷ []) (v ∷ vs) o.weight o.held; behind = (e, o.behind) })
+    (cases_Bool (stands_before o.weight w))
 
 all_count : (m : Weight) (ws : List Weight) → AllByRecursion (λ v. stands_before m v ≡ false) ws → crowd_up_to ws m ≡ sum_by count ws
 all_count m [] all = refl
@@ -137,15 +137,10 @@ all_count m (w ∷ ws) all =
     let here : count_up_to m w ≡ w.count = ap (λ b. cond b 0 w.count) all.0 in
     omega (arith, sum_by-cons (count_up_to m) w ws, here, all_count m ws all.1, sum_by-cons count w ws)
 
-few_with : (ws : List Weight) → Latest ws → crowded ws ≡ [] → sum_by count ws ≤ 50000
-few_with ws o e = by_test (nat_lt 50000 (crowd_up_to ws o.weight)) refl where
-  by_test : (b : Bool) → nat_lt 50000 (crowd_up_to ws o.weight) ≡ b → sum_by count ws ≤ 50000
-  by_test true t =
-      let held = subst (λ fs. Contains fs (crowd_fault o.weight)) e (crowd_held ws o.weight o.held (grind (arith, nat_tests))) in
-      absurd (omega (arith, held.1))
-  by_test false t =
-      let few : crowd_up_to ws o.weight ≤ 50000 = grind (arith, nat_tests) in omega (arith, few, all_count o.weight ws o.behind)
-
 pub not_crowded : (ws : List Weight) → crowded ws ≡ [] → sum_by count ws ≤ 50000
 not_crowded [] e = omega arith
-not_crowded (w ∷ ws) e = few_with (w ∷ ws) (latest_of w ws) e
+not_crowded (w ∷ ws) e =
+    let o = latest_of w ws in let whole = all_count o.weight (w ∷ ws) o.behind in
+    ⊎_elim (λ more.
+    let held = subst (λ fs. Contains fs (crowd_fault o.weight)) e (crowd_held (w ∷ ws) o.weight o.held more) in absurd (omega (arith, held.1)))
+    (λ few. omega (arith, few, whole)) (cases_lt 50000 (crowd_up_to (w ∷ ws) o.weight))
