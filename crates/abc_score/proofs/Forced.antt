@@ -2,7 +2,7 @@
 use Rattle.std.proofs.Common.{◌≡◌, ℕ, ◌+◌, ◌≤◌, ◌<◌, List, [], ◌∷◌, ◌++◌, Bool, true, false, reverse, arith}
 use Rattle.std.proofs.lemmas.Bool.{Decides.nat_tests, and_parts, or_parts, cond_both, leb-true, ltb-true}
 use Rattle.std.specs.{Prelude.{⊤, ◌==◌, ◌&&◌, nat_le, nat_lt}, List.list_any}
-use Rattle.{mus_score.specs.Walks.RiseWithin, abc_events.specs.Bars.{forced_at, forced_bars, forced_behind, is_forced, with_bar}}
+use Rattle.{mus_score.specs.Walks.RiseWithin, abc_events.specs.Bars.{forced_at, forced_bars, forced_behind, is_forced, is_near_bar, with_bar}}
 use Rattle.abc_score.{proofs.Basics.either, specs.{declared.voices.VoiceRead.VoiceRead, Score.forced_of}}
 use Rattle.abc_steps.specs.{Counts.{all_further, begins_group, counts_of, measure_at, nearest_at}, Looks.Steps}
 use Rattle.abc_steps.specs.declared.{step.{Step.Step, Stood.Stood}, counts.Counts.Counts}
@@ -44,8 +44,9 @@ step_rises : (n : ℕ) (counts : Counts) (s : Step) (bs : List ℕ) → Rises 0 
 unfolding forced_behind
 step_rises n counts Step.Break bs rise =
     let bar = counts.groups + counts.further in
-    cond_both (is_forced n counts) _ _ (Rises 0 n bar)
-    (λ e. let parts = and_parts _ _ e in let held = inside bar n parts.1 in with_bar_rises n bar bar bs held.0 held.1 (omega arith) rise) (λ e. rise)
+    cond_both (is_forced n counts) _ _ (Rises 0 n bar) (λ e.
+    let parts = and_parts (is_near_bar counts.nearest) _ e in let held = inside bar n parts.1 in
+    with_bar_rises n bar bar bs held.0 held.1 (omega arith) rise) (λ e. rise)
 step_rises n counts _ bs rise = rise
 
 measure_grows : (s : Stood) (before : Steps) → measure_at before ≤ measure_at (s ∷ before)

@@ -17,7 +17,7 @@ use Rattle.abc_score.proofs.{Clear.{IsClearVoice, few_measures, voices_clear}, R
 use Rattle.abc_score.proofs.{Segments.{Rise, measures_sing, measures_weigh, weight_in}, Weighing.{count, leaves_weigh, not_crowded, signs_weigh}}
 use Rattle.abc_score.proofs.{Reaching.voice_reach, Basics.none_behind, Forced.forced_rise, Nested.nested_good, Walks.walk_whole, Full.all_full}
 use Rattle.abc_score.proofs.{Cores.{CoresCount, CoresReach, IsGoodCore, count_of, events_of_cores, reach_of}, Rising.{own_most, voice_rise}}
-use Rattle.abc_score.specs.{Faults.{score_faults, voice_weights}, declared.voices.VoiceRead.VoiceRead, Voices.{voice_read, voices_read}}
+use Rattle.abc_score.specs.{Faults.{score_faults, voice_faults, voice_weights}, declared.voices.VoiceRead.VoiceRead, Voices.{voice_read, voices_read}}
 use Rattle.abc_score.specs.Score.{event_count, forced_of, most_measures, notes_from, own_measures, score_of, score_with, sung_words, voice_of}
 use Rattle.abc_score.specs.Score.{written_measures}
 
@@ -154,7 +154,8 @@ unfolding score_with
 good_score header items flow good given few e =
     let unnamed = unnamed_of header in let voices = voices_read header items in let n = most_measures voices in
     let made = map (voice_of header items n) voices in
-    let clears = voices_clear unnamed items voices e in let light = not_crowded (flat_map voice_weights voices) (none_behind _ _ e) in
+    let clears = voices_clear unnamed items voices e in let faults = flat_map (voice_faults unnamed items) voices in
+    let light = not_crowded (flat_map voice_weights voices) (none_behind faults _ e) in
     let within = few_measures unnamed items voices clears in let rise = forced_rise flow voices n in
     let known = all_known header items n voices (all_read header items (starts_of header items) good given) clears (own_most voices) in
     record {
