@@ -50,15 +50,16 @@ unfolding after_event
 at_rest k m nodes ls good some h = either (WellNested Taking.Nothing) (m == k) _ _ (tt, good, some, h) h
 
 -- ---- one step more
-abbrev IsQ : ℕ → Type 0
-IsQ q = (1 ≤ q) × (q ≤ 9)
+-- the q of a tuplet
+abbrev IsGoodQ : ℕ → Type 0
+IsGoodQ q = (1 ≤ q) × (q ≤ 9)
 
-usual_within : (p : ℕ) (meter : Meter) → IsQ (usual_q p meter)
+usual_within : (p : ℕ) (meter : Meter) → IsGoodQ (usual_q p meter)
 usual_within p meter =
-    either IsQ _ 3 _ (omega arith, omega arith) (either IsQ _ 2 _ (omega arith, omega arith)
-    (either IsQ (is_compound meter) 3 2 (omega arith, omega arith) (omega arith, omega arith)))
+    either IsGoodQ _ 3 _ (omega arith, omega arith) (either IsGoodQ _ 2 _ (omega arith, omega arith)
+    (either IsGoodQ (is_compound meter) 3 2 (omega arith, omega arith) (omega arith, omega arith)))
 
-default_within : (usual q : ℕ) → IsQ usual → q ≤ 9 → IsQ (or_default usual q)
+default_within : (usual q : ℕ) → IsGoodQ usual → q ≤ 9 → IsGoodQ (or_default usual q)
 default_within usual zero within few = within
 default_within usual (suc q) within few = (omega arith, few)
 
