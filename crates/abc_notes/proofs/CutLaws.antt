@@ -1,7 +1,16 @@
 -- Parts at the front of a text that goes on, and of the text that is cut off there.
-use Rattle.std.{proofs.{Common.{◌≡◌, ℕ, zero, suc, ◌≤◌, ◌<◌, Bool, true, false, eqb, List, [], ◌∷◌, ◌++◌, length, Option, Some, None, refl, sym, ap, ◌∙◌, subst, arith, inl, inr, append_assoc, append-nil, ◌&&◌, not, length-append}, lemmas.{Bool.{or_cases, and_parts, and_from, eqb-true, ne_eqb, not-false}, Option.same_Some, List.Folds.list_all-append}}, specs.List.list_all}
-use Rattle.mus_units.specs.{declared.pitch.Alter.Alter, declared.pitch.Letter.Letter, Bytes.is_digit, declared.pitch.Alter.TheVariants.Sharp2, declared.pitch.Letter.TheVariants.C}
-use Rattle.abc_notes.{specs.{Items.{Inner, note_inside, letter_inside, named_inside, tie_inside, passed_inside, lone_inside, inner_then, IsName, is_passed_inside, is_letter_inside, IsInner, StandsInside, InnerParts, closed_name, name_at, inner_at}, declared.part.ItemClass.ItemClass, Runs.{copies, maybe, is_mark, span_all, begins}, Lengths.{LengthForm, whole, over, halved, length_then, IsLength}, Notes.{NoteForm, note_then, sign_then, letter_byte, IsNote}, Decorations.is_name_byte, Parts.{no_part, then_part, Leads, leads_here, leads_on, walk, spelled_then}}, proofs.{Bounds.digit_range, SpanLaws.{span_all-append, span_all-takes, span_all-pass}, LengthLaws.count-digits, ItemLaws.{below_all, implied, at_class, bang_class}, PartLaws.{Reader, stands_at, by_parts, longest_of, walk-none, walk-some}}}
+use Rattle.std.proofs.Common.{◌≡◌, ℕ, zero, suc, ◌≤◌, ◌<◌, Bool, true, false, cond, eqb, List, [], ◌∷◌, ◌++◌, length, drop, Option, Some, None}
+use Rattle.std.proofs.Common.{refl, sym, ap, ◌∙◌, subst, arith, inl, inr, append_assoc, append-nil, ◌&&◌, not, length-append, option_map}
+use Rattle.std.proofs.lemmas.{Bool.{both_ways, or_cases, and_parts, and_from, eqb-true, eqb-false, ne_eqb, not-true, not-false}, List.Folds.list_all-append}
+use Rattle.std.{proofs.{lemmas.{List.{append_cancel_right, drop-append-le}, Option.{cond_some, some_pair_parts}}, Math.Seq.drop-append_seam}, specs.List.list_all}
+use Rattle.mus_units.specs.{declared.pitch.{Alter.{Alter, TheVariants.Sharp2}, Letter.{Letter, TheVariants.C}}, Bytes.is_digit}
+use Rattle.abc_notes.specs.Items.{Inner, note_inside, letter_inside, named_inside, tie_inside, passed_inside, lone_inside, inner_then, IsName}
+use Rattle.abc_notes.specs.Items.{is_passed_inside, is_letter_inside, IsInner, StandsInside, InnerParts, closed_name, name_at, inner_at}
+use Rattle.abc_notes.specs.{declared.part.ItemClass.ItemClass, Runs.{copies, maybe, is_mark, span_all, begins}, Decorations.is_name_byte}
+use Rattle.abc_notes.specs.{Lengths.{LengthForm, whole, over, halved, length_then, IsLength}, Notes.{NoteForm, note_then, sign_then, letter_byte, IsNote}}
+use Rattle.abc_notes.specs.Parts.{no_part, then_part, Leads, leads_here, leads_on, walk, spelled_then}
+use Rattle.abc_notes.proofs.{Bounds.digit_range, SpanLaws.{span_all-append, span_all-stops, span_all-takes, span_all-pass, span_all-after}, LengthLaws.count-digits}
+use Rattle.abc_notes.proofs.{ItemLaws.{below_all, implied, at_class, bang_class}, PartLaws.{Reader, stands_at, by_parts, longest_of, walk-none, walk-some}}
 
 -- ---- a part and what follows it
 copies_append : (n b : ℕ) (v y : List ℕ) → copies n b v ++ y ≡ copies n b (v ++ y)
@@ -14,21 +23,19 @@ maybe_append false b v y = refl
 
 pub length_append : (f : LengthForm) (v y : List ℕ) → length_then f v ++ y ≡ length_then f (v ++ y)
 length_append (whole c) v y = append_assoc c v y
-length_append (over c b) v y = append_assoc c (47 ∷ (b ++ v)) y ∙ ap (λ t. c ++ (47 ∷ t)) (append_assoc b v y)
-length_append (halved c k) v y = append_assoc c (copies k 47 v) y ∙ ap (λ t. c ++ t) (copies_append k 47 v y)
+length_append (over c b) v y = simp append_assoc
+length_append (halved c k) v y = simp (append_assoc, copies_append)
 
 pub sign_append : (sign : Option Alter) (v y : List ℕ) → sign_then sign v ++ y ≡ sign_then sign (v ++ y)
 sign_append (Some Sharp2) v y = refl
 sign_append _ v y = refl
 
 note_append : (f : NoteForm) (v y : List ℕ) → note_then f v ++ y ≡ note_then f (v ++ y)
-note_append f v y =
-    let b = letter_byte f.low f.letter in let t = length_then f.length v in
-    sign_append f.sign (b ∷ (f.marks ++ t)) y ∙ ap (λ s. sign_then f.sign (b ∷ s)) (append_assoc f.marks t y ∙ ap (λ s. f.marks ++ s) (length_append f.length v y))
+note_append f v y = simp (sign_append, append_assoc, length_append)
 
 pub inner_append : (f : Inner) (v y : List ℕ) → inner_then f v ++ y ≡ inner_then f (v ++ y)
 inner_append (note_inside f) v y = note_append f v y
-inner_append (named_inside name) v y = ap (λ t. 33 ∷ t) (append_assoc name (33 ∷ v) y)
+inner_append (named_inside name) v y = simp append_assoc
 inner_append (tie_inside d) v y = maybe_append d 46 (45 ∷ v) y
 inner_append _ v y = refl
 
@@ -38,17 +45,27 @@ pub record Cut (u w y x : List ℕ) : Type 0 where
   pub behind : x ≡ between ++ y
   pub front : u ≡ w ++ between
 
-pub first_same : (a b : ℕ) (s t : List ℕ) → a ∷ s ≡ b ∷ t → a ≡ b
-first_same a b s t e = cc
+pub first_same : {a b : ℕ} {s t : List ℕ} → a ∷ s ≡ b ∷ t → a ≡ b
+first_same e = cc
 
-pub rest_same : (a b : ℕ) (s t : List ℕ) → a ∷ s ≡ b ∷ t → s ≡ t
-rest_same a b s t e = cc
+pub rest_same : {a b : ℕ} {s t : List ℕ} → a ∷ s ≡ b ∷ t → s ≡ t
+rest_same e = cc
 
 pub cut_at : (u w y x : List ℕ) → u ++ y ≡ w ++ x → length y ≤ length x → Cut u w y x
 cut_at u [] y x e h = record { between = u; behind = sym e; front = refl }
 cut_at [] (b ∷ w) y x e h = absurd (omega (arith, h, ap length e, length-append w x))
 cut_at (a ∷ u) (b ∷ w) y x e h =
-    let r = cut_at u w y x (rest_same a b (u ++ y) (w ++ x) e) h in record { between = r.between; behind = r.behind; front = ap (λ c. c ∷ u) (first_same a b (u ++ y) (w ++ x) e) ∙ ap (λ s. b ∷ s) r.front }
+    let r = cut_at u w y x (rest_same e) h in
+    record { between = r.between; behind = r.behind; front = ap (λ c. c ∷ u) (first_same e) ∙ ap (λ s. b ∷ s) r.front }
+
+-- they are one cut, or some bytes stand between them
+pub cut_cases : {P : Type 0} (u w y x : List ℕ) → u ++ y ≡ w ++ x → length y ≤ length x → (u ≡ w → x ≡ y → P) →
+    ((b : ℕ) (m : List ℕ) → u ≡ w ++ (b ∷ m) → x ≡ b ∷ (m ++ y) → P) → P
+cut_cases {P} u w y x e h here apart = let c = cut_at u w y x e h in by_between c.between c.front c.behind
+  where
+    by_between : (m : List ℕ) → u ≡ w ++ m → x ≡ m ++ y → P
+    by_between [] front behind = here (front ∙ append-nil w) behind
+    by_between (b ∷ m) front behind = apart b m front behind
 
 -- ---- parts that may stand before any text
 pub record Local (I : Type 0) (Stands : I → List ℕ → List ℕ → Type 0) (one : I → List ℕ → List ℕ) : Type 0 where
@@ -57,35 +74,58 @@ pub record Local (I : Type 0) (Stands : I → List ℕ → List ℕ → Type 0) 
   pub appends : (f : I) (v y : List ℕ) → one f v ++ y ≡ one f (v ++ y)
 
 pub inner_local : (bang : Bool) → Local Inner (StandsInside bang) inner_then
-inner_local bang = record { spells = λ f s x stands. stands.cut; moves = λ f s x t y stands e. record { good = stands.good; cut = e }; appends = inner_append }
+inner_local bang = record {
+  spells = λ f s x stands. stands.cut;
+  moves = λ f s x t y stands e. record { good = stands.good; cut = e };
+  appends = inner_append;
+}
 
-module _ {I : Type 0} {Stands : I → List ℕ → List ℕ → Type 0} {at : List ℕ → Option (I × List ℕ)} {one : I → List ℕ → List ℕ} (r : Reader I Stands at) (k : Local I Stands one) where
+module _
+    {I : Type 0} {Stands : I → List ℕ → List ℕ → Type 0} {at : List ℕ → Option (I × List ℕ)} {one : I → List ℕ → List ℕ}
+    (r : Reader I Stands at) (k : Local I Stands one) where
   pub record AtCut (u y : List ℕ) (z : I × List ℕ) : Type 0 where
     pub front : List ℕ
     pub behind : z.1 ≡ front ++ y
     pub at_cut : at u ≡ Some (z.0, front)
 
-  -- a part that ends before the cut is read there too
-  pub read_cut : (u y : List ℕ) (z : I × List ℕ) → at (u ++ y) ≡ Some z → length y ≤ length z.1 → AtCut u y z
-  read_cut u y z e h =
-      let stands = stands_at r (u ++ y) z e in let spelt : u ++ y ≡ one z.0 [] ++ z.1 = k.spells z.0 (u ++ y) z.1 stands ∙ sym (k.appends z.0 [] z.1) in let c = cut_at u (one z.0 []) y z.1 spelt h in
-      let here : u ≡ one z.0 c.between = c.front ∙ k.appends z.0 [] c.between in let o = r.reaches z.0 u c.between (k.moves z.0 (u ++ y) z.1 u c.between stands here) in
-      elim o.2 [
-        | inl shorter ↦
-            (let other = stands_at r u o.0 o.1 in
-            let whole : u ++ y ≡ one o.0.0 (o.0.1 ++ y) = ap (λ s. s ++ y) (k.spells o.0.0 u o.0.1 other) ∙ k.appends o.0.0 o.0.1 y in let l = longest_of r (u ++ y) z e in
-            absurd (omega (arith, shorter, l.longest o.0.0 (o.0.1 ++ y) (k.moves o.0.0 u o.0.1 (u ++ y) (o.0.1 ++ y) other whole), length-append o.0.1 y, ap length c.behind, length-append c.between y)))
-        | inr same ↦ record { front = c.between; behind = c.behind; at_cut = o.1 ∙ ap Some same }
-      ]
-
   -- a part that stands at the front of a text stands there too where the text goes on
   pub moved : (part : I) (u v y : List ℕ) → Stands part u v → Stands part (u ++ y) (v ++ y)
   moved part u v y stands = k.moves part u v (u ++ y) (v ++ y) stands (ap (λ s. s ++ y) (k.spells part u v stands) ∙ k.appends part v y)
 
-  -- and one that ends before the cut is the same there
-  pub no_shorter : (part : I) (u v y : List ℕ) (z : I × List ℕ) → at u ≡ Some (part, v) → at (u ++ y) ≡ Some z → length z.1 < length (v ++ y) → length y ≤ length z.1 → ⊥
+  -- a part that ends before the cut is read there too
+  pub read_cut : (u y : List ℕ) (z : I × List ℕ) → at (u ++ y) ≡ Some z → length y ≤ length z.1 → AtCut u y z
+  read_cut u y z e h =
+      let stands = stands_at r (u ++ y) z e in
+      let spelt : u ++ y ≡ one z.0 [] ++ z.1 = k.spells z.0 (u ++ y) z.1 stands ∙ sym (k.appends z.0 [] z.1) in
+      let c = cut_at u (one z.0 []) y z.1 spelt h in
+      let here : u ≡ one z.0 c.between = c.front ∙ k.appends z.0 [] c.between in
+      let o = r.reaches z.0 u c.between (k.moves z.0 (u ++ y) z.1 u c.between stands here) in
+      elim o.2 [
+        | inl shorter ↦
+            (let longest = (longest_of r (u ++ y) z e).longest o.0.0 (o.0.1 ++ y) (moved o.0.0 u o.0.1 y (stands_at r u o.0 o.1)) in
+            absurd (omega (arith, shorter, longest, length-append o.0.1 y, ap length c.behind, length-append c.between y)))
+        | inr same ↦ record { front = c.between; behind = c.behind; at_cut = o.1 ∙ ap Some same }
+      ]
+
+  -- up to the cut
+  pub read_upto : (u y front : List ℕ) (z : I × List ℕ) → at (u ++ y) ≡ Some z → z.1 ≡ front ++ y → at u ≡ Some (z.0, front)
+  read_upto u y front z e behind =
+      let a = read_cut u y z e (omega (arith, ap length behind, length-append front y)) in
+      a.at_cut ∙ ap (λ (x : List ℕ). Some (z.0, x)) (append_cancel_right a.front front y (sym a.behind ∙ behind))
+
+  -- a part and what is cut behind it
+  pub joined_cut : (text c front : List ℕ) (z : I × List ℕ) → at text ≡ Some z → z.1 ≡ front ++ c →
+      (text ≡ one z.0 front ++ c) × (at (one z.0 front) ≡ Some (z.0, front))
+  joined_cut text c front z e behind =
+      let cut = k.spells z.0 text z.1 (stands_at r text z e) ∙ ap (one z.0) behind ∙ sym (k.appends z.0 front c) in
+      (cut, read_upto (one z.0 front) c front z (ap at (sym cut) ∙ e) behind)
+
+  -- one that ends before the cut is the same there
+  pub no_shorter : (part : I) (u v y : List ℕ) (z : I × List ℕ) → at u ≡ Some (part, v) → at (u ++ y) ≡ Some z →
+      length z.1 < length (v ++ y) → length y ≤ length z.1 → ⊥
   no_shorter part u v y z here e shorter before =
-      let a = read_cut u y z e before in let same : a.front ≡ v = ap (λ (p : I × List ℕ). p.1) (same_Some {A = I × List ℕ} (z.0, a.front) (part, v) (sym a.at_cut ∙ here)) in
+      let a = read_cut u y z e before in
+      let same = (some_pair_parts z.0 part a.front v (sym a.at_cut ∙ here)).1 in
       omega (arith, shorter, ap length a.behind, length-append a.front y, length-append v y, ap length same)
 
   -- the bytes of what is read off a text are the text
@@ -115,10 +155,10 @@ abbrev pub free : ℕ → Bool
 free b = not (eqb b 93) && not (eqb b 125)
 
 digit_free : (b : ℕ) → is_digit b ≡ true → free b ≡ true
-digit_free b h = let r = digit_range b h in rw (ne_eqb b 93 (omega (arith, r.1)), ne_eqb b 125 (omega (arith, r.1))) refl
+digit_free b h = let r = digit_range b h in rw (ne_eqb b 93 (omega arith), ne_eqb b 125 (omega arith)) refl
 
 mark_free : (b : ℕ) → is_mark b ≡ true → free b ≡ true
-mark_free b h = elim (or_cases (eqb b 39) (eqb b 44) h) [ inl prime ↦ rw (eqb-true b 39 prime) refl | inr comma ↦ rw (eqb-true b 44 comma) refl ]
+mark_free b h = elim (or_cases (eqb b 39) (eqb b 44) h) [ inl e ↦ rw (eqb-true b 39 e) refl | inr e ↦ rw (eqb-true b 44 e) refl ]
 
 letter_free : (low : Bool) (l : Letter) → free (letter_byte low l) ≡ true
 letter_free false C = refl
@@ -134,20 +174,22 @@ digits_free ds h = wider is_digit free ds digit_free h
 
 pub length_free : (f : LengthForm) → IsLength f → list_all free (length_then f []) ≡ true
 length_free (whole c) good = all_join free c [] (digits_free c (count-digits 4 c good)) refl
-length_free (over c b) good = all_join free c (47 ∷ (b ++ [])) (digits_free c (count-digits 4 c good.0)) (all_join free b [] (digits_free b good.1.digits) refl)
+length_free (over c b) good =
+    all_join free c (47 ∷ (b ++ [])) (digits_free c (count-digits 4 c good.0)) (all_join free b [] (digits_free b good.1.digits) refl)
 length_free (halved c k) good = all_join free c (copies k 47 []) (digits_free c (count-digits 4 c good.0)) (copies_free k)
 
--- no closing byte stands in a length
-pub length_past : (close : ℕ) (l : LengthForm) (rest m d t : List ℕ) → free close ≡ false → IsLength l → d ≡ close ∷ t → length_then l rest ≡ m ++ d → length rest < length d → ⊥
-length_past close l rest m d t closes good is e short =
-    let c = cut_at (length_then l []) m rest d (length_append l [] rest ∙ e) (omega (arith, short)) in by_between c.between c.behind c.front
-  where
-    by_between : (b : List ℕ) → d ≡ b ++ rest → length_then l [] ≡ m ++ b → ⊥
-    by_between [] behind front = omega (arith, short, ap length behind)
-    by_between (b ∷ bs) behind front =
-        let all : list_all free (m ++ (b ∷ bs)) ≡ true = ap (list_all free) (sym front) ∙ length_free l good in let here : free b ≡ true = (and_parts (free b) (list_all free bs) (all_parts free m (b ∷ bs) all).1).0 in
-        let clash : free close ≡ true = subst (λ y. free y ≡ true) (sym (first_same close b t (bs ++ rest) (sym is ∙ behind))) here in
-        let never = sym closes ∙ clash in cc
+-- no closing byte stands in such bytes
+free_past : (close : ℕ) (s rest m t : List ℕ) → free close ≡ false → list_all free s ≡ true → s ++ rest ≡ m ++ (close ∷ t) →
+    length rest < length (close ∷ t) → ⊥
+free_past close s rest m t closes all e short =
+    cut_cases s m rest (close ∷ t) e (omega (arith, short)) (λ front behind. omega (arith, short, ap length behind))
+    (λ b bs front behind.
+    let here = (all_parts free m (b ∷ bs) (ap (list_all free) (sym front) ∙ all)).1 in
+    both_ways (free b) (ap free (sym (first_same behind)) ∙ closes) (and_parts (free b) (list_all free bs) here).0)
+
+pub length_past : (close : ℕ) (l : LengthForm) (rest m t : List ℕ) → free close ≡ false → IsLength l → length_then l rest ≡ m ++ (close ∷ t) →
+    length rest < length (close ∷ t) → ⊥
+length_past close l rest m t closes good e = free_past close (length_then l []) rest m t closes (length_free l good) (length_append l [] rest ∙ e)
 
 sign_free : (sign : Option Alter) (x : List ℕ) → list_all free x ≡ true → list_all free (sign_then sign x) ≡ true
 sign_free (Some Sharp2) x h = h
@@ -156,10 +198,14 @@ sign_free _ x h = h
 note_free : (f : NoteForm) → IsNote f → list_all free (note_then f []) ≡ true
 note_free f good =
     let b = letter_byte f.low f.letter in let t = length_then f.length [] in
-    sign_free f.sign (b ∷ (f.marks ++ t)) (and_from (free b) (list_all free (f.marks ++ t)) (letter_free f.low f.letter) (all_join free f.marks t (wider is_mark free f.marks mark_free good.marks) (length_free f.length good.length)))
+    let marks = wider is_mark free f.marks mark_free good.marks in
+    let behind = all_join free f.marks t marks (length_free f.length good.length) in
+    sign_free f.sign (b ∷ (f.marks ++ t)) (and_from (free b) (list_all free (f.marks ++ t)) (letter_free f.low f.letter) behind)
 
 letter_inside_free : (b : ℕ) → is_letter_inside b ≡ true → free b ≡ true
-letter_inside_free b h = implied is_letter_inside free 127 b refl (below_all (46 ∷ 126 ∷ 72 ∷ 76 ∷ 77 ∷ 79 ∷ 80 ∷ 83 ∷ 84 ∷ 117 ∷ 118 ∷ []) 127 b refl h) h
+letter_inside_free b h =
+    let below = below_all (46 ∷ 126 ∷ 72 ∷ 76 ∷ 77 ∷ 79 ∷ 80 ∷ 83 ∷ 84 ∷ 117 ∷ 118 ∷ []) 127 b refl h in
+    implied is_letter_inside free 127 b refl below h
 
 passed_free : (b : ℕ) → is_passed_inside b ≡ true → free b ≡ true
 passed_free b h = implied is_passed_inside free 42 b refl (below_all (32 ∷ 9 ∷ 40 ∷ 41 ∷ []) 42 b refl h) h
@@ -176,63 +222,53 @@ inner_free bang (passed_inside b) good h = and_from (free b) true (passed_free b
 inner_free bang (tie_inside true) good h = refl
 inner_free bang _ good h = refl
 
--- ---- where a part goes past a closing byte it is a name, and but for it an exclamation mark is passed over
-pub record Crosses (u name : List ℕ) (close : ℕ) : Type 0 where
-  pub before : List ℕ
-  pub after : List ℕ
-  pub text : u ≡ 33 ∷ before
-  pub name_is : name ≡ before ++ (close ∷ after)
-
-pub record CrossesIn (bang : Bool) (part : Inner) (u : List ℕ) (close : ℕ) : Type 0 where
-  pub name : List ℕ
-  pub is : part ≡ named_inside name
-  pub off : bang ≡ false
-  pub good : IsName name
-  pub crosses : Crosses u name close
-
-none_named : (q : ℕ → Bool) (close : ℕ) (f : Inner) (u bs : List ℕ) → ((b : ℕ) → free b ≡ true → q b ≡ true) → q close ≡ false → list_all free (inner_then f []) ≡ true → inner_then f [] ≡ u ++ (close ∷ bs) → ⊥
-none_named q close f u bs wide closes h e =
-    let all : list_all q (u ++ (close ∷ bs)) ≡ true = ap (list_all q) (sym e) ∙ wider free q (inner_then f []) wide h in
-    let here : q close ≡ true = (and_parts (q close) (list_all q bs) (all_parts q u (close ∷ bs) all).1).0 in
-    let clash = sym closes ∙ here in cc
-
-name_ends : (close : ℕ) (name before bs : List ℕ) → eqb close 33 ≡ false → name ++ (33 ∷ []) ≡ before ++ (close ∷ bs) → (after : List ℕ) × (name ≡ before ++ (close ∷ after))
-name_ends close name before bs other e = from_cut (cut_at name before (33 ∷ []) (close ∷ bs) e (omega arith))
-  where
-    by_between : (m : List ℕ) → close ∷ bs ≡ m ++ (33 ∷ []) → name ≡ before ++ m → (after : List ℕ) × (name ≡ before ++ (close ∷ after))
-    by_between [] is front = absurd (let same : close ≡ 33 = first_same close 33 bs [] is in let clash : eqb 33 33 ≡ false = subst (λ x. eqb x 33 ≡ false) same other in cc)
-    by_between (c ∷ m) is front = (m, front ∙ ap (λ x. before ++ (x ∷ m)) (sym (first_same close c bs (m ++ (33 ∷ [])) is)))
-
-    from_cut : Cut name before (33 ∷ []) (close ∷ bs) → (after : List ℕ) × (name ≡ before ++ (close ∷ after))
-    from_cut c = by_between c.between c.behind c.front
-
-named_crosses : (close : ℕ) (name u bs : List ℕ) → eqb close 33 ≡ false → inner_then (named_inside name) [] ≡ u ++ (close ∷ bs) → Crosses u name close
-named_crosses close name [] bs other e = absurd (let same : 33 ≡ close = first_same 33 close (name ++ (33 ∷ [])) bs e in let clash : eqb 33 33 ≡ false = subst (λ x. eqb x 33 ≡ false) (sym same) other in cc)
-named_crosses close name (b ∷ u) bs other e =
-    let r = name_ends close name u bs other (rest_same 33 b (name ++ (33 ∷ [])) (u ++ (close ∷ bs)) e) in
-    record { before = u; after = r.0; text = ap (λ x. x ∷ u) (sym (first_same 33 b (name ++ (33 ∷ [])) (u ++ (close ∷ bs)) e)); name_is = r.1 }
-
-crosses_by : (bang : Bool) (q : ℕ → Bool) (close : ℕ) (f : Inner) (u bs : List ℕ) → ((b : ℕ) → free b ≡ true → q b ≡ true) → q close ≡ false → eqb close 33 ≡ false → IsInner bang f → inner_then f [] ≡ u ++ (close ∷ bs) → CrossesIn bang f u close
-crosses_by bang q close (named_inside name) u bs wide closes other good e = record { name = name; is = refl; off = good.0; good = good.1; crosses = named_crosses close name u bs other e }
-crosses_by bang q close f u bs wide closes other good e = absurd (none_named q close f u bs wide closes (inner_free bang f good refl) e)
-
--- the part ends behind the closing byte
-pub crossing : (bang : Bool) (q : ℕ → Bool) (close : ℕ) (f : Inner) (u t rest : List ℕ) → ((b : ℕ) → free b ≡ true → q b ≡ true) → q close ≡ false → eqb close 33 ≡ false → IsInner bang f →
-    u ++ (close ∷ t) ≡ inner_then f rest → length rest < length (close ∷ t) → CrossesIn bang f u close
-crossing bang q close f u t rest wide closes other good e short =
-    let c = cut_at (inner_then f []) u rest (close ∷ t) (inner_append f [] rest ∙ sym e) (omega (arith, short)) in by_between c.between c.behind c.front
-  where
-    by_between : (m : List ℕ) → close ∷ t ≡ m ++ rest → inner_then f [] ≡ u ++ m → CrossesIn bang f u close
-    by_between [] is front = absurd (omega (arith, short, ap length is))
-    by_between (b ∷ m) is front = crosses_by bang q close f u m wide closes other good (front ∙ ap (λ x. u ++ (x ∷ m)) (sym (first_same close b t (m ++ rest) is)))
-
 pub all_span : (p : ℕ → Bool) (s : List ℕ) → list_all p s ≡ true → span_all p s ≡ (s, [])
 unfolding span_all
-all_span p s h = sym (ap (span_all p) (append-nil s)) ∙ span_all-append p s [] h ∙ ap (λ (t : List ℕ). (t, [])) (append-nil s)
+all_span p s h = rw append-nil at (span_all-append p s [] h)
 
 unnamed : (s : List ℕ) → closed_name s [] ≡ None
 unnamed [] = refl
 unnamed (b ∷ s) = refl
+
+-- where a name is not closed the exclamation mark is alone
+pub lone_at : (bang : Bool) (s : List ℕ) → bang ≡ false → list_all is_name_byte s ≡ true → inner_at bang (33 ∷ s) ≡ Some (lone_inside, s)
+unfolding name_at
+lone_at bang s off h = rw (at_class bang 33 s ItemClass.Bang bang_class, off, all_span is_name_byte s h, unnamed s) refl
+
+-- ---- where a part goes past a closing byte it is a name, and but for it an exclamation mark is passed over
+pub record Crosses (bang : Bool) (close : ℕ) (u t rest : List ℕ) : Type 0 where
+  pub before : List ℕ
+  pub after : List ℕ
+  pub off : bang ≡ false
+  pub name : IsName (before ++ (close ∷ after))
+  pub lone : inner_at bang u ≡ Some (lone_inside, before)
+  pub spelled : u ++ (close ∷ t) ≡ 33 ∷ ((before ++ (close ∷ after)) ++ (33 ∷ rest))
+  pub tail : close ∷ (after ++ (33 ∷ rest)) ≡ close ∷ t
+
+named_crosses : (bang : Bool) (close : ℕ) (name u t rest : List ℕ) → eqb close 33 ≡ false → bang ≡ false → IsName name →
+    33 ∷ (name ++ (33 ∷ rest)) ≡ u ++ (close ∷ t) → length rest < length (close ∷ t) → Crosses bang close u t rest
+named_crosses bang close name [] t rest other off good e short = absurd (eqb-false close 33 other (sym (first_same e)))
+named_crosses bang close name (b ∷ u) t rest other off good e short =
+    cut_cases name u (33 ∷ rest) (close ∷ t) (rest_same e) (omega (arith, short)) (λ front behind. absurd (eqb-false close 33 other (first_same behind)))
+    (λ c after front behind.
+    let is : name ≡ u ++ (close ∷ after) = front ∙ ap (λ x. u ++ (x ∷ after)) (sym (first_same behind)) in
+    let named = subst IsName is good in
+    record {
+      before = u;
+      after = after;
+      off = off;
+      name = named;
+      lone = ap (λ x. inner_at bang (x ∷ u)) (sym (first_same e)) ∙ lone_at bang u off (all_parts is_name_byte u (close ∷ after) named.bytes).0;
+      spelled = sym e ∙ ap (λ (n : List ℕ). 33 ∷ (n ++ (33 ∷ rest))) is;
+      tail = ap (λ x. close ∷ x) (sym (rest_same behind));
+    })
+
+-- the part ends behind the closing byte
+pub crossing : (bang : Bool) (close : ℕ) (f : Inner) (u t rest : List ℕ) → free close ≡ false → eqb close 33 ≡ false → IsInner bang f →
+    u ++ (close ∷ t) ≡ inner_then f rest → length rest < length (close ∷ t) → Crosses bang close u t rest
+crossing bang close (named_inside name) u t rest closes other good e short = named_crosses bang close name u t rest other good.0 good.1 (sym e) short
+crossing bang close f u t rest closes other good e short =
+    absurd (free_past close (inner_then f []) rest u t closes (inner_free bang f good refl) (inner_append f [] rest ∙ sym e) short)
 
 -- ---- up to the first closing byte
 abbrev pub two : List ℕ → List ℕ → List ℕ × List ℕ
@@ -241,8 +277,7 @@ two a b = (a, b)
 -- nothing is left where none was cut off
 pub none_left : (p : ℕ → Bool) (s w r : List ℕ) → two w r ≡ span_all p s → length r ≡ 0 → list_all p s ≡ true
 none_left p s w [] cut none =
-    let whole : s ≡ (span_all p s).0 = span_all-takes p s ∙ ap (λ (t : List ℕ). (span_all p s).0 ++ t) (sym (ap (λ (z : List ℕ × List ℕ). z.1) cut)) ∙ append-nil (span_all p s).0 in
-    ap (λ t. list_all p t) whole ∙ span_all-pass p s
+    let whole = rw (← cut, append-nil) at (span_all-takes p s) in rw whole (rw (← cut) at (span_all-pass p s))
 none_left p s w (b ∷ r) cut none = absurd (omega (arith, none))
 
 pub some_left : (p : ℕ → Bool) (s w r : List ℕ) → two w r ≡ span_all p s → (length r ≡ 0 → ⊥) → list_all p s ≡ false
@@ -256,27 +291,80 @@ pub first_close : (close : ℕ) (t : List ℕ) → begins (λ b. eqb b close) t 
 first_close close [] h = absurd cc
 first_close close (b ∷ t) h = (t, ap (λ x. x ∷ t) (eqb-true b close h))
 
-pub name_end : (close : ℕ) (w : List ℕ) → (length w ≡ 0 → ⊥) → begins (λ b. not (eqb b close)) w ≡ false → (after : List ℕ) × (w ≡ close ∷ after)
-name_end close [] some stops = absurd (some refl)
+pub cond_then : {A : Type 0} (b : Bool) (x : Option A) (y : A) → cond b x None ≡ Some y → (b ≡ true) × (x ≡ Some y)
+cond_then true x y e = (refl, e)
+cond_then false x y e = absurd cc
+
+-- the first closing byte in a name, where what stands before it passes: what stands from there on
+abbrev pub name_upto : ℕ → (List ℕ → Bool) → List ℕ → List ℕ × List ℕ → Option (List ℕ)
+name_upto close passes text named =
+    let inside = span_all (λ b. not (eqb b close)) named.0 in
+    cond {A = Option (List ℕ)} (not (eqb (length inside.1) 0) && passes inside.0) (Some (drop (length inside.0) text)) None
+
+pub record NameCut (close : ℕ) (passes : List ℕ → Bool) (s c : List ℕ) : Type 0 where
+  pub before : List ℕ
+  pub rest : List ℕ
+  pub is : c ≡ close ∷ rest
+  pub cut : s ≡ before ++ c
+  pub names : list_all is_name_byte before ≡ true
+  pub good : passes before ≡ true
+
+name_end : (close : ℕ) (w : List ℕ) → not (eqb (length w) 0) ≡ true → begins (λ b. not (eqb b close)) w ≡ false → (after : List ℕ) × (w ≡ close ∷ after)
+name_end close [] some stops = absurd cc
 name_end close (b ∷ w) some stops = (w, ap (λ x. x ∷ w) (eqb-true b close (not-false (eqb b close) stops)))
 
--- where a name is not closed the exclamation mark is alone
-pub lone_at : (bang : Bool) (s : List ℕ) → bang ≡ false → list_all is_name_byte s ≡ true → inner_at bang (33 ∷ s) ≡ Some (lone_inside, s)
-unfolding name_at
-lone_at bang s off h = at_class bang 33 s ItemClass.Bang bang_class ∙ rw (off, all_span is_name_byte s h, unnamed s) refl
+pub name_upto-closes : (close : ℕ) (passes : List ℕ → Bool) (s c : List ℕ) (named : List ℕ × List ℕ) →
+    IsName named.0 × (s ≡ named.0 ++ (33 ∷ named.1)) → name_upto close passes s named ≡ Some c → NameCut close passes s c
+name_upto-closes close passes s c named t e =
+    let p = λ (b : ℕ). not (eqb b close) in let inside = span_all p named.0 in
+    let found = cond_some _ _ _ e in let both = and_parts _ _ found.0 in
+    let end = name_end close inside.1 both.0 (span_all-after p named.0) in
+    let whole : named.0 ≡ inside.0 ++ (close ∷ end.0) = span_all-takes p named.0 ∙ ap (λ x. inside.0 ++ x) end.1 in
+    let cut : s ≡ inside.0 ++ (close ∷ (end.0 ++ (33 ∷ named.1))) = t.1 ∙ ap (λ x. x ++ (33 ∷ named.1)) whole ∙ append_assoc inside.0 _ _ in
+    let is = sym found.1 ∙ ap (drop (length inside.0)) cut ∙ drop-append_seam inside.0 _ in
+    record {
+      before = inside.0;
+      rest = end.0 ++ (33 ∷ named.1);
+      is = is;
+      cut = cut ∙ ap (λ x. inside.0 ++ x) (sym is);
+      names = (all_parts is_name_byte inside.0 (close ∷ end.0) (ap (list_all is_name_byte) (sym whole) ∙ t.0.bytes)).0;
+      good = both.1;
+    }
 
-pub named_bad : (f : Inner) (rest : List ℕ) → is_named f ≡ true → list_all is_name_byte (inner_then f rest) ≡ true → ⊥
-named_bad (note_inside f) rest n k = absurd cc
-named_bad _ rest n k = absurd cc
+pub name_upto-found : (close : ℕ) (passes : List ℕ → Bool) (before after rest : List ℕ) → eqb close close ≡ true →
+    list_all (λ b. not (eqb b close)) before ≡ true → passes before ≡ true → let name = before ++ (close ∷ after) in
+    name_upto close passes (name ++ (33 ∷ rest)) (name, rest) ≡ Some (close ∷ (after ++ (33 ∷ rest)))
+name_upto-found close passes before after rest same clear good =
+    let p = λ (b : ℕ). not (eqb b close) in
+    let stops = span_all-stops p (close ∷ after) (rw same refl) in
+    let some = ne_eqb (suc (length after)) 0 (omega arith) in
+    rw (span_all-append p before (close ∷ after) clear, stops, append-nil, good, some, append_assoc, drop-append_seam) refl
 
-clear_step : (bang : Bool) (q : ℕ → Bool) (text : List ℕ) (part : Inner) (rest : List ℕ) (b : Bool) → ((b : ℕ) → free b ≡ true → q b ≡ true) → StandsInside bang part text rest → list_all is_name_byte text ≡ true →
-    (list_all is_name_byte rest ≡ true → list_all q rest ≡ true) → is_named part ≡ b → list_all q text ≡ true
-clear_step bang q text part rest true wide stands h next n = absurd (named_bad part rest n (ap (list_all is_name_byte) (sym stands.cut) ∙ h))
-clear_step bang q text part rest false wide stands h next n =
-    let cut : text ≡ inner_then part [] ++ rest = stands.cut ∙ sym (inner_append part [] rest) in let names = all_parts is_name_byte (inner_then part []) rest (ap (list_all is_name_byte) (sym cut) ∙ h) in
-    ap (list_all q) cut ∙ all_join q (inner_then part []) rest (wider free q (inner_then part []) wide (inner_free bang part stands.good n)) (next names.1)
+cond_map : (c : Bool) (a b x : List ℕ) → a ≡ b ++ x →
+    cond {A = Option (List ℕ)} c (Some a) None ≡ option_map (λ m. m ++ x) (cond {A = Option (List ℕ)} c (Some b) None)
+cond_map true a b x e = ap Some e
+cond_map false a b x e = refl
+
+-- it is the same whatever follows the name
+pub name_upto-append : (close : ℕ) (passes : List ℕ → Bool) (name x : List ℕ) →
+    name_upto close passes (name ++ (33 ∷ x)) (name, x) ≡ option_map (λ m. m ++ x) (name_upto close passes (name ++ (33 ∷ [])) (name, []))
+name_upto-append close passes name x =
+    let p = λ (b : ℕ). not (eqb b close) in let inside = span_all p name in let n = length inside.0 in let whole = name ++ (33 ∷ []) in
+    let short : n ≤ length whole = omega (arith, ap length (span_all-takes p name), length-append inside.0 inside.1, length-append name (33 ∷ [])) in
+    cond_map (not (eqb (length inside.1) 0) && passes inside.0) _ (drop n whole) x
+    (ap (drop n) (sym (append_assoc name (33 ∷ []) x)) ∙ drop-append-le n whole x short)
+
+-- a part in a name is no name
+pub unnamed_free : (bang : Bool) (f : Inner) (rest : List ℕ) → IsInner bang f → list_all is_name_byte (inner_then f rest) ≡ true →
+    list_all free (inner_then f []) ≡ true
+unnamed_free bang (named_inside name) rest good h = absurd cc
+unnamed_free bang f rest good h = inner_free bang f good refl
 
 -- parts in a name close no group
-pub clear_parts : (bang : Bool) (q : ℕ → Bool) (text : List ℕ) (parts : List Inner) → ((b : ℕ) → free b ≡ true → q b ≡ true) → InnerParts bang text parts → list_all is_name_byte text ≡ true → list_all q text ≡ true
-clear_parts bang q _ _ wide no_part h = refl
-clear_parts bang q _ _ wide (then_part text part rest more l others) h = clear_step bang q text part rest (is_named part) wide l.stands h (clear_parts bang q rest more wide others) refl
+pub clear_parts : (bang : Bool) (text : List ℕ) (parts : List Inner) → InnerParts bang text parts → list_all is_name_byte text ≡ true → list_all free text ≡ true
+clear_parts bang _ _ no_part h = refl
+clear_parts bang _ _ (then_part text part rest more l others) h =
+    let one = inner_then part [] in
+    let cut : text ≡ one ++ rest = l.stands.cut ∙ sym (inner_append part [] rest) in
+    let names = all_parts is_name_byte one rest (ap (list_all is_name_byte) (sym cut) ∙ h) in
+    rw cut (all_join free one rest (unnamed_free bang part [] l.stands.good names.0) (clear_parts bang rest more others names.1))

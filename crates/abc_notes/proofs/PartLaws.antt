@@ -1,11 +1,21 @@
 -- A reader that gives what stands at the front, and gives as much as any part that stands there, reads the one list of longest parts.
-use Rattle.std.proofs.{Common.{◌≡◌, ℕ, zero, suc, ◌≤◌, ◌<◌, List, [], ◌∷◌, length, Option, Some, None, refl, sym, ap, ◌∙◌, subst, arith, inl, inr, ◌⊎◌, IfSome}, lemmas.Option.same_Some}
+use Rattle.std.proofs.Common.{◌≡◌, ℕ, zero, suc, ◌≤◌, ◌<◌, List, [], ◌∷◌, length, Option, Some, None, refl, sym, ap, ◌∙◌, subst, arith}
+use Rattle.std.proofs.{Common.{inl, inr, ◌⊎◌, IfSome, option_map}, lemmas.Option.same_Some}
 use Rattle.abc_notes.specs.Parts.{IsLongest, HasNone, Parts, no_part, then_part, walk_on, walk_from, walk}
 
 pub record Reader (I : Type 0) (Stands : I → List ℕ → List ℕ → Type 0) (at : List ℕ → Option (I × List ℕ)) : Type 0 where
   pub takes : (s : List ℕ) → IfSome (at s) (λ z. Stands z.0 s z.1)
   pub reaches : (f : I) (s x : List ℕ) → Stands f s x → (z : I × List ℕ) × (at s ≡ Some z) × ((length z.1 < length x) ⊎ (z ≡ (f, x)))
   pub longer : (f : I) (s x : List ℕ) → Stands f s x → length x < length s
+
+-- what was read, of which a call gives a part, or that nothing was
+pub read_from : {A B : Type 0} (f : A → B) (r : Option A) (y : B) → Some y ≡ option_map f r → (x : A) × (r ≡ Some x) × (y ≡ f x)
+read_from f None y e = absurd cc
+read_from f (Some x) y e = (x, refl, same_Some y (f x) e)
+
+pub none_from : {A B : Type 0} (f : A → B) (r : Option A) → None ≡ option_map f r → r ≡ None
+none_from f None e = refl
+none_from f (Some x) e = absurd cc
 
 module _ {I : Type 0} {Stands : I → List ℕ → List ℕ → Type 0} {at : List ℕ → Option (I × List ℕ)} (r : Reader I Stands at) where
   pub stands_at : (s : List ℕ) (z : I × List ℕ) → at s ≡ Some z → Stands z.0 s z.1
@@ -59,6 +69,12 @@ module _ {I : Type 0} {Stands : I → List ℕ → List ℕ → Type 0} {at : Li
   unfolding walk
   walk-some [] z e = absurd (omega (arith, less [] z e))
   walk-some (x ∷ s) z e = rw (e, same_fuel (length s) (length z.1) z.1 (omega (arith, less (x ∷ s) z e)) (omega arith)) refl
+
+  pub left_none : (s : List ℕ) → at s ≡ None → (walk at s).1 ≡ s
+  left_none s e = ap (λ (w : List I × List ℕ). w.1) (walk-none s e)
+
+  pub left_some : (s : List ℕ) (z : I × List ℕ) → at s ≡ Some z → (walk at s).1 ≡ (walk at z.1).1
+  left_some s z e = ap (λ (w : List I × List ℕ). w.1) (walk-some s z e)
 
   -- what holds where no part stands, and in front of a part where it holds behind it, holds of each text
   pub by_parts : (P : List ℕ → Type 0) → ((s : List ℕ) → at s ≡ None → P s) → ((s : List ℕ) (z : I × List ℕ) → at s ≡ Some z → P z.1 → P s) → (s : List ℕ) → P s
