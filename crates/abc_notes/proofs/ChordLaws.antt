@@ -1,9 +1,9 @@
 -- Reading a chord gives the longest, and where there is none its fault is found.
-use Rattle.std.proofs.Common.{◌≡◌, ℕ, ◌+◌, ◌-◌, ◌≤◌, ◌<◌, Bool, true, false, eqb, suc, List, [], ◌∷◌, ◌++◌, length, take, drop, Option, Some, None}
-use Rattle.std.proofs.Common.{refl, sym, ap, ◌∙◌, subst, arith, inl, inr, ◌⊎◌, append_assoc, add-one, ◌&&◌, ◌||◌, not, IfSome, option_map}
+use Rattle.std.proofs.Common.{◌≡◌, ℕ, ◌+◌, ◌-◌, ◌≤◌, ◌<◌, Bool, true, false, eqb, List, [], ◌∷◌, ◌++◌, length, take, Option, Some, None}
+use Rattle.std.proofs.Common.{refl, sym, ap, ◌∙◌, subst, arith, inl, inr, ◌⊎◌, add-one, ◌&&◌, ◌||◌, not, IfSome, option_map}
 use Rattle.std.proofs.lemmas.Bool.{and_parts, eqb-true, both_ways, cases_lt, cond-true, not-true, not_from_false, or_left, or_right}
 use Rattle.std.proofs.{lemmas.{List.{length-append, nil_from_length}, Option.{cond_some, some_pair_parts}}, Math.Seq.take-append_seam}
-use Rattle.std.{proofs.Math.Bool.{or-false, or_assoc}, specs.List.list_all}
+use Rattle.std.{proofs.Math.Bool.{or-false, or_assoc}}
 use Rattle.abc_lines.specs.declared.fault.FaultKind.TheVariants.{BadByte, Unclosed}
 use Rattle.abc_notes.specs.Chords.{ChordForm, InnerLeads, is_inside, is_bracket, has_head, chord_then, IsChord}
 use Rattle.abc_notes.specs.Chords.{ChordFault, chord_unclosed, chord_open, chord_headless, chord_flawed}

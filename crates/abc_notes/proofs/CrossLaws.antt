@@ -5,13 +5,13 @@ use Rattle.std.proofs.lemmas.{Bool.{cond_both, and_parts, eqb-true, not-true}, O
 use Rattle.std.{proofs.Math.Seq.drop-append_seam, specs.List.list_all}
 use Rattle.abc_notes.specs.Graces.{GracePart, single, chorded, StandsInGrace, is_in_grace, brace_at, brace_in_chord, brace_behind, brace_between}
 use Rattle.abc_notes.specs.Graces.{brace_in_item, brace_in_part, inside_of_item, inside_of_part, IsItemAt, stands_behind, at_most_bytes}
-use Rattle.abc_notes.specs.{declared.part.{GraceChord.GraceChord, GraceItem.GraceItem, Len.Len, ItemClass.ItemClass}, Decorations.is_name_byte}
+use Rattle.abc_notes.specs.{declared.part.{GraceChord.GraceChord, GraceItem.GraceItem, Len.Len}, Decorations.is_name_byte}
 use Rattle.abc_notes.specs.{Lengths.{length_then, length_at, len_of, length_read}, Parts.{no_part, then_part, walk, is_done, later_or}}
-use Rattle.abc_notes.specs.Items.{Inner, named_inside, lone_inside, inner_then, IsInner, IsName, has_length, InnerParts, name_at, named_or, inner_at}
+use Rattle.abc_notes.specs.Items.{Inner, named_inside, lone_inside, inner_then, IsInner, has_length, InnerParts, name_at, named_or, inner_at}
 use Rattle.abc_notes.specs.Chords.{bracket_in_name, bracket_at}
 use Rattle.abc_notes.proofs.GraceLaws.{ClosedGroup, brace_at-closes, none_there, chord-none, chord-some, FoundPart, part_reader}
 use Rattle.abc_notes.proofs.ChordLaws.{is_lone, last_at, last_at-none, last_at-some, good_before, parts_before, in_name-finds, in_name-reads, bracket_at-closes}
-use Rattle.abc_notes.proofs.{ChordLaws.{bracket_within, later_none, later_assoc, cut_off}, ItemLaws.{at_class, bang_class}}
+use Rattle.abc_notes.proofs.{ChordLaws.{bracket_within, later_none, later_assoc, cut_off}, ItemLaws.bang_at}
 use Rattle.abc_notes.proofs.CutLaws.{first_same, inner_append, length_append, all_parts, inner_local, joined_cut, is_named, lone_at, name_upto-append}
 use Rattle.abc_notes.proofs.PartLaws.{stands_at, at_nil, longest_is, walk_of_parts, left_none, left_some}
 use Rattle.abc_notes.proofs.{InnerLaws.{inner_reader, inner_pair, length-length_then}, LengthLaws.length_at-takes}
@@ -69,13 +69,10 @@ module _ (bang : Bool) where
   own_bracket head (named_inside name) = bracket_in_name bang head (33 ∷ (name ++ (33 ∷ [])))
   own_bracket head _ = None
 
-  mark_read : (s : List ℕ) → bang ≡ false → inner_at bang (33 ∷ s) ≡ named_or (name_at s) s
-  mark_read s off = at_class bang 33 s ItemClass.Bang bang_class ∙ rw off refl
-
   lone_own : (head : Bool) (x : List ℕ) → bang ≡ false → inner_at bang (33 ∷ x) ≡ Some (inner_pair lone_inside x) →
       bracket_in_name bang head (33 ∷ x) ≡ None
   unfolding bracket_in_name
-  lone_own head x off e = let none = no_name (name_at x) x (sym (mark_read x off) ∙ e) in rw (off, none) refl
+  lone_own head x off e = let none = no_name (name_at x) x (sym (bang_at bang x off) ∙ e) in rw (off, none) refl
 
   other_own : (head : Bool) (text : List ℕ) (z : Inner × List ℕ) → inner_at bang text ≡ Some z → is_named z.0 ≡ false → is_lone z.0 ≡ false →
       bracket_in_name bang head text ≡ None
@@ -85,7 +82,7 @@ module _ (bang : Bool) where
       cond_both {A = Option (List ℕ)} (eqb b 33 && not bang) _ None (λ r. r ≡ None)
       (λ h.
       let p = and_parts (eqb b 33) (not bang) h in
-      let read = sym (mark_read s (not-true bang p.1)) ∙ ap (λ x. inner_at bang (x ∷ s)) (sym (eqb-true b 33 p.0)) ∙ e in
+      let read = sym (bang_at bang s (not-true bang p.1)) ∙ ap (λ x. inner_at bang (x ∷ s)) (sym (eqb-true b 33 p.0)) ∙ e in
       absurd (kinds (name_at s) s z read n l))
       (λ h. refl)
 

@@ -1,22 +1,18 @@
 -- Parts at the front of a text that goes on, and of the text that is cut off there.
 use Rattle.std.proofs.Common.{◌≡◌, ℕ, zero, suc, ◌≤◌, ◌<◌, Bool, true, false, cond, eqb, List, [], ◌∷◌, ◌++◌, length, drop, Option, Some, None}
 use Rattle.std.proofs.Common.{refl, sym, ap, ◌∙◌, subst, arith, inl, inr, append_assoc, append-nil, ◌&&◌, not, length-append, option_map}
-use Rattle.std.proofs.lemmas.{Bool.{both_ways, or_cases, and_parts, and_from, eqb-true, eqb-false, ne_eqb, not-true, not-false}, List.Folds.list_all-append}
+use Rattle.std.proofs.lemmas.{Bool.{both_ways, or_cases, and_parts, and_from, eqb-true, eqb-false, ne_eqb, not-false}, List.Folds.list_all-append}
 use Rattle.std.{proofs.{lemmas.{List.{append_cancel_right, drop-append-le}, Option.{cond_some, some_pair_parts}}, Math.Seq.drop-append_seam}, specs.List.list_all}
 use Rattle.mus_units.specs.{declared.pitch.{Alter.{Alter, TheVariants.Sharp2}, Letter.{Letter, TheVariants.C}}, Bytes.is_digit}
 use Rattle.abc_notes.specs.Items.{Inner, note_inside, letter_inside, named_inside, tie_inside, passed_inside, lone_inside, inner_then, IsName}
 use Rattle.abc_notes.specs.Items.{is_passed_inside, is_letter_inside, IsInner, StandsInside, InnerParts, closed_name, name_at, inner_at}
-use Rattle.abc_notes.specs.{declared.part.ItemClass.ItemClass, Runs.{copies, maybe, is_mark, span_all, begins}, Decorations.is_name_byte}
+use Rattle.abc_notes.specs.{Runs.{copies, maybe, is_mark, span_all, begins}, Decorations.is_name_byte}
 use Rattle.abc_notes.specs.{Lengths.{LengthForm, whole, over, halved, length_then, IsLength}, Notes.{NoteForm, note_then, sign_then, letter_byte, IsNote}}
 use Rattle.abc_notes.specs.Parts.{no_part, then_part, Leads, leads_here, leads_on, walk, spelled_then}
-use Rattle.abc_notes.proofs.{Bounds.digit_range, SpanLaws.{span_all-append, span_all-stops, span_all-takes, span_all-pass, span_all-after}, LengthLaws.count-digits}
-use Rattle.abc_notes.proofs.{ItemLaws.{below_all, implied, at_class, bang_class}, PartLaws.{Reader, stands_at, by_parts, longest_of, walk-none, walk-some}}
+use Rattle.abc_notes.proofs.{Bounds.digit_range, SpanLaws.{span_all-append, span_all-stops, span_all-takes, span_all-pass, span_all-after}, LengthLaws.{copies_append, count-digits}}
+use Rattle.abc_notes.proofs.{ItemLaws.{one_of_all, bang_at}, PartLaws.{Reader, stands_at, by_parts, longest_of, walk-none, walk-some}}
 
 -- ---- a part and what follows it
-copies_append : (n b : ℕ) (v y : List ℕ) → copies n b v ++ y ≡ copies n b (v ++ y)
-copies_append zero b v y = refl
-copies_append (suc n) b v y = ap (λ t. b ∷ t) (copies_append n b v y)
-
 pub maybe_append : (d : Bool) (b : ℕ) (v y : List ℕ) → maybe d b v ++ y ≡ maybe d b (v ++ y)
 maybe_append true b v y = refl
 maybe_append false b v y = refl
@@ -203,12 +199,10 @@ note_free f good =
     sign_free f.sign (b ∷ (f.marks ++ t)) (and_from (free b) (list_all free (f.marks ++ t)) (letter_free f.low f.letter) behind)
 
 letter_inside_free : (b : ℕ) → is_letter_inside b ≡ true → free b ≡ true
-letter_inside_free b h =
-    let below = below_all (46 ∷ 126 ∷ 72 ∷ 76 ∷ 77 ∷ 79 ∷ 80 ∷ 83 ∷ 84 ∷ 117 ∷ 118 ∷ []) 127 b refl h in
-    implied is_letter_inside free 127 b refl below h
+letter_inside_free b h = one_of_all free (46 ∷ 126 ∷ 72 ∷ 76 ∷ 77 ∷ 79 ∷ 80 ∷ 83 ∷ 84 ∷ 117 ∷ 118 ∷ []) b refl h
 
 passed_free : (b : ℕ) → is_passed_inside b ≡ true → free b ≡ true
-passed_free b h = implied is_passed_inside free 42 b refl (below_all (32 ∷ 9 ∷ 40 ∷ 41 ∷ []) 42 b refl h) h
+passed_free b h = one_of_all free (32 ∷ 9 ∷ 40 ∷ 41 ∷ []) b refl h
 
 abbrev pub is_named : Inner → Bool
 is_named (named_inside name) = true
@@ -233,7 +227,7 @@ unnamed (b ∷ s) = refl
 -- where a name is not closed the exclamation mark is alone
 pub lone_at : (bang : Bool) (s : List ℕ) → bang ≡ false → list_all is_name_byte s ≡ true → inner_at bang (33 ∷ s) ≡ Some (lone_inside, s)
 unfolding name_at
-lone_at bang s off h = rw (at_class bang 33 s ItemClass.Bang bang_class, off, all_span is_name_byte s h, unnamed s) refl
+lone_at bang s off h = rw (bang_at bang s off, all_span is_name_byte s h, unnamed s) refl
 
 -- ---- where a part goes past a closing byte it is a name, and but for it an exclamation mark is passed over
 pub record Crosses (bang : Bool) (close : ℕ) (u t rest : List ℕ) : Type 0 where

@@ -1,13 +1,13 @@
 -- Reading a part of a grace group, and a group, gives the longest; where there is none its fault is found.
 use Rattle.std.proofs.Common.{◌≡◌, ℕ, zero, suc, ◌+◌, ◌-◌, ◌≤◌, ◌<◌, Bool, true, false, eqb, List, [], ◌∷◌, ◌++◌, length, take, drop, Option, Some, None}
-use Rattle.std.proofs.Common.{refl, sym, ap, ◌∙◌, subst, arith, inl, inr, ◌⊎◌, append_assoc, append-nil, add-one, not, ◌&&◌, ◌||◌, IfSome, option_map, MatchOption}
+use Rattle.std.proofs.Common.{refl, sym, ap, ◌∙◌, subst, arith, inl, inr, ◌⊎◌, append_assoc, append-nil, add-one, not, ◌||◌, IfSome, option_map, MatchOption}
 use Rattle.std.proofs.lemmas.Bool.{both_ways, cond_both, and_parts, eqb-true, ne_eqb, cond-true, not-true, not_from_false, or_parts}
 use Rattle.std.proofs.{lemmas.List.{length-append, length-drop, take-append-drop, nil_from_length}, Math.Seq.{take-append_seam, drop-append_seam}}
 use Rattle.std.{proofs.lemmas.Option.{same_Some, cond_some, some_pair_parts}, specs.List.list_all}
 use Rattle.abc_lines.specs.declared.fault.FaultKind.TheVariants.{Unclosed}
-use Rattle.abc_notes.specs.Items.{Inner, lone_inside, inner_then, IsInner, IsName, StandsInside, name_at, item_class, inner_at}
+use Rattle.abc_notes.specs.Items.{Inner, lone_inside, inner_then, IsName, StandsInside, name_at, item_class, inner_at}
 use Rattle.abc_notes.specs.Graces.{GracePart, single, chorded, grace_part_then, IsGracePart, StandsInGrace, GraceParts, GraceLeads, part_has_length}
-use Rattle.abc_notes.specs.Graces.{GraceForm, is_in_grace, is_slash_byte, is_brace, grace_then, IsGrace, body_of_part, GraceFlawed, HasSlash}
+use Rattle.abc_notes.specs.Graces.{GraceForm, is_in_grace, is_slash_byte, grace_then, IsGrace, body_of_part, GraceFlawed, HasSlash}
 use Rattle.abc_notes.specs.Graces.{GraceFault, grace_unclosed, grace_open, grace_flawed, chorded_read, single_read, grace_part_at, brace_here, brace_in}
 use Rattle.abc_notes.specs.Graces.{brace_in_name, closes_at, last_closing, brace_in_chord, brace_behind, brace_in_part, brace_at, grace_from, grace_at}
 use Rattle.abc_notes.specs.{Graces.{bodied, body_inside, inside_of_part, IsPartFlaw, item_within}, Decorations.is_name_byte}
@@ -21,7 +21,7 @@ use Rattle.abc_notes.proofs.CutLaws.{length_free, cut_cases, first_same, rest_sa
 use Rattle.abc_notes.proofs.CutLaws.{clear_parts, free, unnamed_free, crossing, lone_at, cond_then, NameCut, name_upto-closes, name_upto-found}
 use Rattle.abc_notes.proofs.PartLaws.{Reader, stands_at, less, longest_of, longest_is, none_of, at_nil, walk-none, walk-some, left_none, left_some}
 use Rattle.abc_notes.proofs.PartLaws.{by_parts, parts_of_walk, walk_of_parts, read_from, none_from}
-use Rattle.abc_notes.proofs.{RunLaws.{Lacks, skip-takes, skip-lacks}, LengthLaws.length_at-takes, ItemLaws.{name_at-takes, name_at-reads}}
+use Rattle.abc_notes.proofs.{RunLaws.{Lacks, skip_cases, skip-takes, skip-lacks}, LengthLaws.length_at-takes, ItemLaws.{name_at-takes, name_at-reads}}
 use Rattle.abc_notes.proofs.InnerLaws.{inner_reader, inner-longer, place_small, length-maybe}
 
 abbrev pub at_least : ℕ → Option ℕ → Type 0
@@ -603,12 +603,13 @@ module _ (bang : Bool) where
   abbrev pub TakesGrace : List ℕ → Option (GraceForm × List ℕ) → Type 0
   TakesGrace s r = IfSome r (λ z. IsGrace bang z.0 × (s ≡ grace_then z.0 z.1))
 
+  first_lacks : (s : List ℕ) → Lacks 47 s → begins is_slash_byte s ≡ false
+  first_lacks [] h = refl
+  first_lacks (b ∷ s) h = h
+
   -- behind a slash that was not there no slash stands
   no_slash : (s : List ℕ) → (skip 47 s).0 ≡ false → begins is_slash_byte (skip 47 s).1 ≡ false
-  unfolding skip
-  no_slash [] h = refl
-  no_slash (b ∷ s) h =
-      cond_both {A = Bool × List ℕ} (eqb b 47) (true, s) (false, b ∷ s) (λ p. p.0 ≡ false → begins is_slash_byte p.1 ≡ false) (λ e is. absurd cc) (λ e is. e) h
+  no_slash s = skip_cases 47 s (λ p. p.0 ≡ false → begins is_slash_byte p.1 ≡ false) (λ t e is. absurd cc) (λ lacks is. first_lacks s lacks)
 
   first_of : (p : ℕ → Bool) (a b : List ℕ) → begins p (a ++ b) ≡ false → begins p a ≡ false
   first_of p [] b h = refl

@@ -1,7 +1,7 @@
 -- The inside of a chord as loops read it.
 use Rattle.std.proofs.Common.{◌≡◌, ℕ, zero, suc, ◌+◌, ◌≤◌, ◌<◌, Bool, true, false, List, [], ◌∷◌, ◌++◌, length, Option, Some, None}
-use Rattle.std.proofs.Common.{refl, sym, ap, ◌∙◌, subst, arith, inl, inr, append_assoc, append-nil, ◌||◌, option_map, MatchBool, length-append}
-use Rattle.std.proofs.{lemmas.{Option.same_Some, Bool.{cond_both, ne_eqb}, List.nil_from_length}, Math.Bool.{or-false, or_assoc}}
+use Rattle.std.proofs.Common.{refl, sym, ap, ◌∙◌, arith, append_assoc, append-nil, ◌||◌, option_map, MatchBool, length-append}
+use Rattle.std.proofs.{lemmas.{Bool.{cond_both, ne_eqb}, List.nil_from_length}, Math.Bool.{or-false, or_assoc}}
 use Rattle.mus_units.specs.declared.{note.Head.Head, pitch.Alter.Alter, pitch.Alter.TheVariants.Sharp2}
 use Rattle.abc_lines.specs.declared.fault.FaultKind.TheVariants.{BadByte, BadLength}
 use Rattle.abc_notes.specs.Items.{Inner, note_inside, named_inside, tie_inside, inner_then, StandsInside, Sense, says_note, says_tie, sense}
@@ -82,10 +82,7 @@ module _ (bang : Bool) where
   pub inner_reader : Reader Inner (StandsInside bang) (inner_at bang)
   inner_reader = record {
     takes = inner_at-takes bang;
-    reaches = λ f s x stands.
-        let o = inner_at-reaches bang f x stands.good in
-        let same = λ (e : Some (inner_pair o.part o.rest) ≡ Some (inner_pair f x)). same_Some (inner_pair o.part o.rest) (inner_pair f x) e in
-        ((o.part, o.rest), ap (inner_at bang) stands.cut ∙ o.is, elim o.ends [ inl shorter ↦ inl shorter | inr e ↦ inr (same e) ]);
+    reaches = λ f s x stands. rw stands.cut (inner_at-reaches bang f x stands.good);
     longer = λ f s x stands. rw stands.cut (inner-longer f x);
   }
 

@@ -1,7 +1,10 @@
 -- Reading a length gives the longest.
-use Rattle.std.{proofs.{Common.{◌≡◌, ℕ, zero, suc, ◌+◌, ◌-◌, ◌≤◌, ◌<◌, Bool, true, false, eqb, List, [], ◌∷◌, ◌++◌, length, refl, ap, subst, ◌∙◌, arith, inl, inr, ◌⊎◌, ◌||◌, append-nil}, lemmas.Bool.{cond_both, and_parts, eqb-true, ne_eqb, both_ways, or_left, or_right}}, specs.List.list_all}
-use Rattle.mus_units.specs.Bytes.{is_digit}
-use Rattle.abc_notes.{specs.{Runs.{copies, span, begins}, Lengths.{LengthForm, whole, over, halved, length_then, IsLength, IsNumber, IsCount, number_at, below_at, is_slash, length_at}}, proofs.{SpanLaws.{span-takes, span-pass, span-length, span-stops, span-less, span-append, length-span}, Bounds.digit_range}}
+use Rattle.std.proofs.Common.{◌≡◌, ℕ, zero, suc, ◌+◌, ◌-◌, ◌≤◌, ◌<◌, Bool, true, false, eqb, List, [], ◌∷◌, ◌++◌, length, refl, sym, ap, subst, ◌∙◌}
+use Rattle.std.proofs.{Common.{arith, inl, inr, ◌⊎◌, ◌||◌, append-nil}, lemmas.Bool.{cond_both, and_parts, eqb-true, ne_eqb, both_ways, or_left, or_right}}
+use Rattle.{std.specs.List.list_all, mus_units.specs.Bytes.{is_digit}, abc_notes.specs.Runs.{copies, span, begins}}
+use Rattle.abc_notes.specs.Lengths.{LengthForm, whole, over, halved, length_then, IsLength, IsNumber, IsCount, number_at, below_at, is_slash, length_at}
+use Rattle.abc_notes.proofs.{SpanLaws.{span-takes, span-pass, span-length, span-stops, span-less, span-append, length-span}, Bounds.digit_range}
+use Rattle.abc_notes.proofs.RunLaws.{begins_wider}
 
 abbrev is_zero : ℕ → Bool
 is_zero b = eqb b 48
@@ -38,14 +41,18 @@ begins_append : (p : ℕ → Bool) (a x : List ℕ) → 1 ≤ length a → begin
 begins_append p [] x h = absurd (omega arith)
 begins_append p (b ∷ a) x h = refl
 
-number-reads-as : (n : ℕ) (ds x : List ℕ) → IsNumber n ds → number_at n (ds ++ x) ≡ (ds ++ (span is_digit (n - length ds) x).0, (span is_digit (n - length ds) x).1)
+number-reads-as : (n : ℕ) (ds x : List ℕ) → IsNumber n ds → let more = span is_digit (n - length ds) x in number_at n (ds ++ x) ≡ (ds ++ more.0, more.1)
 number-reads-as n ds x good =
-    let no_zero : begins is_zero (ds ++ x) ≡ false = begins_append is_zero ds x good.some ∙ good.no_zero in let k = n - length ds in let sum : length ds + k ≡ n = omega (arith, good.few) in
-    let reads : span is_digit n (ds ++ x) ≡ (ds ++ (span is_digit k x).0, (span is_digit k x).1) = subst (λ m. span is_digit m (ds ++ x) ≡ (ds ++ (span is_digit k x).0, (span is_digit k x).1)) sum (span-append is_digit k ds x good.digits) in
-    by_zero n (ds ++ x) (λ z. z ≡ (ds ++ (span is_digit k x).0, (span is_digit k x).1)) (λ e. absurd cc) (λ e. reads)
+    let no_zero = begins_append is_zero ds x good.some ∙ good.no_zero in
+    let sum : length ds + (n - length ds) ≡ n = omega (arith, good.few) in
+    let more = span is_digit (n - length ds) x in
+    by_zero n (ds ++ x) (λ z. z ≡ (ds ++ more.0, more.1)) (λ e. absurd (both_ways _ no_zero e))
+    (λ e. rw sum at (span-append is_digit (n - length ds) ds x good.digits))
 
 number-reads : (n : ℕ) (ds x : List ℕ) → IsNumber n ds → Stops is_digit x ds (number_at n (ds ++ x))
-number-reads n ds x good = rw (number-reads-as n ds x good) (elim (span-less is_digit (n - length ds) x) [ inl shorter ↦ inl shorter | inr same ↦ inr (rw (same, append-nil) refl) ])
+number-reads n ds x good =
+    rw (number-reads-as n ds x good)
+    (elim (span-less is_digit (n - length ds) x) [ inl shorter ↦ inl shorter | inr same ↦ inr (rw (same, append-nil) refl) ])
 
 pub count-reads : (n : ℕ) (c x : List ℕ) → IsCount n c → Stops is_digit x c (number_at n (c ++ x))
 count-reads n [] x good = number-less n x
@@ -53,7 +60,8 @@ count-reads n (d ∷ ds) x good = number-reads n (d ∷ ds) x good
 
 -- before a byte that is no digit the number is read as it stands
 pub count-stops : (n : ℕ) (c : List ℕ) (k : ℕ) (x : List ℕ) → is_digit k ≡ false → IsCount n c → number_at n (c ++ (k ∷ x)) ≡ (c, k ∷ x)
-count-stops n c k x other good = elim (count-reads n c (k ∷ x) good) [ inl shorter ↦ absurd (both_ways (is_digit k) other shorter.1) | inr same ↦ same ]
+count-stops n c k x other good =
+    elim (count-reads n c (k ∷ x) good) [ inl shorter ↦ absurd (both_ways (is_digit k) other shorter.1) | inr same ↦ same ]
 
 abbrev read_as : LengthForm → List ℕ → LengthForm × List ℕ
 read_as f x = (f, x)
@@ -71,28 +79,30 @@ copies-pass : (k : ℕ) → list_all is_slash (copies k 47 []) ≡ true
 copies-pass zero = refl
 copies-pass (suc k) = copies-pass k
 
-copies-split : (k : ℕ) (x : List ℕ) → copies k 47 x ≡ copies k 47 [] ++ x
-copies-split zero x = refl
-copies-split (suc k) x = ap (λ t. 47 ∷ t) (copies-split k x)
+pub copies_append : (n b : ℕ) (v y : List ℕ) → copies n b v ++ y ≡ copies n b (v ++ y)
+copies_append zero b v y = refl
+copies_append (suc n) b v y = ap (λ t. b ∷ t) (copies_append n b v y)
 
 length-copies : (k : ℕ) → length (copies k 47 []) ≡ k
 length-copies zero = refl
 length-copies (suc k) = ap suc (length-copies k)
 
 -- what stands at the front, put together from its parts
-below-takes : (s count rest sl after be last : List ℕ) → s ≡ count ++ rest → IsCount 4 count → rest ≡ sl ++ after → list_all is_slash sl ≡ true → length sl ≤ 6 → after ≡ be ++ last → IsCount 4 be →
-    let z = below_at count (sl, after) (be, last) in (s ≡ length_then z.0 z.1) × IsLength z.0
-below-takes s count rest [] after be last e good f pass few g below = (e ∙ ap (λ t. count ++ t) f, good)
-below-takes s count rest (c ∷ []) after [] last e good f pass few g below = (e ∙ ap (λ t. count ++ t) (f ∙ slashes-are (c ∷ []) after pass), (good, omega arith, omega arith))
-below-takes s count rest (c ∷ []) after (d ∷ ds) last e good f pass few g below = (e ∙ ap (λ t. count ++ t) (f ∙ slashes-are (c ∷ []) after pass ∙ ap (λ t. 47 ∷ t) g), (good, below))
-below-takes s count rest (c ∷ d ∷ sl) after be last e good f pass few g below = (e ∙ ap (λ t. count ++ t) (f ∙ slashes-are (c ∷ d ∷ sl) after pass), (good, omega arith, few))
+below-takes : (count sl after be last : List ℕ) → IsCount 4 count → list_all is_slash sl ≡ true → length sl ≤ 6 → after ≡ be ++ last → IsCount 4 be →
+    let z = below_at count (sl, after) (be, last) in (count ++ (sl ++ after) ≡ length_then z.0 z.1) × IsLength z.0
+below-takes count [] after be last good pass few g below = (refl, good)
+below-takes count (c ∷ []) after [] last good pass few g below = (ap (λ t. count ++ t) (slashes-are (c ∷ []) after pass), (good, omega arith, omega arith))
+below-takes count (c ∷ []) after (d ∷ ds) last good pass few g below =
+    (ap (λ t. count ++ t) (slashes-are (c ∷ []) after pass ∙ ap (λ t. 47 ∷ t) g), (good, below))
+below-takes count (c ∷ d ∷ sl) after be last good pass few g below = (ap (λ t. count ++ t) (slashes-are (c ∷ d ∷ sl) after pass), (good, omega arith, few))
 
 pub length_at-takes : (s : List ℕ) → let z = length_at s in (s ≡ length_then z.0 z.1) × IsLength z.0
 unfolding length_at
 length_at-takes s =
     let count = number_at 4 s in let sl = span is_slash 6 count.1 in
-    below-takes s count.0 count.1 sl.0 sl.1 (number_at 4 sl.1).0 (number_at 4 sl.1).1
-    (number-takes 4 s) (number-count 4 s) (span-takes is_slash 6 count.1) (span-pass is_slash 6 count.1) (span-length is_slash 6 count.1) (number-takes 4 sl.1) (number-count 4 sl.1)
+    let pass = span-pass is_slash 6 count.1 in let few = span-length is_slash 6 count.1 in
+    let both = below-takes count.0 sl.0 sl.1 _ _ (number-count 4 s) pass few (number-takes 4 sl.1) (number-count 4 sl.1) in
+    (number-takes 4 s ∙ ap (λ t. count.0 ++ t) (span-takes is_slash 6 count.1) ∙ both.0, both.1)
 
 -- ---- the longest
 
@@ -101,12 +111,10 @@ abbrev pub goes_on : ℕ → Bool
 goes_on b = is_digit b || is_slash b
 
 either_left : (x : List ℕ) → begins is_digit x ≡ true → begins goes_on x ≡ true
-either_left [] h = absurd cc
-either_left (b ∷ x) h = or_left (is_digit b) (is_slash b) h
+either_left x = begins_wider is_digit goes_on x (λ b. or_left (is_digit b) (is_slash b))
 
 either_right : (x : List ℕ) → begins is_slash x ≡ true → begins goes_on x ≡ true
-either_right [] h = absurd cc
-either_right (b ∷ x) h = or_right (is_digit b) (is_slash b) h
+either_right x = begins_wider is_slash goes_on x (λ b. or_right (is_digit b) (is_slash b))
 
 length-below : (count : List ℕ) (sl be : List ℕ × List ℕ) → length be.1 ≤ length sl.1 → length (below_at count sl be).1 ≤ length sl.1
 length-below count ([], rest) be h = omega arith
@@ -120,7 +128,8 @@ from_count count s = let sl = span is_slash 6 s in below_at count sl (number_at 
 
 length-from : (count s : List ℕ) → length (from_count count s).1 ≤ length s
 unfolding from_count
-length-from count s = let sl = span is_slash 6 s in omega (arith, length-below count sl (number_at 4 sl.1) (length-number 4 sl.1), length-span is_slash 6 s)
+length-from count s =
+    let sl = span is_slash 6 s in omega (arith, length-below count sl (number_at 4 sl.1) (length-number 4 sl.1), length-span is_slash 6 s)
 
 length_at-is : (s : List ℕ) → length_at s ≡ from_count (number_at 4 s).0 (number_at 4 s).1
 unfolding length_at from_count
@@ -129,23 +138,28 @@ length_at-is s = refl
 whole-reaches : (count x : List ℕ) → Stops goes_on x (whole count) (from_count count x)
 unfolding from_count
 whole-reaches count x =
+    let sl = span is_slash 6 x in
     elim (span-less is_slash 6 x) [
-      | inl shorter ↦ let sl = span is_slash 6 x in inl (omega (arith, shorter.0, length-below count sl (number_at 4 sl.1) (length-number 4 sl.1)), either_right x shorter.1)
+      | inl shorter ↦ inl (omega (arith, shorter.0, length-below count sl (number_at 4 sl.1) (length-number 4 sl.1)), either_right x shorter.1)
       | inr same ↦ inr (rw same refl)
     ]
 
 -- one slash, and no further one
 one_slash : (count x : List ℕ) → begins is_slash x ≡ false → from_count count (47 ∷ x) ≡ below_at count (47 ∷ [], x) (number_at 4 x)
 unfolding from_count
-one_slash count x h = let one : span is_slash 6 (47 ∷ x) ≡ (47 ∷ [], x) = span-append is_slash 5 (47 ∷ []) x refl ∙ rw (span-stops is_slash 5 x h) refl in rw one refl
+one_slash count x h = rw (span-append is_slash 5 (47 ∷ []) x refl, span-stops is_slash 5 x h) refl
 
 no_slash : (d : ℕ) (ds x : List ℕ) → IsNumber 4 (d ∷ ds) → begins is_slash ((d ∷ ds) ++ x) ≡ false
 no_slash d ds x good = let r = digit_range d (and_parts _ _ good.digits).0 in ne_eqb d 47 (omega (arith, r.0))
 
-over-reaches : (count : List ℕ) (d : ℕ) (ds x : List ℕ) → IsNumber 4 (d ∷ ds) → Stops goes_on x (over count (d ∷ ds)) (from_count count (47 ∷ ((d ∷ ds) ++ x)))
+over-reaches : (count : List ℕ) (d : ℕ) (ds x : List ℕ) → IsNumber 4 (d ∷ ds) →
+    Stops goes_on x (over count (d ∷ ds)) (from_count count (47 ∷ ((d ∷ ds) ++ x)))
 over-reaches count d ds x good =
     rw (one_slash count ((d ∷ ds) ++ x) (no_slash d ds x good), number-reads-as 4 (d ∷ ds) x good)
-    (elim (span-less is_digit (4 - length (d ∷ ds)) x) [ inl shorter ↦ inl (shorter.0, either_left x shorter.1) | inr same ↦ inr (rw same (ap (λ t. read_as (over count (d ∷ t)) x) (append-nil ds))) ])
+    (elim (span-less is_digit (4 - length (d ∷ ds)) x) [
+      | inl shorter ↦ inl (shorter.0, either_left x shorter.1)
+      | inr same ↦ inr (rw same (ap (λ t. read_as (over count (d ∷ t)) x) (append-nil ds)))
+    ])
 
 -- a number was read, so it is below the slash
 below-one : (count x : List ℕ) (be : List ℕ × List ℕ) → x ≡ be.0 ++ be.1 → length be.1 < length x → length (below_at count (47 ∷ [], x) be).1 < length x
@@ -155,19 +169,20 @@ below-one count x (d ∷ ds, last) e h = h
 -- up to six slashes, and no more of them
 last_slash : (count : List ℕ) (k : ℕ) (x : List ℕ) → 1 ≤ k → Stops goes_on x (halved count k) (below_at count (copies k 47 [], x) (number_at 4 x))
 last_slash count zero x some = absurd (omega (arith, some))
-last_slash count (suc zero) x some = elim (number-less 4 x) [ inl shorter ↦ inl (below-one count x (number_at 4 x) (number-takes 4 x) shorter.0, either_left x shorter.1) | inr same ↦ inr (rw same refl) ]
+last_slash count (suc zero) x some = elim (number-less 4 x) [
+  | inl shorter ↦ inl (below-one count x (number_at 4 x) (number-takes 4 x) shorter.0, either_left x shorter.1)
+  | inr same ↦ inr (rw same refl)
+]
 last_slash count (suc (suc k)) x some = inr (ap (λ n. read_as (halved count (suc (suc n))) x) (length-copies k))
 
-counted : (count s : List ℕ) (sl : List ℕ × List ℕ) → span is_slash 6 s ≡ sl → from_count count s ≡ below_at count sl (number_at 4 sl.1)
-unfolding from_count
-counted count s sl e = rw e refl
-
 halved-reaches : (count : List ℕ) (k : ℕ) (x : List ℕ) → 1 ≤ k → k ≤ 6 → Stops goes_on x (halved count k) (from_count count (copies k 47 x))
+unfolding from_count
 halved-reaches count k x some few =
-    let slashes = copies k 47 [] in let n = 6 - k in let six : length slashes + n ≡ 6 = omega (arith, length-copies k) in let m = span is_slash n x in
-    let read : span is_slash 6 (copies k 47 x) ≡ (slashes ++ m.0, m.1) = rw (copies-split k x) (subst (λ (l : ℕ). span is_slash l (slashes ++ x) ≡ (slashes ++ m.0, m.1)) six (span-append is_slash n slashes x (copies-pass k))) in
-    let whole_read : from_count count (copies k 47 x) ≡ below_at count (slashes ++ m.0, m.1) (number_at 4 m.1) = counted count (copies k 47 x) (slashes ++ m.0, m.1) read in
-    rw whole_read (elim (span-less is_slash n x) [
+    let slashes = copies k 47 [] in let n = 6 - k in let m = span is_slash n x in
+    let six : length slashes + n ≡ 6 = omega (arith, length-copies k) in
+    let read : span is_slash 6 (copies k 47 x) ≡ (slashes ++ m.0, m.1) =
+    rw (sym (copies_append k 47 [] x)) (rw six at (span-append is_slash n slashes x (copies-pass k))) in
+    rw read (elim (span-less is_slash n x) [
       | inl shorter ↦ inl (omega (arith, shorter.0, length-below count (slashes ++ m.0, m.1) (number_at 4 m.1) (length-number 4 m.1)), either_right x shorter.1)
       | inr same ↦ rw (same, append-nil) (last_slash count k x some)
     ])
@@ -181,7 +196,8 @@ length_at-reaches (whole count) x good = rw length_at-is (elim (count-reads 4 co
 length_at-reaches (over count []) x good = absurd (omega (arith, good.1.some))
 length_at-reaches (over count (d ∷ ds)) x good = rw (length_at-is, count-slash count ((d ∷ ds) ++ x) good.0) (over-reaches count d ds x good.1)
 length_at-reaches (halved count zero) x good = absurd (omega (arith, good.1))
-length_at-reaches (halved count (suc k)) x good = rw (length_at-is, count-slash count (copies k 47 x) good.0) (halved-reaches count (suc k) x good.1 good.2)
+length_at-reaches (halved count (suc k)) x good =
+    rw (length_at-is, count-slash count (copies k 47 x) good.0) (halved-reaches count (suc k) x good.1 good.2)
 
 pub length-length_at : (s : List ℕ) → length (length_at s).1 ≤ length s
 length-length_at s = rw length_at-is (omega (arith, length-from (number_at 4 s).0 (number_at 4 s).1, length-number 4 s))

@@ -1,5 +1,6 @@
 -- What is taken off the front of a list is what stands there.
-use Rattle.std.{proofs.{Common.{◌≡◌, ℕ, zero, suc, ◌+◌, ◌≤◌, ◌<◌, Bool, true, false, eqb, List, [], ◌∷◌, length, drop, refl, ap, ◌∙◌, arith, zero-add, inl, inr, ◌⊎◌, length-drop}, lemmas.Bool.{cond_both, eqb-true, eq-eqb}}, specs.List.prefix_len}
+use Rattle.std.proofs.Common.{◌≡◌, ℕ, zero, suc, ◌+◌, ◌≤◌, ◌<◌, Bool, true, false, eqb, List, [], ◌∷◌, length, drop, refl, ap, arith, zero-add}
+use Rattle.std.{proofs.{Common.{◌∙◌, inl, inr, ◌⊎◌, length-drop}, lemmas.Bool.{cond_both, eqb-true, eq-eqb}}, specs.List.prefix_len}
 use Rattle.abc_notes.specs.Runs.{copies, maybe, run_off, skip, begins}
 
 -- the list does not begin with the byte
@@ -20,19 +21,21 @@ run_off-takes b (x ∷ s) =
     rw more (ap (λ z. z ∷ s) is ∙ ap (λ z. b ∷ z) (run_off-takes b s)))
     (λ e. refl)
 
-pub skip-takes : (b : ℕ) (s : List ℕ) → s ≡ maybe (skip b s).0 b (skip b s).1
+-- either the byte stands in front or not
+pub skip_cases : (b : ℕ) (s : List ℕ) (P : Bool × List ℕ → Type 0) → ((t : List ℕ) → s ≡ b ∷ t → P (true, t)) → (Lacks b s → P (false, s)) → P (skip b s)
 unfolding skip
-skip-takes b [] = refl
-skip-takes b (x ∷ s) =
-    cond_both {A = Bool × List ℕ} (eqb x b) (true, s) (false, x ∷ s) (λ p. x ∷ s ≡ maybe p.0 b p.1)
-    (λ e. ap (λ z. z ∷ s) (eqb-true x b e))
-    (λ e. refl)
+skip_cases b [] P there lacks = lacks tt
+skip_cases b (x ∷ s) P there lacks = cond_both _ (true, s) (false, x ∷ s) P (λ e. there s (ap (λ z. z ∷ s) (eqb-true x b e))) lacks
+
+pub skip-takes : (b : ℕ) (s : List ℕ) → s ≡ maybe (skip b s).0 b (skip b s).1
+skip-takes b s = skip_cases b s (λ p. s ≡ maybe p.0 b p.1) (λ t e. e) (λ h. refl)
 
 pub run_off-copies : (b n : ℕ) (s : List ℕ) → run_off b (copies n b s) ≡ (n + (run_off b s).0, (run_off b s).1)
 unfolding run_off
 run_off-copies b zero s = rw zero-add refl
 run_off-copies b (suc n) s =
-    let k = prefix_len (λ y. eqb y b) (copies n b s) in let more : 1 + k ≡ suc k = omega arith in let sum : suc n + prefix_len (λ y. eqb y b) s ≡ suc (n + prefix_len (λ y. eqb y b) s) = omega arith in
+    let k = prefix_len (λ y. eqb y b) (copies n b s) in let m = prefix_len (λ y. eqb y b) s in
+    let more : 1 + k ≡ suc k = omega arith in let sum : suc n + m ≡ suc (n + m) = omega arith in
     rw (same b, more, sum) (ap (λ p. (suc p.0, p.1)) (run_off-copies b n s))
 
 pub run_off-lacks : (b : ℕ) (s : List ℕ) → Lacks b s → run_off b s ≡ (0, s)
@@ -55,9 +58,7 @@ unfolding run_off
 length-run_off b s = omega (arith, length-drop (prefix_len (λ x. eqb x b) s) s)
 
 pub length-skip : (b : ℕ) (s : List ℕ) → length (skip b s).1 ≤ length s
-unfolding skip
-length-skip b [] = omega arith
-length-skip b (x ∷ s) = cond_both {A = Bool × List ℕ} (eqb x b) (true, s) (false, x ∷ s) (λ p. length p.1 ≤ suc (length s)) (λ e. omega arith) (λ e. omega arith)
+length-skip b s = skip_cases b s (λ p. length p.1 ≤ length s) (λ t e. omega (arith, ap length e)) (λ h. omega arith)
 
 pub skip-yes : (b : ℕ) (s : List ℕ) → skip b (b ∷ s) ≡ (true, s)
 unfolding skip
@@ -69,17 +70,15 @@ unfolding run_off
 run_off-less b [] = inr refl
 run_off-less b (x ∷ s) =
     let k = prefix_len (λ y. eqb y b) s in
-    cond_both (eqb x b) (1 + k) 0 (λ m. ((length (drop m (x ∷ s)) < suc (length s)) × (eqb x b ≡ true)) ⊎ (◌≡◌ {A = ℕ × List ℕ} (m, drop m (x ∷ s)) (0, x ∷ s)))
+    cond_both (eqb x b) (1 + k) 0
+    (λ m. ((length (drop m (x ∷ s)) < suc (length s)) × (eqb x b ≡ true)) ⊎ (◌≡◌ {A = ℕ × List ℕ} (m, drop m (x ∷ s)) (0, x ∷ s)))
     (λ e. inl (omega (arith, length-drop (1 + k) (x ∷ s)), e))
     (λ e. inr refl)
 
 pub skip-less : (b : ℕ) (s : List ℕ) → ((length (skip b s).1 < length s) × (begins (λ x. eqb x b) s ≡ true)) ⊎ (skip b s ≡ (false, s))
-unfolding skip
-skip-less b [] = inr refl
-skip-less b (x ∷ s) =
-    cond_both {A = Bool × List ℕ} (eqb x b) (true, s) (false, x ∷ s) (λ p. ((length p.1 < suc (length s)) × (eqb x b ≡ true)) ⊎ (p ≡ (false, x ∷ s)))
-    (λ e. inl (omega arith, e))
-    (λ e. inr refl)
+skip-less b s =
+    skip_cases b s (λ p. ((length p.1 < length s) × (begins (λ x. eqb x b) s ≡ true)) ⊎ (p ≡ (false, s)))
+    (λ t e. inl (omega (arith, ap length e), rw e (same b))) (λ h. inr refl)
 
 -- one test implies another at the front
 pub begins_wider : (p q : ℕ → Bool) (s : List ℕ) → ((b : ℕ) → p b ≡ true → q b ≡ true) → begins p s ≡ true → begins q s ≡ true
