@@ -1,5 +1,6 @@
 -- Numbers of up to four digits.
-use Rattle.std.{proofs.{Common.{◌≡◌, ℕ, zero, suc, ◌+◌, ◌*◌, ◌-◌, ◌≤◌, ◌<◌, true, List, [], ◌∷◌, length, get_or, refl, arith}, lemmas.Bool.{and_parts, leb-true, lt-ltb, le-ltb}}, specs.{List.list_all, Char.digit_value}}
+use Rattle.std.proofs.{Common.{◌≡◌, ℕ, zero, suc, ◌+◌, ◌*◌, ◌-◌, ◌≤◌, ◌<◌, true, List, [], ◌∷◌, length, get_or, refl, arith}, lemmas.Bool.{and_parts}}
+use Rattle.std.{proofs.lemmas.Bool.{leb-true, lt-ltb, le-ltb}, specs.{List.list_all, Char.digit_value}}
 use Rattle.{mus_units.specs.Bytes.{is_digit}, abc_notes.specs.Lengths.{limit_at}}
 
 pub limit_step : (i v d : ℕ) → i < 4 → v < limit_at i → d < 10 → v * 10 + d < limit_at (suc i)

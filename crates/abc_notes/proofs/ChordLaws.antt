@@ -1,23 +1,22 @@
 -- Reading a chord gives the longest, and where there is none its fault is found.
-use Rattle.std.proofs.Common.{◌≡◌, ℕ, ◌+◌, ◌-◌, ◌≤◌, ◌<◌, Bool, true, false, eqb, List, [], ◌∷◌, ◌++◌, length, take, Option, Some, None}
-use Rattle.std.proofs.Common.{refl, sym, ap, ◌∙◌, subst, arith, inl, inr, ◌⊎◌, add-one, ◌&&◌, ◌||◌, not, IfSome, option_map}
-use Rattle.std.proofs.lemmas.Bool.{and_parts, eqb-true, both_ways, cases_lt, cond-true, not-true, not_from_false, or_left, or_right}
-use Rattle.std.proofs.{lemmas.{List.{length-append, nil_from_length}, Option.{cond_some, some_pair_parts}}, Math.Seq.take-append_seam}
-use Rattle.std.{proofs.Math.Bool.{or-false, or_assoc}}
+use Rattle.std.proofs.Common.{◌≡◌, ℕ, ◌+◌, ◌-◌, ◌≤◌, ◌<◌, Bool, true, false, eqb, List, [], ◌∷◌, ◌++◌, length, take, Option, Some, None, refl, sym}
+use Rattle.std.proofs.{Common.{ap, ◌∙◌, subst, arith, inl, inr, ◌⊎◌, add-one, ◌&&◌, ◌||◌, not, IfSome}, lemmas.Bool.{and_parts, eqb-true, both_ways}}
+use Rattle.std.proofs.lemmas.Bool.{false_from_ne_true, cases_lt, cond-true, not-true, not_from_false, or_left, or_right}
+use Rattle.std.proofs.{lemmas.List.{length-append, nil_from_length}, lemmas.Option.{cond_some, some_pair_parts}, Math.Seq.take-append_seam}
+use Rattle.std.proofs.Math.Bool.{or-false, or_assoc}
+use Rattle.abc_notes.specs.Chords.{ChordForm, InnerLeads, is_inside, is_bracket, has_head, chord_then, IsChord, ChordFault, chord_unclosed}
+use Rattle.abc_notes.specs.Chords.{chord_open, chord_headless, chord_flawed, bracket_here, bracket_in, bracket_in_name, last_bracket, bracket_at}
+use Rattle.abc_notes.specs.{Chords.{chord_from, chord_at}, declared.part.Flaw.Flaw, Runs.{span_all, begins}, Lengths.{LengthForm, length_then}}
+use Rattle.abc_notes.specs.{Lengths.{IsLength, length_at}, Parts.{HasNone, no_part, then_part, walk, is_done, spelled_then, later_or}}
+use Rattle.abc_notes.specs.Items.{Inner, lone_inside, inner_then, IsName, StandsInside, has_length, InnerParts, InnerFlawed, name_at, item_class}
+use Rattle.abc_notes.specs.{Items.inner_at, Decorations.is_name_byte}
+use Rattle.abc_notes.proofs.CutLaws.{two, none_left, some_left, first_close, length_past, read_on, inner_local, joined_cut, walk_spells}
+use Rattle.abc_notes.proofs.CutLaws.{leads_of_walk, free, wider, crossing, lone_at, clear_parts, all_parts, cut_cases, first_same, rest_same}
+use Rattle.abc_notes.proofs.CutLaws.{cond_then, NameCut, name_upto, name_upto-closes, name_upto-found}
+use Rattle.abc_notes.proofs.{LengthLaws.{length_at-takes, length_at-reaches}, ItemLaws.{name_at-takes, name_at-reads}, PartLaws.{Reader, stands_at}}
+use Rattle.abc_notes.proofs.PartLaws.{less, by_parts, stops_at, longest_of, none_of, longest_is, walk-none, walk-some, parts_of_walk, walk_of_parts}
+use Rattle.abc_notes.proofs.InnerLaws.{inner_reader, length-length_then}
 use Rattle.abc_lines.specs.declared.fault.FaultKind.TheVariants.{BadByte, Unclosed}
-use Rattle.abc_notes.specs.Chords.{ChordForm, InnerLeads, is_inside, is_bracket, has_head, chord_then, IsChord}
-use Rattle.abc_notes.specs.Chords.{ChordFault, chord_unclosed, chord_open, chord_headless, chord_flawed}
-use Rattle.abc_notes.specs.Chords.{bracket_here, bracket_in, bracket_in_name, last_bracket, bracket_at, chord_from, chord_at}
-use Rattle.abc_notes.specs.{declared.part.Flaw.Flaw, Runs.{span_all, begins}, Lengths.{LengthForm, length_then, IsLength, length_at}}
-use Rattle.abc_notes.specs.Parts.{HasNone, no_part, then_part, walk, is_done, spelled_then, later_or}
-use Rattle.abc_notes.specs.{Items.{Inner, lone_inside, inner_then, IsName, StandsInside, has_length}, Decorations.is_name_byte}
-use Rattle.abc_notes.specs.Items.{InnerParts, InnerFlawed, name_at, item_class, inner_at}
-use Rattle.abc_notes.proofs.CutLaws.{two, none_left, some_left, first_close, length_past, moved, no_shorter, inner_local, joined_cut}
-use Rattle.abc_notes.proofs.CutLaws.{walk_spells, leads_of_walk, free, wider, crossing, lone_at, clear_parts, all_parts}
-use Rattle.abc_notes.proofs.CutLaws.{cut_cases, first_same, rest_same, cond_then, NameCut, name_upto, name_upto-closes, name_upto-found}
-use Rattle.abc_notes.proofs.{LengthLaws.{length_at-takes, length_at-reaches}, ItemLaws.{name_at-takes, name_at-reads}}
-use Rattle.abc_notes.proofs.PartLaws.{Reader, stands_at, less, by_parts, stops_at, longest_of, none_of, longest_is}
-use Rattle.abc_notes.proofs.{PartLaws.{walk-none, walk-some, parts_of_walk, walk_of_parts}, InnerLaws.{inner_reader, length-length_then}}
 
 pub le_lt : (a b : ℕ) → (a ≤ b) ⊎ (b < a)
 le_lt a b = elim (cases_lt b a) [ inl h ↦ inr h | inr h ↦ inl h ]
@@ -54,7 +53,8 @@ inside_wide b h = (and_parts _ _ h).0
 behind_length : (l : LengthForm) (x inside front rest : List ℕ) → IsLength l → inside ++ (93 ∷ length_then l x) ≡ front ++ (93 ∷ rest) →
     length (93 ∷ rest) < length (93 ∷ length_then l x) → length rest < length x
 behind_length l x inside front rest good e shorter =
-    cut_cases front inside (93 ∷ rest) (93 ∷ length_then l x) (sym e) (omega (arith, shorter)) (λ same behind. absurd (omega (arith, shorter, ap length behind)))
+    cut_cases front inside (93 ∷ rest) (93 ∷ length_then l x) (sym e) (omega (arith, shorter))
+    (λ same behind. absurd (omega (arith, shorter, ap length behind)))
     (λ b m same behind. elim (le_lt (length (93 ∷ rest)) (length x)) [
       | inl near ↦ omega (arith, near)
       | inr far ↦ absurd (length_past 93 l x m rest refl good (rest_same behind) far)
@@ -217,7 +217,8 @@ module _ (bang : Bool) where
   }
   cross_last head lone text t z (Some c) e short found only is =
       let k = last_at-closes (head || has_length z.0) z.1 c is in
-      record { closing = c; is = last_at-some head text z e ∙ rw is refl; ends = inl (omega (arith, short, ap length k.cut, length-append k.front c), only) }
+      let shorter : length c < length (93 ∷ t) = omega (arith, short, ap length k.cut, length-append k.front c) in
+      record { closing = c; is = last_at-some head text z e ∙ rw is refl; ends = inl (shorter, only) }
 
   cross-found : (head : Bool) (u t v : List ℕ) (part : Inner) (more : List Inner) (z : Inner × List ℕ) → inner_at bang u ≡ Some (part, v) →
       InnerParts bang v more → (head || has_head (part ∷ more)) ≡ true → inner_at bang (u ++ (93 ∷ t)) ≡ Some z → length z.1 < length (93 ∷ t) →
@@ -240,17 +241,11 @@ module _ (bang : Bool) where
     ends = inr refl;
   }
   last-reaches head _ t _ (then_part u part v more l others) has =
-      let r = reader in
-      let at = longest_is r u part v l in
-      let o = r.reaches part (u ++ (93 ∷ t)) (v ++ (93 ∷ t)) (moved r (inner_local bang) part u v (93 ∷ t) l.stands) in
-      elim o.2 [
-        | inr same ↦
+      elim (read_on reader (inner_local bang) part u v (93 ∷ t) l) [
+        | inl on ↦
             (let later = last-reaches (head || has_length part) v t more others (or_assoc head (has_length part) (has_head more) ∙ has) in
-            then-found head (has_lone more) (u ++ (93 ∷ t)) t (part, v ++ (93 ∷ t)) (o.1 ∙ ap Some same) later)
-        | inl shorter ↦ elim (le_lt (length (93 ∷ t)) (length o.0.1)) [
-          | inl before ↦ absurd (no_shorter r (inner_local bang) part u v (93 ∷ t) o.0 at o.1 shorter before)
-          | inr past ↦ cross-found head u t v part more o.0 at others has o.1 past
-        ]
+            then-found head (has_lone more) (u ++ (93 ∷ t)) t (part, v ++ (93 ∷ t)) on later)
+        | inr past ↦ cross-found head u t v part more past.0 (longest_is reader u part v l) others has past.1 past.2
       ]
 
   -- ---- a chord
@@ -264,7 +259,7 @@ module _ (bang : Bool) where
       let k = bracket_at-closes s (b ∷ c) e in
       let l = length_at-takes c in
       rw (cut_off s k.front (b ∷ c) k.cut, walk_of_parts reader k.front k.parts k.good)
-      (record { parts = k.good; head = k.has; length = l.1 }, k.cut ∙ ap (λ x. k.front ++ (x ∷ c)) (first_same k.is) ∙ ap (λ x. k.front ++ (93 ∷ x)) l.0)
+      (record { parts = k.good; head = k.has; length = l.1 }, k.cut ∙ ap (λ x. k.front ++ x) (k.is ∙ ap (λ x. 93 ∷ x) (sym (rest_same k.is) ∙ l.0)))
 
   pub chord_at-takes : (s : List ℕ) → TakesChord s (chord_at bang s)
   unfolding chord_at
@@ -341,20 +336,13 @@ module _ (bang : Bool) where
       next ≡ later_or (bracket_in_name bang head rest) last → Seeking text new next behind
   seeking-next {text} {rest} {behind} {head} {new} {last} {next} {part} stage e newly later =
       rw (newly, later) (record {
-        found =
-            sym (later_assoc (last_at (head || has_length part) behind) _ last) ∙ ap (λ r. later_or r last) (sym (last_at-some head rest (part, behind) e))
-            ∙ stage.found;
+        found = sym (later_assoc _ _ last) ∙ ap (λ r. later_or r last) (sym (last_at-some head rest (part, behind) e)) ∙ stage.found;
         within = omega (arith, less reader rest (part, behind) e, stage.within);
       })
 
   pub seeking-ends : {text rest : List ℕ} {head : Bool} {last : Option (List ℕ)} → Seeking text head last rest →
       inner_at bang rest ≡ None → later_or (bracket_here head rest) last ≡ bracket_at bang text
   seeking-ends {text} {rest} {head} {last} stage e = ap (λ r. later_or r last) (sym (last_at-none head rest e)) ∙ stage.found
-
-  pub all-within : {T : Type 0} (now : T → List ℕ) (text : List ℕ) (r : Option T) → option_map now r ≡ bracket_at bang text →
-      IfSome r (λ x. length (now x) ≤ length text)
-  all-within now text None e = tt
-  all-within now text (Some x) e = bracket_within text (now x) (sym e)
 
   -- ---- the fault
   pub chord-unclosed : (s w r : List ℕ) → two w r ≡ span_all is_inside s → length r ≡ 0 →
@@ -368,22 +356,20 @@ module _ (bang : Bool) where
   chord-open s done = rw add-one (chord_open s _ (inner_leads s [] (nil_from_length _ (eqb-true _ 0 done))))
 
   -- parts with a head up to a bracket are a chord
-  last_here : (head : Bool) (ps : List Inner) (rest : List ℕ) → (head || has_head ps) ≡ true → last_bracket bang head ps (93 ∷ rest) ≡ Some (93 ∷ rest)
+  last_here : (head : Bool) (ps : List Inner) (t : List ℕ) → (head || has_head ps) ≡ true → last_bracket bang head ps (93 ∷ t) ≡ Some (93 ∷ t)
   last_here head [] rest has = rw (sym (or-false head) ∙ has) refl
   last_here head (p ∷ ps) rest has = rw (last_here (head || has_length p) ps rest (or_assoc head (has_length p) (has_head ps) ∙ has)) refl
 
-  headless_as : (s rest : List ℕ) (b : Bool) → has_head (walk (inner_at bang) s).0 ≡ b → (walk (inner_at bang) s).1 ≡ 93 ∷ rest →
-      chord_at bang s ≡ None → b ≡ false
-  headless_as s rest false e stop none = refl
-  headless_as s rest true e stop none =
+  headless : (s rest : List ℕ) → (walk (inner_at bang) s).1 ≡ 93 ∷ rest → chord_at bang s ≡ None → has_head (walk (inner_at bang) s).0 ≡ false
+  headless s rest stop none = false_from_ne_true _ (λ e.
       let ps = (walk (inner_at bang) s).0 in
       let found = found_at s (93 ∷ rest) (ap (last_bracket bang false ps) stop ∙ last_here false ps rest e) in
-      absurd (let clash = sym none ∙ at_closing s (93 ∷ rest) found in cc)
+      let clash = sym none ∙ at_closing s (93 ∷ rest) found in cc)
 
   pub chord-headless : (s : List ℕ) → chord_at bang s ≡ None → begins is_bracket (walk (inner_at bang) s).1 ≡ true →
       ChordFault bang s (record { kind = BadByte; left = length s + 1 })
   chord-headless s none at =
-      let stop = first_close 93 _ at in rw add-one (chord_headless s _ stop.0 (inner_leads s _ stop.1) (headless_as s stop.0 _ refl stop.1 none))
+      let stop = first_close 93 _ at in rw add-one (chord_headless s _ stop.0 (inner_leads s _ stop.1) (headless s stop.0 stop.1 none))
 
   none_behind : (s t : List ℕ) → (walk (inner_at bang) s).1 ≡ t → HasNone Inner (StandsInside bang) t
   none_behind s t e = none_of reader t (ap (inner_at bang) (sym e) ∙ stops_at reader s)

@@ -1,29 +1,21 @@
 -- The last brace within a chord at which a grace group may end stands behind one of the shorter chords that begin at the same bracket.
 use Rattle.std.proofs.Common.{◌≡◌, ℕ, suc, ◌+◌, ◌-◌, ◌≤◌, Bool, true, false, eqb, List, [], ◌∷◌, ◌++◌, length, take, drop, Bor, Option, Some, None}
-use Rattle.std.proofs.Common.{refl, sym, ap, ◌∙◌, arith, append_assoc, append-nil, not, ◌&&◌, ◌||◌, IfSome, option_map}
-use Rattle.std.proofs.lemmas.{Bool.{cond_both, and_parts, eqb-true, not-true}, Option.some_pair_parts, List.{length-append, nil_from_length}}
-use Rattle.std.{proofs.Math.Seq.drop-append_seam, specs.List.list_all}
+use Rattle.std.proofs.{Common.{refl, sym, ap, ◌∙◌, arith, append_assoc, append-nil, not, ◌&&◌, ◌||◌, option_map}, lemmas.Bool.{both_ways, cond_both}}
+use Rattle.std.proofs.{lemmas.Bool.{and_parts, eqb-true, not-true}, lemmas.Option.some_pair_parts, lemmas.List.{length-append, nil_from_length}}
+use Rattle.std.proofs.Math.Seq.{drop-append_seam}
 use Rattle.abc_notes.specs.Graces.{GracePart, single, chorded, StandsInGrace, is_in_grace, brace_at, brace_in_chord, brace_behind, brace_between}
 use Rattle.abc_notes.specs.Graces.{brace_in_item, brace_in_part, inside_of_item, inside_of_part, IsItemAt, stands_behind, at_most_bytes}
-use Rattle.abc_notes.specs.{declared.part.{GraceChord.GraceChord, GraceItem.GraceItem, Len.Len}, Decorations.is_name_byte}
+use Rattle.abc_notes.specs.{declared.part.GraceChord.GraceChord, declared.part.GraceItem.GraceItem, declared.part.Len.Len, Decorations.is_name_byte}
 use Rattle.abc_notes.specs.{Lengths.{length_then, length_at, len_of, length_read}, Parts.{no_part, then_part, walk, is_done, later_or}}
 use Rattle.abc_notes.specs.Items.{Inner, named_inside, lone_inside, inner_then, IsInner, has_length, InnerParts, name_at, named_or, inner_at}
-use Rattle.abc_notes.specs.Chords.{bracket_in_name, bracket_at}
+use Rattle.abc_notes.specs.Chords.{bracket_in, bracket_in_name, bracket_at}
 use Rattle.abc_notes.proofs.GraceLaws.{ClosedGroup, brace_at-closes, none_there, chord-none, chord-some, FoundPart, part_reader}
-use Rattle.abc_notes.proofs.ChordLaws.{is_lone, last_at, last_at-none, last_at-some, good_before, parts_before, in_name-finds, in_name-reads, bracket_at-closes}
-use Rattle.abc_notes.proofs.{ChordLaws.{bracket_within, later_none, later_assoc, cut_off}, ItemLaws.bang_at}
-use Rattle.abc_notes.proofs.CutLaws.{first_same, inner_append, length_append, all_parts, inner_local, joined_cut, is_named, lone_at, name_upto-append}
-use Rattle.abc_notes.proofs.PartLaws.{stands_at, at_nil, longest_is, walk_of_parts, left_none, left_some}
+use Rattle.abc_notes.proofs.ChordLaws.{last_at, last_at-none, last_at-some, good_before, parts_before, in_name-finds, in_name-reads}
+use Rattle.abc_notes.proofs.{ChordLaws.{bracket_at-closes, bracket_within, later_none, later_assoc, cut_off}, ItemLaws.bang_at}
+use Rattle.abc_notes.proofs.CutLaws.{first_same, inner_append, length_append, all_parts, inner_local, joined_cut, is_named, not_named, lone_at}
+use Rattle.abc_notes.proofs.{CutLaws.name_upto-append, PartLaws.{stands_at, at_nil, longest_is, walk_of_parts, left_none, left_some}}
 use Rattle.abc_notes.proofs.{InnerLaws.{inner_reader, inner_pair, length-length_then}, LengthLaws.length_at-takes}
-
-no_name : (r : Option (List ℕ × List ℕ)) (s : List ℕ) → named_or r s ≡ Some (inner_pair lone_inside s) → r ≡ None
-no_name None s e = refl
-no_name (Some named) s e = absurd (let clash = (some_pair_parts _ _ _ _ e).0 in cc)
-
-kinds : (r : Option (List ℕ × List ℕ)) (s : List ℕ) (z : Inner × List ℕ) → named_or r s ≡ Some z → is_named z.0 ≡ false → is_lone z.0 ≡ false → ⊥
-kinds None s z e n l = let same = (some_pair_parts lone_inside z.0 s z.1 e).0 in let clash : true ≡ false = ap is_lone same ∙ l in cc
-kinds (Some named) s z e n l =
-    let same = (some_pair_parts (named_inside named.0) z.0 named.1 z.1 e).0 in let clash : true ≡ false = ap is_named same ∙ n in cc
+use Rattle.std.specs.List.{list_all}
 
 joined : (x y : List ℕ) (a b : Option (List ℕ)) →
     later_or (option_map (λ c. c ++ y) a) (option_map (λ c. c ++ (x ++ y)) b) ≡ option_map (λ c. c ++ y) (later_or a (option_map (λ c. c ++ x) b))
@@ -55,13 +47,10 @@ within_front [] w c rest cut is = absurd (omega (arith, first_same (cut ∙ is))
 within_front (b ∷ front) w c rest cut is = omega (arith, ap length cut, length-append front c)
 
 -- what follows a length
-pub behind_length : (s : List ℕ) {rest : List ℕ} {len : Len} → length_read len rest ≡ length_read (len_of (length_at s).0) (length_at s).1 → rest ≡ (length_at s).1
-behind_length s e = ap (λ p. p.1) e
-
 pub length_shorter : (s : List ℕ) {rest : List ℕ} {len : Len} → length_read len rest ≡ length_read (len_of (length_at s).0) (length_at s).1 →
     length rest ≤ length s
 length_shorter s e =
-    let takes = length_at-takes s in omega (arith, ap length (behind_length s e), ap length takes.0, length-length_then (length_at s).0 (length_at s).1)
+    let l = length_at s in omega (arith, ap (λ p. length p.1) e, ap length (length_at-takes s).0, length-length_then l.0 l.1)
 
 module _ (bang : Bool) where
   -- ---- the bracket in a name that is a part, from it on up to the end of the part
@@ -69,21 +58,21 @@ module _ (bang : Bool) where
   own_bracket head (named_inside name) = bracket_in_name bang head (33 ∷ (name ++ (33 ∷ [])))
   own_bracket head _ = None
 
-  lone_own : (head : Bool) (x : List ℕ) → bang ≡ false → inner_at bang (33 ∷ x) ≡ Some (inner_pair lone_inside x) →
-      bracket_in_name bang head (33 ∷ x) ≡ None
-  unfolding bracket_in_name
-  lone_own head x off e = let none = no_name (name_at x) x (sym (bang_at bang x off) ∙ e) in rw (off, none) refl
+  unnamed_in : (head : Bool) (s : List ℕ) (z : Inner × List ℕ) (r : Option (List ℕ × List ℕ)) → named_or r s ≡ Some z → is_named z.0 ≡ false →
+      bracket_in bang head s r ≡ None
+  unnamed_in head s z None e n = refl
+  unnamed_in head s z (Some named) e n =
+      let same = (some_pair_parts (named_inside named.0) z.0 named.1 z.1 e).0 in absurd (both_ways (is_named z.0) n (ap is_named (sym same)))
 
-  other_own : (head : Bool) (text : List ℕ) (z : Inner × List ℕ) → inner_at bang text ≡ Some z → is_named z.0 ≡ false → is_lone z.0 ≡ false →
-      bracket_in_name bang head text ≡ None
+  unnamed_own : (head : Bool) (s : List ℕ) (z : Inner × List ℕ) → inner_at bang s ≡ Some z → is_named z.0 ≡ false → bracket_in_name bang head s ≡ None
   unfolding bracket_in_name
-  other_own head [] z e n l = refl
-  other_own head (b ∷ s) z e n l =
+  unnamed_own head [] z e n = refl
+  unnamed_own head (b ∷ s) z e n =
       cond_both {A = Option (List ℕ)} (eqb b 33 && not bang) _ None (λ r. r ≡ None)
       (λ h.
       let p = and_parts (eqb b 33) (not bang) h in
       let read = sym (bang_at bang s (not-true bang p.1)) ∙ ap (λ x. inner_at bang (x ∷ s)) (sym (eqb-true b 33 p.0)) ∙ e in
-      absurd (kinds (name_at s) s z read n l))
+      unnamed_in head s z (name_at s) read n)
       (λ h. refl)
 
   part_own : (head : Bool) (part : Inner) (x : List ℕ) → IsInner bang part → inner_at bang (inner_then part x) ≡ Some (inner_pair part x) →
@@ -91,46 +80,33 @@ module _ (bang : Bool) where
   part_own head (named_inside name) x good e =
       in_name-reads bang head name x good.0 good.1 ∙ name_upto-append 93 (good_before bang head) name x
       ∙ ap (option_map (λ (m : List ℕ). m ++ x)) (sym (in_name-reads bang head name [] good.0 good.1))
-  part_own head lone_inside x good e = lone_own head x good e
-  part_own head part x good e = other_own head (inner_then part x) (part, x) e refl refl
+  part_own head part x good e = unnamed_own head (inner_then part x) (part, x) e refl
 
   -- ---- the text before a bracket in a name holds no bracket behind the mark
-  no_mark : (head : Bool) (text : List ℕ) → list_all is_name_byte text ≡ true → bracket_in_name bang head text ≡ None
-  unfolding bracket_in_name
-  no_mark head [] h = refl
-  no_mark head (b ∷ s) h =
-      cond_both {A = Option (List ℕ)} (eqb b 33 && not bang) _ None (λ r. r ≡ None)
-      (λ m.
-      let name : is_name_byte b ≡ true = (and_parts (is_name_byte b) (list_all is_name_byte s) h).0 in
-      absurd (let clash = rw (eqb-true b 33 (and_parts _ _ m).0) at name in cc))
-      (λ m. refl)
-
   quiet_parts : (head : Bool) (u : List ℕ) (ps : List Inner) → InnerParts bang u ps → list_all is_name_byte u ≡ true → last_at bang head u ≡ None
   quiet_parts head _ _ no_part h = last_at-none bang head [] (at_nil (inner_reader bang))
   quiet_parts head _ _ (then_part u part rest more l others) h =
-      let names = all_parts is_name_byte (inner_then part []) rest (ap (list_all is_name_byte) (inner_append part [] rest ∙ sym l.stands.cut) ∙ h) in
-      let later = quiet_parts (head || has_length part) rest more others names.1 in
-      last_at-some bang head u (part, rest) (longest_is (inner_reader bang) u part rest l) ∙ rw later (no_mark head u h)
+      let at = longest_is (inner_reader bang) u part rest l in
+      let names = ap (list_all is_name_byte) (sym l.stands.cut) ∙ h in
+      let behind = all_parts is_name_byte (inner_then part []) rest (ap (list_all is_name_byte) (inner_append part [] rest) ∙ names) in
+      let later = quiet_parts (head || has_length part) rest more others behind.1 in
+      last_at-some bang head u (part, rest) at ∙ rw later (unnamed_own head u (part, rest) at (not_named part rest names))
 
   quiet_mark : (head : Bool) (u : List ℕ) (ps : List Inner) → bang ≡ false → InnerParts bang u ps → list_all is_name_byte u ≡ true →
       last_at bang head (33 ∷ u) ≡ None
   quiet_mark head u ps off good h =
       let at = lone_at bang u off h in
       let later = quiet_parts (head || has_length lone_inside) u ps good h in
-      last_at-some bang head (33 ∷ u) (lone_inside, u) at ∙ rw later (lone_own head u off at)
+      last_at-some bang head (33 ∷ u) (lone_inside, u) at ∙ rw later (unnamed_own head (33 ∷ u) (lone_inside, u) at refl)
 
   -- a bracket in a name
-  record Candidate (head : Bool) (rest closing : List ℕ) : Type 0 where
-    before : List ℕ
-    cut : rest ≡ before ++ closing
-    quiet : last_at bang head before ≡ None
-
-  candidate : (head : Bool) (rest closing : List ℕ) → bracket_in_name bang head rest ≡ Some closing → Candidate head rest closing
+  candidate : (head : Bool) (rest closing : List ℕ) → bracket_in_name bang head rest ≡ Some closing →
+      (before : List ℕ) × (rest ≡ before ++ closing) × (last_at bang head before ≡ None)
   candidate head rest closing e =
       let f = in_name-finds bang head rest closing e in
       let k = f.name in
       let quiet = quiet_mark head k.before _ f.off (parts_before bang head k.before k.good) k.names in
-      record { before = 33 ∷ k.before; cut = f.is ∙ ap (λ x. 33 ∷ x) k.cut; quiet = quiet }
+      (33 ∷ k.before, f.is ∙ ap (λ x. 33 ∷ x) k.cut, quiet)
 
   -- ---- the state of the loop over the inside of a chord
 
@@ -199,10 +175,10 @@ module _ (bang : Bool) where
     found_or None e = (stage.found, tt)
     found_or (Some closing) e =
         let c = candidate head rest closing e in
-        let u = stage.front ++ c.before in
-        let line : w ≡ u ++ closing = stage.cut ∙ ap (λ x. stage.front ++ x) c.cut ∙ sym (append_assoc stage.front c.before closing) in
+        let u = stage.front ++ c.0 in
+        let line : w ≡ u ++ closing = stage.cut ∙ ap (λ x. stage.front ++ x) c.1 ∙ sym (append_assoc stage.front c.0 closing) in
         let upto = ap (λ (t : List ℕ). option_map (λ (x : List ℕ). x ++ closing) (brace_in_chord bang t)) (sym (cut_off w u closing line)) in
-        (passing-upto c.before closing c.cut c.quiet ∙ upto, passing-behind c.before closing c.cut)
+        (passing-upto c.0 closing c.1 c.2 ∙ upto, passing-behind c.0 closing c.1)
 
     pub passing-found : {closing : Option (List ℕ)} → closing ≡ bracket_in_name bang head rest →
         later_or (brace_between bang bracket closing) last ≡ brace_upto w (later_or closing bracket)
@@ -219,8 +195,8 @@ module _ (bang : Bool) where
     pub passing-size : size_of bracket ≤ length w
     passing-size = size_most (length w) bracket (passing-small (length w) (omega arith))
 
-    pub passing-next : {new : Bool} {next found : Option (List ℕ)} {behind : List ℕ} {part : Inner} → inner_at bang rest ≡ Some (inner_pair part behind) →
-        new ≡ (head || has_length part) → next ≡ later_or (bracket_in_name bang head rest) bracket → found ≡ brace_upto w next →
+    pub passing-next : {new : Bool} {next found : Option (List ℕ)} {behind : List ℕ} {part : Inner} →
+        inner_at bang rest ≡ Some (inner_pair part behind) → new ≡ (head || has_length part) → next ≡ later_or (bracket_in_name bang head rest) bracket → found ≡ brace_upto w next →
         Passing new w next found behind
     passing-next {behind = behind} {part = part} e newly nextly so_far =
         let r = inner_reader bang in
@@ -259,14 +235,9 @@ module _ (bang : Bool) where
         ∙ ap (brace_in_chord bang) (ap (λ x. stage.front ++ x) (sym nothing) ∙ sym stage.cut)
 
   -- ---- what is found stands within the chord
-  chord-within : (w c : List ℕ) → brace_in_chord bang w ≡ Some c → length c ≤ length w
+  pub chord-within : (w c : List ℕ) → brace_in_chord bang w ≡ Some c → length c ≤ length w
   unfolding brace_in_chord
   chord-within w c e = let k = brace_at-closes bang (91 ∷ w) c e in within_front k.front w c k.rest k.cut k.is
-
-  pub all-in-chord : {T : Type 0} (now : T → List ℕ) (w : List ℕ) (r : Option T) → option_map now r ≡ brace_in_chord bang w →
-      IfSome r (λ x. length (now x) ≤ length w)
-  all-in-chord now w None e = tt
-  all-in-chord now w (Some x) e = chord-within w (now x) (sym e)
 
   clear_closed : (w d : List ℕ) → list_all is_in_grace w ≡ true → ClosedGroup bang (91 ∷ w) d → ⊥
   clear_closed w d clear k =
@@ -322,7 +293,7 @@ module _ (bang : Bool) where
       let l = length_at s in
       let x = length_then l.0 [] in
       let y = b ∷ (x ++ k.front) in
-      let same : rest ≡ l.1 = behind_length s e in
+      let same : rest ≡ l.1 = ap (λ p. p.1) e in
       let long : length_then l.0 l.1 ≡ x ++ (k.front ++ brace) = sym (length_append l.0 [] l.1) ∙ ap (λ t. x ++ t) (sym same ∙ k.cut) in
       let split = (length_at-takes s).0 ∙ long ∙ sym (append_assoc x k.front brace) in
       let spelled : chord ≡ y ++ brace = first ∙ ap (λ t. b ∷ t) split in
@@ -344,8 +315,8 @@ module _ (bang : Bool) where
       let line : text ≡ k.front ++ (brace ++ tail) = cut ∙ ap (λ t. t ++ tail) k.cut ∙ append_assoc k.front brace tail in
       ap (λ n. drop n text) count ∙ ap (drop (length k.front)) line ∙ drop-append_seam k.front (brace ++ tail)
 
-  pub chord-brace : (text : List ℕ) {item : GraceItem} {brace : List ℕ} {inside : Bor (List ℕ)} → item ≡ GraceItem.Chord inside → IsItemAt bang item text →
-      Some brace ≡ brace_in_chord bang inside.now → Some (drop (length inside.now + 1 - length brace) text) ≡ brace_in_item bang item text
+  pub chord-brace : (text : List ℕ) {item : GraceItem} {brace : List ℕ} {inside : Bor (List ℕ)} → item ≡ GraceItem.Chord inside →
+      IsItemAt bang item text → Some brace ≡ brace_in_chord bang inside.now → Some (drop (length inside.now + 1 - length brace) text) ≡ brace_in_item bang item text
   chord-brace text {item} {brace} {inside} is at some =
       let here : IsItemAt bang (GraceItem.Chord inside) text = rw is at at in
       let tail = drop (suc (length inside.now)) text in

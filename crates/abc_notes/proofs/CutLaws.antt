@@ -1,16 +1,19 @@
 -- Parts at the front of a text that goes on, and of the text that is cut off there.
-use Rattle.std.proofs.Common.{◌≡◌, ℕ, zero, suc, ◌≤◌, ◌<◌, Bool, true, false, cond, eqb, List, [], ◌∷◌, ◌++◌, length, drop, Option, Some, None}
+use Rattle.std.proofs.Common.{◌≡◌, ◌⊎◌, ℕ, zero, suc, ◌≤◌, ◌<◌, Bool, true, false, cond, eqb, List, [], ◌∷◌, ◌++◌, length, drop, Option, Some, None}
 use Rattle.std.proofs.Common.{refl, sym, ap, ◌∙◌, subst, arith, inl, inr, append_assoc, append-nil, ◌&&◌, not, length-append, option_map}
-use Rattle.std.proofs.lemmas.{Bool.{both_ways, or_cases, and_parts, and_from, eqb-true, eqb-false, ne_eqb, not-false}, List.Folds.list_all-append}
-use Rattle.std.{proofs.{lemmas.{List.{append_cancel_right, drop-append-le}, Option.{cond_some, some_pair_parts}}, Math.Seq.drop-append_seam}, specs.List.list_all}
-use Rattle.mus_units.specs.{declared.pitch.{Alter.{Alter, TheVariants.Sharp2}, Letter.{Letter, TheVariants.C}}, Bytes.is_digit}
+use Rattle.std.proofs.lemmas.Bool.{both_ways, false_from_ne_true, cases_lt, or_cases, and_parts, and_from, eqb-true, eqb-false, ne_eqb, not-false}
+use Rattle.std.proofs.{lemmas.List.Folds.list_all-append, lemmas.List.{append_cancel_right, drop-append-le}}
+use Rattle.std.proofs.{lemmas.Option.{cond_some, some_pair_parts}, Math.Seq.drop-append_seam}
 use Rattle.abc_notes.specs.Items.{Inner, note_inside, letter_inside, named_inside, tie_inside, passed_inside, lone_inside, inner_then, IsName}
-use Rattle.abc_notes.specs.Items.{is_passed_inside, is_letter_inside, IsInner, StandsInside, InnerParts, closed_name, name_at, inner_at}
-use Rattle.abc_notes.specs.{Runs.{copies, maybe, is_mark, span_all, begins}, Decorations.is_name_byte}
-use Rattle.abc_notes.specs.{Lengths.{LengthForm, whole, over, halved, length_then, IsLength}, Notes.{NoteForm, note_then, sign_then, letter_byte, IsNote}}
-use Rattle.abc_notes.specs.Parts.{no_part, then_part, Leads, leads_here, leads_on, walk, spelled_then}
-use Rattle.abc_notes.proofs.{Bounds.digit_range, SpanLaws.{span_all-append, span_all-stops, span_all-takes, span_all-pass, span_all-after}, LengthLaws.{copies_append, count-digits}}
-use Rattle.abc_notes.proofs.{ItemLaws.{one_of_all, bang_at}, PartLaws.{Reader, stands_at, by_parts, longest_of, walk-none, walk-some}}
+use Rattle.abc_notes.specs.{Items.{IsInner, StandsInside, InnerParts, closed_name, name_at, inner_at}, Runs.{copies, maybe, is_mark, span_all}}
+use Rattle.abc_notes.specs.{Runs.begins, Decorations.is_name_byte, Lengths.{LengthForm, whole, over, halved, length_then, IsLength}}
+use Rattle.abc_notes.specs.{Notes.{NoteForm, note_then, sign_then, letter_byte, IsNote}, Parts.{IsLongest, no_part, then_part, Leads, leads_here}}
+use Rattle.abc_notes.specs.Parts.{leads_on, walk, spelled_then}
+use Rattle.abc_notes.proofs.{Bounds.digit_range, SpanLaws.{span_all-append, span_all-stops, span_all-takes, span_all-pass, span_all-after}}
+use Rattle.abc_notes.proofs.{LengthLaws.{copies_append, count-digits}, ItemLaws.{one_of_all, bang_at}, PartLaws.{Reader, longest_is, stands_at}}
+use Rattle.abc_notes.proofs.PartLaws.{by_parts, longest_of, walk-none, walk-some}
+use Rattle.{std.specs.List.list_all, mus_units.specs.declared.pitch.Alter.Alter, mus_units.specs.declared.pitch.Alter.TheVariants.Sharp2}
+use Rattle.{mus_units.specs.declared.pitch.Letter.Letter, mus_units.specs.declared.pitch.Letter.TheVariants.C, mus_units.specs.Bytes.is_digit}
 
 -- ---- a part and what follows it
 pub maybe_append : (d : Bool) (b : ℕ) (v y : List ℕ) → maybe d b v ++ y ≡ maybe d b (v ++ y)
@@ -116,13 +119,21 @@ module _
       let cut = k.spells z.0 text z.1 (stands_at r text z e) ∙ ap (one z.0) behind ∙ sym (k.appends z.0 front c) in
       (cut, read_upto (one z.0 front) c front z (ap at (sym cut) ∙ e) behind)
 
-  -- one that ends before the cut is the same there
-  pub no_shorter : (part : I) (u v y : List ℕ) (z : I × List ℕ) → at u ≡ Some (part, v) → at (u ++ y) ≡ Some z →
-      length z.1 < length (v ++ y) → length y ≤ length z.1 → ⊥
-  no_shorter part u v y z here e shorter before =
-      let a = read_cut u y z e before in
-      let same = (some_pair_parts z.0 part a.front v (sym a.at_cut ∙ here)).1 in
-      omega (arith, shorter, ap length a.behind, length-append a.front y, length-append v y, ap length same)
+  -- where a text goes on its part is read as before, or one that ends behind the cut
+  pub read_on : (part : I) (u v y : List ℕ) → IsLongest I Stands u part v →
+      (at (u ++ y) ≡ Some (part, v ++ y)) ⊎ ((z : I × List ℕ) × (at (u ++ y) ≡ Some z) × (length z.1 < length y))
+  read_on part u v y l =
+      let o = r.reaches part (u ++ y) (v ++ y) (moved part u v y l.stands) in
+      elim o.2 [
+        | inr same ↦ inl (o.1 ∙ ap Some same)
+        | inl shorter ↦ elim (cases_lt (length o.0.1) (length y)) [
+          | inl past ↦ inr (o.0, o.1, past)
+          | inr before ↦
+              (let a = read_cut u y o.0 o.1 before in
+              let same = (some_pair_parts o.0.0 part a.front v (sym a.at_cut ∙ longest_is r u part v l)).1 in
+              absurd (omega (arith, shorter, ap length a.behind, length-append a.front y, length-append v y, ap length same)))
+        ]
+      ]
 
   -- the bytes of what is read off a text are the text
   pub walk_spells : (s : List ℕ) → spelled_then one (walk at s).0 (walk at s).1 ≡ s
@@ -150,12 +161,6 @@ all_parts q a x h = and_parts (list_all q a) (list_all q x) (sym (list_all-appen
 abbrev pub free : ℕ → Bool
 free b = not (eqb b 93) && not (eqb b 125)
 
-digit_free : (b : ℕ) → is_digit b ≡ true → free b ≡ true
-digit_free b h = let r = digit_range b h in rw (ne_eqb b 93 (omega arith), ne_eqb b 125 (omega arith)) refl
-
-mark_free : (b : ℕ) → is_mark b ≡ true → free b ≡ true
-mark_free b h = elim (or_cases (eqb b 39) (eqb b 44) h) [ inl e ↦ rw (eqb-true b 39 e) refl | inr e ↦ rw (eqb-true b 44 e) refl ]
-
 letter_free : (low : Bool) (l : Letter) → free (letter_byte low l) ≡ true
 letter_free false C = refl
 letter_free _ C = refl
@@ -166,7 +171,11 @@ copies_free zero = refl
 copies_free (suc n) = copies_free n
 
 digits_free : (ds : List ℕ) → list_all is_digit ds ≡ true → list_all free ds ≡ true
-digits_free ds h = wider is_digit free ds digit_free h
+digits_free ds h =
+    wider is_digit free ds (λ b digit. let r = digit_range b digit in rw (ne_eqb b 93 (omega arith), ne_eqb b 125 (omega arith)) refl) h
+
+mark_free : (b : ℕ) → is_mark b ≡ true → free b ≡ true
+mark_free b h = elim (or_cases (eqb b 39) (eqb b 44) h) [ inl e ↦ rw (eqb-true b 39 e) refl | inr e ↦ rw (eqb-true b 44 e) refl ]
 
 pub length_free : (f : LengthForm) → IsLength f → list_all free (length_then f []) ≡ true
 length_free (whole c) good = all_join free c [] (digits_free c (count-digits 4 c good)) refl
@@ -198,21 +207,15 @@ note_free f good =
     let behind = all_join free f.marks t marks (length_free f.length good.length) in
     sign_free f.sign (b ∷ (f.marks ++ t)) (and_from (free b) (list_all free (f.marks ++ t)) (letter_free f.low f.letter) behind)
 
-letter_inside_free : (b : ℕ) → is_letter_inside b ≡ true → free b ≡ true
-letter_inside_free b h = one_of_all free (46 ∷ 126 ∷ 72 ∷ 76 ∷ 77 ∷ 79 ∷ 80 ∷ 83 ∷ 84 ∷ 117 ∷ 118 ∷ []) b refl h
-
-passed_free : (b : ℕ) → is_passed_inside b ≡ true → free b ≡ true
-passed_free b h = one_of_all free (32 ∷ 9 ∷ 40 ∷ 41 ∷ []) b refl h
-
 abbrev pub is_named : Inner → Bool
 is_named (named_inside name) = true
 is_named _ = false
 
 pub inner_free : (bang : Bool) (f : Inner) → IsInner bang f → is_named f ≡ false → list_all free (inner_then f []) ≡ true
 inner_free bang (note_inside f) good h = note_free f good
-inner_free bang (letter_inside b) good h = and_from (free b) true (letter_inside_free b good) refl
+inner_free bang (letter_inside b) good h = rw (one_of_all free (46 ∷ 126 ∷ 72 ∷ 76 ∷ 77 ∷ 79 ∷ 80 ∷ 83 ∷ 84 ∷ 117 ∷ 118 ∷ []) b refl good) refl
 inner_free bang (named_inside name) good h = absurd cc
-inner_free bang (passed_inside b) good h = and_from (free b) true (passed_free b good) refl
+inner_free bang (passed_inside b) good h = rw (one_of_all free (32 ∷ 9 ∷ 40 ∷ 41 ∷ []) b refl good) refl
 inner_free bang (tie_inside true) good h = refl
 inner_free bang _ good h = refl
 
@@ -243,7 +246,8 @@ named_crosses : (bang : Bool) (close : ℕ) (name u t rest : List ℕ) → eqb c
     33 ∷ (name ++ (33 ∷ rest)) ≡ u ++ (close ∷ t) → length rest < length (close ∷ t) → Crosses bang close u t rest
 named_crosses bang close name [] t rest other off good e short = absurd (eqb-false close 33 other (sym (first_same e)))
 named_crosses bang close name (b ∷ u) t rest other off good e short =
-    cut_cases name u (33 ∷ rest) (close ∷ t) (rest_same e) (omega (arith, short)) (λ front behind. absurd (eqb-false close 33 other (first_same behind)))
+    cut_cases name u (33 ∷ rest) (close ∷ t) (rest_same e) (omega (arith, short))
+    (λ front behind. absurd (eqb-false close 33 other (first_same behind)))
     (λ c after front behind.
     let is : name ≡ u ++ (close ∷ after) = front ∙ ap (λ x. u ++ (x ∷ after)) (sym (first_same behind)) in
     let named = subst IsName is good in
@@ -275,11 +279,7 @@ none_left p s w [] cut none =
 none_left p s w (b ∷ r) cut none = absurd (omega (arith, none))
 
 pub some_left : (p : ℕ → Bool) (s w r : List ℕ) → two w r ≡ span_all p s → (length r ≡ 0 → ⊥) → list_all p s ≡ false
-some_left p s w r cut some = by_all (list_all p s) refl
-  where
-    by_all : (b : Bool) → list_all p s ≡ b → b ≡ false
-    by_all false e = refl
-    by_all true e = absurd (some (ap (λ (z : List ℕ × List ℕ). length z.1) (cut ∙ all_span p s e)))
+some_left p s w r cut some = false_from_ne_true (list_all p s) (λ e. some (ap (λ (z : List ℕ × List ℕ). length z.1) (cut ∙ all_span p s e)))
 
 pub first_close : (close : ℕ) (t : List ℕ) → begins (λ b. eqb b close) t ≡ true → (rest : List ℕ) × (t ≡ close ∷ rest)
 first_close close [] h = absurd cc
@@ -303,7 +303,7 @@ pub record NameCut (close : ℕ) (passes : List ℕ → Bool) (s c : List ℕ) :
   pub names : list_all is_name_byte before ≡ true
   pub good : passes before ≡ true
 
-name_end : (close : ℕ) (w : List ℕ) → not (eqb (length w) 0) ≡ true → begins (λ b. not (eqb b close)) w ≡ false → (after : List ℕ) × (w ≡ close ∷ after)
+name_end : (close : ℕ) (w : List ℕ) → not (eqb (length w) 0) ≡ true → begins (λ b. not (eqb b close)) w ≡ false → (t : List ℕ) × (w ≡ close ∷ t)
 name_end close [] some stops = absurd cc
 name_end close (b ∷ w) some stops = (w, ap (λ x. x ∷ w) (eqb-true b close (not-false (eqb b close) stops)))
 
@@ -349,16 +349,15 @@ name_upto-append close passes name x =
     (ap (drop n) (sym (append_assoc name (33 ∷ []) x)) ∙ drop-append-le n whole x short)
 
 -- a part in a name is no name
-pub unnamed_free : (bang : Bool) (f : Inner) (rest : List ℕ) → IsInner bang f → list_all is_name_byte (inner_then f rest) ≡ true →
-    list_all free (inner_then f []) ≡ true
-unnamed_free bang (named_inside name) rest good h = absurd cc
-unnamed_free bang f rest good h = inner_free bang f good refl
+pub not_named : (f : Inner) (rest : List ℕ) → list_all is_name_byte (inner_then f rest) ≡ true → is_named f ≡ false
+not_named (named_inside name) rest h = absurd cc
+not_named _ rest h = refl
 
 -- parts in a name close no group
-pub clear_parts : (bang : Bool) (text : List ℕ) (parts : List Inner) → InnerParts bang text parts → list_all is_name_byte text ≡ true → list_all free text ≡ true
+pub clear_parts : (bang : Bool) (s : List ℕ) (parts : List Inner) → InnerParts bang s parts → list_all is_name_byte s ≡ true → list_all free s ≡ true
 clear_parts bang _ _ no_part h = refl
 clear_parts bang _ _ (then_part text part rest more l others) h =
     let one = inner_then part [] in
     let cut : text ≡ one ++ rest = l.stands.cut ∙ sym (inner_append part [] rest) in
     let names = all_parts is_name_byte one rest (ap (list_all is_name_byte) (sym cut) ∙ h) in
-    rw cut (all_join free one rest (unnamed_free bang part [] l.stands.good names.0) (clear_parts bang rest more others names.1))
+    rw cut (all_join free one rest (inner_free bang part l.stands.good (not_named part [] names.0)) (clear_parts bang rest more others names.1))

@@ -1,28 +1,28 @@
 -- Reading a part of a grace group, and a group, gives the longest; where there is none its fault is found.
-use Rattle.std.proofs.Common.{◌≡◌, ℕ, zero, suc, ◌+◌, ◌-◌, ◌≤◌, ◌<◌, Bool, true, false, eqb, List, [], ◌∷◌, ◌++◌, length, take, drop, Option, Some, None}
-use Rattle.std.proofs.Common.{refl, sym, ap, ◌∙◌, subst, arith, inl, inr, ◌⊎◌, append_assoc, append-nil, add-one, not, ◌||◌, IfSome, option_map, MatchOption}
-use Rattle.std.proofs.lemmas.Bool.{both_ways, cond_both, and_parts, eqb-true, ne_eqb, cond-true, not-true, not_from_false, or_parts}
-use Rattle.std.proofs.{lemmas.List.{length-append, length-drop, take-append-drop, nil_from_length}, Math.Seq.{take-append_seam, drop-append_seam}}
-use Rattle.std.{proofs.lemmas.Option.{same_Some, cond_some, some_pair_parts}, specs.List.list_all}
-use Rattle.abc_lines.specs.declared.fault.FaultKind.TheVariants.{Unclosed}
-use Rattle.abc_notes.specs.Items.{Inner, lone_inside, inner_then, IsName, StandsInside, name_at, item_class, inner_at}
-use Rattle.abc_notes.specs.Graces.{GracePart, single, chorded, grace_part_then, IsGracePart, StandsInGrace, GraceParts, GraceLeads, part_has_length}
-use Rattle.abc_notes.specs.Graces.{GraceForm, is_in_grace, is_slash_byte, grace_then, IsGrace, body_of_part, GraceFlawed, HasSlash}
-use Rattle.abc_notes.specs.Graces.{GraceFault, grace_unclosed, grace_open, grace_flawed, chorded_read, single_read, grace_part_at, brace_here, brace_in}
-use Rattle.abc_notes.specs.Graces.{brace_in_name, closes_at, last_closing, brace_in_chord, brace_behind, brace_in_part, brace_at, grace_from, grace_at}
-use Rattle.abc_notes.specs.{Graces.{bodied, body_inside, inside_of_part, IsPartFlaw, item_within}, Decorations.is_name_byte}
-use Rattle.abc_notes.specs.{declared.part.{Flaw.Flaw, GraceChord.GraceChord, GraceItem.GraceItem}, Runs.{maybe, skip, span_all, begins}}
+use Rattle.std.proofs.Common.{◌≡◌, ℕ, zero, suc, ◌+◌, ◌-◌, ◌≤◌, ◌<◌, Bool, true, false, eqb, List, [], ◌∷◌, ◌++◌, length, take, drop, Option, Some}
+use Rattle.std.proofs.Common.{None, refl, sym, ap, ◌∙◌, subst, arith, inl, inr, ◌⊎◌, append_assoc, append-nil, add-one, not, ◌||◌, IfSome, option_map}
+use Rattle.std.proofs.{Common.MatchOption, lemmas.Bool.{both_ways, cond_both, and_parts, eqb-true, ne_eqb, cond-true, not-true, not_from_false}}
+use Rattle.std.proofs.{lemmas.Bool.or_parts, lemmas.List.{length-append, length-drop, take-append-drop, nil_from_length}}
+use Rattle.std.proofs.{Math.Seq.{take-append_seam, drop-append_seam}, lemmas.Option.{same_Some, cond_some, some_pair_parts}}
+use Rattle.abc_notes.specs.{Items.{Inner, lone_inside, inner_then, IsName, name_at, item_class, inner_at}, Graces.{GracePart, single, chorded}}
+use Rattle.abc_notes.specs.Graces.{grace_part_then, IsGracePart, StandsInGrace, GraceParts, GraceLeads, part_has_length, GraceForm, is_in_grace}
+use Rattle.abc_notes.specs.Graces.{is_slash_byte, grace_then, IsGrace, body_of_part, GraceFlawed, HasSlash, GraceFault, grace_unclosed, grace_open}
+use Rattle.abc_notes.specs.Graces.{grace_flawed, chorded_read, single_read, grace_part_at, brace_here, brace_in, brace_in_name, closes_at}
+use Rattle.abc_notes.specs.Graces.{last_closing, brace_in_chord, brace_behind, brace_in_part, brace_at, grace_from, grace_at, bodied, body_inside}
+use Rattle.abc_notes.specs.{Graces.{inside_of_part, IsPartFlaw, item_within}, Decorations.is_name_byte, declared.part.Flaw.Flaw}
+use Rattle.abc_notes.specs.{declared.part.GraceChord.GraceChord, declared.part.GraceItem.GraceItem, Runs.{maybe, skip, span_all, begins}}
 use Rattle.abc_notes.specs.{Lengths.{LengthForm, length_then, length_at}, Chords.{ChordForm, chord_then, IsChord, bracket_at, chord_at, at_most}}
 use Rattle.abc_notes.specs.Parts.{no_part, then_part, stuck_here, stuck_later, walk, is_done, length_at_place, later_or}
-use Rattle.abc_notes.proofs.ChordLaws.{TakesChord, bracket_at-closes, chord_at-takes, chord_at-reaches, chord-reads, chord-longer}
-use Rattle.abc_notes.proofs.ChordLaws.{has_lone, is_lone, le_lt, later_assoc, later_none, cut_off}
-use Rattle.abc_notes.proofs.CutLaws.{two, none_left, some_left, first_close, length_past, moved, no_shorter, inner_append, length_append}
-use Rattle.abc_notes.proofs.CutLaws.{length_free, cut_cases, first_same, rest_same, Local, read_cut, joined_cut, leads_of_walk, wider, all_join, all_parts}
-use Rattle.abc_notes.proofs.CutLaws.{clear_parts, free, unnamed_free, crossing, lone_at, cond_then, NameCut, name_upto-closes, name_upto-found}
-use Rattle.abc_notes.proofs.PartLaws.{Reader, stands_at, less, longest_of, longest_is, none_of, at_nil, walk-none, walk-some, left_none, left_some}
-use Rattle.abc_notes.proofs.PartLaws.{by_parts, parts_of_walk, walk_of_parts, read_from, none_from}
-use Rattle.abc_notes.proofs.{RunLaws.{Lacks, skip_cases, skip-takes, skip-lacks}, LengthLaws.length_at-takes, ItemLaws.{name_at-takes, name_at-reads}}
-use Rattle.abc_notes.proofs.InnerLaws.{inner_reader, inner-longer, place_small, length-maybe}
+use Rattle.abc_notes.proofs.ChordLaws.{bracket_at-closes, chord_at-takes, chord_at-reaches, chord-reads, chord-longer, has_lone, is_lone, le_lt}
+use Rattle.abc_notes.proofs.{ChordLaws.{later_assoc, later_none, cut_off}, CutLaws.{two, none_left, some_left, first_close, length_past, moved}}
+use Rattle.abc_notes.proofs.CutLaws.{read_on, inner_local, inner_append, length_append, length_free, cut_cases, first_same, rest_same, Local}
+use Rattle.abc_notes.proofs.CutLaws.{read_cut, joined_cut, leads_of_walk, wider, all_join, all_parts, clear_parts, free, inner_free, not_named}
+use Rattle.abc_notes.proofs.{CutLaws.{crossing, lone_at, cond_then, NameCut, name_upto-closes, name_upto-found}, PartLaws.{Reader, stands_at, less}}
+use Rattle.abc_notes.proofs.PartLaws.{longest_of, longest_is, none_of, at_nil, walk-none, walk-some, left_none, left_some, by_parts, parts_of_walk}
+use Rattle.abc_notes.proofs.{PartLaws.{walk_of_parts, read_from, none_from, mapped_some}, RunLaws.{Lacks, skip_cases, skip-takes, skip-lacks}}
+use Rattle.abc_notes.proofs.{LengthLaws.length_at-takes, ItemLaws.{name_at-takes, name_at-reads}, InnerLaws.{inner_reader, inner-longer, place_small}}
+use Rattle.abc_notes.proofs.InnerLaws.{length-maybe}
+use Rattle.{std.specs.List.list_all, abc_lines.specs.declared.fault.FaultKind.TheVariants.Unclosed}
 
 abbrev pub at_least : ℕ → Option ℕ → Type 0
 at_least n None = Unit {0}
@@ -61,23 +61,15 @@ item_wider (GraceItem.Chord inside) n m h le = omega (arith, h, le)
 
 module _ (bang : Bool) where
   -- ---- parts
-  from_chord : (s : List ℕ) (r : Option (ChordForm × List ℕ)) → TakesChord bang s r →
-      IfSome (option_map chorded_read r) (λ z. StandsInGrace bang z.0 (91 ∷ s) z.1)
-  from_chord s None t = tt
-  from_chord s (Some z) t = record { good = t.0; cut = ap (λ x. 91 ∷ x) t.1 }
-
-  from_inner : (s : List ℕ) (r : Option (Inner × List ℕ)) → IfSome r (λ z. StandsInside bang z.0 s z.1) →
-      IfSome (option_map single_read r) (λ z. StandsInGrace bang z.0 s z.1)
-  from_inner s None t = tt
-  from_inner s (Some z) t = record { good = t.good; cut = t.cut }
-
   part-takes : (s : List ℕ) → IfSome (grace_part_at bang s) (λ z. StandsInGrace bang z.0 s z.1)
   unfolding grace_part_at
   part-takes [] = tt
   part-takes (b ∷ s) =
-      cond_both (eqb b 91) _ _ (λ (r : Option (GracePart × List ℕ)). IfSome r (λ z. StandsInGrace bang z.0 (b ∷ s) z.1))
-      (λ e. rw (eqb-true b 91 e) (from_chord s (chord_at bang s) (chord_at-takes bang s)))
-      (λ e. from_inner (b ∷ s) (inner_at bang (b ∷ s)) ((inner_reader bang).takes (b ∷ s)))
+      let P : GracePart × List ℕ → Type 0 = λ z. StandsInGrace bang z.0 (b ∷ s) z.1 in
+      cond_both (eqb b 91) _ _ (λ (r : Option (GracePart × List ℕ)). IfSome r P)
+      (λ e. mapped_some chorded_read (chord_at bang s) P (chord_at-takes bang s)
+      (λ z t. record { good = t.0; cut = rw (eqb-true b 91 e) (ap (λ x. 91 ∷ x) t.1) }))
+      (λ e. mapped_some single_read _ P ((inner_reader bang).takes (b ∷ s)) (λ z t. record { good = t.good; cut = t.cut }))
 
   pub at_bracket : (s : List ℕ) → grace_part_at bang (91 ∷ s) ≡ option_map chorded_read (chord_at bang s)
   unfolding grace_part_at
@@ -174,7 +166,7 @@ module _ (bang : Bool) where
   flaw_small None left here n small behind h within = omega (arith, h, within)
   flaw_small (Some at) left here n small behind h within = omega (arith, small, within behind)
 
-  module _ {s : List ℕ} {body : List GraceChord} {lengthy : Bool} {inside : Option (List ℕ)} {behind : List ℕ} (f : FoundPart s body lengthy inside behind) where
+  module _ {s behind : List ℕ} {body : List GraceChord} {lengthy : Bool} {inside : Option (List ℕ)} (f : FoundPart s body lengthy inside behind) where
     pub part_less : length behind < length s
     part_less = less part_reader s (f.part, behind) f.at
 
@@ -191,14 +183,12 @@ module _ (bang : Bool) where
         })
 
     -- the body
-    pub body-next : (out : List GraceChord) {new total : List GraceChord} → new ≡ out ++ body → out ++ body_inside bang s ≡ total → new ++ body_inside bang behind ≡ total
-    body-next out push so_far =
-        let here : body_inside bang s ≡ body ++ body_inside bang behind = rw (walk-some part_reader s (f.part, behind) f.at, f.gives) refl in
-        rw push (append_assoc out body _ ∙ ap (λ b. out ++ b) (sym here) ∙ so_far)
+    pub body-next : (out : List GraceChord) {new total : List GraceChord} → new ≡ out ++ body → out ++ body_inside bang s ≡ total →
+        new ++ body_inside bang behind ≡ total
+    body-next out push so_far = rw (push, append_assoc, f.gives) (rw (walk-some part_reader s (f.part, behind) f.at) at so_far)
 
   pub body-end : {out total : List GraceChord} (s : List ℕ) → grace_part_at bang s ≡ None → out ++ body_inside bang s ≡ total → out ≡ total
-  body-end {out} s none so_far =
-      let here : body_inside bang s ≡ [] = rw (walk-none part_reader s none) refl in sym (append-nil out) ∙ ap (λ b. out ++ b) (sym here) ∙ so_far
+  body-end s none so_far = rw (walk-none part_reader s none, append-nil) at so_far
 
   module _ {w : List ℕ} {before : Option ℕ} {rest : List ℕ} (stage : Group w before rest) where
     pub group-stuck : {flaw : Flaw} → (length rest ≡ 0 → ⊥) → grace_part_at bang rest ≡ None → IsPartFlaw bang before rest flaw →
@@ -259,27 +249,13 @@ module _ (bang : Bool) where
         good = then_part u (single lone_inside) k.before _ longest (good_parts k.before k.good);
       }
 
-  -- a part and what closes behind it
-  then-closes : (text c : List ℕ) (z : GracePart × List ℕ) → grace_part_at bang text ≡ Some z → ClosedGroup z.1 c → ClosedGroup text c
-  then-closes text c z e k =
-      let u = grace_part_then z.0 k.front in
-      let joined = joined_cut part_reader part_local text c k.front z e k.cut in
-      let good = then_part u z.0 k.front k.parts (longest_of part_reader u (z.0, k.front) joined.1) k.good in
-      record { front = u; rest = k.rest; parts = z.0 ∷ k.parts; is = k.is; cut = joined.0; good = good }
-
   -- ---- the last brace before which parts alone stand
   closes_there : (text : List ℕ) (n : ℕ) → closes_at bang text n ≡ true → ClosedGroup text (drop n text)
   closes_there text n h =
       let p = and_parts _ _ h in
       let first = first_close 125 (drop n text) p.0 in
-      record {
-        front = take n text;
-        rest = first.0;
-        parts = (walk (grace_part_at bang) (take n text)).0;
-        is = first.1;
-        cut = sym (take-append-drop n text);
-        good = good_parts (take n text) p.1;
-      }
+      let good = good_parts (take n text) p.1 in
+      record { front = take n text; rest = first.0; parts = _; is = first.1; cut = sym (take-append-drop n text); good = good }
 
   found_closes : (text c : List ℕ) (n : ℕ) → last_closing bang text n ≡ Some c → ClosedGroup text c
   found_closes text c zero e = let found = cond_some _ _ _ e in subst (ClosedGroup text) found.1 (closes_there text 0 found.0)
@@ -291,7 +267,7 @@ module _ (bang : Bool) where
   unfolding brace_at
   brace_at-closes text c e = found_closes text c (length text) e
 
-  brace_within : (text c : List ℕ) → brace_at bang text ≡ Some c → length c ≤ length text
+  pub brace_within : (text c : List ℕ) → brace_at bang text ≡ Some c → length c ≤ length text
   brace_within text c found = let k = brace_at-closes text c found in omega (arith, ap length k.cut, length-append k.front c)
 
   closes_so : (text d : List ℕ) (k : ClosedGroup text d) → closes_at bang text (length k.front) ≡ true
@@ -302,23 +278,20 @@ module _ (bang : Bool) where
   abbrev AtLast : List ℕ → Option (List ℕ) → Type 0
   AtLast d r = (c : List ℕ) × (r ≡ Some c) × (length c ≤ length d)
 
-  closing_at : (text d : List ℕ) (n : ℕ) (b : Bool) → (k : ClosedGroup text d) → closes_at bang text (suc n) ≡ b → length k.front ≤ suc n →
-      (length k.front ≤ n → AtLast d (last_closing bang text n)) → AtLast d (last_closing bang text (suc n))
-  closing_at text d n true k e h next =
-      (drop (suc n) text, rw e refl, omega (arith, h, length-drop (suc n) text, ap length k.cut, length-append k.front d))
-  closing_at text d n false k e h next = elim (le_lt (length k.front) n) [
-    | inl before ↦ (let o = next before in (o.0, rw e o.1, o.2))
-    | inr past ↦
-        (let last : length k.front ≡ suc n = omega (arith, h, past) in
-        absurd (both_ways (closes_at bang text (suc n)) e (subst (λ m. closes_at bang text m ≡ true) last (closes_so text d k))))
-  ]
-
   found_reaches : (text d : List ℕ) (k : ClosedGroup text d) (n : ℕ) → length k.front ≤ n → AtLast d (last_closing bang text n)
   found_reaches text d k zero h =
       let none : length k.front ≡ 0 = omega (arith, h) in
       let here = subst (λ n. closes_at bang text n ≡ true) none (closes_so text d k) in
       (text, rw here refl, omega (arith, none, ap length k.cut, length-append k.front d))
-  found_reaches text d k (suc n) h = closing_at text d n (closes_at bang text (suc n)) k refl h (found_reaches text d k n)
+  found_reaches text d k (suc n) h =
+      cond_both (closes_at bang text (suc n)) (Some (drop (suc n) text)) (last_closing bang text n) (AtLast d)
+      (λ e. (drop (suc n) text, refl, omega (arith, h, length-drop (suc n) text, ap length k.cut, length-append k.front d)))
+      (λ e. elim (le_lt (length k.front) n) [
+        | inl before ↦ found_reaches text d k n before
+        | inr past ↦
+            (let last : length k.front ≡ suc n = omega (arith, h, past) in
+            absurd (both_ways _ e (subst (λ m. closes_at bang text m ≡ true) last (closes_so text d k))))
+      ])
 
   pub brace_at-last : (text d : List ℕ) → ClosedGroup text d → AtLast d (brace_at bang text)
   unfolding brace_at
@@ -329,21 +302,22 @@ module _ (bang : Bool) where
       cut_cases k.front l.front c d (sym k.cut ∙ l.cut) (omega (arith, same)) (λ front behind. sym behind)
       (λ b m front behind. absurd (omega (arith, same, ap length behind, length-append m c)))
 
-  record IsLastBrace (text : List ℕ) (r : Option (List ℕ)) : Type 0 where
+  -- the last of the braces that stand more than `least` bytes from the end
+  record GivesLast (text : List ℕ) (least : ℕ) (r : Option (List ℕ)) : Type 0 where
     closes : (c : List ℕ) → r ≡ Some c → ClosedGroup text c
-    reaches : (d : List ℕ) → ClosedGroup text d → AtLast d r
+    reaches : (d : List ℕ) → ClosedGroup text d → least < length d → AtLast d r
 
   pub none_there : (text : List ℕ) (r : Option (List ℕ)) → brace_at bang text ≡ r → ((d : List ℕ) → ClosedGroup text d → ⊥) → r ≡ None
   none_there text None e h = refl
   none_there text (Some c) e h = absurd (h c (brace_at-closes text c e))
 
-  last_is : (text : List ℕ) (r : Option (List ℕ)) → IsLastBrace text r → brace_at bang text ≡ r
-  last_is text None h = none_there text (brace_at bang text) refl (λ d k. let clash = (h.reaches d k).1 in cc)
+  last_is : (text : List ℕ) (r : Option (List ℕ)) → GivesLast text 0 r → brace_at bang text ≡ r
+  last_is text None h = none_there text (brace_at bang text) refl (λ d k. let clash = (h.reaches d k (omega (arith, ap length k.is))).1 in cc)
   last_is text (Some c) h =
       let k = h.closes c refl in
       let o = brace_at-last text c k in
       let found = brace_at-closes text o.0 o.1 in
-      let back = h.reaches o.0 found in
+      let back = h.reaches o.0 found (omega (arith, ap length found.is)) in
       o.1 ∙ ap Some (same_brace found k (omega (arith, o.2, back.2, ap length (same_Some c back.0 back.1))))
 
   at_brace : (t : List ℕ) → grace_part_at bang (125 ∷ t) ≡ None
@@ -363,70 +337,65 @@ module _ (bang : Bool) where
   pub brace-none : (text : List ℕ) → grace_part_at bang text ≡ None → brace_at bang text ≡ brace_here text
   brace-none text none = last_is text (brace_here text) (record {
     closes = here-closes text;
-    reaches = λ d k. (d, ap brace_here (front_none text d none k ∙ k.is) ∙ ap Some (sym k.is), omega arith);
+    reaches = λ d k some. (d, ap brace_here (front_none text d none k ∙ k.is) ∙ ap Some (sym k.is), omega arith);
   })
 
   -- the parts before a brace begin with the part that stands there, where that ends before the brace
-  record FirstPart (u : List ℕ) : Type 0 where
-    part : GracePart
-    behind : List ℕ
-    more : List GracePart
-    at : grace_part_at bang u ≡ Some (part_with part behind)
-    others : GraceParts bang behind more
+  abbrev FirstPart : List ℕ → Type 0
+  FirstPart u = (z : GracePart × List ℕ) × (more : List GracePart) × (grace_part_at bang u ≡ Some z) × GraceParts bang z.1 more
 
-  first_of_parts : (u text d : List ℕ) (ps : List GracePart) (z : GracePart × List ℕ) → GraceParts bang u ps → text ≡ u ++ (125 ∷ d) →
-      grace_part_at bang text ≡ Some z → FirstPart u
-  first_of_parts _ text d _ z no_part cut e = absurd (let clash = sym (at_brace d) ∙ ap (grace_part_at bang) (sym cut) ∙ e in cc)
-  first_of_parts _ text d _ z (then_part u part v more l others) cut e =
-      record { part = part; behind = v; more = more; at = longest_is part_reader u part v l; others = others }
+  first_of_parts : (u d rest : List ℕ) (ps : List GracePart) (z : GracePart × List ℕ) → GraceParts bang u ps → d ≡ 125 ∷ rest →
+      grace_part_at bang (u ++ d) ≡ Some z → FirstPart u
+  first_of_parts _ d rest _ z no_part is e = absurd (let clash = sym (at_brace rest) ∙ ap (grace_part_at bang) (sym is) ∙ e in cc)
+  first_of_parts _ d rest _ z (then_part u part v more l others) is e = ((part, v), more, longest_is part_reader u part v l, others)
 
-  first_part : (text d : List ℕ) (z : GracePart × List ℕ) → grace_part_at bang text ≡ Some z → (k : ClosedGroup text d) → FirstPart k.front
-  first_part text d z e k = first_of_parts k.front text k.rest k.parts z k.good (k.cut ∙ ap (λ x. k.front ++ x) k.is) e
+  module _ (text : List ℕ) (z : GracePart × List ℕ) (e : grace_part_at bang text ≡ Some z) where
+    first_part : (d : List ℕ) (k : ClosedGroup text d) → FirstPart k.front
+    first_part d k = first_of_parts k.front d k.rest k.parts z k.good k.is (ap (grace_part_at bang) (sym k.cut) ∙ e)
 
-  behind_closes : (text d : List ℕ) (z : GracePart × List ℕ) → grace_part_at bang text ≡ Some z → ClosedGroup text d → length d ≤ length z.1 →
-      ClosedGroup z.1 d
-  behind_closes text d z e k short =
-      let a = read_cut part_reader part_local k.front d z (ap (grace_part_at bang) (sym k.cut) ∙ e) short in
-      let f = first_part text d z e k in
-      let same = some_pair_parts f.part z.0 f.behind a.front (sym f.at ∙ a.at_cut) in
-      let good = subst (λ (x : List ℕ). GraceParts bang x f.more) same.1 f.others in
-      record { front = a.front; rest = k.rest; parts = f.more; is = k.is; cut = a.behind; good = good }
+    behind_closes : (d : List ℕ) → ClosedGroup text d → length d ≤ length z.1 → ClosedGroup z.1 d
+    behind_closes d k short =
+        let a = read_cut part_reader part_local k.front d z (ap (grace_part_at bang) (sym k.cut) ∙ e) short in
+        let f = first_part d k in
+        let same = some_pair_parts f.0.0 z.0 f.0.1 a.front (sym f.2 ∙ a.at_cut) in
+        let good = subst (λ (x : List ℕ). GraceParts bang x f.1) same.1 f.3 in
+        record { front = a.front; rest = k.rest; parts = f.1; is = k.is; cut = a.behind; good = good }
 
-  -- what stands in front of a text gives the last brace within it
-  record InPart (text : List ℕ) (z : GracePart × List ℕ) (x : Option (List ℕ)) : Type 0 where
-    closes : (c : List ℕ) → x ≡ Some c → ClosedGroup text c
-    reaches : (d : List ℕ) → ClosedGroup text d → length z.1 < length d → AtLast d x
+    then-closes : (c : List ℕ) → ClosedGroup z.1 c → ClosedGroup text c
+    then-closes c k =
+        let u = grace_part_then z.0 k.front in
+        let joined = joined_cut part_reader part_local text c k.front z e k.cut in
+        let good = then_part u z.0 k.front k.parts (longest_of part_reader u (z.0, k.front) joined.1) k.good in
+        record { front = u; rest = k.rest; parts = z.0 ∷ k.parts; is = k.is; cut = joined.0; good = good }
 
-  or_closes : (text c : List ℕ) (z : GracePart × List ℕ) (later x : Option (List ℕ)) → grace_part_at bang text ≡ Some z → InPart text z x →
-      brace_at bang z.1 ≡ later → later_or later x ≡ Some c → ClosedGroup text c
-  or_closes text c z None x e k later found = k.closes c found
-  or_closes text c z (Some d) x e k later found = then-closes text c z e (brace_at-closes z.1 c (later ∙ found))
+    or_closes : (c : List ℕ) (later x : Option (List ℕ)) → GivesLast text (length z.1) x → brace_at bang z.1 ≡ later → later_or later x ≡ Some c →
+        ClosedGroup text c
+    or_closes c None x k later found = k.closes c found
+    or_closes c (Some d) x k later found = then-closes c (brace_at-closes z.1 c (later ∙ found))
 
-  or_past : (d : List ℕ) (z : GracePart × List ℕ) (later x : Option (List ℕ)) → brace_at bang z.1 ≡ later → length z.1 < length d → AtLast d x →
-      AtLast d (later_or later x)
-  or_past d z None x later past o = o
-  or_past d z (Some c) x later past o = (c, refl, omega (arith, past, brace_within z.1 c later))
+    or_past : (d : List ℕ) (later x : Option (List ℕ)) → brace_at bang z.1 ≡ later → length z.1 < length d → AtLast d x → AtLast d (later_or later x)
+    or_past d None x later past o = o
+    or_past d (Some c) x later past o = (c, refl, omega (arith, past, brace_within z.1 c later))
 
-  brace-some : (text : List ℕ) (z : GracePart × List ℕ) (x : Option (List ℕ)) → grace_part_at bang text ≡ Some z → InPart text z x →
-      brace_at bang text ≡ later_or (brace_at bang z.1) x
-  brace-some text z x e k = last_is text (later_or (brace_at bang z.1) x) (record {
-    closes = λ c found. or_closes text c z (brace_at bang z.1) x e k refl found;
-    reaches = λ d other. elim (le_lt (length d) (length z.1)) [
-      | inl before ↦ (let o = brace_at-last z.1 d (behind_closes text d z e other before) in (o.0, rw o.1 refl, o.2))
-      | inr past ↦ or_past d z (brace_at bang z.1) x refl past (k.reaches d other past)
-    ];
-  })
+    brace-some : (x : Option (List ℕ)) → GivesLast text (length z.1) x → brace_at bang text ≡ later_or (brace_at bang z.1) x
+    brace-some x k = last_is text (later_or (brace_at bang z.1) x) (record {
+      closes = λ c found. or_closes c (brace_at bang z.1) x k refl found;
+      reaches = λ d other some. elim (le_lt (length d) (length z.1)) [
+        | inl before ↦ (let o = brace_at-last z.1 d (behind_closes d other before) in (o.0, rw o.1 refl, o.2))
+        | inr past ↦ or_past d (brace_at bang z.1) x refl past (k.reaches d other past)
+      ];
+    })
 
   -- parts in a name close no group
-  clear_part : (p : GracePart) → IsGracePart bang p → list_all is_name_byte (grace_part_then p []) ≡ true → list_all is_in_grace (grace_part_then p []) ≡ true
-  clear_part (single f) good h = wider free is_in_grace (inner_then f []) in_grace_wide (unnamed_free bang f [] good h)
+  clear_part : (p : GracePart) → IsGracePart bang p → let s = grace_part_then p [] in list_all is_name_byte s ≡ true → list_all is_in_grace s ≡ true
+  clear_part (single f) good h = wider free is_in_grace (inner_then f []) in_grace_wide (inner_free bang f good (not_named f [] h))
   clear_part (chorded f) good h =
       let len = length_then f.length [] in
       let names = all_parts is_name_byte f.inside (93 ∷ len) h in
       let inside = wider free is_in_grace f.inside in_grace_wide (clear_parts bang f.inside f.parts good.parts names.0) in
       all_join is_in_grace f.inside (93 ∷ len) inside (wider free is_in_grace len in_grace_wide (length_free f.length good.length))
 
-  clear_group : (text : List ℕ) (parts : List GracePart) → GraceParts bang text parts → list_all is_name_byte text ≡ true → list_all is_in_grace text ≡ true
+  clear_group : (s : List ℕ) (parts : List GracePart) → GraceParts bang s parts → list_all is_name_byte s ≡ true → list_all is_in_grace s ≡ true
   clear_group _ _ no_part h = refl
   clear_group _ _ (then_part text p rest more l others) h =
       let one = grace_part_then p [] in
@@ -435,7 +404,7 @@ module _ (bang : Bool) where
       rw cut (all_join is_in_grace one rest (clear_part p l.stands.good names.0) (clear_group rest more others names.1))
 
   -- a brace in a name
-  in_name-found : (before after rest : List ℕ) (parts : List GracePart) → bang ≡ false → IsName (before ++ (125 ∷ after)) → GraceParts bang before parts →
+  in_name-found : (before after rest : List ℕ) (ps : List GracePart) → bang ≡ false → IsName (before ++ (125 ∷ after)) → GraceParts bang before ps →
       brace_in_name bang (33 ∷ ((before ++ (125 ∷ after)) ++ (33 ∷ rest))) ≡ Some (125 ∷ (after ++ (33 ∷ rest)))
   unfolding brace_in_name
   in_name-found before after rest parts off good group =
@@ -452,10 +421,11 @@ module _ (bang : Bool) where
       let stands = stands_at part_reader text (single f, rest) e in
       let line = k.cut ∙ ap (λ x. k.front ++ x) k.is in
       let c = crossing bang 125 f k.front k.rest rest refl refl stands.good (sym line ∙ stands.cut) (omega (arith, short, ap length k.is)) in
-      let first = first_part text d (single f, rest) e k in
-      let same = some_pair_parts first.part (single lone_inside) first.behind c.before (sym first.at ∙ single_at k.front (lone_inside, c.before) c.lone) in
-      let group = subst (λ (x : List ℕ). GraceParts bang x first.more) same.1 first.others in
-      ap (brace_in_name bang) (line ∙ c.spelled) ∙ in_name-found c.before c.after rest first.more c.off c.name group ∙ ap Some (c.tail ∙ sym k.is)
+      let first = first_part text (single f, rest) e d k in
+      let lone = single_at k.front (lone_inside, c.before) c.lone in
+      let same = some_pair_parts first.0.0 (single lone_inside) first.0.1 c.before (sym first.2 ∙ lone) in
+      let group = subst (λ (x : List ℕ). GraceParts bang x first.1) same.1 first.3 in
+      ap (brace_in_name bang) (line ∙ c.spelled) ∙ in_name-found c.before c.after rest first.1 c.off c.name group ∙ ap Some (c.tail ∙ sym k.is)
 
   -- a brace within a chord
   abbrev tail_of : ChordForm → List ℕ → List ℕ
@@ -477,7 +447,8 @@ module _ (bang : Bool) where
       AtLast d (option_map (λ b. b ++ tail_of f rest) (brace_at bang (91 ∷ f.inside)))
   chord_reaches f rest d good k short =
       let tail = tail_of f rest in
-      cut_cases (91 ∷ f.inside) k.front tail d k.cut (brace_inside f rest d good k short) (λ front behind. absurd (omega (arith, first_same (sym k.is ∙ behind))))
+      cut_cases (91 ∷ f.inside) k.front tail d k.cut (brace_inside f rest d good k short)
+      (λ front behind. absurd (omega (arith, first_same (sym k.is ∙ behind))))
       (λ b m front behind.
       let is = ap (λ x. x ∷ m) (first_same (sym behind ∙ k.is)) in
       let o = brace_at-last (91 ∷ f.inside) (b ∷ m) (record { front = k.front; rest = m; parts = k.parts; is = is; cut = front; good = k.good }) in
@@ -500,13 +471,14 @@ module _ (bang : Bool) where
       }
 
   in_chord : (f : ChordForm) (rest : List ℕ) → IsChord bang f →
-      InPart (91 ∷ chord_then f rest) (chorded f, rest) (brace_in_part bang (chorded f) (91 ∷ chord_then f rest))
+      GivesLast (91 ∷ chord_then f rest) (length rest) (brace_in_part bang (chorded f) (91 ∷ chord_then f rest))
   unfolding brace_in_chord
   in_chord f rest good =
       let tail : drop (suc (length f.inside)) (91 ∷ chord_then f rest) ≡ tail_of f rest = drop-append_seam (91 ∷ f.inside) (tail_of f rest) in
       rw tail (record { closes = chord_closes f rest; reaches = λ d k short. chord_reaches f rest d good k short })
 
-  in_part : (text rest : List ℕ) (p : GracePart) → grace_part_at bang text ≡ Some (part_with p rest) → InPart text (p, rest) (brace_in_part bang p text)
+  in_part : (text rest : List ℕ) (p : GracePart) → grace_part_at bang text ≡ Some (part_with p rest) →
+      GivesLast text (length rest) (brace_in_part bang p text)
   in_part text rest (single f) e =
       record { closes = in_name-closes text; reaches = λ d k short. (d, cross_single text d f rest e k short, omega arith) }
   in_part text rest (chorded f) e =
@@ -514,7 +486,7 @@ module _ (bang : Bool) where
 
   pub brace-part : (text rest : List ℕ) (p : GracePart) → grace_part_at bang text ≡ Some (part_with p rest) →
       brace_at bang text ≡ later_or (brace_at bang rest) (brace_in_part bang p text)
-  brace-part text rest p e = brace-some text (p, rest) (brace_in_part bang p text) e (in_part text rest p e)
+  brace-part text rest p e = brace-some text (p, rest) e (brace_in_part bang p text) (in_part text rest p e)
 
   -- the chord of a text, and shorter ones
   pub chord-none : (w : List ℕ) → bracket_at bang w ≡ None → brace_in_chord bang w ≡ None
@@ -547,55 +519,42 @@ module _ (bang : Bool) where
   abbrev with_length : ChordForm → LengthForm → ChordForm
   with_length f l = record { inside = f.inside; parts = f.parts; length = l }
 
-  chord_kept : (f : ChordForm) (v t : List ℕ) (z : GracePart × List ℕ) → IsChord bang f → has_lone f.parts ≡ false →
-      grace_part_at bang (91 ∷ chord_then f (v ++ (125 ∷ t))) ≡ Some z → length (125 ∷ t) ≤ length z.1
-  chord_kept f v t z good whole e =
+  chord_past : (f : ChordForm) (v t : List ℕ) (z : GracePart × List ℕ) → IsChord bang f → has_lone f.parts ≡ false →
+      grace_part_at bang (91 ∷ chord_then f (v ++ (125 ∷ t))) ≡ Some z → length z.1 < length (125 ∷ t) → ⊥
+  chord_past f v t z good whole e past =
       let x = v ++ (125 ∷ t) in
       let l = length_at (length_then f.length x) in
       let takes = length_at-takes (length_then f.length x) in
       let read = at_bracket (chord_then f x) ∙ ap (option_map chorded_read) (chord-reads bang f x good whole) in
       let same = some_pair_parts z.0 (chorded (with_length f l.0)) z.1 l.1 (sym e ∙ read) in
-      let past = sym takes.0 ∙ sym (length_append f.length v (125 ∷ t)) in
-      elim (le_lt (length (125 ∷ t)) (length z.1)) [
-        | inl far ↦ far
-        | inr near ↦ absurd (length_past 125 l.0 l.1 (length_then f.length v) t refl takes.1 past (omega (arith, near, ap length same.1)))
-      ]
+      let line = sym takes.0 ∙ sym (length_append f.length v (125 ∷ t)) in
+      length_past 125 l.0 l.1 (length_then f.length v) t refl takes.1 line (omega (arith, past, ap length same.1))
 
-  part_kept : (part : GracePart) (u v t : List ℕ) (z : GracePart × List ℕ) → lone_part_is part ≡ false → StandsInGrace bang part u v →
-      grace_part_at bang u ≡ Some (part_with part v) → grace_part_at bang (u ++ (125 ∷ t)) ≡ Some z → length (125 ∷ t) ≤ length z.1
-  part_kept (single f) u v t z whole stands at e =
+  part_past : (part : GracePart) (u v t : List ℕ) (z : GracePart × List ℕ) → lone_part_is part ≡ false → StandsInGrace bang part u v →
+      grace_part_at bang u ≡ Some (part, v) → grace_part_at bang (u ++ (125 ∷ t)) ≡ Some z → length z.1 < length (125 ∷ t) → ⊥
+  part_past (single f) u v t z whole stands at e past =
       let text = u ++ (125 ∷ t) in
       let r = inner_reader bang in
-      let o = r.reaches f text (v ++ (125 ∷ t)) (record { good = stands.good; cut = ap (λ s. s ++ (125 ∷ t)) stands.cut ∙ inner_append f v (125 ∷ t) }) in
+      let o = r.reaches f text (v ++ (125 ∷ t)) (moved r (inner_local bang) f u v (125 ∷ t) (record { good = stands.good; cut = stands.cut })) in
       let there = stands_at r text o.0 o.1 in
       let same = some_pair_parts z.0 (single o.0.0) z.1 o.0.1 (sym e ∙ single_at text o.0 o.1) in
-      elim (le_lt (length (125 ∷ t)) (length z.1)) [
-        | inl far ↦ far
-        | inr near ↦
-            (let k = crossing bang 125 o.0.0 u t o.0.1 refl refl there.good there.cut (omega (arith, near, ap length same.1)) in
-            let lone = some_pair_parts (single f) (single lone_inside) v k.before (sym at ∙ single_at u (lone_inside, k.before) k.lone) in
-            absurd (both_ways (is_lone f) whole (ap lone_part_is lone.0)))
-      ]
-  part_kept (chorded f) u v t z whole stands at e =
+      let k = crossing bang 125 o.0.0 u t o.0.1 refl refl there.good there.cut (omega (arith, past, ap length same.1)) in
+      let lone = some_pair_parts (single f) (single lone_inside) v k.before (sym at ∙ single_at u (lone_inside, k.before) k.lone) in
+      both_ways (is_lone f) whole (ap lone_part_is lone.0)
+  part_past (chorded f) u v t z whole stands at e past =
       let spelled = ap (λ s. s ++ (125 ∷ t)) stands.cut ∙ part_append (chorded f) v (125 ∷ t) in
-      chord_kept f v t z stands.good whole (ap (grace_part_at bang) (sym spelled) ∙ e)
+      chord_past f v t z stands.good whole (ap (grace_part_at bang) (sym spelled) ∙ e) past
 
   nothing_past : (u t d : List ℕ) (ps : List GracePart) → GraceParts bang u ps → has_lone_part ps ≡ false → ClosedGroup (u ++ (125 ∷ t)) d →
       length (125 ∷ t) ≤ length d
   nothing_past _ t d _ no_part whole k = omega (arith, ap length (front_none (125 ∷ t) d (at_brace t) k))
   nothing_past _ t d _ (then_part u part v more l others) whole k =
-      let r = part_reader in
       let w = or_parts (lone_part_is part) (has_lone_part more) whole in
-      let at = longest_is r u part v l in
-      let o = r.reaches part (u ++ (125 ∷ t)) (v ++ (125 ∷ t)) (moved r part_local part u v (125 ∷ t) l.stands) in
-      let kept = part_kept part u v t o.0 w.0 l.stands at o.1 in
-      elim o.2 [
-        | inl shorter ↦ absurd (no_shorter r part_local part u v (125 ∷ t) o.0 at o.1 shorter kept)
-        | inr same ↦ elim (le_lt (length d) (length o.0.1)) [
-          | inl before ↦
-              (let closed = behind_closes (u ++ (125 ∷ t)) d o.0 o.1 k before in
-              nothing_past v t d more others w.1 (subst (λ (x : GracePart × List ℕ). ClosedGroup x.1 d) same closed))
-          | inr past ↦ omega (arith, kept, past)
+      elim (read_on part_reader part_local part u v (125 ∷ t) l) [
+        | inr past ↦ absurd (part_past part u v t past.0 w.0 l.stands (longest_is part_reader u part v l) past.1 past.2)
+        | inl on ↦ elim (le_lt (length d) (length (v ++ (125 ∷ t)))) [
+          | inl before ↦ nothing_past v t d more others w.1 (behind_closes (u ++ (125 ∷ t)) (part, v ++ (125 ∷ t)) on d k before)
+          | inr far ↦ omega (arith, far, length-append v (125 ∷ t))
         ]
       ]
 
@@ -603,19 +562,15 @@ module _ (bang : Bool) where
   abbrev pub TakesGrace : List ℕ → Option (GraceForm × List ℕ) → Type 0
   TakesGrace s r = IfSome r (λ z. IsGrace bang z.0 × (s ≡ grace_then z.0 z.1))
 
-  first_lacks : (s : List ℕ) → Lacks 47 s → begins is_slash_byte s ≡ false
-  first_lacks [] h = refl
-  first_lacks (b ∷ s) h = h
-
   -- behind a slash that was not there no slash stands
   no_slash : (s : List ℕ) → (skip 47 s).0 ≡ false → begins is_slash_byte (skip 47 s).1 ≡ false
-  no_slash s = skip_cases 47 s (λ p. p.0 ≡ false → begins is_slash_byte p.1 ≡ false) (λ t e is. absurd cc) (λ lacks is. first_lacks s lacks)
+  no_slash s = skip_cases 47 s (λ p. p.0 ≡ false → begins is_slash_byte p.1 ≡ false) (λ t e is. absurd cc) (λ none is. none)
 
   first_of : (p : ℕ → Bool) (a b : List ℕ) → begins p (a ++ b) ≡ false → begins p a ≡ false
   first_of p [] b h = refl
   first_of p (x ∷ a) b h = h
 
-  grace_from-takes : (slash : Bool) (s t : List ℕ) (r : Option (List ℕ)) → HasSlash s slash t → brace_at bang t ≡ r → TakesGrace s (grace_from bang slash t r)
+  grace_from-takes : (b : Bool) (s t : List ℕ) (r : Option (List ℕ)) → HasSlash s b t → brace_at bang t ≡ r → TakesGrace s (grace_from bang b t r)
   grace_from-takes slash s t None has e = tt
   grace_from-takes slash s t (Some []) has e = tt
   grace_from-takes slash s t (Some (b ∷ c)) has e =
@@ -628,7 +583,7 @@ module _ (bang : Bool) where
   pub grace_at-takes : (s : List ℕ) → TakesGrace s (grace_at bang s)
   unfolding grace_at
   grace_at-takes s =
-      let slash = skip 47 s in grace_from-takes slash.0 s slash.1 (brace_at bang slash.1) (record { cut = skip-takes 47 s; is_read = no_slash s }) refl
+      grace_from-takes (skip 47 s).0 s (skip 47 s).1 _ (record { cut = skip-takes 47 s; is_read = no_slash s }) refl
 
   lacks_slash : (w x : List ℕ) → begins is_slash_byte w ≡ false → Lacks 47 (w ++ (125 ∷ x))
   lacks_slash [] x h = refl
@@ -703,11 +658,6 @@ module _ (bang : Bool) where
       later_or (brace_here rest) last ≡ brace_at bang text
   seeking-ends {text} {rest} {last} stage e = ap (λ r. later_or r last) (sym (brace-none rest e)) ∙ stage.found
 
-  pub all-within : {T : Type 0} (now : T → List ℕ) (text : List ℕ) (r : Option T) → option_map now r ≡ brace_at bang text →
-      IfSome r (λ x. length (now x) ≤ length text)
-  all-within now text None e = tt
-  all-within now text (Some x) e = brace_within text (now x) (sym e)
-
   -- ---- its fault
   abbrev slashed : Bool → List ℕ → Bool × List ℕ
   slashed b x = (b, x)
@@ -717,10 +667,7 @@ module _ (bang : Bool) where
   grace-unclosed s w r cut none = rw add-one (grace_unclosed s (none_left is_in_grace s w r cut none))
 
   has_slash : (slash : Bool) (s t : List ℕ) → slashed slash t ≡ skip 47 s → HasSlash s slash t
-  has_slash slash s t at = record {
-    cut = skip-takes 47 s ∙ ap (λ (p : Bool × List ℕ). maybe p.0 47 p.1) (sym at);
-    is_read = λ h. ap (λ (p : Bool × List ℕ). begins is_slash_byte p.1) at ∙ no_slash s (sym (ap (λ (p : Bool × List ℕ). p.0) at) ∙ h);
-  }
+  has_slash slash s t at = record { cut = rw (← at) at (skip-takes 47 s); is_read = rw (← at) at (no_slash s) }
 
   grace_leads : (s t : List ℕ) → (walk (grace_part_at bang) s).1 ≡ t → GraceLeads bang s (walk (grace_part_at bang) s).0 t
   grace_leads s t e = rw e at (leads_of_walk part_reader part_local s)
@@ -745,8 +692,8 @@ module _ (bang : Bool) where
       let some : grace_at bang s ≡ grace_from bang slash t (Some (b ∷ c)) = rw (← at, found) refl in
       let clash = sym none ∙ some in cc
 
-  pub grace-flawed : (slash : Bool) (s t w r : List ℕ) (flaw : Flaw) → slashed slash t ≡ skip 47 s → two w r ≡ span_all is_in_grace s →
-      (length r ≡ 0 → ⊥) → grace_at bang s ≡ None → is_done (walk (grace_part_at bang) t) ≡ false → GraceFlawed bang None t flaw → GraceFault bang s flaw
+  pub grace-flawed : (slash : Bool) (s t w r : List ℕ) (flaw : Flaw) → slashed slash t ≡ skip 47 s → two w r ≡ span_all is_in_grace s → (length r ≡ 0 → ⊥) →
+      grace_at bang s ≡ None → is_done (walk (grace_part_at bang) t) ≡ false → GraceFlawed bang None t flaw → GraceFault bang s flaw
   grace-flawed slash s t w r flaw at cut some none stuck flawed = by_stop (walk (grace_part_at bang) t).1 refl
     where
       no_brace : (b : ℕ) (x : List ℕ) → (walk (grace_part_at bang) t).1 ≡ b ∷ x → b ≡ 125 → ⊥

@@ -1,16 +1,17 @@
 -- The inside of a chord as loops read it.
-use Rattle.std.proofs.Common.{◌≡◌, ℕ, zero, suc, ◌+◌, ◌≤◌, ◌<◌, Bool, true, false, List, [], ◌∷◌, ◌++◌, length, Option, Some, None}
-use Rattle.std.proofs.Common.{refl, sym, ap, ◌∙◌, arith, append_assoc, append-nil, ◌||◌, option_map, MatchBool, length-append}
-use Rattle.std.proofs.{lemmas.{Bool.{cond_both, ne_eqb}, List.nil_from_length}, Math.Bool.{or-false, or_assoc}}
-use Rattle.mus_units.specs.declared.{note.Head.Head, pitch.Alter.Alter, pitch.Alter.TheVariants.Sharp2}
-use Rattle.abc_lines.specs.declared.fault.FaultKind.TheVariants.{BadByte, BadLength}
-use Rattle.abc_notes.specs.Items.{Inner, note_inside, named_inside, tie_inside, inner_then, StandsInside, Sense, says_note, says_tie, sense}
-use Rattle.abc_notes.specs.{Items.{is_note, has_length, IsBadByte, InnerFlawed, inner_at, sensed, inner_flaw}, Graces.{heads_in, plain_head}}
-use Rattle.abc_notes.specs.{declared.part.{Flaw.Flaw, Len.Len}, Runs.{copies, maybe}, Lengths.{LengthForm, whole, over, halved, length_then}}
-use Rattle.abc_notes.specs.{Notes.{NoteForm, note_then, sign_then, letter_byte}, Parts.{stuck_here, stuck_later, IsFlaw, walk, is_done}}
-use Rattle.abc_notes.specs.{Parts.{goes_on_length, length_at_place}, Chords.{has_head, is_tied, tied_if, heads_of, senses, last_head, given_head}}
-use Rattle.abc_notes.{specs.Chords.{next_last, heads_after, at_most}, proofs.ItemLaws.{inner_at-takes, inner_at-reaches}}
-use Rattle.abc_notes.proofs.PartLaws.{Reader, less, longest_of, none_of, walk-none, walk-some, left_none, left_some, read_from, none_from}
+use Rattle.std.proofs.Common.{◌≡◌, ℕ, zero, suc, ◌+◌, ◌≤◌, ◌<◌, Bool, true, false, List, [], ◌∷◌, ◌++◌, length, Option, Some, None, refl, sym, ap}
+use Rattle.std.proofs.{Common.{◌∙◌, arith, append_assoc, append-nil, ◌||◌, option_map, MatchBool, length-append}, lemmas.Bool.{cond_both, ne_eqb}}
+use Rattle.std.proofs.{lemmas.List.nil_from_length, Math.Bool.{or-false, or_assoc}}
+use Rattle.abc_notes.specs.Items.{Inner, note_inside, named_inside, tie_inside, inner_then, StandsInside, Sense, says_note, says_tie, sense, is_note}
+use Rattle.abc_notes.specs.{Items.{has_length, IsBadByte, InnerFlawed, inner_at, sensed, inner_flaw}, Graces.{heads_in, plain_head}}
+use Rattle.abc_notes.specs.{declared.part.Flaw.Flaw, declared.part.Len.Len, Runs.{copies, maybe}, Lengths.{LengthForm, whole, over, halved}}
+use Rattle.abc_notes.specs.{Lengths.length_then, Notes.{NoteForm, note_then, sign_then, letter_byte}, Parts.{stuck_here, stuck_later, IsFlaw, walk}}
+use Rattle.abc_notes.specs.{Parts.{is_done, goes_on_length, length_at_place}, Chords.{has_head, is_tied, tied_if, heads_of, senses, last_head}}
+use Rattle.abc_notes.specs.Chords.{given_head, next_last, heads_after, at_most}
+use Rattle.abc_notes.proofs.{ItemLaws.{inner_at-takes, inner_at-reaches}, PartLaws.{Reader, less, longest_of, none_of, walk-none, walk-some}}
+use Rattle.abc_notes.proofs.PartLaws.{left_none, left_some, read_from, none_from}
+use Rattle.{mus_units.specs.declared.note.Head.Head, mus_units.specs.declared.pitch.Alter.Alter}
+use Rattle.{mus_units.specs.declared.pitch.Alter.TheVariants.Sharp2, abc_lines.specs.declared.fault.FaultKind.TheVariants.{BadByte, BadLength}}
 
 -- ---- a part has a byte
 pub length-copies_then : (n b : ℕ) (x : List ℕ) → length (copies n b x) ≡ n + length x
@@ -45,7 +46,8 @@ abbrev pub inner_pair : Inner → List ℕ → Inner × List ℕ
 inner_pair f x = (f, x)
 
 -- a head that a tie may still reach is tied where one does
-heads-behind : (head : Head) (len : Len) (t : Bool) (more : List Sense) → heads_after (Some (tied_if t head, len)) more ≡ (tied_if (t || is_tied more) head, len) ∷ heads_of more
+heads-behind : (head : Head) (len : Len) (t : Bool) (more : List Sense) →
+    heads_after (Some (tied_if t head, len)) more ≡ (tied_if (t || is_tied more) head, len) ∷ heads_of more
 heads-behind head len true [] = refl
 heads-behind head len false [] = refl
 heads-behind head len true (says_note other l ∷ more) = ap (λ hs. (tied_if true head, len) ∷ hs) (heads-behind other l false more)
@@ -139,26 +141,24 @@ module _ (bang : Bool) where
         new ≡ out ++ given_head last item → next ≡ next_last last item → out ++ heads_after last (senses bang s) ≡ total →
         new ++ heads_after next (senses bang behind) ≡ total
     heads-next out last push is so_far =
-        rw (push, is) (append_assoc out (given_head last item) _ ∙ ap (λ ss. out ++ heads_after last ss) (sym senses-some) ∙ so_far)
+        rw (push, is, append_assoc) (rw senses-some at so_far)
 
     -- parts that each give what they say of
     pub said-next : {X : Type 0} (gives : List Sense → List X) (one : Sense → List X) →
         ((item : Sense) (more : List Sense) → gives (item ∷ more) ≡ one item ++ gives more) → (out : List X) {new total : List X} →
         new ≡ out ++ one item → out ++ gives (senses bang s) ≡ total → new ++ gives (senses bang behind) ≡ total
-    said-next gives one cons out push so_far =
-        let here = ap gives senses-some ∙ cons item (senses bang behind) in
-        rw push (append_assoc out (one item) _ ∙ ap (λ xs. out ++ xs) (sym here) ∙ so_far)
+    said-next gives one cons out push so_far = rw (push, append_assoc) (rw (senses-some, cons item (senses bang behind)) at so_far)
 
   pub senses-none : (s : List ℕ) → inner_at bang s ≡ None → senses bang s ≡ []
   senses-none s none = rw (walk-none inner_reader s none) refl
 
   pub heads-end : (out : List (Head × Len)) (last : Option (Head × Len)) (s : List ℕ) {new total : List (Head × Len)} → inner_at bang s ≡ None →
       new ≡ out ++ last_head last → out ++ heads_after last (senses bang s) ≡ total → new ≡ total
-  heads-end out last s none push so_far = push ∙ ap (λ ss. out ++ heads_after last ss) (sym (senses-none s none)) ∙ so_far
+  heads-end out last s none push so_far = push ∙ (rw (senses-none s none) at so_far)
 
   pub said-end : {X : Type 0} (gives : List Sense → List X) → gives [] ≡ [] → {out total : List X} (s : List ℕ) → inner_at bang s ≡ None →
       out ++ gives (senses bang s) ≡ total → out ≡ total
-  said-end gives nothing {out} s none so_far = sym (append-nil out) ∙ ap (λ xs. out ++ xs) (sym (ap gives (senses-none s none) ∙ nothing)) ∙ so_far
+  said-end gives nothing s none so_far = rw (senses-none s none, nothing, append-nil) at so_far
 
   module _ {w : List ℕ} {head : Bool} {before : Option ℕ} {rest : List ℕ} (stage : Inside w head before rest) where
     pub inside-stuck : {byte here : ℕ} {t : List ℕ} {flaw : Flaw} → rest ≡ byte ∷ t → here ≡ length rest → inner_at bang rest ≡ None →
@@ -166,7 +166,8 @@ module _ (bang : Bool) where
         (is_done (walk (inner_at bang) w) ≡ false) × InnerFlawed bang None w flaw × (flaw.left ≤ length w)
     inside-stuck {byte} {here} {t} {flaw} cut place none is =
         let none_here = none_of inner_reader (byte ∷ t) (ap (inner_at bang) (sym cut) ∙ none) in
-        let stuck : InnerFlawed bang before (byte ∷ t) flaw = stuck_here before byte t flaw none_here (rw (is, place, cut) (flaw_here before byte t)) in (
+        let stuck : InnerFlawed bang before (byte ∷ t) flaw =
+        stuck_here before byte t flaw none_here (rw (is, place, cut) (flaw_here before byte t)) in (
           rw (sym stage.left, left_none inner_reader rest none, cut) (ne_eqb (suc (length t)) 0 (omega arith)),
           stage.flaw flaw (rw cut stuck),
           rw is (flaw_small before byte here (length w) stage.small (omega (arith, place, stage.within))),

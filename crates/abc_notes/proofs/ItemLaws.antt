@@ -1,15 +1,17 @@
 -- Reading a part of a chord or a grace gives the longest.
-use Rattle.std.proofs.Common.{◌≡◌, ℕ, ◌<◌, Bool, true, false, eqb, ltb, List, [], ◌∷◌, ◌++◌, length, Option, Some, None, refl, ap, ◌∙◌}
-use Rattle.std.proofs.Common.{arith, rules, inl, inr, ◌⊎◌, ◌||◌, not, IfSome, option_map, append-nil, length-append}
-use Rattle.std.{proofs.lemmas.Bool.{cond_both, or_right, or_cases, and_parts, eqb-true, agree_below, agree_below_at, ltb-true}, specs.List.list_all}
-use Rattle.mus_units.specs.declared.pitch.{Alter.Alter, Letter.Letter, Alter.TheVariants.Sharp2, Letter.TheVariants.C}
+use Rattle.std.proofs.Common.{◌≡◌, ℕ, ◌<◌, Bool, true, false, eqb, ltb, List, [], ◌∷◌, ◌++◌, length, Option, Some, None, refl, ap, ◌∙◌, arith, rules}
+use Rattle.std.proofs.{Common.{inl, inr, ◌⊎◌, ◌||◌, not, IfSome, option_map, append-nil, length-append}, lemmas.Bool.{cond_both, or_right, or_cases}}
+use Rattle.std.proofs.lemmas.Bool.{and_parts, eqb-true, agree_below, agree_below_at, ltb-true}
 use Rattle.abc_notes.specs.Items.{Inner, note_inside, letter_inside, named_inside, tie_inside, slur_inside, passed_inside, lone_inside, inner_then}
-use Rattle.abc_notes.specs.Items.{IsName, is_passed_inside, IsInner, StandsInside, ReadInner, inner_read, closed_name, name_at}
-use Rattle.abc_notes.specs.Items.{is_note_byte, item_class, dot_inside, named_or, inner_by_class, inner_at}
-use Rattle.abc_notes.specs.{declared.part.ItemClass.ItemClass, Runs.{one_of, span_all}, Lengths.length_then, Decorations.{is_deco_letter, is_name_byte}}
-use Rattle.abc_notes.specs.Notes.{NoteForm, note_then, sign_then, letter_byte, note_at, IsNote}
-use Rattle.abc_notes.proofs.SpanLaws.{span_all-takes, span_all-pass, span_all-append, span_all-stops}
-use Rattle.abc_notes.proofs.NoteLaws.{TakesNote, note_at-takes, note_at-reaches}
+use Rattle.abc_notes.specs.Items.{IsName, is_passed_inside, IsInner, StandsInside, ReadInner, inner_read, closed_name, name_at, is_note_byte}
+use Rattle.abc_notes.specs.{Items.{item_class, dot_inside, named_or, inner_by_class, inner_at}, declared.part.ItemClass.ItemClass}
+use Rattle.abc_notes.specs.{Runs.{one_of, span_all}, Lengths.length_then, Decorations.{is_deco_letter, is_name_byte}, Notes.{NoteForm, note_then}}
+use Rattle.abc_notes.specs.Notes.{sign_then, letter_byte, note_at, IsNote}
+use Rattle.abc_notes.proofs.PartLaws.{mapped_some}
+use Rattle.abc_notes.proofs.{SpanLaws.{span_all-takes, span_all-pass, span_all-append, span_all-stops}, NoteLaws.{note_at-takes}}
+use Rattle.abc_notes.proofs.NoteLaws.{note_at-reaches}
+use Rattle.{std.specs.List.list_all, mus_units.specs.declared.pitch.Alter.Alter, mus_units.specs.declared.pitch.Letter.Letter}
+use Rattle.{mus_units.specs.declared.pitch.Alter.TheVariants.Sharp2, mus_units.specs.declared.pitch.Letter.TheVariants.C}
 
 -- ---- what holds of each byte of a list holds of one of them
 abbrev Each : (ℕ → Type 0) → List ℕ → Type 0
@@ -77,10 +79,6 @@ fact b =
     cond_both (is_passed_inside b) _ _ P (λ e. e) (λ e.
     cond_both (eqb b 33) _ _ P (eqb-true b 33) (λ e. tt))))))
 
-from_note : (bang : Bool) (s : List ℕ) (r : Option (NoteForm × List ℕ)) → TakesNote s r → TakesInner bang s (option_map (λ z. (note_inside z.0, z.1)) r)
-from_note bang s None t = tt
-from_note bang s (Some z) t = record { good = t.1; cut = t.0 }
-
 dot-takes : (bang : Bool) (s : List ℕ) → TakesInner bang (46 ∷ s) (dot_inside s)
 dot-takes bang [] = record { good = refl; cut = refl }
 dot-takes bang (b ∷ s) =
@@ -94,7 +92,8 @@ bang-takes bang s None off t = record { good = off; cut = refl }
 bang-takes bang s (Some z) off t = record { good = (off, t.0); cut = ap (λ x. 33 ∷ x) t.1 }
 
 by-takes : (c : ItemClass) (bang : Bool) (b : ℕ) (s : List ℕ) → Fact c b → TakesInner bang (b ∷ s) (inner_by_class c bang b s)
-by-takes ItemClass.Note bang b s h = from_note bang (b ∷ s) (note_at (b ∷ s)) (note_at-takes (b ∷ s))
+by-takes ItemClass.Note bang b s h =
+    mapped_some (λ z. (note_inside z.0, z.1)) _ (λ z. StandsInside bang z.0 (b ∷ s) z.1) (note_at-takes (b ∷ s)) (λ z t. record { good = t.1; cut = t.0 })
 by-takes ItemClass.Dot bang b s h = rw h (dot-takes bang s)
 by-takes ItemClass.Letter bang b s h = record { good = or_right (eqb b 46) (is_deco_letter b) h; cut = refl }
 by-takes ItemClass.Tie bang b s h = record { good = tt; cut = ap (λ x. x ∷ s) h }
@@ -134,7 +133,8 @@ note-reaches f x good =
 letter_at : (bang : Bool) (b : ℕ) (x : List ℕ) → is_deco_letter b ≡ true → inner_at bang (b ∷ x) ≡ inner_read (letter_inside b) x
 unfolding inner_at item_class
 letter_at bang b x h =
-    one_of_each (λ k. inner_at bang (k ∷ x) ≡ inner_read (letter_inside k) x) (126 ∷ 72 ∷ 76 ∷ 77 ∷ 79 ∷ 80 ∷ 83 ∷ 84 ∷ 117 ∷ 118 ∷ []) b (search rules) h
+    let letters = 126 ∷ 72 ∷ 76 ∷ 77 ∷ 79 ∷ 80 ∷ 83 ∷ 84 ∷ 117 ∷ 118 ∷ [] in
+    one_of_each (λ k. inner_at bang (k ∷ x) ≡ inner_read (letter_inside k) x) letters b (search rules) h
 
 passed_at : (bang : Bool) (b : ℕ) (x : List ℕ) → is_passed_inside b ≡ true → inner_at bang (b ∷ x) ≡ inner_read (passed_inside b) x
 unfolding inner_at item_class
@@ -151,7 +151,8 @@ dot-reaches (b ∷ x) =
     cond_both (eqb b 40) _ _ P (λ e. ((slur_inside, x), refl, inl (omega arith))) (λ e.
     cond_both (eqb b 45) _ _ P (λ f. ((tie_inside true, x), refl, inl (omega arith))) (λ f. same (b ∷ x) (letter_inside 46)))
 
-lone-reaches : (x : List ℕ) (r : Option (List ℕ × List ℕ)) → IfSome r (λ z. IsName z.0 × (x ≡ z.0 ++ (33 ∷ z.1))) → ReachesInner x lone_inside (named_or r x)
+lone-reaches : (x : List ℕ) (r : Option (List ℕ × List ℕ)) → IfSome r (λ z. IsName z.0 × (x ≡ z.0 ++ (33 ∷ z.1))) →
+    ReachesInner x lone_inside (named_or r x)
 lone-reaches x None t = same x lone_inside
 lone-reaches x (Some z) t = ((named_inside z.0, z.1), refl, inl (omega (arith, ap length t.1, length-append z.0 (33 ∷ z.1))))
 
@@ -162,7 +163,7 @@ inner_at-reaches bang (letter_inside b) x good = elim (or_cases (eqb b 46) (is_d
   | inl dot ↦ rw (eqb-true b 46 dot) (dot-reaches x)
   | inr letter ↦ rw (letter_at bang b x letter) (same x (letter_inside b))
 ]
-inner_at-reaches bang (named_inside name) x good = rw (bang_at bang (name ++ (33 ∷ x)) good.0, name_at-reads name x good.1) (same x (named_inside name))
+inner_at-reaches bang (named_inside n) x good = rw (bang_at bang (n ++ (33 ∷ x)) good.0, name_at-reads n x good.1) (same x (named_inside n))
 inner_at-reaches bang (tie_inside true) x good = same x (tie_inside true)
 inner_at-reaches bang (tie_inside false) x good = same x (tie_inside false)
 inner_at-reaches bang slur_inside x good = same x slur_inside

@@ -1,10 +1,12 @@
 -- Reading a length gives the longest.
 use Rattle.std.proofs.Common.{◌≡◌, ℕ, zero, suc, ◌+◌, ◌-◌, ◌≤◌, ◌<◌, Bool, true, false, eqb, List, [], ◌∷◌, ◌++◌, length, refl, sym, ap, subst, ◌∙◌}
-use Rattle.std.proofs.{Common.{arith, inl, inr, ◌⊎◌, ◌||◌, append-nil}, lemmas.Bool.{cond_both, and_parts, eqb-true, ne_eqb, both_ways, or_left, or_right}}
-use Rattle.{std.specs.List.list_all, mus_units.specs.Bytes.{is_digit}, abc_notes.specs.Runs.{copies, span, begins}}
-use Rattle.abc_notes.specs.Lengths.{LengthForm, whole, over, halved, length_then, IsLength, IsNumber, IsCount, number_at, below_at, is_slash, length_at}
+use Rattle.std.proofs.{Common.{arith, inl, inr, ◌⊎◌, ◌||◌, append-nil}, lemmas.Bool.{cond_both, and_parts, eqb-true, ne_eqb, both_ways, or_left}}
+use Rattle.std.proofs.lemmas.Bool.{or_right}
+use Rattle.abc_notes.specs.{Runs.{copies, span, begins}, Lengths.{LengthForm, whole, over, halved, length_then, IsLength, IsNumber, IsCount}}
+use Rattle.abc_notes.specs.Lengths.{number_at, below_at, is_slash, length_at}
 use Rattle.abc_notes.proofs.{SpanLaws.{span-takes, span-pass, span-length, span-stops, span-less, span-append, length-span}, Bounds.digit_range}
 use Rattle.abc_notes.proofs.RunLaws.{begins_wider}
+use Rattle.{std.specs.List.list_all, mus_units.specs.Bytes.is_digit}
 
 abbrev is_zero : ℕ → Bool
 is_zero b = eqb b 48
@@ -17,7 +19,8 @@ number-good : (n : ℕ) (s : List ℕ) → begins is_zero s ≡ false → IsCoun
 number-good n s h = good_from n _ _ s (span-takes is_digit n s) (span-pass is_digit n s) (span-length is_digit n s) h
 
 -- a number at the front
-by_zero : (n : ℕ) (s : List ℕ) (P : List ℕ × List ℕ → Type 0) → (begins is_zero s ≡ true → P ([], s)) → (begins is_zero s ≡ false → P (span is_digit n s)) → P (number_at n s)
+by_zero : (n : ℕ) (s : List ℕ) (P : List ℕ × List ℕ → Type 0) → (begins is_zero s ≡ true → P ([], s)) →
+    (begins is_zero s ≡ false → P (span is_digit n s)) → P (number_at n s)
 unfolding number_at
 by_zero n s P stops goes = cond_both {A = List ℕ × List ℕ} (begins is_zero s) ([], s) (span is_digit n s) P stops goes
 
@@ -41,7 +44,7 @@ begins_append : (p : ℕ → Bool) (a x : List ℕ) → 1 ≤ length a → begin
 begins_append p [] x h = absurd (omega arith)
 begins_append p (b ∷ a) x h = refl
 
-number-reads-as : (n : ℕ) (ds x : List ℕ) → IsNumber n ds → let more = span is_digit (n - length ds) x in number_at n (ds ++ x) ≡ (ds ++ more.0, more.1)
+number-reads-as : (n : ℕ) (ds x : List ℕ) → IsNumber n ds → let m = span is_digit (n - length ds) x in number_at n (ds ++ x) ≡ (ds ++ m.0, m.1)
 number-reads-as n ds x good =
     let no_zero = begins_append is_zero ds x good.some ∙ good.no_zero in
     let sum : length ds + (n - length ds) ≡ n = omega (arith, good.few) in
@@ -91,10 +94,10 @@ length-copies (suc k) = ap suc (length-copies k)
 below-takes : (count sl after be last : List ℕ) → IsCount 4 count → list_all is_slash sl ≡ true → length sl ≤ 6 → after ≡ be ++ last → IsCount 4 be →
     let z = below_at count (sl, after) (be, last) in (count ++ (sl ++ after) ≡ length_then z.0 z.1) × IsLength z.0
 below-takes count [] after be last good pass few g below = (refl, good)
-below-takes count (c ∷ []) after [] last good pass few g below = (ap (λ t. count ++ t) (slashes-are (c ∷ []) after pass), (good, omega arith, omega arith))
+below-takes count (c ∷ []) after [] last good pass few g w = (ap (λ t. count ++ t) (slashes-are (c ∷ []) after pass), (good, omega arith, omega arith))
 below-takes count (c ∷ []) after (d ∷ ds) last good pass few g below =
     (ap (λ t. count ++ t) (slashes-are (c ∷ []) after pass ∙ ap (λ t. 47 ∷ t) g), (good, below))
-below-takes count (c ∷ d ∷ sl) after be last good pass few g below = (ap (λ t. count ++ t) (slashes-are (c ∷ d ∷ sl) after pass), (good, omega arith, few))
+below-takes count (c ∷ d ∷ sl) after be last good pass few g w = (ap (λ t. count ++ t) (slashes-are (c ∷ d ∷ sl) after pass), (good, omega arith, few))
 
 pub length_at-takes : (s : List ℕ) → let z = length_at s in (s ≡ length_then z.0 z.1) × IsLength z.0
 unfolding length_at
@@ -162,7 +165,7 @@ over-reaches count d ds x good =
     ])
 
 -- a number was read, so it is below the slash
-below-one : (count x : List ℕ) (be : List ℕ × List ℕ) → x ≡ be.0 ++ be.1 → length be.1 < length x → length (below_at count (47 ∷ [], x) be).1 < length x
+below-one : (c x : List ℕ) (be : List ℕ × List ℕ) → x ≡ be.0 ++ be.1 → length be.1 < length x → length (below_at c (47 ∷ [], x) be).1 < length x
 below-one count x ([], last) e h = absurd (omega (arith, ap length e))
 below-one count x (d ∷ ds, last) e h = h
 
@@ -183,7 +186,9 @@ halved-reaches count k x some few =
     let read : span is_slash 6 (copies k 47 x) ≡ (slashes ++ m.0, m.1) =
     rw (sym (copies_append k 47 [] x)) (rw six at (span-append is_slash n slashes x (copies-pass k))) in
     rw read (elim (span-less is_slash n x) [
-      | inl shorter ↦ inl (omega (arith, shorter.0, length-below count (slashes ++ m.0, m.1) (number_at 4 m.1) (length-number 4 m.1)), either_right x shorter.1)
+      | inl shorter ↦
+          (let least = length-below count (slashes ++ m.0, m.1) (number_at 4 m.1) (length-number 4 m.1) in
+          inl (omega (arith, shorter.0, least), either_right x shorter.1))
       | inr same ↦ rw (same, append-nil) (last_slash count k x some)
     ])
 

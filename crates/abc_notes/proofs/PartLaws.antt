@@ -1,6 +1,6 @@
 -- A reader that gives what stands at the front, and gives as much as any part that stands there, reads the one list of longest parts.
-use Rattle.std.proofs.Common.{◌≡◌, ℕ, zero, suc, ◌≤◌, ◌<◌, List, [], ◌∷◌, length, Option, Some, None, refl, sym, ap, ◌∙◌, subst, arith}
-use Rattle.std.proofs.{Common.{inl, inr, ◌⊎◌, IfSome, option_map}, lemmas.Option.same_Some}
+use Rattle.std.proofs.Common.{◌≡◌, ℕ, zero, suc, ◌≤◌, ◌<◌, List, [], ◌∷◌, length, Option, Some, None, refl, sym, ap, ◌∙◌, subst, arith, inl, inr, ◌⊎◌}
+use Rattle.std.proofs.{Common.{IfSome, option_map}, lemmas.{Option.same_Some, List.nil_from_length}}
 use Rattle.abc_notes.specs.Parts.{IsLongest, HasNone, Parts, no_part, then_part, walk_on, walk_from, walk}
 
 pub record Reader (I : Type 0) (Stands : I → List ℕ → List ℕ → Type 0) (at : List ℕ → Option (I × List ℕ)) : Type 0 where
@@ -12,6 +12,17 @@ pub record Reader (I : Type 0) (Stands : I → List ℕ → List ℕ → Type 0)
 pub read_from : {A B : Type 0} (f : A → B) (r : Option A) (y : B) → Some y ≡ option_map f r → (x : A) × (r ≡ Some x) × (y ≡ f x)
 read_from f None y e = absurd cc
 read_from f (Some x) y e = (x, refl, same_Some y (f x) e)
+
+pub mapped_some : {A B : Type 0} (f : A → B) (r : Option A) (P : B → Type 0) {Q : A → Type 0} → IfSome r Q → ((x : A) → Q x → P (f x)) →
+    IfSome (option_map f r) P
+mapped_some f None P h k = tt
+mapped_some f (Some x) P h k = k x h
+
+-- values that were written to a place are no longer than what they are
+pub all_within : {T : Type 0} (now : T → List ℕ) (n : ℕ) (r : Option T) {o : Option (List ℕ)} → option_map now r ≡ o →
+    ((c : List ℕ) → o ≡ Some c → length c ≤ n) → IfSome r (λ x. length (now x) ≤ n)
+all_within now n None e within = tt
+all_within now n (Some x) e within = within (now x) (sym e)
 
 pub none_from : {A B : Type 0} (f : A → B) (r : Option A) → None ≡ option_map f r → r ≡ None
 none_from f None e = refl
@@ -28,14 +39,17 @@ module _ {I : Type 0} {Stands : I → List ℕ → List ℕ → Type 0} {at : Li
   longest_of s z e = record {
     stands = stands_at s z e;
     longest = λ other behind stands.
-        let o = r.reaches other s behind stands in let same : z ≡ o.0 = same_Some z o.0 (sym e ∙ o.1) in elim o.2 [ inl shorter ↦ rw same (omega (arith, shorter)) | inr equal ↦ rw (same, equal) (omega arith) ];
+        let o = r.reaches other s behind stands in let same : z ≡ o.0 = same_Some z o.0 (sym e ∙ o.1) in
+        elim o.2 [ inl shorter ↦ rw same (omega (arith, shorter)) | inr equal ↦ rw (same, equal) (omega arith) ];
   }
 
   pub none_of : (s : List ℕ) → at s ≡ None → HasNone I Stands s
   none_of s e part rest stands = let o = r.reaches part s rest stands in let same : None ≡ Some o.0 = sym e ∙ o.1 in cc
 
   pub longest_is : (s : List ℕ) (part : I) (rest : List ℕ) → IsLongest I Stands s part rest → at s ≡ Some (part, rest)
-  longest_is s part rest l = let o = r.reaches part s rest l.stands in elim o.2 [ inl shorter ↦ absurd (omega (arith, shorter, l.longest o.0.0 o.0.1 (stands_at s o.0 o.1))) | inr equal ↦ o.1 ∙ ap Some equal ]
+  longest_is s part rest l =
+      let o = r.reaches part s rest l.stands in let least = l.longest o.0.0 o.0.1 (stands_at s o.0 o.1) in
+      elim o.2 [ inl shorter ↦ absurd (omega (arith, shorter, least)) | inr equal ↦ o.1 ∙ ap Some equal ]
 
   nothing_there : (o : Option (I × List ℕ)) → at [] ≡ o → o ≡ None
   nothing_there None e = refl
@@ -77,7 +91,8 @@ module _ {I : Type 0} {Stands : I → List ℕ → List ℕ → Type 0} {at : Li
   left_some s z e = ap (λ (w : List I × List ℕ). w.1) (walk-some s z e)
 
   -- what holds where no part stands, and in front of a part where it holds behind it, holds of each text
-  pub by_parts : (P : List ℕ → Type 0) → ((s : List ℕ) → at s ≡ None → P s) → ((s : List ℕ) (z : I × List ℕ) → at s ≡ Some z → P z.1 → P s) → (s : List ℕ) → P s
+  pub by_parts : (P : List ℕ → Type 0) → ((s : List ℕ) → at s ≡ None → P s) →
+      ((s : List ℕ) (z : I × List ℕ) → at s ≡ Some z → P z.1 → P s) → (s : List ℕ) → P s
   by_parts P none some s = within (length s) s (omega arith)
     where
       read_on : (t : List ℕ) (o : Option (I × List ℕ)) → at t ≡ o → ((z : I × List ℕ) → length z.1 < length t → P z.1) → P t
@@ -95,15 +110,10 @@ module _ {I : Type 0} {Stands : I → List ℕ → List ℕ → Type 0} {at : Li
       (λ s z e next. ap (λ (w : List I × List ℕ). at w.1) (walk-some s z e) ∙ next)
 
   pub parts_of_walk : (s : List ℕ) → length (walk at s).1 ≡ 0 → Parts I Stands s (walk at s).0
-  parts_of_walk = by_parts (λ s. length (walk at s).1 ≡ 0 → Parts I Stands s (walk at s).0) nothing goes_on
-    where
-      nothing : (s : List ℕ) → at s ≡ None → length (walk at s).1 ≡ 0 → Parts I Stands s (walk at s).0
-      nothing [] e done = rw (walk-none [] e) no_part
-      nothing (x ∷ s) e done = absurd (let left = ap (λ (w : List I × List ℕ). length w.1) (walk-none (x ∷ s) e) in omega (arith, left, done))
-
-      goes_on : (s : List ℕ) (z : I × List ℕ) → at s ≡ Some z → (length (walk at z.1).1 ≡ 0 → Parts I Stands z.1 (walk at z.1).0) → length (walk at s).1 ≡ 0 → Parts I Stands s (walk at s).0
-      goes_on s z e next done = let step = walk-some s z e in rw step (then_part s z.0 z.1 (walk at z.1).0 (longest_of s z e) (next (sym (ap (λ (w : List I × List ℕ). length w.1) step) ∙ done)))
+  parts_of_walk = by_parts (λ s. length (walk at s).1 ≡ 0 → Parts I Stands s (walk at s).0)
+      (λ s e done. let none = nil_from_length s (rw (walk-none s e) at done) in rw (walk-none s e, none) no_part)
+      (λ s z e next done. rw (walk-some s z e) (then_part s z.0 z.1 _ (longest_of s z e) (next (rw (walk-some s z e) at done))))
 
   pub walk_of_parts : (s : List ℕ) (is : List I) → Parts I Stands s is → walk at s ≡ (is, [])
   walk_of_parts _ _ no_part = walk-none [] at_nil
-  walk_of_parts _ _ (then_part s part rest more l others) = walk-some s (part, rest) (longest_is s part rest l) ∙ rw (walk_of_parts rest more others) refl
+  walk_of_parts _ _ (then_part s part rest more l others) = walk-some s (part, rest) (longest_is s part rest l) ∙ rw (walk_of_parts rest more others)

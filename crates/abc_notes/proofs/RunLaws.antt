@@ -1,7 +1,8 @@
 -- What is taken off the front of a list is what stands there.
-use Rattle.std.proofs.Common.{◌≡◌, ℕ, zero, suc, ◌+◌, ◌≤◌, ◌<◌, Bool, true, false, eqb, List, [], ◌∷◌, length, drop, refl, ap, arith, zero-add}
-use Rattle.std.{proofs.{Common.{◌∙◌, inl, inr, ◌⊎◌, length-drop}, lemmas.Bool.{cond_both, eqb-true, eq-eqb}}, specs.List.prefix_len}
+use Rattle.std.proofs.Common.{◌≡◌, ℕ, zero, suc, ◌+◌, ◌≤◌, ◌<◌, Bool, true, false, eqb, List, [], ◌∷◌, length, drop, refl, ap, arith, zero-add, ◌∙◌}
+use Rattle.std.proofs.{Common.{inl, inr, ◌⊎◌, length-drop}, lemmas.Bool.{cond_both, eqb-true, eq-eqb}}
 use Rattle.abc_notes.specs.Runs.{copies, maybe, run_off, skip, begins}
+use Rattle.std.specs.List.{prefix_len}
 
 -- the list does not begin with the byte
 abbrev pub Lacks : ℕ → List ℕ → Type 0
@@ -22,10 +23,11 @@ run_off-takes b (x ∷ s) =
     (λ e. refl)
 
 -- either the byte stands in front or not
-pub skip_cases : (b : ℕ) (s : List ℕ) (P : Bool × List ℕ → Type 0) → ((t : List ℕ) → s ≡ b ∷ t → P (true, t)) → (Lacks b s → P (false, s)) → P (skip b s)
+pub skip_cases : (b : ℕ) (s : List ℕ) (P : Bool × List ℕ → Type 0) → ((t : List ℕ) → s ≡ b ∷ t → P (true, t)) →
+    (begins (λ x. eqb x b) s ≡ false → P (false, s)) → P (skip b s)
 unfolding skip
-skip_cases b [] P there lacks = lacks tt
-skip_cases b (x ∷ s) P there lacks = cond_both _ (true, s) (false, x ∷ s) P (λ e. there s (ap (λ z. z ∷ s) (eqb-true x b e))) lacks
+skip_cases b [] P there none = none refl
+skip_cases b (x ∷ s) P there none = cond_both _ (true, s) (false, x ∷ s) P (λ e. there s (ap (λ z. z ∷ s) (eqb-true x b e))) none
 
 pub skip-takes : (b : ℕ) (s : List ℕ) → s ≡ maybe (skip b s).0 b (skip b s).1
 skip-takes b s = skip_cases b s (λ p. s ≡ maybe p.0 b p.1) (λ t e. e) (λ h. refl)

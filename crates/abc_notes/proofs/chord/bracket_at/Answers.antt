@@ -1,6 +1,6 @@
 use Rattle.std.proofs.Common.{ap, ◌∙◌, ◌||◌}
-use Rattle.abc_notes.{specs.Items.is_note, proofs.InnerLaws.{found_inner, none_inner, inner_less}}
-use Rattle.abc_notes.proofs.ChordLaws.{seeking-begins, seeking-next, seeking-ends, all-within}
+use Rattle.abc_notes.{specs.Items.is_note, proofs.{PartLaws.{all_within}, InnerLaws.{found_inner, none_inner, inner_less}}}
+use Rattle.abc_notes.proofs.ChordLaws.{seeking-begins, seeking-next, seeking-ends, bracket_within}
 use Rattle.abc_notes.proofs.chord.bracket_at.Goals as goal
 
 pub parts-init : goal.parts-init
@@ -21,4 +21,4 @@ returns-clause-read c =
     ∙ seeking-ends c.args.bang c.parts.invariant (none_inner c.args.bang c.parts.rest.now c.in_default.ensures)
 
 pub returns-clause-within : goal.returns-clause-within
-returns-clause-within c = all-within c.args.bang (λ x. x.now) c.args.bytes.now c.later_or.result (returns-clause-read c)
+returns-clause-within c = all_within (λ x. x.now) _ c.later_or.result (returns-clause-read c) (bracket_within c.args.bang c.args.bytes.now)

@@ -1,8 +1,8 @@
 use Rattle.std.proofs.Common.{rules, ◌≡◌, ◌^◌, arith, ap, sym, ◌∙◌, Some, length, take, drop, ◌-◌, ◌+◌, ◌≤◌, ◌∷◌, ◌||◌, eqb-true}
 use Rattle.abc_notes.proofs.CrossLaws.{brace_upto, passing-begins, passing-found, closing-behind, rest-behind, passing-small, passing-size}
-use Rattle.abc_notes.proofs.CrossLaws.{passing-next, passing-ends, all-in-chord, clear-none, item-brace, item-at, length_shorter, brace_fits}
-use Rattle.abc_notes.proofs.{CrossLaws.{past_is, chord-brace}, InnerLaws.{found_inner, none_inner, inner_less}, CutLaws.none_left}
-use Rattle.abc_notes.proofs.GraceLaws.{found_part, none_part, part_less, seeking-begins, seeking-next, seeking-ends, all-within}
+use Rattle.abc_notes.proofs.CrossLaws.{passing-next, passing-ends, chord-within, clear-none, item-brace, item-at, length_shorter, brace_fits}
+use Rattle.abc_notes.proofs.{CrossLaws.{past_is, chord-brace}, InnerLaws.{found_inner, none_inner, inner_less}, CutLaws.none_left, PartLaws.all_within}
+use Rattle.abc_notes.proofs.GraceLaws.{found_part, none_part, part_less, seeking-begins, seeking-next, seeking-ends, brace_within}
 use Rattle.abc_notes.specs.{Items.is_note, Graces.is_in_grace}
 use Rattle.abc_notes.proofs.grace.+braces.Goals as goal
 
@@ -30,7 +30,8 @@ brace_at-returns-clause-read t c =
     (rw c.brace_here.ensures at c.later_or.ensures) ∙ seeking-ends c.args.bang c.parts.invariant none
 
 pub brace_at-returns-clause-within : goal.brace_at-returns-clause-within
-brace_at-returns-clause-within t c = all-within c.args.bang (λ x. x.now) c.args.bytes.now c.later_or.result (brace_at-returns-clause-read t c)
+brace_at-returns-clause-within t c =
+    all_within (λ x. x.now) _ c.later_or.result (brace_at-returns-clause-read t c) (brace_within c.args.bang c.args.bytes.now)
 
 pub brace_behind_chords-parts-init : goal.brace_behind_chords-parts-init
 brace_behind_chords-parts-init t c = passing-begins c.args.bang c.args.inside.now
@@ -66,7 +67,7 @@ brace_behind_chords-returns-clause-read t c =
 
 pub brace_behind_chords-returns-clause-within : goal.brace_behind_chords-returns-clause-within
 brace_behind_chords-returns-clause-within t c =
-    all-in-chord c.args.bang (λ x. x.now) c.args.inside.now c.later_or.result (brace_behind_chords-returns-clause-read t c)
+    all_within (λ x. x.now) _ c.later_or.result (brace_behind_chords-returns-clause-read t c) (chord-within c.args.bang c.args.inside.now)
 
 pub brace_past-overflow_sub-chord : goal.brace_past-overflow_sub-chord
 brace_past-overflow_sub-chord t c =
