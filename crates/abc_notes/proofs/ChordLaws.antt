@@ -18,9 +18,6 @@ use Rattle.abc_notes.proofs.PartLaws.{less, by_parts, stops_at, longest_of, none
 use Rattle.abc_notes.proofs.InnerLaws.{inner_reader, length-length_then}
 use Rattle.abc_lines.specs.declared.fault.FaultKind.TheVariants.{BadByte, Unclosed}
 
-pub le_lt : (a b : ℕ) → (a ≤ b) ⊎ (b < a)
-le_lt a b = elim (cases_lt b a) [ inl h ↦ inr h | inr h ↦ inl h ]
-
 pub cut_off : (s front c : List ℕ) → s ≡ front ++ c → take (length s - length c) s ≡ front
 cut_off s front c cut =
     let n : length s - length c ≡ length front = omega (arith, ap length cut, length-append front c) in
@@ -55,9 +52,9 @@ behind_length : (l : LengthForm) (x inside front rest : List ℕ) → IsLength l
 behind_length l x inside front rest good e shorter =
     cut_cases front inside (93 ∷ rest) (93 ∷ length_then l x) (sym e) (omega (arith, shorter))
     (λ same behind. absurd (omega (arith, shorter, ap length behind)))
-    (λ b m same behind. elim (le_lt (length (93 ∷ rest)) (length x)) [
-      | inl near ↦ omega (arith, near)
-      | inr far ↦ absurd (length_past 93 l x m rest refl good (rest_same behind) far)
+    (λ b m same behind. elim (cases_lt (length x) (length (93 ∷ rest))) [
+      | inr near ↦ omega (arith, near)
+      | inl far ↦ absurd (length_past 93 l x m rest refl good (rest_same behind) far)
     ])
 
 module _ (bang : Bool) where
@@ -77,8 +74,7 @@ module _ (bang : Bool) where
   here-closes : (head : Bool) (text c : List ℕ) → bracket_here head text ≡ Some c → Closed head text c
   here-closes head [] c e = absurd cc
   here-closes head (b ∷ s) c e =
-      let found = cond_some _ _ _ e in
-      let p = and_parts _ _ found.0 in
+      let found = cond_some _ _ _ e in let p = and_parts _ _ found.0 in
       let is = sym found.1 ∙ ap (λ x. x ∷ s) (eqb-true b 93 p.0) in
       record { front = []; rest = s; parts = []; is = is; cut = found.1; good = no_part; has = or-false head ∙ p.1 }
 
@@ -101,8 +97,7 @@ module _ (bang : Bool) where
   unfolding bracket_in_name
   in_name-finds head [] c e = absurd cc
   in_name-finds head (b ∷ s) c e =
-      let found = cond_then _ _ _ e in
-      let p = and_parts _ _ found.0 in
+      let found = cond_then _ _ _ e in let p = and_parts _ _ found.0 in
       let name = in-closes head s c (name_at s) (name_at-takes s) found.1 in
       record { behind = s; is = ap (λ x. x ∷ s) (eqb-true b 33 p.0); off = not-true bang p.1; name = name }
 
@@ -111,8 +106,7 @@ module _ (bang : Bool) where
 
   in_name-closes : (head : Bool) (text c : List ℕ) → bracket_in_name bang head text ≡ Some c → Closed head text c
   in_name-closes head text c e =
-      let found = in_name-finds head text c e in
-      let k = found.name in
+      let found = in_name-finds head text c e in let k = found.name in
       let w = walk (inner_at bang) k.before in
       let longest = longest_of reader (33 ∷ k.before) (lone_inside, k.before) (lone_at bang k.before found.off k.names) in
       rw found.is (record {
@@ -129,8 +123,7 @@ module _ (bang : Bool) where
   then-closes : (head : Bool) (text c : List ℕ) (z : Inner × List ℕ) → inner_at bang text ≡ Some z → Closed (head || has_length z.0) z.1 c →
       Closed head text c
   then-closes head text c z e k =
-      let u = inner_then z.0 k.front in
-      let joined = joined_cut reader (inner_local bang) text c k.front z e k.cut in
+      let u = inner_then z.0 k.front in let joined = joined_cut reader (inner_local bang) text c k.front z e k.cut in
       record {
         front = u;
         rest = k.rest;
@@ -224,8 +217,7 @@ module _ (bang : Bool) where
       InnerParts bang v more → (head || has_head (part ∷ more)) ≡ true → inner_at bang (u ++ (93 ∷ t)) ≡ Some z → length z.1 < length (93 ∷ t) →
       FoundLast head (u ++ (93 ∷ t)) t (has_lone (part ∷ more))
   cross-found head u t v part more z at others has e short =
-      let text = u ++ (93 ∷ t) in
-      let stands = stands_at reader text z e in
+      let text = u ++ (93 ∷ t) in let stands = stands_at reader text z e in
       let k = crossing bang 93 z.0 u t z.1 refl refl stands.good stands.cut short in
       let same = some_pair_parts part lone_inside v k.before (sym at ∙ k.lone) in
       let inner = subst (λ (x : List ℕ). InnerParts bang x more) same.1 others in
@@ -256,8 +248,7 @@ module _ (bang : Bool) where
   chord_from-takes s None e = tt
   chord_from-takes s (Some []) e = tt
   chord_from-takes s (Some (b ∷ c)) e =
-      let k = bracket_at-closes s (b ∷ c) e in
-      let l = length_at-takes c in
+      let k = bracket_at-closes s (b ∷ c) e in let l = length_at-takes c in
       rw (cut_off s k.front (b ∷ c) k.cut, walk_of_parts reader k.front k.parts k.good)
       (record { parts = k.good; head = k.has; length = l.1 }, k.cut ∙ ap (λ x. k.front ++ x) (k.is ∙ ap (λ x. 93 ∷ x) (sym (rest_same k.is) ∙ l.0)))
 
@@ -288,8 +279,7 @@ module _ (bang : Bool) where
       (z : ChordForm × List ℕ) × (chord_at bang (chord_then f x) ≡ Some z) × ((length z.1 < length x) ⊎ (z ≡ (f, x)))
   longer_chord f x [] good e shorter = absurd (let k = bracket_at-closes (chord_then f x) [] e in omega (arith, ap length k.is))
   longer_chord f x (b ∷ c) good e shorter =
-      let text = chord_then f x in
-      let k = bracket_at-closes text (b ∷ c) e in
+      let text = chord_then f x in let k = bracket_at-closes text (b ∷ c) e in
       let cut = k.cut ∙ ap (λ y. k.front ++ (y ∷ c)) (first_same k.is) in
       let near = behind_length f.length x f.inside k.front c good.length cut (omega (arith, shorter)) in
       let inside = take (length text - length (b ∷ c)) text in

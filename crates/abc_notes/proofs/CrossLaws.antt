@@ -95,16 +95,14 @@ module _ (bang : Bool) where
   quiet_mark : (head : Bool) (u : List ℕ) (ps : List Inner) → bang ≡ false → InnerParts bang u ps → list_all is_name_byte u ≡ true →
       last_at bang head (33 ∷ u) ≡ None
   quiet_mark head u ps off good h =
-      let at = lone_at bang u off h in
-      let later = quiet_parts (head || has_length lone_inside) u ps good h in
+      let at = lone_at bang u off h in let later = quiet_parts (head || has_length lone_inside) u ps good h in
       last_at-some bang head (33 ∷ u) (lone_inside, u) at ∙ rw later (unnamed_own head (33 ∷ u) (lone_inside, u) at refl)
 
   -- a bracket in a name
   candidate : (head : Bool) (rest closing : List ℕ) → bracket_in_name bang head rest ≡ Some closing →
       (before : List ℕ) × (rest ≡ before ++ closing) × (last_at bang head before ≡ None)
   candidate head rest closing e =
-      let f = in_name-finds bang head rest closing e in
-      let k = f.name in
+      let f = in_name-finds bang head rest closing e in let k = f.name in
       let quiet = quiet_mark head k.before _ f.off (parts_before bang head k.before k.good) k.names in
       (33 ∷ k.before, f.is ∙ ap (λ x. 33 ∷ x) k.cut, quiet)
 
@@ -124,20 +122,18 @@ module _ (bang : Bool) where
     pub found : last ≡ brace_upto w bracket
     pub left : (walk (inner_at bang) rest).1 ≡ (walk (inner_at bang) w).1
 
-  first_brackets : (v : List ℕ) → bracket_at bang v ≡ later_or (last_at bang false v) None
-  unfolding bracket_at
-  first_brackets v = sym (later_none (last_at bang false v))
-
   pub passing-begins : (w : List ℕ) → Passing false w None None w
-  passing-begins w = record { front = []; mark = None; cut = refl; is = refl; brackets = λ v y e. first_brackets v; found = refl; left = refl }
+  unfolding bracket_at
+  passing-begins w =
+      let brackets = λ (v y : List ℕ) (e : w ≡ v ++ y). sym (later_none (last_at bang false v)) in
+      record { front = []; mark = None; cut = refl; is = refl; brackets = brackets; found = refl; left = refl }
 
   upto_mark : (w front rest v y : List ℕ) (mark last : Option (List ℕ)) → w ≡ front ++ rest → rest ≡ v ++ y →
       bracket_at bang (front ++ v) ≡ option_map (λ m. m ++ v) mark → last ≡ brace_upto w (option_map (λ m. m ++ rest) mark) →
       later_or (brace_between bang (option_map (λ m. m ++ rest) mark) (Some y)) last ≡ option_map (λ c. c ++ y) (brace_in_chord bang (front ++ v))
   upto_mark w front rest v y None last cut is at found = rw (found, chord-none bang (front ++ v) at) refl
   upto_mark w front rest v y (Some m) last cut is at found =
-      let k = bracket_at-closes bang (front ++ v) (m ++ v) at in
-      let b = m ++ rest in
+      let k = bracket_at-closes bang (front ++ v) (m ++ v) at in let b = m ++ rest in
       let whole : b ≡ (m ++ v) ++ y = ap (λ x. m ++ x) is ∙ sym (append_assoc m v y) in
       let line : w ≡ k.front ++ b =
       cut ∙ ap (λ x. front ++ x) is ∙ sym (append_assoc front v y) ∙ ap (λ x. x ++ y) k.cut ∙ append_assoc k.front (m ++ v) y
@@ -174,8 +170,7 @@ module _ (bang : Bool) where
         (later_or (brace_between bang bracket closing) last ≡ brace_upto w (later_or closing bracket)) × stands_behind bracket closing
     found_or None e = (stage.found, tt)
     found_or (Some closing) e =
-        let c = candidate head rest closing e in
-        let u = stage.front ++ c.0 in
+        let c = candidate head rest closing e in let u = stage.front ++ c.0 in
         let line : w ≡ u ++ closing = stage.cut ∙ ap (λ x. stage.front ++ x) c.1 ∙ sym (append_assoc stage.front c.0 closing) in
         let upto = ap (λ (t : List ℕ). option_map (λ (x : List ℕ). x ++ closing) (brace_in_chord bang t)) (sym (cut_off w u closing line)) in
         (passing-upto c.0 closing c.1 c.2 ∙ upto, passing-behind c.0 closing c.1)
@@ -196,13 +191,11 @@ module _ (bang : Bool) where
     passing-size = size_most (length w) bracket (passing-small (length w) (omega arith))
 
     pub passing-next : {new : Bool} {next found : Option (List ℕ)} {behind : List ℕ} {part : Inner} →
-        inner_at bang rest ≡ Some (inner_pair part behind) → new ≡ (head || has_length part) → next ≡ later_or (bracket_in_name bang head rest) bracket → found ≡ brace_upto w next →
-        Passing new w next found behind
+        inner_at bang rest ≡ Some (inner_pair part behind) → new ≡ (head || has_length part) →
+        next ≡ later_or (bracket_in_name bang head rest) bracket → found ≡ brace_upto w next → Passing new w next found behind
     passing-next {behind = behind} {part = part} e newly nextly so_far =
-        let r = inner_reader bang in
-        let stands = stands_at r rest (part, behind) e in
-        let one = inner_then part [] in
-        let own = own_bracket head part in
+        let r = inner_reader bang in let stands = stands_at r rest (part, behind) e in
+        let one = inner_then part [] in let own = own_bracket head part in
         let split : rest ≡ one ++ behind = stands.cut ∙ sym (inner_append part [] behind) in
         let before = stage.is ∙ ap (λ (x : List ℕ). option_map (λ (m : List ℕ). m ++ x) stage.mark) split in
         let named = ap (bracket_in_name bang head) stands.cut ∙ part_own head part behind stands.good (ap (inner_at bang) (sym stands.cut) ∙ e) in
@@ -212,8 +205,7 @@ module _ (bang : Bool) where
           cut = stage.cut ∙ ap (λ x. stage.front ++ x) split ∙ sym (append_assoc stage.front one behind);
           is = nextly ∙ rw (named, before) (joined one behind own stage.mark);
           brackets = λ v y is.
-              let u = one ++ v in
-              let there = joined_cut r (inner_local bang) rest y v (part, behind) e is in
+              let u = one ++ v in let there = joined_cut r (inner_local bang) rest y v (part, behind) e is in
               let line : rest ≡ u ++ y = rw (inner_append part [] v) there.0 in
               let at : inner_at bang u ≡ Some (inner_pair part v) = rw (inner_append part [] v) there.1 in
               let named : bracket_in_name bang head u ≡ option_map (λ (m : List ℕ). m ++ v) own =
@@ -261,8 +253,7 @@ module _ (bang : Bool) where
   item_stands (GraceItem.Part p) part text behind e stands = tt
   item_stands (GraceItem.Chord inside) (single f) text behind e stands = absurd cc
   item_stands (GraceItem.Chord inside) (chorded f) text behind e stands =
-      let same : inside.now ≡ f.inside = cc in
-      let tail = 93 ∷ length_then f.length behind in
+      let same : inside.now ≡ f.inside = cc in let tail = 93 ∷ length_then f.length behind in
       let drops = ap (drop (suc (length f.inside))) stands.cut ∙ drop-append_seam (91 ∷ f.inside) tail in
       rw same (
         omega (arith, ap length stands.cut, length-append f.inside tail),
@@ -289,10 +280,8 @@ module _ (bang : Bool) where
       length_read len rest ≡ length_read (len_of (length_at s).0) (length_at s).1 → Some brace ≡ brace_at bang rest →
       Some (drop (length chord - length brace) bracket) ≡ brace_between bang (Some bracket) (Some closing)
   past_is closing {bracket} {chord} {s} {rest} {brace} {b} behind is first e found =
-      let k = brace_at-closes bang rest brace (sym found) in
-      let l = length_at s in
-      let x = length_then l.0 [] in
-      let y = b ∷ (x ++ k.front) in
+      let k = brace_at-closes bang rest brace (sym found) in let l = length_at s in
+      let x = length_then l.0 [] in let y = b ∷ (x ++ k.front) in
       let same : rest ≡ l.1 = ap (λ p. p.1) e in
       let long : length_then l.0 l.1 ≡ x ++ (k.front ++ brace) = sym (length_append l.0 [] l.1) ∙ ap (λ t. x ++ t) (sym same ∙ k.cut) in
       let split = (length_at-takes s).0 ∙ long ∙ sym (append_assoc x k.front brace) in
@@ -309,14 +298,14 @@ module _ (bang : Bool) where
       drop (length inside + 1 - length brace) text ≡ brace ++ drop (suc (length inside)) text
   unfolding brace_in_chord
   drops_in_chord text inside brace cut found =
-      let k = brace_at-closes bang (91 ∷ inside) brace (sym found) in
-      let tail = drop (suc (length inside)) text in
+      let k = brace_at-closes bang (91 ∷ inside) brace (sym found) in let tail = drop (suc (length inside)) text in
       let count : length inside + 1 - length brace ≡ length k.front = omega (arith, ap length k.cut, length-append k.front brace) in
       let line : text ≡ k.front ++ (brace ++ tail) = cut ∙ ap (λ t. t ++ tail) k.cut ∙ append_assoc k.front brace tail in
       ap (λ n. drop n text) count ∙ ap (drop (length k.front)) line ∙ drop-append_seam k.front (brace ++ tail)
 
   pub chord-brace : (text : List ℕ) {item : GraceItem} {brace : List ℕ} {inside : Bor (List ℕ)} → item ≡ GraceItem.Chord inside →
-      IsItemAt bang item text → Some brace ≡ brace_in_chord bang inside.now → Some (drop (length inside.now + 1 - length brace) text) ≡ brace_in_item bang item text
+      IsItemAt bang item text → Some brace ≡ brace_in_chord bang inside.now →
+      Some (drop (length inside.now + 1 - length brace) text) ≡ brace_in_item bang item text
   chord-brace text {item} {brace} {inside} is at some =
       let here : IsItemAt bang (GraceItem.Chord inside) text = rw is at at in
       let tail = drop (suc (length inside.now)) text in

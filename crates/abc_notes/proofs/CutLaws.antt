@@ -329,8 +329,7 @@ pub name_upto-found : (close : ℕ) (passes : List ℕ → Bool) (before after r
     list_all (λ b. not (eqb b close)) before ≡ true → passes before ≡ true → let name = before ++ (close ∷ after) in
     name_upto close passes (name ++ (33 ∷ rest)) (name, rest) ≡ Some (close ∷ (after ++ (33 ∷ rest)))
 name_upto-found close passes before after rest same clear good =
-    let p = λ (b : ℕ). not (eqb b close) in
-    let stops = span_all-stops p (close ∷ after) (rw same refl) in
+    let p = λ (b : ℕ). not (eqb b close) in let stops = span_all-stops p (close ∷ after) (rw same refl) in
     let some = ne_eqb (suc (length after)) 0 (omega arith) in
     rw (span_all-append p before (close ∷ after) clear, stops, append-nil, good, some, append_assoc, drop-append_seam) refl
 
@@ -357,7 +356,6 @@ not_named _ rest h = refl
 pub clear_parts : (bang : Bool) (s : List ℕ) (parts : List Inner) → InnerParts bang s parts → list_all is_name_byte s ≡ true → list_all free s ≡ true
 clear_parts bang _ _ no_part h = refl
 clear_parts bang _ _ (then_part text part rest more l others) h =
-    let one = inner_then part [] in
-    let cut : text ≡ one ++ rest = l.stands.cut ∙ sym (inner_append part [] rest) in
+    let one = inner_then part [] in let cut : text ≡ one ++ rest = l.stands.cut ∙ sym (inner_append part [] rest) in
     let names = all_parts is_name_byte one rest (ap (list_all is_name_byte) (sym cut) ∙ h) in
     rw cut (all_join free one rest (inner_free bang part l.stands.good (not_named part [] names.0)) (clear_parts bang rest more others names.1))

@@ -2,7 +2,7 @@
 use Rattle.std.proofs.Common.{◌≡◌, ℕ, zero, suc, ◌+◌, ◌-◌, ◌≤◌, ◌<◌, Bool, true, false, eqb, List, [], ◌∷◌, ◌++◌, length, take, drop, Option, Some}
 use Rattle.std.proofs.Common.{None, refl, sym, ap, ◌∙◌, subst, arith, inl, inr, ◌⊎◌, append_assoc, append-nil, add-one, not, ◌||◌, IfSome, option_map}
 use Rattle.std.proofs.{Common.MatchOption, lemmas.Bool.{both_ways, cond_both, and_parts, eqb-true, ne_eqb, cond-true, not-true, not_from_false}}
-use Rattle.std.proofs.{lemmas.Bool.or_parts, lemmas.List.{length-append, length-drop, take-append-drop, nil_from_length}}
+use Rattle.std.proofs.{lemmas.Bool.{or_parts, cases_lt}, lemmas.List.{length-append, length-drop, take-append-drop, nil_from_length}}
 use Rattle.std.proofs.{Math.Seq.{take-append_seam, drop-append_seam}, lemmas.Option.{same_Some, cond_some, some_pair_parts}}
 use Rattle.abc_notes.specs.{Items.{Inner, lone_inside, inner_then, IsName, name_at, item_class, inner_at}, Graces.{GracePart, single, chorded}}
 use Rattle.abc_notes.specs.Graces.{grace_part_then, IsGracePart, StandsInGrace, GraceParts, GraceLeads, part_has_length, GraceForm, is_in_grace}
@@ -13,7 +13,7 @@ use Rattle.abc_notes.specs.{Graces.{inside_of_part, IsPartFlaw, item_within}, De
 use Rattle.abc_notes.specs.{declared.part.GraceChord.GraceChord, declared.part.GraceItem.GraceItem, Runs.{maybe, skip, span_all, begins}}
 use Rattle.abc_notes.specs.{Lengths.{LengthForm, length_then, length_at}, Chords.{ChordForm, chord_then, IsChord, bracket_at, chord_at, at_most}}
 use Rattle.abc_notes.specs.Parts.{no_part, then_part, stuck_here, stuck_later, walk, is_done, length_at_place, later_or}
-use Rattle.abc_notes.proofs.ChordLaws.{bracket_at-closes, chord_at-takes, chord_at-reaches, chord-reads, chord-longer, has_lone, is_lone, le_lt}
+use Rattle.abc_notes.proofs.ChordLaws.{bracket_at-closes, chord_at-takes, chord_at-reaches, chord-reads, chord-longer, has_lone, is_lone}
 use Rattle.abc_notes.proofs.{ChordLaws.{later_assoc, later_none, cut_off}, CutLaws.{two, none_left, some_left, first_close, length_past, moved}}
 use Rattle.abc_notes.proofs.CutLaws.{read_on, inner_local, inner_append, length_append, length_free, cut_cases, first_same, rest_same, Local}
 use Rattle.abc_notes.proofs.CutLaws.{read_cut, joined_cut, leads_of_walk, wider, all_join, all_parts, clear_parts, free, inner_free, not_named}
@@ -234,10 +234,8 @@ module _ (bang : Bool) where
   unfolding brace_in_name
   in_name-closes [] c e = absurd cc
   in_name-closes (b ∷ s) c e =
-      let found = cond_then _ _ _ e in
-      let p = and_parts _ _ found.0 in
-      let k = in-closes s c (name_at s) (name_at-takes s) found.1 in
-      let u = 33 ∷ k.before in
+      let found = cond_then _ _ _ e in let p = and_parts _ _ found.0 in
+      let k = in-closes s c (name_at s) (name_at-takes s) found.1 in let u = 33 ∷ k.before in
       let lone = single_at u (lone_inside, k.before) (lone_at bang k.before (not-true bang p.1) k.names) in
       let longest = longest_of part_reader u (single lone_inside, k.before) lone in
       record {
@@ -252,8 +250,7 @@ module _ (bang : Bool) where
   -- ---- the last brace before which parts alone stand
   closes_there : (text : List ℕ) (n : ℕ) → closes_at bang text n ≡ true → ClosedGroup text (drop n text)
   closes_there text n h =
-      let p = and_parts _ _ h in
-      let first = first_close 125 (drop n text) p.0 in
+      let p = and_parts _ _ h in let first = first_close 125 (drop n text) p.0 in
       let good = good_parts (take n text) p.1 in
       record { front = take n text; rest = first.0; parts = _; is = first.1; cut = sym (take-append-drop n text); good = good }
 
@@ -286,9 +283,9 @@ module _ (bang : Bool) where
   found_reaches text d k (suc n) h =
       cond_both (closes_at bang text (suc n)) (Some (drop (suc n) text)) (last_closing bang text n) (AtLast d)
       (λ e. (drop (suc n) text, refl, omega (arith, h, length-drop (suc n) text, ap length k.cut, length-append k.front d)))
-      (λ e. elim (le_lt (length k.front) n) [
-        | inl before ↦ found_reaches text d k n before
-        | inr past ↦
+      (λ e. elim (cases_lt n (length k.front)) [
+        | inr before ↦ found_reaches text d k n before
+        | inl past ↦
             (let last : length k.front ≡ suc n = omega (arith, h, past) in
             absurd (both_ways _ e (subst (λ m. closes_at bang text m ≡ true) last (closes_so text d k))))
       ])
@@ -314,8 +311,7 @@ module _ (bang : Bool) where
   last_is : (text : List ℕ) (r : Option (List ℕ)) → GivesLast text 0 r → brace_at bang text ≡ r
   last_is text None h = none_there text (brace_at bang text) refl (λ d k. let clash = (h.reaches d k (omega (arith, ap length k.is))).1 in cc)
   last_is text (Some c) h =
-      let k = h.closes c refl in
-      let o = brace_at-last text c k in
+      let k = h.closes c refl in let o = brace_at-last text c k in
       let found = brace_at-closes text o.0 o.1 in
       let back = h.reaches o.0 found (omega (arith, ap length found.is)) in
       o.1 ∙ ap Some (same_brace found k (omega (arith, o.2, back.2, ap length (same_Some c back.0 back.1))))
@@ -356,8 +352,7 @@ module _ (bang : Bool) where
     behind_closes : (d : List ℕ) → ClosedGroup text d → length d ≤ length z.1 → ClosedGroup z.1 d
     behind_closes d k short =
         let a = read_cut part_reader part_local k.front d z (ap (grace_part_at bang) (sym k.cut) ∙ e) short in
-        let f = first_part d k in
-        let same = some_pair_parts f.0.0 z.0 f.0.1 a.front (sym f.2 ∙ a.at_cut) in
+        let f = first_part d k in let same = some_pair_parts f.0.0 z.0 f.0.1 a.front (sym f.2 ∙ a.at_cut) in
         let good = subst (λ (x : List ℕ). GraceParts bang x f.1) same.1 f.3 in
         record { front = a.front; rest = k.rest; parts = f.1; is = k.is; cut = a.behind; good = good }
 
@@ -380,9 +375,9 @@ module _ (bang : Bool) where
     brace-some : (x : Option (List ℕ)) → GivesLast text (length z.1) x → brace_at bang text ≡ later_or (brace_at bang z.1) x
     brace-some x k = last_is text (later_or (brace_at bang z.1) x) (record {
       closes = λ c found. or_closes c (brace_at bang z.1) x k refl found;
-      reaches = λ d other some. elim (le_lt (length d) (length z.1)) [
-        | inl before ↦ (let o = brace_at-last z.1 d (behind_closes d other before) in (o.0, rw o.1 refl, o.2))
-        | inr past ↦ or_past d (brace_at bang z.1) x refl past (k.reaches d other past)
+      reaches = λ d other some. elim (cases_lt (length z.1) (length d)) [
+        | inr before ↦ (let o = brace_at-last z.1 d (behind_closes d other before) in (o.0, rw o.1 refl, o.2))
+        | inl past ↦ or_past d (brace_at bang z.1) x refl past (k.reaches d other past)
       ];
     })
 
@@ -390,16 +385,14 @@ module _ (bang : Bool) where
   clear_part : (p : GracePart) → IsGracePart bang p → let s = grace_part_then p [] in list_all is_name_byte s ≡ true → list_all is_in_grace s ≡ true
   clear_part (single f) good h = wider free is_in_grace (inner_then f []) in_grace_wide (inner_free bang f good (not_named f [] h))
   clear_part (chorded f) good h =
-      let len = length_then f.length [] in
-      let names = all_parts is_name_byte f.inside (93 ∷ len) h in
+      let len = length_then f.length [] in let names = all_parts is_name_byte f.inside (93 ∷ len) h in
       let inside = wider free is_in_grace f.inside in_grace_wide (clear_parts bang f.inside f.parts good.parts names.0) in
       all_join is_in_grace f.inside (93 ∷ len) inside (wider free is_in_grace len in_grace_wide (length_free f.length good.length))
 
   clear_group : (s : List ℕ) (parts : List GracePart) → GraceParts bang s parts → list_all is_name_byte s ≡ true → list_all is_in_grace s ≡ true
   clear_group _ _ no_part h = refl
   clear_group _ _ (then_part text p rest more l others) h =
-      let one = grace_part_then p [] in
-      let cut : text ≡ one ++ rest = l.stands.cut ∙ sym (part_append p [] rest) in
+      let one = grace_part_then p [] in let cut : text ≡ one ++ rest = l.stands.cut ∙ sym (part_append p [] rest) in
       let names = all_parts is_name_byte one rest (ap (list_all is_name_byte) (sym cut) ∙ h) in
       rw cut (all_join is_in_grace one rest (clear_part p l.stands.good names.0) (clear_group rest more others names.1))
 
@@ -418,8 +411,7 @@ module _ (bang : Bool) where
   cross_single : (text d : List ℕ) (f : Inner) (rest : List ℕ) → grace_part_at bang text ≡ Some (part_with (single f) rest) → ClosedGroup text d →
       length rest < length d → brace_in_name bang text ≡ Some d
   cross_single text d f rest e k short =
-      let stands = stands_at part_reader text (single f, rest) e in
-      let line = k.cut ∙ ap (λ x. k.front ++ x) k.is in
+      let stands = stands_at part_reader text (single f, rest) e in let line = k.cut ∙ ap (λ x. k.front ++ x) k.is in
       let c = crossing bang 125 f k.front k.rest rest refl refl stands.good (sym line ∙ stands.cut) (omega (arith, short, ap length k.is)) in
       let first = first_part text (single f, rest) e d k in
       let lone = single_at k.front (lone_inside, c.before) c.lone in
@@ -434,9 +426,9 @@ module _ (bang : Bool) where
   -- a brace that stands behind the bracket in front, and not behind the chord, stands between its brackets
   brace_inside : (f : ChordForm) (rest d : List ℕ) → IsChord bang f → ClosedGroup (91 ∷ chord_then f rest) d → length rest < length d →
       length (tail_of f rest) ≤ length d
-  brace_inside f rest d good k short = elim (le_lt (length (tail_of f rest)) (length d)) [
-    | inl far ↦ far
-    | inr near ↦ absurd (
+  brace_inside f rest d good k short = elim (cases_lt (length d) (length (tail_of f rest))) [
+    | inr far ↦ far
+    | inl near ↦ absurd (
         cut_cases k.front (91 ∷ f.inside) d (tail_of f rest) (sym k.cut) (omega (arith, near)) (λ front behind. omega (arith, near, ap length behind))
         (λ b m front behind.
         let past = rest_same behind ∙ ap (λ x. m ++ x) k.is in
@@ -458,8 +450,7 @@ module _ (bang : Bool) where
   chord_closes : (f : ChordForm) (rest c : List ℕ) → option_map (λ b. b ++ tail_of f rest) (brace_at bang (91 ∷ f.inside)) ≡ Some c →
       ClosedGroup (91 ∷ chord_then f rest) c
   chord_closes f rest c e =
-      let tail = tail_of f rest in
-      let m = read_from (λ b. b ++ tail) (brace_at bang (91 ∷ f.inside)) c (sym e) in
+      let tail = tail_of f rest in let m = read_from (λ b. b ++ tail) (brace_at bang (91 ∷ f.inside)) c (sym e) in
       let k = brace_at-closes (91 ∷ f.inside) m.0 m.1 in
       record {
         front = k.front;
@@ -506,8 +497,7 @@ module _ (bang : Bool) where
   unfolding brace_in_chord
   chord-some w [] e = absurd (let k = bracket_at-closes bang w [] e in omega (arith, ap length k.is))
   chord-some w (b ∷ c) e =
-      let k = bracket_at-closes bang w (b ∷ c) e in
-      let inside = take (length w - length (b ∷ c)) w in
+      let k = bracket_at-closes bang w (b ∷ c) e in let inside = take (length w - length (b ∷ c)) w in
       let front : inside ≡ k.front = cut_off w k.front (b ∷ c) k.cut in
       let at = at_bracket w ∙ ap (option_map chorded_read) (read_form w c b e) in
       let tail : drop (length inside) w ≡ b ∷ c =
@@ -522,8 +512,7 @@ module _ (bang : Bool) where
   chord_past : (f : ChordForm) (v t : List ℕ) (z : GracePart × List ℕ) → IsChord bang f → has_lone f.parts ≡ false →
       grace_part_at bang (91 ∷ chord_then f (v ++ (125 ∷ t))) ≡ Some z → length z.1 < length (125 ∷ t) → ⊥
   chord_past f v t z good whole e past =
-      let x = v ++ (125 ∷ t) in
-      let l = length_at (length_then f.length x) in
+      let x = v ++ (125 ∷ t) in let l = length_at (length_then f.length x) in
       let takes = length_at-takes (length_then f.length x) in
       let read = at_bracket (chord_then f x) ∙ ap (option_map chorded_read) (chord-reads bang f x good whole) in
       let same = some_pair_parts z.0 (chorded (with_length f l.0)) z.1 l.1 (sym e ∙ read) in
@@ -533,8 +522,7 @@ module _ (bang : Bool) where
   part_past : (part : GracePart) (u v t : List ℕ) (z : GracePart × List ℕ) → lone_part_is part ≡ false → StandsInGrace bang part u v →
       grace_part_at bang u ≡ Some (part, v) → grace_part_at bang (u ++ (125 ∷ t)) ≡ Some z → length z.1 < length (125 ∷ t) → ⊥
   part_past (single f) u v t z whole stands at e past =
-      let text = u ++ (125 ∷ t) in
-      let r = inner_reader bang in
+      let text = u ++ (125 ∷ t) in let r = inner_reader bang in
       let o = r.reaches f text (v ++ (125 ∷ t)) (moved r (inner_local bang) f u v (125 ∷ t) (record { good = stands.good; cut = stands.cut })) in
       let there = stands_at r text o.0 o.1 in
       let same = some_pair_parts z.0 (single o.0.0) z.1 o.0.1 (sym e ∙ single_at text o.0 o.1) in
@@ -552,9 +540,9 @@ module _ (bang : Bool) where
       let w = or_parts (lone_part_is part) (has_lone_part more) whole in
       elim (read_on part_reader part_local part u v (125 ∷ t) l) [
         | inr past ↦ absurd (part_past part u v t past.0 w.0 l.stands (longest_is part_reader u part v l) past.1 past.2)
-        | inl on ↦ elim (le_lt (length d) (length (v ++ (125 ∷ t)))) [
-          | inl before ↦ nothing_past v t d more others w.1 (behind_closes (u ++ (125 ∷ t)) (part, v ++ (125 ∷ t)) on d k before)
-          | inr far ↦ omega (arith, far, length-append v (125 ∷ t))
+        | inl on ↦ elim (cases_lt (length (v ++ (125 ∷ t))) (length d)) [
+          | inr before ↦ nothing_past v t d more others w.1 (behind_closes (u ++ (125 ∷ t)) (part, v ++ (125 ∷ t)) on d k before)
+          | inl far ↦ omega (arith, far, length-append v (125 ∷ t))
         ]
       ]
 
@@ -582,8 +570,7 @@ module _ (bang : Bool) where
 
   pub grace_at-takes : (s : List ℕ) → TakesGrace s (grace_at bang s)
   unfolding grace_at
-  grace_at-takes s =
-      grace_from-takes (skip 47 s).0 s (skip 47 s).1 _ (record { cut = skip-takes 47 s; is_read = no_slash s }) refl
+  grace_at-takes s = grace_from-takes (skip 47 s).0 s (skip 47 s).1 _ (record { cut = skip-takes 47 s; is_read = no_slash s }) refl
 
   lacks_slash : (w x : List ℕ) → begins is_slash_byte w ≡ false → Lacks 47 (w ++ (125 ∷ x))
   lacks_slash [] x h = refl
@@ -606,8 +593,7 @@ module _ (bang : Bool) where
   grace_there : (f : GraceForm) (x c : List ℕ) → IsGrace bang f → brace_at bang (f.inside ++ (125 ∷ x)) ≡ Some c → length c ≡ length (125 ∷ x) →
       grace_at bang (grace_then f x) ≡ Some (f, x)
   grace_there f x c good e whole =
-      let d = 125 ∷ x in
-      let same = same_brace (brace_at-closes (f.inside ++ d) c e) (group_there f x good) whole in
+      let d = 125 ∷ x in let same = same_brace (brace_at-closes (f.inside ++ d) c e) (group_there f x good) whole in
       let inside : take (length (f.inside ++ d) - length d) (f.inside ++ d) ≡ f.inside = cut_off (f.inside ++ d) f.inside d refl in
       at_closing f x d good (e ∙ ap Some same) ∙ rw (inside, walk_of_parts part_reader f.inside f.parts good.parts) refl
 
@@ -615,8 +601,7 @@ module _ (bang : Bool) where
       (z : GraceForm × List ℕ) × (grace_at bang (grace_then f x) ≡ Some z) × ((length z.1 < length x) ⊎ (z ≡ (f, x)))
   longer_grace f x [] good e shorter = absurd (let k = brace_at-closes (f.inside ++ (125 ∷ x)) [] e in omega (arith, ap length k.is))
   longer_grace f x (b ∷ c) good e shorter =
-      let text = f.inside ++ (125 ∷ x) in
-      let inside = take (length text - length (b ∷ c)) text in
+      let text = f.inside ++ (125 ∷ x) in let inside = take (length text - length (b ∷ c)) text in
       let form : GraceForm = record { slash = f.slash; inside = inside; parts = (walk (grace_part_at bang) inside).0 } in
       ((form, c), at_closing f x (b ∷ c) good e, inl (omega (arith, shorter)))
 
@@ -624,16 +609,15 @@ module _ (bang : Bool) where
       (z : GraceForm × List ℕ) × (grace_at bang (grace_then f x) ≡ Some z) × ((length z.1 < length x) ⊎ (z ≡ (f, x)))
   grace_at-reaches f x good =
       let o = brace_at-last (f.inside ++ (125 ∷ x)) (125 ∷ x) (group_there f x good) in
-      elim (le_lt (length (125 ∷ x)) (length o.0)) [
-        | inl far ↦ ((f, x), grace_there f x o.0 good o.1 (omega (arith, far, o.2)), inr refl)
-        | inr shorter ↦ longer_grace f x o.0 good o.1 shorter
+      elim (cases_lt (length o.0) (length (125 ∷ x))) [
+        | inr far ↦ ((f, x), grace_there f x o.0 good o.1 (omega (arith, far, o.2)), inr refl)
+        | inl shorter ↦ longer_grace f x o.0 good o.1 shorter
       ]
 
   -- where no exclamation mark is passed over, the group itself is read
   pub grace-reads : (f : GraceForm) (x : List ℕ) → IsGrace bang f → has_lone_part f.parts ≡ false → grace_at bang (grace_then f x) ≡ Some (f, x)
   grace-reads f x good whole =
-      let text = f.inside ++ (125 ∷ x) in
-      let o = brace_at-last text (125 ∷ x) (group_there f x good) in
+      let text = f.inside ++ (125 ∷ x) in let o = brace_at-last text (125 ∷ x) (group_there f x good) in
       let far = nothing_past f.inside x o.0 f.parts good.parts whole (brace_at-closes text o.0 o.1) in
       grace_there f x o.0 good o.1 (omega (arith, far, o.2))
 
@@ -692,8 +676,9 @@ module _ (bang : Bool) where
       let some : grace_at bang s ≡ grace_from bang slash t (Some (b ∷ c)) = rw (← at, found) refl in
       let clash = sym none ∙ some in cc
 
-  pub grace-flawed : (slash : Bool) (s t w r : List ℕ) (flaw : Flaw) → slashed slash t ≡ skip 47 s → two w r ≡ span_all is_in_grace s → (length r ≡ 0 → ⊥) →
-      grace_at bang s ≡ None → is_done (walk (grace_part_at bang) t) ≡ false → GraceFlawed bang None t flaw → GraceFault bang s flaw
+  pub grace-flawed : (slash : Bool) (s t w r : List ℕ) (flaw : Flaw) → slashed slash t ≡ skip 47 s → two w r ≡ span_all is_in_grace s →
+      (length r ≡ 0 → ⊥) → grace_at bang s ≡ None → is_done (walk (grace_part_at bang) t) ≡ false → GraceFlawed bang None t flaw →
+      GraceFault bang s flaw
   grace-flawed slash s t w r flaw at cut some none stuck flawed = by_stop (walk (grace_part_at bang) t).1 refl
     where
       no_brace : (b : ℕ) (x : List ℕ) → (walk (grace_part_at bang) t).1 ≡ b ∷ x → b ≡ 125 → ⊥

@@ -140,8 +140,7 @@ module _ (bang : Bool) where
     pub heads-next : (out : List (Head × Len)) (last : Option (Head × Len)) {new total : List (Head × Len)} {next : Option (Head × Len)} →
         new ≡ out ++ given_head last item → next ≡ next_last last item → out ++ heads_after last (senses bang s) ≡ total →
         new ++ heads_after next (senses bang behind) ≡ total
-    heads-next out last push is so_far =
-        rw (push, is, append_assoc) (rw senses-some at so_far)
+    heads-next out last push is so_far = rw (push, is, append_assoc) (rw senses-some at so_far)
 
     -- parts that each give what they say of
     pub said-next : {X : Type 0} (gives : List Sense → List X) (one : Sense → List X) →

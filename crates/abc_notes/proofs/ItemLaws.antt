@@ -93,7 +93,8 @@ bang-takes bang s (Some z) off t = record { good = (off, t.0); cut = ap (λ x. 3
 
 by-takes : (c : ItemClass) (bang : Bool) (b : ℕ) (s : List ℕ) → Fact c b → TakesInner bang (b ∷ s) (inner_by_class c bang b s)
 by-takes ItemClass.Note bang b s h =
-    mapped_some (λ z. (note_inside z.0, z.1)) _ (λ z. StandsInside bang z.0 (b ∷ s) z.1) (note_at-takes (b ∷ s)) (λ z t. record { good = t.1; cut = t.0 })
+    mapped_some (λ z. (note_inside z.0, z.1)) _ (λ z. StandsInside bang z.0 (b ∷ s) z.1) (note_at-takes (b ∷ s))
+    (λ z t. record { good = t.1; cut = t.0 })
 by-takes ItemClass.Dot bang b s h = rw h (dot-takes bang s)
 by-takes ItemClass.Letter bang b s h = record { good = or_right (eqb b 46) (is_deco_letter b) h; cut = refl }
 by-takes ItemClass.Tie bang b s h = record { good = tt; cut = ap (λ x. x ∷ s) h }

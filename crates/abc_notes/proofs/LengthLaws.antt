@@ -69,10 +69,6 @@ count-stops n c k x other good =
 abbrev read_as : LengthForm → List ℕ → LengthForm × List ℕ
 read_as f x = (f, x)
 
--- behind a slash no digit follows that number
-count-slash : (c x : List ℕ) → IsCount 4 c → number_at 4 (c ++ (47 ∷ x)) ≡ (c, 47 ∷ x)
-count-slash c x good = count-stops 4 c 47 x refl good
-
 -- slashes and nothing else
 slashes-are : (ss x : List ℕ) → list_all is_slash ss ≡ true → ss ++ x ≡ copies (length ss) 47 x
 slashes-are [] x h = refl
@@ -94,10 +90,12 @@ length-copies (suc k) = ap suc (length-copies k)
 below-takes : (count sl after be last : List ℕ) → IsCount 4 count → list_all is_slash sl ≡ true → length sl ≤ 6 → after ≡ be ++ last → IsCount 4 be →
     let z = below_at count (sl, after) (be, last) in (count ++ (sl ++ after) ≡ length_then z.0 z.1) × IsLength z.0
 below-takes count [] after be last good pass few g below = (refl, good)
-below-takes count (c ∷ []) after [] last good pass few g w = (ap (λ t. count ++ t) (slashes-are (c ∷ []) after pass), (good, omega arith, omega arith))
+below-takes count (c ∷ []) after [] last good pass few g below =
+    (ap (λ t. count ++ t) (slashes-are (c ∷ []) after pass), (good, omega arith, omega arith))
 below-takes count (c ∷ []) after (d ∷ ds) last good pass few g below =
     (ap (λ t. count ++ t) (slashes-are (c ∷ []) after pass ∙ ap (λ t. 47 ∷ t) g), (good, below))
-below-takes count (c ∷ d ∷ sl) after be last good pass few g w = (ap (λ t. count ++ t) (slashes-are (c ∷ d ∷ sl) after pass), (good, omega arith, few))
+below-takes count (c ∷ d ∷ sl) after be last good pass few g below =
+    (ap (λ t. count ++ t) (slashes-are (c ∷ d ∷ sl) after pass), (good, omega arith, few))
 
 pub length_at-takes : (s : List ℕ) → let z = length_at s in (s ≡ length_then z.0 z.1) × IsLength z.0
 unfolding length_at
@@ -199,10 +197,11 @@ length_at-reaches (whole count) x good = rw length_at-is (elim (count-reads 4 co
   | inr same ↦ rw same (whole-reaches count x)
 ])
 length_at-reaches (over count []) x good = absurd (omega (arith, good.1.some))
-length_at-reaches (over count (d ∷ ds)) x good = rw (length_at-is, count-slash count ((d ∷ ds) ++ x) good.0) (over-reaches count d ds x good.1)
+length_at-reaches (over count (d ∷ ds)) x good =
+    rw (length_at-is, count-stops 4 count 47 ((d ∷ ds) ++ x) refl good.0) (over-reaches count d ds x good.1)
 length_at-reaches (halved count zero) x good = absurd (omega (arith, good.1))
 length_at-reaches (halved count (suc k)) x good =
-    rw (length_at-is, count-slash count (copies k 47 x) good.0) (halved-reaches count (suc k) x good.1 good.2)
+    rw (length_at-is, count-stops 4 count 47 (copies k 47 x) refl good.0) (halved-reaches count (suc k) x good.1 good.2)
 
 pub length-length_at : (s : List ℕ) → length (length_at s).1 ≤ length s
 length-length_at s = rw length_at-is (omega (arith, length-from (number_at 4 s).0 (number_at 4 s).1, length-number 4 s))

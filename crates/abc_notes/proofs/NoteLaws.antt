@@ -132,13 +132,6 @@ note-read sign low letter r = rw (sign_at-reads sign (letter_byte low letter) r 
 abbrev Ends : List ℕ → NoteForm → NoteForm × List ℕ → Type 0
 Ends x f z = ((length z.1 < length x) × (begins note_goes_on x ≡ true)) ⊎ (z ≡ (f, x))
 
--- the marks were read as they stand
-exact : (f : NoteForm) (x : List ℕ) → IsNote f → Ends x f (finish f.sign f.low f.letter (f.marks, length_then f.length x))
-unfolding finish
-exact f x good =
-    let wider = begins_wider goes_on note_goes_on x (λ b. or_right (is_mark b) (goes_on b)) in
-    elim (length_at-reaches f.length x good.length) [ inl shorter ↦ inl (shorter.0, wider shorter.1) | inr same ↦ inr (rw same refl) ]
-
 marks-read : (f : NoteForm) (x : List ℕ) → IsNote f → Ends x f (finish f.sign f.low f.letter (span_all is_mark (f.marks ++ length_then f.length x)))
 unfolding finish
 marks-read f x good =
@@ -150,7 +143,10 @@ marks-read f x good =
         | inl other ↦ absurd (both_ways (begins is_mark y) other shorter.1)
         | inr empty ↦ inl (omega (arith, shorter.0, ap length empty, length-length_at rest), wider (ap (begins is_mark) (sym empty) ∙ shorter.1))
       ]
-      | inr same ↦ rw (same, append-nil) (exact f x good)
+      | inr same ↦ rw (same, append-nil) (elim (length_at-reaches f.length x good.length) [
+        | inl shorter ↦ inl (shorter.0, begins_wider goes_on note_goes_on x (λ b. or_right (is_mark b) (goes_on b)) shorter.1)
+        | inr exact ↦ inr (rw exact refl)
+      ])
     ])
 
 pub note_at-reaches : (f : NoteForm) (x : List ℕ) → IsNote f → NoteStops x f (note_at (note_then f x))

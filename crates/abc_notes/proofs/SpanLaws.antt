@@ -23,8 +23,7 @@ span-nil p zero = refl
 span-nil p (suc n) = refl
 
 -- what holds where nothing more passes, and in front of what passes where it holds behind it, holds of each text
-span_by : (p : ℕ → Bool) (P : ℕ → List ℕ → List ℕ × List ℕ → Type 0) →
-    ((n : ℕ) (s : List ℕ) → (length s ≤ n → begins p s ≡ false) → P n s ([], s)) →
+span_by : (p : ℕ → Bool) (P : ℕ → List ℕ → List ℕ × List ℕ → Type 0) → ((n : ℕ) (s : List ℕ) → (length s ≤ n → begins p s ≡ false) → P n s ([], s)) →
     ((n x : ℕ) (s : List ℕ) → p x ≡ true → P n s (span p n s) → P (suc n) (x ∷ s) (x ∷ (span p n s).0, (span p n s).1)) →
     (n : ℕ) (s : List ℕ) → P n s (span p n s)
 span_by p P stops goes zero [] = rw span-zero (stops zero [] (λ h. refl))

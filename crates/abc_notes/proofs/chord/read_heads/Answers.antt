@@ -7,8 +7,7 @@ parts-smaller c = inner_less c.args.bang (found_inner c.args.bang c.parts.rest.n
 
 pub parts-preserved : goal.parts-preserved
 parts-preserved c =
-    let found = found_inner c.args.bang c.parts.rest.now c.in-Some.ensures in
-    let next = c.in_ok-last.ensures in
+    let found = found_inner c.args.bang c.parts.rest.now c.in-Some.ensures in let next = c.in_ok-last.ensures in
     record {
       heads = heads-next c.args.bang found c.parts.heads c.parts.last next.heads next.last c.parts.invariant.heads;
       within = omega (arith, inner_less c.args.bang found, c.parts.invariant.within);

@@ -1,9 +1,9 @@
 use Rattle.std.proofs.Common.{rules, ◌≡◌, ◌^◌, arith, ap, sym, ◌∙◌, Some, length, take, drop, ◌-◌, ◌+◌, ◌≤◌, ◌∷◌, ◌||◌, eqb-true}
 use Rattle.abc_notes.proofs.CrossLaws.{brace_upto, passing-begins, passing-found, closing-behind, rest-behind, passing-small, passing-size}
 use Rattle.abc_notes.proofs.CrossLaws.{passing-next, passing-ends, chord-within, clear-none, item-brace, item-at, length_shorter, brace_fits}
-use Rattle.abc_notes.proofs.{CrossLaws.{past_is, chord-brace}, InnerLaws.{found_inner, none_inner, inner_less}, CutLaws.none_left, PartLaws.all_within}
+use Rattle.abc_notes.proofs.{CrossLaws.{past_is, chord-brace}, InnerLaws.{found_inner, none_inner, inner_less}, PartLaws.all_within}
 use Rattle.abc_notes.proofs.GraceLaws.{found_part, none_part, part_less, seeking-begins, seeking-next, seeking-ends, brace_within}
-use Rattle.abc_notes.specs.{Items.is_note, Graces.is_in_grace}
+use Rattle.abc_notes.{specs.{Items.is_note, Graces.is_in_grace}, proofs.CutLaws.none_left}
 use Rattle.abc_notes.proofs.grace.+braces.Goals as goal
 
 pub brace_at-parts-init : goal.brace_at-parts-init
@@ -38,8 +38,7 @@ brace_behind_chords-parts-init t c = passing-begins c.args.bang c.args.inside.no
 
 pub brace_behind_chords-brace_between-requires : goal.brace_behind_chords-brace_between-requires
 brace_behind_chords-brace_between-requires t c =
-    let stage = c.parts.invariant in
-    let small = passing-small c.args.bang stage (2 ^ 30) c.requires.small in
+    let stage = c.parts.invariant in let small = passing-small c.args.bang stage (2 ^ 30) c.requires.small in
     (omega (arith, c.decreases, passing-size c.args.bang stage), (small, closing-behind c.args.bang stage c.bracket_in_name-closing.ensures))
 
 pub brace_behind_chords-parts-smaller : goal.brace_behind_chords-parts-smaller
@@ -47,8 +46,7 @@ brace_behind_chords-parts-smaller t c = inner_less c.args.bang (found_inner c.ar
 
 pub brace_behind_chords-parts-preserved : goal.brace_behind_chords-parts-preserved
 brace_behind_chords-parts-preserved t c =
-    let stage = c.parts.invariant in
-    let f = found_inner c.args.bang c.parts.rest.now c.in-Some.ensures in
+    let stage = c.parts.invariant in let f = found_inner c.args.bang c.parts.rest.now c.in-Some.ensures in
     let head = c.either-head.ensures ∙ ap (λ b. c.parts.head || b) (c.is_note.ensures ∙ ap is_note f.says) in
     let bracket = rw c.bracket_in_name-closing.ensures at c.later_or-bracket.ensures in
     let found = (rw c.brace_between.ensures at c.later_or-last.ensures) ∙ passing-found c.args.bang stage c.bracket_in_name-closing.ensures in
@@ -56,8 +54,7 @@ brace_behind_chords-parts-preserved t c =
 
 pub brace_behind_chords-brace_between-requires-2 : goal.brace_behind_chords-brace_between-requires-2
 brace_behind_chords-brace_between-requires-2 t c =
-    let stage = c.parts.invariant in
-    let small = passing-small c.args.bang stage (2 ^ 30) c.requires.small in
+    let stage = c.parts.invariant in let small = passing-small c.args.bang stage (2 ^ 30) c.requires.small in
     (omega (arith, c.decreases, passing-size c.args.bang stage), (small, rest-behind c.args.bang stage))
 
 pub brace_behind_chords-returns-clause-read : goal.brace_behind_chords-returns-clause-read

@@ -8,8 +8,7 @@ returns-then-is_empty-clause-fault c =
 
 pub returns-in-Some-clause-fault : goal.returns-in-Some-clause-fault
 returns-in-Some-clause-fault c =
-    let some = eqb-false _ 0 (sym c.is_empty.ensures ∙ c.if-is_empty.false) in
-    let flaw = c.in-Some.ensures in
+    let some = eqb-false _ 0 (sym c.is_empty.ensures ∙ c.if-is_empty.false) in let flaw = c.in-Some.ensures in
     grace-flawed c.args.bang _ c.args.bytes.now _ _ _ c.in-Some.flaw c.skip.ensures.read c.braced.ensures.read some c.requires.none flaw.0 flaw.1
 
 pub returns-in-None-clause-fault : goal.returns-in-None-clause-fault
