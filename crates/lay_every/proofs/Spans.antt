@@ -1,7 +1,7 @@
 -- Every score has a list of the spans that fit a width.
 use Rattle.std.{proofs.Common.{◌≡◌, ℕ, zero, suc, ◌+◌, ◌-◌, ◌<◌, ◌≤◌, ◌^◌, ◌⊎◌, ◌==◌, inl, inr, Bool, true, false, List, [], ◌∷◌, ◌++◌, length, length-append, Option, None, Some, IfSome, option_map, unwrap_or, slice_get, slice_index, refl, subst, arith}, specs.List.All}
 use Rattle.{mus_score.specs.{declared.score.Score.Score, GoodScore.IsGoodScore}, lay_breaks.specs.{declared.costs.Span.Span, Spans.AreSpans}, lay_rows.specs.Tables.{IsTable}}
-use Rattle.lay_springs.{specs.{Place.{length_at, reach_at}, Stands.reach_in_near}, proofs.{Ends.spring_short, Placing.near_at}}
+use Rattle.lay_springs.{specs.{Place.{length_at, reach_at}, Stands.reach_in_near}, proofs.{Ends.lengths_short, Placing.near_at}}
 use Rattle.lay_columns.{specs.{declared.column.Column.Column, Column.{length_scales, length_short}, Columns.column_reach}, proofs.Gaps.gaps_narrow}
 use Rattle.lay_spans.specs.{Badness.badness_of, Columns.{AreMeasures, span_columns}, Forced.is_forced, Rows.{IsRowFrom, rows_spans}, SpanList.IsCost}
 use Rattle.lay_spans.proofs.{Adding.columns_some, Growing.{costs_more, free_more, rows_are_spans, rows_tell_spans, stops_at, stops_behind}}
@@ -12,11 +12,7 @@ pub columns_near : (columns : List Column) (k lane : ℕ) → IfSome (reach_at c
 columns_near columns k lane = near_at column_reach columns (λ r. (r.left ≤ 1048576) × (r.right ≤ 1048576)) lane (λ c. reach_in_near c.reaches lane) k
 
 pub columns_short : (columns : List Column) (force i : ℕ) → force ≤ 2048 → length_at column_length columns force i ≤ 1048576
-columns_short columns force i bound = by (slice_get columns i)
-  where
-    by : (o : Option Column) → unwrap_or (option_map (λ c. column_length c force) o) 0 ≤ 1048576
-    by None = omega arith
-    by (Some c) = spring_short (column_length c 256) force (column_length c force) (column_length c force) (length_short c.natural) (length_scales c.natural force) (omega (arith, bound)) refl
+columns_short columns force i bound = lengths_short column_length columns force i (λ c. length_short c.natural) (λ c. length_scales c.natural force) (omega (arith, bound))
 
 module _ (gaps : List ℕ) (width : ℕ) (narrow : All (λ g. g ≤ 2 ^ 20) gaps) where
   pub has_force_in : (columns : List Column) → 0 < length columns → ((force : ℕ) × IsForceOf gaps width columns force) ⊎ (CanStandIn gaps width columns → ⊥)

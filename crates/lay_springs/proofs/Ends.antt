@@ -1,5 +1,5 @@
 -- The end of the columns, and how it grows with the force.
-use Rattle.std.proofs.{Common.{◌≡◌, ℕ, ◌+◌, ◌-◌, ◌*◌, ◌/◌, ◌<◌, ◌≤◌, ℤ, pos, ◌+ℤ◌, ◌≤ℤ◌, List, Option, None, Some, option_map, unwrap_or, slice_get, arith, sym, ◌∙◌}, lemmas.{Int.ints, Option.same_Some}, Math.Nat.{mul-le-mul_left, mul-le-mul_right}}
+use Rattle.std.proofs.{Common.{◌≡◌, ℕ, ◌+◌, ◌-◌, ◌*◌, ◌/◌, ◌<◌, ◌≤◌, ℤ, pos, ◌+ℤ◌, ◌≤ℤ◌, List, Option, None, Some, option_map, unwrap_or, slice_get, arith, sym, ◌∙◌, refl}, lemmas.{Int.ints, Option.same_Some}, Math.Nat.{mul-le-mul_left, mul-le-mul_right}}
 use Rattle.lay_springs.{specs.{declared.traits.Reach.Reach, Place.{length_at, StandApart}, Fit.{IsEndOf, EndsAt}}, proofs.Clear.below_or_at}
 
 pub end_more : (reach : ℕ → Option Reach) (lane : ℕ) (at old new : ℤ) (r : Reach) → reach lane ≡ Some r
@@ -40,3 +40,12 @@ length_rises len cols f g le i = at (slice_get cols i)
     at : (o : _) → unwrap_or (option_map (λ c. len c f) o) 0 ≤ unwrap_or (option_map (λ c. len c g) o) 0
     at None = omega arith
     at (Some c) = le c
+
+-- and are short at a small force
+pub lengths_short : {C : Type 0} (len : C → ℕ → ℕ) (cols : List C) (force i : ℕ) → ((c : C) → len c 256 ≤ 4096) → ((c : C) → len c force ≡ len c 256 * force / 256) → force < 65536
+    → length_at len cols force i ≤ 1048576
+lengths_short len cols force i short scales small = at (slice_get cols i)
+  where
+    at : (o : _) → unwrap_or (option_map (λ c. len c force) o) 0 ≤ 1048576
+    at None = omega arith
+    at (Some c) = spring_short (len c 256) force (len c force) (len c force) (short c) (scales c) small refl

@@ -25,7 +25,7 @@ pub(crate) fn end_of<C: Spaced>(col: &C, lanes: usize, at: i64) -> i64
 }
 
 /// None where the columns end within the width at a force. Otherwise a force from which on they
-/// can't: at most that force, and 0 only where it is 0.
+/// can't: at most that force.
 fn too_great<C: Spaced + Spring>(
     cols: &[C],
     gaps: &[u32],
@@ -45,7 +45,6 @@ fn too_great<C: Spaced + Spring>(
     ensures placed { HasPlaced (length cols.now) (reach_at C.reach_of cols.now) gaps.now (length_at C.length_of cols.now) placed.new at.new front.new }
     ensures fits { IfNone result (Fits (length cols.now) (reach_at C.reach_of cols.now) gaps.now (length_at C.length_of cols.now) width force) }
     ensures below { IfSome result (λ past. past ≤ force) }
-    ensures zero { IfSome result (λ past. past ≡ 0 → Passes (length cols.now) (reach_at C.reach_of cols.now) gaps.now (length_at C.length_of cols.now) width 0) }
     ensures never { IfSome result (λ past. (g : ℕ) → past ≤ g
         → CanStand (length cols.now) (reach_at C.reach_of cols.now) gaps.now (length_at C.length_of cols.now) width g → ⊥) }
 {

@@ -5,19 +5,17 @@ use crate::progress::{Progress, Tight};
 use crate::traits::{Spaced, Spring};
 
 /// A force from which on none but `force` itself lets columns end within a width that they pass
-/// by `over` at `force`; 0 only where that is 0.
+/// by `over` at `force`.
 pub(crate) fn lowered(force: u16, over: u64, tight: Tight) -> u16
     requires over { over ≤ 2 ^ 49 }
     requires few { tight.count ≤ 2 ^ 26 }
     requires natural { tight.natural ≤ 2 ^ 38 }
     ensures below { result ≤ force }
-    ensures zero { result ≡ 0 → force ≡ 0 }
     ensures past { (g drop : ℕ) → g + drop ≡ force → 0 < drop → result ≤ g → slack tight.natural tight.count drop < over }
 {
     let room = (256 * over).saturating_sub(255 * tight.count);
     let steps = room.saturating_sub(1) / tight.natural.max(1);
-    let least = u64::from(force.min(1));
-    u64::from(force).saturating_sub(steps).max(least) as u16
+    u64::from(force).saturating_sub(steps) as u16
 }
 
 /// The greatest force below `high` that leaves at most `half` answers of `low` to `high` if it fits.
@@ -70,7 +68,7 @@ fn stretched<C: Spaced + Spring>(cols: &[C], at: &[i64], placed: Progress) -> St
 }
 
 /// A force from which on, up to that of the placed columns, those and the springs behind them pass
-/// the width; one more where they don't. It is at least 1.
+/// the width; one more where they don't.
 pub(crate) fn too_long<C: Spaced + Spring>(
     cols: &[C],
     width: u32,
@@ -85,7 +83,6 @@ pub(crate) fn too_long<C: Spaced + Spring>(
     requires begins { pos 0 ≤ℤ slice_index_or at.now (placed.count - 1) (pos 0) }
     requires small { slice_index_or at.now (placed.count - 1) (pos 0) ≤ℤ pos (1048576 + 3145728 * (placed.count - 1)) }
     requires force { placed.force ≤ 2048 }
-    ensures some { 0 < result }
     ensures bound { result ≤ placed.force + 1 }
     ensures never { (gaps : List ℕ) → IsNear placed.count (reach_at C.reach_of cols.now) gaps (length_at C.length_of cols.now) placed.force placed.tight.natural placed.tight.count at.now
         → (f : ℕ) → result ≤ f → f ≤ placed.force → CanStand (length cols.now) (reach_at C.reach_of cols.now) gaps (length_at C.length_of cols.now) width f → ⊥ }
@@ -95,5 +92,5 @@ pub(crate) fn too_long<C: Spaced + Spring>(
     if end <= width {
         return placed.force + 1;
     }
-    lowered(placed.force, (end - width) as u64, springs).max(1)
+    lowered(placed.force, (end - width) as u64, springs)
 }

@@ -1,5 +1,6 @@
-use Rattle.std.proofs.{Common.{◌-◌, arith, inl, inr}, lemmas.Bool.cases_lt}
-use Rattle.lay_springs.proofs.{Longer.stands, forces.fit_within.Goals.{then-placed-gt0, else-placed-gt0}}
+use Rattle.std.proofs.{Common.{◌-◌, length, arith, inl, inr}, lemmas.Bool.cases_lt}
+use Rattle.lay_springs.specs.Place.{reach_at, length_at}
+use Rattle.lay_springs.proofs.{Longer.stands, Ends.lengths_short, Made.fits_or_passes, Placing.near_at, forces.fit_within.Goals.{then-placed-gt0, else-placed-gt0}}
 use Rattle.lay_springs.proofs.forces.fit_within.Goals as goal
 
 pub loop-low-preserved : goal.loop-low-preserved
@@ -15,12 +16,21 @@ loop-low-preserved g c =
       placed = c.too_great.ensures.placed;
       fits = i.fits;
       never = λ f from _ stood. c.in-Some.ensures.never f from stood;
-      passes = c.in-Some.ensures.zero;
     }
 
 pub returns-else-low-eq0-clause-greatest : goal.returns-else-low-eq0-clause-greatest
 returns-else-low-eq0-clause-greatest g c = λ f past within stood.
     c.loop-low.invariant.never f (let done = c.loop-low-test.false in let some = c.if-low-eq0.false in omega arith) within stood
+
+pub returns-then-low-eq0-clause-none : goal.returns-then-low-eq0-clause-none
+returns-then-low-eq0-clause-none g c =
+    let len = length_at g.C.Spring.length_of c.args.cols.now in
+    elim (fits_or_passes (length c.args.cols.now) (reach_at g.C.Spaced.reach_of c.args.cols.now) c.args.gaps.now len c.args.width 0 c.requires.some
+    (λ k lane l. near_at g.C.Spaced.reach_of c.args.cols.now _ lane (λ col. g.met.C.Spaced.is_near col lane (let few = c.requires.lanes in omega arith)) k) c.requires.narrow
+    (λ i. lengths_short g.C.Spring.length_of c.args.cols.now 0 i g.met.C.Spring.is_short (λ col. g.met.C.Spring.scales col 0) (omega arith))) [
+      | inl fits ↦ absurd (c.loop-low.invariant.never 0 (let done = c.loop-low-test.false in let none = c.if-low-eq0.true in omega arith) (omega arith) (stands _ _ _ _ _ _ fits))
+      | inr passes ↦ passes
+    ]
 
 pub loop-low-init : goal.loop-low-init
 loop-low-init g c =
@@ -36,7 +46,6 @@ loop-low-init g c =
         placed = c.requires.placed;
         fits = λ some. absurd (omega arith);
         never = λ f from within stood. omega arith;
-        passes = λ none. absurd (omega arith);
       })
       | else-placed-gt0 w ↦
           let e = w.too_long-high.ensures in let placed = w.place_to.ensures.placed in let same = w.place_to.ensures.force in let bound = rw same at e.bound in
@@ -49,7 +58,6 @@ loop-low-init g c =
             room = let r = c.requires.room in let a = w.place_to.auto.at in omega arith;
             one_each = let o = c.requires.one_each in let a = w.place_to.auto.front in omega arith;
             fits = λ some. absurd (omega arith);
-            passes = λ none. absurd (let some = e.some in omega arith);
             never = λ f from within stood. e.never c.args.gaps.now placed.placed.near f from (omega arith) stood;
           })
     ]

@@ -1,5 +1,5 @@
 use Rattle.std.proofs.{Common.{◌≡◌, ◌-◌, ◌+◌, pos, ◌≤ℤ◌, ◌<ℤ◌, length, take, Some, subst, sym, inl, inr, slice_get, slice_index_or, arith, refl, to_z, of_z, w64}, lemmas.{Bool.cases_lt, Int.ints, List.get_or-take, Option.slice_get_read}}
-use Rattle.lay_springs.{specs.{Fit.{IsEndOf, EndsAt, Passes}, Place.{reach_at, length_at}}, proofs.{Placing.reach_is, Near.end_near, Ends.{length_rises, spring_rises}, Longer.cannot_stand, forces.too_great.Goals.{After-end_of-end, After-lowered}}}
+use Rattle.lay_springs.{specs.{Fit.{IsEndOf, EndsAt}, Place.{reach_at, length_at}}, proofs.{Placing.reach_is, Near.end_near, Ends.{length_rises, spring_rises}, Longer.cannot_stand, forces.too_great.Goals.{After-end_of-end, After-lowered}}}
 use Rattle.lay_springs.proofs.forces.too_great.Goals as goal
 
 module _ (g : _) (c : After-end_of-end g) where
@@ -45,12 +45,6 @@ lowered-requires-clause-over g c = let s = (goal.at.lowered-requires-clause-over
 
 over : (g : _) (c : After-lowered g) → pos 0 ≤ℤ c.end_of-end.result → c.end_of-end.result ≤ℤ pos 562949953421312 → pos c.args.width <ℤ c.end_of-end.result
 over g c low high = let more = c.if-end-from.false in let width = c.from.ensures in omega (arith, ints)
-
-pub returns-clause-zero : goal.returns-clause-zero
-returns-clause-zero g c = λ none.
-    let s = (goal.at.returns-clause-zero g c).After-end_of-end in
-    subst (λ f. Passes (length c.args.cols.now) (reach_at g.C.Spaced.reach_of c.args.cols.now) c.args.gaps.now (length_at g.C.Spring.length_of c.args.cols.now) c.args.width f)
-    (c.lowered.ensures.zero none) (c.end_of-end.result, ends g s, over g (goal.at.returns-clause-zero g c).After-lowered (past g s) (below g s))
 
 pub returns-clause-never : goal.returns-clause-never
 returns-clause-never g c = λ f from stood.

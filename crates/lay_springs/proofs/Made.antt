@@ -1,6 +1,6 @@
--- There is a place of any columns.
-use Rattle.std.{specs.{Int.int_max}, proofs.{Common.{◌≡◌, ℕ, zero, suc, ◌+◌, ◌-◌, ◌*◌, ◌<◌, ◌≤◌, subst, ℤ, pos, ◌+ℤ◌, ◌≤ℤ◌, List, length, take, replicate, Option, None, Some, IfSome, slice_index, slice_index_or, slice_set, sym, ap, ◌∙◌, arith, refl}, lemmas.{Int.{ints, clamps}, List.{length-set, length-replicate}}}}
-use Rattle.lay_springs.{specs.{declared.traits.Reach.Reach, Place.{IsPlacedTo, IsPlace}}, proofs.{Clear.below_or_at, Longer.fewer_apart, Placing.{placed_first, placed_more, place_of}}}
+-- There is a place of any columns, and it ends within the width or passes it.
+use Rattle.std.{specs.{Int.int_max, Prelude.◌<ℤ◌}, proofs.{Common.{◌≡◌, ℕ, zero, suc, ◌+◌, ◌-◌, ◌*◌, ◌<◌, ◌≤◌, ◌⊎◌, inl, inr, subst, ℤ, pos, negsuc, ◌+ℤ◌, ◌≤ℤ◌, List, length, take, replicate, Option, None, Some, IfSome, slice_index, slice_index_or, slice_set, sym, ap, ◌∙◌, arith, refl}, lemmas.{Int.{ints, clamps}, Bool.cases_lt, List.{length-set, length-replicate}}}}
+use Rattle.lay_springs.{specs.{declared.traits.Reach.Reach, Place.{IsPlacedTo, IsPlace}, Fit.{IsEndOf, EndsAt, Fits, Passes}}, proofs.{Clear.below_or_at, Longer.fewer_apart, Placing.{placed_first, placed_more, place_of}}}
 
 -- the least number that is at least `from` and whatever is asked
 pub record Top (from : ℤ) (Asked : ℤ → Type 0) : Type 0 where
@@ -115,3 +115,23 @@ module _ (n : ℕ) (reach : ℕ → ℕ → Option Reach) (gaps : List ℕ) (spr
   has_place some =
       let p = placed_to (n - 1) (omega arith) in let e : n - 1 + 1 ≡ n = omega arith in let count = p.1 in
       (take n p.0, place_of n reach gaps (λ _. spring) 0 0 0 p.0 (omega (arith, count)) (subst (λ j. IsPlacedTo j reach gaps (λ _. spring) 0 0 0 p.0) e p.2))
+
+has_end : (reach : ℕ → Option Reach) (lanes : ℕ) (at : ℤ) → (e : ℤ) × IsEndOf reach lanes at e
+has_end reach lanes at =
+    let t = top_of (λ lane w. AskedAt (reach lane) (λ r. at +ℤ pos r.right) w) (λ lane from. top_at (reach lane) (λ r. at +ℤ pos r.right) from) lanes at in (
+      t.v,
+      record { past = t.past; reaches = λ lane r l e. t.all _ (record { by = lane; within = l; asks = (r, e, refl) }); least = λ v p q. t.least v p (λ w a. rw a.asks.2 (q a.by a.asks.0 a.within a.asks.1)) },
+    )
+
+within_or_past : (e : ℤ) (width : ℕ) → (e ≤ℤ pos width) ⊎ (pos width <ℤ e)
+within_or_past (pos k) width = elim (cases_lt width k) [ inl lt ↦ inr (omega (arith, ints, lt)) | inr ge ↦ inl (omega (arith, ints, ge)) ]
+within_or_past (negsuc k) width = inl (omega (arith, ints))
+
+pub fits_or_passes : (n : ℕ) (reach : ℕ → ℕ → Option Reach) (gaps : List ℕ) (spring : ℕ → ℕ → ℕ) (width force : ℕ) → 0 < n
+    → ((k lane : ℕ) → lane < length gaps → IfSome (reach k lane) (λ r. (r.left ≤ 1048576) × (r.right ≤ 1048576)))
+    → ((lane : ℕ) → lane < length gaps → slice_index gaps lane ≤ 1048576) → ((i : ℕ) → spring force i ≤ 1048576)
+    → Fits n reach gaps spring width force ⊎ Passes n reach gaps spring width force
+fits_or_passes n reach gaps spring width force some near narrow short =
+    let p = has_place n reach gaps (spring force) near narrow short some in let e = has_end (reach (n - 1)) (length gaps) (slice_index_or p.0 (n - 1) (pos 0)) in
+    let ends : EndsAt n reach gaps spring force e.0 = record { x = p.0; place = p.1; end = e.1 } in
+    elim (within_or_past e.0 width) [ inl l ↦ inl (e.0, ends, l) | inr g ↦ inr (e.0, ends, g) ]
