@@ -1,6 +1,6 @@
 -- What stands furthest right in each lane.
-use Rattle.std.proofs.{Common.{get_or-set_same, get_or-set_other, slice_set, ◌≡◌, ℕ, ◌+◌, ◌*◌, ◌^◌, ◌<◌, ◌≤◌, inl, inr, ℤ, pos, negsuc, ◌+ℤ◌, ◌≤ℤ◌, List, length, Option, None, Some, IfSome, slice_index, slice_index_or, sym, ◌∙◌, arith, refl}, lemmas.{Bool.{cases_eq, eq-eqb, ne_eqb}, Int.ints, Option.{same_Some, none-some}}}
-use Rattle.lay_springs.{specs.{declared.traits.{Reach.Reach, Stand.Stand, Stands.Stands}, Stands.{IsLone, TellsReach}, Place.{IsClear, StandApart, IsPlacedTo, IsFront, IsPast, Advances}}, proofs.Clear.below_or_at}
+use Rattle.std.proofs.{Common.{get_or-set_same, get_or-set_other, slice_set, ◌≡◌, ℕ, ◌+◌, ◌*◌, ◌^◌, ◌<◌, ◌≤◌, inl, inr, ℤ, pos, negsuc, ◌+ℤ◌, ◌≤ℤ◌, List, length, Option, None, Some, IfSome, slice_index, slice_index_or, sym, ◌∙◌, arith, refl}, lemmas.{Bool.{cases_eq, eq-eqb, ne_eqb}, Int.ints, Option.{same_Some, none-some, slice_get_past}}}
+use Rattle.lay_springs.{specs.{declared.traits.{Reach.Reach, Stand.Stand, Stands.Stands}, Stands.{IsLone, TellsReach, reach_in}, Place.{IsClear, StandApart, IsPlacedTo, IsFront, IsPast, Advances}}, proofs.Clear.below_or_at}
 
 abbrev at : List ℤ → ℕ → ℤ
 at x k = slice_index_or x k (pos 0)
@@ -64,6 +64,24 @@ module _ (reach : ℕ → ℕ → Option Reach) (lanes j : ℕ) (v : ℤ) where
             → (k : ℕ) × (r : Reach) × (k < j + 1) × (reach k lane ≡ Some r) × (at front' lane ≡ (at x' k +ℤ pos r.right))
         stood lane lt None e h some = old lane lt h some
         stood lane lt (Some r) e h some = elim h.2 [ inl q ↦ old lane lt q some | inr q ↦ (j, r, omega arith, e, rw here q) ]
+
+-- a column past what stands before it in each lane stands behind that
+pub each_behind : (reach : ℕ → Option Reach) (gaps : List ℕ) (lanes : ℕ) (front : List ℤ) (v : ℤ) → pos 0 ≤ℤ v → IsPast reach gaps lanes front v
+    → (lane : ℕ) → lane < lanes → IfSome (reach lane) (λ r. at front lane ≤ℤ v)
+each_behind reach gaps lanes front v begins past lane l = one (reach lane) refl
+  where
+    behind : (end : ℤ) (room : ℕ) → (pos 0 ≤ℤ end → (end +ℤ pos room) ≤ℤ v) → end ≤ℤ v
+    behind (pos k) room past = let p = past (omega (arith, ints)) in omega (arith, ints)
+    behind (negsuc k) room past = omega (arith, ints)
+
+    one : (o : Option Reach) → reach lane ≡ o → IfSome o (λ r. at front lane ≤ℤ v)
+    one None e = tt
+    one (Some r) e = behind (at front lane) (slice_index gaps lane + r.left) (past lane r l e)
+
+-- a column stands in no lane past its row
+pub none_past : (row : List (Option Reach)) (lane : ℕ) → length row ≤ lane → reach_in row lane ≡ None
+unfolding reach_in
+none_past row lane l = rw (slice_get_past row lane l) refl
 
 pub front_start : (reach : ℕ → ℕ → Option Reach) (lanes : ℕ) (x front : List ℤ) → ((lane : ℕ) → lane < lanes → at front lane ≡ negsuc 0) → IsFront 0 reach lanes x front
 front_start reach lanes x front h = record {

@@ -1,6 +1,6 @@
 -- Columns that continue others: they need more room, and those are still placed.
-use Rattle.std.proofs.{Common.{◌≡◌, ℕ, zero, suc, ◌+◌, ◌-◌, ◌*◌, ◌<◌, ◌≤◌, ℤ, pos, ◌≤ℤ◌, List, [], ◌∷◌, ◌++◌, length, Option, option_map, option_and_then, unwrap_or, slice_get, slice_index_or, arith, sym, ◌∙◌, ap, refl, length-append}, lemmas.{Int.ints, List.get_or_append_left, Nat.le-div}}
-use Rattle.lay_springs.{specs.{declared.{traits.Reach.Reach, progress.Progress.Progress}, Place.{reach_at, length_at, StandApart, HasPlaced}, Fit.{Fits, Passes, CanStand, StandsInAll, LongerFitsLess, most_columns}}, proofs.{Ends.apart_down, Moved.moved_apart}}
+use Rattle.std.proofs.{Common.{◌≡◌, ℕ, zero, suc, ◌+◌, ◌-◌, ◌*◌, ◌<◌, ◌≤◌, ℤ, pos, ◌≤ℤ◌, List, [], ◌∷◌, ◌++◌, length, Option, option_map, option_and_then, unwrap_or, slice_get, slice_index_or, arith, sym, ◌∙◌, ap, subst, refl, length-append}, lemmas.{Int.ints, List.get_or_append_left, Nat.le-div}}
+use Rattle.lay_springs.{specs.{declared.{traits.Reach.Reach, progress.Progress.Progress}, Place.{reach_at, length_at, StandApart, IsFirst, HasPlaced}, Fit.{Fits, Passes, CanStand, StandsInAll, LongerFitsLess, most_columns}}, proofs.{Ends.apart_down, Moved.moved_apart}}
 
 pub stands : (n : ℕ) (reach : ℕ → ℕ → Option Reach) (gaps : List ℕ) (spring : ℕ → ℕ → ℕ) (width force : ℕ) → Fits n reach gaps spring width force → CanStand n reach gaps spring width force
 stands n reach gaps spring width force h = record {
@@ -80,6 +80,8 @@ placed_on {C} reach len short rest gaps p x more fronts room h = record {
     apart = moved_apart p.count (reach_at reach (short ++ rest)) gaps (length_at len (short ++ rest) p.force) x (x ++ more) 0 1 (omega arith) (λ k l. rw (stays k l) (omega (arith, ints)))
         (fewer_apart p.count p.count _ _ gaps (length_at len (short ++ rest) p.force) (length_at len short p.force) x (omega arith)
         (λ i lane l. sym (same i lane l)) (λ i l. sym (same_length p.force i l)) h.placed.apart);
+    first = λ some. rw (stays 0 some) (subst (λ r. IsFirst r (length gaps) (slice_index_or x 0 (pos 0)))
+        (sym (ap (λ o lane. option_and_then (λ c. reach c lane) o) (get_front short rest 0 (let w = h.within in omega arith)))) (h.placed.first some));
     near = λ g drop y e apart k l. rw (stays k l) (h.placed.near g drop y e
         (fewer_apart p.count p.count _ _ gaps (length_at len short g) (length_at len (short ++ rest) g) y (omega arith) same (same_length g) apart) k l);
     small = λ k l. rw (stays k l) (h.placed.small k l);

@@ -11,6 +11,7 @@ module _ (reach : ℕ → ℕ → Option Reach) (gaps : List ℕ) (spring : ℕ 
       → ((w : ℤ) → pos 0 ≤ℤ w → IsInside (reach 0) (length gaps) w → v ≤ℤ w) → v ≤ℤ pos 1048576 → IsPlacedTo 1 reach gaps spring force 0 0 (slice_set x 0 v)
   placed_first x v room begins inside least small = record {
     apart = record { begins = λ _. rw here begins; head = λ _. rw here inside; lanes = λ i j lt le. absurd (omega arith); steps = λ i l. absurd (omega arith); springs = λ i l. absurd (omega arith) };
+    first = λ _. rw here (record { begins = begins; inside = inside; least = least });
     near = λ g drop y e h k l. let z : 0 ≡ k = omega arith in let first = least (at y 0) (h.begins (omega arith)) (h.head (omega arith)) in
         subst (λ k. at (slice_set x 0 v) k ≤ℤ (at y k +ℤ pos (slack 0 0 drop))) z (rw here (omega (arith, ints)));
     small = λ k l. let z : 0 ≡ k = omega arith in
@@ -40,6 +41,7 @@ module _ (reach : ℕ → ℕ → Option Reach) (gaps : List ℕ) (spring : ℕ 
           (λ l e. rw (same i (omega arith), same (i + 1) l) (h.apart.springs i l))
           (λ e. rw (same i (omega arith), here) (spr i (sym e))) refl;
     };
+    first = λ _. rw (same 0 pos_j) (h.first pos_j);
     near = λ g drop y e a k l. below_or_at (λ k. at x' k ≤ℤ (at y k +ℤ pos (slack natural' count' drop))) k j l
         (λ l. let old = h.near g drop y e (fewer_apart j (j + 1) reach reach gaps (spring g) (spring g) y (omega arith) (λ i lane l. refl) (λ i l. refl) a) k l in let up = slack_up natural count natural' count' drop more many in rw (same k l) (omega (arith, ints)))
         (rw here (near g drop y e a));

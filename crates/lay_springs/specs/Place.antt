@@ -18,6 +18,12 @@ IsClear first second gaps lanes at v = (lane : ℕ) (r s : Reach) → lane < lan
 abbrev pub IsInside : (ℕ → Option Reach) → ℕ → ℤ → Type 0
 IsInside reach lanes v = (lane : ℕ) (s : Reach) → lane < lanes → reach lane ≡ Some s → pos s.left ≤ℤ v
 
+-- v is the least abscissa at which a column begins so
+pub record IsFirst (reach : ℕ → Option Reach) (lanes : ℕ) (v : ℤ) : Type 0 where
+  pub begins : pos 0 ≤ℤ v
+  pub inside : IsInside reach lanes v
+  pub least : (w : ℤ) → pos 0 ≤ℤ w → IsInside reach lanes w → v ≤ℤ w
+
 -- the first n columns, at the first n abscissas of x, stand apart
 pub record StandApart (n : ℕ) (reach : ℕ → ℕ → Option Reach) (gaps : List ℕ) (spring : ℕ → ℕ) (x : List ℤ) : Type 0 where
   pub begins : 0 < n → pos 0 ≤ℤ slice_index_or x 0 (pos 0)
@@ -51,6 +57,7 @@ pub record IsPlace (n : ℕ) (reach : ℕ → ℕ → Option Reach) (gaps : List
 -- the first j columns are placed at a force, behind such springs
 pub record IsPlacedTo (j : ℕ) (reach : ℕ → ℕ → Option Reach) (gaps : List ℕ) (spring : ℕ → ℕ → ℕ) (force natural count : ℕ) (x : List ℤ) : Type 0 where
   pub apart : StandApart j reach gaps (spring force) x
+  pub first : 0 < j → IsFirst (reach 0) (length gaps) (slice_index_or x 0 (pos 0))
   pub near : IsNear j reach gaps spring force natural count x
   pub small : (k : ℕ) → k < j → (pos 0 ≤ℤ slice_index_or x k (pos 0)) × (slice_index_or x k (pos 0) ≤ℤ pos (1048576 + 3145728 * k))
 

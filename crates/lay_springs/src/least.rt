@@ -1,5 +1,5 @@
-ghost use Rattle.std.specs.Prelude.{◌≡◌, ◌+◌, ◌*◌, ◌≢◌, ◌⊎◌, ◌^◌, ◌<◌, ◌≤◌, ℕ, ℤ, pos, negsuc, ◌+ℤ◌, ◌≤ℤ◌, IfOk, length, take, slice_index, slice_index_or, slice_set};
-ghost use Rattle.lay_springs.specs.{Stands.{reach_in}, Place.{reach_at, length_at, IsPlace, IsPlacedTo, IsNear, IsFront, HasPlaced, IsPast, Advances, IsInside}};
+ghost use Rattle.std.specs.Prelude.{◌≡◌, ◌+◌, ◌*◌, ◌≢◌, ◌⊎◌, ◌^◌, ◌<◌, ◌≤◌, ℕ, ℤ, pos, negsuc, ◌+ℤ◌, ◌≤ℤ◌, IfOk, IfSome, length, take, slice_index, slice_index_or, slice_set};
+ghost use Rattle.lay_springs.specs.{Stands.{reach_in}, Place.{reach_at, length_at, IsPlace, IsPlacedTo, IsNear, IsFront, HasPlaced, IsPast, IsFirst, Advances, IsInside}};
 
 use crate::progress::{Progress, Tight};
 use crate::traits::{Reach, Spaced, Spring, Stand, Stands, reach_in};
@@ -41,7 +41,7 @@ fn past_each(row: &[Option<Reach>], gaps: &[u32], front: &[i64], from: i64) -> i
     ensures least { (v : ℤ) → from ≤ℤ v → IsPast (reach_in row.now) gaps.now (length gaps.now) front.now v → result ≤ℤ v }
 {
     let mut next = from;
-    for lane in 0..gaps.len() {
+    for lane in 0..row.len().min(gaps.len()) {
         let Some(s) = reach_in(row, lane) else {
             continue;
         };
@@ -50,31 +50,32 @@ fn past_each(row: &[Option<Reach>], gaps: &[u32], front: &[i64], from: i64) -> i
     next
 }
 
-/// Takes note of a column at `at`.
+/// Takes note of a column at `at`, behind what stands in its lanes.
 fn advance_each(row: &[Option<Reach>], at: i64, front: &mut [i64])
     requires lanes { length front.old < 2 ^ 32 }
     requires begins { pos 0 ≤ℤ at }
     requires small { at ≤ℤ pos (2 ^ 62) }
+    requires behind { (lane : ℕ) → lane < length front.old → IfSome (reach_in row.now lane) (λ r. slice_index_or front.old lane (pos 0) ≤ℤ at) }
     ensures { (lane : ℕ) → lane < length front.old
         → Advances (reach_in row.now lane) at (slice_index_or front.old lane (pos 0)) (slice_index_or front.new lane (pos 0)) }
 {
-    for lane in 0..front.len() {
-        front[lane] = advanced(reach_in(row, lane), at, front[lane]);
+    for lane in 0..row.len().min(front.len()) {
+        let Some(r) = reach_in(row, lane) else {
+            continue;
+        };
+        front[lane] = at + i64::from(r.right);
     }
 }
 
-/// The front of a lane after a column at `at` that reaches so far in it.
-fn advanced(reach: Option<Reach>, at: i64, front: i64) -> i64
+/// The front of a lane in which a column at `at` that reaches so far stands first.
+fn begun_at(reach: Option<Reach>, at: i64) -> i64
     requires begins { pos 0 ≤ℤ at }
     requires small { at ≤ℤ pos (2 ^ 62) }
-    ensures { Advances reach at front result }
+    ensures { Advances reach at (negsuc 0) result }
 {
     match reach {
-        Some(r) => {
-            let end = at + i64::from(r.right);
-            if front < end { end } else { front }
-        }
-        None => front,
+        Some(r) => at + i64::from(r.right),
+        None => -1,
     }
 }
 
@@ -149,6 +150,20 @@ fn first_of<C: Spaced>(col: &C, lanes: usize) -> i64
         first = larger(first, i64::from(s.left));
     }
     first
+}
+
+/// Where the first of the columns stands, at whatever force: where it does already, if some are placed.
+fn first_at<C: Spaced>(cols: &[C], lanes: usize, at: &[i64], placed: usize) -> i64
+    requires some { 0 < length cols.now }
+    requires lanes { lanes < 2 ^ 32 }
+    requires room { length cols.now ≤ length at.now }
+    requires placed { 0 < placed → IsFirst (reach_at C.reach_of cols.now 0) lanes (slice_index_or at.now 0 (pos 0)) }
+    ensures { IsFirst (reach_at C.reach_of cols.now 0) lanes result }
+{
+    if 0 < placed {
+        return at[0];
+    }
+    first_of(&cols[0], lanes)
 }
 
 /// The least abscissa next to a column at `before` from which a spring leads.
@@ -247,7 +262,7 @@ fn begun<C: Spaced + Spring>(
     if 0 < placed.count && placed.force == force {
         return placed;
     }
-    let first = first_of(&cols[0], gaps.len());
+    let first = first_at(cols, gaps.len(), at, placed.count);
     at[0] = first;
     begin_fronts(&cols[0], first, front);
     Progress {
@@ -321,7 +336,7 @@ fn begin_fronts<C: Spaced>(col: &C, at: i64, front: &mut [i64])
 {
     let stands = col.stands();
     for lane in 0..front.len() {
-        front[lane] = advanced(stands.at(lane), at, -1);
+        front[lane] = begun_at(stands.at(lane), at);
     }
 }
 

@@ -1,11 +1,11 @@
-use Rattle.std.proofs.{Common.◌≡◌, Common.Some, Common.arith, Common.sym, Common.◌∙◌, lemmas.Int.ints}
-use Rattle.lay_springs.{specs.Stands.{reach_in, reach_in_near}, proofs.Fronts.past_more}
+use Rattle.std.proofs.{Common.{◌≡◌, ◌<◌, ◌≤◌, length, Some, arith, sym, ◌∙◌, inl, inr}, lemmas.{Bool.cases_lt, Int.ints, Option.none-some}}
+use Rattle.lay_springs.{specs.Stands.{reach_in, reach_in_near}, proofs.Fronts.{none_past, past_more}}
 use Rattle.lay_springs.proofs.least.past_each.Goals as goal
 
 pub loop-lane-preserved : goal.loop-lane-preserved
 loop-lane-preserved c =
     let here : reach_in c.args.row.now c.loop-lane.lane ≡ Some c.in-Some.s = sym c.reach_in.ensures ∙ c.in-Some.is in let i = c.loop-lane.invariant in let e = c.past_end-next.ensures in
-    let high = c.requires.small c.loop-lane.lane (omega arith) in
+    let inside : c.loop-lane.lane < length c.args.gaps.now = (let most = c.min-lane-end.ensures in let test = c.loop-lane-test.true in omega arith) in let high = c.requires.small c.loop-lane.lane inside in
     record {
       kept = omega (arith, ints);
       clear = past_more _ _ _ _ _ _ _ here (omega (arith, ints)) (λ some. let p = e.past (omega (arith, ints)) in omega (arith, ints)) i.clear;
@@ -17,4 +17,16 @@ loop-lane-preserved c =
 pub overflow_add-gaps : goal.overflow_add-gaps
 overflow_add-gaps c =
     let here : reach_in c.args.row.now c.loop-lane.lane ≡ Some c.in-Some.s = sym c.reach_in.ensures ∙ c.in-Some.is in let near = rw here at (reach_in_near c.args.row.now c.loop-lane.lane) in
-    let left = near.0 in let gap = c.requires.narrow c.loop-lane.lane c.loop-lane-test.true in omega arith
+    let left = near.0 in let gap = c.requires.narrow c.loop-lane.lane (let most = c.min-lane-end.ensures in let test = c.loop-lane-test.true in omega arith) in omega arith
+
+pub returns-clause-clear : goal.returns-clause-clear
+returns-clause-clear c = λ lane s l e some. elim (cases_lt lane c.loop-lane.lane) [
+  | inl before ↦ c.loop-lane.invariant.clear lane s before e some
+  | inr behind ↦
+      let past : length c.args.row.now ≤ lane = let most = c.min-lane-end.ensures in let test = c.loop-lane-test.false in omega arith in
+      absurd (none-some s (sym (none_past c.args.row.now lane past) ∙ e))
+]
+
+pub returns-clause-least : goal.returns-clause-least
+returns-clause-least c = λ v from h. c.loop-lane.invariant.least v (omega (arith, ints)) (λ lane s l e some.
+    h lane s (let most = c.min-lane-end.ensures in let end = c.loop-lane.auto.lane-end in omega arith) e some)

@@ -68,6 +68,9 @@ set_past-next-requires-clause-near g c =
     let short = spring_short _ c.args.force _ c.length-spring.result (g.met.C.Spring.is_short c.index-cols-j-2.result) (g.met.C.Spring.scales c.index-cols-j-2.result c.args.force) c.ranges.force.fits c.length-spring.ensures in
     let from = c.after.ensures.least (pos 1152921504606846976) (omega (arith, ints)) (omega (arith, ints)) in omega (arith, ints)
 
+pub tightened-requires-clause-small : goal.tightened-requires-clause-small
+tightened-requires-clause-small g c = let before = c.requires.placed.small (c.args.j - 1) (omega arith) in let low = before.0 in let high = before.1 in omega (arith, ints)
+
 pub returns-clause-tight : goal.returns-clause-tight
 returns-clause-tight g c =
     let short : c.length-natural.result ≤ 4096 = rw c.length-natural.ensures (g.met.C.Spring.is_short c.index-cols-j.result) in let t = c.requires.tight in
