@@ -1,6 +1,6 @@
 -- What stands furthest right in each lane.
-use Rattle.std.proofs.{Common.{get_or-set_same, get_or-set_other, slice_set, ◌≡◌, ℕ, ◌+◌, ◌*◌, ◌^◌, ◌<◌, ◌≤◌, inl, inr, ℤ, pos, negsuc, ◌+ℤ◌, ◌≤ℤ◌, List, length, Option, None, Some, IfSome, slice_index, slice_index_or, sym, ◌∙◌, arith, refl}, lemmas.{Bool.{cases_eq, eq-eqb, ne_eqb}, Int.ints, Option.{same_Some, none-some, slice_get_past}}}
-use Rattle.lay_springs.{specs.{declared.traits.{Reach.Reach, Stand.Stand, Stands.Stands}, Stands.{IsLone, TellsReach, reach_in}, Place.{IsClear, StandApart, IsPlacedTo, IsFront, IsPast, Advances}}, proofs.Clear.below_or_at}
+use Rattle.std.proofs.{Common.{get_or-set_same, get_or-set_other, slice_set, ◌≡◌, ℕ, ◌+◌, ◌*◌, ◌^◌, ◌<◌, ◌≤◌, inl, inr, ℤ, pos, negsuc, ◌+ℤ◌, ◌≤ℤ◌, List, length, Option, None, Some, IfSome, slice_index, slice_index_or, sym, ap, ◌∙◌, arith, subst, refl}, lemmas.{Bool.{cases_eq, eq-eqb, ne_eqb}, Int.ints, Option.{same_Some, none-some, slice_get_past}}}
+use Rattle.lay_springs.{specs.{declared.traits.{Reach.Reach, Stand.Stand, Stands.Stands}, Stands.{IsLone, TellsReach, reach_in}, Place.{IsClear, StandApart, IsPlacedTo, IsFront, IsPast, IsSomewhere, Advances}}, proofs.Clear.below_or_at}
 
 abbrev at : List ℤ → ℕ → ℤ
 at x k = slice_index_or x k (pos 0)
@@ -39,11 +39,15 @@ module _ (reach : ℕ → ℕ → Option Reach) (lanes j : ℕ) (v : ℤ) where
   one_small None old new near l s h = omega (arith, ints)
   one_small (Some r) old new near l s h = let a = near.1 in elim h.2 [ inl e ↦ omega (arith, ints) | inr e ↦ omega (arith, ints) ]
 
+  one_apart : (o : Option Reach) (old new : ℤ) → pos 0 ≤ℤ v → IsSomewhere old → Advances o v old new → IsSomewhere new
+  one_apart None old new begins apart h = subst IsSomewhere (sym h) apart
+  one_apart (Some r) old new begins apart h = let reached = h.1 in inl (omega (arith, ints))
+
   here_covers : (o : Option Reach) (r : Reach) (old new : ℤ) → o ≡ Some r → Advances o v old new → (v +ℤ pos r.right) ≤ℤ new
   here_covers None r old new e h = absurd (none-some r e)
   here_covers (Some s) r old new e h = let b : s ≡ r = same_Some s r e in rw (← b) h.1
 
-  module _ (x x' front front' : List ℤ) (same : (k : ℕ) → k < j → at x' k ≡ at x k) (here : at x' j ≡ v) (high : v ≤ℤ pos (2 ^ 60))
+  module _ (x x' front front' : List ℤ) (same : (k : ℕ) → k < j → at x' k ≡ at x k) (here : at x' j ≡ v) (low : pos 0 ≤ℤ v) (high : v ≤ℤ pos (2 ^ 60))
       (near : (lane : ℕ) → lane < lanes → IfSome (reach j lane) (λ r. (r.left ≤ 1048576) × (r.right ≤ 1048576)))
       (advances : (lane : ℕ) → lane < lanes → Advances (reach j lane) v (at front lane) (at front' lane))
       (fronts : IsFront j reach lanes x front) where
@@ -54,6 +58,7 @@ module _ (reach : ℕ → ℕ → Option Reach) (lanes j : ℕ) (v : ℤ) where
           (λ e. rw here (here_covers (reach j lane) r _ _ e (advances lane lt)))
           e;
       stands = λ lane lt some. stood lane lt (reach j lane) refl (advances lane lt) some;
+      apart = λ lane lt. one_apart (reach j lane) _ _ low (fronts.apart lane lt) (advances lane lt);
       small = λ lane lt. one_small (reach j lane) _ _ (near lane lt) high (fronts.small lane lt) (advances lane lt);
     }
       where
@@ -83,10 +88,11 @@ pub none_past : (row : List (Option Reach)) (lane : ℕ) → length row ≤ lane
 unfolding reach_in
 none_past row lane l = rw (slice_get_past row lane l) refl
 
-pub front_start : (reach : ℕ → ℕ → Option Reach) (lanes : ℕ) (x front : List ℤ) → ((lane : ℕ) → lane < lanes → at front lane ≡ negsuc 0) → IsFront 0 reach lanes x front
+pub front_start : (reach : ℕ → ℕ → Option Reach) (lanes : ℕ) (x front : List ℤ) → ((lane : ℕ) → lane < lanes → at front lane ≡ negsuc 1099511627775) → IsFront 0 reach lanes x front
 front_start reach lanes x front h = record {
   covers = λ lane k r lt l e. absurd (omega arith);
   stands = λ lane lt some. let e = h lane lt in absurd (omega (arith, ints));
+  apart = λ lane lt. let e = h lane lt in inr (omega (arith, ints));
   small = λ lane lt. let e = h lane lt in omega (arith, ints);
 }
 
@@ -96,6 +102,14 @@ lone_told stand reach told few = record {
   here = let same = eq-eqb stand.lane stand.lane refl in sym (told stand.lane few) ∙ rw same refl;
   alone = λ lane l other. let apart = ne_eqb lane stand.lane other in sym (told lane (omega arith)) ∙ rw apart refl;
 }
+
+-- a column that stands in one lane alone is past all that stands before it where it is past what stands in that lane
+pub lone_clear : (reach : ℕ → Option Reach) (stand : Stand) (gaps : List ℕ) (front : List ℤ) (v : ℤ) → IsLone reach stand → length gaps < 4294967296
+    → (pos 0 ≤ℤ at front stand.lane → (at front stand.lane +ℤ pos (slice_index gaps stand.lane + stand.reach.left)) ≤ℤ v) → IsPast reach gaps (length gaps) front v
+lone_clear reach stand gaps front v lone few past lane s l es some = elim (cases_eq lane stand.lane) [
+  | inl same ↦ (let is : s ≡ stand.reach = same_Some s stand.reach (sym es ∙ (ap reach same ∙ lone.here)) in rw (is, same) (past (rw same at some)))
+  | inr other ↦ absurd (none-some s (sym (lone.alone lane (omega arith) other) ∙ es))
+]
 
 -- a column that stands in one lane alone, at v, ends there past what stood in it before
 pub lone_noted : (reach : ℕ → Option Reach) (stand : Stand) (front : List ℤ) (v : ℤ) → IsLone reach stand → length front < 4294967296 → stand.lane < length front

@@ -91,6 +91,7 @@ placed_on {C} reach len short rest gaps p x more fronts room h = record {
       record {
         covers = λ lane k r lt l e. rw (stays k l) (f.covers lane k r lt l (sym (same k lane l) ∙ e));
         stands = λ lane lt past. let k = f.stands lane lt past in (k.0, k.1, k.2, same k.0 lane k.2 ∙ k.3, rw (stays k.0 k.2) k.4);
+        apart = f.apart;
         small = f.small;
       };
 }

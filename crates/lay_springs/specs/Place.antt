@@ -1,5 +1,5 @@
 -- Where columns stand: the least list of abscissas that keeps them apart.
-use Rattle.std.specs.Prelude.{◌≡◌, ℕ, ◌+◌, ◌*◌, ◌/◌, ◌^◌, ◌⊎◌, min, MatchOption, ◌<◌, ◌≤◌, ℤ, pos, ◌+ℤ◌, ◌≤ℤ◌, List, length, Option, Some, option_map, option_and_then, unwrap_or, slice_get, slice_index, slice_index_or}
+use Rattle.std.specs.Prelude.{◌≡◌, ℕ, ◌+◌, ◌*◌, ◌/◌, ◌^◌, ◌⊎◌, min, MatchOption, ◌<◌, ◌≤◌, ℤ, pos, negsuc, ◌+ℤ◌, ◌≤ℤ◌, List, length, Option, Some, option_map, option_and_then, unwrap_or, slice_get, slice_index, slice_index_or}
 use Rattle.lay_springs.specs.declared.{traits.Reach.Reach, progress.Progress.Progress}
 
 -- the reach of column i in a lane
@@ -61,11 +61,16 @@ pub record IsPlacedTo (j : ℕ) (reach : ℕ → ℕ → Option Reach) (gaps : L
   pub near : IsNear j reach gaps spring force natural count x
   pub small : (k : ℕ) → k < j → (pos 0 ≤ℤ slice_index_or x k (pos 0)) × (slice_index_or x k (pos 0) ≤ℤ pos (1048576 + 3145728 * k))
 
--- front has for each lane the greatest abscissa plus right reach of the first j columns in it, or a number below 0 where none stands in it
+-- something stands there, or it is further to the left than any rod reaches
+abbrev pub IsSomewhere : ℤ → Type 0
+IsSomewhere end = (pos 0 ≤ℤ end) ⊎ (end ≤ℤ negsuc 1099511627775)
+
+-- front has for each lane the greatest abscissa plus right reach of the first j columns in it, or a number far below 0 where none stands in it
 pub record IsFront (j : ℕ) (reach : ℕ → ℕ → Option Reach) (lanes : ℕ) (x front : List ℤ) : Type 0 where
   pub covers : (lane k : ℕ) (r : Reach) → lane < lanes → k < j → reach k lane ≡ Some r → (slice_index_or x k (pos 0) +ℤ pos r.right) ≤ℤ slice_index_or front lane (pos 0)
   pub stands : (lane : ℕ) → lane < lanes → pos 0 ≤ℤ slice_index_or front lane (pos 0)
       → (k : ℕ) × (r : Reach) × (k < j) × (reach k lane ≡ Some r) × (slice_index_or front lane (pos 0) ≡ (slice_index_or x k (pos 0) +ℤ pos r.right))
+  pub apart : (lane : ℕ) → lane < lanes → IsSomewhere (slice_index_or front lane (pos 0))
   pub small : (lane : ℕ) → lane < lanes → slice_index_or front lane (pos 0) ≤ℤ pos (2 ^ 61)
 
 -- of n columns so many are placed as the progress tells, and fronts has what stands furthest right in each lane

@@ -1,5 +1,5 @@
 ghost use Rattle.std.specs.Prelude.{◌≡◌, ◌+◌, ◌*◌, ◌≢◌, ◌⊎◌, ◌^◌, ◌<◌, ◌≤◌, ℕ, ℤ, pos, negsuc, ◌+ℤ◌, ◌≤ℤ◌, IfOk, IfSome, length, take, slice_index, slice_index_or, slice_set};
-ghost use Rattle.lay_springs.specs.{Stands.{reach_in}, Place.{reach_at, length_at, IsPlace, IsPlacedTo, IsNear, IsFront, HasPlaced, IsPast, IsFirst, Advances, IsInside}};
+ghost use Rattle.lay_springs.specs.{Stands.{reach_in}, Place.{reach_at, length_at, IsPlace, IsPlacedTo, IsNear, IsFront, HasPlaced, IsPast, IsFirst, IsSomewhere, Advances, IsInside}};
 
 use crate::progress::{Progress, Tight};
 use crate::traits::{Reach, Spaced, Spring, Stand, Stands, reach_in};
@@ -15,19 +15,19 @@ pub(crate) fn larger(a: i64, b: i64) -> i64
     if a < b { b } else { a }
 }
 
+/// Further to the left than any rod reaches, in the lanes in which nothing stands yet.
+const NOWHERE: i64 = -1_099_511_627_776;
+
 /// The least abscissa that isn't below `from` and is past `end`, where something ends there, by `room`.
 fn past_end(end: i64, room: u32, from: i64) -> i64
     requires small { end ≤ℤ pos (2 ^ 61) }
+    requires nowhere { (pos 0 ≤ℤ end) ⊎ ((end +ℤ pos room) ≤ℤ from) }
     ensures kept { from ≤ℤ result }
     ensures past { pos 0 ≤ℤ end → (end +ℤ pos room) ≤ℤ result }
     ensures behind { pos 0 ≤ℤ from → end ≤ℤ result }
     ensures least { (v : ℤ) → from ≤ℤ v → (pos 0 ≤ℤ end → (end +ℤ pos room) ≤ℤ v) → result ≤ℤ v }
 {
-    if end < 0 {
-        from
-    } else {
-        larger(from, end + i64::from(room))
-    }
+    larger(from, end + i64::from(room))
 }
 
 /// The least abscissa that isn't below `from` and is past what stands before it in each lane.
@@ -35,6 +35,8 @@ fn past_each(row: &[Option<Reach>], gaps: &[u32], front: &[i64], from: i64) -> i
     requires lanes { length gaps.now < 2 ^ 32 }
     requires narrow { (lane : ℕ) → lane < length gaps.now → slice_index gaps.now lane ≤ 2 ^ 20 }
     requires room { length front.now ≡ length gaps.now }
+    requires nowhere { (lane : ℕ) → lane < length gaps.now → IsSomewhere (slice_index_or front.now lane (pos 0)) }
+    requires begins { pos 0 ≤ℤ from }
     requires small { (lane : ℕ) → lane < length gaps.now → slice_index_or front.now lane (pos 0) ≤ℤ pos (2 ^ 61) }
     ensures kept { from ≤ℤ result }
     ensures clear { IsPast (reach_in row.now) gaps.now (length gaps.now) front.now result }
@@ -71,11 +73,11 @@ fn advance_each(row: &[Option<Reach>], at: i64, front: &mut [i64])
 fn begun_at(reach: Option<Reach>, at: i64) -> i64
     requires begins { pos 0 ≤ℤ at }
     requires small { at ≤ℤ pos (2 ^ 62) }
-    ensures { Advances reach at (negsuc 0) result }
+    ensures { Advances reach at (negsuc 1099511627775) result }
 {
     match reach {
         Some(r) => at + i64::from(r.right),
-        None => -1,
+        None => NOWHERE,
     }
 }
 
@@ -85,6 +87,7 @@ fn set_past<C: Spaced>(col: &C, gaps: &[u32], from: i64, front: &mut [i64]) -> i
     requires lanes { length gaps.now < 2 ^ 32 }
     requires narrow { (lane : ℕ) → lane < length gaps.now → slice_index gaps.now lane ≤ 2 ^ 20 }
     requires room { length front.old ≡ length gaps.now }
+    requires nowhere { (lane : ℕ) → lane < length gaps.now → IsSomewhere (slice_index_or front.old lane (pos 0)) }
     requires small { (lane : ℕ) → lane < length gaps.now → slice_index_or front.old lane (pos 0) ≤ℤ pos (2 ^ 61) }
     requires begins { pos 0 ≤ℤ from }
     requires near { from ≤ℤ pos (2 ^ 60) }
@@ -113,6 +116,7 @@ fn set_past_each(row: &[Option<Reach>], gaps: &[u32], from: i64, front: &mut [i6
     requires lanes { length gaps.now < 2 ^ 32 }
     requires narrow { (lane : ℕ) → lane < length gaps.now → slice_index gaps.now lane ≤ 2 ^ 20 }
     requires room { length front.old ≡ length gaps.now }
+    requires nowhere { (lane : ℕ) → lane < length gaps.now → IsSomewhere (slice_index_or front.old lane (pos 0)) }
     requires small { (lane : ℕ) → lane < length gaps.now → slice_index_or front.old lane (pos 0) ≤ℤ pos (2 ^ 61) }
     requires begins { pos 0 ≤ℤ from }
     requires near { from ≤ℤ pos (2 ^ 60) }
@@ -332,7 +336,7 @@ fn begin_fronts<C: Spaced>(col: &C, at: i64, front: &mut [i64])
     requires lanes { length front.old < 2 ^ 32 }
     requires begins { pos 0 ≤ℤ at }
     requires small { at ≤ℤ pos (2 ^ 62) }
-    ensures { (lane : ℕ) → lane < length front.old → Advances (C.reach_of col.now lane) at (negsuc 0) (slice_index_or front.new lane (pos 0)) }
+    ensures { (lane : ℕ) → lane < length front.old → Advances (C.reach_of col.now lane) at (negsuc 1099511627775) (slice_index_or front.new lane (pos 0)) }
 {
     let stands = col.stands();
     for lane in 0..front.len() {

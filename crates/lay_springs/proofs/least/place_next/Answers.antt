@@ -103,7 +103,7 @@ returns-clause-fronts g c =
     c.args.at.now (slice_set c.args.at.now c.args.j (v g s)) c.args.front.now c.set_past-next.new.front
     (λ k l. let ne : k ≢ c.args.j = omega arith in get_or-set_other c.args.at.now c.args.j k (v g s) (pos 0) ne)
     (get_or-set_same c.args.at.now c.args.j (v g s) (pos 0) (omega arith))
-    (let top = bound g s in omega (arith, ints))
+    (begins g s) (let top = bound g s in omega (arith, ints))
     (λ lane lt. near_at g.C.Spaced.reach_of c.args.cols.now _ lane (λ col. g.met.C.Spaced.is_near col lane (let l = c.requires.lanes in omega arith)) c.args.j)
     (λ lane lt. rw (ap (λ r. r lane) (col_is g s)) (c.set_past-next.ensures.noted lane (omega arith)))
     c.requires.fronts)

@@ -1,5 +1,5 @@
 use Rattle.std.{proofs.{Common.{◌≡◌, ◌<◌, ◌∙◌, subst, pos, ◌+ℤ◌, to_z, of_z, w64, arith}, lemmas.Int.{ints, to_z-of_z}}}
-use Rattle.{lay_springs.specs.Stands.{IsLone, TellsReach}, lay_springs.proofs.{Fronts.{lone_noted, lone_told}, least.set_past.Goals.After-from}}
+use Rattle.{lay_springs.specs.Stands.{IsLone, TellsReach}, lay_springs.proofs.{Fronts.{lone_clear, lone_noted, lone_told}, least.set_past.Goals.After-from}}
 use Rattle.lay_springs.proofs.least.set_past.Goals as goal
 
 inside : (g : _) (c : After-from g) → c.in-Lone.stand.lane < 4294967296
@@ -12,6 +12,13 @@ pub overflow_add-front : goal.overflow_add-front
 overflow_add-front g c =
     let high = c.requires.small c.in-Lone.stand.lane c.if-lane-gaps.false in let gap = c.requires.narrow c.in-Lone.stand.lane c.if-lane-gaps.false in let near = c.requires.near.le in
     let top = c.past_end-at.ensures.least (pos 4611686018427387904) (omega (arith, ints)) (λ some. omega (arith, ints)) in omega (arith, ints)
+
+pub returns-clause-clear : goal.returns-clause-clear
+returns-clause-clear g c =
+    let s = (goal.at.returns-clause-clear g c).After-from in let high = c.requires.small c.in-Lone.stand.lane c.if-lane-gaps.false in
+    rw (to_z-of_z w64 c.past_end-at.result (record { sfits = c.past_end-at.type_inv }))
+    (lone_clear (g.C.Spaced.reach_of c.args.col.now) c.in-Lone.stand c.args.gaps.now c.args.front.now c.past_end-at.result (lone g s) c.requires.lanes
+    (λ some. let past = c.past_end-at.ensures.past (omega (arith, ints)) in omega (arith, ints)))
 
 pub returns-clause-noted : goal.returns-clause-noted
 returns-clause-noted g c =
