@@ -2,7 +2,7 @@ ghost use Rattle.std.specs.{Prelude.◌≡◌, Prelude.◌≤◌, Prelude.◌<�
 ghost use Rattle.{mus_units.specs.declared.note.Bar.{Bar}, abc_steps.specs.Counts.{measures_begun}};
 ghost use Rattle.abc_events.specs.Bars.{plain_bar, unseen_bar, union, union_with, is_seen, joined, bars_behind, bars_at, joined_or, first_bar, missing_bar, bars_of, is_near_bar, is_forced, with_bar, forced_behind, forced_bars};
 
-use abc_steps::counts::{counted, no_counts};
+use abc_steps::counts::{count_step, no_counts};
 use abc_steps::{Counts, Nearest, Step, Stood};
 use mus_units::{Bar, Memory, Row};
 use std::alloc::Global;
@@ -101,7 +101,7 @@ pub fn own_measures(steps: &[Stood]) -> u64
 {
     let mut counts = no_counts();
     for s in steps {
-        counts = counted(counts, s);
+        count_step(&mut counts, s);
     }
     counts.begun
 }
@@ -137,7 +137,7 @@ fn all_bars(alloc: Global, steps: &[Stood], n: u32) -> Result<Places, Memory>
     let mut counts = no_counts();
     for s in steps {
         put_bar(&mut all, counts.begun, &s.step);
-        counts = counted(counts, s);
+        count_step(&mut counts, s);
     }
     Ok(Places {
         all,
@@ -252,7 +252,7 @@ pub fn forced_bars(alloc: Global, steps: &[Stood], n: u32) -> Result<Row<u32>, M
     let mut counts = no_counts();
     for s in steps {
         force_behind(&mut forced, n, counts, &s.step)?;
-        counts = counted(counts, s);
+        count_step(&mut counts, s);
     }
     Ok(forced)
 }

@@ -28,33 +28,26 @@ fn is_near_event(nearest: Nearest) -> bool
     matches!(nearest, Nearest::Event)
 }
 
-/// The counts behind an event that adds so many measures to its own.
-fn behind_event(counts: Counts, further: u64) -> Counts
-    requires groups { counts.groups ≤ 2 ^ 30 }
-    requires before { counts.further ≤ 2 ^ 46 }
+/// Counts an event that adds so many measures to its own.
+fn count_event(counts: &mut Counts, further: u64)
+    requires groups { counts.old.groups ≤ 2 ^ 30 }
+    requires before { counts.old.further ≤ 2 ^ 46 }
     requires further { further ≤ 65535 }
-    ensures { result ≡ record { groups = counts.groups; further = counts.further + further; begun = counts.groups + counts.further + further + 1; nearest = Nearest.Event } }
+    ensures { counts.new ≡ record { groups = counts.old.groups; further = counts.old.further + further; begun = counts.old.groups + counts.old.further + further + 1; nearest = Nearest.Event } }
 {
-    let further = counts.further + further;
-    Counts {
-        groups: counts.groups,
-        further,
-        begun: counts.groups + further + 1,
-        nearest: Nearest::Event,
-    }
+    counts.further += further;
+    counts.begun = counts.groups + counts.further + 1;
+    counts.nearest = Nearest::Event;
 }
 
-/// The counts behind a bar. The first one behind an event begins a group.
-fn behind_bar(counts: Counts) -> Counts
-    requires { counts.groups ≤ 2 ^ 30 }
-    ensures { result ≡ record counts { groups = if is_near_event counts.nearest then counts.groups + 1 else counts.groups; nearest = Nearest.Bar } }
+/// Counts a bar. The first one behind an event begins a group.
+fn count_bar(counts: &mut Counts)
+    requires { counts.old.groups ≤ 2 ^ 30 }
+    ensures { counts.new ≡ record counts.old { groups = if is_near_event counts.old.nearest then counts.old.groups + 1 else counts.old.groups; nearest = Nearest.Bar } }
 {
     let begins = is_near_event(counts.nearest);
-    Counts {
-        groups: counts.groups + u64::from(begins),
-        nearest: Nearest::Bar,
-        ..counts
-    }
+    counts.groups += u64::from(begins);
+    counts.nearest = Nearest::Bar;
 }
 
 /// The counts at the beginning of a voice.
@@ -69,21 +62,22 @@ pub fn no_counts() -> Counts
     }
 }
 
-/// The counts behind a step.
+/// Counts a step. Most steps leave the counts as they are.
+#[inline(always)]
 #[tactic(auto, unfolding(crate::specs::Kinds::is_event, crate::specs::Kinds::is_bar, crate::specs::Counts::begins_group, crate::specs::Counts::further))]
-pub fn counted(counts: Counts, s: &Stood) -> Counts
-    requires groups { counts.groups ≤ 2 ^ 30 }
-    requires further { counts.further ≤ 2 ^ 46 }
-    ensures counts { (before : Steps) → counts ≡ counts_of before → result ≡ counts_of (s.now ∷ before) }
-    ensures groups { result.groups ≤ counts.groups + 1 }
-    ensures further { result.further ≤ counts.further + 65535 }
+pub fn count_step(counts: &mut Counts, s: &Stood)
+    requires groups { counts.old.groups ≤ 2 ^ 30 }
+    requires further { counts.old.further ≤ 2 ^ 46 }
+    ensures counts { (before : Steps) → counts.old ≡ counts_of before → counts.new ≡ counts_of (s.now ∷ before) }
+    ensures groups { counts.new.groups ≤ counts.old.groups + 1 }
+    ensures further { counts.new.further ≤ counts.old.further + 65535 }
 {
     match &s.step {
-        Step::Sound(_) => behind_event(counts, 0),
+        Step::Sound(_) => count_event(counts, 0),
         Step::Measures { seen: _, count } => {
-            behind_event(counts, u64::from(count.saturating_sub(1)))
+            count_event(counts, u64::from(count.saturating_sub(1)))
         }
-        Step::Bar(_) => behind_bar(counts),
-        _ => counts,
+        Step::Bar(_) => count_bar(counts),
+        _ => (),
     }
 }

@@ -1,7 +1,7 @@
 ghost use Rattle.std.specs.Prelude.{◌≡◌, ◌≤◌, ◌^◌, ◌+◌, ◌∷◌, [], IfOk, OnOk};
 ghost use Rattle.abc_steps.specs.{declared.force.InForce.InForce, Looks.Steps, Good.IsGoodForce, Good.IsGoodStood, Places.place_at, Places.measure_of};
 
-use crate::counts::{Counts, counted, no_counts};
+use crate::counts::{Counts, count_step, no_counts};
 use crate::force::{InForce, change_force};
 use crate::step::Stood;
 use crate::tuplets::{Taking, taking_behind};
@@ -46,7 +46,7 @@ pub fn step_over(alloc: Global, now: &mut Place, s: &Stood) -> Result<(), Memory
     ensures force { OnOk result (IsGoodForce now.new.force) }
 {
     change_force(alloc, &mut now.force, &s.step)?;
-    now.counts = counted(now.counts, s);
+    count_step(&mut now.counts, s);
     now.taking = taking_behind(&s.step, now.taking);
     Ok(())
 }
