@@ -5,6 +5,7 @@ pub mod Enough
 pub mod Forced
 pub mod Frames
 pub mod Full
+pub mod Idle
 pub mod Ids
 pub mod Judging
 pub mod Lines

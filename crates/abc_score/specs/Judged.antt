@@ -1,6 +1,6 @@
 -- Voices that are judged, and what is kept of their signs.
-use Rattle.std.specs.{Prelude.{◌≡◌, ◌≤◌, ◌<◌, ◌⊎◌, ◌++◌, [], List, Option, map, true, false}, List.{Contains, list_all}}
-use Rattle.{abc_lines.specs.declared.fault.Fault.{Fault}, abc_steps.specs.{declared.step.Stood.Stood, Kinds.is_event, Looks.Steps}, abc_events.specs.Signs.{signs}}
+use Rattle.std.specs.{Prelude.{◌≡◌, ◌≤◌, ◌<◌, ◌⊎◌, ◌++◌, [], List, Option, map, Bool, true, false}, List.{Contains, list_all}}
+use Rattle.{abc_lines.specs.declared.fault.Fault.{Fault}, abc_steps.specs.{declared.step.{Step.Step, Stood.Stood}, Kinds.is_event, Looks.Steps}, abc_events.specs.Signs.{signs}}
 use Rattle.abc_faults.specs.{declared.weights.Weight.Weight, First.{first_of, is_before}, Weights.{capped, crowd_fault, crowd_up_to, stands_before, weight_at}}
 use Rattle.abc_score.specs.declared.{keeping.Kept.Kept, keeping.Judged.Judged, voices.VoiceRead.VoiceRead}
 
@@ -13,6 +13,20 @@ HasKept j = IsKept j.read j.kept
 
 abbrev pub reads_of : List Judged → List VoiceRead
 reads_of voices = map (λ (j : Judged). j.read) voices
+
+-- a step that alone says nothing: no event, no bar, and nothing that a walk along the steps has to know
+unfoldable pub is_idle : Step → Bool
+is_idle (Step.Grace slash body) = true
+is_idle Step.SlurOn = true
+is_idle Step.SlurOff = true
+is_idle Step.Tie = true
+is_idle (Step.Ending text) = true
+is_idle (Step.Deco deco) = true
+is_idle (Step.Says text) = true
+is_idle Step.Break = true
+is_idle Step.Space = true
+is_idle Step.LineEnd = true
+is_idle _ = false
 
 -- there are too many heads and rests with an event, and the steps that follow it stand behind it
 pub record IsEnd (put : List Weight) (at : Stood) (behind : Steps) : Type 0 where

@@ -1,15 +1,15 @@
 ghost use Rattle.std.specs.{Prelude.{◌≡◌, ◌≤◌, ◌^◌, ◌++◌, [], length, reverse, true, false, nat_lt, IfOk, OnOk}, List.{All, list_all}};
 ghost use Rattle.{abc_faults.specs.{First.then_below, Faults.faults_in, Weights.{crowd_up_to, stands_before, weight_at}}, abc_steps.specs.{declared.step.Stood.Stood, Good.IsGoodForce, Lengths.parts_at}};
-ghost use Rattle.{abc_events.specs.Signs.{signs, signs_of, IsDrawn}, abc_score.specs.{Faults.voice_weights, Judged.{AreJudged, IsEnd, IsKept}, Voices.IsGoodRead}};
+ghost use Rattle.{abc_events.specs.Signs.{signs, signs_of, IsDrawn}, abc_score.specs.{Faults.voice_weights, Judged.{AreJudged, IsEnd, IsKept, is_idle}, Voices.IsGoodRead}};
 
 use crate::voices::VoiceRead;
 use abc_events::{Sign, put_signs, signs};
 use abc_faults::{Weight, earlier, judge_step};
 use abc_lines::Fault;
-use abc_steps::Stood;
 use abc_steps::kinds::is_event;
 use abc_steps::lengths::parts_at;
 use abc_steps::place::{Place, beginning, step_over};
+use abc_steps::{Step, Stood};
 use mus_units::{Few, Memory, Row, Value};
 use std::alloc::Global;
 
@@ -110,6 +110,27 @@ fn is_end(weights: &[Weight], at: &Stood, behind: &[Stood]) -> bool
     is_event(&at.step) && count_up_to(weights, at) > MOST_HEADS && all_behind(at, behind)
 }
 
+/// Whether a step alone says nothing: it has no fault, weighs nothing, is no sign, and changes nothing of
+/// what holds at its place. Most steps that aren't events are such ones.
+#[tactic(auto, unfolding(crate::specs::Judged::is_idle))]
+fn is_idle(s: &Step) -> bool
+    ensures { result ≡ is_idle s.now }
+{
+    matches!(
+        s,
+        Step::Grace { .. }
+            | Step::SlurOn
+            | Step::SlurOff
+            | Step::Tie
+            | Step::Ending(_)
+            | Step::Deco(_)
+            | Step::Says(_)
+            | Step::Break
+            | Step::Space
+            | Step::LineEnd
+    )
+}
+
 /// The first fault of a voice by itself and its signs. Puts its weights. Where these are many, what
 /// follows an event with which there are too many is left out: it has no first fault.
 pub(crate) fn judge_voice(
@@ -134,6 +155,9 @@ pub(crate) fn judge_voice(
         let (before, _) = steps.split_at(i);
         let (_, behind) = steps.split_at(i + 1);
         let at = &steps[i];
+        if is_idle(&at.step) {
+            continue;
+        }
         let parts = parts_at(alloc, now.force.unit, before, at, behind)?;
         found = earlier(
             found,

@@ -1,6 +1,7 @@
-use Rattle.std.proofs.{Common.{◌≡◌, ◌∙◌, ◌+◌, ◌++◌, ◌<◌, ℕ, length, get_or, sym, ap, reverse, take, drop, rules, arith}, lemmas.List.drop_all}
+use Rattle.std.proofs.{Common.{◌≡◌, ◌∙◌, ◌+◌, ◌++◌, ◌<◌, ℕ, length, get_or, sym, ap, reverse, take, drop, true, rules, arith}, lemmas.List.drop_all}
 use Rattle.{abc_faults.proofs.Walks.{at_front, nearest, part_more}, abc_events.specs.Signs.{signs, signs_of}}
 use Rattle.abc_steps.specs.{declared.{step.Stood.Stood, force.InForce.InForce}, Looks.Steps, Places.place_at}
+use Rattle.abc_score.{specs.Judged.is_idle, proofs.Idle.{idle_at, idle_so_far}}
 use Rattle.abc_score.proofs.Stops.{judged_to, judged_whole, none_so_far, step_so_far}
 use Rattle.abc_score.proofs.keeping.judge_voice.Goals as goal
 
@@ -35,6 +36,23 @@ loop-i-preserved c =
       groups = omega (arith, c.in_ok-step_over.ensures.groups);
       further = omega (arith, c.in_ok-step_over.ensures.further);
       force = c.in_ok-step_over.ensures.force;
+    }
+
+pub loop-i-preserved-then-is_idle : goal.loop-i-preserved-then-is_idle
+loop-i-preserved-then-is_idle c =
+    let first = c.args.v.now.first in let steps = c.as_slice-steps.result.now in let i = c.loop-i.i in let at = c.index-steps-i.result in
+    let behind = drop (i + 1) steps in let near = nearest steps i at c.loop-i-test.true c.index-steps-i.is in
+    let test : is_idle at.step ≡ true = sym c.is_idle.ensures ∙ c.if-is_idle.true in
+    let idle = idle_at first (reverse (take i steps)) at behind test in
+    let signs_are = sign_parts first steps i at c.loop-i-test.true c.index-steps-i.is
+    ∙ ap (λ z. z ++ signs first (reverse (take (i + 1) steps)) behind) idle.signs in
+    record {
+      judged = idle_so_far first steps i at c.loop-i-test.true c.index-steps-i.is test c.loop-i.invariant.judged;
+      kept = λ whole. ap (λ z. c.loop-i.kept.signs ++ z) (sym signs_are) ∙ c.loop-i.invariant.kept whole;
+      place = c.loop-i.invariant.place ∙ sym (ap (place_at first) near ∙ idle.place);
+      groups = omega (arith, c.loop-i.invariant.groups);
+      further = omega (arith, c.loop-i.invariant.further);
+      force = c.loop-i.invariant.force;
     }
 
 pub returns-then-is_end-clause-judged : goal.returns-then-is_end-clause-judged
