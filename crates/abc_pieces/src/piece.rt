@@ -346,7 +346,7 @@ fn grace(bang: bool, bytes: &[u8]) -> Option<Piece<'_>>
 
 /// A piece that begins with a parenthesis.
 #[tactic(auto, unfolding(crate::specs::Reading::tuplet_read))]
-#[inline(never)]
+#[inline(always)]
 fn paren(bytes: &[u8]) -> Piece<'_>
     ensures read { (bang : Bool) → shown bang (Some result) ≡ meaning (or_else (tuplet_read bytes.now) (read (slur_form false) bytes.now)) }
     ensures within { (n : ℕ) → found_within result.found n }

@@ -16,6 +16,7 @@ pub struct Tuplet<'a> {
 
 /// The tuplet behind a parenthesis.
 #[tactic(auto, unfolding(crate::specs::Tuplets::tuplet_at))]
+#[inline(never)]
 pub(crate) fn tuplet_at(bytes: &[u8]) -> Option<Tuplet<'_>>
     ensures { option_map (λ x. tuplet_shown x.p x.q x.r x.rest.now) result ≡ option_map (λ z. tuplet_shown (p_of z.0) (q_of z.0) (r_of z.0) z.1) (tuplet_at bytes.now) }
 {
