@@ -1,5 +1,5 @@
 -- The bars that are forced among n measures rise, each behind the first measure and before the last bar.
-use Rattle.std.proofs.Common.{◌≡◌, ℕ, ◌+◌, ◌≤◌, ◌<◌, List, [], ◌∷◌, ◌++◌, Bool, true, false, reverse, arith}
+use Rattle.std.proofs.Common.{◌≡◌, refl, ℕ, ◌+◌, ◌≤◌, ◌<◌, List, [], ◌∷◌, ◌++◌, Bool, true, false, reverse, arith}
 use Rattle.std.proofs.lemmas.Bool.{Decides.nat_tests, and_parts, or_parts, cond_both, leb-true, ltb-true}
 use Rattle.std.specs.{Prelude.{⊤, ◌==◌, ◌&&◌, nat_le, nat_lt}, List.list_any}
 use Rattle.{mus_score.specs.Walks.RiseWithin, abc_events.specs.Bars.{forced_at, forced_bars, forced_behind, is_forced, is_near_bar, with_bar}}
@@ -66,3 +66,10 @@ pub forced_rise : (flow : Bool) (voices : List VoiceRead) (n : ℕ) → RiseWith
 forced_rise true voices n = tt
 forced_rise false [] n = tt
 forced_rise false (v ∷ voices) n = bars_rise n v.steps
+
+none_within : (n : ℕ) (bs : List ℕ) → n < 2 → RiseWithin 0 n bs → bs ≡ []
+none_within n [] few rise = refl
+none_within n (b ∷ bs) few rise = absurd (omega (arith, few, rise.0, rise.1))
+
+pub none_forced : (flow : Bool) (voices : List VoiceRead) (n : ℕ) → n < 2 → forced_of flow voices n ≡ []
+none_forced flow voices n few = none_within n _ few (forced_rise flow voices n)

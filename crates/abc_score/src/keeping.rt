@@ -19,10 +19,11 @@ const MOST_KEPT: usize = 50_000;
 /// How many heads and rests a tune has at most.
 const MOST_HEADS: usize = 50_000;
 
-/// The signs of a voice, all of them where `whole` is true.
+/// The signs of a voice and how many measures it has, where `whole` is true.
 #[derive(Drop)]
 pub struct Kept {
     pub signs: Row<Sign>,
+    pub measures: u64,
     pub whole: bool,
 }
 
@@ -70,6 +71,7 @@ fn none_kept(alloc: Global) -> Kept
     let signs = Row::new(alloc);
     Kept {
         signs,
+        measures: 0,
         whole: false,
     }
 }
@@ -146,6 +148,7 @@ pub(crate) fn judge_voice(
     let mut found = None;
     let mut kept = Kept {
         signs: Row::with_room(alloc, steps.len().min(MOST_KEPT))?,
+        measures: 0,
         whole: true,
     };
     let mut now = beginning(alloc, &v.first)?;
@@ -173,6 +176,7 @@ pub(crate) fn judge_voice(
         keep(alloc, &mut kept, &now, before, at, parts, behind)?;
         step_over(alloc, &mut now, at)?;
     }
+    kept.measures = now.counts.begun;
     Ok((found, kept))
 }
 

@@ -1,6 +1,6 @@
 ghost use Rattle.std.specs.{Prelude.ℕ, Prelude.◌≡◌, Prelude.◌≤◌, Prelude.map, Prelude.IfOk, Prelude.None, List.All};
 ghost use Rattle.{abc_items.specs.Voices.{unnamed_of}, abc_words.specs.Verses.{verse_count, verse_fault}, abc_events.specs.{Bars.bars_of, Leaves.leaves_of}};
-ghost use Rattle.abc_score.specs.{declared.keeping.Judged.Judged, Judged.{IsKept, HasKept, reads_of}, Voices.IsGoodRead, Score.forced_of, Score.most_measures, Score.score_with, Score.sung_words, Score.voice_of, Score.written_measures};
+ghost use Rattle.abc_score.specs.{declared.keeping.Judged.Judged, Judged.{IsKept, HasKept, reads_of}, Voices.IsGoodRead, Score.forced_of, Score.most_measures, Score.own_measures, Score.score_with, Score.sung_words, Score.voice_of, Score.written_measures};
 
 use crate::keeping::{Judged, Kept, signs_of_voice};
 use crate::sung::sung_words;
@@ -110,24 +110,39 @@ fn voices_with(
     Ok(out)
 }
 
+/// How many measures a voice has, which is told where its signs are.
+fn measures_in(judged: &Judged) -> u64
+    requires good { IsGoodRead judged.now.read }
+    requires kept { HasKept judged.now }
+    ensures { result ≡ own_measures judged.now.read }
+{
+    if judged.kept.whole {
+        judged.kept.measures
+    } else {
+        own_measures(judged.read.steps.as_slice())
+    }
+}
+
 /// How many measures the voice with most of them has.
 fn most_measures(voices: &[Judged]) -> u64
-    requires { All (λ (j : Judged). IsGoodRead j.read) voices.now }
+    requires good { All (λ (j : Judged). IsGoodRead j.read) voices.now }
+    requires kept { All HasKept voices.now }
     ensures { result ≡ most_measures (reads_of voices.now) }
 {
     let mut most = 0;
     for judged in voices {
-        most = max(most, own_measures(judged.read.steps.as_slice()));
+        most = max(most, measures_in(judged));
     }
     most
 }
 
-/// The bars that line breaks in the first voice force.
+/// The bars that line breaks in the first voice force. Fewer than two measures have none.
+#[tactic(auto, using(crate::proofs::Forced::none_forced))]
 fn forced_of(alloc: Global, flow: bool, voices: &[Judged], n: u32) -> Result<Row<u32>, Memory>
     requires { All (λ (j : Judged). IsGoodRead j.read) voices.now }
     ensures { IfOk result (λ r. r ≡ forced_of flow (reads_of voices.now) n) }
 {
-    if flow {
+    if flow || n < 2 {
         return Ok(Row::new(alloc));
     }
     match voices.split_first() {
