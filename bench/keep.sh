@@ -6,6 +6,7 @@
 # usage: bench/keep.sh [CRATE ..]              proves these crates, or all, with those that they stand on
 #        bench/keep.sh check CRATE [FLAG ..]   checks one crate; flags go to rattle check, as --allow-holes, --only FN
 #        bench/keep.sh edits CRATE [EDIT ..]   tries the crate's must-fail edits, or these of them
+#        bench/keep.sh build PROGRAM           proves a program with what it stands on, and builds it: the launcher's way
 #
 # What is proved is kept in the folder that ABCPS_KEPT names, else in ~/.cache/abcps (some 3 GB in all); what a check
 # keeps for the next one stands in out/checked of the crate. Wants the Rattle kit.
@@ -58,30 +59,40 @@ def room_of(crate, sums):
 
 
 def prove(crate, sums, jobs):
-    """Proves a library, or takes what is kept of it, and puts its statements where the crates above read them."""
-    room, into = room_of(crate, sums), os.path.dirname(crate.rlib)
+    """Proves a library, or takes what is kept of it, and puts its statements where the crates above read them; tells
+    why it isn't proved, if so, and the seconds that it took, if any."""
+    room, into, took = room_of(crate, sums), os.path.dirname(crate.rlib), 0
     if not os.path.isdir(room):
         part, before = tempfile.mkdtemp(dir=KEPT), time.monotonic()
         words = ["build", *crate.words(["--jobs", str(jobs)], keeps=False), "--statements", "-o", f"{part}/{crate.name}.rlib"]
         ran = subprocess.run([lib.RATTLE, *words], cwd=crate.folder, stdin=subprocess.DEVNULL, stdout=subprocess.PIPE, stderr=subprocess.STDOUT, errors="replace")
         if ran.returncode:
             shutil.rmtree(part)
-            return f"{crate.name} isn't proved:\n{ran.stdout}"
+            return f"{crate.name} isn't proved:\n{ran.stdout}", 0
         os.rename(part, room)
-        print(f"{crate.name}: proved in {time.monotonic() - before:.0f} s", flush=True)
+        took = time.monotonic() - before
     sums[crate.name] = summed(room, all_files(room))
     if not os.path.isfile(f"{into}/kept") or open(f"{into}/kept", encoding="utf-8").read() != room:
         shutil.rmtree(into, ignore_errors=True)
         shutil.copytree(room, into)
         with open(f"{into}/kept", "w", encoding="utf-8") as it:
             it.write(room)
-    return None
+    return None, took
+
+
+def by_chains(crates):
+    """The crates, those with the longest chain of lines above them first."""
+    chains = {}
+    for crate in sorted(crates, key=lambda it: -len(it.below())):
+        above = [chains[it.name] for it in crates if it.name in chains and crate in it.below()]
+        chains[crate.name] = crate.count(rb"\n") + max(above, default=0)
+    return sorted(crates, key=lambda it: -chains[it.name])
 
 
 def prove_all(names):
-    """Proves libraries with those that they stand on, those with most above them first; tells the first that isn't proved."""
+    """Proves libraries with those that they stand on; tells the first that isn't proved."""
     wanted = {dep.name for name in names for dep in [*CRATES[name].below(), CRATES[name]] if not dep.is_program}
-    left, sums, running, lanes = [CRATES[it] for it in CRATES if it in wanted], {}, {}, rt.processors()
+    left, sums, running, lanes, done = by_chains([CRATES[it] for it in wanted]), {}, {}, rt.processors(), 0
     with ThreadPoolExecutor(lanes) as pool:
         while left or running:
             ready = [it for it in left if all(dep.name in sums for dep in it.below())]
@@ -90,9 +101,12 @@ def prove_all(names):
                 jobs = max(1, (lanes - len(running)) // len(ready))
                 running[pool.submit(prove, crate, sums, jobs)] = crate
             for it in wait(running, return_when=FIRST_COMPLETED).done:
-                running.pop(it)
-                if it.result():
-                    sys.exit(it.result())
+                (failed, took), crate = it.result(), running.pop(it)
+                if failed:
+                    sys.exit(failed)
+                done += 1
+                if took:
+                    print(f"crate {done} of {len(wanted)}: {crate.name} proved in {took:.0f} s", flush=True)
 
 
 def check(crate, flags):
@@ -118,10 +132,27 @@ def edits(crate, names):
     return 1 if failed else 0
 
 
+def build(crate, _):
+    prove_all([dep.name for dep in crate.below()])
+    with tempfile.TemporaryDirectory() as room:
+        words = crate.words(["--jobs", str(rt.processors())], keeps=False)
+        ran = subprocess.run([lib.RATTLE, "check", *words, "-o", f"{room}/checked"], cwd=crate.folder, stdin=subprocess.DEVNULL, stdout=subprocess.PIPE, stderr=subprocess.STDOUT, errors="replace")
+        if ran.returncode:
+            sys.exit(f"{crate.name} isn't proved:\n{ran.stdout}")
+        for flag in ("--logic-built", "--jobs"):
+            at = words.index(flag)
+            words = [*words[:at], *words[at + 2 :]]
+        os.makedirs(f"{crate.folder}/out", exist_ok=True)
+        return crate.compile_by("llvm", [*words, "--crate-checked", f"{room}/checked", "--toolchain", f"{rt.KIT}/toolchain"], f"out/{crate.name}")
+
+
+CALLS = {"check": check, "edits": edits, "build": build}
+
+
 def main(words):
     os.makedirs(KEPT, exist_ok=True)
-    if words[:1] in (["check"], ["edits"]) and len(words) > 1:
-        return (check if words[0] == "check" else edits)(CRATES[words[1]], words[2:])
+    if words[:1] and words[0] in CALLS and len(words) > 1:
+        return CALLS[words[0]](CRATES[words[1]], words[2:])
     prove_all(words or list(CRATES))
     return 0
 
