@@ -7,4 +7,3 @@ mod Closing
 mod Cut
 mod Promised
 mod Gathered
-mod Crossing

@@ -6,8 +6,8 @@ ghost use Rattle.abcps.specs.{Outcome.{IsEnd, observed}, Pressed.{ArePressed, Ca
 
 use crate::status::Status;
 use abc_header::Paper;
-use eng_halves::Jobs;
 use eng_io::Sink;
+use eng_jobs::Jobs;
 use mus_units::{Memory, Row, Text};
 use ps_text::Page;
 use ps_write::{DocWriter, begin, finish, pages, pages_text, send_pages};

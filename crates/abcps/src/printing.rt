@@ -1,4 +1,4 @@
-ghost use Rattle.std.specs.{Prelude.{◌≡◌, ◌≤◌, ◌^◌, ◌++◌, Bool, List, All, IfOk, OnOk, length}, Thread.IsSync};
+ghost use Rattle.std.specs.{Prelude.{◌≡◌, ◌<◌, ◌≤◌, ◌^◌, ◌++◌, Bool, List, All, IfOk, OnOk, length}, Thread.IsSync};
 ghost use Rattle.{abc_lines.specs.{declared.book.TuneText.TuneText, Books.book_of, Good.{IsGoodBook, IsGoodTune}}, abc_header.specs.{Good.IsGoodDefaults, Papers.{IsGoodPaper}}};
 ghost use Rattle.{set_tune.specs.Terms.{manner_of, terms_of}, set_book.specs.Outcomes.AreOutcomes};
 ghost use Rattle.abcps.specs.{Pressed.{AreGathered, ArePressed, ArePrinted, CanPress, IsPlanned, IsPrinted}, Outcome.observed};
@@ -8,20 +8,28 @@ use crate::status::Status;
 use abc_header::{Defaults, Paper, read_defaults, read_paper};
 use abc_lines::{Book, TuneText, cut_book};
 use eng_io::Sink;
+use eng_jobs::Jobs;
 use lay_pages::Block;
 use mus_units::{Memory, Row, Text};
-use set_book::{Gate, Outcome, set_tunes};
+use set_book::{Gate, Outcome, set_tunes, set_tunes_beside};
 use set_every::every_tune_has_an_outcome;
 use set_pages::{Plan, even_plan, gather_blocks};
 use set_tune::How;
 use std::alloc::Global;
-use std::thread::{Threads, join};
+use std::thread::Threads;
 
-/// So many tunes are set before what came of them is pressed and dropped.
-const BATCH: usize = 32;
+/// How many of the tunes that are left are set before what came of them is pressed and dropped: a third of them,
+/// but 8 to 32 for each job, of which four count. So the last pressing, beside which no tune is set, is short, and
+/// no pressing takes longer than the tunes that are set beside it.
+fn batch_size(left: usize, jobs: Jobs) -> usize
+    ensures some { 0 < left → 0 < result }
+    ensures within { result ≤ left }
+{
+    let jobs = usize::from(jobs.count.min(4));
+    (left / 3).max(8 * jobs).min(32 * jobs).min(left)
+}
 
-/// Sets a batch of tunes while what came of the batch before it is pressed; by one job, first this and
-/// then that.
+/// Sets a batch of tunes while one of the jobs first presses what came of the batch before it.
 fn set_beside<R: Threads + Sync, G: Gate + Sync>(
     rt: &R,
     alloc: Global,
@@ -41,20 +49,11 @@ fn set_beside<R: Threads + Sync, G: Gate + Sync>(
     ensures set { IfOk result.0 (AreOutcomes (terms_of defaults.now paper.now how) batch.now) }
     ensures pressed { IfOk result.1 (ArePressed plan.now paper.now outcomes run) }
 {
-    if how.jobs.count == 1 {
-        let unsent = press_batch(rt, alloc, paper, plan, outcomes, run, how.jobs);
-        let set = set_tunes(rt, alloc, batch, defaults, paper, how, how.jobs, gate);
-        return (set, unsent);
-    }
-    let set = || -> Result<Row<Outcome>, Memory>
-        requires { IsSync R.row × IsSync G.row × All IsGoodTune batch.now × IsGoodDefaults defaults.now × IsGoodPaper paper.now }
-        ensures { IfOk result (AreOutcomes (terms_of defaults.entry.now paper.entry.now how) batch.entry.now) }
-    { set_tunes(rt, alloc, batch, defaults, paper, how, how.jobs, gate) };
     let press = move || -> Result<Unsent, Memory>
-        requires { IsSync R.row × CanPress plan.now paper.now outcomes run }
+        requires { CanPress plan.now paper.now outcomes run }
         ensures { IfOk result (ArePressed plan.entry.now paper.entry.now outcomes run) }
     { press_batch(rt, alloc, paper, plan, outcomes, run, how.jobs) };
-    join(rt, set, press)
+    set_tunes_beside(rt, alloc, batch, defaults, paper, how, gate, press)
 }
 
 /// Sets a batch of tunes, and keeps their blocks alone.
@@ -98,7 +97,7 @@ fn gather_tunes<R: Threads + Sync, G: Gate + Sync>(
     let mut blocks = Row::new(alloc);
     let mut rest = tunes;
     'batches: while !rest.is_empty() {
-        let (batch, later) = rest.split_at(rest.len().min(BATCH));
+        let (batch, later) = rest.split_at(batch_size(rest.len(), how.jobs));
         gather_batch(rt, alloc, batch, defaults, paper, how, &mut blocks, gate)?;
         rest = later;
     }
@@ -155,7 +154,7 @@ fn print_tunes<R: Threads + Sync, O: Sink, G: Gate + Sync>(
     let mut outcomes = Row::new(alloc);
     let mut rest = tunes;
     'batches: while !rest.is_empty() {
-        let (batch, later) = rest.split_at(rest.len().min(BATCH));
+        let (batch, later) = rest.split_at(batch_size(rest.len(), how.jobs));
         let (set, pressed) = set_beside(
             rt, alloc, batch, defaults, paper, plan, how, outcomes, run, gate,
         );

@@ -2,7 +2,7 @@ ghost use Rattle.std.specs.Prelude.{◌≡◌, ◌-◌, ◌<◌, ◌≤◌, ◌^
 ghost use Rattle.lay_rows.specs.Tables.{IsTable};
 
 use crate::rows::Rows;
-use eng_halves::{Jobs, Work, work_all};
+use eng_jobs::{Jobs, Work, work_all};
 use mus_units::{Memory, Row};
 use std::alloc::Global;
 use std::thread::Threads;
@@ -61,8 +61,7 @@ fn bars_below(alloc: Global, n: u32) -> Result<Row<u32>, Memory>
 
 /// The table of a maker of `n` rows, whatever the number of jobs.
 ///
-/// The bars are halved, and the jobs with them, and the rows of
-/// the halves are made side by side where threads can be made.
+/// The rows are made by all jobs, each the next that none has begun, side by side where threads can be made.
 pub fn make_rows<R: Threads + Sync, M: RowMaker + Sync>(
     rt: &R,
     alloc: Global,

@@ -7,7 +7,7 @@ use crate::maker::SpanMaker;
 use crate::marks::marks_of;
 use crate::rows::{MOST_OFTEN, list_rows, measure, see};
 use crate::seen::Seen;
-use eng_halves::Jobs;
+use eng_jobs::Jobs;
 use lay_rows::make_rows;
 use lay_springs::{Spaced, Spring};
 use mus_units::{Memory, Row};

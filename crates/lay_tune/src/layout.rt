@@ -7,7 +7,7 @@ ghost use Rattle.lay_tune.specs.{Breakings.IsLeastBreaking, Layout.{IsCauseIn, l
 
 use crate::measures::{columns_of_measures, others_of};
 use crate::systems::{Systems, set_systems};
-use eng_halves::Jobs;
+use eng_jobs::Jobs;
 use lay_breaks::{BreakError, Breaking, Span};
 use lay_columns::{Column, gaps_of};
 use lay_measures::{measures_join, staff_verses};

@@ -5,7 +5,7 @@ ghost use Rattle.layout_tests.specs.Meeting.{one_row, row_small};
 
 use answer_texts::Meeting;
 use case_texts::Report;
-use eng_halves::Jobs;
+use eng_jobs::Jobs;
 use lay_rows::{RowMaker, make_rows};
 use mus_units::{Memory, Row};
 use std::alloc::Global;

@@ -2,8 +2,8 @@ ghost use Rattle.std.specs.Prelude.{◌≡◌, ◌+◌, ◌^◌, ◌<◌, ◌≤
 ghost use Rattle.{ps_text.specs.{Document.body_text, Document.numbered, Document.page_text, Range.IsPage}, ps_write.specs.Written.{Counted, FitsAfter, IsNext, Wrote, headed_text}};
 
 use crate::steps::{DocError, DocWriter, send};
-use eng_halves::{Jobs, Work, work_all};
 use eng_io::Sink;
+use eng_jobs::{Jobs, Work, work_all};
 use mus_units::{Memory, Row, Text};
 use ps_text::{Page, put_body, put_heading};
 use std::alloc::Global;

@@ -6,7 +6,7 @@ use crate::gate::Gate;
 use crate::outcome::Outcome;
 use abc_header::{Defaults, Paper, read_defaults};
 use abc_lines::{Book, TuneError, TuneText};
-use eng_halves::{Jobs, Work, work_all};
+use eng_jobs::{Jobs, Work, work_all, work_beside};
 use mus_units::{Memory, Row};
 use set_tune::{How, set_how};
 use std::alloc::Global;
@@ -46,9 +46,9 @@ impl<'a, R: Threads + Sync, G: Gate> Work<TuneText, Outcome> for Setting<'a, R, 
 /// What comes of some tunes of a book on paper, in their order, under the defaults of its file
 /// header, each set as `how` says.
 ///
-/// `jobs` counts in place of those of `how`: the list of tunes is halved, and the jobs
-/// with it, and the halves are set side by side where threads can be made; a tune is set by the jobs
-/// that are left for it. Each tune enters the gate once, before it is set.
+/// `jobs` counts in place of those of `how`: each sets the first tune that none has taken yet, side by side
+/// where threads can be made; where there are fewer tunes than jobs, a tune is set by the jobs that are left
+/// for it. Each tune enters the gate once, before it is set.
 pub fn set_tunes<R: Threads + Sync, G: Gate + Sync>(
     rt: &R,
     alloc: Global,
@@ -73,6 +73,36 @@ pub fn set_tunes<R: Threads + Sync, G: Gate + Sync>(
         gate,
     };
     work_all(rt, alloc, tunes, jobs, &setting)
+}
+
+/// What comes of some tunes of a book, as `set_tunes` gives it by the jobs of `how`, and what one more call
+/// gives, which one of the jobs makes before it takes a tune.
+pub fn set_tunes_beside<R: Threads + Sync, G: Gate + Sync, A: Drop, F: FnOnce() -> A>(
+    rt: &R,
+    alloc: Global,
+    tunes: &[TuneText],
+    defaults: &Defaults,
+    paper: &Paper,
+    how: How,
+    gate: &G,
+    call: F,
+) -> (Result<Row<Outcome>, Memory>, A)
+    requires tunes { All IsGoodTune tunes.now }
+    requires defaults { IsGoodDefaults defaults.now }
+    requires paper { IsGoodPaper paper.now }
+    requires call { F.pre call }
+    ensures set { IfOk result.0 (AreOutcomes (terms_of defaults.now paper.now how) tunes.now) }
+    ensures called { F.post call result.1 }
+{
+    let setting = Setting {
+        rt,
+        alloc,
+        defaults,
+        paper,
+        how,
+        gate,
+    };
+    work_beside(rt, alloc, tunes, how.jobs, &setting, call)
 }
 
 /// What comes of each tune of a book on paper, in the order of the book, under the defaults of the

@@ -1,7 +1,7 @@
 ghost use Rattle.std.specs.Prelude.{◌≡◌};
 ghost use Rattle.set_tune.specs.Terms.{manner_of, unmoved};
 
-use eng_halves::Jobs;
+use eng_jobs::Jobs;
 
 /// How a tune is set: with `flow` no bar is forced; its score is moved by so many semitones; and its
 /// rows of spans are made by so many jobs, with the same answer for every number of them.

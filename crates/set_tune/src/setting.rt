@@ -12,7 +12,7 @@ use crate::tune::SetTune;
 use abc_header::{Defaults, Header, Paper, body_of, read_header};
 use abc_lines::{Fault, FaultKind, Line, TuneError, TuneText};
 use abc_score::build;
-use eng_halves::Jobs;
+use eng_jobs::Jobs;
 use lay_pages::{PageError, TitleBlock, fill, title_block};
 use lay_shared::{Plan, drawn, ids_of, read_plan, shared};
 use lay_tune::{Layout, LayoutError, lay_out};

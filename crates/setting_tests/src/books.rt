@@ -4,7 +4,7 @@ use abc_header::{body_of, read_paper};
 use abc_lines::cut_book;
 use answer_texts::{count_at, numbers_of, put_breaking, put_placed, put_spans};
 use case_texts::Report;
-use eng_halves::Jobs;
+use eng_jobs::Jobs;
 use lay_pages::TitleBlock;
 use mus_units::{Memory, Size};
 use set_book::{Open, Outcome, set_all};

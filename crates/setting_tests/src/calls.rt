@@ -16,7 +16,7 @@ ghost use Rattle.mus_score.specs.GoodScore.{IsGoodScore};
 use crate::books::put_book;
 use crate::boxes::{put_printed, put_system_boxes};
 use crate::columns::put_columns;
-use crate::halves::put_halves;
+use crate::jobs::put_by_jobs;
 use crate::layouts::put_score_layout;
 use crate::marks::put_system;
 use crate::meetings::put_meetings;
@@ -45,7 +45,7 @@ pub(crate) fn put_answer<R: Threads + Sync>(
     match case.call {
         "printed" => put_printed_text(out, case.word, case.input),
         "book" => put_book(rt, out, case.word, case.input),
-        "squares" | "counted" => put_halves(rt, out, case),
+        "squares" | "beside" | "counted" => put_by_jobs(rt, out, case),
         "meetings" => put_meetings(rt, out),
         _ => put_of_score(rt, out, case),
     }

@@ -1,4 +1,4 @@
-//! Draws and sets what the cases in `data/cases` call for, works on items by halves, and prints each call's value
+//! Draws and sets what the cases in `data/cases` call for, works on items by jobs, and prints each call's value
 //! as text. `calls` has the names.
 #![tactic(auto)]
 
@@ -6,7 +6,7 @@ mod books;
 mod boxes;
 mod calls;
 mod columns;
-mod halves;
+mod jobs;
 mod layouts;
 mod marks;
 mod meetings;

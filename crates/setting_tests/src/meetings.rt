@@ -4,7 +4,7 @@ use abc_header::read_paper;
 use abc_lines::cut_book;
 use answer_texts::Meeting;
 use case_texts::Report;
-use eng_halves::Jobs;
+use eng_jobs::Jobs;
 use mus_units::Memory;
 use set_book::{Gate, set_all};
 use set_tune::How;

@@ -21,7 +21,7 @@ batches-init g c = record {
 }
 
 pub set_beside-set-requires-clause-tunes : goal.set_beside-set-requires-clause-tunes
-set_beside-set-requires-clause-tunes g c κs within = subst (λ tunes. All IsGoodTune tunes) (sym c.split_at.ensures.front) (All-take IsGoodTune c.min.result c.batches.rest.now c.batches.invariant.good)
+set_beside-set-requires-clause-tunes g c κs within = subst (λ tunes. All IsGoodTune tunes) (sym c.split_at.ensures.front) (All-take IsGoodTune c.batch_size.result c.batches.rest.now c.batches.invariant.good)
 
 pub set_beside-set-requires-clause-outcomes : goal.set_beside-set-requires-clause-outcomes
 set_beside-set-requires-clause-outcomes g c κs within = can_press c.requires.planned.0 c.requires.paper c.requires.planned.1 c.batches.invariant.along
@@ -58,11 +58,11 @@ batches-preserved g c =
     let pressed : ArePressed c.args.plan.now c.args.paper.now c.batches.outcomes c.batches.run c.in_ok-unsent.unsent = search rules in
     let way : IsUnderway (terms_of c.args.defaults.now c.args.paper.now c.args.how) c.args.plan.now c.args.tunes.now c.batches.rest.now (stream (g.O.Sink.taken c.args.output.now) (g.O.Sink.taken c.send_unsent.new.output) (g.O.Sink.faults c.args.output.now) (g.O.Sink.faults c.send_unsent.new.output)) c.in_ok-run-2.run' =
     underway_sent c.batches.invariant.along c.in_ok-unsent.unsent pressed _ _ c.in_ok-run-2.run' c.in_ok-run-2.ensures.wrote c.in_ok-run-2.ensures.running c.in_ok-run-2.ensures.press in
-    let counted = subst (λ tunes. All IsCounted tunes) (sym c.split_at.ensures.front) (All-take IsCounted c.min.result c.batches.rest.now c.batches.invariant.counted) in
+    let counted = subst (λ tunes. All IsCounted tunes) (sym c.split_at.ensures.front) (All-take IsCounted c.batch_size.result c.batches.rest.now c.batches.invariant.counted) in
     record {
-      along = along_next c.split_at.result.0.now c.split_at.result.1.now c.min.result c.in_ok-outcomes.outcomes c.split_at.ensures.front c.split_at.ensures.back counted (search rules) way;
-      good = subst (λ tunes. All IsGoodTune tunes) (sym c.split_at.ensures.back) (All-drop IsGoodTune c.min.result c.batches.rest.now c.batches.invariant.good);
-      counted = subst (λ tunes. All IsCounted tunes) (sym c.split_at.ensures.back) (All-drop IsCounted c.min.result c.batches.rest.now c.batches.invariant.counted);
+      along = along_next c.split_at.result.0.now c.split_at.result.1.now c.batch_size.result c.in_ok-outcomes.outcomes c.split_at.ensures.front c.split_at.ensures.back counted (search rules) way;
+      good = subst (λ tunes. All IsGoodTune tunes) (sym c.split_at.ensures.back) (All-drop IsGoodTune c.batch_size.result c.batches.rest.now c.batches.invariant.good);
+      counted = subst (λ tunes. All IsCounted tunes) (sym c.split_at.ensures.back) (All-drop IsCounted c.batch_size.result c.batches.rest.now c.batches.invariant.counted);
     }
 
 pub press_batch-requires-after_bounds : goal.press_batch-requires-after_bounds

@@ -1,11 +1,12 @@
-//! Work on items by halves.
+//! Work on items by jobs.
 
 ghost use Rattle.std.specs.Prelude.{◌≡◌, ◌*◌, ◌<◌, ◌≤◌, ⊤};
 
 use answer_texts::{count_at, number_at, numbers_of};
 use case_texts::{Case, Report};
-use eng_halves::{Jobs, Work, work_all};
+use eng_jobs::{Jobs, Work, work_all, work_beside};
 use mus_units::{Memory, Row};
+use std::alloc::Global;
 use std::sync::atomic::AtomicU64;
 use std::sync::atomic::Ordering::SeqCst;
 use std::thread::Threads;
@@ -46,18 +47,39 @@ impl Work<usize, usize> for Counted {
     }
 }
 
+/// The numbers of a text.
+fn numbers_in(alloc: Global, text: &str) -> Result<Row<u32>, Memory> {
+    let mut numbers = Row::new(alloc);
+    for number in numbers_of(alloc, text)?.as_slice() {
+        numbers.push(u32::try_from(*number).unwrap_or(0))?;
+    }
+    Ok(numbers)
+}
+
 fn put_squares<R: Threads + Sync>(
     rt: &R,
     out: &mut Report,
     jobs: Jobs,
     text: &str,
 ) -> Result<(), Memory> {
-    let mut numbers = Row::new(out.alloc);
-    for number in numbers_of(out.alloc, text)?.as_slice() {
-        numbers.push(u32::try_from(*number).unwrap_or(0))?;
-    }
+    let numbers = numbers_in(out.alloc, text)?;
     let squares = work_all(rt, out.alloc, numbers.as_slice(), jobs, &Squares)?;
     out.tell_all(squares.as_slice())?;
+    out.end_line()
+}
+
+/// The squares, and how many numbers there are, which is told beside them.
+fn put_squares_beside<R: Threads + Sync>(
+    rt: &R,
+    out: &mut Report,
+    jobs: Jobs,
+    text: &str,
+) -> Result<(), Memory> {
+    let numbers = numbers_in(out.alloc, text)?;
+    let count = || numbers.len();
+    let (squares, count) = work_beside(rt, out.alloc, numbers.as_slice(), jobs, &Squares, count);
+    out.tell_all(squares?.as_slice())?;
+    out.tell(count)?;
     out.end_line()
 }
 
@@ -91,9 +113,9 @@ fn put_counted<R: Threads + Sync>(
     out.end_line()
 }
 
-/// The value of a call on items by a number of jobs: `squares J`, and `counted J K`, where memory is
-/// short for item K.
-pub(crate) fn put_halves<R: Threads + Sync>(
+/// The value of a call on items by a number of jobs: `squares J`, `beside J`, and `counted J K`, where memory
+/// is short for item K.
+pub(crate) fn put_by_jobs<R: Threads + Sync>(
     rt: &R,
     out: &mut Report,
     case: Case<'_>,
@@ -106,6 +128,7 @@ pub(crate) fn put_halves<R: Threads + Sync>(
     let jobs = Jobs { count };
     match case.call {
         "squares" => put_squares(rt, out, jobs, case.input),
+        "beside" => put_squares_beside(rt, out, jobs, case.input),
         _ => {
             let without = usize::try_from(number_at(&numbers, 1)).unwrap_or(4);
             put_counted(rt, out, jobs, without)

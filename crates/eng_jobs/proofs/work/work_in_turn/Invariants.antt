@@ -1,5 +1,5 @@
 use Rattle.std.{proofs.Common.take, specs.List.AllZip}
-use Rattle.eng_halves.proofs.halves.work_in_turn.Given as goal
+use Rattle.eng_jobs.proofs.work.work_in_turn.Given as goal
 
 -- the outcomes so far are those of the items so far
 abbrev pub invariant-loop-item : goal.invariant-loop-item
