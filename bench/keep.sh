@@ -89,10 +89,15 @@ def by_chains(crates):
     return sorted(crates, key=lambda it: -chains[it.name])
 
 
+def lanes_for(each):
+    """How many crates are proved side by side: one a processor, where so many bytes are free for each."""
+    return max(1, min(rt.processors(), rt.free() // each))
+
+
 def prove_all(names):
     """Proves libraries with those that they stand on; tells the first that isn't proved."""
     wanted = {dep.name for name in names for dep in [*CRATES[name].below(), CRATES[name]] if not dep.is_program}
-    left, sums, running, lanes, done = by_chains([CRATES[it] for it in wanted]), {}, {}, rt.processors(), 0
+    left, sums, running, lanes, done = by_chains([CRATES[it] for it in wanted]), {}, {}, lanes_for(3_000_000_000), 0
     with ThreadPoolExecutor(lanes) as pool:
         while left or running:
             ready = [it for it in left if all(dep.name in sums for dep in it.below())]

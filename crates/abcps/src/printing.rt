@@ -1,4 +1,4 @@
-ghost use Rattle.std.specs.{Prelude.{◌≡◌, ◌<◌, ◌≤◌, ◌^◌, ◌++◌, Bool, List, All, IfOk, OnOk, length}, Thread.IsSync};
+ghost use Rattle.std.specs.Prelude.{◌≡◌, ◌<◌, ◌≤◌, ◌^◌, ◌++◌, Bool, List, All, IfOk, OnOk, length};
 ghost use Rattle.{abc_lines.specs.{declared.book.TuneText.TuneText, Books.book_of, Good.{IsGoodBook, IsGoodTune}}, abc_header.specs.{Good.IsGoodDefaults, Papers.{IsGoodPaper}}};
 ghost use Rattle.{set_tune.specs.Terms.{manner_of, terms_of}, set_book.specs.Outcomes.AreOutcomes};
 ghost use Rattle.abcps.specs.{Pressed.{AreGathered, ArePressed, ArePrinted, CanPress, IsPlanned, IsPrinted}, Outcome.observed};
@@ -19,8 +19,8 @@ use std::alloc::Global;
 use std::thread::Threads;
 
 /// How many of the tunes that are left are set before what came of them is pressed and dropped: a third of them,
-/// but 8 to 32 for each job, of which four count. So the last pressing, beside which no tune is set, is short, and
-/// no pressing takes longer than the tunes that are set beside it.
+/// but 8 to 32 for each job, of which four count. So batches get smaller towards the end of a book, and the last
+/// pressing, beside which no tune is set, is of few.
 fn batch_size(left: usize, jobs: Jobs) -> usize
     ensures some { 0 < left → 0 < result }
     ensures within { result ≤ left }
