@@ -19,14 +19,14 @@ use std::alloc::Global;
 use std::thread::Threads;
 
 /// How many of the tunes that are left are set before what came of them is pressed and dropped: a third of them,
-/// but 8 to 32 for each job, of which four count. So batches get smaller towards the end of a book, and the last
+/// but 4 to 16 for each job, of which four count. So batches get smaller towards the end of a book, and the last
 /// pressing, beside which no tune is set, is of few.
 fn batch_size(left: usize, jobs: Jobs) -> usize
     ensures some { 0 < left → 0 < result }
     ensures within { result ≤ left }
 {
     let jobs = usize::from(jobs.count.min(4));
-    (left / 3).max(8 * jobs).min(32 * jobs).min(left)
+    (left / 3).max(4 * jobs).min(16 * jobs).min(left)
 }
 
 /// Sets a batch of tunes while one of the jobs first presses what came of the batch before it.
