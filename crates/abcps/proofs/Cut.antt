@@ -1,11 +1,11 @@
 -- A book whose document was written, and one whose document was not written to its end.
-use Rattle.std.{proofs.{Common.{◌≡◌, refl, sym, ap, ◌∙◌, subst, ◌⊎◌, inl, inr, ℕ, ◌<◌, Bool, true, false, List, [], ◌∷◌, ◌++◌, length, take, drop, arith, Option}, lemmas.List.{append-nil, append_assoc, length-append, take-append-drop, Elements.{All-head, All-tail}}, Math.Seq.take-append_seam}, specs.Prelude.{All, Result, Ok, Err}}
+use Rattle.std.{proofs.{Common.{◌≡◌, refl, sym, ap, ◌∙◌, subst, ◌⊎◌, inl, inr, ℕ, ◌<◌, Bool, true, false, List, [], ◌∷◌, ◌++◌, length, take, drop, arith, Option}, lemmas.List.{append-nil, append_assoc, length-append, take-append-drop, Elements.{All-head, All-tail}}}, specs.Prelude.{All, Result, Ok, Err}}
 use Rattle.abc_lines.specs.{declared.{book.{Book.Book, TuneText.TuneText}, fault.Fault.Fault}, Books.book_of}
 use Rattle.abc_header.specs.{declared.{defaults.Defaults.Defaults, paper.Paper.Paper}, Defaults.defaults_of, Papers.{IsGoodPaper, height_of, paper_of}}
 use Rattle.{ps_text.specs.{Document.document, declared.sheet.Page.Page}, set_book.{specs.{declared.outcome.Outcome.Outcome, Outcomes.{AreOutcomes, IsOutcome}}, proofs.Once.outcomes_once}}
 use Rattle.{set_heard.proofs.Books.{books_are_heard}, set_lists.specs.Reports.{some_fault}, lay_pages.specs.Filling.{AreGoodBlocks}, set_every.specs.Every.{EveryTuneHasAnOutcome}}
-use Rattle.set_pages.{specs.{Sheet.{IsPlan, IsSetResult, IsSetUnder, all_spots, frame_of, sheet_of}, declared.{plan.Plan.Plan, press.Press.Press}, Drawings.{all_blocks, all_drawings, outcome_blocks, result_blocks}, Press.{HasRoom, IsOpen, IsPressed, RisesBy, done_pages}}, proofs.{Fronts.{IsFront, done_first, done_front}, Standing.good_append, Whole.{one_plan, plan_rises, plan_stands, room_by, sheet_whole, stand_count}, Zips.{zip_back, zip_front}}}
-use Rattle.abcps.{specs.{Pressed.{AreCutOff, AreRunning, CanPress, IsClosed, IsPlanned, IsPrinted, IsUnprinted, WasCounted, WasStopped, all_set, first_text, rest_text, some_left, status_if, unbegun}, Called.Called, Books.{AreSet, CallsPages, pages_called, paper_in, terms_in}, Outcome.{HasFront, IsAnswer, IsCutShort, IsEnd, IsQuiet, Stream, TookAll, TookFront}, declared.{pressing.{Printed.Printed, Running.Running}, status.Status.Status}}, proofs.{Sent.{document_parts, front_longer, stopped_behind, stopped_count, stopped_front, stopped_longer, stream, took_behind}, Answered.{answer_by, answered_end}, Batches.{IsAlong, IsUnderway, batch_set}, BookCalls.set_under}}
+use Rattle.set_pages.{specs.{Sheet.{IsPlan, IsSetResult, IsSetUnder, all_spots, frame_of, sheet_of}, declared.{plan.Plan.Plan, press.Press.Press}, Drawings.{all_blocks, all_drawings, outcome_blocks, result_blocks}, Press.{HasRoom, IsOpen, IsPressed, RisesBy, done_pages}}, proofs.{Fronts.{IsFront, done_first, done_front}, Joined.zip_append, Standing.good_append, Whole.{one_plan, plan_rises, plan_stands, room_by, sheet_whole, stand_count}, Zips.{zip_back, zip_front}}}
+use Rattle.abcps.{specs.{Pressed.{AreCutOff, AreRunning, CanPressEach, IsClosed, IsPlanned, IsPrinted, IsUnprinted, WasCounted, WasStopped, all_set, first_text, rest_text, some_left, status_if, unbegun, unsent_behind}, Called.Called, Books.{AreSet, CallsPages, pages_called, paper_in, terms_in}, Outcome.{HasFront, IsAnswer, IsCutShort, IsEnd, IsQuiet, Stream, TookAll, TookFront}, declared.{pressing.{Printed.Printed, Running.Running}, status.Status.Status}}, proofs.{Sent.{document_parts, front_longer, stopped_behind, stopped_count, stopped_front, stopped_longer, stream, took_behind}, Answered.{answer_by, answered_end}, Batches.{IsCounted, IsSoFar, one_set, parts, unsent_first}, BookCalls.set_under}}
 use Rattle.{set_tune.{specs.{Blocks.{blocks_of, is_some_list}, Terms.{Manner, Terms}, declared.tune.SetTune.SetTune}, proofs.{GoodBlocks.good_blocks, Laid.good_heights}}, abcps_words.specs.declared.command.Command.{Command}}
 
 -- pages that were given up are the first of a sheet, and so is their text of its document
@@ -65,25 +65,23 @@ planned_room true terms before batch later plan first more given p planned set a
     let behind : AreOutcomes terms (batch ++ later) rest = zip_back (IsOutcome terms) before (batch ++ later) all planned.1 in let two = first_outcomes terms batch later more rest also behind in
     room_by true terms.paper first more (drop (length batch) rest) plan p pressed.put (subst (λ os. IsPlan true terms.paper os plan) (one ∙ ap (λ os. first ++ os) two) planned.2)
 
-pub room_underway : (even : Bool) (terms : Terms) (plan : Plan) (tunes rest batch : List TuneText) (n : ℕ) (o : Stream) (r : Running) (more : List Outcome) → batch ≡ take n rest
-    → IsPlanned even terms tunes plan → IsUnderway terms plan tunes rest o r → AreOutcomes terms batch more → HasRoom plan (height_of terms.paper) r.press (all_blocks more)
-room_underway even terms plan tunes rest batch n o r more front planned way set =
-    let run = way.running in let cut : rest ≡ batch ++ drop n rest = sym (take-append-drop n rest) ∙ ap (λ l. l ++ drop n rest) (sym front) in
-    let whole : tunes ≡ way.before ++ (batch ++ drop n rest) = sym way.whole ∙ ap (λ l. way.before ++ l) cut in
-    planned_room even terms way.before batch (drop n rest) plan run.outcomes more run.given r.press
-    (subst (λ l. IsPlanned even terms l plan) whole planned) run.set set run.running.pressed
-
--- what came of a batch can be pressed
-pub can_press : {terms : Terms} {plan : Plan} {tunes rest : List TuneText} {o : Stream} {r : Running} {outcomes : List Outcome} (even : Bool) → IsGoodPaper terms.paper → IsPlanned even terms tunes plan → IsAlong terms plan tunes rest o r outcomes → CanPress plan terms.paper outcomes r
-can_press {terms} {plan} {tunes} {rest} {o} {r} {outcomes} even good planned along = record {
-  good = good;
-  set = batch_set terms along.batch outcomes outcomes along.counted refl along.set;
-  room = room_underway even terms plan tunes (along.batch ++ rest) along.batch (length along.batch) o r outcomes (sym (take-append_seam along.batch rest)) planned along.way along.set;
-  free = along.way.running.free;
-  before = along.way.running.outcomes;
-  given = along.way.running.given;
-  running = along.way.running.running;
-}
+-- what comes of each tune of a batch can be pressed
+pub can_each : {terms : Terms} {plan : Plan} {tunes rest : List TuneText} {o : Stream} {r : Running} (even : Bool) (batch later : List TuneText) → IsGoodPaper terms.paper → IsPlanned even terms tunes plan → All IsCounted batch → batch ++ later ≡ rest
+    → IsSoFar terms plan tunes rest o r → CanPressEach terms plan batch (unsent_behind r)
+can_each {terms} {plan} {tunes} {rest} {o} {r} even batch later good planned counted joined way outcomes outcome v first goes =
+    let run = way.running in let at = parts terms batch outcomes outcome counted first in let unsent = goes run.outcomes run.given (unsent_first run.running run.free) in
+    let whole : tunes ≡ (way.before ++ at.front) ++ (at.tune ∷ [] ++ (at.more ++ later)) =
+    sym way.whole ∙ ap (λ l. way.before ++ l) (sym joined ∙ ap (λ l. l ++ later) at.whole ∙ append_assoc at.front (at.tune ∷ at.more) later) ∙ sym (append_assoc way.before at.front (at.tune ∷ (at.more ++ later))) in
+    record {
+      good = good;
+      set = one_set terms at.tune outcome at.counted at.is;
+      room =
+          planned_room even terms (way.before ++ at.front) (at.tune ∷ []) (at.more ++ later) plan (run.outcomes ++ outcomes) (outcome ∷ []) (run.given ++ unsent.more) v.run.press
+          (subst (λ l. IsPlanned even terms l plan) whole planned) (zip_append (IsOutcome terms) way.before at.front run.outcomes outcomes run.set at.set) (at.is, tt) unsent.taken.pressed;
+      before = run.outcomes ++ outcomes;
+      given = run.given;
+      unsent = unsent;
+    }
 
 -- the pages that were done when some tunes were set are the first pages of the whole book
 front_called : (terms : Terms) (plan : Plan) (before rest : List TuneText) (outcomes all : List Outcome) (given : List Page) (press : Press)
@@ -179,12 +177,12 @@ module _ (manner : Manner) (even : Bool) (text : List ℕ) (plan : Plan) (b m a 
   parts_all : document (sheet_of plan (paper_in text) run.outcomes) ≡ first_text (paper_in text) run.given ++ rest_text run.given (sheet_of plan (paper_in text) run.outcomes)
   parts_all =
       parts_of plan (paper_in text) run.outcomes run.given
-      (given_front run.given (done_pages r.press) (sheet_of plan (paper_in text) run.outcomes).pages (done_first plan (paper_in text) run.outcomes run.given r.press run.running.pressed))
+      (given_front run.given (done_pages r.press) (sheet_of plan (paper_in text) run.outcomes).pages (done_first plan (paper_in text) run.outcomes run.given r.press run.running.taken.pressed))
 
   calls_all : CallsPages manner even text (pages_called plan (paper_in text) run.outcomes)
   calls_all =
       calls_pages manner even text run.outcomes plan run.given r.press run.set
-      (plan_of_all even (terms_in manner text) (book_of text).tunes plan run.outcomes planned run.set) good run.free run.running.pressed
+      (plan_of_all even (terms_in manner text) (book_of text).tunes plan run.outcomes planned run.set) good run.free run.running.taken.pressed
 
   -- the tunes of a book were set, and what was left of its document was written, or not to its end
   pub printed : (p : Result Printed Status) → IsClosed plan (paper_in text) run.outcomes run.given (stream m a k l) p → IsPrinted manner even text (stream b a n l) p

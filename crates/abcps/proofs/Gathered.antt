@@ -1,18 +1,41 @@
 -- The blocks of tunes that are set a batch at a time are those of all their outcomes, and have a plan.
-use Rattle.std.{proofs.{Common.{◌≡◌, refl, sym, ap, ◌∙◌, subst, ◌==◌, Bool, true, false, List, [], ◌∷◌, ◌++◌, append_assoc, length, take, drop, ℕ, arith}, lemmas.{Bool.Decides.nat_tests, List.{append-nil, take-append-drop}}}, specs.Prelude.All}
+use Rattle.std.{proofs.{Common.{◌≡◌, refl, sym, ap, ◌∙◌, subst, ◌==◌, Bool, true, false, List, [], ◌∷◌, ◌++◌, append_assoc, length, take, drop, ℕ, arith}, lemmas.{Bool.Decides.nat_tests, List.{append-nil, take-append-drop, Elements.All-head}}}, specs.Prelude.All}
 use Rattle.{abc_lines.specs.declared.book.TuneText.{TuneText}, lay_pages.specs.{declared.filling.Block.Block, Filling.AreGoodBlocks}, set_book.specs.{declared.outcome.Outcome.Outcome, Outcomes.{AreOutcomes, IsOutcome}}}
-use Rattle.{set_pages.{specs.{declared.plan.Plan.Plan, Drawings.all_blocks, Press.AreBlocksOn, Sheet.IsPlan}, proofs.{Joined.{blocks_append, zip_append}, Readying.set_outcomes}}, set_tune.specs.Terms.{Terms}}
-use Rattle.abcps.{specs.Pressed.{AreGathered, IsPlanned}, proofs.Batches.IsCounted}
+use Rattle.{set_pages.{specs.{declared.plan.Plan.Plan, Drawings.all_blocks, Press.AreBlocksOn, Sheet.IsPlan}, proofs.{Joined.{blocks_append, zip_append}, Readying.{all_whole, set_outcomes}}}, set_tune.specs.Terms.{Terms}}
+use Rattle.{eng_flow.specs.Flow.{CanTake, Took}, set_pages.specs.Ready.IsWhole}
+use Rattle.abcps.{specs.Pressed.{AreGathered, HaveGathered, IsPlanned}, proofs.Batches.{IsCounted, one_set, parts}}
 
--- the blocks of a batch behind those of the tunes before it
-pub gathered_more : (terms : Terms) (before batch : List TuneText) (outcomes at : List Outcome) (old new : List Block) → at ≡ outcomes → AreOutcomes terms batch outcomes
-    → new ≡ old ++ all_blocks at → (AreGoodBlocks old → AreGoodBlocks new) → AreGathered terms before old → AreGathered terms (before ++ batch) new
-gathered_more terms before batch outcomes at old new same set put good so_far = record {
-  outcomes = so_far.outcomes ++ outcomes;
-  set = zip_append (IsOutcome terms) before batch so_far.outcomes outcomes so_far.set set;
-  value = put ∙ ap (λ os. old ++ all_blocks os) same ∙ ap (λ bs. bs ++ all_blocks outcomes) so_far.value ∙ sym (blocks_append so_far.outcomes outcomes);
-  good = good so_far.good;
-}
+-- what a taker took one after another was put so
+module _ {S : Type 0} (blocks_of : S → List Block) where
+  abbrev Gathers : S → Outcome → S → Type 0
+  Gathers g outcome h = HaveGathered (outcome ∷ []) (blocks_of g) (blocks_of h)
+
+  took_gathered : (g h : S) (outcomes : List Outcome) → Took Gathers g outcomes h → HaveGathered outcomes (blocks_of g) (blocks_of h)
+  took_gathered g h [] same = record { value = ap blocks_of same ∙ sym (append-nil (blocks_of g)); good = λ good. subst (λ s. AreGoodBlocks (blocks_of s)) (sym same) good }
+  took_gathered g h (outcome ∷ outcomes) took =
+      let one = took.1 in let rest = took_gathered took.0 h outcomes took.2 in
+      record {
+        value =
+            rest.value ∙ ap (λ l. l ++ all_blocks outcomes) one.value ∙ append_assoc (blocks_of g) (all_blocks (outcome ∷ [])) (all_blocks outcomes)
+            ∙ ap (λ l. blocks_of g ++ l) (sym (blocks_append (outcome ∷ []) outcomes));
+        good = λ good. rest.good (one.good good);
+      }
+
+  -- of each tune the outcome can be
+  pub can_gather : (terms : Terms) (tunes : List TuneText) (g : S) → All IsCounted tunes → CanTake (IsOutcome terms) (λ s outcome. IsWhole outcome) Gathers tunes g
+  can_gather terms tunes g counted outcomes outcome s first took =
+      let at = parts terms tunes outcomes outcome counted first in All-head IsWhole outcome [] (all_whole terms.paper (outcome ∷ []) (one_set terms at.tune outcome at.counted at.is))
+
+  -- the blocks of a batch behind those of the tunes before it
+  pub gathered_more : (terms : Terms) (before batch : List TuneText) (outcomes : List Outcome) (g h : S) → AreOutcomes terms batch outcomes → Took Gathers g outcomes h → AreGathered terms before (blocks_of g) → AreGathered terms (before ++ batch) (blocks_of h)
+  gathered_more terms before batch outcomes g h set took so_far =
+      let put = took_gathered g h outcomes took in
+      record {
+        outcomes = so_far.outcomes ++ outcomes;
+        set = zip_append (IsOutcome terms) before batch so_far.outcomes outcomes so_far.set set;
+        value = put.value ∙ ap (λ bs. bs ++ all_blocks outcomes) so_far.value ∙ sym (blocks_append so_far.outcomes outcomes);
+        good = put.good so_far.good;
+      }
 
 -- the tunes before those that are left were gathered
 pub record IsGathering (terms : Terms) (tunes rest : List TuneText) (blocks : List Block) : Type 0 where

@@ -1,7 +1,7 @@
 -- A book as it is set, pressed and written, a batch of its tunes after another.
-use Rattle.std.specs.Prelude.{◌≡◌, ℕ, ◌+◌, List, [], ◌++◌, All, Bool, true, false, if◌then◌else◌, drop, length, Result, Ok, Err}
+use Rattle.std.specs.Prelude.{◌≡◌, ℕ, ◌+◌, List, [], ◌∷◌, ◌++◌, All, Bool, true, false, if◌then◌else◌, drop, length, Result, Ok, Err}
 use Rattle.{abc_lines.specs.declared.book.TuneText.{TuneText}, abc_header.specs.{declared.paper.Paper.Paper, Papers.{IsGoodPaper, height_of}}, eng_io.specs.Causes.{Rose}}
-use Rattle.{ps_text.specs.{Document.{numbered, page_text, trailer}, Prolog.prolog, declared.sheet.{Page.Page, Sheet.Sheet}}, set_book.specs.{declared.outcome.Outcome.Outcome, Outcomes.AreOutcomes}}
+use Rattle.{ps_text.specs.{Document.{numbered, page_text, trailer}, Prolog.prolog, declared.sheet.{Page.Page, Sheet.Sheet}}, set_book.specs.{declared.outcome.Outcome.Outcome, Outcomes.{AreOutcomes, IsOutcome}}, eng_flow.specs.Flow.AreFirst}
 use Rattle.{set_lists.specs.Reports.{reports, some_fault}, lay_pages.specs.{declared.filling.Block.Block, Filling.AreGoodBlocks}}
 use Rattle.{set_pages.specs.{Press.{HasRoom, IsOpen, IsPressed, RisesBy, done_pages}, Sheet.{IsPlan, IsSetUnder, frame_of, sheet_of}, declared.{press.Press.Press, plan.Plan.Plan}, Drawings.all_blocks}, set_tune.specs.Terms.{Manner, Terms}}
 use Rattle.abcps.specs.{Called.Called, Books.{CallsPages, status_of}, Outcome.{IsCutShort, IsQuiet, Stream, TookAll, TookFront, TookPart}, declared.{pressing.{Printed.Printed, Running.Running, Unsent.Unsent}, status.Status.Status}}
@@ -20,11 +20,15 @@ abbrev pub WasGiven : {T : Type 0} → Stream → List ℕ → Result T Status �
 WasGiven s text (Ok x) = TookAll s text
 WasGiven s text (Err why) = WasStopped why s text
 
--- these outcomes were taken, and these pages written
-pub record IsRunning (plan : Plan) (paper : Paper) (outcomes : List Outcome) (given : List Page) (r : Running) : Type 0 where
+-- these outcomes were taken, and these pages given up
+pub record IsTaken (plan : Plan) (paper : Paper) (outcomes : List Outcome) (given : List Page) (r : Running) : Type 0 where
   pub pressed : IsPressed plan paper outcomes given r.press
   pub told : r.told ≡ reports outcomes
   pub refused : r.refused ≡ some_fault outcomes
+
+-- these outcomes were taken, and these pages written
+pub record IsRunning (plan : Plan) (paper : Paper) (outcomes : List Outcome) (given : List Page) (r : Running) : Type 0 where
+  pub taken : IsTaken plan paper outcomes given r
   pub count : r.writer.pages ≡ length given
 
 -- the same of some outcomes and some pages
@@ -36,37 +40,66 @@ pub record IsUnderWay (r : Running) : Type 0 where
   pub given : List Page
   pub running : IsRunning plan paper outcomes given r
 
--- these outcomes were taken and these pages written; behind them the pages that were done then are still to be written
+-- these outcomes were taken and these pages written; behind them more pages were given up, whose text is still to be written
 pub record IsUnsent (plan : Plan) (paper : Paper) (outcomes : List Outcome) (given : List Page) (u : Unsent) : Type 0 where
-  pub full : Press
-  pub pressed : IsPressed plan paper outcomes given full
-  pub free : IsOpen full
-  pub left : IsPressed plan paper outcomes (given ++ done_pages full) u.run.press
-  pub still : IsOpen u.run.press
-  pub told : u.run.told ≡ reports outcomes
-  pub refused : u.run.refused ≡ some_fault outcomes
+  pub more : List Page
+  pub taken : IsTaken plan paper outcomes (given ++ more) u.run
+  pub free : IsOpen u.run.press
   pub before : u.run.writer.pages ≡ length given
-  pub count : u.count ≡ length (done_pages full)
-  pub text : u.text ≡ numbered page_text (length given + 1) (done_pages full)
+  pub count : u.count ≡ length more
+  pub text : u.text ≡ numbered page_text (length given + 1) more
+
+-- the same of some outcomes and some pages
+pub record IsAnyUnsent (u : Unsent) : Type 0 where
+  pub plan : Plan
+  pub paper : Paper
+  pub outcomes : List Outcome
+  pub given : List Page
+  pub unsent : IsUnsent plan paper outcomes given u
+
+-- nothing was pressed behind what was written
+abbrev pub unsent_behind : Running → Unsent
+unsent_behind r = record { run = r; count = 0; text = [] }
 
 -- outcomes can be pressed behind those that were taken
-pub record CanPress (plan : Plan) (paper : Paper) (outcomes : List Outcome) (r : Running) : Type 0 where
+pub record CanPress (plan : Plan) (paper : Paper) (outcomes : List Outcome) (u : Unsent) : Type 0 where
   pub good : IsGoodPaper paper
   pub set : All (IsSetUnder paper) outcomes
-  pub room : HasRoom plan (height_of paper) r.press (all_blocks outcomes)
-  pub free : IsOpen r.press
+  pub room : HasRoom plan (height_of paper) u.run.press (all_blocks outcomes)
   pub before : List Outcome
   pub given : List Page
-  pub running : IsRunning plan paper before given r
+  pub unsent : IsUnsent plan paper before given u
 
--- they were pressed, and the text of the pages that are done is to be written
-abbrev pub ArePressed : Plan → Paper → List Outcome → Running → Unsent → Type 0
-ArePressed plan paper outcomes r u = (before : List Outcome) (given : List Page) → IsRunning plan paper before given r → IsUnsent plan paper (before ++ outcomes) given u
+-- outcomes were pressed behind those that were taken, whatever those were
+abbrev pub GoesOn : Plan → Paper → List Outcome → Unsent → Unsent → Type 0
+GoesOn plan paper outcomes u v = (before : List Outcome) (given : List Page) → IsUnsent plan paper before given u → IsUnsent plan paper (before ++ outcomes) given v
+
+-- they were, and the plan and the paper are the same
+pub record HavePressed (plan : Plan) (paper : Paper) (outcomes : List Outcome) (u : Unsent) (by : Plan) (on : Paper) (v : Unsent) : Type 0 where
+  pub plan_same : by ≡ plan
+  pub paper_same : on ≡ paper
+  pub goes : GoesOn plan paper outcomes u v
+
+-- once outcomes of the first of these tunes were pressed, one of the next can be
+abbrev pub CanPressEach : Terms → Plan → List TuneText → Unsent → Type 0
+CanPressEach terms plan tunes u =
+    (outcomes : List Outcome) (outcome : Outcome) (v : Unsent) → AreFirst (IsOutcome terms) tunes (outcomes ++ outcome ∷ []) → GoesOn plan terms.paper outcomes u v → CanPress plan terms.paper (outcome ∷ []) v
+
+-- what comes of these tunes was pressed
+pub record ArePressed (terms : Terms) (plan : Plan) (tunes : List TuneText) (u v : Unsent) : Type 0 where
+  pub outcomes : List Outcome
+  pub set : AreOutcomes terms tunes outcomes
+  pub goes : GoesOn plan terms.paper outcomes u v
 
 -- no outcome was taken yet
 pub record IsBegun (r : Running) : Type 0 where
   pub free : IsOpen r.press
   pub none : (plan : Plan) (paper : Paper) → RisesBy plan → IsRunning plan paper [] [] r
+
+-- the blocks of outcomes were put behind others
+pub record HaveGathered (outcomes : List Outcome) (old new : List Block) : Type 0 where
+  pub value : new ≡ old ++ all_blocks outcomes
+  pub good : AreGoodBlocks old → AreGoodBlocks new
 
 -- the blocks of some tunes, once they were set
 pub record AreGathered (terms : Terms) (tunes : List TuneText) (blocks : List Block) : Type 0 where

@@ -1,20 +1,22 @@
-ghost use Rattle.std.specs.Prelude.{◌≡◌, ◌+◌, ◌^◌, ◌<◌, ◌≤◌, ◌++◌, [], List, false, All, IfOk, OnOk, length};
+ghost use Rattle.std.specs.Prelude.{◌≡◌, ◌+◌, ◌^◌, ◌<◌, ◌≤◌, ◌++◌, [], ◌∷◌, List, false, All, IfOk, OnOk, length};
 ghost use Rattle.{abc_lines.specs.Good.{IsGoodTune}, abc_header.specs.{declared.{defaults.Defaults.Defaults, paper.Paper.Paper}, Good.IsGoodDefaults, Papers.{IsGoodPaper, height_of}}};
 ghost use Rattle.{ps_text.specs.{declared.sheet.Page.Page, Document.{numbered, page_text}, Prolog.prolog, Range.IsPage}, set_book.specs.declared.outcome.Outcome.{Outcome}};
-ghost use Rattle.set_pages.specs.{declared.plan.Plan.Plan, Drawings.all_blocks, Press.{HasRoom, IsOpen, done_pages}, Sheet.{IsSetUnder, frame_of}};
-ghost use Rattle.abcps.specs.{Outcome.{IsEnd, observed}, Pressed.{ArePressed, CanPress, IsBegun, IsClosed, IsRunning, IsUnderWay, IsUnsent, WasGiven, status_if}};
+ghost use Rattle.set_pages.specs.{declared.plan.Plan.Plan, Drawings.all_blocks, Press.{HasRoom, IsOpen}, Sheet.{IsSetUnder, frame_of}};
+ghost use Rattle.abcps.specs.{Outcome.{IsEnd, observed}, Pressed.{CanPress, GoesOn, HavePressed, IsBegun, IsClosed, IsAnyUnsent, IsRunning, IsTaken, IsUnderWay, IsUnsent, WasGiven, status_if, unsent_behind}};
 
 use crate::status::Status;
 use abc_header::Paper;
+use eng_flow::Taker;
 use eng_io::Sink;
 use eng_jobs::Jobs;
-use mus_units::{Memory, Row, Text};
-use ps_text::Page;
-use ps_write::{DocWriter, begin, finish, pages, pages_text, send_pages};
+use mus_units::{Memory, Text};
+use ps_text::{Page, put_page};
+use ps_write::{DocWriter, begin, finish, pages, send_pages};
 use set_book::Outcome;
 use set_lists::{has_fault, put_reports};
 use set_pages::{Plan, Press, close_press, frame_of, open_press, press_outcomes, take_done};
 use std::alloc::Global;
+use std::slice::from_ref;
 use std::thread::Threads;
 
 /// What runs along while the tunes of a book are set and its pages are written: the pages that were
@@ -86,8 +88,9 @@ fn take(
     requires outcomes { All (IsSetUnder paper.now) outcomes.now }
     requires room { HasRoom plan.now (height_of paper.now) run.old.press (all_blocks outcomes.now) }
     requires open { IsOpen run.old.press }
-    ensures running { OnOk result ((before : List Outcome) (given : List Page) → IsRunning plan.now paper.now before given run.old → IsRunning plan.now paper.now (before ++ outcomes.now) given run.new) }
+    ensures taken { OnOk result ((before : List Outcome) (given : List Page) → IsTaken plan.now paper.now before given run.old → IsTaken plan.now paper.now (before ++ outcomes.now) given run.new) }
     ensures open { OnOk result (IsOpen run.new.press) }
+    ensures writer { OnOk result (run.new.writer ≡ run.old.writer) }
 {
     press_outcomes(alloc, paper, plan, outcomes, &mut run.press)?;
     put_reports(&mut run.told, outcomes)?;
@@ -95,57 +98,84 @@ fn take(
     Ok(())
 }
 
-/// The text of the pages that are done, made by all jobs. The pages themselves are kept no longer.
-fn finish_pages<R: Threads + Sync>(
-    rt: &R,
-    alloc: Global,
-    run: Running,
-    jobs: Jobs,
-) -> Result<Unsent, Memory>
-    requires way { IsUnderWay run }
-    requires open { IsOpen run.press }
-    ensures { IfOk result (λ unsent. (plan : Plan) (paper : Paper) (outcomes : List Outcome) (given : List Page) → IsRunning plan paper outcomes given run → IsUnsent plan paper outcomes given unsent) }
+/// Puts the text of pages behind a text, the first of them under this number.
+fn put_pages(out: &mut Text, first: u64, pages: &[Page]) -> Result<(), Memory>
+    requires good { All IsPage pages.now }
+    requires few { first + length pages.now < 2 ^ 64 }
+    ensures { OnOk result (out.new ≡ out.old ++ numbered page_text first pages.now) }
 {
-    let mut press = run.press;
-    let done = take_done(alloc, &mut press);
-    let text = pages_text(rt, alloc, run.writer.pages, done.as_slice(), jobs)?;
-    Ok(Unsent {
-        run: Running {
-            press,
-            told: run.told,
-            refused: run.refused,
-            writer: run.writer,
-        },
-        count: done.as_slice().len() as u32,
-        text,
-    })
+    let mut number = first;
+    for page in pages {
+        put_page(out, number, page)?;
+        number += 1;
+    }
+    Ok(())
 }
 
-/// Takes what came of some tunes behind those before them, whose blocks stand by the plan, and makes the
-/// text of the pages that are done then by all jobs.
-pub(crate) fn press_batch<R: Threads + Sync>(
-    rt: &R,
+/// Puts the text of the pages that are done behind the text that is still to be written. The pages themselves are
+/// kept no longer.
+fn put_done(alloc: Global, unsent: &mut Unsent) -> Result<(), Memory>
+    requires { IsAnyUnsent unsent.old }
+    ensures { OnOk result ((plan : Plan) (paper : Paper) (outcomes : List Outcome) (given : List Page) → IsUnsent plan paper outcomes given unsent.old → IsUnsent plan paper outcomes given unsent.new) }
+{
+    let done = take_done(alloc, &mut unsent.run.press);
+    let before = unsent.run.writer.pages + unsent.count;
+    put_pages(&mut unsent.text, u64::from(before) + 1, done.as_slice())?;
+    unsent.count += done.as_slice().len() as u32;
+    Ok(())
+}
+
+/// Takes what came of a tune behind those before it, whose blocks stand by the plan, and makes the text of the pages
+/// that are done then.
+fn press_one(
     alloc: Global,
     paper: &Paper,
     plan: &Plan,
-    outcomes: Row<Outcome>,
-    run: Running,
-    jobs: Jobs,
-) -> Result<Unsent, Memory>
-    requires { CanPress plan.now paper.now outcomes run }
-    ensures { IfOk result (ArePressed plan.now paper.now outcomes run) }
+    outcome: &Outcome,
+    unsent: &mut Unsent,
+) -> Result<(), Memory>
+    requires { CanPress plan.now paper.now (outcome.now ∷ []) unsent.old }
+    ensures { OnOk result (GoesOn plan.now paper.now (outcome.now ∷ []) unsent.old unsent.new) }
 {
-    let mut run = run;
-    take(alloc, paper, plan, outcomes.as_slice(), &mut run)?;
-    let unsent = finish_pages(rt, alloc, run, jobs)?;
-    Ok(unsent)
+    take(alloc, paper, plan, from_ref(outcome), &mut unsent.run)?;
+    put_done(alloc, unsent)
+}
+
+/// Presses what comes of tunes on a paper by a plan, behind what was pressed.
+#[derive(Drop)]
+pub(crate) struct Pressing<'a> {
+    pub(crate) alloc: Global,
+    pub(crate) paper: &'a Paper,
+    pub(crate) plan: &'a Plan,
+    pub(crate) unsent: Unsent,
+}
+
+impl<'a> Taker<Outcome> for Pressing<'a> {
+    ghost fits = { λ p outcome. CanPress p.plan.now p.paper.now (outcome ∷ []) p.unsent };
+
+    ghost takes = { λ p outcome q. HavePressed p.plan.now p.paper.now (outcome ∷ []) p.unsent q.plan.now q.paper.now q.unsent };
+
+    fn take(&mut self, outcome: &Outcome) -> Result<(), Memory> {
+        press_one(self.alloc, self.paper, self.plan, outcome, &mut self.unsent)
+    }
+}
+
+/// What runs along with nothing pressed behind it.
+pub(crate) fn unsent_behind(alloc: Global, run: Running) -> Unsent
+    ensures { result ≡ unsent_behind run }
+{
+    Unsent {
+        run,
+        count: 0,
+        text: Text::new(alloc),
+    }
 }
 
 /// Writes the text that is still to be written.
 pub(crate) fn send_unsent<O: Sink>(unsent: Unsent, output: &mut O) -> Result<Running, Status>
     requires few { unsent.run.writer.pages + unsent.count < 2 ^ 32 }
     ensures wrote { WasGiven (observed O.taken O.faults output.old output.new) unsent.text result }
-    ensures running { IfOk result (λ next. (plan : Plan) (paper : Paper) (outcomes : List Outcome) (given : List Page) (is : IsUnsent plan paper outcomes given unsent) → IsRunning plan paper outcomes (given ++ done_pages is.full) next) }
+    ensures running { IfOk result (λ next. (plan : Plan) (paper : Paper) (outcomes : List Outcome) (given : List Page) (is : IsUnsent plan paper outcomes given unsent) → IsRunning plan paper outcomes (given ++ is.more) next) }
     ensures press { IfOk result (λ next. next.press ≡ unsent.run.press) }
 {
     let run = unsent.run;

@@ -1,36 +1,44 @@
-ghost use Rattle.std.specs.Prelude.{◌≡◌, ◌<◌, ◌≤◌, ◌^◌, ◌++◌, Bool, List, All, IfOk, OnOk, length};
+ghost use Rattle.std.specs.Prelude.{◌≡◌, ◌<◌, ◌≤◌, ◌^◌, ◌++◌, [], ◌∷◌, Bool, List, All, IfOk, OnOk, length};
 ghost use Rattle.{abc_lines.specs.{declared.book.TuneText.TuneText, Books.book_of, Good.{IsGoodBook, IsGoodTune}}, abc_header.specs.{Good.IsGoodDefaults, Papers.{IsGoodPaper}}};
-ghost use Rattle.{set_tune.specs.Terms.{manner_of, terms_of}, set_book.specs.Outcomes.AreOutcomes};
-ghost use Rattle.abcps.specs.{Pressed.{AreGathered, ArePressed, ArePrinted, CanPress, IsPlanned, IsPrinted}, Outcome.observed};
+ghost use Rattle.{set_tune.specs.Terms.{manner_of, terms_of}};
+ghost use Rattle.abcps.specs.{Pressed.{AreGathered, ArePressed, ArePrinted, CanPressEach, HaveGathered, IsPlanned, IsPrinted}, Outcome.observed};
+ghost use Rattle.set_pages.specs.Ready.{IsWhole};
 
-use crate::pressing::{Printed, Running, Unsent, begin_run, end_run, press_batch, send_unsent};
+use crate::pressing::{
+    Pressing, Printed, Running, Unsent, begin_run, end_run, send_unsent, unsent_behind,
+};
 use crate::status::Status;
 use abc_header::{Defaults, Paper, read_defaults, read_paper};
 use abc_lines::{Book, TuneText, cut_book};
+use eng_flow::Taker;
 use eng_io::Sink;
 use eng_jobs::Jobs;
 use lay_pages::Block;
 use mus_units::{Memory, Row, Text};
-use set_book::{Gate, Outcome, set_tunes, set_tunes_beside};
+use set_book::{Gate, Outcome, set_tunes_through};
 use set_every::every_tune_has_an_outcome;
 use set_pages::{Plan, even_plan, gather_blocks};
 use set_tune::How;
 use std::alloc::Global;
+use std::slice::from_ref;
 use std::thread::Threads;
 
-/// How many of the tunes that are left are set before what came of them is pressed and dropped: a third of them,
-/// but 4 to 16 for each job, of which four count. So batches get smaller towards the end of a book, and the last
-/// pressing, beside which no tune is set, is of few.
+/// The tunes of a batch for each job, so that its threads have work for long.
+const TUNES_OF_JOB: usize = 128;
+
+/// As many jobs count for a batch, so that its text doesn't take too much memory.
+const JOBS_OF_BATCH: u8 = 8;
+
+/// How many of the tunes that are left are set as one batch, by the same threads.
 fn batch_size(left: usize, jobs: Jobs) -> usize
     ensures some { 0 < left → 0 < result }
     ensures within { result ≤ left }
 {
-    let jobs = usize::from(jobs.count.min(4));
-    (left / 3).max(4 * jobs).min(16 * jobs).min(left)
+    left.min(TUNES_OF_JOB * usize::from(jobs.count.min(JOBS_OF_BATCH)))
 }
 
-/// Sets a batch of tunes while one of the jobs first presses what came of the batch before it.
-fn set_beside<R: Threads + Sync, G: Gate + Sync>(
+/// Sets a batch of tunes, and presses what comes of them in their order, while others are still set.
+fn press_batch<R: Threads + Sync, G: Gate + Sync>(
     rt: &R,
     alloc: Global,
     batch: &[TuneText],
@@ -38,25 +46,43 @@ fn set_beside<R: Threads + Sync, G: Gate + Sync>(
     paper: &Paper,
     plan: &Plan,
     how: How,
-    outcomes: Row<Outcome>,
-    run: Running,
+    unsent: Unsent,
     gate: &G,
-) -> (Result<Row<Outcome>, Memory>, Result<Unsent, Memory>)
+) -> Result<Unsent, Memory>
     requires tunes { All IsGoodTune batch.now }
     requires defaults { IsGoodDefaults defaults.now }
     requires paper { IsGoodPaper paper.now }
-    requires outcomes { CanPress plan.now paper.now outcomes run }
-    ensures set { IfOk result.0 (AreOutcomes (terms_of defaults.now paper.now how) batch.now) }
-    ensures pressed { IfOk result.1 (ArePressed plan.now paper.now outcomes run) }
+    requires each { CanPressEach (terms_of defaults.now paper.now how) plan.now batch.now unsent }
+    ensures { IfOk result (ArePressed (terms_of defaults.now paper.now how) plan.now batch.now unsent) }
 {
-    let press = move || -> Result<Unsent, Memory>
-        requires { CanPress plan.now paper.now outcomes run }
-        ensures { IfOk result (ArePressed plan.entry.now paper.entry.now outcomes run) }
-    { press_batch(rt, alloc, paper, plan, outcomes, run, how.jobs) };
-    set_tunes_beside(rt, alloc, batch, defaults, paper, how, gate, press)
+    let pressing = Pressing {
+        alloc,
+        paper,
+        plan,
+        unsent,
+    };
+    let pressed = set_tunes_through(rt, alloc, batch, defaults, paper, how, gate, pressing)?;
+    Ok(pressed.unsent)
 }
 
-/// Sets a batch of tunes, and keeps their blocks alone.
+/// Keeps the blocks of tunes alone.
+#[derive(Drop)]
+struct Gathering {
+    alloc: Global,
+    blocks: Row<Block>,
+}
+
+impl Taker<Outcome> for Gathering {
+    ghost fits = { λ _ outcome. IsWhole outcome };
+
+    ghost takes = { λ g outcome h. HaveGathered (outcome ∷ []) g.blocks h.blocks };
+
+    fn take(&mut self, outcome: &Outcome) -> Result<(), Memory> {
+        gather_blocks(self.alloc, from_ref(outcome), &mut self.blocks)
+    }
+}
+
+/// Sets a batch of tunes, and puts their blocks behind others.
 fn gather_batch<R: Threads + Sync, G: Gate + Sync>(
     rt: &R,
     alloc: Global,
@@ -64,18 +90,18 @@ fn gather_batch<R: Threads + Sync, G: Gate + Sync>(
     defaults: &Defaults,
     paper: &Paper,
     how: How,
-    blocks: &mut Row<Block>,
+    blocks: Row<Block>,
     gate: &G,
-) -> Result<(), Memory>
+) -> Result<Row<Block>, Memory>
     requires tunes { All IsGoodTune batch.now }
     requires counted { All (λ tune. 1 ≤ tune.ordinal) batch.now }
     requires defaults { IsGoodDefaults defaults.now }
     requires paper { IsGoodPaper paper.now }
-    ensures { OnOk result ((before : List TuneText) → AreGathered (terms_of defaults.now paper.now how) before blocks.old → AreGathered (terms_of defaults.now paper.now how) (before ++ batch.now) blocks.new) }
+    ensures { IfOk result (λ more. (before : List TuneText) → AreGathered (terms_of defaults.now paper.now how) before blocks → AreGathered (terms_of defaults.now paper.now how) (before ++ batch.now) more) }
 {
-    let outcomes = set_tunes(rt, alloc, batch, defaults, paper, how, how.jobs, gate)?;
-    gather_blocks(alloc, outcomes.as_slice(), blocks)?;
-    Ok(())
+    let gathering = Gathering { alloc, blocks };
+    let gathered = set_tunes_through(rt, alloc, batch, defaults, paper, how, gate, gathering)?;
+    Ok(gathered.blocks)
 }
 
 /// The blocks of tunes, which are set a batch at a time.
@@ -98,7 +124,7 @@ fn gather_tunes<R: Threads + Sync, G: Gate + Sync>(
     let mut rest = tunes;
     'batches: while !rest.is_empty() {
         let (batch, later) = rest.split_at(batch_size(rest.len(), how.jobs));
-        gather_batch(rt, alloc, batch, defaults, paper, how, &mut blocks, gate)?;
+        blocks = gather_batch(rt, alloc, batch, defaults, paper, how, blocks, gate)?;
         rest = later;
     }
     Ok(blocks)
@@ -130,8 +156,8 @@ fn plan_tunes<R: Threads + Sync, G: Gate + Sync>(
     Ok(plan)
 }
 
-/// Sets tunes a batch at a time, each while the batch before it is pressed, whose pages are written
-/// before the next. So no more is kept than two batches fill, and the reports.
+/// Sets and presses tunes a batch at a time, and writes the pages that are done before the next. So no more is kept
+/// than the text of a batch, what came of tunes that wait for one before them, and the reports.
 fn print_tunes<R: Threads + Sync, O: Sink, G: Gate + Sync>(
     rt: &R,
     alloc: Global,
@@ -151,20 +177,15 @@ fn print_tunes<R: Threads + Sync, O: Sink, G: Gate + Sync>(
     ensures { ArePrinted (terms_of defaults.now paper.now how) plan.now tunes.now (observed O.taken O.faults output.old output.new) result }
 {
     let mut run = begin_run(alloc, paper, output)?;
-    let mut outcomes = Row::new(alloc);
     let mut rest = tunes;
     'batches: while !rest.is_empty() {
         let (batch, later) = rest.split_at(batch_size(rest.len(), how.jobs));
-        let (set, pressed) = set_beside(
-            rt, alloc, batch, defaults, paper, plan, how, outcomes, run, gate,
-        );
-        let unsent = pressed?;
-        run = send_unsent(unsent, output)?;
-        outcomes = set?;
+        let unsent = unsent_behind(alloc, run);
+        let pressed = press_batch(rt, alloc, batch, defaults, paper, plan, how, unsent, gate)?;
+        run = send_unsent(pressed, output)?;
         rest = later;
     }
-    let unsent = press_batch(rt, alloc, paper, plan, outcomes, run, how.jobs)?;
-    send_unsent(unsent, output)
+    Ok(run)
 }
 
 /// The book of a text, which isn't held any longer.
@@ -176,7 +197,7 @@ pub(crate) fn cut_text(alloc: Global, text: Text) -> Result<Book, Memory>
     cut_book(alloc, text.as_slice())
 }
 
-/// Sets the tunes of a book and writes its document, whose pages go out as they fill. For even pages
+/// Sets the tunes of a book and writes its document, whose pages go out a batch of tunes at a time. For even pages
 /// the tunes are set twice: first for the heights of their blocks, and then to be written.
 pub(crate) fn print_book<R: Threads + Sync, O: Sink, G: Gate + Sync>(
     rt: &R,

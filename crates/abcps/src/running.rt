@@ -152,7 +152,7 @@ pub fn never_both()
 /// one and writes a line on it; `paint` reads any bytes, as many as a document may have, runs them on
 /// the machine, and writes what they paint; `hear` reads a document, and writes what its tunes sound.
 ///
-/// `set` reads its book whole, and then writes pages as they fill, before the tunes behind them are
+/// `set` reads its book whole, and then writes the pages that a batch of its tunes fills before those behind it are
 /// set; it tells faults once the document is written. Where a write fails or memory runs out while
 /// tunes are left, what went out is a front of the whole book's document, since each tune has an
 /// outcome, set or not; and nothing is told.

@@ -11,4 +11,4 @@ mod taking;
 mod work;
 
 pub use jobs::Jobs;
-pub use work::{Work, work_all, work_beside};
+pub use work::{Work, work_all};

@@ -17,7 +17,7 @@ pub(crate) struct Made<O> {
 }
 
 /// What two jobs made.
-pub(crate) fn both<T, O: Drop, W: Work<T, O>>(
+fn both<T, O: Drop, W: Work<T, O>>(
     low: Result<Row<Made<O>>, Memory>,
     high: Result<Row<Made<O>>, Memory>,
     items: &[T],
@@ -33,7 +33,7 @@ pub(crate) fn both<T, O: Drop, W: Work<T, O>>(
 }
 
 /// What one job makes of the items that it takes: each time the first that no job has taken yet.
-pub(crate) fn take_in_turn<T, O: Drop, W: Work<T, O>>(
+fn take_in_turn<T, O: Drop, W: Work<T, O>>(
     alloc: Global,
     items: &[T],
     jobs: Jobs,

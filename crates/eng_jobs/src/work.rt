@@ -1,13 +1,12 @@
-ghost use Rattle.std.specs.{Prelude.{◌≡◌, ◌≤◌, IfOk, All}, List.AllZip, Thread.{IsSync, IsSend}};
-ghost use Rattle.eng_jobs.specs.Made.{IsMadeOf};
+ghost use Rattle.std.specs.{Prelude.{◌≡◌, ◌≤◌, IfOk, All}, List.AllZip};
 
 use crate::jobs::Jobs;
 use crate::placing::in_order;
-use crate::taking::{Made, both, take_all, take_in_turn};
+use crate::taking::take_all;
 use mus_units::{Memory, Row};
 use std::alloc::Global;
 use std::sync::atomic::AtomicUsize;
-use std::thread::{Threads, join};
+use std::thread::Threads;
 
 /// Work that is done on each item by itself, with an outcome for it.
 ///
@@ -45,63 +44,6 @@ pub fn work_all<R: Threads + Sync, T: Sync, O: Send + Drop, W: Work<T, O> + Sync
     }
     let next = AtomicUsize::new(0);
     let made = take_all(rt, alloc, items, items.len(), jobs, &next, work)?;
-    in_order(alloc, items, made, jobs, work)
-}
-
-/// The outcomes of the work on the items, as `work_all` gives them, and what one more call gives, which one
-/// of the jobs makes before it takes an item.
-pub fn work_beside<
-    R: Threads + Sync,
-    T: Sync,
-    O: Send + Drop,
-    W: Work<T, O> + Sync,
-    A: Drop,
-    F: FnOnce() -> A,
->(rt: &R, alloc: Global, items: &[T], jobs: Jobs, work: &W, call: F) -> (Result<Row<O>, Memory>, A)
-    requires takes { All (W.takes work.now) items.now }
-    requires call { F.pre call }
-    ensures outcomes { IfOk result.0 (λ outcomes. AllZip (W.gives work.now) items.now outcomes) }
-    ensures called { F.post call result.1 }
-{
-    if jobs.count == 1 {
-        let called = call();
-        return (work_in_turn(alloc, items, jobs, work), called);
-    }
-    let next = AtomicUsize::new(0);
-    let one = Jobs { count: 1 };
-    let rest = Jobs {
-        count: jobs.count - 1,
-    };
-    let others = || -> Result<Row<Made<O>>, Memory>
-        requires { IsSync R.row × IsSync T.row × IsSync W.row × IsSend O.row × All (W.takes work.now) items.now }
-        ensures { IfOk result (All (IsMadeOf (W.gives work.entry.now) items.entry.now)) }
-    { take_all(rt, alloc, items, items.len(), rest, &next, work) };
-    let own = || -> (Result<Row<Made<O>>, Memory>, A)
-        requires { F.pre call × All (W.takes work.now) items.now }
-        ensures { IfOk result.0 (All (IsMadeOf (W.gives work.entry.now) items.entry.now)) × F.post call result.1 }
-    {
-        let called = call();
-        (take_in_turn(alloc, items, one, &next, work), called)
-    };
-    let (theirs, (ours, called)) = join(rt, others, own);
-    (gathered(alloc, items, theirs, ours, jobs, work), called)
-}
-
-/// The outcomes of all items in their order, from those that two parts of the jobs made.
-fn gathered<T, O: Drop, W: Work<T, O>>(
-    alloc: Global,
-    items: &[T],
-    low: Result<Row<Made<O>>, Memory>,
-    high: Result<Row<Made<O>>, Memory>,
-    jobs: Jobs,
-    work: &W,
-) -> Result<Row<O>, Memory>
-    requires takes { All (W.takes work.now) items.now }
-    requires low { IfOk low (All (IsMadeOf (W.gives work.now) items.now)) }
-    requires high { IfOk high (All (IsMadeOf (W.gives work.now) items.now)) }
-    ensures { IfOk result (λ outcomes. AllZip (W.gives work.now) items.now outcomes) }
-{
-    let made = both(low, high, items, work)?;
     in_order(alloc, items, made, jobs, work)
 }
 

@@ -1,12 +1,14 @@
-ghost use Rattle.std.specs.{Prelude.{◌≡◌, ◌≤◌, IfOk, All}, Thread.IsSync};
+ghost use Rattle.std.specs.{Prelude.{◌≡◌, ◌≤◌, List, IfOk, All}, Thread.IsSync};
 ghost use Rattle.{abc_lines.specs.Good.{IsGoodBook, IsGoodTune}, abc_header.specs.{Defaults.defaults_of, Good.IsGoodDefaults, Papers.IsGoodPaper}};
-ghost use Rattle.{set_book.specs.{Once.HaveOneOutcome, Outcomes.{AreOutcomes, IsOutcome}}, set_tune.specs.Terms.{terms_of}};
+ghost use Rattle.{set_book.specs.{Once.HaveOneOutcome, Outcomes.{AreOutcomes, IsOutcome}}, set_tune.specs.Terms.{terms_of}, eng_flow.specs.Flow.{CanTake, Took}};
+ghost use Rattle.set_book.specs.declared.outcome.Outcome as outcome;
 
 use crate::gate::Gate;
 use crate::outcome::Outcome;
 use abc_header::{Defaults, Paper, read_defaults};
 use abc_lines::{Book, TuneError, TuneText};
-use eng_jobs::{Jobs, Work, work_all, work_beside};
+use eng_flow::{Taker, work_through};
+use eng_jobs::{Jobs, Work, work_all};
 use mus_units::{Memory, Row};
 use set_tune::{How, set_how};
 use std::alloc::Global;
@@ -75,9 +77,12 @@ pub fn set_tunes<R: Threads + Sync, G: Gate + Sync>(
     work_all(rt, alloc, tunes, jobs, &setting)
 }
 
-/// What comes of some tunes of a book, as `set_tunes` gives it by the jobs of `how`, and what one more call
-/// gives, which one of the jobs makes before it takes a tune.
-pub fn set_tunes_beside<R: Threads + Sync, G: Gate + Sync, A: Drop, F: FnOnce() -> A>(
+/// Sets tunes of a book as `set_tunes` does, by the jobs of `how`, and has what comes of them taken in their order, while
+/// others are still set. It gives the taker once that took what comes of all of them. What was taken isn't kept.
+///
+/// The calling thread takes, between two tunes that it sets itself. `Memory` comes where memory ran out for a tune or for
+/// what is taken; no further tune is set then.
+pub fn set_tunes_through<R: Threads + Sync, G: Gate + Sync, S: Taker<Outcome> + Drop>(
     rt: &R,
     alloc: Global,
     tunes: &[TuneText],
@@ -85,14 +90,13 @@ pub fn set_tunes_beside<R: Threads + Sync, G: Gate + Sync, A: Drop, F: FnOnce() 
     paper: &Paper,
     how: How,
     gate: &G,
-    call: F,
-) -> (Result<Row<Outcome>, Memory>, A)
+    taker: S,
+) -> Result<S, Memory>
     requires tunes { All IsGoodTune tunes.now }
     requires defaults { IsGoodDefaults defaults.now }
     requires paper { IsGoodPaper paper.now }
-    requires call { F.pre call }
-    ensures set { IfOk result.0 (AreOutcomes (terms_of defaults.now paper.now how) tunes.now) }
-    ensures called { F.post call result.1 }
+    requires fits { CanTake (IsOutcome (terms_of defaults.now paper.now how)) S.fits S.takes tunes.now taker }
+    ensures { IfOk result (λ end. (outcomes : List outcome.Outcome) × AreOutcomes (terms_of defaults.now paper.now how) tunes.now outcomes × Took S.takes taker outcomes end) }
 {
     let setting = Setting {
         rt,
@@ -102,7 +106,7 @@ pub fn set_tunes_beside<R: Threads + Sync, G: Gate + Sync, A: Drop, F: FnOnce() 
         how,
         gate,
     };
-    work_beside(rt, alloc, tunes, how.jobs, &setting, call)
+    work_through(rt, alloc, tunes, how.jobs, &setting, taker)
 }
 
 /// What comes of each tune of a book on paper, in the order of the book, under the defaults of the

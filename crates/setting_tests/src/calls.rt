@@ -45,7 +45,7 @@ pub(crate) fn put_answer<R: Threads + Sync>(
     match case.call {
         "printed" => put_printed_text(out, case.word, case.input),
         "book" => put_book(rt, out, case.word, case.input),
-        "squares" | "beside" | "counted" => put_by_jobs(rt, out, case),
+        "squares" | "through" | "counted" => put_by_jobs(rt, out, case),
         "meetings" => put_meetings(rt, out),
         _ => put_of_score(rt, out, case),
     }

@@ -1,10 +1,11 @@
 //! Work on items by jobs.
 
-ghost use Rattle.std.specs.Prelude.{◌≡◌, ◌*◌, ◌<◌, ◌≤◌, ⊤};
+ghost use Rattle.std.specs.Prelude.{◌≡◌, ◌*◌, ◌<◌, ◌≤◌, ◌++◌, ◌∷◌, [], ⊤};
 
 use answer_texts::{count_at, number_at, numbers_of};
 use case_texts::{Case, Report};
-use eng_jobs::{Jobs, Work, work_all, work_beside};
+use eng_flow::{Taker, work_through};
+use eng_jobs::{Jobs, Work, work_all};
 use mus_units::{Memory, Row};
 use std::alloc::Global;
 use std::sync::atomic::AtomicU64;
@@ -68,18 +69,41 @@ fn put_squares<R: Threads + Sync>(
     out.end_line()
 }
 
-/// The squares, and how many numbers there are, which is told beside them.
-fn put_squares_beside<R: Threads + Sync>(
+/// Keeps the squares that it takes, and has memory for so many.
+#[derive(Drop)]
+struct Kept {
+    squares: Row<u64>,
+    most: usize,
+}
+
+impl Taker<u64> for Kept {
+    ghost fits = { λ _ _. ⊤ };
+
+    ghost takes = { λ old square new. new.squares ≡ old.squares ++ square ∷ [] };
+
+    fn take(&mut self, square: &u64) -> Result<(), Memory> {
+        if self.squares.len() == self.most {
+            return Err(Memory);
+        }
+        self.squares.push(*square)
+    }
+}
+
+/// The squares as they are taken while others are made; or that memory is short, where it is for more than so many.
+fn put_squares_through<R: Threads + Sync>(
     rt: &R,
     out: &mut Report,
     jobs: Jobs,
+    most: usize,
     text: &str,
 ) -> Result<(), Memory> {
     let numbers = numbers_in(out.alloc, text)?;
-    let count = || numbers.len();
-    let (squares, count) = work_beside(rt, out.alloc, numbers.as_slice(), jobs, &Squares, count);
-    out.tell_all(squares?.as_slice())?;
-    out.tell(count)?;
+    let squares = Row::new(out.alloc);
+    let none = Kept { squares, most };
+    match work_through(rt, out.alloc, numbers.as_slice(), jobs, &Squares, none) {
+        Ok(kept) => out.tell_all(kept.squares.as_slice())?,
+        Err(Memory) => out.next(b"no memory")?,
+    }
     out.end_line()
 }
 
@@ -113,8 +137,8 @@ fn put_counted<R: Threads + Sync>(
     out.end_line()
 }
 
-/// The value of a call on items by a number of jobs: `squares J`, `beside J`, and `counted J K`, where memory
-/// is short for item K.
+/// The value of a call on items by a number of jobs: `squares J`; `through J K`, where K outcomes can be taken; and
+/// `counted J K`, where memory is short for item K.
 pub(crate) fn put_by_jobs<R: Threads + Sync>(
     rt: &R,
     out: &mut Report,
@@ -126,12 +150,10 @@ pub(crate) fn put_by_jobs<R: Threads + Sync>(
         return out.next(b"no jobs\n");
     }
     let jobs = Jobs { count };
+    let second = usize::try_from(number_at(&numbers, 1)).unwrap_or(4);
     match case.call {
         "squares" => put_squares(rt, out, jobs, case.input),
-        "beside" => put_squares_beside(rt, out, jobs, case.input),
-        _ => {
-            let without = usize::try_from(number_at(&numbers, 1)).unwrap_or(4);
-            put_counted(rt, out, jobs, without)
-        }
+        "through" => put_squares_through(rt, out, jobs, second, case.input),
+        _ => put_counted(rt, out, jobs, second),
     }
 }

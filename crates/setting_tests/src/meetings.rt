@@ -1,12 +1,15 @@
 //! Two that wait for each other, which is in vain unless they are worked on side by side.
 
-use abc_header::read_paper;
+ghost use Rattle.std.specs.Prelude.{⊤};
+
+use abc_header::{read_defaults, read_paper};
 use abc_lines::cut_book;
 use answer_texts::Meeting;
 use case_texts::Report;
+use eng_flow::Taker;
 use eng_jobs::Jobs;
 use mus_units::Memory;
-use set_book::{Gate, set_all};
+use set_book::{Gate, Outcome, set_all, set_tunes_through};
 use set_tune::How;
 use std::thread::Threads;
 
@@ -20,6 +23,40 @@ impl Gate for Waiting {
     fn enter(&self, tune: u32) {
         self.meeting.wait((tune % 2) as usize);
     }
+}
+
+/// Counts what it takes.
+#[derive(Drop)]
+struct Counting {
+    taken: usize,
+}
+
+impl Taker<Outcome> for Counting {
+    ghost fits = { λ _ _. ⊤ };
+
+    ghost takes = { λ _ _ _. ⊤ };
+
+    fn take(&mut self, _outcome: &Outcome) -> Result<(), Memory> {
+        self.taken = self.taken.saturating_add(1);
+        Ok(())
+    }
+}
+
+/// Two tunes at a gate by two jobs, which are taken while others are set.
+fn put_gate_through<R: Threads + Sync>(rt: &R, out: &mut Report) -> Result<(), Memory> {
+    let alloc = out.alloc;
+    let book = cut_book(alloc, b"X:1\nK:C\nc|\n\nX:2\nK:C\nd|\n")?;
+    let paper = read_paper(&book);
+    let defaults = read_defaults(alloc, &book)?;
+    let how = How::unmoved(false).with_jobs(Jobs { count: 2 });
+    let waiting = Waiting {
+        meeting: Meeting::new(200_000_000),
+    };
+    let tunes = book.tunes.as_slice();
+    let none = Counting { taken: 0 };
+    let counted = set_tunes_through(rt, alloc, tunes, &defaults, &paper, how, &waiting, none)?;
+    out.tell(counted.taken)?;
+    waiting.meeting.put_met(out)
 }
 
 /// Two tunes at a gate by a number of jobs.
@@ -41,9 +78,10 @@ fn put_gate<R: Threads + Sync>(
     waiting.meeting.put_met(out)
 }
 
-/// Adds whether two tunes meet at a gate by two jobs and by one. By one job the first waits in vain, and the
-/// second finds that the first was there.
+/// Adds whether two tunes meet at a gate by two jobs, by one, and by two that have them taken. By one job the first
+/// waits in vain, and the second finds that the first was there.
 pub(crate) fn put_meetings<R: Threads + Sync>(rt: &R, out: &mut Report) -> Result<(), Memory> {
     put_gate(rt, out, Jobs { count: 2 }, 200_000_000)?;
-    put_gate(rt, out, Jobs { count: 1 }, 1000)
+    put_gate(rt, out, Jobs { count: 1 }, 1000)?;
+    put_gate_through(rt, out)
 }

@@ -1,5 +1,5 @@
 use Rattle.std.proofs.{Common.{◌≡◌, ◌∙◌, sym, subst, rules, arith, Err}, lemmas.List.length-append}
-use Rattle.{ps_write.specs.declared.steps.DocWriter.{DocWriter}, set_pages.specs.Press.{done_pages}}
+use Rattle.ps_write.specs.declared.steps.DocWriter.{DocWriter}
 use Rattle.abcps.{specs.{Pressed.{WasGiven, WasStopped}, Status.status_after}, proofs.Sent.{step_stopped, stream}}
 use Rattle.abcps.proofs.pressing.send_unsent.Goals as goal
 
@@ -12,5 +12,4 @@ returns-in_err-writer-clause-wrote g c =
 
 pub returns-clause-running : goal.returns-clause-running
 returns-clause-running g c plan paper outcomes given is =
-    let left = is.left in let before = is.before in let count = is.count in
-    record { pressed = left; told = is.told; refused = is.refused; count = c.in_ok-writer.ensures.writer.pages_now ∙ omega (arith, before, count, length-append given (done_pages is.full)) }
+    let before = is.before in let count = is.count in record { taken = search rules; count = c.in_ok-writer.ensures.writer.pages_now ∙ omega (arith, before, count, length-append given is.more) }

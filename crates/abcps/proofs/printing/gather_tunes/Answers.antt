@@ -20,8 +20,8 @@ gather_batch-requires-clause-counted g c κs within = subst (λ tunes. All IsCou
 pub batches-preserved : goal.batches-preserved
 batches-preserved g c = record {
   gathering =
-      gathering_more (terms_of c.args.defaults.now c.args.paper.now c.args.how) c.args.tunes.now c.batches.rest.now c.split_at.result.0.now c.split_at.result.1.now c.batch_size.result c.batches.blocks c.gather_batch.new.blocks
-      c.split_at.ensures.front c.split_at.ensures.back c.in_ok-gather_batch.ensures c.batches.invariant.gathering;
+      gathering_more (terms_of c.args.defaults.now c.args.paper.now c.args.how) c.args.tunes.now c.batches.rest.now c.split_at.result.0.now c.split_at.result.1.now c.batch_size.result c.batches.blocks c.in_ok-blocks.blocks
+      c.split_at.ensures.front c.split_at.ensures.back c.in_ok-blocks.ensures c.batches.invariant.gathering;
   good = subst (λ tunes. All IsGoodTune tunes) (sym c.split_at.ensures.back) (All-drop IsGoodTune c.batch_size.result c.batches.rest.now c.batches.invariant.good);
   counted = subst (λ tunes. All IsCounted tunes) (sym c.split_at.ensures.back) (All-drop IsCounted c.batch_size.result c.batches.rest.now c.batches.invariant.counted);
 }

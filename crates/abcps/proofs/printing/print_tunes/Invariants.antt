@@ -1,11 +1,11 @@
-use Rattle.{set_tune.specs.Terms.{terms_of}, std.{proofs.Common.length, specs.Prelude.All}, abc_lines.specs.Good.{IsGoodTune}, abcps.proofs.{Batches.{IsAlong, IsCounted}, Sent.stream}}
+use Rattle.{set_tune.specs.Terms.{terms_of}, std.{proofs.Common.length, specs.Prelude.All}, abc_lines.specs.Good.{IsGoodTune}, abcps.proofs.{Batches.{IsCounted, IsSoFar}, Sent.stream}}
 use Rattle.abcps.proofs.printing.print_tunes.Given as goal
 
 abbrev pub invariant-batches : goal.invariant-batches
 invariant-batches g l = record {
-  along :
-      IsAlong (terms_of l.defaults l.paper l.how) l.plan l.tunes l.rest
-      (stream (g.O.Sink.taken l.fn.output) (g.O.Sink.taken l.output) (g.O.Sink.faults l.fn.output) (g.O.Sink.faults l.output)) l.run l.outcomes;
+  way :
+      IsSoFar (terms_of l.defaults l.paper l.how) l.plan l.tunes l.rest
+      (stream (g.O.Sink.taken l.fn.output) (g.O.Sink.taken l.output) (g.O.Sink.faults l.fn.output) (g.O.Sink.faults l.output)) l.run;
   good : All IsGoodTune l.rest;
   counted : All IsCounted l.rest;
 }

@@ -1,0 +1,9 @@
+use Rattle.std.proofs.Common.{length, ◌+◌, ◌*◌}
+use Rattle.eng_flow.proofs.making.+making.Given as goal
+
+-- each thread leaves one maker less to those that it begins
+abbrev pub decreases-make_beside : goal.decreases-make_beside
+decreases-make_beside g l = 2 * length l.makers
+
+abbrev pub decreases-others : goal.decreases-others
+decreases-others g l = 2 * length l.makers + 1
