@@ -1,4 +1,4 @@
-ghost use Rattle.std.specs.{Prelude.{◌≡◌, ◌<◌, List, All, IfOk, OnOk, IfSome, length}, List.AllZip, Thread.{IsSync, IsSend}};
+ghost use Rattle.std.specs.{Prelude.{◌≡◌, ◌<◌, List, All, IfOk, OnOk, IfSome, length}, List.AllZip};
 ghost use Rattle.eng_flow.specs.Flow.{AreHonest, CanHandOver, CanTake, HasTaken, IsOutcomeAt, Took};
 
 use crate::lane::{Lane, Maker, Placed, open_lane};
@@ -9,7 +9,7 @@ use mus_units::{Memory, Row};
 use std::alloc::Global;
 use std::marker::Brand;
 use std::sync::atomic::AtomicUsize;
-use std::thread::{Threads, join};
+use std::thread::Threads;
 
 /// A taker, what the jobs hand it, and how many outcomes it has taken.
 #[derive(Drop)]
@@ -211,14 +211,11 @@ fn take_beside<
         taker,
     };
     let next = AtomicUsize::new(0);
-    let others = || -> Result<(), Memory>
-        requires { IsSync R.row × IsSync T.row × IsSync W.row × IsSend O.row × IsSend J.row × All (W.takes work.now) items.now × CanHandOver (W.gives work.now) items.now J.gives }
-    { make_beside(rt, items, jobs, &next, work, makers) };
     let own = || -> Result<Course<O, J, S>, Memory>
         requires { All (W.takes work.now) items.now × CanHandOver (W.gives work.now) items.now J.gives × AreHonest (W.gives work.now) items.now J.gives × CanTake (W.gives work.now) S.fits S.takes items.now course.taker × (course.taken ≡ 0) }
         ensures { IfOk result (λ end. HasTaken (W.gives work.entry.now) S.takes items.entry.now course.taker end.taken end.taker) }
     { take_along(items, jobs, &next, work, maker, course) };
-    let (theirs, ours) = join(rt, others, own);
+    let (theirs, ours) = make_beside(rt, items, jobs, &next, work, makers, own);
     theirs?;
     let course = ours?;
     take_rest(items, jobs, work, course)

@@ -63,7 +63,7 @@ fn make_all<T, O: Drop, W: Work<T, O>, J: Placed<O>>(
     Ok(())
 }
 
-/// Makes outcomes until no item is left, in as many threads as there are makers.
+/// Makes outcomes until no item is left, in a new thread for each maker, while this thread makes a call.
 #[cycle(making)]
 pub(crate) fn make_beside<
     R: Threads + Sync,
@@ -71,6 +71,8 @@ pub(crate) fn make_beside<
     O: Send + Drop,
     W: Work<T, O> + Sync,
     J: Placed<O> + Send,
+    A: Drop,
+    F: FnOnce() -> A,
 >(
     rt: &R,
     items: &[T],
@@ -78,21 +80,28 @@ pub(crate) fn make_beside<
     next: &AtomicUsize,
     work: &W,
     makers: Row<Maker<O, J>>,
-) -> Result<(), Memory>
+    call: F,
+) -> (Result<(), Memory>, A)
     requires takes { All (W.takes work.now) items.now }
     requires placed { CanHandOver (W.gives work.now) items.now J.gives }
+    requires call { F.pre call }
+    ensures { F.post call result.1 }
 {
     let mut makers = makers;
     let Some(maker) = makers.items.pop() else {
-        return Ok(());
+        return (Ok(()), call());
     };
-    let others = move || -> Result<(), Memory>
-        requires { IsSync R.row × IsSync T.row × IsSync W.row × IsSend O.row × IsSend J.row × All (W.takes work.now) items.now × CanHandOver (W.gives work.now) items.now J.gives }
-    { make_beside(rt, items, jobs, next, work, makers) };
-    let own = move || -> Result<(), Memory>
-        requires { All (W.takes work.now) items.now × CanHandOver (W.gives work.now) items.now J.gives }
+    let one = move || -> Result<(), Memory>
+        requires { IsSync T.row × IsSync W.row × IsSend O.row × IsSend J.row × All (W.takes work.now) items.now × CanHandOver (W.gives work.now) items.now J.gives }
     { make_all(items, jobs, next, work, maker) };
-    let (theirs, ours) = join(rt, others, own);
-    theirs?;
-    ours
+    let others = move || -> (Result<(), Memory>, A)
+        requires { IsSync R.row × IsSync T.row × IsSync W.row × IsSend O.row × IsSend J.row × All (W.takes work.now) items.now × CanHandOver (W.gives work.now) items.now J.gives × F.pre call }
+        ensures { F.post call result.1 }
+    { make_beside(rt, items, jobs, next, work, makers, call) };
+    let (first, (rest, called)) = join(rt, one, others);
+    let made = match first {
+        Ok(()) => rest,
+        Err(Memory) => Err(Memory),
+    };
+    (made, called)
 }

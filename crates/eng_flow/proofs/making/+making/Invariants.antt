@@ -1,7 +1,7 @@
 use Rattle.std.proofs.Common.{length, ◌+◌, ◌*◌}
 use Rattle.eng_flow.proofs.making.+making.Given as goal
 
--- each thread leaves one maker less to those that it begins
+-- behind each new thread there is one maker less
 abbrev pub decreases-make_beside : goal.decreases-make_beside
 decreases-make_beside g l = 2 * length l.makers
 
