@@ -1,11 +1,11 @@
 -- A book whose document was written, and one whose document was not written to its end.
 use Rattle.std.{proofs.{Common.{◌≡◌, refl, sym, ap, ◌∙◌, subst, ◌⊎◌, inl, inr, ℕ, ◌<◌, Bool, true, false, List, [], ◌∷◌, ◌++◌, length, take, drop, arith, Option}, lemmas.List.{append-nil, append_assoc, length-append, take-append-drop, Elements.{All-head, All-tail}}}, specs.Prelude.{All, Result, Ok, Err}}
-use Rattle.abc_lines.specs.{declared.{book.{Book.Book, TuneText.TuneText}, fault.Fault.Fault}, Books.book_of}
-use Rattle.abc_header.specs.{declared.{defaults.Defaults.Defaults, paper.Paper.Paper}, Defaults.defaults_of, Papers.{IsGoodPaper, height_of, paper_of}}
+use Rattle.abc_lines.specs.{declared.{book.{TuneText.TuneText}, fault.Fault.Fault}, Books.book_of}
+use Rattle.abc_header.specs.{declared.{defaults.Defaults.Defaults, paper.Paper.Paper}, Defaults.defaults_of, Papers.{IsGoodPaper, height_of}}
 use Rattle.{ps_text.specs.{Document.document, declared.sheet.Page.Page}, set_book.{specs.{declared.outcome.Outcome.Outcome, Outcomes.{AreOutcomes, IsOutcome}}, proofs.Once.outcomes_once}}
 use Rattle.{set_heard.proofs.Books.{books_are_heard}, set_lists.specs.Reports.{some_fault}, lay_pages.specs.Filling.{AreGoodBlocks}, set_every.specs.Every.{EveryTuneHasAnOutcome}}
 use Rattle.set_pages.{specs.{Sheet.{IsPlan, IsSetResult, IsSetUnder, all_spots, frame_of, sheet_of}, declared.{plan.Plan.Plan, press.Press.Press}, Drawings.{all_blocks, all_drawings, outcome_blocks, result_blocks}, Press.{HasRoom, IsOpen, IsPressed, RisesBy, done_pages}}, proofs.{Fronts.{IsFront, done_first, done_front}, Joined.zip_append, Standing.good_append, Whole.{one_plan, plan_rises, plan_stands, room_by, sheet_whole, stand_count}, Zips.{zip_back, zip_front}}}
-use Rattle.abcps.{specs.{Pressed.{AreCutOff, AreRunning, CanPressEach, IsClosed, IsPlanned, IsPrinted, IsUnprinted, WasCounted, WasStopped, all_set, first_text, rest_text, some_left, status_if, unbegun, unsent_behind}, Called.Called, Books.{AreSet, CallsPages, pages_called, paper_in, terms_in}, Outcome.{HasFront, IsAnswer, IsCutShort, IsEnd, IsQuiet, Stream, TookAll, TookFront}, declared.{pressing.{Printed.Printed, Running.Running}, status.Status.Status}}, proofs.{Sent.{document_parts, front_longer, stopped_behind, stopped_count, stopped_front, stopped_longer, stream, took_behind}, Answered.{answer_by, answered_end}, Batches.{IsCounted, IsSoFar, one_set, parts, unsent_first}, BookCalls.set_under}}
+use Rattle.abcps.{specs.{Pressed.{AreCutOff, AreRunning, CanPressEach, IsClosed, IsPlanned, IsPrinted, IsUnprinted, WasCounted, WasStopped, all_set, first_text, rest_text, some_left, status_if, unbegun, unsent_behind}, Called.Called, Books.{AreOfBook, AreSet, CallsPages, pages_called, paper_in, terms_in}, Outcome.{HasFront, IsAnswer, IsCutShort, IsEnd, IsQuiet, Stream, TookAll, TookFront}, declared.{pressing.{Printed.Printed, Running.Running}, status.Status.Status}}, proofs.{Sent.{document_parts, front_longer, stopped_behind, stopped_count, stopped_front, stopped_longer, stream, took_behind}, Answered.{answer_by, answered_end}, Batches.{IsCounted, IsSoFar, one_set, parts, unsent_first}, BookCalls.set_under}}
 use Rattle.{set_tune.{specs.{Blocks.{blocks_of, is_some_list}, Terms.{Manner, Terms}, declared.tune.SetTune.SetTune}, proofs.{GoodBlocks.good_blocks, Laid.good_heights}}, abcps_words.specs.declared.command.Command.{Command}}
 
 -- pages that were given up are the first of a sheet, and so is their text of its document
@@ -199,12 +199,11 @@ module _ (manner : Manner) (even : Bool) (text : List ℕ) (plan : Plan) (b m a 
       (subst (λ t. WasStopped why (stream b a n l) t) (sym parts_all)
       (stopped_behind b m a n k l (first_text (paper_in text) run.given) run.wrote.0 run.wrote.1 why (rest_text run.given (sheet_of plan (paper_in text) run.outcomes)) closed))
 
--- what holds of a book that was cut, by its defaults, its paper and its tunes
-pub of_book : (P : Defaults → Paper → List TuneText → Type 0) (text : List ℕ) (book : Book) (paper : Paper) (defaults : Defaults) (tunes : List TuneText) → book ≡ book_of text → paper ≡ paper_of book.header
-    → defaults ≡ defaults_of book.header → tunes ≡ book.tunes → P defaults paper tunes → P (defaults_of (book_of text).header) (paper_in text) (book_of text).tunes
-of_book P text book paper defaults tunes is on under listed h =
-    let a = subst (λ l. P defaults paper l) listed h in let b = subst (λ d. P d paper book.tunes) under a in let c = subst (λ p. P (defaults_of book.header) p book.tunes) on b in
-    subst (λ (x : Book). P (defaults_of x.header) (paper_of x.header) x.tunes) is c
+-- what holds of a book, by its defaults, its paper and its tunes
+pub of_book : (P : Defaults → Paper → List TuneText → Type 0) {text : List ℕ} {defaults : Defaults} {paper : Paper} {tunes : List TuneText} → AreOfBook text defaults paper tunes → P defaults paper tunes
+    → P (defaults_of (book_of text).header) (paper_in text) (book_of text).tunes
+of_book P {text} {defaults} {paper} {tunes} are h =
+    subst (λ d. P d (paper_in text) (book_of text).tunes) are.defaults_are (subst (λ p. P defaults p (book_of text).tunes) are.paper_is (subst (λ l. P defaults paper l) are.tunes_are h))
 
 -- what `set` answers where its document was written, and errors was told the reports
 status_end : (refused : Bool) → IsEnd (status_if refused)

@@ -1,5 +1,5 @@
 -- What a sink took of texts that were given to it one after another, and how much of a document its first pages are.
-use Rattle.std.{proofs.{Common.{◌≡◌, refl, sym, ap, ◌∙◌, subst, ℕ, suc, ◌+◌, ◌<◌, List, [], ◌∷◌, ◌++◌, length, take, drop, get_or, Option, Err, arith}, lemmas.List.{append-nil, append_assoc, length-take-le, take_more}, Math.Seq.{drop-append_seam, take-append-add, take-append_seam}, KnownBytes.{Appends-nil, Appends-trans}}, specs.Io.KnownBytes.Appends}
+use Rattle.std.{proofs.{Common.{◌≡◌, refl, sym, ap, ◌∙◌, subst, ℕ, suc, ◌+◌, List, [], ◌∷◌, ◌++◌, length, take, drop, Option, Err, arith}, lemmas.List.{append_assoc}, Math.Seq.{drop-append_seam, take-append-add, take-append_seam}, KnownBytes.{Appends-nil, Appends-trans}}, specs.Io.KnownBytes.Appends}
 use Rattle.{eng_io.specs.Causes.{Rose}, abc_header.specs.declared.paper.Paper.{Paper}}
 use Rattle.ps_text.specs.{Document.document, Document.numbered, Document.page_text, Document.trailer, Prolog.prolog, declared.sheet.Page.Page, declared.sheet.Sheet.Sheet}
 use Rattle.{ps_write.specs.{Written.Counted, Written.WroteFront, declared.steps.DocError.DocError}, set_pages.{specs.Sheet.frame_of, proofs.Fronts.IsFront}}
@@ -60,13 +60,6 @@ numbered_append f k (x ∷ xs) ys =
     let same : k + 1 + length xs ≡ k + suc (length xs) = omega arith in
     ap (λ text. f k x ++ text) (numbered_append f (k + 1) xs ys ∙ ap (λ j. numbered f (k + 1) xs ++ numbered f j ys) same)
     ∙ sym (append_assoc (f k x) (numbered f (k + 1) xs) (numbered f (k + suc (length xs)) ys))
-
--- a numbered thing behind the first of a list
-pub numbered_more : {A : Type 0} (f : ℕ → A → List ℕ) (k : ℕ) (xs : List A) (i : ℕ) (x : A) → i < length xs → x ≡ get_or xs i x → numbered f k (take (i + 1) xs) ≡ numbered f k (take i xs) ++ f (k + i) x
-numbered_more f k xs i x less is =
-    let count : length (take i xs) ≡ i = length-take-le i xs (omega (arith, less)) in let same : k + length (take i xs) ≡ k + i = omega (arith, count) in
-    ap (λ l. numbered f k l) (take_more xs i x less ∙ ap (λ z. take i xs ++ z ∷ []) (sym is)) ∙ numbered_append f k (take i xs) (x ∷ [])
-    ∙ ap (λ text. numbered f k (take i xs) ++ text) (append-nil (f (k + length (take i xs)) x) ∙ ap (λ n. f n x) same)
 
 -- the first pages of a document
 pub first_more : (paper : Paper) (given more : List Page) → first_text paper (given ++ more) ≡ first_text paper given ++ numbered page_text (length given + 1) more

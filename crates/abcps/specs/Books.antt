@@ -1,6 +1,6 @@
 -- What the commands that set a book call for.
 use Rattle.std.specs.Prelude.{◌≡◌, ⊤, ℕ, List, [], Bool, true, false, if◌then◌else◌, length}
-use Rattle.{abc_lines.specs.Books.{book_of}, abc_header.specs.{declared.paper.Paper.Paper, Defaults.defaults_of, Papers.paper_of}, gen_book.specs.Book.{book}, ps_text.specs.{Document.{Spells, document}, declared.sheet.Sheet.Sheet}}
+use Rattle.{abc_lines.specs.{declared.book.TuneText.TuneText, Books.{book_of}}, abc_header.specs.{declared.{defaults.Defaults.Defaults, paper.Paper.Paper}, Defaults.defaults_of, Papers.paper_of}, gen_book.specs.Book.{book}, ps_text.specs.{Document.{Spells, document}, declared.sheet.Sheet.Sheet}}
 use Rattle.{set_book.specs.{declared.outcome.Outcome.Outcome, Outcomes.AreOutcomes}, set_pages.specs.{declared.plan.Plan.Plan, Press.IsBookSheet, Read.ShowsBook, Sheet.{AreStanding, IsPlan, sheet_of}}, set_heard.specs.Sounds.{SoundsBook}}
 use Rattle.set_lists.specs.{declared.trials.Trial.Trial, Reports.{reports, some_fault}, Systems.systems_text, Laws.ListsTheScores, Listing.listing_text, Trials.{fault_count, set_count, system_count, total_of, trial_text}}
 use Rattle.{set_tune.specs.Terms.{Manner, Terms, terms_by}, abcps.specs.{Called.{Called, IsQuietly}, declared.status.Status.Status}}
@@ -8,6 +8,12 @@ use Rattle.{set_tune.specs.Terms.{Manner, Terms, terms_by}, abcps.specs.{Called.
 -- the paper that a book states
 abbrev pub paper_in : List ℕ → Paper
 paper_in text = paper_of (book_of text).header
+
+-- these are the defaults, the paper and the tunes of the book
+pub record AreOfBook (text : List ℕ) (defaults : Defaults) (paper : Paper) (tunes : List TuneText) : Type 0 where
+  pub defaults_are : defaults ≡ defaults_of (book_of text).header
+  pub paper_is : paper ≡ paper_in text
+  pub tunes_are : tunes ≡ (book_of text).tunes
 
 -- its tunes are set on it, under the defaults of the book
 abbrev pub terms_in : Manner → List ℕ → Terms

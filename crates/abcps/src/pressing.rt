@@ -1,4 +1,4 @@
-ghost use Rattle.std.specs.Prelude.{◌≡◌, ◌+◌, ◌^◌, ◌<◌, ◌≤◌, ◌++◌, [], ◌∷◌, List, false, All, IfOk, OnOk, length};
+ghost use Rattle.std.specs.Prelude.{◌≡◌, ◌+◌, ◌^◌, ◌<◌, ◌++◌, [], ◌∷◌, List, false, All, IfOk, OnOk, length};
 ghost use Rattle.{abc_lines.specs.Good.{IsGoodTune}, abc_header.specs.{declared.{defaults.Defaults.Defaults, paper.Paper.Paper}, Good.IsGoodDefaults, Papers.{IsGoodPaper, height_of}}};
 ghost use Rattle.{ps_text.specs.{declared.sheet.Page.Page, Document.{numbered, page_text}, Prolog.prolog, Range.IsPage}, set_book.specs.declared.outcome.Outcome.{Outcome}};
 ghost use Rattle.set_pages.specs.{declared.plan.Plan.Plan, Drawings.all_blocks, Press.{HasRoom, IsOpen}, Sheet.{IsSetUnder, frame_of}};
@@ -8,16 +8,14 @@ use crate::status::Status;
 use abc_header::Paper;
 use eng_flow::Taker;
 use eng_io::Sink;
-use eng_jobs::Jobs;
 use mus_units::{Memory, Text};
-use ps_text::{Page, put_page};
-use ps_write::{DocWriter, begin, finish, pages, send_pages};
+use ps_text::Page;
+use ps_write::{DocWriter, begin, finish, put_pages_from, send_pages};
 use set_book::Outcome;
 use set_lists::{has_fault, put_reports};
 use set_pages::{Plan, Press, close_press, frame_of, open_press, press_outcomes, take_done};
 use std::alloc::Global;
 use std::slice::from_ref;
-use std::thread::Threads;
 
 /// What runs along while the tunes of a book are set and its pages are written: the pages that were
 /// not written yet, the reports of the faults so far, whether there was one, and the document.
@@ -98,20 +96,6 @@ fn take(
     Ok(())
 }
 
-/// Puts the text of pages behind a text, the first of them under this number.
-fn put_pages(out: &mut Text, first: u64, pages: &[Page]) -> Result<(), Memory>
-    requires good { All IsPage pages.now }
-    requires few { first + length pages.now < 2 ^ 64 }
-    ensures { OnOk result (out.new ≡ out.old ++ numbered page_text first pages.now) }
-{
-    let mut number = first;
-    for page in pages {
-        put_page(out, number, page)?;
-        number += 1;
-    }
-    Ok(())
-}
-
 /// Puts the text of the pages that are done behind the text that is still to be written. The pages themselves are
 /// kept no longer.
 fn put_done(alloc: Global, unsent: &mut Unsent) -> Result<(), Memory>
@@ -120,7 +104,7 @@ fn put_done(alloc: Global, unsent: &mut Unsent) -> Result<(), Memory>
 {
     let done = take_done(alloc, &mut unsent.run.press);
     let before = unsent.run.writer.pages + unsent.count;
-    put_pages(&mut unsent.text, u64::from(before) + 1, done.as_slice())?;
+    put_pages_from(&mut unsent.text, u64::from(before) + 1, done.as_slice())?;
     unsent.count += done.as_slice().len() as u32;
     Ok(())
 }
@@ -188,12 +172,10 @@ pub(crate) fn send_unsent<O: Sink>(unsent: Unsent, output: &mut O) -> Result<Run
     })
 }
 
-/// Writes pages behind those that were written; their texts are made by all jobs.
-fn write_pages<R: Threads + Sync, O: Sink>(
-    rt: &R,
+/// Writes pages behind those that were written.
+fn write_pages<O: Sink>(
     alloc: Global,
     done: &[Page],
-    jobs: Jobs,
     writer: DocWriter,
     output: &mut O,
 ) -> Result<DocWriter, Status>
@@ -202,16 +184,16 @@ fn write_pages<R: Threads + Sync, O: Sink>(
     ensures wrote { WasGiven (observed O.taken O.faults output.old output.new) (numbered page_text (writer.pages + 1) done.now) result }
     ensures count { IfOk result (λ next. next.pages ≡ writer.pages + length done.now) }
 {
-    let next = pages(rt, alloc, writer, done, jobs, output)?;
+    let mut text = Text::new(alloc);
+    put_pages_from(&mut text, u64::from(writer.pages) + 1, done)?;
+    let next = send_pages(writer, done.len() as u32, text.as_slice(), output)?;
     Ok(next)
 }
 
 /// Writes the pages that are left, and the end of the document.
-pub(crate) fn end_run<R: Threads + Sync, O: Sink>(
-    rt: &R,
+pub(crate) fn end_run<O: Sink>(
     alloc: Global,
     run: Running,
-    jobs: Jobs,
     output: &mut O,
 ) -> Result<Printed, Status>
     requires way { IsUnderWay run }
@@ -219,7 +201,7 @@ pub(crate) fn end_run<R: Threads + Sync, O: Sink>(
     ensures { (plan : Plan) (paper : Paper) (outcomes : List Outcome) (given : List Page) → IsGoodPaper paper → IsRunning plan paper outcomes given run → IsClosed plan paper outcomes given (observed O.taken O.faults output.old output.new) result }
 {
     let last = close_press(alloc, run.press)?;
-    let writer = write_pages(rt, alloc, last.as_slice(), jobs, run.writer, output)?;
+    let writer = write_pages(alloc, last.as_slice(), run.writer, output)?;
     finish(alloc, writer, output)?;
     Ok(Printed {
         told: run.told,

@@ -1,21 +1,21 @@
-ghost use Rattle.std.specs.Prelude.{◌≡◌, ◌<◌, ◌≤◌, ◌^◌, ◌++◌, [], ◌∷◌, Bool, List, All, IfOk, OnOk, length};
-ghost use Rattle.{abc_lines.specs.{declared.book.TuneText.TuneText, Books.book_of, Good.{IsGoodBook, IsGoodTune}}, abc_header.specs.{Good.IsGoodDefaults, Papers.{IsGoodPaper}}};
+ghost use Rattle.std.specs.Prelude.{◌≡◌, ◌<◌, ◌≤◌, ◌^◌, ◌++◌, [], ◌∷◌, ℕ, Bool, List, All, IfOk, OnOk, length};
+ghost use Rattle.{abc_lines.specs.{declared.book.TuneText.TuneText, Books.book_of, Good.{IsGoodBook, IsGoodTune}}};
 ghost use Rattle.{set_tune.specs.Terms.{manner_of, terms_of}};
-ghost use Rattle.abcps.specs.{Pressed.{AreGathered, ArePressed, ArePrinted, CanPressEach, HaveGathered, IsPlanned, IsPrinted}, Outcome.observed};
+ghost use Rattle.abcps.specs.{Books.AreOfBook, Pressed.{AreGathered, ArePressed, ArePrinted, CanPressEach, HaveGathered, IsPlanned, IsPrinted}, Outcome.observed};
 ghost use Rattle.set_pages.specs.Ready.{IsWhole};
 
 use crate::pressing::{
     Pressing, Printed, Running, Unsent, begin_run, end_run, send_unsent, unsent_behind,
 };
 use crate::status::Status;
-use abc_header::{Defaults, Paper, read_defaults, read_paper};
+use abc_header::{read_defaults, read_paper};
 use abc_lines::{Book, TuneText, cut_book};
 use eng_flow::Taker;
 use eng_io::Sink;
 use eng_jobs::Jobs;
 use lay_pages::Block;
 use mus_units::{Memory, Row, Text};
-use set_book::{Gate, Outcome, set_tunes_through};
+use set_book::{Gate, Outcome, Setting, set_tunes_through};
 use set_every::every_tune_has_an_outcome;
 use set_pages::{Plan, even_plan, gather_blocks};
 use set_tune::How;
@@ -39,29 +39,22 @@ fn batch_size(left: usize, jobs: Jobs) -> usize
 
 /// Sets a batch of tunes, and presses what comes of them in their order, while others are still set.
 fn press_batch<R: Threads + Sync, G: Gate + Sync>(
-    rt: &R,
-    alloc: Global,
+    setting: &Setting<'_, R, G>,
     batch: &[TuneText],
-    defaults: &Defaults,
-    paper: &Paper,
     plan: &Plan,
-    how: How,
     unsent: Unsent,
-    gate: &G,
 ) -> Result<Unsent, Memory>
     requires tunes { All IsGoodTune batch.now }
-    requires defaults { IsGoodDefaults defaults.now }
-    requires paper { IsGoodPaper paper.now }
-    requires each { CanPressEach (terms_of defaults.now paper.now how) plan.now batch.now unsent }
-    ensures { IfOk result (ArePressed (terms_of defaults.now paper.now how) plan.now batch.now unsent) }
+    requires each { CanPressEach (terms_of setting.now.defaults.now setting.now.paper.now setting.now.how) plan.now batch.now unsent }
+    ensures { IfOk result (ArePressed (terms_of setting.now.defaults.now setting.now.paper.now setting.now.how) plan.now batch.now unsent) }
 {
     let pressing = Pressing {
-        alloc,
-        paper,
+        alloc: setting.alloc,
+        paper: setting.paper,
         plan,
         unsent,
     };
-    let pressed = set_tunes_through(rt, alloc, batch, defaults, paper, how, gate, pressing)?;
+    let pressed = set_tunes_through(setting, batch, pressing)?;
     Ok(pressed.unsent)
 }
 
@@ -84,47 +77,36 @@ impl Taker<Outcome> for Gathering {
 
 /// Sets a batch of tunes, and puts their blocks behind others.
 fn gather_batch<R: Threads + Sync, G: Gate + Sync>(
-    rt: &R,
-    alloc: Global,
+    setting: &Setting<'_, R, G>,
     batch: &[TuneText],
-    defaults: &Defaults,
-    paper: &Paper,
-    how: How,
     blocks: Row<Block>,
-    gate: &G,
 ) -> Result<Row<Block>, Memory>
     requires tunes { All IsGoodTune batch.now }
     requires counted { All (λ tune. 1 ≤ tune.ordinal) batch.now }
-    requires defaults { IsGoodDefaults defaults.now }
-    requires paper { IsGoodPaper paper.now }
-    ensures { IfOk result (λ more. (before : List TuneText) → AreGathered (terms_of defaults.now paper.now how) before blocks → AreGathered (terms_of defaults.now paper.now how) (before ++ batch.now) more) }
+    ensures { IfOk result (λ more. (before : List TuneText) → AreGathered (terms_of setting.now.defaults.now setting.now.paper.now setting.now.how) before blocks → AreGathered (terms_of setting.now.defaults.now setting.now.paper.now setting.now.how) (before ++ batch.now) more) }
 {
-    let gathering = Gathering { alloc, blocks };
-    let gathered = set_tunes_through(rt, alloc, batch, defaults, paper, how, gate, gathering)?;
+    let gathering = Gathering {
+        alloc: setting.alloc,
+        blocks,
+    };
+    let gathered = set_tunes_through(setting, batch, gathering)?;
     Ok(gathered.blocks)
 }
 
 /// The blocks of tunes, which are set a batch at a time.
 fn gather_tunes<R: Threads + Sync, G: Gate + Sync>(
-    rt: &R,
-    alloc: Global,
+    setting: &Setting<'_, R, G>,
     tunes: &[TuneText],
-    defaults: &Defaults,
-    paper: &Paper,
-    how: How,
-    gate: &G,
 ) -> Result<Row<Block>, Memory>
     requires tunes { All IsGoodTune tunes.now }
     requires counted { All (λ tune. 1 ≤ tune.ordinal) tunes.now }
-    requires defaults { IsGoodDefaults defaults.now }
-    requires paper { IsGoodPaper paper.now }
-    ensures { IfOk result (AreGathered (terms_of defaults.now paper.now how) tunes.now) }
+    ensures { IfOk result (AreGathered (terms_of setting.now.defaults.now setting.now.paper.now setting.now.how) tunes.now) }
 {
-    let mut blocks = Row::new(alloc);
+    let mut blocks = Row::new(setting.alloc);
     let mut rest = tunes;
     'batches: while !rest.is_empty() {
-        let (batch, later) = rest.split_at(batch_size(rest.len(), how.jobs));
-        blocks = gather_batch(rt, alloc, batch, defaults, paper, how, blocks, gate)?;
+        let (batch, later) = rest.split_at(batch_size(rest.len(), setting.how.jobs));
+        blocks = gather_batch(setting, batch, blocks)?;
         rest = later;
     }
     Ok(blocks)
@@ -133,59 +115,63 @@ fn gather_tunes<R: Threads + Sync, G: Gate + Sync>(
 /// The plan of the pages of tunes: filled, or with even pages from the blocks of all tunes, which are
 /// set once for that.
 fn plan_tunes<R: Threads + Sync, G: Gate + Sync>(
-    rt: &R,
-    alloc: Global,
+    setting: &Setting<'_, R, G>,
     tunes: &[TuneText],
-    defaults: &Defaults,
-    paper: &Paper,
-    how: How,
     even: bool,
-    gate: &G,
 ) -> Result<Plan, Memory>
     requires tunes { All IsGoodTune tunes.now }
     requires counted { All (λ tune. 1 ≤ tune.ordinal) tunes.now }
-    requires defaults { IsGoodDefaults defaults.now }
-    requires paper { IsGoodPaper paper.now }
-    ensures { IfOk result (IsPlanned even (terms_of defaults.now paper.now how) tunes.now) }
+    ensures { IfOk result (IsPlanned even (terms_of setting.now.defaults.now setting.now.paper.now setting.now.how) tunes.now) }
 {
     if !even {
         return Ok(Plan::Filled);
     }
-    let blocks = gather_tunes(rt, alloc, tunes, defaults, paper, how, gate)?;
-    let plan = even_plan(alloc, paper, blocks.as_slice())?;
+    let blocks = gather_tunes(setting, tunes)?;
+    let plan = even_plan(setting.alloc, setting.paper, blocks.as_slice())?;
     Ok(plan)
 }
 
 /// Sets and presses tunes a batch at a time, and writes the pages that are done before the next. So no more is kept
 /// than the text of a batch, what came of tunes that wait for one before them, and the reports.
 fn print_tunes<R: Threads + Sync, O: Sink, G: Gate + Sync>(
-    rt: &R,
-    alloc: Global,
+    setting: &Setting<'_, R, G>,
     tunes: &[TuneText],
-    defaults: &Defaults,
-    paper: &Paper,
     plan: &Plan,
-    how: How,
     output: &mut O,
-    gate: &G,
 ) -> Result<Running, Status>
     requires tunes { All IsGoodTune tunes.now }
     requires counted { All (λ tune. 1 ≤ tune.ordinal) tunes.now }
-    requires defaults { IsGoodDefaults defaults.now }
-    requires paper { IsGoodPaper paper.now }
-    requires planned { (even : Bool) × IsPlanned even (terms_of defaults.now paper.now how) tunes.now plan.now }
-    ensures { ArePrinted (terms_of defaults.now paper.now how) plan.now tunes.now (observed O.taken O.faults output.old output.new) result }
+    requires planned { (even : Bool) × IsPlanned even (terms_of setting.now.defaults.now setting.now.paper.now setting.now.how) tunes.now plan.now }
+    ensures { ArePrinted (terms_of setting.now.defaults.now setting.now.paper.now setting.now.how) plan.now tunes.now (observed O.taken O.faults output.old output.new) result }
 {
-    let mut run = begin_run(alloc, paper, output)?;
+    let mut run = begin_run(setting.alloc, setting.paper, output)?;
     let mut rest = tunes;
     'batches: while !rest.is_empty() {
-        let (batch, later) = rest.split_at(batch_size(rest.len(), how.jobs));
-        let unsent = unsent_behind(alloc, run);
-        let pressed = press_batch(rt, alloc, batch, defaults, paper, plan, how, unsent, gate)?;
+        let (batch, later) = rest.split_at(batch_size(rest.len(), setting.how.jobs));
+        let unsent = unsent_behind(setting.alloc, run);
+        let pressed = press_batch(setting, batch, plan, unsent)?;
         run = send_unsent(pressed, output)?;
         rest = later;
     }
     Ok(run)
+}
+
+/// Plans the pages of the tunes of a book, and writes its document.
+fn print_all<R: Threads + Sync, O: Sink, G: Gate + Sync>(
+    setting: &Setting<'_, R, G>,
+    tunes: &[TuneText],
+    even: bool,
+    output: &mut O,
+) -> Result<Printed, Status>
+    requires tunes { All IsGoodTune tunes.now }
+    requires counted { All (λ tune. 1 ≤ tune.ordinal) tunes.now }
+    ensures { (text : List ℕ) → AreOfBook text setting.now.defaults.now setting.now.paper.now tunes.now
+        → IsPrinted (manner_of setting.now.how) even text (observed O.taken O.faults output.old output.new) result }
+{
+    every_tune_has_an_outcome();
+    let plan = plan_tunes(setting, tunes, even)?;
+    let run = print_tunes(setting, tunes, &plan, output)?;
+    end_run(setting.alloc, run, output)
 }
 
 /// The book of a text, which isn't held any longer.
@@ -211,14 +197,16 @@ pub(crate) fn print_book<R: Threads + Sync, O: Sink, G: Gate + Sync>(
     requires within { length text ≤ 2 ^ 30 }
     ensures { IsPrinted (manner_of how) even text (observed O.taken O.faults output.old output.new) result }
 {
-    every_tune_has_an_outcome();
     let book = cut_text(alloc, text)?;
     let paper = read_paper(&book);
     let defaults = read_defaults(alloc, &book)?;
-    let tunes = book.tunes.as_slice();
-    let plan = plan_tunes(rt, alloc, tunes, &defaults, &paper, how, even, gate)?;
-    let run = print_tunes(
-        rt, alloc, tunes, &defaults, &paper, &plan, how, output, gate,
-    )?;
-    end_run(rt, alloc, run, how.jobs, output)
+    let setting = Setting {
+        rt,
+        alloc,
+        defaults: &defaults,
+        paper: &paper,
+        how,
+        gate,
+    };
+    print_all(&setting, book.tunes.as_slice(), even, output)
 }

@@ -3,10 +3,10 @@ ghost use Rattle.{mus_score.specs.GoodScore.{IsGoodScore}, mus_time.specs.Onsets
 ghost use Rattle.{lay_columns.specs.Columns.{column_reach}, lay_breaks.specs.{Breaking.IsChosen, Breaking.IsPotential, Breaking.sum_from, Spans.AreSpans, Spans.listed}};
 ghost use Rattle.lay_spans.specs.Columns.{AreMeasures};
 ghost use Rattle.lay_tune.specs.declared.layout.LayoutError.TheVariants as errors;
-ghost use Rattle.lay_tune.specs.{Breakings.IsLeastBreaking, Layout.{IsCauseIn, layout_error}, Spans.{AreColumnsOf, AreSpansOf, is_forced_in, score_gaps, verses_of}, Systems.{Beside, EachSpan, IsSetSystem, IsStack}};
+ghost use Rattle.lay_tune.specs.{Breakings.IsLeastBreaking, Layout.{IsCauseIn, layout_error}, Measured.{IsMeasured}, Spans.{AreColumnsOf, AreSpansOf, is_forced_in, score_gaps, verses_of}, Systems.{Beside, EachSpan, IsSetSystem, IsStack}};
 
 use crate::measures::{columns_of_measures, others_of};
-use crate::systems::{Systems, set_systems};
+use crate::systems::{Measured, Systems, set_systems};
 use eng_jobs::Jobs;
 use lay_breaks::{BreakError, Breaking, Span};
 use lay_columns::{Column, gaps_of};
@@ -61,54 +61,41 @@ fn layout_error(error: BreakError) -> LayoutError
     }
 }
 
-/// The layout by the columns of each measure: `starts` has them as they stand where the measure
-/// begins a system, `others` where it doesn't.
-fn lay_out_measures<'a, R: Threads + Sync>(
+/// The layout of a score that is measured.
+fn lay_out_measures<R: Threads + Sync>(
     rt: &R,
     alloc: Global,
-    s: &Score,
+    measured: &Measured<'_>,
     voices: &mut [DrawnVoice<'_>],
-    t: &Timeline,
-    verses: &[u8],
-    starts: &'a [Row<Column>],
-    others: &'a [Lent<'a, Column>],
-    width: u32,
     jobs: Jobs,
 ) -> Result<Layout, LayoutError>
-    requires good { IsGoodScore s.now }
-    requires times { t.now ≡ timeline_of s.now }
-    requires voices { voices.old ≡ map drawn_voice s.now.voices }
+    requires measured { IsMeasured measured.now }
+    requires voices { voices.old ≡ map drawn_voice measured.now.score.now.voices }
     requires drawn { All (λ v. AreGoodMeasures v.measures) voices.old }
-    requires verses { verses.now ≡ verses_of s.now }
-    requires count { length starts.now ≡ s.now.measures }
-    requires measures { AreMeasures column_reach (length (score_gaps s.now)) starts.now others.now }
-    requires columns { AreColumnsOf s.now starts.now others.now }
-    ensures form { IfOk result (λ l. AreSpans s.now.measures l.spans) }
-    ensures spans { IfOk result (λ l. AreSpansOf s.now width l.spans) }
-    ensures chosen { IfOk result (λ l. IsChosen (listed l.spans) (is_forced_in s.now) s.now.measures l.breaking.breaks) }
+    ensures form { IfOk result (λ l. AreSpans measured.now.score.now.measures l.spans) }
+    ensures spans { IfOk result (λ l. AreSpansOf measured.now.score.now measured.now.width l.spans) }
+    ensures chosen { IfOk result (λ l. IsChosen (listed l.spans) (is_forced_in measured.now.score.now) measured.now.score.now.measures l.breaking.breaks) }
     ensures total { IfOk result (λ l. l.breaking.total ≡ sum_from (listed l.spans) 0 l.breaking.breaks) }
-    ensures least { IfOk result (λ l. IsLeastBreaking s.now width l.breaking.breaks l.breaking.total) }
-    ensures one_each { IfOk result (λ l. length l.breaking.potentials ≡ s.now.measures + 1) }
-    ensures potentials { IfOk result (λ l. (i : ℕ) → i ≤ s.now.measures
-        → IsPotential (listed l.spans) (is_forced_in s.now) i (slice_index_or l.breaking.potentials i Option.None)) }
-    ensures systems { IfOk result (λ l. EachSpan (IsSetSystem s.now width) 0 l.breaking.breaks l.systems l.placed) }
-    ensures heights { IfOk result (λ l. Beside (IsStack s.now) l.systems l.heights) }
+    ensures least { IfOk result (λ l. IsLeastBreaking measured.now.score.now measured.now.width l.breaking.breaks l.breaking.total) }
+    ensures one_each { IfOk result (λ l. length l.breaking.potentials ≡ measured.now.score.now.measures + 1) }
+    ensures potentials { IfOk result (λ l. (i : ℕ) → i ≤ measured.now.score.now.measures
+        → IsPotential (listed l.spans) (is_forced_in measured.now.score.now) i (slice_index_or l.breaking.potentials i Option.None)) }
+    ensures systems { IfOk result (λ l. EachSpan (IsSetSystem measured.now.score.now measured.now.width) 0 l.breaking.breaks l.systems l.placed) }
+    ensures heights { IfOk result (λ l. Beside (IsStack measured.now.score.now) l.systems l.heights) }
     ensures texts { IfOk result (λ l. All (λ m. All (λ staff. AreGoodMarks staff.marks) m.staves) l.systems) }
-    ensures no_way { IfErr result (IsCauseIn s.now width) }
+    ensures no_way { IfErr result (IsCauseIn measured.now.score.now measured.now.width) }
 {
-    let gaps = gaps_of(alloc, verses)?;
-    let forced = s.forced.as_slice();
-    let spans = spans_of(
-        rt,
-        alloc,
+    let Measured {
+        score,
         starts,
         others,
-        gaps.as_slice(),
+        gaps,
         width,
-        forced,
-        jobs,
-    )?;
-    let breaking = match break_of(alloc, &spans, forced, s.measures) {
+        ..
+    } = *measured;
+    let forced = score.forced.as_slice();
+    let spans = spans_of(rt, alloc, starts, others, gaps, width, forced, jobs)?;
+    let breaking = match break_of(alloc, &spans, forced, score.measures) {
         Ok(breaking) => breaking,
         Err(error) => return Err(layout_error(error)),
     };
@@ -117,18 +104,7 @@ fn lay_out_measures<'a, R: Threads + Sync>(
         marks,
         placed,
         heights,
-    } = set_systems(
-        alloc,
-        s,
-        voices,
-        t,
-        starts,
-        others,
-        gaps.as_slice(),
-        width,
-        breaks,
-        &spans,
-    )?;
+    } = set_systems(alloc, measured, voices, breaks, &spans)?;
     Ok(Layout {
         breaking,
         systems: marks,
@@ -176,9 +152,15 @@ pub fn lay_out<R: Threads + Sync>(
     let voices = drawn.items.as_mut_slice();
     let columns = columns_of_measures(alloc, s, voices, &t, verses)?;
     let further = others_of(alloc, s, &columns)?;
-    let (starts, others) = (columns.starts.as_slice(), further.as_slice());
+    let gaps = gaps_of(alloc, verses)?;
+    let measured = Measured {
+        score: s,
+        times: &t,
+        starts: columns.starts.as_slice(),
+        others: further.as_slice(),
+        gaps: gaps.as_slice(),
+        width,
+    };
     measures_join();
-    lay_out_measures(
-        rt, alloc, s, voices, &t, verses, starts, others, width, jobs,
-    )
+    lay_out_measures(rt, alloc, &measured, voices, jobs)
 }

@@ -1,6 +1,6 @@
 ghost use Rattle.std.specs.Prelude.{◌≡◌, ◌+◌, ◌<◌, ◌≤◌, ◌^◌, ◌==◌, ℕ, All, IfOk, length, map, slice_index};
-ghost use Rattle.{mus_score.specs.GoodScore.{IsGoodScore}, mus_time.specs.Onsets.{timeline_of}, mus_drawn.specs.{Drawn.drawn_voice, Good.AreGoodMeasures}, mus_laid.specs.Boxes.{AreGoodMarks}};
-ghost use Rattle.{lay_breaks.specs.Spans.{listed}, lay_tune.specs.{Spans.{AreColumnsOf, score_gaps}, Systems.{AllSpans, Beside, CanBeSet, EachSpan, HaveForce, IsJustified, IsSetSystem, IsStack}}};
+ghost use Rattle.{mus_drawn.specs.{Drawn.drawn_voice, Good.AreGoodMeasures}, mus_laid.specs.Boxes.{AreGoodMarks}};
+ghost use Rattle.{lay_breaks.specs.Spans.{listed}, lay_tune.specs.{Measured.{IsMeasured}, Systems.{AllSpans, Beside, CanBeSet, EachSpan, HaveForce, IsJustified, IsSetSystem, IsStack}}};
 
 use crate::gaps::gaps_between;
 use lay_breaks::Costs;
@@ -15,6 +15,18 @@ use mus_score::Score;
 use mus_time::{ColumnKey, Timeline};
 use mus_units::{Memory, Row};
 use std::alloc::Global;
+
+/// A score with what its systems are set by: its times; the columns of each measure, `starts` as they stand where it
+/// begins a system, `others` where it doesn't; the gaps of their lanes; and the width, in u.
+#[derive(Drop)]
+pub(crate) struct Measured<'a> {
+    pub(crate) score: &'a Score,
+    pub(crate) times: &'a Timeline,
+    pub(crate) starts: &'a [Row<Column>],
+    pub(crate) others: &'a [Lent<'a, Column>],
+    pub(crate) gaps: &'a [u32],
+    pub(crate) width: u32,
+}
 
 /// The columns pressed with their greatest force, by what their span costs, and set to the width.
 fn press(
@@ -60,48 +72,38 @@ struct SetSystem {
     heights: Heights,
 }
 
-/// The system of measures `a` to `b` - 1, by the columns of each measure; the voices are left as
-/// they were.
-fn set_system<'a>(
+/// The system of measures `a` to `b` - 1; the voices are left as they were.
+fn set_system(
     alloc: Global,
-    s: &Score,
+    measured: &Measured<'_>,
     voices: &mut [DrawnVoice<'_>],
-    t: &Timeline,
-    starts: &'a [Row<Column>],
-    others: &'a [Lent<'a, Column>],
-    gaps: &[u32],
-    width: u32,
     a: u32,
     b: u32,
     spans: &Spans,
 ) -> Result<SetSystem, Memory>
-    requires good { IsGoodScore s.now }
-    requires times { t.now ≡ timeline_of s.now }
-    requires voices { voices.old ≡ map drawn_voice s.now.voices }
+    requires measured { IsMeasured measured.now }
+    requires voices { voices.old ≡ map drawn_voice measured.now.score.now.voices }
     requires drawn { All (λ v. AreGoodMeasures v.measures) voices.old }
-    requires count { length starts.now ≡ s.now.measures }
-    requires same { length others.now ≡ length starts.now }
-    requires columns { AreColumnsOf s.now starts.now others.now }
-    requires gaps { gaps.now ≡ score_gaps s.now }
-    requires lanes { length gaps.now < 2 ^ 32 }
-    requires narrow { (lane : ℕ) → lane < length gaps.now → slice_index gaps.now lane ≤ 2 ^ 20 }
-    requires bars { length spans.now.rows.rows ≡ s.now.measures }
-    requires fits { CanBeSet s.now width (listed spans.now.list) a b }
+    requires bars { length spans.now.rows.rows ≡ measured.now.score.now.measures }
+    requires fits { CanBeSet measured.now.score.now measured.now.width (listed spans.now.list) a b }
     ensures kept { voices.new ≡ voices.old }
-    ensures system { IfOk result (λ set. IsSetSystem s.now width a b set.marks set.placed) }
-    ensures heights { IfOk result (λ set. IsStack s.now set.marks set.heights) }
+    ensures system { IfOk result (λ set. IsSetSystem measured.now.score.now measured.now.width a b set.marks set.placed) }
+    ensures heights { IfOk result (λ set. IsStack measured.now.score.now set.marks set.heights) }
     ensures good { IfOk result (λ set. All (λ staff. AreGoodMarks staff.marks) set.marks.staves) }
 {
     let Some(cost) = spans.rows.cost(a, b) else {
         unreachable!();
     };
-    let last = b == s.measures;
+    let score = measured.score;
+    let (starts, others) = (measured.starts, measured.others);
     let seen = columns_in(alloc, starts, others, a as usize, b as usize)?;
     let columns = seen.as_slice();
-    let placed = press(alloc, columns, gaps, width, last, cost)?;
+    let last = b == score.measures;
+    let placed = press(alloc, columns, measured.gaps, measured.width, last, cost)?;
     let keys = keys_in(alloc, columns)?;
-    let marks = tilt_of(alloc, s, voices, t, a, b, keys, placed.at.as_slice())?;
-    let between = gaps_between(alloc, s.voices.as_slice())?;
+    let at = placed.at.as_slice();
+    let marks = tilt_of(alloc, score, voices, measured.times, a, b, keys, at)?;
+    let between = gaps_between(alloc, score.voices.as_slice())?;
     let heights = stack(alloc, &marks, between.as_slice())?;
     Ok(SetSystem {
         marks,
@@ -119,33 +121,21 @@ pub(crate) struct Systems {
     pub(crate) heights: Row<Heights>,
 }
 
-/// The systems of the breaking that ends its spans at `breaks`, by the columns of each measure.
-pub(crate) fn set_systems<'a>(
+/// The systems of the breaking that ends its spans at `breaks`.
+pub(crate) fn set_systems(
     alloc: Global,
-    s: &Score,
+    measured: &Measured<'_>,
     voices: &mut [DrawnVoice<'_>],
-    t: &Timeline,
-    starts: &'a [Row<Column>],
-    others: &'a [Lent<'a, Column>],
-    gaps: &[u32],
-    width: u32,
     breaks: &[u32],
     spans: &Spans,
 ) -> Result<Systems, Memory>
-    requires good { IsGoodScore s.now }
-    requires times { t.now ≡ timeline_of s.now }
-    requires voices { voices.old ≡ map drawn_voice s.now.voices }
+    requires measured { IsMeasured measured.now }
+    requires voices { voices.old ≡ map drawn_voice measured.now.score.now.voices }
     requires drawn { All (λ v. AreGoodMeasures v.measures) voices.old }
-    requires count { length starts.now ≡ s.now.measures }
-    requires same { length others.now ≡ length starts.now }
-    requires columns { AreColumnsOf s.now starts.now others.now }
-    requires gaps { gaps.now ≡ score_gaps s.now }
-    requires lanes { length gaps.now < 2 ^ 32 }
-    requires narrow { (lane : ℕ) → lane < length gaps.now → slice_index gaps.now lane ≤ 2 ^ 20 }
-    requires bars { length spans.now.rows.rows ≡ s.now.measures }
-    requires fits { AllSpans (CanBeSet s.now width (listed spans.now.list)) 0 breaks.now }
-    ensures systems { IfOk result (λ r. EachSpan (IsSetSystem s.now width) 0 breaks.now r.marks r.placed) }
-    ensures heights { IfOk result (λ r. Beside (IsStack s.now) r.marks r.heights) }
+    requires bars { length spans.now.rows.rows ≡ measured.now.score.now.measures }
+    requires fits { AllSpans (CanBeSet measured.now.score.now measured.now.width (listed spans.now.list)) 0 breaks.now }
+    ensures systems { IfOk result (λ r. EachSpan (IsSetSystem measured.now.score.now measured.now.width) 0 breaks.now r.marks r.placed) }
+    ensures heights { IfOk result (λ r. Beside (IsStack measured.now.score.now) r.marks r.heights) }
     ensures good { IfOk result (λ r. All (λ m. All (λ staff. AreGoodMarks staff.marks) m.staves) r.marks) }
 {
     let mut marks = Row::with_room(alloc, breaks.len())?;
@@ -153,9 +143,7 @@ pub(crate) fn set_systems<'a>(
     let mut heights = Row::with_room(alloc, breaks.len())?;
     let mut a = 0;
     for b in breaks {
-        let set = set_system(
-            alloc, s, voices, t, starts, others, gaps, width, a, *b, spans,
-        )?;
+        let set = set_system(alloc, measured, voices, a, *b, spans)?;
         marks.push(set.marks)?;
         placed.push(set.placed)?;
         heights.push(set.heights)?;

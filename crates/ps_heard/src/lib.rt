@@ -1,7 +1,7 @@
 //! What pages sound, read off their marks alone: of each staff of a tune the heads,
 //! each with its pitch and its alteration.
 //!
-//! A staff is heard column by column from the left, in time n log n of its marks.
+//! A staff is heard column by column from the left, in time n log n of the marks of its systems, all staves counted.
 #![tactic(auto)]
 
 pub mod anchors;

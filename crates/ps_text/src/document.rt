@@ -189,7 +189,7 @@ pub fn put_heading_line(out: &mut Text, k: u64) -> Result<(), Memory>
 
 /// Adds the two lines that begin page `k` of a document.
 #[tactic(auto, unfolding(crate::specs::Document::heading_text))]
-pub fn put_heading(out: &mut Text, k: u64) -> Result<(), Memory>
+fn put_heading(out: &mut Text, k: u64) -> Result<(), Memory>
     ensures { OnOk result (out.new ≡ out.old ++ heading_text k) }
 {
     put_heading_line(out, k)?;
@@ -205,7 +205,7 @@ fn put_closing(out: &mut Text) -> Result<(), Memory>
 
 /// Adds what stands behind the heading of a page.
 #[tactic(auto, unfolding(crate::specs::Document::body_text))]
-pub fn put_body(out: &mut Text, p: &Page) -> Result<(), Memory>
+fn put_body(out: &mut Text, p: &Page) -> Result<(), Memory>
     requires { IsPage p.now }
     ensures { OnOk result (out.new ≡ out.old ++ body_text p.now) }
 {

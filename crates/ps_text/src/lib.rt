@@ -17,7 +17,7 @@ pub mod sheet;
 pub mod words;
 pub mod writing;
 
-pub use document::{put_body, put_heading, put_page, put_trailer};
+pub use document::{put_page, put_trailer};
 pub use marks::PageMark;
 pub use prolog::put_prolog;
 pub use reading::read_op;

@@ -1,7 +1,7 @@
 -- A text of which a front has gone out, and what follows there.
 use Rattle.std.{proofs.{Common.{◌≡◌, ℕ, suc, ◌+◌, ◌<◌, List, [], ◌∷◌, ◌++◌, length, take, drop, refl, sym, ap, ◌∙◌, subst, get_or, map, add-one, drop-cons, append-nil, append_assoc, length-append, arith, Option}, lemmas.List.take-append-le, Math.Seq.{drop-length, take-append-add}, KnownBytes.{Appends-nil, Appends-trans}}, specs.Io.KnownBytes.Appends}
-use Rattle.ps_text.specs.{Document.{body_text, closing, document, heading_text, items_text, numbered, page_text, trailer}, Prolog.prolog, declared.sheet.Page.Page, declared.sheet.Sheet.Sheet}
-use Rattle.ps_write.specs.{Written.{WroteFront, counted_from, headed_text}, declared.steps.DocError.DocError}
+use Rattle.ps_text.specs.{Document.{document, numbered, page_text, trailer}, Prolog.prolog, declared.sheet.Page.Page, declared.sheet.Sheet.Sheet}
+use Rattle.ps_write.specs.{Written.{WroteFront, counted_from}, declared.steps.DocError.DocError}
 
 -- the front of a text went out, after which so many bytes were written, and the rest of it follows
 pub record Sent (old new : Option (List ℕ)) (start written : ℕ) (rest all : List ℕ) : Type 0 where
@@ -50,20 +50,14 @@ unfolding document
 document_start s = append_assoc (prolog s.frame) (numbered page_text 1 s.pages) (trailer (length s.pages))
 
 -- page i comes first of those that follow
-pub next_page : (k i : ℕ) (pages : List Page) (p : Page) (tail : List ℕ) → i < length pages → p ≡ get_or pages i p → numbered page_text k (drop i pages) ++ tail ≡ page_text k p ++ (numbered page_text (k + 1) (drop (i + 1) pages) ++ tail)
-next_page k i pages p tail l g =
-    let c : drop i pages ≡ p ∷ drop (i + 1) pages = rw add-one (drop-cons pages i p l ∙ ap (λ (q : Page). q ∷ drop (suc i) pages) (sym g)) in
-    ap (λ (ps : List Page). numbered page_text k ps ++ tail) c ∙ append_assoc (page_text k p) (numbered page_text (k + 1) (drop (i + 1) pages)) tail
+pub next_page : (k i : ℕ) (pages : List Page) (p : Page) → i < length pages → p ≡ get_or pages i p → numbered page_text k (drop i pages) ≡ page_text k p ++ numbered page_text (k + 1) (drop (i + 1) pages)
+next_page k i pages p l g =
+    let first : drop i pages ≡ p ∷ drop (i + 1) pages = rw add-one (drop-cons pages i p l ∙ ap (λ (q : Page). q ∷ drop (suc i) pages) (sym g)) in
+    ap (λ ps. numbered page_text k ps) first
+
+pub page_then : (k i : ℕ) (pages : List Page) (p : Page) (tail : List ℕ) → i < length pages → p ≡ get_or pages i p → numbered page_text k (drop i pages) ++ tail ≡ page_text k p ++ (numbered page_text (k + 1) (drop (i + 1) pages) ++ tail)
+page_then k i pages p tail l g = ap (λ text. text ++ tail) (next_page k i pages p l g) ∙ append_assoc (page_text k p) (numbered page_text (k + 1) (drop (i + 1) pages)) tail
 
 -- nothing comes between all pages and the end
 pub no_page : (k i : ℕ) (pages : List Page) (tail : List ℕ) → i ≡ length pages → numbered page_text k (drop i pages) ++ tail ≡ tail ++ []
 no_page k i pages tail e = rw (e, drop-length pages) (sym (append-nil tail))
-
--- a page from what stands behind its heading
-headed_page : (k : ℕ) (p : Page) → headed_text k (body_text p) ≡ page_text k p
-unfolding body_text page_text
-headed_page k p = sym (append_assoc (heading_text k) (items_text p.items) closing)
-
-pub headed_pages : (k : ℕ) (pages : List Page) → numbered headed_text k (map body_text pages) ≡ numbered page_text k pages
-headed_pages k [] = refl
-headed_pages k (p ∷ pages) = rw (headed_page k p, headed_pages (k + 1) pages) refl

@@ -1,6 +1,6 @@
 -- What a step of a writer, or a whole document, gave to a sink.
-use Rattle.std.specs.{Prelude.{◌≡◌, ℕ, ◌+◌, ◌^◌, ◌<◌, ◌≤◌, length, take, List, ◌++◌, Option, Result, Ok, Err, ⊤}, Io.KnownBytes.Appends}
-use Rattle.{eng_io.specs.Causes.{Rose}, ps_text.specs.Document.{heading_text}, ps_write.specs.{declared.steps.DocError.DocError, declared.steps.DocWriter.DocWriter}}
+use Rattle.std.specs.{Prelude.{◌≡◌, ℕ, ◌+◌, ◌^◌, ◌<◌, ◌≤◌, length, take, List, Option, Result, Ok, Err, ⊤}, Io.KnownBytes.Appends}
+use Rattle.{eng_io.specs.Causes.{Rose}, ps_write.specs.{declared.steps.DocError.DocError, declared.steps.DocWriter.DocWriter}}
 
 -- exactly the first bytes that the error counts went out, or, for want of memory, a front of the text
 abbrev pub WroteFront : Option (List ℕ) → Option (List ℕ) → List ℕ → DocError → Type 0
@@ -36,7 +36,3 @@ pub record IsNext (pages before : ℕ) (text : List ℕ) (w : DocWriter) : Type 
 abbrev pub counted_from : ℕ → DocError → DocError
 counted_from before (DocError.Write e) = DocError.Write (record { written = before + e.written })
 counted_from before DocError.Memory = DocError.Memory
-
--- page k, from what stands behind its heading
-abbrev pub headed_text : ℕ → List ℕ → List ℕ
-headed_text k body = heading_text k ++ body

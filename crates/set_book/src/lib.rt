@@ -8,4 +8,4 @@ pub mod setting;
 
 pub use gate::{Gate, Open};
 pub use outcome::Outcome;
-pub use setting::{one_outcome, set_all, set_tunes, set_tunes_through};
+pub use setting::{Setting, one_outcome, set_all, set_tunes_through};

@@ -7,8 +7,8 @@
 //! 256; `measure A M` the columns of measure M in a system that begins with measure A; `layout W` the
 //! layout on a width, `systems W` what its systems draw; `sounds` the sounds.
 //! `printed N` prints the text instead of a tune, whole and within N characters. `book J` has a book
-//! set by a number of jobs; `squares J` and `counted J K` have work on items, the second with memory
-//! short for item K; `meetings` has two tunes wait for each other.
+//! set by a number of jobs; `squares J`, `through J K`, where K outcomes can be taken, and `counted J K`, where
+//! memory is short for item K, have work on items; `meetings` has two tunes wait for each other.
 
 ghost use Rattle.std.specs.Prelude.{◌≤◌, ◌<◌, ◌^◌, ℕ, length, slice_index};
 ghost use Rattle.mus_score.specs.GoodScore.{IsGoodScore};

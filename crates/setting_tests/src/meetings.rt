@@ -9,7 +9,7 @@ use case_texts::Report;
 use eng_flow::Taker;
 use eng_jobs::Jobs;
 use mus_units::Memory;
-use set_book::{Gate, Outcome, set_all, set_tunes_through};
+use set_book::{Gate, Outcome, Setting, set_all, set_tunes_through};
 use set_tune::How;
 use std::thread::Threads;
 
@@ -52,9 +52,15 @@ fn put_gate_through<R: Threads + Sync>(rt: &R, out: &mut Report) -> Result<(), M
     let waiting = Waiting {
         meeting: Meeting::new(200_000_000),
     };
-    let tunes = book.tunes.as_slice();
-    let none = Counting { taken: 0 };
-    let counted = set_tunes_through(rt, alloc, tunes, &defaults, &paper, how, &waiting, none)?;
+    let setting = Setting {
+        rt,
+        alloc,
+        defaults: &defaults,
+        paper: &paper,
+        how,
+        gate: &waiting,
+    };
+    let counted = set_tunes_through(&setting, book.tunes.as_slice(), Counting { taken: 0 })?;
     out.tell(counted.taken)?;
     waiting.meeting.put_met(out)
 }

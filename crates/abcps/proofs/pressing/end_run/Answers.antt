@@ -11,12 +11,12 @@ returns-in_err-last g c plan paper outcomes given good running =
     (memory_first (g.O.Sink.taken c.args.output.now) (g.O.Sink.faults c.args.output.now) _)
 
 pub write_pages-requires-clause-good : goal.write_pages-requires-clause-good
-write_pages-requires-clause-good g c κs within =
+write_pages-requires-clause-good g c =
     let way = c.requires.way in
     subst (λ pages. All IsPage pages) (sym c.as_slice.ensures) (last_good way.plan way.paper way.outcomes way.given c.in_ok-last.last (c.in_ok-last.ensures way.plan way.paper way.outcomes way.given way.good way.running.taken.pressed))
 
 pub write_pages-requires-clause-few : goal.write_pages-requires-clause-few
-write_pages-requires-clause-few g c κs within =
+write_pages-requires-clause-few g c =
     let way = c.requires.way in
     subst (λ pages. c.args.run.writer.pages + length pages < 2 ^ 32) (sym c.as_slice.ensures)
     (last_few way.plan way.paper way.outcomes way.given c.in_ok-last.last (c.in_ok-last.ensures way.plan way.paper way.outcomes way.given way.good way.running.taken.pressed) c.args.run.writer.pages way.running.count)

@@ -5,8 +5,8 @@ use Rattle.abcps.proofs.printing.gather_tunes.Goals as goal
 pub batches-init : goal.batches-init
 batches-init g c = record {
   gathering =
-      subst (λ blocks. IsGathering (terms_of c.args.defaults.now c.args.paper.now c.args.how) c.args.tunes.now c.args.tunes.now blocks) (sym c.new-blocks.ensures)
-      (gathering_first (terms_of c.args.defaults.now c.args.paper.now c.args.how) c.args.tunes.now);
+      subst (λ blocks. IsGathering (terms_of c.args.setting.now.defaults.now c.args.setting.now.paper.now c.args.setting.now.how) c.args.tunes.now c.args.tunes.now blocks) (sym c.new-blocks.ensures)
+      (gathering_first (terms_of c.args.setting.now.defaults.now c.args.setting.now.paper.now c.args.setting.now.how) c.args.tunes.now);
   good = c.requires.tunes;
   counted = c.requires.counted;
 }
@@ -20,7 +20,7 @@ gather_batch-requires-clause-counted g c κs within = subst (λ tunes. All IsCou
 pub batches-preserved : goal.batches-preserved
 batches-preserved g c = record {
   gathering =
-      gathering_more (terms_of c.args.defaults.now c.args.paper.now c.args.how) c.args.tunes.now c.batches.rest.now c.split_at.result.0.now c.split_at.result.1.now c.batch_size.result c.batches.blocks c.in_ok-blocks.blocks
+      gathering_more (terms_of c.args.setting.now.defaults.now c.args.setting.now.paper.now c.args.setting.now.how) c.args.tunes.now c.batches.rest.now c.split_at.result.0.now c.split_at.result.1.now c.batch_size.result c.batches.blocks c.in_ok-blocks.blocks
       c.split_at.ensures.front c.split_at.ensures.back c.in_ok-blocks.ensures c.batches.invariant.gathering;
   good = subst (λ tunes. All IsGoodTune tunes) (sym c.split_at.ensures.back) (All-drop IsGoodTune c.batch_size.result c.batches.rest.now c.batches.invariant.good);
   counted = subst (λ tunes. All IsCounted tunes) (sym c.split_at.ensures.back) (All-drop IsCounted c.batch_size.result c.batches.rest.now c.batches.invariant.counted);
@@ -28,5 +28,5 @@ batches-preserved g c = record {
 
 pub returns : goal.returns
 returns g c =
-    gathering_done (terms_of c.args.defaults.now c.args.paper.now c.args.how) c.args.tunes.now c.batches.rest.now c.batches.blocks
+    gathering_done (terms_of c.args.setting.now.defaults.now c.args.setting.now.paper.now c.args.setting.now.how) c.args.tunes.now c.batches.rest.now c.batches.blocks
     (none_left c.batches.rest.now c.is_empty.result c.is_empty.ensures c.batches-test.false) c.batches.invariant.gathering

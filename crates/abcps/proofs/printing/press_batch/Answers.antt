@@ -4,7 +4,7 @@ use Rattle.abcps.proofs.printing.press_batch.Goals as goal
 
 pub set_tunes_through-requires-clause-fits : goal.set_tunes_through-requires-clause-fits
 set_tunes_through-requires-clause-fits g c κs within =
-    can_take (λ p. p.plan.now) (λ p. p.paper.now) (λ p. p.unsent) (terms_of c.args.defaults.now c.args.paper.now c.args.how) c.args.batch.now _ refl c.requires.each
+    can_take (λ p. p.plan.now) (λ p. p.paper.now) (λ p. p.unsent) (terms_of c.args.setting.now.defaults.now c.args.setting.now.paper.now c.args.setting.now.how) c.args.batch.now _ refl c.requires.each
 
 pub returns : goal.returns
 returns g c =

@@ -1,13 +1,27 @@
-use Rattle.std.proofs.Common.{◌∙◌, ◌≤◌, subst, sym}
-use Rattle.{mus_marks.{specs.Staff.verses_on, proofs.Fitting.few_verses}, lay_tune.{specs.Spans.AreColumnsOf, proofs.Joins.columns_join}}
+use Rattle.std.proofs.Common.{◌≡◌, ◌∙◌, ◌<◌, ◌≤◌, ap, length, rules, subst, sym}
+use Rattle.{mus_marks.{specs.Staff.verses_on, proofs.Fitting.few_verses}, lay_columns.specs.Lanes.{gaps_of}, lay_tune.{specs.Spans.{AreColumnsOf, verses_of}, proofs.{Joins.columns_join, Open.few_lanes}}}
 use Rattle.lay_tune.proofs.layout.lay_out.Goals as goal
 
 pub staff_verses-requires : goal.staff_verses-requires
 staff_verses-requires g c = subst (λ vs. verses_on vs ≤ 128) (sym (c.as_slice.ensures ∙ c.in_ok-drawn.ensures.voices)) (few_verses c.args.s.now c.requires.good)
 
-pub lay_out_measures-requires-clause-columns : goal.lay_out_measures-requires-clause-columns
-lay_out_measures-requires-clause-columns g c κs within =
-    subst (λ others. AreColumnsOf c.args.s.now c.as_slice-starts.result.now others) (sym c.as_slice-others.ensures)
-    (subst (λ starts. AreColumnsOf c.args.s.now starts c.in_ok-further.further) (sym c.as_slice-starts.ensures)
-    (columns_join c.measures_join.ensures c.args.s.now c.in_ok-columns.columns.starts c.in_ok-further.further c.requires.good
-    c.in_ok-columns.ensures.starts c.in_ok-further.ensures))
+pub lay_out_measures-requires-clause-measured : goal.lay_out_measures-requires-clause-measured
+lay_out_measures-requires-clause-measured g c κs within =
+    let verses : c.as_slice-verses.result.now ≡ verses_of c.args.s.now = search rules in
+    record {
+      good = c.requires.good;
+      times = search rules;
+      count = search rules;
+      measures = search rules;
+      columns =
+          subst (λ others. AreColumnsOf c.args.s.now c.as_slice-2.result.now others) (sym c.as_slice-3.ensures)
+          (subst (λ starts. AreColumnsOf c.args.s.now starts c.in_ok-further.further) (sym c.as_slice-2.ensures)
+          (columns_join c.measures_join.ensures c.args.s.now c.in_ok-columns.columns.starts c.in_ok-further.further c.requires.good
+          c.in_ok-columns.ensures.starts c.in_ok-further.ensures));
+      gaps = c.as_slice-4.ensures ∙ c.in_ok-gaps.ensures.value ∙ ap gaps_of verses;
+      lanes =
+          subst (λ gaps. length gaps < 4294967296) (sym c.as_slice-4.ensures)
+          (few_lanes c.args.s.now c.as_slice-verses.result.now c.in_ok-gaps.gaps c.requires.good verses c.in_ok-gaps.ensures.few);
+      narrow = search rules;
+      wide = search rules;
+    }

@@ -8,7 +8,7 @@ Good m = All (λ staff. AreGoodMarks staff.marks) m.staves
 
 pub loop-b-preserved : goal.loop-b-preserved
 loop-b-preserved c =
-    let s = c.args.s.now in let Is : ℕ → ℕ → SystemMarks → Placed → Type 0 = IsSetSystem c.args.s.now c.args.width in let breaks = c.args.breaks.now in let i = c.loop-b.b-index in
+    let s = c.args.measured.now.score.now in let Is : ℕ → ℕ → SystemMarks → Placed → Type 0 = IsSetSystem c.args.measured.now.score.now c.args.measured.now.width in let breaks = c.args.breaks.now in let i = c.loop-b.b-index in
     let b = slice_index_or c.args.breaks.now c.loop-b.b-index 0 in let inside : c.loop-b.b-index < length c.args.breaks.now = grind (arith, c.loop-b-test.true) in
     let next : drop c.loop-b.b-index c.args.breaks.now ≡ slice_index_or c.args.breaks.now c.loop-b.b-index 0 ∷ drop (c.loop-b.b-index + 1) c.args.breaks.now =
     drop_more c.args.breaks.now c.loop-b.b-index 0 inside in
@@ -25,12 +25,12 @@ loop-b-preserved c =
       good = subst (λ marks. All Good marks) (sym c.in_ok-push.ensures.ok)
           (All-append Good c.loop-b.marks (c.in_ok-set.set.marks ∷ []) c.loop-b.invariant.good
           (All-cons Good c.in_ok-set.set.marks [] c.in_ok-set.ensures.good (All-nil Good)));
-      fits = (subst (λ bs. AllSpans (CanBeSet s c.args.width (listed c.args.spans.now.list)) c.loop-b.a bs) next c.loop-b.invariant.fits).1;
+      fits = (subst (λ bs. AllSpans (CanBeSet s c.args.measured.now.width (listed c.args.spans.now.list)) c.loop-b.a bs) next c.loop-b.invariant.fits).1;
     }
 
 pub returns-clause-systems : goal.returns-clause-systems
 returns-clause-systems c =
     let past : length c.args.breaks.now ≤ c.loop-b.b-index = grind (arith, c.loop-b-test.false) in let none = drop_all c.loop-b.b-index c.args.breaks.now past in
-    subst (λ marks. EachSpan (IsSetSystem c.args.s.now c.args.width) 0 c.args.breaks.now marks c.loop-b.placed) (append-nil c.loop-b.marks)
-    (subst (λ placed. EachSpan (IsSetSystem c.args.s.now c.args.width) 0 c.args.breaks.now (c.loop-b.marks ++ []) placed) (append-nil c.loop-b.placed)
-    (c.loop-b.invariant.systems [] [] (subst (λ bs. EachSpan (IsSetSystem c.args.s.now c.args.width) c.loop-b.a bs [] []) (sym none) tt)))
+    subst (λ marks. EachSpan (IsSetSystem c.args.measured.now.score.now c.args.measured.now.width) 0 c.args.breaks.now marks c.loop-b.placed) (append-nil c.loop-b.marks)
+    (subst (λ placed. EachSpan (IsSetSystem c.args.measured.now.score.now c.args.measured.now.width) 0 c.args.breaks.now (c.loop-b.marks ++ []) placed) (append-nil c.loop-b.placed)
+    (c.loop-b.invariant.systems [] [] (subst (λ bs. EachSpan (IsSetSystem c.args.measured.now.score.now c.args.measured.now.width) c.loop-b.a bs [] []) (sym none) tt)))

@@ -1,5 +1,5 @@
 use Rattle.std.proofs.Common.{arith, ◌≡◌, ◌+◌, ◌<◌, ◌++◌, length, ap, subst, refl, rules, Err, get_or}
-use Rattle.{ps_text.specs.{Document.{document, numbered, page_text, trailer}, Prolog.prolog}, ps_write.proofs.Fronts.{Sent, document_start, next_page, no_page, sent_all, sent_more, sent_none, wrote_first, wrote_part}}
+use Rattle.{ps_text.specs.{Document.{document, numbered, page_text, trailer}, Prolog.prolog}, ps_write.proofs.Fronts.{Sent, document_start, no_page, page_then, sent_all, sent_more, sent_none, wrote_first, wrote_part}}
 use Rattle.ps_write.proofs.whole.write_document.Goals as goal
 
 pub returns-in_err-w-clause-wrote : goal.returns-in_err-w-clause-wrote
@@ -15,14 +15,14 @@ pub returns-in-Err-clause-wrote : goal.returns-in-Err-clause-wrote
 returns-in-Err-clause-wrote g c =
     let i : c.p-item.result ≡ get_or c.args.s.now.pages c.loop-p.p-index c.p-item.result = rw c.as_slice-p-items.ensures at c.p-item.is in
     let t : c.loop-p.p-index < length c.args.s.now.pages = rw c.as_slice-p-items.ensures at c.loop-p-test.true in
-    let s = rw (next_page (c.loop-p.w.pages + 1) c.loop-p.p-index c.args.s.now.pages c.p-item.result (trailer (length c.args.s.now.pages)) t i) at c.loop-p.invariant.sent in
+    let s = rw (page_then (c.loop-p.w.pages + 1) c.loop-p.p-index c.args.s.now.pages c.p-item.result (trailer (length c.args.s.now.pages)) t i) at c.loop-p.invariant.sent in
     rw c.counted_from.ensures (wrote_part _ _ _ _ _ _ _ _ _ _ s (omega arith) c.in-Err.ensures.wrote)
 
 pub loop-p-preserved : goal.loop-p-preserved
 loop-p-preserved g c =
     let i : c.p-item.result ≡ get_or c.args.s.now.pages c.loop-p.p-index c.p-item.result = rw c.as_slice-p-items.ensures at c.p-item.is in
     let t : c.loop-p.p-index < length c.args.s.now.pages = rw c.as_slice-p-items.ensures at c.loop-p-test.true in
-    let s = rw (next_page (c.loop-p.w.pages + 1) c.loop-p.p-index c.args.s.now.pages c.p-item.result (trailer (length c.args.s.now.pages)) t i) at c.loop-p.invariant.sent in
+    let s = rw (page_then (c.loop-p.w.pages + 1) c.loop-p.p-index c.args.s.now.pages c.p-item.result (trailer (length c.args.s.now.pages)) t i) at c.loop-p.invariant.sent in
     record { pages = search rules; sent = rw c.in-Ok.ensures.writer.pages_now (sent_more _ _ _ _ _ _ _ _ _ s c.in-Ok.ensures.wrote c.in-Ok.ensures.writer.written_now); counts = search rules }
 
 pub returns-in-Ok-finish-clause-wrote : goal.returns-in-Ok-finish-clause-wrote
