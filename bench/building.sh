@@ -33,20 +33,20 @@ use std::alloc::Global;
 use std::io;
 use std::process::ExitCode;
 
-/// The heads and rests of a tune's first measure, and its measures; or the line of its fault.
+/// A tune's measures, and the heads and rests of the last; or the line of its fault.
 fn measured(alloc: Global, tune: &TuneText, defaults: &Defaults) -> Result<(u32, u64), TuneError>
     requires tune { IsGoodTune tune.now }
     requires defaults { IsGoodDefaults defaults.now }
 {
     let header = read_header(alloc, tune, defaults)?;
     let score = build(alloc, &header, tune, false)?;
-    let mut first = 0;
+    let mut last = 0;
     for voice in score.voices.as_slice() {
         for measure in voice.measures.as_slice() {
-            first = weights_within(measure.body.as_slice());
+            last = weights_within(measure.body.as_slice());
         }
     }
-    Ok((score.measures, first))
+    Ok((score.measures, last))
 }
 
 fn main(rt: HostRuntime) -> io::Result<ExitCode> {

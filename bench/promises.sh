@@ -280,7 +280,7 @@ def check_readme(crates, everything, files):
                     if not any(clause in call.clauses for call in calls):
                         wrong("README.md", f"no clause '{clause}' in {part.strip()} of {cells[0]}")
     for crate in crates:
-        if crate not in named and not re.fullmatch(r"\w+_tests|(?:case|answer)_texts|abcps_(main|vectors|commands)", crate):
+        if crate not in named and not re.fullmatch(r"\w+_tests|(?:case|answer)_texts|abcps_(main|commands)", crate):
             wrong("README.md", f"has no row for {crate}")
     for crate in named - set(crates):
         wrong("README.md", f"no crate {crate}")

@@ -1,6 +1,6 @@
 #!/usr/bin/env bash
 # Times the setting of generated books, and prints ratios: of 500 tunes to 200, with and without --flow; of one job to
-# four; the most memory that setting 500 tunes takes; and where abcm2ps is installed, of a tune of the book to what
+# four; the most memory that setting 500 tunes takes, by one job and by four, and for the trial; and where abcm2ps is installed, of a tune of the book to what
 # abcm2ps takes to set one, each started for one tune alone, and of both programs on the book as a whole.
 set -eu
 
@@ -44,8 +44,11 @@ done
 one=$(least_clock "$program" trial 500 --jobs 1)
 four=$(least_clock "$program" trial 500 --jobs 4)
 echo "jobs: one $one ms, four $four ms, ratio $(ratio "$one" "$four")"
-/usr/bin/time -f %M -o "$folder/memory" "$program" set <"$folder/500.abc" >/dev/null
-echo "memory of set on 500 tunes: $(($(cat "$folder/memory") / 1024)) MB"
+for words in "set" "set --jobs 4" "trial 500"; do
+    # shellcheck disable=SC2086
+    /usr/bin/time -f %M -o "$folder/memory" "$program" $words <"$folder/500.abc" >/dev/null
+    echo "memory of $words on 500 tunes: $(($(cat "$folder/memory") / 1024)) MB"
+done
 if command -v abcm2ps >/dev/null; then
     for flow in "" "--flow"; do
         other=${flow:+-c}
