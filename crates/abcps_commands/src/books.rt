@@ -54,24 +54,30 @@ fn have_status(set: &Finished, systems: &Finished) -> bool {
     set.status == status && systems.status == status
 }
 
-/// Whether what is written of a book is what it should be: its pages, its listing and its faults.
-fn is_as_told<R: Host>(rt: &R, name: &str) -> io::Result<bool> {
-    let alloc = rt.alloc();
-    let book = fs::read(rt, format!(in alloc; "{name}.abc")?)?;
-    let told = fs::read(rt, format!(in alloc; "{name}.out")?)?;
-    let set = ran_on(rt, "set", &book)?;
-    let systems = ran_on(rt, "systems --table", &book)?;
+/// Whether what is written of a book is what is told: its pages, its listing and its faults.
+fn writes_what_is_told<R: Host>(rt: &R, book: &[u8], told: &[u8]) -> io::Result<bool> {
+    let set = ran_on(rt, "set", book)?;
+    let systems = ran_on(rt, "systems --table", book)?;
     let pages = behind_prolog(set.output.taken());
     let table = systems.output.taken();
     Ok(
         have_status(&set, &systems)
             && set.errors.taken() == systems.errors.taken()
-            && is_joined(&told, pages, table, set.errors.taken()),
+            && is_joined(told, pages, table, set.errors.taken()),
     )
 }
 
-/// Tells each book that a table names.
-pub(crate) fn tell_books<R: Host>(rt: &R, table: &str) -> io::Result<()> {
+/// Whether a book is written as the file beside it tells.
+fn is_as_told<R: Host>(rt: &R, name: &str) -> io::Result<bool> {
+    let alloc = rt.alloc();
+    let book = fs::read(rt, format!(in alloc; "{name}.abc")?)?;
+    let told = fs::read(rt, format!(in alloc; "{name}.out")?)?;
+    writes_what_is_told(rt, &book, &told)
+}
+
+/// Tells each book that the table `books` names.
+pub(crate) fn tell_books<R: Host>(rt: &R) -> io::Result<()> {
+    let table = fs::read_to_string(rt, "books")?;
     for name in table.lines() {
         let verdict = verdict(is_as_told(rt, name)?);
         println!(rt; "{name}: {verdict}")?;

@@ -14,7 +14,7 @@ mod painting;
 mod running;
 
 use crate::books::tell_books;
-use crate::case::{Case, named_case, verdict};
+use crate::case::{named_case, verdict};
 use crate::failing::tell_failures;
 use crate::gates::ran_counted;
 use crate::painting::tell_painted;
@@ -22,54 +22,63 @@ use crate::running::{Host, PIECE, Streams, ran};
 use std::process::ExitCode;
 use std::{fs, io};
 
-/// Whether a case is as told over streams that never fail.
-fn is_as_told<R: Host>(rt: &R, case: &Case) -> io::Result<bool> {
-    let finished = ran(rt, case, &Streams::sound(PIECE))?;
-    Ok(case.is_told(&finished))
+/// Tells a case over streams that never fail.
+fn tell_case<R: Host>(rt: &R, line: &str) -> io::Result<()> {
+    let (name, case) = named_case(rt, line)?;
+    let finished = ran(rt, &case, &Streams::sound(PIECE))?;
+    let verdict = verdict(case.is_told(&finished));
+    println!(rt; "{name}: {verdict}")
 }
 
-/// Tells each case of a table over streams that never fail.
-fn tell_cases<R: Host>(rt: &R, table: &str) -> io::Result<()> {
+/// Tells each case of the table `cases`.
+fn tell_cases<R: Host>(rt: &R) -> io::Result<()> {
+    let table = fs::read_to_string(rt, "cases")?;
     for line in table.lines() {
-        let (name, case) = named_case(rt, line)?;
-        let verdict = verdict(is_as_told(rt, &case)?);
-        println!(rt; "{name}: {verdict}")?;
+        tell_case(rt, line)?;
     }
     Ok(())
 }
 
-/// Tells each case of a table over streams that fail.
-fn tell_failing<R: Host>(rt: &R, table: &str) -> io::Result<()> {
+/// Tells a case over streams that fail.
+fn tell_failing_case<R: Host>(rt: &R, line: &str) -> io::Result<()> {
+    let (name, case) = named_case(rt, line)?;
+    tell_failures(rt, name, &case)
+}
+
+/// Tells each case of the table `failing`.
+fn tell_failing<R: Host>(rt: &R) -> io::Result<()> {
+    let table = fs::read_to_string(rt, "failing")?;
     for line in table.lines() {
-        let (name, case) = named_case(rt, line)?;
-        tell_failures(rt, name, &case)?;
+        tell_failing_case(rt, line)?;
     }
     Ok(())
 }
 
-/// Tells each case of a table, and how many tunes entered its gate how often.
-fn tell_gates<R: Host>(rt: &R, table: &str) -> io::Result<()> {
+/// Tells a case, and how many tunes entered its gate how often.
+fn tell_gate<R: Host>(rt: &R, line: &str) -> io::Result<()> {
+    let (name, case) = named_case(rt, line)?;
+    let (finished, entered) = ran_counted(rt, &case)?;
+    let verdict = verdict(case.is_told(&finished));
+    println!(rt;
+        "{name}, {} tunes enter {} to {} times: {verdict}",
+        entered.tunes, entered.least, entered.most
+    )
+}
+
+/// Tells each case of the table `gates`.
+fn tell_gates<R: Host>(rt: &R) -> io::Result<()> {
+    let table = fs::read_to_string(rt, "gates")?;
     for line in table.lines() {
-        let (name, case) = named_case(rt, line)?;
-        let (finished, entered) = ran_counted(rt, &case)?;
-        let verdict = verdict(case.is_told(&finished));
-        println!(rt;
-            "{name}, {} tunes enter {} to {} times: {verdict}",
-            entered.tunes, entered.least, entered.most
-        )?;
+        tell_gate(rt, line)?;
     }
     Ok(())
 }
 
 fn main(rt: HostRuntime) -> io::Result<ExitCode> {
-    let cases = fs::read_to_string(&rt, "cases")?;
-    tell_cases(&rt, cases.as_str())?;
-    let failing = fs::read_to_string(&rt, "failing")?;
-    tell_failing(&rt, failing.as_str())?;
-    let gates = fs::read_to_string(&rt, "gates")?;
-    tell_gates(&rt, gates.as_str())?;
-    let books = fs::read_to_string(&rt, "books")?;
-    tell_books(&rt, books.as_str())?;
+    tell_cases(&rt)?;
+    tell_failing(&rt)?;
+    tell_gates(&rt)?;
+    tell_books(&rt)?;
     tell_painted(&rt)?;
     Ok(ExitCode::from(0))
 }

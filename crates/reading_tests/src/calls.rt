@@ -28,15 +28,22 @@ impl Answers for Reading {
             "read_header" => put_headers_of_book(out, input),
             "read_paper" => put_paper_of_book(out, input),
             "body_of" => put_body_of_book(out, input),
-            "value_of" => put_value_of(out, case.input),
-            "parts_of" => put_parts(out, case.input),
-            "ticks_of" => put_ticks(out, case.input),
-            "height" => put_height(out, case.word, input),
-            "signature" => put_signature(out, case.word, case.input),
-            "key_of" => put_key(out, case.input),
-            "lay" => put_laid_key(out, case.word, input),
-            "in_force" => put_alteration(out, case.word, input),
-            _ => put_asked_for(out, case, input),
+            _ => put_value(out, case, input),
         }
+    }
+}
+
+/// Adds the value of a call on lengths, pitches and keys, or of one that makes a score or asks of one.
+fn put_value(out: &mut Report, case: Case<'_>, input: &[u8]) -> Result<(), Memory> {
+    match case.call {
+        "value_of" => put_value_of(out, case.input),
+        "parts_of" => put_parts(out, case.input),
+        "ticks_of" => put_ticks(out, case.input),
+        "height" => put_height(out, case.word, input),
+        "signature" => put_signature(out, case.word, case.input),
+        "key_of" => put_key(out, case.input),
+        "lay" => put_laid_key(out, case.word, input),
+        "in_force" => put_alteration(out, case.word, input),
+        _ => put_asked_for(out, case, input),
     }
 }

@@ -1,5 +1,5 @@
 use case_texts::Report;
-use mus_lyric::{NoteAt, Syl, align, syllables};
+use mus_lyric::{NoteAt, Sung, Syl, align, syllables};
 use mus_units::{Memory, Row};
 use std::alloc::Global;
 
@@ -31,12 +31,16 @@ pub(crate) fn put_song(out: &mut Report, word: &str, words: &[u8]) -> Result<(),
     let syllables = syllables(out.alloc, words)?;
     let sung = align(out.alloc, syllables.as_slice(), notes.as_slice())?;
     for one in sung.as_slice() {
-        out.line_number(b"event ", one.event)?;
-        out.append(b" <")?;
-        out.append(one.text.as_slice())?;
-        out.push(b'>')?;
+        put_sung(out, one)?;
     }
     Ok(())
+}
+
+fn put_sung(out: &mut Report, sung: &Sung) -> Result<(), Memory> {
+    out.line_number(b"event ", sung.event)?;
+    out.append(b" <")?;
+    out.append(sung.text.as_slice())?;
+    out.push(b'>')
 }
 
 fn notes_of(alloc: Global, measures: &[u8]) -> Result<Row<NoteAt>, Memory> {

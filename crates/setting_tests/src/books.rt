@@ -1,7 +1,9 @@
 //! Books set by jobs, and what is told of them.
 
+ghost use Rattle.{abc_lines.specs.Good.{IsGoodBook}, set_lists.specs.Listing.{AreListable}};
+
 use abc_header::{body_of, read_paper};
-use abc_lines::cut_book;
+use abc_lines::{Book, cut_book};
 use answer_texts::{count_at, numbers_of, put_breaking, put_placed, put_spans};
 use case_texts::Report;
 use eng_jobs::Jobs;
@@ -13,6 +15,7 @@ use set_lists::{
     set_count, system_count, total_of,
 };
 use set_tune::{How, SetTune};
+use std::alloc::Global;
 use std::thread::Threads;
 
 pub(crate) fn size_name(size: Size) -> &'static str {
@@ -62,29 +65,52 @@ fn put_counts(out: &mut Report, outcomes: &[Outcome]) -> Result<(), Memory> {
     out.end_line()
 }
 
-/// The outcomes of a book set by jobs: each tune that is set, the reports of faults, and the counts; then the
-/// systems, and the listing.
+/// The outcomes of a book: each tune that is set, the reports of faults, and the counts; then the systems, and the
+/// listing.
+fn put_told(out: &mut Report, outcomes: &[Outcome]) -> Result<(), Memory>
+    requires { AreListable outcomes.now }
+{
+    put_outcomes(out, outcomes)?;
+    put_counts(out, outcomes)?;
+    put_systems(&mut out.text, outcomes)?;
+    put_listing(&mut out.text, outcomes)
+}
+
+/// The body of a book's paper, and its outcomes by jobs.
+fn put_set_book<R: Threads + Sync>(
+    rt: &R,
+    out: &mut Report,
+    book: &Book,
+    jobs: Jobs,
+) -> Result<(), Memory>
+    requires { IsGoodBook book.now }
+{
+    let paper = read_paper(book);
+    let (width, height) = body_of(&paper);
+    out.tell(format_args!("body {width} {height}\n"))?;
+    let how = How::unmoved(false);
+    let outcomes = set_all(rt, out.alloc, book, &paper, how, jobs, &Open)?;
+    outcomes_are_listable();
+    put_told(out, outcomes.as_slice())
+}
+
+/// A book set by jobs.
 pub(crate) fn put_book<R: Threads + Sync>(
     rt: &R,
     out: &mut Report,
     words: &str,
     text: &str,
 ) -> Result<(), Memory> {
-    let alloc = out.alloc;
-    let count = u8::try_from(count_at(&numbers_of(alloc, words)?, 0)).unwrap_or(1);
+    let count = first_of(out.alloc, words)?;
     if count < 1 || count > 64 || text.len() > 1_000_000 {
         return out.next(b"no jobs\n");
     }
-    let jobs = Jobs { count };
-    let book = cut_book(alloc, text.as_bytes())?;
-    let paper = read_paper(&book);
-    let (width, height) = body_of(&paper);
-    out.tell(format_args!("body {width} {height}\n"))?;
-    let how = How::unmoved(false);
-    let outcomes = set_all(rt, alloc, &book, &paper, how, jobs, &Open)?;
-    outcomes_are_listable();
-    put_outcomes(out, outcomes.as_slice())?;
-    put_counts(out, outcomes.as_slice())?;
-    put_systems(&mut out.text, outcomes.as_slice())?;
-    put_listing(&mut out.text, outcomes.as_slice())
+    let book = cut_book(out.alloc, text.as_bytes())?;
+    put_set_book(rt, out, &book, Jobs { count })
+}
+
+/// The first number of a text, or 1 where it is none of 8 bits.
+fn first_of(alloc: Global, words: &str) -> Result<u8, Memory> {
+    let numbers = numbers_of(alloc, words)?;
+    Ok(u8::try_from(count_at(&numbers, 0)).unwrap_or(1))
 }

@@ -33,7 +33,7 @@ use lay_springs::place;
 use mus_marks::{draw_voices, marks, marks_of, sounding};
 use mus_score::Score;
 use mus_time::onsets;
-use mus_units::Memory;
+use mus_units::{Memory, Row};
 use std::thread::Threads;
 
 /// The value of a case's call.
@@ -75,14 +75,41 @@ fn put_call<R: Threads + Sync>(
     requires { IsGoodScore score.now }
 {
     let numbers = numbers_of(out.alloc, case.word)?;
-    let (a, b) = (count_at(&numbers, 0), count_at(&numbers, 1));
-    match case.call {
-        "voices" => put_voices(out, draw_voices(out.alloc, score)?.as_slice()),
+    put_named(rt, out, score, case.call, &numbers)
+}
+
+fn put_drawn_voices(out: &mut Report, score: &Score) -> Result<(), Memory>
+    requires { IsGoodScore score.now }
+{
+    let voices = draw_voices(out.alloc, score)?;
+    put_voices(out, voices.as_slice())
+}
+
+fn put_sounding(out: &mut Report, score: &Score) -> Result<(), Memory>
+    requires { IsGoodScore score.now }
+{
+    let sounds = sounding(out.alloc, score)?;
+    put_sounds(out, sounds.as_slice())
+}
+
+/// The value of the call of a name on a score, with these numbers.
+fn put_named<R: Threads + Sync>(
+    rt: &R,
+    out: &mut Report,
+    score: &Score,
+    call: &str,
+    numbers: &Row<i64>,
+) -> Result<(), Memory>
+    requires { IsGoodScore score.now }
+{
+    let (a, b) = (count_at(numbers, 0), count_at(numbers, 1));
+    match call {
+        "voices" => put_drawn_voices(out, score),
         "marks" => put_marks(out, score, a, b, false),
         "boxes" => put_marks(out, score, a, b, true),
         "columns" => put_system_columns(out, score, a, b),
         "measure" => put_measure_columns(out, score, a, b),
-        "sounds" => put_sounds(out, sounding(out.alloc, score)?.as_slice()),
+        "sounds" => put_sounding(out, score),
         "plans" => put_score_plans(out, score),
         "slope" => put_slopes(out, score, numbers.as_slice()),
         "tilt" => put_tilted(out, score, a, b, behind_two(numbers.as_slice())),

@@ -1,9 +1,10 @@
 //! Two that wait for each other, which is in vain unless they are worked on side by side.
 
-ghost use Rattle.std.specs.Prelude.{⊤};
+ghost use Rattle.std.specs.Prelude.{⊤, IfOk};
+ghost use Rattle.abc_lines.specs.Good.{IsGoodBook};
 
 use abc_header::{read_defaults, read_paper};
-use abc_lines::cut_book;
+use abc_lines::{Book, cut_book};
 use answer_texts::Meeting;
 use case_texts::Report;
 use eng_flow::Taker;
@@ -11,6 +12,7 @@ use eng_jobs::Jobs;
 use mus_units::Memory;
 use set_book::{Gate, Outcome, Setting, set_all, set_tunes_through};
 use set_tune::How;
+use std::alloc::Global;
 use std::thread::Threads;
 
 /// A gate at which each of two tunes waits for the other.
@@ -42,26 +44,59 @@ impl Taker<Outcome> for Counting {
     }
 }
 
-/// Two tunes at a gate by two jobs, which are taken while others are set.
-fn put_gate_through<R: Threads + Sync>(rt: &R, out: &mut Report) -> Result<(), Memory> {
-    let alloc = out.alloc;
-    let book = cut_book(alloc, b"X:1\nK:C\nc|\n\nX:2\nK:C\nd|\n")?;
-    let paper = read_paper(&book);
-    let defaults = read_defaults(alloc, &book)?;
-    let how = How::unmoved(false).with_jobs(Jobs { count: 2 });
-    let waiting = Waiting {
-        meeting: Meeting::new(200_000_000),
-    };
+/// A book of two tunes.
+fn two_tunes(alloc: Global) -> Result<Book, Memory>
+    ensures { IfOk result IsGoodBook }
+{
+    cut_book(alloc, b"X:1\nK:C\nc|\n\nX:2\nK:C\nd|\n")
+}
+
+/// How many outcomes of a book are taken while others are set, by two jobs.
+fn count_through<R: Threads + Sync>(
+    rt: &R,
+    alloc: Global,
+    book: &Book,
+    waiting: &Waiting,
+) -> Result<usize, Memory>
+    requires { IsGoodBook book.now }
+{
+    let paper = read_paper(book);
+    let defaults = read_defaults(alloc, book)?;
     let setting = Setting {
         rt,
         alloc,
         defaults: &defaults,
         paper: &paper,
-        how,
-        gate: &waiting,
+        how: How::unmoved(false).with_jobs(Jobs { count: 2 }),
+        gate: waiting,
     };
     let counted = set_tunes_through(&setting, book.tunes.as_slice(), Counting { taken: 0 })?;
-    out.tell(counted.taken)?;
+    Ok(counted.taken)
+}
+
+/// How many outcomes a book has by a number of jobs.
+fn count_set<R: Threads + Sync>(
+    rt: &R,
+    alloc: Global,
+    book: &Book,
+    jobs: Jobs,
+    waiting: &Waiting,
+) -> Result<usize, Memory>
+    requires { IsGoodBook book.now }
+{
+    let paper = read_paper(book);
+    let outcomes = set_all(rt, alloc, book, &paper, How::unmoved(false), jobs, waiting)?;
+    Ok(outcomes.len())
+}
+
+/// Two tunes at a gate by two jobs, which are taken while others are set.
+fn put_gate_through<R: Threads + Sync>(rt: &R, out: &mut Report) -> Result<(), Memory> {
+    let book = two_tunes(out.alloc)?;
+    let waiting = Waiting {
+        meeting: Meeting::new(200_000_000),
+    };
+    let count = count_through(rt, out.alloc, &book, &waiting)?;
+    out.tell(count)?;
     waiting.meeting.put_met(out)
 }
 
@@ -72,15 +107,12 @@ fn put_gate<R: Threads + Sync>(
     jobs: Jobs,
     turns: u32,
 ) -> Result<(), Memory> {
-    let alloc = out.alloc;
-    let book = cut_book(alloc, b"X:1\nK:C\nc|\n\nX:2\nK:C\nd|\n")?;
-    let paper = read_paper(&book);
-    let how = How::unmoved(false);
+    let book = two_tunes(out.alloc)?;
     let waiting = Waiting {
         meeting: Meeting::new(turns),
     };
-    let outcomes = set_all(rt, alloc, &book, &paper, how, jobs, &waiting)?;
-    out.tell(outcomes.len())?;
+    let count = count_set(rt, out.alloc, &book, jobs, &waiting)?;
+    out.tell(count)?;
     waiting.meeting.put_met(out)
 }
 
