@@ -11,6 +11,5 @@ pub mod procedures;
 pub use bounds::{Bounds, bounds_of};
 pub use mus_units::Glyph;
 pub use names::{all_glyphs, name_of};
-pub use numbers::put_numbers;
 pub use paths::{PathOp, outline};
 pub use procedures::procedure;

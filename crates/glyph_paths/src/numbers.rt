@@ -6,7 +6,7 @@ use mus_units::{Memory, Text};
 
 /// Adds numbers in decimal, a space behind each.
 #[tactic(auto, unfolding(crate::specs::Procedure::numbers))]
-pub fn put_numbers(out: &mut Text, zs: &[i64]) -> Result<(), Memory>
+pub(crate) fn put_numbers(out: &mut Text, zs: &[i64]) -> Result<(), Memory>
     ensures { OnOk result (out.new ≡ out.old ++ numbers zs.now) }
 {
     let mut buffer = Buffer::new();

@@ -13,5 +13,5 @@ pub mod times;
 
 pub use columns::{put_event_keys, put_first_key, put_own_keys, rising_keys};
 pub use keys::{Class, ColumnKey};
-pub use ranks::{is_same, next_rank, rank_at, rank_of};
+pub use ranks::{is_same, next_rank, rank_of};
 pub use times::{Onset, Timeline, onsets};

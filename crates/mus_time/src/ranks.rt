@@ -1,7 +1,7 @@
 ghost use Rattle.std.specs.Prelude.{◌≡◌};
-ghost use Rattle.mus_time.specs.{Order.class_number, Order.is_below, Order.rank_of, Order.same_key, Ranks.AreRanked, Ranks.rank_at};
+ghost use Rattle.mus_time.specs.{Order.class_number, Order.is_below, Order.rank_of, Order.same_key, Ranks.AreRanked};
 
-use crate::keys::{Class, ColumnKey};
+use crate::keys::ColumnKey;
 
 /// Whether two keys are those of one column.
 #[tactic(auto, unfolding(crate::specs::Order::same_key))]
@@ -38,12 +38,4 @@ pub fn next_rank(keys: &[ColumnKey], near: &mut usize, key: ColumnKey) -> u32
     };
     *near = rank as usize + 1;
     rank
-}
-
-/// The rank of a column of a system, by where it stands and the system's keys.
-pub fn rank_at(keys: &[ColumnKey], measure: u32, tick: u64, class: Class, place: u32) -> u32
-    requires { AreRanked keys.now }
-    ensures { result ≡ rank_at keys.now measure tick class place }
-{
-    rank_of(keys, ColumnKey::new(measure, tick, class, place))
 }

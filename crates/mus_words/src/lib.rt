@@ -9,4 +9,4 @@ mod words;
 
 pub use arcs::{End, put_arc};
 pub use syllables::put_syllables;
-pub use texts::{TextPlace, put_texts, texts_above, texts_below};
+pub use texts::{TextPlace, put_texts};

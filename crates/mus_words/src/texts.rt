@@ -103,7 +103,7 @@ fn add_mentions(
 /// the tuplets that begin there, its fingerings, and the texts between quotes. What prints nothing
 /// is left out. The only error is want of memory.
 #[tactic(auto, unfolding(crate::specs::Texts::texts_above))]
-pub fn texts_above(alloc: Global, flat: &Flat<'_>) -> Result<Row<Text>, Memory>
+fn texts_above(alloc: Global, flat: &Flat<'_>) -> Result<Row<Text>, Memory>
     ensures { IfOk result (λ texts. texts ≡ texts_above flat.now) }
 {
     let mut out = Row::new(alloc);
@@ -117,7 +117,7 @@ pub fn texts_above(alloc: Global, flat: &Flat<'_>) -> Result<Row<Text>, Memory>
 /// The texts below an event as they are printed, from the staff downwards: its dynamic marks, and
 /// the texts between quotes. What prints nothing is left out. The only error is want of memory.
 #[tactic(auto, unfolding(crate::specs::Texts::texts_below))]
-pub fn texts_below(alloc: Global, flat: &Flat<'_>) -> Result<Row<Text>, Memory>
+fn texts_below(alloc: Global, flat: &Flat<'_>) -> Result<Row<Text>, Memory>
     ensures { IfOk result (λ texts. texts ≡ texts_below flat.now) }
 {
     let mut out = Row::new(alloc);
