@@ -76,28 +76,50 @@ fn take_ready<T, O: Drop, W: Work<T, O>, J: Placed<O>, S: Taker<O>>(
     Ok(())
 }
 
-/// Takes the outcomes that are the next ones, as far as they were handed over, then makes one, and so on until no item
-/// is left.
+/// Takes the outcomes that are the next ones, as far as they were handed over, and makes one. False where no item is
+/// left to make.
+fn take_and_make<T, O: Drop, W: Work<T, O>, J: Placed<O>, S: Taker<O>>(
+    items: &[T],
+    jobs: Jobs,
+    next: &AtomicUsize,
+    work: &W,
+    maker: &mut Maker<O, J>,
+    course: &mut Course<O, J, S>,
+) -> Result<bool, Memory>
+    requires takes { All (W.takes work.now) items.now }
+    requires made { CanHandOver (W.gives work.now) items.now J.gives }
+    requires placed { AreHonest (W.gives work.now) items.now J.gives }
+    requires way { (start : S) × CanTake (W.gives work.now) S.fits S.takes items.now start × HasTaken (W.gives work.now) S.takes items.now start course.old.taken course.old.taker }
+    ensures { OnOk result ((start : S) → HasTaken (W.gives work.now) S.takes items.now start course.old.taken course.old.taker → HasTaken (W.gives work.now) S.takes items.now start course.new.taken course.new.taker) }
+{
+    or_stop(next, items.len(), take_ready(items, work, course))?;
+    make_next(items, jobs, next, work, maker)
+}
+
+/// Takes outcomes and makes some, in turn, until no item is left to make.
 fn take_along<T, O: Drop, W: Work<T, O>, J: Placed<O>, S: Taker<O> + Drop>(
     items: &[T],
     jobs: Jobs,
     next: &AtomicUsize,
     work: &W,
     maker: Maker<O, J>,
-    course: Course<O, J, S>,
+    lanes: Row<Lane<O, J>>,
+    taker: S,
 ) -> Result<Course<O, J, S>, Memory>
     requires takes { All (W.takes work.now) items.now }
     requires made { CanHandOver (W.gives work.now) items.now J.gives }
     requires placed { AreHonest (W.gives work.now) items.now J.gives }
-    requires fits { CanTake (W.gives work.now) S.fits S.takes items.now course.taker }
-    requires none { course.taken ≡ 0 }
-    ensures { IfOk result (λ end. HasTaken (W.gives work.now) S.takes items.now course.taker end.taken end.taker) }
+    requires fits { CanTake (W.gives work.now) S.fits S.takes items.now taker }
+    ensures { IfOk result (λ end. HasTaken (W.gives work.now) S.takes items.now taker end.taken end.taker) }
 {
     let mut maker = maker;
-    let mut course = course;
+    let mut course = Course {
+        lanes,
+        taken: 0,
+        taker,
+    };
     for _ in items {
-        or_stop(next, items.len(), take_ready(items, work, &mut course))?;
-        if !make_next(items, jobs, next, work, &mut maker)? {
+        if !take_and_make(items, jobs, next, work, &mut maker, &mut course)? {
             return Ok(course);
         }
     }
@@ -179,6 +201,18 @@ fn open_lanes<O: Drop, J: Placed<O>>(
     Ok((makers, lanes))
 }
 
+/// Rings for so many other jobs and for this one: the ends of the others, this one's, and those of the taker.
+fn open_all<O: Drop, J: Placed<O>>(
+    alloc: Global,
+    others: usize,
+    most: usize,
+) -> Result<(Row<Maker<O, J>>, Maker<O, J>, Row<Lane<O, J>>), Memory> {
+    let (makers, mut lanes) = open_lanes(alloc, others, most)?;
+    let (own, lane) = open_lane(alloc, most)?;
+    lanes.push(lane)?;
+    Ok((makers, own, lanes))
+}
+
 /// Makes the outcomes by so many jobs besides this one, which takes them meanwhile.
 fn take_beside<
     R: Threads + Sync,
@@ -202,23 +236,15 @@ fn take_beside<
     requires placed { AreHonest (W.gives work.now) items.now J.gives }
     ensures { IfOk result (λ end. HasTaken (W.gives work.now) S.takes items.now taker (length items.now) end) }
 {
-    let (makers, mut lanes) = open_lanes(alloc, others, items.len())?;
-    let (maker, lane) = open_lane(alloc, items.len())?;
-    lanes.push(lane)?;
-    let course = Course {
-        lanes,
-        taken: 0,
-        taker,
-    };
+    let (makers, maker, lanes) = open_all(alloc, others, items.len())?;
     let next = AtomicUsize::new(0);
     let own = || -> Result<Course<O, J, S>, Memory>
-        requires { All (W.takes work.now) items.now × CanHandOver (W.gives work.now) items.now J.gives × AreHonest (W.gives work.now) items.now J.gives × CanTake (W.gives work.now) S.fits S.takes items.now course.taker × (course.taken ≡ 0) }
-        ensures { IfOk result (λ end. HasTaken (W.gives work.entry.now) S.takes items.entry.now course.taker end.taken end.taker) }
-    { take_along(items, jobs, &next, work, maker, course) };
+        requires { All (W.takes work.now) items.now × CanHandOver (W.gives work.now) items.now J.gives × AreHonest (W.gives work.now) items.now J.gives × CanTake (W.gives work.now) S.fits S.takes items.now taker }
+        ensures { IfOk result (λ end. HasTaken (W.gives work.entry.now) S.takes items.entry.now taker end.taken end.taker) }
+    { take_along(items, jobs, &next, work, maker, lanes, taker) };
     let (theirs, ours) = make_beside(rt, items, jobs, &next, work, makers, own);
     theirs?;
-    let course = ours?;
-    take_rest(items, jobs, work, course)
+    take_rest(items, jobs, work, ours?)
 }
 
 /// Works on the items, and has the outcomes taken in their order, while others are still made. It gives the taker
