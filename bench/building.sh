@@ -11,7 +11,7 @@ trap 'rm -rf "$folder"' EXIT
 mkdir -p "$folder/crates/bench_building/src"
 cd "$folder"
 git init -q .
-crates="mus_units mus_pitch mus_score mus_lyric abc_lines abc_notes abc_pieces abc_tokens abc_fields abc_header abc_steps abc_items abc_events abc_faults abc_words abc_score eng_io"
+crates="mus_units mus_pitch mus_score mus_lyric abc_lines abc_notes abc_pieces abc_tokens abc_fields abc_header abc_steps abc_items abc_signs abc_events abc_faults abc_words abc_score eng_io"
 for crate in $crates; do
     cp -r "$root/crates/$crate" crates/
     grep "^$crate:" "$root/crates.txt" >> crates.txt

@@ -1,9 +1,6 @@
 pub mod BarRows
-pub mod Drawn
 pub mod Fill
 pub mod Heads
-pub mod Idle
 pub mod MeasureTrees
-pub mod Rests
 pub mod Single
 pub mod Taken

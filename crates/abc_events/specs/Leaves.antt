@@ -1,7 +1,7 @@
 -- The leaves of a voice: each written event as its nodes, which are the graces before it and its parts.
 use Rattle.std.specs.Prelude.{ℕ, ◌+◌, List, [], ◌∷◌, ◌++◌, map, length, replicate, slice_get, Bool, true, false, if◌then◌else◌, Option, None, unwrap_or}
 use Rattle.{mus_units.specs.{declared.note.Head.Head, declared.value.Value.Value, Value.value_length, declared.value.Base.Base}, mus_score.specs.declared.score.{Look.Look, Event.Event, Music.Music}}
-use Rattle.{abc_notes.specs.declared.part.GraceChord.{GraceChord}, abc_events.specs.{declared.written.Written.Written, declared.written.Waiting.Waiting, declared.written.Sign.Sign, Leaf.Leaf, Waits.no_changes, Signs.with_tie}}
+use Rattle.{abc_notes.specs.declared.part.GraceChord.{GraceChord}, abc_signs.specs.{declared.written.Written.Written, declared.written.Waiting.Waiting, declared.written.Sign.Sign, Waits.no_changes, Signs.with_tie}, abc_events.specs.Leaf.Leaf}
 use Rattle.mus_score.specs.declared.score.Music.TheVariants as music
 
 -- the words of an event, a place for each verse

@@ -2,9 +2,7 @@ ghost use Rattle.std.specs.{Prelude.◌≡◌, Prelude.◌≤◌, Prelude.◌+�
 ghost use Rattle.mus_units.specs.Value.{value_length};
 ghost use Rattle.abc_events.specs.Leaves.{ends_at, first_part, later_head, later_part, some_more, later_parts, parts, node_of, grace_event, grace_note, grace_nodes, nodes_of, words_at};
 
-use crate::reading::with_ties;
-use crate::waits::{no_changes, nothing};
-use crate::written::{Waiting, Waits, Written};
+use abc_signs::{Waiting, Waits, Written, no_changes, nothing, with_ties};
 use abc_tokens::GraceChord;
 use mus_score::{Event, Look, Music};
 use mus_units::{Base, Few, Head, Memory, Row, Text, Value, copy_optional_texts, ticks_of};

@@ -1,9 +1,10 @@
 ghost use Rattle.std.specs.{Prelude.◌≡◌, Prelude.◌<◌, Prelude.◌≤◌, Prelude.◌+◌, Prelude.◌∷◌, Prelude.[], Prelude.ℕ, Prelude.List, Prelude.length, Prelude.slice_index_or, Prelude.IfOk, Prelude.OnOk, List.All};
-ghost use Rattle.abc_events.specs.{declared.written.Sign.Sign, Signs.IsDrawn, Leaf.Leaf, Leaves.{nodes_of, leaves_from, leaves_of}, Nesting.{tree_of, IsReady, grown, no_tree}, Measures.{leaves_in, measures_of}};
+ghost use Rattle.abc_signs.specs.{declared.written.Sign.Sign, Signs.IsDrawn};
+ghost use Rattle.abc_events.specs.{Leaf.Leaf, Leaves.{nodes_of, leaves_from, leaves_of}, Nesting.{tree_of, IsReady, grown, no_tree}, Measures.{leaves_in, measures_of}};
 
 use crate::leaves::{Numbers, id_behind, words_at};
 use crate::nesting::{Tree, nodes_of, put_event, put_tuplet};
-use crate::written::{Sign, Waits, Written};
+use abc_signs::{Sign, Waits, Written};
 use mus_score::Measure;
 use mus_units::{Bar, Memory, Row, Text};
 use smallvec::SmallVec;

@@ -4,7 +4,7 @@ ghost use Rattle.mus_score.specs.declared.score.Music.TheVariants as music;
 ghost use Rattle.abc_events.specs.{Leaf.Leaf, Leaves.nodes_of, Nesting.{Puts, IsReady, one, put_in_front, grown}};
 
 use crate::leaves::put_nodes;
-use crate::written::{Waits, Written};
+use abc_signs::{Waits, Written};
 use mus_score::Music;
 use mus_units::{Memory, Row, Text};
 use smallvec::SmallVec;

@@ -1,6 +1,6 @@
 -- Facts of lists and tests that several proofs share.
 use Rattle.std.{proofs.{Common.{◌≡◌, refl, ℕ, List, [], ◌∷◌, ◌++◌, Bool, cond}, lemmas.Bool.cond_both}, specs.List.AllByRecursion}
-use Rattle.{abc_steps.specs.{declared.place.Place.Place, Tuplets.{fits, or_default}}, abc_events.specs.{declared.written.Sign.Sign, Signs.tuplet_of}}
+use Rattle.{abc_steps.specs.{declared.place.Place.Place, Tuplets.{fits, or_default}}, abc_signs.specs.{declared.written.Sign.Sign, Signs.tuplet_of}}
 
 -- an empty list has empty parts
 pub none_before : {X : Type 0} (xs ys : List X) → xs ++ ys ≡ [] → xs ≡ []

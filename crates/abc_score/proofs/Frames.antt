@@ -3,7 +3,7 @@ use Rattle.std.proofs.{Common.{◌≡◌, ◌≢◌, ◌∙◌, refl, ℕ, List,
 use Rattle.std.specs.List.{All, AllByRecursion}
 use Rattle.{mus_score.specs.{declared.score.Voice.Voice, GoodScore.IsLed, Walks.Distinct}, abc_header.specs.declared.header.Header.Header}
 use Rattle.{abc_steps.specs.declared.step.Item.Item, abc_items.specs.Voices.unnamed_of}
-use Rattle.abc_events.specs.{Bars.{bar_of, bars_of}, Leaves.leaves_of, Measures.measure_of, Signs.signs}
+use Rattle.{abc_signs.specs.Signs.signs, abc_events.specs.{Bars.{bar_of, bars_of}, Leaves.leaves_of, Measures.measure_of}}
 use Rattle.abc_score.specs.{declared.voices.VoiceRead.VoiceRead, Voices.{AreApart, IsOther, read_ids}, Score.{sung_words, voice_of, written_measures}}
 
 module _ (header : Header) (items : List Item) (n : ℕ) where

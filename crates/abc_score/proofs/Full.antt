@@ -8,8 +8,8 @@ use Rattle.abc_steps.specs.{declared.{step.{Step.Step, Stood.Stood}, force.InFor
 use Rattle.abc_steps.specs.{Counts.{all_further, begins_group, further, groups, measure_at, nearest_at}, Good.{IsGoodForce, IsGoodStep, IsGoodStood}}
 use Rattle.abc_steps.specs.{Tuplets.{after_event, is_compound, or_default, taking_at, taking_behind, usual_q}, Places.{place_at, measure_of}}
 use Rattle.abc_steps.specs.{Looks.{Steps, since_event}, Kinds.is_sound}
-use Rattle.abc_events.specs.{Signs.{IsDrawn, further_rests, parted_at, rest_written, signs, signs_of, sound_written}, declared.written.Sign.Sign}
-use Rattle.abc_events.specs.{Waits.{graces_in, nothing, waiting_of}, Leaves.{Words, leaves_from, words_at}, Measures.leaves_in, Leaf.Leaf}
+use Rattle.abc_signs.specs.{Signs.{IsDrawn, further_rests, parted_at, rest_written, signs, signs_of, sound_written}, declared.written.Sign.Sign}
+use Rattle.{abc_signs.specs.Waits.{graces_in, nothing, waiting_of}, abc_events.specs.{Leaves.{Words, leaves_from, words_at}, Measures.leaves_in, Leaf.Leaf}}
 use Rattle.abc_score.proofs.{Judging.{IsFew, rest_good, rest_values, sound_good, sound_some}, Nested.{HasSome, IsGoodAt, IsRatio, WellNested}}
 use Rattle.abc_score.proofs.{Basics.{back_all, either, front_all, none_before, none_behind}, Clear.{rest_clear, sound_clear}}
 use Rattle.abc_score.proofs.Since.{all_wait, each_at}

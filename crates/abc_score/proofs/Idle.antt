@@ -3,7 +3,7 @@ use Rattle.std.proofs.Common.{◌≡◌, ◌∙◌, ◌<◌, refl, sym, ap, ℕ,
 use Rattle.abc_steps.specs.{declared.{step.{Step.Step, Stood.Stood}, force.InForce.InForce, place.Place.Place}, Looks.Steps, Places.place_at}
 use Rattle.abc_steps.specs.{Kinds.{is_event, is_bar}, Counts.{begins_group, further}, Force.force_behind, Tuplets.taking_behind}
 use Rattle.abc_faults.{specs.{Faults.{faults_in, faults_of}, Weights.{weights_in, weights_of}}, proofs.Walks.{walk_parts, weigh_parts}}
-use Rattle.abc_events.specs.Signs.{signs_of}
+use Rattle.abc_signs.specs.Signs.{signs_of}
 use Rattle.abc_lines.specs.declared.fault.Fault.{Fault}
 use Rattle.{std.specs.Prelude.Option, abc_faults.specs.declared.weights.Weight.Weight, abc_score.{specs.Judged.is_idle, proofs.Stops.IsAt}}
 

@@ -9,7 +9,8 @@ use Rattle.mus_units.specs.{declared.{note.Head.Head, key.Meter.Meter, value.{Va
 use Rattle.mus_units.specs.Value.{value_length}
 use Rattle.mus_score.proofs.Bounds.{value_low, value_high}
 use Rattle.mus_score.specs.{declared.{score.Event.Event, good.{Judged.Judged, Place.Place}}, Good.{good_step, judged_within, outside}}
-use Rattle.abc_events.specs.{declared.written.{Written.Written, Waiting.Waiting}, Signs.{rest_written, whole_value}, Leaves.{grace_event, grace_note}}
+use Rattle.abc_signs.specs.{declared.written.{Written.Written, Waiting.Waiting}, Signs.{rest_written, whole_value}}
+use Rattle.abc_events.specs.Leaves.{grace_event, grace_note}
 use Rattle.abc_events.specs.Leaves.{grace_nodes, nodes_of, Words, eighth, first_part, later_part, later_parts, parts, node_of, note_or_rest}
 
 -- ---- events

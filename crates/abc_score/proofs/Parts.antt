@@ -4,7 +4,7 @@ use Rattle.std.proofs.lemmas.List.{length-replicate, Elements.{All-nil, All-cons
 use Rattle.std.specs.{Prelude.{⊤, flat_map}, List.{All, AllByRecursion}}
 use Rattle.mus_units.specs.{declared.{note.Head.Head, pitch.Clef.Clef, value.Value.Value}, Good.{IsGoodKey, IsGoodMeter}}
 use Rattle.{mus_score.specs.{declared.score.Event.Event, GoodScore.IsInReach}, abc_notes.specs.declared.part.GraceChord.GraceChord}
-use Rattle.abc_events.specs.{declared.written.{Written.Written, Waiting.Waiting, Sign.Sign}, Signs.with_tie}
+use Rattle.abc_signs.specs.{declared.written.{Written.Written, Waiting.Waiting, Sign.Sign}, Signs.with_tie}
 use Rattle.abc_events.specs.Leaves.{Words, first_part, later_part, later_parts, parts, some_more, later_head, grace_event, leaves_from, words_at}
 use Rattle.abc_score.{proofs.{Cores.{Core, CoresCount, CoresReach, IsGoodCore, IsSung, Reaches, sung}, Rows.leaf_rows}, specs.Score.event_count}
 use Rattle.abc_score.proofs.Singing.{plain, with_graces, grace_of, nodes_sung, nodes_are_sung}

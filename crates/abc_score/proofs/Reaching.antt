@@ -7,8 +7,8 @@ use Rattle.abc_notes.specs.declared.part.GraceChord.{GraceChord}
 use Rattle.abc_faults.specs.Faults.{any_grace_off, any_off, faults_in, faults_of, grace_faults, grace_faults_of, is_off}
 use Rattle.abc_steps.specs.{declared.{step.{Step.Step, Stood.Stood}, force.InForce.InForce, place.Place.Place}, Looks.{Steps, is_tied, since_event}}
 use Rattle.abc_steps.specs.{Force.{changes_at, force_at, force_behind, names_clef, when}, Places.{place_at, measure_of}, Kinds.is_event}
-use Rattle.abc_events.specs.{Signs.{further_rests, rest_written, signs, signs_of, sound_written, tied_heads, with_tie}, Waits.{graces_in, waiting_of}}
-use Rattle.abc_events.specs.declared.written.Sign.{Sign}
+use Rattle.abc_signs.specs.{Signs.{further_rests, rest_written, signs, signs_of, sound_written, tied_heads, with_tie}, Waits.{graces_in, waiting_of}}
+use Rattle.abc_signs.specs.declared.written.Sign.{Sign}
 use Rattle.abc_score.proofs.{Basics.{all_both, with_tuplet, none_before, none_behind}, Clear.{no_fault, rest_clear, sound_clear}}
 use Rattle.abc_score.proofs.{Parts.{SignsReach, heads_reach, DoReach}, Since.{since_none, since_on}}
 

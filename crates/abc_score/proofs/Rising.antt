@@ -3,8 +3,8 @@ use Rattle.std.{proofs.Common.{true, false, cond, reverse}, specs.{Prelude.fold,
 use Rattle.std.proofs.Common.{max, append-nil, arith, ◌≡◌, refl, sym, ap, subst, ℕ, zero, suc, ◌+◌, ◌-◌, ◌≤◌, ◌<◌, List, [], ◌∷◌, ◌++◌, map, Bool}
 use Rattle.abc_steps.specs.{Counts.{all_further, begins_group, further, groups, measure_at, measures_begun, nearest_at}, Places.place_at, Looks.Steps}
 use Rattle.abc_steps.specs.{declared.{step.{Step.Step, Stood.Stood}, force.InForce.InForce, place.Place.Place}, Kinds.is_event}
-use Rattle.abc_events.specs.{Signs.{further_rests, rest_written, signs, signs_of, sound_written}, Leaves.{Words, leaves_from}}
-use Rattle.abc_events.specs.declared.written.Sign.{Sign}
+use Rattle.{abc_signs.specs.Signs.{further_rests, rest_written, signs, signs_of, sound_written}, abc_events.specs.Leaves.{Words, leaves_from}}
+use Rattle.abc_signs.specs.declared.written.Sign.{Sign}
 use Rattle.abc_score.proofs.{Basics.{either, with_tuplet}, Clear.turned, Segments.{Rise, rise_lower}}
 use Rattle.abc_score.specs.{declared.voices.VoiceRead.VoiceRead, Score.{most_measures, own_measures}}
 

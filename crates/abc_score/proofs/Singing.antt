@@ -4,7 +4,7 @@ use Rattle.std.proofs.lemmas.List.{length-map, Sums.sum_by-cons}
 use Rattle.{mus_units.specs.declared.{note.Head.Head, value.Value.Value}, abc_notes.specs.declared.part.GraceChord.GraceChord}
 use Rattle.mus_score.specs.{Times.{Leafing, in_row, leaf, leaves_step, leaves_within, nothing}, declared.score.{Event.Event, Music.TheOpen.Music-F}}
 use Rattle.mus_score.specs.Good.{weight, weight_step}
-use Rattle.abc_events.specs.{declared.written.{Written.Written, Waiting.Waiting}, Leaves.{grace_event, grace_note}}
+use Rattle.{abc_signs.specs.declared.written.{Written.Written, Waiting.Waiting}, abc_events.specs.Leaves.{grace_event, grace_note}}
 use Rattle.abc_events.specs.Leaves.{grace_nodes, nodes_of, Words, first_part, later_part, later_parts, parts, some_more, node_of, note_or_rest}
 use Rattle.abc_score.proofs.Cores.{Core, core, Sings, sings_none, sings_append, sung, IsSung}
 use Rattle.abc_score.proofs.Rows.{weight_of, weight_of-append, weight_of-cons, at_note, at_rest, at_grace}

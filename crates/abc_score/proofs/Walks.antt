@@ -4,7 +4,7 @@ use Rattle.std.proofs.Common.{not, nat_le, ◌==◌, Option, Some, None, IfSome,
 use Rattle.std.proofs.lemmas.{Bool.{cond_both, leb-true, leb-false, Decides.nat_tests}, Nat.mul-le, List.Sums.{sum_by-cons, take_while-cons}}
 use Rattle.std.specs.{Prelude.{⊤, count_by, nat_lt}, List.{AllByRecursion, before_first}}
 use Rattle.{mus_pitch.proofs.SignLaws.laid_good, abc_lines.specs.declared.fault.FaultKind.FaultKind, abc_fields.specs.Keys.{GoodKeyIn, over_by}}
-use Rattle.abc_events.specs.{Signs.{further_rests, signs, signs_of, sound_written}, Waits.waiting_of}
+use Rattle.abc_signs.specs.{Signs.{further_rests, signs, signs_of, sound_written}, Waits.waiting_of}
 use Rattle.abc_faults.specs.Faults.{ends_tuplets, fault_at, fault_if, faults_in, faults_of, misfit_of, sounds_behind, tuplet_faults}
 use Rattle.mus_units.specs.{Parts.{cut_in, cut_next, longest_within, parts_list, units_of}, Good.{AreGoodSigns, IsGoodKey, IsGoodMeter, IsGoodUnit}}
 use Rattle.mus_units.specs.declared.{key.{Key.Key, Sign.Sign as KeySign}, value.Value.Value}

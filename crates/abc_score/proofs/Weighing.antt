@@ -9,9 +9,9 @@ use Rattle.abc_notes.specs.declared.part.GraceChord.{GraceChord}
 use Rattle.abc_score.proofs.{Basics.with_tuplet, Rows.{leaf_rows, weight_of}, Singing.{heads_of_graces, nodes_weight}}
 use Rattle.abc_steps.specs.{declared.{step.{Sound.Sound, Step.Step, Stood.Stood}, force.InForce.InForce, place.Place.Place}, Lengths.written_length}
 use Rattle.abc_steps.specs.{Looks.{Steps, is_tied, since_event}, Good.{IsGoodStep, IsGoodStood}, Places.{place_at, measure_of}}
-use Rattle.abc_events.specs.{declared.written.{Written.Written, Waiting.Waiting, Sign.Sign}, Leaves.{Words, leaves_from, nodes_of, words_at}}
-use Rattle.abc_events.specs.Signs.{further_rests, parted_at, rest_written, signs, signs_of, sound_written, tied_heads, with_tie}
-use Rattle.abc_events.specs.Waits.{graces_in, nothing, waiting_of}
+use Rattle.abc_events.specs.Leaves.{Words, leaves_from, nodes_of, words_at}
+use Rattle.abc_signs.specs.Signs.{further_rests, parted_at, rest_written, signs, signs_of, sound_written, tied_heads, with_tie}
+use Rattle.abc_signs.specs.{declared.written.{Written.Written, Waiting.Waiting, Sign.Sign}, Waits.{graces_in, nothing, waiting_of}}
 use Rattle.abc_faults.proofs.Crowds.{crowd_held, not_before_itself}
 use Rattle.abc_faults.specs.{Weights.{grace_weights, grace_weights_of, sound_count}, declared.weights.Weight.Weight, First.then_below}
 use Rattle.abc_faults.specs.Weights.{stands_before, weight_at, weights_in, weights_of, count_parts, count_up_to, crowd_fault, crowd_up_to, crowded}

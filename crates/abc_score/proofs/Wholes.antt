@@ -8,8 +8,9 @@ use Rattle.abc_steps.specs.{declared.step.Item.Item, Good.{IsGoodForce, IsGoodSt
 use Rattle.abc_items.{specs.{declared.voices.VoiceStart.VoiceStart, Good.IsGoodItem, Voices.{ids_of, starts_of, unnamed_of}}, proofs.Laws.steps_good}
 use Rattle.mus_score.{proofs.Scores.{all_within_bars, distinct_pairs, rising_bars}, specs.Good.IsGoodBody}
 use Rattle.mus_score.specs.{GoodScore.{AreInReach, IsGoodScore, IsGoodVoice, events_of, voice_weight}, declared.score.Measure.Measure}
-use Rattle.abc_events.{specs.{declared.written.Sign.Sign, Bars.{bar_of, bars_of}, Nesting.tree_of, Leaf.Leaf}, proofs.Drawn.signs_drawn}
-use Rattle.abc_events.specs.{Leaves.{Words, leaves_from, leaves_of, words_at}, Measures.{leaves_in, measure_of, measures_in}, Signs.{IsDrawn, signs}}
+use Rattle.abc_signs.{specs.{declared.written.Sign.Sign, Signs.{IsDrawn, signs}}, proofs.Drawn.signs_drawn}
+use Rattle.abc_events.specs.{Bars.{bar_of, bars_of}, Nesting.tree_of, Leaf.Leaf}
+use Rattle.abc_events.specs.{Leaves.{Words, leaves_from, leaves_of, words_at}, Measures.{leaves_in, measure_of, measures_in}}
 use Rattle.abc_words.{proofs.FaultLaws.few_verses, specs.Rows.row_count}
 use Rattle.abc_words.specs.{Words.{event_words, music_rows, verse_sung, word_of}, declared.music.MusicRow.MusicRow, Verses.{verse_count, verses_of}}
 use Rattle.abc_score.proofs.{Frames.{length_voice, lengths_agree, voices_apart, voices_led}, Parts.{signs_count, signs_good, signs_reach, signs_sung}}

@@ -1,6 +1,6 @@
 -- Voices that are judged, and what is kept of their signs.
 use Rattle.std.specs.{Prelude.{◌≡◌, ◌≤◌, ◌<◌, ◌⊎◌, ◌++◌, [], List, Option, map, reverse, Bool, true, false}, List.{Contains, list_all}}
-use Rattle.{abc_lines.specs.declared.fault.Fault.{Fault}, abc_steps.specs.{declared.step.{Step.Step, Stood.Stood}, Counts.measures_begun, Kinds.is_event, Looks.Steps}, abc_events.specs.Signs.{signs}}
+use Rattle.{abc_lines.specs.declared.fault.Fault.{Fault}, abc_steps.specs.{declared.step.{Step.Step, Stood.Stood}, Counts.measures_begun, Kinds.is_event, Looks.Steps}, abc_signs.specs.Signs.{signs}}
 use Rattle.abc_faults.specs.{declared.weights.Weight.Weight, First.{first_of, is_before}, Weights.{capped, crowd_fault, crowd_up_to, stands_before, weight_at}}
 use Rattle.abc_score.specs.declared.{keeping.Kept.Kept, keeping.Judged.Judged, voices.VoiceRead.VoiceRead}
 

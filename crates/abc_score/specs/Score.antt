@@ -2,7 +2,8 @@
 use Rattle.std.specs.Prelude.{ℕ, ◌+◌, List, [], ◌∷◌, ◌++◌, map, fold, max, reverse, Bool, true, false, Option}
 use Rattle.{mus_units.specs.declared.note.Head.{Head}, mus_score.specs.{declared.score.Measure.Measure, declared.score.Voice.Voice, declared.score.Score.Score, Seats.usual_gap, declared.score.Seat.Seat}}
 use Rattle.{abc_header.specs.declared.header.Header.{Header}, abc_steps.specs.{declared.step.Item.Item, Counts.measures_begun}, abc_items.specs.Voices.{unnamed_of}}
-use Rattle.abc_events.specs.{declared.written.Written.Written, declared.written.Sign.Sign, Signs.signs, Bars.bars_of, Bars.first_bar, Bars.forced_bars, Measures.measures_of}
+use Rattle.abc_signs.specs.{declared.written.Written.Written, declared.written.Sign.Sign, Signs.signs}
+use Rattle.abc_events.specs.{Bars.bars_of, Bars.first_bar, Bars.forced_bars, Measures.measures_of}
 use Rattle.{abc_words.specs.{declared.music.SungNote.SungNote, Verses.verse_count, Words.words_of}, abc_score.specs.{declared.voices.VoiceRead.VoiceRead, Voices.voices_read}}
 
 -- Words are sung on written events with heads, each numbered among all written events of its voice.

@@ -1,11 +1,11 @@
 ghost use Rattle.std.specs.{Prelude.{◌≡◌, ◌≤◌, ◌^◌, ◌++◌, [], length, reverse, true, false, nat_lt, IfOk, OnOk}, List.{All, list_all}};
 ghost use Rattle.{abc_faults.specs.{First.then_below, Faults.faults_in, Weights.{crowd_up_to, stands_before, weight_at}}, abc_steps.specs.{declared.step.Stood.Stood, Good.IsGoodForce, Lengths.parts_at}};
-ghost use Rattle.{abc_events.specs.Signs.{signs, signs_of, IsDrawn}, abc_score.specs.{Faults.voice_weights, Judged.{AreJudged, IsEnd, IsKept, is_idle}, Voices.IsGoodRead}};
+ghost use Rattle.{abc_signs.specs.Signs.{signs, signs_of, IsDrawn}, abc_score.specs.{Faults.voice_weights, Judged.{AreJudged, IsEnd, IsKept, is_idle}, Voices.IsGoodRead}};
 
 use crate::voices::VoiceRead;
-use abc_events::{Sign, put_signs, signs};
 use abc_faults::{Weight, earlier, judge_step};
 use abc_lines::Fault;
+use abc_signs::{Sign, put_signs, signs};
 use abc_steps::kinds::is_event;
 use abc_steps::lengths::parts_at;
 use abc_steps::place::{Place, beginning, step_over};

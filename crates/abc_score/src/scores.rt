@@ -5,9 +5,10 @@ ghost use Rattle.abc_score.specs.{declared.keeping.Judged.Judged, Judged.{IsKept
 use crate::keeping::{Judged, Kept, signs_of_voice};
 use crate::sung::sung_words;
 use crate::voices::VoiceRead;
-use abc_events::{Sign, bars_of, forced_bars, measures_of, own_measures};
+use abc_events::{bars_of, forced_bars, measures_of, own_measures};
 use abc_header::Header;
 use abc_items::unnamed_of;
+use abc_signs::Sign;
 use abc_steps::Item;
 use abc_words::verse_count;
 use mus_score::{Measure, Score, Seat, Voice};

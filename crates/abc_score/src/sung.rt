@@ -1,7 +1,7 @@
 ghost use Rattle.std.specs.Prelude.{◌≡◌, ◌+◌, ◌++◌, ◌∷◌, ℕ, List, IfOk, OnOk};
-ghost use Rattle.{abc_events.specs.declared.written.Sign.{Sign}, abc_score.specs.Score.{event_count, note_if, notes_from, sung_words}};
+ghost use Rattle.{abc_signs.specs.declared.written.Sign.{Sign}, abc_score.specs.Score.{event_count, note_if, notes_from, sung_words}};
 
-use abc_events::{Sign, Written};
+use abc_signs::{Sign, Written};
 use abc_steps::Item;
 use abc_words::{SungNote, words_of};
 use mus_units::{Memory, Row, Text};

@@ -1,5 +1,6 @@
 use Rattle.std.{proofs.Common.◌≡◌, proofs.Common.◌∙◌, proofs.Common.◌++◌, proofs.Common.◌∷◌, proofs.Common.◌<◌, proofs.Common.ℕ, proofs.Common.ap, proofs.Common.subst, proofs.Common.sym, proofs.Common.length, proofs.Common.take, proofs.Common.drop, proofs.Common.slice_index_or, proofs.Common.arith, proofs.lemmas.Grind.common_steps, proofs.lemmas.List.take-append-le, proofs.lemmas.List.take_all, specs.Vec.Iter.into_iter_items}
-use Rattle.abc_events.{specs.Signs.IsDrawn, specs.Leaves.leaves_from, specs.Measures.leaves_in, specs.Nesting.{IsReady, grown, no_tree}, proofs.Taken.all_left, proofs.Taken.count_left}
+use Rattle.abc_signs.specs.Signs.{IsDrawn}
+use Rattle.abc_events.{specs.Leaves.leaves_from, specs.Measures.leaves_in, specs.Nesting.{IsReady, grown, no_tree}, proofs.Taken.all_left, proofs.Taken.count_left}
 use Rattle.abc_events.proofs.measures.trees_of.Goals as goal
 
 pub loop-sign-preserved : goal.loop-sign-preserved

@@ -1,5 +1,5 @@
 use Rattle.std.{proofs.Common.◌≡◌, proofs.Common.◌<◌, proofs.Common.ℕ, proofs.Common.length, proofs.Common.slice_index_or, specs.List.All, specs.Vec.Iter.into_iter_items, specs.Vec.Iter.into_iter_len}
-use Rattle.abc_events.specs.{Leaves.leaves_from, Measures.leaves_in, Nesting.{tree_of, IsReady, grown, no_tree}, Signs.IsDrawn}
+use Rattle.{abc_signs.specs.Signs.IsDrawn, abc_events.specs.{Leaves.leaves_from, Measures.leaves_in, Nesting.{tree_of, IsReady, grown, no_tree}}}
 use Rattle.abc_events.proofs.measures.trees_of.Given as goal
 
 abbrev pub invariant-loop-sign : goal.invariant-loop-sign

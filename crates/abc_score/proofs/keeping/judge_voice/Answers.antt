@@ -1,5 +1,5 @@
 use Rattle.std.proofs.{Common.{◌≡◌, ◌∙◌, ◌+◌, ◌++◌, ◌<◌, ℕ, length, get_or, sym, ap, reverse, take, drop, true, rules, arith}, lemmas.List.drop_all}
-use Rattle.{abc_faults.proofs.Walks.{at_front, nearest, part_more}, abc_events.specs.Signs.{signs, signs_of}}
+use Rattle.{abc_faults.proofs.Walks.{at_front, nearest, part_more}, abc_signs.specs.Signs.{signs, signs_of}}
 use Rattle.abc_steps.specs.{declared.{step.Stood.Stood, force.InForce.InForce}, Looks.Steps, Places.place_at}
 use Rattle.abc_score.{specs.Judged.is_idle, proofs.Idle.{idle_at, idle_so_far}}
 use Rattle.abc_score.proofs.Stops.{judged_to, judged_whole, none_so_far, step_so_far}

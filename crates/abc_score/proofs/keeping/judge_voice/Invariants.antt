@@ -1,5 +1,5 @@
 use Rattle.{std.proofs.Common.{◌≡◌, ◌≤◌, ◌*◌, ◌++◌, [], reverse, take, drop, true}, abc_steps.specs.{Good.IsGoodForce, Places.place_at}}
-use Rattle.{abc_events.specs.Signs.signs, abc_score.proofs.Stops.IsAt}
+use Rattle.{abc_signs.specs.Signs.signs, abc_score.proofs.Stops.IsAt}
 use Rattle.abc_score.proofs.keeping.judge_voice.Given as goal
 
 abbrev pub invariant-loop-i : goal.invariant-loop-i

@@ -1,4 +1,4 @@
-use Rattle.{std.{proofs.Common.{[], subst, sym}, specs.List.All}, abc_events.{specs.Signs.IsDrawn, proofs.Drawn.signs_drawn}}
+use Rattle.{std.{proofs.Common.{[], subst, sym}, specs.List.All}, abc_signs.{specs.Signs.IsDrawn, proofs.Drawn.signs_drawn}}
 use Rattle.abc_score.proofs.keeping.signs_of_voice.Goals as goal
 
 pub returns-then-kept-clause-drawn : goal.returns-then-kept-clause-drawn

@@ -1,6 +1,6 @@
 use Rattle.std.proofs.Common.{◌≡◌, ◌≤◌, ◌*◌, ◌++◌, [], reverse, take, drop}
-use Rattle.{abc_steps.specs.{Good.IsGoodForce, Places.place_at}, abc_events.specs.Signs.{signs}}
-use Rattle.abc_events.proofs.reading.signs.Given as goal
+use Rattle.{abc_steps.specs.{Good.IsGoodForce, Places.place_at}, abc_signs.specs.Signs.{signs}}
+use Rattle.abc_signs.proofs.reading.signs.Given as goal
 
 abbrev pub invariant-loop-i : goal.invariant-loop-i
 invariant-loop-i l = record {

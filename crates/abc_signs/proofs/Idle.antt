@@ -2,7 +2,7 @@
 use Rattle.std.{proofs.Common.◌≡◌, proofs.Common.◌∙◌, proofs.Common.refl, proofs.Common.sym, proofs.Common.ap, proofs.Common.ℕ, proofs.Common.List, proofs.Common.[], proofs.Common.◌∷◌, proofs.Common.true, proofs.Common.false, proofs.Common.length, specs.Prelude.◌==◌, specs.List.list_any, proofs.lemmas.Bool.or_parts}
 use Rattle.{mus_units.specs.declared.note.Deco.{Deco}, abc_steps.proofs.Between.{is_none}}
 use Rattle.abc_steps.specs.{declared.force.InForce.InForce, declared.step.Step.Step, declared.step.Stood.Stood, Looks.Steps, Force.{changes_at, names_key, names_clef, names_meter}}
-use Rattle.abc_events.specs.Waits.{decos_in, mentions_in, graces_in, has_slash, ending_behind, tells, nothing, waiting_of}
+use Rattle.abc_signs.specs.Waits.{decos_in, mentions_in, graces_in, has_slash, ending_behind, tells, nothing, waiting_of}
 
 step_idle : (now : InForce) (s : Step) (line column : ℕ) (waits : Steps) → tells s ≡ false → waiting_of now waits [] ≡ waiting_of now (record { step = s; line = line; column = column } ∷ waits) []
 unfolding waiting_of changes_at tells decos_in mentions_in graces_in has_slash ending_behind names_key names_clef names_meter

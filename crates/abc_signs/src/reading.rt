@@ -1,7 +1,7 @@
 ghost use Rattle.std.specs.{Prelude.◌≡◌, Prelude.◌≤◌, Prelude.◌<◌, Prelude.◌^◌, Prelude.◌+◌, Prelude.◌-◌, Prelude.◌++◌, Prelude.◌∷◌, Prelude.[], Prelude.map, Prelude.length, Prelude.reverse, Prelude.unwrap_or, Prelude.true, Prelude.false, Prelude.IfOk, Prelude.OnOk, List.All};
 ghost use Rattle.mus_units.specs.Good.{IsGoodMeter};
 ghost use Rattle.abc_steps.specs.{Looks.since_event, Looks.slurs_begun, Looks.slurs_ended, Lengths.parts_at, declared.step.Step.Step, Good.IsGoodForce, Good.IsGoodStood, Good.IsGoodStep};
-ghost use Rattle.abc_events.specs.Signs.{with_tie, tied_heads, for_note, look_of, whole_look, parted_at, sound_written, whole_value, rest_written, further_rests, rests_of, tuplet_of, signs_of, signs, IsDrawn};
+ghost use Rattle.abc_signs.specs.Signs.{with_tie, tied_heads, for_note, look_of, whole_look, parted_at, sound_written, whole_value, rest_written, further_rests, rests_of, tuplet_of, signs_of, signs, IsDrawn};
 
 use crate::waits::waiting_of;
 use crate::written::{Sign, Waits, Written};

@@ -2,7 +2,7 @@
 use Rattle.std.specs.{Prelude.{ℕ, zero, suc, ◌+◌, ◌-◌, ◌≤◌, List, [], ◌∷◌, ◌++◌, map, Bool, false, ◌||◌, if◌then◌else◌, nat_le, Some, None, unwrap_or, ⊤}, List.All}
 use Rattle.{mus_units.specs.{declared.note.Head.Head, declared.value.Value.Value, Parts.parts_list, declared.value.Base.Base}, mus_score.specs.declared.score.Look.{Look}}
 use Rattle.abc_steps.specs.{declared.{step.{Sound.Sound, Step.Step, Stood.Stood}, force.InForce.InForce, place.Place.Place}, Looks.{Steps, since_event, is_tied, slurs_begun, slurs_ended, has_parting}, Lengths.written_length, Tuplets.{or_default, fits, usual_q}, Force.meter_ticks, Places.{place_at, measure_of}}
-use Rattle.abc_events.specs.{declared.written.Written.Written, declared.written.Sign.Sign, Waits.waiting_of, Waits.nothing}
+use Rattle.abc_signs.specs.{declared.written.Written.Written, declared.written.Sign.Sign, Waits.waiting_of, Waits.nothing}
 
 -- a space or the end of a line stands between an event and the one before it; a voice's first event has none before it
 abbrev pub parted_at : Place → Steps → Bool

@@ -2,7 +2,7 @@
 use Rattle.std.{proofs.{Common.{◌≡◌, refl, sym, ap, ◌∙◌, subst, ℕ, zero, suc, ◌+◌, ◌-◌, ◌≤◌, List, [], ◌∷◌, ◌++◌, length, Bool, true, false, cond, Option, Some, None, arith, nat_le, reverse, take, drop, append-nil}, lemmas.{Bool.and_parts, List.{Elements.{All-nil, All-cons, All-append}, drop_all}}}, specs.{Prelude.{unwrap_or, find, option_map, ◌==◌, ◌*◌, ◌/◌, ⊤}, List.{All, list_all}}}
 use Rattle.mus_units.specs.{declared.value.Value.Value, Parts.units_of, Parts.all_values, Parts.longest_within, Parts.cut_next, Parts.cut_in, Parts.parts_list}
 use Rattle.abc_steps.specs.{declared.{step.{Sound.Sound, Step.Step, Stood.Stood}, force.InForce.InForce, place.Place.Place}, Looks.{Steps, since_event}, Lengths.written_length, Tuplets.{fits, or_default, usual_q}, Places.{place_at, measure_of}}
-use Rattle.abc_events.specs.{declared.written.Sign.Sign, Signs.IsDrawn, Signs.sound_written, Signs.rest_written, Signs.further_rests, Signs.tuplet_of, Signs.signs_of, Signs.signs, Signs.parted_at, Signs.whole_value}
+use Rattle.abc_signs.specs.{declared.written.Sign.Sign, Signs.IsDrawn, Signs.sound_written, Signs.rest_written, Signs.further_rests, Signs.tuplet_of, Signs.signs_of, Signs.signs, Signs.parted_at, Signs.whole_value}
 
 abbrev IsFew : Value → Type 0
 IsFew v = v.dots ≤ 3

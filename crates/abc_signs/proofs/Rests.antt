@@ -1,7 +1,7 @@
 -- The next of several whole measure rests.
 use Rattle.std.proofs.Common.{◌≡◌, sym, ap, ◌∙◌, ℕ, suc, ◌+◌, ◌-◌, ◌<◌, Bool, false, List, [], ◌∷◌, ◌++◌, arith, append_assoc}
 use Rattle.abc_steps.specs.{declared.step.Stood.Stood, declared.place.Place.Place}
-use Rattle.abc_events.specs.{declared.written.Written.Written, declared.written.Waiting.Waiting, declared.written.Sign.Sign, Waits.nothing, Signs.rest_written, Signs.further_rests}
+use Rattle.abc_signs.specs.{declared.written.Written.Written, declared.written.Waiting.Waiting, declared.written.Sign.Sign, Waits.nothing, Signs.rest_written, Signs.further_rests}
 
 next_rest : (now : Place) (at : Stood) (seen : Bool) (measure i count : ℕ) → i < count → further_rests now at seen (measure + i) (count - i) ≡ Sign.Event (rest_written now at seen (measure + i) false) nothing ∷ further_rests now at seen (measure + (i + 1)) (count - (i + 1))
 next_rest now at seen measure i count less =

@@ -1,5 +1,5 @@
 -- What waited for an event, where it is kept.
-use Rattle.abc_events.specs.{declared.written.Held.Held, declared.written.Waiting.Waiting, Waits.nothing}
+use Rattle.abc_signs.specs.{declared.written.Held.Held, declared.written.Waiting.Waiting, Waits.nothing}
 
 abbrev pub waiting_held : Held → Waiting
 waiting_held Held.Nothing = nothing

@@ -1,5 +1,5 @@
 ghost use Rattle.std.specs.{Prelude.◌≡◌, Prelude.◌++◌, Prelude.◌∷◌, Prelude.[], Prelude.None, Prelude.IfOk, Prelude.OnOk, List.list_any};
-ghost use Rattle.abc_events.specs.Waits.{decos_in, is_above, mention_of, mentions_in, graces_in, has_slash, ending_behind, waiting_of, nothing, no_changes, tells};
+ghost use Rattle.abc_signs.specs.Waits.{decos_in, is_above, mention_of, mentions_in, graces_in, has_slash, ending_behind, waiting_of, nothing, no_changes, tells};
 
 use crate::written::{Waiting, Waits};
 use abc_steps::copies::put_chords;

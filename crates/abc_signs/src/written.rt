@@ -1,5 +1,5 @@
 ghost use Rattle.std.specs.Prelude.{◌≡◌, true, IfOk};
-ghost use Rattle.abc_events.specs.Waits.{nothing};
+ghost use Rattle.abc_signs.specs.Waits.{nothing};
 
 use crate::waits::nothing;
 use abc_tokens::GraceChord;
@@ -50,7 +50,7 @@ pub struct Waits {
 }
 
 impl Model for Waits {
-    ghost use Rattle.abc_events.specs.{declared.written.Waiting.Waiting, Held.waiting_held};
+    ghost use Rattle.abc_signs.specs.{declared.written.Waiting.Waiting, Held.waiting_held};
 
     ghost Value = { Waiting };
 
@@ -77,14 +77,14 @@ impl Waits {
     }
 
     /// Whether it is known that nothing waited.
-    pub(crate) fn is_nothing(&self) -> bool
+    pub fn is_nothing(&self) -> bool
         ensures { result ≡ true → self.now ≡ nothing }
     {
         matches!(self.held, Held::Nothing)
     }
 
     /// What waited, as a whole.
-    pub(crate) fn whole(self, alloc: Global) -> Waiting
+    pub fn whole(self, alloc: Global) -> Waiting
         ensures { result ≡ self }
     {
         match self.held {
