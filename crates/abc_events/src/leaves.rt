@@ -1,5 +1,6 @@
 ghost use Rattle.std.specs.{Prelude.◌≡◌, Prelude.◌≤◌, Prelude.◌+◌, Prelude.◌++◌, Prelude.◌∷◌, Prelude.[], Prelude.List, Prelude.map, Prelude.length, Prelude.replicate, Prelude.unwrap_or, Prelude.false, Prelude.None, Prelude.IfOk, Prelude.OnOk, List.All};
 ghost use Rattle.mus_units.specs.Value.{value_length};
+ghost use Rattle.abc_signs.specs.Signs.{with_tie};
 ghost use Rattle.abc_events.specs.Leaves.{ends_at, first_part, later_head, later_part, some_more, later_parts, parts, node_of, grace_event, grace_note, grace_nodes, nodes_of, words_at};
 
 use abc_signs::{Waiting, Waits, Written, no_changes, nothing, with_ties};
@@ -15,6 +16,37 @@ pub struct Numbers {
     pub id: u32,
 }
 
+impl Numbers {
+    /// Steps over an event of so many parts, and gives the numbers of that event.
+    pub fn step_over(&mut self, parts: usize) -> Result<Numbers, Memory>
+        ensures here { IfOk result (λ here. here ≡ self.old) }
+        ensures event { OnOk result (self.new.event ≡ self.old.event + 1) }
+        ensures id { OnOk result (self.new.id ≡ self.old.id + parts) }
+    {
+        let here = *self;
+        self.id = id_behind(here.id, parts)?;
+        self.event = here.event.checked_add(1).ok_or(Memory)?;
+        Ok(here)
+    }
+}
+
+/// A written event of a voice, with what waited for it, its words, and the id of its first part.
+#[derive(Drop)]
+pub struct VoiceEvent {
+    pub written: Written,
+    pub waits: Waits,
+    pub words: Row<Option<Text>>,
+    pub id: u32,
+}
+
+/// What the first part of a written event has of its own: what waited for the event, its words, and an id.
+#[derive(Drop)]
+struct FirstPart {
+    waiting: Waiting,
+    words: Row<Option<Text>>,
+    id: u32,
+}
+
 fn ends_at(w: &Written, more: bool) -> u32
     ensures { result ≡ ends_at w.now more }
 {
@@ -28,22 +60,17 @@ fn ticks_at(w: &Written, value: Value) -> u64
     w.whole.unwrap_or(ticks_of(value))
 }
 
+/// The first part of a written event, with its heads, which are tied where there are more parts.
 #[tactic(auto, unfolding(crate::specs::Leaves::first_part))]
-fn first_part(
-    alloc: Global,
-    w: &Written,
-    waiting: Waiting,
-    words: Row<Option<Text>>,
-    id: u32,
-    more: bool,
-    value: Value,
-) -> Result<Event, Memory>
-    requires { value.dots ≤ 3 }
-    ensures { IfOk result (λ e. e ≡ first_part w.now waiting words id more value) }
+fn first_part(w: &Written, heads: Few<Head>, first: FirstPart, more: bool, value: Value) -> Event
+    requires few { value.dots ≤ 3 }
+    requires heads { heads ≡ map (with_tie more) w.now.heads }
+    ensures { result ≡ first_part w.now first.waiting first.words first.id more value }
 {
-    Ok(Event {
-        id,
-        heads: with_ties(alloc, w.heads.as_slice(), more)?,
+    let waiting = first.waiting;
+    Event {
+        id: first.id,
+        heads,
         look: w.look,
         value,
         ticks: ticks_at(w, value),
@@ -54,8 +81,8 @@ fn first_part(
         ending: waiting.ending,
         begins: w.begins,
         ends: ends_at(w, more),
-        words,
-    })
+        words: first.words,
+    }
 }
 
 fn later_head(more: bool, head: Head) -> Head
@@ -110,9 +137,11 @@ fn later_part(
     requires { value.dots ≤ 3 }
     ensures { IfOk result (λ e. e ≡ later_part w.now verses id more value) }
 {
+    let heads = later_heads(alloc, w.heads.as_slice(), more)?;
+    let words = no_words(alloc, verses)?;
     Ok(Event {
         id,
-        heads: later_heads(alloc, w.heads.as_slice(), more)?,
+        heads,
         look: w.look,
         value,
         ticks: ticks_at(w, value),
@@ -123,7 +152,7 @@ fn later_part(
         ending: None,
         begins: 0,
         ends: ends_at(w, more),
-        words: no_words(alloc, verses)?,
+        words,
     })
 }
 
@@ -144,7 +173,7 @@ fn next_id(id: u32) -> Result<u32, Memory>
 }
 
 /// The number so many behind another.
-pub fn id_behind(id: u32, count: usize) -> Result<u32, Memory>
+fn id_behind(id: u32, count: usize) -> Result<u32, Memory>
     ensures { IfOk result (λ behind. behind ≡ id + count) }
 {
     match u32::try_from(count) {
@@ -157,6 +186,22 @@ fn some_more(values: &[Value]) -> bool
     ensures { result ≡ some_more values.now }
 {
     !values.is_empty()
+}
+
+/// Puts the first part.
+fn put_first(
+    alloc: Global,
+    nodes: &mut Row<Music>,
+    w: &Written,
+    first: FirstPart,
+    more: bool,
+    value: Value,
+) -> Result<(), Memory>
+    requires { value.dots ≤ 3 }
+    ensures { OnOk result (nodes.new ≡ nodes.old ++ node_of (first_part w.now first.waiting first.words first.id more value) ∷ []) }
+{
+    let heads = with_ties(alloc, w.heads.as_slice(), more)?;
+    nodes.push(node_of(first_part(w, heads, first, more, value)))
 }
 
 /// Puts the parts behind the first.
@@ -184,13 +229,14 @@ fn put_later(
 /// The one part of a written event that has no other.
 #[inline(always)]
 #[tactic(auto, using(crate::proofs::Heads::untied), unfolding(crate::specs::Leaves::first_part))]
-fn only_part(w: Written, waiting: Waiting, words: Row<Option<Text>>, id: u32, value: Value) -> Event
+fn only_part(w: Written, first: FirstPart, value: Value) -> Event
     requires { value.dots ≤ 3 }
-    ensures { result ≡ first_part w waiting words id false value }
+    ensures { result ≡ first_part w first.waiting first.words first.id false value }
 {
     let ticks = ticks_at(&w, value);
+    let waiting = first.waiting;
     Event {
-        id,
+        id: first.id,
         heads: w.heads,
         look: w.look,
         value,
@@ -202,7 +248,7 @@ fn only_part(w: Written, waiting: Waiting, words: Row<Option<Text>>, id: u32, va
         ending: waiting.ending,
         begins: w.begins,
         ends: w.ends,
-        words,
+        words: first.words,
     }
 }
 
@@ -211,23 +257,19 @@ fn only_part(w: Written, waiting: Waiting, words: Row<Option<Text>>, id: u32, va
 fn put_several(
     alloc: Global,
     nodes: &mut Row<Music>,
-    w: Written,
-    waiting: Waiting,
-    words: Row<Option<Text>>,
-    id: u32,
+    w: &Written,
+    first: FirstPart,
 ) -> Result<(), Memory>
-    requires { All (λ v. v.dots ≤ 3) w.values }
-    ensures { OnOk result (nodes.new ≡ nodes.old ++ map node_of (parts w waiting words id w.values)) }
+    requires { All (λ v. v.dots ≤ 3) w.now.values }
+    ensures { OnOk result (nodes.new ≡ nodes.old ++ map node_of (parts w.now first.waiting first.words first.id w.now.values)) }
 {
-    let verses = words.len();
-    match w.values.as_slice() {
-        [value, others @ ..] => {
-            let part = first_part(alloc, &w, waiting, words, id, some_more(others), *value)?;
-            nodes.push(node_of(part))?;
-            put_later(alloc, nodes, &w, verses, next_id(id)?, others)
-        }
-        [] => Ok(()),
-    }
+    let [value, others @ ..] = w.values.as_slice() else {
+        return Ok(());
+    };
+    let verses = first.words.len();
+    let next = next_id(first.id)?;
+    put_first(alloc, nodes, w, first, some_more(others), *value)?;
+    put_later(alloc, nodes, w, verses, next, others)
 }
 
 #[tactic(auto, using(crate::proofs::Heads::untied), unfolding(crate::specs::Leaves::grace_event))]
@@ -282,6 +324,20 @@ fn put_graces(
     nodes.push(Music::Grace { body, slash })
 }
 
+/// What waited for an event, whose graces are put.
+#[inline(always)]
+fn with_graces_put(alloc: Global, nodes: &mut Row<Music>, waits: Waits) -> Result<Waiting, Memory>
+    ensures waiting { IfOk result (λ waiting. waiting ≡ waits) }
+    ensures graces { OnOk result (nodes.new ≡ nodes.old ++ grace_nodes waits.graces waits.slash) }
+{
+    if waits.is_nothing() {
+        return Ok(nothing(alloc));
+    }
+    let waiting = waits.whole(alloc);
+    put_graces(alloc, nodes, waiting.graces.as_slice(), waiting.slash)?;
+    Ok(waiting)
+}
+
 /// The words of a written event.
 pub fn words_at(
     alloc: Global,
@@ -302,39 +358,30 @@ fn put_parts(
     alloc: Global,
     nodes: &mut Row<Music>,
     w: Written,
-    waiting: Waiting,
-    words: Row<Option<Text>>,
-    id: u32,
+    first: FirstPart,
 ) -> Result<(), Memory>
     requires { All (λ v. v.dots ≤ 3) w.values }
-    ensures { OnOk result (nodes.new ≡ nodes.old ++ map node_of (parts w waiting words id w.values)) }
+    ensures { OnOk result (nodes.new ≡ nodes.old ++ map node_of (parts w first.waiting first.words first.id w.values)) }
 {
     match w.values.as_slice() {
         [value] => {
             let value = *value;
-            nodes.push(node_of(only_part(w, waiting, words, id, value)))?;
+            nodes.push(node_of(only_part(w, first, value)))?;
             Ok(())
         }
-        _ => put_several(alloc, nodes, w, waiting, words, id),
+        _ => put_several(alloc, nodes, &w, first),
     }
 }
 
 /// Puts the nodes of a written event: the group of its graces, and its parts.
-pub fn put_nodes(
-    alloc: Global,
-    nodes: &mut Row<Music>,
-    w: Written,
-    waits: Waits,
-    words: Row<Option<Text>>,
-    id: u32,
-) -> Result<(), Memory>
-    requires { All (λ v. v.dots ≤ 3) w.values }
-    ensures { OnOk result (nodes.new ≡ nodes.old ++ nodes_of w waits words id) }
+pub fn put_nodes(alloc: Global, nodes: &mut Row<Music>, e: VoiceEvent) -> Result<(), Memory>
+    requires { All (λ v. v.dots ≤ 3) e.written.values }
+    ensures { OnOk result (nodes.new ≡ nodes.old ++ nodes_of e.written e.waits e.words e.id) }
 {
-    if waits.is_nothing() {
-        return put_parts(alloc, nodes, w, nothing(alloc), words, id);
-    }
-    let waiting = waits.whole(alloc);
-    put_graces(alloc, nodes, waiting.graces.as_slice(), waiting.slash)?;
-    put_parts(alloc, nodes, w, waiting, words, id)
+    let first = FirstPart {
+        waiting: with_graces_put(alloc, nodes, e.waits)?,
+        words: e.words,
+        id: e.id,
+    };
+    put_parts(alloc, nodes, e.written, first)
 }

@@ -2,9 +2,9 @@ ghost use Rattle.std.specs.{Prelude.◌≡◌, Prelude.◌<◌, Prelude.◌≤�
 ghost use Rattle.abc_signs.specs.{declared.written.Sign.Sign, Signs.IsDrawn};
 ghost use Rattle.abc_events.specs.{Leaf.Leaf, Leaves.{nodes_of, leaves_from, leaves_of}, Nesting.{tree_of, IsReady, grown, no_tree}, Measures.{leaves_in, measures_of}};
 
-use crate::leaves::{Numbers, id_behind, words_at};
+use crate::leaves::{Numbers, VoiceEvent, words_at};
 use crate::nesting::{Tree, nodes_of, put_event, put_tuplet};
-use abc_signs::{Sign, Waits, Written};
+use abc_signs::Sign;
 use mus_score::Measure;
 use mus_units::{Bar, Memory, Row, Text};
 use smallvec::SmallVec;
@@ -27,24 +27,17 @@ fn empty_trees(alloc: Global, n: usize, room: usize) -> Result<Vec<Tree>, Memory
 }
 
 /// Puts a written event into the tree of its measure, where there is one.
-fn put_written(
-    alloc: Global,
-    trees: &mut [Tree],
-    w: Written,
-    waits: Waits,
-    words: Row<Option<Text>>,
-    id: u32,
-) -> Result<(), Memory>
+fn put_written(alloc: Global, trees: &mut [Tree], e: VoiceEvent) -> Result<(), Memory>
     requires ready { (k : ℕ) → k < length trees.old → IsReady (slice_index_or trees.old k no_tree).stack.items }
-    requires drawn { All (λ v. v.dots ≤ 3) w.values }
+    requires drawn { All (λ v. v.dots ≤ 3) e.written.values }
     ensures ready { OnOk result ((k : ℕ) → k < length trees.old → IsReady (slice_index_or trees.new k no_tree).stack.items) }
-    ensures grown { OnOk result ((k : ℕ) (leaves : List Leaf) → k < length trees.old → grown (slice_index_or trees.new k no_tree) (leaves_in k leaves) ≡ grown (slice_index_or trees.old k no_tree) (leaves_in k (Leaf.Event w.measure (nodes_of w waits words id) ∷ leaves))) }
+    ensures grown { OnOk result ((k : ℕ) (leaves : List Leaf) → k < length trees.old → grown (slice_index_or trees.new k no_tree) (leaves_in k leaves) ≡ grown (slice_index_or trees.old k no_tree) (leaves_in k (Leaf.Event e.written.measure (nodes_of e.written e.waits e.words e.id) ∷ leaves))) }
 {
-    let measure = w.measure;
+    let measure = e.written.measure;
     if measure >= trees.len() as u64 {
         return Ok(());
     }
-    put_event(alloc, &mut trees[measure as usize], w, waits, words, id)
+    put_event(alloc, &mut trees[measure as usize], e)
 }
 
 /// Opens a tuplet in the tree of its measure, where there is one.
@@ -81,12 +74,15 @@ fn put_sign(
 {
     match sign {
         Sign::Event { written, waiting } => {
-            let sung = words_at(alloc, words, at.event)?;
-            let id = at.id;
-            at.id = id_behind(id, written.values.as_slice().len())?;
-            at.event = at.event.checked_add(1).ok_or(Memory)?;
-            put_written(alloc, trees, written, waiting, sung, id)?;
-            Ok(())
+            let here = at.step_over(written.values.as_slice().len())?;
+            let sung = words_at(alloc, words, here.event)?;
+            let event = VoiceEvent {
+                written,
+                waits: waiting,
+                words: sung,
+                id: here.id,
+            };
+            put_written(alloc, trees, event)
         }
         Sign::Opens { measure, p, q, r } => put_opening(alloc, trees, measure, p, q, r),
     }

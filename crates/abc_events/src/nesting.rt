@@ -3,10 +3,9 @@ ghost use Rattle.mus_score.specs.declared.score.Music.{Music};
 ghost use Rattle.mus_score.specs.declared.score.Music.TheVariants as music;
 ghost use Rattle.abc_events.specs.{Leaf.Leaf, Leaves.nodes_of, Nesting.{Puts, IsReady, one, put_in_front, grown}};
 
-use crate::leaves::put_nodes;
-use abc_signs::{Waits, Written};
+use crate::leaves::{VoiceEvent, put_nodes};
 use mus_score::Music;
-use mus_units::{Memory, Row, Text};
+use mus_units::{Memory, Row};
 use smallvec::SmallVec;
 use std::alloc::Global;
 use std::default::MadeWith;
@@ -140,20 +139,13 @@ fn open_tuplet(
 }
 
 /// Puts a written event into the tree of its measure.
-pub fn put_event(
-    alloc: Global,
-    tree: &mut Tree,
-    w: Written,
-    waits: Waits,
-    words: Row<Option<Text>>,
-    id: u32,
-) -> Result<(), Memory>
+pub fn put_event(alloc: Global, tree: &mut Tree, e: VoiceEvent) -> Result<(), Memory>
     requires ready { IsReady tree.old.stack.items }
-    requires drawn { All (λ v. v.dots ≤ 3) w.values }
-    ensures puts { OnOk result (Puts tree.old.stack.items tree.old.body tree.new.stack.items tree.new.body (one (nodes_of w waits words id))) }
+    requires drawn { All (λ v. v.dots ≤ 3) e.written.values }
+    ensures puts { OnOk result (Puts tree.old.stack.items tree.old.body tree.new.stack.items tree.new.body (one (nodes_of e.written e.waits e.words e.id))) }
     ensures ready { OnOk result (IsReady tree.new.stack.items) }
 {
-    put_nodes(alloc, &mut tree.body, w, waits, words, id)?;
+    put_nodes(alloc, &mut tree.body, e)?;
     take_event(&mut tree.stack)?;
     close_full(alloc, &mut tree.stack, &mut tree.body)?;
     Ok(())
