@@ -229,24 +229,25 @@ def main():
     sys.exit(1 if WRONG else 0)
 
 
-def cases_of(program):
-    """The names that a program of tests has its cases by: the tables in its data, the first word of each row there, and its
+def cases_of(crate):
+    """The names that a crate of tests has its cases by: the tables in its folder, the first word of each row there, and its
     modules."""
-    cases = {os.path.basename(path)[:-3] for path in glob.glob(f"crates/{program}/src/*.rt")}
-    for path in glob.glob(f"crates/{program}/data/*"):
+    cases = {os.path.basename(path)[:-3] for path in glob.glob(f"crates/{crate}/src/*.rt")}
+    folder = crate.removesuffix("_tests").removeprefix("abcps_")
+    for path in glob.glob(f"crates/all_tests/data/{folder}/*"):
         cases.add(os.path.basename(path).split(".")[0])
         cases.update(row.split()[0].strip(":|") for row in read(path).split("\n") if row.split())
     return cases
 
 
 def check_tests(crate, calls, cell, tests):
-    """A test is a test function, a crate, or a case of the program of tests that is named before a colon."""
+    """A test is a test function, a crate, or a case of the crate of tests that is named before a colon."""
     for part in cell.split(";"):
-        program = re.match(rf"\s*(?:by |through )?`({NAME})`: (.*)", part)
-        if program and os.path.isdir(f"crates/{program[1]}"):
-            for case in re.findall(rf"(?<![`A-Za-z_]){NAME}", re.sub("`[^`]*`", "", program[2]).split(", by ")[0].split(" (")[0]):
-                if case not in cases_of(program[1]):
-                    wrong(crate, f"{', '.join(calls)}: no case '{case}' of {program[1]}")
+        of_tests = re.match(rf"\s*(?:by |through )?`({NAME})`: (.*)", part)
+        if of_tests and os.path.isdir(f"crates/{of_tests[1]}"):
+            for case in re.findall(rf"(?<![`A-Za-z_]){NAME}", re.sub("`[^`]*`", "", of_tests[2]).split(", by ")[0].split(" (")[0]):
+                if case not in cases_of(of_tests[1]):
+                    wrong(crate, f"{', '.join(calls)}: no case '{case}' of {of_tests[1]}")
             continue
         for test in names(part):
             if "_" in test and test not in tests and not os.path.isdir(f"crates/{test}"):

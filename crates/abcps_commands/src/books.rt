@@ -2,9 +2,10 @@
 //! of `systems --table`, and the faults.
 
 use crate::case::{Case, Told, verdict, words_of};
+use crate::files::{read_file, read_table};
 use crate::running::{Finished, Host, PIECE, Streams, ran};
 use abcps::Status;
-use std::{fs, io};
+use std::io;
 
 /// The line that ends the part of a document that is the same for every book.
 const END_OF_PROLOG: &[u8] = b"%%EndProlog\n";
@@ -70,14 +71,14 @@ fn writes_what_is_told<R: Host>(rt: &R, book: &[u8], told: &[u8]) -> io::Result<
 /// Whether a book is written as the file beside it tells.
 fn is_as_told<R: Host>(rt: &R, name: &str) -> io::Result<bool> {
     let alloc = rt.alloc();
-    let book = fs::read(rt, format!(in alloc; "{name}.abc")?)?;
-    let told = fs::read(rt, format!(in alloc; "{name}.out")?)?;
+    let book = read_file(rt, &format!(in alloc; "{name}.abc")?)?;
+    let told = read_file(rt, &format!(in alloc; "{name}.out")?)?;
     writes_what_is_told(rt, &book, &told)
 }
 
 /// Tells each book that the table `books` names.
 pub(crate) fn tell_books<R: Host>(rt: &R) -> io::Result<()> {
-    let table = fs::read_to_string(rt, "books")?;
+    let table = read_table(rt, "books")?;
     for name in table.lines() {
         let verdict = verdict(is_as_told(rt, name)?);
         println!(rt; "{name}: {verdict}")?;

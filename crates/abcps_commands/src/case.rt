@@ -4,11 +4,12 @@
 //! between two. Words stand a space apart. Input, output and errors are names of files, or `-` for nothing; an
 //! input may also be made, as `50000 rests`.
 
+use crate::files::read_file;
 use crate::made::made;
 use crate::running::{Finished, Host, Stream};
 use abcps::Status;
 use std::alloc::{AllocError, Global};
-use std::{fs, io};
+use std::io;
 
 /// The field that stands for nothing.
 const NOTHING: &str = "-";
@@ -115,7 +116,7 @@ fn text_of<R: Host>(rt: &R, field: &str) -> io::Result<Vec<u8>> {
     if field == NOTHING {
         Ok(Vec::new(rt.alloc()))
     } else {
-        fs::read(rt, field)
+        read_file(rt, field)
     }
 }
 

@@ -2,12 +2,13 @@
 //! `programs` a line `budget N` stands before a program, and a line with a point alone behind it; the program is
 //! the lines between, joined by LF.
 
+use crate::files::read_file;
 use crate::running::Host;
 use mus_units::{Memory, Text};
 use paint_text::{put_halt, put_pages};
 use ps_machine::{MachineError, run_machine};
 use std::alloc::Global;
-use std::{fs, io};
+use std::io;
 
 /// What a run gives, as text.
 fn told(alloc: Global, program: &[u8], budget: u64) -> Result<Text, Memory> {
@@ -66,10 +67,10 @@ fn tell_programs<R: Host>(rt: &R, table: &[u8]) -> io::Result<()> {
 
 /// Runs the programs of the table `programs`, and documents.
 pub(crate) fn tell_painted<R: Host>(rt: &R) -> io::Result<()> {
-    let table = fs::read(rt, "programs")?;
+    let table = read_file(rt, "programs")?;
     tell_programs(rt, &table)?;
     for name in ["one-measure.ps", "every-mark.ps"] {
-        let document = fs::read(rt, name)?;
+        let document = read_file(rt, name)?;
         let budget = (document.len() as u64).saturating_mul(100);
         tell(rt, &document, budget)?;
     }

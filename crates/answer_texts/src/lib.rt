@@ -1,4 +1,4 @@
-//! What the programs of cases with texts share: the numbers of a case, what a layout is printed as,
+//! What the crates of cases with texts share: the numbers of a case, what a layout is printed as,
 //! and two that wait for each other.
 #![tactic(auto)]
 

@@ -1,4 +1,4 @@
-//! How the test programs write: a case on a line, bytes in visible ASCII, and the values that the lower
+//! How the crates of tests write: a case on a line, bytes in visible ASCII, and the values that the lower
 //! crates share, each in one form. Nothing here is promised; what is written is compared as a whole.
 #![tactic(auto)]
 

@@ -7,7 +7,7 @@ use std::io::Write;
 use std::rt::Files;
 use std::{fs, io};
 
-/// What a program of tests answers to its cases.
+/// What a crate of tests answers to its cases.
 pub trait Answers {
     /// Adds the value of a case's call on its input.
     fn put_answer(&self, out: &mut Report, case: Case<'_>, input: &[u8]) -> Result<(), Memory>;

@@ -1,4 +1,4 @@
-//! Draws and sets what the cases in `data/cases` call for, works on items by jobs, and prints each call's value
+//! Draws and sets what the cases in `setting/cases` call for, works on items by jobs, and prints each call's value
 //! as text. `calls` has the names.
 #![tactic(auto)]
 
@@ -24,6 +24,7 @@ use mus_stems::{beams_by_groups, no_other_plans, slopes_by_beams};
 use mus_units::{Memory, Text};
 use set_lists::{book_rises, breakings_of_listing, lists_the_set};
 use std::alloc::Global;
+use std::rt::Files;
 use std::thread::Threads;
 use std::{fs, io};
 
@@ -47,11 +48,12 @@ fn answer<R: Threads + Sync>(rt: &R, alloc: Global, text: &str) -> Result<Text, 
     told(alloc, line, b"\n", value.text.as_slice())
 }
 
-fn main(rt: HostRuntime) -> io::Result<()> {
+/// Tells each case.
+pub fn tell_setting<R: Files + Print + AllocGlobal + Threads + Sync>(rt: &R) -> io::Result<()> {
     state_laws();
-    let cases = fs::read_to_string(&rt, "cases")?;
+    let cases = fs::read_to_string(rt, "setting/cases")?;
     for text in cases.as_str().split("\n\n") {
-        put_out(&rt, answer(&rt, rt.alloc(), text))?;
+        put_out(rt, answer(rt, rt.alloc(), text))?;
     }
     Ok(())
 }

@@ -8,6 +8,7 @@
 mod books;
 mod case;
 mod failing;
+mod files;
 mod gates;
 mod made;
 mod painting;
@@ -16,11 +17,13 @@ mod running;
 use crate::books::tell_books;
 use crate::case::{named_case, verdict};
 use crate::failing::tell_failures;
+use crate::files::read_table;
 use crate::gates::ran_counted;
 use crate::painting::tell_painted;
 use crate::running::{Host, PIECE, Streams, ran};
-use std::process::ExitCode;
-use std::{fs, io};
+use std::io;
+use std::rt::Files;
+use std::thread::Threads;
 
 /// Tells a case over streams that never fail.
 fn tell_case<R: Host>(rt: &R, line: &str) -> io::Result<()> {
@@ -32,7 +35,7 @@ fn tell_case<R: Host>(rt: &R, line: &str) -> io::Result<()> {
 
 /// Tells each case of the table `cases`.
 fn tell_cases<R: Host>(rt: &R) -> io::Result<()> {
-    let table = fs::read_to_string(rt, "cases")?;
+    let table = read_table(rt, "cases")?;
     for line in table.lines() {
         tell_case(rt, line)?;
     }
@@ -47,7 +50,7 @@ fn tell_failing_case<R: Host>(rt: &R, line: &str) -> io::Result<()> {
 
 /// Tells each case of the table `failing`.
 fn tell_failing<R: Host>(rt: &R) -> io::Result<()> {
-    let table = fs::read_to_string(rt, "failing")?;
+    let table = read_table(rt, "failing")?;
     for line in table.lines() {
         tell_failing_case(rt, line)?;
     }
@@ -67,18 +70,18 @@ fn tell_gate<R: Host>(rt: &R, line: &str) -> io::Result<()> {
 
 /// Tells each case of the table `gates`.
 fn tell_gates<R: Host>(rt: &R) -> io::Result<()> {
-    let table = fs::read_to_string(rt, "gates")?;
+    let table = read_table(rt, "gates")?;
     for line in table.lines() {
         tell_gate(rt, line)?;
     }
     Ok(())
 }
 
-fn main(rt: HostRuntime) -> io::Result<ExitCode> {
-    tell_cases(&rt)?;
-    tell_failing(&rt)?;
-    tell_gates(&rt)?;
-    tell_books(&rt)?;
-    tell_painted(&rt)?;
-    Ok(ExitCode::from(0))
+/// Tells each case of the tables, of the books and of the painted programs.
+pub fn tell_commands<R: Files + AllocGlobal + Print + Threads + Sync>(rt: &R) -> io::Result<()> {
+    tell_cases(rt)?;
+    tell_failing(rt)?;
+    tell_gates(rt)?;
+    tell_books(rt)?;
+    tell_painted(rt)
 }

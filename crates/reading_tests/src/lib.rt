@@ -25,25 +25,27 @@ mod units;
 use crate::calls::Reading;
 use case_texts::tell_tables;
 use std::io;
+use std::rt::Files;
 
 /// The tables, in the order in which they are told.
 const TABLES: [&str; 14] = [
-    "books",
-    "music",
-    "spellings",
-    "fields",
-    "headers",
-    "papers",
-    "pitches",
-    "scores",
-    "faults",
-    "durations",
-    "columns",
-    "arcs",
-    "songs",
-    "moves",
+    "reading/books",
+    "reading/music",
+    "reading/spellings",
+    "reading/fields",
+    "reading/headers",
+    "reading/papers",
+    "reading/pitches",
+    "reading/scores",
+    "reading/faults",
+    "reading/durations",
+    "reading/columns",
+    "reading/arcs",
+    "reading/songs",
+    "reading/moves",
 ];
 
-fn main(rt: HostRuntime) -> io::Result<()> {
-    tell_tables(&rt, &Reading, &TABLES)
+/// Tells each case of the tables.
+pub fn tell_reading<R: Files + Print + AllocGlobal>(rt: &R) -> io::Result<()> {
+    tell_tables(rt, &Reading, &TABLES)
 }

@@ -1,4 +1,4 @@
-//! Makes the calls that the cases in `data/cases` name, and prints each call's value as text. `calls` has the names.
+//! Makes the calls that the cases in `layout/cases` name, and prints each call's value as text. `calls` has the names.
 #![tactic(auto)]
 
 mod blocks;
@@ -20,6 +20,7 @@ use crate::laws::state_laws;
 use case_texts::{Report, put_out, text_case, told};
 use mus_units::{Memory, Text};
 use std::alloc::Global;
+use std::rt::Files;
 use std::thread::Threads;
 use std::{fs, io};
 
@@ -31,11 +32,12 @@ fn answer<R: Threads + Sync>(rt: &R, alloc: Global, text: &str) -> Result<Text, 
     told(alloc, line, b"\n", value.text.as_slice())
 }
 
-fn main(rt: HostRuntime) -> io::Result<()> {
+/// Tells each case.
+pub fn tell_layout<R: Files + Print + AllocGlobal + Threads + Sync>(rt: &R) -> io::Result<()> {
     state_laws();
-    let cases = fs::read_to_string(&rt, "cases")?;
+    let cases = fs::read_to_string(rt, "layout/cases")?;
     for text in cases.as_str().split("\n\n") {
-        put_out(&rt, answer(&rt, rt.alloc(), text))?;
+        put_out(rt, answer(rt, rt.alloc(), text))?;
     }
     Ok(())
 }
