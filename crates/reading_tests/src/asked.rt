@@ -4,7 +4,7 @@ use crate::arcs::{put_arcs, put_piece};
 use crate::scores::{put_plainness, put_score};
 use crate::songs::{put_song, put_syllables};
 use crate::times::{put_durations, put_flats, put_keys, put_onsets};
-use crate::tunes::{crowded, tune_of};
+use crate::tunes::{Tune, crowded, tune_of};
 use case_texts::{Case, Report, number_of, put_fault};
 use mus_score::Score;
 use mus_transpose::moved_or_same;
@@ -25,7 +25,7 @@ pub(crate) fn put_asked_for(out: &mut Report, case: Case<'_>, input: &[u8]) -> R
 /// Adds the value of a call on the score of a tune, or the fault of the tune.
 fn put_answer_on_tune(out: &mut Report, case: Case<'_>, input: &[u8]) -> Result<(), Memory> {
     match tune_of(out.alloc, input, case.word == "flow") {
-        Ok((_, score)) => put_asked(out, case, &score),
+        Ok(tune) => put_asked(out, case, &tune.score),
         Err(error) => put_fault(out, error),
     }
 }
@@ -48,7 +48,12 @@ fn put_asked(out: &mut Report, case: Case<'_>, score: &Score) -> Result<(), Memo
 /// Adds whether a tune has a score where `@` stands for so many chords, or its fault.
 fn put_crowd(out: &mut Report, word: &str, input: &[u8]) -> Result<(), Memory> {
     let book = crowded(out.alloc, number_of(word), input)?;
-    match tune_of(out.alloc, book.as_slice(), false) {
+    put_score_or_fault(out, book.as_slice())
+}
+
+/// Adds whether a tune has a score, or its fault.
+fn put_score_or_fault(out: &mut Report, book: &[u8]) -> Result<(), Memory> {
+    match tune_of(out.alloc, book, false) {
         Ok(_) => out.append(b"a score"),
         Err(error) => put_fault(out, error),
     }
@@ -56,12 +61,17 @@ fn put_crowd(out: &mut Report, word: &str, input: &[u8]) -> Result<(), Memory> {
 
 /// Adds the score of a tune moved by so many semitones, or that it can't be moved, or its fault.
 fn put_moved(out: &mut Report, word: &str, input: &[u8]) -> Result<(), Memory> {
-    let by = word.parse::<i8>().unwrap_or(0);
     match tune_of(out.alloc, input, false) {
-        Ok((header, score)) => match moved_or_same(out.alloc, score, &header.key, by)? {
-            Some(score) => put_score(out, &score),
-            None => out.append(b"no move"),
-        },
+        Ok(tune) => put_moved_tune(out, tune, word.parse::<i8>().unwrap_or(0)),
         Err(error) => put_fault(out, error),
+    }
+}
+
+fn put_moved_tune(out: &mut Report, tune: Tune, by: i8) -> Result<(), Memory>
+    requires { IsGoodScore tune.score }
+{
+    match moved_or_same(out.alloc, tune.score, &tune.key, by)? {
+        Some(score) => put_score(out, &score),
+        None => out.append(b"no move"),
     }
 }

@@ -1,6 +1,6 @@
 ghost use Rattle.{std.specs.Prelude.{IfOk}, abc_lines.specs.Good.{IsGoodBook, IsGoodLine}};
 
-use abc_lines::{Book, Line, LineKind, cut_book, field_text, kind_of};
+use abc_lines::{Book, Line, LineKind, TuneText, cut_book, field_text, kind_of};
 use case_texts::{Report, within_limit};
 use mus_units::{Memory, Text};
 use std::alloc::Global;
@@ -27,7 +27,11 @@ pub(crate) fn line_of(alloc: Global, bytes: &[u8]) -> Result<Line, Memory>
 pub(crate) fn put_book(out: &mut Report, bytes: &[u8]) -> Result<(), Memory> {
     let book = book_of(out.alloc, bytes)?;
     put_lines(out, book.header.as_slice())?;
-    for tune in book.tunes.as_slice() {
+    put_tunes(out, book.tunes.as_slice())
+}
+
+fn put_tunes(out: &mut Report, tunes: &[TuneText]) -> Result<(), Memory> {
+    for tune in tunes {
         out.line_number(b"#", tune.ordinal)?;
         put_lines(out, tune.lines.as_slice())?;
     }

@@ -15,21 +15,28 @@ pub(crate) struct Reading;
 impl Answers for Reading {
     fn put_answer(&self, out: &mut Report, case: Case<'_>, input: &[u8]) -> Result<(), Memory> {
         match case.call {
-            "cut_book" => put_book(out, input),
-            "kind_of" => put_line_kind(out, input),
-            "field_text" => put_field_text(out, input),
             "read_music" => put_music(out, case.word, input),
             "read_front" => put_front(out, case.word, input),
             "read_part" => put_line_parts(out, case.word, input),
             "spell" => put_spelling(out, case.word, input),
-            "read_field" => put_field_of_line(out, input),
-            "read_named" => put_named_field(out, case.word, input),
-            "read_defaults" => put_defaults_of_book(out, input),
-            "read_header" => put_headers_of_book(out, input),
-            "read_paper" => put_paper_of_book(out, input),
-            "body_of" => put_body_of_book(out, input),
-            _ => put_value(out, case, input),
+            _ => put_lines(out, case, input),
         }
+    }
+}
+
+/// Adds the value of a call that reads books, fields or headers.
+fn put_lines(out: &mut Report, case: Case<'_>, input: &[u8]) -> Result<(), Memory> {
+    match case.call {
+        "cut_book" => put_book(out, input),
+        "kind_of" => put_line_kind(out, input),
+        "field_text" => put_field_text(out, input),
+        "read_field" => put_field_of_line(out, input),
+        "read_named" => put_named_field(out, case.word, input),
+        "read_defaults" => put_defaults_of_book(out, input),
+        "read_header" => put_headers_of_book(out, input),
+        "read_paper" => put_paper_of_book(out, input),
+        "body_of" => put_body_of_book(out, input),
+        _ => put_value(out, case, input),
     }
 }
 

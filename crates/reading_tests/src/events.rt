@@ -8,15 +8,23 @@ pub(crate) fn put_event(out: &mut Report, kind: &[u8], event: &Event) -> Result<
     out.line_number(kind, event.id)?;
     out.next(look_name(event.look))?;
     put_heads(out, event.heads.as_slice())?;
+    put_length(out, event)?;
+    put_changes(out, &event.changes)?;
+    put_marks(out, event)?;
+    put_slurs(out, event)?;
+    put_words(out, event.words.as_slice())
+}
+
+fn put_length(out: &mut Report, event: &Event) -> Result<(), Memory> {
     out.next(b"")?;
     put_value(out, event.value)?;
     out.tell(event.ticks)?;
-    out.flag(event.parted, b"parted")?;
-    put_changes(out, &event.changes)?;
-    put_marks(out, event)?;
+    out.flag(event.parted, b"parted")
+}
+
+fn put_slurs(out: &mut Report, event: &Event) -> Result<(), Memory> {
     put_count(out, b"begins ", event.begins)?;
-    put_count(out, b"ends ", event.ends)?;
-    put_words(out, event.words.as_slice())
+    put_count(out, b"ends ", event.ends)
 }
 
 fn look_name(look: Look) -> &'static [u8] {

@@ -1,14 +1,21 @@
 use crate::books::line_of;
 use abc_fields::{Breaks, Field, FieldError, KeyText, VoiceDef, read_field, read_named};
+use abc_lines::{FaultKind, TuneError};
 use case_texts::{
     Report, put_clef, put_fault, put_frac, put_kind, put_meter, put_signs, put_spread, put_text,
     put_wish,
 };
 use mus_units::Memory;
+use std::alloc::Global;
+
+/// What a line says.
+fn field_of(alloc: Global, bytes: &[u8]) -> Result<Field, TuneError> {
+    read_field(alloc, &line_of(alloc, bytes)?)
+}
 
 /// Adds what a line says, or its fault.
 pub(crate) fn put_field_of_line(out: &mut Report, bytes: &[u8]) -> Result<(), Memory> {
-    match read_field(out.alloc, &line_of(out.alloc, bytes)?) {
+    match field_of(out.alloc, bytes) {
         Ok(field) => put_field(out, &field),
         Err(error) => put_fault(out, error),
     }
@@ -19,12 +26,14 @@ pub(crate) fn put_named_field(out: &mut Report, word: &str, bytes: &[u8]) -> Res
     let letter = word.as_bytes().first().copied().unwrap_or(b'?');
     match read_named(out.alloc, letter, bytes) {
         Ok(field) => put_field(out, &field),
-        Err(FieldError::Fault(kind)) => {
-            out.append(b"fault ")?;
-            put_kind(out, kind)
-        }
+        Err(FieldError::Fault(kind)) => put_kind_of_fault(out, kind),
         Err(FieldError::Memory) => Err(Memory),
     }
+}
+
+fn put_kind_of_fault(out: &mut Report, kind: FaultKind) -> Result<(), Memory> {
+    out.append(b"fault ")?;
+    put_kind(out, kind)
 }
 
 fn put_field(out: &mut Report, field: &Field) -> Result<(), Memory> {

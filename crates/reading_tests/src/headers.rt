@@ -11,7 +11,11 @@ use mus_units::{Memory, Row, Text};
 
 /// Adds what a book's file header sets for every tune.
 pub(crate) fn put_defaults_of_book(out: &mut Report, bytes: &[u8]) -> Result<(), Memory> {
-    let defaults = read_defaults(out.alloc, &book_of(out.alloc, bytes)?)?;
+    let book = book_of(out.alloc, bytes)?;
+    put_defaults(out, &read_defaults(out.alloc, &book)?)
+}
+
+fn put_defaults(out: &mut Report, defaults: &Defaults) -> Result<(), Memory> {
     put_meter(out, defaults.meter)?;
     if let Some(unit) = defaults.unit {
         put_frac(out, b"unit", unit)?;
@@ -34,8 +38,14 @@ fn put_staves(out: &mut Report, staves: &Option<Line>) -> Result<(), Memory> {
 pub(crate) fn put_headers_of_book(out: &mut Report, bytes: &[u8]) -> Result<(), Memory> {
     let book = book_of(out.alloc, bytes)?;
     let defaults = read_defaults(out.alloc, &book)?;
-    for tune in book.tunes.as_slice() {
-        put_header_of_tune(out, tune, &defaults)?;
+    put_headers(out, book.tunes.as_slice(), &defaults)
+}
+
+fn put_headers(out: &mut Report, tunes: &[TuneText], defaults: &Defaults) -> Result<(), Memory>
+    requires { IsGoodDefaults defaults.now }
+{
+    for tune in tunes {
+        put_header_of_tune(out, tune, defaults)?;
     }
     Ok(())
 }
@@ -59,6 +69,10 @@ fn put_header(out: &mut Report, header: &Header) -> Result<(), Memory> {
     put_frac(out, b"unit", header.unit)?;
     put_voices(out, header.voices.as_slice())?;
     put_head_texts(out, header)?;
+    put_layout(out, header)
+}
+
+fn put_layout(out: &mut Report, header: &Header) -> Result<(), Memory> {
     put_breaks(out, header.breaks)?;
     put_spread(out, header.spread)?;
     put_staves(out, &header.staves)?;

@@ -1,8 +1,10 @@
+ghost use Rattle.{abc_lines.specs.Good.{IsGoodLine}, abc_tokens.specs.Tokens.{IsWithin}};
+
 use crate::books::line_of;
 use crate::tokens::put_tokens;
-use abc_lines::{Fault, TuneError};
+use abc_lines::{Fault, Line, TuneError};
 use abc_spell::spell;
-use abc_tokens::{Behind, Placed, Token, read_front, read_music, read_part, start};
+use abc_tokens::{Behind, Place, Placed, Token, read_front, read_music, read_part, start};
 use case_texts::{Report, number_of, put_fault};
 use mus_units::{Memory, Row, Text};
 use std::alloc::Global;
@@ -12,9 +14,14 @@ fn is_bang(word: &str) -> bool {
     word == "bang"
 }
 
+/// The tokens of a music line.
+fn music_of(alloc: Global, word: &str, bytes: &[u8]) -> Result<Row<Placed>, TuneError> {
+    read_music(alloc, &line_of(alloc, bytes)?, is_bang(word))
+}
+
 /// Adds the tokens of a music line, or its fault.
 pub(crate) fn put_music(out: &mut Report, word: &str, bytes: &[u8]) -> Result<(), Memory> {
-    match read_music(out.alloc, &line_of(out.alloc, bytes)?, is_bang(word)) {
+    match music_of(out.alloc, word, bytes) {
         Ok(tokens) => put_tokens(out, tokens.as_slice()),
         Err(error) => put_fault(out, error),
     }
@@ -41,16 +48,26 @@ fn put_end(out: &mut Report, fault: Option<Fault>) -> Result<(), Memory> {
 /// and then those of the second, or the fault.
 pub(crate) fn put_line_parts(out: &mut Report, times: &str, bytes: &[u8]) -> Result<(), Memory> {
     let text = repeated(out.alloc, number_of(times), bytes)?;
-    let line = line_of(out.alloc, text.as_slice())?;
-    let first = read_part(out.alloc, &line, false, start(&line))?;
+    put_parts(out, &line_of(out.alloc, text.as_slice())?)
+}
+
+fn put_parts(out: &mut Report, line: &Line) -> Result<(), Memory>
+    requires { IsGoodLine line.now }
+{
+    let first = read_part(out.alloc, line, false, start(line))?;
     out.show(first.tokens.len())?;
     match first.behind {
-        Behind::More(place) => {
-            let second = read_part(out.alloc, &line, false, place)?;
-            put_tokens(out, second.tokens.as_slice())
-        }
+        Behind::More(place) => put_part(out, line, place),
         Behind::End(fault) => put_end(out, fault),
     }
+}
+
+fn put_part(out: &mut Report, line: &Line, place: Place<'_>) -> Result<(), Memory>
+    requires line { IsGoodLine line.now }
+    requires place { IsWithin line.now place }
+{
+    let part = read_part(out.alloc, line, false, place)?;
+    put_tokens(out, part.tokens.as_slice())
 }
 
 fn repeated(alloc: Global, times: u64, bytes: &[u8]) -> Result<Text, Memory> {
@@ -63,13 +80,14 @@ fn repeated(alloc: Global, times: u64, bytes: &[u8]) -> Result<Text, Memory> {
 
 /// Adds the plain spelling of the tokens of a music line, or its fault.
 pub(crate) fn put_spelling(out: &mut Report, word: &str, bytes: &[u8]) -> Result<(), Memory> {
-    match read_music(out.alloc, &line_of(out.alloc, bytes)?, is_bang(word)) {
-        Ok(placed) => {
-            let tokens = tokens_of(out.alloc, placed)?;
-            out.append(spell(out.alloc, tokens.as_slice())?.as_slice())
-        }
+    match music_of(out.alloc, word, bytes) {
+        Ok(placed) => put_spelled(out, tokens_of(out.alloc, placed)?.as_slice()),
         Err(error) => put_fault(out, error),
     }
+}
+
+fn put_spelled(out: &mut Report, tokens: &[Token]) -> Result<(), Memory> {
+    out.append(spell(out.alloc, tokens)?.as_slice())
 }
 
 fn tokens_of(alloc: Global, placed: Row<Placed>) -> Result<Vec<Token>, Memory> {

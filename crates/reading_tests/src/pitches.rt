@@ -1,10 +1,12 @@
+ghost use Rattle.mus_units.specs.Good.{IsGoodKey};
+
 use crate::books::line_of;
 use abc_fields::directive::read_spread;
 use abc_fields::key::read_key;
 use abc_tokens::{Head, Placed, Token, read_front};
 use case_texts::{Report, alter_name, alter_named, clef_named, letter_named, put_signs};
 use mus_pitch::{Mode, in_force, key_of, lay, signature};
-use mus_units::{Memory, Row, Spread, height};
+use mus_units::{Key, Memory, Row, Sign, Spread, height};
 use std::alloc::Global;
 
 /// Adds the height of the first note of a line in a clef.
@@ -19,8 +21,12 @@ pub(crate) fn put_height(out: &mut Report, word: &str, bytes: &[u8]) -> Result<(
 /// The heads of the notes of a line.
 fn heads_of(alloc: Global, bytes: &[u8]) -> Result<Row<Head>, Memory> {
     let front = read_front(alloc, &line_of(alloc, bytes)?, false)?;
+    heads_in(alloc, front.tokens.as_slice())
+}
+
+fn heads_in(alloc: Global, tokens: &[Placed]) -> Result<Row<Head>, Memory> {
     let mut heads = Row::new(alloc);
-    for placed in front.tokens.as_slice() {
+    for placed in tokens {
         if let Some(head) = head_of(placed) {
             heads.push(head)?;
         }
@@ -70,10 +76,16 @@ pub(crate) fn put_key(out: &mut Report, sharps: &str) -> Result<(), Memory> {
 /// Adds the key of a number of sharps with further signs laid on it, such as `=F _B`.
 pub(crate) fn put_laid_key(out: &mut Report, sharps: &str, signs: &[u8]) -> Result<(), Memory> {
     let key = key_of(out.alloc, sharps_of(sharps))?;
-    let Some(text) = read_key(out.alloc, signs)? else {
-        return out.append(b"no signs");
-    };
-    let laid = lay(out.alloc, &key, text.adds.as_slice())?;
+    match read_key(out.alloc, signs)? {
+        Some(text) => put_laid(out, &key, text.adds.as_slice()),
+        None => out.append(b"no signs"),
+    }
+}
+
+fn put_laid(out: &mut Report, key: &Key, adds: &[Sign]) -> Result<(), Memory>
+    requires { IsGoodKey key.now }
+{
+    let laid = lay(out.alloc, key, adds)?;
     put_signs(out, b"key", laid.signs.as_slice())
 }
 
@@ -83,10 +95,18 @@ pub(crate) fn put_alteration(out: &mut Report, word: &str, bytes: &[u8]) -> Resu
     let (reach, sharps) = word.split_once(" ").unwrap_or((word, "0"));
     let spread = read_spread(reach.as_bytes()).unwrap_or(Spread::Pitch);
     let key = key_of(out.alloc, sharps_of(sharps))?;
-    let heads = heads_of(out.alloc, bytes)?;
-    match heads.as_slice().split_last() {
+    put_last_alteration(out, heads_of(out.alloc, bytes)?.as_slice(), spread, &key)
+}
+
+fn put_last_alteration(
+    out: &mut Report,
+    heads: &[Head],
+    spread: Spread,
+    key: &Key,
+) -> Result<(), Memory> {
+    match heads.split_last() {
         Some((head, said)) => out.append(alter_name(in_force(
-            head.pitch, head.sign, said, spread, &key,
+            head.pitch, head.sign, said, spread, key,
         ))),
         None => out.append(b"none"),
     }

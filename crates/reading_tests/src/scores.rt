@@ -20,13 +20,17 @@ fn put_head(out: &mut Report, score: &Score) -> Result<(), Memory> {
     put_spread(out, score.spread)
 }
 
-fn put_voice(out: &mut Report, voice: &Voice) -> Result<(), Memory> {
+fn put_opening(out: &mut Report, voice: &Voice) -> Result<(), Memory> {
     out.line(b"voice ")?;
     out.append(voice.id.as_slice())?;
     put_clef(out, voice.clef)?;
     put_signs(out, b"key", voice.key.signs.as_slice())?;
     put_meter(out, voice.meter)?;
-    put_wish(out, voice.stem)?;
+    put_wish(out, voice.stem)
+}
+
+fn put_voice(out: &mut Report, voice: &Voice) -> Result<(), Memory> {
+    put_opening(out, voice)?;
     out.next_number(b"verses ", voice.verses)?;
     out.next(b"first:")?;
     put_bar(out, voice.first)?;

@@ -30,7 +30,11 @@ pub(crate) fn put_song(out: &mut Report, word: &str, words: &[u8]) -> Result<(),
     let notes = notes_of(out.alloc, word.as_bytes())?;
     let syllables = syllables(out.alloc, words)?;
     let sung = align(out.alloc, syllables.as_slice(), notes.as_slice())?;
-    for one in sung.as_slice() {
+    put_all_sung(out, sung.as_slice())
+}
+
+fn put_all_sung(out: &mut Report, sung: &[Sung]) -> Result<(), Memory> {
+    for one in sung {
         put_sung(out, one)?;
     }
     Ok(())

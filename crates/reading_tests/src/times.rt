@@ -94,8 +94,11 @@ fn put_node_duration(out: &mut Report, node: &[Music]) -> Result<(), Memory> {
 pub(crate) fn put_onsets(out: &mut Report, score: &Score) -> Result<(), Memory>
     requires { IsGoodScore score.now }
 {
-    let times = onsets(out.alloc, score)?;
-    put_ticks(out, &times)?;
+    put_timeline(out, &onsets(out.alloc, score)?)
+}
+
+fn put_timeline(out: &mut Report, times: &Timeline) -> Result<(), Memory> {
+    put_ticks(out, times)?;
     out.line(b"lengths")?;
     out.tell_all(times.lengths.as_slice())
 }

@@ -14,25 +14,16 @@ pub(crate) fn put_tokens(out: &mut Report, tokens: &[Placed]) -> Result<(), Memo
 
 fn put_token(out: &mut Report, token: &Token) -> Result<(), Memory> {
     match token {
-        Token::Note { head, len } => {
-            out.push(b'n')?;
-            put_head(out, *head)?;
-            put_len(out, *len)
-        }
-        Token::Rest { seen, len } => {
-            out.push(if *seen { b'z' } else { b'x' })?;
-            put_len(out, *len)
-        }
+        Token::Note { head, len } => put_note(out, *head, *len),
+        Token::Rest { seen, len } => put_rest(out, *seen, *len),
         Token::Measures { seen, count } => {
-            out.push(if *seen { b'Z' } else { b'X' })?;
-            out.show(*count)
+            out.show(format_args!("{}{count}", if *seen { 'Z' } else { 'X' }))
         }
         Token::Chord(chord) => put_chord(out, chord.get()),
         Token::Grace { slash, body } => put_grace(out, *slash, body.as_slice()),
         Token::Tuplet { p, q, r } => out.show(format_args!("t{p}:{q}:{r}")),
         Token::Broken { right, dots } => {
-            out.push(if *right { b'>' } else { b'<' })?;
-            out.show(*dots)
+            out.show(format_args!("{}{dots}", if *right { '>' } else { '<' }))
         }
         Token::Deco(deco) => {
             out.push(b'd')?;
@@ -40,6 +31,17 @@ fn put_token(out: &mut Report, token: &Token) -> Result<(), Memory> {
         }
         _ => put_plain(out, token),
     }
+}
+
+fn put_note(out: &mut Report, head: Head, len: Len) -> Result<(), Memory> {
+    out.push(b'n')?;
+    put_head(out, head)?;
+    put_len(out, len)
+}
+
+fn put_rest(out: &mut Report, seen: bool, len: Len) -> Result<(), Memory> {
+    out.push(if seen { b'z' } else { b'x' })?;
+    put_len(out, len)
 }
 
 /// Adds a token that is a mark or a text alone.

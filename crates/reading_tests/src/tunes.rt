@@ -1,6 +1,6 @@
 ghost use Rattle.{std.specs.Prelude.{IfOk}, abc_lines.specs.Good.{IsGoodTune}, abc_header.specs.Good.{IsGoodDefaults}, mus_score.specs.GoodScore.{IsGoodScore}};
 
-use abc_header::{Defaults, Header, read_defaults, read_header};
+use abc_header::{Defaults, Key, read_defaults, read_header};
 use abc_lines::{TuneError, TuneText, cut_book};
 use abc_score::build;
 use case_texts::within_limit;
@@ -8,25 +8,34 @@ use mus_score::Score;
 use mus_units::{Memory, Text};
 use std::alloc::Global;
 
+/// A tune that is read: the key of its header, and its score.
+#[derive(Drop)]
+pub(crate) struct Tune {
+    pub(crate) key: Key,
+    pub(crate) score: Score,
+}
+
 fn read_tune(
     alloc: Global,
     tune: &TuneText,
     defaults: &Defaults,
     flow: bool,
-) -> Result<(Header, Score), TuneError>
+) -> Result<Tune, TuneError>
     requires tune { IsGoodTune tune.now }
     requires defaults { IsGoodDefaults defaults.now }
-    ensures { IfOk result (λ read. IsGoodScore read.1) }
+    ensures { IfOk result (λ read. IsGoodScore read.score) }
 {
     let header = read_header(alloc, tune, defaults)?;
     let score = build(alloc, &header, tune, flow)?;
-    Ok((header, score))
+    Ok(Tune {
+        key: header.key,
+        score,
+    })
 }
 
-/// The header and the score of the first tune of a book; a book without a tune answers as if memory
-/// were short.
-pub(crate) fn tune_of(alloc: Global, bytes: &[u8], flow: bool) -> Result<(Header, Score), TuneError>
-    ensures { IfOk result (λ read. IsGoodScore read.1) }
+/// The first tune of a book; a book without a tune answers as if memory were short.
+pub(crate) fn tune_of(alloc: Global, bytes: &[u8], flow: bool) -> Result<Tune, TuneError>
+    ensures { IfOk result (λ read. IsGoodScore read.score) }
 {
     let Ok(book) = cut_book(alloc, within_limit(bytes)) else {
         return Err(TuneError::Memory);
