@@ -5,7 +5,8 @@ ghost use Rattle.{std.specs.Prelude.{All}, mus_laid.specs.Boxes.{AreGoodMarks}};
 use crate::marks::put_laid;
 use case_texts::Report;
 use mus_laid::{
-    Laid, StaffMarks, SystemMarks, heights_of, printed, printed_within, sides_of, staff_heights,
+    Laid, Sides, StaffMarks, SystemMarks, heights_of, printed, printed_within, sides_of,
+    staff_heights,
 };
 use mus_units::Memory;
 
@@ -16,13 +17,17 @@ fn put_boxes(out: &mut Report, marks: &[Laid]) -> Result<(), Memory>
         let heights = heights_of(&laid.mark);
         put_laid(out, laid)?;
         out.tell(format_args!("box {} {}", heights.low, heights.high))?;
-        match sides_of(&laid.mark) {
-            Some(sides) => out.tell_all(&[sides.left, sides.right])?,
-            None => out.next(b"without sides")?,
-        }
-        out.end_line()?;
+        put_sides(out, sides_of(&laid.mark))?;
     }
     Ok(())
+}
+
+fn put_sides(out: &mut Report, sides: Option<Sides>) -> Result<(), Memory> {
+    match sides {
+        Some(sides) => out.tell_all(&[sides.left, sides.right])?,
+        None => out.next(b"without sides")?,
+    }
+    out.end_line()
 }
 
 /// Adds for each staff a line of its heights and one for each mark, with the heights of its box and how far

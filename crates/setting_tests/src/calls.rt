@@ -102,19 +102,33 @@ fn put_named<R: Threads + Sync>(
 ) -> Result<(), Memory>
     requires { IsGoodScore score.now }
 {
-    let (a, b) = (count_at(numbers, 0), count_at(numbers, 1));
     match call {
         "voices" => put_drawn_voices(out, score),
+        "sounds" => put_sounding(out, score),
+        "plans" => put_score_plans(out, score),
+        "slope" => put_slopes(out, score, numbers.as_slice()),
+        "layout" => put_score_layout(rt, out, score, count_at(numbers, 0), false),
+        "systems" => put_score_layout(rt, out, score, count_at(numbers, 0), true),
+        _ => put_of_measures(out, score, call, numbers),
+    }
+}
+
+/// The value of the call of a name on the measures that the first two of the numbers tell.
+fn put_of_measures(
+    out: &mut Report,
+    score: &Score,
+    call: &str,
+    numbers: &Row<i64>,
+) -> Result<(), Memory>
+    requires { IsGoodScore score.now }
+{
+    let (a, b) = (count_at(numbers, 0), count_at(numbers, 1));
+    match call {
         "marks" => put_marks(out, score, a, b, false),
         "boxes" => put_marks(out, score, a, b, true),
         "columns" => put_system_columns(out, score, a, b),
         "measure" => put_measure_columns(out, score, a, b),
-        "sounds" => put_sounding(out, score),
-        "plans" => put_score_plans(out, score),
-        "slope" => put_slopes(out, score, numbers.as_slice()),
         "tilt" => put_tilted(out, score, a, b, behind_two(numbers.as_slice())),
-        "layout" => put_score_layout(rt, out, score, a, false),
-        "systems" => put_score_layout(rt, out, score, a, true),
         _ => out.next(b"no such call\n"),
     }
 }
@@ -159,12 +173,18 @@ fn put_system_columns(out: &mut Report, score: &Score, a: u32, b: u32) -> Result
         return out.next(b"other staves\n");
     }
     let columns = columns(alloc, &system, &times, verses.as_slice())?;
-    put_columns(out, columns.as_slice())?;
     let gaps = gaps_of(alloc, verses.as_slice())?;
+    put_placed_columns(out, columns.as_slice(), gaps.as_slice())
+}
+
+fn put_placed_columns(out: &mut Report, columns: &[Column], gaps: &[u32]) -> Result<(), Memory>
+    requires { (lane : ℕ) → lane < length gaps.now → slice_index gaps.now lane ≤ 2 ^ 20 }
+{
+    put_columns(out, columns)?;
     out.next(b"gaps")?;
-    out.tell_all(gaps.as_slice())?;
+    out.tell_all(gaps)?;
     out.end_line()?;
-    put_places(out, columns.as_slice(), gaps.as_slice())
+    put_places(out, columns, gaps)
 }
 
 /// The least places of columns at force 256.

@@ -126,15 +126,23 @@ fn put_counted<R: Threads + Sync>(
     };
     let items: [usize; 4] = [0, 1, 2, 3];
     match work_all(rt, out.alloc, &items, jobs, &counted) {
-        Ok(outcomes) => {
-            out.tell_all(outcomes.as_slice())?;
-            for calls in &counted.calls {
-                out.tell(calls.load(SeqCst))?;
-            }
-        }
+        Ok(outcomes) => put_outcomes(out, outcomes.as_slice(), &counted.calls)?,
         Err(Memory) => out.next(b"no memory")?,
     }
     out.end_line()
+}
+
+/// Adds outcomes, and how often each item was worked on.
+fn put_outcomes(
+    out: &mut Report,
+    outcomes: &[usize],
+    calls: &[AtomicU64; 4],
+) -> Result<(), Memory> {
+    out.tell_all(outcomes)?;
+    for count in calls {
+        out.tell(count.load(SeqCst))?;
+    }
+    Ok(())
 }
 
 /// The value of a call on items by a number of jobs: `squares J`; `through J K`, where K outcomes can be taken; and

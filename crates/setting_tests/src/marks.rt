@@ -4,7 +4,7 @@ use crate::books::size_name;
 use case_texts::{Report, put_key};
 use glyph_paths::name_of;
 use mus_laid::{Laid, Lane, Mark, StaffMarks, SystemMarks};
-use mus_units::{Memory, Way};
+use mus_units::{Glyph, Memory, Size, Text, Way};
 
 fn way_name(way: Way) -> &'static str {
     match way {
@@ -25,6 +25,35 @@ fn put_lane(out: &mut Report, lane: Lane) -> Result<(), Memory> {
     }
 }
 
+fn put_glyph(out: &mut Report, glyph: Glyph, rank: u32, dx: i32, dy: i32) -> Result<(), Memory> {
+    out.next(b"glyph")?;
+    out.next(name_of(glyph))?;
+    out.tell(format_args!("{rank} {dx} {dy}"))
+}
+
+fn put_words(
+    out: &mut Report,
+    size: Size,
+    rank: u32,
+    dx: i32,
+    dy: i32,
+    text: &Text,
+) -> Result<(), Memory> {
+    out.tell(format_args!("{} {rank} {dx} {dy}", size_name(size)))?;
+    out.next(text.as_slice())
+}
+
+fn put_beam(
+    out: &mut Report,
+    way: Way,
+    first: u32,
+    last: u32,
+    from: i32,
+    to: i32,
+) -> Result<(), Memory> {
+    out.tell(format_args!("beam {} {first} {last} {from} {to}", way_name(way)))
+}
+
 /// Adds a mark: its kind, its ranks, and its places in u.
 fn put_mark(out: &mut Report, mark: &Mark) -> Result<(), Memory> {
     match mark {
@@ -33,21 +62,14 @@ fn put_mark(out: &mut Report, mark: &Mark) -> Result<(), Memory> {
             rank,
             dx,
             dy,
-        } => {
-            out.next(b"glyph")?;
-            out.next(name_of(*glyph))?;
-            out.tell(format_args!("{rank} {dx} {dy}"))
-        }
+        } => put_glyph(out, *glyph, *rank, *dx, *dy),
         Mark::Words {
             size,
             rank,
             dx,
             dy,
             text,
-        } => {
-            out.tell(format_args!("{} {rank} {dx} {dy}", size_name(*size)))?;
-            out.next(text.as_slice())
-        }
+        } => put_words(out, *size, *rank, *dx, *dy, text),
         Mark::Stem { rank, dx, from, to } => {
             out.tell(format_args!("stem {rank} {dx} {from} {to}"))
         }
@@ -57,10 +79,7 @@ fn put_mark(out: &mut Report, mark: &Mark) -> Result<(), Memory> {
             last,
             from,
             to,
-        } => {
-            let way = way_name(*way);
-            out.tell(format_args!("beam {way} {first} {last} {from} {to}"))
-        }
+        } => put_beam(out, *way, *first, *last, *from, *to),
         Mark::Arc {
             first,
             last,
