@@ -54,20 +54,26 @@ fn are_good_staves(staves: &[StaffMarks]) -> bool
 
 /// Staves under one another.
 pub(crate) fn put_stack(out: &mut Report, text: &str) -> Result<(), Memory> {
-    let alloc = out.alloc;
     let system = SystemMarks {
         a: 0,
         b: 1,
-        keys: Row::new(alloc),
-        staves: staves_of(alloc, text)?,
+        keys: Row::new(out.alloc),
+        staves: staves_of(out.alloc, text)?,
     };
     if system.staves.len() > 16 || !are_good_staves(system.staves.as_slice()) {
         return out.next(b"no staves\n");
     }
-    let gaps = gaps_of(alloc, text)?;
-    match gaps.as_slice() {
+    put_stacked(out, &system, gaps_of(out.alloc, text)?.as_slice())
+}
+
+/// The staves of a system under one another by these gaps, of which the first says nothing.
+fn put_stacked(out: &mut Report, system: &SystemMarks, gaps: &[u32]) -> Result<(), Memory>
+    requires few { length system.now.staves ≤ 16 }
+    requires good { AreGoodStaves system.now.staves }
+{
+    match gaps {
         [_, between @ ..] if between.len() + 1 == system.staves.len() => {
-            put_heights(out, &stack(alloc, &system, between)?)
+            put_heights(out, &stack(out.alloc, system, between)?)
         }
         _ => out.next(b"no staves\n"),
     }

@@ -47,7 +47,7 @@ fn put_layout_call(out: &mut Report, case: Case<'_>) -> Result<(), Memory> {
     }
 }
 
-/// The value of a call on pages, on streams or on words.
+/// The value of a call on pages.
 fn put_page_call(out: &mut Report, case: Case<'_>) -> Result<(), Memory> {
     match case.call {
         "glyphs" => put_glyphs(out),
@@ -58,6 +58,13 @@ fn put_page_call(out: &mut Report, case: Case<'_>) -> Result<(), Memory> {
         "page" => put_pages(out, true, case.input),
         "pages" => put_pages(out, false, case.input),
         "hear" => put_hearing(out, case.word, case.input),
+        _ => put_stream_call(out, case),
+    }
+}
+
+/// The value of a call on streams or on words.
+fn put_stream_call(out: &mut Report, case: Case<'_>) -> Result<(), Memory> {
+    match case.call {
         "source" => put_source(out, case.word, case.input),
         "sink" => put_sink(out, case.word, case.input),
         "streams" => put_streams(out, case.input),

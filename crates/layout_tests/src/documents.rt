@@ -3,7 +3,8 @@
 ghost use Rattle.std.specs.Prelude.{◌≡◌, []};
 
 use crate::ops::put_mark_line;
-use answer_texts::{bytes_of, count_at, number_at, numbers_of};
+use crate::streams::sink_of;
+use answer_texts::{bytes_of, count_at, numbers_of};
 use case_texts::Report;
 use eng_io::MemSink;
 use mus_units::{Memory, Row, Text};
@@ -17,7 +18,7 @@ use std::slice::from_ref;
 const END_OF_PROLOG: &[u8] = b"%%EndProlog\n";
 
 /// The paper of the documents that are written and read.
-pub(crate) fn paper() -> Frame
+fn paper() -> Frame
     ensures { result ≡ record { wide = 595; high = 842; left = 5100; bottom = 2800; scale = 100 } }
 {
     Frame {
@@ -37,17 +38,22 @@ fn empty_page(alloc: Global) -> Page
     }
 }
 
-/// The text of a document of one empty page on the paper of these numbers.
-pub(crate) fn put_document(out: &mut Report, words: &str) -> Result<(), Memory> {
-    let alloc = out.alloc;
+/// The paper of these numbers.
+fn paper_of(alloc: Global, words: &str) -> Result<Frame, Memory> {
     let numbers = numbers_of(alloc, words)?;
-    let frame = Frame {
+    Ok(Frame {
         wide: count_at(&numbers, 0),
         high: count_at(&numbers, 1),
         left: count_at(&numbers, 2),
         bottom: count_at(&numbers, 3),
         scale: u16::try_from(count_at(&numbers, 4)).unwrap_or(0),
-    };
+    })
+}
+
+/// The text of a document of one empty page on the paper of these numbers.
+pub(crate) fn put_document(out: &mut Report, words: &str) -> Result<(), Memory> {
+    let alloc = out.alloc;
+    let frame = paper_of(alloc, words)?;
     put_prolog(alloc, &mut out.text, &frame)?;
     put_page(&mut out.text, 1, &empty_page(alloc))?;
     put_trailer(&mut out.text, 1)
@@ -86,24 +92,29 @@ fn behind_prolog(document: &[u8]) -> &[u8] {
 /// A document written to a sink of pieces, whose call of a number fails: how much is said to be written, how
 /// much was taken, and what stands behind the prolog.
 pub(crate) fn put_written(out: &mut Report, words: &str, in_one: bool) -> Result<(), Memory> {
-    let alloc = out.alloc;
-    let numbers = numbers_of(alloc, words)?;
-    let call = u64::try_from(number_at(&numbers, 1)).unwrap_or(0);
-    let fails = Row::from_slice(alloc, &[call])?;
-    let mut sink = MemSink::new(alloc, count_at(&numbers, 0), fails);
+    let mut sink = sink_of(out.alloc, words)?;
     let written = if in_one {
-        whole(alloc, &mut sink)
+        whole(out.alloc, &mut sink)
     } else {
-        in_steps(alloc, &mut sink)
+        in_steps(out.alloc, &mut sink)
     };
-    match written {
-        Ok(()) => out.next(b"all")?,
-        Err(DocError::Write(error)) => out.tell(error.written)?,
-        Err(DocError::Memory) => return Err(Memory),
-    }
-    out.tell(sink.taken().len())?;
+    put_sent(out, written)?;
+    put_taken(out, sink.taken())
+}
+
+fn put_taken(out: &mut Report, taken: &[u8]) -> Result<(), Memory> {
+    out.tell(taken.len())?;
     out.end_line()?;
-    out.next(behind_prolog(sink.taken()))
+    out.next(behind_prolog(taken))
+}
+
+/// Adds how much is said to be written.
+fn put_sent(out: &mut Report, written: Result<(), DocError>) -> Result<(), Memory> {
+    match written {
+        Ok(()) => out.next(b"all"),
+        Err(DocError::Write(error)) => out.tell(error.written),
+        Err(DocError::Memory) => Err(Memory),
+    }
 }
 
 fn put_staff(out: &mut Report, staff: &Staff) -> Result<(), Memory> {
@@ -147,16 +158,25 @@ fn put_sheet(out: &mut Report, sheet: &Sheet) -> Result<(), Memory> {
     Ok(())
 }
 
-/// The sheet that a text is read as, or the line at which it is no document. Where `behind` the text stands
-/// behind a prolog.
-pub(crate) fn put_pages(out: &mut Report, behind: bool, text: &str) -> Result<(), Memory> {
-    let alloc = out.alloc;
+/// The document of a text, behind a prolog if so asked.
+pub(crate) fn document_of(alloc: Global, behind: bool, text: &str) -> Result<Text, Memory> {
     let mut document = Text::new(alloc);
     if behind {
         put_prolog(alloc, &mut document, &paper())?;
     }
     document.append(bytes_of(alloc, text)?.as_slice())?;
-    match read_document(alloc, document.as_slice()) {
+    Ok(document)
+}
+
+/// The sheet that a text is read as, or the line at which it is no document. Where `behind` the text stands
+/// behind a prolog.
+pub(crate) fn put_pages(out: &mut Report, behind: bool, text: &str) -> Result<(), Memory> {
+    let document = document_of(out.alloc, behind, text)?;
+    put_pages_of(out, document.as_slice())
+}
+
+fn put_pages_of(out: &mut Report, document: &[u8]) -> Result<(), Memory> {
+    match read_document(out.alloc, document) {
         Ok(sheet) => put_sheet(out, &sheet),
         Err(PagesError::NotPages { line }) => out.tell(format_args!("no pages at {line}\n")),
         Err(PagesError::Memory) => Err(Memory),

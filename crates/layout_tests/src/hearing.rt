@@ -1,11 +1,10 @@
 //! Documents behind a prolog, heard.
 
-use crate::documents::paper;
-use answer_texts::bytes_of;
+use crate::documents::document_of;
 use case_texts::Report;
-use mus_units::{Memory, Row, Spread, Text};
+use mus_units::{Memory, Row, Spread};
 use ps_read::{Heard, PagesError, hear, put_heads, put_heard, read_document};
-use ps_text::{Sheet, put_prolog};
+use ps_text::Sheet;
 
 /// How far a sign reaches, by its word.
 fn spread_of(word: &str) -> Spread {
@@ -40,11 +39,12 @@ fn put_sounds(out: &mut Report, sheet: &Sheet, words: &str) -> Result<(), Memory
 
 /// What the document of a text that stands behind a prolog sounds.
 pub(crate) fn put_hearing(out: &mut Report, words: &str, text: &str) -> Result<(), Memory> {
-    let alloc = out.alloc;
-    let mut document = Text::new(alloc);
-    put_prolog(alloc, &mut document, &paper())?;
-    document.append(bytes_of(alloc, text)?.as_slice())?;
-    match read_document(alloc, document.as_slice()) {
+    let document = document_of(out.alloc, true, text)?;
+    put_heard_pages(out, document.as_slice(), words)
+}
+
+fn put_heard_pages(out: &mut Report, document: &[u8], words: &str) -> Result<(), Memory> {
+    match read_document(out.alloc, document) {
         Ok(sheet) => put_sounds(out, &sheet, words),
         Err(PagesError::NotPages { .. }) => out.next(b"no pages\n"),
         Err(PagesError::Memory) => Err(Memory),

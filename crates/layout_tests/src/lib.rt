@@ -36,7 +36,11 @@ fn answer<R: Threads + Sync>(rt: &R, alloc: Global, text: &str) -> Result<Text, 
 pub fn tell_layout<R: Files + Print + AllocGlobal + Threads + Sync>(rt: &R) -> io::Result<()> {
     state_laws();
     let cases = fs::read_to_string(rt, "layout/cases")?;
-    for text in cases.as_str().split("\n\n") {
+    tell_cases(rt, cases.as_str())
+}
+
+fn tell_cases<R: Print + AllocGlobal + Threads + Sync>(rt: &R, cases: &str) -> io::Result<()> {
+    for text in cases.split("\n\n") {
         put_out(rt, answer(rt, rt.alloc(), text))?;
     }
     Ok(())

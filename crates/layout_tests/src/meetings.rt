@@ -6,7 +6,7 @@ ghost use Rattle.layout_tests.specs.Meeting.{one_row, row_small};
 use answer_texts::Meeting;
 use case_texts::Report;
 use eng_jobs::Jobs;
-use lay_rows::{RowMaker, make_rows};
+use lay_rows::{RowMaker, Rows, make_rows};
 use mus_units::{Memory, Row};
 use std::alloc::Global;
 use std::thread::Threads;
@@ -45,11 +45,15 @@ fn put_rows<R: Threads + Sync>(
     let alloc = out.alloc;
     let meeting = Meeting::new(turns);
     let waiting = Waiting { alloc, meeting };
-    let made = make_rows(rt, alloc, &waiting, 2, jobs)?;
+    put_made(out, &make_rows(rt, alloc, &waiting, 2, jobs)?)?;
+    waiting.meeting.put_met(out)
+}
+
+fn put_made(out: &mut Report, made: &Rows) -> Result<(), Memory> {
     for row in &made.rows {
         out.tell_all(row.as_slice())?;
     }
-    waiting.meeting.put_met(out)
+    Ok(())
 }
 
 /// Adds whether two rows meet by two jobs and by one. By one job the first waits in vain, and the second finds

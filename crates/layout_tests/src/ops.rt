@@ -84,10 +84,14 @@ pub(crate) fn put_mark(out: &mut Report, kind: &str, words: &str) -> Result<(), 
 pub(crate) fn put_read(out: &mut Report, words: &str, text: &str) -> Result<(), Memory> {
     let y = number_at(&numbers_of(out.alloc, words)?, 0);
     for line in text.lines() {
-        match read_op(out.alloc, line.as_bytes(), y)? {
-            Some(mark) => put_mark_line(out, &mark, y)?,
-            None => out.next(b"no mark\n")?,
-        }
+        put_read_line(out, line, y)?;
     }
     Ok(())
+}
+
+fn put_read_line(out: &mut Report, line: &str, y: i64) -> Result<(), Memory> {
+    match read_op(out.alloc, line.as_bytes(), y)? {
+        Some(mark) => put_mark_line(out, &mark, y),
+        None => out.next(b"no mark\n"),
+    }
 }

@@ -82,11 +82,8 @@ fn put_fit(
     let front = &mut [0i64; 2];
     let mut placed = Progress::none();
     let found = fit_within(columns, &GAPS, width, most, &mut at, front, &mut placed);
-    let Some(last) = last else {
+    let (Some(last), Some(force)) = (last, found) else {
         return put_force(out, found);
-    };
-    let Some(force) = found else {
-        return put_force(out, None);
     };
     let set = justify(columns, &GAPS, width, force, last, at, front, placed);
     put_placed(out, &set)
@@ -97,12 +94,24 @@ fn put_fit(
 pub(crate) fn put_plain(out: &mut Report, case: Case<'_>) -> Result<(), Memory> {
     let numbers = numbers_of(out.alloc, case.word)?;
     let (first, second) = (count_at(&numbers, 0), count_at(&numbers, 1));
-    let row = columns_of(out.alloc, case.input)?;
-    let columns = row.as_slice();
-    if columns.is_empty() || columns.len() > 1000 {
+    let columns = columns_of(out.alloc, case.input)?;
+    if columns.len() == 0 || columns.len() > 1000 {
         return out.next(b"no columns\n");
     }
-    match case.call {
+    put_of_columns(out, case.call, columns.as_slice(), first, second)
+}
+
+fn put_of_columns(
+    out: &mut Report,
+    call: &str,
+    columns: &[Column],
+    first: u32,
+    second: u32,
+) -> Result<(), Memory>
+    requires some { 0 < length columns.now }
+    requires few { length columns.now ≤ 200000 }
+{
+    match call {
         "place" => put_places(out, columns, u16::try_from(first).unwrap_or(0)),
         "fit" => put_fit(out, columns, first, 2048, None),
         "within" => put_fit(out, columns, first, second, None),

@@ -13,16 +13,25 @@ fn failing(alloc: Global, call: i64) -> Result<Row<u64>, Memory> {
     Row::from_slice(alloc, &[u64::try_from(call).unwrap_or(0)])
 }
 
+/// The source of a text by its numbers: the size of its pieces, and the number of its call that fails.
+fn source_of(alloc: Global, numbers: &Row<i64>, text: &str) -> Result<MemSource, Memory> {
+    let bytes = Text::from_slice(alloc, text.as_bytes())?;
+    let fails = failing(alloc, number_at(numbers, 1))?;
+    Ok(MemSource::new(bytes, count_at(numbers, 0).max(1), fails))
+}
+
 /// A text read to its end from a source of pieces, whose call of a number fails, within a limit.
 pub(crate) fn put_source(out: &mut Report, words: &str, text: &str) -> Result<(), Memory> {
-    let alloc = out.alloc;
-    let numbers = numbers_of(alloc, words)?;
-    let bytes = Text::from_slice(alloc, text.as_bytes())?;
-    let piece = count_at(&numbers, 0).max(1);
-    let mut source = MemSource::new(bytes, piece, failing(alloc, number_at(&numbers, 1))?);
+    let numbers = numbers_of(out.alloc, words)?;
+    let mut source = source_of(out.alloc, &numbers, text)?;
     let limit = u64::from(count_at(&numbers, 2));
-    match read_all(alloc, &mut source, limit) {
-        Ok(read) => out.next(read.as_slice())?,
+    put_taken(out, read_all(out.alloc, &mut source, limit))
+}
+
+/// Adds a line of what was read, or of why nothing was.
+fn put_taken(out: &mut Report, taken: Result<Text, ReadError>) -> Result<(), Memory> {
+    match taken {
+        Ok(text) => out.next(text.as_slice())?,
         Err(ReadError::Fault) => out.next(b"fault")?,
         Err(ReadError::TooLong) => out.next(b"too long")?,
         Err(ReadError::Memory) => return Err(Memory),
@@ -33,16 +42,25 @@ pub(crate) fn put_source(out: &mut Report, words: &str, text: &str) -> Result<()
 /// A text written to a sink of pieces, whose call of a number fails: how much is said to be written, what was
 /// taken, and how many other calls failed.
 pub(crate) fn put_sink(out: &mut Report, words: &str, text: &str) -> Result<(), Memory> {
-    let numbers = numbers_of(out.alloc, words)?;
-    let fails = failing(out.alloc, number_at(&numbers, 1))?;
-    let mut sink = MemSink::new(out.alloc, count_at(&numbers, 0), fails);
+    let mut sink = sink_of(out.alloc, words)?;
     match write_all(&mut sink, text.as_bytes()) {
         Ok(()) => out.next(b"all")?,
         Err(error) => out.tell(error.written)?,
     }
+    put_left(out, &sink)
+}
+
+fn put_left(out: &mut Report, sink: &MemSink) -> Result<(), Memory> {
     out.next(sink.taken())?;
     out.tell(sink.refused())?;
     out.end_line()
+}
+
+/// The sink of some numbers: the size of its pieces, and the number of its call that fails.
+pub(crate) fn sink_of(alloc: Global, words: &str) -> Result<MemSink, Memory> {
+    let numbers = numbers_of(alloc, words)?;
+    let fails = failing(alloc, number_at(&numbers, 1))?;
+    Ok(MemSink::new(alloc, count_at(&numbers, 0), fails))
 }
 
 /// Adds how many bytes a call passed on, or that it failed.
@@ -55,13 +73,25 @@ fn put_passed<E: Drop>(out: &mut Report, passed: Result<usize, E>) -> Result<(),
 
 /// A text passed on by streams of std: two bytes of it read, all of it written, and the faults of both.
 pub(crate) fn put_streams(out: &mut Report, text: &str) -> Result<(), Memory> {
+    let read_faults = put_pair(out, text)?;
+    let write_faults = put_all(out, text)?;
+    out.tell_all(&[read_faults, write_faults])?;
+    out.end_line()
+}
+
+/// Two bytes read from a text; the faults of its source.
+fn put_pair(out: &mut Report, text: &str) -> Result<u64, Memory> {
     let mut source = StdSource::new(text.as_bytes());
     let mut pair = [0u8; 2];
     put_passed(out, source.read(&mut pair))?;
     out.next(&pair)?;
+    Ok(source.faults)
+}
+
+/// A text as it was written; the faults of its sink.
+fn put_all(out: &mut Report, text: &str) -> Result<u64, Memory> {
     let mut sink = StdSink::new(Vec::<u8>::new(out.alloc));
     put_passed(out, sink.write(text.as_bytes()))?;
     out.next(sink.writer.as_slice())?;
-    out.tell_all(&[source.faults, sink.faults])?;
-    out.end_line()
+    Ok(sink.faults)
 }
