@@ -1,4 +1,5 @@
 ghost use Rattle.std.specs.Prelude.{◌≡◌, ◌++◌, ◌∷◌, [], ◌+ℤ◌, pos, All, OnOk};
+ghost use Rattle.glyph_paths.specs.Characters.{line_end};
 ghost use Rattle.ps_text.specs.{Document.{numbered, mark_text, marks_text, rules_line, staff_line, staff_text, last_base, join_line, join_text, system_line, system_text, title_line, title_text, tune_line, tune_text, item_text, items_text, heading_line, heading_text, closing, body_text, page_text, count_line, trailer}, Range.{IsNumber, IsPageMark, IsStaff, IsJoined, IsSystem, IsItem, IsPage}};
 
 use crate::fields::{LineEnd, put_line, put_words};
@@ -88,6 +89,14 @@ fn last_base_of(first: &Staff, rest: &[Staff]) -> i64
     }
 }
 
+/// Adds the line that joins staves, from its top to its foot, and its LF.
+fn put_joining(out: &mut Text, top: i64, foot: i64) -> Result<(), Memory>
+    ensures { OnOk result (out.new ≡ out.old ++ join_line top foot ++ line_end ∷ []) }
+{
+    put_join_line(out, top, foot)?;
+    out.push(b'\n')
+}
+
 /// Adds the line that joins staves, where there are two or more.
 fn put_join(out: &mut Text, staves: &[Staff]) -> Result<(), Memory>
     requires bases { All IsStaff staves.now }
@@ -96,10 +105,7 @@ fn put_join(out: &mut Text, staves: &[Staff]) -> Result<(), Memory>
 {
     match staves {
         [] | [_] => Ok(()),
-        [first, next, rest @ ..] => {
-            put_join_line(out, first.y + 2000, last_base_of(next, rest))?;
-            out.push(b'\n')
-        }
+        [first, next, rest @ ..] => { put_joining(out, first.y + 2000, last_base_of(next, rest)) }
     }
 }
 
