@@ -2,12 +2,11 @@ ghost use Rattle.std.specs.Prelude.{◌≡◌, ◌++◌, ◌∷◌, [], ◌+ℤ�
 ghost use Rattle.glyph_paths.specs.Characters.{line_end};
 ghost use Rattle.ps_text.specs.{Document.{numbered, mark_text, marks_text, rules_line, staff_line, staff_text, last_base, join_line, join_text, system_line, system_text, title_line, title_text, tune_line, tune_text, item_text, items_text, heading_line, heading_text, closing, body_text, page_text, count_line, trailer}, Range.{IsNumber, IsPageMark, IsStaff, IsJoined, IsSystem, IsItem, IsPage}};
 
-use crate::fields::{LineEnd, put_line, put_words};
+use crate::fields::{LineEnd, put_line, put_named, put_next, put_words};
 use crate::marks::PageMark;
 use crate::names::size_name_of;
 use crate::sheet::{Item, Page, Staff};
 use crate::writing::put_op;
-use eng_lines::put_number;
 use mus_units::{Memory, Size, Text};
 
 #[tactic(auto, unfolding(crate::specs::Document::mark_text))]
@@ -43,8 +42,7 @@ pub fn put_rules(out: &mut Text, width: u32, y: i64) -> Result<(), Memory>
 pub fn put_staff_line(out: &mut Text, k: u64) -> Result<(), Memory>
     ensures { OnOk result (out.new ≡ out.old ++ staff_line k) }
 {
-    out.append(b"% staff ")?;
-    put_number(out, k)
+    put_named(out, b"% staff ", k)
 }
 
 /// Adds the lines of staff `k` of a system.
@@ -113,10 +111,8 @@ fn put_join(out: &mut Text, staves: &[Staff]) -> Result<(), Memory>
 fn put_system_line(out: &mut Text, a: u32, b: u32) -> Result<(), Memory>
     ensures { OnOk result (out.new ≡ out.old ++ system_line a b) }
 {
-    out.append(b"% system ")?;
-    put_number(out, u64::from(a))?;
-    out.push(b' ')?;
-    put_number(out, u64::from(b))
+    put_named(out, b"% system ", u64::from(a))?;
+    put_next(out, u64::from(b))
 }
 
 #[tactic(auto, unfolding(crate::specs::Document::system_text))]
@@ -156,8 +152,7 @@ fn put_title(out: &mut Text, x: i64, y: i64, size: Size, words: &[u8]) -> Result
 fn put_tune(out: &mut Text, ordinal: u32) -> Result<(), Memory>
     ensures { OnOk result (out.new ≡ out.old ++ tune_text ordinal) }
 {
-    out.append(b"% tune ")?;
-    put_number(out, u64::from(ordinal))?;
+    put_named(out, b"% tune ", u64::from(ordinal))?;
     out.push(b'\n')
 }
 
@@ -187,10 +182,8 @@ fn put_items(out: &mut Text, items: &[Item]) -> Result<(), Memory>
 pub fn put_heading_line(out: &mut Text, k: u64) -> Result<(), Memory>
     ensures { OnOk result (out.new ≡ out.old ++ heading_line k) }
 {
-    out.append(b"%%Page: ")?;
-    put_number(out, k)?;
-    out.push(b' ')?;
-    put_number(out, k)
+    put_named(out, b"%%Page: ", k)?;
+    put_next(out, k)
 }
 
 /// Adds the two lines that begin page `k` of a document.
@@ -233,8 +226,7 @@ pub fn put_page(out: &mut Text, k: u64, p: &Page) -> Result<(), Memory>
 pub fn put_count_line(out: &mut Text, n: u64) -> Result<(), Memory>
     ensures { OnOk result (out.new ≡ out.old ++ count_line n) }
 {
-    out.append(b"%%Pages: ")?;
-    put_number(out, n)
+    put_named(out, b"%%Pages: ", n)
 }
 
 /// Adds the end of a document of `n` pages.

@@ -1,6 +1,7 @@
-ghost use Rattle.std.specs.{Prelude.{◌≡◌, ◌+◌, ◌*◌, ◌≤◌, ◌++◌, ◌∷◌, OnOk, [], drop, flat_map, length}, Fmt.signed_decimal};
-ghost use Rattle.{glyph_paths.specs.Procedure.{numbers}, ps_text.specs.Fields.{shown, quoted, in_parentheses}};
+ghost use Rattle.std.specs.{Prelude.{◌≡◌, ◌+◌, ◌*◌, ◌/◌, ◌%◌, ◌≤◌, ◌++◌, ◌∷◌, OnOk, [], decimal, drop, flat_map, length}, Fmt.signed_decimal};
+ghost use Rattle.{glyph_paths.specs.{Characters.backslash, Characters.digit, Procedure.numbers}, ps_text.specs.Fields.{shown, quoted, in_parentheses}};
 
+use eng_lines::put_number;
 use itoa::write_digits;
 use mus_units::{Memory, Text};
 
@@ -86,6 +87,32 @@ impl LineEnd {
     }
 }
 
+/// Adds a word and a number behind it.
+pub(crate) fn put_named(out: &mut Text, name: &[u8], number: u64) -> Result<(), Memory>
+    ensures { OnOk result (out.new ≡ out.old ++ name.now ++ decimal number) }
+{
+    out.append(name)?;
+    put_number(out, number)
+}
+
+/// Adds a space and a number.
+pub(crate) fn put_next(out: &mut Text, number: u64) -> Result<(), Memory>
+    ensures { OnOk result (out.new ≡ out.old ++ 32 ∷ decimal number) }
+{
+    out.push(b' ')?;
+    put_number(out, number)
+}
+
+/// Adds a byte past 7E as three octal digits behind a backslash.
+fn put_octal(out: &mut Text, b: u8) -> Result<(), Memory>
+    ensures { OnOk result (out.new ≡ out.old ++ backslash ∷ digit (b / 64) ∷ digit (b / 8 % 8) ∷ digit (b % 8) ∷ []) }
+{
+    out.push(b'\\')?;
+    out.push(b'0' + b / 64)?;
+    out.push(b'0' + b / 8 % 8)?;
+    out.push(b'0' + b % 8)
+}
+
 /// Adds a byte of words.
 #[tactic(auto, unfolding(crate::specs::Fields::shown))]
 fn put_shown(out: &mut Text, b: u8) -> Result<(), Memory>
@@ -93,16 +120,12 @@ fn put_shown(out: &mut Text, b: u8) -> Result<(), Memory>
 {
     if b == b'(' || b == b')' || b == b'\\' {
         out.push(b'\\')?;
-        out.push(b)?;
+        out.push(b)
     } else if b < 127 {
-        out.push(b)?;
+        out.push(b)
     } else {
-        out.push(b'\\')?;
-        out.push(b'0' + b / 64)?;
-        out.push(b'0' + b / 8 % 8)?;
-        out.push(b'0' + b % 8)?;
+        put_octal(out, b)
     }
-    Ok(())
 }
 
 /// Adds each byte of words as a page shows it.

@@ -1,6 +1,7 @@
 ghost use Rattle.std.specs.Prelude.{◌≡◌, ◌++◌, OnOk};
 ghost use Rattle.ps_text.specs.Prolog.{percent, first_text, box_start, procedures, page_start, page_end, last_text, box_line, scaling, page_line, glyph_lines, heading, prolog};
 
+use crate::fields::{put_named, put_next};
 use crate::sheet::Frame;
 use eng_lines::put_number;
 use glyph_paths::{all_glyphs, procedure};
@@ -83,10 +84,8 @@ fn put_percent(out: &mut Text, p: u16) -> Result<(), Memory>
 fn put_box(out: &mut Text, wide: u32, high: u32) -> Result<(), Memory>
     ensures { OnOk result (out.new ≡ out.old ++ box_line wide high) }
 {
-    out.append(box_bytes())?;
-    put_number(out, u64::from(wide))?;
-    out.push(b' ')?;
-    put_number(out, u64::from(high))
+    put_named(out, box_bytes(), u64::from(wide))?;
+    put_next(out, u64::from(high))
 }
 
 #[tactic(auto, unfolding(crate::specs::Prolog::scaling))]
@@ -94,8 +93,7 @@ fn put_scaling(out: &mut Text, left: u32, bottom: u32, scale: u16) -> Result<(),
     ensures { OnOk result (out.new ≡ out.old ++ scaling left bottom scale) }
 {
     put_number(out, u64::from(left))?;
-    out.push(b' ')?;
-    put_number(out, u64::from(bottom))?;
+    put_next(out, u64::from(bottom))?;
     out.append(b" translate ")?;
     put_percent(out, scale)?;
     out.push(b' ')?;
