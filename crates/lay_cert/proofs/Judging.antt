@@ -1,5 +1,5 @@
 -- A step of the checker is one line, and its end is the end of the listing or the first fault.
-use Rattle.std.proofs.{Common.{◌≡◌, ◌≢◌, ℕ, ◌+◌, ◌^◌, ◌<◌, ◌≤◌, ◌⊎◌, inl, inr, true, false, List, [], ◌∷◌, ◌++◌, length, Option, Some, None, is_some, refl, sym, ◌∙◌, ap, subst, arith, slice_index_or, if◌then◌else◌, ◌==◌}, lemmas.{Bool.{true≢false, eq-eqb, eqb-true, ne_eqb}, List.{length-append, nil_from_length}}}
+use Rattle.std.proofs.{Common.{◌≡◌, ◌≢◌, ℕ, ◌+◌, ◌^◌, ◌<◌, ◌≤◌, ◌⊎◌, inl, inr, true, List, [], ◌∷◌, ◌++◌, length, Option, Some, None, is_some, refl, sym, ◌∙◌, ap, subst, arith, slice_index_or, if◌then◌else◌, ◌==◌}, lemmas.{Bool.{true≢false, eq-eqb, eqb-true, ne_eqb}, List.{length-append, nil_from_length}}}
 use Rattle.lay_breaks.specs.{Breaking.last_from, Spans.MayFollow, Spans.listed, declared.costs.Span.Span}
 use Rattle.lay_cert.{specs.{Lines.{line_text, lines_then}, Listing.{Entry, IsListing}, Places.{Place, begun, between, choosing, proving, ended, MayCome, next, Leads, IsStuck, IsFirstFault, last_tune_from, last_span_from}, Verdicts.{AreVerdicts, IsVerdict}, Stands.{IsChoosing, Proves, Stands, NoneMayCome, IsStep, entry_of}, Answers.IsJudged, declared.{lines.Line.Line, check.{Judged.Judged, Verdict.Verdict}, place.{Choosing.Choosing, Proving.Proving, Stage.Stage}}}, proofs.{Grown.{listed_within, push_tune}, Steps.{leads_good, leads_more, one_more}, Through.begun_with, Alone.{apart, tune_alone, span_alone, choice_alone, may_lack, told_by_lines, faults_tell_none}}}
 use Rattle.eng_lines.{specs.Lines.Lacks, proofs.Words.one_cut, proofs.Words.lacks_none}

@@ -25,6 +25,22 @@ pub enum Line {
     End,
 }
 
+/// Adds a word and a number behind it.
+pub(crate) fn put_named(out: &mut Text, name: &[u8], number: u64) -> Result<(), Memory>
+    ensures { OnOk result (out.new ≡ out.old ++ name.now ++ decimal number) }
+{
+    out.append(name)?;
+    put_number(out, number)
+}
+
+/// Adds a space and a number.
+pub(crate) fn put_next(out: &mut Text, number: u64) -> Result<(), Memory>
+    ensures { OnOk result (out.new ≡ out.old ++ 32 ∷ decimal number) }
+{
+    out.push(b' ')?;
+    put_number(out, number)
+}
+
 fn put_sum(out: &mut Text, sum: Option<u64>) -> Result<(), Memory>
     ensures { OnOk result (out.new ≡ out.old ++ sum_text sum) }
 {
@@ -37,28 +53,22 @@ fn put_sum(out: &mut Text, sum: Option<u64>) -> Result<(), Memory>
 fn put_tune(out: &mut Text, tune: u32, bars: u32) -> Result<(), Memory>
     ensures { OnOk result (out.new ≡ out.old ++ codes "tune " ++ decimal tune ++ 32 ∷ codes "measures " ++ decimal bars) }
 {
-    out.append(b"tune ")?;
-    put_number(out, tune as u64)?;
-    out.append(b" measures ")?;
-    put_number(out, bars as u64)
+    put_named(out, b"tune ", tune as u64)?;
+    put_named(out, b" measures ", bars as u64)
 }
 
 fn put_span(out: &mut Text, span: Span) -> Result<(), Memory>
     ensures { OnOk result (out.new ≡ out.old ++ codes "span " ++ decimal span.a ++ 32 ∷ decimal span.b ++ 32 ∷ decimal span.badness) }
 {
-    out.append(b"span ")?;
-    put_number(out, span.a as u64)?;
-    out.push(b' ')?;
-    put_number(out, span.b as u64)?;
-    out.push(b' ')?;
-    put_number(out, span.badness)
+    put_named(out, b"span ", span.a as u64)?;
+    put_next(out, span.b as u64)?;
+    put_next(out, span.badness)
 }
 
 fn put_potential(out: &mut Text, bar: u32, least: Option<u64>) -> Result<(), Memory>
     ensures { OnOk result (out.new ≡ out.old ++ codes "potential " ++ decimal bar ++ 32 ∷ sum_text least) }
 {
-    out.append(b"potential ")?;
-    put_number(out, bar as u64)?;
+    put_named(out, b"potential ", bar as u64)?;
     out.push(b' ')?;
     put_sum(out, least)
 }
@@ -71,14 +81,8 @@ pub fn put_text(out: &mut Text, line: Line) -> Result<(), Memory>
         Line::Listing => out.append(b"listing 1"),
         Line::Tune { tune, bars } => put_tune(out, tune, bars),
         Line::OneSpan(span) => put_span(out, span),
-        Line::Choose { bar } => {
-            out.append(b"choose ")?;
-            put_number(out, bar as u64)
-        }
-        Line::Total { total } => {
-            out.append(b"total ")?;
-            put_number(out, total)
-        }
+        Line::Choose { bar } => put_named(out, b"choose ", bar as u64),
+        Line::Total { total } => put_named(out, b"total ", total),
         Line::Potential { bar, least } => put_potential(out, bar, least),
         Line::End => out.append(b"end"),
     }

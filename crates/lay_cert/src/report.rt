@@ -2,15 +2,14 @@ ghost use Rattle.std.specs.Prelude.{◌≡◌, [], ◌++◌, ◌∷◌, codes, d
 ghost use Rattle.lay_cert.specs.Reports.{bars_text, verdict_text};
 
 use crate::check::{Judged, Verdict};
-use eng_lines::put_number;
+use crate::lines::{put_named, put_next};
 use mus_units::{Memory, Text};
 
 fn put_bars(out: &mut Text, bars: &[u32]) -> Result<(), Memory>
     ensures { OnOk result (out.new ≡ out.old ++ bars_text bars.now) }
 {
     for bar in bars.iter() {
-        out.push(b' ')?;
-        put_number(out, *bar as u64)?;
+        put_next(out, *bar as u64)?;
     }
     Ok(())
 }
@@ -18,10 +17,8 @@ fn put_bars(out: &mut Text, bars: &[u32]) -> Result<(), Memory>
 fn put_least(out: &mut Text, tune: u32, total: u64) -> Result<(), Memory>
     ensures { OnOk result (out.new ≡ out.old ++ codes "least " ++ decimal tune ++ 32 ∷ decimal total) }
 {
-    out.append(b"least ")?;
-    put_number(out, tune as u64)?;
-    out.push(b' ')?;
-    put_number(out, total)
+    put_named(out, b"least ", tune as u64)?;
+    put_next(out, total)
 }
 
 fn put_not_least(
@@ -33,12 +30,9 @@ fn put_not_least(
 ) -> Result<(), Memory>
     ensures { OnOk result (out.new ≡ out.old ++ codes "notleast " ++ decimal tune ++ 32 ∷ decimal total ++ 32 ∷ decimal better ++ bars_text breaks.now ++ 10 ∷ []) }
 {
-    out.append(b"notleast ")?;
-    put_number(out, tune as u64)?;
-    out.push(b' ')?;
-    put_number(out, total)?;
-    out.push(b' ')?;
-    put_number(out, better)?;
+    put_named(out, b"notleast ", tune as u64)?;
+    put_next(out, total)?;
+    put_next(out, better)?;
     put_bars(out, breaks)?;
     out.push(b'\n')
 }
