@@ -1,6 +1,6 @@
 //! What a sheet sounds, as text.
 
-ghost use Rattle.std.specs.{Prelude.◌≡◌, Prelude.◌++◌, Prelude.flat_map, Prelude.OnOk, Fmt.signed_decimal};
+ghost use Rattle.std.specs.{Prelude.◌≡◌, Prelude.◌++◌, Prelude.codes, Prelude.decimal, Prelude.flat_map, Prelude.OnOk, Fmt.signed_decimal};
 ghost use Rattle.{ps_text.specs.Document.{numbered}, ps_heard.specs.HeardText.{half_steps, head_line, heard_text, letter_text, staff_text, tune_text}};
 
 use crate::column::Heard;
@@ -40,9 +40,11 @@ fn half_steps(alter: Alter) -> i32
     }
 }
 
-fn put_signed(out: &mut Text, number: i32) -> Result<(), Memory>
-    ensures { OnOk result (out.new ≡ out.old ++ signed_decimal number) }
+/// Adds a space and a number.
+fn put_next(out: &mut Text, number: i32) -> Result<(), Memory>
+    ensures { OnOk result (out.new ≡ out.old ++ codes " " ++ signed_decimal number) }
 {
+    out.append(b" ")?;
     let mut buffer = Buffer::new();
     out.append(buffer.format(number).as_bytes())
 }
@@ -52,10 +54,8 @@ fn put_head(out: &mut Text, head: Heard) -> Result<(), Memory>
     ensures { OnOk result (out.new ≡ out.old ++ head_line head) }
 {
     out.append(letter_text(head.pitch.letter))?;
-    out.append(b" ")?;
-    put_signed(out, half_steps(head.alter))?;
-    out.append(b" ")?;
-    put_signed(out, head.pitch.octave)?;
+    put_next(out, half_steps(head.alter))?;
+    put_next(out, head.pitch.octave)?;
     out.append(b"\n")
 }
 
@@ -91,14 +91,20 @@ fn put_staves(out: &mut Text, staves: &[Row<Heard>]) -> Result<(), Memory>
     Ok(())
 }
 
+fn put_tune_line(out: &mut Text, ordinal: u32) -> Result<(), Memory>
+    ensures { OnOk result (out.new ≡ out.old ++ codes "tune " ++ decimal ordinal ++ codes "\n") }
+{
+    out.append(b"tune ")?;
+    put_number(out, u64::from(ordinal))?;
+    out.append(b"\n")
+}
+
 /// Adds the lines of a tune.
 fn put_tune(alloc: Global, out: &mut Text, spread: Spread, tune: &Part<'_>) -> Result<(), Memory>
     ensures { OnOk result (out.new ≡ out.old ++ tune_text spread tune.now) }
 {
+    put_tune_line(out, tune.ordinal)?;
     let staves = hear_tune(alloc, spread, tune.systems.as_slice())?;
-    out.append(b"tune ")?;
-    put_number(out, u64::from(tune.ordinal))?;
-    out.append(b"\n")?;
     put_staves(out, staves.as_slice())
 }
 

@@ -1,6 +1,6 @@
 //! The tunes of a sheet, each with its systems.
 
-ghost use Rattle.std.specs.Prelude.{◌≡◌, ◌++◌, IfOk, OnOk};
+ghost use Rattle.std.specs.Prelude.{◌≡◌, ◌++◌, ◌∷◌, [], IfOk, OnOk};
 ghost use Rattle.ps_heard.specs.Tunes.{items_of, most_staves, systems_till, tunes_of};
 
 use mus_units::{Memory, Row};
@@ -81,6 +81,19 @@ fn systems_till<'a>(alloc: Global, items: &[Shown<'a>]) -> Result<Row<Braced<'a>
     Ok(out)
 }
 
+/// Adds a tune whose items these are.
+fn put_part<'a>(
+    alloc: Global,
+    out: &mut Row<Part<'a>>,
+    ordinal: u32,
+    items: &[Shown<'a>],
+) -> Result<(), Memory>
+    ensures { OnOk result (out.new ≡ out.old ++ record { ordinal = ordinal; systems = systems_till items.now } ∷ []) }
+{
+    let systems = systems_till(alloc, items)?;
+    out.push(Part { ordinal, systems })
+}
+
 /// The tunes among items, in order.
 fn tunes_among<'a>(alloc: Global, items: &[Shown<'a>]) -> Result<Row<Part<'a>>, Memory>
     ensures { IfOk result (λ r. r ≡ tunes_of items.now) }
@@ -88,11 +101,7 @@ fn tunes_among<'a>(alloc: Global, items: &[Shown<'a>]) -> Result<Row<Part<'a>>, 
     let mut out = Row::new(alloc);
     for (at, shown) in items.iter().enumerate() {
         if let Item::Tune { ordinal } = shown.item {
-            let systems = systems_till(alloc, &items[at + 1..])?;
-            out.push(Part {
-                ordinal: *ordinal,
-                systems,
-            })?;
+            put_part(alloc, &mut out, *ordinal, &items[at + 1..])?;
         }
     }
     Ok(out)
