@@ -5,7 +5,7 @@ ghost use Rattle.lay_cert.specs.Lines.{line_text};
 ghost use Rattle.lay_cert.specs.declared.lines.Line.TheVariants as line;
 ghost use Rattle.lay_breaks.specs.declared.costs.Span.{Span};
 
-use eng_lines::{number, number_and_rest, number_behind, small_number, strip};
+use eng_lines::{number, number_and_rest, number_behind, strip};
 use lay_breaks::Span;
 
 /// The number and the bars of a tune's first line.
@@ -15,8 +15,7 @@ pub fn read_tune(bytes: &[u8]) -> Option<(u32, u32)>
 {
     let rest = strip(b"tune ", bytes)?;
     let (tune, rest) = number_and_rest(rest)?;
-    let rest = strip(b"measures ", rest)?;
-    Some((tune, small_number(rest)?))
+    Some((tune, number_behind(b"measures ", rest)?))
 }
 
 /// The span of a span's line.

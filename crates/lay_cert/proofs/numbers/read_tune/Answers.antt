@@ -2,15 +2,8 @@ use Rattle.std.proofs.Common.{◌++◌, ◌∷◌, codes, decimal, ◌∙◌, ar
 use Rattle.{lay_cert.proofs.Forms.{tune_text}, eng_lines.proofs.Words.{one_field, after_prefix}}
 use Rattle.lay_cert.proofs.numbers.read_tune.Goals as goal
 
-pub returns-in_err-rest-2 : goal.returns-in_err-rest-2
-returns-in_err-rest-2 c = rw c.from_residual-in_err-rest-2.ensures (λ tune bars lt lb e.
+pub returns-in_err-number_behind : goal.returns-in_err-number_behind
+returns-in_err-number_behind c = rw c.from_residual-in_err-number_behind.ensures (λ tune bars lt lb e.
     let t = after_prefix (codes "tune ") c.args.bytes.now c.in_ok-rest.rest.now (decimal tune ++ (32 ∷ (codes "measures " ++ decimal bars))) c.in_ok-rest.ensures (e ∙ tune_text tune bars) in
     let x = c.in_ok-tune.ensures in let m = one_field c.in_ok-tune.tune tune c.in_ok-rest.rest.now c.in_ok-tune.rest.now (codes "measures " ++ decimal bars) (omega (arith, x)) (omega arith) x.0 t in
-    c.in_err-rest-2.ensures (decimal bars) m.1)
-
-pub returns-in_err-small_number : goal.returns-in_err-small_number
-returns-in_err-small_number c = rw c.from_residual-in_err-small_number.ensures (λ tune bars lt lb e.
-    let t = after_prefix (codes "tune ") c.args.bytes.now c.in_ok-rest.rest.now (decimal tune ++ (32 ∷ (codes "measures " ++ decimal bars))) c.in_ok-rest.ensures (e ∙ tune_text tune bars) in
-    let x = c.in_ok-tune.ensures in let m = one_field c.in_ok-tune.tune tune c.in_ok-rest.rest.now c.in_ok-tune.rest.now (codes "measures " ++ decimal bars) (omega (arith, x)) (omega arith) x.0 t in
-    let k = after_prefix (codes "measures ") c.in_ok-tune.rest.now c.in_ok-rest-2.rest.now (decimal bars) c.in_ok-rest-2.ensures m.1 in
-    c.in_err-small_number.ensures bars lb k)
+    c.in_err-number_behind.ensures bars lb m.1)
