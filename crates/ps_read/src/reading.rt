@@ -1,6 +1,8 @@
-ghost use Rattle.std.specs.Prelude.{IfOk, IfErr, ◌≡◌};
+ghost use Rattle.std.specs.Prelude.{IfOk, IfErr, MatchOption, ◌≡◌};
 ghost use Rattle.{ps_read.specs.{Answers.IsRead, Answers.IsCause, Laws.GoodByLines, Laws.NoPrefix, Steps.IsStep}, eng_lines.specs.Lines.{Lacks}};
+ghost use Rattle.ps_read.specs.declared.place.Place.TheVariants as at;
 ghost use Rattle.ps_read.specs.declared.reading.PagesError.TheVariants as answer;
+ghost use Rattle.ps_text.specs.declared.sheet.Sheet.{Sheet};
 
 use crate::pages::{
     after_count, after_heading, after_item, after_items, after_page, after_trailer,
@@ -54,6 +56,16 @@ fn step(alloc: Global, place: Place, raw: &[u8]) -> Result<Option<Place>, Memory
     }
 }
 
+/// The sheet that was told, behind the last line of a document.
+fn sheet_of(place: Place) -> Option<Sheet>
+    ensures { MatchOption result ((s : Sheet) → place ≡ at.Ended s → ⊥) (λ s. place ≡ at.Ended s) }
+{
+    match place {
+        Place::Ended(sheet) => Some(sheet),
+        _ => None,
+    }
+}
+
 /// The sheet that the bytes spell.
 ///
 /// A last piece without an LF is a line that isn't good. Each line is read once.
@@ -75,9 +87,9 @@ pub fn read_document(alloc: Global, b: &[u8]) -> Result<Sheet, PagesError>
     if !rest.is_empty() {
         return Err(PagesError::NotPages { line });
     }
-    match place {
-        Place::Ended(sheet) => Ok(sheet),
-        _ => Err(PagesError::NotPages { line }),
+    match sheet_of(place) {
+        Some(sheet) => Ok(sheet),
+        None => Err(PagesError::NotPages { line }),
     }
 }
 

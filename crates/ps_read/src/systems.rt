@@ -1,4 +1,4 @@
-ghost use Rattle.std.specs.Prelude.{◌≡◌, ◌+◌, IfOk, Decides};
+ghost use Rattle.std.specs.{Prelude.{◌≡◌, ◌+◌, IfOk, Decides}, Option.{option_map}};
 ghost use Rattle.ps_text.specs.{Document.staff_line, Range.IsNumber};
 ghost use Rattle.ps_read.specs.{Places.IsUnderTop, Places.MayEnd, Steps.IsStep, Steps.IsStepOf, Steps.IsJoinLine, Steps.IsItemLine, Steps.IsNoMark, Titles.IsMarkRead};
 ghost use Rattle.ps_read.specs.declared.place.Place.TheVariants as at;
@@ -53,8 +53,9 @@ fn is_under_top(join: Option<Joined>, staves: &[Staff], y: i64) -> bool
     }
 }
 
-pub fn after_staff(alloc: Global, system: OpenSystem, raw: &[u8]) -> Result<Option<Place>, Memory>
-    ensures { IfOk result (IsStep (at.Staff system) raw.now) }
+/// The staff that the line begins, where that may come next.
+fn read_staff(alloc: Global, system: &OpenSystem, raw: &[u8]) -> Result<Option<Staff>, Memory>
+    ensures { IfOk result (λ o. IsStep (at.Staff system.now) raw.now (option_map (at.Marks system.now) o)) }
 {
     let Some(Rules { width, y }) = read_rules(alloc, raw)? else {
         return Ok(None);
@@ -62,12 +63,20 @@ pub fn after_staff(alloc: Global, system: OpenSystem, raw: &[u8]) -> Result<Opti
     if !is_under_top(system.join, system.staves.as_slice(), y) {
         return Ok(None);
     }
-    let staff = Staff {
+    Ok(Some(Staff {
         y,
         width,
         marks: Row::new(alloc),
-    };
-    Ok(Some(Place::Marks { system, staff }))
+    }))
+}
+
+pub fn after_staff(alloc: Global, system: OpenSystem, raw: &[u8]) -> Result<Option<Place>, Memory>
+    ensures { IfOk result (IsStep (at.Staff system) raw.now) }
+{
+    match read_staff(alloc, &system, raw)? {
+        Some(staff) => Ok(Some(Place::Marks { system, staff })),
+        None => Ok(None),
+    }
 }
 
 /// Whether a system may end with a staff at `y` behind others.

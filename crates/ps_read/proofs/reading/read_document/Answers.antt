@@ -24,16 +24,12 @@ returns-then-not-is_empty-clause-cause c =
     first_fault c.args.b.now l.place l.rest.now l.line l.invariant.reading (stuck_at_end l.place l.rest.now c.in_default.ensures
     (λ s e is. true≢false (sym (c.is_empty.ensures ∙ ap (λ xs. length xs == 0) e) ∙ c.if-not-is_empty.true)))
 
-pub returns-in-Ended-clause-sheet : goal.returns-in-Ended-clause-sheet
-returns-in-Ended-clause-sheet c =
+pub returns-in-Some-sheet_of-clause-sheet : goal.returns-in-Some-sheet_of-clause-sheet
+returns-in-Some-sheet_of-clause-sheet c =
     let l = c.loop-raw in
-    read_all c.args.b.now c.in-Ended.sheet l.rest.now l.line (subst (λ p. IsReading c.args.b.now p l.rest.now l.line) c.in-Ended.is l.invariant.reading)
+    read_all c.args.b.now c.in-Some-sheet_of.sheet l.rest.now l.line (subst (λ p. IsReading c.args.b.now p l.rest.now l.line) c.in-Some-sheet_of.ensures l.invariant.reading)
     (nil_from_length l.rest.now (eqb-true (length l.rest.now) 0 (sym c.is_empty.ensures ∙ c.if-not-is_empty.false)))
 
-pub returns : goal.returns
-returns c =
-    let l = c.loop-raw in record {
-      sheet = tt;
-      cause = first_fault c.args.b.now l.place l.rest.now l.line l.invariant.reading
-          (stuck_at_end l.place l.rest.now c.in_default.ensures (λ s e is. c.in_default-place.not-Ended s is));
-    }
+pub returns-in-None-clause-cause : goal.returns-in-None-clause-cause
+returns-in-None-clause-cause c =
+    let l = c.loop-raw in first_fault c.args.b.now l.place l.rest.now l.line l.invariant.reading (stuck_at_end l.place l.rest.now c.in_default.ensures (λ s e is. c.in-None.ensures s is))
