@@ -204,7 +204,7 @@ fn put_first(
     nodes.push(node_of(first_part(w, heads, first, more, value)))
 }
 
-/// Puts the parts behind the first.
+/// Puts the parts behind the first, which has this id.
 fn put_later(
     alloc: Global,
     nodes: &mut Row<Music>,
@@ -214,14 +214,14 @@ fn put_later(
     values: &[Value],
 ) -> Result<(), Memory>
     requires { All (λ v. v.dots ≤ 3) values.now }
-    ensures { OnOk result (nodes.new ≡ nodes.old ++ map node_of (later_parts w.now verses id values.now)) }
+    ensures { OnOk result (nodes.new ≡ nodes.old ++ map node_of (later_parts w.now verses (id + 1) values.now)) }
 {
-    let mut next = id;
+    let mut last = id;
     for i in 0..values.len() {
         let (_, others) = values.split_at(i + 1);
-        let part = later_part(alloc, w, verses, next, some_more(others), values[i])?;
+        last = next_id(last)?;
+        let part = later_part(alloc, w, verses, last, some_more(others), values[i])?;
         nodes.push(node_of(part))?;
-        next = next_id(next)?;
     }
     Ok(())
 }
@@ -266,10 +266,9 @@ fn put_several(
     let [value, others @ ..] = w.values.as_slice() else {
         return Ok(());
     };
-    let verses = first.words.len();
-    let next = next_id(first.id)?;
+    let (id, verses) = (first.id, first.words.len());
     put_first(alloc, nodes, w, first, some_more(others), *value)?;
-    put_later(alloc, nodes, w, verses, next, others)
+    put_later(alloc, nodes, w, verses, id, others)
 }
 
 #[tactic(auto, using(crate::proofs::Heads::untied), unfolding(crate::specs::Leaves::grace_event))]

@@ -18,7 +18,7 @@ put_later-requires c =
 pub returns : goal.returns
 returns c =
     on_ok_weaker c.put_later.result
-    (several_nodes c.args.w.now c.args.first.waiting c.args.first.words c.args.first.id c.len-verses.result c.in_ok-next.next
+    (several_nodes c.args.w.now c.args.first.waiting c.args.first.words c.args.first.id c.len-verses.result
     c.as_slice.result.now _ c.some_more.result c.args.nodes.now c.put_first.new.nodes c.put_later.new.nodes
-    c.as_slice.ensures c.in-len1-up.len_at_least c.some_more.ensures c.len-verses.ensures c.in_ok-next.ensures c.in_ok-put_first.ensures)
+    c.as_slice.ensures c.in-len1-up.len_at_least c.some_more.ensures c.len-verses.ensures c.in_ok-put_first.ensures)
     c.put_later.ensures
