@@ -156,6 +156,23 @@ fn document_len(alloc: Global, sheet: &Sheet) -> Result<u64, Memory>
     }
 }
 
+/// What is told of a generated book as it was set.
+fn trial_of(alloc: Global, tunes: u32, outcomes: &[Outcome], sheet: &Sheet) -> Result<Trial, Memory>
+    requires { IsSheet sheet.now }
+    ensures { IfOk result (λ trial. trial ≡ trial_of tunes outcomes.now sheet.now) }
+{
+    let bytes = document_len(alloc, sheet)?;
+    Ok(Trial {
+        tunes: u64::from(tunes),
+        set: set_count(outcomes),
+        refused: fault_count(outcomes),
+        systems: system_count(outcomes),
+        pages: sheet.pages.len() as u64,
+        bytes,
+        total: total_of(outcomes),
+    })
+}
+
 /// The line on a generated book as it was set.
 fn trial_line(
     alloc: Global,
@@ -169,15 +186,7 @@ fn trial_line(
     ensures { IfOk result (λ text. (sheet : Sheet) × IsBookSheet even paper.now outcomes.now sheet × (text ≡ trial_text (trial_of tunes outcomes.now sheet))) }
 {
     let sheet = sheet_for(alloc, paper, outcomes, even)?;
-    let trial = Trial {
-        tunes: u64::from(tunes),
-        set: set_count(outcomes),
-        refused: fault_count(outcomes),
-        systems: system_count(outcomes),
-        pages: sheet.pages.len() as u64,
-        bytes: document_len(alloc, &sheet)?,
-        total: total_of(outcomes),
-    };
+    let trial = trial_of(alloc, tunes, outcomes, &sheet)?;
     let mut text = Text::new(alloc);
     put_trial(&mut text, &trial)?;
     Ok(text)
