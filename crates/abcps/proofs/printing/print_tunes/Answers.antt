@@ -9,11 +9,12 @@ pub returns-in_err-run : goal.returns-in_err-run
 returns-in_err-run g c =
     let is : c.from_residual.result ≡ Err c.in_err-run.field-0.0 = search rules in
     subst (λ r. ArePrinted (terms_of c.args.setting.now.defaults.now c.args.setting.now.paper.now c.args.setting.now.how) c.args.plan.now c.args.tunes.now (stream (g.O.Sink.taken c.args.output.now) (g.O.Sink.taken c.begin_run.new.output) (g.O.Sink.faults c.args.output.now) (g.O.Sink.faults c.begin_run.new.output)) r) (sym is)
-    (cut_first (terms_of c.args.setting.now.defaults.now c.args.setting.now.paper.now c.args.setting.now.how) c.args.plan.now c.args.tunes.now _ c.in_err-run.field-0.0 (planned_rises c.requires.planned.0 (terms_of c.args.setting.now.defaults.now c.args.setting.now.paper.now c.args.setting.now.how) c.args.tunes.now c.args.plan.now c.requires.planned.1) c.in_err-run.ensures.wrote)
+    (cut_first (terms_of c.args.setting.now.defaults.now c.args.setting.now.paper.now c.args.setting.now.how) c.args.plan.now c.args.tunes.now (stream (g.O.Sink.taken c.args.output.now) (g.O.Sink.taken c.begin_run.new.output) (g.O.Sink.faults c.args.output.now) (g.O.Sink.faults c.begin_run.new.output)) c.in_err-run.field-0.0 (planned_rises c.requires.planned.0 (terms_of c.args.setting.now.defaults.now c.args.setting.now.paper.now c.args.setting.now.how) c.args.tunes.now c.args.plan.now c.requires.planned.1) c.in_err-run.ensures.wrote)
 
 pub batches-init : goal.batches-init
 batches-init g c = record {
-  way = underway_first (terms_of c.args.setting.now.defaults.now c.args.setting.now.paper.now c.args.setting.now.how) c.args.plan.now c.args.tunes.now _ c.in_ok-run.run' (planned_rises c.requires.planned.0 (terms_of c.args.setting.now.defaults.now c.args.setting.now.paper.now c.args.setting.now.how) c.args.tunes.now c.args.plan.now c.requires.planned.1) c.in_ok-run.ensures.wrote c.in_ok-run.ensures.begun;
+  way = underway_first (terms_of c.args.setting.now.defaults.now c.args.setting.now.paper.now c.args.setting.now.how) c.args.plan.now c.args.tunes.now
+      (stream (g.O.Sink.taken c.args.output.now) (g.O.Sink.taken c.begin_run.new.output) (g.O.Sink.faults c.args.output.now) (g.O.Sink.faults c.begin_run.new.output)) c.in_ok-run.run' (planned_rises c.requires.planned.0 (terms_of c.args.setting.now.defaults.now c.args.setting.now.paper.now c.args.setting.now.how) c.args.tunes.now c.args.plan.now c.requires.planned.1) c.in_ok-run.ensures.wrote c.in_ok-run.ensures.begun;
   good = c.requires.tunes;
   counted = c.requires.counted;
 }
@@ -48,7 +49,7 @@ returns-in_err-run-2 g c =
     subst (λ u. ArePressed (terms_of c.args.setting.now.defaults.now c.args.setting.now.paper.now c.args.setting.now.how) c.args.plan.now c.split_at.result.0.now u c.in_ok-pressed.pressed) c.unsent_behind-unsent.ensures (search rules) in
     let is : c.from_residual-in_err-run-2.result ≡ Err c.in_err-run-2.field-0.0 = search rules in
     subst (λ r. ArePrinted (terms_of c.args.setting.now.defaults.now c.args.setting.now.paper.now c.args.setting.now.how) c.args.plan.now c.args.tunes.now (stream (g.O.Sink.taken c.args.output.now) (g.O.Sink.taken c.send_unsent.new.output) (g.O.Sink.faults c.args.output.now) (g.O.Sink.faults c.send_unsent.new.output)) r) (sym is)
-    (cut_sent c.batches.invariant.way c.split_at.result.1.now whole pressed _ _ c.in_err-run-2.field-0.0 c.in_err-run-2.ensures.wrote)
+    (cut_sent c.batches.invariant.way c.split_at.result.1.now whole pressed (g.O.Sink.taken c.send_unsent.new.output) (g.O.Sink.faults c.send_unsent.new.output) c.in_err-run-2.field-0.0 c.in_err-run-2.ensures.wrote)
 
 pub batches-preserved : goal.batches-preserved
 batches-preserved g c =
@@ -56,7 +57,7 @@ batches-preserved g c =
     let pressed : ArePressed (terms_of c.args.setting.now.defaults.now c.args.setting.now.paper.now c.args.setting.now.how) c.args.plan.now c.split_at.result.0.now (unsent_behind c.batches.run) c.in_ok-pressed.pressed =
     subst (λ u. ArePressed (terms_of c.args.setting.now.defaults.now c.args.setting.now.paper.now c.args.setting.now.how) c.args.plan.now c.split_at.result.0.now u c.in_ok-pressed.pressed) c.unsent_behind-unsent.ensures (search rules) in
     record {
-      way = underway_sent c.batches.invariant.way c.split_at.result.1.now whole pressed _ _ c.in_ok-run-2.run' c.in_ok-run-2.ensures.wrote c.in_ok-run-2.ensures.running c.in_ok-run-2.ensures.press;
+      way = underway_sent c.batches.invariant.way c.split_at.result.1.now whole pressed (g.O.Sink.taken c.send_unsent.new.output) (g.O.Sink.faults c.send_unsent.new.output) c.in_ok-run-2.run' c.in_ok-run-2.ensures.wrote c.in_ok-run-2.ensures.running c.in_ok-run-2.ensures.press;
       good = subst (λ tunes. All IsGoodTune tunes) (sym c.split_at.ensures.back) (All-drop IsGoodTune c.batch_size.result c.batches.rest.now c.batches.invariant.good);
       counted = subst (λ tunes. All IsCounted tunes) (sym c.split_at.ensures.back) (All-drop IsCounted c.batch_size.result c.batches.rest.now c.batches.invariant.counted);
     }
