@@ -1,5 +1,5 @@
-ghost use Rattle.std.specs.{Prelude.{◌≡◌, ◌+◌, ◌*◌, ◌/◌, ◌%◌, ◌≤◌, ◌++◌, ◌∷◌, OnOk, [], decimal, drop, flat_map, length}, Fmt.signed_decimal};
-ghost use Rattle.{glyph_paths.specs.{Characters.backslash, Characters.digit, Procedure.numbers}, ps_text.specs.Fields.{shown, quoted, in_parentheses}};
+ghost use Rattle.std.specs.{Prelude.{◌≡◌, ◌+◌, ◌*◌, ◌≤◌, ◌++◌, ◌∷◌, OnOk, [], decimal, drop, flat_map, length}, Fmt.signed_decimal};
+ghost use Rattle.{glyph_paths.specs.Procedure.{numbers}, ps_text.specs.Fields.{shown, quoted, in_parentheses}};
 
 use eng_lines::put_number;
 use itoa::write_digits;
@@ -103,16 +103,6 @@ pub(crate) fn put_next(out: &mut Text, number: u64) -> Result<(), Memory>
     put_number(out, number)
 }
 
-/// Adds a byte past 7E as three octal digits behind a backslash.
-fn put_octal(out: &mut Text, b: u8) -> Result<(), Memory>
-    ensures { OnOk result (out.new ≡ out.old ++ backslash ∷ digit (b / 64) ∷ digit (b / 8 % 8) ∷ digit (b % 8) ∷ []) }
-{
-    out.push(b'\\')?;
-    out.push(b'0' + b / 64)?;
-    out.push(b'0' + b / 8 % 8)?;
-    out.push(b'0' + b % 8)
-}
-
 /// Adds a byte of words.
 #[tactic(auto, unfolding(crate::specs::Fields::shown))]
 fn put_shown(out: &mut Text, b: u8) -> Result<(), Memory>
@@ -124,7 +114,10 @@ fn put_shown(out: &mut Text, b: u8) -> Result<(), Memory>
     } else if b < 127 {
         out.push(b)
     } else {
-        put_octal(out, b)
+        out.push(b'\\')?;
+        out.push(b'0' + b / 64)?;
+        out.push(b'0' + b / 8 % 8)?;
+        out.push(b'0' + b % 8)
     }
 }
 
