@@ -19,16 +19,12 @@ pub(crate) fn put_arcs(out: &mut Report, score: &Score) -> Result<(), Memory>
 
 fn put_all(out: &mut Report, arcs: &[Arc]) -> Result<(), Memory> {
     for arc in arcs {
-        put_arc(out, arc)?;
+        out.line(if arc.tie { b"tie" } else { b"slur" })?;
+        out.tell(format_args!("{} to {}", arc.first, arc.last))?;
+        out.next_number(b"head ", arc.head)?;
+        out.tell(format_args!("measures {} to {}", arc.from, arc.to))?;
     }
     Ok(())
-}
-
-fn put_arc(out: &mut Report, arc: &Arc) -> Result<(), Memory> {
-    out.line(if arc.tie { b"tie" } else { b"slur" })?;
-    out.tell(format_args!("{} to {}", arc.first, arc.last))?;
-    out.next_number(b"head ", arc.head)?;
-    out.tell(format_args!("measures {} to {}", arc.from, arc.to))
 }
 
 /// Adds what a system of the measures a to b - 1, which the argument names, draws of a slur of

@@ -49,7 +49,12 @@ fn put_lines(out: &mut Report, lines: &[Line]) -> Result<(), Memory> {
 
 /// Adds what a line is by its first bytes.
 pub(crate) fn put_line_kind(out: &mut Report, bytes: &[u8]) -> Result<(), Memory> {
-    match kind_of(&line_of(out.alloc, bytes)?) {
+    let line = line_of(out.alloc, bytes)?;
+    put_kind(out, kind_of(&line))
+}
+
+fn put_kind(out: &mut Report, kind: LineKind) -> Result<(), Memory> {
+    match kind {
         LineKind::Field { letter } => {
             out.append(b"field ")?;
             out.push(letter)

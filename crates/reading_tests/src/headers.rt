@@ -1,18 +1,22 @@
-ghost use Rattle.abc_header.specs.Good.{IsGoodDefaults};
+ghost use Rattle.{abc_lines.specs.Good.{IsGoodBook}, abc_header.specs.Good.{IsGoodDefaults}};
 
 use crate::books::book_of;
 use crate::fields::{put_breaks, put_voice};
 use abc_header::{Defaults, Header, VoiceDef, read_defaults, read_header};
-use abc_lines::{Line, TuneText};
+use abc_lines::{Book, Line, TuneText};
 use case_texts::{
     Report, put_clef, put_fault, put_frac, put_meter, put_signs, put_spread, put_text,
 };
 use mus_units::{Memory, Row, Text};
+use std::alloc::Global;
 
 /// Adds what a book's file header sets for every tune.
 pub(crate) fn put_defaults_of_book(out: &mut Report, bytes: &[u8]) -> Result<(), Memory> {
-    let book = book_of(out.alloc, bytes)?;
-    put_defaults(out, &read_defaults(out.alloc, &book)?)
+    put_defaults(out, &defaults_of(out.alloc, bytes)?)
+}
+
+fn defaults_of(alloc: Global, bytes: &[u8]) -> Result<Defaults, Memory> {
+    read_defaults(alloc, &book_of(alloc, bytes)?)
 }
 
 fn put_defaults(out: &mut Report, defaults: &Defaults) -> Result<(), Memory> {
@@ -36,16 +40,15 @@ fn put_staves(out: &mut Report, staves: &Option<Line>) -> Result<(), Memory> {
 
 /// Adds the header of each tune of a book, or its fault.
 pub(crate) fn put_headers_of_book(out: &mut Report, bytes: &[u8]) -> Result<(), Memory> {
-    let book = book_of(out.alloc, bytes)?;
-    let defaults = read_defaults(out.alloc, &book)?;
-    put_headers(out, book.tunes.as_slice(), &defaults)
+    put_headers(out, &book_of(out.alloc, bytes)?)
 }
 
-fn put_headers(out: &mut Report, tunes: &[TuneText], defaults: &Defaults) -> Result<(), Memory>
-    requires { IsGoodDefaults defaults.now }
+fn put_headers(out: &mut Report, book: &Book) -> Result<(), Memory>
+    requires { IsGoodBook book.now }
 {
-    for tune in tunes {
-        put_header_of_tune(out, tune, defaults)?;
+    let defaults = read_defaults(out.alloc, book)?;
+    for tune in book.tunes.as_slice() {
+        put_header_of_tune(out, tune, &defaults)?;
     }
     Ok(())
 }
@@ -69,10 +72,6 @@ fn put_header(out: &mut Report, header: &Header) -> Result<(), Memory> {
     put_frac(out, b"unit", header.unit)?;
     put_voices(out, header.voices.as_slice())?;
     put_head_texts(out, header)?;
-    put_layout(out, header)
-}
-
-fn put_layout(out: &mut Report, header: &Header) -> Result<(), Memory> {
     put_breaks(out, header.breaks)?;
     put_spread(out, header.spread)?;
     put_staves(out, &header.staves)?;

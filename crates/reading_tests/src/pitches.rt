@@ -21,12 +21,8 @@ pub(crate) fn put_height(out: &mut Report, word: &str, bytes: &[u8]) -> Result<(
 /// The heads of the notes of a line.
 fn heads_of(alloc: Global, bytes: &[u8]) -> Result<Row<Head>, Memory> {
     let front = read_front(alloc, &line_of(alloc, bytes)?, false)?;
-    heads_in(alloc, front.tokens.as_slice())
-}
-
-fn heads_in(alloc: Global, tokens: &[Placed]) -> Result<Row<Head>, Memory> {
     let mut heads = Row::new(alloc);
-    for placed in tokens {
+    for placed in front.tokens.as_slice() {
         if let Some(head) = head_of(placed) {
             heads.push(head)?;
         }

@@ -16,15 +16,11 @@ fn put_token(out: &mut Report, token: &Token) -> Result<(), Memory> {
     match token {
         Token::Note { head, len } => put_note(out, *head, *len),
         Token::Rest { seen, len } => put_rest(out, *seen, *len),
-        Token::Measures { seen, count } => {
-            out.show(format_args!("{}{count}", if *seen { 'Z' } else { 'X' }))
-        }
+        Token::Measures { seen, count } => put_measures(out, *seen, *count),
         Token::Chord(chord) => put_chord(out, chord.get()),
         Token::Grace { slash, body } => put_grace(out, *slash, body.as_slice()),
         Token::Tuplet { p, q, r } => out.show(format_args!("t{p}:{q}:{r}")),
-        Token::Broken { right, dots } => {
-            out.show(format_args!("{}{dots}", if *right { '>' } else { '<' }))
-        }
+        Token::Broken { right, dots } => put_broken(out, *right, *dots),
         Token::Deco(deco) => {
             out.push(b'd')?;
             put_deco(out, deco)
@@ -42,6 +38,16 @@ fn put_note(out: &mut Report, head: Head, len: Len) -> Result<(), Memory> {
 fn put_rest(out: &mut Report, seen: bool, len: Len) -> Result<(), Memory> {
     out.push(if seen { b'z' } else { b'x' })?;
     put_len(out, len)
+}
+
+fn put_measures(out: &mut Report, seen: bool, count: u16) -> Result<(), Memory> {
+    out.push(if seen { b'Z' } else { b'X' })?;
+    out.show(count)
+}
+
+fn put_broken(out: &mut Report, right: bool, dots: u8) -> Result<(), Memory> {
+    out.push(if right { b'>' } else { b'<' })?;
+    out.show(dots)
 }
 
 /// Adds a token that is a mark or a text alone.
