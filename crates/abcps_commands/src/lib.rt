@@ -20,10 +20,9 @@ use crate::failing::tell_failures;
 use crate::files::read_table;
 use crate::gates::ran_counted;
 use crate::painting::tell_painted;
-use crate::running::{Host, PIECE, Streams, ran};
+use crate::running::{PIECE, Streams, ran};
+pub use running::Host;
 use std::io;
-use std::rt::Files;
-use std::thread::Threads;
 
 /// Tells a case over streams that never fail.
 fn tell_case<R: Host>(rt: &R, line: &str) -> io::Result<()> {
@@ -78,7 +77,7 @@ fn tell_gates<R: Host>(rt: &R) -> io::Result<()> {
 }
 
 /// Tells each case of the tables, of the books and of the painted programs.
-pub fn tell_commands<R: Files + AllocGlobal + Print + Threads + Sync>(rt: &R) -> io::Result<()> {
+pub fn tell_commands<R: Host>(rt: &R) -> io::Result<()> {
     tell_cases(rt)?;
     tell_failing(rt)?;
     tell_gates(rt)?;

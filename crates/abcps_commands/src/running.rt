@@ -10,7 +10,7 @@ use std::rt::Files;
 use std::thread::Threads;
 
 /// What a case takes of the runtime: its files and memory, threads for the run, and where to tell of it.
-pub(crate) trait Host: Files + AllocGlobal + Print + Threads + Sync {}
+pub trait Host: Files + AllocGlobal + Print + Threads + Sync {}
 
 impl<R: Files + AllocGlobal + Print + Threads + Sync> Host for R {}
 
