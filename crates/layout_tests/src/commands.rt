@@ -25,27 +25,6 @@ fn spread_name(spread: Spread) -> &'static str {
     }
 }
 
-fn put_set(out: &mut Report, flow: bool, even: bool, jobs: u8, by: i8) -> Result<(), Memory> {
-    out.next(b"set")?;
-    out.flag(flow, b"flow")?;
-    out.flag(even, b"even")?;
-    out.tell(format_args!("{jobs} {by}"))
-}
-
-fn put_systems(out: &mut Report, flow: bool, table: bool, by: i8) -> Result<(), Memory> {
-    out.next(b"systems")?;
-    out.flag(flow, b"flow")?;
-    out.flag(table, b"table")?;
-    out.tell(by)
-}
-
-fn put_trial(out: &mut Report, tunes: u32, flow: bool, even: bool, jobs: u8) -> Result<(), Memory> {
-    out.next_number(b"trial ", tunes)?;
-    out.flag(flow, b"flow")?;
-    out.flag(even, b"even")?;
-    out.tell(jobs)
-}
-
 fn put_command(out: &mut Report, command: Command) -> Result<(), Memory> {
     match command {
         Command::Set {
@@ -53,37 +32,51 @@ fn put_command(out: &mut Report, command: Command) -> Result<(), Memory> {
             jobs,
             by,
             even,
-        } => put_set(out, flow, even, jobs, by),
-        Command::Systems { flow, table, by } => put_systems(out, flow, table, by),
+        } => {
+            out.next(b"set")?;
+            out.flag(flow, b"flow")?;
+            out.flag(even, b"even")?;
+            out.tell(format_args!("{jobs} {by}"))
+        }
+        Command::Systems { flow, table, by } => {
+            out.next(b"systems")?;
+            out.flag(flow, b"flow")?;
+            out.flag(table, b"table")?;
+            out.tell(by)
+        }
         Command::Inspect => out.next(b"inspect"),
         Command::Check => out.next(b"check"),
         Command::Paint => out.next(b"paint"),
-        Command::Hear { spread } => out.tell(format_args!("hear {}", spread_name(spread))),
+        Command::Hear { spread } => {
+            out.next(b"hear")?;
+            out.tell(spread_name(spread))
+        }
         Command::Make { tunes } => out.next_number(b"make ", tunes),
         Command::Trial {
             tunes,
             flow,
             jobs,
             even,
-        } => put_trial(out, tunes, flow, even, jobs),
-    }
-}
-
-/// Adds what a line's words ask for, and how much input may be read for it.
-fn put_asked(out: &mut Report, words: &[String]) -> Result<(), Memory> {
-    match command_of(words) {
-        Some(command) => {
-            put_command(out, command)?;
-            out.next_number(b"of ", command.limit())
+        } => {
+            out.next_number(b"trial ", tunes)?;
+            out.flag(flow, b"flow")?;
+            out.flag(even, b"even")?;
+            out.tell(jobs)
         }
-        None => out.next(b"usage"),
     }
 }
 
-/// Adds for each line what its words ask for.
+/// For each line what its words ask for, and how much input may be read for it.
 pub(crate) fn put_commands(out: &mut Report, text: &str) -> Result<(), Memory> {
     for line in text.lines() {
-        put_asked(out, &words_of(out.alloc, line)?)?;
+        let words = words_of(out.alloc, line)?;
+        match command_of(&words) {
+            Some(command) => {
+                put_command(out, command)?;
+                out.next_number(b"of ", command.limit())?;
+            }
+            None => out.next(b"usage")?,
+        }
         out.end_line()?;
     }
     out.next(usage())

@@ -8,11 +8,7 @@ use mus_units::Memory;
 /// Adds the verdicts on a listing, or the line at which the text is none.
 pub(crate) fn put_verdicts(out: &mut Report, text: &str) -> Result<(), Memory> {
     let bytes = bytes_of(out.alloc, text)?;
-    put_judged(out, bytes.as_slice())
-}
-
-fn put_judged(out: &mut Report, listing: &[u8]) -> Result<(), Memory> {
-    match check_listing(out.alloc, listing) {
+    match check_listing(out.alloc, bytes.as_slice()) {
         Ok(judged) => {
             for one in judged.as_slice() {
                 put_verdict(&mut out.text, one)?;

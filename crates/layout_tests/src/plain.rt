@@ -82,8 +82,11 @@ fn put_fit(
     let front = &mut [0i64; 2];
     let mut placed = Progress::none();
     let found = fit_within(columns, &GAPS, width, most, &mut at, front, &mut placed);
-    let (Some(last), Some(force)) = (last, found) else {
+    let Some(last) = last else {
         return put_force(out, found);
+    };
+    let Some(force) = found else {
+        return put_force(out, None);
     };
     let set = justify(columns, &GAPS, width, force, last, at, front, placed);
     put_placed(out, &set)

@@ -73,25 +73,13 @@ fn put_passed<E: Drop>(out: &mut Report, passed: Result<usize, E>) -> Result<(),
 
 /// A text passed on by streams of std: two bytes of it read, all of it written, and the faults of both.
 pub(crate) fn put_streams(out: &mut Report, text: &str) -> Result<(), Memory> {
-    let read_faults = put_pair(out, text)?;
-    let write_faults = put_all(out, text)?;
-    out.tell_all(&[read_faults, write_faults])?;
-    out.end_line()
-}
-
-/// Two bytes read from a text; the faults of its source.
-fn put_pair(out: &mut Report, text: &str) -> Result<u64, Memory> {
     let mut source = StdSource::new(text.as_bytes());
     let mut pair = [0u8; 2];
     put_passed(out, source.read(&mut pair))?;
     out.next(&pair)?;
-    Ok(source.faults)
-}
-
-/// A text as it was written; the faults of its sink.
-fn put_all(out: &mut Report, text: &str) -> Result<u64, Memory> {
     let mut sink = StdSink::new(Vec::<u8>::new(out.alloc));
     put_passed(out, sink.write(text.as_bytes()))?;
     out.next(sink.writer.as_slice())?;
-    Ok(sink.faults)
+    out.tell_all(&[source.faults, sink.faults])?;
+    out.end_line()
 }
