@@ -11,7 +11,7 @@
 //! memory is short for item K, have work on items; `meetings` has two tunes wait for each other.
 
 ghost use Rattle.std.specs.Prelude.{◌≤◌, ◌<◌, ◌^◌, ℕ, length, slice_index};
-ghost use Rattle.mus_score.specs.GoodScore.{IsGoodScore};
+ghost use Rattle.{mus_score.specs.GoodScore.{IsGoodScore}, lay_columns.specs.Widened.{AreGoodStaves}};
 
 use crate::books::put_book;
 use crate::boxes::{put_printed, put_system_boxes};
@@ -30,9 +30,10 @@ use case_texts::{Case, Report};
 use lay_columns::{Column, columns, gaps_of};
 use lay_measures::{measure_columns, staff_verses};
 use lay_springs::place;
+use mus_laid::SystemMarks;
 use mus_marks::{draw_voices, marks, marks_of, sounding};
 use mus_score::Score;
-use mus_time::onsets;
+use mus_time::{Timeline, onsets};
 use mus_units::{Memory, Row};
 use std::thread::Threads;
 
@@ -169,11 +170,23 @@ fn put_system_columns(out: &mut Report, score: &Score, a: u32, b: u32) -> Result
     let voices = draw_voices(alloc, score)?;
     let system = marks_of(alloc, score, voices.as_slice(), &times, a, b)?;
     let verses = staff_verses(alloc, voices.as_slice())?;
+    put_columns_of(out, &system, &times, verses.as_slice())
+}
+
+/// The columns of marks whose staves have so many verses, their gaps, and their places at force 256.
+fn put_columns_of(
+    out: &mut Report,
+    system: &SystemMarks,
+    times: &Timeline,
+    verses: &[u8],
+) -> Result<(), Memory>
+    requires { AreGoodStaves system.now.staves }
+{
     if verses.len() != system.staves.len() {
         return out.next(b"other staves\n");
     }
-    let columns = columns(alloc, &system, &times, verses.as_slice())?;
-    let gaps = gaps_of(alloc, verses.as_slice())?;
+    let columns = columns(out.alloc, system, times, verses)?;
+    let gaps = gaps_of(out.alloc, verses)?;
     put_placed_columns(out, columns.as_slice(), gaps.as_slice())
 }
 

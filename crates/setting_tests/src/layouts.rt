@@ -34,6 +34,14 @@ fn put_systems(out: &mut Report, layout: &Layout) -> Result<(), Memory> {
     Ok(())
 }
 
+fn put_laid_out(out: &mut Report, layout: &Layout, drawn: bool) -> Result<(), Memory> {
+    if drawn {
+        put_systems(out, layout)
+    } else {
+        put_layout(out, layout)
+    }
+}
+
 /// A score laid out on a width: where things stand, or else what its systems draw.
 pub(crate) fn put_score_layout<R: Threads + Sync>(
     rt: &R,
@@ -48,8 +56,7 @@ pub(crate) fn put_score_layout<R: Threads + Sync>(
         return out.next(b"no voice\n");
     }
     match lay_out(rt, out.alloc, score, width, Jobs { count: 2 }) {
-        Ok(layout) if drawn => put_systems(out, &layout),
-        Ok(layout) => put_layout(out, &layout),
+        Ok(layout) => put_laid_out(out, &layout, drawn),
         Err(LayoutError::NoWay { reached }) => put_no_way(out, reached),
         Err(LayoutError::Memory) => Err(Memory),
     }
