@@ -4,34 +4,48 @@ use crate::case::{Case, verdict};
 use crate::running::{Host, PIECE, Stream, Streams, ran};
 use std::io;
 
+/// Whether a run over streams is as told.
+fn is_told<R: Host>(rt: &R, case: &Case, streams: &Streams) -> io::Result<bool> {
+    let finished = ran(rt, case, streams)?;
+    Ok(case.is_told(&finished))
+}
+
+/// Whether a run over streams of which one fails is as told.
+fn is_told_after<R: Host>(
+    rt: &R,
+    case: &Case,
+    stream: Stream,
+    streams: &Streams,
+) -> io::Result<bool> {
+    let finished = ran(rt, case, streams)?;
+    Ok(case.is_told_after(stream, &finished))
+}
+
 /// Whether a run is as told with each of the calls of a stream failing in turn, and with the one behind them, that
 /// doesn't come.
 fn fails_as_told<R: Host>(rt: &R, case: &Case, stream: Stream, calls: u64) -> io::Result<bool> {
     for call in 0..calls {
-        let finished = ran(rt, case, &Streams::failing_at(stream, call))?;
-        if !case.is_told_after(stream, &finished) {
+        if !is_told_after(rt, case, stream, &Streams::failing_at(stream, call))? {
             return Ok(false);
         }
     }
-    let finished = ran(rt, case, &Streams::failing_at(stream, calls))?;
-    Ok(case.is_told(&finished))
+    is_told(rt, case, &Streams::failing_at(stream, calls))
 }
 
 /// Whether a run is as told with a sink that takes no byte.
 fn takes_none_as_told<R: Host>(rt: &R, case: &Case, stream: Stream) -> io::Result<bool> {
-    let finished = ran(rt, case, &Streams::taking_none(stream))?;
+    let streams = Streams::taking_none(stream);
     if case.writes_on(stream) {
-        Ok(case.is_told_after(stream, &finished))
+        is_told_after(rt, case, stream, &streams)
     } else {
-        Ok(case.is_told(&finished))
+        is_told(rt, case, &streams)
     }
 }
 
 /// Whether a run is as told with sinks that take a byte in each call, and with each that takes none.
 fn trickles_as_told<R: Host>(rt: &R, case: &Case) -> io::Result<bool> {
-    let finished = ran(rt, case, &Streams::sound(1))?;
     Ok(
-        case.is_told(&finished)
+        is_told(rt, case, &Streams::sound(1))?
             && takes_none_as_told(rt, case, Stream::Output)?
             && takes_none_as_told(rt, case, Stream::Errors)?,
     )
@@ -58,12 +72,22 @@ fn tell_stream<R: Host>(
     println!(rt; "{name}, {what} failing in turn ({calls}): {verdict}")
 }
 
+/// How often a run over sound streams calls each of them.
+fn calls_of<R: Host>(rt: &R, case: &Case) -> io::Result<[u64; 3]> {
+    let sound = ran(rt, case, &Streams::sound(PIECE))?;
+    Ok([
+        sound.calls(Stream::Input),
+        sound.calls(Stream::Output),
+        sound.calls(Stream::Errors),
+    ])
+}
+
 /// Tells whether a case is as told over streams that fail.
 pub(crate) fn tell_failures<R: Host>(rt: &R, name: &str, case: &Case) -> io::Result<()> {
-    let sound = ran(rt, case, &Streams::sound(PIECE))?;
-    for stream in [Stream::Input, Stream::Output, Stream::Errors] {
-        tell_stream(rt, name, case, stream, sound.calls(stream))?;
-    }
+    let [reads, writes, errors] = calls_of(rt, case)?;
+    tell_stream(rt, name, case, Stream::Input, reads)?;
+    tell_stream(rt, name, case, Stream::Output, writes)?;
+    tell_stream(rt, name, case, Stream::Errors, errors)?;
     let verdict = verdict(trickles_as_told(rt, case)?);
     println!(rt; "{name}, sinks that take one byte, or none: {verdict}")
 }
