@@ -5,7 +5,7 @@ use crate::running::{Host, PIECE, Stream, Streams, ran};
 use std::io;
 
 /// Whether a run over streams is as told.
-fn is_told<R: Host>(rt: &R, case: &Case, streams: &Streams) -> io::Result<bool> {
+pub(crate) fn is_told<R: Host>(rt: &R, case: &Case, streams: &Streams) -> io::Result<bool> {
     let finished = ran(rt, case, streams)?;
     Ok(case.is_told(&finished))
 }

@@ -15,20 +15,19 @@ mod painting;
 mod running;
 
 use crate::books::tell_books;
-use crate::case::{named_case, verdict};
-use crate::failing::tell_failures;
+use crate::case::{Case, named_case, verdict};
+use crate::failing::{is_told, tell_failures};
 use crate::files::read_table;
-use crate::gates::ran_counted;
+use crate::gates::{Entered, ran_counted};
 use crate::painting::tell_painted;
-use crate::running::{PIECE, Streams, ran};
+use crate::running::{PIECE, Streams};
 pub use running::Host;
 use std::io;
 
 /// Tells a case over streams that never fail.
 fn tell_case<R: Host>(rt: &R, line: &str) -> io::Result<()> {
     let (name, case) = named_case(rt, line)?;
-    let finished = ran(rt, &case, &Streams::sound(PIECE))?;
-    let verdict = verdict(case.is_told(&finished));
+    let verdict = verdict(is_told(rt, &case, &Streams::sound(PIECE))?);
     println!(rt; "{name}: {verdict}")
 }
 
@@ -56,11 +55,17 @@ fn tell_failing<R: Host>(rt: &R) -> io::Result<()> {
     Ok(())
 }
 
+/// Whether a run of a case is as told, and who entered its gate.
+fn judged_gate<R: Host>(rt: &R, case: &Case) -> io::Result<(bool, Entered)> {
+    let (finished, entered) = ran_counted(rt, case)?;
+    Ok((case.is_told(&finished), entered))
+}
+
 /// Tells a case, and how many tunes entered its gate how often.
 fn tell_gate<R: Host>(rt: &R, line: &str) -> io::Result<()> {
     let (name, case) = named_case(rt, line)?;
-    let (finished, entered) = ran_counted(rt, &case)?;
-    let verdict = verdict(case.is_told(&finished));
+    let (is_told, entered) = judged_gate(rt, &case)?;
+    let verdict = verdict(is_told);
     println!(rt;
         "{name}, {} tunes enter {} to {} times: {verdict}",
         entered.tunes, entered.least, entered.most
