@@ -14,6 +14,22 @@ pub fn put_number(out: &mut Text, number: u64) -> Result<(), Memory>
     out.append(Buffer::new().format(number).as_bytes())
 }
 
+/// Puts a word at the end of a text, and a number behind it.
+pub fn put_named(out: &mut Text, name: &[u8], number: u64) -> Result<(), Memory>
+    ensures { OnOk result (out.new ≡ out.old ++ name.now ++ decimal number) }
+{
+    out.append(name)?;
+    put_number(out, number)
+}
+
+/// Puts a space at the end of a text, and a number behind it.
+pub fn put_next(out: &mut Text, number: u64) -> Result<(), Memory>
+    ensures { OnOk result (out.new ≡ out.old ++ 32 ∷ decimal number) }
+{
+    out.push(b' ')?;
+    put_number(out, number)
+}
+
 fn first_at(byte: u8, bytes: &[u8]) -> Option<usize>
     ensures { result ≡ position (λ b. b == byte) bytes.now }
 {

@@ -1,7 +1,7 @@
 ghost use Rattle.std.specs.Prelude.{◌≡◌, ◌++◌, ◌∷◌, [], codes, decimal, OnOk, IfOk, Decides};
 ghost use Rattle.lay_cert.specs.Lines.{line_text, sum_text};
 
-use eng_lines::put_number;
+use eng_lines::{put_named, put_next, put_number};
 use lay_breaks::Span;
 use mus_units::{Memory, Text};
 use std::alloc::Global;
@@ -23,22 +23,6 @@ pub enum Line {
     Potential { bar: u32, least: Option<u64> },
     /// The last.
     End,
-}
-
-/// Adds a word and a number behind it.
-pub(crate) fn put_named(out: &mut Text, name: &[u8], number: u64) -> Result<(), Memory>
-    ensures { OnOk result (out.new ≡ out.old ++ name.now ++ decimal number) }
-{
-    out.append(name)?;
-    put_number(out, number)
-}
-
-/// Adds a space and a number.
-pub(crate) fn put_next(out: &mut Text, number: u64) -> Result<(), Memory>
-    ensures { OnOk result (out.new ≡ out.old ++ 32 ∷ decimal number) }
-{
-    out.push(b' ')?;
-    put_number(out, number)
 }
 
 fn put_sum(out: &mut Text, sum: Option<u64>) -> Result<(), Memory>

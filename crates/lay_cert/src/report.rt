@@ -2,7 +2,7 @@ ghost use Rattle.std.specs.Prelude.{◌≡◌, [], ◌++◌, ◌∷◌, codes, d
 ghost use Rattle.lay_cert.specs.Reports.{bars_text, verdict_text};
 
 use crate::check::{Judged, Verdict};
-use crate::lines::{put_named, put_next};
+use eng_lines::{put_named, put_next};
 use mus_units::{Memory, Text};
 
 fn put_bars(out: &mut Text, bars: &[u32]) -> Result<(), Memory>

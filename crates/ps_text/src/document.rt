@@ -2,11 +2,12 @@ ghost use Rattle.std.specs.Prelude.{◌≡◌, ◌++◌, ◌∷◌, [], ◌+ℤ�
 ghost use Rattle.glyph_paths.specs.Characters.{line_end};
 ghost use Rattle.ps_text.specs.{Document.{numbered, mark_text, marks_text, rules_line, staff_line, staff_text, last_base, join_line, join_text, system_line, system_text, title_line, title_text, tune_line, tune_text, item_text, items_text, heading_line, heading_text, closing, body_text, page_text, count_line, trailer}, Range.{IsNumber, IsPageMark, IsStaff, IsJoined, IsSystem, IsItem, IsPage}};
 
-use crate::fields::{LineEnd, put_line, put_named, put_next, put_words};
+use crate::fields::{LineEnd, put_line, put_words};
 use crate::marks::PageMark;
 use crate::names::size_name_of;
 use crate::sheet::{Item, Page, Staff};
 use crate::writing::put_op;
+use eng_lines::{put_named, put_next};
 use mus_units::{Memory, Size, Text};
 
 #[tactic(auto, unfolding(crate::specs::Document::mark_text))]
@@ -103,7 +104,7 @@ fn put_join(out: &mut Text, staves: &[Staff]) -> Result<(), Memory>
 {
     match staves {
         [] | [_] => Ok(()),
-        [first, next, rest @ ..] => { put_joining(out, first.y + 2000, last_base_of(next, rest)) }
+        [first, next, rest @ ..] => put_joining(out, first.y + 2000, last_base_of(next, rest)),
     }
 }
 

@@ -1,7 +1,6 @@
-ghost use Rattle.std.specs.{Prelude.{◌≡◌, ◌+◌, ◌*◌, ◌≤◌, ◌++◌, ◌∷◌, OnOk, [], decimal, drop, flat_map, length}, Fmt.signed_decimal};
+ghost use Rattle.std.specs.{Prelude.{◌≡◌, ◌+◌, ◌*◌, ◌≤◌, ◌++◌, ◌∷◌, OnOk, [], drop, flat_map, length}, Fmt.signed_decimal};
 ghost use Rattle.{glyph_paths.specs.Procedure.{numbers}, ps_text.specs.Fields.{shown, quoted, in_parentheses}};
 
-use eng_lines::put_number;
 use itoa::write_digits;
 use mus_units::{Memory, Text};
 
@@ -85,22 +84,6 @@ impl LineEnd {
         let start = write_numbers(&mut line, self.start, zs);
         out.append(&line[start..])
     }
-}
-
-/// Adds a word and a number behind it.
-pub(crate) fn put_named(out: &mut Text, name: &[u8], number: u64) -> Result<(), Memory>
-    ensures { OnOk result (out.new ≡ out.old ++ name.now ++ decimal number) }
-{
-    out.append(name)?;
-    put_number(out, number)
-}
-
-/// Adds a space and a number.
-pub(crate) fn put_next(out: &mut Text, number: u64) -> Result<(), Memory>
-    ensures { OnOk result (out.new ≡ out.old ++ 32 ∷ decimal number) }
-{
-    out.push(b' ')?;
-    put_number(out, number)
 }
 
 /// Adds a byte of words.

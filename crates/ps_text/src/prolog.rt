@@ -1,9 +1,8 @@
 ghost use Rattle.std.specs.Prelude.{◌≡◌, ◌++◌, OnOk};
 ghost use Rattle.ps_text.specs.Prolog.{percent, first_text, box_start, procedures, page_start, page_end, last_text, box_line, scaling, page_line, glyph_lines, heading, prolog};
 
-use crate::fields::{put_named, put_next};
 use crate::sheet::Frame;
-use eng_lines::put_number;
+use eng_lines::{put_named, put_next, put_number};
 use glyph_paths::{all_glyphs, procedure};
 use mus_units::{Glyph, Memory, Text};
 use std::alloc::Global;
