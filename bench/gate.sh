@@ -121,7 +121,8 @@ class Watch:
             if parent != self.top:
                 continue
             key = pid, begun
-            if key not in self.works:
+            if not self.works.get(key):
+                # (one that was seen before it became rattle is asked again)
                 works = (work_of(it) for it in chain)
                 self.works[key] = next((it for it in works if it), None)
             self.times[key] = ticks
