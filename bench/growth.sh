@@ -10,26 +10,6 @@ program=$root/crates/abcps_main/out/abcps_main
 folder=$(mktemp -d)
 trap 'rm -rf "$folder"' EXIT
 
-# A book of one tune: so many measures, voices and verses, four measures a line.
-book() {
-    python3 - "$1" "$2" "$3" <<'PYTHON'
-import sys
-
-measures, voices, verses = map(int, sys.argv[1:])
-bars = ["CDEF GABc", "c2 BA G2 FE", "[CE]2 ^F_B =A2 d2", "(3cde f2 (gf) e2"]
-sung = [8, 6, 5, 7]
-print("X:1\nT:growth\nM:4/4\nL:1/8\nK:D")
-for voice in range(1, voices + 1):
-    if voices > 1:
-        print(f"V:{voice}")
-    for start in range(0, measures, 4):
-        line = [i % 4 for i in range(start, min(start + 4, measures))]
-        print("|".join(bars[i] for i in line) + "|")
-        for verse in range(verses):
-            print("w:" + "|".join(" ".join(["la"] * sung[i]) for i in line) + "|")
-PYTHON
-}
-
 if command -v valgrind >/dev/null; then
     unit="million instructions"
     work() {
@@ -48,13 +28,13 @@ fi
 
 before=
 for measures in 125 250 500 1000 2000; do
-    book "$measures" 1 0 >"$folder/book.abc"
+    "$root/bench/growing_book.py" "$measures" 1 0 >"$folder/book.abc"
     now=$(work "$folder/book.abc")
     ratio=$(awk -v a="$now" -v b="${before:-0}" 'BEGIN { if (b > 0) printf ", ratio %.2f (goal: 2.10)", a / b }')
     echo "$measures measures: $now $unit$ratio"
     before=$now
 done
-book 120 16 0 >"$folder/book.abc"
+"$root/bench/growing_book.py" 120 16 0 >"$folder/book.abc"
 echo "16 voices of 120 measures: $(work "$folder/book.abc") $unit (goal: 170 million instructions)"
-book 500 1 8 >"$folder/book.abc"
+"$root/bench/growing_book.py" 500 1 8 >"$folder/book.abc"
 echo "500 measures under eight verses: $(work "$folder/book.abc") $unit (goal: 250 million instructions)"

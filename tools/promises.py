@@ -1,16 +1,17 @@
-#!/usr/bin/env bash
-# Checks docs/PROMISES.md, and the tables of README.md, against the sources. Of PROMISES.md, where each section is a crate:
-# each public call stands in a row; the clauses that a row names are clauses of its calls, and each named clause of a call
-# that has its own row is named; the definitions stand in specs; the edits are there, and each edit is named; the tests
-# are there. Of README.md: each crate has a row, and its calls and clauses are there; so are the clauses of the program.
-# Prints what is wrong, and ends with 1 where something is.
-#
-# usage: bench/promises.sh
-set -eu
+#!/usr/bin/env python3
+"""Checks docs/PROMISES.md and the tables of README.md against the sources; needs Python 3 alone.
 
-cd "$(dirname "$0")/.."
-exec python3 - <<'PYTHON'
-import glob, os, re, sys
+usage: tools/promises.py
+
+PROMISES.md has a section per crate. Each public call has a row, and the clauses of a row are clauses of its calls. A
+row of a single call names each of its clauses. Definitions are in specs, edits and tests exist, and each edit is named.
+In README.md each crate has a row, and calls, clauses and the program's promises exist. Prints what is wrong, and ends
+with 1 if something is.
+"""
+import glob
+import os
+import re
+import sys
 
 WRONG = []
 
@@ -37,7 +38,7 @@ class Call:
 
 
 def calls_of(path, module):
-    """The functions of a file, with the names of their ensures clauses; of traits also the laws."""
+    """Returns the functions of a file, with the names of their ensures clauses; of traits also the laws."""
     calls, owner, trait, call = [], None, None, None
     for row in read(path).split("\n"):
         if row.startswith("#[cfg(test)]"):
@@ -97,7 +98,7 @@ def tests_of():
 
 
 def definitions_of():
-    """For each name of a file in specs or proofs the texts of the files of that name, with their crates."""
+    """Returns for each name of a file in specs or proofs the texts of the files of that name, with their crates."""
     files = {}
     for part in ("specs", "proofs"):
         for path in glob.glob(f"crates/*/{part}/**/*.antt", recursive=True):
@@ -108,7 +109,7 @@ def definitions_of():
 # ---- the document ------------------------------------------------------------------------------------------------
 
 def sections():
-    """The rows of each section that tell of calls or laws, and its other text. A row 'the same' goes on with the one before."""
+    """Returns each section's rows of calls or laws, and its other text. A row 'the same' continues the one before."""
     crate, head, rows, other = None, [], {}, {}
     lines = read("docs/PROMISES.md").split("\n")
     for row, behind in zip(lines, lines[1:] + [""]):
@@ -137,8 +138,13 @@ def code(cell):
     return re.findall(r"`([^`]*)`", cell)
 
 
+def fields_of(spec):
+    """Returns the names of the fields of a definition's records."""
+    return re.findall(rf"^  pub ({NAME}) :", spec, re.M)
+
+
 def names(cell):
-    """The names of a list such as 'a, b; c: what it says': each at the beginning of its item."""
+    """Returns the names of a list such as 'a, b; c: what it says': each at the beginning of its item."""
     cell = re.sub(r"\([^()]*\)", "", re.sub(r"\([^()]*\)", "", cell)).replace("`", "")
     found = []
     for part in cell.split(";"):
@@ -154,8 +160,8 @@ FREE = {"one"}
 
 
 def calls_named(cell, calls):
-    """The names of a cell of calls, and the functions that they mean; 'Owner::name' means that of a type or trait, and a
-    bare name behind it may too."""
+    """Returns the names of a cell of calls, and the functions that they mean. 'Owner::name' means that of a type or
+    trait, and a bare name after it may too."""
     found, mine, owners = [], [], set()
     for entry in code(cell):
         parts = entry.split("::")
@@ -169,6 +175,10 @@ def calls_named(cell, calls):
 
 
 def main():
+    if {"-h", "--help"} & set(sys.argv[1:2]):
+        print(__doc__, end="")
+        return
+    os.chdir(os.path.join(os.path.dirname(os.path.realpath(__file__)), ".."))
     (document, other), tests, files = sections(), tests_of(), definitions_of()
     crates = sorted(os.path.basename(path) for path in glob.glob("crates/*") if os.path.isdir(path + "/src"))
     everything = {crate: crate_calls(crate) for crate in crates}
@@ -185,7 +195,8 @@ def main():
         for row in rows:
             calls, mine = calls_named(row.get("Call", ""), everything[crate])
             told.update(calls)
-            laws = "".join(read(f"crates/{crate}/{path}") for path in code(row.get("Call", "")) if path.startswith("proofs/"))
+            proofs = [path for path in code(row.get("Call", "")) if path.startswith("proofs/")]
+            laws = "".join(read(f"crates/{crate}/{path}") for path in proofs)
             for name in calls:
                 if name not in {call.name for call in mine} and not re.search(rf"^pub {name} :", laws, re.M):
                     wrong(crate, f"no function '{name}' in its sources")
@@ -193,7 +204,8 @@ def main():
             have = {clause for call in mine for clause in call.clauses}
             have |= {law for call in mine for law in LAWS.get(call.trait, [])}
             cited = [entry.split(".")[0] for entry in code(row.get("Definitions", ""))]
-            fields = {field for file in cited for _, spec in files.get(file, []) for field in re.findall(rf"^  pub ({NAME}) :", spec, re.M)}
+            specs = [spec for file in cited for _, spec in files.get(file, [])]
+            fields = {field for spec in specs for field in fields_of(spec)}
             unnamed = any(call.unnamed for call in mine)
             for clause in clauses:
                 if clause in FREE and clause not in have:
@@ -202,7 +214,8 @@ def main():
                 elif clause not in have and clause not in fields:
                     wrong(crate, f"{', '.join(calls)}: no clause '{clause}'")
             if clauses and not re.search("the same|steps|the trait", row["Clauses"]):
-                for clause in sorted({clause for call in mine for clause in call.clauses if not call.of_trait} - set(clauses)):
+                own = {clause for call in mine for clause in call.clauses if not call.of_trait}
+                for clause in sorted(own - set(clauses)):
                     wrong(crate, f"{', '.join(calls)}: the clause '{clause}' isn't named")
             for entry in code(row.get("Definitions", "")):
                 check_definition(crate, entry, files, "std's" in row["Definitions"])
@@ -230,8 +243,8 @@ def main():
 
 
 def cases_of(crate):
-    """The names that a crate of tests has its cases by: the tables in its folder, the first word of each row there, and its
-    modules."""
+    """Returns the names of the cases of a crate of tests: the tables in its folder, the first word of each row
+    there, and its modules."""
     cases = {os.path.basename(path)[:-3] for path in glob.glob(f"crates/{crate}/src/*.rt")}
     folder = crate.removesuffix("_tests").removeprefix("abcps_")
     for path in glob.glob(f"crates/all_tests/data/{folder}/*"):
@@ -241,11 +254,12 @@ def cases_of(crate):
 
 
 def check_tests(crate, calls, cell, tests):
-    """A test is a test function, a crate, or a case of the crate of tests that is named before a colon."""
+    """Checks that a test is a test function, a crate, or a case of the crate of tests that is named before a colon."""
     for part in cell.split(";"):
         of_tests = re.match(rf"\s*(?:by |through )?`({NAME})`: (.*)", part)
         if of_tests and os.path.isdir(f"crates/{of_tests[1]}"):
-            for case in re.findall(rf"(?<![`A-Za-z_]){NAME}", re.sub("`[^`]*`", "", of_tests[2]).split(", by ")[0].split(" (")[0]):
+            named = re.sub("`[^`]*`", "", of_tests[2]).split(", by ")[0].split(" (")[0]
+            for case in re.findall(rf"(?<![`A-Za-z_]){NAME}", named):
                 if case not in cases_of(of_tests[1]):
                     wrong(crate, f"{', '.join(calls)}: no case '{case}' of {of_tests[1]}")
             continue
@@ -255,10 +269,13 @@ def check_tests(crate, calls, cell, tests):
 
 
 def check_readme(crates, everything, files):
-    """Of README's tables: each crate but those of tests and the program itself has a row, the calls of a row are of its
-    crates, and the clauses behind a call are clauses of it; the clauses of the promises are those of the top call."""
-    fields = {field for part in ("abcps", "set_tune", "lay_tune", "set_every") for path in glob.glob(f"crates/{part}/specs/*.antt") for field in re.findall(rf"^  pub ({NAME}) :", read(path), re.M)}
-    laws = {law for path in glob.glob("crates/abcps/proofs/*.antt") for law in re.findall(rf"^pub ({NAME}) :", read(path), re.M)}
+    """Checks README's tables: each crate but those of tests and the program itself has a row, the calls of a row are
+    of its crates, and the clauses after a call are clauses of it. The promises' clauses are those of the top call."""
+    parts = ("abcps", "set_tune", "lay_tune", "set_every")
+    specs = [path for part in parts for path in glob.glob(f"crates/{part}/specs/*.antt")]
+    fields = {field for path in specs for field in fields_of(read(path))}
+    proofs = glob.glob("crates/abcps/proofs/*.antt")
+    laws = {law for path in proofs for law in re.findall(rf"^pub ({NAME}) :", read(path), re.M)}
     lines, head, named = read("README.md").split("\n"), [], set()
     for row, behind in zip(lines, lines[1:] + [""]):
         cells = [cell.strip() for cell in re.split(r"(?<!\\)\|", row)[1:-1]]
@@ -288,8 +305,8 @@ def check_readme(crates, everything, files):
 
 
 def check_definition(crate, entry, files, of_std):
-    """A name 'File.word' stands in a file of that name in specs or proofs; one without a point is a file there, a word of
-    one, or a trait of the sources; where the cell speaks of std, it may be a word of std."""
+    """Checks that a name 'File.word' is in a file of that name in specs or proofs. A name without a point is a file
+    there, a word of one, or a trait of the sources; if the cell speaks of std, it may be a word of std."""
     parts = entry.split(".")
     if not all(re.fullmatch(NAME, part) for part in parts) or os.path.isdir(f"crates/{entry}"):
         return
@@ -300,4 +317,3 @@ def check_definition(crate, entry, files, of_std):
 
 
 main()
-PYTHON

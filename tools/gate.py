@@ -1,24 +1,30 @@
-#!/bin/sh
-# Runs the gate (rt ci, which proves all from nothing; words are handed to it), and
-# prints what each crate took: processor minutes of its proof, of the proof and
-# build of its tests, and of its must-fail edits with what they begin with, and
-# the most memory that one of its processes held. Then the sum, of all crates and
-# of those that the program stands on. With --sizes it runs nothing, and prints
-# the lines of each crate's code, definitions and proofs, and its edits.
-#
-# A process's time is read four times a second until it ends, so each row lacks
-# the last moment of each process; the last line is the system's own count.
-set -eu
-cd "$(dirname "$0")/.."
-exec python3 - "$@" <<'PYTHON'
-import glob, os, resource, subprocess, sys, time
+#!/usr/bin/env python3
+"""Measures the gate crate by crate; needs Python 3, Linux and the Rattle kit (`rt`) on the path.
+
+usage: tools/gate.py [--anew]     runs rt ci and prints what each crate took
+       tools/gate.py --sizes      prints the lines of each crate's code, definitions and proofs, and its edits
+
+A row has the processor minutes of a crate's proof, of the proof and build of its tests, and of its must-fail edits with
+what they begin with, and the most memory that one of its processes held. Then come the sum over all crates, and the sum
+over those that the program needs. With --anew the gate proves everything from nothing: a kit whose rt ci knows the flag
+gets it, and any other kit does that anyway. Other words go to rt ci as they are.
+
+The script reads the time of each process four times a second until the process ends, so a row lacks the last moment of
+each process. The last line is the system's own count.
+"""
+import glob
+import os
+import resource
+import subprocess
+import sys
+import time
 
 TICK = os.sysconf("SC_CLK_TCK")
 KINDS = ("proof", "tests", "edits")
 
 
 def crates():
-    """The crates in the order of crates.txt, each with what it uses."""
+    """Returns the crates in the order of crates.txt, each with what it uses."""
     used = {}
     with open("crates.txt", encoding="utf-8") as lines:
         for line in lines:
@@ -29,7 +35,7 @@ def crates():
 
 
 def below(name, used):
-    """The crates that a crate stands on, and itself."""
+    """Returns a crate and all crates below it."""
     found, rest = set(), [name]
     while rest:
         one = rest.pop()
@@ -73,7 +79,7 @@ def read(path):
 
 
 def processes():
-    """Each process by its number: its parent, when it began and its processor time, in ticks."""
+    """Returns each process by its number: its parent, when it began and its processor time, in ticks."""
     found = {}
     for entry in os.listdir("/proc"):
         if entry.isdigit():
@@ -84,7 +90,7 @@ def processes():
 
 
 def work_of(pid):
-    """The crate and the kind of work that a process of rattle is at."""
+    """Returns the crate and the kind of work of a process of rattle."""
     words = read(f"/proc/{pid}/cmdline").decode(errors="replace").split("\0")
     if "--crate-name" not in words:
         return None
@@ -146,12 +152,18 @@ def table(used, watch):
         program += took[0] if name in stands else 0.0
         row(f"`{name}`", *(f"{it:.1f}" for it in (*took, sum(took))), f"{watch.memory.get(name, 0.0):.1f}")
     row("all", *(f"{it:.1f}" for it in (*sums, sum(sums))), f"{max(watch.memory.values(), default=0.0):.1f}")
-    row("of these the proofs that the program stands on", f"{program:.1f}", "", "", "", "")
+    row("of these the proofs that the program needs", f"{program:.1f}", "", "", "", "")
+
+
+def words_for(words):
+    """Returns the words without --anew if this kit's rt ci has no such flag."""
+    told = subprocess.run(["rt", "help"], stdout=subprocess.PIPE, stderr=subprocess.STDOUT, text=True).stdout
+    return [it for it in words if it != "--anew" or "--anew" in told]
 
 
 def gate(words, used):
     begun = time.monotonic()
-    run = subprocess.Popen(["rt", "ci", *words], stdout=sys.stderr)
+    run = subprocess.Popen(["rt", "ci", *words_for(words)], stdout=sys.stderr)
     watch = Watch(run.pid)
     while run.poll() is None:
         watch.look()
@@ -159,11 +171,16 @@ def gate(words, used):
     took = resource.getrusage(resource.RUSAGE_CHILDREN)
     table(used, watch)
     print()
-    print(f"By the system's count {(took.ru_utime + took.ru_stime) / 60:.1f} processor minutes, in {(time.monotonic() - begun) / 60:.1f} minutes by the clock.")
+    minutes, clock = (took.ru_utime + took.ru_stime) / 60, (time.monotonic() - begun) / 60
+    print(f"By the system's count {minutes:.1f} processor minutes, in {clock:.1f} minutes by the clock.")
     return run.returncode
 
 
 def main(words):
+    if {"-h", "--help"} & set(words):
+        print(__doc__, end="")
+        return 0
+    os.chdir(os.path.join(os.path.dirname(os.path.realpath(__file__)), ".."))
     used = crates()
     if words == ["--sizes"]:
         sizes(used)
@@ -172,4 +189,3 @@ def main(words):
 
 
 sys.exit(main(sys.argv[1:]))
-PYTHON

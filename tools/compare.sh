@@ -1,11 +1,13 @@
-#!/usr/bin/env bash
-# Compares the program with another one that takes the same words: for each book given, what both write on output and
-# on errors, and their statuses, under `set`, `set --flow`, `systems` and `systems --table`. Prints a line for each
-# difference and, last, how many runs were compared; its status is 1 where some differ.
+#!/bin/sh
+# Compares the program with another one that takes the same arguments; needs the kit, or a program that is built.
 #
-# usage: bench/compare.sh 'OTHER PROGRAM AND ITS FIRST WORDS' BOOK..
+# usage: tools/compare.sh 'OTHER PROGRAM AND ITS FIRST WORDS' BOOK..
+#
+# For each book it compares output, standard error and status under `set`, `set --flow`, `systems` and
+# `systems --table`. Prints a line for each difference and how many runs it compared, and ends with 1 if some differ.
 set -u
 
+case ${1---help} in -h | --help) sed -n '2,/^set/s/^# \{0,1\}//p' "$0"; exit ;; esac
 root=$(cd "$(dirname "$0")/.." && pwd)
 other=$1
 shift
@@ -23,7 +25,8 @@ for book in "$@"; do
         $other $words <"$book" >"$folder/other.out" 2>"$folder/other.err"
         theirs=$?
         runs=$((runs + 1))
-        if [ "$own" != "$theirs" ] || ! cmp -s "$folder/own.out" "$folder/other.out" || ! cmp -s "$folder/own.err" "$folder/other.err"; then
+        if [ "$own" != "$theirs" ] || ! cmp -s "$folder/own.out" "$folder/other.out" ||
+            ! cmp -s "$folder/own.err" "$folder/other.err"; then
             echo "differs: $words of $book (statuses $own and $theirs)"
             differ=$((differ + 1))
         fi
