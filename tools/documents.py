@@ -17,7 +17,7 @@ import sys
 import tempfile
 
 ROOT = os.path.dirname(os.path.dirname(os.path.realpath(__file__)))
-TOOLS = ("docs", "examples")
+TOOLS = ("abcpdf", "abchints", "abcbatch", "tools", "docs", "examples")
 NOT_RUN = ("rt", "lp", "git", "sudo", "apt-get", "./install.sh", "./look", "cd")
 
 
