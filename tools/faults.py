@@ -31,7 +31,10 @@ def code(text):
 
 
 def book_of(lines):
-    """Returns a book of these lines, with a header unless they have one."""
+    """Returns a book of these lines, with a header if they have none. A field alone is of the header, V: of the body."""
+    if len(lines) == 1 and re.match("[MLKV]:", lines[0]):
+        field = lines[0]
+        lines = {"K": ["X:1", field, "A|"], "V": [field, "A|"]}.get(field[0], ["X:1", field, "K:C", "A|"])
     head = [] if any(line.startswith("X:") for line in lines) else ["X:1", "K:C"]
     return "\n".join(head + lines) + "\n"
 
