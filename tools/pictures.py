@@ -34,6 +34,7 @@ SIZES = {
     "staves": (400, 225, 110),
     "even": (365, 220, 110),
     "glyphs": (595, 460, 100),
+    "transpose": (370, 274, 110),
 }
 END = "grestore\nshowpage\n%%Trailer\n%%Pages: 1\n%%EOF\n"
 
@@ -66,20 +67,23 @@ def glyph_sheet(document):
 
 
 def framed(document, row):
-    """Returns the pages of a document side by side, each in a frame of 220 by 195 points."""
+    """Returns the pages of a document side by side, each in a frame of its paper; row 0 is the lowest."""
     begin = re.search(r"^/pg \{gsave 0\.01 0\.01 scale(.*)\} def$", document, re.M)[1]
+    paper = re.search(r"^%%BoundingBox: 0 0 (\d+) (\d+)$", document, re.M).groups()
+    width, height = (int(points) * 100 for points in paper)
     text = ""
     for number, items in re.findall(r"^%%Page: (\d+) \d+\npg\n(.*?)^grestore\nshowpage$", document, re.M | re.S):
-        x, y = (int(number) - 1) * 24000 + 1000, row * 21500 + 1000
-        text += f"gsave {x} {y} translate 100 setlinewidth 0 0 m 22000 0 l 22000 19500 l 0 19500 l closepath k\n"
+        x, y = (int(number) - 1) * (width + 2000) + 1000, row * (height + 2000) + 1000
+        corners = f"0 0 m {width} 0 l {width} {height} l 0 {height} l closepath k"
+        text += f"gsave {x} {y} translate 100 setlinewidth {corners}\n"
         text += f"gsave {begin}\n{items}grestore grestore\n"
     return text
 
 
-def even_sheet(program, document):
-    """Returns the pages of an example: filled one after another above, and evenly (--even) below."""
-    text = prolog_of(document) + "gsave\n0.005 0.005 scale\n"
-    text += framed(page(program, ["pages"]), 1) + framed(page(program, ["pages"], "--even"), 0)
+def pair_sheet(program, document, book, scale, *options):
+    """Returns the pages of an example: without options above, and with them below."""
+    text = prolog_of(document) + f"gsave\n{scale} {scale} scale\n"
+    text += framed(page(program, [book]), 1) + framed(page(program, [book], *options), 0)
     return text + END
 
 
@@ -87,7 +91,8 @@ def pages_of(program):
     """Returns the pages by the names of their pictures."""
     pages = {name: page(program, books) for name, books in BOOKS.items()}
     pages["glyphs"] = glyph_sheet(pages["one-measure"])
-    pages["even"] = even_sheet(program, pages["one-measure"])
+    pages["even"] = pair_sheet(program, pages["one-measure"], "pages", "0.005", "--even")
+    pages["transpose"] = pair_sheet(program, pages["one-measure"], "transpose", "0.01", "--transpose", "2")
     return pages
 
 
