@@ -1,6 +1,7 @@
-"""Books, their tunes and faults, for abcpdf, abchints and abcbatch; needs Python 3 and the program."""
+"""Books, their tunes and faults, and the program, for the scripts beside it; needs Python 3."""
 import os
 import re
+import shlex
 import subprocess
 from collections import namedtuple
 
@@ -18,6 +19,11 @@ def program():
     if built.returncode:
         raise SystemExit(built.returncode)
     return os.path.realpath(next((it for it in PROGRAMS if os.path.isfile(it)), launcher))
+
+
+def words_of(program):
+    """Returns the words of a command: a path as it is, blanks and all, or a program and its first words."""
+    return [program] if os.path.isfile(program) else shlex.split(program)
 
 
 def add_options(parser):

@@ -16,6 +16,9 @@ import subprocess
 import sys
 import tempfile
 
+sys.dont_write_bytecode = True
+import abcbook
+
 ROOT = os.path.dirname(os.path.dirname(os.path.realpath(__file__)))
 TOOLS = ("abcpdf", "abchints", "abcbatch", "tools", "docs", "examples")
 NOT_RUN = ("rt", "lp", "git", "sudo", "apt-get", "./install.sh", "./look", "cd")
@@ -76,11 +79,20 @@ def check_commands(program):
             for command in commands_of(path):
                 if not can_run(command):
                     print(f"skipped: {path}: {command}")
-                elif subprocess.run(["sh", "-c", command], cwd=folder, stdin=subprocess.DEVNULL).returncode:
+                elif fails(command, folder):
                     wrong.append(f"{path}: fails: {command}")
             if path == "README.md" and not starts_document(f"{folder}/page.ps"):
                 wrong.append("README.md: its commands write no page")
     return wrong
+
+
+def fails(command, folder):
+    """Returns whether a command fails, and prints what it wrote if so."""
+    how = {"stdin": subprocess.DEVNULL, "stdout": subprocess.PIPE, "stderr": subprocess.STDOUT, "errors": "replace"}
+    ran = subprocess.run(["sh", "-c", command], cwd=folder, **how)
+    if ran.returncode:
+        print(ran.stdout, end="")
+    return ran.returncode != 0
 
 
 def starts_document(path):
@@ -95,9 +107,9 @@ def main(words):
     if {"-h", "--help"} & set(words):
         print(__doc__, end="")
         return 0
-    program = shlex.split(words[0]) if words else [f"{ROOT}/abcps"]
+    program = abcbook.words_of(words[0]) if words else [f"{ROOT}/abcps"]
     wrong = check_files() + check_commands(program)
-    print("".join(f"{it}\n" for it in wrong), end="")
+    print("".join(f"{it}\n" for it in wrong), end="", flush=True)
     failed = bool(wrong)
     for check in (["promises.py"], ["faults.py", shlex.join(program)], ["pictures.py", "--check", shlex.join(program)]):
         failed |= subprocess.run([sys.executable, f"{ROOT}/tools/{check[0]}", *check[1:]]).returncode != 0

@@ -8,9 +8,11 @@ examples were tried, and ends with 1 if some differ.
 """
 import os
 import re
-import shlex
 import subprocess
 import sys
+
+sys.dont_write_bytecode = True
+import abcbook
 
 ROOT = os.path.dirname(os.path.dirname(os.path.realpath(__file__)))
 MADE = {
@@ -89,7 +91,7 @@ def main(words):
     if {"-h", "--help"} & set(words):
         print(__doc__, end="")
         return 0
-    program = shlex.split(words[0]) if words else [f"{ROOT}/abcps"]
+    program = abcbook.words_of(words[0]) if words else [f"{ROOT}/abcps"]
     tried = wrong = 0
     for fault, book, options, report in examples():
         said = differs(program, fault, book, options, report)

@@ -10,10 +10,12 @@ picture was drawn from. With --check nothing is drawn: pages that differ from th
 import hashlib
 import os
 import re
-import shlex
 import subprocess
 import sys
 import tempfile
+
+sys.dont_write_bytecode = True
+import abcbook
 
 ROOT = os.path.dirname(os.path.dirname(os.path.realpath(__file__)))
 PICTURES = f"{ROOT}/docs/pictures"
@@ -129,7 +131,7 @@ def main(words):
         return 0
     only_check = words[:1] == ["--check"]
     words = words[1:] if only_check else words
-    pages = pages_of(shlex.split(words[0]) if words else [f"{ROOT}/abcps"])
+    pages = pages_of(abcbook.words_of(words[0]) if words else [f"{ROOT}/abcps"])
     if only_check:
         return 0 if check(pages) else 1
     for name in SIZES:
