@@ -166,8 +166,8 @@ def launcher_is_quick(place):
             place.run(f'i=0; while [ $i -lt 50 ]; do {program} set < a.abc > /dev/null; i=$((i + 1)); done')
             runs.append(time.monotonic() - start)
         took.append(min(runs))
-    # (a millisecond a call on top, since other programs may run)
-    hold(took[0] < 1.2 * took[1] + 0.05, f"launcher {took[0] * 20:.1f} ms a call, program {took[1] * 20:.1f} ms")
+    # (two milliseconds a call on top, since other programs may run)
+    hold(took[0] < 1.2 * took[1] + 0.1, f"launcher {took[0] * 20:.1f} ms a call, program {took[1] * 20:.1f} ms")
 
 
 @test("script")
