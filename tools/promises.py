@@ -112,7 +112,7 @@ def sections():
     """Returns each section's rows of calls or laws, and its other text. A row 'the same' continues the one before."""
     crate, head, rows, other = None, [], {}, {}
     lines = read("docs/PROMISES.md").split("\n")
-    for row, behind in zip(lines, lines[1:] + [""]):
+    for row, below in zip(lines, lines[1:] + [""]):
         if row.startswith("## "):
             crate = row[3:].strip()
             rows[crate], other[crate] = [], []
@@ -120,7 +120,7 @@ def sections():
             continue
         elif crate and row.startswith("|"):
             cells = [cell.strip() for cell in re.split(r"(?<!\\)\|", row)[1:-1]]
-            if re.match(r"\|[- |]+\|$", behind):
+            if re.match(r"\|[- |]+\|$", below):
                 head = cells
             elif head[0] not in ("Call", "Law"):
                 other[crate].append(row)
@@ -277,9 +277,9 @@ def check_readme(crates, everything, files):
     proofs = glob.glob("crates/abcps/proofs/*.antt")
     laws = {law for path in proofs for law in re.findall(rf"^pub ({NAME}) :", read(path), re.M)}
     lines, head, named = read("README.md").split("\n"), [], set()
-    for row, behind in zip(lines, lines[1:] + [""]):
+    for row, below in zip(lines, lines[1:] + [""]):
         cells = [cell.strip() for cell in re.split(r"(?<!\\)\|", row)[1:-1]]
-        if re.match(r"\|[-|]+\|$", behind):
+        if re.match(r"\|[-|]+\|$", below):
             head = cells
         elif not row.startswith("|") or re.match(r"\|[-|]+\|$", row):
             continue

@@ -177,6 +177,7 @@ def words_on_a_terminal(place):
     cases = [
         ('abcps set "my book.abc"', "reads standard input", 2),
         ('abcps set < "my book.abc" > p.ps', "", 0),
+        ("abcps set > p.ps", "reads from the terminal", 0),
         ("abcps set < none.abc > p.ps", "no tune found", 0),
         ("cat none.abc | abcps set > p.ps", "no tune found", 0),
         ("abcps set < none.abc | tail -n 1 >/dev/null", "no tune found", 0),
@@ -236,7 +237,7 @@ def pdf_on_each_change(place):
         place.write(book, GOOD.replace("One", "Two"))
         hold(b"done" in watching.stdout.readline() and pdf(place, "my book.pdf", b"/Title(Two)"), "changed")
         place.write(book, "nothing\n")
-        watching.stdout.readline()
+        hold(b"as before" in watching.stdout.readline(), "no page")
         hold(pdf(place, "my book.pdf", b"/Title(Two)"), "the last good one is kept")
     finally:
         watching.send_signal(signal.SIGINT)
@@ -287,6 +288,8 @@ def try_batch(place):
 @test("parallel")
 def batch_by_parallel(place):
     try_batch(place)
+    ran = place.run("abcbatch books 'out there' --sshlogin 2/:")
+    hold(ran.returncode == 0 and "2 books, 2 of them" in ran.stderr, ran)
 
 
 @test()
