@@ -21,14 +21,12 @@ sum_of_sources() {
     sources | LC_ALL=C sort | xargs sha256sum | sha256sum
 }
 
-# Returns whether the program is of these sources: by the stamp, or without one, by the files' times.
+# Returns whether the program is of these sources: by the stamp, or if the gate built the program after the stamp was
+# written, by the files' times.
 is_current() {
     [ -x "$program" ] || return 1
-    if [ -f "$stamp" ]; then
-        [ "$(cat "$stamp")" = "$sum" ]
-    else
-        [ -z "$(sources -newer "$program" | head -n 1)" ]
-    fi
+    if [ -f "$stamp" ] && [ "$(cat "$stamp")" = "$sum" ]; then return 0; fi
+    [ -z "$(find "$stamp" -newer "$program" 2>/dev/null)" ] && [ -z "$(sources -newer "$program" | head -n 1)" ]
 }
 
 # Shows the lines of the build that say how far it is, and keeps all of them.
