@@ -33,7 +33,7 @@ def code(text):
 
 
 def book_of(lines):
-    """Returns a book of these lines, with a header if they have none. A field alone is of the header, V: of the body."""
+    """Returns a book of these lines, with a header if they have none; a field alone is of the header, but V: is not."""
     if len(lines) == 1 and re.match("[MLKV]:", lines[0]):
         field = lines[0]
         lines = {"K": ["X:1", field, "A|"], "V": [field, "A|"]}.get(field[0], ["X:1", field, "K:C", "A|"])
