@@ -202,6 +202,8 @@ def build(crate, _):
         aside = f"out/{crate.name}.new"
         words += ["--crate-checked", f"{room}/checked", "--toolchain", f"{rt.KIT}/toolchain"]
         status = crate.compile_by("llvm", words, aside)
+    if os.path.exists(f"{crate.folder}/{aside}.o"):
+        os.remove(f"{crate.folder}/{aside}.o")
     if status == 0:
         os.replace(f"{crate.folder}/{aside}", f"{crate.folder}/out/{crate.name}")
     return status

@@ -299,6 +299,10 @@ def try_batch(place):
     place.write("books/two.abc", GOOD + "\n")
     hold("3 books, 1 of them" in place.run("abcbatch books 'out put'").stderr, "again only what changed")
     hold("3 books, 3 of them" in place.run("abcbatch books 'out put' --flow").stderr, "again with other options")
+    place.write("books/two.abc", "%" * 9000000)
+    hold("status-7" in place.run("abcbatch books 'out put'").stdout, "a book that is too long")
+    hold(not os.path.exists(f"{place.folder}/out put/two.ps"), "no pages of another book")
+    place.write("books/two.abc", GOOD)
     os.remove(f"{place.folder}/books/a b/it's $one.abc")
     hold(place.run("abcbatch books 'out put' --flow").returncode == 0, "all tunes are set")
 
