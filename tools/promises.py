@@ -174,6 +174,76 @@ def calls_named(cell, calls):
     return found, mine
 
 
+def check_names(crate, row, calls, mine):
+    """Checks that each call of a row is a function of its crate, or a law of the proofs that the row names."""
+    proofs = [path for path in code(row.get("Call", "")) if path.startswith("proofs/")]
+    laws = "".join(read(f"crates/{crate}/{path}") for path in proofs)
+    for name in calls:
+        if name not in {call.name for call in mine} and not re.search(rf"^pub {name} :", laws, re.M):
+            wrong(crate, f"no function '{name}' in its sources")
+
+
+def clauses_of(row, mine, files):
+    """Returns the clauses of a row's calls, and the fields of the definitions that it cites."""
+    have = {clause for call in mine for clause in call.clauses}
+    have |= {law for call in mine for law in LAWS.get(call.trait, [])}
+    cited = [entry.split(".")[0] for entry in code(row.get("Definitions", ""))]
+    specs = [spec for file in cited for _, spec in files.get(file, [])]
+    return have, {field for spec in specs for field in fields_of(spec)}
+
+
+def check_clauses(crate, row, calls, mine, files):
+    """Checks that the clauses of a row are clauses of its calls, and that it names each clause of them."""
+    clauses = names(row.get("Clauses", ""))
+    have, fields = clauses_of(row, mine, files)
+    unnamed = any(call.unnamed for call in mine)
+    for clause in clauses:
+        if clause in FREE and clause not in have:
+            if not unnamed:
+                wrong(crate, f"{', '.join(calls)}: the row says '{clause}', but each clause has a name")
+        elif clause not in have and clause not in fields:
+            wrong(crate, f"{', '.join(calls)}: no clause '{clause}'")
+    if clauses and not re.search("the same|steps|the trait", row["Clauses"]):
+        own = {clause for call in mine for clause in call.clauses if not call.of_trait}
+        for clause in sorted(own - set(clauses)):
+            wrong(crate, f"{', '.join(calls)}: the clause '{clause}' isn't named")
+
+
+def check_row(crate, row, everything, tests, files):
+    """Checks a row of calls. Returns the calls and the edits that it names."""
+    calls, mine = calls_named(row.get("Call", ""), everything[crate])
+    check_names(crate, row, calls, mine)
+    check_clauses(crate, row, calls, mine, files)
+    for entry in code(row.get("Definitions", "")):
+        check_definition(crate, entry, files, "std's" in row["Definitions"])
+    edits = names(row.get("Edits", ""))
+    for edit in edits:
+        if not os.path.exists(f"crates/{crate}/must-fail/{edit}.edit"):
+            wrong(crate, f"{', '.join(calls)}: no edit '{edit}'")
+    check_tests(crate, calls, row.get("Test", ""), tests)
+    return calls, edits
+
+
+def check_crate(crate, section, everything, tests, files):
+    """Checks the section of a crate, its rows and its other text: each public call and each edit is named."""
+    rows, text = section
+    public = [call for call in everything[crate] if call.public]
+    if rows is None:
+        if any(call for call in public if call.name != "main"):
+            wrong(crate, "has no section")
+        return
+    found = [check_row(crate, row, everything, tests, files) for row in rows]
+    listed = {call for calls, _ in found for call in calls} | set(re.findall(NAME, " ".join(code(text))))
+    for call in public:
+        if call.name not in listed and call.name != "main":
+            wrong(crate, f"the public call '{call.name}' ({call.module}) isn't listed")
+    edits = {edit for _, edits in found for edit in edits}
+    for path in sorted(glob.glob(f"crates/{crate}/must-fail/*.edit")):
+        edit = os.path.basename(path)[:-5]
+        if edit not in edits:
+            wrong(crate, f"the edit '{edit}' isn't named")
+
+
 def main():
     if {"-h", "--help"} & set(sys.argv[1:2]):
         print(__doc__, end="")
@@ -182,56 +252,9 @@ def main():
     (document, other), tests, files = sections(), tests_of(), definitions_of()
     crates = sorted(os.path.basename(path) for path in glob.glob("crates/*") if os.path.isdir(path + "/src"))
     everything = {crate: crate_calls(crate) for crate in crates}
-    listed_edits = set()
     for crate in crates:
-        rows = document.get(crate)
-        text = "\n".join(other.get(crate, []))
-        public = [call for call in everything[crate] if call.public]
-        if rows is None:
-            if any(call for call in public if call.name != "main"):
-                wrong(crate, "has no section")
-            continue
-        told = set()
-        for row in rows:
-            calls, mine = calls_named(row.get("Call", ""), everything[crate])
-            told.update(calls)
-            proofs = [path for path in code(row.get("Call", "")) if path.startswith("proofs/")]
-            laws = "".join(read(f"crates/{crate}/{path}") for path in proofs)
-            for name in calls:
-                if name not in {call.name for call in mine} and not re.search(rf"^pub {name} :", laws, re.M):
-                    wrong(crate, f"no function '{name}' in its sources")
-            clauses = names(row.get("Clauses", ""))
-            have = {clause for call in mine for clause in call.clauses}
-            have |= {law for call in mine for law in LAWS.get(call.trait, [])}
-            cited = [entry.split(".")[0] for entry in code(row.get("Definitions", ""))]
-            specs = [spec for file in cited for _, spec in files.get(file, [])]
-            fields = {field for spec in specs for field in fields_of(spec)}
-            unnamed = any(call.unnamed for call in mine)
-            for clause in clauses:
-                if clause in FREE and clause not in have:
-                    if not unnamed:
-                        wrong(crate, f"{', '.join(calls)}: the row says '{clause}', but each clause has a name")
-                elif clause not in have and clause not in fields:
-                    wrong(crate, f"{', '.join(calls)}: no clause '{clause}'")
-            if clauses and not re.search("the same|steps|the trait", row["Clauses"]):
-                own = {clause for call in mine for clause in call.clauses if not call.of_trait}
-                for clause in sorted(own - set(clauses)):
-                    wrong(crate, f"{', '.join(calls)}: the clause '{clause}' isn't named")
-            for entry in code(row.get("Definitions", "")):
-                check_definition(crate, entry, files, "std's" in row["Definitions"])
-            for edit in names(row.get("Edits", "")):
-                listed_edits.add((crate, edit))
-                if not os.path.exists(f"crates/{crate}/must-fail/{edit}.edit"):
-                    wrong(crate, f"{', '.join(calls)}: no edit '{edit}'")
-            check_tests(crate, calls, row.get("Test", ""), tests)
-        told.update(re.findall(NAME, " ".join(code(text))))
-        for call in public:
-            if call.name not in told and call.name != "main":
-                wrong(crate, f"the public call '{call.name}' ({call.module}) isn't listed")
-        for path in sorted(glob.glob(f"crates/{crate}/must-fail/*.edit")):
-            edit = os.path.basename(path)[:-5]
-            if (crate, edit) not in listed_edits:
-                wrong(crate, f"the edit '{edit}' isn't named")
+        section = document.get(crate), "\n".join(other.get(crate, []))
+        check_crate(crate, section, everything, tests, files)
     for section in document:
         if section not in crates:
             wrong(section, "has a section, but is no crate")
