@@ -1,13 +1,13 @@
 -- The nodes of a written event of one part, and of several.
 use Rattle.std.proofs.{Common.{◌≡◌, ◌∙◌, ap, ℕ, ◌+◌, ◌-◌, ◌≤◌, ◌<◌, List, [], ◌∷◌, ◌++◌, map, length, take, drop, slice_index_or, Bool, false, arith, append_assoc}, lemmas.List.take_all}
-use Rattle.{mus_units.specs.declared.value.Value.{Value}, mus_score.specs.declared.score.{Music.Music}, abc_signs.specs.{declared.written.Written.Written, declared.written.Waiting.Waiting}, abc_events.specs.Leaves.{Words, first_part, later_parts, parts, node_of, some_more}}
+use Rattle.{mus_units.specs.declared.value.Value.{Value}, mus_score.specs.declared.score.{Music.Music}, abc_signs.specs.{declared.written.WrittenEvent.WrittenEvent, declared.written.Pending.Pending}, abc_events.specs.Leaves.{Words, first_part, later_parts, parts, node_of, some_more}}
 
-pub one_node : (w : Written) (waiting : Waiting) (words : Words) (id : ℕ) (values : List Value) (none : Value) → values ≡ w.values → 1 ≤ length values → length values < 2 → node_of (first_part w waiting words id false (slice_index_or values 0 none)) ∷ [] ≡ map node_of (parts w waiting words id w.values)
+pub one_node : (w : WrittenEvent) (waiting : Pending) (words : Words) (id : ℕ) (values : List Value) (none : Value) → values ≡ w.values → 1 ≤ length values → length values < 2 → node_of (first_part w waiting words id false (slice_index_or values 0 none)) ∷ [] ≡ map node_of (parts w waiting words id w.values)
 one_node w waiting words id [] none e some few = absurd (omega arith)
 one_node w waiting words id (v ∷ []) none e some few = ap (λ vs. map node_of (parts w waiting words id vs)) e
 one_node w waiting words id (v ∷ u ∷ vs) none e some few = absurd (omega arith)
 
-pub several_nodes : (w : Written) (waiting : Waiting) (words : Words) (id verses : ℕ) (values : List Value) (none : Value) (more : Bool) (nodes nodes' nodes'' : List Music)
+pub several_nodes : (w : WrittenEvent) (waiting : Pending) (words : Words) (id verses : ℕ) (values : List Value) (none : Value) (more : Bool) (nodes nodes' nodes'' : List Music)
     → values ≡ w.values → 1 ≤ length values → more ≡ some_more (take (length values - 1) (drop 1 values)) → verses ≡ length words
     → nodes' ≡ nodes ++ node_of (first_part w waiting words id more (slice_index_or values 0 none)) ∷ []
     → nodes'' ≡ nodes' ++ map node_of (later_parts w verses (id + 1) (take (length values - 1) (drop 1 values)))

@@ -20,8 +20,8 @@ union_with (Some all) bar = union all bar
 abbrev pub is_seen : Bar → Bool
 is_seen b = b.end || (b.start || (b.last || (b.initial || (b.double || b.dotted))))
 
-abbrev pub joined : Bar → Bar
-joined b = record b { unseen = b.unseen && not (is_seen b) }
+abbrev pub joined_bar : Bar → Bar
+joined_bar b = record b { unseen = b.unseen && not (is_seen b) }
 
 -- the bars among some steps behind which `begun` measures had begun, and not more
 unfoldable pub bars_behind : ℕ → ℕ → Step → Option Bar → Option Bar
@@ -34,11 +34,11 @@ bars_at begun (s ∷ before) = bars_behind begun (measures_begun before) s.step 
 
 abbrev pub joined_or : Bar → Option Bar → Bar
 joined_or other None = other
-joined_or other (Some all) = joined all
+joined_or other (Some all) = joined_bar all
 
 -- the bars before the first event
-abbrev pub first_bar : Steps → Bar
-first_bar steps = joined_or plain_bar (bars_at 0 (reverse steps))
+abbrev pub bar_before_events : Steps → Bar
+bar_before_events steps = joined_or plain_bar (bars_at 0 (reverse steps))
 
 -- A measure without a bar: the last one of the voice has an unseen bar, another a plain one.
 abbrev pub missing_bar : ℕ → ℕ → Bar
@@ -57,14 +57,14 @@ abbrev pub is_near_bar : Nearest → Bool
 is_near_bar Nearest.Bar = true
 is_near_bar _ = false
 
-abbrev pub is_forced : ℕ → Counts → Bool
-is_forced n counts = is_near_bar counts.nearest && (nat_le 1 (counts.groups + counts.further) && nat_lt (counts.groups + counts.further) n)
+abbrev pub forces_bar : ℕ → Counts → Bool
+forces_bar n counts = is_near_bar counts.nearest && (nat_le 1 (counts.groups + counts.further) && nat_lt (counts.groups + counts.further) n)
 
 abbrev pub with_bar : ℕ → List ℕ → List ℕ
 with_bar bar forced = if list_any (λ b. b == bar) forced then forced else forced ++ bar ∷ []
 
 unfoldable pub forced_behind : ℕ → Counts → Step → List ℕ → List ℕ
-forced_behind n counts Step.Break forced = if is_forced n counts then with_bar (counts.groups + counts.further) forced else forced
+forced_behind n counts Step.Break forced = if forces_bar n counts then with_bar (counts.groups + counts.further) forced else forced
 forced_behind n counts _ forced = forced
 
 abbrev pub forced_at : ℕ → Steps → List ℕ

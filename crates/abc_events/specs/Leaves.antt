@@ -1,7 +1,7 @@
 -- The leaves of a voice: each written event as its nodes, which are the graces before it and its parts.
 use Rattle.std.specs.Prelude.{ℕ, ◌+◌, List, [], ◌∷◌, ◌++◌, map, length, replicate, slice_get, Bool, true, false, if◌then◌else◌, Option, None, unwrap_or}
 use Rattle.{mus_units.specs.{declared.note.Head.Head, declared.value.Value.Value, Value.value_length, declared.value.Base.Base}, mus_score.specs.declared.score.{Look.Look, Event.Event, Music.Music}}
-use Rattle.{abc_notes.specs.declared.part.GraceChord.{GraceChord}, abc_signs.specs.{declared.written.Written.Written, declared.written.Waiting.Waiting, declared.written.Sign.Sign, Waits.no_changes, Signs.with_tie}, abc_events.specs.Leaf.Leaf}
+use Rattle.{abc_notes.specs.declared.part.GraceChord.{GraceChord}, abc_signs.specs.{declared.written.WrittenEvent.WrittenEvent, declared.written.Pending.Pending, declared.written.TreeItem.TreeItem, Waits.no_changes, Signs.with_tie}, abc_events.specs.Leaf.Leaf}
 use Rattle.mus_score.specs.declared.score.Music.TheVariants as music
 
 -- the words of an event, a place for each verse
@@ -10,10 +10,10 @@ Words = List (Option (List ℕ))
 
 -- Parts. Changes, graces, decorations, texts, the ending, slurs that begin, words and signs belong to
 -- the first part, slurs that end to the last one. Each part but the last is tied; the last as written.
-abbrev pub ends_at : Written → Bool → ℕ
+abbrev pub ends_at : WrittenEvent → Bool → ℕ
 ends_at w more = if more then 0 else w.ends
 
-unfoldable pub first_part : Written → Waiting → Words → ℕ → Bool → Value → Event
+unfoldable pub first_part : WrittenEvent → Pending → Words → ℕ → Bool → Value → Event
 first_part w waiting words id more value = record {
   id = id;
   heads = map (with_tie more) w.heads;
@@ -33,7 +33,7 @@ first_part w waiting words id more value = record {
 abbrev pub later_head : Bool → Head → Head
 later_head more head = with_tie more (record head { sign = None })
 
-unfoldable pub later_part : Written → ℕ → ℕ → Bool → Value → Event
+unfoldable pub later_part : WrittenEvent → ℕ → ℕ → Bool → Value → Event
 later_part w verses id more value = record {
   id = id;
   heads = map (later_head more) w.heads;
@@ -54,11 +54,11 @@ abbrev pub some_more : List Value → Bool
 some_more [] = false
 some_more (v ∷ vs) = true
 
-abbrev pub later_parts : Written → ℕ → ℕ → List Value → List Event
+abbrev pub later_parts : WrittenEvent → ℕ → ℕ → List Value → List Event
 later_parts w verses id [] = []
 later_parts w verses id (v ∷ vs) = later_part w verses id (some_more vs) v ∷ later_parts w verses (id + 1) vs
 
-abbrev pub parts : Written → Waiting → Words → ℕ → List Value → List Event
+abbrev pub parts : WrittenEvent → Pending → Words → ℕ → List Value → List Event
 parts w waiting words id [] = []
 parts w waiting words id (v ∷ vs) = first_part w waiting words id (some_more vs) v ∷ later_parts w (length words) (id + 1) vs
 
@@ -99,17 +99,17 @@ abbrev pub grace_nodes : List GraceChord → Bool → List Music
 grace_nodes [] slash = []
 grace_nodes (g ∷ gs) slash = music.Grace (map grace_note (g ∷ gs)) slash ∷ []
 
-abbrev pub nodes_of : Written → Waiting → Words → ℕ → List Music
+abbrev pub nodes_of : WrittenEvent → Pending → Words → ℕ → List Music
 nodes_of w waiting words id = grace_nodes waiting.graces waiting.slash ++ map node_of (parts w waiting words id w.values)
 
 -- Ids count the parts of a voice; words are given for each of its written events, none past their end.
-abbrev pub words_at : List Words → ℕ → Words
-words_at words k = unwrap_or (slice_get words k) []
+abbrev pub words_of_event : List Words → ℕ → Words
+words_of_event words k = unwrap_or (slice_get words k) []
 
-abbrev pub leaves_from : List Words → ℕ → ℕ → List Sign → List Leaf
+abbrev pub leaves_from : List Words → ℕ → ℕ → List TreeItem → List Leaf
 leaves_from words k id [] = []
-leaves_from words k id (Sign.Event w waiting ∷ signs) = Leaf.Event w.measure (nodes_of w waiting (words_at words k) id) ∷ leaves_from words (k + 1) (id + length w.values) signs
-leaves_from words k id (Sign.Opens measure p q r ∷ signs) = Leaf.Opens measure p q r ∷ leaves_from words k id signs
+leaves_from words k id (TreeItem.Event w waiting ∷ signs) = Leaf.Event w.measure (nodes_of w waiting (words_of_event words k) id) ∷ leaves_from words (k + 1) (id + length w.values) signs
+leaves_from words k id (TreeItem.Opens measure p q r ∷ signs) = Leaf.Opens measure p q r ∷ leaves_from words k id signs
 
-abbrev pub leaves_of : List Words → List Sign → List Leaf
+abbrev pub leaves_of : List Words → List TreeItem → List Leaf
 leaves_of words signs = leaves_from words 0 0 signs

@@ -1,6 +1,6 @@
 -- The measures of a voice: in each the tree of its leaves, and its bar.
 use Rattle.std.specs.{Prelude.ℕ, Prelude.◌==◌, Prelude.List, Prelude.map, Prelude.filter, Prelude.length, Prelude.slice_index_or, List.range_with_len}
-use Rattle.{mus_units.specs.declared.note.Bar.{Bar}, mus_score.specs.declared.score.Measure.{Measure}, abc_signs.specs.declared.written.Sign.Sign, abc_events.specs.{Leaf.Leaf, Bars.plain_bar, Leaves.Words, Leaves.leaves_of, Nesting.tree_of}}
+use Rattle.{mus_units.specs.declared.note.Bar.{Bar}, mus_score.specs.declared.score.Measure.{Measure}, abc_signs.specs.declared.written.TreeItem.TreeItem, abc_events.specs.{Leaf.Leaf, Bars.plain_bar, Leaves.Words, Leaves.leaves_of, Nesting.tree_of}}
 
 abbrev pub leaf_measure : Leaf → ℕ
 leaf_measure (Leaf.Event measure nodes) = measure
@@ -9,12 +9,12 @@ leaf_measure (Leaf.Opens measure p q r) = measure
 abbrev pub leaves_in : ℕ → List Leaf → List Leaf
 leaves_in measure leaves = filter (λ l. leaf_measure l == measure) leaves
 
-abbrev pub measure_of : List Leaf → List Bar → ℕ → Measure
-measure_of leaves bars k = record { body = tree_of (leaves_in k leaves); bar = slice_index_or bars k plain_bar }
+abbrev pub measure_of_leaves : List Leaf → List Bar → ℕ → Measure
+measure_of_leaves leaves bars k = record { body = tree_of (leaves_in k leaves); bar = slice_index_or bars k plain_bar }
 
 -- as many as there are bars
 abbrev pub measures_in : List Leaf → List Bar → List Measure
-measures_in leaves bars = map (measure_of leaves bars) (range_with_len 0 (length bars))
+measures_in leaves bars = map (measure_of_leaves leaves bars) (range_with_len 0 (length bars))
 
-abbrev pub measures_of : List Sign → List Words → List Bar → List Measure
+abbrev pub measures_of : List TreeItem → List Words → List Bar → List Measure
 measures_of signs words bars = measures_in (leaves_of words signs) bars

@@ -1,6 +1,6 @@
 -- The tree of a measure: its leaves in a row, in which each tuplet takes the next events behind it.
 use Rattle.std.specs.Prelude.{◌≡◌, ℕ, zero, suc, ◌-◌, ◌≤◌, List, [], ◌∷◌, ◌++◌}
-use Rattle.{mus_score.specs.declared.score.Music.{Music}, abc_events.specs.{Leaf.Leaf, declared.nesting.Open.Open, declared.nesting.Tree.Tree}}
+use Rattle.{mus_score.specs.declared.score.Music.{Music}, abc_events.specs.{Leaf.Leaf, declared.nesting.OpenTuplet.OpenTuplet, declared.nesting.Tree.Tree}}
 use Rattle.mus_score.specs.declared.score.Music.TheVariants as music
 
 -- a row of events, each with its nodes, and of tuplets that take so many events, each with a row of its own
@@ -42,12 +42,12 @@ pub record Filled : Type 0 where
   pub nodes : List Music
   pub forest : Forest
 
-abbrev pub fill_one : Open → Filled → Filled
+abbrev pub fill_one : OpenTuplet → Filled → Filled
 fill_one o z = let c = cut o.left z.forest in record { nodes = o.before ++ music.Tuplet o.p o.q (z.nodes ++ music_of c.taken) ∷ []; forest = c.left }
 
-abbrev pub fill : List Open → Filled → Filled
-fill [] z = z
-fill (o ∷ os) z = fill_one o (fill os z)
+abbrev pub filled_tuplets : List OpenTuplet → Filled → Filled
+filled_tuplets [] z = z
+filled_tuplets (o ∷ os) z = fill_one o (filled_tuplets os z)
 
 abbrev pub filled : List Music → Forest → Filled
 filled nodes f = record { nodes = nodes; forest = f }
@@ -55,18 +55,18 @@ filled nodes f = record { nodes = nodes; forest = f }
 abbrev pub finish : Filled → List Music
 finish z = z.nodes ++ music_of z.forest
 
-abbrev pub whole : List Open → List Music → Forest → List Music
-whole os body f = finish (fill os (filled body f))
+abbrev pub whole : List OpenTuplet → List Music → Forest → List Music
+whole os body f = finish (filled_tuplets os (filled body f))
 
 -- Whatever follows, the new state makes of it what the old one makes of it behind something.
-abbrev pub Puts : List Open → List Music → List Open → List Music → (Forest → Forest) → Type 0
+abbrev pub Puts : List OpenTuplet → List Music → List OpenTuplet → List Music → (Forest → Forest) → Type 0
 Puts os body os' body' put = (f : Forest) → whole os' body' f ≡ whole os body (put f)
 
 -- the innermost tuplet still takes an event
-abbrev pub IsReady : List Open → Type 0
-IsReady [] = Unit {0}
-IsReady (o ∷ []) = 1 ≤ o.left
-IsReady (o ∷ p ∷ os) = IsReady (p ∷ os)
+abbrev pub TakesAnother : List OpenTuplet → Type 0
+TakesAnother [] = Unit {0}
+TakesAnother (o ∷ []) = 1 ≤ o.left
+TakesAnother (o ∷ p ∷ os) = TakesAnother (p ∷ os)
 
 -- what a tree makes of the leaves that follow
 abbrev pub grown : Tree → List Leaf → List Music

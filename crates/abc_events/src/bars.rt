@@ -1,9 +1,9 @@
 ghost use Rattle.std.specs.{Prelude.◌≡◌, Prelude.◌≤◌, Prelude.◌<◌, Prelude.◌^◌, Prelude.◌+◌, Prelude.ℕ, Prelude.Option, Prelude.None, Prelude.length, Prelude.reverse, Prelude.slice_index_or, Prelude.◌==◌, Prelude.IfOk, Prelude.OnOk, List.list_any};
 ghost use Rattle.{mus_units.specs.declared.note.Bar.{Bar}, abc_steps.specs.Counts.{measures_begun}};
-ghost use Rattle.abc_events.specs.Bars.{plain_bar, unseen_bar, union, union_with, is_seen, joined, bars_behind, bars_at, joined_or, first_bar, missing_bar, bars_of, is_near_bar, is_forced, with_bar, forced_behind, forced_bars};
+ghost use Rattle.abc_events.specs.Bars.{plain_bar, unseen_bar, union, union_with, is_seen, joined_bar, bars_behind, bars_at, joined_or, bar_before_events, missing_bar, bars_of, is_near_bar, forces_bar, with_bar, forced_behind, forced_bars};
 
 use abc_steps::counts::{count_step, no_counts};
-use abc_steps::{Counts, Nearest, Step, Stood};
+use abc_steps::{Counts, Nearest, Step, PlacedStep};
 use mus_units::{Bar, Memory, Row};
 use std::alloc::Global;
 
@@ -59,8 +59,8 @@ fn is_seen(b: Bar) -> bool
     b.end || (b.start || (b.last || (b.initial || (b.double || b.dotted))))
 }
 
-fn joined(b: Bar) -> Bar
-    ensures { result ≡ joined b }
+fn joined_bar(b: Bar) -> Bar
+    ensures { result ≡ joined_bar b }
 {
     Bar {
         unseen: b.unseen && !is_seen(b),
@@ -72,7 +72,7 @@ fn joined_or(other: Bar, all: Option<Bar>) -> Bar
     ensures { result ≡ joined_or other all }
 {
     match all {
-        Some(all) => joined(all),
+        Some(all) => joined_bar(all),
         None => other,
     }
 }
@@ -95,7 +95,7 @@ fn bars_behind(begun: u64, now: u64, s: &Step, all: Option<Bar>) -> Option<Bar>
 }
 
 /// How many measures a voice has of its own.
-pub fn own_measures(steps: &[Stood]) -> u64
+pub fn own_measures(steps: &[PlacedStep]) -> u64
     requires { length steps.now ≤ 2 ^ 30 }
     ensures { result ≡ measures_begun (reverse steps.now) }
 {
@@ -127,7 +127,7 @@ struct Places {
     own: u64,
 }
 
-fn all_bars(alloc: Global, steps: &[Stood], n: u32) -> Result<Places, Memory>
+fn all_bars(alloc: Global, steps: &[PlacedStep], n: u32) -> Result<Places, Memory>
     requires { length steps.now ≤ 2 ^ 30 }
     ensures len { IfOk result (λ p. length p.all.items ≡ n + 1) }
     ensures value { IfOk result (λ p. (begun : ℕ) → begun < n + 1 → slice_index_or p.all.items begun None ≡ bars_at begun (reverse steps.now)) }
@@ -175,9 +175,9 @@ pub struct VoiceBars {
 }
 
 /// The bars of a voice with `n` measures.
-pub fn bars_of(alloc: Global, steps: &[Stood], n: u32) -> Result<VoiceBars, Memory>
+pub fn bars_of(alloc: Global, steps: &[PlacedStep], n: u32) -> Result<VoiceBars, Memory>
     requires { length steps.now ≤ 2 ^ 30 }
-    ensures first { IfOk result (λ b. b.first ≡ first_bar steps.now) }
+    ensures first { IfOk result (λ b. b.first ≡ bar_before_events steps.now) }
     ensures bars { IfOk result (λ b. b.bars ≡ bars_of steps.now n) }
 {
     let places = all_bars(alloc, steps, n)?;
@@ -198,10 +198,10 @@ fn is_near_bar(nearest: Nearest) -> bool
 }
 
 /// Whether a line break forces the bar before it.
-fn is_forced(n: u32, counts: Counts) -> bool
+fn forces_bar(n: u32, counts: Counts) -> bool
     requires groups { counts.groups ≤ 2 ^ 30 }
     requires further { counts.further ≤ 2 ^ 46 }
-    ensures { result ≡ is_forced n counts }
+    ensures { result ≡ forces_bar n counts }
 {
     let bar = counts.groups + counts.further;
     is_near_bar(counts.nearest) && (1 <= bar && bar < u64::from(n))
@@ -234,7 +234,7 @@ fn force_behind(forced: &mut Row<u32>, n: u32, counts: Counts, s: &Step) -> Resu
 {
     match s {
         Step::Break => {
-            if is_forced(n, counts) {
+            if forces_bar(n, counts) {
                 return put_forced(forced, (counts.groups + counts.further) as u32);
             }
             Ok(())
@@ -244,7 +244,7 @@ fn force_behind(forced: &mut Row<u32>, n: u32, counts: Counts, s: &Step) -> Resu
 }
 
 /// The bars of a voice that its line breaks force, among `n` measures.
-pub fn forced_bars(alloc: Global, steps: &[Stood], n: u32) -> Result<Row<u32>, Memory>
+pub fn forced_bars(alloc: Global, steps: &[PlacedStep], n: u32) -> Result<Row<u32>, Memory>
     requires { length steps.now ≤ 2 ^ 30 }
     ensures { IfOk result (λ r. r ≡ forced_bars steps.now n) }
 {

@@ -1,10 +1,10 @@
 ghost use Rattle.std.specs.{Prelude.◌≡◌, Prelude.◌≤◌, Prelude.◌+◌, Prelude.◌++◌, Prelude.◌∷◌, Prelude.[], Prelude.List, Prelude.map, Prelude.length, Prelude.replicate, Prelude.unwrap_or, Prelude.false, Prelude.None, Prelude.IfOk, Prelude.OnOk, List.All};
 ghost use Rattle.mus_units.specs.Value.{value_length};
 ghost use Rattle.abc_signs.specs.Signs.{with_tie};
-ghost use Rattle.abc_events.specs.Leaves.{ends_at, first_part, later_head, later_part, some_more, later_parts, parts, node_of, grace_event, grace_note, grace_nodes, nodes_of, words_at};
+ghost use Rattle.abc_events.specs.Leaves.{ends_at, first_part, later_head, later_part, some_more, later_parts, parts, node_of, grace_event, grace_note, grace_nodes, nodes_of, words_of_event};
 
-use abc_signs::{Waiting, Waits, Written, no_changes, nothing, with_ties};
-use abc_tokens::GraceChord;
+use abc_signs::{Pending, StoredPending, WrittenEvent, no_changes, nothing_pending, with_ties};
+use abc_music::GraceChord;
 use mus_score::{Event, Look, Music};
 use mus_units::{Base, Few, Head, Memory, Row, Text, Value, copy_optional_texts, ticks_of};
 use std::alloc::Global;
@@ -33,8 +33,8 @@ impl Numbers {
 /// A written event of a voice, with what waited for it, its words, and the id of its first part.
 #[derive(Drop)]
 pub struct VoiceEvent {
-    pub written: Written,
-    pub waits: Waits,
+    pub written: WrittenEvent,
+    pub waits: StoredPending,
     pub words: Row<Option<Text>>,
     pub id: u32,
 }
@@ -42,18 +42,18 @@ pub struct VoiceEvent {
 /// What the first part of a written event has of its own: what waited for the event, its words, and an id.
 #[derive(Drop)]
 struct FirstPart {
-    waiting: Waiting,
+    waiting: Pending,
     words: Row<Option<Text>>,
     id: u32,
 }
 
-fn ends_at(w: &Written, more: bool) -> u32
+fn ends_at(w: &WrittenEvent, more: bool) -> u32
     ensures { result ≡ ends_at w.now more }
 {
     if more { 0 } else { w.ends }
 }
 
-fn ticks_at(w: &Written, value: Value) -> u64
+fn ticks_at(w: &WrittenEvent, value: Value) -> u64
     requires { value.dots ≤ 3 }
     ensures { result ≡ unwrap_or w.now.whole (value_length value) }
 {
@@ -62,7 +62,7 @@ fn ticks_at(w: &Written, value: Value) -> u64
 
 /// The first part of a written event, with its heads, which are tied where there are more parts.
 #[tactic(auto, unfolding(crate::specs::Leaves::first_part))]
-fn first_part(w: &Written, heads: Few<Head>, first: FirstPart, more: bool, value: Value) -> Event
+fn first_part(w: &WrittenEvent, heads: Few<Head>, first: FirstPart, more: bool, value: Value) -> Event
     requires few { value.dots ≤ 3 }
     requires heads { heads ≡ map (with_tie more) w.now.heads }
     ensures { result ≡ first_part w.now first.waiting first.words first.id more value }
@@ -128,7 +128,7 @@ fn no_words(alloc: Global, verses: usize) -> Result<Row<Option<Text>>, Memory>
 #[tactic(auto, unfolding(crate::specs::Leaves::later_part))]
 fn later_part(
     alloc: Global,
-    w: &Written,
+    w: &WrittenEvent,
     verses: usize,
     id: u32,
     more: bool,
@@ -192,7 +192,7 @@ fn some_more(values: &[Value]) -> bool
 fn put_first(
     alloc: Global,
     nodes: &mut Row<Music>,
-    w: &Written,
+    w: &WrittenEvent,
     first: FirstPart,
     more: bool,
     value: Value,
@@ -208,7 +208,7 @@ fn put_first(
 fn put_later(
     alloc: Global,
     nodes: &mut Row<Music>,
-    w: &Written,
+    w: &WrittenEvent,
     verses: usize,
     id: u32,
     values: &[Value],
@@ -229,7 +229,7 @@ fn put_later(
 /// The one part of a written event that has no other.
 #[inline(always)]
 #[tactic(auto, using(crate::proofs::Heads::untied), unfolding(crate::specs::Leaves::first_part))]
-fn only_part(w: Written, first: FirstPart, value: Value) -> Event
+fn only_part(w: WrittenEvent, first: FirstPart, value: Value) -> Event
     requires { value.dots ≤ 3 }
     ensures { result ≡ first_part w first.waiting first.words first.id false value }
 {
@@ -257,7 +257,7 @@ fn only_part(w: Written, first: FirstPart, value: Value) -> Event
 fn put_several(
     alloc: Global,
     nodes: &mut Row<Music>,
-    w: &Written,
+    w: &WrittenEvent,
     first: FirstPart,
 ) -> Result<(), Memory>
     requires { All (λ v. v.dots ≤ 3) w.now.values }
@@ -325,12 +325,12 @@ fn put_graces(
 
 /// What waited for an event, whose graces are put.
 #[inline(always)]
-fn with_graces_put(alloc: Global, nodes: &mut Row<Music>, waits: Waits) -> Result<Waiting, Memory>
+fn with_graces_put(alloc: Global, nodes: &mut Row<Music>, waits: StoredPending) -> Result<Pending, Memory>
     ensures waiting { IfOk result (λ waiting. waiting ≡ waits) }
     ensures graces { OnOk result (nodes.new ≡ nodes.old ++ grace_nodes waits.graces waits.slash) }
 {
     if waits.is_nothing() {
-        return Ok(nothing(alloc));
+        return Ok(nothing_pending(alloc));
     }
     let waiting = waits.whole(alloc);
     put_graces(alloc, nodes, waiting.graces.as_slice(), waiting.slash)?;
@@ -338,12 +338,12 @@ fn with_graces_put(alloc: Global, nodes: &mut Row<Music>, waits: Waits) -> Resul
 }
 
 /// The words of a written event.
-pub fn words_at(
+pub fn words_of_event(
     alloc: Global,
     words: &[Row<Option<Text>>],
     event: usize,
 ) -> Result<Row<Option<Text>>, Memory>
-    ensures { IfOk result (λ r. r ≡ words_at words.now event) }
+    ensures { IfOk result (λ r. r ≡ words_of_event words.now event) }
 {
     match words.get(event) {
         Some(row) => copy_optional_texts(alloc, row.as_slice()),
@@ -356,7 +356,7 @@ pub fn words_at(
 fn put_parts(
     alloc: Global,
     nodes: &mut Row<Music>,
-    w: Written,
+    w: WrittenEvent,
     first: FirstPart,
 ) -> Result<(), Memory>
     requires { All (λ v. v.dots ≤ 3) w.values }

@@ -1,10 +1,10 @@
 ghost use Rattle.std.specs.{Prelude.◌≡◌, Prelude.◌<◌, Prelude.◌≤◌, Prelude.◌+◌, Prelude.◌∷◌, Prelude.[], Prelude.ℕ, Prelude.List, Prelude.length, Prelude.slice_index_or, Prelude.IfOk, Prelude.OnOk, List.All};
-ghost use Rattle.abc_signs.specs.{declared.written.Sign.Sign, Signs.IsDrawn};
-ghost use Rattle.abc_events.specs.{Leaf.Leaf, Leaves.{nodes_of, leaves_from, leaves_of}, Nesting.{tree_of, IsReady, grown, no_tree}, Measures.{leaves_in, measures_of}};
+ghost use Rattle.abc_signs.specs.{declared.written.TreeItem.TreeItem, Signs.HasDrawableValues};
+ghost use Rattle.abc_events.specs.{Leaf.Leaf, Leaves.{nodes_of, leaves_from, leaves_of}, Nesting.{tree_of, TakesAnother, grown, no_tree}, Measures.{leaves_in, measures_of}};
 
-use crate::leaves::{Numbers, VoiceEvent, words_at};
+use crate::leaves::{Numbers, VoiceEvent, words_of_event};
 use crate::nesting::{Tree, nodes_of, put_event, put_tuplet};
-use abc_signs::Sign;
+use abc_signs::TreeItem;
 use mus_score::Measure;
 use mus_units::{Bar, Memory, Row, Text};
 use smallvec::SmallVec;
@@ -28,9 +28,9 @@ fn empty_trees(alloc: Global, n: usize, room: usize) -> Result<Vec<Tree>, Memory
 
 /// Puts a written event into the tree of its measure, where there is one.
 fn put_written(alloc: Global, trees: &mut [Tree], e: VoiceEvent) -> Result<(), Memory>
-    requires ready { (k : ℕ) → k < length trees.old → IsReady (slice_index_or trees.old k no_tree).stack.items }
+    requires ready { (k : ℕ) → k < length trees.old → TakesAnother (slice_index_or trees.old k no_tree).stack.items }
     requires drawn { All (λ v. v.dots ≤ 3) e.written.values }
-    ensures ready { OnOk result ((k : ℕ) → k < length trees.old → IsReady (slice_index_or trees.new k no_tree).stack.items) }
+    ensures ready { OnOk result ((k : ℕ) → k < length trees.old → TakesAnother (slice_index_or trees.new k no_tree).stack.items) }
     ensures grown { OnOk result ((k : ℕ) (leaves : List Leaf) → k < length trees.old → grown (slice_index_or trees.new k no_tree) (leaves_in k leaves) ≡ grown (slice_index_or trees.old k no_tree) (leaves_in k (Leaf.Event e.written.measure (nodes_of e.written e.waits e.words e.id) ∷ leaves))) }
 {
     let measure = e.written.measure;
@@ -49,8 +49,8 @@ fn put_opening(
     q: u8,
     r: u8,
 ) -> Result<(), Memory>
-    requires { (k : ℕ) → k < length trees.old → IsReady (slice_index_or trees.old k no_tree).stack.items }
-    ensures ready { OnOk result ((k : ℕ) → k < length trees.old → IsReady (slice_index_or trees.new k no_tree).stack.items) }
+    requires { (k : ℕ) → k < length trees.old → TakesAnother (slice_index_or trees.old k no_tree).stack.items }
+    ensures ready { OnOk result ((k : ℕ) → k < length trees.old → TakesAnother (slice_index_or trees.new k no_tree).stack.items) }
     ensures grown { OnOk result ((k : ℕ) (leaves : List Leaf) → k < length trees.old → grown (slice_index_or trees.new k no_tree) (leaves_in k leaves) ≡ grown (slice_index_or trees.old k no_tree) (leaves_in k (Leaf.Opens measure p q r ∷ leaves))) }
 {
     if measure >= trees.len() as u64 {
@@ -64,18 +64,18 @@ fn put_sign(
     alloc: Global,
     trees: &mut [Tree],
     at: &mut Numbers,
-    sign: Sign,
+    sign: TreeItem,
     words: &[Row<Option<Text>>],
 ) -> Result<(), Memory>
-    requires ready { (k : ℕ) → k < length trees.old → IsReady (slice_index_or trees.old k no_tree).stack.items }
-    requires drawn { IsDrawn sign }
-    ensures ready { OnOk result ((k : ℕ) → k < length trees.old → IsReady (slice_index_or trees.new k no_tree).stack.items) }
-    ensures grown { OnOk result ((k : ℕ) (signs : List Sign) → k < length trees.old → grown (slice_index_or trees.new k no_tree) (leaves_in k (leaves_from words.now at.new.event at.new.id signs)) ≡ grown (slice_index_or trees.old k no_tree) (leaves_in k (leaves_from words.now at.old.event at.old.id (sign ∷ signs)))) }
+    requires ready { (k : ℕ) → k < length trees.old → TakesAnother (slice_index_or trees.old k no_tree).stack.items }
+    requires drawn { HasDrawableValues sign }
+    ensures ready { OnOk result ((k : ℕ) → k < length trees.old → TakesAnother (slice_index_or trees.new k no_tree).stack.items) }
+    ensures grown { OnOk result ((k : ℕ) (signs : List TreeItem) → k < length trees.old → grown (slice_index_or trees.new k no_tree) (leaves_in k (leaves_from words.now at.new.event at.new.id signs)) ≡ grown (slice_index_or trees.old k no_tree) (leaves_in k (leaves_from words.now at.old.event at.old.id (sign ∷ signs)))) }
 {
     match sign {
-        Sign::Event { written, waiting } => {
+        TreeItem::Event { written, waiting } => {
             let here = at.step_over(written.values.as_slice().len())?;
-            let sung = words_at(alloc, words, here.event)?;
+            let sung = words_of_event(alloc, words, here.event)?;
             let event = VoiceEvent {
                 written,
                 waits: waiting,
@@ -84,18 +84,18 @@ fn put_sign(
             };
             put_written(alloc, trees, event)
         }
-        Sign::Opens { measure, p, q, r } => put_opening(alloc, trees, measure, p, q, r),
+        TreeItem::Opens { measure, p, q, r } => put_opening(alloc, trees, measure, p, q, r),
     }
 }
 
 /// The trees of the measures of a voice of these signs.
 fn trees_of(
     alloc: Global,
-    signs: Row<Sign>,
+    signs: Row<TreeItem>,
     words: &[Row<Option<Text>>],
     n: usize,
 ) -> Result<Vec<Tree>, Memory>
-    requires { All IsDrawn signs }
+    requires { All HasDrawableValues signs }
     ensures len { IfOk result (λ v. length v.items ≡ n) }
     ensures trees { IfOk result (λ v. (k : ℕ) → k < n → grown (slice_index_or v.items k no_tree) [] ≡ tree_of (leaves_in k (leaves_of words.now signs))) }
 {
@@ -112,11 +112,11 @@ fn trees_of(
 /// with a place for each verse; its words are those of the event's first part.
 pub fn measures_of(
     alloc: Global,
-    signs: Row<Sign>,
+    signs: Row<TreeItem>,
     words: &[Row<Option<Text>>],
     bars: &[Bar],
 ) -> Result<Row<Measure>, Memory>
-    requires { All IsDrawn signs }
+    requires { All HasDrawableValues signs }
     ensures { IfOk result (λ r. r ≡ measures_of signs words.now bars.now) }
 {
     let trees = trees_of(alloc, signs, words, bars.len())?;

@@ -1,7 +1,7 @@
 ghost use Rattle.std.specs.{Prelude.{◌≡◌, ◌≤◌, ◌++◌, ◌∷◌, [], List, IfOk, OnOk}, List.All};
 ghost use Rattle.mus_score.specs.declared.score.Music.{Music};
 ghost use Rattle.mus_score.specs.declared.score.Music.TheVariants as music;
-ghost use Rattle.abc_events.specs.{Leaf.Leaf, Leaves.nodes_of, Nesting.{Puts, IsReady, one, put_in_front, grown}};
+ghost use Rattle.abc_events.specs.{Leaf.Leaf, Leaves.nodes_of, Nesting.{Puts, TakesAnother, one, put_in_front, grown}};
 
 use crate::leaves::{VoiceEvent, put_nodes};
 use mus_score::Music;
@@ -13,18 +13,18 @@ use std::mem;
 
 /// A tuplet that still takes events, and what stands before it in its row.
 #[derive(Drop)]
-pub struct Open {
+pub struct OpenTuplet {
     pub p: u8,
     pub q: u8,
     pub left: u8,
     pub before: Row<Music>,
 }
 
-impl MadeWith<Global> for Open {
+impl MadeWith<Global> for OpenTuplet {
     ghost is_made_with = { λ o. o.before ≡ [] };
 
-    fn made_with(alloc: Global) -> Open {
-        Open {
+    fn made_with(alloc: Global) -> OpenTuplet {
+        OpenTuplet {
             p: 2,
             q: 1,
             left: 0,
@@ -37,12 +37,12 @@ impl MadeWith<Global> for Open {
 /// events, outermost first, and the row behind the innermost.
 #[derive(Drop)]
 pub struct Tree {
-    pub stack: SmallVec<Open, 2>,
+    pub stack: SmallVec<OpenTuplet, 2>,
     pub body: Row<Music>,
 }
 
 /// Puts a tuplet behind what stands before it.
-fn close(alloc: Global, o: Open, body: &mut Row<Music>) -> Result<(), Memory>
+fn close(alloc: Global, o: OpenTuplet, body: &mut Row<Music>) -> Result<(), Memory>
     ensures { OnOk result (body.new ≡ o.before ++ music.Tuplet o.p o.q body.old ∷ []) }
 {
     let inner = mem::replace(body, Row::new(alloc));
@@ -58,11 +58,11 @@ fn close(alloc: Global, o: Open, body: &mut Row<Music>) -> Result<(), Memory>
 #[inline(always)]
 fn close_full(
     alloc: Global,
-    stack: &mut SmallVec<Open, 2>,
+    stack: &mut SmallVec<OpenTuplet, 2>,
     body: &mut Row<Music>,
 ) -> Result<(), Memory>
     ensures puts { OnOk result (Puts stack.old.items body.old stack.new.items body.new (λ f. f)) }
-    ensures ready { OnOk result (IsReady stack.new.items) }
+    ensures ready { OnOk result (TakesAnother stack.new.items) }
 {
     while let Some(o) = stack.pop() {
         if o.left > 0 {
@@ -75,14 +75,14 @@ fn close_full(
 }
 
 /// Takes an event into the innermost tuplet, whose nodes are put behind a body.
-fn take_event(stack: &mut SmallVec<Open, 2>) -> Result<(), Memory>
-    requires { IsReady stack.old.items }
+fn take_event(stack: &mut SmallVec<OpenTuplet, 2>) -> Result<(), Memory>
+    requires { TakesAnother stack.old.items }
     ensures { OnOk result ((body nodes : List Music) → Puts stack.old.items body stack.new.items (body ++ nodes) (one nodes)) }
 {
     let Some(o) = stack.pop() else {
         return Ok(());
     };
-    stack.push(Open {
+    stack.push(OpenTuplet {
         p: o.p,
         q: o.q,
         left: o.left.saturating_sub(1),
@@ -94,7 +94,7 @@ fn take_event(stack: &mut SmallVec<Open, 2>) -> Result<(), Memory>
 /// Begins a row of its own for a tuplet.
 fn begin(
     alloc: Global,
-    stack: &mut SmallVec<Open, 2>,
+    stack: &mut SmallVec<OpenTuplet, 2>,
     body: &mut Row<Music>,
     p: u8,
     q: u8,
@@ -104,7 +104,7 @@ fn begin(
     ensures empty { OnOk result (body.new ≡ []) }
 {
     let before = mem::replace(body, Row::new(alloc));
-    stack.push(Open {
+    stack.push(OpenTuplet {
         p,
         q,
         left: r,
@@ -116,19 +116,19 @@ fn begin(
 /// Opens a tuplet, whose events the one around it doesn't take one by one.
 fn open_tuplet(
     alloc: Global,
-    stack: &mut SmallVec<Open, 2>,
+    stack: &mut SmallVec<OpenTuplet, 2>,
     body: &mut Row<Music>,
     p: u8,
     q: u8,
     r: u8,
 ) -> Result<(), Memory>
-    requires { IsReady stack.old.items }
+    requires { TakesAnother stack.old.items }
     ensures { OnOk result (Puts stack.old.items body.old stack.new.items body.new (put_in_front (Leaf.Opens 0 p q r))) }
 {
     let Some(o) = stack.pop() else {
         return begin(alloc, stack, body, p, q, r);
     };
-    stack.push(Open {
+    stack.push(OpenTuplet {
         p: o.p,
         q: o.q,
         left: o.left.saturating_sub(r),
@@ -140,10 +140,10 @@ fn open_tuplet(
 
 /// Puts a written event into the tree of its measure.
 pub fn put_event(alloc: Global, tree: &mut Tree, e: VoiceEvent) -> Result<(), Memory>
-    requires ready { IsReady tree.old.stack.items }
+    requires ready { TakesAnother tree.old.stack.items }
     requires drawn { All (λ v. v.dots ≤ 3) e.written.values }
     ensures puts { OnOk result (Puts tree.old.stack.items tree.old.body tree.new.stack.items tree.new.body (one (nodes_of e.written e.waits e.words e.id))) }
-    ensures ready { OnOk result (IsReady tree.new.stack.items) }
+    ensures ready { OnOk result (TakesAnother tree.new.stack.items) }
 {
     put_nodes(alloc, &mut tree.body, e)?;
     take_event(&mut tree.stack)?;
@@ -153,9 +153,9 @@ pub fn put_event(alloc: Global, tree: &mut Tree, e: VoiceEvent) -> Result<(), Me
 
 /// Opens a tuplet in the tree of its measure.
 pub fn put_tuplet(alloc: Global, tree: &mut Tree, p: u8, q: u8, r: u8) -> Result<(), Memory>
-    requires { IsReady tree.old.stack.items }
+    requires { TakesAnother tree.old.stack.items }
     ensures puts { OnOk result (Puts tree.old.stack.items tree.old.body tree.new.stack.items tree.new.body (put_in_front (Leaf.Opens 0 p q r))) }
-    ensures ready { OnOk result (IsReady tree.new.stack.items) }
+    ensures ready { OnOk result (TakesAnother tree.new.stack.items) }
 {
     open_tuplet(alloc, &mut tree.stack, &mut tree.body, p, q, r)?;
     close_full(alloc, &mut tree.stack, &mut tree.body)

@@ -1,11 +1,11 @@
 -- The first place where too many heads and rests stand so far.
 use Rattle.std.{proofs.{Common.{◌≡◌, ◌∙◌, refl, sym, ap, subst, ℕ, ◌+◌, ◌<◌, ◌≤◌, List, [], ◌∷◌, ◌++◌, length, drop, take, get_or, Bool, true, false, cond, Option, Some, None, ⊎_elim, arith}, lemmas.{List.{drop_more, take_all, take-append-drop, Sums.{sum_by-cons, sum_by-append, sum_by-le-sum_by}, Sorted.{Contains-permutation, sum_by-IsPermutation, IsPermutation-sym}, Elements.{Contains-append_right, Contains-append_cases, All-nil, All-cons, All-contains}}, Bool.Decides.nat_tests}}, specs.{Prelude.{nat_lt, sum_by, flat_map}, List.{AllByRecursion, Contains, Sorted.IsPermutation}}}
 use Rattle.abc_lines.specs.declared.fault.Fault.{Fault}
-use Rattle.abc_faults.specs.{declared.weights.Weight.Weight, First.then_below, First.is_before, First.IsLeast, First.IsFirst, Weights.stands_before, Weights.IsBehind, Weights.AreInOrder, Weights.count_up_to, Weights.crowd_up_to, Weights.crowd_fault, Weights.crowd_faults_at, Weights.crowded}
+use Rattle.abc_faults.specs.{declared.weights.Weight.Weight, First.is_below_or_tied, First.is_before, First.IsLeastFault, First.IsFirstInOrder, Weights.stands_before, Weights.IsBehind, Weights.AreInOrder, Weights.count_up_to, Weights.crowd_up_to, Weights.crowd_fault, Weights.crowd_faults_at, Weights.crowded}
 
 -- ---- the order of places
 abbrev below : ℕ → ℕ → ℕ → ℕ → Bool
-below a b x y = then_below a x (nat_lt b y)
+below a b x y = is_below_or_tied a x (nat_lt b y)
 
 below_not_below : (a b x y m n : ℕ) → below a b x y ≡ true → below m n x y ≡ false → below a b m n ≡ true
 below_not_below a b x y m n h i = grind (arith, nat_tests)
@@ -15,7 +15,7 @@ before_behind : (u v w : Weight) → stands_before v w ≡ true → stands_befor
 unfolding stands_before
 before_behind u v w h i = below_not_below v.line v.column w.line w.column u.line u.column h i
 
-no_kind_before : (a b x y k : ℕ) → then_below a x (then_below b y (nat_lt k k)) ≡ below a b x y
+no_kind_before : (a b x y k : ℕ) → is_below_or_tied a x (is_below_or_tied b y (nat_lt k k)) ≡ below a b x y
 no_kind_before a b x y k = grind (arith, nat_tests)
 
 pub same_order : (v w : Weight) → is_before (crowd_fault v) (crowd_fault w) ≡ stands_before v w
@@ -126,7 +126,7 @@ fault_of all (w ∷ ws) g h = ⊎_elim own (λ k. longer (fault_of all ws g k)) 
 
 -- too many with a weight in the order of the text, and not too many before it
 first_at : (front : List Weight) (w : Weight) (behind : List Weight) → AreInOrder (front ++ w ∷ behind) → sum_by count front ≤ 50000 → 50000 < sum_by count front + w.count
-    → IsLeast (crowded (front ++ w ∷ behind)) (crowd_fault w)
+    → IsLeastFault (crowded (front ++ w ∷ behind)) (crowd_fault w)
 first_at front w behind order few many =
     let ws = front ++ w ∷ behind in
     record { held = in_flat (crowd_faults_at ws) front w behind (crowd_fault w) (crowded_is ws w (omega (arith, crowd_at front w behind order))); least = λ g in'. not_earlier g (fault_of ws ws g in') } where
@@ -137,10 +137,10 @@ first_at front w behind order few many =
       not_earlier : (g : Fault) → IsFaultOf (front ++ w ∷ behind) (front ++ w ∷ behind) g → is_before g (crowd_fault w) ≡ false
       not_earlier g o = ap (λ z. is_before z (crowd_fault w)) o.is ∙ same_order o.weight w ∙ by_test o.weight (stands_before o.weight w) refl o.crowd
 
-pub found_at : (ws : List Weight) (i left : ℕ) (d : Weight) → AreInOrder ws → i < length ws → left + sum_by count (take i ws) ≡ 50000 → left < (get_or ws i d).count → IsLeast (crowded ws) (crowd_fault (get_or ws i d))
+pub found_at : (ws : List Weight) (i left : ℕ) (d : Weight) → AreInOrder ws → i < length ws → left + sum_by count (take i ws) ≡ 50000 → left < (get_or ws i d).count → IsLeastFault (crowded ws) (crowd_fault (get_or ws i d))
 found_at ws i left d order less sum many =
     let w = get_or ws i d in let whole : ws ≡ take i ws ++ w ∷ drop (i + 1) ws = sym (take-append-drop i ws) ∙ ap (λ z. take i ws ++ z) (drop_more ws i d less) in
-    let P : List Weight → Type 0 = λ z. IsLeast (crowded z) (crowd_fault w) in subst P (sym whole) (first_at (take i ws) w (drop (i + 1) ws) (subst AreInOrder whole order) (omega arith) (omega arith))
+    let P : List Weight → Type 0 = λ z. IsLeastFault (crowded z) (crowd_fault w) in subst P (sym whole) (first_at (take i ws) w (drop (i + 1) ws) (subst AreInOrder whole order) (omega arith) (omega arith))
 
 none_among : (all some : List Weight) → sum_by count all ≤ 50000 → flat_map (crowd_faults_at all) some ≡ []
 none_among all [] few = refl
@@ -171,7 +171,7 @@ empty_too : (fs gs : List Fault) → ((f : Fault) → Contains fs f → Contains
 empty_too [] gs h e = refl
 empty_too (f ∷ fs) gs h e = absurd (none_held f (subst (λ z. Contains z f) e (h f (at_head f fs))))
 
-pub first_along : (xs ys : List Weight) (found : Option Fault) → IsPermutation xs ys → IsFirst (crowded ys) found → IsFirst (crowded xs) found
+pub first_along : (xs ys : List Weight) (found : Option Fault) → IsPermutation xs ys → IsFirstInOrder (crowded ys) found → IsFirstInOrder (crowded xs) found
 first_along xs ys None same h = empty_too (crowded xs) (crowded ys) (λ f k. held_along xs ys f same k) h
 first_along xs ys (Some f) same h = record { held = held_along ys xs f (IsPermutation-sym xs ys same) h.held; least = λ g k. h.least g (held_along xs ys g same k) }
 
@@ -183,14 +183,14 @@ level_weights : (v w : Weight) → stands_before v w ≡ false → stands_before
 unfolding stands_before
 level_weights v w h i = level v.line v.column w.line w.column h i
 
-one_least : (ws : List Weight) (f g : Fault) → IsLeast (crowded ws) f → IsLeast (crowded ws) g → f ≡ g
+one_least : (ws : List Weight) (f g : Fault) → IsLeastFault (crowded ws) f → IsLeastFault (crowded ws) g → f ≡ g
 one_least ws f g h i =
     let v = (fault_of ws ws f h.held).weight in let w = (fault_of ws ws g i.held).weight in let is_f : f ≡ crowd_fault v = (fault_of ws ws f h.held).is in
     let is_g : g ≡ crowd_fault w = (fault_of ws ws g i.held).is in let a : stands_before w v ≡ false = sym (same_order w v) ∙ cc (is_f, is_g, h.least g i.held) in
     let b : stands_before v w ≡ false = sym (same_order v w) ∙ cc (is_f, is_g, i.least f h.held) in let same = level_weights v w b a in
     is_f ∙ ap (λ l. crowd_fault (record { line = l; column = v.column; count = 0 })) same.0 ∙ ap (λ k. crowd_fault (record { line = w.line; column = k; count = 0 })) same.1 ∙ sym is_g
 
-pub same_crowd : (ws : List Weight) (a b : Option Fault) → IsFirst (crowded ws) a → IsFirst (crowded ws) b → a ≡ b
+pub same_crowd : (ws : List Weight) (a b : Option Fault) → IsFirstInOrder (crowded ws) a → IsFirstInOrder (crowded ws) b → a ≡ b
 same_crowd ws None None h i = refl
 same_crowd ws None (Some g) h i = absurd (none_held g (subst (λ z. Contains z g) h i.held))
 same_crowd ws (Some f) None h i = absurd (none_held f (subst (λ z. Contains z f) i h.held))

@@ -2,14 +2,14 @@
 use Rattle.std.specs.{Prelude.{ℕ, ◌+◌, ◌-◌, List, [], ◌∷◌, ◌++◌, Bool, true, false, not, ◌&&◌, ◌||◌, nat_le, nat_lt, int_lt, pos, negsuc, is_none, if◌then◌else◌, count_by, flat_map}, List.{before_first, list_any}}
 use Rattle.mus_units.specs.{declared.note.Head.Head, declared.pitch.Clef.Clef, declared.key.Meter.Meter, Pitch.height_of, Parts.parts_list}
 use Rattle.{abc_lines.specs.{declared.fault.FaultKind.FaultKind, declared.fault.Fault.Fault}, abc_notes.specs.declared.part.GraceChord.{GraceChord}}
-use Rattle.abc_steps.specs.{declared.{step.{Sound.Sound, Step.Step, Stood.Stood}, force.InForce.InForce, tuplets.Taking.Taking, place.Place.Place}, Kinds.is_sound, Looks.{Steps, since_event, has_left, has_right}, Lengths.written_length, Tuplets.{or_default, fits}, Places.{place_at, measure_of}}
+use Rattle.abc_steps.specs.{declared.{step.{WrittenSound.WrittenSound, Step.Step, PlacedStep.PlacedStep}, force.InForce.InForce, tuplets.OpenTuplets.OpenTuplets, state.VoiceState.VoiceState}, Kinds.is_sound, Looks.{Steps, since_event, has_left, has_right}, Lengths.written_length, Tuplets.{or_default, fits}, Places.{state_at, measure_of}}
 
 -- a fault of that kind at a step
-abbrev pub fault_at : FaultKind → Stood → Fault
-fault_at kind at = record { kind = kind; line = at.line; column = at.column }
+abbrev pub step_fault : FaultKind → PlacedStep → Fault
+step_fault kind at = record { kind = kind; line = at.line; column = at.column }
 
-abbrev pub fault_if : Bool → FaultKind → Stood → List Fault
-fault_if true kind at = fault_at kind at ∷ []
+abbrev pub fault_if : Bool → FaultKind → PlacedStep → List Fault
+fault_if true kind at = step_fault kind at ∷ []
 fault_if false kind at = []
 
 -- Tuplets. Bars and whole measure rests end those that are open.
@@ -23,13 +23,13 @@ unfoldable pub sounds_behind : Steps → ℕ
 sounds_behind behind = count_by (λ s. is_sound s.step) (before_first (λ s. ends_tuplets s.step) behind)
 
 -- one that doesn't fit would stand within two, or is of more events than the one around it still takes
-abbrev pub misfit_of : Taking → FaultKind
-misfit_of (Taking.Two inner outer) = FaultKind.TooDeep
+abbrev pub misfit_of : OpenTuplets → FaultKind
+misfit_of (OpenTuplets.Nested inner outer) = FaultKind.TooDeep
 misfit_of _ = FaultKind.TupletCrosses
 
 -- one that fits is short where the measure ends before it has its events
-abbrev pub tuplet_faults : ℕ → Taking → Stood → Steps → List Fault
-tuplet_faults r open_ones at behind = if fits r open_ones then fault_if (nat_lt (sounds_behind behind) r) FaultKind.TupletShort at else fault_at (misfit_of open_ones) at ∷ []
+abbrev pub tuplet_faults : ℕ → OpenTuplets → PlacedStep → Steps → List Fault
+tuplet_faults r open_ones at behind = if fits r open_ones then fault_if (nat_lt (sounds_behind behind) r) FaultKind.TupletShort at else step_fault (misfit_of open_ones) at ∷ []
 
 -- Heads. They stand from 14 steps below the bottom line of the staff to 22 above it.
 abbrev pub is_off : Clef → Head → Bool
@@ -42,7 +42,7 @@ abbrev pub any_grace_off : Clef → List GraceChord → Bool
 any_grace_off clef body = list_any (λ chord. any_off clef chord.heads) body
 
 -- the graces among what waits for an event, each group at its own place, in the clef of the event
-unfoldable pub grace_faults_of : Clef → Stood → Step → List Fault
+unfoldable pub grace_faults_of : Clef → PlacedStep → Step → List Fault
 grace_faults_of clef at (Step.Grace slash body) = fault_if (any_grace_off clef body) FaultKind.StepRange at
 grace_faults_of clef at _ = []
 
@@ -58,22 +58,22 @@ is_free Meter.Free = true
 is_free _ = false
 
 -- a note, a chord or a rest, without its graces: it is undrawable where its length has no parts
-abbrev pub sound_faults_if : Bool → Place → Stood → Sound → List Fault
+abbrev pub sound_faults_if : Bool → VoiceState → PlacedStep → WrittenSound → List Fault
 sound_faults_if undrawable now at s =
     fault_if undrawable FaultKind.Undrawable at
     ++ fault_if (any_off now.force.clef s.heads) FaultKind.StepRange at
     ++ fault_if (is_past (measure_of now)) FaultKind.TooManyMeasures at
 
-unfoldable pub sound_faults : Place → Steps → Stood → Sound → Steps → List Fault
+unfoldable pub sound_faults : VoiceState → Steps → PlacedStep → WrittenSound → Steps → List Fault
 sound_faults now before at s behind = let length = written_length now.force.unit s before behind in sound_faults_if (is_none (parts_list length.num length.den)) now at s
 
 -- whole measure rests, without their graces: the last of them must stand in a good measure too
-abbrev pub rest_faults : Place → Stood → ℕ → List Fault
+abbrev pub rest_faults : VoiceState → PlacedStep → ℕ → List Fault
 rest_faults now at count =
     fault_if (is_free now.force.meter) FaultKind.RestWithoutMeter at
     ++ fault_if (is_past (measure_of now + (count - 1))) FaultKind.TooManyMeasures at
 
-unfoldable pub faults_of : Place → Steps → Stood → Steps → Step → List Fault
+unfoldable pub faults_of : VoiceState → Steps → PlacedStep → Steps → Step → List Fault
 faults_of now before at behind (Step.Sound s) = sound_faults now before at s behind ++ grace_faults now.force.clef (since_event before)
 faults_of now before at behind (Step.Measures seen count) = rest_faults now at count ++ grace_faults now.force.clef (since_event before)
 faults_of now before at behind (Step.Tuplet p q r) = tuplet_faults (or_default p r) now.taking at behind
@@ -82,4 +82,4 @@ faults_of now before at behind _ = []
 
 abbrev pub faults_in : InForce → Steps → Steps → List Fault
 faults_in first before [] = []
-faults_in first before (at ∷ behind) = faults_of (place_at first before) before at behind at.step ++ faults_in first (at ∷ before) behind
+faults_in first before (at ∷ behind) = faults_of (state_at first before) before at behind at.step ++ faults_in first (at ∷ before) behind

@@ -1,10 +1,10 @@
 -- How many heads and rests stand at each place, and where there are too many of them so far.
 use Rattle.std.specs.{Prelude.{◌≡◌, ⊤, false, ℕ, ◌*◌, List, [], ◌∷◌, ◌++◌, length, max, min, Bool, nat_lt, if◌then◌else◌, sum_by, flat_map, Option, Some, None}, List.AllByRecursion}
 use Rattle.{mus_units.specs.{declared.value.Value.Value, Parts.parts_list}, abc_lines.specs.declared.fault.{FaultKind.FaultKind, Fault.Fault}, abc_notes.specs.declared.part.GraceChord.{GraceChord}}
-use Rattle.abc_steps.specs.{declared.step.Sound.Sound, declared.step.Step.Step, declared.step.Stood.Stood, declared.force.InForce.InForce, Looks.Steps, Looks.since_event, Lengths.written_length, declared.place.Place.Place, Places.place_at}
-use Rattle.abc_faults.specs.{declared.weights.Weight.Weight, First.then_below}
+use Rattle.abc_steps.specs.{declared.step.WrittenSound.WrittenSound, declared.step.Step.Step, declared.step.PlacedStep.PlacedStep, declared.force.InForce.InForce, Looks.Steps, Looks.since_event, Lengths.written_length, declared.state.VoiceState.VoiceState, Places.state_at}
+use Rattle.abc_faults.specs.{declared.weights.Weight.Weight, First.is_below_or_tied}
 
-abbrev pub weight_at : ℕ → Stood → Weight
+abbrev pub weight_at : ℕ → PlacedStep → Weight
 weight_at count at = record { line = at.line; column = at.column; count = count }
 
 -- as it is kept: a place counts for no more than is already too many
@@ -17,21 +17,21 @@ count_parts None = 1
 count_parts (Some values) = length values
 
 -- the heads of a note or a chord, or the one rest, times its parts
-unfoldable pub sound_count : Place → Steps → Sound → Steps → ℕ
+unfoldable pub sound_count : VoiceState → Steps → WrittenSound → Steps → ℕ
 sound_count now before s behind = let whole = written_length now.force.unit s before behind in max 1 (length s.heads) * count_parts (parts_list whole.num whole.den)
 
 abbrev pub grace_count : List GraceChord → ℕ
 grace_count body = sum_by (λ chord. length chord.heads) body
 
 -- the groups of graces among what waits for an event, each at its own place
-unfoldable pub grace_weights_of : Stood → Step → List Weight
+unfoldable pub grace_weights_of : PlacedStep → Step → List Weight
 grace_weights_of at (Step.Grace slash body) = weight_at (grace_count body) at ∷ []
 grace_weights_of at _ = []
 
 abbrev pub grace_weights : Steps → List Weight
 grace_weights waits = flat_map (λ s. grace_weights_of s s.step) waits
 
-unfoldable pub weights_of : Place → Steps → Stood → Steps → Step → List Weight
+unfoldable pub weights_of : VoiceState → Steps → PlacedStep → Steps → Step → List Weight
 weights_of now before at behind (Step.Sound s) = grace_weights (since_event before) ++ weight_at (sound_count now before s behind) at ∷ []
 weights_of now before at behind (Step.Measures seen count) = grace_weights (since_event before) ++ weight_at count at ∷ []
 weights_of now before at behind _ = []
@@ -39,11 +39,11 @@ weights_of now before at behind _ = []
 -- every step of a voice in turn, with what stands before it, the nearest first, and what follows it
 abbrev pub weights_in : InForce → Steps → Steps → List Weight
 weights_in first before [] = []
-weights_in first before (at ∷ behind) = weights_of (place_at first before) before at behind at.step ++ weights_in first (at ∷ before) behind
+weights_in first before (at ∷ behind) = weights_of (state_at first before) before at behind at.step ++ weights_in first (at ∷ before) behind
 
 -- whether one stands before the other in the text, whatever their voices
 unfoldable pub stands_before : Weight → Weight → Bool
-stands_before v w = then_below v.line w.line (nat_lt v.column w.column)
+stands_before v w = is_below_or_tied v.line w.line (nat_lt v.column w.column)
 
 -- in the order of the text: none stands before one that is listed earlier
 abbrev pub IsBehind : Weight → Weight → Type 0

@@ -1,5 +1,5 @@
 ghost use Rattle.std.specs.{Prelude.◌≡◌, Prelude.IfOk, List.Sorted.IsPermutation};
-ghost use Rattle.abc_faults.specs.{First.first_of, First.IsFirst, Weights.AreInOrder, Weights.crowded, Weights.crowd_fault};
+ghost use Rattle.abc_faults.specs.{First.first_of, First.IsFirstInOrder, Weights.AreInOrder, Weights.crowded, Weights.crowd_fault};
 
 use crate::weights::{MOST, Weight};
 use abc_lines::{Fault, FaultKind};
@@ -19,7 +19,7 @@ fn crowd_fault(w: Weight) -> Fault
 /// The first weight with which there are too many, of weights in the order of the text.
 fn first_crowded(weights: &[Weight]) -> Option<Fault>
     requires { AreInOrder weights.now }
-    ensures { IsFirst (crowded weights.now) result }
+    ensures { IsFirstInOrder (crowded weights.now) result }
 {
     let mut left = MOST;
     for w in weights {
@@ -45,7 +45,7 @@ fn in_order(alloc: Global, weights: Row<Weight>) -> Result<Row<Weight>, Memory>
 /// of all its voices in any order. None exactly where there is none.
 pub fn crowding(alloc: Global, weights: Row<Weight>) -> Result<Option<Fault>, Memory>
     ensures value { IfOk result (λ f. f ≡ first_of (crowded weights)) }
-    ensures first { IfOk result (λ f. IsFirst (crowded weights) f) }
+    ensures first { IfOk result (λ f. IsFirstInOrder (crowded weights) f) }
 {
     let weights = in_order(alloc, weights)?;
     Ok(first_crowded(weights.as_slice()))

@@ -1,11 +1,11 @@
 ghost use Rattle.std.specs.Prelude.{◌≡◌, ◌++◌, List};
-ghost use Rattle.{abc_lines.specs.declared.fault.Fault.{Fault}, abc_faults.specs.First.{rank_of, is_before, earlier, IsFirst}};
+ghost use Rattle.{abc_lines.specs.declared.fault.Fault.{Fault}, abc_faults.specs.First.{kind_rank, is_before, earlier, IsFirstInOrder}};
 
 use abc_lines::{Fault, FaultKind};
 
 /// The place of a kind in the order in which faults at one place count.
 fn rank(kind: FaultKind) -> u8
-    ensures { result ≡ rank_of kind }
+    ensures { result ≡ kind_rank kind }
 {
     match kind {
         FaultKind::NoKey => 0,
@@ -49,7 +49,7 @@ fn is_before(f: Fault, g: Fault) -> bool
 /// The earlier of the first faults of two sets: the first fault of both together.
 pub fn earlier(a: Option<Fault>, b: Option<Fault>) -> Option<Fault>
     ensures value { result ≡ earlier a b }
-    ensures joined { (s t : List Fault) → IsFirst s a → IsFirst t b → IsFirst (s ++ t) result }
+    ensures joined { (s t : List Fault) → IsFirstInOrder s a → IsFirstInOrder t b → IsFirstInOrder (s ++ t) result }
 {
     match (a, b) {
         (None, other) => other,

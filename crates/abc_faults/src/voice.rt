@@ -1,20 +1,20 @@
 ghost use Rattle.std.specs.{Prelude.◌≡◌, Prelude.◌≤◌, Prelude.◌^◌, Prelude.◌++◌, Prelude.◌∷◌, Prelude.[], Prelude.length, Prelude.map, Prelude.reverse, Prelude.nat_lt, Prelude.IfOk, Prelude.OnOk, List.All};
 ghost use Rattle.abc_steps.specs.{declared.step.Step.Step, Looks.since_event, Lengths.parts_at};
-ghost use Rattle.abc_faults.specs.{First.first_of, Faults.{fault_at, fault_if, ends_tuplets, sounds_behind, misfit_of, tuplet_faults, is_off, any_off, any_grace_off, grace_faults_of, grace_faults, is_past, is_free, sound_faults_if, sound_faults, rest_faults, faults_of}, Weights.{weight_at, capped, sound_count, grace_weights, weights_of}};
+ghost use Rattle.abc_faults.specs.{First.first_of, Faults.{step_fault, fault_if, ends_tuplets, sounds_behind, misfit_of, tuplet_faults, is_off, any_off, any_grace_off, grace_faults_of, grace_faults, is_past, is_free, sound_faults_if, sound_faults, rest_faults, faults_of}, Weights.{weight_at, capped, sound_count, grace_weights, weights_of}};
 
 use crate::first::earlier;
 use crate::weights::{Weight, count_parts, put_graces, sound_count, weight_at};
 use abc_lines::{Fault, FaultKind};
 use abc_steps::kinds::is_sound;
 use abc_steps::looks::{has_left, has_right, since_event};
-use abc_steps::place::{Place, measure_of};
+use abc_steps::state::{VoiceState, measure_of};
 use abc_steps::tuplets::{fits, or_default};
-use abc_steps::{KeptSound, Step, Stood, Taking};
-use abc_tokens::GraceChord;
+use abc_steps::{StoredSound, Step, PlacedStep, OpenTuplets};
+use abc_music::GraceChord;
 use mus_units::{Clef, Few, Head, Memory, Meter, Row, Value, height};
 
-fn fault_at(kind: FaultKind, at: &Stood) -> Fault
-    ensures { result ≡ fault_at kind at.now }
+fn step_fault(kind: FaultKind, at: &PlacedStep) -> Fault
+    ensures { result ≡ step_fault kind at.now }
 {
     Fault {
         kind,
@@ -23,11 +23,11 @@ fn fault_at(kind: FaultKind, at: &Stood) -> Fault
     }
 }
 
-fn fault_if(holds: bool, kind: FaultKind, at: &Stood) -> Option<Fault>
+fn fault_if(holds: bool, kind: FaultKind, at: &PlacedStep) -> Option<Fault>
     ensures { result ≡ first_of (fault_if holds kind at.now) }
 {
     if holds {
-        Some(fault_at(kind, at))
+        Some(step_fault(kind, at))
     } else {
         None
     }
@@ -42,7 +42,7 @@ fn ends_tuplets(s: &Step) -> bool
 
 /// Whether fewer than `r` events with a length stand before the end of the measure.
 #[tactic(auto, unfolding(crate::specs::Faults::sounds_behind))]
-fn is_short(r: u8, behind: &[Stood]) -> bool
+fn is_short(r: u8, behind: &[PlacedStep]) -> bool
     ensures { result ≡ nat_lt (sounds_behind behind.now) r }
 {
     let mut left = r;
@@ -57,23 +57,23 @@ fn is_short(r: u8, behind: &[Stood]) -> bool
     left > 0
 }
 
-fn misfit_of(taking: Taking) -> FaultKind
+fn misfit_of(taking: OpenTuplets) -> FaultKind
     ensures { result ≡ misfit_of taking }
 {
     match taking {
-        Taking::Two { inner: _, outer: _ } => FaultKind::TooDeep,
+        OpenTuplets::Nested { inner: _, outer: _ } => FaultKind::TooDeep,
         _ => FaultKind::TupletCrosses,
     }
 }
 
 #[inline(never)]
-fn tuplet_fault(r: u8, taking: Taking, at: &Stood, behind: &[Stood]) -> Option<Fault>
+fn tuplet_fault(r: u8, taking: OpenTuplets, at: &PlacedStep, behind: &[PlacedStep]) -> Option<Fault>
     ensures { result ≡ first_of (tuplet_faults r taking at.now behind.now) }
 {
     if fits(r, taking) {
         fault_if(is_short(r, behind), FaultKind::TupletShort, at)
     } else {
-        Some(fault_at(misfit_of(taking), at))
+        Some(step_fault(misfit_of(taking), at))
     }
 }
 
@@ -99,7 +99,7 @@ fn any_grace_off(clef: Clef, body: &[GraceChord]) -> bool
 }
 
 #[tactic(auto, unfolding(crate::specs::Faults::grace_faults_of))]
-fn grace_fault_of(clef: Clef, at: &Stood) -> Option<Fault>
+fn grace_fault_of(clef: Clef, at: &PlacedStep) -> Option<Fault>
     ensures { result ≡ first_of (grace_faults_of clef at.now at.now.step) }
 {
     match &at.step {
@@ -114,7 +114,7 @@ fn grace_fault_of(clef: Clef, at: &Stood) -> Option<Fault>
 
 /// The first fault of the graces that wait for an event, in the clef of the event.
 #[inline(always)]
-fn grace_fault(clef: Clef, waits: &[Stood]) -> Option<Fault>
+fn grace_fault(clef: Clef, waits: &[PlacedStep]) -> Option<Fault>
     ensures { result ≡ first_of (grace_faults clef waits.now) }
 {
     let mut found = None;
@@ -139,7 +139,7 @@ fn is_free(meter: Meter) -> bool
 /// The first fault of a note, a chord or a rest, without its graces. `undrawable`
 /// tells that its length has no parts.
 #[tactic(auto, using(crate::proofs::Firsts::first_append))]
-fn sound_fault(now: &Place, at: &Stood, s: &KeptSound, undrawable: bool) -> Option<Fault>
+fn sound_fault(now: &VoiceState, at: &PlacedStep, s: &StoredSound, undrawable: bool) -> Option<Fault>
     requires groups { now.now.counts.groups ≤ 2 ^ 30 }
     requires further { now.now.counts.further ≤ 2 ^ 46 }
     ensures { result ≡ first_of (sound_faults_if undrawable now.now at.now s.now) }
@@ -155,12 +155,12 @@ fn sound_fault(now: &Place, at: &Stood, s: &KeptSound, undrawable: bool) -> Opti
 #[tactic(auto, using(crate::proofs::Firsts::first_append, crate::proofs::Caps::capped_append), unfolding(crate::specs::Faults::sound_faults, crate::specs::Weights::sound_count, abc_steps::specs::Lengths::parts_at))]
 fn judge_sound(
     weights: &mut Row<Weight>,
-    now: &Place,
-    before: &[Stood],
-    at: &Stood,
-    s: &KeptSound,
+    now: &VoiceState,
+    before: &[PlacedStep],
+    at: &PlacedStep,
+    s: &StoredSound,
     parts: &Option<Few<Value>>,
-    behind: &[Stood],
+    behind: &[PlacedStep],
 ) -> Result<Option<Fault>, Memory>
     requires groups { now.now.counts.groups ≤ 2 ^ 30 }
     requires further { now.now.counts.further ≤ 2 ^ 46 }
@@ -177,7 +177,7 @@ fn judge_sound(
 
 /// The first fault of whole measure rests, without their graces.
 #[tactic(auto, using(crate::proofs::Firsts::first_append))]
-fn rest_fault(now: &Place, at: &Stood, count: u16) -> Option<Fault>
+fn rest_fault(now: &VoiceState, at: &PlacedStep, count: u16) -> Option<Fault>
     requires groups { now.now.counts.groups ≤ 2 ^ 30 }
     requires further { now.now.counts.further ≤ 2 ^ 46 }
     ensures { result ≡ first_of (rest_faults now.now at.now count) }
@@ -195,9 +195,9 @@ fn rest_fault(now: &Place, at: &Stood, count: u16) -> Option<Fault>
 #[tactic(auto, using(crate::proofs::Firsts::first_append, crate::proofs::Caps::capped_append))]
 fn judge_rests(
     weights: &mut Row<Weight>,
-    now: &Place,
-    before: &[Stood],
-    at: &Stood,
+    now: &VoiceState,
+    before: &[PlacedStep],
+    at: &PlacedStep,
     count: u16,
 ) -> Result<Option<Fault>, Memory>
     requires groups { now.now.counts.groups ≤ 2 ^ 30 }
@@ -224,11 +224,11 @@ fn judge_rests(
 #[tactic(auto, unfolding(crate::specs::Faults::faults_of, crate::specs::Weights::weights_of))]
 pub fn judge_step(
     weights: &mut Row<Weight>,
-    now: &Place,
-    before: &[Stood],
-    at: &Stood,
+    now: &VoiceState,
+    before: &[PlacedStep],
+    at: &PlacedStep,
     parts: &Option<Few<Value>>,
-    behind: &[Stood],
+    behind: &[PlacedStep],
 ) -> Result<Option<Fault>, Memory>
     requires groups { now.now.counts.groups ≤ 2 ^ 30 }
     requires further { now.now.counts.further ≤ 2 ^ 46 }

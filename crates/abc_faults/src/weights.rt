@@ -1,8 +1,8 @@
 ghost use Rattle.std.specs.Prelude.{◌≡◌, ◌*◌, ◌++◌, length, map, max, OnOk};
 ghost use Rattle.abc_faults.specs.Weights.{weight_at, capped, count_parts, grace_count, grace_weights_of, grace_weights};
 
-use abc_steps::{KeptSound, Step, Stood};
-use abc_tokens::GraceChord;
+use abc_steps::{StoredSound, Step, PlacedStep};
+use abc_music::GraceChord;
 use mus_units::{Few, Memory, Row, Value};
 
 /// How many heads and rests a tune has at most.
@@ -17,7 +17,7 @@ pub struct Weight {
     pub count: u32,
 }
 
-pub(crate) fn weight_at(count: u128, at: &Stood) -> Weight
+pub(crate) fn weight_at(count: u128, at: &PlacedStep) -> Weight
     ensures { result ≡ capped (weight_at count at.now) }
 {
     Weight {
@@ -38,7 +38,7 @@ pub(crate) fn count_parts(parts: &Option<Few<Value>>) -> usize
 }
 
 /// The heads of a note or a chord, or the one rest, times its parts.
-pub(crate) fn sound_count(s: &KeptSound, parts: usize) -> u128
+pub(crate) fn sound_count(s: &StoredSound, parts: usize) -> u128
     ensures { result ≡ max 1 (length s.now.heads) * parts }
 {
     s.heads().len().max(1) as u128 * parts as u128
@@ -56,7 +56,7 @@ fn grace_count(body: &[GraceChord]) -> u128
 }
 
 #[tactic(auto, unfolding(crate::specs::Weights::grace_weights_of))]
-fn put_grace(out: &mut Row<Weight>, at: &Stood) -> Result<(), Memory>
+fn put_grace(out: &mut Row<Weight>, at: &PlacedStep) -> Result<(), Memory>
     ensures { OnOk result (out.new ≡ out.old ++ map capped (grace_weights_of at.now at.now.step)) }
 {
     match &at.step {
@@ -67,7 +67,7 @@ fn put_grace(out: &mut Row<Weight>, at: &Stood) -> Result<(), Memory>
 
 /// Puts the weights of the graces that wait for an event.
 #[tactic(auto, using(crate::proofs::Caps::capped_append))]
-pub(crate) fn put_graces(out: &mut Row<Weight>, waits: &[Stood]) -> Result<(), Memory>
+pub(crate) fn put_graces(out: &mut Row<Weight>, waits: &[PlacedStep]) -> Result<(), Memory>
     ensures { OnOk result (out.new ≡ out.old ++ map capped (grace_weights waits.now)) }
 {
     for s in waits {

@@ -1,16 +1,14 @@
-//! Fields: what a line of a header or a body says, or its fault.
+//! Headers: what the lines of a tune's header say together, or its first fault, and what the file
+//! header says of the tunes and of the paper.
 #![tactic(auto)]
 
-pub mod directive;
-pub mod field;
-pub mod key;
-pub mod meter;
-pub mod numbers;
-pub mod voice;
-pub mod words;
+pub mod defaults;
+pub mod header;
+mod length;
+pub mod paper;
+mod voicing;
 
-pub use directive::Breaks;
-pub use field::{Field, FieldError, read_field, read_named};
-pub use key::KeyText;
-pub use mus_units::{Clef, Frac, Key, Letter, Meter, Sign, Spread, Wish};
-pub use voice::VoiceDef;
+pub use abc_field::{Breaks, Clef, Frac, Key, Letter, Meter, Sign, Spread, VoiceDef, Wish};
+pub use defaults::{Defaults, read_defaults};
+pub use header::{Header, read_header};
+pub use paper::{Paper, body_of, read_paper};

@@ -1,9 +1,9 @@
 -- What is read goes on from part to part.
 use Rattle.std.{proofs.{Common.{◌≡◌, ℕ, suc, ◌+◌, ◌<◌, ◌≤◌, ◌^◌, List, [], ◌∷◌, ◌++◌, length, map, take, drop, get_or, refl, sym, ap, ◌∙◌, subst, arith, append_assoc, append-nil, drop-cons, Option, Some, None, Bool, true, false, ◌&&◌, All, flat_map}, Math.{Seq.take-suc, ListN.drop_of_length-le}, lemmas.List.{Sums.sum_by-cons, Elements.{All-nil, All-push, All-append, All-head, All-tail}}}, specs.Str.bytes_eq}
-use Rattle.{mus_units.specs.declared.pitch.Clef.{Clef}, abc_steps.specs.{declared.step.Step.Step, declared.step.Stood.Stood, Good.IsGoodStood, declared.step.Item.Item}}
-use Rattle.abc_items.specs.{Good.IsGoodItem, declared.body.Body.Body, Voices.{ids_after, declared_ids, stood, break_if, one_if, named_step, steps_in, own_next, steps_from}, Body.{Given, gives, fails, item_judged, judged, first_fault, items_in, LineGives, BodyGives, no_lines, one_line, IsBody, IsBodyError}, Reading.{Reads, Stops, ReadsSome, StopsBy, LinesStop}}
-use Rattle.{abc_lines.specs.{declared.book.Line.Line, declared.fault.Fault.Fault, declared.fault.TuneError.TuneError, Good.size_of}, abc_tokens.specs.declared.token.Placed.{Placed}}
-use Rattle.{abc_fields.specs.declared.directive.Breaks.{Breaks}, abc_header.specs.declared.header.Header.{Header}}
+use Rattle.{mus_units.specs.declared.pitch.Clef.{Clef}, abc_steps.specs.{declared.step.Step.Step, declared.step.PlacedStep.PlacedStep, Good.IsGoodPlacedStep, declared.step.BodyItem.BodyItem}}
+use Rattle.abc_items.specs.{Good.IsGoodItem, declared.body.Body.Body, Voices.{ids_after_item, declared_ids, stood, break_if, one_if, named_step, steps_in, own_next, steps_from}, Body.{ItemOrFault, gives, fails, item_judged, judged_items, first_item_fault, items_in, LineGives, BodyGives, no_lines, one_line, IsBody, IsBodyError}, Reading.{Reads, Stops, ReadsSome, StopsBy, LinesStop}}
+use Rattle.{abc_lines.specs.{declared.book.Line.Line, declared.fault.Fault.Fault, declared.fault.TuneError.TuneError, Good.size_of}, abc_music.specs.declared.token.Placed.{Placed}}
+use Rattle.{abc_field.specs.declared.directive.Breaks.{Breaks}, abc_fields.specs.declared.header.Header.{Header}}
 
 -- one element more of a row that is made of another
 pub mapped-more : {X Y : Type 0} (f : X → Y) (xs : List X) (i : ℕ) (x : X) (done new : List Y) (y : Y) → i < length xs → x ≡ get_or xs i x → new ≡ done ++ y ∷ [] → y ≡ f x
@@ -16,54 +16,54 @@ mapped-more f xs i x done new y inside here pushed made so_far =
 pub reads_nothing : (b : Body) → Reads b [] b
 reads_nothing b = record { faults = λ h. refl; items = λ h. refl }
 
-pub reads_both : (a b c : Body) (g h : List Given) → Reads a g b → Reads b h c → Reads a (g ++ h) c
+pub reads_both : (a b c : Body) (g h : List ItemOrFault) → Reads a g b → Reads b h c → Reads a (g ++ h) c
 reads_both a b c g h one two = record {
-  faults = λ k. ap (λ x. first_fault (judged a.ids x)) (append_assoc g h k) ∙ one.faults (h ++ k) ∙ two.faults k;
+  faults = λ k. ap (λ x. first_item_fault (judged_items a.ids x)) (append_assoc g h k) ∙ one.faults (h ++ k) ∙ two.faults k;
   items = λ k. ap (λ x. a.items ++ items_in x) (append_assoc g h k) ∙ one.items (h ++ k) ∙ two.items k;
 }
 
 -- a fault stays the first, whatever follows
-pub stays : (ids : List (List ℕ)) (g h : List Given) (fault : Fault) → first_fault (judged ids g) ≡ Some fault → first_fault (judged ids (g ++ h)) ≡ Some fault
+pub stays : (ids : List (List ℕ)) (g h : List ItemOrFault) (fault : Fault) → first_item_fault (judged_items ids g) ≡ Some fault → first_item_fault (judged_items ids (g ++ h)) ≡ Some fault
 stays ids [] h fault e = absurd cc
 stays ids (fails one ∷ g) h fault e = e
-stays ids (gives i ∷ g) h fault e = through (item_judged ids i) (judged (ids_after ids i) g) (judged (ids_after ids i) (g ++ h)) fault (stays (ids_after ids i) g h fault) e where
-  through : (x : Given) (g h : List Given) (fault : Fault) → (first_fault g ≡ Some fault → first_fault h ≡ Some fault) → first_fault (x ∷ g) ≡ Some fault → first_fault (x ∷ h) ≡ Some fault
+stays ids (gives i ∷ g) h fault e = through (item_judged ids i) (judged_items (ids_after_item ids i) g) (judged_items (ids_after_item ids i) (g ++ h)) fault (stays (ids_after_item ids i) g h fault) e where
+  through : (x : ItemOrFault) (g h : List ItemOrFault) (fault : Fault) → (first_item_fault g ≡ Some fault → first_item_fault h ≡ Some fault) → first_item_fault (x ∷ g) ≡ Some fault → first_item_fault (x ∷ h) ≡ Some fault
   through (fails one) g h fault f e = e
   through (gives i) g h fault f e = f e
 
-pub stops_before : (b : Body) (g h : List Given) (e : TuneError) → Stops b g e → Stops b (g ++ h) e
+pub stops_before : (b : Body) (g h : List ItemOrFault) (e : TuneError) → Stops b g e → Stops b (g ++ h) e
 stops_before b g h TuneError.Memory s = s
 stops_before b g h (TuneError.Fault fault) s = stays b.ids g h fault s
 
-pub stops_behind : (a b : Body) (g h : List Given) (e : TuneError) → Reads a g b → Stops b h e → Stops a (g ++ h) e
+pub stops_behind : (a b : Body) (g h : List ItemOrFault) (e : TuneError) → Reads a g b → Stops b h e → Stops a (g ++ h) e
 stops_behind a b g h TuneError.Memory r s = s
-stops_behind a b g h (TuneError.Fault fault) r s = ap (λ x. first_fault (judged a.ids (g ++ x))) (sym (append-nil h)) ∙ first_more a b g h r ∙ s where
-  first_more : (a b : Body) (g h : List Given) → Reads a g b → first_fault (judged a.ids (g ++ (h ++ []))) ≡ first_fault (judged b.ids h)
-  first_more a b g h r = r.faults (h ++ []) ∙ ap (λ x. first_fault (judged b.ids x)) (append-nil h)
+stops_behind a b g h (TuneError.Fault fault) r s = ap (λ x. first_item_fault (judged_items a.ids (g ++ x))) (sym (append-nil h)) ∙ first_more a b g h r ∙ s where
+  first_more : (a b : Body) (g h : List ItemOrFault) → Reads a g b → first_item_fault (judged_items a.ids (g ++ (h ++ []))) ≡ first_item_fault (judged_items b.ids h)
+  first_more a b g h r = r.faults (h ++ []) ∙ ap (λ x. first_item_fault (judged_items b.ids x)) (append-nil h)
 
 -- lines one after another
-pub line_more : (breaks : Breaks) (ls : List Line) (l : Line) (g h : List Given) → BodyGives breaks ls g → LineGives breaks l h → BodyGives breaks (ls ++ l ∷ []) (g ++ h)
+pub line_more : (breaks : Breaks) (ls : List Line) (l : Line) (g h : List ItemOrFault) → BodyGives breaks ls g → LineGives breaks l h → BodyGives breaks (ls ++ l ∷ []) (g ++ h)
 line_more breaks _ l _ h no_lines one = one_line l [] h [] h one no_lines (sym (append-nil h))
 line_more breaks _ l _ h (one_line line lines first others all gives_first gives_others is) one =
     one_line line (lines ++ l ∷ []) first (others ++ h) (all ++ h) gives_first (line_more breaks lines l others h gives_others one) (ap (λ x. x ++ h) is ∙ append_assoc first others h)
 
-pub ends : (b c : Body) (g : List Given) → Reads b g c → first_fault (judged b.ids g) ≡ None
-ends b c g r = ap (λ x. first_fault (judged b.ids x)) (sym (append-nil g)) ∙ r.faults []
+pub ends : (b c : Body) (g : List ItemOrFault) → Reads b g c → first_item_fault (judged_items b.ids g) ≡ None
+ends b c g r = ap (λ x. first_item_fault (judged_items b.ids x)) (sym (append-nil g)) ∙ r.faults []
 
-pub all_items : (b c : Body) (g : List Given) → Reads b g c → b.items ≡ [] → c.items ≡ items_in g
+pub all_items : (b c : Body) (g : List ItemOrFault) → Reads b g c → b.items ≡ [] → c.items ≡ items_in g
 all_items b c g r none = sym (append-nil c.items) ∙ sym (r.items []) ∙ ap (λ x. x ++ items_in (g ++ [])) none ∙ ap items_in (append-nil g)
 
-pub stops_by : (Gives : List Given → Type 0) (b : Body) (g : List Given) (e : TuneError) → Gives g → Stops b g e → StopsBy Gives b e
+pub stops_by : (Gives : List ItemOrFault → Type 0) (b : Body) (g : List ItemOrFault) (e : TuneError) → Gives g → Stops b g e → StopsBy Gives b e
 stops_by Gives b g TuneError.Memory so s = tt
 stops_by Gives b g (TuneError.Fault fault) so s = record { given = g; gives_so = so; stops = s }
 
 -- a token that stops
-pub stops_within : (of : Placed → List Given) (a b : Body) (all rest more : List Placed) (x : Placed) (e : TuneError)
-    → ((h : List Given) → first_fault (judged a.ids (flat_map of all ++ h)) ≡ first_fault (judged b.ids (flat_map of rest ++ h))) → rest ≡ x ∷ more → Stops b (of x) e → Stops a (flat_map of all) e
+pub stops_within : (of : Placed → List ItemOrFault) (a b : Body) (all rest more : List Placed) (x : Placed) (e : TuneError)
+    → ((h : List ItemOrFault) → first_item_fault (judged_items a.ids (flat_map of all ++ h)) ≡ first_item_fault (judged_items b.ids (flat_map of rest ++ h))) → rest ≡ x ∷ more → Stops b (of x) e → Stops a (flat_map of all) e
 stops_within of a b all rest more x TuneError.Memory faults is s = tt
 stops_within of a b all rest more x (TuneError.Fault fault) faults is s =
-    ap (λ g. first_fault (judged a.ids g)) (sym (append-nil (flat_map of all))) ∙ faults [] ∙ ap (λ r. first_fault (judged b.ids (flat_map of r ++ []))) is
-    ∙ ap (λ g. first_fault (judged b.ids g)) (append-nil (of x ++ flat_map of more)) ∙ stays b.ids (of x) (flat_map of more) fault s
+    ap (λ g. first_item_fault (judged_items a.ids g)) (sym (append-nil (flat_map of all))) ∙ faults [] ∙ ap (λ r. first_item_fault (judged_items b.ids (flat_map of r ++ []))) is
+    ∙ ap (λ g. first_item_fault (judged_items b.ids g)) (append-nil (of x ++ flat_map of more)) ∙ stays b.ids (of x) (flat_map of more) fault s
 
 -- one line more
 pub lines_more : (breaks : Breaks) (lines : List Line) (i : ℕ) (line : Line) (a b c : Body) → i < length lines → line ≡ get_or lines i line
@@ -105,41 +105,41 @@ pub body_is : (header : Header) (lines : List Line) (b c : Body) → b.ids ≡ d
 body_is header lines b c ids items all = record {
   given = all.given;
   gives_so = all.gives_so;
-  clear = ap (λ x. first_fault (judged x all.given)) (sym ids) ∙ ends b c all.given all.reads;
+  clear = ap (λ x. first_item_fault (judged_items x all.given)) (sym ids) ∙ ends b c all.given all.reads;
   are = all_items b c all.given all.reads items;
 }
 
 pub body_error : (header : Header) (lines : List Line) (b : Body) (e : TuneError) → b.ids ≡ declared_ids header → LinesStop header.breaks lines b e → IsBodyError header lines e
 body_error header lines b TuneError.Memory ids all = tt
-body_error header lines b (TuneError.Fault fault) ids all = record { count = all.0; given = all.1.given; gives_so = all.1.gives_so; first = ap (λ x. first_fault (judged x all.1.given)) (sym ids) ∙ all.1.stops }
+body_error header lines b (TuneError.Fault fault) ids all = record { count = all.0; given = all.1.given; gives_so = all.1.gives_so; first = ap (λ x. first_item_fault (judged_items x all.1.given)) (sym ids) ∙ all.1.stops }
 
 -- the steps of good items are good
-own_good : (own : Bool) (s : Stood) → IsGoodStood s → All IsGoodStood (one_if own s)
-own_good true s good = All-push IsGoodStood [] s (All-nil IsGoodStood) good
-own_good false s good = All-nil IsGoodStood
+own_good : (own : Bool) (s : PlacedStep) → IsGoodPlacedStep s → All IsGoodPlacedStep (one_if own s)
+own_good true s good = All-push IsGoodPlacedStep [] s (All-nil IsGoodPlacedStep) good
+own_good false s good = All-nil IsGoodPlacedStep
 
-end_good : (line column : ℕ) → All IsGoodStood (stood Step.LineEnd line column ∷ [])
-end_good line column = All-push IsGoodStood [] (stood Step.LineEnd line column) (All-nil IsGoodStood) tt
+end_good : (line column : ℕ) → All IsGoodPlacedStep (stood Step.LineEnd line column ∷ [])
+end_good line column = All-push IsGoodPlacedStep [] (stood Step.LineEnd line column) (All-nil IsGoodPlacedStep) tt
 
-break_good : (breaks : Bool) (line column : ℕ) → All IsGoodStood (stood Step.LineEnd line column ∷ break_if breaks line column)
-break_good true line column = All-push IsGoodStood (stood Step.LineEnd line column ∷ []) (stood Step.Break line column) (end_good line column) tt
+break_good : (breaks : Bool) (line column : ℕ) → All IsGoodPlacedStep (stood Step.LineEnd line column ∷ break_if breaks line column)
+break_good true line column = All-push IsGoodPlacedStep (stood Step.LineEnd line column ∷ []) (stood Step.Break line column) (end_good line column) tt
 break_good false line column = end_good line column
 
-clef_good : (named : Bool) (clef : Option Clef) (line column : ℕ) → All IsGoodStood (named_step named clef line column)
-clef_good true None line column = All-nil IsGoodStood
-clef_good true (Some clef) line column = All-push IsGoodStood [] (stood (Step.Clef clef) line column) (All-nil IsGoodStood) tt
-clef_good false clef line column = All-nil IsGoodStood
+clef_good : (named : Bool) (clef : Option Clef) (line column : ℕ) → All IsGoodPlacedStep (named_step named clef line column)
+clef_good true None line column = All-nil IsGoodPlacedStep
+clef_good true (Some clef) line column = All-push IsGoodPlacedStep [] (stood (Step.Clef clef) line column) (All-nil IsGoodPlacedStep) tt
+clef_good false clef line column = All-nil IsGoodPlacedStep
 
-item_steps_good : (id : List ℕ) (own : Bool) (i : Item) → IsGoodItem i → All IsGoodStood (steps_in id own i)
-item_steps_good id own (Item.Step s) good = own_good own s good
-item_steps_good id own (Item.LineEnd joined breaks line column) good = break_good (breaks && own) line column
-item_steps_good id own (Item.Voice def line column) good = clef_good (bytes_eq id def.id) def.clef line column
-item_steps_good id own (Item.Words text line) good = All-nil IsGoodStood
+item_steps_good : (id : List ℕ) (own : Bool) (i : BodyItem) → IsGoodItem i → All IsGoodPlacedStep (steps_in id own i)
+item_steps_good id own (BodyItem.Step s) good = own_good own s good
+item_steps_good id own (BodyItem.LineEnd joined breaks line column) good = break_good (breaks && own) line column
+item_steps_good id own (BodyItem.Voice def line column) good = clef_good (bytes_eq id def.id) def.clef line column
+item_steps_good id own (BodyItem.Words text line) good = All-nil IsGoodPlacedStep
 
-pub steps_good : (id : List ℕ) (own : Bool) (items : List Item) → All IsGoodItem items → All IsGoodStood (steps_from id own items)
-steps_good id own [] good = All-nil IsGoodStood
+pub steps_good : (id : List ℕ) (own : Bool) (items : List BodyItem) → All IsGoodItem items → All IsGoodPlacedStep (steps_from id own items)
+steps_good id own [] good = All-nil IsGoodPlacedStep
 steps_good id own (i ∷ items) good =
-    All-append IsGoodStood (steps_in id own i) (steps_from id (own_next id own i) items) (item_steps_good id own i (All-head IsGoodItem i items good)) (steps_good id (own_next id own i) items (All-tail IsGoodItem i items good))
+    All-append IsGoodPlacedStep (steps_in id own i) (steps_from id (own_next id own i) items) (item_steps_good id own i (All-head IsGoodItem i items good)) (steps_good id (own_next id own i) items (All-tail IsGoodItem i items good))
 
-pub steps_whole : (id : List ℕ) (own : Bool) (items : List Item) (i : ℕ) (steps all : List Stood) → length items ≤ i → steps ++ steps_from id own (drop i items) ≡ all → steps ≡ all
+pub steps_whole : (id : List ℕ) (own : Bool) (items : List BodyItem) (i : ℕ) (steps all : List PlacedStep) → length items ≤ i → steps ++ steps_from id own (drop i items) ≡ all → steps ≡ all
 steps_whole id own items i steps all past so_far = sym (append-nil steps) ∙ ap (λ is. steps ++ steps_from id own is) (sym (drop_of_length-le items past)) ∙ so_far

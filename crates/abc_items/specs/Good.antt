@@ -1,6 +1,6 @@
 -- Good items: their steps are good.
-use Rattle.{std.specs.Prelude.{⊤}, abc_steps.specs.{declared.step.Item.Item, Good.IsGoodStood}}
+use Rattle.{std.specs.Prelude.{⊤}, abc_steps.specs.{declared.step.BodyItem.BodyItem, Good.IsGoodPlacedStep}}
 
-abbrev pub IsGoodItem : Item → Type 0
-IsGoodItem (Item.Step s) = IsGoodStood s
+abbrev pub IsGoodItem : BodyItem → Type 0
+IsGoodItem (BodyItem.Step s) = IsGoodPlacedStep s
 IsGoodItem _ = ⊤

@@ -1,36 +1,36 @@
 -- Between what a body is and the code: what has been read so far, whatever follows.
 use Rattle.std.specs.Prelude.{◌≡◌, ℕ, List, [], ◌∷◌, ◌++◌, take, Option, Some, None, Bool, true, false, ⊤}
-use Rattle.{abc_lines.specs.declared.{book.Line.Line, fault.Fault.Fault, fault.TuneError.TuneError, fault.FaultKind.FaultKind}, abc_fields.specs.declared.directive.Breaks.{Breaks}}
-use Rattle.{abc_steps.specs.declared.step.Item.{Item}, abc_items.specs.{declared.body.Body.Body, Body.Given, Body.gives, Body.fails, Body.BodyGives, Body.judged, Body.first_fault, Body.items_in}}
+use Rattle.{abc_lines.specs.declared.{book.Line.Line, fault.Fault.Fault, fault.TuneError.TuneError, fault.FaultKind.FaultKind}, abc_field.specs.declared.directive.Breaks.{Breaks}}
+use Rattle.{abc_steps.specs.declared.step.BodyItem.{BodyItem}, abc_items.specs.{declared.body.Body.Body, Body.ItemOrFault, Body.gives, Body.fails, Body.BodyGives, Body.judged_items, Body.first_item_fault, Body.items_in}}
 
-abbrev pub maybe_given : Option Item → List Given
+abbrev pub maybe_given : Option BodyItem → List ItemOrFault
 maybe_given None = []
 maybe_given (Some i) = gives i ∷ []
 
-abbrev pub IsGivenError : List Given → TuneError → Type 0
+abbrev pub IsGivenError : List ItemOrFault → TuneError → Type 0
 IsGivenError given TuneError.Memory = ⊤
 IsGivenError given (TuneError.Fault fault) = given ≡ fails fault ∷ []
 
 -- what is given has no fault, and whatever follows goes on behind it
-pub record Reads (before : Body) (given : List Given) (after : Body) : Type 0 where
-  pub faults : (h : List Given) → first_fault (judged before.ids (given ++ h)) ≡ first_fault (judged after.ids h)
-  pub items : (h : List Given) → before.items ++ items_in (given ++ h) ≡ after.items ++ items_in h
+pub record Reads (before : Body) (given : List ItemOrFault) (after : Body) : Type 0 where
+  pub faults : (h : List ItemOrFault) → first_item_fault (judged_items before.ids (given ++ h)) ≡ first_item_fault (judged_items after.ids h)
+  pub items : (h : List ItemOrFault) → before.items ++ items_in (given ++ h) ≡ after.items ++ items_in h
 
-abbrev pub Stops : Body → List Given → TuneError → Type 0
+abbrev pub Stops : Body → List ItemOrFault → TuneError → Type 0
 Stops before given TuneError.Memory = ⊤
-Stops before given (TuneError.Fault fault) = first_fault (judged before.ids given) ≡ Some fault
+Stops before given (TuneError.Fault fault) = first_item_fault (judged_items before.ids given) ≡ Some fault
 
-pub record ReadsSome (Gives : List Given → Type 0) (before after : Body) : Type 0 where
-  pub given : List Given
+pub record ReadsSome (Gives : List ItemOrFault → Type 0) (before after : Body) : Type 0 where
+  pub given : List ItemOrFault
   pub gives_so : Gives given
   pub reads : Reads before given after
 
-pub record StopsSome (Gives : List Given → Type 0) (before : Body) (e : TuneError) : Type 0 where
-  pub given : List Given
+pub record StopsSome (Gives : List ItemOrFault → Type 0) (before : Body) (e : TuneError) : Type 0 where
+  pub given : List ItemOrFault
   pub gives_so : Gives given
   pub stops : Stops before given e
 
-abbrev pub StopsBy : (List Given → Type 0) → Body → TuneError → Type 0
+abbrev pub StopsBy : (List ItemOrFault → Type 0) → Body → TuneError → Type 0
 StopsBy Gives before TuneError.Memory = ⊤
 StopsBy Gives before (TuneError.Fault fault) = StopsSome Gives before (TuneError.Fault fault)
 
@@ -38,7 +38,7 @@ abbrev pub LinesStop : Breaks → List Line → Body → TuneError → Type 0
 LinesStop breaks lines before TuneError.Memory = ⊤
 LinesStop breaks lines before (TuneError.Fault fault) = (count : ℕ) × StopsSome (BodyGives breaks (take count lines)) before (TuneError.Fault fault)
 
-abbrev pub judged_as : Option Fault → Item → Given
+abbrev pub judged_as : Option Fault → BodyItem → ItemOrFault
 judged_as None i = gives i
 judged_as (Some fault) i = fails fault
 

@@ -1,7 +1,7 @@
 -- The voices of a tune: which there are, in order of first mention; what each begins with; and which steps of the body are its own.
 use Rattle.std.specs.{Prelude.{ℕ, List, [], ◌∷◌, ◌++◌, ◌==◌, ◌&&◌, not, Bool, true, false, if◌then◌else◌, map, fold, find, length, Option, Some, None, unwrap_or}, Str.bytes_eq}
-use Rattle.{mus_units.specs.{declared.pitch.Clef.Clef, declared.note.Wish.Wish}, abc_fields.specs.{declared.voice.VoiceDef.VoiceDef, Last.last_of}, abc_header.specs.{declared.header.Header.Header, Voicing.with_id}}
-use Rattle.{abc_steps.specs.{declared.step.Step.Step, declared.step.Stood.Stood, declared.step.Item.Item}, abc_items.specs.declared.voices.VoiceStart.{VoiceStart}}
+use Rattle.{mus_units.specs.{declared.pitch.Clef.Clef, declared.note.Wish.Wish}, abc_field.specs.{declared.voice.VoiceDef.VoiceDef, Last.last_of}, abc_fields.specs.{declared.header.Header.Header, Voicing.with_id}}
+use Rattle.{abc_steps.specs.{declared.step.Step.Step, declared.step.PlacedStep.PlacedStep, declared.step.BodyItem.BodyItem}, abc_items.specs.declared.voices.VoiceStart.{VoiceStart}}
 
 -- whether a step makes its voice, and its line one of its voice: spaces, line breaks, line ends and fields don't
 unfoldable pub claims : Step → Bool
@@ -25,17 +25,17 @@ ids_by_step [] true = voice_one ∷ []
 ids_by_step [] false = []
 ids_by_step (id ∷ ids) b = id ∷ ids
 
-abbrev pub ids_after : List (List ℕ) → Item → List (List ℕ)
-ids_after ids (Item.Step s) = ids_by_step ids (claims s.step)
-ids_after ids (Item.LineEnd joined breaks line column) = ids
-ids_after ids (Item.Voice def line column) = with_id ids def.id
-ids_after ids (Item.Words text line) = ids
+abbrev pub ids_after_item : List (List ℕ) → BodyItem → List (List ℕ)
+ids_after_item ids (BodyItem.Step s) = ids_by_step ids (claims s.step)
+ids_after_item ids (BodyItem.LineEnd joined breaks line column) = ids
+ids_after_item ids (BodyItem.Voice def line column) = with_id ids def.id
+ids_after_item ids (BodyItem.Words text line) = ids
 
 abbrev pub declared_ids : Header → List (List ℕ)
 declared_ids header = map (λ (def : VoiceDef). def.id) header.voices
 
-abbrev pub ids_of : Header → List Item → List (List ℕ)
-ids_of header items = fold ids_after (declared_ids header) items
+abbrev pub voice_ids : Header → List BodyItem → List (List ℕ)
+voice_ids header items = fold ids_after_item (declared_ids header) items
 
 -- where music stands before any voice field goes: to the first declared voice, else to the voice 1
 abbrev pub first_id : List VoiceDef → List ℕ
@@ -52,29 +52,29 @@ declared header id = find (λ (def : VoiceDef). bytes_eq def.id id) header.voice
 
 -- the clef of the first voice field of an id; none where music that stands before any voice field
 -- has mentioned the voice 1. `alone` says that no voice was declared or named so far.
-abbrev pub decides : List ℕ → Bool → Item → Bool
-decides id alone (Item.Voice def line column) = bytes_eq def.id id
-decides id alone (Item.Step s) = alone && claims s.step && bytes_eq id voice_one
+abbrev pub decides : List ℕ → Bool → BodyItem → Bool
+decides id alone (BodyItem.Voice def line column) = bytes_eq def.id id
+decides id alone (BodyItem.Step s) = alone && claims s.step && bytes_eq id voice_one
 decides id alone _ = false
 
-abbrev pub clef_in : Item → Option Clef
-clef_in (Item.Voice def line column) = def.clef
-clef_in _ = None
+abbrev pub clef_of_item : BodyItem → Option Clef
+clef_of_item (BodyItem.Voice def line column) = def.clef
+clef_of_item _ = None
 
-abbrev pub still_alone : Bool → Item → Bool
-still_alone alone (Item.Voice def line column) = false
-still_alone alone (Item.Step s) = alone && not (claims s.step)
+abbrev pub still_alone : Bool → BodyItem → Bool
+still_alone alone (BodyItem.Voice def line column) = false
+still_alone alone (BodyItem.Step s) = alone && not (claims s.step)
 still_alone alone _ = alone
 
-abbrev pub first_clef : List ℕ → Bool → List Item → Option Clef
+abbrev pub first_clef : List ℕ → Bool → List BodyItem → Option Clef
 first_clef id alone [] = None
-first_clef id alone (i ∷ items) = if decides id alone i then clef_in i else first_clef id (still_alone alone i) items
+first_clef id alone (i ∷ items) = if decides id alone i then clef_of_item i else first_clef id (still_alone alone i) items
 
-abbrev pub clef_first : Header → List Item → List ℕ → Option VoiceDef → Option Clef
+abbrev pub clef_first : Header → List BodyItem → List ℕ → Option VoiceDef → Option Clef
 clef_first header items id (Some def) = def.clef
 clef_first header items id None = first_clef id (length header.voices == 0) items
 
-abbrev pub start_clef : Header → List Item → List ℕ → Clef
+abbrev pub start_clef : Header → List BodyItem → List ℕ → Clef
 start_clef header items id = unwrap_or (clef_first header items id (declared header id)) header.clef
 
 -- the last way of stems that a field of the tune names for the voice, else Auto
@@ -82,64 +82,64 @@ abbrev pub wish_if : Bool → Wish → Option Wish
 wish_if true wish = Some wish
 wish_if false wish = None
 
-abbrev pub wish_in : List ℕ → Item → Option Wish
-wish_in id (Item.Voice def line column) = wish_if (bytes_eq def.id id && def.asks) def.stem
-wish_in id _ = None
+abbrev pub wish_of_item : List ℕ → BodyItem → Option Wish
+wish_of_item id (BodyItem.Voice def line column) = wish_if (bytes_eq def.id id && def.asks) def.stem
+wish_of_item id _ = None
 
 abbrev pub declared_wish : Option VoiceDef → Wish
 declared_wish None = Wish.Auto
 declared_wish (Some def) = if def.asks then def.stem else Wish.Auto
 
-abbrev pub start_stem : Header → List Item → List ℕ → Wish
-start_stem header items id = unwrap_or (last_of (wish_in id) items) (declared_wish (declared header id))
+abbrev pub start_stem : Header → List BodyItem → List ℕ → Wish
+start_stem header items id = unwrap_or (last_of (wish_of_item id) items) (declared_wish (declared header id))
 
-abbrev pub start_of : Header → List Item → List ℕ → VoiceStart
+abbrev pub start_of : Header → List BodyItem → List ℕ → VoiceStart
 start_of header items id = record { id = id; clef = start_clef header items id; stem = start_stem header items id }
 
-abbrev pub starts_of : Header → List Item → List VoiceStart
-starts_of header items = map (start_of header items) (ids_of header items)
+abbrev pub starts_of : Header → List BodyItem → List VoiceStart
+starts_of header items = map (start_of header items) (voice_ids header items)
 
 -- The steps of a voice. A step belongs to the voice of the last voice field before it; `own` says
 -- whether that is this one. The end of a line is a step of every voice, and a line break of the voice
 -- that is current there; a voice field with a clef is a step of the voice that it names.
-abbrev pub stood : Step → ℕ → ℕ → Stood
+abbrev pub stood : Step → ℕ → ℕ → PlacedStep
 stood s line column = record { step = s; line = line; column = column }
 
-abbrev pub break_if : Bool → ℕ → ℕ → List Stood
+abbrev pub break_if : Bool → ℕ → ℕ → List PlacedStep
 break_if true line column = stood Step.Break line column ∷ []
 break_if false line column = []
 
-abbrev pub clef_step : Option Clef → ℕ → ℕ → List Stood
+abbrev pub clef_step : Option Clef → ℕ → ℕ → List PlacedStep
 clef_step None line column = []
 clef_step (Some clef) line column = stood (Step.Clef clef) line column ∷ []
 
-abbrev pub one_if : Bool → Stood → List Stood
+abbrev pub one_if : Bool → PlacedStep → List PlacedStep
 one_if true s = s ∷ []
 one_if false s = []
 
-abbrev pub named_step : Bool → Option Clef → ℕ → ℕ → List Stood
+abbrev pub named_step : Bool → Option Clef → ℕ → ℕ → List PlacedStep
 named_step true clef line column = clef_step clef line column
 named_step false clef line column = []
 
-abbrev pub steps_in : List ℕ → Bool → Item → List Stood
-steps_in id own (Item.Step s) = one_if own s
-steps_in id own (Item.LineEnd joined breaks line column) = stood Step.LineEnd line column ∷ break_if (breaks && own) line column
-steps_in id own (Item.Voice def line column) = named_step (bytes_eq id def.id) def.clef line column
-steps_in id own (Item.Words text line) = []
+abbrev pub steps_in : List ℕ → Bool → BodyItem → List PlacedStep
+steps_in id own (BodyItem.Step s) = one_if own s
+steps_in id own (BodyItem.LineEnd joined breaks line column) = stood Step.LineEnd line column ∷ break_if (breaks && own) line column
+steps_in id own (BodyItem.Voice def line column) = named_step (bytes_eq id def.id) def.clef line column
+steps_in id own (BodyItem.Words text line) = []
 
-abbrev pub own_next : List ℕ → Bool → Item → Bool
-own_next id own (Item.Voice def line column) = bytes_eq id def.id
+abbrev pub own_next : List ℕ → Bool → BodyItem → Bool
+own_next id own (BodyItem.Voice def line column) = bytes_eq id def.id
 own_next id own _ = own
 
-abbrev pub steps_from : List ℕ → Bool → List Item → List Stood
+abbrev pub steps_from : List ℕ → Bool → List BodyItem → List PlacedStep
 steps_from id own [] = []
 steps_from id own (i ∷ items) = steps_in id own i ++ steps_from id (own_next id own i) items
 
 -- before any voice field, music is of the voice `unnamed`
-abbrev pub steps_of : List ℕ → List ℕ → List Item → List Stood
+abbrev pub steps_of : List ℕ → List ℕ → List BodyItem → List PlacedStep
 steps_of id unnamed items = steps_from id (bytes_eq id unnamed) items
 
 -- the voice that is current behind an item
-abbrev pub voice_next : Item → List ℕ → List ℕ
-voice_next (Item.Voice def line column) now = def.id
+abbrev pub voice_next : BodyItem → List ℕ → List ℕ
+voice_next (BodyItem.Voice def line column) now = def.id
 voice_next _ now = now

@@ -1,15 +1,15 @@
 ghost use Rattle.std.specs.Prelude.{◌≡◌, ◌≤◌, ◌^◌, ◌∷◌, [], All, nat_lt, length, flat_map, OnOk, IfOk, IfErr, IfSome};
-ghost use Rattle.abc_tokens.specs.Good.{AreGoodTokens, IsGoodToken};
-ghost use Rattle.abc_items.specs.{Good.IsGoodItem, Voices.declared_ids, Body.{gives, placed_given, field_given, is_joined, end_item, end_given, item_judged, MusicGives, LineGives, BodyGives, IsBody, IsBodyError}, Reading.{maybe_given, Reads, Stops, ReadsSome, StopsBy, LinesStop, judged_as, past_fault}};
-ghost use Rattle.{abc_lines.specs.{Good.IsGoodLine, Good.size_of, declared.kind.LineKind.LineKind, Kinds.kind_of}, abc_fields.specs.Fields.{field_of}, abc_header.specs.Voicing.{with_id}};
+ghost use Rattle.abc_music.specs.Good.{AreGoodTokens, IsGoodToken};
+ghost use Rattle.abc_items.specs.{Good.IsGoodItem, Voices.declared_ids, Body.{gives, placed_given, item_of_field, is_line_joined, end_item, item_of_line_end, item_judged, MusicGives, LineGives, BodyGives, IsBody, IsBodyError}, Reading.{maybe_given, Reads, Stops, ReadsSome, StopsBy, LinesStop, judged_as, past_fault}};
+ghost use Rattle.{abc_lines.specs.{Good.IsGoodLine, Good.size_of, declared.kind.LineKind.LineKind, Kinds.kind_of}, abc_field.specs.Fields.{field_of}, abc_fields.specs.Voicing.{with_id}};
 
 use crate::token::{field_item, token_item};
 use crate::voices::{declared_ids, is_mentioned, mention_item};
-use abc_fields::{Breaks, read_field};
-use abc_header::Header;
+use abc_field::{Breaks, read_field};
+use abc_fields::Header;
 use abc_lines::{Fault, FaultKind, Line, LineKind, TuneError, kind_of};
-use abc_steps::Item;
-use abc_tokens::{Behind, Placed, read_part, start};
+use abc_steps::BodyItem;
+use abc_music::{LineRest, Placed, read_part, start};
 use mus_units::{Memory, Row, Text};
 use std::alloc::Global;
 
@@ -17,12 +17,12 @@ use std::alloc::Global;
 #[derive(Drop)]
 pub struct Body {
     pub ids: Row<Text>,
-    pub items: Row<Item>,
+    pub items: Row<BodyItem>,
 }
 
 /// The items of a body, or its first fault: of a field, of a music line, or a
 /// seventeenth voice. `lines` are those of the tune behind its header.
-pub fn read_body(alloc: Global, header: &Header, lines: &[Line]) -> Result<Row<Item>, TuneError>
+pub fn read_body(alloc: Global, header: &Header, lines: &[Line]) -> Result<Row<BodyItem>, TuneError>
     requires { size_of lines.now ≤ 2 ^ 30 }
     ensures items { IfOk result (λ items. IsBody header.now lines.now items) }
     ensures good { IfOk result (λ items. All IsGoodItem items) }
@@ -86,8 +86,8 @@ fn read_line(alloc: Global, breaks: Breaks, line: &Line, body: &mut Body) -> Res
 /// Adds what a field or a directive says.
 fn read_field_line(alloc: Global, line: &Line, body: &mut Body) -> Result<(), TuneError>
     requires before { All IsGoodItem body.old.items }
-    ensures reads { OnOk result (Reads body.old (field_given (field_of line.now.text) line.now.number 1) body.new) }
-    ensures stops { IfErr result (λ e. Stops body.old (field_given (field_of line.now.text) line.now.number 1) e) }
+    ensures reads { OnOk result (Reads body.old (item_of_field (field_of line.now.text) line.now.number 1) body.new) }
+    ensures stops { IfErr result (λ e. Stops body.old (item_of_field (field_of line.now.text) line.now.number 1) e) }
     ensures good { OnOk result (All IsGoodItem body.new.items) }
 {
     match read_field(alloc, line) {
@@ -120,8 +120,8 @@ fn read_music_line(
             Err(e) => return Err(e),
         }
         match part.behind {
-            Behind::More(next) => place = next,
-            Behind::End(fault) => return put_end(alloc, breaks, line, fault, body),
+            LineRest::More(next) => place = next,
+            LineRest::End(fault) => return put_end(alloc, breaks, line, fault, body),
         }
     }
 }
@@ -168,18 +168,18 @@ fn put_token(
 }
 
 /// Whether a music line ends in a backslash.
-fn is_joined(text: &[u8]) -> bool
-    ensures { result ≡ is_joined text.now }
+fn is_line_joined(text: &[u8]) -> bool
+    ensures { result ≡ is_line_joined text.now }
 {
     text.ends_with(b"\\")
 }
 
-fn end_item(breaks: Breaks, line: &Line) -> Item
+fn end_item(breaks: Breaks, line: &Line) -> BodyItem
     requires { IsGoodLine line.now }
     ensures { result ≡ end_item breaks line.now }
 {
-    let joined = is_joined(line.text.as_slice());
-    Item::LineEnd {
+    let joined = is_line_joined(line.text.as_slice());
+    BodyItem::LineEnd {
         joined,
         breaks: breaks.eol && !joined,
         line: line.number,
@@ -197,8 +197,8 @@ fn put_end(
 ) -> Result<(), TuneError>
     requires line { IsGoodLine line.now }
     requires before { All IsGoodItem body.old.items }
-    ensures reads { OnOk result (Reads body.old (end_given breaks line.now fault) body.new) }
-    ensures stops { IfErr result (λ e. Stops body.old (end_given breaks line.now fault) e) }
+    ensures reads { OnOk result (Reads body.old (item_of_line_end breaks line.now fault) body.new) }
+    ensures stops { IfErr result (λ e. Stops body.old (item_of_line_end breaks line.now fault) e) }
     ensures good { OnOk result (All IsGoodItem body.new.items) }
 {
     match fault {
@@ -208,7 +208,7 @@ fn put_end(
 }
 
 #[inline(always)]
-fn put_found(alloc: Global, body: &mut Body, found: Option<Item>) -> Result<(), TuneError>
+fn put_found(alloc: Global, body: &mut Body, found: Option<BodyItem>) -> Result<(), TuneError>
     requires found { IfSome found IsGoodItem }
     requires before { All IsGoodItem body.old.items }
     ensures reads { OnOk result (Reads body.old (maybe_given found) body.new) }
@@ -223,7 +223,7 @@ fn put_found(alloc: Global, body: &mut Body, found: Option<Item>) -> Result<(), 
 
 /// Adds an item, or answers that it mentions a seventeenth voice.
 #[inline(always)]
-fn put_item(alloc: Global, body: &mut Body, item: Item) -> Result<(), TuneError>
+fn put_item(alloc: Global, body: &mut Body, item: BodyItem) -> Result<(), TuneError>
     requires item { IsGoodItem item }
     requires before { All IsGoodItem body.old.items }
     ensures reads { OnOk result (Reads body.old (gives item ∷ []) body.new) }
@@ -253,14 +253,14 @@ fn is_past(ids: &[Text], id: &[u8]) -> bool
 
 /// The fault of a voice field that mentions a seventeenth voice.
 #[inline(always)]
-fn voice_fault(ids: &[Text], item: &Item) -> Option<Fault>
+fn voice_fault(ids: &[Text], item: &BodyItem) -> Option<Fault>
     ensures { judged_as result item.now ≡ item_judged ids.now item.now }
 {
     match item {
-        Item::Step(_) => None,
-        Item::LineEnd { .. } => None,
-        Item::Words { text: _, line: _ } => None,
-        Item::Voice { def, line, column } => past_fault(
+        BodyItem::Step(_) => None,
+        BodyItem::LineEnd { .. } => None,
+        BodyItem::Words { text: _, line: _ } => None,
+        BodyItem::Voice { def, line, column } => past_fault(
             is_past(ids, def.id.as_slice()),
             *line,
             *column,

@@ -2,10 +2,10 @@
 
 ghost use Rattle.std.specs.Prelude.{◌≡◌, IfOk};
 
-use abc_fields::KeyText;
+use abc_field::KeyText;
 use abc_steps::copies::put_chords;
-use abc_steps::{Apart, Step, Stood};
-use abc_tokens::GraceChord;
+use abc_steps::{Boxed, Step, PlacedStep};
+use abc_music::GraceChord;
 use mus_units::{Memory, Row, copy_optional_key};
 use std::alloc::Global;
 
@@ -54,9 +54,9 @@ fn copy_step(alloc: Global, step: &Step) -> Result<Step, Memory>
         }),
         Step::Bar(bar) => Ok(Step::Bar(*bar)),
         Step::Ending(text) => Ok(Step::Ending(text.copy(alloc)?)),
-        Step::Deco(deco) => Ok(Step::Deco(Apart::new(alloc, deco.get().copy(alloc)?)?)),
+        Step::Deco(deco) => Ok(Step::Deco(Boxed::new(alloc, deco.get().copy(alloc)?)?)),
         Step::Says(text) => Ok(Step::Says(text.copy(alloc)?)),
-        Step::Key(text) => Ok(Step::Key(Apart::new(alloc, copy_key_text(alloc, text.get())?)?)),
+        Step::Key(text) => Ok(Step::Key(Boxed::new(alloc, copy_key_text(alloc, text.get())?)?)),
         Step::Meter(meter) => Ok(Step::Meter(*meter)),
         Step::Unit(unit) => Ok(Step::Unit(*unit)),
         Step::Clef(clef) => Ok(Step::Clef(*clef)),
@@ -66,10 +66,10 @@ fn copy_step(alloc: Global, step: &Step) -> Result<Step, Memory>
     }
 }
 
-pub(crate) fn copy_stood(alloc: Global, stood: &Stood) -> Result<Stood, Memory>
+pub(crate) fn copy_stood(alloc: Global, stood: &PlacedStep) -> Result<PlacedStep, Memory>
     ensures { IfOk result (λ copy. copy ≡ stood.now) }
 {
-    Ok(Stood {
+    Ok(PlacedStep {
         step: copy_step(alloc, &stood.step)?,
         line: stood.line,
         column: stood.column,

@@ -1,28 +1,28 @@
 //! What a field and a token of a music line give to the body.
 
 ghost use Rattle.std.specs.Prelude.{◌≡◌, ◌≤◌, ◌^◌, true, ◌*◌, ◌-◌, ◌∷◌, [], map, get_or, IfOk, IfErr, IfSome, Ok, Err};
-ghost use Rattle.{abc_tokens.specs.Good.{AreGoodHeads, IsGoodLen, IsGoodToken}, abc_steps.specs.Good.{IsGoodSound}, abc_fields.specs.{Fields.{IsGoodField, named_field}, Keys.IsGoodKeyText}};
-ghost use Rattle.abc_items.specs.{Good.IsGoodItem, Body.{head_of, first_len, chord_sound, is_on, cut_given, step_at, field_item, field_given, token_given}, Reading.{maybe_given, IsGivenError}};
+ghost use Rattle.{abc_music.specs.Good.{AreGoodHeads, IsGoodLen, IsGoodToken}, abc_steps.specs.Good.{IsGoodSound}, abc_field.specs.{Fields.{IsGoodField, named_field}, Keys.IsGoodKeyText}};
+ghost use Rattle.abc_items.specs.{Good.IsGoodItem, Body.{written_head, first_len, chord_sound, is_on, cut_given, step_at, field_item, item_of_field, item_of_token}, Reading.{maybe_given, IsGivenError}};
 
-use abc_fields::{Breaks, Field, FieldError, KeyText, read_named};
+use abc_field::{Breaks, Field, FieldError, KeyText, read_named};
 use abc_lines::{Fault, Line, TuneError};
-use abc_steps::{Apart, Item, KeptSound, Sound, Step, Stood};
-use abc_tokens::{Len, Token, WrittenChord};
+use abc_steps::{Boxed, BodyItem, StoredSound, WrittenSound, Step, PlacedStep};
+use abc_music::{Len, Token, WrittenChord};
 use mus_units::{Few, Head, Memory, Row};
 use std::alloc::Global;
 
-fn stood(step: Step, line: u32, column: u32) -> Item
-    ensures { result ≡ Item.Step (record { step = step; line = line; column = column }) }
+fn stood(step: Step, line: u32, column: u32) -> BodyItem
+    ensures { result ≡ BodyItem.Step (record { step = step; line = line; column = column }) }
 {
-    Item::Step(Stood { step, line, column })
+    BodyItem::Step(PlacedStep { step, line, column })
 }
 
-fn key(alloc: Global, text: KeyText, line: u32, column: u32) -> Result<Option<Item>, Memory>
+fn key(alloc: Global, text: KeyText, line: u32, column: u32) -> Result<Option<BodyItem>, Memory>
     requires { IsGoodKeyText text }
     ensures good { IfOk result (λ found. IfSome found IsGoodItem) }
     ensures item { IfOk result (λ found. maybe_given found ≡ step_at (Step.Key text) line column) }
 {
-    let step = Step::Key(Apart::new(alloc, text)?);
+    let step = Step::Key(Boxed::new(alloc, text)?);
     Ok(Some(stood(step, line, column)))
 }
 
@@ -33,7 +33,7 @@ pub(crate) fn field_item(
     field: Field,
     line: u32,
     column: u32,
-) -> Result<Option<Item>, Memory>
+) -> Result<Option<BodyItem>, Memory>
     requires { IsGoodField field }
     ensures good { IfOk result (λ found. IfSome found IsGoodItem) }
     ensures item { IfOk result (λ found. maybe_given found ≡ field_item field line column) }
@@ -42,8 +42,8 @@ pub(crate) fn field_item(
         Field::Key(text) => key(alloc, text, line, column),
         Field::Meter(meter) => Ok(Some(stood(Step::Meter(meter), line, column))),
         Field::Unit(unit) => Ok(Some(stood(Step::Unit(unit), line, column))),
-        Field::Voice(def) => Ok(Some(Item::Voice { def, line, column })),
-        Field::Words(text) => Ok(Some(Item::Words { text, line })),
+        Field::Voice(def) => Ok(Some(BodyItem::Voice { def, line, column })),
+        Field::Words(text) => Ok(Some(BodyItem::Words { text, line })),
         _ => Ok(None),
     }
 }
@@ -56,10 +56,10 @@ fn inline_item(
     text: &[u8],
     line: u32,
     column: u32,
-) -> Result<Option<Item>, TuneError>
-    ensures item { IfOk result (λ found. maybe_given found ≡ field_given (named_field letter text.now) line column) }
+) -> Result<Option<BodyItem>, TuneError>
+    ensures item { IfOk result (λ found. maybe_given found ≡ item_of_field (named_field letter text.now) line column) }
     ensures good { IfOk result (λ found. IfSome found IsGoodItem) }
-    ensures error { IfErr result (λ e. IsGivenError (field_given (named_field letter text.now) line column) e) }
+    ensures error { IfErr result (λ e. IsGivenError (item_of_field (named_field letter text.now) line column) e) }
 {
     match read_named(alloc, letter, text) {
         Ok(field) => Ok(field_item(alloc, field, line, column)?),
@@ -70,7 +70,7 @@ fn inline_item(
 
 /// The heads of a chord, without their lengths.
 fn heads_of(alloc: Global, heads: &[(Head, Len)]) -> Result<Row<Head>, Memory>
-    ensures { IfOk result (λ found. found ≡ map head_of heads.now) }
+    ensures { IfOk result (λ found. found ≡ map written_head heads.now) }
 {
     let items = heads.iter().map(|head| head.0).collect(alloc)?;
     Ok(Row { items })
@@ -100,14 +100,14 @@ fn product(one: u32, other: u32) -> u64
 
 /// A chord has the length of its first note, times its own.
 #[inline(never)]
-fn chord(alloc: Global, chord: WrittenChord) -> Result<Sound, Memory>
+fn chord(alloc: Global, chord: WrittenChord) -> Result<WrittenSound, Memory>
     requires heads { AreGoodHeads chord.heads }
     requires len { IsGoodLen chord.len }
     ensures good { IfOk result IsGoodSound }
     ensures value { IfOk result (λ found. found ≡ chord_sound chord) }
 {
     let first = first_len(chord.heads.as_slice());
-    Ok(Sound {
+    Ok(WrittenSound {
         heads: Few::from(heads_of(alloc, chord.heads.as_slice())?),
         seen: true,
         decos: chord.decos,
@@ -138,7 +138,7 @@ fn is_on(breaks: Breaks, byte: u8) -> bool
     }
 }
 
-fn cut(on: bool, line: u32, column: u32) -> Option<Item>
+fn cut(on: bool, line: u32, column: u32) -> Option<BodyItem>
     ensures good { IfSome result IsGoodItem }
     ensures item { maybe_given result ≡ cut_given on line column }
 {
@@ -151,26 +151,26 @@ fn cut(on: bool, line: u32, column: u32) -> Option<Item>
 
 /// What a token of a music line gives, or the fault of the field within it: the
 /// step of a token that is one, else what an inline field or a line break gives.
-#[tactic(auto, unfolding(crate::specs::Body::token_given))]
+#[tactic(auto, unfolding(crate::specs::Body::item_of_token))]
 pub(crate) fn token_item(
     alloc: Global,
     breaks: Breaks,
     line: &Line,
     column: u32,
     token: Token,
-) -> Result<Option<Item>, TuneError>
+) -> Result<Option<BodyItem>, TuneError>
     requires { IsGoodToken token }
-    ensures item { IfOk result (λ found. maybe_given found ≡ token_given breaks line.now column token) }
+    ensures item { IfOk result (λ found. maybe_given found ≡ item_of_token breaks line.now column token) }
     ensures good { IfOk result (λ found. IfSome found IsGoodItem) }
-    ensures error { IfErr result (λ e. IsGivenError (token_given breaks line.now column token) e) }
+    ensures error { IfErr result (λ e. IsGivenError (item_of_token breaks line.now column token) e) }
 {
     let step = match token {
-        Token::Note { head, len } => Step::Sound(KeptSound::note(head, len.num, len.den)),
-        Token::Rest { seen, len } => Step::Sound(KeptSound::rest(seen, len.num, len.den)),
+        Token::Note { head, len } => Step::Sound(StoredSound::note(head, len.num, len.den)),
+        Token::Rest { seen, len } => Step::Sound(StoredSound::rest(seen, len.num, len.den)),
         Token::Measures { seen, count } => Step::Measures { seen, count },
         Token::Chord(written) => {
             let sound = chord(alloc, written.into_inner())?;
-            Step::Sound(KeptSound::from_sound(alloc, sound)?)
+            Step::Sound(StoredSound::from_sound(alloc, sound)?)
         }
         Token::Grace { slash, body } => Step::Grace { slash, body },
         Token::Tuplet { p, q, r } => Step::Tuplet { p, q, r },
@@ -180,7 +180,7 @@ pub(crate) fn token_item(
         Token::Broken { right, dots } => Step::Broken { right, dots },
         Token::Bar(bar) => Step::Bar(bar),
         Token::Ending(text) => Step::Ending(text),
-        Token::Deco(deco) => Step::Deco(Apart::new(alloc, deco)?),
+        Token::Deco(deco) => Step::Deco(Boxed::new(alloc, deco)?),
         Token::Says(text) => Step::Says(text),
         Token::Inline { letter, text } => return inline_item(
             alloc,

@@ -1,12 +1,12 @@
 ghost use Rattle.std.specs.{Prelude.{◌≡◌, ◌++◌, ◌∷◌, ◌&&◌, ◌||◌, not, ◌==◌, [], IfOk, OnOk, map, find, fold, length, unwrap_or, true, false, All}, List.list_any, Option.option_copied, Str.bytes_eq};
-ghost use Rattle.abc_steps.specs.Good.{IsGoodStood};
-ghost use Rattle.abc_items.specs.{Good.IsGoodItem, Voices.{claims, voice_one, ids_by_step, ids_after, declared_ids, ids_of, unnamed_of, declared, decides, clef_in, still_alone, first_clef, clef_first, start_clef, wish_in, wish_if, declared_wish, start_stem, start_of, starts_of, stood, break_if, clef_step, one_if, named_step, steps_in, own_next, steps_of}};
-ghost use Rattle.{abc_fields.specs.Last.{last_of}, abc_header.specs.Voicing.{with_id}};
+ghost use Rattle.abc_steps.specs.Good.{IsGoodPlacedStep};
+ghost use Rattle.abc_items.specs.{Good.IsGoodItem, Voices.{claims, voice_one, ids_by_step, ids_after_item, declared_ids, voice_ids, unnamed_of, declared, decides, clef_of_item, still_alone, first_clef, clef_first, start_clef, wish_of_item, wish_if, declared_wish, start_stem, start_of, starts_of, stood, break_if, clef_step, one_if, named_step, steps_in, own_next, steps_of}};
+ghost use Rattle.{abc_field.specs.Last.{last_of}, abc_fields.specs.Voicing.{with_id}};
 
 use crate::copies::copy_stood;
-use abc_fields::VoiceDef;
-use abc_header::Header;
-use abc_steps::{Item, Step, Stood};
+use abc_field::VoiceDef;
+use abc_fields::Header;
+use abc_steps::{BodyItem, Step, PlacedStep};
 use mus_units::{Clef, Memory, Row, Text, Wish};
 use std::alloc::Global;
 
@@ -78,12 +78,12 @@ fn ids_in(alloc: Global, voices: &[VoiceDef]) -> Result<Row<Text>, Memory>
 
 /// Adds the id that an item mentions.
 #[inline(always)]
-pub(crate) fn mention_item(alloc: Global, ids: &mut Row<Text>, item: &Item) -> Result<(), Memory>
-    ensures { OnOk result (ids.new ≡ ids_after ids.old item.now) }
+pub(crate) fn mention_item(alloc: Global, ids: &mut Row<Text>, item: &BodyItem) -> Result<(), Memory>
+    ensures { OnOk result (ids.new ≡ ids_after_item ids.old item.now) }
 {
     match item {
-        Item::Step(stood) => mention_step(alloc, ids, &stood.step),
-        Item::Voice { def, .. } => mention(alloc, ids, def.id.as_slice()),
+        BodyItem::Step(stood) => mention_step(alloc, ids, &stood.step),
+        BodyItem::Voice { def, .. } => mention(alloc, ids, def.id.as_slice()),
         _ => Ok(()),
     }
 }
@@ -99,8 +99,8 @@ fn mention_step(alloc: Global, ids: &mut Row<Text>, step: &Step) -> Result<(), M
 }
 
 /// The ids of a tune's voices, in order of first mention.
-fn ids_of(alloc: Global, header: &Header, items: &[Item]) -> Result<Row<Text>, Memory>
-    ensures { IfOk result (λ ids. ids ≡ ids_of header.now items.now) }
+fn voice_ids(alloc: Global, header: &Header, items: &[BodyItem]) -> Result<Row<Text>, Memory>
+    ensures { IfOk result (λ ids. ids ≡ voice_ids header.now items.now) }
 {
     let mut ids = declared_ids(alloc, header)?;
     for item in items {
@@ -130,50 +130,50 @@ fn declared<'a>(header: &'a Header, id: &[u8]) -> Option<&'a VoiceDef>
 }
 
 /// Whether the first clef of a voice is decided at an item.
-fn decides(id: &[u8], alone: bool, item: &Item) -> bool
+fn decides(id: &[u8], alone: bool, item: &BodyItem) -> bool
     ensures { result ≡ decides id.now alone item.now }
 {
     match item {
-        Item::Voice { def, .. } => is_same(def.id.as_slice(), id),
-        Item::Step(stood) => alone && claims(&stood.step) && is_same(id, b"1"),
+        BodyItem::Voice { def, .. } => is_same(def.id.as_slice(), id),
+        BodyItem::Step(stood) => alone && claims(&stood.step) && is_same(id, b"1"),
         _ => false,
     }
 }
 
-fn clef_in(item: &Item) -> Option<Clef>
-    ensures { result ≡ clef_in item.now }
+fn clef_of_item(item: &BodyItem) -> Option<Clef>
+    ensures { result ≡ clef_of_item item.now }
 {
     match item {
-        Item::Voice { def, .. } => def.clef,
+        BodyItem::Voice { def, .. } => def.clef,
         _ => None,
     }
 }
 
-fn still_alone(alone: bool, item: &Item) -> bool
+fn still_alone(alone: bool, item: &BodyItem) -> bool
     ensures { result ≡ still_alone alone item.now }
 {
     match item {
-        Item::Voice { .. } => false,
-        Item::Step(stood) => alone && !claims(&stood.step),
+        BodyItem::Voice { .. } => false,
+        BodyItem::Step(stood) => alone && !claims(&stood.step),
         _ => alone,
     }
 }
 
 /// The clef of the first voice field of an id, unless music stands alone before it.
-fn first_clef(id: &[u8], undeclared: bool, items: &[Item]) -> Option<Clef>
+fn first_clef(id: &[u8], undeclared: bool, items: &[BodyItem]) -> Option<Clef>
     ensures { result ≡ first_clef id.now undeclared items.now }
 {
     let mut alone = undeclared;
     for item in items {
         if decides(id, alone, item) {
-            return clef_in(item);
+            return clef_of_item(item);
         }
         alone = still_alone(alone, item);
     }
     None
 }
 
-fn clef_first(header: &Header, items: &[Item], id: &[u8]) -> Option<Clef>
+fn clef_first(header: &Header, items: &[BodyItem], id: &[u8]) -> Option<Clef>
     ensures { result ≡ clef_first header.now items.now id.now (declared header.now id.now) }
 {
     match declared(header, id) {
@@ -182,21 +182,21 @@ fn clef_first(header: &Header, items: &[Item], id: &[u8]) -> Option<Clef>
     }
 }
 
-fn wish_in(id: &[u8], item: &Item) -> Option<Wish>
-    ensures { result ≡ wish_in id.now item.now }
+fn wish_of_item(id: &[u8], item: &BodyItem) -> Option<Wish>
+    ensures { result ≡ wish_of_item id.now item.now }
 {
     match item {
-        Item::Voice { def, .. } if is_same(def.id.as_slice(), id) && def.asks => Some(def.stem),
+        BodyItem::Voice { def, .. } if is_same(def.id.as_slice(), id) && def.asks => Some(def.stem),
         _ => None,
     }
 }
 
-fn last_wish(id: &[u8], items: &[Item]) -> Option<Wish>
-    ensures { result ≡ last_of (wish_in id.now) items.now }
+fn last_wish(id: &[u8], items: &[BodyItem]) -> Option<Wish>
+    ensures { result ≡ last_of (wish_of_item id.now) items.now }
 {
     let mut last = None;
     for item in items {
-        last = wish_in(id, item).or(last);
+        last = wish_of_item(id, item).or(last);
     }
     last
 }
@@ -210,7 +210,7 @@ fn declared_wish(header: &Header, id: &[u8]) -> Wish
     }
 }
 
-fn start_of(alloc: Global, header: &Header, items: &[Item], id: &Text) -> Result<VoiceStart, Memory>
+fn start_of(alloc: Global, header: &Header, items: &[BodyItem], id: &Text) -> Result<VoiceStart, Memory>
     ensures { IfOk result (λ start. start ≡ start_of header.now items.now id.now) }
 {
     let clef = clef_first(header, items, id.as_slice()).unwrap_or(header.clef);
@@ -225,17 +225,17 @@ fn start_of(alloc: Global, header: &Header, items: &[Item], id: &Text) -> Result
 /// The voices of a tune in order of first mention, with what each begins with.
 /// A voice begins with the clef of its declaration, else with that of the voice
 /// field that mentions it first, else with the header's.
-pub fn voices_of(alloc: Global, header: &Header, items: &[Item]) -> Result<Row<VoiceStart>, Memory>
+pub fn voices_of(alloc: Global, header: &Header, items: &[BodyItem]) -> Result<Row<VoiceStart>, Memory>
     ensures { IfOk result (λ starts. starts ≡ starts_of header.now items.now) }
 {
-    let ids = ids_of(alloc, header, items)?;
+    let ids = voice_ids(alloc, header, items)?;
     starts_in(alloc, header, items, ids.as_slice())
 }
 
 fn starts_in(
     alloc: Global,
     header: &Header,
-    items: &[Item],
+    items: &[BodyItem],
     ids: &[Text],
 ) -> Result<Row<VoiceStart>, Memory>
     ensures { IfOk result (λ starts. starts ≡ map (start_of header.now items.now) ids.now) }
@@ -253,10 +253,10 @@ pub fn steps_of(
     alloc: Global,
     id: &[u8],
     unnamed: &[u8],
-    items: &[Item],
-) -> Result<Row<Stood>, Memory>
+    items: &[BodyItem],
+) -> Result<Row<PlacedStep>, Memory>
     ensures value { IfOk result (λ steps. steps ≡ steps_of id.now unnamed.now items.now) }
-    ensures good { All IsGoodItem items.now → IfOk result (λ steps. All IsGoodStood steps) }
+    ensures good { All IsGoodItem items.now → IfOk result (λ steps. All IsGoodPlacedStep steps) }
 {
     let room = items.len().saturating_add(items.len() / 16);
     let mut steps = Row::with_room(alloc, room.min(1024))?;
@@ -269,44 +269,44 @@ pub fn steps_of(
 }
 
 /// Whether what follows an item is of the voice.
-fn own_next(id: &[u8], own: bool, item: &Item) -> bool
+fn own_next(id: &[u8], own: bool, item: &BodyItem) -> bool
     ensures { result ≡ own_next id.now own item.now }
 {
     match item {
-        Item::Voice { def, .. } => is_same(id, def.id.as_slice()),
+        BodyItem::Voice { def, .. } => is_same(id, def.id.as_slice()),
         _ => own,
     }
 }
 
 fn put_steps(
     alloc: Global,
-    steps: &mut Row<Stood>,
+    steps: &mut Row<PlacedStep>,
     id: &[u8],
     own: bool,
-    item: &Item,
+    item: &BodyItem,
 ) -> Result<(), Memory>
     ensures { OnOk result (steps.new ≡ steps.old ++ steps_in id.now own item.now) }
 {
     match item {
-        Item::Step(stood) => put_own(alloc, steps, own, stood),
-        Item::LineEnd {
+        BodyItem::Step(stood) => put_own(alloc, steps, own, stood),
+        BodyItem::LineEnd {
             breaks,
             line,
             column,
             ..
         } => put_end(steps, *breaks && own, *line, *column),
-        Item::Voice { def, line, column } => put_named(
+        BodyItem::Voice { def, line, column } => put_named(
             steps,
             is_same(id, def.id.as_slice()),
             def.clef,
             *line,
             *column,
         ),
-        Item::Words { text: _, line: _ } => Ok(()),
+        BodyItem::Words { text: _, line: _ } => Ok(()),
     }
 }
 
-fn put_own(alloc: Global, steps: &mut Row<Stood>, own: bool, stood: &Stood) -> Result<(), Memory>
+fn put_own(alloc: Global, steps: &mut Row<PlacedStep>, own: bool, stood: &PlacedStep) -> Result<(), Memory>
     ensures { OnOk result (steps.new ≡ steps.old ++ one_if own stood.now) }
 {
     if own {
@@ -315,16 +315,16 @@ fn put_own(alloc: Global, steps: &mut Row<Stood>, own: bool, stood: &Stood) -> R
     Ok(())
 }
 
-fn put_end(steps: &mut Row<Stood>, breaks: bool, line: u32, column: u32) -> Result<(), Memory>
+fn put_end(steps: &mut Row<PlacedStep>, breaks: bool, line: u32, column: u32) -> Result<(), Memory>
     ensures { OnOk result (steps.new ≡ steps.old ++ stood Step.LineEnd line column ∷ break_if breaks line column) }
 {
-    steps.push(Stood {
+    steps.push(PlacedStep {
         step: Step::LineEnd,
         line,
         column,
     })?;
     if breaks {
-        return steps.push(Stood {
+        return steps.push(PlacedStep {
             step: Step::Break,
             line,
             column,
@@ -334,7 +334,7 @@ fn put_end(steps: &mut Row<Stood>, breaks: bool, line: u32, column: u32) -> Resu
 }
 
 fn put_named(
-    steps: &mut Row<Stood>,
+    steps: &mut Row<PlacedStep>,
     named: bool,
     clef: Option<Clef>,
     line: u32,
@@ -343,7 +343,7 @@ fn put_named(
     ensures { OnOk result (steps.new ≡ steps.old ++ named_step named clef line column) }
 {
     match clef {
-        Some(clef) if named => steps.push(Stood {
+        Some(clef) if named => steps.push(PlacedStep {
             step: Step::Clef(clef),
             line,
             column,

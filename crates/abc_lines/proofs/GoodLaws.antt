@@ -1,14 +1,14 @@
 -- The book that is found is good: numbers rise, and the lines of a part are no longer than the input.
 use Rattle.std.{proofs.{Common.{◌≡◌, ℕ, zero, suc, ◌+◌, ◌-◌, ◌≤◌, ◌^◌, Bool, true, false, cond, eqb, List, [], ◌∷◌, ◌++◌, length, take, drop, refl, ap, ◌∙◌, subst, arith}, lemmas.{Bool.{cond_both, eqb-true, and_parts}, List.{length-append, length-drop, map-append, length-map, Elements.All-cons, Sums.sum_by-append}, Str.{encodes-chars, length-le-encodes, IsUtf8-from_is_utf8}}}, specs.{List.{starts_with, ends_with, prefix_len, suffix_len}, Prelude.{map, sum, ◌&&◌, All, nat_eq}, Str.{is_utf8, chars}}}
-use Rattle.abc_lines.{specs.{Lines.{without_mark, without_return, narrow, in_latin, comment_len, without_comment, is_empty_text, written, reading, readings, byte_order_mark, first_line}, declared.{book.{Line.Line, TuneText.TuneText}, reading.Reading.{Reading, TheVariants.{Empty, Comment, Written}}}, Kinds.{is_blank, is_field, is_percent_line, field_text}, Books.{begins_tune, is_end_of_part, is_joining, goes_on, added, joined, whole_text, line_at, book_of}, Forward.{part_from, tune_from, tunes_from, book_from}, Good.{IsGoodTune, IsGoodBook, NumbersRise, size_of}}, proofs.{LineLaws.{first_line_off, readings-nil}, Backwards.{forwards, part-nil, part-cons, tunes-nil, tunes-cons}}}
+use Rattle.abc_lines.{specs.{Lines.{without_mark, without_return, narrow, in_latin, comment_len, without_comment, is_empty_text, written, reading, readings, byte_order_mark, first_line}, declared.{book.{Line.Line, TuneText.TuneText}, reading.LineContent.{LineContent, TheVariants.{Empty, Comment, Written}}}, Kinds.{is_blank, is_field, is_percent_line, field_text}, Books.{begins_tune, is_end_of_part, is_joining, goes_on, added, joined, whole_text, line_at, book_of}, Forward.{part_from, tune_from, tunes_from, book_from}, Good.{IsGoodTune, IsGoodBook, NumbersRise, size_of}}, proofs.{LineLaws.{first_line_off, readings-nil}, Backwards.{forwards, part-nil, part-cons, tunes-nil, tunes-cons}}}
 
 -- the bytes of the text of lines
-abbrev pub text_len : Reading → ℕ
+abbrev pub text_len : LineContent → ℕ
 text_len Empty = 0
 text_len Comment = 0
 text_len (Written text) = length text
 
-abbrev pub total : List Reading → ℕ
+abbrev pub total : List LineContent → ℕ
 total [] = 0
 total (line ∷ more) = text_len line + total more
 
@@ -64,12 +64,12 @@ starts_two a b (x ∷ y ∷ s) h = omega arith
 field_text-le : (s : List ℕ) → length (field_text s) ≤ length s - 2
 field_text-le s = omega (arith, length-drop (prefix_len is_blank (drop 2 s)) (drop 2 s), length-drop 2 s)
 
-added-le : (line : Reading) → goes_on line ≡ true → length (added line) ≤ text_len line
+added-le : (line : LineContent) → goes_on line ≡ true → length (added line) ≤ text_len line
 added-le Empty h = absurd cc
 added-le Comment h = omega arith
 added-le (Written text) h = omega (arith, field_text-le text, starts_two 43 58 text h)
 
-line-none : (number : ℕ) (line : Reading) (more : List Reading) → goes_on line ≡ true → line_at number line more ≡ []
+line-none : (number : ℕ) (line : LineContent) (more : List LineContent) → goes_on line ≡ true → line_at number line more ≡ []
 line-none number Empty more h = refl
 line-none number Comment more h = refl
 line-none number (Written text) more h = rw h refl
@@ -77,16 +77,16 @@ line-none number (Written text) more h = rw h refl
 size-append : (xs ys : List Line) → size_of (xs ++ ys) ≡ size_of xs + size_of ys
 size-append xs ys = ap sum (map-append (λ (line : Line). length line.text) xs ys) ∙ sum_by-append (λ x. x) (map (λ (line : Line). length line.text) xs) (map (λ (line : Line). length line.text) ys)
 
-whole-le : (text : List ℕ) (more : List Reading) → length (whole_text text more) ≤ length text + length (joined more)
+whole-le : (text : List ℕ) (more : List LineContent) → length (whole_text text more) ≤ length text + length (joined more)
 whole-le text more = cond_both (is_field text) (text ++ joined more) text (λ t. length t ≤ length text + length (joined more)) (λ e. omega (arith, length-append text (joined more))) (λ e. omega arith)
 
-line-le : (number : ℕ) (line : Reading) (more : List Reading) → size_of (line_at number line more) ≤ text_len line + length (joined more)
+line-le : (number : ℕ) (line : LineContent) (more : List LineContent) → size_of (line_at number line more) ≤ text_len line + length (joined more)
 line-le number Empty more = omega arith
 line-le number Comment more = omega arith
 line-le number (Written text) more =
     cond_both {A = List Line} (is_joining text) [] (record { number = number; text = whole_text text more } ∷ []) (λ ls. size_of ls ≤ length text + length (joined more)) (λ e. omega arith) (λ e. omega (arith, whole-le text more))
 
-pub part-le : (number : ℕ) (ls : List Reading) → length (joined ls) + size_of (part_from number ls) ≤ total ls
+pub part-le : (number : ℕ) (ls : List LineContent) → length (joined ls) + size_of (part_from number ls) ≤ total ls
 part-le number [] = rw part-nil (omega arith)
 part-le number (line ∷ more) =
     let others = part-le (suc number) more in
@@ -112,14 +112,14 @@ rises number [] h = tt
 rises number (line ∷ []) h = tt
 rises number (line ∷ next ∷ lines) h = (omega (arith, h.1.0), rises (suc line.number) (next ∷ lines) h.1)
 
-rise-line : (number : ℕ) (line : Reading) (more : List Reading) (rest : List Line) → RisesFrom (suc number) rest → RisesFrom number (line_at number line more ++ rest)
+rise-line : (number : ℕ) (line : LineContent) (more : List LineContent) (rest : List Line) → RisesFrom (suc number) rest → RisesFrom number (line_at number line more ++ rest)
 rise-line number Empty more rest h = rise-weaker number (suc number) rest (omega arith) h
 rise-line number Comment more rest h = rise-weaker number (suc number) rest (omega arith) h
 rise-line number (Written text) more rest h =
     cond_both {A = List Line} (is_joining text) [] (record { number = number; text = whole_text text more } ∷ []) (λ ls. RisesFrom number (ls ++ rest))
     (λ e. rise-weaker number (suc number) rest (omega arith) h) (λ e. (omega arith, h))
 
-part-rises : (number : ℕ) (ls : List Reading) → RisesFrom number (part_from number ls)
+part-rises : (number : ℕ) (ls : List LineContent) → RisesFrom number (part_from number ls)
 part-rises number [] = rw part-nil tt
 part-rises number (line ∷ more) =
     rw part-cons (cond_both {A = List Line} (is_end_of_part line) [] (line_at number line more ++ part_from (suc number) more) (λ ls. RisesFrom number ls)
@@ -132,12 +132,12 @@ not_joining (x ∷ []) h = absurd (and-nil (nat_eq 88 x) h)
 not_joining (x ∷ y ∷ s) h =
     let is : 88 ≡ x = eqb-true 88 x (and_parts (nat_eq 88 x) (nat_eq 58 y && true) h).0 in subst (λ (b : ℕ). (nat_eq 43 b && (nat_eq 58 y && true)) ≡ false) is refl
 
-some_line : (number : ℕ) (line : Reading) (more : List Reading) (rest : List Line) → begins_tune line ≡ true → 1 ≤ length (line_at number line more ++ rest)
+some_line : (number : ℕ) (line : LineContent) (more : List LineContent) (rest : List Line) → begins_tune line ≡ true → 1 ≤ length (line_at number line more ++ rest)
 some_line number Empty more rest h = absurd cc
 some_line number Comment more rest h = absurd cc
 some_line number (Written text) more rest h = rw (not_joining text h) (omega arith)
 
-tune-good : (ordinal number : ℕ) (line : Reading) (more : List Reading) → begins_tune line ≡ true → total (line ∷ more) ≤ 2 ^ 30 → IsGoodTune (tune_from ordinal number line more)
+tune-good : (ordinal number : ℕ) (line : LineContent) (more : List LineContent) → begins_tune line ≡ true → total (line ∷ more) ≤ 2 ^ 30 → IsGoodTune (tune_from ordinal number line more)
 tune-good ordinal number line more begins small =
     let lines = line_at number line more ++ part_from (suc number) more in
     record {
@@ -146,7 +146,7 @@ tune-good ordinal number line more begins small =
       small = omega (arith, small, size-append (line_at number line more) (part_from (suc number) more), line-le number line more, part-le (suc number) more);
     }
 
-tunes-good : (ordinal number : ℕ) (ls : List Reading) → total ls ≤ 2 ^ 30 → All IsGoodTune (tunes_from ordinal number ls)
+tunes-good : (ordinal number : ℕ) (ls : List LineContent) → total ls ≤ 2 ^ 30 → All IsGoodTune (tunes_from ordinal number ls)
 tunes-good ordinal number [] small = rw tunes-nil (λ k d lt. absurd (omega (arith, lt)))
 tunes-good ordinal number (line ∷ more) small =
     let fewer : total more ≤ 2 ^ 30 = omega (arith, small) in
@@ -154,7 +154,7 @@ tunes-good ordinal number (line ∷ more) small =
     (λ e. All-cons IsGoodTune _ _ (tune-good ordinal number line more e small) (tunes-good (suc ordinal) (suc number) more fewer))
     (λ e. tunes-good ordinal (suc number) more fewer))
 
-book-good : (ls : List Reading) → total ls ≤ 2 ^ 30 → IsGoodBook (book_from ls)
+book-good : (ls : List LineContent) → total ls ≤ 2 ^ 30 → IsGoodBook (book_from ls)
 book-good ls small = record { header_rises = rises 1 _ (part-rises 1 ls); header_small = omega (arith, small, part-le 1 ls); tunes = tunes-good 1 1 ls small }
 
 mark-le : (bytes : List ℕ) → length (without_mark bytes) ≤ length bytes

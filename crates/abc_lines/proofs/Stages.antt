@@ -1,14 +1,14 @@
 -- What the loops of the cutting keep, and each of their steps.
 use Rattle.std.proofs.{Common.{◌≡◌, ℕ, suc, ◌+◌, ◌≤◌, ◌<◌, ◌^◌, true, false, List, [], ◌∷◌, ◌++◌, length, refl, sym, ap, ◌∙◌, arith, append_assoc, append-nil, add-one}, lemmas.{Grind.length_at_push, Bool.or_parts}}
-use Rattle.abc_lines.{specs.{declared.{book.{Line.Line, TuneText.TuneText, Book.Book}, reading.Reading.Reading}, Books.{begins_tune, is_empty, is_end_of_part, goes_on, added, joined, line_at}, Forward.{part_from, tune_from, tunes_from, book_from}, Lines.{reading, readings, without_mark}}, proofs.{LineLaws.{Off, readings-none}, Backwards.{part-nil, part-cons, tunes-nil, tunes-cons}}}
+use Rattle.abc_lines.{specs.{declared.{book.{Line.Line, TuneText.TuneText, Book.Book}, reading.LineContent.LineContent}, Books.{begins_tune, is_empty_line, is_end_of_part, goes_on, added, joined, line_at}, Forward.{part_from, tune_from, tunes_from, book_from}, Lines.{reading, readings, without_mark}}, proofs.{LineLaws.{Off, readings-none}, Backwards.{part-nil, part-cons, tunes-nil, tunes-cons}}}
 
-pub join-next : (out new total s line rest : List ℕ) (r : Reading) → Off s line rest → r ≡ reading line → goes_on r ≡ true → new ≡ out ++ added r →
+pub join-next : (out new total s line rest : List ℕ) (r : LineContent) → Off s line rest → r ≡ reading line → goes_on r ≡ true → new ≡ out ++ added r →
     out ++ joined (readings s) ≡ total → new ++ joined (readings rest) ≡ total
 join-next out new total s line rest r off is goes push so_far =
     let here : joined (readings s) ≡ added r ++ joined (readings rest) = rw (off.readings, ← is, goes) refl in
     rw push (append_assoc out (added r) (joined (readings rest)) ∙ ap (λ t. out ++ t) (sym here) ∙ so_far)
 
-pub join-stops : (out total s line rest : List ℕ) (r : Reading) → Off s line rest → r ≡ reading line → goes_on r ≡ false → out ++ joined (readings s) ≡ total → out ≡ total
+pub join-stops : (out total s line rest : List ℕ) (r : LineContent) → Off s line rest → r ≡ reading line → goes_on r ≡ false → out ++ joined (readings s) ≡ total → out ≡ total
 join-stops out total s line rest r off is stops so_far =
     let here : joined (readings s) ≡ [] = rw (off.readings, ← is, stops) refl in sym (append-nil out) ∙ ap (λ t. out ++ t) (sym here) ∙ so_far
 
@@ -27,10 +27,10 @@ pub record Part (first out : List Line) (from number : ℕ) (start s : List ℕ)
 pub part-begins : (out : List Line) (number : ℕ) (s : List ℕ) → Part out out number number s s
 part-begins out number s = record { lines = refl; tunes = λ ordinal. refl; within = omega arith; further = omega arith; counted = omega arith }
 
-end_yes : (line : Reading) → is_end_of_part line ≡ false → begins_tune line ≡ false
-end_yes line h = (or_parts (is_empty line) (begins_tune line) h).1
+end_yes : (line : LineContent) → is_end_of_part line ≡ false → begins_tune line ≡ false
+end_yes line h = (or_parts (is_empty_line line) (begins_tune line) h).1
 
-pub part-next : (first out new : List Line) (from number : ℕ) (start s line rest : List ℕ) (r : Reading) → Off s line rest → r ≡ reading line → is_end_of_part r ≡ false →
+pub part-next : (first out new : List Line) (from number : ℕ) (start s line rest : List ℕ) (r : LineContent) → Off s line rest → r ≡ reading line → is_end_of_part r ≡ false →
     new ≡ out ++ line_at number r (readings rest) → Part first out from number start s → Part first new from (number + 1) start rest
 part-next first out new from number start s line rest r off is on push so_far =
     let here : part_from number (readings s) ≡ line_at number r (readings rest) ++ part_from (suc number) (readings rest) = rw (off.readings, ← is, part-cons, on) refl in
@@ -43,7 +43,7 @@ part-next first out new from number start s line rest r off is on push so_far =
       counted = omega (arith, so_far.counted);
     })
 
-pub part-stops : (first out : List Line) (from number : ℕ) (start s line rest : List ℕ) (r : Reading) → Off s line rest → r ≡ reading line → is_end_of_part r ≡ true →
+pub part-stops : (first out : List Line) (from number : ℕ) (start s line rest : List ℕ) (r : LineContent) → Off s line rest → r ≡ reading line → is_end_of_part r ≡ true →
     Part first out from number start s → out ≡ first ++ part_from from (readings start)
 part-stops first out from number start s line rest r off is stops so_far =
     let here : part_from number (readings s) ≡ [] = rw (off.readings, ← is, part-cons, stops) refl in sym (append-nil out) ∙ ap (λ t. out ++ t) (sym here) ∙ so_far.lines
@@ -58,13 +58,13 @@ pub record Tunes (out : List TuneText) (total : List TuneText) (number : ℕ) (s
   pub within : number + length s ≤ 2 ^ 30 + 1
   pub few : length out < number
 
-pub tunes-pass : (out total : List TuneText) (number : ℕ) (s line rest : List ℕ) (r : Reading) → Off s line rest → r ≡ reading line → begins_tune r ≡ false →
+pub tunes-pass : (out total : List TuneText) (number : ℕ) (s line rest : List ℕ) (r : LineContent) → Off s line rest → r ≡ reading line → begins_tune r ≡ false →
     Tunes out total number s → Tunes out total (number + 1) rest
 tunes-pass out total number s line rest r off is not so_far =
     let here : tunes_from (suc (length out)) number (readings s) ≡ tunes_from (suc (length out)) (suc number) (readings rest) = rw (off.readings, ← is, tunes-cons, not) refl in
     rw add-one (record { tunes = ap (λ t. out ++ t) (sym here) ∙ so_far.tunes; within = omega (arith, so_far.within, off.shorter); few = omega (arith, so_far.few) })
 
-pub tunes-next : (out new total : List TuneText) (count number other : ℕ) (s line rest after : List ℕ) (r : Reading) (tune : TuneText) → Off s line rest → r ≡ reading line → begins_tune r ≡ true →
+pub tunes-next : (out new total : List TuneText) (count number other : ℕ) (s line rest after : List ℕ) (r : LineContent) (tune : TuneText) → Off s line rest → r ≡ reading line → begins_tune r ≡ true →
     count ≡ length out → tune ≡ tune_from (count + 1) number r (readings rest) → ((o : ℕ) → tunes_from o other (readings after) ≡ tunes_from o (suc number) (readings rest)) →
     other + length after ≤ number + 1 + length rest → number < other → new ≡ out ++ tune ∷ [] →
     Tunes out total number s → Tunes new total other after

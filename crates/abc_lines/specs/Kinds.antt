@@ -2,7 +2,7 @@
 -- music; and the text that a field or a directive has.
 pub use Prim.Native.Char.{code}
 use Rattle.std.specs.Prelude.{ℕ, List, [], ◌∷◌, drop, Bool, false, ◌==◌, ◌&&◌, ◌||◌, not, nat_le, if◌then◌else◌}
-pub use Rattle.mus_units.specs.Bytes.{is_blank, is_letter, behind_blanks}
+pub use Rattle.mus_units.specs.Bytes.{is_blank, is_letter, after_blanks}
 use Rattle.abc_lines.specs.declared.kind.LineKind.{LineKind, TheVariants.Field, TheVariants.Directive, TheVariants.Music}
 
 -- a letter that may be a note, a rest or a blank of music: A to G, a to g, x, y, z
@@ -39,4 +39,4 @@ kind_of text = if is_percent_line text then Directive else (if is_field text the
 
 -- the text of a field or a directive: what stands behind its first two bytes and the blanks there
 abbrev pub field_text : List ℕ → List ℕ
-field_text text = behind_blanks (drop 2 text)
+field_text text = after_blanks (drop 2 text)

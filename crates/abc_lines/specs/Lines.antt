@@ -1,7 +1,7 @@
 -- The lines of an input: its pieces between line ends, without the carriage return at the end, each in Latin-1 and without its comment.
 use Prim.Native.Char.{code}
 use Rattle.std.specs.{Prelude.{◌-◌, ◌+◌, ◌&&◌, not, ℕ, List, [], ◌∷◌, length, Bool, false, ◌==◌, if◌then◌else◌, take, drop, map, nat_eq, nat_le, codes}, List.{slice_split, suffix_len, position_or_len, prefix_len, starts_with, ends_with}, Str.{is_utf8, chars}}
-use Rattle.abc_lines.specs.{declared.reading.Reading.Reading, Kinds.is_percent_line, declared.reading.Reading.TheVariants.Empty, declared.reading.Reading.TheVariants.Comment, declared.reading.Reading.TheVariants.Written}
+use Rattle.abc_lines.specs.{declared.reading.LineContent.LineContent, Kinds.is_percent_line, declared.reading.LineContent.TheVariants.Empty, declared.reading.LineContent.TheVariants.Comment, declared.reading.LineContent.TheVariants.Written}
 use Rattle.mus_units.specs.Bytes.{is_blank, before_blanks}
 
 abbrev pub is_end : ℕ → Bool
@@ -48,18 +48,18 @@ without_comment text = before_blanks (take (comment_len false text) text)
 abbrev pub is_empty_text : List ℕ → Bool
 is_empty_text text = prefix_len is_blank text == length text
 
-abbrev pub written : List ℕ → Reading
+abbrev pub written : List ℕ → LineContent
 written text = if length text == 0 then Comment else Written text
 
 -- what is read of a line in Latin-1: `%%` lines have no comment
-abbrev pub reading_of : List ℕ → Reading
+abbrev pub reading_of : List ℕ → LineContent
 reading_of text = if is_empty_text text then Empty else (if is_percent_line text then Written text else written (without_comment text))
 
-unfoldable pub reading : List ℕ → Reading
+unfoldable pub reading : List ℕ → LineContent
 reading line = reading_of (in_latin (without_return line))
 
 -- all lines of an input, behind a byte order mark
-unfoldable pub readings : List ℕ → List Reading
+unfoldable pub readings : List ℕ → List LineContent
 readings bytes = map reading (lines_of bytes)
 
 abbrev pub tail_of : List ℕ → List ℕ

@@ -1,16 +1,16 @@
 ghost use Rattle.std.specs.{Prelude.{◌≡◌, ◌≤◌, ◌<◌, ◌+◌, ◌^◌, ◌++◌, ℕ, suc, length, nat_eq, IfOk, OnOk}, List.starts_with};
-ghost use Rattle.abc_lines.specs.{Books.{begins_tune, is_empty, is_end_of_part, is_joining, goes_on, added, joined, whole_text, line_of_text, line_at, book_of}, Forward.{part_from, tune_from, tunes_from}, Good.IsGoodBook, Lines.readings};
+ghost use Rattle.abc_lines.specs.{Books.{begins_tune, is_empty_line, is_end_of_part, is_joining, goes_on, added, joined, whole_text, line_of_text, line_at, book_of}, Forward.{part_from, tune_from, tunes_from}, Good.IsGoodBook, Lines.readings};
 
 use crate::book::{Book, Line, TuneText};
 use crate::kind::{behind_two, is_field};
-use crate::reading::{Reading, first_line, read_line, without_mark};
-use mus_units::bytes::behind_blanks;
+use crate::reading::{LineContent, first_line, read_line, without_mark};
+use mus_units::bytes::after_blanks;
 use mus_units::{Memory, Row, Text};
 use std::alloc::Global;
 
 /// A place in a book: what is left of its bytes, and the number of the line that begins there.
 #[derive(Clone, Copy)]
-pub struct Place<'a> {
+pub struct LineCursor<'a> {
     pub rest: &'a [u8],
     pub number: u32,
 }
@@ -24,7 +24,7 @@ pub fn cut_book(alloc: Global, bytes: &[u8]) -> Result<Book, Memory>
     ensures book { IfOk result (λ book. book ≡ book_of bytes.now) }
     ensures good { IfOk result (λ book. IsGoodBook book) }
 {
-    let start = Place {
+    let start = LineCursor {
         rest: without_mark(bytes),
         number: 1,
     };
@@ -35,7 +35,7 @@ pub fn cut_book(alloc: Global, bytes: &[u8]) -> Result<Book, Memory>
 }
 
 /// The tunes that begin from a place on.
-fn tunes_at(alloc: Global, place: Place<'_>) -> Result<Row<TuneText>, Memory>
+fn tunes_at(alloc: Global, place: LineCursor<'_>) -> Result<Row<TuneText>, Memory>
     requires counted { 1 ≤ place.number }
     requires within { place.number + length place.rest.now ≤ 2 ^ 30 + 1 }
     ensures { IfOk result (λ tunes. tunes ≡ tunes_from 1 place.entry.number (readings place.entry.rest.now)) }
@@ -51,7 +51,7 @@ fn tunes_at(alloc: Global, place: Place<'_>) -> Result<Row<TuneText>, Memory>
             tunes.push(tune)?;
             at = next;
         } else {
-            at = Place {
+            at = LineCursor {
                 rest,
                 number: at.number + 1,
             };
@@ -64,10 +64,10 @@ fn tunes_at(alloc: Global, place: Place<'_>) -> Result<Row<TuneText>, Memory>
 fn tune_at<'a>(
     alloc: Global,
     ordinal: u32,
-    reading: Reading,
+    reading: LineContent,
     number: u32,
     rest: &'a [u8],
-) -> Result<(TuneText, Place<'a>), Memory>
+) -> Result<(TuneText, LineCursor<'a>), Memory>
     requires { number + length rest.now ≤ 2 ^ 30 }
     ensures tune { IfOk result (λ it. it.0 ≡ tune_from ordinal number reading (readings rest.now)) }
     ensures rest { IfOk result (λ it. (o : ℕ) → tunes_from o it.1.number (readings it.1.rest.now) ≡ tunes_from o (suc number) (readings rest.now)) }
@@ -80,7 +80,7 @@ fn tune_at<'a>(
     let next = add_part(
         alloc,
         &mut lines,
-        Place {
+        LineCursor {
             rest,
             number: number + 1,
         },
@@ -90,7 +90,7 @@ fn tune_at<'a>(
 
 /// Adds the listed lines up to the first that is empty or begins a tune, and
 /// gives the place of that one.
-fn add_part<'a>(alloc: Global, out: &mut Row<Line>, place: Place<'a>) -> Result<Place<'a>, Memory>
+fn add_part<'a>(alloc: Global, out: &mut Row<Line>, place: LineCursor<'a>) -> Result<LineCursor<'a>, Memory>
     requires { place.number + length place.rest.now ≤ 2 ^ 30 + 1 }
     ensures lines { OnOk result (out.new ≡ out.old ++ part_from place.entry.number (readings place.entry.rest.now)) }
     ensures rest { IfOk result (λ it. (o : ℕ) → tunes_from o it.number (readings it.rest.now) ≡ tunes_from o place.entry.number (readings place.entry.rest.now)) }
@@ -106,7 +106,7 @@ fn add_part<'a>(alloc: Global, out: &mut Row<Line>, place: Place<'a>) -> Result<
             return Ok(at);
         }
         add_line(alloc, out, at.number, reading, rest)?;
-        at = Place {
+        at = LineCursor {
             rest,
             number: at.number + 1,
         };
@@ -119,14 +119,14 @@ fn add_line(
     alloc: Global,
     out: &mut Row<Line>,
     number: u32,
-    reading: Reading,
+    reading: LineContent,
     rest: &[u8],
 ) -> Result<(), Memory>
     ensures { OnOk result (out.new ≡ out.old ++ line_at number reading (readings rest.now)) }
 {
     match reading {
-        Reading::Empty | Reading::Comment => Ok(()),
-        Reading::Written(text) => add_text(alloc, out, number, text, rest),
+        LineContent::Empty | LineContent::Comment => Ok(()),
+        LineContent::Written(text) => add_text(alloc, out, number, text, rest),
     }
 }
 
@@ -175,44 +175,44 @@ fn join(alloc: Global, out: &mut Text, bytes: &[u8]) -> Result<(), Memory>
 }
 
 /// Adds a space and the text of a `+:` line; a comment adds nothing.
-fn add_joined(out: &mut Text, reading: Reading) -> Result<(), Memory>
+fn add_joined(out: &mut Text, reading: LineContent) -> Result<(), Memory>
     ensures { OnOk result (out.new ≡ out.old ++ added reading) }
 {
     match reading {
-        Reading::Empty | Reading::Comment => Ok(()),
-        Reading::Written(text) => {
+        LineContent::Empty | LineContent::Comment => Ok(()),
+        LineContent::Written(text) => {
             out.push(b' ')?;
-            out.append(behind_blanks(behind_two(text.as_slice())))
+            out.append(after_blanks(behind_two(text.as_slice())))
         }
     }
 }
 
-fn goes_on(reading: &Reading) -> bool
+fn goes_on(reading: &LineContent) -> bool
     ensures { result ≡ goes_on reading.now }
 {
     match reading {
-        Reading::Empty => false,
-        Reading::Comment => true,
-        Reading::Written(text) => is_joining(text.as_slice()),
+        LineContent::Empty => false,
+        LineContent::Comment => true,
+        LineContent::Written(text) => is_joining(text.as_slice()),
     }
 }
 
-fn begins_tune(reading: &Reading) -> bool
+fn begins_tune(reading: &LineContent) -> bool
     ensures { result ≡ begins_tune reading.now }
 {
     match reading {
-        Reading::Empty | Reading::Comment => false,
-        Reading::Written(text) => text.as_slice().starts_with(b"X:"),
+        LineContent::Empty | LineContent::Comment => false,
+        LineContent::Written(text) => text.as_slice().starts_with(b"X:"),
     }
 }
 
-fn is_end_of_part(reading: &Reading) -> bool
+fn is_end_of_part(reading: &LineContent) -> bool
     ensures { result ≡ is_end_of_part reading.now }
 {
     match reading {
-        Reading::Empty => true,
-        Reading::Comment => false,
-        Reading::Written(_) => begins_tune(reading),
+        LineContent::Empty => true,
+        LineContent::Comment => false,
+        LineContent::Written(_) => begins_tune(reading),
     }
 }
 

@@ -1,8 +1,8 @@
 ghost use Rattle.std.specs.{Prelude.◌≡◌, Prelude.◌≤◌, Prelude.length, Prelude.drop, List.prefix_len};
-ghost use Rattle.abc_lines.specs.Kinds.{is_blank, is_letter, is_music_letter, begins_bar, is_field, is_percent_line, field_kind, kind_of, behind_blanks, field_text};
+ghost use Rattle.abc_lines.specs.Kinds.{is_blank, is_letter, is_music_letter, begins_bar, is_field, is_percent_line, field_kind, kind_of, after_blanks, field_text};
 
 use crate::book::Line;
-use mus_units::bytes::{behind_blanks, is_letter};
+use mus_units::bytes::{after_blanks, is_letter};
 
 /// What a line is by its first bytes. A field has a letter and a colon first, a
 /// directive `%%` or `I:`, and every other line is music. A letter of A to G, a
@@ -33,7 +33,7 @@ pub fn kind_of(line: &Line) -> LineKind
 pub fn field_text(line: &Line) -> &[u8]
     ensures { result.now ≡ field_text line.now.text }
 {
-    behind_blanks(behind_two(line.text.as_slice()))
+    after_blanks(behind_two(line.text.as_slice()))
 }
 
 fn field_kind(letter: u8) -> LineKind

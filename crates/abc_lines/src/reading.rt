@@ -3,13 +3,13 @@ ghost use Rattle.abc_lines.specs.{Kinds.is_blank, Lines.{is_end, without_mark, w
 
 use crate::kind::is_percent_line;
 use bstr::ByteSlice;
-use mus_units::bytes::{before_blanks, blanks_at_front};
+use mus_units::bytes::{before_blanks, leading_blanks};
 use mus_units::{Memory, Text};
 use std::alloc::{AllocError, Global};
 
 /// What is read of one line of the input.
 #[derive(Drop)]
-pub enum Reading {
+pub enum LineContent {
     /// Spaces and tabs alone.
     Empty,
     /// A comment alone, which is passed over.
@@ -50,38 +50,38 @@ fn line_len(bytes: &[u8]) -> usize
 
 /// What is read of a line.
 #[tactic(auto, unfolding(crate::specs::Lines::reading))]
-pub(crate) fn read_line(alloc: Global, line: &[u8]) -> Result<Reading, Memory>
+pub(crate) fn read_line(alloc: Global, line: &[u8]) -> Result<LineContent, Memory>
     ensures { IfOk result (λ it. it ≡ reading line.now) }
 {
     let text = in_latin(alloc, without_return(line))?;
     read_text(alloc, text.as_slice())
 }
 
-fn read_text(alloc: Global, text: &[u8]) -> Result<Reading, Memory>
+fn read_text(alloc: Global, text: &[u8]) -> Result<LineContent, Memory>
     ensures { IfOk result (λ it. it ≡ reading_of text.now) }
 {
     if is_empty_text(text) {
-        return Ok(Reading::Empty);
+        return Ok(LineContent::Empty);
     }
     if is_percent_line(text) {
-        return Ok(Reading::Written(Text::from_slice(alloc, text)?));
+        return Ok(LineContent::Written(Text::from_slice(alloc, text)?));
     }
     written(alloc, without_comment(text))
 }
 
-fn written(alloc: Global, text: &[u8]) -> Result<Reading, Memory>
+fn written(alloc: Global, text: &[u8]) -> Result<LineContent, Memory>
     ensures { IfOk result (λ it. it ≡ written text.now) }
 {
     if text.len() == 0 {
-        return Ok(Reading::Comment);
+        return Ok(LineContent::Comment);
     }
-    Ok(Reading::Written(Text::from_slice(alloc, text)?))
+    Ok(LineContent::Written(Text::from_slice(alloc, text)?))
 }
 
 fn is_empty_text(text: &[u8]) -> bool
     ensures { result ≡ is_empty_text text.now }
 {
-    blanks_at_front(text) == text.len()
+    leading_blanks(text) == text.len()
 }
 
 fn without_return(line: &[u8]) -> &[u8]

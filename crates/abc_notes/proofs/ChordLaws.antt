@@ -4,10 +4,10 @@ use Rattle.std.proofs.{Common.{ap, ◌∙◌, subst, arith, inl, inr, ◌⊎◌,
 use Rattle.std.proofs.lemmas.Bool.{false_from_ne_true, cases_lt, cond-true, not-true, not_from_false, or_left, or_right}
 use Rattle.std.proofs.{lemmas.List.{length-append, nil_from_length}, lemmas.Option.{cond_some, some_pair_parts}, Math.Seq.take-append_seam}
 use Rattle.std.proofs.Math.Bool.{or-false, or_assoc}
-use Rattle.abc_notes.specs.Chords.{ChordForm, InnerLeads, is_inside, is_bracket, has_head, chord_then, IsChord, ChordFault, chord_unclosed}
+use Rattle.abc_notes.specs.Chords.{ChordForm, InnerLeads, is_inside, is_bracket, has_inner_head, chord_then, IsChord, ChordFault, chord_unclosed}
 use Rattle.abc_notes.specs.Chords.{chord_open, chord_headless, chord_flawed, bracket_here, bracket_in, bracket_in_name, last_bracket, bracket_at}
 use Rattle.abc_notes.specs.{Chords.{chord_from, chord_at}, declared.part.Flaw.Flaw, Runs.{span_all, begins}, Lengths.{LengthForm, length_then}}
-use Rattle.abc_notes.specs.{Lengths.{IsLength, length_at}, Parts.{HasNone, no_part, then_part, walk, is_done, spelled_then, later_or}}
+use Rattle.abc_notes.specs.{Lengths.{IsWrittenLength, length_from}, Parts.{HasNone, no_part, then_part, walk, is_done, spelled_then, later_or}}
 use Rattle.abc_notes.specs.Items.{Inner, lone_inside, inner_then, IsName, StandsInside, has_length, InnerParts, InnerFlawed, name_at, item_class}
 use Rattle.abc_notes.specs.{Items.inner_at, Decorations.is_name_byte}
 use Rattle.abc_notes.proofs.CutLaws.{two, none_left, some_left, first_close, length_past, read_on, inner_local, joined_cut, walk_spells}
@@ -47,7 +47,7 @@ inside_wide : (b : ℕ) → free b ≡ true → is_inside b ≡ true
 inside_wide b h = (and_parts _ _ h).0
 
 -- a bracket behind another one stands behind the length there
-behind_length : (l : LengthForm) (x inside front rest : List ℕ) → IsLength l → inside ++ (93 ∷ length_then l x) ≡ front ++ (93 ∷ rest) →
+behind_length : (l : LengthForm) (x inside front rest : List ℕ) → IsWrittenLength l → inside ++ (93 ∷ length_then l x) ≡ front ++ (93 ∷ rest) →
     length (93 ∷ rest) < length (93 ∷ length_then l x) → length rest < length x
 behind_length l x inside front rest good e shorter =
     cut_cases front inside (93 ∷ rest) (93 ∷ length_then l x) (sym e) (omega (arith, shorter))
@@ -69,7 +69,7 @@ module _ (bang : Bool) where
     pub is : c ≡ 93 ∷ rest
     pub cut : text ≡ front ++ c
     pub good : InnerParts bang front parts
-    pub has : (head || has_head parts) ≡ true
+    pub has : (head || has_inner_head parts) ≡ true
 
   here-closes : (head : Bool) (text c : List ℕ) → bracket_here head text ≡ Some c → Closed head text c
   here-closes head [] c e = absurd cc
@@ -80,7 +80,7 @@ module _ (bang : Bool) where
 
   -- in a name, of which the exclamation mark is passed over
   abbrev pub good_before : Bool → List ℕ → Bool
-  good_before head t = let w = walk (inner_at bang) t in is_done w && (head || has_head w.0)
+  good_before head t = let w = walk (inner_at bang) t in is_done w && (head || has_inner_head w.0)
 
   pub record NameClosed (head : Bool) (text c : List ℕ) : Type 0 where
     pub behind : List ℕ
@@ -116,7 +116,7 @@ module _ (bang : Bool) where
         is = k.is;
         cut = ap (λ x. 33 ∷ x) k.cut;
         good = then_part (33 ∷ k.before) lone_inside k.before w.0 longest (parts_before head k.before k.good);
-        has = (and_parts (is_done w) (head || has_head w.0) k.good).1;
+        has = (and_parts (is_done w) (head || has_inner_head w.0) k.good).1;
       })
 
   -- a part and what closes behind it
@@ -131,7 +131,7 @@ module _ (bang : Bool) where
         is = k.is;
         cut = joined.0;
         good = then_part u z.0 k.front k.parts (longest_of reader u (z.0, k.front) joined.1) k.good;
-        has = sym (or_assoc head (has_length z.0) (has_head k.parts)) ∙ k.has;
+        has = sym (or_assoc head (has_length z.0) (has_inner_head k.parts)) ∙ k.has;
       }
 
   abbrev pub last_at : Bool → List ℕ → Option (List ℕ)
@@ -192,7 +192,7 @@ module _ (bang : Bool) where
       cond-true (not bang) _ None (not_from_false bang off) ∙ ap (bracket_in bang head (name ++ (33 ∷ x))) (name_at-reads name x good)
 
   in_name-found : (head : Bool) (before after rest : List ℕ) (parts : List Inner) → bang ≡ false → IsName (before ++ (93 ∷ after)) →
-      InnerParts bang before parts → (head || has_head parts) ≡ true →
+      InnerParts bang before parts → (head || has_inner_head parts) ≡ true →
       bracket_in_name bang head (33 ∷ ((before ++ (93 ∷ after)) ++ (33 ∷ rest))) ≡ Some (93 ∷ (after ++ (33 ∷ rest)))
   in_name-found head before after rest parts off good inner has =
       let names = all_parts is_name_byte before (93 ∷ after) good.bytes in
@@ -214,18 +214,18 @@ module _ (bang : Bool) where
       record { closing = c; is = last_at-some head text z e ∙ rw is refl; ends = inl (shorter, only) }
 
   cross-found : (head : Bool) (u t v : List ℕ) (part : Inner) (more : List Inner) (z : Inner × List ℕ) → inner_at bang u ≡ Some (part, v) →
-      InnerParts bang v more → (head || has_head (part ∷ more)) ≡ true → inner_at bang (u ++ (93 ∷ t)) ≡ Some z → length z.1 < length (93 ∷ t) →
+      InnerParts bang v more → (head || has_inner_head (part ∷ more)) ≡ true → inner_at bang (u ++ (93 ∷ t)) ≡ Some z → length z.1 < length (93 ∷ t) →
       FoundLast head (u ++ (93 ∷ t)) t (has_lone (part ∷ more))
   cross-found head u t v part more z at others has e short =
       let text = u ++ (93 ∷ t) in let stands = stands_at reader text z e in
       let k = crossing bang 93 z.0 u t z.1 refl refl stands.good stands.cut short in
       let same = some_pair_parts part lone_inside v k.before (sym at ∙ k.lone) in
       let inner = subst (λ (x : List ℕ). InnerParts bang x more) same.1 others in
-      let heads = subst (λ (p : Inner). (head || has_head (p ∷ more)) ≡ true) same.0 has in
+      let heads = subst (λ (p : Inner). (head || has_inner_head (p ∷ more)) ≡ true) same.0 has in
       let found = ap (bracket_in_name bang head) k.spelled ∙ in_name-found head k.before k.after z.1 more k.off k.name inner heads ∙ ap Some k.tail in
       cross_last head (has_lone (part ∷ more)) text t z (last_at (head || has_length z.0) z.1) e short found (or_left _ _ (ap is_lone same.0)) refl
 
-  last-reaches : (head : Bool) (u t : List ℕ) (ps : List Inner) → InnerParts bang u ps → (head || has_head ps) ≡ true →
+  last-reaches : (head : Bool) (u t : List ℕ) (ps : List Inner) → InnerParts bang u ps → (head || has_inner_head ps) ≡ true →
       FoundLast head (u ++ (93 ∷ t)) t (has_lone ps)
   last-reaches head _ t _ no_part has = record {
     closing = 93 ∷ t;
@@ -235,7 +235,7 @@ module _ (bang : Bool) where
   last-reaches head _ t _ (then_part u part v more l others) has =
       elim (read_on reader (inner_local bang) part u v (93 ∷ t) l) [
         | inl on ↦
-            (let later = last-reaches (head || has_length part) v t more others (or_assoc head (has_length part) (has_head more) ∙ has) in
+            (let later = last-reaches (head || has_length part) v t more others (or_assoc head (has_length part) (has_inner_head more) ∙ has) in
             then-found head (has_lone more) (u ++ (93 ∷ t)) t (part, v ++ (93 ∷ t)) on later)
         | inr past ↦ cross-found head u t v part more past.0 (longest_is reader u part v l) others has past.1 past.2
       ]
@@ -268,7 +268,7 @@ module _ (bang : Bool) where
   found_at s c e = e
 
   chord_there : (f : ChordForm) (x : List ℕ) → IsChord bang f → last_at false (chord_then f x) ≡ Some (93 ∷ length_then f.length x) →
-      chord_at bang (chord_then f x) ≡ Some (chord_with f (length_at (length_then f.length x)))
+      chord_at bang (chord_then f x) ≡ Some (chord_with f (length_from (length_then f.length x)))
   chord_there f x good e =
       let c = 93 ∷ length_then f.length x in
       let inside : take (length (f.inside ++ c) - length c) (f.inside ++ c) ≡ f.inside = cut_off (f.inside ++ c) f.inside c refl in
@@ -284,9 +284,9 @@ module _ (bang : Bool) where
       let near = behind_length f.length x f.inside k.front c good.length cut (omega (arith, shorter)) in
       let inside = take (length text - length (b ∷ c)) text in
       let l = length_at-takes c in (
-        (record { inside = inside; parts = (walk (inner_at bang) inside).0; length = (length_at c).0 }, (length_at c).1),
+        (record { inside = inside; parts = (walk (inner_at bang) inside).0; length = (length_from c).0 }, (length_from c).1),
         at_closing text (b ∷ c) e,
-        inl (omega (arith, near, ap length l.0, length-length_then (length_at c).0 (length_at c).1)),
+        inl (omega (arith, near, ap length l.0, length-length_then (length_from c).0 (length_from c).1)),
       )
 
   pub chord_at-reaches : (f : ChordForm) (x : List ℕ) → IsChord bang f →
@@ -296,7 +296,7 @@ module _ (bang : Bool) where
       elim k.ends [
         | inl shorter ↦ longer_chord f x k.closing good (found_at (chord_then f x) k.closing k.is) shorter.0
         | inr same ↦ (
-          chord_with f (length_at (length_then f.length x)),
+          chord_with f (length_from (length_then f.length x)),
           chord_there f x good (k.is ∙ ap Some same),
           elim (length_at-reaches f.length x good.length) [ inl near ↦ inl near.0 | inr same ↦ inr (ap (chord_with f) same) ],
         )
@@ -304,7 +304,7 @@ module _ (bang : Bool) where
 
   -- where no exclamation mark is passed over, the chord itself is read
   pub chord-reads : (f : ChordForm) (x : List ℕ) → IsChord bang f → has_lone f.parts ≡ false →
-      chord_at bang (chord_then f x) ≡ Some (chord_with f (length_at (length_then f.length x)))
+      chord_at bang (chord_then f x) ≡ Some (chord_with f (length_from (length_then f.length x)))
   chord-reads f x good whole =
       let k = last-reaches false f.inside (length_then f.length x) f.parts good.parts good.head in
       elim k.ends [
@@ -346,11 +346,11 @@ module _ (bang : Bool) where
   chord-open s done = rw add-one (chord_open s _ (inner_leads s [] (nil_from_length _ (eqb-true _ 0 done))))
 
   -- parts with a head up to a bracket are a chord
-  last_here : (head : Bool) (ps : List Inner) (t : List ℕ) → (head || has_head ps) ≡ true → last_bracket bang head ps (93 ∷ t) ≡ Some (93 ∷ t)
+  last_here : (head : Bool) (ps : List Inner) (t : List ℕ) → (head || has_inner_head ps) ≡ true → last_bracket bang head ps (93 ∷ t) ≡ Some (93 ∷ t)
   last_here head [] rest has = rw (sym (or-false head) ∙ has) refl
-  last_here head (p ∷ ps) rest has = rw (last_here (head || has_length p) ps rest (or_assoc head (has_length p) (has_head ps) ∙ has)) refl
+  last_here head (p ∷ ps) rest has = rw (last_here (head || has_length p) ps rest (or_assoc head (has_length p) (has_inner_head ps) ∙ has)) refl
 
-  headless : (s rest : List ℕ) → (walk (inner_at bang) s).1 ≡ 93 ∷ rest → chord_at bang s ≡ None → has_head (walk (inner_at bang) s).0 ≡ false
+  headless : (s rest : List ℕ) → (walk (inner_at bang) s).1 ≡ 93 ∷ rest → chord_at bang s ≡ None → has_inner_head (walk (inner_at bang) s).0 ≡ false
   headless s rest stop none = false_from_ne_true _ (λ e.
       let ps = (walk (inner_at bang) s).0 in
       let found = found_at s (93 ∷ rest) (ap (last_bracket bang false ps) stop ∙ last_here false ps rest e) in

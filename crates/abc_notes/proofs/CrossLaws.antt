@@ -5,8 +5,8 @@ use Rattle.std.proofs.{lemmas.Bool.{and_parts, eqb-true, not-true}, lemmas.Optio
 use Rattle.std.proofs.Math.Seq.{drop-append_seam}
 use Rattle.abc_notes.specs.Graces.{GracePart, single, chorded, StandsInGrace, is_in_grace, brace_at, brace_in_chord, brace_behind, brace_between}
 use Rattle.abc_notes.specs.Graces.{brace_in_item, brace_in_part, inside_of_item, inside_of_part, IsItemAt, stands_behind, at_most_bytes}
-use Rattle.abc_notes.specs.{declared.part.GraceChord.GraceChord, declared.part.GraceItem.GraceItem, declared.part.Len.Len, Decorations.is_name_byte}
-use Rattle.abc_notes.specs.{Lengths.{length_then, length_at, len_of, length_read}, Parts.{no_part, then_part, walk, is_done, later_or}}
+use Rattle.abc_notes.specs.{declared.part.GraceChord.GraceChord, declared.part.GracePiece.GracePiece, declared.part.Len.Len, Decorations.is_name_byte}
+use Rattle.abc_notes.specs.{Lengths.{length_then, length_from, len_of, length_read}, Parts.{no_part, then_part, walk, is_done, later_or}}
 use Rattle.abc_notes.specs.Items.{Inner, named_inside, lone_inside, inner_then, IsInner, has_length, InnerParts, name_at, named_or, inner_at}
 use Rattle.abc_notes.specs.Chords.{bracket_in, bracket_in_name, bracket_at}
 use Rattle.abc_notes.proofs.GraceLaws.{ClosedGroup, brace_at-closes, none_there, chord-none, chord-some, FoundPart, part_reader}
@@ -47,10 +47,10 @@ within_front [] w c rest cut is = absurd (omega (arith, first_same (cut ∙ is))
 within_front (b ∷ front) w c rest cut is = omega (arith, ap length cut, length-append front c)
 
 -- what follows a length
-pub length_shorter : (s : List ℕ) {rest : List ℕ} {len : Len} → length_read len rest ≡ length_read (len_of (length_at s).0) (length_at s).1 →
+pub length_shorter : (s : List ℕ) {rest : List ℕ} {len : Len} → length_read len rest ≡ length_read (len_of (length_from s).0) (length_from s).1 →
     length rest ≤ length s
 length_shorter s e =
-    let l = length_at s in omega (arith, ap (λ p. length p.1) e, ap length (length_at-takes s).0, length-length_then l.0 l.1)
+    let l = length_from s in omega (arith, ap (λ p. length p.1) e, ap length (length_at-takes s).0, length-length_then l.0 l.1)
 
 module _ (bang : Bool) where
   -- ---- the bracket in a name that is a part, from it on up to the end of the part
@@ -241,18 +241,18 @@ module _ (bang : Bool) where
   clear-none w clear = none_there bang (91 ∷ w) (brace_at bang (91 ∷ w)) refl (λ d k. clear_closed w d clear k)
 
   -- ---- the part as the code reads it
-  same_brace_in : (item : GraceItem) (part : GracePart) (text : List ℕ) → inside_of_item item ≡ inside_of_part part →
+  same_brace_in : (item : GracePiece) (part : GracePart) (text : List ℕ) → inside_of_item item ≡ inside_of_part part →
       brace_in_item bang item text ≡ brace_in_part bang part text
-  same_brace_in (GraceItem.Part p) (single f) text e = refl
-  same_brace_in (GraceItem.Part p) (chorded f) text e = absurd cc
-  same_brace_in (GraceItem.Chord inside) (single f) text e = absurd cc
-  same_brace_in (GraceItem.Chord inside) (chorded f) text e = let same : inside.now ≡ f.inside = cc in rw same refl
+  same_brace_in (GracePiece.Part p) (single f) text e = refl
+  same_brace_in (GracePiece.Part p) (chorded f) text e = absurd cc
+  same_brace_in (GracePiece.Chord inside) (single f) text e = absurd cc
+  same_brace_in (GracePiece.Chord inside) (chorded f) text e = let same : inside.now ≡ f.inside = cc in rw same refl
 
-  item_stands : (item : GraceItem) (part : GracePart) (text behind : List ℕ) → inside_of_item item ≡ inside_of_part part →
+  item_stands : (item : GracePiece) (part : GracePart) (text behind : List ℕ) → inside_of_item item ≡ inside_of_part part →
       StandsInGrace bang part text behind → IsItemAt bang item text
-  item_stands (GraceItem.Part p) part text behind e stands = tt
-  item_stands (GraceItem.Chord inside) (single f) text behind e stands = absurd cc
-  item_stands (GraceItem.Chord inside) (chorded f) text behind e stands =
+  item_stands (GracePiece.Part p) part text behind e stands = tt
+  item_stands (GracePiece.Chord inside) (single f) text behind e stands = absurd cc
+  item_stands (GracePiece.Chord inside) (chorded f) text behind e stands =
       let same : inside.now ≡ f.inside = cc in let tail = 93 ∷ length_then f.length behind in
       let drops = ap (drop (suc (length f.inside))) stands.cut ∙ drop-append_seam (91 ∷ f.inside) tail in
       rw same (
@@ -261,7 +261,7 @@ module _ (bang : Bool) where
         stands.cut ∙ ap (λ t. (91 ∷ f.inside) ++ t) (sym drops),
       )
 
-  module _ (item : GraceItem) {text behind : List ℕ} {body : List GraceChord} {lengthy : Bool}
+  module _ (item : GracePiece) {text behind : List ℕ} {body : List GraceChord} {lengthy : Bool}
       (f : FoundPart bang text body lengthy (inside_of_item item) behind) where
     pub item-brace : brace_in_item bang item text ≡ brace_in_part bang f.part text
     item-brace = same_brace_in item f.part text f.encloses
@@ -270,17 +270,17 @@ module _ (bang : Bool) where
     item-at = item_stands item f.part text behind f.encloses (stands_at (part_reader bang) text (f.part, behind) f.at)
 
   -- ---- behind one chord, up to a closing byte
-  pub brace_fits : (s : List ℕ) {rest brace : List ℕ} {len : Len} → length_read len rest ≡ length_read (len_of (length_at s).0) (length_at s).1 →
+  pub brace_fits : (s : List ℕ) {rest brace : List ℕ} {len : Len} → length_read len rest ≡ length_read (len_of (length_from s).0) (length_from s).1 →
       Some brace ≡ brace_at bang rest → length brace ≤ length s
   brace_fits s {rest} {brace} e found =
       let k = brace_at-closes bang rest brace (sym found) in omega (arith, length_shorter s e, ap length k.cut, length-append k.front brace)
 
   pub past_is : (closing : List ℕ) {bracket chord s rest brace : List ℕ} {b : ℕ} {len : Len} →
       bracket ≡ take (length bracket - length closing) bracket ++ closing → chord ≡ take (length bracket - length closing) bracket → chord ≡ b ∷ s →
-      length_read len rest ≡ length_read (len_of (length_at s).0) (length_at s).1 → Some brace ≡ brace_at bang rest →
+      length_read len rest ≡ length_read (len_of (length_from s).0) (length_from s).1 → Some brace ≡ brace_at bang rest →
       Some (drop (length chord - length brace) bracket) ≡ brace_between bang (Some bracket) (Some closing)
   past_is closing {bracket} {chord} {s} {rest} {brace} {b} behind is first e found =
-      let k = brace_at-closes bang rest brace (sym found) in let l = length_at s in
+      let k = brace_at-closes bang rest brace (sym found) in let l = length_from s in
       let x = length_then l.0 [] in let y = b ∷ (x ++ k.front) in
       let same : rest ≡ l.1 = ap (λ p. p.1) e in
       let long : length_then l.0 l.1 ≡ x ++ (k.front ++ brace) = sym (length_append l.0 [] l.1) ∙ ap (λ t. x ++ t) (sym same ∙ k.cut) in
@@ -303,10 +303,10 @@ module _ (bang : Bool) where
       let line : text ≡ k.front ++ (brace ++ tail) = cut ∙ ap (λ t. t ++ tail) k.cut ∙ append_assoc k.front brace tail in
       ap (λ n. drop n text) count ∙ ap (drop (length k.front)) line ∙ drop-append_seam k.front (brace ++ tail)
 
-  pub chord-brace : (text : List ℕ) {item : GraceItem} {brace : List ℕ} {inside : Bor (List ℕ)} → item ≡ GraceItem.Chord inside →
+  pub chord-brace : (text : List ℕ) {item : GracePiece} {brace : List ℕ} {inside : Bor (List ℕ)} → item ≡ GracePiece.Chord inside →
       IsItemAt bang item text → Some brace ≡ brace_in_chord bang inside.now →
       Some (drop (length inside.now + 1 - length brace) text) ≡ brace_in_item bang item text
   chord-brace text {item} {brace} {inside} is at some =
-      let here : IsItemAt bang (GraceItem.Chord inside) text = rw is at at in
+      let here : IsItemAt bang (GracePiece.Chord inside) text = rw is at at in
       let tail = drop (suc (length inside.now)) text in
       rw is (ap Some (drops_in_chord text inside.now brace here.2 some) ∙ ap (option_map (λ (b : List ℕ). b ++ tail)) some)

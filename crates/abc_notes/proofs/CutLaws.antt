@@ -6,8 +6,8 @@ use Rattle.std.proofs.{lemmas.List.Folds.list_all-append, lemmas.List.{append_ca
 use Rattle.std.proofs.{lemmas.Option.{cond_some, some_pair_parts}, Math.Seq.drop-append_seam}
 use Rattle.abc_notes.specs.Items.{Inner, note_inside, letter_inside, named_inside, tie_inside, passed_inside, lone_inside, inner_then, IsName}
 use Rattle.abc_notes.specs.{Items.{IsInner, StandsInside, InnerParts, closed_name, name_at, inner_at}, Runs.{copies, maybe, is_mark, span_all}}
-use Rattle.abc_notes.specs.{Runs.begins, Decorations.is_name_byte, Lengths.{LengthForm, whole, over, halved, length_then, IsLength}}
-use Rattle.abc_notes.specs.{Notes.{NoteForm, note_then, sign_then, letter_byte, IsNote}, Parts.{IsLongest, no_part, then_part, Leads, leads_here}}
+use Rattle.abc_notes.specs.{Runs.begins, Decorations.is_name_byte, Lengths.{LengthForm, whole, over, halved, length_then, IsWrittenLength}}
+use Rattle.abc_notes.specs.{Notes.{NoteForm, note_then, sign_then, letter_byte, IsNote}, Parts.{IsLongest, no_part, then_part, LeadsByParts, leads_here}}
 use Rattle.abc_notes.specs.Parts.{leads_on, walk, spelled_then}
 use Rattle.abc_notes.proofs.{Bounds.digit_range, SpanLaws.{span_all-append, span_all-stops, span_all-takes, span_all-pass, span_all-after}}
 use Rattle.abc_notes.proofs.{LengthLaws.{copies_append, count-digits}, ItemLaws.{one_of_all, bang_at}, PartLaws.{Reader, longest_is, stands_at}}
@@ -142,8 +142,8 @@ module _
       (λ s z e next. rw (walk-some r s z e) (ap (one z.0) next ∙ sym (k.spells z.0 s z.1 (stands_at r s z e))))
 
   -- what is read off a text leads up to what is left
-  pub leads_of_walk : (s : List ℕ) → Leads I Stands s (walk at s).0 (walk at s).1
-  leads_of_walk = by_parts r (λ s. Leads I Stands s (walk at s).0 (walk at s).1)
+  pub leads_of_walk : (s : List ℕ) → LeadsByParts I Stands s (walk at s).0 (walk at s).1
+  leads_of_walk = by_parts r (λ s. LeadsByParts I Stands s (walk at s).0 (walk at s).1)
       (λ s e. rw (walk-none r s e) (leads_here s))
       (λ s z e next. rw (walk-some r s z e) (leads_on s z.0 z.1 (walk at z.1).0 (walk at z.1).1 (longest_of r s z e) next))
 
@@ -177,7 +177,7 @@ digits_free ds h =
 mark_free : (b : ℕ) → is_mark b ≡ true → free b ≡ true
 mark_free b h = elim (or_cases (eqb b 39) (eqb b 44) h) [ inl e ↦ rw (eqb-true b 39 e) refl | inr e ↦ rw (eqb-true b 44 e) refl ]
 
-pub length_free : (f : LengthForm) → IsLength f → list_all free (length_then f []) ≡ true
+pub length_free : (f : LengthForm) → IsWrittenLength f → list_all free (length_then f []) ≡ true
 length_free (whole c) good = all_join free c [] (digits_free c (count-digits 4 c good)) refl
 length_free (over c b) good =
     all_join free c (47 ∷ (b ++ [])) (digits_free c (count-digits 4 c good.0)) (all_join free b [] (digits_free b good.1.digits) refl)
@@ -192,7 +192,7 @@ free_past close s rest m t closes all e short =
     let here = (all_parts free m (b ∷ bs) (ap (list_all free) (sym front) ∙ all)).1 in
     both_ways (free b) (ap free (sym (first_same behind)) ∙ closes) (and_parts (free b) (list_all free bs) here).0)
 
-pub length_past : (close : ℕ) (l : LengthForm) (rest m t : List ℕ) → free close ≡ false → IsLength l → length_then l rest ≡ m ++ (close ∷ t) →
+pub length_past : (close : ℕ) (l : LengthForm) (rest m t : List ℕ) → free close ≡ false → IsWrittenLength l → length_then l rest ≡ m ++ (close ∷ t) →
     length rest < length (close ∷ t) → ⊥
 length_past close l rest m t closes good e = free_past close (length_then l []) rest m t closes (length_free l good) (length_append l [] rest ∙ e)
 

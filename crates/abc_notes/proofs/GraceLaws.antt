@@ -10,8 +10,8 @@ use Rattle.abc_notes.specs.Graces.{is_slash_byte, grace_then, IsGrace, body_of_p
 use Rattle.abc_notes.specs.Graces.{grace_flawed, chorded_read, single_read, grace_part_at, brace_here, brace_in, brace_in_name, closes_at}
 use Rattle.abc_notes.specs.Graces.{last_closing, brace_in_chord, brace_behind, brace_in_part, brace_at, grace_from, grace_at, bodied, body_inside}
 use Rattle.abc_notes.specs.{Graces.{inside_of_part, IsPartFlaw, item_within}, Decorations.is_name_byte, declared.part.Flaw.Flaw}
-use Rattle.abc_notes.specs.{declared.part.GraceChord.GraceChord, declared.part.GraceItem.GraceItem, Runs.{maybe, skip, span_all, begins}}
-use Rattle.abc_notes.specs.{Lengths.{LengthForm, length_then, length_at}, Chords.{ChordForm, chord_then, IsChord, bracket_at, chord_at, at_most}}
+use Rattle.abc_notes.specs.{declared.part.GraceChord.GraceChord, declared.part.GracePiece.GracePiece, Runs.{maybe, skip, span_all, begins}}
+use Rattle.abc_notes.specs.{Lengths.{LengthForm, length_then, length_from}, Chords.{ChordForm, chord_then, IsChord, bracket_at, chord_at, at_most}}
 use Rattle.abc_notes.specs.Parts.{no_part, then_part, stuck_here, stuck_later, walk, is_done, length_at_place, later_or}
 use Rattle.abc_notes.proofs.ChordLaws.{bracket_at-closes, chord_at-takes, chord_at-reaches, chord-reads, chord-longer, has_lone, is_lone}
 use Rattle.abc_notes.proofs.{ChordLaws.{later_assoc, later_none, cut_off}, CutLaws.{two, none_left, some_left, first_close, length_past, moved}}
@@ -55,9 +55,9 @@ has_lone_part [] = false
 has_lone_part (p ∷ more) = lone_part_is p || has_lone_part more
 
 -- the text of a chord that is a part
-pub item_wider : (part : GraceItem) (n m : ℕ) → item_within part n → n ≤ m → item_within part m
-item_wider (GraceItem.Part part) n m h le = tt
-item_wider (GraceItem.Chord inside) n m h le = omega (arith, h, le)
+pub item_wider : (part : GracePiece) (n m : ℕ) → item_within part n → n ≤ m → item_within part m
+item_wider (GracePiece.Part part) n m h le = tt
+item_wider (GracePiece.Chord inside) n m h le = omega (arith, h, le)
 
 module _ (bang : Bool) where
   -- ---- parts
@@ -485,10 +485,10 @@ module _ (bang : Bool) where
   chord-none w none = brace-none (91 ∷ w) (at_bracket w ∙ rw none refl)
 
   abbrev form_of : List ℕ → List ℕ → ChordForm
-  form_of inside rest = record { inside = inside; parts = (walk (inner_at bang) inside).0; length = (length_at rest).0 }
+  form_of inside rest = record { inside = inside; parts = (walk (inner_at bang) inside).0; length = (length_from rest).0 }
 
   read_form : (w c : List ℕ) (b : ℕ) → bracket_at bang w ≡ Some (b ∷ c) →
-      chord_at bang w ≡ Some (form_of (take (length w - length (b ∷ c)) w) c, (length_at c).1)
+      chord_at bang w ≡ Some (form_of (take (length w - length (b ∷ c)) w) c, (length_from c).1)
   unfolding chord_at
   read_form w c b e = rw e refl
 
@@ -502,8 +502,8 @@ module _ (bang : Bool) where
       let at = at_bracket w ∙ ap (option_map chorded_read) (read_form w c b e) in
       let tail : drop (length inside) w ≡ b ∷ c =
       ap (λ (t : List ℕ). drop (length t) w) front ∙ ap (drop (length k.front)) k.cut ∙ drop-append_seam k.front (b ∷ c) in
-      brace-part (91 ∷ w) (length_at c).1 (chorded (form_of inside c)) at
-      ∙ ap (λ (t : List ℕ). later_or (brace_at bang (length_at c).1) (option_map (λ (x : List ℕ). x ++ t) (brace_at bang (91 ∷ inside)))) tail
+      brace-part (91 ∷ w) (length_from c).1 (chorded (form_of inside c)) at
+      ∙ ap (λ (t : List ℕ). later_or (brace_at bang (length_from c).1) (option_map (λ (x : List ℕ). x ++ t) (brace_at bang (91 ∷ inside)))) tail
 
   -- where no exclamation mark is passed over, neither in the group nor in its chords, the line is read as the inside is
   abbrev with_length : ChordForm → LengthForm → ChordForm
@@ -512,7 +512,7 @@ module _ (bang : Bool) where
   chord_past : (f : ChordForm) (v t : List ℕ) (z : GracePart × List ℕ) → IsChord bang f → has_lone f.parts ≡ false →
       grace_part_at bang (91 ∷ chord_then f (v ++ (125 ∷ t))) ≡ Some z → length z.1 < length (125 ∷ t) → ⊥
   chord_past f v t z good whole e past =
-      let x = v ++ (125 ∷ t) in let l = length_at (length_then f.length x) in
+      let x = v ++ (125 ∷ t) in let l = length_from (length_then f.length x) in
       let takes = length_at-takes (length_then f.length x) in
       let read = at_bracket (chord_then f x) ∙ ap (option_map chorded_read) (chord-reads bang f x good whole) in
       let same = some_pair_parts z.0 (chorded (with_length f l.0)) z.1 l.1 (sym e ∙ read) in

@@ -2,11 +2,11 @@
 use Rattle.std.proofs.Common.{◌≡◌, ℕ, zero, suc, ◌+◌, ◌≤◌, ◌<◌, Bool, true, false, List, [], ◌∷◌, ◌++◌, length, Option, Some, None, refl, sym, ap}
 use Rattle.std.proofs.{Common.{◌∙◌, arith, append_assoc, append-nil, ◌||◌, option_map, MatchBool, length-append}, lemmas.Bool.{cond_both, ne_eqb}}
 use Rattle.std.proofs.{lemmas.List.nil_from_length, Math.Bool.{or-false, or_assoc}}
-use Rattle.abc_notes.specs.Items.{Inner, note_inside, named_inside, tie_inside, inner_then, StandsInside, Sense, says_note, says_tie, sense, is_note}
+use Rattle.abc_notes.specs.Items.{Inner, note_inside, named_inside, tie_inside, inner_then, StandsInside, Sense, says_note, says_tie, sense, is_inner_note}
 use Rattle.abc_notes.specs.{Items.{has_length, IsBadByte, InnerFlawed, inner_at, sensed, inner_flaw}, Graces.{heads_in, plain_head}}
 use Rattle.abc_notes.specs.{declared.part.Flaw.Flaw, declared.part.Len.Len, Runs.{copies, maybe}, Lengths.{LengthForm, whole, over, halved}}
 use Rattle.abc_notes.specs.{Lengths.length_then, Notes.{NoteForm, note_then, sign_then, letter_byte}, Parts.{stuck_here, stuck_later, IsFlaw, walk}}
-use Rattle.abc_notes.specs.{Parts.{is_done, goes_on_length, length_at_place}, Chords.{has_head, is_tied, tied_if, heads_of, senses, last_head}}
+use Rattle.abc_notes.specs.{Parts.{is_done, goes_on_length, length_at_place}, Chords.{has_inner_head, is_tied, tied_if, heads_of, senses, last_head}}
 use Rattle.abc_notes.specs.Chords.{given_head, next_last, heads_after, at_most}
 use Rattle.abc_notes.proofs.{ItemLaws.{inner_at-takes, inner_at-reaches}, PartLaws.{Reader, less, longest_of, none_of, walk-none, walk-some}}
 use Rattle.abc_notes.proofs.PartLaws.{left_none, left_some, read_from, none_from}
@@ -109,7 +109,7 @@ module _ (bang : Bool) where
   -- ---- the state of a loop over the inside
   pub record Inside (w : List ℕ) (head : Bool) (before : Option ℕ) (rest : List ℕ) : Type 0 where
     pub left : (walk (inner_at bang) rest).1 ≡ (walk (inner_at bang) w).1
-    pub heads : (head || has_head (walk (inner_at bang) rest).0) ≡ has_head (walk (inner_at bang) w).0
+    pub heads : (head || has_inner_head (walk (inner_at bang) rest).0) ≡ has_inner_head (walk (inner_at bang) w).0
     pub flaw : (f : Flaw) → InnerFlawed bang before rest f → InnerFlawed bang None w f
     pub within : length rest ≤ length w
     pub small : at_most (length w) before
@@ -118,16 +118,16 @@ module _ (bang : Bool) where
     pub inner_less : length behind < length s
     inner_less = less inner_reader s (f.part, behind) f.at
 
-    pub inside-next : {w : List ℕ} {head new note : Bool} {before place : Option ℕ} → Inside w head before s → note ≡ is_note item →
+    pub inside-next : {w : List ℕ} {head new note : Bool} {before place : Option ℕ} → Inside w head before s → note ≡ is_inner_note item →
         new ≡ (head || note) → place ≡ length_at_place note (length s) → Inside w new place behind
     inside-next {w} {head} {new} {note} {before} stage noted newly placed =
         let step = walk-some inner_reader s (f.part, behind) f.at in
-        let is : note ≡ has_length f.part = noted ∙ ap is_note f.says in
+        let is : note ≡ has_length f.part = noted ∙ ap is_inner_note f.says in
         let later = λ (flaw : Flaw) (h : InnerFlawed bang (length_at_place note (length s)) behind flaw).
         stuck_later before s f.part behind flaw (longest_of inner_reader s (f.part, behind) f.at) (rw is at h) in
         rw (placed, newly) (record {
           left = sym (left_some inner_reader s (f.part, behind) f.at) ∙ stage.left;
-          heads = or_assoc head note _ ∙ rw is (sym (ap (λ (z : List Inner × List ℕ). head || has_head z.0) step)) ∙ stage.heads;
+          heads = or_assoc head note _ ∙ rw is (sym (ap (λ (z : List Inner × List ℕ). head || has_inner_head z.0) step)) ∙ stage.heads;
           flaw = λ flaw h. stage.flaw flaw (later flaw h);
           within = omega (arith, stage.within, inner_less);
           small = place_small note (length w) (length s) stage.within;
@@ -172,8 +172,8 @@ module _ (bang : Bool) where
           rw is (flaw_small before byte here (length w) stage.small (omega (arith, place, stage.within))),
         )
 
-    pub inside-ends : length rest ≡ 0 → (is_done (walk (inner_at bang) w) ≡ true) × (head ≡ has_head (walk (inner_at bang) w).0)
+    pub inside-ends : length rest ≡ 0 → (is_done (walk (inner_at bang) w) ≡ true) × (head ≡ has_inner_head (walk (inner_at bang) w).0)
     unfolding walk
     inside-ends none =
         let empty = nil_from_length rest none in
-        (rw (sym stage.left, empty) refl, sym (or-false head) ∙ sym (ap (λ x. head || has_head (walk (inner_at bang) x).0) empty) ∙ stage.heads)
+        (rw (sym stage.left, empty) refl, sym (or-false head) ∙ sym (ap (λ x. head || has_inner_head (walk (inner_at bang) x).0) empty) ∙ stage.heads)

@@ -2,8 +2,8 @@
 use Rattle.std.proofs.Common.{◌≡◌, ℕ, zero, suc, ◌+◌, ◌-◌, ◌≤◌, ◌<◌, Bool, true, false, eqb, List, [], ◌∷◌, ◌++◌, length, refl, sym, ap, subst, ◌∙◌}
 use Rattle.std.proofs.{Common.{arith, inl, inr, ◌⊎◌, ◌||◌, append-nil}, lemmas.Bool.{cond_both, and_parts, eqb-true, ne_eqb, both_ways, or_left}}
 use Rattle.std.proofs.lemmas.Bool.{or_right}
-use Rattle.abc_notes.specs.{Runs.{copies, span, begins}, Lengths.{LengthForm, whole, over, halved, length_then, IsLength, IsNumber, IsCount}}
-use Rattle.abc_notes.specs.Lengths.{number_at, below_at, is_slash, length_at}
+use Rattle.abc_notes.specs.{Runs.{copies, span, begins}, Lengths.{LengthForm, whole, over, halved, length_then, IsWrittenLength, AreNumberDigits, IsCount}}
+use Rattle.abc_notes.specs.Lengths.{number_at, below_at, is_slash, length_from}
 use Rattle.abc_notes.proofs.{SpanLaws.{span-takes, span-pass, span-length, span-stops, span-less, span-append, length-span}, Bounds.digit_range}
 use Rattle.abc_notes.proofs.RunLaws.{begins_wider}
 use Rattle.{std.specs.List.list_all, mus_units.specs.Bytes.is_digit}
@@ -44,7 +44,7 @@ begins_append : (p : ℕ → Bool) (a x : List ℕ) → 1 ≤ length a → begin
 begins_append p [] x h = absurd (omega arith)
 begins_append p (b ∷ a) x h = refl
 
-number-reads-as : (n : ℕ) (ds x : List ℕ) → IsNumber n ds → let m = span is_digit (n - length ds) x in number_at n (ds ++ x) ≡ (ds ++ m.0, m.1)
+number-reads-as : (n : ℕ) (ds x : List ℕ) → AreNumberDigits n ds → let m = span is_digit (n - length ds) x in number_at n (ds ++ x) ≡ (ds ++ m.0, m.1)
 number-reads-as n ds x good =
     let no_zero = begins_append is_zero ds x good.some ∙ good.no_zero in
     let sum : length ds + (n - length ds) ≡ n = omega (arith, good.few) in
@@ -52,7 +52,7 @@ number-reads-as n ds x good =
     by_zero n (ds ++ x) (λ z. z ≡ (ds ++ more.0, more.1)) (λ e. absurd (both_ways _ no_zero e))
     (λ e. rw sum at (span-append is_digit (n - length ds) ds x good.digits))
 
-number-reads : (n : ℕ) (ds x : List ℕ) → IsNumber n ds → Stops is_digit x ds (number_at n (ds ++ x))
+number-reads : (n : ℕ) (ds x : List ℕ) → AreNumberDigits n ds → Stops is_digit x ds (number_at n (ds ++ x))
 number-reads n ds x good =
     rw (number-reads-as n ds x good)
     (elim (span-less is_digit (n - length ds) x) [ inl shorter ↦ inl shorter | inr same ↦ inr (rw (same, append-nil) refl) ])
@@ -88,7 +88,7 @@ length-copies (suc k) = ap suc (length-copies k)
 
 -- what stands at the front, put together from its parts
 below-takes : (count sl after be last : List ℕ) → IsCount 4 count → list_all is_slash sl ≡ true → length sl ≤ 6 → after ≡ be ++ last → IsCount 4 be →
-    let z = below_at count (sl, after) (be, last) in (count ++ (sl ++ after) ≡ length_then z.0 z.1) × IsLength z.0
+    let z = below_at count (sl, after) (be, last) in (count ++ (sl ++ after) ≡ length_then z.0 z.1) × IsWrittenLength z.0
 below-takes count [] after be last good pass few g below = (refl, good)
 below-takes count (c ∷ []) after [] last good pass few g below =
     (ap (λ t. count ++ t) (slashes-are (c ∷ []) after pass), (good, omega arith, omega arith))
@@ -97,8 +97,8 @@ below-takes count (c ∷ []) after (d ∷ ds) last good pass few g below =
 below-takes count (c ∷ d ∷ sl) after be last good pass few g below =
     (ap (λ t. count ++ t) (slashes-are (c ∷ d ∷ sl) after pass), (good, omega arith, few))
 
-pub length_at-takes : (s : List ℕ) → let z = length_at s in (s ≡ length_then z.0 z.1) × IsLength z.0
-unfolding length_at
+pub length_at-takes : (s : List ℕ) → let z = length_from s in (s ≡ length_then z.0 z.1) × IsWrittenLength z.0
+unfolding length_from
 length_at-takes s =
     let count = number_at 4 s in let sl = span is_slash 6 count.1 in
     let pass = span-pass is_slash 6 count.1 in let few = span-length is_slash 6 count.1 in
@@ -132,8 +132,8 @@ unfolding from_count
 length-from count s =
     let sl = span is_slash 6 s in omega (arith, length-below count sl (number_at 4 sl.1) (length-number 4 sl.1), length-span is_slash 6 s)
 
-length_at-is : (s : List ℕ) → length_at s ≡ from_count (number_at 4 s).0 (number_at 4 s).1
-unfolding length_at from_count
+length_at-is : (s : List ℕ) → length_from s ≡ from_count (number_at 4 s).0 (number_at 4 s).1
+unfolding length_from from_count
 length_at-is s = refl
 
 whole-reaches : (count x : List ℕ) → Stops goes_on x (whole count) (from_count count x)
@@ -150,10 +150,10 @@ one_slash : (count x : List ℕ) → begins is_slash x ≡ false → from_count 
 unfolding from_count
 one_slash count x h = rw (span-append is_slash 5 (47 ∷ []) x refl, span-stops is_slash 5 x h) refl
 
-no_slash : (d : ℕ) (ds x : List ℕ) → IsNumber 4 (d ∷ ds) → begins is_slash ((d ∷ ds) ++ x) ≡ false
+no_slash : (d : ℕ) (ds x : List ℕ) → AreNumberDigits 4 (d ∷ ds) → begins is_slash ((d ∷ ds) ++ x) ≡ false
 no_slash d ds x good = let r = digit_range d (and_parts _ _ good.digits).0 in ne_eqb d 47 (omega (arith, r.0))
 
-over-reaches : (count : List ℕ) (d : ℕ) (ds x : List ℕ) → IsNumber 4 (d ∷ ds) →
+over-reaches : (count : List ℕ) (d : ℕ) (ds x : List ℕ) → AreNumberDigits 4 (d ∷ ds) →
     Stops goes_on x (over count (d ∷ ds)) (from_count count (47 ∷ ((d ∷ ds) ++ x)))
 over-reaches count d ds x good =
     rw (one_slash count ((d ∷ ds) ++ x) (no_slash d ds x good), number-reads-as 4 (d ∷ ds) x good)
@@ -191,7 +191,7 @@ halved-reaches count k x some few =
     ])
 
 -- the law: a length that is read is as long as each that stands there
-pub length_at-reaches : (f : LengthForm) (x : List ℕ) → IsLength f → Stops goes_on x f (length_at (length_then f x))
+pub length_at-reaches : (f : LengthForm) (x : List ℕ) → IsWrittenLength f → Stops goes_on x f (length_from (length_then f x))
 length_at-reaches (whole count) x good = rw length_at-is (elim (count-reads 4 count x good) [
   | inl shorter ↦ inl (omega (arith, shorter.0, length-from (number_at 4 (count ++ x)).0 (number_at 4 (count ++ x)).1), either_left x shorter.1)
   | inr same ↦ rw same (whole-reaches count x)
@@ -203,7 +203,7 @@ length_at-reaches (halved count zero) x good = absurd (omega (arith, good.1))
 length_at-reaches (halved count (suc k)) x good =
     rw (length_at-is, count-stops 4 count 47 (copies k 47 x) refl good.0) (halved-reaches count (suc k) x good.1 good.2)
 
-pub length-length_at : (s : List ℕ) → length (length_at s).1 ≤ length s
+pub length-length_at : (s : List ℕ) → length (length_from s).1 ≤ length s
 length-length_at s = rw length_at-is (omega (arith, length-from (number_at 4 s).0 (number_at 4 s).1, length-number 4 s))
 
 pub count-few : (n : ℕ) (ds : List ℕ) → IsCount n ds → length ds ≤ n

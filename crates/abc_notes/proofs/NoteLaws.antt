@@ -2,7 +2,7 @@
 use Rattle.std.proofs.Common.{◌≡◌, ℕ, zero, suc, ◌<◌, Bool, true, false, cond, eqb, List, [], ◌∷◌, ◌++◌, length, Option, Some, None, refl, ap, sym}
 use Rattle.std.proofs.{Common.{◌∙◌, arith, inl, inr, ◌⊎◌, ◌||◌, IfSome, append-nil}, lemmas.Bool.{cond_both, eqb-true, or_left, or_right, or_from}}
 use Rattle.std.proofs.lemmas.Bool.{ne_eqb, and_parts, both_ways}
-use Rattle.abc_notes.specs.{Lengths.{LengthForm, whole, over, halved, length_then, length_at, IsLength, IsNumber}, Notes.{NoteForm, sign_then}}
+use Rattle.abc_notes.specs.{Lengths.{LengthForm, whole, over, halved, length_then, length_from, IsWrittenLength, AreNumberDigits}, Notes.{NoteForm, sign_then}}
 use Rattle.abc_notes.specs.Notes.{letter_byte, note_then, IsNote, sign_at, upper_at, lower_at, either_letter, letter_at, note_from, note_behind}
 use Rattle.abc_notes.specs.{Notes.note_at, Runs.{skip, span_all, begins, is_mark}}
 use Rattle.abc_notes.proofs.{Bounds.digit_range, RunLaws.{skip-takes, begins_wider}, SpanLaws.{span_all-takes, span_all-pass, span_all-less}}
@@ -84,7 +84,7 @@ from-takes : (s : List ℕ) (sign : Option Alter) (b : ℕ) (rest : List ℕ) (l
     IfSome l (λ z. b ≡ letter_byte z.0 z.1) → TakesNote s (note_from sign l rest)
 from-takes s sign b rest None e is = tt
 from-takes s sign b rest (Some l) e is =
-    let marks = span_all is_mark rest in let len = length_at marks.1 in let p = length_at-takes marks.1 in
+    let marks = span_all is_mark rest in let len = length_from marks.1 in let p = length_at-takes marks.1 in
     let behind : rest ≡ marks.0 ++ length_then len.0 len.1 = span_all-takes is_mark rest ∙ ap (λ t. marks.0 ++ t) p.0 in (
       e ∙ ap (λ t. sign_then sign (t ∷ rest)) is ∙ ap (λ t. sign_then sign (letter_byte l.0 l.1 ∷ t)) behind,
       record { marks = span_all-pass is_mark rest; length = p.1 },
@@ -106,12 +106,12 @@ note_goes_on b = is_mark b || goes_on b
 abbrev pub NoteStops : List ℕ → NoteForm → Option (NoteForm × List ℕ) → Type 0
 NoteStops x f read = (z : NoteForm × List ℕ) × (read ≡ Some z) × (((length z.1 < length x) × (begins note_goes_on x ≡ true)) ⊎ (z ≡ (f, x)))
 
-count_no_mark : (d : ℕ) (ds : List ℕ) → IsNumber 4 (d ∷ ds) → is_mark d ≡ false
+count_no_mark : (d : ℕ) (ds : List ℕ) → AreNumberDigits 4 (d ∷ ds) → is_mark d ≡ false
 count_no_mark d ds good =
     let r = digit_range d (and_parts _ _ good.digits).0 in or_from (eqb d 39) (eqb d 44) (ne_eqb d 39 (omega arith)) (ne_eqb d 44 (omega arith))
 
 -- a length begins with no mark, or is empty
-length_no_mark : (len : LengthForm) (x : List ℕ) → IsLength len → (begins is_mark (length_then len x) ≡ false) ⊎ (length_then len x ≡ x)
+length_no_mark : (len : LengthForm) (x : List ℕ) → IsWrittenLength len → (begins is_mark (length_then len x) ≡ false) ⊎ (length_then len x ≡ x)
 length_no_mark (whole []) x good = inr refl
 length_no_mark (whole (d ∷ ds)) x good = inl (count_no_mark d ds good)
 length_no_mark (over [] below) x good = inl refl
@@ -122,7 +122,7 @@ length_no_mark (halved (d ∷ ds) k) x good = inl (count_no_mark d ds good.0)
 
 finish : Option Alter → Bool → Letter → List ℕ × List ℕ → NoteForm × List ℕ
 finish sign low letter marks =
-    let len = length_at marks.1 in (record { sign = sign; low = low; letter = letter; marks = marks.0; length = len.0 }, len.1)
+    let len = length_from marks.1 in (record { sign = sign; low = low; letter = letter; marks = marks.0; length = len.0 }, len.1)
 
 note-read : (sign : Option Alter) (low : Bool) (letter : Letter) (r : List ℕ) →
     note_at (sign_then sign (letter_byte low letter ∷ r)) ≡ Some (finish sign low letter (span_all is_mark r))

@@ -3,7 +3,7 @@
 use Prim.Native.Char.{code}
 use Rattle.std.specs.{Prelude.{◌≡◌, ◌≤◌, ◌-◌, ℕ, suc, List, [], ◌∷◌, ◌++◌, length, take, drop, map, Bool, true, false, not, ◌==◌, ◌||◌, ◌&&◌, if◌then◌else◌, Option, Some, None}, List.list_all}
 use Rattle.{mus_units.specs.{declared.note.Head.Head, declared.note.Deco.Deco}, abc_lines.specs.declared.fault.FaultKind.TheVariants.{BadByte, Unclosed}}
-use Rattle.abc_notes.specs.{Items.{Inner, Sense, says_note, says_letter, says_name, says_tie, sense, inner_then, has_length, StandsInside, InnerParts, InnerFlawed, name_at, inner_at}, declared.part.{Flaw.Flaw, Len.Len}, Runs.span_all, Lengths.{LengthForm, length_then, IsLength, length_at}, Decorations.{deco_of_letter, deco_of_name}, Parts.{HasNone, Leads, walk, is_done, spelled_then, later_or}}
+use Rattle.abc_notes.specs.{Items.{Inner, Sense, says_note, says_letter, says_name, says_tie, sense, inner_then, has_length, StandsInside, InnerParts, InnerFlawed, name_at, inner_at}, declared.part.{Flaw.Flaw, Len.Len}, Runs.span_all, Lengths.{LengthForm, length_then, IsWrittenLength, length_from}, Decorations.{deco_of_letter, deco_of_name}, Parts.{HasNone, LeadsByParts, walk, is_done, spelled_then, later_or}}
 
 pub record ChordForm : Type 0 where
   pub inside : List ℕ
@@ -16,9 +16,9 @@ is_inside byte = not (byte == code "]")
 abbrev pub is_bracket : ℕ → Bool
 is_bracket byte = byte == code "]"
 
-abbrev pub has_head : List Inner → Bool
-has_head [] = false
-has_head (part ∷ more) = has_length part || has_head more
+abbrev pub has_inner_head : List Inner → Bool
+has_inner_head [] = false
+has_inner_head (part ∷ more) = has_length part || has_inner_head more
 
 -- what stands behind the opening bracket, and what follows the chord
 abbrev pub chord_then : ChordForm → List ℕ → List ℕ
@@ -26,8 +26,8 @@ chord_then f rest = f.inside ++ (code "]" ∷ length_then f.length rest)
 
 pub record IsChord (bang : Bool) (f : ChordForm) : Type 0 where
   pub parts : InnerParts bang f.inside f.parts
-  pub head : has_head f.parts ≡ true
-  pub length : IsLength f.length
+  pub head : has_inner_head f.parts ≡ true
+  pub length : IsWrittenLength f.length
 
 -- a head is tied where a tie stands behind it before the next head
 abbrev pub is_tied : List Sense → Bool
@@ -55,14 +55,14 @@ decos_of (part ∷ more) = deco_of part ++ decos_of more
 
 -- the parts behind an opening bracket as the line goes on, each as long as it can be
 abbrev pub InnerLeads : Bool → List ℕ → List Inner → List ℕ → Type 0
-InnerLeads bang text parts rest = Leads Inner (StandsInside bang) text parts rest
+InnerLeads bang text parts rest = LeadsByParts Inner (StandsInside bang) text parts rest
 
 -- the fault behind an opening bracket, where no chord stands: no closing bracket follows, or parts alone follow up to the end; or the parts
 -- have no head up to a closing bracket; or the first fault of the parts, which stop at another byte
 pub data ChordFault (bang : Bool) : List ℕ → Flaw → Type 0 where
   chord_unclosed : (text : List ℕ) → list_all is_inside text ≡ true → ChordFault bang text (record { kind = Unclosed; left = suc (length text) })
   chord_open : (text : List ℕ) (parts : List Inner) → InnerLeads bang text parts [] → ChordFault bang text (record { kind = Unclosed; left = suc (length text) })
-  chord_headless : (text : List ℕ) (parts : List Inner) (rest : List ℕ) → InnerLeads bang text parts (code "]" ∷ rest) → has_head parts ≡ false →
+  chord_headless : (text : List ℕ) (parts : List Inner) (rest : List ℕ) → InnerLeads bang text parts (code "]" ∷ rest) → has_inner_head parts ≡ false →
       ChordFault bang text (record { kind = BadByte; left = suc (length text) })
   chord_flawed : (text : List ℕ) (parts : List Inner) (byte : ℕ) (rest : List ℕ) (flaw : Flaw) → list_all is_inside text ≡ false → InnerLeads bang text parts (byte ∷ rest) →
       HasNone Inner (StandsInside bang) (byte ∷ rest) → (byte == code "]") ≡ false →
@@ -79,7 +79,7 @@ bracket_here head (byte ∷ rest) = if byte == code "]" && head then Some (byte 
 abbrev pub bracket_in : Bool → Bool → List ℕ → Option (List ℕ × List ℕ) → Option (List ℕ)
 bracket_in bang head text None = None
 bracket_in bang head text (Some named) =
-    let inside = span_all is_inside named.0 in let w = walk (inner_at bang) inside.0 in if not (length inside.1 == 0) && (is_done w && (head || has_head w.0)) then Some (drop (length inside.0) text) else None
+    let inside = span_all is_inside named.0 in let w = walk (inner_at bang) inside.0 in if not (length inside.1 == 0) && (is_done w && (head || has_inner_head w.0)) then Some (drop (length inside.0) text) else None
 
 -- the bracket that closes a chord where the exclamation mark in front begins no name
 unfoldable pub bracket_in_name : Bool → Bool → List ℕ → Option (List ℕ)
@@ -98,7 +98,7 @@ abbrev pub chord_from : Bool → List ℕ → Option (List ℕ) → Option (Chor
 chord_from bang text None = None
 chord_from bang text (Some []) = None
 chord_from bang text (Some (bracket ∷ rest)) =
-    let inside = take (length text - suc (length rest)) text in let len = length_at rest in Some (record { inside = inside; parts = (walk (inner_at bang) inside).0; length = len.0 }, len.1)
+    let inside = take (length text - suc (length rest)) text in let len = length_from rest in Some (record { inside = inside; parts = (walk (inner_at bang) inside).0; length = len.0 }, len.1)
 
 unfoldable pub chord_at : Bool → List ℕ → Option (ChordForm × List ℕ)
 chord_at bang text = chord_from bang text (bracket_at bang text)

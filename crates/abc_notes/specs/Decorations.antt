@@ -19,12 +19,12 @@ deco_of_letter byte =
 abbrev pub is_name_byte : ℕ → Bool
 is_name_byte byte = not (one_of (codes "! \t|") byte)
 
-abbrev pub is_text : List ℕ → List ℕ → Bool
-is_text name word = pointwise nat_eq name word
+abbrev pub is_named : List ℕ → List ℕ → Bool
+is_named name word = pointwise nat_eq name word
 
 abbrev pub is_one_of : List (List ℕ) → List ℕ → Bool
 is_one_of [] name = false
-is_one_of (word ∷ words) name = is_text name word || is_one_of words name
+is_one_of (word ∷ words) name = is_named name word || is_one_of words name
 
 unfoldable pub is_accent : List ℕ → Bool
 is_accent name = is_one_of (codes "accent" ∷ codes "emphasis" ∷ codes ">" ∷ []) name
@@ -40,16 +40,16 @@ deco_of_text name = if is_dynamic name then Below name else (if is_finger name t
 
 unfoldable pub deco_of_name : List ℕ → Deco
 deco_of_name name =
-    if is_text name (codes "staccato") then Ks
-    else (if is_text name (codes "roll") then Kr
-    else (if is_text name (codes "fermata") then Kf
+    if is_named name (codes "staccato") then Ks
+    else (if is_named name (codes "roll") then Kr
+    else (if is_named name (codes "fermata") then Kf
     else (if is_accent name then Ka
     else (if is_one_of (codes "lowermordent" ∷ codes "mordent" ∷ []) name then Km
-    else (if is_text name (codes "coda") then Kc
+    else (if is_named name (codes "coda") then Kc
     else (if is_one_of (codes "uppermordent" ∷ codes "pralltriller" ∷ []) name then Kp
-    else (if is_text name (codes "segno") then Kg
-    else (if is_text name (codes "trill") then Kt
-    else (if is_text name (codes "upbow") then Ku
-    else (if is_text name (codes "downbow") then Kd
-    else (if is_text name (codes "tenuto") then Kn
+    else (if is_named name (codes "segno") then Kg
+    else (if is_named name (codes "trill") then Kt
+    else (if is_named name (codes "upbow") then Ku
+    else (if is_named name (codes "downbow") then Kd
+    else (if is_named name (codes "tenuto") then Kn
     else deco_of_text name)))))))))))

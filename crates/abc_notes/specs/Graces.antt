@@ -3,7 +3,7 @@
 use Prim.Native.Char.{code}
 use Rattle.std.specs.{Prelude.{◌≡◌, ◌≤◌, ◌<◌, ◌-◌, ℕ, zero, suc, List, [], ◌∷◌, ◌++◌, length, take, drop, map, Bool, true, false, not, ◌==◌, ◌&&◌, if◌then◌else◌, Option, Some, None, option_map, MatchBool}, List.list_all}
 use Rattle.{mus_units.specs.declared.note.Head.{Head}, abc_lines.specs.declared.fault.FaultKind.TheVariants.{Unclosed}}
-use Rattle.abc_notes.specs.{Items.{Inner, Sense, says_note, sense, inner_then, IsInner, has_length, name_at, inner_at, IsBadByte, sense_of, is_note}, declared.part.{Flaw.Flaw, GraceChord.GraceChord, GraceItem.GraceItem}, Runs.{maybe, skip, span_all, begins}, Chords.{ChordForm, chord_then, IsChord, ChordFault, chord_at, senses}, Lengths.length_at, Parts.{Parts, Leads, Flawed, IsFlaw, goes_on_length, walk, is_done}}
+use Rattle.abc_notes.specs.{Items.{Inner, Sense, says_note, sense, inner_then, IsInner, has_length, name_at, inner_at, IsBadByte, sense_of, is_inner_note}, declared.part.{Flaw.Flaw, GraceChord.GraceChord, GracePiece.GracePiece}, Runs.{maybe, skip, span_all, begins}, Chords.{ChordForm, chord_then, IsChord, ChordFault, chord_at, senses}, Lengths.length_from, Parts.{Parts, LeadsByParts, Flawed, IsFlaw, goes_on_length, walk, is_done}}
 
 pub data GracePart : Type 0 where
   single : Inner → GracePart
@@ -75,7 +75,7 @@ GraceFlawed bang before text flaw = Flawed GracePart (StandsInGrace bang) part_h
 
 -- the parts behind an opening brace and its slash as the line goes on, each as long as it can be
 abbrev pub GraceLeads : Bool → List ℕ → List GracePart → List ℕ → Type 0
-GraceLeads bang text parts rest = Leads GracePart (StandsInGrace bang) text parts rest
+GraceLeads bang text parts rest = LeadsByParts GracePart (StandsInGrace bang) text parts rest
 
 -- the slash behind an opening brace, if one stands there
 pub record HasSlash (text : List ℕ) (slash : Bool) (behind : List ℕ) : Type 0 where
@@ -139,7 +139,7 @@ brace_in_chord bang inside = brace_at bang (code "[" ∷ inside)
 -- behind a chord, which is given from its closing bracket on
 abbrev pub brace_behind : Bool → List ℕ → Option (List ℕ)
 brace_behind bang [] = None
-brace_behind bang (bracket ∷ rest) = brace_at bang (length_at rest).1
+brace_behind bang (bracket ∷ rest) = brace_at bang (length_from rest).1
 
 -- behind the chord that ends at the bracket, up to the closing byte of a longer one
 abbrev pub brace_between : Bool → Option (List ℕ) → Option (List ℕ) → Option (List ℕ)
@@ -178,26 +178,26 @@ abbrev pub inside_of_part : GracePart → Option (List ℕ)
 inside_of_part (single part) = None
 inside_of_part (chorded f) = Some f.inside
 
-abbrev pub inside_of_item : GraceItem → Option (List ℕ)
-inside_of_item (GraceItem.Part part) = None
-inside_of_item (GraceItem.Chord inside) = Some inside.now
+abbrev pub inside_of_item : GracePiece → Option (List ℕ)
+inside_of_item (GracePiece.Part part) = None
+inside_of_item (GracePiece.Chord inside) = Some inside.now
 
 -- a part that the code has read off a text
-abbrev pub IsItemAt : Bool → GraceItem → List ℕ → Type 0
-IsItemAt bang (GraceItem.Part part) text = Unit {0}
-IsItemAt bang (GraceItem.Chord inside) text = (length inside.now < length text) × (is_done (walk (inner_at bang) inside.now) ≡ true) × (text ≡ (code "[" ∷ inside.now) ++ drop (suc (length inside.now)) text)
+abbrev pub IsItemAt : Bool → GracePiece → List ℕ → Type 0
+IsItemAt bang (GracePiece.Part part) text = Unit {0}
+IsItemAt bang (GracePiece.Chord inside) text = (length inside.now < length text) × (is_done (walk (inner_at bang) inside.now) ≡ true) × (text ≡ (code "[" ∷ inside.now) ++ drop (suc (length inside.now)) text)
 
-abbrev pub brace_in_item : Bool → GraceItem → List ℕ → Option (List ℕ)
-brace_in_item bang (GraceItem.Part part) text = brace_in_name bang text
-brace_in_item bang (GraceItem.Chord inside) text = option_map (λ brace. brace ++ drop (suc (length inside.now)) text) (brace_in_chord bang inside.now)
+abbrev pub brace_in_item : Bool → GracePiece → List ℕ → Option (List ℕ)
+brace_in_item bang (GracePiece.Part part) text = brace_in_name bang text
+brace_in_item bang (GracePiece.Chord inside) text = option_map (λ brace. brace ++ drop (suc (length inside.now)) text) (brace_in_chord bang inside.now)
 
-abbrev pub body_of_item : Bool → GraceItem → List GraceChord
-body_of_item bang (GraceItem.Part part) = body_of_sense (sense_of part)
-body_of_item bang (GraceItem.Chord inside) = record { heads = heads_in (senses bang inside.now) } ∷ []
+abbrev pub body_of_item : Bool → GracePiece → List GraceChord
+body_of_item bang (GracePiece.Part part) = body_of_sense (sense_of part)
+body_of_item bang (GracePiece.Chord inside) = record { heads = heads_in (senses bang inside.now) } ∷ []
 
-abbrev pub item_has_length : GraceItem → Bool
-item_has_length (GraceItem.Part part) = is_note (sense_of part)
-item_has_length (GraceItem.Chord inside) = true
+abbrev pub item_has_length : GracePiece → Bool
+item_has_length (GracePiece.Part part) = is_inner_note (sense_of part)
+item_has_length (GracePiece.Chord inside) = true
 
 abbrev pub body_inside : Bool → List ℕ → List GraceChord
 body_inside bang inside = body_of (walk (grace_part_at bang) inside).0
@@ -215,9 +215,9 @@ IsPartFlaw bang before [] flaw = ⊥
 IsPartFlaw bang before (byte ∷ rest) flaw = IsFlaw (IsGraceOwn bang) before byte rest flaw
 
 -- the text of a chord that is a part has at most so many bytes
-abbrev pub item_within : GraceItem → ℕ → Type 0
-item_within (GraceItem.Part part) most = Unit {0}
-item_within (GraceItem.Chord inside) most = length inside.now ≤ most
+abbrev pub item_within : GracePiece → ℕ → Type 0
+item_within (GracePiece.Part part) most = Unit {0}
+item_within (GracePiece.Chord inside) most = length inside.now ≤ most
 
 abbrev pub goes_on_first : List ℕ → Bool
 goes_on_first [] = false

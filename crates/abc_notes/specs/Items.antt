@@ -3,7 +3,7 @@
 use Prim.Native.Char.{code}
 use Rattle.std.specs.{Prelude.{◌≡◌, ◌≤◌, ℕ, List, [], ◌∷◌, ◌++◌, length, Bool, true, false, ◌==◌, ◌||◌, if◌then◌else◌, Option, Some, None, option_map, codes}, List.list_all}
 use Rattle.{mus_units.specs.declared.note.Head.{Head}, abc_lines.specs.declared.fault.FaultKind.TheVariants.{BadByte, BadLength}}
-use Rattle.abc_notes.specs.{declared.part.{Flaw.Flaw, Len.Len, Item.Item, ItemClass.ItemClass}, Runs.{maybe, one_of, is_note_letter, span_all}, Lengths.len_of, Notes.{NoteForm, note_then, IsNote, head_of, note_at}, Decorations.{is_deco_letter, is_name_byte}, Parts.{Parts, Flawed, goes_on_length}}
+use Rattle.abc_notes.specs.{declared.part.{Flaw.Flaw, Len.Len, InnerPiece.InnerPiece, ItemClass.ItemClass}, Runs.{maybe, one_of, is_note_letter, span_all}, Lengths.len_of, Notes.{NoteForm, note_then, IsNote, head_of, note_at}, Decorations.{is_deco_letter, is_name_byte}, Parts.{Parts, Flawed, goes_on_length}}
 
 pub data Inner : Type 0 where
   note_inside : NoteForm → Inner
@@ -66,12 +66,12 @@ sense slur_inside = says_nothing
 sense (passed_inside byte) = says_nothing
 sense lone_inside = says_nothing
 
-abbrev pub is_note : Sense → Bool
-is_note (says_note head len) = true
-is_note _ = false
+abbrev pub is_inner_note : Sense → Bool
+is_inner_note (says_note head len) = true
+is_inner_note _ = false
 
 abbrev pub has_length : Inner → Bool
-has_length part = is_note (sense part)
+has_length part = is_inner_note (sense part)
 
 -- a byte at which no part stands
 abbrev pub IsBadByte : List ℕ → Flaw → Type 0
@@ -137,12 +137,12 @@ inner_at bang [] = None
 inner_at bang (byte ∷ rest) = inner_by_class (item_class byte) bang byte rest
 
 -- what the code has read of a part
-abbrev pub sense_of : Item → Sense
-sense_of (Item.Note head len) = says_note head len
-sense_of (Item.Letter byte) = says_letter byte
-sense_of (Item.Named name) = says_name name.now
-sense_of Item.Tie = says_tie
-sense_of Item.Passed = says_nothing
+abbrev pub sense_of : InnerPiece → Sense
+sense_of (InnerPiece.Note head len) = says_note head len
+sense_of (InnerPiece.Letter byte) = says_letter byte
+sense_of (InnerPiece.Named name) = says_name name.now
+sense_of InnerPiece.Tie = says_tie
+sense_of InnerPiece.Passed = says_nothing
 
 abbrev pub sensed : Sense → List ℕ → Sense × List ℕ
 sensed part rest = (part, rest)

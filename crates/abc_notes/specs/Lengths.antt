@@ -6,7 +6,7 @@ use Rattle.std.specs.{Prelude.{◌≡◌, ℕ, zero, suc, ◌≤◌, ◌^◌, Li
 use Rattle.{abc_notes.specs.{declared.part.Len.Len, Runs.copies, Runs.span, Runs.begins}, mus_units.specs.Bytes.{is_digit}}
 
 -- the digits of a number: at least one, at most `most`, and no zero in front
-pub record IsNumber (most : ℕ) (ds : List ℕ) : Type 0 where
+pub record AreNumberDigits (most : ℕ) (ds : List ℕ) : Type 0 where
   pub some : 1 ≤ length ds
   pub few : length ds ≤ most
   pub digits : list_all is_digit ds ≡ true
@@ -15,7 +15,7 @@ pub record IsNumber (most : ℕ) (ds : List ℕ) : Type 0 where
 -- a number or none
 abbrev pub IsCount : ℕ → List ℕ → Type 0
 IsCount most [] = Unit {0}
-IsCount most (d ∷ ds) = IsNumber most (d ∷ ds)
+IsCount most (d ∷ ds) = AreNumberDigits most (d ∷ ds)
 
 abbrev pub count_of : List ℕ → ℕ
 count_of [] = 1
@@ -33,10 +33,10 @@ length_then (whole count) rest = count ++ rest
 length_then (over count below) rest = count ++ (code "/" ∷ (below ++ rest))
 length_then (halved count slashes) rest = count ++ copies slashes (code "/") rest
 
-abbrev pub IsLength : LengthForm → Type 0
-IsLength (whole count) = IsCount 4 count
-IsLength (over count below) = IsCount 4 count × IsNumber 4 below
-IsLength (halved count slashes) = IsCount 4 count × (1 ≤ slashes) × (slashes ≤ 6)
+abbrev pub IsWrittenLength : LengthForm → Type 0
+IsWrittenLength (whole count) = IsCount 4 count
+IsWrittenLength (over count below) = IsCount 4 count × AreNumberDigits 4 below
+IsWrittenLength (halved count slashes) = IsCount 4 count × (1 ≤ slashes) × (slashes ≤ 6)
 
 abbrev pub len_of : LengthForm → Len
 len_of (whole count) = record { num = count_of count; den = 1 }
@@ -57,8 +57,8 @@ below_at count (_ ∷ [], rest) ([], _) = (halved count 1, rest)
 below_at count (_ ∷ [], rest) (d ∷ ds, after) = (over count (d ∷ ds), after)
 below_at count (x ∷ y ∷ ys, rest) below = (halved count (length (x ∷ y ∷ ys)), rest)
 
-unfoldable pub length_at : List ℕ → LengthForm × List ℕ
-length_at s = let count = number_at 4 s in let slashes = span is_slash 6 count.1 in below_at count.0 slashes (number_at 4 slashes.1)
+unfoldable pub length_from : List ℕ → LengthForm × List ℕ
+length_from s = let count = number_at 4 s in let slashes = span is_slash 6 count.1 in below_at count.0 slashes (number_at 4 slashes.1)
 
 abbrev pub length_read : Len → List ℕ → Len × List ℕ
 length_read len rest = (len, rest)

@@ -3,7 +3,7 @@
 use Prim.Native.Char.{code}
 use Rattle.std.specs.{Prelude.{◌≡◌, ℕ, ℤ, pos, ◌+ℤ◌, ◌-ℤ◌, List, [], ◌∷◌, ◌++◌, Bool, true, false, ◌==◌, if◌then◌else◌, Option, Some, None, count_by}, List.list_all}
 use Rattle.mus_units.specs.declared.{pitch.{Alter.{Alter, TheVariants.{Flat2, Flat, Natural, Sharp, Sharp2}}, Letter.{Letter, TheVariants.{C, D, E, F, G, A, B}}}, note.Head.Head}
-use Rattle.abc_notes.specs.{declared.part.Len.Len, Runs.skip, Runs.span_all, Runs.is_mark, Lengths.LengthForm, Lengths.length_then, Lengths.IsLength, Lengths.length_at}
+use Rattle.abc_notes.specs.{declared.part.Len.Len, Runs.skip, Runs.span_all, Runs.is_mark, Lengths.LengthForm, Lengths.length_then, Lengths.IsWrittenLength, Lengths.length_from}
 
 pub record NoteForm : Type 0 where
   pub sign : Option Alter
@@ -44,7 +44,7 @@ note_then f rest = sign_then f.sign (letter_byte f.low f.letter ∷ (f.marks ++ 
 
 pub record IsNote (f : NoteForm) : Type 0 where
   pub marks : list_all is_mark f.marks ≡ true
-  pub length : IsLength f.length
+  pub length : IsWrittenLength f.length
 
 -- `C` is in octave 4 and `c` in octave 5, and each mark counts one up or down
 abbrev pub octave_of : Bool → List ℕ → ℤ
@@ -85,7 +85,7 @@ letter_at b = either_letter (upper_at b) (lower_at b)
 -- what stands behind the sign and the letter
 abbrev pub note_from : Option Alter → Option (Bool × Letter) → List ℕ → Option (NoteForm × List ℕ)
 note_from sign None rest = None
-note_from sign (Some l) rest = let marks = span_all is_mark rest in let len = length_at marks.1 in Some (record { sign = sign; low = l.0; letter = l.1; marks = marks.0; length = len.0 }, len.1)
+note_from sign (Some l) rest = let marks = span_all is_mark rest in let len = length_from marks.1 in Some (record { sign = sign; low = l.0; letter = l.1; marks = marks.0; length = len.0 }, len.1)
 
 abbrev pub note_behind : Option Alter → List ℕ → Option (NoteForm × List ℕ)
 note_behind sign [] = None

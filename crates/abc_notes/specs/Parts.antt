@@ -18,9 +18,9 @@ pub data Parts (I : Type 0) (Stands : I → List ℕ → List ℕ → Type 0) : 
   then_part : (text : List ℕ) (part : I) (rest : List ℕ) (more : List I) → IsLongest I Stands text part rest → Parts I Stands rest more → Parts I Stands text (part ∷ more)
 
 -- a text begins with these parts, each as long as it can be, and then comes the rest
-pub data Leads (I : Type 0) (Stands : I → List ℕ → List ℕ → Type 0) : List ℕ → List I → List ℕ → Type 0 where
-  leads_here : (text : List ℕ) → Leads I Stands text [] text
-  leads_on : (text : List ℕ) (part : I) (behind : List ℕ) (more : List I) (rest : List ℕ) → IsLongest I Stands text part behind → Leads I Stands behind more rest → Leads I Stands text (part ∷ more) rest
+pub data LeadsByParts (I : Type 0) (Stands : I → List ℕ → List ℕ → Type 0) : List ℕ → List I → List ℕ → Type 0 where
+  leads_here : (text : List ℕ) → LeadsByParts I Stands text [] text
+  leads_on : (text : List ℕ) (part : I) (behind : List ℕ) (more : List I) (rest : List ℕ) → IsLongest I Stands text part behind → LeadsByParts I Stands behind more rest → LeadsByParts I Stands text (part ∷ more) rest
 
 -- a digit or a slash goes on a length
 abbrev pub goes_on_length : ℕ → Bool

@@ -1,10 +1,10 @@
 ghost use Rattle.std.specs.{Prelude.{◌≡◌, ◌≤◌, ◌+◌, ◌^◌, ◌++◌, ◌||◌, ◌&&◌, ◌-◌, not, ◌==◌, map, ℕ, length, option_map, Some, None, true, false, IfOk, IfSome, OnOk, MatchResult, take, drop}, List.prefix_len};
-ghost use Rattle.abc_notes.specs.{Chords.{is_inside, has_head, tied_if, heads_of, decos_of, senses, last_head, tie_last, heads_after, given_head, next_last, deco_of, chord_at, bracket_at, bracket_here, bracket_in, bracket_in_name, is_bracket, chord_shown, ChordFault}, Graces.{heads_in, plain_head}, Items.{InnerFlawed, inner_at, inner_flaw, name_at, sense, sense_of, is_note}, Lengths.len_of, Parts.{walk, is_done, goes_on_length, length_at_place, later_or}, Runs.{span_all, begins}};
+ghost use Rattle.abc_notes.specs.{Chords.{is_inside, has_inner_head, tied_if, heads_of, decos_of, senses, last_head, tie_last, heads_after, given_head, next_last, deco_of, chord_at, bracket_at, bracket_here, bracket_in, bracket_in_name, is_bracket, chord_shown, ChordFault}, Graces.{heads_in, plain_head}, Items.{InnerFlawed, inner_at, inner_flaw, name_at, sense, sense_of, is_inner_note}, Lengths.len_of, Parts.{walk, is_done, goes_on_length, length_at_place, later_or}, Runs.{span_all, begins}};
 
 use crate::decoration::{deco_of_letter, deco_of_name};
 use crate::item::{item_at, name_at};
-use crate::length::length_at;
-use crate::part::{Flaw, Item, Len};
+use crate::length::length_from;
+use crate::part::{Flaw, InnerPiece, Len};
 use abc_lines::FaultKind;
 use mus_units::bytes::is_digit;
 use mus_units::{Deco, Head, Memory, Row};
@@ -13,7 +13,7 @@ use std::alloc::Global;
 /// Whether the inside of a chord has a head, or its first fault.
 pub fn inside_state(bang: bool, inside: &[u8]) -> Result<bool, Flaw>
     requires { length inside.now ≤ 2 ^ 30 }
-    ensures { MatchResult result (λ head. (is_done (walk (inner_at bang) inside.now) ≡ true) × (head ≡ has_head (walk (inner_at bang) inside.now).0)) (λ flaw. (is_done (walk (inner_at bang) inside.now) ≡ false) × InnerFlawed bang None inside.now flaw × (flaw.left ≤ length inside.now)) }
+    ensures { MatchResult result (λ head. (is_done (walk (inner_at bang) inside.now) ≡ true) × (head ≡ has_inner_head (walk (inner_at bang) inside.now).0)) (λ flaw. (is_done (walk (inner_at bang) inside.now) ≡ false) × InnerFlawed bang None inside.now flaw × (flaw.left ≤ length inside.now)) }
 {
     let mut rest = inside;
     let mut before = None;
@@ -23,7 +23,7 @@ pub fn inside_state(bang: bool, inside: &[u8]) -> Result<bool, Flaw>
         let Some((item, behind)) = item_at(bang, rest) else {
             return Err(inner_flaw(before, *byte, here));
         };
-        let note = is_note(item);
+        let note = is_inner_note(item);
         head = either(head, note);
         before = place_if(note, here);
         rest = behind;
@@ -46,11 +46,11 @@ pub fn place_if(lengthy: bool, here: usize) -> Option<usize>
 }
 
 /// Whether the piece is a note.
-pub fn is_note(item: Item<'_>) -> bool
-    ensures { result ≡ is_note (sense_of item.entry) }
+pub fn is_inner_note(item: InnerPiece<'_>) -> bool
+    ensures { result ≡ is_inner_note (sense_of item.entry) }
 {
     match item {
-        Item::Note { .. } => true,
+        InnerPiece::Note { .. } => true,
         _ => false,
     }
 }
@@ -124,11 +124,11 @@ pub fn read_plain_heads(alloc: Global, bang: bool, inside: &[u8]) -> Result<Row<
     Ok(heads)
 }
 
-fn add_plain_head(heads: &mut Row<Head>, item: Item<'_>) -> Result<(), Memory>
+fn add_plain_head(heads: &mut Row<Head>, item: InnerPiece<'_>) -> Result<(), Memory>
     ensures { OnOk result (heads.new ≡ heads.old ++ plain_head (sense_of item.entry)) }
 {
     match item {
-        Item::Note { head, .. } => heads.push(head),
+        InnerPiece::Note { head, .. } => heads.push(head),
         _ => Ok(()),
     }
 }
@@ -138,18 +138,18 @@ fn add_plain_head(heads: &mut Row<Head>, item: Item<'_>) -> Result<(), Memory>
 fn add_head(
     heads: &mut Row<(Head, Len)>,
     last: Option<(Head, Len)>,
-    item: Item<'_>,
+    item: InnerPiece<'_>,
 ) -> Result<Option<(Head, Len)>, Memory>
     ensures heads { OnOk result (heads.new ≡ heads.old ++ given_head last (sense_of item.entry)) }
     ensures last { IfOk result (λ it. it ≡ next_last last (sense_of item.entry)) }
 {
     match item {
-        Item::Note { head, len } => {
+        InnerPiece::Note { head, len } => {
             add_last(heads, last)?;
             Ok(Some((tied_if(false, head), len)))
         }
-        Item::Tie => Ok(tie_last(last)),
-        Item::Letter(_) | Item::Named(_) | Item::Passed => Ok(last),
+        InnerPiece::Tie => Ok(tie_last(last)),
+        InnerPiece::Letter(_) | InnerPiece::Named(_) | InnerPiece::Passed => Ok(last),
     }
 }
 
@@ -195,13 +195,13 @@ pub fn read_decos(alloc: Global, bang: bool, inside: &[u8]) -> Result<Row<Deco>,
     Ok(decos)
 }
 
-fn add_deco(alloc: Global, decos: &mut Row<Deco>, item: Item<'_>) -> Result<(), Memory>
+fn add_deco(alloc: Global, decos: &mut Row<Deco>, item: InnerPiece<'_>) -> Result<(), Memory>
     ensures { OnOk result (decos.new ≡ decos.old ++ deco_of (sense_of item.entry)) }
 {
     match item {
-        Item::Letter(byte) => decos.push(deco_of_letter(byte)),
-        Item::Named(name) => decos.push(deco_of_name(alloc, name)?),
-        Item::Note { .. } | Item::Tie | Item::Passed => Ok(()),
+        InnerPiece::Letter(byte) => decos.push(deco_of_letter(byte)),
+        InnerPiece::Named(name) => decos.push(deco_of_name(alloc, name)?),
+        InnerPiece::Note { .. } | InnerPiece::Tie | InnerPiece::Passed => Ok(()),
     }
 }
 
@@ -223,7 +223,7 @@ pub fn chord_at(bang: bool, bytes: &[u8]) -> Option<Chord<'_>>
     let closing = bracket_at(bang, bytes)?;
     let (_, rest) = closing.split_first()?;
     let (inside, _) = bytes.split_at(bytes.len() - closing.len());
-    let (len, rest) = length_at(rest);
+    let (len, rest) = length_from(rest);
     Some(Chord { inside, len, rest })
 }
 
@@ -238,7 +238,7 @@ fn bracket_at(bang: bool, bytes: &[u8]) -> Option<&[u8]>
     let mut last = None;
     'parts: while let Some((item, behind)) = item_at(bang, rest) {
         last = later_or(bracket_in_name(bang, head, rest), last);
-        head = either(head, is_note(item));
+        head = either(head, is_inner_note(item));
         rest = behind;
     }
     later_or(bracket_here(head, rest), last)
@@ -291,7 +291,7 @@ fn bracket_in(bang: bool, head: bool, bytes: &[u8]) -> Option<&[u8]>
 
 fn is_good_inside(bang: bool, head: bool, inside: &[u8]) -> bool
     requires { length inside.now ≤ 2 ^ 30 }
-    ensures { let w = walk (inner_at bang) inside.now in result ≡ (is_done w && (head || has_head w.0)) }
+    ensures { let w = walk (inner_at bang) inside.now in result ≡ (is_done w && (head || has_inner_head w.0)) }
 {
     match inside_state(bang, inside) {
         Ok(note) => head || note,

@@ -1,5 +1,5 @@
 ghost use Rattle.std.specs.Prelude.{◌≡◌, IfOk};
-ghost use Rattle.abc_notes.specs.Decorations.{deco_of_letter, deco_of_name, is_text, deco_of_text, is_accent, is_dynamic, is_finger};
+ghost use Rattle.abc_notes.specs.Decorations.{deco_of_letter, deco_of_name, is_named, deco_of_text, is_accent, is_dynamic, is_finger};
 
 use mus_units::{Deco, Memory, Text};
 use std::alloc::Global;
@@ -106,7 +106,7 @@ fn is_finger(name: &[u8]) -> bool
 }
 
 fn is_word(name: &[u8], word: &[u8]) -> bool
-    ensures { result ≡ is_text name.now word.now }
+    ensures { result ≡ is_named name.now word.now }
 {
     name == word
 }

@@ -3,19 +3,19 @@ ghost use Rattle.abc_notes.specs.{Graces.{body_of_part, body_of_sense, body_of, 
 
 use crate::bytes::skip;
 use crate::chord::{
-    bracket_in_name, chord_at, chord_fault, either, goes_on_length, is_note, later_or, place_if,
+    bracket_in_name, chord_at, chord_fault, either, goes_on_length, is_inner_note, later_or, place_if,
     read_plain_heads,
 };
 use crate::item::{item_at, name_at};
-use crate::length::length_at;
-use crate::part::{Flaw, GraceChord, GraceItem, Item};
+use crate::length::length_from;
+use crate::part::{Flaw, GraceChord, GracePiece, InnerPiece};
 use abc_lines::FaultKind;
 use mus_units::{Memory, Row};
 use std::alloc::Global;
 
 /// The part of a grace group at the front, as long as it can be, and what follows it.
 #[tactic(auto, unfolding(crate::specs::Graces::grace_part_at))]
-pub fn grace_part_at(bang: bool, bytes: &[u8]) -> Option<(GraceItem<'_>, &[u8])>
+pub fn grace_part_at(bang: bool, bytes: &[u8]) -> Option<(GracePiece<'_>, &[u8])>
     requires { length bytes.now ≤ 2 ^ 30 }
     ensures read { option_map (λ x. bodied (body_of_item bang x.0) (item_has_length x.0) (inside_of_item x.0) x.1.now) result ≡ option_map (λ z. bodied (body_of_part z.0) (part_has_length z.0) (inside_of_part z.0) z.1) (grace_part_at bang bytes.now) }
     ensures within { IfSome result (λ x. item_within x.0 (length bytes.now)) }
@@ -23,10 +23,10 @@ pub fn grace_part_at(bang: bool, bytes: &[u8]) -> Option<(GraceItem<'_>, &[u8])>
     let (first, rest) = bytes.split_first()?;
     if *first == b'[' {
         let chord = chord_at(bang, rest)?;
-        Some((GraceItem::Chord(chord.inside), chord.rest))
+        Some((GracePiece::Chord(chord.inside), chord.rest))
     } else {
         let (item, rest) = item_at(bang, bytes)?;
-        Some((GraceItem::Part(item), rest))
+        Some((GracePiece::Part(item), rest))
     }
 }
 
@@ -48,13 +48,13 @@ fn grace_state(bang: bool, inside: &[u8]) -> Option<Flaw>
     None
 }
 
-fn has_length(part: GraceItem<'_>) -> bool
+fn has_length(part: GracePiece<'_>) -> bool
     ensures { result ≡ item_has_length part.entry }
 {
     match part {
-        GraceItem::Part(Item::Note { .. }) => true,
-        GraceItem::Part(_) => false,
-        GraceItem::Chord(_) => true,
+        GracePiece::Part(InnerPiece::Note { .. }) => true,
+        GracePiece::Part(_) => false,
+        GracePiece::Chord(_) => true,
     }
 }
 
@@ -144,14 +144,14 @@ fn brace_at(bang: bool, bytes: &[u8]) -> Option<&[u8]>
 
 /// The last closing brace within the part in front at which a group may end.
 #[cycle(braces)]
-fn brace_in_part<'a>(bang: bool, part: GraceItem<'a>, bytes: &'a [u8]) -> Option<&'a [u8]>
+fn brace_in_part<'a>(bang: bool, part: GracePiece<'a>, bytes: &'a [u8]) -> Option<&'a [u8]>
     requires small { length bytes.now ≤ 2 ^ 30 }
     requires chord { IsItemAt bang part bytes.now }
     ensures { option_map (λ x. x.now) result ≡ brace_in_item bang part.entry bytes.now }
 {
     match part {
-        GraceItem::Part(_) => brace_in_name(bang, bytes),
-        GraceItem::Chord(inside) => {
+        GracePiece::Part(_) => brace_in_name(bang, bytes),
+        GracePiece::Chord(inside) => {
             let brace = brace_in_chord(bang, inside)?;
             Some(bytes.split_at(inside.len() + 1 - brace.len()).1)
         }
@@ -190,7 +190,7 @@ fn brace_behind_chords(bang: bool, inside: &[u8]) -> Option<&[u8]>
         let closing = bracket_in_name(bang, head, rest);
         last = later_or(brace_between(bang, bracket, closing), last);
         bracket = later_or(closing, bracket);
-        head = either(head, is_note(item));
+        head = either(head, is_inner_note(item));
         rest = behind;
     }
     later_or(brace_between(bang, bracket, Some(rest)), last)
@@ -221,7 +221,7 @@ fn brace_past<'a>(bang: bool, bracket: &'a [u8], closing: &'a [u8]) -> Option<&'
 {
     let (chord, _) = bracket.split_at(bracket.len() - closing.len());
     let (_, behind) = chord.split_first()?;
-    let brace = brace_at(bang, length_at(behind).1)?;
+    let brace = brace_at(bang, length_from(behind).1)?;
     Some(bracket.split_at(chord.len() - brace.len()).1)
 }
 
@@ -328,25 +328,25 @@ fn add_part(
     alloc: Global,
     body: &mut Row<GraceChord>,
     bang: bool,
-    part: GraceItem<'_>,
+    part: GracePiece<'_>,
 ) -> Result<(), Memory>
     requires { item_within part (2 ^ 30) }
     ensures { OnOk result (body.new ≡ body.old ++ body_of_item bang part.entry) }
 {
     match part {
-        GraceItem::Part(item) => add_single(alloc, body, item),
-        GraceItem::Chord(inside) => {
+        GracePiece::Part(item) => add_single(alloc, body, item),
+        GracePiece::Chord(inside) => {
             let heads = read_plain_heads(alloc, bang, inside)?;
             body.push(GraceChord { heads })
         }
     }
 }
 
-fn add_single(alloc: Global, body: &mut Row<GraceChord>, item: Item<'_>) -> Result<(), Memory>
+fn add_single(alloc: Global, body: &mut Row<GraceChord>, item: InnerPiece<'_>) -> Result<(), Memory>
     ensures { OnOk result (body.new ≡ body.old ++ body_of_sense (sense_of item.entry)) }
 {
     match item {
-        Item::Note { head, .. } => {
+        InnerPiece::Note { head, .. } => {
             let heads = Row::from_slice(alloc, &[head])?;
             body.push(GraceChord { heads })
         }

@@ -2,12 +2,12 @@ ghost use Rattle.std.specs.{Prelude.◌≡◌, Prelude.◌≤◌, Prelude.◌^�
 ghost use Rattle.abc_notes.specs.{Decorations.{is_deco_letter, is_name_byte}, Items.{is_passed_inside, is_note_byte, item_class, name_at, closed_name, inner_at, sense, sense_of, sensed, dot_inside, named_or}, Runs.{span_all, is_note_letter}};
 
 use crate::note::note_at;
-use crate::part::{Item, ItemClass};
+use crate::part::{InnerPiece, ItemClass};
 
 /// The part of a chord or a grace at the front, as long as it can be, and what
 /// follows it. `bang` says that `!` is a line break.
 #[tactic(auto, unfolding(crate::specs::Items::inner_at))]
-pub fn item_at(bang: bool, bytes: &[u8]) -> Option<(Item<'_>, &[u8])>
+pub fn item_at(bang: bool, bytes: &[u8]) -> Option<(InnerPiece<'_>, &[u8])>
     requires { length bytes.now ≤ 2 ^ 30 }
     ensures { option_map (λ x. sensed (sense_of x.0) x.1.now) result ≡ option_map (λ z. sensed (sense z.0) z.1) (inner_at bang bytes.now) }
 {
@@ -15,40 +15,40 @@ pub fn item_at(bang: bool, bytes: &[u8]) -> Option<(Item<'_>, &[u8])>
     match item_class(*first) {
         ItemClass::Note => {
             let (head, len, rest) = note_at(bytes)?;
-            Some((Item::Note { head, len }, rest))
+            Some((InnerPiece::Note { head, len }, rest))
         }
         ItemClass::Dot => Some(dot_inside(rest)),
-        ItemClass::Letter => Some((Item::Letter(*first), rest)),
-        ItemClass::Tie => Some((Item::Tie, rest)),
-        ItemClass::Passed => Some((Item::Passed, rest)),
+        ItemClass::Letter => Some((InnerPiece::Letter(*first), rest)),
+        ItemClass::Tie => Some((InnerPiece::Tie, rest)),
+        ItemClass::Passed => Some((InnerPiece::Passed, rest)),
         ItemClass::Bang => { if bang { None } else { Some(named_or(rest)) } }
         ItemClass::Nothing => None,
     }
 }
 
-fn dot_inside(bytes: &[u8]) -> (Item<'_>, &[u8])
+fn dot_inside(bytes: &[u8]) -> (InnerPiece<'_>, &[u8])
     ensures { Some (sensed (sense_of result.0) result.1.now) ≡ option_map (λ z. sensed (sense z.0) z.1) (dot_inside bytes.now) }
 {
     match bytes.split_first() {
-        None => (Item::Letter(b'.'), bytes),
+        None => (InnerPiece::Letter(b'.'), bytes),
         Some((first, rest)) => {
             if *first == b'(' {
-                (Item::Passed, rest)
+                (InnerPiece::Passed, rest)
             } else if *first == b'-' {
-                (Item::Tie, rest)
+                (InnerPiece::Tie, rest)
             } else {
-                (Item::Letter(b'.'), bytes)
+                (InnerPiece::Letter(b'.'), bytes)
             }
         }
     }
 }
 
-fn named_or(bytes: &[u8]) -> (Item<'_>, &[u8])
+fn named_or(bytes: &[u8]) -> (InnerPiece<'_>, &[u8])
     ensures { Some (sensed (sense_of result.0) result.1.now) ≡ option_map (λ z. sensed (sense z.0) z.1) (named_or (name_at bytes.now) bytes.now) }
 {
     match name_at(bytes) {
-        Some((name, rest)) => (Item::Named(name), rest),
-        None => (Item::Passed, bytes),
+        Some((name, rest)) => (InnerPiece::Named(name), rest),
+        None => (InnerPiece::Passed, bytes),
     }
 }
 

@@ -1,16 +1,16 @@
 //! The length of a note.
 
 ghost use Rattle.std.specs.{Prelude.◌≡◌, Prelude.ℕ, Prelude.List, Prelude.◌<◌, Prelude.◌≤◌, Prelude.◌^◌, Prelude.length, Prelude.take, Prelude.true, List.prefix_len, List.list_all, Str.Parse.digits_value};
-ghost use Rattle.{mus_units.specs.Bytes.{is_digit}, abc_notes.specs.{Runs.span, Lengths.{IsNumber, IsCount, limit_at, count_of, number_at, length_at, len_of, is_slash, length_read}}};
+ghost use Rattle.{mus_units.specs.Bytes.{is_digit}, abc_notes.specs.{Runs.span, Lengths.{AreNumberDigits, IsCount, limit_at, count_of, number_at, length_from, len_of, is_slash, length_read}}};
 
 use crate::bytes::digits_off;
 use crate::part::Len;
 
 /// A length at the front, which may be empty, and what follows.
 #[inline(always)]
-#[tactic(auto, unfolding(crate::specs::Lengths::length_at))]
-pub fn length_at(bytes: &[u8]) -> (Len, &[u8])
-    ensures { let read = length_at bytes.now in length_read result.0 result.1.now ≡ length_read (len_of read.0) read.1 }
+#[tactic(auto, unfolding(crate::specs::Lengths::length_from))]
+pub fn length_from(bytes: &[u8]) -> (Len, &[u8])
+    ensures { let read = length_from bytes.now in length_read result.0 result.1.now ≡ length_read (len_of read.0) read.1 }
 {
     let (count, rest) = number_at(4, bytes);
     let num = value_of(count);
@@ -82,7 +82,7 @@ pub fn value_of(digits: &[u8]) -> u32
 }
 
 fn number_value(digits: &[u8]) -> u32
-    requires { IsNumber 4 digits.now }
+    requires { AreNumberDigits 4 digits.now }
     ensures value { result ≡ digits_value 10 digits.now }
     ensures small { result < limit_at (length digits.now) }
 {

@@ -4,7 +4,7 @@ ghost use Rattle.std.specs.Prelude.{◌≡◌, ◌≤◌, ◌^◌, length, Some,
 ghost use Rattle.abc_notes.specs.{Runs.is_mark, Lengths.len_of, Notes.sign_at, Notes.letter_at, Notes.octave_of, Notes.note_at, Notes.head_of, Notes.note_read};
 
 use crate::bytes::{marks_off, skip};
-use crate::length::length_at;
+use crate::length::length_from;
 use crate::part::Len;
 use mus_units::{Alter, Head, Letter, Pitch};
 
@@ -20,7 +20,7 @@ pub fn note_at(bytes: &[u8]) -> Option<(Head, Len, &[u8])>
     let (low, letter) = letter_at(*first)?;
     let (marks, rest) = marks_off(rest);
     let octave = octave_of(low, marks);
-    let (len, rest) = length_at(rest);
+    let (len, rest) = length_from(rest);
     let head = Head {
         pitch: Pitch { letter, octave },
         sign,

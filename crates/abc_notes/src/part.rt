@@ -23,7 +23,7 @@ pub struct Flaw {
 
 /// What a piece within a chord or a grace says.
 #[derive(Clone, Copy)]
-pub enum Item<'a> {
+pub enum InnerPiece<'a> {
     Note { head: Head, len: Len },
     Letter(u8),
     Named(&'a [u8]),
@@ -34,8 +34,8 @@ pub enum Item<'a> {
 /// A part of a grace group: as within a chord, or a chord, of which it has the
 /// text between the brackets.
 #[derive(Clone, Copy)]
-pub enum GraceItem<'a> {
-    Part(Item<'a>),
+pub enum GracePiece<'a> {
+    Part(InnerPiece<'a>),
     Chord(&'a [u8]),
 }
 

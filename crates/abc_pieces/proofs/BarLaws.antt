@@ -1,11 +1,11 @@
 -- Reading a bar gives the longest.
 use Rattle.std.proofs.{Common.{◌≡◌, ℕ, zero, suc, ◌+◌, ◌≤◌, ◌<◌, Bool, true, false, cond, eqb, ltb, List, ◌∷◌, length, refl, sym, ap, subst, ◌∙◌, arith, Option, Some, None, ◌⊎◌, inl, inr, add-zero, ◌||◌}, lemmas.Bool.{cond_both, eqb-true, ne_eqb, le-ltb, ltb-false, or_parts}}
 use Rattle.abc_notes.{specs.Runs.{copies, maybe, run_off, skip, begins}, proofs.RunLaws.{Lacks, run_off-takes, skip-takes, run_off-copies, run_off-lacks, skip-lacks, skip-maybe, skip-yes, length-run_off, length-skip, run_off-less, skip-less, begins_wider}}
-use Rattle.abc_pieces.specs.Bars.{BarForm, signs, colons, spelled, IsGood, form_at}
+use Rattle.abc_pieces.specs.Bars.{BarForm, signs, colons, spelled, IsGoodBar, form_at}
 
 -- what is read stands at the front
 pub record Takes (s : List ℕ) (x : BarForm × List ℕ) : Type 0 where
-  pub good : IsGood x.0
+  pub good : IsGoodBar x.0
   pub cut : s ≡ spelled x.0 x.1
 
 abbrev pub TakesIf : List ℕ → Option (BarForm × List ℕ) → Type 0
@@ -120,7 +120,7 @@ colons-reaches m x =
           ]),
     )))
 
-pub form_at-reaches : (f : BarForm) (x : List ℕ) → IsGood f → Reaches f x (form_at (spelled f x))
+pub form_at-reaches : (f : BarForm) (x : List ℕ) → IsGoodBar f → Reaches f x (form_at (spelled f x))
 form_at-reaches (signs d b o zero c a) x good = absurd (omega (arith, good))
 form_at-reaches (signs d b o (suc m) c a) x good = signs-reaches d b o m c a x
 form_at-reaches (colons zero) x good = absurd (omega (arith, good))

@@ -1,31 +1,31 @@
 -- What the class of a byte tells of it, and the class of each first byte.
 use Rattle.std.proofs.{Common.{◌≡◌, ℕ, ◌≤◌, ◌<◌, Bool, true, false, cond, eqb, leb, [], ◌∷◌, refl, subst, arith, inl, inr, ◌||◌, ◌&&◌, not}, lemmas.Bool.{cond_both, eqb-true, leb-true, or_cases, and_parts, both_ways}}
 use Rattle.mus_units.specs.Bytes.{is_digit, is_blank, is_letter}
-use Rattle.abc_pieces.specs.{declared.token.Class.Class, Forms.is_passed, Forms.is_passed_sign, Forms.is_passed_letter, Forms.arrow, Forms.rest_byte, Forms.measures_byte, Reading.class_of}
+use Rattle.abc_pieces.specs.{declared.token.PieceClass.PieceClass, Forms.is_passed, Forms.is_passed_sign, Forms.is_passed_letter, Forms.arrow, Forms.rest_byte, Forms.measures_byte, Reading.class_of}
 use Rattle.abc_notes.{specs.Decorations.is_deco_letter, specs.Items.is_note_byte, proofs.ItemLaws.implied, proofs.ItemLaws.below_all}
 
-abbrev pub Fact : Class → ℕ → Type 0
-Fact Class.Note b = Unit {0}
-Fact Class.Rest b = b ≡ rest_byte (eqb b 122)
-Fact Class.Gap b = b ≡ 121
-Fact Class.Measures b = b ≡ measures_byte (eqb b 90)
-Fact Class.Bar b = Unit {0}
-Fact Class.Dot b = b ≡ 46
-Fact Class.Bracket b = b ≡ 91
-Fact Class.Brace b = b ≡ 123
-Fact Class.Paren b = b ≡ 40
-Fact Class.Close b = b ≡ 41
-Fact Class.Tie b = b ≡ 45
-Fact Class.Digit b = is_digit b ≡ true
-Fact Class.Broken b = b ≡ arrow (eqb b 62)
-Fact Class.Quote b = b ≡ 34
-Fact Class.Bang b = b ≡ 33
-Fact Class.Plus b = b ≡ 43
-Fact Class.Blank b = is_blank b ≡ true
-Fact Class.Letter b = is_deco_letter b ≡ true
-Fact Class.Dollar b = b ≡ 36
-Fact Class.Passed b = is_passed b ≡ true
-Fact Class.Nothing b = Unit {0}
+abbrev pub Fact : PieceClass → ℕ → Type 0
+Fact PieceClass.Note b = Unit {0}
+Fact PieceClass.Rest b = b ≡ rest_byte (eqb b 122)
+Fact PieceClass.Gap b = b ≡ 121
+Fact PieceClass.Measures b = b ≡ measures_byte (eqb b 90)
+Fact PieceClass.Bar b = Unit {0}
+Fact PieceClass.Dot b = b ≡ 46
+Fact PieceClass.Bracket b = b ≡ 91
+Fact PieceClass.Brace b = b ≡ 123
+Fact PieceClass.Paren b = b ≡ 40
+Fact PieceClass.Close b = b ≡ 41
+Fact PieceClass.Tie b = b ≡ 45
+Fact PieceClass.Digit b = is_digit b ≡ true
+Fact PieceClass.Broken b = b ≡ arrow (eqb b 62)
+Fact PieceClass.Quote b = b ≡ 34
+Fact PieceClass.Bang b = b ≡ 33
+Fact PieceClass.Plus b = b ≡ 43
+Fact PieceClass.Blank b = is_blank b ≡ true
+Fact PieceClass.Letter b = is_deco_letter b ≡ true
+Fact PieceClass.Dollar b = b ≡ 36
+Fact PieceClass.Passed b = is_passed b ≡ true
+Fact PieceClass.Nothing b = Unit {0}
 
 two : (b c d : ℕ) → (eqb b c || eqb b d) ≡ true → b ≡ cond (eqb b c) c d
 two b c d h = cond_both (eqb b c) c d (λ n. b ≡ n)
@@ -35,7 +35,7 @@ two b c d h = cond_both (eqb b c) c d (λ n. b ≡ n)
 pub fact : (b : ℕ) → Fact (class_of b) b
 unfolding class_of
 fact b =
-    let P : Class → Type 0 = λ c. Fact c b in
+    let P : PieceClass → Type 0 = λ c. Fact c b in
     cond_both (is_note_byte b) _ _ P (λ e. tt) (λ e.
     cond_both (eqb b 122 || eqb b 120) _ _ P (two b 122 120) (λ e.
     cond_both (eqb b 121) _ _ P (eqb-true b 121) (λ e.
@@ -57,56 +57,56 @@ fact b =
     cond_both (eqb b 36) _ _ P (eqb-true b 36) (λ e.
     cond_both (is_passed b) _ _ P (λ e. e) (λ e. tt))))))))))))))))))))
 
-pub fact_of : (b : ℕ) (c : Class) → class_of b ≡ c → Fact c b
+pub fact_of : (b : ℕ) (c : PieceClass) → class_of b ≡ c → Fact c b
 fact_of b c e = subst (λ k. Fact k b) e (fact b)
 
-abbrev is_Digit : Class → Bool
-is_Digit Class.Digit = true
+abbrev is_Digit : PieceClass → Bool
+is_Digit PieceClass.Digit = true
 is_Digit _ = false
 
-abbrev is_Blank : Class → Bool
-is_Blank Class.Blank = true
+abbrev is_Blank : PieceClass → Bool
+is_Blank PieceClass.Blank = true
 is_Blank _ = false
 
-abbrev is_Letter : Class → Bool
-is_Letter Class.Letter = true
+abbrev is_Letter : PieceClass → Bool
+is_Letter PieceClass.Letter = true
 is_Letter _ = false
 
-abbrev is_Passed : Class → Bool
-is_Passed Class.Passed = true
+abbrev is_Passed : PieceClass → Bool
+is_Passed PieceClass.Passed = true
 is_Passed _ = false
 
-Digit-is : (c : Class) → is_Digit c ≡ true → c ≡ Class.Digit
-Digit-is Class.Digit h = refl
+Digit-is : (c : PieceClass) → is_Digit c ≡ true → c ≡ PieceClass.Digit
+Digit-is PieceClass.Digit h = refl
 Digit-is _ h = absurd cc
 
-Blank-is : (c : Class) → is_Blank c ≡ true → c ≡ Class.Blank
-Blank-is Class.Blank h = refl
+Blank-is : (c : PieceClass) → is_Blank c ≡ true → c ≡ PieceClass.Blank
+Blank-is PieceClass.Blank h = refl
 Blank-is _ h = absurd cc
 
-Letter-is : (c : Class) → is_Letter c ≡ true → c ≡ Class.Letter
-Letter-is Class.Letter h = refl
+Letter-is : (c : PieceClass) → is_Letter c ≡ true → c ≡ PieceClass.Letter
+Letter-is PieceClass.Letter h = refl
 Letter-is _ h = absurd cc
 
-Passed-is : (c : Class) → is_Passed c ≡ true → c ≡ Class.Passed
-Passed-is Class.Passed h = refl
+Passed-is : (c : PieceClass) → is_Passed c ≡ true → c ≡ PieceClass.Passed
+Passed-is PieceClass.Passed h = refl
 Passed-is _ h = absurd cc
 
 pub digit_below : (b : ℕ) → is_digit b ≡ true → b < 58
 digit_below b h = let p = and_parts _ _ h in let high = leb-true b 57 p.1 in omega arith
 
-pub digit_class : (b : ℕ) → is_digit b ≡ true → class_of b ≡ Class.Digit
+pub digit_class : (b : ℕ) → is_digit b ≡ true → class_of b ≡ PieceClass.Digit
 unfolding class_of
 digit_class b h = Digit-is (class_of b) (implied is_digit (λ x. is_Digit (class_of x)) 58 b refl (digit_below b h) h)
 
 blank_below : (b : ℕ) → is_blank b ≡ true → b < 58
 blank_below b h = elim (or_cases _ _ h) [ inl space ↦ (let e = eqb-true b 32 space in omega arith) | inr tab ↦ (let e = eqb-true b 9 tab in omega arith) ]
 
-pub blank_class : (b : ℕ) → is_blank b ≡ true → class_of b ≡ Class.Blank
+pub blank_class : (b : ℕ) → is_blank b ≡ true → class_of b ≡ PieceClass.Blank
 unfolding class_of
 blank_class b h = Blank-is (class_of b) (implied is_blank (λ x. is_Blank (class_of x)) 58 b refl (blank_below b h) h)
 
-pub letter_class : (b : ℕ) → is_deco_letter b ≡ true → class_of b ≡ Class.Letter
+pub letter_class : (b : ℕ) → is_deco_letter b ≡ true → class_of b ≡ PieceClass.Letter
 unfolding class_of
 letter_class b h = Letter-is (class_of b) (implied is_deco_letter (λ x. is_Letter (class_of x)) 127 b refl (below_all (126 ∷ 72 ∷ 76 ∷ 77 ∷ 79 ∷ 80 ∷ 83 ∷ 84 ∷ 117 ∷ 118 ∷ []) 127 b refl h) h)
 
@@ -120,7 +120,7 @@ passed_below b h =
       | inr letter ↦ (let p = and_parts (leb 104 b) (leb b 116) letter in let high : b ≤ 116 = leb-true b 116 p.1 in omega arith)
     ]
 
-pub passed_class : (b : ℕ) → is_passed b ≡ true → class_of b ≡ Class.Passed
+pub passed_class : (b : ℕ) → is_passed b ≡ true → class_of b ≡ PieceClass.Passed
 unfolding class_of
 passed_class b h = Passed-is (class_of b) (implied is_passed (λ x. is_Passed (class_of x)) 127 b refl (passed_below b h) h)
 

@@ -1,10 +1,10 @@
 -- A piece that is read is as long as each that stands there.
 use Rattle.std.{proofs.{Common.{◌≡◌, ℕ, zero, suc, ◌+◌, ◌-◌, ◌≤◌, ◌<◌, Bool, true, false, cond, eqb, List, [], ◌∷◌, ◌++◌, length, Option, Some, None, refl, ap, ◌∙◌, subst, arith, inl, inr, ◌⊎◌, ◌||◌, ◌&&◌, not, option_map, IfSome, append-nil, length-append}, lemmas.Bool.{cond_both, or_cases, and_parts, eqb-true, ne_eqb, both_ways, eq-eqb, not-true}}, specs.List.list_all}
 use Rattle.mus_units.specs.{declared.pitch.Alter.Alter, declared.pitch.Letter.Letter, Bytes.is_digit, Bytes.is_blank, Bytes.is_letter, declared.pitch.Alter.TheVariants.Sharp2, declared.pitch.Letter.TheVariants.C}
-use Rattle.abc_notes.{specs.{Runs.{copies, maybe, span, span_all}, Lengths.{LengthForm, length_then, length_at, IsLength, IsCount, number_at}, Notes.{NoteForm, note_then, sign_then, letter_byte, IsNote}, Decorations.is_deco_letter, Items.{IsName, name_at, is_letter_inside}, Chords.{ChordForm, chord_then, is_inside, IsChord}, Graces.{GraceForm, grace_then, IsGrace}}, proofs.{SpanLaws.{span-append, span-less, span_all-append, span_all-less, span_all-stops, span_all-takes}, LengthLaws.{length_at-reaches, count-reads}, NoteLaws.note_at-reaches, ItemLaws.{name_at-takes, name_at-reads}, InnerLaws.{length-copies_then, length-maybe, length-length_then, note-longer}, ChordLaws.{chord_at-reaches, chord-longer}, GraceLaws.{grace_at-reaches, grace-longer}}}
-use Rattle.abc_pieces.{specs.{Bars.{BarForm, signs, colons, form_at, spelled as bar_then, IsGood as IsBar}, Forms.{Form, note_form, rest_form, gap_form, measures_form, chord_form, grace_form, tuplet_form, slur_form, close_form, tie_form, broken_form, bar_form, ending_form, letter_form, named_form, says_form, inline_form, cut_form, space_form, passed_form, lone_form, plus_form, spelled, IsGood, IsAllowed, is_ending, is_text, is_plus_byte, is_passed, arrow, rest_byte, measures_byte, is_broken, opening, is_cut}, Reading.{Read, read, class_of, note_read, rest_read, gap_read, measures_read, bar_read, chord_read, grace_read, tuplet_read, or_else, ending_read, broken_read, says_read, plus_closed, plus_read, inline_read, space_read, named_or_lone, bang_read, dot_behind, dot_read, opened, by_class, piece_at}, Tuplets.{TupletForm, tuplet_then, tuplet_at, IsTuplet}, declared.token.{Before.Before, Class.Class, Opening.Opening}}, proofs.{BarLaws.{TakesIf as TakesBarIf, form_at-takes, form_at-reaches}, TupletLaws.{TakesTuplet, tuplet_at-takes, tuplet_at-reaches, tuplet-longer}, Classes.{digit_below, digit_class, blank_class, letter_class, passed_class, letter_apart}, PieceTakes.opening-behind}}
+use Rattle.abc_notes.{specs.{Runs.{copies, maybe, span, span_all}, Lengths.{LengthForm, length_then, length_from, IsWrittenLength, IsCount, number_at}, Notes.{NoteForm, note_then, sign_then, letter_byte, IsNote}, Decorations.is_deco_letter, Items.{IsName, name_at, is_letter_inside}, Chords.{ChordForm, chord_then, is_inside, IsChord}, Graces.{GraceForm, grace_then, IsGrace}}, proofs.{SpanLaws.{span-append, span-less, span_all-append, span_all-less, span_all-stops, span_all-takes}, LengthLaws.{length_at-reaches, count-reads}, NoteLaws.note_at-reaches, ItemLaws.{name_at-takes, name_at-reads}, InnerLaws.{length-copies_then, length-maybe, length-length_then, note-longer}, ChordLaws.{chord_at-reaches, chord-longer}, GraceLaws.{grace_at-reaches, grace-longer}}}
+use Rattle.abc_pieces.{specs.{Bars.{BarForm, signs, colons, form_at, spelled as bar_then, IsGoodBar as IsBar}, Forms.{Form, note_form, rest_form, gap_form, measures_form, chord_form, grace_form, tuplet_form, slur_form, close_form, tie_form, broken_form, bar_form, ending_form, letter_form, named_form, says_form, inline_form, cut_form, space_form, passed_form, lone_form, plus_form, spelled, IsGoodForm, IsAllowed, is_ending, is_quoted_byte, is_plus_byte, is_passed, arrow, rest_byte, measures_byte, is_after_broken, opening, is_cut}, Reading.{FormAndRest, read, class_of, note_form_read, rest_read, gap_read, measures_read, bar_read, chord_read, grace_read, tuplet_read, or_else, ending_read, broken_read, says_read, plus_closed, plus_read, inline_read, space_read, named_or_lone, bang_read, dot_behind, dot_read, bracket_form, by_class, piece_at}, Tuplets.{TupletForm, tuplet_then, tuplet_at, IsTuplet}, declared.token.{PieceBefore.PieceBefore, PieceClass.PieceClass, BracketOpening.BracketOpening}}, proofs.{BarLaws.{TakesIf as TakesBarIf, form_at-takes, form_at-reaches}, TupletLaws.{TakesTuplet, tuplet_at-takes, tuplet_at-reaches, tuplet-longer}, Classes.{digit_below, digit_class, blank_class, letter_class, passed_class, letter_apart}, PieceTakes.opening-behind}}
 
-pub record Reaches (x : List ℕ) (f : Form) (r : Read) : Type 0 where
+pub record Reaches (x : List ℕ) (f : Form) (r : FormAndRest) : Type 0 where
   pub form : Form
   pub rest : List ℕ
   pub is : r ≡ read form rest
@@ -26,15 +26,15 @@ reach_by wrap f x o r = record {
   ends = elim r.2 [ inl shorter ↦ inl shorter | inr equal ↦ inr (ap (λ z. read (wrap z.0) z.1) equal) ];
 }
 
-note-reaches : (f : NoteForm) (x : List ℕ) → IsNote f → Reaches x (note_form f) (note_read (note_then f x))
-unfolding note_read
+note-reaches : (f : NoteForm) (x : List ℕ) → IsNote f → Reaches x (note_form f) (note_form_read (note_then f x))
+unfolding note_form_read
 note-reaches f x good = let r = note_at-reaches f x good in reach_by note_form f x _ (r.0, r.1, elim r.2 [ inl shorter ↦ inl shorter.0 | inr equal ↦ inr equal ])
 
 bar-reaches : (f : BarForm) (x : List ℕ) → IsBar f → Reaches x (bar_form f) (bar_read (bar_then f x))
 unfolding bar_read
 bar-reaches f x good = let r = form_at-reaches f x good in reach_by bar_form f x _ (r.0, r.1, elim r.2 [ inl shorter ↦ inl shorter.0 | inr equal ↦ inr equal ])
 
-either-reaches : (x : List ℕ) (f : Form) (r other : Read) → Reaches x f r → Reaches x f (or_else r other)
+either-reaches : (x : List ℕ) (f : Form) (r other : FormAndRest) → Reaches x f r → Reaches x f (or_else r other)
 either-reaches x f (Some z) other t = t
 either-reaches x f None other t = absurd (let e = t.is in cc)
 
@@ -46,16 +46,16 @@ whole_is : (seen : Bool) → eqb (measures_byte seen) 90 ≡ seen
 whole_is true = refl
 whole_is false = refl
 
-rest-reaches : (seen : Bool) (len : LengthForm) (x : List ℕ) → IsLength len → Reaches x (rest_form seen len) (rest_read (rest_byte seen) (length_then len x))
+rest-reaches : (seen : Bool) (len : LengthForm) (x : List ℕ) → IsWrittenLength len → Reaches x (rest_form seen len) (rest_read (rest_byte seen) (length_then len x))
 unfolding rest_read
 rest-reaches seen len x good =
-    let z = length_at (length_then len x) in
+    let z = length_from (length_then len x) in
     record { form = rest_form seen z.0; rest = z.1; is = rw seen_is refl; ends = elim (length_at-reaches len x good) [ inl shorter ↦ inl shorter.0 | inr equal ↦ inr (rw equal refl) ] }
 
-gap-reaches : (len : LengthForm) (x : List ℕ) → IsLength len → Reaches x (gap_form len) (gap_read (length_then len x))
+gap-reaches : (len : LengthForm) (x : List ℕ) → IsWrittenLength len → Reaches x (gap_form len) (gap_read (length_then len x))
 unfolding gap_read
 gap-reaches len x good =
-    let z = length_at (length_then len x) in record { form = gap_form z.0; rest = z.1; is = refl; ends = elim (length_at-reaches len x good) [ inl shorter ↦ inl shorter.0 | inr equal ↦ inr (rw equal refl) ] }
+    let z = length_from (length_then len x) in record { form = gap_form z.0; rest = z.1; is = refl; ends = elim (length_at-reaches len x good) [ inl shorter ↦ inl shorter.0 | inr equal ↦ inr (rw equal refl) ] }
 
 measures-reaches : (seen : Bool) (count x : List ℕ) → IsCount 3 count → Reaches x (measures_form seen count) (measures_read (measures_byte seen) (count ++ x))
 unfolding measures_read
@@ -101,9 +101,9 @@ space-reaches b more x pass =
       ends = elim (span_all-less is_blank x) [ inl shorter ↦ inl shorter.0 | inr equal ↦ inr (rw (equal, append-nil) refl) ];
     }
 
-says-reaches : (text x : List ℕ) → list_all is_text text ≡ true → Reaches x (says_form text) (says_read (text ++ (34 ∷ x)))
+says-reaches : (text x : List ℕ) → list_all is_quoted_byte text ≡ true → Reaches x (says_form text) (says_read (text ++ (34 ∷ x)))
 unfolding says_read
-says-reaches text x pass = record { form = says_form text; rest = x; is = rw (span_all-append is_text text (34 ∷ x) pass, span_all-stops is_text (34 ∷ x) refl, append-nil) refl; ends = inr refl }
+says-reaches text x pass = record { form = says_form text; rest = x; is = rw (span_all-append is_quoted_byte text (34 ∷ x) pass, span_all-stops is_quoted_byte (34 ∷ x) refl, append-nil) refl; ends = inr refl }
 
 inline-reaches : (letter : ℕ) (text x : List ℕ) → list_all is_inside text ≡ true → Reaches x (inline_form letter text) (inline_read (letter ∷ 58 ∷ (text ++ (93 ∷ x))))
 unfolding inline_read
@@ -153,7 +153,7 @@ arrow_same : (right : Bool) → eqb (arrow right) (arrow right) ≡ true
 arrow_same true = refl
 arrow_same false = refl
 
-broken-reaches : (before : Before) (right : Bool) (k : ℕ) (x : List ℕ) → is_broken right before ≡ false → suc k ≤ 3 → Reaches x (broken_form right (suc k)) (broken_read before (arrow right) (copies k (arrow right) x))
+broken-reaches : (before : PieceBefore) (right : Bool) (k : ℕ) (x : List ℕ) → is_after_broken right before ≡ false → suc k ≤ 3 → Reaches x (broken_form right (suc k)) (broken_read before (arrow right) (copies k (arrow right) x))
 unfolding broken_read
 broken-reaches before right k x allowed few =
     let b = arrow right in let p : ℕ → Bool = λ y. eqb y b in let own = copies k b [] in let n = 2 - k in let m = span p n x in let two : length own + n ≡ 2 = omega (arith, length-copies b k, few) in
@@ -166,26 +166,26 @@ broken-reaches before right k x allowed few =
     }
 
 -- ---- by the first byte
-at_class : (bang : Bool) (before : Before) (b : ℕ) (s : List ℕ) (c : Class) → class_of b ≡ c → piece_at bang before (b ∷ s) ≡ by_class c bang before b s
+at_class : (bang : Bool) (before : PieceBefore) (b : ℕ) (s : List ℕ) (c : PieceClass) → class_of b ≡ c → piece_at bang before (b ∷ s) ≡ by_class c bang before b s
 unfolding piece_at
 at_class bang before b s c h = rw h refl
 
-arrow_class : (right : Bool) → class_of (arrow right) ≡ Class.Broken
+arrow_class : (right : Bool) → class_of (arrow right) ≡ PieceClass.Broken
 unfolding class_of
 arrow_class true = refl
 arrow_class false = refl
 
-rest_class : (seen : Bool) → class_of (rest_byte seen) ≡ Class.Rest
+rest_class : (seen : Bool) → class_of (rest_byte seen) ≡ PieceClass.Rest
 unfolding class_of
 rest_class true = refl
 rest_class false = refl
 
-measures_class : (seen : Bool) → class_of (measures_byte seen) ≡ Class.Measures
+measures_class : (seen : Bool) → class_of (measures_byte seen) ≡ PieceClass.Measures
 unfolding class_of
 measures_class true = refl
 measures_class false = refl
 
-by_sign : (bang : Bool) (before : Before) (sign : Option Alter) (low : Bool) (l : Letter) (t : List ℕ) → let s = sign_then sign (letter_byte low l ∷ t) in piece_at bang before s ≡ note_read s
+by_sign : (bang : Bool) (before : PieceBefore) (sign : Option Alter) (low : Bool) (l : Letter) (t : List ℕ) → let s = sign_then sign (letter_byte low l ∷ t) in piece_at bang before s ≡ note_form_read s
 unfolding piece_at class_of
 by_sign bang before (Some Sharp2) low l t = refl
 by_sign bang before None false C t = refl
@@ -200,7 +200,7 @@ dotted_bar zero true m c a x = refl
 dotted_bar zero false m c a x = refl
 dotted_bar (suc b) o m c a x = refl
 
-bar_at-reaches : (bang : Bool) (before : Before) (f : BarForm) (x : List ℕ) → IsBar f → Reaches x (bar_form f) (piece_at bang before (bar_then f x))
+bar_at-reaches : (bang : Bool) (before : PieceBefore) (f : BarForm) (x : List ℕ) → IsBar f → Reaches x (bar_form f) (piece_at bang before (bar_then f x))
 unfolding piece_at class_of
 bar_at-reaches bang before (signs d b o zero c a) x good = absurd (omega (arith, good))
 bar_at-reaches bang before (signs true b o (suc m) c a) x good = rw (dotted_bar b o m c a x) (either-reaches x _ _ _ (bar-reaches (signs true b o (suc m) c a) x good))
@@ -242,7 +242,7 @@ dot_or : (x : List ℕ) → Reaches x (letter_form 46) (or_else (bar_read (46 �
 unfolding bar_read
 dot_or x = letter_or x (form_at (46 ∷ x)) (form_at-takes (46 ∷ x))
 
-behind_dot : (x : List ℕ) (other : Read) → Reaches x (letter_form 46) other → Reaches x (letter_form 46) (dot_behind x other)
+behind_dot : (x : List ℕ) (other : FormAndRest) → Reaches x (letter_form 46) other → Reaches x (letter_form 46) (dot_behind x other)
 behind_dot [] other t = t
 behind_dot (b ∷ x) other t =
     cond_both (eqb b 40) (read (slur_form true) x) (cond (eqb b 45) (read (tie_form true) x) other) (Reaches (b ∷ x) (letter_form 46))
@@ -251,76 +251,76 @@ behind_dot (b ∷ x) other t =
     (λ f. record { form = tie_form true; rest = x; is = refl; ends = inl (omega arith) })
     (λ f. t))
 
-letter-reaches : (bang : Bool) (before : Before) (b : ℕ) (x : List ℕ) → is_letter_inside b ≡ true → Reaches x (letter_form b) (piece_at bang before (b ∷ x))
+letter-reaches : (bang : Bool) (before : PieceBefore) (b : ℕ) (x : List ℕ) → is_letter_inside b ≡ true → Reaches x (letter_form b) (piece_at bang before (b ∷ x))
 unfolding class_of dot_read
 letter-reaches bang before b x h =
     elim (or_cases (eqb b 46) (is_deco_letter b) h) [
-      | inl dot ↦ rw (eqb-true b 46 dot, at_class bang before 46 x Class.Dot refl) (behind_dot x _ (dot_or x))
-      | inr letter ↦ rw (at_class bang before b x Class.Letter (letter_class b letter)) (same x (letter_form b))
+      | inl dot ↦ rw (eqb-true b 46 dot, at_class bang before 46 x PieceClass.Dot refl) (behind_dot x _ (dot_or x))
+      | inr letter ↦ rw (at_class bang before b x PieceClass.Letter (letter_class b letter)) (same x (letter_form b))
     ]
 
-passed-reaches : (bang : Bool) (before : Before) (b : ℕ) (x : List ℕ) → (is_passed b || eqb b 43) ≡ true → Reaches x (passed_form b) (piece_at bang before (b ∷ x))
+passed-reaches : (bang : Bool) (before : PieceBefore) (b : ℕ) (x : List ℕ) → (is_passed b || eqb b 43) ≡ true → Reaches x (passed_form b) (piece_at bang before (b ∷ x))
 unfolding class_of
 passed-reaches bang before b x h =
     elim (or_cases (is_passed b) (eqb b 43) h) [
-      | inl passes ↦ rw (at_class bang before b x Class.Passed (passed_class b passes)) (same x (passed_form b))
-      | inr plus ↦ rw (eqb-true b 43 plus, at_class bang before 43 x Class.Plus refl) (lone_plus-reaches x)
+      | inl passes ↦ rw (at_class bang before b x PieceClass.Passed (passed_class b passes)) (same x (passed_form b))
+      | inr plus ↦ rw (eqb-true b 43 plus, at_class bang before 43 x PieceClass.Plus refl) (lone_plus-reaches x)
     ]
 
-cut-reaches : (bang : Bool) (before : Before) (b : ℕ) (x : List ℕ) → is_cut bang b ≡ true → Reaches x (cut_form b) (piece_at bang before (b ∷ x))
+cut-reaches : (bang : Bool) (before : PieceBefore) (b : ℕ) (x : List ℕ) → is_cut bang b ≡ true → Reaches x (cut_form b) (piece_at bang before (b ∷ x))
 unfolding class_of bang_read
 cut-reaches bang before b x h =
     elim (or_cases (eqb b 36) (bang && eqb b 33) h) [
-      | inl dollar ↦ rw (eqb-true b 36 dollar, at_class bang before 36 x Class.Dollar refl) (same x (cut_form 36))
-      | inr mark ↦ (let p = and_parts bang (eqb b 33) mark in rw (eqb-true b 33 p.1, at_class bang before 33 x Class.Bang refl, p.0) (same x (cut_form 33)))
+      | inl dollar ↦ rw (eqb-true b 36 dollar, at_class bang before 36 x PieceClass.Dollar refl) (same x (cut_form 36))
+      | inr mark ↦ (let p = and_parts bang (eqb b 33) mark in rw (eqb-true b 33 p.1, at_class bang before 33 x PieceClass.Bang refl, p.0) (same x (cut_form 33)))
     ]
 
 -- ---- behind a bracket
-opened_ending : (bang : Bool) (d : ℕ) (t : List ℕ) → is_digit d ≡ true → opened (opening (d ∷ t)) bang (d ∷ t) ≡ ending_read true (d ∷ t)
+opened_ending : (bang : Bool) (d : ℕ) (t : List ℕ) → is_digit d ≡ true → bracket_form (opening (d ∷ t)) bang (d ∷ t) ≡ ending_read true (d ∷ t)
 opened_ending bang d t digit = rw (ne_eqb d 124 (let lt = digit_below d digit in omega arith), digit) refl
 
-opened_inline : (bang : Bool) (l : ℕ) (t : List ℕ) → is_letter l ≡ true → opened (opening (l ∷ 58 ∷ t)) bang (l ∷ 58 ∷ t) ≡ inline_read (l ∷ 58 ∷ t)
+opened_inline : (bang : Bool) (l : ℕ) (t : List ℕ) → is_letter l ≡ true → bracket_form (opening (l ∷ 58 ∷ t)) bang (l ∷ 58 ∷ t) ≡ inline_read (l ∷ 58 ∷ t)
 opened_inline bang l t letter = let p = and_parts (not (eqb l 124)) (not (is_digit l)) (letter_apart l letter) in rw (not-true (eqb l 124) p.0, not-true (is_digit l) p.1, letter) refl
 
-opened_chord : (bang : Bool) (f : ChordForm) (x : List ℕ) → opening (chord_then f []) ≡ Opening.Chord → opened (opening (chord_then f x)) bang (chord_then f x) ≡ chord_read bang (chord_then f x)
-opened_chord bang f x h = let e : opening (chord_then f x) ≡ Opening.Chord = opening-behind f.inside (length_then f.length x) (length_then f.length []) ∙ h in rw e refl
+opened_chord : (bang : Bool) (f : ChordForm) (x : List ℕ) → opening (chord_then f []) ≡ BracketOpening.Chord → bracket_form (opening (chord_then f x)) bang (chord_then f x) ≡ chord_read bang (chord_then f x)
+opened_chord bang f x h = let e : opening (chord_then f x) ≡ BracketOpening.Chord = opening-behind f.inside (length_then f.length x) (length_then f.length []) ∙ h in rw e refl
 
-ending_at-reaches : (bang : Bool) (before : Before) (bracket : Bool) (d : ℕ) (more x : List ℕ) → is_digit d ≡ true → list_all is_ending more ≡ true → IsAllowed before (ending_form bracket d more) →
+ending_at-reaches : (bang : Bool) (before : PieceBefore) (bracket : Bool) (d : ℕ) (more x : List ℕ) → is_digit d ≡ true → list_all is_ending more ≡ true → IsAllowed before (ending_form bracket d more) →
     Reaches x (ending_form bracket d more) (piece_at bang before (spelled (ending_form bracket d more) x))
 unfolding class_of
-ending_at-reaches bang before true d more x digit pass allowed = rw (at_class bang before 91 (d ∷ (more ++ x)) Class.Bracket refl ∙ opened_ending bang d (more ++ x) digit) (ending-reaches true d more x digit pass)
-ending_at-reaches bang before false d more x digit pass allowed = rw (at_class bang before d (more ++ x) Class.Digit (digit_class d digit), allowed) (ending-reaches false d more x digit pass)
+ending_at-reaches bang before true d more x digit pass allowed = rw (at_class bang before 91 (d ∷ (more ++ x)) PieceClass.Bracket refl ∙ opened_ending bang d (more ++ x) digit) (ending-reaches true d more x digit pass)
+ending_at-reaches bang before false d more x digit pass allowed = rw (at_class bang before d (more ++ x) PieceClass.Digit (digit_class d digit), allowed) (ending-reaches false d more x digit pass)
 
-pub piece_at-reaches : (bang : Bool) (before : Before) (f : Form) (x : List ℕ) → IsGood bang f → IsAllowed before f → Reaches x f (piece_at bang before (spelled f x))
+pub piece_at-reaches : (bang : Bool) (before : PieceBefore) (f : Form) (x : List ℕ) → IsGoodForm bang f → IsAllowed before f → Reaches x f (piece_at bang before (spelled f x))
 unfolding class_of dot_read bang_read tuplet_read
 piece_at-reaches bang before (note_form f) x good allowed = rw (by_sign bang before f.sign f.low f.letter (f.marks ++ length_then f.length x)) (note-reaches f x good)
-piece_at-reaches bang before (rest_form seen len) x good allowed = rw (at_class bang before (rest_byte seen) (length_then len x) Class.Rest (rest_class seen)) (rest-reaches seen len x good)
-piece_at-reaches bang before (gap_form len) x good allowed = rw (at_class bang before 121 (length_then len x) Class.Gap refl) (gap-reaches len x good)
-piece_at-reaches bang before (measures_form seen count) x good allowed = rw (at_class bang before (measures_byte seen) (count ++ x) Class.Measures (measures_class seen)) (measures-reaches seen count x good)
-piece_at-reaches bang before (chord_form f) x good allowed = rw (at_class bang before 91 (chord_then f x) Class.Bracket refl ∙ opened_chord bang f x good.1) (chord-reaches bang f x good.0)
-piece_at-reaches bang before (grace_form f) x good allowed = rw (at_class bang before 123 (grace_then f x) Class.Brace refl) (grace-reaches bang f x good)
-piece_at-reaches bang before (tuplet_form f) x good allowed = rw (at_class bang before 40 (tuplet_then f x) Class.Paren refl) (either-reaches x (tuplet_form f) (tuplet_read (tuplet_then f x)) _ (tuplet-reaches f x good))
-piece_at-reaches bang before (slur_form true) x good allowed = rw (at_class bang before 46 (40 ∷ x) Class.Dot refl) (same x (slur_form true))
-piece_at-reaches bang before (slur_form false) x good allowed = rw (at_class bang before 40 x Class.Paren refl) (slur_or x (tuplet_at x) (tuplet_at-takes x))
-piece_at-reaches bang before close_form x good allowed = rw (at_class bang before 41 x Class.Close refl) (same x close_form)
-piece_at-reaches bang before (tie_form true) x good allowed = rw (at_class bang before 46 (45 ∷ x) Class.Dot refl) (same x (tie_form true))
-piece_at-reaches bang before (tie_form false) x good allowed = rw (at_class bang before 45 x Class.Tie refl) (same x (tie_form false))
+piece_at-reaches bang before (rest_form seen len) x good allowed = rw (at_class bang before (rest_byte seen) (length_then len x) PieceClass.Rest (rest_class seen)) (rest-reaches seen len x good)
+piece_at-reaches bang before (gap_form len) x good allowed = rw (at_class bang before 121 (length_then len x) PieceClass.Gap refl) (gap-reaches len x good)
+piece_at-reaches bang before (measures_form seen count) x good allowed = rw (at_class bang before (measures_byte seen) (count ++ x) PieceClass.Measures (measures_class seen)) (measures-reaches seen count x good)
+piece_at-reaches bang before (chord_form f) x good allowed = rw (at_class bang before 91 (chord_then f x) PieceClass.Bracket refl ∙ opened_chord bang f x good.1) (chord-reaches bang f x good.0)
+piece_at-reaches bang before (grace_form f) x good allowed = rw (at_class bang before 123 (grace_then f x) PieceClass.Brace refl) (grace-reaches bang f x good)
+piece_at-reaches bang before (tuplet_form f) x good allowed = rw (at_class bang before 40 (tuplet_then f x) PieceClass.Paren refl) (either-reaches x (tuplet_form f) (tuplet_read (tuplet_then f x)) _ (tuplet-reaches f x good))
+piece_at-reaches bang before (slur_form true) x good allowed = rw (at_class bang before 46 (40 ∷ x) PieceClass.Dot refl) (same x (slur_form true))
+piece_at-reaches bang before (slur_form false) x good allowed = rw (at_class bang before 40 x PieceClass.Paren refl) (slur_or x (tuplet_at x) (tuplet_at-takes x))
+piece_at-reaches bang before close_form x good allowed = rw (at_class bang before 41 x PieceClass.Close refl) (same x close_form)
+piece_at-reaches bang before (tie_form true) x good allowed = rw (at_class bang before 46 (45 ∷ x) PieceClass.Dot refl) (same x (tie_form true))
+piece_at-reaches bang before (tie_form false) x good allowed = rw (at_class bang before 45 x PieceClass.Tie refl) (same x (tie_form false))
 piece_at-reaches bang before (broken_form right zero) x good allowed = absurd (omega (arith, good.0))
-piece_at-reaches bang before (broken_form right (suc k)) x good allowed = rw (at_class bang before (arrow right) (copies k (arrow right) x) Class.Broken (arrow_class right)) (broken-reaches before right k x allowed good.1)
+piece_at-reaches bang before (broken_form right (suc k)) x good allowed = rw (at_class bang before (arrow right) (copies k (arrow right) x) PieceClass.Broken (arrow_class right)) (broken-reaches before right k x allowed good.1)
 piece_at-reaches bang before (bar_form f) x good allowed = bar_at-reaches bang before f x good
 piece_at-reaches bang before (ending_form bracket d more) x good allowed = ending_at-reaches bang before bracket d more x good.0 good.1 allowed
 piece_at-reaches bang before (letter_form b) x good allowed = letter-reaches bang before b x good
-piece_at-reaches bang before (named_form name) x good allowed = rw (at_class bang before 33 (name ++ (33 ∷ x)) Class.Bang refl, good.0) (named-reaches name x good.1)
-piece_at-reaches bang before (says_form text) x good allowed = rw (at_class bang before 34 (text ++ (34 ∷ x)) Class.Quote refl) (says-reaches text x good)
-piece_at-reaches bang before (inline_form letter text) x good allowed = rw (at_class bang before 91 (letter ∷ 58 ∷ (text ++ (93 ∷ x))) Class.Bracket refl ∙ opened_inline bang letter (text ++ (93 ∷ x)) good.0) (inline-reaches letter text x good.1)
+piece_at-reaches bang before (named_form name) x good allowed = rw (at_class bang before 33 (name ++ (33 ∷ x)) PieceClass.Bang refl, good.0) (named-reaches name x good.1)
+piece_at-reaches bang before (says_form text) x good allowed = rw (at_class bang before 34 (text ++ (34 ∷ x)) PieceClass.Quote refl) (says-reaches text x good)
+piece_at-reaches bang before (inline_form letter text) x good allowed = rw (at_class bang before 91 (letter ∷ 58 ∷ (text ++ (93 ∷ x))) PieceClass.Bracket refl ∙ opened_inline bang letter (text ++ (93 ∷ x)) good.0) (inline-reaches letter text x good.1)
 piece_at-reaches bang before (cut_form b) x good allowed = cut-reaches bang before b x good
-piece_at-reaches bang before (space_form b more) x good allowed = rw (at_class bang before b (more ++ x) Class.Blank (blank_class b good.0)) (space-reaches b more x good.1)
+piece_at-reaches bang before (space_form b more) x good allowed = rw (at_class bang before b (more ++ x) PieceClass.Blank (blank_class b good.0)) (space-reaches b more x good.1)
 piece_at-reaches bang before (passed_form b) x good allowed = passed-reaches bang before b x good
-piece_at-reaches bang before lone_form x good allowed = rw (at_class bang before 33 x Class.Bang refl, good) (lone_or x (name_at x) (name_at-takes x))
-piece_at-reaches bang before (plus_form text) x good allowed = rw (at_class bang before 43 (text ++ (43 ∷ x)) Class.Plus refl) (plus-reaches text x good)
+piece_at-reaches bang before lone_form x good allowed = rw (at_class bang before 33 x PieceClass.Bang refl, good) (lone_or x (name_at x) (name_at-takes x))
+piece_at-reaches bang before (plus_form text) x good allowed = rw (at_class bang before 43 (text ++ (43 ∷ x)) PieceClass.Plus refl) (plus-reaches text x good)
 
 -- ---- a piece has a byte
-pub longer : (bang : Bool) (f : Form) (x : List ℕ) → IsGood bang f → length x < length (spelled f x)
+pub longer : (bang : Bool) (f : Form) (x : List ℕ) → IsGoodForm bang f → length x < length (spelled f x)
 longer bang (note_form f) x good = note-longer f x
 longer bang (rest_form seen len) x good = omega (arith, length-length_then len x)
 longer bang (gap_form len) x good = omega (arith, length-length_then len x)

@@ -1,6 +1,6 @@
 -- The piece that is read is the longest.
 use Rattle.std.proofs.Common.{◌≡◌, ℕ, Bool, List, Some, None, ap, ◌∙◌, inl, inr, IfSome}
-use Rattle.{abc_pieces.{specs.{declared.token.Before.Before, Forms.{Form, StandsAt}, Reading.{Read, read, piece_at}}, proofs.{PieceTakes.{Takes, piece_at-takes}, PieceReaches.{piece_at-reaches, longer}}}, abc_notes.proofs.PartLaws.{Reader}}
+use Rattle.{abc_pieces.{specs.{declared.token.PieceBefore.PieceBefore, Forms.{Form, StandsAt}, Reading.{FormAndRest, read, piece_at}}, proofs.{PieceTakes.{Takes, piece_at-takes}, PieceReaches.{piece_at-reaches, longer}}}, abc_notes.proofs.PartLaws.{Reader}}
 
 abbrev with_rest : Form → List ℕ → Form × List ℕ
 with_rest f x = (f, x)
@@ -8,11 +8,11 @@ with_rest f x = (f, x)
 some_is : (f g : Form) (x y : List ℕ) → read f x ≡ read g y → with_rest f x ≡ with_rest g y
 some_is f g x y e = cc
 
-stands : (bang : Bool) (before : Before) (s : List ℕ) (r : Read) → Takes bang before s r → IfSome r (λ z. StandsAt bang before z.0 s z.1)
+stands : (bang : Bool) (before : PieceBefore) (s : List ℕ) (r : FormAndRest) → Takes bang before s r → IfSome r (λ z. StandsAt bang before z.0 s z.1)
 stands bang before s None t = tt
 stands bang before s (Some z) t = record { good = t.good; allowed = t.allowed; cut = t.cut }
 
-pub piece_reader : (bang : Bool) (before : Before) → Reader Form (StandsAt bang before) (piece_at bang before)
+pub piece_reader : (bang : Bool) (before : PieceBefore) → Reader Form (StandsAt bang before) (piece_at bang before)
 piece_reader bang before = record {
   takes = λ s. stands bang before s (piece_at bang before s) (piece_at-takes bang before s);
   reaches = λ f s x t.

@@ -14,19 +14,19 @@ abbrev pub spelled : BarForm → List ℕ → List ℕ
 spelled (signs dot before bracket lines close after) rest = maybe dot (code ".") (copies before (code ":") (maybe bracket (code "[") (copies lines (code "|") (maybe close (code "]") (copies after (code ":") rest)))))
 spelled (colons n) rest = copies n (code ":") rest
 
-abbrev pub IsGood : BarForm → Type 0
-IsGood (signs dot before bracket lines close after) = 1 ≤ lines
-IsGood (colons n) = 2 ≤ n
+abbrev pub IsGoodBar : BarForm → Type 0
+IsGoodBar (signs dot before bracket lines close after) = 1 ≤ lines
+IsGoodBar (colons n) = 2 ≤ n
 
 -- `[|]` and nothing else
 abbrev pub is_alone : Bool → ℕ → Bool → ℕ → Bool → ℕ → Bool
 is_alone dot before bracket lines close after = not dot && before == 0 && bracket && lines == 1 && close && after == 0
 
-abbrev pub meant : BarForm → Bar
-meant (signs dot before bracket lines close after) =
+abbrev pub bar_meant : BarForm → Bar
+bar_meant (signs dot before bracket lines close after) =
     let alone = is_alone dot before bracket lines close after in
     record { end = nat_lt 0 before; start = nat_lt 0 after; last = close && not alone; initial = bracket && not alone; double = nat_lt 1 lines; dotted = dot; unseen = alone }
-meant (colons n) = record { end = true; start = true; last = false; initial = false; double = false; dotted = false; unseen = false }
+bar_meant (colons n) = record { end = true; start = true; last = false; initial = false; double = false; dotted = false; unseen = false }
 
 -- reading from left to right
 unfoldable pub form_at : List ℕ → Option (BarForm × List ℕ)

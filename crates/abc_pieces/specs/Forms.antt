@@ -3,8 +3,8 @@
 use Prim.Native.Char.{code}
 use Rattle.std.specs.{Prelude.{◌≡◌, ℕ, ◌≤◌, List, [], ◌∷◌, ◌++◌, map, Bool, true, false, not, ◌==◌, ◌&&◌, ◌||◌, if◌then◌else◌, Option, Some, None, codes}, List.list_all}
 use Rattle.mus_units.specs.Bytes.{is_within, is_either, is_digit, is_blank, is_letter}
-use Rattle.abc_notes.specs.{Runs.{copies, maybe, one_of, begins}, Lengths.{LengthForm, length_then, IsLength, len_of, IsCount, count_of}, Notes.{NoteForm, note_then, IsNote, head_of}, Decorations.{deco_of_letter, deco_of_name}, Items.{IsName, is_letter_inside, sense}, Chords.{ChordForm, chord_then, IsChord, heads_of, decos_of, is_inside}, Graces.{GraceForm, grace_then, IsGrace, body_of}}
-use Rattle.abc_pieces.specs.{Bars.{BarForm, spelled as bar_then, IsGood as IsBar, meant as bar_of}, Tuplets.{TupletForm, tuplet_then, IsTuplet, p_of, q_of, r_of}, declared.token.{Token.Token, Before.Before, Opening.Opening}}
+use Rattle.abc_notes.specs.{Runs.{copies, maybe, one_of, begins}, Lengths.{LengthForm, length_then, IsWrittenLength, len_of, IsCount, count_of}, Notes.{NoteForm, note_then, IsNote, head_of}, Decorations.{deco_of_letter, deco_of_name}, Items.{IsName, is_letter_inside, sense}, Chords.{ChordForm, chord_then, IsChord, heads_of, decos_of, is_inside}, Graces.{GraceForm, grace_then, IsGrace, body_of}}
+use Rattle.abc_pieces.specs.{Bars.{BarForm, spelled as bar_then, IsGoodBar as IsBar, bar_meant as bar_of}, Tuplets.{TupletForm, tuplet_then, IsTuplet, p_of, q_of, r_of}, declared.token.{Token.Token, PieceBefore.PieceBefore, BracketOpening.BracketOpening}}
 
 pub data Form : Type 0 where
   note_form : NoteForm → Form
@@ -34,8 +34,8 @@ pub data Form : Type 0 where
 abbrev pub is_ending : ℕ → Bool
 is_ending b = is_digit b || is_either (codes ",-") b
 
-abbrev pub is_text : ℕ → Bool
-is_text b = not (b == code "\"")
+abbrev pub is_quoted_byte : ℕ → Bool
+is_quoted_byte b = not (b == code "\"")
 
 -- between two plus signs: no plus sign, blank or bar sign
 abbrev pub is_plus_byte : ℕ → Bool
@@ -91,41 +91,41 @@ spelled (plus_form text) x = code "+" ∷ (text ++ (code "+" ∷ x))
 
 -- what stands behind an opening bracket: a bar sign makes a bar, a digit an ending, a letter and
 -- a colon an inline field; all else is a chord
-abbrev pub opening : List ℕ → Opening
-opening [] = Opening.Chord
+abbrev pub opening : List ℕ → BracketOpening
+opening [] = BracketOpening.Chord
 opening (byte ∷ rest) =
-    if byte == code "|" then Opening.Bar
-    else (if is_digit byte then Opening.Ending
-    else (if is_letter byte && begins (λ b. b == code ":") rest then Opening.Inline
-    else Opening.Chord))
+    if byte == code "|" then BracketOpening.Bar
+    else (if is_digit byte then BracketOpening.Ending
+    else (if is_letter byte && begins (λ b. b == code ":") rest then BracketOpening.Inline
+    else BracketOpening.Chord))
 
 -- a dollar sign, and where it is a line break an exclamation mark
 abbrev pub is_cut : Bool → ℕ → Bool
 is_cut bang byte = byte == code "$" || (bang && byte == code "!")
 
-abbrev pub IsGood : Bool → Form → Type 0
-IsGood bang (note_form f) = IsNote f
-IsGood bang (rest_form seen len) = IsLength len
-IsGood bang (gap_form len) = IsLength len
-IsGood bang (measures_form seen count) = IsCount 3 count
-IsGood bang (chord_form f) = IsChord bang f × (opening (chord_then f []) ≡ Opening.Chord)
-IsGood bang (grace_form f) = IsGrace bang f
-IsGood bang (tuplet_form f) = IsTuplet f
-IsGood bang (slur_form dotted) = Unit {0}
-IsGood bang close_form = Unit {0}
-IsGood bang (tie_form dotted) = Unit {0}
-IsGood bang (broken_form right count) = (1 ≤ count) × (count ≤ 3)
-IsGood bang (bar_form f) = IsBar f
-IsGood bang (ending_form bracket digit more) = (is_digit digit ≡ true) × (list_all is_ending more ≡ true)
-IsGood bang (letter_form byte) = is_letter_inside byte ≡ true
-IsGood bang (named_form name) = (bang ≡ false) × IsName name
-IsGood bang (says_form text) = list_all is_text text ≡ true
-IsGood bang (inline_form letter text) = (is_letter letter ≡ true) × (list_all is_inside text ≡ true)
-IsGood bang (cut_form byte) = is_cut bang byte ≡ true
-IsGood bang (space_form blank more) = (is_blank blank ≡ true) × (list_all is_blank more ≡ true)
-IsGood bang (passed_form byte) = (is_passed byte || byte == code "+") ≡ true
-IsGood bang lone_form = bang ≡ false
-IsGood bang (plus_form text) = list_all is_plus_byte text ≡ true
+abbrev pub IsGoodForm : Bool → Form → Type 0
+IsGoodForm bang (note_form f) = IsNote f
+IsGoodForm bang (rest_form seen len) = IsWrittenLength len
+IsGoodForm bang (gap_form len) = IsWrittenLength len
+IsGoodForm bang (measures_form seen count) = IsCount 3 count
+IsGoodForm bang (chord_form f) = IsChord bang f × (opening (chord_then f []) ≡ BracketOpening.Chord)
+IsGoodForm bang (grace_form f) = IsGrace bang f
+IsGoodForm bang (tuplet_form f) = IsTuplet f
+IsGoodForm bang (slur_form dotted) = Unit {0}
+IsGoodForm bang close_form = Unit {0}
+IsGoodForm bang (tie_form dotted) = Unit {0}
+IsGoodForm bang (broken_form right count) = (1 ≤ count) × (count ≤ 3)
+IsGoodForm bang (bar_form f) = IsBar f
+IsGoodForm bang (ending_form bracket digit more) = (is_digit digit ≡ true) × (list_all is_ending more ≡ true)
+IsGoodForm bang (letter_form byte) = is_letter_inside byte ≡ true
+IsGoodForm bang (named_form name) = (bang ≡ false) × IsName name
+IsGoodForm bang (says_form text) = list_all is_quoted_byte text ≡ true
+IsGoodForm bang (inline_form letter text) = (is_letter letter ≡ true) × (list_all is_inside text ≡ true)
+IsGoodForm bang (cut_form byte) = is_cut bang byte ≡ true
+IsGoodForm bang (space_form blank more) = (is_blank blank ≡ true) × (list_all is_blank more ≡ true)
+IsGoodForm bang (passed_form byte) = (is_passed byte || byte == code "+") ≡ true
+IsGoodForm bang lone_form = bang ≡ false
+IsGoodForm bang (plus_form text) = list_all is_plus_byte text ≡ true
 
 -- K, L, M and V
 abbrev pub is_kept_field : ℕ → Bool
@@ -135,81 +135,81 @@ abbrev pub inline_token : ℕ → List ℕ → Option Token
 inline_token letter text = if is_kept_field letter then Some (Token.Inline letter text) else None
 
 -- the token that a piece spells, if it spells one
-abbrev pub meant : Form → Option Token
-meant (note_form f) = Some (Token.Note (head_of f) (len_of f.length))
-meant (rest_form seen len) = Some (Token.Rest seen (len_of len))
-meant (gap_form len) = None
-meant (measures_form seen count) = Some (Token.Measures seen (count_of count))
-meant (chord_form f) = let said = map sense f.parts in Some (Token.Chord (record { heads = heads_of said; decos = decos_of said; len = len_of f.length }))
-meant (grace_form f) = Some (Token.Grace f.slash (body_of f.parts))
-meant (tuplet_form f) = Some (Token.Tuplet (p_of f) (q_of f) (r_of f))
-meant (slur_form dotted) = Some Token.SlurOn
-meant close_form = Some Token.SlurOff
-meant (tie_form dotted) = Some Token.Tie
-meant (broken_form right count) = Some (Token.Broken right count)
-meant (bar_form f) = Some (Token.Bar (bar_of f))
-meant (ending_form bracket digit more) = Some (Token.Ending (digit ∷ more))
-meant (letter_form byte) = Some (Token.Deco (deco_of_letter byte))
-meant (named_form name) = Some (Token.Deco (deco_of_name name))
-meant (says_form text) = Some (Token.Says text)
-meant (inline_form letter text) = inline_token letter text
-meant (cut_form byte) = Some Token.Cut
-meant (space_form blank more) = Some Token.Space
-meant (passed_form byte) = None
-meant lone_form = None
-meant (plus_form text) = None
+abbrev pub token_meant : Form → Option Token
+token_meant (note_form f) = Some (Token.Note (head_of f) (len_of f.length))
+token_meant (rest_form seen len) = Some (Token.Rest seen (len_of len))
+token_meant (gap_form len) = None
+token_meant (measures_form seen count) = Some (Token.Measures seen (count_of count))
+token_meant (chord_form f) = let said = map sense f.parts in Some (Token.Chord (record { heads = heads_of said; decos = decos_of said; len = len_of f.length }))
+token_meant (grace_form f) = Some (Token.Grace f.slash (body_of f.parts))
+token_meant (tuplet_form f) = Some (Token.Tuplet (p_of f) (q_of f) (r_of f))
+token_meant (slur_form dotted) = Some Token.SlurOn
+token_meant close_form = Some Token.SlurOff
+token_meant (tie_form dotted) = Some Token.Tie
+token_meant (broken_form right count) = Some (Token.Broken right count)
+token_meant (bar_form f) = Some (Token.Bar (bar_of f))
+token_meant (ending_form bracket digit more) = Some (Token.Ending (digit ∷ more))
+token_meant (letter_form byte) = Some (Token.Deco (deco_of_letter byte))
+token_meant (named_form name) = Some (Token.Deco (deco_of_name name))
+token_meant (says_form text) = Some (Token.Says text)
+token_meant (inline_form letter text) = inline_token letter text
+token_meant (cut_form byte) = Some Token.Cut
+token_meant (space_form blank more) = Some Token.Space
+token_meant (passed_form byte) = None
+token_meant lone_form = None
+token_meant (plus_form text) = None
 
 -- what a piece tells of the next
-abbrev pub after : Form → Before
-after (note_form f) = Before.Lengthy
-after (rest_form seen len) = Before.Lengthy
-after (gap_form len) = Before.Lengthy
-after (measures_form seen count) = Before.Other
-after (chord_form f) = Before.Lengthy
-after (grace_form f) = Before.Other
-after (tuplet_form f) = Before.Paren
-after (slur_form dotted) = if dotted then Before.Other else Before.Paren
-after close_form = Before.Other
-after (tie_form dotted) = Before.Other
-after (broken_form right count) = Before.Broken right
-after (bar_form f) = Before.Bar
-after (ending_form bracket digit more) = Before.Other
-after (letter_form byte) = Before.Other
-after (named_form name) = Before.Other
-after (says_form text) = Before.Other
-after (inline_form letter text) = Before.Other
-after (cut_form byte) = Before.Other
-after (space_form blank more) = Before.Other
-after (passed_form byte) = Before.Other
-after lone_form = Before.Other
-after (plus_form text) = Before.Other
+abbrev pub after : Form → PieceBefore
+after (note_form f) = PieceBefore.Lengthy
+after (rest_form seen len) = PieceBefore.Lengthy
+after (gap_form len) = PieceBefore.Lengthy
+after (measures_form seen count) = PieceBefore.Other
+after (chord_form f) = PieceBefore.Lengthy
+after (grace_form f) = PieceBefore.Other
+after (tuplet_form f) = PieceBefore.Paren
+after (slur_form dotted) = if dotted then PieceBefore.Other else PieceBefore.Paren
+after close_form = PieceBefore.Other
+after (tie_form dotted) = PieceBefore.Other
+after (broken_form right count) = PieceBefore.Broken right
+after (bar_form f) = PieceBefore.Bar
+after (ending_form bracket digit more) = PieceBefore.Other
+after (letter_form byte) = PieceBefore.Other
+after (named_form name) = PieceBefore.Other
+after (says_form text) = PieceBefore.Other
+after (inline_form letter text) = PieceBefore.Other
+after (cut_form byte) = PieceBefore.Other
+after (space_form blank more) = PieceBefore.Other
+after (passed_form byte) = PieceBefore.Other
+after lone_form = PieceBefore.Other
+after (plus_form text) = PieceBefore.Other
 
-abbrev pub is_bar : Before → Bool
-is_bar Before.Bar = true
-is_bar (Before.Broken right) = false
-is_bar Before.Lengthy = false
-is_bar Before.Paren = false
-is_bar Before.Other = false
+abbrev pub is_after_bar : PieceBefore → Bool
+is_after_bar PieceBefore.Bar = true
+is_after_bar (PieceBefore.Broken right) = false
+is_after_bar PieceBefore.Lengthy = false
+is_after_bar PieceBefore.Paren = false
+is_after_bar PieceBefore.Other = false
 
 abbrev pub same_way : Bool → Bool → Bool
 same_way true right = right
 same_way false right = not right
 
-abbrev pub is_broken : Bool → Before → Bool
-is_broken right Before.Bar = false
-is_broken right (Before.Broken other) = same_way right other
-is_broken right Before.Lengthy = false
-is_broken right Before.Paren = false
-is_broken right Before.Other = false
+abbrev pub is_after_broken : Bool → PieceBefore → Bool
+is_after_broken right PieceBefore.Bar = false
+is_after_broken right (PieceBefore.Broken other) = same_way right other
+is_after_broken right PieceBefore.Lengthy = false
+is_after_broken right PieceBefore.Paren = false
+is_after_broken right PieceBefore.Other = false
 
 -- digits are an ending only after a bar, and an arrow stands behind no arrow of its way
-abbrev pub IsAllowed : Before → Form → Type 0
-IsAllowed before (ending_form bracket digit more) = (bracket || is_bar before) ≡ true
-IsAllowed before (broken_form right count) = is_broken right before ≡ false
+abbrev pub IsAllowed : PieceBefore → Form → Type 0
+IsAllowed before (ending_form bracket digit more) = (bracket || is_after_bar before) ≡ true
+IsAllowed before (broken_form right count) = is_after_broken right before ≡ false
 IsAllowed before _ = Unit {0}
 
 -- the piece stands at the front of s behind such a piece, with rest behind it
-pub record StandsAt (bang : Bool) (before : Before) (f : Form) (s rest : List ℕ) : Type 0 where
-  pub good : IsGood bang f
+pub record StandsAt (bang : Bool) (before : PieceBefore) (f : Form) (s rest : List ℕ) : Type 0 where
+  pub good : IsGoodForm bang f
   pub allowed : IsAllowed before f
   pub cut : s ≡ spelled f rest

@@ -6,11 +6,11 @@ use std::marker::Model;
 
 /// A value that stands apart, so that what holds it is small. Contracts see the value.
 #[derive(Drop)]
-pub struct Apart<T> {
+pub struct Boxed<T> {
     value: Box<T>,
 }
 
-impl<T> Model for Apart<T> {
+impl<T> Model for Boxed<T> {
     ghost Value = { T };
 
     ghost coded = { T.code };
@@ -18,14 +18,14 @@ impl<T> Model for Apart<T> {
     ghost view = { λ a. a.value.value };
 }
 
-impl<T> Apart<T> {
+impl<T> Boxed<T> {
     /// A value, apart.
-    pub fn new(alloc: Global, value: T) -> Result<Apart<T>, Memory>
+    pub fn new(alloc: Global, value: T) -> Result<Boxed<T>, Memory>
     where
         T: Drop,
         ensures { IfOk result (λ it. it ≡ value) }
     {
-        Ok(Apart {
+        Ok(Boxed {
             value: Box::new(alloc, value)?,
         })
     }

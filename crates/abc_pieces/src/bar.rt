@@ -1,5 +1,5 @@
 ghost use Rattle.std.specs.Prelude.{◌≡◌, option_map};
-ghost use Rattle.abc_pieces.specs.Bars.{signs, meant, form_at, bar_read};
+ghost use Rattle.abc_pieces.specs.Bars.{signs, bar_meant, form_at, bar_read};
 
 use abc_notes::bytes::{run_off, skip};
 use mus_units::Bar;
@@ -7,7 +7,7 @@ use mus_units::Bar;
 /// The bar at the front, as long as it can be, and what follows it.
 #[tactic(auto, unfolding(crate::specs::Bars::form_at))]
 pub fn read_bar(bytes: &[u8]) -> Option<(Bar, &[u8])>
-    ensures { option_map (λ x. bar_read x.0 x.1.now) result ≡ option_map (λ z. bar_read (meant z.0) z.1) (form_at bytes.now) }
+    ensures { option_map (λ x. bar_read x.0 x.1.now) result ≡ option_map (λ z. bar_read (bar_meant z.0) z.1) (form_at bytes.now) }
 {
     let (dotted, rest) = skip(b'.', bytes);
     let (before, colons_rest) = run_off(b':', rest);
@@ -41,7 +41,7 @@ fn bar_of(
     close: bool,
     after: usize,
 ) -> Bar
-    ensures { result ≡ meant (signs dotted before bracket lines close after) }
+    ensures { result ≡ bar_meant (signs dotted before bracket lines close after) }
 {
     let alone = !dotted && before == 0 && bracket && lines == 1 && close && after == 0;
     Bar {

@@ -9,5 +9,5 @@ pub mod token;
 pub mod tuplet;
 
 pub use abc_notes::{Flaw, GraceChord, Len};
-pub use apart::Apart;
-pub use token::{Before, Found, Opening, Token, WrittenChord};
+pub use apart::Boxed;
+pub use token::{PieceBefore, BorrowedToken, BracketOpening, Token, WrittenChord};

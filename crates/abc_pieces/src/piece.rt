@@ -1,118 +1,118 @@
 ghost use Rattle.std.specs.{Prelude.{◌≡◌, ◌≤◌, ◌^◌, ◌∷◌, false, ℕ, List, Bool, Some, None, length, take, ◌==◌, IfSome}, List.prefix_len};
 ghost use Rattle.abc_lines.specs.Kinds.{code};
-ghost use Rattle.abc_pieces.specs.{declared.token.Before.TheVariants.Other, Forms.{is_bar, is_broken, is_ending, is_text, is_plus_byte, is_passed, is_passed_sign, is_passed_letter, opening, letter_form, slur_form}, Reading.{class_of, piece_at, note_read, rest_read, gap_read, measures_read, bar_read, chord_read, grace_read, tuplet_read, ending_read, broken_read, says_read, plus_read, inline_read, space_read, bang_read, dot_read, opened, or_else, read, shown, meaning, found_within}};
+ghost use Rattle.abc_pieces.specs.{declared.token.PieceBefore.TheVariants.Other, Forms.{is_after_bar, is_after_broken, is_ending, is_quoted_byte, is_plus_byte, is_passed, is_passed_sign, is_passed_letter, opening, letter_form, slur_form}, Reading.{class_of, piece_at, note_form_read, rest_read, gap_read, measures_read, bar_read, chord_read, grace_read, tuplet_read, ending_read, broken_read, says_read, plus_read, inline_read, space_read, bang_read, dot_read, bracket_form, or_else, read, shown_piece, meaning, found_within}};
 ghost use Rattle.{abc_notes.specs.{Chords.is_inside, Runs.begins}, mus_units.specs.Bytes.{is_digit, is_blank}};
 
 use crate::bar::read_bar;
-use crate::token::{Before, Class, Found, Opening};
+use crate::token::{PieceBefore, PieceClass, BorrowedToken, BracketOpening};
 use crate::tuplet::tuplet_at;
 use abc_notes::chord::{bracketed, chord_at};
 use abc_notes::grace::grace_at;
 use abc_notes::item::{is_deco_letter, is_note_byte, name_at};
-use abc_notes::length::{count_of, length_at, number_at};
+use abc_notes::length::{count_of, length_from, number_at};
 use abc_notes::note::note_at;
 use mus_units::bytes::{is_digit, is_letter};
 
 /// What stands at the front, what it tells of the next piece, and what follows.
 #[derive(Clone, Copy)]
-pub struct Piece<'a> {
-    pub found: Found<'a>,
-    pub after: Before,
+pub struct LinePiece<'a> {
+    pub found: BorrowedToken<'a>,
+    pub after: PieceBefore,
     pub rest: &'a [u8],
 }
 
 /// The piece at the front, as long as it can be, behind a piece that tells
 /// `before`. `bang` says that `!` is a line break.
 #[tactic(auto, unfolding(crate::specs::Reading::piece_at))]
-pub fn piece_at(bang: bool, before: Before, bytes: &[u8]) -> Option<Piece<'_>>
+pub fn piece_at(bang: bool, before: PieceBefore, bytes: &[u8]) -> Option<LinePiece<'_>>
     requires { length bytes.now ≤ 2 ^ 30 }
-    ensures read { shown bang result ≡ meaning (piece_at bang before bytes.now) }
+    ensures read { shown_piece bang result ≡ meaning (piece_at bang before bytes.now) }
     ensures within { IfSome result (λ x. found_within x.found (length bytes.now)) }
 {
     let (first, rest) = bytes.split_first()?;
     match class_of(*first) {
-        Class::Note => note(bytes),
-        Class::Rest => Some(rest_piece(*first, rest)),
-        Class::Gap => Some(gap(rest)),
-        Class::Measures => Some(measures(*first, rest)),
-        Class::Bar => bar_piece(bytes),
-        Class::Dot => dot(bytes, rest),
-        Class::Bracket => bracket(bang, bytes, rest),
-        Class::Brace => grace(bang, rest),
-        Class::Paren => Some(paren(rest)),
-        Class::Close => Some(plain(Found::SlurOff, rest)),
-        Class::Tie => Some(plain(Found::Tie, rest)),
-        Class::Digit => { if is_bar(before) { ending(bytes) } else { None } }
-        Class::Broken => broken(before, *first, rest),
-        Class::Quote => says(rest),
-        Class::Bang => Some(bang_piece(bang, rest)),
-        Class::Plus => Some(plus(rest)),
-        Class::Blank => Some(space(rest)),
-        Class::Letter => Some(plain(Found::Letter(*first), rest)),
-        Class::Dollar => Some(plain(Found::Cut, rest)),
-        Class::Passed => Some(plain(Found::Passed, rest)),
-        Class::Nothing => None,
+        PieceClass::Note => note(bytes),
+        PieceClass::Rest => Some(rest_piece(*first, rest)),
+        PieceClass::Gap => Some(gap(rest)),
+        PieceClass::Measures => Some(measures(*first, rest)),
+        PieceClass::Bar => bar_piece(bytes),
+        PieceClass::Dot => dot(bytes, rest),
+        PieceClass::Bracket => bracket(bang, bytes, rest),
+        PieceClass::Brace => grace(bang, rest),
+        PieceClass::Paren => Some(paren(rest)),
+        PieceClass::Close => Some(plain(BorrowedToken::SlurOff, rest)),
+        PieceClass::Tie => Some(plain(BorrowedToken::Tie, rest)),
+        PieceClass::Digit => { if is_after_bar(before) { ending(bytes) } else { None } }
+        PieceClass::Broken => broken(before, *first, rest),
+        PieceClass::Quote => says(rest),
+        PieceClass::Bang => Some(bang_piece(bang, rest)),
+        PieceClass::Plus => Some(plus(rest)),
+        PieceClass::Blank => Some(space(rest)),
+        PieceClass::Letter => Some(plain(BorrowedToken::Letter(*first), rest)),
+        PieceClass::Dollar => Some(plain(BorrowedToken::Cut, rest)),
+        PieceClass::Passed => Some(plain(BorrowedToken::Passed, rest)),
+        PieceClass::Nothing => None,
     }
 }
 
-fn plain<'a>(found: Found<'a>, rest: &'a [u8]) -> Piece<'a>
+fn plain<'a>(found: BorrowedToken<'a>, rest: &'a [u8]) -> LinePiece<'a>
     ensures found { result.found ≡ found.entry }
     ensures rest { result.rest.now ≡ rest.now }
     ensures after { result.after ≡ Other }
 {
-    Piece {
+    LinePiece {
         found,
-        after: Before::Other,
+        after: PieceBefore::Other,
         rest,
     }
 }
 
 #[tactic(auto, unfolding(crate::specs::Reading::class_of))]
-fn class_of(byte: u8) -> Class
+fn class_of(byte: u8) -> PieceClass
     ensures { result ≡ class_of byte }
 {
     if is_note_byte(byte) {
-        Class::Note
+        PieceClass::Note
     } else if byte == b'z' || byte == b'x' {
-        Class::Rest
+        PieceClass::Rest
     } else if byte == b'y' {
-        Class::Gap
+        PieceClass::Gap
     } else if byte == b'Z' || byte == b'X' {
-        Class::Measures
+        PieceClass::Measures
     } else if byte == b':' || byte == b'|' {
-        Class::Bar
+        PieceClass::Bar
     } else if byte == b'.' {
-        Class::Dot
+        PieceClass::Dot
     } else if byte == b'[' {
-        Class::Bracket
+        PieceClass::Bracket
     } else if byte == b'{' {
-        Class::Brace
+        PieceClass::Brace
     } else if byte == b'(' {
-        Class::Paren
+        PieceClass::Paren
     } else if byte == b')' {
-        Class::Close
+        PieceClass::Close
     } else if byte == b'-' {
-        Class::Tie
+        PieceClass::Tie
     } else if is_digit(byte) {
-        Class::Digit
+        PieceClass::Digit
     } else if byte == b'>' || byte == b'<' {
-        Class::Broken
+        PieceClass::Broken
     } else if byte == b'"' {
-        Class::Quote
+        PieceClass::Quote
     } else if byte == b'!' {
-        Class::Bang
+        PieceClass::Bang
     } else if byte == b'+' {
-        Class::Plus
+        PieceClass::Plus
     } else if byte == b' ' || byte == b'\t' {
-        Class::Blank
+        PieceClass::Blank
     } else if is_deco_letter(byte) {
-        Class::Letter
+        PieceClass::Letter
     } else if byte == b'$' {
-        Class::Dollar
+        PieceClass::Dollar
     } else if is_passed(byte) {
-        Class::Passed
+        PieceClass::Passed
     } else {
-        Class::Nothing
+        PieceClass::Nothing
     }
 }
 
@@ -149,95 +149,95 @@ fn is_passed_letter(byte: u8) -> bool
         || byte == b'W'
 }
 
-fn is_bar(before: Before) -> bool
-    ensures { result ≡ is_bar before }
+fn is_after_bar(before: PieceBefore) -> bool
+    ensures { result ≡ is_after_bar before }
 {
     match before {
-        Before::Bar => true,
+        PieceBefore::Bar => true,
         _ => false,
     }
 }
 
-fn is_broken(right: bool, before: Before) -> bool
-    ensures { result ≡ is_broken right before }
+fn is_after_broken(right: bool, before: PieceBefore) -> bool
+    ensures { result ≡ is_after_broken right before }
 {
     match before {
-        Before::Broken { right: other } => right == other,
+        PieceBefore::Broken { right: other } => right == other,
         _ => false,
     }
 }
 
-#[tactic(auto, unfolding(crate::specs::Reading::note_read))]
-fn note(bytes: &[u8]) -> Option<Piece<'_>>
+#[tactic(auto, unfolding(crate::specs::Reading::note_form_read))]
+fn note(bytes: &[u8]) -> Option<LinePiece<'_>>
     requires { length bytes.now ≤ 2 ^ 30 }
-    ensures read { (bang : Bool) → shown bang result ≡ meaning (note_read bytes.now) }
+    ensures read { (bang : Bool) → shown_piece bang result ≡ meaning (note_form_read bytes.now) }
     ensures within { (n : ℕ) → IfSome result (λ x. found_within x.found n) }
 {
     let (head, len, rest) = note_at(bytes)?;
-    Some(Piece {
-        found: Found::Note { head, len },
-        after: Before::Lengthy,
+    Some(LinePiece {
+        found: BorrowedToken::Note { head, len },
+        after: PieceBefore::Lengthy,
         rest,
     })
 }
 
 #[tactic(auto, unfolding(crate::specs::Reading::rest_read))]
 #[inline(never)]
-fn rest_piece(first: u8, bytes: &[u8]) -> Piece<'_>
-    ensures read { (bang : Bool) → shown bang (Some result) ≡ meaning (rest_read first bytes.now) }
+fn rest_piece(first: u8, bytes: &[u8]) -> LinePiece<'_>
+    ensures read { (bang : Bool) → shown_piece bang (Some result) ≡ meaning (rest_read first bytes.now) }
     ensures within { (n : ℕ) → found_within result.found n }
 {
-    let (len, rest) = length_at(bytes);
-    Piece {
-        found: Found::Rest {
+    let (len, rest) = length_from(bytes);
+    LinePiece {
+        found: BorrowedToken::Rest {
             seen: first == b'z',
             len,
         },
-        after: Before::Lengthy,
+        after: PieceBefore::Lengthy,
         rest,
     }
 }
 
 #[tactic(auto, unfolding(crate::specs::Reading::gap_read))]
 #[inline(never)]
-fn gap(bytes: &[u8]) -> Piece<'_>
-    ensures read { (bang : Bool) → shown bang (Some result) ≡ meaning (gap_read bytes.now) }
+fn gap(bytes: &[u8]) -> LinePiece<'_>
+    ensures read { (bang : Bool) → shown_piece bang (Some result) ≡ meaning (gap_read bytes.now) }
     ensures within { (n : ℕ) → found_within result.found n }
 {
-    let (_, rest) = length_at(bytes);
-    Piece {
-        found: Found::Passed,
-        after: Before::Lengthy,
+    let (_, rest) = length_from(bytes);
+    LinePiece {
+        found: BorrowedToken::Passed,
+        after: PieceBefore::Lengthy,
         rest,
     }
 }
 
 #[tactic(auto, unfolding(crate::specs::Reading::measures_read))]
 #[inline(never)]
-fn measures(first: u8, bytes: &[u8]) -> Piece<'_>
-    ensures read { (bang : Bool) → shown bang (Some result) ≡ meaning (measures_read first bytes.now) }
+fn measures(first: u8, bytes: &[u8]) -> LinePiece<'_>
+    ensures read { (bang : Bool) → shown_piece bang (Some result) ≡ meaning (measures_read first bytes.now) }
     ensures within { (n : ℕ) → found_within result.found n }
 {
     let (digits, rest) = number_at(3, bytes);
-    Piece {
-        found: Found::Measures {
+    LinePiece {
+        found: BorrowedToken::Measures {
             seen: first == b'Z',
             count: count_of(digits),
         },
-        after: Before::Other,
+        after: PieceBefore::Other,
         rest,
     }
 }
 
 #[tactic(auto, unfolding(crate::specs::Reading::bar_read))]
-fn bar_piece(bytes: &[u8]) -> Option<Piece<'_>>
-    ensures read { (bang : Bool) → shown bang result ≡ meaning (bar_read bytes.now) }
+fn bar_piece(bytes: &[u8]) -> Option<LinePiece<'_>>
+    ensures read { (bang : Bool) → shown_piece bang result ≡ meaning (bar_read bytes.now) }
     ensures within { (n : ℕ) → IfSome result (λ x. found_within x.found n) }
 {
     let (bar, rest) = read_bar(bytes)?;
-    Some(Piece {
-        found: Found::Bar(bar),
-        after: Before::Bar,
+    Some(LinePiece {
+        found: BorrowedToken::Bar(bar),
+        after: PieceBefore::Bar,
         rest,
     })
 }
@@ -245,59 +245,59 @@ fn bar_piece(bytes: &[u8]) -> Option<Piece<'_>>
 /// A piece that begins with a dot; `rest` stands behind the dot.
 #[tactic(auto, unfolding(crate::specs::Reading::dot_read))]
 #[inline(never)]
-fn dot<'a>(bytes: &'a [u8], rest: &'a [u8]) -> Option<Piece<'a>>
+fn dot<'a>(bytes: &'a [u8], rest: &'a [u8]) -> Option<LinePiece<'a>>
     requires { bytes.now ≡ code "." ∷ rest.now }
-    ensures read { (bang : Bool) → shown bang result ≡ meaning (dot_read rest.now) }
+    ensures read { (bang : Bool) → shown_piece bang result ≡ meaning (dot_read rest.now) }
     ensures within { (n : ℕ) → IfSome result (λ x. found_within x.found n) }
 {
     match rest.split_first() {
-        Some((second, behind)) if *second == b'(' => Some(plain(Found::SlurOn, behind)),
-        Some((second, behind)) if *second == b'-' => Some(plain(Found::Tie, behind)),
+        Some((second, behind)) if *second == b'(' => Some(plain(BorrowedToken::SlurOn, behind)),
+        Some((second, behind)) if *second == b'-' => Some(plain(BorrowedToken::Tie, behind)),
         _ => Some(dot_or_bar(bytes, rest)),
     }
 }
 
-fn dot_or_bar<'a>(bytes: &'a [u8], rest: &'a [u8]) -> Piece<'a>
-    ensures read { (bang : Bool) → shown bang (Some result) ≡ meaning (or_else (bar_read bytes.now) (read (letter_form (code ".")) rest.now)) }
+fn dot_or_bar<'a>(bytes: &'a [u8], rest: &'a [u8]) -> LinePiece<'a>
+    ensures read { (bang : Bool) → shown_piece bang (Some result) ≡ meaning (or_else (bar_read bytes.now) (read (letter_form (code ".")) rest.now)) }
     ensures within { (n : ℕ) → found_within result.found n }
 {
     match bar_piece(bytes) {
         Some(piece) => piece,
-        None => plain(Found::Letter(b'.'), rest),
+        None => plain(BorrowedToken::Letter(b'.'), rest),
     }
 }
 
 /// A piece that begins with a bracket; `rest` stands behind the bracket.
 #[inline(never)]
-fn bracket<'a>(bang: bool, bytes: &'a [u8], rest: &'a [u8]) -> Option<Piece<'a>>
+fn bracket<'a>(bang: bool, bytes: &'a [u8], rest: &'a [u8]) -> Option<LinePiece<'a>>
     requires cut { bytes.now ≡ code "[" ∷ rest.now }
     requires small { length bytes.now ≤ 2 ^ 30 }
-    ensures read { shown bang result ≡ meaning (opened (opening rest.now) bang rest.now) }
+    ensures read { shown_piece bang result ≡ meaning (bracket_form (opening rest.now) bang rest.now) }
     ensures within { IfSome result (λ x. found_within x.found (length bytes.now)) }
 {
     match opening(rest) {
-        Opening::Bar => bar_piece(bytes),
-        Opening::Ending => ending(rest),
-        Opening::Inline => inline(rest),
-        Opening::Chord => chord(bang, rest),
+        BracketOpening::Bar => bar_piece(bytes),
+        BracketOpening::Ending => ending(rest),
+        BracketOpening::Inline => inline(rest),
+        BracketOpening::Chord => chord(bang, rest),
     }
 }
 
 /// What stands behind an opening bracket.
-pub fn opening(bytes: &[u8]) -> Opening
+pub fn opening(bytes: &[u8]) -> BracketOpening
     ensures { result ≡ opening bytes.now }
 {
     let Some((first, rest)) = bytes.split_first() else {
-        return Opening::Chord;
+        return BracketOpening::Chord;
     };
     if *first == b'|' {
-        Opening::Bar
+        BracketOpening::Bar
     } else if is_digit(*first) {
-        Opening::Ending
+        BracketOpening::Ending
     } else if is_letter(*first) && begins_colon(rest) {
-        Opening::Inline
+        BracketOpening::Inline
     } else {
-        Opening::Chord
+        BracketOpening::Chord
     }
 }
 
@@ -311,32 +311,32 @@ fn begins_colon(bytes: &[u8]) -> bool
 }
 
 #[tactic(auto, unfolding(crate::specs::Reading::chord_read))]
-fn chord(bang: bool, bytes: &[u8]) -> Option<Piece<'_>>
+fn chord(bang: bool, bytes: &[u8]) -> Option<LinePiece<'_>>
     requires { length bytes.now ≤ 2 ^ 30 }
-    ensures read { shown bang result ≡ meaning (chord_read bang bytes.now) }
+    ensures read { shown_piece bang result ≡ meaning (chord_read bang bytes.now) }
     ensures within { IfSome result (λ x. found_within x.found (length bytes.now)) }
 {
     let chord = chord_at(bang, bytes)?;
-    Some(Piece {
-        found: Found::Chord {
+    Some(LinePiece {
+        found: BorrowedToken::Chord {
             inside: chord.inside,
             len: chord.len,
         },
-        after: Before::Lengthy,
+        after: PieceBefore::Lengthy,
         rest: chord.rest,
     })
 }
 
 #[tactic(auto, unfolding(crate::specs::Reading::grace_read))]
 #[inline(never)]
-fn grace(bang: bool, bytes: &[u8]) -> Option<Piece<'_>>
+fn grace(bang: bool, bytes: &[u8]) -> Option<LinePiece<'_>>
     requires { length bytes.now ≤ 2 ^ 30 }
-    ensures read { shown bang result ≡ meaning (grace_read bang bytes.now) }
+    ensures read { shown_piece bang result ≡ meaning (grace_read bang bytes.now) }
     ensures within { IfSome result (λ x. found_within x.found (length bytes.now)) }
 {
     let group = grace_at(bang, bytes)?;
     Some(plain(
-        Found::Grace {
+        BorrowedToken::Grace {
             slash: group.slash,
             inside: group.inside,
         },
@@ -347,23 +347,23 @@ fn grace(bang: bool, bytes: &[u8]) -> Option<Piece<'_>>
 /// A piece that begins with a parenthesis.
 #[tactic(auto, unfolding(crate::specs::Reading::tuplet_read))]
 #[inline(always)]
-fn paren(bytes: &[u8]) -> Piece<'_>
-    ensures read { (bang : Bool) → shown bang (Some result) ≡ meaning (or_else (tuplet_read bytes.now) (read (slur_form false) bytes.now)) }
+fn paren(bytes: &[u8]) -> LinePiece<'_>
+    ensures read { (bang : Bool) → shown_piece bang (Some result) ≡ meaning (or_else (tuplet_read bytes.now) (read (slur_form false) bytes.now)) }
     ensures within { (n : ℕ) → found_within result.found n }
 {
     match tuplet_at(bytes) {
-        Some(tuplet) => Piece {
-            found: Found::Tuplet {
+        Some(tuplet) => LinePiece {
+            found: BorrowedToken::Tuplet {
                 p: tuplet.p,
                 q: tuplet.q,
                 r: tuplet.r,
             },
-            after: Before::Paren,
+            after: PieceBefore::Paren,
             rest: tuplet.rest,
         },
-        None => Piece {
-            found: Found::SlurOn,
-            after: Before::Paren,
+        None => LinePiece {
+            found: BorrowedToken::SlurOn,
+            after: PieceBefore::Paren,
             rest: bytes,
         },
     }
@@ -371,8 +371,8 @@ fn paren(bytes: &[u8]) -> Piece<'_>
 
 #[tactic(auto, unfolding(crate::specs::Reading::ending_read))]
 #[inline(never)]
-fn ending(bytes: &[u8]) -> Option<Piece<'_>>
-    ensures read { (bang bracket : Bool) → shown bang result ≡ meaning (ending_read bracket bytes.now) }
+fn ending(bytes: &[u8]) -> Option<LinePiece<'_>>
+    ensures read { (bang bracket : Bool) → shown_piece bang result ≡ meaning (ending_read bracket bytes.now) }
     ensures within { (n : ℕ) → IfSome result (λ x. found_within x.found n) }
 {
     let (first, rest) = bytes.split_first()?;
@@ -380,7 +380,7 @@ fn ending(bytes: &[u8]) -> Option<Piece<'_>>
         return None;
     }
     let (text, rest) = bytes.split_at(1 + ending_len(rest));
-    Some(plain(Found::Ending(text), rest))
+    Some(plain(BorrowedToken::Ending(text), rest))
 }
 
 fn ending_len(bytes: &[u8]) -> usize
@@ -395,20 +395,20 @@ fn ending_len(bytes: &[u8]) -> usize
 
 #[tactic(auto, unfolding(crate::specs::Reading::broken_read, abc_notes::specs::Runs::span))]
 #[inline(never)]
-fn broken(before: Before, first: u8, bytes: &[u8]) -> Option<Piece<'_>>
-    ensures read { (bang : Bool) → shown bang result ≡ meaning (broken_read before first bytes.now) }
+fn broken(before: PieceBefore, first: u8, bytes: &[u8]) -> Option<LinePiece<'_>>
+    ensures read { (bang : Bool) → shown_piece bang result ≡ meaning (broken_read before first bytes.now) }
     ensures within { (n : ℕ) → IfSome result (λ x. found_within x.found n) }
 {
     let right = first == b'>';
-    if is_broken(right, before) {
+    if is_after_broken(right, before) {
         return None;
     }
     let more = same_count(first, bytes);
     let rest = bytes.split_at(more).1;
     let dots = more as u8 + 1;
-    Some(Piece {
-        found: Found::Broken { right, dots },
-        after: Before::Broken { right },
+    Some(LinePiece {
+        found: BorrowedToken::Broken { right, dots },
+        after: PieceBefore::Broken { right },
         rest,
     })
 }
@@ -423,17 +423,17 @@ fn same_count(byte: u8, bytes: &[u8]) -> usize
 
 #[tactic(auto, unfolding(crate::specs::Reading::says_read, abc_notes::specs::Runs::span_all))]
 #[inline(never)]
-fn says(bytes: &[u8]) -> Option<Piece<'_>>
-    ensures read { (bang : Bool) → shown bang result ≡ meaning (says_read bytes.now) }
+fn says(bytes: &[u8]) -> Option<LinePiece<'_>>
+    ensures read { (bang : Bool) → shown_piece bang result ≡ meaning (says_read bytes.now) }
     ensures within { (n : ℕ) → IfSome result (λ x. found_within x.found n) }
 {
     let (text, rest) = bytes.split_at(text_len(bytes));
     let (_, rest) = rest.split_first()?;
-    Some(plain(Found::Says(text), rest))
+    Some(plain(BorrowedToken::Says(text), rest))
 }
 
 fn text_len(bytes: &[u8]) -> usize
-    ensures value { result ≡ prefix_len is_text bytes.now }
+    ensures value { result ≡ prefix_len is_quoted_byte bytes.now }
     ensures within { result ≤ length bytes.now }
 {
     bytes.iter().take_while(|b| **b != b'"').count()
@@ -441,8 +441,8 @@ fn text_len(bytes: &[u8]) -> usize
 
 /// An inline field, which the bytes begin.
 #[tactic(auto, unfolding(crate::specs::Reading::inline_read))]
-fn inline(bytes: &[u8]) -> Option<Piece<'_>>
-    ensures read { (bang : Bool) → shown bang result ≡ meaning (inline_read bytes.now) }
+fn inline(bytes: &[u8]) -> Option<LinePiece<'_>>
+    ensures read { (bang : Bool) → shown_piece bang result ≡ meaning (inline_read bytes.now) }
     ensures within { (n : ℕ) → IfSome result (λ x. found_within x.found n) }
 {
     let (letter, rest) = bytes.split_first()?;
@@ -450,7 +450,7 @@ fn inline(bytes: &[u8]) -> Option<Piece<'_>>
     let (text, rest) = bracketed(rest);
     let (_, rest) = rest.split_first()?;
     Some(plain(
-        Found::Inline {
+        BorrowedToken::Inline {
             letter: *letter,
             text,
         },
@@ -460,30 +460,30 @@ fn inline(bytes: &[u8]) -> Option<Piece<'_>>
 
 /// A piece that begins with an exclamation mark.
 #[tactic(auto, unfolding(crate::specs::Reading::bang_read))]
-fn bang_piece(bang: bool, bytes: &[u8]) -> Piece<'_>
-    ensures read { shown bang (Some result) ≡ meaning (bang_read bang bytes.now) }
+fn bang_piece(bang: bool, bytes: &[u8]) -> LinePiece<'_>
+    ensures read { shown_piece bang (Some result) ≡ meaning (bang_read bang bytes.now) }
     ensures within { (n : ℕ) → found_within result.found n }
 {
     if bang {
-        return plain(Found::Cut, bytes);
+        return plain(BorrowedToken::Cut, bytes);
     }
     match name_at(bytes) {
-        Some((name, rest)) => plain(Found::Named(name), rest),
-        None => plain(Found::Passed, bytes),
+        Some((name, rest)) => plain(BorrowedToken::Named(name), rest),
+        None => plain(BorrowedToken::Passed, bytes),
     }
 }
 
 /// A piece that begins with a plus sign.
 #[tactic(auto, unfolding(crate::specs::Reading::plus_read, abc_notes::specs::Runs::span_all))]
 #[inline(never)]
-fn plus(bytes: &[u8]) -> Piece<'_>
-    ensures read { (bang : Bool) → shown bang (Some result) ≡ meaning (plus_read bytes.now) }
+fn plus(bytes: &[u8]) -> LinePiece<'_>
+    ensures read { (bang : Bool) → shown_piece bang (Some result) ≡ meaning (plus_read bytes.now) }
     ensures within { (n : ℕ) → found_within result.found n }
 {
     let behind = bytes.split_at(plus_len(bytes)).1;
     match behind.split_first() {
-        Some((mark, rest)) if *mark == b'+' => plain(Found::Passed, rest),
-        _ => plain(Found::Passed, bytes),
+        Some((mark, rest)) if *mark == b'+' => plain(BorrowedToken::Passed, rest),
+        _ => plain(BorrowedToken::Passed, bytes),
     }
 }
 
@@ -501,11 +501,11 @@ fn is_plus_byte(byte: u8) -> bool
 }
 
 #[tactic(auto, unfolding(crate::specs::Reading::space_read, abc_notes::specs::Runs::span_all))]
-fn space(bytes: &[u8]) -> Piece<'_>
-    ensures read { (bang : Bool) (b : ℕ) → shown bang (Some result) ≡ meaning (space_read b bytes.now) }
+fn space(bytes: &[u8]) -> LinePiece<'_>
+    ensures read { (bang : Bool) (b : ℕ) → shown_piece bang (Some result) ≡ meaning (space_read b bytes.now) }
     ensures within { (n : ℕ) → found_within result.found n }
 {
-    plain(Found::Space, bytes.split_at(blank_len(bytes)).1)
+    plain(BorrowedToken::Space, bytes.split_at(blank_len(bytes)).1)
 }
 
 fn blank_len(bytes: &[u8]) -> usize

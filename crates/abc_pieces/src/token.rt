@@ -1,4 +1,4 @@
-use crate::apart::Apart;
+use crate::apart::Boxed;
 use abc_notes::{GraceChord, Len};
 use mus_units::{Bar, Deco, Head, Row, Text};
 
@@ -19,7 +19,7 @@ pub enum Token {
     Note { head: Head, len: Len },
     Rest { seen: bool, len: Len },
     Measures { seen: bool, count: u16 },
-    Chord(Apart<WrittenChord>),
+    Chord(Boxed<WrittenChord>),
     Grace { slash: bool, body: Row<GraceChord> },
     Tuplet { p: u8, q: u8, r: u8 },
     SlurOn,
@@ -38,7 +38,7 @@ pub enum Token {
 /// What the piece before tells of the next: `Lengthy` has a length, `Paren` is a
 /// slur's beginning or a tuplet, which digits may not follow.
 #[derive(Clone, Copy, PartialEq, Eq)]
-pub enum Before {
+pub enum PieceBefore {
     Bar,
     Broken { right: bool },
     Lengthy,
@@ -49,7 +49,7 @@ pub enum Before {
 /// A token that isn't copied from its line. The text of a chord or a grace is
 /// what stands between its brackets.
 #[derive(Clone, Copy)]
-pub enum Found<'a> {
+pub enum BorrowedToken<'a> {
     Note { head: Head, len: Len },
     Rest { seen: bool, len: Len },
     Measures { seen: bool, count: u16 },
@@ -73,7 +73,7 @@ pub enum Found<'a> {
 
 /// What a piece may be, by its first byte.
 #[derive(Clone, Copy, PartialEq, Eq)]
-pub enum Class {
+pub enum PieceClass {
     Note,
     Rest,
     Gap,
@@ -99,7 +99,7 @@ pub enum Class {
 
 /// What stands behind an opening bracket.
 #[derive(Clone, Copy, PartialEq, Eq)]
-pub enum Opening {
+pub enum BracketOpening {
     Bar,
     Ending,
     Inline,

@@ -1,6 +1,6 @@
 -- Facts of lists and tests that several proofs share.
 use Rattle.std.{proofs.{Common.{◌≡◌, refl, ℕ, List, [], ◌∷◌, ◌++◌, Bool, cond}, lemmas.Bool.cond_both}, specs.List.AllByRecursion}
-use Rattle.{abc_steps.specs.{declared.place.Place.Place, Tuplets.{fits, or_default}}, abc_signs.specs.{declared.written.Sign.Sign, Signs.tuplet_of}}
+use Rattle.{abc_steps.specs.{declared.state.VoiceState.VoiceState, Tuplets.{fits, or_default}}, abc_signs.specs.{declared.written.TreeItem.TreeItem, Signs.tuplet_of}}
 
 -- an empty list has empty parts
 pub none_before : {X : Type 0} (xs ys : List X) → xs ++ ys ≡ [] → xs ≡ []
@@ -28,5 +28,5 @@ back_all P (x ∷ xs) ys h = back_all P xs ys h.1
 pub either : {X : Type 0} (P : X → Type 0) (b : Bool) (x y : X) → P x → P y → P (cond b x y)
 either P b x y h i = cond_both b x y P (λ e. h) (λ e. i)
 
-pub with_tuplet : (P : List Sign → Type 0) (now : Place) (p q r : ℕ) → ((m x y z : ℕ) → P (Sign.Opens m x y z ∷ [])) → P [] → P (tuplet_of now p q r)
+pub with_tuplet : (P : List TreeItem → Type 0) (now : VoiceState) (p q r : ℕ) → ((m x y z : ℕ) → P (TreeItem.Opens m x y z ∷ [])) → P [] → P (tuplet_of now p q r)
 with_tuplet P now p q r h i = either P (fits (or_default p r) now.taking) _ [] (h _ _ _ _) i

@@ -4,28 +4,28 @@ use Rattle.std.proofs.Common.{cond, None, arith, map, reverse, ◌≡◌, ◌∙
 use Rattle.std.proofs.lemmas.{Bool.leb-false, List.{reverse-append, Elements.{All-weaker, All-from_recursion}}}
 use Rattle.{abc_lines.specs.declared.fault.FaultKind.FaultKind, mus_units.specs.Parts.parts_list}
 use Rattle.abc_faults.specs.Faults.{any_off, fault_if, faults_of, faults_in, grace_faults, is_free, sound_faults}
-use Rattle.abc_words.specs.Verses.{verse_fault, first_of as head_of}
-use Rattle.abc_steps.specs.{Counts.{further, measure_at, measures_begun}, Places.{place_at, measure_of}, Looks.{Steps, since_event}, Kinds.is_event}
+use Rattle.abc_words.specs.Verses.{verse_fault, first_verse_fault as head_of}
+use Rattle.abc_steps.specs.{Counts.{further_measures, measure_at, measures_begun}, Places.{state_at, measure_of}, Looks.{Steps, since_event}, Kinds.is_event}
 use Rattle.abc_steps.specs.Lengths.{written_length}
-use Rattle.abc_steps.specs.declared.{step.{Item.Item, Sound.Sound, Step.Step, Stood.Stood}, force.InForce.InForce, place.Place.Place}
+use Rattle.abc_steps.specs.declared.{step.{BodyItem.BodyItem, WrittenSound.WrittenSound, Step.Step, PlacedStep.PlacedStep}, force.InForce.InForce, state.VoiceState.VoiceState}
 use Rattle.abc_score.proofs.Basics.{none_before, none_behind}
-use Rattle.abc_score.specs.{declared.voices.VoiceRead.VoiceRead, Faults.{voice_faults, faults_of_voices}, Score.{most_measures, own_measures}}
+use Rattle.abc_score.specs.{declared.voices.ReadVoice.ReadVoice, Faults.{voice_faults, faults_of_voices}, Score.{most_measures, own_measures}}
 
 -- a test that gives no fault
-pub no_fault : (b : Bool) (kind : FaultKind) (at : Stood) → fault_if b kind at ≡ [] → b ≡ false
+pub no_fault : (b : Bool) (kind : FaultKind) (at : PlacedStep) → fault_if b kind at ≡ [] → b ≡ false
 no_fault true kind at e = absurd cc
 no_fault false kind at e = refl
 
 -- ---- steps
 
 -- a note, a chord or a rest without faults
-pub record IsClearSound (now : Place) (before behind : Steps) (s : Sound) : Type 0 where
+pub record IsClearSound (now : VoiceState) (before behind : Steps) (s : WrittenSound) : Type 0 where
   pub drawn : let whole = written_length now.force.unit s before behind in is_none (parts_list whole.num whole.den) ≡ false
   pub near : any_off now.force.clef s.heads ≡ false
   pub within : measure_of now < 2000
   pub graces : grace_faults now.force.clef (since_event before) ≡ []
 
-pub sound_clear : (now : Place) (before behind : Steps) (at : Stood) (s : Sound) → faults_of now before at behind (Step.Sound s) ≡ []
+pub sound_clear : (now : VoiceState) (before behind : Steps) (at : PlacedStep) (s : WrittenSound) → faults_of now before at behind (Step.Sound s) ≡ []
     → IsClearSound now before behind s
 unfolding faults_of sound_faults
 sound_clear now before behind at s e =
@@ -38,12 +38,12 @@ sound_clear now before behind at s e =
     }
 
 -- whole measure rests without faults
-pub record IsClearRest (now : Place) (before : Steps) (count : ℕ) : Type 0 where
+pub record IsClearRest (now : VoiceState) (before : Steps) (count : ℕ) : Type 0 where
   pub metered : is_free now.force.meter ≡ false
   pub within : measure_of now + (count - 1) < 2000
   pub graces : grace_faults now.force.clef (since_event before) ≡ []
 
-pub rest_clear : (now : Place) (before behind : Steps) (at : Stood) (seen : Bool) (count : ℕ)
+pub rest_clear : (now : VoiceState) (before behind : Steps) (at : PlacedStep) (seen : Bool) (count : ℕ)
     → faults_of now before at behind (Step.Measures seen count) ≡ []
     → IsClearRest now before count
 unfolding faults_of
@@ -56,16 +56,16 @@ rest_clear now before behind at seen count e =
     }
 
 -- one step more: an event without a fault stands in a good measure
-step_within : (first : InForce) (before behind : Steps) (at : Stood) (s : Step) → faults_of (place_at first before) before at behind s ≡ []
-    → measures_begun before ≤ 2000 → cond (is_event s) (measure_at before + further s + 1) (measures_begun before) ≤ 2000
-unfolding is_event further
+step_within : (first : InForce) (before behind : Steps) (at : PlacedStep) (s : Step) → faults_of (state_at first before) before at behind s ≡ []
+    → measures_begun before ≤ 2000 → cond (is_event s) (measure_at before + further_measures s + 1) (measures_begun before) ≤ 2000
+unfolding is_event further_measures
 step_within first before behind at (Step.Sound s) e few =
-    let clear = sound_clear (place_at first before) before behind at s e in omega (arith, clear.within)
+    let clear = sound_clear (state_at first before) before behind at s e in omega (arith, clear.within)
 step_within first before behind at (Step.Measures seen count) e few =
-    let clear = rest_clear (place_at first before) before behind at seen count e in omega (arith, clear.within)
+    let clear = rest_clear (state_at first before) before behind at seen count e in omega (arith, clear.within)
 step_within first before behind at _ e few = few
 
-pub turned : (at : Stood) (behind before : Steps) → reverse behind ++ (at ∷ before) ≡ reverse (at ∷ behind) ++ before
+pub turned : (at : PlacedStep) (behind before : Steps) → reverse behind ++ (at ∷ before) ≡ reverse (at ∷ behind) ++ before
 turned at behind before = sym (ap (λ z. z ++ before) (reverse-append (at ∷ []) behind) ∙ append_assoc (reverse behind) (at ∷ []) before)
 
 walk_within : (first : InForce) (before behind : Steps) → faults_in first before behind ≡ [] → measures_begun before ≤ 2000
@@ -76,34 +76,34 @@ walk_within first before (at ∷ behind) e few =
     (walk_within first (at ∷ before) behind (none_behind _ _ e) (step_within first before behind at at.step (none_before _ _ e) few))
 
 -- ---- voices
-own_within : (v : VoiceRead) → faults_in v.first [] v.steps ≡ [] → own_measures v ≤ 2000
+own_within : (v : ReadVoice) → faults_in v.first [] v.steps ≡ [] → own_measures v ≤ 2000
 own_within v e = subst (λ (z : Steps). measures_begun z ≤ 2000) (append-nil (reverse v.steps)) (walk_within v.first [] v.steps e (omega arith))
 
 -- voices without faults, by themselves and for their verses
-pub record IsClearVoice (unnamed : List ℕ) (items : List Item) (v : VoiceRead) : Type 0 where
+pub record IsClearVoice (unnamed : List ℕ) (items : List BodyItem) (v : ReadVoice) : Type 0 where
   pub own : faults_in v.first [] v.steps ≡ []
   pub verses : verse_fault v.start.id unnamed items ≡ None
 
-each_clear : (unnamed : List ℕ) (items : List Item) (voices : List VoiceRead) → flat_map (voice_faults unnamed items) voices ≡ []
+each_clear : (unnamed : List ℕ) (items : List BodyItem) (voices : List ReadVoice) → flat_map (voice_faults unnamed items) voices ≡ []
     → AllByRecursion (IsClearVoice unnamed items) voices
 each_clear unnamed items [] e = tt
 each_clear unnamed items (v ∷ voices) e =
     let here = none_before _ _ e in
     (record { own = none_before _ _ here; verses = ap head_of (none_behind _ _ here) }, each_clear unnamed items voices (none_behind _ _ e))
 
-pub voices_clear : (unnamed : List ℕ) (items : List Item) (voices : List VoiceRead) → faults_of_voices unnamed items voices ≡ []
+pub voices_clear : (unnamed : List ℕ) (items : List BodyItem) (voices : List ReadVoice) → faults_of_voices unnamed items voices ≡ []
     → AllByRecursion (IsClearVoice unnamed items) voices
 voices_clear unnamed items voices e = each_clear unnamed items voices (none_before _ _ e)
 
-pub few_measures : (unnamed : List ℕ) (items : List Item) (voices : List VoiceRead) → AllByRecursion (IsClearVoice unnamed items) voices
+pub few_measures : (unnamed : List ℕ) (items : List BodyItem) (voices : List ReadVoice) → AllByRecursion (IsClearVoice unnamed items) voices
     → most_measures voices ≤ 2000
 few_measures unnamed items voices clear = most_within voices 0 clear (omega arith) where
-  most_within : (voices : List VoiceRead) (most : ℕ) → AllByRecursion (IsClearVoice unnamed items) voices → most ≤ 2000
+  most_within : (voices : List ReadVoice) (most : ℕ) → AllByRecursion (IsClearVoice unnamed items) voices → most ≤ 2000
       → fold max most (map own_measures voices) ≤ 2000
   most_within [] most clear few = few
   most_within (v ∷ voices) most clear few =
       most_within voices (max most (own_measures v)) clear.1 (let here = own_within v clear.0.own in omega (arith, here, few))
 
-pub clear_verses : (unnamed : List ℕ) (items : List Item) (voices : List VoiceRead) → AllByRecursion (IsClearVoice unnamed items) voices
+pub clear_verses : (unnamed : List ℕ) (items : List BodyItem) (voices : List ReadVoice) → AllByRecursion (IsClearVoice unnamed items) voices
     → All (λ v. verse_fault v.start.id unnamed items ≡ None) voices
 clear_verses unnamed items voices clear = All-weaker (IsClearVoice unnamed items) _ (λ v h. h.verses) voices (All-from_recursion _ voices clear)

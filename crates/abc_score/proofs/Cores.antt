@@ -6,8 +6,8 @@ use Rattle.mus_units.specs.{declared.pitch.Clef.Clef, Good.{IsGoodKey, IsGoodMet
 use Rattle.abc_events.specs.{Leaf.Leaf, Nesting.{Forest, none_more, one, group, nest, music_of, tree_of}}
 use Rattle.abc_score.proofs.{Basics.{front_all, back_all}, Rows.{rows, leaf_rows, nest_rows, at_tuplet}}
 use Rattle.mus_score.specs.GoodScore.{AreCounted, AreInReach, IsGoodEvent, IsInReach, clef_at}
-use Rattle.mus_score.specs.Times.{Leafing, in_row, leaves_step, leaves_within, flats_of, nothing}
-use Rattle.mus_score.specs.declared.{score.{Event.Event, Flat.Flat, Music.Music}, times.Waits.Waits}
+use Rattle.mus_score.specs.Times.{Leafing, in_row, leaves_step, leaves_within, flats_of, no_pending_leaf}
+use Rattle.mus_score.specs.declared.{score.{Event.Event, Flat.Flat, Music.Music}, times.PendingLeaf.PendingLeaf}
 use Rattle.mus_score.specs.declared.score.Music.TheVariants as music
 
 -- an event and the graces before it
@@ -49,20 +49,20 @@ events_of_cores verses (f ∷ fs) h =
 
 -- ---- rows of nodes
 module _ (qs ps : ℕ) where
-  flats-append : (xs ys : List Leafing) (w : Waits)
+  flats-append : (xs ys : List Leafing) (w : PendingLeaf)
       → (in_row (xs ++ ys) qs ps w).flats ≡ (in_row xs qs ps w).flats ++ (in_row ys qs ps (in_row xs qs ps w).waits).flats
   flats-append [] ys w = refl
   flats-append (x ∷ xs) ys w =
       let first = x qs ps w in ap (λ z. first.flats ++ z) (flats-append xs ys first.waits) ∙ sym (append_assoc first.flats _ _)
 
-  waits-append : (xs ys : List Leafing) (w : Waits) → (in_row (xs ++ ys) qs ps w).waits ≡ (in_row ys qs ps (in_row xs qs ps w).waits).waits
+  waits-append : (xs ys : List Leafing) (w : PendingLeaf) → (in_row (xs ++ ys) qs ps w).waits ≡ (in_row ys qs ps (in_row xs qs ps w).waits).waits
   waits-append [] ys w = refl
   waits-append (x ∷ xs) ys w = waits-append xs ys (x qs ps w).waits
 
 -- nodes that are these events, and behind which no grace waits
 pub record Sings (ms : List Music) (cs : List Core) : Type 0 where
-  pub cores : (qs ps : ℕ) (w : Waits) → w.graces ≡ [] → map core (in_row (map leaves_within ms) qs ps w).flats ≡ cs
-  pub none : (qs ps : ℕ) (w : Waits) → w.graces ≡ [] → (in_row (map leaves_within ms) qs ps w).waits.graces ≡ []
+  pub cores : (qs ps : ℕ) (w : PendingLeaf) → w.graces ≡ [] → map core (in_row (map leaves_within ms) qs ps w).flats ≡ cs
+  pub none : (qs ps : ℕ) (w : PendingLeaf) → w.graces ≡ [] → (in_row (map leaves_within ms) qs ps w).waits.graces ≡ []
 
 pub sings_none : Sings [] []
 sings_none = record { cores = λ qs ps w e. refl; none = λ qs ps w e. e }
@@ -76,7 +76,7 @@ sings_append xs ys cs ds a b = record {
       ∙ ap (λ z. z ++ map core s.flats) (a.cores qs ps w e) ∙ ap (λ z. cs ++ z) (b.cores qs ps r.waits (a.none qs ps w e));
   none = λ qs ps w e.
       ap (λ (z : List Leafing). (in_row z qs ps w).waits.graces) (map-append leaves_within xs ys)
-      ∙ ap (λ (z : Waits). z.graces) (waits-append qs ps (map leaves_within xs) (map leaves_within ys) w) ∙ b.none qs ps _ (a.none qs ps w e);
+      ∙ ap (λ (z : PendingLeaf). z.graces) (waits-append qs ps (map leaves_within xs) (map leaves_within ys) w) ∙ b.none qs ps _ (a.none qs ps w e);
 }
 
 pub sings_tuplet : (p q : ℕ) (inner : List Music) (cs : List Core) → Sings inner cs → Sings (music.Tuplet p q inner ∷ []) cs
@@ -105,4 +105,4 @@ forest_sings (group p q takes inner f) h =
 pub tree_sings : (ls : List Leaf) → AllByRecursion IsSung (leaf_rows ls) → map core (flats_of (tree_of ls)) ≡ flat_map sung (leaf_rows ls)
 tree_sings ls h =
     let sings = forest_sings (nest ls) (subst (AllByRecursion IsSung) (sym (nest_rows ls)) h) in
-    sings.cores 1 1 nothing refl ∙ ap (flat_map sung) (nest_rows ls)
+    sings.cores 1 1 no_pending_leaf refl ∙ ap (flat_map sung) (nest_rows ls)

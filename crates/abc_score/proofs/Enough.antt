@@ -6,7 +6,7 @@ use Rattle.std.specs.{Prelude.{◌<◌, ◌⊎◌}, List.{AllByRecursion, Contai
 use Rattle.{abc_lines.specs.declared.fault.Fault.Fault, abc_score.specs.Judged.{HasCrowd, IsWithin, AreEnough, AreJudged}}
 use Rattle.abc_faults.proofs.{Crowds.{IsFaultOf, before_all, crowd_held, fault_of, none_up_to, same_order, weight_held}, Caps.capped_append}
 use Rattle.abc_faults.proofs.Firsts.{first_append, not_before, not_before_itself}
-use Rattle.abc_faults.specs.{First.{earlier, first_of, is_before, IsFirst}, declared.weights.Weight.Weight}
+use Rattle.abc_faults.specs.{First.{earlier, first_of, is_before, IsFirstInOrder}, declared.weights.Weight.Weight}
 use Rattle.abc_faults.specs.Weights.{IsBehind, capped, count_up_to, crowd_fault, crowd_up_to, crowded, stands_before}
 
 pub all_enough : (faults : List Fault) (all : List Weight) → AreEnough faults faults all all
@@ -126,7 +126,7 @@ module _ {some faults : List Fault} {put all : List Weight} (h : AreEnough some 
   none_if [] h = refl
   none_if (f ∷ fs) h = absurd (h f (0, omega arith, refl))
 
-  pub first_enough : (found : Option Fault) → IsFirst (some ++ crowded put) found → IsFirst (faults ++ crowded all) found
+  pub first_enough : (found : Option Fault) → IsFirstInOrder (some ++ crowded put) found → IsFirstInOrder (faults ++ crowded all) found
   first_enough None first = none_if (faults ++ crowded all) (λ f k.
       let c = told f (covered f k) in let held = subst (λ fs. Contains fs c.0) first c.1.0 in absurd (omega (arith, held.1)))
   first_enough (Some x) first = record {

@@ -2,10 +2,10 @@
 use Rattle.std.proofs.Common.{◌≡◌, refl, ℕ, ◌+◌, ◌≤◌, ◌<◌, List, [], ◌∷◌, ◌++◌, Bool, true, false, reverse, arith}
 use Rattle.std.proofs.lemmas.Bool.{Decides.nat_tests, and_parts, or_parts, cond_both, leb-true, ltb-true}
 use Rattle.std.specs.{Prelude.{⊤, ◌==◌, ◌&&◌, nat_le, nat_lt}, List.list_any}
-use Rattle.{mus_score.specs.Walks.RiseWithin, abc_events.specs.Bars.{forced_at, forced_bars, forced_behind, is_forced, is_near_bar, with_bar}}
-use Rattle.abc_score.{proofs.Basics.either, specs.{declared.voices.VoiceRead.VoiceRead, Score.forced_of}}
+use Rattle.{mus_score.specs.Walks.RiseWithin, abc_events.specs.Bars.{forced_at, forced_bars, forced_behind, forces_bar, is_near_bar, with_bar}}
+use Rattle.abc_score.{proofs.Basics.either, specs.{declared.voices.ReadVoice.ReadVoice, Score.forced_of}}
 use Rattle.abc_steps.specs.{Counts.{all_further, begins_group, counts_of, measure_at, nearest_at}, Looks.Steps}
-use Rattle.abc_steps.specs.declared.{step.{Step.Step, Stood.Stood}, counts.Counts.Counts}
+use Rattle.abc_steps.specs.declared.{step.{Step.Step, PlacedStep.PlacedStep}, counts.Counts.Counts}
 
 -- bars that rise from behind one, before n and not past another
 abbrev Rises : ℕ → ℕ → ℕ → List ℕ → Type 0
@@ -44,12 +44,12 @@ step_rises : (n : ℕ) (counts : Counts) (s : Step) (bs : List ℕ) → Rises 0 
 unfolding forced_behind
 step_rises n counts Step.Break bs rise =
     let bar = counts.groups + counts.further in
-    cond_both (is_forced n counts) _ _ (Rises 0 n bar) (λ e.
+    cond_both (forces_bar n counts) _ _ (Rises 0 n bar) (λ e.
     let parts = and_parts (is_near_bar counts.nearest) _ e in let held = inside bar n parts.1 in
     with_bar_rises n bar bar bs held.0 held.1 (omega arith) rise) (λ e. rise)
 step_rises n counts _ bs rise = rise
 
-measure_grows : (s : Stood) (before : Steps) → measure_at before ≤ measure_at (s ∷ before)
+measure_grows : (s : PlacedStep) (before : Steps) → measure_at before ≤ measure_at (s ∷ before)
 measure_grows s before =
     either (λ g. measure_at before ≤ g + all_further (s ∷ before)) (begins_group s.step (nearest_at before)) _ _ (omega arith) (omega arith)
 
@@ -62,7 +62,7 @@ forced_rises n (s ∷ before) =
 bars_rise : (n : ℕ) (steps : Steps) → RiseWithin 0 n (forced_bars steps n)
 bars_rise n steps = within_n 0 n (measure_at (reverse steps)) (forced_bars steps n) (forced_rises n (reverse steps))
 
-pub forced_rise : (flow : Bool) (voices : List VoiceRead) (n : ℕ) → RiseWithin 0 n (forced_of flow voices n)
+pub forced_rise : (flow : Bool) (voices : List ReadVoice) (n : ℕ) → RiseWithin 0 n (forced_of flow voices n)
 forced_rise true voices n = tt
 forced_rise false [] n = tt
 forced_rise false (v ∷ voices) n = bars_rise n v.steps
@@ -71,5 +71,5 @@ none_within : (n : ℕ) (bs : List ℕ) → n < 2 → RiseWithin 0 n bs → bs �
 none_within n [] few rise = refl
 none_within n (b ∷ bs) few rise = absurd (omega (arith, few, rise.0, rise.1))
 
-pub none_forced : (flow : Bool) (voices : List VoiceRead) (n : ℕ) → n < 2 → forced_of flow voices n ≡ []
+pub none_forced : (flow : Bool) (voices : List ReadVoice) (n : ℕ) → n < 2 → forced_of flow voices n ≡ []
 none_forced flow voices n few = none_within n _ few (forced_rise flow voices n)

@@ -1,35 +1,35 @@
 -- The voices of a score: each has all its measures, no two have one id, and the first begins a staff.
 use Rattle.std.proofs.{Common.{◌≡◌, ◌≢◌, ◌∙◌, refl, ℕ, List, [], ◌∷◌, length, map}, lemmas.List.{Elements.All-map, FromFn.length-map-range_with_len}}
 use Rattle.std.specs.List.{All, AllByRecursion}
-use Rattle.{mus_score.specs.{declared.score.Voice.Voice, GoodScore.IsLed, Walks.Distinct}, abc_header.specs.declared.header.Header.Header}
-use Rattle.{abc_steps.specs.declared.step.Item.Item, abc_items.specs.Voices.unnamed_of}
-use Rattle.{abc_signs.specs.Signs.signs, abc_events.specs.{Bars.{bar_of, bars_of}, Leaves.leaves_of, Measures.measure_of}}
-use Rattle.abc_score.specs.{declared.voices.VoiceRead.VoiceRead, Voices.{AreApart, IsOther, read_ids}, Score.{sung_words, voice_of, written_measures}}
+use Rattle.{mus_score.specs.{declared.score.Voice.Voice, GoodScore.IsLed, Walks.Distinct}, abc_fields.specs.declared.header.Header.Header}
+use Rattle.{abc_steps.specs.declared.step.BodyItem.BodyItem, abc_items.specs.Voices.unnamed_of}
+use Rattle.{abc_signs.specs.Signs.signs, abc_events.specs.{Bars.{bar_of, bars_of}, Leaves.leaves_of, Measures.measure_of_leaves}}
+use Rattle.abc_score.specs.{declared.voices.ReadVoice.ReadVoice, Voices.{AreDistinctIds, IsNoneOfIds, read_ids}, Score.{sung_words, voice_by_header, written_measures}}
 
-module _ (header : Header) (items : List Item) (n : ℕ) where
+module _ (header : Header) (items : List BodyItem) (n : ℕ) where
   -- a voice has as many measures as it is given
-  pub length_voice : (v : VoiceRead) → length (voice_of header items n v).measures ≡ n
-  unfolding voice_of written_measures
+  pub length_voice : (v : ReadVoice) → length (voice_by_header header items n v).measures ≡ n
+  unfolding voice_by_header written_measures
   length_voice v =
       let all = signs v.first [] v.steps in let bars = bars_of v.steps n in
-      length-map-range_with_len (measure_of (leaves_of (sung_words v.start.id (unnamed_of header) items all) all) bars) 0 (length bars)
+      length-map-range_with_len (measure_of_leaves (leaves_of (sung_words v.start.id (unnamed_of header) items all) all) bars) 0 (length bars)
       ∙ length-map-range_with_len (bar_of v.steps) 0 n
 
-  pub lengths_agree : (voices : List VoiceRead) → All (λ (v : Voice). length v.measures ≡ n) (map (voice_of header items n) voices)
-  lengths_agree voices = All-map (λ (v : Voice). length v.measures ≡ n) (voice_of header items n) voices (λ k d less. length_voice _)
+  pub lengths_agree : (voices : List ReadVoice) → All (λ (v : Voice). length v.measures ≡ n) (map (voice_by_header header items n) voices)
+  lengths_agree voices = All-map (λ (v : Voice). length v.measures ≡ n) (voice_by_header header items n) voices (λ k d less. length_voice _)
 
-  other_voices : (v : VoiceRead) (voices : List VoiceRead) → IsOther v.start.id (read_ids voices)
-      → AllByRecursion (λ (w : Voice). (voice_of header items n v).id ≢ w.id) (map (voice_of header items n) voices)
-  unfolding voice_of
+  other_voices : (v : ReadVoice) (voices : List ReadVoice) → IsNoneOfIds v.start.id (read_ids voices)
+      → AllByRecursion (λ (w : Voice). (voice_by_header header items n v).id ≢ w.id) (map (voice_by_header header items n) voices)
+  unfolding voice_by_header
   other_voices v [] others = tt
   other_voices v (w ∷ voices) others = (others.0, other_voices v voices others.1)
 
-  pub voices_apart : (voices : List VoiceRead) → AreApart (read_ids voices) → Distinct (map (voice_of header items n) voices)
+  pub voices_apart : (voices : List ReadVoice) → AreDistinctIds (read_ids voices) → Distinct (map (voice_by_header header items n) voices)
   voices_apart [] apart = tt
   voices_apart (v ∷ voices) apart = (other_voices v voices apart.0, voices_apart voices apart.1)
 
   -- a voice as it is read has its staff for itself
-  pub voices_led : (voices : List VoiceRead) → IsLed (map (voice_of header items n) voices)
-  unfolding voice_of
+  pub voices_led : (voices : List ReadVoice) → IsLed (map (voice_by_header header items n) voices)
+  unfolding voice_by_header
   voices_led [] = tt
   voices_led (v ∷ voices) = refl

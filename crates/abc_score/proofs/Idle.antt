@@ -1,24 +1,24 @@
 -- A step that alone says nothing leaves all that is told of a voice as it is.
 use Rattle.std.proofs.Common.{◌≡◌, ◌∙◌, ◌<◌, refl, sym, ap, ℕ, ◌+◌, [], ◌∷◌, ◌++◌, length, get_or, reverse, take, drop, true, arith, List}
-use Rattle.abc_steps.specs.{declared.{step.{Step.Step, Stood.Stood}, force.InForce.InForce, place.Place.Place}, Looks.Steps, Places.place_at}
-use Rattle.abc_steps.specs.{Kinds.{is_event, is_bar}, Counts.{begins_group, further}, Force.force_behind, Tuplets.taking_behind}
+use Rattle.abc_steps.specs.{declared.{step.{Step.Step, PlacedStep.PlacedStep}, force.InForce.InForce, state.VoiceState.VoiceState}, Looks.Steps, Places.state_at}
+use Rattle.abc_steps.specs.{Kinds.{is_event, is_bar}, Counts.{begins_group, further_measures}, Force.force_after, Tuplets.open_tuplets_after}
 use Rattle.abc_faults.{specs.{Faults.{faults_in, faults_of}, Weights.{weights_in, weights_of}}, proofs.Walks.{walk_parts, weigh_parts}}
-use Rattle.abc_signs.specs.Signs.{signs_of}
+use Rattle.abc_signs.specs.Signs.{tree_items_of}
 use Rattle.abc_lines.specs.declared.fault.Fault.{Fault}
 use Rattle.{std.specs.Prelude.Option, abc_faults.specs.declared.weights.Weight.Weight, abc_score.{specs.Judged.is_idle, proofs.Stops.IsAt}}
 
-pub record IsIdleAt (first : InForce) (before : Steps) (at : Stood) (behind : Steps) : Type 0 where
-  pub faults : faults_of (place_at first before) before at behind at.step ≡ []
-  pub weights : weights_of (place_at first before) before at behind at.step ≡ []
-  pub signs : signs_of (place_at first before) before at behind at.step ≡ []
-  pub place : place_at first (at ∷ before) ≡ place_at first before
+pub record IsIdleAt (first : InForce) (before : Steps) (at : PlacedStep) (behind : Steps) : Type 0 where
+  pub faults : faults_of (state_at first before) before at behind at.step ≡ []
+  pub weights : weights_of (state_at first before) before at behind at.step ≡ []
+  pub signs : tree_items_of (state_at first before) before at behind at.step ≡ []
+  pub place : state_at first (at ∷ before) ≡ state_at first before
 
-with_further : (now : Place) (n : ℕ) → n ≡ now.counts.further → record now { counts = record now.counts { further = n } } ≡ now
+with_further : (now : VoiceState) (n : ℕ) → n ≡ now.counts.further → record now { counts = record now.counts { further = n } } ≡ now
 with_further now n e = ap (λ k. record now { counts = record now.counts { further = k } }) e
 
 of_kind : (first : InForce) (before behind : Steps) (s : Step) (line column : ℕ) → is_idle s ≡ true
     → IsIdleAt first before (record { step = s; line = line; column = column }) behind
-unfolding is_idle faults_of weights_of signs_of is_event is_bar begins_group further force_behind taking_behind
+unfolding is_idle faults_of weights_of tree_items_of is_event is_bar begins_group further_measures force_after open_tuplets_after
 of_kind first before behind (Step.Sound s) line column e = absurd cc
 of_kind first before behind (Step.Measures seen count) line column e = absurd cc
 of_kind first before behind (Step.Tuplet p q r) line column e = absurd cc
@@ -32,13 +32,13 @@ of_kind first before behind _ line column e = record {
   faults = refl;
   weights = refl;
   signs = refl;
-  place = with_further (place_at first before) _ (omega arith);
+  place = with_further (state_at first before) _ (omega arith);
 }
 
-pub idle_at : (first : InForce) (before : Steps) (at : Stood) (behind : Steps) → is_idle at.step ≡ true → IsIdleAt first before at behind
+pub idle_at : (first : InForce) (before : Steps) (at : PlacedStep) (behind : Steps) → is_idle at.step ≡ true → IsIdleAt first before at behind
 idle_at first before at behind e = of_kind first before behind at.step at.line at.column e
 
-pub idle_so_far : {found : Option Fault} {old new : List Weight} (first : InForce) (steps : Steps) (i : ℕ) (at : Stood) → i < length steps
+pub idle_so_far : {found : Option Fault} {old new : List Weight} (first : InForce) (steps : Steps) (i : ℕ) (at : PlacedStep) → i < length steps
     → at ≡ get_or steps i at → is_idle at.step ≡ true → IsAt first steps (reverse (take i steps)) (drop i steps) found old new
     → IsAt first steps (reverse (take (i + 1) steps)) (drop (i + 1) steps) found old new
 idle_so_far first steps i at less is e h =

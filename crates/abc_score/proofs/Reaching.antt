@@ -5,10 +5,10 @@ use Rattle.std.proofs.Common.{false, cond, ◌||◌, Option, Some, None, is_some
 use Rattle.mus_units.specs.{declared.{note.{Head.Head, Deco.Deco}, pitch.Clef.Clef}, Pitch.height_of}
 use Rattle.abc_notes.specs.declared.part.GraceChord.{GraceChord}
 use Rattle.abc_faults.specs.Faults.{any_grace_off, any_off, faults_in, faults_of, grace_faults, grace_faults_of, is_off}
-use Rattle.abc_steps.specs.{declared.{step.{Step.Step, Stood.Stood}, force.InForce.InForce, place.Place.Place}, Looks.{Steps, is_tied, since_event}}
-use Rattle.abc_steps.specs.{Force.{changes_at, force_at, force_behind, names_clef, when}, Places.{place_at, measure_of}, Kinds.is_event}
-use Rattle.abc_signs.specs.{Signs.{further_rests, rest_written, signs, signs_of, sound_written, tied_heads, with_tie}, Waits.{graces_in, waiting_of}}
-use Rattle.abc_signs.specs.declared.written.Sign.{Sign}
+use Rattle.abc_steps.specs.{declared.{step.{Step.Step, PlacedStep.PlacedStep}, force.InForce.InForce, state.VoiceState.VoiceState}, Looks.{Steps, is_sound_tied, since_event}}
+use Rattle.abc_steps.specs.{Force.{changes_at, force_at, force_after, names_clef, some_if}, Places.{state_at, measure_of}, Kinds.is_event}
+use Rattle.abc_signs.specs.{Signs.{further_rests, rest_written, signs, tree_items_of, sound_written, tied_heads, with_tie}, Waits.{graces_in, pending_of}}
+use Rattle.abc_signs.specs.declared.written.TreeItem.{TreeItem}
 use Rattle.abc_score.proofs.{Basics.{all_both, with_tuplet, none_before, none_behind}, Clear.{no_fault, rest_clear, sound_clear}}
 use Rattle.abc_score.proofs.{Parts.{SignsReach, heads_reach, DoReach}, Since.{since_none, since_on}}
 
@@ -24,7 +24,7 @@ all_reach clef (h ∷ hs) e =
 
 tied_reach : (clef : Clef) (hs : List Head) (behind : Steps) → DoReach clef hs → DoReach clef (tied_heads hs behind)
 tied_reach clef [] behind all = tt
-tied_reach clef (h ∷ hs) behind all = heads_reach clef (with_tie (is_tied behind)) (λ h is. is) (h ∷ hs) all
+tied_reach clef (h ∷ hs) behind all = heads_reach clef (with_tie (is_sound_tied behind)) (λ h is. is) (h ∷ hs) all
 
 abbrev GracesReach : Clef → List GraceChord → Type 0
 GracesReach clef gs = AllByRecursion (λ (g : GraceChord). DoReach clef g.heads) gs
@@ -34,7 +34,7 @@ chords_reach clef [] e = tt
 chords_reach clef (g ∷ gs) e =
     let parts = or_parts (any_off clef g.heads) _ e in (all_reach clef g.heads parts.0, chords_reach clef gs parts.1)
 
-step_graces : (clef : Clef) (at : Stood) (s : Step) → grace_faults_of clef at s ≡ [] → GracesReach clef (graces_in s)
+step_graces : (clef : Clef) (at : PlacedStep) (s : Step) → grace_faults_of clef at s ≡ [] → GracesReach clef (graces_in s)
 unfolding graces_in grace_faults_of
 step_graces clef at (Step.Grace slash body) e = chords_reach clef body (no_fault _ _ at e)
 step_graces clef at _ e = tt
@@ -46,8 +46,8 @@ waits_reach clef (s ∷ waits) e =
     (waits_reach clef waits (none_behind _ _ e))
 
 waiting_reach : (clef : Clef) (now : InForce) (waits : Steps) (decos : List Deco) → grace_faults clef waits ≡ []
-    → GracesReach clef (waiting_of now waits decos).graces
-unfolding waiting_of
+    → GracesReach clef (pending_of now waits decos).graces
+unfolding pending_of
 waiting_reach clef now waits decos e = waits_reach clef waits e
 
 -- ---- the clef at an event
@@ -57,8 +57,8 @@ abbrev pub event_clef : InForce → Steps → Clef
 event_clef first [] = first.clef
 event_clef first (s ∷ before) = cond (is_event s.step) (force_at first before).clef (event_clef first before)
 
-event_force : (s : Step) (now : InForce) → is_event s ≡ true → force_behind s now ≡ now
-unfolding is_event force_behind
+event_force : (s : Step) (now : InForce) → is_event s ≡ true → force_after s now ≡ now
+unfolding is_event force_after
 event_force (Step.Sound s) now e = refl
 event_force (Step.Measures seen count) now e = refl
 event_force _ now e = absurd cc
@@ -67,18 +67,18 @@ no_clef : (o : Option Clef) (clef : Clef) → is_some o ≡ false → unwrap_or 
 no_clef None clef e = refl
 no_clef (Some c) clef e = absurd cc
 
-not_clef : (s : Step) (now : InForce) → names_clef s ≡ false → (force_behind s now).clef ≡ now.clef
-unfolding names_clef force_behind
+not_clef : (s : Step) (now : InForce) → names_clef s ≡ false → (force_after s now).clef ≡ now.clef
+unfolding names_clef force_after
 not_clef (Step.Clef clef) now e = absurd cc
 not_clef (Step.Key text) now e = no_clef text.clef now.clef e
 not_clef _ now e = refl
 
 -- the clef that a step names stands, and where none does, the one before
 abbrev any_clef : Steps → Bool
-any_clef steps = list_any (λ (s : Stood). names_clef s.step) steps
+any_clef steps = list_any (λ (s : PlacedStep). names_clef s.step) steps
 
 abbrev Shows : Bool → Clef → Clef → Type 0
-Shows named last now = unwrap_or (when named now) last ≡ now
+Shows named last now = unwrap_or (some_if named now) last ≡ now
 
 shows_more : (named more : Bool) (last now next : Clef) → (more ≡ false → next ≡ now) → Shows named last now
     → Shows (named || (more || false)) last next
@@ -90,43 +90,43 @@ clef_here first [] = rw since_none refl
 clef_here first (s ∷ before) = rw (since_on s before) (by_event (is_event s.step) refl (clef_here first before)) where
   by_event : (b : Bool) → is_event s.step ≡ b → Shows (any_clef (since_event before)) (event_clef first before) (force_at first before).clef
       → Shows (any_clef (cond b [] (since_event before ++ s ∷ []))) (cond b (force_at first before).clef (event_clef first before))
-      (force_behind s.step (force_at first before)).clef
+      (force_after s.step (force_at first before)).clef
   by_event true e others = sym (ap (λ (f : InForce). f.clef) (event_force s.step (force_at first before) e))
   by_event false e others =
       let same = not_clef s.step (force_at first before) in
-      rw (list_any-append (λ (s : Stood). names_clef s.step) (since_event before) (s ∷ []))
+      rw (list_any-append (λ (s : PlacedStep). names_clef s.step) (since_event before) (s ∷ []))
       (shows_more _ (names_clef s.step) _ (force_at first before).clef _ same others)
 
 waiting_clef : (first : InForce) (before : Steps) (decos : List Deco)
-    → unwrap_or (waiting_of (force_at first before) (since_event before) decos).changes.clef (event_clef first before) ≡ (force_at first before).clef
-unfolding waiting_of changes_at
+    → unwrap_or (pending_of (force_at first before) (since_event before) decos).changes.clef (event_clef first before) ≡ (force_at first before).clef
+unfolding pending_of changes_at
 waiting_clef first before decos = clef_here first before
 
 -- ---- all steps
-further_reach : (clef : Clef) (now : Place) (at : Stood) (seen : Bool) (measure n : ℕ) (rest : List Sign) → SignsReach clef rest
+further_reach : (clef : Clef) (now : VoiceState) (at : PlacedStep) (seen : Bool) (measure n : ℕ) (rest : List TreeItem) → SignsReach clef rest
     → SignsReach clef (further_rests now at seen measure n ++ rest)
 unfolding rest_written
 further_reach clef now at seen measure zero rest h = h
 further_reach clef now at seen measure (suc n) rest h = (tt, tt, further_reach clef now at seen (measure + 1) n rest h)
 
-step_reach : (first : InForce) (before behind : Steps) (at : Stood) (s : Step) (rest : List Sign)
-    → faults_of (place_at first before) before at behind s ≡ []
+step_reach : (first : InForce) (before behind : Steps) (at : PlacedStep) (s : Step) (rest : List TreeItem)
+    → faults_of (state_at first before) before at behind s ≡ []
     → SignsReach (cond (is_event s) (force_at first before).clef (event_clef first before)) rest
-    → SignsReach (event_clef first before) (signs_of (place_at first before) before at behind s ++ rest)
-unfolding signs_of sound_written rest_written is_event
+    → SignsReach (event_clef first before) (tree_items_of (state_at first before) before at behind s ++ rest)
+unfolding tree_items_of sound_written rest_written is_event
 step_reach first before behind at (Step.Sound s) rest e h =
-    let now = force_at first before in let waits = since_event before in let clear = sound_clear (place_at first before) before behind at s e in
-    subst (λ (c : Clef). DoReach c (tied_heads s.heads behind) × GracesReach c (waiting_of now waits s.decos).graces × SignsReach c rest)
+    let now = force_at first before in let waits = since_event before in let clear = sound_clear (state_at first before) before behind at s e in
+    subst (λ (c : Clef). DoReach c (tied_heads s.heads behind) × GracesReach c (pending_of now waits s.decos).graces × SignsReach c rest)
     (sym (waiting_clef first before s.decos))
     (tied_reach now.clef s.heads behind (all_reach now.clef s.heads clear.near), waiting_reach now.clef now waits s.decos clear.graces, h)
 step_reach first before behind at (Step.Measures seen count) rest e h =
-    let place = place_at first before in let now = place.force in let waits = since_event before in
+    let place = state_at first before in let now = place.force in let waits = since_event before in
     let clear = rest_clear place before behind at seen count e in
     let others = further_rests place at seen (measure_of place + 1) (count - 1) ++ rest in
-    subst (λ (c : Clef). DoReach c [] × GracesReach c (waiting_of now waits []).graces × SignsReach c others) (sym (waiting_clef first before []))
+    subst (λ (c : Clef). DoReach c [] × GracesReach c (pending_of now waits []).graces × SignsReach c others) (sym (waiting_clef first before []))
     (tt, waiting_reach now.clef now waits [] clear.graces, further_reach now.clef place at seen (measure_of place + 1) (count - 1) rest h)
 step_reach first before behind at (Step.Tuplet p q r) rest e h =
-    with_tuplet (λ z. SignsReach (event_clef first before) (z ++ rest)) (place_at first before) p q r (λ m x y z. h) h
+    with_tuplet (λ z. SignsReach (event_clef first before) (z ++ rest)) (state_at first before) p q r (λ m x y z. h) h
 step_reach first before behind at _ rest e h = h
 
 walk_reach : (first : InForce) (before behind : Steps) → faults_in first before behind ≡ []

@@ -3,7 +3,7 @@ use Rattle.std.proofs.{lemmas.Bool.{cases_lt, ne_eqb, eq-eqb}, Common.{length, t
 use Rattle.std.proofs.Common.{cond, arith, ⊎_elim, ◌≡◌, ◌∙◌, refl, sym, ap, subst, ℕ, zero, suc, ◌+◌, ◌≤◌, ◌<◌, List, [], ◌∷◌, ◌++◌, map, sum_by}
 use Rattle.std.proofs.lemmas.List.{map-append, Concat.flat_map-append, Folds.flat_map-map, Sums.{sum_by-cons, sum_by-append}}
 use Rattle.std.specs.{Prelude.{⊤, flat_map, ◌==◌}, List.{AllByRecursion, range_with_len}}
-use Rattle.{mus_units.specs.declared.note.Bar.Bar, abc_events.specs.{Leaf.Leaf, Measures.{leaves_in, measure_of, measures_in}}}
+use Rattle.{mus_units.specs.declared.note.Bar.Bar, abc_events.specs.{Leaf.Leaf, Measures.{leaves_in, measure_of_leaves, measures_in}}}
 use Rattle.mus_score.specs.{declared.score.{Flat.Flat, Music.Music, Measure.Measure}, GoodScore.events_of, Times.flats_of}
 use Rattle.abc_score.proofs.{Basics.either, Rows.{leaf_rows, weight_of, tree_weight}, Cores.{core, IsSung, sung, tree_sings}}
 
@@ -117,15 +117,15 @@ module _ (leaves : List Leaf) (bars : List Bar) where
       → map core (events_of (measures_in leaves bars)) ≡ flat_map sung (leaf_rows leaves)
   measures_sing rise all =
       let ks = range_with_len 0 (length bars) in
-      ap (map core) (flat_map-map (λ (m : Measure). flats_of m.body) (measure_of leaves bars) ks) ∙ map_flat _ ks
+      ap (map core) (flat_map-map (λ (m : Measure). flats_of m.body) (measure_of_leaves leaves bars) ks) ∙ map_flat _ ks
       ∙ flat_same _ _ (λ k. tree_sings (leaves_in k leaves) (kept_in IsSung k leaves all)) ks
       ∙ flat_flat sung (λ k. rows_in k leaves) ks ∙ ap (flat_map sung) (all_rows (length bars) leaves rise)
 
   sum_each : (ks : List ℕ)
-      → sum_by (λ (m : Measure). weight_of m.body) (map (measure_of leaves bars) ks) ≡ sum_by weight_of (flat_map (λ k. rows_in k leaves) ks)
+      → sum_by (λ (m : Measure). weight_of m.body) (map (measure_of_leaves leaves bars) ks) ≡ sum_by weight_of (flat_map (λ k. rows_in k leaves) ks)
   sum_each [] = refl
   sum_each (k ∷ ks) =
-      let first = sum_by-cons (λ (m : Measure). weight_of m.body) (measure_of leaves bars k) (map (measure_of leaves bars) ks) in
+      let first = sum_by-cons (λ (m : Measure). weight_of m.body) (measure_of_leaves leaves bars k) (map (measure_of_leaves leaves bars) ks) in
       let both = sum_by-append weight_of (rows_in k leaves) (flat_map (λ k. rows_in k leaves) ks) in
       omega (arith, first, tree_weight (leaves_in k leaves), sum_each ks, both)
 

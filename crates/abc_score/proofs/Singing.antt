@@ -2,9 +2,9 @@
 use Rattle.std.proofs.Common.{◌≡◌, ◌∙◌, refl, sym, ap, subst, ℕ, suc, ◌+◌, ◌*◌, ◌≤◌, max, List, [], ◌∷◌, ◌++◌, map, sum_by, length, Bool, arith}
 use Rattle.std.proofs.lemmas.List.{length-map, Sums.sum_by-cons}
 use Rattle.{mus_units.specs.declared.{note.Head.Head, value.Value.Value}, abc_notes.specs.declared.part.GraceChord.GraceChord}
-use Rattle.mus_score.specs.{Times.{Leafing, in_row, leaf, leaves_step, leaves_within, nothing}, declared.score.{Event.Event, Music.TheOpen.Music-F}}
+use Rattle.mus_score.specs.{Times.{Leafing, in_row, leaf, leaves_step, leaves_within, no_pending_leaf}, declared.score.{Event.Event, Music.TheOpen.Music-F}}
 use Rattle.mus_score.specs.Good.{weight, weight_step}
-use Rattle.{abc_signs.specs.declared.written.{Written.Written, Waiting.Waiting}, abc_events.specs.Leaves.{grace_event, grace_note}}
+use Rattle.{abc_signs.specs.declared.written.{WrittenEvent.WrittenEvent, Pending.Pending}, abc_events.specs.Leaves.{grace_event, grace_note}}
 use Rattle.abc_events.specs.Leaves.{grace_nodes, nodes_of, Words, first_part, later_part, later_parts, parts, some_more, node_of, note_or_rest}
 use Rattle.abc_score.proofs.Cores.{Core, core, Sings, sings_none, sings_append, sung, IsSung}
 use Rattle.abc_score.proofs.Rows.{weight_of, weight_of-append, weight_of-cons, at_note, at_rest, at_grace}
@@ -22,7 +22,7 @@ abbrev pub grace_of : GraceChord → Event
 grace_of g = grace_event g.heads
 
 -- the events of a written event
-abbrev pub event_cores : Written → Waiting → Words → ℕ → List Core
+abbrev pub event_cores : WrittenEvent → Pending → Words → ℕ → List Core
 event_cores w waiting words id = with_graces (map grace_of waiting.graces) (parts w waiting words id w.values)
 
 node_leaf : (heads : List Head) (e : Event) → leaves_within (note_or_rest heads e) ≡ leaf e
@@ -39,10 +39,10 @@ plain_sings (e ∷ es) = sings_append (node_of e ∷ []) (map node_of es) (plain
     none = λ qs ps w none. ap (λ (l : Leafing). (in_row (l ∷ []) qs ps w).waits.graces) (node_leaf e.heads e);
   }
 
-graces_in_row : (gs : List GraceChord) → map (λ f. f.event) (in_row (map leaves_within (map grace_note gs)) 1 1 nothing).flats ≡ map grace_of gs
+graces_in_row : (gs : List GraceChord) → map (λ f. f.event) (in_row (map leaves_within (map grace_note gs)) 1 1 no_pending_leaf).flats ≡ map grace_of gs
 graces_in_row [] = refl
 graces_in_row (g ∷ gs) =
-    ap (λ (l : Leafing). map (λ f. f.event) (in_row (l ∷ map leaves_within (map grace_note gs)) 1 1 nothing).flats) (at_note leaves_step (grace_of g))
+    ap (λ (l : Leafing). map (λ f. f.event) (in_row (l ∷ map leaves_within (map grace_note gs)) 1 1 no_pending_leaf).flats) (at_note leaves_step (grace_of g))
     ∙ ap (λ z. grace_of g ∷ z) (graces_in_row gs)
 
 -- graces go to the event behind them
@@ -52,17 +52,17 @@ group_sings gs slash e es =
     let body = map grace_note gs in let more = map leaves_within (map node_of es) in let is_grace = at_grace leaves_step body slash in
     let grace : Leafing = leaves_step (Music-F.Grace (map leaves_within body) slash) in
     let own = node_leaf e.heads e in let behind = plain_sings es in
-    let found = map (λ f. f.event) (in_row (map leaves_within body) 1 1 nothing).flats in
+    let found = map (λ f. f.event) (in_row (map leaves_within body) 1 1 no_pending_leaf).flats in
     record {
       cores = λ qs ps w none.
           ap (λ (l : Leafing). map core (in_row (l ∷ leaves_within (node_of e) ∷ more) qs ps w).flats) is_grace
           ∙ ap (λ (l : Leafing). map core (in_row (grace ∷ l ∷ more) qs ps w).flats) own
-          ∙ ap (λ (z : List Event). (e, z ++ found) ∷ map core (in_row more qs ps nothing).flats) none
-          ∙ ap (λ (z : List Event). (e, z) ∷ map core (in_row more qs ps nothing).flats) (graces_in_row gs)
-          ∙ ap (λ (z : List Core). (e, map grace_of gs) ∷ z) (behind.cores qs ps nothing refl);
+          ∙ ap (λ (z : List Event). (e, z ++ found) ∷ map core (in_row more qs ps no_pending_leaf).flats) none
+          ∙ ap (λ (z : List Event). (e, z) ∷ map core (in_row more qs ps no_pending_leaf).flats) (graces_in_row gs)
+          ∙ ap (λ (z : List Core). (e, map grace_of gs) ∷ z) (behind.cores qs ps no_pending_leaf refl);
       none = λ qs ps w none.
           ap (λ (l : Leafing). (in_row (l ∷ leaves_within (node_of e) ∷ more) qs ps w).waits.graces) is_grace
-          ∙ ap (λ (l : Leafing). (in_row (grace ∷ l ∷ more) qs ps w).waits.graces) own ∙ behind.none qs ps nothing refl;
+          ∙ ap (λ (l : Leafing). (in_row (grace ∷ l ∷ more) qs ps w).waits.graces) own ∙ behind.none qs ps no_pending_leaf refl;
     }
 
 graced_sings : (gs : List GraceChord) (slash : Bool) (es : List Event) → 1 ≤ length es
@@ -71,20 +71,20 @@ graced_sings gs slash [] some = absurd (omega arith)
 graced_sings [] slash (e ∷ es) some = plain_sings (e ∷ es)
 graced_sings (g ∷ gs) slash (e ∷ es) some = group_sings (g ∷ gs) slash e es
 
-pub parts_some : (w : Written) (waiting : Waiting) (words : Words) (id : ℕ) (vs : List Value) → 1 ≤ length vs
+pub parts_some : (w : WrittenEvent) (waiting : Pending) (words : Words) (id : ℕ) (vs : List Value) → 1 ≤ length vs
     → 1 ≤ length (parts w waiting words id vs)
 parts_some w waiting words id [] some = some
 parts_some w waiting words id (v ∷ vs) some = omega arith
 
-nodes_sing : (w : Written) (waiting : Waiting) (words : Words) (id : ℕ) → 1 ≤ length w.values
+nodes_sing : (w : WrittenEvent) (waiting : Pending) (words : Words) (id : ℕ) → 1 ≤ length w.values
     → Sings (nodes_of w waiting words id) (event_cores w waiting words id)
 nodes_sing w waiting words id some = graced_sings waiting.graces waiting.slash _ (parts_some w waiting words id w.values some)
 
-pub nodes_sung : (w : Written) (waiting : Waiting) (words : Words) (id : ℕ) → 1 ≤ length w.values
+pub nodes_sung : (w : WrittenEvent) (waiting : Pending) (words : Words) (id : ℕ) → 1 ≤ length w.values
     → sung (nodes_of w waiting words id) ≡ event_cores w waiting words id
-nodes_sung w waiting words id some = let sings = nodes_sing w waiting words id some in sings.cores 1 1 nothing refl
+nodes_sung w waiting words id some = let sings = nodes_sing w waiting words id some in sings.cores 1 1 no_pending_leaf refl
 
-pub nodes_are_sung : (w : Written) (waiting : Waiting) (words : Words) (id : ℕ) → 1 ≤ length w.values → IsSung (nodes_of w waiting words id)
+pub nodes_are_sung : (w : WrittenEvent) (waiting : Pending) (words : Words) (id : ℕ) → 1 ≤ length w.values → IsSung (nodes_of w waiting words id)
 nodes_are_sung w waiting words id some = subst (Sings _) (sym (nodes_sung w waiting words id some)) (nodes_sing w waiting words id some)
 
 -- ---- their weight
@@ -102,7 +102,7 @@ one_more n m e es long others =
       next : (n m : ℕ) → m + n * m ≡ suc n * m
       next n m = omega arith
 
-later_weight : (w : Written) (verses id : ℕ) (vs : List Value)
+later_weight : (w : WrittenEvent) (verses id : ℕ) (vs : List Value)
     → weight_of (map node_of (later_parts w verses id vs)) ≡ length vs * max 1 (length w.heads)
 unfolding later_part
 later_weight w verses id [] = omega arith
@@ -110,7 +110,7 @@ later_weight w verses id (v ∷ vs) =
     one_more (length vs) (length w.heads) (later_part w verses id (some_more vs) v) (later_parts w verses (id + 1) vs) (length-map w.heads _)
     (later_weight w verses (id + 1) vs)
 
-parts_weight : (w : Written) (waiting : Waiting) (words : Words) (id : ℕ) (vs : List Value)
+parts_weight : (w : WrittenEvent) (waiting : Pending) (words : Words) (id : ℕ) (vs : List Value)
     → weight_of (map node_of (parts w waiting words id vs)) ≡ length vs * max 1 (length w.heads)
 unfolding first_part
 parts_weight w waiting words id [] = omega arith
@@ -135,7 +135,7 @@ group_weight (g ∷ gs) slash =
     let body = map grace_note (g ∷ gs) in
     omega (arith, weight_of-cons (music.Grace body slash) [], at_grace weight_step body slash, chords_weight (g ∷ gs))
 
-pub nodes_weight : (w : Written) (waiting : Waiting) (words : Words) (id : ℕ)
+pub nodes_weight : (w : WrittenEvent) (waiting : Pending) (words : Words) (id : ℕ)
     → weight_of (nodes_of w waiting words id) ≡ heads_of_graces waiting.graces + length w.values * max 1 (length w.heads)
 nodes_weight w waiting words id =
     let own = map node_of (parts w waiting words id w.values) in

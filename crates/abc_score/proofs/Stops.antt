@@ -3,25 +3,25 @@ use Rattle.std.{proofs.Common.{append_assoc, append-nil, take, reverse, get_or, 
 use Rattle.std.proofs.{lemmas.{Bool.{and_parts, Decides.nat_tests}, List.Elements.Contains-append_right}, Math.Seq.drop-append_seam}
 use Rattle.std.proofs.Common.{length, min, Bool, true, false, Option, None, arith, ◌≡◌, ◌∙◌, refl, sym, ap, subst, ℕ, ◌+◌, List, [], ◌∷◌, ◌++◌, drop}
 use Rattle.{abc_lines.specs.declared.fault.{Fault.Fault, FaultKind.FaultKind}, mus_units.specs.declared.pitch.Clef.Clef}
-use Rattle.abc_steps.specs.{declared.{step.{Step.Step, Stood.Stood}, force.InForce.InForce, place.Place.Place}, Looks.{Steps, since_event}}
-use Rattle.abc_steps.specs.{Tuplets.{fits, or_default}, Places.place_at, Kinds.is_event}
+use Rattle.abc_steps.specs.{declared.{step.{Step.Step, PlacedStep.PlacedStep}, force.InForce.InForce, state.VoiceState.VoiceState}, Looks.{Steps, since_event}}
+use Rattle.abc_steps.specs.{Tuplets.{fits, or_default}, Places.state_at, Kinds.is_event}
 use Rattle.abc_faults.proofs.{Caps.{capped_append, crowd_capped}, Firsts.first_append, Walks.at_front}
 use Rattle.abc_faults.specs.{First.{earlier, first_of, is_before}, declared.weights.Weight.Weight, Weights.stands_before}
-use Rattle.abc_faults.specs.Faults.{fault_at, fault_if, misfit_of, grace_faults_of, grace_faults, sound_faults, faults_of, faults_in}
+use Rattle.abc_faults.specs.Faults.{step_fault, fault_if, misfit_of, grace_faults_of, grace_faults, sound_faults, faults_of, faults_in}
 use Rattle.abc_faults.specs.Weights.{weights_in, weights_of, IsBehind, capped, crowd_fault, crowd_up_to, grace_weights_of, grace_weights, weight_at}
 use Rattle.abc_score.proofs.{Basics.{all_both, either}, Enough.{all_enough, enough_behind}, Since.{each_at, more_wait, none_wait}}
-use Rattle.abc_score.specs.Judged.{AreEnough, AreJudged, IsEnd}
+use Rattle.abc_score.specs.Judged.{AreEnough, AreJudged, IsCrowdedAt}
 
 -- ---- faults stand at the steps that follow
 module _ (P : Fault → Type 0) where
-  abbrev AtStep : Stood → Type 0
-  AtStep s = (kind : FaultKind) → P (fault_at kind s)
+  abbrev AtStep : PlacedStep → Type 0
+  AtStep s = (kind : FaultKind) → P (step_fault kind s)
 
-  if_at : (b : Bool) (kind : FaultKind) (at : Stood) → AtStep at → AllByRecursion P (fault_if b kind at)
+  if_at : (b : Bool) (kind : FaultKind) (at : PlacedStep) → AtStep at → AllByRecursion P (fault_if b kind at)
   if_at true kind at h = (h kind, tt)
   if_at false kind at h = tt
 
-  grace_at : (clef : Clef) (at : Stood) (s : Step) → AtStep at → AllByRecursion P (grace_faults_of clef at s)
+  grace_at : (clef : Clef) (at : PlacedStep) (s : Step) → AtStep at → AllByRecursion P (grace_faults_of clef at s)
   unfolding grace_faults_of
   grace_at clef at (Step.Grace slash body) h = if_at _ FaultKind.StepRange at h
   grace_at clef at _ h = tt
@@ -29,13 +29,13 @@ module _ (P : Fault → Type 0) where
   graces_at : (clef : Clef) (waits : Steps) → AllByRecursion AtStep waits → AllByRecursion P (grace_faults clef waits)
   graces_at clef waits all = each_at P AtStep (λ s. grace_faults_of clef s s.step) (λ s h. grace_at clef s s.step h) waits all
 
-  step_at : (now : Place) (before : Steps) (at : Stood) (behind : Steps) (s : Step) → AllByRecursion AtStep (since_event before) → AtStep at
+  step_at : (now : VoiceState) (before : Steps) (at : PlacedStep) (behind : Steps) (s : Step) → AllByRecursion AtStep (since_event before) → AtStep at
       → AllByRecursion P (faults_of now before at behind s)
   unfolding faults_of sound_faults
   step_at now before at behind (Step.Sound s) w h = search (all_both, if_at, graces_at)
   step_at now before at behind (Step.Measures seen count) w h = search (all_both, if_at, graces_at)
   step_at now before at behind (Step.Tuplet p q r) w h =
-      either (AllByRecursion P) (fits (or_default p r) now.taking) _ (fault_at (misfit_of now.taking) at ∷ [])
+      either (AllByRecursion P) (fits (or_default p r) now.taking) _ (step_fault (misfit_of now.taking) at ∷ [])
       (if_at _ FaultKind.TupletShort at h) (h _, tt)
   step_at now before at behind (Step.Broken right dots) w h = if_at _ FaultKind.BrokenAlone at h
   step_at now before at behind _ w h = tt
@@ -44,25 +44,25 @@ module _ (P : Fault → Type 0) where
       → AllByRecursion P (faults_in first before behind)
   faults_at first before [] w h = tt
   faults_at first before (s ∷ behind) w h =
-      all_both P _ _ (step_at (place_at first before) before s behind s.step w h.0)
+      all_both P _ _ (step_at (state_at first before) before s behind s.step w h.0)
       (faults_at first (s ∷ before) behind (more_wait AtStep s before w h.0) h.1)
 
 -- ---- and so do weights
 module _ (P : Weight → Type 0) where
-  abbrev Weighs : Stood → Type 0
+  abbrev Weighs : PlacedStep → Type 0
   Weighs s = (n : ℕ) → P (weight_at n s)
 
-  grace_weighs : (at : Stood) (s : Step) → Weighs at → AllByRecursion P (grace_weights_of at s)
+  grace_weighs : (at : PlacedStep) (s : Step) → Weighs at → AllByRecursion P (grace_weights_of at s)
   unfolding grace_weights_of
   grace_weighs at (Step.Grace slash body) h = (h _, tt)
   grace_weighs at _ h = tt
 
-  event_weighs : (waits : Steps) (at : Stood) (n : ℕ) → AllByRecursion Weighs waits → Weighs at
+  event_weighs : (waits : Steps) (at : PlacedStep) (n : ℕ) → AllByRecursion Weighs waits → Weighs at
       → AllByRecursion P (grace_weights waits ++ weight_at n at ∷ [])
   event_weighs waits at n w h =
       all_both P (grace_weights waits) _ (each_at P Weighs (λ s. grace_weights_of s s.step) (λ s k. grace_weighs s s.step k) waits w) (h n, tt)
 
-  step_weighs : (now : Place) (before : Steps) (at : Stood) (behind : Steps) (s : Step) → AllByRecursion Weighs (since_event before) → Weighs at
+  step_weighs : (now : VoiceState) (before : Steps) (at : PlacedStep) (behind : Steps) (s : Step) → AllByRecursion Weighs (since_event before) → Weighs at
       → AllByRecursion P (weights_of now before at behind s)
   unfolding weights_of
   step_weighs now before at behind (Step.Sound s) w h = event_weighs (since_event before) at _ w h
@@ -73,28 +73,28 @@ module _ (P : Weight → Type 0) where
       → AllByRecursion P (weights_in first before behind)
   weights_at first before [] w h = tt
   weights_at first before (s ∷ behind) w h =
-      all_both P _ _ (step_weighs (place_at first before) before s behind s.step w h.0)
+      all_both P _ _ (step_weighs (state_at first before) before s behind s.step w h.0)
       (weights_at first (s ∷ before) behind (more_wait Weighs s before w h.0) h.1)
 
 -- ---- behind the event
-abbrev is_later : Stood → Stood → Bool
+abbrev is_later : PlacedStep → PlacedStep → Bool
 is_later at s = stands_before (weight_at 0 at) (weight_at 0 s)
 
-later_fault : (at s : Stood) → is_later at s ≡ true → AtStep (λ f. is_before f (crowd_fault (weight_at 0 at)) ≡ false) s
+later_fault : (at s : PlacedStep) → is_later at s ≡ true → AtStep (λ f. is_before f (crowd_fault (weight_at 0 at)) ≡ false) s
 unfolding stands_before is_before
 later_fault at s h = λ kind. grind (arith, nat_tests)
 
-later_weight : (n : ℕ) (at s : Stood) → is_later at s ≡ true → Weighs (IsBehind (weight_at n at)) s
+later_weight : (n : ℕ) (at s : PlacedStep) → is_later at s ≡ true → Weighs (IsBehind (weight_at n at)) s
 unfolding stands_before
 later_weight n at s h = λ m. grind (arith, nat_tests)
 
-each_later : (P : Stood → Type 0) (at : Stood) (behind : Steps) → ((s : Stood) → is_later at s ≡ true → P s) → list_all (is_later at) behind ≡ true
+each_later : (P : PlacedStep → Type 0) (at : PlacedStep) (behind : Steps) → ((s : PlacedStep) → is_later at s ≡ true → P s) → list_all (is_later at) behind ≡ true
     → AllByRecursion P behind
 each_later P at [] h all = tt
 each_later P at (s ∷ behind) h all = let parts = and_parts (is_later at s) _ all in (h s parts.0, each_later P at behind h parts.1)
 
 -- the weight of an event
-event_weight : (now : Place) (before : Steps) (at : Stood) (behind : Steps) (s : Step) → is_event s ≡ true
+event_weight : (now : VoiceState) (before : Steps) (at : PlacedStep) (behind : Steps) (s : Step) → is_event s ≡ true
     → (n : ℕ) × Contains (weights_of now before at behind s) (weight_at n at)
 unfolding is_event weights_of
 event_weight now before at behind (Step.Sound s) e = (_, Contains-append_right (grace_weights (since_event before)) _ _ (0, omega arith, refl))
@@ -102,7 +102,7 @@ event_weight now before at behind (Step.Measures seen count) e =
     (count, Contains-append_right (grace_weights (since_event before)) _ _ (0, omega arith, refl))
 event_weight now before at behind _ e = absurd cc
 
-same_crowd : (ws : List Weight) (m n : ℕ) (at : Stood) → crowd_up_to ws (weight_at m at) ≡ crowd_up_to ws (weight_at n at)
+same_crowd : (ws : List Weight) (m n : ℕ) (at : PlacedStep) → crowd_up_to ws (weight_at m at) ≡ crowd_up_to ws (weight_at n at)
 unfolding stands_before
 same_crowd ws m n at = refl
 
@@ -141,18 +141,18 @@ IsAt first steps before behind found old new =
     IsSoFar (faults_in first [] steps) (faults_in first before behind) (weights_in first [] steps) (weights_in first before behind) found old new
 
 -- what stands at a step is put
-abbrev pub IsPut : InForce → Steps → Stood → Steps → List Weight → Type 0
-IsPut first before at behind put = (w : Weight) → Contains (weights_of (place_at first before) before at behind at.step) w → Contains put w
+abbrev pub IsPut : InForce → Steps → PlacedStep → Steps → List Weight → Type 0
+IsPut first before at behind put = (w : Weight) → Contains (weights_of (state_at first before) before at behind at.step) w → Contains put w
 
-pub step_so_far : {at : Stood} {now : Place} {front back : Steps} {found mine next : Option Fault} {old new newer : List Weight}
-    → (first : InForce) (steps : Steps) (i : ℕ) → i < length steps → at ≡ get_or steps i at → now ≡ place_at first (reverse (take i steps))
+pub step_so_far : {at : PlacedStep} {now : VoiceState} {front back : Steps} {found mine next : Option Fault} {old new newer : List Weight}
+    → (first : InForce) (steps : Steps) (i : ℕ) → i < length steps → at ≡ get_or steps i at → now ≡ state_at first (reverse (take i steps))
     → front ≡ take i steps → back ≡ drop (i + 1) steps
     → IsAt first steps (reverse (take i steps)) (drop i steps) found old new → mine ≡ first_of (faults_of now (reverse front) at back at.step)
     → next ≡ earlier found mine → newer ≡ new ++ map capped (weights_of now (reverse front) at back at.step)
     → (h : IsAt first steps (at ∷ reverse (take i steps)) (drop (i + 1) steps) next old newer)
     × IsPut first (reverse (take i steps)) at (drop (i + 1) steps) h.weights
 step_so_far {at = at} first steps i less is is_now is_front is_back h is_mine is_next is_newer =
-    let before = reverse (take i steps) in let behind = drop (i + 1) steps in let now = place_at first before in
+    let before = reverse (take i steps) in let behind = drop (i + 1) steps in let now = state_at first before in
     let there = at_front steps i at less is in
     more_so_far (faults_of now before at behind at.step) (weights_of now before at behind at.step) h (ap (faults_in first before) there)
     (ap (weights_in first before) there) (cc) is_next (cc)
@@ -168,13 +168,13 @@ judged_whole {faults = faults} {all = all} {old = old} h = record {
 }
 
 -- up to an event behind which nothing comes first
-pub judged_to : {at : Stood} {behind : Steps} {found : Option Fault} {old new : List Weight} (first : InForce) (steps before : Steps)
-    → (h : IsAt first steps (at ∷ before) behind found old new) → IsPut first before at behind h.weights → IsEnd (drop (length old) new) at behind
+pub judged_to : {at : PlacedStep} {behind : Steps} {found : Option Fault} {old new : List Weight} (first : InForce) (steps before : Steps)
+    → (h : IsAt first steps (at ∷ before) behind found old new) → IsPut first before at behind h.weights → IsCrowdedAt (drop (length old) new) at behind
     → AreJudged (faults_in first [] steps) (weights_in first [] steps) found old new
 judged_to {at = at} {behind = behind} {old = old} {new = new} first steps before h put end =
     let faults = faults_in first [] steps in let hidden = faults_in first (at ∷ before) behind in let light = weights_in first (at ∷ before) behind in
     let own : drop (length old) new ≡ map capped h.weights = ap (drop (length old)) h.put ∙ drop-append_seam old (map capped h.weights) in
-    let event = event_weight (place_at first before) before at behind at.step end.event in let w = weight_at event.0 at in
+    let event = event_weight (state_at first before) before at behind at.step end.event in let w = weight_at event.0 at in
     let few = ap (λ z. crowd_up_to z (weight_at 0 at)) own ∙ same_crowd (map capped h.weights) 0 (min 0 50001) at in
     let crowd : 50000 < crowd_up_to h.weights w =
     omega (arith, end.crowd, few, (crowd_capped h.weights (weight_at 0 at)).below, same_crowd h.weights event.0 0 at) in

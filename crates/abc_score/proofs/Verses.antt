@@ -1,9 +1,9 @@
 -- The verses that are too many, in a body whose lines of words rise: the first of the list comes first.
 use Rattle.std.{proofs.lemmas.Bool.{cond-false, Decides.nat_tests}, specs.Prelude.{⊤, nat_le}}
 use Rattle.std.proofs.Common.{◌≡◌, ◌∙◌, refl, sym, ap, subst, ℕ, ◌≤◌, List, [], ◌∷◌, ◌++◌, Bool, true, false, Option, Some, None, arith}
-use Rattle.{abc_lines.specs.declared.fault.Fault.Fault, abc_steps.specs.declared.step.Item.Item}
+use Rattle.{abc_lines.specs.declared.fault.Fault.Fault, abc_steps.specs.declared.step.BodyItem.BodyItem}
 use Rattle.{abc_faults.specs.First.{is_before, earlier, first_of}, abc_score.{proofs.Basics.either, specs.Order.{DoWordsRiseFrom, DoWordsRise}}}
-use Rattle.abc_words.specs.Verses.{verse_if, verses_from, number_on, too_many, faults_from, verse_faults, first_of as head_of}
+use Rattle.abc_words.specs.Verses.{verse_if, verses_from, number_on, too_many, faults_from, verse_faults, first_verse_fault as head_of}
 use Rattle.abc_words.specs.declared.verses.Verse.{Verse}
 
 -- verses whose lines rise, from one on
@@ -21,11 +21,11 @@ with_verse true (Some row) text low line vs less rise = (less, rise)
 with_verse true None text low line vs less rise = lower low line vs less rise
 with_verse false last text low line vs less rise = lower low line vs less rise
 
-verses_rise : (id unnamed : List ℕ) (before behind : List Item) (low : ℕ) → DoWordsRiseFrom low behind
+verses_rise : (id unnamed : List ℕ) (before behind : List BodyItem) (low : ℕ) → DoWordsRiseFrom low behind
     → DoLinesRise low (verses_from id unnamed before behind)
 verses_rise id unnamed before [] low rise = tt
-verses_rise id unnamed before (Item.Words text line ∷ behind) low rise =
-    with_verse _ _ text low line _ rise.0 (verses_rise id unnamed (Item.Words text line ∷ before) behind line rise.1)
+verses_rise id unnamed before (BodyItem.Words text line ∷ behind) low rise =
+    with_verse _ _ text low line _ rise.0 (verses_rise id unnamed (BodyItem.Words text line ∷ before) behind line rise.1)
 verses_rise id unnamed before (item ∷ behind) low rise = verses_rise id unnamed (item ∷ before) behind low rise
 
 -- faults of verses from a line on: none of them, or the head of the list, comes before one on that line
@@ -57,6 +57,6 @@ heads low before (v ∷ behind) rise =
     (sym (head_first v.line (first_of more) (subst (IsFrom v.line) others.0 others.1)), (rise.0, refl))
     (others.0, higher low v.line _ rise.0 others.1)
 
-pub verse_first : (id unnamed : List ℕ) (items : List Item) → DoWordsRise items
+pub verse_first : (id unnamed : List ℕ) (items : List BodyItem) → DoWordsRise items
     → head_of (verse_faults id unnamed items) ≡ first_of (verse_faults id unnamed items)
 verse_first id unnamed items rise = let both = heads 0 [] _ (verses_rise id unnamed [] items 0 rise) in both.0

@@ -3,15 +3,15 @@ use Rattle.std.proofs.Common.{◌≡◌, ◌∙◌, refl, sym, ap, subst, ℕ, z
 use Rattle.std.proofs.Common.{not, nat_le, ◌==◌, Option, Some, None, IfSome, unwrap_or, is_none, option_map, zero-add, eqb-true, arith}
 use Rattle.std.proofs.lemmas.{Bool.{cond_both, leb-true, leb-false, Decides.nat_tests}, Nat.mul-le, List.Sums.{sum_by-cons, take_while-cons}}
 use Rattle.std.specs.{Prelude.{⊤, count_by, nat_lt}, List.{AllByRecursion, before_first}}
-use Rattle.{mus_pitch.proofs.SignLaws.laid_good, abc_lines.specs.declared.fault.FaultKind.FaultKind, abc_fields.specs.Keys.{GoodKeyIn, over_by}}
-use Rattle.abc_signs.specs.{Signs.{further_rests, signs, signs_of, sound_written}, Waits.waiting_of}
-use Rattle.abc_faults.specs.Faults.{ends_tuplets, fault_at, fault_if, faults_in, faults_of, misfit_of, sounds_behind, tuplet_faults}
+use Rattle.{mus_pitch.proofs.SignLaws.laid_good, abc_lines.specs.declared.fault.FaultKind.FaultKind, abc_field.specs.Keys.{GoodKeyIn, over_by}}
+use Rattle.abc_signs.specs.{Signs.{further_rests, signs, tree_items_of, sound_written}, Waits.pending_of}
+use Rattle.abc_faults.specs.Faults.{ends_tuplets, step_fault, fault_if, faults_in, faults_of, misfit_of, sounds_behind, tuplet_faults}
 use Rattle.mus_units.specs.{Parts.{cut_in, cut_next, longest_within, parts_list, units_of}, Good.{AreGoodSigns, IsGoodKey, IsGoodMeter, IsGoodUnit}}
 use Rattle.mus_units.specs.declared.{key.{Key.Key, Sign.Sign as KeySign}, value.Value.Value}
-use Rattle.abc_steps.specs.{Lengths.{left_factor, left_side, right_factor, right_side, written_length}, Places.{place_at, measure_of}, Kinds.is_sound}
-use Rattle.abc_steps.specs.{Good.{IsGoodForce, IsGoodSound, IsGoodStep, IsGoodStood}, Force.{changes_at, force_at, force_behind, when}}
-use Rattle.abc_steps.specs.{Tuplets.{after_event, fits, one_less, opened, or_default, taking_behind}, Looks.Steps}
-use Rattle.abc_steps.specs.declared.{step.{Sound.Sound, Step.Step, Stood.Stood}, force.InForce.InForce, place.Place.Place, tuplets.Taking.Taking}
+use Rattle.abc_steps.specs.{Lengths.{left_factor, left_side, right_factor, right_side, written_length}, Places.{state_at, measure_of}, Kinds.is_sound}
+use Rattle.abc_steps.specs.{Good.{IsGoodForce, IsGoodSound, IsGoodStep, IsGoodPlacedStep}, Force.{changes_at, force_at, force_after, some_if}}
+use Rattle.abc_steps.specs.{Tuplets.{after_event, fits, one_less, with_tuplet_opened, or_default, open_tuplets_after}, Looks.Steps}
+use Rattle.abc_steps.specs.declared.{step.{WrittenSound.WrittenSound, Step.Step, PlacedStep.PlacedStep}, force.InForce.InForce, state.VoiceState.VoiceState, tuplets.OpenTuplets.OpenTuplets}
 use Rattle.abc_score.proofs.{Basics.{all_both, with_tuplet, none_before, none_behind}, Clear.{IsClearSound, no_fault, sound_clear}, Nested.IsOpen}
 use Rattle.abc_score.proofs.{Judging.rest_values, Parts.IsWhole}
 
@@ -37,15 +37,15 @@ parts_some num den some e =
           absurd (omega (arith, eqb-true (left * den) (512 * num) is, nothing, some))
 
 -- each side of a broken rhythm is some part of a note
-left_some : (o : Option Stood) → 1 ≤ (left_factor o).num
+left_some : (o : Option PlacedStep) → 1 ≤ (left_factor o).num
 unfolding left_factor left_side
 left_some o = grind arith
 
-right_some : (o : Option Stood) → 1 ≤ (right_factor o).num
+right_some : (o : Option PlacedStep) → 1 ≤ (right_factor o).num
 unfolding right_factor right_side
 right_some o = grind arith
 
-pub sound_parts : (now : Place) (before behind : Steps) (at : Stood) (s : Sound) → IsGoodUnit now.force.unit → IsGoodSound s
+pub sound_parts : (now : VoiceState) (before behind : Steps) (at : PlacedStep) (s : WrittenSound) → IsGoodUnit now.force.unit → IsGoodSound s
     → IsClearSound now before behind s → 1 ≤ length (sound_written now before at s behind).values
 unfolding sound_written written_length
 sound_parts now before behind at s unit good clear =
@@ -56,8 +56,8 @@ over_good : (signs adds : List KeySign) (o : Option Key) → AreGoodSigns signs 
 over_good signs adds None good whole = laid_good signs adds good
 over_good signs adds (Some key) good whole = whole
 
-force_good : (s : Step) (now : InForce) → IsGoodForce now → IsGoodStep s → IsGoodForce (force_behind s now)
-unfolding force_behind
+force_good : (s : Step) (now : InForce) → IsGoodForce now → IsGoodStep s → IsGoodForce (force_after s now)
+unfolding force_after
 force_good (Step.Clef clef) now force good = record { key = force.key; meter = force.meter; unit = force.unit }
 force_good (Step.Key text) now force good =
     record { key = over_good now.key.signs text.adds text.key force.key good; meter = force.meter; unit = force.unit }
@@ -65,18 +65,18 @@ force_good (Step.Meter meter) now force good = record { key = force.key; meter =
 force_good (Step.Unit unit) now force good = record { key = force.key; meter = force.meter; unit = good }
 force_good _ now force good = force
 
-pub walk_force : (first : InForce) (before : Steps) → IsGoodForce first → AllByRecursion IsGoodStood before → IsGoodForce (force_at first before)
+pub walk_force : (first : InForce) (before : Steps) → IsGoodForce first → AllByRecursion IsGoodPlacedStep before → IsGoodForce (force_at first before)
 walk_force first [] force good = force
 walk_force first (s ∷ before) force good = force_good s.step (force_at first before) (walk_force first before force good.1) good.0
 
 -- ---- signs
-when_good : {X : Type 0} (P : X → Type 0) (b : Bool) (x : X) → P x → IfSome (when b x) P
+when_good : {X : Type 0} (P : X → Type 0) (b : Bool) (x : X) → P x → IfSome (some_if b x) P
 when_good P true x good = good
 when_good P false x good = tt
 
-step_whole : (now : Place) (before behind : Steps) (at : Stood) (s : Step) → IsGoodForce now.force → IsGoodStep s
-    → faults_of now before at behind s ≡ [] → AllByRecursion IsWhole (signs_of now before at behind s)
-unfolding signs_of waiting_of changes_at
+step_whole : (now : VoiceState) (before behind : Steps) (at : PlacedStep) (s : Step) → IsGoodForce now.force → IsGoodStep s
+    → faults_of now before at behind s ≡ [] → AllByRecursion IsWhole (tree_items_of now before at behind s)
+unfolding tree_items_of pending_of changes_at
 step_whole now before behind at (Step.Sound s) force good e =
     let parts = sound_parts now before behind at s force.unit good (sound_clear now before behind at s e) in
     ((parts, when_good IsGoodKey _ _ force.key, when_good IsGoodMeter _ _ force.meter), tt)
@@ -90,78 +90,78 @@ step_whole now before behind at (Step.Measures seen count) force good e = (
 step_whole now before behind at (Step.Tuplet p q r) force good e = with_tuplet (AllByRecursion IsWhole) now p q r (λ m x y z. (tt, tt)) tt
 step_whole now before behind at _ force good e = tt
 
-pub walk_whole : (first : InForce) (before behind : Steps) → IsGoodForce first → AllByRecursion IsGoodStood before → AllByRecursion IsGoodStood behind
+pub walk_whole : (first : InForce) (before behind : Steps) → IsGoodForce first → AllByRecursion IsGoodPlacedStep before → AllByRecursion IsGoodPlacedStep behind
     → faults_in first before behind ≡ [] → AllByRecursion IsWhole (signs first before behind)
 walk_whole first before [] force good goods e = tt
 walk_whole first before (at ∷ behind) force good goods e =
     let here = walk_force first before force good in
-    all_both IsWhole _ _ (step_whole (place_at first before) before behind at at.step here goods.0 (none_before _ _ e))
+    all_both IsWhole _ _ (step_whole (state_at first before) before behind at at.step here goods.0 (none_before _ _ e))
     (walk_whole first (at ∷ before) behind force (goods.0, good) goods.1 (none_behind _ _ e))
 
 -- ---- the events that open tuplets take
 not_short : (n r : ℕ) → nat_lt n r ≡ false → r ≤ n
 not_short n r e = grind (arith, nat_tests)
 
-pub tuplet_clear : (r : ℕ) (t : Taking) (at : Stood) (behind : Steps) → tuplet_faults r t at behind ≡ []
+pub tuplet_clear : (r : ℕ) (t : OpenTuplets) (at : PlacedStep) (behind : Steps) → tuplet_faults r t at behind ≡ []
     → (fits r t ≡ true) × (r ≤ sounds_behind behind)
 tuplet_clear r t at behind e = by_test (fits r t) e where
-  by_test : (b : Bool) → cond b (fault_if (nat_lt (sounds_behind behind) r) FaultKind.TupletShort at) (fault_at (misfit_of t) at ∷ []) ≡ []
+  by_test : (b : Bool) → cond b (fault_if (nat_lt (sounds_behind behind) r) FaultKind.TupletShort at) (step_fault (misfit_of t) at ∷ []) ≡ []
       → (b ≡ true) × (r ≤ sounds_behind behind)
   by_test true e = (refl, not_short _ r (no_fault _ _ _ e))
   by_test false e = absurd cc
 
-pub sounds_on : (s : Stood) (rest : Steps) → sounds_behind (s ∷ rest) ≡ cond (ends_tuplets s.step) 0 (cond (is_sound s.step) 1 0 + sounds_behind rest)
+pub sounds_on : (s : PlacedStep) (rest : Steps) → sounds_behind (s ∷ rest) ≡ cond (ends_tuplets s.step) 0 (cond (is_sound s.step) 1 0 + sounds_behind rest)
 unfolding sounds_behind
 sounds_on s rest =
-    let inside = before_first (λ (x : Stood). ends_tuplets x.step) rest in let count : Steps → ℕ = count_by (λ (x : Stood). is_sound x.step) in
-    ap count (take_while-cons (λ (x : Stood). not (ends_tuplets x.step)) s rest) ∙ by_test inside (ends_tuplets s.step) where
-      by_test : (inside : Steps) (b : Bool) → count_by (λ (x : Stood). is_sound x.step) (cond (not b) (s ∷ inside) [])
-          ≡ cond b 0 (cond (is_sound s.step) 1 0 + count_by (λ (x : Stood). is_sound x.step) inside)
+    let inside = before_first (λ (x : PlacedStep). ends_tuplets x.step) rest in let count : Steps → ℕ = count_by (λ (x : PlacedStep). is_sound x.step) in
+    ap count (take_while-cons (λ (x : PlacedStep). not (ends_tuplets x.step)) s rest) ∙ by_test inside (ends_tuplets s.step) where
+      by_test : (inside : Steps) (b : Bool) → count_by (λ (x : PlacedStep). is_sound x.step) (cond (not b) (s ∷ inside) [])
+          ≡ cond b 0 (cond (is_sound s.step) 1 0 + count_by (λ (x : PlacedStep). is_sound x.step) inside)
       by_test inside true = refl
-      by_test inside false = sum_by-cons (λ (x : Stood). cond (is_sound x.step) 1 0) s inside
+      by_test inside false = sum_by-cons (λ (x : PlacedStep). cond (is_sound x.step) 1 0) s inside
 
 -- so many events suffice for the open ones
-abbrev pub Enough : Taking → ℕ → Type 0
-Enough Taking.Nothing n = ⊤
-Enough (Taking.One left) n = (1 ≤ left) × (left ≤ n)
-Enough (Taking.Two inner outer) n = (1 ≤ inner) × (inner ≤ outer) × (outer ≤ n)
+abbrev pub Enough : OpenTuplets → ℕ → Type 0
+Enough OpenTuplets.Nothing n = ⊤
+Enough (OpenTuplets.Single left) n = (1 ≤ left) × (left ≤ n)
+Enough (OpenTuplets.Nested inner outer) n = (1 ≤ inner) × (inner ≤ outer) × (outer ≤ n)
 
-pub open_with : (t : Taking) (n : ℕ) → Enough t n → IsOpen t
-open_with Taking.Nothing n enough = tt
-open_with (Taking.One left) n enough = enough.0
-open_with (Taking.Two inner outer) n enough = (enough.0, enough.1)
+pub open_with : (t : OpenTuplets) (n : ℕ) → Enough t n → IsOpen t
+open_with OpenTuplets.Nothing n enough = tt
+open_with (OpenTuplets.Single left) n enough = enough.0
+open_with (OpenTuplets.Nested inner outer) n enough = (enough.0, enough.1)
 
-pub none_open : (t : Taking) → Enough t 0 → t ≡ Taking.Nothing
-none_open Taking.Nothing enough = refl
-none_open (Taking.One left) enough = absurd (omega (arith, enough.0, enough.1))
-none_open (Taking.Two inner outer) enough = absurd (omega (arith, enough.0, enough.1, enough.2))
+pub none_open : (t : OpenTuplets) → Enough t 0 → t ≡ OpenTuplets.Nothing
+none_open OpenTuplets.Nothing enough = refl
+none_open (OpenTuplets.Single left) enough = absurd (omega (arith, enough.0, enough.1))
+none_open (OpenTuplets.Nested inner outer) enough = absurd (omega (arith, enough.0, enough.1, enough.2))
 
 less_enough : (left n : ℕ) → left ≤ 1 + n → Enough (one_less left) n
 less_enough left n few = cond_both (nat_le left 1) _ _ (λ t. Enough t n) (λ e. tt) (λ e. let more = leb-false left 1 e in (omega arith, omega arith))
 
-after_enough : (t : Taking) (n : ℕ) → Enough t (1 + n) → Enough (after_event t) n
+after_enough : (t : OpenTuplets) (n : ℕ) → Enough t (1 + n) → Enough (after_event t) n
 unfolding after_event
-after_enough Taking.Nothing n enough = tt
-after_enough (Taking.One left) n enough = less_enough left n enough.1
-after_enough (Taking.Two inner outer) n enough =
+after_enough OpenTuplets.Nothing n enough = tt
+after_enough (OpenTuplets.Single left) n enough = less_enough left n enough.1
+after_enough (OpenTuplets.Nested inner outer) n enough =
     cond_both (nat_le inner 1) _ _ (λ t. Enough t n) (λ e. less_enough outer n enough.2)
     (λ e. let more = leb-false inner 1 e in (omega arith, omega (arith, enough.1), omega (arith, enough.2)))
 
-opened_enough : (r : ℕ) (t : Taking) (n : ℕ) → fits r t ≡ true → 1 ≤ r → r ≤ n → Enough t n → Enough (opened r t) n
+opened_enough : (r : ℕ) (t : OpenTuplets) (n : ℕ) → fits r t ≡ true → 1 ≤ r → r ≤ n → Enough t n → Enough (with_tuplet_opened r t) n
 unfolding fits
-opened_enough r Taking.Nothing n fit some few enough = (some, few)
-opened_enough r (Taking.One left) n fit some few enough =
-    subst (λ b. Enough (cond b (Taking.Two r left) (Taking.One left)) n) (sym fit) (some, leb-true r left fit, enough.1)
-opened_enough r (Taking.Two inner outer) n fit some few enough = absurd cc
+opened_enough r OpenTuplets.Nothing n fit some few enough = (some, few)
+opened_enough r (OpenTuplets.Single left) n fit some few enough =
+    subst (λ b. Enough (cond b (OpenTuplets.Nested r left) (OpenTuplets.Single left)) n) (sym fit) (some, leb-true r left fit, enough.1)
+opened_enough r (OpenTuplets.Nested inner outer) n fit some few enough = absurd cc
 
 pub default_some : (p r : ℕ) → 2 ≤ p → 1 ≤ or_default p r
 default_some p zero low = omega arith
 default_some p (suc r) low = omega arith
 
-pub next_enough : (now : Place) (before behind : Steps) (at : Stood) (s : Step) → IsGoodStep s → faults_of now before at behind s ≡ []
+pub next_enough : (now : VoiceState) (before behind : Steps) (at : PlacedStep) (s : Step) → IsGoodStep s → faults_of now before at behind s ≡ []
     → Enough now.taking (cond (ends_tuplets s) 0 (cond (is_sound s) 1 0 + sounds_behind behind))
-    → Enough (taking_behind s now.taking) (sounds_behind behind)
-unfolding faults_of ends_tuplets is_sound taking_behind
+    → Enough (open_tuplets_after s now.taking) (sounds_behind behind)
+unfolding faults_of ends_tuplets is_sound open_tuplets_after
 next_enough now before behind at (Step.Sound s) good e enough = after_enough now.taking (sounds_behind behind) enough
 next_enough now before behind at (Step.Measures seen count) good e enough = tt
 next_enough now before behind at (Step.Bar bar) good e enough = tt

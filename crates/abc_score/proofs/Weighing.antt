@@ -7,38 +7,38 @@ use Rattle.std.specs.{Prelude.{flat_map, nat_lt, unwrap_or}, List.{AllByRecursio
 use Rattle.mus_units.specs.{declared.{note.{Head.Head, Deco.Deco}, value.Value.Value}, Parts.parts_list}
 use Rattle.abc_notes.specs.declared.part.GraceChord.{GraceChord}
 use Rattle.abc_score.proofs.{Basics.with_tuplet, Rows.{leaf_rows, weight_of}, Singing.{heads_of_graces, nodes_weight}}
-use Rattle.abc_steps.specs.{declared.{step.{Sound.Sound, Step.Step, Stood.Stood}, force.InForce.InForce, place.Place.Place}, Lengths.written_length}
-use Rattle.abc_steps.specs.{Looks.{Steps, is_tied, since_event}, Good.{IsGoodStep, IsGoodStood}, Places.{place_at, measure_of}}
-use Rattle.abc_events.specs.Leaves.{Words, leaves_from, nodes_of, words_at}
-use Rattle.abc_signs.specs.Signs.{further_rests, parted_at, rest_written, signs, signs_of, sound_written, tied_heads, with_tie}
-use Rattle.abc_signs.specs.{declared.written.{Written.Written, Waiting.Waiting, Sign.Sign}, Waits.{graces_in, nothing, waiting_of}}
+use Rattle.abc_steps.specs.{declared.{step.{WrittenSound.WrittenSound, Step.Step, PlacedStep.PlacedStep}, force.InForce.InForce, state.VoiceState.VoiceState}, Lengths.written_length}
+use Rattle.abc_steps.specs.{Looks.{Steps, is_sound_tied, since_event}, Good.{IsGoodStep, IsGoodPlacedStep}, Places.{state_at, measure_of}}
+use Rattle.abc_events.specs.Leaves.{Words, leaves_from, nodes_of, words_of_event}
+use Rattle.abc_signs.specs.Signs.{further_rests, parted_at, rest_written, signs, tree_items_of, sound_written, tied_heads, with_tie}
+use Rattle.abc_signs.specs.{declared.written.{WrittenEvent.WrittenEvent, Pending.Pending, TreeItem.TreeItem}, Waits.{graces_in, nothing_pending, pending_of}}
 use Rattle.abc_faults.proofs.Crowds.{crowd_held, not_before_itself}
-use Rattle.abc_faults.specs.{Weights.{grace_weights, grace_weights_of, sound_count}, declared.weights.Weight.Weight, First.then_below}
+use Rattle.abc_faults.specs.{Weights.{grace_weights, grace_weights_of, sound_count}, declared.weights.Weight.Weight, First.is_below_or_tied}
 use Rattle.abc_faults.specs.Weights.{stands_before, weight_at, weights_in, weights_of, count_parts, count_up_to, crowd_fault, crowd_up_to, crowded}
 
 -- ---- signs
-abbrev pub written_weight : Written → Waiting → ℕ
+abbrev pub written_weight : WrittenEvent → Pending → ℕ
 written_weight w waiting = heads_of_graces waiting.graces + length w.values * max 1 (length w.heads)
 
-abbrev pub sign_weight : Sign → ℕ
-sign_weight (Sign.Event w waiting) = written_weight w waiting
-sign_weight (Sign.Opens measure p q r) = 0
+abbrev pub sign_weight : TreeItem → ℕ
+sign_weight (TreeItem.Event w waiting) = written_weight w waiting
+sign_weight (TreeItem.Opens measure p q r) = 0
 
-pub leaves_weigh : (words : List Words) (k id : ℕ) (ss : List Sign) → sum_by weight_of (leaf_rows (leaves_from words k id ss)) ≡ sum_by sign_weight ss
+pub leaves_weigh : (words : List Words) (k id : ℕ) (ss : List TreeItem) → sum_by weight_of (leaf_rows (leaves_from words k id ss)) ≡ sum_by sign_weight ss
 leaves_weigh words k id [] = refl
-leaves_weigh words k id (Sign.Event w waiting ∷ ss) =
+leaves_weigh words k id (TreeItem.Event w waiting ∷ ss) =
     let others = leaf_rows (leaves_from words (k + 1) (id + length w.values) ss) in
-    sum_by-cons weight_of (nodes_of w waiting (words_at words k) id) others
-    ∙ ap (λ n. n + sum_by weight_of others) (nodes_weight w waiting (words_at words k) id)
+    sum_by-cons weight_of (nodes_of w waiting (words_of_event words k) id) others
+    ∙ ap (λ n. n + sum_by weight_of others) (nodes_weight w waiting (words_of_event words k) id)
     ∙ ap (λ n. written_weight w waiting + n) (leaves_weigh words (k + 1) (id + length w.values) ss)
-    ∙ sym (sum_by-cons sign_weight (Sign.Event w waiting) ss)
-leaves_weigh words k id (Sign.Opens measure p q r ∷ ss) =
-    leaves_weigh words k id ss ∙ sym (sum_by-cons sign_weight (Sign.Opens measure p q r) ss ∙ omega arith)
+    ∙ sym (sum_by-cons sign_weight (TreeItem.Event w waiting) ss)
+leaves_weigh words k id (TreeItem.Opens measure p q r ∷ ss) =
+    leaves_weigh words k id ss ∙ sym (sum_by-cons sign_weight (TreeItem.Opens measure p q r) ss ∙ omega arith)
 
 abbrev pub count : Weight → ℕ
 count w = w.count
 
-waits_step : (at : Stood) (s : Step) → heads_of_graces (graces_in s) ≡ sum_by count (grace_weights_of at s)
+waits_step : (at : PlacedStep) (s : Step) → heads_of_graces (graces_in s) ≡ sum_by count (grace_weights_of at s)
 unfolding graces_in grace_weights_of
 waits_step at (Step.Grace slash body) = omega arith
 waits_step at _ = refl
@@ -51,8 +51,8 @@ waits_weight (s ∷ waits) =
     omega (arith, left, waits_step s s.step, waits_weight waits, right)
 
 waiting_weight : (now : InForce) (waits : Steps) (decos : List Deco)
-    → heads_of_graces (waiting_of now waits decos).graces ≡ sum_by count (grace_weights waits)
-unfolding waiting_of
+    → heads_of_graces (pending_of now waits decos).graces ≡ sum_by count (grace_weights waits)
+unfolding pending_of
 waiting_weight now waits decos = waits_weight waits
 
 few_values : (o : Option (List Value)) → length (unwrap_or o []) ≤ count_parts o
@@ -61,9 +61,9 @@ few_values (Some vs) = omega arith
 
 length_tied : (heads : List Head) (behind : Steps) → length (tied_heads heads behind) ≡ length heads
 length_tied [] behind = refl
-length_tied (h ∷ hs) behind = length-map (h ∷ hs) (with_tie (is_tied behind))
+length_tied (h ∷ hs) behind = length-map (h ∷ hs) (with_tie (is_sound_tied behind))
 
-sound_weight : (now : Place) (before behind : Steps) (at : Stood) (s : Sound) →
+sound_weight : (now : VoiceState) (before behind : Steps) (at : PlacedStep) (s : WrittenSound) →
     let w = sound_written now before at s behind in length w.values * max 1 (length w.heads) ≤ sound_count now before s behind
 unfolding sound_written sound_count
 sound_weight now before behind at s =
@@ -72,16 +72,16 @@ sound_weight now before behind at s =
     let turned = mul_comm (length parts) (max 1 (length heads)) ∙ ap (λ n. max 1 n * length parts) (length_tied s.heads behind) in
     subst (λ n. n ≤ max 1 (length s.heads) * count_parts values) (sym turned) (mul-le-mul_left (max 1 (length s.heads)) (few_values values))
 
-further_weight : (now : Place) (at : Stood) (seen : Bool) (measure n : ℕ) → sum_by sign_weight (further_rests now at seen measure n) ≡ n
+further_weight : (now : VoiceState) (at : PlacedStep) (seen : Bool) (measure n : ℕ) → sum_by sign_weight (further_rests now at seen measure n) ≡ n
 unfolding rest_written
 further_weight now at seen measure zero = refl
 further_weight now at seen measure (suc n) =
-    let all = sum_by-cons sign_weight (Sign.Event (rest_written now at seen measure false) nothing) (further_rests now at seen (measure + 1) n) in
+    let all = sum_by-cons sign_weight (TreeItem.Event (rest_written now at seen measure false) nothing_pending) (further_rests now at seen (measure + 1) n) in
     omega (arith, all, further_weight now at seen (measure + 1) n)
 
-step_weight : (now : Place) (before behind : Steps) (at : Stood) (s : Step) → IsGoodStep s
-    → sum_by sign_weight (signs_of now before at behind s) ≤ sum_by count (weights_of now before at behind s)
-unfolding signs_of weights_of rest_written
+step_weight : (now : VoiceState) (before behind : Steps) (at : PlacedStep) (s : Step) → IsGoodStep s
+    → sum_by sign_weight (tree_items_of now before at behind s) ≤ sum_by count (weights_of now before at behind s)
+unfolding tree_items_of weights_of rest_written
 step_weight now before behind at (Step.Sound s) good =
     let waits = since_event before in let own = sound_weight now before behind at s in let graces = waiting_weight now.force waits s.decos in
     omega (arith, own, graces, sum_by-append count (grace_weights waits) (weight_at (sound_count now before s behind) at ∷ []))
@@ -89,24 +89,24 @@ step_weight now before behind at (Step.Measures seen n) good =
     let waits = since_event before in let first = rest_written now at seen (measure_of now) (parted_at now waits) in
     let others = further_weight now at seen (measure_of now + 1) (n - 1) in let graces = waiting_weight now.force waits [] in
     let some : 1 ≤ n = good.0 in
-    let here = sum_by-cons sign_weight (Sign.Event first (waiting_of now.force waits [])) (further_rests now at seen (measure_of now + 1) (n - 1)) in
+    let here = sum_by-cons sign_weight (TreeItem.Event first (pending_of now.force waits [])) (further_rests now at seen (measure_of now + 1) (n - 1)) in
     omega (arith, graces, others, here, sum_by-append count (grace_weights waits) (weight_at n at ∷ []), some)
 step_weight now before behind at (Step.Tuplet p q r) good =
     with_tuplet (λ z. sum_by sign_weight z ≤ 0) now p q r (λ m x y z. omega arith) (omega arith)
 step_weight now before behind at _ good = omega arith
 
-pub signs_weigh : (first : InForce) (before behind : Steps) → AllByRecursion IsGoodStood behind
+pub signs_weigh : (first : InForce) (before behind : Steps) → AllByRecursion IsGoodPlacedStep behind
     → sum_by sign_weight (signs first before behind) ≤ sum_by count (weights_in first before behind)
 signs_weigh first before [] good = omega arith
 signs_weigh first before (at ∷ behind) good =
-    let now = place_at first before in let here = step_weight now before behind at at.step good.0 in
-    let a = sum_by-append sign_weight (signs_of now before at behind at.step) (signs first (at ∷ before) behind) in
+    let now = state_at first before in let here = step_weight now before behind at at.step good.0 in
+    let a = sum_by-append sign_weight (tree_items_of now before at behind at.step) (signs first (at ∷ before) behind) in
     let b = sum_by-append count (weights_of now before at behind at.step) (weights_in first (at ∷ before) behind) in
     omega (arith, here, signs_weigh first (at ∷ before) behind good.1, a, b)
 
 -- ---- crowds
 abbrev below : ℕ → ℕ → ℕ → ℕ → Bool
-below a b x y = then_below a x (nat_lt b y)
+below a b x y = is_below_or_tied a x (nat_lt b y)
 
 below_later : (a b x y m n : ℕ) → below a b x y ≡ true → below a b m n ≡ false → below x y m n ≡ false
 below_later a b x y m n h i = grind (arith, nat_tests)

@@ -3,101 +3,101 @@ use Rattle.std.proofs.Common.{◌≡◌, ◌∙◌, refl, sym, ap, subst, ℕ, s
 use Rattle.std.proofs.lemmas.{List.Elements.{All-from_recursion, recursion_from_All, All-map}, Option.unwrap_or-slice_get}
 use Rattle.std.proofs.lemmas.List.{FromFn.{get_or-map-range_with_len, length-map-range_with_len}, Sums.{sum_by-cons, sum_by-append}, length-map}
 use Rattle.std.specs.{Prelude.flat_map, List.{All, AllByRecursion, range_with_len}, Str.bytes_eq}
-use Rattle.abc_header.specs.{declared.header.Header.Header, Headers.HasGoodValues}
-use Rattle.abc_steps.specs.{declared.step.Item.Item, Good.{IsGoodForce, IsGoodStood}}
-use Rattle.abc_items.{specs.{declared.voices.VoiceStart.VoiceStart, Good.IsGoodItem, Voices.{ids_of, starts_of, unnamed_of}}, proofs.Laws.steps_good}
+use Rattle.abc_fields.specs.{declared.header.Header.Header, Headers.HasGoodValues}
+use Rattle.abc_steps.specs.{declared.step.BodyItem.BodyItem, Good.{IsGoodForce, IsGoodPlacedStep}}
+use Rattle.abc_items.{specs.{declared.voices.VoiceStart.VoiceStart, Good.IsGoodItem, Voices.{voice_ids, starts_of, unnamed_of}}, proofs.Laws.steps_good}
 use Rattle.mus_score.{proofs.Scores.{all_within_bars, distinct_pairs, rising_bars}, specs.Good.IsGoodBody}
 use Rattle.mus_score.specs.{GoodScore.{AreInReach, IsGoodScore, IsGoodVoice, events_of, voice_weight}, declared.score.Measure.Measure}
-use Rattle.abc_signs.{specs.{declared.written.Sign.Sign, Signs.{IsDrawn, signs}}, proofs.Drawn.signs_drawn}
+use Rattle.abc_signs.{specs.{declared.written.TreeItem.TreeItem, Signs.{HasDrawableValues, signs}}, proofs.Drawn.signs_drawn}
 use Rattle.abc_events.specs.{Bars.{bar_of, bars_of}, Nesting.tree_of, Leaf.Leaf}
-use Rattle.abc_events.specs.{Leaves.{Words, leaves_from, leaves_of, words_at}, Measures.{leaves_in, measure_of, measures_in}}
+use Rattle.abc_events.specs.{Leaves.{Words, leaves_from, leaves_of, words_of_event}, Measures.{leaves_in, measure_of_leaves, measures_in}}
 use Rattle.abc_words.{proofs.FaultLaws.few_verses, specs.Rows.row_count}
-use Rattle.abc_words.specs.{Words.{event_words, music_rows, verse_sung, word_of}, declared.music.MusicRow.MusicRow, Verses.{verse_count, verses_of}}
+use Rattle.abc_words.specs.{Words.{event_words, music_rows, verse_sung, word_of}, declared.music.MusicRow.MusicRow, Verses.{verse_count, verses_of_voice}}
 use Rattle.abc_score.proofs.{Frames.{length_voice, lengths_agree, voices_apart, voices_led}, Parts.{signs_count, signs_good, signs_reach, signs_sung}}
 use Rattle.abc_score.proofs.{Clear.{IsClearVoice, few_measures, voices_clear}, Rows.{leaf_rows, tree_weight, weight_of}, Ids.{apart_read, few_read}}
 use Rattle.abc_score.proofs.{Segments.{Rise, measures_sing, measures_weigh, weight_in}, Weighing.{count, leaves_weigh, not_crowded, signs_weigh}}
 use Rattle.abc_score.proofs.{Reaching.voice_reach, Basics.none_behind, Forced.forced_rise, Nested.nested_good, Walks.walk_whole, Full.all_full}
 use Rattle.abc_score.proofs.{Cores.{CoresCount, CoresReach, IsGoodCore, count_of, events_of_cores, reach_of}, Rising.{own_most, voice_rise}}
-use Rattle.abc_score.specs.{Faults.{score_faults, voice_faults, voice_weights}, declared.voices.VoiceRead.VoiceRead, Voices.{voice_read, voices_read}}
-use Rattle.abc_score.specs.Score.{event_count, forced_of, most_measures, notes_from, own_measures, score_of, score_with, sung_words, voice_of}
+use Rattle.abc_score.specs.{Faults.{score_faults, voice_faults, voice_weights}, declared.voices.ReadVoice.ReadVoice, Voices.{voice_read, voices_read}}
+use Rattle.abc_score.specs.Score.{event_count, forced_of, most_measures, sung_notes_from, own_measures, score_of, score_with, sung_words, voice_by_header}
 use Rattle.abc_score.specs.Score.{written_measures}
 
 -- ---- words
 
 -- each event has a place for each verse
-each_words : (id unnamed : List ℕ) (items : List Item) (ss : List Sign) (j : ℕ) → j < event_count ss
-    → length (words_at (sung_words id unnamed items ss) j) ≡ verse_count id unnamed items
+each_words : (id unnamed : List ℕ) (items : List BodyItem) (ss : List TreeItem) (j : ℕ) → j < event_count ss
+    → length (words_of_event (sung_words id unnamed items ss) j) ≡ verse_count id unnamed items
 unfolding sung_words
 each_words id unnamed items ss j less =
-    let rows = music_rows id unnamed items (notes_from 0 ss) in let verses = verse_count id unnamed items in
+    let rows = music_rows id unnamed items (sung_notes_from 0 ss) in let verses = verse_count id unnamed items in
     ap length (unwrap_or-slice_get _ j [] ∙ get_or-map-range_with_len (event_words rows verses) 0 (event_count ss) j j [] less (omega arith))
     ∙ length-map-range_with_len (λ verse. word_of (verse_sung rows verse) j) 0 verses
 
 -- leaves that have the same words at each place are the same
-leaves_alike : (words others : List Words) (k id : ℕ) (ss : List Sign) → ((j : ℕ) → words_at words j ≡ words_at others j)
+leaves_alike : (words others : List Words) (k id : ℕ) (ss : List TreeItem) → ((j : ℕ) → words_of_event words j ≡ words_of_event others j)
     → leaves_from words k id ss ≡ leaves_from others k id ss
 leaves_alike words others k id [] same = refl
-leaves_alike words others k id (Sign.Event w waiting ∷ ss) same = cc (same k, leaves_alike words others (k + 1) (id + length w.values) ss same)
-leaves_alike words others k id (Sign.Opens measure p q r ∷ ss) same = cc (leaves_alike words others k id ss same)
+leaves_alike words others k id (TreeItem.Event w waiting ∷ ss) same = cc (same k, leaves_alike words others (k + 1) (id + length w.values) ss same)
+leaves_alike words others k id (TreeItem.Opens measure p q r ∷ ss) same = cc (leaves_alike words others k id ss same)
 
-no_words : (rows : List MusicRow) (events : List ℕ) (k : ℕ) → words_at [] k ≡ words_at (map (event_words rows 0) events) k
+no_words : (rows : List MusicRow) (events : List ℕ) (k : ℕ) → words_of_event [] k ≡ words_of_event (map (event_words rows 0) events) k
 no_words rows (event ∷ events) (suc k) = no_words rows events k
 no_words rows _ _ = refl
 
 -- without verses it is the same whether each event has an empty row of words or none
-pub leaves_unsung : (id unnamed : List ℕ) (items : List Item) (ss : List Sign) → verse_count id unnamed items ≡ 0
+pub leaves_unsung : (id unnamed : List ℕ) (items : List BodyItem) (ss : List TreeItem) → verse_count id unnamed items ≡ 0
     → leaves_of [] ss ≡ leaves_of (sung_words id unnamed items ss) ss
 unfolding sung_words
 leaves_unsung id unnamed items ss none =
-    rw none (leaves_alike [] _ 0 0 ss (no_words (music_rows id unnamed items (notes_from 0 ss)) (range_with_len 0 (event_count ss))))
+    rw none (leaves_alike [] _ 0 0 ss (no_words (music_rows id unnamed items (sung_notes_from 0 ss)) (range_with_len 0 (event_count ss))))
 
 -- ---- a voice
 
 -- how every voice is read: it begins with its own clef and with good values, and its steps are good
-record IsWellRead (v : VoiceRead) : Type 0 where
+record IsWellRead (v : ReadVoice) : Type 0 where
   pub clef : v.first.clef ≡ v.start.clef
   pub first : IsGoodForce v.first
-  pub steps : AllByRecursion IsGoodStood v.steps
+  pub steps : AllByRecursion IsGoodPlacedStep v.steps
 
-module _ (header : Header) (items : List Item) (n : ℕ) where
+module _ (header : Header) (items : List BodyItem) (n : ℕ) where
   -- what is known of a voice
-  record IsKnown (v : VoiceRead) : Type 0 where
+  record IsKnown (v : ReadVoice) : Type 0 where
     pub read : IsWellRead v
     pub clear : IsClearVoice (unnamed_of header) items v
     pub own : own_measures v ≤ n
 
-  abbrev words_in : VoiceRead → List Words
+  abbrev words_in : ReadVoice → List Words
   words_in v = sung_words v.start.id (unnamed_of header) items (signs v.first [] v.steps)
 
-  abbrev leaves_with : VoiceRead → List Leaf
+  abbrev leaves_with : ReadVoice → List Leaf
   leaves_with v = leaves_from (words_in v) 0 0 (signs v.first [] v.steps)
 
-  rise_in : (v : VoiceRead) → IsKnown v → Rise 0 (length (bars_of v.steps n)) (leaves_with v)
+  rise_in : (v : ReadVoice) → IsKnown v → Rise 0 (length (bars_of v.steps n)) (leaves_with v)
   rise_in v is =
       let long : length (bars_of v.steps n) ≡ n = length-map-range_with_len (bar_of v.steps) 0 n in
       voice_rise (words_in v) v.first _ v.steps (omega (arith, long, is.own))
 
-  leaves_light : (v : VoiceRead) → IsKnown v → sum_by weight_of (leaf_rows (leaves_with v)) ≤ sum_by count (voice_weights v)
+  leaves_light : (v : ReadVoice) → IsKnown v → sum_by weight_of (leaf_rows (leaves_with v)) ≤ sum_by count (voice_weights v)
   leaves_light v is =
       subst (λ k. k ≤ sum_by count (voice_weights v)) (sym (leaves_weigh (words_in v) 0 0 (signs v.first [] v.steps)))
       (signs_weigh v.first [] v.steps is.read.steps)
 
-  weight_high : (v : VoiceRead) → IsKnown v → voice_weight (voice_of header items n v) ≤ sum_by count (voice_weights v)
-  unfolding voice_of written_measures
+  weight_high : (v : ReadVoice) → IsKnown v → voice_weight (voice_by_header header items n v) ≤ sum_by count (voice_weights v)
+  unfolding voice_by_header written_measures
   weight_high v is =
       subst (λ k. k ≤ sum_by count (voice_weights v)) (sym (measures_weigh (leaves_with v) (bars_of v.steps n) (rise_in v is))) (leaves_light v is)
 
-  body_good : (v : VoiceRead) → IsKnown v → sum_by count (voice_weights v) ≤ 50000 → (k : ℕ) → IsGoodBody (tree_of (leaves_in k (leaves_with v)))
+  body_good : (v : ReadVoice) → IsKnown v → sum_by count (voice_weights v) ≤ 50000 → (k : ℕ) → IsGoodBody (tree_of (leaves_in k (leaves_with v)))
   body_good v is few k =
-      let ls = leaves_in k (leaves_with v) in let drawn = recursion_from_All IsDrawn _ (signs_drawn v.first [] v.steps) in
+      let ls = leaves_in k (leaves_with v) in let drawn = recursion_from_All HasDrawableValues _ (signs_drawn v.first [] v.steps) in
       record {
         good = nested_good ls (all_full (words_in v) k v.first v.steps is.read.first is.read.steps is.clear.own drawn);
         few = subst (λ n. n ≤ 50000) (sym (tree_weight ls)) (le_trans (weight_in k (leaves_with v)) (le_trans (leaves_light v is) few));
       }
 
-  voice_good : (v : VoiceRead) → HasGoodValues header → n ≤ 2000 → IsKnown v → sum_by count (voice_weights v) ≤ 50000
-      → IsGoodVoice (voice_of header items n v)
-  unfolding voice_of written_measures
+  voice_good : (v : ReadVoice) → HasGoodValues header → n ≤ 2000 → IsKnown v → sum_by count (voice_weights v) ≤ 50000
+      → IsGoodVoice (voice_by_header header items n v)
+  unfolding voice_by_header written_measures
   voice_good v good most is few =
       let ss = signs v.first [] v.steps in let words = words_in v in let verses = verse_count v.start.id (unnamed_of header) items in
       let ls = leaves_with v in let bars = bars_of v.steps n in let events = events_of (measures_in ls bars) in
@@ -107,60 +107,60 @@ module _ (header : Header) (items : List Item) (n : ℕ) where
       let good_words = signs_good words verses 0 0 ss whole (λ j less. each_words v.start.id (unnamed_of header) items ss j (omega (arith, less))) in
       record {
         few_measures = subst (λ k. k ≤ 2000) (sym (length_voice header items n v)) most;
-        few_verses = few_verses (verses_of v.start.id (unnamed_of header) items) (row_count items) is.clear.verses;
+        few_verses = few_verses (verses_of_voice v.start.id (unnamed_of header) items) (row_count items) is.clear.verses;
         near = omega arith;
         few_heads = le_trans (weight_high v is) few;
         key = good.key;
         meter = good.meter;
-        bodies = All-map (λ (m : Measure). IsGoodBody m.body) (measure_of ls bars) (range_with_len 0 _) (λ k d less. body_good v is few _);
+        bodies = All-map (λ (m : Measure). IsGoodBody m.body) (measure_of_leaves ls bars) (range_with_len 0 _) (λ k d less. body_good v is few _);
         events = events_of_cores verses events (subst (AllByRecursion (IsGoodCore verses)) sings good_words);
         reach = subst (λ clef. AreInReach clef events) is.read.clef (reach_of v.first.clef events (subst (CoresReach v.first.clef) sings reach));
         ids = count_of 0 events (subst (CoresCount 0) sings (signs_count words 0 0 ss whole));
       }
 
   -- ---- all voices
-  voices_good : (voices : List VoiceRead) → HasGoodValues header → n ≤ 2000 → AllByRecursion IsKnown voices
-      → sum_by count (flat_map voice_weights voices) ≤ 50000 → AllByRecursion IsGoodVoice (map (voice_of header items n) voices)
+  voices_good : (voices : List ReadVoice) → HasGoodValues header → n ≤ 2000 → AllByRecursion IsKnown voices
+      → sum_by count (flat_map voice_weights voices) ≤ 50000 → AllByRecursion IsGoodVoice (map (voice_by_header header items n) voices)
   voices_good [] good most all few = tt
   voices_good (v ∷ voices) good most all few =
       let both = sum_by-append count (voice_weights v) (flat_map voice_weights voices) in
       (voice_good v good most all.0 (omega (arith, both, few)), voices_good voices good most all.1 (omega (arith, both, few)))
 
-  voices_weigh : (voices : List VoiceRead) → AllByRecursion IsKnown voices
-      → sum_by voice_weight (map (voice_of header items n) voices) ≤ sum_by count (flat_map voice_weights voices)
+  voices_weigh : (voices : List ReadVoice) → AllByRecursion IsKnown voices
+      → sum_by voice_weight (map (voice_by_header header items n) voices) ≤ sum_by count (flat_map voice_weights voices)
   voices_weigh [] all = omega arith
   voices_weigh (v ∷ voices) all =
-      let first = sum_by-cons voice_weight (voice_of header items n v) (map (voice_of header items n) voices) in
+      let first = sum_by-cons voice_weight (voice_by_header header items n v) (map (voice_by_header header items n) voices) in
       let both = sum_by-append count (voice_weights v) (flat_map voice_weights voices) in
       omega (arith, first, weight_high v all.0, voices_weigh voices all.1, both)
 
-  all_known : (voices : List VoiceRead) → AllByRecursion IsWellRead voices → AllByRecursion (IsClearVoice (unnamed_of header) items) voices
-      → AllByRecursion (λ (v : VoiceRead). own_measures v ≤ n) voices → AllByRecursion IsKnown voices
+  all_known : (voices : List ReadVoice) → AllByRecursion IsWellRead voices → AllByRecursion (IsClearVoice (unnamed_of header) items) voices
+      → AllByRecursion (λ (v : ReadVoice). own_measures v ≤ n) voices → AllByRecursion IsKnown voices
   all_known [] reads clears owns = tt
   all_known (v ∷ voices) reads clears owns =
       (record { read = reads.0; clear = clears.0; own = owns.0 }, all_known voices reads.1 clears.1 owns.1)
 
-all_read : (header : Header) (items : List Item) (starts : List VoiceStart) → HasGoodValues header → All IsGoodItem items
+all_read : (header : Header) (items : List BodyItem) (starts : List VoiceStart) → HasGoodValues header → All IsGoodItem items
     → AllByRecursion IsWellRead (map (voice_read header items) starts)
 all_read header items [] good given = tt
 all_read header items (start ∷ starts) good given =
     let steps = steps_good start.id (bytes_eq start.id (unnamed_of header)) items given in (
-      record { clef = refl; first = record { key = good.key; meter = good.meter; unit = good.unit }; steps = recursion_from_All IsGoodStood _ steps },
+      record { clef = refl; first = record { key = good.key; meter = good.meter; unit = good.unit }; steps = recursion_from_All IsGoodPlacedStep _ steps },
       all_read header items starts good given,
     )
 
-pub good_score : (header : Header) (items : List Item) (flow : Bool) → HasGoodValues header → All IsGoodItem items → length (ids_of header items) ≤ 16
+pub good_score : (header : Header) (items : List BodyItem) (flow : Bool) → HasGoodValues header → All IsGoodItem items → length (voice_ids header items) ≤ 16
     → score_faults header items ≡ [] → IsGoodScore (score_of header items flow)
 unfolding score_with
 good_score header items flow good given few e =
     let unnamed = unnamed_of header in let voices = voices_read header items in let n = most_measures voices in
-    let made = map (voice_of header items n) voices in
+    let made = map (voice_by_header header items n) voices in
     let clears = voices_clear unnamed items voices e in let faults = flat_map (voice_faults unnamed items) voices in
     let light = not_crowded (flat_map voice_weights voices) (none_behind faults _ e) in
     let within = few_measures unnamed items voices clears in let rise = forced_rise flow voices n in
     let known = all_known header items n voices (all_read header items (starts_of header items) good given) clears (own_most voices) in
     record {
-      few_voices = omega (arith, length-map voices (voice_of header items n), few_read header items few);
+      few_voices = omega (arith, length-map voices (voice_by_header header items n), few_read header items few);
       few_measures = within;
       few_heads = le_trans (voices_weigh header items n voices known) light;
       voices = All-from_recursion IsGoodVoice made (voices_good header items n voices good within known light);

@@ -1,7 +1,7 @@
 -- What the building of a tune's score answers: the score of a body without fault, or the first fault, of the body and only then of the score.
 use Rattle.std.specs.Prelude.{◌≡◌, ◌⊎◌, ⊤, List, drop, Bool, Some, None}
-use Rattle.{abc_lines.specs.{declared.book.Line.Line, declared.book.TuneText.TuneText, declared.fault.Fault.Fault, declared.fault.TuneError.TuneError}, abc_header.specs.declared.header.Header.{Header}}
-use Rattle.{abc_steps.specs.declared.step.Item.{Item}, abc_items.specs.Body.{HasFault, IsBody}, abc_faults.specs.First.{IsFirst}, mus_score.specs.declared.score.Score.{Score}, abc_score.specs.{Faults.score_faults, Score.score_of}}
+use Rattle.{abc_lines.specs.{declared.book.Line.Line, declared.book.TuneText.TuneText, declared.fault.Fault.Fault, declared.fault.TuneError.TuneError}, abc_fields.specs.declared.header.Header.{Header}}
+use Rattle.{abc_steps.specs.declared.step.BodyItem.{BodyItem}, abc_items.specs.Body.{HasFault, IsBody}, abc_faults.specs.First.{IsFirstInOrder}, mus_score.specs.declared.score.Score.{Score}, abc_score.specs.{Faults.score_faults, Score.score_of}}
 
 -- the lines behind the header
 abbrev pub body_lines : Header → TuneText → List Line
@@ -9,22 +9,22 @@ body_lines header tune = drop header.body tune.lines
 
 -- the score of a body that has no fault, and whose score has none
 pub record IsScoreOf (header : Header) (tune : TuneText) (flow : Bool) (score : Score) : Type 0 where
-  pub items : List Item
+  pub items : List BodyItem
   pub body : IsBody header (body_lines header tune) items
-  pub clear : IsFirst (score_faults header items) None
+  pub clear : IsFirstInOrder (score_faults header items) None
   pub value : score ≡ score_of header items flow
 
 -- the first fault of the score of a body that has none itself
 pub record HasScoreFault (header : Header) (tune : TuneText) (fault : Fault) : Type 0 where
-  pub items : List Item
+  pub items : List BodyItem
   pub body : IsBody header (body_lines header tune) items
-  pub first : IsFirst (score_faults header items) (Some fault)
+  pub first : IsFirstInOrder (score_faults header items) (Some fault)
 
 abbrev pub IsFaultOf : Header → TuneText → TuneError → Type 0
 IsFaultOf header tune TuneError.Memory = ⊤
 IsFaultOf header tune (TuneError.Fault fault) = HasFault header (body_lines header tune) fault ⊎ HasScoreFault header tune fault
 
 -- the same of a body that is read
-abbrev pub IsErrorIn : Header → List Item → TuneError → Type 0
+abbrev pub IsErrorIn : Header → List BodyItem → TuneError → Type 0
 IsErrorIn header items TuneError.Memory = ⊤
-IsErrorIn header items (TuneError.Fault fault) = IsFirst (score_faults header items) (Some fault)
+IsErrorIn header items (TuneError.Fault fault) = IsFirstInOrder (score_faults header items) (Some fault)

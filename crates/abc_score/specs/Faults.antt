@@ -1,17 +1,17 @@
 -- All faults that the score of a body has: those of each voice by itself, its verses that are too
 -- many, and the places up to which all voices together have too many heads and rests.
 use Rattle.std.specs.Prelude.{ℕ, List, [], ◌++◌, flat_map}
-use Rattle.{abc_lines.specs.declared.fault.Fault.{Fault}, abc_header.specs.declared.header.Header.{Header}, abc_steps.specs.declared.step.Item.{Item}, abc_items.specs.Voices.{unnamed_of}}
-use Rattle.{abc_faults.specs.{declared.weights.Weight.Weight, Faults.faults_in, Weights.crowded, Weights.weights_in}, abc_words.specs.Verses.{verse_faults}, abc_score.specs.{declared.voices.VoiceRead.VoiceRead, Voices.voices_read}}
+use Rattle.{abc_lines.specs.declared.fault.Fault.{Fault}, abc_fields.specs.declared.header.Header.{Header}, abc_steps.specs.declared.step.BodyItem.{BodyItem}, abc_items.specs.Voices.{unnamed_of}}
+use Rattle.{abc_faults.specs.{declared.weights.Weight.Weight, Faults.faults_in, Weights.crowded, Weights.weights_in}, abc_words.specs.Verses.{verse_faults}, abc_score.specs.{declared.voices.ReadVoice.ReadVoice, Voices.voices_read}}
 
-abbrev pub voice_faults : List ℕ → List Item → VoiceRead → List Fault
+abbrev pub voice_faults : List ℕ → List BodyItem → ReadVoice → List Fault
 voice_faults unnamed items v = faults_in v.first [] v.steps ++ verse_faults v.start.id unnamed items
 
-abbrev pub voice_weights : VoiceRead → List Weight
+abbrev pub voice_weights : ReadVoice → List Weight
 voice_weights v = weights_in v.first [] v.steps
 
-abbrev pub faults_of_voices : List ℕ → List Item → List VoiceRead → List Fault
+abbrev pub faults_of_voices : List ℕ → List BodyItem → List ReadVoice → List Fault
 faults_of_voices unnamed items voices = flat_map (voice_faults unnamed items) voices ++ crowded (flat_map voice_weights voices)
 
-abbrev pub score_faults : Header → List Item → List Fault
+abbrev pub score_faults : Header → List BodyItem → List Fault
 score_faults header items = faults_of_voices (unnamed_of header) items (voices_read header items)

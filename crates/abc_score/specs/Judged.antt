@@ -1,18 +1,18 @@
 -- Voices that are judged, and what is kept of their signs.
 use Rattle.std.specs.{Prelude.{◌≡◌, ◌≤◌, ◌<◌, ◌⊎◌, ◌++◌, [], List, Option, map, reverse, Bool, true, false}, List.{Contains, list_all}}
-use Rattle.{abc_lines.specs.declared.fault.Fault.{Fault}, abc_steps.specs.{declared.step.{Step.Step, Stood.Stood}, Counts.measures_begun, Kinds.is_event, Looks.Steps}, abc_signs.specs.Signs.{signs}}
+use Rattle.{abc_lines.specs.declared.fault.Fault.{Fault}, abc_steps.specs.{declared.step.{Step.Step, PlacedStep.PlacedStep}, Counts.measures_begun, Kinds.is_event, Looks.Steps}, abc_signs.specs.Signs.{signs}}
 use Rattle.abc_faults.specs.{declared.weights.Weight.Weight, First.{first_of, is_before}, Weights.{capped, crowd_fault, crowd_up_to, stands_before, weight_at}}
-use Rattle.abc_score.specs.declared.{keeping.Kept.Kept, keeping.Judged.Judged, voices.VoiceRead.VoiceRead}
+use Rattle.abc_score.specs.declared.{keeping.VoiceItems.VoiceItems, keeping.JudgedVoice.JudgedVoice, voices.ReadVoice.ReadVoice}
 
 -- what is kept as whole is all signs of the voice, and how many measures it has
-abbrev pub IsKept : VoiceRead → Kept → Type 0
-IsKept v kept = kept.whole ≡ true → (kept.signs ≡ signs v.first [] v.steps) × (kept.measures ≡ measures_begun (reverse v.steps))
+abbrev pub AreItemsOf : ReadVoice → VoiceItems → Type 0
+AreItemsOf v kept = kept.whole ≡ true → (kept.signs ≡ signs v.first [] v.steps) × (kept.measures ≡ measures_begun (reverse v.steps))
 
-abbrev pub HasKept : Judged → Type 0
-HasKept j = IsKept j.read j.kept
+abbrev pub HasKept : JudgedVoice → Type 0
+HasKept j = AreItemsOf j.read j.kept
 
-abbrev pub reads_of : List Judged → List VoiceRead
-reads_of voices = map (λ (j : Judged). j.read) voices
+abbrev pub reads_of : List JudgedVoice → List ReadVoice
+reads_of voices = map (λ (j : JudgedVoice). j.read) voices
 
 -- a step that alone says nothing: no event, no bar, and nothing that a walk along the steps has to know
 unfoldable pub is_idle : Step → Bool
@@ -29,10 +29,10 @@ is_idle Step.LineEnd = true
 is_idle _ = false
 
 -- there are too many heads and rests with an event, and the steps that follow it stand behind it
-pub record IsEnd (put : List Weight) (at : Stood) (behind : Steps) : Type 0 where
+pub record IsCrowdedAt (put : List Weight) (at : PlacedStep) (behind : Steps) : Type 0 where
   pub event : is_event at.step ≡ true
   pub crowd : 50000 < crowd_up_to put (weight_at 0 at)
-  pub later : list_all (λ (s : Stood). stands_before (weight_at 0 at) (weight_at 0 s)) behind ≡ true
+  pub later : list_all (λ (s : PlacedStep). stands_before (weight_at 0 at) (weight_at 0 s)) behind ≡ true
 
 -- there are too many up to a place that a fault isn't before
 pub record HasCrowd (put : List Weight) (f : Fault) : Type 0 where

@@ -1,11 +1,11 @@
 -- The lines of words in a body: none stands before an earlier one.
 use Rattle.std.specs.Prelude.{ℕ, ◌≤◌, List, [], ◌∷◌, ⊤}
-use Rattle.abc_steps.specs.declared.step.Item.{Item}
+use Rattle.abc_steps.specs.declared.step.BodyItem.{BodyItem}
 
-abbrev pub DoWordsRiseFrom : ℕ → List Item → Type 0
+abbrev pub DoWordsRiseFrom : ℕ → List BodyItem → Type 0
 DoWordsRiseFrom low [] = ⊤
-DoWordsRiseFrom low (Item.Words text line ∷ items) = (low ≤ line) × DoWordsRiseFrom line items
+DoWordsRiseFrom low (BodyItem.Words text line ∷ items) = (low ≤ line) × DoWordsRiseFrom line items
 DoWordsRiseFrom low (i ∷ items) = DoWordsRiseFrom low items
 
-abbrev pub DoWordsRise : List Item → Type 0
+abbrev pub DoWordsRise : List BodyItem → Type 0
 DoWordsRise items = DoWordsRiseFrom 0 items

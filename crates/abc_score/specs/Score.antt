@@ -1,36 +1,36 @@
 -- The score of a body, put together from its voices.
 use Rattle.std.specs.Prelude.{ℕ, ◌+◌, List, [], ◌∷◌, ◌++◌, map, fold, max, reverse, Bool, true, false, Option}
 use Rattle.{mus_units.specs.declared.note.Head.{Head}, mus_score.specs.{declared.score.Measure.Measure, declared.score.Voice.Voice, declared.score.Score.Score, Seats.usual_gap, declared.score.Seat.Seat}}
-use Rattle.{abc_header.specs.declared.header.Header.{Header}, abc_steps.specs.{declared.step.Item.Item, Counts.measures_begun}, abc_items.specs.Voices.{unnamed_of}}
-use Rattle.abc_signs.specs.{declared.written.Written.Written, declared.written.Sign.Sign, Signs.signs}
-use Rattle.abc_events.specs.{Bars.bars_of, Bars.first_bar, Bars.forced_bars, Measures.measures_of}
-use Rattle.{abc_words.specs.{declared.music.SungNote.SungNote, Verses.verse_count, Words.words_of}, abc_score.specs.{declared.voices.VoiceRead.VoiceRead, Voices.voices_read}}
+use Rattle.{abc_fields.specs.declared.header.Header.{Header}, abc_steps.specs.{declared.step.BodyItem.BodyItem, Counts.measures_begun}, abc_items.specs.Voices.{unnamed_of}}
+use Rattle.abc_signs.specs.{declared.written.WrittenEvent.WrittenEvent, declared.written.TreeItem.TreeItem, Signs.signs}
+use Rattle.abc_events.specs.{Bars.bars_of, Bars.bar_before_events, Bars.forced_bars, Measures.measures_of}
+use Rattle.{abc_words.specs.{declared.music.SungNote.SungNote, Verses.verse_count, Words.words_of_events}, abc_score.specs.{declared.voices.ReadVoice.ReadVoice, Voices.voices_read}}
 
 -- Words are sung on written events with heads, each numbered among all written events of its voice.
-abbrev pub note_if : List Head → ℕ → Written → List SungNote
+abbrev pub note_if : List Head → ℕ → WrittenEvent → List SungNote
 note_if [] event w = []
 note_if (h ∷ hs) event w = record { event = event; line = w.line; measure = w.measure } ∷ []
 
-abbrev pub notes_from : ℕ → List Sign → List SungNote
-notes_from event [] = []
-notes_from event (Sign.Event w waiting ∷ signs) = note_if w.heads event w ++ notes_from (event + 1) signs
-notes_from event (Sign.Opens measure p q r ∷ signs) = notes_from event signs
+abbrev pub sung_notes_from : ℕ → List TreeItem → List SungNote
+sung_notes_from event [] = []
+sung_notes_from event (TreeItem.Event w waiting ∷ signs) = note_if w.heads event w ++ sung_notes_from (event + 1) signs
+sung_notes_from event (TreeItem.Opens measure p q r ∷ signs) = sung_notes_from event signs
 
-abbrev pub event_count : List Sign → ℕ
+abbrev pub event_count : List TreeItem → ℕ
 event_count [] = 0
-event_count (Sign.Event w waiting ∷ signs) = 1 + event_count signs
-event_count (Sign.Opens measure p q r ∷ signs) = event_count signs
+event_count (TreeItem.Event w waiting ∷ signs) = 1 + event_count signs
+event_count (TreeItem.Opens measure p q r ∷ signs) = event_count signs
 
 -- the words of each written event, a place for each verse
-unfoldable pub sung_words : List ℕ → List ℕ → List Item → List Sign → List (List (Option (List ℕ)))
-sung_words id unnamed items signs = words_of id unnamed items (notes_from 0 signs) (event_count signs)
+unfoldable pub sung_words : List ℕ → List ℕ → List BodyItem → List TreeItem → List (List (Option (List ℕ)))
+sung_words id unnamed items signs = words_of_events id unnamed items (sung_notes_from 0 signs) (event_count signs)
 
-unfoldable pub written_measures : List ℕ → List Item → ℕ → VoiceRead → List Measure
+unfoldable pub written_measures : List ℕ → List BodyItem → ℕ → ReadVoice → List Measure
 written_measures unnamed items n v = let all = signs v.first [] v.steps in measures_of all (sung_words v.start.id unnamed items all) (bars_of v.steps n)
 
 -- a voice with so many measures: its own, and empty ones behind them
-unfoldable pub voice_of : Header → List Item → ℕ → VoiceRead → Voice
-voice_of header items n v = record {
+unfoldable pub voice_by_header : Header → List BodyItem → ℕ → ReadVoice → Voice
+voice_by_header header items n v = record {
   id = v.start.id;
   seat = Seat.Alone;
   gap = usual_gap;
@@ -39,33 +39,33 @@ voice_of header items n v = record {
   meter = header.meter;
   stem = v.start.stem;
   verses = verse_count v.start.id (unnamed_of header) items;
-  first = first_bar v.steps;
+  first = bar_before_events v.steps;
   measures = written_measures (unnamed_of header) items n v;
 }
 
 -- as many measures as the voice with most of them has of its own
-abbrev pub own_measures : VoiceRead → ℕ
+abbrev pub own_measures : ReadVoice → ℕ
 own_measures v = measures_begun (reverse v.steps)
 
-abbrev pub most_measures : List VoiceRead → ℕ
+abbrev pub most_measures : List ReadVoice → ℕ
 most_measures voices = fold max 0 (map own_measures voices)
 
 -- line breaks in the first voice force its bars; `flow` asks that none is forced
-abbrev pub forced_in : List VoiceRead → ℕ → List ℕ
+abbrev pub forced_in : List ReadVoice → ℕ → List ℕ
 forced_in [] n = []
 forced_in (v ∷ voices) n = forced_bars v.steps n
 
-abbrev pub forced_of : Bool → List VoiceRead → ℕ → List ℕ
+abbrev pub forced_of : Bool → List ReadVoice → ℕ → List ℕ
 forced_of true voices n = []
 forced_of false voices n = forced_in voices n
 
-unfoldable pub score_with : Header → List Item → Bool → List VoiceRead → Score
+unfoldable pub score_with : Header → List BodyItem → Bool → List ReadVoice → Score
 score_with header items flow voices = record {
-  voices = map (voice_of header items (most_measures voices)) voices;
+  voices = map (voice_by_header header items (most_measures voices)) voices;
   measures = most_measures voices;
   forced = forced_of flow voices (most_measures voices);
   spread = header.spread;
 }
 
-abbrev pub score_of : Header → List Item → Bool → Score
+abbrev pub score_of : Header → List BodyItem → Bool → Score
 score_of header items flow = score_with header items flow (voices_read header items)

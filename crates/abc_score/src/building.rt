@@ -1,24 +1,24 @@
 ghost use Rattle.std.specs.{Prelude.◌≡◌, Prelude.◌≤◌, Prelude.None, Prelude.length, Prelude.drop, Prelude.IfOk, Prelude.IfErr, List.All};
-ghost use Rattle.{abc_lines.specs.Good.{IsGoodTune}, abc_header.specs.Headers.{HasGoodValues, IsGoodHeader}, abc_items.specs.{Good.IsGoodItem, Voices.ids_of}, abc_faults.specs.First.{IsFirst}};
+ghost use Rattle.{abc_lines.specs.Good.{IsGoodTune}, abc_fields.specs.Headers.{HasGoodValues, IsGoodHeader}, abc_items.specs.{Good.IsGoodItem, Voices.voice_ids}, abc_faults.specs.First.{IsFirstInOrder}};
 ghost use Rattle.{mus_score.specs.GoodScore.{IsGoodScore}, abc_score.specs.{Faults.score_faults, Score.score_of, Order.DoWordsRise, Build.IsErrorIn, Build.IsFaultOf, Build.IsScoreOf}};
 
 use crate::faults::fault_of_score;
 use crate::scores::score_with;
 use crate::voices::read_voices;
-use abc_header::Header;
+use abc_fields::Header;
 use abc_items::{read_body, unnamed_of};
 use abc_lines::{TuneError, TuneText};
-use abc_steps::Item;
+use abc_steps::BodyItem;
 use mus_score::Score;
 use std::alloc::Global;
 
 /// The score of a body that is read, or its first fault.
-fn score_in(alloc: Global, header: &Header, items: &[Item], flow: bool) -> Result<Score, TuneError>
+fn score_in(alloc: Global, header: &Header, items: &[BodyItem], flow: bool) -> Result<Score, TuneError>
     requires header { HasGoodValues header.now }
     requires items { All IsGoodItem items.now }
     requires rise { DoWordsRise items.now }
-    requires few { length (ids_of header.now items.now) ≤ 16 }
-    ensures clear { IfOk result (λ score. IsFirst (score_faults header.now items.now) None) }
+    requires few { length (voice_ids header.now items.now) ≤ 16 }
+    ensures clear { IfOk result (λ score. IsFirstInOrder (score_faults header.now items.now) None) }
     ensures score { IfOk result (λ score. score ≡ score_of header.now items.now flow) }
     ensures fault { IfErr result (λ e. IsErrorIn header.now items.now e) }
     ensures good { IfOk result IsGoodScore }

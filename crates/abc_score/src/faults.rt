@@ -1,20 +1,20 @@
 ghost use Rattle.std.specs.{Prelude.{◌≡◌, flat_map, IfOk}, List.All};
-ghost use Rattle.{abc_faults.specs.First.{IsFirst}, abc_score.specs.{Voices.IsGoodRead, Faults.{faults_of_voices, voice_faults, voice_weights}, Judged.{AreJudged, IsKept, HasKept, reads_of}, Order.DoWordsRise}};
+ghost use Rattle.{abc_faults.specs.First.{IsFirstInOrder}, abc_score.specs.{Voices.IsGoodRead, Faults.{faults_of_voices, voice_faults, voice_weights}, Judged.{AreJudged, AreItemsOf, HasKept, reads_of}, Order.DoWordsRise}};
 
-use crate::keeping::{Judged, Kept, judge_voice};
-use crate::voices::VoiceRead;
+use crate::keeping::{JudgedVoice, VoiceItems, judge_voice};
+use crate::voices::ReadVoice;
 use abc_faults::{Weight, crowding, earlier};
 use abc_lines::Fault;
-use abc_steps::Item;
+use abc_steps::BodyItem;
 use abc_words::verse_fault;
 use mus_units::{Memory, Row};
 use std::alloc::Global;
 
 /// Voices that are judged, and their first fault.
 #[derive(Drop)]
-pub struct Judgement {
+pub struct JudgedVoices {
     pub fault: Option<Fault>,
-    pub voices: Row<Judged>,
+    pub voices: Row<JudgedVoice>,
 }
 
 /// The first fault of a voice by itself and of its verses, and its signs. Puts enough of its weights.
@@ -22,13 +22,13 @@ fn voice_fault(
     alloc: Global,
     weights: &mut Row<Weight>,
     unnamed: &[u8],
-    items: &[Item],
-    v: &VoiceRead,
-) -> Result<(Option<Fault>, Kept), Memory>
+    items: &[BodyItem],
+    v: &ReadVoice,
+) -> Result<(Option<Fault>, VoiceItems), Memory>
     requires good { IsGoodRead v.now }
     requires rise { DoWordsRise items.now }
     ensures judged { IfOk result (λ r. AreJudged (voice_faults unnamed.now items.now v.now) (voice_weights v.now) r.0 weights.old weights.new) }
-    ensures kept { IfOk result (λ r. IsKept v.now r.1) }
+    ensures kept { IfOk result (λ r. AreItemsOf v.now r.1) }
 {
     let (own, kept) = judge_voice(alloc, weights, v)?;
     let verses = verse_fault(alloc, v.start.id.as_slice(), unnamed, items)?;
@@ -40,9 +40,9 @@ fn judge_voices(
     alloc: Global,
     weights: &mut Row<Weight>,
     unnamed: &[u8],
-    items: &[Item],
-    voices: Row<VoiceRead>,
-) -> Result<Judgement, Memory>
+    items: &[BodyItem],
+    voices: Row<ReadVoice>,
+) -> Result<JudgedVoices, Memory>
     requires good { All IsGoodRead voices }
     requires rise { DoWordsRise items.now }
     ensures judged { IfOk result (λ j. AreJudged (flat_map (voice_faults unnamed.now items.now) voices) (flat_map voice_weights voices) j.fault weights.old weights.new) }
@@ -54,9 +54,9 @@ fn judge_voices(
     for read in voices.items {
         let (own, kept) = voice_fault(alloc, weights, unnamed, items, &read)?;
         fault = earlier(fault, own);
-        judged.push(Judged { read, kept })?;
+        judged.push(JudgedVoice { read, kept })?;
     }
-    Ok(Judgement {
+    Ok(JudgedVoices {
         fault,
         voices: judged,
     })
@@ -67,19 +67,19 @@ fn judge_voices(
 pub fn fault_of_score(
     alloc: Global,
     unnamed: &[u8],
-    items: &[Item],
-    voices: Row<VoiceRead>,
-) -> Result<Judgement, Memory>
+    items: &[BodyItem],
+    voices: Row<ReadVoice>,
+) -> Result<JudgedVoices, Memory>
     requires good { All IsGoodRead voices }
     requires rise { DoWordsRise items.now }
-    ensures fault { IfOk result (λ j. IsFirst (faults_of_voices unnamed.now items.now voices) j.fault) }
+    ensures fault { IfOk result (λ j. IsFirstInOrder (faults_of_voices unnamed.now items.now voices) j.fault) }
     ensures reads { IfOk result (λ j. reads_of j.voices ≡ voices) }
     ensures kept { IfOk result (λ j. All HasKept j.voices) }
 {
     let mut weights = Row::new(alloc);
     let own = judge_voices(alloc, &mut weights, unnamed, items, voices)?;
     let crowd = crowding(alloc, weights)?;
-    Ok(Judgement {
+    Ok(JudgedVoices {
         fault: earlier(own.fault, crowd),
         voices: own.voices,
     })

@@ -1,15 +1,15 @@
 ghost use Rattle.std.specs.{Prelude.{◌≡◌, ◌≤◌, ◌^◌, ◌++◌, [], length, reverse, true, false, nat_lt, IfOk, OnOk}, List.{All, list_all}};
-ghost use Rattle.{abc_faults.specs.{First.then_below, Faults.faults_in, Weights.{crowd_up_to, stands_before, weight_at}}, abc_steps.specs.{declared.step.Stood.Stood, Good.IsGoodForce, Lengths.parts_at}};
-ghost use Rattle.{abc_signs.specs.Signs.{signs, signs_of, IsDrawn}, abc_score.specs.{Faults.voice_weights, Judged.{AreJudged, IsEnd, IsKept, is_idle}, Voices.IsGoodRead}};
+ghost use Rattle.{abc_faults.specs.{First.is_below_or_tied, Faults.faults_in, Weights.{crowd_up_to, stands_before, weight_at}}, abc_steps.specs.{declared.step.PlacedStep.PlacedStep, Good.IsGoodForce, Lengths.parts_at}};
+ghost use Rattle.{abc_signs.specs.Signs.{signs, tree_items_of, HasDrawableValues}, abc_score.specs.{Faults.voice_weights, Judged.{AreJudged, IsCrowdedAt, AreItemsOf, is_idle}, Voices.IsGoodRead}};
 
-use crate::voices::VoiceRead;
+use crate::voices::ReadVoice;
 use abc_faults::{Weight, earlier, judge_step};
 use abc_lines::Fault;
-use abc_signs::{Sign, put_signs, signs};
+use abc_signs::{TreeItem, put_signs, signs};
 use abc_steps::kinds::is_event;
 use abc_steps::lengths::parts_at;
-use abc_steps::place::{Place, beginning, step_over};
-use abc_steps::{Step, Stood};
+use abc_steps::state::{VoiceState, beginning, step_over};
+use abc_steps::{Step, PlacedStep};
 use mus_units::{Few, Memory, Row, Value};
 use std::alloc::Global;
 
@@ -21,29 +21,29 @@ const MOST_HEADS: usize = 50_000;
 
 /// The signs of a voice and how many measures it has, where `whole` is true.
 #[derive(Drop)]
-pub struct Kept {
-    pub signs: Row<Sign>,
+pub struct VoiceItems {
+    pub signs: Row<TreeItem>,
     pub measures: u64,
     pub whole: bool,
 }
 
 /// A voice that is judged: as it is read, and its signs.
 #[derive(Drop)]
-pub struct Judged {
-    pub read: VoiceRead,
-    pub kept: Kept,
+pub struct JudgedVoice {
+    pub read: ReadVoice,
+    pub kept: VoiceItems,
 }
 
 /// Keeps the signs of a step. With too many before it none is kept any more.
 #[inline(always)]
 fn keep(
     alloc: Global,
-    kept: &mut Kept,
-    now: &Place,
-    before: &[Stood],
-    at: &Stood,
+    kept: &mut VoiceItems,
+    now: &VoiceState,
+    before: &[PlacedStep],
+    at: &PlacedStep,
     parts: Option<Few<Value>>,
-    behind: &[Stood],
+    behind: &[PlacedStep],
 ) -> Result<(), Memory>
     requires few { length before.now ≤ 2 ^ 30 }
     requires few_behind { length behind.now ≤ 2 ^ 30 }
@@ -51,7 +51,7 @@ fn keep(
     requires further { now.now.counts.further ≤ 2 ^ 46 }
     requires force { IsGoodForce now.now.force }
     requires parts { parts ≡ parts_at now.now.force.unit (reverse before.now) at.now.step behind.now }
-    ensures { OnOk result (kept.new.whole ≡ true → (kept.old.whole ≡ true) × (kept.new.signs ≡ kept.old.signs ++ signs_of now.now (reverse before.now) at.now behind.now at.now.step)) }
+    ensures { OnOk result (kept.new.whole ≡ true → (kept.old.whole ≡ true) × (kept.new.signs ≡ kept.old.signs ++ tree_items_of now.now (reverse before.now) at.now behind.now at.now.step)) }
 {
     if !kept.whole {
         return Ok(());
@@ -65,11 +65,11 @@ fn keep(
 }
 
 /// No signs, as of a voice that isn't judged to its end.
-fn none_kept(alloc: Global) -> Kept
+fn none_kept(alloc: Global) -> VoiceItems
     ensures { result.whole ≡ false }
 {
     let signs = Row::new(alloc);
-    Kept {
+    VoiceItems {
         signs,
         measures: 0,
         whole: false,
@@ -77,15 +77,15 @@ fn none_kept(alloc: Global) -> Kept
 }
 
 /// Whether a place stands behind a step.
-fn is_behind(at: &Stood, line: u32, column: u32) -> bool
-    ensures { result ≡ then_below at.now.line line (nat_lt at.now.column column) }
+fn is_behind(at: &PlacedStep, line: u32, column: u32) -> bool
+    ensures { result ≡ is_below_or_tied at.now.line line (nat_lt at.now.column column) }
 {
     at.line < line || (at.line == line && at.column < column)
 }
 
 /// How many heads and rests stand up to a step.
 #[tactic(auto, unfolding(abc_faults::specs::Weights::stands_before))]
-fn count_up_to(weights: &[Weight], at: &Stood) -> usize
+fn count_up_to(weights: &[Weight], at: &PlacedStep) -> usize
     ensures { result ≤ crowd_up_to weights.now (weight_at 0 at.now) }
 {
     let mut count: usize = 0;
@@ -99,15 +99,15 @@ fn count_up_to(weights: &[Weight], at: &Stood) -> usize
 
 /// Whether all these steps stand behind one.
 #[tactic(auto, unfolding(abc_faults::specs::Weights::stands_before))]
-fn all_behind(at: &Stood, behind: &[Stood]) -> bool
-    ensures { result ≡ list_all (λ (s : Stood). stands_before (weight_at 0 at.now) (weight_at 0 s)) behind.now }
+fn all_behind(at: &PlacedStep, behind: &[PlacedStep]) -> bool
+    ensures { result ≡ list_all (λ (s : PlacedStep). stands_before (weight_at 0 at.now) (weight_at 0 s)) behind.now }
 {
     behind.iter().all(|s| is_behind(at, s.line, s.column))
 }
 
 /// Whether there are too many heads and rests with an event, and all steps that follow it stand behind it.
-fn is_end(weights: &[Weight], at: &Stood, behind: &[Stood]) -> bool
-    ensures { result ≡ true → IsEnd weights.now at.now behind.now }
+fn is_end(weights: &[Weight], at: &PlacedStep, behind: &[PlacedStep]) -> bool
+    ensures { result ≡ true → IsCrowdedAt weights.now at.now behind.now }
 {
     is_event(&at.step) && count_up_to(weights, at) > MOST_HEADS && all_behind(at, behind)
 }
@@ -138,15 +138,15 @@ fn is_idle(s: &Step) -> bool
 pub(crate) fn judge_voice(
     alloc: Global,
     weights: &mut Row<Weight>,
-    v: &VoiceRead,
-) -> Result<(Option<Fault>, Kept), Memory>
+    v: &ReadVoice,
+) -> Result<(Option<Fault>, VoiceItems), Memory>
     requires { IsGoodRead v.now }
     ensures judged { IfOk result (λ r. AreJudged (faults_in v.now.first [] v.now.steps) (voice_weights v.now) r.0 weights.old weights.new) }
-    ensures kept { IfOk result (λ r. IsKept v.now r.1) }
+    ensures kept { IfOk result (λ r. AreItemsOf v.now r.1) }
 {
     let steps = v.steps.as_slice();
     let mut found = None;
-    let mut kept = Kept {
+    let mut kept = VoiceItems {
         signs: Row::with_room(alloc, steps.len().min(MOST_KEPT))?,
         measures: 0,
         whole: true,
@@ -181,11 +181,11 @@ pub(crate) fn judge_voice(
 }
 
 /// The signs of a voice that is judged: those that were kept, where none is lacking.
-pub(crate) fn signs_of_voice(alloc: Global, v: &VoiceRead, kept: Kept) -> Result<Row<Sign>, Memory>
+pub(crate) fn signs_of_voice(alloc: Global, v: &ReadVoice, kept: VoiceItems) -> Result<Row<TreeItem>, Memory>
     requires good { IsGoodRead v.now }
-    requires kept { IsKept v.now kept }
+    requires kept { AreItemsOf v.now kept }
     ensures value { IfOk result (λ r. r ≡ signs v.now.first [] v.now.steps) }
-    ensures drawn { IfOk result (λ r. All IsDrawn r) }
+    ensures drawn { IfOk result (λ r. All HasDrawableValues r) }
 {
     if kept.whole {
         Ok(kept.signs)

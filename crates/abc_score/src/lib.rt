@@ -10,4 +10,4 @@ pub mod sung;
 pub mod voices;
 
 pub use building::build;
-pub use voices::VoiceRead;
+pub use voices::ReadVoice;

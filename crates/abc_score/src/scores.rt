@@ -1,15 +1,15 @@
 ghost use Rattle.std.specs.{Prelude.ℕ, Prelude.◌≡◌, Prelude.◌≤◌, Prelude.map, Prelude.IfOk, Prelude.None, List.All};
 ghost use Rattle.{abc_items.specs.Voices.{unnamed_of}, abc_words.specs.Verses.{verse_count, verse_fault}, abc_events.specs.{Bars.bars_of, Leaves.leaves_of}};
-ghost use Rattle.abc_score.specs.{declared.keeping.Judged.Judged, Judged.{IsKept, HasKept, reads_of}, Voices.IsGoodRead, Score.forced_of, Score.most_measures, Score.own_measures, Score.score_with, Score.sung_words, Score.voice_of, Score.written_measures};
+ghost use Rattle.abc_score.specs.{declared.keeping.JudgedVoice.JudgedVoice, Judged.{AreItemsOf, HasKept, reads_of}, Voices.IsGoodRead, Score.forced_of, Score.most_measures, Score.own_measures, Score.score_with, Score.sung_words, Score.voice_by_header, Score.written_measures};
 
-use crate::keeping::{Judged, Kept, signs_of_voice};
+use crate::keeping::{JudgedVoice, VoiceItems, signs_of_voice};
 use crate::sung::sung_words;
-use crate::voices::VoiceRead;
+use crate::voices::ReadVoice;
 use abc_events::{bars_of, forced_bars, measures_of, own_measures};
-use abc_header::Header;
+use abc_fields::Header;
 use abc_items::unnamed_of;
-use abc_signs::Sign;
-use abc_steps::Item;
+use abc_signs::TreeItem;
+use abc_steps::BodyItem;
 use abc_words::verse_count;
 use mus_score::{Measure, Score, Seat, Voice};
 use mus_units::{Bar, Memory, Row, Text};
@@ -21,10 +21,10 @@ use std::cmp::max;
 fn words_where_sung(
     alloc: Global,
     unnamed: &[u8],
-    items: &[Item],
-    v: &VoiceRead,
+    items: &[BodyItem],
+    v: &ReadVoice,
     verses: usize,
-    signs: &[Sign],
+    signs: &[TreeItem],
 ) -> Result<Row<Row<Option<Text>>>, Memory>
     requires { verses ≡ verse_count v.now.start.id unnamed.now items.now }
     ensures { IfOk result (λ words. leaves_of words signs.now ≡ leaves_of (sung_words v.now.start.id unnamed.now items.now signs.now) signs.now) }
@@ -40,14 +40,14 @@ fn words_where_sung(
 fn written_measures(
     alloc: Global,
     unnamed: &[u8],
-    items: &[Item],
+    items: &[BodyItem],
     bars: &[Bar],
-    v: &VoiceRead,
+    v: &ReadVoice,
     verses: usize,
-    kept: Kept,
+    kept: VoiceItems,
 ) -> Result<Row<Measure>, Memory>
     requires good { IsGoodRead v.now }
-    requires kept { IsKept v.now kept }
+    requires kept { AreItemsOf v.now kept }
     requires counted { verses ≡ verse_count v.now.start.id unnamed.now items.now }
     ensures { IfOk result (λ r. (n : ℕ) → bars.now ≡ bars_of v.now.steps n → r ≡ written_measures unnamed.now items.now n v.now) }
 {
@@ -58,18 +58,18 @@ fn written_measures(
 }
 
 /// A voice with `n` measures.
-#[tactic(auto, unfolding(crate::specs::Score::voice_of))]
-fn voice_of(
+#[tactic(auto, unfolding(crate::specs::Score::voice_by_header))]
+fn voice_by_header(
     alloc: Global,
     header: &Header,
-    items: &[Item],
+    items: &[BodyItem],
     n: u32,
-    judged: Judged,
+    judged: JudgedVoice,
 ) -> Result<Voice, Memory>
     requires good { IsGoodRead judged.read }
     requires kept { HasKept judged }
     requires clear { verse_fault judged.read.start.id (unnamed_of header.now) items.now ≡ None }
-    ensures { IfOk result (λ voice. voice ≡ voice_of header.now items.now n judged.read) }
+    ensures { IfOk result (λ voice. voice ≡ voice_by_header header.now items.now n judged.read) }
 {
     let v = judged.read;
     let own = bars_of(alloc, v.steps.as_slice(), n)?;
@@ -95,24 +95,24 @@ fn voice_of(
 fn voices_with(
     alloc: Global,
     header: &Header,
-    items: &[Item],
+    items: &[BodyItem],
     n: u32,
-    voices: Row<Judged>,
+    voices: Row<JudgedVoice>,
 ) -> Result<Row<Voice>, Memory>
-    requires good { All (λ (j : Judged). IsGoodRead j.read) voices }
+    requires good { All (λ (j : JudgedVoice). IsGoodRead j.read) voices }
     requires kept { All HasKept voices }
-    requires clear { All (λ (j : Judged). verse_fault j.read.start.id (unnamed_of header.now) items.now ≡ None) voices }
-    ensures { IfOk result (λ r. r ≡ map (voice_of header.now items.now n) (reads_of voices)) }
+    requires clear { All (λ (j : JudgedVoice). verse_fault j.read.start.id (unnamed_of header.now) items.now ≡ None) voices }
+    ensures { IfOk result (λ r. r ≡ map (voice_by_header header.now items.now n) (reads_of voices)) }
 {
     let mut out = Row::new(alloc);
     for judged in voices.items {
-        out.push(voice_of(alloc, header, items, n, judged)?)?;
+        out.push(voice_by_header(alloc, header, items, n, judged)?)?;
     }
     Ok(out)
 }
 
 /// How many measures a voice has, which is told where its signs are.
-fn measures_in(judged: &Judged) -> u64
+fn measures_in(judged: &JudgedVoice) -> u64
     requires good { IsGoodRead judged.now.read }
     requires kept { HasKept judged.now }
     ensures { result ≡ own_measures judged.now.read }
@@ -125,8 +125,8 @@ fn measures_in(judged: &Judged) -> u64
 }
 
 /// How many measures the voice with most of them has.
-fn most_measures(voices: &[Judged]) -> u64
-    requires good { All (λ (j : Judged). IsGoodRead j.read) voices.now }
+fn most_measures(voices: &[JudgedVoice]) -> u64
+    requires good { All (λ (j : JudgedVoice). IsGoodRead j.read) voices.now }
     requires kept { All HasKept voices.now }
     ensures { result ≡ most_measures (reads_of voices.now) }
 {
@@ -139,8 +139,8 @@ fn most_measures(voices: &[Judged]) -> u64
 
 /// The bars that line breaks in the first voice force. Fewer than two measures have none.
 #[tactic(auto, using(crate::proofs::Forced::none_forced))]
-fn forced_of(alloc: Global, flow: bool, voices: &[Judged], n: u32) -> Result<Row<u32>, Memory>
-    requires { All (λ (j : Judged). IsGoodRead j.read) voices.now }
+fn forced_of(alloc: Global, flow: bool, voices: &[JudgedVoice], n: u32) -> Result<Row<u32>, Memory>
+    requires { All (λ (j : JudgedVoice). IsGoodRead j.read) voices.now }
     ensures { IfOk result (λ r. r ≡ forced_of flow (reads_of voices.now) n) }
 {
     if flow || n < 2 {
@@ -157,13 +157,13 @@ fn forced_of(alloc: Global, flow: bool, voices: &[Judged], n: u32) -> Result<Row
 pub fn score_with(
     alloc: Global,
     header: &Header,
-    items: &[Item],
+    items: &[BodyItem],
     flow: bool,
-    voices: Row<Judged>,
+    voices: Row<JudgedVoice>,
 ) -> Result<Score, Memory>
-    requires good { All (λ (j : Judged). IsGoodRead j.read) voices }
+    requires good { All (λ (j : JudgedVoice). IsGoodRead j.read) voices }
     requires kept { All HasKept voices }
-    requires clear { All (λ (j : Judged). verse_fault j.read.start.id (unnamed_of header.now) items.now ≡ None) voices }
+    requires clear { All (λ (j : JudgedVoice). verse_fault j.read.start.id (unnamed_of header.now) items.now ≡ None) voices }
     requires few { most_measures (reads_of voices) ≤ 2000 }
     ensures { IfOk result (λ score. score ≡ score_with header.now items.now flow (reads_of voices)) }
 {

@@ -1,9 +1,9 @@
 ghost use Rattle.std.specs.Prelude.{◌≡◌, ◌+◌, ◌++◌, ◌∷◌, ℕ, List, IfOk, OnOk};
-ghost use Rattle.{abc_signs.specs.declared.written.Sign.{Sign}, abc_score.specs.Score.{event_count, note_if, notes_from, sung_words}};
+ghost use Rattle.{abc_signs.specs.declared.written.TreeItem.{TreeItem}, abc_score.specs.Score.{event_count, note_if, sung_notes_from, sung_words}};
 
-use abc_signs::{Sign, Written};
-use abc_steps::Item;
-use abc_words::{SungNote, words_of};
+use abc_signs::{TreeItem, WrittenEvent};
+use abc_steps::BodyItem;
+use abc_words::{SungNote, words_of_events};
 use mus_units::{Memory, Row, Text};
 use std::alloc::Global;
 
@@ -15,7 +15,7 @@ pub struct Notes {
 }
 
 /// Adds the note that a written event is, which has the number `event`, where it has heads.
-fn put_note(notes: &mut Row<SungNote>, event: u32, w: &Written) -> Result<(), Memory>
+fn put_note(notes: &mut Row<SungNote>, event: u32, w: &WrittenEvent) -> Result<(), Memory>
     ensures { OnOk result (notes.new ≡ notes.old ++ note_if w.now.heads event w.now) }
 {
     if w.heads.as_slice().is_empty() {
@@ -30,23 +30,23 @@ fn put_note(notes: &mut Row<SungNote>, event: u32, w: &Written) -> Result<(), Me
 }
 
 /// Adds a sign.
-fn put_sign(at: &mut Notes, sign: &Sign) -> Result<(), Memory>
-    ensures notes { OnOk result ((signs : List Sign) → at.new.notes ++ notes_from at.new.events signs ≡ at.old.notes ++ notes_from at.old.events (sign.now ∷ signs)) }
-    ensures events { OnOk result ((signs : List Sign) → at.new.events + event_count signs ≡ at.old.events + event_count (sign.now ∷ signs)) }
+fn put_sign(at: &mut Notes, sign: &TreeItem) -> Result<(), Memory>
+    ensures notes { OnOk result ((signs : List TreeItem) → at.new.notes ++ sung_notes_from at.new.events signs ≡ at.old.notes ++ sung_notes_from at.old.events (sign.now ∷ signs)) }
+    ensures events { OnOk result ((signs : List TreeItem) → at.new.events + event_count signs ≡ at.old.events + event_count (sign.now ∷ signs)) }
 {
     match sign {
-        Sign::Event { written, .. } => {
+        TreeItem::Event { written, .. } => {
             put_note(&mut at.notes, at.events, written)?;
             at.events = at.events.checked_add(1).ok_or(Memory)?;
             Ok(())
         }
-        Sign::Opens { .. } => Ok(()),
+        TreeItem::Opens { .. } => Ok(()),
     }
 }
 
 /// The notes of a voice of these signs, and how many written events it has.
-fn notes_of(alloc: Global, signs: &[Sign]) -> Result<Notes, Memory>
-    ensures notes { IfOk result (λ at. at.notes ≡ notes_from 0 signs.now) }
+fn notes_of(alloc: Global, signs: &[TreeItem]) -> Result<Notes, Memory>
+    ensures notes { IfOk result (λ at. at.notes ≡ sung_notes_from 0 signs.now) }
     ensures events { IfOk result (λ at. at.events ≡ event_count signs.now) }
 {
     let mut at = Notes {
@@ -65,13 +65,13 @@ pub fn sung_words(
     alloc: Global,
     id: &[u8],
     unnamed: &[u8],
-    items: &[Item],
-    signs: &[Sign],
+    items: &[BodyItem],
+    signs: &[TreeItem],
 ) -> Result<Row<Row<Option<Text>>>, Memory>
     ensures { IfOk result (λ words. words ≡ sung_words id.now unnamed.now items.now signs.now) }
 {
     let at = notes_of(alloc, signs)?;
     let notes = at.notes.as_slice();
-    let words = words_of(alloc, id, unnamed, items, notes, at.events as usize)?;
+    let words = words_of_events(alloc, id, unnamed, items, notes, at.events as usize)?;
     Ok(words)
 }

@@ -1,9 +1,9 @@
 ghost use Rattle.std.specs.{Prelude.◌≡◌, Prelude.◌≤◌, Prelude.◌^◌, Prelude.length, Prelude.map, Prelude.IfOk, List.All};
-ghost use Rattle.{abc_header.specs.Headers.{HasGoodValues}, abc_items.specs.Good.{IsGoodItem}, abc_score.specs.Voices.{first_force, voice_read, voices_read, IsGoodRead}};
+ghost use Rattle.{abc_fields.specs.Headers.{HasGoodValues}, abc_items.specs.Good.{IsGoodItem}, abc_score.specs.Voices.{first_force, voice_read, voices_read, IsGoodRead}};
 
-use abc_header::Header;
+use abc_fields::Header;
 use abc_items::{VoiceStart, steps_of, unnamed_of, voices_of};
-use abc_steps::{InForce, Item, Stood};
+use abc_steps::{InForce, BodyItem, PlacedStep};
 use mus_units::{Memory, Row};
 use std::alloc::Global;
 
@@ -13,10 +13,10 @@ const MOST_STEPS: usize = 1_073_741_824;
 /// A voice as it is read: its id, first clef and way of stems, what is in force
 /// at its beginning, and its steps.
 #[derive(Drop)]
-pub struct VoiceRead {
+pub struct ReadVoice {
     pub start: VoiceStart,
     pub first: InForce,
-    pub steps: Row<Stood>,
+    pub steps: Row<PlacedStep>,
 }
 
 /// What is in force at the beginning of a voice.
@@ -32,7 +32,7 @@ fn first_force(alloc: Global, header: &Header, start: &VoiceStart) -> Result<InF
 }
 
 /// The same steps; where they are too many for the walks along them, want of memory.
-fn held(steps: Row<Stood>) -> Result<Row<Stood>, Memory>
+fn held(steps: Row<PlacedStep>) -> Result<Row<PlacedStep>, Memory>
     ensures few { IfOk result (λ r. length r ≤ 2 ^ 30) }
     ensures same { IfOk result (λ r. r ≡ steps) }
 {
@@ -45,9 +45,9 @@ fn held(steps: Row<Stood>) -> Result<Row<Stood>, Memory>
 fn read_voice(
     alloc: Global,
     header: &Header,
-    items: &[Item],
+    items: &[BodyItem],
     start: VoiceStart,
-) -> Result<VoiceRead, Memory>
+) -> Result<ReadVoice, Memory>
     requires header { HasGoodValues header.now }
     requires items { All IsGoodItem items.now }
     ensures value { IfOk result (λ v. v ≡ voice_read header.now items.now start) }
@@ -56,7 +56,7 @@ fn read_voice(
     let steps = steps_of(alloc, start.id.as_slice(), unnamed_of(header), items)?;
     let steps = held(steps)?;
     let first = first_force(alloc, header, &start)?;
-    Ok(VoiceRead {
+    Ok(ReadVoice {
         start,
         first,
         steps,
@@ -67,9 +67,9 @@ fn read_voice(
 fn read_each(
     alloc: Global,
     header: &Header,
-    items: &[Item],
+    items: &[BodyItem],
     starts: Row<VoiceStart>,
-) -> Result<Row<VoiceRead>, Memory>
+) -> Result<Row<ReadVoice>, Memory>
     requires header { HasGoodValues header.now }
     requires items { All IsGoodItem items.now }
     ensures value { IfOk result (λ voices. voices ≡ map (voice_read header.now items.now) starts) }
@@ -83,7 +83,7 @@ fn read_each(
 }
 
 /// The voices of a body in order of first mention, each with its steps.
-pub fn read_voices(alloc: Global, header: &Header, items: &[Item]) -> Result<Row<VoiceRead>, Memory>
+pub fn read_voices(alloc: Global, header: &Header, items: &[BodyItem]) -> Result<Row<ReadVoice>, Memory>
     requires header { HasGoodValues header.now }
     requires items { All IsGoodItem items.now }
     ensures value { IfOk result (λ voices. voices ≡ voices_read header.now items.now) }

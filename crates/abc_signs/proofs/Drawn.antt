@@ -1,8 +1,8 @@
 -- The values of signs have at most three dots.
 use Rattle.std.{proofs.{Common.{◌≡◌, refl, sym, ap, ◌∙◌, subst, ℕ, zero, suc, ◌+◌, ◌-◌, ◌≤◌, List, [], ◌∷◌, ◌++◌, length, Bool, true, false, cond, Option, Some, None, arith, nat_le, reverse, take, drop, append-nil}, lemmas.{Bool.and_parts, List.{Elements.{All-nil, All-cons, All-append}, drop_all}}}, specs.{Prelude.{unwrap_or, find, option_map, ◌==◌, ◌*◌, ◌/◌, ⊤}, List.{All, list_all}}}
 use Rattle.mus_units.specs.{declared.value.Value.Value, Parts.units_of, Parts.all_values, Parts.longest_within, Parts.cut_next, Parts.cut_in, Parts.parts_list}
-use Rattle.abc_steps.specs.{declared.{step.{Sound.Sound, Step.Step, Stood.Stood}, force.InForce.InForce, place.Place.Place}, Looks.{Steps, since_event}, Lengths.written_length, Tuplets.{fits, or_default, usual_q}, Places.{place_at, measure_of}}
-use Rattle.abc_signs.specs.{declared.written.Sign.Sign, Signs.IsDrawn, Signs.sound_written, Signs.rest_written, Signs.further_rests, Signs.tuplet_of, Signs.signs_of, Signs.signs, Signs.parted_at, Signs.whole_value}
+use Rattle.abc_steps.specs.{declared.{step.{WrittenSound.WrittenSound, Step.Step, PlacedStep.PlacedStep}, force.InForce.InForce, state.VoiceState.VoiceState}, Looks.{Steps, since_event}, Lengths.written_length, Tuplets.{fits, or_default, usual_q}, Places.{state_at, measure_of}}
+use Rattle.abc_signs.specs.{declared.written.TreeItem.TreeItem, Signs.HasDrawableValues, Signs.sound_written, Signs.rest_written, Signs.further_rests, Signs.tuplet_of, Signs.tree_items_of, Signs.signs, Signs.parted_at, Signs.whole_value}
 
 abbrev IsFew : Value → Type 0
 IsFew v = v.dots ≤ 3
@@ -54,37 +54,37 @@ parts_few num den = by_test (512 * num / den * den == 512 * num) where
   by_test true = cut_few 8 (512 * num / den)
   by_test false = All-nil IsFew
 
-sound_few : (now : Place) (before behind : Steps) (at : Stood) (s : Sound) → AreFew (sound_written now before at s behind).values
+sound_few : (now : VoiceState) (before behind : Steps) (at : PlacedStep) (s : WrittenSound) → AreFew (sound_written now before at s behind).values
 unfolding sound_written
 sound_few now before behind at s = let length = written_length now.force.unit s before behind in parts_few length.num length.den
 
-rest_few : (now : Place) (at : Stood) (seen : Bool) (measure : ℕ) (parted : Bool) → AreFew (rest_written now at seen measure parted).values
+rest_few : (now : VoiceState) (at : PlacedStep) (seen : Bool) (measure : ℕ) (parted : Bool) → AreFew (rest_written now at seen measure parted).values
 unfolding rest_written
 rest_few now at seen measure parted = All-cons IsFew whole_value [] (omega arith) (All-nil IsFew)
 
-further_drawn : (now : Place) (at : Stood) (seen : Bool) (measure n : ℕ) → All IsDrawn (further_rests now at seen measure n)
-further_drawn now at seen measure zero = All-nil IsDrawn
-further_drawn now at seen measure (suc n) = All-cons IsDrawn _ (further_rests now at seen (measure + 1) n) (rest_few now at seen measure false) (further_drawn now at seen (measure + 1) n)
+further_drawn : (now : VoiceState) (at : PlacedStep) (seen : Bool) (measure n : ℕ) → All HasDrawableValues (further_rests now at seen measure n)
+further_drawn now at seen measure zero = All-nil HasDrawableValues
+further_drawn now at seen measure (suc n) = All-cons HasDrawableValues _ (further_rests now at seen (measure + 1) n) (rest_few now at seen measure false) (further_drawn now at seen (measure + 1) n)
 
-tuplet_drawn : (now : Place) (p q r : ℕ) → All IsDrawn (tuplet_of now p q r)
+tuplet_drawn : (now : VoiceState) (p q r : ℕ) → All HasDrawableValues (tuplet_of now p q r)
 tuplet_drawn now p q r = by_test (fits (or_default p r) now.taking) where
-  by_test : (b : Bool) → All IsDrawn (cond b (Sign.Opens (measure_of now) p (or_default (usual_q p now.force.meter) q) (or_default p r) ∷ []) [])
-  by_test true = All-cons IsDrawn _ [] tt (All-nil IsDrawn)
-  by_test false = All-nil IsDrawn
+  by_test : (b : Bool) → All HasDrawableValues (cond b (TreeItem.Opens (measure_of now) p (or_default (usual_q p now.force.meter) q) (or_default p r) ∷ []) [])
+  by_test true = All-cons HasDrawableValues _ [] tt (All-nil HasDrawableValues)
+  by_test false = All-nil HasDrawableValues
 
-step_drawn : (now : Place) (before behind : Steps) (at : Stood) (s : Step) → All IsDrawn (signs_of now before at behind s)
-unfolding signs_of
-step_drawn now before behind at (Step.Sound s) = All-cons IsDrawn _ [] (sound_few now before behind at s) (All-nil IsDrawn)
-step_drawn now before behind at (Step.Measures seen count) = All-cons IsDrawn _ (further_rests now at seen (measure_of now + 1) (count - 1)) (rest_few now at seen (measure_of now) (parted_at now (since_event before))) (further_drawn now at seen (measure_of now + 1) (count - 1))
+step_drawn : (now : VoiceState) (before behind : Steps) (at : PlacedStep) (s : Step) → All HasDrawableValues (tree_items_of now before at behind s)
+unfolding tree_items_of
+step_drawn now before behind at (Step.Sound s) = All-cons HasDrawableValues _ [] (sound_few now before behind at s) (All-nil HasDrawableValues)
+step_drawn now before behind at (Step.Measures seen count) = All-cons HasDrawableValues _ (further_rests now at seen (measure_of now + 1) (count - 1)) (rest_few now at seen (measure_of now) (parted_at now (since_event before))) (further_drawn now at seen (measure_of now + 1) (count - 1))
 step_drawn now before behind at (Step.Tuplet p q r) = tuplet_drawn now p q r
-step_drawn now before behind at _ = All-nil IsDrawn
+step_drawn now before behind at _ = All-nil HasDrawableValues
 
-pub signs_drawn : (first : InForce) (before behind : Steps) → All IsDrawn (signs first before behind)
-signs_drawn first before [] = All-nil IsDrawn
-signs_drawn first before (at ∷ behind) = All-append IsDrawn (signs_of (place_at first before) before at behind at.step) (signs first (at ∷ before) behind) (step_drawn (place_at first before) before behind at at.step) (signs_drawn first (at ∷ before) behind)
+pub signs_drawn : (first : InForce) (before behind : Steps) → All HasDrawableValues (signs first before behind)
+signs_drawn first before [] = All-nil HasDrawableValues
+signs_drawn first before (at ∷ behind) = All-append HasDrawableValues (tree_items_of (state_at first before) before at behind at.step) (signs first (at ∷ before) behind) (step_drawn (state_at first before) before behind at at.step) (signs_drawn first (at ∷ before) behind)
 
 -- at the end of the walk
-pub walk_drawn : (first : InForce) (steps : Steps) (i : ℕ) (out : List Sign) → length steps ≤ i → out ++ signs first (reverse (take i steps)) (drop i steps) ≡ signs first [] steps → All IsDrawn out
+pub walk_drawn : (first : InForce) (steps : Steps) (i : ℕ) (out : List TreeItem) → length steps ≤ i → out ++ signs first (reverse (take i steps)) (drop i steps) ≡ signs first [] steps → All HasDrawableValues out
 walk_drawn first steps i out past e =
     let end : drop i steps ≡ [] = drop_all i steps past in let is : out ≡ signs first [] steps = sym (append-nil out) ∙ (ap (λ xs. out ++ signs first (reverse (take i steps)) xs) (sym end) ∙ e) in
-    let P : List Sign → Type 0 = λ r. All IsDrawn r in subst P (sym is) (signs_drawn first [] steps)
+    let P : List TreeItem → Type 0 = λ r. All HasDrawableValues r in subst P (sym is) (signs_drawn first [] steps)

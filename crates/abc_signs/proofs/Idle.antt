@@ -1,11 +1,11 @@
 -- Where no step that waits for an event says something of it, nothing waits for it.
 use Rattle.std.{proofs.Common.◌≡◌, proofs.Common.◌∙◌, proofs.Common.refl, proofs.Common.sym, proofs.Common.ap, proofs.Common.ℕ, proofs.Common.List, proofs.Common.[], proofs.Common.◌∷◌, proofs.Common.true, proofs.Common.false, proofs.Common.length, specs.Prelude.◌==◌, specs.List.list_any, proofs.lemmas.Bool.or_parts}
 use Rattle.{mus_units.specs.declared.note.Deco.{Deco}, abc_steps.proofs.Between.{is_none}}
-use Rattle.abc_steps.specs.{declared.force.InForce.InForce, declared.step.Step.Step, declared.step.Stood.Stood, Looks.Steps, Force.{changes_at, names_key, names_clef, names_meter}}
-use Rattle.abc_signs.specs.Waits.{decos_in, mentions_in, graces_in, has_slash, ending_behind, tells, nothing, waiting_of}
+use Rattle.abc_steps.specs.{declared.force.InForce.InForce, declared.step.Step.Step, declared.step.PlacedStep.PlacedStep, Looks.Steps, Force.{changes_at, names_key, names_clef, names_meter}}
+use Rattle.abc_signs.specs.Waits.{decos_in, mentions_in, graces_in, has_slash, ending_behind, tells, nothing_pending, pending_of}
 
-step_idle : (now : InForce) (s : Step) (line column : ℕ) (waits : Steps) → tells s ≡ false → waiting_of now waits [] ≡ waiting_of now (record { step = s; line = line; column = column } ∷ waits) []
-unfolding waiting_of changes_at tells decos_in mentions_in graces_in has_slash ending_behind names_key names_clef names_meter
+step_idle : (now : InForce) (s : Step) (line column : ℕ) (waits : Steps) → tells s ≡ false → pending_of now waits [] ≡ pending_of now (record { step = s; line = line; column = column } ∷ waits) []
+unfolding pending_of changes_at tells decos_in mentions_in graces_in has_slash ending_behind names_key names_clef names_meter
 step_idle now (Step.Grace slash body) line column waits e = absurd cc
 step_idle now (Step.Ending text) line column waits e = absurd cc
 step_idle now (Step.Deco deco) line column waits e = absurd cc
@@ -15,10 +15,10 @@ step_idle now (Step.Meter meter) line column waits e = absurd cc
 step_idle now (Step.Clef clef) line column waits e = absurd cc
 step_idle now _ line column waits e = refl
 
-all_idle : (now : InForce) (waits : Steps) → list_any (λ (s : Stood). tells s.step) waits ≡ false → nothing ≡ waiting_of now waits []
-unfolding waiting_of changes_at
+all_idle : (now : InForce) (waits : Steps) → list_any (λ (s : PlacedStep). tells s.step) waits ≡ false → nothing_pending ≡ pending_of now waits []
+unfolding pending_of changes_at
 all_idle now [] e = refl
-all_idle now (s ∷ waits) e = let both = or_parts (tells s.step) (list_any (λ (s : Stood). tells s.step) waits) e in all_idle now waits both.1 ∙ step_idle now s.step s.line s.column waits both.0
+all_idle now (s ∷ waits) e = let both = or_parts (tells s.step) (list_any (λ (s : PlacedStep). tells s.step) waits) e in all_idle now waits both.1 ∙ step_idle now s.step s.line s.column waits both.0
 
-pub nothing_for : (now : InForce) (waits : Steps) (inside : List Deco) → (length inside == 0) ≡ true → list_any (λ (s : Stood). tells s.step) waits ≡ false → nothing ≡ waiting_of now waits inside
-nothing_for now waits inside none idle = all_idle now waits idle ∙ ap (waiting_of now waits) (sym (is_none inside none))
+pub nothing_for : (now : InForce) (waits : Steps) (inside : List Deco) → (length inside == 0) ≡ true → list_any (λ (s : PlacedStep). tells s.step) waits ≡ false → nothing_pending ≡ pending_of now waits inside
+nothing_for now waits inside none idle = all_idle now waits idle ∙ ap (pending_of now waits) (sym (is_none inside none))

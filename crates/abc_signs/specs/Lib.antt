@@ -1,3 +1,3 @@
 pub mod Signs
 pub mod Waits
-pub mod Held
+pub mod Stored

@@ -1,11 +1,11 @@
 -- The signs of a voice: its written events and the tuplets that begin in it, in the order of the text.
 use Rattle.std.specs.{Prelude.{ℕ, zero, suc, ◌+◌, ◌-◌, ◌≤◌, List, [], ◌∷◌, ◌++◌, map, Bool, false, ◌||◌, if◌then◌else◌, nat_le, Some, None, unwrap_or, ⊤}, List.All}
 use Rattle.{mus_units.specs.{declared.note.Head.Head, declared.value.Value.Value, Parts.parts_list, declared.value.Base.Base}, mus_score.specs.declared.score.Look.{Look}}
-use Rattle.abc_steps.specs.{declared.{step.{Sound.Sound, Step.Step, Stood.Stood}, force.InForce.InForce, place.Place.Place}, Looks.{Steps, since_event, is_tied, slurs_begun, slurs_ended, has_parting}, Lengths.written_length, Tuplets.{or_default, fits, usual_q}, Force.meter_ticks, Places.{place_at, measure_of}}
-use Rattle.abc_signs.specs.{declared.written.Written.Written, declared.written.Sign.Sign, Waits.waiting_of, Waits.nothing}
+use Rattle.abc_steps.specs.{declared.{step.{WrittenSound.WrittenSound, Step.Step, PlacedStep.PlacedStep}, force.InForce.InForce, state.VoiceState.VoiceState}, Looks.{Steps, since_event, is_sound_tied, slurs_begun, slurs_ended, has_parting}, Lengths.written_length, Tuplets.{or_default, fits, usual_q}, Force.meter_ticks, Places.{state_at, measure_of}}
+use Rattle.abc_signs.specs.{declared.written.WrittenEvent.WrittenEvent, declared.written.TreeItem.TreeItem, Waits.pending_of, Waits.nothing_pending}
 
 -- a space or the end of a line stands between an event and the one before it; a voice's first event has none before it
-abbrev pub parted_at : Place → Steps → Bool
+abbrev pub parted_at : VoiceState → Steps → Bool
 parted_at now waits = if nat_le 1 now.counts.begun then has_parting waits else false
 
 -- Heads, tied or as written: a tie behind a chord ties all its heads.
@@ -14,7 +14,7 @@ with_tie tie head = record head { tied = head.tied || tie }
 
 abbrev pub tied_heads : List Head → Steps → List Head
 tied_heads [] behind = []
-tied_heads (h ∷ hs) behind = map (with_tie (is_tied behind)) (h ∷ hs)
+tied_heads (h ∷ hs) behind = map (with_tie (is_sound_tied behind)) (h ∷ hs)
 
 -- a rest begins and ends no slur
 abbrev pub for_note : List Head → ℕ → ℕ
@@ -28,7 +28,7 @@ abbrev pub whole_look : Bool → Look
 whole_look seen = if seen then Look.Whole else Look.Unseen
 
 -- a note, a chord or a rest
-unfoldable pub sound_written : Place → Steps → Stood → Sound → Steps → Written
+unfoldable pub sound_written : VoiceState → Steps → PlacedStep → WrittenSound → Steps → WrittenEvent
 sound_written now before at s behind =
     let length = written_length now.force.unit s before behind in
     record {
@@ -48,7 +48,7 @@ sound_written now before at s behind =
 abbrev pub whole_value : Value
 whole_value = record { base = Base.Whole; dots = 0 }
 
-unfoldable pub rest_written : Place → Stood → Bool → ℕ → Bool → Written
+unfoldable pub rest_written : VoiceState → PlacedStep → Bool → ℕ → Bool → WrittenEvent
 rest_written now at seen measure parted = record {
   line = at.line;
   column = at.column;
@@ -63,29 +63,29 @@ rest_written now at seen measure parted = record {
 }
 
 -- the further ones, a measure each, for which nothing waits
-abbrev pub further_rests : Place → Stood → Bool → ℕ → ℕ → List Sign
+abbrev pub further_rests : VoiceState → PlacedStep → Bool → ℕ → ℕ → List TreeItem
 further_rests now at seen measure zero = []
-further_rests now at seen measure (suc n) = Sign.Event (rest_written now at seen measure false) nothing ∷ further_rests now at seen (measure + 1) n
+further_rests now at seen measure (suc n) = TreeItem.Event (rest_written now at seen measure false) nothing_pending ∷ further_rests now at seen (measure + 1) n
 
-abbrev pub rests_of : Place → Steps → Stood → Bool → ℕ → List Sign
-rests_of now waits at seen count = Sign.Event (rest_written now at seen (measure_of now) (parted_at now waits)) (waiting_of now.force waits []) ∷ further_rests now at seen (measure_of now + 1) (count - 1)
+abbrev pub rests_of : VoiceState → Steps → PlacedStep → Bool → ℕ → List TreeItem
+rests_of now waits at seen count = TreeItem.Event (rest_written now at seen (measure_of now) (parted_at now waits)) (pending_of now.force waits []) ∷ further_rests now at seen (measure_of now + 1) (count - 1)
 
 -- a tuplet that doesn't fit into the open ones begins nothing
-abbrev pub tuplet_of : Place → ℕ → ℕ → ℕ → List Sign
-tuplet_of now p q r = if fits (or_default p r) now.taking then Sign.Opens (measure_of now) p (or_default (usual_q p now.force.meter) q) (or_default p r) ∷ [] else []
+abbrev pub tuplet_of : VoiceState → ℕ → ℕ → ℕ → List TreeItem
+tuplet_of now p q r = if fits (or_default p r) now.taking then TreeItem.Opens (measure_of now) p (or_default (usual_q p now.force.meter) q) (or_default p r) ∷ [] else []
 
-unfoldable pub signs_of : Place → Steps → Stood → Steps → Step → List Sign
-signs_of now before at behind (Step.Sound s) = Sign.Event (sound_written now before at s behind) (waiting_of now.force (since_event before) s.decos) ∷ []
-signs_of now before at behind (Step.Measures seen count) = rests_of now (since_event before) at seen count
-signs_of now before at behind (Step.Tuplet p q r) = tuplet_of now p q r
-signs_of now before at behind _ = []
+unfoldable pub tree_items_of : VoiceState → Steps → PlacedStep → Steps → Step → List TreeItem
+tree_items_of now before at behind (Step.Sound s) = TreeItem.Event (sound_written now before at s behind) (pending_of now.force (since_event before) s.decos) ∷ []
+tree_items_of now before at behind (Step.Measures seen count) = rests_of now (since_event before) at seen count
+tree_items_of now before at behind (Step.Tuplet p q r) = tuplet_of now p q r
+tree_items_of now before at behind _ = []
 
 -- every step of a voice in turn, with what stands before it, the nearest first, and what follows it
-abbrev pub signs : InForce → Steps → Steps → List Sign
+abbrev pub signs : InForce → Steps → Steps → List TreeItem
 signs first before [] = []
-signs first before (at ∷ behind) = signs_of (place_at first before) before at behind at.step ++ signs first (at ∷ before) behind
+signs first before (at ∷ behind) = tree_items_of (state_at first before) before at behind at.step ++ signs first (at ∷ before) behind
 
 -- Good signs: each value has at most three dots.
-abbrev pub IsDrawn : Sign → Type 0
-IsDrawn (Sign.Event w waiting) = All (λ v. v.dots ≤ 3) w.values
-IsDrawn (Sign.Opens measure p q r) = ⊤
+abbrev pub HasDrawableValues : TreeItem → Type 0
+HasDrawableValues (TreeItem.Event w waiting) = All (λ v. v.dots ≤ 3) w.values
+HasDrawableValues (TreeItem.Opens measure p q r) = ⊤

@@ -1,19 +1,19 @@
 -- What waits for an event: changes, graces, decorations, texts and an ending, of the steps that stand before it behind the event before.
 use Rattle.std.specs.{Prelude.{ℕ, List, [], ◌∷◌, ◌++◌, flat_map, Bool, true, false, ◌==◌, ◌||◌, if◌then◌else◌, Option, Some, None}, List.list_any}
 use Rattle.{mus_units.specs.declared.note.Deco.{Deco}, mus_score.specs.{declared.score.Mention.Mention, declared.score.Changes.Changes}, abc_notes.specs.declared.part.GraceChord.{GraceChord}}
-use Rattle.{abc_steps.specs.{declared.step.Step.Step, declared.force.InForce.InForce, Looks.Steps, Force.changes_at}, abc_signs.specs.declared.written.Waiting.{Waiting}}
+use Rattle.{abc_steps.specs.{declared.step.Step.Step, declared.force.InForce.InForce, Looks.Steps, Force.changes_at}, abc_signs.specs.declared.written.Pending.{Pending}}
 
 unfoldable pub decos_in : Step → List Deco
 decos_in (Step.Deco deco) = deco ∷ []
 decos_in _ = []
 
 -- a first character of ^ < > @ is an annotation above, and _ one below, both without it; any other text is a chord symbol, which stands above
-abbrev pub is_above : ℕ → Bool
-is_above c = c == 94 || (c == 60 || (c == 62 || c == 64))
+abbrev pub is_annotation_above : ℕ → Bool
+is_annotation_above c = c == 94 || (c == 60 || (c == 62 || c == 64))
 
 abbrev pub mention_of : List ℕ → Mention
 mention_of [] = record { below = false; text = [] }
-mention_of (c ∷ text) = if is_above c then record { below = false; text = text } else (if c == 95 then record { below = true; text = text } else record { below = false; text = c ∷ text })
+mention_of (c ∷ text) = if is_annotation_above c then record { below = false; text = text } else (if c == 95 then record { below = true; text = text } else record { below = false; text = c ∷ text })
 
 unfoldable pub mentions_in : Step → List Mention
 mentions_in (Step.Says text) = mention_of text ∷ []
@@ -37,8 +37,8 @@ last_ending ending [] = ending
 last_ending ending (s ∷ waits) = last_ending (ending_behind s.step ending) waits
 
 -- several groups of graces are one, with a slash where one of them has it; the decorations within a chord come behind those that waited
-unfoldable pub waiting_of : InForce → Steps → List Deco → Waiting
-waiting_of now waits inside = record {
+unfoldable pub pending_of : InForce → Steps → List Deco → Pending
+pending_of now waits inside = record {
   changes = changes_at now waits;
   decos = flat_map (λ s. decos_in s.step) waits ++ inside;
   mentions = flat_map (λ s. mentions_in s.step) waits;
@@ -61,5 +61,5 @@ tells _ = false
 abbrev pub no_changes : Changes
 no_changes = record { clef = None; key = None; meter = None }
 
-abbrev pub nothing : Waiting
-nothing = record { changes = no_changes; decos = []; mentions = []; ending = None; graces = []; slash = false }
+abbrev pub nothing_pending : Pending
+nothing_pending = record { changes = no_changes; decos = []; mentions = []; ending = None; graces = []; slash = false }

@@ -8,5 +8,5 @@ pub mod waits;
 pub mod written;
 
 pub use reading::{put_signs, signs, with_ties};
-pub use waits::{no_changes, nothing};
-pub use written::{Sign, Waiting, Waits, Written};
+pub use waits::{no_changes, nothing_pending};
+pub use written::{TreeItem, Pending, StoredPending, WrittenEvent};

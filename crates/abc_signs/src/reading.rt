@@ -1,17 +1,17 @@
 ghost use Rattle.std.specs.{Prelude.◌≡◌, Prelude.◌≤◌, Prelude.◌<◌, Prelude.◌^◌, Prelude.◌+◌, Prelude.◌-◌, Prelude.◌++◌, Prelude.◌∷◌, Prelude.[], Prelude.map, Prelude.length, Prelude.reverse, Prelude.unwrap_or, Prelude.true, Prelude.false, Prelude.IfOk, Prelude.OnOk, List.All};
 ghost use Rattle.mus_units.specs.Good.{IsGoodMeter};
-ghost use Rattle.abc_steps.specs.{Looks.since_event, Looks.slurs_begun, Looks.slurs_ended, Lengths.parts_at, declared.step.Step.Step, Good.IsGoodForce, Good.IsGoodStood, Good.IsGoodStep};
-ghost use Rattle.abc_signs.specs.Signs.{with_tie, tied_heads, for_note, look_of, whole_look, parted_at, sound_written, whole_value, rest_written, further_rests, rests_of, tuplet_of, signs_of, signs, IsDrawn};
+ghost use Rattle.abc_steps.specs.{Looks.since_event, Looks.slurs_begun, Looks.slurs_ended, Lengths.parts_at, declared.step.Step.Step, Good.IsGoodForce, Good.IsGoodPlacedStep, Good.IsGoodStep};
+ghost use Rattle.abc_signs.specs.Signs.{with_tie, tied_heads, for_note, look_of, whole_look, parted_at, sound_written, whole_value, rest_written, further_rests, rests_of, tuplet_of, tree_items_of, signs, HasDrawableValues};
 
 use crate::waits::waiting_of;
-use crate::written::{Sign, Waits, Written};
+use crate::written::{TreeItem, StoredPending, WrittenEvent};
 use abc_steps::force::meter_ticks;
 use abc_steps::kinds::is_event;
 use abc_steps::lengths::parts_at;
-use abc_steps::looks::{has_parting, is_tied, since_event, slurs_begun, slurs_ended};
-use abc_steps::place::{Place, beginning, measure_of, step_over};
+use abc_steps::looks::{has_parting, is_sound_tied, since_event, slurs_begun, slurs_ended};
+use abc_steps::state::{VoiceState, beginning, measure_of, step_over};
 use abc_steps::tuplets::{fits, or_default, usual_q};
-use abc_steps::{InForce, KeptSound, Step, Stood};
+use abc_steps::{InForce, StoredSound, Step, PlacedStep};
 use mus_score::Look;
 use mus_units::{Base, Few, Head, Memory, Row, Value};
 use std::alloc::Global;
@@ -42,17 +42,17 @@ pub fn with_ties(alloc: Global, heads: &[Head], tie: bool) -> Result<Few<Head>, 
 }
 
 #[inline(always)]
-fn tied_heads(alloc: Global, heads: &[Head], behind: &[Stood]) -> Result<Few<Head>, Memory>
+fn tied_heads(alloc: Global, heads: &[Head], behind: &[PlacedStep]) -> Result<Few<Head>, Memory>
     ensures { IfOk result (λ r. r ≡ tied_heads heads.now behind.now) }
 {
     if heads.is_empty() {
         return Ok(Few::from(Row::new(alloc)));
     }
-    with_ties(alloc, heads, is_tied(behind))
+    with_ties(alloc, heads, is_sound_tied(behind))
 }
 
 #[inline(always)]
-fn begins(heads: &[Head], before: &[Stood]) -> u32
+fn begins(heads: &[Head], before: &[PlacedStep]) -> u32
     requires { length before.now ≤ 2 ^ 30 }
     ensures { result ≡ for_note heads.now (slurs_begun (reverse before.now)) }
 {
@@ -63,7 +63,7 @@ fn begins(heads: &[Head], before: &[Stood]) -> u32
 }
 
 #[inline(always)]
-fn ends(heads: &[Head], behind: &[Stood]) -> u32
+fn ends(heads: &[Head], behind: &[PlacedStep]) -> u32
     requires { length behind.now ≤ 2 ^ 30 }
     ensures { result ≡ for_note heads.now (slurs_ended behind.now) }
 {
@@ -73,7 +73,7 @@ fn ends(heads: &[Head], behind: &[Stood]) -> u32
     slurs_ended(behind)
 }
 
-fn parted_at(now: &Place, waits: &[Stood]) -> bool
+fn parted_at(now: &VoiceState, waits: &[PlacedStep]) -> bool
     ensures { result ≡ parted_at now.now waits.now }
 {
     1 <= now.counts.begun && has_parting(waits)
@@ -103,14 +103,14 @@ fn values_of(alloc: Global, parts: Option<Few<Value>>) -> Few<Value>
 #[tactic(auto, unfolding(crate::specs::Signs::sound_written, abc_steps::specs::Lengths::parts_at))]
 fn sound_written(
     alloc: Global,
-    now: &Place,
-    before: &[Stood],
-    waits: &[Stood],
-    at: &Stood,
-    s: &KeptSound,
+    now: &VoiceState,
+    before: &[PlacedStep],
+    waits: &[PlacedStep],
+    at: &PlacedStep,
+    s: &StoredSound,
     parts: Option<Few<Value>>,
-    behind: &[Stood],
-) -> Result<Written, Memory>
+    behind: &[PlacedStep],
+) -> Result<WrittenEvent, Memory>
     requires few { length before.now ≤ 2 ^ 30 }
     requires few_behind { length behind.now ≤ 2 ^ 30 }
     requires groups { now.now.counts.groups ≤ 2 ^ 30 }
@@ -120,7 +120,7 @@ fn sound_written(
     ensures { IfOk result (λ w. w ≡ sound_written now.now (reverse before.now) at.now s.now behind.now) }
 {
     let heads = tied_heads(alloc, s.heads(), behind)?;
-    Ok(Written {
+    Ok(WrittenEvent {
         line: at.line,
         column: at.column,
         measure: measure_of(now),
@@ -148,16 +148,16 @@ fn whole_values() -> Few<Value>
 #[tactic(auto, unfolding(crate::specs::Signs::rest_written))]
 fn rest_written(
     alloc: Global,
-    now: &Place,
-    at: &Stood,
+    now: &VoiceState,
+    at: &PlacedStep,
     seen: bool,
     measure: u64,
     parted: bool,
-) -> Written
+) -> WrittenEvent
     requires { IsGoodMeter now.now.force.meter }
     ensures { result ≡ rest_written now.now at.now seen measure parted }
 {
-    Written {
+    WrittenEvent {
         line: at.line,
         column: at.column,
         measure,
@@ -174,9 +174,9 @@ fn rest_written(
 /// Puts the whole measure rests behind the first of so many.
 fn put_further(
     alloc: Global,
-    out: &mut Row<Sign>,
-    now: &Place,
-    at: &Stood,
+    out: &mut Row<TreeItem>,
+    now: &VoiceState,
+    at: &PlacedStep,
     seen: bool,
     measure: u64,
     count: u16,
@@ -187,9 +187,9 @@ fn put_further(
 {
     for i in 0..count {
         let written = rest_written(alloc, now, at, seen, measure + u64::from(i), false);
-        out.push(Sign::Event {
+        out.push(TreeItem::Event {
             written,
-            waiting: Waits::nothing(),
+            waiting: StoredPending::nothing(),
         })?;
     }
     Ok(())
@@ -199,10 +199,10 @@ fn put_further(
 #[inline(never)]
 fn put_rests(
     alloc: Global,
-    out: &mut Row<Sign>,
-    now: &Place,
-    waits: &[Stood],
-    at: &Stood,
+    out: &mut Row<TreeItem>,
+    now: &VoiceState,
+    waits: &[PlacedStep],
+    at: &PlacedStep,
     seen: bool,
     count: u16,
 ) -> Result<(), Memory>
@@ -214,13 +214,13 @@ fn put_rests(
     let measure = measure_of(now);
     let written = rest_written(alloc, now, at, seen, measure, parted_at(now, waits));
     let waiting = waiting_of(alloc, &now.force, waits, &[])?;
-    out.push(Sign::Event { written, waiting })?;
+    out.push(TreeItem::Event { written, waiting })?;
     let further = count.saturating_sub(1);
     put_further(alloc, out, now, at, seen, measure + 1, further)
 }
 
 /// Puts a tuplet that fits into the open ones.
-fn put_tuplet(out: &mut Row<Sign>, now: &Place, p: u8, q: u8, r: u8) -> Result<(), Memory>
+fn put_tuplet(out: &mut Row<TreeItem>, now: &VoiceState, p: u8, q: u8, r: u8) -> Result<(), Memory>
     requires groups { now.now.counts.groups ≤ 2 ^ 30 }
     requires further { now.now.counts.further ≤ 2 ^ 46 }
     ensures { OnOk result (out.new ≡ out.old ++ tuplet_of now.now p q r) }
@@ -229,7 +229,7 @@ fn put_tuplet(out: &mut Row<Sign>, now: &Place, p: u8, q: u8, r: u8) -> Result<(
     if !fits(r, now.taking) {
         return Ok(());
     }
-    out.push(Sign::Opens {
+    out.push(TreeItem::Opens {
         measure: measure_of(now),
         p,
         q: or_default(usual_q(p, now.force.meter), q),
@@ -239,15 +239,15 @@ fn put_tuplet(out: &mut Row<Sign>, now: &Place, p: u8, q: u8, r: u8) -> Result<(
 
 /// Puts the signs of a step. `parts` are those of what stands at it.
 #[inline(always)]
-#[tactic(auto, unfolding(crate::specs::Signs::signs_of))]
+#[tactic(auto, unfolding(crate::specs::Signs::tree_items_of))]
 pub fn put_signs(
     alloc: Global,
-    out: &mut Row<Sign>,
-    now: &Place,
-    before: &[Stood],
-    at: &Stood,
+    out: &mut Row<TreeItem>,
+    now: &VoiceState,
+    before: &[PlacedStep],
+    at: &PlacedStep,
     parts: Option<Few<Value>>,
-    behind: &[Stood],
+    behind: &[PlacedStep],
 ) -> Result<(), Memory>
     requires few { length before.now ≤ 2 ^ 30 }
     requires few_behind { length behind.now ≤ 2 ^ 30 }
@@ -255,14 +255,14 @@ pub fn put_signs(
     requires further { now.now.counts.further ≤ 2 ^ 46 }
     requires force { IsGoodForce now.now.force }
     requires parts { parts ≡ parts_at now.now.force.unit (reverse before.now) at.now.step behind.now }
-    ensures { OnOk result (out.new ≡ out.old ++ signs_of now.now (reverse before.now) at.now behind.now at.now.step) }
+    ensures { OnOk result (out.new ≡ out.old ++ tree_items_of now.now (reverse before.now) at.now behind.now at.now.step) }
 {
     match &at.step {
         Step::Sound(s) => {
             let waits = since_event(before);
             let written = sound_written(alloc, now, before, waits, at, s, parts, behind)?;
             let waiting = waiting_of(alloc, &now.force, waits, s.decos())?;
-            out.push(Sign::Event { written, waiting })
+            out.push(TreeItem::Event { written, waiting })
         }
         Step::Measures { seen, count } => {
             put_rests(alloc, out, now, since_event(before), at, *seen, *count)
@@ -273,18 +273,18 @@ pub fn put_signs(
 }
 
 /// How many events are among some steps.
-fn count_events(steps: &[Stood]) -> usize {
+fn count_events(steps: &[PlacedStep]) -> usize {
     steps.iter().filter(|s| is_event(&s.step)).count()
 }
 
 /// The signs of a voice that begins with `first`, in the order of the text.
 #[inline(never)]
-pub fn signs(alloc: Global, first: &InForce, steps: &[Stood]) -> Result<Row<Sign>, Memory>
+pub fn signs(alloc: Global, first: &InForce, steps: &[PlacedStep]) -> Result<Row<TreeItem>, Memory>
     requires few { length steps.now ≤ 2 ^ 30 }
     requires first { IsGoodForce first.now }
-    requires steps { All IsGoodStood steps.now }
+    requires steps { All IsGoodPlacedStep steps.now }
     ensures value { IfOk result (λ r. r ≡ signs first.now [] steps.now) }
-    ensures drawn { IfOk result (λ r. All IsDrawn r) }
+    ensures drawn { IfOk result (λ r. All HasDrawableValues r) }
 {
     let mut out = Row::with_room(alloc, count_events(steps))?;
     let mut now = beginning(alloc, first)?;

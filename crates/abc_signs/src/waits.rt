@@ -1,16 +1,16 @@
 ghost use Rattle.std.specs.{Prelude.◌≡◌, Prelude.◌++◌, Prelude.◌∷◌, Prelude.[], Prelude.None, Prelude.IfOk, Prelude.OnOk, List.list_any};
-ghost use Rattle.abc_signs.specs.Waits.{decos_in, is_above, mention_of, mentions_in, graces_in, has_slash, ending_behind, waiting_of, nothing, no_changes, tells};
+ghost use Rattle.abc_signs.specs.Waits.{decos_in, is_annotation_above, mention_of, mentions_in, graces_in, has_slash, ending_behind, pending_of, nothing_pending, no_changes, tells};
 
-use crate::written::{Waiting, Waits};
+use crate::written::{Pending, StoredPending};
 use abc_steps::copies::put_chords;
 use abc_steps::force::changes_at;
-use abc_steps::{InForce, Step, Stood};
+use abc_steps::{InForce, Step, PlacedStep};
 use mus_score::{Changes, Mention};
 use mus_units::{Deco, Memory, Row, Text, put_decos};
 use std::alloc::Global;
 
-fn is_above(byte: u8) -> bool
-    ensures { result ≡ is_above byte }
+fn is_annotation_above(byte: u8) -> bool
+    ensures { result ≡ is_annotation_above byte }
 {
     byte == b'^' || (byte == b'<' || (byte == b'>' || byte == b'@'))
 }
@@ -21,7 +21,7 @@ fn mention(alloc: Global, text: &[u8]) -> Result<Mention, Memory>
 {
     let (below, text) = match text {
         [first, rest @ ..] => {
-            if is_above(*first) {
+            if is_annotation_above(*first) {
                 (false, rest)
             } else if *first == b'_' {
                 (true, rest)
@@ -47,7 +47,7 @@ fn has_slash(s: &Step) -> bool
     }
 }
 
-fn any_slash(waits: &[Stood]) -> bool
+fn any_slash(waits: &[PlacedStep]) -> bool
     ensures { result ≡ list_any (λ s. has_slash s.step) waits.now }
 {
     waits.iter().any(|s| has_slash(&s.step))
@@ -55,7 +55,7 @@ fn any_slash(waits: &[Stood]) -> bool
 
 /// Adds what a step says of the event behind it, changes and slashes aside.
 #[tactic(auto, unfolding(crate::specs::Waits::decos_in, crate::specs::Waits::mentions_in, crate::specs::Waits::ending_behind, crate::specs::Waits::graces_in))]
-fn put_waiting(alloc: Global, out: &mut Waiting, s: &Step) -> Result<(), Memory>
+fn put_waiting(alloc: Global, out: &mut Pending, s: &Step) -> Result<(), Memory>
     ensures changes { OnOk result (out.new.changes ≡ out.old.changes) }
     ensures decos { OnOk result (out.new.decos ≡ out.old.decos ++ decos_in s.now) }
     ensures mentions { OnOk result (out.new.mentions ≡ out.old.mentions ++ mentions_in s.now) }
@@ -90,7 +90,7 @@ fn tells(s: &Step) -> bool
     )
 }
 
-fn any_tells(waits: &[Stood]) -> bool
+fn any_tells(waits: &[PlacedStep]) -> bool
     ensures { result ≡ list_any (λ s. tells s.step) waits.now }
 {
     waits.iter().any(|s| tells(&s.step))
@@ -98,18 +98,18 @@ fn any_tells(waits: &[Stood]) -> bool
 
 /// What waits for an event, gathered from what does.
 #[inline(never)]
-#[tactic(auto, unfolding(crate::specs::Waits::waiting_of))]
-fn gathered(alloc: Global, now: &InForce, waits: &[Stood], inside: &[Deco]) -> Result<Waits, Memory>
-    ensures { IfOk result (λ w. w ≡ waiting_of now.now waits.now inside.now) }
+#[tactic(auto, unfolding(crate::specs::Waits::pending_of))]
+fn gathered(alloc: Global, now: &InForce, waits: &[PlacedStep], inside: &[Deco]) -> Result<StoredPending, Memory>
+    ensures { IfOk result (λ w. w ≡ pending_of now.now waits.now inside.now) }
 {
-    let mut waiting = nothing(alloc);
+    let mut waiting = nothing_pending(alloc);
     waiting.changes = changes_at(alloc, now, waits)?;
     waiting.slash = any_slash(waits);
     for s in waits {
         put_waiting(alloc, &mut waiting, &s.step)?;
     }
     put_decos(alloc, &mut waiting.decos, inside)?;
-    Waits::new(alloc, waiting)
+    StoredPending::new(alloc, waiting)
 }
 
 /// What waits for an event, of what is in force there, the steps since the event
@@ -119,13 +119,13 @@ fn gathered(alloc: Global, now: &InForce, waits: &[Stood], inside: &[Deco]) -> R
 pub fn waiting_of(
     alloc: Global,
     now: &InForce,
-    waits: &[Stood],
+    waits: &[PlacedStep],
     inside: &[Deco],
-) -> Result<Waits, Memory>
-    ensures { IfOk result (λ w. w ≡ waiting_of now.now waits.now inside.now) }
+) -> Result<StoredPending, Memory>
+    ensures { IfOk result (λ w. w ≡ pending_of now.now waits.now inside.now) }
 {
     if inside.is_empty() && !any_tells(waits) {
-        return Ok(Waits::nothing());
+        return Ok(StoredPending::nothing());
     }
     gathered(alloc, now, waits, inside)
 }
@@ -142,10 +142,10 @@ pub fn no_changes() -> Changes
 }
 
 /// What waits for an event for which nothing does.
-pub fn nothing(alloc: Global) -> Waiting
-    ensures { result ≡ nothing }
+pub fn nothing_pending(alloc: Global) -> Pending
+    ensures { result ≡ nothing_pending }
 {
-    Waiting {
+    Pending {
         changes: no_changes(),
         decos: Row::new(alloc),
         mentions: Row::new(alloc),

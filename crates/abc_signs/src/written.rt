@@ -1,8 +1,8 @@
 ghost use Rattle.std.specs.Prelude.{◌≡◌, true, IfOk};
-ghost use Rattle.abc_signs.specs.Waits.{nothing};
+ghost use Rattle.abc_signs.specs.Waits.{nothing_pending};
 
-use crate::waits::nothing;
-use abc_tokens::GraceChord;
+use crate::waits::nothing_pending;
+use abc_music::GraceChord;
 use mus_score::{Changes, Look, Mention};
 use mus_units::{Deco, Few, Head, Memory, Row, Text, Value};
 use std::alloc::Global;
@@ -12,7 +12,7 @@ use std::marker::Model;
 /// line and the column of its first byte. `values` are its parts, none where its
 /// length has none; `whole` is the length of a whole measure rest in ticks.
 #[derive(Drop)]
-pub struct Written {
+pub struct WrittenEvent {
     pub line: u32,
     pub column: u32,
     pub measure: u64,
@@ -27,7 +27,7 @@ pub struct Written {
 
 /// What waited for an event.
 #[derive(Drop)]
-pub struct Waiting {
+pub struct Pending {
     pub changes: Changes,
     pub decos: Row<Deco>,
     pub mentions: Row<Mention>,
@@ -38,58 +38,58 @@ pub struct Waiting {
 
 /// Where what waited stands, which is nowhere where nothing did.
 #[derive(Drop)]
-enum Held {
+enum PendingStore {
     Nothing,
-    Some(Box<Waiting>),
+    Some(Box<Pending>),
 }
 
-/// What waited for an event, which contracts see as a `Waiting`. Nothing takes no memory.
+/// What waited for an event, which contracts see as a `Pending`. Nothing takes no memory.
 #[derive(Drop)]
-pub struct Waits {
-    held: Held,
+pub struct StoredPending {
+    held: PendingStore,
 }
 
-impl Model for Waits {
-    ghost use Rattle.abc_signs.specs.{declared.written.Waiting.Waiting, Held.waiting_held};
+impl Model for StoredPending {
+    ghost use Rattle.abc_signs.specs.{declared.written.Pending.Pending, Stored.stored_pending};
 
-    ghost Value = { Waiting };
+    ghost Value = { Pending };
 
-    ghost view = { λ w. waiting_held w.held };
+    ghost view = { λ w. stored_pending w.held };
 }
 
-impl Waits {
+impl StoredPending {
     /// What waited for an event for which nothing did.
-    pub fn nothing() -> Waits
-        ensures { result ≡ nothing }
+    pub fn nothing() -> StoredPending
+        ensures { result ≡ nothing_pending }
     {
-        Waits {
-            held: Held::Nothing,
+        StoredPending {
+            held: PendingStore::Nothing,
         }
     }
 
     /// What waited for an event.
-    pub fn new(alloc: Global, waiting: Waiting) -> Result<Waits, Memory>
+    pub fn new(alloc: Global, waiting: Pending) -> Result<StoredPending, Memory>
         ensures { IfOk result (λ w. w ≡ waiting) }
     {
-        Ok(Waits {
-            held: Held::Some(Box::new(alloc, waiting)?),
+        Ok(StoredPending {
+            held: PendingStore::Some(Box::new(alloc, waiting)?),
         })
     }
 
     /// Whether it is known that nothing waited.
     pub fn is_nothing(&self) -> bool
-        ensures { result ≡ true → self.now ≡ nothing }
+        ensures { result ≡ true → self.now ≡ nothing_pending }
     {
-        matches!(self.held, Held::Nothing)
+        matches!(self.held, PendingStore::Nothing)
     }
 
     /// What waited, as a whole.
-    pub fn whole(self, alloc: Global) -> Waiting
+    pub fn whole(self, alloc: Global) -> Pending
         ensures { result ≡ self }
     {
         match self.held {
-            Held::Nothing => nothing(alloc),
-            Held::Some(waiting) => Box::into_inner(waiting),
+            PendingStore::Nothing => nothing_pending(alloc),
+            PendingStore::Some(waiting) => Box::into_inner(waiting),
         }
     }
 }
@@ -97,7 +97,7 @@ impl Waits {
 /// What the trees of a voice are made of, in the order of the text: a written
 /// event, or a tuplet of `p` in the time of `q` that takes the next `r` of them.
 #[derive(Drop)]
-pub enum Sign {
-    Event { written: Written, waiting: Waits },
+pub enum TreeItem {
+    Event { written: WrittenEvent, waiting: StoredPending },
     Opens { measure: u64, p: u8, q: u8, r: u8 },
 }

@@ -21,13 +21,13 @@ groups [] = 0
 groups (s ∷ before) = if begins_group s.step (nearest_at before) then groups before + 1 else groups before
 
 -- n whole measure rests add n - 1 measures to their own
-unfoldable pub further : Step → ℕ
-further (Step.Measures seen count) = count - 1
-further _ = 0
+unfoldable pub further_measures : Step → ℕ
+further_measures (Step.Measures seen count) = count - 1
+further_measures _ = 0
 
 abbrev pub all_further : Steps → ℕ
 all_further [] = 0
-all_further (s ∷ before) = all_further before + further s.step
+all_further (s ∷ before) = all_further before + further_measures s.step
 
 -- the measure of an event at this place; of several whole measure rests, that of the first
 abbrev pub measure_at : Steps → ℕ
@@ -36,7 +36,7 @@ measure_at before = groups before + all_further before
 -- how many measures the voice has begun: one more than that of its last event
 abbrev pub measures_begun : Steps → ℕ
 measures_begun [] = 0
-measures_begun (s ∷ before) = if is_event s.step then measure_at before + further s.step + 1 else measures_begun before
+measures_begun (s ∷ before) = if is_event s.step then measure_at before + further_measures s.step + 1 else measures_begun before
 
 -- what a walk along the steps keeps of it
 abbrev pub counts_of : Steps → Counts

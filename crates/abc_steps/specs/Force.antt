@@ -1,19 +1,19 @@
 -- Clef, key, meter and unit in force at a place: those of the last field before it that names them, else those that the voice begins with.
 use Rattle.std.specs.{Prelude.{ℕ, ◌*◌, ◌/◌, List, [], ◌∷◌, Bool, true, false, if◌then◌else◌, Option, Some, None, is_some, unwrap_or}, List.list_any}
-use Rattle.{mus_units.specs.{Value.whole_note, declared.key.Sign.Sign, declared.key.Meter.Meter}, mus_score.specs.declared.score.Changes.{Changes}, abc_fields.specs.Keys.{key_over}}
+use Rattle.{mus_units.specs.{Value.whole_note, declared.key.Sign.Sign, declared.key.Meter.Meter}, mus_score.specs.declared.score.Changes.{Changes}, abc_field.specs.Keys.{key_over}}
 use Rattle.abc_steps.specs.{declared.step.Step.Step, declared.force.InForce.InForce, Looks.Steps}
 
 -- what is in force behind a step
-unfoldable pub force_behind : Step → InForce → InForce
-force_behind (Step.Clef clef) now = record now { clef = clef }
-force_behind (Step.Key text) now = record now { clef = unwrap_or text.clef now.clef; key = record { signs = key_over now.key.signs text } }
-force_behind (Step.Meter meter) now = record now { meter = meter }
-force_behind (Step.Unit unit) now = record now { unit = unit }
-force_behind _ now = now
+unfoldable pub force_after : Step → InForce → InForce
+force_after (Step.Clef clef) now = record now { clef = clef }
+force_after (Step.Key text) now = record now { clef = unwrap_or text.clef now.clef; key = record { signs = key_over now.key.signs text } }
+force_after (Step.Meter meter) now = record now { meter = meter }
+force_after (Step.Unit unit) now = record now { unit = unit }
+force_after _ now = now
 
 abbrev pub force_at : InForce → Steps → InForce
 force_at first [] = first
-force_at first (s ∷ before) = force_behind s.step (force_at first before)
+force_at first (s ∷ before) = force_after s.step (force_at first before)
 
 -- A text of signs or of a whole key names a key; one of a clef alone does not.
 abbrev pub has_sign : List Sign → Bool
@@ -33,16 +33,16 @@ unfoldable pub names_meter : Step → Bool
 names_meter (Step.Meter meter) = true
 names_meter _ = false
 
-abbrev pub when : {A : Type 0} → Bool → A → Option A
-when true x = Some x
-when false x = None
+abbrev pub some_if : {A : Type 0} → Bool → A → Option A
+some_if true x = Some x
+some_if false x = None
 
 -- A change stands at an event exactly where a field that names it waits for it; the last one counts.
 unfoldable pub changes_at : InForce → Steps → Changes
 changes_at now waits = record {
-  clef = when (list_any (λ s. names_clef s.step) waits) now.clef;
-  key = when (list_any (λ s. names_key s.step) waits) now.key;
-  meter = when (list_any (λ s. names_meter s.step) waits) now.meter;
+  clef = some_if (list_any (λ s. names_clef s.step) waits) now.clef;
+  key = some_if (list_any (λ s. names_key s.step) waits) now.key;
+  meter = some_if (list_any (λ s. names_meter s.step) waits) now.meter;
 }
 
 -- the ticks of a measure; free meter has none

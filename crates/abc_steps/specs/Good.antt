@@ -1,10 +1,10 @@
 -- Good steps: the values of fields are good, a note, a chord or a rest has a length, a grace note has
 -- a head, and numbers are those that a music line can write.
 use Rattle.std.specs.Prelude.{⊤, ◌≤◌, ◌^◌}
-use Rattle.{abc_tokens.specs.Good.{AreGoodGraces, IsGoodTuplet}, mus_units.specs.Good.{IsGoodKey, IsGoodMeter, IsGoodUnit}, abc_fields.specs.Keys.{IsGoodKeyText}}
-use Rattle.abc_steps.specs.{declared.step.Sound.Sound, declared.step.Step.Step, declared.step.Stood.Stood, declared.force.InForce.InForce}
+use Rattle.{abc_music.specs.Good.{AreGoodGraces, IsGoodTuplet}, mus_units.specs.Good.{IsGoodKey, IsGoodMeter, IsGoodUnit}, abc_field.specs.Keys.{IsGoodKeyText}}
+use Rattle.abc_steps.specs.{declared.step.WrittenSound.WrittenSound, declared.step.Step.Step, declared.step.PlacedStep.PlacedStep, declared.force.InForce.InForce}
 
-pub record IsGoodSound (s : Sound) : Type 0 where
+pub record IsGoodSound (s : WrittenSound) : Type 0 where
   pub some : 1 ≤ s.num
   pub num_high : s.num ≤ 2 ^ 40
   pub above : 1 ≤ s.den
@@ -20,8 +20,8 @@ IsGoodStep (Step.Meter meter) = IsGoodMeter meter
 IsGoodStep (Step.Unit unit) = IsGoodUnit unit
 IsGoodStep _ = ⊤
 
-abbrev pub IsGoodStood : Stood → Type 0
-IsGoodStood s = IsGoodStep s.step
+abbrev pub IsGoodPlacedStep : PlacedStep → Type 0
+IsGoodPlacedStep s = IsGoodStep s.step
 
 pub record IsGoodForce (now : InForce) : Type 0 where
   pub key : IsGoodKey now.key

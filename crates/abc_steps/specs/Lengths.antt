@@ -1,7 +1,7 @@
 -- The written length of a note, a chord or a rest: its length times the unit and its broken factors.
 use Rattle.std.specs.Prelude.{ℕ, ◌*◌, ◌≤◌, ◌^◌, List, nat_le, true, false, if◌then◌else◌, Option, Some, None}
 use Rattle.mus_units.specs.{declared.value.Frac.Frac, declared.value.Value.Value, Parts.parts_list}
-use Rattle.abc_steps.specs.{declared.step.Sound.Sound, declared.step.Stood.Stood, declared.step.Step.Step, Looks.Steps, Looks.broken_before, Looks.broken_behind}
+use Rattle.abc_steps.specs.{declared.step.WrittenSound.WrittenSound, declared.step.PlacedStep.PlacedStep, declared.step.Step.Step, Looks.Steps, Looks.broken_before, Looks.broken_behind}
 
 abbrev pub once : Frac
 once = record { num = 1; den = 1 }
@@ -25,15 +25,15 @@ right_side (Step.Broken true dots) = short_side dots
 right_side (Step.Broken false dots) = long_side dots
 right_side _ = once
 
-unfoldable pub left_factor : Option Stood → Frac
+unfoldable pub left_factor : Option PlacedStep → Frac
 left_factor (Some s) = left_side s.step
 left_factor None = once
 
-unfoldable pub right_factor : Option Stood → Frac
+unfoldable pub right_factor : Option PlacedStep → Frac
 right_factor (Some s) = right_side s.step
 right_factor None = once
 
-unfoldable pub written_length : Frac → Sound → Steps → Steps → Frac
+unfoldable pub written_length : Frac → WrittenSound → Steps → Steps → Frac
 written_length unit s before behind =
     let left = left_factor (broken_behind behind) in let right = right_factor (broken_before before) in record { num = s.num * unit.num * (left.num * right.num); den = s.den * unit.den * (left.den * right.den) }
 

@@ -1,7 +1,7 @@
 pub mod Counts
 pub mod Force
 pub mod Good
-pub mod Kept
+pub mod Stored
 pub mod Kinds
 pub mod Lengths
 pub mod Looks

@@ -1,9 +1,9 @@
 -- What stands before and behind a place among the steps of a voice: `before` is what stands before it, the nearest first, and `behind` is what follows it.
 use Rattle.std.specs.{Prelude.{ℕ, List, reverse, find, count_by, Bool, false, if◌then◌else◌, Option, Some, None}, List.{before_first, list_any}}
-use Rattle.abc_steps.specs.{declared.step.Stood.Stood, Kinds.is_sound, Kinds.is_note, Kinds.is_event, Kinds.is_bar, Kinds.is_broken, Kinds.is_tie, Kinds.is_slur_on, Kinds.is_slur_off, Kinds.is_parting, Kinds.is_event_or_bar, Kinds.is_left_stop, Kinds.is_tie_stop}
+use Rattle.abc_steps.specs.{declared.step.PlacedStep.PlacedStep, Kinds.is_sound, Kinds.is_note, Kinds.is_event, Kinds.is_bar, Kinds.is_broken, Kinds.is_tie, Kinds.is_slur_on, Kinds.is_slur_off, Kinds.is_parting, Kinds.is_event_or_bar, Kinds.is_left_stop, Kinds.is_tie_stop}
 
 abbrev pub Steps : Type 0
-Steps = List Stood
+Steps = List PlacedStep
 
 -- the steps since the event before, or the note before, in the order of the text
 unfoldable pub since_event : Steps → Steps
@@ -20,12 +20,12 @@ unfoldable pub to_note : Steps → Steps
 to_note behind = before_first (λ s. is_note s.step) behind
 
 -- the nearest event
-unfoldable pub nearest_event : Steps → Option Stood
+unfoldable pub nearest_event : Steps → Option PlacedStep
 nearest_event steps = find (λ s. is_event s.step) steps
 
 -- a tie belongs to the last note before it on its line
-unfoldable pub is_tied : Steps → Bool
-is_tied behind = list_any (λ s. is_tie s.step) (before_first (λ s. is_tie_stop s.step) behind)
+unfoldable pub is_sound_tied : Steps → Bool
+is_sound_tied behind = list_any (λ s. is_tie s.step) (before_first (λ s. is_tie_stop s.step) behind)
 
 -- an open slur waits for the next note, and a closed one belongs to the last note before it
 unfoldable pub slurs_begun : Steps → ℕ
@@ -38,19 +38,19 @@ slurs_ended behind = count_by (λ s. is_slur_off s.step) (to_note behind)
 unfoldable pub has_parting : Steps → Bool
 has_parting waits = list_any (λ s. is_parting s.step) waits
 
-unfoldable pub is_some_sound : Option Stood → Bool
+unfoldable pub is_some_sound : Option PlacedStep → Bool
 is_some_sound (Some s) = is_sound s.step
 is_some_sound None = false
 
 -- The broken rhythm between two events: the first that stands there, where no bar does.
-unfoldable pub broken_among : Steps → Option Stood
+unfoldable pub broken_among : Steps → Option PlacedStep
 broken_among between = if list_any (λ s. is_bar s.step) between then None else find (λ s. is_broken s.step) between
 
 -- the one between an event and the one before it, or the one behind it, where both have a length
-unfoldable pub broken_before : Steps → Option Stood
+unfoldable pub broken_before : Steps → Option PlacedStep
 broken_before before = if is_some_sound (nearest_event before) then broken_among (since_event before) else None
 
-unfoldable pub broken_behind : Steps → Option Stood
+unfoldable pub broken_behind : Steps → Option PlacedStep
 broken_behind behind = if is_some_sound (nearest_event behind) then broken_among (to_event behind) else None
 
 -- The sides of a broken rhythm. On the left the nearest event, bar or other broken rhythm is an event with a length, on the right the nearest event or bar.

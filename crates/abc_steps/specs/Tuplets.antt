@@ -1,6 +1,6 @@
 -- Tuplets: how many events the open ones still take.
 use Rattle.std.specs.Prelude.{ℕ, zero, suc, ◌-◌, [], ◌∷◌, Bool, true, false, nat_le, if◌then◌else◌, ◌==◌, ◌||◌, ◌&&◌}
-use Rattle.{mus_units.specs.declared.key.Meter.{Meter}, abc_steps.specs.{declared.step.Step.Step, declared.tuplets.Taking.Taking, Looks.Steps}}
+use Rattle.{mus_units.specs.declared.key.Meter.{Meter}, abc_steps.specs.{declared.step.Step.Step, declared.tuplets.OpenTuplets.OpenTuplets, Looks.Steps}}
 
 -- a number that is left out is 0
 abbrev pub or_default : ℕ → ℕ → ℕ
@@ -8,37 +8,37 @@ or_default usual zero = usual
 or_default usual (suc n) = suc n
 
 -- a tuplet stands within one other at most, and takes no more events than that still takes
-unfoldable pub fits : ℕ → Taking → Bool
-fits r Taking.Nothing = true
-fits r (Taking.One left) = nat_le r left
-fits r (Taking.Two inner outer) = false
+unfoldable pub fits : ℕ → OpenTuplets → Bool
+fits r OpenTuplets.Nothing = true
+fits r (OpenTuplets.Single left) = nat_le r left
+fits r (OpenTuplets.Nested inner outer) = false
 
-abbrev pub one_less : ℕ → Taking
-one_less left = if nat_le left 1 then Taking.Nothing else Taking.One (left - 1)
+abbrev pub one_less : ℕ → OpenTuplets
+one_less left = if nat_le left 1 then OpenTuplets.Nothing else OpenTuplets.Single (left - 1)
 
 -- each open tuplet takes an event, and closes where it takes no more
-unfoldable pub after_event : Taking → Taking
-after_event Taking.Nothing = Taking.Nothing
-after_event (Taking.One left) = one_less left
-after_event (Taking.Two inner outer) = if nat_le inner 1 then one_less outer else Taking.Two (inner - 1) (outer - 1)
+unfoldable pub after_event : OpenTuplets → OpenTuplets
+after_event OpenTuplets.Nothing = OpenTuplets.Nothing
+after_event (OpenTuplets.Single left) = one_less left
+after_event (OpenTuplets.Nested inner outer) = if nat_le inner 1 then one_less outer else OpenTuplets.Nested (inner - 1) (outer - 1)
 
 -- a tuplet that doesn't fit takes nothing
-abbrev pub opened : ℕ → Taking → Taking
-opened r Taking.Nothing = Taking.One r
-opened r (Taking.One left) = if nat_le r left then Taking.Two r left else Taking.One left
-opened r (Taking.Two inner outer) = Taking.Two inner outer
+abbrev pub with_tuplet_opened : ℕ → OpenTuplets → OpenTuplets
+with_tuplet_opened r OpenTuplets.Nothing = OpenTuplets.Single r
+with_tuplet_opened r (OpenTuplets.Single left) = if nat_le r left then OpenTuplets.Nested r left else OpenTuplets.Single left
+with_tuplet_opened r (OpenTuplets.Nested inner outer) = OpenTuplets.Nested inner outer
 
 -- the end of a measure closes all
-unfoldable pub taking_behind : Step → Taking → Taking
-taking_behind (Step.Sound s) open_ones = after_event open_ones
-taking_behind (Step.Measures seen count) open_ones = Taking.Nothing
-taking_behind (Step.Bar bar) open_ones = Taking.Nothing
-taking_behind (Step.Tuplet p q r) open_ones = opened (or_default p r) open_ones
-taking_behind _ open_ones = open_ones
+unfoldable pub open_tuplets_after : Step → OpenTuplets → OpenTuplets
+open_tuplets_after (Step.Sound s) open_ones = after_event open_ones
+open_tuplets_after (Step.Measures seen count) open_ones = OpenTuplets.Nothing
+open_tuplets_after (Step.Bar bar) open_ones = OpenTuplets.Nothing
+open_tuplets_after (Step.Tuplet p q r) open_ones = with_tuplet_opened (or_default p r) open_ones
+open_tuplets_after _ open_ones = open_ones
 
-abbrev pub taking_at : Steps → Taking
-taking_at [] = Taking.Nothing
-taking_at (s ∷ before) = taking_behind s.step (taking_at before)
+abbrev pub open_tuplets_at : Steps → OpenTuplets
+open_tuplets_at [] = OpenTuplets.Nothing
+open_tuplets_at (s ∷ before) = open_tuplets_after s.step (open_tuplets_at before)
 
 -- the meters 6/8, 9/8 and 12/8
 abbrev pub is_compound : Meter → Bool

@@ -1,6 +1,6 @@
 ghost use Rattle.std.specs.Prelude.{◌≡◌, ◌++◌, OnOk, IfOk};
 
-use abc_tokens::GraceChord;
+use abc_music::GraceChord;
 use mus_units::{Memory, Row};
 use std::alloc::Global;
 

@@ -1,7 +1,7 @@
 ghost use Rattle.std.specs.Prelude.{◌≡◌, ◌≤◌, ◌<◌, ◌^◌, ◌+◌, ◌∷◌, [], if◌then◌else◌};
 ghost use Rattle.abc_steps.specs.{declared.counts.Nearest.Nearest, Looks.Steps, Counts.is_near_event, Counts.counts_of};
 
-use crate::step::{Step, Stood};
+use crate::step::{Step, PlacedStep};
 
 /// What the nearest event or bar before a place is.
 #[derive(Clone, Copy, PartialEq, Eq)]
@@ -64,8 +64,8 @@ pub fn no_counts() -> Counts
 
 /// Counts a step. Most steps leave the counts as they are.
 #[inline(always)]
-#[tactic(auto, unfolding(crate::specs::Kinds::is_event, crate::specs::Kinds::is_bar, crate::specs::Counts::begins_group, crate::specs::Counts::further))]
-pub fn count_step(counts: &mut Counts, s: &Stood)
+#[tactic(auto, unfolding(crate::specs::Kinds::is_event, crate::specs::Kinds::is_bar, crate::specs::Counts::begins_group, crate::specs::Counts::further_measures))]
+pub fn count_step(counts: &mut Counts, s: &PlacedStep)
     requires groups { counts.old.groups ≤ 2 ^ 30 }
     requires further { counts.old.further ≤ 2 ^ 46 }
     ensures counts { (before : Steps) → counts.old ≡ counts_of before → counts.new ≡ counts_of (s.now ∷ before) }

@@ -1,10 +1,10 @@
 ghost use Rattle.std.specs.{Prelude.◌≡◌, Prelude.◌≤◌, Prelude.◌^◌, Prelude.IfOk, Prelude.OnOk, Prelude.OnErr, Prelude.Option, Prelude.MatchOption, Prelude.length, Prelude.is_some, List.list_any};
-ghost use Rattle.{mus_units.specs.Good.{IsGoodKey, IsGoodMeter}, abc_fields.specs.Keys.{key_over, IsGoodKeyText}};
-ghost use Rattle.abc_steps.specs.{declared.step.Step.Step, Force.{force_behind, has_sign, names_key, names_clef, names_meter, when, changes_at, meter_ticks}, Good.{IsGoodStep, IsGoodForce}};
+ghost use Rattle.{mus_units.specs.Good.{IsGoodKey, IsGoodMeter}, abc_field.specs.Keys.{key_over, IsGoodKeyText}};
+ghost use Rattle.abc_steps.specs.{declared.step.Step.Step, Force.{force_after, has_sign, names_key, names_clef, names_meter, some_if, changes_at, meter_ticks}, Good.{IsGoodStep, IsGoodForce}};
 
-use crate::step::{Step, Stood};
-use abc_fields::KeyText;
-use mus_pitch::lay;
+use crate::step::{Step, PlacedStep};
+use abc_field::KeyText;
+use mus_pitch::with_signs;
 use mus_score::Changes;
 use mus_units::{Clef, Frac, Key, Memory, Meter, Sign, WHOLE};
 use std::alloc::Global;
@@ -27,17 +27,17 @@ fn key_over(alloc: Global, key: &Key, text: &KeyText) -> Result<Key, Memory>
 {
     match &text.key {
         Some(whole) => whole.copy(alloc),
-        None => lay(alloc, key, text.adds.as_slice()),
+        None => with_signs(alloc, key, text.adds.as_slice()),
     }
 }
 
 /// What is in force behind a key.
 #[inline(never)]
-#[tactic(auto, unfolding(crate::specs::Force::force_behind))]
+#[tactic(auto, unfolding(crate::specs::Force::force_after))]
 fn change_key(alloc: Global, now: &mut InForce, text: &KeyText) -> Result<(), Memory>
     requires now { IsGoodForce now.old }
     requires text { IsGoodKeyText text.now }
-    ensures value { OnOk result (now.new ≡ force_behind (Step.Key text.now) now.old) }
+    ensures value { OnOk result (now.new ≡ force_after (Step.Key text.now) now.old) }
     ensures good { OnOk result (IsGoodForce now.new) }
 {
     let key = key_over(alloc, &now.key, text)?;
@@ -47,11 +47,11 @@ fn change_key(alloc: Global, now: &mut InForce, text: &KeyText) -> Result<(), Me
 }
 
 /// What is in force behind a step.
-#[tactic(auto, unfolding(crate::specs::Force::force_behind))]
+#[tactic(auto, unfolding(crate::specs::Force::force_after))]
 pub fn change_force(alloc: Global, now: &mut InForce, s: &Step) -> Result<(), Memory>
     requires now { IsGoodForce now.old }
     requires step { IsGoodStep s.now }
-    ensures value { OnOk result (now.new ≡ force_behind s.now now.old) }
+    ensures value { OnOk result (now.new ≡ force_after s.now now.old) }
     ensures good { OnOk result (IsGoodForce now.new) }
 {
     match s {
@@ -98,26 +98,26 @@ fn names_meter(s: &Step) -> bool
     matches!(s, Step::Meter(_))
 }
 
-fn any_key(waits: &[Stood]) -> bool
+fn any_key(waits: &[PlacedStep]) -> bool
     ensures { result ≡ list_any (λ s. names_key s.step) waits.now }
 {
     waits.iter().any(|s| names_key(&s.step))
 }
 
-fn any_clef(waits: &[Stood]) -> bool
+fn any_clef(waits: &[PlacedStep]) -> bool
     ensures { result ≡ list_any (λ s. names_clef s.step) waits.now }
 {
     waits.iter().any(|s| names_clef(&s.step))
 }
 
-fn any_meter(waits: &[Stood]) -> bool
+fn any_meter(waits: &[PlacedStep]) -> bool
     ensures { result ≡ list_any (λ s. names_meter s.step) waits.now }
 {
     waits.iter().any(|s| names_meter(&s.step))
 }
 
-fn changed_key(alloc: Global, now: &InForce, waits: &[Stood]) -> Result<Option<Key>, Memory>
-    ensures { IfOk result (λ k. k ≡ when (list_any (λ s. names_key s.step) waits.now) now.now.key) }
+fn changed_key(alloc: Global, now: &InForce, waits: &[PlacedStep]) -> Result<Option<Key>, Memory>
+    ensures { IfOk result (λ k. k ≡ some_if (list_any (λ s. names_key s.step) waits.now) now.now.key) }
 {
     if any_key(waits) {
         return Ok(Some(now.key.copy(alloc)?));
@@ -127,7 +127,7 @@ fn changed_key(alloc: Global, now: &InForce, waits: &[Stood]) -> Result<Option<K
 
 /// The changes at an event, of what is in force there and the steps that wait for it.
 #[tactic(auto, unfolding(crate::specs::Force::changes_at))]
-pub fn changes_at(alloc: Global, now: &InForce, waits: &[Stood]) -> Result<Changes, Memory>
+pub fn changes_at(alloc: Global, now: &InForce, waits: &[PlacedStep]) -> Result<Changes, Memory>
     ensures { IfOk result (λ c. c ≡ changes_at now.now waits.now) }
 {
     let key = changed_key(alloc, now, waits)?;

@@ -1,10 +1,10 @@
 ghost use Rattle.std.specs.{Prelude.{◌≡◌, ◌≤◌, ◌^◌, reverse, IfOk}, Option.option_copied};
 ghost use Rattle.mus_units.specs.{Good.IsGoodUnit, Parts.parts_list};
-ghost use Rattle.abc_steps.specs.{Good.IsGoodSound, Good.IsGoodStood, Lengths.{long_side, short_side, left_side, right_side, left_factor, right_factor, written_length, parts_at, IsFactor, IsLength}};
+ghost use Rattle.abc_steps.specs.{Good.IsGoodSound, Good.IsGoodPlacedStep, Lengths.{long_side, short_side, left_side, right_side, left_factor, right_factor, written_length, parts_at, IsFactor, IsLength}};
 
-use crate::kept::KeptSound;
+use crate::stored::StoredSound;
 use crate::looks::{broken_before, broken_behind};
-use crate::step::{Step, Stood};
+use crate::step::{Step, PlacedStep};
 use mus_units::{Few, Frac, Memory, Value, parts_of, value_of};
 use std::alloc::Global;
 
@@ -61,7 +61,7 @@ fn right_side(s: &Step) -> Frac
 }
 
 #[tactic(auto, unfolding(crate::specs::Lengths::left_factor))]
-fn left_factor(broken: Option<&Stood>) -> Frac
+fn left_factor(broken: Option<&PlacedStep>) -> Frac
     ensures value { result ≡ left_factor (option_copied broken.entry) }
     ensures factor { IsFactor result }
 {
@@ -72,7 +72,7 @@ fn left_factor(broken: Option<&Stood>) -> Frac
 }
 
 #[tactic(auto, unfolding(crate::specs::Lengths::right_factor))]
-fn right_factor(broken: Option<&Stood>) -> Frac
+fn right_factor(broken: Option<&PlacedStep>) -> Frac
     ensures value { result ≡ right_factor (option_copied broken.entry) }
     ensures factor { IsFactor result }
 {
@@ -85,7 +85,7 @@ fn right_factor(broken: Option<&Stood>) -> Frac
 /// The written length of a note, a chord or a rest, in whole notes, not reduced.
 #[inline(always)]
 #[tactic(auto, unfolding(crate::specs::Lengths::written_length))]
-pub fn written_length(unit: Frac, s: &KeptSound, before: &[Stood], behind: &[Stood]) -> Frac
+pub fn written_length(unit: Frac, s: &StoredSound, before: &[PlacedStep], behind: &[PlacedStep]) -> Frac
     requires unit { IsGoodUnit unit }
     requires good { IsGoodSound s.now }
     ensures value { result ≡ written_length unit s.now (reverse before.now) behind.now }
@@ -122,12 +122,12 @@ pub fn parts_in(alloc: Global, length: Frac) -> Result<Option<Few<Value>>, Memor
 pub fn parts_at(
     alloc: Global,
     unit: Frac,
-    before: &[Stood],
-    at: &Stood,
-    behind: &[Stood],
+    before: &[PlacedStep],
+    at: &PlacedStep,
+    behind: &[PlacedStep],
 ) -> Result<Option<Few<Value>>, Memory>
     requires unit { IsGoodUnit unit }
-    requires good { IsGoodStood at.now }
+    requires good { IsGoodPlacedStep at.now }
     ensures { IfOk result (λ r. r ≡ parts_at unit (reverse before.now) at.now.step behind.now) }
 {
     match &at.step {

@@ -5,18 +5,18 @@
 pub mod copies;
 pub mod counts;
 pub mod force;
-pub mod kept;
+pub mod stored;
 pub mod kinds;
 pub mod lengths;
 pub mod looks;
-pub mod place;
+pub mod state;
 pub mod step;
 pub mod tuplets;
 
-pub use abc_tokens::Apart;
+pub use abc_music::Boxed;
 pub use counts::{Counts, Nearest};
 pub use force::InForce;
-pub use kept::KeptSound;
-pub use place::Place;
-pub use step::{Item, Sound, Step, Stood};
-pub use tuplets::Taking;
+pub use stored::StoredSound;
+pub use state::VoiceState;
+pub use step::{BodyItem, WrittenSound, Step, PlacedStep};
+pub use tuplets::OpenTuplets;

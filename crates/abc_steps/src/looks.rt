@@ -1,41 +1,41 @@
 ghost use Rattle.std.specs.{Prelude.{◌≡◌, ◌≤◌, ◌^◌, ◌<◌, reverse, length, find, count_by, IfSome, Bool}, Option.option_copied, List.{position, before_first, list_any}};
-ghost use Rattle.abc_steps.specs.{declared.step.Stood.Stood, Kinds.{is_note, is_event, is_bar, is_broken, is_tie, is_slur_on, is_slur_off, is_event_or_bar, is_left_stop, is_tie_stop}, Looks.{since_event, since_note, to_event, to_note, nearest_event, is_tied, slurs_begun, slurs_ended, has_parting, is_some_sound, broken_among, broken_before, broken_behind, has_left, has_right}};
+ghost use Rattle.abc_steps.specs.{declared.step.PlacedStep.PlacedStep, Kinds.{is_note, is_event, is_bar, is_broken, is_tie, is_slur_on, is_slur_off, is_event_or_bar, is_left_stop, is_tie_stop}, Looks.{since_event, since_note, to_event, to_note, nearest_event, is_sound_tied, slurs_begun, slurs_ended, has_parting, is_some_sound, broken_among, broken_before, broken_behind, has_left, has_right}};
 
 use crate::kinds::{
     is_bar, is_broken, is_event, is_event_or_bar, is_left_stop, is_note, is_parting, is_slur_off,
     is_slur_on, is_sound, is_tie, is_tie_stop,
 };
-use crate::step::Stood;
+use crate::step::PlacedStep;
 
-fn first_event(behind: &[Stood]) -> Option<usize>
+fn first_event(behind: &[PlacedStep]) -> Option<usize>
     ensures within { IfSome result (λ n. n ≤ length behind.now) }
     ensures value { result ≡ position (λ s. is_event s.step) behind.now }
 {
     behind.iter().position(|s| is_event(&s.step))
 }
 
-fn last_event(before: &[Stood]) -> Option<usize>
+fn last_event(before: &[PlacedStep]) -> Option<usize>
     ensures within { IfSome result (λ n. n ≤ length before.now) }
     ensures value { result ≡ position (λ s. is_event s.step) (reverse before.now) }
 {
     before.iter().rev().position(|s| is_event(&s.step))
 }
 
-fn first_note(behind: &[Stood]) -> Option<usize>
+fn first_note(behind: &[PlacedStep]) -> Option<usize>
     ensures within { IfSome result (λ n. n ≤ length behind.now) }
     ensures value { result ≡ position (λ s. is_note s.step) behind.now }
 {
     behind.iter().position(|s| is_note(&s.step))
 }
 
-fn last_note(before: &[Stood]) -> Option<usize>
+fn last_note(before: &[PlacedStep]) -> Option<usize>
     ensures within { IfSome result (λ n. n ≤ length before.now) }
     ensures value { result ≡ position (λ s. is_note s.step) (reverse before.now) }
 {
     before.iter().rev().position(|s| is_note(&s.step))
 }
 
-fn first_tie_stop(behind: &[Stood]) -> Option<usize>
+fn first_tie_stop(behind: &[PlacedStep]) -> Option<usize>
     ensures within { IfSome result (λ n. n ≤ length behind.now) }
     ensures value { result ≡ position (λ s. is_tie_stop s.step) behind.now }
 {
@@ -44,9 +44,9 @@ fn first_tie_stop(behind: &[Stood]) -> Option<usize>
 
 /// The steps before a place.
 #[tactic(auto, using(crate::proofs::Positions::up_to_place))]
-fn up_to(behind: &[Stood], place: Option<usize>) -> &[Stood]
+fn up_to(behind: &[PlacedStep], place: Option<usize>) -> &[PlacedStep]
     requires { IfSome place (λ n. n ≤ length behind.now) }
-    ensures value { (test : Stood → Bool) → place ≡ position test behind.now → result.now ≡ before_first test behind.now }
+    ensures value { (test : PlacedStep → Bool) → place ≡ position test behind.now → result.now ≡ before_first test behind.now }
     ensures within { length result.now ≤ length behind.now }
 {
     behind.split_at(place.unwrap_or(behind.len())).0
@@ -54,9 +54,9 @@ fn up_to(behind: &[Stood], place: Option<usize>) -> &[Stood]
 
 /// The steps behind a place that is counted from the end.
 #[tactic(auto, using(crate::proofs::Positions::back_to_place))]
-fn back_to(before: &[Stood], place: Option<usize>) -> &[Stood]
+fn back_to(before: &[PlacedStep], place: Option<usize>) -> &[PlacedStep]
     requires { IfSome place (λ n. n ≤ length before.now) }
-    ensures value { (test : Stood → Bool) → place ≡ position test (reverse before.now) → result.now ≡ reverse (before_first test (reverse before.now)) }
+    ensures value { (test : PlacedStep → Bool) → place ≡ position test (reverse before.now) → result.now ≡ reverse (before_first test (reverse before.now)) }
     ensures within { length result.now ≤ length before.now }
 {
     let count = place.unwrap_or(before.len());
@@ -65,7 +65,7 @@ fn back_to(before: &[Stood], place: Option<usize>) -> &[Stood]
 
 /// The steps since the event before, in the order of the text.
 #[tactic(auto, unfolding(crate::specs::Looks::since_event))]
-pub fn since_event(before: &[Stood]) -> &[Stood]
+pub fn since_event(before: &[PlacedStep]) -> &[PlacedStep]
     ensures value { result.now ≡ since_event (reverse before.now) }
     ensures within { length result.now ≤ length before.now }
 {
@@ -74,7 +74,7 @@ pub fn since_event(before: &[Stood]) -> &[Stood]
 
 /// The steps since the note before, in the order of the text.
 #[tactic(auto, unfolding(crate::specs::Looks::since_note))]
-pub fn since_note(before: &[Stood]) -> &[Stood]
+pub fn since_note(before: &[PlacedStep]) -> &[PlacedStep]
     ensures value { result.now ≡ since_note (reverse before.now) }
     ensures within { length result.now ≤ length before.now }
 {
@@ -83,7 +83,7 @@ pub fn since_note(before: &[Stood]) -> &[Stood]
 
 /// The steps up to the next event.
 #[tactic(auto, unfolding(crate::specs::Looks::to_event))]
-pub fn to_event(behind: &[Stood]) -> &[Stood]
+pub fn to_event(behind: &[PlacedStep]) -> &[PlacedStep]
     ensures value { result.now ≡ to_event behind.now }
     ensures within { length result.now ≤ length behind.now }
 {
@@ -92,20 +92,20 @@ pub fn to_event(behind: &[Stood]) -> &[Stood]
 
 /// The steps up to the next note.
 #[tactic(auto, unfolding(crate::specs::Looks::to_note))]
-pub fn to_note(behind: &[Stood]) -> &[Stood]
+pub fn to_note(behind: &[PlacedStep]) -> &[PlacedStep]
     ensures value { result.now ≡ to_note behind.now }
     ensures within { length result.now ≤ length behind.now }
 {
     up_to(behind, first_note(behind))
 }
 
-fn any_tie(steps: &[Stood]) -> bool
+fn any_tie(steps: &[PlacedStep]) -> bool
     ensures { result ≡ list_any (λ s. is_tie s.step) steps.now }
 {
     steps.iter().any(|s| is_tie(&s.step))
 }
 
-fn any_bar(steps: &[Stood]) -> bool
+fn any_bar(steps: &[PlacedStep]) -> bool
     ensures { result ≡ list_any (λ s. is_bar s.step) steps.now }
 {
     steps.iter().any(|s| is_bar(&s.step))
@@ -113,21 +113,21 @@ fn any_bar(steps: &[Stood]) -> bool
 
 /// Whether a space or the end of a line is among some steps.
 #[tactic(auto, unfolding(crate::specs::Looks::has_parting))]
-pub fn has_parting(waits: &[Stood]) -> bool
+pub fn has_parting(waits: &[PlacedStep]) -> bool
     ensures { result ≡ has_parting waits.now }
 {
     waits.iter().any(|s| is_parting(&s.step))
 }
 
 /// Whether the note before the place is tied.
-#[tactic(auto, unfolding(crate::specs::Looks::is_tied))]
-pub fn is_tied(behind: &[Stood]) -> bool
-    ensures { result ≡ is_tied behind.now }
+#[tactic(auto, unfolding(crate::specs::Looks::is_sound_tied))]
+pub fn is_sound_tied(behind: &[PlacedStep]) -> bool
+    ensures { result ≡ is_sound_tied behind.now }
 {
     any_tie(up_to(behind, first_tie_stop(behind)))
 }
 
-fn count_slurs_on(steps: &[Stood]) -> u32
+fn count_slurs_on(steps: &[PlacedStep]) -> u32
     requires { length steps.now ≤ 2 ^ 30 }
     ensures { result ≡ count_by (λ s. is_slur_on s.step) steps.now }
 {
@@ -140,7 +140,7 @@ fn count_slurs_on(steps: &[Stood]) -> u32
     count
 }
 
-fn count_slurs_off(steps: &[Stood]) -> u32
+fn count_slurs_off(steps: &[PlacedStep]) -> u32
     requires { length steps.now ≤ 2 ^ 30 }
     ensures { result ≡ count_by (λ s. is_slur_off s.step) steps.now }
 {
@@ -155,7 +155,7 @@ fn count_slurs_off(steps: &[Stood]) -> u32
 
 /// The slurs that begin at a note at the place.
 #[tactic(auto, unfolding(crate::specs::Looks::slurs_begun))]
-pub fn slurs_begun(before: &[Stood]) -> u32
+pub fn slurs_begun(before: &[PlacedStep]) -> u32
     requires { length before.now ≤ 2 ^ 30 }
     ensures { result ≡ slurs_begun (reverse before.now) }
 {
@@ -164,7 +164,7 @@ pub fn slurs_begun(before: &[Stood]) -> u32
 
 /// The slurs that end at the note before the place.
 #[tactic(auto, unfolding(crate::specs::Looks::slurs_ended))]
-pub fn slurs_ended(behind: &[Stood]) -> u32
+pub fn slurs_ended(behind: &[PlacedStep]) -> u32
     requires { length behind.now ≤ 2 ^ 30 }
     ensures { result ≡ slurs_ended behind.now }
 {
@@ -172,27 +172,27 @@ pub fn slurs_ended(behind: &[Stood]) -> u32
 }
 
 #[tactic(auto, unfolding(crate::specs::Looks::nearest_event))]
-fn event_before(before: &[Stood]) -> Option<&Stood>
+fn event_before(before: &[PlacedStep]) -> Option<&PlacedStep>
     ensures { option_copied result ≡ nearest_event (reverse before.now) }
 {
     before.iter().rev().find(|s| is_event(&s.step))
 }
 
 #[tactic(auto, unfolding(crate::specs::Looks::nearest_event))]
-fn event_behind(behind: &[Stood]) -> Option<&Stood>
+fn event_behind(behind: &[PlacedStep]) -> Option<&PlacedStep>
     ensures { option_copied result ≡ nearest_event behind.now }
 {
     behind.iter().find(|s| is_event(&s.step))
 }
 
-fn first_broken(steps: &[Stood]) -> Option<&Stood>
+fn first_broken(steps: &[PlacedStep]) -> Option<&PlacedStep>
     ensures { option_copied result ≡ find (λ s. is_broken s.step) steps.now }
 {
     steps.iter().find(|s| is_broken(&s.step))
 }
 
 #[tactic(auto, unfolding(crate::specs::Looks::is_some_sound))]
-fn is_some_sound(s: Option<&Stood>) -> bool
+fn is_some_sound(s: Option<&PlacedStep>) -> bool
     ensures { result ≡ is_some_sound (option_copied s.entry) }
 {
     match s {
@@ -202,7 +202,7 @@ fn is_some_sound(s: Option<&Stood>) -> bool
 }
 
 #[tactic(auto, unfolding(crate::specs::Looks::broken_among))]
-fn broken_among(between: &[Stood]) -> Option<&Stood>
+fn broken_among(between: &[PlacedStep]) -> Option<&PlacedStep>
     ensures { option_copied result ≡ broken_among between.now }
 {
     if any_bar(between) {
@@ -214,7 +214,7 @@ fn broken_among(between: &[Stood]) -> Option<&Stood>
 
 /// The broken rhythm between an event at the place and the event before it.
 #[tactic(auto, unfolding(crate::specs::Looks::broken_before))]
-pub fn broken_before(before: &[Stood]) -> Option<&Stood>
+pub fn broken_before(before: &[PlacedStep]) -> Option<&PlacedStep>
     ensures { option_copied result ≡ broken_before (reverse before.now) }
 {
     let between = since_event(before);
@@ -230,7 +230,7 @@ pub fn broken_before(before: &[Stood]) -> Option<&Stood>
 
 /// The broken rhythm between an event before the place and the event behind it.
 #[tactic(auto, unfolding(crate::specs::Looks::broken_behind))]
-pub fn broken_behind(behind: &[Stood]) -> Option<&Stood>
+pub fn broken_behind(behind: &[PlacedStep]) -> Option<&PlacedStep>
     ensures { option_copied result ≡ broken_behind behind.now }
 {
     let between = to_event(behind);
@@ -244,13 +244,13 @@ pub fn broken_behind(behind: &[Stood]) -> Option<&Stood>
     }
 }
 
-fn left_stop(before: &[Stood]) -> Option<&Stood>
+fn left_stop(before: &[PlacedStep]) -> Option<&PlacedStep>
     ensures { option_copied result ≡ find (λ s. is_left_stop s.step) (reverse before.now) }
 {
     before.iter().rev().find(|s| is_left_stop(&s.step))
 }
 
-fn right_stop(behind: &[Stood]) -> Option<&Stood>
+fn right_stop(behind: &[PlacedStep]) -> Option<&PlacedStep>
     ensures { option_copied result ≡ find (λ s. is_event_or_bar s.step) behind.now }
 {
     behind.iter().find(|s| is_event_or_bar(&s.step))
@@ -258,7 +258,7 @@ fn right_stop(behind: &[Stood]) -> Option<&Stood>
 
 /// Whether a broken rhythm at the place has its left side.
 #[tactic(auto, unfolding(crate::specs::Looks::has_left))]
-pub fn has_left(before: &[Stood]) -> bool
+pub fn has_left(before: &[PlacedStep]) -> bool
     ensures { result ≡ has_left (reverse before.now) }
 {
     is_some_sound(left_stop(before))
@@ -266,7 +266,7 @@ pub fn has_left(before: &[Stood]) -> bool
 
 /// Whether a broken rhythm before the place has its right side.
 #[tactic(auto, unfolding(crate::specs::Looks::has_right))]
-pub fn has_right(behind: &[Stood]) -> bool
+pub fn has_right(behind: &[PlacedStep]) -> bool
     ensures { result ≡ has_right behind.now }
 {
     is_some_sound(right_stop(behind))

@@ -1,12 +1,12 @@
-use crate::kept::KeptSound;
-use abc_fields::{KeyText, VoiceDef};
-use abc_tokens::{Apart, GraceChord};
+use crate::stored::StoredSound;
+use abc_field::{KeyText, VoiceDef};
+use abc_music::{Boxed, GraceChord};
 use mus_units::{Bar, Clef, Deco, Few, Frac, Head, Meter, Row, Text};
 
 /// A note, a chord or a rest as it is written: a rest has no heads. Its length is
 /// `num / den` units, not reduced; `decos` are those written inside a chord.
 #[derive(Drop)]
-pub struct Sound {
+pub struct WrittenSound {
     pub heads: Few<Head>,
     pub seen: bool,
     pub decos: Row<Deco>,
@@ -18,7 +18,7 @@ pub struct Sound {
 /// `Break` is a line break that is on, `LineEnd` the end of a physical line.
 #[derive(Drop)]
 pub enum Step {
-    Sound(KeptSound),
+    Sound(StoredSound),
     Measures { seen: bool, count: u16 },
     Grace { slash: bool, body: Row<GraceChord> },
     Tuplet { p: u8, q: u8, r: u8 },
@@ -28,9 +28,9 @@ pub enum Step {
     Broken { right: bool, dots: u8 },
     Bar(Bar),
     Ending(Text),
-    Deco(Apart<Deco>),
+    Deco(Boxed<Deco>),
     Says(Text),
-    Key(Apart<KeyText>),
+    Key(Boxed<KeyText>),
     Meter(Meter),
     Unit(Frac),
     Clef(Clef),
@@ -41,7 +41,7 @@ pub enum Step {
 
 /// A step, and the line and the column of its first byte.
 #[derive(Drop)]
-pub struct Stood {
+pub struct PlacedStep {
     pub step: Step,
     pub line: u32,
     pub column: u32,
@@ -51,8 +51,8 @@ pub struct Stood {
 /// voice that becomes current, or the text of a `w:` line. `joined` tells that the line ends in a
 /// backslash, `breaks` that its end is a line break.
 #[derive(Drop)]
-pub enum Item {
-    Step(Stood),
+pub enum BodyItem {
+    Step(PlacedStep),
     LineEnd {
         joined: bool,
         breaks: bool,

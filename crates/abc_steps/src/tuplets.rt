@@ -1,15 +1,15 @@
 ghost use Rattle.std.specs.Prelude.{◌≡◌};
-ghost use Rattle.abc_steps.specs.Tuplets.{or_default, fits, one_less, after_event, opened, taking_behind, is_compound, usual_q};
+ghost use Rattle.abc_steps.specs.Tuplets.{or_default, fits, one_less, after_event, with_tuplet_opened, open_tuplets_after, is_compound, usual_q};
 
 use crate::step::Step;
 use mus_units::Meter;
 
 /// How many events the open tuplets still take: none is open, one is, or one within another.
 #[derive(Clone, Copy, PartialEq, Eq)]
-pub enum Taking {
+pub enum OpenTuplets {
     Nothing,
-    One { left: u8 },
-    Two { inner: u8, outer: u8 },
+    Single { left: u8 },
+    Nested { inner: u8, outer: u8 },
 }
 
 /// A number of a tuplet, or the usual one where it is left out.
@@ -21,38 +21,38 @@ pub fn or_default(usual: u8, given: u8) -> u8
 
 /// Whether a tuplet that takes `r` events may begin.
 #[tactic(auto, unfolding(crate::specs::Tuplets::fits))]
-pub fn fits(r: u8, taking: Taking) -> bool
+pub fn fits(r: u8, taking: OpenTuplets) -> bool
     ensures { result ≡ fits r taking }
 {
     match taking {
-        Taking::Nothing => true,
-        Taking::One { left } => r <= left,
-        Taking::Two { inner: _, outer: _ } => false,
+        OpenTuplets::Nothing => true,
+        OpenTuplets::Single { left } => r <= left,
+        OpenTuplets::Nested { inner: _, outer: _ } => false,
     }
 }
 
-fn one_less(left: u8) -> Taking
+fn one_less(left: u8) -> OpenTuplets
     ensures { result ≡ one_less left }
 {
     if left <= 1 {
-        Taking::Nothing
+        OpenTuplets::Nothing
     } else {
-        Taking::One { left: left - 1 }
+        OpenTuplets::Single { left: left - 1 }
     }
 }
 
 #[tactic(auto, unfolding(crate::specs::Tuplets::after_event))]
-fn after_event(taking: Taking) -> Taking
+fn after_event(taking: OpenTuplets) -> OpenTuplets
     ensures { result ≡ after_event taking }
 {
     match taking {
-        Taking::Nothing => Taking::Nothing,
-        Taking::One { left } => one_less(left),
-        Taking::Two { inner, outer } => {
+        OpenTuplets::Nothing => OpenTuplets::Nothing,
+        OpenTuplets::Single { left } => one_less(left),
+        OpenTuplets::Nested { inner, outer } => {
             if inner <= 1 {
                 one_less(outer)
             } else {
-                Taking::Two {
+                OpenTuplets::Nested {
                     inner: inner - 1,
                     outer: outer.saturating_sub(1),
                 }
@@ -61,14 +61,14 @@ fn after_event(taking: Taking) -> Taking
     }
 }
 
-fn opened(r: u8, taking: Taking) -> Taking
-    ensures { result ≡ opened r taking }
+fn with_tuplet_opened(r: u8, taking: OpenTuplets) -> OpenTuplets
+    ensures { result ≡ with_tuplet_opened r taking }
 {
     match taking {
-        Taking::Nothing => Taking::One { left: r },
-        Taking::One { left } => {
+        OpenTuplets::Nothing => OpenTuplets::Single { left: r },
+        OpenTuplets::Single { left } => {
             if r <= left {
-                Taking::Two {
+                OpenTuplets::Nested {
                     inner: r,
                     outer: left,
                 }
@@ -76,20 +76,20 @@ fn opened(r: u8, taking: Taking) -> Taking
                 taking
             }
         }
-        Taking::Two { inner: _, outer: _ } => taking,
+        OpenTuplets::Nested { inner: _, outer: _ } => taking,
     }
 }
 
 /// What the open tuplets take behind a step.
-#[tactic(auto, unfolding(crate::specs::Tuplets::taking_behind))]
-pub fn taking_behind(s: &Step, taking: Taking) -> Taking
-    ensures { result ≡ taking_behind s.now taking }
+#[tactic(auto, unfolding(crate::specs::Tuplets::open_tuplets_after))]
+pub fn open_tuplets_after(s: &Step, taking: OpenTuplets) -> OpenTuplets
+    ensures { result ≡ open_tuplets_after s.now taking }
 {
     match s {
         Step::Sound(_) => after_event(taking),
-        Step::Measures { seen: _, count: _ } => Taking::Nothing,
-        Step::Bar(_) => Taking::Nothing,
-        Step::Tuplet { p, q: _, r } => opened(or_default(*p, *r), taking),
+        Step::Measures { seen: _, count: _ } => OpenTuplets::Nothing,
+        Step::Bar(_) => OpenTuplets::Nothing,
+        Step::Tuplet { p, q: _, r } => with_tuplet_opened(or_default(*p, *r), taking),
         _ => taking,
     }
 }

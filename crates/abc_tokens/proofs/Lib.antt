@@ -1,3 +1,7 @@
-pub mod Fronts
-pub mod GoodLaws
-pub mod Line
+pub mod Again
+pub mod Bars
+pub mod Exact
+pub mod Groups
+pub mod Names
+pub mod Numbers
+pub mod Writing

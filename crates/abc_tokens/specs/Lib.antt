@@ -1,2 +1,2 @@
-pub mod Good
-pub mod Tokens
+pub mod Again
+pub mod Plain

@@ -1,10 +1,9 @@
-//! The tokens of a music line, with the columns where they begin, and the first fault of the line.
+//! Tokens of a music line as text: each in its one plain spelling, with a backquote between two.
 #![tactic(auto)]
 
-pub mod reader;
-pub mod token;
+pub mod bar;
+pub mod group;
+pub mod note;
+pub mod speller;
 
-pub use abc_pieces::{Apart, GraceChord, Len, Token, WrittenChord};
-pub use mus_units::{Bar, Deco, Head};
-pub use reader::{read_front, read_music, read_part, start};
-pub use token::{Behind, Front, Part, Place, Placed};
+pub use speller::spell;

@@ -1,8 +1,8 @@
 -- Where notes have events of their own, the words of an event are those of its own row.
 use Rattle.std.{proofs.{Common.{◌≡◌, ℕ, zero, suc, ◌+◌, ◌<◌, ◌≤◌, List, [], ◌∷◌, ◌++◌, Bool, true, false, cond, length, map, get_or, slice_index_or, inl, inr, refl, sym, ap, ◌∙◌, arith, append_assoc, append-nil, reverse, nat_lt, slice_get, length-append}, lemmas.{Bool.{cases_lt, eqb-true, ne_eqb}, List.{get_or_default, reverse-append, Elements.{All-nil, All-cons, All-head, All-tail}, FromFn.get_or-map-range_with_len}}}, specs.{Prelude.{Option, Some, None, filter, ◌==◌, ◌⊎◌}, List.{All, range_with_len}, Option.option_or}}
 use Rattle.mus_lyric.specs.{declared.{singing.{NoteAt.NoteAt, Sung.Sung}, syllable.Syl.{Syl, TheVariants.{Print, Skip, Bar}}}, Syllables.syllables_of, Singing.{first_measure, notes_from, on_first, sung_from, sung_on}}
-use Rattle.abc_steps.specs.declared.step.Item.{Item}
-use Rattle.abc_words.{specs.{Words.{AreApart, end_if, event_words, music_row, music_rows, note_at, notes_on, own_word, row_end, row_ends, row_of, sung_in, sung_with, verse_sung, word_at, word_of, words_of}, declared.music.{MusicRow.MusicRow, SungNote.SungNote}, Rows.{row_at, row_behind, row_count}, Verses.{verse_count, verses_of}}, proofs.{Lines.row_of_within, WordLaws.or_none}}
+use Rattle.abc_steps.specs.declared.step.BodyItem.{BodyItem}
+use Rattle.abc_words.{specs.{Words.{AreOfDistinctEvents, end_if, event_words, music_row, music_rows, sung_note_at, notes_on, own_word, row_end, row_ends, row_of, sung_in, sung_with, verse_sung, word_at, word_of, words_of_events}, declared.music.{MusicRow.MusicRow, SungNote.SungNote}, Rows.{music_row_at, row_behind, row_count}, Verses.{verse_count, verses_of_voice}}, proofs.{Lines.row_of_within, WordLaws.or_none}}
 
 -- notes none of which is this event's
 abbrev IsFree : ℕ → List NoteAt → Type 0
@@ -47,9 +47,9 @@ free_elsewhere : (ends : List ℕ) (event row other : ℕ) (notes : List SungNot
 free_elsewhere ends event row other [] stand apart = All-nil (λ (m : NoteAt). m.event ≡ event → ⊥)
 free_elsewhere ends event row other (n ∷ notes) stand apart =
     by_test (row_of ends n.line == other) refl (free_elsewhere ends event row other notes (All-tail (λ (m : SungNote). m.event ≡ event → row_of ends m.line ≡ row) n notes stand) apart) where
-      by_test : (b : Bool) → (row_of ends n.line == other) ≡ b → IsFree event (notes_on other ends notes) → IsFree event (map note_at (cond b (n ∷ filter (λ m. row_of ends m.line == other) notes) (filter (λ m. row_of ends m.line == other) notes)))
+      by_test : (b : Bool) → (row_of ends n.line == other) ≡ b → IsFree event (notes_on other ends notes) → IsFree event (map sung_note_at (cond b (n ∷ filter (λ m. row_of ends m.line == other) notes) (filter (λ m. row_of ends m.line == other) notes)))
       by_test true here rest =
-          All-cons (λ (m : NoteAt). m.event ≡ event → ⊥) (note_at n) (notes_on other ends notes)
+          All-cons (λ (m : NoteAt). m.event ≡ event → ⊥) (sung_note_at n) (notes_on other ends notes)
           (λ is. apart (sym (eqb-true (row_of ends n.line) other here) ∙ All-head (λ (m : SungNote). m.event ≡ event → row_of ends m.line ≡ row) n notes stand is)) rest
       by_test false here rest = rest
 
@@ -85,26 +85,26 @@ one_sings rows verse event own from (suc n) none le less =
           ∙ (or_none (word_of (sung_in verse (rows from)) event) ∙ ap (λ r. word_of (sung_in verse (rows r)) event) here)
 
 -- a body has a row more than it has ends of rows
-row_more : (i : Item) (row : ℕ) → row_behind i row ≡ row + length (row_end i)
-row_more (Item.Step s) row = omega arith
-row_more (Item.LineEnd joined breaks line column) row = by_test joined where
+row_more : (i : BodyItem) (row : ℕ) → row_behind i row ≡ row + length (row_end i)
+row_more (BodyItem.Step s) row = omega arith
+row_more (BodyItem.LineEnd joined breaks line column) row = by_test joined where
   by_test : (b : Bool) → cond b row (row + 1) ≡ row + length (end_if b line)
   by_test true = omega arith
   by_test false = omega arith
-row_more (Item.Voice def line column) row = omega arith
-row_more (Item.Words text line) row = omega arith
+row_more (BodyItem.Voice def line column) row = omega arith
+row_more (BodyItem.Words text line) row = omega arith
 
-rows_behind : (items before : List Item) → row_at (reverse items ++ before) ≡ row_at before + length (row_ends items)
+rows_behind : (items before : List BodyItem) → music_row_at (reverse items ++ before) ≡ music_row_at before + length (row_ends items)
 rows_behind [] before = omega arith
 rows_behind (i ∷ items) before =
     let turned : reverse (i ∷ items) ++ before ≡ reverse items ++ (i ∷ before) = ap (λ xs. xs ++ before) (reverse-append (i ∷ []) items) ∙ append_assoc (reverse items) (i ∷ []) before in
-    let rest : row_at (reverse items ++ (i ∷ before)) ≡ row_behind i (row_at before) + length (row_ends items) = rows_behind items (i ∷ before) in
-    let here : row_behind i (row_at before) ≡ row_at before + length (row_end i) = row_more i (row_at before) in
-    let both : length (row_end i ++ row_ends items) ≡ length (row_end i) + length (row_ends items) = length-append (row_end i) (row_ends items) in ap row_at turned ∙ omega arith
+    let rest : music_row_at (reverse items ++ (i ∷ before)) ≡ row_behind i (music_row_at before) + length (row_ends items) = rows_behind items (i ∷ before) in
+    let here : row_behind i (music_row_at before) ≡ music_row_at before + length (row_end i) = row_more i (music_row_at before) in
+    let both : length (row_end i ++ row_ends items) ≡ length (row_end i) + length (row_ends items) = length-append (row_end i) (row_ends items) in ap music_row_at turned ∙ omega arith
 
-row_within : (items : List Item) (line : ℕ) → row_of (row_ends items) line < row_count items
+row_within : (items : List BodyItem) (line : ℕ) → row_of (row_ends items) line < row_count items
 row_within items line =
-    let whole : row_at (reverse items ++ []) ≡ row_at [] + length (row_ends items) = rows_behind items [] in let same : row_at (reverse items ++ []) ≡ row_at (reverse items) = ap row_at (append-nil (reverse items)) in
+    let whole : music_row_at (reverse items ++ []) ≡ music_row_at [] + length (row_ends items) = rows_behind items [] in let same : music_row_at (reverse items ++ []) ≡ music_row_at (reverse items) = ap music_row_at (append-nil (reverse items)) in
     let most : row_of (row_ends items) line ≤ length (row_ends items) = row_of_within (row_ends items) line in omega arith
 
 -- the place of an event and a verse
@@ -113,14 +113,14 @@ at_place rows verses count event verse less within =
     ap (λ ws. slice_index_or ws verse None) (get_or-map-range_with_len (event_words rows verses) 0 count event event [] less (omega arith))
     ∙ get_or-map-range_with_len (λ v. word_of (verse_sung rows v) event) 0 verses verse verse None within (omega arith)
 
-stand_apart : (ends : List ℕ) (notes : List SungNote) (i : ℕ) (d : SungNote) → AreApart notes → i < length notes → StandOn ends (get_or notes i d).event (row_of ends (get_or notes i d).line) notes
+stand_apart : (ends : List ℕ) (notes : List SungNote) (i : ℕ) (d : SungNote) → AreOfDistinctEvents notes → i < length notes → StandOn ends (get_or notes i d).event (row_of ends (get_or notes i d).line) notes
 stand_apart ends notes i d apart less k e inside same = let at : k ≡ i = apart k i e d inside less same in ap (λ (n : SungNote). row_of ends n.line) (ap (λ j. get_or notes j e) at ∙ get_or_default notes i e d less)
 
-pub own_words : (id unnamed : List ℕ) (items : List Item) (notes : List SungNote) (count i verse : ℕ) (d : SungNote) (words : List (List (Option (List ℕ))))
-    → words ≡ words_of id unnamed items notes count → AreApart notes → i < length notes → (get_or notes i d).event < count → verse < verse_count id unnamed items
+pub own_words : (id unnamed : List ℕ) (items : List BodyItem) (notes : List SungNote) (count i verse : ℕ) (d : SungNote) (words : List (List (Option (List ℕ))))
+    → words ≡ words_of_events id unnamed items notes count → AreOfDistinctEvents notes → i < length notes → (get_or notes i d).event < count → verse < verse_count id unnamed items
     → word_at words (get_or notes i d).event verse ≡ own_word id unnamed items notes (get_or notes i d) verse
 own_words id unnamed items notes count i verse d words are apart inside less within =
-    let rows : ℕ → MusicRow = music_row (verses_of id unnamed items) (row_ends items) notes in let own : ℕ = row_of (row_ends items) (get_or notes i d).line in
+    let rows : ℕ → MusicRow = music_row (verses_of_voice id unnamed items) (row_ends items) notes in let own : ℕ = row_of (row_ends items) (get_or notes i d).line in
     ap (λ ws. word_at ws (get_or notes i d).event verse) are
     ∙ (at_place (music_rows id unnamed items notes) (verse_count id unnamed items) count (get_or notes i d).event verse less within
     ∙ one_sings rows verse (get_or notes i d).event own 0 (row_count items)
@@ -130,10 +130,10 @@ own_words id unnamed items notes count i verse d words are apart inside less wit
 free_of : (ends : List ℕ) (event row : ℕ) (notes : List SungNote) → All (λ n. n.event ≡ event → ⊥) notes → StandOn ends event row notes
 free_of ends event row notes free k d inside same = absurd (free k d inside same)
 
-pub no_words_elsewhere : (id unnamed : List ℕ) (items : List Item) (notes : List SungNote) (count event verse : ℕ) (words : List (List (Option (List ℕ))))
-    → words ≡ words_of id unnamed items notes count → All (λ n. n.event ≡ event → ⊥) notes → event < count → verse < verse_count id unnamed items → word_at words event verse ≡ None
+pub no_words_elsewhere : (id unnamed : List ℕ) (items : List BodyItem) (notes : List SungNote) (count event verse : ℕ) (words : List (List (Option (List ℕ))))
+    → words ≡ words_of_events id unnamed items notes count → All (λ n. n.event ≡ event → ⊥) notes → event < count → verse < verse_count id unnamed items → word_at words event verse ≡ None
 no_words_elsewhere id unnamed items notes count event verse words are free less within =
-    let rows : ℕ → MusicRow = music_row (verses_of id unnamed items) (row_ends items) notes in
+    let rows : ℕ → MusicRow = music_row (verses_of_voice id unnamed items) (row_ends items) notes in
     ap (λ ws. word_at ws event verse) are ∙ (at_place (music_rows id unnamed items notes) (verse_count id unnamed items) count event verse less within
     ∙ all_silent rows verse event 0 (row_count items)
     (λ row le. silent event (notes_on row (row_ends items) notes) (slice_get (rows row).texts verse) (free_elsewhere (row_ends items) event (row + 1) row notes (free_of (row_ends items) event (row + 1) notes free) (λ same. let e : row ≡ row + 1 = same in absurd (omega arith)))))

@@ -1,7 +1,7 @@
 -- Verses stand on rows of the body; and a row without a fault has at most eight.
 use Rattle.std.{proofs.{Common.{◌≡◌, ℕ, ◌+◌, ◌<◌, List, [], ◌∷◌, ◌++◌, Bool, true, false, refl, cond, reverse, sym, ap, ◌∙◌, subst, arith, append_assoc, append-nil}, lemmas.List.{reverse-append, Elements.{All-nil, All-cons, All-append}}}, specs.{Prelude.{Option, Some, None, ⊤, fold, map, max}, List.{All, list_any, range_with_len}}}
-use Rattle.abc_steps.specs.declared.step.Item.{Item}
-use Rattle.abc_words.specs.{declared.rows.Place.Place, declared.verses.Verse.Verse, Rows.row_behind, Rows.row_at, Rows.row_count, Rows.is_line_of, Rows.last_row, Rows.place_at, Verses.is_words, Verses.verse_if, Verses.verse_at, Verses.verses_from, Verses.verses_of, Verses.number_on, Verses.verse_count, Verses.faults_from, Verses.first_of, Verses.verse_fault}
+use Rattle.abc_steps.specs.declared.step.BodyItem.{BodyItem}
+use Rattle.abc_words.specs.{declared.rows.RowState.RowState, declared.verses.Verse.Verse, Rows.row_behind, Rows.music_row_at, Rows.row_count, Rows.is_line_of, Rows.last_row, Rows.place_at, Verses.is_words_item, Verses.verse_if, Verses.verse_at, Verses.verses_from, Verses.verses_of_voice, Verses.number_on, Verses.verse_count, Verses.faults_from, Verses.first_verse_fault, Verses.verse_fault}
 
 abbrev IsWithin : ℕ → Verse → Type 0
 IsWithin n v = v.row < n
@@ -10,73 +10,73 @@ abbrev LastWithin : ℕ → Option ℕ → Type 0
 LastWithin n None = ⊤
 LastWithin n (Some row) = row < n
 
-row_before : (i : Item) (row n : ℕ) → row_behind i row < n → row < n
-row_before (Item.Step s) row n less = less
-row_before (Item.LineEnd joined breaks line column) row n less = by_test joined less where
+row_before : (i : BodyItem) (row n : ℕ) → row_behind i row < n → row < n
+row_before (BodyItem.Step s) row n less = less
+row_before (BodyItem.LineEnd joined breaks line column) row n less = by_test joined less where
   by_test : (b : Bool) → cond b row (row + 1) < n → row < n
   by_test true less = less
   by_test false less = omega arith
-row_before (Item.Voice def line column) row n less = less
-row_before (Item.Words text line) row n less = less
+row_before (BodyItem.Voice def line column) row n less = less
+row_before (BodyItem.Words text line) row n less = less
 
 -- the rows of a voice begin before their place
-last_within : (id unnamed : List ℕ) (before : List Item) (n : ℕ) → row_at before < n → LastWithin n (last_row id unnamed before)
+last_within : (id unnamed : List ℕ) (before : List BodyItem) (n : ℕ) → music_row_at before < n → LastWithin n (last_row id unnamed before)
 last_within id unnamed [] n less = tt
-last_within id unnamed (Item.Step s ∷ before) n less = last_within id unnamed before n less
-last_within id unnamed (Item.LineEnd joined breaks line column ∷ before) n less =
-    let here : row_at before < n = row_before (Item.LineEnd joined breaks line column) (row_at before) n less in
+last_within id unnamed (BodyItem.Step s ∷ before) n less = last_within id unnamed before n less
+last_within id unnamed (BodyItem.LineEnd joined breaks line column ∷ before) n less =
+    let here : music_row_at before < n = row_before (BodyItem.LineEnd joined breaks line column) (music_row_at before) n less in
     by_test (is_line_of id unnamed before) here (last_within id unnamed before n here) where
-      by_test : (b : Bool) → row_at before < n → LastWithin n (last_row id unnamed before) → LastWithin n (cond b (Some (row_at before)) (last_row id unnamed before))
+      by_test : (b : Bool) → music_row_at before < n → LastWithin n (last_row id unnamed before) → LastWithin n (cond b (Some (music_row_at before)) (last_row id unnamed before))
       by_test true here rest = here
       by_test false here rest = rest
-last_within id unnamed (Item.Voice def line column ∷ before) n less = last_within id unnamed before n less
-last_within id unnamed (Item.Words text line ∷ before) n less = last_within id unnamed before n less
+last_within id unnamed (BodyItem.Voice def line column ∷ before) n less = last_within id unnamed before n less
+last_within id unnamed (BodyItem.Words text line ∷ before) n less = last_within id unnamed before n less
 
-verse_within : (place : Place) (i : Item) (n : ℕ) → LastWithin n place.last → All (IsWithin n) (verse_at place i)
-verse_within place (Item.Step s) n h = All-nil (IsWithin n)
-verse_within place (Item.LineEnd joined breaks line column) n h = All-nil (IsWithin n)
-verse_within place (Item.Voice def line column) n h = All-nil (IsWithin n)
-verse_within place (Item.Words text line) n h = by_cases place.current place.last h where
+verse_within : (place : RowState) (i : BodyItem) (n : ℕ) → LastWithin n place.last → All (IsWithin n) (verse_at place i)
+verse_within place (BodyItem.Step s) n h = All-nil (IsWithin n)
+verse_within place (BodyItem.LineEnd joined breaks line column) n h = All-nil (IsWithin n)
+verse_within place (BodyItem.Voice def line column) n h = All-nil (IsWithin n)
+verse_within place (BodyItem.Words text line) n h = by_cases place.current place.last h where
   by_cases : (current : Bool) (last : Option ℕ) → LastWithin n last → All (IsWithin n) (verse_if current last text line)
   by_cases true (Some row) h = All-cons (IsWithin n) _ [] h (All-nil (IsWithin n))
   by_cases true None h = All-nil (IsWithin n)
   by_cases false last h = All-nil (IsWithin n)
 
 -- rows only rise
-rows_rise : (behind before : List Item) (n : ℕ) → row_at (behind ++ before) < n → row_at before < n
+rows_rise : (behind before : List BodyItem) (n : ℕ) → music_row_at (behind ++ before) < n → music_row_at before < n
 rows_rise [] before n less = less
-rows_rise (i ∷ behind) before n less = rows_rise behind before n (row_before i (row_at (behind ++ before)) n less)
+rows_rise (i ∷ behind) before n less = rows_rise behind before n (row_before i (music_row_at (behind ++ before)) n less)
 
-one_on : (i : Item) (before items : List Item) → reverse (i ∷ items) ++ before ≡ reverse items ++ (i ∷ before)
+one_on : (i : BodyItem) (before items : List BodyItem) → reverse (i ∷ items) ++ before ≡ reverse items ++ (i ∷ before)
 one_on i before items = ap (λ xs. xs ++ before) (reverse-append (i ∷ []) items) ∙ append_assoc (reverse items) (i ∷ []) before
 
-all_within : (id unnamed : List ℕ) (before items : List Item) (n : ℕ) → row_at (reverse items ++ before) < n → All (IsWithin n) (verses_from id unnamed before items)
+all_within : (id unnamed : List ℕ) (before items : List BodyItem) (n : ℕ) → music_row_at (reverse items ++ before) < n → All (IsWithin n) (verses_from id unnamed before items)
 all_within id unnamed before [] n less = All-nil (IsWithin n)
 all_within id unnamed before (i ∷ items) n less =
-    let here : row_at before < n = rows_rise (reverse (i ∷ items)) before n less in let more : row_at (reverse items ++ (i ∷ before)) < n = subst (λ xs. row_at xs < n) (one_on i before items) less in
+    let here : music_row_at before < n = rows_rise (reverse (i ∷ items)) before n less in let more : music_row_at (reverse items ++ (i ∷ before)) < n = subst (λ xs. music_row_at xs < n) (one_on i before items) less in
     All-append (IsWithin n) (verse_at (place_at id unnamed before) i) (verses_from id unnamed (i ∷ before) items)
     (verse_within (place_at id unnamed before) i n (last_within id unnamed before n here))
     (all_within id unnamed (i ∷ before) items n more)
 
-pub verses_within : (id unnamed : List ℕ) (items : List Item) → All (λ v. v.row < row_count items) (verses_of id unnamed items)
-verses_within id unnamed items = all_within id unnamed [] items (row_count items) (subst (λ xs. row_at xs < row_count items) (sym (append-nil (reverse items))) (omega arith))
+pub verses_within : (id unnamed : List ℕ) (items : List BodyItem) → All (λ v. v.row < row_count items) (verses_of_voice id unnamed items)
+verses_within id unnamed items = all_within id unnamed [] items (row_count items) (subst (λ xs. music_row_at xs < row_count items) (sym (append-nil (reverse items))) (omega arith))
 
-pub found_within : (id unnamed : List ℕ) (items : List Item) (verses : List Verse) (rows : ℕ) → verses ≡ verses_of id unnamed items → rows ≡ row_count items → All (λ v. v.row < rows) verses
+pub found_within : (id unnamed : List ℕ) (items : List BodyItem) (verses : List Verse) (rows : ℕ) → verses ≡ verses_of_voice id unnamed items → rows ≡ row_count items → All (λ v. v.row < rows) verses
 found_within id unnamed items verses rows are is =
-    let P : List Verse → Type 0 = λ vs. All (λ v. v.row < rows) vs in let Q : ℕ → Type 0 = λ n. All (λ v. v.row < n) (verses_of id unnamed items) in subst P (sym are) (subst Q (sym is) (verses_within id unnamed items))
+    let P : List Verse → Type 0 = λ vs. All (λ v. v.row < rows) vs in let Q : ℕ → Type 0 = λ n. All (λ v. v.row < n) (verses_of_voice id unnamed items) in subst P (sym are) (subst Q (sym is) (verses_within id unnamed items))
 
 -- ---- a body without words
-none_along : (id unnamed : List ℕ) (before items : List Item) → list_any is_words items ≡ false → verses_from id unnamed before items ≡ []
+none_along : (id unnamed : List ℕ) (before items : List BodyItem) → list_any is_words_item items ≡ false → verses_from id unnamed before items ≡ []
 none_along id unnamed before [] none = refl
-none_along id unnamed before (Item.Words text line ∷ items) none = absurd cc
+none_along id unnamed before (BodyItem.Words text line ∷ items) none = absurd cc
 none_along id unnamed before (i ∷ items) none = none_along id unnamed (i ∷ before) items none
 
 none_counted : (rows : List ℕ) → fold max 0 (map (λ row. number_on row []) rows) ≡ 0
 none_counted [] = refl
 none_counted (row ∷ rows) = none_counted rows
 
-pub no_words_no_count : (id unnamed : List ℕ) (items : List Item) → list_any is_words items ≡ false → 0 ≡ verse_count id unnamed items
+pub no_words_no_count : (id unnamed : List ℕ) (items : List BodyItem) → list_any is_words_item items ≡ false → 0 ≡ verse_count id unnamed items
 no_words_no_count id unnamed items none = let rows = range_with_len 0 (row_count items) in sym (ap (λ vs. fold max 0 (map (λ row. number_on row vs) rows)) (none_along id unnamed [] items none) ∙ none_counted rows)
 
-pub no_words_no_fault : (id unnamed : List ℕ) (items : List Item) → list_any is_words items ≡ false → None ≡ verse_fault id unnamed items
-no_words_no_fault id unnamed items none = ap (λ vs. first_of (faults_from [] vs)) (sym (none_along id unnamed [] items none))
+pub no_words_no_fault : (id unnamed : List ℕ) (items : List BodyItem) → list_any is_words_item items ≡ false → None ≡ verse_fault id unnamed items
+no_words_no_fault id unnamed items none = ap (λ vs. first_verse_fault (faults_from [] vs)) (sym (none_along id unnamed [] items none))

@@ -1,8 +1,8 @@
 -- The words of all verses, seen event by event.
 use Rattle.std.{proofs.{Common.{◌≡◌, ℕ, ◌<◌, ◌≤◌, List, [], ◌∷◌, ◌++◌, length, map, slice_index_or, refl, sym, ap, subst, ◌∙◌, arith, append-nil}, lemmas.{Option.slice_get_past, List.{Elements.{All-nil, All-cons}, FromFn.{get_or-map-range_with_len, length-map-range_with_len}}}}, specs.{Prelude.{Option, Some, None, slice_get}, List.{All, range_with_len}, Option.option_or}}
 use Rattle.mus_lyric.specs.declared.singing.Sung.{Sung}
-use Rattle.abc_words.{specs.{declared.{music.{MusicRow.MusicRow, SungNote.SungNote}, verses.Verse.Verse}, Rows.row_count, Verses.verses_of, Words.{event_words, music_row, music_rows, no_music, notes_on, row_ends, sung_in, sung_with, texts_on, verse_sung, with_notes, with_texts, word_of}}, proofs.Places.from_places}
-use Rattle.abc_steps.specs.declared.step.Item.{Item}
+use Rattle.abc_words.{specs.{declared.{music.{MusicRow.MusicRow, SungNote.SungNote}, verses.Verse.Verse}, Rows.row_count, Verses.verses_of_voice, Words.{event_words, music_row, music_rows, no_music, notes_on, row_ends, sung_in, sung_with, texts_on, verse_sung, with_notes, row_with_texts, word_of}}, proofs.Places.from_places}
+use Rattle.abc_steps.specs.declared.step.BodyItem.{BodyItem}
 
 pub or_none : {X : Type 0} (o : Option X) → option_or o None ≡ o
 or_none None = refl
@@ -32,20 +32,20 @@ pub all_long : (rows : List MusicRow) (verses count : ℕ) (words : List (List (
 all_long rows verses count words is = let P : List (List (Option (List ℕ))) → Type 0 = λ xs. All (λ ws. length ws ≡ verses) xs in subst P (sym is) (long_rows rows verses (range_with_len 0 count))
 
 -- a row that is filled
-pub filled : (verses : List Verse) (ends : List ℕ) (notes : List SungNote) (k : ℕ) (a b c : MusicRow) → a ≡ no_music → b ≡ with_texts a (texts_on k verses) → c ≡ with_notes b (notes_on k ends notes) → c ≡ music_row verses ends notes k
-filled verses ends notes k a b c empty texts all = all ∙ (ap (λ r. with_notes r (notes_on k ends notes)) (texts ∙ ap (λ r. with_texts r (texts_on k verses)) empty))
+pub filled : (verses : List Verse) (ends : List ℕ) (notes : List SungNote) (k : ℕ) (a b c : MusicRow) → a ≡ no_music → b ≡ row_with_texts a (texts_on k verses) → c ≡ with_notes b (notes_on k ends notes) → c ≡ music_row verses ends notes k
+filled verses ends notes k a b c empty texts all = all ∙ (ap (λ r. with_notes r (notes_on k ends notes)) (texts ∙ ap (λ r. row_with_texts r (texts_on k verses)) empty))
 
-pub rows_made : (id unnamed : List ℕ) (items : List Item) (notes : List SungNote) (verses : List Verse) (ends : List ℕ) (n : ℕ) (start texts all : List MusicRow)
-    → verses ≡ verses_of id unnamed items → ends ≡ row_ends items → n ≡ row_count items → length start ≡ n → length texts ≡ length start → length all ≡ length texts
-    → ((k : ℕ) → k < n → slice_index_or start k no_music ≡ no_music) → ((k : ℕ) → k < length start → slice_index_or texts k no_music ≡ with_texts (slice_index_or start k no_music) (texts_on k verses))
+pub rows_made : (id unnamed : List ℕ) (items : List BodyItem) (notes : List SungNote) (verses : List Verse) (ends : List ℕ) (n : ℕ) (start texts all : List MusicRow)
+    → verses ≡ verses_of_voice id unnamed items → ends ≡ row_ends items → n ≡ row_count items → length start ≡ n → length texts ≡ length start → length all ≡ length texts
+    → ((k : ℕ) → k < n → slice_index_or start k no_music ≡ no_music) → ((k : ℕ) → k < length start → slice_index_or texts k no_music ≡ row_with_texts (slice_index_or start k no_music) (texts_on k verses))
     → ((k : ℕ) → k < length texts → slice_index_or all k no_music ≡ with_notes (slice_index_or texts k no_music) (notes_on k ends notes)) → all ≡ music_rows id unnamed items notes
 rows_made id unnamed items notes verses ends n start texts all are ends_are rows long long_texts long_all empty with_them full =
     let made : all ≡ map (music_row verses ends notes) (range_with_len 0 n) =
     from_places (music_row verses ends notes) all n no_music (omega arith)
     (λ k less. filled verses ends notes k (slice_index_or start k no_music) (slice_index_or texts k no_music) (slice_index_or all k no_music)
     (empty k less) (with_them k (omega arith)) (full k (omega arith))) in
-    made ∙ (ap (λ vs. map (music_row vs ends notes) (range_with_len 0 n)) are ∙ (ap (λ es. map (music_row (verses_of id unnamed items) es notes) (range_with_len 0 n)) ends_are
-    ∙ ap (λ m. map (music_row (verses_of id unnamed items) (row_ends items) notes) (range_with_len 0 m)) rows))
+    made ∙ (ap (λ vs. map (music_row vs ends notes) (range_with_len 0 n)) are ∙ (ap (λ es. map (music_row (verses_of_voice id unnamed items) es notes) (range_with_len 0 n)) ends_are
+    ∙ ap (λ m. map (music_row (verses_of_voice id unnamed items) (row_ends items) notes) (range_with_len 0 m)) rows))
 
 -- a row without a text for a verse
 pub not_sung : (row : MusicRow) (texts : List (List ℕ)) (verse : ℕ) (sung : List Sung) → texts ≡ row.texts → length texts ≤ verse → sung ≡ sung ++ sung_in verse row

@@ -1,63 +1,63 @@
 -- The rows of a body, and which of them are a voice's. Music lines that a backslash joins are one
 -- row. What stands before a place is listed from the nearest on.
 use Rattle.std.specs.{Prelude.{ℕ, ◌+◌, List, [], ◌∷◌, Bool, false, not, ◌&&◌, ◌||◌, if◌then◌else◌, reverse, Option, Some, None}, Str.bytes_eq}
-use Rattle.{abc_steps.specs.declared.step.Item.{Item}, abc_items.specs.Voices.{claims, voice_next}, abc_words.specs.declared.rows.Place.{Place}}
+use Rattle.{abc_steps.specs.declared.step.BodyItem.{BodyItem}, abc_items.specs.Voices.{claims, voice_next}, abc_words.specs.declared.rows.RowState.{RowState}}
 
 -- the row of a place: how many music lines before it end without a backslash
-abbrev pub row_behind : Item → ℕ → ℕ
-row_behind (Item.LineEnd joined breaks line column) row = if joined then row else row + 1
+abbrev pub row_behind : BodyItem → ℕ → ℕ
+row_behind (BodyItem.LineEnd joined breaks line column) row = if joined then row else row + 1
 row_behind _ row = row
 
-abbrev pub row_at : List Item → ℕ
-row_at [] = 0
-row_at (i ∷ before) = row_behind i (row_at before)
+abbrev pub music_row_at : List BodyItem → ℕ
+music_row_at [] = 0
+music_row_at (i ∷ before) = row_behind i (music_row_at before)
 
 -- how many rows a body has, with that at its end
-abbrev pub row_count : List Item → ℕ
-row_count items = row_at (reverse items) + 1
+abbrev pub row_count : List BodyItem → ℕ
+row_count items = music_row_at (reverse items) + 1
 
 -- the voice that is current at a place: that of the last voice field, and `unnamed` before any
-abbrev pub voice_at : List ℕ → List Item → List ℕ
+abbrev pub voice_at : List ℕ → List BodyItem → List ℕ
 voice_at unnamed [] = unnamed
 voice_at unnamed (i ∷ before) = voice_next i (voice_at unnamed before)
 
-abbrev pub is_current : List ℕ → List ℕ → List Item → Bool
+abbrev pub is_current : List ℕ → List ℕ → List BodyItem → Bool
 is_current id unnamed before = bytes_eq id (voice_at unnamed before)
 
 -- whether a step before on the same physical line claims its voice
-abbrev pub is_claimed : List Item → Bool
+abbrev pub is_claimed : List BodyItem → Bool
 is_claimed [] = false
-is_claimed (Item.LineEnd joined breaks line column ∷ before) = false
-is_claimed (Item.Step s ∷ before) = claims s.step || is_claimed before
+is_claimed (BodyItem.LineEnd joined breaks line column ∷ before) = false
+is_claimed (BodyItem.Step s ∷ before) = claims s.step || is_claimed before
 is_claimed (i ∷ before) = is_claimed before
 
 -- whether one does while this voice is current
-abbrev pub is_own : List ℕ → List ℕ → List Item → Bool
+abbrev pub is_own : List ℕ → List ℕ → List BodyItem → Bool
 is_own id unnamed [] = false
-is_own id unnamed (Item.LineEnd joined breaks line column ∷ before) = false
-is_own id unnamed (Item.Step s ∷ before) = (claims s.step && is_current id unnamed before) || is_own id unnamed before
+is_own id unnamed (BodyItem.LineEnd joined breaks line column ∷ before) = false
+is_own id unnamed (BodyItem.Step s ∷ before) = (claims s.step && is_current id unnamed before) || is_own id unnamed before
 is_own id unnamed (i ∷ before) = is_own id unnamed before
 
 -- A physical line that ends at a place is a line of each voice that one of its steps claims; where
 -- none claims any, it is one of the voice that is current at its end.
-abbrev pub is_line_of : List ℕ → List ℕ → List Item → Bool
+abbrev pub is_line_of : List ℕ → List ℕ → List BodyItem → Bool
 is_line_of id unnamed before = is_own id unnamed before || (not (is_claimed before) && is_current id unnamed before)
 
 -- the row of the last line of a voice before a place
-abbrev pub last_row : List ℕ → List ℕ → List Item → Option ℕ
+abbrev pub last_row : List ℕ → List ℕ → List BodyItem → Option ℕ
 last_row id unnamed [] = None
-last_row id unnamed (Item.LineEnd joined breaks line column ∷ before) = if is_line_of id unnamed before then Some (row_at before) else last_row id unnamed before
+last_row id unnamed (BodyItem.LineEnd joined breaks line column ∷ before) = if is_line_of id unnamed before then Some (music_row_at before) else last_row id unnamed before
 last_row id unnamed (i ∷ before) = last_row id unnamed before
 
 -- what a walk along the items knows of a place
-abbrev pub place_at : List ℕ → List ℕ → List Item → Place
-place_at id unnamed before = record { row = row_at before; current = is_current id unnamed before; claimed = is_claimed before; own = is_own id unnamed before; last = last_row id unnamed before }
+abbrev pub place_at : List ℕ → List ℕ → List BodyItem → RowState
+place_at id unnamed before = record { row = music_row_at before; current = is_current id unnamed before; claimed = is_claimed before; own = is_own id unnamed before; last = last_row id unnamed before }
 
 -- what a walk knows behind a step, and behind the end of a music line
-abbrev pub behind_step : Place → Bool → Place
+abbrev pub behind_step : RowState → Bool → RowState
 behind_step place claims = record place { claimed = claims || place.claimed; own = (claims && place.current) || place.own }
 
-abbrev pub behind_end : Place → Bool → Place
+abbrev pub behind_end : RowState → Bool → RowState
 behind_end place joined = record {
   row = if joined then place.row else place.row + 1;
   current = place.current;

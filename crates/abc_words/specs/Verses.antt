@@ -1,6 +1,6 @@
 -- The verses of a voice: the texts of its `w:` lines, each on its last row there; how many verses the voice has; and which texts are too many.
 use Rattle.std.specs.{Prelude.{ℕ, ◌==◌, nat_le, max, List, [], ◌∷◌, ◌++◌, Bool, true, false, if◌then◌else◌, map, fold, count_by, Option, Some, None}, List.range_with_len}
-use Rattle.{abc_lines.specs.declared.fault.{Fault.Fault, FaultKind.FaultKind}, abc_steps.specs.declared.step.Item.{Item}, abc_words.specs.{declared.rows.Place.Place, declared.verses.Verse.Verse, Rows.place_at, Rows.row_count}}
+use Rattle.{abc_lines.specs.declared.fault.{Fault.Fault, FaultKind.FaultKind}, abc_steps.specs.declared.step.BodyItem.{BodyItem}, abc_words.specs.{declared.rows.RowState.RowState, declared.verses.Verse.Verse, Rows.place_at, Rows.row_count}}
 
 -- Words belong to the voice that is current, on its last row; they are passed over where it has none.
 abbrev pub verse_if : Bool → Option ℕ → List ℕ → ℕ → List Verse
@@ -8,21 +8,21 @@ verse_if true (Some row) text line = record { row = row; line = line; text = tex
 verse_if true None text line = []
 verse_if false last text line = []
 
-abbrev pub verse_at : Place → Item → List Verse
-verse_at place (Item.Words text line) = verse_if place.current place.last text line
+abbrev pub verse_at : RowState → BodyItem → List Verse
+verse_at place (BodyItem.Words text line) = verse_if place.current place.last text line
 verse_at place _ = []
 
-abbrev pub is_words : Item → Bool
-is_words (Item.Words text line) = true
-is_words _ = false
+abbrev pub is_words_item : BodyItem → Bool
+is_words_item (BodyItem.Words text line) = true
+is_words_item _ = false
 
-abbrev pub verses_from : List ℕ → List ℕ → List Item → List Item → List Verse
+abbrev pub verses_from : List ℕ → List ℕ → List BodyItem → List BodyItem → List Verse
 verses_from id unnamed before [] = []
 verses_from id unnamed before (i ∷ behind) = verse_at (place_at id unnamed before) i ++ verses_from id unnamed (i ∷ before) behind
 
 -- the verses of a voice, in the order of the text
-abbrev pub verses_of : List ℕ → List ℕ → List Item → List Verse
-verses_of id unnamed items = verses_from id unnamed [] items
+abbrev pub verses_of_voice : List ℕ → List ℕ → List BodyItem → List Verse
+verses_of_voice id unnamed items = verses_from id unnamed [] items
 
 abbrev pub number_on : ℕ → List Verse → ℕ
 number_on row verses = count_by (λ v. v.row == row) verses
@@ -31,8 +31,8 @@ number_on row verses = count_by (λ v. v.row == row) verses
 abbrev pub most_on : ℕ → List Verse → ℕ
 most_on rows verses = fold max 0 (map (λ row. number_on row verses) (range_with_len 0 rows))
 
-abbrev pub verse_count : List ℕ → List ℕ → List Item → ℕ
-verse_count id unnamed items = most_on (row_count items) (verses_of id unnamed items)
+abbrev pub verse_count : List ℕ → List ℕ → List BodyItem → ℕ
+verse_count id unnamed items = most_on (row_count items) (verses_of_voice id unnamed items)
 
 -- a verse with eight or more before it on its row is one too many
 abbrev pub too_many : ℕ → Fault
@@ -45,13 +45,13 @@ abbrev pub faults_from : List Verse → List Verse → List Fault
 faults_from before [] = []
 faults_from before (v ∷ behind) = fault_in before v ++ faults_from (before ++ v ∷ []) behind
 
-abbrev pub verse_faults : List ℕ → List ℕ → List Item → List Fault
-verse_faults id unnamed items = faults_from [] (verses_of id unnamed items)
+abbrev pub verse_faults : List ℕ → List ℕ → List BodyItem → List Fault
+verse_faults id unnamed items = faults_from [] (verses_of_voice id unnamed items)
 
-abbrev pub first_of : List Fault → Option Fault
-first_of [] = None
-first_of (f ∷ fs) = Some f
+abbrev pub first_verse_fault : List Fault → Option Fault
+first_verse_fault [] = None
+first_verse_fault (f ∷ fs) = Some f
 
 -- the first fault of a voice's verses
-abbrev pub verse_fault : List ℕ → List ℕ → List Item → Option Fault
-verse_fault id unnamed items = first_of (verse_faults id unnamed items)
+abbrev pub verse_fault : List ℕ → List ℕ → List BodyItem → Option Fault
+verse_fault id unnamed items = first_verse_fault (verse_faults id unnamed items)

@@ -1,19 +1,19 @@
 -- The words of a voice's events. On each row of the body stand texts of `w:` lines, its verses, and
 -- notes of the voice; a verse is sung on the notes of each row by the text that the row has for it.
 use Rattle.std.specs.{Prelude.{ℕ, ◌==◌, nat_lt, List, [], ◌∷◌, ◌++◌, Bool, true, false, map, filter, flat_map, find, length, slice_get, slice_index_or, ◌≡◌, ◌<◌, Option, Some, None, option_map}, List.{All, prefix_len, range_with_len}}
-use Rattle.{mus_lyric.specs.{declared.singing.NoteAt.NoteAt, declared.singing.Sung.Sung, Syllables.syllables_of, Singing.sung_on}, abc_steps.specs.declared.step.Item.{Item}}
-use Rattle.abc_words.specs.{declared.verses.Verse.Verse, declared.music.SungNote.SungNote, declared.music.MusicRow.MusicRow, Rows.row_count, Verses.verses_of, Verses.verse_count}
+use Rattle.{mus_lyric.specs.{declared.singing.NoteAt.NoteAt, declared.singing.Sung.Sung, Syllables.syllables_of, Singing.sung_on}, abc_steps.specs.declared.step.BodyItem.{BodyItem}}
+use Rattle.abc_words.specs.{declared.verses.Verse.Verse, declared.music.SungNote.SungNote, declared.music.MusicRow.MusicRow, Rows.row_count, Verses.verses_of_voice, Verses.verse_count}
 
 -- the physical lines at which rows end
 abbrev pub end_if : Bool → ℕ → List ℕ
 end_if true line = []
 end_if false line = line ∷ []
 
-abbrev pub row_end : Item → List ℕ
-row_end (Item.LineEnd joined breaks line column) = end_if joined line
+abbrev pub row_end : BodyItem → List ℕ
+row_end (BodyItem.LineEnd joined breaks line column) = end_if joined line
 row_end _ = []
 
-abbrev pub row_ends : List Item → List ℕ
+abbrev pub row_ends : List BodyItem → List ℕ
 row_ends items = flat_map row_end items
 
 -- the row of a physical line: how many rows end before it
@@ -23,17 +23,17 @@ row_of ends line = prefix_len (λ e. nat_lt e line) ends
 abbrev pub texts_on : ℕ → List Verse → List (List ℕ)
 texts_on row verses = map (λ v. v.text) (filter (λ v. v.row == row) verses)
 
-abbrev pub note_at : SungNote → NoteAt
-note_at note = record { event = note.event; measure = note.measure }
+abbrev pub sung_note_at : SungNote → NoteAt
+sung_note_at note = record { event = note.event; measure = note.measure }
 
 abbrev pub notes_on : ℕ → List ℕ → List SungNote → List NoteAt
-notes_on row ends notes = map note_at (filter (λ n. row_of ends n.line == row) notes)
+notes_on row ends notes = map sung_note_at (filter (λ n. row_of ends n.line == row) notes)
 
 abbrev pub music_row : List Verse → List ℕ → List SungNote → ℕ → MusicRow
 music_row verses ends notes row = record { texts = texts_on row verses; notes = notes_on row ends notes }
 
-abbrev pub music_rows : List ℕ → List ℕ → List Item → List SungNote → List MusicRow
-music_rows id unnamed items notes = map (music_row (verses_of id unnamed items) (row_ends items) notes) (range_with_len 0 (row_count items))
+abbrev pub music_rows : List ℕ → List ℕ → List BodyItem → List SungNote → List MusicRow
+music_rows id unnamed items notes = map (music_row (verses_of_voice id unnamed items) (row_ends items) notes) (range_with_len 0 (row_count items))
 
 -- what is sung in a verse on a row: nothing where the row has no text for it
 abbrev pub sung_with : List NoteAt → Option (List ℕ) → List Sung
@@ -54,37 +54,37 @@ abbrev pub event_words : List MusicRow → ℕ → ℕ → List (Option (List �
 event_words rows verses event = map (λ verse. word_of (verse_sung rows verse) event) (range_with_len 0 verses)
 
 -- the words of so many events, for each a place per verse
-abbrev pub words_of : List ℕ → List ℕ → List Item → List SungNote → ℕ → List (List (Option (List ℕ)))
-words_of id unnamed items notes count = map (event_words (music_rows id unnamed items notes) (verse_count id unnamed items)) (range_with_len 0 count)
+abbrev pub words_of_events : List ℕ → List ℕ → List BodyItem → List SungNote → ℕ → List (List (Option (List ℕ)))
+words_of_events id unnamed items notes count = map (event_words (music_rows id unnamed items notes) (verse_count id unnamed items)) (range_with_len 0 count)
 
 -- ---- what the words are, event by event
 abbrev pub word_at : List (List (Option (List ℕ))) → ℕ → ℕ → Option (List ℕ)
 word_at words event verse = slice_index_or (slice_index_or words event []) verse None
 
 -- what is sung on a note in a verse, by the texts and the notes of the note's own row
-abbrev pub own_word : List ℕ → List ℕ → List Item → List SungNote → SungNote → ℕ → Option (List ℕ)
-own_word id unnamed items notes note verse = word_of (sung_in verse (music_row (verses_of id unnamed items) (row_ends items) notes (row_of (row_ends items) note.line))) note.event
+abbrev pub own_word : List ℕ → List ℕ → List BodyItem → List SungNote → SungNote → ℕ → Option (List ℕ)
+own_word id unnamed items notes note verse = word_of (sung_in verse (music_row (verses_of_voice id unnamed items) (row_ends items) notes (row_of (row_ends items) note.line))) note.event
 
 -- no two notes are of one event
-abbrev pub AreApart : List SungNote → Type 0
-AreApart notes = (i j : ℕ) (c d : SungNote) → i < length notes → j < length notes → (slice_index_or notes i c).event ≡ (slice_index_or notes j d).event → i ≡ j
+abbrev pub AreOfDistinctEvents : List SungNote → Type 0
+AreOfDistinctEvents notes = (i j : ℕ) (c d : SungNote) → i < length notes → j < length notes → (slice_index_or notes i c).event ≡ (slice_index_or notes j d).event → i ≡ j
 
 -- each note has its own words
-abbrev pub HaveOwnWords : List ℕ → List ℕ → List Item → List SungNote → ℕ → List (List (Option (List ℕ))) → Type 0
+abbrev pub HaveOwnWords : List ℕ → List ℕ → List BodyItem → List SungNote → ℕ → List (List (Option (List ℕ))) → Type 0
 HaveOwnWords id unnamed items notes count words =
-    AreApart notes → (i verse : ℕ) (d : SungNote) → i < length notes → (slice_index_or notes i d).event < count → verse < verse_count id unnamed items
+    AreOfDistinctEvents notes → (i verse : ℕ) (d : SungNote) → i < length notes → (slice_index_or notes i d).event < count → verse < verse_count id unnamed items
     → word_at words (slice_index_or notes i d).event verse ≡ own_word id unnamed items notes (slice_index_or notes i d) verse
 
 -- an event without a note has no words
-abbrev pub HasNoOtherWords : List ℕ → List ℕ → List Item → List SungNote → ℕ → List (List (Option (List ℕ))) → Type 0
+abbrev pub HasNoOtherWords : List ℕ → List ℕ → List BodyItem → List SungNote → ℕ → List (List (Option (List ℕ))) → Type 0
 HasNoOtherWords id unnamed items notes count words = (event verse : ℕ) → All (λ n. n.event ≡ event → ⊥) notes → event < count → verse < verse_count id unnamed items → word_at words event verse ≡ None
 
 -- ---- rows as they are filled
 abbrev pub no_music : MusicRow
 no_music = record { texts = []; notes = [] }
 
-abbrev pub with_texts : MusicRow → List (List ℕ) → MusicRow
-with_texts row texts = record { texts = row.texts ++ texts; notes = row.notes }
+abbrev pub row_with_texts : MusicRow → List (List ℕ) → MusicRow
+row_with_texts row texts = record { texts = row.texts ++ texts; notes = row.notes }
 
 abbrev pub with_notes : MusicRow → List NoteAt → MusicRow
 with_notes row notes = record { texts = row.texts; notes = row.notes ++ notes }

@@ -9,4 +9,4 @@ pub mod words;
 
 pub use music::SungNote;
 pub use verses::{verse_count, verse_fault};
-pub use words::words_of;
+pub use words::words_of_events;

@@ -1,8 +1,8 @@
 ghost use Rattle.std.specs.{Prelude.{◌≡◌, ◌≤◌, ◌<◌, ◌++◌, ◌∷◌, ℕ, [], length, map, slice_index_or, ◌==◌, if◌then◌else◌, IfOk, OnOk}, List.range_with_len};
-ghost use Rattle.abc_words.specs.{Rows.row_count, Words.{music_row, music_rows, no_music, note_at, notes_on, row_end, row_ends, row_of, texts_on, with_notes, with_texts}};
+ghost use Rattle.abc_words.specs.{Rows.row_count, Words.{music_row, music_rows, no_music, sung_note_at, notes_on, row_end, row_ends, row_of, texts_on, with_notes, row_with_texts}};
 
-use crate::verses::{Verse, verses_of};
-use abc_steps::Item;
+use crate::verses::{Verse, verses_of_voice};
+use abc_steps::BodyItem;
 use mus_lyric::NoteAt;
 use mus_units::{Memory, Row, Text};
 use std::alloc::Global;
@@ -24,11 +24,11 @@ pub struct MusicRow {
 }
 
 /// Adds the line at which an item ends a row.
-fn put_row_end(ends: &mut Row<u32>, item: &Item) -> Result<(), Memory>
+fn put_row_end(ends: &mut Row<u32>, item: &BodyItem) -> Result<(), Memory>
     ensures { OnOk result (ends.new ≡ ends.old ++ row_end item.now) }
 {
     match item {
-        Item::LineEnd {
+        BodyItem::LineEnd {
             joined: false,
             line,
             ..
@@ -38,7 +38,7 @@ fn put_row_end(ends: &mut Row<u32>, item: &Item) -> Result<(), Memory>
 }
 
 /// The physical lines at which rows end.
-fn row_ends(alloc: Global, items: &[Item]) -> Result<Row<u32>, Memory>
+fn row_ends(alloc: Global, items: &[BodyItem]) -> Result<Row<u32>, Memory>
     ensures { IfOk result (λ ends. ends ≡ row_ends items.now) }
 {
     let mut ends = Row::new(alloc);
@@ -94,7 +94,7 @@ fn empty_rows(alloc: Global, n: usize) -> Result<Vec<MusicRow>, Memory>
 
 /// Adds the text of a verse to its row.
 fn put_text(rows: &mut [MusicRow], verse: Verse) -> Result<(), Memory>
-    ensures { OnOk result ((k : ℕ) → k < length rows.old → slice_index_or rows.new k no_music ≡ with_texts (slice_index_or rows.old k no_music) (texts_on k (verse ∷ []))) }
+    ensures { OnOk result ((k : ℕ) → k < length rows.old → slice_index_or rows.new k no_music ≡ row_with_texts (slice_index_or rows.old k no_music) (texts_on k (verse ∷ []))) }
 {
     if verse.row >= rows.len() {
         return Ok(());
@@ -115,7 +115,7 @@ fn put_note(rows: &mut [MusicRow], row: usize, note: NoteAt) -> Result<(), Memor
 /// Adds the texts of verses to their rows.
 fn put_texts(rows: &mut Vec<MusicRow>, verses: Row<Verse>) -> Result<(), Memory>
     ensures len { OnOk result (length rows.new.items ≡ length rows.old.items) }
-    ensures rows { OnOk result ((k : ℕ) → k < length rows.old.items → slice_index_or rows.new.items k no_music ≡ with_texts (slice_index_or rows.old.items k no_music) (texts_on k verses)) }
+    ensures rows { OnOk result ((k : ℕ) → k < length rows.old.items → slice_index_or rows.new.items k no_music ≡ row_with_texts (slice_index_or rows.old.items k no_music) (texts_on k verses)) }
 {
     for verse in verses.items {
         put_text(rows, verse)?;
@@ -134,13 +134,13 @@ fn put_notes(rows: &mut Vec<MusicRow>, ends: &[u32], notes: &[SungNote]) -> Resu
     for note in notes {
         row = next_row(ends, row, last, note.line);
         last = note.line;
-        put_note(rows, row, note_at(note))?;
+        put_note(rows, row, sung_note_at(note))?;
     }
     Ok(())
 }
 
-fn note_at(note: &SungNote) -> NoteAt
-    ensures { result ≡ note_at note.now }
+fn sung_note_at(note: &SungNote) -> NoteAt
+    ensures { result ≡ sung_note_at note.now }
 {
     NoteAt {
         event: note.event,
@@ -153,12 +153,12 @@ pub(crate) fn music_rows(
     alloc: Global,
     id: &[u8],
     unnamed: &[u8],
-    items: &[Item],
+    items: &[BodyItem],
     notes: &[SungNote],
 ) -> Result<Vec<MusicRow>, Memory>
     ensures { IfOk result (λ v. v.items ≡ music_rows id.now unnamed.now items.now notes.now) }
 {
-    let found = verses_of(alloc, id, unnamed, items)?;
+    let found = verses_of_voice(alloc, id, unnamed, items)?;
     let ends = row_ends(alloc, items)?;
     let mut rows = empty_rows(alloc, found.rows)?;
     put_texts(&mut rows, found.verses)?;

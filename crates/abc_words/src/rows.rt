@@ -1,14 +1,14 @@
 ghost use Rattle.std.specs.{Prelude.◌≡◌, Prelude.◌<◌, Prelude.◌≤◌, Prelude.◌+◌, Prelude.◌^◌, Prelude.◌∷◌, Prelude.[], Prelude.List, Prelude.ℕ, Prelude.reverse, Prelude.length, Str.bytes_eq};
-ghost use Rattle.{abc_steps.specs.declared.step.Item.{Item}, abc_words.specs.Rows.{behind_end, behind_step, place_at}};
+ghost use Rattle.{abc_steps.specs.declared.step.BodyItem.{BodyItem}, abc_words.specs.Rows.{behind_end, behind_step, place_at}};
 
 use abc_items::voices::claims;
-use abc_steps::Item;
+use abc_steps::BodyItem;
 
 /// What a place among the items of a body is to a voice: its row; whether the
 /// voice is current; whether a step before it on its line claims any voice, and
 /// whether one claims this voice; and the last row of the voice before it.
 #[derive(Clone, Copy, PartialEq, Eq)]
-pub struct Place {
+pub struct RowState {
     pub row: usize,
     pub current: bool,
     pub claimed: bool,
@@ -23,10 +23,10 @@ fn is_same(id: &[u8], other: &[u8]) -> bool
 }
 
 /// The place before all items.
-pub(crate) fn first_place(id: &[u8], unnamed: &[u8]) -> Place
+pub(crate) fn first_place(id: &[u8], unnamed: &[u8]) -> RowState
     ensures { result ≡ place_at id.now unnamed.now [] }
 {
-    Place {
+    RowState {
         row: 0,
         current: is_same(id, unnamed),
         claimed: false,
@@ -36,10 +36,10 @@ pub(crate) fn first_place(id: &[u8], unnamed: &[u8]) -> Place
 }
 
 /// The place behind a step.
-fn behind_step(place: Place, claims: bool) -> Place
+fn behind_step(place: RowState, claims: bool) -> RowState
     ensures { result ≡ behind_step place claims }
 {
-    Place {
+    RowState {
         claimed: claims || place.claimed,
         own: (claims && place.current) || place.own,
         ..place
@@ -47,12 +47,12 @@ fn behind_step(place: Place, claims: bool) -> Place
 }
 
 /// The place behind the end of a music line.
-fn behind_end(place: Place, joined: bool) -> Place
+fn behind_end(place: RowState, joined: bool) -> RowState
     requires { place.row + 1 < 2 ^ 64 }
     ensures { result ≡ behind_end place joined }
 {
     let line_of = place.own || (!place.claimed && place.current);
-    Place {
+    RowState {
         row: if joined { place.row } else { place.row + 1 },
         current: place.current,
         claimed: false,
@@ -62,18 +62,18 @@ fn behind_end(place: Place, joined: bool) -> Place
 }
 
 /// The place behind an item.
-pub(crate) fn place_behind(id: &[u8], place: Place, item: &Item) -> Place
+pub(crate) fn state_after(id: &[u8], place: RowState, item: &BodyItem) -> RowState
     requires { place.row + 1 < 2 ^ 64 }
-    ensures place { (unnamed : List ℕ) (before : List Item) → place ≡ place_at id.now unnamed before → result ≡ place_at id.now unnamed (item.now ∷ before) }
+    ensures place { (unnamed : List ℕ) (before : List BodyItem) → place ≡ place_at id.now unnamed before → result ≡ place_at id.now unnamed (item.now ∷ before) }
     ensures row { result.row ≤ place.row + 1 }
 {
     match item {
-        Item::Step(stood) => behind_step(place, claims(&stood.step)),
-        Item::LineEnd { joined, .. } => behind_end(place, *joined),
-        Item::Voice { def, .. } => Place {
+        BodyItem::Step(stood) => behind_step(place, claims(&stood.step)),
+        BodyItem::LineEnd { joined, .. } => behind_end(place, *joined),
+        BodyItem::Voice { def, .. } => RowState {
             current: is_same(id, def.id.as_slice()),
             ..place
         },
-        Item::Words { .. } => place,
+        BodyItem::Words { .. } => place,
     }
 }

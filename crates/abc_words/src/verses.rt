@@ -1,9 +1,9 @@
 ghost use Rattle.std.specs.{Prelude.{◌≡◌, ◌≤◌, ◌<◌, ◌+◌, ◌++◌, ◌∷◌, ◌^◌, [], List, ℕ, All, cond, fold, length, max, slice_index, ◌==◌, map, None, IfOk, OnOk}, List.{list_any, range_with_len}};
-ghost use Rattle.abc_words.specs.{Rows.row_count, Verses.{faults_from, first_of, is_words, number_on, too_many, verse_at, verse_count, verse_fault, verses_of}};
+ghost use Rattle.abc_words.specs.{Rows.row_count, Verses.{faults_from, first_verse_fault, is_words_item, number_on, too_many, verse_at, verse_count, verse_fault, verses_of_voice}};
 
-use crate::rows::{Place, first_place, place_behind};
+use crate::rows::{RowState, first_place, state_after};
 use abc_lines::{Fault, FaultKind};
-use abc_steps::Item;
+use abc_steps::BodyItem;
 use mus_units::{Memory, Row, Text};
 use std::alloc::Global;
 use std::cmp::max;
@@ -27,13 +27,13 @@ pub struct Verses {
 fn put_verse(
     alloc: Global,
     verses: &mut Row<Verse>,
-    place: Place,
-    item: &Item,
+    place: RowState,
+    item: &BodyItem,
 ) -> Result<(), Memory>
     ensures { OnOk result (verses.new ≡ verses.old ++ verse_at place item.now) }
 {
     match (item, place.last) {
-        (Item::Words { text, line }, Some(row)) if place.current => verses.push(Verse {
+        (BodyItem::Words { text, line }, Some(row)) if place.current => verses.push(Verse {
             row,
             line: *line,
             text: text.copy(alloc)?,
@@ -42,27 +42,27 @@ fn put_verse(
     }
 }
 
-fn is_words(item: &Item) -> bool
-    ensures { result ≡ is_words item.now }
+fn is_words_item(item: &BodyItem) -> bool
+    ensures { result ≡ is_words_item item.now }
 {
-    matches!(item, Item::Words { .. })
+    matches!(item, BodyItem::Words { .. })
 }
 
 /// Whether a body has words.
-fn has_words(items: &[Item]) -> bool
-    ensures { result ≡ list_any is_words items.now }
+fn has_words(items: &[BodyItem]) -> bool
+    ensures { result ≡ list_any is_words_item items.now }
 {
-    items.iter().any(|item| is_words(item))
+    items.iter().any(|item| is_words_item(item))
 }
 
 /// The verses of a voice, in the order of the text.
-pub(crate) fn verses_of(
+pub(crate) fn verses_of_voice(
     alloc: Global,
     id: &[u8],
     unnamed: &[u8],
-    items: &[Item],
+    items: &[BodyItem],
 ) -> Result<Verses, Memory>
-    ensures verses { IfOk result (λ v. v.verses ≡ verses_of id.now unnamed.now items.now) }
+    ensures verses { IfOk result (λ v. v.verses ≡ verses_of_voice id.now unnamed.now items.now) }
     ensures rows { IfOk result (λ v. v.rows ≡ row_count items.now) }
     ensures within { IfOk result (λ v. All (λ verse. verse.row < v.rows) v.verses) }
 {
@@ -70,7 +70,7 @@ pub(crate) fn verses_of(
     let mut place = first_place(id, unnamed);
     for item in items {
         put_verse(alloc, &mut verses, place, item)?;
-        place = place_behind(id, place, item);
+        place = state_after(id, place, item);
     }
     Ok(Verses {
         rows: place.row + 1,
@@ -118,7 +118,7 @@ pub fn verse_count(
     alloc: Global,
     id: &[u8],
     unnamed: &[u8],
-    items: &[Item],
+    items: &[BodyItem],
 ) -> Result<usize, Memory>
     ensures value { IfOk result (λ n. n ≡ verse_count id.now unnamed.now items.now) }
     ensures few { IfOk result (λ n. verse_fault id.now unnamed.now items.now ≡ None → n ≤ 8) }
@@ -126,7 +126,7 @@ pub fn verse_count(
     if !has_words(items) {
         return Ok(0);
     }
-    let found = verses_of(alloc, id, unnamed, items)?;
+    let found = verses_of_voice(alloc, id, unnamed, items)?;
     let counts = counts_of(alloc, found.verses.as_slice(), found.rows)?;
     Ok(greatest(counts.as_slice()))
 }
@@ -151,7 +151,7 @@ fn too_many(line: u32) -> Fault
 /// The first verse of some that has eight before it on its row.
 fn first_fault(alloc: Global, verses: &[Verse], rows: usize) -> Result<Option<Fault>, Memory>
     requires { All (λ v. v.row < rows) verses.now }
-    ensures { IfOk result (λ fault. fault ≡ first_of (faults_from [] verses.now)) }
+    ensures { IfOk result (λ fault. fault ≡ first_verse_fault (faults_from [] verses.now)) }
 {
     let mut counts = vec![in alloc; 0_usize; rows]?;
     for verse in verses {
@@ -170,13 +170,13 @@ pub fn verse_fault(
     alloc: Global,
     id: &[u8],
     unnamed: &[u8],
-    items: &[Item],
+    items: &[BodyItem],
 ) -> Result<Option<Fault>, Memory>
     ensures { IfOk result (λ fault. fault ≡ verse_fault id.now unnamed.now items.now) }
 {
     if !has_words(items) {
         return Ok(None);
     }
-    let found = verses_of(alloc, id, unnamed, items)?;
+    let found = verses_of_voice(alloc, id, unnamed, items)?;
     first_fault(alloc, found.verses.as_slice(), found.rows)
 }

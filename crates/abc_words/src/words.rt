@@ -1,9 +1,9 @@
 ghost use Rattle.std.specs.{Prelude.{◌≡◌, ◌<◌, ◌++◌, ◌∷◌, ℕ, [], All, None, length, map, flat_map, replicate, slice_index_or, IfOk, OnOk}, List.range_with_len, Option.{option_copied, option_flatten, option_or}};
-ghost use Rattle.abc_words.specs.{Verses.verse_count, Words.HasNoOtherWords, Words.HaveOwnWords, Words.event_words, Words.sung_in, Words.music_rows, Words.verse_sung, Words.word_of, Words.words_of};
+ghost use Rattle.abc_words.specs.{Verses.verse_count, Words.HasNoOtherWords, Words.HaveOwnWords, Words.event_words, Words.sung_in, Words.music_rows, Words.verse_sung, Words.word_of, Words.words_of_events};
 
 use crate::music::{MusicRow, SungNote, music_rows};
 use crate::verses::verse_count;
-use abc_steps::Item;
+use abc_steps::BodyItem;
 use mus_lyric::{Sung, align, syllables};
 use mus_units::{Memory, Row, Text};
 use std::alloc::Global;
@@ -85,7 +85,7 @@ fn voice_words(
     alloc: Global,
     id: &[u8],
     unnamed: &[u8],
-    items: &[Item],
+    items: &[BodyItem],
     notes: &[SungNote],
     verses: usize,
     count: usize,
@@ -126,15 +126,15 @@ fn words_at(
 /// The words of so many written events of a voice: a row for each, with a place for each verse. `notes`
 /// are the notes of the voice in order; on each row of music they take the syllables of the `w:` lines of
 /// that row. `unnamed` is the voice of what stands before any voice field.
-pub fn words_of(
+pub fn words_of_events(
     alloc: Global,
     id: &[u8],
     unnamed: &[u8],
-    items: &[Item],
+    items: &[BodyItem],
     notes: &[SungNote],
     count: usize,
 ) -> Result<Row<Row<Option<Text>>>, Memory>
-    ensures value { IfOk result (λ words. words ≡ words_of id.now unnamed.now items.now notes.now count) }
+    ensures value { IfOk result (λ words. words ≡ words_of_events id.now unnamed.now items.now notes.now count) }
     ensures len { IfOk result (λ words. length words ≡ count) }
     ensures own { IfOk result (HaveOwnWords id.now unnamed.now items.now notes.now count) }
     ensures others { IfOk result (HasNoOtherWords id.now unnamed.now items.now notes.now count) }

@@ -1,9 +1,9 @@
 -- A command calls for one answer on an input, however many jobs set its book; and for none on an input that it refuses.
 use Rattle.std.proofs.Common.{◌≡◌, ◌∙◌, refl, sym, ap, subst, ℕ, List, [], ◌∷◌, Bool, arith}
-use Rattle.{abc_lines.specs.Books.{book_of}, abc_header.specs.declared.paper.Paper.{Paper}, gen_book.specs.Book.{book}, lay_breaks.{specs.{Breaking.sum_from, Spans.listed}, proofs.Unique.one_is_chosen}}
+use Rattle.{abc_lines.specs.Books.{book_of}, abc_fields.specs.declared.paper.Paper.{Paper}, gen_book.specs.Book.{book}, lay_breaks.{specs.{Breaking.sum_from, Spans.listed}, proofs.Unique.one_is_chosen}}
 use Rattle.lay_cert.{specs.{Answers.IsJudged, Listing.{Entry, none_forced}, Verdicts.{IsVerdict, AreVerdicts}, declared.check.{Judged.Judged, Verdict.{Verdict, TheVariants.{Least, NotLeast}}}}, proofs.Alone.tells_one}
-use Rattle.{paint_text.specs.PaintText.{paint_text}, sheet_text.specs.SheetText.{sheet_report}, ps_machine.specs.OneAnswer.{HasOneAnswer}, ps_heard.specs.HeardText.{heard_text}, ps_text.specs.{Document.document, declared.sheet.Sheet.Sheet}}
-use Rattle.{set_book.specs.{declared.outcome.Outcome.Outcome, Once.HaveOneOutcome}, set_pages.{specs.{declared.plan.Plan.Plan, Sheet.{IsPlan, sheet_of}}, proofs.Whole.one_plan}, set_lists.specs.{Reports.reports, Trials.trial_text}}
+use Rattle.{ps_reports.specs.PaintText.{paint_text}, ps_sheet_reports.specs.SheetText.{sheet_report}, ps_machine.specs.OneAnswer.{HasOneAnswer}, ps_heard.specs.HeardText.{heard_text}, ps_text.specs.{Document.document, declared.sheet.Sheet.Sheet}}
+use Rattle.{set_book.specs.{declared.outcome.Outcome.Outcome, Once.HaveOneOutcome}, set_pages.{specs.{declared.plan.PagePlan.PagePlan, Sheet.{IsPagePlan, sheet_of}}, proofs.Whole.one_plan}, set_lists.specs.{Reports.reports, Trials.trial_text}}
 use Rattle.abcps_words.specs.declared.command.Command.{Command}
 use Rattle.abcps.specs.{Books.{AreSet, terms_in, CallsPages, CallsSystems, Tries, paper_in, status_of, systems_by, trial_of}, Calls.{Calls, CallsOne, IsPainted, Judges, NeverBoth, Shows, budget_of, by_one_job, status_by, verdicts_text}, declared.{status.Status.Status, refusing.Refusal.Refusal}, Called.{Called, IsQuietly}}
 use Rattle.set_tune.specs.Terms.{Manner, manner_by, unmoved}
@@ -23,8 +23,8 @@ one_set : HaveOneOutcome → (manner : Manner) (text : List ℕ) (os ps : List O
 one_set one manner text os ps a b = one.outcomes (terms_in manner text) (book_of text).tunes os ps a b
 
 -- what one outcome and one plan give is one
-by_plan : {A : Type 0} (make : Plan → List Outcome → A) (even : Bool) (paper : Paper) (os ps : List Outcome) (plan other : Plan) → os ≡ ps → IsPlan even paper os plan → IsPlan even paper ps other → make plan os ≡ make other ps
-by_plan make even paper os ps plan other same is also = ap (λ l. make plan l) same ∙ ap (λ p. make p ps) (one_plan even paper ps other plan also (subst (λ l. IsPlan even paper l plan) same is))
+by_plan : {A : Type 0} (make : PagePlan → List Outcome → A) (even : Bool) (paper : Paper) (os ps : List Outcome) (plan other : PagePlan) → os ≡ ps → IsPagePlan even paper os plan → IsPagePlan even paper ps other → make plan os ≡ make other ps
+by_plan make even paper os ps plan other same is also = ap (λ l. make plan l) same ∙ ap (λ p. make p ps) (one_plan even paper ps other plan also (subst (λ l. IsPagePlan even paper l plan) same is))
 
 pages_once : HaveOneOutcome → (manner : Manner) (even : Bool) (text : List ℕ) (c d : Called) → CallsPages manner even text c → CallsPages manner even text d → c ≡ d
 pages_once one manner even text c d a b =

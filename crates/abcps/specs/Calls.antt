@@ -1,16 +1,16 @@
 -- What each command calls for, of an input that it doesn't refuse.
 use Rattle.std.specs.{Prelude.{◌≡◌, ℕ, ◌*◌, List, [], Bool, true, false, if◌then◌else◌, length, flat_map}, List.list_any}
-use Rattle.{gen_book.specs.Book.{book}, ps_text.specs.{Document.Spells, declared.sheet.Sheet.Sheet}, ps_read.specs.Answers.{IsRead, IsFirstFault}, ps_heard.specs.HeardText.{heard_text}}
-use Rattle.{ps_steps.specs.{declared.paint.PagePaint.PagePaint, Steps.{Paints, Halts}}, paint_text.specs.PaintText.{paint_text}, sheet_text.specs.SheetText.{sheet_report}}
+use Rattle.{gen_book.specs.Book.{book}, ps_text.specs.{Document.SpellsSheet, declared.sheet.Sheet.Sheet}, ps_read.specs.Answers.{IsDocumentRead, IsFirstFault}, ps_heard.specs.HeardText.{heard_text}}
+use Rattle.{ps_steps.specs.{declared.paint.PagePaint.PagePaint, Steps.{Paints, Halts}}, ps_reports.specs.PaintText.{paint_text}, ps_sheet_reports.specs.SheetText.{sheet_report}}
 use Rattle.lay_cert.specs.{declared.check.{Judged.Judged, Verdict.Verdict}, Answers.IsJudged, Listing.{Entry, IsListing}, Reports.verdict_text}
-use Rattle.lay_cert.specs.Places as listing
+use Rattle.lay_cert.specs.ReaderStates as listing
 use Rattle.{abcps_words.specs.declared.command.Command.{Command}, set_tune.specs.Terms.{manner_by, unmoved}}
 use Rattle.abcps.specs.{Called.{Called, IsQuietly}, Books.{CallsPages, CallsSystems, Tries}, declared.{refusing.Refusal.Refusal, status.Status.Status}}
 
 -- Of `inspect` and `hear`: a report on the one sheet that spells the input, which is all that it shows, or what its tunes sound.
 pub record Shows (report : Sheet → List ℕ) (text : List ℕ) (c : Called) : Type 0 where
   pub sheet : Sheet
-  pub read : IsRead text sheet
+  pub read : IsDocumentRead text sheet
   pub page : c.page ≡ report sheet
   pub quietly : IsQuietly c
 
@@ -74,7 +74,7 @@ CallsOne = (c d : Command) (text : List ℕ) (called other : Called) → by_one_
 -- first line that isn't good; and `paint` refuses what the machine halts on.
 pub record IsNoDocument (text : List ℕ) (number : ℕ) : Type 0 where
   pub first : IsFirstFault text number
-  pub unspelled : (sheet : Sheet) → Spells sheet text → ⊥
+  pub unspelled : (sheet : Sheet) → SpellsSheet sheet text → ⊥
 
 pub record IsNoListing (text : List ℕ) (number : ℕ) : Type 0 where
   pub first : listing.IsFirstFault text number

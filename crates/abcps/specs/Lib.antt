@@ -4,6 +4,6 @@ pub mod Refusals
 pub mod Calls
 pub mod Status
 pub mod Outcome
-pub mod Pressed
+pub mod Progress
 pub mod Promises
 pub mod Wordless

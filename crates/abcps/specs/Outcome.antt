@@ -1,7 +1,7 @@
 -- What a run answers, and what it leaves on each stream: by cases on the answer.
 use Rattle.std.specs.{Prelude.{◌≡◌, ◌⊎◌, ◌<◌, ◌≤◌, ℕ, ◌+◌, List, [], Bool, length, take, Option}, Io.KnownBytes.{Keeps, Appends, Consumes, IsAtEnd}}
 use Rattle.{eng_io.specs.Causes.{Rose}, abc_lines.specs.Books.{book_of}, ps_text.specs.Document.{document}, set_book.specs.declared.outcome.Outcome.{Outcome}}
-use Rattle.{set_pages.specs.{Sheet.{IsPlan, sheet_of}, declared.plan.Plan.Plan}, abcps_words.specs.{Command.{Asks, IsListed, limit_of}, declared.command.Command.Command, Usage.usage_line}}
+use Rattle.{set_pages.specs.{Sheet.{IsPagePlan, sheet_of}, declared.plan.PagePlan.PagePlan}, abcps_words.specs.{Command.{Asks, IsListed, limit_of}, declared.command.Command.Command, Usage.usage_line}}
 use Rattle.abcps.specs.{Books.{AreSet, CallsPages, paper_in}, Called.Called, Calls.{Calls, Refuses}, Refusals.{refusal_line, refusal_status}, declared.{refusing.Refusal.Refusal, status.Status.Status}}
 use Rattle.set_tune.specs.Terms.{Manner, manner_by}
 
@@ -34,107 +34,107 @@ pub record ReadTooMuch (most : ℕ) (s : Stream) (text : List ℕ) : Type 0 wher
   pub count : s.count_after ≡ s.count_before
 
 -- a sink took a whole text
-abbrev pub TookAll : Stream → List ℕ → Type 0
-TookAll s text = Appends s.before s.after text × (s.count_after ≡ s.count_before)
+abbrev pub WroteWhole : Stream → List ℕ → Type 0
+WroteWhole s text = Appends s.before s.after text × (s.count_after ≡ s.count_before)
 
 -- a sink failed, and took a front of a text
-abbrev pub TookFront : Stream → List ℕ → Type 0
-TookFront s text = (n : ℕ) × Appends s.before s.after (take n text) × Rose s.count_before s.count_after
+abbrev pub FailedAfterPrefix : Stream → List ℕ → Type 0
+FailedAfterPrefix s text = (n : ℕ) × Appends s.before s.after (take n text) × Rose s.count_before s.count_after
 
 -- a sink took a front of a text, and counted no fault
-abbrev pub TookPart : Stream → List ℕ → Type 0
-TookPart s text = (n : ℕ) × Appends s.before s.after (take n text) × (s.count_after ≡ s.count_before)
+abbrev pub TookPrefix : Stream → List ℕ → Type 0
+TookPrefix s text = (n : ℕ) × Appends s.before s.after (take n text) × (s.count_after ≡ s.count_before)
 
 -- what a sink took is a front of a text, whatever it counted
-abbrev pub HasFront : Stream → List ℕ → Type 0
-HasFront s text = (n : ℕ) × Appends s.before s.after (take n text)
+abbrev pub HoldsPrefix : Stream → List ℕ → Type 0
+HoldsPrefix s text = (n : ℕ) × Appends s.before s.after (take n text)
 
 -- a line was given to a sink, which took it all or counted a fault and took a front of it
-abbrev pub WasTold : Stream → List ℕ → Type 0
-WasTold s line = TookAll s line ⊎ TookFront s line
+abbrev pub ReportsLine : Stream → List ℕ → Type 0
+ReportsLine s line = WroteWhole s line ⊎ FailedAfterPrefix s line
 
 -- Output failed, and errors has nothing; or output has the whole text, and errors failed.
-abbrev pub WasCut : Called → Stream → Stream → Type 0
-WasCut called o e = (TookFront o called.page × IsQuiet e) ⊎ (TookAll o called.page × TookFront e called.told)
+abbrev pub WriteFailed : Called → Stream → Stream → Type 0
+WriteFailed called o e = (FailedAfterPrefix o called.page × IsQuiet e) ⊎ (WroteWhole o called.page × FailedAfterPrefix e called.told)
 
 -- `set` ended while some tunes of its book were left. Each tune has an outcome all the same, and what output took is a front of the
 -- document of all of them, and of the document of the first of them, fewer than all, by the same plan; so it is one of whatever is
 -- called for of the book.
-pub record IsCutShort (manner : Manner) (even : Bool) (text : List ℕ) (o : Stream) : Type 0 where
+pub record SetStoppedEarly (manner : Manner) (even : Bool) (text : List ℕ) (o : Stream) : Type 0 where
   pub count : ℕ
   pub left : count < length (book_of text).tunes
   pub outcomes : List Outcome
   pub set : AreSet manner text outcomes
-  pub plan : Plan
-  pub parted : IsPlan even (paper_in text) outcomes plan
-  pub whole : HasFront o (document (sheet_of plan (paper_in text) outcomes))
-  pub first : HasFront o (document (sheet_of plan (paper_in text) (take count outcomes)))
-  pub all : (called : Called) → CallsPages manner even text called → HasFront o called.page
+  pub plan : PagePlan
+  pub parted : IsPagePlan even (paper_in text) outcomes plan
+  pub whole : HoldsPrefix o (document (sheet_of plan (paper_in text) outcomes))
+  pub first : HoldsPrefix o (document (sheet_of plan (paper_in text) (take count outcomes)))
+  pub all : (called : Called) → CallsPages manner even text called → HoldsPrefix o called.page
 
-abbrev pub WasCutShort : Command → List ℕ → Stream → Type 0
-WasCutShort (Command.Set flow jobs by even) text o = IsCutShort (manner_by flow by) even text o
-WasCutShort _ text o = ⊥
+abbrev pub StoppedEarly : Command → List ℕ → Stream → Type 0
+StoppedEarly (Command.Set flow jobs by even) text o = SetStoppedEarly (manner_by flow by) even text o
+StoppedEarly _ text o = ⊥
 
 -- A sink failed while what is called for was written, or output did before `set` had set all tunes.
-abbrev pub HasFailed : Command → List ℕ → Stream → Stream → Type 0
-HasFailed c text o e = ((called : Called) × Calls c text called × WasCut called o e) ⊎ (WasCutShort c text o × Rose o.count_before o.count_after × IsQuiet e)
+abbrev pub FailedToWrite : Command → List ℕ → Stream → Stream → Type 0
+FailedToWrite c text o e = ((called : Called) × Calls c text called × WriteFailed called o e) ⊎ (StoppedEarly c text o × Rose o.count_before o.count_after × IsQuiet e)
 
 -- Output has a front of what is called for, or of what `set` writes before it has set all tunes; and no fault was counted.
-abbrev pub HasPart : Command → List ℕ → Stream → Type 0
-HasPart c text o = ((called : Called) × Calls c text called × TookPart o called.page) ⊎ (WasCutShort c text o × (o.count_after ≡ o.count_before))
+abbrev pub HoldsPart : Command → List ℕ → Stream → Type 0
+HoldsPart c text o = ((called : Called) × Calls c text called × TookPrefix o called.page) ⊎ (StoppedEarly c text o × (o.count_after ≡ o.count_before))
 
 -- What a command read: of an input all, and those that make a book themselves nothing.
-abbrev pub IsRead : Command → Stream → List ℕ → Type 0
-IsRead (Command.Make tunes) i text = IsQuiet i × (text ≡ [])
-IsRead (Command.Trial tunes flow jobs even) i text = IsQuiet i × (text ≡ [])
-IsRead c i text = ReadAll (limit_of c) i text
+abbrev pub IsInputRead : Command → Stream → List ℕ → Type 0
+IsInputRead (Command.Make tunes) i text = IsQuiet i × (text ≡ [])
+IsInputRead (Command.Trial tunes flow jobs even) i text = IsQuiet i × (text ≡ [])
+IsInputRead c i text = ReadAll (limit_of c) i text
 
 -- a command that reads its input
-abbrev pub IsReader : Command → Type 0
-IsReader (Command.Make tunes) = ⊥
-IsReader (Command.Trial tunes flow jobs even) = ⊥
-IsReader c = Unit {0}
+abbrev pub ReadsInput : Command → Type 0
+ReadsInput (Command.Make tunes) = ⊥
+ReadsInput (Command.Trial tunes flow jobs even) = ⊥
+ReadsInput c = Unit {0}
 
 -- a status with which all was written
-abbrev pub IsEnd : Status → Type 0
-IsEnd Status.Done = Unit {0}
-IsEnd Status.SomeRefused = Unit {0}
-IsEnd Status.NotLeast = Unit {0}
-IsEnd _ = ⊥
+abbrev pub IsCompleteStatus : Status → Type 0
+IsCompleteStatus Status.Done = Unit {0}
+IsCompleteStatus Status.SomeRefused = Unit {0}
+IsCompleteStatus Status.NotLeast = Unit {0}
+IsCompleteStatus _ = ⊥
 
 -- both texts were written, and the answer is the one that goes with them
-abbrev pub WasWritten : (Called → Type 0) → Status → Stream → Stream → Type 0
-WasWritten C s o e = (called : Called) × C called × (s ≡ called.status) × TookAll o called.page × TookAll e called.told
+abbrev pub WroteBoth : (Called → Type 0) → Status → Stream → Stream → Type 0
+WroteBoth C s o e = (called : Called) × C called × (s ≡ called.status) × WroteWhole o called.page × WroteWhole e called.told
 
 -- what is answered where something is called for
 abbrev pub IsAnswered : (Called → Type 0) → Status → Stream → Stream → Type 0
-IsAnswered C Status.Done o e = WasWritten C Status.Done o e
-IsAnswered C Status.SomeRefused o e = WasWritten C Status.SomeRefused o e
-IsAnswered C Status.NotLeast o e = WasWritten C Status.NotLeast o e
-IsAnswered C Status.WriteFault o e = (called : Called) × C called × WasCut called o e
-IsAnswered C Status.Memory o e = IsQuiet e × (IsQuiet o ⊎ ((called : Called) × C called × TookPart o called.page))
+IsAnswered C Status.Done o e = WroteBoth C Status.Done o e
+IsAnswered C Status.SomeRefused o e = WroteBoth C Status.SomeRefused o e
+IsAnswered C Status.NotLeast o e = WroteBoth C Status.NotLeast o e
+IsAnswered C Status.WriteFault o e = (called : Called) × C called × WriteFailed called o e
+IsAnswered C Status.Memory o e = IsQuiet e × (IsQuiet o ⊎ ((called : Called) × C called × TookPrefix o called.page))
 IsAnswered C _ o e = ⊥
 
 -- the input was refused: output has nothing, and errors was told why
-abbrev pub WasRefused : Command → Status → List ℕ → Stream → Stream → Type 0
-WasRefused c s text o e = (refusal : Refusal) × Refuses c text refusal × (s ≡ refusal_status refusal) × IsQuiet o × WasTold e (refusal_line refusal)
+abbrev pub RefusedInput : Command → Status → List ℕ → Stream → Stream → Type 0
+RefusedInput c s text o e = (refusal : Refusal) × Refuses c text refusal × (s ≡ refusal_status refusal) × IsQuiet o × ReportsLine e (refusal_line refusal)
 
 -- what is answered once the input was read
 abbrev pub IsAnswer : Command → Status → List ℕ → Stream → Stream → Type 0
-IsAnswer c Status.NotPages text o e = WasRefused c Status.NotPages text o e
-IsAnswer c Status.Halted text o e = WasRefused c Status.Halted text o e
-IsAnswer c Status.WriteFault text o e = HasFailed c text o e
-IsAnswer c Status.Memory text o e = IsQuiet e × (IsQuiet o ⊎ HasPart c text o)
+IsAnswer c Status.NotPages text o e = RefusedInput c Status.NotPages text o e
+IsAnswer c Status.Halted text o e = RefusedInput c Status.Halted text o e
+IsAnswer c Status.WriteFault text o e = FailedToWrite c text o e
+IsAnswer c Status.Memory text o e = IsQuiet e × (IsQuiet o ⊎ HoldsPart c text o)
 IsAnswer c s text o e = IsAnswered (Calls c text) s o e
 
 -- what a command answers
-abbrev pub IsObeyed : Command → Status → Stream → Stream → Stream → Type 0
-IsObeyed c Status.ReadFault i o e = IsReader c × Rose i.count_before i.count_after × IsQuiet o × IsQuiet e
-IsObeyed c Status.TooLong i o e = IsReader c × ((text : List ℕ) × ReadTooMuch (limit_of c) i text) × IsQuiet o × IsQuiet e
-IsObeyed c Status.Memory i o e = IsQuiet e × (IsQuiet o ⊎ ((text : List ℕ) × IsRead c i text × HasPart c text o))
-IsObeyed c s i o e = (text : List ℕ) × IsRead c i text × IsAnswer c s text o e
+abbrev pub IsCommandAnswer : Command → Status → Stream → Stream → Stream → Type 0
+IsCommandAnswer c Status.ReadFault i o e = ReadsInput c × Rose i.count_before i.count_after × IsQuiet o × IsQuiet e
+IsCommandAnswer c Status.TooLong i o e = ReadsInput c × ((text : List ℕ) × ReadTooMuch (limit_of c) i text) × IsQuiet o × IsQuiet e
+IsCommandAnswer c Status.Memory i o e = IsQuiet e × (IsQuiet o ⊎ ((text : List ℕ) × IsInputRead c i text × HoldsPart c text o))
+IsCommandAnswer c s i o e = (text : List ℕ) × IsInputRead c i text × IsAnswer c s text o e
 
 -- what a run answers
-abbrev pub IsRun : Status → List (List ℕ) → Stream → Stream → Stream → Type 0
-IsRun Status.Usage words i o e = (IsListed words → ⊥) × IsQuiet i × IsQuiet o × WasTold e usage_line
-IsRun s words i o e = (c : Command) × Asks words c × IsObeyed c s i o e
+abbrev pub IsRunAnswer : Status → List (List ℕ) → Stream → Stream → Stream → Type 0
+IsRunAnswer Status.Usage words i o e = (IsListed words → ⊥) × IsQuiet i × IsQuiet o × ReportsLine e usage_line
+IsRunAnswer s words i o e = (c : Command) × Asks words c × IsCommandAnswer c s i o e

@@ -1,7 +1,7 @@
 -- What a run promises, one fact for each name.
 use Rattle.std.specs.Prelude.{◌≡◌, ◌≢◌, ◌⊎◌, ◌≤◌, ◌↔◌, List, ℕ, length, Some}
 use Rattle.{eng_io.specs.Causes.{Rose}, abcps_words.specs.{Command.{Asks, IsListed, limit_of}, declared.command.Command.Command, Usage.usage_line}}
-use Rattle.abcps.specs.{Outcome.{HasFailed, HasPart, Stream, IsQuiet, IsRead, IsReader, ReadTooMuch, TookAll, WasTold}, Called.Called, Calls.{Calls, Refuses, by_one_job}, Refusals.{IsRefusal, refusal_line, refusal_status}, declared.{refusing.Refusal.Refusal, status.Status.Status}}
+use Rattle.abcps.specs.{Outcome.{FailedToWrite, HoldsPart, Stream, IsQuiet, IsInputRead, ReadsInput, ReadTooMuch, WroteWhole, ReportsLine}, Called.Called, Calls.{Calls, Refuses, by_one_job}, Refusals.{IsRefusalStatus, refusal_line, refusal_status}, declared.{refusing.Refusal.Refusal, status.Status.Status}}
 
 -- no stream counted a fault, where a count that stands at its end counts as risen
 pub record NoFault (i o e : Stream) : Type 0 where
@@ -10,21 +10,21 @@ pub record NoFault (i o e : Stream) : Type 0 where
   pub errors : Rose e.count_before e.count_after → ⊥
 
 -- the input told its bytes, which are within the limit; of a command that reads none nothing is asked
-abbrev pub IsToldTo : Command → Stream → List ℕ → Type 0
-IsToldTo (Command.Make tunes) i text = Unit {0}
-IsToldTo (Command.Trial tunes flow jobs even) i text = Unit {0}
-IsToldTo c i text = (i.before ≡ Some text) × (length text ≤ limit_of c)
+abbrev pub IsReportedOn : Command → Stream → List ℕ → Type 0
+IsReportedOn (Command.Make tunes) i text = Unit {0}
+IsReportedOn (Command.Trial tunes flow jobs even) i text = Unit {0}
+IsReportedOn c i text = (i.before ≡ Some text) × (length text ≤ limit_of c)
 
 -- the words ask for this command, no fault was counted, and the input is this text
-pub record IsGiven (c : Command) (words : List (List ℕ)) (i o e : Stream) (text : List ℕ) : Type 0 where
+pub record IsRunOn (c : Command) (words : List (List ℕ)) (i o e : Stream) (text : List ℕ) : Type 0 where
   pub asked : Asks words c
   pub good : NoFault i o e
-  pub told : IsToldTo c i text
+  pub told : IsReportedOn c i text
 
 -- the words ask for a command, which read this text whole, or reads none
-pub record IsWhole (c : Command) (words : List (List ℕ)) (i : Stream) (text : List ℕ) : Type 0 where
+pub record AsksWholeText (c : Command) (words : List (List ℕ)) (i : Stream) (text : List ℕ) : Type 0 where
   pub asked : Asks words c
-  pub read : IsRead c i text
+  pub read : IsInputRead c i text
 
 -- What was called for is on both sinks, and it is the one thing that is called for of this input, by any number of jobs: so the bytes
 -- and the answer are the same for every number of them. The input is one that isn't refused.
@@ -34,8 +34,8 @@ pub record IsDone (c : Command) (s : Status) (text : List ℕ) (o e : Stream) : 
   pub only : (d : Command) (other : Called) → by_one_job d ≡ by_one_job c → Calls d text other → other ≡ called
   pub unrefused : (refusal : Refusal) → Refuses c text refusal → ⊥
   pub ends : s ≡ called.status
-  pub page : TookAll o called.page
-  pub told : TookAll e called.told
+  pub page : WroteWhole o called.page
+  pub told : WroteWhole e called.told
 
 -- The input is refused: nothing is called for, the answer is the refusal's, output has nothing, and errors was told the refusal's line.
 pub record IsRefused (c : Command) (s : Status) (text : List ℕ) (o e : Stream) : Type 0 where
@@ -44,27 +44,27 @@ pub record IsRefused (c : Command) (s : Status) (text : List ℕ) (o e : Stream)
   pub uncalled : (called : Called) → Calls c text called → ⊥
   pub ends : s ≡ refusal_status refusal
   pub quiet : IsQuiet o
-  pub told : WasTold e (refusal_line refusal)
+  pub told : ReportsLine e (refusal_line refusal)
 
 pub record Promises (s : Status) (words : List (List ℕ)) (i o e : Stream) : Type 0 where
   -- usage is answered exactly by the words, whatever the streams do
   pub usage : (s ≡ Status.Usage) ↔ (IsListed words → ⊥)
   -- then nothing was read or written but the line of usage, or a front of it where the errors sink failed
-  pub usage_line : s ≡ Status.Usage → IsQuiet i × IsQuiet o × WasTold e usage_line
+  pub usage_line : s ≡ Status.Usage → IsQuiet i × IsQuiet o × ReportsLine e usage_line
   -- a fault of the input is answered only where a command reads and its count rose, and nothing is written
-  pub read_fault : s ≡ Status.ReadFault → ((c : Command) × Asks words c × IsReader c) × Rose i.count_before i.count_after × IsQuiet o × IsQuiet e
+  pub read_fault : s ≡ Status.ReadFault → ((c : Command) × Asks words c × ReadsInput c) × Rose i.count_before i.count_after × IsQuiet o × IsQuiet e
   -- an input is too long where one byte past the command's limit was taken, and nothing is written
-  pub too_long : s ≡ Status.TooLong → ((c : Command) × Asks words c × IsReader c × ((text : List ℕ) × ReadTooMuch (limit_of c) i text)) × IsQuiet o × IsQuiet e
+  pub too_long : s ≡ Status.TooLong → ((c : Command) × Asks words c × ReadsInput c × ((text : List ℕ) × ReadTooMuch (limit_of c) i text)) × IsQuiet o × IsQuiet e
   -- an input that is no document, or no listing, is told so by the line of its first fault, and one that can't be painted by the token
   -- at which its run halts and the cause; nothing is written to output
-  pub refused : IsRefusal s → (c : Command) × (text : List ℕ) × IsWhole c words i text × IsRefused c s text o e
+  pub refused : IsRefusalStatus s → (c : Command) × (text : List ℕ) × AsksWholeText c words i text × IsRefused c s text o e
   -- a fault of a sink is answered only where its count rose: output has a front of its text and errors nothing, or output has
   -- all of it and errors a front of its own; where `set` had tunes left, output has a front of the document of its whole book
-  pub write_fault : s ≡ Status.WriteFault → (c : Command) × (text : List ℕ) × IsWhole c words i text × HasFailed c text o e
+  pub write_fault : s ≡ Status.WriteFault → (c : Command) × (text : List ℕ) × AsksWholeText c words i text × FailedToWrite c text o e
   -- for want of memory errors has nothing, and output nothing or a front of its text, or of the document of a whole book of which `set` had tunes left
-  pub memory : s ≡ Status.Memory → IsQuiet e × (IsQuiet o ⊎ ((c : Command) × (text : List ℕ) × IsWhole c words i text × HasPart c text o))
+  pub memory : s ≡ Status.Memory → IsQuiet e × (IsQuiet o ⊎ ((c : Command) × (text : List ℕ) × AsksWholeText c words i text × HoldsPart c text o))
   -- every other answer is the one that is called for, and both sinks have their whole texts
-  pub done : s ≢ Status.Usage → s ≢ Status.ReadFault → s ≢ Status.TooLong → (IsRefusal s → ⊥) → s ≢ Status.WriteFault → s ≢ Status.Memory → (c : Command) × (text : List ℕ) × IsWhole c words i text × IsDone c s text o e
+  pub done : s ≢ Status.Usage → s ≢ Status.ReadFault → s ≢ Status.TooLong → (IsRefusalStatus s → ⊥) → s ≢ Status.WriteFault → s ≢ Status.Memory → (c : Command) × (text : List ℕ) × AsksWholeText c words i text × IsDone c s text o e
   -- Where the words ask for a command, no fault is counted and the input is told within the limit: unless memory runs out, all
   -- that the command calls for is done, or its input is refused.
-  pub answered : (c : Command) (text : List ℕ) → IsGiven c words i o e text → s ≢ Status.Memory → IsDone c s text o e ⊎ IsRefused c s text o e
+  pub answered : (c : Command) (text : List ℕ) → IsRunOn c words i o e text → s ≢ Status.Memory → IsDone c s text o e ⊎ IsRefused c s text o e

@@ -1,6 +1,6 @@
 -- What is answered to an input that is refused: the status, and the line on errors.
 use Rattle.std.specs.Prelude.{ℕ, List, [], ◌∷◌, ◌++◌, codes, decimal}
-use Rattle.{paint_text.specs.PaintText.{halt_line}, abcps.specs.declared.{refusing.Refusal.Refusal, status.Status.Status}}
+use Rattle.{ps_reports.specs.PaintText.{halt_line}, abcps.specs.declared.{refusing.Refusal.Refusal, status.Status.Status}}
 
 abbrev pub not_pages_line : ℕ → List ℕ
 not_pages_line line = codes "not pages at line " ++ decimal line ++ 10 ∷ []
@@ -14,7 +14,7 @@ refusal_line (Refusal.NotPages line) = not_pages_line line
 refusal_line (Refusal.Halted token cause) = halt_line token cause
 
 -- a status with which an input is refused
-abbrev pub IsRefusal : Status → Type 0
-IsRefusal Status.NotPages = Unit {0}
-IsRefusal Status.Halted = Unit {0}
-IsRefusal _ = ⊥
+abbrev pub IsRefusalStatus : Status → Type 0
+IsRefusalStatus Status.NotPages = Unit {0}
+IsRefusalStatus Status.Halted = Unit {0}
+IsRefusalStatus _ = ⊥

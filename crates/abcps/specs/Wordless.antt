@@ -1,7 +1,7 @@
 -- What is answered where the words of a run couldn't be had: a word that isn't UTF-8 is in no listed form, so the usage line is told; where
 -- memory ran out nothing is written.
 use Rattle.std.specs.{Prelude.◌≡◌, declared.io.ErrorKind.ErrorKind}
-use Rattle.{abcps_words.specs.Usage.{usage_line}, abcps.specs.{Outcome.{IsQuiet, Stream, WasTold}, declared.{status.Status.Status, wordless.WordsError.WordsError}}}
+use Rattle.{abcps_words.specs.Usage.{usage_line}, abcps.specs.{Outcome.{IsQuiet, Stream, ReportsLine}, declared.{status.Status.Status, wordless.WordsError.WordsError}}}
 
 -- the cause that an error of the system tells
 abbrev pub cause_of : ErrorKind → WordsError
@@ -9,5 +9,5 @@ cause_of ErrorKind.OutOfMemory = WordsError.Memory
 cause_of _ = WordsError.NotText
 
 abbrev pub IsWordless : WordsError → Status → Stream → Type 0
-IsWordless WordsError.NotText s e = (s ≡ Status.Usage) × WasTold e usage_line
+IsWordless WordsError.NotText s e = (s ≡ Status.Usage) × ReportsLine e usage_line
 IsWordless WordsError.Memory s e = (s ≡ Status.Memory) × IsQuiet e

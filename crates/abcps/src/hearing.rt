@@ -3,7 +3,7 @@ ghost use Rattle.{ps_heard.specs.HeardText.{heard_text}, abcps.specs.{Outcome.{I
 
 use crate::refusing::Refusal;
 use crate::status::Status;
-use crate::telling::{refuse, write_both};
+use crate::reporting::{refuse, write_both};
 use eng_io::Sink;
 use mus_units::{Memory, Spread, Text};
 use ps_read::{PagesError, put_heard, read_document};

@@ -1,9 +1,9 @@
 ghost use Rattle.std.specs.{Prelude.{◌≡◌, [], IfOk}, List.list_any};
-ghost use Rattle.{abcps.specs.{Calls.{is_dearer, is_dearer_choice, status_by, verdicts_text}, Outcome.{IsAnswer, IsAnswered, IsEnd, observed}}, abcps_words.specs.declared.command.Command.{Command}};
+ghost use Rattle.{abcps.specs.{Calls.{is_dearer, is_dearer_choice, status_by, verdicts_text}, Outcome.{IsAnswer, IsAnswered, IsCompleteStatus, observed}}, abcps_words.specs.declared.command.Command.{Command}};
 
 use crate::refusing::Refusal;
 use crate::status::Status;
-use crate::telling::{refuse, write_both};
+use crate::reporting::{refuse, write_both};
 use eng_io::Sink;
 use lay_cert::{CertError, Judged, Verdict, check_listing, put_verdict};
 use mus_units::{Memory, Text};
@@ -29,7 +29,7 @@ fn some_dearer(judged: &[Judged]) -> bool
 /// The answer to verdicts.
 fn status_by(judged: &[Judged]) -> Status
     ensures value { result ≡ status_by judged.now }
-    ensures end { IsEnd result }
+    ensures end { IsCompleteStatus result }
 {
     if some_dearer(judged) {
         Status::NotLeast

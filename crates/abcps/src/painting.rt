@@ -1,13 +1,13 @@
 ghost use Rattle.std.specs.Prelude.{◌≡◌, ◌≤◌, [], IfOk, length};
-ghost use Rattle.{paint_text.specs.PaintText.{paint_text}, abcps.specs.{Calls.budget_of, Outcome.{IsAnswer, IsAnswered, observed}, declared.status.Status.Status}};
+ghost use Rattle.{ps_reports.specs.PaintText.{paint_text}, abcps.specs.{Calls.budget_of, Outcome.{IsAnswer, IsAnswered, observed}, declared.status.Status.Status}};
 ghost use Rattle.abcps_words.specs.declared.command.Command.{Command};
 
 use crate::refusing::Refusal;
 use crate::status::Status;
-use crate::telling::{refuse, write_both};
+use crate::reporting::{refuse, write_both};
 use eng_io::Sink;
 use mus_units::{Memory, Text};
-use paint_text::put_pages;
+use ps_reports::put_pages;
 use ps_machine::{MachineError, PagePaint, run_machine};
 use std::alloc::Global;
 

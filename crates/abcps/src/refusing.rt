@@ -4,7 +4,7 @@ ghost use Rattle.abcps.specs.Refusals.{not_pages_line, refusal_line, refusal_sta
 use crate::status::Status;
 use eng_lines::put_number;
 use mus_units::{Memory, Text};
-use paint_text::put_halt;
+use ps_reports::put_halt;
 use ps_machine::Cause;
 
 /// Why an input is refused, for which nothing is written on output: it fixes the answer, and the line

@@ -1,5 +1,5 @@
 ghost use Rattle.std.specs.Prelude.{◌≡◌, ◌≤◌, length, map, string_bytes};
-ghost use Rattle.{abcps_words.specs.Command.{IsGoodCommand, limit_of}, abcps.specs.{Calls.{CallsOne, NeverBoth}, Outcome.{IsAnswer, IsObeyed, IsReader, IsRun, observed}, Promises.Promises}};
+ghost use Rattle.{abcps_words.specs.Command.{IsGoodCommand, limit_of}, abcps.specs.{Calls.{CallsOne, NeverBoth}, Outcome.{IsAnswer, IsCommandAnswer, ReadsInput, IsRunAnswer, observed}, Promises.Promises}};
 
 use crate::books::{set, systems, trial};
 use crate::hearing::hear;
@@ -8,7 +8,7 @@ use crate::judging::check;
 use crate::making::make_book;
 use crate::painting::paint;
 use crate::status::Status;
-use crate::telling::tell_usage;
+use crate::reporting::report_usage;
 use abcps_words::{Command, asks_one, command_of};
 use eng_io::{ReadError, Sink, Source, read_all};
 use eng_jobs::Jobs;
@@ -30,7 +30,7 @@ fn answer<R: Threads + Sync, O: Sink, E: Sink, G: Gate + Sync>(
     errors: &mut E,
     gate: &G,
 ) -> Status
-    requires reader { IsReader command }
+    requires reader { ReadsInput command }
     requires good { IsGoodCommand command }
     requires within { length text ≤ limit_of command }
     ensures { IsAnswer command result text (observed O.taken O.faults output.old output.new) (observed E.taken E.faults errors.old errors.new) }
@@ -69,9 +69,9 @@ fn read_and_answer<R: Threads + Sync, S: Source, O: Sink, E: Sink, G: Gate + Syn
     errors: &mut E,
     gate: &G,
 ) -> Status
-    requires reader { IsReader command }
+    requires reader { ReadsInput command }
     requires good { IsGoodCommand command }
-    ensures { IsObeyed command result (observed S.left S.faults input.old input.new) (observed O.taken O.faults output.old output.new) (observed E.taken E.faults errors.old errors.new) }
+    ensures { IsCommandAnswer command result (observed S.left S.faults input.old input.new) (observed O.taken O.faults output.old output.new) (observed E.taken E.faults errors.old errors.new) }
 {
     match read_all(alloc, input, command.limit()) {
         Err(ReadError::Fault) => Status::ReadFault,
@@ -92,7 +92,7 @@ fn obey<R: Threads + Sync, S: Source, O: Sink, E: Sink, G: Gate + Sync>(
     gate: &G,
 ) -> Status
     requires { IsGoodCommand command }
-    ensures { IsObeyed command result (observed S.left S.faults input.old input.new) (observed O.taken O.faults output.old output.new) (observed E.taken E.faults errors.old errors.new) }
+    ensures { IsCommandAnswer command result (observed S.left S.faults input.old input.new) (observed O.taken O.faults output.old output.new) (observed E.taken E.faults errors.old errors.new) }
 {
     match command {
         Command::Make { tunes } => make_book(alloc, tunes, output, errors),
@@ -119,10 +119,10 @@ fn run_words<R: Threads + Sync, S: Source, O: Sink, E: Sink, G: Gate + Sync>(
     errors: &mut E,
     gate: &G,
 ) -> Status
-    ensures { IsRun result (map string_bytes words.now) (observed S.left S.faults input.old input.new) (observed O.taken O.faults output.old output.new) (observed E.taken E.faults errors.old errors.new) }
+    ensures { IsRunAnswer result (map string_bytes words.now) (observed S.left S.faults input.old input.new) (observed O.taken O.faults output.old output.new) (observed E.taken E.faults errors.old errors.new) }
 {
     let Some(command) = command_of(words) else {
-        tell_usage(errors);
+        report_usage(errors);
         return Status::Usage;
     };
     obey(rt, alloc, command, input, output, errors, gate)

@@ -1,5 +1,5 @@
 ghost use Rattle.std.specs.Prelude.{◌≡◌};
-ghost use Rattle.abcps.specs.{Status.{number_of, status_after}, declared.status.Status.Status};
+ghost use Rattle.abcps.specs.{Status.{status_number, status_after}, declared.status.Status.Status};
 
 use mus_units::Memory;
 use ps_write::DocError;
@@ -32,7 +32,7 @@ pub enum Status {
 impl Status {
     /// The number with which the program exits: 0 for done, and so on in order. No answer has 9.
     pub fn number(self) -> u8
-        ensures { result ≡ number_of self }
+        ensures { result ≡ status_number self }
     {
         match self {
             Status::Done => 0,

@@ -2,7 +2,7 @@ ghost use Rattle.std.specs.{Prelude.◌≡◌, IoError.error_kind};
 ghost use Rattle.abcps.specs.{Wordless.{IsWordless, cause_of}, declared.wordless.WordsError.WordsError, Outcome.observed};
 
 use crate::status::Status;
-use crate::telling::tell_usage;
+use crate::reporting::report_usage;
 use eng_io::Sink;
 use std::alloc::AllocError;
 use std::io;
@@ -43,7 +43,7 @@ pub fn refuse_words<E: Sink>(why: WordsError, errors: &mut E) -> Status
 {
     match why {
         WordsError::NotText => {
-            tell_usage(errors);
+            report_usage(errors);
             Status::Usage
         }
         WordsError::Memory => Status::Memory,

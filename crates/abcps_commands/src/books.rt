@@ -1,7 +1,7 @@
 //! Books in the folder, each beside what is written of it: the pages behind the prolog that `set` writes, the table
 //! of `systems --table`, and the faults.
 
-use crate::case::{Case, Told, verdict, words_of};
+use crate::case::{RunCase, Expected, verdict, words_of};
 use crate::files::{read_file, read_table};
 use crate::running::{Finished, Host, PIECE, Streams, ran};
 use abcps::Status;
@@ -13,12 +13,12 @@ const END_OF_PROLOG: &[u8] = b"%%EndProlog\n";
 /// A run of the words on a book.
 fn ran_on<R: Host>(rt: &R, words: &str, book: &[u8]) -> io::Result<Finished> {
     let alloc = rt.alloc();
-    let told = Told {
+    let told = Expected {
         status: 0,
         output: Vec::new(alloc),
         errors: Vec::new(alloc),
     };
-    let case = Case {
+    let case = RunCase {
         words: words_of(alloc, words)?,
         input: Vec::from_slice(alloc, book)?,
         told,

@@ -16,7 +16,7 @@ const NOTHING: &str = "-";
 
 /// What a run should answer and write.
 #[derive(Drop)]
-pub(crate) struct Told {
+pub(crate) struct Expected {
     pub(crate) status: u8,
     pub(crate) output: Vec<u8>,
     pub(crate) errors: Vec<u8>,
@@ -24,10 +24,10 @@ pub(crate) struct Told {
 
 /// The words and the input of a run, and what should come of it.
 #[derive(Drop)]
-pub(crate) struct Case {
+pub(crate) struct RunCase {
     pub(crate) words: Vec<String>,
     pub(crate) input: Vec<u8>,
-    pub(crate) told: Told,
+    pub(crate) told: Expected,
 }
 
 /// Whether a text was cut: whether what was taken of it is a front that isn't all.
@@ -47,7 +47,7 @@ fn status_without_errors(status: u8) -> u8 {
     }
 }
 
-impl Told {
+impl Expected {
     fn is_after_input(&self, finished: &Finished) -> bool {
         finished.status == Status::ReadFault
             && finished.output.taken().is_empty()
@@ -67,7 +67,7 @@ impl Told {
     }
 }
 
-impl Case {
+impl RunCase {
     /// Whether a run over streams that didn't fail is as told.
     pub(crate) fn is_told(&self, finished: &Finished) -> bool {
         finished.status.number() == self.told.status
@@ -136,10 +136,10 @@ fn status_of(field: &str) -> io::Result<u8> {
 }
 
 /// What fields say that should come.
-fn told_of<R: Host>(rt: &R, fields: &str) -> io::Result<Told> {
+fn told_of<R: Host>(rt: &R, fields: &str) -> io::Result<Expected> {
     let (status, fields) = next_field(fields)?;
     let (output, errors) = next_field(fields)?;
-    Ok(Told {
+    Ok(Expected {
         status: status_of(status)?,
         output: text_of(rt, output)?,
         errors: text_of(rt, errors)?,
@@ -147,10 +147,10 @@ fn told_of<R: Host>(rt: &R, fields: &str) -> io::Result<Told> {
 }
 
 /// The case that the fields behind its name say.
-fn case_of<R: Host>(rt: &R, fields: &str) -> io::Result<Case> {
+fn case_of<R: Host>(rt: &R, fields: &str) -> io::Result<RunCase> {
     let (words, fields) = next_field(fields)?;
     let (input, fields) = next_field(fields)?;
-    Ok(Case {
+    Ok(RunCase {
         words: words_of(rt.alloc(), words)?,
         input: input_of(rt, input)?,
         told: told_of(rt, fields)?,
@@ -158,7 +158,7 @@ fn case_of<R: Host>(rt: &R, fields: &str) -> io::Result<Case> {
 }
 
 /// The name on a line of a table, and the case that it names.
-pub(crate) fn named_case<'a, R: Host>(rt: &R, line: &'a str) -> io::Result<(&'a str, Case)> {
+pub(crate) fn named_case<'a, R: Host>(rt: &R, line: &'a str) -> io::Result<(&'a str, RunCase)> {
     let (name, fields) = next_field(line)?;
     Ok((name, case_of(rt, fields)?))
 }

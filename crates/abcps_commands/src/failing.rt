@@ -1,11 +1,11 @@
 //! Runs over streams that fail.
 
-use crate::case::{Case, verdict};
+use crate::case::{RunCase, verdict};
 use crate::running::{Host, PIECE, Stream, Streams, ran};
 use std::io;
 
 /// Whether a run over streams is as told.
-pub(crate) fn is_told<R: Host>(rt: &R, case: &Case, streams: &Streams) -> io::Result<bool> {
+pub(crate) fn is_told<R: Host>(rt: &R, case: &RunCase, streams: &Streams) -> io::Result<bool> {
     let finished = ran(rt, case, streams)?;
     Ok(case.is_told(&finished))
 }
@@ -13,7 +13,7 @@ pub(crate) fn is_told<R: Host>(rt: &R, case: &Case, streams: &Streams) -> io::Re
 /// Whether a run over streams of which one fails is as told.
 fn is_told_after<R: Host>(
     rt: &R,
-    case: &Case,
+    case: &RunCase,
     stream: Stream,
     streams: &Streams,
 ) -> io::Result<bool> {
@@ -23,7 +23,7 @@ fn is_told_after<R: Host>(
 
 /// Whether a run is as told with each of the calls of a stream failing in turn, and with the one behind them, that
 /// doesn't come.
-fn fails_as_told<R: Host>(rt: &R, case: &Case, stream: Stream, calls: u64) -> io::Result<bool> {
+fn fails_as_told<R: Host>(rt: &R, case: &RunCase, stream: Stream, calls: u64) -> io::Result<bool> {
     for call in 0..calls {
         if !is_told_after(rt, case, stream, &Streams::failing_at(stream, call))? {
             return Ok(false);
@@ -33,7 +33,7 @@ fn fails_as_told<R: Host>(rt: &R, case: &Case, stream: Stream, calls: u64) -> io
 }
 
 /// Whether a run is as told with a sink that takes no byte.
-fn takes_none_as_told<R: Host>(rt: &R, case: &Case, stream: Stream) -> io::Result<bool> {
+fn takes_none_as_told<R: Host>(rt: &R, case: &RunCase, stream: Stream) -> io::Result<bool> {
     let streams = Streams::taking_none(stream);
     if case.writes_on(stream) {
         is_told_after(rt, case, stream, &streams)
@@ -43,7 +43,7 @@ fn takes_none_as_told<R: Host>(rt: &R, case: &Case, stream: Stream) -> io::Resul
 }
 
 /// Whether a run is as told with sinks that take a byte in each call, and with each that takes none.
-fn trickles_as_told<R: Host>(rt: &R, case: &Case) -> io::Result<bool> {
+fn trickles_as_told<R: Host>(rt: &R, case: &RunCase) -> io::Result<bool> {
     Ok(
         is_told(rt, case, &Streams::sound(1))?
             && takes_none_as_told(rt, case, Stream::Output)?
@@ -63,7 +63,7 @@ fn calls_named(stream: Stream) -> &'static str {
 fn tell_stream<R: Host>(
     rt: &R,
     name: &str,
-    case: &Case,
+    case: &RunCase,
     stream: Stream,
     calls: u64,
 ) -> io::Result<()> {
@@ -73,7 +73,7 @@ fn tell_stream<R: Host>(
 }
 
 /// How often a run over sound streams calls each of them.
-fn calls_of<R: Host>(rt: &R, case: &Case) -> io::Result<[u64; 3]> {
+fn calls_of<R: Host>(rt: &R, case: &RunCase) -> io::Result<[u64; 3]> {
     let sound = ran(rt, case, &Streams::sound(PIECE))?;
     Ok([
         sound.calls(Stream::Input),
@@ -83,7 +83,7 @@ fn calls_of<R: Host>(rt: &R, case: &Case) -> io::Result<[u64; 3]> {
 }
 
 /// Tells whether a case is as told over streams that fail.
-pub(crate) fn tell_failures<R: Host>(rt: &R, name: &str, case: &Case) -> io::Result<()> {
+pub(crate) fn tell_failures<R: Host>(rt: &R, name: &str, case: &RunCase) -> io::Result<()> {
     let [reads, writes, errors] = calls_of(rt, case)?;
     tell_stream(rt, name, case, Stream::Input, reads)?;
     tell_stream(rt, name, case, Stream::Output, writes)?;

@@ -1,6 +1,6 @@
 //! Gates that count the tunes that enter.
 
-use crate::case::Case;
+use crate::case::RunCase;
 use crate::running::{Finished, Host, PIECE, Streams, ran_through};
 use abcps::Gate;
 use std::alloc::{AllocError, Global};
@@ -65,7 +65,7 @@ impl Counter {
 }
 
 /// A run of a case over streams that never fail, and who entered its gate.
-pub(crate) fn ran_counted<R: Host>(rt: &R, case: &Case) -> io::Result<(Finished, Entered)> {
+pub(crate) fn ran_counted<R: Host>(rt: &R, case: &RunCase) -> io::Result<(Finished, Entered)> {
     let counter = make_counter(rt.alloc())?;
     let finished = ran_through(rt, case, &Streams::sound(PIECE), &counter)?;
     Ok((finished, counter.sum()))

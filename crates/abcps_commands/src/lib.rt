@@ -15,7 +15,7 @@ mod painting;
 mod running;
 
 use crate::books::tell_books;
-use crate::case::{Case, named_case, verdict};
+use crate::case::{RunCase, named_case, verdict};
 use crate::failing::{is_told, tell_failures};
 use crate::files::read_table;
 use crate::gates::{Entered, ran_counted};
@@ -56,7 +56,7 @@ fn tell_failing<R: Host>(rt: &R) -> io::Result<()> {
 }
 
 /// Whether a run of a case is as told, and who entered its gate.
-fn judged_gate<R: Host>(rt: &R, case: &Case) -> io::Result<(bool, Entered)> {
+fn judged_gate<R: Host>(rt: &R, case: &RunCase) -> io::Result<(bool, Entered)> {
     let (finished, entered) = ran_counted(rt, case)?;
     Ok((case.is_told(&finished), entered))
 }

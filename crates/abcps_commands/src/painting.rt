@@ -5,7 +5,7 @@
 use crate::files::read_file;
 use crate::running::Host;
 use mus_units::{Memory, Text};
-use paint_text::{put_halt, put_pages};
+use ps_reports::{put_halt, put_pages};
 use ps_machine::{MachineError, run_machine};
 use std::alloc::Global;
 use std::io;

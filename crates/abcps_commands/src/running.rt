@@ -1,7 +1,7 @@
 //! Runs of the top call over streams in memory.
 
-use crate::case::Case;
-use abcps::{Gate, Open, Status, run};
+use crate::case::RunCase;
+use abcps::{Gate, NoGate, Status, run};
 use eng_io::{MemSink, MemSource};
 use mus_units::{Row, Text};
 use std::alloc::{AllocError, Global};
@@ -133,14 +133,14 @@ fn sink(alloc: Global, pace: Pace) -> Result<MemSink, AllocError> {
 }
 
 /// A run of a case over such streams, whose tunes enter no gate.
-pub(crate) fn ran<R: Host>(rt: &R, case: &Case, streams: &Streams) -> io::Result<Finished> {
-    ran_through(rt, case, streams, &Open)
+pub(crate) fn ran<R: Host>(rt: &R, case: &RunCase, streams: &Streams) -> io::Result<Finished> {
+    ran_through(rt, case, streams, &NoGate)
 }
 
 /// A run of a case over such streams, whose tunes enter a gate.
 pub(crate) fn ran_through<R: Host, G: Gate + Sync>(
     rt: &R,
-    case: &Case,
+    case: &RunCase,
     streams: &Streams,
     gate: &G,
 ) -> io::Result<Finished> {

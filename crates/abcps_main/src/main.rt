@@ -2,7 +2,7 @@
 //! answer is the exit status. Where the words can't be had, the answer is that of `refuse_words`.
 #![tactic(auto)]
 
-use abcps::{Open, WordsError, refuse_words, run};
+use abcps::{NoGate, WordsError, refuse_words, run};
 use eng_io::{StdSink, StdSource};
 use std::env;
 use std::process::ExitCode;
@@ -25,7 +25,7 @@ fn main(rt: HostRuntime) -> ExitCode {
             &mut input,
             &mut output,
             &mut errors,
-            &Open,
+            &NoGate,
         ),
         Err(why) => refuse_words(why, &mut errors),
     };

@@ -1,8 +1,8 @@
 -- Options read one after another from the front: what stands read at each step, and that no other options have the same words.
 use Rattle.std.{proofs.{Common.{◌≡◌, ℕ, ℤ, pos, negsuc, ◌+◌, ◌<◌, ◌≤◌, ◌^◌, Bool, true, false, cond, ◌||◌, List, [], ◌∷◌, ◌++◌, length, Option, Some, None, is_some, unwrap_or, All, flat_map, refl, sym, ◌∙◌, ap, subst, arith, decimal, append_assoc}, lemmas.{Bool.true≢false, Fmt.{decimal_injective, signed_decimal_injective}, Int.ints, List.{append-nil, Elements.{All-head, All-tail, All-push}, Sums.sum_by-append}, Grind.flat_map-append}}, specs.{Int.Signed.mag, List.{list_any, count_by}, Option.option_or}}
-use Rattle.abcps_words.{specs.{Words.{IsWithin, IsMove, flag_words, IsFlag, same_kind, IsOnce, IsSpelled, jobs_of, half_steps_of, first_said, said}, declared.options.{Flag.Flag, Options.Options}, Adding.{has_kind, with_flag, added}}, proofs.Fronts.{head_of, tail_of, clash}}
+use Rattle.abcps_words.{specs.{Words.{IsUpTo, IsMove, flag_words, IsFlag, same_kind, IsOnce, IsSpelled, jobs_of, half_steps_of, first_said, said}, declared.options.{Flag.Flag, Options.Options}, Adding.{has_kind, with_flag, with_option}}, proofs.Fronts.{head_of, tail_of, clash}}
 
-one_number : (n m : ℕ) → IsWithin 64 n → IsWithin 64 m → decimal n ≡ decimal m → n ≡ m
+one_number : (n m : ℕ) → IsUpTo 64 n → IsUpTo 64 m → decimal n ≡ decimal m → n ≡ m
 one_number n m a b e = decimal_injective n m (omega (arith, a)) (omega (arith, b)) e
 
 abbrev second : List (List ℕ) → List ℕ
@@ -140,7 +140,7 @@ fits seen once f none g = by_test (same_kind g f) refl
         let c : count_by (same_kind g) (seen ++ f ∷ []) ≡ count_by (same_kind g) seen + (1 + 0) = rw is at (counted (same_kind g) seen f []) in omega arith
     by_test false is = let c : count_by (same_kind g) (seen ++ f ∷ []) ≡ count_by (same_kind g) seen + (0 + 0) = rw is at (counted (same_kind g) seen f []) in omega (arith, once g)
 
-adds_one : (seen : List Flag) → IsOnce seen → (f : Flag) (o : Options) → added (said seen) f ≡ Some o → IsOnce (seen ++ f ∷ []) × (o ≡ said (seen ++ f ∷ []))
+adds_one : (seen : List Flag) → IsOnce seen → (f : Flag) (o : Options) → with_option (said seen) f ≡ Some o → IsOnce (seen ++ f ∷ []) × (o ≡ said (seen ++ f ∷ []))
 adds_one seen once f o e = by_kind (has_kind (said seen) f) refl e
   where
     by_kind : (b : Bool) → has_kind (said seen) f ≡ b → cond {A = Option Options} b None (Some (with_flag (said seen) f)) ≡ Some o → IsOnce (seen ++ f ∷ []) × (o ≡ said (seen ++ f ∷ []))
@@ -148,7 +148,7 @@ adds_one seen once f o e = by_kind (has_kind (said seen) f) refl e
     by_kind false is e = (fits seen once f is, (let same : with_flag (said seen) f ≡ o = cc in sym same ∙ said_more seen f is))
 
 -- an option that may not stand once more
-twice : (seen more : List Flag) (f : Flag) → added (said seen) f ≡ None → IsOnce (seen ++ f ∷ more) → ⊥
+twice : (seen more : List Flag) (f : Flag) → with_option (said seen) f ≡ None → IsOnce (seen ++ f ∷ more) → ⊥
 twice seen more f e once = by_kind (has_kind (said seen) f) refl e
   where
     by_kind : (b : Bool) → has_kind (said seen) f ≡ b → cond {A = Option Options} b None (Some (with_flag (said seen) f)) ≡ None → ⊥
@@ -157,9 +157,9 @@ twice seen more f e once = by_kind (has_kind (said seen) f) refl e
         let c : count_by (same_kind f) (seen ++ f ∷ more) ≡ count_by (same_kind f) seen + (1 + count_by (same_kind f) more) = rw (own_kind f) at (counted (same_kind f) seen f more) in omega (arith, once f)
     by_kind false is e = cc
 
-pub one_more : (words rest behind : List (List ℕ)) (o p : Options) (f : Flag) → IsRead words rest o → IsFlag f → rest ≡ flag_words f ++ behind → added o f ≡ Some p → IsRead words behind p
+pub one_more : (words rest behind : List (List ℕ)) (o p : Options) (f : Flag) → IsRead words rest o → IsFlag f → rest ≡ flag_words f ++ behind → with_option o f ≡ Some p → IsRead words behind p
 one_more words rest behind o p f read good e adds =
-    let fit = adds_one read.seen read.once f p (subst (λ o. added o f ≡ Some p) read.says adds) in
+    let fit = adds_one read.seen read.once f p (subst (λ o. with_option o f ≡ Some p) read.says adds) in
     record {
       seen = read.seen ++ f ∷ [];
       spelled = read.spelled ∙ ap (λ ws. flat_map flag_words read.seen ++ ws) e ∙ put_in read.seen;
@@ -184,14 +184,14 @@ unreadable words rest o read some none flags is = (let l = left words rest o rea
     by_more [] e good = (let l = ap length e in omega arith)
     by_more (f ∷ more) e good = none f (flat_map flag_words more) (All-head IsFlag f more good) e
 
-pub repeated : (words rest behind : List (List ℕ)) (o : Options) (f : Flag) → IsRead words rest o → IsFlag f → rest ≡ flag_words f ++ behind → added o f ≡ None → (flags : List Flag) → IsSpelled flags words → ⊥
+pub repeated : (words rest behind : List (List ℕ)) (o : Options) (f : Flag) → IsRead words rest o → IsFlag f → rest ≡ flag_words f ++ behind → with_option o f ≡ None → (flags : List Flag) → IsSpelled flags words → ⊥
 repeated words rest behind o f read fine e adds flags is = (let l = left words rest o read flags is in by_more l.0 l.1 l.2 l.3)
   where
     by_more : (more : List Flag) → flags ≡ read.seen ++ more → rest ≡ flat_map flag_words more → All IsFlag more → ⊥
     by_more [] a b good = some_words f behind (sym e ∙ b)
     by_more (g ∷ more) a b good =
         let same = one_flag f g behind (flat_map flag_words more) fine (All-head IsFlag g more good) (sym e ∙ b) in let stand : flags ≡ read.seen ++ f ∷ more = a ∙ ap (λ h. read.seen ++ h ∷ more) (sym same.0) in
-        twice read.seen more f (subst (λ o. added o f ≡ None) read.says adds) (subst IsOnce stand is.once)
+        twice read.seen more f (subst (λ o. with_option o f ≡ None) read.says adds) (subst IsOnce stand is.once)
 
 -- options that have the same words are the same
 pub one_spelling : (flags others : List Flag) (words : List (List ℕ)) → IsSpelled flags words → IsSpelled others words → flags ≡ others
@@ -203,7 +203,7 @@ one_spelling flags others words a b =
     by_more (f ∷ more) e none = absurd (some_words f (flat_map flag_words more) (sym none))
 
 -- the numbers that options say are in range
-pub jobs_good : (flags : List Flag) → All IsFlag flags → IsWithin 64 (unwrap_or (first_said jobs_of flags) 1)
+pub jobs_good : (flags : List Flag) → All IsFlag flags → IsUpTo 64 (unwrap_or (first_said jobs_of flags) 1)
 jobs_good [] good = record { low = omega arith; high = omega arith }
 jobs_good (Flag.Jobs n ∷ flags) good = All-head IsFlag (Flag.Jobs n) flags good
 jobs_good (f ∷ flags) good = jobs_good flags (All-tail IsFlag f flags good)

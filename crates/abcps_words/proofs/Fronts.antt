@@ -1,11 +1,11 @@
 -- What the first words can't be, and where the front of a command ends.
 use Rattle.std.{proofs.{Common.{◌≡◌, ℕ, ℤ, ◌+◌, true, false, ◌||◌, ◌==◌, if◌then◌else◌, List, [], ◌∷◌, ◌++◌, take, drop, codes, refl, sym, ◌∙◌, ap, arith, decimal}, lemmas.Bool.{true≢false, Decides.nat_tests}}, specs.Fmt.signed_decimal}
 use Rattle.mus_units.specs.declared.key.Spread.{Spread}
-use Rattle.abcps_words.specs.{declared.options.Flag.Flag, declared.command.Name.Name, declared.command.Command.Command, Words.IsWithin, Words.IsMove, Words.name_bytes, Words.spread_word, Words.front_of, Words.HasTunes, Words.flag_words, Words.IsFlag}
+use Rattle.abcps_words.specs.{declared.options.Flag.Flag, declared.command.Name.Name, declared.command.Command.Command, Words.IsUpTo, Words.IsMove, Words.name_bytes, Words.spread_word, Words.front_of, Words.HasTunes, Words.flag_words, Words.IsFlag}
 
 -- the words begin with no number from 1 to the most
 abbrev pub LacksNumber : ℕ → List (List ℕ) → Type 0
-LacksNumber most words = (n : ℕ) (rest : List (List ℕ)) → IsWithin most n → words ≡ decimal n ∷ rest → ⊥
+LacksNumber most words = (n : ℕ) (rest : List (List ℕ)) → IsUpTo most n → words ≡ decimal n ∷ rest → ⊥
 
 -- the words begin with no number of half steps
 abbrev pub LacksHalfSteps : List (List ℕ) → Type 0

@@ -20,5 +20,5 @@ with_flag o Flag.Even = record o { even = true }
 with_flag o (Flag.Jobs jobs) = record o { jobs = Some jobs }
 with_flag o (Flag.Transpose by) = record o { by = Some by }
 
-abbrev pub added : Options → Flag → Option Options
-added o f = if has_kind o f then None else Some (with_flag o f)
+abbrev pub with_option : Options → Flag → Option Options
+with_option o f = if has_kind o f then None else Some (with_flag o f)

@@ -1,6 +1,6 @@
 -- The command that words ask for.
 use Rattle.std.specs.Prelude.{◌≡◌, ⊤, ℕ, List, ◌++◌}
-use Rattle.abcps_words.specs.{declared.options.Flag.Flag, declared.command.Command.Command, Words.IsWithin, Words.IsMove, Words.front_of, Words.HasTunes, Words.IsSpelled, Words.said, Words.Says}
+use Rattle.abcps_words.specs.{declared.options.Flag.Flag, declared.command.Command.Command, Words.IsUpTo, Words.IsMove, Words.front_of, Words.HasTunes, Words.IsSpelled, Words.said, Words.SaysCommand}
 
 -- The words ask for this command: they are its front and options that it takes, in any order, each at most once.
 pub record Asks (words : List (List ℕ)) (c : Command) : Type 0 where
@@ -9,7 +9,7 @@ pub record Asks (words : List (List ℕ)) (c : Command) : Type 0 where
   pub whole : words ≡ front_of c ++ behind
   pub tunes : HasTunes c
   pub spelled : IsSpelled options behind
-  pub says : Says (said options) c
+  pub says : SaysCommand (said options) c
 
 -- the words ask for a command
 abbrev pub IsListed : List (List ℕ) → Type 0
@@ -17,12 +17,12 @@ IsListed words = (c : Command) × Asks words c
 
 -- its jobs are 1 to 64, its tunes 1 to 500, and its half steps -12 to 12
 abbrev pub IsGoodCommand : Command → Type 0
-IsGoodCommand (Command.Set flow jobs by even) = IsWithin 64 jobs × IsMove by
+IsGoodCommand (Command.Set flow jobs by even) = IsUpTo 64 jobs × IsMove by
 IsGoodCommand (Command.Systems flow table by) = IsMove by
 IsGoodCommand Command.Inspect = ⊤
 IsGoodCommand Command.Check = ⊤
-IsGoodCommand (Command.Make tunes) = IsWithin 500 tunes
-IsGoodCommand (Command.Trial tunes flow jobs even) = IsWithin 500 tunes × IsWithin 64 jobs
+IsGoodCommand (Command.Make tunes) = IsUpTo 500 tunes
+IsGoodCommand (Command.Trial tunes flow jobs even) = IsUpTo 500 tunes × IsUpTo 64 jobs
 IsGoodCommand Command.Paint = ⊤
 IsGoodCommand (Command.Hear spread) = ⊤
 

@@ -3,7 +3,7 @@ use Rattle.std.specs.{Prelude.{◌≡◌, ◌≤◌, ◌≤ℤ◌, ⊤, ℕ, ℤ
 use Rattle.{mus_units.specs.declared.key.Spread.{Spread}, abcps_words.specs.declared.{options.Flag.Flag, options.Options.Options, command.Name.Name, command.Command.Command}}
 
 -- a number from 1 to the most
-pub record IsWithin (most n : ℕ) : Type 0 where
+pub record IsUpTo (most n : ℕ) : Type 0 where
   pub low : 1 ≤ n
   pub high : n ≤ most
 
@@ -42,8 +42,8 @@ front_of (Command.Hear spread) = name_bytes Name.Hear ∷ spread_word spread ∷
 
 -- a number of tunes is 1 to 500
 abbrev pub HasTunes : Command → Type 0
-HasTunes (Command.Make tunes) = IsWithin 500 tunes
-HasTunes (Command.Trial tunes flow jobs even) = IsWithin 500 tunes
+HasTunes (Command.Make tunes) = IsUpTo 500 tunes
+HasTunes (Command.Trial tunes flow jobs even) = IsUpTo 500 tunes
 HasTunes (Command.Set flow jobs by even) = ⊤
 HasTunes (Command.Systems flow table by) = ⊤
 HasTunes Command.Inspect = ⊤
@@ -64,7 +64,7 @@ abbrev pub IsFlag : Flag → Type 0
 IsFlag Flag.Flow = ⊤
 IsFlag Flag.Table = ⊤
 IsFlag Flag.Even = ⊤
-IsFlag (Flag.Jobs jobs) = IsWithin 64 jobs
+IsFlag (Flag.Jobs jobs) = IsUpTo 64 jobs
 IsFlag (Flag.Transpose by) = IsMove by
 
 -- two options are of one kind, whatever their numbers
@@ -119,12 +119,12 @@ pub record IsBare (o : Options) : Type 0 where
   pub by : o.by ≡ None
 
 -- A command says what its options say, and takes no others: 1 job where none says how many, and no half step.
-abbrev pub Says : Options → Command → Type 0
-Says o (Command.Set flow jobs by even) = (flow ≡ o.flow) × (jobs ≡ unwrap_or o.jobs 1) × (by ≡ unwrap_or o.by (pos 0)) × (even ≡ o.even) × (o.table ≡ false)
-Says o (Command.Systems flow table by) = (flow ≡ o.flow) × (table ≡ o.table) × (by ≡ unwrap_or o.by (pos 0)) × (o.jobs ≡ None) × (o.even ≡ false)
-Says o Command.Inspect = IsBare o
-Says o Command.Check = IsBare o
-Says o (Command.Make tunes) = IsBare o
-Says o (Command.Trial tunes flow jobs even) = (flow ≡ o.flow) × (jobs ≡ unwrap_or o.jobs 1) × (even ≡ o.even) × (o.table ≡ false) × (o.by ≡ None)
-Says o Command.Paint = IsBare o
-Says o (Command.Hear spread) = IsBare o
+abbrev pub SaysCommand : Options → Command → Type 0
+SaysCommand o (Command.Set flow jobs by even) = (flow ≡ o.flow) × (jobs ≡ unwrap_or o.jobs 1) × (by ≡ unwrap_or o.by (pos 0)) × (even ≡ o.even) × (o.table ≡ false)
+SaysCommand o (Command.Systems flow table by) = (flow ≡ o.flow) × (table ≡ o.table) × (by ≡ unwrap_or o.by (pos 0)) × (o.jobs ≡ None) × (o.even ≡ false)
+SaysCommand o Command.Inspect = IsBare o
+SaysCommand o Command.Check = IsBare o
+SaysCommand o (Command.Make tunes) = IsBare o
+SaysCommand o (Command.Trial tunes flow jobs even) = (flow ≡ o.flow) × (jobs ≡ unwrap_or o.jobs 1) × (even ≡ o.even) × (o.table ≡ false) × (o.by ≡ None)
+SaysCommand o Command.Paint = IsBare o
+SaysCommand o (Command.Hear spread) = IsBare o

@@ -1,5 +1,5 @@
 ghost use Rattle.std.specs.Prelude.{◌≡◌, ◌++◌, ◌∷◌, ℕ, List, IfSome, IfNone, MatchOption, map, string_bytes};
-ghost use Rattle.abcps_words.specs.{Words.name_bytes, Words.spread_word, Words.front_of, Words.HasTunes, Words.Says, Command.Asks, Command.IsListed, Command.IsGoodCommand, Command.limit_of, Command.AsksOne, Command.AskedIsGood, Usage.usage_line};
+ghost use Rattle.abcps_words.specs.{Words.name_bytes, Words.spread_word, Words.front_of, Words.HasTunes, Words.SaysCommand, Command.Asks, Command.IsListed, Command.IsGoodCommand, Command.limit_of, Command.AsksOne, Command.AskedIsGood, Usage.usage_line};
 
 use crate::options::{Options, options_of};
 use crate::words::{is_word, take_number};
@@ -94,8 +94,8 @@ impl Command {
     fn with_options(self, options: Options) -> Option<Command>
         requires { HasTunes self }
         ensures { MatchOption result
-            ((c : Command) → front_of c ≡ front_of self → Says options c → ⊥)
-            (λ c. (front_of c ≡ front_of self) × HasTunes c × Says options c) }
+            ((c : Command) → front_of c ≡ front_of self → SaysCommand options c → ⊥)
+            (λ c. (front_of c ≡ front_of self) × HasTunes c × SaysCommand options c) }
     {
         match self {
             Command::Set { .. } if !options.table => Some(Command::Set {

@@ -1,5 +1,5 @@
 ghost use Rattle.std.specs.{Prelude.◌≡◌, Prelude.◌++◌, Prelude.◌∷◌, Prelude.◌↔◌, Prelude.ℕ, Prelude.ℤ, Prelude.List, Prelude.IsTrue, Prelude.MatchOption, Prelude.decimal, Prelude.map, Prelude.string_bytes, Fmt.signed_decimal};
-ghost use Rattle.abcps_words.specs.{Words.IsWithin, Words.IsMove, Words.flag_words, Words.IsFlag, Words.IsSpelled, Words.said, Adding.added, Adding.no_options};
+ghost use Rattle.abcps_words.specs.{Words.IsUpTo, Words.IsMove, Words.flag_words, Words.IsFlag, Words.IsSpelled, Words.said, Adding.with_option, Adding.no_options};
 
 use crate::words::{is_word, take_half_steps, take_number};
 
@@ -38,8 +38,8 @@ const MOST_JOBS: u32 = 64;
 /// The number of jobs at the front of the words, and the words behind it.
 fn take_jobs(words: &[String]) -> Option<(u8, &[String])>
     ensures { MatchOption result
-        ((n : ℕ) (rest : List (List ℕ)) → IsWithin 64 n → map string_bytes words.now ≡ decimal n ∷ rest → ⊥)
-        (λ z. IsWithin 64 z.0 × (map string_bytes words.now ≡ decimal z.0 ∷ map string_bytes z.1.now)) }
+        ((n : ℕ) (rest : List (List ℕ)) → IsUpTo 64 n → map string_bytes words.now ≡ decimal n ∷ rest → ⊥)
+        (λ z. IsUpTo 64 z.0 × (map string_bytes words.now ≡ decimal z.0 ∷ map string_bytes z.1.now)) }
 {
     let (jobs, rest) = take_number(MOST_JOBS, words)?;
     Some((jobs as u8, rest))
@@ -85,7 +85,7 @@ impl Options {
 
     /// What they say with one more option, where none of its kind is among them.
     fn with(self, flag: Flag) -> Option<Options>
-        ensures { result ≡ added self flag }
+        ensures { result ≡ with_option self flag }
     {
         match flag {
             Flag::Flow if !self.flow => Some(Options { flow: true, ..self }),

@@ -1,5 +1,5 @@
 ghost use Rattle.std.specs.{Prelude.◌≡◌, Prelude.◌<◌, Prelude.◌≤◌, Prelude.◌∷◌, Prelude.◌↔◌, Prelude.ℕ, Prelude.ℤ, Prelude.negsuc, Prelude.List, Prelude.IsTrue, Prelude.MatchOption, Prelude.decimal, Prelude.map, Prelude.string_bytes, Fmt.signed_decimal};
-ghost use Rattle.abcps_words.specs.Words.{IsWithin, IsMove};
+ghost use Rattle.abcps_words.specs.Words.{IsUpTo, IsMove};
 
 use eng_lines::{small_number, strip};
 
@@ -29,8 +29,8 @@ fn number(least: u32, most: u32, word: &[u8]) -> Option<u32>
 /// The number from 1 to the most that the first word spells, and the words behind it.
 pub fn take_number(most: u32, words: &[String]) -> Option<(u32, &[String])>
     ensures { MatchOption result
-        ((n : ℕ) (rest : List (List ℕ)) → IsWithin most n → map string_bytes words.now ≡ decimal n ∷ rest → ⊥)
-        (λ z. IsWithin most z.0 × (map string_bytes words.now ≡ decimal z.0 ∷ map string_bytes z.1.now)) }
+        ((n : ℕ) (rest : List (List ℕ)) → IsUpTo most n → map string_bytes words.now ≡ decimal n ∷ rest → ⊥)
+        (λ z. IsUpTo most z.0 × (map string_bytes words.now ≡ decimal z.0 ∷ map string_bytes z.1.now)) }
 {
     let (word, rest) = words.split_first()?;
     Some((number(1, most, word.as_bytes())?, rest))

@@ -7,7 +7,7 @@ use std::alloc::Global;
 
 /// A case: the name of a call, the word behind it if there is one, and the input.
 #[derive(Clone, Copy)]
-pub struct Case<'a> {
+pub struct CallCase<'a> {
     pub call: &'a str,
     pub word: &'a str,
     pub input: &'a str,
@@ -19,10 +19,10 @@ pub fn is_case(line: &str) -> bool {
 }
 
 /// The case on a line, such as `read_named K | Bb`. What is missing is empty.
-pub fn case_of(line: &str) -> Case<'_> {
+pub fn case_of(line: &str) -> CallCase<'_> {
     let (head, input) = cut(line, " |");
     let (call, word) = cut(head, " ");
-    Case {
+    CallCase {
         call,
         word,
         input: input.strip_prefix(' ').unwrap_or(input),
@@ -31,10 +31,10 @@ pub fn case_of(line: &str) -> Case<'_> {
 
 /// The line of a case that is made of a text, and the case: on its line a call and its words, and
 /// behind the line the text.
-pub fn text_case(text: &str) -> (&str, Case<'_>) {
+pub fn text_case(text: &str) -> (&str, CallCase<'_>) {
     let (line, input) = cut(text, "\n");
     let (call, word) = cut(line, " ");
-    (line, Case { call, word, input })
+    (line, CallCase { call, word, input })
 }
 
 /// What stands before and behind a mark.

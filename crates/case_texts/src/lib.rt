@@ -11,7 +11,7 @@ pub mod telling;
 pub mod times;
 pub mod values;
 
-pub use cases::{Case, text_case, told, within_limit};
+pub use cases::{CallCase, text_case, told, within_limit};
 pub use faults::{put_fault, put_kind};
 pub use notes::{put_bar, put_deco, put_head, put_pitch, put_value};
 pub use report::Report;

@@ -1,4 +1,4 @@
-use crate::cases::{Case, case_of, is_case, told};
+use crate::cases::{CallCase, case_of, is_case, told};
 use crate::escapes::{put_shown, unescaped};
 use crate::report::Report;
 use mus_units::{Memory, Text};
@@ -10,7 +10,7 @@ use std::{fs, io};
 /// What a crate of tests answers to its cases.
 pub trait Answers {
     /// Adds the value of a case's call on its input.
-    fn put_answer(&self, out: &mut Report, case: Case<'_>, input: &[u8]) -> Result<(), Memory>;
+    fn put_answer(&self, out: &mut Report, case: CallCase<'_>, input: &[u8]) -> Result<(), Memory>;
 }
 
 /// Tells the cases of tables, which are files, one after another: each case's line, and below it

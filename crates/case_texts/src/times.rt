@@ -1,5 +1,5 @@
 use crate::report::Report;
-use mus_time::{Class, ColumnKey};
+use mus_onsets::{Class, ColumnKey};
 use mus_units::Memory;
 
 /// Adds a key of a column: its class, its measure, its tick and its place.

@@ -5,6 +5,6 @@
 pub mod numbers;
 
 pub use numbers::{
-    cut_at, number, number_and_rest, number_behind, numbers_behind, put_named, put_next,
+    cut_at, number, number_and_rest, number_after, numbers_after, put_named, put_next,
     put_number, small_number, strip,
 };

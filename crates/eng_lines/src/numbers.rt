@@ -95,7 +95,7 @@ pub fn number_and_rest(bytes: &[u8]) -> Option<(u32, &[u8])>
 
 /// The two numbers below 2^32 behind the prefix, a space between them; `None` exactly
 /// where the bytes are no such line.
-pub fn numbers_behind(prefix: &[u8], bytes: &[u8]) -> Option<(u32, u32)>
+pub fn numbers_after(prefix: &[u8], bytes: &[u8]) -> Option<(u32, u32)>
     ensures { MatchOption result ((a b : ℕ) → a < 2 ^ 32 → b < 2 ^ 32 → bytes.now ≡ prefix.now ++ decimal a ++ 32 ∷ decimal b → ⊥)
         (λ z. (bytes.now ≡ prefix.now ++ decimal z.0 ++ 32 ∷ decimal z.1) × (z.0 < 2 ^ 32) × (z.1 < 2 ^ 32)) }
 {
@@ -106,7 +106,7 @@ pub fn numbers_behind(prefix: &[u8], bytes: &[u8]) -> Option<(u32, u32)>
 }
 
 /// The number below 2^32 behind the prefix; `None` exactly where the bytes are no such line.
-pub fn number_behind(prefix: &[u8], bytes: &[u8]) -> Option<u32>
+pub fn number_after(prefix: &[u8], bytes: &[u8]) -> Option<u32>
     ensures { MatchOption result ((a : ℕ) → a < 2 ^ 32 → bytes.now ≡ prefix.now ++ decimal a → ⊥)
         (λ a. (bytes.now ≡ prefix.now ++ decimal a) × (a < 2 ^ 32)) }
 {

@@ -1,13 +1,13 @@
 -- A generated book is short: a tune of it has at most 700 bytes.
 use Rattle.std.{proofs.{Common.{◌≡◌, refl, ℕ, zero, suc, ◌+◌, ◌*◌, ◌≤◌, length, arith}, lemmas.{Fmt.length-decimal-le, List.length-append}}}
-use Rattle.gen_book.specs.Book.{half_behind, heading, line_behind, measure_behind, tune, tunes, book}
+use Rattle.gen_book.specs.Book.{half_behind, heading_of_tune, line_behind, measure_behind, tune, tunes, book}
 
 line_length : (s : ℕ) → length (line_behind s) ≡ 41
 unfolding line_behind measure_behind half_behind
 line_length s = refl
 
 tune_short : (i : ℕ) → i ≤ 500 → length (tune i) ≤ 700
-unfolding tune heading
+unfolding tune heading_of_tune
 tune_short i few = let digits = length-decimal-le 3 i (omega arith) (omega (arith, few)) (omega (arith, few)) in simp (length-append, line_length) (omega (arith, digits))
 
 tunes_short : (k i : ℕ) → i + k ≤ 501 → length (tunes k i) ≤ 700 * k

@@ -3,30 +3,30 @@
 use Rattle.std.specs.Prelude.{ℕ, zero, suc, ◌+◌, ◌*◌, ◌/◌, ◌%◌, ◌^◌, List, [], ◌∷◌, ◌++◌, codes, decimal, slice_index}
 
 -- the number behind a number
-unfoldable pub next : ℕ → ℕ
-next s = (s * 1103515245 + 12345) % 2 ^ 31
+unfoldable pub next_number : ℕ → ℕ
+next_number s = (s * 1103515245 + 12345) % 2 ^ 31
 
 -- the letter of a number, one of seven
-unfoldable pub letter_of : ℕ → ℕ
-letter_of s = slice_index (codes "GABcdef") ((s / 65536) % 7)
+unfoldable pub letter_of_note : ℕ → ℕ
+letter_of_note s = slice_index (codes "GABcdef") ((s / 65536) % 7)
 
 -- the number so many steps behind a number
-abbrev pub steps : ℕ → ℕ → ℕ
-steps zero s = s
-steps (suc k) s = next (steps k s)
+abbrev pub number_after_steps : ℕ → ℕ → ℕ
+number_after_steps zero s = s
+number_after_steps (suc k) s = next_number (number_after_steps k s)
 
 -- the four letters behind a number
 unfoldable pub half_behind : ℕ → List ℕ
-half_behind s = letter_of (steps 1 s) ∷ letter_of (steps 2 s) ∷ letter_of (steps 3 s) ∷ letter_of (steps 4 s) ∷ []
+half_behind s = letter_of_note (number_after_steps 1 s) ∷ letter_of_note (number_after_steps 2 s) ∷ letter_of_note (number_after_steps 3 s) ∷ letter_of_note (number_after_steps 4 s) ∷ []
 
 -- a measure: four letters, a space, four letters, a bar
 unfoldable pub measure_behind : ℕ → List ℕ
-measure_behind s = half_behind s ++ 32 ∷ half_behind (steps 4 s) ++ 124 ∷ []
+measure_behind s = half_behind s ++ 32 ∷ half_behind (number_after_steps 4 s) ++ 124 ∷ []
 
 -- so many measures, with nothing between
 abbrev pub measures_behind : ℕ → ℕ → List ℕ
 measures_behind zero s = []
-measures_behind (suc k) s = measure_behind s ++ measures_behind k (steps 8 s)
+measures_behind (suc k) s = measure_behind s ++ measures_behind k (number_after_steps 8 s)
 
 -- a line of four measures
 unfoldable pub line_behind : ℕ → List ℕ
@@ -35,19 +35,19 @@ line_behind s = measures_behind 4 s ++ 10 ∷ []
 -- so many lines
 abbrev pub lines_behind : ℕ → ℕ → List ℕ
 lines_behind zero s = []
-lines_behind (suc k) s = line_behind s ++ lines_behind k (steps 32 s)
+lines_behind (suc k) s = line_behind s ++ lines_behind k (number_after_steps 32 s)
 
 -- the key of a tune by its number: C, G, D, F in turn
-unfoldable pub key_of : ℕ → ℕ
-key_of i = slice_index (codes "CGDF") (i % 4)
+unfoldable pub key_of_tune : ℕ → ℕ
+key_of_tune i = slice_index (codes "CGDF") (i % 4)
 
 -- the lines of a tune before its music
-unfoldable pub heading : ℕ → List ℕ
-heading i = codes "X:" ++ decimal i ++ codes "\nT:Tune " ++ decimal i ++ codes "\nM:4/4\nL:1/8\nK:" ++ key_of i ∷ 10 ∷ []
+unfoldable pub heading_of_tune : ℕ → List ℕ
+heading_of_tune i = codes "X:" ++ decimal i ++ codes "\nT:Tune " ++ decimal i ++ codes "\nM:4/4\nL:1/8\nK:" ++ key_of_tune i ∷ 10 ∷ []
 
 -- a tune, and the empty line behind it
 unfoldable pub tune : ℕ → List ℕ
-tune i = heading i ++ lines_behind 16 i ++ 10 ∷ []
+tune i = heading_of_tune i ++ lines_behind 16 i ++ 10 ∷ []
 
 -- so many tunes, the first with the number i
 abbrev pub tunes : ℕ → ℕ → List ℕ

@@ -1,5 +1,5 @@
 ghost use Rattle.std.specs.Prelude.{◌≡◌, ◌≤◌, ◌<◌, ◌^◌, ◌++◌, ◌∷◌, [], OnOk, IfOk, decimal, length};
-ghost use Rattle.gen_book.specs.Book.{next, letter_of, steps, half_behind, measure_behind, measures_behind, line_behind, lines_behind, key_of, heading, tune, tunes, book};
+ghost use Rattle.gen_book.specs.Book.{next_number, letter_of_note, number_after_steps, half_behind, measure_behind, measures_behind, line_behind, lines_behind, key_of_tune, heading_of_tune, tune, tunes, book};
 
 use eng_lines::put_number;
 use mus_units::{Memory, Text};
@@ -10,19 +10,19 @@ const LETTERS: [u8; 7] = *b"GABcdef";
 const KEYS: [u8; 4] = *b"CGDF";
 
 /// The number behind a number.
-#[tactic(auto, unfolding(crate::specs::Book::next))]
+#[tactic(auto, unfolding(crate::specs::Book::next_number))]
 fn next_of(s: u64) -> u64
     requires { s < 2 ^ 31 }
-    ensures value { result ≡ next s }
+    ensures value { result ≡ next_number s }
     ensures small { result < 2 ^ 31 }
 {
     (s * 1_103_515_245 + 12_345) % 2_147_483_648
 }
 
 /// The letter of a number.
-#[tactic(auto, unfolding(crate::specs::Book::letter_of))]
+#[tactic(auto, unfolding(crate::specs::Book::letter_of_note))]
 fn letter(s: u64) -> u8
-    ensures { result ≡ letter_of s }
+    ensures { result ≡ letter_of_note s }
 {
     LETTERS[(s / 65_536 % 7) as usize]
 }
@@ -30,8 +30,8 @@ fn letter(s: u64) -> u8
 /// Adds the letter behind a number, and gives the number behind.
 fn put_letter(out: &mut Text, s: u64) -> Result<u64, Memory>
     requires { s < 2 ^ 31 }
-    ensures text { OnOk result (out.new ≡ out.old ++ letter_of (next s) ∷ []) }
-    ensures value { IfOk result (λ t. t ≡ next s) }
+    ensures text { OnOk result (out.new ≡ out.old ++ letter_of_note (next_number s) ∷ []) }
+    ensures value { IfOk result (λ t. t ≡ next_number s) }
     ensures small { IfOk result (λ t. t < 2 ^ 31) }
 {
     let t = next_of(s);
@@ -44,7 +44,7 @@ fn put_letter(out: &mut Text, s: u64) -> Result<u64, Memory>
 fn put_half(out: &mut Text, s: u64) -> Result<u64, Memory>
     requires { s < 2 ^ 31 }
     ensures text { OnOk result (out.new ≡ out.old ++ half_behind s) }
-    ensures value { IfOk result (λ t. t ≡ steps 4 s) }
+    ensures value { IfOk result (λ t. t ≡ number_after_steps 4 s) }
     ensures small { IfOk result (λ t. t < 2 ^ 31) }
 {
     let first = put_letter(out, s)?;
@@ -58,7 +58,7 @@ fn put_half(out: &mut Text, s: u64) -> Result<u64, Memory>
 fn put_measure(out: &mut Text, s: u64) -> Result<u64, Memory>
     requires { s < 2 ^ 31 }
     ensures text { OnOk result (out.new ≡ out.old ++ measure_behind s) }
-    ensures value { IfOk result (λ t. t ≡ steps 8 s) }
+    ensures value { IfOk result (λ t. t ≡ number_after_steps 8 s) }
     ensures small { IfOk result (λ t. t < 2 ^ 31) }
 {
     let half = put_half(out, s)?;
@@ -73,7 +73,7 @@ fn put_measure(out: &mut Text, s: u64) -> Result<u64, Memory>
 fn put_line(out: &mut Text, s: u64) -> Result<u64, Memory>
     requires { s < 2 ^ 31 }
     ensures text { OnOk result (out.new ≡ out.old ++ line_behind s) }
-    ensures value { IfOk result (λ t. t ≡ steps 32 s) }
+    ensures value { IfOk result (λ t. t ≡ number_after_steps 32 s) }
     ensures small { IfOk result (λ t. t < 2 ^ 31) }
 {
     let first = put_measure(out, s)?;
@@ -97,17 +97,17 @@ fn put_lines(out: &mut Text, i: u32) -> Result<(), Memory>
 }
 
 /// The letter of a tune's key.
-#[tactic(auto, unfolding(crate::specs::Book::key_of))]
+#[tactic(auto, unfolding(crate::specs::Book::key_of_tune))]
 fn key(i: u32) -> u8
-    ensures { result ≡ key_of i }
+    ensures { result ≡ key_of_tune i }
 {
     KEYS[(i % 4) as usize]
 }
 
 /// Adds the lines of a tune before its music.
-#[tactic(auto, unfolding(crate::specs::Book::heading))]
+#[tactic(auto, unfolding(crate::specs::Book::heading_of_tune))]
 fn put_heading(out: &mut Text, i: u32) -> Result<(), Memory>
-    ensures { OnOk result (out.new ≡ out.old ++ heading i) }
+    ensures { OnOk result (out.new ≡ out.old ++ heading_of_tune i) }
 {
     out.append(b"X:")?;
     put_number(out, u64::from(i))?;

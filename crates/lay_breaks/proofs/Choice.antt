@@ -1,6 +1,6 @@
 -- The list that the table leads back is the chosen one.
 use Rattle.std.proofs.{Common.{◌≡◌, ℕ, ◌+◌, ◌<◌, ◌≤◌, Bool, List, [], ◌∷◌, Option, Some, None, unwrap_or, refl, sym, ◌∙◌, subst, arith, inl, inr, slice_index, slice_index_or}, lemmas.{Bool.{cases_lt, cases_eq}, Option.{none-some, same_Some}}}
-use Rattle.lay_breaks.specs.{Breaking.LexAtMost, Table.{top, IsSpan, IsBack, sum_back, LeadsTo, IsRow, IsLeastBack, IsTable, Follows}}
+use Rattle.lay_breaks.specs.{Breaking.LexAtMost, Table.{top, IsLegalSpan, IsBack, sum_back, LeadsToBar, IsRow, IsLeastBack, IsBreakTable, LeadsBack}}
 
 -- read from its end, r is the best list that ends at bar i, and the last of equals
 pub record IsChosenBack (cost : ℕ → ℕ → Option ℕ) (forced : ℕ → Bool) (i : ℕ) (r : List ℕ) : Type 0 where
@@ -19,12 +19,12 @@ module _ (cost : ℕ → ℕ → Option ℕ) (forced : ℕ → Bool) where
   chosen_zero = record { back = tt; ends = refl; least = λ s b e. omega arith; latest = λ s b e q. at_zero (λ s. LexAtMost s []) tt s b e }
 
   -- a list that ends at bar i, past 0, leads there
-  pub at_more : (m i : ℕ) (P : List ℕ → Type 0) → 0 < i → i ≤ m → ((r : List ℕ) → LeadsTo cost forced m i r → P (i ∷ r)) → (s : List ℕ) → IsBack cost forced s → top s ≡ i → P s
+  pub at_more : (m i : ℕ) (P : List ℕ → Type 0) → 0 < i → i ≤ m → ((r : List ℕ) → LeadsToBar cost forced m i r → P (i ∷ r)) → (s : List ℕ) → IsBack cost forced s → top s ≡ i → P s
   at_more m i P pos le p [] b e = absurd (omega arith)
   at_more m i P pos le p (x ∷ s) b e =
       let l : top s < x = b.0.rises in
       subst (λ x. P (x ∷ s)) (sym e)
-      (p s (record { back = b.1; below = omega arith; span = subst (λ x. IsSpan cost forced (top s) x) e b.0 }))
+      (p s (record { back = b.1; below = omega arith; span = subst (λ x. IsLegalSpan cost forced (top s) x) e b.0 }))
 
   -- what a settled row says of bar i
   pub row_none : (m i from : ℕ) → 0 < i → i ≤ m → IsRow cost forced m i None from → (s : List ℕ) → IsBack cost forced s → top s ≡ i → ⊥
@@ -50,8 +50,8 @@ module _ (cost : ℕ → ℕ → Option ℕ) (forced : ℕ → Bool) where
       t : top r ≡ top h.way.0
       t = c.ends ∙ sym h.way.2
 
-      leads : LeadsTo cost forced m i r
-      leads = record { back = c.back; below = let b : top h.way.0 < m = h.way.1.below in omega (arith, t); span = subst (λ t. IsSpan cost forced t i) (sym t) h.way.1.span }
+      leads : LeadsToBar cost forced m i r
+      leads = record { back = c.back; below = let b : top h.way.0 < m = h.way.1.below in omega (arith, t); span = subst (λ t. IsLegalSpan cost forced t i) (sym t) h.way.1.span }
 
       price : (s : List ℕ) → top s ≡ a → sum_back cost (i ∷ s) ≡ sum_back cost s + unwrap_or (cost a i) 0
       price s e = rw e refl
@@ -60,7 +60,7 @@ module _ (cost : ℕ → ℕ → Option ℕ) (forced : ℕ → Bool) where
       is = let p = price r c.ends in let p0 = price h.way.0 h.way.2 in let w : sum_back cost (i ∷ h.way.0) ≡ v = h.way.3 in
           let k = c.least h.way.0 h.way.1.back h.way.2 in let k' = h.least r leads in omega arith
 
-      later : (s : List ℕ) → LeadsTo cost forced m i s → sum_back cost (i ∷ s) ≡ sum_back cost (i ∷ r) → LexAtMost (i ∷ s) (i ∷ r)
+      later : (s : List ℕ) → LeadsToBar cost forced m i s → sum_back cost (i ∷ s) ≡ sum_back cost (i ∷ r) → LexAtMost (i ∷ s) (i ∷ r)
       later s l q = inr (
         refl,
         elim (cases_lt (top s) a) [
@@ -71,7 +71,7 @@ module _ (cost : ℕ → ℕ → Option ℕ) (forced : ℕ → Bool) where
       )
 
   -- what the table says of a bar whose spans have all been tried
-  pub table_none : (n m i : ℕ) (ps : List (Option ℕ)) (fs : List ℕ) → i ≤ n → i ≤ m → slice_index_or ps i None ≡ None → IsTable cost forced n m ps fs → (r : List ℕ) → IsBack cost forced r → top r ≡ i → ⊥
+  pub table_none : (n m i : ℕ) (ps : List (Option ℕ)) (fs : List ℕ) → i ≤ n → i ≤ m → slice_index_or ps i None ≡ None → IsBreakTable cost forced n m ps fs → (r : List ℕ) → IsBack cost forced r → top r ≡ i → ⊥
   table_none n m i ps fs le lm is h r b e = elim (cases_eq i 0) [
     | inl z ↦ none-some 0 (sym (subst (λ i. slice_index_or ps i None ≡ None) z is) ∙ h.zero_is)
     | inr z ↦ row_none m i (slice_index fs i) (omega arith) lm (rw is at (h.rows i (omega arith) le)) r b e
@@ -80,7 +80,7 @@ module _ (cost : ℕ → ℕ → Option ℕ) (forced : ℕ → Bool) where
   zero_least : IsLeastBack cost forced 0 0
   zero_least = record { way = ([], tt, refl, refl); least = λ r b e. omega arith }
 
-  pub table_some : (n m i v : ℕ) (ps : List (Option ℕ)) (fs : List ℕ) → i ≤ n → i ≤ m → slice_index_or ps i None ≡ Some v → IsTable cost forced n m ps fs → IsLeastBack cost forced i v
+  pub table_some : (n m i v : ℕ) (ps : List (Option ℕ)) (fs : List ℕ) → i ≤ n → i ≤ m → slice_index_or ps i None ≡ Some v → IsBreakTable cost forced n m ps fs → IsLeastBack cost forced i v
   table_some n m i v ps fs le lm is h = elim (cases_eq i 0) [
     | inl z ↦
         let e : v ≡ 0 = same_Some v 0 (sym (subst (λ i. slice_index_or ps i None ≡ Some v) z is) ∙ h.zero_is) in
@@ -89,7 +89,7 @@ module _ (cost : ℕ → ℕ → Option ℕ) (forced : ℕ → Bool) where
   ]
 
   -- what the numbers in the table lead back is chosen
-  pub follows_chosen : (n : ℕ) (ps : List (Option ℕ)) (fs : List ℕ) → IsTable cost forced n n ps fs → (r : List ℕ) (i v : ℕ) → i ≤ n → slice_index_or ps i None ≡ Some v → Follows fs i r → IsChosenBack cost forced i r
+  pub follows_chosen : (n : ℕ) (ps : List (Option ℕ)) (fs : List ℕ) → IsBreakTable cost forced n n ps fs → (r : List ℕ) (i v : ℕ) → i ≤ n → slice_index_or ps i None ≡ Some v → LeadsBack fs i r → IsChosenBack cost forced i r
   follows_chosen n ps fs h [] i v le is f = subst (λ i. IsChosenBack cost forced i []) (sym f) chosen_zero
   follows_chosen n ps fs h (x ∷ r) i v le is f =
       let row = rw is at (h.rows i f.1 le) in let a : ℕ = slice_index fs i in let below : slice_index fs i < i = h.falls i f.1 le in

@@ -1,6 +1,6 @@
 -- From the table to all legal breakings.
 use Rattle.std.proofs.{Common.{◌≡◌, ℕ, ◌≤◌, Bool, false, List, reverse, Option, Some, None, IsSome, refl, sym, ◌∙◌, ap, subst, arith, slice_index_or}, lemmas.List.reverse-reverse}
-use Rattle.lay_breaks.{specs.{Breaking.{IsLegal, sum_from, LexAtMost, IsPotential, IsChosen, IsReached, IsLeastSum, NoneLegal}, Table.{top, IsBack, sum_back, IsTable, Follows, IsLeastBack}}, proofs.{Ends.{back_legal, legal_back, sum_reverse}, Choice.{IsChosenBack, table_none, table_some, follows_chosen}}}
+use Rattle.lay_breaks.{specs.{Breaking.{IsLegal, sum_from, LexAtMost, IsPotential, IsChosen, IsReached, IsLeastSum, NoneLegal}, Table.{top, IsBack, sum_back, IsBreakTable, LeadsBack, IsLeastBack}}, proofs.{Ends.{back_legal, legal_back, sum_reverse}, Choice.{IsChosenBack, table_none, table_some, follows_chosen}}}
 
 module _ (cost : ℕ → ℕ → Option ℕ) (forced : ℕ → Bool) (free : forced 0 ≡ false) where
   -- what holds of each list of spans to bar i, read forwards, holds of each legal list
@@ -13,7 +13,7 @@ module _ (cost : ℕ → ℕ → Option ℕ) (forced : ℕ → Bool) (free : for
     least = every_legal i (λ bs. v ≤ sum_from cost 0 bs) (λ r b e. rw (sum_reverse cost r) (h.least r b e));
   }
 
-  module _ (n : ℕ) (ps : List (Option ℕ)) (fs : List ℕ) (known : IsTable cost forced n n ps fs) where
+  module _ (n : ℕ) (ps : List (Option ℕ)) (fs : List ℕ) (known : IsBreakTable cost forced n n ps fs) where
     pub potential : (i : ℕ) → i ≤ n → IsPotential cost forced i (slice_index_or ps i None)
     potential i le = at (slice_index_or ps i None) refl
       where
@@ -36,7 +36,7 @@ module _ (cost : ℕ → ℕ → Option ℕ) (forced : ℕ → Bool) (free : for
         is None bs h p = absurd (p bs h)
         is (Some v) bs h p = refl
 
-    module _ (v : ℕ) (some : slice_index_or ps n None ≡ Some v) (bs : List ℕ) (follows : Follows fs n (reverse bs)) where
+    module _ (v : ℕ) (some : slice_index_or ps n None ≡ Some v) (bs : List ℕ) (follows : LeadsBack fs n (reverse bs)) where
       back : IsChosenBack cost forced n (reverse bs)
       back = follows_chosen cost forced n ps fs known (reverse bs) n v (omega arith) some follows
 

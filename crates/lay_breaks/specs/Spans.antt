@@ -4,15 +4,15 @@ use Rattle.std.{specs.Prelude.{◌≡◌, ℕ, ◌+◌, ◌-◌, ◌<◌, ◌≤
 use Rattle.lay_breaks.specs.declared.costs.Span.{Span}
 
 -- the span s stands directly after the span p: it begins further on and is the shortest from its bar, or it is p with one bar more
-abbrev pub IsNext : Span → Span → Type 0
-IsNext p s = ((p.a < s.a) × (s.b ≡ s.a + 1)) ⊎ ((s.a ≡ p.a) × (s.b ≡ p.b + 1))
+abbrev pub IsNextSpan : Span → Span → Type 0
+IsNextSpan p s = ((p.a < s.a) × (s.b ≡ s.a + 1)) ⊎ ((s.a ≡ p.a) × (s.b ≡ p.b + 1))
 
 -- of n bars the span s may stand after the last span so far, if there is one
 pub record MayFollow (n : ℕ) (last : Option Span) (s : Span) : Type 0 where
   pub rises : s.a < s.b
   pub within : s.b ≤ n
   pub small : s.badness ≤ 2 ^ 40
-  pub follows : MatchOption last (s.b ≡ s.a + 1) (λ p. IsNext p s)
+  pub follows : MatchOption last (s.b ≡ s.a + 1) (λ p. IsNextSpan p s)
 
 abbrev pub SpansFrom : ℕ → Option Span → List Span → Type 0
 SpansFrom n last [] = Unit {0}
@@ -49,11 +49,11 @@ pub listed_first : (a b : ℕ) (s : Span) (ss : List Span) → s.a ≡ a → s.b
 listed_first a b s ss e f = rw (has_these a b s e f) refl
 
 -- where a span is listed, the span with one bar less is, or it is the one before the list
-one_less : (n : ℕ) (last : Option Span) (ss : List Span) (a c : ℕ) → a < c → SpansFrom n last ss → IsSome (listed ss a (c + 1)) → IsSome (listed ss a c) ⊎ MatchOption last ⊥ (λ p. (p.a ≡ a) × (p.b ≡ c))
-one_less n last [] a c l h e = absurd (true≢false (sym e))
-one_less n last (s ∷ ss) a c l h e = at (λ k. one_less n (Some s) ss a c l h.1 k) (has_ends a (c + 1) s) refl e
+span_one_less : (n : ℕ) (last : Option Span) (ss : List Span) (a c : ℕ) → a < c → SpansFrom n last ss → IsSome (listed ss a (c + 1)) → IsSome (listed ss a c) ⊎ MatchOption last ⊥ (λ p. (p.a ≡ a) × (p.b ≡ c))
+span_one_less n last [] a c l h e = absurd (true≢false (sym e))
+span_one_less n last (s ∷ ss) a c l h e = at (λ k. span_one_less n (Some s) ss a c l h.1 k) (has_ends a (c + 1) s) refl e
   where
-    before : (last : Option Span) → MatchOption last (s.b ≡ s.a + 1) (λ p. IsNext p s) → s.a ≡ a → s.b ≡ c + 1 → MatchOption last ⊥ (λ p. (p.a ≡ a) × (p.b ≡ c))
+    before : (last : Option Span) → MatchOption last (s.b ≡ s.a + 1) (λ p. IsNextSpan p s) → s.a ≡ a → s.b ≡ c + 1 → MatchOption last ⊥ (λ p. (p.a ≡ a) × (p.b ≡ c))
     before None f ea eb = absurd (omega arith)
     before (Some p) (inl f) ea eb = let k = f.1 in absurd (omega arith)
     before (Some p) (inr f) ea eb = let k = f.0 in let m = f.1 in (omega arith, omega arith)
@@ -66,7 +66,7 @@ one_less n last (s ∷ ss) a c l h e = at (λ k. one_less n (Some s) ss a c l h.
 still_listed : (n : ℕ) (spans : List Span) (a b d : ℕ) → AreSpans n spans → a < b → IsSome (listed spans a (b + d)) → IsSome (listed spans a b)
 still_listed n spans a b zero h l e = let k : b + 0 ≡ b = omega arith in subst (λ c. IsSome (listed spans a c)) k e
 still_listed n spans a b (suc d) h l e =
-    let k : b + suc d ≡ b + d + 1 = omega arith in elim (one_less n None spans a (b + d) (omega arith) h (subst (λ c. IsSome (listed spans a c)) k e)) [ inl m ↦ still_listed n spans a b d h l m | inr m ↦ absurd m ]
+    let k : b + suc d ≡ b + d + 1 = omega arith in elim (span_one_less n None spans a (b + d) (omega arith) h (subst (λ c. IsSome (listed spans a c)) k e)) [ inl m ↦ still_listed n spans a b d h l m | inr m ↦ absurd m ]
 
 none_from : (o q : Option ℕ) → (IsSome q → IsSome o) → o ≡ None → q ≡ None
 none_from o None f e = refl

@@ -2,7 +2,7 @@ ghost use Rattle.std.specs.Prelude.{◌≡◌, ◌+◌, ◌^◌, ◌<◌, ◌≤
 ghost use Rattle.lay_breaks.specs.{Breaking.{IsChosen, sum_from, IsPotential, OneIsChosen}, Answers.IsCause, declared.breaking.BreakError.TheVariants.Memory};
 
 use crate::costs::Costs;
-use crate::table::{Table, fill, last_reached, walk_back};
+use crate::table::{BreakTable, fill, last_reached, walk_back};
 use mus_units::Row;
 use std::alloc::{AllocError, Global};
 
@@ -50,7 +50,7 @@ pub fn least<K: Costs>(alloc: Global, costs: &K, n: u32) -> Result<Breaking, Bre
         → IsPotential (K.badness costs.now) (K.is_forced costs.now) i (slice_index_or b.potentials i Option.None)) }
     ensures no_way { IfErr result (IsCause (K.badness costs.now) (K.is_forced costs.now) n) }
 {
-    let Table { potentials, froms } = fill(alloc, costs, n)?;
+    let BreakTable { potentials, froms } = fill(alloc, costs, n)?;
     match potentials[n as usize] {
         Some(total) => {
             let breaks = walk_back(alloc, &froms, n)?;

@@ -1,14 +1,14 @@
 // The table of the search, and what is read off it.
 
 ghost use Rattle.std.specs.Prelude.{◌≡◌, ◌+◌, ◌^◌, ◌<◌, ◌≤◌, ℕ, Option, List, if◌then◌else◌, nat_lt, IfOk, IsSome, IsTrue, length, reverse, vec_len, slice_index, slice_index_or, slice_set};
-ghost use Rattle.lay_breaks.specs.Table.{IsTable, IsLeastBack, IsOffered, Follows};
+ghost use Rattle.lay_breaks.specs.Table.{IsBreakTable, IsLeastBack, IsOffered, LeadsBack};
 
 use crate::costs::Costs;
 use std::alloc::{AllocError, Global};
 
 /// For each bar the least sum of a legal prefix that ends there, and where its last span begins.
 #[derive(Drop)]
-pub struct Table {
+pub struct BreakTable {
     pub potentials: Vec<Option<u64>>,
     pub froms: Vec<u32>,
 }
@@ -44,9 +44,9 @@ fn try_spans<K: Costs>(
     requires inside { a < n }
     requires one_each { length potentials.old ≡ n + 1 }
     requires one_from { length froms.old ≡ n + 1 }
-    requires known { IsTable (K.badness costs.now) (K.is_forced costs.now) n a potentials.old froms.old }
+    requires known { IsBreakTable (K.badness costs.now) (K.is_forced costs.now) n a potentials.old froms.old }
     requires best { IsLeastBack (K.badness costs.now) (K.is_forced costs.now) a so_far }
-    ensures { IsTable (K.badness costs.now) (K.is_forced costs.now) n (a + 1) potentials.new froms.new }
+    ensures { IsBreakTable (K.badness costs.now) (K.is_forced costs.now) n (a + 1) potentials.new froms.new }
 {
     for b in a + 1..n + 1 {
         let Some(cost) = costs.cost(a, b) else {
@@ -59,12 +59,12 @@ fn try_spans<K: Costs>(
     }
 }
 
-pub fn fill<K: Costs>(alloc: Global, costs: &K, n: u32) -> Result<Table, AllocError>
+pub fn fill<K: Costs>(alloc: Global, costs: &K, n: u32) -> Result<BreakTable, AllocError>
     requires bars { n ≡ K.bars costs.now }
     requires few { n ≤ 8388608 }
     ensures one_each { IfOk result (λ t. vec_len t.potentials ≡ n + 1) }
     ensures one_from { IfOk result (λ t. vec_len t.froms ≡ n + 1) }
-    ensures known { IfOk result (λ t. IsTable (K.badness costs.now) (K.is_forced costs.now) n n t.potentials.items t.froms.items) }
+    ensures known { IfOk result (λ t. IsBreakTable (K.badness costs.now) (K.is_forced costs.now) n n t.potentials.items t.froms.items) }
 {
     let bars = n as usize + 1;
     let mut potentials = vec![in alloc; None; bars]?;
@@ -76,14 +76,14 @@ pub fn fill<K: Costs>(alloc: Global, costs: &K, n: u32) -> Result<Table, AllocEr
         };
         try_spans(costs, n, a, so_far, &mut potentials, &mut froms);
     }
-    Ok(Table { potentials, froms })
+    Ok(BreakTable { potentials, froms })
 }
 
 /// The bars that `froms` leads back from n, rising.
 pub fn walk_back(alloc: Global, froms: &[u32], n: u32) -> Result<Vec<u32>, AllocError>
     requires one_from { length froms.now ≡ n + 1 }
     requires falls { (i : ℕ) → 0 < i → i ≤ n → slice_index froms.now i < i }
-    ensures { IfOk result (λ v. Follows froms.now n (reverse v.items)) }
+    ensures { IfOk result (λ v. LeadsBack froms.now n (reverse v.items)) }
 {
     let mut back = Vec::new(alloc);
     let mut at = n;

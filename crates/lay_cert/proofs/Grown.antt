@@ -2,12 +2,12 @@
 use Rattle.std.proofs.{Common.{◌≡◌, ℕ, suc, ◌+◌, ◌<◌, ◌≤◌, Bool, true, false, List, [], ◌∷◌, ◌++◌, length, Option, Some, IsSome, refl, sym, ◌∙◌, ap, arith, if◌then◌else◌}, lemmas.Bool.true≢false}
 use mathlib.Core.List.{append_assoc, append-nil}
 use Rattle.lay_breaks.specs.{Breaking.RisesFrom, Breaking.FitsFrom, Breaking.last_from, Breaking.IsLegal, Spans.MayFollow, Spans.SpansFrom, Spans.listed, Spans.has_ends, Spans.ends_are, declared.costs.Span.Span}
-use Rattle.lay_cert.specs.{Listing.Entry, Listing.IsEntry, Listing.EntriesFrom, Listing.none_forced, Listing.entry_lines, Listing.all_lines, Listing.potential_lines, Places.last_tune_from, Places.last_span_from, declared.lines.Line.Line}
+use Rattle.lay_cert.specs.{Listing.Entry, Listing.IsEntry, Listing.EntriesFrom, Listing.none_forced, Listing.entry_lines, Listing.all_lines, Listing.potential_lines, ReaderStates.last_tune_from, ReaderStates.last_span_from, declared.lines.ListingLine.ListingLine}
 
-pub push_potential : (i : ℕ) (ps : List (Option ℕ)) (p : Option ℕ) → potential_lines i (ps ++ p ∷ []) ≡ potential_lines i ps ++ Line.Potential (i + length ps) p ∷ []
-push_potential i [] p = let e : i ≡ i + 0 = omega arith in ap (λ j. Line.Potential j p ∷ []) e
+pub push_potential : (i : ℕ) (ps : List (Option ℕ)) (p : Option ℕ) → potential_lines i (ps ++ p ∷ []) ≡ potential_lines i ps ++ ListingLine.Potential (i + length ps) p ∷ []
+push_potential i [] p = let e : i ≡ i + 0 = omega arith in ap (λ j. ListingLine.Potential j p ∷ []) e
 push_potential i (q ∷ ps) p =
-    let e : i + 1 + length ps ≡ i + suc (length ps) = omega arith in ap (λ t. Line.Potential i q ∷ t) (push_potential (i + 1) ps p ∙ ap (λ j. potential_lines (i + 1) ps ++ Line.Potential j p ∷ []) e)
+    let e : i + 1 + length ps ≡ i + suc (length ps) = omega arith in ap (λ t. ListingLine.Potential i q ∷ t) (push_potential (i + 1) ps p ∙ ap (λ j. potential_lines (i + 1) ps ++ ListingLine.Potential j p ∷ []) e)
 
 pub push_entry : (es : List Entry) (e : Entry) → all_lines (es ++ e ∷ []) ≡ all_lines es ++ entry_lines e
 push_entry [] e = append-nil (entry_lines e)

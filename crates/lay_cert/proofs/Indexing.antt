@@ -1,7 +1,7 @@
 -- A span is found by the place of the first span from its bar.
 use Rattle.std.proofs.{Common.{◌≡◌, ◌≢◌, ℕ, zero, suc, ◌+◌, ◌-◌, ◌<◌, ◌≤◌, ◌⊎◌, inl, inr, Bool, true, false, List, [], ◌∷◌, ◌++◌, length, Option, Some, None, MatchOption, refl, sym, ◌∙◌, ap, subst, arith, if◌then◌else◌, option_and_then, slice_get, slice_index, slice_set, get_or-set_same, get_or-set_other}, lemmas.{Bool.cases_eq, Option.{none-some, same_Some}, List.length-append}}
-use Rattle.lay_breaks.specs.{Spans.IsNext, Spans.MayFollow, Spans.SpansFrom, Spans.AreSpans, Spans.listed, Spans.has_ends, Spans.ends_are, declared.costs.Span.Span}
-use Rattle.lay_cert.specs.{Places.last_span_from, Indexed.IsIndexed, Indexed.looked_up, Indexed.cost_if}
+use Rattle.lay_breaks.specs.{Spans.IsNextSpan, Spans.MayFollow, Spans.SpansFrom, Spans.AreSpans, Spans.listed, Spans.has_ends, Spans.ends_are, declared.costs.Span.Span}
+use Rattle.lay_cert.specs.{ReaderStates.last_span_from, Indexed.IsIndexed, Indexed.looked_up, Indexed.cost_if}
 
 -- the one span with these ends is the one that is listed
 found : (a b j : ℕ) (spans : List Span) (s : Span) → slice_get spans j ≡ Some s → has_ends a b s ≡ true
@@ -62,7 +62,7 @@ last_rises : (n : ℕ) (s : Span) (ss : List Span) → SpansFrom n (Some s) ss �
 last_rises n s [] h = omega arith
 last_rises n s (t ∷ ss) h = at (last_span_from (Some t) ss) (last_rises n t ss h.1) h.0.follows
   where
-    at : (o : Option Span) → MatchOption o ⊥ (λ p. t.a ≤ p.a) → IsNext s t → MatchOption o ⊥ (λ p. s.a ≤ p.a)
+    at : (o : Option Span) → MatchOption o ⊥ (λ p. t.a ≤ p.a) → IsNextSpan s t → MatchOption o ⊥ (λ p. s.a ≤ p.a)
     at None h k = h
     at (Some p) h (inl k) = let l = k.0 in omega arith
     at (Some p) h (inr k) = let e = k.0 in omega arith
@@ -102,7 +102,7 @@ module _ (n : ℕ) (spans : List Span) (firsts : List ℕ) (s : Span) (h : AreSp
     ];
   }
     where
-      fresh : (t : Span) (o : Option Span) → last_span_from None spans ≡ o → MatchOption o ⊥ (λ p. t.a ≤ p.a) → MatchOption o (s.b ≡ s.a + 1) (λ p. IsNext p s) → t.a < s.a
+      fresh : (t : Span) (o : Option Span) → last_span_from None spans ≡ o → MatchOption o ⊥ (λ p. t.a ≤ p.a) → MatchOption o (s.b ≡ s.a + 1) (λ p. IsNextSpan p s) → t.a < s.a
       fresh t None e k f = absurd k
       fresh t (Some p) e k (inl f) = let l = f.0 in omega arith
       fresh t (Some p) e k (inr f) = elim (last_stands None spans p e) [ inl q ↦ absurd (none-some p q.1) | inr q ↦ let r = each_rises n None spans q.0 p h q.2 in let ea = f.0 in let eb = f.1 in absurd (omega arith) ]
@@ -114,7 +114,7 @@ module _ (n : ℕ) (spans : List Span) (firsts : List ℕ) (s : Span) (h : AreSp
     inside = λ a. let old = indexed.inside a in let more = length-append spans (s ∷ []) in omega (arith, old, more);
   }
     where
-      behind : (o : Option Span) → last_span_from None spans ≡ o → MatchOption o (s.b ≡ s.a + 1) (λ p. IsNext p s) → length spans ≡ slice_index firsts s.a + (s.b - s.a - 1)
+      behind : (o : Option Span) → last_span_from None spans ≡ o → MatchOption o (s.b ≡ s.a + 1) (λ p. IsNextSpan p s) → length spans ≡ slice_index firsts s.a + (s.b - s.a - 1)
       behind None e f = absurd (later f)
       behind (Some p) e (inl f) = absurd (later f.1)
       behind (Some p) e (inr f) = elim (last_stands None spans p e) [

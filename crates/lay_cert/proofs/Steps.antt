@@ -2,7 +2,7 @@
 use Rattle.std.proofs.{Common.{◌≡◌, ℕ, ◌+◌, ◌<◌, ◌≤◌, ◌==◌, Bool, true, false, List, [], ◌∷◌, ◌++◌, length, map, Option, None, refl, sym, ◌∙◌, ap, subst, arith, inl, inr, if◌then◌else◌, slice_index_or}, lemmas.{Bool.{cases_lt, true≢false, eqb-true, eqb-false}, List.{map-append, length-append, get_or_append_left}}, Math.Seq.get_or-append_seam}
 use mathlib.Core.List.{append_assoc, append-nil}
 use Rattle.lay_breaks.specs.{Breaking.IsLegal, Breaking.last_from, Breaking.IsPotential, Spans.listed, declared.costs.Span.Span}
-use Rattle.lay_cert.{specs.{Listing.{Entry, IsEntry, none_forced, entry_lines, all_lines, potential_lines}, Places.{Place, begun, between, choosing, proving, MayCome, next, Leads, last_tune_from}, Told.{IsProving, IsGood, lines_of, begun_lines}, declared.lines.Line.Line}, proofs.Grown.{push_potential, push_entry, push_entries, push_span, push_legal, listed_within}}
+use Rattle.lay_cert.{specs.{Listing.{Entry, IsEntry, none_forced, entry_lines, all_lines, potential_lines}, ReaderStates.{ReaderState, begun, between, choosing, proving, MayCome, state_after, Leads, last_tune_from}, Told.{IsProving, IsGood, lines_of_state, begun_lines}, declared.lines.ListingLine.ListingLine}, proofs.Grown.{push_potential, push_entry, push_entries, push_span, push_legal, listed_within}}
 
 -- an entry in the making with one more potential
 abbrev pub one_more : Entry → Option ℕ → Entry
@@ -45,14 +45,14 @@ potential_cases e P f g le = at (length e.potentials == e.bars) refl
     at true is = f (eqb-true (length e.potentials) e.bars is)
     at false is = let ne = eqb-false (length e.potentials) e.bars is in g (omega (arith, ne, le))
 
-pub step_good : (p : Place) (l : Line) → MayCome p l → IsGood p → IsGood (next p l)
-step_good begun Line.Listing m h = tt
-step_good (between es) (Line.Tune tune bars) m h = (
+pub step_good : (p : ReaderState) (l : ListingLine) → MayCome p l → IsGood p → IsGood (state_after p l)
+step_good begun ListingLine.Listing m h = tt
+step_good (between es) (ListingLine.Tune tune bars) m h = (
   h,
   record { past = m.0; numbered = m.1; few = m.2; spans = tt; choice = record { rises = tt; ends = refl; every_forced = λ f le t. absurd (true≢false (sym t)); fits = tt } },
 )
-step_good (between es) Line.End m h = h
-step_good (choosing es e) (Line.OneSpan s) m h = (
+step_good (between es) ListingLine.End m h = h
+step_good (choosing es e) (ListingLine.OneSpan s) m h = (
   h.0,
   record {
     past = h.1.past;
@@ -63,14 +63,14 @@ step_good (choosing es e) (Line.OneSpan s) m h = (
         (record { rises = tt; ends = refl; every_forced = λ f le t. absurd (true≢false (sym t)); fits = tt });
   },
 )
-step_good (choosing es e) (Line.Choose bar) m h =
+step_good (choosing es e) (ListingLine.Choose bar) m h =
     let w = listed_within e.bars None e.spans (last_from 0 e.breaks) bar h.1.spans m in
     (h.0, record { past = h.1.past; numbered = h.1.numbered; few = h.1.few; spans = h.1.spans; choice = push_legal (listed e.spans) e.breaks bar h.1.choice w.0 m })
-step_good (choosing es e) (Line.Total total) m h = (
+step_good (choosing es e) (ListingLine.Total total) m h = (
   h.0,
   record { begun = record { past = h.1.past; numbered = h.1.numbered; few = h.1.few; spans = h.1.spans; choice = h.1.choice }; ends = m.0; total = m.1; some_left = omega arith; potentials = λ i l. absurd (omega arith) },
 )
-step_good (proving es e) (Line.Potential bar least) m h =
+step_good (proving es e) (ListingLine.Potential bar least) m h =
     let known = subst (λ i. IsPotential (listed e.spans) none_forced i least) m.0 m.1 in
     potential_cases e (λ t. IsGood (if t then between (es ++ one_more e least ∷ []) else proving es (one_more e least)))
     (λ is. push_entries 0 es (one_more e least) h.0 h.1.begun.past (whole (last_tune_from 0 es) e least h.1 is known))
@@ -78,52 +78,52 @@ step_good (proving es e) (Line.Potential bar least) m h =
 step_good p l m h = absurd m
 
 -- one more line behind the entries told
-behind : (es : List Entry) (xs ys : List Line) (l : Line) → xs ≡ ys ++ l ∷ [] → (Line.Listing ∷ all_lines es) ++ xs ≡ ((Line.Listing ∷ all_lines es) ++ ys) ++ l ∷ []
-behind es xs ys l e = ap (λ t. (Line.Listing ∷ all_lines es) ++ t) e ∙ sym (append_assoc (Line.Listing ∷ all_lines es) ys (l ∷ []))
+behind : (es : List Entry) (xs ys : List ListingLine) (l : ListingLine) → xs ≡ ys ++ l ∷ [] → (ListingLine.Listing ∷ all_lines es) ++ xs ≡ ((ListingLine.Listing ∷ all_lines es) ++ ys) ++ l ∷ []
+behind es xs ys l e = ap (λ t. (ListingLine.Listing ∷ all_lines es) ++ t) e ∙ sym (append_assoc (ListingLine.Listing ∷ all_lines es) ys (l ∷ []))
 
-begun_span : (tune bars : ℕ) (spans : List Span) (breaks : List ℕ) (s : Span) → breaks ≡ [] → Line.Tune tune bars ∷ map Line.OneSpan (spans ++ s ∷ []) ++ map Line.Choose breaks
-    ≡ (Line.Tune tune bars ∷ map Line.OneSpan spans ++ map Line.Choose breaks) ++ Line.OneSpan s ∷ []
+begun_span : (tune bars : ℕ) (spans : List Span) (breaks : List ℕ) (s : Span) → breaks ≡ [] → ListingLine.Tune tune bars ∷ map ListingLine.OneSpan (spans ++ s ∷ []) ++ map ListingLine.Choose breaks
+    ≡ (ListingLine.Tune tune bars ∷ map ListingLine.OneSpan spans ++ map ListingLine.Choose breaks) ++ ListingLine.OneSpan s ∷ []
 begun_span tune bars spans breaks s e =
-    rw e (ap (λ t. Line.Tune tune bars ∷ t) (append-nil (map Line.OneSpan (spans ++ s ∷ []))
-    ∙ (map-append Line.OneSpan spans (s ∷ []) ∙ ap (λ t. t ++ Line.OneSpan s ∷ []) (sym (append-nil (map Line.OneSpan spans))))))
+    rw e (ap (λ t. ListingLine.Tune tune bars ∷ t) (append-nil (map ListingLine.OneSpan (spans ++ s ∷ []))
+    ∙ (map-append ListingLine.OneSpan spans (s ∷ []) ∙ ap (λ t. t ++ ListingLine.OneSpan s ∷ []) (sym (append-nil (map ListingLine.OneSpan spans))))))
 
-begun_break : (tune bars : ℕ) (spans : List Span) (breaks : List ℕ) (bar : ℕ) → Line.Tune tune bars ∷ map Line.OneSpan spans ++ map Line.Choose (breaks ++ bar ∷ [])
-    ≡ (Line.Tune tune bars ∷ map Line.OneSpan spans ++ map Line.Choose breaks) ++ Line.Choose bar ∷ []
-begun_break tune bars spans breaks bar = rw (map-append Line.Choose breaks (bar ∷ [])) (simp append_assoc)
+begun_break : (tune bars : ℕ) (spans : List Span) (breaks : List ℕ) (bar : ℕ) → ListingLine.Tune tune bars ∷ map ListingLine.OneSpan spans ++ map ListingLine.Choose (breaks ++ bar ∷ [])
+    ≡ (ListingLine.Tune tune bars ∷ map ListingLine.OneSpan spans ++ map ListingLine.Choose breaks) ++ ListingLine.Choose bar ∷ []
+begun_break tune bars spans breaks bar = rw (map-append ListingLine.Choose breaks (bar ∷ [])) (simp append_assoc)
 
-proved_more : (e : Entry) (bar : ℕ) (least : Option ℕ) → bar ≡ length e.potentials → entry_lines (one_more e least) ≡ entry_lines e ++ Line.Potential bar least ∷ []
+proved_more : (e : Entry) (bar : ℕ) (least : Option ℕ) → bar ≡ length e.potentials → entry_lines (one_more e least) ≡ entry_lines e ++ ListingLine.Potential bar least ∷ []
 proved_more e bar least is =
-    let at : 0 + length e.potentials ≡ bar = omega arith in let more = push_potential 0 e.potentials least ∙ ap (λ i. potential_lines 0 e.potentials ++ Line.Potential i least ∷ []) at in
-    ap (λ t. begun_lines e ++ Line.Total e.total ∷ t) more
-    ∙ sym (append_assoc (begun_lines e) (Line.Total e.total ∷ potential_lines 0 e.potentials) (Line.Potential bar least ∷ []))
+    let at : 0 + length e.potentials ≡ bar = omega arith in let more = push_potential 0 e.potentials least ∙ ap (λ i. potential_lines 0 e.potentials ++ ListingLine.Potential i least ∷ []) at in
+    ap (λ t. begun_lines e ++ ListingLine.Total e.total ∷ t) more
+    ∙ sym (append_assoc (begun_lines e) (ListingLine.Total e.total ∷ potential_lines 0 e.potentials) (ListingLine.Potential bar least ∷ []))
 
-pub step_lines : (p : Place) (l : Line) → MayCome p l → IsGood p → lines_of (next p l) ≡ lines_of p ++ l ∷ []
-step_lines begun Line.Listing m h = refl
-step_lines (between es) (Line.Tune tune bars) m h = refl
-step_lines (between es) Line.End m h = refl
-step_lines (choosing es e) (Line.OneSpan s) m h = behind es _ (begun_lines e) (Line.OneSpan s) (begun_span e.tune e.bars e.spans e.breaks s m.0)
-step_lines (choosing es e) (Line.Choose bar) m h = behind es _ (begun_lines e) (Line.Choose bar) (begun_break e.tune e.bars e.spans e.breaks bar)
-step_lines (choosing es e) (Line.Total total) m h = sym (append_assoc (Line.Listing ∷ all_lines es) (begun_lines e) (Line.Total total ∷ []))
-step_lines (proving es e) (Line.Potential bar least) m h =
-    let told = behind es (entry_lines (one_more e least)) (entry_lines e) (Line.Potential bar least) (proved_more e bar least m.0) in
+pub step_lines : (p : ReaderState) (l : ListingLine) → MayCome p l → IsGood p → lines_of_state (state_after p l) ≡ lines_of_state p ++ l ∷ []
+step_lines begun ListingLine.Listing m h = refl
+step_lines (between es) (ListingLine.Tune tune bars) m h = refl
+step_lines (between es) ListingLine.End m h = refl
+step_lines (choosing es e) (ListingLine.OneSpan s) m h = behind es _ (begun_lines e) (ListingLine.OneSpan s) (begun_span e.tune e.bars e.spans e.breaks s m.0)
+step_lines (choosing es e) (ListingLine.Choose bar) m h = behind es _ (begun_lines e) (ListingLine.Choose bar) (begun_break e.tune e.bars e.spans e.breaks bar)
+step_lines (choosing es e) (ListingLine.Total total) m h = sym (append_assoc (ListingLine.Listing ∷ all_lines es) (begun_lines e) (ListingLine.Total total ∷ []))
+step_lines (proving es e) (ListingLine.Potential bar least) m h =
+    let told = behind es (entry_lines (one_more e least)) (entry_lines e) (ListingLine.Potential bar least) (proved_more e bar least m.0) in
     potential_cases e
-    (λ t. lines_of (if t then between (es ++ one_more e least ∷ []) else proving es (one_more e least)) ≡ ((Line.Listing ∷ all_lines es) ++ entry_lines e) ++ Line.Potential bar least ∷ [])
-    (λ is. ap (λ t. Line.Listing ∷ t) (push_entry es (one_more e least)) ∙ told)
+    (λ t. lines_of_state (if t then between (es ++ one_more e least ∷ []) else proving es (one_more e least)) ≡ ((ListingLine.Listing ∷ all_lines es) ++ entry_lines e) ++ ListingLine.Potential bar least ∷ [])
+    (λ is. ap (λ t. ListingLine.Listing ∷ t) (push_entry es (one_more e least)) ∙ told)
     (λ l. told) h.1.some_left
 step_lines p l m h = absurd m
 
-pub leads_good : (p : Place) (ls : List Line) (q : Place) → Leads p ls q → IsGood p → IsGood q
+pub leads_good : (p : ReaderState) (ls : List ListingLine) (q : ReaderState) → Leads p ls q → IsGood p → IsGood q
 leads_good p [] q h g = subst IsGood h g
-leads_good p (l ∷ ls) q h g = leads_good (next p l) ls q h.1 (step_good p l h.0 g)
+leads_good p (l ∷ ls) q h g = leads_good (state_after p l) ls q h.1 (step_good p l h.0 g)
 
-pub leads_lines : (p : Place) (ls : List Line) (q : Place) → Leads p ls q → IsGood p → lines_of q ≡ lines_of p ++ ls
-leads_lines p [] q h g = ap lines_of (sym h) ∙ sym (append-nil (lines_of p))
-leads_lines p (l ∷ ls) q h g = leads_lines (next p l) ls q h.1 (step_good p l h.0 g) ∙ (ap (λ t. t ++ ls) (step_lines p l h.0 g) ∙ append_assoc (lines_of p) (l ∷ []) ls)
+pub leads_lines : (p : ReaderState) (ls : List ListingLine) (q : ReaderState) → Leads p ls q → IsGood p → lines_of_state q ≡ lines_of_state p ++ ls
+leads_lines p [] q h g = ap lines_of_state (sym h) ∙ sym (append-nil (lines_of_state p))
+leads_lines p (l ∷ ls) q h g = leads_lines (state_after p l) ls q h.1 (step_good p l h.0 g) ∙ (ap (λ t. t ++ ls) (step_lines p l h.0 g) ∙ append_assoc (lines_of_state p) (l ∷ []) ls)
 
-pub leads_more : (p : Place) (ls : List Line) (q : Place) (l : Line) → Leads p ls q → MayCome q l → Leads p (ls ++ l ∷ []) (next q l)
-leads_more p [] q l h m = (subst (λ p. MayCome p l) (sym h) m, ap (λ p. next p l) h)
-leads_more p (k ∷ ls) q l h m = (h.0, leads_more (next p k) ls q l h.1 m)
+pub leads_more : (p : ReaderState) (ls : List ListingLine) (q : ReaderState) (l : ListingLine) → Leads p ls q → MayCome q l → Leads p (ls ++ l ∷ []) (state_after q l)
+leads_more p [] q l h m = (subst (λ p. MayCome p l) (sym h) m, ap (λ p. state_after p l) h)
+leads_more p (k ∷ ls) q l h m = (h.0, leads_more (state_after p k) ls q l h.1 m)
 
-pub leads_both : (p : Place) (ls : List Line) (q : Place) (ms : List Line) (r : Place) → Leads p ls q → Leads q ms r → Leads p (ls ++ ms) r
+pub leads_both : (p : ReaderState) (ls : List ListingLine) (q : ReaderState) (ms : List ListingLine) (r : ReaderState) → Leads p ls q → Leads q ms r → Leads p (ls ++ ms) r
 leads_both p [] q ms r h k = subst (λ q. Leads q ms r) (sym h) k
-leads_both p (l ∷ ls) q ms r h k = (h.0, leads_both (next p l) ls q ms r h.1 k)
+leads_both p (l ∷ ls) q ms r h k = (h.0, leads_both (state_after p l) ls q ms r h.1 k)

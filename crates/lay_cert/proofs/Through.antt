@@ -2,7 +2,7 @@
 use Rattle.std.proofs.{Common.{◌≡◌, ℕ, suc, ◌+◌, ◌<◌, ◌≤◌, List, [], ◌∷◌, ◌++◌, length, map, Option, None, refl, sym, ap, subst, arith, if◌then◌else◌, slice_index_or}, lemmas.{Bool.{eq-eqb, ne_eqb}, List.length-append}}
 use mathlib.Core.List.{append_assoc, append-nil}
 use Rattle.lay_breaks.specs.{Breaking.FitsFrom, Breaking.last_from, Breaking.IsPotential, Spans.SpansFrom, Spans.listed, declared.costs.Span.Span}
-use Rattle.lay_cert.{specs.{Listing.{Entry, IsEntry, EntriesFrom, none_forced, entry_lines, all_lines, listing_lines, potential_lines}, Places.{begun, between, choosing, proving, ended, Leads, last_tune_from, last_span_from}, declared.lines.Line.Line}, proofs.{Grown.{push_last_span, push_last, push_tune}, Steps.leads_both}}
+use Rattle.lay_cert.{specs.{Listing.{Entry, IsEntry, EntriesFrom, none_forced, entry_lines, all_lines, listing_lines, potential_lines}, ReaderStates.{begun, between, choosing, proving, ended, Leads, last_tune_from, last_span_from}, declared.lines.ListingLine.ListingLine}, proofs.{Grown.{push_last_span, push_last, push_tune}, Steps.leads_both}}
 
 abbrev pub begun_with : ℕ → ℕ → List Span → List ℕ → Entry
 begun_with k n spans breaks = record { tune = k; bars = n; spans = spans; breaks = breaks; total = 0; potentials = [] }
@@ -11,20 +11,20 @@ abbrev told : Entry → List (Option ℕ) → Entry
 told e ps = record { tune = e.tune; bars = e.bars; spans = e.spans; breaks = e.breaks; total = e.total; potentials = ps }
 
 spans_lead : (es : List Entry) (k n : ℕ) (so_far ss : List Span) → SpansFrom n (last_span_from None so_far) ss
-    → Leads (choosing es (begun_with k n so_far [])) (map Line.OneSpan ss) (choosing es (begun_with k n (so_far ++ ss) []))
+    → Leads (choosing es (begun_with k n so_far [])) (map ListingLine.OneSpan ss) (choosing es (begun_with k n (so_far ++ ss) []))
 spans_lead es k n so_far [] h = ap (λ t. choosing es (begun_with k n t [])) (sym (append-nil so_far))
 spans_lead es k n so_far (s ∷ ss) h = (
   (refl, h.0),
-  subst (λ t. Leads (choosing es (begun_with k n (so_far ++ s ∷ []) [])) (map Line.OneSpan ss) (choosing es (begun_with k n t []))) (append_assoc so_far (s ∷ []) ss)
+  subst (λ t. Leads (choosing es (begun_with k n (so_far ++ s ∷ []) [])) (map ListingLine.OneSpan ss) (choosing es (begun_with k n t []))) (append_assoc so_far (s ∷ []) ss)
       (spans_lead es k n (so_far ++ s ∷ []) ss (subst (λ o. SpansFrom n o ss) (sym (push_last_span None so_far s)) h.1)),
 )
 
 breaks_lead : (es : List Entry) (k n : ℕ) (spans : List Span) (so_far bs : List ℕ) → FitsFrom (listed spans) (last_from 0 so_far) bs
-    → Leads (choosing es (begun_with k n spans so_far)) (map Line.Choose bs) (choosing es (begun_with k n spans (so_far ++ bs)))
+    → Leads (choosing es (begun_with k n spans so_far)) (map ListingLine.Choose bs) (choosing es (begun_with k n spans (so_far ++ bs)))
 breaks_lead es k n spans so_far [] h = ap (λ t. choosing es (begun_with k n spans t)) (sym (append-nil so_far))
 breaks_lead es k n spans so_far (b ∷ bs) h = (
   h.0,
-  subst (λ t. Leads (choosing es (begun_with k n spans (so_far ++ b ∷ []))) (map Line.Choose bs) (choosing es (begun_with k n spans t))) (append_assoc so_far (b ∷ []) bs)
+  subst (λ t. Leads (choosing es (begun_with k n spans (so_far ++ b ∷ []))) (map ListingLine.Choose bs) (choosing es (begun_with k n spans t))) (append_assoc so_far (b ∷ []) bs)
       (breaks_lead es k n spans (so_far ++ b ∷ []) bs (subst (λ i. FitsFrom (listed spans) i bs) (sym (push_last 0 b so_far)) h.1)),
 )
 
@@ -74,4 +74,4 @@ all_lead (e ∷ es) done h =
     (all_lead es (done ++ e ∷ []) (subst (λ k. EntriesFrom k es) (sym (push_tune 0 done e)) h.2)))
 
 pub listing_leads : (es : List Entry) → EntriesFrom 0 es → Leads begun (listing_lines es) (ended es)
-listing_leads es h = (tt, leads_both (between []) (all_lines es) (between es) (Line.End ∷ []) (ended es) (all_lead es [] h) (tt, refl))
+listing_leads es h = (tt, leads_both (between []) (all_lines es) (between es) (ListingLine.End ∷ []) (ended es) (all_lead es [] h) (tt, refl))

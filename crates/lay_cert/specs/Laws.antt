@@ -1,7 +1,7 @@
 -- The laws of listings.
 use Rattle.std.specs.Prelude.{◌≡◌, ℕ, ◌<◌, Bool, true, false, Option, None, List, [], ◌∷◌, ◌++◌, ◌↔◌}
 use Rattle.lay_breaks.specs.Breaking.{IsLegal}
-use Rattle.lay_cert.specs.{Lines.lines_then, Listing.Entry, Listing.IsListing, Listing.listing_lines, Listing.entries_text, Listing.none_forced, Places.IsFirstFault, Places.IsGoodThroughout, declared.lines.Line.Line}
+use Rattle.lay_cert.specs.{Lines.lines_then, Listing.Entry, Listing.IsListing, Listing.listing_lines, Listing.entries_text, Listing.none_forced, ReaderStates.IsFirstFault, ReaderStates.IsGoodThroughout, declared.lines.ListingLine.ListingLine}
 
 -- a text is a listing exactly where each of its lines is good and the last is `end`
 abbrev pub GoodByLines : Type 0
@@ -21,7 +21,7 @@ NoPrefix = (text more : List ℕ) (es fs : List Entry) → IsListing text es →
 
 -- a listing is its first line, the lines of each entry, and its last line
 abbrev pub InParts : Type 0
-InParts = (es : List Entry) → lines_then (listing_lines es) [] ≡ lines_then (Line.Listing ∷ []) [] ++ entries_text es ++ lines_then (Line.End ∷ []) []
+InParts = (es : List Entry) → lines_then (listing_lines es) [] ≡ lines_then (ListingLine.Listing ∷ []) [] ++ entries_text es ++ lines_then (ListingLine.End ∷ []) []
 
 -- where no span passes a forced bar, the legal breakings are those of the same spans with no bar forced
 abbrev pub ForcedBySpans : Type 0

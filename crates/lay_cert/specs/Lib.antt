@@ -1,10 +1,10 @@
 pub mod Lines
 pub mod Listing
-pub mod Places
+pub mod ReaderStates
 pub mod Told
 pub mod Laws
 pub mod Verdicts
 pub mod Indexed
-pub mod Stands
+pub mod Represents
 pub mod Answers
 pub mod Reports

@@ -1,6 +1,6 @@
 -- The lines of a listing, as they are printed.
 use Rattle.std.specs.Prelude.{ℕ, List, [], ◌∷◌, ◌++◌, Option, Some, None, codes, decimal}
-use Rattle.lay_cert.specs.declared.lines.Line.{Line, TheVariants.Listing, TheVariants.Tune, TheVariants.OneSpan, TheVariants.Choose, TheVariants.Total, TheVariants.Potential, TheVariants.End}
+use Rattle.lay_cert.specs.declared.lines.ListingLine.{ListingLine, TheVariants.Listing, TheVariants.Tune, TheVariants.OneSpan, TheVariants.Choose, TheVariants.Total, TheVariants.Potential, TheVariants.End}
 
 -- a sum, or the word none
 abbrev pub sum_text : Option ℕ → List ℕ
@@ -8,7 +8,7 @@ sum_text None = codes "none"
 sum_text (Some v) = decimal v
 
 -- Words and numbers with one space between two of them. Numbers are decimal, without leading zeros.
-abbrev pub line_text : Line → List ℕ
+abbrev pub line_text : ListingLine → List ℕ
 line_text Listing = codes "listing 1"
 line_text (Tune tune bars) = codes "tune " ++ decimal tune ++ 32 ∷ codes "measures " ++ decimal bars
 line_text (OneSpan s) = codes "span " ++ decimal s.a ++ 32 ∷ decimal s.b ++ 32 ∷ decimal s.badness
@@ -18,6 +18,6 @@ line_text (Potential bar least) = codes "potential " ++ decimal bar ++ 32 ∷ su
 line_text End = codes "end"
 
 -- the lines, each ended by a line feed, and then what follows them
-abbrev pub lines_then : List Line → List ℕ → List ℕ
+abbrev pub lines_then : List ListingLine → List ℕ → List ℕ
 lines_then [] rest = rest
 lines_then (l ∷ ls) rest = line_text l ++ 10 ∷ lines_then ls rest

@@ -1,7 +1,7 @@
 -- What a listing is: for each tune the spans that fit among its bars, a choice of breaks, their total, and the potential of each bar.
 -- A breaking of a tune's listing is a rising list of bars that ends with the last and whose spans are all listed. No bar is forced.
 use Rattle.std.specs.Prelude.{◌≡◌, ℕ, ◌+◌, ◌<◌, ◌≤◌, ◌^◌, Bool, false, List, [], ◌∷◌, ◌++◌, length, Option, None, map, slice_index_or}
-use Rattle.{lay_breaks.specs.{Breaking.IsLegal, Breaking.sum_from, Breaking.IsPotential, Spans.AreSpans, Spans.listed, declared.costs.Span.Span}, lay_cert.specs.{Lines.lines_then, declared.lines.Line.Line}}
+use Rattle.{lay_breaks.specs.{Breaking.IsLegal, Breaking.sum_from, Breaking.IsPotential, Spans.AreSpans, Spans.listed, declared.costs.Span.Span}, lay_cert.specs.{Lines.lines_then, declared.lines.ListingLine.ListingLine}}
 
 abbrev pub none_forced : ℕ → Bool
 none_forced b = false
@@ -29,21 +29,21 @@ abbrev pub EntriesFrom : ℕ → List Entry → Type 0
 EntriesFrom k [] = Unit {0}
 EntriesFrom k (e ∷ es) = (k < e.tune) × IsEntry e × EntriesFrom e.tune es
 
-abbrev pub potential_lines : ℕ → List (Option ℕ) → List Line
+abbrev pub potential_lines : ℕ → List (Option ℕ) → List ListingLine
 potential_lines i [] = []
-potential_lines i (p ∷ ps) = Line.Potential i p ∷ potential_lines (i + 1) ps
+potential_lines i (p ∷ ps) = ListingLine.Potential i p ∷ potential_lines (i + 1) ps
 
 -- the lines of one tune
-abbrev pub entry_lines : Entry → List Line
-entry_lines e = Line.Tune e.tune e.bars ∷ map Line.OneSpan e.spans ++ map Line.Choose e.breaks ++ Line.Total e.total ∷ potential_lines 0 e.potentials
+abbrev pub entry_lines : Entry → List ListingLine
+entry_lines e = ListingLine.Tune e.tune e.bars ∷ map ListingLine.OneSpan e.spans ++ map ListingLine.Choose e.breaks ++ ListingLine.Total e.total ∷ potential_lines 0 e.potentials
 
-abbrev pub all_lines : List Entry → List Line
+abbrev pub all_lines : List Entry → List ListingLine
 all_lines [] = []
 all_lines (e ∷ es) = entry_lines e ++ all_lines es
 
 -- the lines of the whole listing
-abbrev pub listing_lines : List Entry → List Line
-listing_lines es = Line.Listing ∷ all_lines es ++ Line.End ∷ []
+abbrev pub listing_lines : List Entry → List ListingLine
+listing_lines es = ListingLine.Listing ∷ all_lines es ++ ListingLine.End ∷ []
 
 -- the lines of the entries, as text
 abbrev pub entries_text : List Entry → List ℕ

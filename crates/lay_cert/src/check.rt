@@ -2,7 +2,7 @@ ghost use Rattle.std.specs.Prelude.{◌≡◌, List, IfOk, IfErr};
 ghost use Rattle.lay_cert.specs.{Laws.GoodByLines, Laws.TellsOne, Laws.FaultsTellNone, Laws.NoPrefix, Listing.Entry, Listing.IsListing, Answers.IsJudged, Answers.IsCause};
 ghost use Rattle.lay_cert.specs.declared.check.CertError.TheVariants as answer;
 
-use crate::place::{Stage, is_ended, step};
+use crate::state::{ListingState, is_ended, step};
 use eng_lines::cut_at;
 use mus_units::{Memory, Row};
 use std::alloc::Global;
@@ -56,7 +56,7 @@ pub fn check_listing(alloc: Global, bytes: &[u8]) -> Result<Row<Judged>, CertErr
     ensures cause { IfErr result (IsCause bytes.now) }
 {
     let mut judged = Row::new(alloc);
-    let mut stage = Stage::Begun;
+    let mut stage = ListingState::Begun;
     let mut rest = bytes;
     let mut line: u64 = 1;
     while let Some((raw, behind)) = cut_at(b'\n', rest) {

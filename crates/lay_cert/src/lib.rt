@@ -9,7 +9,7 @@ pub mod check;
 mod costs;
 pub mod lines;
 mod numbers;
-mod place;
+mod state;
 pub mod report;
 pub mod write;
 
@@ -17,6 +17,6 @@ pub use check::{
     CertError, Judged, Verdict, check_listing, faults_tell_none, good_by_lines,
     no_prefix_is_a_listing, tells_one,
 };
-pub use lines::Line;
+pub use lines::ListingLine;
 pub use report::put_verdict;
 pub use write::{forced_by_spans, in_parts, put_end, put_entry, put_heading};

@@ -8,7 +8,7 @@ use std::alloc::Global;
 
 /// A line of a listing.
 #[derive(Clone, Copy, PartialEq, Eq)]
-pub enum Line {
+pub enum ListingLine {
     /// The first.
     Listing,
     /// A tune's first: its number in the book, and how many bars it has.
@@ -58,22 +58,22 @@ fn put_potential(out: &mut Text, bar: u32, least: Option<u64>) -> Result<(), Mem
 }
 
 /// Puts a line at the end of the text, without a line feed.
-pub fn put_text(out: &mut Text, line: Line) -> Result<(), Memory>
+pub fn put_text(out: &mut Text, line: ListingLine) -> Result<(), Memory>
     ensures { OnOk result (out.new ≡ out.old ++ line_text line) }
 {
     match line {
-        Line::Listing => out.append(b"listing 1"),
-        Line::Tune { tune, bars } => put_tune(out, tune, bars),
-        Line::OneSpan(span) => put_span(out, span),
-        Line::Choose { bar } => put_named(out, b"choose ", bar as u64),
-        Line::Total { total } => put_named(out, b"total ", total),
-        Line::Potential { bar, least } => put_potential(out, bar, least),
-        Line::End => out.append(b"end"),
+        ListingLine::Listing => out.append(b"listing 1"),
+        ListingLine::Tune { tune, bars } => put_tune(out, tune, bars),
+        ListingLine::OneSpan(span) => put_span(out, span),
+        ListingLine::Choose { bar } => put_named(out, b"choose ", bar as u64),
+        ListingLine::Total { total } => put_named(out, b"total ", total),
+        ListingLine::Potential { bar, least } => put_potential(out, bar, least),
+        ListingLine::End => out.append(b"end"),
     }
 }
 
 /// Whether the bytes are the text of the line.
-pub fn is_line(alloc: Global, bytes: &[u8], line: Line) -> Result<bool, Memory>
+pub fn is_line(alloc: Global, bytes: &[u8], line: ListingLine) -> Result<bool, Memory>
     ensures { IfOk result (λ r. Decides r (bytes.now ≡ line_text line)) }
 {
     let mut text = Text::new(alloc);

@@ -2,10 +2,10 @@
 
 ghost use Rattle.std.specs.Prelude.{◌≡◌, ◌<◌, ◌^◌, ℕ, MatchOption};
 ghost use Rattle.lay_cert.specs.Lines.{line_text};
-ghost use Rattle.lay_cert.specs.declared.lines.Line.TheVariants as line;
+ghost use Rattle.lay_cert.specs.declared.lines.ListingLine.TheVariants as line;
 ghost use Rattle.lay_breaks.specs.declared.costs.Span.{Span};
 
-use eng_lines::{number, number_and_rest, number_behind, strip};
+use eng_lines::{number, number_and_rest, number_after, strip};
 use lay_breaks::Span;
 
 /// The number and the bars of a tune's first line.
@@ -15,7 +15,7 @@ pub fn read_tune(bytes: &[u8]) -> Option<(u32, u32)>
 {
     let rest = strip(b"tune ", bytes)?;
     let (tune, rest) = number_and_rest(rest)?;
-    Some((tune, number_behind(b"measures ", rest)?))
+    Some((tune, number_after(b"measures ", rest)?))
 }
 
 /// The span of a span's line.
@@ -35,5 +35,5 @@ pub fn read_choice(bytes: &[u8]) -> Option<u32>
     ensures { MatchOption result ((bar : ℕ) → bar < 2 ^ 32 → bytes.now ≡ line_text (line.Choose bar) → ⊥)
         (λ bar. (bytes.now ≡ line_text (line.Choose bar)) × (bar < 2 ^ 32)) }
 {
-    number_behind(b"choose ", bytes)
+    number_after(b"choose ", bytes)
 }

@@ -1,13 +1,13 @@
 ghost use Rattle.std.specs.Prelude.{◌≡◌, ◌+◌, ◌++◌, ◌∷◌, [], ℕ, List, Option, map, length, ◌<◌, ◌^◌, OnOk};
 ghost use Rattle.lay_cert.specs.{Laws.InParts, Laws.ForcedBySpans, Lines.line_text, Lines.lines_then, Listing.entry_lines, Listing.potential_lines};
-ghost use Rattle.lay_cert.specs.declared.lines.Line.TheVariants as line;
+ghost use Rattle.lay_cert.specs.declared.lines.ListingLine.TheVariants as line;
 
-use crate::lines::{Line, put_text};
+use crate::lines::{ListingLine, put_text};
 use lay_breaks::{Breaking, Span};
 use mus_units::{Memory, Text};
 
 /// Puts a line and its line feed at the end of the text.
-pub fn put_line(out: &mut Text, line: Line) -> Result<(), Memory>
+pub fn put_line(out: &mut Text, line: ListingLine) -> Result<(), Memory>
     ensures { OnOk result (out.new ≡ out.old ++ lines_then (line ∷ []) []) }
 {
     put_text(out, line)?;
@@ -18,7 +18,7 @@ fn put_spans(out: &mut Text, spans: &[Span]) -> Result<(), Memory>
     ensures { OnOk result (out.new ≡ out.old ++ lines_then (map line.OneSpan spans.now) []) }
 {
     for span in spans.iter() {
-        put_line(out, Line::OneSpan(*span))?;
+        put_line(out, ListingLine::OneSpan(*span))?;
     }
     Ok(())
 }
@@ -27,7 +27,7 @@ fn put_breaks(out: &mut Text, breaks: &[u32]) -> Result<(), Memory>
     ensures { OnOk result (out.new ≡ out.old ++ lines_then (map line.Choose breaks.now) []) }
 {
     for bar in breaks.iter() {
-        put_line(out, Line::Choose { bar: *bar })?;
+        put_line(out, ListingLine::Choose { bar: *bar })?;
     }
     Ok(())
 }
@@ -38,7 +38,7 @@ fn put_potentials(out: &mut Text, potentials: &[Option<u64>]) -> Result<(), Memo
 {
     let mut bar: u32 = 0;
     for least in potentials.iter() {
-        put_line(out, Line::Potential { bar, least: *least })?;
+        put_line(out, ListingLine::Potential { bar, least: *least })?;
         bar += 1;
     }
     Ok(())
@@ -48,7 +48,7 @@ fn put_potentials(out: &mut Text, potentials: &[Option<u64>]) -> Result<(), Memo
 pub fn put_heading(out: &mut Text) -> Result<(), Memory>
     ensures { OnOk result (out.new ≡ out.old ++ lines_then (line.Listing ∷ []) []) }
 {
-    put_line(out, Line::Listing)
+    put_line(out, ListingLine::Listing)
 }
 
 /// Puts the lines of one tune: its number and bars, the spans that fit by where
@@ -70,12 +70,12 @@ pub fn put_entry(
       potentials = breaking.now.potentials;
     })) []) }
 {
-    put_line(out, Line::Tune { tune, bars })?;
+    put_line(out, ListingLine::Tune { tune, bars })?;
     put_spans(out, spans)?;
     put_breaks(out, breaking.breaks.as_slice())?;
     put_line(
         out,
-        Line::Total {
+        ListingLine::Total {
             total: breaking.total,
         },
     )?;
@@ -87,7 +87,7 @@ pub fn put_entry(
 pub fn put_end(out: &mut Text) -> Result<(), Memory>
     ensures { OnOk result (out.new ≡ out.old ++ lines_then (line.End ∷ []) []) }
 {
-    put_line(out, Line::End)
+    put_line(out, ListingLine::End)
 }
 
 /// The law that a listing is its first line, the lines of each tune, and its last line.

@@ -1,143 +1,129 @@
--- What is true of each column: it is small, has a place for each lane, and stands where it must.
-use Rattle.std.{proofs.{Common.{◌≡◌, ℕ, ℤ, pos, negsuc, ◌+◌, ◌-◌, ◌*◌, ◌/◌, ◌^◌, ◌≤◌, min, Bool, true, false, List, [], ◌∷◌, map, length, Option, Some, None, IfSome, refl, sym, ap, ◌∙◌, subst, arith, if◌then◌else◌, option_and_then, slice_get, get_or}, lemmas.{List.{length-append, length-map, length-replicate, Elements.{All-append, All-cons, All-map, All-nil}, FromFn.length-map-range_with_len}, Option.{slice_get-get_or, slice_get_within, get_or_from_slice_get}}}, specs.List.{All, find, range_with_len}}
-use Rattle.{mus_time.specs.{Onsets.greatest, declared.keys.ColumnKey.ColumnKey}, mus_laid.specs.{declared.boxes.Sides.Sides, declared.laid.Laid.Laid, declared.laid.StaffMarks.StaffMarks}}
-use Rattle.lay_springs.specs.{declared.traits.Reach.Reach, Fit.StandsInAll, Stands.{cut_reach, most_reach, reach_in}}
-use Rattle.lay_columns.specs.{declared.column.Column.Column, Column.length_at, Columns.{columns_from, IsNear, IsSmall, IsUncut, StandsWhereDue}, Lanes.{gaps_of, lane_count, staff_gaps}, Naturals.{is_note, is_note_of, natural_for, natural_of, tick_or_end}, Reaches.{drawn_reach, drawn_row, left_of, reach_over, reaches_of, right_of, staff_reaches, standing, stands_always}}
+-- What is true of the columns of one measure: they stand in it, the last is its bar, and texts are short.
+use Rattle.std.{proofs.{Common.{◌≡◌, ◌∙◌, ℕ, zero, suc, ◌+◌, ◌-◌, ◌<◌, ◌≤◌, Bool, true, false, List, [], ◌∷◌, length, map, take, drop, Some, Ok, Err, IfOk, Result, refl, sym, ap, subst, arith}, lemmas.{Bool.Decides.nat_tests, List.{length-map, Elements.{All-from_recursion, Contains-append_left, Contains-append_right, recursion_from_All}}}}, specs.List.{All, AllByRecursion, Contains, flat_map, slice_index, slice_range}}
+use Rattle.mus_score.specs.{declared.score.Measure.Measure, declared.score.Score.Score, declared.score.Voice.Voice, Seats.is_lower, Times.flats_of, GoodScore.IsGoodScore, GoodScore.IsLed}
+use Rattle.mus_onsets.specs.{declared.{keys.{Class.Class, ColumnKey.ColumnKey}, times.Timeline.Timeline}, Onsets.timeline_of, Keys.{AreKeys, all_keys, bar_key, called_keys, events_keys, first_keys, further_keys, IsInSystem, key_at, keys_by, measures_keys, signed_at}, Order.{BelowAll, is_below, Rises}}
+use Rattle.{mus_drawn.specs.{declared.drawn.DrawnMeasure.DrawnMeasure, declared.drawn.DrawnVoice.DrawnVoice}, mus_laid.specs.Boxes.{AreGoodMarks}}
+use Rattle.{mus_stems.proofs.RunLaws.{all_append, all_drop, all_take}, mus_time.{specs.Columns.keys_called, proofs.Called.called_places}}
+use Rattle.mus_marks.{specs.System.drawn_staves, proofs.Fitting.staves_fit, proofs.Parts.columns_all, proofs.Parts.Fits, proofs.Parts.FitsMeasure, proofs.Parts.FitsVoice, proofs.Parts.measures_all, proofs.GoodMarks.goods, proofs.GoodMarks.IsGood}
+use Rattle.lay_reaches.{specs.{declared.column.Column.Column, Columns.StandsWhereDue, Widened.HaveGoodMarks}, proofs.Facts.columns_stand}
+use Rattle.lay_columns.specs.Measures.{AreMeasureColumns, EndWithBar, fixed_place, keys_in, measure_part, measure_staff, parts_from}
 
--- ---- small
-left_near : (z : ℤ) → left_of z ≤ most_reach
-unfolding left_of
-left_near (pos n) = omega arith
-left_near (negsuc n) = omega arith
+-- ---- one measure of some
+single : {X : Type 0} (m : ℕ) (xs : List X) → m < length xs → (x : X) × (take 1 (drop m xs) ≡ x ∷ [])
+single zero [] h = absurd (omega (arith, h))
+single zero (x ∷ xs) h = (x, refl)
+single (suc m) [] h = absurd (omega (arith, h))
+single (suc m) (x ∷ xs) h = single m xs (omega (arith, h))
 
-right_near : (z : ℤ) → right_of z ≤ most_reach
-unfolding right_of
-right_near (pos n) = omega arith
-right_near (negsuc n) = omega arith
+pub slice_one : {X : Type 0} (m : ℕ) (xs : List X) → m < length xs → (x : X) × (slice_range xs m (m + 1) ≡ x ∷ [])
+slice_one m xs h = let one = single m xs h in let count : m + 1 - m ≡ 1 = omega arith in (one.0, ap (λ n. take n (drop m xs)) count ∙ one.1)
 
-greatest_near : {X : Type 0} (f : X → ℕ) (most : ℕ) → ((x : X) → f x ≤ most) → (xs : List X) → greatest (map f xs) ≤ most
-greatest_near f most h [] = omega arith
-greatest_near f most h (x ∷ xs) = let a = h x in let b = greatest_near f most h xs in grind (arith, a, b)
+-- ---- answers
+pub ok_through : {X E : Type 0} (P Q : X → Type 0) → ((x : X) → P x → Q x) → (r : Result X E) → IfOk r P → IfOk r Q
+ok_through P Q f (Ok x) h = f x h
+ok_through P Q f (Err e) h = tt
 
-pub near_over : (boxes : List Sides) → IfSome (reach_over boxes) IsNear
-near_over [] = tt
-near_over (box ∷ boxes) = (
-  greatest_near (λ s. left_of s.left) most_reach (λ s. left_near s.left) (box ∷ boxes),
-  greatest_near (λ s. right_of s.right) most_reach (λ s. right_near s.right) (box ∷ boxes),
-)
+keys_all : (P : ColumnKey → Type 0) (cs : List Column) → AllByRecursion P (keys_in cs) → AllByRecursion (λ c. P c.key) cs
+keys_all P [] h = tt
+keys_all P (c ∷ cs) h = (h.0, keys_all P cs h.1)
 
-near_standing : (always : Bool) (o : Option Reach) → IfSome o IsNear → IfSome (standing always o) IsNear
-near_standing always (Some reach) h = h
-near_standing true None h = (omega arith, omega arith)
-near_standing false None h = tt
+pub places : (P : ColumnKey → Type 0) (keys : List ColumnKey) (cs : List Column) → All P keys → keys_in cs ≡ keys → All (λ c. P c.key) cs
+places P keys cs all e = All-from_recursion (λ c. P c.key) cs (keys_all P cs (recursion_from_All P (keys_in cs) (subst (λ ks. All P ks) (sym e) all)))
 
-pub near_row : (always : Bool) (rank : ℕ) (marks : List Laid) (verses : ℕ) → All (λ o. IfSome o IsNear) (staff_reaches always rank marks verses)
-near_row always rank marks verses =
-    All-map (λ o. IfSome o IsNear) (standing always) (drawn_row marks (lane_count verses) rank)
-    (All-map (λ o. IfSome (standing always o) IsNear) (drawn_reach marks rank) (range_with_len 0 (lane_count verses))
-    (λ k d l. near_standing always _ (near_over _)))
-
-pub near_all : (always : Bool) (rank : ℕ) (staves : List StaffMarks) (verses : List ℕ) → All (λ o. IfSome o IsNear) (reaches_of always rank staves verses)
-near_all always rank [] verses = All-nil (λ o. IfSome o IsNear)
-near_all always rank (staff ∷ staves) [] = All-nil (λ o. IfSome o IsNear)
-near_all always rank (staff ∷ staves) (v ∷ verses) =
-    All-append (λ o. IfSome o IsNear) (staff_reaches always rank staff.marks v) (reaches_of always rank staves verses)
-    (near_row always rank staff.marks v) (near_all always rank staves verses)
-
-natural_near : (ticks : ℕ) → natural_for ticks ≤ 4000
-natural_near ticks = grind arith
-
-natural_small : (key : ColumnKey) (behind : List ColumnKey) (lengths : List ℕ) → natural_of key behind lengths ≤ 4000
-natural_small key behind lengths = by (is_note key)
+-- ---- the bar
+bar_class : (lengths : List ℕ) (m : ℕ) (k : ColumnKey) → is_below (bar_key lengths m) k ≡ true → IsInSystem lengths m (m + 1) k → k.class ≡ Class.Bar
+unfolding is_below
+bar_class lengths m k below place =
+    let same : k.measure ≡ m = let from = place.from in let to = place.to in omega (arith, from, to) in
+    let late : k.tick ≤ slice_index lengths m = subst (λ n. k.tick ≤ slice_index lengths n) same place.within in by k.class refl same late
   where
-    by : (b : Bool) → (if b then natural_for (tick_or_end key.measure (find (is_note_of key.measure) behind) lengths - key.tick) else 0) ≤ 4000
-    by true = natural_near (tick_or_end key.measure (find (is_note_of key.measure) behind) lengths - key.tick)
-    by false = omega arith
+    by : (class : Class) → k.class ≡ class → k.measure ≡ m → k.tick ≤ slice_index lengths m → class ≡ Class.Bar
+    by Class.Head e same late = grind (arith, nat_tests, e, same, late, below)
+    by Class.First e same late = grind (arith, nat_tests, e, same, late, below)
+    by Class.Change e same late = grind (arith, nat_tests, e, same, late, below)
+    by Class.Grace e same late = grind (arith, nat_tests, e, same, late, below)
+    by Class.Note e same late = grind (arith, nat_tests, e, same, late, below)
+    by Class.Bar e same late = refl
 
--- ---- uncut
-cut_same : (reach : Reach) → IsNear reach → cut_reach reach ≡ reach
-cut_same reach h = let l : min reach.left (2 ^ 20) ≡ reach.left = let n = h.0 in omega (arith, n) in let r : min reach.right (2 ^ 20) ≡ reach.right = let n = h.1 in omega (arith, n) in rw (l, r) refl
+past_bar : (lengths : List ℕ) (m : ℕ) (c : Column) (cs : List Column) → BelowAll (bar_key lengths m) (keys_in (c ∷ cs)) → AllByRecursion (λ c. IsInSystem lengths m (m + 1) c.key) (c ∷ cs) → EndWithBar (c ∷ cs)
+past_bar lengths m c [] below all = record { front = []; last = c; parts = refl; bar = bar_class lengths m c.key below.0 all.0 }
+past_bar lengths m c (d ∷ cs) below all = let more = past_bar lengths m d cs below.1 all.1 in record { front = c ∷ more.front; last = more.last; parts = ap (λ t. c ∷ t) more.parts; bar = more.bar }
 
-pub reach_same : (reaches : List (Option Reach)) (lane : ℕ) → All (λ o. IfSome o IsNear) reaches → reach_in reaches lane ≡ option_and_then (λ o. o) (slice_get reaches lane)
-unfolding reach_in
-reach_same reaches lane all = by (slice_get reaches lane) refl
-  where
-    by : (o : Option (Option Reach)) → slice_get reaches lane ≡ o → reach_in reaches lane ≡ option_and_then (λ o. o) o
-    by None e = rw e refl
-    by (Some None) e = rw e refl
-    by (Some (Some reach)) e =
-        let near : IfSome (get_or reaches lane (Some reach)) IsNear = all lane (Some reach) (slice_get_within reaches lane (Some reach) e) in
-        let here = subst (λ t. IfSome t IsNear) (get_or_from_slice_get reaches lane (Some reach) (Some reach) e) near in rw e (ap (λ t. Some t) (cut_same reach here))
+ends : (lengths : List ℕ) (m : ℕ) (cs : List Column) → Rises (keys_in cs) → AllByRecursion (λ c. IsInSystem lengths m (m + 1) c.key) cs → Contains (keys_in cs) (bar_key lengths m) → EndWithBar cs
+ends lengths m [] rise all (i, inside, is) = absurd (omega (arith, inside))
+ends lengths m (c ∷ []) rise all (zero, inside, is) = record { front = []; last = c; parts = refl; bar = ap (λ k. k.class) is }
+ends lengths m (c ∷ []) rise all (suc i, inside, is) = absurd (omega (arith, inside))
+ends lengths m (c ∷ d ∷ cs) rise all (zero, inside, is) =
+    let more = past_bar lengths m d cs (subst (λ k. BelowAll k (keys_in (d ∷ cs))) is rise.0) all.1 in record { front = c ∷ more.front; last = more.last; parts = ap (λ t. c ∷ t) more.parts; bar = more.bar }
+ends lengths m (c ∷ d ∷ cs) rise all (suc i, inside, is) =
+    let more = ends lengths m (d ∷ cs) rise.1 all.1 (i, omega (arith, inside), is) in record { front = c ∷ more.front; last = more.last; parts = ap (λ t. c ∷ t) more.parts; bar = more.bar }
 
-pub spring_same : (natural force : ℕ) → natural ≤ 4000 → length_at natural force ≡ natural * force / 256
-unfolding length_at
-spring_same natural force h = let e : min natural 4000 ≡ natural = omega (arith, h) in rw e refl
+pub end_with_bar : (lengths : List ℕ) (m : ℕ) (cs : List Column) → Rises (keys_in cs) → All (λ c. IsInSystem lengths m (m + 1) c.key) cs → Contains (keys_in cs) (bar_key lengths m) → EndWithBar cs
+end_with_bar lengths m cs rise all h = ends lengths m cs rise (recursion_from_All (λ c. IsInSystem lengths m (m + 1) c.key) cs all) h
 
--- ---- a place for each lane
-staff_long : (always : Bool) (rank : ℕ) (marks : List Laid) (verses : ℕ) → length (staff_reaches always rank marks verses) ≡ length (staff_gaps verses)
-staff_long always rank marks verses =
-    let a = length-map (drawn_row marks (lane_count verses) rank) (standing always) in let b = length-map-range_with_len (drawn_reach marks rank) 0 (lane_count verses) in
-    let c = length-replicate {A = ℕ} (2 + verses) 300 in grind (arith, a, b, c)
+has_bar : (lengths : List ℕ) (m : ℕ) (in_head signed : Bool) (x : Measure) → Contains (measures_keys lengths m in_head signed (x ∷ [])) (bar_key lengths m)
+has_bar lengths m in_head signed x = Contains-append_right (events_keys m in_head signed [] (flats_of x.body)) (bar_key lengths m ∷ []) (bar_key lengths m) (0, omega arith, refl)
 
-pub reaches_long : (always : Bool) (rank : ℕ) (staves : List StaffMarks) (verses : List ℕ) → length verses ≡ length staves → length (reaches_of always rank staves verses) ≡ length (gaps_of verses)
-reaches_long always rank [] [] h = refl
-reaches_long always rank [] (v ∷ verses) h = grind (arith, h)
-reaches_long always rank (staff ∷ staves) [] h = refl
-reaches_long always rank (staff ∷ staves) (v ∷ verses) h =
-    let a = staff_long always rank staff.marks v in let b = reaches_long always rank staves verses (omega (arith, h)) in
-    let c = length-append (staff_reaches always rank staff.marks v) (reaches_of always rank staves verses) in let d = length-append (staff_gaps v) (gaps_of verses) in grind (arith, a, b, c, d)
+slice_bar : (lengths : List ℕ) (m : ℕ) (in_head signed : Bool) (xs : List Measure) → m < length xs → Contains (measures_keys lengths m in_head signed (slice_range xs m (m + 1))) (bar_key lengths m)
+slice_bar lengths m in_head signed xs h = let one = slice_one m xs h in subst (λ t. Contains (measures_keys lengths m in_head signed t) (bar_key lengths m)) (sym one.1) (has_bar lengths m in_head signed one.0)
 
--- ---- stands where it must
-abbrev Stands : Option Reach → Type 0
-Stands o = (reach : Reach) × (o ≡ Some reach)
+-- the first voice calls for all keys of its own
+pub led_voice : (f : Voice → List ColumnKey) (n : ℕ) (k : ColumnKey) (vs : List Voice) → 1 ≤ length vs → IsLed vs → All (λ v. length v.measures ≡ n) vs
+    → ((v : Voice) → length v.measures ≡ n → Contains (f v) k) → Contains (flat_map (λ v. keys_by (is_lower v.seat) (f v)) vs) k
+led_voice f n k [] h led same has = absurd (omega (arith, h))
+led_voice f n k (v ∷ vs) h led same has =
+    Contains-append_left (keys_by (is_lower v.seat) (f v)) (flat_map (λ v. keys_by (is_lower v.seat) (f v)) vs) k
+    (subst (λ lower. Contains (keys_by lower (f v)) k) (sym led) (has v (same 0 v (omega arith))))
 
-stands_true : (o : Option Reach) → Stands (standing true o)
-stands_true (Some reach) = (reach, refl)
-stands_true None = (record { left = 0; right = 0 }, refl)
+called_bar : (s : Score) (lengths : List ℕ) (m : ℕ) → IsGoodScore s → 1 ≤ length s.voices → m < s.measures → Contains (called_keys s lengths m (m + 1)) (bar_key lengths m)
+called_bar s lengths m good some within =
+    led_voice (all_keys lengths m (m + 1)) s.measures (bar_key lengths m) s.voices some good.led good.measures (λ v e.
+    Contains-append_right (key_at m 0 Class.Head 0 ∷ first_keys m v.first) (measures_keys lengths m true (signed_at m v) (slice_range v.measures m (m + 1))) (bar_key lengths m)
+    (slice_bar lengths m true (signed_at m v) v.measures (omega (arith, within, e))))
 
-stands_all : (rank : ℕ) (staves : List StaffMarks) (verses : List ℕ) → All Stands (reaches_of true rank staves verses)
-stands_all rank [] verses = All-nil Stands
-stands_all rank (staff ∷ staves) [] = All-nil Stands
-stands_all rank (staff ∷ staves) (v ∷ verses) =
-    All-append Stands (staff_reaches true rank staff.marks v) (reaches_of true rank staves verses)
-    (All-map Stands (standing true) (drawn_row staff.marks (lane_count v) rank) (λ k d l. stands_true _))
-    (stands_all rank staves verses)
+further_bar : (s : Score) (lengths : List ℕ) (m : ℕ) → IsGoodScore s → 1 ≤ length s.voices → m < s.measures → Contains (further_keys s lengths m) (bar_key lengths m)
+further_bar s lengths m good some within =
+    led_voice (λ v. measures_keys lengths m false (signed_at m v) (slice_range v.measures m (m + 1))) s.measures (bar_key lengths m) s.voices some good.led good.measures (λ v e.
+    slice_bar lengths m false (signed_at m v) v.measures (omega (arith, within, e)))
 
-stands_in : (reaches : List (Option Reach)) → All Stands reaches → StandsInAll (reach_in reaches) (length reaches)
-unfolding reach_in
-stands_in reaches all lane l = let here = all lane None l in let e : slice_get reaches lane ≡ Some (Some here.0) = slice_get-get_or reaches lane None l ∙ ap (λ t. Some t) here.1 in (cut_reach here.0, rw e refl)
+pub called_has_bar : (begins : Bool) (s : Score) (lengths : List ℕ) (m : ℕ) → IsGoodScore s → 1 ≤ length s.voices → m < s.measures → Contains (keys_called begins s lengths m) (bar_key lengths m)
+called_has_bar true s lengths m good some within = called_bar s lengths m good some within
+called_has_bar false s lengths m good some within = further_bar s lengths m good some within
 
--- ---- each column
-module _ (staves : List StaffMarks) (lengths verses : List ℕ) where
-  abbrev column_at : ℕ → ColumnKey → List ColumnKey → Column
-  column_at rank key behind = record { key = key; reaches = reaches_of (stands_always key.class) rank staves verses; natural = natural_of key behind lengths }
+module _ (begins : Bool) (s : Score) (t : Timeline) (m : ℕ) (verses : List ℕ) (columns : List Column) (are : AreMeasureColumns begins s t m verses columns) where
+  pub measure_bar : IsGoodScore s → t ≡ timeline_of s → 1 ≤ length s.voices → m < s.measures → EndWithBar columns
+  measure_bar good timed some within =
+      let lengths = t.lengths in let keys = keys_in columns in
+      let inside = subst (λ z. All (IsInSystem z.lengths m (m + 1)) keys) (sym timed) (called_places begins s m keys good within (subst (λ z. AreKeys keys (keys_called begins s z.lengths m)) timed are.keys)) in
+      end_with_bar lengths m columns are.keys.rise (places (IsInSystem lengths m (m + 1)) keys columns inside refl) (are.keys.all (bar_key lengths m) (called_has_bar begins s lengths m good some within))
 
-  all_columns : (P : Column → Type 0) → ((rank : ℕ) (key : ColumnKey) (behind : List ColumnKey) → P (column_at rank key behind)) → (rank : ℕ) (keys : List ColumnKey) → All P (columns_from rank keys staves lengths verses)
-  all_columns P h rank [] = All-nil P
-  all_columns P h rank (key ∷ behind) = All-cons P (column_at rank key behind) (columns_from (rank + 1) behind staves lengths verses) (h rank key behind) (all_columns P h (rank + 1) behind)
+  pub measure_stands : length verses ≡ length (drawn_staves s) → All (StandsWhereDue verses) columns
+  measure_stands count =
+      let staves = map (measure_staff begins (keys_in columns) t.lengths m) (drawn_staves s) in
+      subst (All (StandsWhereDue verses)) (sym are.value) (columns_stand staves t.lengths verses (keys_in columns) (count ∙ sym (length-map (drawn_staves s) (measure_staff begins (keys_in columns) t.lengths m))))
 
-  pub columns_keys : (rank : ℕ) (keys : List ColumnKey) → map (λ c. c.key) (columns_from rank keys staves lengths verses) ≡ keys
-  columns_keys rank [] = refl
-  columns_keys rank (key ∷ behind) = ap (λ t. key ∷ t) (columns_keys (rank + 1) behind)
+-- ---- texts
+sliced : (verses m : ℕ) (ds : List DrawnMeasure) → Fits verses ds → Fits verses (slice_range ds m (m + 1))
+sliced verses m ds fits = all_take (FitsMeasure verses) (m + 1 - m) (drop m ds) (all_drop (FitsMeasure verses) m ds fits)
 
-  pub columns_small : (keys : List ColumnKey) → All IsSmall (columns_from 0 keys staves lengths verses)
-  columns_small keys = all_columns IsSmall (λ rank key behind. record { natural = natural_small key behind lengths; reaches = near_all (stands_always key.class) rank staves verses }) 0 keys
+module _ (keys : List ColumnKey) (lengths : List ℕ) (m : ℕ) where
+  part_good : (begins : Bool) (first : ℕ) (v : DrawnVoice) → 1 ≤ first → FitsVoice v → AllByRecursion IsGood (measure_part begins keys lengths m first v)
+  part_good true first v some fits =
+      columns_all (first + v.verses) keys IsGood (goods (first + v.verses) keys) v.verses lengths (Some (fixed_place first)) m v.seat v.first (slice_range v.measures m (m + 1))
+      (some, omega arith) (sliced v.verses m v.measures fits)
+  part_good false first v some fits =
+      measures_all (first + v.verses) keys IsGood (goods (first + v.verses) keys) v.verses lengths (Some (fixed_place first)) m false (slice_range v.measures m (m + 1))
+      (some, omega arith) (sliced v.verses m v.measures fits)
 
-  pub columns_uncut : (keys : List ColumnKey) → All IsUncut (columns_from 0 keys staves lengths verses)
-  columns_uncut keys = all_columns IsUncut (λ rank key behind. record {
-    reach = λ lane. reach_same _ lane (near_all (stands_always key.class) rank staves verses);
-    spring = λ force. spring_same _ force (natural_small key behind lengths);
-  }) 0 keys
+  parts_good : (begins : Bool) (first : ℕ) (vs : List DrawnVoice) → 1 ≤ first → AllByRecursion FitsVoice vs → AllByRecursion IsGood (parts_from (measure_part begins keys lengths m) first vs)
+  parts_good begins first [] some fits = tt
+  parts_good begins first (v ∷ vs) some fits =
+      all_append IsGood (measure_part begins keys lengths m first v) (parts_from (measure_part begins keys lengths m) (first + v.verses) vs)
+      (part_good begins first v some fits.0) (parts_good begins (first + v.verses) vs (omega (arith, some)) fits.1)
 
-  pub columns_long : (keys : List ColumnKey) → length verses ≡ length staves → All (λ c. length c.reaches ≡ length (gaps_of verses)) (columns_from 0 keys staves lengths verses)
-  columns_long keys h = all_columns (λ c. length c.reaches ≡ length (gaps_of verses))
-      (λ rank key behind. reaches_long (stands_always key.class) rank staves verses h) 0 keys
+  each_good : (begins : Bool) (staves : List (List DrawnVoice)) → AllByRecursion (AllByRecursion FitsVoice) staves → AllByRecursion (λ s. AreGoodMarks s.marks) (map (measure_staff begins keys lengths m) staves)
+  each_good begins [] fits = tt
+  each_good begins (vs ∷ staves) fits = (parts_good begins 1 vs (omega arith) fits.0, each_good begins staves fits.1)
 
-  pub columns_stand : (keys : List ColumnKey) → length verses ≡ length staves → All (StandsWhereDue verses) (columns_from 0 keys staves lengths verses)
-  columns_stand keys h = all_columns (StandsWhereDue verses) by 0 keys
-    where
-      by : (rank : ℕ) (key : ColumnKey) (behind : List ColumnKey) → StandsWhereDue verses (column_at rank key behind)
-      by rank key behind always =
-          subst (λ n. StandsInAll (reach_in (reaches_of (stands_always key.class) rank staves verses)) n) (reaches_long (stands_always key.class) rank staves verses h)
-          (stands_in (reaches_of (stands_always key.class) rank staves verses)
-          (subst (λ b. All Stands (reaches_of b rank staves verses)) (sym always) (stands_all rank staves verses)))
+  pub staves_good : (begins : Bool) (s : Score) → IsGoodScore s → HaveGoodMarks (map (measure_staff begins keys lengths m) (drawn_staves s))
+  staves_good begins s good = All-from_recursion (λ s. AreGoodMarks s.marks) (map (measure_staff begins keys lengths m) (drawn_staves s)) (each_good begins (drawn_staves s) (staves_fit s good))

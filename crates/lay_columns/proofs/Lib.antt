@@ -1,7 +1,8 @@
-pub mod Covering
+mod Behind
 pub mod Facts
-pub mod Gaps
-pub mod JoinLaws
-pub mod Lone
-pub mod Rows
-pub mod Widening
+mod HeadKeys
+pub mod Joined
+mod KeyLaws
+mod Ranks
+mod SameBoxes
+mod Slots

@@ -1,8 +1,2 @@
-pub mod Column
-pub mod Columns
-pub mod Joining
-pub mod Lanes
-pub mod Naturals
-pub mod Reaches
-pub mod Stands
-pub mod Widened
+pub mod Law
+pub mod Measures

@@ -1,18 +1,13 @@
-//! The columns of a system: how far each reaches in each lane, and the natural length of
-//! the spring behind it, from the system's marks.
-//!
-//! A column is one for all staves. Marks of one lane in different columns are kept apart.
+//! The columns of one measure at a time: put one after the other they are the columns of a system,
+//! so that spans of measures can be tried by adding a measure to the one before.
 #![tactic(auto)]
 
-pub mod column;
-pub mod lanes;
-pub mod reaches;
-pub mod springs;
-pub mod stands;
-pub mod system;
+pub mod further;
+pub mod law;
+pub mod measures;
+pub mod staves;
 
-pub use column::Column;
-pub use lanes::gaps_of;
-pub use lay_springs::Reach;
-pub use stands::Reaches;
-pub use system::{columns, columns_in};
+pub use further::{further_columns, further_of};
+pub use law::measures_join;
+pub use measures::measure_columns;
+pub use staves::staff_verses;

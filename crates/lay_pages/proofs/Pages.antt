@@ -1,7 +1,7 @@
 -- Blocks parted into pages that fit: each lies on its page, each comes behind the one before it, and one parting is chosen.
 use Rattle.std.{proofs.{Common.{◌≡◌, refl, ap, sym, ◌∙◌, subst, ℕ, zero, suc, ◌+◌, ◌-◌, ◌≤◌, ℤ, pos, negsuc, ◌≤ℤ◌, Bool, true, false, not, List, [], ◌∷◌, ◌++◌, append_assoc, length, take, drop, arith}, lemmas.{Bool.Decides.nat_tests, Int.ints, List.{drop-drop, drop_all, Elements.{All-drop, All-head}}}, Math.Seq.drop-nil}, specs.Prelude.{◌==◌, ◌&&◌, nat_le, if◌then◌else◌, IfOk, IsSome, Some, None, Result, Ok, Err}}
 use Rattle.lay_breaks.{specs.Breaking.FitsFrom, specs.Breaking.IsChosen, specs.Breaking.NoneLegal, specs.Breaking.RisesFrom, specs.Breaking.last_from, proofs.Unique.one_is_chosen}
-use Rattle.lay_pages.{specs.{Even.{AreEven, AreFitting, AreHeights, AreSpots, AreStacked, ComesBehind, ComeBehind, ends_behind, ends_page, groups_behind, filled, parted, group_heights, heights_from, page_cost, page_height, parted_from, parted_spots, place_behind, span_height, square, stacked, turns}, declared.filling.{Block.Block, Place.Place, Spot.Spot, PageError.PageError}, Filling.{AreGoodBlocks, AreFilled, AreWithin, FollowOn, Follows, same_page, next_page, group_height, height_of, spot_at, with_kept}}, proofs.{Filled.{at_top, below}, Fitting.{bottom_within, first_low, top_within}}}
+use Rattle.lay_pages.{specs.{Even.{AreEven, AreFitting, AreHeights, AreSpots, StandByPages, ComesBehind, ComeBehind, ends_behind, ends_page, groups_behind, filled, parted, group_heights, heights_from, page_cost, page_height, parted_from, parted_spots, even_spot_after, span_height, square, stacked, turns}, declared.filling.{Block.Block, BlockSpot.BlockSpot, Spot.Spot, PageError.PageError}, Filling.{AreGoodBlocks, AreFilled, AreWithin, FollowOn, Follows, same_page, next_page, group_height, height_number, spot_at, with_kept}}, proofs.{Filled.{at_top, below}, Fitting.{bottom_within, first_low, top_within}}}
 use Rattle.lay_pages.specs.Even as even
 
 -- ---- a legal breaking of the groups has pages that fit
@@ -37,7 +37,7 @@ single_low : (high : ℕ) (hs : List ℤ) → AreHeights high hs → stacked (ta
 single_low high [] good = omega arith
 single_low high (h ∷ hs) good = by h (All-head (λ h. (pos 0 ≤ℤ h) × (h ≤ℤ pos high)) h hs good).1
   where
-    by : (h : ℤ) → h ≤ℤ pos high → height_of h + 1500 + 0 ≤ high + 1500
+    by : (h : ℤ) → h ≤ℤ pos high → height_number h + 1500 + 0 ≤ high + 1500
     by (pos n) le = omega (arith, ints)
     by (negsuc n) le = omega arith
 
@@ -65,23 +65,23 @@ some_legal high n hs good none = none (singles 0 n) (record { rises = singles_ri
 
 -- a block that is tied to the next
 kept_fits : (high down group : ℕ) (ends : List ℕ) (block : Block) (more : List Block) → block.keep ≡ true → AreFitting high down group ends (group_heights (block ∷ more))
-    → AreFitting high (down + height_of block.height + 1500) group ends (group_heights more)
+    → AreFitting high (down + height_number block.height + 1500) group ends (group_heights more)
 kept_fits high down group [] block more kept fits = absurd cc
 kept_fits high down group (e ∷ ends) block [] kept fits =
-    let fit : down + (height_of block.height + 1500 + stacked (take fits.0 [])) ≤ high + 1500 = fits.2 in (fits.0, fits.1, omega (arith, fit), subst (AreFitting high 0 e ends) (drop-nil fits.0) fits.3)
+    let fit : down + (height_number block.height + 1500 + stacked (take fits.0 [])) ≤ high + 1500 = fits.2 in (fits.0, fits.1, omega (arith, fit), subst (AreFitting high 0 e ends) (drop-nil fits.0) fits.3)
 kept_fits high down group (e ∷ ends) block (next ∷ more) kept fits = at block.keep kept fits
   where
-    at : (keep : Bool) → keep ≡ true → AreFitting high down group (e ∷ ends) (pos (with_kept keep (height_of block.height) (group_height (next ∷ more))) ∷ heights_from keep (next ∷ more))
-        → AreFitting high (down + height_of block.height + 1500) group (e ∷ ends) (group_heights (next ∷ more))
-    at true k f = let fit : down + (height_of block.height + 1500 + group_height (next ∷ more) + 1500 + stacked (take f.0 (heights_from next.keep more))) ≤ high + 1500 = f.2 in (f.0, f.1, omega (arith, fit), f.3)
+    at : (keep : Bool) → keep ≡ true → AreFitting high down group (e ∷ ends) (pos (with_kept keep (height_number block.height) (group_height (next ∷ more))) ∷ heights_from keep (next ∷ more))
+        → AreFitting high (down + height_number block.height + 1500) group (e ∷ ends) (group_heights (next ∷ more))
+    at true k f = let fit : down + (height_number block.height + 1500 + group_height (next ∷ more) + 1500 + stacked (take f.0 (heights_from next.keep more))) ≤ high + 1500 = f.2 in (f.0, f.1, omega (arith, fit), f.3)
     at false k f = absurd cc
 
 -- the last block of a group: its height is that of the group's rest
-loose_first : (block : Block) (more : List Block) → block.keep ≡ false → group_heights (block ∷ more) ≡ pos (height_of block.height) ∷ group_heights more
+loose_first : (block : Block) (more : List Block) → block.keep ≡ false → group_heights (block ∷ more) ≡ pos (height_number block.height) ∷ group_heights more
 loose_first block [] loose = refl
 loose_first block (next ∷ more) loose = at block.keep loose
   where
-    at : (keep : Bool) → keep ≡ false → pos (with_kept keep (height_of block.height) (group_height (next ∷ more))) ∷ heights_from keep (next ∷ more) ≡ pos (height_of block.height) ∷ group_heights (next ∷ more)
+    at : (keep : Bool) → keep ≡ false → pos (with_kept keep (height_number block.height) (group_height (next ∷ more))) ∷ heights_from keep (next ∷ more) ≡ pos (height_number block.height) ∷ group_heights (next ∷ more)
     at true k = absurd cc
     at false k = refl
 
@@ -94,26 +94,26 @@ turn_fits : (high down group e n : ℕ) (ends : List ℕ) (h : ℤ) (hs : List �
 turn_fits high down group e zero ends h hs is turn more = subst (λ k. AreFitting high 0 k ends hs) is more
 turn_fits high down group e (suc n) ends h hs is turn more = absurd (grind (arith, nat_tests))
 
-pub fits_behind : (high group : ℕ) (ends : List ℕ) (place : Place) (block : Block) (more : List Block) → AreFitting high place.down group ends (group_heights (block ∷ more))
-    → AreFitting high (place_behind (turns ends group block) place block).down (groups_behind group block) (ends_behind (turns ends group block) ends) (group_heights more)
+pub fits_behind : (high group : ℕ) (ends : List ℕ) (place : BlockSpot) (block : Block) (more : List Block) → AreFitting high place.down group ends (group_heights (block ∷ more))
+    → AreFitting high (even_spot_after (turns ends group block) place block).down (groups_behind group block) (ends_behind (turns ends group block) ends) (group_heights more)
 fits_behind high group [] place block more fits = absurd cc
 fits_behind high group (e ∷ ends) place block more fits = by block.keep refl (e == group + 1) refl
   where
     Goal : Bool → Bool → Type 0
-    Goal keep turn = AreFitting high (place_behind (not keep && turn) place block).down (if keep then group else group + 1) (ends_behind (not keep && turn) (e ∷ ends)) (group_heights more)
+    Goal keep turn = AreFitting high (even_spot_after (not keep && turn) place block).down (if keep then group else group + 1) (ends_behind (not keep && turn) (e ∷ ends)) (group_heights more)
 
-    loose : block.keep ≡ false → AreFitting high place.down group (e ∷ ends) (pos (height_of block.height) ∷ group_heights more)
+    loose : block.keep ≡ false → AreFitting high place.down group (e ∷ ends) (pos (height_number block.height) ∷ group_heights more)
     loose l = subst (AreFitting high place.down group (e ∷ ends)) (loose_first block more l) fits
 
     by : (keep : Bool) → block.keep ≡ keep → (turn : Bool) → (e == group + 1) ≡ turn → Goal keep turn
     by true k turn t = kept_fits high place.down group (e ∷ ends) block more k fits
-    by false k false t = let f = loose k in stay_fits high place.down group e f.0 ends (height_of block.height) (group_heights more) f.1 t f.2 f.3
-    by false k true t = let f = loose k in turn_fits high place.down group e f.0 ends (pos (height_of block.height)) (group_heights more) f.1 t f.3
+    by false k false t = let f = loose k in stay_fits high place.down group e f.0 ends (height_number block.height) (group_heights more) f.1 t f.2 f.3
+    by false k true t = let f = loose k in turn_fits high place.down group e f.0 ends (pos (height_number block.height)) (group_heights more) f.1 t f.3
 
 -- ---- one step of the parting
-pub parted_more : (high : ℕ) (ends later : List ℕ) (group next : ℕ) (place after : Place) (block : Block) (rest more : List Block) (spots new all : List Spot) (spot : Spot) → rest ≡ block ∷ more
+pub parted_more : (high : ℕ) (ends later : List ℕ) (group next : ℕ) (place after : BlockSpot) (block : Block) (rest more : List Block) (spots new all : List Spot) (spot : Spot) → rest ≡ block ∷ more
     → new ≡ spots ++ spot ∷ [] → spot ≡ spot_at high place → later ≡ ends_behind (turns ends group block) ends → next ≡ groups_behind group block
-    → after ≡ place_behind (turns ends group block) place block → spots ++ parted_from high ends group place rest ≡ all → new ++ parted_from high later next after more ≡ all
+    → after ≡ even_spot_after (turns ends group block) place block → spots ++ parted_from high ends group place rest ≡ all → new ++ parted_from high later next after more ≡ all
 parted_more high ends later group next place after block rest more spots new all spot cut pushed here behind count at so_far =
     ap (λ ss. ss ++ parted_from high later next after more) pushed ∙ append_assoc spots (spot ∷ []) (parted_from high later next after more)
     ∙ ap (λ s. spots ++ s ∷ parted_from high later next after more) here ∙ ap (λ es. spots ++ spot_at high place ∷ parted_from high es next after more) behind
@@ -121,16 +121,16 @@ parted_more high ends later group next place after block rest more spots new all
     ∙ ap (λ p. spots ++ spot_at high place ∷ parted_from high (ends_behind (turns ends group block) ends) (groups_behind group block) p more) at
     ∙ ap (λ bs. spots ++ parted_from high ends group place bs) (sym cut) ∙ so_far
 
-pub fits_more : (high : ℕ) (ends later : List ℕ) (group next : ℕ) (place after : Place) (block : Block) (rest more : List Block) → rest ≡ block ∷ more
-    → later ≡ ends_behind (turns ends group block) ends → next ≡ groups_behind group block → after ≡ place_behind (turns ends group block) place block
+pub fits_more : (high : ℕ) (ends later : List ℕ) (group next : ℕ) (place after : BlockSpot) (block : Block) (rest more : List Block) → rest ≡ block ∷ more
+    → later ≡ ends_behind (turns ends group block) ends → next ≡ groups_behind group block → after ≡ even_spot_after (turns ends group block) place block
     → AreFitting high place.down group ends (group_heights rest) → AreFitting high after.down next later (group_heights more)
 fits_more high ends later group next place after block rest more cut behind count at fits =
     let fit = fits_behind high group ends place block more (subst (λ bs. AreFitting high place.down group ends (group_heights bs)) cut fits) in
-    let now = subst (λ (p : Place). AreFitting high p.down (groups_behind group block) (ends_behind (turns ends group block) ends) (group_heights more)) (sym at) fit in
+    let now = subst (λ (p : BlockSpot). AreFitting high p.down (groups_behind group block) (ends_behind (turns ends group block) ends) (group_heights more)) (sym at) fit in
     let ended = subst (λ g. AreFitting high after.down g (ends_behind (turns ends group block) ends) (group_heights more)) (sym count) now in
     subst (λ es. AreFitting high after.down next es (group_heights more)) (sym behind) ended
 
-place_next : (turned : Bool) (place : Place) (block : Block) → (place_behind turned place block).page ≤ place.page + 1
+place_next : (turned : Bool) (place : BlockSpot) (block : Block) → (even_spot_after turned place block).page ≤ place.page + 1
 place_next true place block = omega arith
 place_next false place block = omega arith
 
@@ -138,46 +138,46 @@ count_next : (keep : Bool) (group : ℕ) → (if keep then group else group + 1)
 count_next true group = omega arith
 count_next false group = omega arith
 
-pub page_next : (ends : List ℕ) (group : ℕ) (place after : Place) (block : Block) → after ≡ place_behind (turns ends group block) place block → after.page ≤ place.page + 1
-page_next ends group place after block at = subst (λ (p : Place). p.page ≤ place.page + 1) (sym at) (place_next (turns ends group block) place block)
+pub page_next : (ends : List ℕ) (group : ℕ) (place after : BlockSpot) (block : Block) → after ≡ even_spot_after (turns ends group block) place block → after.page ≤ place.page + 1
+page_next ends group place after block at = subst (λ (p : BlockSpot). p.page ≤ place.page + 1) (sym at) (place_next (turns ends group block) place block)
 
 pub groups_next : (group next : ℕ) (block : Block) → next ≡ groups_behind group block → next ≤ group + 1
 groups_next group next block count = subst (λ n. n ≤ group + 1) (sym count) (count_next block.keep group)
 
 -- ---- so each block lies on its page
-first_high : (block : Block) (more : List Block) (n : ℕ) → height_of block.height + 1500 ≤ stacked (take (suc n) (group_heights (block ∷ more)))
+first_high : (block : Block) (more : List Block) (n : ℕ) → height_number block.height + 1500 ≤ stacked (take (suc n) (group_heights (block ∷ more)))
 first_high block more n = let low = first_low block more in omega (arith, low)
 
-pub place_low : (high group : ℕ) (ends : List ℕ) (down : ℕ) (block : Block) (more : List Block) → AreFitting high down group ends (group_heights (block ∷ more)) → down + height_of block.height ≤ high
+pub place_low : (high group : ℕ) (ends : List ℕ) (down : ℕ) (block : Block) (more : List Block) → AreFitting high down group ends (group_heights (block ∷ more)) → down + height_number block.height ≤ high
 place_low high group [] down block more fits = absurd cc
 place_low high group (e ∷ ends) down block more fits = let first = first_high block more fits.0 in let fit = fits.2 in omega (arith, first, fit)
 
-pub parted_within : (high group : ℕ) (ends : List ℕ) (place : Place) (blocks : List Block) → AreGoodBlocks blocks → AreFitting high place.down group ends (group_heights blocks)
+pub parted_within : (high group : ℕ) (ends : List ℕ) (place : BlockSpot) (blocks : List Block) → AreGoodBlocks blocks → AreFitting high place.down group ends (group_heights blocks)
     → AreWithin high blocks (parted_from high ends group place blocks)
 parted_within high group ends place [] good fits = tt
 parted_within high group ends place (block ∷ more) good fits = (
   (top_within high place.down, bottom_within high place.down block.height good.0.0 (place_low high group ends place.down block more fits)),
-  parted_within high (groups_behind group block) (ends_behind (turns ends group block) ends) (place_behind (turns ends group block) place block) more good.1
+  parted_within high (groups_behind group block) (ends_behind (turns ends group block) ends) (even_spot_after (turns ends group block) place block) more good.1
       (fits_behind high group ends place block more fits),
 )
 
 -- ---- and comes behind the one before it
-comes : (high : ℕ) (ends : List ℕ) (group : ℕ) (place : Place) (block : Block) → pos 0 ≤ℤ block.height → ComesBehind high block (spot_at high place) (spot_at high (place_behind (turns ends group block) place block))
+comes : (high : ℕ) (ends : List ℕ) (group : ℕ) (place : BlockSpot) (block : Block) → pos 0 ≤ℤ block.height → ComesBehind high block (spot_at high place) (spot_at high (even_spot_after (turns ends group block) place block))
 comes high ends group place block good = by block.keep refl (ends_page ends group)
   where
-    by : (keep : Bool) → block.keep ≡ keep → (turn : Bool) → ComesBehind high block (spot_at high place) (spot_at high (place_behind (not keep && turn) place block))
+    by : (keep : Bool) → block.keep ≡ keep → (turn : Bool) → ComesBehind high block (spot_at high place) (spot_at high (even_spot_after (not keep && turn) place block))
     by true k turn = even.same_page refl (below high place.down block.height good)
     by false k false = even.same_page refl (below high place.down block.height good)
     by false k true = even.next_page k refl (at_top high)
 
-come_behind : (high : ℕ) (ends : List ℕ) (group : ℕ) (place : Place) (blocks : List Block) → AreGoodBlocks blocks → ComeBehind high blocks (parted_from high ends group place blocks)
+come_behind : (high : ℕ) (ends : List ℕ) (group : ℕ) (place : BlockSpot) (blocks : List Block) → AreGoodBlocks blocks → ComeBehind high blocks (parted_from high ends group place blocks)
 come_behind high ends group place (block ∷ next ∷ more) good = (
   comes high ends group place block good.0.0,
-  come_behind high (ends_behind (turns ends group block) ends) (groups_behind group block) (place_behind (turns ends group block) place block) (next ∷ more) good.1,
+  come_behind high (ends_behind (turns ends group block) ends) (groups_behind group block) (even_spot_after (turns ends group block) place block) (next ∷ more) good.1,
 )
 come_behind high ends group place blocks good = tt
 
-pub parted_stacked : (high : ℕ) (breaks : List ℕ) (blocks : List Block) → AreGoodBlocks blocks → AreStacked high blocks (parted_spots high breaks blocks)
+pub parted_stacked : (high : ℕ) (breaks : List ℕ) (blocks : List Block) → AreGoodBlocks blocks → StandByPages high blocks (parted_spots high breaks blocks)
 parted_stacked high breaks [] good = (tt, tt)
 parted_stacked high breaks (block ∷ more) good = ((refl, at_top high), come_behind high breaks 0 (record { page = 0; down = 0 }) (block ∷ more) good)
 
@@ -196,10 +196,10 @@ within_count high [] [] within = refl
 within_count high (block ∷ blocks) (spot ∷ spots) within = ap suc (within_count high blocks spots within.1)
 within_count high blocks spots within = absurd within
 
-pub filled_stacked : (high : ℕ) (blocks : List Block) (spots : List Spot) → AreWithin high blocks spots → AreFilled high blocks spots → AreStacked high blocks spots
+pub filled_stacked : (high : ℕ) (blocks : List Block) (spots : List Spot) → AreWithin high blocks spots → AreFilled high blocks spots → StandByPages high blocks spots
 filled_stacked high blocks spots within fill = (fill.0, filled_behind high blocks spots fill.1 (within_count high blocks spots within))
 
-pub filled_if : (high : ℕ) (blocks : List Block) (r : Result (List Spot) PageError) → IfOk r (AreWithin high blocks) → IfOk r (AreFilled high blocks) → IfOk r (AreStacked high blocks)
+pub filled_if : (high : ℕ) (blocks : List Block) (r : Result (List Spot) PageError) → IfOk r (AreWithin high blocks) → IfOk r (AreFilled high blocks) → IfOk r (StandByPages high blocks)
 filled_if high blocks (Ok spots) within fill = filled_stacked high blocks spots within fill
 filled_if high blocks (Err e) within fill = tt
 

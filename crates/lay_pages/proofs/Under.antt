@@ -1,6 +1,6 @@
 -- Staves under one another are those that the function of the bases gives.
 use Rattle.std.proofs.{Common.{◌≡◌, refl, sym, ap, ap₂, ◌∙◌, ℕ, suc, ◌+◌, ◌-◌, ◌<◌, ℤ, pos, negsuc, ◌+ℤ◌, ◌-ℤ◌, ◌≤ℤ◌, List, [], ◌∷◌, length, drop, get_or, add-one, drop-cons, arith, subst}, lemmas.Int.ints}
-use Rattle.{mus_laid.specs.declared.laid.StaffMarks.{StaffMarks}, lay_pages.specs.Stacking.{AreGoodStaves, AreStacked, above_base, below_base, under_top, bases_behind, bases_under, bottom_behind, bottom_under}}
+use Rattle.{mus_laid.specs.declared.laid.StaffMarks.{StaffMarks}, lay_pages.specs.Stacking.{AreGoodStaves, AreStavesStacked, above_base, below_base, under_top, bases_behind, bases_under, bottom_behind, bottom_under}}
 
 at_top : (top base : ℕ) (high : ℤ) → base ≡ top + above_base high → pos 2000 ≤ℤ high → under_top base +ℤ high ≡ under_top top
 at_top top base (pos n) up good = omega (arith, ints, up)
@@ -27,27 +27,27 @@ further_down bottom gap = omega (arith, ints)
 
 -- staves of which the first has its highest mark so far under the top
 stacked_from : (top base low : ℕ) (gaps : List ℕ) (staff : StaffMarks) (more : List StaffMarks) → base ≡ top + above_base staff.high → low ≡ base + below_base staff.low
-    → length gaps ≡ length more → AreGoodStaves (staff ∷ more) → AreStacked (under_top top) gaps (staff ∷ more) (under_top base ∷ bases_behind low more gaps) (under_top (bottom_behind low more gaps))
+    → length gaps ≡ length more → AreGoodStaves (staff ∷ more) → AreStavesStacked (under_top top) gaps (staff ∷ more) (under_top base ∷ bases_behind low more gaps) (under_top (bottom_behind low more gaps))
 stacked_from top base low [] staff [] up down count good = (at_top top base staff.high up good.0.1, at_bottom base low staff.low down good.0.0)
 stacked_from top base low (gap ∷ gaps) staff (next ∷ more) up down count good = (
   at_top top base staff.high up good.0.1,
-  subst (λ z. AreStacked z gaps (next ∷ more) (bases_behind low (next ∷ more) (gap ∷ gaps)) (under_top (bottom_behind low (next ∷ more) (gap ∷ gaps))))
+  subst (λ z. AreStavesStacked z gaps (next ∷ more) (bases_behind low (next ∷ more) (gap ∷ gaps)) (under_top (bottom_behind low (next ∷ more) (gap ∷ gaps))))
       (sym (further_down low gap) ∙ ap (λ z. z -ℤ pos gap) (at_bottom base low staff.low down good.0.0))
       (stacked_from (low + gap) (low + gap + above_base next.high) (low + gap + above_base next.high + below_base next.low) gaps next more refl refl (omega (arith, count)) good.1),
 )
 stacked_from top base low gaps staff more up down count good = absurd (omega (arith, count))
 
-pub stacked_so : (gaps : List ℕ) (staves : List StaffMarks) → length gaps ≡ length staves - 1 → AreGoodStaves staves → AreStacked (pos 0) gaps staves (bases_under staves gaps) (under_top (bottom_under staves gaps))
+pub stacked_so : (gaps : List ℕ) (staves : List StaffMarks) → length gaps ≡ length staves - 1 → AreGoodStaves staves → AreStavesStacked (pos 0) gaps staves (bases_under staves gaps) (under_top (bottom_under staves gaps))
 stacked_so [] [] count good = omega (arith, ints)
 stacked_so (gap ∷ gaps) [] count good = absurd (omega (arith, count))
 stacked_so gaps (staff ∷ more) count good =
     let top : under_top 0 ≡ pos 0 = omega (arith, ints) in
-    subst (λ z. AreStacked z gaps (staff ∷ more) (bases_under (staff ∷ more) gaps) (under_top (bottom_under (staff ∷ more) gaps))) top
+    subst (λ z. AreStavesStacked z gaps (staff ∷ more) (bases_under (staff ∷ more) gaps) (under_top (bottom_under (staff ∷ more) gaps))) top
     (stacked_from 0 (above_base staff.high) (above_base staff.high + below_base staff.low) gaps staff more (omega arith) refl (omega (arith, count)) good)
 
 pub stacked_at : (gaps : List ℕ) (staves slice : List StaffMarks) (bases : List ℤ) (bottom : ℕ) (height : ℤ) → slice ≡ staves → bases ≡ bases_under slice gaps → bottom ≡ bottom_under slice gaps
-    → height ≡ pos bottom → length gaps ≡ length staves - 1 → AreGoodStaves staves → AreStacked (pos 0) gaps staves bases (pos 0 -ℤ height)
+    → height ≡ pos bottom → length gaps ≡ length staves - 1 → AreGoodStaves staves → AreStavesStacked (pos 0) gaps staves bases (pos 0 -ℤ height)
 stacked_at gaps staves slice bases bottom height s b l e count good =
     let so = stacked_so gaps slice (subst (λ ss. length gaps ≡ length ss - 1) (sym s) count) (subst AreGoodStaves (sym s) good) in
-    let of = subst (λ bs. AreStacked (pos 0) gaps slice bs (under_top (bottom_under slice gaps))) (sym b) so in let to = subst (λ n. AreStacked (pos 0) gaps slice bases (under_top n)) (sym l) of in
-    let high = subst (λ y. AreStacked (pos 0) gaps slice bases (pos 0 -ℤ y)) (sym e) to in subst (λ ss. AreStacked (pos 0) gaps ss bases (pos 0 -ℤ height)) s high
+    let of = subst (λ bs. AreStavesStacked (pos 0) gaps slice bs (under_top (bottom_under slice gaps))) (sym b) so in let to = subst (λ n. AreStavesStacked (pos 0) gaps slice bases (under_top n)) (sym l) of in
+    let high = subst (λ y. AreStavesStacked (pos 0) gaps slice bases (pos 0 -ℤ y)) (sym e) to in subst (λ ss. AreStavesStacked (pos 0) gaps ss bases (pos 0 -ℤ height)) s high

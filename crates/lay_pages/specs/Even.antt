@@ -2,7 +2,7 @@
 -- cost together is least. A parting is a breaking of the groups: the numbers of groups up to the end of each page.
 use Rattle.std.{specs.Prelude.{◌≡◌, ◌<◌, ◌≤◌, ⊤, ℕ, zero, suc, ◌+◌, ◌-◌, ◌*◌, ◌/◌, ◌^◌, ◌==◌, nat_le, ℤ, pos, ◌≤ℤ◌, Bool, true, false, not, ◌&&◌, if◌then◌else◌, List, [], ◌∷◌, length, take, drop, Option, Some, None, IfSome, All, refl}, proofs.{Common.{arith, ap}, lemmas.Bool.Decides.nat_tests}}
 use Rattle.lay_breaks.specs.Breaking.{IsChosen}
-use Rattle.lay_pages.specs.{declared.filling.Block.Block, declared.filling.Spot.Spot, declared.filling.Place.Place, Filling.BeginOn, Filling.group_height, Filling.height_of, Filling.place_by, Filling.spot_at, Filling.spots_of, Filling.top_under, Filling.under}
+use Rattle.lay_pages.specs.{declared.filling.Block.Block, declared.filling.Spot.Spot, declared.filling.BlockSpot.BlockSpot, Filling.BeginOn, Filling.group_height, Filling.height_number, Filling.place_by, Filling.spot_at, Filling.spots_of, Filling.top_under, Filling.under}
 
 -- the heights of the groups, in order; `tied` says that a block before is tied to the first here
 abbrev pub heights_from : Bool → List Block → List ℤ
@@ -16,7 +16,7 @@ group_heights blocks = heights_from false blocks
 -- the height of groups with 1500 under each, and of groups with 1500 between two
 abbrev pub stacked : List ℤ → ℕ
 stacked [] = 0
-stacked (height ∷ more) = height_of height + 1500 + stacked more
+stacked (height ∷ more) = height_number height + 1500 + stacked more
 
 abbrev pub page_height : List ℤ → ℕ
 page_height heights = stacked heights - 1500
@@ -49,16 +49,16 @@ ends_behind true [] = []
 ends_behind true (e ∷ ends) = ends
 ends_behind false ends = ends
 
-abbrev pub place_behind : Bool → Place → Block → Place
-place_behind turned place block = place_by (not turned) place.page (under place block)
+abbrev pub even_spot_after : Bool → BlockSpot → Block → BlockSpot
+even_spot_after turned place block = place_by (not turned) place.page (under place block)
 
 abbrev pub groups_behind : ℕ → Block → ℕ
 groups_behind group block = if block.keep then group else group + 1
 
 -- where blocks stand of which the first has this place
-abbrev pub parted_from : ℕ → List ℕ → ℕ → Place → List Block → List Spot
+abbrev pub parted_from : ℕ → List ℕ → ℕ → BlockSpot → List Block → List Spot
 parted_from high ends group place [] = []
-parted_from high ends group place (block ∷ more) = spot_at high place ∷ parted_from high (ends_behind (turns ends group block) ends) (groups_behind group block) (place_behind (turns ends group block) place block) more
+parted_from high ends group place (block ∷ more) = spot_at high place ∷ parted_from high (ends_behind (turns ends group block) ends) (groups_behind group block) (even_spot_after (turns ends group block) place block) more
 
 abbrev pub parted_spots : ℕ → List ℕ → List Block → List Spot
 parted_spots high breaks blocks = parted_from high breaks 0 (record { page = 0; down = 0 }) blocks
@@ -91,8 +91,8 @@ abbrev pub ComeBehind : ℕ → List Block → List Spot → Type 0
 ComeBehind high (block ∷ blocks) (spot ∷ next ∷ spots) = ComesBehind high block spot next × ComeBehind high blocks (next ∷ spots)
 ComeBehind high _ _ = ⊤
 
-abbrev pub AreStacked : ℕ → List Block → List Spot → Type 0
-AreStacked high blocks spots = BeginOn high spots × ComeBehind high blocks spots
+abbrev pub StandByPages : ℕ → List Block → List Spot → Type 0
+StandByPages high blocks spots = BeginOn high spots × ComeBehind high blocks spots
 
 -- What follows from the form: the two laws of costs.
 stacked_more : (n m : ℕ) (hs : List ℤ) → n ≤ m → stacked (take n hs) ≤ stacked (take m hs)

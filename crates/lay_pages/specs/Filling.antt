@@ -1,6 +1,6 @@
 -- Blocks on pages, from the top of a page down. A block that is tied to the next stands on one page with it; such a run of blocks is a group.
 use Rattle.std.specs.Prelude.{◌≡◌, ◌^◌, ◌≤◌, ⊤, ℕ, suc, ◌+◌, nat_le, nat_lt, ℤ, pos, negsuc, ◌-ℤ◌, ◌≤ℤ◌, ◌<ℤ◌, Bool, true, false, not, ◌&&◌, ◌||◌, List, [], ◌∷◌, Option, Some, None}
-use Rattle.lay_pages.specs.declared.filling.{Block.Block, Spot.Spot, Place.Place, Standing.Standing, PageError.PageError}
+use Rattle.lay_pages.specs.declared.filling.{Block.Block, Spot.Spot, BlockSpot.BlockSpot, PlacedBlock.PlacedBlock, PageError.PageError}
 
 -- heights of 0 to 2^40
 abbrev pub AreGoodBlocks : List Block → Type 0
@@ -8,9 +8,9 @@ AreGoodBlocks [] = ⊤
 AreGoodBlocks (block ∷ more) = ((pos 0 ≤ℤ block.height) × (block.height ≤ℤ pos (2 ^ 40))) × AreGoodBlocks more
 
 -- the height of the group that begins here: its blocks, with 1500 between two
-abbrev pub height_of : ℤ → ℕ
-height_of (pos n) = n
-height_of (negsuc n) = 0
+abbrev pub height_number : ℤ → ℕ
+height_number (pos n) = n
+height_number (negsuc n) = 0
 
 abbrev pub with_kept : Bool → ℕ → ℕ → ℕ
 with_kept true height others = height + 1500 + others
@@ -18,26 +18,26 @@ with_kept false height others = height
 
 abbrev pub group_height : List Block → ℕ
 group_height [] = 0
-group_height (block ∷ []) = height_of block.height
-group_height (block ∷ next ∷ more) = with_kept block.keep (height_of block.height) (group_height (next ∷ more))
+group_height (block ∷ []) = height_number block.height
+group_height (block ∷ next ∷ more) = with_kept block.keep (height_number block.height) (group_height (next ∷ more))
 
 -- A place: the page, and how far below the top of the page. The next block stands under this one
 -- where it is tied to it or its group fits there, else at the top of a new page.
-abbrev pub under : Place → Block → ℕ
-under place block = place.down + height_of block.height + 1500
+abbrev pub under : BlockSpot → Block → ℕ
+under place block = place.down + height_number block.height + 1500
 
-abbrev pub place_by : Bool → ℕ → ℕ → Place
+abbrev pub place_by : Bool → ℕ → ℕ → BlockSpot
 place_by true page down = record { page = page; down = down }
 place_by false page down = record { page = suc page; down = 0 }
 
-abbrev pub next_place : ℕ → Place → Block → List Block → Place
+abbrev pub next_place : ℕ → BlockSpot → Block → List Block → BlockSpot
 next_place high place block more = place_by (block.keep || nat_le (under place block + group_height more) high) place.page (under place block)
 
 -- where blocks stand of which the first has this place
-abbrev pub spot_at : ℕ → Place → Spot
+abbrev pub spot_at : ℕ → BlockSpot → Spot
 spot_at high place = record { page = place.page; top = pos high -ℤ pos place.down }
 
-abbrev pub spots_from : ℕ → Place → List Block → List Spot
+abbrev pub spots_from : ℕ → BlockSpot → List Block → List Spot
 spots_from high place [] = []
 spots_from high place (block ∷ more) = spot_at high place ∷ spots_from high (next_place high place block more) more
 
@@ -45,20 +45,20 @@ abbrev pub spots_of : ℕ → List Block → List Spot
 spots_of high blocks = spots_from high (record { page = 0; down = 0 }) blocks
 
 -- the last of blocks of which the first has this place
-abbrev pub standing_from : ℕ → Place → List Block → Option Standing
+abbrev pub standing_from : ℕ → BlockSpot → List Block → Option PlacedBlock
 standing_from high place [] = None
 standing_from high place (block ∷ []) = Some (record { place = place; block = block })
 standing_from high place (block ∷ next ∷ more) = standing_from high (next_place high place block (next ∷ more)) (next ∷ more)
 
 -- The same of blocks that come behind others: the last of the others tells where the first of them stands.
-abbrev pub first_place : ℕ → Option Standing → List Block → Place
+abbrev pub first_place : ℕ → Option PlacedBlock → List Block → BlockSpot
 first_place high None blocks = record { page = 0; down = 0 }
 first_place high (Some last) blocks = next_place high last.place last.block blocks
 
-abbrev pub spots_behind : ℕ → Option Standing → List Block → List Spot
+abbrev pub spots_behind : ℕ → Option PlacedBlock → List Block → List Spot
 spots_behind high behind blocks = spots_from high (first_place high behind blocks) blocks
 
-abbrev pub behind_after : ℕ → Option Standing → List Block → Option Standing
+abbrev pub behind_after : ℕ → Option PlacedBlock → List Block → Option PlacedBlock
 behind_after high behind [] = behind
 behind_after high behind (block ∷ more) = standing_from high (first_place high behind (block ∷ more)) (block ∷ more)
 
@@ -68,23 +68,23 @@ IsLoose [] = ⊤
 IsLoose (block ∷ []) = block.keep ≡ false
 IsLoose (block ∷ next ∷ more) = IsLoose (next ∷ more)
 
-abbrev pub page_behind : Option Standing → ℕ
+abbrev pub page_behind : Option PlacedBlock → ℕ
 page_behind None = 0
 page_behind (Some last) = last.place.page
 
-abbrev pub down_behind : Option Standing → ℕ
+abbrev pub down_behind : Option PlacedBlock → ℕ
 down_behind None = 0
 down_behind (Some last) = last.place.down
 
 -- others may stand behind it: it is not tied, and no higher than a block may be
-pub record IsEnd (last : Standing) : Type 0 where
+pub record IsOpenEnd (last : PlacedBlock) : Type 0 where
   pub keep : last.block.keep ≡ false
   pub height : last.block.height ≤ℤ pos (2 ^ 40)
   pub down : last.place.down ≤ 2 ^ 32
 
-abbrev pub CanFollow : Option Standing → Type 0
+abbrev pub CanFollow : Option PlacedBlock → Type 0
 CanFollow None = ⊤
-CanFollow (Some last) = IsEnd last
+CanFollow (Some last) = IsOpenEnd last
 
 -- the block with which the first group begins that is higher than a page; `tied` says that a block before is tied to the first here
 abbrev pub tall_by : Bool → ℕ → Option ℕ → Option ℕ

@@ -9,11 +9,11 @@ AreGoodStaves (staff ∷ more) = ((staff.low ≤ℤ pos 0) × (pos 2000 ≤ℤ s
 
 -- The first staff has its highest mark at the top; each next one has its highest mark under the lowest mark of the one before, as
 -- far as the gap before it says; and the bottom is the lowest mark of the last.
-abbrev pub AreStacked : ℤ → List ℕ → List StaffMarks → List ℤ → ℤ → Type 0
-AreStacked top [] [] [] bottom = bottom ≡ top
-AreStacked top [] (staff ∷ []) (base ∷ []) bottom = (base +ℤ staff.high ≡ top) × (bottom ≡ base +ℤ staff.low)
-AreStacked top (gap ∷ gaps) (staff ∷ next ∷ more) (base ∷ bases) bottom = (base +ℤ staff.high ≡ top) × AreStacked ((base +ℤ staff.low) -ℤ pos gap) gaps (next ∷ more) bases bottom
-AreStacked top _ _ _ bottom = ⊥
+abbrev pub AreStavesStacked : ℤ → List ℕ → List StaffMarks → List ℤ → ℤ → Type 0
+AreStavesStacked top [] [] [] bottom = bottom ≡ top
+AreStavesStacked top [] (staff ∷ []) (base ∷ []) bottom = (base +ℤ staff.high ≡ top) × (bottom ≡ base +ℤ staff.low)
+AreStavesStacked top (gap ∷ gaps) (staff ∷ next ∷ more) (base ∷ bases) bottom = (base +ℤ staff.high ≡ top) × AreStavesStacked ((base +ℤ staff.low) -ℤ pos gap) gaps (next ∷ more) bases bottom
+AreStavesStacked top _ _ _ bottom = ⊥
 
 -- The same by how far each base line lies under the top of the block.
 abbrev pub above_base : ℤ → ℕ

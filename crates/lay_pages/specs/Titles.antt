@@ -1,7 +1,7 @@
 -- The title block of a tune: a row for each title, in the middle; a row for each composer, at the
 -- right; and a row for the tempo, at the left. A text of which nothing is printed has no row.
 use Rattle.std.specs.Prelude.{ℕ, ◌+◌, ◌-◌, ◌*◌, ◌/◌, pos, min, List, [], ◌∷◌, ◌++◌, length, Option, Some, None}
-use Rattle.{mus_units.specs.declared.glyph.Size.{Size}, mus_laid.specs.{Boxes.character_width, Printed.printed_within}, lay_pages.specs.{declared.titles.Place.Place, declared.titles.TitleRow.TitleRow, declared.titles.TitleBlock.TitleBlock}}
+use Rattle.{mus_units.specs.declared.glyph.Size.{Size}, mus_laid.specs.{Boxes.character_width, Printed.printed_within}, lay_pages.specs.{declared.titles.Alignment.Alignment, declared.titles.TitleRow.TitleRow, declared.titles.TitleBlock.TitleBlock}}
 
 -- a row is so high, and its base line so far below its top
 abbrev pub row_height : Size → ℕ
@@ -13,35 +13,35 @@ base_below Size.Big = 1800
 base_below Size.Small = 1000
 
 -- titles are big, all else is small
-abbrev pub size_at : Place → Size
-size_at Place.Middle = Size.Big
+abbrev pub size_at : Alignment → Size
+size_at Alignment.Middle = Size.Big
 size_at _ = Size.Small
 
 -- at most 60 characters, and no more than the width holds
 abbrev pub most_within : ℕ → Size → ℕ
 most_within width size = min 60 (width / character_width size)
 
-unfoldable pub row_text : ℕ → Place → List ℕ → List ℕ
+unfoldable pub row_text : ℕ → Alignment → List ℕ → List ℕ
 row_text width place text = printed_within (most_within width (size_at place)) text
 
-abbrev pub row_x : ℕ → Place → ℕ → ℕ
-row_x width Place.Middle count = (width - character_width Size.Big * count) / 2
-row_x width Place.Right count = width - character_width Size.Small * count
-row_x width Place.Left count = 0
+abbrev pub row_x : ℕ → Alignment → ℕ → ℕ
+row_x width Alignment.Middle count = (width - character_width Size.Big * count) / 2
+row_x width Alignment.Right count = width - character_width Size.Small * count
+row_x width Alignment.Left count = 0
 
 -- the row of a text, its block being so high above it
-abbrev pub row_at : ℕ → ℕ → Place → List ℕ → TitleRow
-row_at width above place text = record { size = size_at place; x = pos (row_x width place (length text)); down = pos (above + base_below (size_at place)); text = text }
+abbrev pub title_row_at : ℕ → ℕ → Alignment → List ℕ → TitleRow
+title_row_at width above place text = record { size = size_at place; x = pos (row_x width place (length text)); down = pos (above + base_below (size_at place)); text = text }
 
-abbrev pub with_row : ℕ → TitleBlock → Place → List ℕ → TitleBlock
+abbrev pub with_row : ℕ → TitleBlock → Alignment → List ℕ → TitleBlock
 with_row width block place [] = block
-with_row width block place (byte ∷ text) = record { rows = block.rows ++ row_at width block.height place (byte ∷ text) ∷ []; height = block.height + row_height (size_at place) }
+with_row width block place (byte ∷ text) = record { rows = block.rows ++ title_row_at width block.height place (byte ∷ text) ∷ []; height = block.height + row_height (size_at place) }
 
 -- the block with a row more for each text
-abbrev pub with_text : ℕ → Place → TitleBlock → List ℕ → TitleBlock
+abbrev pub with_text : ℕ → Alignment → TitleBlock → List ℕ → TitleBlock
 with_text width place block text = with_row width block place (row_text width place text)
 
-abbrev pub with_texts : ℕ → Place → TitleBlock → List (List ℕ) → TitleBlock
+abbrev pub with_texts : ℕ → Alignment → TitleBlock → List (List ℕ) → TitleBlock
 with_texts width place block [] = block
 with_texts width place block (text ∷ texts) = with_texts width place (with_text width place block text) texts
 
@@ -53,4 +53,4 @@ abbrev pub no_rows : TitleBlock
 no_rows = record { rows = []; height = 0 }
 
 abbrev pub title_block_of : ℕ → List (List ℕ) → List (List ℕ) → Option (List ℕ) → TitleBlock
-title_block_of width titles composers tempo = with_texts width Place.Left (with_texts width Place.Right (with_texts width Place.Middle no_rows titles) composers) (tempo_texts tempo)
+title_block_of width titles composers tempo = with_texts width Alignment.Left (with_texts width Alignment.Right (with_texts width Alignment.Middle no_rows titles) composers) (tempo_texts tempo)

@@ -1,9 +1,9 @@
 ghost use Rattle.std.specs.Prelude.{◌≡◌, ◌<◌, ◌≤◌, ◌-◌, ◌^◌, pos, ◌≤ℤ◌, false, refl, true, All, length, IfOk, IfErr, None};
 ghost use Rattle.lay_breaks.specs.Breaking.{IsChosen};
-ghost use Rattle.lay_pages.specs.{Even.{AreFitting, AreHeights, AreSpots, AreStacked, ends_behind, group_heights, groups_behind, cost_small, cost_stops, page_cost, page_height, parted_spots, place_behind, turns}, Filling.{AreGoodBlocks, AreWithin, IsPageError, first_tall}};
+ghost use Rattle.lay_pages.specs.{Even.{AreFitting, AreHeights, AreSpots, StandByPages, ends_behind, group_heights, groups_behind, cost_small, cost_stops, page_cost, page_height, parted_spots, even_spot_after, turns}, Filling.{AreGoodBlocks, AreWithin, IsPageError, first_tall}};
 
 use crate::filling::{
-    Block, PageError, Place, Spot, fill, first_tall, group_height, height_of, spot_at,
+    Block, PageError, BlockSpot, Spot, fill, first_tall, group_height, height_number, spot_at,
 };
 use lay_breaks::{BreakError, Costs, least};
 use mus_units::{Memory, Row};
@@ -30,7 +30,7 @@ fn page_height(heights: &[i64]) -> u64
 {
     let mut stacked: u64 = 0;
     for height in heights {
-        stacked += height_of(*height) + 1500;
+        stacked += height_number(*height) + 1500;
     }
     stacked.saturating_sub(1500)
 }
@@ -122,21 +122,21 @@ fn ends_behind(turned: bool, ends: &[u32]) -> &[u32]
 }
 
 /// The place of the block behind one at a place.
-fn place_behind(turned: bool, place: Place, block: Block) -> Place
+fn even_spot_after(turned: bool, place: BlockSpot, block: Block) -> BlockSpot
     requires height { block.height ≤ℤ pos (2 ^ 40) }
     requires page { place.page < 2 ^ 32 - 1 }
     requires down { place.down ≤ 2 ^ 32 }
-    ensures { result ≡ place_behind turned place block }
+    ensures { result ≡ even_spot_after turned place block }
 {
     if turned {
-        return Place {
+        return BlockSpot {
             page: place.page + 1,
             down: 0,
         };
     }
-    Place {
+    BlockSpot {
         page: place.page,
-        down: place.down + height_of(block.height) + 1500,
+        down: place.down + height_number(block.height) + 1500,
     }
 }
 
@@ -156,7 +156,7 @@ fn part(alloc: Global, high: u32, breaks: &[u32], blocks: &[Block]) -> Result<Ro
     ensures { IfOk result (λ spots. spots ≡ parted_spots high breaks.now blocks.now) }
 {
     let mut spots = Row::new(alloc);
-    let mut place = Place { page: 0, down: 0 };
+    let mut place = BlockSpot { page: 0, down: 0 };
     let mut ends = breaks;
     let mut group: u32 = 0;
     let mut rest = blocks;
@@ -164,7 +164,7 @@ fn part(alloc: Global, high: u32, breaks: &[u32], blocks: &[Block]) -> Result<Ro
         spots.push(spot_at(high, place))?;
         let turned = turns(ends, group, *block);
         ends = ends_behind(turned, ends);
-        place = place_behind(turned, place, *block);
+        place = even_spot_after(turned, place, *block);
         group = groups_behind(group, *block);
         rest = more;
     }
@@ -181,7 +181,7 @@ pub fn fill_even(alloc: Global, blocks: &[Block], high: u32) -> Result<Row<Spot>
     requires page { high ≤ 2 ^ 26 }
     ensures spots { IfOk result (AreSpots true high blocks.now) }
     ensures within { IfOk result (AreWithin high blocks.now) }
-    ensures stacked { IfOk result (AreStacked high blocks.now) }
+    ensures stacked { IfOk result (StandByPages high blocks.now) }
     ensures fits { IfOk result (λ spots. first_tall high blocks.now ≡ None) }
     ensures tall { IfErr result (IsPageError high blocks.now) }
 {

@@ -1,5 +1,5 @@
 ghost use Rattle.std.specs.Prelude.{◌≡◌, ◌<◌, ◌≤◌, ◌+◌, ◌-◌, ◌*◌, ◌^◌, pos, ◌≤ℤ◌, nat_le, nat_lt, length, IfOk, IfErr, None};
-ghost use Rattle.lay_pages.specs.Filling.{AreGoodBlocks, CanFollow, IsLoose, behind_after, down_behind, first_place, height_of, group_height, next_place, page_behind, spot_at, spots_behind, spots_from, spots_of, standing_from, first_tall, AreWithin, AreFilled, IsPageError};
+ghost use Rattle.lay_pages.specs.Filling.{AreGoodBlocks, CanFollow, IsLoose, behind_after, down_behind, first_place, height_number, group_height, next_place, page_behind, spot_at, spots_behind, spots_from, spots_of, standing_from, first_tall, AreWithin, AreFilled, IsPageError};
 ghost use Rattle.lay_pages.specs.declared.filling.PageError.TheVariants as errors;
 
 use mus_units::{Memory, Row};
@@ -50,7 +50,7 @@ pub fn fill(alloc: Global, blocks: &[Block], high: u32) -> Result<Row<Spot>, Pag
 {
     match first_tall(blocks, high) {
         Some(block) => Err(PageError::TooTall { block }),
-        None => match spots_from(alloc, high, Place { page: 0, down: 0 }, blocks) {
+        None => match spots_from(alloc, high, BlockSpot { page: 0, down: 0 }, blocks) {
             Ok(filled) => Ok(filled.spots),
             Err(Memory) => Err(PageError::Memory),
         },
@@ -59,15 +59,15 @@ pub fn fill(alloc: Global, blocks: &[Block], high: u32) -> Result<Row<Spot>, Pag
 
 /// A place for a block: its page, from 0, and how far below the top of the page.
 #[derive(Clone, Copy, PartialEq, Eq)]
-pub struct Place {
+pub struct BlockSpot {
     pub page: u32,
     pub down: u64,
 }
 
 /// A block, and its place.
 #[derive(Clone, Copy, PartialEq, Eq)]
-pub struct Standing {
-    pub place: Place,
+pub struct PlacedBlock {
+    pub place: BlockSpot,
     pub block: Block,
 }
 
@@ -75,12 +75,12 @@ pub struct Standing {
 #[derive(Drop)]
 pub struct Placement {
     pub spots: Row<Spot>,
-    pub behind: Option<Standing>,
+    pub behind: Option<PlacedBlock>,
 }
 
-pub(crate) fn height_of(height: i64) -> u64
+pub(crate) fn height_number(height: i64) -> u64
     requires { height ≤ℤ pos (2 ^ 40) }
-    ensures value { result ≡ height_of height }
+    ensures value { result ≡ height_number height }
     ensures most { result ≤ 2 ^ 40 }
 {
     if height < 0 { 0 } else { height as u64 }
@@ -96,7 +96,7 @@ pub(crate) fn group_height(blocks: &[Block]) -> u128
     let mut sum: u128 = 0;
     let mut rest = blocks;
     'group: while let Some((block, more)) = rest.split_first() {
-        let height = u128::from(height_of(block.height));
+        let height = u128::from(height_number(block.height));
         if !block.keep || more.is_empty() {
             return sum + height;
         }
@@ -145,7 +145,7 @@ fn fits_at(high: u32, down: u64, blocks: &[Block]) -> bool
 }
 
 /// The place of the block behind one at a place.
-fn next_place(high: u32, place: Place, block: Block, more: &[Block]) -> Place
+fn next_place(high: u32, place: BlockSpot, block: Block, more: &[Block]) -> BlockSpot
     requires few { length more.now < 2 ^ 32 }
     requires good { AreGoodBlocks more.now }
     requires height { block.height ≤ℤ pos (2 ^ 40) }
@@ -153,20 +153,20 @@ fn next_place(high: u32, place: Place, block: Block, more: &[Block]) -> Place
     requires down { place.down ≤ 2 ^ 32 }
     ensures { result ≡ next_place high place block more.now }
 {
-    let under = place.down + height_of(block.height) + 1500;
+    let under = place.down + height_number(block.height) + 1500;
     if block.keep || fits_at(high, under, more) {
-        return Place {
+        return BlockSpot {
             page: place.page,
             down: under,
         };
     }
-    Place {
+    BlockSpot {
         page: place.page + 1,
         down: 0,
     }
 }
 
-pub(crate) fn spot_at(high: u32, place: Place) -> Spot
+pub(crate) fn spot_at(high: u32, place: BlockSpot) -> Spot
     requires { place.down ≤ 2 ^ 32 }
     ensures { result ≡ spot_at high place }
 {
@@ -177,7 +177,7 @@ pub(crate) fn spot_at(high: u32, place: Place) -> Spot
 }
 
 /// The place of the first of some blocks, which come behind another where there is one.
-fn first_place(high: u32, behind: Option<Standing>, blocks: &[Block]) -> Place
+fn first_place(high: u32, behind: Option<PlacedBlock>, blocks: &[Block]) -> BlockSpot
     requires few { length blocks.now < 2 ^ 32 }
     requires good { AreGoodBlocks blocks.now }
     requires behind { CanFollow behind }
@@ -186,12 +186,12 @@ fn first_place(high: u32, behind: Option<Standing>, blocks: &[Block]) -> Place
 {
     match behind {
         Some(last) => next_place(high, last.place, last.block, blocks),
-        None => Place { page: 0, down: 0 },
+        None => BlockSpot { page: 0, down: 0 },
     }
 }
 
 /// Where blocks stand of which the first has this place, and no group is too tall.
-fn spots_from(alloc: Global, high: u32, first: Place, blocks: &[Block]) -> Result<Placement, Memory>
+fn spots_from(alloc: Global, high: u32, first: BlockSpot, blocks: &[Block]) -> Result<Placement, Memory>
     requires few { first.page + length blocks.now < 2 ^ 32 }
     requires good { AreGoodBlocks blocks.now }
     requires room { first.down + group_height blocks.now ≤ high }
@@ -209,7 +209,7 @@ fn spots_from(alloc: Global, high: u32, first: Place, blocks: &[Block]) -> Resul
             let block = *block;
             return Ok(Placement {
                 spots,
-                behind: Some(Standing { place, block }),
+                behind: Some(PlacedBlock { place, block }),
             });
         }
         place = next_place(high, place, *block, more);
@@ -222,7 +222,7 @@ fn spots_from(alloc: Global, high: u32, first: Place, blocks: &[Block]) -> Resul
 }
 
 /// How many pages come before that of the last block.
-fn page_behind(behind: Option<Standing>) -> u32
+fn page_behind(behind: Option<PlacedBlock>) -> u32
     ensures { result ≡ page_behind behind }
 {
     match behind {
@@ -236,10 +236,10 @@ fn page_behind(behind: Option<Standing>) -> u32
 /// time: each list ends with a block that isn't tied to the next one.
 ///
 /// No group of the blocks is higher than a page. `Memory` comes also where there are 2^32 pages or more.
-pub fn fill_behind(
+pub fn fill_after(
     alloc: Global,
     high: u32,
-    behind: Option<Standing>,
+    behind: Option<PlacedBlock>,
     blocks: &[Block],
 ) -> Result<Placement, Memory>
     requires good { AreGoodBlocks blocks.now }

@@ -1,5 +1,5 @@
 ghost use Rattle.std.specs.Prelude.{◌≡◌, ◌≤◌, ◌-◌, ◌++◌, ◌^◌, pos, ◌-ℤ◌, ◌≤ℤ◌, length, IfOk, OnOk};
-ghost use Rattle.lay_pages.specs.Stacking.{AreGoodStaves, AreStacked, above_base, below_base, under_top, bases_behind, bases_under, bottom_behind, bottom_under};
+ghost use Rattle.lay_pages.specs.Stacking.{AreGoodStaves, AreStavesStacked, above_base, below_base, under_top, bases_behind, bases_under, bottom_behind, bottom_under};
 
 use mus_laid::{StaffMarks, SystemMarks};
 use mus_units::{Memory, Row};
@@ -20,7 +20,7 @@ pub fn stack(alloc: Global, system: &SystemMarks, gaps: &[u32]) -> Result<Height
     requires few { length system.now.staves ≤ 16 }
     requires good { AreGoodStaves system.now.staves }
     requires gaps { length gaps.now ≡ length system.now.staves - 1 }
-    ensures stacked { IfOk result (λ h. AreStacked (pos 0) gaps.now system.now.staves h.bases (pos 0 -ℤ h.height)) }
+    ensures stacked { IfOk result (λ h. AreStavesStacked (pos 0) gaps.now system.now.staves h.bases (pos 0 -ℤ h.height)) }
     ensures low { IfOk result (λ h. pos 0 ≤ℤ h.height) }
     ensures high { IfOk result (λ h. h.height ≤ℤ pos (2 ^ 40)) }
 {

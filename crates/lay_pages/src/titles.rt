@@ -1,6 +1,6 @@
 ghost use Rattle.std.specs.{Prelude.{◌≡◌, ◌≤◌, ◌+◌, ◌*◌, ◌-◌, ◌/◌, ◌^◌, min, length, IfOk, OnOk, pos}, Option.option_copied};
 ghost use Rattle.mus_laid.specs.Boxes.{character_width};
-ghost use Rattle.lay_pages.specs.Titles.{row_height, base_below, size_at, most_within, row_text, row_x, row_at, with_row, with_text, with_texts, tempo_texts, no_rows, title_block_of};
+ghost use Rattle.lay_pages.specs.Titles.{row_height, base_below, size_at, most_within, row_text, row_x, title_row_at, with_row, with_text, with_texts, tempo_texts, no_rows, title_block_of};
 
 use mus_laid::printed_within;
 use mus_units::{Memory, Row, Size, Text};
@@ -9,7 +9,7 @@ use std::cmp::min;
 
 /// Where a row of a title block stands.
 #[derive(Clone, Copy, PartialEq, Eq)]
-pub enum Place {
+pub enum Alignment {
     Middle,
     Right,
     Left,
@@ -50,10 +50,10 @@ pub fn title_block(
         rows: Row::new(alloc),
         height: 0,
     };
-    put_texts(alloc, width, Place::Middle, titles, &mut block)?;
-    put_texts(alloc, width, Place::Right, composers, &mut block)?;
+    put_texts(alloc, width, Alignment::Middle, titles, &mut block)?;
+    put_texts(alloc, width, Alignment::Right, composers, &mut block)?;
     if let Some(text) = tempo {
-        put_text(alloc, width, Place::Left, text.as_slice(), &mut block)?;
+        put_text(alloc, width, Alignment::Left, text.as_slice(), &mut block)?;
     }
     Ok(block)
 }
@@ -61,7 +61,7 @@ pub fn title_block(
 fn put_texts(
     alloc: Global,
     width: u32,
-    place: Place,
+    place: Alignment,
     texts: &[Text],
     block: &mut TitleBlock,
 ) -> Result<(), Memory>
@@ -80,7 +80,7 @@ fn put_texts(
 fn put_text(
     alloc: Global,
     width: u32,
-    place: Place,
+    place: Alignment,
     text: &[u8],
     block: &mut TitleBlock,
 ) -> Result<(), Memory>
@@ -92,7 +92,7 @@ fn put_text(
     put_row(width, place, text, block)
 }
 
-fn put_row(width: u32, place: Place, text: Text, block: &mut TitleBlock) -> Result<(), Memory>
+fn put_row(width: u32, place: Alignment, text: Text, block: &mut TitleBlock) -> Result<(), Memory>
     requires low { block.old.height ≤ 2 ^ 50 }
     requires short { length text ≤ most_within width (size_at place) }
     ensures value { OnOk result (block.new ≡ with_row width block.old place text) }
@@ -115,20 +115,20 @@ fn put_row(width: u32, place: Place, text: Text, block: &mut TitleBlock) -> Resu
 
 /// The text of a row as it is printed, cut to what the width holds.
 #[tactic(auto, unfolding(crate::specs::Titles::row_text))]
-fn row_text(alloc: Global, width: u32, place: Place, text: &[u8]) -> Result<Text, Memory>
+fn row_text(alloc: Global, width: u32, place: Alignment, text: &[u8]) -> Result<Text, Memory>
     ensures value { IfOk result (λ t. t ≡ row_text width place text.now) }
     ensures within { IfOk result (λ t. length t ≤ most_within width (size_at place)) }
 {
     printed_within(alloc, most_within(width, size_at(place)), text)
 }
 
-fn size_at(place: Place) -> Size
+fn size_at(place: Alignment) -> Size
     ensures { result ≡ size_at place }
 {
     match place {
-        Place::Middle => Size::Big,
-        Place::Right => Size::Small,
-        Place::Left => Size::Small,
+        Alignment::Middle => Size::Big,
+        Alignment::Right => Size::Small,
+        Alignment::Left => Size::Small,
     }
 }
 
@@ -162,13 +162,13 @@ fn most_within(width: u32, size: Size) -> usize
 }
 
 /// Where a row begins, from the left of the body.
-fn row_x(width: u32, place: Place, count: usize) -> i64
+fn row_x(width: u32, place: Alignment, count: usize) -> i64
     requires { count ≤ most_within width (size_at place) }
     ensures { result ≡ pos (row_x width place count) }
 {
     match place {
-        Place::Middle => i64::from((width - 960 * count as u32) / 2),
-        Place::Right => i64::from(width - 540 * count as u32),
-        Place::Left => 0,
+        Alignment::Middle => i64::from((width - 960 * count as u32) / 2),
+        Alignment::Right => i64::from(width - 540 * count as u32),
+        Alignment::Left => 0,
     }
 }

@@ -7,11 +7,11 @@ abbrev pub cost_in : List (List ℕ) → ℕ → ℕ → Option ℕ
 cost_in rows a b = if nat_lt a b then row_cost rows a b else None
 
 -- What follows from the form: the two laws of costs.
-rising : (rows : List (List ℕ)) (a b : ℕ) → a < b → cost_in rows a b ≡ row_cost rows a b
-rising rows a b l = let t : nat_lt a b ≡ true = grind (arith, nat_tests) in rw t refl
+cost_of_rising : (rows : List (List ℕ)) (a b : ℕ) → a < b → cost_in rows a b ≡ row_cost rows a b
+cost_of_rising rows a b l = let t : nat_lt a b ≡ true = grind (arith, nat_tests) in rw t refl
 
 pub cost_stops : (rows : List (List ℕ)) (a b c : ℕ) → a < b → b < c → cost_in rows a b ≡ None → cost_in rows a c ≡ None
-cost_stops rows a b c l m e = rising rows a c (omega arith) ∙ rows_stop rows a b c l m (sym (rising rows a b l) ∙ e)
+cost_stops rows a b c l m e = cost_of_rising rows a c (omega arith) ∙ rows_stop rows a b c l m (sym (cost_of_rising rows a b l) ∙ e)
 
 pub cost_small : (rows : List (List ℕ)) → AreSmall rows → (a b : ℕ) → a < b → IfSome (cost_in rows a b) (λ v. v ≤ 2 ^ 40)
-cost_small rows h a b l = rw (rising rows a b l) (rows_small rows h a b)
+cost_small rows h a b l = rw (cost_of_rising rows a b l) (rows_small rows h a b)

@@ -1,5 +1,5 @@
 ghost use Rattle.std.specs.Prelude.{◌≡◌, ◌-◌, ◌<◌, ◌≤◌, ◌^◌, ℕ, List, IfOk, length, slice_index};
-ghost use Rattle.lay_rows.specs.Tables.{IsTable};
+ghost use Rattle.lay_rows.specs.Tables.{IsCostTable};
 
 use crate::rows::Rows;
 use eng_jobs::{Jobs, Work, work_all};
@@ -72,7 +72,7 @@ pub fn make_rows<R: Threads + Sync, M: RowMaker + Sync>(
     requires bars { n ≡ M.bars maker.now }
     requires short { n ≤ 4000 }
     requires within { (a : ℕ) (row : List ℕ) → a < n → M.is_row maker.now a row → length row ≤ n - a }
-    ensures { IfOk result (λ made. IsTable (M.is_row maker.now) n made.rows) }
+    ensures { IfOk result (λ made. IsCostTable (M.is_row maker.now) n made.rows) }
 {
     let bars = bars_below(alloc, n)?;
     let rows = work_all(rt, alloc, bars.as_slice(), jobs, &Making { maker })?;

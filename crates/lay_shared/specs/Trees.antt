@@ -1,7 +1,7 @@
 -- The trees of a `%%score` line, as they are written: a voice by itself has a staff of its own, voices
 -- in parentheses share one, and brackets stand round trees.
 use Rattle.std.specs.Prelude.{ℕ, List, [], ◌∷◌, ◌++◌, Bool, true, false}
-use Rattle.lay_shared.specs.declared.{signs.Bracket.Bracket, signs.Sign.Sign, plan.PlannedStaff.PlannedStaff}
+use Rattle.lay_shared.specs.declared.{signs.Bracket.Bracket, signs.PlanSign.PlanSign, plan.PlannedStaff.PlannedStaff}
 
 -- a row of trees: the first, and those behind it
 pub data Trees : Type 0 where
@@ -11,15 +11,15 @@ pub data Trees : Type 0 where
   group_tree : Bracket → Trees → Trees → Trees
 
 -- The signs of trees, in front of what follows them.
-abbrev pub voice_signs : List ℕ → List Sign → List Sign
+abbrev pub voice_signs : List ℕ → List PlanSign → List PlanSign
 voice_signs [] behind = behind
-voice_signs (v ∷ vs) behind = Sign.Voice v ∷ voice_signs vs behind
+voice_signs (v ∷ vs) behind = PlanSign.Voice v ∷ voice_signs vs behind
 
-abbrev pub tree_signs : Trees → List Sign → List Sign
+abbrev pub tree_signs : Trees → List PlanSign → List PlanSign
 tree_signs no_tree behind = behind
-tree_signs (voice_tree v more) behind = Sign.Voice v ∷ tree_signs more behind
-tree_signs (staff_tree v vs more) behind = Sign.StaffOpens ∷ Sign.Voice v ∷ voice_signs vs (Sign.StaffEnds ∷ tree_signs more behind)
-tree_signs (group_tree b inner more) behind = Sign.Opens b ∷ tree_signs inner (Sign.Ends b ∷ tree_signs more behind)
+tree_signs (voice_tree v more) behind = PlanSign.Voice v ∷ tree_signs more behind
+tree_signs (staff_tree v vs more) behind = PlanSign.StaffOpens ∷ PlanSign.Voice v ∷ voice_signs vs (PlanSign.StaffEnds ∷ tree_signs more behind)
+tree_signs (group_tree b inner more) behind = PlanSign.Opens b ∷ tree_signs inner (PlanSign.Ends b ∷ tree_signs more behind)
 
 -- the voices of each staff, in the order of the text
 abbrev pub shares_of : Trees → List (List ℕ)
@@ -32,13 +32,13 @@ abbrev pub planned : Bool → List ℕ → PlannedStaff
 planned leads voices = record { leads = leads; voices = voices }
 
 -- the staves of one group: the first of them leads it, where none of it stands before them
-abbrev pub group_of : Bool → List (List ℕ) → List PlannedStaff
-group_of leads [] = []
-group_of leads (voices ∷ more) = planned leads voices ∷ group_of false more
+abbrev pub staves_of_group : Bool → List (List ℕ) → List PlannedStaff
+staves_of_group leads [] = []
+staves_of_group leads (voices ∷ more) = planned leads voices ∷ staves_of_group false more
 
 -- the staves of outermost trees, each of which is a group of its own
-abbrev pub staves_of : Trees → List PlannedStaff
-staves_of no_tree = []
-staves_of (voice_tree v more) = planned true (v ∷ []) ∷ staves_of more
-staves_of (staff_tree v vs more) = planned true (v ∷ vs) ∷ staves_of more
-staves_of (group_tree b inner more) = group_of true (shares_of inner) ++ staves_of more
+abbrev pub staves_of_trees : Trees → List PlannedStaff
+staves_of_trees no_tree = []
+staves_of_trees (voice_tree v more) = planned true (v ∷ []) ∷ staves_of_trees more
+staves_of_trees (staff_tree v vs more) = planned true (v ∷ vs) ∷ staves_of_trees more
+staves_of_trees (group_tree b inner more) = staves_of_group true (shares_of inner) ++ staves_of_trees more

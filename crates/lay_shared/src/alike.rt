@@ -1,10 +1,10 @@
 //! Whether the voices of each staff are alike.
 
 ghost use Rattle.std.specs.{Prelude.◌≡◌, Prelude.All, Prelude.Decides, Prelude.IfOk, Prelude.length, List.AllByRecursion};
-ghost use Rattle.{mus_score.specs.GoodScore.{IsGoodScore, IsGoodVoice}, lay_shared.specs.{Alike.AreAlike, Alike.DoShare, Alike.story_at, Alike.story_of, Plans.IsPlanFor}};
+ghost use Rattle.{mus_score.specs.GoodScore.{IsGoodScore, IsGoodVoice}, lay_shared.specs.{Alike.HaveSameChanges, Alike.DoShare, Alike.story_at, Alike.story_of, Plans.IsPlanFor}};
 
 use crate::plan::{Plan, PlannedStaff};
-use crate::stories::{Change, Story, story_of};
+use crate::changes::{TimedChange, VoiceChanges, story_of};
 use mus_score::{Changes, Score, Voice};
 use mus_units::{Key, Memory, Sign};
 use std::alloc::Global;
@@ -22,7 +22,7 @@ pub fn shared(alloc: Global, s: &Score, p: &Plan) -> Result<bool, Memory>
 /// Whether no two voices of one of these staves differ.
 fn are_shared(alloc: Global, voices: &[Voice], staves: &[PlannedStaff]) -> Result<bool, Memory>
     requires { All IsGoodVoice voices.now }
-    ensures { IfOk result (λ are. Decides are (AllByRecursion (λ staff. AreAlike voices.now staff.voices) staves.now)) }
+    ensures { IfOk result (λ are. Decides are (AllByRecursion (λ staff. HaveSameChanges voices.now staff.voices) staves.now)) }
 {
     for staff in staves {
         if !are_alike(alloc, voices, staff.voices.as_slice())? {
@@ -35,7 +35,7 @@ fn are_shared(alloc: Global, voices: &[Voice], staves: &[PlannedStaff]) -> Resul
 /// Whether no two voices at these places differ.
 fn are_alike(alloc: Global, voices: &[Voice], places: &[u32]) -> Result<bool, Memory>
     requires { All IsGoodVoice voices.now }
-    ensures { IfOk result (λ are. Decides are (AreAlike voices.now places.now)) }
+    ensures { IfOk result (λ are. Decides are (HaveSameChanges voices.now places.now)) }
 {
     let Some((first, others)) = places.split_first() else {
         return Ok(true);
@@ -77,7 +77,7 @@ fn have_one_story(alloc: Global, v: &Voice, w: &Voice) -> Result<bool, Memory>
     Ok(same_story(&one, &other))
 }
 
-fn same_story(a: &Story, b: &Story) -> bool
+fn same_story(a: &VoiceChanges, b: &VoiceChanges) -> bool
     ensures { Decides result (a.now ≡ b.now) }
 {
     a.clef == b.clef
@@ -86,7 +86,7 @@ fn same_story(a: &Story, b: &Story) -> bool
         && same_list(a.changes.as_slice(), b.changes.as_slice())
 }
 
-fn same_list(a: &[Change], b: &[Change]) -> bool
+fn same_list(a: &[TimedChange], b: &[TimedChange]) -> bool
     ensures { Decides result (a.now ≡ b.now) }
 {
     let mut left = a;
@@ -104,7 +104,7 @@ fn same_list(a: &[Change], b: &[Change]) -> bool
     right.is_empty()
 }
 
-fn same_change(a: &Change, b: &Change) -> bool
+fn same_change(a: &TimedChange, b: &TimedChange) -> bool
     ensures { Decides result (a.now ≡ b.now) }
 {
     a.measure == b.measure && a.tick == b.tick && same_changes(&a.changes, &b.changes)

@@ -1,7 +1,7 @@
 //! The score that is drawn by a plan.
 
 ghost use Rattle.std.specs.Prelude.{◌≡◌, ◌++◌, length, IfOk, OnOk, flat_map, map};
-ghost use Rattle.{mus_score.specs.GoodScore.{IsGoodScore}, lay_shared.specs.{Drawn.{drawn_at, drawn_of, first_bar, gap_of, leading, lower, seated, sit, sits_of, staff_sits}, Plans.IsPlanFor}};
+ghost use Rattle.{mus_score.specs.GoodScore.{IsGoodScore}, lay_shared.specs.{Drawn.{seated_voice, drawn_of, first_bar, staff_gap, leading, lower, seated, sit, sits_of, staff_sits}, Plans.IsPlanFor}};
 
 use crate::copies::copy_measures;
 use crate::plan::{Plan, PlannedStaff};
@@ -12,7 +12,7 @@ use std::alloc::Global;
 /// A voice by its place in the score, where it stands among the staves, and whether its staff is the
 /// first of an outermost group.
 #[derive(Clone, Copy)]
-pub struct Sit {
+pub struct SeatedVoice {
     pub place: u32,
     pub seat: Seat,
     pub leads: bool,
@@ -36,8 +36,8 @@ pub fn drawn(alloc: Global, s: &Score, p: &Plan) -> Result<Score, Memory>
     })
 }
 
-fn drawn_voices(alloc: Global, voices: &[Voice], sits: &[Sit]) -> Result<Row<Voice>, Memory>
-    ensures { IfOk result (λ drawn. drawn ≡ flat_map (drawn_at voices.now) sits.now) }
+fn drawn_voices(alloc: Global, voices: &[Voice], sits: &[SeatedVoice]) -> Result<Row<Voice>, Memory>
+    ensures { IfOk result (λ drawn. drawn ≡ flat_map (seated_voice voices.now) sits.now) }
 {
     let mut drawn = Row::new(alloc);
     for sit in sits {
@@ -50,9 +50,9 @@ fn put_voice(
     alloc: Global,
     drawn: &mut Row<Voice>,
     voices: &[Voice],
-    sit: Sit,
+    sit: SeatedVoice,
 ) -> Result<(), Memory>
-    ensures { OnOk result (drawn.new ≡ drawn.old ++ drawn_at voices.now sit) }
+    ensures { OnOk result (drawn.new ≡ drawn.old ++ seated_voice voices.now sit) }
 {
     match voices.get(sit.place as usize) {
         Some(voice) => drawn.push(seated(alloc, sit, voice)?),
@@ -60,7 +60,7 @@ fn put_voice(
     }
 }
 
-fn seated(alloc: Global, sit: Sit, v: &Voice) -> Result<Voice, Memory>
+fn seated(alloc: Global, sit: SeatedVoice, v: &Voice) -> Result<Voice, Memory>
     ensures { IfOk result (λ w. w ≡ seated sit v.now) }
 {
     Ok(Voice {
@@ -94,7 +94,7 @@ fn first_bar(seat: Seat, bar: Bar) -> Bar
     }
 }
 
-fn sits_of(alloc: Global, staves: &[PlannedStaff]) -> Result<Row<Sit>, Memory>
+fn sits_of(alloc: Global, staves: &[PlannedStaff]) -> Result<Row<SeatedVoice>, Memory>
     ensures { IfOk result (λ sits. sits ≡ sits_of staves.now) }
 {
     let mut sits = Row::new(alloc);
@@ -104,13 +104,13 @@ fn sits_of(alloc: Global, staves: &[PlannedStaff]) -> Result<Row<Sit>, Memory>
     Ok(sits)
 }
 
-fn put_staff(sits: &mut Row<Sit>, leads: bool, places: &[u32]) -> Result<(), Memory>
+fn put_staff(sits: &mut Row<SeatedVoice>, leads: bool, places: &[u32]) -> Result<(), Memory>
     ensures { OnOk result (sits.new ≡ sits.old ++ staff_sits leads places.now) }
 {
     let Some((first, others)) = places.split_first() else {
         return Ok(());
     };
-    sits.push(Sit {
+    sits.push(SeatedVoice {
         place: *first,
         seat: leading(others),
         leads,
@@ -118,11 +118,11 @@ fn put_staff(sits: &mut Row<Sit>, leads: bool, places: &[u32]) -> Result<(), Mem
     put_lower(sits, leads, others)
 }
 
-fn put_lower(sits: &mut Row<Sit>, leads: bool, places: &[u32]) -> Result<(), Memory>
+fn put_lower(sits: &mut Row<SeatedVoice>, leads: bool, places: &[u32]) -> Result<(), Memory>
     ensures { OnOk result (sits.new ≡ sits.old ++ map (lower leads) places.now) }
 {
     for place in places {
-        sits.push(Sit {
+        sits.push(SeatedVoice {
             place: *place,
             seat: Seat::Lower,
             leads,
@@ -143,7 +143,7 @@ fn leading(others: &[u32]) -> Seat
 }
 
 fn gap_of(leads: bool) -> u32
-    ensures { result ≡ gap_of leads }
+    ensures { result ≡ staff_gap leads }
 {
     if leads { 1000 } else { 500 }
 }

@@ -8,8 +8,8 @@ pub mod drawing;
 pub mod plan;
 pub mod reading;
 pub mod signs;
-pub mod stories;
+pub mod changes;
 
 pub use alike::shared;
 pub use drawing::drawn;
-pub use plan::{Plan, PlannedStaff, ids_of, read_plan};
+pub use plan::{Plan, PlannedStaff, score_ids, read_plan};

@@ -1,9 +1,9 @@
 ghost use Rattle.std.specs.{Prelude.{◌≡◌, ◌≢◌, ◌<◌, ◌^◌, ◌==◌, Some, [], length, AllPairs, IfOk, IfSome, map}, List.list_any};
 ghost use Rattle.mus_score.specs.{GoodScore.IsGoodScore, declared.score.Voice.Voice};
-ghost use Rattle.lay_shared.specs.{Plans.IsPlanFor, Plans.Spells, Plans.ids_of, Plans.named, Reading.is_fair, Reading.is_once, Reading.plan_by, Reading.signs_from, declared.plan.Plan.Plan};
+ghost use Rattle.lay_shared.specs.{Plans.IsPlanFor, Plans.SpellsPlan, Plans.score_ids, Plans.named, Reading.is_fair, Reading.is_once, Reading.plan_by, Reading.plan_signs_from, declared.plan.Plan.Plan};
 
 use crate::reading::staves_by;
-use crate::signs::{Sign, signs_of};
+use crate::signs::{PlanSign, signs_of};
 use mus_score::{Score, Voice};
 use mus_units::{Memory, Row, Text};
 use std::alloc::Global;
@@ -23,9 +23,9 @@ pub struct Plan {
 }
 
 /// The ids of a score's voices, in order.
-pub fn ids_of(alloc: Global, s: &Score) -> Result<Row<Text>, Memory>
+pub fn score_ids(alloc: Global, s: &Score) -> Result<Row<Text>, Memory>
     requires { IsGoodScore s.now }
-    ensures value { IfOk result (λ ids. ids ≡ ids_of s.now) }
+    ensures value { IfOk result (λ ids. ids ≡ score_ids s.now) }
     ensures few { IfOk result (λ ids. length ids < 2 ^ 32) }
     ensures apart { IfOk result (λ ids. AllPairs (λ i j. i ≢ j) ids) }
 {
@@ -48,8 +48,8 @@ fn ids_of_voices(alloc: Global, voices: &[Voice]) -> Result<Row<Text>, Memory>
 pub fn read_plan(alloc: Global, text: &[u8], ids: &[Text]) -> Result<Option<Plan>, Memory>
     requires few { length ids.now < 2 ^ 32 }
     requires apart { AllPairs (λ i j. i ≢ j) ids.now }
-    ensures spells { IfOk result (λ read. IfSome read (Spells ids.now text.now)) }
-    ensures only { IfOk result (λ read. (plan : Plan) → Spells ids.now text.now plan → read ≡ Some plan) }
+    ensures spells { IfOk result (λ read. IfSome read (SpellsPlan ids.now text.now)) }
+    ensures only { IfOk result (λ read. (plan : Plan) → SpellsPlan ids.now text.now plan → read ≡ Some plan) }
     ensures good { IfOk result (λ read. IfSome read (IsPlanFor (length ids.now))) }
 {
     read_by(alloc, text, ids)
@@ -57,13 +57,13 @@ pub fn read_plan(alloc: Global, text: &[u8], ids: &[Text]) -> Result<Option<Plan
 
 fn read_by(alloc: Global, text: &[u8], ids: &[Text]) -> Result<Option<Plan>, Memory>
     requires { length ids.now < 2 ^ 32 }
-    ensures { IfOk result (λ read. read ≡ plan_by (signs_from ids.now [] text.now)) }
+    ensures { IfOk result (λ read. read ≡ plan_by (plan_signs_from ids.now [] text.now)) }
 {
     let signs = signs_of(alloc, text, ids)?;
     plan_by(alloc, signs.as_slice())
 }
 
-fn plan_by(alloc: Global, signs: &[Sign]) -> Result<Option<Plan>, Memory>
+fn plan_by(alloc: Global, signs: &[PlanSign]) -> Result<Option<Plan>, Memory>
     ensures { IfOk result (λ read. read ≡ plan_by signs.now) }
 {
     let voices = named(alloc, signs)?;
@@ -77,12 +77,12 @@ fn plan_by(alloc: Global, signs: &[Sign]) -> Result<Option<Plan>, Memory>
 }
 
 /// The voices that signs name.
-fn named(alloc: Global, signs: &[Sign]) -> Result<Row<u32>, Memory>
+fn named(alloc: Global, signs: &[PlanSign]) -> Result<Row<u32>, Memory>
     ensures { IfOk result (λ voices. voices ≡ named signs.now) }
 {
     let mut voices = Row::new(alloc);
     for sign in signs {
-        if let Sign::Voice { place } = sign {
+        if let PlanSign::Voice { place } = sign {
             voices.push(*place)?;
         }
     }

@@ -1,10 +1,10 @@
 //! Staves read sign by sign.
 
 ghost use Rattle.std.specs.Prelude.{◌≡◌, ◌∷◌, ◌++◌, [], None, Some, IfOk, OnOk, MatchOption, cond};
-ghost use Rattle.lay_shared.specs.Reading.{closed, ended, entered, is_empty, left, opened, run, same_bracket, start, step, with_staff, with_voice};
+ghost use Rattle.lay_shared.specs.Reading.{staff_closed, ended, entered, has_no_bracket, left, staff_opened, run, same_bracket, start, after_sign, with_staff, with_voice};
 
 use crate::plan::PlannedStaff;
-use crate::signs::{Bracket, Sign};
+use crate::signs::{Bracket, PlanSign};
 use mus_units::{Memory, Row};
 use std::alloc::Global;
 use std::marker::Model;
@@ -34,7 +34,7 @@ impl Brackets {
     }
 
     fn is_empty(&self) -> bool
-        ensures { result ≡ is_empty self.now }
+        ensures { result ≡ has_no_bracket self.now }
     {
         self.stack.is_empty()
     }
@@ -57,18 +57,18 @@ impl Brackets {
 /// How far the signs were read: the brackets that are open, the voices since a `(` that isn't
 /// closed, whether the next staff leads an outermost group, and the staves.
 #[derive(Drop)]
-pub struct Reading {
+pub struct PlanReader {
     pub brackets: Brackets,
     pub inside: Option<Row<u32>>,
     pub leads: bool,
     pub staves: Row<PlannedStaff>,
 }
 
-impl Reading {
-    fn new(alloc: Global) -> Reading
+impl PlanReader {
+    fn new(alloc: Global) -> PlanReader
         ensures { result ≡ start }
     {
-        Reading {
+        PlanReader {
             brackets: Brackets::new(alloc),
             inside: None,
             leads: true,
@@ -99,7 +99,7 @@ impl Reading {
     }
 
     fn open_staff(&mut self, alloc: Global) -> bool
-        ensures { cond result (opened self.old self.old.inside ≡ Some self.new) (opened self.old self.old.inside ≡ None) }
+        ensures { cond result (staff_opened self.old self.old.inside ≡ Some self.new) (staff_opened self.old self.old.inside ≡ None) }
     {
         if self.inside.is_some() {
             return false;
@@ -109,7 +109,7 @@ impl Reading {
     }
 
     fn close_staff(&mut self) -> Result<bool, Memory>
-        ensures { IfOk result (λ went. cond went (closed self.old self.old.inside ≡ Some self.new) (closed self.old self.old.inside ≡ None)) }
+        ensures { IfOk result (λ went. cond went (staff_closed self.old self.old.inside ≡ Some self.new) (staff_closed self.old self.old.inside ≡ None)) }
     {
         match self.inside.take() {
             Some(voices) if voices.len() > 0 => {
@@ -146,19 +146,19 @@ impl Reading {
     }
 
     /// Reads one sign more; false where it can't stand there.
-    fn take_sign(&mut self, alloc: Global, sign: Sign) -> Result<bool, Memory>
-        ensures { IfOk result (λ went. cond went (step self.old sign ≡ Some self.new) (step self.old sign ≡ None)) }
+    fn take_sign(&mut self, alloc: Global, sign: PlanSign) -> Result<bool, Memory>
+        ensures { IfOk result (λ went. cond went (after_sign self.old sign ≡ Some self.new) (after_sign self.old sign ≡ None)) }
     {
         match sign {
-            Sign::Voice { place } => {
+            PlanSign::Voice { place } => {
                 self.take_voice(alloc, place)?;
                 Ok(true)
             }
-            Sign::Stranger => Ok(false),
-            Sign::StaffOpens => Ok(self.open_staff(alloc)),
-            Sign::StaffEnds => self.close_staff(),
-            Sign::Opens { bracket } => self.enter(bracket),
-            Sign::Ends { bracket } => Ok(self.leave(bracket)),
+            PlanSign::UnknownVoice => Ok(false),
+            PlanSign::StaffOpens => Ok(self.open_staff(alloc)),
+            PlanSign::StaffEnds => self.close_staff(),
+            PlanSign::Opens { bracket } => self.enter(bracket),
+            PlanSign::Ends { bracket } => Ok(self.leave(bracket)),
         }
     }
 
@@ -184,10 +184,10 @@ fn is_same(bracket: Bracket, other: Bracket) -> bool
 }
 
 /// The staves that signs ask for, or None where the signs don't pair or stand where they can't.
-pub(crate) fn staves_by(alloc: Global, signs: &[Sign]) -> Result<Option<Row<PlannedStaff>>, Memory>
+pub(crate) fn staves_by(alloc: Global, signs: &[PlanSign]) -> Result<Option<Row<PlannedStaff>>, Memory>
     ensures { IfOk result (λ read. read ≡ run start signs.now) }
 {
-    let mut at = Reading::new(alloc);
+    let mut at = PlanReader::new(alloc);
     for sign in signs {
         if !at.take_sign(alloc, *sign)? {
             return Ok(None);

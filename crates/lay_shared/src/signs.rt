@@ -1,7 +1,7 @@
 //! The signs of a `%%score` line.
 
 ghost use Rattle.std.specs.{Prelude.◌≡◌, Prelude.◌<◌, Prelude.◌^◌, Prelude.◌++◌, Prelude.[], Prelude.length, Prelude.IfOk, Prelude.IfSome, Prelude.OnOk, Option.option_to_list};
-ghost use Rattle.lay_shared.specs.{Reading.place_of, Reading.signs_from, Reading.voice_sign, Reading.word_signs, Signs.is_id, Signs.is_passed, Signs.sign_at};
+ghost use Rattle.lay_shared.specs.{Reading.place_of, Reading.plan_signs_from, Reading.voice_sign, Reading.word_signs, Signs.is_id, Signs.is_passed_in_plan, Signs.plan_sign_at};
 
 use mus_units::bytes::is_same;
 use mus_units::{Memory, Row, Text};
@@ -17,9 +17,9 @@ pub enum Bracket {
 /// A sign of the text: a voice, by its place, or an id of none; `(` and `)` round voices of one
 /// staff; and brackets round staves.
 #[derive(Clone, Copy)]
-pub enum Sign {
+pub enum PlanSign {
     Voice { place: u32 },
-    Stranger,
+    UnknownVoice,
     StaffOpens,
     StaffEnds,
     Opens { bracket: Bracket },
@@ -27,9 +27,9 @@ pub enum Sign {
 }
 
 /// The signs of a text, in order.
-pub(crate) fn signs_of(alloc: Global, text: &[u8], ids: &[Text]) -> Result<Row<Sign>, Memory>
+pub(crate) fn signs_of(alloc: Global, text: &[u8], ids: &[Text]) -> Result<Row<PlanSign>, Memory>
     requires { length ids.now < 2 ^ 32 }
-    ensures { IfOk result (λ signs. signs ≡ signs_from ids.now [] text.now) }
+    ensures { IfOk result (λ signs. signs ≡ plan_signs_from ids.now [] text.now) }
 {
     let mut signs = Row::new(alloc);
     let mut word = Text::new(alloc);
@@ -47,7 +47,7 @@ pub(crate) fn signs_of(alloc: Global, text: &[u8], ids: &[Text]) -> Result<Row<S
 }
 
 /// Puts the voice that a word names; a word without a byte names none.
-fn put_word(signs: &mut Row<Sign>, word: &[u8], ids: &[Text]) -> Result<(), Memory>
+fn put_word(signs: &mut Row<PlanSign>, word: &[u8], ids: &[Text]) -> Result<(), Memory>
     requires { length ids.now < 2 ^ 32 }
     ensures { OnOk result (signs.new ≡ signs.old ++ word_signs ids.now word.now) }
 {
@@ -57,24 +57,24 @@ fn put_word(signs: &mut Row<Sign>, word: &[u8], ids: &[Text]) -> Result<(), Memo
     signs.push(voice_sign(place_of(word, ids)))
 }
 
-fn put_sign(signs: &mut Row<Sign>, byte: u8) -> Result<(), Memory>
-    ensures { OnOk result (signs.new ≡ signs.old ++ option_to_list (sign_at byte)) }
+fn put_sign(signs: &mut Row<PlanSign>, byte: u8) -> Result<(), Memory>
+    ensures { OnOk result (signs.new ≡ signs.old ++ option_to_list (plan_sign_at byte)) }
 {
-    match sign_at(byte) {
+    match plan_sign_at(byte) {
         Some(sign) => signs.push(sign),
         None => Ok(()),
     }
 }
 
-fn voice_sign(place: Option<usize>) -> Sign
+fn voice_sign(place: Option<usize>) -> PlanSign
     requires { IfSome place (λ p. p < 2 ^ 32) }
     ensures { result ≡ voice_sign place }
 {
     match place {
-        Some(place) => Sign::Voice {
+        Some(place) => PlanSign::Voice {
             place: place as u32,
         },
-        None => Sign::Stranger,
+        None => PlanSign::UnknownVoice,
     }
 }
 
@@ -85,28 +85,28 @@ fn place_of(word: &[u8], ids: &[Text]) -> Option<usize>
     ids.iter().position(|id| is_same(id.as_slice(), word))
 }
 
-fn is_passed(byte: u8) -> bool
-    ensures { result ≡ is_passed byte }
+fn is_passed_in_plan(byte: u8) -> bool
+    ensures { result ≡ is_passed_in_plan byte }
 {
     matches!(byte, b' ' | b'\t' | b'|' | b'*' | b'+' | b'~')
 }
 
-fn sign_at(byte: u8) -> Option<Sign>
-    ensures { result ≡ sign_at byte }
+fn plan_sign_at(byte: u8) -> Option<PlanSign>
+    ensures { result ≡ plan_sign_at byte }
 {
     match byte {
-        b'(' => Some(Sign::StaffOpens),
-        b')' => Some(Sign::StaffEnds),
-        b'[' => Some(Sign::Opens {
+        b'(' => Some(PlanSign::StaffOpens),
+        b')' => Some(PlanSign::StaffEnds),
+        b'[' => Some(PlanSign::Opens {
             bracket: Bracket::Square,
         }),
-        b']' => Some(Sign::Ends {
+        b']' => Some(PlanSign::Ends {
             bracket: Bracket::Square,
         }),
-        b'{' => Some(Sign::Opens {
+        b'{' => Some(PlanSign::Opens {
             bracket: Bracket::Curly,
         }),
-        b'}' => Some(Sign::Ends {
+        b'}' => Some(PlanSign::Ends {
             bracket: Bracket::Curly,
         }),
         _ => None,
@@ -116,5 +116,5 @@ fn sign_at(byte: u8) -> Option<Sign>
 fn is_id(byte: u8) -> bool
     ensures { result ≡ is_id byte }
 {
-    !is_passed(byte) && sign_at(byte).is_none()
+    !is_passed_in_plan(byte) && plan_sign_at(byte).is_none()
 }

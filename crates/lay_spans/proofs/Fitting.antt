@@ -1,12 +1,12 @@
 -- Which spans fit.
 use Rattle.std.proofs.{Common.{◌≡◌, ℕ, ◌+◌, ◌-◌, ◌<◌, ◌≤◌, List, [], ◌++◌, length, map, Option, None, Some, IfNone, option_map, option_and_then, unwrap_or, slice_get, slice_index_or, arith, sym, ◌∙◌, ap, subst, refl, inl, inr, length-append}, Math.Path.fun_ext, lemmas.{Bool.cases_lt, Option.slice_get-map, List.{append_assoc, length-map}}}
-use Rattle.lay_springs.{specs.declared.traits.Reach.Reach, specs.Place.reach_at, specs.Place.length_at, specs.Fit.Fits, specs.Fit.Passes, specs.Fit.CanStand, specs.Fit.StandsInAll, proofs.Longer.cannot_stand, proofs.Longer.longer_fits_less}
-use Rattle.lay_spans.{specs.Columns.span_columns, specs.Columns.AreMeasures, specs.SpanList.StandsAt, specs.SpanList.IsForce, proofs.Adding.columns_some, proofs.Adding.columns_continue, proofs.Adding.ends_so}
+use Rattle.lay_springs.{specs.declared.traits.Reach.Reach, specs.Place.reach_at, specs.Place.length_at, specs.Fit.Fits, specs.Fit.Passes, specs.Fit.CanStandWithin, specs.Fit.StandsInAll, proofs.Longer.cannot_stand, proofs.Longer.longer_fits_less}
+use Rattle.lay_spans.{specs.Columns.span_columns, specs.Columns.AreMeasures, specs.SpanList.FitsAtForce, specs.SpanList.IsForce, proofs.Adding.columns_some, proofs.Adding.columns_continue, proofs.Adding.ends_so}
 
 -- a longer span can't stand where a shorter one can't
 pub longer_stands : {C : Type 0} (reach : C → ℕ → Option Reach) (len : C → ℕ → ℕ) (gaps : List ℕ) (width force : ℕ) (starts others : List (List C)) (a b c : ℕ)
     → AreMeasures reach (length gaps) starts others → a < b → b < c → c ≤ length starts → 0 < length (span_columns starts others a b)
-    → StandsAt reach len gaps width force (span_columns starts others a c) → StandsAt reach len gaps width force (span_columns starts others a b)
+    → FitsAtForce reach len gaps width force (span_columns starts others a c) → FitsAtForce reach len gaps width force (span_columns starts others a b)
 longer_stands reach len gaps width force starts others a b c h l m n some stands =
     let d : ℕ = c - b - 1 in let same : b + (c - b - 1) + 1 ≡ c = omega arith in let longer = columns_continue starts others a b (c - b - 1) l (omega arith) h.same in
     let last = slice_index_or others (b + (c - b - 1)) [] in let ends = h.ended (b + (c - b - 1)) (omega arith) in let rest = longer.0 ++ last in
@@ -15,12 +15,12 @@ longer_stands reach len gaps width force starts others a b c h l m n some stands
     (let n = length-append longer.0 last in let k = ends.some in omega arith)
     (subst (λ columns. StandsInAll (reach_at reach columns (length columns - 1)) (length gaps)) (append_assoc (span_columns starts others a b) longer.0 last)
     (ends_so reach (length gaps) (span_columns starts others a b ++ longer.0) last ends))
-    (subst (λ columns. StandsAt reach len gaps width force columns) is stands)
+    (subst (λ columns. FitsAtForce reach len gaps width force columns) is stands)
 
 -- a force that is too great for a span is too great for the span with one measure more
 pub still_above : {C : Type 0} (reach : C → ℕ → Option Reach) (len : C → ℕ → ℕ) (gaps : List ℕ) (width most : ℕ) (starts others : List (List C)) (a m : ℕ)
-    → AreMeasures reach (length gaps) starts others → a < length starts → m < length starts → ((g : ℕ) → most < g → g ≤ 2048 → (a < m) × (StandsAt reach len gaps width g (span_columns starts others a m) → ⊥))
-    → (g : ℕ) → most < g → g ≤ 2048 → StandsAt reach len gaps width g (span_columns starts others a (m + 1)) → ⊥
+    → AreMeasures reach (length gaps) starts others → a < length starts → m < length starts → ((g : ℕ) → most < g → g ≤ 2048 → (a < m) × (FitsAtForce reach len gaps width g (span_columns starts others a m) → ⊥))
+    → (g : ℕ) → most < g → g ≤ 2048 → FitsAtForce reach len gaps width g (span_columns starts others a (m + 1)) → ⊥
 still_above reach len gaps width most starts others a m h inside l before g past within stands =
     let shorter = before g past within in let some = shorter.0 in
     shorter.1 (longer_stands reach len gaps width g starts others a m (m + 1) h some (omega arith) (omega arith)
@@ -55,23 +55,23 @@ seen_as f reach len P seen columns e =
 pub force_of : {D C : Type 0} (f : D → C) (reach : C → ℕ → Option Reach) (len : C → ℕ → ℕ) (gaps : List ℕ) (width most : ℕ)
     (seen : List D) (columns : List C) (force : ℕ) → map f seen ≡ columns → most ≤ 2048 → force ≤ most
     → Fits (length seen) (reach_at (λ s lane. reach (f s) lane) seen) gaps (length_at (λ s g. len (f s) g) seen) width force → ((g : ℕ) → force < g → g ≤ most
-    → CanStand (length seen) (reach_at (λ s lane. reach (f s) lane) seen) gaps (length_at (λ s g. len (f s) g) seen) width g → ⊥)
-    → ((g : ℕ) → most < g → g ≤ 2048 → StandsAt reach len gaps width g columns → ⊥) → IsForce reach len gaps width columns force
+    → CanStandWithin (length seen) (reach_at (λ s lane. reach (f s) lane) seen) gaps (length_at (λ s g. len (f s) g) seen) width g → ⊥)
+    → ((g : ℕ) → most < g → g ≤ 2048 → FitsAtForce reach len gaps width g columns → ⊥) → IsForce reach len gaps width columns force
 force_of f reach len gaps width most seen columns force e small bound fits greatest above = record {
   bound = omega arith;
   fits = subst (λ T. T) (seen_as f reach len (λ n r l. Fits n r gaps l width force) seen columns e) fits;
   greatest = λ g l m stands. elim (cases_lt most g) [
     | inl past ↦ above g past m stands
-    | inr k ↦ greatest g l k (subst (λ T. T) (sym (seen_as f reach len (λ n r l. CanStand n r gaps l width g) seen columns e)) stands)
+    | inr k ↦ greatest g l k (subst (λ T. T) (sym (seen_as f reach len (λ n r l. CanStandWithin n r gaps l width g) seen columns e)) stands)
   ];
 }
 
 -- columns whose end passes the width can't stand there
 pub passes_never : {C : Type 0} (reach : C → ℕ → Option Reach) (len : C → ℕ → ℕ) (gaps : List ℕ) (width : ℕ) (columns : List C) (force : Option ℕ)
-    → 0 < length columns → IfNone force (Passes (length columns) (reach_at reach columns) gaps (length_at len columns) width 0) → IfNone force (StandsAt reach len gaps width 0 columns → ⊥)
+    → 0 < length columns → IfNone force (Passes (length columns) (reach_at reach columns) gaps (length_at len columns) width 0) → IfNone force (FitsAtForce reach len gaps width 0 columns → ⊥)
 passes_never reach len gaps width columns (Some f) some h = tt
 passes_never reach len gaps width columns None some h = cannot_stand (length columns) (reach_at reach columns) gaps (length_at len columns) width 0 0 some (λ i. omega arith) h
 
 pub never_stands : {D C : Type 0} (f : D → C) (reach : C → ℕ → Option Reach) (len : C → ℕ → ℕ) (gaps : List ℕ) (width : ℕ)
-    (seen : List D) (columns : List C) → map f seen ≡ columns → (StandsAt (λ s lane. reach (f s) lane) (λ s g. len (f s) g) gaps width 0 seen → ⊥) → StandsAt reach len gaps width 0 columns → ⊥
-never_stands f reach len gaps width seen columns e never stands = never (subst (λ T. T) (sym (seen_as f reach len (λ n r l. CanStand n r gaps l width 0) seen columns e)) stands)
+    (seen : List D) (columns : List C) → map f seen ≡ columns → (FitsAtForce (λ s lane. reach (f s) lane) (λ s g. len (f s) g) gaps width 0 seen → ⊥) → FitsAtForce reach len gaps width 0 columns → ⊥
+never_stands f reach len gaps width seen columns e never stands = never (subst (λ T. T) (sym (seen_as f reach len (λ n r l. CanStandWithin n r gaps l width 0) seen columns e)) stands)

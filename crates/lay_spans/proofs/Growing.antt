@@ -1,8 +1,8 @@
 -- The row of a bar, and the rows, while they grow.
 use Rattle.std.proofs.{Common.{◌≡◌, ℕ, ◌+◌, ◌-◌, ◌<◌, ◌≤◌, ℤ, Bool, List, [], ◌∷◌, ◌++◌, length, map, take, Option, None, Some, IsSome, slice_index, slice_index_or, get_or, true, false, arith, sym, ◌∙◌, ap, subst, refl, inl, inr, length-append}, Math.Seq.get_or-append_seam, lemmas.{Bool.{cases_lt, cases_eq, true≢false}, List.{get_or_append_left, length-map, take_all}, Option.{none-some, same_Some}}}
 use Rattle.lay_springs.{specs.{declared.{traits.Reach.Reach, progress.Progress.Progress}, Place.{reach_at, length_at, HasPlaced}}, proofs.{Clear.below_or_at, Longer.placed_on}}
-use Rattle.{lay_breaks.specs.Spans.{AreSpans, listed}, lay_rows.specs.Tables.{IsTable}}
-use Rattle.lay_spans.{specs.{Columns.{measures_from, span_columns, AreMeasures}, Forced.ForcedInside, SpanList.{StandsAt, IsCost, IsNoSpan, IsSpanList}, Rows.{IsRowFrom, rows_spans}, Single.costs_small}, proofs.{Adding.{columns_some, columns_more}, Fitting.{longer_stands, seen_as}, Listing.{in_rows, past_rows, rows_form}}}
+use Rattle.{lay_breaks.specs.Spans.{AreSpans, listed}, lay_rows.specs.Tables.{IsCostTable}}
+use Rattle.lay_spans.{specs.{Columns.{measures_from, span_columns, AreMeasures}, Forced.ForcedInside, SpanList.{FitsAtForce, IsCost, IsNoSpan, IsSpanList}, Rows.{IsRowFrom, rows_spans}, Single.costs_small}, proofs.{Adding.{columns_some, columns_more}, Fitting.{longer_stands, seen_as}, Listing.{in_rows, past_rows, rows_form}}}
 
 -- the columns that are seen, with one measure more
 pub seen_more : {D C : Type 0} (f : D → C) (old new : List D) (starts others : List (List C)) (a m : ℕ) → a ≤ m → m < length starts → length others ≡ length starts
@@ -51,12 +51,12 @@ free_more forced a m free before f l k is =
 pub stops_at : {C : Type 0} (reach : C → ℕ → Option Reach) (len : C → ℕ → ℕ) (gaps : List ℕ) (width : ℕ) (starts others : List (List C)) (forced : ℕ → Bool)
     (a m : ℕ) (row : List ℕ) → AreMeasures reach (length gaps) starts others → a < length starts → m < length starts → a + length row ≡ m
     → ((k : ℕ) → k < length row → IsCost reach len gaps width starts others forced a (a + 1 + k) (slice_index row k))
-    → (StandsAt reach len gaps width 0 (span_columns starts others a (m + 1)) → ⊥) → IsRowFrom reach len gaps width starts others forced a row
+    → (FitsAtForce reach len gaps width 0 (span_columns starts others a (m + 1)) → ⊥) → IsRowFrom reach len gaps width starts others forced a row
 stops_at reach len gaps width starts others forced a m row h inside l e each never = record {
   within = omega arith;
   each = each;
   stops = λ b past within. inr (λ stands. elim (cases_eq (m + 1) b) [
-    | inl same ↦ never (subst (λ b. StandsAt reach len gaps width 0 (span_columns starts others a b)) (sym same) stands)
+    | inl same ↦ never (subst (λ b. FitsAtForce reach len gaps width 0 (span_columns starts others a b)) (sym same) stands)
     | inr d ↦
         let lt : m + 1 < b = grind arith in
         never (longer_stands reach len gaps width 0 starts others a (m + 1) b h (omega arith) lt within
@@ -72,7 +72,7 @@ stops_behind reach len gaps width starts others forced a m row l e k each is = r
 
 -- the rows as a list of spans
 pub rows_are_spans : {C : Type 0} (reach : C → ℕ → Option Reach) (len : C → ℕ → ℕ) (gaps : List ℕ) (width : ℕ) (starts others : List (List C)) (forced : ℕ → Bool)
-    (rows : List (List ℕ)) → IsTable (λ a row. IsRowFrom reach len gaps width starts others forced a row) (length starts) rows → AreSpans (length starts) (rows_spans 0 rows)
+    (rows : List (List ℕ)) → IsCostTable (λ a row. IsRowFrom reach len gaps width starts others forced a row) (length starts) rows → AreSpans (length starts) (rows_spans 0 rows)
 rows_are_spans reach len gaps width starts others forced rows h =
     let c = h.count in
     rows_form (length starts) 0 None rows
@@ -81,7 +81,7 @@ rows_are_spans reach len gaps width starts others forced rows h =
     tt
 
 pub rows_tell_spans : {C : Type 0} (reach : C → ℕ → Option Reach) (len : C → ℕ → ℕ) (gaps : List ℕ) (width : ℕ) (starts others : List (List C)) (forced : ℕ → Bool)
-    (rows : List (List ℕ)) → IsTable (λ a row. IsRowFrom reach len gaps width starts others forced a row) (length starts) rows → IsSpanList reach len gaps width starts others forced (rows_spans 0 rows)
+    (rows : List (List ℕ)) → IsCostTable (λ a row. IsRowFrom reach len gaps width starts others forced a row) (length starts) rows → IsSpanList reach len gaps width starts others forced (rows_spans 0 rows)
 rows_tell_spans {C} reach len gaps width starts others forced rows h = record {
   each = λ a b v l m is.
       let row = slice_index_or rows a [] in let from = h.each a (omega arith) in
@@ -113,6 +113,6 @@ rows_tell_spans {C} reach len gaps width starts others forced rows h = record {
         let from = h.each a (omega arith) in elim (cases_lt (a + length (slice_index_or rows a [])) b) [ inl past ↦ from.stops b past m | inr within ↦ absurd (none-some _ (sym is ∙ inside a b l within)) ]
 
     fitting : (a b : ℕ) (o : Option ℕ) → listed (rows_spans 0 rows) a b ≡ o → (listed (rows_spans 0 rows) a b ≡ None → IsNoSpan reach len gaps width starts others forced a b)
-        → (ForcedInside forced a b → ⊥) → StandsAt reach len gaps width 0 (span_columns starts others a b) → IsSome (listed (rows_spans 0 rows) a b)
+        → (ForcedInside forced a b → ⊥) → FitsAtForce reach len gaps width 0 (span_columns starts others a b) → IsSome (listed (rows_spans 0 rows) a b)
     fitting a b (Some v) e stop free stands = rw e refl
     fitting a b None e stop free stands = elim (stop e) [ inl f ↦ absurd (free f) | inr never ↦ absurd (never stands) ]

@@ -2,7 +2,7 @@
 use Rattle.std.proofs.{Common.{◌≡◌, ℕ, ◌+◌, ◌-◌, ◌*◌, ◌<◌, ◌≤◌, ◌^◌, ◌==◌, nat_le, if◌then◌else◌, true, false, Option, Some, Bool, List, length, All, arith, sym, ◌∙◌, ap, subst, inl, inr}, Math.Nat.mul-le-mul_left, lemmas.{Bool.cases_lt, List.{ext_get_or, Elements.All-from_get_or}, Option.same_Some}, Props.props}
 use mathlib.Core.HLevel.{Σ_prop_path}
 use Rattle.lay_springs.{specs.{declared.traits.Reach.Reach, Place.reach_at, Place.length_at, Fit.counted, Fit.is_ragged}, proofs.{Longer.stands, Ends.apart_down, Ends.length_rises}}
-use Rattle.lay_spans.specs.{Badness.{badness_of, badness_at}, Columns.{AreMeasures, span_columns}, SpanList.{StandsAt, IsForce, IsCost}, Rows.IsRowFrom}
+use Rattle.lay_spans.specs.{Badness.{badness_of, badness_at}, Columns.{AreMeasures, span_columns}, SpanList.{FitsAtForce, IsForce, IsCost}, Rows.IsRowFrom}
 
 one_reach : (o : Option Reach) → IsProp ((s : Reach) × (o ≡ Some s))
 one_reach o a b = Σ_prop_path (λ s. hlevel props) (same_Some a.0 b.0 (sym a.1 ∙ b.1))
@@ -42,7 +42,7 @@ module _ {C : Type 0} (reach : C → ℕ → Option Reach) (len : C → ℕ → 
   ]
 
   -- columns that a force presses can stand
-  pub can_stand : (columns : List C) (force : ℕ) → ((c : C) → len c 0 ≤ len c force) → IsForce reach len gaps width columns force → StandsAt reach len gaps width 0 columns
+  pub can_stand : (columns : List C) (force : ℕ) → ((c : C) → len c 0 ≤ len c force) → IsForce reach len gaps width columns force → FitsAtForce reach len gaps width 0 columns
   can_stand columns force rises h =
       let spring = length_at len columns in
       let at = stands (length columns) (reach_at reach columns) gaps spring width force h.fits in record {

@@ -1,7 +1,7 @@
 ghost use Rattle.std.specs.Prelude.{◌≡◌, ◌+◌, ◌≤◌, ℕ, Option, IfOk, IfErr, length, slice_index_or};
 ghost use Rattle.{lay_breaks.specs.{Answers.IsCause, Breaking.IsChosen, Breaking.sum_from, Breaking.IsPotential, Spans.listed}, lay_spans.specs.Forced.{is_forced}};
 
-use crate::costs::{SpanCosts, Spans};
+use crate::costs::{SpanCosts, FittingSpans};
 use crate::marks::marks_of;
 use lay_breaks::{BreakError, Breaking, least};
 use mus_units::Memory;
@@ -14,7 +14,7 @@ use std::alloc::Global;
 /// exactly where no breaking is legal.
 pub fn break_of(
     alloc: Global,
-    spans: &Spans,
+    spans: &FittingSpans,
     forced: &[u32],
     n: u32,
 ) -> Result<Breaking, BreakError>

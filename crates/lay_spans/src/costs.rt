@@ -8,7 +8,7 @@ use mus_units::Row;
 /// The spans that fit, as a list by the bar after which they begin and then by the bar
 /// with which they end, and as rows of what they cost.
 #[derive(Drop)]
-pub struct Spans {
+pub struct FittingSpans {
     pub list: Row<Span>,
     pub rows: Rows,
     pub ghost same: { (a b : ℕ) → cost_in rows.rows a b ≡ listed list a b } by { Prim.hlevel props },

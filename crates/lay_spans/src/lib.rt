@@ -7,7 +7,7 @@
 pub mod breaks;
 pub mod costs;
 pub mod forces;
-pub mod lent;
+pub mod borrowed;
 mod maker;
 mod marks;
 pub mod rows;
@@ -15,8 +15,8 @@ pub mod seen;
 pub mod spans;
 
 pub use breaks::break_of;
-pub use costs::Spans;
+pub use costs::FittingSpans;
 pub use forces::{badness, most_force};
-pub use lent::Lent;
-pub use seen::Seen;
+pub use borrowed::BorrowedColumns;
+pub use seen::BorrowedColumn;
 pub use spans::{columns_in, spans_of};

@@ -1,7 +1,7 @@
 ghost use Rattle.std.specs.Prelude.{◌≡◌, ◌+◌, ◌<◌, ◌≤◌, ◌^◌, ℕ, length, slice_index, slice_index_or, false};
 ghost use Rattle.{lay_spans.specs.{Columns.AreMeasures, Rows.IsRowFrom, Single.{measures_prop, one_row, row_small}}, lay_springs.proofs.Ends.{spring_rises}};
 
-use crate::lent::Lent;
+use crate::borrowed::BorrowedColumns;
 use crate::rows::row_from;
 use lay_rows::RowMaker;
 use lay_springs::{Spaced, Spring};
@@ -13,7 +13,7 @@ use std::alloc::Global;
 pub(crate) struct SpanMaker<'a, C: Spaced + Spring> {
     pub(crate) alloc: Global,
     pub(crate) starts: &'a [Row<C>],
-    pub(crate) others: &'a [Lent<'a, C>],
+    pub(crate) others: &'a [BorrowedColumns<'a, C>],
     pub(crate) gaps: &'a [u32],
     pub(crate) width: u32,
     pub(crate) marks: &'a [bool],

@@ -1,10 +1,10 @@
 ghost use Rattle.std.specs.Prelude.{◌≡◌, ◌+◌, ◌-◌, ◌<◌, ◌≤◌, ◌^◌, ◌++◌, ℕ, IfNone, IfOk, IfSome, OnOk, length, map, slice_index, slice_index_or, false, []};
 ghost use Rattle.lay_springs.specs.{Fit.most_columns, Place.{reach_at, length_at, HasPlaced}};
-ghost use Rattle.lay_spans.specs.{Columns.measures_from, Columns.AreMeasures, Rows.IsRowFrom, Rows.row_spans, Rows.rows_spans, SpanList.FitsAt, SpanList.StandsAt};
+ghost use Rattle.lay_spans.specs.{Columns.measures_from, Columns.AreMeasures, Rows.IsRowFrom, Rows.row_spans, Rows.rows_spans, SpanList.FitsAt, SpanList.FitsAtForce};
 
 use crate::forces::badness;
-use crate::lent::Lent;
-use crate::seen::Seen;
+use crate::borrowed::BorrowedColumns;
+use crate::seen::BorrowedColumn;
 use lay_breaks::Span;
 use lay_springs::{Progress, Spaced, Spring, fit_within, most_columns};
 use mus_units::{Memory, Row};
@@ -37,8 +37,8 @@ fn greatest_force<C: Spaced + Spring>(
     ensures placed { HasPlaced (length cols.now) (reach_at C.reach_of cols.now) gaps.now (length_at C.length_of cols.now) placed.new at.new front.new }
     ensures bound { IfSome result (λ f. f ≤ most) }
     ensures fits { IfSome result (λ f. FitsAt C.reach_of C.length_of gaps.now width f cols.now) }
-    ensures greatest { IfSome result (λ f. (g : ℕ) → f < g → g ≤ most → StandsAt C.reach_of C.length_of gaps.now width g cols.now → ⊥) }
-    ensures none { IfNone result (StandsAt C.reach_of C.length_of gaps.now width 0 cols.now → ⊥) }
+    ensures greatest { IfSome result (λ f. (g : ℕ) → f < g → g ≤ most → FitsAtForce C.reach_of C.length_of gaps.now width g cols.now → ⊥) }
+    ensures none { IfNone result (FitsAtForce C.reach_of C.length_of gaps.now width 0 cols.now → ⊥) }
 {
     if most_columns(width) < cols.len() {
         return None;
@@ -49,7 +49,7 @@ fn greatest_force<C: Spaced + Spring>(
 /// The columns of measure `m` in a system that begins at bar `a`.
 pub(crate) fn measure<'a, C>(
     starts: &'a [Row<C>],
-    others: &'a [Lent<'a, C>],
+    others: &'a [BorrowedColumns<'a, C>],
     a: usize,
     m: usize,
 ) -> &'a [C]
@@ -68,13 +68,13 @@ pub(crate) fn measure<'a, C>(
 
 /// Adds columns to those that are seen.
 pub(crate) fn see<'a, C: Spaced + Spring>(
-    seen: &mut Row<Seen<'a, C>>,
+    seen: &mut Row<BorrowedColumn<'a, C>>,
     columns: &'a [C],
 ) -> Result<(), Memory>
     ensures { OnOk result (map (λ s. s.column.now) seen.new ≡ map (λ s. s.column.now) seen.old ++ columns.now) }
 {
     for column in columns {
-        seen.push(Seen::of(column))?;
+        seen.push(BorrowedColumn::of(column))?;
     }
     Ok(())
 }
@@ -85,7 +85,7 @@ pub(crate) fn see<'a, C: Spaced + Spring>(
 pub(crate) fn row_from<'a, C: Spaced + Spring>(
     alloc: Global,
     starts: &'a [Row<C>],
-    others: &'a [Lent<'a, C>],
+    others: &'a [BorrowedColumns<'a, C>],
     gaps: &[u32],
     width: u32,
     marks: &[bool],

@@ -1,25 +1,25 @@
 ghost use Rattle.std.{specs.Prelude.{◌≡◌, ◌*◌, ◌/◌}, proofs.Props.{props}};
-ghost use Rattle.lay_springs.specs.Stands.{TellsReach};
+ghost use Rattle.lay_springs.specs.ReachView.{TellsReach};
 
-use lay_springs::{Spaced, Spring, Stands};
+use lay_springs::{Spaced, Spring, ReachView};
 
 /// A borrowed column, with the reaches and the spring of the column itself: where it stands and the
 /// natural length of its spring are at hand.
 #[derive(Drop)]
-pub struct Seen<'a, C: Spaced + Spring> {
+pub struct BorrowedColumn<'a, C: Spaced + Spring> {
     pub column: &'a C,
-    stands: Stands<'a>,
+    stands: ReachView<'a>,
     natural: u32,
     pub ghost told: { TellsReach stands (C.reach_of column.now) } by { Prim.hlevel props },
     pub ghost sprung: { natural ≡ C.length_of column.now 256 },
 }
 
-impl<'a, C: Spaced + Spring> Seen<'a, C> {
+impl<'a, C: Spaced + Spring> BorrowedColumn<'a, C> {
     /// A column as it is seen.
-    pub(crate) fn of(column: &'a C) -> Seen<'a, C>
+    pub(crate) fn of(column: &'a C) -> BorrowedColumn<'a, C>
         ensures { result.column.now ≡ column.now }
     {
-        Seen {
+        BorrowedColumn {
             column,
             stands: column.stands(),
             natural: column.length(256),
@@ -27,17 +27,17 @@ impl<'a, C: Spaced + Spring> Seen<'a, C> {
     }
 }
 
-impl<'a, C: Spaced + Spring> Spaced for Seen<'a, C> {
+impl<'a, C: Spaced + Spring> Spaced for BorrowedColumn<'a, C> {
     ghost reach_of = { λ s lane. C.reach_of s.column.now lane };
 
-    fn stands(&self) -> Stands<'_> {
+    fn stands(&self) -> ReachView<'_> {
         self.stands
     }
 
     ghost is_near = { λ s lane l. C.is_near s.column.now lane l };
 }
 
-impl<'a, C: Spaced + Spring> Spring for Seen<'a, C> {
+impl<'a, C: Spaced + Spring> Spring for BorrowedColumn<'a, C> {
     ghost length_of = { λ s force. C.length_of s.column.now force };
 
     fn length(&self, force: u16) -> u32 {

@@ -1,12 +1,12 @@
 ghost use Rattle.std.specs.Prelude.{◌≡◌, ◌+◌, ◌<◌, ◌≤◌, ◌^◌, ℕ, IfOk, length, map, slice_index};
 ghost use Rattle.{lay_breaks.specs.Spans.{AreSpans}, lay_spans.specs.{Columns.AreMeasures, Columns.span_columns, Forced.is_forced, SpanList.IsSpanList}};
 
-use crate::costs::Spans;
-use crate::lent::Lent;
+use crate::costs::FittingSpans;
+use crate::borrowed::BorrowedColumns;
 use crate::maker::SpanMaker;
 use crate::marks::marks_of;
 use crate::rows::{MOST_OFTEN, list_rows, measure, see};
-use crate::seen::Seen;
+use crate::seen::BorrowedColumn;
 use eng_jobs::Jobs;
 use lay_rows::make_rows;
 use lay_springs::{Spaced, Spring};
@@ -28,12 +28,12 @@ pub fn spans_of<'a, R: Threads + Sync, C: Spaced + Spring + Sync>(
     rt: &R,
     alloc: Global,
     starts: &'a [Row<C>],
-    others: &'a [Lent<'a, C>],
+    others: &'a [BorrowedColumns<'a, C>],
     gaps: &[u32],
     width: u32,
     forced: &[u32],
     jobs: Jobs,
-) -> Result<Spans, Memory>
+) -> Result<FittingSpans, Memory>
     requires measures { AreMeasures C.reach_of (length gaps.now) starts.now others.now }
     requires lanes { length gaps.now < 2 ^ 32 }
     requires narrow { (lane : ℕ) → lane < length gaps.now → slice_index gaps.now lane ≤ 2 ^ 20 }
@@ -53,17 +53,17 @@ pub fn spans_of<'a, R: Threads + Sync, C: Spaced + Spring + Sync>(
     };
     let rows = make_rows(rt, alloc, &maker, starts.len() as u32, jobs)?;
     let list = list_rows(alloc, rows.rows.as_slice())?;
-    Ok(Spans { list, rows })
+    Ok(FittingSpans { list, rows })
 }
 
 /// The columns of the span from bar `a` to bar `b`, as `spans_of` has it, in order.
 pub fn columns_in<'a, C: Spaced + Spring>(
     alloc: Global,
     starts: &'a [Row<C>],
-    others: &'a [Lent<'a, C>],
+    others: &'a [BorrowedColumns<'a, C>],
     a: usize,
     b: usize,
-) -> Result<Row<Seen<'a, C>>, Memory>
+) -> Result<Row<BorrowedColumn<'a, C>>, Memory>
     requires order { a < b }
     requires within { b ≤ length starts.now }
     requires same { length others.now ≡ length starts.now }

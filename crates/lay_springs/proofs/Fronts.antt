@@ -1,6 +1,6 @@
 -- What stands furthest right in each lane.
 use Rattle.std.proofs.{Common.{get_or-set_same, get_or-set_other, slice_set, ◌≡◌, ℕ, ◌+◌, ◌*◌, ◌^◌, ◌<◌, ◌≤◌, inl, inr, ℤ, pos, negsuc, ◌+ℤ◌, ◌≤ℤ◌, List, length, Option, None, Some, IfSome, slice_index, slice_index_or, sym, ap, ◌∙◌, arith, subst, refl}, lemmas.{Bool.{cases_eq, eq-eqb, ne_eqb}, Int.ints, Option.{same_Some, none-some, slice_get_past}}}
-use Rattle.lay_springs.{specs.{declared.traits.{Reach.Reach, Stand.Stand, Stands.Stands}, Stands.{IsLone, TellsReach, reach_in}, Place.{IsClear, StandApart, IsPlacedTo, IsFront, IsPast, IsSomewhere, Advances}}, proofs.Clear.below_or_at}
+use Rattle.lay_springs.{specs.{declared.traits.{Reach.Reach, LaneReach.LaneReach, ReachView.ReachView}, ReachView.{IsLone, TellsReach, reach_in}, Place.{IsClear, StandApart, IsPlacedTo, AreFrontiers, IsPast, IsSomewhere, Advances}}, proofs.Clear.below_or_at}
 
 abbrev at : List ℤ → ℕ → ℤ
 at x k = slice_index_or x k (pos 0)
@@ -14,7 +14,7 @@ past_more reach gaps lane front old new s es l m h k u lt eu =
     eu
 
 module _ (reach : ℕ → ℕ → Option Reach) (gaps : List ℕ) (spring : ℕ → ℕ → ℕ) (force natural count j : ℕ) (x front : List ℤ)
-    (placed : IsPlacedTo j reach gaps spring force natural count x) (fronts : IsFront j reach (length gaps) x front) where
+    (placed : IsPlacedTo j reach gaps spring force natural count x) (fronts : AreFrontiers j reach (length gaps) x front) where
   pub front_clear : (v : ℤ) → IsPast (reach j) gaps (length gaps) front v → (i : ℕ) → i < j → IsClear (reach i) (reach j) gaps (length gaps) (at x i) v
   front_clear v past i l lane r s lt er es = let c = fronts.covers lane i r lt l er in let low = (placed.small i l).0 in let p = past lane s lt es (omega (arith, ints)) in omega (arith, ints)
 
@@ -50,8 +50,8 @@ module _ (reach : ℕ → ℕ → Option Reach) (lanes j : ℕ) (v : ℤ) where
   module _ (x x' front front' : List ℤ) (same : (k : ℕ) → k < j → at x' k ≡ at x k) (here : at x' j ≡ v) (low : pos 0 ≤ℤ v) (high : v ≤ℤ pos (2 ^ 60))
       (near : (lane : ℕ) → lane < lanes → IfSome (reach j lane) (λ r. (r.left ≤ 1048576) × (r.right ≤ 1048576)))
       (advances : (lane : ℕ) → lane < lanes → Advances (reach j lane) v (at front lane) (at front' lane))
-      (fronts : IsFront j reach lanes x front) where
-    pub front_more : IsFront (j + 1) reach lanes x' front'
+      (fronts : AreFrontiers j reach lanes x front) where
+    pub front_more : AreFrontiers (j + 1) reach lanes x' front'
     front_more = record {
       covers = λ lane k r lt l e. below_or_at (λ k. reach k lane ≡ Some r → (at x' k +ℤ pos r.right) ≤ℤ at front' lane) k j l
           (λ l e. let c = fronts.covers lane k r lt l e in let s = same k l in let u = one_covers (reach j lane) _ _ (advances lane lt) in omega (arith, ints))
@@ -88,7 +88,7 @@ pub none_past : (row : List (Option Reach)) (lane : ℕ) → length row ≤ lane
 unfolding reach_in
 none_past row lane l = rw (slice_get_past row lane l) refl
 
-pub front_start : (reach : ℕ → ℕ → Option Reach) (lanes : ℕ) (x front : List ℤ) → ((lane : ℕ) → lane < lanes → at front lane ≡ negsuc 1099511627775) → IsFront 0 reach lanes x front
+pub front_start : (reach : ℕ → ℕ → Option Reach) (lanes : ℕ) (x front : List ℤ) → ((lane : ℕ) → lane < lanes → at front lane ≡ negsuc 1099511627775) → AreFrontiers 0 reach lanes x front
 front_start reach lanes x front h = record {
   covers = λ lane k r lt l e. absurd (omega arith);
   stands = λ lane lt some. let e = h lane lt in absurd (omega (arith, ints));
@@ -97,14 +97,14 @@ front_start reach lanes x front h = record {
 }
 
 -- what tells of one lane tells that it stands there alone
-pub lone_told : (stand : Stand) (reach : ℕ → Option Reach) → TellsReach (Stands.Lone stand) reach → stand.lane < 4294967296 → IsLone reach stand
+pub lone_told : (stand : LaneReach) (reach : ℕ → Option Reach) → TellsReach (ReachView.OneLane stand) reach → stand.lane < 4294967296 → IsLone reach stand
 lone_told stand reach told few = record {
   here = let same = eq-eqb stand.lane stand.lane refl in sym (told stand.lane few) ∙ rw same refl;
   alone = λ lane l other. let apart = ne_eqb lane stand.lane other in sym (told lane (omega arith)) ∙ rw apart refl;
 }
 
 -- a column that stands in one lane alone is past all that stands before it where it is past what stands in that lane
-pub lone_clear : (reach : ℕ → Option Reach) (stand : Stand) (gaps : List ℕ) (front : List ℤ) (v : ℤ) → IsLone reach stand → length gaps < 4294967296
+pub lone_clear : (reach : ℕ → Option Reach) (stand : LaneReach) (gaps : List ℕ) (front : List ℤ) (v : ℤ) → IsLone reach stand → length gaps < 4294967296
     → (pos 0 ≤ℤ at front stand.lane → (at front stand.lane +ℤ pos (slice_index gaps stand.lane + stand.reach.left)) ≤ℤ v) → IsPast reach gaps (length gaps) front v
 lone_clear reach stand gaps front v lone few past lane s l es some = elim (cases_eq lane stand.lane) [
   | inl same ↦ (let is : s ≡ stand.reach = same_Some s stand.reach (sym es ∙ (ap reach same ∙ lone.here)) in rw (is, same) (past (rw same at some)))
@@ -112,7 +112,7 @@ lone_clear reach stand gaps front v lone few past lane s l es some = elim (cases
 ]
 
 -- a column that stands in one lane alone, at v, ends there past what stood in it before
-pub lone_noted : (reach : ℕ → Option Reach) (stand : Stand) (front : List ℤ) (v : ℤ) → IsLone reach stand → length front < 4294967296 → stand.lane < length front
+pub lone_noted : (reach : ℕ → Option Reach) (stand : LaneReach) (front : List ℤ) (v : ℤ) → IsLone reach stand → length front < 4294967296 → stand.lane < length front
     → at front stand.lane ≤ℤ v → (lane : ℕ) → lane < length front → Advances (reach lane) v (at front lane) (at (slice_set front stand.lane (v +ℤ pos stand.reach.right)) lane)
 lone_noted reach stand front v lone few inside behind lane l = elim (cases_eq lane stand.lane) [
   | inl same ↦ rw (same, lone.here, get_or-set_same front stand.lane (v +ℤ pos stand.reach.right) (pos 0) inside) (omega (arith, ints), omega (arith, ints), inr refl)

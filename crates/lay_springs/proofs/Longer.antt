@@ -1,8 +1,8 @@
 -- Columns that continue others: they need more room, and those are still placed.
 use Rattle.std.proofs.{Common.{◌≡◌, ℕ, zero, suc, ◌+◌, ◌-◌, ◌*◌, ◌<◌, ◌≤◌, ℤ, pos, ◌≤ℤ◌, List, [], ◌∷◌, ◌++◌, length, Option, option_map, option_and_then, unwrap_or, slice_get, slice_index_or, arith, sym, ◌∙◌, ap, subst, refl, length-append}, lemmas.{Int.ints, List.get_or_append_left, Nat.le-div}}
-use Rattle.lay_springs.{specs.{declared.{traits.Reach.Reach, progress.Progress.Progress}, Place.{reach_at, length_at, StandApart, IsFirst, HasPlaced}, Fit.{Fits, Passes, CanStand, StandsInAll, LongerFitsLess, most_columns}}, proofs.{Ends.apart_down, Moved.moved_apart}}
+use Rattle.lay_springs.{specs.{declared.{traits.Reach.Reach, progress.Progress.Progress}, Place.{reach_at, length_at, StandApart, IsFirst, HasPlaced}, Fit.{Fits, Passes, CanStandWithin, StandsInAll, LongerFitsLess, most_columns}}, proofs.{Ends.apart_down, Moved.moved_apart}}
 
-pub stands : (n : ℕ) (reach : ℕ → ℕ → Option Reach) (gaps : List ℕ) (spring : ℕ → ℕ → ℕ) (width force : ℕ) → Fits n reach gaps spring width force → CanStand n reach gaps spring width force
+pub stands : (n : ℕ) (reach : ℕ → ℕ → Option Reach) (gaps : List ℕ) (spring : ℕ → ℕ → ℕ) (width force : ℕ) → Fits n reach gaps spring width force → CanStandWithin n reach gaps spring width force
 stands n reach gaps spring width force h = record {
   y = h.1.x;
   apart = h.1.place.apart;
@@ -11,7 +11,7 @@ stands n reach gaps spring width force h = record {
 }
 
 pub cannot_stand : (n : ℕ) (reach : ℕ → ℕ → Option Reach) (gaps : List ℕ) (spring : ℕ → ℕ → ℕ) (width f g : ℕ) → 0 < n → ((i : ℕ) → spring f i ≤ spring g i)
-    → Passes n reach gaps spring width f → CanStand n reach gaps spring width g → ⊥
+    → Passes n reach gaps spring width f → CanStandWithin n reach gaps spring width g → ⊥
 cannot_stand n reach gaps spring width f g some le p h =
     let last = p.1.place.least h.y (apart_down n reach gaps (spring f) (spring g) h.y le h.apart) (n - 1) (omega arith) in
     let d = p.1.end.least (pos width) (let q = h.past in omega (arith, ints))
@@ -29,7 +29,7 @@ spaced n reach gaps spring y h zero l = h.begins l
 spaced n reach gaps spring y h (suc d) l = let ih = spaced n reach gaps spring y h d (omega arith) in let s = h.steps d (omega arith) in let e : d + 1 ≡ suc d = omega arith in let s' = rw e at s in omega (arith, ints)
 
 -- so few stand within a width
-pub stand_few : (n : ℕ) (reach : ℕ → ℕ → Option Reach) (gaps : List ℕ) (spring : ℕ → ℕ → ℕ) (width force : ℕ) → 0 < n → CanStand n reach gaps spring width force → n ≤ most_columns width
+pub stand_few : (n : ℕ) (reach : ℕ → ℕ → Option Reach) (gaps : List ℕ) (spring : ℕ → ℕ → ℕ) (width force : ℕ) → 0 < n → CanStandWithin n reach gaps spring width force → n ≤ most_columns width
 stand_few n reach gaps spring width force some h =
     let last = spaced n reach gaps (spring force) h.y h.apart (n - 1) (omega arith) in let end = h.past in let parts = le-div (n - 1) width 100 (omega arith) (omega (arith, ints)) in omega (arith, parts)
 
@@ -46,7 +46,7 @@ fewer_apart n m reach reach' gaps spring spring' y few same len h = record {
 
 pub stand_prefix : (n m : ℕ) (reach reach' : ℕ → ℕ → Option Reach) (gaps : List ℕ) (spring spring' : ℕ → ℕ → ℕ) (width force : ℕ) → 0 < n → n < m
     → ((i lane : ℕ) → i < n → reach' i lane ≡ reach i lane) → ((i : ℕ) → i < n → spring' force i ≡ spring force i) → StandsInAll (reach' (m - 1)) (length gaps)
-    → CanStand m reach' gaps spring' width force → CanStand n reach gaps spring width force
+    → CanStandWithin m reach' gaps spring' width force → CanStandWithin n reach gaps spring width force
 stand_prefix n m reach reach' gaps spring spring' width force some longer same len all h = record {
   y = h.y;
   apart = fewer_apart n m reach reach' gaps (spring force) (spring' force) h.y (omega arith) same len h.apart;

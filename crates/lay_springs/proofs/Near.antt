@@ -1,6 +1,6 @@
 -- How far columns come nearer where the force falls.
 use Rattle.std.{specs.Int.int_max, proofs.{Common.{◌≡◌, ◌≢◌, ℕ, min, ◌+◌, ◌-◌, ◌*◌, ◌/◌, ◌<◌, ◌≤◌, ℤ, pos, ◌+ℤ◌, ◌≤ℤ◌, ◌⊎◌, inl, inr, List, length, Option, slice_index_or, arith}, lemmas.Int.{ints, clamps}, Math.Nat.{mul-le-mul_right, mul-add, add-mul}}}
-use Rattle.lay_springs.{specs.{declared.traits.Reach.Reach, Place.{IsNear, slack}, Fit.{IsEndOf, CanStand}}}
+use Rattle.lay_springs.{specs.{declared.traits.Reach.Reach, Place.{IsNearLeast, slack}, Fit.{IsEndOf, CanStandWithin}}}
 
 parts : (a b c k : ℕ) → (a + 255 * min k a) / 256 + (b + c) / 256 ≤ b / 256 + (a + c + 255 * min (k + 1) (a + c)) / 256
 parts a b c k = omega arith
@@ -27,8 +27,8 @@ next_near natural count natural' count' n g drop before next y z held old spring
 
 -- where columns can stand at a lesser force, they end so near at this one
 pub end_near : (n : ℕ) (reach : ℕ → ℕ → Option Reach) (gaps : List ℕ) (spring : ℕ → ℕ → ℕ) (force natural count : ℕ) (x : List ℤ) (e : ℤ) → 0 < n
-    → IsNear n reach gaps spring force natural count x → IsEndOf (reach (n - 1)) (length gaps) (slice_index_or x (n - 1) (pos 0)) e
-    → (g drop width : ℕ) → g + drop ≡ force → CanStand n reach gaps spring width g → e ≤ℤ pos (width + slack natural count drop)
+    → IsNearLeast n reach gaps spring force natural count x → IsEndOf (reach (n - 1)) (length gaps) (slice_index_or x (n - 1) (pos 0)) e
+    → (g drop width : ℕ) → g + drop ≡ force → CanStandWithin n reach gaps spring width g → e ≤ℤ pos (width + slack natural count drop)
 end_near n reach gaps spring force natural count x e some near end g drop width is stands =
     let last = near g drop stands.y is stands.apart (n - 1) (omega arith) in let past = stands.past in
     end.least (pos (width + slack natural count drop)) (omega (arith, ints))

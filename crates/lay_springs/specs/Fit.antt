@@ -40,7 +40,7 @@ abbrev pub counted : Bool → ℕ → ℕ
 counted last force = if is_ragged last force then 256 else force
 
 -- some list of abscissas keeps the columns apart at a force and within the width
-pub record CanStand (n : ℕ) (reach : ℕ → ℕ → Option Reach) (gaps : List ℕ) (spring : ℕ → ℕ → ℕ) (width force : ℕ) : Type 0 where
+pub record CanStandWithin (n : ℕ) (reach : ℕ → ℕ → Option Reach) (gaps : List ℕ) (spring : ℕ → ℕ → ℕ) (width force : ℕ) : Type 0 where
   pub y : List ℤ
   pub apart : StandApart n reach gaps (spring force) y
   pub past : slice_index_or y (n - 1) (pos 0) ≤ℤ pos width
@@ -57,4 +57,4 @@ StandsInAll reach lanes = (lane : ℕ) → lane < lanes → (s : Reach) × (reac
 -- a longer list of columns, whose last stands in each lane, can't stand within a width where a list that it continues can't
 abbrev pub LongerFitsLess : {C : Type 0} → (C → ℕ → Option Reach) → (C → ℕ → ℕ) → Type 0
 LongerFitsLess {C} reach len = (short rest : List C) (gaps : List ℕ) (width force : ℕ) → 0 < length short → 0 < length rest → StandsInAll (reach_at reach (short ++ rest) (length (short ++ rest) - 1)) (length gaps)
-    → CanStand (length (short ++ rest)) (reach_at reach (short ++ rest)) gaps (length_at len (short ++ rest)) width force → CanStand (length short) (reach_at reach short) gaps (length_at len short) width force
+    → CanStandWithin (length (short ++ rest)) (reach_at reach (short ++ rest)) gaps (length_at len (short ++ rest)) width force → CanStandWithin (length short) (reach_at reach short) gaps (length_at len short) width force

@@ -44,8 +44,8 @@ abbrev pub slack : ℕ → ℕ → ℕ → ℕ
 slack natural count drop = (natural * drop + 255 * min count (natural * drop)) / 256
 
 -- no list that keeps n columns apart at a force that is less by `drop` is further below x
-abbrev pub IsNear : ℕ → (ℕ → ℕ → Option Reach) → List ℕ → (ℕ → ℕ → ℕ) → ℕ → ℕ → ℕ → List ℤ → Type 0
-IsNear n reach gaps spring force natural count x = (g drop : ℕ) (y : List ℤ) → g + drop ≡ force → StandApart n reach gaps (spring g) y
+abbrev pub IsNearLeast : ℕ → (ℕ → ℕ → Option Reach) → List ℕ → (ℕ → ℕ → ℕ) → ℕ → ℕ → ℕ → List ℤ → Type 0
+IsNearLeast n reach gaps spring force natural count x = (g drop : ℕ) (y : List ℤ) → g + drop ≡ force → StandApart n reach gaps (spring g) y
     → (k : ℕ) → k < n → slice_index_or x k (pos 0) ≤ℤ (slice_index_or y k (pos 0) +ℤ pos (slack natural count drop))
 
 -- x is the pointwise least of the lists that keep the columns apart
@@ -58,7 +58,7 @@ pub record IsPlace (n : ℕ) (reach : ℕ → ℕ → Option Reach) (gaps : List
 pub record IsPlacedTo (j : ℕ) (reach : ℕ → ℕ → Option Reach) (gaps : List ℕ) (spring : ℕ → ℕ → ℕ) (force natural count : ℕ) (x : List ℤ) : Type 0 where
   pub apart : StandApart j reach gaps (spring force) x
   pub first : 0 < j → IsFirst (reach 0) (length gaps) (slice_index_or x 0 (pos 0))
-  pub near : IsNear j reach gaps spring force natural count x
+  pub near : IsNearLeast j reach gaps spring force natural count x
   pub small : (k : ℕ) → k < j → (pos 0 ≤ℤ slice_index_or x k (pos 0)) × (slice_index_or x k (pos 0) ≤ℤ pos (1048576 + 3145728 * k))
 
 -- something stands there, or it is further to the left than any rod reaches
@@ -66,7 +66,7 @@ abbrev pub IsSomewhere : ℤ → Type 0
 IsSomewhere end = (pos 0 ≤ℤ end) ⊎ (end ≤ℤ negsuc 1099511627775)
 
 -- front has for each lane the greatest abscissa plus right reach of the first j columns in it, or a number far below 0 where none stands in it
-pub record IsFront (j : ℕ) (reach : ℕ → ℕ → Option Reach) (lanes : ℕ) (x front : List ℤ) : Type 0 where
+pub record AreFrontiers (j : ℕ) (reach : ℕ → ℕ → Option Reach) (lanes : ℕ) (x front : List ℤ) : Type 0 where
   pub covers : (lane k : ℕ) (r : Reach) → lane < lanes → k < j → reach k lane ≡ Some r → (slice_index_or x k (pos 0) +ℤ pos r.right) ≤ℤ slice_index_or front lane (pos 0)
   pub stands : (lane : ℕ) → lane < lanes → pos 0 ≤ℤ slice_index_or front lane (pos 0)
       → (k : ℕ) × (r : Reach) × (k < j) × (reach k lane ≡ Some r) × (slice_index_or front lane (pos 0) ≡ (slice_index_or x k (pos 0) +ℤ pos r.right))
@@ -78,7 +78,7 @@ pub record HasPlaced (n : ℕ) (reach : ℕ → ℕ → Option Reach) (gaps : Li
   pub within : p.count ≤ n
   pub tight : (p.tight.natural ≤ 4096 * p.count) × (p.tight.count ≤ p.count)
   pub placed : IsPlacedTo p.count reach gaps spring p.force p.tight.natural p.tight.count x
-  pub front : 0 < p.count → IsFront p.count reach (length gaps) x fronts
+  pub front : 0 < p.count → AreFrontiers p.count reach (length gaps) x fronts
 
 -- a column at v is clear of what stands before it in each lane
 abbrev pub IsPast : (ℕ → Option Reach) → List ℕ → ℕ → List ℤ → ℤ → Type 0

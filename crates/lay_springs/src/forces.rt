@@ -1,8 +1,8 @@
 ghost use Rattle.std.specs.Prelude.{◌≡◌, ◌+◌, ◌^◌, ◌<◌, ◌≤◌, ℕ, ℤ, pos, ◌≤ℤ◌, IfSome, IfNone, length, slice_index, slice_index_or};
-ghost use Rattle.lay_springs.specs.{Fit.{IsEndOf, Fits, CanStand, LongerFitsLess, Passes, most_columns}, Place.{reach_at, length_at, HasPlaced}};
+ghost use Rattle.lay_springs.specs.{Fit.{IsEndOf, Fits, CanStandWithin, LongerFitsLess, Passes, most_columns}, Place.{reach_at, length_at, HasPlaced}};
 
 use crate::guesses::{highest, lowered, too_long};
-use crate::least::{larger, place_to, settle};
+use crate::least::{larger, place_to, place_all};
 use crate::progress::Progress;
 use crate::traits::{Spaced, Spring};
 
@@ -46,9 +46,9 @@ fn too_great<C: Spaced + Spring>(
     ensures fits { IfNone result (Fits (length cols.now) (reach_at C.reach_of cols.now) gaps.now (length_at C.length_of cols.now) width force) }
     ensures below { IfSome result (λ past. past ≤ force) }
     ensures never { IfSome result (λ past. (g : ℕ) → past ≤ g
-        → CanStand (length cols.now) (reach_at C.reach_of cols.now) gaps.now (length_at C.length_of cols.now) width g → ⊥) }
+        → CanStandWithin (length cols.now) (reach_at C.reach_of cols.now) gaps.now (length_at C.length_of cols.now) width g → ⊥) }
 {
-    *placed = settle(cols, gaps, force, at, front, *placed);
+    *placed = place_all(cols, gaps, force, at, front, *placed);
     let last = cols.len() - 1;
     let end = end_of(&cols[last], gaps.len(), at[last]);
     if end <= i64::from(width) {
@@ -106,7 +106,7 @@ pub fn fit_within<C: Spaced + Spring>(
     ensures bound { IfSome result (λ f. f ≤ most) }
     ensures fits { IfSome result (Fits (length cols.now) (reach_at C.reach_of cols.now) gaps.now (length_at C.length_of cols.now) width) }
     ensures greatest { IfSome result (λ f. (g : ℕ) → f < g → g ≤ most
-        → CanStand (length cols.now) (reach_at C.reach_of cols.now) gaps.now (length_at C.length_of cols.now) width g → ⊥) }
+        → CanStandWithin (length cols.now) (reach_at C.reach_of cols.now) gaps.now (length_at C.length_of cols.now) width g → ⊥) }
     ensures none { IfNone result (Passes (length cols.now) (reach_at C.reach_of cols.now) gaps.now (length_at C.length_of cols.now) width 0) }
 {
     let mut low = 0;

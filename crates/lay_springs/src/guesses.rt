@@ -1,12 +1,12 @@
 ghost use Rattle.std.specs.Prelude.{◌≡◌, ◌+◌, ◌-◌, ◌*◌, ◌<◌, ◌≤◌, ◌^◌, ℕ, ℤ, List, pos, ◌+ℤ◌, ◌≤ℤ◌, length, slice_index_or};
-ghost use Rattle.lay_springs.specs.{Fit.CanStand, Place.{reach_at, length_at, slack, IsNear, StandApart}};
+ghost use Rattle.lay_springs.specs.{Fit.CanStandWithin, Place.{reach_at, length_at, slack, IsNearLeast, StandApart}};
 
-use crate::progress::{Progress, Tight};
+use crate::progress::{Progress, TightSprings};
 use crate::traits::{Spaced, Spring};
 
 /// A force from which on none but `force` itself lets columns end within a width that they pass
 /// by `over` at `force`.
-pub(crate) fn lowered(force: u16, over: u64, tight: Tight) -> u16
+pub(crate) fn lowered(force: u16, over: u64, tight: TightSprings) -> u16
     requires over { over ≤ 2 ^ 49 }
     requires few { tight.count ≤ 2 ^ 26 }
     requires natural { tight.natural ≤ 2 ^ 38 }
@@ -36,7 +36,7 @@ pub(crate) fn highest(low: u16, high: u16, half: u16) -> u16
 /// that hold it there.
 struct Stretch {
     end: i64,
-    springs: Tight,
+    springs: TightSprings,
 }
 
 /// Behind the columns that are placed springs alone. However the columns stand apart at that force,
@@ -53,7 +53,7 @@ fn stretched<C: Spaced + Spring>(cols: &[C], at: &[i64], placed: Progress) -> St
     ensures few { result.springs.count ≤ 2 ^ 26 }
     ensures natural { result.springs.natural ≤ 2 ^ 38 }
     ensures small { (pos 0 ≤ℤ result.end) × (result.end ≤ℤ pos (2 ^ 48)) }
-    ensures near { (gaps : List ℕ) → IsNear placed.count (reach_at C.reach_of cols.now) gaps (length_at C.length_of cols.now) placed.force placed.tight.natural placed.tight.count at.now
+    ensures near { (gaps : List ℕ) → IsNearLeast placed.count (reach_at C.reach_of cols.now) gaps (length_at C.length_of cols.now) placed.force placed.tight.natural placed.tight.count at.now
         → (g drop : ℕ) (y : List ℤ) → g + drop ≡ placed.force → StandApart (length cols.now) (reach_at C.reach_of cols.now) gaps (length_at C.length_of cols.now g) y
         → result.end ≤ℤ (slice_index_or y (length cols.now - 1) (pos 0) +ℤ pos (slack result.springs.natural result.springs.count drop)) }
 {
@@ -84,8 +84,8 @@ pub(crate) fn too_long<C: Spaced + Spring>(
     requires small { slice_index_or at.now (placed.count - 1) (pos 0) ≤ℤ pos (1048576 + 3145728 * (placed.count - 1)) }
     requires force { placed.force ≤ 2048 }
     ensures bound { result ≤ placed.force + 1 }
-    ensures never { (gaps : List ℕ) → IsNear placed.count (reach_at C.reach_of cols.now) gaps (length_at C.length_of cols.now) placed.force placed.tight.natural placed.tight.count at.now
-        → (f : ℕ) → result ≤ f → f ≤ placed.force → CanStand (length cols.now) (reach_at C.reach_of cols.now) gaps (length_at C.length_of cols.now) width f → ⊥ }
+    ensures never { (gaps : List ℕ) → IsNearLeast placed.count (reach_at C.reach_of cols.now) gaps (length_at C.length_of cols.now) placed.force placed.tight.natural placed.tight.count at.now
+        → (f : ℕ) → result ≤ f → f ≤ placed.force → CanStandWithin (length cols.now) (reach_at C.reach_of cols.now) gaps (length_at C.length_of cols.now) width f → ⊥ }
 {
     let Stretch { end, springs } = stretched(cols, at, placed);
     let width = i64::from(width);

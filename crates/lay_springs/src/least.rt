@@ -1,8 +1,8 @@
 ghost use Rattle.std.specs.Prelude.{◌≡◌, ◌+◌, ◌*◌, ◌≢◌, ◌⊎◌, ◌^◌, ◌<◌, ◌≤◌, ℕ, ℤ, pos, negsuc, ◌+ℤ◌, ◌≤ℤ◌, IfOk, IfSome, length, take, slice_index, slice_index_or, slice_set};
-ghost use Rattle.lay_springs.specs.{Stands.{reach_in}, Place.{reach_at, length_at, IsPlace, IsPlacedTo, IsNear, IsFront, HasPlaced, IsPast, IsFirst, IsSomewhere, Advances, IsInside}};
+ghost use Rattle.lay_springs.specs.{ReachView.{reach_in}, Place.{reach_at, length_at, IsPlace, IsPlacedTo, IsNearLeast, AreFrontiers, HasPlaced, IsPast, IsFirst, IsSomewhere, Advances, IsInside}};
 
-use crate::progress::{Progress, Tight};
-use crate::traits::{Reach, Spaced, Spring, Stand, Stands, reach_in};
+use crate::progress::{Progress, TightSprings};
+use crate::traits::{Reach, Spaced, Spring, LaneReach, ReachView, reach_in};
 use mus_units::{Memory, Row};
 use std::alloc::Global;
 
@@ -98,8 +98,8 @@ fn set_past<C: Spaced>(col: &C, gaps: &[u32], from: i64, front: &mut [i64]) -> i
         → Advances (C.reach_of col.now lane) result (slice_index_or front.old lane (pos 0)) (slice_index_or front.new lane (pos 0)) }
 {
     let stand = match col.stands() {
-        Stands::Lone(stand) => stand,
-        Stands::Each(row) => return set_past_each(row, gaps, from, front),
+        ReachView::OneLane(stand) => stand,
+        ReachView::EachLane(row) => return set_past_each(row, gaps, from, front),
     };
     let lane = stand.lane as usize;
     if lane >= gaps.len() {
@@ -139,7 +139,7 @@ fn first_of<C: Spaced>(col: &C, lanes: usize) -> i64
     ensures least { (v : ℤ) → pos 0 ≤ℤ v → IsInside (C.reach_of col.now) lanes v → result ≤ℤ v }
 {
     let stands = col.stands();
-    if let Stands::Lone(stand) = stands {
+    if let ReachView::OneLane(stand) = stands {
         return if (stand.lane as usize) < lanes {
             i64::from(stand.reach.left)
         } else {
@@ -219,7 +219,7 @@ pub(crate) fn place_to<C: Spaced + Spring>(
 }
 
 /// Places all columns, as `place_to` does.
-pub(crate) fn settle<C: Spaced + Spring>(
+pub(crate) fn place_all<C: Spaced + Spring>(
     cols: &[C],
     gaps: &[u32],
     force: u16,
@@ -236,7 +236,7 @@ pub(crate) fn settle<C: Spaced + Spring>(
     requires placed { HasPlaced (length cols.now) (reach_at C.reach_of cols.now) gaps.now (length_at C.length_of cols.now) placed at.old front.old }
     ensures few { result.tight.count ≤ 2 ^ 26 }
     ensures natural { result.tight.natural ≤ 2 ^ 38 }
-    ensures near { IsNear (length cols.now) (reach_at C.reach_of cols.now) gaps.now (length_at C.length_of cols.now) force result.tight.natural result.tight.count at.new }
+    ensures near { IsNearLeast (length cols.now) (reach_at C.reach_of cols.now) gaps.now (length_at C.length_of cols.now) force result.tight.natural result.tight.count at.new }
     ensures placed { HasPlaced (length cols.now) (reach_at C.reach_of cols.now) gaps.now (length_at C.length_of cols.now) result at.new front.new }
     ensures place { IsPlace (length cols.now) (reach_at C.reach_of cols.now) gaps.now (length_at C.length_of cols.now force) (take (length cols.now) at.new) }
     ensures small { (k : ℕ) → k < length cols.now
@@ -272,7 +272,7 @@ fn begun<C: Spaced + Spring>(
     Progress {
         force,
         count: 1,
-        tight: Tight {
+        tight: TightSprings {
             natural: 0,
             count: 0,
         },
@@ -287,8 +287,8 @@ fn place_next<C: Spaced + Spring>(
     at: &mut [i64],
     front: &mut [i64],
     j: usize,
-    tight: Tight,
-) -> Tight
+    tight: TightSprings,
+) -> TightSprings
     requires few { length cols.now ≤ 2 ^ 26 }
     requires lanes { length gaps.now < 2 ^ 32 }
     requires narrow { (lane : ℕ) → lane < length gaps.now → slice_index gaps.now lane ≤ 2 ^ 20 }
@@ -298,10 +298,10 @@ fn place_next<C: Spaced + Spring>(
     requires inside { j < length cols.now }
     requires tight { (tight.natural ≤ 4096 * j) × (tight.count ≤ j) }
     requires placed { IsPlacedTo j (reach_at C.reach_of cols.now) gaps.now (length_at C.length_of cols.now) force tight.natural tight.count at.old }
-    requires fronts { IsFront j (reach_at C.reach_of cols.now) (length gaps.now) at.old front.old }
+    requires fronts { AreFrontiers j (reach_at C.reach_of cols.now) (length gaps.now) at.old front.old }
     ensures tight { (result.natural ≤ 4096 * (j + 1)) × (result.count ≤ j + 1) }
     ensures placed { IsPlacedTo (j + 1) (reach_at C.reach_of cols.now) gaps.now (length_at C.length_of cols.now) force result.natural result.count at.new }
-    ensures fronts { IsFront (j + 1) (reach_at C.reach_of cols.now) (length gaps.now) at.new front.new }
+    ensures fronts { AreFrontiers (j + 1) (reach_at C.reach_of cols.now) (length gaps.now) at.new front.new }
 {
     let before = at[j - 1];
     let natural = cols[j - 1].length(256);
@@ -313,7 +313,7 @@ fn place_next<C: Spaced + Spring>(
 
 /// The springs that alone hold neighbors apart, with one more that leads from `before`, if it ends at
 /// the next column.
-fn tightened(tight: Tight, before: i64, spring: u32, natural: u32, next: i64) -> Tight
+fn tightened(tight: TightSprings, before: i64, spring: u32, natural: u32, next: i64) -> TightSprings
     requires few { tight.count < 2 ^ 26 }
     requires short { tight.natural ≤ 2 ^ 38 }
     requires begins { pos 0 ≤ℤ before }
@@ -322,7 +322,7 @@ fn tightened(tight: Tight, before: i64, spring: u32, natural: u32, next: i64) ->
         ⊎ (((before +ℤ pos spring) ≢ next) × (result.natural ≡ tight.natural) × (result.count ≡ tight.count)) }
 {
     if before + i64::from(spring) == next {
-        Tight {
+        TightSprings {
             natural: tight.natural + u64::from(natural),
             count: tight.count + 1,
         }
@@ -361,6 +361,6 @@ pub fn place<C: Spaced + Spring>(
 {
     let mut at = vec![in alloc; 0; cols.len()]?;
     let mut front = vec![in alloc; 0; gaps.len()]?;
-    settle(cols, gaps, force, &mut at, &mut front, Progress::none());
+    place_all(cols, gaps, force, &mut at, &mut front, Progress::none());
     Ok(Row { items: at })
 }

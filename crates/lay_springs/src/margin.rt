@@ -2,7 +2,7 @@ ghost use Rattle.std.specs.Prelude.{◌≡◌, ◌+◌, ◌*◌, ◌^◌, ◌<�
 ghost use Rattle.lay_springs.specs.{Fit.{IsEndOf, Fits, IsSet, is_ragged, counted}, Place.{reach_at, length_at, IsPlace, HasPlaced, StandApart}};
 
 use crate::forces::end_of;
-use crate::least::settle;
+use crate::least::place_all;
 use crate::progress::Progress;
 use crate::traits::{Spaced, Spring};
 use mus_units::Row;
@@ -78,7 +78,7 @@ fn set<C: Spaced + Spring>(
     ensures set { IsSet (length cols.now) (reach_at C.reach_of cols.now) gaps.now (length_at C.length_of cols.now) width force at.new }
     ensures apart { StandApart (length cols.now) (reach_at C.reach_of cols.now) gaps.now (length_at C.length_of cols.now force) at.new }
 {
-    settle(cols, gaps, force, at, front, placed);
+    place_all(cols, gaps, force, at, front, placed);
     if cols.len() == 1 {
         return;
     }
@@ -120,7 +120,7 @@ pub fn justify<C: Spaced + Spring>(
 {
     let mut at = at;
     if last && force >= 256 {
-        settle(cols, gaps, 256, &mut at, front, placed);
+        place_all(cols, gaps, 256, &mut at, front, placed);
         return Placed {
             force: 256,
             ragged: true,

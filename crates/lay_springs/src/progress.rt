@@ -2,7 +2,7 @@ ghost use Rattle.std.specs.Prelude.{ℕ, ℤ, Option, List};
 
 /// The springs that alone hold neighbors apart: the sum of their natural lengths, and how many they are.
 #[derive(Clone, Copy)]
-pub(crate) struct Tight {
+pub(crate) struct TightSprings {
     pub(crate) natural: u64,
     pub(crate) count: u64,
 }
@@ -13,7 +13,7 @@ pub(crate) struct Tight {
 pub struct Progress {
     pub(crate) force: u16,
     pub(crate) count: usize,
-    pub(crate) tight: Tight,
+    pub(crate) tight: TightSprings,
 }
 
 impl Progress {
@@ -27,7 +27,7 @@ impl Progress {
         Progress {
             force: 0,
             count: 0,
-            tight: Tight {
+            tight: TightSprings {
                 natural: 0,
                 count: 0,
             },

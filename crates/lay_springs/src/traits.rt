@@ -1,5 +1,5 @@
 ghost use Rattle.std.specs.Prelude.{◌≡◌, ◌*◌, ◌/◌, ◌^◌, ◌<◌, ◌≤◌, ℕ, Option, IfSome};
-ghost use Rattle.lay_springs.specs.Stands.{cut_reach, reach_in, stands_at};
+ghost use Rattle.lay_springs.specs.ReachView.{cut_reach, reach_in, reach_in_view};
 
 /// What reaches of rows are counted to.
 pub const MOST_REACH: u32 = 1 << 20;
@@ -13,7 +13,7 @@ pub struct Reach {
 
 /// A lane in which a column stands, and its reach there.
 #[derive(Clone, Copy)]
-pub struct Stand {
+pub struct LaneReach {
     pub lane: u32,
     pub reach: Reach,
 }
@@ -21,9 +21,9 @@ pub struct Stand {
 /// Where a column stands: in one lane alone, or as a row has it, None where it doesn't stand in a
 /// lane; it stands in none past the row. A reach of a row is counted to at most 2^20.
 #[derive(Clone, Copy)]
-pub enum Stands<'a> {
-    Lone(Stand),
-    Each(&'a [Option<Reach>]),
+pub enum ReachView<'a> {
+    OneLane(LaneReach),
+    EachLane(&'a [Option<Reach>]),
 }
 
 /// A reach, counted to at most 2^20.
@@ -37,35 +37,35 @@ pub fn cut_reach(reach: Reach) -> Reach
 }
 
 /// The reach that a row has in a lane, None past its last.
-#[tactic(auto, unfolding(crate::specs::Stands::reach_in))]
+#[tactic(auto, unfolding(crate::specs::ReachView::reach_in))]
 pub fn reach_in(row: &[Option<Reach>], lane: usize) -> Option<Reach>
     ensures { result ≡ reach_in row.now lane }
 {
     Some(cut_reach((*row.get(lane)?)?))
 }
 
-impl<'a> Stands<'a> {
+impl<'a> ReachView<'a> {
     /// The reach in a lane; None exactly where the column doesn't stand in it.
     pub(crate) fn at(&self, lane: usize) -> Option<Reach>
-        ensures { result ≡ stands_at self.now lane }
+        ensures { result ≡ reach_in_view self.now lane }
     {
         match self {
-            Stands::Lone(stand) if stand.lane as usize == lane => Some(stand.reach),
-            Stands::Lone(_) => None,
-            Stands::Each(row) => reach_in(row, lane),
+            ReachView::OneLane(stand) if stand.lane as usize == lane => Some(stand.reach),
+            ReachView::OneLane(_) => None,
+            ReachView::EachLane(row) => reach_in(row, lane),
         }
     }
 }
 
 /// A column that is kept apart from others by rods, lane by lane.
 pub trait Spaced {
-    ghost use Rattle.lay_springs.specs.{declared.traits.Reach.Reach, Stands.TellsReach};
+    ghost use Rattle.lay_springs.specs.{declared.traits.Reach.Reach, ReachView.TellsReach};
 
     // the reach in a lane, where the column stands in it
     ghost reach_of: { Self → ℕ → Option Reach };
 
     /// Where the column stands. Takes no memory.
-    fn stands(&self) -> Stands<'_>
+    fn stands(&self) -> ReachView<'_>
         ensures { TellsReach result (reach_of self.now) };
 
     // no reach passes 2^20

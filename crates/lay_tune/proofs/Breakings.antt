@@ -1,6 +1,6 @@
 -- The legal breakings of a score are those into its listed spans, and cost the same.
 use Rattle.std.proofs.{Common.{◌≡◌, ◌∙◌, ℕ, ◌+◌, ◌≤◌, ◌==◌, List, [], ◌∷◌, unwrap_or, refl, sym, ap, subst, arith}}
-use Rattle.{mus_score.specs.declared.score.Score.{Score}, lay_columns.specs.{declared.column.Column.Column, Column.length_rises, Columns.column_reach}}
+use Rattle.{mus_score.specs.declared.score.Score.{Score}, lay_reaches.specs.{declared.column.Column.Column, Column.length_rises, Columns.column_reach}}
 use Rattle.lay_breaks.specs.{declared.costs.Span.Span, Breaking.FitsFrom, Breaking.IsChosen, Breaking.IsLegal, Breaking.RisesFrom, Breaking.last_from, Breaking.sum_from, Spans.listed}
 use Rattle.lay_spans.specs.Single as single
 use Rattle.lay_spans.specs.{Badness.badness_of, Forced.is_forced}

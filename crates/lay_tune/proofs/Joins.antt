@@ -1,8 +1,8 @@
 -- The columns of each measure are what spans of measures are tried with, and those of the systems.
 use Rattle.std.{proofs.{Math.Seq.get_or-append_seam, Common.{◌≡◌, ◌∙◌, ℕ, suc, ◌+◌, ◌-◌, ◌<◌, ◌≤◌, ◌==◌, true, false, Option, None, List, [], ◌∷◌, ◌++◌, length, length-append, take, drop, flat_map, get_or, refl, sym, ap, subst, arith}, lemmas.{Bool.Decides.nat_tests, List.{get_or-drop, get_or-take, length-map, length-drop, length-take-le}}}, specs.List.{All, slice_index_or}}
-use Rattle.{mus_score.specs.{declared.score.Score.Score, GoodScore.IsGoodScore}, mus_time.specs.{declared.times.Timeline.Timeline, Onsets.timeline_of}}
-use Rattle.{lay_columns.specs.{declared.column.Column.Column, Columns.StandsWhereDue, Columns.column_reach, Lanes.gaps_of, Reaches.stands_always}, mus_marks.specs.{Staff.verses_on, System.drawn_staves}}
-use Rattle.lay_measures.{specs.{Measures.AreFurther, Measures.AreMeasureColumns, Measures.EndWithBar, Measures.further_of, Law.AreColumnsFrom, Law.MeasuresJoin}, proofs.Facts.{measure_bar, measure_stands}}
+use Rattle.{mus_score.specs.{declared.score.Score.Score, GoodScore.IsGoodScore}, mus_onsets.specs.{declared.times.Timeline.Timeline, Onsets.timeline_of}}
+use Rattle.{lay_reaches.specs.{declared.column.Column.Column, Columns.StandsWhereDue, Columns.column_reach, Lanes.gaps_of, Reaches.stands_always}, mus_marks.specs.{Staff.verses_on, System.drawn_staves}}
+use Rattle.lay_columns.{specs.{Measures.AreFurther, Measures.AreMeasureColumns, Measures.EndWithBar, Measures.further_of, Law.AreColumnsFrom, Law.MeasuresJoin}, proofs.Facts.{measure_bar, measure_stands}}
 use Rattle.lay_spans.{specs.{Columns.EndsInAll, Columns.measures_from}, proofs.{Adding.ends_so, Growing.each_more}}
 use Rattle.lay_tune.specs.{Measures.EachFurther, Measures.EachMeasure, Measures.IsMeasure, Spans.AreColumnsOf, Spans.system_columns, Spans.verses_of}
 

@@ -2,7 +2,7 @@
 use Rattle.std.{proofs.{Common.{◌≡◌, ℕ, ◌-◌, ◌<◌, ◌≤◌, ◌*◌, ◌^◌, ◌==◌, not, Bool, List, [], ◌∷◌, length, map, Option, Some, None, IsSome, sym, ◌∙◌, ap, subst, refl, arith}, lemmas.{Bool.true≢false, List.{length-map, Elements.All-from_recursion, Sums.sum-map}}}, specs.List.{All, AllByRecursion, filter, sum_by}}
 use Rattle.mus_score.specs.{declared.score.Score.Score, declared.score.Voice.Voice, GoodScore.IsGoodScore, Seats.grouped, Seats.is_lower, Seats.stands_lower as lower}
 use Rattle.{mus_laid.specs.{declared.laid.StaffMarks.StaffMarks, declared.laid.SystemMarks.SystemMarks}, mus_drawn.specs.{declared.drawn.DrawnVoice.DrawnVoice, Drawn.drawn_voice}}
-use Rattle.{mus_marks.{specs.{Staff.verses_on, System.drawn_staves, System.stands_lower}, proofs.{Fitting.few_verses, Groups.grouped_map}}, lay_columns.specs.{declared.column.Column.Column, Column.length_rises, Columns.column_reach}}
+use Rattle.{mus_marks.{specs.{Staff.verses_on, System.drawn_staves, System.is_drawn_lower}, proofs.{Fitting.few_verses, Groups.grouped_map}}, lay_reaches.specs.{declared.column.Column.Column, Column.length_rises, Columns.column_reach}}
 use Rattle.lay_springs.{specs.{Place.{length_at, reach_at}, Fit.{Passes}}, proofs.{Longer.{cannot_stand, stand_few, stands}, Ends.length_rises as lengths_rise}}
 use Rattle.lay_breaks.specs.{declared.costs.Span.Span, declared.breaking.BreakError.BreakError, Answers.IsCause, Breaking.FitsFrom, Breaking.IsChosen, Breaking.IsReached, Breaking.NoneLegal, Breaking.RisesFrom, Breaking.last_from, Spans.AreSpans, Spans.listed}
 use Rattle.lay_spans.{specs.Badness.badness_of, specs.Columns.AreMeasures, specs.Columns.span_columns, specs.Forced.is_forced, specs.SpanList.IsSpanList, proofs.Adding.columns_some}
@@ -106,11 +106,11 @@ small_verses : (s : Score) → IsGoodScore s → All (λ n. n ≤ 255) (verses_o
 small_verses s good =
     let voices = map drawn_voice s.voices in let most = few_verses s good in let all = sum-map (λ (v : DrawnVoice). v.verses) (map drawn_voice s.voices) in
     All-from_recursion (λ n. n ≤ 255) (verses_of s)
-    (small_sums (sum_by (λ v. v.verses) voices) (drawn_staves s) (omega (arith, most, all)) (none_more stands_lower (λ v. v.verses) voices))
+    (small_sums (sum_by (λ v. v.verses) voices) (drawn_staves s) (omega (arith, most, all)) (none_more is_drawn_lower (λ v. v.verses) voices))
 
 -- and no more staves than voices
 pub staves_count : (s : Score) → length (drawn_staves s) ≤ length s.voices
-staves_count s = let few = few_groups stands_lower (map drawn_voice s.voices) in let each = length-map s.voices drawn_voice in omega (arith, few, each)
+staves_count s = let few = few_groups is_drawn_lower (map drawn_voice s.voices) in let each = length-map s.voices drawn_voice in omega (arith, few, each)
 
 pub few_lanes : (s : Score) (verses gaps : List ℕ) → IsGoodScore s → verses ≡ verses_of s → (All (λ v. v ≤ 255) verses → length gaps ≤ 258 * length verses) → length gaps < 4294967296
 few_lanes s verses gaps good is few =
@@ -122,10 +122,10 @@ same_seat : (v : Voice) → is_lower (drawn_voice v).seat ≡ is_lower v.seat
 unfolding drawn_voice
 same_seat v = refl
 
-gaps_of_voices : (vs : List Voice) → length (gaps_between vs) ≡ length (grouped stands_lower (map drawn_voice vs)) - 1
+gaps_of_voices : (vs : List Voice) → length (gaps_between vs) ≡ length (grouped is_drawn_lower (map drawn_voice vs)) - 1
 gaps_of_voices [] = refl
 gaps_of_voices (v ∷ vs) =
-    let drawn = ap (λ groups. length groups) (grouped_map drawn_voice lower stands_lower same_seat (v ∷ vs)) in let same = length-map (grouped lower (v ∷ vs)) (map drawn_voice) in
+    let drawn = ap (λ groups. length groups) (grouped_map drawn_voice lower is_drawn_lower same_seat (v ∷ vs)) in let same = length-map (grouped lower (v ∷ vs)) (map drawn_voice) in
     let all = length-map (filter (λ v. not (lower v)) vs) (λ v. v.gap) in omega (arith, drawn, same, all, count_grouped lower v vs)
 
 pub gaps_count : (s : Score) (m : SystemMarks) (gaps : List ℕ) (staff : List DrawnVoice → StaffMarks) → gaps ≡ gaps_between s.voices → m.staves ≡ map staff (drawn_staves s) → length gaps ≡ length m.staves - 1

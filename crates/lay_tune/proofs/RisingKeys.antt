@@ -1,10 +1,10 @@
 -- Every list of column keys has a rising list of the same keys.
 use Rattle.std.{proofs.{Common.{◌≡◌, ◌∙◌, ℕ, inl, inr, Bool, true, false, nat_lt, List, [], ◌∷◌, refl, sym, ap, subst, arith}, lemmas.Bool.Decides.nat_tests}, specs.List.Contains}
-use Rattle.mus_time.{specs.declared.keys.Class.Class, specs.declared.keys.ColumnKey.ColumnKey, specs.Keys.AreKeys, specs.Keys.key_at, specs.Order.BelowAll, specs.Order.Rises, specs.Order.class_number, specs.Order.is_below, specs.Order.then_below, proofs.Orders.below_through}
+use Rattle.mus_onsets.{specs.declared.keys.Class.Class, specs.declared.keys.ColumnKey.ColumnKey, specs.Keys.AreKeys, specs.Keys.key_at, specs.Order.BelowAll, specs.Order.Rises, specs.Order.class_number, specs.Order.is_below, specs.Order.is_below_or_tied, proofs.Orders.below_through}
 use Rattle.mus_marks.proofs.{Inside.there, OneList.below_in, OneList.first_or}
 
 -- ---- the order of keys
-neither_first : (a b : ℕ) (p q : Bool) → then_below a b p ≡ false → then_below b a q ≡ false → (a ≡ b) × (p ≡ false) × (q ≡ false)
+neither_first : (a b : ℕ) (p q : Bool) → is_below_or_tied a b p ≡ false → is_below_or_tied b a q ≡ false → (a ≡ b) × (p ≡ false) × (q ≡ false)
 neither_first a b true true h k = absurd (grind (arith, nat_tests))
 neither_first a b true false h k = absurd (grind (arith, nat_tests))
 neither_first a b false true h k = absurd (grind (arith, nat_tests))

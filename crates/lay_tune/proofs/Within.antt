@@ -1,10 +1,10 @@
 -- Columns that stand apart rise from 0, and those of a system end within the width.
 use Rattle.std.proofs.{Common.{◌≡◌, ◌∙◌, sym, ap, subst, refl, inl, inr, ℕ, if◌then◌else◌, ◌+◌, ◌-◌, ◌*◌, ◌/◌, ◌<◌, ◌≤◌, ◌==◌, ◌^◌, ℤ, pos, ◌+ℤ◌, ◌≤ℤ◌, min, Bool, true, false, List, length, map, Option, Some, arith}, lemmas.{Bool.{cases_lt, true≢false, Decides.nat_tests}, Int.ints, List.length-map}}
-use Rattle.{mus_score.specs.declared.score.Score.{Score}, mus_time.specs.{Keys.{AreKeys, called_keys}, Onsets.timeline_of}, mus_laid.specs.declared.laid.SystemMarks.SystemMarks, mus_marks.{specs.Tilt.AreAbscissas, proofs.OneList.same_keys}}
+use Rattle.{mus_score.specs.declared.score.Score.{Score}, mus_onsets.specs.{Keys.{AreKeys, called_keys}, Onsets.timeline_of}, mus_laid.specs.declared.laid.SystemMarks.SystemMarks, mus_marks.{specs.Tilt.AreAbscissas, proofs.OneList.same_keys}}
 use Rattle.lay_springs.{specs.{declared.{traits.Reach.Reach, margin.Placed.Placed}, Fit.{Fits, IsSet, counted, is_ragged}, Place.{IsPlace, StandApart, length_at, reach_at}}, proofs.{Ends.{apart_down, length_rises as lengths_rise}, Longer.{rises, stands}}}
-use Rattle.lay_columns.{specs.declared.column.Column.Column, specs.Column.length_rises, specs.Columns.column_reach, proofs.Facts.columns_keys}
-use Rattle.lay_spans.{specs.Badness.{badness_at}, specs.Columns.span_columns, specs.SpanList.StandsAt, proofs.Fitting.seen_as}
-use Rattle.lay_tune.{specs.{Spans.{AreColumnsOf, IsForceOf, IsSystem, column_length, score_gaps, system_columns, verses_of}, Systems.{CanBeSet, HaveForce, IsJustified, IsPlaced, StandWithin, x_at}}, proofs.Called.has_system}
+use Rattle.lay_reaches.{specs.declared.column.Column.Column, specs.Column.length_rises, specs.Columns.column_reach, proofs.Facts.columns_keys}
+use Rattle.lay_spans.{specs.Badness.{badness_at}, specs.Columns.span_columns, specs.SpanList.FitsAtForce, proofs.Fitting.seen_as}
+use Rattle.lay_tune.{specs.{Spans.{AreColumnsOf, IsForceOf, IsSystemOf, column_length, score_gaps, system_columns, verses_of}, Systems.{CanBeSet, HaveForce, IsJustified, IsPlaced, StandWithin, x_at}}, proofs.Called.has_system}
 
 -- the last of n columns stands within the width, and reaches no further
 pub record EndsWithin (n : ℕ) (reach : ℕ → ℕ → Option Reach) (gaps : List ℕ) (width : ℕ) (at : List ℤ) : Type 0 where
@@ -97,10 +97,10 @@ ragged_last true force e = (refl, grind (arith, nat_tests))
 -- the greatest force that was tried counts as the columns' own, where none that costs so much is above all that were tried
 pub counts_same : (gaps : List ℕ) (width : ℕ) (last : Bool) (cost : ℕ) (columns : List Column) (most found : ℕ) → (h : HaveForce gaps width last cost columns) → most ≤ 2048
     → ((f : ℕ) → f ≤ 2048 → badness_at f ≤ cost → f ≤ most) → (cost ≡ 0 → most ≡ 256) → found ≤ most → Fits (length columns) (reach_at column_reach columns) gaps (length_at column_length columns) width found
-    → ((g : ℕ) → found < g → g ≤ most → StandsAt column_reach column_length gaps width g columns → ⊥) → (counted last found ≡ counted last h.pressed.0) × (is_ragged last found ≡ is_ragged last h.pressed.0)
+    → ((g : ℕ) → found < g → g ≤ most → FitsAtForce column_reach column_length gaps width g columns → ⊥) → (counted last found ≡ counted last h.pressed.0) × (is_ragged last found ≡ is_ragged last h.pressed.0)
 counts_same gaps width last cost columns most found h small high natural bound fits greatest = by (is_ragged last h.pressed.0) refl
   where
-    weaker : (g : ℕ) → g ≤ h.pressed.0 → StandsAt column_reach column_length gaps width g columns
+    weaker : (g : ℕ) → g ≤ h.pressed.0 → FitsAtForce column_reach column_length gaps width g columns
     weaker g l =
         let at = stands (length columns) (reach_at column_reach columns) gaps (length_at column_length columns) width h.pressed.0 h.pressed.1.fits in
         let apart = apart_down (length columns) (reach_at column_reach columns) gaps (length_at column_length columns g) (length_at column_length columns h.pressed.0) at.y
@@ -157,7 +157,7 @@ placed_stand s width m p placed =
     (λ some. justified_within (score_gaps s) width (m.b == s.measures) columns p some placed))
 
 -- so marks can be tilted over them
-pub abscissas_of : (s : Score) (width a b : ℕ) (m : SystemMarks) (p : Placed) → width < 2 ^ 32 → IsSystem s a b m → IsPlaced s width m p → AreAbscissas s (timeline_of s) a b p.at
+pub abscissas_of : (s : Score) (width a b : ℕ) (m : SystemMarks) (p : Placed) → width < 2 ^ 32 → IsSystemOf s a b m → IsPlaced s width m p → AreAbscissas s (timeline_of s) a b p.at
 abscissas_of s width a b m p narrow call placed =
     let stand = placed_stand s width m p placed in
     let count = stand.count_is in record {

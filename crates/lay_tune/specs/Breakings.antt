@@ -1,13 +1,13 @@
 -- The breakings of a score on a width that are legal, and the one of least total badness: said of the score and the width alone.
 use Rattle.std.specs.Prelude.{◌≡◌, ℕ, ◌+◌, ◌≤◌, true, List, [], ◌∷◌, reverse, Contains}
 use Rattle.{mus_score.specs.declared.score.Score.{Score}, mus_laid.specs.declared.laid.SystemMarks.{SystemMarks}, lay_breaks.specs.Breaking.{LexAtMost, RisesFrom, last_from}}
-use Rattle.{lay_spans.specs.Forced.{ForcedInside}, lay_tune.specs.{Spans.CanStandIn, Spans.IsSpanCost, Spans.IsSystem, Spans.is_forced_in, Spans.score_gaps, Spans.system_columns, Systems.AllSpans}}
+use Rattle.{lay_spans.specs.Forced.{ForcedInside}, lay_tune.specs.{Spans.CanStandIn, Spans.IsSpanCost, Spans.IsSystemOf, Spans.is_forced_in, Spans.score_gaps, Spans.system_columns, Systems.AllSpans}}
 
 -- The measures from bar a to bar b can be a system: no forced bar stands strictly inside, and the columns of the marks that
 -- the score calls for there can stand within the width.
 pub record CanBeSystem (s : Score) (width a b : ℕ) : Type 0 where
   pub free : ForcedInside (is_forced_in s) a b → ⊥
-  pub stands : (m : SystemMarks) → IsSystem s a b m → CanStandIn (score_gaps s) width (system_columns s m)
+  pub stands : (m : SystemMarks) → IsSystemOf s a b m → CanStandIn (score_gaps s) width (system_columns s m)
 
 -- A legal breaking of the score on a width: a rising list of bars that ends with the last, has every forced bar, and whose spans can each be a system.
 pub record IsLegalIn (s : Score) (width : ℕ) (breaks : List ℕ) : Type 0 where

@@ -1,8 +1,8 @@
 -- The spans of a score that fit a width, told from the marks that the score calls for in each.
 use Rattle.std.specs.Prelude.{◌≡◌, ℕ, ◌<◌, ◌≤◌, ◌==◌, Bool, List, map, Some, IsSome}
-use Rattle.{mus_score.specs.declared.score.Score.{Score}, mus_time.specs.Onsets.{timeline_of}, mus_laid.specs.declared.laid.SystemMarks.{SystemMarks}, mus_marks.specs.{Staff.verses_on, System.IsCall, System.drawn_staves}}
-use Rattle.{lay_columns.specs.{declared.column.Column.Column, Column.length_at, Columns.column_reach, Columns.columns_of, Lanes.gaps_of}, lay_breaks.specs.{declared.costs.Span.Span, Spans.listed}}
-use Rattle.lay_spans.specs.{Badness.badness_of, Columns.span_columns, Forced.ForcedInside, Forced.is_forced, SpanList.IsForce, SpanList.StandsAt}
+use Rattle.{mus_score.specs.declared.score.Score.{Score}, mus_onsets.specs.Onsets.{timeline_of}, mus_laid.specs.declared.laid.SystemMarks.{SystemMarks}, mus_marks.specs.{Staff.verses_on, System.IsCall, System.drawn_staves}}
+use Rattle.{lay_reaches.specs.{declared.column.Column.Column, Column.spring_length, Columns.column_reach, Columns.columns_of, Lanes.gaps_of}, lay_breaks.specs.{declared.costs.Span.Span, Spans.listed}}
+use Rattle.lay_spans.specs.{Badness.badness_of, Columns.span_columns, Forced.ForcedInside, Forced.is_forced, SpanList.IsForce, SpanList.FitsAtForce}
 
 -- how many verses each staff has
 abbrev pub verses_of : Score → List ℕ
@@ -16,8 +16,8 @@ abbrev pub is_forced_in : Score → ℕ → Bool
 is_forced_in s = is_forced s.measures s.forced
 
 -- m is the system that the score calls for in measures a to b - 1
-abbrev pub IsSystem : Score → ℕ → ℕ → SystemMarks → Type 0
-IsSystem s a b m = IsCall s (timeline_of s) a b m
+abbrev pub IsSystemOf : Score → ℕ → ℕ → SystemMarks → Type 0
+IsSystemOf s a b m = IsCall s (timeline_of s) a b m
 
 -- the columns of a system, by its marks
 abbrev pub system_columns : Score → SystemMarks → List Column
@@ -25,7 +25,7 @@ system_columns s m = columns_of m.keys m.staves (timeline_of s).lengths (verses_
 
 -- the length of the spring at a column
 abbrev pub column_length : Column → ℕ → ℕ
-column_length column force = length_at column.natural force
+column_length column force = spring_length column.natural force
 
 -- force is the greatest of 0 to 2048 at which the columns end within the width
 abbrev pub IsForceOf : List ℕ → ℕ → List Column → ℕ → Type 0
@@ -33,20 +33,20 @@ IsForceOf gaps width columns force = IsForce column_reach column_length gaps wid
 
 -- the columns can stand within the width, pressed as they may be
 abbrev pub CanStandIn : List ℕ → ℕ → List Column → Type 0
-CanStandIn gaps width columns = StandsAt column_reach column_length gaps width 0 columns
+CanStandIn gaps width columns = FitsAtForce column_reach column_length gaps width 0 columns
 
 -- the span from bar a to bar b fits and costs v: no forced bar stands strictly inside, and v is the badness of the greatest
 -- force of the columns that the score calls for there
 pub record IsSpanCost (s : Score) (width a b v : ℕ) : Type 0 where
   pub free : ForcedInside (is_forced_in s) a b → ⊥
-  pub pressed : (force : ℕ) × (v ≡ badness_of (b == s.measures) force) × ((m : SystemMarks) → IsSystem s a b m → IsForceOf (score_gaps s) width (system_columns s m) force)
+  pub pressed : (force : ℕ) × (v ≡ badness_of (b == s.measures) force) × ((m : SystemMarks) → IsSystemOf s a b m → IsForceOf (score_gaps s) width (system_columns s m) force)
 
 -- the list has exactly the spans of the score that fit the width and have no forced bar strictly inside, each with what it costs
 pub record AreSpansOf (s : Score) (width : ℕ) (spans : List Span) : Type 0 where
   pub each : (a b v : ℕ) → a < b → b ≤ s.measures → listed spans a b ≡ Some v → IsSpanCost s width a b v
-  pub fits : (a b : ℕ) (m : SystemMarks) → a < b → b ≤ s.measures → (ForcedInside (is_forced_in s) a b → ⊥) → IsSystem s a b m → CanStandIn (score_gaps s) width (system_columns s m) → IsSome (listed spans a b)
+  pub fits : (a b : ℕ) (m : SystemMarks) → a < b → b ≤ s.measures → (ForcedInside (is_forced_in s) a b → ⊥) → IsSystemOf s a b m → CanStandIn (score_gaps s) width (system_columns s m) → IsSome (listed spans a b)
 
 -- The columns of each measure, as they stand where it begins a system and where it doesn't, are those of the systems: put one
 -- after the other they are the columns of the marks that the score calls for.
 abbrev pub AreColumnsOf : Score → List (List Column) → List (List Column) → Type 0
-AreColumnsOf s starts others = (a b : ℕ) (m : SystemMarks) → a < b → b ≤ s.measures → IsSystem s a b m → system_columns s m ≡ span_columns starts others a b
+AreColumnsOf s starts others = (a b : ℕ) (m : SystemMarks) → a < b → b ≤ s.measures → IsSystemOf s a b m → system_columns s m ≡ span_columns starts others a b

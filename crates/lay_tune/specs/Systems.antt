@@ -1,9 +1,9 @@
 -- The systems of a breaking: where their columns stand, and their staves under one another.
 use Rattle.std.specs.Prelude.{◌≡◌, ⊤, ℕ, ◌+◌, ◌<◌, ◌≤◌, ◌==◌, ◌^◌, Bool, true, false, not, ℤ, pos, ◌-ℤ◌, ◌≤ℤ◌, ◌<ℤ◌, List, [], ◌∷◌, length, map, filter, drop, Option, Some, slice_index_or}
-use Rattle.{mus_score.specs.{declared.score.Score.Score, declared.score.Voice.Voice, Seats.stands_lower}, mus_time.specs.Onsets.{timeline_of}, mus_laid.specs.{declared.laid.SystemMarks.SystemMarks, Shapes.AreAlike}}
-use Rattle.{mus_marks.specs.Tilt.{IsTilted}, lay_columns.specs.{declared.column.Column.Column, Columns.column_reach}}
+use Rattle.{mus_score.specs.{declared.score.Score.Score, declared.score.Voice.Voice, Seats.stands_lower}, mus_onsets.specs.Onsets.{timeline_of}, mus_laid.specs.{declared.laid.SystemMarks.SystemMarks, Shapes.HaveSameShapes}}
+use Rattle.{mus_marks.specs.Tilt.{IsTilted}, lay_reaches.specs.{declared.column.Column.Column, Columns.column_reach}}
 use Rattle.{lay_springs.specs.{declared.margin.Placed.Placed, Place.IsPlace, Place.StandApart, Place.length_at, Place.reach_at, Fit.IsSet, Fit.counted, Fit.is_ragged}, lay_spans.specs.Badness.{badness_of}}
-use Rattle.{lay_pages.specs.{declared.stacking.Heights.Heights, Stacking.AreStacked}, lay_tune.specs.Spans.{IsForceOf, IsSystem, column_length, score_gaps, system_columns}}
+use Rattle.{lay_pages.specs.{declared.stacking.Heights.Heights, Stacking.AreStavesStacked}, lay_tune.specs.Spans.{IsForceOf, IsSystemOf, column_length, score_gaps, system_columns}}
 
 -- Two things for each span of a breaking, in order; the first span begins at bar a.
 abbrev pub EachSpan : {X Y : Type 0} → (ℕ → ℕ → X → Y → Type 0) → ℕ → List ℕ → List X → List Y → Type 0
@@ -33,10 +33,10 @@ IsPlaced s width m p = IsJustified (score_gaps s) width (m.b == s.measures) (sys
 -- their abscissas the marks are tilted.
 pub record IsSetSystem (s : Score) (width a b : ℕ) (m : SystemMarks) (p : Placed) : Type 0 where
   pub flat : SystemMarks
-  pub called : IsSystem s a b flat
+  pub called : IsSystemOf s a b flat
   pub placed : IsPlaced s width flat p
   pub tilted : IsTilted s (timeline_of s) a b p.at m
-  pub alike : AreAlike flat m
+  pub alike : HaveSameShapes flat m
 
 -- how far the staff of each voice that isn't lower keeps from the one above it, but for the first voice
 abbrev pub gaps_between : List Voice → List ℕ
@@ -44,7 +44,7 @@ gaps_between voices = map (λ v. v.gap) (filter (λ v. not (stands_lower v)) (dr
 
 -- the staves of a system of the score stand under one another
 pub record IsStack (s : Score) (m : SystemMarks) (h : Heights) : Type 0 where
-  pub stacked : AreStacked (pos 0) (gaps_between s.voices) m.staves h.bases (pos 0 -ℤ h.height)
+  pub stacked : AreStavesStacked (pos 0) (gaps_between s.voices) m.staves h.bases (pos 0 -ℤ h.height)
   pub low : pos 0 ≤ℤ h.height
   pub high : h.height ≤ℤ pos (2 ^ 40)
 
@@ -60,7 +60,7 @@ pub record CanBeSet (s : Score) (width : ℕ) (costs : ℕ → ℕ → Option �
   pub within : b ≤ s.measures
   pub cost : ℕ
   pub costs_so : costs a b ≡ Some cost
-  pub columns : (m : SystemMarks) → IsSystem s a b m → HaveForce (score_gaps s) width (b == s.measures) cost (system_columns s m)
+  pub columns : (m : SystemMarks) → IsSystemOf s a b m → HaveForce (score_gaps s) width (b == s.measures) cost (system_columns s m)
 
 -- each span of a breaking, the first of which begins at bar a
 abbrev pub AllSpans : (ℕ → ℕ → Type 0) → ℕ → List ℕ → Type 0

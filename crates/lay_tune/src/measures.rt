@@ -1,13 +1,13 @@
 ghost use Rattle.std.specs.Prelude.{◌≡◌, ◌≤◌, ◌<◌, ◌-◌, All, IfOk, length, map};
-ghost use Rattle.{mus_score.specs.GoodScore.{IsGoodScore}, mus_time.specs.Onsets.{timeline_of}, mus_drawn.specs.{Drawn.drawn_voice, Good.AreGoodMeasures}};
+ghost use Rattle.{mus_score.specs.GoodScore.{IsGoodScore}, mus_onsets.specs.Onsets.{timeline_of}, mus_drawn.specs.{Drawn.drawn_voice, Good.AreGoodMeasures}};
 ghost use Rattle.lay_tune.specs.{Measures.{EachFurther, EachMeasure, IsMeasure}, Spans.verses_of};
 
-use lay_columns::Column;
-use lay_measures::{further_columns, further_of, measure_columns};
-use lay_spans::Lent;
+use lay_reaches::Column;
+use lay_columns::{further_columns, further_of, measure_columns};
+use lay_spans::BorrowedColumns;
 use mus_drawn::DrawnVoice;
 use mus_score::Score;
-use mus_time::Timeline;
+use mus_onsets::Timeline;
 use mus_units::{Memory, Row};
 use std::alloc::Global;
 
@@ -53,7 +53,7 @@ pub(crate) fn others_of<'a>(
     alloc: Global,
     s: &Score,
     columns: &'a MeasureColumns,
-) -> Result<Row<Lent<'a, Column>>, Memory>
+) -> Result<Row<BorrowedColumns<'a, Column>>, Memory>
     requires good { IsGoodScore s.now }
     requires heard { 0 < s.now.measures → 1 ≤ length s.now.voices }
     requires starts { EachMeasure (λ m. IsMeasure s.now m m) s.now.measures columns.now.starts }
@@ -65,7 +65,7 @@ pub(crate) fn others_of<'a>(
     for m in 0..s.measures {
         let begun = starts[m as usize].as_slice();
         let columns = further_of(m, begun, &own[m as usize]);
-        others.push(Lent { columns })?;
+        others.push(BorrowedColumns { columns })?;
     }
     Ok(others)
 }

@@ -4,15 +4,15 @@ ghost use Rattle.{lay_breaks.specs.Spans.{listed}, lay_tune.specs.{Measured.{IsM
 
 use crate::gaps::gaps_between;
 use lay_breaks::Costs;
-use lay_columns::Column;
+use lay_reaches::Column;
 use lay_pages::{Heights, stack};
-use lay_spans::{Lent, Seen, Spans, columns_in, most_force};
+use lay_spans::{BorrowedColumns, BorrowedColumn, FittingSpans, columns_in, most_force};
 use lay_springs::{Placed, Progress, fit_within, justify};
 use mus_drawn::DrawnVoice;
 use mus_laid::SystemMarks;
 use mus_marks::tilt_of;
 use mus_score::Score;
-use mus_time::{ColumnKey, Timeline};
+use mus_onsets::{ColumnKey, Timeline};
 use mus_units::{Memory, Row};
 use std::alloc::Global;
 
@@ -23,7 +23,7 @@ pub(crate) struct Measured<'a> {
     pub(crate) score: &'a Score,
     pub(crate) times: &'a Timeline,
     pub(crate) starts: &'a [Row<Column>],
-    pub(crate) others: &'a [Lent<'a, Column>],
+    pub(crate) others: &'a [BorrowedColumns<'a, Column>],
     pub(crate) gaps: &'a [u32],
     pub(crate) width: u32,
 }
@@ -31,7 +31,7 @@ pub(crate) struct Measured<'a> {
 /// The columns pressed with their greatest force, by what their span costs, and set to the width.
 fn press(
     alloc: Global,
-    columns: &[Seen<Column>],
+    columns: &[BorrowedColumn<Column>],
     gaps: &[u32],
     width: u32,
     last: bool,
@@ -54,7 +54,7 @@ fn press(
 }
 
 /// The keys of columns.
-fn keys_in(alloc: Global, columns: &[Seen<Column>]) -> Result<Row<ColumnKey>, Memory>
+fn keys_in(alloc: Global, columns: &[BorrowedColumn<Column>]) -> Result<Row<ColumnKey>, Memory>
     ensures { IfOk result (λ keys. keys ≡ map (λ c. c.key) (map (λ s. s.column.now) columns.now)) }
 {
     let mut keys = Row::with_room(alloc, columns.len())?;
@@ -79,7 +79,7 @@ fn set_system(
     voices: &mut [DrawnVoice<'_>],
     a: u32,
     b: u32,
-    spans: &Spans,
+    spans: &FittingSpans,
 ) -> Result<SetSystem, Memory>
     requires measured { IsMeasured measured.now }
     requires voices { voices.old ≡ map drawn_voice measured.now.score.now.voices }
@@ -127,7 +127,7 @@ pub(crate) fn set_systems(
     measured: &Measured<'_>,
     voices: &mut [DrawnVoice<'_>],
     breaks: &[u32],
-    spans: &Spans,
+    spans: &FittingSpans,
 ) -> Result<Systems, Memory>
     requires measured { IsMeasured measured.now }
     requires voices { voices.old ≡ map drawn_voice measured.now.score.now.voices }

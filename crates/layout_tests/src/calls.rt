@@ -17,7 +17,7 @@ use crate::ops::{put_mark, put_read};
 use crate::plain::{put_badness, put_plain};
 use crate::streams::{put_sink, put_source, put_streams};
 use crate::table::put_least;
-use case_texts::{Case, Report};
+use case_texts::{CallCase, Report};
 use mus_units::Memory;
 use std::thread::Threads;
 
@@ -25,7 +25,7 @@ use std::thread::Threads;
 pub(crate) fn put_answer<R: Threads + Sync>(
     rt: &R,
     out: &mut Report,
-    case: Case<'_>,
+    case: CallCase<'_>,
 ) -> Result<(), Memory> {
     match case.call {
         "glyph" | "words" | "stem" | "beam" | "arc" => put_mark(out, case.call, case.word),
@@ -35,7 +35,7 @@ pub(crate) fn put_answer<R: Threads + Sync>(
 }
 
 /// The value of a call of the layout or on blocks.
-fn put_layout_call(out: &mut Report, case: Case<'_>) -> Result<(), Memory> {
+fn put_layout_call(out: &mut Report, case: CallCase<'_>) -> Result<(), Memory> {
     match case.call {
         "least" => put_least(out, case.word, case.input),
         "badness" => put_badness(out, case.word),
@@ -48,7 +48,7 @@ fn put_layout_call(out: &mut Report, case: Case<'_>) -> Result<(), Memory> {
 }
 
 /// The value of a call on pages.
-fn put_page_call(out: &mut Report, case: Case<'_>) -> Result<(), Memory> {
+fn put_page_call(out: &mut Report, case: CallCase<'_>) -> Result<(), Memory> {
     match case.call {
         "glyphs" => put_glyphs(out),
         "read" => put_read(out, case.word, case.input),
@@ -63,7 +63,7 @@ fn put_page_call(out: &mut Report, case: Case<'_>) -> Result<(), Memory> {
 }
 
 /// The value of a call on streams or on words.
-fn put_stream_call(out: &mut Report, case: Case<'_>) -> Result<(), Memory> {
+fn put_stream_call(out: &mut Report, case: CallCase<'_>) -> Result<(), Memory> {
     match case.call {
         "source" => put_source(out, case.word, case.input),
         "sink" => put_sink(out, case.word, case.input),

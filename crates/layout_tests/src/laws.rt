@@ -3,7 +3,7 @@
 use abcps_words::{asked_is_good, asks_one};
 use lay_breaks::one_is_chosen;
 use lay_cert::{faults_tell_none, forced_by_spans, in_parts, no_prefix_is_a_listing, tells_one};
-use lay_columns::Column;
+use lay_reaches::Column;
 use lay_springs::longer_fits_less;
 use ps_read::{good_by_lines, no_prefix_is_a_document};
 

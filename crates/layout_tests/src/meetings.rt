@@ -13,12 +13,12 @@ use std::thread::Threads;
 
 /// Makes the rows of two bars. Each waits until the other is begun.
 #[derive(Drop)]
-struct Waiting {
+struct MeetingRows {
     alloc: Global,
     meeting: Meeting,
 }
 
-impl RowMaker for Waiting {
+impl RowMaker for MeetingRows {
     ghost bars = { λ _. 2 };
 
     ghost is_row = { λ _ a row. row ≡ a ∷ [] };
@@ -44,7 +44,7 @@ fn put_rows<R: Threads + Sync>(
 ) -> Result<(), Memory> {
     let alloc = out.alloc;
     let meeting = Meeting::new(turns);
-    let waiting = Waiting { alloc, meeting };
+    let waiting = MeetingRows { alloc, meeting };
     put_made(out, &make_rows(rt, alloc, &waiting, 2, jobs)?)?;
     waiting.meeting.put_met(out)
 }

@@ -3,11 +3,11 @@
 ghost use Rattle.std.specs.Prelude.{◌≤◌, ◌<◌, length};
 
 use answer_texts::{count_at, number_at, numbers_of, put_placed};
-use case_texts::{Case, Report};
-use lay_columns::Column;
+use case_texts::{CallCase, Report};
+use lay_reaches::Column;
 use lay_spans::badness;
 use lay_springs::{Progress, Reach, fit_within, justify, place};
-use mus_time::{Class, ColumnKey};
+use mus_onsets::{Class, ColumnKey};
 use mus_units::{Memory, Row};
 use std::alloc::Global;
 
@@ -94,7 +94,7 @@ fn put_fit(
 
 /// The value of a call on plain columns: `place F`, `fit W`, `within W M` with the greatest force that may be
 /// tried, `set W` and `last W`.
-pub(crate) fn put_plain(out: &mut Report, case: Case<'_>) -> Result<(), Memory> {
+pub(crate) fn put_plain(out: &mut Report, case: CallCase<'_>) -> Result<(), Memory> {
     let numbers = numbers_of(out.alloc, case.word)?;
     let (first, second) = (count_at(&numbers, 0), count_at(&numbers, 1));
     let columns = columns_of(out.alloc, case.input)?;

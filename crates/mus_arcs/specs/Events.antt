@@ -1,9 +1,9 @@
 -- The events of a voice, each with its measure.
 use Rattle.std.specs.{Prelude.{ℕ, suc, Bool, false, not, ◌==◌, ◌&&◌, List, [], ◌∷◌, ◌++◌, map}, List.list_all}
 use Rattle.mus_score.specs.{declared.score.Event.Event, declared.score.Measure.Measure, declared.score.Voice.Voice, declared.score.Music.Music, declared.score.Music.TheOpen.Music-F, declared.score.Music.TheFolds.fold-Music, Times.flats_of}
-use Rattle.mus_arcs.specs.declared.events.EventAt.{EventAt}
+use Rattle.mus_arcs.specs.declared.events.ArcEvent.{ArcEvent}
 
-abbrev pub at_measure : ℕ → Event → EventAt
+abbrev pub at_measure : ℕ → Event → ArcEvent
 at_measure measure e = record { event = e.id; measure = measure; begins = e.begins; ends = e.ends; heads = e.heads }
 
 -- the events of a body, graces aside
@@ -11,11 +11,11 @@ abbrev pub body_events : List Music → List Event
 body_events body = map (λ f. f.event) (flats_of body)
 
 -- the events of measures, of which the first has this number
-abbrev pub events_from : ℕ → List Measure → List EventAt
+abbrev pub events_from : ℕ → List Measure → List ArcEvent
 events_from number [] = []
 events_from number (measure ∷ measures) = map (at_measure number) (body_events measure.body) ++ events_from (suc number) measures
 
-abbrev pub events_of_voice : Voice → List EventAt
+abbrev pub events_of_voice : Voice → List ArcEvent
 events_of_voice v = events_from 0 v.measures
 
 -- ---- the events of a body by a walk over its nodes, between their definition and the code
@@ -35,7 +35,7 @@ events_within = fold-Music (List Event) events_step
 abbrev pub events_in : List Music → List Event
 events_in body = join (map events_within body)
 
-abbrev pub walked_from : ℕ → List Measure → List EventAt
+abbrev pub walked_from : ℕ → List Measure → List ArcEvent
 walked_from number [] = []
 walked_from number (measure ∷ measures) = map (at_measure number) (events_in measure.body) ++ walked_from (suc number) measures
 
@@ -48,5 +48,5 @@ bare_step (Music-F.Note e) = is_bare_event e
 bare_step (Music-F.Rest e) = is_bare_event e
 bare_step _ = false
 
-abbrev pub is_bare : Music → Bool
-is_bare = fold-Music Bool bare_step
+abbrev pub is_bare_music : Music → Bool
+is_bare_music = fold-Music Bool bare_step

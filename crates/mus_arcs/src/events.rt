@@ -1,5 +1,5 @@
 ghost use Rattle.std.specs.{Prelude.◌≡◌, Prelude.◌++◌, Prelude.◌∷◌, Prelude.[], Prelude.◌≤◌, Prelude.not, Prelude.length, Prelude.map, Prelude.IfOk, Prelude.OnOk, List.{All, list_all}};
-ghost use Rattle.{mus_score.specs.GoodScore.{IsGoodVoice}, mus_arcs.specs.Events.{at_measure, events_in, events_of_voice, events_within, is_bare, is_bare_event, walked_from}};
+ghost use Rattle.{mus_score.specs.GoodScore.{IsGoodVoice}, mus_arcs.specs.Events.{at_measure, events_in, events_of_voice, events_within, is_bare_music, is_bare_event, walked_from}};
 
 use mus_score::{Event, Head, Measure, Music, Voice};
 use mus_units::{Few, Memory, Row};
@@ -7,7 +7,7 @@ use std::alloc::Global;
 
 /// What arcs ask of an event: its id and its measure, how many slurs begin and end there, and its heads.
 #[derive(Drop)]
-pub struct EventAt {
+pub struct ArcEvent {
     pub event: u32,
     pub measure: u32,
     pub begins: u32,
@@ -16,7 +16,7 @@ pub struct EventAt {
 }
 
 /// The events of a voice, graces aside, each with its measure.
-pub(crate) fn events_of_voice(alloc: Global, v: &Voice) -> Result<Row<EventAt>, Memory>
+pub(crate) fn events_of_voice(alloc: Global, v: &Voice) -> Result<Row<ArcEvent>, Memory>
     requires { IsGoodVoice v.now }
     ensures events { IfOk result (λ events. events ≡ events_of_voice v.now) }
     ensures heads { IfOk result (λ events. All (λ e. length e.heads ≤ 50000) events) }
@@ -29,7 +29,7 @@ pub(crate) fn events_of_voice(alloc: Global, v: &Voice) -> Result<Row<EventAt>, 
 fn put_measures(
     alloc: Global,
     measures: &[Measure],
-    events: &mut Row<EventAt>,
+    events: &mut Row<ArcEvent>,
 ) -> Result<(), Memory>
     requires { length measures.now ≤ 2000 }
     ensures { OnOk result (events.new ≡ events.old ++ walked_from 0 measures.now) }
@@ -45,7 +45,7 @@ fn put_nodes(
     alloc: Global,
     body: &[Music],
     measure: u32,
-    events: &mut Row<EventAt>,
+    events: &mut Row<ArcEvent>,
 ) -> Result<(), Memory>
     ensures { OnOk result (events.new ≡ events.old ++ map (at_measure measure) (events_in body.now)) }
 {
@@ -56,7 +56,7 @@ fn put_nodes(
 }
 
 #[cycle(walk)]
-fn put_node(alloc: Global, m: &Music, measure: u32, events: &mut Row<EventAt>) -> Result<(), Memory>
+fn put_node(alloc: Global, m: &Music, measure: u32, events: &mut Row<ArcEvent>) -> Result<(), Memory>
     ensures { OnOk result (events.new ≡ events.old ++ map (at_measure measure) (events_within m.now)) }
 {
     match m {
@@ -71,11 +71,11 @@ fn put_event(
     alloc: Global,
     e: &Event,
     measure: u32,
-    events: &mut Row<EventAt>,
+    events: &mut Row<ArcEvent>,
 ) -> Result<(), Memory>
     ensures { OnOk result (events.new ≡ events.old ++ at_measure measure e.now ∷ []) }
 {
-    events.push(EventAt {
+    events.push(ArcEvent {
         event: e.id,
         measure,
         begins: e.begins,
@@ -99,8 +99,8 @@ fn is_bare_event(e: &Event) -> bool
 }
 
 /// Whether a node is an event at which no arc begins.
-fn is_bare(m: &Music) -> bool
-    ensures { result ≡ is_bare m.now }
+fn is_bare_music(m: &Music) -> bool
+    ensures { result ≡ is_bare_music m.now }
 {
     match m {
         Music::Note(e) => is_bare_event(e),
@@ -110,14 +110,14 @@ fn is_bare(m: &Music) -> bool
 }
 
 fn is_bare_body(body: &[Music]) -> bool
-    ensures { result ≡ list_all is_bare body.now }
+    ensures { result ≡ list_all is_bare_music body.now }
 {
-    body.iter().all(|m| is_bare(m))
+    body.iter().all(|m| is_bare_music(m))
 }
 
 /// Whether all nodes of measures are events at which no arc begins. Takes no memory.
 pub(crate) fn are_bare(measures: &[Measure]) -> bool
-    ensures { result ≡ list_all (λ m. list_all is_bare m.body) measures.now }
+    ensures { result ≡ list_all (λ m. list_all is_bare_music m.body) measures.now }
 {
     measures.iter().all(|m| is_bare_body(m.body.as_slice()))
 }

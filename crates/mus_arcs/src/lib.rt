@@ -9,5 +9,5 @@ pub mod events;
 pub mod pairing;
 
 pub use cutting::{Piece, pieces};
-pub use events::EventAt;
-pub use pairing::{Arc, Spot, arcs};
+pub use events::ArcEvent;
+pub use pairing::{Arc, SlurEnd, arcs};

@@ -1,8 +1,8 @@
 ghost use Rattle.std.specs.{Prelude.◌≡◌, Prelude.◌++◌, Prelude.◌∷◌, Prelude.[], Prelude.◌≤◌, Prelude.length, Prelude.reverse, Prelude.drop, Prelude.IfOk, Prelude.OnOk, List.All, List.list_any};
 ghost use Rattle.{mus_units.specs.Good.{same_letter}, mus_score.specs.GoodScore.{IsGoodVoice}};
-ghost use Rattle.mus_arcs.specs.{Arcs.{AreArcsOf, arcs_of, copies, has_pitch, open_ends, slur, slurs, slurs_at, spot, tie, ties_at, ties_from}, Events.events_of_voice};
+ghost use Rattle.mus_arcs.specs.{Arcs.{AreArcsOf, arcs_of, slur_copies, has_pitch, open_ends, slur, slurs, slurs_at, spot, tie, ties_at, ties_from}, Events.events_of_voice};
 
-use crate::events::{EventAt, are_bare, events_of_voice};
+use crate::events::{ArcEvent, are_bare, events_of_voice};
 use mus_score::{Head, Voice};
 use mus_units::{Memory, Pitch, Row};
 use std::alloc::Global;
@@ -21,7 +21,7 @@ pub struct Arc {
 
 /// Where a slur begins or ends: an event and its measure.
 #[derive(Clone, Copy, PartialEq, Eq)]
-pub struct Spot {
+pub struct SlurEnd {
     pub event: u32,
     pub measure: u32,
 }
@@ -46,7 +46,7 @@ pub fn arcs(alloc: Global, v: &Voice) -> Result<Row<Arc>, Memory>
 }
 
 /// The arcs of events, found from the last event back.
-fn arcs_among(alloc: Global, events: &[EventAt]) -> Result<Row<Arc>, Memory>
+fn arcs_among(alloc: Global, events: &[ArcEvent]) -> Result<Row<Arc>, Memory>
     requires { All (λ e. length e.heads ≤ 50000) events.now }
     ensures { IfOk result (λ arcs. arcs ≡ arcs_of events.now) }
 {
@@ -62,9 +62,9 @@ fn arcs_among(alloc: Global, events: &[EventAt]) -> Result<Row<Arc>, Memory>
 /// Adds the arcs that begin at an event, the last of them first. The ends that
 /// none of the events behind takes come in, and those that are left go out.
 fn put_arcs(
-    event: &EventAt,
-    behind: &[EventAt],
-    ends: &mut Vec<Spot>,
+    event: &ArcEvent,
+    behind: &[ArcEvent],
+    ends: &mut Vec<SlurEnd>,
     backwards: &mut Vec<Arc>,
 ) -> Result<(), Memory>
     requires heads { length event.now.heads ≤ 50000 }
@@ -79,18 +79,18 @@ fn put_arcs(
     Ok(())
 }
 
-fn spot_of(event: &EventAt) -> Spot
+fn spot_of(event: &ArcEvent) -> SlurEnd
     ensures { result ≡ spot event.now }
 {
-    Spot {
+    SlurEnd {
         event: event.event,
         measure: event.measure,
     }
 }
 
 /// Adds the ends of slurs at one event.
-fn put_ends(at: Spot, count: u32, ends: &mut Vec<Spot>) -> Result<(), Memory>
-    ensures { OnOk result (reverse ends.new.items ≡ copies count at ++ reverse ends.old.items) }
+fn put_ends(at: SlurEnd, count: u32, ends: &mut Vec<SlurEnd>) -> Result<(), Memory>
+    ensures { OnOk result (reverse ends.new.items ≡ slur_copies count at ++ reverse ends.old.items) }
 {
     'times: for _n in 0..count {
         ends.push(at)?;
@@ -101,13 +101,13 @@ fn put_ends(at: Spot, count: u32, ends: &mut Vec<Spot>) -> Result<(), Memory>
 /// Adds the slurs that begin at one event, the inner first: each start takes the
 /// end that was added last.
 fn put_slurs(
-    start: Spot,
+    start: SlurEnd,
     count: u32,
-    ends: &mut Vec<Spot>,
+    ends: &mut Vec<SlurEnd>,
     backwards: &mut Vec<Arc>,
 ) -> Result<(), Memory>
     ensures left { OnOk result (reverse ends.new.items ≡ drop count (reverse ends.old.items)) }
-    ensures put { OnOk result (backwards.new.items ≡ backwards.old.items ++ slurs (copies count start) (reverse ends.old.items)) }
+    ensures put { OnOk result (backwards.new.items ≡ backwards.old.items ++ slurs (slur_copies count start) (reverse ends.old.items)) }
 {
     'times: for _n in 0..count {
         let Some(end) = ends.pop() else {
@@ -119,7 +119,7 @@ fn put_slurs(
 }
 
 /// Adds a slur, where it doesn't end at the event at which it begins.
-fn put_slur(start: Spot, end: Spot, backwards: &mut Vec<Arc>) -> Result<(), Memory>
+fn put_slur(start: SlurEnd, end: SlurEnd, backwards: &mut Vec<Arc>) -> Result<(), Memory>
     ensures { OnOk result (backwards.new.items ≡ backwards.old.items ++ slur start end) }
 {
     if start.event != end.event {
@@ -136,7 +136,7 @@ fn put_slur(start: Spot, end: Spot, backwards: &mut Vec<Arc>) -> Result<(), Memo
 }
 
 /// Adds the ties from an event to the one behind it, that of the last head first.
-fn put_ties(event: &EventAt, behind: &[EventAt], backwards: &mut Vec<Arc>) -> Result<(), Memory>
+fn put_ties(event: &ArcEvent, behind: &[ArcEvent], backwards: &mut Vec<Arc>) -> Result<(), Memory>
     requires { length event.now.heads ≤ 50000 }
     ensures { OnOk result (backwards.new.items ≡ backwards.old.items ++ reverse (ties_at event.now behind.now)) }
 {

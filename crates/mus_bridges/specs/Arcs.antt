@@ -1,7 +1,7 @@
 -- The pieces of a voice's arcs in a system.
 use Rattle.std.specs.{Prelude.{ℕ, ◌-◌, ◌==◌, Bool, if◌then◌else◌, List, [], ◌∷◌, flat_map, slice_get, Option, Some, None}, List.find}
-use Rattle.{mus_time.specs.{declared.keys.ColumnKey.ColumnKey, Keys.bar_key, Keys.head_key}, mus_arcs.specs.{declared.pairing.Arc.Arc, declared.cutting.Piece.Piece, Pieces.piece_of}, mus_laid.specs.declared.drawn.Bridge.{Bridge}}
-use Rattle.{mus_words.specs.Arcs.{Seen, arc_mark}, mus_drawn.specs.{declared.drawn.DrawnEvent.DrawnEvent, declared.drawn.DrawnMeasure.DrawnMeasure}, mus_keys.specs.Columns.{note_key}}
+use Rattle.{mus_onsets.specs.{declared.keys.ColumnKey.ColumnKey, Keys.bar_key, Keys.head_key}, mus_arcs.specs.{declared.pairing.Arc.Arc, declared.cutting.Piece.Piece, Pieces.piece_of}, mus_laid.specs.declared.drawn.Bridge.{Bridge}}
+use Rattle.{mus_words.specs.Arcs.{ArcEndEvent, arc_mark}, mus_drawn.specs.{declared.drawn.DrawnEvent.DrawnEvent, declared.drawn.DrawnMeasure.DrawnMeasure}, mus_time.specs.Columns.{note_key}}
 
 abbrev pub has_id : ℕ → DrawnEvent → Bool
 has_id id e = e.flat.event.id == id
@@ -14,7 +14,7 @@ event_in id (Some d) = find (has_id id) d.events
 abbrev pub event_at : List DrawnMeasure → ℕ → ℕ → Option DrawnEvent
 event_at ds m id = event_in id (slice_get ds m)
 
-abbrev pub seen_of : DrawnEvent → Seen
+abbrev pub seen_of : DrawnEvent → ArcEndEvent
 seen_of e = record { clef = e.clef; heads = e.flat.event.heads; plan = e.plan }
 
 -- an end that the system cuts stands at its head, or at the bar of its last measure

@@ -1,16 +1,16 @@
 -- What a voice has between the columns of a system: the beams of notes, those of graces, and the arcs.
 use Rattle.std.specs.Prelude.{ℕ, ◌+◌, List, [], ◌∷◌, ◌++◌, length, map, flat_map, slice_range}
-use Rattle.{mus_score.specs.declared.score.Event.{Event}, mus_time.specs.{declared.keys.Class.Class, Keys.key_at}, mus_laid.specs.declared.drawn.Bridge.{Bridge}}
+use Rattle.{mus_score.specs.declared.score.Event.{Event}, mus_onsets.specs.{declared.keys.Class.Class, Keys.key_at}, mus_laid.specs.declared.drawn.Bridge.{Bridge}}
 use Rattle.{mus_ink.specs.Graces.{grace_beam, group_of}, mus_drawn.specs.{declared.drawn.DrawnEvent.DrawnEvent, declared.drawn.DrawnMeasure.DrawnMeasure, declared.drawn.DrawnVoice.DrawnVoice}}
-use Rattle.{mus_keys.specs.Columns.{note_key}, mus_bridges.specs.{declared.stems.Stem.Stem, Arcs.arcs_between, Beams.beam_marks, Beams.stem_of}}
+use Rattle.{mus_time.specs.Columns.{note_key}, mus_bridges.specs.{declared.stems.BeamStem.BeamStem, Arcs.arcs_between, Beams.beam_marks, Beams.stem_of}}
 
 -- the beams of notes, measure by measure from number m on
-abbrev pub stem_at : ℕ → DrawnEvent → Stem
-stem_at m e = stem_of (note_key m e) e.plan
+abbrev pub beam_stem_at : ℕ → DrawnEvent → BeamStem
+beam_stem_at m e = stem_of (note_key m e) e.plan
 
 abbrev pub beams_between : ℕ → List DrawnMeasure → List Bridge
 beams_between m [] = []
-beams_between m (d ∷ ds) = beam_marks (map (stem_at m) d.events) ++ beams_between (m + 1) ds
+beams_between m (d ∷ ds) = beam_marks (map (beam_stem_at m) d.events) ++ beams_between (m + 1) ds
 
 -- the beam of the graces before an event, from the column of the first to that of the last
 abbrev pub beam_over : ℕ → DrawnEvent → List Event → List Bridge

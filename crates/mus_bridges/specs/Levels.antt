@@ -2,24 +2,24 @@
 -- A run of two events or more is drawn, from its first to its last; a run of one is a stub. What is drawn comes by its first events, and at one event by level.
 use Rattle.std.specs.{Prelude.{◌≡◌, ℕ, ◌+◌, ◌≤◌, Bool, false, ◌&&◌, ◌==◌, nat_lt, ⊤, List, [], ◌∷◌, ◌++◌, map, filter}, List.AllByRecursion}
 use Rattle.{mus_stems.specs.Runs.{AreMaximalRuns}, mus_laid.specs.declared.drawn.Bridge.{Bridge}, mus_ink.specs.{Drawing.beam, Stems.lower_edge}}
-use Rattle.{mus_bridges.specs.{declared.stems.Stem.Stem, Beams.way_of, Beams.beam_marks}, mus_time.specs.Order.{same_key}}
+use Rattle.{mus_bridges.specs.{declared.stems.BeamStem.BeamStem, Beams.way_of, Beams.beam_marks}, mus_onsets.specs.Order.{same_key}}
 
 -- whether level k joins two neighbours: both are in one beam and have it
-abbrev pub joins : ℕ → Stem → Stem → Bool
+abbrev pub joins : ℕ → BeamStem → BeamStem → Bool
 joins k p q = ((q.group == p.group) && nat_lt k q.flags) && nat_lt k p.flags
 
 -- a run at a level, from an event to another
 pub record Level : Type 0 where
   pub level : ℕ
-  pub first : Stem
-  pub last : Stem
+  pub first : BeamStem
+  pub last : BeamStem
 
-abbrev pub last_in : Stem → List Stem → Stem
+abbrev pub last_in : BeamStem → List BeamStem → BeamStem
 last_in p [] = p
 last_in p (q ∷ qs) = last_in q qs
 
 -- of maximal runs at level k those of two events or more
-abbrev pub long_runs : ℕ → List (List Stem) → List Level
+abbrev pub long_runs : ℕ → List (List BeamStem) → List Level
 long_runs k [] = []
 long_runs k ([] ∷ rs) = long_runs k rs
 long_runs k ((p ∷ []) ∷ rs) = long_runs k rs
@@ -34,32 +34,32 @@ LevelsRise k [] = ⊤
 LevelsRise k (l ∷ ls) = (k ≤ l.level) × LevelsRise (l.level + 1) ls
 
 -- some that begin at the first of the events, by level, and then those that begin further on
-abbrev pub ByFirst : List Stem → List Level → Type 0
+abbrev pub ByFirst : List BeamStem → List Level → Type 0
 ByFirst [] ls = ls ≡ []
 ByFirst (e ∷ es) ls = (here : List Level) × (behind : List Level) × (ls ≡ here ++ behind) × AllByRecursion (λ l. l.first ≡ e) here × LevelsRise 0 here × ByFirst es behind
 
 -- what is drawn of the levels of the events of a measure
-pub record AreLevels (es : List Stem) (ls : List Level) : Type 0 where
-  pub runs : (k : ℕ) (rs : List (List Stem)) → AreMaximalRuns (joins k) es rs → filter (is_at k) ls ≡ long_runs k rs
+pub record AreLevels (es : List BeamStem) (ls : List Level) : Type 0 where
+  pub runs : (k : ℕ) (rs : List (List BeamStem)) → AreMaximalRuns (joins k) es rs → filter (is_at k) ls ≡ long_runs k rs
   pub order : ByFirst es ls
 
 -- the beam of a level, between the lower edges at its ends
 abbrev pub bridge_of : Level → Bridge
 bridge_of l = let p = l.first in let q = l.last in beam (way_of p.up) p.key q.key (lower_edge p.up p.to l.level) (lower_edge q.up q.to l.level)
 
-pub record AreBeams (es : List Stem) (marks : List Bridge) : Type 0 where
+pub record AreBeams (es : List BeamStem) (marks : List Bridge) : Type 0 where
   pub levels : List Level
   pub are : AreLevels es levels
   pub drawn : marks ≡ map bridge_of levels
 
 -- the events of a measure stand at keys of their own
-abbrev pub OfOtherKeys : Stem → List Stem → Type 0
+abbrev pub OfOtherKeys : BeamStem → List BeamStem → Type 0
 OfOtherKeys p qs = AllByRecursion (λ q. same_key p.key q.key ≡ false) qs
 
-abbrev pub KeysDiffer : List Stem → Type 0
+abbrev pub KeysDiffer : List BeamStem → Type 0
 KeysDiffer [] = ⊤
 KeysDiffer (p ∷ ps) = OfOtherKeys p ps × KeysDiffer ps
 
 -- the beams that are laid for a measure are those of its levels
 abbrev pub BeamsByLevels : Type 0
-BeamsByLevels = (es : List Stem) → KeysDiffer es → AreBeams es (beam_marks es)
+BeamsByLevels = (es : List BeamStem) → KeysDiffer es → AreBeams es (beam_marks es)

@@ -1,13 +1,13 @@
 ghost use Rattle.std.specs.{Prelude.◌≡◌, Prelude.◌++◌, Prelude.OnOk, Prelude.option_copied, List.find};
-ghost use Rattle.{mus_words.specs.Arcs.{seen}, mus_bridges.specs.Arcs.{has_id, event_at, seen_of, left_key, right_key, arc_between, piece_between, arc_in, arcs_between}};
+ghost use Rattle.{mus_words.specs.Arcs.{arc_end_event}, mus_bridges.specs.Arcs.{has_id, event_at, seen_of, left_key, right_key, arc_between, piece_between, arc_in, arcs_between}};
 
 use mus_arcs::{Arc, Piece, pieces};
 use mus_drawn::{DrawnEvent, DrawnMeasure};
-use mus_keys::{Frame, note_key};
+use mus_time::{SystemFrame, note_key};
 use mus_laid::Bridge;
-use mus_time::{Class, ColumnKey};
+use mus_onsets::{Class, ColumnKey};
 use mus_units::{Memory, Row};
-use mus_words::{End, put_arc};
+use mus_words::{ArcEnd, put_arc};
 
 /// The event with an id.
 fn event_with<'a, 'b>(id: u32, events: &'a [DrawnEvent<'b>]) -> Option<&'a DrawnEvent<'b>>
@@ -35,10 +35,10 @@ fn event_at<'a, 'b>(
     }
 }
 
-fn end_of<'a>(e: &'a DrawnEvent<'_>) -> End<'a>
-    ensures { seen result ≡ seen_of e.now }
+fn end_of<'a>(e: &'a DrawnEvent<'_>) -> ArcEnd<'a>
+    ensures { arc_end_event result ≡ seen_of e.now }
 {
-    End {
+    ArcEnd {
         clef: e.clef,
         heads: e.flat.event().heads.as_slice(),
         plan: &e.plan,
@@ -58,7 +58,7 @@ fn left_key(a: u32, piece: Piece, measure: u32, e: &DrawnEvent<'_>) -> ColumnKey
 }
 
 /// The column of the right end of a piece, whose arc ends at this event.
-fn right_key(frame: &Frame<'_>, piece: Piece, measure: u32, e: &DrawnEvent<'_>) -> ColumnKey
+fn right_key(frame: &SystemFrame<'_>, piece: Piece, measure: u32, e: &DrawnEvent<'_>) -> ColumnKey
     ensures { result ≡ right_key frame.now.lengths.now frame.now.b piece measure e.now }
 {
     if piece.cut_right {
@@ -71,7 +71,7 @@ fn right_key(frame: &Frame<'_>, piece: Piece, measure: u32, e: &DrawnEvent<'_>) 
 
 fn put_arc_between(
     out: &mut Row<Bridge>,
-    frame: &Frame<'_>,
+    frame: &SystemFrame<'_>,
     piece: Piece,
     arc: &Arc,
     first: Option<&DrawnEvent<'_>>,
@@ -90,7 +90,7 @@ fn put_arc_between(
 /// Draws what a system has of an arc.
 fn put_arc_in(
     out: &mut Row<Bridge>,
-    frame: &Frame<'_>,
+    frame: &SystemFrame<'_>,
     measures: &[DrawnMeasure<'_>],
     arc: &Arc,
 ) -> Result<(), Memory>
@@ -109,7 +109,7 @@ fn put_arc_in(
 /// Draws the pieces of a voice's arcs in a system; `measures` are all that the voice has.
 pub(crate) fn put_arcs_between(
     out: &mut Row<Bridge>,
-    frame: &Frame<'_>,
+    frame: &SystemFrame<'_>,
     measures: &[DrawnMeasure<'_>],
     arcs: &[Arc],
 ) -> Result<(), Memory>

@@ -5,7 +5,7 @@ use crate::stems::put_beams;
 use mus_drawn::{DrawnEvent, DrawnMeasure};
 use mus_ink::{group_of, put_grace_beam};
 use mus_laid::Bridge;
-use mus_time::{Class, ColumnKey};
+use mus_onsets::{Class, ColumnKey};
 use mus_units::{Memory, Row};
 
 /// Draws the beams of notes of measures from the number `a` on.

@@ -4,7 +4,7 @@ ghost use Rattle.{mus_drawn.specs.Good.{AreGoodMeasures}, mus_bridges.specs.Brid
 use crate::arcs::put_arcs_between;
 use crate::beams::{put_beams_between, put_grace_beams_between};
 use mus_drawn::DrawnVoice;
-use mus_keys::Frame;
+use mus_time::SystemFrame;
 use mus_laid::Bridge;
 use mus_units::{Memory, Row};
 
@@ -12,7 +12,7 @@ use mus_units::{Memory, Row};
 /// and its arcs. The only error is want of memory.
 pub fn put_bridges_of(
     out: &mut Row<Bridge>,
-    frame: &Frame<'_>,
+    frame: &SystemFrame<'_>,
     v: &DrawnVoice<'_>,
 ) -> Result<(), Memory>
     requires lengths { length v.now.measures ≡ length frame.now.lengths.now }

@@ -1,18 +1,18 @@
 ghost use Rattle.std.specs.Prelude.{◌≡◌, ◌-◌, ◌++◌, map, OnOk};
-ghost use Rattle.mus_bridges.specs.{Beams.{stem_of, way_of, goes_on, last_at, level_from, levels_from, levels_before, beams_at, beams_from, beam_marks}, Bridges.stem_at};
+ghost use Rattle.mus_bridges.specs.{Beams.{stem_of, way_of, goes_on_at_level, last_at, level_from, levels_from, levels_before, beams_at, beams_from, beam_marks}, Bridges.beam_stem_at};
 
 use mus_drawn::DrawnEvent;
 use mus_ink::drawing::put_beam;
 use mus_ink::stems::lower_edge;
-use mus_keys::note_key;
+use mus_time::note_key;
 use mus_laid::Bridge;
-use mus_time::{ColumnKey, is_same};
+use mus_onsets::{ColumnKey, is_same};
 use mus_units::{Memory, Row, Way};
 
 /// What beams need of an event: the key of its column, the way of its stem and the dy of its end,
 /// the event at which its beam begins, and how many levels its beam has there.
 #[derive(Clone, Copy, PartialEq, Eq)]
-pub struct Stem {
+pub struct BeamStem {
     pub key: ColumnKey,
     pub up: bool,
     pub to: i32,
@@ -22,10 +22,10 @@ pub struct Stem {
 
 /// What beams need of an event of a measure.
 #[tactic(auto, unfolding(crate::specs::Beams::stem_of))]
-fn stem_at(measure: u32, e: &DrawnEvent<'_>) -> Stem
-    ensures { result ≡ stem_at measure e.now }
+fn beam_stem_at(measure: u32, e: &DrawnEvent<'_>) -> BeamStem
+    ensures { result ≡ beam_stem_at measure e.now }
 {
-    Stem {
+    BeamStem {
         key: note_key(measure, e),
         up: e.plan.up,
         to: e.plan.to,
@@ -40,21 +40,21 @@ fn way(up: bool) -> Way
     if up { Way::Up } else { Way::Down }
 }
 
-#[tactic(auto, unfolding(crate::specs::Beams::goes_on))]
-fn goes_on(level: u8, p: Stem, q: Stem) -> bool
-    ensures { result ≡ goes_on level p q }
+#[tactic(auto, unfolding(crate::specs::Beams::goes_on_at_level))]
+fn goes_on_at_level(level: u8, p: BeamStem, q: BeamStem) -> bool
+    ensures { result ≡ goes_on_at_level level p q }
 {
     q.group == p.group && level < q.flags
 }
 
 /// The last event of the run at a level that an event is in, among those behind it.
-fn last_at(level: u8, measure: u32, p: Stem, behind: &[DrawnEvent<'_>]) -> Stem
-    ensures { result ≡ last_at level p (map (stem_at measure) behind.now) }
+fn last_at(level: u8, measure: u32, p: BeamStem, behind: &[DrawnEvent<'_>]) -> BeamStem
+    ensures { result ≡ last_at level p (map (beam_stem_at measure) behind.now) }
 {
     let mut last = p;
     for e in behind {
-        let q = stem_at(measure, e);
-        if !goes_on(level, last, q) {
+        let q = beam_stem_at(measure, e);
+        if !goes_on_at_level(level, last, q) {
             return last;
         }
         last = q;
@@ -64,7 +64,7 @@ fn last_at(level: u8, measure: u32, p: Stem, behind: &[DrawnEvent<'_>]) -> Stem
 
 /// Draws the beam at one level of the run from one event to another.
 #[tactic(auto, unfolding(crate::specs::Beams::level_from))]
-fn put_level(out: &mut Row<Bridge>, level: u8, p: Stem, q: Stem) -> Result<(), Memory>
+fn put_level(out: &mut Row<Bridge>, level: u8, p: BeamStem, q: BeamStem) -> Result<(), Memory>
     ensures { OnOk result (out.new ≡ out.old ++ level_from level p q) }
 {
     if is_same(p.key, q.key) {
@@ -82,10 +82,10 @@ fn put_levels(
     level: u8,
     flags: u8,
     measure: u32,
-    p: Stem,
+    p: BeamStem,
     behind: &[DrawnEvent<'_>],
 ) -> Result<(), Memory>
-    ensures { OnOk result (out.new ≡ out.old ++ levels_from level (flags - level) p (map (stem_at measure) behind.now)) }
+    ensures { OnOk result (out.new ≡ out.old ++ levels_from level (flags - level) p (map (beam_stem_at measure) behind.now)) }
 {
     for k in level..flags {
         put_level(out, k, p, last_at(k, measure, p, behind))?;
@@ -94,7 +94,7 @@ fn put_levels(
 }
 
 #[tactic(auto, unfolding(crate::specs::Beams::levels_before))]
-fn levels_before(p: Stem, group: u32, flags: u8) -> u8
+fn levels_before(p: BeamStem, group: u32, flags: u8) -> u8
     ensures { result ≡ levels_before p group flags }
 {
     if p.group == group { flags } else { 0 }
@@ -107,10 +107,10 @@ fn put_beams_at(
     group: u32,
     flags: u8,
     measure: u32,
-    p: Stem,
+    p: BeamStem,
     behind: &[DrawnEvent<'_>],
 ) -> Result<(), Memory>
-    ensures { OnOk result (out.new ≡ out.old ++ beams_at group flags p (map (stem_at measure) behind.now)) }
+    ensures { OnOk result (out.new ≡ out.old ++ beams_at group flags p (map (beam_stem_at measure) behind.now)) }
 {
     let level = levels_before(p, group, flags);
     put_levels(out, level, p.flags, measure, p, behind)
@@ -123,13 +123,13 @@ pub fn put_beams(
     measure: u32,
     events: &[DrawnEvent<'_>],
 ) -> Result<(), Memory>
-    ensures { OnOk result (out.new ≡ out.old ++ beam_marks (map (stem_at measure) events.now)) }
+    ensures { OnOk result (out.new ≡ out.old ++ beam_marks (map (beam_stem_at measure) events.now)) }
 {
     let mut rest = events;
     let mut group = 0;
     let mut flags = 0;
     while let [e, behind @ ..] = rest {
-        let p = stem_at(measure, e);
+        let p = beam_stem_at(measure, e);
         put_beams_at(out, group, flags, measure, p, behind)?;
         group = p.group;
         flags = p.flags;

@@ -1,19 +1,19 @@
 -- What is drawn of a good voice is good.
 use Rattle.std.{proofs.{Common.{◌≡◌, ◌≤◌, ◌+◌, ℕ, List, [], ◌∷◌, ◌++◌, length, map, max, refl, sym, ap, ◌∙◌, subst, arith}, lemmas.List.{Elements.{All-head, All-tail}, Sums.sum_by-cons}}, specs.{Prelude.{Option, Some, None, IfSome, unwrap_or, is_some, count_by}, List.{All, sum_by}}}
 use Rattle.mus_units.specs.{declared.key.Key.Key, declared.pitch.Clef.Clef, Good.AreGoodSigns, Good.IsGoodKey, declared.note.Bar.Bar}
-use Rattle.mus_score.specs.{declared.score.Event.Event, declared.score.Flat.Flat, Good.flat_count, Good.flat_weight, Good.heads_in, GoodScore.AreInReach, GoodScore.IsInReach, GoodScore.IsGoodEvent, GoodScore.clef_at}
+use Rattle.mus_score.specs.{declared.score.Event.Event, declared.score.Flat.Flat, Good.flat_count, Good.flat_weight, Good.head_count, GoodScore.AreInReach, GoodScore.IsInReach, GoodScore.IsGoodEvent, GoodScore.clef_at}
 use Rattle.mus_stems.specs.{declared.plans.StemPlan.StemPlan, Plans.AllEndsNear}
-use Rattle.mus_drawn.{specs.{declared.{drawn.{DrawnEvent.DrawnEvent, Opening.Opening, Style.Style}, standing.Standing.Standing}, Drawn.{standing_after, standing_behind, old_signs, opening_of, drawn_events}, Good.{CanDraw, AllCanDraw, CanGrace, AllCanGrace, IsGoodDrawn, AreGoodDrawn, IsGoodMeasure}}, proofs.Reaches.near_of}
+use Rattle.mus_drawn.{specs.{declared.{drawn.{DrawnEvent.DrawnEvent, SystemOpening.SystemOpening, Style.Style}, standing.StaffState.StaffState}, Drawn.{standing_after, standing_behind, old_signs, opening_of, drawn_events}, Good.{CanDraw, AllCanDraw, CanGrace, AllCanGrace, IsGoodDrawn, AreGoodDrawn, IsGoodMeasure}}, proofs.Reaches.near_of}
 
 key_after : (key : Key) (new : Option Key) → IsGoodKey key → IfSome new IsGoodKey → IsGoodKey (unwrap_or new key)
 key_after key None good h = good
 key_after key (Some new) good h = h
 
-pub key_behind : (now : Standing) (fs : List Flat) → IsGoodKey now.key → AllCanDraw fs → IsGoodKey (standing_behind now fs).key
+pub key_behind : (now : StaffState) (fs : List Flat) → IsGoodKey now.key → AllCanDraw fs → IsGoodKey (standing_behind now fs).key
 key_behind now [] good h = good
 key_behind now (f ∷ fs) good h = key_behind (standing_after now f.event.changes) fs (key_after now.key f.event.changes.key good h.0.key) h.1
 
-opening_good : (now : Standing) (fs : List Flat) → IsGoodKey now.key → AllCanDraw fs → IsGoodKey (opening_of now fs).key
+opening_good : (now : StaffState) (fs : List Flat) → IsGoodKey now.key → AllCanDraw fs → IsGoodKey (opening_of now fs).key
 opening_good now [] good h = good
 opening_good now (f ∷ fs) good h = key_after now.key f.event.changes.key good h.0.key
 
@@ -21,7 +21,7 @@ old_good : (key : Key) (new : Option Key) → IsGoodKey key → AreGoodSigns (ol
 old_good key None good = λ letter. omega arith
 old_good key (Some new) good = good
 
-graces_good : (clef : Clef) (graces : List Event) → All (λ g. All (IsInReach clef) g.heads) graces → heads_in graces ≤ 50000 → AllCanGrace clef graces
+graces_good : (clef : Clef) (graces : List Event) → All (λ g. All (IsInReach clef) g.heads) graces → head_count graces ≤ 50000 → AllCanGrace clef graces
 graces_good clef [] h few = tt
 graces_good clef (g ∷ graces) h few =
     let sum = sum_by-cons (λ (e : Event). length e.heads) g graces in (
@@ -29,10 +29,10 @@ graces_good clef (g ∷ graces) h few =
       graces_good clef graces (All-tail (λ e. All (IsInReach clef) e.heads) g graces h) (omega (arith, sum, few)),
     )
 
-few_in : (f : Flat) (n : ℕ) → max 1 (length f.event.heads) + heads_in f.graces + n ≤ 50000 → heads_in f.graces ≤ 50000
+few_in : (f : Flat) (n : ℕ) → max 1 (length f.event.heads) + head_count f.graces + n ≤ 50000 → head_count f.graces ≤ 50000
 few_in f n h = omega (arith, h)
 
-drawn_good : (style : Style) (tick : ℕ) (now : Standing) (fs : List Flat) (ps : List StemPlan) → IsGoodKey now.key → AreInReach now.clef fs → AllCanDraw fs → AllEndsNear ps → sum_by flat_weight fs ≤ 50000 → sum_by flat_count fs ≤ 50000
+drawn_good : (style : Style) (tick : ℕ) (now : StaffState) (fs : List Flat) (ps : List StemPlan) → IsGoodKey now.key → AreInReach now.clef fs → AllCanDraw fs → AllEndsNear ps → sum_by flat_weight fs ≤ 50000 → sum_by flat_count fs ≤ 50000
     → AreGoodDrawn (drawn_events style tick now fs ps)
 drawn_good style tick now [] ps good reach can near few count = tt
 drawn_good style tick now (f ∷ fs) [] good reach can near few count = tt
@@ -50,7 +50,7 @@ drawn_good style tick now (f ∷ fs) (p ∷ ps) good reach can near few count =
       drawn_good style (tick + f.duration) (standing_after now f.event.changes) fs ps (key_after now.key f.event.changes.key good can.0.key) reach.2 can.1 near.1 (omega (arith, weights, few)) (omega (arith, counts, count)),
     )
 
-pub measure_good : (style : Style) (now : Standing) (fs flats : List Flat) (plans : List StemPlan) (o : Opening) (es : List DrawnEvent) (bar : Bar) → flats ≡ fs → o ≡ opening_of now flats → es ≡ drawn_events style 0 now flats plans
+pub measure_good : (style : Style) (now : StaffState) (fs flats : List Flat) (plans : List StemPlan) (o : SystemOpening) (es : List DrawnEvent) (bar : Bar) → flats ≡ fs → o ≡ opening_of now flats → es ≡ drawn_events style 0 now flats plans
     → IsGoodKey now.key → AreInReach now.clef fs → AllCanDraw fs → AllEndsNear plans → sum_by flat_weight flats ≤ 50000 → sum_by flat_count flats ≤ 50000 → IsGoodMeasure (record { seat = style.seat; opening = o; events = es; bar = bar })
 measure_good style now fs flats plans o es bar same opens made good reach can near few count =
     let can_here = subst AllCanDraw (sym same) can in let reach_here = subst (AreInReach now.clef) (sym same) reach in

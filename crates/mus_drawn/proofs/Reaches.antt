@@ -1,7 +1,7 @@
 -- Events within reach of the staff can be drawn.
 use Rattle.std.{proofs.{Common.{◌≡◌, ◌≤◌, ◌+◌, ◌*◌, ℕ, List, [], ◌∷◌, ◌++◌, length, map, max, refl, arith}, lemmas.List.{Elements.{All-head, All-tail}, Sums.sum_by-cons}}, specs.List.{All, sum_by}}
-use Rattle.{mus_units.specs.{declared.note.Head.Head, declared.pitch.Clef.Clef}, mus_score.specs.{declared.score.Flat.Flat, Good.IsGoodFlat, Good.flat_weight, Good.heads_in, GoodScore.AreInReach, GoodScore.IsInReach, GoodScore.clef_at}}
-use Rattle.{mus_stems.specs.{Heads.AllNear, Heads.stand_of, Stills.AllCanStand, Stills.CanStand, Stills.clefs_from}, mus_drawn.specs.{declared.standing.Standing.Standing, Drawn.standing_after, Drawn.standing_behind}}
+use Rattle.{mus_units.specs.{declared.note.Head.Head, declared.pitch.Clef.Clef}, mus_score.specs.{declared.score.Flat.Flat, Good.IsGoodFlat, Good.flat_weight, Good.head_count, GoodScore.AreInReach, GoodScore.IsInReach, GoodScore.clef_at}}
+use Rattle.{mus_stems.specs.{Heads.AllNear, Heads.stand_of, Stills.AllCanStand, Stills.CanDrawEvent, Stills.clefs_from}, mus_drawn.specs.{declared.standing.StaffState.StaffState, Drawn.standing_after, Drawn.standing_behind}}
 
 pub near_of : (clef : Clef) (heads : List Head) → All (IsInReach clef) heads → AllNear (map (stand_of clef) heads)
 unfolding stand_of
@@ -16,10 +16,10 @@ can_stand clef [] reach good few = tt
 can_stand clef (f ∷ fs) reach good few =
     let sum = sum_by-cons flat_weight f fs in
     let own = All-head IsGoodFlat f fs good in (
-      record { near = near_of (clef_at clef f.event) f.event.heads reach.0; few = few_heads f (heads_in f.graces) (omega (arith, sum, few)); dots = own.dots },
+      record { near = near_of (clef_at clef f.event) f.event.heads reach.0; few = few_heads f (head_count f.graces) (omega (arith, sum, few)); dots = own.dots },
       can_stand (clef_at clef f.event) fs reach.2 (All-tail IsGoodFlat f fs good) (omega (arith, sum, few)),
     )
 
-pub reach_cut : (now : Standing) (fs gs : List Flat) → AreInReach now.clef (fs ++ gs) → AreInReach now.clef fs × AreInReach (standing_behind now fs).clef gs
+pub reach_cut : (now : StaffState) (fs gs : List Flat) → AreInReach now.clef (fs ++ gs) → AreInReach now.clef fs × AreInReach (standing_behind now fs).clef gs
 reach_cut now [] gs h = (tt, h)
 reach_cut now (f ∷ fs) gs h = let r = reach_cut (standing_after now f.event.changes) fs gs h.2 in ((h.0, h.1, r.0), r.1)

@@ -2,18 +2,18 @@
 use Rattle.std.{proofs.Common.{◌≡◌, ℕ, ◌+◌, Bool, true, false, cond, ◌&&◌, ◌||◌, List, [], ◌∷◌, ◌++◌, refl, sym, ◌∙◌, ap, append_assoc, append-nil, Option, Some, None, option_map, flat_map}, specs.List.{find, list_any}}
 use Rattle.mus_units.specs.declared.{key.Sign.Sign, key.Spread.Spread, note.Head.Head, pitch.Alter.Alter, pitch.Pitch.Pitch}
 use Rattle.{mus_score.specs.{declared.score.Flat.Flat, declared.score.Measure.Measure, declared.score.Voice.Voice, Times.flats_of}, mus_pitch.specs.Alteration.{alteration_of}, mus_arcs.specs.Arcs.{has_pitch}}
-use Rattle.mus_drawn.specs.{Hearing.{is_heard_at, is_tied_to, partner_of, heard_alter, heard, heard_from, said_behind, heard_at, heard_behind, sounds_from, events_sounds, measures_sounds, voices_sounds}, declared.{sounds.{Heard.Heard, Sound.Sound}, standing.Standing.Standing}, Drawn.{standing_after, standing_behind, standing_of}, Sounds.{Seen, Sounding, tied_sound, comes_tied, alter_by, sounds_as, all_heads, seen, seen_from, seen_in, head_sounds, event_sounds, voice_sounds}}
+use Rattle.mus_drawn.specs.{Hearing.{is_heard_at, is_tied_to, partner_of, heard_alter, heard, heard_from, said_after, heard_at, heard_behind, sounds_from, events_sounds, measures_sounds, voices_sounds}, declared.{sounds.{AlteredHead.AlteredHead, Sound.Sound}, standing.StaffState.StaffState}, Drawn.{standing_after, standing_behind, standing_of}, Sounds.{Seen, Sounding, tied_sound, comes_tied, alter_by, sounds_as, all_heads, seen, seen_from, seen_in, head_sounds, event_sounds, voice_sounds}}
 
 -- heads with what they sound as
-abbrev heard_along : Sounding → List Head → List Head → List Heard
+abbrev heard_along : Sounding → List Head → List Head → List AlteredHead
 heard_along sound earlier [] = []
 heard_along sound earlier (h ∷ hs) = record { head = h; alter = sound earlier h } ∷ heard_along sound (earlier ++ h ∷ []) hs
 
-abbrev heard_before : Spread → List Seen → List Heard
+abbrev heard_before : Spread → List Seen → List AlteredHead
 heard_before spread [] = []
 heard_before spread (d ∷ before) = heard_along (sounds_as spread before d) [] d.heads
 
-alter_of : Heard → Alter
+alter_of : AlteredHead → Alter
 alter_of x = x.alter
 
 along_append : (sound : Sounding) (earlier hs : List Head) (h : Head) →
@@ -39,7 +39,7 @@ any_is : (sound : Sounding) (p : Pitch) (earlier gs : List Head) → list_any (i
 any_is sound p earlier [] = refl
 any_is sound p earlier (g ∷ gs) = ap (λ t. has_pitch p g || t) (any_is sound p (earlier ++ g ∷ []) gs)
 
-alter_cond : (b : Bool) (x : Option Heard) → option_map alter_of (cond b None x) ≡ cond b None (option_map alter_of x)
+alter_cond : (b : Bool) (x : Option AlteredHead) → option_map alter_of (cond b None x) ≡ cond b None (option_map alter_of x)
 alter_cond true x = refl
 alter_cond false x = refl
 
@@ -47,7 +47,7 @@ none_cond : (b : Bool) → option_map alter_of (cond b None None) ≡ None
 none_cond true = refl
 none_cond false = refl
 
-by_partner : (own : Option Alter) (partner : Option Heard) (p : Pitch) (said : List Head) (spread : Spread) (signs : List Sign) →
+by_partner : (own : Option Alter) (partner : Option AlteredHead) (p : Pitch) (said : List Head) (spread : Spread) (signs : List Sign) →
     heard_alter own partner p said spread signs ≡ alter_by own (option_map alter_of partner) (alteration_of p None said spread signs)
 unfolding alter_of
 by_partner (Some own) partner p said spread signs = refl
@@ -82,18 +82,18 @@ heads_are spread before e earlier (h ∷ hs) =
     ∙ ap (λ t. heard_along sound [] t) (append_assoc earlier (h ∷ []) hs)
 
 -- an event behind those of its measure
-standing_next : (now : Standing) (front : List Flat) (f : Flat) → standing_behind now (front ++ f ∷ []) ≡ standing_after (standing_behind now front) f.event.changes
+standing_next : (now : StaffState) (front : List Flat) (f : Flat) → standing_behind now (front ++ f ∷ []) ≡ standing_after (standing_behind now front) f.event.changes
 standing_next now [] f = refl
 standing_next now (g ∷ gs) f = standing_next (standing_after now g.event.changes) gs f
 
-said_next : (front : List Flat) (f : Flat) → flat_map all_heads (front ++ f ∷ []) ≡ said_behind (flat_map all_heads front) f
+said_next : (front : List Flat) (f : Flat) → flat_map all_heads (front ++ f ∷ []) ≡ said_after (flat_map all_heads front) f
 said_next [] f = append-nil (all_heads f)
 said_next (g ∷ gs) f =
     let graces = flat_map (λ x. x.heads) f.graces in
     ap (λ t. all_heads g ++ t) (said_next gs f) ∙ sym (append_assoc (all_heads g) (flat_map all_heads gs ++ graces) f.event.heads)
     ∙ ap (λ t. t ++ f.event.heads) (sym (append_assoc (all_heads g) (flat_map all_heads gs) graces))
 
-event_is : (spread : Spread) (now : Standing) (front : List Flat) (before : List Seen) (f : Flat) →
+event_is : (spread : Spread) (now : StaffState) (front : List Flat) (before : List Seen) (f : Flat) →
     heard_at spread (standing_behind now front) (flat_map all_heads front) (heard_before spread before) f ≡ heard_before spread (seen now front f ∷ before)
 event_is spread now front before f =
     let e = seen now front f in
@@ -104,7 +104,7 @@ sounds_are : (sound : Sounding) (voice event k : ℕ) (earlier hs : List Head) �
 sounds_are sound voice event k earlier [] = refl
 sounds_are sound voice event k earlier (h ∷ hs) = ap (λ t. record { voice = voice; event = event; head = k; pitch = h.pitch; alter = sound earlier h } ∷ t) (sounds_are sound voice event (k + 1) (earlier ++ h ∷ []) hs)
 
-events_are : (voice : ℕ) (spread : Spread) (now : Standing) (front : List Flat) (before : List Seen) (fs : List Flat) →
+events_are : (voice : ℕ) (spread : Spread) (now : StaffState) (front : List Flat) (before : List Seen) (fs : List Flat) →
     events_sounds voice spread (standing_behind now front) (flat_map all_heads front) (heard_before spread before) fs ≡ event_sounds voice spread before (seen_from now front fs)
 events_are voice spread now front before [] = refl
 events_are voice spread now front before (f ∷ fs) =
@@ -117,7 +117,7 @@ abbrev behind : List Seen → List Seen → List Seen
 behind before [] = before
 behind before (e ∷ es) = behind (e ∷ before) es
 
-behind_are : (spread : Spread) (now : Standing) (front : List Flat) (before : List Seen) (fs : List Flat) →
+behind_are : (spread : Spread) (now : StaffState) (front : List Flat) (before : List Seen) (fs : List Flat) →
     heard_behind spread (standing_behind now front) (flat_map all_heads front) (heard_before spread before) fs ≡ heard_before spread (behind before (seen_from now front fs))
 behind_are spread now front before [] = refl
 behind_are spread now front before (f ∷ fs) =
@@ -133,7 +133,7 @@ sounds_append voice spread before (e ∷ es) more =
     ∙ sym (append_assoc front (event_sounds voice spread (e ∷ before) es) (event_sounds voice spread (behind (e ∷ before) es) more))
 
 -- a voice, and all of them
-measures_are : (voice : ℕ) (spread : Spread) (now : Standing) (before : List Seen) (ms : List Measure) →
+measures_are : (voice : ℕ) (spread : Spread) (now : StaffState) (before : List Seen) (ms : List Measure) →
     measures_sounds voice spread now (heard_before spread before) ms ≡ event_sounds voice spread before (seen_in now ms)
 measures_are voice spread now before [] = refl
 measures_are voice spread now before (m ∷ ms) =

@@ -4,16 +4,16 @@ use Rattle.std.specs.Prelude.{ℕ, ◌+◌, ℤ, pos, negsuc, Bool, true, false,
 use Rattle.mus_units.specs.{declared.key.Key.Key, declared.key.Sign.Sign, declared.note.Wish.Wish}
 use Rattle.mus_score.specs.{declared.score.Changes.Changes, declared.score.Flat.Flat, declared.score.Measure.Measure, declared.score.Voice.Voice, declared.score.Seat.Seat, GoodScore.clef_at, Times.flats_of}
 use Rattle.{mus_arcs.specs.{Arcs.arcs_of, Events.events_of_voice}, mus_stems.specs.{declared.plans.StemPlan.StemPlan, Plans.stems_of, Stills.clefs_from}}
-use Rattle.mus_drawn.specs.declared.{standing.Standing.Standing, drawn.DrawnEvent.DrawnEvent, drawn.DrawnMeasure.DrawnMeasure, drawn.DrawnVoice.DrawnVoice, drawn.Opening.Opening, drawn.Style.Style}
+use Rattle.mus_drawn.specs.declared.{standing.StaffState.StaffState, drawn.DrawnEvent.DrawnEvent, drawn.DrawnMeasure.DrawnMeasure, drawn.DrawnVoice.DrawnVoice, drawn.SystemOpening.SystemOpening, drawn.Style.Style}
 
 -- Clef, key and meter in force are those of the last event that names them, else those with which the voice begins.
-abbrev pub standing_of : Voice → Standing
+abbrev pub standing_of : Voice → StaffState
 standing_of v = record { clef = v.clef; key = v.key; meter = v.meter }
 
-abbrev pub standing_after : Standing → Changes → Standing
+abbrev pub standing_after : StaffState → Changes → StaffState
 standing_after now ch = record { clef = unwrap_or ch.clef now.clef; key = unwrap_or ch.key now.key; meter = unwrap_or ch.meter now.meter }
 
-abbrev pub standing_behind : Standing → List Flat → Standing
+abbrev pub standing_behind : StaffState → List Flat → StaffState
 standing_behind now [] = now
 standing_behind now (f ∷ fs) = standing_behind (standing_after now f.event.changes) fs
 
@@ -23,13 +23,13 @@ old_signs key None = []
 old_signs key (Some new) = key.signs
 
 -- Where voices share a staff, the stems of the first go up and those of the others down, where nothing else is asked.
-abbrev pub wish_in : Seat → Wish → Wish
-wish_in Seat.Upper Wish.Auto = Wish.Up
-wish_in Seat.Lower Wish.Auto = Wish.Down
-wish_in seat wish = wish
+abbrev pub wish_in_seat : Seat → Wish → Wish
+wish_in_seat Seat.Upper Wish.Auto = Wish.Up
+wish_in_seat Seat.Lower Wish.Auto = Wish.Down
+wish_in_seat seat wish = wish
 
 abbrev pub style_of : Voice → Style
-style_of v = record { seat = v.seat; wish = wish_in v.seat v.stem }
+style_of v = record { seat = v.seat; wish = wish_in_seat v.seat v.stem }
 
 -- their rests stand apart, too: those of the first higher, in u, and those of the others lower
 abbrev pub raise_of : Seat → ℤ
@@ -38,27 +38,27 @@ raise_of Seat.Upper = pos 1000
 raise_of Seat.Lower = negsuc 999
 
 -- Events, each as long after the beginning as those before it last. `now` is what is in force before the first.
-abbrev pub drawn_event : Style → ℕ → Standing → Flat → StemPlan → DrawnEvent
+abbrev pub drawn_event : Style → ℕ → StaffState → Flat → StemPlan → DrawnEvent
 drawn_event style tick now f p = record { seat = style.seat; flat = f; tick = tick; clef = clef_at now.clef f.event; old = old_signs now.key f.event.changes.key; plan = p }
 
-abbrev pub drawn_events : Style → ℕ → Standing → List Flat → List StemPlan → List DrawnEvent
+abbrev pub drawn_events : Style → ℕ → StaffState → List Flat → List StemPlan → List DrawnEvent
 drawn_events style tick now [] ps = []
 drawn_events style tick now (f ∷ fs) [] = []
 drawn_events style tick now (f ∷ fs) (p ∷ ps) = drawn_event style tick now f p ∷ drawn_events style (tick + f.duration) (standing_after now f.event.changes) fs ps
 
 -- What a head shows: what is in force at the first event of the measure, or before it where it has none.
-abbrev pub opening_at : Standing → Bool → Opening
+abbrev pub opening_at : StaffState → Bool → SystemOpening
 opening_at now anew = record { clef = now.clef; key = now.key; meter = now.meter; anew = anew }
 
-abbrev pub opening_of : Standing → List Flat → Opening
+abbrev pub opening_of : StaffState → List Flat → SystemOpening
 opening_of now [] = opening_at now false
 opening_of now (f ∷ fs) = opening_at (standing_after now f.event.changes) (is_some f.event.changes.meter)
 
-unfoldable pub drawn_measure : Style → Standing → Measure → DrawnMeasure
+unfoldable pub drawn_measure : Style → StaffState → Measure → DrawnMeasure
 drawn_measure style now m =
     let flats = flats_of m.body in record { seat = style.seat; opening = opening_of now flats; events = drawn_events style 0 now flats (stems_of style.wish flats (clefs_from now.clef flats)); bar = m.bar }
 
-abbrev pub drawn_measures : Style → Standing → List Measure → List DrawnMeasure
+abbrev pub drawn_measures : Style → StaffState → List Measure → List DrawnMeasure
 drawn_measures style now [] = []
 drawn_measures style now (m ∷ ms) = drawn_measure style now m ∷ drawn_measures style (standing_behind now (flats_of m.body)) ms
 

@@ -3,28 +3,28 @@
 use Rattle.std.specs.{Prelude.{ℕ, ◌+◌, Bool, ◌&&◌, if◌then◌else◌, List, [], ◌∷◌, ◌++◌, flat_map, Option, Some, None}, List.{find, list_any}}
 use Rattle.mus_units.specs.declared.{key.Sign.Sign, key.Spread.Spread, note.Head.Head, pitch.Alter.Alter, pitch.Pitch.Pitch}
 use Rattle.{mus_score.specs.{declared.score.Flat.Flat, declared.score.Measure.Measure, declared.score.Voice.Voice, Times.flats_of}, mus_pitch.specs.Alteration.{alteration_of}, mus_arcs.specs.Arcs.{has_pitch}}
-use Rattle.mus_drawn.specs.{declared.standing.Standing.Standing, Drawn.standing_after, Drawn.standing_behind, Drawn.standing_of, declared.sounds.Heard.Heard, declared.sounds.Sound.Sound}
+use Rattle.mus_drawn.specs.{declared.standing.StaffState.StaffState, Drawn.standing_after, Drawn.standing_behind, Drawn.standing_of, declared.sounds.AlteredHead.AlteredHead, declared.sounds.Sound.Sound}
 
-abbrev pub is_heard_at : Pitch → Heard → Bool
+abbrev pub is_heard_at : Pitch → AlteredHead → Bool
 is_heard_at p x = has_pitch p x.head
 
 -- a tie goes to the first head of its letter and octave in the next event, and comes from the first there
-abbrev pub is_tied_to : Pitch → Heard → Bool
+abbrev pub is_tied_to : Pitch → AlteredHead → Bool
 is_tied_to p x = x.head.tied && has_pitch p x.head
 
-abbrev pub partner_of : List Heard → List Heard → Pitch → Option Heard
+abbrev pub partner_of : List AlteredHead → List AlteredHead → Pitch → Option AlteredHead
 partner_of before so_far p = if list_any (is_heard_at p) so_far then None else find (is_tied_to p) before
 
-abbrev pub heard_alter : Option Alter → Option Heard → Pitch → List Head → Spread → List Sign → Alter
+abbrev pub heard_alter : Option Alter → Option AlteredHead → Pitch → List Head → Spread → List Sign → Alter
 heard_alter (Some own) partner p said spread signs = own
 heard_alter None (Some x) p said spread signs = x.alter
 heard_alter None None p said spread signs = alteration_of p None said spread signs
 
 -- a head, behind those of its event so far; said are the heads before it in its measure
-abbrev pub heard : Spread → List Sign → List Heard → List Head → List Heard → Head → Heard
+abbrev pub heard : Spread → List Sign → List AlteredHead → List Head → List AlteredHead → Head → AlteredHead
 heard spread signs before said so_far h = record { head = h; alter = heard_alter h.sign (partner_of before so_far h.pitch) h.pitch said spread signs }
 
-abbrev pub heard_from : Spread → List Sign → List Heard → List Head → List Heard → List Head → List Heard
+abbrev pub heard_from : Spread → List Sign → List AlteredHead → List Head → List AlteredHead → List Head → List AlteredHead
 heard_from spread signs before said so_far [] = so_far
 heard_from spread signs before said so_far (h ∷ hs) = heard_from spread signs before (said ++ h ∷ []) (so_far ++ heard spread signs before said so_far h ∷ []) hs
 
@@ -32,30 +32,30 @@ heard_from spread signs before said so_far (h ∷ hs) = heard_from spread signs 
 abbrev pub said_at : List Head → Flat → List Head
 said_at said f = said ++ flat_map (λ g. g.heads) f.graces
 
-abbrev pub said_behind : List Head → Flat → List Head
-said_behind said f = said_at said f ++ f.event.heads
+abbrev pub said_after : List Head → Flat → List Head
+said_after said f = said_at said f ++ f.event.heads
 
 -- the heads of an event; before are those of the event before it in its voice
-abbrev pub heard_at : Spread → Standing → List Head → List Heard → Flat → List Heard
+abbrev pub heard_at : Spread → StaffState → List Head → List AlteredHead → Flat → List AlteredHead
 heard_at spread now said before f = heard_from spread (standing_after now f.event.changes).key.signs before (said_at said f) [] f.event.heads
 
-abbrev pub heard_behind : Spread → Standing → List Head → List Heard → List Flat → List Heard
+abbrev pub heard_behind : Spread → StaffState → List Head → List AlteredHead → List Flat → List AlteredHead
 heard_behind spread now said before [] = before
-heard_behind spread now said before (f ∷ fs) = heard_behind spread (standing_after now f.event.changes) (said_behind said f) (heard_at spread now said before f) fs
+heard_behind spread now said before (f ∷ fs) = heard_behind spread (standing_after now f.event.changes) (said_after said f) (heard_at spread now said before f) fs
 
 -- heads from number k on
-abbrev pub sounds_from : ℕ → ℕ → ℕ → List Heard → List Sound
+abbrev pub sounds_from : ℕ → ℕ → ℕ → List AlteredHead → List Sound
 sounds_from voice event k [] = []
 sounds_from voice event k (x ∷ xs) = record { voice = voice; event = event; head = k; pitch = x.head.pitch; alter = x.alter } ∷ sounds_from voice event (k + 1) xs
 
-abbrev pub events_sounds : ℕ → Spread → Standing → List Head → List Heard → List Flat → List Sound
+abbrev pub events_sounds : ℕ → Spread → StaffState → List Head → List AlteredHead → List Flat → List Sound
 events_sounds voice spread now said before [] = []
 events_sounds voice spread now said before (f ∷ fs) =
     sounds_from voice f.event.id 0 (heard_at spread now said before f)
-    ++ events_sounds voice spread (standing_after now f.event.changes) (said_behind said f) (heard_at spread now said before f) fs
+    ++ events_sounds voice spread (standing_after now f.event.changes) (said_after said f) (heard_at spread now said before f) fs
 
 -- nothing is said at the beginning of a measure
-abbrev pub measures_sounds : ℕ → Spread → Standing → List Heard → List Measure → List Sound
+abbrev pub measures_sounds : ℕ → Spread → StaffState → List AlteredHead → List Measure → List Sound
 measures_sounds voice spread now before [] = []
 measures_sounds voice spread now before (m ∷ ms) =
     events_sounds voice spread now [] before (flats_of m.body)

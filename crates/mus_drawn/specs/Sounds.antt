@@ -4,7 +4,7 @@
 use Rattle.std.specs.{Prelude.{ℕ, ◌+◌, Bool, ◌&&◌, if◌then◌else◌, List, [], ◌∷◌, ◌++◌, flat_map, Option, Some, None}, List.list_any}
 use Rattle.mus_units.specs.declared.{key.Sign.Sign, key.Spread.Spread, note.Head.Head, pitch.Alter.Alter, pitch.Pitch.Pitch}
 use Rattle.{mus_score.specs.{declared.score.Flat.Flat, declared.score.Measure.Measure, declared.score.Score.Score, declared.score.Voice.Voice, Times.flats_of}, mus_pitch.specs.Alteration.{alteration_of}, mus_arcs.specs.Arcs.{has_pitch}}
-use Rattle.mus_drawn.specs.{declared.sounds.Sound.Sound, declared.standing.Standing.Standing, Drawn.standing_behind, Drawn.standing_of}
+use Rattle.mus_drawn.specs.{declared.sounds.Sound.Sound, declared.standing.StaffState.StaffState, Drawn.standing_behind, Drawn.standing_of}
 
 -- an event with what can be seen from it: the heads before it in its measure, its own graces' too, and its key's signs
 pub record Seen : Type 0 where
@@ -44,14 +44,14 @@ abbrev pub all_heads : Flat → List Head
 all_heads f = grace_heads f ++ f.event.heads
 
 -- an event behind those before it in its measure, at whose beginning `now` is in force
-abbrev pub seen : Standing → List Flat → Flat → Seen
+abbrev pub seen : StaffState → List Flat → Flat → Seen
 seen now front f = record { id = f.event.id; heads = f.event.heads; said = flat_map all_heads front ++ grace_heads f; signs = (standing_behind now (front ++ f ∷ [])).key.signs }
 
-abbrev pub seen_from : Standing → List Flat → List Flat → List Seen
+abbrev pub seen_from : StaffState → List Flat → List Flat → List Seen
 seen_from now front [] = []
 seen_from now front (f ∷ fs) = seen now front f ∷ seen_from now (front ++ f ∷ []) fs
 
-abbrev pub seen_in : Standing → List Measure → List Seen
+abbrev pub seen_in : StaffState → List Measure → List Seen
 seen_in now [] = []
 seen_in now (m ∷ ms) = seen_from now [] (flats_of m.body) ++ seen_in (standing_behind now (flats_of m.body)) ms
 

@@ -2,10 +2,10 @@ ghost use Rattle.std.specs.Prelude.{◌≡◌, ◌≤◌, ◌*◌, ◌++◌, ◌
 ghost use Rattle.mus_units.specs.Good.{IsGoodKey};
 ghost use Rattle.mus_score.specs.{Good.{IsGoodBody, flat_count, IsGoodFlat, flat_weight, longest_ticks, total_ticks}, Times.flats_of, GoodScore.{AreInReach, IsGoodEvent, IsGoodVoice, events_of}};
 ghost use Rattle.mus_stems.specs.Plans.{stems_of, AllEndsNear};
-ghost use Rattle.mus_drawn.specs.{Drawn.{standing_after, standing_behind, drawn_event, drawn_events, drawn_measure, drawn_measures, drawn_voice, raise_of, style_of, wish_in}, Good.{AllCanDraw, IsGoodMeasure, AreGoodMeasures}};
+ghost use Rattle.mus_drawn.specs.{Drawn.{standing_after, standing_behind, drawn_event, drawn_events, drawn_measure, drawn_measures, drawn_voice, raise_of, style_of, wish_in_seat}, Good.{AllCanDraw, IsGoodMeasure, AreGoodMeasures}};
 
 use crate::drawn::{DrawnEvent, DrawnMeasure, DrawnVoice, Style};
-use crate::standing::{Standing, change, old_signs, opening_of, standing_of};
+use crate::standing::{StaffState, change, old_signs, opening_of, standing_of};
 use mus_arcs::arcs;
 use mus_score::{Flat, Measure, Seat, Voice, flatten};
 use mus_stems::{StemPlan, stems};
@@ -14,8 +14,8 @@ use std::alloc::Global;
 
 /// The way of the stems of a voice: on a shared staff up for the first and down for the others, where
 /// nothing else is asked.
-fn wish_in(seat: Seat, wish: Wish) -> Wish
-    ensures { result ≡ wish_in seat wish }
+fn wish_in_seat(seat: Seat, wish: Wish) -> Wish
+    ensures { result ≡ wish_in_seat seat wish }
 {
     match (seat, wish) {
         (Seat::Upper, Wish::Auto) => Wish::Up,
@@ -29,7 +29,7 @@ fn style_of(v: &Voice) -> Style
 {
     Style {
         seat: v.seat,
-        wish: wish_in(v.seat, v.stem),
+        wish: wish_in_seat(v.seat, v.stem),
     }
 }
 
@@ -49,7 +49,7 @@ fn draw_event<'a>(
     alloc: Global,
     style: Style,
     tick: u64,
-    now: &mut Standing,
+    now: &mut StaffState,
     flat: Flat<'a>,
     plan: StemPlan,
     out: &mut Row<DrawnEvent<'a>>,
@@ -74,7 +74,7 @@ fn draw_event<'a>(
 fn draw_events<'a>(
     alloc: Global,
     style: Style,
-    now: &mut Standing,
+    now: &mut StaffState,
     flats: Row<Flat<'a>>,
     plans: Row<StemPlan>,
 ) -> Result<Row<DrawnEvent<'a>>, Memory>
@@ -101,7 +101,7 @@ fn draw_events<'a>(
 fn draw_measure<'a>(
     alloc: Global,
     style: Style,
-    now: &mut Standing,
+    now: &mut StaffState,
     m: &'a Measure,
 ) -> Result<DrawnMeasure<'a>, Memory>
     requires body { IsGoodBody m.now.body }
@@ -127,7 +127,7 @@ fn draw_measure<'a>(
 fn draw_measures<'a>(
     alloc: Global,
     style: Style,
-    now: &mut Standing,
+    now: &mut StaffState,
     measures: &'a [Measure],
 ) -> Result<Row<DrawnMeasure<'a>>, Memory>
     requires bodies { All (λ m. IsGoodBody m.body) measures.now }

@@ -26,7 +26,7 @@ pub struct DrawnEvent<'a> {
 /// What the head of a system shows that begins with a measure: clef, key and meter in force at its
 /// first event, else before it; `anew` tells that the first event changes the meter.
 #[derive(Drop)]
-pub struct Opening {
+pub struct SystemOpening {
     pub clef: Clef,
     pub key: Key,
     pub meter: Meter,
@@ -37,7 +37,7 @@ pub struct Opening {
 #[derive(Drop)]
 pub struct DrawnMeasure<'a> {
     pub seat: Seat,
-    pub opening: Opening,
+    pub opening: SystemOpening,
     pub events: Row<DrawnEvent<'a>>,
     pub bar: Bar,
 }

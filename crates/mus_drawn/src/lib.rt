@@ -8,6 +8,6 @@ pub mod sounds;
 pub mod standing;
 
 pub use drawing::{draw_voice, raise_of};
-pub use drawn::{DrawnEvent, DrawnMeasure, DrawnVoice, Opening, Style};
+pub use drawn::{DrawnEvent, DrawnMeasure, DrawnVoice, SystemOpening, Style};
 pub use sounds::{Sound, sounding};
-pub use standing::Standing;
+pub use standing::StaffState;

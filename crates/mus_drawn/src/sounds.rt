@@ -1,8 +1,8 @@
 ghost use Rattle.std.specs.{Prelude.◌≡◌, Prelude.◌≤◌, Prelude.◌++◌, Prelude.[], Prelude.length, Prelude.flat_map, Prelude.All, Prelude.IfOk, Prelude.OnOk, List.find, List.list_any};
 ghost use Rattle.{mus_score.specs.{Good.IsGoodBody, GoodScore.IsGoodScore, GoodScore.IsGoodVoice, Times.flats_of}, mus_arcs.specs.Arcs.{has_pitch}};
-ghost use Rattle.mus_drawn.specs.{Drawn.{standing_after, standing_behind, standing_of}, Hearing.{is_heard_at, is_tied_to, partner_of, heard_alter, heard, heard_from, said_at, said_behind, heard_at, heard_behind, sounds_from, events_sounds, measures_sounds, voices_sounds}, Sounds.sounds_of};
+ghost use Rattle.mus_drawn.specs.{Drawn.{standing_after, standing_behind, standing_of}, Hearing.{is_heard_at, is_tied_to, partner_of, heard_alter, heard, heard_from, said_at, said_after, heard_at, heard_behind, sounds_from, events_sounds, measures_sounds, voices_sounds}, Sounds.sounds_of};
 
-use crate::standing::{Standing, change, standing_of};
+use crate::standing::{StaffState, change, standing_of};
 use mus_pitch::in_force;
 use mus_score::{Event, Flat, Head, Key, Measure, Music, Score, Spread, Voice, flatten};
 use mus_units::{Alter, Memory, Pitch, Row};
@@ -21,7 +21,7 @@ pub struct Sound {
 
 /// A head and its alteration.
 #[derive(Clone, Copy, PartialEq, Eq)]
-pub struct Heard {
+pub struct AlteredHead {
     pub head: Head,
     pub alter: Alter,
 }
@@ -34,7 +34,7 @@ fn has_pitch(pitch: Pitch, head: Head) -> bool
 }
 
 /// Whether a head of this letter and octave is among these.
-fn is_heard(pitch: Pitch, heads: &[Heard]) -> bool
+fn is_heard(pitch: Pitch, heads: &[AlteredHead]) -> bool
     ensures { result ≡ list_any (is_heard_at pitch) heads.now }
 {
     for x in heads {
@@ -46,7 +46,7 @@ fn is_heard(pitch: Pitch, heads: &[Heard]) -> bool
 }
 
 /// The first head of an event that is tied to the next one's head of this letter and octave.
-fn tied_to(pitch: Pitch, heads: &[Heard]) -> Option<Heard>
+fn tied_to(pitch: Pitch, heads: &[AlteredHead]) -> Option<AlteredHead>
     ensures { result ≡ find (is_tied_to pitch) heads.now }
 {
     for x in heads {
@@ -58,7 +58,7 @@ fn tied_to(pitch: Pitch, heads: &[Heard]) -> Option<Heard>
 }
 
 /// The head of the event before that is tied to a head, of which `so_far` stand in its event before it.
-fn partner(before: &[Heard], so_far: &[Heard], pitch: Pitch) -> Option<Heard>
+fn partner(before: &[AlteredHead], so_far: &[AlteredHead], pitch: Pitch) -> Option<AlteredHead>
     ensures { result ≡ partner_of before.now so_far.now pitch }
 {
     if is_heard(pitch, so_far) {
@@ -68,7 +68,7 @@ fn partner(before: &[Heard], so_far: &[Heard], pitch: Pitch) -> Option<Heard>
     }
 }
 
-fn alter_of(head: Head, partner: Option<Heard>, said: &[Head], spread: Spread, key: &Key) -> Alter
+fn alter_of(head: Head, partner: Option<AlteredHead>, said: &[Head], spread: Spread, key: &Key) -> Alter
     ensures { result ≡ heard_alter head.sign partner head.pitch said.now spread key.now.signs }
 {
     match (head.sign, partner) {
@@ -82,15 +82,15 @@ fn alter_of(head: Head, partner: Option<Heard>, said: &[Head], spread: Spread, k
 fn hear(
     spread: Spread,
     key: &Key,
-    before: &[Heard],
+    before: &[AlteredHead],
     said: &[Head],
-    so_far: &[Heard],
+    so_far: &[AlteredHead],
     head: Head,
-) -> Heard
+) -> AlteredHead
     ensures { result ≡ heard spread key.now.signs before.now said.now so_far.now head }
 {
     let partner = partner(before, so_far, head.pitch);
-    Heard {
+    AlteredHead {
         head,
         alter: alter_of(head, partner, said, spread, key),
     }
@@ -101,10 +101,10 @@ fn hear_heads(
     alloc: Global,
     spread: Spread,
     key: &Key,
-    before: &[Heard],
+    before: &[AlteredHead],
     said: &mut Row<Head>,
     heads: &[Head],
-) -> Result<Row<Heard>, Memory>
+) -> Result<Row<AlteredHead>, Memory>
     ensures heard { IfOk result (λ r. r ≡ heard_from spread key.now.signs before.now said.old [] heads.now) }
     ensures count { IfOk result (λ r. length r ≡ length heads.now) }
     ensures said { OnOk result (said.new ≡ said.old ++ heads.now) }
@@ -137,7 +137,7 @@ fn say_graces(said: &mut Row<Head>, graces: &[Event]) -> Result<(), Memory>
 }
 
 /// Lists the heads of an event.
-fn put_sounds(out: &mut Row<Sound>, voice: u32, event: u32, heads: &[Heard]) -> Result<(), Memory>
+fn put_sounds(out: &mut Row<Sound>, voice: u32, event: u32, heads: &[AlteredHead]) -> Result<(), Memory>
     requires { length heads.now ≤ 50000 }
     ensures { OnOk result (out.new ≡ out.old ++ sounds_from voice event 0 heads.now) }
 {
@@ -157,14 +157,14 @@ fn put_sounds(out: &mut Row<Sound>, voice: u32, event: u32, heads: &[Heard]) -> 
 fn hear_event(
     alloc: Global,
     spread: Spread,
-    now: &mut Standing,
-    before: &[Heard],
+    now: &mut StaffState,
+    before: &[AlteredHead],
     said: &mut Row<Head>,
     flat: &Flat<'_>,
-) -> Result<Row<Heard>, Memory>
+) -> Result<Row<AlteredHead>, Memory>
     ensures heard { IfOk result (λ r. r ≡ heard_at spread now.old said.old before.now flat.now) }
     ensures count { IfOk result (λ r. length r ≡ length flat.now.event.heads) }
-    ensures said { OnOk result (said.new ≡ said_behind said.old flat.now) }
+    ensures said { OnOk result (said.new ≡ said_after said.old flat.now) }
     ensures now { OnOk result (now.new ≡ standing_after now.old flat.now.event.changes) }
 {
     change(alloc, now, &flat.event().changes)?;
@@ -186,8 +186,8 @@ fn put_events(
     out: &mut Row<Sound>,
     voice: u32,
     spread: Spread,
-    now: &mut Standing,
-    before: &mut Row<Heard>,
+    now: &mut StaffState,
+    before: &mut Row<AlteredHead>,
     flats: &[Flat<'_>],
 ) -> Result<(), Memory>
     requires { All (λ f. length f.event.heads ≤ 50000) flats.now }
@@ -209,8 +209,8 @@ fn put_body(
     out: &mut Row<Sound>,
     voice: u32,
     spread: Spread,
-    now: &mut Standing,
-    before: &mut Row<Heard>,
+    now: &mut StaffState,
+    before: &mut Row<AlteredHead>,
     body: &[Music],
 ) -> Result<(), Memory>
     requires { IsGoodBody body.now }
@@ -227,7 +227,7 @@ fn put_measures(
     out: &mut Row<Sound>,
     voice: u32,
     spread: Spread,
-    now: Standing,
+    now: StaffState,
     measures: &[Measure],
 ) -> Result<(), Memory>
     requires { All (λ m. IsGoodBody m.body) measures.now }

@@ -1,24 +1,24 @@
 ghost use Rattle.std.specs.Prelude.{◌≡◌, IfOk, OnOk};
 ghost use Rattle.mus_drawn.specs.Drawn.{standing_of, standing_after, old_signs, opening_at, opening_of};
 
-use crate::drawn::Opening;
+use crate::drawn::SystemOpening;
 use mus_score::{Changes, Flat, Voice};
 use mus_units::{Clef, Key, Memory, Meter, Row, Sign};
 use std::alloc::Global;
 
 /// Clef, key and meter in force at a place of a voice.
 #[derive(Drop)]
-pub struct Standing {
+pub struct StaffState {
     pub clef: Clef,
     pub key: Key,
     pub meter: Meter,
 }
 
 /// What is in force where a voice begins.
-pub fn standing_of(alloc: Global, v: &Voice) -> Result<Standing, Memory>
+pub fn standing_of(alloc: Global, v: &Voice) -> Result<StaffState, Memory>
     ensures { IfOk result (λ s. s ≡ standing_of v.now) }
 {
-    Ok(Standing {
+    Ok(StaffState {
         clef: v.clef,
         key: v.key.copy(alloc)?,
         meter: v.meter,
@@ -27,7 +27,7 @@ pub fn standing_of(alloc: Global, v: &Voice) -> Result<Standing, Memory>
 
 /// Changes what is in force.
 #[inline(always)]
-pub fn change(alloc: Global, now: &mut Standing, changes: &Changes) -> Result<(), Memory>
+pub fn change(alloc: Global, now: &mut StaffState, changes: &Changes) -> Result<(), Memory>
     ensures { OnOk result (now.new ≡ standing_after now.old changes.now) }
 {
     if let Some(key) = &changes.key {
@@ -48,10 +48,10 @@ pub fn old_signs(alloc: Global, key: &Key, change: &Option<Key>) -> Result<Row<S
     }
 }
 
-fn opening(now: Standing, anew: bool) -> Opening
+fn opening(now: StaffState, anew: bool) -> SystemOpening
     ensures { result ≡ opening_at now anew }
 {
-    Opening {
+    SystemOpening {
         clef: now.clef,
         key: now.key,
         meter: now.meter,
@@ -60,10 +60,10 @@ fn opening(now: Standing, anew: bool) -> Opening
 }
 
 /// What the head of a system shows that begins with these events.
-pub fn opening_of(alloc: Global, before: &Standing, flats: &[Flat<'_>]) -> Result<Opening, Memory>
+pub fn opening_of(alloc: Global, before: &StaffState, flats: &[Flat<'_>]) -> Result<SystemOpening, Memory>
     ensures { IfOk result (λ o. o ≡ opening_of before.now flats.now) }
 {
-    let mut now = Standing {
+    let mut now = StaffState {
         clef: before.clef,
         key: before.key.copy(alloc)?,
         meter: before.meter,

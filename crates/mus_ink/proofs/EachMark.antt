@@ -3,21 +3,21 @@
 use Rattle.std.{proofs.Common.{ℕ, zero, suc, ℤ, ◌+◌, ◌-◌, max, Bool, true, false, ◌==◌, ◌&&◌, if◌then◌else◌, List, [], ◌∷◌, ◌++◌, Option, Some, None}, specs.{List.AllByRecursion, Prelude.IfSome}}
 use Rattle.mus_units.specs.{declared.glyph.Glyph.Glyph, declared.key.Key.Key, declared.key.Meter.Meter, declared.key.Sign.Sign, declared.note.Bar.Bar, declared.note.Deco.Deco, declared.note.Head.Head, declared.pitch.Alter.Alter, declared.pitch.Clef.Clef, declared.value.Base.Base, Good.IsGoodMeter}
 use Rattle.{mus_score.specs.{declared.score.Changes.Changes, declared.score.Event.Event, declared.score.Look.Look}, mus_stems.{proofs.RunLaws.all_append, specs.{declared.dots.Spot.Spot, declared.plans.StemPlan.StemPlan}}}
-use Rattle.mus_ink.specs.{declared.graces.Group.Group, Bars.{bar_marks, glyph_if}, Changes.{behind_clef, change_marks, clef_if, head_marks, key_if, new_entries}, Decos.{behind_deco, body_marks, deco_mark, deco_marks, note_marks}, Distances.{entry_gap, signature_side}, Kinds.{deco_glyph, head_glyph}, Graces.{at_end, grace_body, grace_heads, grace_marks}, Notes.{dot_marks, heads_marks, ledger_marks, note_heads, sign_mark, sign_marks}, Rests.{rest_dots, rest_glyphs, rest_marks, short_rests}, Signatures.{entry_mark, entry_marks, meter_if, meter_marks}, Stems.{flag_marks, flags_or_stubs, stem_if, stem_marks, stub_marks}, Drawing.{glyph, loose_glyph, stem}}
-use Rattle.mus_laid.specs.declared.drawn.Drawn.{Drawn}
+use Rattle.mus_ink.specs.{declared.graces.Group.Group, Bars.{bar_marks, glyph_if}, Changes.{behind_clef, change_marks, clef_if, head_marks, key_if, new_entries}, Decos.{behind_deco, body_marks, deco_mark, deco_marks, note_marks}, Distances.{entry_gap, signature_side}, Kinds.{deco_glyph, head_glyph}, Graces.{at_end, grace_body, grace_head_ink, grace_marks}, Notes.{dot_marks, heads_marks, ledger_marks, note_heads, sign_mark, sign_marks}, Rests.{rest_dots, rest_glyphs, rest_marks, short_rests}, Signatures.{entry_mark, entry_marks, meter_if, meter_marks}, Stems.{flag_marks, flags_or_stubs, stem_if, stem_marks, stub_marks}, Drawing.{glyph, loose_glyph, stem}}
+use Rattle.mus_laid.specs.declared.drawn.LaneInk.{LaneInk}
 
 -- what is asked of each kind of mark
-pub record OfMarks (P : Drawn → Type 0) : Type 0 where
+pub record OfMarks (P : LaneInk → Type 0) : Type 0 where
   pub of_glyph : (g : Glyph) (dx dy : ℤ) → P (glyph g dx dy)
   pub of_loose : (g : Glyph) (dx dy : ℤ) → P (loose_glyph g dx dy)
   pub of_stem : (dx from to : ℤ) → P (stem dx from to)
   pub of_meter : (dx : ℕ) (m : Meter) → IsGoodMeter m → AllByRecursion P (meter_marks dx m)
 
-module _ (P : Drawn → Type 0) (w : OfMarks P) where
-  two : (xs ys : List Drawn) → AllByRecursion P xs → AllByRecursion P ys → AllByRecursion P (xs ++ ys)
+module _ (P : LaneInk → Type 0) (w : OfMarks P) where
+  two : (xs ys : List LaneInk) → AllByRecursion P xs → AllByRecursion P ys → AllByRecursion P (xs ++ ys)
   two = all_append P
 
-  either : (b : Bool) (xs ys : List Drawn) → AllByRecursion P xs → AllByRecursion P ys → AllByRecursion P (if b then xs else ys)
+  either : (b : Bool) (xs ys : List LaneInk) → AllByRecursion P xs → AllByRecursion P ys → AllByRecursion P (if b then xs else ys)
   either true xs ys p q = p
   either false xs ys p q = q
 
@@ -158,7 +158,7 @@ module _ (P : Drawn → Type 0) (w : OfMarks P) where
   note c raise e p before after = two (body_marks c raise e.heads e p before after) _ (body c raise e.heads e p before after) (all_decos _ e.decos)
 
   -- ---- graces
-  small_heads : (c : Clef) (hs : List Head) → AllByRecursion P (grace_heads c hs)
+  small_heads : (c : Clef) (hs : List Head) → AllByRecursion P (grace_head_ink c hs)
   small_heads c [] = tt
   small_heads c (h ∷ hs) = (w.of_glyph _ _ _, small_heads c hs)
 

@@ -1,13 +1,13 @@
 -- The head of a staff, and a change before an event.
 use Rattle.std.specs.Prelude.{ℕ, ◌+◌, ◌*◌, true, false, List, [], ◌∷◌, ◌++◌, length, Option, Some, None}
-use Rattle.{mus_units.specs.{declared.pitch.Clef.Clef, declared.key.Sign.Sign, declared.key.Key.Key, declared.key.Meter.Meter}, mus_score.specs.declared.score.Changes.{Changes}, mus_laid.specs.declared.drawn.Drawn.{Drawn}}
+use Rattle.{mus_units.specs.{declared.pitch.Clef.Clef, declared.key.Sign.Sign, declared.key.Key.Key, declared.key.Meter.Meter}, mus_score.specs.declared.score.Changes.{Changes}, mus_laid.specs.declared.drawn.LaneInk.{LaneInk}}
 use Rattle.mus_ink.specs.{Distances.clef_side, Distances.clef_width, Distances.entry_gap, Distances.entry_step, Distances.signature_side, Signatures.clef_mark, Signatures.entry_marks, Signatures.meter_if}
 
 -- the clef, the entries and the meter drawn there
-unfoldable pub head_marks : Clef → List Sign → Option Meter → List Drawn
+unfoldable pub head_marks : Clef → List Sign → Option Meter → List LaneInk
 head_marks c signs meter = clef_mark clef_side c ∷ entry_marks c false signature_side 0 signs ++ meter_if (signature_side + entry_step * length signs) meter
 
-abbrev pub clef_if : Option Clef → List Drawn
+abbrev pub clef_if : Option Clef → List LaneInk
 clef_if None = []
 clef_if (Some c) = clef_mark 0 c ∷ []
 
@@ -17,11 +17,11 @@ behind_clef None = 0
 behind_clef (Some c) = clef_width
 
 -- the entries of a new key, or a natural for each of the old one where the new one has none
-abbrev pub new_entries : Clef → ℕ → List Sign → List Sign → List Drawn
+abbrev pub new_entries : Clef → ℕ → List Sign → List Sign → List LaneInk
 new_entries c first old [] = entry_marks c true first 0 old
 new_entries c first old (s ∷ ss) = entry_marks c false first 0 (s ∷ ss)
 
-abbrev pub key_if : Clef → ℕ → List Sign → Option Key → List Drawn
+abbrev pub key_if : Clef → ℕ → List Sign → Option Key → List LaneInk
 key_if c first old None = []
 key_if c first old (Some key) = new_entries c first old key.signs
 
@@ -35,5 +35,5 @@ count_if old None = 0
 count_if old (Some key) = new_count old key.signs
 
 -- a change: the clef in force there, the old key's signs, and what changes
-unfoldable pub change_marks : Clef → List Sign → Changes → List Drawn
+unfoldable pub change_marks : Clef → List Sign → Changes → List LaneInk
 change_marks c old changes = let x = behind_clef changes.clef in clef_if changes.clef ++ key_if c (x + entry_gap) old changes.key ++ meter_if (x + entry_step * count_if old changes.key) changes.meter

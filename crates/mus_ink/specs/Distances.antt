@@ -6,8 +6,8 @@ abbrev pub top_line : ℕ
 top_line = 2000
 
 -- no height is further than this from the bottom line
-abbrev pub furthest : ℕ
-furthest = 1073741824
+abbrev pub greatest_height : ℕ
+greatest_height = 1073741824
 
 -- a stem beside its column, that of a grace, and how far the stem of a grace goes beyond its highest head
 abbrev pub stem_side : ℕ

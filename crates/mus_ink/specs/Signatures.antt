@@ -1,10 +1,10 @@
 -- Clefs, the entries of key signatures, and meters.
 use Rattle.std.specs.Prelude.{ℕ, ℤ, pos, ◌+◌, ◌*◌, Bool, true, false, List, [], ◌∷◌, Option, Some, None, codes, decimal}
-use Rattle.{mus_units.specs.declared.{pitch.Letter.Letter, pitch.Alter.Alter, pitch.Clef.Clef, key.Sign.Sign, key.Meter.Meter}, mus_laid.specs.declared.drawn.Drawn.{Drawn}}
+use Rattle.{mus_units.specs.declared.{pitch.Letter.Letter, pitch.Alter.Alter, pitch.Clef.Clef, key.Sign.Sign, key.Meter.Meter}, mus_laid.specs.declared.drawn.LaneInk.{LaneInk}}
 use Rattle.mus_ink.specs.{declared.kinds.ClefRow.ClefRow, declared.kinds.Entries.Entries, Distances.entry_step, Distances.lower_number_line, Distances.meter_sign_line, Distances.upper_number_line, Drawing.big_text, Drawing.glyph, Drawing.steps_dy, Kinds.clef_row, Kinds.sign_glyph}
 
 -- a clef stands at the line that it names
-abbrev pub clef_mark : ℕ → Clef → Drawn
+abbrev pub clef_mark : ℕ → Clef → LaneInk
 clef_mark dx c = glyph (clef_row c).glyph (pos dx) (steps_dy (clef_row c).line)
 
 abbrev pub height_at : Letter → Entries → ℤ
@@ -23,28 +23,28 @@ entries_for Alter.Flat row = row.flats
 entries_for _ row = row.sharps
 
 -- a key that ends shows naturals
-abbrev pub shown : Bool → Alter → Alter
-shown true a = Alter.Natural
-shown false a = a
+abbrev pub shown_alter : Bool → Alter → Alter
+shown_alter true a = Alter.Natural
+shown_alter false a = a
 
 unfoldable pub entry_dy : Clef → Alter → Letter → ℤ
 entry_dy c a l = steps_dy (height_at l (entries_for a (clef_row c)))
 
-unfoldable pub entry_mark : Clef → Alter → Letter → ℕ → Drawn
+unfoldable pub entry_mark : Clef → Alter → Letter → ℕ → LaneInk
 entry_mark c a l dx = glyph (sign_glyph a) (pos dx) (entry_dy c a l)
 
 -- entries side by side, the k-th first
-abbrev pub entry_marks : Clef → Bool → ℕ → ℕ → List Sign → List Drawn
+abbrev pub entry_marks : Clef → Bool → ℕ → ℕ → List Sign → List LaneInk
 entry_marks c ends first k [] = []
-entry_marks c ends first k (s ∷ ss) = entry_mark c (shown ends s.alter) s.letter (first + entry_step * k) ∷ entry_marks c ends first (k + 1) ss
+entry_marks c ends first k (s ∷ ss) = entry_mark c (shown_alter ends s.alter) s.letter (first + entry_step * k) ∷ entry_marks c ends first (k + 1) ss
 
 -- two numbers, one above the other, or a sign for 4/4 and 2/2; a free meter has none
-unfoldable pub meter_marks : ℕ → Meter → List Drawn
+unfoldable pub meter_marks : ℕ → Meter → List LaneInk
 meter_marks dx Meter.Free = []
 meter_marks dx Meter.Common = big_text (pos dx) (pos meter_sign_line) (codes "C") ∷ []
 meter_marks dx Meter.Cut = big_text (pos dx) (pos meter_sign_line) (codes "C|") ∷ []
 meter_marks dx (Meter.Ratio num den) = big_text (pos dx) (pos upper_number_line) (decimal num) ∷ big_text (pos dx) (pos lower_number_line) (decimal den) ∷ []
 
-abbrev pub meter_if : ℕ → Option Meter → List Drawn
+abbrev pub meter_if : ℕ → Option Meter → List LaneInk
 meter_if dx None = []
 meter_if dx (Some m) = meter_marks dx m

@@ -2,7 +2,7 @@ ghost use Rattle.std.specs.Prelude.{◌≡◌, OnOk};
 ghost use Rattle.{mus_ink.specs.Bars.{bar_glyph, glyph_if, bar_marks}, mus_laid.specs.Ranked.{inked}};
 
 use crate::drawing::put_glyph;
-use mus_laid::Pen;
+use mus_laid::MarkPen;
 use mus_units::{Bar, Glyph, Memory};
 
 /// The glyph of a bar's body.
@@ -29,7 +29,7 @@ fn body(bar: Bar) -> Glyph
     }
 }
 
-fn put_if(pen: &mut Pen, yes: bool, glyph: Glyph) -> Result<(), Memory>
+fn put_if(pen: &mut MarkPen, yes: bool, glyph: Glyph) -> Result<(), Memory>
     ensures { OnOk result (pen.new ≡ inked pen.old (glyph_if yes glyph)) }
 {
     if yes {
@@ -41,7 +41,7 @@ fn put_if(pen: &mut Pen, yes: bool, glyph: Glyph) -> Result<(), Memory>
 /// Draws a bar: its body at dx 0 and dy 0, then the dots of a repeat that ends there, then those of
 /// one that begins there.
 #[tactic(auto, unfolding(crate::specs::Bars::bar_marks))]
-pub fn put_bar(pen: &mut Pen, bar: Bar) -> Result<(), Memory>
+pub fn put_bar(pen: &mut MarkPen, bar: Bar) -> Result<(), Memory>
     ensures { OnOk result (pen.new ≡ inked pen.old (bar_marks bar)) }
 {
     put_if(pen, true, body(bar))?;

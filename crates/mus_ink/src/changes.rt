@@ -4,7 +4,7 @@ ghost use Rattle.mus_laid.specs.Ranked.{inked};
 
 use crate::distances::{CLEF_SIDE, CLEF_WIDTH, ENTRY_GAP, ENTRY_STEP, SIGNATURE_SIDE};
 use crate::signatures::{put_clef, put_entries, put_meter_if};
-use mus_laid::Pen;
+use mus_laid::MarkPen;
 use mus_score::Changes;
 use mus_units::{Clef, Key, Memory, Meter, Sign};
 
@@ -12,7 +12,7 @@ use mus_units::{Clef, Key, Memory, Meter, Sign};
 /// meter, where one is drawn there.
 #[tactic(auto, using(crate::proofs::Keys::few_signs), unfolding(crate::specs::Changes::head_marks))]
 pub fn put_head(
-    pen: &mut Pen,
+    pen: &mut MarkPen,
     clef: Clef,
     signs: &[Sign],
     meter: Option<Meter>,
@@ -25,7 +25,7 @@ pub fn put_head(
     put_meter_if(pen, SIGNATURE_SIDE + ENTRY_STEP * signs.len() as u32, meter)
 }
 
-fn put_clef_if(pen: &mut Pen, clef: Option<Clef>) -> Result<(), Memory>
+fn put_clef_if(pen: &mut MarkPen, clef: Option<Clef>) -> Result<(), Memory>
     ensures { OnOk result (pen.new ≡ inked pen.old (clef_if clef)) }
 {
     match clef {
@@ -47,7 +47,7 @@ fn behind_clef(clef: Option<Clef>) -> u32
 
 /// Draws the signature of a new key, or a natural for each sign of the old one where it has none.
 fn put_new_entries(
-    pen: &mut Pen,
+    pen: &mut MarkPen,
     clef: Clef,
     first: u32,
     old: &[Sign],
@@ -77,7 +77,7 @@ fn new_count(old: &[Sign], signs: &[Sign]) -> usize
 }
 
 fn put_key_if(
-    pen: &mut Pen,
+    pen: &mut MarkPen,
     clef: Clef,
     first: u32,
     old: &[Sign],
@@ -111,7 +111,7 @@ fn count_if(old: &[Sign], key: &Option<Key>) -> usize
 /// in the clef in force there, `clef`, and then the meter. Where the new key has no entries, each of
 /// the old key, `old`, gives a natural.
 #[tactic(auto, using(crate::proofs::Keys::few_signs), unfolding(crate::specs::Changes::change_marks))]
-pub fn put_change(pen: &mut Pen, clef: Clef, old: &[Sign], changes: &Changes) -> Result<(), Memory>
+pub fn put_change(pen: &mut MarkPen, clef: Clef, old: &[Sign], changes: &Changes) -> Result<(), Memory>
     requires old { AreGoodSigns old.now }
     requires key { IfSome changes.now.key IsGoodKey }
     ensures { OnOk result (pen.new ≡ inked pen.old (change_marks clef old.now changes.now)) }

@@ -3,12 +3,12 @@ ghost use Rattle.mus_ink.specs.Decos.{with_stem, top_of, first_deco, next_deco, 
 ghost use Rattle.{mus_stems.specs.Slope.{with_end}, mus_laid.specs.Ranked.{inked}};
 
 use crate::distances::{DECO_GAP, DECO_LINE, DECO_STEP, TOP_LINE};
-use crate::drawing::{cut, put_glyph};
+use crate::drawing::{cut_dy, put_glyph};
 use crate::kinds::deco_glyph;
 use crate::notes::{head_dy, highest_dy, put_heads_of};
 use crate::rests::put_rest;
 use crate::stems::put_stem_of;
-use mus_laid::Pen;
+use mus_laid::MarkPen;
 use mus_score::Event;
 use mus_stems::StemPlan;
 use mus_units::{Clef, Deco, Glyph, Head, Memory};
@@ -36,7 +36,7 @@ fn first_deco(top: i32) -> i32
     ensures { result ≡ first_deco top }
 {
     let above = i64::from(top) + DECO_GAP;
-    cut(above.max(DECO_LINE))
+    cut_dy(above.max(DECO_LINE))
 }
 
 /// The dy of the decoration above another.
@@ -44,10 +44,10 @@ fn first_deco(top: i32) -> i32
 fn next_deco(dy: i32) -> i32
     ensures { result ≡ next_deco dy }
 {
-    cut(i64::from(dy) + DECO_STEP)
+    cut_dy(i64::from(dy) + DECO_STEP)
 }
 
-fn put_deco(pen: &mut Pen, dy: i32, glyph: Option<Glyph>) -> Result<(), Memory>
+fn put_deco(pen: &mut MarkPen, dy: i32, glyph: Option<Glyph>) -> Result<(), Memory>
     ensures { OnOk result (pen.new ≡ inked pen.old (deco_mark dy glyph)) }
 {
     match glyph {
@@ -66,7 +66,7 @@ fn behind_deco(dy: i32, glyph: Option<Glyph>) -> i32
 }
 
 /// Draws the decorations that have a glyph, the first at `first`.
-fn put_decos(pen: &mut Pen, first: i32, decos: &[Deco]) -> Result<(), Memory>
+fn put_decos(pen: &mut MarkPen, first: i32, decos: &[Deco]) -> Result<(), Memory>
     ensures { OnOk result (pen.new ≡ inked pen.old (deco_marks first decos.now)) }
 {
     let mut dy = first;
@@ -81,7 +81,7 @@ fn put_decos(pen: &mut Pen, first: i32, decos: &[Deco]) -> Result<(), Memory>
 /// Draws a rest, or heads with their stem.
 #[tactic(auto, unfolding(crate::specs::Notes::heads_marks))]
 fn put_body(
-    pen: &mut Pen,
+    pen: &mut MarkPen,
     clef: Clef,
     raise: i32,
     event: &Event,
@@ -108,7 +108,7 @@ fn put_body(
 /// `before` and `after` are the levels of the events beside it in its beam, 0 where there is none.
 #[tactic(auto, unfolding(crate::specs::Decos::note_marks))]
 pub fn put_note(
-    pen: &mut Pen,
+    pen: &mut MarkPen,
     clef: Clef,
     raise: i32,
     event: &Event,

@@ -1,15 +1,15 @@
 ghost use Rattle.std.specs.Prelude.{◌≡◌, ◌++◌, ◌∷◌, [], OnOk};
-ghost use Rattle.{mus_ink.specs.Drawing.{cut, steps_dy, glyph, loose_glyph, big_text, stem, beam}, mus_laid.specs.Ranked.{inked}};
+ghost use Rattle.{mus_ink.specs.Drawing.{cut_dy, steps_dy, glyph, loose_glyph, big_text, stem, beam}, mus_laid.specs.Ranked.{inked}};
 
 use crate::distances::{FURTHEST, STEP};
-use mus_laid::{Bridge, Drawn, Ink, Lane, Pen, Span};
-use mus_time::ColumnKey;
+use mus_laid::{Bridge, LaneInk, Ink, Lane, MarkPen, BridgeShape};
+use mus_onsets::ColumnKey;
 use mus_units::{Glyph, Memory, Row, Size, Text, Way};
 
 /// A height, cut at 2^30 u in size.
-#[tactic(auto, unfolding(crate::specs::Drawing::cut))]
-pub fn cut(dy: i64) -> i32
-    ensures { result ≡ cut dy }
+#[tactic(auto, unfolding(crate::specs::Drawing::cut_dy))]
+pub fn cut_dy(dy: i64) -> i32
+    ensures { result ≡ cut_dy dy }
 {
     dy.min(FURTHEST).max(-FURTHEST) as i32
 }
@@ -19,11 +19,11 @@ pub fn cut(dy: i64) -> i32
 pub fn steps_dy(steps: i32) -> i32
     ensures { result ≡ steps_dy steps }
 {
-    cut(STEP * i64::from(steps))
+    cut_dy(STEP * i64::from(steps))
 }
 
 /// Draws a glyph in the lane of glyphs.
-pub fn put_glyph(pen: &mut Pen, sort: Glyph, dx: i32, dy: i32) -> Result<(), Memory>
+pub fn put_glyph(pen: &mut MarkPen, sort: Glyph, dx: i32, dy: i32) -> Result<(), Memory>
     ensures { OnOk result (pen.new ≡ inked pen.old (glyph sort dx dy ∷ [])) }
 {
     let ink = Ink::Glyph {
@@ -32,11 +32,11 @@ pub fn put_glyph(pen: &mut Pen, sort: Glyph, dx: i32, dy: i32) -> Result<(), Mem
         dy,
     };
     let lane = Lane::Main;
-    pen.put(Drawn { ink, lane })
+    pen.put(LaneInk { ink, lane })
 }
 
 /// Draws a glyph in no lane.
-pub fn put_loose_glyph(pen: &mut Pen, sort: Glyph, dx: i32, dy: i32) -> Result<(), Memory>
+pub fn put_loose_glyph(pen: &mut MarkPen, sort: Glyph, dx: i32, dy: i32) -> Result<(), Memory>
     ensures { OnOk result (pen.new ≡ inked pen.old (loose_glyph sort dx dy ∷ [])) }
 {
     let ink = Ink::Glyph {
@@ -45,11 +45,11 @@ pub fn put_loose_glyph(pen: &mut Pen, sort: Glyph, dx: i32, dy: i32) -> Result<(
         dy,
     };
     let lane = Lane::Loose;
-    pen.put(Drawn { ink, lane })
+    pen.put(LaneInk { ink, lane })
 }
 
 /// Draws a text of big characters, as meters have them.
-pub fn put_big_text(pen: &mut Pen, dx: i32, dy: i32, text: Text) -> Result<(), Memory>
+pub fn put_big_text(pen: &mut MarkPen, dx: i32, dy: i32, text: Text) -> Result<(), Memory>
     ensures { OnOk result (pen.new ≡ inked pen.old (big_text dx dy text ∷ [])) }
 {
     let ink = Ink::Words {
@@ -59,16 +59,16 @@ pub fn put_big_text(pen: &mut Pen, dx: i32, dy: i32, text: Text) -> Result<(), M
         text,
     };
     let lane = Lane::Main;
-    pen.put(Drawn { ink, lane })
+    pen.put(LaneInk { ink, lane })
 }
 
 /// Draws a stem.
-pub fn put_stem(pen: &mut Pen, dx: i32, from: i32, to: i32) -> Result<(), Memory>
+pub fn put_stem(pen: &mut MarkPen, dx: i32, from: i32, to: i32) -> Result<(), Memory>
     ensures { OnOk result (pen.new ≡ inked pen.old (stem dx from to ∷ [])) }
 {
     let ink = Ink::Stem { dx, from, to };
     let lane = Lane::Loose;
-    pen.put(Drawn { ink, lane })
+    pen.put(LaneInk { ink, lane })
 }
 
 /// Draws a beam.
@@ -85,6 +85,6 @@ pub fn put_beam(
     out.push(Bridge {
         first,
         last,
-        span: Span::Beam { way, from, to },
+        span: BridgeShape::Beam { way, from, to },
     })
 }

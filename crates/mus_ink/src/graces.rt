@@ -1,15 +1,15 @@
 ghost use Rattle.std.specs.Prelude.{◌≡◌, ◌≤◌, ◌++◌, length, map, OnOk};
 ghost use Rattle.mus_stems.specs.{Heads.AllNear, Heads.stand_of, Signs.signs_from, Ends.low_of, Ends.high_of, Ledgers.ledgers_of};
-ghost use Rattle.mus_ink.specs.{Distances.grace_sign_side, Drawing.back, Notes.{sign_marks, ledger_marks}, Graces.{above_head, own_end, greatest_end, group_end, group_of, grace_heads, stem_from, at_end, ends, grace_body, grace_marks, beam_edge, grace_beam}};
+ghost use Rattle.mus_ink.specs.{Distances.grace_sign_side, Drawing.back, Notes.{sign_marks, ledger_marks}, Graces.{above_head, grace_own_end, greatest_end, group_end, group_of, grace_head_ink, grace_stem_from, at_end, ends, grace_body, grace_marks, beam_edge, grace_beam}};
 ghost use Rattle.mus_laid.specs.Ranked.{inked};
 
 use crate::distances::{BEAM_THICKNESS, GRACE_SIGN_SIDE, GRACE_STEM_LENGTH, GRACE_STEM_SIDE};
-use crate::drawing::{cut, put_beam, put_glyph, put_stem};
+use crate::drawing::{cut_dy, put_beam, put_glyph, put_stem};
 use crate::notes::{head_dy, highest_dy, lowest_dy, put_ledgers, put_signs};
-use mus_laid::{Bridge, Pen};
+use mus_laid::{Bridge, MarkPen};
 use mus_score::Event;
-use mus_stems::{Stand, highest_head, ledgers_for, lowest_head, signs_for, stands};
-use mus_time::ColumnKey;
+use mus_stems::{HeadPosition, highest_head, ledgers_for, lowest_head, signs_for, stands};
+use mus_onsets::ColumnKey;
 use mus_units::{Clef, Glyph, Head, Memory, Row, Way};
 
 /// What the graces before an event share: the dy at which their stems end, whether there is just
@@ -25,12 +25,12 @@ pub struct Group {
 fn above_head(dy: i32) -> i32
     ensures { result ≡ above_head dy }
 {
-    cut(i64::from(dy) + GRACE_STEM_LENGTH)
+    cut_dy(i64::from(dy) + GRACE_STEM_LENGTH)
 }
 
 /// The dy at which the stem of a grace would end alone.
 fn own_end(clef: Clef, heads: &[Head]) -> i32
-    ensures { result ≡ own_end clef heads.now }
+    ensures { result ≡ grace_own_end clef heads.now }
 {
     match heads {
         [] => 0,
@@ -69,8 +69,8 @@ pub fn group_of(clef: Clef, graces: &[Event], slash: bool) -> Group
     }
 }
 
-fn put_grace_heads(pen: &mut Pen, clef: Clef, heads: &[Head]) -> Result<(), Memory>
-    ensures { OnOk result (pen.new ≡ inked pen.old (grace_heads clef heads.now)) }
+fn put_grace_heads(pen: &mut MarkPen, clef: Clef, heads: &[Head]) -> Result<(), Memory>
+    ensures { OnOk result (pen.new ≡ inked pen.old (grace_head_ink clef heads.now)) }
 {
     for head in heads {
         put_glyph(pen, Glyph::Gh, 0, head_dy(clef, *head))?;
@@ -79,8 +79,8 @@ fn put_grace_heads(pen: &mut Pen, clef: Clef, heads: &[Head]) -> Result<(), Memo
 }
 
 /// The dy at which the stem of a grace begins.
-fn stem_from(clef: Clef, heads: &[Head]) -> i32
-    ensures { result ≡ stem_from clef heads.now }
+fn grace_stem_from(clef: Clef, heads: &[Head]) -> i32
+    ensures { result ≡ grace_stem_from clef heads.now }
 {
     match heads {
         [] => 0,
@@ -88,7 +88,7 @@ fn stem_from(clef: Clef, heads: &[Head]) -> i32
     }
 }
 
-fn put_at_end(pen: &mut Pen, yes: bool, glyph: Glyph, end: i32) -> Result<(), Memory>
+fn put_at_end(pen: &mut MarkPen, yes: bool, glyph: Glyph, end: i32) -> Result<(), Memory>
     ensures { OnOk result (pen.new ≡ inked pen.old (at_end yes glyph end)) }
 {
     if yes {
@@ -98,10 +98,10 @@ fn put_at_end(pen: &mut Pen, yes: bool, glyph: Glyph, end: i32) -> Result<(), Me
 }
 
 fn put_grace_signs(
-    pen: &mut Pen,
+    pen: &mut MarkPen,
     clef: Clef,
     heads: &[Head],
-    stands: &[Stand],
+    stands: &[HeadPosition],
 ) -> Result<(), Memory>
     requires near { AllNear stands.now }
     requires few { length stands.now ≤ 50000 }
@@ -111,7 +111,7 @@ fn put_grace_signs(
     put_signs(pen, clef, heads, signs.as_slice())
 }
 
-fn put_grace_ledgers(pen: &mut Pen, stands: &[Stand]) -> Result<(), Memory>
+fn put_grace_ledgers(pen: &mut MarkPen, stands: &[HeadPosition]) -> Result<(), Memory>
     requires { AllNear stands.now }
     ensures { OnOk result (pen.new ≡ inked pen.old (ledger_marks (ledgers_of (low_of stands.now) (high_of stands.now)))) }
 {
@@ -121,7 +121,7 @@ fn put_grace_ledgers(pen: &mut Pen, stands: &[Stand]) -> Result<(), Memory>
 
 /// Draws the signs, ledger lines and heads of a grace.
 #[tactic(auto, unfolding(crate::specs::Graces::grace_body))]
-fn put_grace_body(pen: &mut Pen, clef: Clef, heads: &[Head]) -> Result<(), Memory>
+fn put_grace_body(pen: &mut MarkPen, clef: Clef, heads: &[Head]) -> Result<(), Memory>
     requires near { AllNear (map (stand_of clef) heads.now) }
     requires few { length heads.now ≤ 50000 }
     ensures { OnOk result (pen.new ≡ inked pen.old (grace_body clef heads.now)) }
@@ -133,7 +133,7 @@ fn put_grace_body(pen: &mut Pen, clef: Clef, heads: &[Head]) -> Result<(), Memor
 }
 
 /// Draws the flag of a grace alone, and the slash at the first.
-fn put_ends(pen: &mut Pen, group: Group, first: bool) -> Result<(), Memory>
+fn put_ends(pen: &mut MarkPen, group: Group, first: bool) -> Result<(), Memory>
     ensures { OnOk result (pen.new ≡ inked pen.old (ends group first)) }
 {
     put_at_end(pen, group.alone, Glyph::Gf, group.end)?;
@@ -144,7 +144,7 @@ fn put_ends(pen: &mut Pen, group: Group, first: bool) -> Result<(), Memory>
 /// alone, and the slash at the first.
 #[tactic(auto, unfolding(crate::specs::Graces::grace_marks))]
 pub fn put_grace(
-    pen: &mut Pen,
+    pen: &mut MarkPen,
     clef: Clef,
     group: Group,
     first: bool,
@@ -156,7 +156,7 @@ pub fn put_grace(
 {
     let heads = grace.heads.as_slice();
     put_grace_body(pen, clef, heads)?;
-    put_stem(pen, GRACE_STEM_SIDE, stem_from(clef, heads), group.end)?;
+    put_stem(pen, GRACE_STEM_SIDE, grace_stem_from(clef, heads), group.end)?;
     put_ends(pen, group, first)
 }
 
@@ -164,7 +164,7 @@ pub fn put_grace(
 fn beam_edge(end: i32) -> i32
     ensures { result ≡ beam_edge end }
 {
-    cut(i64::from(end) - BEAM_THICKNESS)
+    cut_dy(i64::from(end) - BEAM_THICKNESS)
 }
 
 /// Draws the beam of a group of two graces or more, from the column of the first to that of the last;

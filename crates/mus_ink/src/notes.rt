@@ -1,18 +1,18 @@
 ghost use Rattle.std.specs.{Prelude.{◌≡◌, ◌∷◌, [], OnOk}, List.list_all, Option.is_none};
 ghost use Rattle.mus_units.specs.Pitch.{height_of};
-ghost use Rattle.{mus_ink.specs.{Drawing.{cut, glyph}, Notes.{dy_of, highest_dy, lowest_dy, sign_mark, sign_marks, ledger_marks, note_heads, dot_marks, heads_marks}}, mus_laid.specs.Ranked.{inked}};
+ghost use Rattle.{mus_ink.specs.{Drawing.{cut_dy, glyph}, Notes.{dy_of, highest_dy, lowest_dy, sign_mark, sign_marks, ledger_marks, note_heads, dot_marks, heads_marks}}, mus_laid.specs.Ranked.{inked}};
 
-use crate::drawing::{cut, put_glyph, steps_dy};
+use crate::drawing::{cut_dy, put_glyph, steps_dy};
 use crate::kinds::{head_glyph, sign_glyph};
-use mus_laid::Pen;
+use mus_laid::MarkPen;
 use mus_stems::{Spot, StemPlan};
 use mus_units::{Alter, Base, Clef, Glyph, Head, Memory, height};
 
 /// The height of a head in a clef, in steps.
 fn steps(clef: Clef, head: Head) -> i32
-    ensures { result ≡ cut (height_of head.pitch clef) }
+    ensures { result ≡ cut_dy (height_of head.pitch clef) }
 {
-    cut(height(head.pitch, clef))
+    cut_dy(height(head.pitch, clef))
 }
 
 /// The dy of a head, cut at 2^30 in size.
@@ -45,7 +45,7 @@ pub fn lowest_dy(clef: Clef, first: i32, heads: &[Head]) -> i32
 }
 
 /// Draws the sign before a head, if there is one.
-fn put_sign_of(pen: &mut Pen, clef: Clef, head: Head, dx: Option<i32>) -> Result<(), Memory>
+fn put_sign_of(pen: &mut MarkPen, clef: Clef, head: Head, dx: Option<i32>) -> Result<(), Memory>
     ensures { OnOk result (pen.new ≡ inked pen.old (sign_mark (dy_of clef head) head.sign dx)) }
 {
     match (head.sign, dx) {
@@ -56,7 +56,7 @@ fn put_sign_of(pen: &mut Pen, clef: Clef, head: Head, dx: Option<i32>) -> Result
 
 /// Draws the signs before heads, in the order of the heads; `places` has the dx of each.
 pub fn put_signs(
-    pen: &mut Pen,
+    pen: &mut MarkPen,
     clef: Clef,
     heads: &[Head],
     places: &[Option<i32>],
@@ -83,7 +83,7 @@ fn have_no_sign(heads: &[Head]) -> bool
 
 /// Draws the signs before heads, of which most have none.
 fn put_signs_if(
-    pen: &mut Pen,
+    pen: &mut MarkPen,
     clef: Clef,
     heads: &[Head],
     places: &[Option<i32>],
@@ -97,7 +97,7 @@ fn put_signs_if(
 }
 
 /// Draws ledger lines.
-pub fn put_ledgers(pen: &mut Pen, ledgers: &[i32]) -> Result<(), Memory>
+pub fn put_ledgers(pen: &mut MarkPen, ledgers: &[i32]) -> Result<(), Memory>
     ensures { OnOk result (pen.new ≡ inked pen.old (ledger_marks ledgers.now)) }
 {
     for dy in ledgers {
@@ -108,7 +108,7 @@ pub fn put_ledgers(pen: &mut Pen, ledgers: &[i32]) -> Result<(), Memory>
 
 /// Draws heads, each with its shift.
 fn put_heads(
-    pen: &mut Pen,
+    pen: &mut MarkPen,
     clef: Clef,
     sort: Glyph,
     heads: &[Head],
@@ -128,7 +128,7 @@ fn put_heads(
     Ok(())
 }
 
-fn put_dots(pen: &mut Pen, dots: &[Spot]) -> Result<(), Memory>
+fn put_dots(pen: &mut MarkPen, dots: &[Spot]) -> Result<(), Memory>
     ensures { OnOk result (pen.new ≡ inked pen.old (dot_marks dots.now)) }
 {
     for dot in dots {
@@ -140,7 +140,7 @@ fn put_dots(pen: &mut Pen, dots: &[Spot]) -> Result<(), Memory>
 /// Draws the heads of an event: signs, ledger lines, heads and dots.
 #[tactic(auto, unfolding(crate::specs::Notes::heads_marks))]
 pub fn put_heads_of(
-    pen: &mut Pen,
+    pen: &mut MarkPen,
     clef: Clef,
     base: Base,
     heads: &[Head],

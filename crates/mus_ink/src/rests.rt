@@ -4,9 +4,9 @@ ghost use Rattle.mus_ink.specs.{Distances.{dot_side, dot_step, rest_dot_line}, D
 ghost use Rattle.mus_laid.specs.Ranked.{inked};
 
 use crate::distances::{DOT_SIDE, DOT_STEP, REST_DOT_LINE, REST_STEP};
-use crate::drawing::{cut, put_glyph, steps_dy};
+use crate::drawing::{cut_dy, put_glyph, steps_dy};
 use crate::kinds::{RestRow, rest_row};
-use mus_laid::Pen;
+use mus_laid::MarkPen;
 use mus_score::Look;
 use mus_units::{Base, Glyph, Memory, Value};
 
@@ -15,7 +15,7 @@ use mus_units::{Base, Glyph, Memory, Value};
 fn raised(raise: i32, dy: i32) -> i32
     ensures { result ≡ raised raise dy }
 {
-    cut(i64::from(dy) + i64::from(raise))
+    cut_dy(i64::from(dy) + i64::from(raise))
 }
 
 fn rest_dy(raise: i32, row: RestRow) -> i32
@@ -29,12 +29,12 @@ fn rest_dy(raise: i32, row: RestRow) -> i32
 fn short_dy(top: i32, k: u8) -> i32
     ensures { result ≡ short_dy top k }
 {
-    cut(i64::from(top) - REST_STEP * i64::from(k))
+    cut_dy(i64::from(top) - REST_STEP * i64::from(k))
 }
 
 /// Draws a rest shorter than a quarter, a part for each flag.
 #[tactic(auto, using(crate::proofs::Counting::rests_step, std::proofs::lemmas::Grind::common_steps))]
-fn put_short_rests(pen: &mut Pen, sort: Glyph, top: i32, flags: u8) -> Result<(), Memory>
+fn put_short_rests(pen: &mut MarkPen, sort: Glyph, top: i32, flags: u8) -> Result<(), Memory>
     ensures { OnOk result (pen.new ≡ inked pen.old (short_rests sort top 0 flags)) }
 {
     for k in 0..flags {
@@ -43,13 +43,13 @@ fn put_short_rests(pen: &mut Pen, sort: Glyph, top: i32, flags: u8) -> Result<()
     Ok(())
 }
 
-fn put_long_rest(pen: &mut Pen, raise: i32, row: RestRow) -> Result<(), Memory>
+fn put_long_rest(pen: &mut MarkPen, raise: i32, row: RestRow) -> Result<(), Memory>
     ensures { OnOk result (pen.new ≡ inked pen.old (rest_glyph raise row ∷ [])) }
 {
     put_glyph(pen, row.glyph, 0, rest_dy(raise, row))
 }
 
-fn put_rest_glyphs(pen: &mut Pen, raise: i32, base: Base, flags: u8) -> Result<(), Memory>
+fn put_rest_glyphs(pen: &mut MarkPen, raise: i32, base: Base, flags: u8) -> Result<(), Memory>
     ensures { OnOk result (pen.new ≡ inked pen.old (rest_glyphs raise base flags)) }
 {
     let row = rest_row(base);
@@ -60,7 +60,7 @@ fn put_rest_glyphs(pen: &mut Pen, raise: i32, base: Base, flags: u8) -> Result<(
 }
 
 #[tactic(auto, using(crate::proofs::Counting::dots_step, std::proofs::lemmas::Grind::common_steps))]
-fn put_rest_dots(pen: &mut Pen, raise: i32, dots: u8) -> Result<(), Memory>
+fn put_rest_dots(pen: &mut MarkPen, raise: i32, dots: u8) -> Result<(), Memory>
     ensures { OnOk result (pen.new ≡ inked pen.old (rest_dots raise 0 dots)) }
 {
     for k in 0..dots {
@@ -73,7 +73,7 @@ fn put_rest_dots(pen: &mut Pen, raise: i32, dots: u8) -> Result<(), Memory>
 /// Draws a rest, `raise` higher than alone on its staff, with as many parts as `flags` where it is
 /// shorter than a quarter.
 pub fn put_rest(
-    pen: &mut Pen,
+    pen: &mut MarkPen,
     raise: i32,
     look: Look,
     value: Value,

@@ -1,15 +1,15 @@
 ghost use Rattle.std.specs.Prelude.{◌≡◌, ◌≤◌, ◌∷◌, [], length, decimal, IfOk, OnOk};
-ghost use Rattle.{mus_ink.specs.Signatures.{clef_mark, height_at, entries_for, entry_dy, shown, entry_mark, entry_marks, meter_marks, meter_if}, mus_laid.specs.Ranked.{inked}};
+ghost use Rattle.{mus_ink.specs.Signatures.{clef_mark, height_at, entries_for, entry_dy, shown_alter, entry_mark, entry_marks, meter_marks, meter_if}, mus_laid.specs.Ranked.{inked}};
 
 use crate::distances::{ENTRY_STEP, LOWER_NUMBER_LINE, METER_SIGN_LINE, UPPER_NUMBER_LINE};
 use crate::drawing::{put_big_text, put_glyph, steps_dy};
 use crate::kinds::{ClefRow, Entries, clef_row, sign_glyph};
-use mus_laid::Pen;
+use mus_laid::MarkPen;
 use mus_units::{Alter, Clef, Letter, Memory, Meter, Sign, Text};
 use std::alloc::Global;
 
 /// Draws a clef at the line that it names.
-pub fn put_clef(pen: &mut Pen, dx: u32, clef: Clef) -> Result<(), Memory>
+pub fn put_clef(pen: &mut MarkPen, dx: u32, clef: Clef) -> Result<(), Memory>
     requires { dx ≤ 10000 }
     ensures { OnOk result (pen.new ≡ inked pen.old (clef_mark dx clef ∷ [])) }
 {
@@ -50,26 +50,26 @@ fn entry_dy(clef: Clef, alter: Alter, letter: Letter) -> i32
 }
 
 /// What an entry shows: a natural where its key ends.
-fn shown(ends: bool, alter: Alter) -> Alter
-    ensures { result ≡ shown ends alter }
+fn shown_alter(ends: bool, alter: Alter) -> Alter
+    ensures { result ≡ shown_alter ends alter }
 {
     if ends { Alter::Natural } else { alter }
 }
 
 /// Draws an entry of a signature, a natural where its key ends.
 #[tactic(auto, unfolding(crate::specs::Signatures::entry_mark))]
-fn put_entry(pen: &mut Pen, clef: Clef, ends: bool, sign: Sign, dx: u32) -> Result<(), Memory>
+fn put_entry(pen: &mut MarkPen, clef: Clef, ends: bool, sign: Sign, dx: u32) -> Result<(), Memory>
     requires { dx ≤ 10000 }
-    ensures { OnOk result (pen.new ≡ inked pen.old (entry_mark clef (shown ends sign.alter) sign.letter dx ∷ [])) }
+    ensures { OnOk result (pen.new ≡ inked pen.old (entry_mark clef (shown_alter ends sign.alter) sign.letter dx ∷ [])) }
 {
-    let alter = shown(ends, sign.alter);
+    let alter = shown_alter(ends, sign.alter);
     let dy = entry_dy(clef, alter, sign.letter);
     put_glyph(pen, sign_glyph(alter), dx as i32, dy)
 }
 
 /// Draws the entries of a signature, the first at dx `first`; where the key ends, a natural for each.
 pub fn put_entries(
-    pen: &mut Pen,
+    pen: &mut MarkPen,
     clef: Clef,
     ends: bool,
     first: u32,
@@ -97,7 +97,7 @@ fn digits(alloc: Global, number: u8) -> Result<Text, Memory>
 
 /// Draws a meter: its two numbers, or its sign; nothing for a free meter.
 #[tactic(auto, unfolding(crate::specs::Signatures::meter_marks))]
-fn put_meter(pen: &mut Pen, dx: u32, meter: Meter) -> Result<(), Memory>
+fn put_meter(pen: &mut MarkPen, dx: u32, meter: Meter) -> Result<(), Memory>
     requires { dx ≤ 10000 }
     ensures { OnOk result (pen.new ≡ inked pen.old (meter_marks dx meter)) }
 {
@@ -123,7 +123,7 @@ fn put_meter(pen: &mut Pen, dx: u32, meter: Meter) -> Result<(), Memory>
 }
 
 /// Draws a meter at dx `dx`, if there is one to draw.
-pub fn put_meter_if(pen: &mut Pen, dx: u32, meter: Option<Meter>) -> Result<(), Memory>
+pub fn put_meter_if(pen: &mut MarkPen, dx: u32, meter: Option<Meter>) -> Result<(), Memory>
     requires { dx ≤ 10000 }
     ensures { OnOk result (pen.new ≡ inked pen.old (meter_if dx meter)) }
 {

@@ -3,9 +3,9 @@ ghost use Rattle.mus_ink.specs.{Drawing.{glyph, loose_glyph}, Kinds.{flag_glyph,
 ghost use Rattle.{mus_stems.specs.Slope.{with_end}, mus_laid.specs.Ranked.{inked}};
 
 use crate::distances::{BEAM_THICKNESS, LEVEL_STEP, STEM_SIDE};
-use crate::drawing::{cut, put_glyph, put_loose_glyph, put_stem};
+use crate::drawing::{cut_dy, put_glyph, put_loose_glyph, put_stem};
 use crate::kinds::{flag_glyph, stub_glyph};
-use mus_laid::Pen;
+use mus_laid::MarkPen;
 use mus_stems::StemPlan;
 use mus_units::Memory;
 
@@ -16,7 +16,7 @@ fn stem_dx(up: bool) -> i32
     if up { STEM_SIDE } else { -STEM_SIDE }
 }
 
-fn put_stem_if(pen: &mut Pen, has: bool, up: bool, from: i32, to: i32) -> Result<(), Memory>
+fn put_stem_if(pen: &mut MarkPen, has: bool, up: bool, from: i32, to: i32) -> Result<(), Memory>
     ensures { OnOk result (pen.new ≡ inked pen.old (stem_if has up from to)) }
 {
     if has {
@@ -31,15 +31,15 @@ fn flag_dy(up: bool, to: i32, k: u8) -> i32
 {
     let step = LEVEL_STEP * i64::from(k);
     if up {
-        cut(i64::from(to) - step)
+        cut_dy(i64::from(to) - step)
     } else {
-        cut(i64::from(to) + step)
+        cut_dy(i64::from(to) + step)
     }
 }
 
 /// Draws the flags of an event without a beam.
 #[tactic(auto, using(crate::proofs::Counting::flags_step, std::proofs::lemmas::Grind::common_steps))]
-fn put_flags(pen: &mut Pen, up: bool, to: i32, flags: u8) -> Result<(), Memory>
+fn put_flags(pen: &mut MarkPen, up: bool, to: i32, flags: u8) -> Result<(), Memory>
     ensures { OnOk result (pen.new ≡ inked pen.old (flag_marks up to 0 flags)) }
 {
     for k in 0..flags {
@@ -54,16 +54,16 @@ pub fn lower_edge(up: bool, to: i32, level: u8) -> i32
 {
     let step = LEVEL_STEP * i64::from(level);
     if up {
-        cut(i64::from(to) - (step + BEAM_THICKNESS))
+        cut_dy(i64::from(to) - (step + BEAM_THICKNESS))
     } else {
-        cut(i64::from(to) + step)
+        cut_dy(i64::from(to) + step)
     }
 }
 
 /// Draws the stubs of an event in a beam, from a level on.
 #[tactic(auto, using(crate::proofs::Counting::stubs_step, std::proofs::lemmas::Grind::common_steps))]
 fn put_stubs(
-    pen: &mut Pen,
+    pen: &mut MarkPen,
     first: bool,
     up: bool,
     to: i32,
@@ -80,7 +80,7 @@ fn put_stubs(
 
 #[tactic(auto, unfolding(crate::specs::Stems::flags_or_stubs))]
 fn put_flags_or_stubs(
-    pen: &mut Pen,
+    pen: &mut MarkPen,
     plan: &StemPlan,
     to: i32,
     before: u8,
@@ -100,7 +100,7 @@ fn put_flags_or_stubs(
 /// are the levels of the events beside it in its beam, 0 where there is none.
 #[tactic(auto, unfolding(crate::specs::Stems::stem_marks))]
 pub fn put_stem_of(
-    pen: &mut Pen,
+    pen: &mut MarkPen,
     plan: &StemPlan,
     to: i32,
     before: u8,

@@ -1,21 +1,21 @@
 -- Marks that are put into their columns one by one stand there part by part.
 use Rattle.std.{proofs.{Common.{◌≡◌, ◌∙◌, ℕ, zero, suc, ◌+◌, ◌<◌, ◌≤◌, cond, Bool, true, false, List, [], ◌∷◌, ◌++◌, length, get_or, set, map, Some, None, refl, sym, ap, append_assoc, arith}, lemmas.{Bool.Decides.nat_tests, List.{append-nil, FromFn.map-range_with_len_more}}}, specs.List.{filter, flat_map, range_with_len}}
-use Rattle.mus_laid.specs.{declared.laid.Laid.Laid, Ranked.anchor_rank, Ranked.at_rank, Ranked.by_columns, Ranked.is_rank, Ranked.stands_at, Ranked.with_mark, Ranked.with_part, Ranked.with_parts}
+use Rattle.mus_laid.specs.{declared.laid.Laid.Laid, Ranked.anchor_rank, Ranked.at_rank, Ranked.by_columns, Ranked.is_rank, Ranked.stands_at_rank, Ranked.with_mark, Ranked.with_part, Ranked.with_parts}
 
 -- ---- one mark
-stands : (r q : ℕ) (x : Laid) → anchor_rank x.mark ≡ Some q → r ≡ q → stands_at r x ≡ true
+stands : (r q : ℕ) (x : Laid) → anchor_rank x.mark ≡ Some q → r ≡ q → stands_at_rank r x ≡ true
 stands r q x is same = ap (is_rank r) is ∙ grind (arith, nat_tests, same)
 
-stands_not : (r q : ℕ) (x : Laid) → anchor_rank x.mark ≡ Some q → (r ≡ q → ⊥) → stands_at r x ≡ false
+stands_not : (r q : ℕ) (x : Laid) → anchor_rank x.mark ≡ Some q → (r ≡ q → ⊥) → stands_at_rank r x ≡ false
 stands_not r q x is other = ap (is_rank r) is ∙ grind (arith, nat_tests, other)
 
 -- in no column from rank r on
-nowhere : (r : ℕ) (x : Laid) (columns : List (List Laid)) → ((k : ℕ) → stands_at (r + k) x ≡ false) → with_mark r x columns ≡ columns
+nowhere : (r : ℕ) (x : Laid) (columns : List (List Laid)) → ((k : ℕ) → stands_at_rank (r + k) x ≡ false) → with_mark r x columns ≡ columns
 nowhere r x [] none = refl
 nowhere r x (column ∷ columns) none =
     let here : r + 0 ≡ r = omega arith in
-    ap (λ b. cond b (column ++ x ∷ []) column ∷ with_mark (r + 1) x columns) (ap (λ n. stands_at n x) (sym here) ∙ none 0)
-    ∙ ap (λ t. column ∷ t) (nowhere (r + 1) x columns (λ k. let e : r + suc k ≡ r + 1 + k = omega arith in ap (λ n. stands_at n x) (sym e) ∙ none (suc k)))
+    ap (λ b. cond b (column ++ x ∷ []) column ∷ with_mark (r + 1) x columns) (ap (λ n. stands_at_rank n x) (sym here) ∙ none 0)
+    ∙ ap (λ t. column ∷ t) (nowhere (r + 1) x columns (λ k. let e : r + suc k ≡ r + 1 + k = omega arith in ap (λ n. stands_at_rank n x) (sym e) ∙ none (suc k)))
 
 -- in the i-th column from rank r on
 there : (r i q : ℕ) (x : Laid) (columns : List (List Laid)) (d : List Laid) → anchor_rank x.mark ≡ Some q → r + i ≡ q → i < length columns → with_mark r x columns ≡ set columns i (get_or columns i d ++ x ∷ [])
@@ -51,19 +51,19 @@ same_map : {A : Type 0} (f g : ℕ → A) → ((k : ℕ) → f k ≡ g k) → (r
 same_map f g same r zero = refl
 same_map f g same r (suc n) = ap (λ t. t ∷ map f (range_with_len (r + 1) n)) (same r) ∙ ap (λ t. g r ∷ t) (same_map f g same (r + 1) n)
 
-one_more : (f : ℕ → List Laid) (x : Laid) (r n : ℕ) → with_mark r x (map f (range_with_len r n)) ≡ map (λ k. f k ++ filter (stands_at k) (x ∷ [])) (range_with_len r n)
+one_more : (f : ℕ → List Laid) (x : Laid) (r n : ℕ) → with_mark r x (map f (range_with_len r n)) ≡ map (λ k. f k ++ filter (stands_at_rank k) (x ∷ [])) (range_with_len r n)
 one_more f x r zero = refl
-one_more f x r (suc n) = ap (λ t. t ∷ with_mark (r + 1) x (map f (range_with_len (r + 1) n))) (by (stands_at r x) (f r)) ∙ ap (λ t. (f r ++ filter (stands_at r) (x ∷ [])) ∷ t) (one_more f x (r + 1) n)
+one_more f x r (suc n) = ap (λ t. t ∷ with_mark (r + 1) x (map f (range_with_len (r + 1) n))) (by (stands_at_rank r x) (f r)) ∙ ap (λ t. (f r ++ filter (stands_at_rank r) (x ∷ [])) ∷ t) (one_more f x (r + 1) n)
   where
     by : (b : Bool) (column : List Laid) → cond b (column ++ x ∷ []) column ≡ column ++ cond b (x ∷ []) []
     by true column = refl
     by false column = sym (append-nil column)
 
-part_more : (f : ℕ → List Laid) (xs : List Laid) (n : ℕ) → with_part xs (map f (range_with_len 0 n)) ≡ map (λ k. f k ++ filter (stands_at k) xs) (range_with_len 0 n)
+part_more : (f : ℕ → List Laid) (xs : List Laid) (n : ℕ) → with_part xs (map f (range_with_len 0 n)) ≡ map (λ k. f k ++ filter (stands_at_rank k) xs) (range_with_len 0 n)
 part_more f [] n = same_map f (λ k. f k ++ []) (λ k. sym (append-nil (f k))) 0 n
 part_more f (x ∷ xs) n =
-    ap (with_part xs) (one_more f x 0 n) ∙ part_more (λ k. f k ++ filter (stands_at k) (x ∷ [])) xs n
-    ∙ same_map (λ k. f k ++ filter (stands_at k) (x ∷ []) ++ filter (stands_at k) xs) (λ k. f k ++ filter (stands_at k) (x ∷ xs)) (λ k. by (stands_at k x) (f k) (filter (stands_at k) xs)) 0 n
+    ap (with_part xs) (one_more f x 0 n) ∙ part_more (λ k. f k ++ filter (stands_at_rank k) (x ∷ [])) xs n
+    ∙ same_map (λ k. f k ++ filter (stands_at_rank k) (x ∷ []) ++ filter (stands_at_rank k) xs) (λ k. f k ++ filter (stands_at_rank k) (x ∷ xs)) (λ k. by (stands_at_rank k x) (f k) (filter (stands_at_rank k) xs)) 0 n
   where
     by : (b : Bool) (column more : List Laid) → column ++ cond b (x ∷ []) [] ++ more ≡ column ++ cond b (x ∷ more) more
     by true column more = append_assoc column (x ∷ []) more
@@ -72,8 +72,8 @@ part_more f (x ∷ xs) n =
 parts_more : (f : ℕ → List Laid) (parts : List (List Laid)) (n : ℕ) → with_parts parts (map f (range_with_len 0 n)) ≡ map (λ k. f k ++ at_rank parts k) (range_with_len 0 n)
 parts_more f [] n = same_map f (λ k. f k ++ []) (λ k. sym (append-nil (f k))) 0 n
 parts_more f (part ∷ parts) n =
-    ap (with_parts parts) (part_more f part n) ∙ parts_more (λ k. f k ++ filter (stands_at k) part) parts n
-    ∙ same_map (λ k. f k ++ filter (stands_at k) part ++ at_rank parts k) (λ k. f k ++ at_rank (part ∷ parts) k) (λ k. append_assoc (f k) (filter (stands_at k) part) (at_rank parts k)) 0 n
+    ap (with_parts parts) (part_more f part n) ∙ parts_more (λ k. f k ++ filter (stands_at_rank k) part) parts n
+    ∙ same_map (λ k. f k ++ filter (stands_at_rank k) part ++ at_rank parts k) (λ k. f k ++ at_rank (part ∷ parts) k) (λ k. append_assoc (f k) (filter (stands_at_rank k) part) (at_rank parts k)) 0 n
 
 joined_map : (f : ℕ → List Laid) (ns : List ℕ) → flat_map (λ column. column) (map f ns) ≡ flat_map f ns
 joined_map f [] = refl

@@ -2,7 +2,7 @@
 -- of the column. Stems, beams and arcs have heights alone.
 use Rattle.std.specs.{Prelude.{ℕ, ℤ, pos, negsuc, ◌*◌, ◌≤◌, ◌+ℤ◌, ⊤, List, [], ◌∷◌, length, Option, Some, None}, Int.{int_min, int_max}, List.AllByRecursion}
 use Rattle.{mus_units.specs.{declared.glyph.Glyph.Glyph, declared.glyph.Size.Size}, glyph_paths.specs.Bounds.{bounds_in}}
-use Rattle.mus_laid.specs.{declared.laid.Mark.Mark, declared.laid.Laid.Laid, declared.boxes.Heights.Heights, declared.boxes.Sides.Sides}
+use Rattle.mus_laid.specs.{declared.laid.Mark.Mark, declared.laid.Laid.Laid, declared.boxes.HeightRange.HeightRange, declared.boxes.Sides.Sides}
 
 -- a text has at most 60 characters
 abbrev pub IsGoodMark : Mark → Type 0
@@ -25,32 +25,32 @@ abbrev pub text_high : Size → ℤ
 text_high Size.Small = pos 720
 text_high Size.Big = pos 1280
 
-abbrev pub heights : ℤ → ℤ → Heights
+abbrev pub heights : ℤ → ℤ → HeightRange
 heights low high = record { low = low; high = high }
 
 -- a glyph reaches over the points of its path, moved by its height
-unfoldable pub glyph_heights : Glyph → ℤ → Heights
+unfoldable pub glyph_heights : Glyph → ℤ → HeightRange
 glyph_heights glyph dy = heights (dy +ℤ (bounds_in glyph).low) (dy +ℤ (bounds_in glyph).high)
 
-unfoldable pub text_heights : Size → ℤ → Heights
+unfoldable pub text_heights : Size → ℤ → HeightRange
 text_heights size dy = heights (dy +ℤ text_low size) (dy +ℤ text_high size)
 
 -- a stem from the lesser to the greater of its ends
-unfoldable pub stem_heights : ℤ → ℤ → Heights
+unfoldable pub stem_heights : ℤ → ℤ → HeightRange
 stem_heights from to = heights (int_min from to) (int_max from to)
 
 -- a beam from its lesser lower edge to 250 above the greater one
-unfoldable pub beam_heights : ℤ → ℤ → Heights
+unfoldable pub beam_heights : ℤ → ℤ → HeightRange
 beam_heights from to = heights (int_min from to) (int_max from to +ℤ pos 250)
 
-abbrev pub over_four : ℤ → ℤ → ℤ → ℤ → Heights
+abbrev pub over_four : ℤ → ℤ → ℤ → ℤ → HeightRange
 over_four a b c d = heights (int_min (int_min a b) (int_min c d)) (int_max (int_max a b) (int_max c d))
 
 -- an arc over its ends, and its ends moved by its bulge
-unfoldable pub arc_heights : ℤ → ℤ → ℤ → Heights
+unfoldable pub arc_heights : ℤ → ℤ → ℤ → HeightRange
 arc_heights from to bulge = over_four from to (from +ℤ bulge) (to +ℤ bulge)
 
-abbrev pub heights_of : Mark → Heights
+abbrev pub heights_of : Mark → HeightRange
 heights_of (Mark.Glyph glyph rank dx dy) = glyph_heights glyph dy
 heights_of (Mark.Words size rank dx dy text) = text_heights size dy
 heights_of (Mark.Stem rank dx from to) = stem_heights from to
@@ -72,12 +72,12 @@ sides_of (Mark.Beam way first last from to) = None
 sides_of (Mark.Arc first last from to bulge) = None
 
 -- over all marks of a staff, and at least over its lines
-abbrev pub widened : Heights → Heights → Heights
-widened a b = heights (int_min a.low b.low) (int_max a.high b.high)
+abbrev pub union_of_heights : HeightRange → HeightRange → HeightRange
+union_of_heights a b = heights (int_min a.low b.low) (int_max a.high b.high)
 
-abbrev pub over_marks : Heights → List Laid → Heights
+abbrev pub over_marks : HeightRange → List Laid → HeightRange
 over_marks so_far [] = so_far
-over_marks so_far (laid ∷ more) = over_marks (widened so_far (heights_of laid.mark)) more
+over_marks so_far (laid ∷ more) = over_marks (union_of_heights so_far (heights_of laid.mark)) more
 
-abbrev pub staff_heights : List Laid → Heights
+abbrev pub staff_heights : List Laid → HeightRange
 staff_heights all = over_marks (heights (pos 0) (pos 2000)) all

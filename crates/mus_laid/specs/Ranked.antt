@@ -1,7 +1,7 @@
 -- Marks by the ranks of their columns: what is drawn in a column by the rank of the column, and what goes from one
 -- column to another by the ranks of both. Nothing else of a mark depends on the system that it stands in.
 use Rattle.std.specs.{Prelude.{ℕ, ◌+◌, Bool, false, ◌==◌, List, [], ◌∷◌, ◌++◌, filter, flat_map, map, if◌then◌else◌, Option, Some, None}, List.range_with_len}
-use Rattle.{mus_time.specs.{declared.keys.ColumnKey.ColumnKey, Order.rank_of}, mus_laid.specs.declared.{drawn.Ink.Ink, drawn.Drawn.Drawn, drawn.Span.Span, drawn.Bridge.Bridge, laid.Laid.Laid, laid.Mark.Mark, laid.Lane.Lane, pen.Pen.Pen}}
+use Rattle.{mus_onsets.specs.{declared.keys.ColumnKey.ColumnKey, Order.key_rank}, mus_laid.specs.declared.{drawn.Ink.Ink, drawn.LaneInk.LaneInk, drawn.BridgeShape.BridgeShape, drawn.Bridge.Bridge, laid.Laid.Laid, laid.Mark.Mark, laid.Lane.Lane, pen.MarkPen.MarkPen}}
 
 abbrev pub ink_at : ℕ → Ink → Mark
 ink_at r (Ink.Glyph glyph dx dy) = Mark.Glyph glyph r dx dy
@@ -9,16 +9,16 @@ ink_at r (Ink.Words size dx dy text) = Mark.Words size r dx dy text
 ink_at r (Ink.Stem dx from to) = Mark.Stem r dx from to
 
 -- in the column of rank r
-abbrev pub drawn_at : ℕ → Drawn → Laid
+abbrev pub drawn_at : ℕ → LaneInk → Laid
 drawn_at r d = record { mark = ink_at r d.ink; lane = d.lane }
 
 -- a pen that has drawn this too, in the column that it stands at
-abbrev pub inked : Pen → List Drawn → Pen
+abbrev pub inked : MarkPen → List LaneInk → MarkPen
 inked pen drawn = record pen { marks = pen.marks ++ map (drawn_at pen.rank) drawn }
 
-abbrev pub span_at : ℕ → ℕ → Span → Mark
-span_at first last (Span.Beam way from to) = Mark.Beam way first last from to
-span_at first last (Span.Arc from to bulge) = Mark.Arc first last from to bulge
+abbrev pub span_at : ℕ → ℕ → BridgeShape → Mark
+span_at first last (BridgeShape.Beam way from to) = Mark.Beam way first last from to
+span_at first last (BridgeShape.Arc from to bulge) = Mark.Arc first last from to bulge
 
 -- the rank of the column in which a glyph, words or a stem stands; beams and arcs go between columns
 abbrev pub anchor_rank : Mark → Option ℕ
@@ -32,13 +32,13 @@ abbrev pub is_rank : ℕ → Option ℕ → Bool
 is_rank n None = false
 is_rank n (Some r) = n == r
 
-abbrev pub stands_at : ℕ → Laid → Bool
-stands_at r x = is_rank r (anchor_rank x.mark)
+abbrev pub stands_at_rank : ℕ → Laid → Bool
+stands_at_rank r x = is_rank r (anchor_rank x.mark)
 
 -- Lists of marks put together by columns: in each of n columns what stands there of the first list, then of the second, and
 -- so on. One list stays as it is.
 abbrev pub at_rank : List (List Laid) → ℕ → List Laid
-at_rank parts r = flat_map (λ part. filter (stands_at r) part) parts
+at_rank parts r = flat_map (λ part. filter (stands_at_rank r) part) parts
 
 abbrev pub by_columns : ℕ → List (List Laid) → List Laid
 by_columns n (part ∷ []) = part
@@ -47,7 +47,7 @@ by_columns n parts = flat_map (at_rank parts) (range_with_len 0 n)
 -- columns from rank r on, with a mark behind what stands in its column; and with the marks of a part, and those of some parts
 abbrev pub with_mark : ℕ → Laid → List (List Laid) → List (List Laid)
 with_mark r x [] = []
-with_mark r x (column ∷ columns) = (if stands_at r x then column ++ x ∷ [] else column) ∷ with_mark (r + 1) x columns
+with_mark r x (column ∷ columns) = (if stands_at_rank r x then column ++ x ∷ [] else column) ∷ with_mark (r + 1) x columns
 
 abbrev pub with_part : List Laid → List (List Laid) → List (List Laid)
 with_part [] columns = columns
@@ -59,4 +59,4 @@ with_parts (part ∷ parts) columns = with_parts parts (with_part part columns)
 
 -- between two columns of the system with these keys, in no lane
 abbrev pub bridge_at : List ColumnKey → Bridge → Laid
-bridge_at keys b = record { mark = span_at (rank_of keys b.first) (rank_of keys b.last) b.span; lane = Lane.Loose }
+bridge_at keys b = record { mark = span_at (key_rank keys b.first) (key_rank keys b.last) b.span; lane = Lane.Loose }

@@ -20,7 +20,7 @@ marks_shape all = map laid_shape all
 abbrev pub staff_shape : StaffMarks → List Laid
 staff_shape staff = marks_shape staff.marks
 
-pub record AreAlike (m n : SystemMarks) : Type 0 where
+pub record HaveSameShapes (m n : SystemMarks) : Type 0 where
   pub from : m.a ≡ n.a
   pub to : m.b ≡ n.b
   pub keys : m.keys ≡ n.keys

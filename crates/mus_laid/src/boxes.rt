@@ -1,5 +1,5 @@
 ghost use Rattle.std.specs.{Prelude.◌≡◌, Prelude.◌+ℤ◌, Prelude.◌≤◌, Prelude.length, Int.int_min, Int.int_max};
-ghost use Rattle.mus_laid.specs.Boxes.{IsGoodMark, character_width, text_low, text_high, glyph_heights, text_heights, stem_heights, beam_heights, over_four, arc_heights, heights_of, glyph_sides, text_sides, sides_of, widened, staff_heights};
+ghost use Rattle.mus_laid.specs.Boxes.{IsGoodMark, character_width, text_low, text_high, glyph_heights, text_heights, stem_heights, beam_heights, over_four, arc_heights, heights_of, glyph_sides, text_sides, sides_of, union_of_heights, staff_heights};
 
 use crate::laid::{Laid, Mark};
 use glyph_paths::bounds_of;
@@ -7,7 +7,7 @@ use mus_units::{Glyph, Size};
 
 /// From the least to the greatest height, in u above the staff's bottom line.
 #[derive(Clone, Copy, PartialEq, Eq)]
-pub struct Heights {
+pub struct HeightRange {
     pub low: i64,
     pub high: i64,
 }
@@ -26,27 +26,27 @@ fn sum(a: i32, b: i32) -> i64
 }
 
 #[tactic(auto, unfolding(crate::specs::Boxes::glyph_heights))]
-fn glyph_heights(glyph: Glyph, dy: i32) -> Heights
+fn glyph_heights(glyph: Glyph, dy: i32) -> HeightRange
     ensures { result ≡ glyph_heights glyph dy }
 {
     let bounds = bounds_of(glyph);
-    Heights {
+    HeightRange {
         low: sum(dy, bounds.low),
         high: sum(dy, bounds.high),
     }
 }
 
 #[tactic(auto, unfolding(crate::specs::Boxes::text_heights))]
-fn text_heights(size: Size, dy: i32) -> Heights
+fn text_heights(size: Size, dy: i32) -> HeightRange
     ensures { result ≡ text_heights size dy }
 {
     let dy = i64::from(dy);
     match size {
-        Size::Small => Heights {
+        Size::Small => HeightRange {
             low: dy - 270,
             high: dy + 720,
         },
-        Size::Big => Heights {
+        Size::Big => HeightRange {
             low: dy - 480,
             high: dy + 1280,
         },
@@ -66,29 +66,29 @@ fn greatest(a: i64, b: i64) -> i64
 }
 
 #[tactic(auto, unfolding(crate::specs::Boxes::stem_heights))]
-fn stem_heights(from: i32, to: i32) -> Heights
+fn stem_heights(from: i32, to: i32) -> HeightRange
     ensures { result ≡ stem_heights from to }
 {
     let (from, to) = (i64::from(from), i64::from(to));
-    Heights {
+    HeightRange {
         low: least(from, to),
         high: greatest(from, to),
     }
 }
 
 #[tactic(auto, unfolding(crate::specs::Boxes::beam_heights))]
-fn beam_heights(from: i32, to: i32) -> Heights
+fn beam_heights(from: i32, to: i32) -> HeightRange
     ensures { result ≡ beam_heights from to }
 {
     let (from, to) = (i64::from(from), i64::from(to));
-    Heights {
+    HeightRange {
         low: least(from, to),
         high: greatest(from, to) + 250,
     }
 }
 
 #[tactic(auto, unfolding(crate::specs::Boxes::arc_heights))]
-fn arc_heights(from: i32, to: i32, bulge: i32) -> Heights
+fn arc_heights(from: i32, to: i32, bulge: i32) -> HeightRange
     ensures { result ≡ arc_heights from to bulge }
 {
     over_four(
@@ -99,12 +99,12 @@ fn arc_heights(from: i32, to: i32, bulge: i32) -> Heights
     )
 }
 
-fn over_four(a: i64, b: i64, c: i64, d: i64) -> Heights
+fn over_four(a: i64, b: i64, c: i64, d: i64) -> HeightRange
     ensures { result ≡ over_four a b c d }
 {
     let (low, other_low) = (least(a, b), least(c, d));
     let (high, other_high) = (greatest(a, b), greatest(c, d));
-    Heights {
+    HeightRange {
         low: least(low, other_low),
         high: greatest(high, other_high),
     }
@@ -112,7 +112,7 @@ fn over_four(a: i64, b: i64, c: i64, d: i64) -> Heights
 
 /// The heights that a mark covers: a glyph its points, a text its line, a stem its
 /// ends, a beam its edges, an arc its ends and how far it bulges.
-pub fn heights_of(mark: &Mark) -> Heights
+pub fn heights_of(mark: &Mark) -> HeightRange
     ensures { result ≡ heights_of mark.now }
 {
     match mark {
@@ -175,20 +175,20 @@ pub fn sides_of(mark: &Mark) -> Option<Sides>
     }
 }
 
-fn widened(a: Heights, b: Heights) -> Heights
-    ensures { result ≡ widened a b }
+fn widened(a: HeightRange, b: HeightRange) -> HeightRange
+    ensures { result ≡ union_of_heights a b }
 {
-    Heights {
+    HeightRange {
         low: least(a.low, b.low),
         high: greatest(a.high, b.high),
     }
 }
 
 /// The least and the greatest height of the boxes of all marks, at least 0 to 2000.
-pub fn staff_heights(marks: &[Laid]) -> Heights
+pub fn staff_heights(marks: &[Laid]) -> HeightRange
     ensures { result ≡ staff_heights marks.now }
 {
-    let mut so_far = Heights { low: 0, high: 2000 };
+    let mut so_far = HeightRange { low: 0, high: 2000 };
     for laid in marks {
         so_far = widened(so_far, heights_of(&laid.mark));
     }

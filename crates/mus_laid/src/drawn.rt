@@ -1,5 +1,5 @@
 use crate::laid::Lane;
-use mus_time::ColumnKey;
+use mus_onsets::ColumnKey;
 use mus_units::{Glyph, Size, Text, Way};
 
 /// What is drawn in one column, `dx` in u from it; `dy`, `from` and `to` are heights in u above the
@@ -26,7 +26,7 @@ pub enum Ink {
 
 /// Ink and the lane that keeps it apart: a mark whose column is not said yet.
 #[derive(Drop)]
-pub struct Drawn {
+pub struct LaneInk {
     pub ink: Ink,
     pub lane: Lane,
 }
@@ -34,7 +34,7 @@ pub struct Drawn {
 /// What goes from one column to another: a beam by its lower edges at both, 250 u thick, or an arc
 /// by its two ends and how far it bulges. Heights are in u above the staff's bottom line.
 #[derive(Clone, Copy, PartialEq, Eq)]
-pub enum Span {
+pub enum BridgeShape {
     Beam { way: Way, from: i32, to: i32 },
     Arc { from: i32, to: i32, bulge: i32 },
 }
@@ -44,5 +44,5 @@ pub enum Span {
 pub struct Bridge {
     pub first: ColumnKey,
     pub last: ColumnKey,
-    pub span: Span,
+    pub span: BridgeShape,
 }

@@ -11,11 +11,11 @@ pub mod pen;
 pub mod printing;
 pub mod ranking;
 
-pub use boxes::{Heights, Sides, heights_of, sides_of, staff_heights};
+pub use boxes::{HeightRange, Sides, heights_of, sides_of, staff_heights};
 pub use columns::{anchor_rank, by_columns};
-pub use drawn::{Bridge, Drawn, Ink, Span};
+pub use drawn::{Bridge, LaneInk, Ink, BridgeShape};
 pub use laid::{Laid, Lane, Mark, StaffMarks, SystemMarks};
 pub use mus_units::{Glyph, Size, Way};
-pub use pen::Pen;
+pub use pen::MarkPen;
 pub use printing::{printed, printed_within};
 pub use ranking::put_bridges;

@@ -1,17 +1,17 @@
 ghost use Rattle.std.specs.Prelude.{◌≡◌, ◌∷◌, [], OnOk};
-ghost use Rattle.{mus_time.specs.{Order.rank_of, Ranks.AreRanked}, mus_laid.specs.Ranked.{ink_at, inked}};
+ghost use Rattle.{mus_onsets.specs.{Order.key_rank, Ranks.AreRanked}, mus_laid.specs.Ranked.{ink_at, inked}};
 
-use crate::drawn::{Drawn, Ink};
+use crate::drawn::{LaneInk, Ink};
 use crate::laid::{Laid, Mark};
 use crate::ranking::found_at;
-use mus_time::{ColumnKey, rank_of};
+use mus_onsets::{ColumnKey, rank_of};
 use mus_units::{Memory, Row};
 use std::alloc::Global;
 
 /// What lays marks column by column: the rank of the column that it stands at, and the marks that it
 /// has laid.
 #[derive(Drop)]
-pub struct Pen {
+pub struct MarkPen {
     pub alloc: Global,
     pub rank: u32,
     pub marks: Row<Laid>,
@@ -39,12 +39,12 @@ fn ink_at(rank: u32, ink: Ink) -> Mark
     }
 }
 
-impl Pen {
+impl MarkPen {
     /// A pen that has laid nothing, at the first column.
-    pub fn new(alloc: Global) -> Pen
+    pub fn new(alloc: Global) -> MarkPen
         ensures { result.marks ≡ [] }
     {
-        Pen {
+        MarkPen {
             alloc,
             rank: 0,
             marks: Row::new(alloc),
@@ -55,7 +55,7 @@ impl Pen {
     #[inline(always)]
     pub fn go_to(&mut self, keys: &[ColumnKey], key: ColumnKey)
         requires { AreRanked keys.now }
-        ensures rank { self.new.rank ≡ rank_of keys.now key }
+        ensures rank { self.new.rank ≡ key_rank keys.now key }
         ensures marks { self.new.marks ≡ self.old.marks }
     {
         let next = self.rank as usize + 1;
@@ -67,7 +67,7 @@ impl Pen {
 
     /// Lays what is drawn in the column. The only error is want of memory.
     #[inline(always)]
-    pub fn put(&mut self, drawn: Drawn) -> Result<(), Memory>
+    pub fn put(&mut self, drawn: LaneInk) -> Result<(), Memory>
         ensures { OnOk result (self.new ≡ inked self.old (drawn ∷ [])) }
     {
         let mark = ink_at(self.rank, drawn.ink);

@@ -1,9 +1,9 @@
 ghost use Rattle.std.specs.Prelude.{◌≡◌, ◌++◌, map, IfSome, OnOk};
-ghost use Rattle.{mus_time.specs.{Order.rank_of, Ranks.AreRanked}, mus_laid.specs.Ranked.{bridge_at, span_at}};
+ghost use Rattle.{mus_onsets.specs.{Order.key_rank, Ranks.AreRanked}, mus_laid.specs.Ranked.{bridge_at, span_at}};
 
-use crate::drawn::{Bridge, Span};
+use crate::drawn::{Bridge, BridgeShape};
 use crate::laid::{Laid, Lane, Mark};
-use mus_time::{ColumnKey, rank_of};
+use mus_onsets::{ColumnKey, rank_of};
 use mus_units::{Memory, Row};
 
 /// How many columns are looked at before one is searched for.
@@ -12,7 +12,7 @@ const NEAR: usize = 16;
 /// The rank of a column, if that is at this place among the keys.
 pub(crate) fn found_at(keys: &[ColumnKey], place: usize, key: ColumnKey) -> Option<u32>
     requires { AreRanked keys.now }
-    ensures { IfSome result (λ rank. rank ≡ rank_of keys.now key) }
+    ensures { IfSome result (λ rank. rank ≡ key_rank keys.now key) }
 {
     match keys.get(place) {
         Some(found) if *found == key => Some(place as u32),
@@ -23,7 +23,7 @@ pub(crate) fn found_at(keys: &[ColumnKey], place: usize, key: ColumnKey) -> Opti
 /// The rank of a column, which mostly is few places behind that of another.
 fn rank_behind(keys: &[ColumnKey], other: u32, key: ColumnKey) -> u32
     requires { AreRanked keys.now }
-    ensures { result ≡ rank_of keys.now key }
+    ensures { result ≡ key_rank keys.now key }
 {
     let other = other as usize;
     for place in other..other + NEAR {
@@ -34,18 +34,18 @@ fn rank_behind(keys: &[ColumnKey], other: u32, key: ColumnKey) -> u32
     rank_of(keys, key)
 }
 
-fn span_at(first: u32, last: u32, span: Span) -> Mark
+fn span_at(first: u32, last: u32, span: BridgeShape) -> Mark
     ensures { result ≡ span_at first last span }
 {
     match span {
-        Span::Beam { way, from, to } => Mark::Beam {
+        BridgeShape::Beam { way, from, to } => Mark::Beam {
             way,
             first,
             last,
             from,
             to,
         },
-        Span::Arc { from, to, bulge } => Mark::Arc {
+        BridgeShape::Arc { from, to, bulge } => Mark::Arc {
             first,
             last,
             from,

@@ -1,6 +1,6 @@
 -- Syllables are sung in one way on the notes of a line, and it is the one that a walk gives.
 use Rattle.std.proofs.{Common.{◌≡◌, ◌≤◌, ◌<◌, ℕ, ◌+◌, List, [], ◌∷◌, ◌++◌, refl, sym, ◌∙◌, ap, subst, append_assoc, inl, inr, arith}, lemmas.{Bool.{cases_lt, lt-ltb, le-ltb}, List.Elements.{All-nil, All-cons, All-head, All-tail, All-append, All-weaker}}}
-use Rattle.mus_lyric.specs.{declared.{singing.{NoteAt.NoteAt, Sung.Sung}, syllable.Syl.{Syl, TheVariants.{Print, Skip, Bar}}}, Singing.{AreBefore, AreSungOn, Sings, TakesNote, bar, dropped, ends, first_measure, notes_from, on_first, put, sung_from, sung_on, takes}}
+use Rattle.mus_lyric.specs.{declared.{singing.{NoteAt.NoteAt, Sung.Sung}, syllable.Syl.{Syl, TheVariants.{Print, Skip, Bar}}}, Singing.{AreBefore, AreSungOn, Sings, TakesNote, bar, dropped, ends, first_measure, notes_from, on_first, with_sung, sung_from, sung_on, takes}}
 
 later : (count more : ℕ) (notes : List NoteAt) → count ≤ more → AreBefore count notes → AreBefore more notes
 later count more notes le h = All-weaker (λ n. n.measure < count) (λ n. n.measure < more) (λ n lt. omega arith) notes h
@@ -54,7 +54,7 @@ sung_from-none (Skip ∷ syls) count notes h = rw (notes_from-none count notes h
 sung_from-none (Bar ∷ syls) count notes h = sung_from-none syls (count + 1) notes (later count (count + 1) notes (omega arith) h)
 
 goes_on : Syl → List Syl → NoteAt → List NoteAt → List Sung
-goes_on syl syls note left = put syl note (sung_from syls note.measure left)
+goes_on syl syls note left = with_sung syl note (sung_from syls note.measure left)
 
 -- a syllable or a skip goes on behind the first note that the count reaches
 sung_from-takes : (syl : Syl) (syls : List Syl) (count : ℕ) (notes : List NoteAt) → TakesNote syl → sung_from (syl ∷ syls) count notes ≡ on_first (goes_on syl syls) (notes_from count notes)
@@ -72,7 +72,7 @@ one_way _ _ _ _ (takes count all syl syls note left sung t k s) passed notes e h
     let same : notes_from count notes ≡ note ∷ k.behind =
     sym (notes_from-before count passed notes h) ∙ ap (notes_from count) (sym e ∙ k.are) ∙ notes_from-before count k.before (note ∷ k.behind) k.earlier ∙ notes_from-reaches count note k.behind k.reaches in
     let more : sung ≡ sung_from syls note.measure k.behind = one_way note.measure left syls sung s k.before k.behind k.left_are (later count note.measure k.before k.reaches k.earlier) in
-    ap (put syl note) more ∙ sym (sung_from-takes syl syls count notes t ∙ ap (on_first (goes_on syl syls)) same)
+    ap (with_sung syl note) more ∙ sym (sung_from-takes syl syls count notes t ∙ ap (on_first (goes_on syl syls)) same)
 one_way _ _ _ _ (dropped count all syl syls sung t none s) passed notes e h =
     let none_left : AreBefore count notes = behind_all count passed notes (subst (AreBefore count) e none) in
     one_way count all syls sung s passed notes e h ∙ sung_from-none syls count notes none_left ∙ sym (sung_from-takes syl syls count notes t ∙ ap (on_first (goes_on syl syls)) (notes_from-none count notes none_left))

@@ -1,9 +1,9 @@
 -- Characters spell one list of syllables, and it is the one that a walk gives.
 use Rattle.std.proofs.{Common.{◌≡◌, ℕ, List, [], ◌∷◌, ◌++◌, refl, sym, ◌∙◌, ap, subst, append_assoc, append-nil}, lemmas.List.map-append}
-use Rattle.mus_lyric.specs.{declared.{character.Character.{Character, TheVariants.{Printed, Blank, Hyphen, Underscore, Star, BarLine}}, syllable.Syl.Syl}, Characters.characters, Syllables.{AreSyllablesOf, EndsRun, Spells, nothing, blank, word, hyphened, hyphen, underscore, star, bar, printed, behind_run, syllables_of}}
+use Rattle.mus_lyric.specs.{declared.{character.Character.{Character, TheVariants.{Printed, Blank, Hyphen, Underscore, Star, BarLine}}, syllable.Syl.Syl}, Characters.characters, Syllables.{AreSyllablesOf, EndsRun, SpellsSyllables, nothing, blank, word, hyphened, hyphen, underscore, star, bar, printed_run, behind_run, syllables_of}}
 use Rattle.mus_lyric.specs.declared.syllable.Syl.TheVariants as syl
 
-behind_run-printed : (before run : List ℕ) (more : List Character) → behind_run before (printed run ++ more) ≡ behind_run (before ++ run) more
+behind_run-printed : (before run : List ℕ) (more : List Character) → behind_run before (printed_run run ++ more) ≡ behind_run (before ++ run) more
 behind_run-printed before [] more = rw append-nil refl
 behind_run-printed before (byte ∷ run) more = behind_run-printed (before ++ byte ∷ []) run more ∙ ap (λ x. behind_run x more) (append_assoc before (byte ∷ []) run)
 
@@ -16,7 +16,7 @@ behind_run-ended first run (Underscore ∷ more) e = refl
 behind_run-ended first run (Star ∷ more) e = refl
 behind_run-ended first run (BarLine ∷ more) e = refl
 
-one_spelt : (characters : List Character) (syls : List Syl) → Spells characters syls → syls ≡ behind_run [] characters
+one_spelt : (characters : List Character) (syls : List Syl) → SpellsSyllables characters syls → syls ≡ behind_run [] characters
 one_spelt _ _ nothing = refl
 one_spelt _ _ (blank more syls s) = one_spelt more syls s
 one_spelt _ _ (word first run more syls e s) = ap (λ x. syl.Print (first ∷ run) ∷ x) (one_spelt more syls s) ∙ sym (behind_run-printed (first ∷ []) run more ∙ behind_run-ended first run more e)
@@ -26,13 +26,13 @@ one_spelt _ _ (underscore more syls s) = ap (λ x. syl.Print (95 ∷ []) ∷ x) 
 one_spelt _ _ (star more syls s) = ap (λ x. syl.Skip ∷ x) (one_spelt more syls s)
 one_spelt _ _ (bar more syls s) = ap (λ x. syl.Bar ∷ x) (one_spelt more syls s)
 
-printed-more : (run : List ℕ) (byte : ℕ) (more : List Character) → printed (run ++ byte ∷ []) ++ more ≡ printed run ++ Printed byte ∷ more
-printed-more run byte more = ap (λ x. x ++ more) (map-append Printed run (byte ∷ [])) ∙ append_assoc (printed run) (Printed byte ∷ []) more
+printed-more : (run : List ℕ) (byte : ℕ) (more : List Character) → printed_run (run ++ byte ∷ []) ++ more ≡ printed_run run ++ Printed byte ∷ more
+printed-more run byte more = ap (λ x. x ++ more) (map-append Printed run (byte ∷ [])) ∙ append_assoc (printed_run run) (Printed byte ∷ []) more
 
-spelt : (characters : List Character) (run : List ℕ) → Spells (printed run ++ characters) (behind_run run characters)
+spelt : (characters : List Character) (run : List ℕ) → SpellsSyllables (printed_run run ++ characters) (behind_run run characters)
 spelt [] [] = nothing
 spelt [] (first ∷ run) = word first run [] [] tt nothing
-spelt (Printed byte ∷ more) run = subst (λ x. Spells x (behind_run (run ++ byte ∷ []) more)) (printed-more run byte more) (spelt more (run ++ byte ∷ []))
+spelt (Printed byte ∷ more) run = subst (λ x. SpellsSyllables x (behind_run (run ++ byte ∷ []) more)) (printed-more run byte more) (spelt more (run ++ byte ∷ []))
 spelt (Blank ∷ more) [] = blank more _ (spelt more [])
 spelt (Blank ∷ more) (first ∷ run) = word first run (Blank ∷ more) _ tt (blank more _ (spelt more []))
 spelt (Hyphen ∷ more) [] = hyphen more _ (spelt more [])

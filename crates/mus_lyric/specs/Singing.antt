@@ -3,10 +3,10 @@ use Rattle.std.specs.{Prelude.{◌≡◌, ◌≤◌, ◌<◌, ℕ, ◌+◌, List
 use Rattle.mus_lyric.specs.declared.{singing.{NoteAt.NoteAt, Sung.Sung}, syllable.Syl.{Syl, TheVariants.{Print, Skip, Bar}}}
 
 -- what a syllable or a skip puts on the note that it takes
-abbrev pub put : Syl → NoteAt → List Sung → List Sung
-put (Print text) note sung = record { event = note.event; text = text } ∷ sung
-put Skip note sung = sung
-put Bar note sung = sung
+abbrev pub with_sung : Syl → NoteAt → List Sung → List Sung
+with_sung (Print text) note sung = record { event = note.event; text = text } ∷ sung
+with_sung Skip note sung = sung
+with_sung Bar note sung = sung
 
 -- a syllable or a skip, which take a note
 abbrev pub TakesNote : Syl → Type 0
@@ -32,7 +32,7 @@ pub data Sings : ℕ → List NoteAt → List Syl → List Sung → Type 0 where
   ends : (count : ℕ) (notes : List NoteAt) → Sings count notes [] []
   bar : (count : ℕ) (notes : List NoteAt) (syls : List Syl) (sung : List Sung) → Sings (count + 1) notes syls sung → Sings count notes (Bar ∷ syls) sung
   takes : (count : ℕ) (notes : List NoteAt) (syl : Syl) (syls : List Syl) (note : NoteAt) (left : List NoteAt) (sung : List Sung) →
-      TakesNote syl → Takes count notes note left → Sings note.measure left syls sung → Sings count notes (syl ∷ syls) (put syl note sung)
+      TakesNote syl → Takes count notes note left → Sings note.measure left syls sung → Sings count notes (syl ∷ syls) (with_sung syl note sung)
   dropped : (count : ℕ) (notes : List NoteAt) (syl : Syl) (syls : List Syl) (sung : List Sung) → TakesNote syl → AreBefore count notes → Sings count notes syls sung → Sings count notes (syl ∷ syls) sung
 
 -- the count begins at the measure of the first note

@@ -15,40 +15,40 @@ EndsRun (Star ∷ more) = Unit {0}
 EndsRun (BarLine ∷ more) = Unit {0}
 
 -- the characters of a run of bytes that are printed
-abbrev pub printed : List ℕ → List Character
-printed run = map Printed run
+abbrev pub printed_run : List ℕ → List Character
+printed_run run = map Printed run
 
 -- the syllables that characters spell; a run has at least one byte
-pub data Spells : List Character → List Syl → Type 0 where
-  nothing : Spells [] []
-  blank : (more : List Character) (syls : List Syl) → Spells more syls → Spells (Blank ∷ more) syls
-  word : (first : ℕ) (run : List ℕ) (more : List Character) (syls : List Syl) → EndsRun more → Spells more syls → Spells (Printed first ∷ printed run ++ more) (syl.Print (first ∷ run) ∷ syls)
-  hyphened : (first : ℕ) (run : List ℕ) (more : List Character) (syls : List Syl) → Spells more syls → Spells (Printed first ∷ printed run ++ Hyphen ∷ more) (syl.Print (first ∷ run ++ 45 ∷ []) ∷ syls)
-  hyphen : (more : List Character) (syls : List Syl) → Spells more syls → Spells (Hyphen ∷ more) (syl.Print (45 ∷ []) ∷ syls)
-  underscore : (more : List Character) (syls : List Syl) → Spells more syls → Spells (Underscore ∷ more) (syl.Print (95 ∷ []) ∷ syls)
-  star : (more : List Character) (syls : List Syl) → Spells more syls → Spells (Star ∷ more) (syl.Skip ∷ syls)
-  bar : (more : List Character) (syls : List Syl) → Spells more syls → Spells (BarLine ∷ more) (syl.Bar ∷ syls)
+pub data SpellsSyllables : List Character → List Syl → Type 0 where
+  nothing : SpellsSyllables [] []
+  blank : (more : List Character) (syls : List Syl) → SpellsSyllables more syls → SpellsSyllables (Blank ∷ more) syls
+  word : (first : ℕ) (run : List ℕ) (more : List Character) (syls : List Syl) → EndsRun more → SpellsSyllables more syls → SpellsSyllables (Printed first ∷ printed_run run ++ more) (syl.Print (first ∷ run) ∷ syls)
+  hyphened : (first : ℕ) (run : List ℕ) (more : List Character) (syls : List Syl) → SpellsSyllables more syls → SpellsSyllables (Printed first ∷ printed_run run ++ Hyphen ∷ more) (syl.Print (first ∷ run ++ 45 ∷ []) ∷ syls)
+  hyphen : (more : List Character) (syls : List Syl) → SpellsSyllables more syls → SpellsSyllables (Hyphen ∷ more) (syl.Print (45 ∷ []) ∷ syls)
+  underscore : (more : List Character) (syls : List Syl) → SpellsSyllables more syls → SpellsSyllables (Underscore ∷ more) (syl.Print (95 ∷ []) ∷ syls)
+  star : (more : List Character) (syls : List Syl) → SpellsSyllables more syls → SpellsSyllables (Star ∷ more) (syl.Skip ∷ syls)
+  bar : (more : List Character) (syls : List Syl) → SpellsSyllables more syls → SpellsSyllables (BarLine ∷ more) (syl.Bar ∷ syls)
 
 -- the syllables of a line of words
 abbrev pub AreSyllablesOf : List ℕ → List Syl → Type 0
-AreSyllablesOf words syls = Spells (characters words) syls
+AreSyllablesOf words syls = SpellsSyllables (characters words) syls
 
 -- ---- one list of syllables, between their definition and the code
 
 -- a run that ends here, where there is one
-abbrev pub ended : List ℕ → List Syl → List Syl
-ended [] syls = syls
-ended (first ∷ run) syls = syl.Print (first ∷ run) ∷ syls
+abbrev pub run_ended : List ℕ → List Syl → List Syl
+run_ended [] syls = syls
+run_ended (first ∷ run) syls = syl.Print (first ∷ run) ∷ syls
 
 -- the syllables of characters behind a run
 abbrev pub behind_run : List ℕ → List Character → List Syl
-behind_run run [] = ended run []
+behind_run run [] = run_ended run []
 behind_run run (Printed byte ∷ more) = behind_run (run ++ byte ∷ []) more
-behind_run run (Blank ∷ more) = ended run (behind_run [] more)
+behind_run run (Blank ∷ more) = run_ended run (behind_run [] more)
 behind_run run (Hyphen ∷ more) = syl.Print (run ++ 45 ∷ []) ∷ behind_run [] more
-behind_run run (Underscore ∷ more) = ended run (syl.Print (95 ∷ []) ∷ behind_run [] more)
-behind_run run (Star ∷ more) = ended run (syl.Skip ∷ behind_run [] more)
-behind_run run (BarLine ∷ more) = ended run (syl.Bar ∷ behind_run [] more)
+behind_run run (Underscore ∷ more) = run_ended run (syl.Print (95 ∷ []) ∷ behind_run [] more)
+behind_run run (Star ∷ more) = run_ended run (syl.Skip ∷ behind_run [] more)
+behind_run run (BarLine ∷ more) = run_ended run (syl.Bar ∷ behind_run [] more)
 
 unfoldable pub syllables_of : List ℕ → List Syl
 syllables_of words = behind_run [] (characters words)

@@ -1,5 +1,5 @@
 ghost use Rattle.std.specs.Prelude.{◌≡◌, ◌++◌, ◌∷◌, [], ◌≤◌, ◌<◌, ◌+◌, ◌^◌, List, IfOk, OnOk, MatchOption};
-ghost use Rattle.mus_lyric.specs.{declared.singing.Sung.Sung, Singing.{AreSungOn, first_measure, notes_from, put, sung_from, sung_on}};
+ghost use Rattle.mus_lyric.specs.{declared.singing.Sung.Sung, Singing.{AreSungOn, first_measure, notes_from, with_sung, sung_from, sung_on}};
 
 use crate::syllable::Syl;
 use mus_units::{Memory, Row, Text};
@@ -74,7 +74,7 @@ fn next_note(notes: &[NoteAt], count: u64) -> Option<(NoteAt, &[NoteAt])>
 
 /// Adds what a syllable or a skip puts on its note.
 fn put_syllable(alloc: Global, syl: &Syl, note: NoteAt, sung: &mut Row<Sung>) -> Result<(), Memory>
-    ensures { OnOk result (sung.new ≡ sung.old ++ put syl.now note []) }
+    ensures { OnOk result (sung.new ≡ sung.old ++ with_sung syl.now note []) }
 {
     if let Syl::Print(text) = syl {
         sung.push(Sung {

@@ -1,5 +1,5 @@
 ghost use Rattle.std.specs.Prelude.{◌≡◌, ◌++◌, ◌∷◌, [], List, IfOk, OnOk};
-ghost use Rattle.mus_lyric.specs.{declared.syllable.Syl.Syl, Characters.characters, Syllables.{AreSyllablesOf, behind_run, ended, syllables_of}};
+ghost use Rattle.mus_lyric.specs.{declared.syllable.Syl.Syl, Characters.characters, Syllables.{AreSyllablesOf, behind_run, run_ended, syllables_of}};
 ghost use Rattle.mus_lyric.specs.declared.syllable.Syl.TheVariants as syl;
 
 use crate::character::{Character, first_character};
@@ -73,7 +73,7 @@ fn put_character(
 
 /// Adds the run as a syllable, where it has a byte, and begins a new one.
 fn end_run(alloc: Global, run: &mut Text, syls: &mut Row<Syl>) -> Result<(), Memory>
-    ensures put { OnOk result (syls.new ≡ syls.old ++ ended run.old []) }
+    ensures put { OnOk result (syls.new ≡ syls.old ++ run_ended run.old []) }
     ensures fresh { OnOk result (run.new ≡ []) }
 {
     if run.len() > 0 {

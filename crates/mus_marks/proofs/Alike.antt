@@ -3,14 +3,14 @@
 use Rattle.std.{proofs.{Common.{◌≡◌, ◌∙◌, ℕ, zero, suc, ℤ, pos, ◌+◌, ◌-◌, max, sum, Bool, true, false, ◌&&◌, ◌||◌, ◌==◌, nat_lt, if◌then◌else◌, cond, List, [], ◌∷◌, ◌++◌, length, map, take, drop, Option, Some, None, refl, sym, ap, subst}, lemmas.{List.{drop-map, map-append, take-map, Sums.sum_by-cons}, Option.slice_get-map, Simd.map-map}}, specs.{List.{All, AllByRecursion, count_by, filter, find, flat_map, range_with_len, slice_get, slice_index_or, slice_range}, Option.option_map}}
 use Rattle.mus_units.specs.declared.{glyph.Glyph.Glyph, note.Bar.Bar, note.Deco.Deco, note.Head.Head, pitch.Clef.Clef}
 use Rattle.mus_score.specs.{declared.score.Event.Event, declared.score.Flat.Flat, declared.score.Score.Score, declared.score.Seat.Seat, GoodScore.IsGoodScore, Seats.is_lower}
-use Rattle.mus_time.specs.{declared.keys.ColumnKey.ColumnKey, Order.same_key, declared.times.Timeline.Timeline, Keys.called_keys}
+use Rattle.mus_onsets.specs.{declared.keys.ColumnKey.ColumnKey, Order.same_key, declared.times.Timeline.Timeline, Keys.called_keys}
 use Rattle.{mus_arcs.specs.{declared.cutting.Piece.Piece, declared.pairing.Arc.Arc, Pieces.piece_of}, mus_stems.specs.{declared.plans.StemPlan.StemPlan, Slope.with_end}}
-use Rattle.mus_laid.specs.{declared.{drawn.{Bridge.Bridge, Drawn.Drawn}, laid.{Laid.Laid, Mark.Mark, SystemMarks.SystemMarks, Lane.Lane}}, Printed.printed, Ranked.{anchor_rank, at_rank, bridge_at, by_columns, drawn_at, is_rank, stands_at}, Shapes.{AreAlike, laid_shape, mark_shape, marks_shape, staff_shape}, Boxes.AreGoodMarks}
+use Rattle.mus_laid.specs.{declared.{drawn.{Bridge.Bridge, LaneInk.LaneInk}, laid.{Laid.Laid, Mark.Mark, SystemMarks.SystemMarks, Lane.Lane}}, Printed.printed, Ranked.{anchor_rank, at_rank, bridge_at, by_columns, drawn_at, is_rank, stands_at_rank}, Shapes.{HaveSameShapes, laid_shape, mark_shape, marks_shape, staff_shape}, Boxes.AreGoodMarks}
 use Rattle.mus_ink.specs.{Decos.{behind_deco, body_marks, deco_mark, deco_marks, first_deco, next_deco, note_marks, top_of}, Distances.half_character, Drawing.{back, beam, glyph, loose_glyph}, Kinds.{deco_glyph, flag_glyph, stub_glyph}, Notes.heads_marks, Stems.{flag_dy, flag_marks, flags_or_stubs, lower_edge, stem_dx, stem_if, stem_marks, stub_marks}}
 use Rattle.mus_words.specs.{Arcs.{arc_mark, slur_mark, tie_mark}, Syllables.{syllable_dx, syllable_if, syllables_from, verse_dy}, Texts.{above_dy, above_from, below_dy, below_from, text_marks, texts_above, texts_below}, Words.words}
 use Rattle.mus_drawn.specs.{declared.drawn.DrawnEvent.DrawnEvent, declared.drawn.DrawnMeasure.DrawnMeasure, declared.drawn.DrawnVoice.DrawnVoice, Drawn.raise_of}
-use Rattle.mus_bridges.specs.{declared.stems.Stem.Stem, Beams.{beam_marks, beams_at, beams_from, goes_on, last_at, level_from, levels_before, levels_from, stem_of, way_of}, Arcs.{arc_between, arc_in, arcs_between, event_at, event_in, has_id, left_key, piece_between, right_key, seen_of}, Bridges.{beams_between, bridges_of, event_grace_beam, grace_beams_between, stem_at}}
-use Rattle.mus_marks.{specs.{Events.{bar_part, change_part, event_marks, events_marks, graces_part, levels_behind, levels_in, measures_marks, no_texts, note_part, note_rank, text_place, words_marks, words_part}, Staff.{bare_marks, columns_part, first_part, head_part, is_above, is_below_staff, is_words, own_part, room_over, staff_marks, staff_over, text_above, text_below, texts_behind, texts_with, verses_on, written_parts}, declared.events.{Place.Place, Room.Room, Texts.Texts}, System.{IsCall, drawn_staves}, Tilt.{IsTilted, tilted_staff, voice_tilted}}, proofs.{Ending.{flat_event, flat_measure, ended_fits, flat_voice}, Fitting.staves_fit, OneList.same_keys, Parts.FitsVoice, GoodMarks.staves_good}}
+use Rattle.mus_bridges.specs.{declared.stems.BeamStem.BeamStem, Beams.{beam_marks, beams_at, beams_from, goes_on_at_level, last_at, level_from, levels_before, levels_from, stem_of, way_of}, Arcs.{arc_between, arc_in, arcs_between, event_at, event_in, has_id, left_key, piece_between, right_key, seen_of}, Bridges.{beams_between, bridges_of, event_grace_beam, grace_beams_between, beam_stem_at}}
+use Rattle.mus_marks.{specs.{Events.{bar_part, change_part, event_marks, events_marks, graces_part, levels_behind, levels_in, measures_marks, no_texts, note_part, note_rank, text_place, words_marks, words_part}, Staff.{bare_marks, columns_part, first_bar_part, head_part, is_above, is_below_staff, is_words, own_part, room_over, staff_marks, staff_over, text_above, text_below, texts_behind, texts_with, verses_on, written_parts}, declared.events.{WordRoom.WordRoom, StaffRoom.StaffRoom, TextCounts.TextCounts}, System.{IsCall, drawn_staves}, Tilt.{IsTilted, tilted_staff, voice_tilted}}, proofs.{Ending.{flat_event, flat_measure, ended_fits, flat_voice}, Fitting.staves_fit, OneList.same_keys, Parts.FitsVoice, GoodMarks.staves_good}}
 use Rattle.mus_laid.specs.declared.laid.Lane.TheVariants as lanes
 
 joined : {X Y : Type 0} (f : X → Y) (xs ys us vs : List X) → map f xs ≡ map f us → map f ys ≡ map f vs → map f (xs ++ ys) ≡ map f (us ++ vs)
@@ -22,10 +22,10 @@ either f false xs ys us vs p q = q
 
 -- ---- what is drawn in a column of rank r
 module _ (r : ℕ) where
-  abbrev shape : Drawn → Laid
+  abbrev shape : LaneInk → Laid
   shape d = laid_shape (drawn_at r d)
 
-  ranked : (xs ys : List Drawn) → map shape xs ≡ map shape ys → marks_shape (map (drawn_at r) xs) ≡ marks_shape (map (drawn_at r) ys)
+  ranked : (xs ys : List LaneInk) → map shape xs ≡ map shape ys → marks_shape (map (drawn_at r) xs) ≡ marks_shape (map (drawn_at r) ys)
   ranked xs ys e = map-map laid_shape (drawn_at r) xs ∙ e ∙ sym (map-map laid_shape (drawn_at r) ys)
 
   flags : (up : Bool) (y z : ℤ) (k n : ℕ) → map shape (flag_marks up y k n) ≡ map shape (flag_marks up z k n)
@@ -86,13 +86,13 @@ module _ (r : ℕ) where
   belows y z verses k [] = refl
   belows y z verses k (t ∷ ts) = ap (λ u. shape (words lanes.Below (back half_character) (below_dy y verses k) t) ∷ u) (belows y z verses (k + 1) ts)
 
-abbrev no_room : ℕ → Room
+abbrev no_room : ℕ → StaffRoom
 no_room verses = record { low = pos 0; high = pos 0; verses = verses }
 
-abbrev unplaced : Place → Place
+abbrev unplaced : WordRoom → WordRoom
 unplaced place = record place { room = no_room place.room.verses }
 
-all_words : (r : ℕ) (place : Place) (f : Flat) → map (shape r) (words_marks (Some place) r f) ≡ map (shape r) (words_marks (Some (unplaced place)) r f)
+all_words : (r : ℕ) (place : WordRoom) (f : Flat) → map (shape r) (words_marks (Some place) r f) ≡ map (shape r) (words_marks (Some (unplaced place)) r f)
 unfolding text_marks
 all_words r place f =
     let room = place.room in let none = no_room room.verses in let t = slice_index_or place.before r no_texts in
@@ -102,8 +102,8 @@ all_words r place f =
     (aboves r room.high (pos 0) t.above (texts_above f)) (belows r room.low (pos 0) room.verses t.below (texts_below f)))
 
 -- ---- the columns of a voice
-module _ (keys : List ColumnKey) (place : Place) where
-  abbrev none : Place
+module _ (keys : List ColumnKey) (place : WordRoom) where
+  abbrev none : WordRoom
   none = unplaced place
 
   change : (m : ℕ) (in_head : Bool) (e : DrawnEvent) → change_part keys m in_head e ≡ change_part keys m in_head (flat_event e)
@@ -149,8 +149,8 @@ module _ (keys : List ColumnKey) (place : Place) where
       → marks_shape (columns_part keys lengths (Some place) a seat first ds) ≡ marks_shape (columns_part keys lengths (Some none) a seat first (map flat_measure ds))
   unfolding columns_part
   columns lengths a seat first ds =
-      joined laid_shape (head_part keys a ds ++ first_part keys a seat first) (measures_marks keys lengths (Some place) a true ds) (head_part keys a (map flat_measure ds) ++ first_part keys a seat first) _
-      (ap (λ t. marks_shape (t ++ first_part keys a seat first)) (head a ds)) (measures lengths a true ds)
+      joined laid_shape (head_part keys a ds ++ first_bar_part keys a seat first) (measures_marks keys lengths (Some place) a true ds) (head_part keys a (map flat_measure ds) ++ first_bar_part keys a seat first) _
+      (ap (λ t. marks_shape (t ++ first_bar_part keys a seat first)) (head a ds)) (measures lengths a true ds)
 
 -- ---- columns and texts hang on the shape of marks alone
 rank_shaped : (m : Mark) → anchor_rank (mark_shape m) ≡ anchor_rank m
@@ -167,25 +167,25 @@ words_shaped (Mark.Stem rank dx from to) = refl
 words_shaped (Mark.Beam way first last from to) = refl
 words_shaped (Mark.Arc first last from to bulge) = refl
 
-stands_shaped : (r : ℕ) (x : Laid) → stands_at r (laid_shape x) ≡ stands_at r x
+stands_shaped : (r : ℕ) (x : Laid) → stands_at_rank r (laid_shape x) ≡ stands_at_rank r x
 stands_shaped r x = ap (is_rank r) (rank_shaped x.mark)
 
-filter_shaped : (r : ℕ) (xs : List Laid) → marks_shape (filter (stands_at r) xs) ≡ filter (stands_at r) (marks_shape xs)
+filter_shaped : (r : ℕ) (xs : List Laid) → marks_shape (filter (stands_at_rank r) xs) ≡ filter (stands_at_rank r) (marks_shape xs)
 filter_shaped r [] = refl
 filter_shaped r (x ∷ xs) =
-    by (stands_at r x) (filter_shaped r xs)
-    ∙ ap (λ b. cond b (laid_shape x ∷ filter (stands_at r) (marks_shape xs)) (filter (stands_at r) (marks_shape xs))) (sym (stands_shaped r x))
+    by (stands_at_rank r x) (filter_shaped r xs)
+    ∙ ap (λ b. cond b (laid_shape x ∷ filter (stands_at_rank r) (marks_shape xs)) (filter (stands_at_rank r) (marks_shape xs))) (sym (stands_shaped r x))
   where
-    by : (b : Bool) → marks_shape (filter (stands_at r) xs) ≡ filter (stands_at r) (marks_shape xs)
-        → marks_shape (cond b (x ∷ filter (stands_at r) xs) (filter (stands_at r) xs)) ≡ cond b (laid_shape x ∷ filter (stands_at r) (marks_shape xs)) (filter (stands_at r) (marks_shape xs))
+    by : (b : Bool) → marks_shape (filter (stands_at_rank r) xs) ≡ filter (stands_at_rank r) (marks_shape xs)
+        → marks_shape (cond b (x ∷ filter (stands_at_rank r) xs) (filter (stands_at_rank r) xs)) ≡ cond b (laid_shape x ∷ filter (stands_at_rank r) (marks_shape xs)) (filter (stands_at_rank r) (marks_shape xs))
     by true more = ap (λ t. laid_shape x ∷ t) more
     by false more = more
 
 at_shaped : (r : ℕ) (parts : List (List Laid)) → marks_shape (at_rank parts r) ≡ at_rank (map marks_shape parts) r
 at_shaped r [] = refl
 at_shaped r (part ∷ parts) =
-    map-append laid_shape (filter (stands_at r) part) (at_rank parts r)
-    ∙ ap (λ t. t ++ marks_shape (at_rank parts r)) (filter_shaped r part) ∙ ap (λ t. filter (stands_at r) (marks_shape part) ++ t) (at_shaped r parts)
+    map-append laid_shape (filter (stands_at_rank r) part) (at_rank parts r)
+    ∙ ap (λ t. t ++ marks_shape (at_rank parts r)) (filter_shaped r part) ∙ ap (λ t. filter (stands_at_rank r) (marks_shape part) ++ t) (at_shaped r parts)
 
 ranks_shaped : (parts : List (List Laid)) (ns : List ℕ) → marks_shape (flat_map (at_rank parts) ns) ≡ flat_map (at_rank (map marks_shape parts)) ns
 ranks_shaped parts [] = refl
@@ -205,32 +205,32 @@ count_shaped test same (x ∷ xs) =
     sum_by-cons one (laid_shape x) (marks_shape xs) ∙ ap (λ b. cond b 1 0 + count_by test (marks_shape xs)) (same x) ∙ ap (λ k. cond (test x) 1 0 + k) (count_shaped test same xs) ∙ sym (sum_by-cons one x xs)
 
 above_shaped : (r : ℕ) (x : Laid) → text_above r (laid_shape x) ≡ text_above r x
-above_shaped r x = ap (λ b. b && is_words (mark_shape x.mark) && is_above x.lane) (stands_shaped r x) ∙ ap (λ b. stands_at r x && b && is_above x.lane) (words_shaped x.mark)
+above_shaped r x = ap (λ b. b && is_words (mark_shape x.mark) && is_above x.lane) (stands_shaped r x) ∙ ap (λ b. stands_at_rank r x && b && is_above x.lane) (words_shaped x.mark)
 
 below_shaped : (r : ℕ) (x : Laid) → text_below r (laid_shape x) ≡ text_below r x
-below_shaped r x = ap (λ b. b && is_words (mark_shape x.mark) && is_below_staff x.lane) (stands_shaped r x) ∙ ap (λ b. stands_at r x && b && is_below_staff x.lane) (words_shaped x.mark)
+below_shaped r x = ap (λ b. b && is_words (mark_shape x.mark) && is_below_staff x.lane) (stands_shaped r x) ∙ ap (λ b. stands_at_rank r x && b && is_below_staff x.lane) (words_shaped x.mark)
 
-with_shaped : (t : Texts) (part : List Laid) (r : ℕ) → texts_with t (marks_shape part) r ≡ texts_with t part r
+with_shaped : (t : TextCounts) (part : List Laid) (r : ℕ) → texts_with t (marks_shape part) r ≡ texts_with t part r
 with_shaped t part r =
     ap (λ n. record { above = t.above + n; below = t.below + count_by (text_below r) (marks_shape part) }) (count_shaped (text_above r) (above_shaped r) part)
     ∙ ap (λ n. record { above = t.above + count_by (text_above r) part; below = t.below + n }) (count_shaped (text_below r) (below_shaped r) part)
 
-texts_shaped : (before : List Texts) (part : List Laid) (ns : List ℕ)
+texts_shaped : (before : List TextCounts) (part : List Laid) (ns : List ℕ)
     → map (λ r. texts_with (slice_index_or before r no_texts) (marks_shape part) r) ns ≡ map (λ r. texts_with (slice_index_or before r no_texts) part r) ns
 texts_shaped before part [] = refl
 texts_shaped before part (n ∷ ns) =
     ap (λ t. t ∷ map (λ r. texts_with (slice_index_or before r no_texts) (marks_shape part) r) ns) (with_shaped (slice_index_or before n no_texts) part n)
     ∙ ap (λ t. texts_with (slice_index_or before n no_texts) part n ∷ t) (texts_shaped before part ns)
 
-same_texts : (n : ℕ) (before : List Texts) (part other : List Laid) → marks_shape part ≡ marks_shape other → texts_behind n before part ≡ texts_behind n before other
+same_texts : (n : ℕ) (before : List TextCounts) (part other : List Laid) → marks_shape part ≡ marks_shape other → texts_behind n before part ≡ texts_behind n before other
 same_texts n before part other e = sym (texts_shaped before part (range_with_len 0 n)) ∙ ap (texts_behind n before) e ∙ texts_shaped before other (range_with_len 0 n)
 
 -- ---- beams and arcs
-abbrev flat : Stem → Stem
+abbrev flat : BeamStem → BeamStem
 flat s = record s { to = pos 0 }
 
-last_flat : (k : ℕ) (p : Stem) (qs : List Stem) → last_at k (flat p) (map flat qs) ≡ flat (last_at k p qs)
-unfolding goes_on
+last_flat : (k : ℕ) (p : BeamStem) (qs : List BeamStem) → last_at k (flat p) (map flat qs) ≡ flat (last_at k p qs)
+unfolding goes_on_at_level
 last_flat k p [] = refl
 last_flat k p (q ∷ qs) = by ((q.group == p.group) && nat_lt k q.flags) (last_flat k q qs)
   where
@@ -258,17 +258,17 @@ module _ (keys : List ColumnKey) where
   abbrev span : Bridge → Laid
   span b = laid_shape (bridge_at keys b)
 
-  level : (k : ℕ) (p q : Stem) → map span (level_from k p q) ≡ map span (level_from k (flat p) (flat q))
+  level : (k : ℕ) (p q : BeamStem) → map span (level_from k p q) ≡ map span (level_from k (flat p) (flat q))
   unfolding level_from
   level k p q = either span (same_key p.key q.key) [] (beam (way_of p.up) p.key q.key (lower_edge p.up p.to k) (lower_edge q.up q.to k) ∷ []) [] _ refl refl
 
-  levels : (k n : ℕ) (p : Stem) (qs : List Stem) → map span (levels_from k n p qs) ≡ map span (levels_from k n (flat p) (map flat qs))
+  levels : (k n : ℕ) (p : BeamStem) (qs : List BeamStem) → map span (levels_from k n p qs) ≡ map span (levels_from k n (flat p) (map flat qs))
   levels k zero p qs = refl
   levels k (suc n) p qs =
       joined span (level_from k p (last_at k p qs)) (levels_from (k + 1) n p qs) (level_from k (flat p) (last_at k (flat p) (map flat qs))) _
       (level k p (last_at k p qs) ∙ ap (λ q. map span (level_from k (flat p) q)) (sym (last_flat k p qs))) (levels (k + 1) n p qs)
 
-  beams : (group flags : ℕ) (ps : List Stem) → map span (beams_from group flags ps) ≡ map span (beams_from group flags (map flat ps))
+  beams : (group flags : ℕ) (ps : List BeamStem) → map span (beams_from group flags ps) ≡ map span (beams_from group flags (map flat ps))
   unfolding beams_at levels_before
   beams group flags [] = refl
   beams group flags (p ∷ ps) =
@@ -279,8 +279,8 @@ module _ (keys : List ColumnKey) where
   unfolding beam_marks stem_of
   all_beams m [] = refl
   all_beams m (d ∷ ds) =
-      joined span (beam_marks (map (stem_at m) d.events)) (beams_between (m + 1) ds) (beam_marks (map (stem_at m) (map flat_event d.events))) _
-      (beams 0 0 (map (stem_at m) d.events) ∙ ap (λ t. map span (beams_from 0 0 t)) (map-map flat (stem_at m) d.events ∙ sym (map-map (stem_at m) flat_event d.events))) (all_beams (m + 1) ds)
+      joined span (beam_marks (map (beam_stem_at m) d.events)) (beams_between (m + 1) ds) (beam_marks (map (beam_stem_at m) (map flat_event d.events))) _
+      (beams 0 0 (map (beam_stem_at m) d.events) ∙ ap (λ t. map span (beams_from 0 0 t)) (map-map flat (beam_stem_at m) d.events ∙ sym (map-map (beam_stem_at m) flat_event d.events))) (all_beams (m + 1) ds)
 
   grace_event : (m : ℕ) (es : List DrawnEvent) → flat_map (event_grace_beam m) es ≡ flat_map (event_grace_beam m) (map flat_event es)
   grace_event m [] = refl
@@ -332,16 +332,16 @@ module _ (keys : List ColumnKey) (lengths : List ℕ) (a b : ℕ) where
       (all_beams keys a ds ∙ ap (λ t. map (span keys) (beams_between a t)) (slice_flat a b v.measures))
       (ap (map (span keys)) (grace_beams keys a ds ∙ ap (grace_beams_between a) (slice_flat a b v.measures)))) (arcs keys lengths a b v.measures v.arcs)
 
-  own : (place : Place) (v : DrawnVoice) → marks_shape (own_part keys lengths (Some place) a b v) ≡ marks_shape (own_part keys lengths (Some (unplaced place)) a b (flat_all v))
+  own : (place : WordRoom) (v : DrawnVoice) → marks_shape (own_part keys lengths (Some place) a b v) ≡ marks_shape (own_part keys lengths (Some (unplaced place)) a b (flat_all v))
   own place v =
       columns keys place lengths a v.seat v.first (slice_range v.measures a b)
       ∙ ap (λ t. marks_shape (columns_part keys lengths (Some (unplaced place)) a v.seat v.first t)) (slice_flat a b v.measures)
 
-  written : (room : Room) (first : ℕ) (before : List Texts) (vs : List DrawnVoice)
+  written : (room : StaffRoom) (first : ℕ) (before : List TextCounts) (vs : List DrawnVoice)
       → map marks_shape (written_parts keys lengths room a b first before vs) ≡ map marks_shape (written_parts keys lengths (no_room room.verses) a b first before (map flat_all vs))
   written room first before [] = refl
   written room first before (v ∷ vs) =
-      let place : Place = record { room = room; first = first; before = before } in let part = own_part keys lengths (Some place) a b v in let other = own_part keys lengths (Some (unplaced place)) a b (flat_all v) in
+      let place : WordRoom = record { room = room; first = first; before = before } in let part = own_part keys lengths (Some place) a b v in let other = own_part keys lengths (Some (unplaced place)) a b (flat_all v) in
       ap (λ t. t ∷ map marks_shape (written_parts keys lengths room a b (first + v.verses) (texts_behind (length keys) before part) vs)) (own place v)
       ∙ ap (λ t. marks_shape other ∷ t) (written room (first + v.verses) (texts_behind (length keys) before part) vs
       ∙ ap (λ t. map marks_shape (written_parts keys lengths (no_room room.verses) a b (first + v.verses) t (map flat_all vs))) (same_texts (length keys) before part other (own place v)))
@@ -385,7 +385,7 @@ staves_tilted keys at a b [] fit = tt
 staves_tilted keys at a b (vs ∷ staves) fit = (tilted_fit keys at a b vs fit.0, staves_tilted keys at a b staves fit.1)
 
 module _ (s : Score) (t : Timeline) (a b : ℕ) (at : List ℤ) (m : SystemMarks) (is : IsTilted s t a b at m) where
-  pub tilted_alike : (flat : SystemMarks) → IsCall s t a b flat → AreAlike flat m
+  pub tilted_alike : (flat : SystemMarks) → IsCall s t a b flat → HaveSameShapes flat m
   tilted_alike flat call =
       let same = same_keys flat.keys m.keys (called_keys s t.lengths a b) call.keys is.keys in
       record {

@@ -1,7 +1,7 @@
 -- Voices that are tilted all at once: what they keep, and the staves that they stand on.
 use Rattle.std.{proofs.{Common.{◌≡◌, ◌∙◌, ℕ, ℤ, List, [], ◌∷◌, length, sum, map, refl, sym, ap, subst}, lemmas.{List.{Elements.{All-map}}, Simd.map-map}}, specs.List.{All, slice_index_or, slice_range}}
-use Rattle.{mus_score.specs.Seats.{grouped}, mus_time.specs.declared.keys.ColumnKey.{ColumnKey}, mus_drawn.specs.{declared.drawn.DrawnVoice.DrawnVoice, Good.AreGoodMeasures}}
-use Rattle.mus_marks.{specs.{Staff.{staff_marks, verses_on}, System.stands_lower, Tilt.{over, sloped_over, tilted_staff, voice_ended, voice_tilted}}, proofs.{Ending.{ended_good, ended_length}, Groups.grouped_map}}
+use Rattle.{mus_score.specs.Seats.{grouped}, mus_onsets.specs.declared.keys.ColumnKey.{ColumnKey}, mus_drawn.specs.{declared.drawn.DrawnVoice.DrawnVoice, Good.AreGoodMeasures}}
+use Rattle.mus_marks.{specs.{Staff.{staff_marks, verses_on}, System.is_drawn_lower, Tilt.{over, sloped_over, tilted_staff, voice_ended, voice_tilted}}, proofs.{Ending.{ended_good, ended_length}, Groups.grouped_map}}
 
 over_own : {A B : Type 0} (f : B → A → A) (g : A → B) (xs : List A) → over f (map g xs) xs ≡ map (λ x. f (g x) x) xs
 over_own f g [] = refl
@@ -25,7 +25,7 @@ module _ (keys : List ColumnKey) (at : List ℤ) (a b : ℕ) where
   tilted_verses vs ws is = ap verses_on is ∙ ap sum (map-map (λ v. v.verses) (voice_tilted keys at a b) vs)
 
   -- the staves of tilted voices are the tilted staves
-  pub staves_tilted : (lengths : List ℕ) (vs : List DrawnVoice) → map (staff_marks keys lengths a b) (grouped stands_lower (map (voice_tilted keys at a b) vs)) ≡ map (tilted_staff keys lengths at a b) (grouped stands_lower vs)
+  pub staves_tilted : (lengths : List ℕ) (vs : List DrawnVoice) → map (staff_marks keys lengths a b) (grouped is_drawn_lower (map (voice_tilted keys at a b) vs)) ≡ map (tilted_staff keys lengths at a b) (grouped is_drawn_lower vs)
   staves_tilted lengths vs =
-      ap (map (staff_marks keys lengths a b)) (grouped_map (voice_tilted keys at a b) stands_lower stands_lower (λ v. refl) vs)
-      ∙ map-map (staff_marks keys lengths a b) (map (voice_tilted keys at a b)) (grouped stands_lower vs)
+      ap (map (staff_marks keys lengths a b)) (grouped_map (voice_tilted keys at a b) is_drawn_lower is_drawn_lower (λ v. refl) vs)
+      ∙ map-map (staff_marks keys lengths a b) (map (voice_tilted keys at a b)) (grouped is_drawn_lower vs)

@@ -1,6 +1,6 @@
 -- Lists of marks put together by columns: what holds of all marks of the lists, which marks stand in the columns, and what is taken from one column.
 use Rattle.std.{proofs.{Common.{◌≡◌, ◌∙◌, ℕ, zero, suc, ◌+◌, ◌<◌, Bool, true, false, cond, ◌⊎◌, inl, inr, List, [], ◌∷◌, ◌++◌, Option, Some, None, refl, sym, ap, subst, arith}, lemmas.{Bool.Decides.nat_tests, List.{append-nil, Elements.{filter_map-append, Contains-append_cases, Contains-append_left, Contains-append_right}}}}, specs.List.{AllByRecursion, Contains, cons_option, filter, filter_map, flat_map, range_with_len}}
-use Rattle.{mus_stems.proofs.RunLaws.{all_append}, mus_laid.specs.{declared.laid.Laid.Laid, Ranked.anchor_rank, Ranked.at_rank, Ranked.by_columns, Ranked.is_rank, Ranked.stands_at}, mus_marks.proofs.Inside.{filter_has, none_there}}
+use Rattle.{mus_stems.proofs.RunLaws.{all_append}, mus_laid.specs.{declared.laid.Laid.Laid, Ranked.anchor_rank, Ranked.at_rank, Ranked.by_columns, Ranked.is_rank, Ranked.stands_at_rank}, mus_marks.proofs.Inside.{filter_has, none_there}}
 
 -- ---- what holds of all
 module _ (P : Laid → Type 0) where
@@ -14,7 +14,7 @@ module _ (P : Laid → Type 0) where
 
   rank_all : (r : ℕ) (parts : List (List Laid)) → AllByRecursion (AllByRecursion P) parts → AllByRecursion P (at_rank parts r)
   rank_all r [] all = tt
-  rank_all r (part ∷ parts) all = all_append P (filter (stands_at r) part) (at_rank parts r) (filter_all (stands_at r) part all.0) (rank_all r parts all.1)
+  rank_all r (part ∷ parts) all = all_append P (filter (stands_at_rank r) part) (at_rank parts r) (filter_all (stands_at_rank r) part all.0) (rank_all r parts all.1)
 
   ranks_all : (parts : List (List Laid)) → AllByRecursion (AllByRecursion P) parts → (r n : ℕ) → AllByRecursion P (flat_map (at_rank parts) (range_with_len r n))
   ranks_all parts all r zero = tt
@@ -26,39 +26,39 @@ module _ (P : Laid → Type 0) where
   columned_all n (part ∷ other ∷ parts) all = ranks_all (part ∷ other ∷ parts) all 0 n
 
 -- ---- what is taken from the column of rank r, where h takes nothing from marks that stand elsewhere
-elsewhere : (r k : ℕ) (x : Laid) → (k ≡ r → ⊥) → stands_at k x ≡ true → stands_at r x ≡ false
+elsewhere : (r k : ℕ) (x : Laid) → (k ≡ r → ⊥) → stands_at_rank k x ≡ true → stands_at_rank r x ≡ false
 elsewhere r k x other e = by (anchor_rank x.mark) e
   where
     by : (a : Option ℕ) → is_rank k a ≡ true → is_rank r a ≡ false
     by None e = refl
     by (Some q) e = grind (arith, nat_tests, e, other)
 
-module _ {X : Type 0} (h : Laid → Option X) (r : ℕ) (only : (x : Laid) → stands_at r x ≡ false → h x ≡ None) where
-  taken_here : (xs : List Laid) → filter_map h (filter (stands_at r) xs) ≡ filter_map h xs
+module _ {X : Type 0} (h : Laid → Option X) (r : ℕ) (only : (x : Laid) → stands_at_rank r x ≡ false → h x ≡ None) where
+  taken_here : (xs : List Laid) → filter_map h (filter (stands_at_rank r) xs) ≡ filter_map h xs
   taken_here [] = refl
-  taken_here (x ∷ xs) = by (stands_at r x) refl (taken_here xs)
+  taken_here (x ∷ xs) = by (stands_at_rank r x) refl (taken_here xs)
     where
-      by : (b : Bool) → stands_at r x ≡ b → filter_map h (filter (stands_at r) xs) ≡ filter_map h xs → filter_map h (cond b (x ∷ filter (stands_at r) xs) (filter (stands_at r) xs)) ≡ cons_option (h x) (filter_map h xs)
+      by : (b : Bool) → stands_at_rank r x ≡ b → filter_map h (filter (stands_at_rank r) xs) ≡ filter_map h xs → filter_map h (cond b (x ∷ filter (stands_at_rank r) xs) (filter (stands_at_rank r) xs)) ≡ cons_option (h x) (filter_map h xs)
       by true e more = ap (cons_option (h x)) more
       by false e more = more ∙ ap (λ o. cons_option o (filter_map h xs)) (sym (only x e))
 
-  taken_away : (k : ℕ) (xs : List Laid) → (k ≡ r → ⊥) → filter_map h (filter (stands_at k) xs) ≡ []
+  taken_away : (k : ℕ) (xs : List Laid) → (k ≡ r → ⊥) → filter_map h (filter (stands_at_rank k) xs) ≡ []
   taken_away k [] other = refl
-  taken_away k (x ∷ xs) other = by (stands_at k x) refl (taken_away k xs other)
+  taken_away k (x ∷ xs) other = by (stands_at_rank k x) refl (taken_away k xs other)
     where
-      by : (b : Bool) → stands_at k x ≡ b → filter_map h (filter (stands_at k) xs) ≡ [] → filter_map h (cond b (x ∷ filter (stands_at k) xs) (filter (stands_at k) xs)) ≡ []
-      by true e more = ap (λ o. cons_option o (filter_map h (filter (stands_at k) xs))) (only x (elsewhere r k x other e)) ∙ more
+      by : (b : Bool) → stands_at_rank k x ≡ b → filter_map h (filter (stands_at_rank k) xs) ≡ [] → filter_map h (cond b (x ∷ filter (stands_at_rank k) xs) (filter (stands_at_rank k) xs)) ≡ []
+      by true e more = ap (λ o. cons_option o (filter_map h (filter (stands_at_rank k) xs))) (only x (elsewhere r k x other e)) ∙ more
       by false e more = more
 
   rank_here : (parts : List (List Laid)) → filter_map h (at_rank parts r) ≡ flat_map (filter_map h) parts
   rank_here [] = refl
   rank_here (part ∷ parts) =
-      filter_map-append h (filter (stands_at r) part) (at_rank parts r)
+      filter_map-append h (filter (stands_at_rank r) part) (at_rank parts r)
       ∙ ap (λ t. t ++ filter_map h (at_rank parts r)) (taken_here part) ∙ ap (λ t. filter_map h part ++ t) (rank_here parts)
 
   rank_away : (k : ℕ) (parts : List (List Laid)) → (k ≡ r → ⊥) → filter_map h (at_rank parts k) ≡ []
   rank_away k [] other = refl
-  rank_away k (part ∷ parts) other = filter_map-append h (filter (stands_at k) part) (at_rank parts k) ∙ ap (λ t. t ++ filter_map h (at_rank parts k)) (taken_away k part other) ∙ rank_away k parts other
+  rank_away k (part ∷ parts) other = filter_map-append h (filter (stands_at_rank k) part) (at_rank parts k) ∙ ap (λ t. t ++ filter_map h (at_rank parts k)) (taken_away k part other) ∙ rank_away k parts other
 
   ranks_away : (parts : List (List Laid)) (k n : ℕ) → r < k → filter_map h (flat_map (at_rank parts) (range_with_len k n)) ≡ []
   ranks_away parts k zero less = refl
@@ -85,14 +85,14 @@ module _ {X : Type 0} (h : Laid → Option X) (r : ℕ) (only : (x : Laid) → s
   columned_taken n (part ∷ other ∷ parts) less = ranks_taken (part ∷ other ∷ parts) 0 r n (omega arith) less
 
 -- ---- a mark of a list stands in the columns where its own is one of them
-module _ (r : ℕ) (x : Laid) (stands : stands_at r x ≡ true) where
+module _ (r : ℕ) (x : Laid) (stands : stands_at_rank r x ≡ true) where
   rank_has : (parts : List (List Laid)) → Contains (flat_map (λ part. part) parts) x → Contains (at_rank parts r) x
   rank_has [] has = has
   rank_has (part ∷ parts) has = by (Contains-append_cases part (flat_map (λ p. p) parts) x has) (rank_has parts)
     where
       by : Contains part x ⊎ Contains (flat_map (λ p. p) parts) x → (Contains (flat_map (λ p. p) parts) x → Contains (at_rank parts r) x) → Contains (at_rank (part ∷ parts) r) x
-      by (inl in_it) more = Contains-append_left (filter (stands_at r) part) (at_rank parts r) x (filter_has (stands_at r) x part stands in_it)
-      by (inr behind) more = Contains-append_right (filter (stands_at r) part) (at_rank parts r) x (more behind)
+      by (inl in_it) more = Contains-append_left (filter (stands_at_rank r) part) (at_rank parts r) x (filter_has (stands_at_rank r) x part stands in_it)
+      by (inr behind) more = Contains-append_right (filter (stands_at_rank r) part) (at_rank parts r) x (more behind)
 
   ranks_have : (parts : List (List Laid)) (k i n : ℕ) → k + i ≡ r → i < n → Contains (at_rank parts r) x → Contains (flat_map (at_rank parts) (range_with_len k n)) x
   ranks_have parts k i zero e less has = absurd (omega (arith, less))

@@ -3,8 +3,8 @@ use Rattle.std.{proofs.{Common.{ℕ, ◌+◌, ◌*◌, ◌≤◌, List, [], ◌�
 use Rattle.mus_units.specs.{declared.key.Meter.Meter, Good.IsGoodMeter}
 use Rattle.mus_score.specs.{declared.score.Flat.Flat, declared.score.Measure.Measure, declared.score.Score.Score, declared.score.Voice.Voice, GoodScore.IsGoodEvent, GoodScore.IsGoodScore, GoodScore.IsGoodVoice, GoodScore.events_of, Times.flats_of}
 use Rattle.mus_stems.specs.declared.plans.StemPlan.{StemPlan}
-use Rattle.mus_drawn.specs.{declared.drawn.Style.Style, declared.standing.Standing.Standing, Drawn.drawn_events, Drawn.drawn_measure, Drawn.drawn_measures, Drawn.drawn_voice, Drawn.opening_of, Drawn.standing_after, Drawn.standing_behind, Drawn.standing_of, Drawn.style_of}
-use Rattle.mus_marks.{specs.Staff.verses_on, specs.System.drawn_staves, specs.System.stands_lower, proofs.Groups.grouped_all, proofs.Parts.Fits, proofs.Parts.FitsEvent, proofs.Parts.FitsMeasure, proofs.Parts.FitsVoice, proofs.Parts.verses_cons}
+use Rattle.mus_drawn.specs.{declared.drawn.Style.Style, declared.standing.StaffState.StaffState, Drawn.drawn_events, Drawn.drawn_measure, Drawn.drawn_measures, Drawn.drawn_voice, Drawn.opening_of, Drawn.standing_after, Drawn.standing_behind, Drawn.standing_of, Drawn.style_of}
+use Rattle.mus_marks.{specs.Staff.verses_on, specs.System.drawn_staves, specs.System.is_drawn_lower, proofs.Groups.grouped_all, proofs.Parts.Fits, proofs.Parts.FitsEvent, proofs.Parts.FitsMeasure, proofs.Parts.FitsVoice, proofs.Parts.verses_cons}
 
 all_cut : {A : Type 0} (P : A → Type 0) (xs ys : List A) → AllByRecursion P (xs ++ ys) → AllByRecursion P xs × AllByRecursion P ys
 all_cut P [] ys all = (tt, all)
@@ -15,24 +15,24 @@ meter_after None now h good = good
 meter_after (Some m) now h good = h
 
 module _ (verses : ℕ) where
-  meter_behind : (now : Standing) (fs : List Flat) → IsGoodMeter now.meter → AllByRecursion (IsGoodEvent verses) fs → IsGoodMeter (standing_behind now fs).meter
+  meter_behind : (now : StaffState) (fs : List Flat) → IsGoodMeter now.meter → AllByRecursion (IsGoodEvent verses) fs → IsGoodMeter (standing_behind now fs).meter
   meter_behind now [] good h = good
   meter_behind now (f ∷ fs) good h = meter_behind (standing_after now f.event.changes) fs (meter_after f.event.changes.meter now.meter h.0.meter good) h.1
 
-  events_fit : (style : Style) (tick : ℕ) (now : Standing) (fs : List Flat) (ps : List StemPlan) → AllByRecursion (IsGoodEvent verses) fs → AllByRecursion (FitsEvent verses) (drawn_events style tick now fs ps)
+  events_fit : (style : Style) (tick : ℕ) (now : StaffState) (fs : List Flat) (ps : List StemPlan) → AllByRecursion (IsGoodEvent verses) fs → AllByRecursion (FitsEvent verses) (drawn_events style tick now fs ps)
   events_fit style tick now [] ps h = tt
   events_fit style tick now (f ∷ fs) [] h = tt
   events_fit style tick now (f ∷ fs) (p ∷ ps) h = ((h.0.meter, h.0.words), events_fit style (tick + f.duration) (standing_after now f.event.changes) fs ps h.1)
 
-  opening_meter : (now : Standing) (fs : List Flat) → IsGoodMeter now.meter → AllByRecursion (IsGoodEvent verses) fs → IsGoodMeter (opening_of now fs).meter
+  opening_meter : (now : StaffState) (fs : List Flat) → IsGoodMeter now.meter → AllByRecursion (IsGoodEvent verses) fs → IsGoodMeter (opening_of now fs).meter
   opening_meter now [] good h = good
   opening_meter now (f ∷ fs) good h = meter_after f.event.changes.meter now.meter h.0.meter good
 
-  measure_fits : (style : Style) (now : Standing) (m : Measure) → IsGoodMeter now.meter → AllByRecursion (IsGoodEvent verses) (flats_of m.body) → FitsMeasure verses (drawn_measure style now m)
+  measure_fits : (style : Style) (now : StaffState) (m : Measure) → IsGoodMeter now.meter → AllByRecursion (IsGoodEvent verses) (flats_of m.body) → FitsMeasure verses (drawn_measure style now m)
   unfolding drawn_measure
   measure_fits style now m good h = (opening_meter now (flats_of m.body) good h, events_fit style 0 now (flats_of m.body) _ h)
 
-  measures_fit : (style : Style) (now : Standing) (ms : List Measure) → IsGoodMeter now.meter → AllByRecursion (IsGoodEvent verses) (events_of ms) → Fits verses (drawn_measures style now ms)
+  measures_fit : (style : Style) (now : StaffState) (ms : List Measure) → IsGoodMeter now.meter → AllByRecursion (IsGoodEvent verses) (events_of ms) → Fits verses (drawn_measures style now ms)
   measures_fit style now [] good h = tt
   measures_fit style now (m ∷ ms) good h =
       let fs = flats_of m.body in let here = all_cut (IsGoodEvent verses) fs (events_of ms) h in (
@@ -50,7 +50,7 @@ voices_fit [] good = tt
 voices_fit (v ∷ vs) good = (voice_fits v good.0, voices_fit vs good.1)
 
 pub staves_fit : (s : Score) → IsGoodScore s → AllByRecursion (AllByRecursion FitsVoice) (drawn_staves s)
-staves_fit s good = grouped_all stands_lower FitsVoice (map drawn_voice s.voices) (voices_fit s.voices (recursion_from_All IsGoodVoice s.voices good.voices))
+staves_fit s good = grouped_all is_drawn_lower FitsVoice (map drawn_voice s.voices) (voices_fit s.voices (recursion_from_All IsGoodVoice s.voices good.voices))
 
 -- they have few verses
 verses_few : (vs : List Voice) → AllByRecursion IsGoodVoice vs → verses_on (map drawn_voice vs) ≤ 8 * length vs

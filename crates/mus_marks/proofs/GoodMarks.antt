@@ -1,7 +1,7 @@
 -- The texts of a staff have at most 60 characters.
 use Rattle.std.{proofs.{Common.{ℕ, ◌≤◌, List, [], ◌∷◌, length, map, take, subst, sym, arith}, lemmas.{List.{length-map, length-take, Elements.All-from_recursion}, Fmt.length-decimal-le, Bool.Decides.nat_tests}}, specs.{List.{All, AllByRecursion}, Prelude.{IsTrue, decimal}}}
-use Rattle.{mus_units.specs.{declared.key.Meter.Meter, Good.IsGoodMeter, Good.is_halving}, mus_time.specs.declared.keys.ColumnKey.{ColumnKey}}
-use Rattle.{mus_laid.specs.{declared.drawn.Span.Span, declared.laid.Laid.Laid, Boxes.AreGoodMarks, Boxes.IsGoodMark, Printed.printed_byte, Ranked.drawn_at, Ranked.span_at}, mus_ink.specs.Signatures.{meter_marks}}
+use Rattle.{mus_units.specs.{declared.key.Meter.Meter, Good.IsGoodMeter, Good.is_halving}, mus_onsets.specs.declared.keys.ColumnKey.{ColumnKey}}
+use Rattle.{mus_laid.specs.{declared.drawn.BridgeShape.BridgeShape, declared.laid.Laid.Laid, Boxes.AreGoodMarks, Boxes.IsGoodMark, Printed.printed_byte, Ranked.drawn_at, Ranked.span_at}, mus_ink.specs.Signatures.{meter_marks}}
 use Rattle.{mus_words.proofs.EachWord.{IsShown}, mus_drawn.specs.declared.drawn.DrawnVoice.{DrawnVoice}, mus_marks.{specs.{Staff.staff_marks, Staff.verses_on}, proofs.{Parts.FitsVoice, Parts.OfLaid, Parts.staff_all}}}
 
 halving_small : (n : ℕ) → IsTrue (is_halving n) → n ≤ 64
@@ -23,9 +23,9 @@ meter r dx (Meter.Ratio num den) good = let small = halving_small den good.2 in 
 shown_few : (t : List ℕ) → IsShown t → length t ≤ 60
 shown_few t h = let mapped = length-map (take 60 h.text) printed_byte in let taken = length-take 60 h.text in subst (λ u. length u ≤ 60) (sym h.is) (omega (arith, mapped, taken))
 
-span_good : (first last : ℕ) (span : Span) → IsGoodMark (span_at first last span)
-span_good first last (Span.Beam way from to) = tt
-span_good first last (Span.Arc from to bulge) = tt
+span_good : (first last : ℕ) (span : BridgeShape) → IsGoodMark (span_at first last span)
+span_good first last (BridgeShape.Beam way from to) = tt
+span_good first last (BridgeShape.Arc from to bulge) = tt
 
 -- a text is good where it has few characters, and all else is
 pub goods : (verses : ℕ) (keys : List ColumnKey) → OfLaid verses keys IsGood

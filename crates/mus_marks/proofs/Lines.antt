@@ -1,22 +1,22 @@
 -- Marks reach at least over the lines of their staff.
 use Rattle.std.proofs.{Common.{ℤ, pos, ◌≤ℤ◌, List, [], ◌∷◌, arith}, lemmas.Int.{ints, clamps}}
-use Rattle.mus_laid.specs.{declared.boxes.Heights.Heights, declared.laid.Laid.Laid, Boxes.heights, Boxes.heights_of, Boxes.over_marks, Boxes.staff_heights, Boxes.widened}
-use Rattle.{mus_ink.specs.Drawing.{cut}, mus_marks.specs.Staff.{CoversLines, staff_over}}
+use Rattle.mus_laid.specs.{declared.boxes.HeightRange.HeightRange, declared.laid.Laid.Laid, Boxes.heights, Boxes.heights_of, Boxes.over_marks, Boxes.staff_heights, Boxes.union_of_heights}
+use Rattle.{mus_ink.specs.Drawing.{cut_dy}, mus_marks.specs.Staff.{CoversLines, staff_over}}
 
-low_over : (z : ℤ) (h : Heights) (all : List Laid) → h.low ≤ℤ z → (over_marks h all).low ≤ℤ z
+low_over : (z : ℤ) (h : HeightRange) (all : List Laid) → h.low ≤ℤ z → (over_marks h all).low ≤ℤ z
 low_over z h [] p = p
-low_over z h (laid ∷ more) p = low_over z (widened h (heights_of laid.mark)) more (omega (arith, ints, clamps, p))
+low_over z h (laid ∷ more) p = low_over z (union_of_heights h (heights_of laid.mark)) more (omega (arith, ints, clamps, p))
 
-high_over : (z : ℤ) (h : Heights) (all : List Laid) → z ≤ℤ h.high → z ≤ℤ (over_marks h all).high
+high_over : (z : ℤ) (h : HeightRange) (all : List Laid) → z ≤ℤ h.high → z ≤ℤ (over_marks h all).high
 high_over z h [] p = p
-high_over z h (laid ∷ more) p = high_over z (widened h (heights_of laid.mark)) more (omega (arith, ints, clamps, p))
+high_over z h (laid ∷ more) p = high_over z (union_of_heights h (heights_of laid.mark)) more (omega (arith, ints, clamps, p))
 
-cut_low : (z : ℤ) → z ≤ℤ pos 0 → cut z ≤ℤ pos 0
-unfolding cut
+cut_low : (z : ℤ) → z ≤ℤ pos 0 → cut_dy z ≤ℤ pos 0
+unfolding cut_dy
 cut_low z p = omega (arith, ints, clamps, p)
 
-cut_high : (z : ℤ) → pos 2000 ≤ℤ z → pos 2000 ≤ℤ cut z
-unfolding cut
+cut_high : (z : ℤ) → pos 2000 ≤ℤ z → pos 2000 ≤ℤ cut_dy z
+unfolding cut_dy
 cut_high z p = omega (arith, ints, clamps, p)
 
 pub covers : (all : List Laid) → CoversLines (staff_over all)

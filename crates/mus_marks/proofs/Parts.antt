@@ -2,12 +2,12 @@
 -- of beams and arcs, holds of all marks of a measure, of the columns of a system, and of a staff.
 use Rattle.std.{proofs.{Common.{◌≡◌, ℕ, zero, suc, ◌+◌, ◌-◌, ◌≤◌, ◌==◌, ◌&&◌, ◌||◌, not, Bool, true, false, if◌then◌else◌, List, [], ◌∷◌, ◌++◌, take, length, map, drop, Option, Some, None, arith}, lemmas.List.Sums.sum_by-cons}, specs.{List.{AllByRecursion, flat_map, slice_index_or, slice_range}, Prelude.IfSome}}
 use Rattle.mus_units.specs.{declared.key.Meter.Meter, declared.key.Sign.Sign, declared.note.Bar.Bar, declared.pitch.Clef.Clef, Good.IsGoodMeter}
-use Rattle.{mus_score.specs.{declared.score.Event.Event, declared.score.Flat.Flat, declared.score.Seat.Seat, Seats.is_lower}, mus_time.specs.{declared.keys.ColumnKey.ColumnKey, Keys.has_features}}
-use Rattle.{mus_stems.proofs.RunLaws.{all_append, all_drop, all_take}, mus_laid.specs.{declared.drawn.Bridge.Bridge, declared.drawn.Drawn.Drawn, declared.laid.Laid.Laid, Ranked.bridge_at, Ranked.by_columns, Ranked.drawn_at}}
+use Rattle.{mus_score.specs.{declared.score.Event.Event, declared.score.Flat.Flat, declared.score.Seat.Seat, Seats.is_lower}, mus_onsets.specs.{declared.keys.ColumnKey.ColumnKey, Keys.has_features}}
+use Rattle.{mus_stems.proofs.RunLaws.{all_append, all_drop, all_take}, mus_laid.specs.{declared.drawn.Bridge.Bridge, declared.drawn.LaneInk.LaneInk, declared.laid.Laid.Laid, Ranked.bridge_at, Ranked.by_columns, Ranked.drawn_at}}
 use Rattle.mus_ink.{specs.{declared.graces.Group.Group, Bars.bar_marks, Changes.{change_marks, head_marks}, Decos.note_marks, Graces.grace_marks}, proofs.EachMark.{OfMarks, bar, change, grace, head, note}}
 use Rattle.mus_words.{specs.{Syllables.syllables_from, Texts.text_marks}, proofs.{EachWord.OfWords, EachWord.syllables_all, EachWord.texts_all}}
 use Rattle.{mus_drawn.specs.{declared.drawn.DrawnEvent.DrawnEvent, declared.drawn.DrawnMeasure.DrawnMeasure, declared.drawn.DrawnVoice.DrawnVoice, Drawn.raise_of}, mus_bridges.specs.Bridges.{bridges_of}}
-use Rattle.mus_marks.{specs.{declared.events.{Place.Place, Room.Room, Texts.Texts}, Events.{change_part, event_marks, events_marks, graces_from, graces_part, measures_marks, no_texts, note_part, text_place, words_marks, words_part}, Staff.{bare_marks, columns_part, first_part, head_part, own_part, room_over, staff_marks, staff_over, verses_on, written_parts}}, proofs.Columned.columned_all}
+use Rattle.mus_marks.{specs.{declared.events.{WordRoom.WordRoom, StaffRoom.StaffRoom, TextCounts.TextCounts}, Events.{change_part, event_marks, events_marks, graces_from, graces_part, measures_marks, no_texts, note_part, text_place, words_marks, words_part}, Staff.{bare_marks, columns_part, first_bar_part, head_part, own_part, room_over, staff_marks, staff_over, verses_on, written_parts}}, proofs.Columned.columned_all}
 
 -- measures with good meters, whose events have a place for each of some verses
 abbrev pub FitsEvent : ℕ → DrawnEvent → Type 0
@@ -33,7 +33,7 @@ pub record OfLaid (verses : ℕ) (keys : List ColumnKey) (P : Laid → Type 0) :
   pub of_bridge : (b : Bridge) → P (bridge_at keys b)
 
 -- a voice of so many verses has its place among those of its staff
-abbrev pub InPlace : ℕ → ℕ → Option Place → Type 0
+abbrev pub InPlace : ℕ → ℕ → Option WordRoom → Type 0
 InPlace verses own None = Unit {0}
 InPlace verses own (Some place) = (1 ≤ place.first) × (place.first + own ≤ verses + 1)
 
@@ -54,7 +54,7 @@ module _ (verses : ℕ) (keys : List ColumnKey) (P : Laid → Type 0) (w : OfLai
   two : (xs ys : List Laid) → AllByRecursion P xs → AllByRecursion P ys → AllByRecursion P (xs ++ ys)
   two = all_append P
 
-  placed : (r : ℕ) (ds : List Drawn) → AllByRecursion (λ d. P (drawn_at r d)) ds → AllByRecursion P (map (drawn_at r) ds)
+  placed : (r : ℕ) (ds : List LaneInk) → AllByRecursion (λ d. P (drawn_at r d)) ds → AllByRecursion P (map (drawn_at r) ds)
   placed r [] h = tt
   placed r (d ∷ ds) h = (h.0, placed r ds h.1)
 
@@ -78,7 +78,7 @@ module _ (verses : ℕ) (keys : List ColumnKey) (P : Laid → Type 0) (w : OfLai
   head_at : (r : ℕ) (c : Clef) (ss : List Sign) (m : Option Meter) → IfSome m IsGoodMeter → AllByRecursion P (map (drawn_at r) (head_marks c ss m))
   head_at r c ss m good = placed r _ (head (λ d. P (drawn_at r d)) (w.of_marks r) c ss m good)
 
-  words_some : (own r : ℕ) (place : Option Place) (f : Flat) → InPlace verses own place → length f.event.words ≡ own → AllByRecursion (λ d. P (drawn_at r d)) (words_marks place r f)
+  words_some : (own r : ℕ) (place : Option WordRoom) (f : Flat) → InPlace verses own place → length f.event.words ≡ own → AllByRecursion (λ d. P (drawn_at r d)) (words_marks place r f)
   words_some own r None f numbered count = tt
   words_some own r (Some place) f numbered count =
       let first = numbered.0 in let last = numbered.1 in let at = text_place place.room (slice_index_or place.before r no_texts) in
@@ -86,7 +86,7 @@ module _ (verses : ℕ) (keys : List ColumnKey) (P : Laid → Type 0) (w : OfLai
       (syllables_all (IsVerse verses) (λ d. P (drawn_at r d)) (w.of_words r) place.room.low place.first f.event.words (λ i inside. (omega (arith, first), omega (arith, last, inside, count))))
       (texts_all (IsVerse verses) (λ d. P (drawn_at r d)) (w.of_words r) at f)
 
-  words_at : (own r : ℕ) (place : Option Place) (f : Flat) → InPlace verses own place → length f.event.words ≡ own → AllByRecursion P (words_part r place f)
+  words_at : (own r : ℕ) (place : Option WordRoom) (f : Flat) → InPlace verses own place → length f.event.words ≡ own → AllByRecursion P (words_part r place f)
   words_at own r place f numbered count = placed r (words_marks place r f) (words_some own r place f numbered count)
 
   unless : (b : Bool) (xs : List Laid) → AllByRecursion P xs → AllByRecursion P (if b then [] else xs)
@@ -102,7 +102,7 @@ module _ (verses : ℕ) (keys : List ColumnKey) (P : Laid → Type 0) (w : OfLai
   graces_all m tick c group i [] = tt
   graces_all m tick c group i (g ∷ gs) = two _ _ (grace_at _ c group (i == 0) g) (graces_all m tick c group (i + 1) gs)
 
-  event_all : (own : ℕ) (place : Option Place) (m : ℕ) (in_head : Bool) (before after : ℕ) (e : DrawnEvent) → InPlace verses own place → FitsEvent own e → AllByRecursion P (event_marks keys place m in_head before after e)
+  event_all : (own : ℕ) (place : Option WordRoom) (m : ℕ) (in_head : Bool) (before after : ℕ) (e : DrawnEvent) → InPlace verses own place → FitsEvent own e → AllByRecursion P (event_marks keys place m in_head before after e)
   unfolding event_marks
   event_all own place m in_head before after e numbered fits =
       let change = change_part keys m (in_head || is_lower e.seat) e in
@@ -111,12 +111,12 @@ module _ (verses : ℕ) (keys : List ColumnKey) (P : Laid → Type 0) (w : OfLai
       (two change _ (change_all own m (in_head || is_lower e.seat) e fits) (graces_all m e.tick e.clef _ 0 e.flat.graces)) (note_at _ before after e))
       (words_at own _ place e.flat numbered fits.1)
 
-  events_all : (own : ℕ) (place : Option Place) (m : ℕ) (in_head : Bool) (group flags : ℕ) (es : List DrawnEvent) → InPlace verses own place → AllByRecursion (FitsEvent own) es
+  events_all : (own : ℕ) (place : Option WordRoom) (m : ℕ) (in_head : Bool) (group flags : ℕ) (es : List DrawnEvent) → InPlace verses own place → AllByRecursion (FitsEvent own) es
       → AllByRecursion P (events_marks keys place m in_head group flags es)
   events_all own place m in_head group flags [] numbered fits = tt
   events_all own place m in_head group flags (e ∷ es) numbered fits = two _ _ (event_all own place m in_head _ _ e numbered fits.0) (events_all own place m false e.plan.group e.plan.flags es numbered fits.1)
 
-  pub measures_all : (own : ℕ) (lengths : List ℕ) (place : Option Place) (m : ℕ) (in_head : Bool) (ds : List DrawnMeasure) → InPlace verses own place → Fits own ds
+  pub measures_all : (own : ℕ) (lengths : List ℕ) (place : Option WordRoom) (m : ℕ) (in_head : Bool) (ds : List DrawnMeasure) → InPlace verses own place → Fits own ds
       → AllByRecursion P (measures_marks keys lengths place m in_head ds)
   measures_all own lengths place m in_head [] numbered fits = tt
   measures_all own lengths place m in_head (d ∷ ds) numbered fits =
@@ -135,21 +135,21 @@ module _ (verses : ℕ) (keys : List ColumnKey) (P : Laid → Type 0) (w : OfLai
   any true xs all = all
   any false xs all = tt
 
-  pub columns_all : (own : ℕ) (lengths : List ℕ) (place : Option Place) (a : ℕ) (seat : Seat) (first : Bar) (ds : List DrawnMeasure) → InPlace verses own place → Fits own ds
+  pub columns_all : (own : ℕ) (lengths : List ℕ) (place : Option WordRoom) (a : ℕ) (seat : Seat) (first : Bar) (ds : List DrawnMeasure) → InPlace verses own place → Fits own ds
       → AllByRecursion P (columns_part keys lengths place a seat first ds)
   unfolding columns_part
   columns_all own lengths place a seat first ds numbered fits =
-      two (head_part keys a ds ++ first_part keys a seat first) _
+      two (head_part keys a ds ++ first_bar_part keys a seat first) _
       (two (head_part keys a ds) _ (head_all own a ds fits) (any (not (is_lower seat) && (a == 0) && has_features first) _ (bar_at _ first))) (measures_all own lengths place a true ds numbered fits)
 
   -- a voice, and a staff
   some_fit : (own a b : ℕ) (ds : List DrawnMeasure) → Fits own ds → Fits own (slice_range ds a b)
   some_fit own a b ds fits = all_take (FitsMeasure own) (b - a) (drop a ds) (all_drop (FitsMeasure own) a ds fits)
 
-  pub voice_all : (lengths : List ℕ) (place : Option Place) (a b : ℕ) (v : DrawnVoice) → InPlace verses v.verses place → FitsVoice v → AllByRecursion P (own_part keys lengths place a b v)
+  pub voice_all : (lengths : List ℕ) (place : Option WordRoom) (a b : ℕ) (v : DrawnVoice) → InPlace verses v.verses place → FitsVoice v → AllByRecursion P (own_part keys lengths place a b v)
   voice_all lengths place a b v numbered fits = columns_all v.verses lengths place a v.seat v.first (slice_range v.measures a b) numbered (some_fit v.verses a b v.measures fits)
 
-  written_all : (lengths : List ℕ) (room : Room) (a b first : ℕ) (before : List Texts) (vs : List DrawnVoice) → 1 ≤ first → first + verses_on vs ≤ verses + 1 → AllByRecursion FitsVoice vs
+  written_all : (lengths : List ℕ) (room : StaffRoom) (a b first : ℕ) (before : List TextCounts) (vs : List DrawnVoice) → 1 ≤ first → first + verses_on vs ≤ verses + 1 → AllByRecursion FitsVoice vs
       → AllByRecursion (AllByRecursion P) (written_parts keys lengths room a b first before vs)
   written_all lengths room a b first before [] some few fits = tt
   written_all lengths room a b first before (v ∷ vs) some few fits =

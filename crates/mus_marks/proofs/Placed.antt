@@ -1,13 +1,13 @@
 -- The places of the voices of a staff, one after the other.
 use Rattle.std.proofs.{Common.{◌≡◌, ◌∙◌, ℕ, ◌+◌, ◌≤◌, ◌==◌, not, Bool, true, false, List, [], ◌∷◌, ◌++◌, length, Some, refl, sym, ap, append_assoc, arith}, lemmas.Bool.Decides.nat_tests}
-use Rattle.{mus_time.specs.declared.keys.ColumnKey.{ColumnKey}, mus_laid.specs.declared.laid.Laid.{Laid}, mus_drawn.specs.declared.drawn.DrawnVoice.{DrawnVoice}}
-use Rattle.mus_marks.{specs.declared.events.Place.Place, specs.declared.events.Room.Room, specs.Places.place_behind, specs.Staff.own_part, specs.Staff.texts_behind, specs.Staff.verses_on, specs.Staff.written_parts, proofs.Parts.verses_cons}
+use Rattle.{mus_onsets.specs.declared.keys.ColumnKey.{ColumnKey}, mus_laid.specs.declared.laid.Laid.{Laid}, mus_drawn.specs.declared.drawn.DrawnVoice.{DrawnVoice}}
+use Rattle.mus_marks.{specs.declared.events.WordRoom.WordRoom, specs.declared.events.StaffRoom.StaffRoom, specs.Places.word_room_after, specs.Staff.own_part, specs.Staff.texts_behind, specs.Staff.verses_on, specs.Staff.written_parts, proofs.Parts.verses_cons}
 
-module _ (columns : ℕ) (v : DrawnVoice) (behind rest : List DrawnVoice) (place next : Place) (part : List Laid) (follows : Bool) (front : rest ≡ v ∷ behind) (is : next ≡ place_behind columns place v.verses part follows) where
+module _ (columns : ℕ) (v : DrawnVoice) (behind rest : List DrawnVoice) (place next : WordRoom) (part : List Laid) (follows : Bool) (front : rest ≡ v ∷ behind) (is : next ≡ word_room_after columns place v.verses part follows) where
   pub next_room : next.room ≡ place.room
   next_room = ap (λ p. p.room) is ∙ by follows
     where
-      by : (b : Bool) → (place_behind columns place v.verses part b).room ≡ place.room
+      by : (b : Bool) → (word_room_after columns place v.verses part b).room ≡ place.room
       by true = refl
       by false = refl
 
@@ -15,7 +15,7 @@ module _ (columns : ℕ) (v : DrawnVoice) (behind rest : List DrawnVoice) (place
   next_first few =
       let count = ap verses_on front ∙ verses_cons v behind in let first = ap (λ p. p.first) is in by follows (omega (arith, few, count)) first
     where
-      by : (b : Bool) → place.first + (v.verses + verses_on behind) ≤ 129 → next.first ≡ (place_behind columns place v.verses part b).first → next.first + verses_on behind ≤ 129
+      by : (b : Bool) → place.first + (v.verses + verses_on behind) ≤ 129 → next.first ≡ (word_room_after columns place v.verses part b).first → next.first + verses_on behind ≤ 129
       by true h e = omega (arith, h, e)
       by false h e = omega (arith, h, e)
 
@@ -24,19 +24,19 @@ none_behind n true e f = let zero : (n == 0) ≡ true = sym e in grind (arith, n
 none_behind n false e f = absurd (grind (arith, f))
 
 -- a turn of the walk over the voices of a staff
-module _ (keys : List ColumnKey) (lengths : List ℕ) (room : Room) (a b : ℕ) where
-  follow : (v : DrawnVoice) (behind : List DrawnVoice) (place : Place) (part : List Laid) (follows : Bool) → (follows ≡ false → length behind ≡ 0)
-      → written_parts keys lengths room a b (place_behind (length keys) place v.verses part follows).first (place_behind (length keys) place v.verses part follows).before behind
+module _ (keys : List ColumnKey) (lengths : List ℕ) (room : StaffRoom) (a b : ℕ) where
+  follow : (v : DrawnVoice) (behind : List DrawnVoice) (place : WordRoom) (part : List Laid) (follows : Bool) → (follows ≡ false → length behind ≡ 0)
+      → written_parts keys lengths room a b (word_room_after (length keys) place v.verses part follows).first (word_room_after (length keys) place v.verses part follows).before behind
       ≡ written_parts keys lengths room a b (place.first + v.verses) (texts_behind (length keys) place.before part) behind
   follow v [] place part follows none = refl
   follow v (w ∷ ws) place part true none = refl
   follow v (w ∷ ws) place part false none = let few = none refl in absurd (omega (arith, few))
 
-  pub next_part : (v : DrawnVoice) (behind rest : List DrawnVoice) (place next : Place) (part : List Laid) (parts new whole : List (List Laid)) (follows : Bool) → rest ≡ v ∷ behind → place.room ≡ room
-      → part ≡ own_part keys lengths (Some place) a b v → next ≡ place_behind (length keys) place v.verses part follows → (follows ≡ false → length behind ≡ 0) → new ≡ parts ++ part ∷ []
+  pub next_part : (v : DrawnVoice) (behind rest : List DrawnVoice) (place next : WordRoom) (part : List Laid) (parts new whole : List (List Laid)) (follows : Bool) → rest ≡ v ∷ behind → place.room ≡ room
+      → part ≡ own_part keys lengths (Some place) a b v → next ≡ word_room_after (length keys) place v.verses part follows → (follows ≡ false → length behind ≡ 0) → new ≡ parts ++ part ∷ []
       → parts ++ written_parts keys lengths room a b place.first place.before rest ≡ whole → new ++ written_parts keys lengths room a b next.first next.before behind ≡ whole
   next_part v behind rest place next part parts new whole follows front own drawn is none put so_far =
-      let more = λ (p : Place). written_parts keys lengths room a b p.first p.before behind in
+      let more = λ (p : WordRoom). written_parts keys lengths room a b p.first p.before behind in
       let drawn_in = drawn ∙ ap (λ r. own_part keys lengths (Some (record { room = r; first = place.first; before = place.before })) a b v) own in
       ap (λ t. t ++ more next) put ∙ append_assoc parts (part ∷ []) (more next) ∙ ap (λ t. parts ++ part ∷ t) (ap more is ∙ follow v behind place part follows none)
       ∙ ap (λ o. parts ++ o ∷ written_parts keys lengths room a b (place.first + v.verses) (texts_behind (length keys) place.before o) behind) drawn_in

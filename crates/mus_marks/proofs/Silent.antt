@@ -1,9 +1,9 @@
 -- Where events have no syllables and no texts, a voice has in columns what it has without them, wherever they would go.
 use Rattle.std.{proofs.{Common.{◌≡◌, ◌∙◌, ℕ, ℤ, ◌+◌, Bool, true, false, not, ◌&&◌, ◌||◌, ◌==◌, List, [], ◌∷◌, ◌++◌, length, map, Option, Some, None, is_none, refl, sym, ap, arith}, lemmas.Bool.and_parts}, specs.List.{flat_map, list_all, slice_index_or, slice_range}}
-use Rattle.{mus_units.specs.declared.note.Deco.{Deco}, mus_score.specs.{declared.score.{Flat.Flat, Mention.Mention}, Seats.is_lower}, mus_time.specs.declared.keys.ColumnKey.{ColumnKey}, mus_laid.specs.Ranked.{drawn_at}}
+use Rattle.{mus_units.specs.declared.note.Deco.{Deco}, mus_score.specs.{declared.score.{Flat.Flat, Mention.Mention}, Seats.is_lower}, mus_onsets.specs.declared.keys.ColumnKey.{ColumnKey}, mus_laid.specs.Ranked.{drawn_at}}
 use Rattle.mus_words.specs.{declared.texts.TextPlace.TextPlace, Syllables.syllables_from, Texts.{above_from, below_from, shown_deco, shown_ending, shown_mention, shown_number, text_marks, texts_above, texts_below}}
 use Rattle.mus_drawn.specs.declared.drawn.{DrawnEvent.DrawnEvent, DrawnMeasure.DrawnMeasure, DrawnVoice.DrawnVoice}
-use Rattle.mus_marks.specs.{declared.events.{Place.Place, Room.Room, Texts.Texts}, Events.{bar_part, change_part, event_marks, events_marks, graces_part, levels_behind, levels_in, measures_marks, no_texts, note_part, note_rank, text_place, words_marks}, Silent.{are_silent, is_silent, is_silent_staff, is_text}, Staff.{columns_part, first_part, head_part, own_part, texts_behind, written_parts}}
+use Rattle.mus_marks.specs.{declared.events.{WordRoom.WordRoom, StaffRoom.StaffRoom, TextCounts.TextCounts}, Events.{bar_part, change_part, event_marks, events_marks, graces_part, levels_behind, levels_in, measures_marks, no_texts, note_part, note_rank, text_place, words_marks}, Silent.{are_silent, is_silent, is_silent_staff, is_text}, Staff.{columns_part, first_bar_part, head_part, own_part, texts_behind, written_parts}}
 
 deco_silent : (below : Bool) (d : Deco) → not (is_text d) ≡ true → shown_deco below d ≡ []
 deco_silent false (Deco.Above t) e = grind (arith, e)
@@ -32,12 +32,12 @@ none_shown low first at words decos None [] (m ∷ ms) e = grind (arith, e)
 none_shown low first at words decos None (t ∷ ts) ms e = grind (arith, e)
 none_shown low first at words decos (Some t) ts ms e = grind (arith, e)
 
-pub words_silent : (place : Option Place) (r : ℕ) (f : Flat) → is_silent f ≡ true → words_marks place r f ≡ []
+pub words_silent : (place : Option WordRoom) (r : ℕ) (f : Flat) → is_silent f ≡ true → words_marks place r f ≡ []
 unfolding text_marks texts_above texts_below
 words_silent None r f e = refl
 words_silent (Some place) r f e = none_shown place.room.low place.first (text_place place.room (slice_index_or place.before r no_texts)) f.event.words f.event.decos f.event.ending f.tuplets f.event.mentions e
 
-module _ (keys : List ColumnKey) (lengths : List ℕ) (place : Option Place) where
+module _ (keys : List ColumnKey) (lengths : List ℕ) (place : Option WordRoom) where
   event_silent : (m : ℕ) (in_head : Bool) (before after : ℕ) (e : DrawnEvent) → is_silent e.flat ≡ true → event_marks keys place m in_head before after e ≡ event_marks keys None m in_head before after e
   unfolding event_marks
   event_silent m in_head before after e silent =
@@ -61,11 +61,11 @@ module _ (keys : List ColumnKey) (lengths : List ℕ) (place : Option Place) whe
 
   own_silent : (a b : ℕ) (v : DrawnVoice) → are_silent (slice_range v.measures a b) ≡ true → own_part keys lengths place a b v ≡ own_part keys lengths None a b v
   unfolding columns_part
-  own_silent a b v silent = let ds = slice_range v.measures a b in ap (λ t. head_part keys a ds ++ first_part keys a v.seat v.first ++ t) (measures_silent a true ds silent)
+  own_silent a b v silent = let ds = slice_range v.measures a b in ap (λ t. head_part keys a ds ++ first_bar_part keys a v.seat v.first ++ t) (measures_silent a true ds silent)
 
 -- a silent staff
 module _ (keys : List ColumnKey) (lengths : List ℕ) (a b : ℕ) where
-  written_silent : (room : Room) (first : ℕ) (before : List Texts) (vs : List DrawnVoice) → is_silent_staff a b vs ≡ true → written_parts keys lengths room a b first before vs ≡ map (own_part keys lengths None a b) vs
+  written_silent : (room : StaffRoom) (first : ℕ) (before : List TextCounts) (vs : List DrawnVoice) → is_silent_staff a b vs ≡ true → written_parts keys lengths room a b first before vs ≡ map (own_part keys lengths None a b) vs
   written_silent room first before [] silent = refl
   written_silent room first before (v ∷ vs) silent =
       let parts = and_parts (are_silent (slice_range v.measures a b)) (is_silent_staff a b vs) silent in
@@ -73,5 +73,5 @@ module _ (keys : List ColumnKey) (lengths : List ℕ) (a b : ℕ) where
       ap (λ t. part ∷ t) (written_silent room (first + v.verses) (texts_behind (length keys) before part) vs parts.1)
       ∙ ap (λ t. t ∷ map (own_part keys lengths None a b) vs) (own_silent keys lengths place a b v parts.0)
 
-  pub any_room : (room other : Room) (vs : List DrawnVoice) → is_silent_staff a b vs ≡ true → written_parts keys lengths room a b 1 [] vs ≡ written_parts keys lengths other a b 1 [] vs
+  pub any_room : (room other : StaffRoom) (vs : List DrawnVoice) → is_silent_staff a b vs ≡ true → written_parts keys lengths room a b 1 [] vs ≡ written_parts keys lengths other a b 1 [] vs
   any_room room other vs silent = written_silent room 1 [] vs silent ∙ sym (written_silent other 1 [] vs silent)

@@ -1,9 +1,9 @@
 -- Stems of drawn events can end on lines: own ends and abscissas are in range, and abscissas rise from event to event.
 use Rattle.std.{proofs.{Common.{◌≡◌, ℕ, zero, suc, ℤ, pos, ◌+◌, ◌-◌, ◌<◌, ◌≤◌, ◌<ℤ◌, List, [], ◌∷◌, length, map, drop, subst, arith}, lemmas.{Int.ints, List.{get_or-map, length-map, Elements.All-map}}}, specs.List.{All, AllByRecursion, slice_index_or, slice_range}}
 use Rattle.mus_score.specs.{declared.score.Score.Score, GoodScore.IsGoodScore}
-use Rattle.mus_time.{specs.{declared.keys.ColumnKey.ColumnKey, declared.times.Timeline.Timeline, Keys.AreKeys, Keys.called_keys}, proofs.{RankLaws.rank_less, RankLaws.rank_rises_more}}
-use Rattle.mus_stems.{specs.{Slope.anchor_of, Slope.AreAnchors, Slope.IsPlace, Slope.RisesAfter, Slope.RisesInBeams}, proofs.{RunLaws.all_drop, RunLaws.all_take}}
-use Rattle.{mus_drawn.specs.{declared.drawn.DrawnEvent.DrawnEvent, declared.drawn.DrawnMeasure.DrawnMeasure, Drawn.drawn_voice, Good.AreGoodDrawn, Good.AreGoodMeasures}, mus_keys.{proofs.Goods.{good_slice}, specs.Columns.{note_key}}}
+use Rattle.mus_onsets.{specs.{declared.keys.ColumnKey.ColumnKey, declared.times.Timeline.Timeline, Keys.AreKeys, Keys.called_keys}, proofs.{RankLaws.rank_less, RankLaws.rank_rises_more}}
+use Rattle.mus_stems.{specs.{Slope.slope_input, Slope.AreAnchors, Slope.IsAbscissa, Slope.RisesAfter, Slope.RisesInBeams}, proofs.{RunLaws.all_drop, RunLaws.all_take}}
+use Rattle.{mus_drawn.specs.{declared.drawn.DrawnEvent.DrawnEvent, declared.drawn.DrawnMeasure.DrawnMeasure, Drawn.drawn_voice, Good.AreGoodDrawn, Good.AreGoodMeasures}, mus_time.{proofs.Goods.{good_slice}, specs.Columns.{note_key}}}
 use Rattle.mus_marks.{specs.{Events.note_rank, Tilt.{AllCanTilt, AreAbscissas, anchor_at}}, proofs.{GoingOn.{AllGoOn, GoOn, later_below, voice_goes_on}, Inside.{HasEvent, HasMeasures, measures_inside}}}
 
 module _ (s : Score) (t : Timeline) (a b : ℕ) (keys : List ColumnKey) (at : List ℤ) (places : AreAbscissas s t a b at) (are : AreKeys keys (called_keys s t.lengths a b)) where
@@ -16,16 +16,16 @@ module _ (s : Score) (t : Timeline) (a b : ℕ) (keys : List ColumnKey) (at : Li
   later : (i j : ℕ) → i < j → j < length at → slice_index_or at i (pos 0) <ℤ slice_index_or at j (pos 0)
   later i j h inside = let e : i + suc (j - i - 1) ≡ j = omega (arith, h) in subst (λ k. slice_index_or at i (pos 0) <ℤ slice_index_or at k (pos 0)) e (further i (j - i - 1) (omega (arith, h, inside)))
 
-  place : (m : ℕ) (e : DrawnEvent) → HasEvent keys m e → IsPlace (slice_index_or at (note_rank keys m e) (pos 0))
+  place : (m : ℕ) (e : DrawnEvent) → HasEvent keys m e → IsAbscissa (slice_index_or at (note_rank keys m e) (pos 0))
   place m e has = let less : note_rank keys m e < length at = omega (arith, rank_less keys (note_key m e) has.note, places.each keys are) in (places.low (note_rank keys m e) less, places.high (note_rank keys m e) less)
 
   all_in : (m : ℕ) (es : List DrawnEvent) → AllByRecursion (HasEvent keys m) es → AreGoodDrawn es → AreAnchors (map (anchor_at keys at m) es)
-  unfolding anchor_of
+  unfolding slope_input
   all_in m [] has good = tt
   all_in m (e ∷ es) has good = ((good.0.end.0, good.0.end.1, place m e has.0), all_in m es has.1 good.1)
 
   rise_after : (m : ℕ) (e : DrawnEvent) (es : List DrawnEvent) → HasEvent keys m e → AllByRecursion (HasEvent keys m) es → GoOn (e ∷ es) → RisesAfter (anchor_at keys at m e) (map (anchor_at keys at m) es)
-  unfolding anchor_of
+  unfolding slope_input
   rise_after m e [] own has on = tt
   rise_after m e (f ∷ fs) own has on =
       let less : note_rank keys m f < length at = omega (arith, rank_less keys (note_key m f) has.0.note, places.each keys are) in

@@ -2,13 +2,13 @@
 -- itself, and its syllables and texts. What each part draws is said without a place; here it comes into its column.
 use Rattle.std.specs.Prelude.{ℕ, ◌+◌, Bool, true, false, ◌&&◌, ◌||◌, ◌==◌, is_none, if◌then◌else◌, List, [], ◌∷◌, ◌++◌, map, slice_index_or, Option, Some, None}
 use Rattle.{mus_units.specs.declared.pitch.Clef.{Clef}, mus_score.specs.{declared.score.Changes.Changes, declared.score.Event.Event, declared.score.Flat.Flat, Seats.is_lower}}
-use Rattle.{mus_time.specs.{declared.keys.Class.Class, declared.keys.ColumnKey.ColumnKey, Keys.bar_key, Order.rank_of, Ranks.rank_at}, mus_stems.specs.declared.plans.StemPlan.{StemPlan}}
-use Rattle.{mus_laid.specs.{declared.drawn.Drawn.Drawn, declared.laid.Laid.Laid, Ranked.drawn_at}, mus_ink.specs.{declared.graces.Group.Group, Bars.bar_marks, Changes.change_marks, Decos.note_marks, Graces.grace_marks, Graces.group_of}}
+use Rattle.{mus_onsets.specs.{declared.keys.Class.Class, declared.keys.ColumnKey.ColumnKey, Keys.bar_key, Order.key_rank, Ranks.rank_at}, mus_stems.specs.declared.plans.StemPlan.{StemPlan}}
+use Rattle.{mus_laid.specs.{declared.drawn.LaneInk.LaneInk, declared.laid.Laid.Laid, Ranked.drawn_at}, mus_ink.specs.{declared.graces.Group.Group, Bars.bar_marks, Changes.change_marks, Decos.note_marks, Graces.grace_marks, Graces.group_of}}
 use Rattle.{mus_words.specs.{declared.texts.TextPlace.TextPlace, Syllables.syllables_from, Texts.text_marks}, mus_drawn.specs.{declared.drawn.DrawnEvent.DrawnEvent, declared.drawn.DrawnMeasure.DrawnMeasure, Drawn.raise_of}}
-use Rattle.{mus_keys.specs.Columns.{note_key}, mus_marks.specs.{declared.events.Room.Room, declared.events.Texts.Texts, declared.events.Place.Place}}
+use Rattle.{mus_time.specs.Columns.{note_key}, mus_marks.specs.{declared.events.StaffRoom.StaffRoom, declared.events.TextCounts.TextCounts, declared.events.WordRoom.WordRoom}}
 
 abbrev pub note_rank : List ColumnKey → ℕ → DrawnEvent → ℕ
-note_rank keys m e = rank_of keys (note_key m e)
+note_rank keys m e = key_rank keys (note_key m e)
 
 -- neither clef nor key nor meter
 abbrev pub changes_nothing : Changes → Bool
@@ -33,21 +33,21 @@ note_part keys m before after e = map (drawn_at (note_rank keys m e)) (note_mark
 
 -- Where the words of a voice go: into the room that the marks of its staff leave, its verses from number `first` on, and
 -- behind the texts that stand in each column already.
-abbrev pub no_texts : Texts
+abbrev pub no_texts : TextCounts
 no_texts = record { above = 0; below = 0 }
 
-abbrev pub text_place : Room → Texts → TextPlace
+abbrev pub text_place : StaffRoom → TextCounts → TextPlace
 text_place room before = record { low = room.low; high = room.high; verses = room.verses; above = before.above; below = before.below }
 
 -- syllables and texts in the column of rank r, where their place is known
-abbrev pub words_marks : Option Place → ℕ → Flat → List Drawn
+abbrev pub words_marks : Option WordRoom → ℕ → Flat → List LaneInk
 words_marks None r f = []
 words_marks (Some place) r f = syllables_from place.room.low place.first f.event.words ++ text_marks (text_place place.room (slice_index_or place.before r no_texts)) f
 
-abbrev pub words_part : ℕ → Option Place → Flat → List Laid
+abbrev pub words_part : ℕ → Option WordRoom → Flat → List Laid
 words_part r place f = map (drawn_at r) (words_marks place r f)
 
-unfoldable pub event_marks : List ColumnKey → Option Place → ℕ → Bool → ℕ → ℕ → DrawnEvent → List Laid
+unfoldable pub event_marks : List ColumnKey → Option WordRoom → ℕ → Bool → ℕ → ℕ → DrawnEvent → List Laid
 event_marks keys place m in_head before after e = change_part keys m (in_head || is_lower e.seat) e ++ graces_part keys m e ++ note_part keys m before after e ++ words_part (note_rank keys m e) place e.flat
 
 -- the levels of an event, where its beam is that of the plan
@@ -59,7 +59,7 @@ levels_behind plan [] = 0
 levels_behind plan (e ∷ es) = levels_in plan e.plan.group e.plan.flags
 
 -- group and flags are those of the event before these, where there is none 0
-abbrev pub events_marks : List ColumnKey → Option Place → ℕ → Bool → ℕ → ℕ → List DrawnEvent → List Laid
+abbrev pub events_marks : List ColumnKey → Option WordRoom → ℕ → Bool → ℕ → ℕ → List DrawnEvent → List Laid
 events_marks keys place m in_head group flags [] = []
 events_marks keys place m in_head group flags (e ∷ es) =
     event_marks keys place m in_head (levels_in e.plan group flags) (levels_behind e.plan es) e
@@ -67,9 +67,9 @@ events_marks keys place m in_head group flags (e ∷ es) =
 
 -- a bar stands at the end of its measure; the first voice of a staff draws it
 abbrev pub bar_part : List ColumnKey → List ℕ → ℕ → DrawnMeasure → List Laid
-bar_part keys lengths m d = if is_lower d.seat then [] else map (drawn_at (rank_of keys (bar_key lengths m))) (bar_marks d.bar)
+bar_part keys lengths m d = if is_lower d.seat then [] else map (drawn_at (key_rank keys (bar_key lengths m))) (bar_marks d.bar)
 
 -- measures from number m on; the head draws the change before the first event of the first of them
-abbrev pub measures_marks : List ColumnKey → List ℕ → Option Place → ℕ → Bool → List DrawnMeasure → List Laid
+abbrev pub measures_marks : List ColumnKey → List ℕ → Option WordRoom → ℕ → Bool → List DrawnMeasure → List Laid
 measures_marks keys lengths place m in_head [] = []
 measures_marks keys lengths place m in_head (d ∷ ds) = (events_marks keys place m in_head 0 0 d.events ++ bar_part keys lengths m d) ++ measures_marks keys lengths place (m + 1) false ds

@@ -1,7 +1,7 @@
 -- Events that have no syllables and no texts. On a staff of such events it is of no account where these would go.
 use Rattle.std.specs.{Prelude.{◌≡◌, ℕ, Bool, true, false, not, ◌&&◌, ◌==◌, is_none, List, [], length, slice_range}, List.list_all}
-use Rattle.{mus_units.specs.declared.note.Deco.{Deco}, mus_score.specs.declared.score.Flat.{Flat}, mus_time.specs.declared.keys.ColumnKey.{ColumnKey}, mus_drawn.specs.declared.drawn.{DrawnMeasure.DrawnMeasure, DrawnVoice.DrawnVoice}}
-use Rattle.mus_marks.specs.{declared.events.Room.Room, Staff.bare_marks, Staff.room_over, Staff.verses_on, Staff.written_parts}
+use Rattle.{mus_units.specs.declared.note.Deco.{Deco}, mus_score.specs.declared.score.Flat.{Flat}, mus_onsets.specs.declared.keys.ColumnKey.{ColumnKey}, mus_drawn.specs.declared.drawn.{DrawnMeasure.DrawnMeasure, DrawnVoice.DrawnVoice}}
+use Rattle.mus_marks.specs.{declared.events.StaffRoom.StaffRoom, Staff.bare_marks, Staff.room_over, Staff.verses_on, Staff.written_parts}
 
 -- a fingering or a dynamic mark
 abbrev pub is_text : Deco → Bool
@@ -23,5 +23,5 @@ abbrev pub is_silent_staff : ℕ → ℕ → List DrawnVoice → Bool
 is_silent_staff a b voices = list_all (λ v. are_silent (slice_range v.measures a b)) voices
 
 -- a room in which voices are written as in that which the marks of their staff leave
-abbrev pub HasRoom : List ColumnKey → List ℕ → ℕ → ℕ → List DrawnVoice → Room → Type 0
-HasRoom keys lengths a b voices room = written_parts keys lengths room a b 1 [] voices ≡ written_parts keys lengths (room_over (verses_on voices) (bare_marks keys lengths a b voices)) a b 1 [] voices
+abbrev pub FitsRoom : List ColumnKey → List ℕ → ℕ → ℕ → List DrawnVoice → StaffRoom → Type 0
+FitsRoom keys lengths a b voices room = written_parts keys lengths room a b 1 [] voices ≡ written_parts keys lengths (room_over (verses_on voices) (bare_marks keys lengths a b voices)) a b 1 [] voices

@@ -2,13 +2,13 @@
 -- the measures; then the beams of notes, those of graces, and the arcs.
 use Rattle.std.specs.{Prelude.{ℕ, ◌+◌, pos, ◌≤ℤ◌, ◌==◌, Bool, true, false, not, ◌&&◌, ◌||◌, if◌then◌else◌, List, [], ◌∷◌, ◌++◌, length, map, sum, flat_map, count_by, slice_range, slice_index_or, Option, Some, None}, List.range_with_len}
 use Rattle.{mus_units.specs.{declared.key.Meter.Meter, declared.note.Bar.Bar}, mus_score.specs.{declared.score.Seat.Seat, Seats.is_lower}}
-use Rattle.mus_time.specs.{declared.keys.Class.Class, declared.keys.ColumnKey.ColumnKey, Keys.has_features, Keys.head_key, Order.rank_of, Ranks.rank_at}
-use Rattle.mus_laid.specs.{declared.laid.Laid.Laid, declared.laid.Lane.Lane, declared.laid.Mark.Mark, declared.laid.StaffMarks.StaffMarks, Boxes.staff_heights, Ranked.bridge_at, Ranked.by_columns, Ranked.drawn_at, Ranked.stands_at}
-use Rattle.{mus_ink.specs.{Bars.bar_marks, Changes.head_marks, Drawing.cut}, mus_drawn.specs.{declared.drawn.DrawnMeasure.DrawnMeasure, declared.drawn.DrawnVoice.DrawnVoice, declared.drawn.Opening.Opening}}
-use Rattle.{mus_bridges.specs.Bridges.{bridges_of}, mus_marks.specs.{declared.events.Place.Place, declared.events.Room.Room, declared.events.Texts.Texts, Events.measures_marks, Events.no_texts}}
+use Rattle.mus_onsets.specs.{declared.keys.Class.Class, declared.keys.ColumnKey.ColumnKey, Keys.has_features, Keys.head_key, Order.key_rank, Ranks.rank_at}
+use Rattle.mus_laid.specs.{declared.laid.Laid.Laid, declared.laid.Lane.Lane, declared.laid.Mark.Mark, declared.laid.StaffMarks.StaffMarks, Boxes.staff_heights, Ranked.bridge_at, Ranked.by_columns, Ranked.drawn_at, Ranked.stands_at_rank}
+use Rattle.{mus_ink.specs.{Bars.bar_marks, Changes.head_marks, Drawing.cut_dy}, mus_drawn.specs.{declared.drawn.DrawnMeasure.DrawnMeasure, declared.drawn.DrawnVoice.DrawnVoice, declared.drawn.SystemOpening.SystemOpening}}
+use Rattle.{mus_bridges.specs.Bridges.{bridges_of}, mus_marks.specs.{declared.events.WordRoom.WordRoom, declared.events.StaffRoom.StaffRoom, declared.events.TextCounts.TextCounts, Events.measures_marks, Events.no_texts}}
 
 -- the meter is drawn where the voice begins and where it changes
-abbrev pub meter_shown : ℕ → Opening → Option Meter
+abbrev pub meter_shown : ℕ → SystemOpening → Option Meter
 meter_shown a o = if (a == 0) || o.anew then Some o.meter else None
 
 -- the head, by the first of the system's measures; the first voice of a staff draws it
@@ -16,17 +16,17 @@ abbrev pub head_part : List ColumnKey → ℕ → List DrawnMeasure → List Lai
 head_part keys a [] = []
 head_part keys a (d ∷ ds) =
     if is_lower d.seat then []
-    else map (drawn_at (rank_of keys (head_key a))) (head_marks d.opening.clef d.opening.key.signs (meter_shown a d.opening))
+    else map (drawn_at (key_rank keys (head_key a))) (head_marks d.opening.clef d.opening.key.signs (meter_shown a d.opening))
 
 -- the bar before the first measure, where it has features; the first voice of a staff draws it
-abbrev pub first_part : List ColumnKey → ℕ → Seat → Bar → List Laid
-first_part keys a seat bar = if not (is_lower seat) && (a == 0) && has_features bar then map (drawn_at (rank_at keys 0 0 Class.First 0)) (bar_marks bar) else []
+abbrev pub first_bar_part : List ColumnKey → ℕ → Seat → Bar → List Laid
+first_bar_part keys a seat bar = if not (is_lower seat) && (a == 0) && has_features bar then map (drawn_at (rank_at keys 0 0 Class.First 0)) (bar_marks bar) else []
 
-unfoldable pub columns_part : List ColumnKey → List ℕ → Option Place → ℕ → Seat → Bar → List DrawnMeasure → List Laid
-columns_part keys lengths place a seat first ds = head_part keys a ds ++ first_part keys a seat first ++ measures_marks keys lengths place a true ds
+unfoldable pub columns_part : List ColumnKey → List ℕ → Option WordRoom → ℕ → Seat → Bar → List DrawnMeasure → List Laid
+columns_part keys lengths place a seat first ds = head_part keys a ds ++ first_bar_part keys a seat first ++ measures_marks keys lengths place a true ds
 
 -- what a voice has in the columns of measures a to b - 1, with its syllables and texts where their place is known
-abbrev pub own_part : List ColumnKey → List ℕ → Option Place → ℕ → ℕ → DrawnVoice → List Laid
+abbrev pub own_part : List ColumnKey → List ℕ → Option WordRoom → ℕ → ℕ → DrawnVoice → List Laid
 own_part keys lengths place a b v = columns_part keys lengths place a v.seat v.first (slice_range v.measures a b)
 
 -- what the voices of a staff have between columns
@@ -38,8 +38,8 @@ abbrev pub bare_marks : List ColumnKey → List ℕ → ℕ → ℕ → List Dra
 bare_marks keys lengths a b voices = flat_map (own_part keys lengths None a b) voices ++ staff_bridges keys lengths a b voices
 
 -- syllables and texts stand outside of all other marks of their staff
-unfoldable pub room_over : ℕ → List Laid → Room
-room_over verses others = record { low = cut (staff_heights others).low; high = cut (staff_heights others).high; verses = verses }
+unfoldable pub room_over : ℕ → List Laid → StaffRoom
+room_over verses others = record { low = cut_dy (staff_heights others).low; high = cut_dy (staff_heights others).high; verses = verses }
 
 -- the verses of a staff are those of its voices, one after the other
 abbrev pub verses_on : List DrawnVoice → ℕ
@@ -59,28 +59,28 @@ is_words (Mark.Words size rank dx dy text) = true
 is_words _ = false
 
 abbrev pub text_above : ℕ → Laid → Bool
-text_above r x = stands_at r x && is_words x.mark && is_above x.lane
+text_above r x = stands_at_rank r x && is_words x.mark && is_above x.lane
 
 abbrev pub text_below : ℕ → Laid → Bool
-text_below r x = stands_at r x && is_words x.mark && is_below_staff x.lane
+text_below r x = stands_at_rank r x && is_words x.mark && is_below_staff x.lane
 
 -- the texts that a column has behind those of a part, where it had some before
-abbrev pub texts_with : Texts → List Laid → ℕ → Texts
+abbrev pub texts_with : TextCounts → List Laid → ℕ → TextCounts
 texts_with before part r = record { above = before.above + count_by (text_above r) part; below = before.below + count_by (text_below r) part }
 
 -- of n columns
-abbrev pub texts_behind : ℕ → List Texts → List Laid → List Texts
+abbrev pub texts_behind : ℕ → List TextCounts → List Laid → List TextCounts
 texts_behind n before part = map (λ r. texts_with (slice_index_or before r no_texts) part r) (range_with_len 0 n)
 
 -- the voices of a staff one after the other, each behind the verses and the texts of those before it
-abbrev pub written_parts : List ColumnKey → List ℕ → Room → ℕ → ℕ → ℕ → List Texts → List DrawnVoice → List (List Laid)
+abbrev pub written_parts : List ColumnKey → List ℕ → StaffRoom → ℕ → ℕ → ℕ → List TextCounts → List DrawnVoice → List (List Laid)
 written_parts keys lengths room a b first before [] = []
 written_parts keys lengths room a b first before (v ∷ vs) =
     let part = own_part keys lengths (Some (record { room = room; first = first; before = before })) a b v in part ∷ written_parts keys lengths room a b (first + v.verses) (texts_behind (length keys) before part) vs
 
 -- marks, and how low and how high they reach
 unfoldable pub staff_over : List Laid → StaffMarks
-staff_over all = record { marks = all; low = cut (staff_heights all).low; high = cut (staff_heights all).high }
+staff_over all = record { marks = all; low = cut_dy (staff_heights all).low; high = cut_dy (staff_heights all).high }
 
 -- The marks of a staff in measures a to b - 1: column by column, in each what the voices have there one after the other; then
 -- what goes between columns, voice by voice. The head, the bar before the first measure, changes and bars are the first voice's.

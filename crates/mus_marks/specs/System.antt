@@ -1,14 +1,14 @@
 -- What a score calls for in a system of measures a to b - 1: the columns that its voices stand in, and for each staff, in order, its marks.
 use Rattle.std.specs.Prelude.{◌≡◌, ℕ, Bool, List, map}
-use Rattle.{mus_score.specs.{declared.score.Score.Score, Seats.grouped, Seats.is_lower}, mus_time.specs.{declared.times.Timeline.Timeline, Keys.AreKeys, Keys.called_keys}}
+use Rattle.{mus_score.specs.{declared.score.Score.Score, Seats.grouped, Seats.is_lower}, mus_onsets.specs.{declared.times.Timeline.Timeline, Keys.AreKeys, Keys.called_keys}}
 use Rattle.{mus_laid.specs.{declared.laid.SystemMarks.SystemMarks}, mus_drawn.specs.{declared.drawn.DrawnVoice.DrawnVoice, Drawn.drawn_voice}, mus_marks.specs.Staff.{staff_marks}}
 
-abbrev pub stands_lower : DrawnVoice → Bool
-stands_lower v = is_lower v.seat
+abbrev pub is_drawn_lower : DrawnVoice → Bool
+is_drawn_lower v = is_lower v.seat
 
 -- the voices of each staff, as they are drawn
 abbrev pub drawn_staves : Score → List (List DrawnVoice)
-drawn_staves s = grouped stands_lower (map drawn_voice s.voices)
+drawn_staves s = grouped is_drawn_lower (map drawn_voice s.voices)
 
 pub record IsCall (s : Score) (t : Timeline) (a b : ℕ) (m : SystemMarks) : Type 0 where
   pub from : m.a ≡ a

@@ -1,14 +1,14 @@
 -- The marks of a system over the abscissas of its columns: as those that the score calls for, but the stems of a beam end
 -- on its line. What stands on the ends of stems (beams, decorations, texts, arcs) follows them.
 use Rattle.std.specs.Prelude.{◌≡◌, ℕ, ◌+◌, ◌^◌, ℤ, pos, ◌≤ℤ◌, ◌<ℤ◌, ◌<◌, ⊤, List, [], ◌∷◌, ◌++◌, length, map, take, drop, slice_range, slice_index_or}
-use Rattle.{mus_score.specs.declared.score.Score.{Score}, mus_time.specs.{declared.keys.ColumnKey.ColumnKey, declared.times.Timeline.Timeline, Keys.AreKeys, Keys.called_keys}}
-use Rattle.mus_stems.specs.{declared.slopes.Anchor.Anchor, Slope.anchor_of, Slope.sloped_ends, Slope.with_end, Slope.AreAnchors, Slope.RisesInBeams}
+use Rattle.{mus_score.specs.declared.score.Score.{Score}, mus_onsets.specs.{declared.keys.ColumnKey.ColumnKey, declared.times.Timeline.Timeline, Keys.AreKeys, Keys.called_keys}}
+use Rattle.mus_stems.specs.{declared.slopes.SlopeInput.SlopeInput, Slope.slope_input, Slope.sloped_ends, Slope.with_end, Slope.AreAnchors, Slope.RisesInBeams}
 use Rattle.{mus_laid.specs.{declared.laid.StaffMarks.StaffMarks, declared.laid.SystemMarks.SystemMarks}, mus_drawn.specs.{declared.drawn.DrawnEvent.DrawnEvent, declared.drawn.DrawnMeasure.DrawnMeasure, declared.drawn.DrawnVoice.DrawnVoice}}
 use Rattle.mus_marks.specs.{Events.note_rank, Staff.staff_marks, System.drawn_staves}
 
 -- what the line of its beam takes from an event of measure m: where its column stands is its abscissa
-abbrev pub anchor_at : List ColumnKey → List ℤ → ℕ → DrawnEvent → Anchor
-anchor_at keys at m e = anchor_of e.plan (slice_index_or at (note_rank keys m e) (pos 0))
+abbrev pub anchor_at : List ColumnKey → List ℤ → ℕ → DrawnEvent → SlopeInput
+anchor_at keys at m e = slope_input e.plan (slice_index_or at (note_rank keys m e) (pos 0))
 
 -- the stems of events of measure m can end on lines: own ends and abscissas are in range, and abscissas rise in beams
 pub record CanTilt (keys : List ColumnKey) (at : List ℤ) (m : ℕ) (d : DrawnMeasure) : Type 0 where

@@ -1,7 +1,7 @@
 ghost use Rattle.std.specs.{Prelude.◌≡◌, Prelude.map, Prelude.slice_index_or, Prelude.IfOk, Prelude.OnOk, List.range_with_len};
-ghost use Rattle.mus_marks.specs.{Events.no_texts, Places.counted, Places.with_text, Places.with_texts, Staff.is_words, Staff.texts_behind};
+ghost use Rattle.mus_marks.specs.{Events.no_texts, Places.text_counted, Places.with_text_counted, Places.with_texts_counted, Staff.is_words, Staff.texts_behind};
 
-use crate::events::{Texts, texts_at};
+use crate::events::{TextCounts, texts_at};
 use mus_laid::{Laid, Lane, Mark, anchor_rank};
 use mus_units::{Memory, Row};
 use std::alloc::Global;
@@ -13,8 +13,8 @@ fn is_words(mark: &Mark) -> bool
 }
 
 /// The texts of a column, with a mark that stands in it.
-fn counted(laid: &Laid, texts: Texts) -> Result<Texts, Memory>
-    ensures { IfOk result (λ t. t ≡ counted laid.now texts) }
+fn text_counted(laid: &Laid, texts: TextCounts) -> Result<TextCounts, Memory>
+    ensures { IfOk result (λ t. t ≡ text_counted laid.now texts) }
 {
     let mut texts = texts;
     if is_words(&laid.mark) {
@@ -29,20 +29,20 @@ fn counted(laid: &Laid, texts: Texts) -> Result<Texts, Memory>
 
 /// Counts a mark in its column, if it is a text above or below.
 #[tactic(auto, using(crate::proofs::Counts::counted_there, crate::proofs::Counts::counted_nowhere))]
-fn count_mark(texts: &mut Row<Texts>, laid: &Laid) -> Result<(), Memory>
-    ensures { OnOk result (texts.new ≡ with_text 0 laid.now texts.old) }
+fn count_mark(texts: &mut Row<TextCounts>, laid: &Laid) -> Result<(), Memory>
+    ensures { OnOk result (texts.new ≡ with_text_counted 0 laid.now texts.old) }
 {
     if let Some(rank) = anchor_rank(&laid.mark) {
         let place = rank as usize;
         if place < texts.len() {
-            texts.items[place] = counted(laid, texts.items[place])?;
+            texts.items[place] = text_counted(laid, texts.items[place])?;
         }
     }
     Ok(())
 }
 
-fn count_marks(texts: &mut Row<Texts>, part: &[Laid]) -> Result<(), Memory>
-    ensures { OnOk result (texts.new ≡ with_texts part.now texts.old) }
+fn count_marks(texts: &mut Row<TextCounts>, part: &[Laid]) -> Result<(), Memory>
+    ensures { OnOk result (texts.new ≡ with_texts_counted part.now texts.old) }
 {
     for laid in part {
         count_mark(texts, laid)?;
@@ -51,7 +51,7 @@ fn count_marks(texts: &mut Row<Texts>, part: &[Laid]) -> Result<(), Memory>
 }
 
 /// The texts that columns have already.
-fn texts_of(alloc: Global, columns: usize, before: &[Texts]) -> Result<Row<Texts>, Memory>
+fn texts_of(alloc: Global, columns: usize, before: &[TextCounts]) -> Result<Row<TextCounts>, Memory>
     ensures { IfOk result (λ r. r ≡ map (λ k. slice_index_or before.now k no_texts) (range_with_len 0 columns)) }
 {
     let mut texts = Row::new(alloc);
@@ -66,9 +66,9 @@ fn texts_of(alloc: Global, columns: usize, before: &[Texts]) -> Result<Row<Texts
 pub(crate) fn texts_behind(
     alloc: Global,
     columns: usize,
-    before: &[Texts],
+    before: &[TextCounts],
     part: &[Laid],
-) -> Result<Row<Texts>, Memory>
+) -> Result<Row<TextCounts>, Memory>
     ensures { IfOk result (λ r. r ≡ texts_behind columns before.now part.now) }
 {
     let mut texts = texts_of(alloc, columns, before)?;

@@ -1,23 +1,23 @@
 ghost use Rattle.std.specs.Prelude.{◌≡◌, ◌≤◌, ◌++◌, length, map, option_copied, slice_index_or, IfOk, OnOk};
-ghost use Rattle.{mus_time.specs.Ranks.{AreRanked}, mus_stems.specs.Heads.{AllNear, stand_of}, mus_laid.specs.Ranked.{inked}};
+ghost use Rattle.{mus_onsets.specs.Ranks.{AreRanked}, mus_stems.specs.Heads.{AllNear, stand_of}, mus_laid.specs.Ranked.{inked}};
 ghost use Rattle.{mus_ink.specs.{Decos.note_marks, Graces.grace_marks}, mus_drawn.specs.{Drawn.raise_of, Good.{AllCanGrace, AreGoodDrawn, IsGoodDrawn}}};
 ghost use Rattle.mus_marks.specs.{Events.{note_rank, changes_nothing, change_part, graces_from, graces_part, note_part, no_texts, text_place, words_marks, words_part, event_marks, levels_in, levels_behind, events_marks}, Places.HasVerses};
 
 use crate::silence::is_silent;
 use mus_drawn::{DrawnEvent, raise_of};
 use mus_ink::{Group, group_of, put_change, put_grace, put_note};
-use mus_keys::note_key;
-use mus_laid::Pen;
+use mus_time::note_key;
+use mus_laid::MarkPen;
 use mus_score::{Changes, Event, Flat};
 use mus_stems::StemPlan;
-use mus_time::{Class, ColumnKey};
+use mus_onsets::{Class, ColumnKey};
 use mus_units::{Clef, Memory, Row};
 use mus_words::{TextPlace, put_syllables, put_texts};
 
 /// The room that the other marks of a staff leave to its syllables and texts: these stand below `low`
 /// and above `high`, in u. The staff has so many verses.
 #[derive(Clone, Copy, PartialEq, Eq)]
-pub struct Room {
+pub struct StaffRoom {
     pub low: i32,
     pub high: i32,
     pub verses: u8,
@@ -25,7 +25,7 @@ pub struct Room {
 
 /// How many texts a column has above the staff and below it.
 #[derive(Clone, Copy, PartialEq, Eq)]
-pub struct Texts {
+pub struct TextCounts {
     pub above: usize,
     pub below: usize,
 }
@@ -33,10 +33,10 @@ pub struct Texts {
 /// Where the words of a voice go: into the room of its staff, its verses from number `first` on, and
 /// behind the texts that each column has already, by rank; a column that `before` lacks has none.
 #[derive(Drop)]
-pub struct Place {
-    pub room: Room,
+pub struct WordRoom {
+    pub room: StaffRoom,
     pub first: u8,
-    pub before: Row<Texts>,
+    pub before: Row<TextCounts>,
 }
 
 /// Whether changes have neither clef nor key nor meter.
@@ -48,7 +48,7 @@ pub fn changes_nothing(changes: &Changes) -> bool
 
 /// Lays the change before an event, unless it is `drawn` already: by the head, or by the voice above.
 fn put_change_part(
-    pen: &mut Pen,
+    pen: &mut MarkPen,
     keys: &[ColumnKey],
     measure: u32,
     drawn: bool,
@@ -71,7 +71,7 @@ fn put_change_part(
 
 /// Lays graces of a group, each in a column of its own.
 fn put_graces(
-    pen: &mut Pen,
+    pen: &mut MarkPen,
     keys: &[ColumnKey],
     measure: u32,
     tick: u64,
@@ -94,7 +94,7 @@ fn put_graces(
 
 /// Lays the graces before an event.
 fn put_graces_part(
-    pen: &mut Pen,
+    pen: &mut MarkPen,
     keys: &[ColumnKey],
     measure: u32,
     e: &DrawnEvent<'_>,
@@ -112,7 +112,7 @@ fn put_graces_part(
 }
 
 /// Where the texts of an event go in a column that has some already.
-fn text_place(room: Room, before: Texts) -> TextPlace
+fn text_place(room: StaffRoom, before: TextCounts) -> TextPlace
     ensures { result ≡ text_place room before }
 {
     TextPlace {
@@ -125,17 +125,17 @@ fn text_place(room: Room, before: Texts) -> TextPlace
 }
 
 /// The texts that the column of a rank has already.
-pub(crate) fn texts_at(before: &[Texts], rank: usize) -> Texts
+pub(crate) fn texts_at(before: &[TextCounts], rank: usize) -> TextCounts
     ensures { result ≡ slice_index_or before.now rank no_texts }
 {
     before
         .get(rank)
         .copied()
-        .unwrap_or(Texts { above: 0, below: 0 })
+        .unwrap_or(TextCounts { above: 0, below: 0 })
 }
 
 /// Draws the syllables and texts of an event in its column, if their place is known.
-fn put_words(pen: &mut Pen, place: Option<&Place>, flat: &Flat<'_>) -> Result<(), Memory>
+fn put_words(pen: &mut MarkPen, place: Option<&WordRoom>, flat: &Flat<'_>) -> Result<(), Memory>
     requires words { length flat.now.event.words ≤ 8 }
     requires verses { HasVerses (option_copied place) }
     ensures { OnOk result (pen.new ≡ inked pen.old (words_marks (option_copied place.entry) pen.old.rank flat.now)) }
@@ -153,7 +153,7 @@ fn put_words(pen: &mut Pen, place: Option<&Place>, flat: &Flat<'_>) -> Result<()
 }
 
 /// Draws an event, but for its syllables and texts.
-fn draw_note(pen: &mut Pen, before: u8, after: u8, e: &DrawnEvent<'_>) -> Result<(), Memory>
+fn draw_note(pen: &mut MarkPen, before: u8, after: u8, e: &DrawnEvent<'_>) -> Result<(), Memory>
     ensures { OnOk result (pen.new ≡ inked pen.old (note_marks e.now.clef (raise_of e.now.seat) e.now.flat.event e.now.plan before after)) }
 {
     let (event, plan) = (e.flat.event(), &e.plan);
@@ -163,9 +163,9 @@ fn draw_note(pen: &mut Pen, before: u8, after: u8, e: &DrawnEvent<'_>) -> Result
 
 /// Lays an event in its column, with its syllables and texts if their place is known.
 fn put_note_part(
-    pen: &mut Pen,
+    pen: &mut MarkPen,
     keys: &[ColumnKey],
-    place: Option<&Place>,
+    place: Option<&WordRoom>,
     measure: u32,
     before: u8,
     after: u8,
@@ -185,9 +185,9 @@ fn put_note_part(
 /// events beside it in its beam.
 #[tactic(auto, unfolding(crate::specs::Events::event_marks))]
 fn put_event(
-    pen: &mut Pen,
+    pen: &mut MarkPen,
     keys: &[ColumnKey],
-    place: Option<&Place>,
+    place: Option<&WordRoom>,
     measure: u32,
     in_head: bool,
     before: u8,
@@ -225,9 +225,9 @@ fn levels_behind(plan: &StemPlan, behind: &[DrawnEvent<'_>]) -> u8
 /// Lays the events of a measure, each with the change and the graces before it; the first without its
 /// change, if the head draws that. Syllables and texts are laid where their place is known.
 pub(crate) fn put_events(
-    pen: &mut Pen,
+    pen: &mut MarkPen,
     keys: &[ColumnKey],
-    place: Option<&Place>,
+    place: Option<&WordRoom>,
     measure: u32,
     in_head: bool,
     events: &[DrawnEvent<'_>],

@@ -1,13 +1,13 @@
 ghost use Rattle.std.specs.Prelude.{◌≡◌, ◌≤◌, ◌<◌, ◌+◌, ◌++◌, length, map, option_copied, OnOk};
-ghost use Rattle.{mus_time.specs.{Keys.has_features, Ranks.AreRanked}, mus_drawn.specs.Good.{AreGoodMeasures}};
-ghost use Rattle.mus_marks.specs.{Events.bar_part, Events.measures_marks, Places.HasVerses, Staff.meter_shown, Staff.head_part, Staff.first_part, Staff.columns_part};
+ghost use Rattle.{mus_onsets.specs.{Keys.has_features, Ranks.AreRanked}, mus_drawn.specs.Good.{AreGoodMeasures}};
+ghost use Rattle.mus_marks.specs.{Events.bar_part, Events.measures_marks, Places.HasVerses, Staff.meter_shown, Staff.head_part, Staff.first_bar_part, Staff.columns_part};
 
-use crate::events::{Place, put_events};
-use mus_drawn::{DrawnMeasure, Opening};
+use crate::events::{WordRoom, put_events};
+use mus_drawn::{DrawnMeasure, SystemOpening};
 use mus_ink::{put_bar, put_head};
-use mus_laid::Pen;
+use mus_laid::MarkPen;
 use mus_score::Seat;
-use mus_time::{Class, ColumnKey};
+use mus_onsets::{Class, ColumnKey};
 use mus_units::{Bar, Memory, Meter};
 
 /// How many marks most events and bars have at most; room for so many is made at once.
@@ -15,7 +15,7 @@ const MARKS_OF_EVENT: usize = 4;
 
 /// Lays the bar behind a measure, unless the voice above draws it.
 fn put_bar_part(
-    pen: &mut Pen,
+    pen: &mut MarkPen,
     keys: &[ColumnKey],
     lengths: &[u64],
     measure: u32,
@@ -46,10 +46,10 @@ fn room_for(measures: &[DrawnMeasure<'_>]) -> usize {
 /// change before the first event of the first of them is left out where the head of the system draws
 /// it. Syllables and texts are laid where their place is known. The only error is want of memory.
 pub fn put_measures(
-    pen: &mut Pen,
+    pen: &mut MarkPen,
     keys: &[ColumnKey],
     lengths: &[u64],
-    place: Option<&Place>,
+    place: Option<&WordRoom>,
     a: u32,
     in_head: bool,
     measures: &[DrawnMeasure<'_>],
@@ -74,7 +74,7 @@ pub fn put_measures(
 }
 
 /// The meter that a head shows.
-fn meter_shown(a: u32, opening: &Opening) -> Option<Meter>
+fn meter_shown(a: u32, opening: &SystemOpening) -> Option<Meter>
     ensures { result ≡ meter_shown a opening.now }
 {
     if a == 0 || opening.anew {
@@ -87,7 +87,7 @@ fn meter_shown(a: u32, opening: &Opening) -> Option<Meter>
 /// Lays the head of the system that begins with the first of these measures, unless the voice above
 /// draws it.
 fn put_head_part(
-    pen: &mut Pen,
+    pen: &mut MarkPen,
     keys: &[ColumnKey],
     a: u32,
     measures: &[DrawnMeasure<'_>],
@@ -117,14 +117,14 @@ fn is_featured(bar: Bar) -> bool
 
 /// Lays the bar before the first measure, where it has features, unless the voice above draws it.
 fn put_first_part(
-    pen: &mut Pen,
+    pen: &mut MarkPen,
     keys: &[ColumnKey],
     a: u32,
     seat: Seat,
     bar: Bar,
 ) -> Result<(), Memory>
     requires { AreRanked keys.now }
-    ensures { OnOk result (pen.new.marks ≡ pen.old.marks ++ first_part keys.now a seat bar) }
+    ensures { OnOk result (pen.new.marks ≡ pen.old.marks ++ first_bar_part keys.now a seat bar) }
 {
     if seat.is_lower() || a != 0 || !is_featured(bar) {
         return Ok(());
@@ -138,10 +138,10 @@ fn put_first_part(
 /// error is want of memory.
 #[tactic(auto, unfolding(crate::specs::Staff::columns_part))]
 pub fn put_columns_part(
-    pen: &mut Pen,
+    pen: &mut MarkPen,
     keys: &[ColumnKey],
     lengths: &[u64],
-    place: Option<&Place>,
+    place: Option<&WordRoom>,
     a: u32,
     seat: Seat,
     first: Bar,

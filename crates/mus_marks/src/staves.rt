@@ -1,16 +1,16 @@
 ghost use Rattle.std.specs.{Prelude.{◌≡◌, ◌≤◌, ◌+◌, ◌++◌, [], length, map, flat_map, option_copied, Some, None, All, IfOk, OnOk}, List.prefix_len};
 ghost use Rattle.{mus_score.specs.Seats.{grouped}, mus_drawn.specs.Good.{AreGoodMeasures}, mus_bridges.specs.Bridges.{bridges_of}};
-ghost use Rattle.mus_marks.specs.{Places.HasVerses, Places.place_behind, Silent.HasRoom, Silent.is_silent_staff, Staff.CoversLines, Staff.own_part, Staff.room_over, Staff.staff_marks, Staff.staff_over, Staff.verses_on, Staff.written_parts, System.stands_lower};
+ghost use Rattle.mus_marks.specs.{Places.HasVerses, Places.word_room_after, Silent.FitsRoom, Silent.is_silent_staff, Staff.CoversLines, Staff.own_part, Staff.room_over, Staff.staff_marks, Staff.staff_over, Staff.verses_on, Staff.written_parts, System.is_drawn_lower};
 
 use crate::counting::texts_behind;
-use crate::events::{Place, Room};
+use crate::events::{WordRoom, StaffRoom};
 use crate::measures::put_columns_part;
 use crate::silence::are_silent;
 use mus_bridges::put_bridges_of;
 use mus_drawn::DrawnVoice;
-use mus_ink::drawing::cut;
-use mus_keys::Frame;
-use mus_laid::{Bridge, Laid, Pen, StaffMarks, by_columns, put_bridges, staff_heights};
+use mus_ink::drawing::cut_dy;
+use mus_time::SystemFrame;
+use mus_laid::{Bridge, Laid, MarkPen, StaffMarks, by_columns, put_bridges, staff_heights};
 use mus_units::{Memory, Row};
 use std::alloc::Global;
 
@@ -19,9 +19,9 @@ const BRIDGES_OF_MEASURE: usize = 4;
 
 /// Lays what a voice has in the columns of a system, with syllables and texts where their place is known.
 fn put_own_part(
-    pen: &mut Pen,
-    frame: &Frame<'_>,
-    place: Option<&Place>,
+    pen: &mut MarkPen,
+    frame: &SystemFrame<'_>,
+    place: Option<&WordRoom>,
     v: &DrawnVoice<'_>,
 ) -> Result<(), Memory>
     requires lengths { length v.now.measures ≡ length frame.now.lengths.now }
@@ -37,7 +37,7 @@ fn put_own_part(
 /// What voices have between columns, one after the other.
 fn bridges_on(
     alloc: Global,
-    frame: &Frame<'_>,
+    frame: &SystemFrame<'_>,
     voices: &[DrawnVoice<'_>],
 ) -> Result<Row<Bridge>, Memory>
     requires each { All (λ v. length v.measures ≡ length frame.now.lengths.now) voices.now }
@@ -53,7 +53,7 @@ fn bridges_on(
 }
 
 /// Lays all that voices have in columns but syllables and texts.
-fn put_bare_parts(pen: &mut Pen, frame: &Frame<'_>, voices: &[DrawnVoice<'_>]) -> Result<(), Memory>
+fn put_bare_parts(pen: &mut MarkPen, frame: &SystemFrame<'_>, voices: &[DrawnVoice<'_>]) -> Result<(), Memory>
     requires each { All (λ v. length v.measures ≡ length frame.now.lengths.now) voices.now }
     requires good { All (λ v. AreGoodMeasures v.measures) voices.now }
     ensures { OnOk result (pen.new.marks ≡ pen.old.marks ++ flat_map (own_part frame.now.keys.now frame.now.lengths.now None frame.now.a frame.now.b) voices.now) }
@@ -66,13 +66,13 @@ fn put_bare_parts(pen: &mut Pen, frame: &Frame<'_>, voices: &[DrawnVoice<'_>]) -
 
 /// The room that marks leave to syllables and texts.
 #[tactic(auto, unfolding(crate::specs::Staff::room_over))]
-fn room_over(verses: u8, marks: &[Laid]) -> Room
+fn room_over(verses: u8, marks: &[Laid]) -> StaffRoom
     ensures { result ≡ room_over verses marks.now }
 {
     let heights = staff_heights(marks);
-    Room {
-        low: cut(heights.low),
-        high: cut(heights.high),
+    StaffRoom {
+        low: cut_dy(heights.low),
+        high: cut_dy(heights.high),
         verses,
     }
 }
@@ -84,8 +84,8 @@ fn staff_over(marks: Row<Laid>) -> StaffMarks
 {
     let heights = staff_heights(marks.as_slice());
     StaffMarks {
-        low: cut(heights.low),
-        high: cut(heights.high),
+        low: cut_dy(heights.low),
+        high: cut_dy(heights.high),
         marks,
     }
 }
@@ -103,7 +103,7 @@ pub fn verses_on(voices: &[DrawnVoice<'_>]) -> u8
 }
 
 /// Whether voices have no syllables and no texts in a system.
-fn is_silent_staff(frame: &Frame<'_>, voices: &[DrawnVoice<'_>]) -> bool
+fn is_silent_staff(frame: &SystemFrame<'_>, voices: &[DrawnVoice<'_>]) -> bool
     requires { All (λ v. length v.measures ≡ length frame.now.lengths.now) voices.now }
     ensures { result ≡ is_silent_staff frame.now.a frame.now.b voices.now }
 {
@@ -119,24 +119,24 @@ fn is_silent_staff(frame: &Frame<'_>, voices: &[DrawnVoice<'_>]) -> bool
 /// `bridges` are what it has between columns.
 fn room_on(
     alloc: Global,
-    frame: &Frame<'_>,
+    frame: &SystemFrame<'_>,
     voices: &[DrawnVoice<'_>],
     bridges: &[Bridge],
-) -> Result<Room, Memory>
+) -> Result<StaffRoom, Memory>
     requires each { All (λ v. length v.measures ≡ length frame.now.lengths.now) voices.now }
     requires good { All (λ v. AreGoodMeasures v.measures) voices.now }
     requires verses { verses_on voices.now ≤ 128 }
     requires bridges { bridges.now ≡ flat_map (bridges_of frame.now.lengths.now frame.now.a frame.now.b) voices.now }
-    ensures { IfOk result (HasRoom frame.now.keys.now frame.now.lengths.now frame.now.a frame.now.b voices.now) }
+    ensures { IfOk result (FitsRoom frame.now.keys.now frame.now.lengths.now frame.now.a frame.now.b voices.now) }
 {
     if is_silent_staff(frame, voices) {
-        return Ok(Room {
+        return Ok(StaffRoom {
             low: 0,
             high: 2000,
             verses: 0,
         });
     }
-    let mut pen = Pen::new(alloc);
+    let mut pen = MarkPen::new(alloc);
     put_bare_parts(&mut pen, frame, voices)?;
     put_bridges(&mut pen.marks, frame.keys, bridges)?;
     Ok(room_over(verses_on(voices), pen.marks.as_slice()))
@@ -144,21 +144,21 @@ fn room_on(
 
 /// The place of the next voice of a staff, behind the verses and the texts of the one before it; where
 /// none follows, that of the last.
-fn place_behind(
+fn word_room_after(
     alloc: Global,
     columns: usize,
-    place: Place,
+    place: WordRoom,
     verses: u8,
     part: &[Laid],
     follows: bool,
-) -> Result<Place, Memory>
+) -> Result<WordRoom, Memory>
     requires { place.first + verses ≤ 129 }
-    ensures { IfOk result (λ p. p ≡ place_behind columns place verses part.now follows) }
+    ensures { IfOk result (λ p. p ≡ word_room_after columns place verses part.now follows) }
 {
     if !follows {
         return Ok(place);
     }
-    Ok(Place {
+    Ok(WordRoom {
         room: place.room,
         first: place.first + verses,
         before: texts_behind(alloc, columns, place.before.as_slice(), part)?,
@@ -168,8 +168,8 @@ fn place_behind(
 /// What a voice has in columns, with its syllables and texts at their place.
 fn written_part(
     alloc: Global,
-    frame: &Frame<'_>,
-    place: &Place,
+    frame: &SystemFrame<'_>,
+    place: &WordRoom,
     v: &DrawnVoice<'_>,
 ) -> Result<Row<Laid>, Memory>
     requires lengths { length v.now.measures ≡ length frame.now.lengths.now }
@@ -177,7 +177,7 @@ fn written_part(
     requires verses { place.now.first ≤ 129 }
     ensures { IfOk result (λ r. r ≡ own_part frame.now.keys.now frame.now.lengths.now (Some place.now) frame.now.a frame.now.b v.now) }
 {
-    let mut pen = Pen::new(alloc);
+    let mut pen = MarkPen::new(alloc);
     put_own_part(&mut pen, frame, Some(place), v)?;
     Ok(pen.marks)
 }
@@ -185,8 +185,8 @@ fn written_part(
 /// What each voice of a staff has in columns, behind the verses and the texts of those before it.
 fn written_parts(
     alloc: Global,
-    frame: &Frame<'_>,
-    room: Room,
+    frame: &SystemFrame<'_>,
+    room: StaffRoom,
     voices: &[DrawnVoice<'_>],
 ) -> Result<Row<Row<Laid>>, Memory>
     requires each { All (λ v. length v.measures ≡ length frame.now.lengths.now) voices.now }
@@ -195,7 +195,7 @@ fn written_parts(
     ensures { IfOk result (λ r. r ≡ written_parts frame.now.keys.now frame.now.lengths.now room frame.now.a frame.now.b 1 [] voices.now) }
 {
     let mut parts = Row::new(alloc);
-    let mut place = Place {
+    let mut place = WordRoom {
         room,
         first: 1,
         before: Row::new(alloc),
@@ -205,7 +205,7 @@ fn written_parts(
         let part = written_part(alloc, frame, &place, v)?;
         let follows = !behind.is_empty();
         let columns = frame.keys.len();
-        place = place_behind(alloc, columns, place, v.verses, part.as_slice(), follows)?;
+        place = word_room_after(alloc, columns, place, v.verses, part.as_slice(), follows)?;
         parts.push(part)?;
         rest = behind;
     }
@@ -216,7 +216,7 @@ fn written_parts(
 #[tactic(auto, unfolding(crate::specs::Staff::staff_marks))]
 fn staff_marks(
     alloc: Global,
-    frame: &Frame<'_>,
+    frame: &SystemFrame<'_>,
     voices: &[DrawnVoice<'_>],
 ) -> Result<StaffMarks, Memory>
     requires each { All (λ v. length v.measures ≡ length frame.now.lengths.now) voices.now }
@@ -236,7 +236,7 @@ fn staff_marks(
 
 /// How many of these voices, from the first on, stand on the staff of the voice before them.
 pub fn lower_count(voices: &[DrawnVoice<'_>]) -> usize
-    ensures value { result ≡ prefix_len stands_lower voices.now }
+    ensures value { result ≡ prefix_len is_drawn_lower voices.now }
     ensures within { result ≤ length voices.now }
 {
     let mut count = 0;
@@ -252,13 +252,13 @@ pub fn lower_count(voices: &[DrawnVoice<'_>]) -> usize
 /// The staves of voices.
 pub(crate) fn staves(
     alloc: Global,
-    frame: &Frame<'_>,
+    frame: &SystemFrame<'_>,
     voices: &[DrawnVoice<'_>],
 ) -> Result<Row<StaffMarks>, Memory>
     requires each { All (λ v. length v.measures ≡ length frame.now.lengths.now) voices.now }
     requires good { All (λ v. AreGoodMeasures v.measures) voices.now }
     requires verses { verses_on voices.now ≤ 128 }
-    ensures staves { IfOk result (λ r. r ≡ map (staff_marks frame.now.keys.now frame.now.lengths.now frame.now.a frame.now.b) (grouped stands_lower voices.now)) }
+    ensures staves { IfOk result (λ r. r ≡ map (staff_marks frame.now.keys.now frame.now.lengths.now frame.now.a frame.now.b) (grouped is_drawn_lower voices.now)) }
     ensures lines { IfOk result (All CoversLines) }
 {
     let mut staves = Row::new(alloc);

@@ -1,13 +1,13 @@
 ghost use Rattle.std.specs.Prelude.{◌≡◌, ◌≤◌, ◌<◌, map, All, IfOk};
-ghost use Rattle.{mus_score.specs.GoodScore.{IsGoodScore}, mus_time.specs.{Keys.IsInSystem, Onsets.timeline_of}, mus_drawn.specs.{Drawn.drawn_voice, Good.AreGoodMeasures}};
+ghost use Rattle.{mus_score.specs.GoodScore.{IsGoodScore}, mus_onsets.specs.{Keys.IsInSystem, Onsets.timeline_of}, mus_drawn.specs.{Drawn.drawn_voice, Good.AreGoodMeasures}};
 ghost use Rattle.{mus_laid.specs.Boxes.{AreGoodMarks}, mus_marks.specs.{Staff.CoversLines, System.IsCall}};
 
 use crate::staves::staves;
 use mus_drawn::DrawnVoice;
-use mus_keys::{Frame, draw_voices, system_keys};
+use mus_time::{SystemFrame, draw_voices, system_keys};
 use mus_laid::SystemMarks;
 use mus_score::Score;
-use mus_time::Timeline;
+use mus_onsets::Timeline;
 use mus_units::{Memory, Row};
 use std::alloc::Global;
 
@@ -33,7 +33,7 @@ pub fn marks_of(
     ensures good { IfOk result (λ m. All (λ staff. AreGoodMarks staff.marks) m.staves) }
 {
     let keys = system_keys(alloc, s, voices, t, a, b)?;
-    let frame = Frame {
+    let frame = SystemFrame {
         keys: keys.as_slice(),
         lengths: t.lengths.as_slice(),
         a,

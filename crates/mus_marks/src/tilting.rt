@@ -1,15 +1,15 @@
 ghost use Rattle.std.specs.Prelude.{◌≡◌, ◌≤◌, ◌<◌, ◌+◌, length, map, pos, slice_index_or, slice_range, All, IfOk};
-ghost use Rattle.{mus_score.specs.{GoodScore.IsGoodScore, Seats.grouped}, mus_time.specs.{Keys.{AreKeys, IsInSystem, called_keys}, Onsets.timeline_of, Ranks.AreRanked}};
-ghost use Rattle.{mus_drawn.specs.{Drawn.drawn_voice, Good.AreGoodMeasures}, mus_stems.specs.Slope.{anchor_of}, mus_laid.specs.{Boxes.AreGoodMarks, Shapes.AreAlike}};
-ghost use Rattle.mus_marks.specs.{Staff.{CoversLines, verses_on}, System.{IsCall, stands_lower}, Tilt.{CanTilt, AllCanTilt, ends_over, sloped_over, over, event_ended, end_left, measure_ended, measure_left, voice_ended, voice_left, tilted_staff, AreAbscissas, IsTilted}};
+ghost use Rattle.{mus_score.specs.{GoodScore.IsGoodScore, Seats.grouped}, mus_onsets.specs.{Keys.{AreKeys, IsInSystem, called_keys}, Onsets.timeline_of, Ranks.AreRanked}};
+ghost use Rattle.{mus_drawn.specs.{Drawn.drawn_voice, Good.AreGoodMeasures}, mus_stems.specs.Slope.{slope_input}, mus_laid.specs.{Boxes.AreGoodMarks, Shapes.HaveSameShapes}};
+ghost use Rattle.mus_marks.specs.{Staff.{CoversLines, verses_on}, System.{IsCall, is_drawn_lower}, Tilt.{CanTilt, AllCanTilt, ends_over, sloped_over, over, event_ended, end_left, measure_ended, measure_left, voice_ended, voice_left, tilted_staff, AreAbscissas, IsTilted}};
 
 use crate::staves::staves;
 use mus_drawn::{DrawnEvent, DrawnMeasure, DrawnVoice};
-use mus_keys::{Frame, draw_voices, note_key, system_keys};
+use mus_time::{SystemFrame, draw_voices, note_key, system_keys};
 use mus_laid::{StaffMarks, SystemMarks};
 use mus_score::Score;
-use mus_stems::{Anchor, ends_for};
-use mus_time::{ColumnKey, Timeline, next_rank};
+use mus_stems::{SlopeInput, ends_for};
+use mus_onsets::{ColumnKey, Timeline, next_rank};
 use mus_units::{Memory, Row};
 use std::alloc::Global;
 use std::mem;
@@ -18,11 +18,11 @@ use std::mem;
 const EVENTS_OF_MEASURE: usize = 16;
 
 /// What the line of its beam takes from an event.
-#[tactic(auto, unfolding(mus_stems::specs::Slope::anchor_of))]
-fn anchor_at(at: &[i64], rank: u32, e: &DrawnEvent<'_>) -> Anchor
-    ensures { result ≡ anchor_of e.now.plan (slice_index_or at.now rank (pos 0)) }
+#[tactic(auto, unfolding(mus_stems::specs::Slope::slope_input))]
+fn anchor_at(at: &[i64], rank: u32, e: &DrawnEvent<'_>) -> SlopeInput
+    ensures { result ≡ slope_input e.now.plan (slice_index_or at.now rank (pos 0)) }
 {
-    Anchor {
+    SlopeInput {
         up: e.plan.up,
         own: e.plan.own,
         group: e.plan.group,
@@ -33,7 +33,7 @@ fn anchor_at(at: &[i64], rank: u32, e: &DrawnEvent<'_>) -> Anchor
 /// The ends of the events of a measure on the lines of their beams; `anchors` is room to work in.
 fn ends_over(
     alloc: Global,
-    anchors: &mut Row<Anchor>,
+    anchors: &mut Row<SlopeInput>,
     keys: &[ColumnKey],
     near: &mut usize,
     at: &[i64],
@@ -80,7 +80,7 @@ fn sloped_over(
 /// The ends of the events of voices in a system, on the lines of their beams.
 fn sloped_voices(
     alloc: Global,
-    frame: &Frame<'_>,
+    frame: &SystemFrame<'_>,
     at: &[i64],
     voices: &[DrawnVoice<'_>],
 ) -> Result<Row<Row<Row<i32>>>, Memory>
@@ -162,7 +162,7 @@ fn exchange_voices(voices: &mut [DrawnVoice<'_>], a: u32, ends: &mut [Row<Row<i3
 /// The staves of voices over abscissas. The voices are left as they were.
 fn tilted_staves(
     alloc: Global,
-    frame: &Frame<'_>,
+    frame: &SystemFrame<'_>,
     at: &[i64],
     voices: &mut [DrawnVoice<'_>],
 ) -> Result<Row<StaffMarks>, Memory>
@@ -171,7 +171,7 @@ fn tilted_staves(
     requires verses { verses_on voices.old ≤ 128 }
     requires slopes { All (λ v. AllCanTilt frame.now.keys.now at.now frame.now.a (slice_range v.measures frame.now.a frame.now.b)) voices.old }
     ensures kept { voices.new ≡ voices.old }
-    ensures staves { IfOk result (λ r. r ≡ map (tilted_staff frame.now.keys.now frame.now.lengths.now at.now frame.now.a frame.now.b) (grouped stands_lower voices.old)) }
+    ensures staves { IfOk result (λ r. r ≡ map (tilted_staff frame.now.keys.now frame.now.lengths.now at.now frame.now.a frame.now.b) (grouped is_drawn_lower voices.old)) }
     ensures lines { IfOk result (All CoversLines) }
 {
     let mut ends = sloped_voices(alloc, frame, at, voices)?;
@@ -204,12 +204,12 @@ pub fn tilt_of(
     requires places { AreAbscissas s.now t.now a b at.now }
     ensures kept { voices.new ≡ voices.old }
     ensures tilted { IfOk result (IsTilted s.now t.now a b at.now) }
-    ensures alike { IfOk result (λ m. (flat : SystemMarks) → IsCall s.now t.now a b flat → AreAlike flat m) }
+    ensures alike { IfOk result (λ m. (flat : SystemMarks) → IsCall s.now t.now a b flat → HaveSameShapes flat m) }
     ensures places { IfOk result (λ m. All (IsInSystem t.now.lengths a b) m.keys) }
     ensures lines { IfOk result (λ m. All CoversLines m.staves) }
     ensures good { IfOk result (λ m. All (λ staff. AreGoodMarks staff.marks) m.staves) }
 {
-    let frame = Frame {
+    let frame = SystemFrame {
         keys: keys.as_slice(),
         lengths: t.lengths.as_slice(),
         a,
@@ -237,7 +237,7 @@ pub fn tilt(
     requires within { b ≤ s.now.measures }
     requires places { AreAbscissas s.now t.now a b at.now }
     ensures tilted { IfOk result (IsTilted s.now t.now a b at.now) }
-    ensures alike { IfOk result (λ m. (flat : SystemMarks) → IsCall s.now t.now a b flat → AreAlike flat m) }
+    ensures alike { IfOk result (λ m. (flat : SystemMarks) → IsCall s.now t.now a b flat → HaveSameShapes flat m) }
     ensures places { IfOk result (λ m. All (IsInSystem t.now.lengths a b) m.keys) }
     ensures lines { IfOk result (λ m. All CoversLines m.staves) }
     ensures good { IfOk result (λ m. All (λ staff. AreGoodMarks staff.marks) m.staves) }

@@ -12,5 +12,5 @@ pub mod steps;
 
 pub use alteration::in_force;
 pub use circle::{Mode, signature};
-pub use signs::{key_of, lay};
+pub use signs::{key_of, with_signs};
 pub use steps::pitch_of_steps;

@@ -1,5 +1,5 @@
 ghost use Rattle.std.specs.Prelude.{◌≡◌, ℕ, ◌==◌, IfOk, map, take, reverse, not, filter};
-ghost use Rattle.mus_units.specs.{Pitch.number_of, Good.AreGoodSigns, Good.IsGoodKey, Good.same_letter};
+ghost use Rattle.mus_units.specs.{Pitch.letter_number, Good.AreGoodSigns, Good.IsGoodKey, Good.same_letter};
 ghost use Rattle.mus_units.specs.declared.pitch.Alter.TheVariants as alters;
 ghost use Rattle.mus_pitch.specs.{Circle.{signs_of, signed, sharp_order}, Signs.{laid, with_sign}};
 
@@ -69,7 +69,7 @@ fn first_flats(alloc: Global, count: usize) -> Result<Row<Sign>, Memory>
 
 /// A key with further signs laid on it, one after another: each takes away the
 /// entry of its letter and goes last.
-pub fn lay(alloc: Global, key: &Key, adds: &[Sign]) -> Result<Key, Memory>
+pub fn with_signs(alloc: Global, key: &Key, adds: &[Sign]) -> Result<Key, Memory>
     requires { IsGoodKey key.now }
     ensures value { IfOk result (λ new. new.signs ≡ laid key.now.signs adds.now) }
     ensures good { IfOk result (λ new. IsGoodKey new) }

@@ -1,11 +1,11 @@
 ghost use Rattle.std.specs.{Prelude.◌≡◌, Prelude.pos, Int.int_div_euclid, Int.int_rem_euclid, Int.RustNames.unsigned_abs, List.slice_index_or};
-ghost use Rattle.mus_pitch.specs.Steps.{pitch_of_steps, scale};
+ghost use Rattle.mus_pitch.specs.Steps.{pitch_of_steps, scale_letters};
 
 use mus_units::{Letter, Pitch};
 
 /// The letter so many steps above C.
 fn letter_at(number: u32) -> Letter
-    ensures { result ≡ slice_index_or scale number Letter.C }
+    ensures { result ≡ slice_index_or scale_letters number Letter.C }
 {
     match number {
         0 => Letter::C,

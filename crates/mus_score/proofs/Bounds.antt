@@ -1,7 +1,7 @@
 -- What good music keeps: products on the way are small, durations are neither 0 nor too long, and no head is lost.
 use Rattle.std.{proofs.{Common.{◌≡◌, ℕ, zero, suc, ◌+◌, ◌*◌, ◌/◌, ◌≤◌, List, [], ◌∷◌, ◌++◌, map, Bool, true, false, ◌&&◌, max, length, length-append, refl, sym, ◌∙◌, ap, subst, nat_le, arith, lit≤, inl, inr, if◌then◌else◌, mul_assoc, one-mul, div-le_self, le-mul_of_pos_right, le_trans, add-mul, mul-le-mul_right}, lemmas.{Bool.{and_parts, cases_Bool, leb-true, Decides.nat_tests}, List.{Sums.{sum_by-cons, sum_by-append}, map-append, length-map, Elements.All-from_recursion}, Nat.{le-div, mul-le}}}, specs.List.{sum, sum_by, AllByRecursion, All}}
 use Rattle.mus_units.specs.{declared.value.Base.Base, declared.value.Value.Value, Value.base_length, Value.with_dots, Value.value_length, Value.whole_note}
-use Rattle.mus_score.specs.{Good.{IsGoodNode, judged, all_judged, tuplet_judged, good_step, judged_within, weight_step, weight, outside, IsGoodBody, is_note, is_rest, longest_ticks, IsGoodFlat, total_ticks, heads_in, flat_weight, flat_count}, Times.{all_products_fit, durations_within, duration_of, flats_of, InTuplets, Leafing, scaled, is_scalable, all_fit, sum_within, leaf, in_row, nothing, duration_step, duration_within, products_step, products_fit, leaves_step, leaves_within}, declared.{good.{Judged.Judged, Place.Place}, score.{Event.Event, Flat.Flat, Music.{Music, TheOpen.Music-F, TheFolds.{fold-roll-Music, map-Music, ind-Music}, TheViews.roll-Music}}, times.Waits.Waits}}
+use Rattle.mus_score.specs.{Good.{IsGoodNode, node_verdict, all_judged, tuplet_judged, good_step, judged_within, weight_step, weight, outside, IsGoodBody, is_good_note, is_rest, longest_ticks, IsGoodFlat, total_ticks, head_count, flat_weight, flat_count}, Times.{all_products_fit, durations_within, duration_of, flats_of, InTuplets, Leafing, scaled_ticks, is_scalable, all_fit, sum_within, leaf, in_row, no_pending_leaf, duration_step, duration_within, products_step, products_fit, leaves_step, leaves_within}, declared.{good.{NodeVerdict.NodeVerdict, NodeContext.NodeContext}, score.{Event.Event, Flat.Flat, Music.{Music, TheOpen.Music-F, TheFolds.{fold-roll-Music, map-Music, ind-Music}, TheViews.roll-Music}}, times.PendingLeaf.PendingLeaf}}
 
 -- The length of a value.
 base_low : (b : Base) → 81 ≤ base_length b
@@ -30,13 +30,13 @@ value_high v = omega (arith, base_high v.base, dots_high v.dots (base_length v.b
 abbrev HasTicks : Event → Type 0
 HasTicks e = e.ticks ≡ value_length e.value
 
-pub note_ticks : (e : Event) → is_note e ≡ true → HasTicks e
+pub note_ticks : (e : Event) → is_good_note e ≡ true → HasTicks e
 note_ticks e h = grind (arith, nat_tests)
 
-pub note_dots : (e : Event) → is_note e ≡ true → e.value.dots ≤ 3
+pub note_dots : (e : Event) → is_good_note e ≡ true → e.value.dots ≤ 3
 note_dots e h = grind (arith, nat_tests)
 
-note_heads : (e : Event) → is_note e ≡ true → 1 ≤ length e.heads
+note_heads : (e : Event) → is_good_note e ≡ true → 1 ≤ length e.heads
 note_heads e h = grind (arith, nat_tests)
 
 pub rest_ticks_inner : (e : Event) → is_rest true e ≡ true → HasTicks e
@@ -63,7 +63,7 @@ nines_some : (n : ℕ) → 1 ≤ nines n
 nines_some zero = omega arith
 nines_some (suc n) = omega (arith, nines_some n)
 
-pub record Around (at : Place) (qs ps : ℕ) : Type 0 where
+pub record Around (at : NodeContext) (qs ps : ℕ) : Type 0 where
   pub some_q : 1 ≤ qs
   pub some_p : 1 ≤ ps
   pub few_q : qs * nines at.deeper ≤ 81
@@ -77,7 +77,7 @@ more_nines : (a b n : ℕ) → a * (9 * nines n) ≤ 81 → b ≤ 9 → a * b * 
 more_nines a b n h k = let e : a * 9 * nines n ≤ 81 = subst (λ z. z ≤ 81) (sym (mul_assoc a 9 (nines n))) h in le_trans (mul-le (a * b) (nines n) (a * 9) (nines n) (mul-le a b a 9 (omega arith) k) (omega arith)) e
 
 -- ticks that may stand at a place
-pub record MayLast (at : Place) (ticks : ℕ) : Type 0 where
+pub record MayLast (at : NodeContext) (ticks : ℕ) : Type 0 where
   pub low : 1 ≤ ticks
   pub high : ticks ≤ 99 * whole_note
   pub long : at.inner ≡ true → 81 ≤ ticks
@@ -86,33 +86,33 @@ scalable : (ticks qs ps : ℕ) → ticks ≤ 99 * whole_note → qs ≤ 81 → 1
 unfolding is_scalable
 scalable ticks qs ps t q p = let h : ticks * qs ≤ 99 * whole_note * 81 = mul-le ticks qs (99 * whole_note) 81 t q in grind (arith, nat_tests)
 
-scaled_high : (ticks qs ps : ℕ) → ticks ≤ 99 * whole_note → qs ≤ 81 → scaled ticks qs ps ≤ longest_ticks
+scaled_high : (ticks qs ps : ℕ) → ticks ≤ 99 * whole_note → qs ≤ 81 → scaled_ticks ticks qs ps ≤ longest_ticks
 scaled_high ticks qs ps t q = le_trans (div-le_self (ticks * qs) ps) (mul-le ticks qs (99 * whole_note) 81 t q)
 
-scaled_low : (ticks qs ps : ℕ) → ps ≤ ticks → 1 ≤ qs → 1 ≤ ps → 1 ≤ scaled ticks qs ps
+scaled_low : (ticks qs ps : ℕ) → ps ≤ ticks → 1 ≤ qs → 1 ≤ ps → 1 ≤ scaled_ticks ticks qs ps
 scaled_low ticks qs ps t q p = le-div 1 (ticks * qs) ps p (subst (λ z. z ≤ ticks * qs) (sym (one-mul ps)) (le_trans t (le-mul_of_pos_right ticks q)))
 
-reaches : (at : Place) (ticks qs ps : ℕ) → Around at qs ps → MayLast at ticks → ps ≤ ticks
+reaches : (at : NodeContext) (ticks qs ps : ℕ) → Around at qs ps → MayLast at ticks → ps ≤ ticks
 reaches at ticks qs ps a m = elim (cases_Bool at.inner) [ inl i ↦ le_trans (within_nines ps at.deeper a.few_p) (m.long i) | inr o ↦ subst (λ z. z ≤ ticks) (sym (a.plain o)) m.low ]
 
 -- What a node or several keep at a place, where w is their weight, f says that products fit, d is their duration and l their leaves.
-pub record Kept (at : Place) (w : ℕ) (f : InTuplets Bool) (d : InTuplets ℕ) (l : Leafing) (qs ps : ℕ) : Type 0 where
+pub record Kept (at : NodeContext) (w : ℕ) (f : InTuplets Bool) (d : InTuplets ℕ) (l : Leafing) (qs ps : ℕ) : Type 0 where
   pub fits : f qs ps ≡ true
   pub short : d qs ps ≤ w * longest_ticks
-  pub flats : (waits : Waits) → AllByRecursion IsGoodFlat (l qs ps waits).flats
-  pub total : (waits : Waits) → total_ticks (l qs ps waits).flats ≡ d qs ps
-  pub weights : (waits : Waits) → sum_by flat_weight (l qs ps waits).flats + heads_in (l qs ps waits).waits.graces ≡ w + heads_in waits.graces
-  pub counts : (waits : Waits) → sum_by flat_count (l qs ps waits).flats + length (l qs ps waits).waits.graces ≤ w + length waits.graces
-  pub few : (waits : Waits) → length (l qs ps waits).flats ≤ w
-  pub notes : at.grace ≡ true → (waits : Waits) → heads_in (map (λ x. x.event) (l qs ps waits).flats) ≡ w
+  pub flats : (waits : PendingLeaf) → AllByRecursion IsGoodFlat (l qs ps waits).flats
+  pub total : (waits : PendingLeaf) → total_ticks (l qs ps waits).flats ≡ d qs ps
+  pub weights : (waits : PendingLeaf) → sum_by flat_weight (l qs ps waits).flats + head_count (l qs ps waits).waits.graces ≡ w + head_count waits.graces
+  pub counts : (waits : PendingLeaf) → sum_by flat_count (l qs ps waits).flats + length (l qs ps waits).waits.graces ≤ w + length waits.graces
+  pub few : (waits : PendingLeaf) → length (l qs ps waits).flats ≤ w
+  pub notes : at.grace ≡ true → (waits : PendingLeaf) → head_count (map (λ x. x.event) (l qs ps waits).flats) ≡ w
 
-abbrev Keeps : (Place → Judged) → ℕ → InTuplets Bool → InTuplets ℕ → Leafing → Type 0
-Keeps j w f d l = (at : Place) (qs ps : ℕ) → Around at qs ps → (j at).good ≡ true → Kept at w f d l qs ps
+abbrev Keeps : (NodeContext → NodeVerdict) → ℕ → InTuplets Bool → InTuplets ℕ → Leafing → Type 0
+Keeps j w f d l = (at : NodeContext) (qs ps : ℕ) → Around at qs ps → (j at).good ≡ true → Kept at w f d l qs ps
 
-event_keeps : (at : Place) (qs ps : ℕ) (e : Event) (w : ℕ) → Around at qs ps → MayLast at e.ticks → e.value.dots ≤ 3 → w ≡ max 1 (length e.heads) → (at.grace ≡ true → length e.heads ≡ w) → Kept at w (is_scalable e.ticks) (scaled e.ticks) (leaf e) qs ps
+event_keeps : (at : NodeContext) (qs ps : ℕ) (e : Event) (w : ℕ) → Around at qs ps → MayLast at e.ticks → e.value.dots ≤ 3 → w ≡ max 1 (length e.heads) → (at.grace ≡ true → length e.heads ≡ w) → Kept at w (is_scalable e.ticks) (scaled_ticks e.ticks) (leaf e) qs ps
 event_keeps at qs ps e w a m dots is notes =
-    let q : qs ≤ 81 = within_nines qs at.deeper a.few_q in let high : scaled e.ticks qs ps ≤ longest_ticks = scaled_high e.ticks qs ps m.high q in
-    let low : 1 ≤ scaled e.ticks qs ps = scaled_low e.ticks qs ps (reaches at e.ticks qs ps a m) a.some_q a.some_p in
+    let q : qs ≤ 81 = within_nines qs at.deeper a.few_q in let high : scaled_ticks e.ticks qs ps ≤ longest_ticks = scaled_high e.ticks qs ps m.high q in
+    let low : 1 ≤ scaled_ticks e.ticks qs ps = scaled_low e.ticks qs ps (reaches at e.ticks qs ps a m) a.some_q a.some_p in
     record {
       fits = scalable e.ticks qs ps m.high q a.some_p;
       short = omega arith;
@@ -124,7 +124,7 @@ event_keeps at qs ps e w a m dots is notes =
       notes = λ g waits. let n : length e.heads ≡ w = notes g in omega arith;
     }
 
-note_keeps : (e : Event) → Keeps (λ at. judged (is_note e) true) (length e.heads) (is_scalable e.ticks) (scaled e.ticks) (leaf e)
+note_keeps : (e : Event) → Keeps (λ at. node_verdict (is_good_note e) true) (length e.heads) (is_scalable e.ticks) (scaled_ticks e.ticks) (leaf e)
 note_keeps e at qs ps a good =
     let t : e.ticks ≡ value_length e.value = note_ticks e good in let l : 81 ≤ value_length e.value = value_low e.value in let h : value_length e.value ≤ 99 * whole_note = value_high e.value in
     let n : 1 ≤ length e.heads = note_heads e good in event_keeps at qs ps e (length e.heads) a (record { low = omega arith; high = omega arith; long = λ _. omega arith }) (note_dots e good) (omega arith) (λ _. refl)
@@ -139,13 +139,13 @@ rest_lasts true e h =
     (omega arith, omega arith, λ _. omega arith)
 rest_lasts false e h = (rest_ticks_low e h, rest_ticks_high e h, λ i. absurd (cc))
 
-rest_keeps : (e : Event) → Keeps (λ at. judged (if at.grace then false else is_rest at.inner e) true) 1 (is_scalable e.ticks) (scaled e.ticks) (leaf e)
+rest_keeps : (e : Event) → Keeps (λ at. node_verdict (if at.grace then false else is_rest at.inner e) true) 1 (is_scalable e.ticks) (scaled_ticks e.ticks) (leaf e)
 rest_keeps e at qs ps a good =
     let g = guarded at.grace (is_rest at.inner e) good in let t = rest_lasts at.inner e g.1 in let z : length e.heads ≡ 0 = rest_heads at.inner e g.1 in let o : at.grace ≡ false = g.0 in
     event_keeps at qs ps e 1 a (record { low = t.0; high = t.1; long = t.2 }) (rest_dots at.inner e g.1) (omega arith) (λ k. absurd (cc))
 
 -- Lists of nodes.
-none_kept : (at : Place) (qs ps : ℕ) → Kept at 0 (all_fit []) (sum_within []) (in_row []) qs ps
+none_kept : (at : NodeContext) (qs ps : ℕ) → Kept at 0 (all_fit []) (sum_within []) (in_row []) qs ps
 none_kept at qs ps = record {
   fits = refl;
   short = omega arith;
@@ -161,7 +161,7 @@ all_good_append : (xs ys : List Flat) → AllByRecursion IsGoodFlat xs → AllBy
 all_good_append [] ys a b = b
 all_good_append (x ∷ xs) ys a b = (a.0, all_good_append xs ys a.1 b)
 
-more_kept : (at : Place) (qs ps w v : ℕ) (f : InTuplets Bool) (fs : List (InTuplets Bool)) (d : InTuplets ℕ) (ds : List (InTuplets ℕ)) (l : Leafing) (ls : List Leafing) →
+more_kept : (at : NodeContext) (qs ps w v : ℕ) (f : InTuplets Bool) (fs : List (InTuplets Bool)) (d : InTuplets ℕ) (ds : List (InTuplets ℕ)) (l : Leafing) (ls : List Leafing) →
     Kept at w f d l qs ps → Kept at v (all_fit fs) (sum_within ds) (in_row ls) qs ps → Kept at (w + v) (all_fit (f ∷ fs)) (sum_within (d ∷ ds)) (in_row (l ∷ ls)) qs ps
 more_kept at qs ps w v f fs d ds l ls a b = record {
   fits = let x = a.fits in let y = b.fits in grind (arith, nat_tests);
@@ -178,8 +178,8 @@ more_kept at qs ps w v f fs d ds l ls a b = record {
       let e = length-append (l qs ps waits).flats (in_row ls qs ps (l qs ps waits).waits).flats in let x = a.few waits in let y = b.few (l qs ps waits).waits in omega arith;
   notes = λ g waits.
       let fs = (l qs ps waits).flats in let gs = (in_row ls qs ps (l qs ps waits).waits).flats in
-      let e : heads_in (map (λ x. x.event) (fs ++ gs)) ≡ heads_in (map (λ x. x.event) fs) + heads_in (map (λ x. x.event) gs) =
-      ap heads_in (map-append (λ x. x.event) fs gs) ∙ sum_by-append (λ x. length x.heads) (map (λ x. x.event) fs) (map (λ x. x.event) gs) in
+      let e : head_count (map (λ x. x.event) (fs ++ gs)) ≡ head_count (map (λ x. x.event) fs) + head_count (map (λ x. x.event) gs) =
+      ap head_count (map-append (λ x. x.event) fs gs) ∙ sum_by-append (λ x. length x.heads) (map (λ x. x.event) fs) (map (λ x. x.event) gs) in
       let x = a.notes g waits in let y = b.notes g (l qs ps waits).waits in omega arith;
 }
 
@@ -209,15 +209,15 @@ grace_keeps ms slash body at qs ps a good =
       flats = λ waits. tt;
       total = λ waits. refl;
       weights = λ waits.
-          let n = inside.notes refl nothing in let e = sum_by-append (λ x. length x.heads) waits.graces (map (λ x. x.event) (in_row (map leaves_within ms) 1 1 nothing).flats) in omega arith;
+          let n = inside.notes refl no_pending_leaf in let e = sum_by-append (λ x. length x.heads) waits.graces (map (λ x. x.event) (in_row (map leaves_within ms) 1 1 no_pending_leaf).flats) in omega arith;
       counts = λ waits.
-          let n = inside.few nothing in let gs = (in_row (map leaves_within ms) 1 1 nothing).flats in let e = length-append waits.graces (map (λ x. x.event) gs) in
+          let n = inside.few no_pending_leaf in let gs = (in_row (map leaves_within ms) 1 1 no_pending_leaf).flats in let e = length-append waits.graces (map (λ x. x.event) gs) in
           let k = length-map gs (λ (x : Flat). x.event) in omega arith;
       few = λ waits. omega arith;
       notes = λ k. absurd (cc);
     }
 
-pub record GoodTuplet (p q deeper : ℕ) (j : Place → Judged) : Type 0 where
+pub record GoodTuplet (p q deeper : ℕ) (j : NodeContext → NodeVerdict) : Type 0 where
   pub some_p : 1 ≤ p
   pub few_p : p ≤ 9
   pub some_q : 1 ≤ q
@@ -230,13 +230,13 @@ tuplet_parts p q n b h =
     let c = and_parts (nat_le 2 p && nat_le p 9 && nat_le 1 q) (nat_le q 9) d.0 in let b = and_parts (nat_le 2 p && nat_le p 9) (nat_le 1 q) c.0 in let a = and_parts (nat_le 2 p) (nat_le p 9) b.0 in
     (leb-true 2 p a.0, leb-true p 9 a.1, leb-true 1 q b.1, leb-true q 9 c.1, e.1)
 
-pub deeper_good : (p q deeper : ℕ) (js : List (Place → Judged)) → (tuplet_judged p q js deeper).good ≡ true → (d : ℕ) × (deeper ≡ suc d) × GoodTuplet p q d (all_judged js)
+pub deeper_good : (p q deeper : ℕ) (js : List (NodeContext → NodeVerdict)) → (tuplet_judged p q js deeper).good ≡ true → (d : ℕ) × (deeper ≡ suc d) × GoodTuplet p q d (all_judged js)
 deeper_good p q zero js h = absurd (cc)
 deeper_good p q (suc d) js h =
     let inside = all_judged js (record { deeper = d; inner = true; grace = false }) in let t = tuplet_parts p q inside.some inside.good h in
     (d, refl, record { some_p = omega (arith, t.0); few_p = t.1; some_q = t.2; few_q = t.3; inside = t.4 })
 
-pub tuplet_good : (g : Bool) (p q deeper : ℕ) (js : List (Place → Judged)) → (if g then judged false false else tuplet_judged p q js deeper).good ≡ true → (g ≡ false) × ((d : ℕ) × (deeper ≡ suc d) × GoodTuplet p q d (all_judged js))
+pub tuplet_good : (g : Bool) (p q deeper : ℕ) (js : List (NodeContext → NodeVerdict)) → (if g then node_verdict false false else tuplet_judged p q js deeper).good ≡ true → (g ≡ false) × ((d : ℕ) × (deeper ≡ suc d) × GoodTuplet p q d (all_judged js))
 tuplet_good true p q deeper js h = absurd (cc)
 tuplet_good false p q deeper js h = (refl, deeper_good p q deeper js h)
 
@@ -265,16 +265,16 @@ tuplet_keeps p q ms body at qs ps a good =
     }
 
 -- Every node.
-keeps_along : (i j : Place → Judged) (v w : ℕ) (e f : InTuplets Bool) (c d : InTuplets ℕ) (k l : Leafing) → i ≡ j → v ≡ w → e ≡ f → c ≡ d → k ≡ l → Keeps i v e c k → Keeps j w f d l
+keeps_along : (i j : NodeContext → NodeVerdict) (v w : ℕ) (e f : InTuplets Bool) (c d : InTuplets ℕ) (k l : Leafing) → i ≡ j → v ≡ w → e ≡ f → c ≡ d → k ≡ l → Keeps i v e c k → Keeps j w f d l
 keeps_along i j v w e f c d k l ij vw ef cd kl h = subst (λ z. Keeps j w f d z) kl (subst (λ z. Keeps j w f z k) cd (subst (λ z. Keeps j w z c k) ef (subst (λ z. Keeps j z e c k) vw (subst (λ z. Keeps z v e c k) ij h))))
 
 abbrev StepKeeps : Music-F Music → Type 0
-StepKeeps x = Keeps (good_step (map-Music Music (Place → Judged) judged_within x)) (weight_step (map-Music Music ℕ weight x)) (products_step (map-Music Music (InTuplets Bool) products_fit x)) (duration_step (map-Music Music (InTuplets ℕ) duration_within x)) (leaves_step (map-Music Music Leafing leaves_within x))
+StepKeeps x = Keeps (good_step (map-Music Music (NodeContext → NodeVerdict) judged_within x)) (weight_step (map-Music Music ℕ weight x)) (products_step (map-Music Music (InTuplets Bool) products_fit x)) (duration_step (map-Music Music (InTuplets ℕ) duration_within x)) (leaves_step (map-Music Music Leafing leaves_within x))
 
 along : (x : Music-F Music) → StepKeeps x → MusicKeeps (roll-Music x)
 along x h =
     keeps_along _ _ _ _ _ _ _ _ _ _
-    (sym (fold-roll-Music (Place → Judged) good_step x))
+    (sym (fold-roll-Music (NodeContext → NodeVerdict) good_step x))
     (sym (fold-roll-Music ℕ weight_step x))
     (sym (fold-roll-Music (InTuplets Bool) products_step x))
     (sym (fold-roll-Music (InTuplets ℕ) duration_step x))
@@ -318,26 +318,26 @@ pub node_short : (m : Music) → IsGoodNode m → duration_of m ≤ 50000 * long
 node_short m good = omega (arith, body_short (m ∷ []) good)
 
 pub flats_good : (ms : List Music) → IsGoodBody ms → All IsGoodFlat (flats_of ms)
-flats_good ms good = All-from_recursion IsGoodFlat (flats_of ms) ((good_body ms good).flats nothing)
+flats_good ms good = All-from_recursion IsGoodFlat (flats_of ms) ((good_body ms good).flats no_pending_leaf)
 
 sum_of_nodes : (ms : List Music) → durations_within ms 1 1 ≡ sum_by duration_of ms
 sum_of_nodes [] = refl
 sum_of_nodes (m ∷ ms) = omega (arith, sum_of_nodes ms, sum_by-cons duration_of m ms)
 
 pub flats_total : (ms : List Music) → IsGoodBody ms → total_ticks (flats_of ms) ≡ sum_by duration_of ms
-flats_total ms good = (good_body ms good).total nothing ∙ sum_of_nodes ms
+flats_total ms good = (good_body ms good).total no_pending_leaf ∙ sum_of_nodes ms
 
 pub flats_short : (ms : List Music) → IsGoodBody ms → total_ticks (flats_of ms) ≤ 50000 * longest_ticks
-flats_short ms good = omega (arith, (good_body ms good).total nothing, body_short ms good)
+flats_short ms good = omega (arith, (good_body ms good).total no_pending_leaf, body_short ms good)
 
 pub flats_weigh : (ms : List Music) → IsGoodBody ms → sum_by flat_weight (flats_of ms) ≤ sum (map weight ms)
-flats_weigh ms good = omega (arith, (good_body ms good).weights nothing)
+flats_weigh ms good = omega (arith, (good_body ms good).weights no_pending_leaf)
 
 pub flats_few : (ms : List Music) → IsGoodBody ms → sum_by flat_count (flats_of ms) ≤ 50000
-flats_few ms good = omega (arith, (good_body ms good).counts nothing, good.few)
+flats_few ms good = omega (arith, (good_body ms good).counts no_pending_leaf, good.few)
 
 pub body_total : (ms : List Music) → IsGoodBody ms → durations_within ms 1 1 ≡ total_ticks (flats_of ms)
-body_total ms good = sym ((good_body ms good).total nothing)
+body_total ms good = sym ((good_body ms good).total no_pending_leaf)
 
 pub node_total : (m : Music) → IsGoodNode m → duration_of m ≡ total_ticks (flats_of (m ∷ []))
 node_total m good = omega (arith, body_total (m ∷ []) good)

@@ -2,7 +2,7 @@
 -- and so is a product of two numbers from 2 to 9 a divisor of that.
 use Rattle.std.{proofs.{Common.{◌≡◌, ℕ, zero, suc, ◌*◌, ◌/◌, ◌≤◌, List, [], ◌∷◌, ◌++◌, map, Bool, true, false, refl, sym, ◌∙◌, ap, subst, arith, if◌then◌else◌}, lemmas.Bool.and_parts, Math.Nat.mul-div_cancel_left}, specs.List.{AllByRecursion, AllZip}}
 use Rattle.mus_units.specs.{declared.value.Base.Base, declared.value.Value.Value, Value.base_length, Value.with_dots, Value.value_length, Parts.base_units, Parts.units_of}
-use Rattle.mus_score.{specs.{declared.{good.{Judged.Judged, Place.Place}, score.{Event.Event, Flat.Flat, Music.{Music, TheOpen.Music-F, TheFolds.{fold-roll-Music, map-Music, ind-Music}, TheViews.roll-Music}}, times.Waits.Waits}, Good.{IsGoodNode, judged, all_judged, good_step, judged_within, outside, IsGoodBody, is_note, is_rest}, Times.{flats_of, InTuplets, Leafing, scaled, leaf, in_row, nothing, leaves_step, leaves_within}, Even.{Ratio, ratios_in_row, ratios_step, ratios_within, IsEven, AreEven}}, proofs.Bounds.{note_ticks, note_dots, rest_ticks_inner, rest_dots, guarded, gathered, all_music, GoodTuplet, tuplet_good}}
+use Rattle.mus_score.{specs.{declared.{good.{NodeVerdict.NodeVerdict, NodeContext.NodeContext}, score.{Event.Event, Flat.Flat, Music.{Music, TheOpen.Music-F, TheFolds.{fold-roll-Music, map-Music, ind-Music}, TheViews.roll-Music}}, times.PendingLeaf.PendingLeaf}, Good.{IsGoodNode, node_verdict, all_judged, good_step, judged_within, outside, IsGoodBody, is_good_note, is_rest}, Times.{flats_of, InTuplets, Leafing, scaled_ticks, leaf, in_row, no_pending_leaf, leaves_step, leaves_within}, Even.{Ratio, ratios_in_row, ratios_step, ratios_within, IsEven, AreEvenEvents}}, proofs.Bounds.{note_ticks, note_dots, rest_ticks_inner, rest_dots, guarded, gathered, all_music, GoodTuplet, tuplet_good}}
 
 -- The ticks of a value.
 abbrev part : ℕ
@@ -28,7 +28,7 @@ left zero = 1
 left (suc n) = 2520 * left n
 
 -- the product of the p around a place divides what is left for the tuplets that may still stand in it
-pub record Divides (at : Place) (ps : ℕ) : Type 0 where
+pub record Divides (at : NodeContext) (ps : ℕ) : Type 0 where
   pub some : 1 ≤ ps
   pub factor : ℕ
   pub all : ps * (factor * left at.deeper) ≡ part
@@ -53,27 +53,27 @@ regrouped ps f p m l = omega arith
 taken_out : (t u qs ps k : ℕ) → t ≡ u * part → ps * k ≡ part → t * qs ≡ ps * (u * k * qs)
 taken_out t u qs ps k e h = let g : t * qs ≡ u * (ps * k) * qs = ap (λ z. z * qs) e ∙ ap (λ z. u * z * qs) (sym h) in let r : u * (ps * k) * qs ≡ ps * (u * k * qs) = omega arith in g ∙ r
 
-divided : (t qs ps k : ℕ) → 1 ≤ ps → t * qs ≡ ps * k → ps * scaled t qs ps ≡ t * qs
+divided : (t qs ps k : ℕ) → 1 ≤ ps → t * qs ≡ ps * k → ps * scaled_ticks t qs ps ≡ t * qs
 divided t qs ps k some e = ap (λ z. ps * (z / ps)) e ∙ ap (λ z. ps * z) (mul-div_cancel_left k some) ∙ sym e
 
-value_even : (at : Place) (v : Value) (t qs ps : ℕ) → t ≡ value_length v → v.dots ≤ 3 → Divides at ps → ps * scaled t qs ps ≡ t * qs
+value_even : (at : NodeContext) (v : Value) (t qs ps : ℕ) → t ≡ value_length v → v.dots ≤ 3 → Divides at ps → ps * scaled_ticks t qs ps ≡ t * qs
 value_even at v t qs ps e dots d = let k = d.factor * left at.deeper in divided t qs ps (units_of v * k * qs) d.some (taken_out t (units_of v) qs ps k (e ∙ value_parts v dots) d.all)
 
-plain_even : (t qs ps : ℕ) → ps ≡ 1 → ps * scaled t qs ps ≡ t * qs
+plain_even : (t qs ps : ℕ) → ps ≡ 1 → ps * scaled_ticks t qs ps ≡ t * qs
 plain_even t qs ps e = divided t qs ps (t * qs) (omega arith) (let r : 1 * (t * qs) ≡ t * qs = omega arith in sym (subst (λ z. z * (t * qs) ≡ t * qs) (sym e) r))
 
 -- Nodes.
-abbrev Evens : (Place → Judged) → Leafing → InTuplets (List Ratio) → Type 0
-Evens j l r = (at : Place) (qs ps : ℕ) → Divides at ps → (j at).good ≡ true → (waits : Waits) → AllZip IsEven (l qs ps waits).flats (r qs ps)
+abbrev Evens : (NodeContext → NodeVerdict) → Leafing → InTuplets (List Ratio) → Type 0
+Evens j l r = (at : NodeContext) (qs ps : ℕ) → Divides at ps → (j at).good ≡ true → (waits : PendingLeaf) → AllZip IsEven (l qs ps waits).flats (r qs ps)
 
-note_even : (e : Event) → Evens (λ at. judged (is_note e) true) (leaf e) (λ qs ps. record { qs = qs; ps = ps } ∷ [])
+note_even : (e : Event) → Evens (λ at. node_verdict (is_good_note e) true) (leaf e) (λ qs ps. record { qs = qs; ps = ps } ∷ [])
 note_even e at qs ps d good waits = (value_even at e.value e.ticks qs ps (note_ticks e good) (note_dots e good) d, tt)
 
-rest_within : (b : Bool) (at : Place) (e : Event) (qs ps : ℕ) → at.inner ≡ b → is_rest b e ≡ true → Divides at ps → ps * scaled e.ticks qs ps ≡ e.ticks * qs
+rest_within : (b : Bool) (at : NodeContext) (e : Event) (qs ps : ℕ) → at.inner ≡ b → is_rest b e ≡ true → Divides at ps → ps * scaled_ticks e.ticks qs ps ≡ e.ticks * qs
 rest_within true at e qs ps i h d = value_even at e.value e.ticks qs ps (rest_ticks_inner e h) (rest_dots true e h) d
 rest_within false at e qs ps i h d = plain_even e.ticks qs ps (d.plain i)
 
-rest_even : (e : Event) → Evens (λ at. judged (if at.grace then false else is_rest at.inner e) true) (leaf e) (λ qs ps. record { qs = qs; ps = ps } ∷ [])
+rest_even : (e : Event) → Evens (λ at. node_verdict (if at.grace then false else is_rest at.inner e) true) (leaf e) (λ qs ps. record { qs = qs; ps = ps } ∷ [])
 rest_even e at qs ps d good waits = (rest_within at.inner at e qs ps refl (guarded at.grace (is_rest at.inner e) good).1 d, tt)
 
 -- Lists of nodes.
@@ -109,16 +109,16 @@ tuplet_even p q ms body at qs ps d good waits =
     }) t.inside (record waits { tuplets = waits.tuplets ++ p ∷ [] })
 
 -- Every node.
-evens_along : (i j : Place → Judged) (k l : Leafing) (r s : InTuplets (List Ratio)) → i ≡ j → k ≡ l → r ≡ s → Evens i k r → Evens j l s
+evens_along : (i j : NodeContext → NodeVerdict) (k l : Leafing) (r s : InTuplets (List Ratio)) → i ≡ j → k ≡ l → r ≡ s → Evens i k r → Evens j l s
 evens_along i j k l r s ij kl rs h = subst (λ z. Evens j l z) rs (subst (λ z. Evens j z r) kl (subst (λ z. Evens z k r) ij h))
 
 abbrev StepEven : Music-F Music → Type 0
-StepEven x = Evens (good_step (map-Music Music (Place → Judged) judged_within x)) (leaves_step (map-Music Music Leafing leaves_within x)) (ratios_step (map-Music Music (InTuplets (List Ratio)) ratios_within x))
+StepEven x = Evens (good_step (map-Music Music (NodeContext → NodeVerdict) judged_within x)) (leaves_step (map-Music Music Leafing leaves_within x)) (ratios_step (map-Music Music (InTuplets (List Ratio)) ratios_within x))
 
 along : (x : Music-F Music) → StepEven x → MusicEven (roll-Music x)
 along x h =
     evens_along _ _ _ _ _ _
-    (sym (fold-roll-Music (Place → Judged) good_step x))
+    (sym (fold-roll-Music (NodeContext → NodeVerdict) good_step x))
     (sym (fold-roll-Music Leafing leaves_step x))
     (sym (fold-roll-Music (InTuplets (List Ratio)) ratios_step x))
     h
@@ -135,8 +135,8 @@ music_even = ind-Music MusicEven (λ x y is. subst (λ z. MusicEven (roll-Music 
 outermost : Divides outside 1
 outermost = record { some = omega arith; factor = 1; all = refl; plain = λ _. refl }
 
-pub flats_even : (ms : List Music) → IsGoodBody ms → AreEven (flats_of ms) ms
-flats_even ms good = body_even ms (all_music MusicEven music_even ms) outside 1 1 outermost good.good nothing
+pub flats_even : (ms : List Music) → IsGoodBody ms → AreEvenEvents (flats_of ms) ms
+flats_even ms good = body_even ms (all_music MusicEven music_even ms) outside 1 1 outermost good.good no_pending_leaf
 
-pub node_even : (m : Music) → IsGoodNode m → AreEven (flats_of (m ∷ [])) (m ∷ [])
+pub node_even : (m : Music) → IsGoodNode m → AreEvenEvents (flats_of (m ∷ [])) (m ∷ [])
 node_even m good = flats_even (m ∷ []) good

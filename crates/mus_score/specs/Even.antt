@@ -29,5 +29,5 @@ abbrev pub IsEven : Flat → Ratio → Type 0
 IsEven f around = around.ps * f.duration ≡ f.event.ticks * around.qs
 
 -- the events of a body, by the tuplets around them
-abbrev pub AreEven : List Flat → List Music → Type 0
-AreEven flats body = AllZip IsEven flats (ratios_of body)
+abbrev pub AreEvenEvents : List Flat → List Music → Type 0
+AreEvenEvents flats body = AllZip IsEven flats (ratios_of body)

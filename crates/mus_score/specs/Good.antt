@@ -1,13 +1,13 @@
 -- Good music.
 use Rattle.std.specs.Prelude.{◌≡◌, ℕ, zero, suc, ◌+◌, ◌*◌, ◌≤◌, List, [], ◌∷◌, length, map, sum, Bool, true, false, ◌&&◌, ◌||◌, ◌==◌, nat_le, if◌then◌else◌, max, sum_by}
 use Rattle.mus_units.specs.Value.{value_length, whole_note}
-use Rattle.mus_score.specs.declared.{good.Judged.Judged, good.Place.Place, score.Event.Event, score.Flat.Flat, score.Music.Music, score.Music.TheOpen.Music-F, score.Music.TheFolds.fold-Music}
+use Rattle.mus_score.specs.declared.{good.NodeVerdict.NodeVerdict, good.NodeContext.NodeContext, score.Event.Event, score.Flat.Flat, score.Music.Music, score.Music.TheOpen.Music-F, score.Music.TheFolds.fold-Music}
 
 abbrev pub has_value_ticks : Event → Bool
 has_value_ticks e = nat_le e.value.dots 3 && e.ticks == value_length e.value
 
-abbrev pub is_note : Event → Bool
-is_note e = nat_le 1 (length e.heads) && has_value_ticks e
+abbrev pub is_good_note : Event → Bool
+is_good_note e = nat_le 1 (length e.heads) && has_value_ticks e
 
 -- a rest outside tuplets may last a measure
 abbrev pub is_rest : Bool → Event → Bool
@@ -23,28 +23,28 @@ weight_step (Music-F.Tuplet p q body) = sum body
 abbrev pub weight : Music → ℕ
 weight = fold-Music ℕ weight_step
 
-abbrev pub judged : Bool → Bool → Judged
-judged good some = record { good = good; some = some }
+abbrev pub node_verdict : Bool → Bool → NodeVerdict
+node_verdict good some = record { good = good; some = some }
 
-abbrev pub all_judged : List (Place → Judged) → Place → Judged
-all_judged [] at = judged true false
-all_judged (m ∷ ms) at = judged ((m at).good && (all_judged ms at).good) ((m at).some || (all_judged ms at).some)
+abbrev pub all_judged : List (NodeContext → NodeVerdict) → NodeContext → NodeVerdict
+all_judged [] at = node_verdict true false
+all_judged (m ∷ ms) at = node_verdict ((m at).good && (all_judged ms at).good) ((m at).some || (all_judged ms at).some)
 
-abbrev pub tuplet_judged : ℕ → ℕ → List (Place → Judged) → ℕ → Judged
-tuplet_judged p q body zero = judged false false
+abbrev pub tuplet_judged : ℕ → ℕ → List (NodeContext → NodeVerdict) → ℕ → NodeVerdict
+tuplet_judged p q body zero = node_verdict false false
 tuplet_judged p q body (suc deeper) =
-    let inside = all_judged body (record { deeper = deeper; inner = true; grace = false }) in judged (nat_le 2 p && nat_le p 9 && nat_le 1 q && nat_le q 9 && inside.some && inside.good) inside.some
+    let inside = all_judged body (record { deeper = deeper; inner = true; grace = false }) in node_verdict (nat_le 2 p && nat_le p 9 && nat_le 1 q && nat_le q 9 && inside.some && inside.good) inside.some
 
-abbrev pub good_step : Music-F (Place → Judged) → Place → Judged
-good_step (Music-F.Note e) at = judged (is_note e) true
-good_step (Music-F.Rest e) at = judged (if at.grace then false else is_rest at.inner e) true
-good_step (Music-F.Grace body slash) at = judged (if at.grace then false else (all_judged body (record at { grace = true })).good) false
-good_step (Music-F.Tuplet p q body) at = if at.grace then judged false false else tuplet_judged p q body at.deeper
+abbrev pub good_step : Music-F (NodeContext → NodeVerdict) → NodeContext → NodeVerdict
+good_step (Music-F.Note e) at = node_verdict (is_good_note e) true
+good_step (Music-F.Rest e) at = node_verdict (if at.grace then false else is_rest at.inner e) true
+good_step (Music-F.Grace body slash) at = node_verdict (if at.grace then false else (all_judged body (record at { grace = true })).good) false
+good_step (Music-F.Tuplet p q body) at = if at.grace then node_verdict false false else tuplet_judged p q body at.deeper
 
-abbrev pub judged_within : Music → Place → Judged
-judged_within = fold-Music (Place → Judged) good_step
+abbrev pub judged_within : Music → NodeContext → NodeVerdict
+judged_within = fold-Music (NodeContext → NodeVerdict) good_step
 
-abbrev pub outside : Place
+abbrev pub outside : NodeContext
 outside = record { deeper = 2; inner = false; grace = false }
 
 pub record IsGoodBody (body : List Music) : Type 0 where
@@ -68,12 +68,12 @@ pub record IsGoodFlat (f : Flat) : Type 0 where
 abbrev pub total_ticks : List Flat → ℕ
 total_ticks = sum_by (λ f. f.duration)
 
-abbrev pub heads_in : List Event → ℕ
-heads_in = sum_by (λ e. length e.heads)
+abbrev pub head_count : List Event → ℕ
+head_count = sum_by (λ e. length e.heads)
 
 -- the heads and rests of an event and of the graces before it: a rest has no heads and counts as one
 abbrev pub flat_weight : Flat → ℕ
-flat_weight f = max 1 (length f.event.heads) + heads_in f.graces
+flat_weight f = max 1 (length f.event.heads) + head_count f.graces
 
 -- an event and the graces before it
 abbrev pub flat_count : Flat → ℕ

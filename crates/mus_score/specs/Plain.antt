@@ -24,5 +24,5 @@ is_plain_node = fold-Music Bool plain_step
 abbrev pub is_plain_body : List Music → Bool
 is_plain_body body = list_all is_plain_node body
 
-abbrev pub is_plain : Score → Bool
-is_plain s = list_all (λ v. list_all (λ m. is_plain_body m.body) v.measures) s.voices
+abbrev pub is_plain_score : Score → Bool
+is_plain_score s = list_all (λ v. list_all (λ m. is_plain_body m.body) v.measures) s.voices

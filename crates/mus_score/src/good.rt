@@ -1,5 +1,5 @@
 ghost use Rattle.std.specs.Prelude.{◌≡◌, ◌↔◌, IsTrue, map, min, sum};
-ghost use Rattle.mus_score.specs.Good.{IsGoodBody, all_judged, has_value_ticks, is_note, is_rest, judged_within, tuplet_judged, weight};
+ghost use Rattle.mus_score.specs.Good.{IsGoodBody, all_judged, has_value_ticks, is_good_note, is_rest, judged_within, tuplet_judged, weight};
 
 use crate::score::{Event, Music};
 use mus_units::{WHOLE, ticks_of};
@@ -7,7 +7,7 @@ use mus_units::{WHOLE, ticks_of};
 /// Where a node stands: how many tuplets may still stand in it, and whether a tuplet or a grace
 /// group is around it.
 #[derive(Clone, Copy, PartialEq, Eq)]
-pub struct Place {
+pub struct NodeContext {
     pub deeper: u8,
     pub inner: bool,
     pub grace: bool,
@@ -15,7 +15,7 @@ pub struct Place {
 
 /// Whether a node is good at its place, and whether it has an event that is no grace.
 #[derive(Clone, Copy, PartialEq, Eq)]
-pub struct Judged {
+pub struct NodeVerdict {
     pub good: bool,
     pub some: bool,
 }
@@ -28,7 +28,7 @@ fn has_ticks_of_value(e: &Event) -> bool
 }
 
 fn is_good_note(e: &Event) -> bool
-    ensures { result ≡ is_note e.now }
+    ensures { result ≡ is_good_note e.now }
 {
     !e.heads.as_slice().is_empty() && has_ticks_of_value(e)
 }
@@ -48,50 +48,50 @@ fn is_good_rest(inner: bool, e: &Event) -> bool
 
 /// A tuplet that stands in no grace group.
 #[cycle(judging)]
-fn judge_tuplet(p: u8, q: u8, body: &[Music], deeper: u8) -> Judged
+fn judge_tuplet(p: u8, q: u8, body: &[Music], deeper: u8) -> NodeVerdict
     ensures { result ≡ tuplet_judged p q (map judged_within body.now) deeper }
 {
     if deeper == 0 {
-        return Judged {
+        return NodeVerdict {
             good: false,
             some: false,
         };
     }
     let inside = judge_all(
         body,
-        Place {
+        NodeContext {
             deeper: deeper - 1,
             inner: true,
             grace: false,
         },
     );
     let ratio = p >= 2 && p <= 9 && q >= 1 && q <= 9;
-    Judged {
+    NodeVerdict {
         good: ratio && inside.some && inside.good,
         some: inside.some,
     }
 }
 
 #[cycle(judging)]
-fn judge(m: &Music, at: Place) -> Judged
+fn judge(m: &Music, at: NodeContext) -> NodeVerdict
     ensures { result ≡ judged_within m.now at }
 {
     match m {
-        Music::Note(e) => Judged {
+        Music::Note(e) => NodeVerdict {
             good: is_good_note(e),
             some: true,
         },
-        Music::Rest(e) => Judged {
+        Music::Rest(e) => NodeVerdict {
             good: !at.grace && is_good_rest(at.inner, e),
             some: true,
         },
-        Music::Grace { body, slash: _ } => Judged {
-            good: !at.grace && judge_all(body.as_slice(), Place { grace: true, ..at }).good,
+        Music::Grace { body, slash: _ } => NodeVerdict {
+            good: !at.grace && judge_all(body.as_slice(), NodeContext { grace: true, ..at }).good,
             some: false,
         },
         Music::Tuplet { p, q, body } => {
             if at.grace {
-                return Judged {
+                return NodeVerdict {
                     good: false,
                     some: false,
                 };
@@ -102,10 +102,10 @@ fn judge(m: &Music, at: Place) -> Judged
 }
 
 #[cycle(judging)]
-fn judge_all(body: &[Music], at: Place) -> Judged
+fn judge_all(body: &[Music], at: NodeContext) -> NodeVerdict
     ensures { result ≡ all_judged (map judged_within body.now) at }
 {
-    let mut all = Judged {
+    let mut all = NodeVerdict {
         good: true,
         some: false,
     };
@@ -149,7 +149,7 @@ pub fn weights_within(body: &[Music]) -> u64
 pub fn is_good_body(body: &[Music]) -> bool
     ensures { IsTrue result ↔ IsGoodBody body.now }
 {
-    let outside = Place {
+    let outside = NodeContext {
         deeper: 2,
         inner: false,
         grace: false,

@@ -12,9 +12,9 @@ pub mod score;
 pub mod times;
 
 pub use copies::copy_event;
-pub use good::{Judged, Place, is_good_body, weights_within};
+pub use good::{NodeVerdict, NodeContext, is_good_body, weights_within};
 pub use leaves::events;
 pub use mus_units::{Bar, Deco, Head, Key, Meter, Sign, Spread, Wish};
 pub use plain::is_plain;
-pub use score::{Changes, Event, Flat, Lent, Look, Measure, Mention, Music, Score, Seat, Voice};
+pub use score::{Changes, Event, Flat, BorrowedEvent, Look, Measure, Mention, Music, Score, Seat, Voice};
 pub use times::{body_duration, duration, flatten};

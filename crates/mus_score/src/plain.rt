@@ -1,5 +1,5 @@
 ghost use Rattle.std.specs.{Prelude.◌≡◌, Prelude.not, List.list_all, Option.is_none};
-ghost use Rattle.mus_score.specs.Plain.{is_plain, is_plain_body, is_plain_event, is_plain_node};
+ghost use Rattle.mus_score.specs.Plain.{is_plain_score, is_plain_body, is_plain_event, is_plain_node};
 
 use crate::score::{Event, Measure, Music, Score, Voice};
 use mus_units::{Head, Text};
@@ -64,7 +64,7 @@ fn are_plain_voices(voices: &[Voice]) -> bool
 /// Whether a score is plain: it has no grace, tuplet, decoration, mention, ending, slur mark, tied
 /// head or word. Takes no memory.
 pub fn is_plain(s: &Score) -> bool
-    ensures { result ≡ is_plain s.now }
+    ensures { result ≡ is_plain_score s.now }
 {
     are_plain_voices(s.voices.as_slice())
 }

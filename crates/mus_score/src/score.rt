@@ -117,11 +117,11 @@ pub struct Score {
 
 /// An event that stays in the tree of its measure, which contracts see as the event.
 #[derive(Drop)]
-pub struct Lent<'a> {
+pub struct BorrowedEvent<'a> {
     pub(crate) event: &'a Event,
 }
 
-impl<'a> Model for Lent<'a> {
+impl<'a> Model for BorrowedEvent<'a> {
     ghost use Rattle.mus_score.specs.declared.score.Event.{Event};
 
     ghost Value = { Event };
@@ -133,7 +133,7 @@ impl<'a> Model for Lent<'a> {
 /// `p` of the tuplets that begin at it, outer first, and the graces before it.
 #[derive(Drop)]
 pub struct Flat<'a> {
-    pub event: Lent<'a>,
+    pub event: BorrowedEvent<'a>,
     pub duration: u64,
     pub tuplets: Row<u8>,
     pub graces: Row<Event>,

@@ -1,17 +1,17 @@
 ghost use Rattle.std.specs.Prelude.{◌≡◌, ◌∷◌, [], ◌≤◌, ◌<◌, ◌^◌, ◌++◌, map, true, IfOk, OnOk, ◌*◌, All, sum, sum_by};
-ghost use Rattle.mus_score.specs.{declared.score.Flat.Flat, Good.{IsGoodBody, IsGoodNode, IsGoodFlat, flat_count, flat_weight, longest_ticks, total_ticks, weight}, Even.AreEven, Times.{scaled, duration_of, duration_within, durations_within, products_fit, all_products_fit, is_scalable, leaf, leaves_within, in_row, flats_of, nothing, Walked}};
+ghost use Rattle.mus_score.specs.{declared.score.Flat.Flat, Good.{IsGoodBody, IsGoodNode, IsGoodFlat, flat_count, flat_weight, longest_ticks, total_ticks, weight}, Even.AreEvenEvents, Times.{scaled_ticks, duration_of, duration_within, durations_within, products_fit, all_products_fit, is_scalable, leaf, leaves_within, in_row, flats_of, no_pending_leaf, Walked}};
 
 use crate::copies::copy_event;
-use crate::score::{Event, Flat, Lent, Music};
+use crate::score::{Event, Flat, BorrowedEvent, Music};
 use mus_units::{Memory, Row};
 use std::alloc::Global;
 use std::mem;
 
 /// Ticks, times the tuplets around.
 #[tactic(auto, unfolding(crate::specs::Times::is_scalable))]
-fn scaled(ticks: u64, qs: u64, ps: u64) -> u64
+fn scaled_ticks(ticks: u64, qs: u64, ps: u64) -> u64
     requires { is_scalable ticks qs ps ≡ true }
-    ensures { result ≡ scaled ticks qs ps }
+    ensures { result ≡ scaled_ticks ticks qs ps }
 {
     ticks * qs / ps
 }
@@ -24,8 +24,8 @@ fn duration_in(m: &Music, qs: u64, ps: u64) -> u64
     ensures { result ≡ duration_within m.now qs ps }
 {
     match m {
-        Music::Note(e) => scaled(e.ticks, qs, ps),
-        Music::Rest(e) => scaled(e.ticks, qs, ps),
+        Music::Note(e) => scaled_ticks(e.ticks, qs, ps),
+        Music::Rest(e) => scaled_ticks(e.ticks, qs, ps),
         Music::Grace { body: _, slash: _ } => 0,
         Music::Tuplet { p, q, body } => durations_in(
             body.as_slice(),
@@ -57,7 +57,7 @@ pub fn duration(m: &Music) -> u64
     requires { IsGoodNode m.now }
     ensures value { result ≡ duration_of m.now }
     ensures total { result ≡ total_ticks (flats_of (m.now ∷ [])) }
-    ensures even { AreEven (flats_of (m.now ∷ [])) (m.now ∷ []) }
+    ensures even { AreEvenEvents (flats_of (m.now ∷ [])) (m.now ∷ []) }
 {
     duration_in(m, 1, 1)
 }
@@ -74,16 +74,16 @@ pub fn body_duration(body: &[Music]) -> u64
 
 /// What waits for the next leaf: the tuplets that begin there, outer first, and its graces.
 #[derive(Drop)]
-pub struct Waits {
+pub struct PendingLeaf {
     pub tuplets: Row<u8>,
     pub graces: Row<Event>,
     pub slash: bool,
 }
 
-fn no_waits(alloc: Global) -> Waits
-    ensures { result ≡ nothing }
+fn no_waits(alloc: Global) -> PendingLeaf
+    ensures { result ≡ no_pending_leaf }
 {
-    Waits {
+    PendingLeaf {
         tuplets: Row::new(alloc),
         graces: Row::new(alloc),
         slash: false,
@@ -95,7 +95,7 @@ fn put_leaf<'a>(
     e: &'a Event,
     qs: u64,
     ps: u64,
-    waits: &mut Waits,
+    waits: &mut PendingLeaf,
     out: &mut Row<Flat<'a>>,
 ) -> Result<(), Memory>
     requires { is_scalable e.now.ticks qs ps ≡ true }
@@ -103,8 +103,8 @@ fn put_leaf<'a>(
 {
     let w = mem::replace(waits, no_waits(alloc));
     out.push(Flat {
-        event: Lent { event: e },
-        duration: scaled(e.ticks, qs, ps),
+        event: BorrowedEvent { event: e },
+        duration: scaled_ticks(e.ticks, qs, ps),
         tuplets: w.tuplets,
         graces: w.graces,
         slash: w.slash,
@@ -127,7 +127,7 @@ fn put_node<'a>(
     m: &'a Music,
     qs: u64,
     ps: u64,
-    waits: &mut Waits,
+    waits: &mut PendingLeaf,
     out: &mut Row<Flat<'a>>,
 ) -> Result<(), Memory>
     requires { products_fit m.now qs ps ≡ true }
@@ -164,7 +164,7 @@ fn put_nodes<'a>(
     body: &'a [Music],
     qs: u64,
     ps: u64,
-    waits: &mut Waits,
+    waits: &mut PendingLeaf,
     out: &mut Row<Flat<'a>>,
 ) -> Result<(), Memory>
     requires { all_products_fit body.now qs ps ≡ true }
@@ -185,7 +185,7 @@ pub fn flatten(alloc: Global, body: &[Music]) -> Result<Row<Flat<'_>>, Memory>
     requires { IsGoodBody body.now }
     ensures flats { IfOk result (λ r. r ≡ flats_of body.now) }
     ensures each { IfOk result (λ r. All IsGoodFlat r) }
-    ensures even { IfOk result (λ r. AreEven r body.now) }
+    ensures even { IfOk result (λ r. AreEvenEvents r body.now) }
     ensures total { IfOk result (λ r. total_ticks r ≡ sum_by duration_of body.now) }
     ensures short { IfOk result (λ r. total_ticks r ≤ 50000 * longest_ticks) }
     ensures count { IfOk result (λ r. sum_by flat_count r ≤ 50000) }

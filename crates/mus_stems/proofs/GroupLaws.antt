@@ -1,51 +1,51 @@
 -- Beams are told by the groups of plans, where the ids of events rise.
 use Rattle.std.{proofs.{Common.{◌≡◌, ℕ, suc, ◌+◌, ◌<◌, ℤ, Bool, true, false, cond, eqb, List, [], ◌∷◌, ◌++◌, length, map, refl, sym, subst, ap, ◌∙◌, arith}, lemmas.{Bool.{eq-eqb, ne_eqb}, List.{Folds.flat_map-map, length-map}}}, specs.{Prelude.slice_index, List.{flat_map, Sorted.IsStrictlyIncreasing}}}
 use Rattle.mus_units.specs.declared.note.Wish.{Wish}
-use Rattle.mus_stems.{specs.{declared.{stills.Still.Still, plans.StemPlan.StemPlan, slopes.Anchor.Anchor}, Runs.{runs, put_before, JoinedAfter, EndsBefore, AreRuns}, Beams.{is_joined, beams}, Ends.{stands_up, run_end}, Plans.{plan_of, plans_along, run_plans, plans_of_runs}, Slope.{anchor_of, anchors, shares_beam}, Groups.{same_group, IdsRise, BeamsByGroups, SlopesByBeams}}, proofs.{RunLaws.{runs_are_maximal, runs_length, runs_of_whole}, EndLaws.run_length}}
+use Rattle.mus_stems.{specs.{declared.{stills.StemInput.StemInput, plans.StemPlan.StemPlan, slopes.SlopeInput.SlopeInput}, Runs.{runs, put_before, JoinedAfter, EndsBefore, AreRuns}, Beams.{is_joined, beams}, Ends.{stands_up, run_end}, Plans.{plan_of, plans_along, run_plans, plans_of_runs}, Slope.{slope_input, slope_inputs, shares_beam}, Groups.{same_group, IdsRise, BeamsByGroups, SlopesByBeams}}, proofs.{RunLaws.{runs_are_maximal, runs_length, runs_of_whole}, EndLaws.run_length}}
 
 -- ids that rise from event to event, the first of them above one before
-abbrev RiseBehind : ℕ → List Still → Type 0
+abbrev RiseBehind : ℕ → List StemInput → Type 0
 RiseBehind id [] = Unit {0}
 RiseBehind id (e ∷ es) = (id < e.id) × RiseBehind e.id es
 
-abbrev AllRise : List Still → Type 0
+abbrev AllRise : List StemInput → Type 0
 AllRise [] = Unit {0}
 AllRise (e ∷ es) = RiseBehind e.id es
 
-rise_behind : (e : Still) (es : List Still) → IdsRise (e ∷ es) → RiseBehind e.id es
+rise_behind : (e : StemInput) (es : List StemInput) → IdsRise (e ∷ es) → RiseBehind e.id es
 rise_behind e [] h = tt {0}
 rise_behind e (d ∷ es) h =
-    let ids = map (λ (e : Still). e.id) (d ∷ es) in
+    let ids = map (λ (e : StemInput). e.id) (d ∷ es) in
     let behind : IsStrictlyIncreasing ids = (λ k l. subst (λ n. slice_index ids k < slice_index (e.id ∷ ids) n) {x = suc k + 1} {y = suc (k + 1)} (omega arith) (h (suc k) (omega (arith, l)))) in
     (h 0 (omega arith), rise_behind d es behind)
 
-all_rise : (es : List Still) → IdsRise es → AllRise es
+all_rise : (es : List StemInput) → IdsRise es → AllRise es
 all_rise [] h = tt {0}
 all_rise (e ∷ es) h = rise_behind e es h
 
 -- what is behind some of the events rises too, and above the id before them
-behind_rises : (id : ℕ) (es more : List Still) → RiseBehind id (es ++ more) → AllRise more
+behind_rises : (id : ℕ) (es more : List StemInput) → RiseBehind id (es ++ more) → AllRise more
 behind_rises id [] [] rise = tt {0}
 behind_rises id [] (d ∷ more) rise = rise.1
 behind_rises id (e ∷ es) more rise = behind_rises e.id es more rise.1
 
-above : (id : ℕ) (es : List Still) (d : Still) (more : List Still) → RiseBehind id (es ++ d ∷ more) → id < d.id
+above : (id : ℕ) (es : List StemInput) (d : StemInput) (more : List StemInput) → RiseBehind id (es ++ d ∷ more) → id < d.id
 above id [] d more rise = rise.0
 above id (e ∷ es) d more rise = let h = above e.id es d more rise.1 in let g = rise.0 in omega (arith, g, h)
 
 -- runs that begin with a greater id, if any
-abbrev BeginAbove : ℕ → List (List Still) → Type 0
+abbrev BeginAbove : ℕ → List (List StemInput) → Type 0
 BeginAbove id [] = Unit {0}
 BeginAbove id ([] ∷ rs) = ⊥
 BeginAbove id ((d ∷ r) ∷ rs) = id < d.id
 
-begin_above : (joined : Still → Still → Bool) (id : ℕ) (es : List Still) (rs : List (List Still)) → AreRuns joined rs → RiseBehind id (es ++ flat_map (λ r. r) rs) → BeginAbove id rs
+begin_above : (joined : StemInput → StemInput → Bool) (id : ℕ) (es : List StemInput) (rs : List (List StemInput)) → AreRuns joined rs → RiseBehind id (es ++ flat_map (λ r. r) rs) → BeginAbove id rs
 begin_above joined id es [] are rise = tt {0}
 begin_above joined id es ([] ∷ rs) are rise = are
 begin_above joined id es ((d ∷ r) ∷ rs) are rise = above id es d (r ++ flat_map (λ r. r) rs) rise
 
 -- the plans of a run have one group, and those of the next another
-along_joined : (up : Bool) (to : ℤ) (group : ℕ) (e : Still) (es : List Still) → JoinedAfter same_group (plan_of up to group e) (plans_along up to group es)
+along_joined : (up : Bool) (to : ℤ) (group : ℕ) (e : StemInput) (es : List StemInput) → JoinedAfter same_group (plan_of up to group e) (plans_along up to group es)
 unfolding same_group plan_of
 along_joined up to group e [] = tt {0}
 along_joined up to group e (d ∷ es) = (eq-eqb group group refl, along_joined up to group d es)
@@ -53,7 +53,7 @@ along_joined up to group e (d ∷ es) = (eq-eqb group group refl, along_joined u
 below_differs : (m n : ℕ) → m < n → eqb m n ≡ false
 below_differs m n lt = ne_eqb m n (λ e. omega (arith, lt, e))
 
-along_ends : (wish : Wish) (up : Bool) (to : ℤ) (group : ℕ) (e : Still) (es : List Still) (rs : List (List Still)) → BeginAbove group rs →
+along_ends : (wish : Wish) (up : Bool) (to : ℤ) (group : ℕ) (e : StemInput) (es : List StemInput) (rs : List (List StemInput)) → BeginAbove group rs →
     EndsBefore same_group (plan_of up to group e) (plans_along up to group es) (map (run_plans wish) rs)
 unfolding same_group plan_of run_plans
 along_ends wish up to group e [] [] begin = tt {0}
@@ -61,7 +61,7 @@ along_ends wish up to group e [] ([] ∷ rs) begin = begin
 along_ends wish up to group e [] ((d ∷ r) ∷ rs) begin = below_differs group d.id begin
 along_ends wish up to group e (d ∷ es) rs begin = along_ends wish up to group d es rs begin
 
-groups_are_runs : (wish : Wish) (joined : Still → Still → Bool) (rs : List (List Still)) → AreRuns joined rs → AllRise (flat_map (λ r. r) rs) → AreRuns same_group (map (run_plans wish) rs)
+groups_are_runs : (wish : Wish) (joined : StemInput → StemInput → Bool) (rs : List (List StemInput)) → AreRuns joined rs → AllRise (flat_map (λ r. r) rs) → AreRuns same_group (map (run_plans wish) rs)
 unfolding run_plans
 groups_are_runs wish joined [] are rise = tt {0}
 groups_are_runs wish joined ([] ∷ rs) are rise = absurd are
@@ -106,12 +106,12 @@ alike_plans : (p q : StemPlan) → same_group p q ≡ eqb p.group q.group
 unfolding same_group
 alike_plans p q = refl
 
-alike_anchors : (a b : Anchor) → shares_beam a b ≡ eqb a.group b.group
+alike_anchors : (a b : SlopeInput) → shares_beam a b ≡ eqb a.group b.group
 unfolding shares_beam
 alike_anchors a b = refl
 
-anchor_groups : (ps : List StemPlan) (xs : List ℤ) → length xs ≡ length ps → map (λ (a : Anchor). a.group) (anchors ps xs) ≡ map (λ (p : StemPlan). p.group) ps
-unfolding anchor_of
+anchor_groups : (ps : List StemPlan) (xs : List ℤ) → length xs ≡ length ps → map (λ (a : SlopeInput). a.group) (slope_inputs ps xs) ≡ map (λ (p : StemPlan). p.group) ps
+unfolding slope_input
 anchor_groups [] xs h = refl
 anchor_groups (p ∷ ps) [] h = absurd (omega (arith, h))
 anchor_groups (p ∷ ps) (x ∷ xs) h = ap (λ t. p.group ∷ t) (anchor_groups ps xs (omega (arith, h)))
@@ -119,6 +119,6 @@ anchor_groups (p ∷ ps) (x ∷ xs) h = ap (λ t. p.group ∷ t) (anchor_groups 
 pub slopes_by_beams : SlopesByBeams
 slopes_by_beams wish es xs rise same =
     let plans = plans_of_runs wish (beams es) in let enough : length xs ≡ length plans = same ∙ sym (runs_length is_joined (run_plans wish) (run_length wish) es) in
-    run_lengths (λ (a : Anchor). a.group) shares_beam alike_anchors (anchors plans xs) ∙ ap (λ t. map (λ r. length r) (runs eqb t)) (anchor_groups plans xs enough)
+    run_lengths (λ (a : SlopeInput). a.group) shares_beam alike_anchors (slope_inputs plans xs) ∙ ap (λ t. map (λ r. length r) (runs eqb t)) (anchor_groups plans xs enough)
     ∙ sym (run_lengths (λ (p : StemPlan). p.group) same_group alike_plans plans) ∙ ap (λ t. map (λ r. length r) t) (beams_by_groups wish es rise)
     ∙ lengths_of (run_plans wish) (run_length wish) (beams es)

@@ -1,6 +1,6 @@
 -- The heads that are taken level by level are those of an event in their order, and there is only one such order.
 use Rattle.std.{proofs.{Common.{◌≡◌, ℕ, zero, suc, ◌+◌, ◌≤◌, ℤ, pos, negsuc, ◌+ℤ◌, ◌≤ℤ◌, ◌<ℤ◌, ◌⊎◌, inl, inr, Bool, true, false, cond, List, [], ◌∷◌, refl, sym, ◌∙◌, ap, subst, Some, arith}, lemmas.{Int.ints, Bool.{false≢true, Decides.Decides-int_eq}}}, specs.{Prelude.slice_get, Ordering.int_eq, List.AllByRecursion}}
-use Rattle.mus_stems.specs.{declared.heads.Stand.Stand, Heads.IsNear, Heads.AllNear, Heads.Taken, Heads.level_of, Heads.taken_one, Heads.taken_at, Heads.taken_from, Heads.taken, Order.IsBefore, Order.InOrder, Order.head_at, Order.IsHead, Order.IsAmong, Order.AreTaken}
+use Rattle.mus_stems.specs.{declared.heads.HeadPosition.HeadPosition, Heads.IsNearStaff, Heads.AllNear, Heads.Taken, Heads.level_of, Heads.taken_one, Heads.taken_at, Heads.taken_from, Heads.taken, Order.IsBefore, Order.AreTakenInOrder, Order.head_at, Order.IsHead, Order.IsAmong, Order.AreTaken}
 
 -- what holds of all holds of each
 pub of_each : (P : Taken → Type 0) (ts : List Taken) (t : Taken) → AllByRecursion P ts → IsAmong ts t → P t
@@ -37,14 +37,14 @@ unfolding IsFrom
 behind v k signed t (inl lt) = inl lt
 behind v k signed t (inr h) = inr (h.0, (let g = h.1 in omega (arith, g)))
 
-at_order : (up : Bool) (v : ℤ) (k : ℕ) (ss : List Stand) (rest : List Taken) → InOrder rest → AllByRecursion (λ t. v <ℤ t.level) rest →
-    InOrder (taken_at up v k ss rest) × AllByRecursion (IsFrom v k) (taken_at up v k ss rest)
+at_order : (up : Bool) (v : ℤ) (k : ℕ) (ss : List HeadPosition) (rest : List Taken) → AreTakenInOrder rest → AllByRecursion (λ t. v <ℤ t.level) rest →
+    AreTakenInOrder (taken_at up v k ss rest) × AllByRecursion (IsFrom v k) (taken_at up v k ss rest)
 unfolding IsFrom taken_one
 at_order up v k [] rest order above = (order, all_of (λ t. v <ℤ t.level) (IsFrom v k) (λ t h. inl h) rest above)
 at_order up v k (s ∷ ss) rest order above = step (int_eq (level_of up s.height) v) (at_order up v (k + 1) ss rest order above)
   where
-    step : (b : Bool) → InOrder (taken_at up v (k + 1) ss rest) × AllByRecursion (IsFrom v (k + 1)) (taken_at up v (k + 1) ss rest) →
-        InOrder (cond b (record { place = k; level = v; signed = s.signed } ∷ taken_at up v (k + 1) ss rest) (taken_at up v (k + 1) ss rest))
+    step : (b : Bool) → AreTakenInOrder (taken_at up v (k + 1) ss rest) × AllByRecursion (IsFrom v (k + 1)) (taken_at up v (k + 1) ss rest) →
+        AreTakenInOrder (cond b (record { place = k; level = v; signed = s.signed } ∷ taken_at up v (k + 1) ss rest) (taken_at up v (k + 1) ss rest))
         × AllByRecursion (IsFrom v k) (cond b (record { place = k; level = v; signed = s.signed } ∷ taken_at up v (k + 1) ss rest) (taken_at up v (k + 1) ss rest))
     step true h = (
       (all_of (IsFrom v (k + 1)) (IsBefore (record { place = k; level = v; signed = s.signed })) (behind v k s.signed) (taken_at up v (k + 1) ss rest) h.1, h.0),
@@ -60,7 +60,7 @@ unfolding IsFrom
 not_below v t (inl lt) = omega (arith, ints, lt)
 not_below v t (inr h) = (let e = h.0 in omega (arith, ints, e))
 
-from_order : (up : Bool) (v : ℤ) (n : ℕ) (ss : List Stand) → InOrder (taken_from up v n ss) × AllByRecursion (λ t. v ≤ℤ t.level) (taken_from up v n ss)
+from_order : (up : Bool) (v : ℤ) (n : ℕ) (ss : List HeadPosition) → AreTakenInOrder (taken_from up v n ss) × AllByRecursion (λ t. v ≤ℤ t.level) (taken_from up v n ss)
 from_order up v zero ss = (tt {0}, tt {0})
 from_order up v (suc n) ss =
     let rest = from_order up (v +ℤ pos 1) n ss in
@@ -68,7 +68,7 @@ from_order up v (suc n) ss =
     (h.0, all_of (IsFrom v 0) (λ t. v ≤ℤ t.level) (not_below v) (taken_at up v 0 ss (taken_from up (v +ℤ pos 1) n ss)) h.1)
 
 -- heads of the event alone: ss are its heads from place k on
-at_heads : (up : Bool) (v : ℤ) (k : ℕ) (whole ss : List Stand) (rest : List Taken) → ((j : ℕ) → slice_get whole (k + j) ≡ slice_get ss j) →
+at_heads : (up : Bool) (v : ℤ) (k : ℕ) (whole ss : List HeadPosition) (rest : List Taken) → ((j : ℕ) → slice_get whole (k + j) ≡ slice_get ss j) →
     AllByRecursion (IsHead up whole) rest → AllByRecursion (IsHead up whole) (taken_at up v k ss rest)
 unfolding taken_one
 at_heads up v k whole [] rest same all = all
@@ -85,7 +85,7 @@ at_heads up v k whole (s ∷ ss) rest same all = step (int_eq (level_of up s.hei
     step true e h = ((s, here, ap (λ l. record { place = k; level = l; signed = s.signed }) (e refl)), h)
     step false e h = h
 
-from_heads : (up : Bool) (v : ℤ) (n : ℕ) (ss : List Stand) → AllByRecursion (IsHead up ss) (taken_from up v n ss)
+from_heads : (up : Bool) (v : ℤ) (n : ℕ) (ss : List HeadPosition) → AllByRecursion (IsHead up ss) (taken_from up v n ss)
 from_heads up v zero ss = tt {0}
 from_heads up v (suc n) ss = at_heads up v 0 ss ss (taken_from up (v +ℤ pos 1) n ss) same (from_heads up (v +ℤ pos 1) n ss)
   where
@@ -93,7 +93,7 @@ from_heads up v (suc n) ss = at_heads up v 0 ss ss (taken_from up (v +ℤ pos 1)
     same j = (let e : 0 + j ≡ j = omega arith in ap (λ i. slice_get ss i) e)
 
 -- all heads of the event
-at_among : (up : Bool) (v : ℤ) (k : ℕ) (ss : List Stand) (rest : List Taken) (t : Taken) → IsAmong rest t → IsAmong (taken_at up v k ss rest) t
+at_among : (up : Bool) (v : ℤ) (k : ℕ) (ss : List HeadPosition) (rest : List Taken) (t : Taken) → IsAmong rest t → IsAmong (taken_at up v k ss rest) t
 unfolding taken_one
 at_among up v k [] rest t among = among
 at_among up v k (s ∷ ss) rest t among = step (int_eq (level_of up s.height) v) (at_among up v (k + 1) ss rest t among)
@@ -103,11 +103,11 @@ at_among up v k (s ∷ ss) rest t among = step (int_eq (level_of up s.height) v)
     step true h = inr h
     step false h = h
 
-at_all : (up : Bool) (v : ℤ) (k j : ℕ) (ss : List Stand) (rest : List Taken) (s : Stand) → slice_get ss j ≡ Some s → level_of up s.height ≡ v →
+at_all : (up : Bool) (v : ℤ) (k j : ℕ) (ss : List HeadPosition) (rest : List Taken) (s : HeadPosition) → slice_get ss j ≡ Some s → level_of up s.height ≡ v →
     IsAmong (taken_at up v k ss rest) (head_at up (k + j) s)
 unfolding taken_one
 at_all up v k j [] rest s is e = absurd (grind (arith, is))
-at_all up v k zero (d ∷ ss) rest s is e = step (int_eq (level_of up d.height) v) ((Decides-int_eq (level_of up d.height) v).1 (ap (λ (x : Stand). level_of up x.height) same ∙ e))
+at_all up v k zero (d ∷ ss) rest s is e = step (int_eq (level_of up d.height) v) ((Decides-int_eq (level_of up d.height) v).1 (ap (λ (x : HeadPosition). level_of up x.height) same ∙ e))
   where
     same : d ≡ s
     same = grind (arith, is)
@@ -125,7 +125,7 @@ at_all up v k (suc j) (d ∷ ss) rest s is e = step (int_eq (level_of up d.heigh
     step true h = inr (subst (λ n. IsAmong (taken_at up v (k + 1) ss rest) (head_at up n s)) {x = (k + 1) + j} {y = k + suc j} (omega arith) h)
     step false h = subst (λ n. IsAmong (taken_at up v (k + 1) ss rest) (head_at up n s)) {x = (k + 1) + j} {y = k + suc j} (omega arith) h
 
-from_all : (up : Bool) (v : ℤ) (n j : ℕ) (ss : List Stand) (s : Stand) → slice_get ss j ≡ Some s → v ≤ℤ level_of up s.height → level_of up s.height <ℤ (v +ℤ pos n) →
+from_all : (up : Bool) (v : ℤ) (n j : ℕ) (ss : List HeadPosition) (s : HeadPosition) → slice_get ss j ≡ Some s → v ≤ℤ level_of up s.height → level_of up s.height <ℤ (v +ℤ pos n) →
     IsAmong (taken_from up v n ss) (head_at up j s)
 from_all up v zero j ss s is low high = absurd (omega (arith, ints, low, high))
 from_all up v (suc n) j ss s is low high =
@@ -140,17 +140,17 @@ from_all up v (suc n) j ss s is low high =
         (at_all up v 0 j ss (taken_from up (v +ℤ pos 1) n ss) s is (there refl))
     step false there back more = let differs : level_of up s.height ≡ v → ⊥ = (λ e. false≢true (back e)) in at_among up v 0 ss (taken_from up (v +ℤ pos 1) n ss) (head_at up j s) (more (omega (arith, ints, low, differs)))
 
-near_at : (ss : List Stand) (k : ℕ) (s : Stand) → AllNear ss → slice_get ss k ≡ Some s → IsNear s
+near_at : (ss : List HeadPosition) (k : ℕ) (s : HeadPosition) → AllNear ss → slice_get ss k ≡ Some s → IsNearStaff s
 near_at [] k s near is = absurd (grind (arith, is))
-near_at (d ∷ ss) zero s near is = (let e : d ≡ s = grind (arith, is) in subst IsNear e near.0)
+near_at (d ∷ ss) zero s near is = (let e : d ≡ s = grind (arith, is) in subst IsNearStaff e near.0)
 near_at (d ∷ ss) (suc k) s near is = near_at ss k s near.1 is
 
-level_near : (up : Bool) (s : Stand) → IsNear s → (negsuc 21 ≤ℤ level_of up s.height) × (level_of up s.height <ℤ (negsuc 21 +ℤ pos 45))
+level_near : (up : Bool) (s : HeadPosition) → IsNearStaff s → (negsuc 21 ≤ℤ level_of up s.height) × (level_of up s.height <ℤ (negsuc 21 +ℤ pos 45))
 unfolding level_of
 level_near true s near = (omega (arith, ints, near.0, near.1), omega (arith, ints, near.0, near.1))
 level_near false s near = (omega (arith, ints, near.0, near.1), omega (arith, ints, near.0, near.1))
 
-pub taken_are : (up : Bool) (ss : List Stand) → AllNear ss → AreTaken up ss (taken up ss)
+pub taken_are : (up : Bool) (ss : List HeadPosition) → AllNear ss → AreTaken up ss (taken up ss)
 unfolding taken
 taken_are up ss near = record {
   order = (from_order up (negsuc 21) 45 ss).0;
@@ -159,16 +159,16 @@ taken_are up ss near = record {
 }
 
 -- two lists in order with the same heads are one
-fronts : (t u : Taken) (ts us : List Taken) → InOrder (t ∷ ts) → InOrder (u ∷ us) → IsAmong (u ∷ us) t → IsAmong (t ∷ ts) u → t ≡ u
+fronts : (t u : Taken) (ts us : List Taken) → AreTakenInOrder (t ∷ ts) → AreTakenInOrder (u ∷ us) → IsAmong (u ∷ us) t → IsAmong (t ∷ ts) u → t ≡ u
 fronts t u ts us ot ou (inl e) back = sym e
 fronts t u ts us ot ou (inr g) (inl e) = e
 fronts t u ts us ot ou (inr g) (inr h) = absurd (not_both t u (of_each (IsBefore t) ts u ot.0 h) (of_each (IsBefore u) us t ou.0 g))
 
-behind_front : (t u x : Taken) (ts us : List Taken) → InOrder (t ∷ ts) → t ≡ u → IsAmong ts x → IsAmong (u ∷ us) x → IsAmong us x
+behind_front : (t u x : Taken) (ts us : List Taken) → AreTakenInOrder (t ∷ ts) → t ≡ u → IsAmong ts x → IsAmong (u ∷ us) x → IsAmong us x
 behind_front t u x ts us ot e among (inl g) = absurd (not_itself x (subst (λ y. IsBefore y x) (e ∙ g) (of_each (IsBefore t) ts x ot.0 among)))
 behind_front t u x ts us ot e among (inr h) = h
 
-orders_same : (ts us : List Taken) → InOrder ts → InOrder us → ((t : Taken) → IsAmong ts t → IsAmong us t) → ((t : Taken) → IsAmong us t → IsAmong ts t) → ts ≡ us
+orders_same : (ts us : List Taken) → AreTakenInOrder ts → AreTakenInOrder us → ((t : Taken) → IsAmong ts t → IsAmong us t) → ((t : Taken) → IsAmong us t → IsAmong ts t) → ts ≡ us
 orders_same [] [] ot ou there back = refl
 orders_same [] (u ∷ us) ot ou there back = absurd (back u (inl refl))
 orders_same (t ∷ ts) [] ot ou there back = absurd (there t (inl refl))
@@ -179,28 +179,28 @@ orders_same (t ∷ ts) (u ∷ us) ot ou there back =
     (λ x h. behind_front u t x us ts ou (sym e) h (back x (inr h))) in
     λ i. e i ∷ more i
 
-all_there : (up : Bool) (ss : List Stand) (ts us : List Taken) → AreTaken up ss ts → AreTaken up ss us → (t : Taken) → IsAmong ts t → IsAmong us t
+all_there : (up : Bool) (ss : List HeadPosition) (ts us : List Taken) → AreTaken up ss ts → AreTaken up ss us → (t : Taken) → IsAmong ts t → IsAmong us t
 all_there up ss ts us a b t among = let h = of_each (IsHead up ss) ts t a.only among in subst (IsAmong us) h.2 (b.all t.place h.0 h.1)
 
-pub one_order : (up : Bool) (ss : List Stand) (ts us : List Taken) → AreTaken up ss ts → AreTaken up ss us → ts ≡ us
+pub one_order : (up : Bool) (ss : List HeadPosition) (ts us : List Taken) → AreTaken up ss ts → AreTaken up ss us → ts ≡ us
 one_order up ss ts us a b = orders_same ts us a.order b.order (all_there up ss ts us a b) (all_there up ss us ts b a)
 
 -- heads that are taken stand at places of their own
-same_place : (up : Bool) (ss : List Stand) (t u : Taken) → IsHead up ss t → IsHead up ss u → t.place ≡ u.place → t ≡ u
+same_place : (up : Bool) (ss : List HeadPosition) (t u : Taken) → IsHead up ss t → IsHead up ss u → t.place ≡ u.place → t ≡ u
 same_place up ss t u p q e = let s : Some p.0 ≡ Some q.0 = sym p.1 ∙ ap (λ n. slice_get ss n) e ∙ q.1 in let g : p.0 ≡ q.0 = grind (arith, s) in sym p.2 ∙ (λ i. head_at up (e i) (g i)) ∙ q.2
 
 abbrev pub Apart : List Taken → Type 0
 Apart [] = Unit {0}
 Apart (t ∷ ts) = AllByRecursion (λ u. u.place ≡ t.place → ⊥) ts × Apart ts
 
-apart_from : (up : Bool) (ss : List Stand) (t : Taken) (ts : List Taken) → IsHead up ss t → AllByRecursion (IsHead up ss) ts → AllByRecursion (IsBefore t) ts →
+apart_from : (up : Bool) (ss : List HeadPosition) (t : Taken) (ts : List Taken) → IsHead up ss t → AllByRecursion (IsHead up ss) ts → AllByRecursion (IsBefore t) ts →
     AllByRecursion (λ u. u.place ≡ t.place → ⊥) ts
 apart_from up ss t [] is are before = tt {0}
 apart_from up ss t (u ∷ us) is are before = (λ e. not_itself u (subst (λ x. IsBefore x u) (same_place up ss t u is are.0 (sym e)) before.0), apart_from up ss t us is are.1 before.1)
 
-all_apart : (up : Bool) (ss : List Stand) (ts : List Taken) → InOrder ts → AllByRecursion (IsHead up ss) ts → Apart ts
+all_apart : (up : Bool) (ss : List HeadPosition) (ts : List Taken) → AreTakenInOrder ts → AllByRecursion (IsHead up ss) ts → Apart ts
 all_apart up ss [] order are = tt {0}
 all_apart up ss (t ∷ ts) order are = (apart_from up ss t ts are.0 are.1 order.0, all_apart up ss ts order.1 are.1)
 
-pub are_apart : (up : Bool) (ss : List Stand) (ts : List Taken) → AreTaken up ss ts → Apart ts
+pub are_apart : (up : Bool) (ss : List HeadPosition) (ts : List Taken) → AreTaken up ss ts → Apart ts
 are_apart up ss ts a = all_apart up ss ts a.order a.only

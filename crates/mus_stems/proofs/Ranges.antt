@@ -1,6 +1,6 @@
 -- The lowest and the highest of good heads are in range.
 use Rattle.std.{proofs.{Common.{ℤ, pos, negsuc, ◌≤ℤ◌, List, [], ◌∷◌, arith}, lemmas.Int.{ints, clamps}}, specs.Int.{int_min, int_max}}
-use Rattle.mus_stems.specs.{declared.heads.Stand.Stand, declared.stills.Still.Still, Heads.AllNear, Heads.lowest, Heads.highest, Ends.low_of, Ends.high_of, Ends.lowest_in, Ends.highest_in, Ends.run_low, Ends.run_high, Stills.AllGood}
+use Rattle.mus_stems.specs.{declared.heads.HeadPosition.HeadPosition, declared.stills.StemInput.StemInput, Heads.AllNear, Heads.lowest, Heads.highest, Ends.low_of, Ends.high_of, Ends.lowest_in, Ends.highest_in, Ends.run_low, Ends.run_high, Stills.AllGood}
 
 abbrev pub InRange : ℤ → Type 0
 InRange z = (negsuc 13 ≤ℤ z) × (z ≤ℤ pos 22)
@@ -14,34 +14,34 @@ in_max y z p q = (omega (arith, ints, clamps, p.0, q.0), omega (arith, ints, cla
 zero_in : InRange (pos 0)
 zero_in = (omega (arith, ints), omega (arith, ints))
 
-lowest_near : (z : ℤ) (ss : List Stand) → InRange z → AllNear ss → InRange (lowest z ss)
+lowest_near : (z : ℤ) (ss : List HeadPosition) → InRange z → AllNear ss → InRange (lowest z ss)
 lowest_near z [] p a = p
 lowest_near z (s ∷ ss) p a = lowest_near (int_min z s.height) ss (in_min z s.height p a.0) a.1
 
-highest_near : (z : ℤ) (ss : List Stand) → InRange z → AllNear ss → InRange (highest z ss)
+highest_near : (z : ℤ) (ss : List HeadPosition) → InRange z → AllNear ss → InRange (highest z ss)
 highest_near z [] p a = p
 highest_near z (s ∷ ss) p a = highest_near (int_max z s.height) ss (in_max z s.height p a.0) a.1
 
-pub low_near : (ss : List Stand) → AllNear ss → InRange (low_of ss)
+pub low_near : (ss : List HeadPosition) → AllNear ss → InRange (low_of ss)
 low_near [] a = zero_in
 low_near (s ∷ ss) a = lowest_near s.height ss a.0 a.1
 
-pub high_near : (ss : List Stand) → AllNear ss → InRange (high_of ss)
+pub high_near : (ss : List HeadPosition) → AllNear ss → InRange (high_of ss)
 high_near [] a = zero_in
 high_near (s ∷ ss) a = highest_near s.height ss a.0 a.1
 
-lowest_in_near : (z : ℤ) (es : List Still) → InRange z → AllGood es → InRange (lowest_in z es)
+lowest_in_near : (z : ℤ) (es : List StemInput) → InRange z → AllGood es → InRange (lowest_in z es)
 lowest_in_near z [] p a = p
 lowest_in_near z (e ∷ es) p a = lowest_in_near (lowest z e.stands) es (lowest_near z e.stands p a.0.0) a.1
 
-highest_in_near : (z : ℤ) (es : List Still) → InRange z → AllGood es → InRange (highest_in z es)
+highest_in_near : (z : ℤ) (es : List StemInput) → InRange z → AllGood es → InRange (highest_in z es)
 highest_in_near z [] p a = p
 highest_in_near z (e ∷ es) p a = highest_in_near (highest z e.stands) es (highest_near z e.stands p a.0.0) a.1
 
-pub run_low_near : (es : List Still) → AllGood es → InRange (run_low es)
+pub run_low_near : (es : List StemInput) → AllGood es → InRange (run_low es)
 run_low_near [] a = zero_in
 run_low_near (e ∷ es) a = lowest_in_near (low_of e.stands) es (low_near e.stands a.0.0) a.1
 
-pub run_high_near : (es : List Still) → AllGood es → InRange (run_high es)
+pub run_high_near : (es : List StemInput) → AllGood es → InRange (run_high es)
 run_high_near [] a = zero_in
 run_high_near (e ∷ es) a = highest_in_near (high_of e.stands) es (high_near e.stands a.0.0) a.1

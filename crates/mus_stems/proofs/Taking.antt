@@ -1,13 +1,13 @@
 -- What is taken from events that can be drawn is good.
 use Rattle.std.proofs.Common.{◌≡◌, ◌≤◌, List, [], ◌∷◌, length, map, refl, subst, sym, ap, suc}
 use Rattle.{mus_units.specs.{declared.pitch.Clef.Clef, declared.note.Head.Head}, mus_score.specs.{declared.score.Flat.Flat, GoodScore.clef_at}}
-use Rattle.mus_stems.specs.{declared.stills.Still.Still, Heads.stand_of, Stills.still_of, Stills.clefs_from, Stills.stills, Stills.CanStand, Stills.AllCanStand, Stills.IsGoodStill, Stills.AllGood}
+use Rattle.mus_stems.specs.{declared.stills.StemInput.StemInput, Heads.stand_of, Stills.still_of, Stills.clefs_from, Stills.stills, Stills.CanDrawEvent, Stills.AllCanStand, Stills.IsGoodStill, Stills.AllGood}
 
 length-stands : (c : Clef) (hs : List Head) → length (map (stand_of c) hs) ≡ length hs
 length-stands c [] = refl
 length-stands c (h ∷ hs) = ap (λ n. suc n) (length-stands c hs)
 
-still_is_good : (f : Flat) (c : Clef) → CanStand f c → IsGoodStill (still_of f c)
+still_is_good : (f : Flat) (c : Clef) → CanDrawEvent f c → IsGoodStill (still_of f c)
 unfolding still_of
 still_is_good f c can = (can.near, subst (λ n. n ≤ 50000) (sym (length-stands c f.event.heads)) can.few, can.dots)
 
@@ -16,7 +16,7 @@ all_good [] cs can = tt {0}
 all_good (f ∷ fs) [] can = tt {0}
 all_good (f ∷ fs) (c ∷ cs) can = (still_is_good f c can.0, all_good fs cs can.1)
 
-pub stills_are_good : (es : List Still) (fs : List Flat) (cs : List Clef) → es ≡ stills fs cs → AllCanStand fs cs → AllGood es
+pub stills_are_good : (es : List StemInput) (fs : List Flat) (cs : List Clef) → es ≡ stills fs cs → AllCanStand fs cs → AllGood es
 stills_are_good es fs cs e can = subst AllGood (sym e) (all_good fs cs can)
 
 pub stills_length : (clef : Clef) (fs : List Flat) → length (stills fs (clefs_from clef fs)) ≡ length fs

@@ -1,7 +1,7 @@
 -- Displaced heads. The head that is taken first stands at its stem. Each other one is displaced to the other side of the
 -- stem exactly where it is at most one step past the head taken before it and that head isn't displaced.
 use Rattle.std.specs.{Prelude.{◌≡◌, ℤ, pos, Bool, not, ◌&&◌, if◌then◌else◌, ⊤, List, [], ◌∷◌, length, slice_index_or}, Ordering.int_eq}
-use Rattle.mus_stems.specs.{declared.heads.Stand.Stand, Heads.Taken, Heads.is_step_past, Heads.shift_of, Order.AreTaken}
+use Rattle.mus_stems.specs.{declared.heads.HeadPosition.HeadPosition, Heads.Taken, Heads.is_step_past, Heads.head_shift, Order.AreTaken}
 
 -- the dx that a list in the order of the text has for a head
 abbrev pub dx_of : List ℤ → Taken → ℤ
@@ -11,7 +11,7 @@ abbrev pub is_displaced : List ℤ → Taken → Bool
 is_displaced xs t = not (int_eq (dx_of xs t) (pos 0))
 
 abbrev pub dx_where : Bool → Bool → ℤ
-dx_where up displaced = if displaced then shift_of up else pos 0
+dx_where up displaced = if displaced then head_shift up else pos 0
 
 -- heads that are taken one after the other, the first of them after b
 abbrev pub DisplacedAfter : Bool → List ℤ → Taken → List Taken → Type 0
@@ -23,7 +23,7 @@ Displaced up xs [] = ⊤
 Displaced up xs (t ∷ ts) = (dx_of xs t ≡ pos 0) × DisplacedAfter up xs t ts
 
 -- the dx of each head of an event, in the order of the text
-pub record AreDisplaced (up : Bool) (ss : List Stand) (xs : List ℤ) : Type 0 where
+pub record AreDisplaced (up : Bool) (ss : List HeadPosition) (xs : List ℤ) : Type 0 where
   pub each : length xs ≡ length ss
   pub order : List Taken
   pub taken : AreTaken up ss order

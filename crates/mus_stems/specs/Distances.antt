@@ -3,8 +3,8 @@
 use Rattle.std.specs.Prelude.{ℕ, ℤ, pos, negsuc}
 
 -- a step of the staff, and the middle line, four steps up
-abbrev pub step : ℤ
-step = pos 250
+abbrev pub staff_step : ℤ
+staff_step = pos 250
 
 abbrev pub middle_line : ℤ
 middle_line = pos 1000

@@ -1,6 +1,6 @@
 -- The dots behind the heads of an event.
 use Rattle.std.specs.{Prelude.{ℕ, zero, suc, ℤ, pos, negsuc, ◌+◌, ◌*◌, ◌%◌, ◌+ℤ◌, ◌*ℤ◌, Bool, ◌==◌, if◌then◌else◌, List, [], ◌∷◌, ◌++◌}, Ordering.int_eq, List.list_any}
-use Rattle.mus_stems.specs.{declared.heads.Stand.Stand, declared.dots.Spot.Spot, Distances.step, Distances.right_of_stem, Distances.dot_column, Distances.outer_dot_column, Distances.between_dots}
+use Rattle.mus_stems.specs.{declared.heads.HeadPosition.HeadPosition, declared.dots.Spot.Spot, Distances.staff_step, Distances.right_of_stem, Distances.dot_column, Distances.outer_dot_column, Distances.between_dots}
 
 unfoldable pub is_right : ℤ → Bool
 is_right dx = int_eq dx right_of_stem
@@ -21,11 +21,11 @@ is_even (pos n) = n % 2 == 0
 is_even (negsuc n) = n % 2 == 1
 
 unfoldable pub dot_height : ℤ → ℤ
-dot_height h = if is_even h then (step *ℤ h) +ℤ step else (step *ℤ h)
+dot_height h = if is_even h then (staff_step *ℤ h) +ℤ staff_step else (staff_step *ℤ h)
 
 unfoldable pub first_dot : List ℤ → ℤ
 first_dot shifts = if list_any is_right shifts then outer_dot_column else dot_column
 
-abbrev pub dots_along : ℤ → ℕ → List Stand → List Spot
+abbrev pub dots_along : ℤ → ℕ → List HeadPosition → List Spot
 dots_along dx n [] = []
 dots_along dx n (s ∷ ss) = dots_at dx (dot_height s.height) 0 n ++ dots_along dx n ss

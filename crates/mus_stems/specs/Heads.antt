@@ -1,26 +1,26 @@
 -- Displaced heads: heads are taken from the lowest up where the stem goes up, and from the highest down where it goes down, at one height
 -- in the order of the text. A head at most one step past the one taken before it goes to the other side of the stem, unless that one did.
 use Rattle.std.specs.{Prelude.{ℕ, zero, suc, ℤ, pos, negsuc, ◌+◌, ◌+ℤ◌, ◌-ℤ◌, ◌≤ℤ◌, Bool, true, false, not, ◌&&◌, int_le, if◌then◌else◌, List, [], ◌∷◌, length, replicate, Option, Some, None, is_some}, Ordering.int_eq, Int.{int_min, int_max}, List.{slice_set, AllByRecursion}}
-use Rattle.{mus_units.specs.{Pitch.height_of, declared.note.Head.Head, declared.pitch.Clef.Clef}, mus_stems.specs.{declared.heads.Stand.Stand, declared.heads.Last.Last, Distances.right_of_stem, Distances.left_of_stem}}
+use Rattle.{mus_units.specs.{Pitch.height_of, declared.note.Head.Head, declared.pitch.Clef.Clef}, mus_stems.specs.{declared.heads.HeadPosition.HeadPosition, declared.heads.LastHead.LastHead, Distances.right_of_stem, Distances.left_of_stem}}
 
 -- where a head stands in a clef, and whether a sign is written before it
-unfoldable pub stand_of : Clef → Head → Stand
+unfoldable pub stand_of : Clef → Head → HeadPosition
 stand_of c h = record { height = height_of h.pitch c; signed = is_some h.sign }
 
 -- heads stand at heights -14 to 22
-abbrev pub IsNear : Stand → Type 0
-IsNear s = (negsuc 13 ≤ℤ s.height) × (s.height ≤ℤ pos 22)
+abbrev pub IsNearStaff : HeadPosition → Type 0
+IsNearStaff s = (negsuc 13 ≤ℤ s.height) × (s.height ≤ℤ pos 22)
 
-abbrev pub AllNear : List Stand → Type 0
-AllNear ss = AllByRecursion IsNear ss
+abbrev pub AllNear : List HeadPosition → Type 0
+AllNear ss = AllByRecursion IsNearStaff ss
 
 -- the least of a height and those of heads
-abbrev pub lowest : ℤ → List Stand → ℤ
+abbrev pub lowest : ℤ → List HeadPosition → ℤ
 lowest z [] = z
 lowest z (s ∷ ss) = lowest (int_min z s.height) ss
 
 -- the greatest of a height and those of heads
-abbrev pub highest : ℤ → List Stand → ℤ
+abbrev pub highest : ℤ → List HeadPosition → ℤ
 highest z [] = z
 highest z (s ∷ ss) = highest (int_max z s.height) ss
 
@@ -35,41 +35,41 @@ pub record Taken : Type 0 where
   pub signed : Bool
 
 -- the head at place k, if it stands at level v, in front of what is taken after it
-unfoldable pub taken_one : Bool → ℤ → ℕ → Stand → List Taken → List Taken
+unfoldable pub taken_one : Bool → ℤ → ℕ → HeadPosition → List Taken → List Taken
 taken_one up v k s rest = if int_eq (level_of up s.height) v then record { place = k; level = v; signed = s.signed } ∷ rest else rest
 
 -- the heads at one level, counted from k
-abbrev pub taken_at : Bool → ℤ → ℕ → List Stand → List Taken → List Taken
+abbrev pub taken_at : Bool → ℤ → ℕ → List HeadPosition → List Taken → List Taken
 taken_at up v k [] rest = rest
 taken_at up v k (s ∷ ss) rest = taken_one up v k s (taken_at up v (k + 1) ss rest)
 
 -- the heads at n levels from v on
-abbrev pub taken_from : Bool → ℤ → ℕ → List Stand → List Taken
+abbrev pub taken_from : Bool → ℤ → ℕ → List HeadPosition → List Taken
 taken_from up v zero ss = []
 taken_from up v (suc n) ss = taken_at up v 0 ss (taken_from up (v +ℤ pos 1) n ss)
 
 -- all heads as they are taken: from the lowest for up, from the highest for down, and heads of one height in the
 -- order of the text. Their levels are -22 to 22, since they stand at -14 to 22
-unfoldable pub taken : Bool → List Stand → List Taken
+unfoldable pub taken : Bool → List HeadPosition → List Taken
 taken up ss = taken_from up (negsuc 21) 45 ss
 
 -- a head is displaced where it is at most one step past the head taken before it and that head isn't displaced
 unfoldable pub is_step_past : ℤ → ℤ → Bool
 is_step_past before v = int_le (v -ℤ pos 1) before
 
-unfoldable pub gives_way : Option Last → ℤ → Bool
+unfoldable pub gives_way : Option LastHead → ℤ → Bool
 gives_way None v = false
 gives_way (Some b) v = is_step_past b.level v && not b.moved
 
-abbrev pub shifted : ℤ → Option Last → List Taken → List ℤ → List ℤ
+abbrev pub shifted : ℤ → Option LastHead → List Taken → List ℤ → List ℤ
 shifted dx b [] xs = xs
 shifted dx b (t ∷ ts) xs =
     if gives_way b t.level then shifted dx (Some (record { level = t.level; moved = true })) ts (slice_set xs t.place dx)
     else shifted dx (Some (record { level = t.level; moved = false })) ts xs
 
-unfoldable pub shift_of : Bool → ℤ
-shift_of up = if up then right_of_stem else left_of_stem
+unfoldable pub head_shift : Bool → ℤ
+head_shift up = if up then right_of_stem else left_of_stem
 
 -- the dx of each head, in the order of the text
-unfoldable pub shifts_of : Bool → List Stand → List ℤ
-shifts_of up ss = shifted (shift_of up) None (taken up ss) (replicate (length ss) (pos 0))
+unfoldable pub shifts_of : Bool → List HeadPosition → List ℤ
+shifts_of up ss = shifted (head_shift up) None (taken up ss) (replicate (length ss) (pos 0))

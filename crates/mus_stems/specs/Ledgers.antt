@@ -10,9 +10,9 @@ unfoldable pub line_above : ℕ → ℤ
 line_above k = first_above +ℤ pos (between_lines * k)
 
 -- n of them, from the k-th on
-abbrev pub lines_of : (ℕ → ℤ) → ℕ → ℕ → List ℤ
-lines_of line k zero = []
-lines_of line k (suc n) = line k ∷ lines_of line (k + 1) n
+abbrev pub ledger_lines : (ℕ → ℤ) → ℕ → ℕ → List ℤ
+ledger_lines line k zero = []
+ledger_lines line k (suc n) = line k ∷ ledger_lines line (k + 1) n
 
 abbrev pub lines_below : ℤ → ℕ
 lines_below (negsuc n) = (n + 1) / 2
@@ -23,4 +23,4 @@ lines_above (pos n) = (n - 8) / 2
 lines_above (negsuc n) = 0
 
 unfoldable pub ledgers_of : ℤ → ℤ → List ℤ
-ledgers_of low high = lines_of line_below 0 (lines_below low) ++ lines_of line_above 0 (lines_above high)
+ledgers_of low high = ledger_lines line_below 0 (lines_below low) ++ ledger_lines line_above 0 (lines_above high)

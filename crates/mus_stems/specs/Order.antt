@@ -1,30 +1,30 @@
 -- The order in which the heads of an event are taken: from the lowest up where the stem goes up, from the highest down
 -- where it goes down, and heads of one height in the order of the text.
 use Rattle.std.specs.{Prelude.{◌≡◌, ℕ, ◌<◌, ◌<ℤ◌, ◌⊎◌, ⊤, Bool, List, [], ◌∷◌, slice_get, Some}, List.AllByRecursion}
-use Rattle.mus_stems.specs.{declared.heads.Stand.Stand, Heads.Taken, Heads.level_of}
+use Rattle.mus_stems.specs.{declared.heads.HeadPosition.HeadPosition, Heads.Taken, Heads.level_of}
 
 -- a head is taken before another where it stands less far in the way in which heads are taken, or as far and earlier in the text
 abbrev pub IsBefore : Taken → Taken → Type 0
 IsBefore a b = (a.level <ℤ b.level) ⊎ ((a.level ≡ b.level) × (a.place < b.place))
 
 -- each head is taken before all that follow it
-abbrev pub InOrder : List Taken → Type 0
-InOrder [] = ⊤
-InOrder (t ∷ ts) = AllByRecursion (IsBefore t) ts × InOrder ts
+abbrev pub AreTakenInOrder : List Taken → Type 0
+AreTakenInOrder [] = ⊤
+AreTakenInOrder (t ∷ ts) = AllByRecursion (IsBefore t) ts × AreTakenInOrder ts
 
 -- a head of the text, at its place
-abbrev pub head_at : Bool → ℕ → Stand → Taken
+abbrev pub head_at : Bool → ℕ → HeadPosition → Taken
 head_at up k s = record { place = k; level = level_of up s.height; signed = s.signed }
 
-abbrev pub IsHead : Bool → List Stand → Taken → Type 0
-IsHead up ss t = (s : Stand) × (slice_get ss t.place ≡ Some s) × (head_at up t.place s ≡ t)
+abbrev pub IsHead : Bool → List HeadPosition → Taken → Type 0
+IsHead up ss t = (s : HeadPosition) × (slice_get ss t.place ≡ Some s) × (head_at up t.place s ≡ t)
 
 abbrev pub IsAmong : List Taken → Taken → Type 0
 IsAmong [] t = ⊥
 IsAmong (u ∷ us) t = (u ≡ t) ⊎ IsAmong us t
 
 -- the heads of an event in the order in which they are taken: heads of the event alone, and all of them
-pub record AreTaken (up : Bool) (ss : List Stand) (ts : List Taken) : Type 0 where
-  pub order : InOrder ts
+pub record AreTaken (up : Bool) (ss : List HeadPosition) (ts : List Taken) : Type 0 where
+  pub order : AreTakenInOrder ts
   pub only : AllByRecursion (IsHead up ss) ts
-  pub all : (k : ℕ) (s : Stand) → slice_get ss k ≡ Some s → IsAmong ts (head_at up k s)
+  pub all : (k : ℕ) (s : HeadPosition) → slice_get ss k ≡ Some s → IsAmong ts (head_at up k s)

@@ -1,22 +1,22 @@
 -- The stem plans of the events of a measure.
 use Rattle.std.specs.{Prelude.{◌≡◌, ℕ, ℤ, pos, negsuc, ◌≤ℤ◌, Bool, List, [], ◌∷◌, map}, List.{flat_map, AllByRecursion, AllZip}}
 use Rattle.{mus_units.specs.{declared.pitch.Clef.Clef, declared.note.Wish.Wish}, mus_score.specs.declared.score.Flat.{Flat}}
-use Rattle.mus_stems.specs.{declared.{stills.Still.Still, plans.StemPlan.StemPlan}, Heads.shifts_of, Displaced.AreDisplaced, Columns.AreInColumns, Signs.{first_sign, signs_from}, Ledgers.ledgers_of, Dots.{first_dot, dots_along}, Stills.{flags_of, stills}, Runs.AreMaximalRuns, Beams.{is_joined, beams}, Ends.{low_of, high_of, stands_up, own_end, run_end, from_of, has_stem}}
+use Rattle.mus_stems.specs.{declared.{stills.StemInput.StemInput, plans.StemPlan.StemPlan}, Heads.shifts_of, Displaced.AreDisplaced, Columns.AreInColumns, Signs.{first_sign, signs_from}, Ledgers.ledgers_of, Dots.{first_dot, dots_along}, Stills.{flags_of, stills}, Runs.AreMaximalRuns, Beams.{is_joined, beams}, Ends.{low_of, high_of, stands_up, stem_own_end, run_end, from_of, has_stem}}
 
 -- the event at which a run begins
-abbrev pub first_id : List Still → ℕ
-first_id [] = 0
-first_id (e ∷ es) = e.id
+abbrev pub first_event_id : List StemInput → ℕ
+first_event_id [] = 0
+first_event_id (e ∷ es) = e.id
 
 -- the plan of an event, over the way of its run, the run's end and the event at which it begins
-unfoldable pub plan_of : Bool → ℤ → ℕ → Still → StemPlan
+unfoldable pub plan_of : Bool → ℤ → ℕ → StemInput → StemPlan
 plan_of up to group e =
     let shifts = shifts_of up e.stands in record {
       up = up;
       has = has_stem e;
       from = from_of up e.stands;
       to = to;
-      own = own_end up e.stands;
+      own = stem_own_end up e.stands;
       group = group;
       flags = flags_of e.base;
       shifts = shifts;
@@ -25,14 +25,14 @@ plan_of up to group e =
       dots = dots_along (first_dot shifts) e.dots e.stands;
     }
 
-abbrev pub plans_along : Bool → ℤ → ℕ → List Still → List StemPlan
+abbrev pub plans_along : Bool → ℤ → ℕ → List StemInput → List StemPlan
 plans_along up to group [] = []
 plans_along up to group (e ∷ es) = plan_of up to group e ∷ plans_along up to group es
 
-unfoldable pub run_plans : Wish → List Still → List StemPlan
-run_plans wish run = let up = stands_up wish run in plans_along up (run_end up run) (first_id run) run
+unfoldable pub run_plans : Wish → List StemInput → List StemPlan
+run_plans wish run = let up = stands_up wish run in plans_along up (run_end up run) (first_event_id run) run
 
-abbrev pub plans_of_runs : Wish → List (List Still) → List StemPlan
+abbrev pub plans_of_runs : Wish → List (List StemInput) → List StemPlan
 plans_of_runs wish = flat_map (run_plans wish)
 
 unfoldable pub stems_of : Wish → List Flat → List Clef → List StemPlan
@@ -40,23 +40,23 @@ stems_of wish fs cs = plans_of_runs wish (beams (stills fs cs))
 
 -- an event of a run
 pub record InRun : Type 0 where
-  pub run : List Still
-  pub event : Still
+  pub run : List StemInput
+  pub event : StemInput
 
-abbrev pub in_run : List Still → Still → InRun
+abbrev pub in_run : List StemInput → StemInput → InRun
 in_run run e = record { run = run; event = e }
 
-abbrev pub in_runs : List (List Still) → List InRun
+abbrev pub in_runs : List (List StemInput) → List InRun
 in_runs = flat_map (λ run. map (in_run run) run)
 
 -- how an event of a beam, or by itself, is drawn
-pub record IsPlan (wish : Wish) (i : InRun) (p : StemPlan) : Type 0 where
+pub record IsStemPlan (wish : Wish) (i : InRun) (p : StemPlan) : Type 0 where
   pub way : p.up ≡ stands_up wish i.run
   pub has : p.has ≡ has_stem i.event
   pub from : p.from ≡ from_of p.up i.event.stands
-  pub own : p.own ≡ own_end p.up i.event.stands
+  pub own : p.own ≡ stem_own_end p.up i.event.stands
   pub to : p.to ≡ run_end p.up i.run
-  pub group : p.group ≡ first_id i.run
+  pub group : p.group ≡ first_event_id i.run
   pub flags : p.flags ≡ flags_of i.event.base
   pub shifts : AreDisplaced p.up i.event.stands p.shifts
   pub signs : AreInColumns (first_sign p.shifts) i.event.stands p.signs
@@ -64,14 +64,14 @@ pub record IsPlan (wish : Wish) (i : InRun) (p : StemPlan) : Type 0 where
   pub dots : p.dots ≡ dots_along (first_dot p.shifts) i.event.dots i.event.stands
 
 -- the plans of the events of a measure: its beams are maximal runs, and each event is drawn as one of its beam
-pub record ArePlans (wish : Wish) (es : List Still) (plans : List StemPlan) : Type 0 where
-  pub runs : List (List Still)
+pub record ArePlans (wish : Wish) (es : List StemInput) (plans : List StemPlan) : Type 0 where
+  pub runs : List (List StemInput)
   pub maximal : AreMaximalRuns is_joined es runs
-  pub drawn : AllZip (IsPlan wish) (in_runs runs) plans
+  pub drawn : AllZip (IsStemPlan wish) (in_runs runs) plans
 
 -- there are no other plans
 abbrev pub OnePlan : Type 0
-OnePlan = (wish : Wish) (es : List Still) (plans others : List StemPlan) → ArePlans wish es plans → ArePlans wish es others → plans ≡ others
+OnePlan = (wish : Wish) (es : List StemInput) (plans others : List StemPlan) → ArePlans wish es plans → ArePlans wish es others → plans ≡ others
 
 -- a stem's own end is -5250 to 7250
 abbrev pub IsEndNear : StemPlan → Type 0

@@ -1,16 +1,16 @@
 -- Where the signs before the heads of an event stand.
 use Rattle.std.specs.{Prelude.{ℕ, ℤ, pos, ◌+◌, ◌*◌, ◌-ℤ◌, Bool, false, if◌then◌else◌, List, [], ◌∷◌, length, replicate, Option, Some, None}, Ordering.int_eq, List.{slice_set, list_any}}
-use Rattle.mus_stems.specs.{declared.heads.Stand.Stand, Distances.left_of_stem, Distances.sign_column, Distances.outer_sign_column, Distances.between_columns, Heads.Taken, Heads.taken}
+use Rattle.mus_stems.specs.{declared.heads.HeadPosition.HeadPosition, Distances.left_of_stem, Distances.sign_column, Distances.outer_sign_column, Distances.between_columns, Heads.Taken, Heads.taken}
 
 -- the dx of the k-th column of signs, from 0
-unfoldable pub sign_at : ℤ → ℕ → ℤ
-sign_at first k = first -ℤ pos (between_columns * k)
+unfoldable pub sign_dx : ℤ → ℕ → ℤ
+sign_dx first k = first -ℤ pos (between_columns * k)
 
 abbrev pub signs_along : ℤ → ℕ → List Taken → List (Option ℤ) → List (Option ℤ)
 signs_along first k [] xs = xs
-signs_along first k (t ∷ ts) xs = if t.signed then signs_along first (k + 1) ts (slice_set xs t.place (Some (sign_at first k))) else signs_along first k ts xs
+signs_along first k (t ∷ ts) xs = if t.signed then signs_along first (k + 1) ts (slice_set xs t.place (Some (sign_dx first k))) else signs_along first k ts xs
 
-unfoldable pub signs_from : ℤ → List Stand → List (Option ℤ)
+unfoldable pub signs_from : ℤ → List HeadPosition → List (Option ℤ)
 signs_from first ss = signs_along first 0 (taken false ss) (replicate (length ss) None)
 
 unfoldable pub is_left : ℤ → Bool

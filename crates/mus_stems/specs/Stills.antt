@@ -1,7 +1,7 @@
 -- What a stem plan takes from an event: its value, whether a space or a line end parts it from the event before it, and
 -- where its heads stand in its clef.
 use Rattle.std.specs.{Prelude.{ℕ, ◌≤◌, Bool, true, false, ⊤, List, [], ◌∷◌, length, map}, List.AllByRecursion}
-use Rattle.{mus_units.specs.{declared.value.Base.Base, declared.pitch.Clef.Clef}, mus_score.specs.{declared.score.Flat.Flat, GoodScore.clef_at}, mus_stems.specs.{declared.stills.Still.Still, Heads.AllNear, Heads.stand_of}}
+use Rattle.{mus_units.specs.{declared.value.Base.Base, declared.pitch.Clef.Clef}, mus_score.specs.{declared.score.Flat.Flat, GoodScore.clef_at}, mus_stems.specs.{declared.stills.StemInput.StemInput, Heads.AllNear, Heads.stand_of}}
 
 -- the flags of a base: one for 1/8, one more for each halving
 abbrev pub flags_of : Base → ℕ
@@ -17,7 +17,7 @@ is_short Base.Breve = false
 is_short Base.Whole = false
 is_short _ = true
 
-unfoldable pub still_of : Flat → Clef → Still
+unfoldable pub still_of : Flat → Clef → StemInput
 still_of f c = record { id = f.event.id; base = f.event.value.base; dots = f.event.value.dots; parted = f.event.parted; stands = map (stand_of c) f.event.heads }
 
 -- the clef at each event
@@ -26,13 +26,13 @@ clefs_from clef [] = []
 clefs_from clef (f ∷ fs) = clef_at clef f.event ∷ clefs_from (clef_at clef f.event) fs
 
 -- events, each in its own clef
-abbrev pub stills : List Flat → List Clef → List Still
+abbrev pub stills : List Flat → List Clef → List StemInput
 stills [] cs = []
 stills (f ∷ fs) [] = []
 stills (f ∷ fs) (c ∷ cs) = still_of f c ∷ stills fs cs
 
 -- an event that can be drawn in a clef: at most 50,000 heads, each at height -14 to 22, and at most 3 dots
-pub record CanStand (f : Flat) (c : Clef) : Type 0 where
+pub record CanDrawEvent (f : Flat) (c : Clef) : Type 0 where
   pub near : AllNear (map (stand_of c) f.event.heads)
   pub few : length f.event.heads ≤ 50000
   pub dots : f.event.value.dots ≤ 3
@@ -41,11 +41,11 @@ pub record CanStand (f : Flat) (c : Clef) : Type 0 where
 abbrev pub AllCanStand : List Flat → List Clef → Type 0
 AllCanStand [] cs = ⊤
 AllCanStand (f ∷ fs) [] = ⊤
-AllCanStand (f ∷ fs) (c ∷ cs) = CanStand f c × AllCanStand fs cs
+AllCanStand (f ∷ fs) (c ∷ cs) = CanDrawEvent f c × AllCanStand fs cs
 
 -- the same of what was taken from events
-abbrev pub IsGoodStill : Still → Type 0
+abbrev pub IsGoodStill : StemInput → Type 0
 IsGoodStill e = AllNear e.stands × (length e.stands ≤ 50000) × (e.dots ≤ 3)
 
-abbrev pub AllGood : List Still → Type 0
+abbrev pub AllGood : List StemInput → Type 0
 AllGood es = AllByRecursion IsGoodStill es

@@ -1,11 +1,11 @@
 ghost use Rattle.std.specs.Prelude.{◌≡◌, ◌≤◌, length};
 ghost use Rattle.mus_stems.specs.{Beams.is_beamed, Beams.is_joined, Runs.run_more};
 
-use crate::stills::{Still, flags_for};
+use crate::stills::{StemInput, flags_for};
 
 /// Whether an event can be in a beam: a note with a flag.
 #[tactic(auto, unfolding(crate::specs::Beams::is_beamed))]
-fn beamed(e: &Still) -> bool
+fn beamed(e: &StemInput) -> bool
     ensures { result ≡ is_beamed e.now }
 {
     0 < e.stands.as_slice().len() && 0 < flags_for(e.base)
@@ -13,14 +13,14 @@ fn beamed(e: &Still) -> bool
 
 /// Whether a beam joins two neighbours.
 #[tactic(auto, unfolding(crate::specs::Beams::is_joined))]
-fn joined(d: &Still, e: &Still) -> bool
+fn joined(d: &StemInput, e: &StemInput) -> bool
     ensures { result ≡ is_joined d.now e.now }
 {
     beamed(d) && beamed(e) && !e.parted
 }
 
 /// How many events follow the first in its run.
-pub fn more_in_run(d: &Still, es: &[Still]) -> usize
+pub fn more_in_run(d: &StemInput, es: &[StemInput]) -> usize
     ensures value { result ≡ run_more is_joined d.now es.now }
     ensures bound { result ≤ length es.now }
 {

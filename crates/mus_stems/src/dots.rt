@@ -2,7 +2,7 @@ ghost use Rattle.std.specs.{Prelude.◌≡◌, Prelude.◌≤ℤ◌, Prelude.◌
 ghost use Rattle.mus_stems.specs.{Heads.AllNear, Dots.is_right, Dots.first_dot, Dots.dot_place, Dots.dot_at, Dots.dots_at, Dots.dot_height, Dots.dots_along};
 
 use crate::distances::{BETWEEN_DOTS, DOT_COLUMN, OUTER_DOT_COLUMN, RIGHT_OF_STEM, STEP};
-use crate::heads::Stand;
+use crate::heads::HeadPosition;
 use mus_units::{Memory, Row};
 
 /// A place beside an event: a dot's, in u.
@@ -83,7 +83,7 @@ fn put_dots_of(out: &mut Row<Spot>, first: i32, dy: i32, n: u8) -> Result<(), Me
 }
 
 /// The dots of the heads of an event, `n` of each.
-pub fn put_dots(out: &mut Row<Spot>, dx: i32, n: u8, stands: &[Stand]) -> Result<(), Memory>
+pub fn put_dots(out: &mut Row<Spot>, dx: i32, n: u8, stands: &[HeadPosition]) -> Result<(), Memory>
     requires dots { n ≤ 3 }
     requires low { pos 600 ≤ℤ dx }
     requires high { dx ≤ℤ pos 1160 }

@@ -1,12 +1,12 @@
 ghost use Rattle.std.specs.Prelude.{◌≡◌, ◌≤ℤ◌, pos, negsuc};
-ghost use Rattle.mus_stems.specs.{Heads.AllNear, Stills.AllGood, Ends.{low_of, high_of, lowest_in, highest_in, run_low, run_high, is_up, stands_up, upper_end, lower_end, outer_end, own_end, further, furthest, run_end, from_of, has_stem}};
+ghost use Rattle.mus_stems.specs.{Heads.AllNear, Stills.AllGood, Ends.{low_of, high_of, lowest_in, highest_in, run_low, run_high, is_up, stands_up, upper_end, lower_end, outer_end, stem_own_end, further_end, beam_end, run_end, from_of, has_stem}};
 
 use crate::distances::{MIDDLE_LINE, STEM_LENGTH, STEP};
-use crate::heads::{Stand, highest_from, lowest_from};
-use crate::stills::{Still, is_short_base};
+use crate::heads::{HeadPosition, highest_from, lowest_from};
+use crate::stills::{StemInput, is_short_base};
 use mus_units::Wish;
 
-fn low_in(stands: &[Stand]) -> i32
+fn low_in(stands: &[HeadPosition]) -> i32
     ensures { result ≡ low_of stands.now }
 {
     match stands {
@@ -15,7 +15,7 @@ fn low_in(stands: &[Stand]) -> i32
     }
 }
 
-fn high_in(stands: &[Stand]) -> i32
+fn high_in(stands: &[HeadPosition]) -> i32
     ensures { result ≡ high_of stands.now }
 {
     match stands {
@@ -25,7 +25,7 @@ fn high_in(stands: &[Stand]) -> i32
 }
 
 /// The least of a height and those of the heads of events.
-fn lowest_along(first: i32, run: &[Still]) -> i32
+fn lowest_along(first: i32, run: &[StemInput]) -> i32
     ensures { result ≡ lowest_in first run.now }
 {
     let mut low = first;
@@ -36,7 +36,7 @@ fn lowest_along(first: i32, run: &[Still]) -> i32
 }
 
 /// The greatest of a height and those of the heads of events.
-fn highest_along(first: i32, run: &[Still]) -> i32
+fn highest_along(first: i32, run: &[StemInput]) -> i32
     ensures { result ≡ highest_in first run.now }
 {
     let mut high = first;
@@ -47,7 +47,7 @@ fn highest_along(first: i32, run: &[Still]) -> i32
 }
 
 /// The height of the lowest head of a run.
-fn low_of_run(run: &[Still]) -> i32
+fn low_of_run(run: &[StemInput]) -> i32
     ensures { result ≡ run_low run.now }
 {
     match run {
@@ -57,7 +57,7 @@ fn low_of_run(run: &[Still]) -> i32
 }
 
 /// The height of the highest head of a run.
-fn high_of_run(run: &[Still]) -> i32
+fn high_of_run(run: &[StemInput]) -> i32
     ensures { result ≡ run_high run.now }
 {
     match run {
@@ -67,7 +67,7 @@ fn high_of_run(run: &[Still]) -> i32
 }
 
 /// The height of the lowest head; 0 without a head.
-pub fn lowest_head(stands: &[Stand]) -> i32
+pub fn lowest_head(stands: &[HeadPosition]) -> i32
     requires { AllNear stands.now }
     ensures value { result ≡ low_of stands.now }
     ensures low { negsuc 13 ≤ℤ result }
@@ -77,7 +77,7 @@ pub fn lowest_head(stands: &[Stand]) -> i32
 }
 
 /// The height of the highest head; 0 without a head.
-pub fn highest_head(stands: &[Stand]) -> i32
+pub fn highest_head(stands: &[HeadPosition]) -> i32
     requires { AllNear stands.now }
     ensures value { result ≡ high_of stands.now }
     ensures low { negsuc 13 ≤ℤ result }
@@ -103,7 +103,7 @@ fn points_up(wish: Wish, low: i32, high: i32) -> bool
 
 /// Whether the stems of a run go up.
 #[tactic(auto, unfolding(crate::specs::Ends::stands_up), using(crate::proofs::Ranges::run_low_near, crate::proofs::Ranges::run_high_near))]
-pub fn run_points_up(wish: Wish, run: &[Still]) -> bool
+pub fn run_points_up(wish: Wish, run: &[StemInput]) -> bool
     requires { AllGood run.now }
     ensures { result ≡ stands_up wish run.now }
 {
@@ -143,9 +143,9 @@ fn end_past(up: bool, low: i32, high: i32) -> i32
 }
 
 /// The dy at which the stem of an event ends by itself; 0 without a head.
-pub fn own_end_of(up: bool, stands: &[Stand]) -> i32
+pub fn own_end_of(up: bool, stands: &[HeadPosition]) -> i32
     requires { AllNear stands.now }
-    ensures { result ≡ own_end up stands.now }
+    ensures { result ≡ stem_own_end up stands.now }
 {
     match stands {
         [] => 0,
@@ -154,17 +154,17 @@ pub fn own_end_of(up: bool, stands: &[Stand]) -> i32
 }
 
 /// The one of two ends that is further out.
-#[tactic(auto, unfolding(crate::specs::Ends::further))]
+#[tactic(auto, unfolding(crate::specs::Ends::further_end))]
 pub fn further_of(up: bool, y: i32, z: i32) -> i32
-    ensures { result ≡ further up y z }
+    ensures { result ≡ further_end up y z }
 {
     if up { y.max(z) } else { y.min(z) }
 }
 
 /// The furthest of an end and the own ends of events.
-fn furthest_along(up: bool, first: i32, run: &[Still]) -> i32
+fn furthest_along(up: bool, first: i32, run: &[StemInput]) -> i32
     requires { AllGood run.now }
-    ensures { result ≡ furthest up first run.now }
+    ensures { result ≡ beam_end up first run.now }
 {
     let mut end = first;
     for e in run {
@@ -174,7 +174,7 @@ fn furthest_along(up: bool, first: i32, run: &[Still]) -> i32
 }
 
 /// The dy at which the stems of a run end together.
-pub fn end_of_run(up: bool, run: &[Still]) -> i32
+pub fn end_of_run(up: bool, run: &[StemInput]) -> i32
     requires { AllGood run.now }
     ensures { result ≡ run_end up run.now }
 {
@@ -186,7 +186,7 @@ pub fn end_of_run(up: bool, run: &[Still]) -> i32
 
 /// The dy at which a stem begins.
 #[tactic(auto, unfolding(crate::specs::Ends::from_of))]
-pub fn stem_from(up: bool, stands: &[Stand]) -> i32
+pub fn stem_from(up: bool, stands: &[HeadPosition]) -> i32
     requires { AllNear stands.now }
     ensures { result ≡ from_of up stands.now }
 {
@@ -199,7 +199,7 @@ pub fn stem_from(up: bool, stands: &[Stand]) -> i32
 
 /// Whether an event has a stem: a note of 1/2 or less.
 #[tactic(auto, unfolding(crate::specs::Ends::has_stem))]
-pub fn carries_stem(e: &Still) -> bool
+pub fn carries_stem(e: &StemInput) -> bool
     ensures { result ≡ has_stem e.now }
 {
     0 < e.stands.as_slice().len() && is_short_base(e.base)

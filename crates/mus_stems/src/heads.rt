@@ -1,5 +1,5 @@
 ghost use Rattle.std.specs.Prelude.{◌≡◌, ◌≤ℤ◌, ◌<◌, ◌++◌, List, Option, pos, negsuc, length, map, IfOk};
-ghost use Rattle.mus_stems.specs.Heads.{stand_of, IsNear, AllNear, lowest, highest, level_of, Taken, taken_one, taken_at, taken, is_step_past, gives_way, shifted, shift_of, shifts_of};
+ghost use Rattle.mus_stems.specs.Heads.{stand_of, IsNearStaff, AllNear, lowest, highest, level_of, Taken, taken_one, taken_at, taken, is_step_past, gives_way, shifted, head_shift, shifts_of};
 
 use crate::distances::{LEFT_OF_STEM, RIGHT_OF_STEM};
 use mus_units::{Clef, Few, Head, Memory, Row, height};
@@ -7,25 +7,25 @@ use std::alloc::Global;
 
 /// Where a head stands, and whether a sign is written before it.
 #[derive(Clone, Copy, PartialEq, Eq)]
-pub struct Stand {
+pub struct HeadPosition {
     pub height: i32,
     pub signed: bool,
 }
 
 /// The head taken last: how far it stands, and whether it was moved.
 #[derive(Clone, Copy, PartialEq, Eq)]
-pub struct Last {
+pub struct LastHead {
     pub level: i32,
     pub moved: bool,
 }
 
 /// Where a head stands in a clef.
 #[tactic(auto, unfolding(crate::specs::Heads::stand_of))]
-pub fn stand_at(clef: Clef, head: Head) -> Stand
-    requires { IsNear (stand_of clef head) }
+pub fn stand_at(clef: Clef, head: Head) -> HeadPosition
+    requires { IsNearStaff (stand_of clef head) }
     ensures { result ≡ stand_of clef head }
 {
-    Stand {
+    HeadPosition {
         height: height(head.pitch, clef) as i32,
         signed: head.sign.is_some(),
     }
@@ -33,7 +33,7 @@ pub fn stand_at(clef: Clef, head: Head) -> Stand
 
 /// Where heads stand in a clef, in the order of the text.
 #[inline(always)]
-pub fn stands(alloc: Global, clef: Clef, heads: &[Head]) -> Result<Few<Stand>, Memory>
+pub fn stands(alloc: Global, clef: Clef, heads: &[Head]) -> Result<Few<HeadPosition>, Memory>
     requires { AllNear (map (stand_of clef) heads.now) }
     ensures { IfOk result (λ s. s ≡ map (stand_of clef) heads.now) }
 {
@@ -48,7 +48,7 @@ pub fn stands(alloc: Global, clef: Clef, heads: &[Head]) -> Result<Few<Stand>, M
 }
 
 /// The least of a height and those of heads.
-pub fn lowest_from(first: i32, stands: &[Stand]) -> i32
+pub fn lowest_from(first: i32, stands: &[HeadPosition]) -> i32
     ensures { result ≡ lowest first stands.now }
 {
     let mut low = first;
@@ -59,7 +59,7 @@ pub fn lowest_from(first: i32, stands: &[Stand]) -> i32
 }
 
 /// The greatest of a height and those of heads.
-pub fn highest_from(first: i32, stands: &[Stand]) -> i32
+pub fn highest_from(first: i32, stands: &[HeadPosition]) -> i32
     ensures { result ≡ highest first stands.now }
 {
     let mut high = first;
@@ -91,7 +91,7 @@ fn is_step(before: i32, level: i32) -> bool
 
 /// Whether a head gives way to the one taken before it.
 #[tactic(auto, unfolding(crate::specs::Heads::gives_way))]
-fn is_moved(last: Option<Last>, level: i32) -> bool
+fn is_moved(last: Option<LastHead>, level: i32) -> bool
     requires low { negsuc 21 ≤ℤ level }
     requires high { level ≤ℤ pos 22 }
     ensures { result ≡ gives_way last level }
@@ -103,9 +103,9 @@ fn is_moved(last: Option<Last>, level: i32) -> bool
 }
 
 /// The dx of a head that gives way.
-#[tactic(auto, unfolding(crate::specs::Heads::shift_of))]
+#[tactic(auto, unfolding(crate::specs::Heads::head_shift))]
 fn shift(up: bool) -> i32
-    ensures { result ≡ shift_of up }
+    ensures { result ≡ head_shift up }
 {
     if up { RIGHT_OF_STEM } else { LEFT_OF_STEM }
 }
@@ -115,28 +115,28 @@ fn shift(up: bool) -> i32
 fn shift_one(
     up: bool,
     v: i32,
-    s: Stand,
+    s: HeadPosition,
     i: usize,
-    last: Option<Last>,
+    last: Option<LastHead>,
     shifts: &mut [i32],
-) -> Option<Last>
-    requires near { IsNear s }
+) -> Option<LastHead>
+    requires near { IsNearStaff s }
     requires low { negsuc 21 ≤ℤ v }
     requires high { v ≤ℤ pos 22 }
     requires room { i < length shifts.old }
-    ensures moved { (rest : List Taken) → shifted (shift_of up) result rest shifts.new ≡ shifted (shift_of up) last (taken_one up v i s rest) shifts.old }
+    ensures moved { (rest : List Taken) → shifted (head_shift up) result rest shifts.new ≡ shifted (head_shift up) last (taken_one up v i s rest) shifts.old }
 {
     if level(up, s.height) != v {
         return last;
     }
     if is_moved(last, v) {
         shifts[i] = shift(up);
-        return Some(Last {
+        return Some(LastHead {
             level: v,
             moved: true,
         });
     }
-    Some(Last {
+    Some(LastHead {
         level: v,
         moved: false,
     })
@@ -146,15 +146,15 @@ fn shift_one(
 fn shift_level(
     up: bool,
     v: i32,
-    stands: &[Stand],
-    last: Option<Last>,
+    stands: &[HeadPosition],
+    last: Option<LastHead>,
     shifts: &mut [i32],
-) -> Option<Last>
+) -> Option<LastHead>
     requires near { AllNear stands.now }
     requires low { negsuc 21 ≤ℤ v }
     requires high { v ≤ℤ pos 22 }
     requires room { length stands.now ≡ length shifts.old }
-    ensures moved { (rest : List Taken) → shifted (shift_of up) result rest shifts.new ≡ shifted (shift_of up) last (taken_at up v 0 stands.now rest) shifts.old }
+    ensures moved { (rest : List Taken) → shifted (head_shift up) result rest shifts.new ≡ shifted (head_shift up) last (taken_at up v 0 stands.now rest) shifts.old }
 {
     let mut before = last;
     let mut i = 0;
@@ -167,10 +167,10 @@ fn shift_level(
 
 /// Moves the heads that give way, level by level.
 #[tactic(auto, unfolding(crate::specs::Heads::taken))]
-fn shift_all(up: bool, stands: &[Stand], shifts: &mut [i32])
+fn shift_all(up: bool, stands: &[HeadPosition], shifts: &mut [i32])
     requires near { AllNear stands.now }
     requires room { length stands.now ≡ length shifts.old }
-    ensures moved { shifts.new ≡ shifted (shift_of up) Option.None (taken up stands.now) shifts.old }
+    ensures moved { shifts.new ≡ shifted (head_shift up) Option.None (taken up stands.now) shifts.old }
 {
     let mut last = None;
     for n in 0..45u8 {
@@ -180,7 +180,7 @@ fn shift_all(up: bool, stands: &[Stand], shifts: &mut [i32])
 
 /// The dx of each head, in the order of the text. A head alone gives way to none.
 #[tactic(auto, unfolding(crate::specs::Heads::shifts_of), using(crate::proofs::AloneLaws::alone_stays))]
-pub fn shifts_for(alloc: Global, up: bool, stands: &[Stand]) -> Result<Few<i32>, Memory>
+pub fn shifts_for(alloc: Global, up: bool, stands: &[HeadPosition]) -> Result<Few<i32>, Memory>
     requires near { AllNear stands.now }
     ensures { IfOk result (λ r. r ≡ shifts_of up stands.now) }
 {

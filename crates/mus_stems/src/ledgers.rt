@@ -1,5 +1,5 @@
 ghost use Rattle.std.specs.Prelude.{◌≡◌, ◌≤ℤ◌, ◌≤◌, ◌++◌, pos, negsuc, IfOk, OnOk};
-ghost use Rattle.mus_stems.specs.Ledgers.{line_below, line_above, lines_of, lines_below, lines_above, ledgers_of};
+ghost use Rattle.mus_stems.specs.Ledgers.{line_below, line_above, ledger_lines, lines_below, lines_above, ledgers_of};
 
 use crate::distances::{BETWEEN_LINES, FIRST_ABOVE, FIRST_BELOW};
 use mus_units::{Memory, Row};
@@ -44,7 +44,7 @@ fn ledger_above(k: u32) -> i32
 /// Even heights from -2 down to the lowest head, as dy.
 pub fn put_below(out: &mut Row<i32>, low: i32) -> Result<(), Memory>
     requires near { negsuc 13 ≤ℤ low }
-    ensures { OnOk result (out.new ≡ out.old ++ lines_of line_below 0 (lines_below low)) }
+    ensures { OnOk result (out.new ≡ out.old ++ ledger_lines line_below 0 (lines_below low)) }
 {
     for k in 0..count_below(low) {
         out.push(ledger_below(k))?;
@@ -55,7 +55,7 @@ pub fn put_below(out: &mut Row<i32>, low: i32) -> Result<(), Memory>
 /// Even heights from 10 up to the highest head, as dy.
 pub fn put_above(out: &mut Row<i32>, high: i32) -> Result<(), Memory>
     requires near { high ≤ℤ pos 22 }
-    ensures { OnOk result (out.new ≡ out.old ++ lines_of line_above 0 (lines_above high)) }
+    ensures { OnOk result (out.new ≡ out.old ++ ledger_lines line_above 0 (lines_above high)) }
 {
     for k in 0..count_above(high) {
         out.push(ledger_above(k))?;

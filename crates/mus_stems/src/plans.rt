@@ -1,5 +1,5 @@
 ghost use Rattle.std.specs.Prelude.{◌≡◌, ◌++◌, ◌∷◌, [], ◌≤◌, length, IfOk, OnOk};
-ghost use Rattle.mus_stems.specs.{Stills.{IsGoodStill, AllGood, AllCanStand, clefs_from, stills}, Beams.beams, Plans.{first_id, plan_of, plans_along, run_plans, plans_of_runs, stems_of, ArePlans, AllEndsNear}};
+ghost use Rattle.mus_stems.specs.{Stills.{IsGoodStill, AllGood, AllCanStand, clefs_from, stills}, Beams.beams, Plans.{first_event_id, plan_of, plans_along, run_plans, plans_of_runs, stems_of, ArePlans, AllEndsNear}};
 
 use crate::beams::more_in_run;
 use crate::dots::{Spot, dot_dx, put_dots};
@@ -9,7 +9,7 @@ use crate::ends::{
 use crate::heads::shifts_for;
 use crate::ledgers::{put_above, put_below};
 use crate::signs::{sign_dx, signs_for};
-use crate::stills::{Still, flags_for, stills_for};
+use crate::stills::{StemInput, flags_for, stills_for};
 use mus_score::Flat;
 use mus_units::{Clef, Few, Memory, Row, Wish};
 use std::alloc::Global;
@@ -41,8 +41,8 @@ pub struct StemPlan {
 }
 
 /// The id of the event at which a run begins.
-fn id_of_run(run: &[Still]) -> u32
-    ensures { result ≡ first_id run.now }
+fn id_of_run(run: &[StemInput]) -> u32
+    ensures { result ≡ first_event_id run.now }
 {
     match run {
         [] => 0,
@@ -58,7 +58,7 @@ fn put_plan(
     up: bool,
     to: i32,
     group: u32,
-    e: &Still,
+    e: &StemInput,
 ) -> Result<(), Memory>
     requires { IsGoodStill e.now }
     ensures { OnOk result (out.new ≡ out.old ++ plan_of up to group e.now ∷ []) }
@@ -93,7 +93,7 @@ fn put_plans(
     up: bool,
     to: i32,
     group: u32,
-    run: &[Still],
+    run: &[StemInput],
 ) -> Result<(), Memory>
     requires { AllGood run.now }
     ensures { OnOk result (out.new ≡ out.old ++ plans_along up to group run.now) }
@@ -106,7 +106,7 @@ fn put_plans(
 
 /// The plans of a run.
 #[tactic(auto, unfolding(crate::specs::Plans::run_plans))]
-fn put_run(alloc: Global, out: &mut Row<StemPlan>, wish: Wish, run: &[Still]) -> Result<(), Memory>
+fn put_run(alloc: Global, out: &mut Row<StemPlan>, wish: Wish, run: &[StemInput]) -> Result<(), Memory>
     requires { AllGood run.now }
     ensures { OnOk result (out.new ≡ out.old ++ run_plans wish run.now) }
 {
@@ -119,7 +119,7 @@ fn put_all_runs(
     alloc: Global,
     out: &mut Row<StemPlan>,
     wish: Wish,
-    events: &[Still],
+    events: &[StemInput],
 ) -> Result<(), Memory>
     requires { AllGood events.now }
     ensures { OnOk result (out.new ≡ out.old ++ plans_of_runs wish (beams events.now)) }

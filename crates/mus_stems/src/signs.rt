@@ -1,25 +1,25 @@
 ghost use Rattle.std.specs.{Prelude.◌≡◌, Prelude.◌≤ℤ◌, Prelude.◌<◌, Prelude.◌≤◌, Prelude.◌+◌, Prelude.List, Prelude.negsuc, Prelude.length, Prelude.Some, Prelude.None, Prelude.if◌then◌else◌, Prelude.false, Prelude.IfOk, List.list_any};
-ghost use Rattle.mus_stems.specs.{Heads.{IsNear, AllNear, Taken, taken_one, taken_at, taken}, Signs.{is_left, first_sign, sign_at, signs_along, signs_from}};
+ghost use Rattle.mus_stems.specs.{Heads.{IsNearStaff, AllNear, Taken, taken_one, taken_at, taken}, Signs.{is_left, first_sign, sign_dx, signs_along, signs_from}};
 
 use crate::distances::{BETWEEN_COLUMNS, LEFT_OF_STEM, OUTER_SIGN_COLUMN, SIGN_COLUMN};
-use crate::heads::{Stand, level};
+use crate::heads::{HeadPosition, level};
 use mus_units::{Few, Memory, Row};
 use std::alloc::Global;
 
 /// The dx of a sign by its number.
-#[tactic(auto, unfolding(crate::specs::Signs::sign_at))]
+#[tactic(auto, unfolding(crate::specs::Signs::sign_dx))]
 fn sign_place(first: i32, k: u32) -> i32
     requires low { negsuc 1310 ≤ℤ first }
     requires few { k ≤ 2250000 }
-    ensures { result ≡ sign_at first k }
+    ensures { result ≡ sign_dx first k }
 {
     first - BETWEEN_COLUMNS * (k as i32)
 }
 
 /// Gives the sign at a head its dx, if there is one and the head stands at a level; answers the next one's number.
 #[tactic(auto, unfolding(crate::specs::Heads::taken_one))]
-fn sign_one(first: i32, v: i32, s: Stand, i: usize, k: u32, signs: &mut [Option<i32>]) -> u32
-    requires near { IsNear s }
+fn sign_one(first: i32, v: i32, s: HeadPosition, i: usize, k: u32, signs: &mut [Option<i32>]) -> u32
+    requires near { IsNearStaff s }
     requires low { negsuc 1310 ≤ℤ first }
     requires few { k ≤ 2250000 }
     requires room { i < length signs.old }
@@ -37,7 +37,7 @@ fn sign_one(first: i32, v: i32, s: Stand, i: usize, k: u32, signs: &mut [Option<
 }
 
 /// Gives the signs at one level their dx; answers the next one's number.
-fn sign_level(first: i32, v: i32, stands: &[Stand], k: u32, signs: &mut [Option<i32>]) -> u32
+fn sign_level(first: i32, v: i32, stands: &[HeadPosition], k: u32, signs: &mut [Option<i32>]) -> u32
     requires near { AllNear stands.now }
     requires room { length stands.now ≡ length signs.old }
     requires few { length stands.now ≤ 50000 }
@@ -57,7 +57,7 @@ fn sign_level(first: i32, v: i32, stands: &[Stand], k: u32, signs: &mut [Option<
 
 /// Gives all signs their dx, level by level.
 #[tactic(auto, unfolding(crate::specs::Heads::taken))]
-fn sign_all(first: i32, stands: &[Stand], signs: &mut [Option<i32>])
+fn sign_all(first: i32, stands: &[HeadPosition], signs: &mut [Option<i32>])
     requires near { AllNear stands.now }
     requires room { length stands.now ≡ length signs.old }
     requires few { length stands.now ≤ 50000 }
@@ -71,14 +71,14 @@ fn sign_all(first: i32, stands: &[Stand], signs: &mut [Option<i32>])
 }
 
 /// Whether a sign is written before any of the heads.
-fn any_signed(stands: &[Stand]) -> bool
+fn any_signed(stands: &[HeadPosition]) -> bool
     ensures { result ≡ list_any (λ s. s.signed) stands.now }
 {
     stands.iter().any(|stand| stand.signed)
 }
 
 /// The dx of the sign of a head alone.
-fn sign_alone(first: i32, stand: Stand) -> Option<i32>
+fn sign_alone(first: i32, stand: HeadPosition) -> Option<i32>
     ensures { result ≡ if stand.signed then Some first else None }
 {
     if stand.signed { Some(first) } else { None }
@@ -87,7 +87,7 @@ fn sign_alone(first: i32, stand: Stand) -> Option<i32>
 /// The dx of the sign of each head, in the order of the text.
 #[tactic(auto, unfolding(crate::specs::Signs::signs_from), using(crate::proofs::AloneLaws::none_signed))]
 #[inline(always)]
-pub fn signs_for(alloc: Global, first: i32, stands: &[Stand]) -> Result<Few<Option<i32>>, Memory>
+pub fn signs_for(alloc: Global, first: i32, stands: &[HeadPosition]) -> Result<Few<Option<i32>>, Memory>
     requires near { AllNear stands.now }
     requires few { length stands.now ≤ 50000 }
     requires low { negsuc 1310 ≤ℤ first }

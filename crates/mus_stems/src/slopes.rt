@@ -1,5 +1,5 @@
 ghost use Rattle.std.specs.{Prelude.{◌≡◌, ◌++◌, ◌≤◌, ◌≤ℤ◌, ◌<ℤ◌, ◌^◌, ◌∷◌, [], ◌+ℤ◌, ◌-ℤ◌, ◌*ℤ◌, pos, negsuc, length, IfOk, OnOk}, Int.{int_min, int_max, int_div_euclid}};
-ghost use Rattle.mus_stems.specs.{Distances.{steepest, steepest_down}, Plans.AllEndsNear, Runs.run_more, Slope.{anchor_of, anchors, shares_beam, last_of, line_of, rise_at, base_along, ends_along, line_ends, beam_ends, sloped_ends, with_end, with_ends, sloped, ArePlaces, RisesInBeams, AreAnchors, IsLine, IsOver, AreOver, Rise, IsBase}};
+ghost use Rattle.mus_stems.specs.{Distances.{steepest, steepest_down}, Plans.AllEndsNear, Runs.run_more, Slope.{slope_input, slope_inputs, shares_beam, last_input, slope_line, rise_at, base_along, ends_along, line_ends, beam_ends, sloped_ends, with_end, with_ends, sloped, ArePlaces, RisesInBeams, AreAnchors, IsLine, IsOver, AreOver, Rise, IsBeamBase}};
 
 use crate::distances::STEEPEST;
 use crate::ends::further_of;
@@ -10,7 +10,7 @@ use std::alloc::Global;
 /// What a slope takes from an event: the way of its stem, its own end, where its beam begins, and
 /// its abscissa.
 #[derive(Clone, Copy, PartialEq, Eq)]
-pub struct Anchor {
+pub struct SlopeInput {
     pub up: bool,
     pub own: i32,
     pub group: u32,
@@ -20,18 +20,18 @@ pub struct Anchor {
 /// The line of a beam: the abscissas of its first and its last event, and how far it climbs between
 /// them.
 #[derive(Clone, Copy, PartialEq, Eq)]
-pub struct Line {
+pub struct BeamLine {
     pub first: i64,
     pub last: i64,
     pub climb: i64,
 }
 
 /// What a slope takes from one event.
-#[tactic(auto, unfolding(crate::specs::Slope::anchor_of))]
-fn make_anchor(plan: &StemPlan, x: &i64) -> Anchor
-    ensures { result ≡ anchor_of plan.now x.now }
+#[tactic(auto, unfolding(crate::specs::Slope::slope_input))]
+fn make_anchor(plan: &StemPlan, x: &i64) -> SlopeInput
+    ensures { result ≡ slope_input plan.now x.now }
 {
-    Anchor {
+    SlopeInput {
         up: plan.up,
         own: plan.own,
         group: plan.group,
@@ -40,9 +40,9 @@ fn make_anchor(plan: &StemPlan, x: &i64) -> Anchor
 }
 
 /// Events with their abscissas.
-fn anchors_for(alloc: Global, plans: &[StemPlan], at: &[i64]) -> Result<Row<Anchor>, Memory>
+fn anchors_for(alloc: Global, plans: &[StemPlan], at: &[i64]) -> Result<Row<SlopeInput>, Memory>
     requires { length at.now ≡ length plans.now }
-    ensures { IfOk result (λ a. a ≡ anchors plans.now at.now) }
+    ensures { IfOk result (λ a. a ≡ slope_inputs plans.now at.now) }
 {
     let mut out = Row::with_room(alloc, plans.len())?;
     for (plan, x) in plans.iter().zip(at) {
@@ -53,14 +53,14 @@ fn anchors_for(alloc: Global, plans: &[StemPlan], at: &[i64]) -> Result<Row<Anch
 
 /// Whether two neighbours are in one beam.
 #[tactic(auto, unfolding(crate::specs::Slope::shares_beam))]
-fn shares(a: &Anchor, b: &Anchor) -> bool
+fn shares(a: &SlopeInput, b: &SlopeInput) -> bool
     ensures { result ≡ shares_beam a.now b.now }
 {
     a.group == b.group
 }
 
 /// How many events follow the first in its beam.
-fn more_in_beam(first: &Anchor, others: &[Anchor]) -> usize
+fn more_in_beam(first: &SlopeInput, others: &[SlopeInput]) -> usize
     ensures value { result ≡ run_more shares_beam first.now others.now }
     ensures bound { result ≤ length others.now }
 {
@@ -77,8 +77,8 @@ fn more_in_beam(first: &Anchor, others: &[Anchor]) -> usize
 }
 
 /// The last event of a beam.
-fn last_in(first: &Anchor, others: &[Anchor]) -> Anchor
-    ensures { result ≡ last_of first.now others.now }
+fn last_in(first: &SlopeInput, others: &[SlopeInput]) -> SlopeInput
+    ensures { result ≡ last_input first.now others.now }
 {
     let mut last = *first;
     for a in others {
@@ -97,11 +97,11 @@ fn climb_between(first: i32, last: i32) -> i64
 }
 
 /// The line from an event to another.
-#[tactic(auto, unfolding(crate::specs::Slope::line_of))]
-fn line_between(a: &Anchor, b: &Anchor) -> Line
-    ensures { result ≡ line_of a.now b.now }
+#[tactic(auto, unfolding(crate::specs::Slope::slope_line))]
+fn line_between(a: &SlopeInput, b: &SlopeInput) -> BeamLine
+    ensures { result ≡ slope_line a.now b.now }
 {
-    Line {
+    BeamLine {
         first: a.x,
         last: b.x,
         climb: climb_between(a.own, b.own),
@@ -125,7 +125,7 @@ fn risen(climb: i64, along: i64, length: i64) -> i32
 
 /// How far a line has risen at an abscissa.
 #[tactic(auto, unfolding(crate::specs::Slope::rise_at))]
-fn rise(line: &Line, x: i64) -> i32
+fn rise(line: &BeamLine, x: i64) -> i32
     requires line { IsLine line.now }
     requires after { line.now.first ≤ℤ x }
     requires before { x ≤ℤ line.now.last }
@@ -137,17 +137,17 @@ fn rise(line: &Line, x: i64) -> i32
 }
 
 /// What an event asks of the base of its beam: its own end, less the rise up to it.
-fn base_at(line: &Line, a: &Anchor) -> i32
+fn base_at(line: &BeamLine, a: &SlopeInput) -> i32
     requires line { IsLine line.now }
     requires over { IsOver line.now a.now }
     ensures value { result ≡ a.now.own -ℤ rise_at line.now a.now.x }
-    ensures near { IsBase result }
+    ensures near { IsBeamBase result }
 {
     a.own - rise(line, a.x)
 }
 
 /// The base of a beam: the furthest that its events ask.
-fn base_of(line: &Line, first: &Anchor, others: &[Anchor]) -> i32
+fn base_of(line: &BeamLine, first: &SlopeInput, others: &[SlopeInput]) -> i32
     requires line { IsLine line.now }
     requires first { IsOver line.now first.now }
     requires others { AreOver line.now others.now }
@@ -161,9 +161,9 @@ fn base_of(line: &Line, first: &Anchor, others: &[Anchor]) -> i32
 }
 
 /// The end of an event over a line.
-fn put_end(out: &mut Row<i32>, line: &Line, base: i32, a: &Anchor) -> Result<(), Memory>
+fn put_end(out: &mut Row<i32>, line: &BeamLine, base: i32, a: &SlopeInput) -> Result<(), Memory>
     requires line { IsLine line.now }
-    requires base { IsBase base }
+    requires base { IsBeamBase base }
     requires over { IsOver line.now a.now }
     ensures { OnOk result (out.new ≡ out.old ++ (base +ℤ rise_at line.now a.now.x) ∷ []) }
 {
@@ -171,9 +171,9 @@ fn put_end(out: &mut Row<i32>, line: &Line, base: i32, a: &Anchor) -> Result<(),
 }
 
 /// The ends of events over a line.
-fn put_ends(out: &mut Row<i32>, line: &Line, base: i32, beam: &[Anchor]) -> Result<(), Memory>
+fn put_ends(out: &mut Row<i32>, line: &BeamLine, base: i32, beam: &[SlopeInput]) -> Result<(), Memory>
     requires line { IsLine line.now }
-    requires base { IsBase base }
+    requires base { IsBeamBase base }
     requires beam { AreOver line.now beam.now }
     ensures { OnOk result (out.new ≡ out.old ++ ends_along line.now base beam.now) }
 {
@@ -186,10 +186,10 @@ fn put_ends(out: &mut Row<i32>, line: &Line, base: i32, beam: &[Anchor]) -> Resu
 /// The ends of the events of a beam of two or more.
 fn put_line(
     out: &mut Row<i32>,
-    line: &Line,
-    first: &Anchor,
-    others: &[Anchor],
-    beam: &[Anchor],
+    line: &BeamLine,
+    first: &SlopeInput,
+    others: &[SlopeInput],
+    beam: &[SlopeInput],
 ) -> Result<(), Memory>
     requires line { IsLine line.now }
     requires beam { beam.now ≡ first.now ∷ others.now }
@@ -201,7 +201,7 @@ fn put_line(
 }
 
 /// The ends of a beam.
-fn put_beam(out: &mut Row<i32>, beam: &[Anchor]) -> Result<(), Memory>
+fn put_beam(out: &mut Row<i32>, beam: &[SlopeInput]) -> Result<(), Memory>
     requires anchors { AreAnchors beam.now }
     requires rise { Rise beam.now }
     ensures { OnOk result (out.new ≡ out.old ++ beam_ends beam.now) }
@@ -218,7 +218,7 @@ fn put_beam(out: &mut Row<i32>, beam: &[Anchor]) -> Result<(), Memory>
 
 /// The ends of the stems of events, each on its beam's line: what `slope` puts into their plans. The
 /// only error is want of memory.
-pub fn ends_for(alloc: Global, events: &[Anchor]) -> Result<Row<i32>, Memory>
+pub fn ends_for(alloc: Global, events: &[SlopeInput]) -> Result<Row<i32>, Memory>
     requires anchors { AreAnchors events.now }
     requires rise { RisesInBeams events.now }
     ensures { IfOk result (λ ends. ends ≡ sloped_ends events.now) }
@@ -282,7 +282,7 @@ pub fn slope(alloc: Global, plans: &[StemPlan], at: &[i64]) -> Result<Row<StemPl
     requires each { length at.now ≡ length plans.now }
     requires ends { AllEndsNear plans.now }
     requires places { ArePlaces at.now }
-    requires rise { RisesInBeams (anchors plans.now at.now) }
+    requires rise { RisesInBeams (slope_inputs plans.now at.now) }
     ensures value { IfOk result (λ p. p ≡ sloped plans.now at.now) }
     ensures each { IfOk result (λ p. length p ≡ length plans.now) }
 {

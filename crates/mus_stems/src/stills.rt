@@ -1,7 +1,7 @@
 ghost use Rattle.std.specs.Prelude.{◌≡◌, IfOk};
-ghost use Rattle.mus_stems.specs.Stills.{flags_of, is_short, still_of, stills, clefs_from, CanStand, AllCanStand};
+ghost use Rattle.mus_stems.specs.Stills.{flags_of, is_short, still_of, stills, clefs_from, CanDrawEvent, AllCanStand};
 
-use crate::heads::{Stand, stand_at, stands};
+use crate::heads::{HeadPosition, stand_at, stands};
 use mus_score::Flat;
 use mus_units::{Base, Clef, Few, Memory, Row};
 use std::alloc::Global;
@@ -9,12 +9,12 @@ use std::alloc::Global;
 /// What a stem plan takes from an event: its id, its value, whether it is parted from the event
 /// before it, and where its heads stand in its clef.
 #[derive(Drop)]
-pub struct Still {
+pub struct StemInput {
     pub id: u32,
     pub base: Base,
     pub dots: u8,
     pub parted: bool,
-    pub stands: Few<Stand>,
+    pub stands: Few<HeadPosition>,
 }
 
 /// How many flags a note of a base has alone, and a rest shows.
@@ -42,12 +42,12 @@ pub fn is_short_base(base: Base) -> bool
 
 /// What is taken from one event.
 #[tactic(auto, unfolding(crate::specs::Stills::still_of))]
-fn take_still(alloc: Global, flat: &Flat<'_>, clef: Clef) -> Result<Still, Memory>
-    requires { CanStand flat.now clef }
+fn take_still(alloc: Global, flat: &Flat<'_>, clef: Clef) -> Result<StemInput, Memory>
+    requires { CanDrawEvent flat.now clef }
     ensures { IfOk result (λ s. s ≡ still_of flat.now clef) }
 {
     let event = flat.event();
-    Ok(Still {
+    Ok(StemInput {
         id: event.id,
         base: event.value.base,
         dots: event.value.dots,
@@ -60,7 +60,7 @@ fn take_still(alloc: Global, flat: &Flat<'_>, clef: Clef) -> Result<Still, Memor
 }
 
 /// What is taken from events, each in its own clef, the first of which stands behind `first`.
-pub fn stills_for(alloc: Global, events: &[Flat<'_>], first: Clef) -> Result<Row<Still>, Memory>
+pub fn stills_for(alloc: Global, events: &[Flat<'_>], first: Clef) -> Result<Row<StemInput>, Memory>
     requires { AllCanStand events.now (clefs_from first events.now) }
     ensures { IfOk result (λ s. s ≡ stills events.now (clefs_from first events.now)) }
 {

@@ -1,6 +1,4 @@
-pub mod BeatLaws
-pub mod Lengths
-pub mod Orders
-pub mod Places
-pub mod RankLaws
-pub mod Rising
+pub mod Called
+pub mod Counts
+pub mod Few
+pub mod Goods

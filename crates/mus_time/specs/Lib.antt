@@ -1,5 +1,2 @@
-pub mod Beats
-pub mod Keys
-pub mod Onsets
-pub mod Order
-pub mod Ranks
+pub mod Columns
+pub mod Frame

@@ -1,17 +1,11 @@
-//! When events sound, and the keys of the columns that a system has.
-//!
-//! An event begins where the earlier events of its measure and voice end. A column has its place
-//! in a measure by the tick, then by what stands in it; the keys of a system rise, and the rank of a
-//! column is the number of keys before its own.
+//! The columns of a system and of a measure alone: their keys, read off the voices of a score as they
+//! are drawn.
 #![tactic(auto)]
 
-pub mod beats;
-pub mod columns;
+pub mod frame;
 pub mod keys;
-pub mod ranks;
-pub mod times;
+pub mod voices;
 
-pub use columns::{put_event_keys, put_first_key, put_own_keys, rising_keys};
-pub use keys::{Class, ColumnKey};
-pub use ranks::{is_same, next_rank, rank_of};
-pub use times::{Onset, Timeline, onsets};
+pub use frame::SystemFrame;
+pub use keys::{keys_of, measure_keys, note_key, system_keys};
+pub use voices::draw_voices;

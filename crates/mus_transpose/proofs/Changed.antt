@@ -1,6 +1,6 @@
 -- Folds over a tree with each event changed.
 use Rattle.std.{proofs.{Common.{◌≡◌, ℕ, Bool, List, [], ◌∷◌, ◌++◌, ◌*◌, map, refl, sym, ◌∙◌, ap, subst}, Math.Path.fun_ext, lemmas.List.{map-append, map-id, Elements.same_from_all_zip}}, specs.List.AllZip}
-use Rattle.mus_score.specs.{declared.{score.{Event.Event, Flat.Flat, Music.{Music, map-Music, TheOpen.Music-F, TheViews.roll-Music, TheFolds.{fold-Music, fold-roll-Music, ind-Music}}}, times.Waits.Waits}, Times.{Leafing, Leaves, flats_of, in_row, leaf, leaves_step, leaves_within, nothing}}
+use Rattle.mus_score.specs.{declared.{score.{Event.Event, Flat.Flat, Music.{Music, map-Music, TheOpen.Music-F, TheViews.roll-Music, TheFolds.{fold-Music, fold-roll-Music, ind-Music}}}, times.PendingLeaf.PendingLeaf}, Times.{Leafing, Leaves, flats_of, in_row, leaf, leaves_step, leaves_within, no_pending_leaf}}
 use Rattle.mus_transpose.specs.Moved.{changed, changed_flat, changed_layer, changed_step}
 
 -- what two folds must keep, one over the changed tree
@@ -56,14 +56,14 @@ fold_same {A} g step note rest body =
     equal (map (fold-Music A step) (map (changed g) body)) (map (fold-Music A step) body) (all_keep g Equal step step k body)
 
 -- ---- the events of a changed tree are the changed events of the tree
-abbrev waiting : (Event → Event) → Waits → Waits
+abbrev waiting : (Event → Event) → PendingLeaf → PendingLeaf
 waiting g w = record w { graces = map g w.graces }
 
 abbrev leaving : (Event → Event) → Leaves → Leaves
 leaving g l = record { flats = map (changed_flat g) l.flats; waits = waiting g l.waits }
 
 abbrev Changes : (Event → Event) → Leafing → Leafing → Type 0
-Changes g l k = (qs ps : ℕ) (w : Waits) → l qs ps (waiting g w) ≡ leaving g (k qs ps w)
+Changes g l k = (qs ps : ℕ) (w : PendingLeaf) → l qs ps (waiting g w) ≡ leaving g (k qs ps w)
 
 joined : (g : Event → Event) (first others a b : Leaves) → a ≡ leaving g first → b ≡ leaving g others
     → ◌≡◌ {A = Leaves} (record { flats = a.flats ++ b.flats; waits = b.waits }) (leaving g (record { flats = first.flats ++ others.flats; waits = others.waits }))
@@ -82,7 +82,7 @@ events_changed : (g : Event → Event) (fs : List Flat) → map (λ f. f.event) 
 events_changed g [] = refl
 events_changed g (f ∷ fs) = ap (λ es. g f.event ∷ es) (events_changed g fs)
 
-grace_changed : (g : Event → Event) (w : Waits) (here others : Leaves) → here ≡ leaving g others → map g w.graces ++ map (λ f. f.event) here.flats ≡ map g (w.graces ++ map (λ f. f.event) others.flats)
+grace_changed : (g : Event → Event) (w : PendingLeaf) (here others : Leaves) → here ≡ leaving g others → map g w.graces ++ map (λ f. f.event) here.flats ≡ map g (w.graces ++ map (λ f. f.event) others.flats)
 grace_changed g w here others e = rw (e, events_changed g others.flats, map-append g w.graces (map (λ f. f.event) others.flats)) refl
 
 leaf_changed : (g : Event → Event) → ((e : Event) → (g e).ticks ≡ e.ticks) → (e : Event) → Changes g (leaf (g e)) (leaf e)
@@ -93,10 +93,10 @@ flats_changed g keeps body =
     let k : Keeps g (Changes g) leaves_step leaves_step = record {
       note = leaf_changed g keeps;
       rest = leaf_changed g keeps;
-      grace = λ xs ys slash z qs ps w. rw (grace_changed g w (in_row xs 1 1 nothing) (in_row ys 1 1 nothing) (row g xs ys z 1 1 nothing)) refl;
+      grace = λ xs ys slash z qs ps w. rw (grace_changed g w (in_row xs 1 1 no_pending_leaf) (in_row ys 1 1 no_pending_leaf) (row g xs ys z 1 1 no_pending_leaf)) refl;
       tuplet = λ xs ys p q z qs ps w. row g xs ys z (qs * q) (ps * p) (record w { tuplets = w.tuplets ++ p ∷ [] });
     } in
-    ap (λ (l : Leaves). l.flats) (row g (map leaves_within (map (changed g) body)) (map leaves_within body) (all_keep g (Changes g) leaves_step leaves_step k body) 1 1 nothing)
+    ap (λ (l : Leaves). l.flats) (row g (map leaves_within (map (changed g) body)) (map leaves_within body) (all_keep g (Changes g) leaves_step leaves_step k body) 1 1 no_pending_leaf)
 
 -- ---- where nothing changes
 abbrev Same : Music → Type 0

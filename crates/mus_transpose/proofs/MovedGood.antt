@@ -1,26 +1,26 @@
 -- A moved score in reach is good.
 use Rattle.std.{proofs.{Common.{◌≡◌, ◌≢◌, ℕ, suc, ◌==◌, ◌&&◌, ◌*◌, ◌+ℤ◌, ◌<◌, nat_le, Bool, true, false, List, get_or, [], ◌∷◌, ◌++◌, length, map, refl, sym, ◌∙◌, Decides, ap, subst, arith, sum, if◌then◌else◌}, Math.Path.fun_ext, lemmas.{Bool.{false≢true, Decides.{Decides-and, Decides-by_and, Decides-like}}, Int.ints, List.{get_or-map, length-map, map-append, Elements.{All-map, All-weaker}, Sums.sum-map}, Simd.map-map}}, specs.{Prelude.{pos, negsuc, ◌≤ℤ◌, int_le, All, AllPairs, IfSome, Option, Some, None, sum_by, ℤ}, Int.int_div_euclid, Option.option_map, List.list_all}}
-use Rattle.mus_units.specs.{Good.IsGoodKey, Pitch.height_of, Pitch.number_of, Value.value_length, Value.whole_note, declared.key.Key.Key, declared.note.Head.Head, declared.pitch.Clef.Clef, declared.pitch.Letter.Letter}
+use Rattle.mus_units.specs.{Good.IsGoodKey, Pitch.height_of, Pitch.letter_number, Value.value_length, Value.whole_note, declared.key.Key.Key, declared.note.Head.Head, declared.pitch.Clef.Clef, declared.pitch.Letter.Letter}
 use Rattle.mus_pitch.proofs.SignLaws.{signs_of_good}
-use Rattle.mus_score.specs.{declared.{score.{Event.Event, Flat.Flat, Measure.Measure, Music.{Music, TheOpen.Music-F}, Score.Score, Voice.Voice}, good.Place.Place}, Good.{IsGoodBody, all_judged, good_step, has_value_ticks, judged, outside, weight, weight_step}, GoodScore.{AreCounted, AreInReach, IsInReach, clef_at, IsGoodEvent, IsGoodScore, IsGoodVoice, IsLed, events_of, voice_weight}, Times.flats_of}
-use Rattle.mus_transpose.{specs.{Moved.{CanMove, Within, are_in_reach, event_by, in_reach, key_by, body_by, changed, changed_flat, measure_by, move_from, moved_head, moved_score, on_circle, score_by, sharps_in, voice_by, voice_may}, declared.moves.Move.Move}, proofs.Changed.{flats_changed, fold_same}}
+use Rattle.mus_score.specs.{declared.{score.{Event.Event, Flat.Flat, Measure.Measure, Music.{Music, TheOpen.Music-F}, Score.Score, Voice.Voice}, good.NodeContext.NodeContext}, Good.{IsGoodBody, all_judged, good_step, has_value_ticks, node_verdict, outside, weight, weight_step}, GoodScore.{AreCounted, AreInReach, IsInReach, clef_at, IsGoodEvent, IsGoodScore, IsGoodVoice, IsLed, events_of, voice_weight}, Times.flats_of}
+use Rattle.mus_transpose.{specs.{Moved.{CanMove, Within, are_in_reach, event_by, in_reach, moved_key, body_by, changed, changed_flat, measure_by, move_from, moved_head, moved_score, on_circle, score_by, sharps_in, voice_by, voice_may}, declared.moves.Move.Move}, proofs.Changed.{flats_changed, fold_same}}
 
 -- ---- numbers
 pub twelfth_fits : (z : ℤ) → Within (negsuc 1199) (pos 1199) z → Within (negsuc 99) (pos 99) (int_div_euclid z (pos 12))
 twelfth_fits (pos a) h = let low = h.0 in let high = h.1 in (omega (arith, ints), omega (arith, ints))
 twelfth_fits (negsuc a) h = let low = h.0 in let high = h.1 in (omega (arith, ints), omega (arith, ints))
 
-pub few_letters : (l : Letter) → number_of l < 7
+pub few_letters : (l : Letter) → letter_number l < 7
 few_letters Letter.C = omega arith
 few_letters _ = omega arith
 
 -- ---- bodies
 note_judged : (m : Move) (e : Event) → good_step (Music-F.Note (event_by m e)) ≡ good_step (Music-F.Note e)
-note_judged m e = ap (λ n. λ (at : Place). judged (nat_le 1 n && has_value_ticks e) true) (length-map e.heads (moved_head m))
+note_judged m e = ap (λ n. λ (at : NodeContext). node_verdict (nat_le 1 n && has_value_ticks e) true) (length-map e.heads (moved_head m))
 
 rest_judged : (m : Move) (e : Event) → good_step (Music-F.Rest (event_by m e)) ≡ good_step (Music-F.Rest e)
 rest_judged m e =
-    ap (λ n. λ (at : Place). judged (if at.grace then false else (n == 0 && nat_le e.value.dots 3 && (if at.inner then e.ticks == value_length e.value else nat_le 1 e.ticks && nat_le e.ticks (99 * whole_note)))) true)
+    ap (λ n. λ (at : NodeContext). node_verdict (if at.grace then false else (n == 0 && nat_le e.value.dots 3 && (if at.inner then e.ticks == value_length e.value else nat_le 1 e.ticks && nat_le e.ticks (99 * whole_note)))) true)
     (length-map e.heads (moved_head m))
 
 weights_kept : (m : Move) (body : List Music) → sum (map weight (body_by m body)) ≡ sum (map weight body)
@@ -36,7 +36,7 @@ events_moved m (x ∷ ms) =
     ap (λ fs. fs ++ events_of (map (measure_by m) ms)) (flats_changed (event_by m) (λ e. refl) x.body)
     ∙ ap (λ fs. map (changed_flat (event_by m)) (flats_of x.body) ++ fs) (events_moved m ms) ∙ sym (map-append (changed_flat (event_by m)) (flats_of x.body) (events_of ms))
 
-change_good : (m : Move) (k : Option Key) → IfSome (option_map (key_by m) k) IsGoodKey
+change_good : (m : Move) (k : Option Key) → IfSome (option_map (moved_key m) k) IsGoodKey
 change_good m None = tt
 change_good m (Some k) = signs_of_good (sharps_in k.signs +ℤ m.sharps)
 

@@ -7,14 +7,14 @@ use Rattle.mus_score.specs.{declared.score.{Event.Event, Flat.Flat, Measure.Meas
 use Rattle.mus_transpose.specs.{declared.moves.Move.Move, declared.moves.MoveError.MoveError}
 
 -- the semitones from C to a letter
-abbrev pub natural_of : Letter → ℕ
-natural_of Letter.C = 0
-natural_of Letter.D = 2
-natural_of Letter.E = 4
-natural_of Letter.F = 5
-natural_of Letter.G = 7
-natural_of Letter.A = 9
-natural_of Letter.B = 11
+abbrev pub half_steps_above_c : Letter → ℕ
+half_steps_above_c Letter.C = 0
+half_steps_above_c Letter.D = 2
+half_steps_above_c Letter.E = 4
+half_steps_above_c Letter.F = 5
+half_steps_above_c Letter.G = 7
+half_steps_above_c Letter.A = 9
+half_steps_above_c Letter.B = 11
 
 abbrev pub alter_of : Alter → ℤ
 alter_of Alter.Flat2 = negsuc 1
@@ -33,7 +33,7 @@ alter_from (negsuc (suc zero)) = Some Alter.Flat2
 alter_from _ = None
 
 unfoldable pub semitones : Pitch → Alter → ℤ
-semitones p a = (pos 12 *ℤ p.octave +ℤ pos (natural_of p.letter)) +ℤ alter_of a
+semitones p a = (pos 12 *ℤ p.octave +ℤ pos (half_steps_above_c p.letter)) +ℤ alter_of a
 
 abbrev pub Within : ℤ → ℤ → ℤ → Type 0
 Within least most z = (least ≤ℤ z) × (z ≤ℤ most)
@@ -61,8 +61,8 @@ moved_pitch m p = pitch_of_steps (moved_steps m p)
 
 -- the moved pitch is in reach in one clef or another, from seven ledger lines below the lowest staff, G2, to seven above the
 -- highest, E4: graces behind the last event of a measure stand in none of their own
-abbrev pub is_near : Move → Pitch → Bool
-is_near m p = int_le (pos 4) (moved_steps m p) && int_le (moved_steps m p) (pos 52)
+abbrev pub is_near_staff : Move → Pitch → Bool
+is_near_staff m p = int_le (pos 4) (moved_steps m p) && int_le (moved_steps m p) (pos 52)
 
 -- the alteration at the moved pitch with which a head is so many semitones higher, where there is one
 unfoldable pub moved_alter : Move → Pitch → Alter → Option Alter
@@ -79,7 +79,7 @@ abbrev pub moved_head : Move → Head → Head
 moved_head m h = record { pitch = moved_pitch m h.pitch; sign = moved_sign m h.pitch h.sign; tied = h.tied }
 
 abbrev pub head_moves : Move → Head → Bool
-head_moves m h = is_near m h.pitch && sign_moves m h.pitch h.sign
+head_moves m h = is_near_staff m h.pitch && sign_moves m h.pitch h.sign
 
 -- ---- keys
 
@@ -99,8 +99,8 @@ same_sign s t = same_letter s.letter t.letter && int_eq (alter_of s.alter) (alte
 abbrev pub on_circle : Key → Bool
 on_circle k = nat_le (length k.signs) 7 && pointwise same_sign k.signs (signs_of (sharps_in k.signs))
 
-abbrev pub key_by : Move → Key → Key
-key_by m k = record { signs = signs_of (sharps_in k.signs +ℤ m.sharps) }
+abbrev pub moved_key : Move → Key → Key
+moved_key m k = record { signs = signs_of (sharps_in k.signs +ℤ m.sharps) }
 
 -- the key and the moved one are on the circle
 abbrev pub key_may : Move → Key → Bool
@@ -108,7 +108,7 @@ key_may m k = on_circle k && is_signature (sharps_in k.signs +ℤ m.sharps)
 
 -- ---- events, the graces among them
 abbrev pub event_by : Move → Event → Event
-event_by m e = record e { heads = map (moved_head m) e.heads; changes = record { clef = e.changes.clef; key = option_map (key_by m) e.changes.key; meter = e.changes.meter } }
+event_by m e = record e { heads = map (moved_head m) e.heads; changes = record { clef = e.changes.clef; key = option_map (moved_key m) e.changes.key; meter = e.changes.meter } }
 
 abbrev pub event_may : Move → Event → Bool
 event_may m e = list_all (head_moves m) e.heads && unwrap_or (option_map (key_may m) e.changes.key) true
@@ -156,7 +156,7 @@ abbrev pub measure_by : Move → Measure → Measure
 measure_by by x = record x { body = body_by by x.body }
 
 abbrev pub voice_by : Move → Voice → Voice
-voice_by by v = record v { key = key_by by v.key; measures = map (measure_by by) v.measures }
+voice_by by v = record v { key = moved_key by v.key; measures = map (measure_by by) v.measures }
 
 abbrev pub voice_may : Move → Voice → Bool
 voice_may by v = key_may by v.key && list_all (λ x. body_may by x.body) v.measures
@@ -165,10 +165,10 @@ abbrev pub score_by : Move → Score → Score
 score_by by s = record s { voices = map (voice_by by) s.voices }
 
 -- what a call gives: the moved value where all in it can be moved, else no move
-abbrev pub Gives : {A : Type 0} → Bool → A → Result A MoveError → Type 0
-Gives may x (Ok r) = (may ≡ true) × (r ≡ x)
-Gives may x (Err MoveError.NoMove) = may ≡ false
-Gives may x (Err MoveError.Memory) = ⊤
+abbrev pub GivesIfMovable : {A : Type 0} → Bool → A → Result A MoveError → Type 0
+GivesIfMovable may x (Ok r) = (may ≡ true) × (r ≡ x)
+GivesIfMovable may x (Err MoveError.NoMove) = may ≡ false
+GivesIfMovable may x (Err MoveError.Memory) = ⊤
 
 -- ---- what is in reach: the same as `AreInReach`, as a test
 abbrev pub in_reach : Clef → Head → Bool

@@ -1,6 +1,6 @@
 ghost use Rattle.std.specs.Prelude.{◌≡◌, ◌≤◌, ◌+ℤ◌, ◌-ℤ◌, ◌*ℤ◌, pos, negsuc, true, false, MatchOption};
 ghost use Rattle.mus_pitch.specs.Steps.{steps};
-ghost use Rattle.mus_transpose.specs.Moved.{Within, alter_from, alter_of, natural_of, semitones, head_moves, is_near, moved_alter, moved_head, moved_pitch, moved_steps};
+ghost use Rattle.mus_transpose.specs.Moved.{Within, alter_from, alter_of, half_steps_above_c, semitones, head_moves, is_near_staff, moved_alter, moved_head, moved_pitch, moved_steps};
 
 use crate::moves::Move;
 use mus_pitch::pitch_of_steps;
@@ -8,7 +8,7 @@ use mus_units::{Alter, Clef, Head, Letter, Pitch, height};
 
 /// The semitones from C to a letter.
 fn natural(letter: Letter) -> u8
-    ensures value { result ≡ natural_of letter }
+    ensures value { result ≡ half_steps_above_c letter }
     ensures most { result ≤ 11 }
 {
     match letter {
@@ -52,7 +52,7 @@ fn alter_from(z: i64) -> Option<Alter>
 
 /// The semitones of a pitch above C0, its alteration aside.
 fn natural_semitones(p: Pitch) -> i64
-    ensures value { result ≡ pos 12 *ℤ p.octave +ℤ pos (natural_of p.letter) }
+    ensures value { result ≡ pos 12 *ℤ p.octave +ℤ pos (half_steps_above_c p.letter) }
     ensures fits { Within (negsuc 28999999999) (pos 29000000000) result }
 {
     12 * i64::from(p.octave) + i64::from(natural(p.letter))
@@ -81,8 +81,8 @@ fn moved_steps(m: Move, p: Pitch) -> i64
     steps(p) + i64::from(m.letters)
 }
 
-fn is_near(m: Move, p: Pitch) -> bool
-    ensures { result ≡ is_near m p }
+fn is_near_staff(m: Move, p: Pitch) -> bool
+    ensures { result ≡ is_near_staff m p }
 {
     let steps = moved_steps(m, p);
     4 <= steps && steps <= 52
@@ -91,9 +91,9 @@ fn is_near(m: Move, p: Pitch) -> bool
 /// The moved pitch, or None where it is in reach in no clef.
 #[tactic(auto, unfolding(crate::specs::Moved::moved_pitch))]
 fn moved_pitch(m: Move, p: Pitch) -> Option<Pitch>
-    ensures { MatchOption result (is_near m p ≡ false) (λ q. (is_near m p ≡ true) × (q ≡ moved_pitch m p)) }
+    ensures { MatchOption result (is_near_staff m p ≡ false) (λ q. (is_near_staff m p ≡ true) × (q ≡ moved_pitch m p)) }
 {
-    if is_near(m, p) {
+    if is_near_staff(m, p) {
         Some(pitch_of_steps(moved_steps(m, p) as i32))
     } else {
         None

@@ -1,5 +1,5 @@
 ghost use Rattle.std.specs.{Prelude.{◌≡◌, ◌≤◌, ◌+ℤ◌, pos, negsuc, length, true, false, IfOk, MatchOption}, Cmp.Lexicographic.pointwise};
-ghost use Rattle.{mus_pitch.specs.Circle.{is_signature}, mus_transpose.specs.Moved.{Within, Gives, key_by, key_may, on_circle, same_sign, sharps_by, sharps_in}};
+ghost use Rattle.{mus_pitch.specs.Circle.{is_signature}, mus_transpose.specs.Moved.{Within, GivesIfMovable, moved_key, key_may, on_circle, same_sign, sharps_by, sharps_in}};
 
 use crate::moves::{Move, MoveError, Moved};
 use mus_pitch::key_of;
@@ -60,8 +60,8 @@ fn signature(sharps: i64) -> Option<i8>
 }
 
 /// The moved key.
-pub(crate) fn key_by(alloc: Global, by: Move, key: &Key) -> Moved<Key>
-    ensures { Gives (key_may by key.now) (key_by by key.now) result }
+pub(crate) fn moved_key(alloc: Global, by: Move, key: &Key) -> Moved<Key>
+    ensures { GivesIfMovable (key_may by key.now) (moved_key by key.now) result }
 {
     if !on_circle(alloc, key)? {
         return Err(MoveError::NoMove);

@@ -1,8 +1,8 @@
 ghost use Rattle.std.specs.{Prelude.◌≡◌, Prelude.length, Prelude.pos, Prelude.negsuc, Prelude.All, Prelude.IfOk, Prelude.IfSome, Prelude.MatchOption, Prelude.true, Prelude.map, List.list_all};
 ghost use Rattle.mus_score.specs.{Good.IsGoodBody, GoodScore.IsGoodScore, GoodScore.events_of};
-ghost use Rattle.mus_transpose.specs.Moved.{Within, CanMove, Gives, IsMoved, are_in_reach, body_may, measure_by, move_from, moved_score, on_circle, score_by, voice_by, voice_may};
+ghost use Rattle.mus_transpose.specs.Moved.{Within, CanMove, GivesIfMovable, IsMoved, are_in_reach, body_may, measure_by, move_from, moved_score, on_circle, score_by, voice_by, voice_may};
 
-use crate::keys::{key_by, on_circle, sharps_in};
+use crate::keys::{moved_key, on_circle, sharps_in};
 use crate::moves::{Move, MoveError, Moved, move_for};
 use crate::reach::are_in_reach;
 use crate::trees::body_by;
@@ -11,7 +11,7 @@ use mus_units::{Key, Memory, Row};
 use std::alloc::Global;
 
 fn measures_by(alloc: Global, by: Move, measures: &[Measure]) -> Moved<Row<Measure>>
-    ensures { Gives (list_all (λ x. body_may by x.body) measures.now) (map (measure_by by) measures.now) result }
+    ensures { GivesIfMovable (list_all (λ x. body_may by x.body) measures.now) (map (measure_by by) measures.now) result }
 {
     let mut out = Row::new(alloc);
     for measure in measures {
@@ -24,14 +24,14 @@ fn measures_by(alloc: Global, by: Move, measures: &[Measure]) -> Moved<Row<Measu
 }
 
 fn voice_by(alloc: Global, by: Move, v: &Voice) -> Moved<Voice>
-    ensures { Gives (voice_may by v.now) (voice_by by v.now) result }
+    ensures { GivesIfMovable (voice_may by v.now) (voice_by by v.now) result }
 {
     Ok(Voice {
         id: v.id.copy(alloc)?,
         seat: v.seat,
         gap: v.gap,
         clef: v.clef,
-        key: key_by(alloc, by, &v.key)?,
+        key: moved_key(alloc, by, &v.key)?,
         meter: v.meter,
         stem: v.stem,
         verses: v.verses,
@@ -41,7 +41,7 @@ fn voice_by(alloc: Global, by: Move, v: &Voice) -> Moved<Voice>
 }
 
 fn voices_by(alloc: Global, by: Move, voices: &[Voice]) -> Moved<Row<Voice>>
-    ensures { Gives (list_all (voice_may by) voices.now) (map (voice_by by) voices.now) result }
+    ensures { GivesIfMovable (list_all (voice_may by) voices.now) (map (voice_by by) voices.now) result }
 {
     let mut out = Row::new(alloc);
     for v in voices {
@@ -52,7 +52,7 @@ fn voices_by(alloc: Global, by: Move, voices: &[Voice]) -> Moved<Row<Voice>>
 
 /// A moved copy of a score.
 fn score_by(alloc: Global, by: Move, s: &Score) -> Moved<Score>
-    ensures { Gives (list_all (voice_may by) s.now.voices) (score_by by s.now) result }
+    ensures { GivesIfMovable (list_all (voice_may by) s.now.voices) (score_by by s.now) result }
 {
     Ok(Score {
         voices: voices_by(alloc, by, s.voices.as_slice())?,

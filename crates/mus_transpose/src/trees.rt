@@ -1,15 +1,15 @@
 ghost use Rattle.std.specs.{Prelude.◌≡◌, Prelude.map, List.list_all};
-ghost use Rattle.mus_transpose.specs.Moved.{Gives, all_pass, body_by, body_may, changed, event_by, event_may, head_moves, moved_head};
+ghost use Rattle.mus_transpose.specs.Moved.{GivesIfMovable, all_pass, body_by, body_may, changed, event_by, event_may, head_moves, moved_head};
 
 use crate::heads::moved_head;
-use crate::keys::key_by;
+use crate::keys::moved_key;
 use crate::moves::{Move, MoveError, Moved};
 use mus_score::{Event, Music, copy_event};
 use mus_units::{Few, Head, Row};
 use std::alloc::Global;
 
 fn moved_heads(alloc: Global, m: Move, heads: &[Head]) -> Moved<Few<Head>>
-    ensures { Gives (list_all (head_moves m) heads.now) (map (moved_head m) heads.now) result }
+    ensures { GivesIfMovable (list_all (head_moves m) heads.now) (map (moved_head m) heads.now) result }
 {
     if let [head] = heads {
         let moved = moved_head(m, *head).ok_or(MoveError::NoMove)?;
@@ -27,19 +27,19 @@ fn moved_heads(alloc: Global, m: Move, heads: &[Head]) -> Moved<Few<Head>>
 
 /// A moved copy of an event.
 fn event_by(alloc: Global, by: Move, e: &Event) -> Moved<Event>
-    ensures { Gives (event_may by e.now) (event_by by e.now) result }
+    ensures { GivesIfMovable (event_may by e.now) (event_by by e.now) result }
 {
     let mut copy = copy_event(alloc, e)?;
     copy.heads = moved_heads(alloc, by, e.heads.as_slice())?;
     if let Some(key) = &e.changes.key {
-        copy.changes.key = Some(key_by(alloc, by, key)?);
+        copy.changes.key = Some(moved_key(alloc, by, key)?);
     }
     Ok(copy)
 }
 
 #[cycle(trees)]
 fn node_by(alloc: Global, by: Move, node: &Music) -> Moved<Music>
-    ensures { Gives (all_pass (event_may by) node.now) (changed (event_by by) node.now) result }
+    ensures { GivesIfMovable (all_pass (event_may by) node.now) (changed (event_by by) node.now) result }
 {
     match node {
         Music::Note(e) => Ok(Music::Note(event_by(alloc, by, e)?)),
@@ -59,7 +59,7 @@ fn node_by(alloc: Global, by: Move, node: &Music) -> Moved<Music>
 /// A copy of a body, its events moved.
 #[cycle(trees)]
 pub(crate) fn body_by(alloc: Global, by: Move, body: &[Music]) -> Moved<Row<Music>>
-    ensures { Gives (body_may by body.now) (body_by by body.now) result }
+    ensures { GivesIfMovable (body_may by body.now) (body_by by body.now) result }
 {
     let mut out = Row::new(alloc);
     for node in body {

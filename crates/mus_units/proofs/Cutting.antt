@@ -1,6 +1,6 @@
 -- Cutting a length into parts, one by one.
 use Rattle.std.proofs.Common.{◌≡◌, sym, subst, ℕ, ◌+◌, ◌*◌, ◌-◌, ◌≤◌, ◌<◌, List, [], ◌∷◌, ◌++◌, length, length-append, append_assoc, append-nil, arith}
-use Rattle.mus_units.{specs.{declared.value.Value.Value, Parts.{units_of, IsLongest, ArePartsOf, IsPartsOf}}, proofs.Longest.{value_short, value_some}}
+use Rattle.mus_units.{specs.{declared.value.Value.Value, Parts.{units_of, IsLongestValue, ArePartsOf, IsPartsOf}}, proofs.Longest.{value_short, value_some}}
 
 pub parts_within : (vs : List Value) (left : ℕ) → ArePartsOf left vs → left ≤ 2047 * length vs
 parts_within [] left h = omega arith
@@ -19,10 +19,10 @@ pub record IsCut (all : ℕ) (so_far : List Value) (left : ℕ) : Type 0 where
 pub cut_none : (all : ℕ) → IsCut all [] all
 cut_none all = record { goes = λ vs h. h; only = λ vs h. (vs, omega arith, h) }
 
-same_units : (left : ℕ) (v w : Value) → IsLongest left v → IsLongest left w → units_of v ≡ units_of w
+same_units : (left : ℕ) (v w : Value) → IsLongestValue left v → IsLongestValue left w → units_of v ≡ units_of w
 same_units left v w a b = let k = a.longest w b.dots b.within in let m = b.longest v a.dots a.within in omega arith
 
-pub cut_more : (all : ℕ) (so_far next : List Value) (left rest : ℕ) (v : Value) → IsCut all so_far left → IsLongest left v → 1 ≤ left → rest ≡ left - units_of v → next ≡ so_far ++ v ∷ [] → IsCut all next rest
+pub cut_more : (all : ℕ) (so_far next : List Value) (left rest : ℕ) (v : Value) → IsCut all so_far left → IsLongestValue left v → 1 ≤ left → rest ≡ left - units_of v → next ≡ so_far ++ v ∷ [] → IsCut all next rest
 cut_more all so_far next left rest v cut longest some less is = rw (is, less) (record { goes = goes; only = only }) where
   goes : (vs : List Value) → ArePartsOf (left - units_of v) vs → ArePartsOf all ((so_far ++ v ∷ []) ++ vs)
   goes vs h = subst (ArePartsOf all) (sym (append_assoc so_far (v ∷ []) vs)) (cut.goes (v ∷ vs) (longest, h))

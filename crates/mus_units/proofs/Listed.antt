@@ -1,6 +1,6 @@
 -- The parts of a length as a list that is computed.
 use Rattle.std.{proofs.{Common.{◌≡◌, refl, sym, subst, ◌&&◌, ◌∙◌, ap, ℕ, zero, suc, ◌+◌, ◌*◌, ◌/◌, ◌-◌, ◌≤◌, ◌<◌, List, [], ◌∷◌, ◌++◌, append_assoc, append-nil, Bool, true, false, Option, Some, None, option_map, ◌⊎◌, inl, inr, arith, nat_le, nat_lt, ◌==◌, find, flat_map}, lemmas.Bool.Decides.nat_tests, Math.Nat.mul-div_cancel}, specs.List.list_all}
-use Rattle.mus_units.specs.{declared.value.{Base.Base, Value.Value}, Parts.{units_of, IsLongest, all_values, dotted, longest_within, cut_in, parts_list}}
+use Rattle.mus_units.specs.{declared.value.{Base.Base, Value.Value}, Parts.{units_of, IsLongestValue, all_values, dotted, longest_within, cut_in, parts_list}}
 use Rattle.mus_units.specs.declared.value.Base.TheVariants as bases
 
 abbrev IsIn : {A : Type 0} → List A → A → Type 0
@@ -57,7 +57,7 @@ shorter_behind v u (x ∷ xs) h (inl e) = subst (λ y. units_of y < u) (sym e) (
 shorter_behind v u (x ∷ xs) h (inr i) = shorter_behind v u xs (grind (arith, nat_tests)) i
 
 -- the first value that fits is the longest
-first_is : (left : ℕ) (v : Value) (xs : List Value) → descends xs ≡ true → IsLongest left v → IsIn xs v → find (λ y. nat_le (units_of y) left) xs ≡ Some v
+first_is : (left : ℕ) (v : Value) (xs : List Value) → descends xs ≡ true → IsLongestValue left v → IsIn xs v → find (λ y. nat_le (units_of y) left) xs ≡ Some v
 first_is left v [] d is i = absurd i
 first_is left v (x ∷ xs) d is (inl e) =
     let fits : nat_le (units_of x) left ≡ true = (let k : units_of x ≤ left = subst (λ y. units_of y ≤ left) e is.within in grind (arith, nat_tests)) in rw (fits, e) refl
@@ -66,7 +66,7 @@ first_is left v (x ∷ xs) d is (inr i) =
     let rest : descends xs ≡ true = grind (arith, nat_tests) in let shorter = shorter_behind v (units_of x) xs behind i in
     let none : nat_le (units_of x) left ≡ false = (let m : units_of x ≤ left → units_of x ≤ units_of v = is.longest x dots in grind (arith, nat_tests)) in rw none (first_is left v xs rest is i)
 
-pub longest_is_listed : (left : ℕ) (v : Value) → IsLongest left v → longest_within left ≡ Some v
+pub longest_is_listed : (left : ℕ) (v : Value) → IsLongestValue left v → longest_within left ≡ Some v
 longest_is_listed left v is = first_is left v all_values refl is (value_in v is.dots)
 
 none_of : (left : ℕ) (xs : List Value) → descends xs ≡ true → left < 8 → find (λ y. nat_le (units_of y) left) xs ≡ None
@@ -90,7 +90,7 @@ pub cut_at_end : (n left : ℕ) → left ≡ 0 → cut_in n left ≡ Some []
 cut_at_end zero left e = rw e refl
 cut_at_end (suc n) left e = rw e refl
 
-pub cut_on : (n left : ℕ) (v : Value) → 1 ≤ left → IsLongest left v → cut_in (suc n) left ≡ option_map (λ vs. v ∷ vs) (cut_in n (left - units_of v))
+pub cut_on : (n left : ℕ) (v : Value) → 1 ≤ left → IsLongestValue left v → cut_in (suc n) left ≡ option_map (λ vs. v ∷ vs) (cut_in n (left - units_of v))
 cut_on n left v some is =
     let more : (left == 0) ≡ false = grind (arith, nat_tests) in rw (more, longest_is_listed left v is) refl
 
@@ -134,7 +134,7 @@ map_map : (parts : List Value) (v : Value) (o : Option (List Value)) → option_
 map_map parts v None = refl
 map_map parts v (Some vs) = ap Some (append_assoc parts (v ∷ []) vs)
 
-pub cut_one_more : (all left rest i : ℕ) (parts next : List Value) (v : Value) → i < 8 → 1 ≤ left → IsLongest left v → rest ≡ left - units_of v → next ≡ parts ++ v ∷ [] → option_map (λ vs. parts ++ vs) (cut_in (8 - i) left) ≡ cut_in 8 all → option_map (λ vs. next ++ vs) (cut_in (8 - (i + 1)) rest) ≡ cut_in 8 all
+pub cut_one_more : (all left rest i : ℕ) (parts next : List Value) (v : Value) → i < 8 → 1 ≤ left → IsLongestValue left v → rest ≡ left - units_of v → next ≡ parts ++ v ∷ [] → option_map (λ vs. parts ++ vs) (cut_in (8 - i) left) ≡ cut_in 8 all → option_map (λ vs. next ++ vs) (cut_in (8 - (i + 1)) rest) ≡ cut_in 8 all
 cut_one_more all left rest i parts next v room more is less put so_far =
     let turn : 8 - i ≡ suc (8 - (i + 1)) = omega arith in
     let cut : cut_in (8 - i) left ≡ option_map (λ vs. v ∷ vs) (cut_in (8 - (i + 1)) (left - units_of v)) = rw turn (cut_on (8 - (i + 1)) left v more is) in

@@ -22,8 +22,8 @@ abbrev pub is_blank : ℕ → Bool
 is_blank byte = is_either (codes " \t") byte
 
 -- what stands behind the blanks at the front
-abbrev pub behind_blanks : List ℕ → List ℕ
-behind_blanks text = drop (prefix_len is_blank text) text
+abbrev pub after_blanks : List ℕ → List ℕ
+after_blanks text = drop (prefix_len is_blank text) text
 
 -- what stands before the blanks at the end
 abbrev pub before_blanks : List ℕ → List ℕ
@@ -31,4 +31,4 @@ before_blanks text = take (length text - suffix_len is_blank text) text
 
 -- what is left without the blanks at both ends
 abbrev pub trimmed : List ℕ → List ℕ
-trimmed text = before_blanks (behind_blanks text)
+trimmed text = before_blanks (after_blanks text)

@@ -1,6 +1,6 @@
 -- Some values, of which a single one stands in place.
-use Rattle.{std.specs.Prelude.{List}, mus_units.specs.declared.few.Held.{Held}}
+use Rattle.{std.specs.Prelude.{List}, mus_units.specs.declared.few.FewStore.{FewStore}}
 
-abbrev pub all_held : {T : Type 0} → Held T → List T
-all_held (Held.One values) = values
-all_held (Held.Row values) = values
+abbrev pub stored_values : {T : Type 0} → FewStore T → List T
+stored_values (FewStore.One values) = values
+stored_values (FewStore.Row values) = values

@@ -1,10 +1,10 @@
 -- Good values: what each call that takes a key, a meter or a unit asks of it, and each call that makes one gives.
 use Rattle.std.specs.Prelude.{◌≡◌, ⊤, ℕ, ◌==◌, ◌≤◌, ◌||◌, Bool, IsTrue, List, count_by}
-use Rattle.mus_units.specs.{Pitch.number_of, declared.pitch.Letter.Letter, declared.key.Sign.Sign, declared.key.Key.Key, declared.key.Meter.Meter, declared.value.Frac.Frac}
+use Rattle.mus_units.specs.{Pitch.letter_number, declared.pitch.Letter.Letter, declared.key.Sign.Sign, declared.key.Key.Key, declared.key.Meter.Meter, declared.value.Frac.Frac}
 use Rattle.mus_units.specs.declared.key.Meter.TheVariants as meters
 
 abbrev pub same_letter : Letter → Letter → Bool
-same_letter a b = number_of a == number_of b
+same_letter a b = letter_number a == letter_number b
 
 -- at most one sign for each letter
 abbrev pub AreGoodSigns : List Sign → Type 0

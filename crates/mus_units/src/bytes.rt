@@ -1,7 +1,7 @@
 //! Bytes of a text: their classes, equal texts, and blanks at the ends.
 
 ghost use Rattle.std.specs.{Prelude.{◌≡◌, ◌≤◌, length}, List.{prefix_len, suffix_len}, Str.bytes_eq};
-ghost use Rattle.mus_units.specs.Bytes.{is_digit, is_letter, is_blank, behind_blanks, before_blanks, trimmed};
+ghost use Rattle.mus_units.specs.Bytes.{is_digit, is_letter, is_blank, after_blanks, before_blanks, trimmed};
 
 /// Whether a byte is one of 0 to 9.
 pub fn is_digit(byte: u8) -> bool
@@ -32,7 +32,7 @@ pub fn is_same(text: &[u8], other: &[u8]) -> bool
 }
 
 /// How many spaces and tabs stand first.
-pub fn blanks_at_front(text: &[u8]) -> usize
+pub fn leading_blanks(text: &[u8]) -> usize
     ensures value { result ≡ prefix_len is_blank text.now }
     ensures within { result ≤ length text.now }
 {
@@ -40,7 +40,7 @@ pub fn blanks_at_front(text: &[u8]) -> usize
 }
 
 /// How many spaces and tabs stand last.
-pub fn blanks_at_end(text: &[u8]) -> usize
+pub fn trailing_blanks(text: &[u8]) -> usize
     ensures value { result ≡ suffix_len is_blank text.now }
     ensures within { result ≤ length text.now }
 {
@@ -51,22 +51,22 @@ pub fn blanks_at_end(text: &[u8]) -> usize
 }
 
 /// What stands behind the spaces and tabs at the front.
-pub fn behind_blanks(text: &[u8]) -> &[u8]
-    ensures { result.now ≡ behind_blanks text.now }
+pub fn after_blanks(text: &[u8]) -> &[u8]
+    ensures { result.now ≡ after_blanks text.now }
 {
-    text.split_at(blanks_at_front(text)).1
+    text.split_at(leading_blanks(text)).1
 }
 
 /// What stands before the spaces and tabs at the end.
 pub fn before_blanks(text: &[u8]) -> &[u8]
     ensures { result.now ≡ before_blanks text.now }
 {
-    text.split_at(text.len() - blanks_at_end(text)).0
+    text.split_at(text.len() - trailing_blanks(text)).0
 }
 
 /// What is left without the spaces and tabs at both ends.
 pub fn trimmed(text: &[u8]) -> &[u8]
     ensures { result.now ≡ trimmed text.now }
 {
-    before_blanks(behind_blanks(text))
+    before_blanks(after_blanks(text))
 }

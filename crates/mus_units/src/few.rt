@@ -6,7 +6,7 @@ use std::marker::Model;
 
 /// Where some values stand: a single one in place, others in a row.
 #[derive(Drop)]
-enum Held<T> {
+enum FewStore<T> {
     One([T; 1]),
     Row(Row<T>),
 }
@@ -14,7 +14,7 @@ enum Held<T> {
 /// A list of values, which contracts see as a list. A single one takes no memory.
 #[derive(Drop)]
 pub struct Few<T> {
-    held: Held<T>,
+    held: FewStore<T>,
 }
 
 impl<T> Model for Few<T> {
@@ -25,9 +25,9 @@ impl<T> Model for Few<T> {
 
     ghost coded = { coded_list T.code };
 
-    ghost use Rattle.mus_units.specs.Few.{all_held};
+    ghost use Rattle.mus_units.specs.Few.{stored_values};
 
-    ghost view = { λ f. all_held f.held };
+    ghost view = { λ f. stored_values f.held };
 }
 
 impl<T> Few<T> {
@@ -36,7 +36,7 @@ impl<T> Few<T> {
         ensures { result ≡ value ∷ [] }
     {
         Few {
-            held: Held::One([value]),
+            held: FewStore::One([value]),
         }
     }
 
@@ -45,8 +45,8 @@ impl<T> Few<T> {
         ensures { result.now ≡ self.now }
     {
         match &self.held {
-            Held::One(values) => values,
-            Held::Row(values) => values.as_slice(),
+            FewStore::One(values) => values,
+            FewStore::Row(values) => values.as_slice(),
         }
     }
 }
@@ -57,8 +57,8 @@ impl<T: Copy> Few<T> {
         ensures { IfOk result (λ it. it ≡ self.now) }
     {
         match &self.held {
-            Held::One([value]) => Ok(Few::one(*value)),
-            Held::Row(values) => Ok(Few::from(values.copy(alloc)?)),
+            FewStore::One([value]) => Ok(Few::one(*value)),
+            FewStore::Row(values) => Ok(Few::from(values.copy(alloc)?)),
         }
     }
 }
@@ -68,7 +68,7 @@ impl<T> From<Row<T>> for Few<T> {
 
     fn from(values: Row<T>) -> Few<T> {
         Few {
-            held: Held::Row(values),
+            held: FewStore::Row(values),
         }
     }
 }

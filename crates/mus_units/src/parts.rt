@@ -1,5 +1,5 @@
 ghost use Rattle.std.specs.Prelude.{◌≡◌, ◌≤◌, ◌<◌, ◌^◌, ◌*◌, ◌+◌, ◌-◌, ℕ, ◌/◌, List, ◌++◌, ◌∷◌, [], IfOk, OnOk, OnErr, OnSome, MatchOption, IsSome, Some, None};
-ghost use Rattle.mus_units.specs.{declared.value.Value.Value, Parts.{IsValueOf, IsPartsOf, IsLongest, base_units, units_of, parts_list}, Value.with_dots};
+ghost use Rattle.mus_units.specs.{declared.value.Value.Value, Parts.{IsValueOf, IsPartsOf, IsLongestValue, base_units, units_of, parts_list}, Value.with_dots};
 
 use crate::text::{Memory, Row};
 use crate::value::{Base, Value};
@@ -88,7 +88,7 @@ fn dots_within(base: u64, left: u64) -> u8
 
 /// The longest value that isn't above so many 512ths.
 fn longest(left: u64) -> Option<Value>
-    ensures { MatchOption result (left < 8) (λ v. IsLongest left v) }
+    ensures { MatchOption result (left < 8) (λ v. IsLongestValue left v) }
 {
     let base = base_within(left)?;
     let dots = dots_within(units_of_base(base), left);

@@ -1,5 +1,5 @@
 ghost use Rattle.std.specs.Prelude.{◌≡◌};
-ghost use Rattle.mus_units.specs.Pitch.{height_of, bottom_of, number_of};
+ghost use Rattle.mus_units.specs.Pitch.{height_of, bottom_of, letter_number};
 
 /// The letter of a pitch, from C up.
 #[derive(Clone, Copy, PartialEq, Eq)]
@@ -41,7 +41,7 @@ pub enum Clef {
 
 /// The place of a letter above C.
 fn number(letter: Letter) -> u8
-    ensures { result ≡ number_of letter }
+    ensures { result ≡ letter_number letter }
 {
     match letter {
         Letter::C => 0,

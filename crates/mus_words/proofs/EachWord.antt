@@ -2,8 +2,8 @@
 -- one below, as they are printed, holds of all of them. What prints nothing is not drawn.
 use Rattle.std.{proofs.{Common.{◌≡◌, ℕ, suc, ℤ, ◌+◌, ◌≤◌, ◌<◌, Bool, true, false, ◌==◌, if◌then◌else◌, List, [], ◌∷◌, ◌++◌, length, Option, Some, None, refl, subst, arith}, lemmas.Bool.Decides.nat_tests, Math.Bool.beq}, specs.{List.{AllByRecursion, flat_map}, Prelude.decimal}}
 use Rattle.{mus_units.specs.declared.note.Deco.{Deco}, mus_score.specs.{declared.score.Flat.Flat, declared.score.Mention.Mention}, mus_stems.proofs.RunLaws.{all_append}}
-use Rattle.{mus_laid.specs.{declared.drawn.Drawn.Drawn, Printed.printed, declared.laid.Lane.Lane}, mus_ink.specs.{Distances.half_character, Drawing.back}}
-use Rattle.mus_words.specs.{declared.texts.TextPlace.TextPlace, Syllables.{syllable_dx, syllable_if, syllables_from, verse_dy}, Texts.{above_from, below_from, shown_deco, shown_ending, shown_mention, shown_number, text_marks, texts_above, texts_below}, Words.{shown, words}}
+use Rattle.{mus_laid.specs.{declared.drawn.LaneInk.LaneInk, Printed.printed, declared.laid.Lane.Lane}, mus_ink.specs.{Distances.half_character, Drawing.back}}
+use Rattle.mus_words.specs.{declared.texts.TextPlace.TextPlace, Syllables.{syllable_dx, syllable_if, syllables_from, verse_dy}, Texts.{above_from, below_from, shown_deco, shown_ending, shown_mention, shown_number, text_marks, texts_above, texts_below}, Words.{shown_text, words}}
 use Rattle.mus_laid.specs.declared.laid.Lane.TheVariants as lanes
 
 -- what is printed of a text, if that is anything
@@ -13,7 +13,7 @@ pub record IsShown (t : List ℕ) : Type 0 where
   pub some : 1 ≤ length t
 
 -- what is asked of each kind of text
-pub record OfWords (IsVerse : ℕ → Type 0) (P : Drawn → Type 0) : Type 0 where
+pub record OfWords (IsVerse : ℕ → Type 0) (P : LaneInk → Type 0) : Type 0 where
   pub of_syllable : (low : ℤ) (n : ℕ) (t : List ℕ) → IsVerse n → IsShown t → P (words (Lane.Verse n) (syllable_dx (length t)) (verse_dy low n) t)
   pub of_above : (dy : ℤ) (t : List ℕ) → IsShown t → P (words Lane.Above (back half_character) dy t)
   pub of_below : (dy : ℤ) (t : List ℕ) → IsShown t → P (words lanes.Below (back half_character) dy t)
@@ -26,7 +26,7 @@ any_shown : (b : Bool) (t : List ℕ) → (length (printed t) == 0) ≡ b → Al
 any_shown true t e = tt
 any_shown false t e = (is_shown t e, tt)
 
-text_shown : (t : List ℕ) → AllByRecursion IsShown (shown t)
+text_shown : (t : List ℕ) → AllByRecursion IsShown (shown_text t)
 text_shown t = any_shown (length (printed t) == 0) t refl
 
 ending_shown : (t : Option (List ℕ)) → AllByRecursion IsShown (shown_ending t)
@@ -38,7 +38,7 @@ deco_shown false (Deco.Above t) = text_shown t
 deco_shown true (Deco.Below t) = text_shown t
 deco_shown _ _ = tt
 
-if_shown : (b : Bool) (t : List ℕ) → AllByRecursion IsShown (if b then shown t else [])
+if_shown : (b : Bool) (t : List ℕ) → AllByRecursion IsShown (if b then shown_text t else [])
 if_shown true t = text_shown t
 if_shown false t = tt
 
@@ -63,7 +63,7 @@ below_shown : (f : Flat) → AllByRecursion IsShown (texts_below f)
 unfolding texts_below
 below_shown f = let e = f.event in all_append IsShown (flat_map (shown_deco true) e.decos) _ (each_shown (shown_deco true) (deco_shown true) e.decos) (each_shown (shown_mention true) (mention_shown true) e.mentions)
 
-module _ (IsVerse : ℕ → Type 0) (P : Drawn → Type 0) (w : OfWords IsVerse P) where
+module _ (IsVerse : ℕ → Type 0) (P : LaneInk → Type 0) (w : OfWords IsVerse P) where
   syllable_any : (low : ℤ) (n : ℕ) (b : Bool) (t : List ℕ) → (length (printed t) == 0) ≡ b → IsVerse n
       → AllByRecursion P (if b then [] else words (Lane.Verse n) (syllable_dx (length (printed t))) (verse_dy low n) (printed t) ∷ [])
   syllable_any low n true t e verse = tt
@@ -81,12 +81,12 @@ module _ (IsVerse : ℕ → Type 0) (P : Drawn → Type 0) (w : OfWords IsVerse 
       (syllables_all low (n + 1) ts (λ i inside. subst IsVerse (omega arith) (verses (suc i) (omega (arith, inside)))))
 
   above_all : (high : ℤ) (k : ℕ) (ts : List (List ℕ)) → AllByRecursion IsShown ts → AllByRecursion P (above_from high k ts)
-  above_all high k [] shown = tt
-  above_all high k (t ∷ ts) shown = (w.of_above _ t shown.0, above_all high (k + 1) ts shown.1)
+  above_all high k [] shown_text = tt
+  above_all high k (t ∷ ts) shown_text = (w.of_above _ t shown_text.0, above_all high (k + 1) ts shown_text.1)
 
   below_all : (low : ℤ) (verses k : ℕ) (ts : List (List ℕ)) → AllByRecursion IsShown ts → AllByRecursion P (below_from low verses k ts)
-  below_all low verses k [] shown = tt
-  below_all low verses k (t ∷ ts) shown = (w.of_below _ t shown.0, below_all low verses (k + 1) ts shown.1)
+  below_all low verses k [] shown_text = tt
+  below_all low verses k (t ∷ ts) shown_text = (w.of_below _ t shown_text.0, below_all low verses (k + 1) ts shown_text.1)
 
   pub texts_all : (place : TextPlace) (f : Flat) → AllByRecursion P (text_marks place f)
   unfolding text_marks

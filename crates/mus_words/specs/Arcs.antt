@@ -1,20 +1,20 @@
 -- Slurs and ties: the heights of their two ends, and how far they bulge.
 use Rattle.std.specs.{Prelude.{ℕ, ℤ, pos, ◌+ℤ◌, Bool, true, false, ◌&&◌, not, if◌then◌else◌, List, Option, Some, None}, List.{find, slice_get}}
 use Rattle.{mus_units.specs.{declared.pitch.Clef.Clef, declared.note.Head.Head}, mus_stems.specs.{declared.plans.StemPlan.StemPlan, Slope.with_end}, mus_arcs.specs.{declared.pairing.Arc.Arc, declared.cutting.Piece.Piece, Arcs.has_pitch}}
-use Rattle.{mus_laid.specs.declared.drawn.{Span.Span, Bridge.Bridge}, mus_time.specs.declared.keys.ColumnKey.{ColumnKey}}
-use Rattle.{mus_ink.specs.{Distances.cut_arc_line, Distances.slur_bulge, Distances.slur_gap, Distances.tie_gap, Drawing.back, Drawing.cut, Notes.dy_of, Decos.top_of}, mus_words.specs.declared.arcs.End.{End}}
+use Rattle.{mus_laid.specs.declared.drawn.{BridgeShape.BridgeShape, Bridge.Bridge}, mus_onsets.specs.declared.keys.ColumnKey.{ColumnKey}}
+use Rattle.{mus_ink.specs.{Distances.cut_arc_line, Distances.slur_bulge, Distances.slur_gap, Distances.tie_gap, Drawing.back, Drawing.cut_dy, Notes.dy_of, Decos.top_of}, mus_words.specs.declared.arcs.ArcEnd.{ArcEnd}}
 
 -- the event at an end of an arc
-pub record Seen : Type 0 where
+pub record ArcEndEvent : Type 0 where
   pub clef : Clef
   pub heads : List Head
   pub plan : StemPlan
 
-abbrev pub seen : End → Seen
-seen e = record { clef = e.clef; heads = e.heads.now; plan = with_end e.plan.now e.to }
+abbrev pub arc_end_event : ArcEnd → ArcEndEvent
+arc_end_event e = record { clef = e.clef; heads = e.heads.now; plan = with_end e.plan.now e.to }
 
-abbrev pub arc_between : ColumnKey → ColumnKey → ℤ → ℤ → ℤ → Bridge
-arc_between first last from to bulge = record { first = first; last = last; span = Span.Arc from to bulge }
+abbrev pub arc_bridge : ColumnKey → ColumnKey → ℤ → ℤ → ℤ → Bridge
+arc_bridge first last from to bulge = record { first = first; last = last; span = BridgeShape.Arc from to bulge }
 
 -- where an end of a piece stands, by where it would stand if no end were cut: a cut end is as high as
 -- the other one, and a piece with two of them has a height of its own
@@ -24,11 +24,11 @@ piece_dy true false own other = other
 piece_dy true true own other = pos cut_arc_line
 
 abbrev pub piece_mark : ColumnKey → ColumnKey → Piece → ℤ → ℤ → ℤ → Bridge
-piece_mark left right piece from to bulge = arc_between left right (piece_dy piece.cut_left piece.cut_right from to) (piece_dy piece.cut_right piece.cut_left to from) bulge
+piece_mark left right piece from to bulge = arc_bridge left right (piece_dy piece.cut_left piece.cut_right from to) (piece_dy piece.cut_right piece.cut_left to from) bulge
 
 -- a slur ends above the tops of its events
-unfoldable pub slur_dy : Seen → ℤ
-slur_dy e = cut (top_of e.clef e.heads e.plan +ℤ pos slur_gap)
+unfoldable pub slur_dy : ArcEndEvent → ℤ
+slur_dy e = cut_dy (top_of e.clef e.heads e.plan +ℤ pos slur_gap)
 
 -- a tie bulges away from the stem of its first event, and upwards where that has none
 abbrev pub bulges_up : StemPlan → Bool
@@ -44,7 +44,7 @@ dy_if c None = pos 0
 dy_if c (Some h) = dy_of c h
 
 unfoldable pub beside_head : Bool → ℤ → ℤ
-beside_head up dy = cut (dy +ℤ tie_bulge up)
+beside_head up dy = cut_dy (dy +ℤ tie_bulge up)
 
 -- the head of the last event that a head is tied to: the first at its letter and octave
 abbrev pub tied_head : Option Head → List Head → Option Head
@@ -54,13 +54,13 @@ tied_head (Some h) heads = find (has_pitch h.pitch) heads
 abbrev pub tie_dy : Bool → Clef → Option Head → ℤ
 tie_dy up c head = beside_head up (dy_if c head)
 
-unfoldable pub slur_mark : ColumnKey → ColumnKey → Piece → Seen → Seen → Bridge
+unfoldable pub slur_mark : ColumnKey → ColumnKey → Piece → ArcEndEvent → ArcEndEvent → Bridge
 slur_mark left right piece from to = piece_mark left right piece (slur_dy from) (slur_dy to) (pos slur_bulge)
 
 -- n is the number of the tie's head in the first event
-unfoldable pub tie_mark : ColumnKey → ColumnKey → Piece → ℕ → Seen → Seen → Bridge
+unfoldable pub tie_mark : ColumnKey → ColumnKey → Piece → ℕ → ArcEndEvent → ArcEndEvent → Bridge
 tie_mark left right piece n from to =
     let head = slice_get from.heads n in let up = bulges_up from.plan in piece_mark left right piece (tie_dy up from.clef head) (tie_dy up to.clef (tied_head head to.heads)) (tie_bulge up)
 
-unfoldable pub arc_mark : ColumnKey → ColumnKey → Piece → Arc → Seen → Seen → Bridge
+unfoldable pub arc_mark : ColumnKey → ColumnKey → Piece → Arc → ArcEndEvent → ArcEndEvent → Bridge
 arc_mark left right piece arc from to = if arc.tie then tie_mark left right piece arc.head from to else slur_mark left right piece from to

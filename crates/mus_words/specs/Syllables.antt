@@ -1,6 +1,6 @@
 -- The syllables of an event: one for each verse in which it has one, each in the lane of its verse.
 use Rattle.std.specs.Prelude.{ℕ, ℤ, pos, ◌+◌, ◌*◌, ◌-ℤ◌, ◌==◌, if◌then◌else◌, List, [], ◌∷◌, ◌++◌, length, Option, Some, None}
-use Rattle.{mus_laid.specs.{declared.laid.Lane.Lane, declared.drawn.Drawn.Drawn, Printed.printed}, mus_ink.specs.{Distances.half_character, Distances.verse_step, Drawing.back, Drawing.cut}, mus_words.specs.Words.{words}}
+use Rattle.{mus_laid.specs.{declared.laid.Lane.Lane, declared.drawn.LaneInk.LaneInk, Printed.printed}, mus_ink.specs.{Distances.half_character, Distances.verse_step, Drawing.back, Drawing.cut_dy}, mus_words.specs.Words.{words}}
 
 -- a syllable has its middle at the column: half a character's width to the left for each of its characters
 unfoldable pub syllable_dx : ℕ → ℤ
@@ -8,17 +8,17 @@ syllable_dx count = back (half_character * count)
 
 -- verses are under one another, the first, 1, a step below the lowest mark
 unfoldable pub verse_dy : ℤ → ℕ → ℤ
-verse_dy low n = cut (low -ℤ pos (verse_step * n))
+verse_dy low n = cut_dy (low -ℤ pos (verse_step * n))
 
 -- what is printed of a syllable of verse n
-abbrev pub syllable : ℤ → ℕ → List ℕ → List Drawn
+abbrev pub syllable : ℤ → ℕ → List ℕ → List LaneInk
 syllable low n t = if length t == 0 then [] else words (Lane.Verse n) (syllable_dx (length t)) (verse_dy low n) t ∷ []
 
-abbrev pub syllable_if : ℤ → ℕ → Option (List ℕ) → List Drawn
+abbrev pub syllable_if : ℤ → ℕ → Option (List ℕ) → List LaneInk
 syllable_if low n None = []
 syllable_if low n (Some t) = syllable low n (printed t)
 
 -- the verses from n on
-abbrev pub syllables_from : ℤ → ℕ → List (Option (List ℕ)) → List Drawn
+abbrev pub syllables_from : ℤ → ℕ → List (Option (List ℕ)) → List LaneInk
 syllables_from low n [] = []
 syllables_from low n (w ∷ ws) = syllable_if low n w ++ syllables_from low (n + 1) ws

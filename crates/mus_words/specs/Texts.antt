@@ -1,26 +1,26 @@
 -- The texts above and below an event, each as it is printed and from the staff outwards.
 use Rattle.std.{specs.Prelude.{ℕ, ℤ, pos, ◌+◌, ◌*◌, ◌+ℤ◌, ◌-ℤ◌, Bool, true, false, if◌then◌else◌, List, [], ◌∷◌, ◌++◌, flat_map, Option, Some, None, decimal}, proofs.Math.Bool.beq}
-use Rattle.{mus_units.specs.declared.note.Deco.{Deco}, mus_score.specs.{declared.score.Flat.Flat, declared.score.Mention.Mention}, mus_laid.specs.declared.{laid.Lane.Lane, drawn.Drawn.Drawn}}
-use Rattle.{mus_ink.specs.{Distances.half_character, Distances.text_gap, Distances.text_step, Distances.verse_step, Drawing.back, Drawing.cut}, mus_words.specs.{declared.texts.TextPlace.TextPlace, Words.words, Words.shown}}
+use Rattle.{mus_units.specs.declared.note.Deco.{Deco}, mus_score.specs.{declared.score.Flat.Flat, declared.score.Mention.Mention}, mus_laid.specs.declared.{laid.Lane.Lane, drawn.LaneInk.LaneInk}}
+use Rattle.{mus_ink.specs.{Distances.half_character, Distances.text_gap, Distances.text_step, Distances.verse_step, Drawing.back, Drawing.cut_dy}, mus_words.specs.{declared.texts.TextPlace.TextPlace, Words.words, Words.shown_text}}
 use Rattle.mus_laid.specs.declared.laid.Lane.TheVariants as lanes
 
 abbrev pub shown_ending : Option (List ℕ) → List (List ℕ)
 shown_ending None = []
-shown_ending (Some t) = shown t
+shown_ending (Some t) = shown_text t
 
 -- a tuplet shows how many notes it has
 abbrev pub shown_number : ℕ → List (List ℕ)
-shown_number p = shown (decimal p)
+shown_number p = shown_text (decimal p)
 
 -- on one side of the staff, below it or above: a fingering stands above, a dynamic mark below, and other decorations are no text
 abbrev pub shown_deco : Bool → Deco → List (List ℕ)
-shown_deco false (Deco.Above t) = shown t
-shown_deco true (Deco.Below t) = shown t
+shown_deco false (Deco.Above t) = shown_text t
+shown_deco true (Deco.Below t) = shown_text t
 shown_deco _ _ = []
 
 -- a text between quotes says where it stands
 abbrev pub shown_mention : Bool → Mention → List (List ℕ)
-shown_mention below m = if beq m.below below then shown m.text else []
+shown_mention below m = if beq m.below below then shown_text m.text else []
 
 -- above: the ending, the numbers of the tuplets that begin there, the decorations, then what stood between quotes
 unfoldable pub texts_above : Flat → List (List ℕ)
@@ -32,19 +32,19 @@ texts_below f = flat_map (shown_deco true) f.event.decos ++ flat_map (shown_ment
 
 -- texts are over one another, and k of the column are nearer to the staff: above from a gap above the highest mark on, below from under the verses on
 unfoldable pub above_dy : ℤ → ℕ → ℤ
-above_dy high k = cut ((high +ℤ pos text_gap) +ℤ pos (text_step * k))
+above_dy high k = cut_dy ((high +ℤ pos text_gap) +ℤ pos (text_step * k))
 
 unfoldable pub below_dy : ℤ → ℕ → ℕ → ℤ
-below_dy low verses k = cut (low -ℤ pos (verse_step * verses + text_step * (1 + k)))
+below_dy low verses k = cut_dy (low -ℤ pos (verse_step * verses + text_step * (1 + k)))
 
-abbrev pub above_from : ℤ → ℕ → List (List ℕ) → List Drawn
+abbrev pub above_from : ℤ → ℕ → List (List ℕ) → List LaneInk
 above_from high k [] = []
 above_from high k (t ∷ ts) = words Lane.Above (back half_character) (above_dy high k) t ∷ above_from high (k + 1) ts
 
-abbrev pub below_from : ℤ → ℕ → ℕ → List (List ℕ) → List Drawn
+abbrev pub below_from : ℤ → ℕ → ℕ → List (List ℕ) → List LaneInk
 below_from low verses k [] = []
 below_from low verses k (t ∷ ts) = words lanes.Below (back half_character) (below_dy low verses k) t ∷ below_from low verses (k + 1) ts
 
 -- the texts of an event, behind those that its column has already
-unfoldable pub text_marks : TextPlace → Flat → List Drawn
+unfoldable pub text_marks : TextPlace → Flat → List LaneInk
 text_marks place f = above_from place.high place.above (texts_above f) ++ below_from place.low place.verses place.below (texts_below f)

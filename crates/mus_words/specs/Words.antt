@@ -1,13 +1,13 @@
 -- Small texts in a lane. A text that prints nothing is no mark and counts nowhere.
 use Rattle.std.specs.Prelude.{ℕ, ℤ, ◌==◌, if◌then◌else◌, List, [], ◌∷◌, length}
-use Rattle.{mus_units.specs.declared.glyph.Size.{Size}, mus_laid.specs.{declared.drawn.Ink.Ink, declared.laid.Lane.Lane, declared.drawn.Drawn.Drawn, Printed.printed}}
+use Rattle.{mus_units.specs.declared.glyph.Size.{Size}, mus_laid.specs.{declared.drawn.Ink.Ink, declared.laid.Lane.Lane, declared.drawn.LaneInk.LaneInk, Printed.printed}}
 
-abbrev pub words : Lane → ℤ → ℤ → List ℕ → Drawn
+abbrev pub words : Lane → ℤ → ℤ → List ℕ → LaneInk
 words lane dx dy text = record { ink = Ink.Words Size.Small dx dy text; lane = lane }
 
 abbrev pub if_any : List ℕ → List (List ℕ)
 if_any t = if length t == 0 then [] else t ∷ []
 
 -- a text as it is printed, if that is anything
-abbrev pub shown : List ℕ → List (List ℕ)
-shown t = if_any (printed t)
+abbrev pub shown_text : List ℕ → List (List ℕ)
+shown_text t = if_any (printed t)

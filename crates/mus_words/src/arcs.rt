@@ -1,21 +1,21 @@
 ghost use Rattle.std.specs.{Prelude.◌≡◌, Prelude.◌++◌, Prelude.◌∷◌, Prelude.[], Prelude.OnOk, List.find, List.slice_get};
 ghost use Rattle.mus_arcs.specs.Arcs.{has_pitch};
-ghost use Rattle.mus_words.specs.Arcs.{seen, arc_between, piece_dy, piece_mark, slur_dy, bulges_up, tie_bulge, dy_if, beside_head, tied_head, tie_dy, slur_mark, tie_mark, arc_mark};
+ghost use Rattle.mus_words.specs.Arcs.{arc_end_event, arc_bridge, piece_dy, piece_mark, slur_dy, bulges_up, tie_bulge, dy_if, beside_head, tied_head, tie_dy, slur_mark, tie_mark, arc_mark};
 
 use mus_arcs::{Arc, Piece};
 use mus_ink::distances::{CUT_ARC_LINE, SLUR_BULGE, SLUR_GAP, TIE_GAP};
-use mus_ink::drawing::cut;
+use mus_ink::drawing::cut_dy;
 use mus_ink::notes::head_dy;
 use mus_ink::top_of;
-use mus_laid::{Bridge, Span};
+use mus_laid::{Bridge, BridgeShape};
 use mus_stems::StemPlan;
-use mus_time::ColumnKey;
+use mus_onsets::ColumnKey;
 use mus_units::{Clef, Head, Memory, Pitch, Row};
 
 /// What is known of the event at an end of an arc: its clef, its heads, its stem and the dy at which
 /// that ends.
 #[derive(Clone, Copy)]
-pub struct End<'a> {
+pub struct ArcEnd<'a> {
     pub clef: Clef,
     pub heads: &'a [Head],
     pub plan: &'a StemPlan,
@@ -30,12 +30,12 @@ fn put_arc_between(
     to: i32,
     bulge: i32,
 ) -> Result<(), Memory>
-    ensures { OnOk result (out.new ≡ out.old ++ arc_between first last from to bulge ∷ []) }
+    ensures { OnOk result (out.new ≡ out.old ++ arc_bridge first last from to bulge ∷ []) }
 {
     out.push(Bridge {
         first,
         last,
-        span: Span::Arc { from, to, bulge },
+        span: BridgeShape::Arc { from, to, bulge },
     })
 }
 
@@ -69,10 +69,10 @@ fn put_piece(
 
 /// The dy of a slur at one of its events.
 #[tactic(auto, unfolding(crate::specs::Arcs::slur_dy))]
-fn slur_dy(end: End<'_>) -> i32
-    ensures { result ≡ slur_dy (seen end.entry) }
+fn slur_dy(end: ArcEnd<'_>) -> i32
+    ensures { result ≡ slur_dy (arc_end_event end.entry) }
 {
-    cut(i64::from(top_of(end.clef, end.heads, end.plan, end.to)) + SLUR_GAP)
+    cut_dy(i64::from(top_of(end.clef, end.heads, end.plan, end.to)) + SLUR_GAP)
 }
 
 #[tactic(auto, unfolding(crate::specs::Arcs::slur_mark))]
@@ -81,10 +81,10 @@ fn put_slur(
     left: ColumnKey,
     right: ColumnKey,
     piece: Piece,
-    from: End<'_>,
-    to: End<'_>,
+    from: ArcEnd<'_>,
+    to: ArcEnd<'_>,
 ) -> Result<(), Memory>
-    ensures { OnOk result (out.new ≡ out.old ++ slur_mark left right piece (seen from.entry) (seen to.entry) ∷ []) }
+    ensures { OnOk result (out.new ≡ out.old ++ slur_mark left right piece (arc_end_event from.entry) (arc_end_event to.entry) ∷ []) }
 {
     put_piece(
         out,
@@ -124,7 +124,7 @@ fn dy_if(clef: Clef, head: Option<Head>) -> i32
 fn beside_head(up: bool, dy: i32) -> i32
     ensures { result ≡ beside_head up dy }
 {
-    cut(i64::from(dy) + i64::from(tie_bulge(up)))
+    cut_dy(i64::from(dy) + i64::from(tie_bulge(up)))
 }
 
 fn tie_dy(up: bool, clef: Clef, head: Option<Head>) -> i32
@@ -176,10 +176,10 @@ fn put_tie(
     right: ColumnKey,
     piece: Piece,
     number: u32,
-    from: End<'_>,
-    to: End<'_>,
+    from: ArcEnd<'_>,
+    to: ArcEnd<'_>,
 ) -> Result<(), Memory>
-    ensures { OnOk result (out.new ≡ out.old ++ tie_mark left right piece number (seen from.entry) (seen to.entry) ∷ []) }
+    ensures { OnOk result (out.new ≡ out.old ++ tie_mark left right piece number (arc_end_event from.entry) (arc_end_event to.entry) ∷ []) }
 {
     let head = numbered_head(from.heads, number);
     let up = bulges_up(from.plan);
@@ -203,10 +203,10 @@ pub fn put_arc(
     right: ColumnKey,
     piece: Piece,
     arc: &Arc,
-    from: End<'_>,
-    to: End<'_>,
+    from: ArcEnd<'_>,
+    to: ArcEnd<'_>,
 ) -> Result<(), Memory>
-    ensures { OnOk result (out.new ≡ out.old ++ arc_mark left right piece arc.now (seen from.entry) (seen to.entry) ∷ []) }
+    ensures { OnOk result (out.new ≡ out.old ++ arc_mark left right piece arc.now (arc_end_event from.entry) (arc_end_event to.entry) ∷ []) }
 {
     if arc.tie {
         put_tie(out, left, right, piece, arc.head, from, to)

@@ -3,8 +3,8 @@ ghost use Rattle.{mus_laid.specs.{Printed.{printed}, Ranked.{inked}}, mus_words.
 
 use crate::words::put_words;
 use mus_ink::distances::{HALF_CHARACTER, VERSE_STEP};
-use mus_ink::drawing::cut;
-use mus_laid::{Lane, Pen, printed};
+use mus_ink::drawing::cut_dy;
+use mus_laid::{Lane, MarkPen, printed};
 use mus_units::{Memory, Text};
 
 /// The dx of a syllable of so many characters.
@@ -21,11 +21,11 @@ fn syllable_dx(count: usize) -> i32
 fn verse_dy(low: i32, verse: u8) -> i32
     ensures { result ≡ verse_dy low verse }
 {
-    cut(i64::from(low) - VERSE_STEP * i64::from(verse))
+    cut_dy(i64::from(low) - VERSE_STEP * i64::from(verse))
 }
 
 /// Draws what is printed of a syllable.
-fn put_syllable(pen: &mut Pen, low: i32, verse: u8, text: Text) -> Result<(), Memory>
+fn put_syllable(pen: &mut MarkPen, low: i32, verse: u8, text: Text) -> Result<(), Memory>
     requires { length text ≤ 60 }
     ensures { OnOk result (pen.new ≡ inked pen.old (syllable low verse text)) }
 {
@@ -36,7 +36,7 @@ fn put_syllable(pen: &mut Pen, low: i32, verse: u8, text: Text) -> Result<(), Me
     put_words(pen, Lane::Verse(verse), dx, verse_dy(low, verse), text)
 }
 
-fn put_syllable_if(pen: &mut Pen, low: i32, verse: u8, word: &Option<Text>) -> Result<(), Memory>
+fn put_syllable_if(pen: &mut MarkPen, low: i32, verse: u8, word: &Option<Text>) -> Result<(), Memory>
     ensures { OnOk result (pen.new ≡ inked pen.old (syllable_if low verse word.now)) }
 {
     match word {
@@ -50,7 +50,7 @@ fn put_syllable_if(pen: &mut Pen, low: i32, verse: u8, word: &Option<Text>) -> R
 /// with its middle at the column. What prints nothing is no mark. A dy is cut at 2^30 u in size. The
 /// only error is want of memory.
 pub fn put_syllables(
-    pen: &mut Pen,
+    pen: &mut MarkPen,
     first: u8,
     low: i32,
     words: &[Option<Text>],

@@ -5,8 +5,8 @@ ghost use Rattle.mus_laid.specs.Ranked.{inked};
 
 use crate::words::{add_shown, put_words};
 use mus_ink::distances::{HALF_CHARACTER, TEXT_GAP, TEXT_STEP, VERSE_STEP};
-use mus_ink::drawing::cut;
-use mus_laid::{Lane, Pen};
+use mus_ink::drawing::cut_dy;
+use mus_laid::{Lane, MarkPen};
 use mus_score::{Flat, Mention};
 use mus_units::{Deco, Memory, Row, Text};
 use std::alloc::Global;
@@ -141,7 +141,7 @@ fn above_others(high: i32, others: u64) -> i32
     requires { others ≤ 8589934592 }
     ensures { result ≡ above_dy high others }
 {
-    cut(i64::from(high) + TEXT_GAP + TEXT_STEP * others as i64)
+    cut_dy(i64::from(high) + TEXT_GAP + TEXT_STEP * others as i64)
 }
 
 /// The dy of the k-th text above of an event.
@@ -174,7 +174,7 @@ fn below_others(low: i32, verses: u8, others: u64) -> i32
     requires { others ≤ 8589934592 }
     ensures { result ≡ below_dy low verses others }
 {
-    cut(lowered(low, under_verses(verses, others)))
+    cut_dy(lowered(low, under_verses(verses, others)))
 }
 
 /// The dy of the k-th text below of an event.
@@ -185,7 +185,7 @@ fn below_dy(low: i32, verses: u8, before: usize, k: usize) -> i32
     below_others(low, verses, nearer(before, k))
 }
 
-fn put_above(pen: &mut Pen, high: i32, before: usize, texts: Row<Text>) -> Result<(), Memory>
+fn put_above(pen: &mut MarkPen, high: i32, before: usize, texts: Row<Text>) -> Result<(), Memory>
     ensures { OnOk result (pen.new ≡ inked pen.old (above_from high before texts)) }
 {
     for (k, text) in texts.items.into_iter().enumerate() {
@@ -201,7 +201,7 @@ fn put_above(pen: &mut Pen, high: i32, before: usize, texts: Row<Text>) -> Resul
 }
 
 fn put_below(
-    pen: &mut Pen,
+    pen: &mut MarkPen,
     low: i32,
     verses: u8,
     before: usize,
@@ -226,7 +226,7 @@ fn put_below(
 /// u under the last verse and each next one 1000 u lower. What prints nothing is no mark, and takes
 /// no place. A dy is cut at 2^30 u in size. The only error is want of memory.
 #[tactic(auto, unfolding(crate::specs::Texts::text_marks))]
-pub fn put_texts(pen: &mut Pen, place: TextPlace, flat: &Flat<'_>) -> Result<(), Memory>
+pub fn put_texts(pen: &mut MarkPen, place: TextPlace, flat: &Flat<'_>) -> Result<(), Memory>
     ensures { OnOk result (pen.new ≡ inked pen.old (text_marks place flat.now)) }
 {
     put_above(pen, place.high, place.above, texts_above(pen.alloc, flat)?)?;

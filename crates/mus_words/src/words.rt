@@ -1,13 +1,13 @@
 ghost use Rattle.std.specs.Prelude.{◌≡◌, ◌++◌, ◌∷◌, [], OnOk};
-ghost use Rattle.{mus_words.specs.Words.{words, if_any, shown}, mus_laid.specs.Ranked.{inked}};
+ghost use Rattle.{mus_words.specs.Words.{words, if_any, shown_text}, mus_laid.specs.Ranked.{inked}};
 
-use mus_laid::{Drawn, Ink, Lane, Pen, printed};
+use mus_laid::{LaneInk, Ink, Lane, MarkPen, printed};
 use mus_units::{Memory, Row, Size, Text};
 use std::alloc::Global;
 
 /// Draws a text of small characters.
 pub(crate) fn put_words(
-    pen: &mut Pen,
+    pen: &mut MarkPen,
     lane: Lane,
     dx: i32,
     dy: i32,
@@ -21,7 +21,7 @@ pub(crate) fn put_words(
         dy,
         text,
     };
-    pen.put(Drawn { ink, lane })
+    pen.put(LaneInk { ink, lane })
 }
 
 fn add_if_any(out: &mut Row<Text>, text: Text) -> Result<(), Memory>
@@ -35,7 +35,7 @@ fn add_if_any(out: &mut Row<Text>, text: Text) -> Result<(), Memory>
 
 /// Adds what is printed of a text, if that is anything.
 pub(crate) fn add_shown(alloc: Global, out: &mut Row<Text>, text: &[u8]) -> Result<(), Memory>
-    ensures { OnOk result (out.new ≡ out.old ++ shown text.now) }
+    ensures { OnOk result (out.new ≡ out.old ++ shown_text text.now) }
 {
     add_if_any(out, printed(alloc, text)?)
 }

@@ -2,28 +2,28 @@
 -- its columns. A column has what the glyphs at its anchor tell, in the staff's order, and the heights of the heads at which a
 -- tie ends there: an arc of bulge 400 or -400 ends that far from its head. The first column of a system leads it.
 use Rattle.std.specs.{Prelude.{ℤ, pos, negsuc, ◌-ℤ◌, ◌||◌, ◌&&◌, int_lt, if◌then◌else◌, Bool, true, false, List, [], ◌∷◌, flat_map}, Ordering.int_eq}
-use Rattle.{ps_text.specs.declared.marks.PageMark.{PageMark}, ps_heard.specs.{declared.column.Column.Column, declared.column.Noted.Noted, declared.column.Role.Role, Roles.role_of}}
+use Rattle.{ps_text.specs.declared.marks.PageMark.{PageMark}, ps_heard.specs.{declared.column.HeardColumn.HeardColumn, declared.column.HeardGlyph.HeardGlyph, declared.column.Role.Role, Roles.role_of}}
 
 -- quiet glyphs tell nothing
-abbrev pub noted : Role → ℤ → List Noted
+abbrev pub noted : Role → ℤ → List HeardGlyph
 noted Role.Quiet dy = []
 noted role dy = record { role = role; dy = dy } ∷ []
 
 -- what a mark tells at an anchor: only glyphs tell something
-abbrev pub note_at : ℤ → PageMark → List Noted
-note_at x (PageMark.Glyph glyph at dx dy) = if int_eq at x then noted (role_of glyph dy) dy else []
-note_at x _ = []
+abbrev pub glyphs_at : ℤ → PageMark → List HeardGlyph
+glyphs_at x (PageMark.Glyph glyph at dx dy) = if int_eq at x then noted (role_of glyph dy) dy else []
+glyphs_at x _ = []
 
-abbrev pub is_tie : ℤ → Bool
-is_tie bulge = int_eq bulge (pos 400) || int_eq bulge (negsuc 399)
+abbrev pub bulges_as_tie : ℤ → Bool
+bulges_as_tie bulge = int_eq bulge (pos 400) || int_eq bulge (negsuc 399)
 
 -- the height of the head at which a tie ends at an anchor
 abbrev pub tie_at : ℤ → PageMark → List ℤ
-tie_at x (PageMark.Arc x1 x2 from to bulge) = if int_eq x2 x && is_tie bulge then (to -ℤ bulge) ∷ [] else []
+tie_at x (PageMark.Arc x1 x2 from to bulge) = if int_eq x2 x && bulges_as_tie bulge then (to -ℤ bulge) ∷ [] else []
 tie_at x _ = []
 
-unfoldable pub column_at : Bool → List PageMark → ℤ → Column
-column_at leads ms x = record { leads = leads; notes = flat_map (note_at x) ms; ties = flat_map (tie_at x) ms }
+unfoldable pub column_at : Bool → List PageMark → ℤ → HeardColumn
+column_at leads ms x = record { leads = leads; notes = flat_map (glyphs_at x) ms; ties = flat_map (tie_at x) ms }
 
 -- numbers that rise, with one more, where it isn't among them
 abbrev pub inserted : ℤ → List ℤ → List ℤ
@@ -35,10 +35,10 @@ abbrev pub rising : List ℤ → List ℤ
 rising [] = []
 rising (x ∷ xs) = inserted x (rising xs)
 
-abbrev pub columns_from : Bool → List PageMark → List ℤ → List Column
-columns_from leads ms [] = []
-columns_from leads ms (x ∷ xs) = column_at leads ms x ∷ columns_from false ms xs
+abbrev pub heard_columns_from : Bool → List PageMark → List ℤ → List HeardColumn
+heard_columns_from leads ms [] = []
+heard_columns_from leads ms (x ∷ xs) = column_at leads ms x ∷ heard_columns_from false ms xs
 
 -- the columns of a staff with these marks, by the anchors of its system
-unfoldable pub columns_of : List ℤ → List PageMark → List Column
-columns_of anchors ms = columns_from true ms (rising anchors)
+unfoldable pub heard_columns_of : List ℤ → List PageMark → List HeardColumn
+heard_columns_of anchors ms = heard_columns_from true ms (rising anchors)

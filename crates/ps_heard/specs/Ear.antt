@@ -2,31 +2,31 @@
 -- to is said in Hearing.
 use Rattle.std.specs.Prelude.{if◌then◌else◌, List, [], ◌∷◌, ◌++◌}
 use Rattle.mus_units.specs.declared.{key.Spread.Spread, pitch.Clef.Clef}
-use Rattle.ps_heard.specs.{declared.column.Column.Column, declared.column.Ear.Ear, declared.column.Noted.Noted, Hearing.clef_behind, Hearing.entries, Hearing.gives_key, Hearing.head_at, Hearing.heard_at, Hearing.last_or, Hearing.listed, Hearing.said_with}
+use Rattle.ps_heard.specs.{declared.column.HeardColumn.HeardColumn, declared.column.Listener.Listener, declared.column.HeardGlyph.HeardGlyph, Hearing.clef_behind, Hearing.entries, Hearing.gives_key, Hearing.head_of_glyph, Hearing.heard_of_glyph, Hearing.last_or, Hearing.heard_if_note, Hearing.said_with}
 
 -- a mark: a bar ends the measure, a head is said, and listed where it is no grace note's
-abbrev pub hear_one : Spread → Column → Ear → Noted → Ear
-hear_one spread col ear n = record ear { said = said_with n.role (head_at ear.clef n.dy col.notes) ear.said; here = ear.here ++ listed n.role (heard_at spread col ear.clef ear.key.signs ear.before ear.said n.dy) }
+abbrev pub hear_one : Spread → HeardColumn → Listener → HeardGlyph → Listener
+hear_one spread col ear n = record ear { said = said_with n.role (head_of_glyph ear.clef n.dy col.notes) ear.said; here = ear.here ++ heard_if_note n.role (heard_of_glyph spread col ear.clef ear.key.signs ear.before ear.said n.dy) }
 
-abbrev pub hear_from : Spread → Column → Ear → List Noted → Ear
+abbrev pub hear_from : Spread → HeardColumn → Listener → List HeardGlyph → Listener
 hear_from spread col ear [] = ear
 hear_from spread col ear (n ∷ ns) = hear_from spread col (hear_one spread col ear n) ns
 
 -- the clef and the key of a column
-abbrev pub opened : Ear → Column → Ear
-opened ear col = record ear { clef = clef_behind ear.clef col.notes; key = record { signs = if gives_key col.leads col.notes then entries (clef_behind ear.clef col.notes) col.notes else ear.key.signs } }
+abbrev pub column_opened : Listener → HeardColumn → Listener
+column_opened ear col = record ear { clef = clef_behind ear.clef col.notes; key = record { signs = if gives_key col.leads col.notes then entries (clef_behind ear.clef col.notes) col.notes else ear.key.signs } }
 
 -- behind a column its heads are the last ones, if it has some
-abbrev pub closed : Ear → Ear
-closed ear = record ear { before = last_or ear.before ear.here; here = []; heard = ear.heard ++ ear.here }
+abbrev pub column_closed : Listener → Listener
+column_closed ear = record ear { before = last_or ear.before ear.here; here = []; heard = ear.heard ++ ear.here }
 
-unfoldable pub hear_column : Spread → Ear → Column → Ear
-hear_column spread ear col = closed (hear_from spread col (opened ear col) col.notes)
+unfoldable pub hear_column : Spread → Listener → HeardColumn → Listener
+hear_column spread ear col = column_closed (hear_from spread col (column_opened ear col) col.notes)
 
-abbrev pub hear_columns : Spread → Ear → List Column → Ear
+abbrev pub hear_columns : Spread → Listener → List HeardColumn → Listener
 hear_columns spread ear [] = ear
 hear_columns spread ear (col ∷ cols) = hear_columns spread (hear_column spread ear col) cols
 
 -- at first
-abbrev pub fresh : Ear
+abbrev pub fresh : Listener
 fresh = record { clef = Clef.Treble; key = record { signs = [] }; said = []; before = []; here = []; heard = [] }

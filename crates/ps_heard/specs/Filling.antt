@@ -1,25 +1,25 @@
 -- How the columns of a staff are filled, mark after mark. This is the way that the program takes; what the columns are is said in Columns.
 use Rattle.std.specs.{Prelude.ℤ, Prelude.if◌then◌else◌, Prelude.List, Prelude.[], Prelude.◌∷◌, Prelude.◌++◌, Ordering.int_eq}
-use Rattle.{ps_text.specs.declared.marks.PageMark.{PageMark}, ps_heard.specs.{declared.column.Column.Column, declared.column.Role.Role, Columns.note_at, Columns.noted, Columns.tie_at}}
+use Rattle.{ps_text.specs.declared.marks.PageMark.{PageMark}, ps_heard.specs.{declared.column.HeardColumn.HeardColumn, declared.column.Role.Role, Columns.glyphs_at, Columns.noted, Columns.tie_at}}
 
-abbrev pub with_note : Role → ℤ → Column → Column
+abbrev pub with_note : Role → ℤ → HeardColumn → HeardColumn
 with_note role dy c = record c { notes = c.notes ++ noted role dy }
 
-abbrev pub with_tie : ℤ → Column → Column
-with_tie dy c = record c { ties = c.ties ++ dy ∷ [] }
+abbrev pub with_tie_at : ℤ → HeardColumn → HeardColumn
+with_tie_at dy c = record c { ties = c.ties ++ dy ∷ [] }
 
 -- the column at an anchor changed, and the others as they are
-abbrev pub at_place : ℤ → (Column → Column) → List ℤ → List Column → List Column
+abbrev pub at_place : ℤ → (HeardColumn → HeardColumn) → List ℤ → List HeardColumn → List HeardColumn
 at_place x f [] cs = cs
 at_place x f (y ∷ ys) [] = []
 at_place x f (y ∷ ys) (c ∷ cs) = (if int_eq x y then f c else c) ∷ at_place x f ys cs
 
 -- each column with what one more mark tells of it
-abbrev pub with_mark : PageMark → List ℤ → List Column → List Column
-with_mark m [] cs = cs
-with_mark m (y ∷ ys) [] = []
-with_mark m (y ∷ ys) (c ∷ cs) = record c { notes = c.notes ++ note_at y m; ties = c.ties ++ tie_at y m } ∷ with_mark m ys cs
+abbrev pub with_page_mark : PageMark → List ℤ → List HeardColumn → List HeardColumn
+with_page_mark m [] cs = cs
+with_page_mark m (y ∷ ys) [] = []
+with_page_mark m (y ∷ ys) (c ∷ cs) = record c { notes = c.notes ++ glyphs_at y m; ties = c.ties ++ tie_at y m } ∷ with_page_mark m ys cs
 
-abbrev pub with_marks : List PageMark → List ℤ → List Column → List Column
+abbrev pub with_marks : List PageMark → List ℤ → List HeardColumn → List HeardColumn
 with_marks [] places cs = cs
-with_marks (m ∷ ms) places cs = with_marks ms places (with_mark m places cs)
+with_marks (m ∷ ms) places cs = with_marks ms places (with_page_mark m places cs)

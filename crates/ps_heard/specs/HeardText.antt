@@ -2,7 +2,7 @@
 -- `staff` and its place; and for each head a line with its letter in capital, its alteration in half steps, -2 to 2, and its octave.
 use Rattle.std.specs.{Prelude.{ℕ, ℤ, pos, negsuc, List, ◌++◌, codes, decimal, flat_map}, Fmt.signed_decimal}
 use Rattle.{mus_units.specs.{declared.key.Spread.Spread, declared.pitch.Alter.Alter, declared.pitch.Letter.Letter}, ps_text.specs.{Document.numbered, declared.sheet.Sheet.Sheet}}
-use Rattle.ps_heard.specs.{declared.column.Heard.Heard, declared.tunes.Part.Part, Tunes.items_of, Tunes.staves_heard, Tunes.tunes_of}
+use Rattle.ps_heard.specs.{declared.column.Heard.Heard, declared.tunes.SheetTune.SheetTune, Tunes.items_of, Tunes.staves_heard, Tunes.tunes_of}
 
 abbrev pub letter_text : Letter → List ℕ
 letter_text Letter.C = codes "C"
@@ -25,12 +25,12 @@ abbrev pub head_line : Heard → List ℕ
 head_line x = letter_text x.pitch.letter ++ codes " " ++ signed_decimal (half_steps x.alter) ++ codes " " ++ signed_decimal x.pitch.octave ++ codes "\n"
 
 -- staff k of a tune
-abbrev pub staff_text : ℕ → List Heard → List ℕ
-staff_text k heads = codes "staff " ++ decimal k ++ codes "\n" ++ flat_map head_line heads
+abbrev pub heard_staff_text : ℕ → List Heard → List ℕ
+heard_staff_text k heads = codes "staff " ++ decimal k ++ codes "\n" ++ flat_map head_line heads
 
-abbrev pub tune_text : Spread → Part → List ℕ
-tune_text spread part = codes "tune " ++ decimal part.ordinal ++ codes "\n" ++ numbered staff_text 0 (staves_heard spread part.systems)
+abbrev pub heard_tune_text : Spread → SheetTune → List ℕ
+heard_tune_text spread part = codes "tune " ++ decimal part.ordinal ++ codes "\n" ++ numbered heard_staff_text 0 (staves_heard spread part.systems)
 
 -- tune after tune
 abbrev pub heard_text : Spread → Sheet → List ℕ
-heard_text spread s = flat_map (tune_text spread) (tunes_of (items_of s))
+heard_text spread s = flat_map (heard_tune_text spread) (tunes_of (items_of s))

@@ -2,7 +2,7 @@
 -- heard through all of them in order, where they have it. There are as many staves as the largest of these systems has.
 use Rattle.std.specs.{Prelude.{ℕ, ℤ, max, List, [], ◌∷◌, length, map, flat_map, slice_get, Option, Some, None}, List.range_with_len}
 use Rattle.{mus_units.specs.declared.key.Spread.{Spread}, ps_text.specs.{Ranks.anchors, declared.sheet.Item.Item, declared.sheet.Page.Page, declared.sheet.Sheet.Sheet, declared.sheet.Staff.Staff}}
-use Rattle.ps_heard.specs.{declared.column.Column.Column, declared.column.Heard.Heard, declared.tunes.Part.Part, Columns.columns_of, Hearing.heard_of}
+use Rattle.ps_heard.specs.{declared.column.HeardColumn.HeardColumn, declared.column.Heard.Heard, declared.tunes.SheetTune.SheetTune, Columns.heard_columns_of, Hearing.heard_of}
 
 -- the items of a sheet, page after page
 abbrev pub items_of : Sheet → List Item
@@ -16,22 +16,22 @@ systems_till (Item.Title x y size text ∷ rest) = systems_till rest
 systems_till (Item.System a b staves ∷ rest) = staves ∷ systems_till rest
 
 -- the tunes in order: the ordinal of each, and its systems
-abbrev pub tunes_of : List Item → List Part
+abbrev pub tunes_of : List Item → List SheetTune
 tunes_of [] = []
 tunes_of (Item.Tune ordinal ∷ rest) = record { ordinal = ordinal; systems = systems_till rest } ∷ tunes_of rest
 tunes_of (Item.Title x y size text ∷ rest) = tunes_of rest
 tunes_of (Item.System a b staves ∷ rest) = tunes_of rest
 
 -- the columns of staff k of a system, if it has that staff
-abbrev pub columns_if : List ℤ → Option Staff → List Column
+abbrev pub columns_if : List ℤ → Option Staff → List HeardColumn
 columns_if places None = []
-columns_if places (Some staff) = columns_of places staff.marks
+columns_if places (Some staff) = heard_columns_of places staff.marks
 
-abbrev pub staff_columns : ℕ → List Staff → List Column
-staff_columns k staves = columns_if (anchors staves) (slice_get staves k)
+abbrev pub heard_staff_columns : ℕ → List Staff → List HeardColumn
+heard_staff_columns k staves = columns_if (anchors staves) (slice_get staves k)
 
 abbrev pub staff_heard : Spread → List (List Staff) → ℕ → List Heard
-staff_heard spread systems k = heard_of spread (flat_map (staff_columns k) systems)
+staff_heard spread systems k = heard_of spread (flat_map (heard_staff_columns k) systems)
 
 -- how many staves the largest of some systems has
 abbrev pub most_staves : List (List Staff) → ℕ
@@ -42,7 +42,7 @@ most_staves (staves ∷ rest) = max (length staves) (most_staves rest)
 abbrev pub staves_heard : Spread → List (List Staff) → List (List Heard)
 staves_heard spread systems = map (staff_heard spread systems) (range_with_len 0 (most_staves systems))
 
-abbrev pub part_heard : Spread → Option Part → List (List Heard)
+abbrev pub part_heard : Spread → Option SheetTune → List (List Heard)
 part_heard spread None = []
 part_heard spread (Some part) = staves_heard spread part.systems
 

@@ -15,7 +15,7 @@ pub enum Role {
 
 /// A glyph that tells something, and its height in u.
 #[derive(Clone, Copy, PartialEq, Eq)]
-pub struct Noted {
+pub struct HeardGlyph {
     pub role: Role,
     pub dy: i32,
 }
@@ -23,9 +23,9 @@ pub struct Noted {
 /// The marks of a staff at one anchor: whether the anchor is the first of its system, what its glyphs
 /// tell, in the staff's order, and the heights of the heads at which a tie ends.
 #[derive(Drop)]
-pub struct Column {
+pub struct HeardColumn {
     pub leads: bool,
-    pub notes: Row<Noted>,
+    pub notes: Row<HeardGlyph>,
     pub ties: Row<i64>,
 }
 
@@ -39,7 +39,7 @@ pub struct Heard {
 /// What a listener keeps in mind: the clef and the key, the heads so far in the measure, the heads of
 /// the last column of heads, those so far in this column, and all heads of the columns before it.
 #[derive(Drop)]
-pub struct Ear {
+pub struct Listener {
     pub clef: Clef,
     pub key: Key,
     pub said: Row<Head>,

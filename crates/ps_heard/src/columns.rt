@@ -1,42 +1,42 @@
 ghost use Rattle.std.specs.{Prelude.◌≡◌, Prelude.◌++◌, Prelude.◌-ℤ◌, Prelude.[], Prelude.true, Prelude.length, Prelude.IfOk, Prelude.OnOk, List.Sorted.IsStrictlySortedBy, Ordering.int_cmp};
-ghost use Rattle.ps_heard.specs.{Columns.columns_from, Columns.is_tie, Filling.at_place, Filling.with_mark, Filling.with_note, Filling.with_tie};
+ghost use Rattle.ps_heard.specs.{Columns.heard_columns_from, Columns.bulges_as_tie, Filling.at_place, Filling.with_page_mark, Filling.with_note, Filling.with_tie_at};
 
 use crate::anchors::place_of;
-use crate::column::{Column, Noted, Role};
+use crate::column::{HeardColumn, HeardGlyph, Role};
 use crate::roles::role_of;
 use mus_units::{Memory, Row};
 use ps_text::PageMark;
 use std::alloc::Global;
 
-impl Column {
+impl HeardColumn {
     /// Notes what a glyph tells.
     fn note(&mut self, role: Role, dy: i32) -> Result<(), Memory>
         ensures { OnOk result (self.new ≡ with_note role dy self.old) }
     {
         match role {
             Role::Quiet => Ok(()),
-            _ => self.notes.push(Noted { role, dy }),
+            _ => self.notes.push(HeardGlyph { role, dy }),
         }
     }
 
     /// Notes the height of a head at which a tie ends.
     fn tie(&mut self, dy: i64) -> Result<(), Memory>
-        ensures { OnOk result (self.new ≡ with_tie dy self.old) }
+        ensures { OnOk result (self.new ≡ with_tie_at dy self.old) }
     {
         self.ties.push(dy)
     }
 }
 
 /// Whether an arc of that bulge is a tie.
-fn is_tie(bulge: i32) -> bool
-    ensures { result ≡ is_tie bulge }
+fn bulges_as_tie(bulge: i32) -> bool
+    ensures { result ≡ bulges_as_tie bulge }
 {
     bulge == 400 || bulge == -400
 }
 
 /// Notes a glyph in the column at its anchor.
 fn put_note(
-    columns: &mut Row<Column>,
+    columns: &mut Row<HeardColumn>,
     places: &[i64],
     x: i64,
     role: Role,
@@ -53,10 +53,10 @@ fn put_note(
 }
 
 /// Notes a tie in the column at which it ends, by the height of its head.
-fn put_tie(columns: &mut Row<Column>, places: &[i64], x: i64, dy: i64) -> Result<(), Memory>
+fn put_tie(columns: &mut Row<HeardColumn>, places: &[i64], x: i64, dy: i64) -> Result<(), Memory>
     requires rise { IsStrictlySortedBy int_cmp places.now }
     requires all { length columns.old ≡ length places.now }
-    ensures { OnOk result (columns.new ≡ at_place x (with_tie dy) places.now columns.old) }
+    ensures { OnOk result (columns.new ≡ at_place x (with_tie_at dy) places.now columns.old) }
 {
     match place_of(places, x) {
         Some(place) => columns.items[place].tie(dy),
@@ -66,17 +66,17 @@ fn put_tie(columns: &mut Row<Column>, places: &[i64], x: i64, dy: i64) -> Result
 
 /// Notes what a mark tells.
 #[tactic(auto, using(crate::proofs::FillingLaws::slur_told, crate::proofs::FillingLaws::words_told, crate::proofs::FillingLaws::stem_told, crate::proofs::FillingLaws::beam_told))]
-fn put_mark(columns: &mut Row<Column>, places: &[i64], mark: &PageMark) -> Result<(), Memory>
+fn put_mark(columns: &mut Row<HeardColumn>, places: &[i64], mark: &PageMark) -> Result<(), Memory>
     requires rise { IsStrictlySortedBy int_cmp places.now }
     requires all { length columns.old ≡ length places.now }
-    ensures { OnOk result (columns.new ≡ with_mark mark.now places.now columns.old) }
+    ensures { OnOk result (columns.new ≡ with_page_mark mark.now places.now columns.old) }
 {
     match mark {
         PageMark::Glyph { glyph, x, dy, .. } => {
             put_note(columns, places, *x, role_of(*glyph, *dy), *dy)
         }
         PageMark::Arc { x2, to, bulge, .. } => {
-            if is_tie(*bulge) {
+            if bulges_as_tie(*bulge) {
                 put_tie(columns, places, *x2, height_of_end(*to, *bulge))
             } else {
                 Ok(())
@@ -96,10 +96,10 @@ fn height_of_end(to: i32, bulge: i32) -> i64
 }
 
 /// A column in which nothing stands.
-fn empty_column(alloc: Global, leads: bool) -> Column
+fn empty_column(alloc: Global, leads: bool) -> HeardColumn
     ensures { result ≡ record { leads = leads; notes = []; ties = [] } }
 {
-    Column {
+    HeardColumn {
         leads,
         notes: Row::new(alloc),
         ties: Row::new(alloc),
@@ -107,8 +107,8 @@ fn empty_column(alloc: Global, leads: bool) -> Column
 }
 
 /// Columns in which nothing stands.
-fn empty_columns(alloc: Global, places: &[i64]) -> Result<Row<Column>, Memory>
-    ensures { IfOk result (λ r. r ≡ columns_from true [] places.now) }
+fn empty_columns(alloc: Global, places: &[i64]) -> Result<Row<HeardColumn>, Memory>
+    ensures { IfOk result (λ r. r ≡ heard_columns_from true [] places.now) }
 {
     let mut out = Row::new(alloc);
     let mut leads = true;
@@ -121,9 +121,9 @@ fn empty_columns(alloc: Global, places: &[i64]) -> Result<Row<Column>, Memory>
 
 /// The columns of a staff of these marks, at places that rise.
 #[tactic(auto, using(crate::proofs::FillingLaws::columns_length))]
-pub fn fill(alloc: Global, places: &[i64], marks: &[PageMark]) -> Result<Row<Column>, Memory>
+pub fn fill(alloc: Global, places: &[i64], marks: &[PageMark]) -> Result<Row<HeardColumn>, Memory>
     requires { IsStrictlySortedBy int_cmp places.now }
-    ensures { IfOk result (λ r. r ≡ columns_from true marks.now places.now) }
+    ensures { IfOk result (λ r. r ≡ heard_columns_from true marks.now places.now) }
 {
     let mut columns = empty_columns(alloc, places)?;
     for mark in marks {

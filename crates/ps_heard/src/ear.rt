@@ -1,10 +1,10 @@
 //! A staff, heard column by column.
 
 ghost use Rattle.std.specs.Prelude.{◌≡◌, ◌++◌, OnOk};
-ghost use Rattle.ps_heard.specs.Ear.{hear_one, hear_from, opened, closed, hear_column, hear_columns, fresh};
+ghost use Rattle.ps_heard.specs.Ear.{hear_one, hear_from, column_opened, column_closed, hear_column, hear_columns, fresh};
 
-use crate::column::{Column, Ear, Heard, Noted, Role};
-use crate::heads::{head_at, heard_at};
+use crate::column::{HeardColumn, Listener, Heard, HeardGlyph, Role};
+use crate::heads::{head_of_glyph, heard_of_glyph};
 use crate::keys::{clef_behind, entries, gives_key};
 use mus_units::{Clef, Key, Memory, Row, Spread};
 use std::alloc::Global;
@@ -13,9 +13,9 @@ use std::alloc::Global;
 fn hear_one(
     alloc: Global,
     spread: Spread,
-    col: &Column,
-    ear: &mut Ear,
-    note: Noted,
+    col: &HeardColumn,
+    ear: &mut Listener,
+    note: HeardGlyph,
 ) -> Result<(), Memory>
     ensures { OnOk result (ear.new ≡ hear_one spread col.now ear.old note) }
 {
@@ -26,18 +26,18 @@ fn hear_one(
         }
         Role::Grace => ear
             .said
-            .push(head_at(ear.clef, note.dy, col.notes.as_slice())),
+            .push(head_of_glyph(ear.clef, note.dy, col.notes.as_slice())),
         Role::Head => {
-            let heard = heard_at(spread, col, ear, note.dy);
+            let heard = heard_of_glyph(spread, col, ear, note.dy);
             ear.said
-                .push(head_at(ear.clef, note.dy, col.notes.as_slice()))?;
+                .push(head_of_glyph(ear.clef, note.dy, col.notes.as_slice()))?;
             ear.here.push(heard)
         }
         Role::Clef(_) | Role::Sign(_) | Role::Quiet => Ok(()),
     }
 }
 
-fn hear_all(alloc: Global, spread: Spread, col: &Column, ear: &mut Ear) -> Result<(), Memory>
+fn hear_all(alloc: Global, spread: Spread, col: &HeardColumn, ear: &mut Listener) -> Result<(), Memory>
     ensures { OnOk result (ear.new ≡ hear_from spread col.now ear.old col.now.notes) }
 {
     for note in col.notes.as_slice() {
@@ -47,8 +47,8 @@ fn hear_all(alloc: Global, spread: Spread, col: &Column, ear: &mut Ear) -> Resul
 }
 
 /// Takes the clef and the key of a column.
-fn open_column(alloc: Global, ear: &mut Ear, col: &Column) -> Result<(), Memory>
-    ensures { OnOk result (ear.new ≡ opened ear.old col.now) }
+fn open_column(alloc: Global, ear: &mut Listener, col: &HeardColumn) -> Result<(), Memory>
+    ensures { OnOk result (ear.new ≡ column_opened ear.old col.now) }
 {
     let notes = col.notes.as_slice();
     ear.clef = clef_behind(ear.clef, notes);
@@ -70,8 +70,8 @@ fn put_heads(out: &mut Row<Heard>, heads: &[Heard]) -> Result<(), Memory>
 }
 
 /// Puts the heads of a column behind those before it.
-fn close_column(alloc: Global, ear: &mut Ear) -> Result<(), Memory>
-    ensures { OnOk result (ear.new ≡ closed ear.old) }
+fn close_column(alloc: Global, ear: &mut Listener) -> Result<(), Memory>
+    ensures { OnOk result (ear.new ≡ column_closed ear.old) }
 {
     put_heads(&mut ear.heard, ear.here.as_slice())?;
     if !ear.here.is_empty() {
@@ -83,7 +83,7 @@ fn close_column(alloc: Global, ear: &mut Ear) -> Result<(), Memory>
 
 /// Hears a column of a staff.
 #[tactic(auto, unfolding(crate::specs::Ear::hear_column))]
-fn hear_column(alloc: Global, spread: Spread, ear: &mut Ear, col: &Column) -> Result<(), Memory>
+fn hear_column(alloc: Global, spread: Spread, ear: &mut Listener, col: &HeardColumn) -> Result<(), Memory>
     ensures { OnOk result (ear.new ≡ hear_column spread ear.old col.now) }
 {
     open_column(alloc, ear, col)?;
@@ -95,8 +95,8 @@ fn hear_column(alloc: Global, spread: Spread, ear: &mut Ear, col: &Column) -> Re
 pub fn hear_columns(
     alloc: Global,
     spread: Spread,
-    ear: &mut Ear,
-    columns: &[Column],
+    ear: &mut Listener,
+    columns: &[HeardColumn],
 ) -> Result<(), Memory>
     ensures { OnOk result (ear.new ≡ hear_columns spread ear.old columns.now) }
 {
@@ -107,10 +107,10 @@ pub fn hear_columns(
 }
 
 /// What a listener knows at first.
-pub fn fresh(alloc: Global) -> Ear
+pub fn fresh(alloc: Global) -> Listener
     ensures { result ≡ fresh }
 {
-    Ear {
+    Listener {
         clef: Clef::Treble,
         key: Key {
             signs: Row::new(alloc),

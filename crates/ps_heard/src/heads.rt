@@ -1,16 +1,16 @@
 //! How a head of a column sounds.
 
 ghost use Rattle.std.specs.{Prelude.◌≡◌, List.find, List.list_any, Option.option_map, Ordering.int_eq};
-ghost use Rattle.{mus_pitch.specs.Alteration.{key_sign, said_sign}, ps_heard.specs.Hearing.{sign_at, is_at, tied_from, head_at, heard_at, first_there}};
+ghost use Rattle.{mus_pitch.specs.Alteration.{key_sign, said_sign}, ps_heard.specs.Hearing.{sign_of_glyph, is_same_pitch, tied_from, head_of_glyph, heard_of_glyph, first_there}};
 
-use crate::column::{Column, Ear, Heard, Noted, Role};
+use crate::column::{HeardColumn, Listener, Heard, HeardGlyph, Role};
 use crate::pitches::pitch_at;
 use mus_pitch::in_force;
 use mus_units::{Alter, Clef, Head, Key, Pitch, Spread};
 
 /// The first sign at a height.
-fn sign_at(dy: i32, notes: &[Noted]) -> Option<Alter>
-    ensures { result ≡ sign_at dy notes.now }
+fn sign_of_glyph(dy: i32, notes: &[HeardGlyph]) -> Option<Alter>
+    ensures { result ≡ sign_of_glyph dy notes.now }
 {
     for note in notes {
         if let Role::Sign(alter) = note.role {
@@ -23,18 +23,18 @@ fn sign_at(dy: i32, notes: &[Noted]) -> Option<Alter>
 }
 
 /// Whether a head is of that letter and octave.
-fn is_at(pitch: Pitch, head: &Heard) -> bool
-    ensures { result ≡ is_at pitch head.now }
+fn is_same_pitch(pitch: Pitch, head: &Heard) -> bool
+    ensures { result ≡ is_same_pitch pitch head.now }
 {
     head.pitch.letter == pitch.letter && head.pitch.octave == pitch.octave
 }
 
 /// The first head of that letter and octave.
 fn head_before(pitch: Pitch, before: &[Heard]) -> Option<Heard>
-    ensures { result ≡ find (is_at pitch) before.now }
+    ensures { result ≡ find (is_same_pitch pitch) before.now }
 {
     for head in before {
-        if is_at(pitch, head) {
+        if is_same_pitch(pitch, head) {
             return Some(*head);
         }
     }
@@ -79,19 +79,19 @@ fn ends_tie(dy: i32, ties: &[i64]) -> bool
 }
 
 /// A head at a height of a column: its pitch, and its sign.
-pub fn head_at(clef: Clef, dy: i32, notes: &[Noted]) -> Head
-    ensures { result ≡ head_at clef dy notes.now }
+pub fn head_of_glyph(clef: Clef, dy: i32, notes: &[HeardGlyph]) -> Head
+    ensures { result ≡ head_of_glyph clef dy notes.now }
 {
     Head {
         pitch: pitch_at(clef, dy),
-        sign: sign_at(dy, notes),
+        sign: sign_of_glyph(dy, notes),
         tied: false,
     }
 }
 
 /// How a head at a height of a column sounds.
-pub fn heard_at(spread: Spread, col: &Column, ear: &Ear, dy: i32) -> Heard
-    ensures { result ≡ heard_at spread col.now ear.now.clef ear.now.key.signs ear.now.before ear.now.said dy }
+pub fn heard_of_glyph(spread: Spread, col: &HeardColumn, ear: &Listener, dy: i32) -> Heard
+    ensures { result ≡ heard_of_glyph spread col.now ear.now.clef ear.now.key.signs ear.now.before ear.now.said dy }
 {
     let pitch = pitch_at(ear.clef, dy);
     let tied = tied_from(
@@ -99,7 +99,7 @@ pub fn heard_at(spread: Spread, col: &Column, ear: &Ear, dy: i32) -> Heard
         ear.before.as_slice(),
         pitch,
     );
-    let own = sign_at(dy, col.notes.as_slice());
+    let own = sign_of_glyph(dy, col.notes.as_slice());
     Heard {
         pitch,
         alter: sounded(own, tied, pitch, ear.said.as_slice(), spread, &ear.key),

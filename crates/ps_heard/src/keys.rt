@@ -3,7 +3,7 @@
 ghost use Rattle.std.specs.{Prelude.◌≡◌, Prelude.IfOk, List.list_any};
 ghost use Rattle.ps_heard.specs.Hearing.{clef_or, clef_behind, entries, is_sign, is_head, gives_key};
 
-use crate::column::{Noted, Role};
+use crate::column::{HeardGlyph, Role};
 use crate::pitches::pitch_at;
 use mus_units::{Clef, Memory, Row, Sign};
 use std::alloc::Global;
@@ -18,7 +18,7 @@ fn clef_or(clef: Clef, role: Role) -> Clef
 }
 
 /// The last clef among what is noted, else the one before.
-pub fn clef_behind(clef: Clef, notes: &[Noted]) -> Clef
+pub fn clef_behind(clef: Clef, notes: &[HeardGlyph]) -> Clef
     ensures { result ≡ clef_behind clef notes.now }
 {
     let mut last = clef;
@@ -29,7 +29,7 @@ pub fn clef_behind(clef: Clef, notes: &[Noted]) -> Clef
 }
 
 /// The signs of a column as entries of a key.
-pub fn entries(alloc: Global, clef: Clef, notes: &[Noted]) -> Result<Row<Sign>, Memory>
+pub fn entries(alloc: Global, clef: Clef, notes: &[HeardGlyph]) -> Result<Row<Sign>, Memory>
     ensures { IfOk result (λ r. r ≡ entries clef notes.now) }
 {
     let mut out = Row::new(alloc);
@@ -62,20 +62,20 @@ fn is_head(role: Role) -> bool
     }
 }
 
-fn has_signs(notes: &[Noted]) -> bool
+fn has_signs(notes: &[HeardGlyph]) -> bool
     ensures { result ≡ list_any (λ n. is_sign n.role) notes.now }
 {
     notes.iter().any(|note| is_sign(note.role))
 }
 
-fn has_heads(notes: &[Noted]) -> bool
+fn has_heads(notes: &[HeardGlyph]) -> bool
     ensures { result ≡ list_any (λ n. is_head n.role) notes.now }
 {
     notes.iter().any(|note| is_head(note.role))
 }
 
 /// Whether a column of these gives the key: it leads its system, or has signs and no heads.
-pub fn gives_key(leads: bool, notes: &[Noted]) -> bool
+pub fn gives_key(leads: bool, notes: &[HeardGlyph]) -> bool
     ensures { result ≡ gives_key leads notes.now }
 {
     leads || has_signs(notes) && !has_heads(notes)

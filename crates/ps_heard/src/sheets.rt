@@ -1,27 +1,27 @@
 //! What the tunes of a sheet sound.
 
 ghost use Rattle.std.specs.Prelude.{◌≡◌, IfOk, OnOk, flat_map};
-ghost use Rattle.ps_heard.specs.{Ear.hear_columns, Tunes.staff_columns, Tunes.staff_heard, Tunes.staves_heard, Tunes.heard_in};
+ghost use Rattle.ps_heard.specs.{Ear.hear_columns, Tunes.heard_staff_columns, Tunes.staff_heard, Tunes.staves_heard, Tunes.heard_in};
 
 use crate::anchors::places_of;
-use crate::column::{Ear, Heard};
+use crate::column::{Listener, Heard};
 use crate::columns::fill;
 use crate::ear::{fresh, hear_columns};
-use crate::tunes::{Braced, most_staves, tunes_of};
+use crate::tunes::{BorrowedStaves, most_staves, tunes_of};
 use mus_units::{Memory, Row, Spread};
 use ps_text::{Sheet, Staff};
 use std::alloc::Global;
 
 /// Hears staff `k` of a system, if the system has it.
-#[tactic(auto, unfolding(crate::specs::Columns::columns_of))]
+#[tactic(auto, unfolding(crate::specs::Columns::heard_columns_of))]
 fn hear_system(
     alloc: Global,
     spread: Spread,
-    ear: &mut Ear,
+    ear: &mut Listener,
     k: usize,
     staves: &[Staff],
 ) -> Result<(), Memory>
-    ensures { OnOk result (ear.new ≡ hear_columns spread ear.old (staff_columns k staves.now)) }
+    ensures { OnOk result (ear.new ≡ hear_columns spread ear.old (heard_staff_columns k staves.now)) }
 {
     let Some(staff) = staves.get(k) else {
         return Ok(());
@@ -35,11 +35,11 @@ fn hear_system(
 fn hear_systems(
     alloc: Global,
     spread: Spread,
-    ear: &mut Ear,
+    ear: &mut Listener,
     k: usize,
-    systems: &[Braced<'_>],
+    systems: &[BorrowedStaves<'_>],
 ) -> Result<(), Memory>
-    ensures { OnOk result (ear.new ≡ hear_columns spread ear.old (flat_map (staff_columns k) systems.now)) }
+    ensures { OnOk result (ear.new ≡ hear_columns spread ear.old (flat_map (heard_staff_columns k) systems.now)) }
 {
     for system in systems {
         hear_system(alloc, spread, ear, k, system.staves)?;
@@ -52,7 +52,7 @@ fn hear_systems(
 fn hear_staff(
     alloc: Global,
     spread: Spread,
-    systems: &[Braced<'_>],
+    systems: &[BorrowedStaves<'_>],
     k: usize,
 ) -> Result<Row<Heard>, Memory>
     ensures { IfOk result (λ r. r ≡ staff_heard spread systems.now k) }
@@ -66,7 +66,7 @@ fn hear_staff(
 pub fn hear_tune(
     alloc: Global,
     spread: Spread,
-    systems: &[Braced<'_>],
+    systems: &[BorrowedStaves<'_>],
 ) -> Result<Row<Row<Heard>>, Memory>
     ensures { IfOk result (λ r. r ≡ staves_heard spread systems.now) }
 {

@@ -1,11 +1,11 @@
 //! What a sheet sounds, as text.
 
 ghost use Rattle.std.specs.{Prelude.◌≡◌, Prelude.◌++◌, Prelude.codes, Prelude.decimal, Prelude.flat_map, Prelude.OnOk, Fmt.signed_decimal};
-ghost use Rattle.{ps_text.specs.Document.{numbered}, ps_heard.specs.HeardText.{half_steps, head_line, heard_text, letter_text, staff_text, tune_text}};
+ghost use Rattle.{ps_text.specs.Document.{numbered}, ps_heard.specs.HeardText.{half_steps, head_line, heard_text, letter_text, heard_staff_text, heard_tune_text}};
 
 use crate::column::Heard;
 use crate::sheets::hear_tune;
-use crate::tunes::{Part, tunes_of};
+use crate::tunes::{SheetTune, tunes_of};
 use eng_lines::put_number;
 use itoa::Buffer;
 use mus_units::{Alter, Letter, Memory, Row, Spread, Text};
@@ -72,7 +72,7 @@ pub fn put_heads(out: &mut Text, heads: &[Heard]) -> Result<(), Memory>
 
 /// Adds the lines of staff `k` of a tune.
 fn put_staff(out: &mut Text, k: u64, heads: &[Heard]) -> Result<(), Memory>
-    ensures { OnOk result (out.new ≡ out.old ++ staff_text k heads.now) }
+    ensures { OnOk result (out.new ≡ out.old ++ heard_staff_text k heads.now) }
 {
     out.append(b"staff ")?;
     put_number(out, k)?;
@@ -81,7 +81,7 @@ fn put_staff(out: &mut Text, k: u64, heads: &[Heard]) -> Result<(), Memory>
 }
 
 fn put_staves(out: &mut Text, staves: &[Row<Heard>]) -> Result<(), Memory>
-    ensures { OnOk result (out.new ≡ out.old ++ numbered staff_text 0 staves.now) }
+    ensures { OnOk result (out.new ≡ out.old ++ numbered heard_staff_text 0 staves.now) }
 {
     let mut k = 0;
     for heads in staves {
@@ -100,8 +100,8 @@ fn put_tune_line(out: &mut Text, ordinal: u32) -> Result<(), Memory>
 }
 
 /// Adds the lines of a tune.
-fn put_tune(alloc: Global, out: &mut Text, spread: Spread, tune: &Part<'_>) -> Result<(), Memory>
-    ensures { OnOk result (out.new ≡ out.old ++ tune_text spread tune.now) }
+fn put_tune(alloc: Global, out: &mut Text, spread: Spread, tune: &SheetTune<'_>) -> Result<(), Memory>
+    ensures { OnOk result (out.new ≡ out.old ++ heard_tune_text spread tune.now) }
 {
     put_tune_line(out, tune.ordinal)?;
     let staves = hear_tune(alloc, spread, tune.systems.as_slice())?;

@@ -10,11 +10,11 @@ use std::marker::Model;
 
 /// An item of a sheet, where it stands.
 #[derive(Drop)]
-pub struct Shown<'a> {
+pub struct BorrowedItem<'a> {
     pub item: &'a Item,
 }
 
-impl<'a> Model for Shown<'a> {
+impl<'a> Model for BorrowedItem<'a> {
     ghost use Rattle.ps_text.specs.declared.sheet.Item.{Item};
 
     ghost Value = { Item };
@@ -24,11 +24,11 @@ impl<'a> Model for Shown<'a> {
 
 /// The staves of a system, where they stand.
 #[derive(Drop)]
-pub struct Braced<'a> {
+pub struct BorrowedStaves<'a> {
     pub staves: &'a [Staff],
 }
 
-impl<'a> Model for Braced<'a> {
+impl<'a> Model for BorrowedStaves<'a> {
     ghost use Rattle.std.specs.Prelude.{List};
     ghost use Rattle.ps_text.specs.declared.sheet.Staff.{Staff};
 
@@ -39,22 +39,22 @@ impl<'a> Model for Braced<'a> {
 
 /// A tune of a sheet: its ordinal, and its systems in order.
 #[derive(Drop)]
-pub struct Part<'a> {
+pub struct SheetTune<'a> {
     pub ordinal: u32,
-    pub systems: Row<Braced<'a>>,
+    pub systems: Row<BorrowedStaves<'a>>,
 }
 
-fn put_items<'a>(out: &mut Row<Shown<'a>>, items: &'a [Item]) -> Result<(), Memory>
+fn put_items<'a>(out: &mut Row<BorrowedItem<'a>>, items: &'a [Item]) -> Result<(), Memory>
     ensures { OnOk result (out.new ≡ out.old ++ items.now) }
 {
     for item in items {
-        out.push(Shown { item })?;
+        out.push(BorrowedItem { item })?;
     }
     Ok(())
 }
 
 /// All items of a sheet, page after page.
-fn items_of<'a>(alloc: Global, s: &'a Sheet) -> Result<Row<Shown<'a>>, Memory>
+fn items_of<'a>(alloc: Global, s: &'a Sheet) -> Result<Row<BorrowedItem<'a>>, Memory>
     ensures { IfOk result (λ r. r ≡ items_of s.now) }
 {
     let mut out = Row::new(alloc);
@@ -65,7 +65,7 @@ fn items_of<'a>(alloc: Global, s: &'a Sheet) -> Result<Row<Shown<'a>>, Memory>
 }
 
 /// The systems before the next tune.
-fn systems_till<'a>(alloc: Global, items: &[Shown<'a>]) -> Result<Row<Braced<'a>>, Memory>
+fn systems_till<'a>(alloc: Global, items: &[BorrowedItem<'a>]) -> Result<Row<BorrowedStaves<'a>>, Memory>
     ensures { IfOk result (λ r. r ≡ systems_till items.now) }
 {
     let mut out = Row::new(alloc);
@@ -73,7 +73,7 @@ fn systems_till<'a>(alloc: Global, items: &[Shown<'a>]) -> Result<Row<Braced<'a>
         match shown.item {
             Item::Tune { .. } => return Ok(out),
             Item::Title { .. } => {}
-            Item::System { staves, .. } => out.push(Braced {
+            Item::System { staves, .. } => out.push(BorrowedStaves {
                 staves: staves.as_slice(),
             })?,
         }
@@ -84,18 +84,18 @@ fn systems_till<'a>(alloc: Global, items: &[Shown<'a>]) -> Result<Row<Braced<'a>
 /// Adds a tune whose items these are.
 fn put_part<'a>(
     alloc: Global,
-    out: &mut Row<Part<'a>>,
+    out: &mut Row<SheetTune<'a>>,
     ordinal: u32,
-    items: &[Shown<'a>],
+    items: &[BorrowedItem<'a>],
 ) -> Result<(), Memory>
     ensures { OnOk result (out.new ≡ out.old ++ record { ordinal = ordinal; systems = systems_till items.now } ∷ []) }
 {
     let systems = systems_till(alloc, items)?;
-    out.push(Part { ordinal, systems })
+    out.push(SheetTune { ordinal, systems })
 }
 
 /// The tunes among items, in order.
-fn tunes_among<'a>(alloc: Global, items: &[Shown<'a>]) -> Result<Row<Part<'a>>, Memory>
+fn tunes_among<'a>(alloc: Global, items: &[BorrowedItem<'a>]) -> Result<Row<SheetTune<'a>>, Memory>
     ensures { IfOk result (λ r. r ≡ tunes_of items.now) }
 {
     let mut out = Row::new(alloc);
@@ -108,7 +108,7 @@ fn tunes_among<'a>(alloc: Global, items: &[Shown<'a>]) -> Result<Row<Part<'a>>, 
 }
 
 /// The tunes of a sheet, in order.
-pub fn tunes_of<'a>(alloc: Global, s: &'a Sheet) -> Result<Row<Part<'a>>, Memory>
+pub fn tunes_of<'a>(alloc: Global, s: &'a Sheet) -> Result<Row<SheetTune<'a>>, Memory>
     ensures { IfOk result (λ r. r ≡ tunes_of (items_of s.now)) }
 {
     let items = items_of(alloc, s)?;
@@ -116,7 +116,7 @@ pub fn tunes_of<'a>(alloc: Global, s: &'a Sheet) -> Result<Row<Part<'a>>, Memory
 }
 
 /// How many staves the largest of some systems has.
-pub fn most_staves(systems: &[Braced<'_>]) -> usize
+pub fn most_staves(systems: &[BorrowedStaves<'_>]) -> usize
     ensures { result ≡ most_staves systems.now }
 {
     let mut most = 0;

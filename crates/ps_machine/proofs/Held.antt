@@ -1,7 +1,7 @@
 -- A piece more, for the state that is drawn with and for those that are saved.
 use Rattle.std.proofs.{Common.{◌≡◌, ◌≤◌, ◌∙◌, refl, sym, ap, subst, List, [], ◌∷◌, ◌++◌, length, take, drop, reverse, Some, ℕ, arith, length-append}, lemmas.List.{drop-append-le, take-append-le, reverse-append}}
 use Rattle.ps_steps.specs.{declared.paint.Seg.Seg, Points.end_of, Points.last_move}
-use Rattle.ps_machine.specs.{Drawing.Drawing, Pens.AreHeld, Pens.IsHeld, Pens.drawing_of, Pens.followed, Pens.graphics_of, Pens.saved_of, declared.canvas.Pen.Pen, declared.canvas.Saved.Saved}
+use Rattle.ps_machine.specs.{Drawing.GraphicsStack, Pens.AreHeld, Pens.IsHeld, Pens.drawing_of, Pens.followed, Pens.graphics_of, Pens.saved_of, declared.canvas.PenState.PenState, declared.canvas.Saved.Saved}
 
 -- the path with one more piece, the last first
 turned : (n : ℕ) (pieces : List Seg) (x : Seg) → n ≤ length pieces → reverse (drop n (pieces ++ x ∷ [])) ≡ x ∷ reverse (drop n pieces)
@@ -10,7 +10,7 @@ turned n pieces x within = ap reverse (drop-append-le n pieces (x ∷ []) within
 longer : (n : ℕ) (pieces : List Seg) (x : Seg) → n ≤ length pieces → n ≤ length (pieces ++ x ∷ [])
 longer n pieces x within = let both = length-append pieces (x ∷ []) in omega (arith, both, within)
 
-pub held_more : (pieces : List Seg) (pen : Pen) (x : Seg) → IsHeld pieces pen → IsHeld (pieces ++ x ∷ []) (followed pen x)
+pub held_more : (pieces : List Seg) (pen : PenState) (x : Seg) → IsHeld pieces pen → IsHeld (pieces ++ x ∷ []) (followed pen x)
 held_more pieces pen (Seg.Move x y) h = let e = turned pen.first pieces (Seg.Move x y) h.0 in (longer pen.first pieces (Seg.Move x y) h.0, sym (ap end_of e), sym (ap last_move e))
 held_more pieces pen (Seg.Line x y) h = let e = turned pen.first pieces (Seg.Line x y) h.0 in (longer pen.first pieces (Seg.Line x y) h.0, sym (ap end_of e), h.2 ∙ sym (ap last_move e))
 held_more pieces pen (Seg.Curve a b c d x y) h = let e = turned pen.first pieces (Seg.Curve a b c d x y) h.0 in (longer pen.first pieces (Seg.Curve a b c d x y) h.0, sym (ap end_of e), h.2 ∙ sym (ap last_move e))
@@ -25,16 +25,16 @@ saved_more pieces [] x h = refl
 saved_more pieces (s ∷ saved) x h = ap (λ p. graphics_of p s.pen ∷ saved_of p saved) (take-append-le s.count pieces (x ∷ []) h.0)
 
 -- the drawing with one more piece
-abbrev with_piece : Drawing → Seg → Drawing
+abbrev with_piece : GraphicsStack → Seg → GraphicsStack
 with_piece d x = record d { now = record d.now { path = d.now.path ++ x ∷ [] } }
 
-graphics_more : (pieces : List Seg) (pen : Pen) (x : Seg) → pen.first ≤ length pieces → graphics_of (pieces ++ x ∷ []) (followed pen x) ≡ record (graphics_of pieces pen) { path = drop pen.first pieces ++ x ∷ [] }
+graphics_more : (pieces : List Seg) (pen : PenState) (x : Seg) → pen.first ≤ length pieces → graphics_of (pieces ++ x ∷ []) (followed pen x) ≡ record (graphics_of pieces pen) { path = drop pen.first pieces ++ x ∷ [] }
 graphics_more pieces pen (Seg.Move x y) within = ap (λ p. record (graphics_of pieces pen) { path = p }) (drop-append-le pen.first pieces (Seg.Move x y ∷ []) within)
 graphics_more pieces pen (Seg.Line x y) within = ap (λ p. record (graphics_of pieces pen) { path = p }) (drop-append-le pen.first pieces (Seg.Line x y ∷ []) within)
 graphics_more pieces pen (Seg.Curve a b c d x y) within = ap (λ p. record (graphics_of pieces pen) { path = p }) (drop-append-le pen.first pieces (Seg.Curve a b c d x y ∷ []) within)
 graphics_more pieces pen Seg.Close within = ap (λ p. record (graphics_of pieces pen) { path = p }) (drop-append-le pen.first pieces (Seg.Close ∷ []) within)
 
-pub drawing_more : (pieces : List Seg) (pen : Pen) (saved : List Saved) (x : Seg) → IsHeld pieces pen → AreHeld pieces saved
+pub drawing_more : (pieces : List Seg) (pen : PenState) (saved : List Saved) (x : Seg) → IsHeld pieces pen → AreHeld pieces saved
     → drawing_of (pieces ++ x ∷ []) (followed pen x) saved ≡ with_piece (drawing_of pieces pen saved) x
 drawing_more pieces pen saved x h k =
     let now = graphics_more pieces pen x h.0 in let others = saved_more pieces saved x k in

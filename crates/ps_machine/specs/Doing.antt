@@ -1,6 +1,6 @@
 -- Between the operators of the machine and the code: the code's state, and what its parts do.
 use Rattle.std.specs.Prelude.{◌≡◌, ℕ, suc, ℤ, ◌*ℤ◌, true, false, List, [], ◌∷◌, ◌++◌, reverse, Result, Ok, Err}
-use Rattle.ps_steps.specs.{declared.{halt.Cause.Cause, paint.Seg.Seg, token.Simple.Simple, value.Value.{Value, TheVariants.{Whole as whole_value, Font as font_value}}, graphics.Graphics.Graphics}, State.State, Operators.{Outcome, went, halted, with_two, with_six, pick, scalefont, scale, scaled, at_point, across, above, all_near}}
+use Rattle.ps_steps.specs.{declared.{halt.Cause.Cause, paint.Seg.Seg, token.SimpleToken.SimpleToken, value.Operand.{Operand, TheVariants.{Whole as whole_value, Font as font_value}}, graphics.Graphics.Graphics}, State.State, Operators.{Outcome, went, halted, with_two, with_six, pick, scalefont, scale, scaled, at_point, across, above, all_near}}
 use Rattle.ps_machine.specs.{declared.state.Machine.Machine, declared.operands.Bend.Bend, Naming.names_of, declared.state.Stop.Stop}
 
 -- the state that the code keeps
@@ -14,7 +14,7 @@ DidOrStopped o (Err (Stop.Halted cause)) m = o ≡ halted cause
 DidOrStopped o (Err Stop.Memory) m = Unit {0}
 
 -- two whole numbers were on top of the stack, or there was a cause to halt
-abbrev pub IsTwo : List Value → Result (ℤ × ℤ) Stop → List Value → Type 0
+abbrev pub IsTwo : List Operand → Result (ℤ × ℤ) Stop → List Operand → Type 0
 IsTwo st (Ok p) rest = st ≡ whole_value p.1 ∷ whole_value p.0 ∷ rest
 IsTwo st (Err (Stop.Halted cause)) rest = (m : State) (f : ℤ → ℤ → State → Outcome) → with_two st m f ≡ halted cause
 IsTwo st (Err Stop.Memory) rest = Unit {0}
@@ -25,7 +25,7 @@ IsPoint g x y (Ok p) = (p.0 ≡ across g x) × (p.1 ≡ above g y) × (all_near 
 IsPoint g x y (Err (Stop.Halted cause)) = (cause ≡ Cause.Range) × (all_near (across g x ∷ above g y ∷ []) ≡ false)
 IsPoint g x y (Err Stop.Memory) = ⊥
 
-abbrev pub IsFontAndNumber : List Value → Result (ℤ × ℤ) Stop → List Value → Type 0
+abbrev pub IsFontAndNumber : List Operand → Result (ℤ × ℤ) Stop → List Operand → Type 0
 IsFontAndNumber st (Ok p) rest = st ≡ whole_value p.1 ∷ font_value p.0 ∷ rest
 IsFontAndNumber st (Err (Stop.Halted cause)) rest = (m : State) → scalefont st m ≡ halted cause
 IsFontAndNumber st (Err Stop.Memory) rest = Unit {0}
@@ -35,13 +35,13 @@ abbrev pub numbers_of : Bend → List ℤ
 numbers_of b = b.first.0 ∷ b.first.1 ∷ b.second.0 ∷ b.second.1 ∷ b.end.0 ∷ b.end.1 ∷ []
 
 -- two of six whole numbers were on top of the stack, or one is of another kind
-abbrev pub IsPointOfSix : List Value → Result (ℤ × ℤ) Stop → List Value → Type 0
+abbrev pub IsPointOfSix : List Operand → Result (ℤ × ℤ) Stop → List Operand → Type 0
 IsPointOfSix st (Ok p) rest = st ≡ whole_value p.1 ∷ whole_value p.0 ∷ rest
 IsPointOfSix st (Err (Stop.Halted cause)) rest = (zs : List ℤ) (n : ℕ) (m : State) (f : List ℤ → State → Outcome) → pick zs (suc (suc n)) st m f ≡ halted cause
 IsPointOfSix st (Err Stop.Memory) rest = ⊥
 
 -- six whole numbers were on top of the stack, or there was a cause to halt
-abbrev pub IsSix : List Value → Result Bend Stop → List Value → Type 0
+abbrev pub IsSix : List Operand → Result Bend Stop → List Operand → Type 0
 IsSix st (Ok b) rest = (m : State) (f : List ℤ → State → Outcome) → with_six st m f ≡ f (numbers_of b) (record m { stack = rest })
 IsSix st (Err (Stop.Halted cause)) rest = (m : State) (f : List ℤ → State → Outcome) → with_six st m f ≡ halted cause
 IsSix st (Err Stop.Memory) rest = ⊥
@@ -53,13 +53,13 @@ IsOnPath path (Err (Stop.Halted cause)) = (o : Outcome) → at_point path o ≡ 
 IsOnPath path (Err Stop.Memory) = ⊥
 
 -- two equal factors were on top of the stack
-abbrev pub IsFactors : List Value → Result ℤ Stop → List Value → Type 0
+abbrev pub IsFactors : List Operand → Result ℤ Stop → List Operand → Type 0
 IsFactors st (Ok c) rest = (m : State) → scale st m ≡ scaled (m.now.scale *ℤ c) (record m { stack = rest })
 IsFactors st (Err (Stop.Halted cause)) rest = (m : State) → scale st m ≡ halted cause
 IsFactors st (Err Stop.Memory) rest = Unit {0}
 
 -- a token was executed: its procedure, if it called one, stands before what was to be executed
-abbrev pub IsExecuted : Outcome → List Simple → Result (Unit {0}) Stop → State → List Simple → Type 0
-IsExecuted o old (Ok x) m pending = (body : List Simple) × (o ≡ went body m) × (pending ≡ body ++ old)
+abbrev pub IsExecuted : Outcome → List SimpleToken → Result (Unit {0}) Stop → State → List SimpleToken → Type 0
+IsExecuted o old (Ok x) m pending = (body : List SimpleToken) × (o ≡ went body m) × (pending ≡ body ++ old)
 IsExecuted o old (Err (Stop.Halted cause)) m pending = o ≡ halted cause
 IsExecuted o old (Err Stop.Memory) m pending = Unit {0}

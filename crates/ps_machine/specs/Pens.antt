@@ -1,20 +1,20 @@
 -- How the code keeps graphics states. The pieces of all paths stand in one list. The path of the state that is drawn with is what stands there
 -- from its first piece on. A saved state has of the pieces those that stood there when it was saved, and so have those that were saved before it.
 use Rattle.std.specs.Prelude.{◌≡◌, ◌≤◌, ⊤, List, [], ◌∷◌, length, take, drop, reverse, Some}
-use Rattle.{ps_steps.specs.{declared.graphics.Graphics.Graphics, declared.paint.Seg.Seg, Points.current, Points.last_move}, ps_machine.specs.{Drawing.Drawing, declared.canvas.Pen.Pen, declared.canvas.Saved.Saved}}
+use Rattle.{ps_steps.specs.{declared.graphics.Graphics.Graphics, declared.paint.Seg.Seg, Points.current, Points.last_move}, ps_machine.specs.{Drawing.GraphicsStack, declared.canvas.PenState.PenState, declared.canvas.Saved.Saved}}
 
-abbrev pub graphics_of : List Seg → Pen → Graphics
+abbrev pub graphics_of : List Seg → PenState → Graphics
 graphics_of pieces pen = record { path = drop pen.first pieces; scale = pen.scale; x = pen.x; y = pen.y; font = pen.font; line = pen.line }
 
 abbrev pub saved_of : List Seg → List Saved → List Graphics
 saved_of pieces [] = []
 saved_of pieces (s ∷ saved) = graphics_of (take s.count pieces) s.pen ∷ saved_of (take s.count pieces) saved
 
-abbrev pub drawing_of : List Seg → Pen → List Saved → Drawing
+abbrev pub drawing_of : List Seg → PenState → List Saved → GraphicsStack
 drawing_of pieces pen saved = record { now = graphics_of pieces pen; saved = saved_of pieces saved }
 
 -- a state's path begins among the pieces, and the state knows the points of its path
-abbrev pub IsHeld : List Seg → Pen → Type 0
+abbrev pub IsHeld : List Seg → PenState → Type 0
 IsHeld pieces pen = (pen.first ≤ length pieces) × (pen.end ≡ current (drop pen.first pieces)) × (pen.start ≡ last_move (reverse (drop pen.first pieces)))
 
 abbrev pub AreHeld : List Seg → List Saved → Type 0
@@ -22,7 +22,7 @@ AreHeld pieces [] = ⊤
 AreHeld pieces (s ∷ saved) = (s.count ≤ length pieces) × IsHeld (take s.count pieces) s.pen × AreHeld (take s.count pieces) saved
 
 -- a state once a piece was added to its path: it knows the new points
-abbrev pub followed : Pen → Seg → Pen
+abbrev pub followed : PenState → Seg → PenState
 followed pen (Seg.Move x y) = record pen { start = (x, y); end = Some (x, y) }
 followed pen (Seg.Line x y) = record pen { end = Some (x, y) }
 followed pen (Seg.Curve a b c d x y) = record pen { end = Some (x, y) }

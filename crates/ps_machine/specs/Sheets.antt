@@ -1,7 +1,7 @@
 -- What a run gives of a text that a sheet spells: what the sheet paints, and never a halt, where the budget has 100 tokens
 -- for each byte of the text.
 use Rattle.std.specs.Prelude.{◌≡◌, ◌*◌, ◌≤◌, ℕ, List, length, Result, Ok, Err}
-use Rattle.{ps_text.specs.{Document.Spells, declared.sheet.Sheet.Sheet}, ps_steps.specs.declared.{halt.MachineError.MachineError, paint.PagePaint.PagePaint, halt.MachineError.TheVariants.Halt, halt.MachineError.TheVariants.Memory}}
+use Rattle.{ps_text.specs.{Document.SpellsSheet, declared.sheet.Sheet.Sheet}, ps_steps.specs.declared.{halt.MachineError.MachineError, paint.PagePaint.PagePaint, halt.MachineError.TheVariants.Halt, halt.MachineError.TheVariants.Memory}}
 use Rattle.ps_paint.specs.PaintOf.{paint_of}
 
 -- these pages, or want of memory
@@ -11,4 +11,4 @@ Gives pages (Err (Halt token cause)) = ⊥
 Gives pages (Err Memory) = Unit {0}
 
 abbrev pub GivesItsSheet : List ℕ → ℕ → Result (List PagePaint) MachineError → Type 0
-GivesItsSheet text budget result = (s : Sheet) → Spells s text → 100 * length text ≤ budget → Gives (paint_of s) result
+GivesItsSheet text budget result = (s : Sheet) → SpellsSheet s text → 100 * length text ≤ budget → Gives (paint_of s) result

@@ -3,7 +3,7 @@
 ghost use Rattle.std.specs.Prelude.{◌≡◌, ◌++◌, ◌∷◌, [], OnOk, IfOk, MatchOption};
 
 use mus_units::Memory;
-use ps_steps::{Procedure, Simple};
+use ps_steps::{Procedure, SimpleToken};
 use std::alloc::Global;
 use std::marker::Model;
 
@@ -16,10 +16,10 @@ pub struct Calls<'a> {
 
 impl<'a> Model for Calls<'a> {
     ghost use Rattle.std.specs.Prelude.{List, reverse};
-    ghost use Rattle.ps_steps.specs.declared.token.Simple.{Simple};
+    ghost use Rattle.ps_steps.specs.declared.token.SimpleToken.{SimpleToken};
     ghost use Rattle.ps_machine.specs.Pending.{one_after_another};
 
-    ghost Value = { List Simple };
+    ghost Value = { List SimpleToken };
 
     ghost view = { λ c. one_after_another (reverse c.frames.items) };
 }
@@ -35,7 +35,7 @@ impl<'a> Calls<'a> {
     }
 
     /// Calls a procedure: its tokens stand before what is left.
-    pub fn call(&mut self, body: &'a [Simple]) -> Result<(), Memory>
+    pub fn call(&mut self, body: &'a [SimpleToken]) -> Result<(), Memory>
         ensures { OnOk result (self.new ≡ body.now ++ self.old) }
     {
         self.frames.push(Procedure::new(body))?;
@@ -43,7 +43,7 @@ impl<'a> Calls<'a> {
     }
 
     /// Takes the first token that is left. A procedure of which nothing is left takes no place any more.
-    pub fn next(&mut self) -> Result<Option<&'a Simple>, Memory>
+    pub fn next(&mut self) -> Result<Option<&'a SimpleToken>, Memory>
         ensures { IfOk result (λ t. MatchOption t ((self.old ≡ []) × (self.new ≡ [])) (λ s. self.old ≡ s.now ∷ self.new)) }
     {
         while let Some(frame) = self.frames.pop() {

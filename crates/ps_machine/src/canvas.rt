@@ -12,7 +12,7 @@ use std::marker::Model;
 /// begins, the point of its last Move and its current point; the scale, the origin,
 /// the size of the font and the width of lines.
 #[derive(Drop)]
-pub struct Pen {
+pub struct PenState {
     first: usize,
     start: (i64, i64),
     end: Option<(i64, i64)>,
@@ -26,7 +26,7 @@ pub struct Pen {
 /// A graphics state that is saved, and how many pieces stood there.
 #[derive(Drop)]
 pub struct Saved {
-    pen: Pen,
+    pen: PenState,
     count: usize,
 }
 
@@ -36,15 +36,15 @@ pub struct Saved {
 #[derive(Drop)]
 pub struct Canvas {
     pieces: Vec<Seg>,
-    pen: Pen,
+    pen: PenState,
     saved: Vec<Saved>,
 }
 
 impl Model for Canvas {
     ghost use Rattle.std.specs.Prelude.{reverse};
-    ghost use Rattle.ps_machine.specs.Drawing.{Drawing};
+    ghost use Rattle.ps_machine.specs.Drawing.{GraphicsStack};
 
-    ghost Value = { Drawing };
+    ghost Value = { GraphicsStack };
 
     ghost use Rattle.ps_machine.specs.Pens.{drawing_of, IsHeld, AreHeld};
 
@@ -60,7 +60,7 @@ impl Canvas {
     {
         Canvas {
             pieces: Vec::new(alloc),
-            pen: Pen {
+            pen: PenState {
                 first: 0,
                 start: (0, 0),
                 end: None,
@@ -200,7 +200,7 @@ impl Canvas {
     }
 }
 
-impl Pen {
+impl PenState {
     /// Goes on with a piece that was added to the path: to its end, or after a Close to
     /// the point of the last Move.
     fn follow(&mut self, piece: Seg)
@@ -218,10 +218,10 @@ impl Pen {
     }
 
     /// The same once more.
-    fn same(&self) -> Pen
+    fn same(&self) -> PenState
         ensures { result ≡ self.now }
     {
-        Pen {
+        PenState {
             first: self.first,
             start: self.start,
             end: self.end,

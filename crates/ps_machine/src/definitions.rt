@@ -4,7 +4,7 @@ ghost use Rattle.std.specs.Prelude.{◌≡◌, OnOk, MatchOption, Some, None};
 ghost use Rattle.{ps_steps.specs.{State.no_names, Operators.defined}, ps_machine.specs.Naming.{names_of}};
 
 use mus_units::Memory;
-use ps_steps::{Procedure, Simple};
+use ps_steps::{Procedure, SimpleToken};
 use std::alloc::Global;
 use std::collections::BTreeMap;
 
@@ -33,7 +33,7 @@ impl<'a> Definitions<'a> {
     }
 
     /// The procedure of a name, if it was given one.
-    pub fn body_of(&self, name: &'a [u8]) -> Option<&'a [Simple]>
+    pub fn body_of(&self, name: &'a [u8]) -> Option<&'a [SimpleToken]>
         ensures { MatchOption result (names_of self.now name.now ≡ None) (λ body. names_of self.now name.now ≡ Some body.now) }
     {
         match self.bodies.get(&name) {

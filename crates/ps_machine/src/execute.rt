@@ -1,16 +1,16 @@
 //! Tokens, executed.
 
 ghost use Rattle.std.specs.Prelude.{◌≡◌};
-ghost use Rattle.ps_steps.specs.{Operators.{executed, push}, declared.token.{Token.TheVariants.{Simple as simple_token, Procedure as procedure_token}, Simple.TheVariants.Name as name_token}};
-ghost use Rattle.ps_machine.specs.{Doing.state_of, Doing.DidOrStopped, Doing.IsExecuted, Nexts.token_of};
+ghost use Rattle.ps_steps.specs.{Operators.{executed, push}, declared.token.{MachineToken.TheVariants.{Simple as simple_token, Procedure as procedure_token}, SimpleToken.TheVariants.Name as name_token}};
+ghost use Rattle.ps_machine.specs.{Doing.state_of, Doing.DidOrStopped, Doing.IsExecuted, Nexts.machine_token};
 
 use crate::calls::Calls;
 use crate::operators::operate;
 use crate::state::{Machine, Stop};
-use ps_steps::{Cause, Procedure, Simple, Value, Words};
+use ps_steps::{Cause, Procedure, SimpleToken, Operand, StringBytes};
 use std::alloc::Global;
 
-fn push<'a>(m: &mut Machine<'a>, v: Value<'a>) -> Result<(), Stop>
+fn push<'a>(m: &mut Machine<'a>, v: Operand<'a>) -> Result<(), Stop>
     ensures { DidOrStopped (push v.entry (state_of m.old)) result (state_of m.new) }
 {
     m.stack.push(v)?;
@@ -38,26 +38,26 @@ fn execute_name<'a>(
 /// A token that is to be executed: one that may stand in a procedure, or a procedure.
 #[derive(Drop)]
 pub enum Ready<'a> {
-    Simple(&'a Simple),
-    Procedure(&'a [Simple]),
+    Simple(&'a SimpleToken),
+    Procedure(&'a [SimpleToken]),
 }
 
 fn execute_simple<'a>(
     alloc: Global,
     m: &mut Machine<'a>,
     calls: &mut Calls<'a>,
-    t: &'a Simple,
+    t: &'a SimpleToken,
 ) -> Result<(), Stop>
     ensures { IsExecuted (executed (simple_token t.now) (state_of m.old)) calls.old result (state_of m.new) calls.new }
 {
     match t {
-        Simple::Whole(number) => push(m, Value::Whole(number.same())),
-        Simple::Pointed(number) => push(m, Value::Pointed(number.same())),
-        Simple::Far => Err(Stop::Halted(Cause::Range)),
-        Simple::Words(words) => push(m, Value::Words(Words::new(words.as_slice()))),
-        Simple::Label(name) => push(m, Value::Label(Words::new(name.as_slice()))),
-        Simple::Name(name) => execute_name(alloc, m, calls, name.as_slice()),
-        Simple::Font => {
+        SimpleToken::Whole(number) => push(m, Operand::Whole(number.same())),
+        SimpleToken::Pointed(number) => push(m, Operand::Pointed(number.same())),
+        SimpleToken::Far => Err(Stop::Halted(Cause::Range)),
+        SimpleToken::Words(words) => push(m, Operand::Words(StringBytes::new(words.as_slice()))),
+        SimpleToken::Label(name) => push(m, Operand::Label(StringBytes::new(name.as_slice()))),
+        SimpleToken::Name(name) => execute_name(alloc, m, calls, name.as_slice()),
+        SimpleToken::Font => {
             m.made = true;
             Ok(())
         }
@@ -71,10 +71,10 @@ pub fn execute<'a>(
     calls: &mut Calls<'a>,
     t: Ready<'a>,
 ) -> Result<(), Stop>
-    ensures { IsExecuted (executed (token_of t.entry) (state_of m.old)) calls.old result (state_of m.new) calls.new }
+    ensures { IsExecuted (executed (machine_token t.entry) (state_of m.old)) calls.old result (state_of m.new) calls.new }
 {
     match t {
         Ready::Simple(t) => execute_simple(alloc, m, calls, t),
-        Ready::Procedure(body) => push(m, Value::Body(Procedure::new(body))),
+        Ready::Procedure(body) => push(m, Operand::Body(Procedure::new(body))),
     }
 }

@@ -6,14 +6,14 @@ ghost use Rattle.{ps_steps.specs.Operators.{operated, def_op, scale_op, setlinew
 use crate::operands::{font_and_number, product};
 use crate::state::{Machine, Stop};
 use mus_units::Row;
-use ps_steps::{Cause, PagePaint, Value};
+use ps_steps::{Cause, PagePaint, Operand};
 use std::alloc::Global;
 
 pub fn setlinewidth(m: &mut Machine) -> Result<(), Stop>
     ensures { DidOrStopped (operated setlinewidth_op (state_of m.old)) result (state_of m.new) }
 {
     match m.stack.pop() {
-        Some(Value::Whole(width)) => {
+        Some(Operand::Whole(width)) => {
             m.canvas.set_line(width.get());
             Ok(())
         }
@@ -26,7 +26,7 @@ pub fn setfont(m: &mut Machine) -> Result<(), Stop>
     ensures { DidOrStopped (operated setfont_op (state_of m.old)) result (state_of m.new) }
 {
     match m.stack.pop() {
-        Some(Value::Font(size)) => {
+        Some(Operand::Font(size)) => {
             m.canvas.set_font(size);
             Ok(())
         }
@@ -50,7 +50,7 @@ pub fn define(m: &mut Machine) -> Result<(), Stop>
         return Err(Stop::Halted(Cause::Stack));
     }
     match (m.stack.pop(), m.stack.pop()) {
-        (Some(Value::Body(body)), Some(Value::Label(name))) => {
+        (Some(Operand::Body(body)), Some(Operand::Label(name))) => {
             m.names.define(name.as_slice(), body)?;
             Ok(())
         }
@@ -65,7 +65,7 @@ pub fn scalefont(m: &mut Machine) -> Result<(), Stop>
     let Some(scaled) = product(size, by) else {
         return Err(Stop::Halted(Cause::Range));
     };
-    m.stack.push(Value::Font(scaled))?;
+    m.stack.push(Operand::Font(scaled))?;
     Ok(())
 }
 
@@ -79,11 +79,11 @@ pub fn findfont(m: &mut Machine) -> Result<(), Stop>
     ensures { DidOrStopped (operated findfont_op (state_of m.old)) result (state_of m.new) }
 {
     match m.stack.pop() {
-        Some(Value::Label(name)) => {
+        Some(Operand::Label(name)) => {
             if !(m.made && is_engraving_font(name.as_slice())) {
                 return Err(Stop::Halted(Cause::Name));
             }
-            m.stack.push(Value::Font(1))?;
+            m.stack.push(Operand::Font(1))?;
             Ok(())
         }
         Some(_) => Err(Stop::Halted(Cause::Kind)),

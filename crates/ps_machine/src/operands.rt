@@ -4,7 +4,7 @@ ghost use Rattle.std.specs.Prelude.{◌≡◌, ◌+ℤ◌, ◌*ℤ◌, false, tr
 ghost use Rattle.{ps_steps.specs.Near.{is_near}, ps_machine.specs.Doing.{IsTwo, IsFontAndNumber, IsPointOfSix, IsSix}};
 
 use crate::state::Stop;
-use ps_steps::{Cause, Number, Value};
+use ps_steps::{Cause, Number, Operand};
 
 fn times(a: i64, b: i64) -> i128
     ensures { result ≡ a *ℤ b }
@@ -48,28 +48,28 @@ pub fn coordinate(origin: i64, scale: &Number, v: i64) -> Option<i64>
 }
 
 /// Takes two whole numbers off the stack, the second from the top.
-pub fn two(stack: &mut Vec<Value>) -> Result<(i64, i64), Stop>
+pub fn two(stack: &mut Vec<Operand>) -> Result<(i64, i64), Stop>
     ensures { IsTwo (reverse stack.old.items) result (reverse stack.new.items) }
 {
     if stack.len() < 2 {
         return Err(Stop::Halted(Cause::Stack));
     }
     match (stack.pop(), stack.pop()) {
-        (Some(Value::Whole(y)), Some(Value::Whole(x))) => Ok((x.get(), y.get())),
+        (Some(Operand::Whole(y)), Some(Operand::Whole(x))) => Ok((x.get(), y.get())),
         _ => Err(Stop::Halted(Cause::Kind)),
     }
 }
 
 /// Takes a whole number and a font off the stack, the number from the top:
 /// the size of the font, and the number.
-pub fn font_and_number(stack: &mut Vec<Value>) -> Result<(i64, i64), Stop>
+pub fn font_and_number(stack: &mut Vec<Operand>) -> Result<(i64, i64), Stop>
     ensures { IsFontAndNumber (reverse stack.old.items) result (reverse stack.new.items) }
 {
     if stack.len() < 2 {
         return Err(Stop::Halted(Cause::Stack));
     }
     match (stack.pop(), stack.pop()) {
-        (Some(Value::Whole(by)), Some(Value::Font(size))) => Ok((size, by.get())),
+        (Some(Operand::Whole(by)), Some(Operand::Font(size))) => Ok((size, by.get())),
         _ => Err(Stop::Halted(Cause::Kind)),
     }
 }
@@ -83,17 +83,17 @@ pub struct Bend {
 }
 
 /// Takes two whole numbers off the stack where a curve has its operands.
-fn point_of_six(stack: &mut Vec<Value>) -> Result<(i64, i64), Stop>
+fn point_of_six(stack: &mut Vec<Operand>) -> Result<(i64, i64), Stop>
     ensures { IsPointOfSix (reverse stack.old.items) result (reverse stack.new.items) }
 {
     match (stack.pop(), stack.pop()) {
-        (Some(Value::Whole(y)), Some(Value::Whole(x))) => Ok((x.get(), y.get())),
+        (Some(Operand::Whole(y)), Some(Operand::Whole(x))) => Ok((x.get(), y.get())),
         _ => Err(Stop::Halted(Cause::Kind)),
     }
 }
 
 /// Takes six whole numbers off the stack, the last from the top.
-pub fn six(stack: &mut Vec<Value>) -> Result<Bend, Stop>
+pub fn six(stack: &mut Vec<Operand>) -> Result<Bend, Stop>
     ensures { IsSix (reverse stack.old.items) result (reverse stack.new.items) }
 {
     if stack.len() < 6 {

@@ -1,7 +1,7 @@
 //! Runs of a text.
 
 ghost use Rattle.std.specs.Prelude.{◌≡◌, IfOk, IfErr};
-ghost use Rattle.{ps_steps.specs.{State.first_state, Steps.Paints, Steps.IsHalt}, ps_machine.specs.{Doing.state_of, Nexts.IsFirst, Nexts.IsNext, Sheets.GivesItsSheet}};
+ghost use Rattle.{ps_steps.specs.{State.first_state, Steps.Paints, Steps.IsHalt}, ps_machine.specs.{Doing.state_of, Nexts.IsFirstToken, Nexts.IsNext, Sheets.GivesItsSheet}};
 
 use crate::calls::Calls;
 use crate::canvas::Canvas;
@@ -11,15 +11,15 @@ use crate::laws::one_answer;
 use crate::state::{Machine, Stop};
 use mus_units::{Memory, Row};
 use ps_paint::paints_sheets;
-use ps_steps::{Cause, MachineError, PagePaint, Token};
+use ps_steps::{Cause, MachineError, PagePaint, MachineToken};
 use ps_tokens::read_program;
 use std::alloc::Global;
 
 /// What comes next: a token, with the tokens of the text that are left behind it; or nothing.
 #[derive(Drop)]
-pub enum Next<'a> {
+pub enum FetchedToken<'a> {
     End,
-    Token(Ready<'a>, &'a [Token]),
+    Token(Ready<'a>, &'a [MachineToken]),
 }
 
 fn start<'a>(alloc: Global) -> Machine<'a>
@@ -36,24 +36,24 @@ fn start<'a>(alloc: Global) -> Machine<'a>
 }
 
 /// The first token of the text that is left.
-fn first_of<'a>(tokens: &'a [Token]) -> Next<'a>
-    ensures { IsFirst tokens.now result }
+fn first_of<'a>(tokens: &'a [MachineToken]) -> FetchedToken<'a>
+    ensures { IsFirstToken tokens.now result }
 {
     match tokens.split_first() {
-        None => Next::End,
+        None => FetchedToken::End,
         Some((t, after)) => match t {
-            Token::Simple(t) => Next::Token(Ready::Simple(t), after),
-            Token::Procedure(body) => Next::Token(Ready::Procedure(body.as_slice()), after),
+            MachineToken::Simple(t) => FetchedToken::Token(Ready::Simple(t), after),
+            MachineToken::Procedure(body) => FetchedToken::Token(Ready::Procedure(body.as_slice()), after),
         },
     }
 }
 
 /// Takes the next token: of the calls, else of the text.
-fn coming<'a>(calls: &mut Calls<'a>, tokens: &'a [Token]) -> Result<Next<'a>, Memory>
+fn coming<'a>(calls: &mut Calls<'a>, tokens: &'a [MachineToken]) -> Result<FetchedToken<'a>, Memory>
     ensures { IfOk result (λ n. IsNext calls.old tokens.now n calls.new) }
 {
     match calls.next()? {
-        Some(t) => Ok(Next::Token(Ready::Simple(t), tokens)),
+        Some(t) => Ok(FetchedToken::Token(Ready::Simple(t), tokens)),
         None => Ok(first_of(tokens)),
     }
 }
@@ -71,11 +71,11 @@ fn run_bytes(alloc: Global, b: &[u8], budget: u64) -> Result<Row<PagePaint>, Mac
     let mut token = 0;
     loop {
         match coming(&mut calls, rest)? {
-            Next::End => match fault {
+            FetchedToken::End => match fault {
                 None => return Ok(m.pages),
                 Some(cause) => return Err(MachineError::Halt { token, cause }),
             },
-            Next::Token(t, after) => {
+            FetchedToken::Token(t, after) => {
                 if token == budget {
                     return Err(MachineError::Halt {
                         token,

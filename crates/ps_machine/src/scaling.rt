@@ -4,21 +4,21 @@ ghost use Rattle.std.specs.Prelude.{◌≡◌, ◌*ℤ◌, reverse};
 ghost use Rattle.{ps_steps.specs.Operators.{operated, scaled, scale_op, factor}, ps_machine.specs.Doing.{state_of, DidOrStopped, IsFactors}};
 
 use crate::state::{Machine, Stop};
-use ps_steps::{Cause, Hundredths, Number, Value};
+use ps_steps::{Cause, Hundredths, Number, Operand};
 
 /// A factor in hundredths.
-fn factor(v: &Value) -> Option<Hundredths>
+fn factor(v: &Operand) -> Option<Hundredths>
     ensures { result ≡ factor v.now }
 {
     match v {
-        Value::Whole(number) => Some(number.hundredths()),
-        Value::Pointed(number) => Some(number.same()),
+        Operand::Whole(number) => Some(number.hundredths()),
+        Operand::Pointed(number) => Some(number.same()),
         _ => None,
     }
 }
 
 /// Takes two equal factors off the stack.
-fn factors(stack: &mut Vec<Value>) -> Result<Hundredths, Stop>
+fn factors(stack: &mut Vec<Operand>) -> Result<Hundredths, Stop>
     ensures { IsFactors (reverse stack.old.items) result (reverse stack.new.items) }
 {
     if stack.len() < 2 {

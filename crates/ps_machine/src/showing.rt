@@ -6,7 +6,7 @@ ghost use Rattle.{ps_steps.specs.{Points.current, Operators.operated, Operators.
 use crate::operands::product;
 use crate::state::{Machine, Stop};
 use mus_units::Text;
-use ps_steps::{Cause, Paint, Value};
+use ps_steps::{Cause, Paint, Operand};
 use std::alloc::Global;
 
 fn shown(alloc: Global, m: &mut Machine, words: &[u8]) -> Result<(), Stop>
@@ -27,7 +27,7 @@ pub fn show(alloc: Global, m: &mut Machine) -> Result<(), Stop>
     ensures { DidOrStopped (operated show_op (state_of m.old)) result (state_of m.new) }
 {
     match m.stack.pop() {
-        Some(Value::Words(words)) => shown(alloc, m, words.as_slice()),
+        Some(Operand::Words(words)) => shown(alloc, m, words.as_slice()),
         Some(_) => Err(Stop::Halted(Cause::Kind)),
         None => Err(Stop::Halted(Cause::Stack)),
     }

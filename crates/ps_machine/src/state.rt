@@ -6,14 +6,14 @@ ghost use Rattle.ps_machine.specs.declared.state.Stop.TheVariants as stops;
 use crate::canvas::Canvas;
 use crate::definitions::Definitions;
 use mus_units::{Memory, Row};
-use ps_steps::{Cause, PagePaint, Paint, Value};
+use ps_steps::{Cause, PagePaint, Paint, Operand};
 use std::alloc::{AllocError, AllocFailed};
 
 /// The machine: its stack with the top last, its definitions, whether the font was made, the graphics
 /// state with those that are saved, the paints of the page and the pages before it.
 #[derive(Drop)]
 pub struct Machine<'a> {
-    pub stack: Vec<Value<'a>>,
+    pub stack: Vec<Operand<'a>>,
     pub names: Definitions<'a>,
     pub made: bool,
     pub canvas: Canvas,

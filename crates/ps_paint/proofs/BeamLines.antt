@@ -1,7 +1,7 @@
 -- The lines of beams.
 use Rattle.std.proofs.{Common.{◌≡◌, true, ℤ, pos, [], ◌∷◌, refl, arith}, Math.IntN.{◌+ℤ◌, +ℤ_comm}, lemmas.Int.ints}
 use Rattle.{mus_units.specs.declared.glyph.Way.Way, ps_text.specs.{Range.{IsNumber, IsSpan}, Line.{beam_line, points, ends_of}, Names.way_name, Document.mark_text, declared.{sheet.Frame.Frame, marks.PageMark.PageMark}}}
-use Rattle.{ps_steps.{specs.{declared.{token.{Simple.{TheVariants.{Name as name_token}}}}, State.Names, Operators.all_near}}, ps_paint.{specs.PaintOf.{edge, mark_paints}, proofs.{Bodies.Made, Scales.{IsClose, Comes}}}}
+use Rattle.{ps_steps.{specs.{declared.{token.{SimpleToken.{TheVariants.{Name as name_token}}}}, State.Names, Operators.all_near}}, ps_paint.{specs.PaintOf.{edge, mark_paints}, proofs.{Bodies.Made, Scales.{IsClose, Comes}}}}
 use Rattle.ps_paint.proofs.{Scales.{no_way, from_zero}, Runs.{both_runs, pushes}, Draws.{moves, lines, fills, saves, restores, translates}, Takes.IsTokenWord, Lines.{Draws, line_drawn, page_near}}
 
 edge_number : (way : Way) → IsNumber (edge way)

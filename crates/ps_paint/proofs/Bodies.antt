@@ -1,43 +1,43 @@
 -- The procedures that the prolog defines, as tokens.
 use Rattle.std.specs.{Prelude.{◌≡◌, ℤ, pos, ℕ, List, [], ◌∷◌, ◌++◌, codes, Some, None}, List.flat_map}
 use Rattle.{mus_units.specs.declared.glyph.{Glyph.Glyph, Size.Size, Way.Way}, glyph_paths.specs.{declared.paths.PathOp.PathOp, Names.glyph_name, Outlines.outline_of}, ps_text.specs.Names.{size_name, way_name}}
-use Rattle.{ps_text.specs.{declared.sheet.Frame.Frame, Range.IsFrame}, ps_steps.{specs.{declared.{token.{Simple.{Simple, TheVariants.{Whole as whole_token, Pointed as pointed_token, Label as label_token}}}}}}}
-use Rattle.{ps_steps.{specs.{declared.{token.{Simple.{TheVariants.{Name as call}}}}, State.Names, Operators.{Operator, operator_name, moveto_op, lineto_op, curveto_op, closepath_op, fill_op, stroke_op, gsave_op}}}}
+use Rattle.{ps_text.specs.{declared.sheet.Frame.Frame, Range.IsFrame}, ps_steps.{specs.{declared.{token.{SimpleToken.{SimpleToken, TheVariants.{Whole as whole_token, Pointed as pointed_token, Label as label_token}}}}}}}
+use Rattle.{ps_steps.{specs.{declared.{token.{SimpleToken.{TheVariants.{Name as call}}}}, State.Names, Operators.{Operator, operator_name, moveto_op, lineto_op, curveto_op, closepath_op, fill_op, stroke_op, gsave_op}}}}
 use Rattle.{ps_steps.specs.Operators.{grestore_op, translate_op, scale_op, setlinewidth_op, findfont_op, scalefont_op, setfont_op, show_op}, ps_paint.{specs.PaintOf.edge, proofs.Runs.{op, wholes}}}
 
 -- a line of a staff
-abbrev pub rule_tokens : ℤ → List Simple
+abbrev pub rule_tokens : ℤ → List SimpleToken
 rule_tokens up = whole_token (pos 0) ∷ whole_token up ∷ call (codes "m") ∷ call (codes "l") ∷ []
 
-abbrev pub sf_body : List Simple
+abbrev pub sf_body : List SimpleToken
 sf_body = op gsave_op ∷ op translate_op ∷ (rule_tokens (pos 0) ++ rule_tokens (pos 500) ++ rule_tokens (pos 1000) ++ rule_tokens (pos 1500) ++ rule_tokens (pos 2000) ++ op stroke_op ∷ op grestore_op ∷ [])
 
-abbrev pub vl_body : List Simple
+abbrev pub vl_body : List SimpleToken
 vl_body = call (codes "m") ∷ call (codes "l") ∷ op stroke_op ∷ []
 
-abbrev pub st_body : List Simple
+abbrev pub st_body : List SimpleToken
 st_body = op gsave_op ∷ op translate_op ∷ call (codes "m") ∷ call (codes "l") ∷ op stroke_op ∷ op grestore_op ∷ []
 
 -- a beam's, whose edge is so far from the ends of its line
-abbrev pub beam_body : ℤ → List Simple
+abbrev pub beam_body : ℤ → List SimpleToken
 beam_body d = op gsave_op ∷ whole_token d ∷ whole_token (pos 0) ∷ op translate_op ∷ call (codes "m") ∷ call (codes "l") ∷ call (codes "l") ∷ call (codes "l") ∷ call (codes "h") ∷ op grestore_op ∷ []
 
-abbrev pub ac_body : List Simple
+abbrev pub ac_body : List SimpleToken
 ac_body = call (codes "m") ∷ call (codes "c") ∷ op stroke_op ∷ []
 
 -- the font in a size is set
-abbrev pub font_tokens : ℤ → List Simple
+abbrev pub font_tokens : ℤ → List SimpleToken
 font_tokens size = label_token (codes "EngFont") ∷ op findfont_op ∷ whole_token size ∷ op scalefont_op ∷ op setfont_op ∷ []
 
-abbrev pub shown_tokens : List Simple
+abbrev pub shown_tokens : List SimpleToken
 shown_tokens = op translate_op ∷ call (codes "m") ∷ op show_op ∷ op grestore_op ∷ []
 
-abbrev pub size_body : Size → List Simple
+abbrev pub size_body : Size → List SimpleToken
 size_body Size.Small = op gsave_op ∷ shown_tokens
 size_body Size.Big = op gsave_op ∷ (font_tokens (pos 1600) ++ shown_tokens)
 
 -- the beginning of a page
-abbrev pub pg_body : Frame → List Simple
+abbrev pub pg_body : Frame → List SimpleToken
 pg_body f = op gsave_op ∷ pointed_token (pos 1) ∷ pointed_token (pos 1) ∷ op scale_op ∷ whole_token (pos f.left) ∷ whole_token (pos f.bottom) ∷ op translate_op
     ∷ pointed_token (pos f.scale) ∷ pointed_token (pos f.scale) ∷ op scale_op ∷ whole_token (pos 60) ∷ op setlinewidth_op ∷ font_tokens (pos 900)
 
@@ -55,10 +55,10 @@ step_name (PathOp.Curve a b c d x y) = codes "c"
 step_name PathOp.Fill = codes "h"
 step_name PathOp.Stroke = codes "k"
 
-abbrev pub step_tokens : PathOp → List Simple
+abbrev pub step_tokens : PathOp → List SimpleToken
 step_tokens s = wholes (step_numbers s) ++ call (step_name s) ∷ []
 
-abbrev pub glyph_body : Glyph → List Simple
+abbrev pub glyph_body : Glyph → List SimpleToken
 glyph_body g = op gsave_op ∷ op translate_op ∷ op translate_op ∷ flat_map step_tokens (outline_of g) ++ op grestore_op ∷ []
 
 -- the procedures were made for a frame, and no operator's name was given one

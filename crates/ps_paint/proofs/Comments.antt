@@ -1,6 +1,6 @@
 -- Comment lines: they are passed over.
 use Rattle.std.{proofs.{Common.{◌≡◌, ℕ, Bool, true, false, List, [], ◌∷◌, ◌++◌, append_assoc, refl, ◌∙◌, arith, decimal, not, ◌==◌}, lemmas.{Bool.Decides.nat_tests, List.Folds.list_all-append}}, specs.List.list_all}
-use Rattle.{mus_units.specs.Bytes.is_digit, ps_steps.specs.{Tokens.passed, State.State, Steps.{at, here}}, ps_paint.proofs.Takes.{Takes, decimal_digits, digits_pass}}
+use Rattle.{mus_units.specs.Bytes.is_digit, ps_steps.specs.{Tokens.passed, State.State, Steps.{state_before, here}}, ps_paint.proofs.Takes.{Takes, decimal_digits, digits_pass}}
 
 -- other than LF
 abbrev pub in_line : ℕ → Bool
@@ -12,7 +12,7 @@ skip_line [] s e = refl
 skip_line (b ∷ line) s e = grind (arith, nat_tests, skip_line line s)
 
 pub takes_comment : (line : List ℕ) (m : State) → list_all in_line line ≡ true → Takes 0 (37 ∷ line ++ 10 ∷ []) m m
-takes_comment line m e = record { take = λ rest. rw (append_assoc line (10 ∷ []) rest, skip_line line rest e) (here (at m rest)) }
+takes_comment line m e = record { take = λ rest. rw (append_assoc line (10 ∷ []) rest, skip_line line rest e) (here (state_before m rest)) }
 
 digit_in_line : (b : ℕ) → is_digit b ≡ true → in_line b ≡ true
 digit_in_line b e = grind (arith, nat_tests)

@@ -1,8 +1,8 @@
 -- What the lines of a prolog define.
 use Rattle.std.{proofs.{Common.{◌≡◌, ℕ, ℤ, true, List, [], ◌∷◌, ◌++◌, append_assoc, None, refl, arith, codes}, lemmas.{Int.ints, Bool.and_parts}}, specs.List.{flat_map, list_all}}
 use Rattle.{mus_units.specs.declared.glyph.Glyph.Glyph, glyph_paths.specs.{declared.paths.PathOp.PathOp, Names.glyph_name, Outlines.outline_of, Procedure.{step_text, path_text, procedure_text}}}
-use Rattle.{ps_steps.{specs.{declared.{token.{Simple.Simple, Token.{TheVariants.{Procedure as procedure_token}}}, value.{Value.{TheVariants.{Label as label_value, Body as body_value}}}}, Near.is_near}}}
-use Rattle.ps_steps.specs.{Tokens.{opening_front, procedure_at, Body}, State.State, Operators.{def_op, gsave_op, grestore_op, translate_op, all_near, defined}, Steps.{at, from_text, Step, here, step}}
+use Rattle.{ps_steps.{specs.{declared.{token.{SimpleToken.SimpleToken, MachineToken.{TheVariants.{Procedure as procedure_token}}}, value.{Operand.{TheVariants.{Label as label_value, Body as body_value}}}}, Near.is_near}}}
+use Rattle.ps_steps.specs.{Tokens.{opening_front, procedure_at, Body}, State.State, Operators.{def_op, gsave_op, grestore_op, translate_op, all_near, defined}, Steps.{state_before, from_text, Step, here, step}}
 use Rattle.ps_paint.proofs.{Bodies.{step_numbers, step_tokens, glyph_body}, Glyphs.{is_small, are_small}, GlyphTable.fine, Runs.{no_more, op}, Takes.{Takes, both_taken, takes_token, space_passed, takes_operator}}
 use Rattle.ps_paint.proofs.Lexing.{Lexes, nothing_lexed, both_lexed, IsNewName, label_stands, ends, lex_numbers, piece_stands, lexed}
 
@@ -27,23 +27,23 @@ abbrev pub definition : List ℕ → List ℕ → List ℕ
 definition name body = 47 ∷ name ++ 32 ∷ 123 ∷ (body ++ 125 ∷ codes " def\n")
 
 -- a procedure and a space are pushed
-takes_body : (body : List ℕ) (ts : List Simple) (m : State) → ((rest : List ℕ) → Body (body ++ 125 ∷ rest) ts rest) → Takes 1 (123 ∷ (body ++ 125 ∷ 32 ∷ [])) m (record m { stack = body_value ts ∷ m.stack })
+takes_body : (body : List ℕ) (ts : List SimpleToken) (m : State) → ((rest : List ℕ) → Body (body ++ 125 ∷ rest) ts rest) → Takes 1 (123 ∷ (body ++ 125 ∷ 32 ∷ [])) m (record m { stack = body_value ts ∷ m.stack })
 takes_body body ts m b = record {
   take = λ rest.
       let r = 32 ∷ rest in let s = body ++ 125 ∷ r in let k : State = record m { stack = body_value ts ∷ m.stack } in
       let next = from_text m (123 ∷ s) r (procedure_token ts) (procedure_at s r ts (opening_front s refl) (b r)) in
-      let one : Step (at m (123 ∷ s)) (at k rest) = record { token = procedure_token ts; rest = at m rest; body = []; state = k; next = next; went = refl; is = refl } in
-      rw (append_assoc body (125 ∷ 32 ∷ []) rest) (step 0 (at m (123 ∷ s)) (at k rest) (at k rest) one (here (at k rest)));
+      let one : Step (state_before m (123 ∷ s)) (state_before k rest) = record { token = procedure_token ts; rest = state_before m rest; body = []; state = k; next = next; went = refl; is = refl } in
+      rw (append_assoc body (125 ∷ 32 ∷ []) rest) (step 0 (state_before m (123 ∷ s)) (state_before k rest) (state_before k rest) one (here (state_before k rest)));
 }
 
 -- it makes the definition, in three tokens
-pub takes_definition : (name body : List ℕ) (ts : List Simple) (m : State) → IsNewName name → ((rest : List ℕ) → Body (body ++ 125 ∷ rest) ts rest) → m.names (codes "def") ≡ None
+pub takes_definition : (name body : List ℕ) (ts : List SimpleToken) (m : State) → IsNewName name → ((rest : List ℕ) → Body (body ++ 125 ∷ rest) ts rest) → m.names (codes "def") ≡ None
     → Takes 3 (definition name body) m (record m { names = defined name ts m.names })
 takes_definition name body ts m n b free =
     let m1 : State = record m { stack = label_value name ∷ m.stack } in let m2 : State = record m { stack = body_value ts ∷ label_value name ∷ m.stack } in
     let label : Takes 1 ((47 ∷ name) ++ 32 ∷ []) m m1 = takes_token (label_stands n) space_passed refl no_more in
     let last : Takes 1 (codes "def" ++ 10 ∷ []) m2 (record m { names = defined name ts m.names }) = takes_operator def_op free refl in
-    rw (append_assoc body (125 ∷ 32 ∷ []) (codes "def\n"), append_assoc name (32 ∷ []) (123 ∷ (body ++ 125 ∷ codes " def\n"))) at (both_taken label (both_taken (takes_body body ts m1 b) last))
+    rw (append_assoc body (125 ∷ 32 ∷ []) (codes "def\n"), append_assoc name (32 ∷ []) (123 ∷ (body ++ 125 ∷ codes " def\n"))) state_before (both_taken label (both_taken (takes_body body ts m1 b) last))
 
 abbrev glyph_body_text : Glyph → List ℕ
 glyph_body_text g = (codes "gsave translate translate " ++ flat_map step_text (outline_of g)) ++ codes "grestore"

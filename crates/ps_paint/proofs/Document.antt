@@ -1,6 +1,6 @@
 -- A document paints its sheet.
 use Rattle.std.proofs.Common.{◌≡◌, ℕ, List, [], ◌∷◌, ◌++◌, length, append_assoc, append-nil, map, refl, ap, arith, decimal, codes}
-use Rattle.{ps_text.specs.{Document.{document, trailer, count_line}, declared.sheet.Sheet.Sheet, Range.IsSheet}, ps_steps.specs.{State.{State, first_state}, Steps.{at, Steps}}, ps_paint.specs.Laws.PaintsSheets}
+use Rattle.{ps_text.specs.{Document.{document, trailer, count_line}, declared.sheet.Sheet.Sheet, Range.IsSheet}, ps_steps.specs.{State.{State, first_state}, Steps.{state_before, TakesSteps}}, ps_paint.specs.Laws.PaintsSheets}
 use Rattle.ps_paint.{specs.PaintOf.{page_paint, paint_of}, proofs.{Takes.{Takes, both_taken}, Comments.{takes_comment, number_in_line}, Made.{all_names, all_made}, Starts.between, Lines.{Leads, both_lead, stays}}}
 use Rattle.ps_paint.proofs.{Pages.pages_drawn, PrologLines.prolog_taken}
 
@@ -8,7 +8,7 @@ trailer_taken : (n : ℕ) (m : State) → Takes 0 (trailer n) m m
 unfolding trailer count_line
 trailer_taken n m =
     let a = takes_comment (codes "%Trailer") m refl in let b = takes_comment (codes "%Pages: " ++ decimal n) m (number_in_line n) in let c = takes_comment (codes "%EOF") m refl in
-    rw (parts (codes "%%Trailer\n") (codes "%%Pages: " ++ decimal n) (codes "%%EOF\n")) at (both_taken (both_taken a b) c)
+    rw (parts (codes "%%Trailer\n") (codes "%%Pages: " ++ decimal n) (codes "%%EOF\n")) state_before (both_taken (both_taken a b) c)
   where
     parts : (x y z : List ℕ) → (x ++ (y ++ 10 ∷ [])) ++ z ≡ (x ++ y) ++ 10 ∷ z
     parts x y z = simp append_assoc
@@ -23,6 +23,6 @@ document_led s h =
 pub paints_sheets : PaintsSheets
 paints_sheets s text budget spells enough =
     let l = document_led s spells.good in let k = between (all_names s.frame) (paint_of s) in
-    let run : Steps l.count (at first_state (document s)) (at k []) = rw (append-nil (document s)) at (l.takes.take []) in let few = l.few in
+    let run : TakesSteps l.count (state_before first_state (document s)) (state_before k []) = rw (append-nil (document s)) state_before (l.takes.take []) in let few = l.few in
     let same = ap (λ t. length t) spells.spelled in
-    record { count = l.count; last = at k []; within = omega (arith, few, same, enough); run = rw spells.spelled at run; ended = record { calls = refl; text = refl }; painted = refl }
+    record { count = l.count; last = state_before k []; within = omega (arith, few, same, enough); run = rw spells.spelled state_before run; ended = record { calls = refl; text = refl }; painted = refl }

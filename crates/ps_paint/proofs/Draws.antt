@@ -1,8 +1,8 @@
 -- What the short procedures of the prolog draw.
 use Rattle.std.proofs.{Common.{◌≡◌, ℤ, pos, true, false, Bool, List, [], ◌∷◌, ◌++◌, refl, sym, codes, true≢false}, Math.IntN.◌*ℤ◌}
 use Rattle.{ps_text.specs.{declared.sheet.Frame.Frame, Range.IsFrame}, ps_steps.specs.Operators.{add_seg, all_near, close_path, moveto_op, lineto_op, curveto_op, closepath_op, fill_op, stroke_op, gsave_op, grestore_op}}
-use Rattle.{ps_steps.{specs.{Operators.translate_op, declared.{paint.{Seg.Seg, Paint.Paint, PagePaint.PagePaint}, value.{Value.{Value, TheVariants.{Whole as whole_value}}}, graphics.Graphics.Graphics}}}}
-use Rattle.{ps_steps.{specs.{declared.{token.{Simple.{TheVariants.{Name as call}}}}, State.{State, Names}}}, ps_paint.{specs.PaintOf.{to_x, to_y, move, line, curve, stroked, filled}, proofs.{Bodies.Made, Scales.Comes}}}
+use Rattle.{ps_steps.{specs.{Operators.translate_op, declared.{paint.{Seg.Seg, Paint.Paint, PagePaint.PagePaint}, value.{Operand.{Operand, TheVariants.{Whole as whole_value}}}, graphics.Graphics.Graphics}}}}
+use Rattle.{ps_steps.{specs.{declared.{token.{SimpleToken.{TheVariants.{Name as call}}}}, State.{State, Names}}}, ps_paint.{specs.PaintOf.{to_x, to_y, move, line, curve, stroked, filled_paint}, proofs.{Bodies.Made, Scales.Comes}}}
 use Rattle.ps_paint.proofs.{Scales.{comes_to, near_place, near_width}, Runs.{Runs, both_runs, calls, acts, op, is_in_range}}
 
 -- the graphics of a page with the origin at (x, y)
@@ -13,7 +13,7 @@ drawing f x y path font = record { path = path; scale = pos f.scale; x = to_x f 
 abbrev pub corner : Frame → ℤ → Graphics
 corner f font = drawing f (pos 0) (pos 0) [] font
 
-abbrev pub page : Names → List Value → Graphics → List Graphics → List Paint → List PagePaint → State
+abbrev pub page : Names → List Operand → Graphics → List Graphics → List Paint → List PagePaint → State
 page ds st g saved ps pages = record { stack = st; names = ds; made = true; now = g; saved = saved; paints = ps; pages = pages }
 
 -- whether there is a path
@@ -33,7 +33,7 @@ closes (s ∷ path) m some = refl
 near_point : {f : Frame} {v a p w b q : ℤ} → IsFrame f → Comes v a p → Comes w b q → all_near (to_x f p ∷ to_y f q ∷ []) ≡ true
 near_point {f} {p = p} {q = q} fr u v = rw (near_place f.left f.scale p fr.left fr.greatest_scale u.close, near_place f.bottom f.scale q fr.bottom fr.greatest_scale v.close) refl
 
-module _ {f : Frame} {ds : Names} (made : Made f ds) {saved : List Graphics} {ps : List Paint} {pages : List PagePaint} {st : List Value} where
+module _ {f : Frame} {ds : Names} (made : Made f ds) {saved : List Graphics} {ps : List Paint} {pages : List PagePaint} {st : List Operand} where
   pub saves : {g : Graphics} → Runs 1 (op gsave_op ∷ []) (page ds st g saved ps pages) (page ds st g (g ∷ saved) ps pages)
   saves = acts gsave_op (made.free gsave_op) refl
 
@@ -66,7 +66,7 @@ module _ {f : Frame} {ds : Names} (made : Made f ds) {saved : List Graphics} {ps
       calls made.c (acts curveto_op (made.free curveto_op) (rw (comes_to across z i, comes_to above z j, comes_to across z k, comes_to above z l, comes_to across z u, comes_to above z v)
       (is_in_range (to_x f p ∷ to_y f q ∷ to_x f r ∷ to_y f s ∷ to_x f t ∷ to_y f w ∷ []) _ near)))
 
-  pub fills : {g : Graphics} → some_path g.path ≡ true → Runs 3 (call (codes "h") ∷ []) (page ds st g saved ps pages) (page ds st (record g { path = [] }) saved (ps ++ filled g.path ∷ []) pages)
+  pub fills : {g : Graphics} → some_path g.path ≡ true → Runs 3 (call (codes "h") ∷ []) (page ds st g saved ps pages) (page ds st (record g { path = [] }) saved (ps ++ filled_paint g.path ∷ []) pages)
   fills {g} some = calls made.h (both_runs (acts closepath_op (made.free closepath_op) (closes g.path _ some)) (acts fill_op (made.free fill_op) refl))
 
   pub strokes : (x y : ℤ) {font : ℤ} {path : List Seg} → Runs 1 (op stroke_op ∷ []) (page ds st (drawing f x y path font) saved ps pages) (page ds st (drawing f x y [] font) saved (ps ++ stroked f path ∷ []) pages)

@@ -1,17 +1,17 @@
 -- The lines of glyphs.
 use Rattle.std.proofs.{Common.{◌≡◌, ◌+◌, ◌≤◌, ℤ, true, [], ◌∷◌, refl, arith}, Math.IntN.◌+ℤ◌, lemmas.{Int.ints, Bool.leb-true}}
-use Rattle.{mus_units.specs.declared.glyph.Glyph.Glyph, glyph_paths.specs.{Names.glyph_name, Outlines.outline_of}, ps_text.specs.{Document.mark_text, Line.glyph_line, declared.sheet.Frame.Frame, Range.IsNear}}
-use Rattle.{ps_text.specs.{Range.{IsNumber, IsOffset, IsPlaced}, declared.marks.PageMark.PageMark}, ps_steps.{specs.{declared.{token.{Simple.{TheVariants.{Name as name_token}}}}, State.Names, Operators.all_near}}}
+use Rattle.{mus_units.specs.declared.glyph.Glyph.Glyph, glyph_paths.specs.{Names.glyph_name, Outlines.outline_of}, ps_text.specs.{Document.mark_text, Line.glyph_line, declared.sheet.Frame.Frame, Range.IsNearNumber}}
+use Rattle.{ps_text.specs.{Range.{IsNumber, IsOffset, IsPlacedMark}, declared.marks.PageMark.PageMark}, ps_steps.{specs.{declared.{token.{SimpleToken.{TheVariants.{Name as name_token}}}}, State.Names, Operators.all_near}}}
 use Rattle.ps_paint.{specs.PaintOf.mark_paints, proofs.{Bodies.Made, Scales.{from_zero, from_number}, Runs.both_runs, Draws.{saves, translates}, Glyphs.{cost, outline_runs}, GlyphTable.fine, Takes.IsTokenWord}}
 use Rattle.ps_paint.proofs.{Takes.name_some, Lines.{Draws, line_drawn, page_near, offset_near}}
 
 glyph_word : (g : Glyph) → IsTokenWord (name_token (glyph_name g)) (glyph_name g)
 glyph_word g = let t = fine g in record { some = name_some (glyph_name g) t.good; regular = t.regular; token = t.token }
 
-near_sum : (z d : ℤ) → IsNumber z → IsOffset d → IsNear (z +ℤ d)
+near_sum : (z d : ℤ) → IsNumber z → IsOffset d → IsNearNumber (z +ℤ d)
 near_sum z d n o = record { low = omega (arith, ints); high = omega (arith, ints) }
 
-pub glyph_drawn : {f : Frame} {ds : Names} (made : Made f ds) (g : Glyph) (y x dx dy : ℤ) → IsPlaced y x dx dy → Draws f ds (mark_text y (PageMark.Glyph g x dx dy)) (mark_paints f y (PageMark.Glyph g x dx dy))
+pub glyph_drawn : {f : Frame} {ds : Names} (made : Made f ds) (g : Glyph) (y x dx dy : ℤ) → IsPlacedMark y x dx dy → Draws f ds (mark_text y (PageMark.Glyph g x dx dy)) (mark_paints f y (PageMark.Glyph g x dx dy))
 unfolding mark_text glyph_line
 glyph_drawn made g y x dx dy s =
     let zs = dx ∷ dy ∷ x ∷ y ∷ [] in let near : all_near zs ≡ true = rw (offset_near dx s.across, offset_near dy s.above, page_near x s.anchor, page_near y s.base) refl in

@@ -1,8 +1,8 @@
 -- Any outline is drawn as it is painted.
 use Rattle.std.proofs.{Common.{◌≡◌, ℕ, ◌+◌, ℤ, pos, negsuc, true, false, Bool, ◌&&◌, List, [], ◌∷◌, ◌++◌, append_assoc, append-nil, refl, arith, int_le}, Math.IntN.◌+ℤ◌, lemmas.{Int.ints, Bool.and_parts}}
 use Rattle.std.specs.List.{flat_map, list_all, AllByRecursion}
-use Rattle.{glyph_paths.specs.declared.paths.PathOp.PathOp, ps_text.specs.{declared.sheet.Frame.Frame, Range.IsNear}, ps_steps.specs.declared.{paint.{Seg.Seg, Paint.Paint, PagePaint.PagePaint}, value.Value.Value}}
-use Rattle.{ps_steps.specs.{declared.graphics.Graphics.Graphics, State.Names, Operators.grestore_op}, ps_paint.{specs.PaintOf.{stroked, filled, outline_paints}, proofs.Bodies.{Made, step_numbers, step_tokens}}}
+use Rattle.{glyph_paths.specs.declared.paths.PathOp.PathOp, ps_text.specs.{declared.sheet.Frame.Frame, Range.IsNearNumber}, ps_steps.specs.declared.{paint.{Seg.Seg, Paint.Paint, PagePaint.PagePaint}, value.Operand.Operand}}
+use Rattle.{ps_steps.specs.{declared.graphics.Graphics.Graphics, State.Names, Operators.grestore_op}, ps_paint.{specs.PaintOf.{stroked, filled_paint, outline_paints}, proofs.Bodies.{Made, step_numbers, step_tokens}}}
 use Rattle.ps_paint.proofs.{Scales.Comes, Runs.{Runs, both_runs, calls, op, pushes}, Draws.{drawing, page, moves, lines, curves, strokes, fills, restores, some_path, has_path}}
 
 -- within 2^20 of 0
@@ -29,14 +29,14 @@ cost (PathOp.Curve a b c d x y ∷ rest) = 6 + (2 + cost rest)
 cost (PathOp.Fill ∷ rest) = 3 + cost rest
 cost (PathOp.Stroke ∷ rest) = 2 + cost rest
 
-from_near : (x a : ℤ) → IsNear x → is_small a ≡ true → Comes x a (x +ℤ a)
+from_near : (x a : ℤ) → IsNearNumber x → is_small a ≡ true → Comes x a (x +ℤ a)
 from_near x a n s = record { is = refl; close = record { low = grind (arith, ints); high = grind (arith, ints) } }
 
 smalls : (zs : List ℤ) → list_all is_small zs ≡ true → AllByRecursion (λ z. is_small z ≡ true) zs
 smalls [] e = tt
 smalls (z ∷ zs) e = let t = and_parts (is_small z) (list_all is_small zs) e in (t.0, smalls zs t.1)
 
-module _ {f : Frame} {ds : Names} (made : Made f ds) {font : ℤ} {st : List Value} {g : Graphics} {saved : List Graphics} {pages : List PagePaint} (x y : ℤ) (nx : IsNear x) (ny : IsNear y) where
+module _ {f : Frame} {ds : Names} (made : Made f ds) {font : ℤ} {st : List Operand} {g : Graphics} {saved : List Graphics} {pages : List PagePaint} (x y : ℤ) (nx : IsNearNumber x) (ny : IsNearNumber y) where
   pub outline_runs : (steps : List PathOp) (path : List Seg) (ps : List Paint) → are_small steps ≡ true → is_drawn (some_path path) steps ≡ true
       → Runs (cost steps) (flat_map step_tokens steps ++ op grestore_op ∷ []) (page ds st (drawing f x y path font) (g ∷ saved) ps pages) (page ds st g saved (ps ++ outline_paints f x y path steps) pages)
   outline_runs [] path ps e d = rw (append-nil ps) (restores made)
@@ -53,6 +53,6 @@ module _ {f : Frame} {ds : Names} (made : Made f ds) {font : ℤ} {st : List Val
       (both_runs (curves made has.0 (from_near x a nx s.0) (from_near y b ny s.1.0) (from_near x c nx s.1.1.0) (from_near y d ny s.1.1.1.0) (from_near x p nx s.1.1.1.1.0) (from_near y q ny s.1.1.1.1.1.0))
       (outline_runs rest _ ps t.1 (rw (has_path path _) has.1)))
   outline_runs (PathOp.Fill ∷ rest) path ps e d =
-      let has = and_parts (some_path path) (is_drawn false rest) d in both_runs (fills made has.0) (rw append_assoc at (outline_runs rest [] (ps ++ filled path ∷ []) e has.1))
+      let has = and_parts (some_path path) (is_drawn false rest) d in both_runs (fills made has.0) (rw append_assoc at (outline_runs rest [] (ps ++ filled_paint path ∷ []) e has.1))
   outline_runs (PathOp.Stroke ∷ rest) path ps e d =
       let has = and_parts (some_path path) (is_drawn false rest) d in both_runs (calls made.k (strokes made x y)) (rw append_assoc at (outline_runs rest [] (ps ++ stroked f path ∷ []) e has.1))

@@ -1,12 +1,12 @@
 -- What whole lines of a page draw.
 use Rattle.std.proofs.{Common.{◌≡◌, ℕ, suc, ◌+◌, ◌*◌, ◌≤◌, ℤ, pos, true, List, [], ◌∷◌, ◌++◌, length, length-append, append_assoc, append-nil, Some, arith, All}, lemmas.{Int.ints, List.Elements.{All-head, All-tail}}}
 use Rattle.std.specs.List.{flat_map}
-use Rattle.{glyph_paths.specs.Procedure.numbers, ps_text.specs.{declared.sheet.Frame.Frame, Range.{IsNumber, IsOffset}}, ps_steps.specs.declared.{paint.{Paint.Paint, PagePaint.PagePaint}, token.Simple.Simple}}
-use Rattle.{ps_steps.{specs.{declared.{token.{Simple.{TheVariants.{Name as name_token}}}, value.Value.Value, graphics.Graphics.Graphics}, Near.is_near, State.{State, Names}, Operators.all_near}}}
+use Rattle.{glyph_paths.specs.Procedure.numbers, ps_text.specs.{declared.sheet.Frame.Frame, Range.{IsNumber, IsOffset}}, ps_steps.specs.declared.{paint.{Paint.Paint, PagePaint.PagePaint}, token.SimpleToken.SimpleToken}}
+use Rattle.{ps_steps.{specs.{declared.{token.{SimpleToken.{TheVariants.{Name as name_token}}}, value.Operand.Operand, graphics.Graphics.Graphics}, Near.is_near, State.{State, Names}, Operators.all_near}}}
 use Rattle.ps_paint.proofs.{Scales.near, Runs.{Runs, pushed}, Draws.{corner, page}, Takes.{Takes, IsTokenWord, nothing_taken, both_taken, takes_line}}
 
 -- before and after each line of a page
-abbrev pub on_page : Frame → Names → List Value → List Graphics → List Paint → List PagePaint → State
+abbrev pub on_page : Frame → Names → List Operand → List Graphics → List Paint → List PagePaint → State
 on_page f ds st saved ps pages = page ds st (corner f (pos 900)) saved ps pages
 
 -- a text leads from one state to another, in at most 100 tokens a byte
@@ -23,7 +23,7 @@ stays t = record { count = 0; few = omega arith; takes = t }
 
 -- on a page with these procedures, the text adds these paints and leaves the rest as it was
 pub record Draws (f : Frame) (ds : Names) (text : List ℕ) (new : List Paint) : Type 0 where
-  pub draw : (st : List Value) (saved : List Graphics) (ps : List Paint) (pages : List PagePaint) → Leads text (on_page f ds st saved ps pages) (on_page f ds st saved (ps ++ new) pages)
+  pub draw : (st : List Operand) (saved : List Graphics) (ps : List Paint) (pages : List PagePaint) → Leads text (on_page f ds st saved ps pages) (on_page f ds st saved (ps ++ new) pages)
 
 -- what is passed over draws nothing
 pub passed_over : {f : Frame} {ds : Names} {text : List ℕ} → ((m : State) → Takes 0 text m m) → Draws f ds text []
@@ -42,9 +42,9 @@ all_drawn one [] a = nothing_drawn
 all_drawn {P = P} one (x ∷ xs) a = both_drawn (one x (All-head P x xs a)) (all_drawn one xs (All-tail P x xs a))
 
 -- a line of numbers and of a name that runs a procedure
-pub line_drawn : {f : Frame} {ds : Names} {n : ℕ} {body : List Simple} {new : List Paint} (zs : List ℤ) (name : List ℕ) → all_near zs ≡ true → IsTokenWord (name_token name) name
+pub line_drawn : {f : Frame} {ds : Names} {n : ℕ} {body : List SimpleToken} {new : List Paint} (zs : List ℤ) (name : List ℕ) → all_near zs ≡ true → IsTokenWord (name_token name) name
     → ds name ≡ Some body → length zs + suc n ≤ 100
-    → ((st : List Value) (saved : List Graphics) (ps : List Paint) (pages : List PagePaint) → Runs n body (on_page f ds (pushed zs st) saved ps pages) (on_page f ds st saved (ps ++ new) pages))
+    → ((st : List Operand) (saved : List Graphics) (ps : List Paint) (pages : List PagePaint) → Runs n body (on_page f ds (pushed zs st) saved ps pages) (on_page f ds st saved (ps ++ new) pages))
     → Draws f ds ((numbers zs ++ name) ++ 10 ∷ []) new
 line_drawn {f} {ds} {n} zs name near word made few run =
     let enough : length zs + suc n ≤ 100 * length ((numbers zs ++ name) ++ 10 ∷ []) = omega (arith, few, length-append (numbers zs ++ name) (10 ∷ [])) in

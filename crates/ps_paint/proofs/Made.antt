@@ -1,17 +1,17 @@
 -- The definitions that the prolog makes.
 use Rattle.std.proofs.Common.{◌≡◌, ℕ, List, [], ◌∷◌, Some, None, refl, codes}
 use Rattle.{mus_units.specs.declared.glyph.{Glyph.Glyph, Size.Size, Way.Way}, glyph_paths.specs.Names.{glyph_name, glyphs_in_order}, ps_text.specs.{Names.{size_name, way_name}, Range.IsFrame, declared.sheet.Frame.Frame}}
-use Rattle.ps_steps.specs.{declared.token.Simple.Simple, State.{Names, no_names}, Operators.{Operator, operator_name, defined, def_op, moveto_op, lineto_op, curveto_op, closepath_op, fill_op, stroke_op}}
+use Rattle.ps_steps.specs.{declared.token.SimpleToken.SimpleToken, State.{Names, no_names}, Operators.{Operator, operator_name, defined, def_op, moveto_op, lineto_op, curveto_op, closepath_op, fill_op, stroke_op}}
 use Rattle.ps_paint.{specs.PaintOf.edge, proofs.{Runs.op, Bodies.{Made, sf_body, vl_body, st_body, beam_body, ac_body, size_body, pg_body, glyph_body}}}
 
 -- the names of its fixed lines and their procedures, in their order
-abbrev pub fixed_bodies : List (List ℕ × List Simple)
+abbrev pub fixed_bodies : List (List ℕ × List SimpleToken)
 fixed_bodies = (codes "m", op moveto_op ∷ []) ∷ (codes "l", op lineto_op ∷ []) ∷ (codes "c", op curveto_op ∷ []) ∷ (codes "h", op closepath_op ∷ op fill_op ∷ []) ∷ (codes "k", op stroke_op ∷ [])
     ∷ (codes "sf", sf_body) ∷ (codes "vl", vl_body) ∷ (codes "st", st_body)
     ∷ (codes "bu", beam_body (edge Way.Up)) ∷ (codes "bd", beam_body (edge Way.Down)) ∷ (codes "gb", beam_body (edge Way.Grace))
     ∷ (codes "ac", ac_body) ∷ (codes "t1", size_body Size.Small) ∷ (codes "t2", size_body Size.Big) ∷ []
 
-abbrev pub with_bodies : List (List ℕ × List Simple) → Names → Names
+abbrev pub with_bodies : List (List ℕ × List SimpleToken) → Names → Names
 with_bodies [] ds = ds
 with_bodies (b ∷ bs) ds = with_bodies bs (defined b.0 b.1 ds)
 

@@ -1,7 +1,7 @@
 -- Marks, staves, systems, items and pages are drawn as they are painted.
 use Rattle.std.proofs.{Common.{◌≡◌, ℕ, ◌+◌, ◌≤◌, ℤ, pos, List, [], ◌∷◌, ◌++◌, length, length-append, append_assoc, append-nil, map, refl, subst, arith, decimal, codes, All}, Math.IntN.◌+ℤ◌, lemmas.Int.ints}
 use Rattle.std.{proofs.lemmas.List.Elements.{All-head, All-tail}, specs.List.flat_map}
-use Rattle.ps_text.specs.Document.{numbered, mark_text, marks_text, rules_line, staff_line, staff_text, last_base, join_text, system_line, system_text, tune_line, tune_text, item_text, items_text, page_text}
+use Rattle.ps_text.specs.Document.{numbered, mark_text, marks_text, rules_line, staff_line, staff_text, last_base, join_text, system_line, system_text, tune_line, tune_text, item_text, items_text, document_page}
 use Rattle.ps_text.specs.{Document.{heading_text, heading_line, closing}, declared.{marks.PageMark.PageMark, sheet.{Frame.Frame, Staff.Staff, Item.Item, Page.Page}}, Range.{IsNumber, IsPageMark, IsStaff, IsJoined}}
 use Rattle.{ps_text.specs.Range.{IsItem, IsPage}, ps_steps.specs.{declared.paint.PagePaint.PagePaint, State.{Names, first_graphics}}, ps_paint.specs.PaintOf.{mark_paints, staff_paints, join_paints, item_paints}}
 use Rattle.ps_paint.{specs.PaintOf.page_paint, proofs.{Bodies.Made, Takes.{nothing_taken, both_taken}, Comments.{takes_comment, number_in_line, two_in_line}, Lines.{Leads, both_lead, stays, Draws, nothing_drawn}}}
@@ -22,8 +22,8 @@ heading_some : (k : ℕ) → 1 ≤ length (heading_text k)
 unfolding heading_text heading_line
 heading_some k = omega arith
 
-page_parts : (k : ℕ) (p : Page) → page_text k p ≡ (heading_text k ++ flat_map item_text p.items) ++ closing
-unfolding page_text items_text
+page_parts : (k : ℕ) (p : Page) → document_page k p ≡ (heading_text k ++ flat_map item_text p.items) ++ closing
+unfolding document_page items_text
 page_parts k p = refl
 
 module _ {f : Frame} {ds : Names} (made : Made f ds) where
@@ -61,7 +61,7 @@ module _ {f : Frame} {ds : Names} (made : Made f ds) where
       subst (λ t. Draws f ds (t ++ numbered staff_text 0 staves) (item_paints f (Item.System a b staves))) (append_assoc c (10 ∷ []) (join_text staves))
       (both_drawn (both_drawn comment (joined_drawn staves h.joined h.good)) (staves_drawn 0 staves h.good))
 
-  page_drawn : (k : ℕ) (p : Page) (pages : List PagePaint) → IsPage p → Leads (page_text k p) (between ds pages) (between ds (pages ++ page_paint f p ∷ []))
+  page_drawn : (k : ℕ) (p : Page) (pages : List PagePaint) → IsPage p → Leads (document_page k p) (between ds pages) (between ds (pages ++ page_paint f p ∷ []))
   page_drawn k p pages h =
       let d : Draws f ds (flat_map item_text p.items) (flat_map (item_paints f) p.items) = all_drawn item_drawn p.items h.items in let l = d.draw [] (first_graphics ∷ []) [] pages in
       rw (page_parts k p) (record {
@@ -70,6 +70,6 @@ module _ {f : Frame} {ds : Names} (made : Made f ds) where
         takes = both_taken (both_taken (page_begun made k pages) l.takes) (page_ended made (flat_map (item_paints f) p.items) pages);
       })
 
-  pub pages_drawn : (k : ℕ) (ps : List Page) (before : List PagePaint) → All IsPage ps → Leads (numbered page_text k ps) (between ds before) (between ds (before ++ map (page_paint f) ps))
+  pub pages_drawn : (k : ℕ) (ps : List Page) (before : List PagePaint) → All IsPage ps → Leads (numbered document_page k ps) (between ds before) (between ds (before ++ map (page_paint f) ps))
   pages_drawn k [] before a = rw (append-nil before) (stays nothing_taken)
   pages_drawn k (p ∷ ps) before a = both_lead (page_drawn k p before (All-head IsPage p ps a)) (rw append_assoc at (pages_drawn (k + 1) ps (before ++ page_paint f p ∷ []) (All-tail IsPage p ps a)))

@@ -3,8 +3,8 @@ use Rattle.std.proofs.Common.{◌≡◌, ℕ, ◌+◌, ◌*◌, ◌/◌, ◌%◌
 use Rattle.std.{proofs.lemmas.{Fmt.decimal_digit, Int.ints, Bool.Decides.nat_tests}, specs.{Char.digit_value, List.list_all}}
 use Rattle.{mus_units.specs.{Bytes.is_digit, declared.glyph.{Glyph.Glyph, Size.Size, Way.Way}}, glyph_paths.specs.{Names.{glyph_name, glyphs_in_order}, Procedure.numbers}, ps_text.specs.Prolog.{percent, first_text}}
 use Rattle.ps_text.specs.{Prolog.{box_start, procedures, page_start, page_end, last_text, box_line, scaling, page_line, glyph_lines, heading, prolog}, declared.sheet.Frame.Frame, Range.IsFrame}
-use Rattle.{ps_steps.{specs.{Tokens.{is_regular, is_name, begins, font_line, font_front, Body, word_token, pointed_number}, declared.{token.{Simple.{Simple, TheVariants.{Pointed as pointed_token}}}}}}}
-use Rattle.{ps_steps.{specs.{declared.{token.{Simple.{TheVariants.{Whole as whole_token, Label as label_token, Font as font_token}}}}, Near.{is_near, is_near_hundredths}, State.{State, Names, first_graphics}}}}
+use Rattle.{ps_steps.{specs.{Tokens.{is_regular, is_name, begins, font_line, font_front, Body, word_token, pointed_number}, declared.{token.{SimpleToken.{SimpleToken, TheVariants.{Pointed as pointed_token}}}}}}}
+use Rattle.{ps_steps.{specs.{declared.{token.{SimpleToken.{TheVariants.{Whole as whole_token, Label as label_token, Font as font_token}}}}, Near.{is_near, is_near_hundredths}, State.{State, Names, first_graphics}}}}
 use Rattle.ps_steps.specs.{State.{first_state, no_names}, Operators.{defined, moveto_op, lineto_op, curveto_op, closepath_op, fill_op, stroke_op, gsave_op, scale_op, translate_op, setlinewidth_op, findfont_op}}
 use Rattle.{ps_steps.specs.Operators.{scalefont_op, setfont_op}, ps_paint.proofs.{Runs.{no_more, op}, Bodies.{sf_body, vl_body, st_body, beam_body, ac_body, size_body, pg_body, glyph_body}, Lexing.{Lexes, both_lexed}}}
 use Rattle.ps_paint.proofs.{Lexing.{lex_one, ends, lex_numbers, pieces_of, spaced, piece_token, piece_stands, lexed, lexed_to}, Made.{with_fixed, with_pg, with_glyphs, all_names}, Takes.{Takes, word_stands}}
@@ -16,7 +16,7 @@ abbrev pub being : Names → Bool → State
 being ds made = record { stack = []; names = ds; made = made; now = first_graphics; saved = []; paints = []; pages = [] }
 
 -- a line of fixed text
-fixed : {ds : Names} (name front last : List ℕ) (body : List Simple) → list_all is_regular name ≡ true → is_name name ≡ true → begins (λ b. b == 67) name ≡ false
+fixed : {ds : Names} (name front last : List ℕ) (body : List SimpleToken) → list_all is_regular name ≡ true → is_name name ≡ true → begins (λ b. b == 67) name ≡ false
     → spaced (pieces_of front) ≡ front → map piece_token (pieces_of front ++ last ∷ []) ≡ map (λ t. Some t) body → ds (codes "def") ≡ None
     → Takes 3 (definition name (front ++ last)) (being ds false) (being (defined name body ds) false)
 fixed {ds} name front last body r g o e f free = takes_definition name (front ++ last) body (being ds false) (record { regular = r; good = g; other = o }) (lexed_to front last body e f) free

@@ -1,6 +1,6 @@
 -- Coordinates: how they add up, and that they are near.
 use Rattle.std.{proofs.{Common.{◌≡◌, ℕ, zero, suc, ◌*◌, ◌^◌, ◌<◌, ◌≤◌, ℤ, pos, negsuc, true, refl, arith}, Math.IntN.{◌+ℤ◌, ◌*ℤ◌, +ℤ_idl, suc_ℤ-*ℤ, zero-*ℤ}, lemmas.Int.ints}, specs.Int.Signed.◌≤ℤ◌}
-use Rattle.{mus_units.specs.declared.glyph.Size.Size, ps_text.specs.{declared.sheet.Frame.Frame, Range.{IsFrame, IsNumber, IsOffset}}, ps_steps.specs.Near.is_near, ps_paint.specs.PaintOf.height_of}
+use Rattle.{mus_units.specs.declared.glyph.Size.Size, ps_text.specs.{declared.sheet.Frame.Frame, Range.{IsFrame, IsNumber, IsOffset}}, ps_steps.specs.Near.is_near, ps_paint.specs.PaintOf.font_height}
 
 -- within 2^43 of 0
 pub record IsClose (v : ℤ) : Type 0 where
@@ -52,6 +52,6 @@ near_place margin p x l s c = let b = bounded p x c in near (pos (100 * margin) 
 pub near_width : (f : Frame) → IsFrame f → is_near (pos 60 *ℤ pos f.scale) ≡ true
 near_width f g = near (pos 60 *ℤ pos f.scale) (omega (arith, ints)) (omega (arith, ints))
 
-pub near_size : (f : Frame) (size : Size) → IsFrame f → is_near (height_of size *ℤ pos f.scale) ≡ true
+pub near_size : (f : Frame) (size : Size) → IsFrame f → is_near (font_height size *ℤ pos f.scale) ≡ true
 near_size f Size.Small g = near (pos 900 *ℤ pos f.scale) (omega (arith, ints)) (omega (arith, ints))
 near_size f Size.Big g = near (pos 1600 *ℤ pos f.scale) (omega (arith, ints)) (omega (arith, ints))

@@ -1,13 +1,13 @@
 -- The lines of staves.
 use Rattle.std.proofs.{Common.{◌≡◌, ℕ, true, ℤ, pos, List, [], ◌∷◌, ◌++◌, refl, arith, nat_le, codes}, Math.IntN.{◌+ℤ◌, +ℤ_idr}, lemmas.Int.ints}
-use Rattle.{ps_text.specs.{Document.rules_line, declared.sheet.Frame.Frame, Range.IsNumber}, ps_steps.specs.declared.{paint.{Paint.Paint, Seg.Seg, PagePaint.PagePaint}, value.Value.Value}}
-use Rattle.{ps_steps.{specs.{declared.{value.{Value.{TheVariants.{Whole as whole_value}}}, graphics.Graphics.Graphics}, State.Names, Operators.all_near}}, ps_paint.specs.PaintOf.{move, line, stroked, rules}}
+use Rattle.{ps_text.specs.{Document.rules_line, declared.sheet.Frame.Frame, Range.IsNumber}, ps_steps.specs.declared.{paint.{Paint.Paint, Seg.Seg, PagePaint.PagePaint}, value.Operand.Operand}}
+use Rattle.{ps_steps.{specs.{declared.{value.{Operand.{TheVariants.{Whole as whole_value}}}, graphics.Graphics.Graphics}, State.Names, Operators.all_near}}, ps_paint.specs.PaintOf.{move, line, stroked, rules}}
 use Rattle.ps_paint.proofs.{Bodies.{Made, rule_tokens}, Scales.{Comes, no_way, close_number, from_zero, from_number}, Runs.{Runs, both_runs, pushes}, Draws.{drawing, page, moves, lines, saves, restores, translates}}
 use Rattle.ps_paint.proofs.{Draws.{strokes, has_path}, Lines.{Draws, line_drawn, page_near}}
 
 module _ {f : Frame} {ds : Names} (made : Made f ds) where
   -- a line of a staff at y, behind others
-  next_rule : {w y up v : ℤ} {path : List Seg} {st : List Value} {saved : List Graphics} {ps : List Paint} {pages : List PagePaint} → IsNumber w → Comes y up v
+  next_rule : {w y up v : ℤ} {path : List Seg} {st : List Operand} {saved : List Graphics} {ps : List Paint} {pages : List PagePaint} → IsNumber w → Comes y up v
       → Runs 6 (rule_tokens up) (page ds (whole_value up ∷ whole_value w ∷ st) (drawing f (pos 0) y path (pos 900)) saved ps pages)
       (page ds st (drawing f (pos 0) y ((path ++ move f (pos 0) v ∷ []) ++ line f w v ∷ []) (pos 900)) saved ps pages)
   next_rule {w} {up = up} {path = path} n c = both_runs (pushes (pos 0 ∷ up ∷ [])) (both_runs (moves made no_way c) (lines made (has_path path _) (from_zero w n) c))

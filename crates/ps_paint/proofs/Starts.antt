@@ -1,7 +1,7 @@
 -- How a page begins and ends.
 use Rattle.std.proofs.{Common.{◌≡◌, ℕ, ℤ, pos, true, ◌&&◌, List, [], ◌∷◌, ◌++◌, append_assoc, refl, arith, decimal, codes, int_le, int_div, int_rem}, Math.IntN.{◌+ℤ◌, ◌*ℤ◌}, lemmas.Int.ints}
-use Rattle.{ps_text.specs.{Document.{heading_text, heading_line, closing}, declared.sheet.Frame.Frame}, ps_steps.specs.declared.{paint.{Paint.Paint, PagePaint.PagePaint}, graphics.Graphics.Graphics, value.Value.Value}}
-use Rattle.{ps_steps.{specs.{declared.{value.{Value.{TheVariants.{Pointed as pointed_value}}}, token.{Simple.{TheVariants.{Name as name_token, Pointed as pointed_token}}}}, Near.is_near, State.{State, Names}}}}
+use Rattle.{ps_text.specs.{Document.{heading_text, heading_line, closing}, declared.sheet.Frame.Frame}, ps_steps.specs.declared.{paint.{Paint.Paint, PagePaint.PagePaint}, graphics.Graphics.Graphics, value.Operand.Operand}}
+use Rattle.{ps_steps.{specs.{declared.{value.{Operand.{TheVariants.{Pointed as pointed_value}}}, token.{SimpleToken.{TheVariants.{Name as name_token, Pointed as pointed_token}}}}, Near.is_near, State.{State, Names}}}}
 use Rattle.{ps_steps.specs.{State.first_graphics, Operators.{went, same, scaled, with_factors, grestore_op, scale_op, translate_op, setlinewidth_op, showpage_op}}, ps_paint.specs.PaintOf.{to_x, to_y}}
 use Rattle.ps_paint.proofs.{Bodies.{Made, pg_body}, Scales.near, Runs.{Runs, op, then, both_runs, pushes, acts, is_in_range}, Draws.{page, saves}, Takes.{Takes, both_taken, takes_operator, takes_call, IsTokenWord}}
 use Rattle.ps_paint.proofs.{Takes.line_end_passed, Comments.{takes_comment, two_in_line}, Lines.on_page, WordLines.sets_font}
@@ -22,7 +22,7 @@ itself : (n : ℕ) → same (pos n) (pos n) ≡ true
 itself n = grind (arith, ints)
 
 module _ {f : Frame} {ds : Names} (made : Made f ds) where
-  scales : (p : ℕ) (q : ℤ) {g : Graphics} {st : List Value} {saved : List Graphics} {ps : List Paint} {pages : List PagePaint}
+  scales : (p : ℕ) (q : ℤ) {g : Graphics} {st : List Operand} {saved : List Graphics} {ps : List Paint} {pages : List PagePaint}
       → int_rem (g.scale *ℤ pos p) (pos 100) ≡ pos 0 → int_le (pos 100) (g.scale *ℤ pos p) ≡ true → int_div (g.scale *ℤ pos p) (pos 100) ≡ q → is_near q ≡ true
       → Runs 3 (pointed_token (pos p) ∷ pointed_token (pos p) ∷ op scale_op ∷ []) (page ds st g saved ps pages) (page ds st (record g { scale = q }) saved ps pages)
   scales p q {g} {st} {saved} {ps} {pages} r l d n =

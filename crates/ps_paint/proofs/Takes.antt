@@ -2,20 +2,20 @@
 use Rattle.std.proofs.{Common.{◌≡◌, ℕ, zero, suc, ◌+◌, ◌/◌, ◌%◌, ◌<◌, ◌≤◌, ◌^◌, ℤ, pos, negsuc, true, false, Bool, List, [], ◌∷◌, ◌++◌, length, append_assoc, Some, None, refl, sym, arith, decimal, ◌==◌}, Math.IntN.neg_ℤ}
 use Rattle.std.{proofs.{Math.Numerals.one-add, lemmas.{Int.ints, Bool.{true≢false, and_parts, Decides.nat_tests}, Fmt.{decimal_nonempty, decimal_is_IsNumeral}}}, specs.{Str.Parse.digits_value, List.list_all}}
 use Rattle.std.specs.Fmt.{digit_glyph, digits, digits_onto, signed_decimal}
-use Rattle.{mus_units.specs.Bytes.is_digit, glyph_paths.specs.Procedure.numbers, ps_steps.{specs.{Near.is_near, declared.{token.{Simple.{Simple, TheVariants.{Name as name_token, Whole as whole_token}}}}}}}
-use Rattle.{ps_steps.{specs.{declared.{token.{Token.{TheVariants.{Simple as simple_token}}}, value.{Value.{TheVariants.{Whole as whole_value}}}}, Tokens.{passed, IsWord, word_front, simple_at, Front, found}}}}
-use Rattle.ps_steps.specs.{Tokens.{is_regular, whole_number, word_token, is_name}, State.State, Operators.{Operator, def_op, operator_name, operated, went, executed, all_near}, Steps.{at, NextToken, from_text, behind}}
-use Rattle.{ps_steps.{specs.Steps.{Step, Steps, here, step}, proofs.Joined.joined}, ps_paint.proofs.Runs.{Runs, no_more, op, does, pushed}}
+use Rattle.{mus_units.specs.Bytes.is_digit, glyph_paths.specs.Procedure.numbers, ps_steps.{specs.{Near.is_near, declared.{token.{SimpleToken.{SimpleToken, TheVariants.{Name as name_token, Whole as whole_token}}}}}}}
+use Rattle.{ps_steps.{specs.{declared.{token.{MachineToken.{TheVariants.{Simple as simple_token}}}, value.{Operand.{TheVariants.{Whole as whole_value}}}}, Tokens.{passed, IsWord, word_front, simple_at, Front, found}}}}
+use Rattle.ps_steps.specs.{Tokens.{is_regular, whole_number, word_token, is_name}, State.State, Operators.{Operator, def_op, operator_name, operated, went, executed, all_near}, Steps.{state_before, NextToken, from_text, state_after}}
+use Rattle.{ps_steps.{specs.Steps.{Step, TakesSteps, here, step}, proofs.Joined.joined}, ps_paint.proofs.Runs.{Runs, no_more, op, does, pushed}}
 
 -- whatever follows, the text leads from one state to another in n steps
 pub record Takes (n : ℕ) (text : List ℕ) (m k : State) : Type 0 where
-  pub take : (rest : List ℕ) → Steps n (at m (text ++ rest)) (at k rest)
+  pub take : (rest : List ℕ) → TakesSteps n (state_before m (text ++ rest)) (state_before k rest)
 
 pub nothing_taken : {m : State} → Takes 0 [] m m
-nothing_taken {m} = record { take = λ rest. here (at m rest) }
+nothing_taken {m} = record { take = λ rest. here (state_before m rest) }
 
 pub both_taken : {a b : ℕ} {s t : List ℕ} {m k l : State} → Takes a s m k → Takes b t k l → Takes (a + b) (s ++ t) m l
-both_taken {a} {b} {s} {t} {m} {k} {l} u v = record { take = λ rest. rw (append_assoc s t rest) (joined a b _ (at k (t ++ rest)) _ (u.take (t ++ rest)) (v.take rest)) }
+both_taken {a} {b} {s} {t} {m} {k} {l} u v = record { take = λ rest. rw (append_assoc s t rest) (joined a b _ (state_before k (t ++ rest)) _ (u.take (t ++ rest)) (v.take rest)) }
 
 -- the word stands at the front, whatever stands behind the byte after it
 pub word_at : (w rest : List ℕ) (b : ℕ) → 1 ≤ length w → list_all is_regular w ≡ true → is_regular b ≡ false → IsWord (w ++ b ∷ rest) w (b ∷ rest)
@@ -65,7 +65,7 @@ minus_word [] l e = absurd (omega arith)
 minus_word (b ∷ ds) l e = rw e refl
 
 -- a word, and the token that it is
-pub record IsTokenWord (t : Simple) (w : List ℕ) : Type 0 where
+pub record IsTokenWord (t : SimpleToken) (w : List ℕ) : Type 0 where
   pub some : 1 ≤ length w
   pub regular : list_all is_regular w ≡ true
   pub token : word_token w ≡ Some t
@@ -99,23 +99,23 @@ pub line_end_passed : IsPassed 10
 line_end_passed = record { stop = refl; passes = λ s. refl }
 
 -- these bytes are the token, whatever stands behind the byte after them
-pub record Stands (t : Simple) (w : List ℕ) : Type 0 where
+pub record Stands (t : SimpleToken) (w : List ℕ) : Type 0 where
   pub front : (b : ℕ) (rest : List ℕ) → is_regular b ≡ false → Front (passed false (w ++ b ∷ rest)) (found t (b ∷ rest))
 
-pub word_stands : {t : Simple} {w : List ℕ} → IsTokenWord t w → Stands t w
+pub word_stands : {t : SimpleToken} {w : List ℕ} → IsTokenWord t w → Stands t w
 word_stands {t} {w} i = record { front = λ b rest stop. rw (word_stays w (b ∷ rest) i.some i.regular) (word_front w (b ∷ rest) t (word_at w rest b i.some i.regular stop) i.token) }
 
 -- a token and a blank are executed
-pub takes_token : {n : ℕ} {t : Simple} {w : List ℕ} {body : List Simple} {b : ℕ} {m k l : State} → Stands t w → IsPassed b → executed (simple_token t) m ≡ went body k → Runs n body k l → Takes (suc n) (w ++ b ∷ []) m l
+pub takes_token : {n : ℕ} {t : SimpleToken} {w : List ℕ} {body : List SimpleToken} {b : ℕ} {m k l : State} → Stands t w → IsPassed b → executed (simple_token t) m ≡ went body k → Runs n body k l → Takes (suc n) (w ++ b ∷ []) m l
 takes_token {n} {t} {w} {body} {b} {m} {k} {l} i p e r = record {
   take = λ rest.
-      let next : NextToken (at m (w ++ b ∷ rest)) (simple_token t) (at m (b ∷ rest)) = from_text m (passed false (w ++ b ∷ rest)) (b ∷ rest) (simple_token t) (simple_at t (b ∷ rest) (i.front b rest p.stop)) in
-      let one : Step (at m (w ++ b ∷ rest)) (behind body k (at m rest)) = record { token = simple_token t; rest = at m rest; body = body; state = k; next = rw (p.passes rest) at next; went = e; is = refl } in
-      rw (append_assoc w (b ∷ []) rest) (step n _ _ (at l rest) one (r.run [] (passed false rest)));
+      let next : NextToken (state_before m (w ++ b ∷ rest)) (simple_token t) (state_before m (b ∷ rest)) = from_text m (passed false (w ++ b ∷ rest)) (b ∷ rest) (simple_token t) (simple_at t (b ∷ rest) (i.front b rest p.stop)) in
+      let one : Step (state_before m (w ++ b ∷ rest)) (state_after body k (state_before m rest)) = record { token = simple_token t; rest = state_before m rest; body = body; state = k; next = rw (p.passes rest) state_before next; went = e; is = refl } in
+      rw (append_assoc w (b ∷ []) rest) (step n _ _ (state_before l rest) one (r.run [] (passed false rest)));
 }
 
 -- a word that calls nothing
-takes_word : {t : Simple} {w : List ℕ} {b : ℕ} {m k : State} → IsTokenWord t w → IsPassed b → executed (simple_token t) m ≡ went [] k → Takes 1 (w ++ b ∷ []) m k
+takes_word : {t : SimpleToken} {w : List ℕ} {b : ℕ} {m k : State} → IsTokenWord t w → IsPassed b → executed (simple_token t) m ≡ went [] k → Takes 1 (w ++ b ∷ []) m k
 takes_word i p e = takes_token (word_stands i) p e no_more
 
 -- an operator, and the end of its line
@@ -127,7 +127,7 @@ pub takes_operator : {m k : State} (o : Operator) → m.names (operator_name o) 
 takes_operator {m} o free e = takes_word (operator_word o) line_end_passed (does m o free e)
 
 -- a name that runs a procedure
-pub takes_call : {n : ℕ} {name : List ℕ} {body : List Simple} {b : ℕ} {m k : State} → IsTokenWord (name_token name) name → IsPassed b → m.names name ≡ Some body → Runs n body m k → Takes (suc n) (name ++ b ∷ []) m k
+pub takes_call : {n : ℕ} {name : List ℕ} {body : List SimpleToken} {b : ℕ} {m k : State} → IsTokenWord (name_token name) name → IsPassed b → m.names name ≡ Some body → Runs n body m k → Takes (suc n) (name ++ b ∷ []) m k
 takes_call {m = m} i p h r = takes_token {k = m} (word_stands i) p (rw h refl) r
 
 takes_numbers : (zs : List ℤ) (m : State) → all_near zs ≡ true → Takes (length zs) (numbers zs) m (record m { stack = pushed zs m.stack })
@@ -135,9 +135,9 @@ unfolding numbers
 takes_numbers [] m e = nothing_taken
 takes_numbers (z ∷ zs) m e =
     let k : State = record m { stack = whole_value z ∷ m.stack } in let one : Takes 1 (signed_decimal z ++ 32 ∷ []) m k = takes_word (number_word z ((and_parts (is_near z) (all_near zs) e).0)) space_passed refl in
-    rw (one-add (length zs)) at (both_taken one (takes_numbers zs k ((and_parts (is_near z) (all_near zs) e).1)))
+    rw (one-add (length zs)) state_before (both_taken one (takes_numbers zs k ((and_parts (is_near z) (all_near zs) e).1)))
 
 -- a line of numbers and of a name that runs a procedure
-pub takes_line : {n : ℕ} {body : List Simple} {m k : State} (zs : List ℤ) (name : List ℕ) → all_near zs ≡ true → IsTokenWord (name_token name) name → m.names name ≡ Some body
+pub takes_line : {n : ℕ} {body : List SimpleToken} {m k : State} (zs : List ℤ) (name : List ℕ) → all_near zs ≡ true → IsTokenWord (name_token name) name → m.names name ≡ Some body
     → Runs n body (record m { stack = pushed zs m.stack }) k → Takes (length zs + suc n) ((numbers zs ++ name) ++ 10 ∷ []) m k
 takes_line {n} {body} {m} {k} zs name near word made run = rw (append_assoc (numbers zs) name (10 ∷ [])) (both_taken (takes_numbers zs m near) (takes_call word line_end_passed made run))

@@ -1,11 +1,11 @@
 -- Words are shown where their line says, in marks and in titles.
 use Rattle.std.{proofs.{Common.{◌≡◌, ℕ, suc, ◌+◌, ◌≤◌, ℤ, pos, true, List, [], ◌∷◌, ◌++◌, length-append, append_assoc, refl, arith, IsTrue, codes}, Math.IntN.{◌*ℤ◌, +ℤ_idr}, lemmas.Int.ints}, specs.List.flat_map}
 use Rattle.std.specs.List.{list_all}
-use Rattle.{mus_units.specs.declared.glyph.Size.Size, glyph_paths.specs.Procedure.numbers, ps_text.specs.{Fields.{shown, in_parentheses}, Range.{is_shown, IsOffset, IsPlaced, IsTitle, IsWords}, Line.words_line}}
+use Rattle.{mus_units.specs.declared.glyph.Size.Size, glyph_paths.specs.Procedure.numbers, ps_text.specs.{Fields.{shown, in_parentheses}, Range.{is_shown, IsOffset, IsPlacedMark, IsTitle, IsWords}, Line.words_line}}
 use Rattle.{ps_text.specs.{Names.size_name, Document.{mark_text, title_line, title_text}, declared.{sheet.Frame.Frame, marks.PageMark.PageMark}}, ps_steps.specs.declared.paint.{Paint.Paint, PagePaint.PagePaint}}
-use Rattle.{ps_steps.{specs.{declared.{token.{Simple.{TheVariants.{Label as label_token, Name as name_token, Words as words_token}}}, value.{Value.{Value, TheVariants.{Label as label_value, Words as words_value}}}}}}}
+use Rattle.{ps_steps.{specs.{declared.{token.{SimpleToken.{TheVariants.{Label as label_token, Name as name_token, Words as words_token}}}, value.{Operand.{Operand, TheVariants.{Label as label_value, Words as words_value}}}}}}}
 use Rattle.ps_steps.specs.{declared.graphics.Graphics.Graphics, Near.is_near, Tokens.string_front, State.{State, Names}, Operators.{show_op, findfont_op, scalefont_op, setfont_op, all_near}}
-use Rattle.ps_paint.{specs.PaintOf.{move, words_paint, mark_paints, height_of}, proofs.{Bodies.{Made, size_body, shown_tokens, font_tokens}, Scales.{Comes, from_zero, from_number, near_size}, Runs.{Runs, no_more, op}}}
+use Rattle.ps_paint.{specs.PaintOf.{move, words_paint, mark_paints, font_height}, proofs.{Bodies.{Made, size_body, shown_tokens, font_tokens}, Scales.{Comes, from_zero, from_number, near_size}, Runs.{Runs, no_more, op}}}
 use Rattle.ps_paint.proofs.{Runs.{then, both_runs, pushes, pushed, acts, is_in_range}, Draws.{drawing, corner, page, moves, saves, restores, translates}, Takes.{Takes, Stands, takes_token, space_passed, both_taken}}
 use Rattle.ps_paint.proofs.{Takes.{takes_line, IsTokenWord}, Lines.{Draws, on_page, page_near, offset_near}}
 
@@ -33,7 +33,7 @@ unfolding size_cost
 size_few Size.Small = omega arith
 size_few Size.Big = omega arith
 
-module _ {f : Frame} {ds : Names} (made : Made f ds) {saved : List Graphics} {ps : List Paint} {pages : List PagePaint} {st : List Value} where
+module _ {f : Frame} {ds : Names} (made : Made f ds) {saved : List Graphics} {ps : List Paint} {pages : List PagePaint} {st : List Operand} where
   -- the font in another size
   pub sets_font : {g : Graphics} (z : ℤ) → is_near (pos 1 *ℤ z) ≡ true → Runs 5 (font_tokens z) (page ds st g saved ps pages) (page ds st (record g { font = pos 1 *ℤ z }) saved ps pages)
   sets_font {g} z near =
@@ -41,25 +41,25 @@ module _ {f : Frame} {ds : Names} (made : Made f ds) {saved : List Graphics} {ps
       (both_runs (acts findfont_op (made.free findfont_op) refl) (both_runs (pushes (z ∷ []))
       (both_runs (acts scalefont_op (made.free scalefont_op) (is_in_range ((pos 1 *ℤ z) ∷ []) _ (rw near refl))) (acts setfont_op (made.free setfont_op) refl))))
 
-  shows : (size : Size) (a b x y : ℤ) (words : List ℕ) → Runs 1 (op show_op ∷ []) (page ds (words_value words ∷ st) (drawing f x y (move f a b ∷ []) (height_of size)) saved ps pages)
-      (page ds st (drawing f x y (move f a b ∷ []) (height_of size)) saved (ps ++ words_paint f size a b words ∷ []) pages)
-  shows size a b x y words = acts show_op (made.free show_op) (is_in_range ((height_of size *ℤ pos f.scale) ∷ []) _ (rw (near_size f size made.frame) refl))
+  shows : (size : Size) (a b x y : ℤ) (words : List ℕ) → Runs 1 (op show_op ∷ []) (page ds (words_value words ∷ st) (drawing f x y (move f a b ∷ []) (font_height size)) saved ps pages)
+      (page ds st (drawing f x y (move f a b ∷ []) (font_height size)) saved (ps ++ words_paint f size a b words ∷ []) pages)
+  shows size a b x y words = acts show_op (made.free show_op) (is_in_range ((font_height size *ℤ pos f.scale) ∷ []) _ (rw (near_size f size made.frame) refl))
 
 -- from behind the gsave, with the font of the size
-places_words : {f : Frame} {ds : Names} (made : Made f ds) {saved : List Graphics} {ps : List Paint} {pages : List PagePaint} {st : List Value} {g : Graphics} (size : Size) (x y : ℤ) {dx dy p q : ℤ} (words : List ℕ)
+places_words : {f : Frame} {ds : Names} (made : Made f ds) {saved : List Graphics} {ps : List Paint} {pages : List PagePaint} {st : List Operand} {g : Graphics} (size : Size) (x y : ℤ) {dx dy p q : ℤ} (words : List ℕ)
     → Comes (pos 0) x x → Comes (pos 0) y y → Comes x dx p → Comes y dy q → Runs 5 shown_tokens
-    (page ds (pushed (dx ∷ dy ∷ x ∷ y ∷ []) (words_value words ∷ st)) (corner f (height_of size)) (g ∷ saved) ps pages) (page ds st g saved (ps ++ words_paint f size p q words ∷ []) pages)
+    (page ds (pushed (dx ∷ dy ∷ x ∷ y ∷ []) (words_value words ∷ st)) (corner f (font_height size)) (g ∷ saved) ps pages) (page ds st g saved (ps ++ words_paint f size p q words ∷ []) pages)
 places_words made size x y {p = p} {q = q} words cx cy cp cq = both_runs (translates made cx cy) (both_runs (moves made cp cq) (both_runs (shows made size p q x y words) (restores made)))
 
 module _ {f : Frame} {ds : Names} (made : Made f ds) where
-  words_runs : (size : Size) (x y : ℤ) {dx dy p q : ℤ} (words : List ℕ) (st : List Value) (saved : List Graphics) (ps : List Paint) (pages : List PagePaint)
+  words_runs : (size : Size) (x y : ℤ) {dx dy p q : ℤ} (words : List ℕ) (st : List Operand) (saved : List Graphics) (ps : List Paint) (pages : List PagePaint)
       → Comes (pos 0) x x → Comes (pos 0) y y → Comes x dx p → Comes y dy q → Runs (size_cost size) (size_body size)
       (on_page f ds (pushed (dx ∷ dy ∷ x ∷ y ∷ []) (words_value words ∷ st)) saved ps pages) (on_page f ds st saved (ps ++ words_paint f size p q words ∷ []) pages)
   unfolding size_cost
   words_runs Size.Small x y words st saved ps pages cx cy cp cq = both_runs (saves made) (places_words made Size.Small x y words cx cy cp cq)
   words_runs Size.Big x y words st saved ps pages cx cy cp cq = both_runs (saves made) (both_runs (sets_font made {g = corner f (pos 900)} (pos 1600) refl) (places_words made Size.Big x y words cx cy cp cq))
 
-  pub words_drawn : (size : Size) (y x dx dy : ℤ) (words : List ℕ) → IsPlaced y x dx dy → IsWords words → Draws f ds (mark_text y (PageMark.Words size x dx dy words)) (mark_paints f y (PageMark.Words size x dx dy words))
+  pub words_drawn : (size : Size) (y x dx dy : ℤ) (words : List ℕ) → IsPlacedMark y x dx dy → IsWords words → Draws f ds (mark_text y (PageMark.Words size x dx dy words)) (mark_paints f y (PageMark.Words size x dx dy words))
   unfolding mark_text words_line
   words_drawn size y x dx dy words s w =
       let zs = dx ∷ dy ∷ x ∷ y ∷ [] in let near : all_near zs ≡ true = rw (offset_near dx s.across, offset_near dy s.above, page_near x s.anchor, page_near y s.base) refl in

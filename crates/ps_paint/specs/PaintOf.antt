@@ -27,17 +27,17 @@ abbrev pub stroked : Frame → List Seg → Paint
 stroked f path = Paint.Stroke (pos 60 *ℤ pos f.scale) path
 
 -- a path is closed and filled
-abbrev pub filled : List Seg → Paint
-filled path = Paint.Fill (path ++ Seg.Close ∷ [])
+abbrev pub filled_paint : List Seg → Paint
+filled_paint path = Paint.Fill (path ++ Seg.Close ∷ [])
 
 -- how large words are, in u
-abbrev pub height_of : Size → ℤ
-height_of Size.Small = pos 900
-height_of Size.Big = pos 1600
+abbrev pub font_height : Size → ℤ
+font_height Size.Small = pos 900
+font_height Size.Big = pos 1600
 
 -- words that begin at (x, y)
 abbrev pub words_paint : Frame → Size → ℤ → ℤ → List ℕ → Paint
-words_paint f size x y words = Paint.Show (height_of size *ℤ pos f.scale) (to_x f x) (to_y f y) words
+words_paint f size x y words = Paint.Show (font_height size *ℤ pos f.scale) (to_x f x) (to_y f y) words
 
 -- an outline moved by (x, y), behind the pieces of the path that it goes on with: a paint for each Fill and each Stroke,
 -- of the pieces since the last one
@@ -46,7 +46,7 @@ outline_paints f x y path [] = []
 outline_paints f x y path (PathOp.Move a b ∷ rest) = outline_paints f x y (path ++ move f (x +ℤ a) (y +ℤ b) ∷ []) rest
 outline_paints f x y path (PathOp.Line a b ∷ rest) = outline_paints f x y (path ++ line f (x +ℤ a) (y +ℤ b) ∷ []) rest
 outline_paints f x y path (PathOp.Curve a b c d p q ∷ rest) = outline_paints f x y (path ++ curve f (x +ℤ a) (y +ℤ b) (x +ℤ c) (y +ℤ d) (x +ℤ p) (y +ℤ q) ∷ []) rest
-outline_paints f x y path (PathOp.Fill ∷ rest) = filled path ∷ outline_paints f x y [] rest
+outline_paints f x y path (PathOp.Fill ∷ rest) = filled_paint path ∷ outline_paints f x y [] rest
 outline_paints f x y path (PathOp.Stroke ∷ rest) = stroked f path ∷ outline_paints f x y [] rest
 
 -- a glyph is its outline, moved by its place
@@ -61,7 +61,7 @@ edge Way.Grace = pos 190
 
 -- a beam from (x1, a) to (x2, b) is 250 thick
 abbrev pub beam_paint : Frame → ℤ → ℤ → ℤ → ℤ → Paint
-beam_paint f x1 a x2 b = filled (move f x1 a ∷ line f x2 b ∷ line f x2 (b +ℤ pos 250) ∷ line f x1 (a +ℤ pos 250) ∷ [])
+beam_paint f x1 a x2 b = filled_paint (move f x1 a ∷ line f x2 b ∷ line f x2 (b +ℤ pos 250) ∷ line f x1 (a +ℤ pos 250) ∷ [])
 
 -- an arc from (x1, a) to (x2, b), whose inner points are a quarter of the way from its ends, and so far above them
 abbrev pub arc_paint : Frame → ℤ → ℤ → ℤ → ℤ → ℤ → Paint

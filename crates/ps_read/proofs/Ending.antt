@@ -2,7 +2,7 @@
 use Rattle.std.proofs.{Common.◌≡◌, Common.ℕ, Common.List, Common.[], Common.◌∷◌, Common.◌++◌, Common.refl, Common.sym, Common.◌∙◌, Common.ap, Common.arith, Common.codes, Common.◌==◌, Common.if◌then◌else◌, lemmas.Bool.ne_eqb}
 use Rattle.glyph_paths.specs.Names.{glyphs_in_order}
 use Rattle.ps_text.specs.{Document.staff_line, Document.system_line, Document.tune_line, Document.heading_line, Document.count_line, Prolog.procedures, Prolog.glyph_lines, Prolog.last_text, declared.sheet.Frame.Frame, declared.sheet.Sheet.Sheet}
-use Rattle.ps_read.{specs.{Laws.NoPrefix, Lines.{Line, line_text, lines_then, behind_line, IsFirstLine}, Places.{MayCome, after_prolog, next, Leads}, declared.place.Place.Place}, proofs.{Heads.{may_lack, IsMarkStart, mark_start, join_start, rules_start, title_start, no_line, same_start}, Through.{document_way, lines_on}}}
+use Rattle.ps_read.{specs.{Laws.NoPrefix, Lines.{Line, line_text, lines_then, behind_line, IsFirstLine}, ReaderStates.{MayCome, after_prolog, state_after, Leads}, declared.state.ReaderState.ReaderState}, proofs.{Heads.{may_lack, IsMarkStart, mark_start, join_start, rules_start, title_start, no_line, same_start}, Through.{document_way, lines_on}}}
 use Rattle.ps_read.specs.Lines as line
 use Rattle.eng_lines.proofs.Words.{one_cut, head_of}
 
@@ -15,12 +15,12 @@ data Stage : Type 0 where
   late : Stage
   over : Stage
 
-abbrev stage : Place → Stage
-stage Place.Begun = begun
-stage Place.Titled = titled
-stage (Place.Boxed w h rest) = boxed rest
-stage (Place.Framed f rest) = framed rest
-stage (Place.Ended s) = over
+abbrev stage : ReaderState → Stage
+stage ReaderState.Begun = begun
+stage ReaderState.Titled = titled
+stage (ReaderState.Boxed w h rest) = boxed rest
+stage (ReaderState.Framed f rest) = framed rest
+stage (ReaderState.Ended s) = over
 stage p = late
 
 abbrev last_line : List ℕ
@@ -51,30 +51,30 @@ in_box (b ∷ rest) text m = refl
 mark_late : (text : List ℕ) → IsMarkStart (head_of text) → late ≡ on late text
 mark_late text h = let other = ne_eqb (head_of text) 37 h.0 in ap (λ b. if b then (if same_start 5 text last_line then over else late) else late) (sym other)
 
-stage_on : (p : Place) (l : Line) → MayCome p l → stage (next p l) ≡ on (stage p) (line_text l)
+stage_on : (p : ReaderState) (l : Line) → MayCome p l → stage (state_after p l) ≡ on (stage p) (line_text l)
 unfolding heading_line count_line tune_line system_line staff_line
-stage_on (Place.Boxed w h rest) (line.Fixed text) m = in_box rest text m
-stage_on (Place.Boxed w h rest) (line.PageStart l b s) m = rw m.0 refl
-stage_on (Place.Framed f rest) (line.Fixed text) m = after_framed f (behind_line text rest)
-stage_on (Place.Items p) (line.Title x y size words) m = mark_late (line_text (line.Title x y size words)) (title_start x y size words)
-stage_on (Place.System o) (line.Join x y) m = mark_late (line_text (line.Join x y)) (join_start x y)
-stage_on (Place.Staff o) (line.Rules w y) m = mark_late (line_text (line.Rules w y)) (rules_start w y)
-stage_on (Place.Marks o s) (line.Mark y k) m = mark_late (line_text (line.Mark y k)) (mark_start y k)
+stage_on (ReaderState.Boxed w h rest) (line.Fixed text) m = in_box rest text m
+stage_on (ReaderState.Boxed w h rest) (line.PageStart l b s) m = rw m.0 refl
+stage_on (ReaderState.Framed f rest) (line.Fixed text) m = after_framed f (behind_line text rest)
+stage_on (ReaderState.Items p) (line.Title x y size words) m = mark_late (line_text (line.Title x y size words)) (title_start x y size words)
+stage_on (ReaderState.System o) (line.Join x y) m = mark_late (line_text (line.Join x y)) (join_start x y)
+stage_on (ReaderState.Staff o) (line.Rules w y) m = mark_late (line_text (line.Rules w y)) (rules_start w y)
+stage_on (ReaderState.Marks o s) (line.Mark y k) m = mark_late (line_text (line.Mark y k)) (mark_start y k)
 stage_on p l m = grind (arith, m)
 
-none_over : (q : Place) (m : Line) → stage q ≡ over → MayCome q m → ⊥
-none_over (Place.Ended t) m e k = absurd k
+none_over : (q : ReaderState) (m : Line) → stage q ≡ over → MayCome q m → ⊥
+none_over (ReaderState.Ended t) m e k = absurd k
 none_over q m e k = absurd cc
 
-way_ends : (p q : Place) (ls ms : List Line) (more : List ℕ) (s t : Sheet) → stage p ≡ stage q → Leads p ls (Place.Ended s) → Leads q ms (Place.Ended t) → lines_then ls more ≡ lines_then ms [] → more ≡ []
+way_ends : (p q : ReaderState) (ls ms : List Line) (more : List ℕ) (s t : Sheet) → stage p ≡ stage q → Leads p ls (ReaderState.Ended s) → Leads q ms (ReaderState.Ended t) → lines_then ls more ≡ lines_then ms [] → more ≡ []
 way_ends p q [] [] more s t a h k e = e
 way_ends p q [] (m ∷ ms) more s t a h k e = absurd (none_over q m (sym a ∙ ap stage h) k.0)
 way_ends p q (l ∷ ls) [] more s t a h k e = absurd (no_line (line_text l) (lines_then ls more) (sym e))
 way_ends p q (l ∷ ls) (m ∷ ms) more s t a h k e =
     let c = one_cut 10 (line_text l) (line_text m) (lines_then ls more) (lines_then ms []) (may_lack p l h.0) (may_lack q m k.0) e in
-    let b = stage_on p l h.0 ∙ (ap (on (stage p)) c.0 ∙ (ap (λ i. on i (line_text m)) a ∙ sym (stage_on q m k.0))) in way_ends (next p l) (next q m) ls ms more s t b h.1 k.1 c.1
+    let b = stage_on p l h.0 ∙ (ap (on (stage p)) c.0 ∙ (ap (λ i. on i (line_text m)) a ∙ sym (stage_on q m k.0))) in way_ends (state_after p l) (state_after q m) ls ms more s t b h.1 k.1 c.1
 
 pub no_prefix : NoPrefix
 no_prefix text more s t h k =
     let w = document_way s text h in let v = document_way t (text ++ more) k in
-    way_ends Place.Begun Place.Begun w.0 v.0 more s t refl w.2 v.2 (sym (lines_on w.0 more) ∙ (ap (λ x. x ++ more) (sym w.1) ∙ v.1))
+    way_ends ReaderState.Begun ReaderState.Begun w.0 v.0 more s t refl w.2 v.2 (sym (lines_on w.0 more) ∙ (ap (λ x. x ++ more) (sym w.1) ∙ v.1))

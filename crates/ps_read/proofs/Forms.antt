@@ -2,7 +2,7 @@
 use Rattle.std.{proofs.{Common.{◌≡◌, ℕ, ℤ, pos, ◌≤◌, ◌^◌, true, ◌+◌, ◌/◌, ◌%◌, List, [], ◌∷◌, ◌++◌, refl, ◌∙◌, ap, arith, codes, decimal}, lemmas.{Fmt.decimal_digit, Int.ints}}, specs.List.{flat_map, list_all}}
 use mathlib.Core.List.{append_assoc}
 use Rattle.{mus_units.specs.declared.glyph.Size.{Size}, glyph_paths.specs.Procedure.{numbers}}
-use Rattle.ps_text.specs.{Document.{title_line}, Fields.{shown, in_parentheses}, Names.size_name, Prolog.{page_line, page_start, page_end, scaling, percent}, declared.prolog.TheConstants.PAGE_START, Range.IsNumber, Scanning.is_field}
+use Rattle.ps_text.specs.{Document.{title_line}, Fields.{shown, in_parentheses}, Names.size_name, Prolog.{page_line, page_start, page_end, scaling, percent}, declared.prolog.TheConstants.PAGE_START, Range.IsNumber, Scanning.is_field_byte}
 
 abbrev pub title_numbers : ℤ → ℤ → List ℤ
 title_numbers x y = pos 0 ∷ pos 0 ∷ x ∷ y ∷ []
@@ -14,7 +14,7 @@ title_form x y size words = simp append_assoc
 pub small_number : (n : ℕ) → n ≤ 2 ^ 31 → IsNumber (pos n)
 small_number n l = record { low = omega (arith, ints); high = omega (arith, ints, l) }
 
-pub size_is_field : (size : Size) → list_all is_field (size_name size) ≡ true
+pub size_is_field : (size : Size) → list_all is_field_byte (size_name size) ≡ true
 size_is_field Size.Small = refl
 size_is_field Size.Big = refl
 

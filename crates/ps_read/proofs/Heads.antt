@@ -2,7 +2,7 @@
 use Rattle.std.{proofs.{lemmas.{Bool.ne_eqb, List.Folds.list_all-append}, Common.{◌≡◌, ◌≢◌, ℕ, ℤ, pos, negsuc, zero, suc, ◌/◌, ◌%◌, ◌≤◌, Bool, true, false, ◌==◌, if◌then◌else◌, List, [], ◌∷◌, ◌++◌, refl, sym, ap, subst, arith, codes, IsTrue, not, true≢false, length, length-append}}, specs.{Fmt.{decimal, signed_decimal, digits, digits_onto, digit_glyph}, List.{flat_map, list_all}}}
 use Rattle.{mus_units.specs.{declared.glyph.Glyph.Glyph, declared.glyph.Size.Size, declared.glyph.Way.Way}, glyph_paths.specs.{Names.glyph_name, Procedure.numbers}}
 use Rattle.ps_text.specs.{Document.{rules_line, staff_line, join_line, system_line, title_line, tune_line, heading_line, count_line}, Fields.{shown, in_parentheses}, Line.{glyph_line, words_line, stem_line, beam_line, arc_line, points, mark_line}, Names.{size_name, way_name}, Prolog.{box_line, page_line, box_start, page_start, page_end, scaling, percent}, Range.{is_shown, IsPageMark}, declared.marks.PageMark.PageMark}
-use Rattle.{eng_lines.{specs.Lines.Lacks, proofs.Words.head_of}, ps_read.specs.{Lines.Line, Lines.line_text, Places.MayCome, declared.place.Place.Place}}
+use Rattle.{eng_lines.{specs.Lines.Lacks, proofs.Words.head_of}, ps_read.specs.{Lines.Line, Lines.line_text, ReaderStates.MayCome, declared.state.ReaderState.ReaderState}}
 use Rattle.ps_read.specs.Lines as line
 
 abbrev IsDigit : ℕ → Type 0
@@ -123,14 +123,14 @@ unfolding count_line
 count_whole k = decimal_whole k
 
 -- no good line has an LF within
-pub may_lack : (p : Place) (l : Line) → MayCome p l → Lacks 10 (line_text l)
+pub may_lack : (p : ReaderState) (l : Line) → MayCome p l → Lacks 10 (line_text l)
 unfolding box_line box_start page_line page_start page_end scaling heading_line tune_line title_line system_line join_line staff_line rules_line
-may_lack (Place.Boxed w h rest) (line.Fixed text) m = m.whole
-may_lack (Place.Framed f rest) (line.Fixed text) m = m.whole
-may_lack (Place.Trailer s) (line.Fixed text) m = lacks text (rw m (count_whole (length s.pages)))
+may_lack (ReaderState.Boxed w h rest) (line.Fixed text) m = m.whole
+may_lack (ReaderState.Framed f rest) (line.Fixed text) m = m.whole
+may_lack (ReaderState.Trailer s) (line.Fixed text) m = lacks text (rw m (count_whole (length s.pages)))
 may_lack p (line.Fixed text) m = lacks text (grind (arith, m))
-may_lack (Place.Items p) (line.Title x y size words) m = lacks (title_line x y size words) (grind (arith, list_all-append, numbers_whole, parentheses_whole words m.good.shown, size_whole size))
-may_lack (Place.Marks o s) (line.Mark y k) m = lacks (mark_line y k) (rw m.0 (mark_whole s.y k m.1))
+may_lack (ReaderState.Items p) (line.Title x y size words) m = lacks (title_line x y size words) (grind (arith, list_all-append, numbers_whole, parentheses_whole words m.good.shown, size_whole size))
+may_lack (ReaderState.Marks o s) (line.Mark y k) m = lacks (mark_line y k) (rw m.0 (mark_whole s.y k m.1))
 may_lack p l m = lacks (line_text l) (grind (arith, list_all-append, decimal_whole, percent_whole, numbers_whole))
 
 -- no text with a line's end is empty

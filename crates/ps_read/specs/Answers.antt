@@ -1,20 +1,20 @@
 -- What the answers of the reader say.
 use Rattle.std.specs.Prelude.{◌≡◌, ℕ, ◌+◌, List, [], length}
-use Rattle.ps_text.specs.{Document.Spells, declared.sheet.Sheet.Sheet}
-use Rattle.ps_read.specs.{Lines.Line, Lines.lines_then, Places.Leads, declared.place.Place.Place, declared.reading.PagesError.PagesError, declared.reading.PagesError.TheVariants.NotPages, declared.reading.PagesError.TheVariants.Memory}
+use Rattle.ps_text.specs.{Document.SpellsSheet, declared.sheet.Sheet.Sheet}
+use Rattle.ps_read.specs.{Lines.Line, Lines.lines_then, ReaderStates.Leads, declared.state.ReaderState.ReaderState, declared.reading.PagesError.PagesError, declared.reading.PagesError.TheVariants.NotPages, declared.reading.PagesError.TheVariants.Memory}
 
 -- a text begins with so many good lines
 pub record GoodLines (text : List ℕ) (count : ℕ) : Type 0 where
   pub lines : List Line
   pub rest : List ℕ
-  pub place : Place
+  pub place : ReaderState
   pub parted : text ≡ lines_then lines rest
-  pub leads : Leads Place.Begun lines place
+  pub leads : Leads ReaderState.Begun lines place
   pub counted : count ≡ length lines
 
 -- each line of the text is good, and the last is `%%EOF`: the lines tell this sheet
 abbrev pub IsGoodThroughout : List ℕ → Sheet → Type 0
-IsGoodThroughout text s = (ls : List Line) × (text ≡ lines_then ls []) × Leads Place.Begun ls (Place.Ended s)
+IsGoodThroughout text s = (ls : List Line) × (text ≡ lines_then ls []) × Leads ReaderState.Begun ls (ReaderState.Ended s)
 
 -- the lines before this one are good, and this one isn't, or isn't there; and the text doesn't end with `%%EOF`
 pub record IsFirstFault (text : List ℕ) (number : ℕ) : Type 0 where
@@ -25,11 +25,11 @@ pub record IsFirstFault (text : List ℕ) (number : ℕ) : Type 0 where
   pub unfinished : (s : Sheet) → IsGoodThroughout text s → ⊥
 
 -- the sheet is the one that spells the text
-pub record IsRead (text : List ℕ) (s : Sheet) : Type 0 where
-  pub spells : Spells s text
-  pub only : (t : Sheet) → Spells t text → t ≡ s
+pub record IsDocumentRead (text : List ℕ) (s : Sheet) : Type 0 where
+  pub spells : SpellsSheet s text
+  pub only : (t : Sheet) → SpellsSheet t text → t ≡ s
 
 -- NotPages tells the first line that isn't good, and that no sheet spells the text; Memory nothing
 abbrev pub IsCause : List ℕ → PagesError → Type 0
-IsCause text (NotPages line) = IsFirstFault text line × ((s : Sheet) → Spells s text → ⊥)
+IsCause text (NotPages line) = IsFirstFault text line × ((s : Sheet) → SpellsSheet s text → ⊥)
 IsCause text Memory = Unit {0}

@@ -1,5 +1,5 @@
 pub mod Lines
-pub mod Places
+pub mod ReaderStates
 pub mod Answers
 pub mod Laws
 pub mod Steps

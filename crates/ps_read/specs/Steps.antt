@@ -1,26 +1,26 @@
 -- What a step of the reader says: that no good line has the text, or the place behind the one that has.
 use Rattle.std.specs.Prelude.{◌≡◌, ℕ, List, Option, MatchOption, ⊤}
-use Rattle.ps_read.specs.{Lines.Line, Lines.Fixed, Lines.Tune, Lines.System, Lines.Join, Lines.Mark, Lines.line_text, Places.MayCome, Places.next, declared.place.Place.Place}
+use Rattle.ps_read.specs.{Lines.Line, Lines.Fixed, Lines.Tune, Lines.System, Lines.Join, Lines.Mark, Lines.line_text, ReaderStates.MayCome, ReaderStates.state_after, declared.state.ReaderState.ReaderState}
 
 -- of the lines that are in question, none that may come here has this text
-abbrev pub NoneOf : (Line → Type 0) → Place → List ℕ → Type 0
+abbrev pub NoneOf : (Line → Type 0) → ReaderState → List ℕ → Type 0
 NoneOf Q p raw = (l : Line) → Q l → raw ≡ line_text l → MayCome p l → ⊥
 
 -- one that may come here has it, and all that have it lead to the place
-pub record IsNextOf (Q : Line → Type 0) (p : Place) (raw : List ℕ) (q : Place) : Type 0 where
+pub record IsNextOf (Q : Line → Type 0) (p : ReaderState) (raw : List ℕ) (q : ReaderState) : Type 0 where
   pub line : Line
   pub asked : Q line
   pub spelled : raw ≡ line_text line
   pub may : MayCome p line
-  pub only : (m : Line) → Q m → raw ≡ line_text m → MayCome p m → next p m ≡ q
+  pub only : (m : Line) → Q m → raw ≡ line_text m → MayCome p m → state_after p m ≡ q
 
-abbrev pub IsStepOf : (Line → Type 0) → Place → List ℕ → Option Place → Type 0
+abbrev pub IsStepOf : (Line → Type 0) → ReaderState → List ℕ → Option ReaderState → Type 0
 IsStepOf Q p raw o = MatchOption o (NoneOf Q p raw) (IsNextOf Q p raw)
 
 abbrev pub Any : Line → Type 0
 Any l = ⊤
 
-abbrev pub IsStep : Place → List ℕ → Option Place → Type 0
+abbrev pub IsStep : ReaderState → List ℕ → Option ReaderState → Type 0
 IsStep = IsStepOf Any
 
 -- the lines that may come after a system as well as after a title

@@ -2,7 +2,7 @@
 -- nothing else, or that it tells nothing of this sort.
 use Rattle.std.specs.Prelude.{◌≡◌, ℕ, ℤ, ◌≤◌, ◌^◌, List, Option, MatchOption}
 use Rattle.{mus_units.specs.declared.glyph.Size.{Size}, ps_text.specs.{Document.title_line, Document.join_line, Document.rules_line, Line.mark_line, Range.IsNumber, Range.IsTitle, Range.IsPageMark, declared.marks.PageMark.PageMark}}
-use Rattle.ps_read.specs.{declared.lines.Rules.Rules, declared.lines.Title.Title, declared.place.Joined.Joined}
+use Rattle.ps_read.specs.{declared.lines.Rules.Rules, declared.lines.Title.Title, declared.state.Joined.Joined}
 
 abbrev pub title_of : ℤ → ℤ → Size → List ℕ → Title
 title_of x y size words = record { x = x; y = y; size = size; text = words }

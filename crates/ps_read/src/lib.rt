@@ -7,7 +7,7 @@
 
 mod lines;
 mod pages;
-mod place;
+mod state;
 mod prolog;
 mod reading;
 mod systems;

@@ -3,7 +3,7 @@ ghost use Rattle.mus_units.specs.declared.glyph.Size.{Size};
 ghost use Rattle.ps_text.specs.{Document.title_line, Document.join_line, Document.rules_line, Document.heading_line, Document.staff_line, Document.count_line, Names.size_name, Range.IsNumber, Range.IsTitle};
 ghost use Rattle.ps_read.specs.Titles.{title_of, rules_of, joined_of, IsTitleRead, IsJoinRead, IsRulesRead};
 
-use crate::place::Joined;
+use crate::state::Joined;
 use eng_lines::strip;
 use mus_units::{Memory, Size, Text};
 use ps_text::document::{

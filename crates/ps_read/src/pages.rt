@@ -1,10 +1,10 @@
 ghost use Rattle.std.specs.Prelude.{◌≡◌, ◌+◌, ◌<◌, ◌^◌, length, IfOk, Decides};
 ghost use Rattle.{ps_text.specs.Document.{heading_line}, ps_read.specs.Steps.{IsStep, IsStepOf, IsItemLine, IsSystemLine}};
-ghost use Rattle.ps_read.specs.declared.place.Place.TheVariants as at;
+ghost use Rattle.ps_read.specs.declared.state.ReaderState.TheVariants as at;
 
 use crate::lines::{Title, is_count, is_heading, is_text, read_title};
-use crate::place::{OpenPage, OpenSystem, Place, with_item, with_page};
-use eng_lines::{number_behind, numbers_behind};
+use crate::state::{OpenPage, OpenSystem, ReaderState, with_item, with_page};
+use eng_lines::{number_after, numbers_after};
 use mus_units::{Memory, Row};
 use ps_text::{Item, Sheet};
 use std::alloc::Global;
@@ -19,23 +19,23 @@ fn is_next_heading(alloc: Global, raw: &[u8], pages: usize) -> Result<bool, Memo
     is_heading(alloc, raw, pages as u64 + 1)
 }
 
-pub fn after_page(alloc: Global, sheet: Sheet, raw: &[u8]) -> Result<Option<Place>, Memory>
+pub fn after_page(alloc: Global, sheet: Sheet, raw: &[u8]) -> Result<Option<ReaderState>, Memory>
     ensures { IfOk result (IsStep (at.Between sheet) raw.now) }
 {
     if is_text(raw, b"%%Trailer") {
-        return Ok(Some(Place::Trailer(sheet)));
+        return Ok(Some(ReaderState::Trailer(sheet)));
     }
     if is_next_heading(alloc, raw, sheet.pages.len())? {
-        return Ok(Some(Place::Headed(sheet)));
+        return Ok(Some(ReaderState::Headed(sheet)));
     }
     Ok(None)
 }
 
-pub fn after_heading(alloc: Global, sheet: Sheet, raw: &[u8]) -> Option<Place>
+pub fn after_heading(alloc: Global, sheet: Sheet, raw: &[u8]) -> Option<ReaderState>
     ensures { IsStep (at.Headed sheet) raw.now result }
 {
     if is_text(raw, b"pg") {
-        Some(Place::Items(OpenPage {
+        Some(ReaderState::Items(OpenPage {
             sheet,
             items: Row::new(alloc),
         }))
@@ -44,11 +44,11 @@ pub fn after_heading(alloc: Global, sheet: Sheet, raw: &[u8]) -> Option<Place>
     }
 }
 
-fn system_line(alloc: Global, page: OpenPage, raw: &[u8]) -> Option<Place>
+fn system_line(alloc: Global, page: OpenPage, raw: &[u8]) -> Option<ReaderState>
     ensures { IsStepOf IsSystemLine (at.Items page) raw.now result }
 {
-    match numbers_behind(b"% system ", raw) {
-        Some((a, b)) if a < b => Some(Place::System(OpenSystem {
+    match numbers_after(b"% system ", raw) {
+        Some((a, b)) if a < b => Some(ReaderState::System(OpenSystem {
             page,
             a,
             b,
@@ -60,58 +60,58 @@ fn system_line(alloc: Global, page: OpenPage, raw: &[u8]) -> Option<Place>
 }
 
 /// Any line but a title that may come after an item.
-pub fn item_line(alloc: Global, page: OpenPage, raw: &[u8]) -> Result<Option<Place>, Memory>
+pub fn item_line(alloc: Global, page: OpenPage, raw: &[u8]) -> Result<Option<ReaderState>, Memory>
     ensures { IfOk result (IsStepOf IsItemLine (at.Items page) raw.now) }
 {
     if is_text(raw, b"grestore") {
-        return Ok(Some(Place::Closed(page)));
+        return Ok(Some(ReaderState::Closed(page)));
     }
-    match number_behind(b"% tune ", raw) {
+    match number_after(b"% tune ", raw) {
         Some(0) => Ok(None),
         Some(ordinal) => {
             let page = with_item(page, Item::Tune { ordinal })?;
-            Ok(Some(Place::Items(page)))
+            Ok(Some(ReaderState::Items(page)))
         }
         None => Ok(system_line(alloc, page, raw)),
     }
 }
 
-pub fn after_item(alloc: Global, page: OpenPage, raw: &[u8]) -> Result<Option<Place>, Memory>
+pub fn after_item(alloc: Global, page: OpenPage, raw: &[u8]) -> Result<Option<ReaderState>, Memory>
     ensures { IfOk result (IsStep (at.Items page) raw.now) }
 {
     match read_title(alloc, raw)? {
         Some(Title { x, y, size, text }) => {
             let page = with_item(page, Item::Title { x, y, size, text })?;
-            Ok(Some(Place::Items(page)))
+            Ok(Some(ReaderState::Items(page)))
         }
         None => item_line(alloc, page, raw),
     }
 }
 
-pub fn after_items(page: OpenPage, raw: &[u8]) -> Result<Option<Place>, Memory>
+pub fn after_items(page: OpenPage, raw: &[u8]) -> Result<Option<ReaderState>, Memory>
     ensures { IfOk result (IsStep (at.Closed page) raw.now) }
 {
     if !is_text(raw, b"showpage") {
         return Ok(None);
     }
     let sheet = with_page(page)?;
-    Ok(Some(Place::Between(sheet)))
+    Ok(Some(ReaderState::Between(sheet)))
 }
 
-pub fn after_trailer(alloc: Global, sheet: Sheet, raw: &[u8]) -> Result<Option<Place>, Memory>
+pub fn after_trailer(alloc: Global, sheet: Sheet, raw: &[u8]) -> Result<Option<ReaderState>, Memory>
     ensures { IfOk result (IsStep (at.Trailer sheet) raw.now) }
 {
     if is_count(alloc, raw, sheet.pages.len() as u64)? {
-        return Ok(Some(Place::Counted(sheet)));
+        return Ok(Some(ReaderState::Counted(sheet)));
     }
     Ok(None)
 }
 
-pub fn after_count(sheet: Sheet, raw: &[u8]) -> Option<Place>
+pub fn after_count(sheet: Sheet, raw: &[u8]) -> Option<ReaderState>
     ensures { IsStep (at.Counted sheet) raw.now result }
 {
     if is_text(raw, b"%%EOF") {
-        Some(Place::Ended(sheet))
+        Some(ReaderState::Ended(sheet))
     } else {
         None
     }

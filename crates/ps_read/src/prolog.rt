@@ -1,11 +1,11 @@
 ghost use Rattle.std.specs.Prelude.{◌≡◌, ◌<◌, ◌^◌, ◌++◌, ℕ, List, Some, MatchOption, IfOk, IfSome, Decides, ◌+◌, ◌/◌, ◌%◌, [], ◌≤◌};
 ghost use Rattle.{glyph_paths.specs.Names.{glyphs_in_order}, ps_text.specs.Prolog.{percent, page_line, glyph_lines, last_text}};
-ghost use Rattle.{ps_read.specs.{Places.after_prolog, Lines.IsFirstLine, Lines.behind_line, Steps.IsStep}, eng_lines.specs.Lines.{Lacks}};
-ghost use Rattle.ps_read.specs.declared.place.Place.TheVariants as at;
+ghost use Rattle.{ps_read.specs.{ReaderStates.after_prolog, Lines.IsFirstLine, Lines.behind_line, Steps.IsStep}, eng_lines.specs.Lines.{Lacks}};
+ghost use Rattle.ps_read.specs.declared.state.ReaderState.TheVariants as at;
 
 use crate::lines::is_text;
-use crate::place::Place;
-use eng_lines::{number_and_rest, numbers_behind, strip};
+use crate::state::ReaderState;
+use eng_lines::{number_and_rest, numbers_after, strip};
 use glyph_paths::all_glyphs;
 use mus_units::{Memory, Row, Text};
 use ps_text::prolog::{BOX, LAST, PAGE_START, PROCEDURES, put_glyphs, put_page_line};
@@ -23,23 +23,23 @@ fn behind<'a>(line: &[u8], text: &'a [u8]) -> Option<&'a [u8]>
     }
 }
 
-pub fn after_nothing(raw: &[u8]) -> Option<Place>
+pub fn after_nothing(raw: &[u8]) -> Option<ReaderState>
     ensures { IsStep at.Begun raw.now result }
 {
     if is_text(raw, b"%!PS-Adobe-3.0") {
-        Some(Place::Titled)
+        Some(ReaderState::Titled)
     } else {
         None
     }
 }
 
-pub fn after_title(alloc: Global, raw: &[u8]) -> Result<Option<Place>, Memory>
+pub fn after_title(alloc: Global, raw: &[u8]) -> Result<Option<ReaderState>, Memory>
     ensures { IfOk result (IsStep at.Titled raw.now) }
 {
-    match numbers_behind(BOX, raw) {
+    match numbers_after(BOX, raw) {
         Some((wide, high)) => {
             let rest = Text::from_slice(alloc, PROCEDURES)?;
-            Ok(Some(Place::Boxed { wide, high, rest }))
+            Ok(Some(ReaderState::Boxed { wide, high, rest }))
         }
         None => Ok(None),
     }
@@ -102,7 +102,7 @@ fn last_lines(alloc: Global) -> Result<Text, Memory>
     Ok(rest)
 }
 
-fn page_start(alloc: Global, wide: u32, high: u32, raw: &[u8]) -> Result<Option<Place>, Memory>
+fn page_start(alloc: Global, wide: u32, high: u32, raw: &[u8]) -> Result<Option<ReaderState>, Memory>
     ensures { IfOk result (IsStep (at.Boxed wide high []) raw.now) }
 {
     let Some((left, bottom, scale)) = scan_page_line(raw) else {
@@ -122,7 +122,7 @@ fn page_start(alloc: Global, wide: u32, high: u32, raw: &[u8]) -> Result<Option<
         return Ok(None);
     }
     let rest = last_lines(alloc)?;
-    Ok(Some(Place::Framed { frame, rest }))
+    Ok(Some(ReaderState::Framed { frame, rest }))
 }
 
 pub fn after_box(
@@ -131,7 +131,7 @@ pub fn after_box(
     high: u32,
     rest: Text,
     raw: &[u8],
-) -> Result<Option<Place>, Memory>
+) -> Result<Option<ReaderState>, Memory>
     requires { Lacks 10 raw.now }
     ensures { IfOk result (IsStep (at.Boxed wide high rest) raw.now) }
 {
@@ -141,23 +141,23 @@ pub fn after_box(
     match behind(raw, rest.as_slice()) {
         Some(more) => {
             let rest = Text::from_slice(alloc, more)?;
-            Ok(Some(Place::Boxed { wide, high, rest }))
+            Ok(Some(ReaderState::Boxed { wide, high, rest }))
         }
         None => Ok(None),
     }
 }
 
-fn after_prolog(alloc: Global, frame: Frame, rest: &[u8]) -> Result<Place, Memory>
+fn after_prolog(alloc: Global, frame: Frame, rest: &[u8]) -> Result<ReaderState, Memory>
     ensures { IfOk result (λ p. p ≡ after_prolog frame rest.now) }
 {
     match rest {
-        [] => Ok(Place::Between(Sheet {
+        [] => Ok(ReaderState::Between(Sheet {
             frame,
             pages: Row::new(alloc),
         })),
         _ => {
             let rest = Text::from_slice(alloc, rest)?;
-            Ok(Place::Framed { frame, rest })
+            Ok(ReaderState::Framed { frame, rest })
         }
     }
 }
@@ -167,7 +167,7 @@ pub fn after_frame(
     frame: Frame,
     rest: Text,
     raw: &[u8],
-) -> Result<Option<Place>, Memory>
+) -> Result<Option<ReaderState>, Memory>
     requires { Lacks 10 raw.now }
     ensures { IfOk result (IsStep (at.Framed frame rest) raw.now) }
 {

@@ -1,13 +1,13 @@
 ghost use Rattle.std.specs.Prelude.{IfOk, IfErr, MatchOption, ◌≡◌};
-ghost use Rattle.{ps_read.specs.{Answers.IsRead, Answers.IsCause, Laws.GoodByLines, Laws.NoPrefix, Steps.IsStep}, eng_lines.specs.Lines.{Lacks}};
-ghost use Rattle.ps_read.specs.declared.place.Place.TheVariants as at;
+ghost use Rattle.{ps_read.specs.{Answers.IsDocumentRead, Answers.IsCause, Laws.GoodByLines, Laws.NoPrefix, Steps.IsStep}, eng_lines.specs.Lines.{Lacks}};
+ghost use Rattle.ps_read.specs.declared.state.ReaderState.TheVariants as at;
 ghost use Rattle.ps_read.specs.declared.reading.PagesError.TheVariants as answer;
 ghost use Rattle.ps_text.specs.declared.sheet.Sheet.{Sheet};
 
 use crate::pages::{
     after_count, after_heading, after_item, after_items, after_page, after_trailer,
 };
-use crate::place::Place;
+use crate::state::ReaderState;
 use crate::prolog::{after_box, after_frame, after_nothing, after_title};
 use crate::systems::{after_mark, after_staff, after_system};
 use eng_lines::cut_at;
@@ -34,34 +34,34 @@ impl From<Memory> for PagesError {
 }
 
 /// The place behind the line, or `None` where the line isn't good.
-fn step(alloc: Global, place: Place, raw: &[u8]) -> Result<Option<Place>, Memory>
+fn step(alloc: Global, place: ReaderState, raw: &[u8]) -> Result<Option<ReaderState>, Memory>
     requires { Lacks 10 raw.now }
     ensures { IfOk result (IsStep place raw.now) }
 {
     match place {
-        Place::Begun => Ok(after_nothing(raw)),
-        Place::Titled => after_title(alloc, raw),
-        Place::Boxed { wide, high, rest } => after_box(alloc, wide, high, rest, raw),
-        Place::Framed { frame, rest } => after_frame(alloc, frame, rest, raw),
-        Place::Between(sheet) => after_page(alloc, sheet, raw),
-        Place::Headed(sheet) => Ok(after_heading(alloc, sheet, raw)),
-        Place::Items(page) => after_item(alloc, page, raw),
-        Place::System(system) => after_system(alloc, system, raw),
-        Place::Staff(system) => after_staff(alloc, system, raw),
-        Place::Marks { system, staff } => after_mark(alloc, system, staff, raw),
-        Place::Closed(page) => after_items(page, raw),
-        Place::Trailer(sheet) => after_trailer(alloc, sheet, raw),
-        Place::Counted(sheet) => Ok(after_count(sheet, raw)),
-        Place::Ended(_) => Ok(None),
+        ReaderState::Begun => Ok(after_nothing(raw)),
+        ReaderState::Titled => after_title(alloc, raw),
+        ReaderState::Boxed { wide, high, rest } => after_box(alloc, wide, high, rest, raw),
+        ReaderState::Framed { frame, rest } => after_frame(alloc, frame, rest, raw),
+        ReaderState::Between(sheet) => after_page(alloc, sheet, raw),
+        ReaderState::Headed(sheet) => Ok(after_heading(alloc, sheet, raw)),
+        ReaderState::Items(page) => after_item(alloc, page, raw),
+        ReaderState::System(system) => after_system(alloc, system, raw),
+        ReaderState::Staff(system) => after_staff(alloc, system, raw),
+        ReaderState::Marks { system, staff } => after_mark(alloc, system, staff, raw),
+        ReaderState::Closed(page) => after_items(page, raw),
+        ReaderState::Trailer(sheet) => after_trailer(alloc, sheet, raw),
+        ReaderState::Counted(sheet) => Ok(after_count(sheet, raw)),
+        ReaderState::Ended(_) => Ok(None),
     }
 }
 
 /// The sheet that was told, behind the last line of a document.
-fn sheet_of(place: Place) -> Option<Sheet>
+fn sheet_of(place: ReaderState) -> Option<Sheet>
     ensures { MatchOption result ((s : Sheet) → place ≡ at.Ended s → ⊥) (λ s. place ≡ at.Ended s) }
 {
     match place {
-        Place::Ended(sheet) => Some(sheet),
+        ReaderState::Ended(sheet) => Some(sheet),
         _ => None,
     }
 }
@@ -70,10 +70,10 @@ fn sheet_of(place: Place) -> Option<Sheet>
 ///
 /// A last piece without an LF is a line that isn't good. Each line is read once.
 pub fn read_document(alloc: Global, b: &[u8]) -> Result<Sheet, PagesError>
-    ensures sheet { IfOk result (IsRead b.now) }
+    ensures sheet { IfOk result (IsDocumentRead b.now) }
     ensures cause { IfErr result (IsCause b.now) }
 {
-    let mut place = Place::Begun;
+    let mut place = ReaderState::Begun;
     let mut rest = b;
     let mut line: u64 = 1;
     while let Some((raw, behind)) = cut_at(b'\n', rest) {

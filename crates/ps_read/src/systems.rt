@@ -1,11 +1,11 @@
 ghost use Rattle.std.specs.{Prelude.{◌≡◌, ◌+◌, IfOk, Decides}, Option.{option_map}};
 ghost use Rattle.ps_text.specs.{Document.staff_line, Range.IsNumber};
-ghost use Rattle.ps_read.specs.{Places.IsUnderTop, Places.MayEnd, Steps.IsStep, Steps.IsStepOf, Steps.IsJoinLine, Steps.IsItemLine, Steps.IsNoMark, Titles.IsMarkRead};
-ghost use Rattle.ps_read.specs.declared.place.Place.TheVariants as at;
+ghost use Rattle.ps_read.specs.{ReaderStates.IsUnderTop, ReaderStates.MayEnd, Steps.IsStep, Steps.IsStepOf, Steps.IsJoinLine, Steps.IsItemLine, Steps.IsNoMark, Titles.IsMarkRead};
+ghost use Rattle.ps_read.specs.declared.state.ReaderState.TheVariants as at;
 
 use crate::lines::{Rules, is_staff_line, read_join, read_rules};
 use crate::pages::item_line;
-use crate::place::{Joined, OpenSystem, Place, ended, with_mark, with_staff};
+use crate::state::{Joined, OpenSystem, ReaderState, system_ended, staff_with_mark, system_with_staff};
 use mus_units::{Memory, Row};
 use ps_text::{PageMark, Staff, read_op};
 use std::alloc::Global;
@@ -18,7 +18,7 @@ fn read_mark(alloc: Global, raw: &[u8], staff: &Staff) -> Result<Option<PageMark
 }
 
 /// Joins the staves of a system that isn't joined yet.
-fn join_next(alloc: Global, mut system: OpenSystem, raw: &[u8]) -> Result<Option<Place>, Memory>
+fn join_next(alloc: Global, mut system: OpenSystem, raw: &[u8]) -> Result<Option<ReaderState>, Memory>
     ensures { IfOk result (IsStepOf IsJoinLine (at.System system) raw.now) }
 {
     if system.join.is_some() {
@@ -27,17 +27,17 @@ fn join_next(alloc: Global, mut system: OpenSystem, raw: &[u8]) -> Result<Option
     match read_join(alloc, raw)? {
         Some(join) => {
             system.join = Some(join);
-            Ok(Some(Place::System(system)))
+            Ok(Some(ReaderState::System(system)))
         }
         None => Ok(None),
     }
 }
 
-pub fn after_system(alloc: Global, system: OpenSystem, raw: &[u8]) -> Result<Option<Place>, Memory>
+pub fn after_system(alloc: Global, system: OpenSystem, raw: &[u8]) -> Result<Option<ReaderState>, Memory>
     ensures { IfOk result (IsStep (at.System system) raw.now) }
 {
     if is_staff_line(alloc, raw, 0)? {
-        return Ok(Some(Place::Staff(system)));
+        return Ok(Some(ReaderState::Staff(system)));
     }
     join_next(alloc, system, raw)
 }
@@ -70,11 +70,11 @@ fn read_staff(alloc: Global, system: &OpenSystem, raw: &[u8]) -> Result<Option<S
     }))
 }
 
-pub fn after_staff(alloc: Global, system: OpenSystem, raw: &[u8]) -> Result<Option<Place>, Memory>
+pub fn after_staff(alloc: Global, system: OpenSystem, raw: &[u8]) -> Result<Option<ReaderState>, Memory>
     ensures { IfOk result (IsStep (at.Staff system) raw.now) }
 {
     match read_staff(alloc, &system, raw)? {
-        Some(staff) => Ok(Some(Place::Marks { system, staff })),
+        Some(staff) => Ok(Some(ReaderState::Marks { system, staff })),
         None => Ok(None),
     }
 }
@@ -105,13 +105,13 @@ fn leave(
     system: OpenSystem,
     staff: Staff,
     raw: &[u8],
-) -> Result<Option<Place>, Memory>
+) -> Result<Option<ReaderState>, Memory>
     ensures { IfOk result (IsStepOf IsItemLine (at.Marks system staff) raw.now) }
 {
     if !may_end(system.join, system.staves.as_slice(), staff.y) {
         return Ok(None);
     }
-    let page = ended(system, staff)?;
+    let page = system_ended(system, staff)?;
     item_line(alloc, page, raw)
 }
 
@@ -121,7 +121,7 @@ fn after_last_mark(
     system: OpenSystem,
     staff: Staff,
     raw: &[u8],
-) -> Result<Option<Place>, Memory>
+) -> Result<Option<ReaderState>, Memory>
     ensures { IfOk result (IsStepOf IsNoMark (at.Marks system staff) raw.now) }
 {
     if !is_next_staff(alloc, raw, system.staves.len())? {
@@ -130,7 +130,7 @@ fn after_last_mark(
     if system.join.is_none() {
         return Ok(None);
     }
-    Ok(Some(Place::Staff(with_staff(system, staff)?)))
+    Ok(Some(ReaderState::Staff(system_with_staff(system, staff)?)))
 }
 
 pub fn after_mark(
@@ -138,13 +138,13 @@ pub fn after_mark(
     system: OpenSystem,
     staff: Staff,
     raw: &[u8],
-) -> Result<Option<Place>, Memory>
+) -> Result<Option<ReaderState>, Memory>
     ensures { IfOk result (IsStep (at.Marks system staff) raw.now) }
 {
     match read_mark(alloc, raw, &staff)? {
         Some(mark) => {
-            let staff = with_mark(staff, mark)?;
-            Ok(Some(Place::Marks { system, staff }))
+            let staff = staff_with_mark(staff, mark)?;
+            Ok(Some(ReaderState::Marks { system, staff }))
         }
         None => after_last_mark(alloc, system, staff, raw),
     }

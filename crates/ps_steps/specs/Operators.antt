@@ -2,18 +2,18 @@
 -- font; a name calls the procedure that it was given, or else is one of the operators. An operator halts where it has too few operands
 -- (Stack), else where one is of another kind (Kind), and then for what is its own. A number with a point is an operand of `scale` alone.
 use Rattle.std.specs.{Prelude.{ℕ, zero, suc, ℤ, pos, ◌+ℤ◌, ◌*ℤ◌, int_le, int_div, int_rem, Bool, true, false, ◌&&◌, List, [], ◌∷◌, ◌++◌, codes, Option, Some, None}, Str.bytes_eq, Map.update}
-use Rattle.ps_steps.specs.{declared.{halt.Cause.Cause, paint.{Seg.Seg, Paint.Paint}}, Tokens.{Simple, whole_token, pointed_token, far_token, words_token, label_token, name_token, font_token, Token, simple_token, procedure_token}, Near.is_near, Points.current, State.{Value, whole_value, pointed_value, words_value, label_value, body_value, font_value, Graphics, Names, State}}
+use Rattle.ps_steps.specs.{declared.{halt.Cause.Cause, paint.{Seg.Seg, Paint.Paint}}, Tokens.{SimpleToken, whole_token, pointed_token, far_token, words_token, label_token, name_token, font_token, MachineToken, simple_token, procedure_token}, Near.is_near, Points.current, State.{Operand, whole_value, pointed_value, words_value, label_value, body_value, font_value, Graphics, Names, State}}
 
 -- a token changes the state, and may call for the tokens of a procedure; or the run halts there
 pub data Outcome : Type 0 where
-  went : (body : List Simple) (m : State) → Outcome
+  went : (body : List SimpleToken) (m : State) → Outcome
   halted : (cause : Cause) → Outcome
 
 abbrev pub done : State → Outcome
 done m = went [] m
 
 -- a value is pushed
-abbrev pub push : Value → State → Outcome
+abbrev pub push : Operand → State → Outcome
 push v m = done (record m { stack = v ∷ m.stack })
 
 abbrev pub all_near : List ℤ → Bool
@@ -32,25 +32,25 @@ abbrev pub above : Graphics → ℤ → ℤ
 above g y = g.y +ℤ (g.scale *ℤ y)
 
 -- two whole numbers, the second on top
-abbrev pub with_two : List Value → State → (ℤ → ℤ → State → Outcome) → Outcome
+abbrev pub with_two : List Operand → State → (ℤ → ℤ → State → Outcome) → Outcome
 with_two (whole_value y ∷ whole_value x ∷ st) m f = f x y (record m { stack = st })
 with_two (b ∷ a ∷ st) m f = halted Cause.Kind
 with_two st m f = halted Cause.Stack
 
 -- whether there are so many values
-abbrev pub has : ℕ → List Value → Bool
+abbrev pub has : ℕ → List Operand → Bool
 has zero st = true
 has (suc n) [] = false
 has (suc n) (v ∷ st) = has n st
 
 -- so many whole numbers from the top, before those that were taken
-abbrev pub pick : List ℤ → ℕ → List Value → State → (List ℤ → State → Outcome) → Outcome
+abbrev pub pick : List ℤ → ℕ → List Operand → State → (List ℤ → State → Outcome) → Outcome
 pick zs zero st m f = f zs (record m { stack = st })
 pick zs (suc n) (whole_value z ∷ st) m f = pick (z ∷ zs) n st m f
 pick zs (suc n) _ m f = halted Cause.Kind
 
 -- six whole numbers, the last on top
-abbrev pub with_six : List Value → State → (List ℤ → State → Outcome) → Outcome
+abbrev pub with_six : List Operand → State → (List ℤ → State → Outcome) → Outcome
 with_six st m f = elim (has 6 st) [ true ↦ pick [] 6 st m f | false ↦ halted Cause.Stack ]
 
 -- a piece at the end of the path
@@ -101,7 +101,7 @@ abbrev pub translate : ℤ → ℤ → State → Outcome
 translate x y m = in_range (across m.now x ∷ above m.now y ∷ []) (done (record m { now = record m.now { x = across m.now x; y = above m.now y } }))
 
 -- a factor in hundredths
-abbrev pub factor : Value → Option ℤ
+abbrev pub factor : Operand → Option ℤ
 factor (whole_value z) = Some (z *ℤ pos 100)
 factor (pointed_value z) = Some z
 factor _ = None
@@ -122,27 +122,27 @@ with_factors (Some a) (Some b) m = elim (same a b) [ true ↦ scaled (m.now.scal
 with_factors _ _ m = halted Cause.Kind
 
 -- the scale is multiplied by a factor, which stands there twice
-abbrev pub scale : List Value → State → Outcome
+abbrev pub scale : List Operand → State → Outcome
 scale (b ∷ a ∷ st) m = with_factors (factor a) (factor b) (record m { stack = st })
 scale _ m = halted Cause.Stack
 
-abbrev pub setlinewidth : List Value → State → Outcome
+abbrev pub setlinewidth : List Operand → State → Outcome
 setlinewidth (whole_value z ∷ st) m = done (record m { stack = st; now = record m.now { line = z } })
 setlinewidth (v ∷ st) m = halted Cause.Kind
 setlinewidth [] m = halted Cause.Stack
 
 -- the font that was made, at size 1
-abbrev pub findfont : List Value → State → Outcome
+abbrev pub findfont : List Operand → State → Outcome
 findfont (label_value name ∷ st) m = elim (m.made && bytes_eq name (codes "EngFont")) [ true ↦ done (record m { stack = font_value (pos 1) ∷ st }) | false ↦ halted Cause.Name ]
 findfont (v ∷ st) m = halted Cause.Kind
 findfont [] m = halted Cause.Stack
 
-abbrev pub scalefont : List Value → State → Outcome
+abbrev pub scalefont : List Operand → State → Outcome
 scalefont (whole_value z ∷ font_value s ∷ st) m = in_range ((s *ℤ z) ∷ []) (done (record m { stack = font_value (s *ℤ z) ∷ st }))
 scalefont (b ∷ a ∷ st) m = halted Cause.Kind
 scalefont _ m = halted Cause.Stack
 
-abbrev pub setfont : List Value → State → Outcome
+abbrev pub setfont : List Operand → State → Outcome
 setfont (font_value s ∷ st) m = done (record m { stack = st; now = record m.now { font = s } })
 setfont (v ∷ st) m = halted Cause.Kind
 setfont [] m = halted Cause.Stack
@@ -152,16 +152,16 @@ abbrev pub shown_at : List ℕ → Option (ℤ × ℤ) → State → Outcome
 shown_at words None m = halted Cause.Point
 shown_at words (Some p) m = let size = m.now.font *ℤ m.now.scale in in_range (size ∷ []) (done (record m { paints = m.paints ++ Paint.Show size p.0 p.1 words ∷ [] }))
 
-abbrev pub show : List Value → State → Outcome
+abbrev pub show : List Operand → State → Outcome
 show (words_value words ∷ st) m = shown_at words (current m.now.path) (record m { stack = st })
 show (v ∷ st) m = halted Cause.Kind
 show [] m = halted Cause.Stack
 
 -- a later definition replaces an earlier one
-abbrev pub defined : List ℕ → List Simple → Names → Names
+abbrev pub defined : List ℕ → List SimpleToken → Names → Names
 defined name body names = update bytes_eq names name (Some body)
 
-abbrev pub define : List Value → State → Outcome
+abbrev pub define : List Operand → State → Outcome
 define (body_value body ∷ label_value name ∷ st) m = done (record m { stack = st; names = defined name body m.names })
 define (b ∷ a ∷ st) m = halted Cause.Kind
 define _ m = halted Cause.Stack
@@ -245,11 +245,11 @@ operated_if None m = halted Cause.Name
 operated_if (Some o) m = operated o m
 
 -- a name calls the procedure that it was given, or else is an operator
-abbrev pub called : Option (List Simple) → List ℕ → State → Outcome
+abbrev pub called : Option (List SimpleToken) → List ℕ → State → Outcome
 called (Some body) name m = went body m
 called None name m = operated_if (operator_named name) m
 
-abbrev pub executed : Token → State → Outcome
+abbrev pub executed : MachineToken → State → Outcome
 executed (simple_token (whole_token z)) m = push (whole_value z) m
 executed (simple_token (pointed_token z)) m = push (pointed_value z) m
 executed (simple_token far_token) m = halted Cause.Range

@@ -1,18 +1,18 @@
 -- The state of the machine: the operand stack, the definitions, whether the font was made, the graphics state with the
 -- path, the saved ones, what was painted on the page so far, and the pages before it.
-use Rattle.{std.specs.Prelude.{ℕ, pos, Bool, false, List, [], Option, None}, ps_steps.specs.{declared.paint.Paint.Paint, declared.paint.PagePaint.PagePaint, Tokens.Simple}}
-pub use Rattle.ps_steps.specs.{declared.value.Value.Value, declared.graphics.Graphics.Graphics}
-pub use Rattle.ps_steps.specs.declared.value.Value.TheVariants.{Whole as whole_value, Pointed as pointed_value, Words as words_value, Label as label_value, Body as body_value, Font as font_value}
+use Rattle.{std.specs.Prelude.{ℕ, pos, Bool, false, List, [], Option, None}, ps_steps.specs.{declared.paint.Paint.Paint, declared.paint.PagePaint.PagePaint, Tokens.SimpleToken}}
+pub use Rattle.ps_steps.specs.{declared.value.Operand.Operand, declared.graphics.Graphics.Graphics}
+pub use Rattle.ps_steps.specs.declared.value.Operand.TheVariants.{Whole as whole_value, Pointed as pointed_value, Words as words_value, Label as label_value, Body as body_value, Font as font_value}
 
 -- the procedure that a name was given, if any
 abbrev pub Names : Type 0
-Names = List ℕ → Option (List Simple)
+Names = List ℕ → Option (List SimpleToken)
 
 abbrev pub no_names : Names
 no_names name = None
 
 pub record State : Type 0 where
-  pub stack : List Value  -- the top first
+  pub stack : List Operand  -- the top first
   pub names : Names
   pub made : Bool  -- whether the font was made
   pub now : Graphics

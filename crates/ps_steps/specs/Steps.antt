@@ -1,84 +1,84 @@
 -- Runs: the steps of the machine, and its answers.
 use Rattle.std.specs.Prelude.{◌≡◌, ℕ, zero, suc, ◌<◌, ◌≤◌, false, List, [], ◌∷◌, ◌++◌}
-use Rattle.ps_steps.specs.{declared.{halt.{Cause.Cause, MachineError.{MachineError, TheVariants.{Halt, Memory}}}, paint.PagePaint.PagePaint}, Tokens.{Simple, Token, simple_token, TokenAt, NoToken, passed}, State.{State, first_state}, Operators.{went, halted, executed}}
+use Rattle.ps_steps.specs.{declared.{halt.{Cause.Cause, MachineError.{MachineError, TheVariants.{Halt, Memory}}}, paint.PagePaint.PagePaint}, Tokens.{SimpleToken, MachineToken, simple_token, TokenAt, NoToken, passed}, State.{State, first_state}, Operators.{went, halted, executed}}
 
 -- where a run stands: the tokens of procedures that are still to be executed, the state, and the text that is left,
 -- which begins with no blank and no comment
-pub record Place : Type 0 where
-  pub pending : List Simple
+pub record RunState : Type 0 where
+  pub pending : List SimpleToken
   pub state : State
   pub text : List ℕ
 
 -- before a text
-abbrev pub at : State → List ℕ → Place
-at m s = record { pending = []; state = m; text = passed false s }
+abbrev pub state_before : State → List ℕ → RunState
+state_before m s = record { pending = []; state = m; text = passed false s }
 
 -- the next token, and the place behind it
-pub data NextToken : Place → Token → Place → Type 0 where
-  from_pending : (t : Simple) (ts : List Simple) (m : State) (s : List ℕ) → NextToken (record { pending = t ∷ ts; state = m; text = s }) (simple_token t) (record { pending = ts; state = m; text = s })
-  from_text : (m : State) (s rest : List ℕ) (t : Token) → TokenAt s t rest → NextToken (record { pending = []; state = m; text = s }) t (at m rest)
+pub data NextToken : RunState → MachineToken → RunState → Type 0 where
+  from_pending : (t : SimpleToken) (ts : List SimpleToken) (m : State) (s : List ℕ) → NextToken (record { pending = t ∷ ts; state = m; text = s }) (simple_token t) (record { pending = ts; state = m; text = s })
+  from_text : (m : State) (s rest : List ℕ) (t : MachineToken) → TokenAt s t rest → NextToken (record { pending = []; state = m; text = s }) t (state_before m rest)
 
 -- a token was executed
-abbrev pub behind : List Simple → State → Place → Place
-behind body m p = record { pending = body ++ p.pending; state = m; text = p.text }
+abbrev pub state_after : List SimpleToken → State → RunState → RunState
+state_after body m p = record { pending = body ++ p.pending; state = m; text = p.text }
 
-pub record Step (p q : Place) : Type 0 where
-  pub token : Token
-  pub rest : Place
-  pub body : List Simple
+pub record Step (p q : RunState) : Type 0 where
+  pub token : MachineToken
+  pub rest : RunState
+  pub body : List SimpleToken
   pub state : State
   pub next : NextToken p token rest
   pub went : executed token p.state ≡ went body state
-  pub is : q ≡ behind body state rest
+  pub is : q ≡ state_after body state rest
 
 -- so many tokens are executed from one place to another
-pub data Steps : ℕ → Place → Place → Type 0 where
-  here : (p : Place) → Steps zero p p
-  step : (n : ℕ) (p q r : Place) → Step p q → Steps n q r → Steps (suc n) p r
+pub data TakesSteps : ℕ → RunState → RunState → Type 0 where
+  here : (p : RunState) → TakesSteps zero p p
+  step : (n : ℕ) (p q r : RunState) → Step p q → TakesSteps n q r → TakesSteps (suc n) p r
 
 -- nothing is left to execute
-pub record Ended (p : Place) : Type 0 where
+pub record Ended (p : RunState) : Type 0 where
   pub calls : p.pending ≡ []
   pub text : p.text ≡ []
 
 -- the bytes begin no token
-pub record Unreadable (p : Place) (cause : Cause) : Type 0 where
+pub record Unreadable (p : RunState) (cause : Cause) : Type 0 where
   pub calls : p.pending ≡ []
   pub some : p.text ≡ [] → ⊥
   pub none : NoToken p.text cause
 
 -- there is a token
-pub record Ready (p : Place) : Type 0 where
-  pub token : Token
-  pub rest : Place
+pub record Ready (p : RunState) : Type 0 where
+  pub token : MachineToken
+  pub rest : RunState
   pub next : NextToken p token rest
 
 -- the next token can't be executed
-pub record Stuck (p : Place) (cause : Cause) : Type 0 where
-  pub token : Token
-  pub rest : Place
+pub record Stuck (p : RunState) (cause : Cause) : Type 0 where
+  pub token : MachineToken
+  pub rest : RunState
   pub next : NextToken p token rest
   pub halts : executed token p.state ≡ halted cause
 
 -- the run ends in its text's end
 pub record Paints (text : List ℕ) (budget : ℕ) (pages : List PagePaint) : Type 0 where
   pub count : ℕ
-  pub last : Place
+  pub last : RunState
   pub within : count ≤ budget
-  pub run : Steps count (at first_state text) last
+  pub run : TakesSteps count (state_before first_state text) last
   pub ended : Ended last
   pub painted : last.state.pages ≡ pages
 
 -- why a run may not go on: the bytes begin no token; or the budget is used up; or the token can't be executed
-pub data Cannot (budget count : ℕ) (p : Place) : Cause → Type 0 where
+pub data Cannot (budget count : ℕ) (p : RunState) : Cause → Type 0 where
   unreadable : (cause : Cause) → Unreadable p cause → Cannot budget count p cause
   used_up : count ≡ budget → Ready p → Cannot budget count p Cause.Budget
   stuck : (cause : Cause) → count < budget → Stuck p cause → Cannot budget count p cause
 
 pub record Halts (text : List ℕ) (budget token : ℕ) (cause : Cause) : Type 0 where
-  pub last : Place
+  pub last : RunState
   pub within : token ≤ budget
-  pub run : Steps token (at first_state text) last
+  pub run : TakesSteps token (state_before first_state text) last
   pub halted : Cannot budget token last cause
 
 -- what an error says; Memory says nothing

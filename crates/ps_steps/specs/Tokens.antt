@@ -7,13 +7,13 @@
 use Prim.Native.Char.{code}
 use Rattle.std.specs.{Prelude.{◌≡◌, ℕ, ℤ, pos, neg_ℤ, ◌-◌, ◌≤◌, Bool, true, false, ◌&&◌, ◌||◌, not, ◌==◌, IsTrue, if◌then◌else◌, List, [], ◌∷◌, ◌++◌, length, take, drop, codes, Option, Some, None}, List.{list_all, flat_map}, Str.Parse.digits_value}
 use Rattle.{mus_units.specs.Bytes.{is_digit, is_letter}, ps_text.specs.{Fields.shown, Range.is_shown}, ps_steps.specs.{Near.is_near, Near.is_near_hundredths, declared.halt.Cause.Cause}}
-pub use Rattle.ps_steps.specs.{declared.token.Simple.Simple, declared.token.Token.Token}
-pub use Rattle.ps_steps.specs.declared.token.Simple.TheVariants.{Whole as whole_token, Pointed as pointed_token, Far as far_token, Words as words_token, Label as label_token, Name as name_token, Font as font_token}
-pub use Rattle.ps_steps.specs.declared.token.Token.TheVariants.{Simple as simple_token, Procedure as procedure_token}
+pub use Rattle.ps_steps.specs.{declared.token.SimpleToken.SimpleToken, declared.token.MachineToken.MachineToken}
+pub use Rattle.ps_steps.specs.declared.token.SimpleToken.TheVariants.{Whole as whole_token, Pointed as pointed_token, Far as far_token, Words as words_token, Label as label_token, Name as name_token, Font as font_token}
+pub use Rattle.ps_steps.specs.declared.token.MachineToken.TheVariants.{Simple as simple_token, Procedure as procedure_token}
 
 -- space, tab, CR and LF
-abbrev pub is_blank : ℕ → Bool
-is_blank b = (b == code " ") || (b == code "\t") || (b == code "\r") || (b == code "\n")
+abbrev pub is_white_space : ℕ → Bool
+is_white_space b = (b == code " ") || (b == code "\t") || (b == code "\r") || (b == code "\n")
 
 -- ( ) { } / and %
 abbrev pub is_delimiter : ℕ → Bool
@@ -21,17 +21,17 @@ is_delimiter b = (b == code "(") || (b == code ")") || (b == code "{") || (b == 
 
 -- a byte of a word
 abbrev pub is_regular : ℕ → Bool
-is_regular b = not (is_blank b || is_delimiter b)
+is_regular b = not (is_white_space b || is_delimiter b)
 
 -- blanks are passed over, and a % begins a comment
 abbrev pub is_skipped : ℕ → Bool
-is_skipped b = is_blank b || (b == code "%")
+is_skipped b = is_white_space b || (b == code "%")
 
 -- a text without the blanks and comments at its front; the flag says that it begins within a comment, which ends before the next LF
 abbrev pub passed : Bool → List ℕ → List ℕ
 passed inside [] = []
 passed true (b ∷ s) = elim (b == code "\n") [ true ↦ passed false s | false ↦ passed true s ]
-passed false (b ∷ s) = elim (is_blank b) [ true ↦ passed false s | false ↦ elim (b == code "%") [ true ↦ passed true s | false ↦ b ∷ s ] ]
+passed false (b ∷ s) = elim (is_white_space b) [ true ↦ passed false s | false ↦ elim (b == code "%") [ true ↦ passed true s | false ↦ b ∷ s ] ]
 
 -- the line that makes the font, one token
 abbrev pub font_line : List ℕ
@@ -66,10 +66,10 @@ abbrev pub without_point : List ℕ → List ℕ
 without_point w = take (length w - 3) w ++ drop (length w - 2) w
 
 -- a number past 2^60 in size is far, and what it is doesn't matter
-abbrev pub whole_number : ℤ → Simple
+abbrev pub whole_number : ℤ → SimpleToken
 whole_number z = if is_near z then whole_token z else far_token
 
-abbrev pub pointed_number : ℤ → Simple
+abbrev pub pointed_number : ℤ → SimpleToken
 pointed_number z = if is_near_hundredths z then pointed_token z else far_token
 
 abbrev pub has_minus : List ℕ → Bool
@@ -77,18 +77,18 @@ has_minus [] = false
 has_minus (b ∷ w) = b == code "-"
 
 -- the number that an optional minus and digits write
-abbrev pub number_of : List ℕ → ℤ
-number_of w = if has_minus w then neg_ℤ (pos (digits_value 10 (unsigned w))) else pos (digits_value 10 (unsigned w))
+abbrev pub number_written : List ℕ → ℤ
+number_written w = if has_minus w then neg_ℤ (pos (digits_value 10 (unsigned w))) else pos (digits_value 10 (unsigned w))
 
 -- in hundredths, where it has a point
-abbrev pub hundredths_of : List ℕ → ℤ
-hundredths_of w = if has_minus w then neg_ℤ (pos (digits_value 10 (without_point (unsigned w)))) else pos (digits_value 10 (without_point (unsigned w)))
+abbrev pub hundredths_written : List ℕ → ℤ
+hundredths_written w = if has_minus w then neg_ℤ (pos (digits_value 10 (without_point (unsigned w)))) else pos (digits_value 10 (without_point (unsigned w)))
 
 -- the token that a word is
-abbrev pub word_token : List ℕ → Option Simple
+abbrev pub word_token : List ℕ → Option SimpleToken
 word_token w =
-    if is_whole w then Some (whole_number (number_of w))
-    else if is_pointed w then Some (pointed_number (hundredths_of w))
+    if is_whole w then Some (whole_number (number_written w))
+    else if is_pointed w then Some (pointed_number (hundredths_written w))
     else if is_name w then Some (name_token w)
     else None
 
@@ -109,7 +109,7 @@ pub record IsString (s words rest : List ℕ) : Type 0 where
   pub spelled : s ≡ flat_map shown words ++ code ")" ∷ rest
 
 -- all bytes to the end are the beginning of some string
-pub record IsOpen (s : List ℕ) : Type 0 where
+pub record IsOpenString (s : List ℕ) : Type 0 where
   pub words : List ℕ
   pub first : ℕ
   pub more : List ℕ
@@ -118,7 +118,7 @@ pub record IsOpen (s : List ℕ) : Type 0 where
 
 -- what stands at the front
 pub data Read : Type 0 where
-  found : (t : Simple) (rest : List ℕ) → Read
+  found : (t : SimpleToken) (rest : List ℕ) → Read
   opening : (rest : List ℕ) → Read
   closing : (rest : List ℕ) → Read
   unread : (cause : Cause) → Read
@@ -132,30 +132,30 @@ pub data Front (s : List ℕ) : Read → Type 0 where
   label_front : (t w rest : List ℕ) → s ≡ code "/" ∷ t → ((r : List ℕ) → IsFont s r → ⊥) → IsWord t w rest → is_name w ≡ true → Front s (found (label_token w) rest)
   no_label : (t : List ℕ) → s ≡ code "/" ∷ t → ((r : List ℕ) → IsFont s r → ⊥) → ((w rest : List ℕ) → IsWord t w rest → is_name w ≡ true → ⊥) → Front s (unread Cause.BadToken)
   string_front : (t words rest : List ℕ) → s ≡ code "(" ∷ t → IsString t words rest → Front s (found (words_token words) rest)
-  open_string : (t : List ℕ) → s ≡ code "(" ∷ t → IsOpen t → Front s (unread Cause.Unclosed)
-  no_string : (t : List ℕ) → s ≡ code "(" ∷ t → ((words rest : List ℕ) → IsString t words rest → ⊥) → (IsOpen t → ⊥) → Front s (unread Cause.BadToken)
+  open_string : (t : List ℕ) → s ≡ code "(" ∷ t → IsOpenString t → Front s (unread Cause.Unclosed)
+  no_string : (t : List ℕ) → s ≡ code "(" ∷ t → ((words rest : List ℕ) → IsString t words rest → ⊥) → (IsOpenString t → ⊥) → Front s (unread Cause.BadToken)
   opening_front : (rest : List ℕ) → s ≡ code "{" ∷ rest → Front s (opening rest)
   closing_front : (rest : List ℕ) → s ≡ code "}" ∷ rest → Front s (closing rest)
   stray : (rest : List ℕ) → s ≡ code ")" ∷ rest → Front s (unread Cause.BadToken)
-  word_front : (w rest : List ℕ) (t : Simple) → IsWord s w rest → word_token w ≡ Some t → Front s (found t rest)
+  word_front : (w rest : List ℕ) (t : SimpleToken) → IsWord s w rest → word_token w ≡ Some t → Front s (found t rest)
   no_word : (w rest : List ℕ) → IsWord s w rest → word_token w ≡ None → Front s (unread Cause.BadToken)
 
 -- the tokens of a procedure, from behind its `{`, and what stands behind its `}`
-pub data Body : List ℕ → List Simple → List ℕ → Type 0 where
+pub data Body : List ℕ → List SimpleToken → List ℕ → Type 0 where
   closes : (s rest : List ℕ) → Front (passed false s) (closing rest) → Body s [] rest
-  goes_on : (s r rest : List ℕ) (t : Simple) (ts : List Simple) → Front (passed false s) (found t r) → Body r ts rest → Body s (t ∷ ts) rest
+  goes_on : (s r rest : List ℕ) (t : SimpleToken) (ts : List SimpleToken) → Front (passed false s) (found t r) → Body r ts rest → Body s (t ∷ ts) rest
 
 -- why it is none
 pub data NoBody : List ℕ → Cause → Type 0 where
   unclosed : (s : List ℕ) → passed false s ≡ [] → NoBody s Cause.Unclosed
   nested : (s rest : List ℕ) → Front (passed false s) (opening rest) → NoBody s Cause.BadToken
   unread_within : (s : List ℕ) (cause : Cause) → Front (passed false s) (unread cause) → NoBody s cause
-  later : (s r : List ℕ) (t : Simple) (cause : Cause) → Front (passed false s) (found t r) → NoBody r cause → NoBody s cause
+  later : (s r : List ℕ) (t : SimpleToken) (cause : Cause) → Front (passed false s) (found t r) → NoBody r cause → NoBody s cause
 
 -- a token stands at the front, and rest behind it
-pub data TokenAt (s : List ℕ) : Token → List ℕ → Type 0 where
-  simple_at : (t : Simple) (rest : List ℕ) → Front s (found t rest) → TokenAt s (simple_token t) rest
-  procedure_at : (r rest : List ℕ) (ts : List Simple) → Front s (opening r) → Body r ts rest → TokenAt s (procedure_token ts) rest
+pub data TokenAt (s : List ℕ) : MachineToken → List ℕ → Type 0 where
+  simple_at : (t : SimpleToken) (rest : List ℕ) → Front s (found t rest) → TokenAt s (simple_token t) rest
+  procedure_at : (r rest : List ℕ) (ts : List SimpleToken) → Front s (opening r) → Body r ts rest → TokenAt s (procedure_token ts) rest
 
 -- none does
 pub data NoToken (s : List ℕ) : Cause → Type 0 where

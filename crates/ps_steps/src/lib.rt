@@ -12,5 +12,5 @@ pub mod value;
 pub use graphics::Graphics;
 pub use halt::{Cause, MachineError};
 pub use paint::{PagePaint, Paint, Seg};
-pub use token::{Hundredths, Number, Simple, Token};
-pub use value::{Procedure, Value, Words};
+pub use token::{Hundredths, Number, SimpleToken, MachineToken};
+pub use value::{Procedure, Operand, StringBytes};

@@ -118,7 +118,7 @@ impl Hundredths {
 
 /// A token that may stand in a procedure. A number past 2^60 in size is far, whatever it is.
 #[derive(Drop)]
-pub enum Simple {
+pub enum SimpleToken {
     /// A whole number.
     Whole(Number),
     /// A number with a point and two digits behind it.
@@ -138,7 +138,7 @@ pub enum Simple {
 /// A token: one that may stand in a procedure, or a procedure from its `{` to
 /// its `}`, with the tokens in it.
 #[derive(Drop)]
-pub enum Token {
-    Simple(Simple),
-    Procedure(Row<Simple>),
+pub enum MachineToken {
+    Simple(SimpleToken),
+    Procedure(Row<SimpleToken>),
 }

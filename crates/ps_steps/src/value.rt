@@ -3,16 +3,16 @@
 
 ghost use Rattle.std.specs.Prelude.{◌≡◌};
 
-use crate::token::{Hundredths, Number, Simple};
+use crate::token::{Hundredths, Number, SimpleToken};
 use std::marker::Model;
 
 /// The bytes of a string or of a name.
 #[derive(Drop)]
-pub struct Words<'a> {
+pub struct StringBytes<'a> {
     bytes: &'a [u8],
 }
 
-impl<'a> Model for Words<'a> {
+impl<'a> Model for StringBytes<'a> {
     ghost use Rattle.std.specs.Prelude.{List, ℕ};
 
     ghost Value = { List ℕ };
@@ -20,12 +20,12 @@ impl<'a> Model for Words<'a> {
     ghost view = { λ w. w.bytes.now };
 }
 
-impl<'a> Words<'a> {
+impl<'a> StringBytes<'a> {
     /// These bytes.
-    pub fn new(bytes: &'a [u8]) -> Words<'a>
+    pub fn new(bytes: &'a [u8]) -> StringBytes<'a>
         ensures { result ≡ bytes.now }
     {
-        Words { bytes }
+        StringBytes { bytes }
     }
 
     /// All of them.
@@ -39,28 +39,28 @@ impl<'a> Words<'a> {
 /// The tokens of a procedure.
 #[derive(Drop)]
 pub struct Procedure<'a> {
-    tokens: &'a [Simple],
+    tokens: &'a [SimpleToken],
 }
 
 impl<'a> Model for Procedure<'a> {
     ghost use Rattle.std.specs.Prelude.{List};
-    ghost use Rattle.ps_steps.specs.declared.token.Simple.{Simple};
+    ghost use Rattle.ps_steps.specs.declared.token.SimpleToken.{SimpleToken};
 
-    ghost Value = { List Simple };
+    ghost Value = { List SimpleToken };
 
     ghost view = { λ p. p.tokens.now };
 }
 
 impl<'a> Procedure<'a> {
     /// These tokens.
-    pub fn new(tokens: &'a [Simple]) -> Procedure<'a>
+    pub fn new(tokens: &'a [SimpleToken]) -> Procedure<'a>
         ensures { result ≡ tokens.now }
     {
         Procedure { tokens }
     }
 
     /// All of them.
-    pub fn as_slice(&self) -> &'a [Simple]
+    pub fn as_slice(&self) -> &'a [SimpleToken]
         ensures { result.now ≡ self.now }
     {
         self.tokens
@@ -69,11 +69,11 @@ impl<'a> Procedure<'a> {
 
 /// A value on the stack. Font is the font of the words, with its size.
 #[derive(Drop)]
-pub enum Value<'a> {
+pub enum Operand<'a> {
     Whole(Number),
     Pointed(Hundredths),
-    Words(Words<'a>),
-    Label(Words<'a>),
+    Words(StringBytes<'a>),
+    Label(StringBytes<'a>),
     Body(Procedure<'a>),
     Font(i64),
 }

@@ -2,7 +2,7 @@
 use Rattle.std.{proofs.{Common.{Result, Ok, Err, IfOk, cond, int_div, ◌<◌, ◌≤◌, ◌^◌, suc, ◌≡◌, refl, sym, ◌∙◌, subst, ℕ, ℤ, pos, negsuc, ◌+ℤ◌, ◌-ℤ◌, ◌≤ℤ◌, Bool, true, false, not, ◌&&◌, List, [], ◌∷◌, ◌++◌, append_assoc, length, codes, Option, Some, None, IsTrue, arith, lit≤}, lemmas.{Int.ints, Fmt.decimal_is_IsNumeral, Bool.{not-true, and_parts}}}, specs.{Fmt.{decimal, signed_decimal}, Str.{Parse.AllDigits, bytes_eq}, Int.RustNames.FitsSigned, List.{list_all, AllByRecursion, flat_map}}}
 use lib.Signed.{mag}
 use mir.Syntax.{w64}
-use Rattle.ps_text.{specs.{Fields.{shown, in_parentheses}, declared.marks.PageMark.PageMark, Names.{size_name, way_name}, Range.{IsNumber, IsOffset, IsPageMark, is_shown}, Line.{mark_line, glyph_line, stem_line, beam_line, arc_line, words_line, points, ends_of, quarter}, Scanning.is_field, Reading.{is_small, glyph_named, glyph_at, glyph_from, words_at, words_from, stem_at, stem_from, offset_from, beam_from, arc_from, mark_from}}, proofs.Taken.numbers_cons}
+use Rattle.ps_text.{specs.{Fields.{shown, in_parentheses}, declared.marks.PageMark.PageMark, Names.{size_name, way_name}, Range.{IsNumber, IsOffset, IsPageMark, is_shown}, Line.{mark_line, glyph_line, stem_line, beam_line, arc_line, words_line, points, ends_of, quarter}, Scanning.is_field_byte, Reading.{is_small, glyph_named, glyph_at, glyph_from, words_at, words_from, stem_at, stem_from, offset_from, beam_from, arc_from, mark_from}}, proofs.Taken.numbers_cons}
 use Rattle.{mus_units.specs.{declared.glyph.Glyph.Glyph, declared.glyph.Size.Size, declared.glyph.Way.Way}, glyph_paths.specs.{Names.glyph_name, Names.glyphs_in_order, Procedure.numbers}}
 
 pub small_low : (z : ℤ) → is_small z ≡ true → negsuc 2147483647 ≤ℤ z
@@ -155,11 +155,11 @@ wordless_numbers y (PageMark.Arc x1 x2 from to bulge) h =
     let outer : IsNumber (x2 -ℤ quarter x1 x2) = record { low = omega (arith, ints, q.1, h.stretch.first.low); high = omega (arith, ints, q.0, h.stretch.last.high) } in
     (inner, (h.left.above, (outer, (h.right.above, (h.stretch.last, (h.right.point, (h.stretch.first, (h.left.point, tt))))))))
 
-glyph_is_field : (g : Glyph) → list_all is_field (glyph_name g) ≡ true
+glyph_is_field : (g : Glyph) → list_all is_field_byte (glyph_name g) ≡ true
 glyph_is_field Glyph.Hb = refl
 glyph_is_field _ = refl
 
-name_is_field : (m : PageMark) → list_all is_field (mark_name m) ≡ true
+name_is_field : (m : PageMark) → list_all is_field_byte (mark_name m) ≡ true
 name_is_field (PageMark.Glyph glyph x dx dy) = glyph_is_field glyph
 name_is_field (PageMark.Words Size.Small x dx dy words) = refl
 name_is_field (PageMark.Beam Way.Up x1 x2 from to) = refl
@@ -187,7 +187,7 @@ wordless_open y m rest w h e = numbers_open (mark_numbers y m) (mark_name m) res
 
 -- what is found behind an opening parenthesis
 pub found_words : (y : ℤ) (line rest : List ℕ) (o : Option PageMark) → line ≡ 40 ∷ rest
-    → ((words : List ℕ) (zs : List ℤ) (name : List ℕ) → IsTrue (list_all is_shown words) → AllByRecursion IsNumber zs → list_all is_field name ≡ true
+    → ((words : List ℕ) (zs : List ℤ) (name : List ℕ) → IsTrue (list_all is_shown words) → AllByRecursion IsNumber zs → list_all is_field_byte name ≡ true
     → rest ≡ flat_map shown words ++ 41 ∷ 32 ∷ (numbers zs ++ name) → o ≡ words_from words zs name) → (m : PageMark) → IsPageMark y m → mark_line y m ≡ line → o ≡ Some m
 found_words y line rest o is reads (PageMark.Words size x dx dy words) h e =
     let all = wordless_numbers y (PageMark.Words size x dx dy words) h in
@@ -197,7 +197,7 @@ found_words y line rest o is reads m h e = absurd (wordless_open y m rest tt h (
 
 -- what is found in another line
 pub found_wordless : (y : ℤ) (line rest : List ℕ) (first : ℕ) (o : Option PageMark) → line ≡ first ∷ rest → (first ≡ 40 → ⊥)
-    → ((zs : List ℤ) (name : List ℕ) → AllByRecursion IsNumber zs → list_all is_field name ≡ true → line ≡ numbers zs ++ name → o ≡ mark_from y zs name)
+    → ((zs : List ℤ) (name : List ℕ) → AllByRecursion IsNumber zs → list_all is_field_byte name ≡ true → line ≡ numbers zs ++ name → o ≡ mark_from y zs name)
     → (m : PageMark) → IsPageMark y m → mark_line y m ≡ line → o ≡ Some m
 found_wordless y line rest first o is not reads m h e =
     let w = is_wordless y m first rest not (e ∙ is) in reads (mark_numbers y m) (mark_name m) (wordless_numbers y m h) (name_is_field m) (sym e ∙ wordless_line y m w) ∙ wordless_found y m w h

@@ -84,8 +84,8 @@ unfoldable pub body_text : Page → List ℕ
 body_text p = items_text p.items ++ closing
 
 -- page k, from 1
-unfoldable pub page_text : ℕ → Page → List ℕ
-page_text k p = heading_text k ++ items_text p.items ++ closing
+unfoldable pub document_page : ℕ → Page → List ℕ
+document_page k p = heading_text k ++ items_text p.items ++ closing
 
 -- the line that tells how many pages there are
 unfoldable pub count_line : ℕ → List ℕ
@@ -96,9 +96,9 @@ unfoldable pub trailer : ℕ → List ℕ
 trailer n = codes "%%Trailer\n" ++ count_line n ++ codes "\n%%EOF\n"
 
 unfoldable pub document : Sheet → List ℕ
-document s = prolog s.frame ++ numbered page_text 1 s.pages ++ trailer (length s.pages)
+document s = prolog s.frame ++ numbered document_page 1 s.pages ++ trailer (length s.pages)
 
 -- a sheet spells a text
-pub record Spells (s : Sheet) (text : List ℕ) : Type 0 where
+pub record SpellsSheet (s : Sheet) (text : List ℕ) : Type 0 where
   pub good : IsSheet s
   pub spelled : document s ≡ text

@@ -8,7 +8,7 @@ pub record IsNumber (z : ℤ) : Type 0 where
   pub high : z ≤ℤ pos 1099511627776
 
 -- within 2^41 of 0: a number of a page, or one moved by an offset
-pub record IsNear (z : ℤ) : Type 0 where
+pub record IsNearNumber (z : ℤ) : Type 0 where
   pub low : negsuc 2199023255551 ≤ℤ z
   pub high : z ≤ℤ pos 2199023255552
 
@@ -28,7 +28,7 @@ pub record IsWords (words : List ℕ) : Type 0 where
   pub few : length words ≤ 60
 
 -- a glyph or words at x, with offsets, on a staff at y
-pub record IsPlaced (y x dx dy : ℤ) : Type 0 where
+pub record IsPlacedMark (y x dx dy : ℤ) : Type 0 where
   pub base : IsNumber y
   pub anchor : IsNumber x
   pub across : IsOffset dx
@@ -36,11 +36,11 @@ pub record IsPlaced (y x dx dy : ℤ) : Type 0 where
 
 -- a stem at dx from x, between two heights above y
 pub record IsStem (y x dx from to : ℤ) : Type 0 where
-  pub start : IsPlaced y x dx from
+  pub start : IsPlacedMark y x dx from
   pub end : IsOffset to
 
 -- an end of a beam or an arc: a point at a height above y, and one so far above that
-pub record IsEnd (y height rise : ℤ) : Type 0 where
+pub record IsArcEnd (y height rise : ℤ) : Type 0 where
   pub offset : IsOffset height
   pub point : IsNumber (y +ℤ height)
   pub above : IsNumber ((y +ℤ height) +ℤ rise)
@@ -56,13 +56,13 @@ pub record IsSpan (y x1 x2 from to rise : ℤ) : Type 0 where
   pub base : IsNumber y
   pub stretch : IsStretch x1 x2
   pub rises : IsOffset rise
-  pub left : IsEnd y from rise
-  pub right : IsEnd y to rise
+  pub left : IsArcEnd y from rise
+  pub right : IsArcEnd y to rise
 
 -- a mark that may stand on a staff at y; a beam is 250 thick
 abbrev pub IsPageMark : ℤ → PageMark → Type 0
-IsPageMark y (PageMark.Glyph glyph x dx dy) = IsPlaced y x dx dy
-IsPageMark y (PageMark.Words size x dx dy words) = IsPlaced y x dx dy × IsWords words
+IsPageMark y (PageMark.Glyph glyph x dx dy) = IsPlacedMark y x dx dy
+IsPageMark y (PageMark.Words size x dx dy words) = IsPlacedMark y x dx dy × IsWords words
 IsPageMark y (PageMark.Stem x dx from to) = IsStem y x dx from to
 IsPageMark y (PageMark.Beam way x1 x2 from to) = IsSpan y x1 x2 from to (pos 250)
 IsPageMark y (PageMark.Arc x1 x2 from to bulge) = IsSpan y x1 x2 from to bulge
@@ -81,7 +81,7 @@ IsJoined (s ∷ []) = ⊤
 IsJoined (s ∷ t ∷ rest) = IsNumber (s.y +ℤ pos 2000)
 
 -- a system of the measures a to b - 1, on at least one staff
-pub record IsSystem (a b : ℕ) (staves : List Staff) : Type 0 where
+pub record IsSystemItem (a b : ℕ) (staves : List Staff) : Type 0 where
   pub rising : a < b
   pub last : b < 2 ^ 32
   pub some : 1 ≤ length staves
@@ -101,7 +101,7 @@ pub record IsOrdinal (k : ℕ) : Type 0 where
 abbrev pub IsItem : Item → Type 0
 IsItem (Item.Tune ordinal) = IsOrdinal ordinal
 IsItem (Item.Title x y size words) = IsTitle x y words
-IsItem (Item.System a b staves) = IsSystem a b staves
+IsItem (Item.System a b staves) = IsSystemItem a b staves
 
 -- whether a title may stand directly after an item: not after a system
 abbrev pub IsAfter : Item → Item → Type 0

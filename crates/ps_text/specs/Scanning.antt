@@ -3,8 +3,8 @@ use Rattle.std.specs.{Prelude.{◌≡◌, ℕ, ℤ, ◌/◌, ◌%◌, ◌≤◌,
 use Rattle.{glyph_paths.specs.Characters.{digit, space}, ps_text.specs.Range.{IsNumber}}
 
 -- a byte that is no space
-abbrev pub is_field : ℕ → Bool
-is_field b = not (b == space)
+abbrev pub is_field_byte : ℕ → Bool
+is_field_byte b = not (b == space)
 
 -- a text begins with a number of a page and a space
 pub record ReadsNumber (z : ℤ) (rest bytes : List ℕ) : Type 0 where

@@ -1,5 +1,5 @@
 ghost use Rattle.std.specs.{Prelude.◌≡◌, Prelude.◌+ℤ◌, Prelude.◌↔◌, Prelude.◌≤◌, Prelude.IsTrue, List.list_all};
-ghost use Rattle.ps_text.specs.Range.{IsNear, IsNumber, IsOffset, IsWords, IsEnd, IsPlaced, IsStem, IsStretch, IsSpan, is_shown};
+ghost use Rattle.ps_text.specs.Range.{IsNearNumber, IsNumber, IsOffset, IsWords, IsArcEnd, IsPlacedMark, IsStem, IsStretch, IsSpan, is_shown};
 
 const LARGEST: i64 = 1_099_511_627_776;
 
@@ -59,7 +59,7 @@ fn are_offsets(dx: i64, dy: i64) -> bool
 
 /// A number of a page moved by one or two offsets.
 pub fn moved(z: i64, by: i64) -> i64
-    requires from { IsNear z }
+    requires from { IsNearNumber z }
     requires by { IsOffset by }
     ensures { result ≡ z +ℤ by }
 {
@@ -82,7 +82,7 @@ fn are_points(y: i64, height: i64, rise: i64) -> bool
 fn is_end(y: i64, height: i64, rise: i64) -> bool
     requires base { IsNumber y }
     requires rise { IsOffset rise }
-    ensures { IsTrue result ↔ IsEnd y height rise }
+    ensures { IsTrue result ↔ IsArcEnd y height rise }
 {
     is_offset(height) && are_points(y, height, rise)
 }
@@ -91,7 +91,7 @@ fn is_end(y: i64, height: i64, rise: i64) -> bool
 fn are_ends(y: i64, from: i64, to: i64, rise: i64) -> bool
     requires base { IsNumber y }
     requires rise { IsOffset rise }
-    ensures { IsTrue result ↔ (IsEnd y from rise × IsEnd y to rise) }
+    ensures { IsTrue result ↔ (IsArcEnd y from rise × IsArcEnd y to rise) }
 {
     is_end(y, from, rise) && is_end(y, to, rise)
 }
@@ -121,14 +121,14 @@ pub fn is_span(y: i64, x1: i64, x2: i64, from: i64, to: i64, rise: i64) -> bool
 
 /// Whether a glyph or words at `x`, with offsets, may stand on a staff at `y`.
 pub fn is_placed(y: i64, x: i64, dx: i64, dy: i64) -> bool
-    ensures { IsTrue result ↔ IsPlaced y x dx dy }
+    ensures { IsTrue result ↔ IsPlacedMark y x dx dy }
 {
     are_page_numbers(y, x) && are_offsets(dx, dy)
 }
 
 /// Whether words at `x`, with offsets, may stand on a staff at `y`.
 pub fn is_words_mark(y: i64, x: i64, dx: i64, dy: i64, words: &[u8]) -> bool
-    ensures { IsTrue result ↔ (IsPlaced y x dx dy × IsWords words.now) }
+    ensures { IsTrue result ↔ (IsPlacedMark y x dx dy × IsWords words.now) }
 {
     is_placed(y, x, dx, dy) && can_show(words)
 }

@@ -1,6 +1,6 @@
 ghost use Rattle.std.specs.{Prelude.{◌≡◌, ◌≤◌, ◌++◌, ◌∷◌, ◌-ℤ◌, ◌≤ℤ◌, pos, negsuc, ℕ, ℤ, List, Some, true, if◌then◌else◌, IfOk, IsTrue, MatchOption, length, ◌==◌, ◌↔◌}, List.{AllByRecursion, flat_map, list_all}, Str.bytes_eq};
 ghost use Rattle.glyph_paths.specs.{Characters.close_parenthesis, Characters.space, Names.glyph_name, Procedure.numbers};
-ghost use Rattle.ps_text.specs.{declared.marks.PageMark.PageMark, Fields.shown, Line.mark_line, Range.{IsNumber, IsPageMark, is_shown}, Scanning.is_field, Reading.{is_small, glyph_named, glyph_at, glyph_from, words_at, size_named, words_from, stem_at, stem_from, offset_from, beam_at, beam_from, arc_at, arc_from, mark_from}};
+ghost use Rattle.ps_text.specs.{declared.marks.PageMark.PageMark, Fields.shown, Line.mark_line, Range.{IsNumber, IsPageMark, is_shown}, Scanning.is_field_byte, Reading.{is_small, glyph_named, glyph_at, glyph_from, words_at, size_named, words_from, stem_at, stem_from, offset_from, beam_at, beam_from, arc_at, arc_from, mark_from}};
 
 use crate::marks::PageMark;
 use crate::scanning::take_numbers;
@@ -242,7 +242,7 @@ fn mark_from(y: i64, zs: &[i64], name: &[u8]) -> Option<PageMark>
 
 /// The mark that a line without words may be.
 fn mark_without_words(alloc: Global, line: &[u8], y: i64) -> Result<Option<PageMark>, Memory>
-    ensures { IfOk result (λ o. (zs : List ℤ) (name : List ℕ) → AllByRecursion IsNumber zs → list_all is_field name ≡ true → line.now ≡ numbers zs ++ name → o ≡ mark_from y zs name) }
+    ensures { IfOk result (λ o. (zs : List ℤ) (name : List ℕ) → AllByRecursion IsNumber zs → list_all is_field_byte name ≡ true → line.now ≡ numbers zs ++ name → o ≡ mark_from y zs name) }
 {
     let (zs, name) = take_numbers(alloc, line)?;
     Ok(mark_from(y, zs.as_slice(), name))
@@ -250,7 +250,7 @@ fn mark_without_words(alloc: Global, line: &[u8], y: i64) -> Result<Option<PageM
 
 /// The mark that a line may be of which this stands behind the opening parenthesis.
 fn mark_of_words(alloc: Global, line: &[u8]) -> Result<Option<PageMark>, Memory>
-    ensures { IfOk result (λ o. (words : List ℕ) (zs : List ℤ) (name : List ℕ) → IsTrue (list_all is_shown words) → AllByRecursion IsNumber zs → list_all is_field name ≡ true
+    ensures { IfOk result (λ o. (words : List ℕ) (zs : List ℤ) (name : List ℕ) → IsTrue (list_all is_shown words) → AllByRecursion IsNumber zs → list_all is_field_byte name ≡ true
         → line.now ≡ flat_map shown words ++ close_parenthesis ∷ space ∷ (numbers zs ++ name) → o ≡ words_from words zs name) }
 {
     let (text, rest) = take_words(alloc, line)?;

@@ -1,12 +1,12 @@
 ghost use Rattle.std.specs.{Prelude.{◌≡◌, ℕ, ℤ, ◌<◌, ◌≤◌, ◌++◌, List, Some, None, IfOk, IfSome, IsNone, IsSomeAnd, length, true}, Fmt.signed_decimal, List.{AllByRecursion, prefix_len, list_all}};
-ghost use Rattle.{glyph_paths.specs.Procedure.{numbers}, ps_text.specs.{Range.IsNumber, Scanning.is_field, Scanning.ReadsNumber}};
+ghost use Rattle.{glyph_paths.specs.Procedure.{numbers}, ps_text.specs.{Range.IsNumber, Scanning.is_field_byte, Scanning.ReadsNumber}};
 
 use mus_units::{Memory, Row};
 use std::alloc::Global;
 
 /// How many bytes stand before the first space.
 fn field_len(bytes: &[u8]) -> usize
-    ensures value { result ≡ prefix_len is_field bytes.now }
+    ensures value { result ≡ prefix_len is_field_byte bytes.now }
     ensures bound { result ≤ length bytes.now }
 {
     bytes.iter().take_while(|b| **b != b' ').count()
@@ -29,7 +29,7 @@ fn parsed(bytes: &[u8]) -> Option<i64>
 pub fn take_number(bytes: &[u8]) -> Option<(i64, &[u8])>
     ensures shorter { IfSome result (λ r. length r.1.now < length bytes.now) }
     ensures reads { (z : ℤ) (rest : List ℕ) → ReadsNumber z rest bytes.now → IsSomeAnd result (λ r. (r.0 ≡ z) × (r.1.now ≡ rest)) }
-    ensures last { list_all is_field bytes.now ≡ true → IsNone result }
+    ensures last { list_all is_field_byte bytes.now ≡ true → IsNone result }
 {
     let (front, rest) = bytes.split_at(field_len(bytes));
     match rest {
@@ -43,7 +43,7 @@ pub fn take_number(bytes: &[u8]) -> Option<(i64, &[u8])>
 
 /// The numbers at the front of these bytes, each with a space after it, and what follows them.
 pub fn take_numbers(alloc: Global, bytes: &[u8]) -> Result<(Row<i64>, &[u8]), Memory>
-    ensures { IfOk result (λ r. (zs : List ℤ) (name : List ℕ) → AllByRecursion IsNumber zs → list_all is_field name ≡ true → bytes.now ≡ numbers zs ++ name → (r.0 ≡ zs) × (r.1.now ≡ name)) }
+    ensures { IfOk result (λ r. (zs : List ℤ) (name : List ℕ) → AllByRecursion IsNumber zs → list_all is_field_byte name ≡ true → bytes.now ≡ numbers zs ++ name → (r.0 ≡ zs) × (r.1.now ≡ name)) }
 {
     let mut zs = Row::new(alloc);
     let mut rest = bytes;

@@ -1,6 +1,6 @@
 -- A text begins with one token at most, and where none stands there is one cause.
 use Rattle.std.{proofs.{Common.{◌≡◌, ℕ, true, false, cond, ◌==◌, append_assoc, List, [], ◌∷◌, ◌++◌, drop, Option, Some, None, refl, sym, subst, ◌∙◌, ap, arith}, lemmas.{Bool.{Decides.nat_tests, and_parts}, List.append_cancel_left}}, specs.List.{list_all, flat_map}}
-use Rattle.ps_steps.specs.{declared.{halt.Cause.Cause, token.{Simple.{Simple, TheVariants.{Words as words_token, Label as label_token, Font as font_token}}, Token.{Token, TheVariants.{Simple as simple_token, Procedure as procedure_token}}}}, Tokens.{Read, found, opening, closing, unread, Front, font_front, label_front, no_label, string_front, open_string, no_string, opening_front, closing_front, stray, word_front, no_word, IsWord, IsString, IsOpen, IsFont, font_line, Body, closes, goes_on, NoBody, unclosed, nested, unread_within, later, TokenAt, simple_at, procedure_at, NoToken, unread_at, closing_at, no_body, is_regular, is_name, word_token, passed}}
+use Rattle.ps_steps.specs.{declared.{halt.Cause.Cause, token.{SimpleToken.{SimpleToken, TheVariants.{Words as words_token, Label as label_token, Font as font_token}}, MachineToken.{MachineToken, TheVariants.{Simple as simple_token, Procedure as procedure_token}}}}, Tokens.{Read, found, opening, closing, unread, Front, font_front, label_front, no_label, string_front, open_string, no_string, opening_front, closing_front, stray, word_front, no_word, IsWord, IsString, IsOpenString, IsFont, font_line, Body, closes, goes_on, NoBody, unclosed, nested, unread_within, later, TokenAt, simple_at, procedure_at, NoToken, unread_at, closing_at, no_body, is_regular, is_name, word_token, passed}}
 use Rattle.{ps_text.specs.Fields.{shown}, ps_tokens.{specs.OneToken.BeginsInOneWay, proofs.Fronts.one_run, proofs.Strings.one_string, proofs.Strings.one_words}}
 
 -- what stands behind a slash, behind a parenthesis, and at a byte of a word
@@ -11,11 +11,11 @@ data Slashed (s t : List ℕ) : Read → Type 0 where
 
 data Parted (t : List ℕ) : Read → Type 0 where
   as_string : (words rest : List ℕ) → IsString t words rest → Parted t (found (words_token words) rest)
-  as_open : IsOpen t → Parted t (unread Cause.Unclosed)
-  as_broken : ((words rest : List ℕ) → IsString t words rest → ⊥) → (IsOpen t → ⊥) → Parted t (unread Cause.BadToken)
+  as_open : IsOpenString t → Parted t (unread Cause.Unclosed)
+  as_broken : ((words rest : List ℕ) → IsString t words rest → ⊥) → (IsOpenString t → ⊥) → Parted t (unread Cause.BadToken)
 
 data Worded (s : List ℕ) : Read → Type 0 where
-  as_word : (w rest : List ℕ) (t : Simple) → IsWord s w rest → word_token w ≡ Some t → Worded s (found t rest)
+  as_word : (w rest : List ℕ) (t : SimpleToken) → IsWord s w rest → word_token w ≡ Some t → Worded s (found t rest)
   as_no_word : (w rest : List ℕ) → IsWord s w rest → word_token w ≡ None → Worded s (unread Cause.BadToken)
 
 nil_cons : {A : Type 0} (xs : List A) (x : A) (ys : List A) → xs ++ x ∷ ys ≡ [] → ⊥
@@ -23,7 +23,7 @@ nil_cons [] x ys e = cc
 nil_cons (z ∷ xs) x ys e = cc
 
 -- where a string stands, the text isn't the beginning of one that doesn't end
-closed : (t words rest : List ℕ) → IsString t words rest → IsOpen t → ⊥
+closed : (t words rest : List ℕ) → IsString t words rest → IsOpenString t → ⊥
 closed t words rest a o =
     let e : flat_map shown words ++ 41 ∷ (rest ++ o.first ∷ o.more) ≡ flat_map shown o.words ++ 41 ∷ [] =
     sym (append_assoc (flat_map shown words) (41 ∷ rest) (o.first ∷ o.more)) ∙ (ap (λ x. x ++ o.first ∷ o.more) (sym a.spelled) ∙ o.spelled) in
@@ -54,14 +54,14 @@ one_parted t _ _ (as_broken n m) (as_string w r i) = absurd (n w r i)
 one_parted t _ _ (as_broken n m) (as_open o) = absurd (m o)
 one_parted t _ _ (as_broken n m) (as_broken p q) = refl
 
-some_none : (o : Option Simple) (t : Simple) → o ≡ Some t → o ≡ None → ⊥
+some_none : (o : Option SimpleToken) (t : SimpleToken) → o ≡ Some t → o ≡ None → ⊥
 some_none o t e f = cc
 
 one_worded : (s : List ℕ) (x y : Read) → Worded s x → Worded s y → x ≡ y
 one_worded s _ _ (as_word w r t i e) (as_word v q u j f) =
     let z = one_word s w r v q i j in let same : t ≡ u = some_same t u (sym e ∙ (ap word_token z.0 ∙ f)) in ap (λ x. found x r) same ∙ ap (found u) z.1
   where
-    some_same : (t u : Simple) → Some t ≡ Some u → t ≡ u
+    some_same : (t u : SimpleToken) → Some t ≡ Some u → t ≡ u
     some_same t u e = cc
 one_worded s _ _ (as_word w r t i e) (as_no_word v q j f) = absurd (some_none (word_token w) t e (ap word_token (one_word s w r v q i j).0 ∙ f))
 one_worded s _ _ (as_no_word w r i e) (as_word v q u j f) = absurd (some_none (word_token v) u f (sym (ap word_token (one_word s w r v q i j).0) ∙ e))
@@ -160,7 +160,7 @@ front_some s x f e = elim (kind_of s x f) [
   | k_word p ↦ apart (class s) 0 1 (worded_class s x p) (ap class e ∙ class_nil) refl
 ]
 
-found_same : (t u : Simple) (r q : List ℕ) → found t r ≡ found u q → (t ≡ u) × (r ≡ q)
+found_same : (t u : SimpleToken) (r q : List ℕ) → found t r ≡ found u q → (t ≡ u) × (r ≡ q)
 found_same t u r q e = (cc, cc)
 
 opening_same : (r q : List ℕ) → opening r ≡ opening q → r ≡ q
@@ -169,20 +169,20 @@ opening_same r q e = cc
 closing_same : (r q : List ℕ) → closing r ≡ closing q → r ≡ q
 closing_same r q e = cc
 
-one_body : (s : List ℕ) (ts us : List Simple) (r q : List ℕ) → Body s ts r → Body s us q → (ts ≡ us) × (r ≡ q)
+one_body : (s : List ℕ) (ts us : List SimpleToken) (r q : List ℕ) → Body s ts r → Body s us q → (ts ≡ us) × (r ≡ q)
 one_body _ _ _ _ _ (closes s r f) (closes _ q g) = (refl, closing_same r q (one_front (passed false s) _ _ f g))
 one_body _ _ _ _ _ (closes s r f) (goes_on _ q _ u us g b) = let e : closing r ≡ found u q = one_front (passed false s) _ _ f g in cc
 one_body _ _ _ _ _ (goes_on s r _ t ts f a) (closes _ q g) = let e : found t r ≡ closing q = one_front (passed false s) _ _ f g in cc
 one_body _ _ _ _ _ (goes_on s r l t ts f a) (goes_on _ q m u us g b) =
     let z = found_same t u r q (one_front (passed false s) _ _ f g) in let y = one_body q ts us l m (subst (λ w. Body w ts l) z.1 a) b in (ap (λ w. w ∷ ts) z.0 ∙ ap (λ w. u ∷ w) y.0, y.1)
 
-one_token : (s r q : List ℕ) (t u : Token) → TokenAt s t r → TokenAt s u q → (t ≡ u) × (r ≡ q)
+one_token : (s r q : List ℕ) (t u : MachineToken) → TokenAt s t r → TokenAt s u q → (t ≡ u) × (r ≡ q)
 one_token s _ _ _ _ (simple_at t r f) (simple_at u q g) = let z = found_same t u r q (one_front s _ _ f g) in (ap simple_token z.0, z.1)
 one_token s _ _ _ _ (simple_at t r f) (procedure_at o q us g b) = let e : found t r ≡ opening o = one_front s _ _ f g in cc
 one_token s _ _ _ _ (procedure_at o r ts f a) (simple_at u q g) = let e : opening o ≡ found u q = one_front s _ _ f g in cc
 one_token s _ _ _ _ (procedure_at o r ts f a) (procedure_at p q us g b) = let y = one_body p ts us r q (subst (λ w. Body w ts r) (opening_same o p (one_front s _ _ f g)) a) b in (ap procedure_token y.0, y.1)
 
-body_or_none : (s : List ℕ) (ts : List Simple) (r : List ℕ) (cause : Cause) → Body s ts r → NoBody s cause → ⊥
+body_or_none : (s : List ℕ) (ts : List SimpleToken) (r : List ℕ) (cause : Cause) → Body s ts r → NoBody s cause → ⊥
 body_or_none _ _ _ _ (closes s r f) (unclosed _ e) = front_some (passed false s) (closing r) f e
 body_or_none _ _ _ _ (closes s r f) (nested _ q g) = let e : closing r ≡ opening q = one_front (passed false s) _ _ f g in cc
 body_or_none _ _ _ _ (closes s r f) (unread_within _ cause g) = let e : closing r ≡ unread cause = one_front (passed false s) _ _ f g in cc
@@ -192,7 +192,7 @@ body_or_none _ _ _ _ (goes_on s r l t ts f a) (nested _ q g) = let e : found t r
 body_or_none _ _ _ _ (goes_on s r l t ts f a) (unread_within _ cause g) = let e : found t r ≡ unread cause = one_front (passed false s) _ _ f g in cc
 body_or_none _ _ _ _ (goes_on s r l t ts f a) (later _ q u cause g n) = let z = found_same t u r q (one_front (passed false s) _ _ f g) in body_or_none q ts l cause (subst (λ w. Body w ts l) z.1 a) n
 
-not_both : (s r : List ℕ) (t : Token) (cause : Cause) → TokenAt s t r → NoToken s cause → ⊥
+not_both : (s r : List ℕ) (t : MachineToken) (cause : Cause) → TokenAt s t r → NoToken s cause → ⊥
 not_both s _ _ _ (simple_at t r f) (unread_at cause g) = let e : found t r ≡ unread cause = one_front s _ _ f g in cc
 not_both s _ _ _ (simple_at t r f) (closing_at q g) = let e : found t r ≡ closing q = one_front s _ _ f g in cc
 not_both s _ _ _ (simple_at t r f) (no_body q cause g n) = let e : found t r ≡ opening q = one_front s _ _ f g in cc
@@ -200,7 +200,7 @@ not_both s _ _ _ (procedure_at o r ts f a) (unread_at cause g) = let e : opening
 not_both s _ _ _ (procedure_at o r ts f a) (closing_at q g) = let e : opening o ≡ closing q = one_front s _ _ f g in cc
 not_both s _ _ _ (procedure_at o r ts f a) (no_body q cause g n) = body_or_none q ts r cause (subst (λ w. Body w ts r) (opening_same o q (one_front s _ _ f g)) a) n
 
-some_text : (s r : List ℕ) (t : Token) → TokenAt s t r → s ≡ [] → ⊥
+some_text : (s r : List ℕ) (t : MachineToken) → TokenAt s t r → s ≡ [] → ⊥
 some_text s _ _ (simple_at t r f) e = front_some s _ f e
 some_text s _ _ (procedure_at o r ts f a) e = front_some s _ f e
 

@@ -1,6 +1,6 @@
 -- How the reading of a string goes on, and how it ends.
 use Rattle.std.{proofs.{Common.{◌≡◌, ℕ, List, [], ◌∷◌, ◌++◌, append_assoc, append-nil, true, refl, sym, ◌∙◌, ap, IsTrue}, lemmas.{List.{flat_map_more, Folds.list_all-append}, Bool.and_parts}}, specs.List.{flat_map, list_all}}
-use Rattle.{ps_text.specs.{Fields.shown, Range.is_shown}, ps_steps.specs.Tokens.{IsString, IsOpen}, ps_tokens.{specs.{Spelling.IsCut, Spelling.IsBroken}, proofs.{Strings.one_byte, Strings.not_close}}}
+use Rattle.{ps_text.specs.{Fields.shown, Range.is_shown}, ps_steps.specs.Tokens.{IsString, IsOpenString}, ps_tokens.{specs.{Spelling.IsCut, Spelling.IsBroken}, proofs.{Strings.one_byte, Strings.not_close}}}
 
 -- words were read, and the rest is left
 pub record WordsStage (bytes words rest : List ℕ) : Type 0 where
@@ -13,7 +13,7 @@ all_more words b h k = list_all-append is_shown words (b ∷ []) ∙ rw (h, k) r
 pub words_string : (bytes words rest after : List ℕ) → WordsStage bytes words rest → rest ≡ 41 ∷ after → IsString bytes words after
 words_string bytes words rest after s e = record { good = s.good; spelled = s.spelled ∙ ap (λ x. flat_map shown words ++ x) e }
 
-pub words_open : (bytes words rest : List ℕ) → WordsStage bytes words rest → IsCut rest → IsOpen bytes
+pub words_open : (bytes words rest : List ℕ) → WordsStage bytes words rest → IsCut rest → IsOpenString bytes
 words_open bytes words rest s c = record {
   words = words ++ c.byte ∷ [];
   first = c.first;
@@ -38,6 +38,6 @@ no_words (x ∷ w) (c ∷ v) rest t q a b i e =
 pub words_no_string : (bytes words rest : List ℕ) → WordsStage bytes words rest → IsBroken rest → (v q : List ℕ) → IsString bytes v q → ⊥
 words_no_string bytes words rest s i v q j = no_words words v rest [] q s.good j.good i (ap (λ x. flat_map shown words ++ x) (append-nil rest) ∙ (sym s.spelled ∙ j.spelled))
 
-pub words_no_open : (bytes words rest : List ℕ) → WordsStage bytes words rest → IsBroken rest → IsOpen bytes → ⊥
+pub words_no_open : (bytes words rest : List ℕ) → WordsStage bytes words rest → IsBroken rest → IsOpenString bytes → ⊥
 words_no_open bytes words rest s i o =
     no_words words o.words rest (o.first ∷ o.more) [] s.good o.good i (sym (append_assoc (flat_map shown words) rest (o.first ∷ o.more)) ∙ (ap (λ x. x ++ o.first ∷ o.more) (sym s.spelled) ∙ o.spelled))

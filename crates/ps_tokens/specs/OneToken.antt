@@ -1,9 +1,9 @@
 -- A text begins with one token at most, and where none stands there is one cause.
 use Rattle.std.specs.Prelude.{◌≡◌, ℕ, List, []}
-use Rattle.ps_steps.specs.{declared.halt.Cause.Cause, declared.token.Token.Token, Tokens.TokenAt, Tokens.NoToken}
+use Rattle.ps_steps.specs.{declared.halt.Cause.Cause, declared.token.MachineToken.MachineToken, Tokens.TokenAt, Tokens.NoToken}
 
 pub record BeginsInOneWay : Type 0 where
-  pub token : (s r q : List ℕ) (t u : Token) → TokenAt s t r → TokenAt s u q → (t ≡ u) × (r ≡ q)
+  pub token : (s r q : List ℕ) (t u : MachineToken) → TokenAt s t r → TokenAt s u q → (t ≡ u) × (r ≡ q)
   pub cause : (s : List ℕ) (c d : Cause) → NoToken s c → NoToken s d → c ≡ d
-  pub either : (s r : List ℕ) (t : Token) (cause : Cause) → TokenAt s t r → NoToken s cause → ⊥
-  pub some : (s r : List ℕ) (t : Token) → TokenAt s t r → s ≡ [] → ⊥
+  pub either : (s r : List ℕ) (t : MachineToken) (cause : Cause) → TokenAt s t r → NoToken s cause → ⊥
+  pub some : (s r : List ℕ) (t : MachineToken) → TokenAt s t r → s ≡ [] → ⊥

@@ -1,10 +1,10 @@
 -- All tokens of a text, one after another, up to its end or to the first bytes that begin no token. Blanks and comments
 -- are passed over behind each token; the text begins with none.
 use Rattle.std.specs.Prelude.{◌≡◌, ℕ, false, List, [], ◌∷◌, Option, Some, None}
-use Rattle.ps_steps.specs.{declared.halt.Cause.Cause, Tokens.TokenAt, Tokens.NoToken, Tokens.passed, declared.token.Token.Token}
+use Rattle.ps_steps.specs.{declared.halt.Cause.Cause, Tokens.TokenAt, Tokens.NoToken, Tokens.passed, declared.token.MachineToken.MachineToken}
 
 -- the tokens of a text, and why there is no further one; none where the text ends there
-pub data IsRead : List ℕ → List Token → Option Cause → Type 0 where
-  all_read : IsRead [] [] None
-  fault_read : (s : List ℕ) (cause : Cause) → (s ≡ [] → ⊥) → NoToken s cause → IsRead s [] (Some cause)
-  token_read : (s rest : List ℕ) (t : Token) (ts : List Token) (fault : Option Cause) → TokenAt s t rest → IsRead (passed false rest) ts fault → IsRead s (t ∷ ts) fault
+pub data AreTokensOf : List ℕ → List MachineToken → Option Cause → Type 0 where
+  all_read : AreTokensOf [] [] None
+  fault_read : (s : List ℕ) (cause : Cause) → (s ≡ [] → ⊥) → NoToken s cause → AreTokensOf s [] (Some cause)
+  token_read : (s rest : List ℕ) (t : MachineToken) (ts : List MachineToken) (fault : Option Cause) → TokenAt s t rest → AreTokensOf (passed false rest) ts fault → AreTokensOf s (t ∷ ts) fault

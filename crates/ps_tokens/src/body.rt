@@ -3,23 +3,23 @@
 ghost use Rattle.std.specs.Prelude.{◌≡◌, ◌≤◌, length, false, IfOk};
 ghost use Rattle.{ps_steps.specs.Tokens.{begins, is_skipped}, ps_tokens.specs.Reading.{IsBodyRead, IsTokenRead}};
 
-use crate::front::{Read, front};
+use crate::front::{TokenStart, front};
 use crate::scan::skip;
 use mus_units::{Memory, Row};
-use ps_steps::{Cause, Simple, Token};
+use ps_steps::{Cause, SimpleToken, MachineToken};
 use std::alloc::Global;
 
 /// The tokens of a procedure and what stands behind its end, or why it is none.
 #[derive(Drop)]
 pub enum BodyRead<'a> {
-    Whole(Row<Simple>, &'a [u8]),
+    Whole(Row<SimpleToken>, &'a [u8]),
     Not(Cause),
 }
 
 /// A token and what stands behind it, or why there is none.
 #[derive(Drop)]
 pub enum TokenRead<'a> {
-    Found(Token, &'a [u8]),
+    Found(MachineToken, &'a [u8]),
     Not(Cause),
 }
 
@@ -35,13 +35,13 @@ pub fn body(alloc: Global, bytes: &[u8]) -> Result<BodyRead<'_>, Memory>
             return Ok(BodyRead::Not(Cause::Unclosed));
         }
         match front(alloc, here)? {
-            Read::Found(t, after) => {
+            TokenStart::Found(t, after) => {
                 tokens.push(t)?;
                 rest = after;
             }
-            Read::Closing(after) => return Ok(BodyRead::Whole(tokens, after)),
-            Read::Opening(_) => return Ok(BodyRead::Not(Cause::BadToken)),
-            Read::Unread(cause) => return Ok(BodyRead::Not(cause)),
+            TokenStart::Closing(after) => return Ok(BodyRead::Whole(tokens, after)),
+            TokenStart::Opening(_) => return Ok(BodyRead::Not(Cause::BadToken)),
+            TokenStart::Unread(cause) => return Ok(BodyRead::Not(cause)),
         }
     }
 }
@@ -53,12 +53,12 @@ pub fn token(alloc: Global, bytes: &[u8]) -> Result<TokenRead<'_>, Memory>
     ensures { IfOk result (IsTokenRead bytes.now) }
 {
     match front(alloc, bytes)? {
-        Read::Found(t, after) => Ok(TokenRead::Found(Token::Simple(t), after)),
-        Read::Closing(_) => Ok(TokenRead::Not(Cause::Unclosed)),
-        Read::Unread(cause) => Ok(TokenRead::Not(cause)),
-        Read::Opening(after) => match body(alloc, after)? {
+        TokenStart::Found(t, after) => Ok(TokenRead::Found(MachineToken::Simple(t), after)),
+        TokenStart::Closing(_) => Ok(TokenRead::Not(Cause::Unclosed)),
+        TokenStart::Unread(cause) => Ok(TokenRead::Not(cause)),
+        TokenStart::Opening(after) => match body(alloc, after)? {
             BodyRead::Whole(tokens, behind) => {
-                Ok(TokenRead::Found(Token::Procedure(tokens), behind))
+                Ok(TokenRead::Found(MachineToken::Procedure(tokens), behind))
             }
             BodyRead::Not(cause) => Ok(TokenRead::Not(cause)),
         },

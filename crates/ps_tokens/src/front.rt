@@ -7,13 +7,13 @@ use crate::number::word_token;
 use crate::scan::{is_name, word};
 use crate::string::string;
 use mus_units::{Memory, Text};
-use ps_steps::{Cause, Simple};
+use ps_steps::{Cause, SimpleToken};
 use std::alloc::Global;
 
 /// What stands at the front of some bytes.
 #[derive(Drop)]
-pub enum Read<'a> {
-    Found(Simple, &'a [u8]),
+pub enum TokenStart<'a> {
+    Found(SimpleToken, &'a [u8]),
     Opening(&'a [u8]),
     Closing(&'a [u8]),
     Unread(Cause),
@@ -35,45 +35,45 @@ fn strip<'a>(prefix: &[u8], bytes: &'a [u8]) -> Option<&'a [u8]>
 }
 
 /// What stands at a slash.
-fn slash<'a>(alloc: Global, bytes: &'a [u8], after: &'a [u8]) -> Result<Read<'a>, Memory>
+fn slash<'a>(alloc: Global, bytes: &'a [u8], after: &'a [u8]) -> Result<TokenStart<'a>, Memory>
     requires { bytes.now ≡ 47 ∷ after.now }
     ensures { IfOk result (λ r. Front bytes.now (read_of r)) }
 {
     if let Some(rest) = strip(font_bytes(), bytes) {
-        return Ok(Read::Found(Simple::Font, rest));
+        return Ok(TokenStart::Found(SimpleToken::Font, rest));
     }
     let (name, rest) = word(after);
     if !is_name(name) {
-        return Ok(Read::Unread(Cause::BadToken));
+        return Ok(TokenStart::Unread(Cause::BadToken));
     }
-    Ok(Read::Found(Simple::Label(Text::from_slice(alloc, name)?), rest))
+    Ok(TokenStart::Found(SimpleToken::Label(Text::from_slice(alloc, name)?), rest))
 }
 
 /// What stands at a byte of a word.
-fn regular(alloc: Global, bytes: &[u8]) -> Result<Read<'_>, Memory>
+fn regular(alloc: Global, bytes: &[u8]) -> Result<TokenStart<'_>, Memory>
     requires { begins is_regular bytes.now ≡ true }
     ensures { IfOk result (λ r. Front bytes.now (read_of r)) }
 {
     let (w, rest) = word(bytes);
     match word_token(alloc, w)? {
-        Some(t) => Ok(Read::Found(t, rest)),
-        None => Ok(Read::Unread(Cause::BadToken)),
+        Some(t) => Ok(TokenStart::Found(t, rest)),
+        None => Ok(TokenStart::Unread(Cause::BadToken)),
     }
 }
 
 /// What stands at the front of bytes that begin with no blank and no comment.
-pub fn front(alloc: Global, bytes: &[u8]) -> Result<Read<'_>, Memory>
+pub fn front(alloc: Global, bytes: &[u8]) -> Result<TokenStart<'_>, Memory>
     requires some { 1 ≤ length bytes.now }
     requires starts { begins is_skipped bytes.now ≡ false }
     ensures { IfOk result (λ r. Front bytes.now (read_of r)) }
 {
     match bytes.split_first() {
-        None => Ok(Read::Unread(Cause::BadToken)),
+        None => Ok(TokenStart::Unread(Cause::BadToken)),
         Some((b, rest)) => match *b {
             b'(' => string(alloc, rest),
-            b')' => Ok(Read::Unread(Cause::BadToken)),
-            b'{' => Ok(Read::Opening(rest)),
-            b'}' => Ok(Read::Closing(rest)),
+            b')' => Ok(TokenStart::Unread(Cause::BadToken)),
+            b'{' => Ok(TokenStart::Opening(rest)),
+            b'}' => Ok(TokenStart::Closing(rest)),
             b'/' => slash(alloc, bytes, rest),
             _ => regular(alloc, bytes),
         },

@@ -1,11 +1,11 @@
 //! Words that are numbers and names.
 
 ghost use Rattle.std.specs.{Prelude.{◌≡◌, ◌≤◌, ◌^◌, ◌+ℤ◌, ℤ, pos, true, false, List, ℕ, MatchOption, IfOk, Some, None, if◌then◌else◌}, Str.Parse.digits_value};
-ghost use Rattle.ps_steps.specs.Tokens.{some_digits, has_minus, unsigned, is_whole, is_pointed, number_of, hundredths_of, whole_number, pointed_number, without_point, word_token};
+ghost use Rattle.ps_steps.specs.Tokens.{some_digits, has_minus, unsigned, is_whole, is_pointed, number_written, hundredths_written, whole_number, pointed_number, without_point, word_token};
 
 use crate::scan::{is_name, is_pointed, is_whole, unsigned};
 use mus_units::{Memory, Text};
-use ps_steps::{Hundredths, Number, Simple};
+use ps_steps::{Hundredths, Number, SimpleToken};
 use std::alloc::Global;
 
 /// The number that digits write; none where it is past 128 bits.
@@ -28,19 +28,19 @@ fn has_minus(w: &[u8]) -> bool
     }
 }
 
-fn whole(value: i128) -> Simple
+fn whole(value: i128) -> SimpleToken
     ensures { result ≡ whole_number value }
 {
     match Number::new(value) {
-        Some(number) => Simple::Whole(number),
-        None => Simple::Far,
+        Some(number) => SimpleToken::Whole(number),
+        None => SimpleToken::Far,
     }
 }
 
 /// The number of a word that is a whole number.
-fn whole_token(w: &[u8]) -> Simple
+fn whole_token(w: &[u8]) -> SimpleToken
     requires { is_whole w.now ≡ true }
-    ensures { result ≡ whole_number (number_of w.now) }
+    ensures { result ≡ whole_number (number_written w.now) }
 {
     match digits_number(unsigned(w)) {
         Some(v) if v <= 1 << 60 => {
@@ -50,7 +50,7 @@ fn whole_token(w: &[u8]) -> Simple
                 whole(v as i128)
             }
         }
-        _ => Simple::Far,
+        _ => SimpleToken::Far,
     }
 }
 
@@ -64,19 +64,19 @@ fn without_point(alloc: Global, digits: &[u8]) -> Result<Text, Memory>
     Ok(text)
 }
 
-fn hundredths(count: i128) -> Simple
+fn hundredths(count: i128) -> SimpleToken
     ensures { result ≡ pointed_number count }
 {
     match Hundredths::new(count) {
-        Some(number) => Simple::Pointed(number),
-        None => Simple::Far,
+        Some(number) => SimpleToken::Pointed(number),
+        None => SimpleToken::Far,
     }
 }
 
 /// The number of a word that is a number with a point, in hundredths.
-fn pointed_token(alloc: Global, w: &[u8]) -> Result<Simple, Memory>
+fn pointed_token(alloc: Global, w: &[u8]) -> Result<SimpleToken, Memory>
     requires { is_pointed w.now ≡ true }
-    ensures { IfOk result (λ t. t ≡ pointed_number (hundredths_of w.now)) }
+    ensures { IfOk result (λ t. t ≡ pointed_number (hundredths_written w.now)) }
 {
     let digits = without_point(alloc, unsigned(w))?;
     match digits_number(digits.as_slice()) {
@@ -87,12 +87,12 @@ fn pointed_token(alloc: Global, w: &[u8]) -> Result<Simple, Memory>
                 Ok(hundredths(v as i128))
             }
         }
-        _ => Ok(Simple::Far),
+        _ => Ok(SimpleToken::Far),
     }
 }
 
 /// The token that a word is.
-pub fn word_token(alloc: Global, w: &[u8]) -> Result<Option<Simple>, Memory>
+pub fn word_token(alloc: Global, w: &[u8]) -> Result<Option<SimpleToken>, Memory>
     ensures { IfOk result (λ t. t ≡ word_token w.now) }
 {
     if is_whole(w) {
@@ -100,7 +100,7 @@ pub fn word_token(alloc: Global, w: &[u8]) -> Result<Option<Simple>, Memory>
     } else if is_pointed(w) {
         Ok(Some(pointed_token(alloc, w)?))
     } else if is_name(w) {
-        Ok(Some(Simple::Name(Text::from_slice(alloc, w)?)))
+        Ok(Some(SimpleToken::Name(Text::from_slice(alloc, w)?)))
     } else {
         Ok(None)
     }

@@ -2,12 +2,12 @@
 
 ghost use Rattle.std.specs.{Prelude.◌≡◌, Prelude.◌≤◌, Prelude.◌++◌, Prelude.◌||◌, Prelude.length, Prelude.true, Prelude.false, List.list_all, List.prefix_len};
 ghost use Rattle.mus_units.specs.Bytes.{is_digit, is_letter};
-ghost use Rattle.ps_steps.specs.Tokens.{is_blank, is_delimiter, is_regular, is_skipped, passed, begins, some_digits, unsigned, is_whole, is_fraction, is_pointed, is_name};
+ghost use Rattle.ps_steps.specs.Tokens.{is_white_space, is_delimiter, is_regular, is_skipped, passed, begins, some_digits, unsigned, is_whole, is_fraction, is_pointed, is_name};
 
 use mus_units::bytes::{is_digit, is_letter};
 
 pub fn is_blank(b: u8) -> bool
-    ensures { result ≡ is_blank b }
+    ensures { result ≡ is_white_space b }
 {
     b == b' ' || b == b'\t' || b == b'\r' || b == b'\n'
 }

@@ -3,9 +3,9 @@
 ghost use Rattle.std.specs.Prelude.{◌≡◌, ◌∷◌, ◌≤◌, true, false, IfOk};
 ghost use Rattle.{ps_text.specs.Fields.{is_special}, ps_steps.specs.Tokens.{Front}, ps_tokens.specs.{Reading.read_of, Spelling.IsSpelling, Spelling.is_bare, Spelling.is_lead, Spelling.is_octal}};
 
-use crate::front::Read;
+use crate::front::TokenStart;
 use mus_units::{Memory, Text};
-use ps_steps::{Cause, Simple};
+use ps_steps::{Cause, SimpleToken};
 use std::alloc::Global;
 
 /// What stands at the front of bytes within a string: a byte as it is spelled, the closing parenthesis,
@@ -126,7 +126,7 @@ fn read_spelling(bytes: &[u8]) -> Spelling<'_>
 }
 
 /// What stands behind a `(`.
-pub fn string(alloc: Global, bytes: &[u8]) -> Result<Read<'_>, Memory>
+pub fn string(alloc: Global, bytes: &[u8]) -> Result<TokenStart<'_>, Memory>
     ensures { IfOk result (λ r. Front (40 ∷ bytes.now) (read_of r)) }
 {
     let mut words = Text::new(alloc);
@@ -137,9 +137,9 @@ pub fn string(alloc: Global, bytes: &[u8]) -> Result<Read<'_>, Memory>
                 words.push(b)?;
                 rest = after;
             }
-            Spelling::Close(after) => return Ok(Read::Found(Simple::Words(words), after)),
-            Spelling::Cut => return Ok(Read::Unread(Cause::Unclosed)),
-            Spelling::Broken => return Ok(Read::Unread(Cause::BadToken)),
+            Spelling::Close(after) => return Ok(TokenStart::Found(SimpleToken::Words(words), after)),
+            Spelling::Cut => return Ok(TokenStart::Unread(Cause::Unclosed)),
+            Spelling::Broken => return Ok(TokenStart::Unread(Cause::BadToken)),
         }
     }
 }

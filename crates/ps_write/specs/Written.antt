@@ -3,14 +3,14 @@ use Rattle.std.specs.{Prelude.{◌≡◌, ℕ, ◌+◌, ◌^◌, ◌<◌, ◌≤
 use Rattle.{eng_io.specs.Causes.{Rose}, ps_write.specs.{declared.steps.DocError.DocError, declared.steps.DocWriter.DocWriter}}
 
 -- exactly the first bytes that the error counts went out, or, for want of memory, a front of the text
-abbrev pub WroteFront : Option (List ℕ) → Option (List ℕ) → List ℕ → DocError → Type 0
-WroteFront old new text (DocError.Write e) = Appends old new (take e.written text) × (e.written ≤ length text)
-WroteFront old new text DocError.Memory = (n : ℕ) × Appends old new (take n text) × (n ≤ length text)
+abbrev pub WrotePrefix : Option (List ℕ) → Option (List ℕ) → List ℕ → DocError → Type 0
+WrotePrefix old new text (DocError.Write e) = Appends old new (take e.written text) × (e.written ≤ length text)
+WrotePrefix old new text DocError.Memory = (n : ℕ) × Appends old new (take n text) × (n ≤ length text)
 
 -- the whole text went out, or a front of it
 abbrev pub Wrote : {T : Type 0} → Option (List ℕ) → Option (List ℕ) → List ℕ → Result T DocError → Type 0
 Wrote old new text (Ok _) = Appends old new text
-Wrote old new text (Err e) = WroteFront old new text e
+Wrote old new text (Err e) = WrotePrefix old new text e
 
 -- a write fails only where the sink's count of faults rose, and any other answer leaves the count as it was
 abbrev pub Counted : {T : Type 0} → ℕ → ℕ → Result T DocError → Type 0
@@ -28,7 +28,7 @@ FitsAfter before (Ok _) = ⊤
 FitsAfter before (Err e) = FitsError before e
 
 -- a writer that has so many pages, and a text after so many bytes
-pub record IsNext (pages before : ℕ) (text : List ℕ) (w : DocWriter) : Type 0 where
+pub record IsWriterAt (pages before : ℕ) (text : List ℕ) (w : DocWriter) : Type 0 where
   pub pages_now : w.pages ≡ pages
   pub written_now : w.written ≡ before + length text
 

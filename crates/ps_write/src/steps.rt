@@ -1,7 +1,7 @@
 ghost use Rattle.std.specs.Prelude.{◌≡◌, ◌+◌, ◌-◌, ◌^◌, ◌<◌, length, IfOk};
-ghost use Rattle.ps_text.specs.{Document.page_text, Document.trailer, Prolog.prolog, Range.IsFrame, Range.IsPage};
+ghost use Rattle.ps_text.specs.{Document.document_page, Document.trailer, Prolog.prolog, Range.IsFrame, Range.IsPage};
 ghost use Rattle.ps_write.specs.declared.steps.DocError.TheVariants as errors;
-ghost use Rattle.ps_write.specs.Written.{Wrote, Counted, FitsAfter, IsNext};
+ghost use Rattle.ps_write.specs.Written.{Wrote, Counted, FitsAfter, IsWriterAt};
 
 use eng_io::{Sink, WriteError, write_all};
 use mus_units::{Memory, Text};
@@ -57,7 +57,7 @@ pub fn begin<O: Sink>(alloc: Global, frame: &Frame, sink: &mut O) -> Result<DocW
     requires { IsFrame frame.now }
     ensures wrote { Wrote (O.taken sink.old) (O.taken sink.new) (prolog frame.now) result }
     ensures counts { Counted (O.faults sink.old) (O.faults sink.new) result }
-    ensures writer { IfOk result (λ w. IsNext 0 0 (prolog frame.now) w) }
+    ensures writer { IfOk result (λ w. IsWriterAt 0 0 (prolog frame.now) w) }
 {
     let mut text = Text::new(alloc);
     put_prolog(alloc, &mut text, frame)?;
@@ -74,10 +74,10 @@ pub fn page<O: Sink>(
 ) -> Result<DocWriter, DocError>
     requires good { IsPage p.now }
     requires few { w.pages < 2 ^ 32 - 1 }
-    ensures wrote { Wrote (O.taken sink.old) (O.taken sink.new) (page_text (w.pages + 1) p.now) result }
+    ensures wrote { Wrote (O.taken sink.old) (O.taken sink.new) (document_page (w.pages + 1) p.now) result }
     ensures counts { Counted (O.faults sink.old) (O.faults sink.new) result }
     ensures fits { FitsAfter w.written result }
-    ensures writer { IfOk result (λ v. IsNext (w.pages + 1) w.written (page_text (w.pages + 1) p.now) v) }
+    ensures writer { IfOk result (λ v. IsWriterAt (w.pages + 1) w.written (document_page (w.pages + 1) p.now) v) }
 {
     let mut text = Text::new(alloc);
     put_page(&mut text, u64::from(w.pages) + 1, p)?;

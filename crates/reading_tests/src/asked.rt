@@ -5,13 +5,13 @@ use crate::scores::{put_plainness, put_score};
 use crate::songs::{put_song, put_syllables};
 use crate::times::{put_durations, put_flats, put_keys, put_onsets};
 use crate::tunes::{Tune, crowded, tune_of};
-use case_texts::{Case, Report, number_of, put_fault};
+use case_texts::{CallCase, Report, number_of, put_fault};
 use mus_score::Score;
 use mus_transpose::moved_or_same;
 use mus_units::Memory;
 
 /// Adds the value of a call on tunes, words and arcs.
-pub(crate) fn put_asked_for(out: &mut Report, case: Case<'_>, input: &[u8]) -> Result<(), Memory> {
+pub(crate) fn put_asked_for(out: &mut Report, case: CallCase<'_>, input: &[u8]) -> Result<(), Memory> {
     match case.call {
         "pieces" => put_piece(out, case.word, case.input),
         "syllables" => put_syllables(out, input),
@@ -23,14 +23,14 @@ pub(crate) fn put_asked_for(out: &mut Report, case: Case<'_>, input: &[u8]) -> R
 }
 
 /// Adds the value of a call on the score of a tune, or the fault of the tune.
-fn put_answer_on_tune(out: &mut Report, case: Case<'_>, input: &[u8]) -> Result<(), Memory> {
+fn put_answer_on_tune(out: &mut Report, case: CallCase<'_>, input: &[u8]) -> Result<(), Memory> {
     match tune_of(out.alloc, input, case.word == "flow") {
         Ok(tune) => put_asked(out, case, &tune.score),
         Err(error) => put_fault(out, error),
     }
 }
 
-fn put_asked(out: &mut Report, case: Case<'_>, score: &Score) -> Result<(), Memory>
+fn put_asked(out: &mut Report, case: CallCase<'_>, score: &Score) -> Result<(), Memory>
     requires { IsGoodScore score.now }
 {
     match case.call {

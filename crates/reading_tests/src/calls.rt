@@ -6,14 +6,14 @@ use crate::music::{put_front, put_line_parts, put_music, put_spelling};
 use crate::papers::{put_body_of_book, put_paper_of_book};
 use crate::pitches::{put_alteration, put_height, put_key, put_laid_key, put_signature};
 use crate::units::{put_parts, put_ticks, put_value_of};
-use case_texts::{Answers, Case, Report};
+use case_texts::{Answers, CallCase, Report};
 use mus_units::Memory;
 
 /// The calls that read, and those that make a score or ask of one.
-pub(crate) struct Reading;
+pub(crate) struct ReadingCalls;
 
-impl Answers for Reading {
-    fn put_answer(&self, out: &mut Report, case: Case<'_>, input: &[u8]) -> Result<(), Memory> {
+impl Answers for ReadingCalls {
+    fn put_answer(&self, out: &mut Report, case: CallCase<'_>, input: &[u8]) -> Result<(), Memory> {
         match case.call {
             "read_music" => put_music(out, case.word, input),
             "read_front" => put_front(out, case.word, input),
@@ -25,7 +25,7 @@ impl Answers for Reading {
 }
 
 /// Adds the value of a call that reads books, fields or headers.
-fn put_lines(out: &mut Report, case: Case<'_>, input: &[u8]) -> Result<(), Memory> {
+fn put_lines(out: &mut Report, case: CallCase<'_>, input: &[u8]) -> Result<(), Memory> {
     match case.call {
         "cut_book" => put_book(out, input),
         "kind_of" => put_line_kind(out, input),
@@ -41,7 +41,7 @@ fn put_lines(out: &mut Report, case: Case<'_>, input: &[u8]) -> Result<(), Memor
 }
 
 /// Adds the value of a call on lengths, pitches and keys, or of one that makes a score or asks of one.
-fn put_value(out: &mut Report, case: Case<'_>, input: &[u8]) -> Result<(), Memory> {
+fn put_value(out: &mut Report, case: CallCase<'_>, input: &[u8]) -> Result<(), Memory> {
     match case.call {
         "value_of" => put_value_of(out, case.input),
         "parts_of" => put_parts(out, case.input),

@@ -1,5 +1,5 @@
 use crate::books::line_of;
-use abc_fields::{Breaks, Field, FieldError, KeyText, VoiceDef, read_field, read_named};
+use abc_field::{Breaks, Field, FieldError, KeyText, VoiceDef, read_field, read_named};
 use abc_lines::{FaultKind, TuneError};
 use case_texts::{
     Report, put_clef, put_fault, put_frac, put_kind, put_meter, put_signs, put_spread, put_text,

@@ -1,8 +1,8 @@
-ghost use Rattle.{abc_lines.specs.Good.{IsGoodBook}, abc_header.specs.Good.{IsGoodDefaults}};
+ghost use Rattle.{abc_lines.specs.Good.{IsGoodBook}, abc_fields.specs.Good.{IsGoodDefaults}};
 
 use crate::books::book_of;
 use crate::fields::{put_breaks, put_voice};
-use abc_header::{Defaults, Header, VoiceDef, read_defaults, read_header};
+use abc_fields::{Defaults, Header, VoiceDef, read_defaults, read_header};
 use abc_lines::{Book, Line, TuneText};
 use case_texts::{
     Report, put_clef, put_fault, put_frac, put_meter, put_signs, put_spread, put_text,

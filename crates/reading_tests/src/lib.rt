@@ -22,7 +22,7 @@ mod tokens;
 mod tunes;
 mod units;
 
-use crate::calls::Reading;
+use crate::calls::ReadingCalls;
 use case_texts::tell_tables;
 use std::io;
 use std::rt::Files;
@@ -47,5 +47,5 @@ const TABLES: [&str; 14] = [
 
 /// Tells each case of the tables.
 pub fn tell_reading<R: Files + Print + AllocGlobal>(rt: &R) -> io::Result<()> {
-    tell_tables(rt, &Reading, &TABLES)
+    tell_tables(rt, &ReadingCalls, &TABLES)
 }

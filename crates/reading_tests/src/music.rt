@@ -1,10 +1,10 @@
-ghost use Rattle.{abc_lines.specs.Good.{IsGoodLine}, abc_tokens.specs.Tokens.{IsWithin}};
+ghost use Rattle.{abc_lines.specs.Good.{IsGoodLine}, abc_music.specs.Tokens.{IsWithinLine}};
 
 use crate::books::line_of;
 use crate::tokens::put_tokens;
 use abc_lines::{Fault, Line, TuneError};
-use abc_spell::spell;
-use abc_tokens::{Behind, Place, Placed, Token, read_front, read_music, read_part, start};
+use abc_tokens::spell;
+use abc_music::{LineRest, TokenCursor, Placed, Token, read_prefix, read_music, read_part, start};
 use case_texts::{Report, number_of, put_fault};
 use mus_units::{Memory, Row, Text};
 use std::alloc::Global;
@@ -29,7 +29,7 @@ pub(crate) fn put_music(out: &mut Report, word: &str, bytes: &[u8]) -> Result<()
 
 /// Adds the tokens of a music line up to its first fault, and that fault if it has one.
 pub(crate) fn put_front(out: &mut Report, word: &str, bytes: &[u8]) -> Result<(), Memory> {
-    let front = read_front(out.alloc, &line_of(out.alloc, bytes)?, is_bang(word))?;
+    let front = read_prefix(out.alloc, &line_of(out.alloc, bytes)?, is_bang(word))?;
     put_tokens(out, front.tokens.as_slice())?;
     put_end(out, front.fault)
 }
@@ -57,14 +57,14 @@ fn put_parts(out: &mut Report, line: &Line) -> Result<(), Memory>
     let first = read_part(out.alloc, line, false, start(line))?;
     out.show(first.tokens.len())?;
     match first.behind {
-        Behind::More(place) => put_part(out, line, place),
-        Behind::End(fault) => put_end(out, fault),
+        LineRest::More(place) => put_part(out, line, place),
+        LineRest::End(fault) => put_end(out, fault),
     }
 }
 
-fn put_part(out: &mut Report, line: &Line, place: Place<'_>) -> Result<(), Memory>
+fn put_part(out: &mut Report, line: &Line, place: TokenCursor<'_>) -> Result<(), Memory>
     requires line { IsGoodLine line.now }
-    requires place { IsWithin line.now place }
+    requires place { IsWithinLine line.now place }
 {
     let part = read_part(out.alloc, line, false, place)?;
     put_tokens(out, part.tokens.as_slice())

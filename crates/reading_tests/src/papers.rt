@@ -1,7 +1,7 @@
-ghost use Rattle.{std.specs.Prelude.{IfOk}, abc_header.specs.Papers.{IsGoodPaper}};
+ghost use Rattle.{std.specs.Prelude.{IfOk}, abc_fields.specs.Papers.{IsGoodPaper}};
 
 use crate::books::book_of;
-use abc_header::{Paper, body_of, read_paper};
+use abc_fields::{Paper, body_of, read_paper};
 use case_texts::Report;
 use mus_units::Memory;
 use std::alloc::Global;

@@ -1,11 +1,11 @@
 ghost use Rattle.mus_units.specs.Good.{IsGoodKey};
 
 use crate::books::line_of;
-use abc_fields::directive::read_spread;
-use abc_fields::key::read_key;
-use abc_tokens::{Head, Placed, Token, read_front};
+use abc_field::directive::read_spread;
+use abc_field::key::read_key;
+use abc_music::{Head, Placed, Token, read_prefix};
 use case_texts::{Report, alter_name, alter_named, clef_named, letter_named, put_signs};
-use mus_pitch::{Mode, in_force, key_of, lay, signature};
+use mus_pitch::{Mode, in_force, key_of, with_signs, signature};
 use mus_units::{Key, Memory, Row, Sign, Spread, height};
 use std::alloc::Global;
 
@@ -20,7 +20,7 @@ pub(crate) fn put_height(out: &mut Report, word: &str, bytes: &[u8]) -> Result<(
 
 /// The heads of the notes of a line.
 fn heads_of(alloc: Global, bytes: &[u8]) -> Result<Row<Head>, Memory> {
-    let front = read_front(alloc, &line_of(alloc, bytes)?, false)?;
+    let front = read_prefix(alloc, &line_of(alloc, bytes)?, false)?;
     let mut heads = Row::new(alloc);
     for placed in front.tokens.as_slice() {
         if let Some(head) = head_of(placed) {
@@ -81,7 +81,7 @@ pub(crate) fn put_laid_key(out: &mut Report, sharps: &str, signs: &[u8]) -> Resu
 fn put_laid(out: &mut Report, key: &Key, adds: &[Sign]) -> Result<(), Memory>
     requires { IsGoodKey key.now }
 {
-    let laid = lay(out.alloc, key, adds)?;
+    let laid = with_signs(out.alloc, key, adds)?;
     put_signs(out, b"key", laid.signs.as_slice())
 }
 

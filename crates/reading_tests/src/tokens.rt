@@ -1,4 +1,4 @@
-use abc_tokens::{Deco, GraceChord, Head, Len, Placed, Token, WrittenChord};
+use abc_music::{Deco, GraceChord, Head, Len, Placed, Token, WrittenChord};
 use case_texts::{Report, put_bar, put_deco, put_head};
 use mus_units::{Memory, Text};
 

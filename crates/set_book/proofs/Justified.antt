@@ -1,6 +1,6 @@
 -- The columns of a system stand in one way.
 use Rattle.std.proofs.{Common.{◌≡◌, ◌∙◌, ℕ, ◌-◌, ◌*◌, ◌/◌, ◌<◌, inl, inr, ◌==◌, Bool, true, false, ℤ, pos, ◌+ℤ◌, List, length, slice_index_or, Option, refl, sym, ap, subst, arith}, lemmas.{Int.ints, Bool.cases_lt, List.ext_get_or}}
-use Rattle.{mus_score.specs.declared.score.Score.{Score}, mus_laid.specs.declared.laid.SystemMarks.{SystemMarks}, lay_columns.specs.{declared.column.Column.Column, Columns.column_reach}}
+use Rattle.{mus_score.specs.declared.score.Score.{Score}, mus_laid.specs.declared.laid.SystemMarks.{SystemMarks}, lay_reaches.specs.{declared.column.Column.Column, Columns.column_reach}}
 use Rattle.lay_springs.{specs.{declared.{margin.Placed.Placed, traits.Reach.Reach}, Place.{length_at, reach_at}, Fit.{IsEndOf, IsSet, counted, is_ragged}}, proofs.Unique.one_place}
 use Rattle.lay_tune.{specs.{Spans.{column_length, score_gaps, system_columns}, Systems.{IsJustified, IsPlaced}}, proofs.Breakings.one_force}
 

@@ -1,6 +1,6 @@
 -- A score has one layout on a width, or one reason why it has none, and not both.
 use Rattle.std.proofs.Common.{◌≡◌, ℕ, Bool, List, [], ◌∷◌, Option, refl, subst, arith}
-use Rattle.{mus_score.specs.declared.score.Score.{Score}, mus_time.specs.Onsets.{timeline_of}, mus_laid.specs.declared.laid.SystemMarks.{SystemMarks}, mus_marks.specs.Tilt.{IsTilted}}
+use Rattle.{mus_score.specs.declared.score.Score.{Score}, mus_onsets.specs.Onsets.{timeline_of}, mus_laid.specs.declared.laid.SystemMarks.{SystemMarks}, mus_marks.specs.Tilt.{IsTilted}}
 use Rattle.{lay_springs.specs.declared.margin.Placed.{Placed}, lay_pages.specs.declared.stacking.Heights.{Heights}, lay_breaks.specs.{declared.{breaking.Breaking.Breaking, costs.Span.Span}, Breaking.{IsReached, NoneLegal}, Spans.listed}}
 use Rattle.lay_tune.{specs.{declared.layout.Layout.Layout, Layout.{IsLayout, IsNoWay}, Spans.is_forced_in, Systems.{Beside, EachSpan, IsPlaced, IsSetSystem, IsStack}}, proofs.Called.{one_system, one_tilted}}
 use Rattle.set_book.proofs.{Chosen.{IsBreaking, one_breaking}, Justified.one_placed, Spanned.one_list, Stacked.{one_beside, one_stacked}}

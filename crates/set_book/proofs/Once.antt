@@ -1,11 +1,11 @@
 -- A tune has one outcome: what comes of each stage of its setting is one.
 use Rattle.std.{proofs.Common.{◌≡◌, ◌∙◌, refl, sym, ap, subst, ℕ, zero, ℤ, pos, List, [], ◌∷◌, Option, Some, None, Result, Ok, Err, inl, inr}, specs.Prelude.MatchOption}
 use Rattle.abc_lines.specs.declared.{book.{Line.Line, TuneText.TuneText}, fault.{Fault.Fault, FaultKind.FaultKind, TuneError.TuneError}}
-use Rattle.{abc_header.specs.{declared.{defaults.Defaults.Defaults, header.Header.Header}, Headers.header_fault, Papers.{height_of, width_of}}, mus_units.specs.declared.key.Key.{Key}}
+use Rattle.{abc_fields.specs.{declared.{defaults.Defaults.Defaults, header.Header.Header}, Headers.header_fault, Papers.{body_height, body_width}}, mus_units.specs.declared.key.Key.{Key}}
 use Rattle.{mus_score.specs.{declared.score.Score.Score, GoodScore.IsGoodScore}, mus_transpose.specs.Moved.{CanMove, IsMoved, moved_score}, lay_pages.specs.{declared.titles.TitleBlock.TitleBlock, Filling.first_tall}}
-use Rattle.lay_shared.{specs.{Alike.DoShare, Drawn.drawn_of, Plans.ids_of}, proofs.PlanLaws.{apart_ids, one_plan}}
+use Rattle.lay_shared.{specs.{Alike.DoShare, Drawn.drawn_of, Plans.score_ids}, proofs.PlanLaws.{apart_ids, one_plan}}
 use Rattle.{lay_tune.{specs.{declared.layout.Layout.Layout, Layout.IsLayout}, proofs.Called.{has_system, one_system}}, set_tune.specs.{Terms.{Manner, Terms}, declared.tune.SetTune.SetTune, Blocks.blocks_of}}
-use Rattle.set_tune.specs.Setting.{HasHeader, HasScore, IsDrawn, IsLaid, IsLaidTune, IsLayoutRefusal, IsMovedRefusal, IsTallRefusal, layout_fault, layout_of, of_header, of_score, of_share, of_move, no_way, too_tall}
+use Rattle.set_tune.specs.Setting.{HasHeader, HasScore, IsScoreDrawn, IsLaid, IsLaidTune, IsLayoutRefusal, IsMovedRefusal, IsTallRefusal, layout_fault, layout_of, of_header, of_score, of_share, of_move, no_way, too_tall}
 use Rattle.set_book.specs.{declared.outcome.Outcome.Outcome, Outcomes.{IsResult, IsOutcome, AreOutcomes}, Once.HaveOneOutcome}
 use Rattle.set_book.proofs.{Scores.{Writes, one_header, writes_once}, Layouts.{one_layout, one_way, no_way_laid}, Stages.{IsOnce, Then, goes_on, stops, then_once}}
 
@@ -21,13 +21,13 @@ reads_once tune defaults (Err f) (Ok k) a b = let clash = sym b.clear ∙ a in c
 reads_once tune defaults (Err f) (Err g) a b = let same = sym a ∙ b in cc
 
 -- ---- the score that is drawn, or the fault of the line of its staves
-drawn_once : (staves : Option Line) (w : Score) → IsGoodScore w → IsOnce Score (IsDrawn staves w)
+drawn_once : (staves : Option Line) (w : Score) → IsGoodScore w → IsOnce Score (IsScoreDrawn staves w)
 drawn_once None w good r q a b = a ∙ sym b
-drawn_once (Some line) w good (Ok s) (Ok t) (p, spells, share, is) (o, spelled, shared, at) = let same = one_plan (ids_of w) line.text o p (apart_ids w good) spelled spells in ap Ok (is ∙ sym (at ∙ ap (drawn_of w) same))
+drawn_once (Some line) w good (Ok s) (Ok t) (p, spells, share, is) (o, spelled, shared, at) = let same = one_plan (score_ids w) line.text o p (apart_ids w good) spelled spells in ap Ok (is ∙ sym (at ∙ ap (drawn_of w) same))
 drawn_once (Some line) w good (Ok s) (Err g) (p, spells, share, is) (inl (none, at)) = absurd (none p spells)
-drawn_once (Some line) w good (Ok s) (Err g) (p, spells, share, is) (inr (o, spelled, apart, at)) = absurd (apart (subst (DoShare w) (one_plan (ids_of w) line.text p o (apart_ids w good) spells spelled) share))
+drawn_once (Some line) w good (Ok s) (Err g) (p, spells, share, is) (inr (o, spelled, apart, at)) = absurd (apart (subst (DoShare w) (one_plan (score_ids w) line.text p o (apart_ids w good) spells spelled) share))
 drawn_once (Some line) w good (Err f) (Ok t) (inl (none, is)) (o, spelled, shared, at) = absurd (none o spelled)
-drawn_once (Some line) w good (Err f) (Ok t) (inr (p, spells, apart, is)) (o, spelled, shared, at) = absurd (apart (subst (DoShare w) (one_plan (ids_of w) line.text o p (apart_ids w good) spelled spells) shared))
+drawn_once (Some line) w good (Err f) (Ok t) (inr (p, spells, apart, is)) (o, spelled, shared, at) = absurd (apart (subst (DoShare w) (one_plan (score_ids w) line.text o p (apart_ids w good) spelled spells) shared))
 drawn_once (Some line) w good (Err f) (Err g) (inl (none, is)) (inl (other, at)) = ap Err (is ∙ sym at)
 drawn_once (Some line) w good (Err f) (Err g) (inl (none, is)) (inr (o, spelled, apart, at)) = absurd (none o spelled)
 drawn_once (Some line) w good (Err f) (Err g) (inr (p, spells, apart, is)) (inl (none, at)) = absurd (none p spells)
@@ -60,7 +60,7 @@ moves_once tune by h d (Err f) (Err g) a b = ap Err (a.1 ∙ sym b.1)
 -- what comes of a tune up to its score
 abbrev Scores : TuneText → Defaults → Manner → Result (Header × Score) Fault → Type 0
 Scores tune defaults manner =
-    Then Header (Header × Score) (Reads tune defaults) (λ h. Then Score (Header × Score) (Writes tune manner.flow h) (λ w. Then Score (Header × Score) (IsDrawn h.staves w) (λ d. Moves tune manner.by h d)))
+    Then Header (Header × Score) (Reads tune defaults) (λ h. Then Score (Header × Score) (Writes tune manner.flow h) (λ w. Then Score (Header × Score) (IsScoreDrawn h.staves w) (λ d. Moves tune manner.by h d)))
 
 scores_once : (tune : TuneText) (defaults : Defaults) (manner : Manner) → IsOnce (Header × Score) (Scores tune defaults manner)
 scores_once tune defaults manner =
@@ -119,12 +119,12 @@ fits_once tune high t (Err f) (Err g) (i, tall, is) (j, more, at) = let same = s
 -- ---- what comes of a tune
 abbrev Comes : TuneText → Terms → Result SetTune Fault → Type 0
 Comes tune terms =
-    Then (Header × Score) SetTune (Scores tune terms.defaults terms.manner) (λ p. Then SetTune SetTune (Lays tune (width_of terms.paper) p) (λ t. Fits tune (height_of terms.paper) t))
+    Then (Header × Score) SetTune (Scores tune terms.defaults terms.manner) (λ p. Then SetTune SetTune (Lays tune (body_width terms.paper) p) (λ t. Fits tune (body_height terms.paper) t))
 
 comes_once : (tune : TuneText) (terms : Terms) → IsOnce SetTune (Comes tune terms)
-comes_once tune terms = then_once _ _ _ _ (scores_once tune terms.defaults terms.manner) (λ p some. then_once _ _ _ _ (lays_once tune (width_of terms.paper) p) (λ t laid. fits_once tune (height_of terms.paper) t))
+comes_once tune terms = then_once _ _ _ _ (scores_once tune terms.defaults terms.manner) (λ p some. then_once _ _ _ _ (lays_once tune (body_width terms.paper) p) (λ t laid. fits_once tune (body_height terms.paper) t))
 
-laid_fits : (tune : TuneText) (terms : Terms) (t : SetTune) (r : Result SetTune Fault) → IsLaidTune tune terms t → Fits tune (height_of terms.paper) t r → Comes tune terms r
+laid_fits : (tune : TuneText) (terms : Terms) (t : SetTune) (r : Result SetTune Fault) → IsLaidTune tune terms t → Fits tune (body_height terms.paper) t r → Comes tune terms r
 laid_fits tune terms t r a fits =
     goes_on (t.header, t.score) r (scored tune terms.defaults terms.manner t.header t.score a.score) (goes_on t r (record { head = refl; music = refl; title = a.title; layout = a.layout }) fits)
 

@@ -1,6 +1,6 @@
 -- Text that is read part by part has one place where reading stops, and one fault there.
 use Rattle.std.{proofs.{Common.{◌≡◌, ◌∙◌, refl, sym, ap, subst, ℕ, List, [], ◌∷◌, length, Bool, true, false, Option, Some, None}, lemmas.Option.same_Some}, specs.Prelude.MatchBool}
-use Rattle.abc_notes.{specs.{declared.part.Flaw.Flaw, Parts.{IsLongest, HasNone, Leads, leads_here, leads_on, Flawed, stuck_here, stuck_later, IsFlaw, length_at_place, goes_on_length}}, proofs.PartLaws.{Reader, longest_is, none_of, at_nil}}
+use Rattle.abc_notes.{specs.{declared.part.Flaw.Flaw, Parts.{IsLongest, HasNone, LeadsByParts, leads_here, leads_on, Flawed, stuck_here, stuck_later, IsFlaw, length_at_place, goes_on_length}}, proofs.PartLaws.{Reader, longest_is, none_of, at_nil}}
 
 -- a test gives two values one meaning where each of its sides does
 pub by_test : {A B C D E : Type 0} (b : Bool) → (A → C → E) → (B → D → E) → MatchBool b A B → MatchBool b C D → E
@@ -20,16 +20,16 @@ module _ {I : Type 0} {Stands : I → List ℕ → List ℕ → Type 0} {at : Li
       let same = same_Some (part_and p x) (part_and q y) e in (ap (λ z. z.0) same, ap (λ z. z.1) same)
 
   -- the place where no part stands
-  pub one_stop : (text : List ℕ) (ps : List I) (x : List ℕ) (qs : List I) (y : List ℕ) → Leads I Stands text ps x → HasNone I Stands x → Leads I Stands text qs y → HasNone I Stands y → x ≡ y
+  pub one_stop : (text : List ℕ) (ps : List I) (x : List ℕ) (qs : List I) (y : List ℕ) → LeadsByParts I Stands text ps x → HasNone I Stands x → LeadsByParts I Stands text qs y → HasNone I Stands y → x ≡ y
   one_stop _ _ _ _ _ (leads_here _) none (leads_here _) stuck = refl
   one_stop _ _ _ _ _ (leads_here _) none (leads_on _ q y _ _ m _) stuck = absurd (none q y m.stands)
   one_stop _ _ _ _ _ (leads_on _ p x _ _ l _) none (leads_here _) stuck = absurd (stuck p x l.stands)
   one_stop _ _ _ _ _ (leads_on text p x ps end l a) none (leads_on _ q y qs other m b) stuck =
-      one_stop x ps end qs other a none (subst (λ t. Leads I Stands t qs other) (one_longest text q p y x m l).1 b) stuck
+      one_stop x ps end qs other a none (subst (λ t. LeadsByParts I Stands t qs other) (one_longest text q p y x m l).1 b) stuck
 
   module _ (is_lengthy : I → Bool) (Own : List ℕ → Flaw → Type 0) where
     -- a list of parts to its end has no fault
-    pub never_done : (text : List ℕ) (parts : List I) (before : Option ℕ) (flaw : Flaw) → Leads I Stands text parts [] → Flawed I Stands is_lengthy Own before text flaw → ⊥
+    pub never_done : (text : List ℕ) (parts : List I) (before : Option ℕ) (flaw : Flaw) → LeadsByParts I Stands text parts [] → Flawed I Stands is_lengthy Own before text flaw → ⊥
     never_done _ _ _ _ (leads_here _) (stuck_later _ _ q y _ m _) = none_at_end q y m.stands
     never_done _ _ _ _ (leads_on _ p x _ _ l _) (stuck_here _ _ _ _ none _) = none p x l.stands
     never_done _ _ _ _ (leads_on text p x ps _ l a) (stuck_later _ _ q y flaw m b) =

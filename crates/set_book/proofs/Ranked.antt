@@ -1,12 +1,12 @@
 -- There is one first of the faults of a score: of their kinds each has a rank of its own.
 use Rattle.std.proofs.{Common.{◌≡◌, ◌∙◌, refl, sym, ap, subst, ℕ, ◌<◌, List, [], ◌∷◌, ◌++◌, get_or, Bool, true, false, cond, None, arith, rules}, lemmas.{List.Elements.{All-from_recursion, All-contains}, Bool.Decides.nat_tests}}
 use Rattle.std.specs.{Prelude.{◌&&◌, not, nat_le, nat_lt, flat_map}, List.{AllByRecursion, Contains}}
-use Rattle.{abc_lines.specs.declared.fault.{Fault.Fault, FaultKind.FaultKind}, abc_header.specs.declared.header.Header.{Header}, mus_units.specs.declared.pitch.Clef.{Clef}}
-use Rattle.abc_steps.specs.{declared.{force.InForce.InForce, place.Place.Place, step.{Item.Item, Step.Step, Stood.Stood}, tuplets.Taking.Taking}, Looks.{Steps, has_left, has_right}, Places.place_at, Tuplets.{fits, or_default}}
-use Rattle.abc_faults.specs.Faults.{fault_at, fault_if, misfit_of, sounds_behind, any_grace_off, grace_faults_of, grace_faults, sound_faults, faults_of, faults_in}
-use Rattle.abc_faults.specs.{First.{rank_of, is_before, IsLeast, IsFirst}, Weights.{crowd_fault, crowd_faults_at, crowd_up_to}}
-use Rattle.{abc_words.specs.{declared.verses.Verse.Verse, Verses.{faults_from, verses_of, number_on, too_many}}, abc_items.specs.Voices.{unnamed_of}}
-use Rattle.abc_score.{specs.{declared.voices.VoiceRead.VoiceRead, Voices.voices_read, Faults.{voice_faults, voice_weights, score_faults}}, proofs.Basics.all_both}
+use Rattle.{abc_lines.specs.declared.fault.{Fault.Fault, FaultKind.FaultKind}, abc_fields.specs.declared.header.Header.{Header}, mus_units.specs.declared.pitch.Clef.{Clef}}
+use Rattle.abc_steps.specs.{declared.{force.InForce.InForce, state.VoiceState.VoiceState, step.{BodyItem.BodyItem, Step.Step, PlacedStep.PlacedStep}, tuplets.OpenTuplets.OpenTuplets}, Looks.{Steps, has_left, has_right}, Places.state_at, Tuplets.{fits, or_default}}
+use Rattle.abc_faults.specs.Faults.{step_fault, fault_if, misfit_of, sounds_behind, any_grace_off, grace_faults_of, grace_faults, sound_faults, faults_of, faults_in}
+use Rattle.abc_faults.specs.{First.{kind_rank, is_before, IsLeastFault, IsFirstInOrder}, Weights.{crowd_fault, crowd_faults_at, crowd_up_to}}
+use Rattle.{abc_words.specs.{declared.verses.Verse.Verse, Verses.{faults_from, verses_of_voice, number_on, too_many}}, abc_items.specs.Voices.{unnamed_of}}
+use Rattle.abc_score.{specs.{declared.voices.ReadVoice.ReadVoice, Voices.voices_read, Faults.{voice_faults, voice_weights, score_faults}}, proofs.Basics.all_both}
 
 -- ---- the kind of a rank
 
@@ -20,7 +20,7 @@ ranked =
 abbrev kind_at : ℕ → FaultKind
 kind_at rank = get_or ranked rank FaultKind.NoKey
 
-kind_is : (kind : FaultKind) → rank_of kind < 20 → kind ≡ kind_at (rank_of kind)
+kind_is : (kind : FaultKind) → kind_rank kind < 20 → kind ≡ kind_at (kind_rank kind)
 kind_is FaultKind.BadScore h = absurd (omega (arith, h))
 kind_is FaultKind.BadShare h = absurd (omega (arith, h))
 kind_is FaultKind.BadMove h = absurd (omega (arith, h))
@@ -30,7 +30,7 @@ kind_is kind h = refl
 
 -- ---- faults of which the rank tells the kind
 abbrev pub IsRanked : Fault → Type 0
-IsRanked fault = rank_of fault.kind < 20
+IsRanked fault = kind_rank fault.kind < 20
 
 abbrev pub AreRanked : List Fault → Type 0
 AreRanked faults = AllByRecursion IsRanked faults
@@ -39,7 +39,7 @@ each_ranked : {X : Type 0} (faults : X → List Fault) (xs : List X) → ((x : X
 each_ranked faults [] h = tt
 each_ranked faults (x ∷ xs) h = all_both IsRanked (faults x) (flat_map faults xs) (h x) (each_ranked faults xs h)
 
-if_ranked : (b : Bool) (kind : FaultKind) (at : Stood) → rank_of kind < 20 → AreRanked (fault_if b kind at)
+if_ranked : (b : Bool) (kind : FaultKind) (at : PlacedStep) → kind_rank kind < 20 → AreRanked (fault_if b kind at)
 if_ranked true kind at h = (h, tt)
 if_ranked false kind at h = tt
 
@@ -48,15 +48,15 @@ when_ranked : (b : Bool) (fault : Fault) → IsRanked fault → AreRanked (cond 
 when_ranked true fault h = (h, tt)
 when_ranked false fault h = tt
 
-misfit_ranked : (t : Taking) → rank_of (misfit_of t) < 20
-misfit_ranked (Taking.Two inner outer) = omega arith
+misfit_ranked : (t : OpenTuplets) → kind_rank (misfit_of t) < 20
+misfit_ranked (OpenTuplets.Nested inner outer) = omega arith
 misfit_ranked _ = omega arith
 
-tuplet_ranked : (b : Bool) (r : ℕ) (open_ones : Taking) (at : Stood) (behind : Steps) → AreRanked (cond b (fault_if (nat_lt (sounds_behind behind) r) FaultKind.TupletShort at) (fault_at (misfit_of open_ones) at ∷ []))
+tuplet_ranked : (b : Bool) (r : ℕ) (open_ones : OpenTuplets) (at : PlacedStep) (behind : Steps) → AreRanked (cond b (fault_if (nat_lt (sounds_behind behind) r) FaultKind.TupletShort at) (step_fault (misfit_of open_ones) at ∷ []))
 tuplet_ranked true r open_ones at behind = if_ranked (nat_lt (sounds_behind behind) r) FaultKind.TupletShort at (omega arith)
 tuplet_ranked false r open_ones at behind = (misfit_ranked open_ones, tt)
 
-grace_ranked : (clef : Clef) (at : Stood) (s : Step) → AreRanked (grace_faults_of clef at s)
+grace_ranked : (clef : Clef) (at : PlacedStep) (s : Step) → AreRanked (grace_faults_of clef at s)
 unfolding grace_faults_of
 grace_ranked clef at (Step.Grace slash body) = if_ranked (any_grace_off clef body) FaultKind.StepRange at (omega arith)
 grace_ranked clef at _ = tt
@@ -67,7 +67,7 @@ graces_ranked clef waits = each_ranked (λ s. grace_faults_of clef s s.step) wai
 both_ranked : (fs gs : List Fault) → AreRanked fs → AreRanked gs → AreRanked (fs ++ gs)
 both_ranked fs gs a b = all_both IsRanked fs gs a b
 
-step_ranked : (now : Place) (before : Steps) (at : Stood) (behind : Steps) (s : Step) → AreRanked (faults_of now before at behind s)
+step_ranked : (now : VoiceState) (before : Steps) (at : PlacedStep) (behind : Steps) (s : Step) → AreRanked (faults_of now before at behind s)
 unfolding faults_of sound_faults
 step_ranked now before at behind (Step.Sound s) = search (rules, both_ranked, if_ranked, graces_ranked) depth 12
 step_ranked now before at behind (Step.Measures seen count) = search (rules, both_ranked, if_ranked, graces_ranked) depth 12
@@ -77,23 +77,23 @@ step_ranked now before at behind _ = tt
 
 steps_ranked : (first : InForce) (before behind : Steps) → AreRanked (faults_in first before behind)
 steps_ranked first before [] = tt
-steps_ranked first before (at ∷ behind) = both_ranked _ _ (step_ranked (place_at first before) before at behind at.step) (steps_ranked first (at ∷ before) behind)
+steps_ranked first before (at ∷ behind) = both_ranked _ _ (step_ranked (state_at first before) before at behind at.step) (steps_ranked first (at ∷ before) behind)
 
 verses_ranked : (before behind : List Verse) → AreRanked (faults_from before behind)
 verses_ranked before [] = tt
 verses_ranked before (v ∷ behind) = both_ranked _ _ (when_ranked (nat_le 8 (number_on v.row before)) (too_many v.line) (omega arith)) (verses_ranked (before ++ v ∷ []) behind)
 
-voice_ranked : (unnamed : List ℕ) (items : List Item) (v : VoiceRead) → AreRanked (voice_faults unnamed items v)
-voice_ranked unnamed items v = both_ranked _ _ (steps_ranked v.first [] v.steps) (verses_ranked [] (verses_of v.start.id unnamed items))
+voice_ranked : (unnamed : List ℕ) (items : List BodyItem) (v : ReadVoice) → AreRanked (voice_faults unnamed items v)
+voice_ranked unnamed items v = both_ranked _ _ (steps_ranked v.first [] v.steps) (verses_ranked [] (verses_of_voice v.start.id unnamed items))
 
-pub score_ranked : (header : Header) (items : List Item) → AreRanked (score_faults header items)
+pub score_ranked : (header : Header) (items : List BodyItem) → AreRanked (score_faults header items)
 score_ranked header items =
     let unnamed = unnamed_of header in let voices = voices_read header items in let weights = flat_map voice_weights voices in
     both_ranked _ _ (each_ranked (voice_faults unnamed items) voices (voice_ranked unnamed items))
     (each_ranked (crowd_faults_at weights) weights (λ w. when_ranked (nat_lt 50000 (crowd_up_to weights w)) (crowd_fault w) (omega arith)))
 
 -- ---- the first
-level : (f g : Fault) → is_before f g ≡ false → is_before g f ≡ false → (f.line ≡ g.line) × (f.column ≡ g.column) × (rank_of f.kind ≡ rank_of g.kind)
+level : (f g : Fault) → is_before f g ≡ false → is_before g f ≡ false → (f.line ≡ g.line) × (f.column ≡ g.column) × (kind_rank f.kind ≡ kind_rank g.kind)
 unfolding is_before
 level f g h i = (grind (arith, nat_tests), grind (arith, nat_tests), grind (arith, nat_tests))
 
@@ -101,11 +101,11 @@ abbrev fault_of : FaultKind → ℕ → ℕ → Fault
 fault_of kind line column = record { kind = kind; line = line; column = column }
 
 -- two faults of which neither comes first are one where their ranks tell their kinds
-pub one_least : (faults : List Fault) (f g : Fault) → AreRanked faults → IsLeast faults f → IsLeast faults g → f ≡ g
+pub one_least : (faults : List Fault) (f g : Fault) → AreRanked faults → IsLeastFault faults f → IsLeastFault faults g → f ≡ g
 one_least faults f g h a b =
     let ranked = All-from_recursion IsRanked faults h in let same = level f g (b.least f a.held) (a.least g b.held) in let line = same.0 in let column = same.1 in
     let kind : f.kind ≡ g.kind = kind_is f.kind (All-contains IsRanked faults f ranked a.held) ∙ ap kind_at same.2 ∙ sym (kind_is g.kind (All-contains IsRanked faults g ranked b.held)) in
     let made : fault_of f.kind f.line f.column ≡ fault_of g.kind g.line g.column = cc in made
 
-pub none_or_least : (faults : List Fault) (f : Fault) → IsFirst faults None → IsLeast faults f → ⊥
+pub none_or_least : (faults : List Fault) (f : Fault) → IsFirstInOrder faults None → IsLeastFault faults f → ⊥
 none_or_least faults f none a = let held = subst (λ fs. Contains fs f) none a.held in absurd (omega (arith, held.1))

@@ -1,7 +1,7 @@
 -- A tune has one header, and one score or one fault of its score, and not both.
 use Rattle.std.proofs.Common.{◌≡◌, ◌∙◌, sym, ap, subst, inl, inr, ℕ, Bool, Option, Some, None, Result, Ok, Err}
-use Rattle.{abc_lines.specs.declared.{book.TuneText.TuneText, fault.{Fault.Fault, TuneError.TuneError}}, abc_header.specs.{declared.{defaults.Defaults.Defaults, header.Header.Header}, Headers.{IsHeaderBy, IsHeaderOf, key_place}}}
-use Rattle.{abc_faults.specs.First.{IsFirst, IsLeast}, mus_score.specs.{declared.score.Score.Score, GoodScore.IsGoodScore}, abc_score.specs.{Faults.score_faults, Score.score_of, Build.{body_lines, IsScoreOf, IsFaultOf}}}
+use Rattle.{abc_lines.specs.declared.{book.TuneText.TuneText, fault.{Fault.Fault, TuneError.TuneError}}, abc_fields.specs.{declared.{defaults.Defaults.Defaults, header.Header.Header}, Headers.{IsHeaderBy, IsHeaderOf, key_place}}}
+use Rattle.{abc_faults.specs.First.{IsFirstInOrder, IsLeastFault}, mus_score.specs.{declared.score.Score.Score, GoodScore.IsGoodScore}, abc_score.specs.{Faults.score_faults, Score.score_of, Build.{body_lines, IsScoreOf, IsFaultOf}}}
 use Rattle.set_book.proofs.{Bodies.{one_items, no_body_fault, one_body_fault}, Ranked.{score_ranked, one_least, none_or_least}, Stages.IsOnce}
 
 by_place : (tune : TuneText) (defaults : Defaults) (h k : Header) (place : Option ℕ) → IsHeaderBy tune defaults h place → IsHeaderBy tune defaults k place → h ≡ k
@@ -20,7 +20,7 @@ Writes tune flow header (Err fault) = IsFaultOf header tune (TuneError.Fault fau
 not_both : (tune : TuneText) (flow : Bool) (header : Header) (s : Score) (f : Fault) → IsScoreOf header tune flow s → IsFaultOf header tune (TuneError.Fault f) → ⊥
 not_both tune flow header s f a (inl b) = no_body_fault header (body_lines header tune) a.items f a.body b
 not_both tune flow header s f a (inr b) =
-    let same = one_items header (body_lines header tune) a.items b.items a.body b.body in none_or_least (score_faults header b.items) f (subst (λ items. IsFirst (score_faults header items) None) same a.clear) b.first
+    let same = one_items header (body_lines header tune) a.items b.items a.body b.body in none_or_least (score_faults header b.items) f (subst (λ items. IsFirstInOrder (score_faults header items) None) same a.clear) b.first
 
 pub writes_once : (tune : TuneText) (flow : Bool) (header : Header) → IsOnce Score (Writes tune flow header)
 writes_once tune flow header (Ok s) (Ok t) a b =
@@ -32,4 +32,4 @@ writes_once tune flow header (Err f) (Err g) (inl a) (inr b) = absurd (no_body_f
 writes_once tune flow header (Err f) (Err g) (inr a) (inl b) = absurd (no_body_fault header (body_lines header tune) a.items g a.body b)
 writes_once tune flow header (Err f) (Err g) (inr a) (inr b) =
     let same = one_items header (body_lines header tune) b.items a.items b.body a.body in
-    ap Err (one_least (score_faults header a.items) f g (score_ranked header a.items) a.first (subst (λ items. IsLeast (score_faults header items) g) same b.first))
+    ap Err (one_least (score_faults header a.items) f g (score_ranked header a.items) a.first (subst (λ items. IsLeastFault (score_faults header items) g) same b.first))

@@ -9,12 +9,12 @@ use Rattle.std.proofs.Crossing.{Vec-send}
 use Rattle.std.specs.contracts.option.Option as Option
 use Rattle.mus_units.specs.contracts as units
 use Rattle.mus_score.specs.contracts.score as score
-use Rattle.mus_time.specs.contracts.keys.ColumnKey as ColumnKey
+use Rattle.mus_onsets.specs.contracts.keys.ColumnKey as ColumnKey
 use Rattle.mus_laid.specs.contracts.laid as laid
 use Rattle.abc_lines.specs.contracts.fault.Fault as Fault
 use Rattle.abc_lines.specs.contracts.book.Line as Line
-use Rattle.abc_fields.specs.contracts.voice.VoiceDef as VoiceDef
-use Rattle.abc_header.specs.contracts.header.Header as Header
+use Rattle.abc_field.specs.contracts.voice.VoiceDef as VoiceDef
+use Rattle.abc_fields.specs.contracts.header.Header as Header
 use Rattle.set_tune.specs.contracts.tune.SetTune as SetTune
 use Rattle.set_book.specs.contracts.outcome.Outcome as Outcome
 

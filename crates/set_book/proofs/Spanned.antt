@@ -1,6 +1,6 @@
 -- A score has one list of the spans that fit a width.
 use Rattle.std.proofs.{Common.{◌≡◌, ◌∙◌, ℕ, ◌<◌, ◌≤◌, inl, inr, Bool, true, false, if◌then◌else◌, List, [], ◌∷◌, Option, Some, None, refl, sym, ap, subst, arith}, lemmas.Option.{none-some, same_Some}}
-use Rattle.{mus_score.specs.declared.score.Score.{Score}, lay_breaks.specs.{declared.costs.Span.Span, Spans.{AreSpans, IsNext, SpansFrom, ends_are, has_ends, has_these, listed}}}
+use Rattle.{mus_score.specs.declared.score.Score.{Score}, lay_breaks.specs.{declared.costs.Span.Span, Spans.{AreSpans, IsNextSpan, SpansFrom, ends_are, has_ends, has_these, listed}}}
 use Rattle.lay_tune.{specs.Spans.AreSpansOf, proofs.{Breakings.{cost_can_be, one_cost}, Called.has_system, Open.some_of}}
 
 -- what is listed is the first span of the list, or listed behind it
@@ -20,7 +20,7 @@ abbrev IsPast : Span → ℕ → ℕ → Type 0
 IsPast p a b = (p.a ≤ a) × (p.a ≡ a → p.b < b)
 
 -- the span after p is past it
-next_past : (p s : Span) → IsNext p s → IsPast p s.a s.b
+next_past : (p s : Span) → IsNextSpan p s → IsPast p s.a s.b
 next_past p s (inl h) = let l = h.0 in (omega (arith, l), λ e. omega (arith, l, e))
 next_past p s (inr h) = let l = h.0 in let m = h.1 in (omega (arith, l), λ e. omega (arith, m))
 

@@ -1,19 +1,19 @@
 -- The staves of a system are stacked in one way.
 use Rattle.std.proofs.{Common.{◌≡◌, ◌∙◌, ℕ, ℤ, pos, ◌+ℤ◌, ◌-ℤ◌, List, [], ◌∷◌, refl, sym, ap, subst, arith}, lemmas.Int.ints}
 use Rattle.{mus_score.specs.declared.score.Score.{Score}, mus_laid.specs.declared.laid.{StaffMarks.StaffMarks, SystemMarks.SystemMarks}}
-use Rattle.{lay_pages.specs.{declared.stacking.Heights.Heights, Stacking.AreStacked}, lay_tune.specs.Systems.{Beside, IsStack, gaps_between}}
+use Rattle.{lay_pages.specs.{declared.stacking.Heights.Heights, Stacking.AreStavesStacked}, lay_tune.specs.Systems.{Beside, IsStack, gaps_between}}
 
 same_base : (top b c high : ℤ) → b +ℤ high ≡ top → c +ℤ high ≡ top → b ≡ c
 same_base top b c high h k = omega (arith, ints)
 
 -- base lines, and the bottom of the last staff
 one_stack : (top : ℤ) (gaps : List ℕ) (staves : List StaffMarks) (bases others : List ℤ) (bottom floor : ℤ)
-    → AreStacked top gaps staves bases bottom → AreStacked top gaps staves others floor → (bases ≡ others) × (bottom ≡ floor)
+    → AreStavesStacked top gaps staves bases bottom → AreStavesStacked top gaps staves others floor → (bases ≡ others) × (bottom ≡ floor)
 one_stack top [] [] [] [] bottom floor h k = (refl, h ∙ sym k)
 one_stack top [] (staff ∷ []) (b ∷ []) (c ∷ []) bottom floor h k = let e = same_base top b c staff.high h.0 k.0 in (cc, h.1 ∙ (ap (λ x. x +ℤ staff.low) e ∙ sym k.1))
 one_stack top (gap ∷ gaps) (staff ∷ next ∷ more) (b ∷ bs) (c ∷ cs) bottom floor h k =
     let e = same_base top b c staff.high h.0 k.0 in
-    let rest = one_stack ((b +ℤ staff.low) -ℤ pos gap) gaps (next ∷ more) bs cs bottom floor h.1 (subst (λ x. AreStacked ((x +ℤ staff.low) -ℤ pos gap) gaps (next ∷ more) cs floor) (sym e) k.1) in
+    let rest = one_stack ((b +ℤ staff.low) -ℤ pos gap) gaps (next ∷ more) bs cs bottom floor h.1 (subst (λ x. AreStavesStacked ((x +ℤ staff.low) -ℤ pos gap) gaps (next ∷ more) cs floor) (sym e) k.1) in
     (cc rest.0, rest.1)
 one_stack top [] [] [] others bottom floor h k = absurd k
 one_stack top [] (staff ∷ []) (b ∷ []) others bottom floor h k = absurd k

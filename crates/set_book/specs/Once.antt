@@ -1,14 +1,14 @@
 -- A tune has one outcome: what it is set as, or its fault, follows from the tune and its terms, and from nothing of how it was set. So a
 -- book has one list of outcomes, however many jobs set it.
 use Rattle.std.specs.Prelude.{◌≡◌, ℕ, List}
-use Rattle.{abc_lines.specs.declared.{book.TuneText.TuneText, fault.{Fault.Fault, TuneError.TuneError}}, abc_header.specs.declared.{defaults.Defaults.Defaults, header.Header.Header}, mus_score.specs.declared.score.Score.{Score}}
-use Rattle.{mus_laid.specs.declared.laid.SystemMarks.{SystemMarks}, lay_tune.specs.Spans.{IsSystem}, set_tune.specs.{Terms.{Manner, Terms}, declared.tune.SetTune.SetTune, Setting.{HasScore, IsFaultOfTune, IsMovedRefusal, IsSetTune}}}
+use Rattle.{abc_lines.specs.declared.{book.TuneText.TuneText, fault.{Fault.Fault, TuneError.TuneError}}, abc_fields.specs.declared.{defaults.Defaults.Defaults, header.Header.Header}, mus_score.specs.declared.score.Score.{Score}}
+use Rattle.{mus_laid.specs.declared.laid.SystemMarks.{SystemMarks}, lay_tune.specs.Spans.{IsSystemOf}, set_tune.specs.{Terms.{Manner, Terms}, declared.tune.SetTune.SetTune, Setting.{HasScore, IsFaultOfTune, IsMovedRefusal, IsSetTune}}}
 use Rattle.set_book.specs.{declared.outcome.Outcome.Outcome, Outcomes.AreOutcomes}
 
 -- the one system of these measures of a score
 pub record IsOneSystem (score : Score) (a b : ℕ) (marks : SystemMarks) : Type 0 where
-  pub is : IsSystem score a b marks
-  pub only : (other : SystemMarks) → IsSystem score a b other → other ≡ marks
+  pub is : IsSystemOf score a b marks
+  pub only : (other : SystemMarks) → IsSystemOf score a b other → other ≡ marks
 
 pub record HaveOneOutcome : Type 0 where
   -- a tune that is set is set in one way

@@ -2,7 +2,7 @@
 use Rattle.std.proofs.{Common.{Option, Some, None}, Props.props}
 use Rattle.mus_units.specs.declared.key.Meter.TheVariants as meters
 use Rattle.mus_units.specs.{declared.{value.Frac.Frac, key.Meter.Meter}, Good.{IsGoodMeter}}
-use Rattle.abc_header.specs.{declared.defaults.Defaults.{Defaults}, Good.{GoodUnitIn, IsGoodDefaults}}
+use Rattle.abc_fields.specs.{declared.defaults.Defaults.{Defaults}, Good.{GoodUnitIn, IsGoodDefaults}}
 
 meter_prop : (meter : Meter) → IsProp (IsGoodMeter meter)
 meter_prop (meters.Ratio num den) = hlevel props

@@ -6,8 +6,8 @@ pub trait Gate {
 
 /// A gate that does nothing.
 #[derive(Clone, Copy, PartialEq, Eq)]
-pub struct Open;
+pub struct NoGate;
 
-impl Gate for Open {
+impl Gate for NoGate {
     fn enter(&self, _tune: u32) {}
 }

@@ -1,6 +1,6 @@
 -- The text of a listing, put in its parts.
 use Rattle.std.{proofs.{Common.{◌≡◌, ℕ, List, [], ◌∷◌, ◌++◌, Result, Ok, Err, refl, sym, ◌∙◌, ap}, lemmas.List.append_assoc}, specs.List.cons_option}
-use Rattle.{abc_lines.specs.declared.fault.Fault.{Fault}, lay_cert.{specs.{Lines.lines_then, Listing.entries_text, declared.lines.Line.Line}, proofs.Put.in_parts}, set_tune.specs.declared.tune.SetTune.{SetTune}}
+use Rattle.{abc_lines.specs.declared.fault.Fault.{Fault}, lay_cert.{specs.{Lines.lines_then, Listing.entries_text, declared.lines.ListingLine.ListingLine}, proofs.Put.in_parts}, set_tune.specs.declared.tune.SetTune.{SetTune}}
 use Rattle.{set_book.specs.declared.outcome.Outcome.{Outcome}, set_lists.specs.Listing.{entries_of, listing_text, outcomes_text, result_entry, result_text}}
 
 outcomes_are : (os : List Outcome) → outcomes_text os ≡ entries_text (entries_of os)
@@ -13,9 +13,9 @@ outcomes_are (o ∷ os) = ap (λ t. result_text o.ordinal o.result ++ t) (outcom
     at (Err fault) = refl
 
 -- the first line, the entries and the last line put
-pub put_all : (os : List Outcome) (old one two three : List ℕ) → one ≡ old ++ lines_then (Line.Listing ∷ []) [] → two ≡ one ++ outcomes_text os
-    → three ≡ two ++ lines_then (Line.End ∷ []) [] → three ≡ old ++ listing_text os
+pub put_all : (os : List Outcome) (old one two three : List ℕ) → one ≡ old ++ lines_then (ListingLine.Listing ∷ []) [] → two ≡ one ++ outcomes_text os
+    → three ≡ two ++ lines_then (ListingLine.End ∷ []) [] → three ≡ old ++ listing_text os
 put_all os old one two three e f g =
-    let first = lines_then (Line.Listing ∷ []) [] in let last = lines_then (Line.End ∷ []) [] in let middle = outcomes_text os in
+    let first = lines_then (ListingLine.Listing ∷ []) [] in let last = lines_then (ListingLine.End ∷ []) [] in let middle = outcomes_text os in
     g ∙ (ap (λ t. t ++ last) (f ∙ ap (λ t. t ++ middle) e) ∙ (append_assoc (old ++ first) middle last ∙ (append_assoc old first (middle ++ last)
     ∙ ap (λ t. old ++ t) (ap (λ t. first ++ (t ++ last)) (outcomes_are os) ∙ sym (in_parts (entries_of os))))))

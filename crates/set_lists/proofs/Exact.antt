@@ -1,6 +1,6 @@
 -- What is written of a book is a listing of its scores' breakings, and no way is told exactly where a score has none.
 use Rattle.std.{proofs.{Common.{◌≡◌, refl, ap, subst, inl, inr, ℕ, Bool, List, [], ◌∷◌, Result, Ok, Err}, lemmas.List.Elements.{All-cons, All-nil}}, specs.List.All}
-use Rattle.{abc_lines.specs.{declared.{book.TuneText.TuneText, fault.{Fault.Fault, FaultKind.FaultKind}}, Books.book_of}, abc_header.specs.{declared.header.Header.Header, Papers.width_of}}
+use Rattle.{abc_lines.specs.{declared.{book.TuneText.TuneText, fault.{Fault.Fault, FaultKind.FaultKind}}, Books.book_of}, abc_fields.specs.{declared.header.Header.Header, Papers.body_width}}
 use Rattle.{mus_score.specs.declared.score.Score.{Score}, lay_breaks.specs.declared.costs.Span.{Span}, lay_tune.{specs.{Breakings.IsLegalIn, Layout.IsNoWay}, proofs.Breakings.legal_listed}}
 use Rattle.set_tune.specs.{Terms.Terms, declared.tune.SetTune.SetTune, Setting.{HasScore, IsFaultOfTune, IsLaidTune, layout_fault, no_way, of_header, of_move, of_score, of_share, too_tall}}
 use Rattle.set_book.specs.{declared.outcome.Outcome.Outcome, Once.HaveOneOutcome, Outcomes.{AreOutcomes, IsResult}}
@@ -8,13 +8,13 @@ use Rattle.set_lists.{specs.Laws.{HasItsBreakings, ListsTheBook, NoWayIsExact}, 
 
 -- ---- the listing of a book
 module _ (terms : Terms) where
-  its_breakings : (tune : TuneText) (r : Result SetTune Fault) → IsResult tune terms r → HasItsBreakings (width_of terms.paper) r
-  its_breakings tune (Ok t) is = breakings_of_listing t.score (width_of terms.paper) t.spans is.laid.layout.form is.laid.layout.spans
+  its_breakings : (tune : TuneText) (r : Result SetTune Fault) → IsResult tune terms r → HasItsBreakings (body_width terms.paper) r
+  its_breakings tune (Ok t) is = breakings_of_listing t.score (body_width terms.paper) t.spans is.laid.layout.form is.laid.layout.spans
   its_breakings tune (Err fault) is = tt
 
-  all_breakings : (tunes : List TuneText) (os : List Outcome) → AreOutcomes terms tunes os → All (λ o. HasItsBreakings (width_of terms.paper) o.result) os
-  all_breakings [] [] h = All-nil (λ o. HasItsBreakings (width_of terms.paper) o.result)
-  all_breakings (t ∷ ts) (o ∷ os) h = All-cons (λ o. HasItsBreakings (width_of terms.paper) o.result) o os (its_breakings t o.result h.0.result) (all_breakings ts os h.1)
+  all_breakings : (tunes : List TuneText) (os : List Outcome) → AreOutcomes terms tunes os → All (λ o. HasItsBreakings (body_width terms.paper) o.result) os
+  all_breakings [] [] h = All-nil (λ o. HasItsBreakings (body_width terms.paper) o.result)
+  all_breakings (t ∷ ts) (o ∷ os) h = All-cons (λ o. HasItsBreakings (body_width terms.paper) o.result) o os (its_breakings t o.result h.0.result) (all_breakings ts os h.1)
   all_breakings ts os h = absurd h
 
 pub lists_the_book : ListsTheBook
@@ -31,20 +31,20 @@ none_legal s width reached spans way breaks legal = way.none breaks (legal_liste
 module _ (one : HaveOneOutcome) (tune : TuneText) (terms : Terms) (header : Header) (score : Score)
     (has : HasScore tune terms.defaults terms.manner header score) where
   -- a score that is laid out has a legal breaking
-  laid_legal : (t : SetTune) → IsLaidTune tune terms t → IsLegalIn score (width_of terms.paper) t.breaking.breaks
-  laid_legal t laid = subst (λ s. IsLegalIn s (width_of terms.paper) t.breaking.breaks) (one.score tune terms.defaults terms.manner t.header header t.score score laid.score has) laid.layout.least.legal
+  laid_legal : (t : SetTune) → IsLaidTune tune terms t → IsLegalIn score (body_width terms.paper) t.breaking.breaks
+  laid_legal t laid = subst (λ s. IsLegalIn s (body_width terms.paper) t.breaking.breaks) (one.score tune terms.defaults terms.manner t.header header t.score score laid.score has) laid.layout.least.legal
 
-  told : (f : Fault) (reached : ℕ) → f.kind ≡ FaultKind.NoWay reached → IsFaultOfTune tune terms f → (breaks : List ℕ) → IsLegalIn score (width_of terms.paper) breaks → ⊥
+  told : (f : Fault) (reached : ℕ) → f.kind ≡ FaultKind.NoWay reached → IsFaultOfTune tune terms f → (breaks : List ℕ) → IsLegalIn score (body_width terms.paper) breaks → ⊥
   told _ reached e (of_header f fault) breaks legal = one.scored tune terms.defaults terms.manner header score f has (inl (inl fault))
   told _ reached e (of_score h f read fault) breaks legal = one.scored tune terms.defaults terms.manner header score f has (inl (inr (h, read, fault)))
   told _ reached e (of_share f c) breaks legal = one.scored tune terms.defaults terms.manner header score f has (inr (inl c))
   told _ reached e (of_move c) breaks legal = let clash : FaultKind.BadMove ≡ FaultKind.NoWay reached = e in cc
   told _ reached e (no_way h s i spans scored way) breaks legal =
-      none_legal s (width_of terms.paper) i spans way breaks
-      (subst (λ x. IsLegalIn x (width_of terms.paper) breaks) (one.score tune terms.defaults terms.manner header h score s has scored) legal)
+      none_legal s (body_width terms.paper) i spans way breaks
+      (subst (λ x. IsLegalIn x (body_width terms.paper) breaks) (one.score tune terms.defaults terms.manner header h score s has scored) legal)
   told _ reached e (too_tall t block laid tall) breaks legal = let clash : FaultKind.TooTall block ≡ FaultKind.NoWay reached = e in cc
 
-  came_by : (f : Fault) → IsFaultOfTune tune terms f → ((breaks : List ℕ) → IsLegalIn score (width_of terms.paper) breaks → ⊥) → (reached : ℕ) × (f ≡ layout_fault tune (FaultKind.NoWay reached))
+  came_by : (f : Fault) → IsFaultOfTune tune terms f → ((breaks : List ℕ) → IsLegalIn score (body_width terms.paper) breaks → ⊥) → (reached : ℕ) × (f ≡ layout_fault tune (FaultKind.NoWay reached))
   came_by _ (of_header f fault) none = absurd (one.scored tune terms.defaults terms.manner header score f has (inl (inl fault)))
   came_by _ (of_score h f read fault) none = absurd (one.scored tune terms.defaults terms.manner header score f has (inl (inr (h, read, fault))))
   came_by _ (of_share f c) none = absurd (one.scored tune terms.defaults terms.manner header score f has (inr (inl c)))
@@ -52,7 +52,7 @@ module _ (one : HaveOneOutcome) (tune : TuneText) (terms : Terms) (header : Head
   came_by _ (no_way h s i spans scored way) none = (i, refl)
   came_by _ (too_tall t block laid tall) none = absurd (none t.breaking.breaks (laid_legal t laid))
 
-  came : (r : Result SetTune Fault) → IsResult tune terms r → ((breaks : List ℕ) → IsLegalIn score (width_of terms.paper) breaks → ⊥) → (reached : ℕ) × (r ≡ Err (layout_fault tune (FaultKind.NoWay reached)))
+  came : (r : Result SetTune Fault) → IsResult tune terms r → ((breaks : List ℕ) → IsLegalIn score (body_width terms.paper) breaks → ⊥) → (reached : ℕ) × (r ≡ Err (layout_fault tune (FaultKind.NoWay reached)))
   came (Ok t) is none = absurd (none t.breaking.breaks (laid_legal t is.laid))
   came (Err f) is none = let by = came_by f is none in (by.0, ap Err by.1)
 

@@ -1,8 +1,8 @@
 -- Where a listed span stands.
 use Rattle.std.{proofs.{Common.{◌≡◌, ℕ, zero, suc, ◌+◌, ◌<◌, ◌≤◌, Bool, true, false, nat_lt, List, [], ◌∷◌, length, drop, Option, Some, None, option_map, if◌then◌else◌, arith, refl, sym, ◌∙◌, ap, subst, inl, inr, unwrap_or}, lemmas.{Bool.Decides.nat_tests, List.Sorted.IsNonDecreasingBy-from_all_adjacent}}, specs.List.{AllWithin, find, slice_index_or, Sorted.IsNonDecreasingBy}}
-use Rattle.lay_breaks.specs.{declared.costs.Span.Span, Spans.{AreSpans, IsNext, SpansFrom, has_ends, listed}}
+use Rattle.lay_breaks.specs.{declared.costs.Span.Span, Spans.{AreSpans, IsNextSpan, SpansFrom, has_ends, listed}}
 
-next_begins : (p s : Span) → IsNext p s → p.a ≤ s.a
+next_begins : (p s : Span) → IsNextSpan p s → p.a ≤ s.a
 next_begins p s (inl h) = let l = h.0 in omega arith
 next_begins p s (inr h) = let e = h.0 in omega arith
 

@@ -1,6 +1,6 @@
 -- The numbers of the tunes of a book.
 use Rattle.std.{proofs.{Common.{◌≡◌, ℕ, suc, ◌+◌, ◌<◌, ◌≤◌, ◌^◌, ◌==◌, Bool, true, false, List, [], ◌∷◌, length, drop, if◌then◌else◌, nat_eq, arith, sym, subst}, lemmas.List.{length-drop, length-map, Splits.length-slice_split, Sums.count_by-le-length}}, specs.List.{slice_split, starts_with}}
-use Rattle.abc_lines.specs.{declared.reading.Reading.Reading, Books.{begins_tune, book_of, tune_at, tunes_behind}, Lines.{byte_order_mark, is_end, lines_of, reading, readings, without_last_empty, without_mark}}
+use Rattle.abc_lines.specs.{declared.reading.LineContent.LineContent, Books.{begins_tune, book_of, tune_at, tunes_behind}, Lines.{byte_order_mark, is_end, lines_of, reading, readings, without_last_empty, without_mark}}
 use Rattle.{set_tune.specs.Terms.{Terms}, set_book.specs.{declared.outcome.Outcome.Outcome, Outcomes.AreOutcomes}, set_lists.specs.Laws.{BookRises, OrdinalsRise}}
 
 -- ---- a book has at most one line more than bytes
@@ -26,9 +26,9 @@ few_lines bytes =
     let mapped = length-map (lines_of bytes) reading in let l = dropped (slice_split is_end bytes) in let split = length-slice_split is_end bytes in let m = count_by-le-length is_end bytes in
     omega (arith, mapped, l, split, m)
 
-module _ (terms : Terms) (all : List Reading) where
+module _ (terms : Terms) (all : List LineContent) where
   -- the outcomes of the tunes that begin behind some lines, the first of which has a number past k
-  rise_behind : (before lines : List Reading) (k : ℕ) (os : List Outcome) → k + length lines < 2 ^ 32 → AreOutcomes terms (tunes_behind all (suc k) before lines) os → OrdinalsRise k os
+  rise_behind : (before lines : List LineContent) (k : ℕ) (os : List Outcome) → k + length lines < 2 ^ 32 → AreOutcomes terms (tunes_behind all (suc k) before lines) os → OrdinalsRise k os
   rise_behind before [] k [] l h = tt
   rise_behind before [] k (o ∷ os) l h = absurd h
   rise_behind before (line ∷ more) k os l h =

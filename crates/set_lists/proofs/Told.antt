@@ -1,6 +1,6 @@
 -- What comes of tunes can be listed, and its listing tells the tunes that are set.
 use Rattle.std.{proofs.{Common.{◌≡◌, ◌∙◌, sym, ℕ, ◌<◌, ◌≤◌, ◌^◌, Bool, true, List, [], ◌∷◌, Option, Some, None, Result, Ok, Err, arith, refl}, lemmas.List.Elements.{All-cons, All-nil}}, specs.List.{All, cons_option, slice_index_or}}
-use Rattle.{abc_lines.specs.declared.{book.TuneText.TuneText, fault.Fault.Fault}, abc_header.specs.Papers.{width_of}, mus_score.specs.declared.score.Score.{Score}}
+use Rattle.{abc_lines.specs.declared.{book.TuneText.TuneText, fault.Fault.Fault}, abc_fields.specs.Papers.{body_width}, mus_score.specs.declared.score.Score.{Score}}
 use Rattle.{lay_breaks.specs.{declared.costs.Span.Span, Breaking.{IsLegal, IsPotential}, Spans.{AreSpans, listed}}, lay_tune.{specs.{Spans.{AreSpansOf, is_forced_in}, Systems.IsSetSystem}, proofs.Rows.span_count}}
 use Rattle.{lay_cert.{specs.Listing.{EntriesFrom, IsEntry, none_forced}, proofs.Unforced.forced_by_spans}, set_tune.specs.{Terms.Terms, declared.tune.SetTune.SetTune, Setting.IsSetTune}}
 use Rattle.set_book.{proofs.Spanned.listed_within, specs.{declared.outcome.Outcome.Outcome, Outcomes.{AreOutcomes, IsResult}}}
@@ -32,7 +32,7 @@ module _ (tune : TuneText) (terms : Terms) (t : SetTune) (is : IsSetTune tune te
   can_be_listed : CanBeListed t
   can_be_listed = record {
     form = is.laid.layout.form;
-    beside = let both = span_count (IsSetSystem t.score (width_of terms.paper)) 0 t.breaking.breaks t.systems t.placed is.laid.layout.systems in both.1 ∙ sym both.0;
+    beside = let both = span_count (IsSetSystem t.score (body_width terms.paper)) 0 t.breaking.breaks t.systems t.placed is.laid.layout.systems in both.1 ∙ sym both.0;
     few = let few = is.laid.score.good.few_measures in let one = is.laid.layout.one_each in omega (arith, few, one);
   }
 

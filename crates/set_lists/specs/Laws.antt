@@ -1,6 +1,6 @@
 -- The laws of the listing of a book.
 use Rattle.std.specs.Prelude.{◌≡◌, ℕ, ◌<◌, ◌≤◌, ◌^◌, ◌↔◌, ⊤, All, List, [], ◌∷◌, length, Result, Ok, Err}
-use Rattle.{abc_lines.specs.{declared.{book.TuneText.TuneText, fault.{Fault.Fault, FaultKind.FaultKind}}, Books.book_of}, abc_header.specs.{declared.{header.Header.Header, paper.Paper.Paper}, Papers.width_of}}
+use Rattle.{abc_lines.specs.{declared.{book.TuneText.TuneText, fault.{Fault.Fault, FaultKind.FaultKind}}, Books.book_of}, abc_fields.specs.{declared.{header.Header.Header, paper.Paper.Paper}, Papers.body_width}}
 use Rattle.{mus_score.specs.declared.score.Score.{Score}, lay_breaks.specs.{declared.costs.Span.Span, Breaking.IsLegal, Spans.{AreSpans, listed}}, lay_tune.specs.{Breakings.IsLegalIn, Spans.AreSpansOf}}
 use Rattle.{lay_cert.specs.Listing.{IsListing, none_forced}, set_tune.specs.{Terms.Terms, declared.tune.SetTune.SetTune, Setting.{HasScore, layout_fault}}}
 use Rattle.{set_book.specs.{declared.outcome.Outcome.Outcome, Outcomes.{AreOutcomes, IsOutcome}}, set_lists.specs.Listing.{AreListable, entries_of, listing_text}}
@@ -35,7 +35,7 @@ HasItsBreakings width (Err fault) = ⊤
 -- The text is a listing of the tunes that are set, and the breakings that it lists are those of their scores.
 pub record ListsTheScores (paper : Paper) (text : List ℕ) (outcomes : List Outcome) : Type 0 where
   pub listing : IsListing text (entries_of outcomes)
-  pub breakings : All (λ outcome. HasItsBreakings (width_of paper) outcome.result) outcomes
+  pub breakings : All (λ outcome. HasItsBreakings (body_width paper) outcome.result) outcomes
 
 -- what is written of a book is such a listing
 abbrev pub ListsTheBook : Type 0
@@ -48,4 +48,4 @@ HasNoWay tune outcome = (reached : ℕ) × (outcome.result ≡ Err (layout_fault
 -- A tune that has a score is told that it has no way exactly where its score has no legal breaking on the width of the body.
 abbrev pub NoWayIsExact : Type 0
 NoWayIsExact = (tune : TuneText) (terms : Terms) (header : Header) (score : Score) (outcome : Outcome) → HasScore tune terms.defaults terms.manner header score → IsOutcome terms tune outcome
-    → HasNoWay tune outcome ↔ ((breaks : List ℕ) → IsLegalIn score (width_of terms.paper) breaks → ⊥)
+    → HasNoWay tune outcome ↔ ((breaks : List ℕ) → IsLegalIn score (body_width terms.paper) breaks → ⊥)

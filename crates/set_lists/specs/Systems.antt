@@ -8,8 +8,8 @@ abbrev pub badness_in : List Span → ℕ → ℕ → ℕ
 badness_in spans a b = unwrap_or (listed spans a b) 0
 
 -- a system: the bar before it and its last bar, its force as it counts, and its badness
-unfoldable pub system_line : List Span → SystemMarks → Placed → List ℕ
-system_line spans m p =
+unfoldable pub listed_system : List Span → SystemMarks → Placed → List ℕ
+listed_system spans m p =
     codes "system " ++ decimal m.a ++ codes " " ++ decimal m.b ++ codes " force " ++ decimal p.force
     ++ codes " badness " ++ decimal (badness_in spans m.a m.b) ++ 10 ∷ []
 
@@ -17,14 +17,14 @@ system_line spans m p =
 abbrev pub system_lines : List Span → List SystemMarks → List Placed → List ℕ
 system_lines spans [] ps = []
 system_lines spans (m ∷ ms) [] = []
-system_lines spans (m ∷ ms) (p ∷ ps) = system_line spans m p ++ system_lines spans ms ps
+system_lines spans (m ∷ ms) (p ∷ ps) = listed_system spans m p ++ system_lines spans ms ps
 
 -- a tune: its number, how many measures it has, and its total badness
-unfoldable pub tune_line : ℕ → SetTune → List ℕ
-tune_line ordinal t = codes "tune " ++ decimal ordinal ++ codes " measures " ++ decimal t.score.measures ++ codes " total " ++ decimal t.breaking.total ++ 10 ∷ []
+unfoldable pub listed_tune : ℕ → SetTune → List ℕ
+listed_tune ordinal t = codes "tune " ++ decimal ordinal ++ codes " measures " ++ decimal t.score.measures ++ codes " total " ++ decimal t.breaking.total ++ 10 ∷ []
 
 abbrev pub tune_lines : ℕ → SetTune → List ℕ
-tune_lines ordinal t = tune_line ordinal t ++ system_lines t.spans t.systems t.placed
+tune_lines ordinal t = listed_tune ordinal t ++ system_lines t.spans t.systems t.placed
 
 -- a tune with a fault has no line
 abbrev pub result_lines : ℕ → Result SetTune Fault → List ℕ

@@ -19,15 +19,15 @@ abbrev pub fault_count : List Outcome → ℕ
 fault_count outcomes = count_by is_faulty outcomes
 
 -- a number of each tune without a fault
-abbrev pub number_of : (SetTune → ℕ) → Result SetTune Fault → ℕ
-number_of number (Ok t) = number t
-number_of number (Err fault) = 0
+abbrev pub number_of_set : (SetTune → ℕ) → Result SetTune Fault → ℕ
+number_of_set number (Ok t) = number t
+number_of_set number (Err fault) = 0
 
 abbrev pub systems_in : Outcome → ℕ
-systems_in outcome = number_of (λ t. length t.systems) outcome.result
+systems_in outcome = number_of_set (λ t. length t.systems) outcome.result
 
 abbrev pub total_in : Outcome → ℕ
-total_in outcome = number_of (λ t. t.breaking.total) outcome.result
+total_in outcome = number_of_set (λ t. t.breaking.total) outcome.result
 
 -- how many systems the tunes without a fault have together, and what these cost
 abbrev pub system_count : List Outcome → ℕ

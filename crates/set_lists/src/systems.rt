@@ -1,6 +1,6 @@
 ghost use Rattle.std.specs.{Prelude.{◌≡◌, ◌++◌, length, OnOk}, List.find, Option.option_copied};
 ghost use Rattle.lay_breaks.specs.Spans.{AreSpans, has_ends};
-ghost use Rattle.set_lists.specs.{Listing.{AreListable, IsListable}, Systems.{badness_in, outcome_lines, system_line, system_lines, systems_text, tune_line}};
+ghost use Rattle.set_lists.specs.{Listing.{AreListable, IsListable}, Systems.{badness_in, outcome_lines, listed_system, system_lines, systems_text, listed_tune}};
 
 use crate::words::put_word;
 use mus_units::{Memory, Text};
@@ -40,7 +40,7 @@ fn badness_in(spans: &[Span], bars: u32, a: u32, b: u32) -> u64
     badness_among(further, a, b)
 }
 
-#[tactic(auto, unfolding(crate::specs::Systems::system_line))]
+#[tactic(auto, unfolding(crate::specs::Systems::listed_system))]
 fn put_system(
     out: &mut Text,
     tune: &SetTune,
@@ -48,7 +48,7 @@ fn put_system(
     placed: &Placed,
 ) -> Result<(), Memory>
     requires { AreSpans tune.now.score.measures tune.now.spans }
-    ensures { OnOk result (out.new ≡ out.old ++ system_line tune.now.spans system.now placed.now) }
+    ensures { OnOk result (out.new ≡ out.old ++ listed_system tune.now.spans system.now placed.now) }
 {
     let spans = tune.spans.as_slice();
     let badness = badness_in(spans, tune.score.measures, system.a, system.b);
@@ -75,9 +75,9 @@ fn put_system_lines(
     Ok(())
 }
 
-#[tactic(auto, unfolding(crate::specs::Systems::tune_line))]
+#[tactic(auto, unfolding(crate::specs::Systems::listed_tune))]
 fn put_tune_line(out: &mut Text, ordinal: u32, tune: &SetTune) -> Result<(), Memory>
-    ensures { OnOk result (out.new ≡ out.old ++ tune_line ordinal tune.now) }
+    ensures { OnOk result (out.new ≡ out.old ++ listed_tune ordinal tune.now) }
 {
     put_word(out, b"tune ", u128::from(ordinal))?;
     put_word(out, b" measures ", u128::from(tune.score.measures))?;

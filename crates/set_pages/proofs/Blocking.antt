@@ -1,7 +1,7 @@
 -- What the blocks of outcomes draw is ready to be drawn wherever they lie on a page.
 use Rattle.std.{proofs.{Common.{ℕ, ◌^◌, ◌<◌, ◌≤◌, ℤ, pos, ◌-ℤ◌, ◌≤ℤ◌, Bool, List, [], ◌∷◌, ◌++◌, length, Option, Some, None, arith}, lemmas.{Int.ints, List.Elements.{All-head, All-tail, All-weaker}}}, specs.{Prelude.{All, IfSome, Result, Ok, Err}, List.AllZip}}
-use Rattle.{abc_lines.specs.declared.fault.Fault.{Fault}, abc_header.specs.{declared.paper.Paper.Paper, Papers.{IsGoodPaper, width_of}}, mus_score.specs.declared.score.Score.{Score}, mus_laid.specs.declared.laid.SystemMarks.{SystemMarks}}
-use Rattle.{lay_springs.specs.declared.margin.Placed.{Placed}, lay_pages.specs.declared.{stacking.Heights.Heights, titles.{TitleRow.TitleRow}}, lay_shown.{specs.Titles.IsGoodRow, proofs.TitleRows.rows_stand}}
+use Rattle.{abc_lines.specs.declared.fault.Fault.{Fault}, abc_fields.specs.{declared.paper.Paper.Paper, Papers.{IsGoodPaper, body_width}}, mus_score.specs.declared.score.Score.{Score}, mus_laid.specs.declared.laid.SystemMarks.{SystemMarks}}
+use Rattle.{lay_springs.specs.declared.margin.Placed.{Placed}, lay_pages.specs.declared.{stacking.Heights.Heights, titles.{TitleRow.TitleRow}}, law_marks_in_range.{specs.Titles.IsGoodRow, proofs.TitleRows.rows_stand}}
 use Rattle.{set_tune.{specs.{declared.tune.SetTune.SetTune, Blocks.{block_height, blocks_of, is_some_list, system_block, system_blocks, title_blocks}}, proofs.Laid.heard_moved}, set_book.specs.declared.outcome.Outcome.{Outcome}}
 use Rattle.{set_staves.{specs.{Drawn.{IsBase, IsOnPage, IsTop}, Marks.{RisesAlong}}, proofs.Shown.x_read}, lay_tune.specs.Systems.{StandWithin, gaps_between}}
 use Rattle.set_pages.{specs.{Drawings.{all_blocks, all_drawings, drawing, drawings_from, outcome_blocks, outcome_drawings, result_blocks, result_drawings, system, system_contents, title_contents}, Ready.{IsReadyOn, IsReadyRow}, Sheet.{IsSetResult, IsSetUnder}}, proofs.{Laying.{AreLaid, IsLaidSystem, paper_narrow, tune_laid}, Stacks.{IsBetween, stacked_lie}, Joined.zip_append}}
@@ -11,8 +11,8 @@ abbrev IsCounted : Option ℕ → Type 0
 IsCounted begins = IfSome begins (λ k. 1 ≤ k)
 
 -- what is laid out of a tune that is set
-pub result_laid : (paper : Paper) (t : SetTune) → IsGoodPaper paper → IsSetResult paper (Ok t) → AreLaid t.score (width_of paper) t.systems t.placed t.heights
-result_laid paper t good set = let laid = set.3.laid in tune_laid (width_of paper) t laid.score.good (heard_moved set.0 set.1 set.2 t.header t.score laid.score) (paper_narrow paper good) laid.layout
+pub result_laid : (paper : Paper) (t : SetTune) → IsGoodPaper paper → IsSetResult paper (Ok t) → AreLaid t.score (body_width paper) t.systems t.placed t.heights
+result_laid paper t good set = let laid = set.3.laid in tune_laid (body_width paper) t laid.score.good (heard_moved set.0 set.1 set.2 t.header t.score laid.score) (paper_narrow paper good) laid.layout
 
 -- ---- blocks that are ready wherever they lie on a page
 pub columns_rise : (width count : ℕ) (at : List ℤ) → StandWithin width count at → RisesAlong at
@@ -66,8 +66,8 @@ result_ready : (paper : Paper) (ordinal : ℕ) (r : Result SetTune Fault) → Is
 unfolding blocks_of
 result_ready paper ordinal (Err fault) good some set = tt
 result_ready paper ordinal (Ok t) good some set =
-    let rows : All (IsGoodRow (width_of paper) t.title.height) t.title.rows = rw set.3.laid.title (rows_stand (width_of paper) t.header.titles t.header.composers t.header.tempo) in
-    tune_ready t.score (width_of paper) ordinal t.title.rows t.title.height (is_some_list t.heights) t.systems t.placed t.heights (paper_narrow paper good) some rows (result_laid paper t good set)
+    let rows : All (IsGoodRow (body_width paper) t.title.height) t.title.rows = rw set.3.laid.title (rows_stand (body_width paper) t.header.titles t.header.composers t.header.tempo) in
+    tune_ready t.score (body_width paper) ordinal t.title.rows t.title.height (is_some_list t.heights) t.systems t.placed t.heights (paper_narrow paper good) some rows (result_laid paper t good set)
 
 pub all_ready : (paper : Paper) (outcomes : List Outcome) → IsGoodPaper paper → All (IsSetUnder paper) outcomes → AllZip IsReadyOn (all_drawings outcomes) (all_blocks outcomes)
 all_ready paper [] good set = tt

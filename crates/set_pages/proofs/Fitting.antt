@@ -1,7 +1,7 @@
 -- The blocks of tunes of which none has a group that is too tall have none together: no block is tied to one of the next tune.
 use Rattle.std.{proofs.Common.{◌≡◌, refl, ap, ℕ, suc, Bool, true, false, not, List, [], ◌∷◌, ◌++◌, Option, None}, specs.Prelude.{◌&&◌, nat_lt, Result, Ok, Err}}
 use Rattle.abc_lines.specs.declared.fault.Fault.{Fault}
-use Rattle.lay_pages.specs.{declared.{filling.Block.Block, stacking.Heights.Heights, titles.TitleRow.TitleRow}, Filling.{IsLoose, first_tall, group_height, height_of, tall_by, tall_from, with_kept}}
+use Rattle.lay_pages.specs.{declared.{filling.Block.Block, stacking.Heights.Heights, titles.TitleRow.TitleRow}, Filling.{IsLoose, first_tall, group_height, height_number, tall_by, tall_from, with_kept}}
 use Rattle.{set_tune.specs.{declared.tune.SetTune.SetTune, Blocks.{blocks_of, is_some_list, system_blocks, title_blocks}}}
 use Rattle.set_pages.specs.Drawings.{result_blocks}
 
@@ -9,7 +9,7 @@ use Rattle.set_pages.specs.Drawings.{result_blocks}
 pub group_append : (block : Block) (bs more : List Block) → IsLoose (block ∷ bs) → group_height (block ∷ bs ++ more) ≡ group_height (block ∷ bs)
 group_append block [] [] loose = refl
 group_append block [] (next ∷ more) loose = rw loose
-group_append block (next ∷ bs) more loose = ap (λ n. with_kept block.keep (height_of block.height) n) (group_append next bs more loose)
+group_append block (next ∷ bs) more loose = ap (λ n. with_kept block.keep (height_number block.height) n) (group_append next bs more loose)
 
 -- wherever the counting begins
 counted : (b : Bool) (n m : ℕ) (others new : Option ℕ) → (others ≡ None → new ≡ None) → tall_by b n others ≡ None → tall_by b m new ≡ None

@@ -1,10 +1,10 @@
 -- The systems of a tune that is laid out on a paper: each can be shown, its columns stand within the width, its boxes stay apart and
 -- its staves stand under one another.
 use Rattle.std.{proofs.Common.{ℕ, ◌*◌, ◌+◌, ◌-◌, ◌/◌, ◌^◌, ◌<◌, ◌≤◌, List, [], ◌∷◌, length, arith}, specs.Prelude.{⊤, All}}
-use Rattle.{abc_header.specs.{declared.paper.Paper.Paper, Papers.{IsGoodPaper, width_of}}, mus_score.specs.{declared.score.Score.Score, GoodScore.IsGoodScore}, mus_laid.specs.declared.laid.SystemMarks.{SystemMarks}}
+use Rattle.{abc_fields.specs.{declared.paper.Paper.Paper, Papers.{IsGoodPaper, body_width}}, mus_score.specs.{declared.score.Score.Score, GoodScore.IsGoodScore}, mus_laid.specs.declared.laid.SystemMarks.{SystemMarks}}
 use Rattle.{lay_springs.specs.declared.margin.Placed.{Placed}, lay_breaks.specs.Breaking.{RisesFrom, last_from}, lay_pages.specs.{declared.stacking.Heights.Heights, Stacking.AreGoodStaves}}
-use Rattle.{lay_tune.{specs.Systems.{Beside, EachSpan, IsSetSystem, IsStack, StandWithin}, proofs.Open.past_last}, lay_shown.{specs.Shown.IsShown, proofs.{Alike.alike_shown, Laws.call_shown}}}
-use Rattle.{lay_apart.{specs.Apart.AreApart, proofs.Laws.{boxes_apart, columns_stand}}, set_tune.specs.{declared.tune.SetTune.SetTune, Setting.IsLaidOut}, set_pages.proofs.Stacks.{tilted_good}}
+use Rattle.{lay_tune.{specs.Systems.{Beside, EachSpan, IsSetSystem, IsStack, StandWithin}, proofs.Open.past_last}, law_marks_in_range.{specs.Shown.IsShown, proofs.{Alike.alike_shown, Laws.call_shown}}}
+use Rattle.{law_marks_apart.{specs.Apart.AreApart, proofs.Laws.{boxes_apart, columns_stand}}, set_tune.specs.{declared.tune.SetTune.SetTune, Setting.IsLaidOut}, set_pages.proofs.Stacks.{tilted_good}}
 
 -- a system that is laid out
 pub record IsLaidSystem (s : Score) (width : ℕ) (m : SystemMarks) (p : Placed) (h : Heights) : Type 0 where
@@ -47,7 +47,7 @@ systems_laid s width a _ _ _ heights good some narrow rises within set stack = a
 pub quotient_narrow : (x s : ℕ) → x ≤ 10000000 → 40 ≤ s → x / s < 2 ^ 20
 quotient_narrow x s few some = grind arith
 
-pub paper_narrow : (paper : Paper) → IsGoodPaper paper → width_of paper < 2 ^ 20
+pub paper_narrow : (paper : Paper) → IsGoodPaper paper → body_width paper < 2 ^ 20
 paper_narrow paper good = let wide = good.small_wide in quotient_narrow ((paper.wide - (paper.left + paper.right)) * 100) paper.scale (omega arith) good.low_scale
 
 pub tune_laid : (width : ℕ) (t : SetTune) → IsGoodScore t.score → (0 < t.score.measures → 1 ≤ length t.score.voices) → width < 2 ^ 20 → IsLaidOut width t → AreLaid t.score width t.systems t.placed t.heights

@@ -3,7 +3,7 @@ use Rattle.std.{proofs.{Common.{ℕ, zero, suc, ℤ, Bool, true, false, cond, Li
 use Rattle.{abc_lines.specs.declared.fault.Fault.{Fault}, lay_springs.specs.declared.margin.Placed.{Placed}, lay_pages.specs.declared.{filling.Spot.Spot, stacking.Heights.Heights, titles.TitleRow.TitleRow}}
 use Rattle.{mus_laid.specs.declared.laid.SystemMarks.{SystemMarks}, ps_text.specs.{declared.sheet.Item.Item, Range.{InOrder, IsAfter, IsItem, IsPage}}, set_tune.specs.declared.tune.SetTune.{SetTune}}
 use Rattle.{set_book.specs.declared.outcome.Outcome.{Outcome}, set_staves.specs.Marks.{system_at}}
-use Rattle.set_pages.specs.{Drawings.{Content, Drawing, title, system, all_drawings, content_items, drawings_from, drawn, outcome_drawings, result_drawings, row_at, system_contents, systems_of, title_contents, tune_items}, Ready.IsDrawn, Sheet.{items_on, pages_from}}
+use Rattle.set_pages.specs.{Drawings.{Content, Drawing, title, system, all_drawings, content_items, drawings_from, drawn, outcome_drawings, result_drawings, title_item_at, system_contents, systems_of, title_contents, tune_items}, Ready.IsDrawnInRange, Sheet.{items_on, pages_from}}
 
 -- each may stand behind any item
 abbrev pub BeginsFree : List Item → Type 0
@@ -43,9 +43,9 @@ begun _ _ = ⊤
 abbrev pub IsBegun : Drawing → Type 0
 IsBegun d = begun d.begins d.content
 
-titles_order : (top : ℤ) (i : Item) (rows : List TitleRow) → ((row : TitleRow) → IsAfter i (row_at top row)) → InOrder (i ∷ map (row_at top) rows)
+titles_order : (top : ℤ) (i : Item) (rows : List TitleRow) → ((row : TitleRow) → IsAfter i (title_item_at top row)) → InOrder (i ∷ map (title_item_at top) rows)
 titles_order top i [] after = tt
-titles_order top i (row ∷ rows) after = (after row, titles_order top (row_at top row) rows (λ next. tt))
+titles_order top i (row ∷ rows) after = (after row, titles_order top (title_item_at top row) rows (λ next. tt))
 
 drawn_ordered : (width : ℕ) (top : ℤ) (begins : Option ℕ) (content : Content) → begun begins content → IsOrdered (tune_items begins ++ content_items width top content)
 drawn_ordered width top None (title rows) h = absurd h
@@ -63,11 +63,11 @@ items_ordered width page (d ∷ ds) (s ∷ ss) all =
     (drawn_ordered width s.top d.begins d.content (All-head IsBegun d ds all)) (items_ordered width page ds ss (All-tail IsBegun d ds all))
 items_ordered width page ds ss all = record { order = tt; free = tt }
 
-items_good : (width page : ℕ) (ds : List Drawing) (ss : List Spot) → AllZip (IsDrawn width) ds ss → All IsItem (items_on width page ds ss)
+items_good : (width page : ℕ) (ds : List Drawing) (ss : List Spot) → AllZip (IsDrawnInRange width) ds ss → All IsItem (items_on width page ds ss)
 items_good width page (d ∷ ds) (s ∷ ss) good = if_put (All IsItem) (s.page == page) (drawn width s.top d) _ (All-append IsItem (drawn width s.top d) _) good.0 (items_good width page ds ss good.1)
 items_good width page ds ss good = All-nil IsItem
 
-pub pages_good : (width : ℕ) (ds : List Drawing) (ss : List Spot) (k n : ℕ) → AllZip (IsDrawn width) ds ss → All IsBegun ds → All IsPage (pages_from width ds ss k n)
+pub pages_good : (width : ℕ) (ds : List Drawing) (ss : List Spot) (k n : ℕ) → AllZip (IsDrawnInRange width) ds ss → All IsBegun ds → All IsPage (pages_from width ds ss k n)
 pages_good width ds ss k zero good begun = All-nil IsPage
 pages_good width ds ss k (suc n) good begun =
     All-cons IsPage (record { items = items_on width k ds ss }) (pages_from width ds ss (suc k) n)

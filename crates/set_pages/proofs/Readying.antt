@@ -1,28 +1,28 @@
 -- What is set on a paper: a placement and good heights for each system of a tune, and no group that is higher than the page.
 use Rattle.std.{proofs.{Common.{◌≡◌, ◌∙◌, refl, sym, ℕ, suc, ◌≤◌, true, false, if◌then◌else◌, List, [], ◌∷◌, length, None, arith}, lemmas.List.Elements.{All-cons, All-head, All-nil, All-tail, All-weaker}}, specs.Prelude.{All, Result, Ok, Err}}
-use Rattle.abc_lines.specs.{declared.{book.TuneText.TuneText, fault.Fault.Fault, reading.Reading.Reading}, Books.{begins_tune, book_of, tune_at, tunes_behind}, Lines.{readings, without_mark}}
-use Rattle.{abc_header.specs.{declared.paper.Paper.Paper, Papers.{height_of, width_of}}, lay_pages.specs.Filling.{first_tall}, lay_tune.{specs.Systems.{IsSetSystem, IsStack}, proofs.Rows.{beside_count, span_count}}}
+use Rattle.abc_lines.specs.{declared.{book.TuneText.TuneText, fault.Fault.Fault, reading.LineContent.LineContent}, Books.{begins_tune, book_of, tune_at, tunes_behind}, Lines.{readings, without_mark}}
+use Rattle.{abc_fields.specs.{declared.paper.Paper.Paper, Papers.{body_height, body_width}}, lay_pages.specs.Filling.{first_tall}, lay_tune.{specs.Systems.{IsSetSystem, IsStack}, proofs.Rows.{beside_count, span_count}}}
 use Rattle.{set_tune.{specs.{Terms.Terms, declared.tune.SetTune.SetTune}, proofs.Laid.good_heights}, set_book.specs.{declared.outcome.Outcome.Outcome, Outcomes.{AreOutcomes, IsResult}}}
 use Rattle.set_pages.{specs.{Drawings.{all_blocks, outcome_blocks, result_blocks}, Ready.{IsWhole, IsWholeResult}, Sheet.{IsSetResult, IsSetUnder}}, proofs.Fitting.{first_append, result_loose}}
 
 -- the systems of a tune
 pub result_whole : (paper : Paper) (r : Result SetTune Fault) → IsSetResult paper r → IsWholeResult r
 result_whole paper (Ok t) h =
-    let laid = h.3.laid.layout in let both = span_count (IsSetSystem t.score (width_of paper)) 0 t.breaking.breaks t.systems t.placed laid.systems in
+    let laid = h.3.laid.layout in let both = span_count (IsSetSystem t.score (body_width paper)) 0 t.breaking.breaks t.systems t.placed laid.systems in
     record { placed = both.1 ∙ sym both.0; heights = beside_count (IsStack t.score) t.systems t.heights laid.heights; good = good_heights t.score t.systems t.heights laid.heights }
 result_whole paper (Err fault) h = tt
 
 pub all_whole : (paper : Paper) (outcomes : List Outcome) → All (IsSetUnder paper) outcomes → All IsWhole outcomes
 all_whole paper outcomes h = All-weaker (IsSetUnder paper) IsWhole (λ o g. result_whole paper o.result g.result) outcomes h
 
-result_fits : (paper : Paper) (r : Result SetTune Fault) → IsSetResult paper r → first_tall (height_of paper) (result_blocks r) ≡ None
+result_fits : (paper : Paper) (r : Result SetTune Fault) → IsSetResult paper r → first_tall (body_height paper) (result_blocks r) ≡ None
 result_fits paper (Ok t) h = h.3.fits
 result_fits paper (Err fault) h = refl
 
-pub all_fit : (paper : Paper) (outcomes : List Outcome) → All (IsSetUnder paper) outcomes → first_tall (height_of paper) (all_blocks outcomes) ≡ None
+pub all_fit : (paper : Paper) (outcomes : List Outcome) → All (IsSetUnder paper) outcomes → first_tall (body_height paper) (all_blocks outcomes) ≡ None
 all_fit paper [] h = refl
 all_fit paper (o ∷ outcomes) h =
-    first_append (height_of paper) (outcome_blocks o) (all_blocks outcomes) (result_loose o.result) (result_fits paper o.result (All-head (IsSetUnder paper) o outcomes h).result)
+    first_append (body_height paper) (outcome_blocks o) (all_blocks outcomes) (result_loose o.result) (result_fits paper o.result (All-head (IsSetUnder paper) o outcomes h).result)
     (all_fit paper outcomes (All-tail (IsSetUnder paper) o outcomes h))
 
 -- the outcomes of tunes are set on their paper, or have a fault
@@ -38,7 +38,7 @@ set_outcomes terms (tune ∷ tunes) (o ∷ outcomes) some h =
 set_outcomes terms tunes outcomes some h = absurd h
 
 -- the tunes of a book are counted from 1
-tunes_counted : (all : List Reading) (ordinal : ℕ) (before lines : List Reading) → 1 ≤ ordinal → All (λ tune. 1 ≤ tune.ordinal) (tunes_behind all ordinal before lines)
+tunes_counted : (all : List LineContent) (ordinal : ℕ) (before lines : List LineContent) → 1 ≤ ordinal → All (λ tune. 1 ≤ tune.ordinal) (tunes_behind all ordinal before lines)
 tunes_counted all ordinal before [] some = All-nil (λ tune. 1 ≤ tune.ordinal)
 tunes_counted all ordinal before (line ∷ more) some =
     elim (begins_tune line) as (λ b. All (λ tune. 1 ≤ tune.ordinal)

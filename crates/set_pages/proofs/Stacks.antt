@@ -1,8 +1,8 @@
 -- Staves under one another: each base lies between the top and the bottom of its system, and so do all marks.
 use Rattle.std.{proofs.{Common.{◌≡◌, refl, ap, ℕ, suc, ℤ, pos, ◌+ℤ◌, ◌-ℤ◌, ◌≤ℤ◌, List, [], ◌∷◌, map, length, arith}, lemmas.{Int.ints, List.Elements.{All-cons, All-nil}}}, specs.Prelude.All}
-use Rattle.{mus_score.specs.declared.score.Score.{Score}, mus_time.specs.{declared.keys.ColumnKey.ColumnKey, Onsets.timeline_of}, mus_drawn.specs.declared.drawn.DrawnVoice.{DrawnVoice}}
+use Rattle.{mus_score.specs.declared.score.Score.{Score}, mus_onsets.specs.{declared.keys.ColumnKey.ColumnKey, Onsets.timeline_of}, mus_drawn.specs.declared.drawn.DrawnVoice.{DrawnVoice}}
 use Rattle.{mus_laid.specs.declared.laid.{StaffMarks.StaffMarks, SystemMarks.SystemMarks}, mus_marks.{specs.{Staff.{staff_marks}, System.drawn_staves, Tilt.{IsTilted, tilted_staff}}, proofs.Lines.covers}}
-use Rattle.{lay_pages.specs.Stacking.{AreGoodStaves, AreStacked}, set_pages.specs.Clear.{AreUnder, LieBetween}}
+use Rattle.{lay_pages.specs.Stacking.{AreGoodStaves, AreStavesStacked}, set_pages.specs.Clear.{AreUnder, LieBetween}}
 
 -- the staves that are called for cover their lines
 called_good : (keys : List ColumnKey) (lengths : List ℕ) (at : List ℤ) (a b : ℕ) (staves : List (List DrawnVoice)) → AreGoodStaves (map (tilted_staff keys lengths at a b) staves)
@@ -30,7 +30,7 @@ pub record LieStacked (top bottom : ℤ) (gaps : List ℕ) (staves : List StaffM
   pub between : (highest : ℤ) → top ≤ℤ highest → All (IsBetween bottom highest) bases
   pub under : (shift high : ℤ) → (shift +ℤ top) ≤ℤ high → pos 0 ≤ℤ (shift +ℤ bottom) → AreUnder high gaps staves (map (λ base. shift +ℤ base) bases)
 
-pub stacked_lie : (top bottom : ℤ) (gaps : List ℕ) (staves : List StaffMarks) (bases : List ℤ) → AreGoodStaves staves → AreStacked top gaps staves bases bottom → LieStacked top bottom gaps staves bases
+pub stacked_lie : (top bottom : ℤ) (gaps : List ℕ) (staves : List StaffMarks) (bases : List ℤ) → AreGoodStaves staves → AreStavesStacked top gaps staves bases bottom → LieStacked top bottom gaps staves bases
 stacked_lie top bottom [] [] [] good stacked = record { low = omega (arith, ints); count = refl; between = λ highest high. All-nil (IsBetween bottom highest); under = λ shift high below above. tt }
 stacked_lie top bottom [] (staff ∷ []) (base ∷ []) good stacked =
     let l = good.0.0 in let h = good.0.1 in let at = stacked.0 in let end = stacked.1 in record {

@@ -1,7 +1,7 @@
 -- Blocks that fill pages: their pages rise by one at most, their tops lie on the page, and there is a drawing for each.
 use Rattle.std.{proofs.{Common.{◌≡◌, refl, ap, inl, inr, ℕ, suc, ◌+◌, ◌^◌, ◌≤◌, ℤ, pos, ◌-ℤ◌, ◌≤ℤ◌, Bool, List, [], ◌∷◌, ◌++◌, length, Option, Some, None, arith}, lemmas.{Int.ints, List.{length-append, length-map, Elements.{All-head, All-tail}}}}, specs.{Prelude.{All, Result, Ok, Err}, List.AllZip}}
 use Rattle.{abc_lines.specs.declared.fault.Fault.{Fault}, mus_laid.specs.declared.laid.SystemMarks.{SystemMarks}, lay_springs.specs.declared.margin.Placed.{Placed}}
-use Rattle.lay_pages.specs.{declared.{filling.{Block.Block, Spot.Spot}, stacking.Heights.Heights, titles.TitleRow.TitleRow}, Even.{AreStacked, ComeBehind, same_page, next_page}, Filling.{AreGoodBlocks, AreWithin}}
+use Rattle.lay_pages.specs.{declared.{filling.{Block.Block, Spot.Spot}, stacking.Heights.Heights, titles.TitleRow.TitleRow}, Even.{StandByPages, ComeBehind, same_page, next_page}, Filling.{AreGoodBlocks, AreWithin}}
 use Rattle.{set_tune.specs.{declared.tune.SetTune.SetTune, Blocks.{blocks_of, is_some_list, title_blocks}}, set_book.specs.declared.outcome.Outcome.{Outcome}, set_staves.specs.Drawn.{IsTop}}
 use Rattle.set_pages.specs.{Drawings.{Content, Drawing, all_blocks, all_drawings, drawings_from, result_blocks, result_drawings, system_contents, systems_of, title_contents}, Ready.{AreRising, AreRisingFrom, HasAllRows, IsReady, IsReadyOn, IsWhole, IsWholeResult}}
 
@@ -12,7 +12,7 @@ rising_from high block blocks spot [] within come = tt
 rising_from high block [] spot (next ∷ spots) within come = absurd within.1
 rising_from high block (more ∷ blocks) spot (next ∷ spots) within come = (elim come.0 [ same_page page top ↦ inl page | next_page keep page top ↦ inr page ], rising_from high more blocks next spots within.1 come.1)
 
-pub rising : (high : ℕ) (blocks : List Block) (spots : List Spot) → AreWithin high blocks spots → AreStacked high blocks spots → AreRising spots
+pub rising : (high : ℕ) (blocks : List Block) (spots : List Spot) → AreWithin high blocks spots → StandByPages high blocks spots → AreRising spots
 rising high blocks [] within stacked = tt
 rising high [] (spot ∷ spots) within stacked = absurd within
 rising high (block ∷ blocks) (spot ∷ spots) within stacked = (stacked.0.0, rising_from high block blocks spot spots within stacked.1)

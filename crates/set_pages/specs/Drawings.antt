@@ -18,12 +18,12 @@ abbrev pub drawing : Option ℕ → Content → Drawing
 drawing begins content = record { begins = begins; content = content }
 
 -- a row begins at its x, and its base line lies so far below the top of its block
-abbrev pub row_at : ℤ → TitleRow → Item
-row_at top row = Item.Title row.x (top -ℤ row.down) row.size row.text
+abbrev pub title_item_at : ℤ → TitleRow → Item
+title_item_at top row = Item.Title row.x (top -ℤ row.down) row.size row.text
 
 -- the items of a block whose top is at a height
 abbrev pub content_items : ℕ → ℤ → Content → List Item
-content_items width top (title rows) = map (row_at top) rows
+content_items width top (title rows) = map (title_item_at top) rows
 content_items width top (system m at bases) = system_at width at top m bases ∷ []
 
 abbrev pub tune_items : Option ℕ → List Item

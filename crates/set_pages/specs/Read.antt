@@ -1,13 +1,13 @@
 -- What a reader finds on the pages of a book: its tunes one after another, and in each of their systems what the score calls for.
 use Rattle.std.specs.{Prelude.{◌≡◌, ⊤, ℕ, ℤ, pos, List, [], ◌∷◌, ◌++◌, All, map, flat_map, Result, Ok, Err}, List.AllZip}
-use Rattle.{abc_lines.specs.declared.fault.Fault.{Fault}, abc_header.specs.{declared.paper.Paper.Paper, Papers.{height_of, width_of}}, mus_laid.specs.declared.laid.SystemMarks.{SystemMarks}}
-use Rattle.{lay_springs.specs.declared.margin.Placed.{Placed}, lay_pages.specs.declared.titles.TitleRow.{TitleRow}, lay_tune.specs.Systems.{gaps_between}, lay_apart.specs.Apart.{AreApart}}
+use Rattle.{abc_lines.specs.declared.fault.Fault.{Fault}, abc_fields.specs.{declared.paper.Paper.Paper, Papers.{body_height, body_width}}, mus_laid.specs.declared.laid.SystemMarks.{SystemMarks}}
+use Rattle.{lay_springs.specs.declared.margin.Placed.{Placed}, lay_pages.specs.declared.titles.TitleRow.{TitleRow}, lay_tune.specs.Systems.{gaps_between}, law_marks_apart.specs.Apart.{AreApart}}
 use Rattle.{ps_text.specs.declared.sheet.{Item.Item, Page.Page, Sheet.Sheet, Staff.Staff}, set_tune.specs.declared.tune.SetTune.{SetTune}, set_book.specs.declared.outcome.Outcome.{Outcome}}
-use Rattle.{set_staves.specs.Marks.{HasColumns, ShowsCall}, set_pages.specs.{Clear.AreUnder, Sheet.frame_of}}
+use Rattle.{set_staves.specs.Marks.{HasColumns, ShowsCall}, set_pages.specs.{Clear.AreUnder, Sheet.paper_frame}}
 
 -- all that stands on the pages of a sheet, in order
-abbrev pub items_in : List Page → List Item
-items_in pages = flat_map (λ (p : Page). p.items) pages
+abbrev pub items_of_pages : List Page → List Item
+items_of_pages pages = flat_map (λ (p : Page). p.items) pages
 
 -- What is read of measures a to b - 1: the ranks read off each staff are the marks that the score calls for, each once, no other, and at
 -- its height; the columns stand where they are set; the staves are as wide as the body; boxes of one lane in different columns keep
@@ -17,9 +17,9 @@ pub record ShowsSystem (paper : Paper) (gaps : List ℕ) (a b : ℕ) (m : System
   pub measures : item ≡ Item.System a b staves
   pub symbols : ShowsCall staves m.staves
   pub columns : HasColumns staves p.at
-  pub wide : All (λ s. s.width ≡ width_of paper) staves
-  pub boxes : All (λ s. AreApart (width_of paper) p.at s.marks) m.staves
-  pub apart : AreUnder (pos (height_of paper)) gaps m.staves (map (λ s. s.y) staves)
+  pub wide : All (λ s. s.width ≡ body_width paper) staves
+  pub boxes : All (λ s. AreApart (body_width paper) p.at s.marks) m.staves
+  pub apart : AreUnder (pos (body_height paper)) gaps m.staves (map (λ s. s.y) staves)
 
 -- For each span of a breaking, the first of which begins at bar a, one system.
 abbrev pub ShowSystems : Paper → List ℕ → ℕ → List ℕ → List SystemMarks → List Placed → List Item → Type 0
@@ -55,7 +55,7 @@ ShowsOutcome paper o items = ShowsResult paper o.ordinal o.result items
 
 -- the items on all pages are those of the tunes, in order, and nothing else stands there
 pub record ShowsBook (paper : Paper) (outcomes : List Outcome) (sheet : Sheet) : Type 0 where
-  pub frame : sheet.frame ≡ frame_of paper
+  pub frame : sheet.frame ≡ paper_frame paper
   pub parts : List (List Item)
-  pub whole : items_in sheet.pages ≡ flat_map (λ (part : List Item). part) parts
+  pub whole : items_of_pages sheet.pages ≡ flat_map (λ (part : List Item). part) parts
   pub tunes : AllZip (ShowsOutcome paper) outcomes parts

@@ -1,7 +1,7 @@
 -- What is asked of a block before it is drawn, and what a drawn one is.
 use Rattle.std.specs.Prelude.{◌≡◌, ◌⊎◌, ⊤, ℕ, suc, ◌≤◌, ℤ, pos, ◌-ℤ◌, ◌≤ℤ◌, List, [], ◌∷◌, All, IfSome, length, Result, Ok, Err}
 use Rattle.{abc_lines.specs.declared.fault.Fault.{Fault}, lay_pages.specs.declared.{filling.{Spot.Spot, Block.Block}, titles.TitleRow.TitleRow}, mus_laid.specs.declared.laid.SystemMarks.{SystemMarks}}
-use Rattle.{lay_shown.specs.{Shown.IsShown, Texts.IsPrinted}, ps_text.specs.Range.{IsItem, IsNumber}, set_tune.specs.{declared.tune.SetTune.SetTune, Blocks.HasGoodHeight}}
+use Rattle.{law_marks_in_range.specs.{Shown.IsShown, Texts.IsPrinted}, ps_text.specs.Range.{IsItem, IsNumber}, set_tune.specs.{declared.tune.SetTune.SetTune, Blocks.HasGoodHeight}}
 use Rattle.{set_book.specs.declared.outcome.Outcome.{Outcome}, set_staves.specs.{Drawn.{IsBase, IsOnPage, IsTop}, Marks.RisesAlong}, set_pages.specs.Drawings.{Content, Drawing, title, system, drawn}}
 
 -- a row of a title block whose top is at a height
@@ -11,7 +11,7 @@ pub record IsReadyRow (top : ℤ) (row : TitleRow) : Type 0 where
   pub printed : IsPrinted row.text
 
 -- a system whose top is at a height: its marks can be shown, a column for each of its keys stands on the page, and a base for each staff
-pub record CanStand (top : ℤ) (m : SystemMarks) (columns staves : List ℤ) : Type 0 where
+pub record CanStandOnPage (top : ℤ) (m : SystemMarks) (columns staves : List ℤ) : Type 0 where
   pub shown : IsShown m
   pub count : length columns ≡ length m.keys
   pub rise : RisesAlong columns
@@ -21,7 +21,7 @@ pub record CanStand (top : ℤ) (m : SystemMarks) (columns staves : List ℤ) : 
 
 abbrev pub IsReadyContent : ℤ → Content → Type 0
 IsReadyContent top (title rows) = All (IsReadyRow top) rows
-IsReadyContent top (system m at bases) = CanStand top m at bases
+IsReadyContent top (system m at bases) = CanStandOnPage top m at bases
 
 -- a block whose top is at a height; the tune that it begins has an ordinal
 pub record IsReadyAt (top : ℤ) (d : Drawing) : Type 0 where
@@ -61,5 +61,5 @@ AreRising [] = ⊤
 AreRising (s ∷ spots) = (s.page ≡ 0) × AreRisingFrom s.page spots
 
 -- what a block draws may stand on a page
-abbrev pub IsDrawn : ℕ → Drawing → Spot → Type 0
-IsDrawn width d s = All IsItem (drawn width s.top d)
+abbrev pub IsDrawnInRange : ℕ → Drawing → Spot → Type 0
+IsDrawnInRange width d s = All IsItem (drawn width s.top d)

@@ -1,16 +1,16 @@
 -- The sheet of a book, from the outcomes of its tunes: the blocks of all tunes without fault stand on pages, filled or where a
 -- plan says, and each page has what its blocks draw.
 use Rattle.std.specs.Prelude.{⊤, ℕ, zero, suc, ◌+◌, ◌/◌, ◌≤◌, ◌==◌, if◌then◌else◌, List, [], ◌∷◌, ◌++◌, Result, Ok, Err, Bool, true, false, ◌≡◌, take, length}
-use Rattle.{abc_lines.specs.declared.{book.TuneText.TuneText, fault.Fault.Fault}, abc_header.specs.{declared.{defaults.Defaults.Defaults, paper.Paper.Paper}, Papers.{height_of, width_of}}}
-use Rattle.{lay_pages.specs.{declared.filling.Spot.Spot, Even.{AreSpots, AreStacked}, Filling.{AreFilled, AreWithin, spots_of}}, set_pages.specs.{declared.plan.Plan.Plan, Drawings.{Drawing, all_blocks, all_drawings, drawn}}}
+use Rattle.{abc_lines.specs.declared.{book.TuneText.TuneText, fault.Fault.Fault}, abc_fields.specs.{declared.{defaults.Defaults.Defaults, paper.Paper.Paper}, Papers.{body_height, body_width}}}
+use Rattle.{lay_pages.specs.{declared.filling.Spot.Spot, Even.{AreSpots, StandByPages}, Filling.{AreFilled, AreWithin, spots_of}}, set_pages.specs.{declared.plan.PagePlan.PagePlan, Drawings.{Drawing, all_blocks, all_drawings, drawn}}}
 use Rattle.{ps_text.specs.declared.sheet.{Frame.Frame, Item.Item, Page.Page, Sheet.Sheet}, set_tune.specs.{Terms.{Manner, terms_by}, declared.tune.SetTune.SetTune, Setting.IsSetTune}, set_book.specs.declared.outcome.Outcome.{Outcome}}
 
 -- whole points, rounded up
-abbrev pub points : ℕ → ℕ
-points u = (u + 99) / 100
+abbrev pub whole_points : ℕ → ℕ
+whole_points u = (u + 99) / 100
 
-abbrev pub frame_of : Paper → Frame
-frame_of paper = record { wide = points paper.wide; high = points paper.high; left = paper.left; bottom = paper.bottom; scale = paper.scale }
+abbrev pub paper_frame : Paper → Frame
+paper_frame paper = record { wide = whole_points paper.wide; high = whole_points paper.high; left = paper.left; bottom = paper.bottom; scale = paper.scale }
 
 -- what the drawings on a page, counted from 0, draw there
 abbrev pub items_on : ℕ → ℕ → List Drawing → List Spot → List Item
@@ -32,34 +32,34 @@ abbrev pub pages_of : ℕ → List Drawing → List Spot → List Page
 pages_of width drawings spots = pages_from width drawings spots 0 (page_count spots)
 
 -- where all blocks stand: filled one under another, or where the plan says
-abbrev pub all_spots : Plan → Paper → List Outcome → List Spot
-all_spots Plan.Filled paper outcomes = spots_of (height_of paper) (all_blocks outcomes)
-all_spots (Plan.At spots) paper outcomes = take (length (all_blocks outcomes)) spots
+abbrev pub all_spots : PagePlan → Paper → List Outcome → List Spot
+all_spots PagePlan.Filled paper outcomes = spots_of (body_height paper) (all_blocks outcomes)
+all_spots (PagePlan.At spots) paper outcomes = take (length (all_blocks outcomes)) spots
 
-unfoldable pub sheet_of : Plan → Paper → List Outcome → Sheet
-sheet_of plan paper outcomes = record { frame = frame_of paper; pages = pages_of (width_of paper) (all_drawings outcomes) (all_spots plan paper outcomes) }
+unfoldable pub sheet_of : PagePlan → Paper → List Outcome → Sheet
+sheet_of plan paper outcomes = record { frame = paper_frame paper; pages = pages_of (body_width paper) (all_drawings outcomes) (all_spots plan paper outcomes) }
 
 -- where blocks are filled, each follows the one before it as near as it can
-abbrev pub AreFilledBy : Plan → Paper → List Outcome → Type 0
-AreFilledBy Plan.Filled paper outcomes = AreFilled (height_of paper) (all_blocks outcomes) (all_spots Plan.Filled paper outcomes)
-AreFilledBy (Plan.At spots) paper outcomes = ⊤
+abbrev pub AreFilledBy : PagePlan → Paper → List Outcome → Type 0
+AreFilledBy PagePlan.Filled paper outcomes = AreFilled (body_height paper) (all_blocks outcomes) (all_spots PagePlan.Filled paper outcomes)
+AreFilledBy (PagePlan.At spots) paper outcomes = ⊤
 
 -- each block lies on its page, 1500 under the one before it or at the top of the next page
-pub record AreStanding (plan : Plan) (paper : Paper) (outcomes : List Outcome) : Type 0 where
-  pub within : AreWithin (height_of paper) (all_blocks outcomes) (all_spots plan paper outcomes)
-  pub stacked : AreStacked (height_of paper) (all_blocks outcomes) (all_spots plan paper outcomes)
+pub record AreStanding (plan : PagePlan) (paper : Paper) (outcomes : List Outcome) : Type 0 where
+  pub within : AreWithin (body_height paper) (all_blocks outcomes) (all_spots plan paper outcomes)
+  pub stacked : StandByPages (body_height paper) (all_blocks outcomes) (all_spots plan paper outcomes)
   pub filled : AreFilledBy plan paper outcomes
 
 -- The plan of a book: its blocks are filled; or evenly parted, so that no other parting of their groups into pages that fit costs less.
 pub record IsEvenPlan (paper : Paper) (outcomes : List Outcome) (spots : List Spot) : Type 0 where
-  pub chosen : AreSpots true (height_of paper) (all_blocks outcomes) spots
-  pub within : AreWithin (height_of paper) (all_blocks outcomes) spots
-  pub stacked : AreStacked (height_of paper) (all_blocks outcomes) spots
+  pub chosen : AreSpots true (body_height paper) (all_blocks outcomes) spots
+  pub within : AreWithin (body_height paper) (all_blocks outcomes) spots
+  pub stacked : StandByPages (body_height paper) (all_blocks outcomes) spots
 
-abbrev pub IsPlan : Bool → Paper → List Outcome → Plan → Type 0
-IsPlan false paper outcomes plan = plan ≡ Plan.Filled
-IsPlan true paper outcomes Plan.Filled = ⊥
-IsPlan true paper outcomes (Plan.At spots) = IsEvenPlan paper outcomes spots
+abbrev pub IsPagePlan : Bool → Paper → List Outcome → PagePlan → Type 0
+IsPagePlan false paper outcomes plan = plan ≡ PagePlan.Filled
+IsPagePlan true paper outcomes PagePlan.Filled = ⊥
+IsPagePlan true paper outcomes (PagePlan.At spots) = IsEvenPlan paper outcomes spots
 
 -- a tune is set on the paper, or has a fault
 abbrev pub IsSetResult : Paper → Result SetTune Fault → Type 0

@@ -1,9 +1,9 @@
 ghost use Rattle.std.specs.Prelude.{◌≡◌, IfOk, List, true};
-ghost use Rattle.abc_header.specs.Papers.{IsGoodPaper};
+ghost use Rattle.abc_fields.specs.Papers.{IsGoodPaper};
 ghost use Rattle.set_book.specs.declared.outcome.Outcome as outcome;
-ghost use Rattle.set_pages.specs.{Drawings.all_blocks, Press.AreBlocksOn, Sheet.IsPlan};
+ghost use Rattle.set_pages.specs.{Drawings.all_blocks, Builder.AreBlocksOn, Sheet.IsPagePlan};
 
-use abc_header::{Paper, body_of};
+use abc_fields::{Paper, body_of};
 use lay_pages::{Block, PageError, Spot, fill_even};
 use mus_units::{Memory, Row};
 use std::alloc::Global;
@@ -11,7 +11,7 @@ use std::alloc::Global;
 /// Where the blocks of a book stand: filled one under another, as they come; or at these spots, one for
 /// each block of the book.
 #[derive(Drop)]
-pub enum Plan {
+pub enum PagePlan {
     Filled,
     At(Row<Spot>),
 }
@@ -20,17 +20,17 @@ pub enum Plan {
 /// pages so that no other parting into pages that fit costs less.
 ///
 /// `Memory` comes where memory ran out; 2^32 blocks or more count as past it.
-pub fn even_plan(alloc: Global, paper: &Paper, blocks: &[Block]) -> Result<Plan, Memory>
+pub fn even_plan(alloc: Global, paper: &Paper, blocks: &[Block]) -> Result<PagePlan, Memory>
     requires paper { IsGoodPaper paper.now }
     requires blocks { AreBlocksOn paper.now blocks.now }
-    ensures { IfOk result (λ plan. (outcomes : List outcome.Outcome) → blocks.now ≡ all_blocks outcomes → IsPlan true paper.now outcomes plan) }
+    ensures { IfOk result (λ plan. (outcomes : List outcome.Outcome) → blocks.now ≡ all_blocks outcomes → IsPagePlan true paper.now outcomes plan) }
 {
     if blocks.len() > u32::MAX as usize {
         return Err(Memory);
     }
     let (_, high) = body_of(paper);
     match fill_even(alloc, blocks, high) {
-        Ok(spots) => Ok(Plan::At(spots)),
+        Ok(spots) => Ok(PagePlan::At(spots)),
         Err(PageError::Memory) => Err(Memory),
         Err(PageError::TooTall { .. }) => unreachable!(),
     }

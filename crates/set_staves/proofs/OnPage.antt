@@ -1,12 +1,12 @@
 -- What stands on a page has numbers of a page, and bytes that can be printed may be shown there.
 use Rattle.std.{proofs.{Common.{◌≡◌, ℕ, suc, ◌<◌, ℤ, pos, List, [], ◌∷◌, length, get_or, refl, sym, subst, arith}, lemmas.{Bool.{and_from, and_parts, Decides.nat_tests}, Int.ints}}, specs.{List.{All, list_all}, Prelude.IsTrue}}
-use Rattle.{mus_laid.specs.Printed.{is_printable}, ps_text.specs.Range.{IsEnd, IsNumber, IsOffset, IsSpan, IsStretch, IsWords, is_shown}, lay_shown.specs.Texts.{IsPrinted}}
+use Rattle.{mus_laid.specs.Printed.{is_printable}, ps_text.specs.Range.{IsArcEnd, IsNumber, IsOffset, IsSpan, IsStretch, IsWords, is_shown}, law_marks_in_range.specs.Texts.{IsPrinted}}
 use Rattle.set_staves.{specs.Drawn.IsOnPage, specs.Marks.RisesAlong, specs.Marks.x_at, proofs.Rising.rises}
 
 number : (z : ℤ) → IsOnPage z → IsNumber z
 number z h = record { low = omega (arith, ints, h.low, h.high); high = omega (arith, ints, h.low, h.high) }
 
-end : (y height rise : ℤ) → IsOnPage y → IsOffset height → IsOffset rise → IsEnd y height rise
+end : (y height rise : ℤ) → IsOnPage y → IsOffset height → IsOffset rise → IsArcEnd y height rise
 end y height rise base h r = record {
   offset = h;
   point = record { low = omega (arith, ints, base.low, base.high, h.low, h.high); high = omega (arith, ints, base.low, base.high, h.low, h.high) };

@@ -1,6 +1,6 @@
 -- A system that is drawn may stand on a page.
 use Rattle.std.proofs.{Common.{◌≡◌, ℕ, ◌^◌, ◌<◌, ◌≤◌, ℤ, pos, ◌+ℤ◌, List, [], ◌∷◌, length, All, sym, subst, arith}, lemmas.{Int.ints, List.Elements.All-head}}
-use Rattle.{mus_laid.specs.declared.laid.StaffMarks.{StaffMarks}, ps_text.specs.{Range.IsNumber, Range.IsStaff, Range.IsJoined, Range.IsSystem, declared.sheet.Staff.Staff}, set_staves.specs.{Drawn.IsBase, Marks.staves_at}}
+use Rattle.{mus_laid.specs.declared.laid.StaffMarks.{StaffMarks}, ps_text.specs.{Range.IsNumber, Range.IsStaff, Range.IsJoined, Range.IsSystemItem, declared.sheet.Staff.Staff}, set_staves.specs.{Drawn.IsBase, Marks.staves_at}}
 
 -- the line that joins staves begins on the page
 above : (top base : ℤ) → IsBase top base → IsNumber ((top +ℤ base) +ℤ pos 2000)
@@ -19,7 +19,7 @@ some width at top (s ∷ more) [] h e = absurd (omega arith)
 some width at top (s ∷ more) (b ∷ bases) h e = omega arith
 
 pub good_system : (width : ℕ) (at : List ℤ) (top : ℤ) (a b : ℕ) (staves : List StaffMarks) (bases : List ℤ) (placed : List Staff)
-    → All (IsBase top) bases → a < b → b < 2 ^ 32 → 1 ≤ length staves → length bases ≡ length staves → placed ≡ staves_at width at top staves bases → All IsStaff placed → IsSystem a b placed
+    → All (IsBase top) bases → a < b → b < 2 ^ 32 → 1 ≤ length staves → length bases ≡ length staves → placed ≡ staves_at width at top staves bases → All IsStaff placed → IsSystemItem a b placed
 good_system width at top a b staves bases placed h rising last least e is good = record {
   rising = rising;
   last = last;

@@ -1,7 +1,7 @@
 -- The ranks read off a system are those that its marks call for.
 use Rattle.std.{proofs.{Common.{◌≡◌, ℕ, zero, suc, ◌<◌, Bool, true, false, List, [], ◌∷◌, ◌++◌, length, map, get_or, ℤ, pos, ◌+ℤ◌, Some, refl, sym, ap, ap₂, subst, ◌∙◌, arith, flat_map}, lemmas.{Bool.eqb-true, List.{map-append, Elements.{All-cons, All-head, All-nil, All-tail, recursion_from_All}}}}, specs.{Prelude.{IsTrue, ◌==◌, ◌||◌}, List.{All, AllByRecursion, Contains, cons_option, list_any}}}
 use Rattle.mus_laid.specs.{declared.laid.Mark.Mark, declared.laid.Laid.Laid, declared.laid.StaffMarks.StaffMarks, Ranked.anchor_rank}
-use Rattle.{ps_text.specs.{Ranks.anchor_of, Ranks.anchors, Ranks.rank_of, Ranks.ranked, Ranks.all_ranked, Ranks.ranks, declared.sheet.Staff.Staff}, lay_shown.specs.Ranks.{AreAnchored, AreRanked, IsRanked, marks_ranks, staves_ranks}}
+use Rattle.{ps_text.specs.{Ranks.anchor_of, Ranks.anchors, Ranks.rank_of, Ranks.ranked, Ranks.all_ranked, Ranks.ranks, declared.sheet.Staff.Staff}, law_marks_in_range.specs.Ranks.{AreAnchored, AreMarksRanked, IsRanked, marks_ranks, staves_ranks}}
 use Rattle.set_staves.{specs.{Marks.x_at, Marks.page_mark, Marks.called_mark, Marks.called_marks, Marks.staff_at, Marks.staves_at, Marks.RisesAlong, Marks.HasColumns, Marks.ShowsIn, Marks.ShowsCall}, proofs.Rising.ranked_at}
 
 -- ---- the anchors of a system are the abscissas of its anchors' ranks
@@ -82,13 +82,13 @@ staves_read width at top system read [] bases e h = tt
 staves_read width at top system read (s ∷ more) [] e h = absurd (omega arith)
 staves_read width at top system read (s ∷ more) (b ∷ bases) e h = (staff_read width at (top +ℤ b) system read s h.0, staves_read width at top system read more bases (omega arith) h.1)
 
-by_recursion : (n : ℕ) (staves : List StaffMarks) → All (λ s. AreRanked n s.marks) staves → StavesRanked n staves
+by_recursion : (n : ℕ) (staves : List StaffMarks) → All (λ s. AreMarksRanked n s.marks) staves → StavesRanked n staves
 by_recursion n [] h = tt
-by_recursion n (s ∷ more) h = (recursion_from_All (λ laid. IsRanked n laid.mark) s.marks (All-head (λ t. AreRanked n t.marks) s more h), by_recursion n more (All-tail (λ t. AreRanked n t.marks) s more h))
+by_recursion n (s ∷ more) h = (recursion_from_All (λ laid. IsRanked n laid.mark) s.marks (All-head (λ t. AreMarksRanked n t.marks) s more h), by_recursion n more (All-tail (λ t. AreMarksRanked n t.marks) s more h))
 
 -- where columns rise, marks have their ranks among them, and each column holds an anchor
 pub shows_call : (width : ℕ) (at : List ℤ) (top : ℤ) (staves : List StaffMarks) (bases : List ℤ) → RisesAlong at → length bases ≡ length staves
-    → All (λ s. AreRanked (length at) s.marks) staves → AreAnchored (length at) (staves_ranks staves) → ShowsCall (staves_at width at top staves bases) staves
+    → All (λ s. AreMarksRanked (length at) s.marks) staves → AreAnchored (length at) (staves_ranks staves) → ShowsCall (staves_at width at top staves bases) staves
 shows_call width at top staves bases rise e h has =
     let along = by_recursion (length at) staves h in let below = staves_below (length at) staves along in
     staves_read width at top (staves_at width at top staves bases)
@@ -115,7 +115,7 @@ anchored at k [] has = absurd cc
 anchored at k (r ∷ ranks) has = anchored_by at k r ranks (k == r) refl (anchored at k ranks) has
 
 pub has_columns : (width : ℕ) (at : List ℤ) (top : ℤ) (staves : List StaffMarks) (bases : List ℤ) → length bases ≡ length staves
-    → All (λ s. AreRanked (length at) s.marks) staves → AreAnchored (length at) (staves_ranks staves) → HasColumns (staves_at width at top staves bases) at
+    → All (λ s. AreMarksRanked (length at) s.marks) staves → AreAnchored (length at) (staves_ranks staves) → HasColumns (staves_at width at top staves bases) at
 has_columns width at top staves bases e h has =
     let same = sym (anchors_at width at top staves bases e) in record {
       set = subst (All (Contains at)) same (each_set at (staves_ranks staves) (staves_below (length at) staves (by_recursion (length at) staves h)));

@@ -61,6 +61,6 @@ pub record HasColumns (staves : List Staff) (at : List ℤ) : Type 0 where
   pub read : All (Contains (anchors staves)) at
 
 -- the staves of a system; other items have none
-abbrev pub staves_of : Item → List Staff
-staves_of (Item.System a b staves) = staves
-staves_of _ = []
+abbrev pub staves_of_item : Item → List Staff
+staves_of_item (Item.System a b staves) = staves
+staves_of_item _ = []

@@ -1,5 +1,5 @@
 ghost use Rattle.std.specs.Prelude.{◌≡◌, ◌<◌, All, IfOk, length, map};
-ghost use Rattle.{ps_text.specs.Range.{IsPageMark, IsWords}, lay_shown.specs.{Ranks.AreRanked, Ranks.IsRanked, Texts.HasPrinted, Texts.HavePrinted, Texts.IsPrinted}};
+ghost use Rattle.{ps_text.specs.Range.{IsPageMark, IsWords}, law_marks_in_range.specs.{Ranks.AreMarksRanked, Ranks.IsRanked, Texts.HasPrinted, Texts.HavePrinted, Texts.IsPrinted}};
 ghost use Rattle.set_staves.specs.{Drawn.IsOnPage, Marks.RisesAlong, Marks.page_mark, Marks.x_at};
 
 use mus_laid::{Laid, Mark};
@@ -104,7 +104,7 @@ pub fn place_marks(
     requires height { IsOnPage y }
     requires numbers { All IsOnPage at.now }
     requires rise { RisesAlong at.now }
-    requires ranked { AreRanked (length at.now) marks.now }
+    requires ranked { AreMarksRanked (length at.now) marks.now }
     requires printed { HavePrinted marks.now }
     ensures value { IfOk result (λ all. all ≡ map (λ laid. page_mark at.now laid.mark) marks.now) }
     ensures good { IfOk result (All (IsPageMark y)) }

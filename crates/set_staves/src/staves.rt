@@ -1,5 +1,5 @@
 ghost use Rattle.std.specs.Prelude.{◌≡◌, ◌+ℤ◌, All, IfOk, length};
-ghost use Rattle.{ps_text.specs.Range.{IsStaff}, lay_shown.specs.{Ranks.AreRanked, Texts.HavePrinted}};
+ghost use Rattle.{ps_text.specs.Range.{IsStaff}, law_marks_in_range.specs.{Ranks.AreMarksRanked, Texts.HavePrinted}};
 ghost use Rattle.set_staves.specs.{Drawn.IsBase, Drawn.IsOnPage, Drawn.IsWidth, Marks.RisesAlong, Marks.staff_at, Marks.staves_at};
 
 use crate::marks::place_marks;
@@ -23,7 +23,7 @@ fn staff_for(alloc: Global, width: u32, at: &[i64], y: i64, s: &StaffMarks) -> R
     requires height { IsOnPage y }
     requires numbers { All IsOnPage at.now }
     requires rise { RisesAlong at.now }
-    requires ranked { AreRanked (length at.now) s.now.marks }
+    requires ranked { AreMarksRanked (length at.now) s.now.marks }
     requires printed { HavePrinted s.now.marks }
     ensures value { IfOk result (λ staff. staff ≡ staff_at width at.now y s.now) }
     ensures good { IfOk result IsStaff }
@@ -44,7 +44,7 @@ pub fn staves_for(
     requires wide { IsWidth width }
     requires numbers { All IsOnPage at.now }
     requires rise { RisesAlong at.now }
-    requires ranked { All (λ s. AreRanked (length at.now) s.marks) staves.now }
+    requires ranked { All (λ s. AreMarksRanked (length at.now) s.marks) staves.now }
     requires printed { All (λ s. HavePrinted s.marks) staves.now }
     requires count { length bases.now ≡ length staves.now }
     requires heights { All (IsBase top) bases.now }

@@ -1,6 +1,6 @@
 ghost use Rattle.std.specs.Prelude.{◌≡◌, All, IfOk, length};
-ghost use Rattle.{ps_text.specs.Range.{IsItem}, lay_shown.specs.Shown.{IsShown}};
-ghost use Rattle.set_staves.specs.{Drawn.IsBase, Drawn.IsOnPage, Drawn.IsTop, Drawn.IsWidth, Marks.RisesAlong, Marks.ShowsCall, Marks.staves_of, Marks.system_at};
+ghost use Rattle.{ps_text.specs.Range.{IsItem}, law_marks_in_range.specs.Shown.{IsShown}};
+ghost use Rattle.set_staves.specs.{Drawn.IsBase, Drawn.IsOnPage, Drawn.IsTop, Drawn.IsWidth, Marks.RisesAlong, Marks.ShowsCall, Marks.staves_of_item, Marks.system_at};
 
 use crate::staves::staves_for;
 use mus_laid::SystemMarks;
@@ -30,7 +30,7 @@ pub fn system_item(
     requires heights { All (IsBase top) bases.now }
     ensures item { IfOk result (λ item. item ≡ system_at width at.now top m.now bases.now) }
     ensures good { IfOk result IsItem }
-    ensures shows { IfOk result (λ item. ShowsCall (staves_of item) m.now.staves) }
+    ensures shows { IfOk result (λ item. ShowsCall (staves_of_item item) m.now.staves) }
 {
     let (a, b) = (m.a, m.b);
     let staves = staves_for(alloc, width, at, top, m.staves.as_slice(), bases)?;

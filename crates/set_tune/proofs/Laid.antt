@@ -1,15 +1,15 @@
 -- What the setting of a tune rests on: a score with measures has a voice, a tune has few titles, and few blocks of good heights.
 use Rattle.std.{proofs.{Common.{◌≡◌, ℕ, ℤ, pos, negsuc, zero, suc, ◌+◌, ◌<◌, ◌≤◌, ◌^◌, Bool, List, [], ◌∷◌, ◌++◌, length, map, take, Option, Some, None, Result, Ok, Err, sym, subst, refl, arith}, lemmas.{List.{length-append, length-map, Sums.sum_by-cons, Elements.{All-cons, All-nil}}, Option.same_Some}}, specs.List.{cons_option, All, filter_map}}
-use Rattle.{abc_lines.specs.{declared.{book.{Line.Line, TuneText.TuneText}, fault.{Fault.Fault, FaultKind.FaultKind}}, Good.{IsGoodTune, size_of}}, abc_fields.specs.{declared.field.Field.Field, Fields.field_of}}
-use Rattle.{abc_header.specs.{declared.{defaults.Defaults.Defaults, header.Header.Header}, Headers.{IsHeaderBy, IsHeaderOf, composer_in, fields_of, key_place, put_field, title_in}}, abc_steps.specs.declared.step.Item.{Item}}
-use Rattle.{abc_score.specs.{declared.voices.VoiceRead.VoiceRead, Build.IsScoreOf, Score.score_with, Voices.voices_read}, mus_units.specs.declared.key.Key.{Key}, mus_transpose.specs.Moved.{IsMoved, move_from, voice_by}}
-use Rattle.{lay_shared.{specs.Plans.{IsPlanFor, ids_of}, proofs.{DrawnLaws.drawn_heard, PlanLaws.spelled-plan}}, mus_score.specs.{declared.score.{Score.Score, Voice.Voice}, GoodScore.IsGoodScore}}
+use Rattle.{abc_lines.specs.{declared.{book.{Line.Line, TuneText.TuneText}, fault.{Fault.Fault, FaultKind.FaultKind}}, Good.{IsGoodTune, size_of}}, abc_field.specs.{declared.field.Field.Field, Fields.field_of}}
+use Rattle.{abc_fields.specs.{declared.{defaults.Defaults.Defaults, header.Header.Header}, Headers.{IsHeaderBy, IsHeaderOf, composer_in, fields_of, key_place, put_field, title_in}}, abc_steps.specs.declared.step.BodyItem.{BodyItem}}
+use Rattle.{abc_score.specs.{declared.voices.ReadVoice.ReadVoice, Build.IsScoreOf, Score.score_with, Voices.voices_read}, mus_units.specs.declared.key.Key.{Key}, mus_transpose.specs.Moved.{IsMoved, move_from, voice_by}}
+use Rattle.{lay_shared.{specs.Plans.{IsPlanFor, score_ids}, proofs.{DrawnLaws.drawn_heard, PlanLaws.spelled-plan}}, mus_score.specs.{declared.score.{Score.Score, Voice.Voice}, GoodScore.IsGoodScore}}
 use Rattle.{mus_laid.specs.declared.laid.SystemMarks.{SystemMarks}, lay_breaks.specs.Breaking.{RisesFrom, last_from}, lay_pages.specs.declared.{stacking.Heights.Heights, titles.TitleRow.TitleRow}}
 use Rattle.lay_tune.{specs.Systems.{Beside, IsSetSystem, IsStack}, proofs.Rows.{beside_count, span_count}}
-use Rattle.set_tune.specs.{declared.tune.SetTune.SetTune, Blocks.{HasGoodHeight, blocks_of, is_some_list, system_block, system_blocks, title_blocks}, Terms.Manner, Setting.{HasScore, IsDrawn, IsLaidOut}}
+use Rattle.set_tune.specs.{declared.tune.SetTune.SetTune, Blocks.{HasGoodHeight, blocks_of, is_some_list, system_block, system_blocks, title_blocks}, Terms.Manner, Setting.{HasScore, IsScoreDrawn, IsLaidOut}}
 
 -- ---- voices
-has_voice : (header : Header) (items : List Item) (flow : Bool) (voices : List VoiceRead) → 0 < (score_with header items flow voices).measures → 1 ≤ length (score_with header items flow voices).voices
+has_voice : (header : Header) (items : List BodyItem) (flow : Bool) (voices : List ReadVoice) → 0 < (score_with header items flow voices).measures → 1 ≤ length (score_with header items flow voices).voices
 unfolding score_with
 has_voice header items flow [] h = absurd (omega (arith, h))
 has_voice header items flow (v ∷ vs) h = omega arith
@@ -36,10 +36,10 @@ like_moved s t key (pos (suc n)) is = subst (IsLike s) (sym (is.higher (λ e. cc
 like_moved s t key (negsuc n) is = subst (IsLike s) (sym (is.higher (λ e. cc)).1) (length-map s.voices (voice_by (move_from key (negsuc n))), refl)
 
 -- drawn too
-heard_drawn : (staves : Option Line) (written drawn : Score) → IsDrawn staves written (Ok drawn) → (0 < written.measures → 1 ≤ length written.voices) → 0 < drawn.measures → 1 ≤ length drawn.voices
+heard_drawn : (staves : Option Line) (written drawn : Score) → IsScoreDrawn staves written (Ok drawn) → (0 < written.measures → 1 ≤ length written.voices) → 0 < drawn.measures → 1 ≤ length drawn.voices
 heard_drawn None written drawn draws h some = let same = same_Ok drawn written draws in subst (λ (s : Score). 1 ≤ length s.voices) (sym same) (h (subst (λ (s : Score). 0 < s.measures) same some))
 heard_drawn (Some line) written drawn (plan, spells, share, is) h some =
-    let fits = subst (λ n. IsPlanFor n plan) (length-map written.voices (λ (v : Voice). v.id)) (spelled-plan (ids_of written) line.text plan spells) in
+    let fits = subst (λ n. IsPlanFor n plan) (length-map written.voices (λ (v : Voice). v.id)) (spelled-plan (score_ids written) line.text plan spells) in
     subst (λ (s : Score). 1 ≤ length s.voices) (sym is) (drawn_heard written plan fits)
 
 -- moved too

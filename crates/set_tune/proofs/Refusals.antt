@@ -1,6 +1,6 @@
 -- The stages of a tune's setting, put together: what each refuses is the one fault of the tune.
 use Rattle.std.proofs.Common.{◌≡◌, sym, subst, inl, inr, ℕ, None, Some, Result, Ok, Err, IfErr}
-use Rattle.{abc_lines.specs.declared.{book.TuneText.TuneText, fault.TuneError.TuneError}, abc_header.specs.{declared.header.Header.Header, Papers.{height_of, width_of}}}
+use Rattle.{abc_lines.specs.declared.{book.TuneText.TuneText, fault.TuneError.TuneError}, abc_fields.specs.{declared.header.Header.Header, Papers.{body_height, body_width}}}
 use Rattle.{mus_score.specs.declared.score.Score.{Score}, lay_pages.specs.{Titles.title_block_of, Filling.first_tall}, lay_tune.specs.Layout.{IsNoWay}}
 use Rattle.set_tune.specs.{Terms.Terms, declared.tune.SetTune.SetTune, Blocks.blocks_of, Setting.{HasScore, IsFaultOfTune, IsLaid, IsLaidOut, IsLaidTune, IsLayoutRefusal, IsMovedRefusal, IsRefusal, IsTallRefusal, of_header, of_score, of_share, of_move, no_way, too_tall}}
 
@@ -16,7 +16,7 @@ score_refused tune terms (TuneError.Fault fault) (inr (inr (cant, at))) = subst 
 
 -- no breaking is legal
 pub layout_refused : (tune : TuneText) (terms : Terms) (header : Header) (score : Score) (width : ℕ) (e : TuneError)
-    → HasScore tune terms.defaults terms.manner header score → width ≡ width_of terms.paper → IsLayoutRefusal tune width score e → IsRefusal tune terms e
+    → HasScore tune terms.defaults terms.manner header score → width ≡ body_width terms.paper → IsLayoutRefusal tune width score e → IsRefusal tune terms e
 layout_refused tune terms header score width TuneError.Memory has is h = tt
 layout_refused tune terms header score width (TuneError.Fault fault) has is (reached, spans, none, at) =
     subst (IsFaultOfTune tune terms) (sym at)
@@ -24,7 +24,7 @@ layout_refused tune terms header score width (TuneError.Fault fault) has is (rea
 
 -- the tune up to its layout
 pub laid_tune : (tune : TuneText) (terms : Terms) (header : Header) (score : Score) (width : ℕ) (t : SetTune)
-    → HasScore tune terms.defaults terms.manner header score → width ≡ width_of terms.paper → IsLaid width header score t → IsLaidTune tune terms t
+    → HasScore tune terms.defaults terms.manner header score → width ≡ body_width terms.paper → IsLaid width header score t → IsLaidTune tune terms t
 laid_tune tune terms header score width t has is laid = record {
   score = subst (λ h. HasScore tune terms.defaults terms.manner h t.score) (sym laid.head) (subst (λ s. HasScore tune terms.defaults terms.manner header s) (sym laid.music) has);
   title = subst (λ w. t.title ≡ title_block_of w t.header.titles t.header.composers t.header.tempo) is
@@ -32,7 +32,7 @@ laid_tune tune terms header score width t has is laid = record {
   layout = subst (λ w. IsLaidOut w t) is laid.layout;
 }
 
-tall_error : (tune : TuneText) (terms : Terms) (high : ℕ) (t : SetTune) (e : TuneError) → IsLaidTune tune terms t → high ≡ height_of terms.paper → IsTallRefusal tune high t e → IsRefusal tune terms e
+tall_error : (tune : TuneText) (terms : Terms) (high : ℕ) (t : SetTune) (e : TuneError) → IsLaidTune tune terms t → high ≡ body_height terms.paper → IsTallRefusal tune high t e → IsRefusal tune terms e
 tall_error tune terms high t TuneError.Memory laid is h = tt
 tall_error tune terms high t (TuneError.Fault fault) laid is (block, first, at) =
     subst (IsFaultOfTune tune terms) (sym at)
@@ -40,6 +40,6 @@ tall_error tune terms high t (TuneError.Fault fault) laid is (block, first, at) 
 
 -- a group is too high
 pub tall_refused : (tune : TuneText) (terms : Terms) (high : ℕ) (t : SetTune) (r : Result SetTune TuneError)
-    → IsLaidTune tune terms t → high ≡ height_of terms.paper → IfErr r (IsTallRefusal tune high t) → IfErr r (IsRefusal tune terms)
+    → IsLaidTune tune terms t → high ≡ body_height terms.paper → IfErr r (IsTallRefusal tune high t) → IfErr r (IsRefusal tune terms)
 tall_refused tune terms high t (Ok set) laid is h = tt
 tall_refused tune terms high t (Err e) laid is h = tall_error tune terms high t e laid is h

@@ -1,11 +1,11 @@
 -- A tune that is set, and the one fault of a tune that isn't.
 use Rattle.std.specs.Prelude.{◌≡◌, ◌⊎◌, ⊤, ℕ, ℤ, List, Bool, Option, Some, None, Result, Ok, Err}
 use Rattle.abc_lines.specs.declared.{book.{Line.Line, TuneText.TuneText}, fault.{Fault.Fault, FaultKind.FaultKind, TuneError.TuneError}}
-use Rattle.{abc_header.specs.{declared.{defaults.Defaults.Defaults, header.Header.Header}, Headers.{IsHeaderOf, first_line, header_fault}, Papers.{height_of, width_of}}, abc_score.specs.Build.{IsFaultOf, IsScoreOf}}
+use Rattle.{abc_fields.specs.{declared.{defaults.Defaults.Defaults, header.Header.Header}, Headers.{IsHeaderOf, first_line_number, header_fault}, Papers.{body_height, body_width}}, abc_score.specs.Build.{IsFaultOf, IsScoreOf}}
 use Rattle.{mus_score.specs.{declared.score.Score.Score, GoodScore.IsGoodScore}, lay_breaks.specs.declared.costs.Span.{Span}}
 use Rattle.{lay_pages.specs.{Filling.first_tall, Titles.title_block_of}, lay_tune.specs.{declared.layout.Layout.Layout, Layout.{IsLayout, IsNoWay}}}
-use Rattle.{lay_shared.specs.{declared.plan.Plan.Plan, Alike.DoShare, Drawn.drawn_of, Plans.{Spells, ids_of}}, mus_units.specs.declared.key.Key.{Key}, mus_transpose.specs.Moved.{IsMoved}, mus_drawn.specs.Sounds.{sounds_of}}
-use Rattle.{mus_moved.specs.Higher.{AreHigher}, set_tune.specs.{Terms.{Manner, Terms}, declared.tune.SetTune.SetTune, Blocks.blocks_of}}
+use Rattle.{lay_shared.specs.{declared.plan.Plan.Plan, Alike.DoShare, Drawn.drawn_of, Plans.{SpellsPlan, score_ids}}, mus_units.specs.declared.key.Key.{Key}, mus_transpose.specs.Moved.{IsMoved}, mus_drawn.specs.Sounds.{sounds_of}}
+use Rattle.{law_transposition.specs.Higher.{AreHigher}, set_tune.specs.{Terms.{Manner, Terms}, declared.tune.SetTune.SetTune, Blocks.blocks_of}}
 
 -- The header of the tune, which has no fault.
 pub record HasHeader (tune : TuneText) (defaults : Defaults) (header : Header) : Type 0 where
@@ -25,22 +25,22 @@ share_fault line kind = record { kind = kind; line = line.number; column = 1 }
 -- the line spells no plan of the written score's staves, or two voices of one staff differ
 abbrev pub IsUnshared : Line → Score → Fault → Type 0
 IsUnshared line written fault =
-    (((plan : Plan) → Spells (ids_of written) line.text plan → ⊥) × (fault ≡ share_fault line FaultKind.BadScore))
-    ⊎ ((plan : Plan) × Spells (ids_of written) line.text plan × (DoShare written plan → ⊥) × (fault ≡ share_fault line FaultKind.BadShare))
+    (((plan : Plan) → SpellsPlan (score_ids written) line.text plan → ⊥) × (fault ≡ share_fault line FaultKind.BadScore))
+    ⊎ ((plan : Plan) × SpellsPlan (score_ids written) line.text plan × (DoShare written plan → ⊥) × (fault ≡ share_fault line FaultKind.BadShare))
 
 -- What comes of the written score and that line, where there is one: the score that is drawn, or a fault. Without a line the score
 -- that is drawn is the written one.
-abbrev pub IsDrawn : Option Line → Score → Result Score Fault → Type 0
-IsDrawn None written drawn = drawn ≡ Ok written
-IsDrawn (Some line) written (Ok drawn) = (plan : Plan) × Spells (ids_of written) line.text plan × DoShare written plan × (drawn ≡ drawn_of written plan)
-IsDrawn (Some line) written (Err fault) = IsUnshared line written fault
+abbrev pub IsScoreDrawn : Option Line → Score → Result Score Fault → Type 0
+IsScoreDrawn None written drawn = drawn ≡ Ok written
+IsScoreDrawn (Some line) written (Ok drawn) = (plan : Plan) × SpellsPlan (score_ids written) line.text plan × DoShare written plan × (drawn ≡ drawn_of written plan)
+IsScoreDrawn (Some line) written (Err fault) = IsUnshared line written fault
 
 -- The header, and the score that is set: the drawn one, moved, so that each head sounds so many semitones higher.
 pub record HasScore (tune : TuneText) (defaults : Defaults) (manner : Manner) (header : Header) (score : Score) : Type 0 where
   pub written : Score
   pub is : IsWritten tune defaults manner.flow header written
   pub drawn : Score
-  pub draws : IsDrawn header.staves written (Ok drawn)
+  pub draws : IsScoreDrawn header.staves written (Ok drawn)
   pub moved : IsMoved drawn header.key manner.by (Some score)
   pub sounds : AreHigher manner.by (sounds_of drawn) (sounds_of score)
   pub good : IsGoodScore score
@@ -50,7 +50,7 @@ pub record CantDraw (tune : TuneText) (defaults : Defaults) (manner : Manner) (f
   pub header : Header
   pub written : Score
   pub is : IsWritten tune defaults manner.flow header written
-  pub draws : IsDrawn header.staves written (Err fault)
+  pub draws : IsScoreDrawn header.staves written (Err fault)
 
 -- The score of the tune can't be moved so far.
 pub record CantMove (tune : TuneText) (defaults : Defaults) (manner : Manner) : Type 0 where
@@ -58,7 +58,7 @@ pub record CantMove (tune : TuneText) (defaults : Defaults) (manner : Manner) : 
   pub written : Score
   pub is : IsWritten tune defaults manner.flow header written
   pub drawn : Score
-  pub draws : IsDrawn header.staves written (Ok drawn)
+  pub draws : IsScoreDrawn header.staves written (Ok drawn)
   pub moved : IsMoved drawn header.key manner.by None
 
 -- the parts of a tune that are its layout
@@ -78,17 +78,17 @@ pub record IsLaid (width : ℕ) (header : Header) (score : Score) (t : SetTune) 
 -- The tune up to its layout and its title block, whatever the height of the page.
 pub record IsLaidTune (tune : TuneText) (terms : Terms) (t : SetTune) : Type 0 where
   pub score : HasScore tune terms.defaults terms.manner t.header t.score
-  pub title : t.title ≡ title_block_of (width_of terms.paper) t.header.titles t.header.composers t.header.tempo
-  pub layout : IsLaidOut (width_of terms.paper) t
+  pub title : t.title ≡ title_block_of (body_width terms.paper) t.header.titles t.header.composers t.header.tempo
+  pub layout : IsLaidOut (body_width terms.paper) t
 
 -- A tune that is set: none of its groups of blocks is higher than the page.
 pub record IsSetTune (tune : TuneText) (terms : Terms) (t : SetTune) : Type 0 where
   pub laid : IsLaidTune tune terms t
-  pub fits : first_tall (height_of terms.paper) (blocks_of t.title t.heights) ≡ None
+  pub fits : first_tall (body_height terms.paper) (blocks_of t.title t.heights) ≡ None
 
 -- a fault of the move or of the layout stands at the first line of the tune, in column 1
 abbrev pub layout_fault : TuneText → FaultKind → Fault
-layout_fault tune kind = record { kind = kind; line = first_line tune.lines; column = 1 }
+layout_fault tune kind = record { kind = kind; line = first_line_number tune.lines; column = 1 }
 
 -- The one fault of a tune, by stages: of its header; where that has none, of its body or its score; where the score has none,
 -- that its voices can't share staves as they should; where they can, that it can't be moved; where it can, that no breaking is
@@ -99,8 +99,8 @@ pub data IsFaultOfTune (tune : TuneText) (terms : Terms) : Fault → Type 0 wher
   of_share : (fault : Fault) → CantDraw tune terms.defaults terms.manner fault → IsFaultOfTune tune terms fault
   of_move : CantMove tune terms.defaults terms.manner → IsFaultOfTune tune terms (layout_fault tune FaultKind.BadMove)
   no_way : (header : Header) (score : Score) (reached : ℕ) (spans : List Span) → HasScore tune terms.defaults terms.manner header score
-      → IsNoWay score (width_of terms.paper) reached spans → IsFaultOfTune tune terms (layout_fault tune (FaultKind.NoWay reached))
-  too_tall : (t : SetTune) (block : ℕ) → IsLaidTune tune terms t → first_tall (height_of terms.paper) (blocks_of t.title t.heights) ≡ Some block → IsFaultOfTune tune terms (layout_fault tune (FaultKind.TooTall block))
+      → IsNoWay score (body_width terms.paper) reached spans → IsFaultOfTune tune terms (layout_fault tune (FaultKind.NoWay reached))
+  too_tall : (t : SetTune) (block : ℕ) → IsLaidTune tune terms t → first_tall (body_height terms.paper) (blocks_of t.title t.heights) ≡ Some block → IsFaultOfTune tune terms (layout_fault tune (FaultKind.TooTall block))
 
 -- The same of the stages up to the score; want of memory says nothing.
 abbrev pub IsScoreRefusal : TuneText → Defaults → TuneError → Type 0
@@ -110,7 +110,7 @@ IsScoreRefusal tune defaults (TuneError.Fault fault) = (header_fault tune ≡ So
 -- why the written score isn't drawn
 abbrev pub IsDrawRefusal : Option Line → Score → TuneError → Type 0
 IsDrawRefusal staves written TuneError.Memory = ⊤
-IsDrawRefusal staves written (TuneError.Fault fault) = IsDrawn staves written (Err fault)
+IsDrawRefusal staves written (TuneError.Fault fault) = IsScoreDrawn staves written (Err fault)
 
 -- why the drawn score isn't moved
 abbrev pub IsMoveRefusal : TuneText → Score → Key → ℤ → TuneError → Type 0

@@ -1,22 +1,22 @@
 ghost use Rattle.std.specs.{Prelude.{◌≡◌, ◌≤◌, ◌<◌, ◌^◌, ℕ, length, IfErr, IfOk, IfSome, None, Some, Ok}, Option.option_copied};
 ghost use Rattle.{mus_score.specs.GoodScore.{IsGoodScore}, abc_lines.specs.Good.{IsGoodTune}};
 ghost use Rattle.abc_lines.specs.declared.fault.TuneError.TheVariants as errors;
-ghost use Rattle.{abc_header.specs.{Good.IsGoodDefaults, Headers.first_line, Papers.{IsGoodPaper, height_of, width_of}}, lay_pages.specs.{Filling.first_tall, Titles.title_block_of}};
-ghost use Rattle.set_tune.specs.{Blocks.blocks_of, Setting.{HasScore, IsDrawn, IsDrawRefusal, IsLaid, IsLaidOut, IsLayoutRefusal, IsMoveRefusal, IsMovedRefusal, IsRefusal, IsScoreRefusal, IsSetTune, IsTallRefusal, IsWritten, layout_fault, share_fault}, Terms.{manner_of, terms_by, terms_of, unmoved}};
-ghost use Rattle.{lay_shared.specs.{Plans.{IsPlanFor, Spells, ids_of}, declared.plan.Plan.Plan}, mus_transpose.specs.Moved.{IsMoved}, mus_drawn.specs.Sounds.{sounds_of}};
-ghost use Rattle.mus_moved.specs.Higher.{AreHigher};
+ghost use Rattle.{abc_fields.specs.{Good.IsGoodDefaults, Headers.first_line_number, Papers.{IsGoodPaper, body_height, body_width}}, lay_pages.specs.{Filling.first_tall, Titles.title_block_of}};
+ghost use Rattle.set_tune.specs.{Blocks.blocks_of, Setting.{HasScore, IsScoreDrawn, IsDrawRefusal, IsLaid, IsLaidOut, IsLayoutRefusal, IsMoveRefusal, IsMovedRefusal, IsRefusal, IsScoreRefusal, IsSetTune, IsTallRefusal, IsWritten, layout_fault, share_fault}, Terms.{manner_of, terms_by, terms_of, unmoved}};
+ghost use Rattle.{lay_shared.specs.{Plans.{IsPlanFor, SpellsPlan, score_ids}, declared.plan.Plan.Plan}, mus_transpose.specs.Moved.{IsMoved}, mus_drawn.specs.Sounds.{sounds_of}};
+ghost use Rattle.law_transposition.specs.Higher.{AreHigher};
 
 use crate::blocks::blocks_of;
 use crate::how::How;
 use crate::tune::SetTune;
-use abc_header::{Defaults, Header, Paper, body_of, read_header};
+use abc_fields::{Defaults, Header, Paper, body_of, read_header};
 use abc_lines::{Fault, FaultKind, Line, TuneError, TuneText};
 use abc_score::build;
 use eng_jobs::Jobs;
 use lay_pages::{PageError, TitleBlock, fill, title_block};
-use lay_shared::{Plan, drawn, ids_of, read_plan, shared};
+use lay_shared::{Plan, drawn, score_ids, read_plan, shared};
 use lay_tune::{Layout, LayoutError, lay_out};
-use mus_moved::moved_sounds_higher;
+use law_transposition::moved_sounds_higher;
 use mus_score::Score;
 use mus_transpose::moved_or_same;
 use mus_units::Memory;
@@ -68,7 +68,7 @@ pub fn set_how<R: Threads + Sync>(
         Ok(read) => read,
         Err(error) => return Err(error),
     };
-    match lay(rt, alloc, tune, width, header, score, how.jobs) {
+    match lay_out_score(rt, alloc, tune, width, header, score, how.jobs) {
         Ok(laid) => on_pages(alloc, tune, high, laid),
         Err(error) => Err(error),
     }
@@ -125,7 +125,7 @@ fn read_score(
 /// The score that is drawn: the written one, or what the line of its staves makes of it.
 fn draw_score(alloc: Global, written: Score, staves: &Option<Line>) -> Result<Score, TuneError>
     requires { IsGoodScore written }
-    ensures drawn { IfOk result (λ drawn. IsDrawn staves.now written (Ok drawn)) }
+    ensures drawn { IfOk result (λ drawn. IsScoreDrawn staves.now written (Ok drawn)) }
     ensures good { IfOk result IsGoodScore }
     ensures fault { IfErr result (IsDrawRefusal staves.now written) }
 {
@@ -138,7 +138,7 @@ fn draw_score(alloc: Global, written: Score, staves: &Option<Line>) -> Result<Sc
 /// The score that is drawn as a line says, or the fault of the line.
 fn draw_by(alloc: Global, written: &Score, line: &Line) -> Result<Score, TuneError>
     requires { IsGoodScore written.now }
-    ensures drawn { IfOk result (λ drawn. IsDrawn (Some line.now) written.now (Ok drawn)) }
+    ensures drawn { IfOk result (λ drawn. IsScoreDrawn (Some line.now) written.now (Ok drawn)) }
     ensures good { IfOk result IsGoodScore }
     ensures fault { IfErr result (IsDrawRefusal (Some line.now) written.now) }
 {
@@ -155,11 +155,11 @@ fn draw_by(alloc: Global, written: &Score, line: &Line) -> Result<Score, TuneErr
 /// The plan that a line spells for the voices of a score.
 fn plan_of(alloc: Global, written: &Score, line: &Line) -> Result<Option<Plan>, Memory>
     requires { IsGoodScore written.now }
-    ensures spells { IfOk result (λ read. IfSome read (Spells (ids_of written.now) line.now.text)) }
-    ensures only { IfOk result (λ read. (plan : Plan) → Spells (ids_of written.now) line.now.text plan → read ≡ Some plan) }
+    ensures spells { IfOk result (λ read. IfSome read (SpellsPlan (score_ids written.now) line.now.text)) }
+    ensures only { IfOk result (λ read. (plan : Plan) → SpellsPlan (score_ids written.now) line.now.text plan → read ≡ Some plan) }
     ensures good { IfOk result (λ read. IfSome read (IsPlanFor (length written.now.voices))) }
 {
-    let ids = ids_of(alloc, written)?;
+    let ids = score_ids(alloc, written)?;
     read_plan(alloc, line.text.as_slice(), ids.as_slice())
 }
 
@@ -197,7 +197,7 @@ fn move_score(
 
 /// The number of the first line.
 fn first_line(lines: &[Line]) -> u32
-    ensures { result ≡ first_line lines.now }
+    ensures { result ≡ first_line_number lines.now }
 {
     match lines {
         [] => 0,
@@ -232,7 +232,7 @@ fn title_of(alloc: Global, width: u32, header: &Header) -> Result<TitleBlock, Me
 }
 
 /// A score laid out on a width by so many jobs, under the title block of its header.
-fn lay<R: Threads + Sync>(
+fn lay_out_score<R: Threads + Sync>(
     rt: &R,
     alloc: Global,
     tune: &TuneText,

@@ -1,4 +1,4 @@
-use abc_header::Header;
+use abc_fields::Header;
 use lay_breaks::{Breaking, Span};
 use lay_pages::{Heights, TitleBlock};
 use lay_springs::Placed;

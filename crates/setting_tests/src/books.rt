@@ -2,14 +2,14 @@
 
 ghost use Rattle.{abc_lines.specs.Good.{IsGoodBook}, set_lists.specs.Listing.{AreListable}};
 
-use abc_header::{body_of, read_paper};
+use abc_fields::{body_of, read_paper};
 use abc_lines::{Book, cut_book};
 use answer_texts::{count_at, numbers_of, put_breaking, put_placed, put_spans};
 use case_texts::Report;
 use eng_jobs::Jobs;
 use lay_pages::TitleBlock;
 use mus_units::{Memory, Size};
-use set_book::{Open, Outcome, set_all};
+use set_book::{NoGate, Outcome, set_all};
 use set_lists::{
     fault_count, has_fault, outcomes_are_listable, put_listing, put_reports, put_systems,
     set_count, system_count, total_of,
@@ -89,7 +89,7 @@ fn put_set_book<R: Threads + Sync>(
     let (width, height) = body_of(&paper);
     out.tell(format_args!("body {width} {height}\n"))?;
     let how = How::unmoved(false);
-    let outcomes = set_all(rt, out.alloc, book, &paper, how, jobs, &Open)?;
+    let outcomes = set_all(rt, out.alloc, book, &paper, how, jobs, &NoGate)?;
     outcomes_are_listable();
     put_told(out, outcomes.as_slice())
 }

@@ -1,7 +1,7 @@
 //! Columns of systems and of measures.
 
 use case_texts::{Report, put_key};
-use lay_columns::{Column, Reach};
+use lay_reaches::{Column, Reach};
 use mus_units::Memory;
 
 fn put_reach(out: &mut Report, reach: Option<Reach>) -> Result<(), Memory> {

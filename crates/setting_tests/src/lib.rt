@@ -18,7 +18,7 @@ mod voices;
 
 use crate::calls::put_answer;
 use case_texts::{Report, put_out, text_case, told};
-use lay_measures::measures_join;
+use lay_columns::measures_join;
 use mus_bridges::beams_by_levels;
 use mus_stems::{beams_by_groups, no_other_plans, slopes_by_beams};
 use mus_units::{Memory, Text};

@@ -1,7 +1,7 @@
 //! How events are drawn beside their heads.
 
 ghost use Rattle.std.specs.Prelude.{◌≡◌, IsTrue, All, length, map};
-ghost use Rattle.{mus_score.specs.{Good.IsGoodBody, GoodScore.IsGoodScore, GoodScore.IsGoodVoice}, mus_stems.specs.{Heads.{AllNear, IsNear, stand_of}, Stills.{AllCanStand, CanStand, clefs_from}}};
+ghost use Rattle.{mus_score.specs.{Good.IsGoodBody, GoodScore.IsGoodScore, GoodScore.IsGoodVoice}, mus_stems.specs.{Heads.{AllNear, IsNearStaff, stand_of}, Stills.{AllCanStand, CanDrawEvent, clefs_from}}};
 
 use case_texts::Report;
 use mus_score::{Flat, Measure, Score, Voice, flatten};
@@ -54,7 +54,7 @@ pub(crate) fn put_plans(out: &mut Report, plans: &[StemPlan]) -> Result<(), Memo
 
 #[tactic(auto, unfolding(mus_stems::specs::Heads::stand_of))]
 fn is_near(head: &Head, clef: Clef) -> bool
-    ensures { IsTrue result → IsNear (stand_of clef head.now) }
+    ensures { IsTrue result → IsNearStaff (stand_of clef head.now) }
 {
     let at = height(head.pitch, clef);
     -14 <= at && at <= 22
@@ -72,7 +72,7 @@ fn are_near(heads: &[Head], clef: Clef) -> bool
 }
 
 fn can_stand(flat: &Flat<'_>, clef: Clef) -> bool
-    ensures { IsTrue result → CanStand flat.now clef }
+    ensures { IsTrue result → CanDrawEvent flat.now clef }
 {
     let heads = flat.event().heads.as_slice();
     heads.len() <= 50000 && flat.event().value.dots <= 3 && are_near(heads, clef)

@@ -1,8 +1,8 @@
 //! The score of the first tune of a book.
 
-ghost use Rattle.{std.specs.Prelude.{IfOk}, abc_lines.specs.Good.{IsGoodTune}, abc_header.specs.Good.{IsGoodDefaults}, mus_score.specs.GoodScore.{IsGoodScore}};
+ghost use Rattle.{std.specs.Prelude.{IfOk}, abc_lines.specs.Good.{IsGoodTune}, abc_fields.specs.Good.{IsGoodDefaults}, mus_score.specs.GoodScore.{IsGoodScore}};
 
-use abc_header::{Defaults, read_defaults, read_header};
+use abc_fields::{Defaults, read_defaults, read_header};
 use abc_lines::{TuneError, TuneText, cut_book};
 use abc_score::build;
 use mus_score::Score;

@@ -1,7 +1,7 @@
 //! Beams that slope.
 
 ghost use Rattle.{std.specs.Prelude.{IsTrue}, mus_score.specs.{Good.IsGoodBody, GoodScore.IsGoodScore, GoodScore.IsGoodVoice}};
-ghost use Rattle.{mus_stems.specs.{Plans.AllEndsNear, Slope.ArePlaces}, setting_tests.specs.Rising.{AreRising, RisesFrom}};
+ghost use Rattle.{mus_stems.specs.{Plans.AllEndsNear, Slope.ArePlaces}, setting_tests.specs.Rising.{AreRisingNumbers, AreNumbersRisingFrom}};
 
 use crate::marks::put_system;
 use crate::plans::{can_all_stand, put_plans};
@@ -9,7 +9,7 @@ use case_texts::Report;
 use mus_marks::{marks, tilt};
 use mus_score::{Measure, Score, Voice, flatten};
 use mus_stems::{StemPlan, slope, stems};
-use mus_time::onsets;
+use mus_onsets::onsets;
 use mus_units::Memory;
 
 /// Whether each number can be an abscissa.
@@ -26,7 +26,7 @@ fn are_places(at: &[i64]) -> bool
 
 /// Whether numbers rise from a first one.
 fn rise_from(first: i64, rest: &[i64]) -> bool
-    ensures { IsTrue result → RisesFrom first rest.now }
+    ensures { IsTrue result → AreNumbersRisingFrom first rest.now }
 {
     let mut before = first;
     for x in rest {
@@ -40,7 +40,7 @@ fn rise_from(first: i64, rest: &[i64]) -> bool
 
 /// Whether numbers rise.
 fn are_rising(at: &[i64]) -> bool
-    ensures { IsTrue result → AreRising at.now }
+    ensures { IsTrue result → AreRisingNumbers at.now }
 {
     match at {
         [] => true,

@@ -1,10 +1,10 @@
 //! Voices as they are drawn.
 
 use case_texts::{Report, put_clef, put_meter, put_signs};
-use mus_drawn::{DrawnEvent, DrawnMeasure, DrawnVoice, Opening};
+use mus_drawn::{DrawnEvent, DrawnMeasure, DrawnVoice, SystemOpening};
 use mus_units::Memory;
 
-fn put_opening(out: &mut Report, opening: &Opening) -> Result<(), Memory> {
+fn put_opening(out: &mut Report, opening: &SystemOpening) -> Result<(), Memory> {
     out.next(b"measure")?;
     put_clef(out, opening.clef)?;
     put_meter(out, opening.meter)?;

@@ -1,6 +1,6 @@
 use Rattle.std.{proofs.Common.◌≡◌, proofs.Common.◌∙◌, proofs.Common.◌++◌, proofs.Common.◌∷◌, proofs.Common.◌<◌, proofs.Common.ℕ, proofs.Common.ap, proofs.Common.subst, proofs.Common.sym, proofs.Common.length, proofs.Common.take, proofs.Common.drop, proofs.Common.slice_index_or, proofs.Common.arith, proofs.lemmas.Grind.common_steps, proofs.lemmas.List.take-append-le, proofs.lemmas.List.take_all, specs.Vec.Iter.into_iter_items}
-use Rattle.abc_signs.specs.Signs.{IsDrawn}
-use Rattle.abc_events.{specs.Leaves.leaves_from, specs.Measures.leaves_in, specs.Nesting.{IsReady, grown, no_tree}, proofs.Taken.all_left, proofs.Taken.count_left}
+use Rattle.abc_signs.specs.Signs.{HasDrawableValues}
+use Rattle.abc_events.{specs.Leaves.leaves_from, specs.Measures.leaves_in, specs.Nesting.{TakesAnother, grown, no_tree}, proofs.Taken.all_left, proofs.Taken.count_left}
 use Rattle.abc_events.proofs.measures.trees_of.Goals as goal
 
 pub loop-sign-preserved : goal.loop-sign-preserved
@@ -10,13 +10,13 @@ loop-sign-preserved c =
     let back : take c.loop-sign.trees.len (made ++ drop (length made) old) ≡ made = take-append-le c.loop-sign.trees.len made (drop (length made) old) (omega arith) ∙ take_all c.loop-sign.trees.len made (omega arith) in
     record {
       len = grind (arith, common_steps);
-      ready = subst (λ ts. (k : ℕ) → k < c.args.n → IsReady (slice_index_or ts k no_tree).stack.items) (sym back) (λ k less. c.in_ok-put_sign.ensures.ready k (omega arith));
+      ready = subst (λ ts. (k : ℕ) → k < c.args.n → TakesAnother (slice_index_or ts k no_tree).stack.items) (sym back) (λ k less. c.in_ok-put_sign.ensures.ready k (omega arith));
       trees = λ k less.
           ap (λ ts. grown (slice_index_or ts k no_tree) (leaves_in k (leaves_from c.args.words.now c.put_sign.new.at.event c.put_sign.new.at.id (into_iter_items c.next.new.self)))) back
           ∙ (c.in_ok-put_sign.ensures.grown k (into_iter_items c.next.new.self) (omega arith)
           ∙ (ap (λ ts. grown (slice_index_or ts k no_tree) (leaves_in k (leaves_from c.args.words.now c.loop-sign.at.event c.loop-sign.at.id (c.in-Some.sign ∷ into_iter_items c.next.new.self)))) given
           ∙ (ap (λ xs. grown (slice_index_or old k no_tree) (leaves_in k (leaves_from c.args.words.now c.loop-sign.at.event c.loop-sign.at.id xs))) (sym c.in-Some.ensures.steps.0)
           ∙ c.loop-sign.invariant.trees k less)));
-      drawn = all_left IsDrawn (into_iter_items c.loop-sign.sign-iterator) (into_iter_items c.next.new.self) c.in-Some.sign c.in-Some.ensures.steps.0 c.loop-sign.invariant.drawn;
+      drawn = all_left HasDrawableValues (into_iter_items c.loop-sign.sign-iterator) (into_iter_items c.next.new.self) c.in-Some.sign c.in-Some.ensures.steps.0 c.loop-sign.invariant.drawn;
       count = count_left (into_iter_items c.loop-sign.sign-iterator) (into_iter_items c.next.new.self) c.in-Some.sign _ _ c.in-Some.ensures.steps.0 c.in-Some.ensures.steps.1 c.loop-sign.invariant.count;
     }

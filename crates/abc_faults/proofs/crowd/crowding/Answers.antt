@@ -1,9 +1,9 @@
-use Rattle.{std.proofs.Common.{List, subst}, abc_faults.{specs.{declared.weights.Weight.Weight, First.IsFirst, First.first_of, Weights.crowded}, proofs.{Crowds.first_along, Crowds.same_crowd, Firsts.first_is}}}
+use Rattle.{std.proofs.Common.{List, subst}, abc_faults.{specs.{declared.weights.Weight.Weight, First.IsFirstInOrder, First.first_of, Weights.crowded}, proofs.{Crowds.first_along, Crowds.same_crowd, Firsts.first_is}}}
 use Rattle.abc_faults.proofs.crowd.crowding.Goals as goal
 
-first : (c : goal.After-drop-weights-inside) → IsFirst (crowded c.args.weights) c.first_crowded.result
+first : (c : goal.After-drop-weights-inside) → IsFirstInOrder (crowded c.args.weights) c.first_crowded.result
 first c =
-    let found = c.first_crowded.result in let P : List Weight → Type 0 = λ z. IsFirst (crowded z) found in
+    let found = c.first_crowded.result in let P : List Weight → Type 0 = λ z. IsFirstInOrder (crowded z) found in
     first_along c.args.weights c.in_ok-weights.weights found c.in_ok-weights.ensures.same (subst P c.as_slice.ensures c.first_crowded.ensures)
 
 pub returns-clause-value : goal.returns-clause-value

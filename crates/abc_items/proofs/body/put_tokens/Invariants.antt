@@ -1,11 +1,11 @@
 use Rattle.std.{proofs.Common.{◌≡◌, ◌++◌, length, List, All, flat_map}, specs.Vec.Iter.{into_iter_items, into_iter_len}}
-use Rattle.{abc_tokens.specs.Good.{AreGoodTokens}, abc_items.specs.{Good.IsGoodItem, Body.Given, Body.placed_given, Body.judged, Body.first_fault, Body.items_in}}
+use Rattle.{abc_music.specs.Good.{AreGoodTokens}, abc_items.specs.{Good.IsGoodItem, Body.ItemOrFault, Body.placed_given, Body.judged_items, Body.first_item_fault, Body.items_in}}
 use Rattle.abc_items.proofs.body.put_tokens.Given as goal
 
 abbrev pub invariant-loop-placed : goal.invariant-loop-placed
 invariant-loop-placed l = record {
-  faults : (h : List Given) → first_fault (judged l.fn.body.ids (flat_map (placed_given l.breaks l.line) (into_iter_items l.initial.placed-iterator) ++ h)) ≡ first_fault (judged l.body.ids (flat_map (placed_given l.breaks l.line) (into_iter_items l.placed-iterator) ++ h));
-  items : (h : List Given) → l.fn.body.items ++ items_in (flat_map (placed_given l.breaks l.line) (into_iter_items l.initial.placed-iterator) ++ h) ≡ l.body.items ++ items_in (flat_map (placed_given l.breaks l.line) (into_iter_items l.placed-iterator) ++ h);
+  faults : (h : List ItemOrFault) → first_item_fault (judged_items l.fn.body.ids (flat_map (placed_given l.breaks l.line) (into_iter_items l.initial.placed-iterator) ++ h)) ≡ first_item_fault (judged_items l.body.ids (flat_map (placed_given l.breaks l.line) (into_iter_items l.placed-iterator) ++ h));
+  items : (h : List ItemOrFault) → l.fn.body.items ++ items_in (flat_map (placed_given l.breaks l.line) (into_iter_items l.initial.placed-iterator) ++ h) ≡ l.body.items ++ items_in (flat_map (placed_given l.breaks l.line) (into_iter_items l.placed-iterator) ++ h);
   good : All IsGoodItem l.body.items;
   tokens : AreGoodTokens (into_iter_items l.placed-iterator);
   count : into_iter_len l.placed-iterator ≡ length (into_iter_items l.placed-iterator);

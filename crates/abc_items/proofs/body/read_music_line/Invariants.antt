@@ -1,8 +1,8 @@
-use Rattle.{std.proofs.Common.{length, All}, abc_tokens.specs.Tokens.{IsWithin}, abc_items.{specs.Good.IsGoodItem, proofs.MusicLaws.LineStage}}
+use Rattle.{std.proofs.Common.{length, All}, abc_music.specs.Tokens.{IsWithinLine}, abc_items.{specs.Good.IsGoodItem, proofs.MusicLaws.LineStage}}
 use Rattle.abc_items.proofs.body.read_music_line.Given as goal
 
 abbrev pub invariant-loop-part : goal.invariant-loop-part
-invariant-loop-part l = record { stage : LineStage l.breaks l.line l.fn.body l.place l.body; within : IsWithin l.line l.place; good : All IsGoodItem l.body.items }
+invariant-loop-part l = record { stage : LineStage l.breaks l.line l.fn.body l.place l.body; within : IsWithinLine l.line l.place; good : All IsGoodItem l.body.items }
 
 abbrev pub decreases-loop-part : goal.decreases-loop-part
 decreases-loop-part l = length l.place.rest.now

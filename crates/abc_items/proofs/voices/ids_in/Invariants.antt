@@ -1,5 +1,5 @@
 use Rattle.std.proofs.Common.{◌≡◌, ◌++◌, drop, map}
-use Rattle.abc_fields.specs.declared.voice.VoiceDef.{VoiceDef}
+use Rattle.abc_field.specs.declared.voice.VoiceDef.{VoiceDef}
 use Rattle.abc_items.proofs.voices.ids_in.Given as goal
 
 abbrev pub invariant-loop-def : goal.invariant-loop-def

@@ -1,5 +1,5 @@
 use Rattle.std.proofs.Common.{ap, ◌∙◌, ◌||◌}
-use Rattle.abc_notes.{specs.Items.is_note, proofs.{PartLaws.{all_within}, InnerLaws.{found_inner, none_inner, inner_less}}}
+use Rattle.abc_notes.{specs.Items.is_inner_note, proofs.{PartLaws.{all_within}, InnerLaws.{found_inner, none_inner, inner_less}}}
 use Rattle.abc_notes.proofs.ChordLaws.{seeking-begins, seeking-next, seeking-ends, bracket_within}
 use Rattle.abc_notes.proofs.chord.bracket_at.Goals as goal
 
@@ -12,7 +12,7 @@ parts-smaller c = inner_less c.args.bang (found_inner c.args.bang c.parts.rest.n
 pub parts-preserved : goal.parts-preserved
 parts-preserved c =
     let found = found_inner c.args.bang c.parts.rest.now c.in-Some.ensures in
-    let head = c.either-head.ensures ∙ ap (λ b. c.parts.head || b) (c.is_note.ensures ∙ ap is_note found.says) in
+    let head = c.either-head.ensures ∙ ap (λ b. c.parts.head || b) (c.is_inner_note.ensures ∙ ap is_inner_note found.says) in
     seeking-next c.args.bang c.parts.invariant found.at head (rw c.bracket_in_name.ensures at c.later_or-last.ensures)
 
 pub returns-clause-read : goal.returns-clause-read

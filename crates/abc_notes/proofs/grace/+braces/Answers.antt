@@ -3,7 +3,7 @@ use Rattle.abc_notes.proofs.CrossLaws.{brace_upto, passing-begins, passing-found
 use Rattle.abc_notes.proofs.CrossLaws.{passing-next, passing-ends, chord-within, clear-none, item-brace, item-at, length_shorter, brace_fits}
 use Rattle.abc_notes.proofs.{CrossLaws.{past_is, chord-brace}, InnerLaws.{found_inner, none_inner, inner_less}, PartLaws.all_within}
 use Rattle.abc_notes.proofs.GraceLaws.{found_part, none_part, part_less, seeking-begins, seeking-next, seeking-ends, brace_within}
-use Rattle.abc_notes.{specs.{Items.is_note, Graces.is_in_grace}, proofs.CutLaws.none_left}
+use Rattle.abc_notes.{specs.{Items.is_inner_note, Graces.is_in_grace}, proofs.CutLaws.none_left}
 use Rattle.abc_notes.proofs.grace.+braces.Goals as goal
 
 pub brace_at-parts-init : goal.brace_at-parts-init
@@ -47,7 +47,7 @@ brace_behind_chords-parts-smaller t c = inner_less c.args.bang (found_inner c.ar
 pub brace_behind_chords-parts-preserved : goal.brace_behind_chords-parts-preserved
 brace_behind_chords-parts-preserved t c =
     let stage = c.parts.invariant in let f = found_inner c.args.bang c.parts.rest.now c.in-Some.ensures in
-    let head = c.either-head.ensures ∙ ap (λ b. c.parts.head || b) (c.is_note.ensures ∙ ap is_note f.says) in
+    let head = c.either-head.ensures ∙ ap (λ b. c.parts.head || b) (c.is_inner_note.ensures ∙ ap is_inner_note f.says) in
     let bracket = rw c.bracket_in_name-closing.ensures at c.later_or-bracket.ensures in
     let found = (rw c.brace_between.ensures at c.later_or-last.ensures) ∙ passing-found c.args.bang stage c.bracket_in_name-closing.ensures in
     passing-next c.args.bang stage f.at head bracket (found ∙ ap (brace_upto c.args.bang c.args.inside.now) (sym c.later_or-bracket.ensures))
@@ -69,7 +69,7 @@ brace_behind_chords-returns-clause-within t c =
 pub brace_past-overflow_sub-chord : goal.brace_past-overflow_sub-chord
 brace_past-overflow_sub-chord t c =
     let first : c.split_at.result.0.now ≡ c.in_ok-behind.field-0-0.now ∷ c.in_ok-behind.behind.now = search rules in
-    let fits = brace_fits c.args.bang c.in_ok-behind.behind.now c.length_at.ensures c.in_ok-brace.ensures.read in
+    let fits = brace_fits c.args.bang c.in_ok-behind.behind.now c.length_from.ensures c.in_ok-brace.ensures.read in
     omega (arith, ap length first, fits)
 
 pub brace_past-returns : goal.brace_past-returns
@@ -79,7 +79,7 @@ brace_past-returns t c =
     let n = length c.split_at.result.0.now - length c.in_ok-brace.brace.now in
     let behind : c.split_at-2.result.1.now ≡ drop n c.args.bracket.now = search rules in
     ap Some behind
-    ∙ past_is c.args.bang c.args.closing.now c.requires.behind front first c.length_at.ensures c.in_ok-brace.ensures.read
+    ∙ past_is c.args.bang c.args.closing.now c.requires.behind front first c.length_from.ensures c.in_ok-brace.ensures.read
 
 pub brace_in_chord-returns-then-is_empty-clause-read : goal.brace_in_chord-returns-then-is_empty-clause-read
 brace_in_chord-returns-then-is_empty-clause-read t c =
@@ -90,7 +90,7 @@ pub brace_past-brace_at-requires : goal.brace_past-brace_at-requires
 brace_past-brace_at-requires t c =
     let first : c.split_at.result.0.now ≡ c.in_ok-behind.field-0-0.now ∷ c.in_ok-behind.behind.now = search rules in
     let fits : length c.split_at.result.0.now ≤ length c.args.bracket.now = search rules in
-    let shorter = length_shorter c.in_ok-behind.behind.now c.length_at.ensures in
+    let shorter = length_shorter c.in_ok-behind.behind.now c.length_from.ensures in
     (omega (arith, c.decreases, ap length first, fits, shorter), omega (arith, c.requires.small, ap length first, fits, shorter))
 
 pub brace_in_part-returns-in_ok-brace-in-Chord : goal.brace_in_part-returns-in_ok-brace-in-Chord

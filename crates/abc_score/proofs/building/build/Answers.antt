@@ -1,4 +1,4 @@
-use Rattle.{std.proofs.Common.{◌∙◌, ◌≤◌, List, length, ap, drop, subst, sym}, abc_steps.specs.declared.step.Item.Item, abc_items.specs.Voices.ids_of}
+use Rattle.{std.proofs.Common.{◌∙◌, ◌≤◌, List, length, ap, drop, subst, sym}, abc_steps.specs.declared.step.BodyItem.BodyItem, abc_items.specs.Voices.voice_ids}
 use Rattle.abc_score.proofs.{Ids.few_ids, Lines.words_rise_behind}
 use Rattle.abc_score.proofs.building.build.Goals as goal
 
@@ -11,4 +11,4 @@ score_in-requires-clause-rise c =
 pub score_in-requires-clause-few : goal.score_in-requires-clause-few
 score_in-requires-clause-few c =
     let few = few_ids c.args.header.now c.split_at.result.1.now c.in-Ok.items c.requires.header.0 c.in-Ok.ensures.items in
-    subst (λ (items : List Item). length (ids_of c.args.header.now items) ≤ 16) (sym c.as_slice-in-Ok.ensures) few
+    subst (λ (items : List BodyItem). length (voice_ids c.args.header.now items) ≤ 16) (sym c.as_slice-in-Ok.ensures) few

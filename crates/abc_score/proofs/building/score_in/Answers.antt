@@ -1,26 +1,26 @@
 use Rattle.{std.{proofs.Common.{◌≡◌, ◌∙◌, List, ℕ, Option, [], ap, subst, sym}, specs.Prelude.None}, abc_lines.specs.declared.fault.Fault.Fault}
-use Rattle.{abc_faults.specs.First.IsFirst, abc_steps.specs.declared.step.Item.Item, mus_score.specs.GoodScore.IsGoodScore}
+use Rattle.{abc_faults.specs.First.IsFirstInOrder, abc_steps.specs.declared.step.BodyItem.BodyItem, mus_score.specs.GoodScore.IsGoodScore}
 use Rattle.{abc_items.specs.Voices.unnamed_of, abc_words.specs.Verses.verse_fault}
 use Rattle.abc_score.{proofs.{Clear.{clear_verses, few_measures, voices_clear}, Taken.all_of, Wholes.good_score}, specs.Score.score_with}
-use Rattle.abc_score.specs.{declared.{keeping.Judged.Judged, voices.VoiceRead.VoiceRead}, Faults.faults_of_voices, Voices.IsGoodRead}
+use Rattle.abc_score.specs.{declared.{keeping.JudgedVoice.JudgedVoice, voices.ReadVoice.ReadVoice}, Faults.faults_of_voices, Voices.IsGoodRead}
 use Rattle.abc_score.proofs.building.score_in.Goals as goal
 
 -- no fault is found among those of all voices
-none_found : (id unnamed : List ℕ) (items : List Item) (voices : List VoiceRead) (fault : Option Fault) → id ≡ unnamed → fault ≡ None
-    → IsFirst (faults_of_voices id items voices) fault → faults_of_voices unnamed items voices ≡ []
+none_found : (id unnamed : List ℕ) (items : List BodyItem) (voices : List ReadVoice) (fault : Option Fault) → id ≡ unnamed → fault ≡ None
+    → IsFirstInOrder (faults_of_voices id items voices) fault → faults_of_voices unnamed items voices ≡ []
 none_found id unnamed items voices fault same none first =
-    ap (λ id. faults_of_voices id items voices) (sym same) ∙ subst (IsFirst (faults_of_voices id items voices)) none first
+    ap (λ id. faults_of_voices id items voices) (sym same) ∙ subst (IsFirstInOrder (faults_of_voices id items voices)) none first
 
 pub score_with-requires-clause-good : goal.score_with-requires-clause-good
 score_with-requires-clause-good c =
-    all_of (λ (j : Judged). j.read) IsGoodRead c.in_ok-judged.judged.voices (rw c.in_ok-judged.ensures.reads c.in_ok-voices.ensures.good)
+    all_of (λ (j : JudgedVoice). j.read) IsGoodRead c.in_ok-judged.judged.voices (rw c.in_ok-judged.ensures.reads c.in_ok-voices.ensures.good)
 
 pub score_with-requires-clause-clear : goal.score_with-requires-clause-clear
 score_with-requires-clause-clear c =
     let unnamed = unnamed_of c.args.header.now in let items = c.args.items.now in let voices = c.in_ok-voices.voices in
     let none = none_found _ _ items voices _ c.unnamed_of.ensures c.in-None.is c.in_ok-judged.ensures.fault in
-    let P : VoiceRead → Type 0 = λ v. verse_fault v.start.id unnamed items ≡ None in
-    all_of (λ (j : Judged). j.read) P c.in_ok-judged.judged.voices
+    let P : ReadVoice → Type 0 = λ v. verse_fault v.start.id unnamed items ≡ None in
+    all_of (λ (j : JudgedVoice). j.read) P c.in_ok-judged.judged.voices
     (rw c.in_ok-judged.ensures.reads (clear_verses unnamed items voices (voices_clear unnamed items voices none)))
 
 pub score_with-requires-clause-few : goal.score_with-requires-clause-few

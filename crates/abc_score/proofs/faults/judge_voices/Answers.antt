@@ -3,7 +3,7 @@ use Rattle.std.proofs.lemmas.{List.{Elements.{All-nil, All-push}, map-append, fl
 use Rattle.{abc_lines.specs.declared.fault.Fault.Fault, abc_faults.{specs.declared.weights.Weight.Weight, proofs.Walks.part_more}}
 use Rattle.abc_events.proofs.Taken.{all_left, count_left}
 use Rattle.abc_score.{proofs.Enough.{judged_both, none_judged}, specs.Voices.IsGoodRead}
-use Rattle.abc_score.specs.{Judged.{AreJudged, HasKept, reads_of}, Faults.{voice_faults, voice_weights}, declared.keeping.Judged.Judged}
+use Rattle.abc_score.specs.{Judged.{AreJudged, HasKept, reads_of}, Faults.{voice_faults, voice_weights}, declared.keeping.JudgedVoice.JudgedVoice}
 use Rattle.abc_score.proofs.faults.judge_voices.Goals as goal
 
 -- by equal faults, weights and a fault that is found
@@ -18,9 +18,9 @@ pub loop-read-preserved : goal.loop-read-preserved
 loop-read-preserved c =
     let of = voice_faults c.args.unnamed.now c.args.items.now in let v = c.in-Some.read in let cut = c.in-Some.ensures.steps.0 in
     let old = into_iter_items c.loop-read.read-iterator in let new = into_iter_items c.next.new.self in
-    let judged : Judged = record { read = v; kept = c.in_ok-own.kept } in let done = reads_of c.loop-read.judged in
+    let judged : JudgedVoice = record { read = v; kept = c.in_ok-own.kept } in let done = reads_of c.loop-read.judged in
     let more : reads_of c.push.new.self ≡ done ++ v ∷ [] =
-    ap reads_of c.in_ok-push.ensures.ok ∙ map-append (λ (j : Judged). j.read) c.loop-read.judged (judged ∷ []) in
+    ap reads_of c.in_ok-push.ensures.ok ∙ map-append (λ (j : JudgedVoice). j.read) c.loop-read.judged (judged ∷ []) in
     record {
       judged = judged_of (ap (flat_map of) more ∙ sym (flat_map_more of [] done v))
           (ap (flat_map voice_weights) more ∙ sym (flat_map_more voice_weights [] done v)) c.earlier-fault.ensures.value

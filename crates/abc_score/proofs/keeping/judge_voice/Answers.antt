@@ -1,18 +1,18 @@
 use Rattle.std.proofs.{Common.{◌≡◌, ◌∙◌, ◌+◌, ◌++◌, ◌<◌, ℕ, length, get_or, sym, ap, reverse, take, drop, true, rules, arith}, lemmas.List.drop_all}
-use Rattle.{abc_faults.proofs.Walks.{at_front, nearest, part_more}, abc_signs.specs.Signs.{signs, signs_of}}
-use Rattle.abc_steps.specs.{declared.{step.Stood.Stood, force.InForce.InForce}, Looks.Steps, Places.place_at}
+use Rattle.{abc_faults.proofs.Walks.{at_front, nearest, part_more}, abc_signs.specs.Signs.{signs, tree_items_of}}
+use Rattle.abc_steps.specs.{declared.{step.PlacedStep.PlacedStep, force.InForce.InForce}, Looks.Steps, Places.state_at}
 use Rattle.abc_score.{specs.Judged.is_idle, proofs.Idle.{idle_at, idle_so_far}}
 use Rattle.abc_score.proofs.Stops.{judged_to, judged_whole, none_so_far, step_so_far}
 use Rattle.abc_score.proofs.keeping.judge_voice.Goals as goal
 
-sign_parts : (first : InForce) (steps : Steps) (i : ℕ) (at : Stood) → i < length steps → at ≡ get_or steps i at
+sign_parts : (first : InForce) (steps : Steps) (i : ℕ) (at : PlacedStep) → i < length steps → at ≡ get_or steps i at
     → signs first (reverse (take i steps)) (drop i steps)
-    ≡ signs_of (place_at first (reverse (take i steps))) (reverse (take i steps)) at (drop (i + 1) steps) at.step
+    ≡ tree_items_of (state_at first (reverse (take i steps))) (reverse (take i steps)) at (drop (i + 1) steps) at.step
     ++ signs first (reverse (take (i + 1) steps)) (drop (i + 1) steps)
 sign_parts first steps i at less is =
     let before = reverse (take i steps) in let behind = drop (i + 1) steps in
     ap (signs first before) (at_front steps i at less is)
-    ∙ ap (λ z. signs_of (place_at first before) before at behind at.step ++ signs first z behind) (sym (nearest steps i at less is))
+    ∙ ap (λ z. tree_items_of (state_at first before) before at behind at.step ++ signs first z behind) (sym (nearest steps i at less is))
 
 pub loop-i-init : goal.loop-i-init
 loop-i-init c = search (rules, none_so_far)
@@ -27,12 +27,12 @@ loop-i-preserved c =
     record {
       judged = rw near judged.0;
       kept = λ whole.
-          let kept = c.in_ok-keep.ensures whole in let own_signs = signs_of (place_at first before) before at behind at.step in
+          let kept = c.in_ok-keep.ensures whole in let own_signs = tree_items_of (state_at first before) before at behind at.step in
           let is_put : c.keep.new.kept.signs ≡ c.loop-i.kept.signs ++ own_signs =
           cc (kept.1, c.loop-i.invariant.place, c.split_at.ensures.front, c.split_at-in-loop-i.ensures.back) in
           part_more own_signs _ (signs first before (drop i steps)) c.loop-i.kept.signs _ _
           (sign_parts first steps i at c.loop-i-test.true c.index-steps-i.is) is_put (c.loop-i.invariant.kept kept.0);
-      place = c.in_ok-step_over.ensures.value first before c.loop-i.invariant.place ∙ ap (place_at first) (sym near);
+      place = c.in_ok-step_over.ensures.value first before c.loop-i.invariant.place ∙ ap (state_at first) (sym near);
       groups = omega (arith, c.in_ok-step_over.ensures.groups);
       further = omega (arith, c.in_ok-step_over.ensures.further);
       force = c.in_ok-step_over.ensures.force;
@@ -49,7 +49,7 @@ loop-i-preserved-then-is_idle c =
     record {
       judged = idle_so_far first steps i at c.loop-i-test.true c.index-steps-i.is test c.loop-i.invariant.judged;
       kept = λ whole. ap (λ z. c.loop-i.kept.signs ++ z) (sym signs_are) ∙ c.loop-i.invariant.kept whole;
-      place = c.loop-i.invariant.place ∙ sym (ap (place_at first) near ∙ idle.place);
+      place = c.loop-i.invariant.place ∙ sym (ap (state_at first) near ∙ idle.place);
       groups = omega (arith, c.loop-i.invariant.groups);
       further = omega (arith, c.loop-i.invariant.further);
       force = c.loop-i.invariant.force;

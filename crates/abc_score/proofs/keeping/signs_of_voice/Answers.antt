@@ -1,5 +1,5 @@
-use Rattle.{std.{proofs.Common.{[], subst, sym}, specs.List.All}, abc_signs.{specs.Signs.IsDrawn, proofs.Drawn.signs_drawn}}
+use Rattle.{std.{proofs.Common.{[], subst, sym}, specs.List.All}, abc_signs.{specs.Signs.HasDrawableValues, proofs.Drawn.signs_drawn}}
 use Rattle.abc_score.proofs.keeping.signs_of_voice.Goals as goal
 
 pub returns-then-kept-clause-drawn : goal.returns-then-kept-clause-drawn
-returns-then-kept-clause-drawn c = subst (All IsDrawn) (sym (c.requires.kept c.if-kept.true).0) (signs_drawn c.args.v.now.first [] c.args.v.now.steps)
+returns-then-kept-clause-drawn c = subst (All HasDrawableValues) (sym (c.requires.kept c.if-kept.true).0) (signs_drawn c.args.v.now.first [] c.args.v.now.steps)

@@ -1,14 +1,14 @@
 use Rattle.std.{proofs.Common.{◌≡◌, ◌++◌, map, length}, specs.{List.All, Prelude.None, Vec.Iter.{into_iter_items, into_iter_len}}}
 use Rattle.{abc_items.specs.Voices.unnamed_of, abc_words.specs.Verses.verse_fault}
-use Rattle.abc_score.specs.{declared.keeping.Judged.Judged, Judged.{HasKept, reads_of}, Voices.IsGoodRead, Score.voice_of}
+use Rattle.abc_score.specs.{declared.keeping.JudgedVoice.JudgedVoice, Judged.{HasKept, reads_of}, Voices.IsGoodRead, Score.voice_by_header}
 use Rattle.abc_score.proofs.scores.voices_with.Given as goal
 
 abbrev pub invariant-loop-judged : goal.invariant-loop-judged
 invariant-loop-judged l = record {
-  list : l.out ++ map (voice_of l.header l.items l.n) (reads_of (into_iter_items l.judged-iterator))
-      ≡ map (voice_of l.header l.items l.n) (reads_of (into_iter_items l.initial.judged-iterator));
-  good : All (λ (j : Judged). IsGoodRead j.read) (into_iter_items l.judged-iterator);
+  list : l.out ++ map (voice_by_header l.header l.items l.n) (reads_of (into_iter_items l.judged-iterator))
+      ≡ map (voice_by_header l.header l.items l.n) (reads_of (into_iter_items l.initial.judged-iterator));
+  good : All (λ (j : JudgedVoice). IsGoodRead j.read) (into_iter_items l.judged-iterator);
   kept : All HasKept (into_iter_items l.judged-iterator);
-  clear : All (λ (j : Judged). verse_fault j.read.start.id (unnamed_of l.header) l.items ≡ None) (into_iter_items l.judged-iterator);
+  clear : All (λ (j : JudgedVoice). verse_fault j.read.start.id (unnamed_of l.header) l.items ≡ None) (into_iter_items l.judged-iterator);
   count : into_iter_len l.judged-iterator ≡ length (into_iter_items l.judged-iterator);
 }

@@ -1,4 +1,4 @@
-use Rattle.{std.{proofs.Common.{subst, sym}, specs.List.All}, abc_steps.specs.Good.{IsGoodForce, IsGoodStood}, abc_score.specs.Voices.first_force}
+use Rattle.{std.{proofs.Common.{subst, sym}, specs.List.All}, abc_steps.specs.Good.{IsGoodForce, IsGoodPlacedStep}, abc_score.specs.Voices.first_force}
 use Rattle.abc_score.proofs.voices.read_voice.Goals as goal
 
 pub returns-clause-good : goal.returns-clause-good
@@ -8,5 +8,5 @@ returns-clause-good c =
     record {
       few = c.in_ok-steps-2.ensures.few;
       first = subst IsGoodForce (sym c.in_ok-first.ensures) at_start;
-      steps = subst (All IsGoodStood) (sym c.in_ok-steps-2.ensures.same) (c.in_ok-steps.ensures.good c.requires.items);
+      steps = subst (All IsGoodPlacedStep) (sym c.in_ok-steps-2.ensures.same) (c.in_ok-steps.ensures.good c.requires.items);
     }

@@ -1,5 +1,5 @@
 use Rattle.std.{proofs.Common.{◌∙◌, sym, ap, subst}, specs.Prelude.All}
-use Rattle.{abc_lines.specs.declared.book.Book.{Book}, abc_header.specs.{Defaults.defaults_of, Papers.paper_of}}
+use Rattle.{abc_lines.specs.declared.book.Book.{Book}, abc_fields.specs.{Defaults.defaults_of, Papers.paper_of}}
 use Rattle.{abcps.proofs.Batches.IsCounted, set_pages.proofs.Readying.{book_counted}}
 use Rattle.abcps.proofs.printing.print_book.Goals as goal
 

@@ -1,10 +1,10 @@
 use Rattle.std.proofs.{Common.{◌≡◌, None, Some, IsSome, arith, sym, ◌∙◌, subst, slice_index_or, reverse}, lemmas.List.get_or_read_under}
-use Rattle.lay_breaks.{specs.Table.Follows, proofs.breaking.least.Goals.After-walk_back}
+use Rattle.lay_breaks.{specs.Table.LeadsBack, proofs.breaking.least.Goals.After-walk_back}
 use Rattle.lay_breaks.proofs.Whole as whole
 use Rattle.lay_breaks.proofs.breaking.least.Goals as goal
 
-follows : (g : _) (c : After-walk_back g) (bs : _) → Follows c.deref.result.now c.args.n (reverse bs) → Follows c.in_ok-potentials.field-0.froms.items c.args.n (reverse bs)
-follows g c bs h = subst (λ fs. Follows fs c.args.n (reverse bs)) c.deref.ensures.value h
+follows : (g : _) (c : After-walk_back g) (bs : _) → LeadsBack c.deref.result.now c.args.n (reverse bs) → LeadsBack c.in_ok-potentials.field-0.froms.items c.args.n (reverse bs)
+follows g c bs h = subst (λ fs. LeadsBack fs c.args.n (reverse bs)) c.deref.ensures.value h
 
 some : (g : _) (c : After-walk_back g) → slice_index_or c.in_ok-potentials.field-0.potentials.items c.args.n None ≡ Some c.in-Some.total
 some g c =

@@ -1,5 +1,5 @@
 use Rattle.std.proofs.{Common.◌==◌, Common.◌∷◌, Common.IfSome, Common.length, Common.ap, Common.sym, Common.◌∙◌, Common.subst, Common.arith, lemmas.List.length-append, lemmas.Bool.true≢false}
-use Rattle.lay_cert.{proofs.Judging.{IsReading, first_fault, stuck_at_line, stuck_at_end, reading_more, judged_all, ended_stage, no_length}, specs.Stands.{IsStep, IsSound, Stands}}
+use Rattle.lay_cert.{proofs.Judging.{IsReading, first_fault, stuck_at_line, stuck_at_end, reading_more, judged_all, ended_stage, no_length}, specs.Represents.{IsStep, IsSound, Represents}}
 use Rattle.lay_cert.proofs.check.check_listing.Goals as goal
 
 pub returns-in_default-2-clause-cause : goal.returns-in_default-2-clause-cause
@@ -29,7 +29,7 @@ pub returns-then-not-is_ended-clause-cause : goal.returns-then-not-is_ended-clau
 returns-then-not-is_ended-clause-cause c =
     let l = c.loop-raw in let r = l.invariant.reading in
     first_fault c.args.bytes.now l.stage l.judged l.rest.now l.line r (stuck_at_end r.place l.rest.now c.in_default.ensures
-    (λ es e is. c.is_ended.ensures.no c.if-not-is_ended.true (ended_stage l.stage l.judged es (subst (λ p. Stands l.stage l.judged p) is r.stands))))
+    (λ es e is. c.is_ended.ensures.no c.if-not-is_ended.true (ended_stage l.stage l.judged es (subst (λ p. Represents l.stage l.judged p) is r.stands))))
 
 pub returns-clause-judged : goal.returns-clause-judged
 returns-clause-judged c =

@@ -1,5 +1,5 @@
 use Rattle.std.proofs.Common.{◌+◌, ◌≤◌, length}
-use Rattle.lay_cert.{specs.Stands.IsSound, proofs.Judging.IsReading}
+use Rattle.lay_cert.{specs.Represents.IsSound, proofs.Judging.IsReading}
 use Rattle.lay_cert.proofs.check.check_listing.Given as goal
 
 abbrev pub invariant-loop-raw : goal.invariant-loop-raw

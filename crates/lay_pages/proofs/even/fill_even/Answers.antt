@@ -1,4 +1,4 @@
-use Rattle.{std.proofs.Common.{subst, sym}, lay_pages.{specs.{Even.AreFitting, Even.AreStacked, Even.group_heights, Filling.AreWithin}, proofs.{Pages.chosen_fits, Pages.filled_if, Pages.parted_stacked, Pages.parted_within}}}
+use Rattle.{std.proofs.Common.{subst, sym}, lay_pages.{specs.{Even.AreFitting, Even.StandByPages, Even.group_heights, Filling.AreWithin}, proofs.{Pages.chosen_fits, Pages.filled_if, Pages.parted_stacked, Pages.parted_within}}}
 use Rattle.lay_pages.proofs.even.fill_even.Goals as goal
 
 pub returns-then-groups-gt-MOST_GROUPS-clause-stacked : goal.returns-then-groups-gt-MOST_GROUPS-clause-stacked
@@ -17,4 +17,4 @@ returns-clause-within c =
     (chosen_fits c.args.high c.args.blocks.now c.in_ok-heights.heights c.len-groups.result c.in_ok-breaks.breaks c.in_ok-heights.ensures.value c.len-groups.ensures c.in_ok-breaks.ensures)))
 
 pub returns-clause-stacked : goal.returns-clause-stacked
-returns-clause-stacked c = subst (AreStacked c.args.high c.args.blocks.now) (sym c.in_ok-spots.ensures) (parted_stacked c.args.high c.as_slice.result.now c.args.blocks.now c.requires.good)
+returns-clause-stacked c = subst (StandByPages c.args.high c.args.blocks.now) (sym c.in_ok-spots.ensures) (parted_stacked c.args.high c.as_slice.result.now c.args.blocks.now c.requires.good)

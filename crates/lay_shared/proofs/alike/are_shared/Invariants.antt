@@ -1,5 +1,5 @@
-use Rattle.lay_shared.{specs.Alike.AreAlike, proofs.EachLaws.Settles}
+use Rattle.lay_shared.{specs.Alike.HaveSameChanges, proofs.EachLaws.Settles}
 use Rattle.lay_shared.proofs.alike.are_shared.Given as goal
 
 abbrev pub invariant-loop-staff : goal.invariant-loop-staff
-invariant-loop-staff l = Settles (λ staff. AreAlike l.voices staff.voices) l.staves l.staff-index
+invariant-loop-staff l = Settles (λ staff. HaveSameChanges l.voices staff.voices) l.staves l.staff-index

@@ -1,5 +1,5 @@
 use Rattle.std.proofs.Common.{◌≡◌, ◌+◌, ◌<◌, ◌≤◌, ℕ, length, map, slice_index, slice_index_or, true, false}
-use Rattle.{lay_springs.specs.Place.{reach_at, length_at, HasPlaced}, lay_spans.specs.{Columns.span_columns, SpanList.StandsAt, SpanList.IsCost}}
+use Rattle.{lay_springs.specs.Place.{reach_at, length_at, HasPlaced}, lay_spans.specs.{Columns.span_columns, SpanList.FitsAtForce, SpanList.IsCost}}
 use Rattle.lay_spans.proofs.rows.row_from.Given as goal
 
 abbrev pub invariant-loop-m : goal.invariant-loop-m
@@ -12,5 +12,5 @@ invariant-loop-m g l = record {
   room : length l.at.items ≡ length (span_columns l.starts l.others l.a l.m);
   placed : HasPlaced (length (span_columns l.starts l.others l.a l.m)) (reach_at g.C.Spaced.reach_of (span_columns l.starts l.others l.a l.m)) l.gaps
       (length_at g.C.Spring.length_of (span_columns l.starts l.others l.a l.m)) l.placed l.at.items l.front;
-  above : (f : ℕ) → l.most < f → f ≤ 2048 → (l.a < l.m) × (StandsAt g.C.Spaced.reach_of g.C.Spring.length_of l.gaps l.width f (span_columns l.starts l.others l.a l.m) → ⊥);
+  above : (f : ℕ) → l.most < f → f ≤ 2048 → (l.a < l.m) × (FitsAtForce g.C.Spaced.reach_of g.C.Spring.length_of l.gaps l.width f (span_columns l.starts l.others l.a l.m) → ⊥);
 }

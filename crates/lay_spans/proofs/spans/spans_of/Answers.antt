@@ -1,12 +1,12 @@
 use Rattle.std.proofs.{Common.{◌≡◌, length, slice_index_or, false, sym, ◌∙◌, ap, subst}, Math.Path.fun_ext}
-use Rattle.{lay_breaks.specs.Spans.{AreSpans, listed}, lay_rows.specs.Tables.{IsTable}}
+use Rattle.{lay_breaks.specs.Spans.{AreSpans, listed}, lay_rows.specs.Tables.{IsCostTable}}
 use Rattle.lay_spans.{specs.{Forced.is_forced, SpanList.IsSpanList, Rows.{IsRowFrom, rows_spans}}, proofs.{Growing.{rows_are_spans, rows_tell_spans}, Listing.rows_listed, spans.spans_of.Goals.In_ok-list}}
 use Rattle.lay_spans.proofs.spans.spans_of.Goals as goal
 
-table : (g : _) (c : In_ok-list g) → IsTable (λ a row. IsRowFrom g.C.Spaced.reach_of g.C.Spring.length_of c.args.gaps.now c.args.width c.args.starts.now c.args.others.now
+table : (g : _) (c : In_ok-list g) → IsCostTable (λ a row. IsRowFrom g.C.Spaced.reach_of g.C.Spring.length_of c.args.gaps.now c.args.width c.args.starts.now c.args.others.now
     (is_forced (length c.args.starts.now) c.args.forced.now) a row) (length c.args.starts.now) c.in_ok-rows.rows.rows
 table g c =
-    subst (λ forced. IsTable (λ a row. IsRowFrom g.C.Spaced.reach_of g.C.Spring.length_of c.args.gaps.now c.args.width c.args.starts.now c.args.others.now
+    subst (λ forced. IsCostTable (λ a row. IsRowFrom g.C.Spaced.reach_of g.C.Spring.length_of c.args.gaps.now c.args.width c.args.starts.now c.args.others.now
     forced a row) (length c.args.starts.now) c.in_ok-rows.rows.rows)
     (fun_ext (λ b. ap (λ marks. slice_index_or marks b false) c.as_slice.ensures ∙ c.in_ok-marks.ensures.each b)) c.in_ok-rows.ensures
 

@@ -1,5 +1,5 @@
 use Rattle.std.proofs.Common.{◌≡◌, ℕ, ◌+◌, ◌-◌, ◌*◌, ◌<◌, ◌≤◌, length}
-use Rattle.lay_springs.specs.{Place.reach_at, Place.length_at, Place.HasPlaced, Fit.CanStand, Fit.Fits}
+use Rattle.lay_springs.specs.{Place.reach_at, Place.length_at, Place.HasPlaced, Fit.CanStandWithin, Fit.Fits}
 use Rattle.lay_springs.proofs.forces.fit_within.Given as goal
 
 abbrev pub invariant-loop-low : goal.invariant-loop-low
@@ -12,7 +12,7 @@ invariant-loop-low g l = record {
   one_each : length l.front ≡ length l.gaps;
   placed : HasPlaced (length l.cols) (reach_at g.C.Spaced.reach_of l.cols) l.gaps (length_at g.C.Spring.length_of l.cols) l.placed l.at l.front;
   fits : 0 < l.low → Fits (length l.cols) (reach_at g.C.Spaced.reach_of l.cols) l.gaps (length_at g.C.Spring.length_of l.cols) l.width (l.low - 1);
-  never : (f : ℕ) → l.high ≤ f → f ≤ l.most → CanStand (length l.cols) (reach_at g.C.Spaced.reach_of l.cols) l.gaps (length_at g.C.Spring.length_of l.cols) l.width f → ⊥;
+  never : (f : ℕ) → l.high ≤ f → f ≤ l.most → CanStandWithin (length l.cols) (reach_at g.C.Spaced.reach_of l.cols) l.gaps (length_at g.C.Spring.length_of l.cols) l.width f → ⊥;
 }
 
 abbrev pub decreases-loop-low : goal.decreases-loop-low

@@ -3,27 +3,27 @@ use Rattle.lay_springs.{specs.{Fit.{IsEndOf, EndsAt}, Place.{reach_at, length_at
 use Rattle.lay_springs.proofs.forces.too_great.Goals as goal
 
 module _ (g : _) (c : After-end_of-end g) where
-  last : (pos 0 ≤ℤ slice_index_or c.settle.new.at (length c.args.cols.now - 1) (pos 0)) × (slice_index_or c.settle.new.at (length c.args.cols.now - 1) (pos 0) ≤ℤ pos 281474976710656)
-  last = c.settle.ensures.small (length c.args.cols.now - 1) (let s = c.requires.some in omega arith)
+  last : (pos 0 ≤ℤ slice_index_or c.place_all.new.at (length c.args.cols.now - 1) (pos 0)) × (slice_index_or c.place_all.new.at (length c.args.cols.now - 1) (pos 0) ≤ℤ pos 281474976710656)
+  last = c.place_all.ensures.small (length c.args.cols.now - 1) (let s = c.requires.some in omega arith)
 
-  end : IsEndOf (g.C.Spaced.reach_of c.index-cols-last.result) (length c.args.gaps.now) (slice_index_or c.settle.new.at (length c.args.cols.now - 1) (pos 0)) c.end_of-end.result
+  end : IsEndOf (g.C.Spaced.reach_of c.index-cols-last.result) (length c.args.gaps.now) (slice_index_or c.place_all.new.at (length c.args.cols.now - 1) (pos 0)) c.end_of-end.result
   end =
       let low = last.0 in let high = last.1 in
-      let same : to_z w64 (of_z w64 (slice_index_or c.settle.new.at (length c.args.cols.now - 1) (pos 0))) ≡ slice_index_or c.settle.new.at (length c.args.cols.now - 1) (pos 0) = omega (arith, ints) in
+      let same : to_z w64 (of_z w64 (slice_index_or c.place_all.new.at (length c.args.cols.now - 1) (pos 0))) ≡ slice_index_or c.place_all.new.at (length c.args.cols.now - 1) (pos 0) = omega (arith, ints) in
       rw same at c.end_of-end.ensures
 
-  last_end : IsEndOf (reach_at g.C.Spaced.reach_of c.args.cols.now (length c.args.cols.now - 1)) (length c.args.gaps.now) (slice_index_or c.settle.new.at (length c.args.cols.now - 1) (pos 0)) c.end_of-end.result
+  last_end : IsEndOf (reach_at g.C.Spaced.reach_of c.args.cols.now (length c.args.cols.now - 1)) (length c.args.gaps.now) (slice_index_or c.place_all.new.at (length c.args.cols.now - 1) (pos 0)) c.end_of-end.result
   last_end =
       let col : slice_get c.args.cols.now (length c.args.cols.now - 1) ≡ Some c.index-cols-last.result =
       slice_get_read c.args.cols.now (length c.args.cols.now) (length c.args.cols.now - 1) c.index-cols-last.result refl (let s = c.requires.some in omega arith) c.index-cols-last.is in
-      subst (λ r. IsEndOf r (length c.args.gaps.now) (slice_index_or c.settle.new.at (length c.args.cols.now - 1) (pos 0)) c.end_of-end.result)
+      subst (λ r. IsEndOf r (length c.args.gaps.now) (slice_index_or c.place_all.new.at (length c.args.cols.now - 1) (pos 0)) c.end_of-end.result)
       (sym (reach_is g.C.Spaced.reach_of c.args.cols.now (length c.args.cols.now - 1) c.index-cols-last.result col)) end
 
   ends : EndsAt (length c.args.cols.now) (reach_at g.C.Spaced.reach_of c.args.cols.now) c.args.gaps.now (length_at g.C.Spring.length_of c.args.cols.now) c.args.force c.end_of-end.result
   ends = record {
-    x = take (length c.args.cols.now) c.settle.new.at;
-    place = c.settle.ensures.place;
-    end = rw (get_or-take (length c.args.cols.now) c.settle.new.at (length c.args.cols.now - 1) (pos 0) (let s = c.requires.some in omega arith)) last_end;
+    x = take (length c.args.cols.now) c.place_all.new.at;
+    place = c.place_all.ensures.place;
+    end = rw (get_or-take (length c.args.cols.now) c.place_all.new.at (length c.args.cols.now - 1) (pos 0) (let s = c.requires.some in omega arith)) last_end;
   }
 
   past : pos 0 ≤ℤ c.end_of-end.result
@@ -53,7 +53,7 @@ returns-clause-never g c = λ f from stood.
       | inl less ↦ (
           let is : f + (c.args.force - f) ≡ c.args.force = omega arith in
           let near = end_near (length c.args.cols.now) (reach_at g.C.Spaced.reach_of c.args.cols.now) c.args.gaps.now (length_at g.C.Spring.length_of c.args.cols.now) c.args.force
-          c.settle.result.tight.natural c.settle.result.tight.count c.settle.new.at c.end_of-end.result c.requires.some c.settle.ensures.near (last_end g s)
+          c.place_all.result.tight.natural c.place_all.result.tight.count c.place_all.new.at c.end_of-end.result c.requires.some c.place_all.ensures.near (last_end g s)
           f (c.args.force - f) c.args.width is stood in
           let far = c.lowered.ensures.past f (c.args.force - f) is (omega arith) from in let high = below g s in let width = c.from-2.ensures in
           omega (arith, ints))

@@ -1,5 +1,5 @@
 use Rattle.std.proofs.Common.{◌≡◌, ℕ, ◌<◌, ◌≤◌, pos, slice_index_or}
-use Rattle.lay_springs.specs.{Place.Advances, Stands.reach_in}
+use Rattle.lay_springs.specs.{Place.Advances, ReachView.reach_in}
 use Rattle.lay_springs.proofs.least.advance_each.Given as goal
 
 abbrev pub invariant-loop-lane : goal.invariant-loop-lane

@@ -1,5 +1,5 @@
 use Rattle.std.proofs.{Common.◌≡◌, Common.Some, Common.arith, Common.subst, Common.sym, Common.◌∙◌, Common.w64, lemmas.Int.{ints, to_z-of_z}}
-use Rattle.lay_springs.{specs.Stands.TellsReach, proofs.{Clear.inside_more, Fronts.lone_told}}
+use Rattle.lay_springs.{specs.ReachView.TellsReach, proofs.{Clear.inside_more, Fronts.lone_told}}
 use Rattle.lay_springs.proofs.least.first_of.Goals as goal
 
 pub loop-lane-preserved : goal.loop-lane-preserved
@@ -15,5 +15,5 @@ loop-lane-preserved g c =
 
 pub returns-then-stand-lanes-clause-least : goal.returns-then-stand-lanes-clause-least
 returns-then-stand-lanes-clause-least g c = λ v begins inside.
-    let lone = lone_told c.in-Lone.stand (g.C.Spaced.reach_of c.args.col.now) (subst (λ s. TellsReach s (g.C.Spaced.reach_of c.args.col.now)) c.in-Lone.is c.stands-stands.ensures) (omega arith) in
-    let left = inside c.in-Lone.stand.lane c.in-Lone.stand.reach c.if-stand-lanes.true lone.here in rw (to_z-of_z w64 c.from.result (record { sfits = c.from.type_inv }), c.from.ensures) left
+    let lone = lone_told c.in-OneLane.stand (g.C.Spaced.reach_of c.args.col.now) (subst (λ s. TellsReach s (g.C.Spaced.reach_of c.args.col.now)) c.in-OneLane.is c.stands-stands.ensures) (omega arith) in
+    let left = inside c.in-OneLane.stand.lane c.in-OneLane.stand.reach c.if-stand-lanes.true lone.here in rw (to_z-of_z w64 c.from.result (record { sfits = c.from.type_inv }), c.from.ensures) left

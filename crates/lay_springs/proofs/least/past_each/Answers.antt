@@ -1,5 +1,5 @@
 use Rattle.std.proofs.{Common.{◌≡◌, ◌<◌, ◌≤◌, length, Some, arith, sym, ◌∙◌, inl, inr}, lemmas.{Bool.cases_lt, Int.ints, Option.none-some}}
-use Rattle.lay_springs.{specs.Stands.{reach_in, reach_in_near}, proofs.Fronts.{none_past, past_more}}
+use Rattle.lay_springs.{specs.ReachView.{reach_in, reach_in_near}, proofs.Fronts.{none_past, past_more}}
 use Rattle.lay_springs.proofs.least.past_each.Goals as goal
 
 pub loop-lane-preserved : goal.loop-lane-preserved

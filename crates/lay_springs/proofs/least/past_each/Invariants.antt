@@ -1,5 +1,5 @@
 use Rattle.std.proofs.Common.{ℤ, ◌≤ℤ◌}
-use Rattle.lay_springs.specs.{Place.IsPast, Stands.reach_in}
+use Rattle.lay_springs.specs.{Place.IsPast, ReachView.reach_in}
 use Rattle.lay_springs.proofs.least.past_each.Given as goal
 
 abbrev pub invariant-loop-lane : goal.invariant-loop-lane

@@ -1,5 +1,5 @@
 use Rattle.std.proofs.Common.{◌≡◌, ◌*◌, ◌≤◌, length, subst, arith}
-use Rattle.lay_springs.specs.Place.{reach_at, length_at, IsPlacedTo, IsFront}
+use Rattle.lay_springs.specs.Place.{reach_at, length_at, IsPlacedTo, AreFrontiers}
 use Rattle.lay_springs.proofs.least.place_to.Goals as goal
 
 pub returns-clause-placed : goal.returns-clause-placed
@@ -11,5 +11,5 @@ returns-clause-placed g c =
       tight = subst (λ j. (c.loop-j.tight.natural ≤ 4096 * j) × (c.loop-j.tight.count ≤ j)) done i.tight;
       placed = subst (λ j. IsPlacedTo j (reach_at g.C.Spaced.reach_of c.args.cols.now) c.args.gaps.now (length_at g.C.Spring.length_of c.args.cols.now) c.args.force
           c.loop-j.tight.natural c.loop-j.tight.count c.loop-j.at) done i.placed;
-      front = λ some. subst (λ j. IsFront j (reach_at g.C.Spaced.reach_of c.args.cols.now) (length c.args.gaps.now) c.loop-j.at c.loop-j.front) done i.front;
+      front = λ some. subst (λ j. AreFrontiers j (reach_at g.C.Spaced.reach_of c.args.cols.now) (length c.args.gaps.now) c.loop-j.at c.loop-j.front) done i.front;
     }

@@ -1,5 +1,5 @@
 use Rattle.std.proofs.Common.{◌*◌, ◌<◌, ◌≤◌, length}
-use Rattle.lay_springs.specs.Place.{reach_at, length_at, IsPlacedTo, IsFront}
+use Rattle.lay_springs.specs.Place.{reach_at, length_at, IsPlacedTo, AreFrontiers}
 use Rattle.lay_springs.proofs.least.place_to.Given as goal
 
 abbrev pub invariant-loop-j : goal.invariant-loop-j
@@ -8,5 +8,5 @@ invariant-loop-j g l = record {
   within : l.j ≤ length l.cols;
   tight : (l.tight.natural ≤ 4096 * l.j) × (l.tight.count ≤ l.j);
   placed : IsPlacedTo l.j (reach_at g.C.Spaced.reach_of l.cols) l.gaps (length_at g.C.Spring.length_of l.cols) l.force l.tight.natural l.tight.count l.at;
-  front : IsFront l.j (reach_at g.C.Spaced.reach_of l.cols) (length l.gaps) l.at l.front;
+  front : AreFrontiers l.j (reach_at g.C.Spaced.reach_of l.cols) (length l.gaps) l.at l.front;
 }

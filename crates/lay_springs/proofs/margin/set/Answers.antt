@@ -1,32 +1,32 @@
-use Rattle.{std.proofs.{Common.{length, arith, refl, subst}, lemmas.{Int.ints, List.take_all}}, lay_springs.{specs.Place.{reach_at, length_at, IsPlace}, proofs.{Ends.end_down, Moved.set_apart, margin.set.Goals.After-settle}}}
+use Rattle.{std.proofs.{Common.{length, arith, refl, subst}, lemmas.{Int.ints, List.take_all}}, lay_springs.{specs.Place.{reach_at, length_at, IsPlace}, proofs.{Ends.end_down, Moved.set_apart, margin.set.Goals.After-place_all}}}
 use Rattle.lay_springs.proofs.margin.set.Goals as goal
 
-place : (g : _) (c : After-settle g) → IsPlace (length c.args.cols.now) (reach_at g.C.Spaced.reach_of c.args.cols.now) c.args.gaps.now (length_at g.C.Spring.length_of c.args.cols.now c.args.force) c.settle.new.at
+place : (g : _) (c : After-place_all g) → IsPlace (length c.args.cols.now) (reach_at g.C.Spaced.reach_of c.args.cols.now) c.args.gaps.now (length_at g.C.Spring.length_of c.args.cols.now c.args.force) c.place_all.new.at
 place g c =
     subst (λ at. IsPlace (length c.args.cols.now) (reach_at g.C.Spaced.reach_of c.args.cols.now) c.args.gaps.now (length_at g.C.Spring.length_of c.args.cols.now c.args.force) at)
-    (take_all (length c.args.cols.now) c.settle.new.at (let same = c.settle.auto.at in let room = c.requires.room in omega arith)) c.settle.ensures.place
+    (take_all (length c.args.cols.now) c.place_all.new.at (let same = c.place_all.auto.at in let room = c.requires.room in omega arith)) c.place_all.ensures.place
 
 pub rest_of-rest-requires-clause-fits : goal.rest_of-rest-requires-clause-fits
 rest_of-rest-requires-clause-fits g c = λ e end.
     let f = c.requires.fits in
     let d = end_down (length c.args.cols.now) (reach_at g.C.Spaced.reach_of c.args.cols.now) c.args.gaps.now (length_at g.C.Spring.length_of c.args.cols.now) c.args.force c.args.force e f.0 c.requires.some
-    (λ i. omega arith) (record { x = c.settle.new.at; place = place g (goal.at.rest_of-rest-requires-clause-fits g c).After-settle; end = end }) f.1 in
+    (λ i. omega arith) (record { x = c.place_all.new.at; place = place g (goal.at.rest_of-rest-requires-clause-fits g c).After-place_all; end = end }) f.1 in
     let w = f.2 in omega (arith, ints)
 
 pub returns-then-cols-eq1-clause-set : goal.returns-then-cols-eq1-clause-set
 returns-then-cols-eq1-clause-set g c = record {
-  x = c.settle.new.at;
-  place = place g (goal.at.returns-then-cols-eq1-clause-set g c).After-settle;
-  count = (place g (goal.at.returns-then-cols-eq1-clause-set g c).After-settle).count;
+  x = c.place_all.new.at;
+  place = place g (goal.at.returns-then-cols-eq1-clause-set g c).After-place_all;
+  count = (place g (goal.at.returns-then-cols-eq1-clause-set g c).After-place_all).count;
   alone = λ _. refl;
   moved = λ l. absurd (omega arith);
 }
 
 pub returns-clause-set : goal.returns-clause-set
 returns-clause-set g c =
-    let r = c.rest_of-rest.ensures in let placed = place g (goal.at.returns-clause-set g c).After-settle in
+    let r = c.rest_of-rest.ensures in let placed = place g (goal.at.returns-clause-set g c).After-place_all in
     record {
-      x = c.settle.new.at;
+      x = c.place_all.new.at;
       place = placed;
       count = let count = placed.count in omega arith;
       alone = λ l. absurd (omega arith);
@@ -42,4 +42,4 @@ returns-clause-apart g c =
     set_apart (length c.args.cols.now) (reach_at g.C.Spaced.reach_of c.args.cols.now) c.args.gaps.now (length_at g.C.Spring.length_of c.args.cols.now) c.args.width c.args.force _ c.requires.some (returns-clause-set g c)
 
 pub spread-requires-clause-small : goal.spread-requires-clause-small
-spread-requires-clause-small g c = λ k l. c.settle.ensures.small k (let same = c.settle.auto.at in let room = c.requires.room in omega arith)
+spread-requires-clause-small g c = λ k l. c.place_all.ensures.small k (let same = c.place_all.auto.at in let room = c.requires.room in omega arith)

@@ -1,5 +1,5 @@
 use Rattle.std.proofs.{Common.{◌∙◌, ap, drop, length, map, refl, subst, sym}, lemmas.List.take_at}
-use Rattle.{lay_springs.specs.Fit.{CanStand, Fits, Passes}, lay_columns.specs.Columns.{column_reach}, lay_spans.proofs.Fitting.{seen_as}}
+use Rattle.{lay_springs.specs.Fit.{CanStandWithin, Fits, Passes}, lay_reaches.specs.Columns.{column_reach}, lay_spans.proofs.Fitting.{seen_as}}
 use Rattle.lay_tune.{specs.Spans.column_length, proofs.Open.never_passes, proofs.Within.counts_same, proofs.Within.justified_seen}
 use Rattle.lay_tune.proofs.systems.press.Goals as goal
 
@@ -25,7 +25,7 @@ returns c =
     c.most_force-most.ensures.bound c.most_force-most.ensures.most c.most_force-most.ensures.natural found.bound
     (subst (λ T. T) (seen_as (λ s. s.column.now) column_reach column_length (λ n r l. Fits n r c.args.gaps.now l c.args.width c.in-Some.force) c.args.columns.now columns refl) found.fits)
     (λ g past within at. found.greatest g past within
-    (subst (λ T. T) (sym (seen_as (λ s. s.column.now) column_reach column_length (λ n r l. CanStand n r c.args.gaps.now l c.args.width g) c.args.columns.now columns refl)) at)) in
+    (subst (λ T. T) (sym (seen_as (λ s. s.column.now) column_reach column_length (λ n r l. CanStandWithin n r c.args.gaps.now l c.args.width g) c.args.columns.now columns refl)) at)) in
     justified_seen (λ s. s.column.now) c.args.gaps.now c.args.width c.args.last c.args.columns.now c.requires.fits.pressed.0 c.justify.result
     c.requires.fits.pressed.1 (c.justify.ensures.ragged ∙ counts.1) (c.justify.ensures.force ∙ counts.0)
     c.justify.ensures.loose c.justify.ensures.set c.justify.ensures.apart

@@ -1,5 +1,5 @@
 use Rattle.std.proofs.{Common.◌≡◌, Common.◌==◌, Common.◌∙◌, Common.map, Common.subst, Common.sym, Common.ap, Common.arith, Common.length, lemmas.List.length-map, lemmas.Option.same_Some}
-use Rattle.{mus_time.specs.{Keys.AreKeys, Keys.called_keys, Onsets.timeline_of}, mus_marks.specs.{System.IsCall, System.drawn_staves, Tilt.AreAbscissas, Tilt.IsTilted, Tilt.tilted_staff}}
+use Rattle.{mus_onsets.specs.{Keys.AreKeys, Keys.called_keys, Onsets.timeline_of}, mus_marks.specs.{System.IsCall, System.drawn_staves, Tilt.AreAbscissas, Tilt.IsTilted, Tilt.tilted_staff}}
 use Rattle.lay_tune.{specs.Systems.HaveForce, specs.Systems.gaps_between, proofs.Called.has_system, proofs.Open.gaps_count, proofs.Open.staves_count, proofs.Rows.good_staves, proofs.Within.abscissas_of, proofs.Within.span_set}
 use Rattle.lay_tune.proofs.systems.set_system.Goals as goal
 

@@ -1,5 +1,5 @@
 use Rattle.std.proofs.Common.{◌-◌, take, drop, subst, sym}
-use Rattle.{mus_drawn.specs.Good.{AreGoodMeasures}, mus_keys.proofs.Goods.{good_slice}}
+use Rattle.{mus_drawn.specs.Good.{AreGoodMeasures}, mus_time.proofs.Goods.{good_slice}}
 use Rattle.mus_bridges.proofs.bridges.put_bridges_of.Goals as goal
 
 pub put_grace_beams_between-requires-clause-good : goal.put_grace_beams_between-requires-clause-good

@@ -1,5 +1,5 @@
 use Rattle.std.proofs.Common.{◌-◌, take, drop, subst, sym}
-use Rattle.{mus_drawn.specs.Good.{AreGoodMeasures}, mus_keys.proofs.Goods.{good_slice}}
+use Rattle.{mus_drawn.specs.Good.{AreGoodMeasures}, mus_time.proofs.Goods.{good_slice}}
 use Rattle.mus_marks.proofs.staves.put_own_part.Goals as goal
 
 pub put_columns_part-requires-clause-good : goal.put_columns_part-requires-clause-good

@@ -1,5 +1,5 @@
 use Rattle.std.{proofs.Common.{◌≡◌, ◌++◌, ◌≤◌, length, map}, specs.List.All}
-use Rattle.{mus_score.specs.Seats.{grouped}, mus_drawn.specs.Good.{AreGoodMeasures}, mus_marks.specs.{Staff.CoversLines, Staff.staff_marks, Staff.verses_on, System.stands_lower}}
+use Rattle.{mus_score.specs.Seats.{grouped}, mus_drawn.specs.Good.{AreGoodMeasures}, mus_marks.specs.{Staff.CoversLines, Staff.staff_marks, Staff.verses_on, System.is_drawn_lower}}
 use Rattle.mus_marks.proofs.staves.staves.Given as goal
 
 abbrev pub invariant-loop-rest : goal.invariant-loop-rest
@@ -7,7 +7,7 @@ invariant-loop-rest l = record {
   each : All (λ v. length v.measures ≡ length l.frame.lengths.now) l.rest;
   good : All (λ v. AreGoodMeasures v.measures) l.rest;
   verses : verses_on l.rest ≤ 128;
-  staves : l.staves ++ map (staff_marks l.frame.keys.now l.frame.lengths.now l.frame.a l.frame.b) (grouped stands_lower l.rest) ≡ map (staff_marks l.frame.keys.now l.frame.lengths.now l.frame.a l.frame.b) (grouped stands_lower l.voices);
+  staves : l.staves ++ map (staff_marks l.frame.keys.now l.frame.lengths.now l.frame.a l.frame.b) (grouped is_drawn_lower l.rest) ≡ map (staff_marks l.frame.keys.now l.frame.lengths.now l.frame.a l.frame.b) (grouped is_drawn_lower l.voices);
   lines : All CoversLines l.staves;
   shorter : length l.rest ≤ length l.voices;
 }

@@ -1,6 +1,6 @@
 use Rattle.std.{proofs.Common.{◌∙◌, ◌≤◌, map, refl, ap, subst, sym, arith}, specs.List.All}
-use Rattle.{mus_score.specs.Seats.{grouped}, mus_time.specs.Ranks.{AreRanked}, mus_laid.specs.Boxes.{AreGoodMarks}, mus_keys.proofs.Counts.{lengths_count, voices_count}}
-use Rattle.mus_marks.{specs.Staff.staff_marks, specs.Staff.verses_on, specs.System.drawn_staves, specs.System.stands_lower, proofs.Fitting.few_verses, proofs.Fitting.staves_fit, proofs.GoodMarks.staves_good}
+use Rattle.{mus_score.specs.Seats.{grouped}, mus_onsets.specs.Ranks.{AreRanked}, mus_laid.specs.Boxes.{AreGoodMarks}, mus_time.proofs.Counts.{lengths_count, voices_count}}
+use Rattle.mus_marks.{specs.Staff.staff_marks, specs.Staff.verses_on, specs.System.drawn_staves, specs.System.is_drawn_lower, proofs.Fitting.few_verses, proofs.Fitting.staves_fit, proofs.GoodMarks.staves_good}
 use Rattle.mus_marks.proofs.systems.marks_of.Goals as goal
 
 pub invariant_of-frame : goal.invariant_of-frame
@@ -21,9 +21,9 @@ returns-clause-call c = record {
   from = refl;
   to = refl;
   keys = c.in_ok-keys.ensures.keys;
-  staves = c.in_ok-staves.ensures.staves ∙ ap (λ ks. map (staff_marks ks c.as_slice-2.result.now c.args.a c.args.b) (grouped stands_lower c.args.voices.now)) c.as_slice.ensures
-      ∙ ap (λ ls. map (staff_marks c.in_ok-keys.keys ls c.args.a c.args.b) (grouped stands_lower c.args.voices.now)) c.as_slice-2.ensures
-      ∙ ap (λ vs. map (staff_marks c.in_ok-keys.keys c.args.t.now.lengths c.args.a c.args.b) (grouped stands_lower vs)) c.requires.voices;
+  staves = c.in_ok-staves.ensures.staves ∙ ap (λ ks. map (staff_marks ks c.as_slice-2.result.now c.args.a c.args.b) (grouped is_drawn_lower c.args.voices.now)) c.as_slice.ensures
+      ∙ ap (λ ls. map (staff_marks c.in_ok-keys.keys ls c.args.a c.args.b) (grouped is_drawn_lower c.args.voices.now)) c.as_slice-2.ensures
+      ∙ ap (λ vs. map (staff_marks c.in_ok-keys.keys c.args.t.now.lengths c.args.a c.args.b) (grouped is_drawn_lower vs)) c.requires.voices;
 }
 
 pub returns-clause-good : goal.returns-clause-good

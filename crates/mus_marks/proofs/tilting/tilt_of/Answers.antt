@@ -1,6 +1,6 @@
 use Rattle.std.{proofs.Common.{◌∙◌, ◌≤◌, map, refl, ap, subst, sym, arith}, specs.List.{All, slice_range}}
-use Rattle.{mus_score.specs.Seats.{grouped}, mus_time.specs.Ranks.{AreRanked}, mus_drawn.specs.Good.{AreGoodMeasures}, mus_keys.proofs.{Called.keys_placed, Counts.{lengths_count, voices_count}, Few.few_keys}}
-use Rattle.mus_marks.{specs.{Staff.verses_on, System.stands_lower, Tilt.AllCanTilt, Tilt.tilted_staff}, proofs.{Fitting.few_verses, Sloping.voices_can, Alike.tilted_alike, Alike.tilted_good}}
+use Rattle.{mus_score.specs.Seats.{grouped}, mus_onsets.specs.Ranks.{AreRanked}, mus_drawn.specs.Good.{AreGoodMeasures}, mus_time.proofs.{Called.keys_placed, Counts.{lengths_count, voices_count}, Few.few_keys}}
+use Rattle.mus_marks.{specs.{Staff.verses_on, System.is_drawn_lower, Tilt.AllCanTilt, Tilt.tilted_staff}, proofs.{Fitting.few_verses, Sloping.voices_can, Alike.tilted_alike, Alike.tilted_good}}
 use Rattle.mus_marks.proofs.tilting.tilt_of.Goals as goal
 
 pub invariant_of-frame : goal.invariant_of-frame
@@ -32,9 +32,9 @@ returns-clause-tilted c =
       from = refl;
       to = refl;
       keys = c.requires.keys;
-      staves = c.in_ok-staves.ensures.staves ∙ ap (λ ks. map (tilted_staff ks c.as_slice-2.result.now at a b) (grouped stands_lower c.args.voices.now)) c.as_slice.ensures
-          ∙ ap (λ ls. map (tilted_staff keys ls at a b) (grouped stands_lower c.args.voices.now)) c.as_slice-2.ensures
-          ∙ ap (λ vs. map (tilted_staff keys lengths at a b) (grouped stands_lower vs)) c.requires.voices;
+      staves = c.in_ok-staves.ensures.staves ∙ ap (λ ks. map (tilted_staff ks c.as_slice-2.result.now at a b) (grouped is_drawn_lower c.args.voices.now)) c.as_slice.ensures
+          ∙ ap (λ ls. map (tilted_staff keys ls at a b) (grouped is_drawn_lower c.args.voices.now)) c.as_slice-2.ensures
+          ∙ ap (λ vs. map (tilted_staff keys lengths at a b) (grouped is_drawn_lower vs)) c.requires.voices;
     }
 
 pub returns-clause-alike : goal.returns-clause-alike

@@ -1,6 +1,6 @@
 use Rattle.std.{proofs.Common.{◌≡◌, ◌∙◌, map, ap, subst, arith, length}, specs.{Prelude.IfOk}}
 use Rattle.mus_score.specs.Seats.{grouped}
-use Rattle.mus_marks.{specs.{Staff.staff_marks, System.stands_lower, Tilt.voice_left}, proofs.{AllTilted.{all_tilted, staves_tilted, tilted_count, tilted_goods, tilted_verses}, Ending.{over_count, put_back, whole}}}
+use Rattle.mus_marks.{specs.{Staff.staff_marks, System.is_drawn_lower, Tilt.voice_left}, proofs.{AllTilted.{all_tilted, staves_tilted, tilted_count, tilted_goods, tilted_verses}, Ending.{over_count, put_back, whole}}}
 use Rattle.mus_marks.proofs.tilting.tilted_staves.Goals as goal
 
 pub staves-staves-requires-clause-each : goal.staves-staves-requires-clause-each
@@ -37,7 +37,7 @@ pub returns-clause-staves : goal.returns-clause-staves
 returns-clause-staves c =
     let keys = c.args.frame.now.keys.now in let lengths = c.args.frame.now.lengths.now in let at = c.args.at.now in let a = c.args.frame.now.a in let b = c.args.frame.now.b in let vs = c.args.voices.now in
     subst (λ ss. IfOk c.staves-staves.result (λ r. r ≡ ss))
-    (ap (λ ws. map (staff_marks keys lengths a b) (grouped stands_lower ws))
+    (ap (λ ws. map (staff_marks keys lengths a b) (grouped is_drawn_lower ws))
     (all_tilted keys at a b vs c.exchange_voices.new.voices c.as_mut_slice.result.now c.exchange_voices.ensures.voices (c.as_mut_slice.ensures.value ∙ c.ends.view_is ∙ c.in_ok-ends.ensures))
     ∙ staves_tilted keys at a b lengths vs)
     c.staves-staves.ensures.staves

@@ -1,5 +1,5 @@
 use Rattle.std.proofs.{Common.◌≡◌, Common.◌∙◌, Common.◌++◌, Common.ap, Common.map, Common.subst, Common.sym, lemmas.List.Elements.All-same}
-use Rattle.mus_score.{specs.Good.IsGoodFlat, specs.Even.AreEven, specs.Times.flats_of, specs.Times.in_row, specs.Times.leaves_within, proofs.Bounds.flats_good, proofs.Even.flats_even}
+use Rattle.mus_score.{specs.Good.IsGoodFlat, specs.Even.AreEvenEvents, specs.Times.flats_of, specs.Times.in_row, specs.Times.leaves_within, proofs.Bounds.flats_good, proofs.Even.flats_even}
 use Rattle.mus_score.proofs.times.flatten.Goals as goal
 
 pub returns-clause-each : goal.returns-clause-each
@@ -14,4 +14,4 @@ returns-clause-even c =
     let leaves = in_row (map leaves_within c.args.body.now) 1 1 in
     let e : c.put_nodes.new.out ≡ flats_of c.args.body.now =
     c.in_ok-put_nodes.ensures.0 ∙ ap (λ out. out ++ (leaves c.no_waits-waits.result).flats) c.in_ok-out.ensures ∙ ap (λ waits. (leaves waits).flats) c.no_waits-waits.ensures in
-    subst (λ r. AreEven r c.args.body.now) (sym e) (flats_even c.args.body.now c.requires)
+    subst (λ r. AreEvenEvents r c.args.body.now) (sym e) (flats_even c.args.body.now c.requires)

@@ -1,5 +1,5 @@
 use Rattle.std.proofs.Common.{◌≡◌, subst}
-use Rattle.ps_steps.specs.{Operators.executed, declared.token.{Token.TheVariants.Simple as simple_token, Simple.TheVariants.Name as name_token}}
+use Rattle.ps_steps.specs.{Operators.executed, declared.token.{MachineToken.TheVariants.Simple as simple_token, SimpleToken.TheVariants.Name as name_token}}
 use Rattle.ps_machine.specs.Doing.{state_of, IsExecuted}
 use Rattle.ps_machine.proofs.execute.execute_simple.Goals as goal
 

@@ -1,5 +1,5 @@
 use Rattle.std.proofs.Common.{arith, ◌<◌}
-use Rattle.ps_machine.{specs.Doing.state_of, specs.Nexts.token_of, proofs.Loop.come_first, proofs.Loop.come_more, proofs.Loop.come_end, proofs.Loop.come_unread, proofs.Loop.come_used, proofs.Loop.come_stuck}
+use Rattle.ps_machine.{specs.Doing.state_of, specs.Nexts.machine_token, proofs.Loop.come_first, proofs.Loop.come_more, proofs.Loop.come_end, proofs.Loop.come_unread, proofs.Loop.come_used, proofs.Loop.come_stuck}
 use Rattle.ps_machine.proofs.run.run_bytes.Goals as goal
 
 pub loop-calls-init : goal.loop-calls-init
@@ -19,16 +19,16 @@ returns-in-Some-clause-halted c =
 pub returns-then-token-budget-clause-halted : goal.returns-then-token-budget-clause-halted
 returns-then-token-budget-clause-halted c =
     let n = rw c.in-Token.is at c.in_ok-coming.ensures in
-    come_used c.args.b.now c.args.budget c.loop-calls.token c.loop-calls.calls (state_of c.loop-calls.m) c.loop-calls.rest.now c.loop-calls.fault-1 c.loop-calls.invariant (token_of c.in-Token.t) c.coming.new.calls c.in-Token.after.now n c.if-token-budget.true
+    come_used c.args.b.now c.args.budget c.loop-calls.token c.loop-calls.calls (state_of c.loop-calls.m) c.loop-calls.rest.now c.loop-calls.fault-1 c.loop-calls.invariant (machine_token c.in-Token.t) c.coming.new.calls c.in-Token.after.now n c.if-token-budget.true
 
 pub loop-calls-preserved : goal.loop-calls-preserved
 loop-calls-preserved c =
     let n = rw c.in-Token.is at c.in_ok-coming.ensures in let x = c.in-Ok.ensures in let w = c.loop-calls.invariant.within in let l : c.loop-calls.token < c.args.budget = omega (arith, w, c.if-token-budget.false) in
-    come_more c.args.b.now c.args.budget c.loop-calls.token c.loop-calls.calls (state_of c.loop-calls.m) c.loop-calls.rest.now c.loop-calls.fault-1 c.loop-calls.invariant (token_of c.in-Token.t) c.coming.new.calls c.in-Token.after.now n x.0 c.execute.new.calls (state_of c.execute.new.m) l x.1 x.2
+    come_more c.args.b.now c.args.budget c.loop-calls.token c.loop-calls.calls (state_of c.loop-calls.m) c.loop-calls.rest.now c.loop-calls.fault-1 c.loop-calls.invariant (machine_token c.in-Token.t) c.coming.new.calls c.in-Token.after.now n x.0 c.execute.new.calls (state_of c.execute.new.m) l x.1 x.2
 
 pub returns-in-Err-Halted-clause-halted : goal.returns-in-Err-Halted-clause-halted
 returns-in-Err-Halted-clause-halted c =
     let n = rw c.in-Token.is at c.in_ok-coming.ensures in let w = c.loop-calls.invariant.within in let l : c.loop-calls.token < c.args.budget = omega (arith, w, c.if-token-budget.false) in
     let h =
-    come_stuck c.args.b.now c.args.budget c.loop-calls.token c.loop-calls.calls (state_of c.loop-calls.m) c.loop-calls.rest.now c.loop-calls.fault-1 c.loop-calls.invariant (token_of c.in-Token.t) c.coming.new.calls c.in-Token.after.now n c.in-Err-Halted.cause l (rw c.in-Err-Halted.field-0-is at c.in-Err-Halted.ensures) in
+    come_stuck c.args.b.now c.args.budget c.loop-calls.token c.loop-calls.calls (state_of c.loop-calls.m) c.loop-calls.rest.now c.loop-calls.fault-1 c.loop-calls.invariant (machine_token c.in-Token.t) c.coming.new.calls c.in-Token.after.now n c.in-Err-Halted.cause l (rw c.in-Err-Halted.field-0-is at c.in-Err-Halted.ensures) in
     rw (← c.in-Err-Halted.cause-is) at h

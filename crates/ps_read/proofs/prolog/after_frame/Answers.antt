@@ -1,5 +1,5 @@
 use Rattle.std.proofs.Common.{◌∙◌, ap}
-use Rattle.ps_read.{specs.Places.after_prolog, proofs.Stepping.on_framed}
+use Rattle.ps_read.{specs.ReaderStates.after_prolog, proofs.Stepping.on_framed}
 use Rattle.ps_read.proofs.prolog.after_frame.Goals as goal
 
 pub returns-in-Some : goal.returns-in-Some

@@ -1,5 +1,5 @@
 use Rattle.std.proofs.Common.{arith, ◌≡◌, ◌+◌, ◌<◌, ◌++◌, length, ap, subst, refl, rules, Err, get_or}
-use Rattle.{ps_text.specs.{Document.{document, numbered, page_text, trailer}, Prolog.prolog}, ps_write.proofs.Fronts.{Sent, document_start, no_page, page_then, sent_all, sent_more, sent_none, wrote_first, wrote_part}}
+use Rattle.{ps_text.specs.{Document.{document, numbered, document_page, trailer}, Prolog.prolog}, ps_write.proofs.Fronts.{Sent, document_start, no_page, page_then, sent_all, sent_more, sent_none, wrote_first, wrote_part}}
 use Rattle.ps_write.proofs.whole.write_document.Goals as goal
 
 pub returns-in_err-w-clause-wrote : goal.returns-in_err-w-clause-wrote
@@ -8,7 +8,7 @@ returns-in_err-w-clause-wrote g c = let r : c.from_residual.result ≡ Err c.in_
 pub loop-p-init : goal.loop-p-init
 loop-p-init g c =
     let none = sent_none (g.O.Sink.taken c.args.sink.now) 0 (document c.args.s.now) in
-    let s : Sent (g.O.Sink.taken c.args.sink.now) (g.O.Sink.taken c.args.sink.now) 0 0 (prolog c.args.s.now.frame ++ (numbered page_text 1 c.args.s.now.pages ++ trailer (length c.args.s.now.pages))) (document c.args.s.now) = subst (λ rest. Sent (g.O.Sink.taken c.args.sink.now) (g.O.Sink.taken c.args.sink.now) 0 0 rest (document c.args.s.now)) (document_start c.args.s.now) none in
+    let s : Sent (g.O.Sink.taken c.args.sink.now) (g.O.Sink.taken c.args.sink.now) 0 0 (prolog c.args.s.now.frame ++ (numbered document_page 1 c.args.s.now.pages ++ trailer (length c.args.s.now.pages))) (document c.args.s.now) = subst (λ rest. Sent (g.O.Sink.taken c.args.sink.now) (g.O.Sink.taken c.args.sink.now) 0 0 rest (document c.args.s.now)) (document_start c.args.s.now) none in
     record { pages = search rules; sent = rw c.in_ok-w.ensures.writer.pages_now (sent_more _ _ _ _ _ _ _ _ _ s c.in_ok-w.ensures.wrote c.in_ok-w.ensures.writer.written_now); counts = search rules }
 
 pub returns-in-Err-clause-wrote : goal.returns-in-Err-clause-wrote

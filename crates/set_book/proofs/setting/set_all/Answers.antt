@@ -1,7 +1,7 @@
 use denote.Exit.{no}
 use denote.Param.Send.{param_send, arg_send}
 use Rattle.std.proofs.Common.{subst}
-use Rattle.{abc_header.specs.Defaults.{defaults_of}, set_tune.specs.Terms.{terms_of}}
+use Rattle.{abc_fields.specs.Defaults.{defaults_of}, set_tune.specs.Terms.{terms_of}}
 use Rattle.set_book.{specs.Outcomes.{AreOutcomes}, proofs.Sent.{outcome_send}}
 use Rattle.set_book.proofs.setting.set_all.Goals as goal
 

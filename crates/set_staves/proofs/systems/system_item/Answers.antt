@@ -1,5 +1,5 @@
 use Rattle.std.{proofs.Common.{◌≡◌, length, sym, subst, rules, arith}, specs.List.All}
-use Rattle.{mus_laid.specs.declared.laid.StaffMarks.{StaffMarks}, lay_shown.specs.Ranks.{AreAnchored, AreRanked, staves_ranks}, set_staves.{proofs.{Ranged.good_system, Shown.shows_call}, specs.{Marks.ShowsCall, Marks.staves_at}}}
+use Rattle.{mus_laid.specs.declared.laid.StaffMarks.{StaffMarks}, law_marks_in_range.specs.Ranks.{AreAnchored, AreMarksRanked, staves_ranks}, set_staves.{proofs.{Ranged.good_system, Shown.shows_call}, specs.{Marks.ShowsCall, Marks.staves_at}}}
 use Rattle.set_staves.proofs.systems.system_item.Goals as goal
 
 pub returns-clause-good : goal.returns-clause-good
@@ -11,8 +11,8 @@ returns-clause-good c =
 pub returns-clause-shows : goal.returns-clause-shows
 returns-clause-shows c =
     let is : c.in_ok-staves.staves ≡ staves_at c.args.width c.args.at.now c.args.top c.args.m.now.staves c.args.bases.now = search rules in
-    let ranked : All (λ (s : StaffMarks). AreRanked (length c.args.at.now) s.marks) c.args.m.now.staves =
-    subst (λ n. All (λ (s : StaffMarks). AreRanked n s.marks) c.args.m.now.staves) (sym c.requires.count) c.requires.shown.ranked in
+    let ranked : All (λ (s : StaffMarks). AreMarksRanked (length c.args.at.now) s.marks) c.args.m.now.staves =
+    subst (λ n. All (λ (s : StaffMarks). AreMarksRanked n s.marks) c.args.m.now.staves) (sym c.requires.count) c.requires.shown.ranked in
     let anchored : AreAnchored (length c.args.at.now) (staves_ranks c.args.m.now.staves) =
     subst (λ n. AreAnchored n (staves_ranks c.args.m.now.staves)) (sym c.requires.count) c.requires.shown.anchored in
     subst (λ t. ShowsCall t c.args.m.now.staves) (sym is)

@@ -1,0 +1,12 @@
+pub mod BlankLaws
+pub mod FieldForms
+pub mod GoodLaws
+pub mod KeyForms
+pub mod KeyWordForms
+pub mod MeterForms
+pub mod MeterLaws
+pub mod NumberLaws
+pub mod ReadLaws
+pub mod VoiceForms
+pub mod WordForms
+pub mod WordLaws

@@ -1,0 +1,6 @@
+use Rattle.std.{proofs.Common.◌≡◌, proofs.Common.drop, specs.Option.option_or}
+use Rattle.abc_field.specs.{Last.last_of, Voices.wish_in}
+use Rattle.abc_field.proofs.voice.last_wish.Given as goal
+
+abbrev pub invariant-loop-word : goal.invariant-loop-word
+invariant-loop-word l = option_or (last_of wish_in (drop l.word-index l.words)) l.last ≡ last_of wish_in l.words

@@ -1,0 +1,13 @@
+pub mod Directives
+pub mod FieldSpelling
+pub mod Fields
+pub mod KeySpelling
+pub mod Keys
+pub mod Last
+pub mod MeterSpelling
+pub mod Meters
+pub mod Numbers
+pub mod VoiceSpelling
+pub mod Voices
+pub mod WordSpelling
+pub mod Words

@@ -1,0 +1,78 @@
+-- How clefs and voices are written: each form with its spelling, when it is good, and what it means.
+use Rattle.std.specs.Prelude.{◌≡◌, ℕ, ◌≤◌, List, [], ◌∷◌, ◌++◌, false, IsTrue, ⊤, not, length, map, codes}
+use Rattle.mus_units.specs.{declared.pitch.Clef.Clef, declared.note.Wish.Wish}
+use Rattle.abc_field.specs.{declared.voice.VoiceDef.VoiceDef, declared.voice.VoiceWord.VoiceWord, Voices.voice_def, WordSpelling.IsFirstWord, Words.properties_of, Words.ends_quoted}
+
+-- A clef is its name; an octave above or below may stand behind it, and counts for nothing.
+pub data ClefForm : Type 0 where
+  plain_clef : (clef : Clef) → ClefForm
+  above_clef : (clef : Clef) → ClefForm
+  below_clef : (clef : Clef) → ClefForm
+
+abbrev pub clef_name : Clef → List ℕ
+clef_name Clef.Treble = codes "treble"
+clef_name Clef.Bass = codes "bass"
+clef_name Clef.Alto = codes "alto"
+clef_name Clef.Tenor = codes "tenor"
+
+abbrev pub clef_spelled : ClefForm → List ℕ
+clef_spelled (plain_clef clef) = clef_name clef
+clef_spelled (above_clef clef) = clef_name clef ++ codes "+8"
+clef_spelled (below_clef clef) = clef_name clef ++ codes "-8"
+
+abbrev pub clef_meant : ClefForm → Clef
+clef_meant (plain_clef clef) = clef
+clef_meant (above_clef clef) = clef
+clef_meant (below_clef clef) = clef
+
+-- A property of a voice: a clef behind `clef=` or by its name alone, a way of stems behind
+-- `stem=`, or any other word, which is passed over.
+pub data PropertyForm : Type 0 where
+  clef_property : (clef : ClefForm) → PropertyForm
+  name_property : (clef : ClefForm) → PropertyForm
+  stem_property : (way : Wish) → PropertyForm
+  other_property : (word : List ℕ) → PropertyForm
+
+abbrev pub wish_name : Wish → List ℕ
+wish_name Wish.Up = codes "up"
+wish_name Wish.Down = codes "down"
+wish_name Wish.Auto = codes "auto"
+
+abbrev pub property_spelled : PropertyForm → List ℕ
+property_spelled (clef_property clef) = codes "clef=" ++ clef_spelled clef
+property_spelled (name_property clef) = clef_spelled clef
+property_spelled (stem_property way) = codes "stem=" ++ wish_name way
+property_spelled (other_property word) = word
+
+-- A word that is passed over begins with neither `clef=` nor `stem=` and is no clef's name.
+pub record IsOther (word : List ℕ) : Type 0 where
+  pub no_clef : (name : List ℕ) → word ≡ codes "clef=" ++ name → ⊥
+  pub no_stem : (way : List ℕ) → word ≡ codes "stem=" ++ way → ⊥
+  pub no_name : (clef : ClefForm) → word ≡ clef_spelled clef → ⊥
+
+abbrev pub IsGoodProperty : PropertyForm → Type 0
+IsGoodProperty (other_property word) = IsOther word
+IsGoodProperty _ = ⊤
+
+abbrev pub AreGoodProperties : List PropertyForm → Type 0
+AreGoodProperties [] = ⊤
+AreGoodProperties (form ∷ forms) = IsGoodProperty form × AreGoodProperties forms
+
+abbrev pub property_meant : PropertyForm → VoiceWord
+property_meant (clef_property clef) = VoiceWord.Names (clef_meant clef)
+property_meant (name_property clef) = VoiceWord.Names (clef_meant clef)
+property_meant (stem_property way) = VoiceWord.Asks way
+property_meant (other_property word) = VoiceWord.Passed
+
+-- A voice is an id of at most 20 bytes, the first word of the text, and properties, which are parted at blanks outside quotes; no quote
+-- stands open behind the id. Of several clefs the last counts, and of several ways of stems.
+pub record SaysVoice (text : List ℕ) (voice : VoiceDef) : Type 0 where
+  pub id : List ℕ
+  pub rest : List ℕ
+  pub forms : List PropertyForm
+  pub first : IsFirstWord text id rest
+  pub short : length id ≤ 20
+  pub closed : IsTrue (not (ends_quoted false rest))
+  pub good : AreGoodProperties forms
+  pub spelled : properties_of rest ≡ map property_spelled forms
+  pub meant : voice_def id (map property_meant forms) ≡ voice

@@ -1,0 +1,30 @@
+-- How blanks stand round a text and between words. A blank is a space or a tab.
+use Rattle.std.specs.{Prelude.{◌≡◌, ℕ, List, [], ◌∷◌, ◌++◌, IsTrue, ⊤, not}, List.list_all}
+use Rattle.{abc_lines.specs.Kinds.{is_blank}, abc_field.specs.Words.{is_empty}}
+
+-- the text is this, between blanks or not
+pub record IsBetweenBlanks (text core : List ℕ) : Type 0 where
+  pub front : List ℕ
+  pub back : List ℕ
+  pub front_blank : IsTrue (list_all is_blank front)
+  pub back_blank : IsTrue (list_all is_blank back)
+  pub cut : text ≡ front ++ (core ++ back)
+
+-- nothing follows, or a blank does
+abbrev pub EndsWord : List ℕ → Type 0
+EndsWord [] = ⊤
+EndsWord (b ∷ s) = IsTrue (is_blank b)
+
+-- the text is this word, behind blanks or not, and this rest
+pub record IsFirstWord (text word rest : List ℕ) : Type 0 where
+  pub blanks : List ℕ
+  pub blank : IsTrue (list_all is_blank blanks)
+  pub some : IsTrue (not (is_empty word))
+  pub whole : IsTrue (list_all (λ b. not (is_blank b)) word)
+  pub parted : EndsWord rest
+  pub cut : text ≡ blanks ++ (word ++ rest)
+
+-- the text is these words, with blanks between each two, and blanks or none at both ends
+abbrev pub HasWords : List ℕ → List (List ℕ) → Type 0
+HasWords text [] = IsTrue (list_all is_blank text)
+HasWords text (word ∷ words) = (rest : List ℕ) × IsFirstWord text word rest × HasWords rest words

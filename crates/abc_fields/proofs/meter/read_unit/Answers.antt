@@ -1,5 +1,0 @@
-use Rattle.{std.proofs.Common.{subst, sym, IfSome}, mus_units.specs.Good.{IsGoodUnit}, abc_fields.proofs.GoodLaws.{unit_good}}
-use Rattle.abc_fields.proofs.meter.read_unit.Goals as goal
-
-pub returns-clause-good : goal.returns-clause-good
-returns-clause-good c = subst (λ o. IfSome o (λ u. IsGoodUnit u)) (sym c.unit_of.ensures) (unit_good c.args.text.now)

@@ -1,6 +1,0 @@
-use Rattle.std.{proofs.Common.◌≡◌, proofs.Common.drop, specs.Option.option_or}
-use Rattle.abc_fields.specs.{Last.last_of, Voices.clef_in}
-use Rattle.abc_fields.proofs.voice.last_clef.Given as goal
-
-abbrev pub invariant-loop-word : goal.invariant-loop-word
-invariant-loop-word l = option_or (last_of clef_in (drop l.word-index l.words)) l.last ≡ last_of clef_in l.words

@@ -1,0 +1,10 @@
+-- Good meters and unit lengths: the numbers that they may have.
+use Rattle.{std.specs.Prelude.{⊤, Option, Some, None}, mus_units.specs.{declared.value.Frac.Frac, Good.IsGoodMeter, Good.IsGoodUnit}, abc_fields.specs.declared.defaults.Defaults.{Defaults}}
+
+-- the defaults of a file header have good values
+abbrev pub GoodUnitIn : Option Frac → Type 0
+GoodUnitIn None = ⊤
+GoodUnitIn (Some unit) = IsGoodUnit unit
+
+abbrev pub IsGoodDefaults : Defaults → Type 0
+IsGoodDefaults defaults = IsGoodMeter defaults.meter × GoodUnitIn defaults.unit

@@ -1,0 +1,30 @@
+-- The voices that fields name: each id once, in order of first mention, with what its lines say.
+use Rattle.std.specs.{Prelude.{ℕ, List, [], ◌∷◌, ◌++◌, ◌&&◌, if◌then◌else◌, map, fold, Option, Some, None, is_some, unwrap_or}, List.list_any, Str.bytes_eq}
+use Rattle.{mus_units.specs.{declared.pitch.Clef.Clef, declared.note.Wish.Wish}, abc_field.specs.{declared.voice.VoiceDef.VoiceDef, declared.field.Field.Field, Last.last_of}}
+
+-- an id that stands there already doesn't come again
+abbrev pub with_id : List (List ℕ) → List ℕ → List (List ℕ)
+with_id ids id = if list_any (bytes_eq id) ids then ids else ids ++ id ∷ []
+
+abbrev pub ids_after : List (List ℕ) → Field → List (List ℕ)
+ids_after ids (Field.Voice def) = with_id ids def.id
+ids_after ids _ = ids
+
+-- the ids that fields mention, each once, the first mentioned first
+abbrev pub ids_of : List Field → List (List ℕ)
+ids_of fs = fold ids_after [] fs
+
+abbrev pub clef_for : List ℕ → Field → Option Clef
+clef_for id (Field.Voice def) = if bytes_eq def.id id then def.clef else None
+clef_for id _ = None
+
+abbrev pub wish_for : List ℕ → Field → Option Wish
+wish_for id (Field.Voice def) = if bytes_eq def.id id && def.asks then Some def.stem else None
+wish_for id _ = None
+
+-- the last clef and the last way of stems that its lines name
+abbrev pub voice_from : List Field → List ℕ → VoiceDef
+voice_from fs id = record { id = id; clef = last_of (clef_for id) fs; stem = unwrap_or (last_of (wish_for id) fs) Wish.Auto; asks = is_some (last_of (wish_for id) fs) }
+
+abbrev pub voices_of : List Field → List VoiceDef
+voices_of fs = map (voice_from fs) (ids_of fs)

@@ -1,6 +1,0 @@
-use Rattle.std.{proofs.Common.◌≡◌, proofs.Common.drop, specs.Option.option_or}
-use Rattle.{abc_fields.specs.Last.{last_of}, abc_header.specs.Defaults.{line_breaks}}
-use Rattle.abc_header.proofs.defaults.last_breaks.Given as goal
-
-abbrev pub invariant-loop-line : goal.invariant-loop-line
-invariant-loop-line l = option_or (last_of (line_breaks) (drop l.line-index l.lines)) l.last ≡ last_of (line_breaks) l.lines

@@ -1,5 +1,0 @@
-use Rattle.{std.proofs.Common.{subst, sym}, abc_header.{specs.Good.GoodUnitIn, proofs.HeaderLaws.last_unit-good}}
-use Rattle.abc_header.proofs.header.good_unit.Goals as goal
-
-pub returns-clause-good : goal.returns-clause-good
-returns-clause-good c = subst GoodUnitIn (sym c.last_unit.ensures) (last_unit-good c.args.fields.now c.requires)

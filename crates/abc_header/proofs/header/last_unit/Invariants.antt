@@ -1,6 +1,0 @@
-use Rattle.std.{proofs.Common.◌≡◌, proofs.Common.drop, specs.Option.option_or}
-use Rattle.{abc_fields.specs.Last.{last_of}, abc_header.specs.Headers.{unit_in}}
-use Rattle.abc_header.proofs.header.last_unit.Given as goal
-
-abbrev pub invariant-loop-field : goal.invariant-loop-field
-invariant-loop-field l = option_or (last_of (unit_in) (drop l.field-index l.fields)) l.last ≡ last_of (unit_in) l.fields

@@ -1,5 +1,0 @@
-use Rattle.abc_header.proofs.HeaderLaws.{Stage}
-use Rattle.abc_header.proofs.header.read_fields.Given as goal
-
-abbrev pub invariant-loop-line : goal.invariant-loop-line
-invariant-loop-line l = Stage l.lines l.line-index l.fields l.ids

@@ -1,6 +1,0 @@
-use Rattle.std.{proofs.Common.◌≡◌, proofs.Common.drop, specs.Option.option_or}
-use Rattle.{abc_fields.specs.Last.{last_of}, abc_header.specs.Voicing.{clef_for}}
-use Rattle.abc_header.proofs.voicing.last_clef.Given as goal
-
-abbrev pub invariant-loop-field : goal.invariant-loop-field
-invariant-loop-field l = option_or (last_of (clef_for l.id) (drop l.field-index l.fields)) l.last ≡ last_of (clef_for l.id) l.fields

@@ -1,0 +1,278 @@
+ghost use Rattle.std.specs.Prelude.{◌≡◌, ◌≢◌, ◌≤◌, ◌<◌, ◌+◌, ◌-◌, ◌^◌, ◌++◌, ◌∷◌, ℕ, List, length, IfOk, IfErr, OnOk, [], None};
+ghost use Rattle.{abc_lines.specs.{Kinds.code, Good.IsGoodLine}, abc_notes.specs.Chords.{chord_at}};
+ghost use Rattle.abc_pieces.specs.{Forms.opening, Forms.is_kept_field, declared.token.BracketOpening.TheVariants.Chord, Reading.piece_at, Reading.token_of, Reading.found_within};
+ghost use Rattle.abc_music.specs.{declared.token.Placed.Placed, Good.AreGoodTokens, Tokens.{TokensOf, IsErrorOf, GivesTokensOf, IsFull, IsStart, IsWithinLine, PartOf, column, with_token, fault_at, kind_after, kind_if, IsBracketFlaw, IsLineFlaw, IsOwnFlaw}};
+
+use crate::token::{LineRest, TokenPrefix, LinePart, TokenCursor, Placed};
+use abc_lines::{Fault, FaultKind, Line, TuneError};
+use abc_notes::chord::{chord_fault, goes_on_length, read_decos, read_heads};
+use abc_notes::decoration::{deco_of_letter, deco_of_name};
+use abc_notes::grace::{grace_fault, read_body};
+use abc_pieces::piece::{opening, piece_at};
+use abc_pieces::{Boxed, PieceBefore, Flaw, BorrowedToken, BracketOpening, Token, WrittenChord};
+use mus_units::bytes::is_digit;
+use mus_units::{Memory, Row, Text};
+use std::alloc::Global;
+
+/// The most tokens of a part.
+const MOST: usize = 1000;
+
+/// The tokens of a music line with their columns, or the first fault of the line.
+/// `bang` says that `!` is a line break. Linear in the line.
+pub fn read_music(alloc: Global, line: &Line, bang: bool) -> Result<Row<Placed>, TuneError>
+    requires { IsGoodLine line.now }
+    // What is read is the list of tokens.
+    ensures found { IfOk result (λ tokens. TokensOf bang line.now.text tokens) }
+    // There is no other list.
+    ensures only { IfOk result (λ tokens. (others : List Placed) → TokensOf bang line.now.text others → tokens ≡ others) }
+    // A fault is the first, and comes only where there is no list.
+    ensures fault { IfErr result (λ e. IsErrorOf bang line.now e) }
+    ensures good { IfOk result (λ tokens. AreGoodTokens tokens) }
+{
+    let front = read_prefix(alloc, line, bang)?;
+    match front.fault {
+        Some(fault) => Err(TuneError::Fault(fault)),
+        None => Ok(front.tokens),
+    }
+}
+
+/// The tokens of a music line up to its first fault, and that fault if it has one.
+/// `bang` says that `!` is a line break. Linear in the line.
+pub fn read_prefix(alloc: Global, line: &Line, bang: bool) -> Result<TokenPrefix, Memory>
+    requires { IsGoodLine line.now }
+    ensures front { IfOk result (λ front. GivesTokensOf bang line.now front.tokens front.fault) }
+    ensures good { IfOk result (λ front. AreGoodTokens front.tokens) }
+{
+    let mut tokens = Row::new(alloc);
+    let mut place = start(line);
+    loop {
+        let part = read_part(alloc, line, bang, place)?;
+        tokens.append(part.tokens)?;
+        match part.behind {
+            LineRest::More(next) => place = next,
+            LineRest::End(fault) => return Ok(TokenPrefix { tokens, fault }),
+        }
+    }
+}
+
+/// The place where a music line begins.
+pub fn start(line: &Line) -> TokenCursor<'_>
+    ensures { IsStart line.now result }
+{
+    TokenCursor {
+        rest: line.text.as_slice(),
+        before: PieceBefore::Other,
+        at: 0,
+    }
+}
+
+/// The tokens of a music line from a place on, up to its first fault or to the thousandth of them, and
+/// what stands behind them. So a line can be read in parts of which one alone is held at a time.
+/// Linear in what is read.
+pub fn read_part<'a>(
+    alloc: Global,
+    line: &Line,
+    bang: bool,
+    place: TokenCursor<'a>,
+) -> Result<LinePart<'a>, Memory>
+    requires line { IsGoodLine line.now }
+    requires place { IsWithinLine line.now place }
+    ensures part { IfOk result (λ part. PartOf bang line.now place.entry part.tokens part.behind) }
+    ensures full { IfOk result (λ part. IsFull part.tokens part.behind) }
+    ensures good { IfOk result (λ part. AreGoodTokens part.tokens) }
+{
+    let mut tokens = Row::with_room(alloc, place.rest.len().min(MOST))?;
+    let mut place = place;
+    'pieces: while tokens.len() < MOST {
+        let Some((first, behind)) = place.rest.split_first() else {
+            return Ok(LinePart {
+                tokens,
+                behind: LineRest::End(None),
+            });
+        };
+        let Some(piece) = piece_at(bang, place.before, place.rest) else {
+            let flaw = line_flaw(bang, place.before, place.at, *first, behind);
+            return Ok(LinePart {
+                tokens,
+                behind: LineRest::End(Some(fault_at(line, flaw))),
+            });
+        };
+        let left = place.rest.len();
+        let column = column(line.text.len(), left);
+        add(alloc, &mut tokens, bang, piece.found, column)?;
+        place = TokenCursor {
+            rest: piece.rest,
+            before: piece.after,
+            at: left,
+        };
+    }
+    Ok(LinePart {
+        tokens,
+        behind: LineRest::More(place),
+    })
+}
+
+fn column(n: usize, left: usize) -> u32
+    requires short { n ≤ 2 ^ 30 }
+    requires within { left ≤ n + 1 }
+    ensures { result ≡ column n left }
+{
+    (n + 1 - left) as u32
+}
+
+fn fault_at(line: &Line, flaw: Flaw) -> Fault
+    requires short { IsGoodLine line.now }
+    requires within { flaw.left ≤ length line.now.text + 1 }
+    ensures { result ≡ fault_at line.now flaw }
+{
+    Fault {
+        kind: flaw.kind,
+        line: line.number,
+        column: column(line.text.len(), flaw.left),
+    }
+}
+
+/// The fault where no piece stands: `first` and then `behind` are left, and the
+/// piece before begins `at` bytes from the end.
+fn line_flaw(bang: bool, before: PieceBefore, at: usize, first: u8, behind: &[u8]) -> Flaw
+    requires small { length behind.now < 2 ^ 30 }
+    requires none { piece_at bang before (first ∷ behind.now) ≡ None }
+    ensures flaw { IsLineFlaw bang before at first behind.now result }
+    ensures within { (n : ℕ) → at ≤ n → length behind.now < n → result.left ≤ n }
+{
+    match kind_after(before, first) {
+        Some(kind) => Flaw { kind, left: at },
+        None => own_flaw(bang, before, first, behind),
+    }
+}
+
+fn kind_after(before: PieceBefore, byte: u8) -> Option<FaultKind>
+    ensures { result ≡ kind_after before byte }
+{
+    match before {
+        PieceBefore::Bar => None,
+        PieceBefore::Broken { right } => {
+            kind_if(
+                byte == if right { b'>' } else { b'<' },
+                FaultKind::BadLength,
+            )
+        }
+        PieceBefore::Lengthy => kind_if(goes_on_length(byte), FaultKind::BadLength),
+        PieceBefore::Paren => kind_if(is_digit(byte), FaultKind::BadTuplet),
+        PieceBefore::Other => None,
+    }
+}
+
+fn kind_if(goes_on: bool, kind: FaultKind) -> Option<FaultKind>
+    ensures { result ≡ kind_if goes_on kind }
+{
+    if goes_on { Some(kind) } else { None }
+}
+
+fn own_flaw(bang: bool, before: PieceBefore, first: u8, behind: &[u8]) -> Flaw
+    requires small { length behind.now < 2 ^ 30 }
+    requires none { piece_at bang before (first ∷ behind.now) ≡ None }
+    ensures flaw { IsOwnFlaw bang first behind.now result }
+    ensures within { result.left ≤ length behind.now + 1 }
+{
+    if first == b'"' {
+        Flaw {
+            kind: FaultKind::Unclosed,
+            left: behind.len() + 1,
+        }
+    } else if first == b'[' {
+        bracket_flaw(bang, behind)
+    } else if first == b'{' {
+        grace_fault(bang, behind)
+    } else {
+        Flaw {
+            kind: FaultKind::BadByte,
+            left: behind.len() + 1,
+        }
+    }
+}
+
+fn bracket_flaw(bang: bool, behind: &[u8]) -> Flaw
+    requires small { length behind.now < 2 ^ 30 }
+    requires none { opening behind.now ≡ Chord → chord_at bang behind.now ≡ None }
+    ensures flaw { IsBracketFlaw (opening behind.now) bang (code "[") behind.now result }
+    ensures within { result.left ≤ length behind.now + 1 }
+{
+    match opening(behind) {
+        BracketOpening::Bar | BracketOpening::Ending => Flaw {
+            kind: FaultKind::BadByte,
+            left: behind.len() + 1,
+        },
+        BracketOpening::Inline => Flaw {
+            kind: FaultKind::Unclosed,
+            left: behind.len() + 1,
+        },
+        BracketOpening::Chord => chord_fault(bang, behind),
+    }
+}
+
+fn add(
+    alloc: Global,
+    out: &mut Row<Placed>,
+    bang: bool,
+    found: BorrowedToken<'_>,
+    column: u32,
+) -> Result<(), Memory>
+    requires { found_within found (2 ^ 30) }
+    ensures { OnOk result (out.new ≡ out.old ++ with_token (token_of bang found.entry) column []) }
+{
+    match token(alloc, bang, found)? {
+        Some(token) => out.push(Placed { token, column }),
+        None => Ok(()),
+    }
+}
+
+fn token(alloc: Global, bang: bool, found: BorrowedToken<'_>) -> Result<Option<Token>, Memory>
+    requires { found_within found (2 ^ 30) }
+    ensures { IfOk result (λ t. t ≡ token_of bang found.entry) }
+{
+    Ok(Some(match found {
+        BorrowedToken::Note { head, len } => Token::Note { head, len },
+        BorrowedToken::Rest { seen, len } => Token::Rest { seen, len },
+        BorrowedToken::Measures { seen, count } => Token::Measures { seen, count },
+        BorrowedToken::Chord { inside, len } => {
+            let chord = WrittenChord {
+                heads: read_heads(alloc, bang, inside)?,
+                decos: read_decos(alloc, bang, inside)?,
+                len,
+            };
+            Token::Chord(Boxed::new(alloc, chord)?)
+        }
+        BorrowedToken::Grace { slash, inside } => {
+            let body = read_body(alloc, bang, inside)?;
+            Token::Grace { slash, body }
+        }
+        BorrowedToken::Tuplet { p, q, r } => Token::Tuplet { p, q, r },
+        BorrowedToken::SlurOn => Token::SlurOn,
+        BorrowedToken::SlurOff => Token::SlurOff,
+        BorrowedToken::Tie => Token::Tie,
+        BorrowedToken::Broken { right, dots } => Token::Broken { right, dots },
+        BorrowedToken::Bar(bar) => Token::Bar(bar),
+        BorrowedToken::Ending(text) => Token::Ending(Text::from_slice(alloc, text)?),
+        BorrowedToken::Letter(byte) => Token::Deco(deco_of_letter(byte)),
+        BorrowedToken::Named(name) => Token::Deco(deco_of_name(alloc, name)?),
+        BorrowedToken::Says(text) => Token::Says(Text::from_slice(alloc, text)?),
+        BorrowedToken::Inline { letter, text } => {
+            if !is_kept_field(letter) {
+                return Ok(None);
+            }
+            let text = Text::from_slice(alloc, text)?;
+            Token::Inline { letter, text }
+        }
+        BorrowedToken::Cut => Token::Cut,
+        BorrowedToken::Space => Token::Space,
+        BorrowedToken::Passed => return Ok(None),
+    }))
+}
+
+/// Whether an inline field of this letter is kept.
+fn is_kept_field(letter: u8) -> bool
+    ensures { result ≡ is_kept_field letter }
+{
+    letter == b'K' || letter == b'L' || letter == b'M' || letter == b'V'
+}

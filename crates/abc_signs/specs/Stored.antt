@@ -1,0 +1,6 @@
+-- What waited for an event, where it is kept.
+use Rattle.abc_signs.specs.{declared.written.PendingStore.PendingStore, declared.written.Pending.Pending, Waits.nothing_pending}
+
+abbrev pub stored_pending : PendingStore → Pending
+stored_pending PendingStore.Nothing = nothing_pending
+stored_pending (PendingStore.Some waiting) = waiting.value

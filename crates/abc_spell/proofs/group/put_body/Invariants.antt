@@ -1,6 +1,0 @@
-use Rattle.std.proofs.Common.{◌≡◌, ◌++◌, drop, ℕ, List}
-use Rattle.abc_spell.specs.Plain.{all_then, grace_chord_then}
-use Rattle.abc_spell.proofs.group.put_body.Given as goal
-
-abbrev pub invariant-loop-chord : goal.invariant-loop-chord
-invariant-loop-chord l = (x : List ℕ) → l.out ++ all_then grace_chord_then (drop l.chord-index l.body) x ≡ l.fn.out ++ all_then grace_chord_then l.body x

@@ -1,5 +1,0 @@
-use Rattle.std.proofs.Common.{◌≡◌, ◌++◌, replicate}
-use Rattle.abc_spell.proofs.note.put_copies.Given as goal
-
-abbrev pub invariant-loop : goal.invariant-loop
-invariant-loop l = l.out ≡ l.fn.out ++ replicate l.counter l.byte

@@ -1,8 +1,0 @@
-use Rattle.{std.proofs.Common.{length}, abc_tokens.{specs.Tokens.{IsWithin}, proofs.Line.{ReadTo}}}
-use Rattle.abc_tokens.proofs.reader.read_front.Given as goal
-
-abbrev pub invariant-loop-tokens : goal.invariant-loop-tokens
-invariant-loop-tokens l = record { read : ReadTo l.bang l.line l.tokens l.place; within : IsWithin l.line l.place }
-
-abbrev pub decreases-loop-tokens : goal.decreases-loop-tokens
-decreases-loop-tokens l = length l.place.rest.now

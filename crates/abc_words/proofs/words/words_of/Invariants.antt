@@ -1,6 +1,0 @@
-use Rattle.std.{proofs.Common.◌≡◌, specs.Prelude.map, specs.List.range_with_len}
-use Rattle.abc_words.specs.{Verses.verse_count, Words.event_words, Words.music_rows}
-use Rattle.abc_words.proofs.words.words_of.Given as goal
-
-abbrev pub invariant-loop-event : goal.invariant-loop-event
-invariant-loop-event l = l.words ≡ map (event_words (music_rows l.id l.unnamed l.items l.notes) (verse_count l.id l.unnamed l.items)) (range_with_len 0 l.event)

@@ -1,0 +1,12 @@
+use Rattle.std.proofs.Common.{◌∙◌, refl}
+use Rattle.abcps.proofs.Batches.{none_told}
+use Rattle.abcps.proofs.building.begin_book.Goals as goal
+
+pub returns-clause-begun : goal.returns-clause-begun
+returns-clause-begun g c plan paper rises = record {
+  pressed = c.new_builder.ensures.pressed plan paper rises;
+  free = c.new_builder.ensures.open;
+  told = c.new.ensures ∙ none_told;
+  refused = refl;
+  uncounted = c.in_ok-writer.ensures.writer.pages_now;
+}

@@ -1,0 +1,126 @@
+ghost use Rattle.std.specs.Prelude.{◌≡◌, List, IfOk, flat_map};
+ghost use Rattle.{abc_fields.specs.{declared.paper.Paper.Paper, Papers.IsGoodPaper}, ps_text.specs.Prolog.prolog, set_book.specs.declared.outcome.Outcome.{Outcome}};
+ghost use Rattle.set_pages.specs.{declared.plan.PagePlan.PagePlan, Sheet.paper_frame};
+ghost use Rattle.abcps.specs.{Outcome.{IsCompleteStatus, observed}, Progress.{CanAdd, IsBegun, IsFinished, IsBuiltOrStopped, IsRunning, WroteOrStopped, status_if}};
+
+use crate::status::Status;
+use abc_fields::Paper;
+use eng_io::Sink;
+use eng_jobs::Jobs;
+use mus_units::{Memory, Row, Text};
+use ps_write::{DocWriter, begin, finish, send_pages};
+use set_book::Outcome;
+use set_lists::{has_fault, put_reports};
+use set_pages::{PagePlan, PageBuilder, paper_frame, new_builder, add_outcomes, put_ending};
+use std::alloc::Global;
+use std::thread::Threads;
+
+/// What runs along while the tunes of a book are set and its pages are written: where its blocks stand so far, the
+/// reports of the faults so far, whether there was one, and the document.
+#[derive(Drop)]
+pub(crate) struct BookProgress {
+    press: PageBuilder,
+    told: Text,
+    refused: bool,
+    writer: DocWriter,
+}
+
+/// What is left to tell of a book whose document was written: how many pages it has, the reports of its faults, and the
+/// answer.
+#[derive(Drop)]
+pub(crate) struct WrittenBook {
+    pub(crate) pages: u32,
+    pub(crate) told: Text,
+    pub(crate) status: Status,
+}
+
+/// The answer where a tune was refused, and where none was.
+pub(crate) fn status_if(refused: bool) -> Status
+    ensures value { result ≡ status_if refused }
+    ensures end { IsCompleteStatus result }
+{
+    if refused {
+        Status::SomeRefused
+    } else {
+        Status::Done
+    }
+}
+
+/// Begins the document of a book on its paper, before any of its tunes is set.
+pub(crate) fn begin_book<O: Sink>(
+    alloc: Global,
+    paper: &Paper,
+    output: &mut O,
+) -> Result<BookProgress, Status>
+    requires { IsGoodPaper paper.now }
+    ensures wrote { WroteOrStopped (observed O.taken O.faults output.old output.new) (prolog (paper_frame paper.now)) result }
+    ensures begun { IfOk result IsBegun }
+{
+    let writer = begin(alloc, &paper_frame(paper), output)?;
+    Ok(BookProgress {
+        press: new_builder(),
+        told: Text::new(alloc),
+        refused: false,
+        writer,
+    })
+}
+
+/// Writes texts, one behind another.
+fn send_all<O: Sink>(
+    texts: Row<Text>,
+    writer: DocWriter,
+    output: &mut O,
+) -> Result<DocWriter, Status>
+    requires { writer.pages ≡ 0 }
+    ensures wrote { WroteOrStopped (observed O.taken O.faults output.old output.new) (flat_map (λ text. text) texts) result }
+    ensures count { IfOk result (λ next. next.pages ≡ 0) }
+{
+    let mut writer = writer;
+    for text in texts.items {
+        writer = send_pages(writer, 0, text.as_slice(), output)?;
+    }
+    Ok(writer)
+}
+
+/// Presses what came of some tunes behind those before them, and writes the text that they add. The outcomes are kept no
+/// longer.
+pub(crate) fn write_outcomes<R: Threads + Sync, O: Sink>(
+    rt: &R,
+    alloc: Global,
+    paper: &Paper,
+    plan: &PagePlan,
+    jobs: Jobs,
+    outcomes: Row<Outcome>,
+    run: BookProgress,
+    output: &mut O,
+) -> Result<BookProgress, Status>
+    requires { CanAdd plan.now paper.now outcomes run }
+    ensures { (before : List Outcome) → IsRunning plan.now paper.now before run → IsBuiltOrStopped plan.now paper.now before outcomes (observed O.taken O.faults output.old output.new) result }
+{
+    let mut run = run;
+    put_reports(&mut run.told, outcomes.as_slice())?;
+    run.refused = run.refused || has_fault(outcomes.as_slice());
+    let texts = add_outcomes(rt, alloc, paper, plan, outcomes, jobs, &mut run.press)?;
+    run.writer = send_all(texts, run.writer, output)?;
+    Ok(run)
+}
+
+/// Ends the last page, where one was begun, and the document.
+pub(crate) fn finish_book<O: Sink>(
+    alloc: Global,
+    run: BookProgress,
+    output: &mut O,
+) -> Result<WrittenBook, Status>
+    requires { run.writer.pages ≡ 0 }
+    ensures { (plan : PagePlan) (paper : Paper) (outcomes : List Outcome) → IsRunning plan paper outcomes run → IsFinished outcomes run.press.begun (observed O.taken O.faults output.old output.new) result }
+{
+    let mut text = Text::new(alloc);
+    put_ending(u64::from(run.press.begun), &mut text)?;
+    let writer = send_pages(run.writer, run.press.begun, text.as_slice(), output)?;
+    finish(alloc, writer, output)?;
+    Ok(WrittenBook {
+        pages: run.press.begun,
+        told: run.told,
+        status: status_if(run.refused),
+    })
+}

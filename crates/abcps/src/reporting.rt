@@ -1,0 +1,74 @@
+ghost use Rattle.std.specs.Prelude.{◌≡◌, ◌⊎◌, IfOk};
+ghost use Rattle.abcps_words.specs.Usage.{usage_line};
+ghost use Rattle.abcps.specs.{Outcome.{IsAnswered, IsCompleteStatus, IsQuiet, WroteWhole, FailedAfterPrefix, ReportsLine, observed}, Refusals.{refusal_line, refusal_status}, declared.status.Status.Status};
+
+use crate::refusing::Refusal;
+use crate::status::Status;
+use abcps_words::usage;
+use eng_io::{Sink, write_all};
+use mus_units::{Memory, Text};
+use std::alloc::Global;
+
+/// Tells a sink a line; the status stands whatever it does.
+pub(crate) fn report<E: Sink>(errors: &mut E, line: &[u8])
+    ensures { ReportsLine (observed E.taken E.faults errors.old errors.new) line.now }
+{
+    let _ = write_all(errors, line);
+}
+
+/// Tells a sink the usage line; the status stands whatever it does.
+pub(crate) fn report_usage<E: Sink>(errors: &mut E)
+    ensures { ReportsLine (observed E.taken E.faults errors.old errors.new) usage_line }
+{
+    report(errors, usage());
+}
+
+/// Tells errors the last text of a run, whose answer that is unless errors fails.
+pub(crate) fn report_last<E: Sink>(errors: &mut E, told: &[u8], with: Status) -> Status
+    ensures { ((result ≡ with) × WroteWhole (observed E.taken E.faults errors.old errors.new) told.now)
+        ⊎ ((result ≡ Status.WriteFault) × FailedAfterPrefix (observed E.taken E.faults errors.old errors.new) told.now) }
+{
+    match write_all(errors, told) {
+        Ok(()) => with,
+        Err(_) => Status::WriteFault,
+    }
+}
+
+/// Writes a text on output, and then tells errors another.
+#[tactic(auto, using(crate::proofs::Answered::answered_end))]
+pub(crate) fn write_both<O: Sink, E: Sink>(
+    output: &mut O,
+    errors: &mut E,
+    page: &[u8],
+    told: &[u8],
+    with: Status,
+) -> Status
+    requires { IsCompleteStatus with }
+    ensures { IsAnswered (λ called. called ≡ record { page = page.now; told = told.now; status = with }) result (observed O.taken O.faults output.old output.new) (observed E.taken E.faults errors.old errors.new) }
+{
+    match write_all(output, page) {
+        Ok(()) => report_last(errors, told, with),
+        Err(_) => Status::WriteFault,
+    }
+}
+
+/// The line of a refusal.
+fn line_of(alloc: Global, refusal: Refusal) -> Result<Text, Memory>
+    ensures { IfOk result (λ line. line ≡ refusal_line refusal) }
+{
+    let mut line = Text::new(alloc);
+    refusal.put_line(&mut line)?;
+    Ok(line)
+}
+
+/// Tells why an input is refused; its answer stands whatever the sink does.
+pub(crate) fn refuse<E: Sink>(alloc: Global, refusal: Refusal, errors: &mut E) -> Status
+    ensures { ((result ≡ Status.Memory) × IsQuiet (observed E.taken E.faults errors.old errors.new))
+        ⊎ ((result ≡ refusal_status refusal) × ReportsLine (observed E.taken E.faults errors.old errors.new) (refusal_line refusal)) }
+{
+    let Ok(line) = line_of(alloc, refusal) else {
+        return Status::Memory;
+    };
+    report(errors, line.as_slice());
+    refusal.status()
+}

@@ -1,0 +1,38 @@
+-- What a listener hears of the pages of a book: its tunes one after another, and of each staff of a tune what its voice sounds.
+use Rattle.std.specs.{Prelude.{◌≡◌, ℕ, ◌≤◌, List, [], ◌∷◌, All, map, flat_map, length, Result, Ok, Err}, List.{AllByRecursion, AllZip}}
+use Rattle.{abc_lines.specs.declared.fault.Fault.{Fault}, abc_fields.specs.declared.paper.Paper.{Paper}, mus_score.specs.declared.score.{Score.Score, Seat.Seat}}
+use Rattle.{set_tune.specs.declared.tune.SetTune.{SetTune}, set_book.specs.declared.outcome.Outcome.{Outcome}, set_pages.specs.{Read.ShowsBook, Sheet.IsSetUnder}}
+use Rattle.{ps_text.specs.declared.sheet.Sheet.{Sheet}, ps_heard.specs.{declared.tunes.SheetTune.SheetTune, Tunes.{items_of, staves_heard, tunes_of}}, law_voice_sound.specs.{Clear.IsClearScore, Sounds.voice_heard}}
+
+-- each voice has a staff of its own, as where no line says that some share one
+abbrev pub AreAlone : Score → Type 0
+AreAlone s = All (λ v. v.seat ≡ Seat.Alone) s.voices
+
+-- what is heard of a tune, with its own spread, is staff by staff what the voices of its score sound
+abbrev pub Sounds : Score → SheetTune → Type 0
+Sounds s part = staves_heard s.spread part.systems ≡ map (voice_heard s.spread) s.voices
+
+-- A tune without a fault is heard once at most, under its ordinal; a clear one, each of whose voices has a staff of its own and that
+-- has a measure, is heard as its score sounds. How others sound isn't said.
+pub record SoundsTune (ordinal : ℕ) (t : SetTune) (parts : List SheetTune) : Type 0 where
+  pub once : length parts ≤ 1
+  pub ordinals : AllByRecursion (λ part. part.ordinal ≡ ordinal) parts
+  pub clear : IsClearScore t.score → AreAlone t.score → 1 ≤ t.score.measures → (part : SheetTune) × (parts ≡ part ∷ []) × Sounds t.score part
+
+-- a tune with a fault isn't heard
+abbrev pub SoundsResult : ℕ → Result SetTune Fault → List SheetTune → Type 0
+SoundsResult ordinal (Ok t) parts = SoundsTune ordinal t parts
+SoundsResult ordinal (Err fault) parts = parts ≡ []
+
+abbrev pub SoundsOutcome : Outcome → List SheetTune → Type 0
+SoundsOutcome o parts = SoundsResult o.ordinal o.result parts
+
+-- the tunes of a sheet are those of the outcomes, in order
+pub record SoundsBook (outcomes : List Outcome) (sheet : Sheet) : Type 0 where
+  pub parts : List (List SheetTune)
+  pub whole : tunes_of (items_of sheet) ≡ flat_map (λ (part : List SheetTune). part) parts
+  pub tunes : AllZip SoundsOutcome outcomes parts
+
+-- a sheet that shows a book sounds, for clear tunes whose voices have a staff each, as their scores do
+abbrev pub BooksAreHeard : Type 0
+BooksAreHeard = (paper : Paper) (outcomes : List Outcome) (sheet : Sheet) → All (IsSetUnder paper) outcomes → ShowsBook paper outcomes sheet → SoundsBook outcomes sheet

@@ -1,0 +1,70 @@
+-- The columns of a span that fits are set to the width, and the marks of its system are tilted over them.
+use Rattle.std.{specs.List.range_with_len, proofs.{Common.{◌≡◌, refl, sym, ap, ℕ, suc, ◌+◌, ◌-◌, ◌*◌, ◌/◌, ◌<◌, ◌≤◌, ◌==◌, if◌then◌else◌, inl, inr, Bool, true, false, ℤ, pos, negsuc, ◌+ℤ◌, ◌≤ℤ◌, List, length, map, Option, slice_index, slice_index_or, arith}, lemmas.{Bool.{cases_lt, true≢false}, Int.ints, List.FromFn.{get_or-map-range_with_len, length-map-range_with_len}}}}
+use Rattle.{mus_score.specs.declared.score.Score.{Score}, mus_onsets.specs.Onsets.{timeline_of}, mus_laid.specs.declared.laid.SystemMarks.{SystemMarks}, mus_marks.{specs.{System.drawn_staves, Tilt.{IsTilted, tilted_staff}}, proofs.Alike.tilted_alike}}
+use Rattle.lay_springs.{specs.{declared.{margin.Placed.Placed, traits.Reach.Reach}, Place.{IsPlace, StandApart, length_at, reach_at}, Fit.{Fits, IsSet, is_ragged}}, proofs.{Longer.fewer_apart, Made.has_place, Moved.set_apart}}
+use Rattle.lay_reaches.{specs.{declared.column.Column.Column, Columns.column_reach}, proofs.Gaps.gaps_narrow}
+use Rattle.lay_tune.{specs.{Spans.{IsForceOf, IsSpanCost, column_length, score_gaps, system_columns, verses_of}, Systems.{IsJustified, IsSetSystem}}, proofs.Called.has_system}
+use Rattle.law_every_layout.proofs.Spans.{columns_near, columns_short}
+
+-- what a width leaves past an end
+rest_of : (e : ℤ) (width : ℕ) → e ≤ℤ pos width → (rest : ℕ) × ((e +ℤ pos rest) ≡ pos width)
+rest_of (pos k) width l = (width - k, omega (arith, ints, l))
+rest_of (negsuc k) width l = (width + suc k, omega (arith, ints))
+
+-- columns that fit a width are set to it
+has_set : (n : ℕ) (reach : ℕ → ℕ → Option Reach) (gaps : List ℕ) (spring : ℕ → ℕ → ℕ) (width force : ℕ) → Fits n reach gaps spring width force
+    → (at : List ℤ) × IsSet n reach gaps spring width force at × StandApart n reach gaps (spring force) at
+has_set n reach gaps spring width force (e, ends, l) = elim (cases_lt 1 n) [
+  | inl several ↦
+      let rest = rest_of e width l in let f = λ (k : ℕ). slice_index_or ends.x k (pos 0) +ℤ pos (rest.0 * k / (n - 1)) in
+      let is : IsSet n reach gaps spring width force (map f (range_with_len 0 n)) = record {
+        x = ends.x;
+        place = ends.place;
+        count = length-map-range_with_len f 0 n;
+        alone = λ one. absurd (omega (arith, one, several));
+        moved = λ _. (e, rest.0, ends.end, rest.1, λ k less. get_or-map-range_with_len f 0 n k k (pos 0) less (omega arith));
+      } in
+      (map f (range_with_len 0 n), is, set_apart n reach gaps spring width force _ (omega (arith, several)) is)
+  | inr few ↦
+      (ends.x, record { x = ends.x; place = ends.place; count = ends.place.count; alone = λ _. refl; moved = λ several. absurd (omega (arith, few, several)) }, ends.place.apart)
+]
+
+-- columns pressed with their force
+module _ (columns : List Column) (gaps : List ℕ) (width force : ℕ) (narrow : (lane : ℕ) → lane < length gaps → slice_index gaps lane ≤ 1048576) (h : IsForceOf gaps width columns force) where
+  -- have a place at the natural force, also where there are none
+  has_natural : (x : List ℤ) × IsPlace (length columns) (reach_at column_reach columns) gaps (length_at column_length columns 256) x
+  has_natural = elim (cases_lt 0 (length columns)) [
+    | inl some ↦
+        has_place (length columns) (reach_at column_reach columns) gaps (length_at column_length columns 256) (λ k lane _. columns_near columns k lane) narrow
+        (λ i. columns_short columns 256 i (omega arith)) some
+    | inr none ↦
+        let place = h.fits.1.place in
+        let apart = fewer_apart (length columns) (length columns) _ _ gaps (length_at column_length columns 256) (length_at column_length columns force) h.fits.1.x (omega arith)
+        (λ i lane l. refl) (λ i l. absurd (omega (arith, none, l))) place.apart in
+        (h.fits.1.x, record { count = place.count; apart = apart; least = λ y a k l. absurd (omega (arith, none, l)) })
+  ]
+
+  -- and are justified
+  has_justified : (last : Bool) → (p : Placed) × IsJustified gaps width last columns p
+  has_justified last = by (is_ragged last force) refl
+    where
+      by : (b : Bool) → is_ragged last force ≡ b → (p : Placed) × IsJustified gaps width last columns p
+      by true e = (
+        record { force = 256; ragged = true; at = has_natural.0 },
+        record { pressed = (force, h, sym (ap (λ b. if b then 256 else force) e), sym e); loose = λ _. has_natural.1; set = λ is. absurd (true≢false is); apart = has_natural.1.apart },
+      )
+      by false e =
+          let set = has_set (length columns) (reach_at column_reach columns) gaps (length_at column_length columns) width force h.fits in (
+            record { force = force; ragged = false; at = set.0 },
+            record { pressed = (force, h, sym (ap (λ b. if b then 256 else force) e), sym e); loose = λ is. absurd (true≢false (sym is)); set = λ _. set.1; apart = set.2 },
+          )
+
+-- a span that costs something has a system, set to the width
+pub has_set_system : (s : Score) (width a b v : ℕ) → IsSpanCost s width a b v → (m : SystemMarks) × (p : Placed) × IsSetSystem s width a b m p
+has_set_system s width a b v cost =
+    let flat = has_system s a b in
+    let placed = has_justified (system_columns s flat.0) (score_gaps s) width cost.pressed.0
+    (λ lane l. gaps_narrow (verses_of s) lane 0 l) (cost.pressed.2 flat.0 flat.1) (flat.0.b == s.measures) in
+    let keys = flat.0.keys in let m : SystemMarks = record { a = a; b = b; keys = keys; staves = map (tilted_staff keys (timeline_of s).lengths placed.0.at a b) (drawn_staves s) } in
+    let tilted : IsTilted s (timeline_of s) a b placed.0.at m = record { from = refl; to = refl; keys = flat.1.keys; staves = refl } in
+    (m, placed.0, record { flat = flat.0; called = flat.1; placed = placed.1; tilted = tilted; alike = tilted_alike s (timeline_of s) a b placed.0.at m tilted flat.0 flat.1 })

@@ -1,0 +1,12 @@
+-- Every text of a tune is read: its header, and under it its score, are there or have a first fault.
+use Rattle.std.specs.Prelude.{◌≡◌, ◌⊎◌, Bool, Some, None}
+use Rattle.abc_lines.specs.declared.{book.TuneText.TuneText, fault.{Fault.Fault, TuneError.TuneError}}
+use Rattle.abc_fields.specs.{declared.{defaults.Defaults.Defaults, header.Header.Header}, Good.IsGoodDefaults, Headers.{header_fault, HasGoodValues, IsHeaderOf, IsGoodHeader}}
+use Rattle.{abc_score.specs.Build.{IsFaultOf, IsScoreOf}, mus_score.specs.{declared.score.Score.Score, GoodScore.IsGoodScore}}
+
+pub record EveryTextIsRead : Type 0 where
+  -- a tune has a first fault of its header, or a header with good values and no fault
+  pub header : (tune : TuneText) (defaults : Defaults) → IsGoodDefaults defaults
+      → ((f : Fault) × (header_fault tune ≡ Some f)) ⊎ ((h : Header) × IsHeaderOf tune defaults h × (header_fault tune ≡ None) × IsGoodHeader tune h)
+  -- under such a header it has a first fault of its body or its score, or a good score
+  pub score : (h : Header) (tune : TuneText) (flow : Bool) → HasGoodValues h → ((f : Fault) × IsFaultOf h tune (TuneError.Fault f)) ⊎ ((s : Score) × IsScoreOf h tune flow s × IsGoodScore s)

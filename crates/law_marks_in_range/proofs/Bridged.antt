@@ -1,0 +1,24 @@
+-- Beams and arcs of a voice go from one of the columns of its system to a later one.
+use Rattle.std.{proofs.Common.{◌∙◌, ℕ, ◌-◌, ◌<◌, ◌≤◌, List, ◌++◌, drop, get_or, arith}, specs.List.{All, slice_range}}
+use Rattle.{mus_score.specs.{declared.score.Score.Score, GoodScore.IsGoodScore, GoodScore.IsGoodVoice}, mus_onsets.{specs.{declared.keys.ColumnKey.ColumnKey, Keys.AreKeys, Keys.called_keys, Onsets.timeline_of}, proofs.Places.places_of}}
+use Rattle.{mus_stems.proofs.RunLaws.{all_drop, all_take}, mus_drawn.specs.Drawn.{drawn_voice}, mus_time.proofs.Counts.{voice_count}, mus_bridges.specs.{Arcs.arcs_between, Bridges.{beams_between, bridges_of, grace_beams_between}}}
+use Rattle.mus_marks.proofs.{GoingOn.GoOn, GoingOn.voice_goes_on, Inside.head_inside, Inside.measures_inside}
+use Rattle.law_marks_in_range.proofs.{Arcs.arcs_go_on, Arcs.voice_arcs_go, Beams.beams_go, Between.AreBetween, Between.both, GraceBeams.grace_beams_go}
+
+module _ (s : Score) (a b : ℕ) (keys : List ColumnKey) (good : IsGoodScore s) (order : a < b) (within : b ≤ s.measures) (are : AreKeys keys (called_keys s (timeline_of s).lengths a b)) where
+  pub voices_between : All (λ v. AreBetween keys (bridges_of (timeline_of s).lengths a b (drawn_voice v))) s.voices
+  voices_between k d inside =
+      let lengths = (timeline_of s).lengths in let v = get_or s.voices k d in let own : IsGoodVoice v = good.voices k d inside in let count = voice_count v ∙ good.measures k d inside in
+      let ds = (drawn_voice v).measures in let some = slice_range ds a b in let on = voice_goes_on v own in let have = measures_inside s lengths a b keys good within are k d inside in
+      both keys (beams_between a some ++ grace_beams_between a some) (arcs_between lengths a b ds (drawn_voice v).arcs)
+      (both keys (beams_between a some) (grace_beams_between a some)
+      (beams_go keys lengths a some have (all_take (λ d. GoOn d.events) (b - a) (drop a ds) (all_drop (λ d. GoOn d.events) a ds on)))
+      (grace_beams_go keys lengths a some have))
+      (arcs_go_on keys lengths a b ds (record {
+        order = order;
+        enough = omega (arith, count, within);
+        head = head_inside s lengths a b keys good (omega (arith, inside)) are;
+        measures = have;
+        places = places_of s a b keys good order within are;
+        on = on;
+      }) (drawn_voice v).arcs (voice_arcs_go v own))

@@ -1,0 +1,30 @@
+-- The columns of a staff as the ranks of its marks tell them: at each rank what the glyphs there tell, and where ties end. The
+-- column of rank 0 leads its system.
+use Rattle.std.specs.Prelude.{ℕ, zero, suc, ℤ, ◌-ℤ◌, ◌==◌, ◌&&◌, if◌then◌else◌, List, [], ◌∷◌, flat_map}
+use Rattle.{mus_laid.specs.declared.laid.{Laid.Laid, Mark.Mark}, ps_heard.specs.{declared.column.HeardColumn.HeardColumn, declared.column.HeardGlyph.HeardGlyph, Columns.bulges_as_tie, Columns.noted, Roles.role_of}}
+
+abbrev pub noted_at : ℕ → Mark → List HeardGlyph
+noted_at r (Mark.Glyph glyph rank dx dy) = if r == rank then noted (role_of glyph dy) dy else []
+noted_at r _ = []
+
+-- the height of the head at which a tie ends at a rank
+abbrev pub tied_at : ℕ → Mark → List ℤ
+tied_at r (Mark.Arc first last from to bulge) = if (r == last) && bulges_as_tie bulge then (to -ℤ bulge) ∷ [] else []
+tied_at r _ = []
+
+abbrev pub notes_at : List Laid → ℕ → List HeardGlyph
+notes_at all r = flat_map (λ l. noted_at r l.mark) all
+
+abbrev pub tie_ends_at : List Laid → ℕ → List ℤ
+tie_ends_at all r = flat_map (λ l. tied_at r l.mark) all
+
+abbrev pub rank_column : List Laid → ℕ → HeardColumn
+rank_column all r = record { leads = r == 0; notes = notes_at all r; ties = tie_ends_at all r }
+
+-- so many columns, the first of which has rank r
+abbrev pub columns_behind : List Laid → ℕ → ℕ → List HeardColumn
+columns_behind all r zero = []
+columns_behind all r (suc n) = rank_column all r ∷ columns_behind all (suc r) n
+
+abbrev pub ranked_columns : ℕ → List Laid → List HeardColumn
+ranked_columns n all = columns_behind all 0 n

@@ -1,0 +1,21 @@
+use Rattle.std.proofs.{Common.sym, Common.◌∙◌, lemmas.Bool.true≢false}
+use Rattle.lay_cert.{specs.declared.lines.ListingLine.ListingLine, proofs.Judging.none_choosing, proofs.state.after_heading.Goals.then-choosing-via-then-choosing, proofs.state.after_heading.Goals.then-choosing-via-else-choosing+in_ok-is_line+then-not-branch}
+use Rattle.lay_cert.proofs.state.after_heading.Goals as goal
+
+pub returns-then-choosing-clause-step : goal.returns-then-choosing-clause-step
+returns-then-choosing-clause-step c es js v =
+    none_choosing es c.args.choosing c.args.raw.now c.requires.sound (λ s la lb lc e. c.in_default.ensures s la lb lc e)
+    (λ bar l e. c.in_default-read_choice.ensures bar l e)
+    (λ ends e. elim c.then-choosing.branch [
+      | then-choosing-via-then-choosing w ↦ w.if-choosing.true ends
+      | then-choosing-via-else-choosing+in_ok-is_line+then-not-branch w ↦ true≢false (sym (w.in_ok-is_line.ensures.1 e) ∙ w.if-not-branch.true)
+    ])
+
+pub returns-clause-step : goal.returns-clause-step
+returns-clause-step c es js v =
+    let h = c.requires.sound in (
+      ListingLine.Total c.args.choosing.total,
+      c.in_ok-is_line.ensures.0 c.if-not-branch.false,
+      (sym h.at ∙ c.if-choosing.false, h.total),
+      (v, c.in_ok-prove.ensures),
+    )

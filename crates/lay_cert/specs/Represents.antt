@@ -1,0 +1,59 @@
+-- How the checker keeps what the lines so far have told.
+use Rattle.std.specs.Prelude.{◌≡◌, ℕ, ◌+◌, ◌≤◌, List, [], length, Option, None, MatchOption, slice_index_or}
+use Rattle.lay_breaks.specs.{Breaking.IsLegal, Breaking.last_from, Breaking.sum_from, Breaking.IsPotential, Spans.AreSpans, Spans.listed}
+use Rattle.lay_cert.specs.{Indexed.IsIndexed, Lines.line_text, Listing.{Entry, none_forced}, ReaderStates.{MayCome, state_after, last_tune_from, last_span_from}, Verdicts.{AreVerdicts, IsVerdict}, declared.{lines.ListingLine.ListingLine, check.Judged.Judged, state.{Choosing.Choosing, Proving.Proving, ListingState.ListingState}}}
+use Rattle.lay_cert.specs.ReaderStates as place
+
+-- the entry as far as its spans and breaks are told
+abbrev pub entry_so_far : Choosing → Entry
+entry_so_far c = record { tune = c.tune; bars = c.bars; spans = c.spans; breaks = c.breaks; total = 0; potentials = [] }
+
+pub record IsChoosing (c : Choosing) : Type 0 where
+  pub few : c.bars ≤ 4000
+  pub spans : AreSpans c.bars c.spans
+  pub last : c.last ≡ last_span_from None c.spans
+  pub one_each : length c.firsts.items ≡ c.bars + 1
+  pub indexed : IsIndexed c.spans c.firsts.items
+  pub at : c.at ≡ last_from 0 c.breaks
+  pub choice : IsLegal (listed c.spans) none_forced c.breaks (last_from 0 c.breaks)
+  pub total : c.total ≡ sum_from (listed c.spans) 0 c.breaks
+
+-- the same with its total
+abbrev pub entry_with_total : Choosing → Entry
+entry_with_total c = record { tune = c.tune; bars = c.bars; spans = c.spans; breaks = c.breaks; total = c.total; potentials = [] }
+
+pub record IsGoodProving (v : Proving) : Type 0 where
+  pub few : v.bars ≤ 4000
+  pub some_left : v.next ≤ v.bars
+  pub one_each : length v.potentials ≡ v.bars + 1
+
+-- the potentials, recomputed from the spans, and the verdict
+pub record Proves (v : Proving) (e : Entry) : Type 0 where
+  pub kept : IsGoodProving v
+  pub tune : v.tune ≡ e.tune
+  pub bars : v.bars ≡ e.bars
+  pub next : v.next ≡ length e.potentials
+  pub verdict : IsVerdict e v.verdict
+  pub potentials : (i : ℕ) → i ≤ e.bars → IsPotential (listed e.spans) none_forced i (slice_index_or v.potentials i None)
+
+abbrev pub IsSound : ListingState → Type 0
+IsSound (ListingState.Choosing c) = IsChoosing c
+IsSound (ListingState.Proving v) = IsGoodProving v
+IsSound s = Unit {0}
+
+-- the checker's stage, with the verdicts so far, stands for the place
+abbrev pub Represents : ListingState → List Judged → place.ReaderState → Type 0
+Represents ListingState.Begun js place.begun = js ≡ []
+Represents (ListingState.Between last) js (place.between es) = (last ≡ last_tune_from 0 es) × AreVerdicts es js
+Represents (ListingState.Choosing c) js (place.choosing es e) = AreVerdicts es js × IsChoosing c × (e ≡ entry_so_far c)
+Represents (ListingState.Proving v) js (place.proving es e) = AreVerdicts es js × Proves v e
+Represents ListingState.Ended js (place.ended es) = AreVerdicts es js
+Represents s js p = ⊥
+
+-- no good line at the place has this text
+abbrev pub NoneMayCome : place.ReaderState → List ℕ → Type 0
+NoneMayCome p raw = (l : ListingLine) → raw ≡ line_text l → MayCome p l → ⊥
+
+-- what a step says: that no good line has the text, or the stage behind the one that has
+abbrev pub IsStep : place.ReaderState → List ℕ → List Judged → Option ListingState → Type 0
+IsStep p raw js o = MatchOption o (NoneMayCome p raw) (λ s. (l : ListingLine) × (raw ≡ line_text l) × MayCome p l × Represents s js (next p l))

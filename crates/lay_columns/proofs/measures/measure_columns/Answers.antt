@@ -1,0 +1,44 @@
+use Rattle.std.{proofs.Common.{◌≡◌, ◌∙◌, ◌+◌, ◌≤◌, ◌==◌, length, map, ap, subst, sym, arith}, specs.List.{All, Contains, slice_index}}
+use Rattle.{mus_onsets.{specs.declared.keys.Class.Class, specs.Keys.IsInSystem, specs.Keys.key_at, specs.Order.Rises, specs.Ranks.AreRanked}, mus_score.specs.Seats.{grouped}}
+use Rattle.{mus_time.proofs.Counts.{lengths_count, voices_count}, mus_marks.{specs.Staff.verses_on, specs.System.is_drawn_lower, proofs.Fitting.few_verses}, lay_reaches.specs.Widened.{HaveGoodMarks}}
+use Rattle.lay_columns.{specs.Measures.EndWithBar, specs.Measures.keys_in, specs.Measures.measure_staff, proofs.Facts.called_has_bar, proofs.Facts.end_with_bar, proofs.Facts.ok_through, proofs.Facts.places, proofs.Facts.staves_good}
+use Rattle.lay_columns.proofs.measures.measure_columns.Goals as goal
+
+pub invariant_of-frame : goal.invariant_of-frame
+invariant_of-frame c =
+    let count = lengths_count c.args.s.now c.args.t.now c.as_slice-2.result.now c.as_slice-2.ensures c.requires.times in
+    record {
+      ranked = subst AreRanked (sym c.as_slice.ensures) c.in_ok-keys.ensures.ranked;
+      order = omega arith;
+      within = omega (arith, count, c.requires.within);
+      few = omega (arith, count, c.requires.good.few_measures);
+    }
+
+pub measure_staves-requires-clause-each : goal.measure_staves-requires-clause-each
+measure_staves-requires-clause-each c = voices_count c.args.s.now c.args.t.now c.as_slice-2.result.now c.as_slice-2.ensures c.requires.times c.args.voices.now c.requires.good c.requires.voices
+
+pub measure_staves-requires-clause-verses : goal.measure_staves-requires-clause-verses
+measure_staves-requires-clause-verses c = subst (λ vs. verses_on vs ≤ 128) (sym c.requires.voices) (few_verses c.args.s.now c.requires.good)
+
+pub columns_in-requires-clause-good : goal.columns_in-requires-clause-good
+columns_in-requires-clause-good c =
+    let staves = c.as_slice-3.ensures ∙ c.in_ok-staves.ensures ∙ ap (λ vs. map (measure_staff (c.args.a == c.args.m) c.as_slice.result.now c.as_slice-2.result.now c.args.m) (grouped is_drawn_lower vs)) c.requires.voices in
+    subst HaveGoodMarks (sym staves) (staves_good c.as_slice.result.now c.as_slice-2.result.now c.args.m (c.args.a == c.args.m) c.args.s.now c.requires.good)
+
+pub returns-clause-places : goal.returns-clause-places
+returns-clause-places c =
+    ok_through (λ r. keys_in r ≡ c.as_slice.result.now) (All (λ d. IsInSystem c.args.t.now.lengths c.args.m (c.args.m + 1) d.key))
+    (λ r e. places (IsInSystem c.args.t.now.lengths c.args.m (c.args.m + 1)) c.in_ok-keys.keys r c.in_ok-keys.ensures.places (e ∙ c.as_slice.ensures))
+    c.columns_in.result c.columns_in.ensures.keys
+
+pub returns-clause-bar : goal.returns-clause-bar
+returns-clause-bar c =
+    ok_through (λ r. keys_in r ≡ c.as_slice.result.now) (λ r. 1 ≤ length c.args.s.now.voices → EndWithBar r)
+    (λ r e some.
+    let same = e ∙ c.as_slice.ensures in
+    end_with_bar c.args.t.now.lengths c.args.m r (subst Rises (sym same) c.in_ok-keys.ensures.keys.rise)
+    (places (IsInSystem c.args.t.now.lengths c.args.m (c.args.m + 1)) c.in_ok-keys.keys r c.in_ok-keys.ensures.places same)
+    (subst (λ ks. Contains ks (key_at c.args.m (slice_index c.args.t.now.lengths c.args.m) Class.Bar 0)) (sym same)
+    (c.in_ok-keys.ensures.keys.all (key_at c.args.m (slice_index c.args.t.now.lengths c.args.m) Class.Bar 0)
+    (called_has_bar (c.args.a == c.args.m) c.args.s.now c.args.t.now.lengths c.args.m c.requires.good some c.requires.within))))
+    c.columns_in.result c.columns_in.ensures.keys

@@ -1,0 +1,15 @@
+use Rattle.std.{proofs.Common.{◌≡◌, ◌≤◌, ◌++◌, length, map}, specs.List.All}
+use Rattle.{mus_score.specs.Seats.{grouped}, mus_drawn.specs.Good.{AreGoodMeasures}, mus_marks.specs.{Staff.verses_on, System.is_drawn_lower}, lay_columns.specs.Measures.{measure_staff}}
+use Rattle.lay_columns.proofs.measures.measure_staves.Given as goal
+
+abbrev pub invariant-staves : goal.invariant-staves
+invariant-staves l = record {
+  staves : l.staves ++ map (measure_staff l.begins l.frame.keys.now l.frame.lengths.now l.frame.a) (grouped is_drawn_lower l.rest) ≡ map (measure_staff l.begins l.frame.keys.now l.frame.lengths.now l.frame.a) (grouped is_drawn_lower l.voices);
+  each : All (λ v. length v.measures ≡ length l.frame.lengths.now) l.rest;
+  good : All (λ v. AreGoodMeasures v.measures) l.rest;
+  verses : verses_on l.rest ≤ 128;
+  shorter : length l.rest ≤ length l.voices;
+}
+
+abbrev pub decreases-staves : goal.decreases-staves
+decreases-staves l = length l.rest

@@ -1,6 +1,0 @@
-use Rattle.std.{proofs.Common.◌≡◌, proofs.Common.drop, specs.List.find}
-use Rattle.lay_columns.specs.Naturals.{is_note_of}
-use Rattle.lay_columns.proofs.springs.next_note.Given as goal
-
-abbrev pub invariant-loop-key : goal.invariant-loop-key
-invariant-loop-key l = find (is_note_of l.measure) (drop l.key-index l.behind) ≡ find (is_note_of l.measure) l.behind

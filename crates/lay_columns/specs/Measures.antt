@@ -1,0 +1,67 @@
+-- The columns of one measure: in a system that begins with it, and in one that began before. Heights, and what texts stand in a
+-- column before, are of no account to columns, so that syllables and texts stand in a place that is always the same.
+use Rattle.std.specs.Prelude.{◌≡◌, ℕ, pos, ◌+◌, ◌-◌, ◌==◌, Bool, true, false, List, [], ◌∷◌, ◌++◌, drop, map, min, slice_get, slice_range, Option, Some, None}
+use Rattle.{mus_score.specs.declared.score.Score.{Score}, mus_onsets.specs.{declared.keys.Class.Class, declared.keys.ColumnKey.ColumnKey, declared.times.Timeline.Timeline, Keys.AreKeys}}
+use Rattle.{mus_laid.specs.{declared.laid.Laid.Laid, declared.laid.StaffMarks.StaffMarks}, mus_drawn.specs.declared.drawn.{DrawnEvent.DrawnEvent, DrawnMeasure.DrawnMeasure, DrawnVoice.DrawnVoice}, mus_time.specs.Columns.{keys_called}}
+use Rattle.{mus_marks.specs.{declared.events.WordRoom.WordRoom, declared.events.StaffRoom.StaffRoom, Events.{changes_nothing, measures_marks}, Staff.columns_part, System.drawn_staves}, lay_reaches.specs.{declared.column.Column.Column, Columns.columns_of}}
+
+-- over the lines of the staff
+abbrev pub fixed_room : StaffRoom
+fixed_room = record { low = pos 0; high = pos 2000; verses = 0 }
+
+-- for the words of a voice whose verses count from `first` on
+abbrev pub fixed_place : ℕ → WordRoom
+fixed_place first = record { room = fixed_room; first = first; before = [] }
+
+abbrev pub staff_of_columns : List Laid → StaffMarks
+staff_of_columns marks = record { marks = marks; low = pos 0; high = pos 2000 }
+
+-- what the voices of a staff have, one after the other, each with its verses behind those of the voices before it
+abbrev pub parts_from : (ℕ → DrawnVoice → List Laid) → ℕ → List DrawnVoice → List Laid
+parts_from part first [] = []
+parts_from part first (v ∷ vs) = part first v ++ parts_from part (first + v.verses) vs
+
+-- What stands in the columns of measure m of a voice: where the system begins with it, with the system's head and the bar before
+-- the first measure; where it began before, each event behind its change and its graces, and the bar.
+abbrev pub measure_part : Bool → List ColumnKey → List ℕ → ℕ → ℕ → DrawnVoice → List Laid
+measure_part true keys lengths m first v = columns_part keys lengths (Some (fixed_place first)) m v.seat v.first (slice_range v.measures m (m + 1))
+measure_part false keys lengths m first v = measures_marks keys lengths (Some (fixed_place first)) m false (slice_range v.measures m (m + 1))
+
+abbrev pub measure_staff : Bool → List ColumnKey → List ℕ → ℕ → List DrawnVoice → StaffMarks
+measure_staff begins keys lengths m voices = staff_of_columns (parts_from (measure_part begins keys lengths m) 1 voices)
+
+-- whether the first event of measure m of a voice, if there is one, changes neither clef nor key nor meter
+abbrev pub first_plain : List DrawnEvent → Bool
+first_plain [] = true
+first_plain (e ∷ es) = changes_nothing e.flat.event.changes
+
+abbrev pub is_plain : Option DrawnMeasure → Bool
+is_plain None = true
+is_plain (Some d) = first_plain d.events
+
+abbrev pub begins_plain : ℕ → DrawnVoice → Bool
+begins_plain m v = is_plain (slice_get v.measures m)
+
+abbrev pub keys_in : List Column → List ColumnKey
+keys_in columns = map (λ c. c.key) columns
+
+-- the columns of measure m in a system that begins with it or began before; verses are the numbers of verses of the staves
+pub record AreMeasureColumns (begins : Bool) (s : Score) (t : Timeline) (m : ℕ) (verses : List ℕ) (columns : List Column) : Type 0 where
+  pub keys : AreKeys (keys_in columns) (keys_called begins s t.lengths m)
+  pub value : columns ≡ columns_of (keys_in columns) (map (measure_staff begins (keys_in columns) t.lengths m) (drawn_staves s)) t.lengths verses
+
+-- those of measure m in a system that begins with the measure before it, if there is one: they have their own, or stand behind the head
+-- of those in a system that begins with m
+abbrev pub further_of : ℕ → List Column → Option (List Column) → List Column
+further_of m begun None = drop (min m 1) begun
+further_of m begun (Some own) = own
+
+abbrev pub AreFurther : Score → Timeline → ℕ → List ℕ → Option (List Column) → Type 0
+AreFurther s t m verses own = (begun : List Column) → AreMeasureColumns true s t m verses begun → AreMeasureColumns ((m - 1) == m) s t m verses (further_of m begun own)
+
+-- the last column is that of a bar
+pub record EndWithBar (columns : List Column) : Type 0 where
+  pub front : List Column
+  pub last : Column
+  pub parts : columns ≡ front ++ last ∷ []
+  pub bar : last.key.class ≡ Class.Bar

@@ -1,0 +1,77 @@
+ghost use Rattle.std.specs.{Prelude.{◌≡◌, ◌<◌, true, All, IfOk, length, map}, List.list_all};
+ghost use Rattle.{mus_score.specs.GoodScore.{IsGoodScore}, mus_onsets.specs.Onsets.{timeline_of}, mus_drawn.specs.{Drawn.drawn_voice, Good.AreGoodMeasures}};
+ghost use Rattle.{mus_marks.specs.System.{drawn_staves}, lay_columns.specs.Measures.{AreFurther, begins_plain, first_plain, further_of}};
+
+use crate::measures::measure_columns;
+use lay_reaches::Column;
+use mus_drawn::{DrawnEvent, DrawnVoice};
+use mus_marks::changes_nothing;
+use mus_score::Score;
+use mus_onsets::Timeline;
+use mus_units::{Memory, Row};
+use std::alloc::Global;
+
+/// Whether the first of some events changes neither clef nor key nor meter.
+fn first_plain(events: &[DrawnEvent<'_>]) -> bool
+    ensures { result ≡ first_plain events.now }
+{
+    match events {
+        [] => true,
+        [first, ..] => changes_nothing(&first.flat.event().changes),
+    }
+}
+
+/// Whether measure `m` of a voice begins without a change.
+fn begins_plain(m: u32, v: &DrawnVoice<'_>) -> bool
+    ensures { result ≡ begins_plain m v.now }
+{
+    match v.measures.get(m as usize) {
+        Some(d) => first_plain(d.events.as_slice()),
+        None => true,
+    }
+}
+
+fn begin_plain(m: u32, voices: &[DrawnVoice<'_>]) -> bool
+    ensures { result ≡ list_all (begins_plain m) voices.now }
+{
+    voices.iter().all(|v| begins_plain(m, v))
+}
+
+/// The columns of measure `m` in a system that begins with the measure before it, as `measure_columns`
+/// gives them, where they aren't those of a system that begins with `m` itself, behind its head. The
+/// only error is want of memory.
+pub fn further_columns(
+    alloc: Global,
+    s: &Score,
+    voices: &[DrawnVoice<'_>],
+    t: &Timeline,
+    m: u32,
+    verses: &[u8],
+) -> Result<Option<Row<Column>>, Memory>
+    requires good { IsGoodScore s.now }
+    requires times { t.now ≡ timeline_of s.now }
+    requires within { m < s.now.measures }
+    requires voices { voices.now ≡ map drawn_voice s.now.voices }
+    requires drawn { All (λ v. AreGoodMeasures v.measures) voices.now }
+    requires counts { length verses.now ≡ length (drawn_staves s.now) }
+    ensures { IfOk result (AreFurther s.now t.now m verses.now) }
+{
+    if m == 0 || begin_plain(m, voices) {
+        return Ok(None);
+    }
+    Ok(Some(measure_columns(alloc, s, voices, t, m - 1, m, verses)?))
+}
+
+/// The columns of measure `m` in a system that begins with the measure before it, if there is one:
+/// `own`, as `further_columns` gives them, or those in a system that begins with `m`, behind its head.
+pub fn further_of<'a>(m: u32, begun: &'a [Column], own: &'a Option<Row<Column>>) -> &'a [Column]
+    ensures { result.now ≡ further_of m begun.now own.now }
+{
+    match own {
+        Some(own) => own.as_slice(),
+        None => match begun {
+            [_, behind @ ..] if m > 0 => behind,
+            _ => begun,
+        },
+    }
+}

@@ -1,0 +1,149 @@
+ghost use Rattle.std.specs.Prelude.{◌≡◌, ◌≤◌, ◌<◌, ◌+◌, ◌++◌, ◌==◌, All, IfOk, OnOk, length, map};
+ghost use Rattle.{mus_score.specs.{GoodScore.IsGoodScore, Seats.grouped}, mus_onsets.specs.{Keys.IsInSystem, Onsets.timeline_of}, mus_drawn.specs.{Drawn.drawn_voice, Good.AreGoodMeasures}};
+ghost use Rattle.{mus_marks.specs.{Staff.verses_on, System.drawn_staves, System.is_drawn_lower}, lay_reaches.specs.{Columns.IsSmall, Columns.IsUncut, Columns.StandsWhereDue, Lanes.gaps_of}};
+ghost use Rattle.lay_columns.specs.Measures.{AreMeasureColumns, EndWithBar, fixed_place, measure_part, measure_staff, staff_of_columns};
+
+use lay_reaches::{Column, columns_in};
+use mus_drawn::DrawnVoice;
+use mus_time::{SystemFrame, measure_keys};
+use mus_laid::{Laid, MarkPen, StaffMarks};
+use mus_marks::{WordRoom, StaffRoom, lower_count, put_columns_part, put_measures};
+use mus_score::Score;
+use mus_onsets::Timeline;
+use mus_units::{Memory, Row};
+use std::alloc::Global;
+
+/// Where the words of a voice go whose verses count from `first` on: heights, and the texts that stand
+/// there before, are of no account to columns.
+fn fixed_place(alloc: Global, first: u8) -> WordRoom
+    ensures { result ≡ fixed_place first }
+{
+    WordRoom {
+        room: StaffRoom {
+            low: 0,
+            high: 2000,
+            verses: 0,
+        },
+        first,
+        before: Row::new(alloc),
+    }
+}
+
+fn staff_of_columns(marks: Row<Laid>) -> StaffMarks
+    ensures { result ≡ staff_of_columns marks }
+{
+    StaffMarks {
+        low: 0,
+        high: 2000,
+        marks,
+    }
+}
+
+/// Lays what stands in the columns of the first measure of a frame of a voice whose verses count from
+/// `first` on; `begins` tells whether the system begins with the measure.
+fn put_part(
+    pen: &mut MarkPen,
+    frame: &SystemFrame<'_>,
+    begins: bool,
+    first: u8,
+    v: &DrawnVoice<'_>,
+) -> Result<(), Memory>
+    requires lengths { length v.now.measures ≡ length frame.now.lengths.now }
+    requires good { AreGoodMeasures v.now.measures }
+    requires first { first ≤ 129 }
+    ensures { OnOk result (pen.new.marks ≡ pen.old.marks ++ measure_part begins frame.now.keys.now frame.now.lengths.now frame.now.a first v.now) }
+{
+    let (keys, lengths, m) = (frame.keys, frame.lengths, frame.a);
+    let measures = &v.measures.as_slice()[m as usize..m as usize + 1];
+    let fixed = fixed_place(pen.alloc, first);
+    let place = Some(&fixed);
+    if begins {
+        put_columns_part(pen, keys, lengths, place, m, v.seat, v.first, measures)
+    } else {
+        put_measures(pen, keys, lengths, place, m, false, measures)
+    }
+}
+
+/// What stands in the columns of the measure of a staff with these voices.
+fn measure_staff(
+    alloc: Global,
+    frame: &SystemFrame<'_>,
+    begins: bool,
+    voices: &[DrawnVoice<'_>],
+) -> Result<StaffMarks, Memory>
+    requires each { All (λ v. length v.measures ≡ length frame.now.lengths.now) voices.now }
+    requires good { All (λ v. AreGoodMeasures v.measures) voices.now }
+    requires verses { verses_on voices.now ≤ 128 }
+    ensures { IfOk result (λ r. r ≡ measure_staff begins frame.now.keys.now frame.now.lengths.now frame.now.a voices.now) }
+{
+    let mut pen = MarkPen::new(alloc);
+    let mut first = 1;
+    for v in voices {
+        put_part(&mut pen, frame, begins, first, v)?;
+        first += v.verses;
+    }
+    Ok(staff_of_columns(pen.marks))
+}
+
+/// What stands in the columns of the measure of each staff.
+fn measure_staves(
+    alloc: Global,
+    frame: &SystemFrame<'_>,
+    begins: bool,
+    voices: &[DrawnVoice<'_>],
+) -> Result<Row<StaffMarks>, Memory>
+    requires each { All (λ v. length v.measures ≡ length frame.now.lengths.now) voices.now }
+    requires good { All (λ v. AreGoodMeasures v.measures) voices.now }
+    requires verses { verses_on voices.now ≤ 128 }
+    ensures { IfOk result (λ r. r ≡ map (measure_staff begins frame.now.keys.now frame.now.lengths.now frame.now.a) (grouped is_drawn_lower voices.now)) }
+{
+    let mut staves = Row::with_room(alloc, voices.len())?;
+    let mut rest = voices;
+    'staves: while let [_, behind @ ..] = rest {
+        let count = lower_count(behind) + 1;
+        staves.push(measure_staff(alloc, frame, begins, &rest[..count])?)?;
+        rest = &rest[count..];
+    }
+    Ok(staves)
+}
+
+/// The columns of measure `m` in a system that begins with measure `a`, from the left to the right:
+/// where that is the same measure, its head, the bar before the first measure where it has features,
+/// and the measure's own; else the measure's own alone, where the change before the first event has a
+/// column too. `t` is the timeline of the score, `voices` its voices as `draw_voices` gives them, and
+/// `verses` has the number of verses of each staff. Columns are as those of `lay_reaches::columns`;
+/// the last is the measure's bar. The only error is want of memory.
+pub fn measure_columns(
+    alloc: Global,
+    s: &Score,
+    voices: &[DrawnVoice<'_>],
+    t: &Timeline,
+    a: u32,
+    m: u32,
+    verses: &[u8],
+) -> Result<Row<Column>, Memory>
+    requires good { IsGoodScore s.now }
+    requires times { t.now ≡ timeline_of s.now }
+    requires order { a ≤ m }
+    requires within { m < s.now.measures }
+    requires voices { voices.now ≡ map drawn_voice s.now.voices }
+    requires drawn { All (λ v. AreGoodMeasures v.measures) voices.now }
+    requires counts { length verses.now ≡ length (drawn_staves s.now) }
+    ensures columns { IfOk result (AreMeasureColumns (a == m) s.now t.now m verses.now) }
+    ensures places { IfOk result (All (λ c. IsInSystem t.now.lengths m (m + 1) c.key)) }
+    ensures bar { IfOk result (λ r. 1 ≤ length s.now.voices → EndWithBar r) }
+    ensures lanes { IfOk result (λ r. All (λ c. length c.reaches ≡ length (gaps_of verses.now)) r) }
+    ensures stands { IfOk result (All (StandsWhereDue verses.now)) }
+    ensures small { IfOk result (All IsSmall) }
+    ensures uncut { IfOk result (All IsUncut) }
+{
+    let keys = measure_keys(alloc, s, voices, t, m, a == m)?;
+    let frame = SystemFrame {
+        keys: keys.as_slice(),
+        lengths: t.lengths.as_slice(),
+        a: m,
+        b: m + 1,
+    };
+    let staves = measure_staves(alloc, &frame, a == m, voices)?;
+    columns_in(alloc, frame.keys, staves.as_slice(), frame.lengths, verses)
+}

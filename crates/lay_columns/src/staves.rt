@@ -1,0 +1,23 @@
+ghost use Rattle.std.specs.Prelude.{◌≡◌, ◌≤◌, IfOk, map};
+ghost use Rattle.{mus_score.specs.Seats.{grouped}, mus_marks.specs.{Staff.verses_on, System.is_drawn_lower}};
+
+use mus_drawn::DrawnVoice;
+use mus_marks::{lower_count, verses_on};
+use mus_units::{Memory, Row};
+use std::alloc::Global;
+
+/// How many verses each staff of these voices has, from the top. Voices of a good score have no more
+/// than 128 together. The only error is want of memory.
+pub fn staff_verses(alloc: Global, voices: &[DrawnVoice<'_>]) -> Result<Row<u8>, Memory>
+    requires { verses_on voices.now ≤ 128 }
+    ensures { IfOk result (λ r. r ≡ map verses_on (grouped is_drawn_lower voices.now)) }
+{
+    let mut verses = Row::new(alloc);
+    let mut rest = voices;
+    'staves: while let [_, behind @ ..] = rest {
+        let count = lower_count(behind) + 1;
+        verses.push(verses_on(&rest[..count]))?;
+        rest = &rest[count..];
+    }
+    Ok(verses)
+}

@@ -1,8 +1,0 @@
-mod Behind
-pub mod Facts
-mod HeadKeys
-pub mod Joined
-mod KeyLaws
-mod Ranks
-mod SameBoxes
-mod Slots

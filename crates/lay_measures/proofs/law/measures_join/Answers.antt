@@ -1,5 +1,0 @@
-use Rattle.lay_measures.proofs.Joined.{measures_join}
-use Rattle.lay_measures.proofs.law.measures_join.Goals as goal
-
-pub returns : goal.returns
-returns c = measures_join

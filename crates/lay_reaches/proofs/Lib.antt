@@ -1,0 +1,7 @@
+pub mod Covering
+pub mod Facts
+pub mod Gaps
+pub mod JoinLaws
+pub mod Lone
+pub mod Rows
+pub mod Widening

@@ -1,0 +1,13 @@
+-- The reaches of a column in its lanes, of which a single one stands in place, and three do.
+use Rattle.{std.specs.Prelude.{List, Option, None, replicate, slice_set}, lay_springs.specs.declared.traits.Reach.{Reach}, lay_reaches.specs.declared.stands.{Single.Single, ReachStore.ReachStore, LaneReaches.LaneReaches}}
+
+abbrev pub single_held : Single → List (Option Reach)
+single_held single = slice_set (replicate single.lanes None) single.lane single.reach
+
+abbrev pub reaches_of : LaneReaches → List (Option Reach)
+reaches_of (LaneReaches.Three reaches) = reaches
+reaches_of (LaneReaches.Row reaches) = reaches
+
+abbrev pub stored_reaches : ReachStore → List (Option Reach)
+stored_reaches (ReachStore.Single single) = single_held single
+stored_reaches (ReachStore.Row all) = reaches_of all

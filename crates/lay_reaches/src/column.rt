@@ -1,0 +1,45 @@
+ghost use Rattle.lay_springs.specs.ReachView.{reach_in};
+
+use crate::stands::Reaches;
+use lay_springs::{Spaced, Spring, ReachView};
+use mus_onsets::ColumnKey;
+
+const MOST_NATURAL: u32 = 4000;
+
+/// A column of a system: its key; its reach in each lane, None where it doesn't stand in it;
+/// and the natural length of the spring to the next column, in u, 0 without a spring. Lanes are
+/// for each staff, from the top, main, above, below and one for each verse. A reach is counted
+/// to at most 2^20, a natural length to at most 4000.
+#[derive(Drop)]
+pub struct Column {
+    pub key: ColumnKey,
+    pub reaches: Reaches,
+    pub natural: u32,
+}
+
+impl Spaced for Column {
+    ghost use Rattle.lay_springs.specs.ReachView.{reach_in_near};
+
+    ghost reach_of = { λ c lane. reach_in c.reaches lane };
+
+    fn stands(&self) -> ReachView<'_> {
+        self.reaches.stands()
+    }
+
+    ghost is_near = { λ c lane l. reach_in_near c.reaches lane };
+}
+
+impl Spring for Column {
+    ghost use Rattle.lay_reaches.specs.Column.{spring_length, length_scales, length_short};
+
+    ghost length_of = { λ c f. spring_length c.natural f };
+
+    #[tactic(auto, unfolding(crate::specs::Column::spring_length))]
+    fn length(&self, force: u16) -> u32 {
+        self.natural.min(MOST_NATURAL) * u32::from(force) / 256
+    }
+
+    ghost is_short = { λ c. length_short c.natural };
+
+    ghost scales = { λ c f. length_scales c.natural f };
+}

@@ -1,0 +1,18 @@
+//! The columns of a system: how far each reaches in each lane, and the natural length of
+//! the spring behind it, from the system's marks.
+//!
+//! A column is one for all staves. Marks of one lane in different columns are kept apart.
+#![tactic(auto)]
+
+pub mod column;
+pub mod lanes;
+pub mod reaches;
+pub mod springs;
+pub mod stands;
+pub mod system;
+
+pub use column::Column;
+pub use lanes::gaps_of;
+pub use lay_springs::Reach;
+pub use stands::Reaches;
+pub use system::{columns, columns_in};

@@ -1,0 +1,81 @@
+ghost use Rattle.std.specs.{Prelude.◌≡◌, List.find};
+ghost use Rattle.lay_reaches.specs.Naturals.{natural_for, is_note_key, is_note_of, length_of_measure, tick_or_end, natural_of};
+
+use mus_onsets::{Class, ColumnKey};
+use mus_units::WHOLE;
+
+/// The natural length for some ticks: by the greatest row that isn't above them.
+fn natural_for(ticks: u64) -> u32
+    ensures { result ≡ natural_for ticks }
+{
+    if ticks >= 2 * WHOLE {
+        4000
+    } else if ticks >= WHOLE {
+        2900
+    } else if ticks >= WHOLE / 2 {
+        2100
+    } else if ticks >= WHOLE / 4 {
+        1500
+    } else if ticks >= WHOLE / 8 {
+        1100
+    } else if ticks >= WHOLE / 16 {
+        850
+    } else if ticks >= WHOLE / 32 {
+        700
+    } else if ticks >= WHOLE / 64 {
+        600
+    } else {
+        500
+    }
+}
+
+fn is_note_key(key: ColumnKey) -> bool
+    ensures { result ≡ is_note_key key }
+{
+    matches!(key.class, Class::Note)
+}
+
+fn is_note_of(measure: u32, key: ColumnKey) -> bool
+    ensures { result ≡ is_note_of measure key }
+{
+    is_note_key(key) && key.measure == measure
+}
+
+fn next_note(measure: u32, behind: &[ColumnKey]) -> Option<ColumnKey>
+    ensures { result ≡ find (is_note_of measure) behind.now }
+{
+    for key in behind {
+        if is_note_of(measure, *key) {
+            return Some(*key);
+        }
+    }
+    None
+}
+
+fn length_of_measure(lengths: &[u64], measure: u32) -> u64
+    ensures { result ≡ length_of_measure lengths.now measure }
+{
+    lengths.get(measure as usize).copied().unwrap_or(0)
+}
+
+fn tick_or_end(measure: u32, next: Option<ColumnKey>, lengths: &[u64]) -> u64
+    ensures { result ≡ tick_or_end measure next lengths.now }
+{
+    match next {
+        Some(next) => next.tick,
+        None => length_of_measure(lengths, measure),
+    }
+}
+
+/// The natural length of the spring from a column to the next: by the ticks from a note column
+/// to the next one of its measure, or else to the measure's end; 0 for all other columns.
+pub(crate) fn natural_of(key: ColumnKey, behind: &[ColumnKey], lengths: &[u64]) -> u32
+    ensures { result ≡ natural_of key behind.now lengths.now }
+{
+    if is_note_key(key) {
+        let end = tick_or_end(key.measure, next_note(key.measure, behind), lengths);
+        natural_for(end.saturating_sub(key.tick))
+    } else {
+        0
+    }
+}

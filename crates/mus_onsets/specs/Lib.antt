@@ -1,0 +1,5 @@
+pub mod Beats
+pub mod Keys
+pub mod Onsets
+pub mod Order
+pub mod Ranks

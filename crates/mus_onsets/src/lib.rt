@@ -1,0 +1,17 @@
+//! When events sound, and the keys of the columns that a system has.
+//!
+//! An event begins where the earlier events of its measure and voice end. A column has its place
+//! in a measure by the tick, then by what stands in it; the keys of a system rise, and the rank of a
+//! column is the number of keys before its own.
+#![tactic(auto)]
+
+pub mod beats;
+pub mod columns;
+pub mod keys;
+pub mod ranks;
+pub mod times;
+
+pub use columns::{put_event_keys, put_first_key, put_own_keys, rising_keys};
+pub use keys::{Class, ColumnKey};
+pub use ranks::{is_same, next_rank, rank_of};
+pub use times::{Onset, Timeline, onsets};

@@ -1,0 +1,41 @@
+ghost use Rattle.std.specs.Prelude.{◌≡◌};
+ghost use Rattle.mus_onsets.specs.{Order.class_number, Order.is_below, Order.key_rank, Order.same_key, Ranks.AreRanked};
+
+use crate::keys::ColumnKey;
+
+/// Whether two keys are those of one column.
+#[tactic(auto, unfolding(crate::specs::Order::same_key))]
+pub fn is_same(k: ColumnKey, l: ColumnKey) -> bool
+    ensures { result ≡ same_key k l }
+{
+    k.measure == l.measure && k.tick == l.tick && k.class == l.class && k.place == l.place
+}
+
+/// Whether a key stands before another.
+fn is_below(key: &ColumnKey, other: ColumnKey) -> bool
+    ensures { result ≡ is_below key.now other }
+{
+    *key < other
+}
+
+/// The rank of a column among those of its system: how many of the keys stand before its own.
+pub fn rank_of(keys: &[ColumnKey], key: ColumnKey) -> u32
+    requires { AreRanked keys.now }
+    ensures { result ≡ key_rank keys.now key }
+{
+    keys.partition_point(|k| is_below(k, key)) as u32
+}
+
+/// The rank of a column, as `rank_of` gives it. The place `near` is looked at first, which then is the
+/// one behind: columns that are asked for in order are found at once.
+pub fn next_rank(keys: &[ColumnKey], near: &mut usize, key: ColumnKey) -> u32
+    requires { AreRanked keys.now }
+    ensures { result ≡ key_rank keys.now key }
+{
+    let rank = match keys.get(*near) {
+        Some(found) if *found == key => *near as u32,
+        _ => rank_of(keys, key),
+    };
+    *near = rank as usize + 1;
+    rank
+}

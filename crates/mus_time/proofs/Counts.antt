@@ -1,0 +1,21 @@
+-- Voices have as many measures drawn as they have, and a score as many lengths as measures.
+use Rattle.std.{proofs.{Common.{◌≡◌, ◌∙◌, ℕ, suc, List, [], ◌∷◌, length, map, refl, sym, ap, subst}, lemmas.List.Elements.All-map}, specs.List.All}
+use Rattle.{mus_score.specs.{declared.score.{Measure.Measure, Score.Score, Voice.Voice}, GoodScore.IsGoodScore, Times.flats_of}, mus_onsets.{specs.{declared.times.Timeline.Timeline, Onsets.timeline_of}, proofs.Places.length_of_lengths}}
+use Rattle.mus_drawn.specs.{declared.standing.StaffState.StaffState, declared.drawn.DrawnVoice.DrawnVoice, declared.drawn.Style.Style, Drawn.drawn_measures, Drawn.drawn_voice, Drawn.standing_behind, Drawn.standing_of, Drawn.style_of}
+
+drawn_count : (style : Style) (now : StaffState) (ms : List Measure) → length (drawn_measures style now ms) ≡ length ms
+drawn_count style now [] = refl
+drawn_count style now (m ∷ ms) = ap suc (drawn_count style (standing_behind now (flats_of m.body)) ms)
+
+pub voice_count : (v : Voice) → length (drawn_voice v).measures ≡ length v.measures
+unfolding drawn_voice
+voice_count v = drawn_count (style_of v) (standing_of v) v.measures
+
+module _ (s : Score) (t : Timeline) (lengths : List ℕ) (is : lengths ≡ t.lengths) (timed : t ≡ timeline_of s) where
+  pub lengths_count : length lengths ≡ s.measures
+  lengths_count = ap length (is ∙ ap (λ z. z.lengths) timed) ∙ length_of_lengths s
+
+  pub voices_count : (voices : List DrawnVoice) → IsGoodScore s → voices ≡ map drawn_voice s.voices → All (λ v. length v.measures ≡ length lengths) voices
+  voices_count voices good drawn =
+      subst (All (λ v. length v.measures ≡ length lengths)) (sym drawn)
+      (All-map (λ v. length v.measures ≡ length lengths) drawn_voice s.voices (λ k d inside. voice_count _ ∙ good.measures k d inside ∙ sym lengths_count))

@@ -1,6 +1,0 @@
-use Rattle.std.proofs.Common.{◌≡◌, ◌++◌, take}
-use Rattle.paint_text.specs.PaintText.{spaced}
-use Rattle.paint_text.proofs.painted.put_spaced.Given as goal
-
-abbrev pub invariant-loop-number : goal.invariant-loop-number
-invariant-loop-number l = l.out ≡ l.fn.out ++ spaced (take l.number-index l.numbers)

@@ -1,0 +1,101 @@
+-- A book while its tunes are set, one list of outcomes after another: where their blocks stand, and the text that they add.
+use Rattle.std.specs.{Prelude.{◌≡◌, ⊤, ℕ, ◌+◌, ◌^◌, ◌<◌, ◌≤◌, Bool, List, ◌++◌, Option, None, All, length, take, drop}, List.AllZip}
+use Rattle.abc_fields.specs.{declared.paper.Paper.Paper, Papers.{body_height, body_width}}
+use Rattle.lay_pages.specs.{declared.filling.{Block.Block, Spot.Spot, PlacedBlock.PlacedBlock}, Filling.{AreGoodBlocks, AreWithin, CanFollow, behind_after, spots_behind}}
+use Rattle.set_pages.specs.{Sheet.{AreStanding, IsPagePlan, IsSetUnder, all_spots, sheet_of}, declared.{plan.PagePlan.PagePlan, builder.{PageBuilder.PageBuilder, PlacedOutcome.PlacedOutcome}}, Drawings.{all_blocks, all_drawings, outcome_drawings}, Flow.{begun_after, drawings_text, ending, placed_text, placed_texts}, Read.ShowsBook, Ready.{AreRising, IsDrawnInRange, IsReady, IsWhole}}
+use Rattle.{ps_text.specs.{Document.{numbered, document_page}, Range.IsSheet}, set_staves.specs.Drawn.IsWidth, set_book.specs.declared.outcome.Outcome.{Outcome}}
+
+-- nothing was pressed yet
+abbrev pub empty_builder : PageBuilder
+empty_builder = record { begun = 0; behind = None; put = 0 }
+
+-- the last of the blocks that were filled
+abbrev pub last_block_by : PagePlan → Paper → List Outcome → Option PlacedBlock
+last_block_by PagePlan.Filled paper outcomes = behind_after (body_height paper) None (all_blocks outcomes)
+last_block_by (PagePlan.At spots) paper outcomes = None
+
+-- where more blocks stand, behind those that were pressed, and the last of them
+abbrev pub next_spots : PagePlan → ℕ → PageBuilder → List Block → List Spot
+next_spots PagePlan.Filled high p blocks = spots_behind high p.behind blocks
+next_spots (PagePlan.At spots) high p blocks = take (length blocks) (drop p.put spots)
+
+abbrev pub next_last_block : PagePlan → ℕ → PageBuilder → List Block → Option PlacedBlock
+next_last_block PagePlan.Filled high p blocks = behind_after high p.behind blocks
+next_last_block (PagePlan.At spots) high p blocks = None
+
+-- the plan has room for more blocks: they lie on the pages that it says
+abbrev pub HasRoom : PagePlan → ℕ → PageBuilder → List Block → Type 0
+HasRoom PagePlan.Filled high p blocks = ⊤
+HasRoom (PagePlan.At spots) high p blocks = (p.put + length blocks ≤ length spots) × AreWithin high blocks (next_spots (PagePlan.At spots) high p blocks)
+
+-- a plan begins on the first page and skips none
+abbrev pub RisesBy : PagePlan → Type 0
+RisesBy PagePlan.Filled = ⊤
+RisesBy (PagePlan.At spots) = AreRising spots
+
+-- others may be pressed behind the last block
+abbrev pub CanGoOn : PageBuilder → Type 0
+CanGoOn p = CanFollow p.behind
+
+-- the text of the pages of these outcomes, up to the end of the last
+unfoldable pub begun_text : PagePlan → Paper → List Outcome → List ℕ
+begun_text plan paper outcomes = drawings_text (body_width paper) 0 (all_drawings outcomes) (all_spots plan paper outcomes)
+
+-- these outcomes were pressed: each is set on the paper, its blocks are drawn where they stand, and it is known how many pages were begun
+-- and which block was the last
+pub record IsBuiltFrom (plan : PagePlan) (paper : Paper) (outcomes : List Outcome) (p : PageBuilder) : Type 0 where
+  pub rises : RisesBy plan
+  pub set : All (IsSetUnder paper) outcomes
+  pub begun : p.begun ≡ begun_after 0 (all_spots plan paper outcomes)
+  pub few : p.begun < 2 ^ 32
+  pub behind : p.behind ≡ last_block_by plan paper outcomes
+  pub put : p.put ≡ length (all_blocks outcomes)
+  pub drawn : AllZip (IsDrawnInRange (body_width paper)) (all_drawings outcomes) (all_spots plan paper outcomes)
+  pub good : AreGoodBlocks (all_blocks outcomes)
+
+-- outcomes were pressed behind others, and this is the text that they add
+pub record AddsOutcomes (plan : PagePlan) (paper : Paper) (before outcomes : List Outcome) (text : List ℕ) (p : PageBuilder) : Type 0 where
+  pub pressed : IsBuiltFrom plan paper (before ++ outcomes) p
+  pub adds : begun_text plan paper (before ++ outcomes) ≡ begun_text plan paper before ++ text
+
+-- what came of a tune can be drawn where its blocks stand, on staves so long
+pub record CanDrawOutcome (width : ℕ) (s : PlacedOutcome) : Type 0 where
+  pub wide : IsWidth width
+  pub whole : IsWhole s.outcome
+  pub ready : AllZip IsReady (outcome_drawings s.outcome) s.spots
+
+abbrev pub AreDrawnInRange : ℕ → PlacedOutcome → Type 0
+AreDrawnInRange width s = AllZip (IsDrawnInRange width) (outcome_drawings s.outcome) s.spots
+
+-- this is the text of what came of a tune
+pub record IsTextOfOutcome (width : ℕ) (s : PlacedOutcome) (text : List ℕ) : Type 0 where
+  pub value : text ≡ placed_text width s
+  pub drawn : AreDrawnInRange width s
+
+-- outcomes whose blocks stand at these spots, behind so many pages that are begun
+pub record AreOutcomesAt (begun : ℕ) (outcomes : List Outcome) (spots : List Spot) (stood : List PlacedOutcome) : Type 0 where
+  pub ready : (width : ℕ) → IsWidth width → All (CanDrawOutcome width) stood
+  pub text : (width : ℕ) → placed_texts width stood ≡ drawings_text width begun (all_drawings outcomes) spots
+  pub drawn : (width : ℕ) → All (AreDrawnInRange width) stood → AllZip (IsDrawnInRange width) (all_drawings outcomes) spots
+
+-- the pages of these outcomes are so many, and have this text
+pub record HasText (plan : PagePlan) (paper : Paper) (outcomes : List Outcome) (begun : ℕ) : Type 0 where
+  pub count : length (sheet_of plan paper outcomes).pages ≡ begun
+  pub text : numbered document_page 1 (sheet_of plan paper outcomes).pages ≡ begun_text plan paper outcomes ++ ending begun
+
+-- and they can be written
+pub record IsSheetOf (plan : PagePlan) (paper : Paper) (outcomes : List Outcome) (begun : ℕ) : Type 0 where
+  pub good : IsSheet (sheet_of plan paper outcomes)
+  pub has : HasText plan paper outcomes begun
+
+-- each block lies on its page as the plan says, and a reader finds there what the scores call for
+pub record StandShown (plan : PagePlan) (paper : Paper) (outcomes : List Outcome) : Type 0 where
+  pub stand : AreStanding plan paper outcomes
+  pub shown : ShowsBook paper outcomes (sheet_of plan paper outcomes)
+
+-- blocks of outcomes that were set on a paper
+pub record AreBlocksOn (paper : Paper) (blocks : List Block) : Type 0 where
+  pub outcomes : List Outcome
+  pub set : All (IsSetUnder paper) outcomes
+  pub value : blocks ≡ all_blocks outcomes
+  pub good : AreGoodBlocks blocks
