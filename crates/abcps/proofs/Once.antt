@@ -2,7 +2,7 @@
 use Rattle.std.proofs.Common.{◌≡◌, ◌∙◌, refl, sym, ap, subst, ℕ, List, [], ◌∷◌, Bool, arith}
 use Rattle.{abc_lines.specs.Books.{book_of}, abc_fields.specs.declared.paper.Paper.{Paper}, gen_book.specs.Book.{book}, lay_breaks.{specs.{Breaking.sum_from, Spans.listed}, proofs.Unique.one_is_chosen}}
 use Rattle.lay_cert.{specs.{Answers.IsJudged, Listing.{Entry, none_forced}, Verdicts.{IsVerdict, AreVerdicts}, declared.check.{Judged.Judged, Verdict.{Verdict, TheVariants.{Least, NotLeast}}}}, proofs.Alone.tells_one}
-use Rattle.{ps_reports.specs.PaintText.{paint_text}, ps_sheet_reports.specs.SheetText.{sheet_report}, ps_machine.specs.OneAnswer.{HasOneAnswer}, ps_heard.specs.HeardText.{heard_text}, ps_text.specs.{Document.document, declared.sheet.Sheet.Sheet}}
+use Rattle.{ps_reports.specs.PaintText.{paint_text}, ps_reports.specs.SheetText.{sheet_report}, ps_machine.specs.OneAnswer.{HasOneAnswer}, ps_heard.specs.HeardText.{heard_text}, ps_text.specs.{Document.document, declared.sheet.Sheet.Sheet}}
 use Rattle.{set_book.specs.{declared.outcome.Outcome.Outcome, Once.HaveOneOutcome}, set_pages.{specs.{declared.plan.PagePlan.PagePlan, Sheet.{IsPagePlan, sheet_of}}, proofs.Whole.one_plan}, set_lists.specs.{Reports.reports, Trials.trial_text}}
 use Rattle.abcps_words.specs.declared.command.Command.{Command}
 use Rattle.abcps.specs.{Books.{AreSet, terms_in, CallsPages, CallsSystems, Tries, paper_in, status_of, systems_by, trial_of}, Calls.{Calls, CallsOne, IsPainted, Judges, NeverBoth, Shows, budget_of, by_one_job, status_by, verdicts_text}, declared.{status.Status.Status, refusing.Refusal.Refusal}, Called.{Called, IsQuietly}}

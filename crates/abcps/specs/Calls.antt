@@ -1,7 +1,7 @@
 -- What each command calls for, of an input that it doesn't refuse.
 use Rattle.std.specs.{Prelude.{◌≡◌, ℕ, ◌*◌, List, [], Bool, true, false, if◌then◌else◌, length, flat_map}, List.list_any}
 use Rattle.{gen_book.specs.Book.{book}, ps_text.specs.{Document.SpellsSheet, declared.sheet.Sheet.Sheet}, ps_read.specs.Answers.{IsDocumentRead, IsFirstFault}, ps_heard.specs.HeardText.{heard_text}}
-use Rattle.{ps_steps.specs.{declared.paint.PagePaint.PagePaint, Steps.{Paints, Halts}}, ps_reports.specs.PaintText.{paint_text}, ps_sheet_reports.specs.SheetText.{sheet_report}}
+use Rattle.{ps_steps.specs.{declared.paint.PagePaint.PagePaint, Steps.{Paints, Halts}}, ps_reports.specs.PaintText.{paint_text}, ps_reports.specs.SheetText.{sheet_report}}
 use Rattle.lay_cert.specs.{declared.check.{Judged.Judged, Verdict.Verdict}, Answers.IsJudged, Listing.{Entry, IsListing}, Reports.verdict_text}
 use Rattle.lay_cert.specs.ReaderStates as listing
 use Rattle.{abcps_words.specs.declared.command.Command.{Command}, set_tune.specs.Terms.{manner_by, unmoved}}

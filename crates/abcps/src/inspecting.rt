@@ -1,5 +1,5 @@
 ghost use Rattle.std.specs.Prelude.{◌≡◌, [], IfOk};
-ghost use Rattle.{ps_sheet_reports.specs.SheetText.{sheet_report}, abcps.specs.{Calls.Shows, Outcome.{IsAnswer, IsAnswered, observed}, declared.status.Status.Status}};
+ghost use Rattle.{ps_reports.specs.SheetText.{sheet_report}, abcps.specs.{Calls.Shows, Outcome.{IsAnswer, IsAnswered, observed}, declared.status.Status.Status}};
 ghost use Rattle.abcps_words.specs.declared.command.Command.{Command};
 
 use crate::refusing::Refusal;
@@ -8,7 +8,7 @@ use crate::reporting::{refuse, write_both};
 use eng_io::Sink;
 use ps_read::{PagesError, read_document};
 use ps_text::Sheet;
-use ps_sheet_reports::report_of;
+use ps_reports::report_of;
 use std::alloc::Global;
 
 /// Prints what a sheet shows.

@@ -5,7 +5,10 @@
 pub mod cases;
 pub mod escapes;
 pub mod faults;
+pub mod layouts;
+pub mod meeting;
 pub mod notes;
+pub mod numbers;
 pub mod report;
 pub mod telling;
 pub mod times;
@@ -13,7 +16,10 @@ pub mod values;
 
 pub use cases::{CallCase, text_case, told, within_limit};
 pub use faults::{put_fault, put_kind};
+pub use layouts::{put_breaking, put_heights, put_no_way, put_placed, put_spans};
+pub use meeting::Meeting;
 pub use notes::{put_bar, put_deco, put_head, put_pitch, put_value};
+pub use numbers::{bytes_of, count_at, number_at, numbers_of, small_at};
 pub use report::Report;
 pub use telling::{Answers, put_out, tell_tables};
 pub use times::put_key;

@@ -3,7 +3,7 @@
 ghost use Rattle.std.specs.Prelude.{◌≡◌, ◌≤◌, ◌^◌, IfOk, IfSome, IsTrue, length};
 ghost use Rattle.lay_pages.specs.{Stacking.AreGoodStaves, Filling.AreGoodBlocks};
 
-use answer_texts::{
+use case_texts::{
     count_at, number_at, numbers_of, put_breaking, put_heights, put_no_way, small_at,
 };
 use case_texts::Report;

@@ -4,7 +4,7 @@ ghost use Rattle.std.specs.Prelude.{◌≡◌, []};
 
 use crate::ops::put_mark_line;
 use crate::streams::sink_of;
-use answer_texts::{bytes_of, count_at, numbers_of};
+use case_texts::{bytes_of, count_at, numbers_of};
 use case_texts::Report;
 use eng_io::MemSink;
 use mus_units::{Memory, Row, Text};

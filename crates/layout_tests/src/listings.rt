@@ -1,6 +1,6 @@
 //! Listings and their verdicts.
 
-use answer_texts::bytes_of;
+use case_texts::bytes_of;
 use case_texts::Report;
 use lay_cert::{CertError, check_listing, put_verdict};
 use mus_units::Memory;

@@ -3,7 +3,7 @@
 ghost use Rattle.std.specs.Prelude.{◌≡◌, ◌∷◌, []};
 ghost use Rattle.layout_tests.specs.Meeting.{one_row, row_small};
 
-use answer_texts::Meeting;
+use case_texts::Meeting;
 use case_texts::Report;
 use eng_jobs::Jobs;
 use lay_rows::{RowMaker, Rows, make_rows};

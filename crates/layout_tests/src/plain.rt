@@ -2,7 +2,7 @@
 
 ghost use Rattle.std.specs.Prelude.{◌≤◌, ◌<◌, length};
 
-use answer_texts::{count_at, number_at, numbers_of, put_placed};
+use case_texts::{count_at, number_at, numbers_of, put_placed};
 use case_texts::{CallCase, Report};
 use lay_reaches::Column;
 use lay_spans::badness;

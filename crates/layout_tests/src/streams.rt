@@ -1,6 +1,6 @@
 //! Streams in memory and of std, and those that fail.
 
-use answer_texts::{count_at, number_at, numbers_of};
+use case_texts::{count_at, number_at, numbers_of};
 use case_texts::Report;
 use eng_io::{
     MemSink, MemSource, ReadError, Sink, Source, StdSink, StdSource, read_all, write_all,

@@ -1,1 +1,2 @@
 pub mod PaintText
+pub mod SheetText

@@ -4,7 +4,7 @@ ghost use Rattle.{abc_lines.specs.Good.{IsGoodBook}, set_lists.specs.Listing.{Ar
 
 use abc_fields::{body_of, read_paper};
 use abc_lines::{Book, cut_book};
-use answer_texts::{count_at, numbers_of, put_breaking, put_placed, put_spans};
+use case_texts::{count_at, numbers_of, put_breaking, put_placed, put_spans};
 use case_texts::Report;
 use eng_jobs::Jobs;
 use lay_pages::TitleBlock;

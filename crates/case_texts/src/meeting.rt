@@ -1,6 +1,6 @@
 ghost use Rattle.std.specs.Prelude.{◌<◌};
 
-use case_texts::Report;
+use crate::Report;
 use mus_units::Memory;
 use std::sync::atomic::AtomicBool;
 use std::sync::atomic::Ordering::SeqCst;

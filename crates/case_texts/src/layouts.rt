@@ -1,6 +1,6 @@
 //! What a layout is printed as.
 
-use case_texts::Report;
+use crate::Report;
 use lay_breaks::{Breaking, Span};
 use lay_pages::Heights;
 use lay_springs::Placed;
