@@ -1,5 +1,5 @@
 //! Headers: what the lines of a tune's header say together, or its first fault, and what the file
-//! header says of the tunes and of the paper.
+//! header says of the tunes and of the paper. It gives out the reader of one field of `abc_field`.
 #![tactic(auto)]
 
 pub mod defaults;
@@ -8,7 +8,7 @@ mod length;
 pub mod paper;
 mod voicing;
 
-pub use abc_field::{Breaks, Clef, Frac, Key, Letter, Meter, Sign, Spread, VoiceDef, Wish};
+pub use abc_field::{Breaks, Clef, Field, FieldError, Frac, Key, KeyText, Letter, Meter, Sign, Spread, VoiceDef, Wish, read_field};
 pub use defaults::{Defaults, read_defaults};
 pub use header::{Header, read_header};
 pub use paper::{Paper, body_of, read_paper};

@@ -1,4 +1,5 @@
-//! Tokens of a music line as text: each in its one plain spelling, with a backquote between two.
+//! Tokens of a music line: the reader of `abc_music`, given out, and their one plain spelling, with a backquote
+//! between two.
 #![tactic(auto)]
 
 pub mod bar;
@@ -6,4 +7,5 @@ pub mod group;
 pub mod note;
 pub mod speller;
 
+pub use abc_music::{Bar, Deco, GraceChord, Head, Len, Placed, Token, read_music};
 pub use speller::spell;

@@ -1,5 +1,6 @@
 //! The columns of one measure at a time: put one after the other they are the columns of a system,
-//! so that spans of measures can be tried by adding a measure to the one before.
+//! so that spans of measures can be tried by adding a measure to the one before. It gives out the columns of a
+//! system of `lay_reaches`.
 #![tactic(auto)]
 
 pub mod further;
@@ -9,5 +10,6 @@ pub mod staves;
 
 pub use further::{further_columns, further_of};
 pub use law::measures_join;
+pub use lay_reaches::{Column, Reach, columns, gaps_of};
 pub use measures::measure_columns;
 pub use staves::staff_verses;

@@ -1,5 +1,6 @@
 //! The marks that a score calls for in a system: for each staff those of its columns, its beams and
-//! its arcs, each with the rank of its column, and how low and how high they reach.
+//! its arcs, each with the rank of its column, and how low and how high they reach. It gives out the types of marks
+//! of `mus_laid`.
 #![tactic(auto)]
 
 pub mod counting;
@@ -13,6 +14,7 @@ pub mod tilting;
 pub use events::{WordRoom, StaffRoom, TextCounts, changes_nothing};
 pub use measures::{put_columns_part, put_measures};
 pub use mus_drawn::{Sound, sounding};
+pub use mus_laid::{Lane, Laid, Mark, Size, StaffMarks, SystemMarks, Way};
 pub use mus_time::draw_voices;
 pub use staves::{lower_count, verses_on};
 pub use systems::{marks, marks_of};

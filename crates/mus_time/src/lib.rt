@@ -1,5 +1,5 @@
 //! The columns of a system and of a measure alone: their keys, read off the voices of a score as they
-//! are drawn.
+//! are drawn. It gives out the onsets of `mus_onsets`.
 #![tactic(auto)]
 
 pub mod frame;
@@ -8,4 +8,5 @@ pub mod voices;
 
 pub use frame::SystemFrame;
 pub use keys::{keys_of, measure_keys, note_key, system_keys};
+pub use mus_onsets::{Class, ColumnKey, Onset, Timeline, onsets};
 pub use voices::draw_voices;
