@@ -11,20 +11,20 @@ trap 'rm -rf "$folder"' EXIT
 mkdir -p "$folder/crates/bench_building/src"
 cd "$folder"
 git init -q .
-crates="mus_units mus_pitch mus_score mus_lyric abc_lines abc_notes abc_pieces abc_tokens abc_fields abc_header abc_steps abc_items abc_signs abc_events abc_faults abc_words abc_score eng_io"
+crates="mus_units mus_pitch mus_score mus_lyric abc_lines abc_notes abc_pieces abc_music abc_field abc_fields abc_steps abc_items abc_signs abc_events abc_faults abc_words abc_score eng_io"
 for crate in $crates; do
     cp -r "$root/crates/$crate" crates/
     grep "^$crate:" "$root/crates.txt" >> crates.txt
 done
-echo "bench_building: mus_units mus_score abc_lines abc_fields abc_header abc_score eng_io" >> crates.txt
+echo "bench_building: mus_units mus_score abc_lines abc_field abc_fields abc_score eng_io" >> crates.txt
 cat > crates/bench_building/src/main.rt <<'E'
 //! Reads a book from standard input, and prints what each tune's score has, or its fault.
 #![tactic(auto)]
 
 ghost use Rattle.abc_lines.specs.Good.{IsGoodTune};
-ghost use Rattle.abc_header.specs.Good.{IsGoodDefaults};
+ghost use Rattle.abc_fields.specs.Good.{IsGoodDefaults};
 
-use abc_header::{Defaults, read_defaults, read_header};
+use abc_fields::{Defaults, read_defaults, read_header};
 use abc_lines::{TuneError, TuneText, cut_book};
 use abc_score::build;
 use eng_io::{StdSource, read_all};

@@ -10,17 +10,17 @@ trap 'rm -rf "$folder"' EXIT
 mkdir -p "$folder/crates/bench_reading/src"
 cd "$folder"
 git init -q .
-for crate in mus_units abc_lines abc_notes abc_pieces abc_tokens eng_io; do
+for crate in mus_units abc_lines abc_notes abc_pieces abc_music eng_io; do
     cp -r "$root/crates/$crate" crates/
     grep "^$crate:" "$root/crates.txt" >> crates.txt
 done
-echo "bench_reading: mus_units abc_lines abc_notes abc_pieces abc_tokens eng_io" >> crates.txt
+echo "bench_reading: mus_units abc_lines abc_notes abc_pieces abc_music eng_io" >> crates.txt
 cat > crates/bench_reading/src/main.rt <<'E'
 //! Reads a book, or a music line, from standard input, and prints what it found.
 #![tactic(auto)]
 
 use abc_lines::{Line, TuneError, cut_book};
-use abc_tokens::read_music;
+use abc_music::read_music;
 use eng_io::{StdSource, read_all};
 use mus_units::Text;
 use std::process::ExitCode;

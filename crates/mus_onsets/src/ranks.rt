@@ -26,7 +26,7 @@ pub fn rank_of(keys: &[ColumnKey], key: ColumnKey) -> u32
     keys.partition_point(|k| is_below(k, key)) as u32
 }
 
-/// The rank of a column, as `rank_of` gives it. The place `near` is looked at first, which then is the
+/// The rank of a column, as `key_rank` gives it. The place `near` is looked at first, which then is the
 /// one behind: columns that are asked for in order are found at once.
 pub fn next_rank(keys: &[ColumnKey], near: &mut usize, key: ColumnKey) -> u32
     requires { AreRanked keys.now }
