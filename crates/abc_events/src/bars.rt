@@ -3,7 +3,7 @@ ghost use Rattle.{mus_units.specs.declared.note.Bar.{Bar}, abc_steps.specs.Count
 ghost use Rattle.abc_events.specs.Bars.{plain_bar, unseen_bar, union, union_with, is_seen, joined_bar, bars_behind, bars_at, joined_or, bar_before_events, missing_bar, bars_of, is_near_bar, forces_bar, with_bar, forced_behind, forced_bars};
 
 use abc_steps::counts::{count_step, no_counts};
-use abc_steps::{Counts, Nearest, Step, PlacedStep};
+use abc_steps::{Counts, Nearest, PlacedStep, Step};
 use mus_units::{Bar, Memory, Row};
 use std::alloc::Global;
 

@@ -3,8 +3,8 @@ ghost use Rattle.mus_units.specs.Value.{value_length};
 ghost use Rattle.abc_signs.specs.Signs.{with_tie};
 ghost use Rattle.abc_events.specs.Leaves.{ends_at, first_part, later_head, later_part, some_more, later_parts, parts, node_of, grace_event, grace_note, grace_nodes, nodes_of, words_of_event};
 
-use abc_signs::{Pending, StoredPending, WrittenEvent, no_changes, nothing_pending, with_ties};
 use abc_music::GraceChord;
+use abc_signs::{Pending, StoredPending, WrittenEvent, no_changes, nothing_pending, with_ties};
 use mus_score::{Event, Look, Music};
 use mus_units::{Base, Few, Head, Memory, Row, Text, Value, copy_optional_texts, ticks_of};
 use std::alloc::Global;
@@ -62,7 +62,13 @@ fn ticks_at(w: &WrittenEvent, value: Value) -> u64
 
 /// The first part of a written event, with its heads, which are tied where there are more parts.
 #[tactic(auto, unfolding(crate::specs::Leaves::first_part))]
-fn first_part(w: &WrittenEvent, heads: Few<Head>, first: FirstPart, more: bool, value: Value) -> Event
+fn first_part(
+    w: &WrittenEvent,
+    heads: Few<Head>,
+    first: FirstPart,
+    more: bool,
+    value: Value,
+) -> Event
     requires few { value.dots ≤ 3 }
     requires heads { heads ≡ map (with_tie more) w.now.heads }
     ensures { result ≡ first_part w.now first.waiting first.words first.id more value }
@@ -325,7 +331,11 @@ fn put_graces(
 
 /// What waited for an event, whose graces are put.
 #[inline(always)]
-fn with_graces_put(alloc: Global, nodes: &mut Row<Music>, waits: StoredPending) -> Result<Pending, Memory>
+fn with_graces_put(
+    alloc: Global,
+    nodes: &mut Row<Music>,
+    waits: StoredPending,
+) -> Result<Pending, Memory>
     ensures waiting { IfOk result (λ waiting. waiting ≡ waits) }
     ensures graces { OnOk result (nodes.new ≡ nodes.old ++ grace_nodes waits.graces waits.slash) }
 {

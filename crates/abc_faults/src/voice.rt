@@ -5,12 +5,12 @@ ghost use Rattle.abc_faults.specs.{First.first_of, Faults.{step_fault, fault_if,
 use crate::first::earlier;
 use crate::weights::{Weight, count_parts, put_graces, sound_count, weight_at};
 use abc_lines::{Fault, FaultKind};
+use abc_music::GraceChord;
 use abc_steps::kinds::is_sound;
 use abc_steps::looks::{has_left, has_right, since_event};
 use abc_steps::state::{VoiceState, measure_of};
 use abc_steps::tuplets::{fits, or_default};
-use abc_steps::{StoredSound, Step, PlacedStep, OpenTuplets};
-use abc_music::GraceChord;
+use abc_steps::{OpenTuplets, PlacedStep, Step, StoredSound};
 use mus_units::{Clef, Few, Head, Memory, Meter, Row, Value, height};
 
 fn step_fault(kind: FaultKind, at: &PlacedStep) -> Fault
@@ -139,7 +139,12 @@ fn is_free(meter: Meter) -> bool
 /// The first fault of a note, a chord or a rest, without its graces. `undrawable`
 /// tells that its length has no parts.
 #[tactic(auto, using(crate::proofs::Firsts::first_append))]
-fn sound_fault(now: &VoiceState, at: &PlacedStep, s: &StoredSound, undrawable: bool) -> Option<Fault>
+fn sound_fault(
+    now: &VoiceState,
+    at: &PlacedStep,
+    s: &StoredSound,
+    undrawable: bool,
+) -> Option<Fault>
     requires groups { now.now.counts.groups ≤ 2 ^ 30 }
     requires further { now.now.counts.further ≤ 2 ^ 46 }
     ensures { result ≡ first_of (sound_faults_if undrawable now.now at.now s.now) }

@@ -1,8 +1,8 @@
 ghost use Rattle.std.specs.Prelude.{◌≡◌, ◌*◌, ◌++◌, length, map, max, OnOk};
 ghost use Rattle.abc_faults.specs.Weights.{weight_at, capped, count_parts, grace_count, grace_weights_of, grace_weights};
 
-use abc_steps::{StoredSound, Step, PlacedStep};
 use abc_music::GraceChord;
+use abc_steps::{PlacedStep, Step, StoredSound};
 use mus_units::{Few, Memory, Row, Value};
 
 /// How many heads and rests a tune has at most.

@@ -5,7 +5,7 @@ ghost use Rattle.mus_units.specs.Good.{IsGoodKey};
 ghost use Rattle.abc_field.specs.{Last.last_of, Words.{words_of, after_prefix}, Keys.{natural_letter, letter_of, letter_alone, signed_letter, sign_of, named_clef, has_octave, without_octave, clef_of, by_name, by_clef, by_sign, key_word, key_words, major_like, minor_like, mode_named, mode_by_three, mode_of, key_start, mode_on, altered, tonic_of, without_mode, with_next_mode, by_mode, by_tonic, by_fixed, fixed_start, first_words, is_exp, sign_in, clef_in, listed_signs, start_with, whole_key, pipe_signs, key_by, key_of, GoodKeyIn, IsGoodKeyText}};
 
 use crate::words::{after_prefix, is_same, next_word};
-use mus_pitch::{Mode, key_of, with_signs, signature};
+use mus_pitch::{Mode, key_of, signature, with_signs};
 use mus_units::{Alter, Clef, Key, Letter, Memory, Row, Sign};
 use std::alloc::Global;
 

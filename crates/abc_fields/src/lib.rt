@@ -8,7 +8,10 @@ mod length;
 pub mod paper;
 mod voicing;
 
-pub use abc_field::{Breaks, Clef, Field, FieldError, Frac, Key, KeyText, Letter, Meter, Sign, Spread, VoiceDef, Wish, read_field};
+pub use abc_field::{
+    Breaks, Clef, Field, FieldError, Frac, Key, KeyText, Letter, Meter, Sign, Spread, VoiceDef,
+    Wish, read_field,
+};
 pub use defaults::{Defaults, read_defaults};
 pub use header::{Header, read_header};
 pub use paper::{Paper, body_of, read_paper};

@@ -8,8 +8,8 @@ use crate::voices::{declared_ids, is_mentioned, mention_item};
 use abc_field::{Breaks, read_field};
 use abc_fields::Header;
 use abc_lines::{Fault, FaultKind, Line, LineKind, TuneError, kind_of};
-use abc_steps::BodyItem;
 use abc_music::{LineRest, Placed, read_part, start};
+use abc_steps::BodyItem;
 use mus_units::{Memory, Row, Text};
 use std::alloc::Global;
 

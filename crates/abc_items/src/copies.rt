@@ -3,9 +3,9 @@
 ghost use Rattle.std.specs.Prelude.{◌≡◌, IfOk};
 
 use abc_field::KeyText;
-use abc_steps::copies::put_chords;
-use abc_steps::{Boxed, Step, PlacedStep};
 use abc_music::GraceChord;
+use abc_steps::copies::put_chords;
+use abc_steps::{Boxed, PlacedStep, Step};
 use mus_units::{Memory, Row, copy_optional_key};
 use std::alloc::Global;
 

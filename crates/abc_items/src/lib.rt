@@ -7,6 +7,6 @@ mod copies;
 mod token;
 pub mod voices;
 
-pub use abc_steps::{BodyItem, WrittenSound, Step, PlacedStep};
+pub use abc_steps::{BodyItem, PlacedStep, Step, WrittenSound};
 pub use body::read_body;
 pub use voices::{VoiceStart, steps_of, unnamed_of, voices_of};

@@ -6,8 +6,8 @@ ghost use Rattle.abc_items.specs.{Good.IsGoodItem, Body.{written_head, first_len
 
 use abc_field::{Breaks, Field, FieldError, KeyText, read_named};
 use abc_lines::{Fault, Line, TuneError};
-use abc_steps::{Boxed, BodyItem, StoredSound, WrittenSound, Step, PlacedStep};
 use abc_music::{Len, Token, WrittenChord};
+use abc_steps::{BodyItem, Boxed, PlacedStep, Step, StoredSound, WrittenSound};
 use mus_units::{Few, Head, Memory, Row};
 use std::alloc::Global;
 

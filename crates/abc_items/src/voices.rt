@@ -6,7 +6,7 @@ ghost use Rattle.{abc_field.specs.Last.{last_of}, abc_fields.specs.Voicing.{with
 use crate::copies::copy_stood;
 use abc_field::VoiceDef;
 use abc_fields::Header;
-use abc_steps::{BodyItem, Step, PlacedStep};
+use abc_steps::{BodyItem, PlacedStep, Step};
 use mus_units::{Clef, Memory, Row, Text, Wish};
 use std::alloc::Global;
 
@@ -78,7 +78,11 @@ fn ids_in(alloc: Global, voices: &[VoiceDef]) -> Result<Row<Text>, Memory>
 
 /// Adds the id that an item mentions.
 #[inline(always)]
-pub(crate) fn mention_item(alloc: Global, ids: &mut Row<Text>, item: &BodyItem) -> Result<(), Memory>
+pub(crate) fn mention_item(
+    alloc: Global,
+    ids: &mut Row<Text>,
+    item: &BodyItem,
+) -> Result<(), Memory>
     ensures { OnOk result (ids.new ≡ ids_after_item ids.old item.now) }
 {
     match item {
@@ -210,7 +214,12 @@ fn declared_wish(header: &Header, id: &[u8]) -> Wish
     }
 }
 
-fn start_of(alloc: Global, header: &Header, items: &[BodyItem], id: &Text) -> Result<VoiceStart, Memory>
+fn start_of(
+    alloc: Global,
+    header: &Header,
+    items: &[BodyItem],
+    id: &Text,
+) -> Result<VoiceStart, Memory>
     ensures { IfOk result (λ start. start ≡ start_of header.now items.now id.now) }
 {
     let clef = clef_first(header, items, id.as_slice()).unwrap_or(header.clef);
@@ -225,7 +234,11 @@ fn start_of(alloc: Global, header: &Header, items: &[BodyItem], id: &Text) -> Re
 /// The voices of a tune in order of first mention, with what each begins with.
 /// A voice begins with the clef of its declaration, else with that of the voice
 /// field that mentions it first, else with the header's.
-pub fn voices_of(alloc: Global, header: &Header, items: &[BodyItem]) -> Result<Row<VoiceStart>, Memory>
+pub fn voices_of(
+    alloc: Global,
+    header: &Header,
+    items: &[BodyItem],
+) -> Result<Row<VoiceStart>, Memory>
     ensures { IfOk result (λ starts. starts ≡ starts_of header.now items.now) }
 {
     let ids = voice_ids(alloc, header, items)?;
@@ -306,7 +319,12 @@ fn put_steps(
     }
 }
 
-fn put_own(alloc: Global, steps: &mut Row<PlacedStep>, own: bool, stood: &PlacedStep) -> Result<(), Memory>
+fn put_own(
+    alloc: Global,
+    steps: &mut Row<PlacedStep>,
+    own: bool,
+    stood: &PlacedStep,
+) -> Result<(), Memory>
     ensures { OnOk result (steps.new ≡ steps.old ++ one_if own stood.now) }
 {
     if own {

@@ -90,7 +90,11 @@ fn tune_at<'a>(
 
 /// Adds the listed lines up to the first that is empty or begins a tune, and
 /// gives the place of that one.
-fn add_part<'a>(alloc: Global, out: &mut Row<Line>, place: LineCursor<'a>) -> Result<LineCursor<'a>, Memory>
+fn add_part<'a>(
+    alloc: Global,
+    out: &mut Row<Line>,
+    place: LineCursor<'a>,
+) -> Result<LineCursor<'a>, Memory>
     requires { place.number + length place.rest.now ≤ 2 ^ 30 + 1 }
     ensures lines { OnOk result (out.new ≡ out.old ++ part_from place.entry.number (readings place.entry.rest.now)) }
     ensures rest { IfOk result (λ it. (o : ℕ) → tunes_from o it.number (readings it.rest.now) ≡ tunes_from o place.entry.number (readings place.entry.rest.now)) }

@@ -6,5 +6,5 @@ pub mod token;
 
 pub use abc_pieces::{Boxed, GraceChord, Len, Token, WrittenChord};
 pub use mus_units::{Bar, Deco, Head};
-pub use reader::{read_prefix, read_music, read_part, start};
-pub use token::{LineRest, TokenPrefix, LinePart, TokenCursor, Placed};
+pub use reader::{read_music, read_part, read_prefix, start};
+pub use token::{LinePart, LineRest, Placed, TokenCursor, TokenPrefix};

@@ -3,13 +3,13 @@ ghost use Rattle.{abc_lines.specs.{Kinds.code, Good.IsGoodLine}, abc_notes.specs
 ghost use Rattle.abc_pieces.specs.{Forms.opening, Forms.is_kept_field, declared.token.BracketOpening.TheVariants.Chord, Reading.piece_at, Reading.token_of, Reading.found_within};
 ghost use Rattle.abc_music.specs.{declared.token.Placed.Placed, Good.AreGoodTokens, Tokens.{TokensOf, IsErrorOf, GivesTokensOf, IsFull, IsStart, IsWithinLine, PartOf, column, with_token, fault_at, kind_after, kind_if, IsBracketFlaw, IsLineFlaw, IsOwnFlaw}};
 
-use crate::token::{LineRest, TokenPrefix, LinePart, TokenCursor, Placed};
+use crate::token::{LinePart, LineRest, Placed, TokenCursor, TokenPrefix};
 use abc_lines::{Fault, FaultKind, Line, TuneError};
 use abc_notes::chord::{chord_fault, goes_on_length, read_decos, read_heads};
 use abc_notes::decoration::{deco_of_letter, deco_of_name};
 use abc_notes::grace::{grace_fault, read_body};
 use abc_pieces::piece::{opening, piece_at};
-use abc_pieces::{Boxed, PieceBefore, Flaw, BorrowedToken, BracketOpening, Token, WrittenChord};
+use abc_pieces::{BorrowedToken, Boxed, BracketOpening, Flaw, PieceBefore, Token, WrittenChord};
 use mus_units::bytes::is_digit;
 use mus_units::{Memory, Row, Text};
 use std::alloc::Global;

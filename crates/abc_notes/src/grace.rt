@@ -3,8 +3,8 @@ ghost use Rattle.abc_notes.specs.{Graces.{body_of_part, body_of_sense, body_of, 
 
 use crate::bytes::skip;
 use crate::chord::{
-    bracket_in_name, chord_at, chord_fault, either, goes_on_length, is_inner_note, later_or, place_if,
-    read_plain_heads,
+    bracket_in_name, chord_at, chord_fault, either, goes_on_length, is_inner_note, later_or,
+    place_if, read_plain_heads,
 };
 use crate::item::{item_at, name_at};
 use crate::length::length_from;

@@ -10,4 +10,4 @@ pub mod tuplet;
 
 pub use abc_notes::{Flaw, GraceChord, Len};
 pub use apart::Boxed;
-pub use token::{PieceBefore, BorrowedToken, BracketOpening, Token, WrittenChord};
+pub use token::{BorrowedToken, BracketOpening, PieceBefore, Token, WrittenChord};

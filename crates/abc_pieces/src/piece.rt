@@ -4,7 +4,7 @@ ghost use Rattle.abc_pieces.specs.{declared.token.PieceBefore.TheVariants.Other,
 ghost use Rattle.{abc_notes.specs.{Chords.is_inside, Runs.begins}, mus_units.specs.Bytes.{is_digit, is_blank}};
 
 use crate::bar::read_bar;
-use crate::token::{PieceBefore, PieceClass, BorrowedToken, BracketOpening};
+use crate::token::{BorrowedToken, BracketOpening, PieceBefore, PieceClass};
 use crate::tuplet::tuplet_at;
 use abc_notes::chord::{bracketed, chord_at};
 use abc_notes::grace::grace_at;
@@ -42,7 +42,13 @@ pub fn piece_at(bang: bool, before: PieceBefore, bytes: &[u8]) -> Option<LinePie
         PieceClass::Paren => Some(paren(rest)),
         PieceClass::Close => Some(plain(BorrowedToken::SlurOff, rest)),
         PieceClass::Tie => Some(plain(BorrowedToken::Tie, rest)),
-        PieceClass::Digit => { if is_after_bar(before) { ending(bytes) } else { None } }
+        PieceClass::Digit => {
+            if is_after_bar(before) {
+                ending(bytes)
+            } else {
+                None
+            }
+        }
         PieceClass::Broken => broken(before, *first, rest),
         PieceClass::Quote => says(rest),
         PieceClass::Bang => Some(bang_piece(bang, rest)),

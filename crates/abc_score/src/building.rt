@@ -13,7 +13,12 @@ use mus_score::Score;
 use std::alloc::Global;
 
 /// The score of a body that is read, or its first fault.
-fn score_in(alloc: Global, header: &Header, items: &[BodyItem], flow: bool) -> Result<Score, TuneError>
+fn score_in(
+    alloc: Global,
+    header: &Header,
+    items: &[BodyItem],
+    flow: bool,
+) -> Result<Score, TuneError>
     requires header { HasGoodValues header.now }
     requires items { All IsGoodItem items.now }
     requires rise { DoWordsRise items.now }

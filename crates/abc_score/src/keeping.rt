@@ -9,7 +9,7 @@ use abc_signs::{TreeItem, put_signs, signs};
 use abc_steps::kinds::is_event;
 use abc_steps::lengths::parts_at;
 use abc_steps::state::{VoiceState, beginning, step_over};
-use abc_steps::{Step, PlacedStep};
+use abc_steps::{PlacedStep, Step};
 use mus_units::{Few, Memory, Row, Value};
 use std::alloc::Global;
 
@@ -181,7 +181,11 @@ pub(crate) fn judge_voice(
 }
 
 /// The signs of a voice that is judged: those that were kept, where none is lacking.
-pub(crate) fn signs_of_voice(alloc: Global, v: &ReadVoice, kept: VoiceItems) -> Result<Row<TreeItem>, Memory>
+pub(crate) fn signs_of_voice(
+    alloc: Global,
+    v: &ReadVoice,
+    kept: VoiceItems,
+) -> Result<Row<TreeItem>, Memory>
     requires good { IsGoodRead v.now }
     requires kept { AreItemsOf v.now kept }
     ensures value { IfOk result (λ r. r ≡ signs v.now.first [] v.now.steps) }

@@ -3,7 +3,7 @@ ghost use Rattle.{abc_fields.specs.Headers.{HasGoodValues}, abc_items.specs.Good
 
 use abc_fields::Header;
 use abc_items::{VoiceStart, steps_of, unnamed_of, voices_of};
-use abc_steps::{InForce, BodyItem, PlacedStep};
+use abc_steps::{BodyItem, InForce, PlacedStep};
 use mus_units::{Memory, Row};
 use std::alloc::Global;
 
@@ -83,7 +83,11 @@ fn read_each(
 }
 
 /// The voices of a body in order of first mention, each with its steps.
-pub fn read_voices(alloc: Global, header: &Header, items: &[BodyItem]) -> Result<Row<ReadVoice>, Memory>
+pub fn read_voices(
+    alloc: Global,
+    header: &Header,
+    items: &[BodyItem],
+) -> Result<Row<ReadVoice>, Memory>
     requires header { HasGoodValues header.now }
     requires items { All IsGoodItem items.now }
     ensures value { IfOk result (λ voices. voices ≡ voices_read header.now items.now) }

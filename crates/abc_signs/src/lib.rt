@@ -9,4 +9,4 @@ pub mod written;
 
 pub use reading::{put_signs, signs, with_ties};
 pub use waits::{no_changes, nothing_pending};
-pub use written::{TreeItem, Pending, StoredPending, WrittenEvent};
+pub use written::{Pending, StoredPending, TreeItem, WrittenEvent};

@@ -4,14 +4,14 @@ ghost use Rattle.abc_steps.specs.{Looks.since_event, Looks.slurs_begun, Looks.sl
 ghost use Rattle.abc_signs.specs.Signs.{with_tie, tied_heads, for_note, look_of, whole_look, parted_at, sound_written, whole_value, rest_written, further_rests, rests_of, tuplet_of, tree_items_of, signs, HasDrawableValues};
 
 use crate::waits::waiting_of;
-use crate::written::{TreeItem, StoredPending, WrittenEvent};
+use crate::written::{StoredPending, TreeItem, WrittenEvent};
 use abc_steps::force::meter_ticks;
 use abc_steps::kinds::is_event;
 use abc_steps::lengths::parts_at;
 use abc_steps::looks::{has_parting, is_sound_tied, since_event, slurs_begun, slurs_ended};
 use abc_steps::state::{VoiceState, beginning, measure_of, step_over};
 use abc_steps::tuplets::{fits, or_default, usual_q};
-use abc_steps::{InForce, StoredSound, Step, PlacedStep};
+use abc_steps::{InForce, PlacedStep, Step, StoredSound};
 use mus_score::Look;
 use mus_units::{Base, Few, Head, Memory, Row, Value};
 use std::alloc::Global;

@@ -4,7 +4,7 @@ ghost use Rattle.abc_signs.specs.Waits.{decos_in, is_annotation_above, mention_o
 use crate::written::{Pending, StoredPending};
 use abc_steps::copies::put_chords;
 use abc_steps::force::changes_at;
-use abc_steps::{InForce, Step, PlacedStep};
+use abc_steps::{InForce, PlacedStep, Step};
 use mus_score::{Changes, Mention};
 use mus_units::{Deco, Memory, Row, Text, put_decos};
 use std::alloc::Global;
@@ -99,7 +99,12 @@ fn any_tells(waits: &[PlacedStep]) -> bool
 /// What waits for an event, gathered from what does.
 #[inline(never)]
 #[tactic(auto, unfolding(crate::specs::Waits::pending_of))]
-fn gathered(alloc: Global, now: &InForce, waits: &[PlacedStep], inside: &[Deco]) -> Result<StoredPending, Memory>
+fn gathered(
+    alloc: Global,
+    now: &InForce,
+    waits: &[PlacedStep],
+    inside: &[Deco],
+) -> Result<StoredPending, Memory>
     ensures { IfOk result (λ w. w ≡ pending_of now.now waits.now inside.now) }
 {
     let mut waiting = nothing_pending(alloc);

@@ -98,6 +98,14 @@ impl StoredPending {
 /// event, or a tuplet of `p` in the time of `q` that takes the next `r` of them.
 #[derive(Drop)]
 pub enum TreeItem {
-    Event { written: WrittenEvent, waiting: StoredPending },
-    Opens { measure: u64, p: u8, q: u8, r: u8 },
+    Event {
+        written: WrittenEvent,
+        waiting: StoredPending,
+    },
+    Opens {
+        measure: u64,
+        p: u8,
+        q: u8,
+        r: u8,
+    },
 }

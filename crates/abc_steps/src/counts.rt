@@ -1,7 +1,7 @@
 ghost use Rattle.std.specs.Prelude.{◌≡◌, ◌≤◌, ◌<◌, ◌^◌, ◌+◌, ◌∷◌, [], if◌then◌else◌};
 ghost use Rattle.abc_steps.specs.{declared.counts.Nearest.Nearest, Looks.Steps, Counts.is_near_event, Counts.counts_of};
 
-use crate::step::{Step, PlacedStep};
+use crate::step::{PlacedStep, Step};
 
 /// What the nearest event or bar before a place is.
 #[derive(Clone, Copy, PartialEq, Eq)]

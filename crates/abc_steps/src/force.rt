@@ -2,7 +2,7 @@ ghost use Rattle.std.specs.{Prelude.◌≡◌, Prelude.◌≤◌, Prelude.◌^�
 ghost use Rattle.{mus_units.specs.Good.{IsGoodKey, IsGoodMeter}, abc_field.specs.Keys.{key_over, IsGoodKeyText}};
 ghost use Rattle.abc_steps.specs.{declared.step.Step.Step, Force.{force_after, has_sign, names_key, names_clef, names_meter, some_if, changes_at, meter_ticks}, Good.{IsGoodStep, IsGoodForce}};
 
-use crate::step::{Step, PlacedStep};
+use crate::step::{PlacedStep, Step};
 use abc_field::KeyText;
 use mus_pitch::with_signs;
 use mus_score::Changes;

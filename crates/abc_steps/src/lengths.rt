@@ -2,9 +2,9 @@ ghost use Rattle.std.specs.{Prelude.{◌≡◌, ◌≤◌, ◌^◌, reverse, IfO
 ghost use Rattle.mus_units.specs.{Good.IsGoodUnit, Parts.parts_list};
 ghost use Rattle.abc_steps.specs.{Good.IsGoodSound, Good.IsGoodPlacedStep, Lengths.{long_side, short_side, left_side, right_side, left_factor, right_factor, written_length, parts_at, IsFactor, IsLength}};
 
-use crate::stored::StoredSound;
 use crate::looks::{broken_before, broken_behind};
-use crate::step::{Step, PlacedStep};
+use crate::step::{PlacedStep, Step};
+use crate::stored::StoredSound;
 use mus_units::{Few, Frac, Memory, Value, parts_of, value_of};
 use std::alloc::Global;
 
@@ -85,7 +85,12 @@ fn right_factor(broken: Option<&PlacedStep>) -> Frac
 /// The written length of a note, a chord or a rest, in whole notes, not reduced.
 #[inline(always)]
 #[tactic(auto, unfolding(crate::specs::Lengths::written_length))]
-pub fn written_length(unit: Frac, s: &StoredSound, before: &[PlacedStep], behind: &[PlacedStep]) -> Frac
+pub fn written_length(
+    unit: Frac,
+    s: &StoredSound,
+    before: &[PlacedStep],
+    behind: &[PlacedStep],
+) -> Frac
     requires unit { IsGoodUnit unit }
     requires good { IsGoodSound s.now }
     ensures value { result ≡ written_length unit s.now (reverse before.now) behind.now }

@@ -5,18 +5,18 @@
 pub mod copies;
 pub mod counts;
 pub mod force;
-pub mod stored;
 pub mod kinds;
 pub mod lengths;
 pub mod looks;
 pub mod state;
 pub mod step;
+pub mod stored;
 pub mod tuplets;
 
 pub use abc_music::Boxed;
 pub use counts::{Counts, Nearest};
 pub use force::InForce;
-pub use stored::StoredSound;
 pub use state::VoiceState;
-pub use step::{BodyItem, WrittenSound, Step, PlacedStep};
+pub use step::{BodyItem, PlacedStep, Step, WrittenSound};
+pub use stored::StoredSound;
 pub use tuplets::OpenTuplets;

@@ -11,7 +11,7 @@ use mus_units::{Memory, Row, Text};
 use ps_write::{DocWriter, begin, finish, send_pages};
 use set_book::Outcome;
 use set_lists::{has_fault, put_reports};
-use set_pages::{PagePlan, PageBuilder, paper_frame, new_builder, add_outcomes, put_ending};
+use set_pages::{PageBuilder, PagePlan, add_outcomes, new_builder, paper_frame, put_ending};
 use std::alloc::Global;
 use std::thread::Threads;
 

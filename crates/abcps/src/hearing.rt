@@ -2,8 +2,8 @@ ghost use Rattle.std.specs.Prelude.{◌≡◌, [], IfOk};
 ghost use Rattle.{ps_heard.specs.HeardText.{heard_text}, abcps.specs.{Outcome.{IsAnswer, IsAnswered, observed}, declared.status.Status.Status}, abcps_words.specs.declared.command.Command.{Command}};
 
 use crate::refusing::Refusal;
-use crate::status::Status;
 use crate::reporting::{refuse, write_both};
+use crate::status::Status;
 use eng_io::Sink;
 use mus_units::{Memory, Spread, Text};
 use ps_read::{PagesError, put_heard, read_document};

@@ -3,12 +3,12 @@ ghost use Rattle.{ps_reports.specs.SheetText.{sheet_report}, abcps.specs.{Calls.
 ghost use Rattle.abcps_words.specs.declared.command.Command.{Command};
 
 use crate::refusing::Refusal;
-use crate::status::Status;
 use crate::reporting::{refuse, write_both};
+use crate::status::Status;
 use eng_io::Sink;
 use ps_read::{PagesError, read_document};
-use ps_text::Sheet;
 use ps_reports::report_of;
+use ps_text::Sheet;
 use std::alloc::Global;
 
 /// Prints what a sheet shows.

@@ -2,8 +2,8 @@ ghost use Rattle.std.specs.{Prelude.{◌≡◌, [], IfOk}, List.list_any};
 ghost use Rattle.{abcps.specs.{Calls.{is_dearer, is_dearer_choice, status_by, verdicts_text}, Outcome.{IsAnswer, IsAnswered, IsCompleteStatus, observed}}, abcps_words.specs.declared.command.Command.{Command}};
 
 use crate::refusing::Refusal;
-use crate::status::Status;
 use crate::reporting::{refuse, write_both};
+use crate::status::Status;
 use eng_io::Sink;
 use lay_cert::{CertError, Judged, Verdict, check_listing, put_verdict};
 use mus_units::{Memory, Text};

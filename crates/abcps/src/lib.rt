@@ -2,17 +2,17 @@
 #![tactic(auto)]
 
 mod books;
+mod building;
 mod hearing;
 mod inspecting;
 mod judging;
 mod making;
 mod painting;
-mod building;
 mod printing;
 pub mod refusing;
+mod reporting;
 pub mod running;
 pub mod status;
-mod reporting;
 pub mod wordless;
 
 pub use abcps_words::{Command, usage};

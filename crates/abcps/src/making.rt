@@ -1,8 +1,8 @@
 ghost use Rattle.std.specs.Prelude.{◌≡◌, ◌≤◌, []};
 ghost use Rattle.{abcps.specs.Outcome.{IsAnswer, observed}, abcps_words.specs.declared.command.Command.{Command}};
 
-use crate::status::Status;
 use crate::reporting::write_both;
+use crate::status::Status;
 use eng_io::Sink;
 use gen_book::make;
 use std::alloc::Global;

@@ -3,12 +3,12 @@ ghost use Rattle.{ps_reports.specs.PaintText.{paint_text}, abcps.specs.{Calls.bu
 ghost use Rattle.abcps_words.specs.declared.command.Command.{Command};
 
 use crate::refusing::Refusal;
-use crate::status::Status;
 use crate::reporting::{refuse, write_both};
+use crate::status::Status;
 use eng_io::Sink;
 use mus_units::{Memory, Text};
-use ps_reports::put_pages;
 use ps_machine::{MachineError, PagePaint, run_machine};
+use ps_reports::put_pages;
 use std::alloc::Global;
 
 /// So many tokens may be executed for each byte of a text.

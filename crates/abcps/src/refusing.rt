@@ -4,8 +4,8 @@ ghost use Rattle.abcps.specs.Refusals.{not_pages_line, refusal_line, refusal_sta
 use crate::status::Status;
 use eng_lines::put_number;
 use mus_units::{Memory, Text};
-use ps_reports::put_halt;
 use ps_machine::Cause;
+use ps_reports::put_halt;
 
 /// Why an input is refused, for which nothing is written on output: it fixes the answer, and the line
 /// that is told on errors.

@@ -1,8 +1,8 @@
 ghost use Rattle.std.specs.{Prelude.◌≡◌, IoError.error_kind};
 ghost use Rattle.abcps.specs.{Wordless.{IsWordless, cause_of}, declared.wordless.WordsError.WordsError, Outcome.observed};
 
-use crate::status::Status;
 use crate::reporting::report_usage;
+use crate::status::Status;
 use eng_io::Sink;
 use std::alloc::AllocError;
 use std::io;

@@ -1,7 +1,7 @@
 //! Books in the folder, each beside what is written of it: the pages behind the prolog that `set` writes, the table
 //! of `systems --table`, and the faults.
 
-use crate::case::{RunCase, Expected, verdict, words_of};
+use crate::case::{Expected, RunCase, verdict, words_of};
 use crate::files::{read_file, read_table};
 use crate::running::{Finished, Host, PIECE, Streams, ran};
 use abcps::Status;

@@ -5,8 +5,8 @@
 use crate::files::read_file;
 use crate::running::Host;
 use mus_units::{Memory, Text};
-use ps_reports::{put_halt, put_pages};
 use ps_machine::{MachineError, run_machine};
+use ps_reports::{put_halt, put_pages};
 use std::alloc::Global;
 use std::io;
 

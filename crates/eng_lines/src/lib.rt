@@ -5,6 +5,6 @@
 pub mod numbers;
 
 pub use numbers::{
-    cut_at, number, number_and_rest, number_after, numbers_after, put_named, put_next,
-    put_number, small_number, strip,
+    cut_at, number, number_after, number_and_rest, numbers_after, put_named, put_next, put_number,
+    small_number, strip,
 };

@@ -9,8 +9,8 @@ pub mod check;
 mod costs;
 pub mod lines;
 mod numbers;
-mod state;
 pub mod report;
+mod state;
 pub mod write;
 
 pub use check::{

@@ -5,7 +5,7 @@ ghost use Rattle.lay_cert.specs.Lines.{line_text};
 ghost use Rattle.lay_cert.specs.declared.lines.ListingLine.TheVariants as line;
 ghost use Rattle.lay_breaks.specs.declared.costs.Span.{Span};
 
-use eng_lines::{number, number_and_rest, number_after, strip};
+use eng_lines::{number, number_after, number_and_rest, strip};
 use lay_breaks::Span;
 
 /// The number and the bars of a tune's first line.

@@ -271,7 +271,11 @@ fn break_next(choosing: Choosing, bar: u32) -> Result<Option<ListingState>, Memo
     }
 }
 
-fn after_heading(alloc: Global, choosing: Choosing, raw: &[u8]) -> Result<Option<ListingState>, Memory>
+fn after_heading(
+    alloc: Global,
+    choosing: Choosing,
+    raw: &[u8],
+) -> Result<Option<ListingState>, Memory>
     requires sound { IsChoosing choosing }
     ensures step { (es : List Entry) (js : List Judged) → AreVerdicts es js
         → IfOk result (IsStep (place.choosing es (entry_so_far choosing)) raw.now js) }

@@ -6,8 +6,8 @@ use crate::measures::measure_columns;
 use lay_reaches::Column;
 use mus_drawn::{DrawnEvent, DrawnVoice};
 use mus_marks::changes_nothing;
-use mus_score::Score;
 use mus_onsets::Timeline;
+use mus_score::Score;
 use mus_units::{Memory, Row};
 use std::alloc::Global;
 

@@ -5,11 +5,11 @@ ghost use Rattle.lay_columns.specs.Measures.{AreMeasureColumns, EndWithBar, fixe
 
 use lay_reaches::{Column, columns_in};
 use mus_drawn::DrawnVoice;
-use mus_time::{SystemFrame, measure_keys};
 use mus_laid::{Laid, MarkPen, StaffMarks};
-use mus_marks::{WordRoom, StaffRoom, lower_count, put_columns_part, put_measures};
-use mus_score::Score;
+use mus_marks::{StaffRoom, WordRoom, lower_count, put_columns_part, put_measures};
 use mus_onsets::Timeline;
+use mus_score::Score;
+use mus_time::{SystemFrame, measure_keys};
 use mus_units::{Memory, Row};
 use std::alloc::Global;
 

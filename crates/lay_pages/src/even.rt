@@ -3,7 +3,7 @@ ghost use Rattle.lay_breaks.specs.Breaking.{IsChosen};
 ghost use Rattle.lay_pages.specs.{Even.{AreFitting, AreHeights, AreSpots, StandByPages, ends_behind, group_heights, groups_behind, cost_small, cost_stops, page_cost, page_height, parted_spots, even_spot_after, turns}, Filling.{AreGoodBlocks, AreWithin, IsPageError, first_tall}};
 
 use crate::filling::{
-    Block, PageError, BlockSpot, Spot, fill, first_tall, group_height, height_number, spot_at,
+    Block, BlockSpot, PageError, Spot, fill, first_tall, group_height, height_number, spot_at,
 };
 use lay_breaks::{BreakError, Costs, least};
 use mus_units::{Memory, Row};

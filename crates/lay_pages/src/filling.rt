@@ -191,7 +191,12 @@ fn first_place(high: u32, behind: Option<PlacedBlock>, blocks: &[Block]) -> Bloc
 }
 
 /// Where blocks stand of which the first has this place, and no group is too tall.
-fn spots_from(alloc: Global, high: u32, first: BlockSpot, blocks: &[Block]) -> Result<Placement, Memory>
+fn spots_from(
+    alloc: Global,
+    high: u32,
+    first: BlockSpot,
+    blocks: &[Block],
+) -> Result<Placement, Memory>
     requires few { first.page + length blocks.now < 2 ^ 32 }
     requires good { AreGoodBlocks blocks.now }
     requires room { first.down + group_height blocks.now ≤ high }

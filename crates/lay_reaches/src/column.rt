@@ -1,7 +1,7 @@
 ghost use Rattle.lay_springs.specs.ReachView.{reach_in};
 
 use crate::stands::Reaches;
-use lay_springs::{Spaced, Spring, ReachView};
+use lay_springs::{ReachView, Spaced, Spring};
 use mus_onsets::ColumnKey;
 
 const MOST_NATURAL: u32 = 4000;

@@ -1,7 +1,7 @@
 ghost use Rattle.std.specs.Prelude.{◌≡◌, ◌<◌, IfOk, IfSome, None, OnOk, Option, Some, length, option_copied, replicate, slice_get, slice_index_or, slice_set};
 ghost use Rattle.{std.proofs.Props.{props}, lay_reaches.specs.Reaches.{standing}, lay_springs.specs.ReachView.{TellsReach, reach_in}};
 
-use lay_springs::{Reach, LaneReach, ReachView, cut_reach};
+use lay_springs::{LaneReach, Reach, ReachView, cut_reach};
 use mus_units::{Memory, Row};
 use std::alloc::Global;
 use std::marker::Model;

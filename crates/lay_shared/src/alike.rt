@@ -3,8 +3,8 @@
 ghost use Rattle.std.specs.{Prelude.◌≡◌, Prelude.All, Prelude.Decides, Prelude.IfOk, Prelude.length, List.AllByRecursion};
 ghost use Rattle.{mus_score.specs.GoodScore.{IsGoodScore, IsGoodVoice}, lay_shared.specs.{Alike.HaveSameChanges, Alike.DoShare, Alike.story_at, Alike.story_of, Plans.IsPlanFor}};
 
-use crate::plan::{Plan, PlannedStaff};
 use crate::changes::{TimedChange, VoiceChanges, story_of};
+use crate::plan::{Plan, PlannedStaff};
 use mus_score::{Changes, Score, Voice};
 use mus_units::{Key, Memory, Sign};
 use std::alloc::Global;

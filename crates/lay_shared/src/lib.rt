@@ -3,13 +3,13 @@
 #![tactic(auto)]
 
 pub mod alike;
+pub mod changes;
 pub mod copies;
 pub mod drawing;
 pub mod plan;
 pub mod reading;
 pub mod signs;
-pub mod changes;
 
 pub use alike::shared;
 pub use drawing::drawn;
-pub use plan::{Plan, PlannedStaff, score_ids, read_plan};
+pub use plan::{Plan, PlannedStaff, read_plan, score_ids};

@@ -184,7 +184,10 @@ fn is_same(bracket: Bracket, other: Bracket) -> bool
 }
 
 /// The staves that signs ask for, or None where the signs don't pair or stand where they can't.
-pub(crate) fn staves_by(alloc: Global, signs: &[PlanSign]) -> Result<Option<Row<PlannedStaff>>, Memory>
+pub(crate) fn staves_by(
+    alloc: Global,
+    signs: &[PlanSign],
+) -> Result<Option<Row<PlannedStaff>>, Memory>
     ensures { IfOk result (λ read. read ≡ run start signs.now) }
 {
     let mut at = PlanReader::new(alloc);

@@ -1,7 +1,7 @@
 ghost use Rattle.std.specs.Prelude.{◌≡◌, ◌+◌, ◌≤◌, ℕ, Option, IfOk, IfErr, length, slice_index_or};
 ghost use Rattle.{lay_breaks.specs.{Answers.IsCause, Breaking.IsChosen, Breaking.sum_from, Breaking.IsPotential, Spans.listed}, lay_spans.specs.Forced.{is_forced}};
 
-use crate::costs::{SpanCosts, FittingSpans};
+use crate::costs::{FittingSpans, SpanCosts};
 use crate::marks::marks_of;
 use lay_breaks::{BreakError, Breaking, least};
 use mus_units::Memory;

@@ -4,19 +4,19 @@
 //! the spans that fit within a width, what each costs, and the costs that a breaking is chosen by.
 #![tactic(auto)]
 
+pub mod borrowed;
 pub mod breaks;
 pub mod costs;
 pub mod forces;
-pub mod borrowed;
 mod maker;
 mod marks;
 pub mod rows;
 pub mod seen;
 pub mod spans;
 
+pub use borrowed::BorrowedColumns;
 pub use breaks::break_of;
 pub use costs::FittingSpans;
 pub use forces::{badness, most_force};
-pub use borrowed::BorrowedColumns;
 pub use seen::BorrowedColumn;
 pub use spans::{columns_in, spans_of};

@@ -2,8 +2,8 @@ ghost use Rattle.std.specs.Prelude.{◌≡◌, ◌+◌, ◌-◌, ◌<◌, ◌≤
 ghost use Rattle.lay_springs.specs.{Fit.most_columns, Place.{reach_at, length_at, HasPlaced}};
 ghost use Rattle.lay_spans.specs.{Columns.measures_from, Columns.AreMeasures, Rows.IsRowFrom, Rows.row_spans, Rows.rows_spans, SpanList.FitsAt, SpanList.FitsAtForce};
 
-use crate::forces::badness;
 use crate::borrowed::BorrowedColumns;
+use crate::forces::badness;
 use crate::seen::BorrowedColumn;
 use lay_breaks::Span;
 use lay_springs::{Progress, Spaced, Spring, fit_within, most_columns};

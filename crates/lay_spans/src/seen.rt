@@ -1,7 +1,7 @@
 ghost use Rattle.std.{specs.Prelude.{◌≡◌, ◌*◌, ◌/◌}, proofs.Props.{props}};
 ghost use Rattle.lay_springs.specs.ReachView.{TellsReach};
 
-use lay_springs::{Spaced, Spring, ReachView};
+use lay_springs::{ReachView, Spaced, Spring};
 
 /// A borrowed column, with the reaches and the spring of the column itself: where it stands and the
 /// natural length of its spring are at hand.

@@ -1,8 +1,8 @@
 ghost use Rattle.std.specs.Prelude.{◌≡◌, ◌+◌, ◌<◌, ◌≤◌, ◌^◌, ℕ, IfOk, length, map, slice_index};
 ghost use Rattle.{lay_breaks.specs.Spans.{AreSpans}, lay_spans.specs.{Columns.AreMeasures, Columns.span_columns, Forced.is_forced, SpanList.IsSpanList}};
 
-use crate::costs::FittingSpans;
 use crate::borrowed::BorrowedColumns;
+use crate::costs::FittingSpans;
 use crate::maker::SpanMaker;
 use crate::marks::marks_of;
 use crate::rows::{MOST_OFTEN, list_rows, measure, see};

@@ -2,7 +2,7 @@ ghost use Rattle.std.specs.Prelude.{◌≡◌, ◌+◌, ◌^◌, ◌<◌, ◌≤
 ghost use Rattle.lay_springs.specs.{Fit.{IsEndOf, Fits, CanStandWithin, LongerFitsLess, Passes, most_columns}, Place.{reach_at, length_at, HasPlaced}};
 
 use crate::guesses::{highest, lowered, too_long};
-use crate::least::{larger, place_to, place_all};
+use crate::least::{larger, place_all, place_to};
 use crate::progress::Progress;
 use crate::traits::{Spaced, Spring};
 

@@ -2,7 +2,7 @@ ghost use Rattle.std.specs.Prelude.{◌≡◌, ◌+◌, ◌*◌, ◌≢◌, ◌�
 ghost use Rattle.lay_springs.specs.{ReachView.{reach_in}, Place.{reach_at, length_at, IsPlace, IsPlacedTo, IsNearLeast, AreFrontiers, HasPlaced, IsPast, IsFirst, IsSomewhere, Advances, IsInside}};
 
 use crate::progress::{Progress, TightSprings};
-use crate::traits::{Reach, Spaced, Spring, LaneReach, ReachView, reach_in};
+use crate::traits::{LaneReach, Reach, ReachView, Spaced, Spring, reach_in};
 use mus_units::{Memory, Row};
 use std::alloc::Global;
 

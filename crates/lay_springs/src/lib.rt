@@ -16,4 +16,4 @@ pub use forces::{fit_within, longer_fits_less, most_columns};
 pub use least::place;
 pub use margin::{Placed, justify};
 pub use progress::Progress;
-pub use traits::{MOST_REACH, Reach, Spaced, Spring, LaneReach, ReachView, cut_reach, reach_in};
+pub use traits::{LaneReach, MOST_REACH, Reach, ReachView, Spaced, Spring, cut_reach, reach_in};

@@ -2,12 +2,12 @@ ghost use Rattle.std.specs.Prelude.{◌≡◌, ◌≤◌, ◌<◌, ◌-◌, All,
 ghost use Rattle.{mus_score.specs.GoodScore.{IsGoodScore}, mus_onsets.specs.Onsets.{timeline_of}, mus_drawn.specs.{Drawn.drawn_voice, Good.AreGoodMeasures}};
 ghost use Rattle.lay_tune.specs.{Measures.{EachFurther, EachMeasure, IsMeasure}, Spans.verses_of};
 
-use lay_reaches::Column;
 use lay_columns::{further_columns, further_of, measure_columns};
+use lay_reaches::Column;
 use lay_spans::BorrowedColumns;
 use mus_drawn::DrawnVoice;
-use mus_score::Score;
 use mus_onsets::Timeline;
+use mus_score::Score;
 use mus_units::{Memory, Row};
 use std::alloc::Global;
 

@@ -4,15 +4,15 @@ ghost use Rattle.{lay_breaks.specs.Spans.{listed}, lay_tune.specs.{Measured.{IsM
 
 use crate::gaps::gaps_between;
 use lay_breaks::Costs;
-use lay_reaches::Column;
 use lay_pages::{Heights, stack};
-use lay_spans::{BorrowedColumns, BorrowedColumn, FittingSpans, columns_in, most_force};
+use lay_reaches::Column;
+use lay_spans::{BorrowedColumn, BorrowedColumns, FittingSpans, columns_in, most_force};
 use lay_springs::{Placed, Progress, fit_within, justify};
 use mus_drawn::DrawnVoice;
 use mus_laid::SystemMarks;
 use mus_marks::tilt_of;
-use mus_score::Score;
 use mus_onsets::{ColumnKey, Timeline};
+use mus_score::Score;
 use mus_units::{Memory, Row};
 use std::alloc::Global;
 

@@ -4,9 +4,8 @@ ghost use Rattle.std.specs.Prelude.{◌≡◌, ◌≤◌, ◌^◌, IfOk, IfSome,
 ghost use Rattle.lay_pages.specs.{Stacking.AreGoodStaves, Filling.AreGoodBlocks};
 
 use case_texts::{
-    count_at, number_at, numbers_of, put_breaking, put_heights, put_no_way, small_at,
+    Report, count_at, number_at, numbers_of, put_breaking, put_heights, put_no_way, small_at,
 };
-use case_texts::Report;
 use lay_breaks::{BreakError, least};
 use lay_pages::{Block, PageCosts, PageError, Spot, fill, fill_even, stack};
 use mus_laid::{StaffMarks, SystemMarks};

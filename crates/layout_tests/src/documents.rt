@@ -4,8 +4,7 @@ ghost use Rattle.std.specs.Prelude.{◌≡◌, []};
 
 use crate::ops::put_mark_line;
 use crate::streams::sink_of;
-use case_texts::{bytes_of, count_at, numbers_of};
-use case_texts::Report;
+use case_texts::{Report, bytes_of, count_at, numbers_of};
 use eng_io::MemSink;
 use mus_units::{Memory, Row, Text};
 use ps_read::{PagesError, read_document};

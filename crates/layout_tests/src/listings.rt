@@ -1,7 +1,6 @@
 //! Listings and their verdicts.
 
-use case_texts::bytes_of;
-use case_texts::Report;
+use case_texts::{Report, bytes_of};
 use lay_cert::{CertError, check_listing, put_verdict};
 use mus_units::Memory;
 

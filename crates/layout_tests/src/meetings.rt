@@ -3,8 +3,7 @@
 ghost use Rattle.std.specs.Prelude.{◌≡◌, ◌∷◌, []};
 ghost use Rattle.layout_tests.specs.Meeting.{one_row, row_small};
 
-use case_texts::Meeting;
-use case_texts::Report;
+use case_texts::{Meeting, Report};
 use eng_jobs::Jobs;
 use lay_rows::{RowMaker, Rows, make_rows};
 use mus_units::{Memory, Row};

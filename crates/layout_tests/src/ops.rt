@@ -1,7 +1,6 @@
 //! The lines of marks on a page, written and read.
 
-use case_texts::{bytes_of, number_at, numbers_of, small_at};
-use case_texts::Report;
+use case_texts::{Report, bytes_of, number_at, numbers_of, small_at};
 use mus_units::{Glyph, Memory, Size, Text, Way};
 use ps_text::{PageMark, read_op, write_op};
 use std::alloc::Global;

@@ -2,8 +2,7 @@
 
 ghost use Rattle.std.specs.Prelude.{◌≤◌, ◌<◌, length};
 
-use case_texts::{count_at, number_at, numbers_of, put_placed};
-use case_texts::{CallCase, Report};
+use case_texts::{CallCase, Report, count_at, number_at, numbers_of, put_placed};
 use lay_reaches::Column;
 use lay_spans::badness;
 use lay_springs::{Progress, Reach, fit_within, justify, place};

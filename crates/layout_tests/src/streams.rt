@@ -1,7 +1,6 @@
 //! Streams in memory and of std, and those that fail.
 
-use case_texts::{count_at, number_at, numbers_of};
-use case_texts::Report;
+use case_texts::{Report, count_at, number_at, numbers_of};
 use eng_io::{
     MemSink, MemSource, ReadError, Sink, Source, StdSink, StdSource, read_all, write_all,
 };

@@ -2,8 +2,7 @@
 
 ghost use Rattle.{std.specs.Prelude.{length, refl}, layout_tests.specs.Table.{capped_cost, is_marked, capped_stop, capped_small}};
 
-use case_texts::{numbers_of, put_breaking, put_no_way};
-use case_texts::Report;
+use case_texts::{Report, numbers_of, put_breaking, put_no_way};
 use lay_breaks::{BreakError, Costs, least};
 use mus_units::{Memory, Row};
 use std::alloc::Global;

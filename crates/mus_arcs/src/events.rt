@@ -56,7 +56,12 @@ fn put_nodes(
 }
 
 #[cycle(walk)]
-fn put_node(alloc: Global, m: &Music, measure: u32, events: &mut Row<ArcEvent>) -> Result<(), Memory>
+fn put_node(
+    alloc: Global,
+    m: &Music,
+    measure: u32,
+    events: &mut Row<ArcEvent>,
+) -> Result<(), Memory>
     ensures { OnOk result (events.new ≡ events.old ++ map (at_measure measure) (events_within m.now)) }
 {
     match m {

@@ -3,9 +3,9 @@ ghost use Rattle.{mus_words.specs.Arcs.{arc_end_event}, mus_bridges.specs.Arcs.{
 
 use mus_arcs::{Arc, Piece, pieces};
 use mus_drawn::{DrawnEvent, DrawnMeasure};
-use mus_time::{SystemFrame, note_key};
 use mus_laid::Bridge;
 use mus_onsets::{Class, ColumnKey};
+use mus_time::{SystemFrame, note_key};
 use mus_units::{Memory, Row};
 use mus_words::{ArcEnd, put_arc};
 

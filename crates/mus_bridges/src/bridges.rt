@@ -4,8 +4,8 @@ ghost use Rattle.{mus_drawn.specs.Good.{AreGoodMeasures}, mus_bridges.specs.Brid
 use crate::arcs::put_arcs_between;
 use crate::beams::{put_beams_between, put_grace_beams_between};
 use mus_drawn::DrawnVoice;
-use mus_time::SystemFrame;
 use mus_laid::Bridge;
+use mus_time::SystemFrame;
 use mus_units::{Memory, Row};
 
 /// Draws what a voice has between the columns of a system: the beams of its notes, those of its graces,

@@ -4,9 +4,9 @@ ghost use Rattle.mus_bridges.specs.{Beams.{stem_of, way_of, goes_on_at_level, la
 use mus_drawn::DrawnEvent;
 use mus_ink::drawing::put_beam;
 use mus_ink::stems::lower_edge;
-use mus_time::note_key;
 use mus_laid::Bridge;
 use mus_onsets::{ColumnKey, is_same};
+use mus_time::note_key;
 use mus_units::{Memory, Row, Way};
 
 /// What beams need of an event: the key of its column, the way of its stem and the dy of its end,

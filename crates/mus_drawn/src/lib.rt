@@ -8,6 +8,6 @@ pub mod sounds;
 pub mod standing;
 
 pub use drawing::{draw_voice, raise_of};
-pub use drawn::{DrawnEvent, DrawnMeasure, DrawnVoice, SystemOpening, Style};
+pub use drawn::{DrawnEvent, DrawnMeasure, DrawnVoice, Style, SystemOpening};
 pub use sounds::{Sound, sounding};
 pub use standing::StaffState;

@@ -68,7 +68,13 @@ fn partner(before: &[AlteredHead], so_far: &[AlteredHead], pitch: Pitch) -> Opti
     }
 }
 
-fn alter_of(head: Head, partner: Option<AlteredHead>, said: &[Head], spread: Spread, key: &Key) -> Alter
+fn alter_of(
+    head: Head,
+    partner: Option<AlteredHead>,
+    said: &[Head],
+    spread: Spread,
+    key: &Key,
+) -> Alter
     ensures { result ≡ heard_alter head.sign partner head.pitch said.now spread key.now.signs }
 {
     match (head.sign, partner) {
@@ -137,7 +143,12 @@ fn say_graces(said: &mut Row<Head>, graces: &[Event]) -> Result<(), Memory>
 }
 
 /// Lists the heads of an event.
-fn put_sounds(out: &mut Row<Sound>, voice: u32, event: u32, heads: &[AlteredHead]) -> Result<(), Memory>
+fn put_sounds(
+    out: &mut Row<Sound>,
+    voice: u32,
+    event: u32,
+    heads: &[AlteredHead],
+) -> Result<(), Memory>
     requires { length heads.now ≤ 50000 }
     ensures { OnOk result (out.new ≡ out.old ++ sounds_from voice event 0 heads.now) }
 {

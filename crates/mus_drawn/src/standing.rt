@@ -60,7 +60,11 @@ fn opening(now: StaffState, anew: bool) -> SystemOpening
 }
 
 /// What the head of a system shows that begins with these events.
-pub fn opening_of(alloc: Global, before: &StaffState, flats: &[Flat<'_>]) -> Result<SystemOpening, Memory>
+pub fn opening_of(
+    alloc: Global,
+    before: &StaffState,
+    flats: &[Flat<'_>],
+) -> Result<SystemOpening, Memory>
     ensures { IfOk result (λ o. o ≡ opening_of before.now flats.now) }
 {
     let mut now = StaffState {

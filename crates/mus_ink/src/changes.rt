@@ -111,7 +111,12 @@ fn count_if(old: &[Sign], key: &Option<Key>) -> usize
 /// in the clef in force there, `clef`, and then the meter. Where the new key has no entries, each of
 /// the old key, `old`, gives a natural.
 #[tactic(auto, using(crate::proofs::Keys::few_signs), unfolding(crate::specs::Changes::change_marks))]
-pub fn put_change(pen: &mut MarkPen, clef: Clef, old: &[Sign], changes: &Changes) -> Result<(), Memory>
+pub fn put_change(
+    pen: &mut MarkPen,
+    clef: Clef,
+    old: &[Sign],
+    changes: &Changes,
+) -> Result<(), Memory>
     requires old { AreGoodSigns old.now }
     requires key { IfSome changes.now.key IsGoodKey }
     ensures { OnOk result (pen.new ≡ inked pen.old (change_marks clef old.now changes.now)) }

@@ -2,7 +2,7 @@ ghost use Rattle.std.specs.Prelude.{◌≡◌, ◌++◌, ◌∷◌, [], OnOk};
 ghost use Rattle.{mus_ink.specs.Drawing.{cut_dy, steps_dy, glyph, loose_glyph, big_text, stem, beam}, mus_laid.specs.Ranked.{inked}};
 
 use crate::distances::{FURTHEST, STEP};
-use mus_laid::{Bridge, LaneInk, Ink, Lane, MarkPen, BridgeShape};
+use mus_laid::{Bridge, BridgeShape, Ink, Lane, LaneInk, MarkPen};
 use mus_onsets::ColumnKey;
 use mus_units::{Glyph, Memory, Row, Size, Text, Way};
 

@@ -7,9 +7,9 @@ use crate::distances::{BEAM_THICKNESS, GRACE_SIGN_SIDE, GRACE_STEM_LENGTH, GRACE
 use crate::drawing::{cut_dy, put_beam, put_glyph, put_stem};
 use crate::notes::{head_dy, highest_dy, lowest_dy, put_ledgers, put_signs};
 use mus_laid::{Bridge, MarkPen};
+use mus_onsets::ColumnKey;
 use mus_score::Event;
 use mus_stems::{HeadPosition, highest_head, ledgers_for, lowest_head, signs_for, stands};
-use mus_onsets::ColumnKey;
 use mus_units::{Clef, Glyph, Head, Memory, Row, Way};
 
 /// What the graces before an event share: the dy at which their stems end, whether there is just
@@ -156,7 +156,12 @@ pub fn put_grace(
 {
     let heads = grace.heads.as_slice();
     put_grace_body(pen, clef, heads)?;
-    put_stem(pen, GRACE_STEM_SIDE, grace_stem_from(clef, heads), group.end)?;
+    put_stem(
+        pen,
+        GRACE_STEM_SIDE,
+        grace_stem_from(clef, heads),
+        group.end,
+    )?;
     put_ends(pen, group, first)
 }
 

@@ -13,7 +13,7 @@ pub mod ranking;
 
 pub use boxes::{HeightRange, Sides, heights_of, sides_of, staff_heights};
 pub use columns::{anchor_rank, by_columns};
-pub use drawn::{Bridge, LaneInk, Ink, BridgeShape};
+pub use drawn::{Bridge, BridgeShape, Ink, LaneInk};
 pub use laid::{Laid, Lane, Mark, StaffMarks, SystemMarks};
 pub use mus_units::{Glyph, Size, Way};
 pub use pen::MarkPen;

@@ -1,7 +1,7 @@
 ghost use Rattle.std.specs.Prelude.{◌≡◌, ◌∷◌, [], OnOk};
 ghost use Rattle.{mus_onsets.specs.{Order.key_rank, Ranks.AreRanked}, mus_laid.specs.Ranked.{ink_at, inked}};
 
-use crate::drawn::{LaneInk, Ink};
+use crate::drawn::{Ink, LaneInk};
 use crate::laid::{Laid, Mark};
 use crate::ranking::found_at;
 use mus_onsets::{ColumnKey, rank_of};

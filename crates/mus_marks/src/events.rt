@@ -6,11 +6,11 @@ ghost use Rattle.mus_marks.specs.{Events.{note_rank, changes_nothing, change_par
 use crate::silence::is_silent;
 use mus_drawn::{DrawnEvent, raise_of};
 use mus_ink::{Group, group_of, put_change, put_grace, put_note};
-use mus_time::note_key;
 use mus_laid::MarkPen;
+use mus_onsets::{Class, ColumnKey};
 use mus_score::{Changes, Event, Flat};
 use mus_stems::StemPlan;
-use mus_onsets::{Class, ColumnKey};
+use mus_time::note_key;
 use mus_units::{Clef, Memory, Row};
 use mus_words::{TextPlace, put_syllables, put_texts};
 

@@ -11,10 +11,10 @@ pub mod staves;
 pub mod systems;
 pub mod tilting;
 
-pub use events::{WordRoom, StaffRoom, TextCounts, changes_nothing};
+pub use events::{StaffRoom, TextCounts, WordRoom, changes_nothing};
 pub use measures::{put_columns_part, put_measures};
 pub use mus_drawn::{Sound, sounding};
-pub use mus_laid::{Lane, Laid, Mark, Size, StaffMarks, SystemMarks, Way};
+pub use mus_laid::{Laid, Lane, Mark, Size, StaffMarks, SystemMarks, Way};
 pub use mus_time::draw_voices;
 pub use staves::{lower_count, verses_on};
 pub use systems::{marks, marks_of};

@@ -6,8 +6,8 @@ use crate::events::{WordRoom, put_events};
 use mus_drawn::{DrawnMeasure, SystemOpening};
 use mus_ink::{put_bar, put_head};
 use mus_laid::MarkPen;
-use mus_score::Seat;
 use mus_onsets::{Class, ColumnKey};
+use mus_score::Seat;
 use mus_units::{Bar, Memory, Meter};
 
 /// How many marks most events and bars have at most; room for so many is made at once.

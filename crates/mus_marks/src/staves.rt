@@ -3,14 +3,14 @@ ghost use Rattle.{mus_score.specs.Seats.{grouped}, mus_drawn.specs.Good.{AreGood
 ghost use Rattle.mus_marks.specs.{Places.HasVerses, Places.word_room_after, Silent.FitsRoom, Silent.is_silent_staff, Staff.CoversLines, Staff.own_part, Staff.room_over, Staff.staff_marks, Staff.staff_over, Staff.verses_on, Staff.written_parts, System.is_drawn_lower};
 
 use crate::counting::texts_behind;
-use crate::events::{WordRoom, StaffRoom};
+use crate::events::{StaffRoom, WordRoom};
 use crate::measures::put_columns_part;
 use crate::silence::are_silent;
 use mus_bridges::put_bridges_of;
 use mus_drawn::DrawnVoice;
 use mus_ink::drawing::cut_dy;
-use mus_time::SystemFrame;
 use mus_laid::{Bridge, Laid, MarkPen, StaffMarks, by_columns, put_bridges, staff_heights};
+use mus_time::SystemFrame;
 use mus_units::{Memory, Row};
 use std::alloc::Global;
 
@@ -53,7 +53,11 @@ fn bridges_on(
 }
 
 /// Lays all that voices have in columns but syllables and texts.
-fn put_bare_parts(pen: &mut MarkPen, frame: &SystemFrame<'_>, voices: &[DrawnVoice<'_>]) -> Result<(), Memory>
+fn put_bare_parts(
+    pen: &mut MarkPen,
+    frame: &SystemFrame<'_>,
+    voices: &[DrawnVoice<'_>],
+) -> Result<(), Memory>
     requires each { All (λ v. length v.measures ≡ length frame.now.lengths.now) voices.now }
     requires good { All (λ v. AreGoodMeasures v.measures) voices.now }
     ensures { OnOk result (pen.new.marks ≡ pen.old.marks ++ flat_map (own_part frame.now.keys.now frame.now.lengths.now None frame.now.a frame.now.b) voices.now) }

@@ -4,10 +4,10 @@ ghost use Rattle.{mus_laid.specs.Boxes.{AreGoodMarks}, mus_marks.specs.{Staff.Co
 
 use crate::staves::staves;
 use mus_drawn::DrawnVoice;
-use mus_time::{SystemFrame, draw_voices, system_keys};
 use mus_laid::SystemMarks;
-use mus_score::Score;
 use mus_onsets::Timeline;
+use mus_score::Score;
+use mus_time::{SystemFrame, draw_voices, system_keys};
 use mus_units::{Memory, Row};
 use std::alloc::Global;
 

@@ -5,11 +5,11 @@ ghost use Rattle.mus_marks.specs.{Staff.{CoversLines, verses_on}, System.{IsCall
 
 use crate::staves::staves;
 use mus_drawn::{DrawnEvent, DrawnMeasure, DrawnVoice};
-use mus_time::{SystemFrame, draw_voices, note_key, system_keys};
 use mus_laid::{StaffMarks, SystemMarks};
+use mus_onsets::{ColumnKey, Timeline, next_rank};
 use mus_score::Score;
 use mus_stems::{SlopeInput, ends_for};
-use mus_onsets::{ColumnKey, Timeline, next_rank};
+use mus_time::{SystemFrame, draw_voices, note_key, system_keys};
 use mus_units::{Memory, Row};
 use std::alloc::Global;
 use std::mem;

@@ -12,9 +12,11 @@ pub mod score;
 pub mod times;
 
 pub use copies::copy_event;
-pub use good::{NodeVerdict, NodeContext, is_good_body, weights_within};
+pub use good::{NodeContext, NodeVerdict, is_good_body, weights_within};
 pub use leaves::events;
 pub use mus_units::{Bar, Deco, Head, Key, Meter, Sign, Spread, Wish};
 pub use plain::is_plain;
-pub use score::{Changes, Event, Flat, BorrowedEvent, Look, Measure, Mention, Music, Score, Seat, Voice};
+pub use score::{
+    BorrowedEvent, Changes, Event, Flat, Look, Measure, Mention, Music, Score, Seat, Voice,
+};
 pub use times::{body_duration, duration, flatten};

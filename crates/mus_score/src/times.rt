@@ -2,7 +2,7 @@ ghost use Rattle.std.specs.Prelude.{◌≡◌, ◌∷◌, [], ◌≤◌, ◌<◌
 ghost use Rattle.mus_score.specs.{declared.score.Flat.Flat, Good.{IsGoodBody, IsGoodNode, IsGoodFlat, flat_count, flat_weight, longest_ticks, total_ticks, weight}, Even.AreEvenEvents, Times.{scaled_ticks, duration_of, duration_within, durations_within, products_fit, all_products_fit, is_scalable, leaf, leaves_within, in_row, flats_of, no_pending_leaf, Walked}};
 
 use crate::copies::copy_event;
-use crate::score::{Event, Flat, BorrowedEvent, Music};
+use crate::score::{BorrowedEvent, Event, Flat, Music};
 use mus_units::{Memory, Row};
 use std::alloc::Global;
 use std::mem;

@@ -106,7 +106,12 @@ fn put_plans(
 
 /// The plans of a run.
 #[tactic(auto, unfolding(crate::specs::Plans::run_plans))]
-fn put_run(alloc: Global, out: &mut Row<StemPlan>, wish: Wish, run: &[StemInput]) -> Result<(), Memory>
+fn put_run(
+    alloc: Global,
+    out: &mut Row<StemPlan>,
+    wish: Wish,
+    run: &[StemInput],
+) -> Result<(), Memory>
     requires { AllGood run.now }
     ensures { OnOk result (out.new ≡ out.old ++ run_plans wish run.now) }
 {

@@ -87,7 +87,11 @@ fn sign_alone(first: i32, stand: HeadPosition) -> Option<i32>
 /// The dx of the sign of each head, in the order of the text.
 #[tactic(auto, unfolding(crate::specs::Signs::signs_from), using(crate::proofs::AloneLaws::none_signed))]
 #[inline(always)]
-pub fn signs_for(alloc: Global, first: i32, stands: &[HeadPosition]) -> Result<Few<Option<i32>>, Memory>
+pub fn signs_for(
+    alloc: Global,
+    first: i32,
+    stands: &[HeadPosition],
+) -> Result<Few<Option<i32>>, Memory>
     requires near { AllNear stands.now }
     requires few { length stands.now ≤ 50000 }
     requires low { negsuc 1310 ≤ℤ first }

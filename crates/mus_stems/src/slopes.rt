@@ -171,7 +171,12 @@ fn put_end(out: &mut Row<i32>, line: &BeamLine, base: i32, a: &SlopeInput) -> Re
 }
 
 /// The ends of events over a line.
-fn put_ends(out: &mut Row<i32>, line: &BeamLine, base: i32, beam: &[SlopeInput]) -> Result<(), Memory>
+fn put_ends(
+    out: &mut Row<i32>,
+    line: &BeamLine,
+    base: i32,
+    beam: &[SlopeInput],
+) -> Result<(), Memory>
     requires line { IsLine line.now }
     requires base { IsBeamBase base }
     requires beam { AreOver line.now beam.now }

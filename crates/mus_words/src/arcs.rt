@@ -8,8 +8,8 @@ use mus_ink::drawing::cut_dy;
 use mus_ink::notes::head_dy;
 use mus_ink::top_of;
 use mus_laid::{Bridge, BridgeShape};
-use mus_stems::StemPlan;
 use mus_onsets::ColumnKey;
+use mus_stems::StemPlan;
 use mus_units::{Clef, Head, Memory, Pitch, Row};
 
 /// What is known of the event at an end of an arc: its clef, its heads, its stem and the dy at which

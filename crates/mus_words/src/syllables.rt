@@ -36,7 +36,12 @@ fn put_syllable(pen: &mut MarkPen, low: i32, verse: u8, text: Text) -> Result<()
     put_words(pen, Lane::Verse(verse), dx, verse_dy(low, verse), text)
 }
 
-fn put_syllable_if(pen: &mut MarkPen, low: i32, verse: u8, word: &Option<Text>) -> Result<(), Memory>
+fn put_syllable_if(
+    pen: &mut MarkPen,
+    low: i32,
+    verse: u8,
+    word: &Option<Text>,
+) -> Result<(), Memory>
     ensures { OnOk result (pen.new ≡ inked pen.old (syllable_if low verse word.now)) }
 {
     match word {

@@ -1,7 +1,7 @@
 ghost use Rattle.std.specs.Prelude.{◌≡◌, ◌++◌, ◌∷◌, [], OnOk};
 ghost use Rattle.{mus_words.specs.Words.{words, if_any, shown_text}, mus_laid.specs.Ranked.{inked}};
 
-use mus_laid::{LaneInk, Ink, Lane, MarkPen, printed};
+use mus_laid::{Ink, Lane, LaneInk, MarkPen, printed};
 use mus_units::{Memory, Row, Size, Text};
 use std::alloc::Global;
 

@@ -3,7 +3,7 @@
 ghost use Rattle.std.specs.Prelude.{◌≡◌, ◌++◌, OnOk};
 ghost use Rattle.ps_heard.specs.Ear.{hear_one, hear_from, column_opened, column_closed, hear_column, hear_columns, fresh};
 
-use crate::column::{HeardColumn, Listener, Heard, HeardGlyph, Role};
+use crate::column::{Heard, HeardColumn, HeardGlyph, Listener, Role};
 use crate::heads::{head_of_glyph, heard_of_glyph};
 use crate::keys::{clef_behind, entries, gives_key};
 use mus_units::{Clef, Key, Memory, Row, Spread};
@@ -37,7 +37,12 @@ fn hear_one(
     }
 }
 
-fn hear_all(alloc: Global, spread: Spread, col: &HeardColumn, ear: &mut Listener) -> Result<(), Memory>
+fn hear_all(
+    alloc: Global,
+    spread: Spread,
+    col: &HeardColumn,
+    ear: &mut Listener,
+) -> Result<(), Memory>
     ensures { OnOk result (ear.new ≡ hear_from spread col.now ear.old col.now.notes) }
 {
     for note in col.notes.as_slice() {
@@ -83,7 +88,12 @@ fn close_column(alloc: Global, ear: &mut Listener) -> Result<(), Memory>
 
 /// Hears a column of a staff.
 #[tactic(auto, unfolding(crate::specs::Ear::hear_column))]
-fn hear_column(alloc: Global, spread: Spread, ear: &mut Listener, col: &HeardColumn) -> Result<(), Memory>
+fn hear_column(
+    alloc: Global,
+    spread: Spread,
+    ear: &mut Listener,
+    col: &HeardColumn,
+) -> Result<(), Memory>
     ensures { OnOk result (ear.new ≡ hear_column spread ear.old col.now) }
 {
     open_column(alloc, ear, col)?;

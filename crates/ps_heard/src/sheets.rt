@@ -4,7 +4,7 @@ ghost use Rattle.std.specs.Prelude.{◌≡◌, IfOk, OnOk, flat_map};
 ghost use Rattle.ps_heard.specs.{Ear.hear_columns, Tunes.heard_staff_columns, Tunes.staff_heard, Tunes.staves_heard, Tunes.heard_in};
 
 use crate::anchors::places_of;
-use crate::column::{Listener, Heard};
+use crate::column::{Heard, Listener};
 use crate::columns::fill;
 use crate::ear::{fresh, hear_columns};
 use crate::tunes::{BorrowedStaves, most_staves, tunes_of};

@@ -100,7 +100,12 @@ fn put_tune_line(out: &mut Text, ordinal: u32) -> Result<(), Memory>
 }
 
 /// Adds the lines of a tune.
-fn put_tune(alloc: Global, out: &mut Text, spread: Spread, tune: &SheetTune<'_>) -> Result<(), Memory>
+fn put_tune(
+    alloc: Global,
+    out: &mut Text,
+    spread: Spread,
+    tune: &SheetTune<'_>,
+) -> Result<(), Memory>
     ensures { OnOk result (out.new ≡ out.old ++ heard_tune_text spread tune.now) }
 {
     put_tune_line(out, tune.ordinal)?;

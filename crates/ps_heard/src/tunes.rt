@@ -65,7 +65,10 @@ fn items_of<'a>(alloc: Global, s: &'a Sheet) -> Result<Row<BorrowedItem<'a>>, Me
 }
 
 /// The systems before the next tune.
-fn systems_till<'a>(alloc: Global, items: &[BorrowedItem<'a>]) -> Result<Row<BorrowedStaves<'a>>, Memory>
+fn systems_till<'a>(
+    alloc: Global,
+    items: &[BorrowedItem<'a>],
+) -> Result<Row<BorrowedStaves<'a>>, Memory>
     ensures { IfOk result (λ r. r ≡ systems_till items.now) }
 {
     let mut out = Row::new(alloc);

@@ -7,7 +7,7 @@ ghost use Rattle.ps_machine.specs.{Doing.state_of, Doing.DidOrStopped, Doing.IsE
 use crate::calls::Calls;
 use crate::operators::operate;
 use crate::state::{Machine, Stop};
-use ps_steps::{Cause, Procedure, SimpleToken, Operand, StringBytes};
+use ps_steps::{Cause, Operand, Procedure, SimpleToken, StringBytes};
 use std::alloc::Global;
 
 fn push<'a>(m: &mut Machine<'a>, v: Operand<'a>) -> Result<(), Stop>

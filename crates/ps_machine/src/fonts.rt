@@ -6,7 +6,7 @@ ghost use Rattle.{ps_steps.specs.Operators.{operated, def_op, scale_op, setlinew
 use crate::operands::{font_and_number, product};
 use crate::state::{Machine, Stop};
 use mus_units::Row;
-use ps_steps::{Cause, PagePaint, Operand};
+use ps_steps::{Cause, Operand, PagePaint};
 use std::alloc::Global;
 
 pub fn setlinewidth(m: &mut Machine) -> Result<(), Stop>

@@ -11,7 +11,7 @@ use crate::laws::one_answer;
 use crate::state::{Machine, Stop};
 use mus_units::{Memory, Row};
 use ps_paint::paints_sheets;
-use ps_steps::{Cause, MachineError, PagePaint, MachineToken};
+use ps_steps::{Cause, MachineError, MachineToken, PagePaint};
 use ps_tokens::read_program;
 use std::alloc::Global;
 
@@ -43,7 +43,10 @@ fn first_of<'a>(tokens: &'a [MachineToken]) -> FetchedToken<'a>
         None => FetchedToken::End,
         Some((t, after)) => match t {
             MachineToken::Simple(t) => FetchedToken::Token(Ready::Simple(t), after),
-            MachineToken::Procedure(body) => FetchedToken::Token(Ready::Procedure(body.as_slice()), after),
+            MachineToken::Procedure(body) => FetchedToken::Token(
+                Ready::Procedure(body.as_slice()),
+                after,
+            ),
         },
     }
 }

@@ -6,7 +6,7 @@ ghost use Rattle.{ps_steps.specs.{Points.current, Operators.operated, Operators.
 use crate::operands::product;
 use crate::state::{Machine, Stop};
 use mus_units::Text;
-use ps_steps::{Cause, Paint, Operand};
+use ps_steps::{Cause, Operand, Paint};
 use std::alloc::Global;
 
 fn shown(alloc: Global, m: &mut Machine, words: &[u8]) -> Result<(), Stop>

@@ -6,7 +6,7 @@ ghost use Rattle.ps_machine.specs.declared.state.Stop.TheVariants as stops;
 use crate::canvas::Canvas;
 use crate::definitions::Definitions;
 use mus_units::{Memory, Row};
-use ps_steps::{Cause, PagePaint, Paint, Operand};
+use ps_steps::{Cause, Operand, PagePaint, Paint};
 use std::alloc::{AllocError, AllocFailed};
 
 /// The machine: its stack with the top last, its definitions, whether the font was made, the graphics

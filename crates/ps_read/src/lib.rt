@@ -7,9 +7,9 @@
 
 mod lines;
 mod pages;
-mod state;
 mod prolog;
 mod reading;
+mod state;
 mod systems;
 
 pub use ps_heard::{Heard, hear, put_heads, put_heard};

@@ -102,7 +102,12 @@ fn last_lines(alloc: Global) -> Result<Text, Memory>
     Ok(rest)
 }
 
-fn page_start(alloc: Global, wide: u32, high: u32, raw: &[u8]) -> Result<Option<ReaderState>, Memory>
+fn page_start(
+    alloc: Global,
+    wide: u32,
+    high: u32,
+    raw: &[u8],
+) -> Result<Option<ReaderState>, Memory>
     ensures { IfOk result (IsStep (at.Boxed wide high []) raw.now) }
 {
     let Some((left, bottom, scale)) = scan_page_line(raw) else {

@@ -7,8 +7,8 @@ ghost use Rattle.ps_text.specs.declared.sheet.Sheet.{Sheet};
 use crate::pages::{
     after_count, after_heading, after_item, after_items, after_page, after_trailer,
 };
-use crate::state::ReaderState;
 use crate::prolog::{after_box, after_frame, after_nothing, after_title};
+use crate::state::ReaderState;
 use crate::systems::{after_mark, after_staff, after_system};
 use eng_lines::cut_at;
 use mus_units::Memory;

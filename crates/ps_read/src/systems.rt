@@ -5,7 +5,9 @@ ghost use Rattle.ps_read.specs.declared.state.ReaderState.TheVariants as at;
 
 use crate::lines::{Rules, is_staff_line, read_join, read_rules};
 use crate::pages::item_line;
-use crate::state::{Joined, OpenSystem, ReaderState, system_ended, staff_with_mark, system_with_staff};
+use crate::state::{
+    Joined, OpenSystem, ReaderState, staff_with_mark, system_ended, system_with_staff,
+};
 use mus_units::{Memory, Row};
 use ps_text::{PageMark, Staff, read_op};
 use std::alloc::Global;
@@ -18,7 +20,11 @@ fn read_mark(alloc: Global, raw: &[u8], staff: &Staff) -> Result<Option<PageMark
 }
 
 /// Joins the staves of a system that isn't joined yet.
-fn join_next(alloc: Global, mut system: OpenSystem, raw: &[u8]) -> Result<Option<ReaderState>, Memory>
+fn join_next(
+    alloc: Global,
+    mut system: OpenSystem,
+    raw: &[u8],
+) -> Result<Option<ReaderState>, Memory>
     ensures { IfOk result (IsStepOf IsJoinLine (at.System system) raw.now) }
 {
     if system.join.is_some() {
@@ -33,7 +39,11 @@ fn join_next(alloc: Global, mut system: OpenSystem, raw: &[u8]) -> Result<Option
     }
 }
 
-pub fn after_system(alloc: Global, system: OpenSystem, raw: &[u8]) -> Result<Option<ReaderState>, Memory>
+pub fn after_system(
+    alloc: Global,
+    system: OpenSystem,
+    raw: &[u8],
+) -> Result<Option<ReaderState>, Memory>
     ensures { IfOk result (IsStep (at.System system) raw.now) }
 {
     if is_staff_line(alloc, raw, 0)? {
@@ -70,7 +80,11 @@ fn read_staff(alloc: Global, system: &OpenSystem, raw: &[u8]) -> Result<Option<S
     }))
 }
 
-pub fn after_staff(alloc: Global, system: OpenSystem, raw: &[u8]) -> Result<Option<ReaderState>, Memory>
+pub fn after_staff(
+    alloc: Global,
+    system: OpenSystem,
+    raw: &[u8],
+) -> Result<Option<ReaderState>, Memory>
     ensures { IfOk result (IsStep (at.Staff system) raw.now) }
 {
     match read_staff(alloc, &system, raw)? {

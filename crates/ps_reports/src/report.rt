@@ -2,10 +2,10 @@ ghost use Rattle.std.specs.Prelude.{◌≡◌, ◌++◌, decimal, OnOk, IfOk};
 ghost use Rattle.ps_text.specs.Document.{numbered};
 ghost use Rattle.ps_reports.specs.SheetText.{plain_line, named_line, report_words_line, mark_report, marks_report, staff_report, system_report, item_report, items_report, page_report, frame_report, sheet_report};
 
+use crate::put_spaced;
 use eng_lines::put_number;
 use glyph_paths::name_of;
 use mus_units::{Memory, Size, Text};
-use crate::put_spaced;
 use ps_text::fields::put_quoted;
 use ps_text::names::{size_name_of, way_name_of};
 use ps_text::{Frame, Item, Page, PageMark, Sheet, Staff};

@@ -12,5 +12,5 @@ pub mod value;
 pub use graphics::Graphics;
 pub use halt::{Cause, MachineError};
 pub use paint::{PagePaint, Paint, Seg};
-pub use token::{Hundredths, Number, SimpleToken, MachineToken};
-pub use value::{Procedure, Operand, StringBytes};
+pub use token::{Hundredths, MachineToken, Number, SimpleToken};
+pub use value::{Operand, Procedure, StringBytes};

@@ -6,7 +6,7 @@ ghost use Rattle.{ps_steps.specs.Tokens.{begins, is_skipped}, ps_tokens.specs.Re
 use crate::front::{TokenStart, front};
 use crate::scan::skip;
 use mus_units::{Memory, Row};
-use ps_steps::{Cause, SimpleToken, MachineToken};
+use ps_steps::{Cause, MachineToken, SimpleToken};
 use std::alloc::Global;
 
 /// The tokens of a procedure and what stands behind its end, or why it is none.

@@ -137,7 +137,10 @@ pub fn string(alloc: Global, bytes: &[u8]) -> Result<TokenStart<'_>, Memory>
                 words.push(b)?;
                 rest = after;
             }
-            Spelling::Close(after) => return Ok(TokenStart::Found(SimpleToken::Words(words), after)),
+            Spelling::Close(after) => return Ok(TokenStart::Found(
+                SimpleToken::Words(words),
+                after,
+            )),
             Spelling::Cut => return Ok(TokenStart::Unread(Cause::Unclosed)),
             Spelling::Broken => return Ok(TokenStart::Unread(Cause::BadToken)),
         }

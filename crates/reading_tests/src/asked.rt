@@ -11,7 +11,11 @@ use mus_transpose::moved_or_same;
 use mus_units::Memory;
 
 /// Adds the value of a call on tunes, words and arcs.
-pub(crate) fn put_asked_for(out: &mut Report, case: CallCase<'_>, input: &[u8]) -> Result<(), Memory> {
+pub(crate) fn put_asked_for(
+    out: &mut Report,
+    case: CallCase<'_>,
+    input: &[u8],
+) -> Result<(), Memory> {
     match case.call {
         "pieces" => put_piece(out, case.word, case.input),
         "syllables" => put_syllables(out, input),

@@ -3,8 +3,8 @@ ghost use Rattle.{abc_lines.specs.Good.{IsGoodLine}, abc_music.specs.Tokens.{IsW
 use crate::books::line_of;
 use crate::tokens::put_tokens;
 use abc_lines::{Fault, Line, TuneError};
+use abc_music::{LineRest, Placed, Token, TokenCursor, read_music, read_part, read_prefix, start};
 use abc_tokens::spell;
-use abc_music::{LineRest, TokenCursor, Placed, Token, read_prefix, read_music, read_part, start};
 use case_texts::{Report, number_of, put_fault};
 use mus_units::{Memory, Row, Text};
 use std::alloc::Global;

@@ -5,7 +5,7 @@ use abc_field::directive::read_spread;
 use abc_field::key::read_key;
 use abc_music::{Head, Placed, Token, read_prefix};
 use case_texts::{Report, alter_name, alter_named, clef_named, letter_named, put_signs};
-use mus_pitch::{Mode, in_force, key_of, with_signs, signature};
+use mus_pitch::{Mode, in_force, key_of, signature, with_signs};
 use mus_units::{Key, Memory, Row, Sign, Spread, height};
 use std::alloc::Global;
 

@@ -1,11 +1,11 @@
 ghost use Rattle.{std.specs.Prelude.{All}, mus_score.specs.{Good.IsGoodBody, GoodScore.IsGoodScore}};
 
 use case_texts::{Report, number_of, put_head, put_key};
-use mus_time::keys_of;
+use mus_onsets::{ColumnKey, Timeline, onsets};
 use mus_score::{
     Event, Flat, Measure, Music, Score, body_duration, duration, events, is_good_body,
 };
-use mus_onsets::{ColumnKey, Timeline, onsets};
+use mus_time::keys_of;
 use mus_units::Memory;
 
 /// Adds a line for each event of a score, voice by voice: its id, its duration, the tuplets that

@@ -11,7 +11,7 @@ use crate::drawing::{block_count, put_outcome};
 use crate::plan::PagePlan;
 use abc_fields::{Paper, body_of};
 use eng_jobs::{Jobs, Work, work_all};
-use lay_pages::{Block, Placement, Spot, PlacedBlock, fill_after};
+use lay_pages::{Block, PlacedBlock, Placement, Spot, fill_after};
 use mus_units::{Memory, Row, Text};
 use set_book::Outcome;
 use std::alloc::Global;

@@ -4,8 +4,7 @@ ghost use Rattle.{abc_lines.specs.Good.{IsGoodBook}, set_lists.specs.Listing.{Ar
 
 use abc_fields::{body_of, read_paper};
 use abc_lines::{Book, cut_book};
-use case_texts::{count_at, numbers_of, put_breaking, put_placed, put_spans};
-use case_texts::Report;
+use case_texts::{Report, count_at, numbers_of, put_breaking, put_placed, put_spans};
 use eng_jobs::Jobs;
 use lay_pages::TitleBlock;
 use mus_units::{Memory, Size};

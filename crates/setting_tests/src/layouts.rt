@@ -3,8 +3,7 @@
 ghost use Rattle.mus_score.specs.GoodScore.{IsGoodScore};
 
 use crate::marks::put_system;
-use case_texts::{put_breaking, put_heights, put_no_way, put_placed, put_spans};
-use case_texts::Report;
+use case_texts::{Report, put_breaking, put_heights, put_no_way, put_placed, put_spans};
 use eng_jobs::Jobs;
 use lay_tune::{Layout, LayoutError, lay_out};
 use mus_score::Score;

@@ -7,9 +7,9 @@ use crate::marks::put_system;
 use crate::plans::{can_all_stand, put_plans};
 use case_texts::Report;
 use mus_marks::{marks, tilt};
+use mus_onsets::onsets;
 use mus_score::{Measure, Score, Voice, flatten};
 use mus_stems::{StemPlan, slope, stems};
-use mus_onsets::onsets;
 use mus_units::Memory;
 
 /// Whether each number can be an abscissa.
