@@ -1,6 +1,16 @@
 -- Rows of bars.
-use Rattle.std.{proofs.{Common.{◌≡◌, refl, sym, ap, ◌∙◌, ℕ, ◌+◌, ◌<◌, List, [], ◌∷◌, ◌++◌, Bool, false, Option, None, reverse, slice_index_or, arith}, Math.Bool.or_comm, lemmas.List.{reverse-append, Folds.list_any-append, FromFn.map-range_with_len_more}}, specs.{Prelude.{map, ◌||◌}, List.{list_any, range_with_len}}}
-use Rattle.{mus_units.specs.declared.note.Bar.{Bar}, abc_steps.specs.{Looks.Steps, Counts.measures_begun}, abc_events.specs.Bars.{bars_at, bar_of, joined_or, missing_bar}}
+use Rattle.std.proofs.Common.{◌≡◌, refl, sym, ap, ◌∙◌, ℕ, ◌+◌, ◌<◌, List, [], ◌∷◌, ◌++◌, Bool, false, Option, None}
+use Rattle.std.proofs.Common.{reverse, slice_index_or, arith}
+use Rattle.std.proofs.Math.Bool.{or_comm}
+use Rattle.std.proofs.lemmas.List.{reverse-append}
+use Rattle.std.proofs.lemmas.List.Folds.{list_any-append}
+use Rattle.std.proofs.lemmas.List.FromFn.{map-range_with_len_more}
+use Rattle.std.specs.Prelude.{map, ◌||◌}
+use Rattle.std.specs.List.{list_any, range_with_len}
+use Rattle.mus_units.specs.declared.note.Bar.{Bar}
+use Rattle.abc_steps.specs.Looks.{Steps}
+use Rattle.abc_steps.specs.Counts.{measures_begun}
+use Rattle.abc_events.specs.Bars.{bars_at, bar_of, joined_or, missing_bar}
 
 pub any_reverse : {X : Type 0} (p : X → Bool) (xs : List X) → list_any p (reverse xs) ≡ list_any p xs
 any_reverse p [] = refl

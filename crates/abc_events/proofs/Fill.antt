@@ -1,7 +1,10 @@
 -- What the open tuplets take.
-use Rattle.std.proofs.Common.{◌≡◌, refl, sym, ap, ◌∙◌, ℕ, zero, suc, ◌-◌, ◌≤◌, List, [], ◌∷◌, ◌++◌, arith, append-nil, append_assoc, subst}
+use Rattle.std.proofs.Common.{◌≡◌, refl, sym, ap, ◌∙◌, ℕ, zero, suc, ◌-◌, ◌≤◌, List, [], ◌∷◌, ◌++◌, arith, append-nil}
+use Rattle.std.proofs.Common.{append_assoc, subst}
 use Rattle.mus_score.specs.declared.score.Music.{Music}
-use Rattle.abc_events.specs.{declared.nesting.OpenTuplet.OpenTuplet, Nesting.Forest, Nesting.none_more, Nesting.one, Nesting.group, Nesting.cut, Nesting.music_of, Nesting.Filled, Nesting.filled, Nesting.finish, Nesting.filled_tuplets, Nesting.fill_one, Nesting.whole, Nesting.TakesAnother, Nesting.Puts}
+use Rattle.abc_events.specs.declared.nesting.OpenTuplet.{OpenTuplet}
+use Rattle.abc_events.specs.Nesting.{Forest, none_more, one, group, cut, music_of, Filled, filled, finish}
+use Rattle.abc_events.specs.Nesting.{filled_tuplets, fill_one, whole, TakesAnother, Puts}
 use Rattle.mus_score.specs.declared.score.Music.TheVariants as music
 
 pub fill_last : (os : List OpenTuplet) (o : OpenTuplet) (z : Filled) → filled_tuplets (os ++ o ∷ []) z ≡ filled_tuplets os (fill_one o z)

@@ -1,5 +1,6 @@
 -- Heads that nothing ties are as they are.
-use Rattle.std.proofs.{Common.◌≡◌, Common.◌∙◌, Common.refl, Common.ap, Common.List, Common.[], Common.◌∷◌, Common.map, Common.Bool, Common.false, Math.Bool.or-false}
+use Rattle.std.proofs.Common.{◌≡◌, ◌∙◌, refl, ap, List, [], ◌∷◌, map, Bool, false}
+use Rattle.std.proofs.Math.Bool.{or-false}
 use Rattle.{mus_units.specs.declared.note.Head.{Head}, abc_signs.specs.Signs.{with_tie}}
 
 abbrev tied_as : Head → Bool → Head

@@ -1,7 +1,16 @@
 -- The measures made so far, and the trees of those that are left.
-use Rattle.std.{proofs.{Common.{◌≡◌, sym, ap, ◌∙◌, ℕ, suc, ◌+◌, ◌<◌, List, [], ◌∷◌, ◌++◌, length, slice_index_or, arith}, lemmas.List.FromFn.map-range_with_len_more}, specs.{Prelude.map, List.range_with_len}}
-use Rattle.{mus_units.specs.declared.note.Bar.{Bar}, mus_score.specs.{declared.score.Music.Music, declared.score.Measure.Measure}}
-use Rattle.abc_events.specs.{Leaf.Leaf, declared.nesting.Tree.Tree, Bars.plain_bar, Nesting.{tree_of, grown, no_tree}, Measures.leaves_in, Measures.measure_of_leaves}
+use Rattle.std.proofs.Common.{◌≡◌, sym, ap, ◌∙◌, ℕ, suc, ◌+◌, ◌<◌, List, [], ◌∷◌, ◌++◌, length, slice_index_or, arith}
+use Rattle.std.proofs.lemmas.List.FromFn.{map-range_with_len_more}
+use Rattle.std.specs.Prelude.{map}
+use Rattle.std.specs.List.{range_with_len}
+use Rattle.mus_units.specs.declared.note.Bar.{Bar}
+use Rattle.mus_score.specs.declared.score.Music.{Music}
+use Rattle.mus_score.specs.declared.score.Measure.{Measure}
+use Rattle.abc_events.specs.Leaf.{Leaf}
+use Rattle.abc_events.specs.declared.nesting.Tree.{Tree}
+use Rattle.abc_events.specs.Bars.{plain_bar}
+use Rattle.abc_events.specs.Nesting.{tree_of, grown, no_tree}
+use Rattle.abc_events.specs.Measures.{leaves_in, measure_of_leaves}
 
 -- the trees from measure k on
 abbrev pub AreTrees : List Leaf → ℕ → ℕ → List Tree → Type 0

@@ -1,6 +1,12 @@
 -- The nodes of a written event of one part, and of several.
-use Rattle.std.proofs.{Common.{◌≡◌, ◌∙◌, ap, ℕ, ◌+◌, ◌-◌, ◌≤◌, ◌<◌, List, [], ◌∷◌, ◌++◌, map, length, take, drop, slice_index_or, Bool, false, arith, append_assoc}, lemmas.List.take_all}
-use Rattle.{mus_units.specs.declared.value.Value.{Value}, mus_score.specs.declared.score.{Music.Music}, abc_signs.specs.{declared.written.WrittenEvent.WrittenEvent, declared.written.Pending.Pending}, abc_events.specs.Leaves.{Words, first_part, later_parts, parts, node_of, some_more}}
+use Rattle.std.proofs.Common.{◌≡◌, ◌∙◌, ap, ℕ, ◌+◌, ◌-◌, ◌≤◌, ◌<◌, List, [], ◌∷◌, ◌++◌, map, length, take, drop}
+use Rattle.std.proofs.Common.{slice_index_or, Bool, false, arith, append_assoc}
+use Rattle.std.proofs.lemmas.List.{take_all}
+use Rattle.mus_units.specs.declared.value.Value.{Value}
+use Rattle.mus_score.specs.declared.score.Music.{Music}
+use Rattle.abc_signs.specs.declared.written.WrittenEvent.{WrittenEvent}
+use Rattle.abc_signs.specs.declared.written.Pending.{Pending}
+use Rattle.abc_events.specs.Leaves.{Words, first_part, later_parts, parts, node_of, some_more}
 
 pub one_node : (w : WrittenEvent) (waiting : Pending) (words : Words) (id : ℕ) (values : List Value) (none : Value) → values ≡ w.values → 1 ≤ length values → length values < 2 → node_of (first_part w waiting words id false (slice_index_or values 0 none)) ∷ [] ≡ map node_of (parts w waiting words id w.values)
 one_node w waiting words id [] none e some few = absurd (omega arith)

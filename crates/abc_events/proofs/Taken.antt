@@ -1,5 +1,6 @@
 -- What a walk that takes a list apart has left.
-use Rattle.std.{proofs.Common.◌≡◌, proofs.Common.ap, proofs.Common.subst, proofs.Common.ℕ, proofs.Common.suc, proofs.Common.◌+◌, proofs.Common.List, proofs.Common.◌∷◌, proofs.Common.length, proofs.Common.arith, specs.List.All}
+use Rattle.std.proofs.Common.{◌≡◌, ap, subst, ℕ, suc, ◌+◌, List, ◌∷◌, length, arith}
+use Rattle.std.specs.List.{All}
 
 pub all_left : {X : Type 0} (P : X → Type 0) (xs ys : List X) (x : X) → xs ≡ x ∷ ys → All P xs → All P ys
 all_left P xs ys x e all k d less = let whole : All P (x ∷ ys) = subst (λ zs. All P zs) e all in whole (suc k) d (omega arith)

@@ -1,6 +1,13 @@
 -- The bars of a voice: those that stand at one place between two events are one, and the forced ones.
-use Rattle.std.specs.{Prelude.{ℕ, ◌+◌, List, [], ◌∷◌, ◌++◌, map, reverse, Bool, true, false, not, ◌==◌, ◌&&◌, ◌||◌, if◌then◌else◌, nat_le, nat_lt, Option, Some, None}, List.{list_any, range_with_len}}
-use Rattle.{mus_units.specs.declared.note.Bar.{Bar}, abc_steps.specs.{declared.step.Step.Step, declared.counts.Counts.Counts, declared.counts.Nearest.Nearest, Looks.Steps, Counts.counts_of, Counts.measures_begun}}
+use Rattle.std.specs.Prelude.{ℕ, ◌+◌, List, [], ◌∷◌, ◌++◌, map, reverse, Bool, true, false, not, ◌==◌, ◌&&◌, ◌||◌}
+use Rattle.std.specs.Prelude.{if◌then◌else◌, nat_le, nat_lt, Option, Some, None}
+use Rattle.std.specs.List.{list_any, range_with_len}
+use Rattle.mus_units.specs.declared.note.Bar.{Bar}
+use Rattle.abc_steps.specs.declared.step.Step.{Step}
+use Rattle.abc_steps.specs.declared.counts.Counts.{Counts}
+use Rattle.abc_steps.specs.declared.counts.Nearest.{Nearest}
+use Rattle.abc_steps.specs.Looks.{Steps}
+use Rattle.abc_steps.specs.Counts.{counts_of, measures_begun}
 
 abbrev pub plain_bar : Bar
 plain_bar = record { end = false; start = false; last = false; initial = false; double = false; dotted = false; unseen = false }

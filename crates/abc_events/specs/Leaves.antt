@@ -1,7 +1,20 @@
 -- The leaves of a voice: each written event as its nodes, which are the graces before it and its parts.
-use Rattle.std.specs.Prelude.{ℕ, ◌+◌, List, [], ◌∷◌, ◌++◌, map, length, replicate, slice_get, Bool, true, false, if◌then◌else◌, Option, None, unwrap_or}
-use Rattle.{mus_units.specs.{declared.note.Head.Head, declared.value.Value.Value, Value.value_length, declared.value.Base.Base}, mus_score.specs.declared.score.{Look.Look, Event.Event, Music.Music}}
-use Rattle.{abc_notes.specs.declared.part.GraceChord.{GraceChord}, abc_signs.specs.{declared.written.WrittenEvent.WrittenEvent, declared.written.Pending.Pending, declared.written.TreeItem.TreeItem, Waits.no_changes, Signs.with_tie}, abc_events.specs.Leaf.Leaf}
+use Rattle.std.specs.Prelude.{ℕ, ◌+◌, List, [], ◌∷◌, ◌++◌, map, length, replicate, slice_get, Bool, true, false}
+use Rattle.std.specs.Prelude.{if◌then◌else◌, Option, None, unwrap_or}
+use Rattle.mus_units.specs.declared.note.Head.{Head}
+use Rattle.mus_units.specs.declared.value.Value.{Value}
+use Rattle.mus_units.specs.Value.{value_length}
+use Rattle.mus_units.specs.declared.value.Base.{Base}
+use Rattle.mus_score.specs.declared.score.Look.{Look}
+use Rattle.mus_score.specs.declared.score.Event.{Event}
+use Rattle.mus_score.specs.declared.score.Music.{Music}
+use Rattle.abc_notes.specs.declared.part.GraceChord.{GraceChord}
+use Rattle.abc_signs.specs.declared.written.WrittenEvent.{WrittenEvent}
+use Rattle.abc_signs.specs.declared.written.Pending.{Pending}
+use Rattle.abc_signs.specs.declared.written.TreeItem.{TreeItem}
+use Rattle.abc_signs.specs.Waits.{no_changes}
+use Rattle.abc_signs.specs.Signs.{with_tie}
+use Rattle.abc_events.specs.Leaf.{Leaf}
 use Rattle.mus_score.specs.declared.score.Music.TheVariants as music
 
 -- the words of an event, a place for each verse

@@ -1,6 +1,13 @@
 -- The measures of a voice: in each the tree of its leaves, and its bar.
-use Rattle.std.specs.{Prelude.ℕ, Prelude.◌==◌, Prelude.List, Prelude.map, Prelude.filter, Prelude.length, Prelude.slice_index_or, List.range_with_len}
-use Rattle.{mus_units.specs.declared.note.Bar.{Bar}, mus_score.specs.declared.score.Measure.{Measure}, abc_signs.specs.declared.written.TreeItem.TreeItem, abc_events.specs.{Leaf.Leaf, Bars.plain_bar, Leaves.Words, Leaves.leaves_of, Nesting.tree_of}}
+use Rattle.std.specs.Prelude.{ℕ, ◌==◌, List, map, filter, length, slice_index_or}
+use Rattle.std.specs.List.{range_with_len}
+use Rattle.mus_units.specs.declared.note.Bar.{Bar}
+use Rattle.mus_score.specs.declared.score.Measure.{Measure}
+use Rattle.abc_signs.specs.declared.written.TreeItem.{TreeItem}
+use Rattle.abc_events.specs.Leaf.{Leaf}
+use Rattle.abc_events.specs.Bars.{plain_bar}
+use Rattle.abc_events.specs.Leaves.{Words, leaves_of}
+use Rattle.abc_events.specs.Nesting.{tree_of}
 
 abbrev pub leaf_measure : Leaf → ℕ
 leaf_measure (Leaf.Event measure nodes) = measure

@@ -1,6 +1,9 @@
 -- The tree of a measure: its leaves in a row, in which each tuplet takes the next events behind it.
 use Rattle.std.specs.Prelude.{◌≡◌, ℕ, zero, suc, ◌-◌, ◌≤◌, List, [], ◌∷◌, ◌++◌}
-use Rattle.{mus_score.specs.declared.score.Music.{Music}, abc_events.specs.{Leaf.Leaf, declared.nesting.OpenTuplet.OpenTuplet, declared.nesting.Tree.Tree}}
+use Rattle.mus_score.specs.declared.score.Music.{Music}
+use Rattle.abc_events.specs.Leaf.{Leaf}
+use Rattle.abc_events.specs.declared.nesting.OpenTuplet.{OpenTuplet}
+use Rattle.abc_events.specs.declared.nesting.Tree.{Tree}
 use Rattle.mus_score.specs.declared.score.Music.TheVariants as music
 
 -- a row of events, each with its nodes, and of tuplets that take so many events, each with a row of its own

@@ -1,6 +1,10 @@
-ghost use Rattle.std.specs.{Prelude.◌≡◌, Prelude.◌≤◌, Prelude.◌<◌, Prelude.◌^◌, Prelude.◌+◌, Prelude.ℕ, Prelude.Option, Prelude.None, Prelude.length, Prelude.reverse, Prelude.slice_index_or, Prelude.◌==◌, Prelude.IfOk, Prelude.OnOk, List.list_any};
+ghost use Rattle.std.specs.Prelude.{◌≡◌, ◌≤◌, ◌<◌, ◌^◌, ◌+◌, ℕ, Option, None, length, reverse, slice_index_or, ◌==◌};
+ghost use Rattle.std.specs.Prelude.{IfOk, OnOk};
+ghost use Rattle.std.specs.List.{list_any};
 ghost use Rattle.{mus_units.specs.declared.note.Bar.{Bar}, abc_steps.specs.Counts.{measures_begun}};
-ghost use Rattle.abc_events.specs.Bars.{plain_bar, unseen_bar, union, union_with, is_seen, joined_bar, bars_behind, bars_at, joined_or, bar_before_events, missing_bar, bars_of, is_near_bar, forces_bar, with_bar, forced_behind, forced_bars};
+ghost use Rattle.abc_events.specs.Bars.{plain_bar, unseen_bar, union, union_with, is_seen, joined_bar, bars_behind};
+ghost use Rattle.abc_events.specs.Bars.{bars_at, joined_or, bar_before_events, missing_bar, bars_of, is_near_bar};
+ghost use Rattle.abc_events.specs.Bars.{forces_bar, with_bar, forced_behind, forced_bars};
 
 use abc_steps::counts::{count_step, no_counts};
 use abc_steps::{Counts, Nearest, PlacedStep, Step};

@@ -1,7 +1,10 @@
-ghost use Rattle.std.specs.{Prelude.◌≡◌, Prelude.◌≤◌, Prelude.◌+◌, Prelude.◌++◌, Prelude.◌∷◌, Prelude.[], Prelude.List, Prelude.map, Prelude.length, Prelude.replicate, Prelude.unwrap_or, Prelude.false, Prelude.None, Prelude.IfOk, Prelude.OnOk, List.All};
+ghost use Rattle.std.specs.Prelude.{◌≡◌, ◌≤◌, ◌+◌, ◌++◌, ◌∷◌, [], List, map, length, replicate, unwrap_or, false, None};
+ghost use Rattle.std.specs.Prelude.{IfOk, OnOk};
+ghost use Rattle.std.specs.List.{All};
 ghost use Rattle.mus_units.specs.Value.{value_length};
 ghost use Rattle.abc_signs.specs.Signs.{with_tie};
-ghost use Rattle.abc_events.specs.Leaves.{ends_at, first_part, later_head, later_part, some_more, later_parts, parts, node_of, grace_event, grace_note, grace_nodes, nodes_of, words_of_event};
+ghost use Rattle.abc_events.specs.Leaves.{ends_at, first_part, later_head, later_part, some_more, later_parts, parts};
+ghost use Rattle.abc_events.specs.Leaves.{node_of, grace_event, grace_note, grace_nodes, nodes_of, words_of_event};
 
 use abc_music::GraceChord;
 use abc_signs::{Pending, StoredPending, WrittenEvent, no_changes, nothing_pending, with_ties};

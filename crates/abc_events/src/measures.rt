@@ -1,6 +1,10 @@
-ghost use Rattle.std.specs.{Prelude.◌≡◌, Prelude.◌<◌, Prelude.◌≤◌, Prelude.◌+◌, Prelude.◌∷◌, Prelude.[], Prelude.ℕ, Prelude.List, Prelude.length, Prelude.slice_index_or, Prelude.IfOk, Prelude.OnOk, List.All};
+ghost use Rattle.std.specs.Prelude.{◌≡◌, ◌<◌, ◌≤◌, ◌+◌, ◌∷◌, [], ℕ, List, length, slice_index_or, IfOk, OnOk};
+ghost use Rattle.std.specs.List.{All};
 ghost use Rattle.abc_signs.specs.{declared.written.TreeItem.TreeItem, Signs.HasDrawableValues};
-ghost use Rattle.abc_events.specs.{Leaf.Leaf, Leaves.{nodes_of, leaves_from, leaves_of}, Nesting.{tree_of, TakesAnother, grown, no_tree}, Measures.{leaves_in, measures_of}};
+ghost use Rattle.abc_events.specs.Leaf.{Leaf};
+ghost use Rattle.abc_events.specs.Leaves.{nodes_of, leaves_from, leaves_of};
+ghost use Rattle.abc_events.specs.Nesting.{tree_of, TakesAnother, grown, no_tree};
+ghost use Rattle.abc_events.specs.Measures.{leaves_in, measures_of};
 
 use crate::leaves::{Numbers, VoiceEvent, words_of_event};
 use crate::nesting::{Tree, nodes_of, put_event, put_tuplet};

@@ -1,7 +1,14 @@
 -- Weights as they are kept: too many stand at the same places as without caps.
-use Rattle.std.{proofs.{Common.{◌≡◌, ◌∙◌, refl, ap, ℕ, ◌+◌, ◌≤◌, min, List, [], ◌∷◌, ◌++◌, map, Bool, true, false, cond, arith}, lemmas.{Bool.Decides.nat_tests, List.{map-append, Sums.sum_by-cons}}}, specs.Prelude.{nat_lt, flat_map}}
+use Rattle.std.proofs.Common.{◌≡◌, ◌∙◌, refl, ap, ℕ, ◌+◌, ◌≤◌, min, List, [], ◌∷◌, ◌++◌, map, Bool, true, false, cond}
+use Rattle.std.proofs.Common.{arith}
+use Rattle.std.proofs.lemmas.Bool.Decides.{nat_tests}
+use Rattle.std.proofs.lemmas.List.{map-append}
+use Rattle.std.proofs.lemmas.List.Sums.{sum_by-cons}
+use Rattle.std.specs.Prelude.{nat_lt, flat_map}
 use Rattle.abc_lines.specs.declared.fault.Fault.{Fault}
-use Rattle.abc_faults.specs.{declared.weights.Weight.Weight, Weights.capped, Weights.stands_before, Weights.count_up_to, Weights.crowd_up_to, Weights.crowd_fault, Weights.crowd_faults_at, Weights.crowded}
+use Rattle.abc_faults.specs.declared.weights.Weight.{Weight}
+use Rattle.abc_faults.specs.Weights.{capped, stands_before, count_up_to, crowd_up_to, crowd_fault, crowd_faults_at}
+use Rattle.abc_faults.specs.Weights.{crowded}
 
 pub capped_append : (xs ys : List Weight) → map capped (xs ++ ys) ≡ map capped xs ++ map capped ys
 capped_append xs ys = map-append capped xs ys

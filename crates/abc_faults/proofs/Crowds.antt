@@ -1,7 +1,20 @@
 -- The first place where too many heads and rests stand so far.
-use Rattle.std.{proofs.{Common.{◌≡◌, ◌∙◌, refl, sym, ap, subst, ℕ, ◌+◌, ◌<◌, ◌≤◌, List, [], ◌∷◌, ◌++◌, length, drop, take, get_or, Bool, true, false, cond, Option, Some, None, ⊎_elim, arith}, lemmas.{List.{drop_more, take_all, take-append-drop, Sums.{sum_by-cons, sum_by-append, sum_by-le-sum_by}, Sorted.{Contains-permutation, sum_by-IsPermutation, IsPermutation-sym}, Elements.{Contains-append_right, Contains-append_cases, All-nil, All-cons, All-contains}}, Bool.Decides.nat_tests}}, specs.{Prelude.{nat_lt, sum_by, flat_map}, List.{AllByRecursion, Contains, Sorted.IsPermutation}}}
+use Rattle.std.proofs.Common.{◌≡◌, ◌∙◌, refl, sym, ap, subst, ℕ, ◌+◌, ◌<◌, ◌≤◌, List, [], ◌∷◌, ◌++◌, length, drop, take}
+use Rattle.std.proofs.Common.{get_or, Bool, true, false, cond, Option, Some, None, ⊎_elim, arith}
+use Rattle.std.proofs.lemmas.List.{drop_more, take_all, take-append-drop}
+use Rattle.std.proofs.lemmas.List.Sums.{sum_by-cons, sum_by-append, sum_by-le-sum_by}
+use Rattle.std.proofs.lemmas.List.Sorted.{Contains-permutation, sum_by-IsPermutation, IsPermutation-sym}
+use Rattle.std.proofs.lemmas.List.Elements.{Contains-append_right, Contains-append_cases, All-nil, All-cons}
+use Rattle.std.proofs.lemmas.List.Elements.{All-contains}
+use Rattle.std.proofs.lemmas.Bool.Decides.{nat_tests}
+use Rattle.std.specs.Prelude.{nat_lt, sum_by, flat_map}
+use Rattle.std.specs.List.{AllByRecursion, Contains}
+use Rattle.std.specs.List.Sorted.{IsPermutation}
 use Rattle.abc_lines.specs.declared.fault.Fault.{Fault}
-use Rattle.abc_faults.specs.{declared.weights.Weight.Weight, First.is_below_or_tied, First.is_before, First.IsLeastFault, First.IsFirstInOrder, Weights.stands_before, Weights.IsBehind, Weights.AreInOrder, Weights.count_up_to, Weights.crowd_up_to, Weights.crowd_fault, Weights.crowd_faults_at, Weights.crowded}
+use Rattle.abc_faults.specs.declared.weights.Weight.{Weight}
+use Rattle.abc_faults.specs.First.{is_below_or_tied, is_before, IsLeastFault, IsFirstInOrder}
+use Rattle.abc_faults.specs.Weights.{stands_before, IsBehind, AreInOrder, count_up_to, crowd_up_to, crowd_fault}
+use Rattle.abc_faults.specs.Weights.{crowd_faults_at, crowded}
 
 -- ---- the order of places
 abbrev below : ℕ → ℕ → ℕ → ℕ → Bool

@@ -1,6 +1,14 @@
 -- The first of a set of faults: joined sets, and the least of a list.
-use Rattle.std.{proofs.{Common.{◌≡◌, ◌∙◌, refl, sym, ap, ℕ, List, [], ◌∷◌, ◌++◌, append-nil, Bool, true, false, cond, Option, Some, None, ⊎_elim, subst, arith}, lemmas.{Bool.Decides.nat_tests, List.Elements.{Contains-append_left, Contains-append_right, Contains-append_cases, All-nil, All-cons, All-contains}}}, specs.{Prelude.nat_lt, List.Contains}}
-use Rattle.{abc_lines.specs.declared.fault.Fault.{Fault}, abc_faults.specs.First.{kind_rank, is_below_or_tied, is_before, IsLeastFault, IsFirstInOrder, earlier, first_of}}
+use Rattle.std.proofs.Common.{◌≡◌, ◌∙◌, refl, sym, ap, ℕ, List, [], ◌∷◌, ◌++◌, append-nil, Bool, true, false, cond}
+use Rattle.std.proofs.Common.{Option, Some, None, ⊎_elim, subst, arith}
+use Rattle.std.proofs.lemmas.Bool.Decides.{nat_tests}
+use Rattle.std.proofs.lemmas.List.Elements.{Contains-append_left, Contains-append_right, Contains-append_cases, All-nil}
+use Rattle.std.proofs.lemmas.List.Elements.{All-cons, All-contains}
+use Rattle.std.specs.Prelude.{nat_lt}
+use Rattle.std.specs.List.{Contains}
+use Rattle.abc_lines.specs.declared.fault.Fault.{Fault}
+use Rattle.abc_faults.specs.First.{kind_rank, is_below_or_tied, is_before, IsLeastFault, IsFirstInOrder, earlier}
+use Rattle.abc_faults.specs.First.{first_of}
 
 -- the order of faults by three numbers
 abbrev below : ℕ → ℕ → ℕ → ℕ → ℕ → ℕ → Bool

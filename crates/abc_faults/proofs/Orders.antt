@@ -1,6 +1,14 @@
 -- The derived order of weights is the order of the text.
-use Rattle.std.{proofs.{Common.{◌≡◌, refl, ℕ, suc, ◌<◌, ◌≤◌, List, [], ◌∷◌, length, get_or, Bool, false, arith}, lemmas.{Bool.Decides.nat_tests, List.{Elements.recursion_from_All, Sorted.{ranks_by, sorted_far}}}}, specs.{List.Sorted.IsSorted, Ordering.{is_lt, nat_cmp, ordering_then}}}
-use Rattle.abc_faults.specs.{contracts.weights.WeightOrd.TheImpl.ghosts, contracts.weights.WeightOrd.TheImpl.Laws.total-law, declared.weights.Weight.Weight, Weights.stands_before, Weights.IsBehind, Weights.AreInOrder}
+use Rattle.std.proofs.Common.{◌≡◌, refl, ℕ, suc, ◌<◌, ◌≤◌, List, [], ◌∷◌, length, get_or, Bool, false, arith}
+use Rattle.std.proofs.lemmas.Bool.Decides.{nat_tests}
+use Rattle.std.proofs.lemmas.List.Elements.{recursion_from_All}
+use Rattle.std.proofs.lemmas.List.Sorted.{ranks_by, sorted_far}
+use Rattle.std.specs.List.Sorted.{IsSorted}
+use Rattle.std.specs.Ordering.{is_lt, nat_cmp, ordering_then}
+use Rattle.abc_faults.specs.contracts.weights.WeightOrd.TheImpl.{ghosts}
+use Rattle.abc_faults.specs.contracts.weights.WeightOrd.TheImpl.Laws.{total-law}
+use Rattle.abc_faults.specs.declared.weights.Weight.{Weight}
+use Rattle.abc_faults.specs.Weights.{stands_before, IsBehind, AreInOrder}
 
 shape : (v w : Weight) → ghosts.cmp v w ≡ ordering_then (nat_cmp v.line w.line) (ordering_then (nat_cmp v.column w.column) (nat_cmp v.count w.count))
 shape v w = refl

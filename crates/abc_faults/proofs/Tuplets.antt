@@ -1,6 +1,14 @@
 -- How many events a tuplet could take, one step further on.
-use Rattle.std.{proofs.{Common.{◌≡◌, ◌∙◌, ap, ℕ, ◌+◌, ◌<◌, [], ◌∷◌, length, drop, get_or, Bool, false, not, cond, arith}, lemmas.{List.{drop_more, Sums.{sum_by-cons, take_while-cons}}, Bool.Decides.nat_tests}}, specs.{Prelude.{nat_lt, count_by}, List.{before_first, take_while}}}
-use Rattle.{abc_steps.specs.{declared.step.PlacedStep.PlacedStep, Kinds.is_sound, Looks.Steps}, abc_faults.specs.Faults.{ends_tuplets}}
+use Rattle.std.proofs.Common.{◌≡◌, ◌∙◌, ap, ℕ, ◌+◌, ◌<◌, [], ◌∷◌, length, drop, get_or, Bool, false, not, cond, arith}
+use Rattle.std.proofs.lemmas.List.{drop_more}
+use Rattle.std.proofs.lemmas.List.Sums.{sum_by-cons, take_while-cons}
+use Rattle.std.proofs.lemmas.Bool.Decides.{nat_tests}
+use Rattle.std.specs.Prelude.{nat_lt, count_by}
+use Rattle.std.specs.List.{before_first, take_while}
+use Rattle.abc_steps.specs.declared.step.PlacedStep.{PlacedStep}
+use Rattle.abc_steps.specs.Kinds.{is_sound}
+use Rattle.abc_steps.specs.Looks.{Steps}
+use Rattle.abc_faults.specs.Faults.{ends_tuplets}
 
 abbrev pub sounds : Steps → ℕ
 sounds behind = count_by (λ s. is_sound s.step) (before_first (λ s. ends_tuplets s.step) behind)

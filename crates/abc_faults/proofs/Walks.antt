@@ -1,7 +1,14 @@
 -- One step of a walk along the steps of a voice.
-use Rattle.std.proofs.{Common.{◌≡◌, ◌∙◌, sym, ap, ℕ, ◌+◌, ◌<◌, List, [], ◌∷◌, ◌++◌, append_assoc, length, drop, take, get_or, reverse}, lemmas.List.{drop_more, take_more, reverse-append}}
-use Rattle.{mus_units.specs.declared.pitch.Clef.{Clef}, abc_steps.specs.{declared.step.PlacedStep.PlacedStep, declared.force.InForce.InForce, Looks.Steps, Places.state_at}}
-use Rattle.abc_faults.specs.{Faults.grace_faults_of, Faults.grace_faults, Faults.faults_of, Faults.faults_in, Weights.weights_of, Weights.weights_in}
+use Rattle.std.proofs.Common.{◌≡◌, ◌∙◌, sym, ap, ℕ, ◌+◌, ◌<◌, List, [], ◌∷◌, ◌++◌, append_assoc, length, drop, take}
+use Rattle.std.proofs.Common.{get_or, reverse}
+use Rattle.std.proofs.lemmas.List.{drop_more, take_more, reverse-append}
+use Rattle.mus_units.specs.declared.pitch.Clef.{Clef}
+use Rattle.abc_steps.specs.declared.step.PlacedStep.{PlacedStep}
+use Rattle.abc_steps.specs.declared.force.InForce.{InForce}
+use Rattle.abc_steps.specs.Looks.{Steps}
+use Rattle.abc_steps.specs.Places.{state_at}
+use Rattle.abc_faults.specs.Faults.{grace_faults_of, grace_faults, faults_of, faults_in}
+use Rattle.abc_faults.specs.Weights.{weights_of, weights_in}
 
 pub at_front : (steps : Steps) (i : ℕ) (at : PlacedStep) → i < length steps → at ≡ get_or steps i at → drop i steps ≡ at ∷ drop (i + 1) steps
 at_front steps i at less is = drop_more steps i at less ∙ ap (λ x. x ∷ drop (i + 1) steps) (sym is)

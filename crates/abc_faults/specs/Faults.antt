@@ -1,8 +1,26 @@
 -- All faults that hold in a voice, each at its place, by each step in turn with what stands before it, the nearest first, and what follows it.
-use Rattle.std.specs.{Prelude.{ℕ, ◌+◌, ◌-◌, List, [], ◌∷◌, ◌++◌, Bool, true, false, not, ◌&&◌, ◌||◌, nat_le, nat_lt, int_lt, pos, negsuc, is_none, if◌then◌else◌, count_by, flat_map}, List.{before_first, list_any}}
-use Rattle.mus_units.specs.{declared.note.Head.Head, declared.pitch.Clef.Clef, declared.key.Meter.Meter, Pitch.height_of, Parts.parts_list}
-use Rattle.{abc_lines.specs.{declared.fault.FaultKind.FaultKind, declared.fault.Fault.Fault}, abc_notes.specs.declared.part.GraceChord.{GraceChord}}
-use Rattle.abc_steps.specs.{declared.{step.{WrittenSound.WrittenSound, Step.Step, PlacedStep.PlacedStep}, force.InForce.InForce, tuplets.OpenTuplets.OpenTuplets, state.VoiceState.VoiceState}, Kinds.is_sound, Looks.{Steps, since_event, has_left, has_right}, Lengths.written_length, Tuplets.{or_default, fits}, Places.{state_at, measure_of}}
+use Rattle.std.specs.Prelude.{ℕ, ◌+◌, ◌-◌, List, [], ◌∷◌, ◌++◌, Bool, true, false, not, ◌&&◌, ◌||◌, nat_le, nat_lt}
+use Rattle.std.specs.Prelude.{int_lt, pos, negsuc, is_none, if◌then◌else◌, count_by, flat_map}
+use Rattle.std.specs.List.{before_first, list_any}
+use Rattle.mus_units.specs.declared.note.Head.{Head}
+use Rattle.mus_units.specs.declared.pitch.Clef.{Clef}
+use Rattle.mus_units.specs.declared.key.Meter.{Meter}
+use Rattle.mus_units.specs.Pitch.{height_of}
+use Rattle.mus_units.specs.Parts.{parts_list}
+use Rattle.abc_lines.specs.declared.fault.FaultKind.{FaultKind}
+use Rattle.abc_lines.specs.declared.fault.Fault.{Fault}
+use Rattle.abc_notes.specs.declared.part.GraceChord.{GraceChord}
+use Rattle.abc_steps.specs.declared.step.WrittenSound.{WrittenSound}
+use Rattle.abc_steps.specs.declared.step.Step.{Step}
+use Rattle.abc_steps.specs.declared.step.PlacedStep.{PlacedStep}
+use Rattle.abc_steps.specs.declared.force.InForce.{InForce}
+use Rattle.abc_steps.specs.declared.tuplets.OpenTuplets.{OpenTuplets}
+use Rattle.abc_steps.specs.declared.state.VoiceState.{VoiceState}
+use Rattle.abc_steps.specs.Kinds.{is_sound}
+use Rattle.abc_steps.specs.Looks.{Steps, since_event, has_left, has_right}
+use Rattle.abc_steps.specs.Lengths.{written_length}
+use Rattle.abc_steps.specs.Tuplets.{or_default, fits}
+use Rattle.abc_steps.specs.Places.{state_at, measure_of}
 
 -- a fault of that kind at a step
 abbrev pub step_fault : FaultKind → PlacedStep → Fault

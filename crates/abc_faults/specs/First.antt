@@ -1,5 +1,6 @@
 -- The first of a set of faults: by line, then by column, then by the order in which faults at one place count.
-use Rattle.std.specs.Prelude.{◌≡◌, ℕ, Bool, false, ◌&&◌, ◌||◌, ◌==◌, nat_lt, if◌then◌else◌, List, [], ◌∷◌, Contains, Option, Some, None}
+use Rattle.std.specs.Prelude.{◌≡◌, ℕ, Bool, false, ◌&&◌, ◌||◌, ◌==◌, nat_lt, if◌then◌else◌, List, [], ◌∷◌, Contains}
+use Rattle.std.specs.Prelude.{Option, Some, None}
 use Rattle.abc_lines.specs.{declared.fault.FaultKind.FaultKind, declared.fault.Fault.Fault}
 
 -- the place of a kind in that order

@@ -1,7 +1,20 @@
 -- How many heads and rests stand at each place, and where there are too many of them so far.
-use Rattle.std.specs.{Prelude.{◌≡◌, ⊤, false, ℕ, ◌*◌, List, [], ◌∷◌, ◌++◌, length, max, min, Bool, nat_lt, if◌then◌else◌, sum_by, flat_map, Option, Some, None}, List.AllByRecursion}
-use Rattle.{mus_units.specs.{declared.value.Value.Value, Parts.parts_list}, abc_lines.specs.declared.fault.{FaultKind.FaultKind, Fault.Fault}, abc_notes.specs.declared.part.GraceChord.{GraceChord}}
-use Rattle.abc_steps.specs.{declared.step.WrittenSound.WrittenSound, declared.step.Step.Step, declared.step.PlacedStep.PlacedStep, declared.force.InForce.InForce, Looks.Steps, Looks.since_event, Lengths.written_length, declared.state.VoiceState.VoiceState, Places.state_at}
+use Rattle.std.specs.Prelude.{◌≡◌, ⊤, false, ℕ, ◌*◌, List, [], ◌∷◌, ◌++◌, length, max, min, Bool, nat_lt, if◌then◌else◌}
+use Rattle.std.specs.Prelude.{sum_by, flat_map, Option, Some, None}
+use Rattle.std.specs.List.{AllByRecursion}
+use Rattle.mus_units.specs.declared.value.Value.{Value}
+use Rattle.mus_units.specs.Parts.{parts_list}
+use Rattle.abc_lines.specs.declared.fault.FaultKind.{FaultKind}
+use Rattle.abc_lines.specs.declared.fault.Fault.{Fault}
+use Rattle.abc_notes.specs.declared.part.GraceChord.{GraceChord}
+use Rattle.abc_steps.specs.declared.step.WrittenSound.{WrittenSound}
+use Rattle.abc_steps.specs.declared.step.Step.{Step}
+use Rattle.abc_steps.specs.declared.step.PlacedStep.{PlacedStep}
+use Rattle.abc_steps.specs.declared.force.InForce.{InForce}
+use Rattle.abc_steps.specs.Looks.{Steps, since_event}
+use Rattle.abc_steps.specs.Lengths.{written_length}
+use Rattle.abc_steps.specs.declared.state.VoiceState.{VoiceState}
+use Rattle.abc_steps.specs.Places.{state_at}
 use Rattle.abc_faults.specs.{declared.weights.Weight.Weight, First.is_below_or_tied}
 
 abbrev pub weight_at : ℕ → PlacedStep → Weight

@@ -1,5 +1,6 @@
 ghost use Rattle.std.specs.{Prelude.◌≡◌, Prelude.IfOk, List.Sorted.IsPermutation};
-ghost use Rattle.abc_faults.specs.{First.first_of, First.IsFirstInOrder, Weights.AreInOrder, Weights.crowded, Weights.crowd_fault};
+ghost use Rattle.abc_faults.specs.First.{first_of, IsFirstInOrder};
+ghost use Rattle.abc_faults.specs.Weights.{AreInOrder, crowded, crowd_fault};
 
 use crate::weights::{MOST, Weight};
 use abc_lines::{Fault, FaultKind};

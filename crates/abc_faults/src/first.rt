@@ -1,5 +1,6 @@
 ghost use Rattle.std.specs.Prelude.{◌≡◌, ◌++◌, List};
-ghost use Rattle.{abc_lines.specs.declared.fault.Fault.{Fault}, abc_faults.specs.First.{kind_rank, is_before, earlier, IsFirstInOrder}};
+ghost use Rattle.abc_lines.specs.declared.fault.Fault.{Fault};
+ghost use Rattle.abc_faults.specs.First.{kind_rank, is_before, earlier, IsFirstInOrder};
 
 use abc_lines::{Fault, FaultKind};
 

@@ -1,6 +1,11 @@
-ghost use Rattle.std.specs.{Prelude.◌≡◌, Prelude.◌≤◌, Prelude.◌^◌, Prelude.◌++◌, Prelude.◌∷◌, Prelude.[], Prelude.length, Prelude.map, Prelude.reverse, Prelude.nat_lt, Prelude.IfOk, Prelude.OnOk, List.All};
+ghost use Rattle.std.specs.Prelude.{◌≡◌, ◌≤◌, ◌^◌, ◌++◌, ◌∷◌, [], length, map, reverse, nat_lt, IfOk, OnOk};
+ghost use Rattle.std.specs.List.{All};
 ghost use Rattle.abc_steps.specs.{declared.step.Step.Step, Looks.since_event, Lengths.parts_at};
-ghost use Rattle.abc_faults.specs.{First.first_of, Faults.{step_fault, fault_if, ends_tuplets, sounds_behind, misfit_of, tuplet_faults, is_off, any_off, any_grace_off, grace_faults_of, grace_faults, is_past, is_free, sound_faults_if, sound_faults, rest_faults, faults_of}, Weights.{weight_at, capped, sound_count, grace_weights, weights_of}};
+ghost use Rattle.abc_faults.specs.First.{first_of};
+ghost use Rattle.abc_faults.specs.Faults.{step_fault, fault_if, ends_tuplets, sounds_behind, misfit_of, tuplet_faults};
+ghost use Rattle.abc_faults.specs.Faults.{is_off, any_off, any_grace_off, grace_faults_of, grace_faults, is_past};
+ghost use Rattle.abc_faults.specs.Faults.{is_free, sound_faults_if, sound_faults, rest_faults, faults_of};
+ghost use Rattle.abc_faults.specs.Weights.{weight_at, capped, sound_count, grace_weights, weights_of};
 
 use crate::first::earlier;
 use crate::weights::{Weight, count_parts, put_graces, sound_count, weight_at};

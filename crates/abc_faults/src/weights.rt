@@ -1,5 +1,6 @@
 ghost use Rattle.std.specs.Prelude.{◌≡◌, ◌*◌, ◌++◌, length, map, max, OnOk};
-ghost use Rattle.abc_faults.specs.Weights.{weight_at, capped, count_parts, grace_count, grace_weights_of, grace_weights};
+ghost use Rattle.abc_faults.specs.Weights.{weight_at, capped, count_parts, grace_count, grace_weights_of};
+ghost use Rattle.abc_faults.specs.Weights.{grace_weights};
 
 use abc_music::GraceChord;
 use abc_steps::{PlacedStep, Step, StoredSound};

@@ -1,8 +1,12 @@
 -- A text without the blanks at its ends is what stands between blanks in it.
-use Rattle.std.proofs.Common.{◌≡◌, refl, sym, ap, ◌∙◌, subst, ℕ, suc, ◌+◌, ◌-◌, ◌≤◌, List, [], ◌∷◌, ◌++◌, Bool, true, false, length, take, drop}
+use Rattle.std.proofs.Common.{◌≡◌, refl, sym, ap, ◌∙◌, subst, ℕ, suc, ◌+◌, ◌-◌, ◌≤◌, List, [], ◌∷◌, ◌++◌, Bool, true}
+use Rattle.std.proofs.Common.{false, length, take, drop}
 use Rattle.std.proofs.{Common.{arith, not, reverse}, lemmas.Bool.{and_parts, not-true}}
-use Rattle.std.proofs.lemmas.List.{take-append-drop, append-nil, length-append, length-drop, length-reverse, reverse-append, reverse-reverse}
-use Rattle.std.proofs.{lemmas.List.{Folds.list_all-append, Sums.suffix_len-le-length}, Math.Seq.{take-append_seam, drop-append_seam}}
+use Rattle.std.proofs.lemmas.List.{take-append-drop, append-nil, length-append, length-drop, length-reverse}
+use Rattle.std.proofs.lemmas.List.{reverse-append, reverse-reverse}
+use Rattle.std.proofs.lemmas.List.Folds.{list_all-append}
+use Rattle.std.proofs.lemmas.List.Sums.{suffix_len-le-length}
+use Rattle.std.proofs.Math.Seq.{take-append_seam, drop-append_seam}
 use Rattle.std.specs.{List.{list_all, prefix_len, suffix_len}, Prelude.⊤}
 use Rattle.abc_lines.specs.Kinds.{is_blank, after_blanks}
 use Rattle.abc_field.specs.{Words.trimmed, WordSpelling.IsBetweenBlanks}

@@ -1,17 +1,30 @@
 -- The function that the code follows and the relation that is meant agree: a line reads as a field
 -- exactly where it says it, and is refused exactly where it says nothing.
-use Rattle.std.proofs.Common.{◌≡◌, refl, sym, ap, ◌∙◌, ℕ, List, false, ◌==◌, ◌||◌, Some, None, Result, Ok, Err, MatchResult, IfSome, codes}
-use Rattle.std.proofs.lemmas.{Bool.{cond_both, not-true, or_parts}, Option.{none-some, same_Some}, Result.{MatchResult-at_ok, MatchResult-at_err}}
-use Rattle.{mus_units.specs.declared.key.Spread.Spread, abc_lines.specs.declared.{fault.{FaultKind.FaultKind, TuneError.TuneError}, book.Line.Line}}
+use Rattle.std.proofs.Common.{◌≡◌, refl, sym, ap, ◌∙◌, ℕ, List, false, ◌==◌, ◌||◌, Some, None, Result, Ok, Err}
+use Rattle.std.proofs.Common.{MatchResult, IfSome, codes}
+use Rattle.std.proofs.lemmas.Bool.{cond_both, not-true, or_parts}
+use Rattle.std.proofs.lemmas.Option.{none-some, same_Some}
+use Rattle.std.proofs.lemmas.Result.{MatchResult-at_ok, MatchResult-at_err}
+use Rattle.mus_units.specs.declared.key.Spread.{Spread}
+use Rattle.abc_lines.specs.declared.fault.FaultKind.{FaultKind}
+use Rattle.abc_lines.specs.declared.fault.TuneError.{TuneError}
+use Rattle.abc_lines.specs.declared.book.Line.{Line}
 use Rattle.abc_lines.specs.{declared.kind.LineKind.LineKind, Kinds.{kind_of, field_text}}
-use Rattle.abc_field.specs.Fields.{key_field, meter_field, unit_field, voice_field, named_field, breaks_field, spread_field, directive_field}
-use Rattle.abc_field.specs.{Fields.{field_by, field_of, IsErrorOfField, IsFaultOfLine}, declared.{directive.Breaks.Breaks, field.Field.Field}}
-use Rattle.abc_field.specs.{declared.field.FieldError.FieldError, Directives.{name_of, rest_of, names_breaks, breaks_of, spread_of}, Keys.key_of}
+use Rattle.abc_field.specs.Fields.{key_field, meter_field, unit_field, voice_field, named_field, breaks_field}
+use Rattle.abc_field.specs.Fields.{spread_field, directive_field}
+use Rattle.abc_field.specs.Fields.{field_by, field_of, IsErrorOfField, IsFaultOfLine}
+use Rattle.abc_field.specs.declared.directive.Breaks.{Breaks}
+use Rattle.abc_field.specs.declared.field.Field.{Field}
+use Rattle.abc_field.specs.declared.field.FieldError.{FieldError}
+use Rattle.abc_field.specs.Directives.{name_of, rest_of, names_breaks, breaks_of, spread_of}
+use Rattle.abc_field.specs.Keys.{key_of}
 use Rattle.abc_field.specs.{Meters.{meter_of, unit_of}, Voices.voice_of}
-use Rattle.abc_field.specs.FieldSpelling.{SaysBreaks, SaysSpread, is_known, NamedSays, DirectiveSays, KindSays, Says, NamedBad, KindBad, IsBad}
+use Rattle.abc_field.specs.FieldSpelling.{SaysBreaks, SaysSpread, is_known, NamedSays, DirectiveSays, KindSays, Says}
+use Rattle.abc_field.specs.FieldSpelling.{NamedBad, KindBad, IsBad}
 use Rattle.abc_field.specs.FieldSpelling.{NamedRefuses, IsBadLine}
 use Rattle.abc_field.proofs.{KeyForms.{key-says, key-read}, MeterForms.{meter-says, meter-read, unit-says, unit-read}}
-use Rattle.abc_field.proofs.{ReadLaws.{some_holds, option_case, byte_case, word_case, not_word, nothing}, VoiceForms.{voice-says, voice-read}}
+use Rattle.abc_field.proofs.ReadLaws.{some_holds, option_case, byte_case, word_case, not_word, nothing}
+use Rattle.abc_field.proofs.VoiceForms.{voice-says, voice-read}
 
 -- A letter and a text say the field that is read of them, or are the fault.
 module _ (letter : ℕ) (text : List ℕ) where

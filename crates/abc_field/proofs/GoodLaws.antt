@@ -1,9 +1,11 @@
 -- What is read as a meter or a unit length has good numbers.
-use Rattle.std.proofs.Common.{◌≡◌, refl, ℕ, ◌+◌, ◌*◌, ◌-◌, ◌≤◌, List, [], ◌∷◌, true, length, arith, subst, IfSome, not, ◌==◌}
+use Rattle.std.proofs.Common.{◌≡◌, refl, ℕ, ◌+◌, ◌*◌, ◌-◌, ◌≤◌, List, [], ◌∷◌, true, length, arith, subst, IfSome, not}
+use Rattle.std.proofs.Common.{◌==◌}
 use Rattle.std.{proofs.lemmas.Bool.{and_parts, leb-true, Decides.nat_tests}, specs.List.list_all}
 use Rattle.mus_units.specs.Good.{IsGoodMeter, IsGoodUnit}
 use Rattle.abc_field.specs.{Meters.{meter_of, unit_of}, Numbers.{is_digit, is_number, value_after, value_of}}
-use Rattle.abc_field.specs.MeterSpelling.{MeterForm, sum_form, wrapped_form, IsGoodMeterForm, meter_meant, value_sum, UnitForm, whole_form}
+use Rattle.abc_field.specs.MeterSpelling.{MeterForm, sum_form, wrapped_form, IsGoodMeterForm, meter_meant, value_sum}
+use Rattle.abc_field.specs.MeterSpelling.{UnitForm, whole_form}
 use Rattle.abc_field.specs.MeterSpelling.{over_form, IsGoodUnitForm, unit_meant}
 use Rattle.abc_field.proofs.{MeterForms.{meter-says, unit-says}, ReadLaws.option_case}
 

@@ -1,19 +1,35 @@
 -- A text reads as a key exactly where a good form of it spells the words of the text.
-use Rattle.std.proofs.Common.{◌≡◌, refl, sym, ap, ◌∙◌, subst, ℕ, List, [], ◌∷◌, false, map, ◌==◌, Option, Some, None, codes}
-use Rattle.std.{proofs.{lemmas.{Bool.{eqb-false, ne_eqb}, Option.none-some}, Math.Bool.and-false}, specs.Char.to_ascii_lowercase}
+use Rattle.std.proofs.Common.{◌≡◌, refl, sym, ap, ◌∙◌, subst, ℕ, List, [], ◌∷◌, false, map, ◌==◌, Option, Some, None}
+use Rattle.std.proofs.Common.{codes}
+use Rattle.std.proofs.lemmas.Bool.{eqb-false, ne_eqb}
+use Rattle.std.proofs.lemmas.Option.{none-some}
+use Rattle.std.proofs.Math.Bool.{and-false}
+use Rattle.std.specs.Char.{to_ascii_lowercase}
 use Rattle.std.specs.{Option.option_and_then, Prelude.⊤}
 use Rattle.{mus_units.specs.declared.pitch.Letter.Letter, mus_pitch.specs.declared.circle.Mode.Mode}
-use Rattle.abc_field.specs.Keys.{natural_letter, key_words, major_like, minor_like, mode_named, mode_by_three, mode_of, key_start, start_with}
-use Rattle.abc_field.specs.Keys.{without_mode, mode_on, altered, tonic_of, fixed_start, first_words, key_by, key_from, key_of}
-use Rattle.abc_field.specs.KeySpelling.{tonic_byte, word_spelled, word_meant, AreGoodWords, KeyWordForm, ModeName, maj_name, ion_name, mix_name}
-use Rattle.abc_field.specs.KeySpelling.{lyd_name, min_name, aeo_name, dor_name, phr_name, loc_name, three_letters, mode_of_name, ModeForm}
-use Rattle.abc_field.specs.KeySpelling.{minor_form, named_form, mode_spelled, IsGoodMode, mode_meant, Accident, plain_tonic, sharp_tonic, flat_tonic}
-use Rattle.abc_field.specs.KeySpelling.{accident_spelled, accident_meant, tonic_spelled, KeyHead, empty_head, none_head, bagpipe_head}
-use Rattle.abc_field.specs.KeySpelling.{signed_bagpipe_head, tonic_head, written_head, parted_head, kept_head, head_spelled, NoMode, BeginsNoKey}
-use Rattle.abc_field.specs.{KeySpelling.{IsGoodHead, head_meant, SaysKey}, declared.key.{KeyText.KeyText, Tonic.Tonic}, WordSpelling.HasWords}
+use Rattle.abc_field.specs.Keys.{natural_letter, key_words, major_like, minor_like, mode_named, mode_by_three, mode_of}
+use Rattle.abc_field.specs.Keys.{key_start, start_with}
+use Rattle.abc_field.specs.Keys.{without_mode, mode_on, altered, tonic_of, fixed_start, first_words, key_by, key_from}
+use Rattle.abc_field.specs.Keys.{key_of}
+use Rattle.abc_field.specs.KeySpelling.{tonic_byte, word_spelled, word_meant, AreGoodWords, KeyWordForm, ModeName}
+use Rattle.abc_field.specs.KeySpelling.{maj_name, ion_name, mix_name}
+use Rattle.abc_field.specs.KeySpelling.{lyd_name, min_name, aeo_name, dor_name, phr_name, loc_name, three_letters}
+use Rattle.abc_field.specs.KeySpelling.{mode_of_name, ModeForm}
+use Rattle.abc_field.specs.KeySpelling.{minor_form, named_form, mode_spelled, IsGoodMode, mode_meant, Accident}
+use Rattle.abc_field.specs.KeySpelling.{plain_tonic, sharp_tonic, flat_tonic}
+use Rattle.abc_field.specs.KeySpelling.{accident_spelled, accident_meant, tonic_spelled, KeyHead, empty_head, none_head}
+use Rattle.abc_field.specs.KeySpelling.{bagpipe_head}
+use Rattle.abc_field.specs.KeySpelling.{signed_bagpipe_head, tonic_head, written_head, parted_head, kept_head}
+use Rattle.abc_field.specs.KeySpelling.{head_spelled, NoMode, BeginsNoKey}
+use Rattle.abc_field.specs.KeySpelling.{IsGoodHead, head_meant, SaysKey}
+use Rattle.abc_field.specs.declared.key.KeyText.{KeyText}
+use Rattle.abc_field.specs.declared.key.Tonic.{Tonic}
+use Rattle.abc_field.specs.WordSpelling.{HasWords}
 use Rattle.abc_field.specs.Words.{words_of}
-use Rattle.abc_field.proofs.{WordForms.{words-spelled, words-of-spelled}, KeyWordForms.{Spells, natural-takes, words-take, words-read}}
-use Rattle.abc_field.proofs.ReadLaws.{Where, where_read, where_then, where_or, where_map, option_case, byte_case, word_case, HasForm, formed, unread}
+use Rattle.abc_field.proofs.WordForms.{words-spelled, words-of-spelled}
+use Rattle.abc_field.proofs.KeyWordForms.{Spells, natural-takes, words-take, words-read}
+use Rattle.abc_field.proofs.ReadLaws.{Where, where_read, where_then, where_or, where_map, option_case, byte_case}
+use Rattle.abc_field.proofs.ReadLaws.{word_case, HasForm, formed, unread}
 use Rattle.abc_field.proofs.ReadLaws.{none_read}
 
 -- Modes.

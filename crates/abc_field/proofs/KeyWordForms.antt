@@ -1,14 +1,24 @@
 -- A word of a key reads as a sign, a clef or another word exactly where a good form of it spells it.
-use Rattle.std.proofs.Common.{◌≡◌, refl, ap, ◌∙◌, ℕ, ◌-◌, ◌≤◌, List, [], ◌∷◌, ◌++◌, Bool, true, false, map, arith, ◌==◌, Option, Some, IfSome, codes}
-use Rattle.std.{proofs.lemmas.{Bool.{cond_both, false_from_ne_true}, Option.IfSome_then, Slice.Eq.bytes_eq-Decides}, specs.List.list_any}
+use Rattle.std.proofs.Common.{◌≡◌, refl, ap, ◌∙◌, ℕ, ◌-◌, ◌≤◌, List, [], ◌∷◌, ◌++◌, Bool, true, false, map, arith, ◌==◌}
+use Rattle.std.proofs.Common.{Option, Some, IfSome, codes}
+use Rattle.std.proofs.lemmas.Bool.{cond_both, false_from_ne_true}
+use Rattle.std.proofs.lemmas.Option.{IfSome_then}
+use Rattle.std.proofs.lemmas.Slice.Eq.{bytes_eq-Decides}
+use Rattle.std.specs.List.{list_any}
 use Rattle.std.specs.{Option.option_map, Str.bytes_eq}
 use Rattle.mus_units.specs.declared.pitch.{Alter.Alter, Clef.Clef, Letter.Letter}
-use Rattle.abc_field.specs.KeySpelling.{tonic_byte, letter_spelled, alter_spelled, KeyWordForm, exp_word, sign_word, clef_word, name_word}
-use Rattle.abc_field.specs.{KeySpelling.{passed_word, word_spelled, IsPassed, IsGoodWord, AreGoodWords, word_meant}, declared.key.KeyWord.KeyWord}
-use Rattle.abc_field.specs.Keys.{natural_letter, letter_of, letter_alone, signed_letter, sign_of, clef_of, by_name, by_clef, by_sign, key_word, key_words}
-use Rattle.abc_field.specs.{VoiceSpelling.{ClefForm, plain_clef, above_clef, below_clef, clef_spelled}, Words.after_prefix}
-use Rattle.abc_field.proofs.{MeterForms.{behind-takes, behind-front}, VoiceForms.{clef-read, clef-takes, no_clef_read, no_front, clef_behind}}
-use Rattle.abc_field.proofs.ReadLaws.{Where, where_read, where_then, where_or, where_map, option_case, byte_case, word_case, HasForm, formed, unread}
+use Rattle.abc_field.specs.KeySpelling.{tonic_byte, letter_spelled, alter_spelled, KeyWordForm, exp_word, sign_word}
+use Rattle.abc_field.specs.KeySpelling.{clef_word, name_word}
+use Rattle.abc_field.specs.KeySpelling.{passed_word, word_spelled, IsPassed, IsGoodWord, AreGoodWords, word_meant}
+use Rattle.abc_field.specs.declared.key.KeyWord.{KeyWord}
+use Rattle.abc_field.specs.Keys.{natural_letter, letter_of, letter_alone, signed_letter, sign_of, clef_of, by_name}
+use Rattle.abc_field.specs.Keys.{by_clef, by_sign, key_word, key_words}
+use Rattle.abc_field.specs.VoiceSpelling.{ClefForm, plain_clef, above_clef, below_clef, clef_spelled}
+use Rattle.abc_field.specs.Words.{after_prefix}
+use Rattle.abc_field.proofs.MeterForms.{behind-takes, behind-front}
+use Rattle.abc_field.proofs.VoiceForms.{clef-read, clef-takes, no_clef_read, no_front, clef_behind}
+use Rattle.abc_field.proofs.ReadLaws.{Where, where_read, where_then, where_or, where_map, option_case, byte_case}
+use Rattle.abc_field.proofs.ReadLaws.{word_case, HasForm, formed, unread}
 use Rattle.abc_field.proofs.ReadLaws.{none_read, HaveForms, more_forms}
 
 -- Letters.

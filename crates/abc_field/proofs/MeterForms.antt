@@ -1,19 +1,32 @@
 -- A text reads as a meter exactly where a good form of that meter spells it; likewise unit lengths.
-use Rattle.std.proofs.Common.{◌≡◌, refl, sym, ap, ◌∙◌, ℕ, ◌+◌, ◌≤◌, List, [], ◌∷◌, ◌++◌, Bool, true, false, length, take, drop, arith}
+use Rattle.std.proofs.Common.{◌≡◌, refl, sym, ap, ◌∙◌, ℕ, ◌+◌, ◌≤◌, List, [], ◌∷◌, ◌++◌, Bool, true, false, length}
+use Rattle.std.proofs.Common.{take, drop, arith}
 use Rattle.std.proofs.Common.{◌==◌, ◌||◌, not, nat_eq, nat_le, Option, Some, None, codes, take-append-drop, append-nil}
-use Rattle.std.proofs.lemmas.Bool.{agree_below, agree_below_at, and_parts, cond_both, eqb-true, leb-true, le-leb, not-false, not-true}
+use Rattle.std.proofs.lemmas.Bool.{agree_below, agree_below_at, and_parts, cond_both, eqb-true, leb-true, le-leb}
+use Rattle.std.proofs.lemmas.Bool.{not-false, not-true}
 use Rattle.std.proofs.lemmas.{Slice.Eq.bytes_eq-Decides, Option.same_Some, List.Folds.list_all-append}
-use Rattle.std.proofs.{lemmas.List.Splits.{join_with_byte-slice_split, length-slice_split}, Math.Seq.{take-append_seam, drop-append_seam}}
+use Rattle.std.proofs.lemmas.List.Splits.{join_with_byte-slice_split, length-slice_split}
+use Rattle.std.proofs.Math.Seq.{take-append_seam, drop-append_seam}
 use Rattle.std.specs.{List.{list_all, join_with_byte, slice_split, starts_with}, Option.option_and_then}
-use Rattle.{mus_units.specs.{declared.{key.Meter.Meter, value.Frac.Frac}, Good.is_halving}, abc_lines.specs.Kinds.is_blank}
-use Rattle.abc_field.specs.Meters.{is_plus, halving_of, with_terms, plus, sum_of, ratio, below_of, below_behind, plain_ratio, wrapped_ratio, ratio_by}
+use Rattle.mus_units.specs.declared.key.Meter.{Meter}
+use Rattle.mus_units.specs.declared.value.Frac.{Frac}
+use Rattle.mus_units.specs.Good.{is_halving}
+use Rattle.abc_lines.specs.Kinds.{is_blank}
+use Rattle.abc_field.specs.Meters.{is_plus, halving_of, with_terms, plus, sum_of, ratio, below_of, below_behind}
+use Rattle.abc_field.specs.Meters.{plain_ratio, wrapped_ratio, ratio_by}
 use Rattle.abc_field.specs.Meters.{terms_after, ratio_of, meter_at, meter_of, one_over, unit_at, unit_of}
-use Rattle.abc_field.specs.MeterSpelling.{MeterForm, common_form, cut_form, none_form, empty_form, sum_form, wrapped_form, meter_spelled, value_sum}
-use Rattle.abc_field.specs.MeterSpelling.{IsGoodSum, IsGoodMeterForm, meter_meant, SaysMeter, UnitForm, whole_form, over_form, unit_spelled}
+use Rattle.abc_field.specs.MeterSpelling.{MeterForm, common_form, cut_form, none_form, empty_form, sum_form}
+use Rattle.abc_field.specs.MeterSpelling.{wrapped_form, meter_spelled, value_sum}
+use Rattle.abc_field.specs.MeterSpelling.{IsGoodSum, IsGoodMeterForm, meter_meant, SaysMeter, UnitForm, whole_form}
+use Rattle.abc_field.specs.MeterSpelling.{over_form, unit_spelled}
 use Rattle.abc_field.specs.MeterSpelling.{IsGoodUnitForm, unit_meant, SaysUnit}
-use Rattle.abc_field.specs.{Numbers.{is_digit, is_number, value_of, number_of, place_of_byte, before, from_first, behind_one}, Words.{trimmed, after_prefix}}
-use Rattle.abc_field.proofs.{BlankLaws.{Stops, front-stops, prefix-stops, trimmed-between, between-trimmed}, MeterLaws.split_cut}
-use Rattle.abc_field.proofs.ReadLaws.{Where, where_read, where_then, option_case, word_case, HasForm, formed, form_meant}
+use Rattle.abc_field.specs.Numbers.{is_digit, is_number, value_of, number_of, place_of_byte, before, from_first}
+use Rattle.abc_field.specs.Numbers.{behind_one}
+use Rattle.abc_field.specs.Words.{trimmed, after_prefix}
+use Rattle.abc_field.proofs.BlankLaws.{Stops, front-stops, prefix-stops, trimmed-between, between-trimmed}
+use Rattle.abc_field.proofs.MeterLaws.{split_cut}
+use Rattle.abc_field.proofs.ReadLaws.{Where, where_read, where_then, option_case, word_case, HasForm, formed}
+use Rattle.abc_field.proofs.ReadLaws.{form_meant}
 
 -- it isn't this byte, and no byte of s is
 abbrev pub other : ℕ → ℕ → Bool

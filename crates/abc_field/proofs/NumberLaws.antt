@@ -1,5 +1,6 @@
 -- Values of digits: below a limit they are kept by a sum that stops at it.
-use Rattle.std.proofs.{Common.{◌≡◌, ℕ, ◌+◌, ◌*◌, ◌-◌, ◌≤◌, ◌<◌, List, [], ◌∷◌, true, length, arith, min}, lemmas.Bool.{and_parts, leb-true}}
+use Rattle.std.proofs.Common.{◌≡◌, ℕ, ◌+◌, ◌*◌, ◌-◌, ◌≤◌, ◌<◌, List, [], ◌∷◌, true, length, arith, min}
+use Rattle.std.proofs.lemmas.Bool.{and_parts, leb-true}
 use Rattle.std.specs.{List.list_all, Prelude.⊤}
 use Rattle.abc_field.specs.Numbers.{is_digit, is_number, value_after, value_of}
 

@@ -1,5 +1,6 @@
 -- Something is read of a text only where a form spells it: by cases of what is read, for one word and for all words of a list.
-use Rattle.std.proofs.Common.{◌≡◌, refl, sym, ap, ◌∙◌, subst, ℕ, List, ◌∷◌, Bool, true, false, map, cond, ◌==◌, Option, Some, None, IfSome}
+use Rattle.std.proofs.Common.{◌≡◌, refl, sym, ap, ◌∙◌, subst, ℕ, List, ◌∷◌, Bool, true, false, map, cond, ◌==◌, Option}
+use Rattle.std.proofs.Common.{Some, None, IfSome}
 use Rattle.std.proofs.lemmas.{Bool.{cond_both, eqb-true}, Option.{none-some, same_Some}, Slice.Eq.bytes_eq-Decides}
 use Rattle.std.specs.{Option.{option_map, option_and_then, option_or}, Str.bytes_eq}
 

@@ -1,16 +1,29 @@
 -- A text reads as a clef, and as a voice, exactly where a good form of it spells it.
-use Rattle.std.proofs.Common.{◌≡◌, refl, sym, ap, ◌∙◌, ℕ, ◌-◌, List, [], ◌∷◌, ◌++◌, Bool, true, false, length, take, drop, map, not, nat_eq, nat_le}
-use Rattle.std.proofs.{Common.{◌||◌, Some, None, codes, cond, take-append-drop}, lemmas.Bool.{and_parts, cond_both, leb-true, le-leb}}
-use Rattle.std.{proofs.lemmas.{Option.same_Some, Slice.Eq.bytes_eq-Decides}, specs.{Prelude.⊤, List.ends_with, Option.option_map}}
+use Rattle.std.proofs.Common.{◌≡◌, refl, sym, ap, ◌∙◌, ℕ, ◌-◌, List, [], ◌∷◌, ◌++◌, Bool, true, false, length, take}
+use Rattle.std.proofs.Common.{drop, map, not, nat_eq, nat_le}
+use Rattle.std.proofs.Common.{◌||◌, Some, None, codes, cond, take-append-drop}
+use Rattle.std.proofs.lemmas.Bool.{and_parts, cond_both, leb-true, le-leb}
+use Rattle.std.proofs.lemmas.Option.{same_Some}
+use Rattle.std.proofs.lemmas.Slice.Eq.{bytes_eq-Decides}
+use Rattle.std.specs.Prelude.{⊤}
+use Rattle.std.specs.List.{ends_with}
+use Rattle.std.specs.Option.{option_map}
 use Rattle.mus_units.specs.declared.{pitch.Clef.Clef, note.Wish.Wish}
-use Rattle.abc_field.specs.VoiceSpelling.{ClefForm, plain_clef, above_clef, below_clef, clef_name, clef_spelled, clef_meant, wish_name, SaysVoice}
-use Rattle.abc_field.specs.VoiceSpelling.{PropertyForm, clef_property, name_property, stem_property, other_property, property_spelled}
-use Rattle.abc_field.specs.{VoiceSpelling.{IsGoodProperty, AreGoodProperties, property_meant}, declared.voice.VoiceDef.VoiceDef}
-use Rattle.abc_field.specs.{declared.voice.VoiceWord.VoiceWord, Keys.{named_clef, clef_of}, Words.{next_word, properties_of, ends_quoted, after_prefix}}
+use Rattle.abc_field.specs.VoiceSpelling.{ClefForm, plain_clef, above_clef, below_clef, clef_name, clef_spelled}
+use Rattle.abc_field.specs.VoiceSpelling.{clef_meant, wish_name, SaysVoice}
+use Rattle.abc_field.specs.VoiceSpelling.{PropertyForm, clef_property, name_property, stem_property, other_property}
+use Rattle.abc_field.specs.VoiceSpelling.{property_spelled}
+use Rattle.abc_field.specs.VoiceSpelling.{IsGoodProperty, AreGoodProperties, property_meant}
+use Rattle.abc_field.specs.declared.voice.VoiceDef.{VoiceDef}
+use Rattle.abc_field.specs.declared.voice.VoiceWord.{VoiceWord}
+use Rattle.abc_field.specs.Keys.{named_clef, clef_of}
+use Rattle.abc_field.specs.Words.{next_word, properties_of, ends_quoted, after_prefix}
 use Rattle.abc_field.specs.WordSpelling.{IsFirstWord}
-use Rattle.abc_field.specs.Voices.{wish_of, by_stem, by_clef, voice_word, voice_words, voice_def, is_good_voice, voice_by_id, voice_of}
+use Rattle.abc_field.specs.Voices.{wish_of, by_stem, by_clef, voice_word, voice_words, voice_def, is_good_voice}
+use Rattle.abc_field.specs.Voices.{voice_by_id, voice_of}
 use Rattle.abc_field.proofs.{MeterForms.{behind-takes, behind-front}, WordForms.{first-takes, first-read}}
-use Rattle.abc_field.proofs.ReadLaws.{Where, where_read, where_then, where_map, option_case, word_case, HasForm, formed, unread, none_read, nothing}
+use Rattle.abc_field.proofs.ReadLaws.{Where, where_read, where_then, where_map, option_case, word_case, HasForm, formed}
+use Rattle.abc_field.proofs.ReadLaws.{unread, none_read, nothing}
 use Rattle.abc_field.proofs.ReadLaws.{HaveForms, more_forms}
 
 -- Clefs.

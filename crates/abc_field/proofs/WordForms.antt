@@ -1,10 +1,13 @@
 -- The words that are read one after another are those of the text, with blanks between them.
-use Rattle.std.proofs.Common.{◌≡◌, refl, sym, ap, ◌∙◌, subst, ℕ, List, [], ◌∷◌, ◌++◌, true, false, length, take, not, Option, Some, None, IfSome}
+use Rattle.std.proofs.Common.{◌≡◌, refl, sym, ap, ◌∙◌, subst, ℕ, List, [], ◌∷◌, ◌++◌, true, false, length, take, not}
+use Rattle.std.proofs.Common.{Option, Some, None, IfSome}
 use Rattle.std.proofs.{Common.{take-append-drop, append-nil}, lemmas.{Bool.{and_parts, not-true}, Option.none-some}}
 use Rattle.std.{proofs.Math.Seq.{take-append_seam, drop-append_seam}, specs.List.{list_all, prefix_len}}
 use Rattle.abc_lines.specs.Kinds.{is_blank, after_blanks}
-use Rattle.abc_field.specs.{Words.{is_empty, word_len, word_and_rest, next_word, words_of, words_after}, WordSpelling.{EndsWord, IsFirstWord, HasWords}}
-use Rattle.abc_field.proofs.{BlankLaws.{front-passes, blanks-passed, blanks-gone, stays}, ReadLaws.{by_test, option_case, some_holds}}
+use Rattle.abc_field.specs.Words.{is_empty, word_len, word_and_rest, next_word, words_of, words_after}
+use Rattle.abc_field.specs.WordSpelling.{EndsWord, IsFirstWord, HasWords}
+use Rattle.abc_field.proofs.BlankLaws.{front-passes, blanks-passed, blanks-gone, stays}
+use Rattle.abc_field.proofs.ReadLaws.{by_test, option_case, some_holds}
 use Rattle.abc_field.proofs.WordLaws.{BeginsWord, behind-begins, word-some, word-stops, words-next}
 
 -- The first word.

@@ -2,7 +2,8 @@
 use Rattle.std.proofs.Common.{◌≡◌, refl, ap, sym, ◌∙◌, ℕ, List, [], ◌∷◌, Bool, true, false, not, take, drop}
 use Rattle.std.{proofs.lemmas.Bool.and_parts, specs.{Prelude.{⊤, Option, filter}}}
 use Rattle.abc_lines.specs.Kinds.{is_blank, after_blanks}
-use Rattle.abc_field.specs.Words.{is_empty, quoted_after, parts_words, pieces, words_in, word_len, word_and_rest, next_word, words_after}
+use Rattle.abc_field.specs.Words.{is_empty, quoted_after, parts_words, pieces, words_in, word_len, word_and_rest}
+use Rattle.abc_field.specs.Words.{next_word, words_after}
 use Rattle.abc_field.specs.WordSpelling.{EndsWord}
 use Rattle.abc_field.proofs.{BlankLaws.{behind-cons, front-stops}, ReadLaws.by_test}
 

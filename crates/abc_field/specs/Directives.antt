@@ -1,6 +1,11 @@
 -- Directives: their name, and what those that bear on breaks and on signs say.
-use Rattle.std.specs.{Prelude.{ℕ, List, Bool, ◌||◌, not, if◌then◌else◌, take, drop, codes, Option, Some, None}, List.{prefix_len, list_any}, Str.bytes_eq}
-use Rattle.{mus_units.specs.declared.key.Spread.{Spread}, abc_lines.specs.Kinds.{is_blank}, abc_field.specs.{declared.directive.Breaks.Breaks, Words.words_of, Words.trimmed}}
+use Rattle.std.specs.Prelude.{ℕ, List, Bool, ◌||◌, not, if◌then◌else◌, take, drop, codes, Option, Some, None}
+use Rattle.std.specs.List.{prefix_len, list_any}
+use Rattle.std.specs.Str.{bytes_eq}
+use Rattle.mus_units.specs.declared.key.Spread.{Spread}
+use Rattle.abc_lines.specs.Kinds.{is_blank}
+use Rattle.abc_field.specs.declared.directive.Breaks.{Breaks}
+use Rattle.abc_field.specs.Words.{words_of, trimmed}
 
 -- the name is what stands before the first blank
 abbrev pub name_len : List ℕ → ℕ

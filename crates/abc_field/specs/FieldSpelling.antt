@@ -3,8 +3,20 @@
 use Prim.Native.Char.{code}
 use Rattle.std.specs.Prelude.{◌≡◌, ℕ, List, Bool, ⊤, ◌==◌, ◌||◌, IsTrue, not, codes}
 use Rattle.mus_units.specs.{declared.key.Meter.Meter, declared.key.Spread.Spread, declared.value.Frac.Frac}
-use Rattle.abc_lines.specs.{declared.book.Line.Line, declared.fault.FaultKind.FaultKind, declared.fault.TuneError.TuneError, declared.kind.LineKind.LineKind, Kinds.kind_of, Kinds.field_text}
-use Rattle.abc_field.specs.{declared.{directive.Breaks.Breaks, key.KeyText.KeyText, voice.VoiceDef.VoiceDef, field.{Field.Field, FieldError.FieldError}}, Directives.{name_of, rest_of, has_word, names_breaks}, KeySpelling.SaysKey, MeterSpelling.{SaysMeter, SaysUnit}, VoiceSpelling.SaysVoice}
+use Rattle.abc_lines.specs.declared.book.Line.{Line}
+use Rattle.abc_lines.specs.declared.fault.FaultKind.{FaultKind}
+use Rattle.abc_lines.specs.declared.fault.TuneError.{TuneError}
+use Rattle.abc_lines.specs.declared.kind.LineKind.{LineKind}
+use Rattle.abc_lines.specs.Kinds.{kind_of, field_text}
+use Rattle.abc_field.specs.declared.directive.Breaks.{Breaks}
+use Rattle.abc_field.specs.declared.key.KeyText.{KeyText}
+use Rattle.abc_field.specs.declared.voice.VoiceDef.{VoiceDef}
+use Rattle.abc_field.specs.declared.field.Field.{Field}
+use Rattle.abc_field.specs.declared.field.FieldError.{FieldError}
+use Rattle.abc_field.specs.Directives.{name_of, rest_of, has_word, names_breaks}
+use Rattle.abc_field.specs.KeySpelling.{SaysKey}
+use Rattle.abc_field.specs.MeterSpelling.{SaysMeter, SaysUnit}
+use Rattle.abc_field.specs.VoiceSpelling.{SaysVoice}
 
 -- Line breaks: at least one of the four words stands among the words of the text, and each
 -- of the three breaks is on where its word does; `<none>` adds none, and other words are passed over.

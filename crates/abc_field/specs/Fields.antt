@@ -1,9 +1,25 @@
 -- What a line says: its field, or its fault. The function that the code follows; what is meant is in FieldSpelling.
 use Prim.Native.Char.{code}
-use Rattle.std.specs.{Prelude.{◌≡◌, ℕ, List, ◌==◌, if◌then◌else◌, codes, Option, Some, None, Result, Ok, Err, ⊤}, Str.bytes_eq}
-use Rattle.mus_units.specs.{declared.key.Meter.Meter, declared.key.Spread.Spread, declared.value.Frac.Frac, Good.IsGoodMeter, Good.IsGoodUnit}
-use Rattle.abc_lines.specs.{declared.book.Line.Line, declared.fault.FaultKind.FaultKind, declared.fault.TuneError.TuneError, declared.kind.LineKind.LineKind, Kinds.kind_of, Kinds.field_text}
-use Rattle.abc_field.specs.{declared.{directive.Breaks.Breaks, key.KeyText.KeyText, voice.VoiceDef.VoiceDef, field.{Field.Field, FieldError.FieldError}}, Directives.{name_of, rest_of, breaks_of, spread_of}, Keys.{key_of, IsGoodKeyText}, Meters.{meter_of, unit_of}, Voices.voice_of}
+use Rattle.std.specs.Prelude.{◌≡◌, ℕ, List, ◌==◌, if◌then◌else◌, codes, Option, Some, None, Result, Ok, Err, ⊤}
+use Rattle.std.specs.Str.{bytes_eq}
+use Rattle.mus_units.specs.declared.key.Meter.{Meter}
+use Rattle.mus_units.specs.declared.key.Spread.{Spread}
+use Rattle.mus_units.specs.declared.value.Frac.{Frac}
+use Rattle.mus_units.specs.Good.{IsGoodMeter, IsGoodUnit}
+use Rattle.abc_lines.specs.declared.book.Line.{Line}
+use Rattle.abc_lines.specs.declared.fault.FaultKind.{FaultKind}
+use Rattle.abc_lines.specs.declared.fault.TuneError.{TuneError}
+use Rattle.abc_lines.specs.declared.kind.LineKind.{LineKind}
+use Rattle.abc_lines.specs.Kinds.{kind_of, field_text}
+use Rattle.abc_field.specs.declared.directive.Breaks.{Breaks}
+use Rattle.abc_field.specs.declared.key.KeyText.{KeyText}
+use Rattle.abc_field.specs.declared.voice.VoiceDef.{VoiceDef}
+use Rattle.abc_field.specs.declared.field.Field.{Field}
+use Rattle.abc_field.specs.declared.field.FieldError.{FieldError}
+use Rattle.abc_field.specs.Directives.{name_of, rest_of, breaks_of, spread_of}
+use Rattle.abc_field.specs.Keys.{key_of, IsGoodKeyText}
+use Rattle.abc_field.specs.Meters.{meter_of, unit_of}
+use Rattle.abc_field.specs.Voices.{voice_of}
 
 abbrev pub key_field : Option KeyText → Result Field FaultKind
 key_field (Some key) = Ok (Field.Key key)

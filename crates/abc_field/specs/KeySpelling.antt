@@ -1,8 +1,18 @@
 -- How keys are written: words, each a form with its spelling, when it is good, and what it means.
 use Prim.Native.Char.{code}
-use Rattle.std.specs.{Prelude.{◌≡◌, ℕ, ◌+◌, pos, List, [], ◌∷◌, ◌++◌, Bool, true, false, IsTrue, ⊤, ◌==◌, map, codes, Some}, Char.to_ascii_lowercase, List.list_any}
-use Rattle.{mus_units.specs.{declared.pitch.Alter.Alter, declared.pitch.Letter.Letter}, mus_pitch.specs.declared.circle.Mode.{Mode}}
-use Rattle.abc_field.specs.{declared.key.KeyText.KeyText, declared.key.KeyWord.KeyWord, declared.key.KeyStart.KeyStart, Keys.key_start, Keys.start_with, Keys.key_by, VoiceSpelling.ClefForm, VoiceSpelling.clef_spelled, VoiceSpelling.clef_meant, WordSpelling.HasWords}
+use Rattle.std.specs.Prelude.{◌≡◌, ℕ, ◌+◌, pos, List, [], ◌∷◌, ◌++◌, Bool, true, false, IsTrue, ⊤, ◌==◌, map, codes}
+use Rattle.std.specs.Prelude.{Some}
+use Rattle.std.specs.Char.{to_ascii_lowercase}
+use Rattle.std.specs.List.{list_any}
+use Rattle.mus_units.specs.declared.pitch.Alter.{Alter}
+use Rattle.mus_units.specs.declared.pitch.Letter.{Letter}
+use Rattle.mus_pitch.specs.declared.circle.Mode.{Mode}
+use Rattle.abc_field.specs.declared.key.KeyText.{KeyText}
+use Rattle.abc_field.specs.declared.key.KeyWord.{KeyWord}
+use Rattle.abc_field.specs.declared.key.KeyStart.{KeyStart}
+use Rattle.abc_field.specs.Keys.{key_start, start_with, key_by}
+use Rattle.abc_field.specs.VoiceSpelling.{ClefForm, clef_spelled, clef_meant}
+use Rattle.abc_field.specs.WordSpelling.{HasWords}
 
 -- A to G; a small letter stands 32 further
 abbrev pub tonic_byte : Letter → ℕ

@@ -1,9 +1,24 @@
 -- What a key's text says: which signs, and which clef.
 use Prim.Native.Char.{code}
-use Rattle.std.specs.{Prelude.{ℕ, ℤ, pos, List, [], ◌∷◌, Bool, true, false, ◌==◌, ◌||◌, ⊤, nat_eq, if◌then◌else◌, length, take, codes, Option, Some, None, ◌-◌}, List.{list_any, filter_map, ends_with, after_last}, Option.{option_map, option_and_then, option_or}, Str.bytes_eq, Char.to_ascii_lowercase}
-use Rattle.mus_units.specs.{declared.pitch.Letter.Letter, declared.pitch.Alter.Alter, declared.pitch.Clef.Clef, declared.key.Sign.Sign, Good.IsGoodKey, declared.key.Key.Key}
+use Rattle.std.specs.Prelude.{ℕ, ℤ, pos, List, [], ◌∷◌, Bool, true, false, ◌==◌, ◌||◌, ⊤, nat_eq, if◌then◌else◌, length}
+use Rattle.std.specs.Prelude.{take, codes, Option, Some, None, ◌-◌}
+use Rattle.std.specs.List.{list_any, filter_map, ends_with, after_last}
+use Rattle.std.specs.Option.{option_map, option_and_then, option_or}
+use Rattle.std.specs.Str.{bytes_eq}
+use Rattle.std.specs.Char.{to_ascii_lowercase}
+use Rattle.mus_units.specs.declared.pitch.Letter.{Letter}
+use Rattle.mus_units.specs.declared.pitch.Alter.{Alter}
+use Rattle.mus_units.specs.declared.pitch.Clef.{Clef}
+use Rattle.mus_units.specs.declared.key.Sign.{Sign}
+use Rattle.mus_units.specs.Good.{IsGoodKey}
+use Rattle.mus_units.specs.declared.key.Key.{Key}
 use Rattle.mus_pitch.specs.{declared.circle.Mode.Mode, Circle.signature_of, Circle.signs_of, Signs.laid}
-use Rattle.abc_field.specs.{declared.key.Tonic.Tonic, Last.last_of, declared.key.KeyText.KeyText, declared.key.KeyWord.KeyWord, declared.key.KeyStart.KeyStart, Words.words_of, Words.after_prefix}
+use Rattle.abc_field.specs.declared.key.Tonic.{Tonic}
+use Rattle.abc_field.specs.Last.{last_of}
+use Rattle.abc_field.specs.declared.key.KeyText.{KeyText}
+use Rattle.abc_field.specs.declared.key.KeyWord.{KeyWord}
+use Rattle.abc_field.specs.declared.key.KeyStart.{KeyStart}
+use Rattle.abc_field.specs.Words.{words_of, after_prefix}
 
 abbrev pub natural_letter : ℕ → Option Letter
 natural_letter b = if b == code "C" then Some Letter.C else (if b == code "D" then Some Letter.D else (if b == code "E" then Some Letter.E else (if b == code "F" then Some Letter.F else (if b == code "G" then Some Letter.G else (if b == code "A" then Some Letter.A else (if b == code "B" then Some Letter.B else None))))))

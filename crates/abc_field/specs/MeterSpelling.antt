@@ -1,8 +1,13 @@
 -- How meters and unit lengths are written: each form with its spelling, when it is good, and what
 -- it means. Blanks round the whole text count for nothing.
 use Prim.Native.Char.{code}
-use Rattle.std.specs.{Prelude.{◌≡◌, ℕ, ◌+◌, ◌≤◌, List, [], ◌∷◌, ◌++◌, IsTrue, ⊤, length, codes}, List.{list_all, join_with_byte}}
-use Rattle.{mus_units.specs.{declared.key.Meter.Meter, declared.value.Frac.Frac, Good.is_halving}, abc_field.specs.{Numbers.is_number, Numbers.value_of, WordSpelling.IsBetweenBlanks}}
+use Rattle.std.specs.Prelude.{◌≡◌, ℕ, ◌+◌, ◌≤◌, List, [], ◌∷◌, ◌++◌, IsTrue, ⊤, length, codes}
+use Rattle.std.specs.List.{list_all, join_with_byte}
+use Rattle.mus_units.specs.declared.key.Meter.{Meter}
+use Rattle.mus_units.specs.declared.value.Frac.{Frac}
+use Rattle.mus_units.specs.Good.{is_halving}
+use Rattle.abc_field.specs.Numbers.{is_number, value_of}
+use Rattle.abc_field.specs.WordSpelling.{IsBetweenBlanks}
 
 -- A meter is C, C with a bar line, the word none or nothing; or numbers with a plus sign between each two, over a number, with or without
 -- parentheses round what stands above. A number is kept as the digits that write it.

@@ -1,7 +1,15 @@
 -- Meters and unit lengths: how they are written and what they mean.
 use Prim.Native.Char.{code}
-use Rattle.std.specs.{Prelude.{ℕ, ◌+◌, ◌*◌, List, [], ◌∷◌, Bool, ◌==◌, nat_le, nat_lt, codes, Option, Some, None, if◌then◌else◌}, List.slice_split, Option.option_and_then, Str.bytes_eq}
-use Rattle.{mus_units.specs.{declared.key.Meter.Meter, declared.value.Frac.Frac, Good.is_halving}, abc_field.specs.{Numbers.number_of, Numbers.before, Numbers.from_first, Numbers.behind_one, Words.trimmed, Words.after_prefix}}
+use Rattle.std.specs.Prelude.{ℕ, ◌+◌, ◌*◌, List, [], ◌∷◌, Bool, ◌==◌, nat_le, nat_lt, codes, Option, Some, None}
+use Rattle.std.specs.Prelude.{if◌then◌else◌}
+use Rattle.std.specs.List.{slice_split}
+use Rattle.std.specs.Option.{option_and_then}
+use Rattle.std.specs.Str.{bytes_eq}
+use Rattle.mus_units.specs.declared.key.Meter.{Meter}
+use Rattle.mus_units.specs.declared.value.Frac.{Frac}
+use Rattle.mus_units.specs.Good.{is_halving}
+use Rattle.abc_field.specs.Numbers.{number_of, before, from_first, behind_one}
+use Rattle.abc_field.specs.Words.{trimmed, after_prefix}
 
 abbrev pub halving_of : Option ℕ → Option ℕ
 halving_of None = None

@@ -1,6 +1,8 @@
 -- Numbers as they are written: those of music, and those of paper with hundredths.
 use Prim.Native.Char.{code}
-use Rattle.std.specs.{Prelude.{ℕ, ◌+◌, ◌-◌, ◌*◌, take, drop, List, [], ◌∷◌, Bool, false, ◌==◌, ◌&&◌, not, nat_le, length, Option, Some, None, if◌then◌else◌}, List.{list_all, prefix_len}}
+use Rattle.std.specs.Prelude.{ℕ, ◌+◌, ◌-◌, ◌*◌, take, drop, List, [], ◌∷◌, Bool, false, ◌==◌, ◌&&◌, not, nat_le, length}
+use Rattle.std.specs.Prelude.{Option, Some, None, if◌then◌else◌}
+use Rattle.std.specs.List.{list_all, prefix_len}
 pub use Rattle.mus_units.specs.Bytes.{is_digit}
 
 abbrev pub begins_zero : List ℕ → Bool

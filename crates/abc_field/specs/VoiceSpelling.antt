@@ -1,7 +1,11 @@
 -- How clefs and voices are written: each form with its spelling, when it is good, and what it means.
 use Rattle.std.specs.Prelude.{◌≡◌, ℕ, ◌≤◌, List, [], ◌∷◌, ◌++◌, false, IsTrue, ⊤, not, length, map, codes}
 use Rattle.mus_units.specs.{declared.pitch.Clef.Clef, declared.note.Wish.Wish}
-use Rattle.abc_field.specs.{declared.voice.VoiceDef.VoiceDef, declared.voice.VoiceWord.VoiceWord, Voices.voice_def, WordSpelling.IsFirstWord, Words.properties_of, Words.ends_quoted}
+use Rattle.abc_field.specs.declared.voice.VoiceDef.{VoiceDef}
+use Rattle.abc_field.specs.declared.voice.VoiceWord.{VoiceWord}
+use Rattle.abc_field.specs.Voices.{voice_def}
+use Rattle.abc_field.specs.WordSpelling.{IsFirstWord}
+use Rattle.abc_field.specs.Words.{properties_of, ends_quoted}
 
 -- A clef is its name; an octave above or below may stand behind it, and counts for nothing.
 pub data ClefForm : Type 0 where

@@ -1,7 +1,14 @@
 -- What a voice's text says: its id, its clef and the way of its stems.
-use Rattle.std.specs.{Prelude.{ℕ, List, [], ◌∷◌, Bool, false, ◌&&◌, not, nat_le, if◌then◌else◌, length, codes, Option, Some, None, is_some, unwrap_or}, Option.{option_map, option_and_then}, Str.bytes_eq}
+use Rattle.std.specs.Prelude.{ℕ, List, [], ◌∷◌, Bool, false, ◌&&◌, not, nat_le, if◌then◌else◌, length, codes, Option}
+use Rattle.std.specs.Prelude.{Some, None, is_some, unwrap_or}
+use Rattle.std.specs.Option.{option_map, option_and_then}
+use Rattle.std.specs.Str.{bytes_eq}
 use Rattle.mus_units.specs.{declared.pitch.Clef.Clef, declared.note.Wish.Wish}
-use Rattle.abc_field.specs.{declared.voice.VoiceDef.VoiceDef, declared.voice.VoiceWord.VoiceWord, Keys.clef_of, Last.last_of, Words.next_word, Words.properties_of, Words.ends_quoted, Words.after_prefix}
+use Rattle.abc_field.specs.declared.voice.VoiceDef.{VoiceDef}
+use Rattle.abc_field.specs.declared.voice.VoiceWord.{VoiceWord}
+use Rattle.abc_field.specs.Keys.{clef_of}
+use Rattle.abc_field.specs.Last.{last_of}
+use Rattle.abc_field.specs.Words.{next_word, properties_of, ends_quoted, after_prefix}
 
 abbrev pub wish_of : List ℕ → Option Wish
 wish_of w = if bytes_eq w (codes "up") then Some Wish.Up else (if bytes_eq w (codes "down") then Some Wish.Down else (if bytes_eq w (codes "auto") then Some Wish.Auto else None))

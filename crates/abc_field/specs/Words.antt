@@ -1,6 +1,8 @@
 -- Words of a text: what stands between its spaces and tabs. Where quotes count, what stands between two of them is not parted.
 use Prim.Native.Char.{code}
-use Rattle.std.specs.{Prelude.{ℕ, suc, List, [], ◌∷◌, Bool, true, false, ◌==◌, ◌&&◌, not, if◌then◌else◌, filter, take, drop, length, nat_eq, Option, Some, None}, List.{onto_first, starts_with}}
+use Rattle.std.specs.Prelude.{ℕ, suc, List, [], ◌∷◌, Bool, true, false, ◌==◌, ◌&&◌, not, if◌then◌else◌, filter, take}
+use Rattle.std.specs.Prelude.{drop, length, nat_eq, Option, Some, None}
+use Rattle.std.specs.List.{onto_first, starts_with}
 use Rattle.mus_units.specs.Bytes.{trimmed as between_blanks}
 use Rattle.abc_lines.specs.Kinds.{is_blank, after_blanks}
 

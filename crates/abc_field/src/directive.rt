@@ -1,5 +1,7 @@
-ghost use Rattle.std.specs.{Prelude.◌≡◌, Prelude.◌≤◌, Prelude.◌||◌, Prelude.length, Prelude.codes, Prelude.not, List.prefix_len};
-ghost use Rattle.{abc_lines.specs.Kinds.{is_blank}, abc_field.specs.Directives.{name_len, name_of, rest_of, has_word, names_breaks, breaks_of, spread_of}};
+ghost use Rattle.std.specs.Prelude.{◌≡◌, ◌≤◌, ◌||◌, length, codes, not};
+ghost use Rattle.std.specs.List.{prefix_len};
+ghost use Rattle.abc_lines.specs.Kinds.{is_blank};
+ghost use Rattle.abc_field.specs.Directives.{name_len, name_of, rest_of, has_word, names_breaks, breaks_of, spread_of};
 
 use crate::words::{has_word, is_blank, is_same, trimmed};
 use mus_units::Spread;

@@ -1,6 +1,13 @@
 ghost use Rattle.std.specs.Prelude.{◌≡◌, IfOk, IfErr, Ok};
 ghost use Rattle.abc_field.specs.declared.field.FieldError.TheVariants as refusals;
-ghost use Rattle.abc_field.specs.{Directives.{name_of, rest_of}, Keys.key_of, Meters.{meter_of, unit_of}, Voices.voice_of, Fields.{key_field, meter_field, unit_field, voice_field, written_field, named_field, breaks_field, spread_field, directive_field, field_of, IsGoodField, IsErrorOfField, IsFaultOfLine}, FieldSpelling.{Says, NamedSays, NamedRefuses, IsBadLine}};
+ghost use Rattle.abc_field.specs.Directives.{name_of, rest_of};
+ghost use Rattle.abc_field.specs.Keys.{key_of};
+ghost use Rattle.abc_field.specs.Meters.{meter_of, unit_of};
+ghost use Rattle.abc_field.specs.Voices.{voice_of};
+ghost use Rattle.abc_field.specs.Fields.{key_field, meter_field, unit_field, voice_field, written_field, named_field};
+ghost use Rattle.abc_field.specs.Fields.{breaks_field, spread_field, directive_field, field_of, IsGoodField};
+ghost use Rattle.abc_field.specs.Fields.{IsErrorOfField, IsFaultOfLine};
+ghost use Rattle.abc_field.specs.FieldSpelling.{Says, NamedSays, NamedRefuses, IsBadLine};
 
 use crate::directive::{Breaks, cut_name, read_breaks, read_spread};
 use crate::key::{KeyText, read_key};

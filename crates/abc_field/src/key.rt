@@ -1,8 +1,18 @@
-ghost use Rattle.std.specs.{Prelude.{◌≡◌, IfOk, IfSome, Some, None, codes, ◌==◌, nat_eq, ◌∷◌, ◌≤◌, length, not}, List.{list_any, ends_with, filter_map, suffix_len}, Option.option_map};
+ghost use Rattle.std.specs.Prelude.{◌≡◌, IfOk, IfSome, Some, None, codes, ◌==◌, nat_eq, ◌∷◌, ◌≤◌, length, not};
+ghost use Rattle.std.specs.List.{list_any, ends_with, filter_map, suffix_len};
+ghost use Rattle.std.specs.Option.{option_map};
 ghost use Rattle.abc_lines.specs.Kinds.{code};
 ghost use Rattle.abc_field.specs.declared.key.KeyStart.TheVariants as starts;
 ghost use Rattle.mus_units.specs.Good.{IsGoodKey};
-ghost use Rattle.abc_field.specs.{Last.last_of, Words.{words_of, after_prefix}, Keys.{natural_letter, letter_of, letter_alone, signed_letter, sign_of, named_clef, has_octave, without_octave, clef_of, by_name, by_clef, by_sign, key_word, key_words, major_like, minor_like, mode_named, mode_by_three, mode_of, key_start, mode_on, altered, tonic_of, without_mode, with_next_mode, by_mode, by_tonic, by_fixed, fixed_start, first_words, is_exp, sign_in, clef_in, listed_signs, start_with, whole_key, pipe_signs, key_by, key_of, GoodKeyIn, IsGoodKeyText}};
+ghost use Rattle.abc_field.specs.Last.{last_of};
+ghost use Rattle.abc_field.specs.Words.{words_of, after_prefix};
+ghost use Rattle.abc_field.specs.Keys.{natural_letter, letter_of, letter_alone, signed_letter, sign_of, named_clef};
+ghost use Rattle.abc_field.specs.Keys.{has_octave, without_octave, clef_of, by_name, by_clef, by_sign, key_word};
+ghost use Rattle.abc_field.specs.Keys.{key_words, major_like, minor_like, mode_named, mode_by_three, mode_of};
+ghost use Rattle.abc_field.specs.Keys.{key_start, mode_on, altered, tonic_of, without_mode, with_next_mode, by_mode};
+ghost use Rattle.abc_field.specs.Keys.{by_tonic, by_fixed, fixed_start, first_words, is_exp, sign_in, clef_in};
+ghost use Rattle.abc_field.specs.Keys.{listed_signs, start_with, whole_key, pipe_signs, key_by, key_of, GoodKeyIn};
+ghost use Rattle.abc_field.specs.Keys.{IsGoodKeyText};
 
 use crate::words::{after_prefix, is_same, next_word};
 use mus_pitch::{Mode, key_of, signature, with_signs};

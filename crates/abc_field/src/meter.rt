@@ -1,5 +1,9 @@
 ghost use Rattle.std.specs.Prelude.{◌≡◌, ◌≤◌, ◌<◌, ◌==◌, IfSome, IsTrue, length, codes, [], ◌∷◌};
-ghost use Rattle.abc_field.specs.{Numbers.number_of, Words.after_prefix, Meters.{below_of, below_behind, plus, with_terms, sum_of, ratio, plain_ratio, wrapped_ratio, ratio_of, meter_at, meter_of, one_over, unit_at, unit_of, default_unit}};
+ghost use Rattle.abc_field.specs.Numbers.{number_of};
+ghost use Rattle.abc_field.specs.Words.{after_prefix};
+ghost use Rattle.abc_field.specs.Meters.{below_of, below_behind, plus, with_terms, sum_of, ratio, plain_ratio};
+ghost use Rattle.abc_field.specs.Meters.{wrapped_ratio, ratio_of, meter_at, meter_of, one_over, unit_at, unit_of};
+ghost use Rattle.abc_field.specs.Meters.{default_unit};
 ghost use Rattle.mus_units.specs.Good.{IsGoodMeter, IsGoodUnit, is_halving};
 
 use crate::numbers::{behind_one, cut_at, number_of};

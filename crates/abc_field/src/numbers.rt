@@ -1,7 +1,10 @@
 //! Numbers as they are written.
 
-ghost use Rattle.std.specs.{Prelude.{◌≡◌, ◌≤◌, ◌<◌, IfSome, IsTrue, length, nat_le, ◌&&◌, not, ◌==◌, ◌+◌, ◌*◌, ◌-◌, min}, List.list_all};
-ghost use Rattle.{abc_lines.specs.Kinds.{code}, abc_field.specs.Numbers.{is_digit, begins_zero, is_number, number_of, value_of, place_of_byte, before, from_first, behind_one}};
+ghost use Rattle.std.specs.Prelude.{◌≡◌, ◌≤◌, ◌<◌, IfSome, IsTrue, length, nat_le, ◌&&◌, not, ◌==◌, ◌+◌, ◌*◌, ◌-◌, min};
+ghost use Rattle.std.specs.List.{list_all};
+ghost use Rattle.abc_lines.specs.Kinds.{code};
+ghost use Rattle.abc_field.specs.Numbers.{is_digit, begins_zero, is_number, number_of, value_of, place_of_byte, before};
+ghost use Rattle.abc_field.specs.Numbers.{from_first, behind_one};
 
 use mus_units::bytes::is_digit;
 

@@ -1,5 +1,10 @@
-ghost use Rattle.std.specs.{Prelude.{◌≡◌, ◌&&◌, not, nat_le, length, codes, false, true, IfOk, unwrap_or, is_some}, Option.option_map};
-ghost use Rattle.abc_field.specs.{Last.last_of, Words.{after_prefix, ends_quoted, properties_of}, Keys.clef_of, Voices.{wish_of, by_stem, by_clef, voice_word, voice_words, clef_in, wish_in, voice_def, is_good_voice, voice_of}};
+ghost use Rattle.std.specs.Prelude.{◌≡◌, ◌&&◌, not, nat_le, length, codes, false, true, IfOk, unwrap_or, is_some};
+ghost use Rattle.std.specs.Option.{option_map};
+ghost use Rattle.abc_field.specs.Last.{last_of};
+ghost use Rattle.abc_field.specs.Words.{after_prefix, ends_quoted, properties_of};
+ghost use Rattle.abc_field.specs.Keys.{clef_of};
+ghost use Rattle.abc_field.specs.Voices.{wish_of, by_stem, by_clef, voice_word, voice_words, clef_in, wish_in};
+ghost use Rattle.abc_field.specs.Voices.{voice_def, is_good_voice, voice_of};
 
 use crate::key::clef_of;
 use crate::words::{after_prefix, ends_quoted, is_same, next_word};

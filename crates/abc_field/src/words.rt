@@ -1,8 +1,12 @@
 //! Words of a text, by its spaces and tabs.
 
-ghost use Rattle.std.specs.{Prelude.◌≡◌, Prelude.◌≤◌, Prelude.length, Prelude.false, Option.option_map, Option.option_copied, List.prefix_len, List.suffix_len, List.list_any, List.starts_with, Str.bytes_eq};
+ghost use Rattle.std.specs.Prelude.{◌≡◌, ◌≤◌, length, false};
+ghost use Rattle.std.specs.Option.{option_map, option_copied};
+ghost use Rattle.std.specs.List.{prefix_len, suffix_len, list_any, starts_with};
+ghost use Rattle.std.specs.Str.{bytes_eq};
 ghost use Rattle.abc_lines.specs.Kinds.{is_blank, after_blanks};
-ghost use Rattle.abc_field.specs.Words.{word_len, quoted_after, parts_words, word_and_rest, next_word, trimmed, ends_quoted, words_of, words_in, words_after, after_prefix};
+ghost use Rattle.abc_field.specs.Words.{word_len, quoted_after, parts_words, word_and_rest, next_word, trimmed};
+ghost use Rattle.abc_field.specs.Words.{ends_quoted, words_of, words_in, words_after, after_prefix};
 
 pub use mus_units::bytes::{is_blank, is_same};
 use mus_units::bytes::{after_blanks, trimmed as between_blanks};

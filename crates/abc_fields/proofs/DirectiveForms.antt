@@ -1,15 +1,25 @@
 -- A line is read as a directive of a name, with what it says, exactly where it is written as one.
-use Rattle.std.proofs.Common.{◌≡◌, refl, sym, ap, ◌∙◌, subst, ℕ, zero, suc, ◌-◌, List, [], ◌∷◌, ◌++◌, Bool, true, length, take, drop}
-use Rattle.std.proofs.lemmas.{Bool.{and_parts, cond_both, eqb-true, not-true, not-false, not_from_true}, List.take-append-drop}
-use Rattle.std.proofs.{lemmas.{List.Sums.suffix_len-le-length, Slice.Eq.bytes_eq-Decides}, Math.Seq.{take-append_seam, drop-append_seam}}
-use Rattle.std.specs.{Prelude.{⊤, not, reverse, codes, IfSome, Some}, List.{list_all, prefix_len, suffix_len}, Str.bytes_eq}
+use Rattle.std.proofs.Common.{◌≡◌, refl, sym, ap, ◌∙◌, subst, ℕ, zero, suc, ◌-◌, List, [], ◌∷◌, ◌++◌, Bool, true}
+use Rattle.std.proofs.Common.{length, take, drop}
+use Rattle.std.proofs.lemmas.Bool.{and_parts, cond_both, eqb-true, not-true, not-false, not_from_true}
+use Rattle.std.proofs.lemmas.List.{take-append-drop}
+use Rattle.std.proofs.lemmas.List.Sums.{suffix_len-le-length}
+use Rattle.std.proofs.lemmas.Slice.Eq.{bytes_eq-Decides}
+use Rattle.std.proofs.Math.Seq.{take-append_seam, drop-append_seam}
+use Rattle.std.specs.Prelude.{⊤, not, reverse, codes, IfSome, Some}
+use Rattle.std.specs.List.{list_all, prefix_len, suffix_len}
+use Rattle.std.specs.Str.{bytes_eq}
 use Rattle.abc_lines.specs.declared.kind.LineKind.{LineKind}
 use Rattle.abc_lines.specs.Kinds.{is_blank, is_percent_line, is_field, kind_of, after_blanks, field_text}
-use Rattle.abc_field.specs.{Directives.{name_len, name_of, rest_of}, Words.{is_empty, trimmed}, WordSpelling.{EndsWord, IsFirstWord}}
-use Rattle.abc_field.proofs.BlankLaws.{Stops, prefix-stops, front-stops, front-passes, blanks-passed, cut-reversed, bare-trimmed, trimmed-between}
+use Rattle.abc_field.specs.Directives.{name_len, name_of, rest_of}
+use Rattle.abc_field.specs.Words.{is_empty, trimmed}
+use Rattle.abc_field.specs.WordSpelling.{EndsWord, IsFirstWord}
+use Rattle.abc_field.proofs.BlankLaws.{Stops, prefix-stops, front-stops, front-passes, blanks-passed, cut-reversed}
+use Rattle.abc_field.proofs.BlankLaws.{bare-trimmed, trimmed-between}
 use Rattle.abc_field.proofs.{ReadLaws.byte_case, WordLaws.{BeginsWord, behind-begins}}
 use Rattle.abc_fields.specs.Defaults.{rest_if, said_by}
-use Rattle.abc_fields.specs.DirectiveSpelling.{Lead, percents, instruction, lead_spelled, BeginsBare, HasBareEnds, IsDirective}
+use Rattle.abc_fields.specs.DirectiveSpelling.{Lead, percents, instruction, lead_spelled, BeginsBare, HasBareEnds}
+use Rattle.abc_fields.specs.DirectiveSpelling.{IsDirective}
 
 -- What stands between blanks and has none at its ends is left without them.
 bare-stops : (s : List ℕ) → BeginsBare s → Stops is_blank s

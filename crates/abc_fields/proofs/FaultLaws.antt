@@ -1,13 +1,23 @@
 -- The fault that is found line by line, with the ids of voices carried along, is the first fault.
-use Rattle.std.proofs.Common.{◌≡◌, refl, sym, ap, ◌∙◌, subst, ℕ, ◌<◌, List, [], ◌∷◌, ◌++◌, true, length, append_assoc, inl, inr}
+use Rattle.std.proofs.Common.{◌≡◌, refl, sym, ap, ◌∙◌, subst, ℕ, ◌<◌, List, [], ◌∷◌, ◌++◌, true, length, append_assoc}
+use Rattle.std.proofs.Common.{inl, inr}
 use Rattle.std.proofs.lemmas.{Bool.{cond_both, ltb-true, lt-ltb}, List.{append-nil, Sums.fold-append}}
 use Rattle.std.proofs.lemmas.Option.{MatchOption-at_some, MatchOption-at_none, none-some}
-use Rattle.std.specs.{Prelude.{nat_lt, fold, Option, Some, None, MatchOption, Result, Ok, Err, IfSome}, Option.option_or}
-use Rattle.abc_lines.specs.declared.{book.{Line.Line, TuneText.TuneText}, fault.{FaultKind.FaultKind, Fault.Fault, TuneError.TuneError}}
-use Rattle.abc_field.{specs.{declared.field.Field.Field, Fields.field_of}, proofs.FieldForms.{line-says, line-read, line-bad, line-refused}}
+use Rattle.std.specs.Prelude.{nat_lt, fold, Option, Some, None, MatchOption, Result, Ok, Err, IfSome}
+use Rattle.std.specs.Option.{option_or}
+use Rattle.abc_lines.specs.declared.book.Line.{Line}
+use Rattle.abc_lines.specs.declared.book.TuneText.{TuneText}
+use Rattle.abc_lines.specs.declared.fault.FaultKind.{FaultKind}
+use Rattle.abc_lines.specs.declared.fault.Fault.{Fault}
+use Rattle.abc_lines.specs.declared.fault.TuneError.{TuneError}
+use Rattle.abc_field.specs.declared.field.Field.{Field}
+use Rattle.abc_field.specs.Fields.{field_of}
+use Rattle.abc_field.proofs.FieldForms.{line-says, line-read, line-bad, line-refused}
 use Rattle.abc_field.proofs.ReadLaws.{option_case, some_holds}
-use Rattle.abc_fields.specs.HeaderFaults.{IsFaultBehind, IsFaultBy, IsFaultOfHeader, IsClearBy, IsClearHeader, IsHeaderRefusal}
-use Rattle.abc_fields.specs.Headers.{key_place, put_field, fields_of, field_fault, ids_with, first_fault, head_lines, fault_by}
+use Rattle.abc_fields.specs.HeaderFaults.{IsFaultBehind, IsFaultBy, IsFaultOfHeader, IsClearBy, IsClearHeader}
+use Rattle.abc_fields.specs.HeaderFaults.{IsHeaderRefusal}
+use Rattle.abc_fields.specs.Headers.{key_place, put_field, fields_of, field_fault, ids_with, first_fault, head_lines}
+use Rattle.abc_fields.specs.Headers.{fault_by}
 use Rattle.abc_fields.specs.{Headers.{header_fault, IsHeaderFault}, Voicing.{ids_after, ids_of}}
 
 -- The ids behind some lines, and behind one line more.

@@ -4,19 +4,35 @@ use Rattle.std.proofs.lemmas.Bool.{and_parts, both_ways, cond_both, false_from_n
 use Rattle.std.proofs.lemmas.Option.{IfSome_then, none-some}
 use Rattle.std.specs.{Prelude.{◌⊎◌, cond, not, nat_le, Option, Some, None, IfSome, unwrap_or, codes}}
 use Rattle.std.specs.Option.{option_or, option_map}
-use Rattle.{mus_units.specs.declared.key.{Meter.Meter, Spread.Spread}, abc_lines.specs.declared.book.{Line.Line, TuneText.TuneText}}
+use Rattle.mus_units.specs.declared.key.Meter.{Meter}
+use Rattle.mus_units.specs.declared.key.Spread.{Spread}
+use Rattle.abc_lines.specs.declared.book.Line.{Line}
+use Rattle.abc_lines.specs.declared.book.TuneText.{TuneText}
 use Rattle.abc_lines.specs.{declared.kind.LineKind.LineKind, Kinds.{kind_of, after_blanks, field_text}}
-use Rattle.abc_field.specs.{Directives.{breaks_of, spread_of}, Last.last_of, Meters.{meter_at, meter_of, unit_at, unit_of}}
-use Rattle.abc_field.{specs.Words.{is_empty, trimmed}, proofs.FieldForms.{breaks-says, breaks-read, spread-says, spread-read}}
+use Rattle.abc_field.specs.Directives.{breaks_of, spread_of}
+use Rattle.abc_field.specs.Last.{last_of}
+use Rattle.abc_field.specs.Meters.{meter_at, meter_of, unit_at, unit_of}
+use Rattle.abc_field.specs.Words.{is_empty, trimmed}
+use Rattle.abc_field.proofs.FieldForms.{breaks-says, breaks-read, spread-says, spread-read}
 use Rattle.abc_field.proofs.MeterForms.{meter-says, meter-read, unit-says, unit-read}
-use Rattle.abc_field.proofs.{ReadLaws.{option_case, some_from, some_holds, some_then, nothing, byte_case}, WordLaws.behind-begins}
-use Rattle.abc_fields.specs.FileHeader.{StatesMeter, StatesUnit, StatesBreaks, StatesSpread, StatesStaves, StatesLength, StatesScale, AreSilent}
-use Rattle.abc_fields.specs.FileHeader.{IsLastOr, IsLastIfAny, AreDefaultsBy, AreStavesBy, AreStavesOf, AreStavesUpTo, IsStatedPaper}
-use Rattle.abc_fields.specs.{FileHeader.{HasBodyRoom, IsPaperBy}, declared.{defaults.Defaults.Defaults, header.Header.Header, paper.Paper.Paper}}
+use Rattle.abc_field.proofs.ReadLaws.{option_case, some_from, some_holds, some_then, nothing, byte_case}
+use Rattle.abc_field.proofs.WordLaws.{behind-begins}
+use Rattle.abc_fields.specs.FileHeader.{StatesMeter, StatesUnit, StatesBreaks, StatesSpread, StatesStaves, StatesLength}
+use Rattle.abc_fields.specs.FileHeader.{StatesScale, AreSilent}
+use Rattle.abc_fields.specs.FileHeader.{IsLastOr, IsLastIfAny, AreDefaultsBy, AreStavesBy, AreStavesOf, AreStavesUpTo}
+use Rattle.abc_fields.specs.FileHeader.{IsStatedPaper}
+use Rattle.abc_fields.specs.FileHeader.{HasBodyRoom, IsPaperBy}
+use Rattle.abc_fields.specs.declared.defaults.Defaults.{Defaults}
+use Rattle.abc_fields.specs.declared.header.Header.{Header}
+use Rattle.abc_fields.specs.declared.paper.Paper.{Paper}
 use Rattle.abc_fields.specs.Headers.{IsHeaderBy, IsHeaderOf, first_line_number, head_lines, key_place, staves_by}
-use Rattle.abc_fields.specs.Defaults.{text_if, text_of, said_by, line_meter, line_unit, line_breaks, line_of, line_spread, line_staves}
-use Rattle.abc_fields.specs.{Defaults.{default_breaks, defaults_of}, DirectiveSpelling.IsDirective, Lengths.{length_of, scale_of}}
-use Rattle.abc_fields.specs.Papers.{line_length, line_scale, length_in, scale_in, default_paper, stated, body_width, body_height, is_wide_enough}
+use Rattle.abc_fields.specs.Defaults.{text_if, text_of, said_by, line_meter, line_unit, line_breaks, line_of}
+use Rattle.abc_fields.specs.Defaults.{line_spread, line_staves}
+use Rattle.abc_fields.specs.Defaults.{default_breaks, defaults_of}
+use Rattle.abc_fields.specs.DirectiveSpelling.{IsDirective}
+use Rattle.abc_fields.specs.Lengths.{length_of, scale_of}
+use Rattle.abc_fields.specs.Papers.{line_length, line_scale, length_in, scale_in, default_paper, stated, body_width}
+use Rattle.abc_fields.specs.Papers.{body_height, is_wide_enough}
 use Rattle.abc_fields.specs.Papers.{paper_of}
 use Rattle.abc_fields.proofs.DirectiveForms.{Begins, kind-begins, directive-takes, directive-read, word-stays}
 use Rattle.abc_fields.proofs.PaperForms.{length-writes, length-read, scale-writes, scale-read}

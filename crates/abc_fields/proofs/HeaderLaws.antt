@@ -1,13 +1,23 @@
 -- What good fields give is good, and the ids that fields mention are distinct.
-use Rattle.std.proofs.Common.{◌≡◌, refl, ap, sym, ◌∙◌, ℕ, suc, ◌+◌, ◌≤◌, List, [], ◌∷◌, ◌++◌, Bool, true, false, map, length, arith, subst, cond, Bor}
+use Rattle.std.proofs.Common.{◌≡◌, refl, ap, sym, ◌∙◌, ℕ, suc, ◌+◌, ◌≤◌, List, [], ◌∷◌, ◌++◌, Bool, true, false, map}
+use Rattle.std.proofs.Common.{length, arith, subst, cond, Bor}
 use Rattle.std.proofs.{Common.{◌<◌, get_or, drop, drop-cons, append_assoc}, lemmas.{Bool.cond_both, List.length-map}}
 use Rattle.std.proofs.lemmas.{List.Sums.{sum_by-append, sum_by-cons}, Slice.Eq.bytes_eq-Decides}
-use Rattle.std.specs.{Prelude.{Option, Some, None, IfSome, count_by, fold, Ok}, List.list_any, Option.{option_or, option_copied}, Str.bytes_eq}
-use Rattle.{mus_units.specs.{declared.value.Frac.Frac, Good.{IsGoodMeter, IsGoodUnit}}, abc_lines.specs.declared.book.Line.Line}
-use Rattle.abc_field.specs.{declared.{field.Field.Field, key.KeyText.KeyText, voice.VoiceDef.VoiceDef}, Fields.{IsGoodField, field_of}}
+use Rattle.std.specs.Prelude.{Option, Some, None, IfSome, count_by, fold, Ok}
+use Rattle.std.specs.List.{list_any}
+use Rattle.std.specs.Option.{option_or, option_copied}
+use Rattle.std.specs.Str.{bytes_eq}
+use Rattle.mus_units.specs.declared.value.Frac.{Frac}
+use Rattle.mus_units.specs.Good.{IsGoodMeter, IsGoodUnit}
+use Rattle.abc_lines.specs.declared.book.Line.{Line}
+use Rattle.abc_field.specs.declared.field.Field.{Field}
+use Rattle.abc_field.specs.declared.key.KeyText.{KeyText}
+use Rattle.abc_field.specs.declared.voice.VoiceDef.{VoiceDef}
+use Rattle.abc_field.specs.Fields.{IsGoodField, field_of}
 use Rattle.abc_field.{specs.{Keys.IsGoodKeyText, Last.last_of}, proofs.ReadLaws.by_test}
 use Rattle.abc_fields.specs.Good.{GoodUnitIn}
-use Rattle.abc_fields.specs.Headers.{AreGoodFields, AreDistinct, key_in, meter_in, unit_in, fields_of, first_fault, field_fault}
+use Rattle.abc_fields.specs.Headers.{AreGoodFields, AreDistinct, key_in, meter_in, unit_in, fields_of, first_fault}
+use Rattle.abc_fields.specs.Headers.{field_fault}
 use Rattle.abc_fields.specs.Voicing.{ids_after, ids_of, voice_from, voices_of}
 
 or-some : {X : Type 0} (P : X → Type 0) (a b : Option X) → IfSome a P → IfSome b P → IfSome (option_or a b) P

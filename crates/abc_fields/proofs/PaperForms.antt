@@ -1,13 +1,21 @@
 -- A text reads as a length, or as a scale, exactly where a good form of it spells the text.
-use Rattle.std.proofs.Common.{◌≡◌, refl, sym, ap, ◌∙◌, subst, ℕ, ◌+◌, ◌*◌, ◌≤◌, List, [], ◌∷◌, ◌++◌, true, length, take, drop, arith}
-use Rattle.std.proofs.lemmas.{Bool.{and_parts, cond_both, leb-true, le-leb}, List.take-append-drop, Slice.Eq.bytes_eq-Decides}
-use Rattle.std.{proofs.Math.Seq.{take-append_seam, drop-append_seam}, specs.Prelude.{◌&&◌, nat_le, Option, Some, None, IfSome, codes}}
+use Rattle.std.proofs.Common.{◌≡◌, refl, sym, ap, ◌∙◌, subst, ℕ, ◌+◌, ◌*◌, ◌≤◌, List, [], ◌∷◌, ◌++◌, true, length, take}
+use Rattle.std.proofs.Common.{drop, arith}
+use Rattle.std.proofs.lemmas.Bool.{and_parts, cond_both, leb-true, le-leb}
+use Rattle.std.proofs.lemmas.List.{take-append-drop}
+use Rattle.std.proofs.lemmas.Slice.Eq.{bytes_eq-Decides}
+use Rattle.std.proofs.Math.Seq.{take-append_seam, drop-append_seam}
+use Rattle.std.specs.Prelude.{◌&&◌, nat_le, Option, Some, None, IfSome, codes}
 use Rattle.std.specs.{List.list_all, Str.bytes_eq}
-use Rattle.abc_field.{specs.{Numbers.{is_digit, value_of}, Words.after_prefix}, proofs.BlankLaws.{Stops, prefix-stops, front-passes}}
+use Rattle.abc_field.specs.Numbers.{is_digit, value_of}
+use Rattle.abc_field.specs.Words.{after_prefix}
+use Rattle.abc_field.proofs.BlankLaws.{Stops, prefix-stops, front-passes}
 use Rattle.abc_field.proofs.{MeterForms.{behind-takes, behind-front}, ReadLaws.{option_case, some_then, word_case}}
-use Rattle.abc_fields.specs.Lengths.{digit_len, with_decimals, decimals, whole_of, hundredths_of, in_units, within_paper, length_of, is_scale}
+use Rattle.abc_fields.specs.Lengths.{digit_len, with_decimals, decimals, whole_of, hundredths_of, in_units}
+use Rattle.abc_fields.specs.Lengths.{within_paper, length_of, is_scale}
 use Rattle.abc_fields.specs.Lengths.{scale_by, scale_of}
-use Rattle.abc_fields.specs.PaperSpelling.{PaperNumber, point_spelled, number_spelled, IsGoodNumber, hundredths, LengthUnit, points, inches}
+use Rattle.abc_fields.specs.PaperSpelling.{PaperNumber, point_spelled, number_spelled, IsGoodNumber, hundredths}
+use Rattle.abc_fields.specs.PaperSpelling.{LengthUnit, points, inches}
 use Rattle.abc_fields.specs.PaperSpelling.{centimetres, length_unit_spelled, in_points, WritesLength, WritesScale}
 
 -- A good number is read, and what follows it is left.

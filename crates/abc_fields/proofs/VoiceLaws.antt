@@ -1,8 +1,12 @@
 -- Ids kept as keys of a set are the ids by their bytes.
-use Rattle.std.proofs.Common.{◌≡◌, refl, ap, sym, ◌∙◌, ℕ, List, [], ◌∷◌, ◌++◌, map, suc, ◌+◌, ◌<◌, length, get_or, drop, drop-cons, append_assoc}
+use Rattle.std.proofs.Common.{◌≡◌, refl, ap, sym, ◌∙◌, ℕ, List, [], ◌∷◌, ◌++◌, map, suc, ◌+◌, ◌<◌, length, get_or, drop}
+use Rattle.std.proofs.Common.{drop-cons, append_assoc}
 use Rattle.std.{proofs.{Common.{arith}, lemmas.{List.map-append, Simd.map-map}}, specs.{Prelude.◌||◌, List.list_any}}
 use Rattle.std.specs.Str.{bytes_eq}
-use Rattle.{indexmap.specs.IndexSet.insert_key, abc_field.{specs.declared.{field.Field.Field, voice.VoiceDef.VoiceDef}, proofs.ReadLaws.by_test}}
+use Rattle.indexmap.specs.IndexSet.{insert_key}
+use Rattle.abc_field.specs.declared.field.Field.{Field}
+use Rattle.abc_field.specs.declared.voice.VoiceDef.{VoiceDef}
+use Rattle.abc_field.proofs.ReadLaws.{by_test}
 use Rattle.abc_fields.specs.Voicing.{with_id, voice_from}
 
 any_by_name : {X : Type 0} (f : X → List ℕ) (ks : List X) (k : X) → list_any (λ y. bytes_eq (f k) (f y)) ks ≡ list_any (bytes_eq (f k)) (map f ks)

@@ -1,8 +1,18 @@
 -- What the file header sets for every tune: the last good value of each kind counts.
 use Prim.Native.Char.{code}
-use Rattle.std.specs.{Prelude.{ℕ, List, true, false, ◌==◌, if◌then◌else◌, codes, Option, Some, None, unwrap_or}, Option.{option_and_then, option_map}, Str.bytes_eq}
-use Rattle.{mus_units.specs.{declared.key.Meter.Meter, declared.key.Spread.Spread, declared.value.Frac.Frac}, abc_lines.specs.{declared.book.Line.Line, declared.kind.LineKind.LineKind, Kinds.kind_of, Kinds.field_text}}
-use Rattle.abc_field.specs.{declared.directive.Breaks.Breaks, Directives.name_of, Directives.rest_of, Directives.breaks_of, Directives.spread_of, Last.last_of, Meters.meter_of, Meters.unit_of}
+use Rattle.std.specs.Prelude.{ℕ, List, true, false, ◌==◌, if◌then◌else◌, codes, Option, Some, None, unwrap_or}
+use Rattle.std.specs.Option.{option_and_then, option_map}
+use Rattle.std.specs.Str.{bytes_eq}
+use Rattle.mus_units.specs.declared.key.Meter.{Meter}
+use Rattle.mus_units.specs.declared.key.Spread.{Spread}
+use Rattle.mus_units.specs.declared.value.Frac.{Frac}
+use Rattle.abc_lines.specs.declared.book.Line.{Line}
+use Rattle.abc_lines.specs.declared.kind.LineKind.{LineKind}
+use Rattle.abc_lines.specs.Kinds.{kind_of, field_text}
+use Rattle.abc_field.specs.declared.directive.Breaks.{Breaks}
+use Rattle.abc_field.specs.Directives.{name_of, rest_of, breaks_of, spread_of}
+use Rattle.abc_field.specs.Last.{last_of}
+use Rattle.abc_field.specs.Meters.{meter_of, unit_of}
 use Rattle.abc_fields.specs.declared.defaults.Defaults.{Defaults}
 
 -- the text of a field, where the line is one of that letter

@@ -1,9 +1,21 @@
 -- What the file header states for all tunes and of the paper, and a tune's header of its staves: of
 -- each kind the last line that states one counts, and a line in another form states nothing.
 use Rattle.std.specs.{Prelude.{◌≡◌, ◌⊎◌, ◌≤◌, ℕ, List, [], ◌∷◌, ◌++◌, ⊤, Option, Some, None, codes}, Option.option_map}
-use Rattle.{mus_units.specs.{declared.key.Meter.Meter, declared.key.Spread.Spread, declared.value.Frac.Frac}, abc_lines.specs.{declared.book.Line.Line, declared.book.TuneText.TuneText}}
-use Rattle.abc_field.specs.{declared.directive.Breaks.Breaks, FieldSpelling.SaysBreaks, FieldSpelling.SaysSpread, MeterSpelling.SaysMeter, MeterSpelling.SaysUnit}
-use Rattle.abc_fields.specs.{declared.{defaults.Defaults.Defaults, paper.Paper.Paper}, Defaults.{default_breaks, line_of}, DirectiveSpelling.IsDirective, Headers.{first_line_number, head_lines, key_place}, Papers.{default_paper, body_width, body_height}, PaperSpelling.{WritesLength, WritesScale}}
+use Rattle.mus_units.specs.declared.key.Meter.{Meter}
+use Rattle.mus_units.specs.declared.key.Spread.{Spread}
+use Rattle.mus_units.specs.declared.value.Frac.{Frac}
+use Rattle.abc_lines.specs.declared.book.Line.{Line}
+use Rattle.abc_lines.specs.declared.book.TuneText.{TuneText}
+use Rattle.abc_field.specs.declared.directive.Breaks.{Breaks}
+use Rattle.abc_field.specs.FieldSpelling.{SaysBreaks, SaysSpread}
+use Rattle.abc_field.specs.MeterSpelling.{SaysMeter, SaysUnit}
+use Rattle.abc_fields.specs.declared.defaults.Defaults.{Defaults}
+use Rattle.abc_fields.specs.declared.paper.Paper.{Paper}
+use Rattle.abc_fields.specs.Defaults.{default_breaks, line_of}
+use Rattle.abc_fields.specs.DirectiveSpelling.{IsDirective}
+use Rattle.abc_fields.specs.Headers.{first_line_number, head_lines, key_place}
+use Rattle.abc_fields.specs.Papers.{default_paper, body_width, body_height}
+use Rattle.abc_fields.specs.PaperSpelling.{WritesLength, WritesScale}
 
 -- What one line states.
 

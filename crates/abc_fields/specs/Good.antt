@@ -1,5 +1,8 @@
 -- Good meters and unit lengths: the numbers that they may have.
-use Rattle.{std.specs.Prelude.{⊤, Option, Some, None}, mus_units.specs.{declared.value.Frac.Frac, Good.IsGoodMeter, Good.IsGoodUnit}, abc_fields.specs.declared.defaults.Defaults.{Defaults}}
+use Rattle.std.specs.Prelude.{⊤, Option, Some, None}
+use Rattle.mus_units.specs.declared.value.Frac.{Frac}
+use Rattle.mus_units.specs.Good.{IsGoodMeter, IsGoodUnit}
+use Rattle.abc_fields.specs.declared.defaults.Defaults.{Defaults}
 
 -- the defaults of a file header have good values
 abbrev pub GoodUnitIn : Option Frac → Type 0

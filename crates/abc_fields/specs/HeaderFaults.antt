@@ -1,7 +1,14 @@
 -- When a line of a header is at fault, by the lines before it, and which fault is the first.
 use Rattle.std.specs.Prelude.{◌≡◌, ◌<◌, ◌⊎◌, ℕ, List, [], ◌∷◌, ◌++◌, length, ⊤, Option, Some, None}
-use Rattle.{abc_lines.specs.declared.{book.Line.Line, book.TuneText.TuneText, fault.FaultKind.FaultKind, fault.Fault.Fault, fault.TuneError.TuneError}, abc_field.specs.{declared.field.Field.Field, FieldSpelling.Says, FieldSpelling.IsBad}}
-use Rattle.abc_fields.specs.{Headers.key_place, Headers.fields_of, Headers.line_fault, Headers.head_lines, Headers.no_key, Voicing.ids_of}
+use Rattle.abc_lines.specs.declared.book.Line.{Line}
+use Rattle.abc_lines.specs.declared.book.TuneText.{TuneText}
+use Rattle.abc_lines.specs.declared.fault.FaultKind.{FaultKind}
+use Rattle.abc_lines.specs.declared.fault.Fault.{Fault}
+use Rattle.abc_lines.specs.declared.fault.TuneError.{TuneError}
+use Rattle.abc_field.specs.declared.field.Field.{Field}
+use Rattle.abc_field.specs.FieldSpelling.{Says, IsBad}
+use Rattle.abc_fields.specs.Headers.{key_place, fields_of, line_fault, head_lines, no_key}
+use Rattle.abc_fields.specs.Voicing.{ids_of}
 
 -- the text of the line is in no good form of its letter
 pub record HasBadText (line : Line) (fault : Fault) : Type 0 where

@@ -1,10 +1,33 @@
 -- The header of a tune: what counts of its lines up to the first `K:`, and its first fault.
 use Prim.Native.Char.{code}
-use Rattle.std.specs.{Prelude.{◌≡◌, ℕ, ◌+◌, ◌≤◌, List, [], ◌∷◌, Bool, nat_lt, if◌then◌else◌, length, take, position, Option, Some, None, Result, Ok, Err, is_some, unwrap_or, ⊤, count_by}, List.filter_map, Option.{option_map, option_or}, Str.bytes_eq}
-use Rattle.mus_units.specs.{declared.pitch.Clef.Clef, declared.key.Meter.Meter, declared.key.Sign.Sign, declared.key.Spread.Spread, declared.value.Frac.Frac, Good.IsGoodKey, Good.IsGoodMeter, Good.IsGoodUnit}
-use Rattle.abc_lines.specs.declared.{book.Line.Line, book.TuneText.TuneText, fault.FaultKind.FaultKind, fault.Fault.Fault, fault.TuneError.TuneError}
-use Rattle.abc_fields.specs.{declared.defaults.Defaults.Defaults, declared.header.Header.Header, Defaults.line_of, Defaults.line_staves, Defaults.text_of, Voicing.ids_after, Voicing.voices_of}
-use Rattle.abc_field.specs.{declared.directive.Breaks.Breaks, declared.key.KeyText.KeyText, declared.voice.VoiceDef.VoiceDef, declared.field.Field.Field, Fields.field_of, Fields.IsGoodField, Keys.key_over, Last.last_of, Meters.default_unit}
+use Rattle.std.specs.Prelude.{◌≡◌, ℕ, ◌+◌, ◌≤◌, List, [], ◌∷◌, Bool, nat_lt, if◌then◌else◌, length, take, position}
+use Rattle.std.specs.Prelude.{Option, Some, None, Result, Ok, Err, is_some, unwrap_or, ⊤, count_by}
+use Rattle.std.specs.List.{filter_map}
+use Rattle.std.specs.Option.{option_map, option_or}
+use Rattle.std.specs.Str.{bytes_eq}
+use Rattle.mus_units.specs.declared.pitch.Clef.{Clef}
+use Rattle.mus_units.specs.declared.key.Meter.{Meter}
+use Rattle.mus_units.specs.declared.key.Sign.{Sign}
+use Rattle.mus_units.specs.declared.key.Spread.{Spread}
+use Rattle.mus_units.specs.declared.value.Frac.{Frac}
+use Rattle.mus_units.specs.Good.{IsGoodKey, IsGoodMeter, IsGoodUnit}
+use Rattle.abc_lines.specs.declared.book.Line.{Line}
+use Rattle.abc_lines.specs.declared.book.TuneText.{TuneText}
+use Rattle.abc_lines.specs.declared.fault.FaultKind.{FaultKind}
+use Rattle.abc_lines.specs.declared.fault.Fault.{Fault}
+use Rattle.abc_lines.specs.declared.fault.TuneError.{TuneError}
+use Rattle.abc_fields.specs.declared.defaults.Defaults.{Defaults}
+use Rattle.abc_fields.specs.declared.header.Header.{Header}
+use Rattle.abc_fields.specs.Defaults.{line_of, line_staves, text_of}
+use Rattle.abc_fields.specs.Voicing.{ids_after, voices_of}
+use Rattle.abc_field.specs.declared.directive.Breaks.{Breaks}
+use Rattle.abc_field.specs.declared.key.KeyText.{KeyText}
+use Rattle.abc_field.specs.declared.voice.VoiceDef.{VoiceDef}
+use Rattle.abc_field.specs.declared.field.Field.{Field}
+use Rattle.abc_field.specs.Fields.{field_of, IsGoodField}
+use Rattle.abc_field.specs.Keys.{key_over}
+use Rattle.abc_field.specs.Last.{last_of}
+use Rattle.abc_field.specs.Meters.{default_unit}
 
 -- the place of the first `K:`
 abbrev pub is_key_line : Line → Bool

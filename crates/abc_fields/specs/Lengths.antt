@@ -1,6 +1,10 @@
 -- Lengths of paper and its scale: numbers with up to two decimals, and a unit.
 use Prim.Native.Char.{code}
-use Rattle.std.specs.{Prelude.{ℕ, ◌+◌, ◌-◌, ◌*◌, ◌/◌, List, [], ◌∷◌, Bool, ◌&&◌, nat_le, if◌then◌else◌, take, drop, codes, Option, Some, None}, List.prefix_len, Option.option_and_then, Str.bytes_eq}
+use Rattle.std.specs.Prelude.{ℕ, ◌+◌, ◌-◌, ◌*◌, ◌/◌, List, [], ◌∷◌, Bool, ◌&&◌, nat_le, if◌then◌else◌, take, drop}
+use Rattle.std.specs.Prelude.{codes, Option, Some, None}
+use Rattle.std.specs.List.{prefix_len}
+use Rattle.std.specs.Option.{option_and_then}
+use Rattle.std.specs.Str.{bytes_eq}
 use Rattle.abc_field.specs.{Numbers.is_digit, Numbers.value_of, Words.after_prefix}
 
 -- the digits at the front, and what follows them

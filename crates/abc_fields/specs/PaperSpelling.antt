@@ -1,6 +1,7 @@
 -- How lengths of paper and the scale are written: each form with its spelling, when it is good, and
 -- what it means. A number is one or more digits, and then nothing or a point and one or two digits.
-use Rattle.std.specs.{Prelude.{◌≡◌, ℕ, ◌+◌, ◌*◌, ◌/◌, ◌≤◌, List, [], ◌∷◌, ◌++◌, IsTrue, length, take, codes}, List.list_all}
+use Rattle.std.specs.Prelude.{◌≡◌, ℕ, ◌+◌, ◌*◌, ◌/◌, ◌≤◌, List, [], ◌∷◌, ◌++◌, IsTrue, length, take, codes}
+use Rattle.std.specs.List.{list_all}
 use Rattle.abc_field.specs.Numbers.{is_digit, value_of}
 
 -- a number as its digits before the point and behind it; without any behind it there is no point

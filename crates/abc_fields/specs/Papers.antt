@@ -1,6 +1,12 @@
 -- The paper: the last good value of each directive counts, and the body is what the margins leave.
-use Rattle.std.specs.{Prelude.{ℕ, ◌+◌, ◌-◌, ◌*◌, ◌/◌, ◌≤◌, List, Bool, ◌&&◌, nat_le, if◌then◌else◌, codes, Option, unwrap_or}, Option.option_and_then}
-use Rattle.{abc_lines.specs.declared.book.Line.{Line}, abc_fields.specs.{declared.paper.Paper.Paper, Defaults.said_by, Lengths.length_of, Lengths.scale_of}, abc_field.specs.Last.{last_of}}
+use Rattle.std.specs.Prelude.{ℕ, ◌+◌, ◌-◌, ◌*◌, ◌/◌, ◌≤◌, List, Bool, ◌&&◌, nat_le, if◌then◌else◌, codes, Option}
+use Rattle.std.specs.Prelude.{unwrap_or}
+use Rattle.std.specs.Option.{option_and_then}
+use Rattle.abc_lines.specs.declared.book.Line.{Line}
+use Rattle.abc_fields.specs.declared.paper.Paper.{Paper}
+use Rattle.abc_fields.specs.Defaults.{said_by}
+use Rattle.abc_fields.specs.Lengths.{length_of, scale_of}
+use Rattle.abc_field.specs.Last.{last_of}
 
 unfoldable pub line_length : List ℕ → Line → Option ℕ
 line_length name line = option_and_then length_of (said_by name line.text)

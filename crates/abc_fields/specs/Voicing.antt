@@ -1,6 +1,13 @@
 -- The voices that fields name: each id once, in order of first mention, with what its lines say.
-use Rattle.std.specs.{Prelude.{ℕ, List, [], ◌∷◌, ◌++◌, ◌&&◌, if◌then◌else◌, map, fold, Option, Some, None, is_some, unwrap_or}, List.list_any, Str.bytes_eq}
-use Rattle.{mus_units.specs.{declared.pitch.Clef.Clef, declared.note.Wish.Wish}, abc_field.specs.{declared.voice.VoiceDef.VoiceDef, declared.field.Field.Field, Last.last_of}}
+use Rattle.std.specs.Prelude.{ℕ, List, [], ◌∷◌, ◌++◌, ◌&&◌, if◌then◌else◌, map, fold, Option, Some, None, is_some}
+use Rattle.std.specs.Prelude.{unwrap_or}
+use Rattle.std.specs.List.{list_any}
+use Rattle.std.specs.Str.{bytes_eq}
+use Rattle.mus_units.specs.declared.pitch.Clef.{Clef}
+use Rattle.mus_units.specs.declared.note.Wish.{Wish}
+use Rattle.abc_field.specs.declared.voice.VoiceDef.{VoiceDef}
+use Rattle.abc_field.specs.declared.field.Field.{Field}
+use Rattle.abc_field.specs.Last.{last_of}
 
 -- an id that stands there already doesn't come again
 abbrev pub with_id : List (List ℕ) → List ℕ → List (List ℕ)

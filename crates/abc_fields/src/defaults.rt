@@ -1,6 +1,11 @@
-ghost use Rattle.std.specs.{Prelude.◌≡◌, Prelude.IfOk, Prelude.IfSome, Prelude.Some, Prelude.None, Option.option_copied, Option.option_map};
+ghost use Rattle.std.specs.Prelude.{◌≡◌, IfOk, IfSome, Some, None};
+ghost use Rattle.std.specs.Option.{option_copied, option_map};
 ghost use Rattle.mus_units.specs.Good.{IsGoodMeter, IsGoodUnit};
-ghost use Rattle.abc_fields.specs.{Good.{IsGoodDefaults, GoodUnitIn}, declared.defaults.Defaults.Defaults, FileHeader.AreDefaultsBy, Defaults.{text_of, rest_named, said_by, line_meter, line_unit, line_breaks, line_of, line_spread, line_staves, defaults_of}};
+ghost use Rattle.abc_fields.specs.Good.{IsGoodDefaults, GoodUnitIn};
+ghost use Rattle.abc_fields.specs.declared.defaults.Defaults.{Defaults};
+ghost use Rattle.abc_fields.specs.FileHeader.{AreDefaultsBy};
+ghost use Rattle.abc_fields.specs.Defaults.{text_of, rest_named, said_by, line_meter, line_unit, line_breaks, line_of};
+ghost use Rattle.abc_fields.specs.Defaults.{line_spread, line_staves, defaults_of};
 ghost use Rattle.abc_field.specs.Last.{last_of};
 
 use abc_field::directive::{Breaks, cut_name, read_breaks, read_spread};

@@ -1,6 +1,20 @@
-ghost use Rattle.std.specs.{Prelude.{◌≡◌, ◌≤◌, ◌<◌, length, map, position, IfOk, IfErr, IfSome, Some, None, Ok, unwrap_or, nat_lt, []}, List.filter_map, Option.{option_map, option_copied}};
-ghost use Rattle.{abc_field.specs.{Fields.field_of, Fields.IsGoodField, Keys.key_over, Keys.IsGoodKeyText, Last.last_of}, mus_units.specs.Good.{IsGoodKey, IsGoodMeter, IsGoodUnit}};
-ghost use Rattle.abc_fields.specs.{Good.{IsGoodDefaults, GoodUnitIn}, Voicing.{with_id, ids_after, ids_of, clef_for, wish_for, voice_from, voices_of}, FileHeader.AreStavesOf, HeaderFaults.{IsClearHeader, IsHeaderRefusal}, Headers.{is_key_line, key_place, title_in, composer_in, tempo_in, key_in, meter_in, unit_in, breaks_in, spread_in, key_signs, key_clef, unit_by, meter_from, staves_from, header_of, fields_of, line_fault, field_fault, no_key, first_fault, header_fault, first_line_number, head_lines, IsHeaderOf, IsHeaderFault, AreGoodFields, HasGoodValues, IsGoodHeader}};
+ghost use Rattle.std.specs.Prelude.{◌≡◌, ◌≤◌, ◌<◌, length, map, position, IfOk, IfErr, IfSome, Some, None, Ok};
+ghost use Rattle.std.specs.Prelude.{unwrap_or, nat_lt, []};
+ghost use Rattle.std.specs.List.{filter_map};
+ghost use Rattle.std.specs.Option.{option_map, option_copied};
+ghost use Rattle.abc_field.specs.Fields.{field_of, IsGoodField};
+ghost use Rattle.abc_field.specs.Keys.{key_over, IsGoodKeyText};
+ghost use Rattle.abc_field.specs.Last.{last_of};
+ghost use Rattle.mus_units.specs.Good.{IsGoodKey, IsGoodMeter, IsGoodUnit};
+ghost use Rattle.abc_fields.specs.Good.{IsGoodDefaults, GoodUnitIn};
+ghost use Rattle.abc_fields.specs.Voicing.{with_id, ids_after, ids_of, clef_for, wish_for, voice_from, voices_of};
+ghost use Rattle.abc_fields.specs.FileHeader.{AreStavesOf};
+ghost use Rattle.abc_fields.specs.HeaderFaults.{IsClearHeader, IsHeaderRefusal};
+ghost use Rattle.abc_fields.specs.Headers.{is_key_line, key_place, title_in, composer_in, tempo_in, key_in, meter_in};
+ghost use Rattle.abc_fields.specs.Headers.{unit_in, breaks_in, spread_in, key_signs, key_clef, unit_by, meter_from};
+ghost use Rattle.abc_fields.specs.Headers.{staves_from, header_of, fields_of, line_fault, field_fault, no_key};
+ghost use Rattle.abc_fields.specs.Headers.{first_fault, header_fault, first_line_number, head_lines, IsHeaderOf};
+ghost use Rattle.abc_fields.specs.Headers.{IsHeaderFault, AreGoodFields, HasGoodValues, IsGoodHeader};
 
 use crate::defaults::{Defaults, last_staves, text_of};
 use crate::voicing::{VoiceIds, mention, voices_of};

@@ -1,8 +1,13 @@
 //! Lengths of paper, and its scale.
 
-ghost use Rattle.std.specs.{Prelude.{◌≡◌, ◌≤◌, ◌&&◌, nat_le, length, IfSome, IsTrue, take, drop, codes, ◌-◌}, List.prefix_len, Option.option_map};
-ghost use Rattle.{abc_lines.specs.Kinds.{code}, abc_field.specs.{Numbers.is_digit, Numbers.value_of, Words.after_prefix}};
-ghost use Rattle.abc_fields.specs.Lengths.{digit_len, with_decimals, decimals, whole_of, hundredths_of, in_units, within_paper, length_of, is_scale, scale_by, scale_of};
+ghost use Rattle.std.specs.Prelude.{◌≡◌, ◌≤◌, ◌&&◌, nat_le, length, IfSome, IsTrue, take, drop, codes, ◌-◌};
+ghost use Rattle.std.specs.List.{prefix_len};
+ghost use Rattle.std.specs.Option.{option_map};
+ghost use Rattle.abc_lines.specs.Kinds.{code};
+ghost use Rattle.abc_field.specs.Numbers.{is_digit, value_of};
+ghost use Rattle.abc_field.specs.Words.{after_prefix};
+ghost use Rattle.abc_fields.specs.Lengths.{digit_len, with_decimals, decimals, whole_of, hundredths_of, in_units};
+ghost use Rattle.abc_fields.specs.Lengths.{within_paper, length_of, is_scale, scale_by, scale_of};
 
 use abc_field::numbers::capped_value;
 use abc_field::words::after_prefix;

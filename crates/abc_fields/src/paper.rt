@@ -1,6 +1,9 @@
 ghost use Rattle.std.specs.Prelude.{◌≡◌, ◌≤◌, IfSome, codes, unwrap_or};
 ghost use Rattle.abc_field.specs.Last.{last_of};
-ghost use Rattle.abc_fields.specs.{declared.paper.Paper.Paper, FileHeader.IsPaperBy, Papers.{line_length, line_scale, length_in, scale_in, default_paper, stated, left_by, body_width, body_height, is_wide_enough, paper_of, IsGoodPaper, IsSmallPaper}};
+ghost use Rattle.abc_fields.specs.declared.paper.Paper.{Paper};
+ghost use Rattle.abc_fields.specs.FileHeader.{IsPaperBy};
+ghost use Rattle.abc_fields.specs.Papers.{line_length, line_scale, length_in, scale_in, default_paper, stated, left_by};
+ghost use Rattle.abc_fields.specs.Papers.{body_width, body_height, is_wide_enough, paper_of, IsGoodPaper, IsSmallPaper};
 
 use crate::defaults::said_by;
 use crate::length::{read_length, read_scale};

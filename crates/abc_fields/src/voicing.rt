@@ -1,7 +1,8 @@
 //! The voices that fields name, in order of first mention.
 
 ghost use Rattle.std.specs.Prelude.{◌≡◌, length, map, IfOk, OnOk, [], is_some, unwrap_or};
-ghost use Rattle.{abc_field.specs.Last.{last_of}, abc_fields.specs.Voicing.{with_id, ids_after, clef_for, wish_for, voice_from}};
+ghost use Rattle.abc_field.specs.Last.{last_of};
+ghost use Rattle.abc_fields.specs.Voicing.{with_id, ids_after, clef_for, wish_for, voice_from};
 
 use abc_field::field::Field;
 use abc_field::voice::VoiceDef;

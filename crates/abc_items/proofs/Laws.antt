@@ -1,8 +1,29 @@
 -- What is read goes on from part to part.
-use Rattle.std.{proofs.{Common.{◌≡◌, ℕ, suc, ◌+◌, ◌<◌, ◌≤◌, ◌^◌, List, [], ◌∷◌, ◌++◌, length, map, take, drop, get_or, refl, sym, ap, ◌∙◌, subst, arith, append_assoc, append-nil, drop-cons, Option, Some, None, Bool, true, false, ◌&&◌, All, flat_map}, Math.{Seq.take-suc, ListN.drop_of_length-le}, lemmas.List.{Sums.sum_by-cons, Elements.{All-nil, All-push, All-append, All-head, All-tail}}}, specs.Str.bytes_eq}
-use Rattle.{mus_units.specs.declared.pitch.Clef.{Clef}, abc_steps.specs.{declared.step.Step.Step, declared.step.PlacedStep.PlacedStep, Good.IsGoodPlacedStep, declared.step.BodyItem.BodyItem}}
-use Rattle.abc_items.specs.{Good.IsGoodItem, declared.body.Body.Body, Voices.{ids_after_item, declared_ids, stood, break_if, one_if, named_step, steps_in, own_next, steps_from}, Body.{ItemOrFault, gives, fails, item_judged, judged_items, first_item_fault, items_in, LineGives, BodyGives, no_lines, one_line, IsBody, IsBodyError}, Reading.{Reads, Stops, ReadsSome, StopsBy, LinesStop}}
-use Rattle.{abc_lines.specs.{declared.book.Line.Line, declared.fault.Fault.Fault, declared.fault.TuneError.TuneError, Good.size_of}, abc_music.specs.declared.token.Placed.{Placed}}
+use Rattle.std.proofs.Common.{◌≡◌, ℕ, suc, ◌+◌, ◌<◌, ◌≤◌, ◌^◌, List, [], ◌∷◌, ◌++◌, length, map, take, drop, get_or}
+use Rattle.std.proofs.Common.{refl, sym, ap, ◌∙◌, subst, arith, append_assoc, append-nil, drop-cons, Option, Some, None}
+use Rattle.std.proofs.Common.{Bool, true, false, ◌&&◌, All, flat_map}
+use Rattle.std.proofs.Math.Seq.{take-suc}
+use Rattle.std.proofs.Math.ListN.{drop_of_length-le}
+use Rattle.std.proofs.lemmas.List.Sums.{sum_by-cons}
+use Rattle.std.proofs.lemmas.List.Elements.{All-nil, All-push, All-append, All-head, All-tail}
+use Rattle.std.specs.Str.{bytes_eq}
+use Rattle.mus_units.specs.declared.pitch.Clef.{Clef}
+use Rattle.abc_steps.specs.declared.step.Step.{Step}
+use Rattle.abc_steps.specs.declared.step.PlacedStep.{PlacedStep}
+use Rattle.abc_steps.specs.Good.{IsGoodPlacedStep}
+use Rattle.abc_steps.specs.declared.step.BodyItem.{BodyItem}
+use Rattle.abc_items.specs.Good.{IsGoodItem}
+use Rattle.abc_items.specs.declared.body.Body.{Body}
+use Rattle.abc_items.specs.Voices.{ids_after_item, declared_ids, stood, break_if, one_if, named_step, steps_in}
+use Rattle.abc_items.specs.Voices.{own_next, steps_from}
+use Rattle.abc_items.specs.Body.{ItemOrFault, gives, fails, item_judged, judged_items, first_item_fault, items_in}
+use Rattle.abc_items.specs.Body.{LineGives, BodyGives, no_lines, one_line, IsBody, IsBodyError}
+use Rattle.abc_items.specs.Reading.{Reads, Stops, ReadsSome, StopsBy, LinesStop}
+use Rattle.abc_lines.specs.declared.book.Line.{Line}
+use Rattle.abc_lines.specs.declared.fault.Fault.{Fault}
+use Rattle.abc_lines.specs.declared.fault.TuneError.{TuneError}
+use Rattle.abc_lines.specs.Good.{size_of}
+use Rattle.abc_music.specs.declared.token.Placed.{Placed}
 use Rattle.{abc_field.specs.declared.directive.Breaks.{Breaks}, abc_fields.specs.declared.header.Header.{Header}}
 
 -- one element more of a row that is made of another

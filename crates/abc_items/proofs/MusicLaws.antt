@@ -1,8 +1,20 @@
 -- A music line as it is read part by part.
-use Rattle.std.proofs.{Common.{List, [], ◌++◌, Option, refl, sym, ap, ◌∙◌, subst, append_assoc, flat_map}, lemmas.Grind.flat_map-append}
-use Rattle.{abc_lines.specs.declared.{book.Line.Line, fault.Fault.Fault, fault.TuneError.TuneError}, abc_field.specs.declared.directive.Breaks.{Breaks}}
-use Rattle.abc_music.{specs.{declared.token.{Placed.Placed, TokenCursor.TokenCursor, LineRest.LineRest}, Tokens.{IsStart, GivesTokensFrom, LeadsTo, PartOf}}, proofs.{Line.ReadTo, Line.read_none, Line.read_more, Fronts.behind_part}}
-use Rattle.abc_items.{specs.{declared.body.Body.Body, Body.{ItemOrFault, placed_given, item_of_line_end, MusicGives}, Reading.{Reads, Stops, ReadsSome, StopsBy}}, proofs.Laws.{reads_nothing, reads_both, stops_before, stops_behind, stops_by}}
+use Rattle.std.proofs.Common.{List, [], ◌++◌, Option, refl, sym, ap, ◌∙◌, subst, append_assoc, flat_map}
+use Rattle.std.proofs.lemmas.Grind.{flat_map-append}
+use Rattle.abc_lines.specs.declared.book.Line.{Line}
+use Rattle.abc_lines.specs.declared.fault.Fault.{Fault}
+use Rattle.abc_lines.specs.declared.fault.TuneError.{TuneError}
+use Rattle.abc_field.specs.declared.directive.Breaks.{Breaks}
+use Rattle.abc_music.specs.declared.token.Placed.{Placed}
+use Rattle.abc_music.specs.declared.token.TokenCursor.{TokenCursor}
+use Rattle.abc_music.specs.declared.token.LineRest.{LineRest}
+use Rattle.abc_music.specs.Tokens.{IsStart, GivesTokensFrom, LeadsTo, PartOf}
+use Rattle.abc_music.proofs.Line.{ReadTo, read_none, read_more}
+use Rattle.abc_music.proofs.Fronts.{behind_part}
+use Rattle.abc_items.specs.declared.body.Body.{Body}
+use Rattle.abc_items.specs.Body.{ItemOrFault, placed_given, item_of_line_end, MusicGives}
+use Rattle.abc_items.specs.Reading.{Reads, Stops, ReadsSome, StopsBy}
+use Rattle.abc_items.proofs.Laws.{reads_nothing, reads_both, stops_before, stops_behind, stops_by}
 
 abbrev tokens_give : Breaks → Line → List Placed → List ItemOrFault
 tokens_give breaks line tokens = flat_map (placed_given breaks line) tokens

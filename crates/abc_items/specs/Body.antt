@@ -1,11 +1,30 @@
 -- What the lines of a body give, line by line and token by token in the order of the text: items
 -- or faults. The body is its items where no fault is among them, and else has the first of them.
-use Rattle.std.specs.{Prelude.{◌≡◌, ℕ, ◌+◌, ◌-◌, ◌*◌, ◌==◌, ◌&&◌, not, nat_lt, List, [], ◌∷◌, ◌++◌, Bool, true, false, if◌then◌else◌, map, flat_map, length, take, get_or, Option, Some, None, Result, Ok, Err, ⊤, nat_eq}, List.ends_with}
+use Rattle.std.specs.Prelude.{◌≡◌, ℕ, ◌+◌, ◌-◌, ◌*◌, ◌==◌, ◌&&◌, not, nat_lt, List, [], ◌∷◌, ◌++◌, Bool, true, false}
+use Rattle.std.specs.Prelude.{if◌then◌else◌, map, flat_map, length, take, get_or, Option, Some, None, Result, Ok, Err}
+use Rattle.std.specs.Prelude.{⊤, nat_eq}
+use Rattle.std.specs.List.{ends_with}
 use Rattle.mus_units.specs.declared.note.Head.{Head}
-use Rattle.abc_lines.specs.{declared.book.Line.Line, declared.fault.Fault.Fault, declared.fault.FaultKind.FaultKind, declared.fault.TuneError.TuneError, declared.kind.LineKind.LineKind, Kinds.kind_of}
-use Rattle.{abc_pieces.specs.declared.token.{Token.Token, WrittenChord.WrittenChord}, abc_notes.specs.declared.part.Len.{Len}, abc_music.specs.{declared.token.Placed.Placed, Tokens.GivesTokensOf}}
-use Rattle.{abc_field.specs.{declared.directive.Breaks.Breaks, declared.field.Field.Field, Fields.field_of, Fields.named_field}, abc_fields.specs.{declared.header.Header.Header, Voicing.with_id}}
-use Rattle.{abc_steps.specs.{declared.step.WrittenSound.WrittenSound, declared.step.Step.Step, declared.step.BodyItem.BodyItem}, abc_items.specs.Voices.{stood, ids_after_item, declared_ids}}
+use Rattle.abc_lines.specs.declared.book.Line.{Line}
+use Rattle.abc_lines.specs.declared.fault.Fault.{Fault}
+use Rattle.abc_lines.specs.declared.fault.FaultKind.{FaultKind}
+use Rattle.abc_lines.specs.declared.fault.TuneError.{TuneError}
+use Rattle.abc_lines.specs.declared.kind.LineKind.{LineKind}
+use Rattle.abc_lines.specs.Kinds.{kind_of}
+use Rattle.abc_pieces.specs.declared.token.Token.{Token}
+use Rattle.abc_pieces.specs.declared.token.WrittenChord.{WrittenChord}
+use Rattle.abc_notes.specs.declared.part.Len.{Len}
+use Rattle.abc_music.specs.declared.token.Placed.{Placed}
+use Rattle.abc_music.specs.Tokens.{GivesTokensOf}
+use Rattle.abc_field.specs.declared.directive.Breaks.{Breaks}
+use Rattle.abc_field.specs.declared.field.Field.{Field}
+use Rattle.abc_field.specs.Fields.{field_of, named_field}
+use Rattle.abc_fields.specs.declared.header.Header.{Header}
+use Rattle.abc_fields.specs.Voicing.{with_id}
+use Rattle.abc_steps.specs.declared.step.WrittenSound.{WrittenSound}
+use Rattle.abc_steps.specs.declared.step.Step.{Step}
+use Rattle.abc_steps.specs.declared.step.BodyItem.{BodyItem}
+use Rattle.abc_items.specs.Voices.{stood, ids_after_item, declared_ids}
 
 pub data ItemOrFault : Type 0 where
   gives : BodyItem → ItemOrFault

@@ -1,7 +1,13 @@
 -- Between what a body is and the code: what has been read so far, whatever follows.
 use Rattle.std.specs.Prelude.{◌≡◌, ℕ, List, [], ◌∷◌, ◌++◌, take, Option, Some, None, Bool, true, false, ⊤}
-use Rattle.{abc_lines.specs.declared.{book.Line.Line, fault.Fault.Fault, fault.TuneError.TuneError, fault.FaultKind.FaultKind}, abc_field.specs.declared.directive.Breaks.{Breaks}}
-use Rattle.{abc_steps.specs.declared.step.BodyItem.{BodyItem}, abc_items.specs.{declared.body.Body.Body, Body.ItemOrFault, Body.gives, Body.fails, Body.BodyGives, Body.judged_items, Body.first_item_fault, Body.items_in}}
+use Rattle.abc_lines.specs.declared.book.Line.{Line}
+use Rattle.abc_lines.specs.declared.fault.Fault.{Fault}
+use Rattle.abc_lines.specs.declared.fault.TuneError.{TuneError}
+use Rattle.abc_lines.specs.declared.fault.FaultKind.{FaultKind}
+use Rattle.abc_field.specs.declared.directive.Breaks.{Breaks}
+use Rattle.abc_steps.specs.declared.step.BodyItem.{BodyItem}
+use Rattle.abc_items.specs.declared.body.Body.{Body}
+use Rattle.abc_items.specs.Body.{ItemOrFault, gives, fails, BodyGives, judged_items, first_item_fault, items_in}
 
 abbrev pub maybe_given : Option BodyItem → List ItemOrFault
 maybe_given None = []

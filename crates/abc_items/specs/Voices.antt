@@ -1,7 +1,17 @@
 -- The voices of a tune: which there are, in order of first mention; what each begins with; and which steps of the body are its own.
-use Rattle.std.specs.{Prelude.{ℕ, List, [], ◌∷◌, ◌++◌, ◌==◌, ◌&&◌, not, Bool, true, false, if◌then◌else◌, map, fold, find, length, Option, Some, None, unwrap_or}, Str.bytes_eq}
-use Rattle.{mus_units.specs.{declared.pitch.Clef.Clef, declared.note.Wish.Wish}, abc_field.specs.{declared.voice.VoiceDef.VoiceDef, Last.last_of}, abc_fields.specs.{declared.header.Header.Header, Voicing.with_id}}
-use Rattle.{abc_steps.specs.{declared.step.Step.Step, declared.step.PlacedStep.PlacedStep, declared.step.BodyItem.BodyItem}, abc_items.specs.declared.voices.VoiceStart.{VoiceStart}}
+use Rattle.std.specs.Prelude.{ℕ, List, [], ◌∷◌, ◌++◌, ◌==◌, ◌&&◌, not, Bool, true, false, if◌then◌else◌, map, fold}
+use Rattle.std.specs.Prelude.{find, length, Option, Some, None, unwrap_or}
+use Rattle.std.specs.Str.{bytes_eq}
+use Rattle.mus_units.specs.declared.pitch.Clef.{Clef}
+use Rattle.mus_units.specs.declared.note.Wish.{Wish}
+use Rattle.abc_field.specs.declared.voice.VoiceDef.{VoiceDef}
+use Rattle.abc_field.specs.Last.{last_of}
+use Rattle.abc_fields.specs.declared.header.Header.{Header}
+use Rattle.abc_fields.specs.Voicing.{with_id}
+use Rattle.abc_steps.specs.declared.step.Step.{Step}
+use Rattle.abc_steps.specs.declared.step.PlacedStep.{PlacedStep}
+use Rattle.abc_steps.specs.declared.step.BodyItem.{BodyItem}
+use Rattle.abc_items.specs.declared.voices.VoiceStart.{VoiceStart}
 
 -- whether a step makes its voice, and its line one of its voice: spaces, line breaks, line ends and fields don't
 unfoldable pub claims : Step → Bool

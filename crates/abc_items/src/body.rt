@@ -1,7 +1,16 @@
 ghost use Rattle.std.specs.Prelude.{◌≡◌, ◌≤◌, ◌^◌, ◌∷◌, [], All, nat_lt, length, flat_map, OnOk, IfOk, IfErr, IfSome};
 ghost use Rattle.abc_music.specs.Good.{AreGoodTokens, IsGoodToken};
-ghost use Rattle.abc_items.specs.{Good.IsGoodItem, Voices.declared_ids, Body.{gives, placed_given, item_of_field, is_line_joined, end_item, item_of_line_end, item_judged, MusicGives, LineGives, BodyGives, IsBody, IsBodyError}, Reading.{maybe_given, Reads, Stops, ReadsSome, StopsBy, LinesStop, judged_as, past_fault}};
-ghost use Rattle.{abc_lines.specs.{Good.IsGoodLine, Good.size_of, declared.kind.LineKind.LineKind, Kinds.kind_of}, abc_field.specs.Fields.{field_of}, abc_fields.specs.Voicing.{with_id}};
+ghost use Rattle.abc_items.specs.Good.{IsGoodItem};
+ghost use Rattle.abc_items.specs.Voices.{declared_ids};
+ghost use Rattle.abc_items.specs.Body.{gives, placed_given, item_of_field, is_line_joined, end_item, item_of_line_end};
+ghost use Rattle.abc_items.specs.Body.{item_judged, MusicGives, LineGives, BodyGives, IsBody, IsBodyError};
+ghost use Rattle.abc_items.specs.Reading.{maybe_given, Reads, Stops, ReadsSome, StopsBy, LinesStop, judged_as};
+ghost use Rattle.abc_items.specs.Reading.{past_fault};
+ghost use Rattle.abc_lines.specs.Good.{IsGoodLine, size_of};
+ghost use Rattle.abc_lines.specs.declared.kind.LineKind.{LineKind};
+ghost use Rattle.abc_lines.specs.Kinds.{kind_of};
+ghost use Rattle.abc_field.specs.Fields.{field_of};
+ghost use Rattle.abc_fields.specs.Voicing.{with_id};
 
 use crate::token::{field_item, token_item};
 use crate::voices::{declared_ids, is_mentioned, mention_item};

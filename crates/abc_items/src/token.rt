@@ -1,8 +1,14 @@
 //! What a field and a token of a music line give to the body.
 
 ghost use Rattle.std.specs.Prelude.{◌≡◌, ◌≤◌, ◌^◌, true, ◌*◌, ◌-◌, ◌∷◌, [], map, get_or, IfOk, IfErr, IfSome, Ok, Err};
-ghost use Rattle.{abc_music.specs.Good.{AreGoodHeads, IsGoodLen, IsGoodToken}, abc_steps.specs.Good.{IsGoodSound}, abc_field.specs.{Fields.{IsGoodField, named_field}, Keys.IsGoodKeyText}};
-ghost use Rattle.abc_items.specs.{Good.IsGoodItem, Body.{written_head, first_len, chord_sound, is_on, cut_given, step_at, field_item, item_of_field, item_of_token}, Reading.{maybe_given, IsGivenError}};
+ghost use Rattle.abc_music.specs.Good.{AreGoodHeads, IsGoodLen, IsGoodToken};
+ghost use Rattle.abc_steps.specs.Good.{IsGoodSound};
+ghost use Rattle.abc_field.specs.Fields.{IsGoodField, named_field};
+ghost use Rattle.abc_field.specs.Keys.{IsGoodKeyText};
+ghost use Rattle.abc_items.specs.Good.{IsGoodItem};
+ghost use Rattle.abc_items.specs.Body.{written_head, first_len, chord_sound, is_on, cut_given, step_at, field_item};
+ghost use Rattle.abc_items.specs.Body.{item_of_field, item_of_token};
+ghost use Rattle.abc_items.specs.Reading.{maybe_given, IsGivenError};
 
 use abc_field::{Breaks, Field, FieldError, KeyText, read_named};
 use abc_lines::{Fault, Line, TuneError};

@@ -1,6 +1,15 @@
-ghost use Rattle.std.specs.{Prelude.{◌≡◌, ◌++◌, ◌∷◌, ◌&&◌, ◌||◌, not, ◌==◌, [], IfOk, OnOk, map, find, fold, length, unwrap_or, true, false, All}, List.list_any, Option.option_copied, Str.bytes_eq};
+ghost use Rattle.std.specs.Prelude.{◌≡◌, ◌++◌, ◌∷◌, ◌&&◌, ◌||◌, not, ◌==◌, [], IfOk, OnOk, map, find, fold, length};
+ghost use Rattle.std.specs.Prelude.{unwrap_or, true, false, All};
+ghost use Rattle.std.specs.List.{list_any};
+ghost use Rattle.std.specs.Option.{option_copied};
+ghost use Rattle.std.specs.Str.{bytes_eq};
 ghost use Rattle.abc_steps.specs.Good.{IsGoodPlacedStep};
-ghost use Rattle.abc_items.specs.{Good.IsGoodItem, Voices.{claims, voice_one, ids_by_step, ids_after_item, declared_ids, voice_ids, unnamed_of, declared, decides, clef_of_item, still_alone, first_clef, clef_first, start_clef, wish_of_item, wish_if, declared_wish, start_stem, start_of, starts_of, stood, break_if, clef_step, one_if, named_step, steps_in, own_next, steps_of}};
+ghost use Rattle.abc_items.specs.Good.{IsGoodItem};
+ghost use Rattle.abc_items.specs.Voices.{claims, voice_one, ids_by_step, ids_after_item, declared_ids, voice_ids};
+ghost use Rattle.abc_items.specs.Voices.{unnamed_of, declared, decides, clef_of_item, still_alone, first_clef};
+ghost use Rattle.abc_items.specs.Voices.{clef_first, start_clef, wish_of_item, wish_if, declared_wish, start_stem};
+ghost use Rattle.abc_items.specs.Voices.{start_of, starts_of, stood, break_if, clef_step, one_if, named_step, steps_in};
+ghost use Rattle.abc_items.specs.Voices.{own_next, steps_of};
 ghost use Rattle.{abc_field.specs.Last.{last_of}, abc_fields.specs.Voicing.{with_id}};
 
 use crate::copies::copy_stood;

@@ -1,6 +1,16 @@
 -- Going forwards lists the lines that belong by looking backwards.
-use Rattle.std.{proofs.{Common.{◌≡◌, ℕ, suc, ◌≤◌, ◌<◌, Bool, true, false, cond, List, [], ◌∷◌, ◌++◌, length, Some, None, refl, sym, ap, ◌∙◌, arith}, lemmas.Bool.{cond_both, eqb-true, eq-eqb, ne_eqb, and_right}, Math.Bool.{and-false, or-true, or-false}}, specs.Prelude.{◌||◌, not, ◌&&◌}}
-use Rattle.abc_lines.specs.{declared.{book.{Line.Line, TuneText.TuneText, Book.Book}, reading.LineContent.LineContent}, Books.{begins_tune, is_empty_line, is_end_of_part, is_in_header, tune_of, is_line_number, belongs_to, line_at, listed_lines, tune_at, tunes_behind, book_of_lines}, Forward.{part_from, tune_from, tunes_from, book_from}}
+use Rattle.std.proofs.Common.{◌≡◌, ℕ, suc, ◌≤◌, ◌<◌, Bool, true, false, cond, List, [], ◌∷◌, ◌++◌, length, Some, None}
+use Rattle.std.proofs.Common.{refl, sym, ap, ◌∙◌, arith}
+use Rattle.std.proofs.lemmas.Bool.{cond_both, eqb-true, eq-eqb, ne_eqb, and_right}
+use Rattle.std.proofs.Math.Bool.{and-false, or-true, or-false}
+use Rattle.std.specs.Prelude.{◌||◌, not, ◌&&◌}
+use Rattle.abc_lines.specs.declared.book.Line.{Line}
+use Rattle.abc_lines.specs.declared.book.TuneText.{TuneText}
+use Rattle.abc_lines.specs.declared.book.Book.{Book}
+use Rattle.abc_lines.specs.declared.reading.LineContent.{LineContent}
+use Rattle.abc_lines.specs.Books.{begins_tune, is_empty_line, is_end_of_part, is_in_header, tune_of, is_line_number}
+use Rattle.abc_lines.specs.Books.{belongs_to, line_at, listed_lines, tune_at, tunes_behind, book_of_lines}
+use Rattle.abc_lines.specs.Forward.{part_from, tune_from, tunes_from, book_from}
 
 pub part-nil : (number : ℕ) → part_from number [] ≡ []
 unfolding part_from

@@ -1,6 +1,27 @@
 -- The book that is found is good: numbers rise, and the lines of a part are no longer than the input.
-use Rattle.std.{proofs.{Common.{◌≡◌, ℕ, zero, suc, ◌+◌, ◌-◌, ◌≤◌, ◌^◌, Bool, true, false, cond, eqb, List, [], ◌∷◌, ◌++◌, length, take, drop, refl, ap, ◌∙◌, subst, arith}, lemmas.{Bool.{cond_both, eqb-true, and_parts}, List.{length-append, length-drop, map-append, length-map, Elements.All-cons, Sums.sum_by-append}, Str.{encodes-chars, length-le-encodes, IsUtf8-from_is_utf8}}}, specs.{List.{starts_with, ends_with, prefix_len, suffix_len}, Prelude.{map, sum, ◌&&◌, All, nat_eq}, Str.{is_utf8, chars}}}
-use Rattle.abc_lines.{specs.{Lines.{without_mark, without_return, narrow, in_latin, comment_len, without_comment, is_empty_text, written, reading, readings, byte_order_mark, first_line}, declared.{book.{Line.Line, TuneText.TuneText}, reading.LineContent.{LineContent, TheVariants.{Empty, Comment, Written}}}, Kinds.{is_blank, is_field, is_percent_line, field_text}, Books.{begins_tune, is_end_of_part, is_joining, goes_on, added, joined, whole_text, line_at, book_of}, Forward.{part_from, tune_from, tunes_from, book_from}, Good.{IsGoodTune, IsGoodBook, NumbersRise, size_of}}, proofs.{LineLaws.{first_line_off, readings-nil}, Backwards.{forwards, part-nil, part-cons, tunes-nil, tunes-cons}}}
+use Rattle.std.proofs.Common.{◌≡◌, ℕ, zero, suc, ◌+◌, ◌-◌, ◌≤◌, ◌^◌, Bool, true, false, cond, eqb, List, [], ◌∷◌, ◌++◌}
+use Rattle.std.proofs.Common.{length, take, drop, refl, ap, ◌∙◌, subst, arith}
+use Rattle.std.proofs.lemmas.Bool.{cond_both, eqb-true, and_parts}
+use Rattle.std.proofs.lemmas.List.{length-append, length-drop, map-append, length-map}
+use Rattle.std.proofs.lemmas.List.Elements.{All-cons}
+use Rattle.std.proofs.lemmas.List.Sums.{sum_by-append}
+use Rattle.std.proofs.lemmas.Str.{encodes-chars, length-le-encodes, IsUtf8-from_is_utf8}
+use Rattle.std.specs.List.{starts_with, ends_with, prefix_len, suffix_len}
+use Rattle.std.specs.Prelude.{map, sum, ◌&&◌, All, nat_eq}
+use Rattle.std.specs.Str.{is_utf8, chars}
+use Rattle.abc_lines.specs.Lines.{without_mark, without_return, narrow, in_latin, comment_len, without_comment}
+use Rattle.abc_lines.specs.Lines.{is_empty_text, written, reading, readings, byte_order_mark, first_line}
+use Rattle.abc_lines.specs.declared.book.Line.{Line}
+use Rattle.abc_lines.specs.declared.book.TuneText.{TuneText}
+use Rattle.abc_lines.specs.declared.reading.LineContent.{LineContent}
+use Rattle.abc_lines.specs.declared.reading.LineContent.TheVariants.{Empty, Comment, Written}
+use Rattle.abc_lines.specs.Kinds.{is_blank, is_field, is_percent_line, field_text}
+use Rattle.abc_lines.specs.Books.{begins_tune, is_end_of_part, is_joining, goes_on, added, joined, whole_text, line_at}
+use Rattle.abc_lines.specs.Books.{book_of}
+use Rattle.abc_lines.specs.Forward.{part_from, tune_from, tunes_from, book_from}
+use Rattle.abc_lines.specs.Good.{IsGoodTune, IsGoodBook, NumbersRise, size_of}
+use Rattle.abc_lines.proofs.LineLaws.{first_line_off, readings-nil}
+use Rattle.abc_lines.proofs.Backwards.{forwards, part-nil, part-cons, tunes-nil, tunes-cons}
 
 -- the bytes of the text of lines
 abbrev pub text_len : LineContent → ℕ

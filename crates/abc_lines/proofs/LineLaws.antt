@@ -1,6 +1,14 @@
 -- The first line is read, and then the others.
-use Rattle.std.{proofs.{Common.{◌≡◌, ℕ, zero, suc, ◌+◌, ◌≤◌, ◌<◌, Bool, true, false, List, [], ◌∷◌, length, take, drop, refl, sym, ap, ◌∙◌, arith, inl, inr, ◌⊎◌}, lemmas.{Bool.ne_eqb, List.Splits.{slice_split-cons_yes, slice_split-cons_no, length-slice_split}, Str.{is_utf8-from_IsUtf8, IsUtf8-from_is_utf8}}}, specs.{Prelude.map, List.{slice_split, onto_first, position_or_len}, Str.{is_utf8, chars, IsUtf8}}}
-use Rattle.abc_lines.specs.Lines.{lines_of, without_last_empty, first_line, is_end, tail_of, reading, readings, in_latin, narrow}
+use Rattle.std.proofs.Common.{◌≡◌, ℕ, zero, suc, ◌+◌, ◌≤◌, ◌<◌, Bool, true, false, List, [], ◌∷◌, length, take, drop}
+use Rattle.std.proofs.Common.{refl, sym, ap, ◌∙◌, arith, inl, inr, ◌⊎◌}
+use Rattle.std.proofs.lemmas.Bool.{ne_eqb}
+use Rattle.std.proofs.lemmas.List.Splits.{slice_split-cons_yes, slice_split-cons_no, length-slice_split}
+use Rattle.std.proofs.lemmas.Str.{is_utf8-from_IsUtf8, IsUtf8-from_is_utf8}
+use Rattle.std.specs.Prelude.{map}
+use Rattle.std.specs.List.{slice_split, onto_first, position_or_len}
+use Rattle.std.specs.Str.{is_utf8, chars, IsUtf8}
+use Rattle.abc_lines.specs.Lines.{lines_of, without_last_empty, first_line, is_end, tail_of, reading, readings}
+use Rattle.abc_lines.specs.Lines.{in_latin, narrow}
 
 abbrev pair : List ℕ → List ℕ → List ℕ × List ℕ
 pair x y = (x, y)

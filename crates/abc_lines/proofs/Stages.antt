@@ -1,6 +1,17 @@
 -- What the loops of the cutting keep, and each of their steps.
-use Rattle.std.proofs.{Common.{◌≡◌, ℕ, suc, ◌+◌, ◌≤◌, ◌<◌, ◌^◌, true, false, List, [], ◌∷◌, ◌++◌, length, refl, sym, ap, ◌∙◌, arith, append_assoc, append-nil, add-one}, lemmas.{Grind.length_at_push, Bool.or_parts}}
-use Rattle.abc_lines.{specs.{declared.{book.{Line.Line, TuneText.TuneText, Book.Book}, reading.LineContent.LineContent}, Books.{begins_tune, is_empty_line, is_end_of_part, goes_on, added, joined, line_at}, Forward.{part_from, tune_from, tunes_from, book_from}, Lines.{reading, readings, without_mark}}, proofs.{LineLaws.{Off, readings-none}, Backwards.{part-nil, part-cons, tunes-nil, tunes-cons}}}
+use Rattle.std.proofs.Common.{◌≡◌, ℕ, suc, ◌+◌, ◌≤◌, ◌<◌, ◌^◌, true, false, List, [], ◌∷◌, ◌++◌, length, refl, sym, ap}
+use Rattle.std.proofs.Common.{◌∙◌, arith, append_assoc, append-nil, add-one}
+use Rattle.std.proofs.lemmas.Grind.{length_at_push}
+use Rattle.std.proofs.lemmas.Bool.{or_parts}
+use Rattle.abc_lines.specs.declared.book.Line.{Line}
+use Rattle.abc_lines.specs.declared.book.TuneText.{TuneText}
+use Rattle.abc_lines.specs.declared.book.Book.{Book}
+use Rattle.abc_lines.specs.declared.reading.LineContent.{LineContent}
+use Rattle.abc_lines.specs.Books.{begins_tune, is_empty_line, is_end_of_part, goes_on, added, joined, line_at}
+use Rattle.abc_lines.specs.Forward.{part_from, tune_from, tunes_from, book_from}
+use Rattle.abc_lines.specs.Lines.{reading, readings, without_mark}
+use Rattle.abc_lines.proofs.LineLaws.{Off, readings-none}
+use Rattle.abc_lines.proofs.Backwards.{part-nil, part-cons, tunes-nil, tunes-cons}
 
 pub join-next : (out new total s line rest : List ℕ) (r : LineContent) → Off s line rest → r ≡ reading line → goes_on r ≡ true → new ≡ out ++ added r →
     out ++ joined (readings s) ≡ total → new ++ joined (readings rest) ≡ total

@@ -1,8 +1,16 @@
 -- The book: which lines belong to the file header and to which tune, by looking backwards from a
 -- line, and the text that a listed line has with the `+:` lines that are joined to it.
 use Prim.Native.Char.{code}
-use Rattle.std.specs.{Prelude.{ℕ, suc, List, [], ◌∷◌, ◌++◌, length, Bool, true, false, ◌==◌, ◌&&◌, ◌||◌, not, if◌then◌else◌, Option, Some, None, nat_eq, codes}, List.starts_with}
-use Rattle.abc_lines.specs.{declared.{book.{Line.Line, TuneText.TuneText, Book.Book}, reading.LineContent.{LineContent, TheVariants.{Empty, Comment, Written}}}, Kinds.{is_field, field_text}, Lines.{readings, without_mark}}
+use Rattle.std.specs.Prelude.{ℕ, suc, List, [], ◌∷◌, ◌++◌, length, Bool, true, false, ◌==◌, ◌&&◌, ◌||◌, not}
+use Rattle.std.specs.Prelude.{if◌then◌else◌, Option, Some, None, nat_eq, codes}
+use Rattle.std.specs.List.{starts_with}
+use Rattle.abc_lines.specs.declared.book.Line.{Line}
+use Rattle.abc_lines.specs.declared.book.TuneText.{TuneText}
+use Rattle.abc_lines.specs.declared.book.Book.{Book}
+use Rattle.abc_lines.specs.declared.reading.LineContent.{LineContent}
+use Rattle.abc_lines.specs.declared.reading.LineContent.TheVariants.{Empty, Comment, Written}
+use Rattle.abc_lines.specs.Kinds.{is_field, field_text}
+use Rattle.abc_lines.specs.Lines.{readings, without_mark}
 
 -- a line that begins `X:` begins a tune
 abbrev pub begins_tune : LineContent → Bool

@@ -1,6 +1,10 @@
 -- Between the book as it is defined and the code: the same lines, found by going forwards.
 use Rattle.std.specs.Prelude.{ℕ, suc, List, [], ◌∷◌, ◌++◌, if◌then◌else◌}
-use Rattle.abc_lines.specs.{declared.book.Line.Line, declared.book.TuneText.TuneText, declared.book.Book.Book, declared.reading.LineContent.LineContent, Books.begins_tune, Books.is_end_of_part, Books.line_at}
+use Rattle.abc_lines.specs.declared.book.Line.{Line}
+use Rattle.abc_lines.specs.declared.book.TuneText.{TuneText}
+use Rattle.abc_lines.specs.declared.book.Book.{Book}
+use Rattle.abc_lines.specs.declared.reading.LineContent.{LineContent}
+use Rattle.abc_lines.specs.Books.{begins_tune, is_end_of_part, line_at}
 
 -- the listed lines up to the first that is empty or begins a tune; the first has this number
 unfoldable pub part_from : ℕ → List LineContent → List Line

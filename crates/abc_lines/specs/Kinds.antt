@@ -3,7 +3,8 @@
 pub use Prim.Native.Char.{code}
 use Rattle.std.specs.Prelude.{ℕ, List, [], ◌∷◌, drop, Bool, false, ◌==◌, ◌&&◌, ◌||◌, not, nat_le, if◌then◌else◌}
 pub use Rattle.mus_units.specs.Bytes.{is_blank, is_letter, after_blanks}
-use Rattle.abc_lines.specs.declared.kind.LineKind.{LineKind, TheVariants.Field, TheVariants.Directive, TheVariants.Music}
+use Rattle.abc_lines.specs.declared.kind.LineKind.{LineKind}
+use Rattle.abc_lines.specs.declared.kind.LineKind.TheVariants.{Field, Directive, Music}
 
 -- a letter that may be a note, a rest or a blank of music: A to G, a to g, x, y, z
 abbrev pub is_music_letter : ℕ → Bool

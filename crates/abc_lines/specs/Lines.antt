@@ -1,7 +1,12 @@
 -- The lines of an input: its pieces between line ends, without the carriage return at the end, each in Latin-1 and without its comment.
 use Prim.Native.Char.{code}
-use Rattle.std.specs.{Prelude.{◌-◌, ◌+◌, ◌&&◌, not, ℕ, List, [], ◌∷◌, length, Bool, false, ◌==◌, if◌then◌else◌, take, drop, map, nat_eq, nat_le, codes}, List.{slice_split, suffix_len, position_or_len, prefix_len, starts_with, ends_with}, Str.{is_utf8, chars}}
-use Rattle.abc_lines.specs.{declared.reading.LineContent.LineContent, Kinds.is_percent_line, declared.reading.LineContent.TheVariants.Empty, declared.reading.LineContent.TheVariants.Comment, declared.reading.LineContent.TheVariants.Written}
+use Rattle.std.specs.Prelude.{◌-◌, ◌+◌, ◌&&◌, not, ℕ, List, [], ◌∷◌, length, Bool, false, ◌==◌, if◌then◌else◌, take}
+use Rattle.std.specs.Prelude.{drop, map, nat_eq, nat_le, codes}
+use Rattle.std.specs.List.{slice_split, suffix_len, position_or_len, prefix_len, starts_with, ends_with}
+use Rattle.std.specs.Str.{is_utf8, chars}
+use Rattle.abc_lines.specs.declared.reading.LineContent.{LineContent}
+use Rattle.abc_lines.specs.Kinds.{is_percent_line}
+use Rattle.abc_lines.specs.declared.reading.LineContent.TheVariants.{Empty, Comment, Written}
 use Rattle.mus_units.specs.Bytes.{is_blank, before_blanks}
 
 abbrev pub is_end : ℕ → Bool

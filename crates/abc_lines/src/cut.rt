@@ -1,5 +1,10 @@
-ghost use Rattle.std.specs.{Prelude.{◌≡◌, ◌≤◌, ◌<◌, ◌+◌, ◌^◌, ◌++◌, ℕ, suc, length, nat_eq, IfOk, OnOk}, List.starts_with};
-ghost use Rattle.abc_lines.specs.{Books.{begins_tune, is_empty_line, is_end_of_part, is_joining, goes_on, added, joined, whole_text, line_of_text, line_at, book_of}, Forward.{part_from, tune_from, tunes_from}, Good.IsGoodBook, Lines.readings};
+ghost use Rattle.std.specs.Prelude.{◌≡◌, ◌≤◌, ◌<◌, ◌+◌, ◌^◌, ◌++◌, ℕ, suc, length, nat_eq, IfOk, OnOk};
+ghost use Rattle.std.specs.List.{starts_with};
+ghost use Rattle.abc_lines.specs.Books.{begins_tune, is_empty_line, is_end_of_part, is_joining, goes_on, added, joined};
+ghost use Rattle.abc_lines.specs.Books.{whole_text, line_of_text, line_at, book_of};
+ghost use Rattle.abc_lines.specs.Forward.{part_from, tune_from, tunes_from};
+ghost use Rattle.abc_lines.specs.Good.{IsGoodBook};
+ghost use Rattle.abc_lines.specs.Lines.{readings};
 
 use crate::book::{Book, Line, TuneText};
 use crate::kind::{behind_two, is_field};

@@ -1,5 +1,6 @@
 ghost use Rattle.std.specs.{Prelude.◌≡◌, Prelude.◌≤◌, Prelude.length, Prelude.drop, List.prefix_len};
-ghost use Rattle.abc_lines.specs.Kinds.{is_blank, is_letter, is_music_letter, begins_bar, is_field, is_percent_line, field_kind, kind_of, after_blanks, field_text};
+ghost use Rattle.abc_lines.specs.Kinds.{is_blank, is_letter, is_music_letter, begins_bar, is_field, is_percent_line};
+ghost use Rattle.abc_lines.specs.Kinds.{field_kind, kind_of, after_blanks, field_text};
 
 use crate::book::Line;
 use mus_units::bytes::{after_blanks, is_letter};

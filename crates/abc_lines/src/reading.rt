@@ -1,5 +1,9 @@
-ghost use Rattle.std.specs.{Prelude.{◌≡◌, ◌≤◌, ◌-◌, ◌+◌, length, take, map, true, false, IfOk}, List.{suffix_len, position_or_len}, Str.chars};
-ghost use Rattle.abc_lines.specs.{Kinds.is_blank, Lines.{is_end, without_mark, without_return, narrow, in_latin, comment_len, without_comment, is_empty_text, written, reading_of, reading, first_line}};
+ghost use Rattle.std.specs.Prelude.{◌≡◌, ◌≤◌, ◌-◌, ◌+◌, length, take, map, true, false, IfOk};
+ghost use Rattle.std.specs.List.{suffix_len, position_or_len};
+ghost use Rattle.std.specs.Str.{chars};
+ghost use Rattle.abc_lines.specs.Kinds.{is_blank};
+ghost use Rattle.abc_lines.specs.Lines.{is_end, without_mark, without_return, narrow, in_latin, comment_len};
+ghost use Rattle.abc_lines.specs.Lines.{without_comment, is_empty_text, written, reading_of, reading, first_line};
 
 use crate::kind::is_percent_line;
 use bstr::ByteSlice;

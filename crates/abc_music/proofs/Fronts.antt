@@ -1,9 +1,37 @@
 -- Where no piece stands there is a fault, so a line has a front from each of its places on.
-use Rattle.std.{specs.Prelude.{◌==◌, MatchBool, MatchOption}, proofs.{Common.{◌≡◌, ℕ, zero, suc, ◌+◌, ◌≤◌, ◌<◌, Bool, true, false, List, [], ◌∷◌, ◌++◌, length, Option, Some, None, refl, sym, ap, ◌∙◌, subst, arith, append-nil, eqb-true, option_map}, lemmas.Bool.eqb-false}}
-use Rattle.abc_lines.specs.declared.{book.Line.Line, fault.Fault.Fault, fault.FaultKind.FaultKind, fault.FaultKind.TheVariants.{BadByte, Unclosed, BadLength}}
-use Rattle.abc_notes.{specs.{Parts.{Flawed, stuck_here, stuck_later, IsFlaw, goes_on_length, length_at_place, walk, is_done}, Items.{has_length, IsBadByte, inner_at}, Runs.{begins, skip, span_all}, Chords.{ChordFault, is_inside, is_bracket, chord_at}, Graces.{GraceFault, IsGraceOwn, part_has_length, is_in_grace, grace_part_at, grace_at}, declared.part.Flaw.Flaw}, proofs.{PartLaws.{Reader, none_of, longest_of, less, by_parts, walk-none, walk-some}, InnerLaws.inner_reader, ChordLaws.{chord-unclosed, chord-open, chord-headless, chord-flawed}, GraceLaws.{no_chord as no_chord_in_grace, part_reader, grace-unclosed, grace-open, grace-flawed}}}
-use Rattle.abc_pieces.{specs.{Forms.{token_meant, after, opening}, Reading.{FormAndRest, piece_at}, declared.token.{PieceBefore.PieceBefore, BracketOpening.BracketOpening}}, proofs.PieceReader.piece_reader}
-use Rattle.abc_music.{specs.{declared.token.{Placed.Placed, TokenCursor.TokenCursor, LineRest.LineRest}, Good.AreGoodTokens, Tokens.{GivesTokens, clear, breaks, leads, column, with_token, kind_after, IsHere, IsBracketFlaw, IsOwnFlaw, fault_at, GivesTokensFrom, PartOf}}, proofs.{GoodLaws.good_front, Line.{no_chord, no_grace}}}
+use Rattle.std.specs.Prelude.{◌==◌, MatchBool, MatchOption}
+use Rattle.std.proofs.Common.{◌≡◌, ℕ, zero, suc, ◌+◌, ◌≤◌, ◌<◌, Bool, true, false, List, [], ◌∷◌, ◌++◌, length, Option}
+use Rattle.std.proofs.Common.{Some, None, refl, sym, ap, ◌∙◌, subst, arith, append-nil, eqb-true, option_map}
+use Rattle.std.proofs.lemmas.Bool.{eqb-false}
+use Rattle.abc_lines.specs.declared.book.Line.{Line}
+use Rattle.abc_lines.specs.declared.fault.Fault.{Fault}
+use Rattle.abc_lines.specs.declared.fault.FaultKind.{FaultKind}
+use Rattle.abc_lines.specs.declared.fault.FaultKind.TheVariants.{BadByte, Unclosed, BadLength}
+use Rattle.abc_notes.specs.Parts.{Flawed, stuck_here, stuck_later, IsFlaw, goes_on_length, length_at_place, walk}
+use Rattle.abc_notes.specs.Parts.{is_done}
+use Rattle.abc_notes.specs.Items.{has_length, IsBadByte, inner_at}
+use Rattle.abc_notes.specs.Runs.{begins, skip, span_all}
+use Rattle.abc_notes.specs.Chords.{ChordFault, is_inside, is_bracket, chord_at}
+use Rattle.abc_notes.specs.Graces.{GraceFault, IsGraceOwn, part_has_length, is_in_grace, grace_part_at, grace_at}
+use Rattle.abc_notes.specs.declared.part.Flaw.{Flaw}
+use Rattle.abc_notes.proofs.PartLaws.{Reader, none_of, longest_of, less, by_parts, walk-none, walk-some}
+use Rattle.abc_notes.proofs.InnerLaws.{inner_reader}
+use Rattle.abc_notes.proofs.ChordLaws.{chord-unclosed, chord-open, chord-headless, chord-flawed}
+use Rattle.abc_notes.proofs.GraceLaws.{no_chord as no_chord_in_grace, part_reader, grace-unclosed, grace-open}
+use Rattle.abc_notes.proofs.GraceLaws.{grace-flawed}
+use Rattle.abc_pieces.specs.Forms.{token_meant, after, opening}
+use Rattle.abc_pieces.specs.Reading.{FormAndRest, piece_at}
+use Rattle.abc_pieces.specs.declared.token.PieceBefore.{PieceBefore}
+use Rattle.abc_pieces.specs.declared.token.BracketOpening.{BracketOpening}
+use Rattle.abc_pieces.proofs.PieceReader.{piece_reader}
+use Rattle.abc_music.specs.declared.token.Placed.{Placed}
+use Rattle.abc_music.specs.declared.token.TokenCursor.{TokenCursor}
+use Rattle.abc_music.specs.declared.token.LineRest.{LineRest}
+use Rattle.abc_music.specs.Good.{AreGoodTokens}
+use Rattle.abc_music.specs.Tokens.{GivesTokens, clear, breaks, leads, column, with_token, kind_after, IsHere}
+use Rattle.abc_music.specs.Tokens.{IsBracketFlaw, IsOwnFlaw, fault_at, GivesTokensFrom, PartOf}
+use Rattle.abc_music.proofs.GoodLaws.{good_front}
+use Rattle.abc_music.proofs.Line.{no_chord, no_grace}
 
 abbrev HasFlaw : (Flaw → Type 0) → Type 0
 HasFlaw Is = (flaw : Flaw) × Is flaw

@@ -1,9 +1,32 @@
 -- What a piece spells is a good token.
-use Rattle.std.{proofs.{Common.{◌≡◌, ℕ, suc, ◌+◌, ◌*◌, ◌-◌, ◌^◌, ◌≤◌, ◌<◌, Bool, true, false, List, [], ◌∷◌, ◌++◌, map, length, sym, subst, arith}, lemmas.{Int.Digits.digits_value-lt, Bool.{and_parts, leb-true, eqb-false}}}, specs.{Prelude.{Option, Some, None, ◌==◌, if◌then◌else◌, ⊤}, List.list_all, Char.digit_value, Str.Parse.{AllDigits, digits_value, digits_value_after}}}
+use Rattle.std.proofs.Common.{◌≡◌, ℕ, suc, ◌+◌, ◌*◌, ◌-◌, ◌^◌, ◌≤◌, ◌<◌, Bool, true, false, List, [], ◌∷◌, ◌++◌, map}
+use Rattle.std.proofs.Common.{length, sym, subst, arith}
+use Rattle.std.proofs.lemmas.Int.Digits.{digits_value-lt}
+use Rattle.std.proofs.lemmas.Bool.{and_parts, leb-true, eqb-false}
+use Rattle.std.specs.Prelude.{Option, Some, None, ◌==◌, if◌then◌else◌, ⊤}
+use Rattle.std.specs.List.{list_all}
+use Rattle.std.specs.Char.{digit_value}
+use Rattle.std.specs.Str.Parse.{AllDigits, digits_value, digits_value_after}
 use Rattle.mus_units.specs.Bytes.{is_digit}
-use Rattle.abc_notes.{specs.{Lengths.{LengthForm, whole, over, halved, AreNumberDigits, IsCount, count_of, IsWrittenLength, len_of}, Graces.{GracePart, single, chorded, StandsInGrace, heads_in, body_of_sense, body_of}, Items.{Inner, note_inside, StandsInside, sense}, Chords.{has_inner_head, heads_of}, Parts.{Parts, no_part, then_part}, declared.part.{Flaw.Flaw, GraceChord.GraceChord}}, proofs.Bounds.{digit_range, digit_value-is}}
-use Rattle.abc_pieces.specs.{Forms.{Form, note_form, rest_form, measures_form, chord_form, grace_form, tuplet_form, broken_form, inline_form, space_form, IsGoodForm, is_kept_field, token_meant, after}, Tuplets.{TupletForm, bare, with_q, with_r, is_tuplet_digit, IsTuplet, value_or_zero, p_of, q_of, r_of}, declared.token.{Token.Token, PieceBefore.PieceBefore}}
-use Rattle.abc_music.specs.{declared.token.Placed.Placed, Good.IsGoodLen, Good.AreGoodHeads, Good.HasHead, Good.HasGraceHead, Good.AreGoodGraces, Good.IsGoodTuplet, Good.IsGoodToken, Good.AreGoodTokens, Tokens.GivesTokens, Tokens.clear, Tokens.breaks, Tokens.leads, Tokens.with_token, Tokens.column}
+use Rattle.abc_notes.specs.Lengths.{LengthForm, whole, over, halved, AreNumberDigits, IsCount, count_of}
+use Rattle.abc_notes.specs.Lengths.{IsWrittenLength, len_of}
+use Rattle.abc_notes.specs.Graces.{GracePart, single, chorded, StandsInGrace, heads_in, body_of_sense, body_of}
+use Rattle.abc_notes.specs.Items.{Inner, note_inside, StandsInside, sense}
+use Rattle.abc_notes.specs.Chords.{has_inner_head, heads_of}
+use Rattle.abc_notes.specs.Parts.{Parts, no_part, then_part}
+use Rattle.abc_notes.specs.declared.part.Flaw.{Flaw}
+use Rattle.abc_notes.specs.declared.part.GraceChord.{GraceChord}
+use Rattle.abc_notes.proofs.Bounds.{digit_range, digit_value-is}
+use Rattle.abc_pieces.specs.Forms.{Form, note_form, rest_form, measures_form, chord_form, grace_form, tuplet_form}
+use Rattle.abc_pieces.specs.Forms.{broken_form, inline_form, space_form, IsGoodForm, is_kept_field, token_meant, after}
+use Rattle.abc_pieces.specs.Tuplets.{TupletForm, bare, with_q, with_r, is_tuplet_digit, IsTuplet, value_or_zero, p_of}
+use Rattle.abc_pieces.specs.Tuplets.{q_of, r_of}
+use Rattle.abc_pieces.specs.declared.token.Token.{Token}
+use Rattle.abc_pieces.specs.declared.token.PieceBefore.{PieceBefore}
+use Rattle.abc_music.specs.declared.token.Placed.{Placed}
+use Rattle.abc_music.specs.Good.{IsGoodLen, AreGoodHeads, HasHead, HasGraceHead, AreGoodGraces, IsGoodTuplet}
+use Rattle.abc_music.specs.Good.{IsGoodToken, AreGoodTokens}
+use Rattle.abc_music.specs.Tokens.{GivesTokens, clear, breaks, leads, with_token, column}
 
 -- numbers of a few digits
 digit_small : (b : ℕ) → is_digit b ≡ true → digit_value b < 10

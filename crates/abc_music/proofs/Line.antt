@@ -1,9 +1,24 @@
 -- A line as a loop reads it.
-use Rattle.std.proofs.Common.{◌≡◌, ℕ, ◌≤◌, ◌<◌, Bool, List, [], ◌∷◌, ◌++◌, length, Option, Some, None, refl, sym, ap, ◌∙◌, subst, arith, append_assoc, append-nil, length-append, ◌+◌, option_map}
+use Rattle.std.proofs.Common.{◌≡◌, ℕ, ◌≤◌, ◌<◌, Bool, List, [], ◌∷◌, ◌++◌, length, Option, Some, None, refl, sym, ap}
+use Rattle.std.proofs.Common.{◌∙◌, subst, arith, append_assoc, append-nil, length-append, ◌+◌, option_map}
 use Rattle.abc_lines.specs.declared.{book.Line.Line, fault.Fault.Fault, fault.TuneError.TuneError}
-use Rattle.abc_notes.{specs.{Parts.{IsLongest, HasNone}, Chords.{ChordForm, chord_at}, Graces.{GraceForm, grace_at}, declared.part.Flaw.Flaw}, proofs.PartLaws.{less, longest_of, none_of, longest_is, at_nil}}
-use Rattle.abc_pieces.{specs.{Forms.{Form, chord_form, grace_form, StandsAt, token_meant, after, opening}, Reading.{FormAndRest, read, piece_at, token_and_rest, meaning, class_of, bracket_form, chord_read, grace_read}, declared.token.{Token.Token, PieceBefore.PieceBefore, BracketOpening.BracketOpening}}, proofs.PieceReader.piece_reader}
-use Rattle.abc_music.specs.{declared.token.{Placed.Placed, TokenCursor.TokenCursor}, Tokens.{Tokens, ends, goes, Faulty, stuck, later, GivesTokens, clear, breaks, leads, column, with_token, TokensOf, GivesTokensAt, GivesTokensOf, IsLineFlaw, fault_at, IsErrorOf, IsStart, GivesTokensFrom, LeadsTo}}
+use Rattle.abc_notes.specs.Parts.{IsLongest, HasNone}
+use Rattle.abc_notes.specs.Chords.{ChordForm, chord_at}
+use Rattle.abc_notes.specs.Graces.{GraceForm, grace_at}
+use Rattle.abc_notes.specs.declared.part.Flaw.{Flaw}
+use Rattle.abc_notes.proofs.PartLaws.{less, longest_of, none_of, longest_is, at_nil}
+use Rattle.abc_pieces.specs.Forms.{Form, chord_form, grace_form, StandsAt, token_meant, after, opening}
+use Rattle.abc_pieces.specs.Reading.{FormAndRest, read, piece_at, token_and_rest, meaning, class_of, bracket_form}
+use Rattle.abc_pieces.specs.Reading.{chord_read, grace_read}
+use Rattle.abc_pieces.specs.declared.token.Token.{Token}
+use Rattle.abc_pieces.specs.declared.token.PieceBefore.{PieceBefore}
+use Rattle.abc_pieces.specs.declared.token.BracketOpening.{BracketOpening}
+use Rattle.abc_pieces.proofs.PieceReader.{piece_reader}
+use Rattle.abc_music.specs.declared.token.Placed.{Placed}
+use Rattle.abc_music.specs.declared.token.TokenCursor.{TokenCursor}
+use Rattle.abc_music.specs.Tokens.{Tokens, ends, goes, Faulty, stuck, later, GivesTokens, clear, breaks, leads, column}
+use Rattle.abc_music.specs.Tokens.{with_token, TokensOf, GivesTokensAt, GivesTokensOf, IsLineFlaw, fault_at, IsErrorOf}
+use Rattle.abc_music.specs.Tokens.{IsStart, GivesTokensFrom, LeadsTo}
 
 abbrev longest_piece : Bool → PieceBefore → List ℕ → Form → List ℕ → Type 0
 longest_piece bang before s f rest = IsLongest Form (StandsAt bang before) s f rest

@@ -1,10 +1,22 @@
 -- The tokens of a music line: piece by piece, each the longest that stands at the front of what is
 -- left; and the first fault of a line that has no such list.
 use Prim.Native.Char.{code}
-use Rattle.std.specs.Prelude.{◌≡◌, ℕ, ◌+◌, ◌-◌, ◌≤◌, ◌<◌, List, [], ◌∷◌, ◌++◌, length, Bool, ◌==◌, if◌then◌else◌, Option, Some, None, MatchBool, MatchOption, option_map}
-use Rattle.abc_lines.specs.declared.{book.Line.Line, fault.Fault.Fault, fault.FaultKind.FaultKind, fault.TuneError.TuneError, fault.FaultKind.TheVariants.BadByte, fault.FaultKind.TheVariants.Unclosed, fault.FaultKind.TheVariants.BadLength, fault.FaultKind.TheVariants.BadTuplet}
-use Rattle.{mus_units.specs.Bytes.{is_digit}, abc_notes.specs.{Parts.IsLongest, Parts.HasNone, Parts.goes_on_length, Chords.ChordFault, Graces.GraceFault, declared.part.Flaw.Flaw}}
-use Rattle.abc_pieces.specs.{Forms.Form, Forms.StandsAt, Forms.token_meant, Forms.after, Forms.arrow, Forms.opening, declared.token.Token.Token, declared.token.PieceBefore.PieceBefore, declared.token.BracketOpening.BracketOpening}
+use Rattle.std.specs.Prelude.{◌≡◌, ℕ, ◌+◌, ◌-◌, ◌≤◌, ◌<◌, List, [], ◌∷◌, ◌++◌, length, Bool, ◌==◌, if◌then◌else◌}
+use Rattle.std.specs.Prelude.{Option, Some, None, MatchBool, MatchOption, option_map}
+use Rattle.abc_lines.specs.declared.book.Line.{Line}
+use Rattle.abc_lines.specs.declared.fault.Fault.{Fault}
+use Rattle.abc_lines.specs.declared.fault.FaultKind.{FaultKind}
+use Rattle.abc_lines.specs.declared.fault.TuneError.{TuneError}
+use Rattle.abc_lines.specs.declared.fault.FaultKind.TheVariants.{BadByte, Unclosed, BadLength, BadTuplet}
+use Rattle.mus_units.specs.Bytes.{is_digit}
+use Rattle.abc_notes.specs.Parts.{IsLongest, HasNone, goes_on_length}
+use Rattle.abc_notes.specs.Chords.{ChordFault}
+use Rattle.abc_notes.specs.Graces.{GraceFault}
+use Rattle.abc_notes.specs.declared.part.Flaw.{Flaw}
+use Rattle.abc_pieces.specs.Forms.{Form, StandsAt, token_meant, after, arrow, opening}
+use Rattle.abc_pieces.specs.declared.token.Token.{Token}
+use Rattle.abc_pieces.specs.declared.token.PieceBefore.{PieceBefore}
+use Rattle.abc_pieces.specs.declared.token.BracketOpening.{BracketOpening}
 use Rattle.abc_music.specs.declared.token.{Placed.Placed, TokenCursor.TokenCursor, LineRest.LineRest}
 
 -- where s begins in a line of n bytes that ends with it

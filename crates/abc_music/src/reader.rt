@@ -1,7 +1,14 @@
-ghost use Rattle.std.specs.Prelude.{◌≡◌, ◌≢◌, ◌≤◌, ◌<◌, ◌+◌, ◌-◌, ◌^◌, ◌++◌, ◌∷◌, ℕ, List, length, IfOk, IfErr, OnOk, [], None};
+ghost use Rattle.std.specs.Prelude.{◌≡◌, ◌≢◌, ◌≤◌, ◌<◌, ◌+◌, ◌-◌, ◌^◌, ◌++◌, ◌∷◌, ℕ, List, length, IfOk, IfErr, OnOk};
+ghost use Rattle.std.specs.Prelude.{[], None};
 ghost use Rattle.{abc_lines.specs.{Kinds.code, Good.IsGoodLine}, abc_notes.specs.Chords.{chord_at}};
-ghost use Rattle.abc_pieces.specs.{Forms.opening, Forms.is_kept_field, declared.token.BracketOpening.TheVariants.Chord, Reading.piece_at, Reading.token_of, Reading.found_within};
-ghost use Rattle.abc_music.specs.{declared.token.Placed.Placed, Good.AreGoodTokens, Tokens.{TokensOf, IsErrorOf, GivesTokensOf, IsFull, IsStart, IsWithinLine, PartOf, column, with_token, fault_at, kind_after, kind_if, IsBracketFlaw, IsLineFlaw, IsOwnFlaw}};
+ghost use Rattle.abc_pieces.specs.Forms.{opening, is_kept_field};
+ghost use Rattle.abc_pieces.specs.declared.token.BracketOpening.TheVariants.{Chord};
+ghost use Rattle.abc_pieces.specs.Reading.{piece_at, token_of, found_within};
+ghost use Rattle.abc_music.specs.declared.token.Placed.{Placed};
+ghost use Rattle.abc_music.specs.Good.{AreGoodTokens};
+ghost use Rattle.abc_music.specs.Tokens.{TokensOf, IsErrorOf, GivesTokensOf, IsFull, IsStart, IsWithinLine, PartOf};
+ghost use Rattle.abc_music.specs.Tokens.{column, with_token, fault_at, kind_after, kind_if, IsBracketFlaw, IsLineFlaw};
+ghost use Rattle.abc_music.specs.Tokens.{IsOwnFlaw};
 
 use crate::token::{LinePart, LineRest, Placed, TokenCursor, TokenPrefix};
 use abc_lines::{Fault, FaultKind, Line, TuneError};

@@ -1,5 +1,7 @@
 -- Numbers of up to four digits.
-use Rattle.std.proofs.{Common.{◌≡◌, ℕ, zero, suc, ◌+◌, ◌*◌, ◌-◌, ◌≤◌, ◌<◌, true, List, [], ◌∷◌, length, get_or, refl, arith}, lemmas.Bool.{and_parts}}
+use Rattle.std.proofs.Common.{◌≡◌, ℕ, zero, suc, ◌+◌, ◌*◌, ◌-◌, ◌≤◌, ◌<◌, true, List, [], ◌∷◌, length, get_or, refl}
+use Rattle.std.proofs.Common.{arith}
+use Rattle.std.proofs.lemmas.Bool.{and_parts}
 use Rattle.std.{proofs.lemmas.Bool.{leb-true, lt-ltb, le-ltb}, specs.{List.list_all, Char.digit_value}}
 use Rattle.{mus_units.specs.Bytes.{is_digit}, abc_notes.specs.Lengths.{limit_at}}
 

@@ -1,20 +1,36 @@
 -- Reading a chord gives the longest, and where there is none its fault is found.
-use Rattle.std.proofs.Common.{◌≡◌, ℕ, ◌+◌, ◌-◌, ◌≤◌, ◌<◌, Bool, true, false, eqb, List, [], ◌∷◌, ◌++◌, length, take, Option, Some, None, refl, sym}
-use Rattle.std.proofs.{Common.{ap, ◌∙◌, subst, arith, inl, inr, ◌⊎◌, add-one, ◌&&◌, ◌||◌, not, IfSome}, lemmas.Bool.{and_parts, eqb-true, both_ways}}
+use Rattle.std.proofs.Common.{◌≡◌, ℕ, ◌+◌, ◌-◌, ◌≤◌, ◌<◌, Bool, true, false, eqb, List, [], ◌∷◌, ◌++◌, length, take}
+use Rattle.std.proofs.Common.{Option, Some, None, refl, sym}
+use Rattle.std.proofs.Common.{ap, ◌∙◌, subst, arith, inl, inr, ◌⊎◌, add-one, ◌&&◌, ◌||◌, not, IfSome}
+use Rattle.std.proofs.lemmas.Bool.{and_parts, eqb-true, both_ways}
 use Rattle.std.proofs.lemmas.Bool.{false_from_ne_true, cases_lt, cond-true, not-true, not_from_false, or_left, or_right}
-use Rattle.std.proofs.{lemmas.List.{length-append, nil_from_length}, lemmas.Option.{cond_some, some_pair_parts}, Math.Seq.take-append_seam}
+use Rattle.std.proofs.lemmas.List.{length-append, nil_from_length}
+use Rattle.std.proofs.lemmas.Option.{cond_some, some_pair_parts}
+use Rattle.std.proofs.Math.Seq.{take-append_seam}
 use Rattle.std.proofs.Math.Bool.{or-false, or_assoc}
-use Rattle.abc_notes.specs.Chords.{ChordForm, InnerLeads, is_inside, is_bracket, has_inner_head, chord_then, IsChord, ChordFault, chord_unclosed}
-use Rattle.abc_notes.specs.Chords.{chord_open, chord_headless, chord_flawed, bracket_here, bracket_in, bracket_in_name, last_bracket, bracket_at}
-use Rattle.abc_notes.specs.{Chords.{chord_from, chord_at}, declared.part.Flaw.Flaw, Runs.{span_all, begins}, Lengths.{LengthForm, length_then}}
-use Rattle.abc_notes.specs.{Lengths.{IsWrittenLength, length_from}, Parts.{HasNone, no_part, then_part, walk, is_done, spelled_then, later_or}}
-use Rattle.abc_notes.specs.Items.{Inner, lone_inside, inner_then, IsName, StandsInside, has_length, InnerParts, InnerFlawed, name_at, item_class}
+use Rattle.abc_notes.specs.Chords.{ChordForm, InnerLeads, is_inside, is_bracket, has_inner_head, chord_then, IsChord}
+use Rattle.abc_notes.specs.Chords.{ChordFault, chord_unclosed}
+use Rattle.abc_notes.specs.Chords.{chord_open, chord_headless, chord_flawed, bracket_here, bracket_in, bracket_in_name}
+use Rattle.abc_notes.specs.Chords.{last_bracket, bracket_at}
+use Rattle.abc_notes.specs.Chords.{chord_from, chord_at}
+use Rattle.abc_notes.specs.declared.part.Flaw.{Flaw}
+use Rattle.abc_notes.specs.Runs.{span_all, begins}
+use Rattle.abc_notes.specs.Lengths.{LengthForm, length_then}
+use Rattle.abc_notes.specs.Lengths.{IsWrittenLength, length_from}
+use Rattle.abc_notes.specs.Parts.{HasNone, no_part, then_part, walk, is_done, spelled_then, later_or}
+use Rattle.abc_notes.specs.Items.{Inner, lone_inside, inner_then, IsName, StandsInside, has_length, InnerParts}
+use Rattle.abc_notes.specs.Items.{InnerFlawed, name_at, item_class}
 use Rattle.abc_notes.specs.{Items.inner_at, Decorations.is_name_byte}
-use Rattle.abc_notes.proofs.CutLaws.{two, none_left, some_left, first_close, length_past, read_on, inner_local, joined_cut, walk_spells}
-use Rattle.abc_notes.proofs.CutLaws.{leads_of_walk, free, wider, crossing, lone_at, clear_parts, all_parts, cut_cases, first_same, rest_same}
+use Rattle.abc_notes.proofs.CutLaws.{two, none_left, some_left, first_close, length_past, read_on, inner_local}
+use Rattle.abc_notes.proofs.CutLaws.{joined_cut, walk_spells}
+use Rattle.abc_notes.proofs.CutLaws.{leads_of_walk, free, wider, crossing, lone_at, clear_parts, all_parts, cut_cases}
+use Rattle.abc_notes.proofs.CutLaws.{first_same, rest_same}
 use Rattle.abc_notes.proofs.CutLaws.{cond_then, NameCut, name_upto, name_upto-closes, name_upto-found}
-use Rattle.abc_notes.proofs.{LengthLaws.{length_at-takes, length_at-reaches}, ItemLaws.{name_at-takes, name_at-reads}, PartLaws.{Reader, stands_at}}
-use Rattle.abc_notes.proofs.PartLaws.{less, by_parts, stops_at, longest_of, none_of, longest_is, walk-none, walk-some, parts_of_walk, walk_of_parts}
+use Rattle.abc_notes.proofs.LengthLaws.{length_at-takes, length_at-reaches}
+use Rattle.abc_notes.proofs.ItemLaws.{name_at-takes, name_at-reads}
+use Rattle.abc_notes.proofs.PartLaws.{Reader, stands_at}
+use Rattle.abc_notes.proofs.PartLaws.{less, by_parts, stops_at, longest_of, none_of, longest_is, walk-none, walk-some}
+use Rattle.abc_notes.proofs.PartLaws.{parts_of_walk, walk_of_parts}
 use Rattle.abc_notes.proofs.InnerLaws.{inner_reader, length-length_then}
 use Rattle.abc_lines.specs.declared.fault.FaultKind.TheVariants.{BadByte, Unclosed}
 

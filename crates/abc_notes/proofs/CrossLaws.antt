@@ -1,19 +1,35 @@
 -- The last brace within a chord at which a grace group may end stands behind one of the shorter chords that begin at the same bracket.
-use Rattle.std.proofs.Common.{◌≡◌, ℕ, suc, ◌+◌, ◌-◌, ◌≤◌, Bool, true, false, eqb, List, [], ◌∷◌, ◌++◌, length, take, drop, Bor, Option, Some, None}
-use Rattle.std.proofs.{Common.{refl, sym, ap, ◌∙◌, arith, append_assoc, append-nil, not, ◌&&◌, ◌||◌, option_map}, lemmas.Bool.{both_ways, cond_both}}
-use Rattle.std.proofs.{lemmas.Bool.{and_parts, eqb-true, not-true}, lemmas.Option.some_pair_parts, lemmas.List.{length-append, nil_from_length}}
+use Rattle.std.proofs.Common.{◌≡◌, ℕ, suc, ◌+◌, ◌-◌, ◌≤◌, Bool, true, false, eqb, List, [], ◌∷◌, ◌++◌, length, take}
+use Rattle.std.proofs.Common.{drop, Bor, Option, Some, None}
+use Rattle.std.proofs.Common.{refl, sym, ap, ◌∙◌, arith, append_assoc, append-nil, not, ◌&&◌, ◌||◌, option_map}
+use Rattle.std.proofs.lemmas.Bool.{both_ways, cond_both}
+use Rattle.std.proofs.lemmas.Bool.{and_parts, eqb-true, not-true}
+use Rattle.std.proofs.lemmas.Option.{some_pair_parts}
+use Rattle.std.proofs.lemmas.List.{length-append, nil_from_length}
 use Rattle.std.proofs.Math.Seq.{drop-append_seam}
-use Rattle.abc_notes.specs.Graces.{GracePart, single, chorded, StandsInGrace, is_in_grace, brace_at, brace_in_chord, brace_behind, brace_between}
-use Rattle.abc_notes.specs.Graces.{brace_in_item, brace_in_part, inside_of_item, inside_of_part, IsItemAt, stands_behind, at_most_bytes}
-use Rattle.abc_notes.specs.{declared.part.GraceChord.GraceChord, declared.part.GracePiece.GracePiece, declared.part.Len.Len, Decorations.is_name_byte}
-use Rattle.abc_notes.specs.{Lengths.{length_then, length_from, len_of, length_read}, Parts.{no_part, then_part, walk, is_done, later_or}}
-use Rattle.abc_notes.specs.Items.{Inner, named_inside, lone_inside, inner_then, IsInner, has_length, InnerParts, name_at, named_or, inner_at}
+use Rattle.abc_notes.specs.Graces.{GracePart, single, chorded, StandsInGrace, is_in_grace, brace_at, brace_in_chord}
+use Rattle.abc_notes.specs.Graces.{brace_behind, brace_between}
+use Rattle.abc_notes.specs.Graces.{brace_in_item, brace_in_part, inside_of_item, inside_of_part, IsItemAt}
+use Rattle.abc_notes.specs.Graces.{stands_behind, at_most_bytes}
+use Rattle.abc_notes.specs.declared.part.GraceChord.{GraceChord}
+use Rattle.abc_notes.specs.declared.part.GracePiece.{GracePiece}
+use Rattle.abc_notes.specs.declared.part.Len.{Len}
+use Rattle.abc_notes.specs.Decorations.{is_name_byte}
+use Rattle.abc_notes.specs.Lengths.{length_then, length_from, len_of, length_read}
+use Rattle.abc_notes.specs.Parts.{no_part, then_part, walk, is_done, later_or}
+use Rattle.abc_notes.specs.Items.{Inner, named_inside, lone_inside, inner_then, IsInner, has_length, InnerParts}
+use Rattle.abc_notes.specs.Items.{name_at, named_or, inner_at}
 use Rattle.abc_notes.specs.Chords.{bracket_in, bracket_in_name, bracket_at}
-use Rattle.abc_notes.proofs.GraceLaws.{ClosedGroup, brace_at-closes, none_there, chord-none, chord-some, FoundPart, part_reader}
-use Rattle.abc_notes.proofs.ChordLaws.{last_at, last_at-none, last_at-some, good_before, parts_before, in_name-finds, in_name-reads}
-use Rattle.abc_notes.proofs.{ChordLaws.{bracket_at-closes, bracket_within, later_none, later_assoc, cut_off}, ItemLaws.bang_at}
-use Rattle.abc_notes.proofs.CutLaws.{first_same, inner_append, length_append, all_parts, inner_local, joined_cut, is_named, not_named, lone_at}
-use Rattle.abc_notes.proofs.{CutLaws.name_upto-append, PartLaws.{stands_at, at_nil, longest_is, walk_of_parts, left_none, left_some}}
+use Rattle.abc_notes.proofs.GraceLaws.{ClosedGroup, brace_at-closes, none_there, chord-none, chord-some, FoundPart}
+use Rattle.abc_notes.proofs.GraceLaws.{part_reader}
+use Rattle.abc_notes.proofs.ChordLaws.{last_at, last_at-none, last_at-some, good_before, parts_before, in_name-finds}
+use Rattle.abc_notes.proofs.ChordLaws.{in_name-reads}
+use Rattle.abc_notes.proofs.ChordLaws.{bracket_at-closes, bracket_within, later_none, later_assoc, cut_off}
+use Rattle.abc_notes.proofs.ItemLaws.{bang_at}
+use Rattle.abc_notes.proofs.CutLaws.{first_same, inner_append, length_append, all_parts, inner_local, joined_cut}
+use Rattle.abc_notes.proofs.CutLaws.{is_named, not_named, lone_at}
+use Rattle.abc_notes.proofs.CutLaws.{name_upto-append}
+use Rattle.abc_notes.proofs.PartLaws.{stands_at, at_nil, longest_is, walk_of_parts, left_none, left_some}
 use Rattle.abc_notes.proofs.{InnerLaws.{inner_reader, inner_pair, length-length_then}, LengthLaws.length_at-takes}
 use Rattle.std.specs.List.{list_all}
 

@@ -1,19 +1,34 @@
 -- Parts at the front of a text that goes on, and of the text that is cut off there.
-use Rattle.std.proofs.Common.{◌≡◌, ◌⊎◌, ℕ, zero, suc, ◌≤◌, ◌<◌, Bool, true, false, cond, eqb, List, [], ◌∷◌, ◌++◌, length, drop, Option, Some, None}
-use Rattle.std.proofs.Common.{refl, sym, ap, ◌∙◌, subst, arith, inl, inr, append_assoc, append-nil, ◌&&◌, not, length-append, option_map}
-use Rattle.std.proofs.lemmas.Bool.{both_ways, false_from_ne_true, cases_lt, or_cases, and_parts, and_from, eqb-true, eqb-false, ne_eqb, not-false}
+use Rattle.std.proofs.Common.{◌≡◌, ◌⊎◌, ℕ, zero, suc, ◌≤◌, ◌<◌, Bool, true, false, cond, eqb, List, [], ◌∷◌, ◌++◌}
+use Rattle.std.proofs.Common.{length, drop, Option, Some, None}
+use Rattle.std.proofs.Common.{refl, sym, ap, ◌∙◌, subst, arith, inl, inr, append_assoc, append-nil, ◌&&◌, not}
+use Rattle.std.proofs.Common.{length-append, option_map}
+use Rattle.std.proofs.lemmas.Bool.{both_ways, false_from_ne_true, cases_lt, or_cases, and_parts, and_from, eqb-true}
+use Rattle.std.proofs.lemmas.Bool.{eqb-false, ne_eqb, not-false}
 use Rattle.std.proofs.{lemmas.List.Folds.list_all-append, lemmas.List.{append_cancel_right, drop-append-le}}
 use Rattle.std.proofs.{lemmas.Option.{cond_some, some_pair_parts}, Math.Seq.drop-append_seam}
-use Rattle.abc_notes.specs.Items.{Inner, note_inside, letter_inside, named_inside, tie_inside, passed_inside, lone_inside, inner_then, IsName}
-use Rattle.abc_notes.specs.{Items.{IsInner, StandsInside, InnerParts, closed_name, name_at, inner_at}, Runs.{copies, maybe, is_mark, span_all}}
-use Rattle.abc_notes.specs.{Runs.begins, Decorations.is_name_byte, Lengths.{LengthForm, whole, over, halved, length_then, IsWrittenLength}}
-use Rattle.abc_notes.specs.{Notes.{NoteForm, note_then, sign_then, letter_byte, IsNote}, Parts.{IsLongest, no_part, then_part, LeadsByParts, leads_here}}
+use Rattle.abc_notes.specs.Items.{Inner, note_inside, letter_inside, named_inside, tie_inside, passed_inside}
+use Rattle.abc_notes.specs.Items.{lone_inside, inner_then, IsName}
+use Rattle.abc_notes.specs.Items.{IsInner, StandsInside, InnerParts, closed_name, name_at, inner_at}
+use Rattle.abc_notes.specs.Runs.{copies, maybe, is_mark, span_all}
+use Rattle.abc_notes.specs.Runs.{begins}
+use Rattle.abc_notes.specs.Decorations.{is_name_byte}
+use Rattle.abc_notes.specs.Lengths.{LengthForm, whole, over, halved, length_then, IsWrittenLength}
+use Rattle.abc_notes.specs.Notes.{NoteForm, note_then, sign_then, letter_byte, IsNote}
+use Rattle.abc_notes.specs.Parts.{IsLongest, no_part, then_part, LeadsByParts, leads_here}
 use Rattle.abc_notes.specs.Parts.{leads_on, walk, spelled_then}
-use Rattle.abc_notes.proofs.{Bounds.digit_range, SpanLaws.{span_all-append, span_all-stops, span_all-takes, span_all-pass, span_all-after}}
-use Rattle.abc_notes.proofs.{LengthLaws.{copies_append, count-digits}, ItemLaws.{one_of_all, bang_at}, PartLaws.{Reader, longest_is, stands_at}}
+use Rattle.abc_notes.proofs.Bounds.{digit_range}
+use Rattle.abc_notes.proofs.SpanLaws.{span_all-append, span_all-stops, span_all-takes, span_all-pass, span_all-after}
+use Rattle.abc_notes.proofs.LengthLaws.{copies_append, count-digits}
+use Rattle.abc_notes.proofs.ItemLaws.{one_of_all, bang_at}
+use Rattle.abc_notes.proofs.PartLaws.{Reader, longest_is, stands_at}
 use Rattle.abc_notes.proofs.PartLaws.{by_parts, longest_of, walk-none, walk-some}
-use Rattle.{std.specs.List.list_all, mus_units.specs.declared.pitch.Alter.Alter, mus_units.specs.declared.pitch.Alter.TheVariants.Sharp2}
-use Rattle.{mus_units.specs.declared.pitch.Letter.Letter, mus_units.specs.declared.pitch.Letter.TheVariants.C, mus_units.specs.Bytes.is_digit}
+use Rattle.std.specs.List.{list_all}
+use Rattle.mus_units.specs.declared.pitch.Alter.{Alter}
+use Rattle.mus_units.specs.declared.pitch.Alter.TheVariants.{Sharp2}
+use Rattle.mus_units.specs.declared.pitch.Letter.{Letter}
+use Rattle.mus_units.specs.declared.pitch.Letter.TheVariants.{C}
+use Rattle.mus_units.specs.Bytes.{is_digit}
 
 -- ---- a part and what follows it
 pub maybe_append : (d : Bool) (b : ℕ) (v y : List ℕ) → maybe d b v ++ y ≡ maybe d b (v ++ y)

@@ -1,26 +1,51 @@
 -- Reading a part of a grace group, and a group, gives the longest; where there is none its fault is found.
-use Rattle.std.proofs.Common.{◌≡◌, ℕ, zero, suc, ◌+◌, ◌-◌, ◌≤◌, ◌<◌, Bool, true, false, eqb, List, [], ◌∷◌, ◌++◌, length, take, drop, Option, Some}
-use Rattle.std.proofs.Common.{None, refl, sym, ap, ◌∙◌, subst, arith, inl, inr, ◌⊎◌, append_assoc, append-nil, add-one, not, ◌||◌, IfSome, option_map}
-use Rattle.std.proofs.{Common.MatchOption, lemmas.Bool.{both_ways, cond_both, and_parts, eqb-true, ne_eqb, cond-true, not-true, not_from_false}}
-use Rattle.std.proofs.{lemmas.Bool.{or_parts, cases_lt}, lemmas.List.{length-append, length-drop, take-append-drop, nil_from_length}}
-use Rattle.std.proofs.{Math.Seq.{take-append_seam, drop-append_seam}, lemmas.Option.{same_Some, cond_some, some_pair_parts}}
-use Rattle.abc_notes.specs.{Items.{Inner, lone_inside, inner_then, IsName, name_at, item_class, inner_at}, Graces.{GracePart, single, chorded}}
-use Rattle.abc_notes.specs.Graces.{grace_part_then, IsGracePart, StandsInGrace, GraceParts, GraceLeads, part_has_length, GraceForm, is_in_grace}
-use Rattle.abc_notes.specs.Graces.{is_slash_byte, grace_then, IsGrace, body_of_part, GraceFlawed, HasSlash, GraceFault, grace_unclosed, grace_open}
-use Rattle.abc_notes.specs.Graces.{grace_flawed, chorded_read, single_read, grace_part_at, brace_here, brace_in, brace_in_name, closes_at}
-use Rattle.abc_notes.specs.Graces.{last_closing, brace_in_chord, brace_behind, brace_in_part, brace_at, grace_from, grace_at, bodied, body_inside}
-use Rattle.abc_notes.specs.{Graces.{inside_of_part, IsPartFlaw, item_within}, Decorations.is_name_byte, declared.part.Flaw.Flaw}
-use Rattle.abc_notes.specs.{declared.part.GraceChord.GraceChord, declared.part.GracePiece.GracePiece, Runs.{maybe, skip, span_all, begins}}
-use Rattle.abc_notes.specs.{Lengths.{LengthForm, length_then, length_from}, Chords.{ChordForm, chord_then, IsChord, bracket_at, chord_at, at_most}}
+use Rattle.std.proofs.Common.{◌≡◌, ℕ, zero, suc, ◌+◌, ◌-◌, ◌≤◌, ◌<◌, Bool, true, false, eqb, List, [], ◌∷◌, ◌++◌}
+use Rattle.std.proofs.Common.{length, take, drop, Option, Some}
+use Rattle.std.proofs.Common.{None, refl, sym, ap, ◌∙◌, subst, arith, inl, inr, ◌⊎◌, append_assoc, append-nil, add-one}
+use Rattle.std.proofs.Common.{not, ◌||◌, IfSome, option_map}
+use Rattle.std.proofs.Common.{MatchOption}
+use Rattle.std.proofs.lemmas.Bool.{both_ways, cond_both, and_parts, eqb-true, ne_eqb, cond-true, not-true}
+use Rattle.std.proofs.lemmas.Bool.{not_from_false}
+use Rattle.std.proofs.lemmas.Bool.{or_parts, cases_lt}
+use Rattle.std.proofs.lemmas.List.{length-append, length-drop, take-append-drop, nil_from_length}
+use Rattle.std.proofs.Math.Seq.{take-append_seam, drop-append_seam}
+use Rattle.std.proofs.lemmas.Option.{same_Some, cond_some, some_pair_parts}
+use Rattle.abc_notes.specs.Items.{Inner, lone_inside, inner_then, IsName, name_at, item_class, inner_at}
+use Rattle.abc_notes.specs.Graces.{GracePart, single, chorded}
+use Rattle.abc_notes.specs.Graces.{grace_part_then, IsGracePart, StandsInGrace, GraceParts, GraceLeads, part_has_length}
+use Rattle.abc_notes.specs.Graces.{GraceForm, is_in_grace}
+use Rattle.abc_notes.specs.Graces.{is_slash_byte, grace_then, IsGrace, body_of_part, GraceFlawed, HasSlash, GraceFault}
+use Rattle.abc_notes.specs.Graces.{grace_unclosed, grace_open}
+use Rattle.abc_notes.specs.Graces.{grace_flawed, chorded_read, single_read, grace_part_at, brace_here, brace_in}
+use Rattle.abc_notes.specs.Graces.{brace_in_name, closes_at}
+use Rattle.abc_notes.specs.Graces.{last_closing, brace_in_chord, brace_behind, brace_in_part, brace_at, grace_from}
+use Rattle.abc_notes.specs.Graces.{grace_at, bodied, body_inside}
+use Rattle.abc_notes.specs.Graces.{inside_of_part, IsPartFlaw, item_within}
+use Rattle.abc_notes.specs.Decorations.{is_name_byte}
+use Rattle.abc_notes.specs.declared.part.Flaw.{Flaw}
+use Rattle.abc_notes.specs.declared.part.GraceChord.{GraceChord}
+use Rattle.abc_notes.specs.declared.part.GracePiece.{GracePiece}
+use Rattle.abc_notes.specs.Runs.{maybe, skip, span_all, begins}
+use Rattle.abc_notes.specs.Lengths.{LengthForm, length_then, length_from}
+use Rattle.abc_notes.specs.Chords.{ChordForm, chord_then, IsChord, bracket_at, chord_at, at_most}
 use Rattle.abc_notes.specs.Parts.{no_part, then_part, stuck_here, stuck_later, walk, is_done, length_at_place, later_or}
-use Rattle.abc_notes.proofs.ChordLaws.{bracket_at-closes, chord_at-takes, chord_at-reaches, chord-reads, chord-longer, has_lone, is_lone}
-use Rattle.abc_notes.proofs.{ChordLaws.{later_assoc, later_none, cut_off}, CutLaws.{two, none_left, some_left, first_close, length_past, moved}}
-use Rattle.abc_notes.proofs.CutLaws.{read_on, inner_local, inner_append, length_append, length_free, cut_cases, first_same, rest_same, Local}
-use Rattle.abc_notes.proofs.CutLaws.{read_cut, joined_cut, leads_of_walk, wider, all_join, all_parts, clear_parts, free, inner_free, not_named}
-use Rattle.abc_notes.proofs.{CutLaws.{crossing, lone_at, cond_then, NameCut, name_upto-closes, name_upto-found}, PartLaws.{Reader, stands_at, less}}
-use Rattle.abc_notes.proofs.PartLaws.{longest_of, longest_is, none_of, at_nil, walk-none, walk-some, left_none, left_some, by_parts, parts_of_walk}
-use Rattle.abc_notes.proofs.{PartLaws.{walk_of_parts, read_from, none_from, mapped_some}, RunLaws.{Lacks, skip_cases, skip-takes, skip-lacks}}
-use Rattle.abc_notes.proofs.{LengthLaws.length_at-takes, ItemLaws.{name_at-takes, name_at-reads}, InnerLaws.{inner_reader, inner-longer, place_small}}
+use Rattle.abc_notes.proofs.ChordLaws.{bracket_at-closes, chord_at-takes, chord_at-reaches, chord-reads, chord-longer}
+use Rattle.abc_notes.proofs.ChordLaws.{has_lone, is_lone}
+use Rattle.abc_notes.proofs.ChordLaws.{later_assoc, later_none, cut_off}
+use Rattle.abc_notes.proofs.CutLaws.{two, none_left, some_left, first_close, length_past, moved}
+use Rattle.abc_notes.proofs.CutLaws.{read_on, inner_local, inner_append, length_append, length_free, cut_cases}
+use Rattle.abc_notes.proofs.CutLaws.{first_same, rest_same, Local}
+use Rattle.abc_notes.proofs.CutLaws.{read_cut, joined_cut, leads_of_walk, wider, all_join, all_parts, clear_parts, free}
+use Rattle.abc_notes.proofs.CutLaws.{inner_free, not_named}
+use Rattle.abc_notes.proofs.CutLaws.{crossing, lone_at, cond_then, NameCut, name_upto-closes, name_upto-found}
+use Rattle.abc_notes.proofs.PartLaws.{Reader, stands_at, less}
+use Rattle.abc_notes.proofs.PartLaws.{longest_of, longest_is, none_of, at_nil, walk-none, walk-some, left_none}
+use Rattle.abc_notes.proofs.PartLaws.{left_some, by_parts, parts_of_walk}
+use Rattle.abc_notes.proofs.PartLaws.{walk_of_parts, read_from, none_from, mapped_some}
+use Rattle.abc_notes.proofs.RunLaws.{Lacks, skip_cases, skip-takes, skip-lacks}
+use Rattle.abc_notes.proofs.LengthLaws.{length_at-takes}
+use Rattle.abc_notes.proofs.ItemLaws.{name_at-takes, name_at-reads}
+use Rattle.abc_notes.proofs.InnerLaws.{inner_reader, inner-longer, place_small}
 use Rattle.abc_notes.proofs.InnerLaws.{length-maybe}
 use Rattle.{std.specs.List.list_all, abc_lines.specs.declared.fault.FaultKind.TheVariants.Unclosed}
 

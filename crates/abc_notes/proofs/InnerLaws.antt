@@ -1,17 +1,29 @@
 -- The inside of a chord as loops read it.
-use Rattle.std.proofs.Common.{◌≡◌, ℕ, zero, suc, ◌+◌, ◌≤◌, ◌<◌, Bool, true, false, List, [], ◌∷◌, ◌++◌, length, Option, Some, None, refl, sym, ap}
-use Rattle.std.proofs.{Common.{◌∙◌, arith, append_assoc, append-nil, ◌||◌, option_map, MatchBool, length-append}, lemmas.Bool.{cond_both, ne_eqb}}
+use Rattle.std.proofs.Common.{◌≡◌, ℕ, zero, suc, ◌+◌, ◌≤◌, ◌<◌, Bool, true, false, List, [], ◌∷◌, ◌++◌, length, Option}
+use Rattle.std.proofs.Common.{Some, None, refl, sym, ap}
+use Rattle.std.proofs.Common.{◌∙◌, arith, append_assoc, append-nil, ◌||◌, option_map, MatchBool, length-append}
+use Rattle.std.proofs.lemmas.Bool.{cond_both, ne_eqb}
 use Rattle.std.proofs.{lemmas.List.nil_from_length, Math.Bool.{or-false, or_assoc}}
-use Rattle.abc_notes.specs.Items.{Inner, note_inside, named_inside, tie_inside, inner_then, StandsInside, Sense, says_note, says_tie, sense, is_inner_note}
-use Rattle.abc_notes.specs.{Items.{has_length, IsBadByte, InnerFlawed, inner_at, sensed, inner_flaw}, Graces.{heads_in, plain_head}}
-use Rattle.abc_notes.specs.{declared.part.Flaw.Flaw, declared.part.Len.Len, Runs.{copies, maybe}, Lengths.{LengthForm, whole, over, halved}}
-use Rattle.abc_notes.specs.{Lengths.length_then, Notes.{NoteForm, note_then, sign_then, letter_byte}, Parts.{stuck_here, stuck_later, IsFlaw, walk}}
-use Rattle.abc_notes.specs.{Parts.{is_done, goes_on_length, length_at_place}, Chords.{has_inner_head, is_tied, tied_if, heads_of, senses, last_head}}
+use Rattle.abc_notes.specs.Items.{Inner, note_inside, named_inside, tie_inside, inner_then, StandsInside, Sense}
+use Rattle.abc_notes.specs.Items.{says_note, says_tie, sense, is_inner_note}
+use Rattle.abc_notes.specs.Items.{has_length, IsBadByte, InnerFlawed, inner_at, sensed, inner_flaw}
+use Rattle.abc_notes.specs.Graces.{heads_in, plain_head}
+use Rattle.abc_notes.specs.declared.part.Flaw.{Flaw}
+use Rattle.abc_notes.specs.declared.part.Len.{Len}
+use Rattle.abc_notes.specs.Runs.{copies, maybe}
+use Rattle.abc_notes.specs.Lengths.{LengthForm, whole, over, halved}
+use Rattle.abc_notes.specs.Lengths.{length_then}
+use Rattle.abc_notes.specs.Notes.{NoteForm, note_then, sign_then, letter_byte}
+use Rattle.abc_notes.specs.Parts.{stuck_here, stuck_later, IsFlaw, walk}
+use Rattle.abc_notes.specs.Parts.{is_done, goes_on_length, length_at_place}
+use Rattle.abc_notes.specs.Chords.{has_inner_head, is_tied, tied_if, heads_of, senses, last_head}
 use Rattle.abc_notes.specs.Chords.{given_head, next_last, heads_after, at_most}
-use Rattle.abc_notes.proofs.{ItemLaws.{inner_at-takes, inner_at-reaches}, PartLaws.{Reader, less, longest_of, none_of, walk-none, walk-some}}
+use Rattle.abc_notes.proofs.ItemLaws.{inner_at-takes, inner_at-reaches}
+use Rattle.abc_notes.proofs.PartLaws.{Reader, less, longest_of, none_of, walk-none, walk-some}
 use Rattle.abc_notes.proofs.PartLaws.{left_none, left_some, read_from, none_from}
 use Rattle.{mus_units.specs.declared.note.Head.Head, mus_units.specs.declared.pitch.Alter.Alter}
-use Rattle.{mus_units.specs.declared.pitch.Alter.TheVariants.Sharp2, abc_lines.specs.declared.fault.FaultKind.TheVariants.{BadByte, BadLength}}
+use Rattle.mus_units.specs.declared.pitch.Alter.TheVariants.{Sharp2}
+use Rattle.abc_lines.specs.declared.fault.FaultKind.TheVariants.{BadByte, BadLength}
 
 -- ---- a part has a byte
 pub length-copies_then : (n b : ℕ) (x : List ℕ) → length (copies n b x) ≡ n + length x

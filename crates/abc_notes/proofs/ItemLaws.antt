@@ -1,17 +1,29 @@
 -- Reading a part of a chord or a grace gives the longest.
-use Rattle.std.proofs.Common.{◌≡◌, ℕ, ◌<◌, Bool, true, false, eqb, ltb, List, [], ◌∷◌, ◌++◌, length, Option, Some, None, refl, ap, ◌∙◌, arith, rules}
-use Rattle.std.proofs.{Common.{inl, inr, ◌⊎◌, ◌||◌, not, IfSome, option_map, append-nil, length-append}, lemmas.Bool.{cond_both, or_right, or_cases}}
+use Rattle.std.proofs.Common.{◌≡◌, ℕ, ◌<◌, Bool, true, false, eqb, ltb, List, [], ◌∷◌, ◌++◌, length, Option, Some, None}
+use Rattle.std.proofs.Common.{refl, ap, ◌∙◌, arith, rules}
+use Rattle.std.proofs.Common.{inl, inr, ◌⊎◌, ◌||◌, not, IfSome, option_map, append-nil, length-append}
+use Rattle.std.proofs.lemmas.Bool.{cond_both, or_right, or_cases}
 use Rattle.std.proofs.lemmas.Bool.{and_parts, eqb-true, agree_below, agree_below_at, ltb-true}
-use Rattle.abc_notes.specs.Items.{Inner, note_inside, letter_inside, named_inside, tie_inside, slur_inside, passed_inside, lone_inside, inner_then}
-use Rattle.abc_notes.specs.Items.{IsName, is_passed_inside, IsInner, StandsInside, ReadInner, inner_read, closed_name, name_at, is_note_byte}
-use Rattle.abc_notes.specs.{Items.{item_class, dot_inside, named_or, inner_by_class, inner_at}, declared.part.ItemClass.ItemClass}
-use Rattle.abc_notes.specs.{Runs.{one_of, span_all}, Lengths.length_then, Decorations.{is_deco_letter, is_name_byte}, Notes.{NoteForm, note_then}}
+use Rattle.abc_notes.specs.Items.{Inner, note_inside, letter_inside, named_inside, tie_inside, slur_inside}
+use Rattle.abc_notes.specs.Items.{passed_inside, lone_inside, inner_then}
+use Rattle.abc_notes.specs.Items.{IsName, is_passed_inside, IsInner, StandsInside, ReadInner, inner_read, closed_name}
+use Rattle.abc_notes.specs.Items.{name_at, is_note_byte}
+use Rattle.abc_notes.specs.Items.{item_class, dot_inside, named_or, inner_by_class, inner_at}
+use Rattle.abc_notes.specs.declared.part.ItemClass.{ItemClass}
+use Rattle.abc_notes.specs.Runs.{one_of, span_all}
+use Rattle.abc_notes.specs.Lengths.{length_then}
+use Rattle.abc_notes.specs.Decorations.{is_deco_letter, is_name_byte}
+use Rattle.abc_notes.specs.Notes.{NoteForm, note_then}
 use Rattle.abc_notes.specs.Notes.{sign_then, letter_byte, note_at, IsNote}
 use Rattle.abc_notes.proofs.PartLaws.{mapped_some}
-use Rattle.abc_notes.proofs.{SpanLaws.{span_all-takes, span_all-pass, span_all-append, span_all-stops}, NoteLaws.{note_at-takes}}
+use Rattle.abc_notes.proofs.SpanLaws.{span_all-takes, span_all-pass, span_all-append, span_all-stops}
+use Rattle.abc_notes.proofs.NoteLaws.{note_at-takes}
 use Rattle.abc_notes.proofs.NoteLaws.{note_at-reaches}
-use Rattle.{std.specs.List.list_all, mus_units.specs.declared.pitch.Alter.Alter, mus_units.specs.declared.pitch.Letter.Letter}
-use Rattle.{mus_units.specs.declared.pitch.Alter.TheVariants.Sharp2, mus_units.specs.declared.pitch.Letter.TheVariants.C}
+use Rattle.std.specs.List.{list_all}
+use Rattle.mus_units.specs.declared.pitch.Alter.{Alter}
+use Rattle.mus_units.specs.declared.pitch.Letter.{Letter}
+use Rattle.mus_units.specs.declared.pitch.Alter.TheVariants.{Sharp2}
+use Rattle.mus_units.specs.declared.pitch.Letter.TheVariants.{C}
 
 -- ---- what holds of each byte of a list holds of one of them
 abbrev Each : (ℕ → Type 0) → List ℕ → Type 0

@@ -1,10 +1,16 @@
 -- Reading a length gives the longest.
-use Rattle.std.proofs.Common.{◌≡◌, ℕ, zero, suc, ◌+◌, ◌-◌, ◌≤◌, ◌<◌, Bool, true, false, eqb, List, [], ◌∷◌, ◌++◌, length, refl, sym, ap, subst, ◌∙◌}
-use Rattle.std.proofs.{Common.{arith, inl, inr, ◌⊎◌, ◌||◌, append-nil}, lemmas.Bool.{cond_both, and_parts, eqb-true, ne_eqb, both_ways, or_left}}
+use Rattle.std.proofs.Common.{◌≡◌, ℕ, zero, suc, ◌+◌, ◌-◌, ◌≤◌, ◌<◌, Bool, true, false, eqb, List, [], ◌∷◌, ◌++◌}
+use Rattle.std.proofs.Common.{length, refl, sym, ap, subst, ◌∙◌}
+use Rattle.std.proofs.Common.{arith, inl, inr, ◌⊎◌, ◌||◌, append-nil}
+use Rattle.std.proofs.lemmas.Bool.{cond_both, and_parts, eqb-true, ne_eqb, both_ways, or_left}
 use Rattle.std.proofs.lemmas.Bool.{or_right}
-use Rattle.abc_notes.specs.{Runs.{copies, span, begins}, Lengths.{LengthForm, whole, over, halved, length_then, IsWrittenLength, AreNumberDigits, IsCount}}
+use Rattle.abc_notes.specs.Runs.{copies, span, begins}
+use Rattle.abc_notes.specs.Lengths.{LengthForm, whole, over, halved, length_then, IsWrittenLength, AreNumberDigits}
+use Rattle.abc_notes.specs.Lengths.{IsCount}
 use Rattle.abc_notes.specs.Lengths.{number_at, below_at, is_slash, length_from}
-use Rattle.abc_notes.proofs.{SpanLaws.{span-takes, span-pass, span-length, span-stops, span-less, span-append, length-span}, Bounds.digit_range}
+use Rattle.abc_notes.proofs.SpanLaws.{span-takes, span-pass, span-length, span-stops, span-less, span-append}
+use Rattle.abc_notes.proofs.SpanLaws.{length-span}
+use Rattle.abc_notes.proofs.Bounds.{digit_range}
 use Rattle.abc_notes.proofs.RunLaws.{begins_wider}
 use Rattle.{std.specs.List.list_all, mus_units.specs.Bytes.is_digit}
 

@@ -1,14 +1,24 @@
 -- Reading a note gives the longest.
-use Rattle.std.proofs.Common.{◌≡◌, ℕ, zero, suc, ◌<◌, Bool, true, false, cond, eqb, List, [], ◌∷◌, ◌++◌, length, Option, Some, None, refl, ap, sym}
-use Rattle.std.proofs.{Common.{◌∙◌, arith, inl, inr, ◌⊎◌, ◌||◌, IfSome, append-nil}, lemmas.Bool.{cond_both, eqb-true, or_left, or_right, or_from}}
+use Rattle.std.proofs.Common.{◌≡◌, ℕ, zero, suc, ◌<◌, Bool, true, false, cond, eqb, List, [], ◌∷◌, ◌++◌, length, Option}
+use Rattle.std.proofs.Common.{Some, None, refl, ap, sym}
+use Rattle.std.proofs.Common.{◌∙◌, arith, inl, inr, ◌⊎◌, ◌||◌, IfSome, append-nil}
+use Rattle.std.proofs.lemmas.Bool.{cond_both, eqb-true, or_left, or_right, or_from}
 use Rattle.std.proofs.lemmas.Bool.{ne_eqb, and_parts, both_ways}
-use Rattle.abc_notes.specs.{Lengths.{LengthForm, whole, over, halved, length_then, length_from, IsWrittenLength, AreNumberDigits}, Notes.{NoteForm, sign_then}}
-use Rattle.abc_notes.specs.Notes.{letter_byte, note_then, IsNote, sign_at, upper_at, lower_at, either_letter, letter_at, note_from, note_behind}
+use Rattle.abc_notes.specs.Lengths.{LengthForm, whole, over, halved, length_then, length_from, IsWrittenLength}
+use Rattle.abc_notes.specs.Lengths.{AreNumberDigits}
+use Rattle.abc_notes.specs.Notes.{NoteForm, sign_then}
+use Rattle.abc_notes.specs.Notes.{letter_byte, note_then, IsNote, sign_at, upper_at, lower_at, either_letter, letter_at}
+use Rattle.abc_notes.specs.Notes.{note_from, note_behind}
 use Rattle.abc_notes.specs.{Notes.note_at, Runs.{skip, span_all, begins, is_mark}}
-use Rattle.abc_notes.proofs.{Bounds.digit_range, RunLaws.{skip-takes, begins_wider}, SpanLaws.{span_all-takes, span_all-pass, span_all-less}}
-use Rattle.abc_notes.proofs.{SpanLaws.span_all-append, LengthLaws.{goes_on, length_at-takes, length_at-reaches, length-length_at}}
-use Rattle.{mus_units.specs.declared.pitch.Alter.Alter, mus_units.specs.declared.pitch.Alter.TheVariants.{Flat2, Flat, Natural, Sharp, Sharp2}}
-use Rattle.{mus_units.specs.declared.pitch.Letter.Letter, mus_units.specs.declared.pitch.Letter.TheVariants.{C, D, E, F, G, A, B}}
+use Rattle.abc_notes.proofs.Bounds.{digit_range}
+use Rattle.abc_notes.proofs.RunLaws.{skip-takes, begins_wider}
+use Rattle.abc_notes.proofs.SpanLaws.{span_all-takes, span_all-pass, span_all-less}
+use Rattle.abc_notes.proofs.SpanLaws.{span_all-append}
+use Rattle.abc_notes.proofs.LengthLaws.{goes_on, length_at-takes, length_at-reaches, length-length_at}
+use Rattle.mus_units.specs.declared.pitch.Alter.{Alter}
+use Rattle.mus_units.specs.declared.pitch.Alter.TheVariants.{Flat2, Flat, Natural, Sharp, Sharp2}
+use Rattle.mus_units.specs.declared.pitch.Letter.{Letter}
+use Rattle.mus_units.specs.declared.pitch.Letter.TheVariants.{C, D, E, F, G, A, B}
 
 -- ---- the sign
 skipped : (b : ℕ) (s : List ℕ) → (skip b s).0 ≡ true → s ≡ b ∷ (skip b s).1

@@ -1,5 +1,6 @@
 -- A reader that gives what stands at the front, and gives as much as any part that stands there, reads the one list of longest parts.
-use Rattle.std.proofs.Common.{◌≡◌, ℕ, zero, suc, ◌≤◌, ◌<◌, List, [], ◌∷◌, length, Option, Some, None, refl, sym, ap, ◌∙◌, subst, arith, inl, inr, ◌⊎◌}
+use Rattle.std.proofs.Common.{◌≡◌, ℕ, zero, suc, ◌≤◌, ◌<◌, List, [], ◌∷◌, length, Option, Some, None, refl, sym, ap}
+use Rattle.std.proofs.Common.{◌∙◌, subst, arith, inl, inr, ◌⊎◌}
 use Rattle.std.proofs.{Common.{IfSome, option_map}, lemmas.{Option.same_Some, List.nil_from_length}}
 use Rattle.abc_notes.specs.Parts.{IsLongest, HasNone, Parts, no_part, then_part, walk_on, walk_from, walk}
 

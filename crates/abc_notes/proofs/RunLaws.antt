@@ -1,5 +1,6 @@
 -- What is taken off the front of a list is what stands there.
-use Rattle.std.proofs.Common.{◌≡◌, ℕ, zero, suc, ◌+◌, ◌≤◌, ◌<◌, Bool, true, false, eqb, List, [], ◌∷◌, length, drop, refl, ap, arith, zero-add, ◌∙◌}
+use Rattle.std.proofs.Common.{◌≡◌, ℕ, zero, suc, ◌+◌, ◌≤◌, ◌<◌, Bool, true, false, eqb, List, [], ◌∷◌, length, drop}
+use Rattle.std.proofs.Common.{refl, ap, arith, zero-add, ◌∙◌}
 use Rattle.std.proofs.{Common.{inl, inr, ◌⊎◌, length-drop}, lemmas.Bool.{cond_both, eqb-true, eq-eqb}}
 use Rattle.abc_notes.specs.Runs.{copies, maybe, run_off, skip, begins}
 use Rattle.std.specs.List.{prefix_len}

@@ -1,6 +1,8 @@
 -- What stands at the front and passes.
-use Rattle.std.proofs.Common.{◌≡◌, ℕ, zero, suc, ◌+◌, ◌≤◌, ◌<◌, Bool, true, false, cond, List, [], ◌∷◌, ◌++◌, length, take, drop, refl, ap, zero-add}
-use Rattle.std.proofs.{Common.{arith, inl, inr, ◌⊎◌, take_all, length-append}, lemmas.Bool.{both_ways, cond_both, and_parts}}
+use Rattle.std.proofs.Common.{◌≡◌, ℕ, zero, suc, ◌+◌, ◌≤◌, ◌<◌, Bool, true, false, cond, List, [], ◌∷◌, ◌++◌, length}
+use Rattle.std.proofs.Common.{take, drop, refl, ap, zero-add}
+use Rattle.std.proofs.Common.{arith, inl, inr, ◌⊎◌, take_all, length-append}
+use Rattle.std.proofs.lemmas.Bool.{both_ways, cond_both, and_parts}
 use Rattle.abc_notes.specs.Runs.{span, span_all, begins}
 use Rattle.std.specs.List.{prefix_len, list_all}
 

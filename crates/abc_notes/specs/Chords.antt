@@ -1,9 +1,20 @@
 -- A chord: what stands between its brackets, which is read part by part, and the length behind
 -- them. A name within may hold a closing bracket; a chord is as long as it can be.
 use Prim.Native.Char.{code}
-use Rattle.std.specs.{Prelude.{◌≡◌, ◌≤◌, ◌-◌, ℕ, suc, List, [], ◌∷◌, ◌++◌, length, take, drop, map, Bool, true, false, not, ◌==◌, ◌||◌, ◌&&◌, if◌then◌else◌, Option, Some, None}, List.list_all}
-use Rattle.{mus_units.specs.{declared.note.Head.Head, declared.note.Deco.Deco}, abc_lines.specs.declared.fault.FaultKind.TheVariants.{BadByte, Unclosed}}
-use Rattle.abc_notes.specs.{Items.{Inner, Sense, says_note, says_letter, says_name, says_tie, sense, inner_then, has_length, StandsInside, InnerParts, InnerFlawed, name_at, inner_at}, declared.part.{Flaw.Flaw, Len.Len}, Runs.span_all, Lengths.{LengthForm, length_then, IsWrittenLength, length_from}, Decorations.{deco_of_letter, deco_of_name}, Parts.{HasNone, LeadsByParts, walk, is_done, spelled_then, later_or}}
+use Rattle.std.specs.Prelude.{◌≡◌, ◌≤◌, ◌-◌, ℕ, suc, List, [], ◌∷◌, ◌++◌, length, take, drop, map, Bool, true, false}
+use Rattle.std.specs.Prelude.{not, ◌==◌, ◌||◌, ◌&&◌, if◌then◌else◌, Option, Some, None}
+use Rattle.std.specs.List.{list_all}
+use Rattle.mus_units.specs.declared.note.Head.{Head}
+use Rattle.mus_units.specs.declared.note.Deco.{Deco}
+use Rattle.abc_lines.specs.declared.fault.FaultKind.TheVariants.{BadByte, Unclosed}
+use Rattle.abc_notes.specs.Items.{Inner, Sense, says_note, says_letter, says_name, says_tie, sense, inner_then}
+use Rattle.abc_notes.specs.Items.{has_length, StandsInside, InnerParts, InnerFlawed, name_at, inner_at}
+use Rattle.abc_notes.specs.declared.part.Flaw.{Flaw}
+use Rattle.abc_notes.specs.declared.part.Len.{Len}
+use Rattle.abc_notes.specs.Runs.{span_all}
+use Rattle.abc_notes.specs.Lengths.{LengthForm, length_then, IsWrittenLength, length_from}
+use Rattle.abc_notes.specs.Decorations.{deco_of_letter, deco_of_name}
+use Rattle.abc_notes.specs.Parts.{HasNone, LeadsByParts, walk, is_done, spelled_then, later_or}
 
 pub record ChordForm : Type 0 where
   pub inside : List ℕ

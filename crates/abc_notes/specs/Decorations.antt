@@ -3,7 +3,10 @@
 use Prim.Native.Char.{code}
 use Rattle.std.specs.Prelude.{ℕ, List, [], ◌∷◌, Bool, false, ◌==◌, ◌||◌, not, if◌then◌else◌, nat_eq, codes}
 use lib.Pointwise.{pointwise}
-use Rattle.{mus_units.specs.declared.note.Deco.{Deco, TheVariants.{Ks, Kr, Kf, Ka, Km, Kc, Kp, Kg, Kt, Ku, Kd, Kn, Below, Above, Quiet}}, abc_notes.specs.Runs.{one_of}}
+use Rattle.mus_units.specs.declared.note.Deco.{Deco}
+use Rattle.mus_units.specs.declared.note.Deco.TheVariants.{Ks, Kr, Kf, Ka, Km, Kc, Kp, Kg, Kt, Ku, Kd, Kn, Below, Above}
+use Rattle.mus_units.specs.declared.note.Deco.TheVariants.{Quiet}
+use Rattle.abc_notes.specs.Runs.{one_of}
 
 -- ~ H L M O P S T u v; the dot is one too
 abbrev pub is_deco_letter : ℕ → Bool

@@ -1,9 +1,19 @@
 -- A grace group: a slash or none, and notes and chords between braces. A name within, also within a
 -- chord, may hold a closing brace; a group is as long as it can be.
 use Prim.Native.Char.{code}
-use Rattle.std.specs.{Prelude.{◌≡◌, ◌≤◌, ◌<◌, ◌-◌, ℕ, zero, suc, List, [], ◌∷◌, ◌++◌, length, take, drop, map, Bool, true, false, not, ◌==◌, ◌&&◌, if◌then◌else◌, Option, Some, None, option_map, MatchBool}, List.list_all}
+use Rattle.std.specs.Prelude.{◌≡◌, ◌≤◌, ◌<◌, ◌-◌, ℕ, zero, suc, List, [], ◌∷◌, ◌++◌, length, take, drop, map, Bool}
+use Rattle.std.specs.Prelude.{true, false, not, ◌==◌, ◌&&◌, if◌then◌else◌, Option, Some, None, option_map, MatchBool}
+use Rattle.std.specs.List.{list_all}
 use Rattle.{mus_units.specs.declared.note.Head.{Head}, abc_lines.specs.declared.fault.FaultKind.TheVariants.{Unclosed}}
-use Rattle.abc_notes.specs.{Items.{Inner, Sense, says_note, sense, inner_then, IsInner, has_length, name_at, inner_at, IsBadByte, sense_of, is_inner_note}, declared.part.{Flaw.Flaw, GraceChord.GraceChord, GracePiece.GracePiece}, Runs.{maybe, skip, span_all, begins}, Chords.{ChordForm, chord_then, IsChord, ChordFault, chord_at, senses}, Lengths.length_from, Parts.{Parts, LeadsByParts, Flawed, IsFlaw, goes_on_length, walk, is_done}}
+use Rattle.abc_notes.specs.Items.{Inner, Sense, says_note, sense, inner_then, IsInner, has_length, name_at, inner_at}
+use Rattle.abc_notes.specs.Items.{IsBadByte, sense_of, is_inner_note}
+use Rattle.abc_notes.specs.declared.part.Flaw.{Flaw}
+use Rattle.abc_notes.specs.declared.part.GraceChord.{GraceChord}
+use Rattle.abc_notes.specs.declared.part.GracePiece.{GracePiece}
+use Rattle.abc_notes.specs.Runs.{maybe, skip, span_all, begins}
+use Rattle.abc_notes.specs.Chords.{ChordForm, chord_then, IsChord, ChordFault, chord_at, senses}
+use Rattle.abc_notes.specs.Lengths.{length_from}
+use Rattle.abc_notes.specs.Parts.{Parts, LeadsByParts, Flawed, IsFlaw, goes_on_length, walk, is_done}
 
 pub data GracePart : Type 0 where
   single : Inner → GracePart

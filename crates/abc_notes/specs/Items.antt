@@ -1,9 +1,20 @@
 -- What may stand within a chord or a grace: notes, decorations, ties, and what is passed over
 -- there, which is blanks, slurs and a lone exclamation mark.
 use Prim.Native.Char.{code}
-use Rattle.std.specs.{Prelude.{◌≡◌, ◌≤◌, ℕ, List, [], ◌∷◌, ◌++◌, length, Bool, true, false, ◌==◌, ◌||◌, if◌then◌else◌, Option, Some, None, option_map, codes}, List.list_all}
-use Rattle.{mus_units.specs.declared.note.Head.{Head}, abc_lines.specs.declared.fault.FaultKind.TheVariants.{BadByte, BadLength}}
-use Rattle.abc_notes.specs.{declared.part.{Flaw.Flaw, Len.Len, InnerPiece.InnerPiece, ItemClass.ItemClass}, Runs.{maybe, one_of, is_note_letter, span_all}, Lengths.len_of, Notes.{NoteForm, note_then, IsNote, head_of, note_at}, Decorations.{is_deco_letter, is_name_byte}, Parts.{Parts, Flawed, goes_on_length}}
+use Rattle.std.specs.Prelude.{◌≡◌, ◌≤◌, ℕ, List, [], ◌∷◌, ◌++◌, length, Bool, true, false, ◌==◌, ◌||◌, if◌then◌else◌}
+use Rattle.std.specs.Prelude.{Option, Some, None, option_map, codes}
+use Rattle.std.specs.List.{list_all}
+use Rattle.mus_units.specs.declared.note.Head.{Head}
+use Rattle.abc_lines.specs.declared.fault.FaultKind.TheVariants.{BadByte, BadLength}
+use Rattle.abc_notes.specs.declared.part.Flaw.{Flaw}
+use Rattle.abc_notes.specs.declared.part.Len.{Len}
+use Rattle.abc_notes.specs.declared.part.InnerPiece.{InnerPiece}
+use Rattle.abc_notes.specs.declared.part.ItemClass.{ItemClass}
+use Rattle.abc_notes.specs.Runs.{maybe, one_of, is_note_letter, span_all}
+use Rattle.abc_notes.specs.Lengths.{len_of}
+use Rattle.abc_notes.specs.Notes.{NoteForm, note_then, IsNote, head_of, note_at}
+use Rattle.abc_notes.specs.Decorations.{is_deco_letter, is_name_byte}
+use Rattle.abc_notes.specs.Parts.{Parts, Flawed, goes_on_length}
 
 pub data Inner : Type 0 where
   note_inside : NoteForm → Inner

@@ -2,8 +2,13 @@
 -- length is a number of at most four digits or none, and then nothing, a slash and such a number, or
 -- one to six slashes, each of which halves. What they mean, and reading them.
 use Prim.Native.Char.{code}
-use Rattle.std.specs.{Prelude.{◌≡◌, ℕ, zero, suc, ◌≤◌, ◌^◌, List, [], ◌∷◌, ◌++◌, length, Bool, true, false, ◌==◌, if◌then◌else◌}, List.list_all, Str.Parse.digits_value}
-use Rattle.{abc_notes.specs.{declared.part.Len.Len, Runs.copies, Runs.span, Runs.begins}, mus_units.specs.Bytes.{is_digit}}
+use Rattle.std.specs.Prelude.{◌≡◌, ℕ, zero, suc, ◌≤◌, ◌^◌, List, [], ◌∷◌, ◌++◌, length, Bool, true, false, ◌==◌}
+use Rattle.std.specs.Prelude.{if◌then◌else◌}
+use Rattle.std.specs.List.{list_all}
+use Rattle.std.specs.Str.Parse.{digits_value}
+use Rattle.abc_notes.specs.declared.part.Len.{Len}
+use Rattle.abc_notes.specs.Runs.{copies, span, begins}
+use Rattle.mus_units.specs.Bytes.{is_digit}
 
 -- the digits of a number: at least one, at most `most`, and no zero in front
 pub record AreNumberDigits (most : ℕ) (ds : List ℕ) : Type 0 where

@@ -1,9 +1,17 @@
 -- A note: a sign or none, a letter, octave marks in any mix, and a length. A capital is in octave 4 and a small letter in octave 5; each
 -- prime counts one octave up and each comma one down. Then reading a note from left to right.
 use Prim.Native.Char.{code}
-use Rattle.std.specs.{Prelude.{◌≡◌, ℕ, ℤ, pos, ◌+ℤ◌, ◌-ℤ◌, List, [], ◌∷◌, ◌++◌, Bool, true, false, ◌==◌, if◌then◌else◌, Option, Some, None, count_by}, List.list_all}
-use Rattle.mus_units.specs.declared.{pitch.{Alter.{Alter, TheVariants.{Flat2, Flat, Natural, Sharp, Sharp2}}, Letter.{Letter, TheVariants.{C, D, E, F, G, A, B}}}, note.Head.Head}
-use Rattle.abc_notes.specs.{declared.part.Len.Len, Runs.skip, Runs.span_all, Runs.is_mark, Lengths.LengthForm, Lengths.length_then, Lengths.IsWrittenLength, Lengths.length_from}
+use Rattle.std.specs.Prelude.{◌≡◌, ℕ, ℤ, pos, ◌+ℤ◌, ◌-ℤ◌, List, [], ◌∷◌, ◌++◌, Bool, true, false, ◌==◌, if◌then◌else◌}
+use Rattle.std.specs.Prelude.{Option, Some, None, count_by}
+use Rattle.std.specs.List.{list_all}
+use Rattle.mus_units.specs.declared.pitch.Alter.{Alter}
+use Rattle.mus_units.specs.declared.pitch.Alter.TheVariants.{Flat2, Flat, Natural, Sharp, Sharp2}
+use Rattle.mus_units.specs.declared.pitch.Letter.{Letter}
+use Rattle.mus_units.specs.declared.pitch.Letter.TheVariants.{C, D, E, F, G, A, B}
+use Rattle.mus_units.specs.declared.note.Head.{Head}
+use Rattle.abc_notes.specs.declared.part.Len.{Len}
+use Rattle.abc_notes.specs.Runs.{skip, span_all, is_mark}
+use Rattle.abc_notes.specs.Lengths.{LengthForm, length_then, IsWrittenLength, length_from}
 
 pub record NoteForm : Type 0 where
   pub sign : Option Alter

@@ -1,8 +1,11 @@
 -- Text that is read part by part, each part as long as it can be: the list of parts that a text is, and the first place where it has none.
 -- `Stands part text rest` says that the part stands at the front of the text, with the rest behind it.
 use Prim.Native.Char.{code}
-use Rattle.std.specs.Prelude.{◌≡◌, ◌≤◌, ℕ, zero, suc, List, [], ◌∷◌, length, Bool, true, false, ◌||◌, ◌==◌, Option, Some, None, MatchBool}
-use Rattle.{abc_lines.specs.declared.fault.FaultKind.TheVariants.{BadLength}, abc_notes.specs.declared.part.Flaw.{Flaw}, mus_units.specs.Bytes.{is_digit}}
+use Rattle.std.specs.Prelude.{◌≡◌, ◌≤◌, ℕ, zero, suc, List, [], ◌∷◌, length, Bool, true, false, ◌||◌, ◌==◌, Option}
+use Rattle.std.specs.Prelude.{Some, None, MatchBool}
+use Rattle.abc_lines.specs.declared.fault.FaultKind.TheVariants.{BadLength}
+use Rattle.abc_notes.specs.declared.part.Flaw.{Flaw}
+use Rattle.mus_units.specs.Bytes.{is_digit}
 
 -- the part stands at the front, and no longer one does
 pub record IsLongest (I : Type 0) (Stands : I → List ℕ → List ℕ → Type 0) (text : List ℕ) (part : I) (rest : List ℕ) : Type 0 where

@@ -1,6 +1,8 @@
 -- What stands at the front of a list of bytes: a byte or none, runs of one byte, and bytes that pass
 -- a test; and the bytes of a note that are a class by themselves.
-use Rattle.std.specs.{Prelude.{ℕ, zero, suc, List, [], ◌∷◌, Bool, true, false, ◌==◌, ◌||◌, if◌then◌else◌, take, drop, codes}, List.prefix_len}
+use Rattle.std.specs.Prelude.{ℕ, zero, suc, List, [], ◌∷◌, Bool, true, false, ◌==◌, ◌||◌, if◌then◌else◌, take, drop}
+use Rattle.std.specs.Prelude.{codes}
+use Rattle.std.specs.List.{prefix_len}
 use Rattle.mus_units.specs.Bytes.{is_within, is_either}
 
 -- the byte n times, and then the rest

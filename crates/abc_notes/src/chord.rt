@@ -1,5 +1,15 @@
-ghost use Rattle.std.specs.{Prelude.{◌≡◌, ◌≤◌, ◌+◌, ◌^◌, ◌++◌, ◌||◌, ◌&&◌, ◌-◌, not, ◌==◌, map, ℕ, length, option_map, Some, None, true, false, IfOk, IfSome, OnOk, MatchResult, take, drop}, List.prefix_len};
-ghost use Rattle.abc_notes.specs.{Chords.{is_inside, has_inner_head, tied_if, heads_of, decos_of, senses, last_head, tie_last, heads_after, given_head, next_last, deco_of, chord_at, bracket_at, bracket_here, bracket_in, bracket_in_name, is_bracket, chord_shown, ChordFault}, Graces.{heads_in, plain_head}, Items.{InnerFlawed, inner_at, inner_flaw, name_at, sense, sense_of, is_inner_note}, Lengths.len_of, Parts.{walk, is_done, goes_on_length, length_at_place, later_or}, Runs.{span_all, begins}};
+ghost use Rattle.std.specs.Prelude.{◌≡◌, ◌≤◌, ◌+◌, ◌^◌, ◌++◌, ◌||◌, ◌&&◌, ◌-◌, not, ◌==◌, map, ℕ, length, option_map};
+ghost use Rattle.std.specs.Prelude.{Some, None, true, false, IfOk, IfSome, OnOk, MatchResult, take, drop};
+ghost use Rattle.std.specs.List.{prefix_len};
+ghost use Rattle.abc_notes.specs.Chords.{is_inside, has_inner_head, tied_if, heads_of, decos_of, senses, last_head};
+ghost use Rattle.abc_notes.specs.Chords.{tie_last, heads_after, given_head, next_last, deco_of, chord_at, bracket_at};
+ghost use Rattle.abc_notes.specs.Chords.{bracket_here, bracket_in, bracket_in_name, is_bracket, chord_shown};
+ghost use Rattle.abc_notes.specs.Chords.{ChordFault};
+ghost use Rattle.abc_notes.specs.Graces.{heads_in, plain_head};
+ghost use Rattle.abc_notes.specs.Items.{InnerFlawed, inner_at, inner_flaw, name_at, sense, sense_of, is_inner_note};
+ghost use Rattle.abc_notes.specs.Lengths.{len_of};
+ghost use Rattle.abc_notes.specs.Parts.{walk, is_done, goes_on_length, length_at_place, later_or};
+ghost use Rattle.abc_notes.specs.Runs.{span_all, begins};
 
 use crate::decoration::{deco_of_letter, deco_of_name};
 use crate::item::{item_at, name_at};

@@ -1,5 +1,6 @@
 ghost use Rattle.std.specs.Prelude.{◌≡◌, IfOk};
-ghost use Rattle.abc_notes.specs.Decorations.{deco_of_letter, deco_of_name, is_named, deco_of_text, is_accent, is_dynamic, is_finger};
+ghost use Rattle.abc_notes.specs.Decorations.{deco_of_letter, deco_of_name, is_named, deco_of_text, is_accent};
+ghost use Rattle.abc_notes.specs.Decorations.{is_dynamic, is_finger};
 
 use mus_units::{Deco, Memory, Text};
 use std::alloc::Global;

@@ -1,5 +1,15 @@
-ghost use Rattle.std.specs.{Prelude.{◌≡◌, ◌≢◌, ◌≤◌, ◌<◌, ◌+◌, ◌-◌, ◌^◌, ◌++◌, ◌&&◌, ◌==◌, not, take, drop, [], length, option_map, map, None, Some, true, false, IfOk, OnOk, IfSome, MatchOption}, List.prefix_len};
-ghost use Rattle.abc_notes.specs.{Graces.{body_of_part, body_of_sense, body_of, part_has_length, IsGraceOwn, IsPartFlaw, GraceFlawed, GraceFault, is_in_grace, grace_part_at, brace_here, brace_in, brace_in_name, brace_in_item, brace_in_chord, brace_between, stands_behind, at_most_bytes, IsItemAt, brace_at, grace_at, bodied, body_of_item, inside_of_item, inside_of_part, item_has_length, body_inside, grace_shown, item_within, goes_on_first}, Items.{sense_of, name_at, inner_at}, Parts.{walk, is_done, later_or}, Runs.span_all};
+ghost use Rattle.std.specs.Prelude.{◌≡◌, ◌≢◌, ◌≤◌, ◌<◌, ◌+◌, ◌-◌, ◌^◌, ◌++◌, ◌&&◌, ◌==◌, not, take, drop, [], length};
+ghost use Rattle.std.specs.Prelude.{option_map, map, None, Some, true, false, IfOk, OnOk, IfSome, MatchOption};
+ghost use Rattle.std.specs.List.{prefix_len};
+ghost use Rattle.abc_notes.specs.Graces.{body_of_part, body_of_sense, body_of, part_has_length, IsGraceOwn, IsPartFlaw};
+ghost use Rattle.abc_notes.specs.Graces.{GraceFlawed, GraceFault, is_in_grace, grace_part_at, brace_here, brace_in};
+ghost use Rattle.abc_notes.specs.Graces.{brace_in_name, brace_in_item, brace_in_chord, brace_between, stands_behind};
+ghost use Rattle.abc_notes.specs.Graces.{at_most_bytes, IsItemAt, brace_at, grace_at, bodied, body_of_item};
+ghost use Rattle.abc_notes.specs.Graces.{inside_of_item, inside_of_part, item_has_length, body_inside, grace_shown};
+ghost use Rattle.abc_notes.specs.Graces.{item_within, goes_on_first};
+ghost use Rattle.abc_notes.specs.Items.{sense_of, name_at, inner_at};
+ghost use Rattle.abc_notes.specs.Parts.{walk, is_done, later_or};
+ghost use Rattle.abc_notes.specs.Runs.{span_all};
 
 use crate::bytes::skip;
 use crate::chord::{

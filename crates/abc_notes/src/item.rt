@@ -1,5 +1,9 @@
-ghost use Rattle.std.specs.{Prelude.◌≡◌, Prelude.◌≤◌, Prelude.◌^◌, Prelude.length, Prelude.option_map, Prelude.Some, Prelude.IfSome, List.prefix_len};
-ghost use Rattle.abc_notes.specs.{Decorations.{is_deco_letter, is_name_byte}, Items.{is_passed_inside, is_note_byte, item_class, name_at, closed_name, inner_at, sense, sense_of, sensed, dot_inside, named_or}, Runs.{span_all, is_note_letter}};
+ghost use Rattle.std.specs.Prelude.{◌≡◌, ◌≤◌, ◌^◌, length, option_map, Some, IfSome};
+ghost use Rattle.std.specs.List.{prefix_len};
+ghost use Rattle.abc_notes.specs.Decorations.{is_deco_letter, is_name_byte};
+ghost use Rattle.abc_notes.specs.Items.{is_passed_inside, is_note_byte, item_class, name_at, closed_name, inner_at};
+ghost use Rattle.abc_notes.specs.Items.{sense, sense_of, sensed, dot_inside, named_or};
+ghost use Rattle.abc_notes.specs.Runs.{span_all, is_note_letter};
 
 use crate::note::note_at;
 use crate::part::{InnerPiece, ItemClass};

@@ -1,7 +1,12 @@
 //! The length of a note.
 
-ghost use Rattle.std.specs.{Prelude.◌≡◌, Prelude.ℕ, Prelude.List, Prelude.◌<◌, Prelude.◌≤◌, Prelude.◌^◌, Prelude.length, Prelude.take, Prelude.true, List.prefix_len, List.list_all, Str.Parse.digits_value};
-ghost use Rattle.{mus_units.specs.Bytes.{is_digit}, abc_notes.specs.{Runs.span, Lengths.{AreNumberDigits, IsCount, limit_at, count_of, number_at, length_from, len_of, is_slash, length_read}}};
+ghost use Rattle.std.specs.Prelude.{◌≡◌, ℕ, List, ◌<◌, ◌≤◌, ◌^◌, length, take, true};
+ghost use Rattle.std.specs.List.{prefix_len, list_all};
+ghost use Rattle.std.specs.Str.Parse.{digits_value};
+ghost use Rattle.mus_units.specs.Bytes.{is_digit};
+ghost use Rattle.abc_notes.specs.Runs.{span};
+ghost use Rattle.abc_notes.specs.Lengths.{AreNumberDigits, IsCount, limit_at, count_of, number_at, length_from, len_of};
+ghost use Rattle.abc_notes.specs.Lengths.{is_slash, length_read};
 
 use crate::bytes::digits_off;
 use crate::part::Len;

@@ -1,7 +1,9 @@
 //! Notes and rests.
 
 ghost use Rattle.std.specs.Prelude.{◌≡◌, ◌≤◌, ◌^◌, length, Some, option_map, count_by, ◌==◌, pos, ◌≤ℤ◌};
-ghost use Rattle.abc_notes.specs.{Runs.is_mark, Lengths.len_of, Notes.sign_at, Notes.letter_at, Notes.octave_of, Notes.note_at, Notes.head_of, Notes.note_read};
+ghost use Rattle.abc_notes.specs.Runs.{is_mark};
+ghost use Rattle.abc_notes.specs.Lengths.{len_of};
+ghost use Rattle.abc_notes.specs.Notes.{sign_at, letter_at, octave_of, note_at, head_of, note_read};
 
 use crate::bytes::{marks_off, skip};
 use crate::length::length_from;

@@ -1,6 +1,11 @@
 -- Reading a bar gives the longest.
-use Rattle.std.proofs.{Common.{◌≡◌, ℕ, zero, suc, ◌+◌, ◌≤◌, ◌<◌, Bool, true, false, cond, eqb, ltb, List, ◌∷◌, length, refl, sym, ap, subst, ◌∙◌, arith, Option, Some, None, ◌⊎◌, inl, inr, add-zero, ◌||◌}, lemmas.Bool.{cond_both, eqb-true, ne_eqb, le-ltb, ltb-false, or_parts}}
-use Rattle.abc_notes.{specs.Runs.{copies, maybe, run_off, skip, begins}, proofs.RunLaws.{Lacks, run_off-takes, skip-takes, run_off-copies, run_off-lacks, skip-lacks, skip-maybe, skip-yes, length-run_off, length-skip, run_off-less, skip-less, begins_wider}}
+use Rattle.std.proofs.Common.{◌≡◌, ℕ, zero, suc, ◌+◌, ◌≤◌, ◌<◌, Bool, true, false, cond, eqb, ltb, List, ◌∷◌, length}
+use Rattle.std.proofs.Common.{refl, sym, ap, subst, ◌∙◌, arith, Option, Some, None, ◌⊎◌, inl, inr, add-zero, ◌||◌}
+use Rattle.std.proofs.lemmas.Bool.{cond_both, eqb-true, ne_eqb, le-ltb, ltb-false, or_parts}
+use Rattle.abc_notes.specs.Runs.{copies, maybe, run_off, skip, begins}
+use Rattle.abc_notes.proofs.RunLaws.{Lacks, run_off-takes, skip-takes, run_off-copies, run_off-lacks, skip-lacks}
+use Rattle.abc_notes.proofs.RunLaws.{skip-maybe, skip-yes, length-run_off, length-skip, run_off-less, skip-less}
+use Rattle.abc_notes.proofs.RunLaws.{begins_wider}
 use Rattle.abc_pieces.specs.Bars.{BarForm, signs, colons, spelled, IsGoodBar, form_at}
 
 -- what is read stands at the front

@@ -1,8 +1,14 @@
 -- What the class of a byte tells of it, and the class of each first byte.
-use Rattle.std.proofs.{Common.{◌≡◌, ℕ, ◌≤◌, ◌<◌, Bool, true, false, cond, eqb, leb, [], ◌∷◌, refl, subst, arith, inl, inr, ◌||◌, ◌&&◌, not}, lemmas.Bool.{cond_both, eqb-true, leb-true, or_cases, and_parts, both_ways}}
+use Rattle.std.proofs.Common.{◌≡◌, ℕ, ◌≤◌, ◌<◌, Bool, true, false, cond, eqb, leb, [], ◌∷◌, refl, subst, arith, inl}
+use Rattle.std.proofs.Common.{inr, ◌||◌, ◌&&◌, not}
+use Rattle.std.proofs.lemmas.Bool.{cond_both, eqb-true, leb-true, or_cases, and_parts, both_ways}
 use Rattle.mus_units.specs.Bytes.{is_digit, is_blank, is_letter}
-use Rattle.abc_pieces.specs.{declared.token.PieceClass.PieceClass, Forms.is_passed, Forms.is_passed_sign, Forms.is_passed_letter, Forms.arrow, Forms.rest_byte, Forms.measures_byte, Reading.class_of}
-use Rattle.abc_notes.{specs.Decorations.is_deco_letter, specs.Items.is_note_byte, proofs.ItemLaws.implied, proofs.ItemLaws.below_all}
+use Rattle.abc_pieces.specs.declared.token.PieceClass.{PieceClass}
+use Rattle.abc_pieces.specs.Forms.{is_passed, is_passed_sign, is_passed_letter, arrow, rest_byte, measures_byte}
+use Rattle.abc_pieces.specs.Reading.{class_of}
+use Rattle.abc_notes.specs.Decorations.{is_deco_letter}
+use Rattle.abc_notes.specs.Items.{is_note_byte}
+use Rattle.abc_notes.proofs.ItemLaws.{implied, below_all}
 
 abbrev pub Fact : PieceClass → ℕ → Type 0
 Fact PieceClass.Note b = Unit {0}

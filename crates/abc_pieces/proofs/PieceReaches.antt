@@ -1,8 +1,48 @@
 -- A piece that is read is as long as each that stands there.
-use Rattle.std.{proofs.{Common.{◌≡◌, ℕ, zero, suc, ◌+◌, ◌-◌, ◌≤◌, ◌<◌, Bool, true, false, cond, eqb, List, [], ◌∷◌, ◌++◌, length, Option, Some, None, refl, ap, ◌∙◌, subst, arith, inl, inr, ◌⊎◌, ◌||◌, ◌&&◌, not, option_map, IfSome, append-nil, length-append}, lemmas.Bool.{cond_both, or_cases, and_parts, eqb-true, ne_eqb, both_ways, eq-eqb, not-true}}, specs.List.list_all}
-use Rattle.mus_units.specs.{declared.pitch.Alter.Alter, declared.pitch.Letter.Letter, Bytes.is_digit, Bytes.is_blank, Bytes.is_letter, declared.pitch.Alter.TheVariants.Sharp2, declared.pitch.Letter.TheVariants.C}
-use Rattle.abc_notes.{specs.{Runs.{copies, maybe, span, span_all}, Lengths.{LengthForm, length_then, length_from, IsWrittenLength, IsCount, number_at}, Notes.{NoteForm, note_then, sign_then, letter_byte, IsNote}, Decorations.is_deco_letter, Items.{IsName, name_at, is_letter_inside}, Chords.{ChordForm, chord_then, is_inside, IsChord}, Graces.{GraceForm, grace_then, IsGrace}}, proofs.{SpanLaws.{span-append, span-less, span_all-append, span_all-less, span_all-stops, span_all-takes}, LengthLaws.{length_at-reaches, count-reads}, NoteLaws.note_at-reaches, ItemLaws.{name_at-takes, name_at-reads}, InnerLaws.{length-copies_then, length-maybe, length-length_then, note-longer}, ChordLaws.{chord_at-reaches, chord-longer}, GraceLaws.{grace_at-reaches, grace-longer}}}
-use Rattle.abc_pieces.{specs.{Bars.{BarForm, signs, colons, form_at, spelled as bar_then, IsGoodBar as IsBar}, Forms.{Form, note_form, rest_form, gap_form, measures_form, chord_form, grace_form, tuplet_form, slur_form, close_form, tie_form, broken_form, bar_form, ending_form, letter_form, named_form, says_form, inline_form, cut_form, space_form, passed_form, lone_form, plus_form, spelled, IsGoodForm, IsAllowed, is_ending, is_quoted_byte, is_plus_byte, is_passed, arrow, rest_byte, measures_byte, is_after_broken, opening, is_cut}, Reading.{FormAndRest, read, class_of, note_form_read, rest_read, gap_read, measures_read, bar_read, chord_read, grace_read, tuplet_read, or_else, ending_read, broken_read, says_read, plus_closed, plus_read, inline_read, space_read, named_or_lone, bang_read, dot_behind, dot_read, bracket_form, by_class, piece_at}, Tuplets.{TupletForm, tuplet_then, tuplet_at, IsTuplet}, declared.token.{PieceBefore.PieceBefore, PieceClass.PieceClass, BracketOpening.BracketOpening}}, proofs.{BarLaws.{TakesIf as TakesBarIf, form_at-takes, form_at-reaches}, TupletLaws.{TakesTuplet, tuplet_at-takes, tuplet_at-reaches, tuplet-longer}, Classes.{digit_below, digit_class, blank_class, letter_class, passed_class, letter_apart}, PieceTakes.opening-behind}}
+use Rattle.std.proofs.Common.{◌≡◌, ℕ, zero, suc, ◌+◌, ◌-◌, ◌≤◌, ◌<◌, Bool, true, false, cond, eqb, List, [], ◌∷◌, ◌++◌}
+use Rattle.std.proofs.Common.{length, Option, Some, None, refl, ap, ◌∙◌, subst, arith, inl, inr, ◌⊎◌, ◌||◌, ◌&&◌, not}
+use Rattle.std.proofs.Common.{option_map, IfSome, append-nil, length-append}
+use Rattle.std.proofs.lemmas.Bool.{cond_both, or_cases, and_parts, eqb-true, ne_eqb, both_ways, eq-eqb, not-true}
+use Rattle.std.specs.List.{list_all}
+use Rattle.mus_units.specs.declared.pitch.Alter.{Alter}
+use Rattle.mus_units.specs.declared.pitch.Letter.{Letter}
+use Rattle.mus_units.specs.Bytes.{is_digit, is_blank, is_letter}
+use Rattle.mus_units.specs.declared.pitch.Alter.TheVariants.{Sharp2}
+use Rattle.mus_units.specs.declared.pitch.Letter.TheVariants.{C}
+use Rattle.abc_notes.specs.Runs.{copies, maybe, span, span_all}
+use Rattle.abc_notes.specs.Lengths.{LengthForm, length_then, length_from, IsWrittenLength, IsCount, number_at}
+use Rattle.abc_notes.specs.Notes.{NoteForm, note_then, sign_then, letter_byte, IsNote}
+use Rattle.abc_notes.specs.Decorations.{is_deco_letter}
+use Rattle.abc_notes.specs.Items.{IsName, name_at, is_letter_inside}
+use Rattle.abc_notes.specs.Chords.{ChordForm, chord_then, is_inside, IsChord}
+use Rattle.abc_notes.specs.Graces.{GraceForm, grace_then, IsGrace}
+use Rattle.abc_notes.proofs.SpanLaws.{span-append, span-less, span_all-append, span_all-less, span_all-stops}
+use Rattle.abc_notes.proofs.SpanLaws.{span_all-takes}
+use Rattle.abc_notes.proofs.LengthLaws.{length_at-reaches, count-reads}
+use Rattle.abc_notes.proofs.NoteLaws.{note_at-reaches}
+use Rattle.abc_notes.proofs.ItemLaws.{name_at-takes, name_at-reads}
+use Rattle.abc_notes.proofs.InnerLaws.{length-copies_then, length-maybe, length-length_then, note-longer}
+use Rattle.abc_notes.proofs.ChordLaws.{chord_at-reaches, chord-longer}
+use Rattle.abc_notes.proofs.GraceLaws.{grace_at-reaches, grace-longer}
+use Rattle.abc_pieces.specs.Bars.{BarForm, signs, colons, form_at, spelled as bar_then, IsGoodBar as IsBar}
+use Rattle.abc_pieces.specs.Forms.{Form, note_form, rest_form, gap_form, measures_form, chord_form, grace_form}
+use Rattle.abc_pieces.specs.Forms.{tuplet_form, slur_form, close_form, tie_form, broken_form, bar_form, ending_form}
+use Rattle.abc_pieces.specs.Forms.{letter_form, named_form, says_form, inline_form, cut_form, space_form, passed_form}
+use Rattle.abc_pieces.specs.Forms.{lone_form, plus_form, spelled, IsGoodForm, IsAllowed, is_ending, is_quoted_byte}
+use Rattle.abc_pieces.specs.Forms.{is_plus_byte, is_passed, arrow, rest_byte, measures_byte, is_after_broken, opening}
+use Rattle.abc_pieces.specs.Forms.{is_cut}
+use Rattle.abc_pieces.specs.Reading.{FormAndRest, read, class_of, note_form_read, rest_read, gap_read, measures_read}
+use Rattle.abc_pieces.specs.Reading.{bar_read, chord_read, grace_read, tuplet_read, or_else, ending_read, broken_read}
+use Rattle.abc_pieces.specs.Reading.{says_read, plus_closed, plus_read, inline_read, space_read, named_or_lone}
+use Rattle.abc_pieces.specs.Reading.{bang_read, dot_behind, dot_read, bracket_form, by_class, piece_at}
+use Rattle.abc_pieces.specs.Tuplets.{TupletForm, tuplet_then, tuplet_at, IsTuplet}
+use Rattle.abc_pieces.specs.declared.token.PieceBefore.{PieceBefore}
+use Rattle.abc_pieces.specs.declared.token.PieceClass.{PieceClass}
+use Rattle.abc_pieces.specs.declared.token.BracketOpening.{BracketOpening}
+use Rattle.abc_pieces.proofs.BarLaws.{TakesIf as TakesBarIf, form_at-takes, form_at-reaches}
+use Rattle.abc_pieces.proofs.TupletLaws.{TakesTuplet, tuplet_at-takes, tuplet_at-reaches, tuplet-longer}
+use Rattle.abc_pieces.proofs.Classes.{digit_below, digit_class, blank_class, letter_class, passed_class, letter_apart}
+use Rattle.abc_pieces.proofs.PieceTakes.{opening-behind}
 
 pub record Reaches (x : List ℕ) (f : Form) (r : FormAndRest) : Type 0 where
   pub form : Form

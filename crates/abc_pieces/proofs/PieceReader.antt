@@ -1,6 +1,11 @@
 -- The piece that is read is the longest.
 use Rattle.std.proofs.Common.{◌≡◌, ℕ, Bool, List, Some, None, ap, ◌∙◌, inl, inr, IfSome}
-use Rattle.{abc_pieces.{specs.{declared.token.PieceBefore.PieceBefore, Forms.{Form, StandsAt}, Reading.{FormAndRest, read, piece_at}}, proofs.{PieceTakes.{Takes, piece_at-takes}, PieceReaches.{piece_at-reaches, longer}}}, abc_notes.proofs.PartLaws.{Reader}}
+use Rattle.abc_pieces.specs.declared.token.PieceBefore.{PieceBefore}
+use Rattle.abc_pieces.specs.Forms.{Form, StandsAt}
+use Rattle.abc_pieces.specs.Reading.{FormAndRest, read, piece_at}
+use Rattle.abc_pieces.proofs.PieceTakes.{Takes, piece_at-takes}
+use Rattle.abc_pieces.proofs.PieceReaches.{piece_at-reaches, longer}
+use Rattle.abc_notes.proofs.PartLaws.{Reader}
 
 abbrev with_rest : Form → List ℕ → Form × List ℕ
 with_rest f x = (f, x)

@@ -1,8 +1,37 @@
 -- A piece that is read stands at the front.
-use Rattle.std.{proofs.{Common.{◌≡◌, ℕ, suc, Bool, true, false, cond, eqb, List, [], ◌∷◌, ◌++◌, length, Option, Some, None, refl, sym, ap, ◌∙◌, arith, ◌&&◌, IfSome, option_map}, lemmas.Bool.{cond_both, or_left, or_right, and_parts, eqb-true, not-false, eq-eqb}}, specs.List.list_all}
+use Rattle.std.proofs.Common.{◌≡◌, ℕ, suc, Bool, true, false, cond, eqb, List, [], ◌∷◌, ◌++◌, length, Option, Some}
+use Rattle.std.proofs.Common.{None, refl, sym, ap, ◌∙◌, arith, ◌&&◌, IfSome, option_map}
+use Rattle.std.proofs.lemmas.Bool.{cond_both, or_left, or_right, and_parts, eqb-true, not-false, eq-eqb}
+use Rattle.std.specs.List.{list_all}
 use Rattle.mus_units.specs.Bytes.{is_digit, is_blank, is_letter}
-use Rattle.abc_notes.{specs.{Runs.{copies, span, span_all, begins}, Notes.{NoteForm, note_at}, Decorations.is_deco_letter, Items.{IsName, name_at}, Chords.{ChordForm, chord_at, is_inside}, Graces.{GraceForm, grace_at}}, proofs.{SpanLaws.{span-takes, span-pass, span-length, span_all-takes, span_all-pass, span_all-after}, LengthLaws.{length_at-takes, number-takes, number-count}, NoteLaws.{TakesNote, note_at-takes}, ItemLaws.name_at-takes, ChordLaws.{TakesChord, chord_at-takes}, GraceLaws.{TakesGrace, grace_at-takes}}}
-use Rattle.abc_pieces.{specs.{Forms.{Form, note_form, chord_form, grace_form, tuplet_form, slur_form, tie_form, broken_form, bar_form, ending_form, letter_form, says_form, inline_form, passed_form, plus_form, spelled, IsGoodForm, IsAllowed, is_ending, is_quoted_byte, is_plus_byte, is_passed, arrow, rest_byte, measures_byte, is_after_bar, is_after_broken, opening}, Reading.{FormAndRest, read, class_of, note_form_read, rest_read, gap_read, measures_read, bar_read, chord_read, grace_read, tuplet_read, or_else, ending_read, broken_read, closed, says_read, plus_closed, plus_read, inline_read, space_read, named_or_lone, bang_read, dot_behind, dot_read, bracket_form, by_class, piece_at}, Bars.{BarForm, form_at}, Tuplets.{TupletForm, tuplet_at}, declared.token.{PieceBefore.PieceBefore, PieceClass.PieceClass, BracketOpening.BracketOpening}}, proofs.{TupletLaws.{TakesTuplet, tuplet_at-takes}, Classes.{Fact, fact}, BarLaws.{TakesIf as TakesBarIf, form_at-takes}}}
+use Rattle.abc_notes.specs.Runs.{copies, span, span_all, begins}
+use Rattle.abc_notes.specs.Notes.{NoteForm, note_at}
+use Rattle.abc_notes.specs.Decorations.{is_deco_letter}
+use Rattle.abc_notes.specs.Items.{IsName, name_at}
+use Rattle.abc_notes.specs.Chords.{ChordForm, chord_at, is_inside}
+use Rattle.abc_notes.specs.Graces.{GraceForm, grace_at}
+use Rattle.abc_notes.proofs.SpanLaws.{span-takes, span-pass, span-length, span_all-takes, span_all-pass, span_all-after}
+use Rattle.abc_notes.proofs.LengthLaws.{length_at-takes, number-takes, number-count}
+use Rattle.abc_notes.proofs.NoteLaws.{TakesNote, note_at-takes}
+use Rattle.abc_notes.proofs.ItemLaws.{name_at-takes}
+use Rattle.abc_notes.proofs.ChordLaws.{TakesChord, chord_at-takes}
+use Rattle.abc_notes.proofs.GraceLaws.{TakesGrace, grace_at-takes}
+use Rattle.abc_pieces.specs.Forms.{Form, note_form, chord_form, grace_form, tuplet_form, slur_form, tie_form}
+use Rattle.abc_pieces.specs.Forms.{broken_form, bar_form, ending_form, letter_form, says_form, inline_form, passed_form}
+use Rattle.abc_pieces.specs.Forms.{plus_form, spelled, IsGoodForm, IsAllowed, is_ending, is_quoted_byte, is_plus_byte}
+use Rattle.abc_pieces.specs.Forms.{is_passed, arrow, rest_byte, measures_byte, is_after_bar, is_after_broken, opening}
+use Rattle.abc_pieces.specs.Reading.{FormAndRest, read, class_of, note_form_read, rest_read, gap_read, measures_read}
+use Rattle.abc_pieces.specs.Reading.{bar_read, chord_read, grace_read, tuplet_read, or_else, ending_read, broken_read}
+use Rattle.abc_pieces.specs.Reading.{closed, says_read, plus_closed, plus_read, inline_read, space_read, named_or_lone}
+use Rattle.abc_pieces.specs.Reading.{bang_read, dot_behind, dot_read, bracket_form, by_class, piece_at}
+use Rattle.abc_pieces.specs.Bars.{BarForm, form_at}
+use Rattle.abc_pieces.specs.Tuplets.{TupletForm, tuplet_at}
+use Rattle.abc_pieces.specs.declared.token.PieceBefore.{PieceBefore}
+use Rattle.abc_pieces.specs.declared.token.PieceClass.{PieceClass}
+use Rattle.abc_pieces.specs.declared.token.BracketOpening.{BracketOpening}
+use Rattle.abc_pieces.proofs.TupletLaws.{TakesTuplet, tuplet_at-takes}
+use Rattle.abc_pieces.proofs.Classes.{Fact, fact}
+use Rattle.abc_pieces.proofs.BarLaws.{TakesIf as TakesBarIf, form_at-takes}
 
 pub record Stands (bang : Bool) (before : PieceBefore) (s : List ℕ) (f : Form) (rest : List ℕ) : Type 0 where
   pub good : IsGoodForm bang f

@@ -1,7 +1,13 @@
 -- What a piece is read as, where the code puts it together.
-use Rattle.std.{proofs.Common.{◌≡◌, ℕ, suc, ◌+◌, Bool, true, List, ◌∷◌, Option, Some, None, take, drop, refl, ap, arith}, specs.List.prefix_len}
+use Rattle.std.proofs.Common.{◌≡◌, ℕ, suc, ◌+◌, Bool, true, List, ◌∷◌, Option, Some, None, take, drop, refl, ap, arith}
+use Rattle.std.specs.List.{prefix_len}
 use Rattle.{mus_units.specs.Bytes.{is_digit}, abc_notes.specs.{Runs.span_all, Decorations.deco_of_letter}}
-use Rattle.abc_pieces.{specs.{declared.token.{PieceBefore.PieceBefore, Token.Token, PieceClass.PieceClass}, Forms.{is_ending, letter_form}, Reading.{FormAndRest, read, or_else, ending_read, token_and_rest, meaning, class_of}}, proofs.Classes.fact_of}
+use Rattle.abc_pieces.specs.declared.token.PieceBefore.{PieceBefore}
+use Rattle.abc_pieces.specs.declared.token.Token.{Token}
+use Rattle.abc_pieces.specs.declared.token.PieceClass.{PieceClass}
+use Rattle.abc_pieces.specs.Forms.{is_ending, letter_form}
+use Rattle.abc_pieces.specs.Reading.{FormAndRest, read, or_else, ending_read, token_and_rest, meaning, class_of}
+use Rattle.abc_pieces.proofs.Classes.{fact_of}
 
 pub ending_is : (bracket : Bool) (s : List ℕ) (b : ℕ) (rest : List ℕ) (k : ℕ) (text after : List ℕ) → s ≡ b ∷ rest → is_digit b ≡ true → k ≡ prefix_len is_ending rest → text ≡ take (1 + k) s → after ≡ drop (1 + k) s →
     Some (token_and_rest (Some (Token.Ending text)) PieceBefore.Other after) ≡ meaning (ending_read bracket s)

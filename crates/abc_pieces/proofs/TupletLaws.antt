@@ -1,7 +1,13 @@
 -- Reading a tuplet gives the longest.
-use Rattle.std.proofs.{Common.{◌≡◌, ℕ, ◌≤◌, ◌<◌, true, List, [], ◌∷◌, ◌++◌, length, Option, Some, None, refl, ap, ◌∙◌, arith, inl, inr, ◌⊎◌, IfSome, length-append}, lemmas.Bool.cond_both}
-use Rattle.abc_notes.{specs.{Runs.{maybe, skip}, Lengths.{IsCount, number_at}}, proofs.{RunLaws.{skip-takes, skip-yes, skip-less, length-skip}, LengthLaws.{number-takes, number-count, length-number, count-reads, count-stops}}}
-use Rattle.abc_pieces.specs.Tuplets.{TupletForm, bare, with_q, with_r, is_tuplet_digit, tuplet_then, IsTuplet, behind_q, behind_p, tuplet_at}
+use Rattle.std.proofs.Common.{◌≡◌, ℕ, ◌≤◌, ◌<◌, true, List, [], ◌∷◌, ◌++◌, length, Option, Some, None, refl, ap, ◌∙◌}
+use Rattle.std.proofs.Common.{arith, inl, inr, ◌⊎◌, IfSome, length-append}
+use Rattle.std.proofs.lemmas.Bool.{cond_both}
+use Rattle.abc_notes.specs.Runs.{maybe, skip}
+use Rattle.abc_notes.specs.Lengths.{IsCount, number_at}
+use Rattle.abc_notes.proofs.RunLaws.{skip-takes, skip-yes, skip-less, length-skip}
+use Rattle.abc_notes.proofs.LengthLaws.{number-takes, number-count, length-number, count-reads, count-stops}
+use Rattle.abc_pieces.specs.Tuplets.{TupletForm, bare, with_q, with_r, is_tuplet_digit, tuplet_then, IsTuplet, behind_q}
+use Rattle.abc_pieces.specs.Tuplets.{behind_p, tuplet_at}
 
 abbrev tuplet_with : TupletForm → List ℕ → TupletForm × List ℕ
 tuplet_with f x = (f, x)

@@ -1,7 +1,8 @@
 -- A bar: a dot or none, colons, an opening bracket or none, one or more bar signs, a closing bracket or none, and colons; or two or more
 -- colons alone. Which features it has, and reading one from left to right.
 use Prim.Native.Char.{code}
-use Rattle.std.specs.Prelude.{ℕ, ◌≤◌, List, Bool, true, false, ◌&&◌, ◌||◌, not, nat_lt, ◌==◌, if◌then◌else◌, Option, Some, None}
+use Rattle.std.specs.Prelude.{ℕ, ◌≤◌, List, Bool, true, false, ◌&&◌, ◌||◌, not, nat_lt, ◌==◌, if◌then◌else◌, Option}
+use Rattle.std.specs.Prelude.{Some, None}
 use Rattle.{mus_units.specs.declared.note.Bar.{Bar}, abc_notes.specs.Runs.{copies, maybe, run_off, skip}}
 
 -- a bar with bar signs, or colons alone

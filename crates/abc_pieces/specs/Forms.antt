@@ -1,10 +1,22 @@
 -- The pieces of a music line: the bytes of each kind, what it says, and what it tells of the next.
 -- A piece is the spelling of a token, or one item that is passed over.
 use Prim.Native.Char.{code}
-use Rattle.std.specs.{Prelude.{◌≡◌, ℕ, ◌≤◌, List, [], ◌∷◌, ◌++◌, map, Bool, true, false, not, ◌==◌, ◌&&◌, ◌||◌, if◌then◌else◌, Option, Some, None, codes}, List.list_all}
+use Rattle.std.specs.Prelude.{◌≡◌, ℕ, ◌≤◌, List, [], ◌∷◌, ◌++◌, map, Bool, true, false, not, ◌==◌, ◌&&◌, ◌||◌}
+use Rattle.std.specs.Prelude.{if◌then◌else◌, Option, Some, None, codes}
+use Rattle.std.specs.List.{list_all}
 use Rattle.mus_units.specs.Bytes.{is_within, is_either, is_digit, is_blank, is_letter}
-use Rattle.abc_notes.specs.{Runs.{copies, maybe, one_of, begins}, Lengths.{LengthForm, length_then, IsWrittenLength, len_of, IsCount, count_of}, Notes.{NoteForm, note_then, IsNote, head_of}, Decorations.{deco_of_letter, deco_of_name}, Items.{IsName, is_letter_inside, sense}, Chords.{ChordForm, chord_then, IsChord, heads_of, decos_of, is_inside}, Graces.{GraceForm, grace_then, IsGrace, body_of}}
-use Rattle.abc_pieces.specs.{Bars.{BarForm, spelled as bar_then, IsGoodBar as IsBar, bar_meant as bar_of}, Tuplets.{TupletForm, tuplet_then, IsTuplet, p_of, q_of, r_of}, declared.token.{Token.Token, PieceBefore.PieceBefore, BracketOpening.BracketOpening}}
+use Rattle.abc_notes.specs.Runs.{copies, maybe, one_of, begins}
+use Rattle.abc_notes.specs.Lengths.{LengthForm, length_then, IsWrittenLength, len_of, IsCount, count_of}
+use Rattle.abc_notes.specs.Notes.{NoteForm, note_then, IsNote, head_of}
+use Rattle.abc_notes.specs.Decorations.{deco_of_letter, deco_of_name}
+use Rattle.abc_notes.specs.Items.{IsName, is_letter_inside, sense}
+use Rattle.abc_notes.specs.Chords.{ChordForm, chord_then, IsChord, heads_of, decos_of, is_inside}
+use Rattle.abc_notes.specs.Graces.{GraceForm, grace_then, IsGrace, body_of}
+use Rattle.abc_pieces.specs.Bars.{BarForm, spelled as bar_then, IsGoodBar as IsBar, bar_meant as bar_of}
+use Rattle.abc_pieces.specs.Tuplets.{TupletForm, tuplet_then, IsTuplet, p_of, q_of, r_of}
+use Rattle.abc_pieces.specs.declared.token.Token.{Token}
+use Rattle.abc_pieces.specs.declared.token.PieceBefore.{PieceBefore}
+use Rattle.abc_pieces.specs.declared.token.BracketOpening.{BracketOpening}
 
 pub data Form : Type 0 where
   note_form : NoteForm → Form

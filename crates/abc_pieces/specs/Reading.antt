@@ -1,9 +1,29 @@
 -- Reading the longest piece: between the pieces as they are defined and the code.
 use Prim.Native.Char.{code}
-use Rattle.std.specs.Prelude.{◌≤◌, ℕ, suc, List, [], ◌∷◌, length, Bool, true, false, ◌==◌, ◌||◌, if◌then◌else◌, Option, Some, None, option_map}
+use Rattle.std.specs.Prelude.{◌≤◌, ℕ, suc, List, [], ◌∷◌, length, Bool, true, false, ◌==◌, ◌||◌, if◌then◌else◌, Option}
+use Rattle.std.specs.Prelude.{Some, None, option_map}
 use Rattle.mus_units.specs.Bytes.{is_digit, is_blank}
-use Rattle.abc_notes.specs.{Runs.{span, span_all}, Lengths.{length_from, number_at}, Notes.note_at, Decorations.{is_deco_letter, deco_of_letter, deco_of_name}, Items.{is_note_byte, name_at}, Chords.{chord_at, is_inside, heads_of, decos_of, senses}, Graces.{grace_at, grace_part_at, body_of}, Parts.walk}
-use Rattle.abc_pieces.specs.{Forms.{Form, note_form, rest_form, gap_form, measures_form, chord_form, grace_form, tuplet_form, slur_form, close_form, tie_form, broken_form, bar_form, ending_form, letter_form, named_form, says_form, inline_form, cut_form, space_form, passed_form, lone_form, plus_form, is_ending, is_quoted_byte, is_plus_byte, is_passed, opening, inline_token, is_after_bar, is_after_broken, token_meant, after}, Bars.form_at, Tuplets.tuplet_at, declared.{piece.LinePiece.LinePiece, token.{PieceBefore.PieceBefore, PieceClass.PieceClass, BracketOpening.BracketOpening, Token.Token, BorrowedToken.BorrowedToken}}}
+use Rattle.abc_notes.specs.Runs.{span, span_all}
+use Rattle.abc_notes.specs.Lengths.{length_from, number_at}
+use Rattle.abc_notes.specs.Notes.{note_at}
+use Rattle.abc_notes.specs.Decorations.{is_deco_letter, deco_of_letter, deco_of_name}
+use Rattle.abc_notes.specs.Items.{is_note_byte, name_at}
+use Rattle.abc_notes.specs.Chords.{chord_at, is_inside, heads_of, decos_of, senses}
+use Rattle.abc_notes.specs.Graces.{grace_at, grace_part_at, body_of}
+use Rattle.abc_notes.specs.Parts.{walk}
+use Rattle.abc_pieces.specs.Forms.{Form, note_form, rest_form, gap_form, measures_form, chord_form, grace_form}
+use Rattle.abc_pieces.specs.Forms.{tuplet_form, slur_form, close_form, tie_form, broken_form, bar_form, ending_form}
+use Rattle.abc_pieces.specs.Forms.{letter_form, named_form, says_form, inline_form, cut_form, space_form, passed_form}
+use Rattle.abc_pieces.specs.Forms.{lone_form, plus_form, is_ending, is_quoted_byte, is_plus_byte, is_passed, opening}
+use Rattle.abc_pieces.specs.Forms.{inline_token, is_after_bar, is_after_broken, token_meant, after}
+use Rattle.abc_pieces.specs.Bars.{form_at}
+use Rattle.abc_pieces.specs.Tuplets.{tuplet_at}
+use Rattle.abc_pieces.specs.declared.piece.LinePiece.{LinePiece}
+use Rattle.abc_pieces.specs.declared.token.PieceBefore.{PieceBefore}
+use Rattle.abc_pieces.specs.declared.token.PieceClass.{PieceClass}
+use Rattle.abc_pieces.specs.declared.token.BracketOpening.{BracketOpening}
+use Rattle.abc_pieces.specs.declared.token.Token.{Token}
+use Rattle.abc_pieces.specs.declared.token.BorrowedToken.{BorrowedToken}
 
 unfoldable pub class_of : ℕ → PieceClass
 class_of b =

@@ -1,6 +1,7 @@
 -- A tuplet: its p, and q and r behind colons, each of which may be left empty.
 use Prim.Native.Char.{code}
-use Rattle.std.specs.{Prelude.{◌≡◌, ◌-◌, ℕ, List, [], ◌∷◌, ◌++◌, Bool, true, if◌then◌else◌, Option, Some, None, codes}, Str.Parse.digits_value}
+use Rattle.std.specs.Prelude.{◌≡◌, ◌-◌, ℕ, List, [], ◌∷◌, ◌++◌, Bool, true, if◌then◌else◌, Option, Some, None, codes}
+use Rattle.std.specs.Str.Parse.{digits_value}
 use Rattle.{mus_units.specs.Bytes.{is_within}, abc_notes.specs.{Runs.skip, Lengths.IsCount, Lengths.number_at}}
 
 pub data TupletForm : Type 0 where

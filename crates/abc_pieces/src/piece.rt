@@ -1,6 +1,13 @@
-ghost use Rattle.std.specs.{Prelude.{◌≡◌, ◌≤◌, ◌^◌, ◌∷◌, false, ℕ, List, Bool, Some, None, length, take, ◌==◌, IfSome}, List.prefix_len};
+ghost use Rattle.std.specs.Prelude.{◌≡◌, ◌≤◌, ◌^◌, ◌∷◌, false, ℕ, List, Bool, Some, None, length, take, ◌==◌, IfSome};
+ghost use Rattle.std.specs.List.{prefix_len};
 ghost use Rattle.abc_lines.specs.Kinds.{code};
-ghost use Rattle.abc_pieces.specs.{declared.token.PieceBefore.TheVariants.Other, Forms.{is_after_bar, is_after_broken, is_ending, is_quoted_byte, is_plus_byte, is_passed, is_passed_sign, is_passed_letter, opening, letter_form, slur_form}, Reading.{class_of, piece_at, note_form_read, rest_read, gap_read, measures_read, bar_read, chord_read, grace_read, tuplet_read, ending_read, broken_read, says_read, plus_read, inline_read, space_read, bang_read, dot_read, bracket_form, or_else, read, shown_piece, meaning, found_within}};
+ghost use Rattle.abc_pieces.specs.declared.token.PieceBefore.TheVariants.{Other};
+ghost use Rattle.abc_pieces.specs.Forms.{is_after_bar, is_after_broken, is_ending, is_quoted_byte, is_plus_byte};
+ghost use Rattle.abc_pieces.specs.Forms.{is_passed, is_passed_sign, is_passed_letter, opening, letter_form, slur_form};
+ghost use Rattle.abc_pieces.specs.Reading.{class_of, piece_at, note_form_read, rest_read, gap_read, measures_read};
+ghost use Rattle.abc_pieces.specs.Reading.{bar_read, chord_read, grace_read, tuplet_read, ending_read, broken_read};
+ghost use Rattle.abc_pieces.specs.Reading.{says_read, plus_read, inline_read, space_read, bang_read, dot_read};
+ghost use Rattle.abc_pieces.specs.Reading.{bracket_form, or_else, read, shown_piece, meaning, found_within};
 ghost use Rattle.{abc_notes.specs.{Chords.is_inside, Runs.begins}, mus_units.specs.Bytes.{is_digit, is_blank}};
 
 use crate::bar::read_bar;

@@ -1,6 +1,8 @@
-ghost use Rattle.std.specs.{Prelude.◌≡◌, Prelude.◌≤◌, Prelude.◌-◌, Prelude.option_map, Prelude.length, Prelude.true, List.list_all};
+ghost use Rattle.std.specs.Prelude.{◌≡◌, ◌≤◌, ◌-◌, option_map, length, true};
+ghost use Rattle.std.specs.List.{list_all};
 ghost use Rattle.{abc_lines.specs.Kinds.{code}, mus_units.specs.Bytes.{is_digit}};
-ghost use Rattle.abc_pieces.specs.Tuplets.{is_tuplet_digit, p_of, q_of, r_of, tuplet_at, behind_p, behind_q, value_or_zero, tuplet_shown};
+ghost use Rattle.abc_pieces.specs.Tuplets.{is_tuplet_digit, p_of, q_of, r_of, tuplet_at, behind_p, behind_q};
+ghost use Rattle.abc_pieces.specs.Tuplets.{value_or_zero, tuplet_shown};
 
 use abc_notes::bytes::skip;
 use abc_notes::length::number_at;

@@ -1,6 +1,11 @@
 -- Facts of lists and tests that several proofs share.
-use Rattle.std.{proofs.{Common.{◌≡◌, refl, ℕ, List, [], ◌∷◌, ◌++◌, Bool, cond}, lemmas.Bool.cond_both}, specs.List.AllByRecursion}
-use Rattle.{abc_steps.specs.{declared.state.VoiceState.VoiceState, Tuplets.{fits, or_default}}, abc_signs.specs.{declared.written.TreeItem.TreeItem, Signs.tuplet_of}}
+use Rattle.std.proofs.Common.{◌≡◌, refl, ℕ, List, [], ◌∷◌, ◌++◌, Bool, cond}
+use Rattle.std.proofs.lemmas.Bool.{cond_both}
+use Rattle.std.specs.List.{AllByRecursion}
+use Rattle.abc_steps.specs.declared.state.VoiceState.{VoiceState}
+use Rattle.abc_steps.specs.Tuplets.{fits, or_default}
+use Rattle.abc_signs.specs.declared.written.TreeItem.{TreeItem}
+use Rattle.abc_signs.specs.Signs.{tuplet_of}
 
 -- an empty list has empty parts
 pub none_before : {X : Type 0} (xs ys : List X) → xs ++ ys ≡ [] → xs ≡ []

@@ -1,15 +1,28 @@
 -- What a score without faults has: voices without verses that are too many, and at most 2000 measures.
-use Rattle.std.{specs.{Prelude.{fold, max, flat_map, is_none}, List.{All, AllByRecursion}}, proofs.Common.{append_assoc, Bool, true, false}}
-use Rattle.std.proofs.Common.{cond, None, arith, map, reverse, ◌≡◌, ◌∙◌, refl, sym, ap, subst, ℕ, ◌+◌, ◌-◌, ◌≤◌, ◌<◌, List, [], ◌∷◌, ◌++◌, append-nil}
+use Rattle.std.specs.Prelude.{fold, max, flat_map, is_none}
+use Rattle.std.specs.List.{All, AllByRecursion}
+use Rattle.std.proofs.Common.{append_assoc, Bool, true, false}
+use Rattle.std.proofs.Common.{cond, None, arith, map, reverse, ◌≡◌, ◌∙◌, refl, sym, ap, subst, ℕ, ◌+◌, ◌-◌, ◌≤◌, ◌<◌}
+use Rattle.std.proofs.Common.{List, [], ◌∷◌, ◌++◌, append-nil}
 use Rattle.std.proofs.lemmas.{Bool.leb-false, List.{reverse-append, Elements.{All-weaker, All-from_recursion}}}
 use Rattle.{abc_lines.specs.declared.fault.FaultKind.FaultKind, mus_units.specs.Parts.parts_list}
 use Rattle.abc_faults.specs.Faults.{any_off, fault_if, faults_of, faults_in, grace_faults, is_free, sound_faults}
 use Rattle.abc_words.specs.Verses.{verse_fault, first_verse_fault as head_of}
-use Rattle.abc_steps.specs.{Counts.{further_measures, measure_at, measures_begun}, Places.{state_at, measure_of}, Looks.{Steps, since_event}, Kinds.is_event}
+use Rattle.abc_steps.specs.Counts.{further_measures, measure_at, measures_begun}
+use Rattle.abc_steps.specs.Places.{state_at, measure_of}
+use Rattle.abc_steps.specs.Looks.{Steps, since_event}
+use Rattle.abc_steps.specs.Kinds.{is_event}
 use Rattle.abc_steps.specs.Lengths.{written_length}
-use Rattle.abc_steps.specs.declared.{step.{BodyItem.BodyItem, WrittenSound.WrittenSound, Step.Step, PlacedStep.PlacedStep}, force.InForce.InForce, state.VoiceState.VoiceState}
+use Rattle.abc_steps.specs.declared.step.BodyItem.{BodyItem}
+use Rattle.abc_steps.specs.declared.step.WrittenSound.{WrittenSound}
+use Rattle.abc_steps.specs.declared.step.Step.{Step}
+use Rattle.abc_steps.specs.declared.step.PlacedStep.{PlacedStep}
+use Rattle.abc_steps.specs.declared.force.InForce.{InForce}
+use Rattle.abc_steps.specs.declared.state.VoiceState.{VoiceState}
 use Rattle.abc_score.proofs.Basics.{none_before, none_behind}
-use Rattle.abc_score.specs.{declared.voices.ReadVoice.ReadVoice, Faults.{voice_faults, faults_of_voices}, Score.{most_measures, own_measures}}
+use Rattle.abc_score.specs.declared.voices.ReadVoice.{ReadVoice}
+use Rattle.abc_score.specs.Faults.{voice_faults, faults_of_voices}
+use Rattle.abc_score.specs.Score.{most_measures, own_measures}
 
 -- a test that gives no fault
 pub no_fault : (b : Bool) (kind : FaultKind) (at : PlacedStep) → fault_if b kind at ≡ [] → b ≡ false

@@ -1,5 +1,6 @@
 -- The events of a body, each with the graces before it, whatever tuplets are around them.
-use Rattle.std.proofs.Common.{◌≡◌, ◌∙◌, refl, sym, ap, subst, ℕ, suc, ◌*◌, List, [], ◌∷◌, ◌++◌, map, length, append-nil, append_assoc, IfSome}
+use Rattle.std.proofs.Common.{◌≡◌, ◌∙◌, refl, sym, ap, subst, ℕ, suc, ◌*◌, List, [], ◌∷◌, ◌++◌, map, length, append-nil}
+use Rattle.std.proofs.Common.{append_assoc, IfSome}
 use Rattle.std.proofs.lemmas.List.{map-append, Concat.flat_map-append, Elements.{All-nil, All-cons}}
 use Rattle.std.specs.{Prelude.{⊤, flat_map}, List.{All, AllByRecursion}}
 use Rattle.mus_units.specs.{declared.pitch.Clef.Clef, Good.{IsGoodKey, IsGoodMeter}}

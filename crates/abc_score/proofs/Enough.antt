@@ -1,10 +1,14 @@
 -- Enough faults and weights tell the first fault of all.
 use Rattle.std.proofs.{Common.{true, false, Option, Some}, lemmas.List.Sums.sum_by-append, Math.Logic.⊎_map}
-use Rattle.std.proofs.Common.{None, ⊎_elim, inl, inr, arith, ◌≡◌, ◌∙◌, refl, sym, ap, subst, List, [], ◌∷◌, ◌++◌, append_assoc, append-nil, map, Bool}
-use Rattle.std.proofs.lemmas.List.Elements.{Contains-append_left, Contains-append_right, Contains-append_cases, All-from_recursion, All-contains}
+use Rattle.std.proofs.Common.{None, ⊎_elim, inl, inr, arith, ◌≡◌, ◌∙◌, refl, sym, ap, subst, List, [], ◌∷◌, ◌++◌}
+use Rattle.std.proofs.Common.{append_assoc, append-nil, map, Bool}
+use Rattle.std.proofs.lemmas.List.Elements.{Contains-append_left, Contains-append_right, Contains-append_cases}
+use Rattle.std.proofs.lemmas.List.Elements.{All-from_recursion, All-contains}
 use Rattle.std.specs.{Prelude.{◌<◌, ◌⊎◌}, List.{AllByRecursion, Contains}}
-use Rattle.{abc_lines.specs.declared.fault.Fault.Fault, abc_score.specs.Judged.{HasCrowd, IsWithin, AreEnough, AreJudged}}
-use Rattle.abc_faults.proofs.{Crowds.{IsFaultOf, before_all, crowd_held, fault_of, none_up_to, same_order, weight_held}, Caps.capped_append}
+use Rattle.abc_lines.specs.declared.fault.Fault.{Fault}
+use Rattle.abc_score.specs.Judged.{HasCrowd, IsWithin, AreEnough, AreJudged}
+use Rattle.abc_faults.proofs.Crowds.{IsFaultOf, before_all, crowd_held, fault_of, none_up_to, same_order, weight_held}
+use Rattle.abc_faults.proofs.Caps.{capped_append}
 use Rattle.abc_faults.proofs.Firsts.{first_append, not_before, not_before_itself}
 use Rattle.abc_faults.specs.{First.{earlier, first_of, is_before, IsFirstInOrder}, declared.weights.Weight.Weight}
 use Rattle.abc_faults.specs.Weights.{IsBehind, capped, count_up_to, crowd_fault, crowd_up_to, crowded, stands_before}

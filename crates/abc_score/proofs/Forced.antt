@@ -2,7 +2,8 @@
 use Rattle.std.proofs.Common.{◌≡◌, refl, ℕ, ◌+◌, ◌≤◌, ◌<◌, List, [], ◌∷◌, ◌++◌, Bool, true, false, reverse, arith}
 use Rattle.std.proofs.lemmas.Bool.{Decides.nat_tests, and_parts, or_parts, cond_both, leb-true, ltb-true}
 use Rattle.std.specs.{Prelude.{⊤, ◌==◌, ◌&&◌, nat_le, nat_lt}, List.list_any}
-use Rattle.{mus_score.specs.Walks.RiseWithin, abc_events.specs.Bars.{forced_at, forced_bars, forced_behind, forces_bar, is_near_bar, with_bar}}
+use Rattle.mus_score.specs.Walks.{RiseWithin}
+use Rattle.abc_events.specs.Bars.{forced_at, forced_bars, forced_behind, forces_bar, is_near_bar, with_bar}
 use Rattle.abc_score.{proofs.Basics.either, specs.{declared.voices.ReadVoice.ReadVoice, Score.forced_of}}
 use Rattle.abc_steps.specs.{Counts.{all_further, begins_group, counts_of, measure_at, nearest_at}, Looks.Steps}
 use Rattle.abc_steps.specs.declared.{step.{Step.Step, PlacedStep.PlacedStep}, counts.Counts.Counts}

@@ -1,10 +1,20 @@
 -- The voices of a score: each has all its measures, no two have one id, and the first begins a staff.
-use Rattle.std.proofs.{Common.{◌≡◌, ◌≢◌, ◌∙◌, refl, ℕ, List, [], ◌∷◌, length, map}, lemmas.List.{Elements.All-map, FromFn.length-map-range_with_len}}
+use Rattle.std.proofs.Common.{◌≡◌, ◌≢◌, ◌∙◌, refl, ℕ, List, [], ◌∷◌, length, map}
+use Rattle.std.proofs.lemmas.List.Elements.{All-map}
+use Rattle.std.proofs.lemmas.List.FromFn.{length-map-range_with_len}
 use Rattle.std.specs.List.{All, AllByRecursion}
-use Rattle.{mus_score.specs.{declared.score.Voice.Voice, GoodScore.IsLed, Walks.Distinct}, abc_fields.specs.declared.header.Header.Header}
+use Rattle.mus_score.specs.declared.score.Voice.{Voice}
+use Rattle.mus_score.specs.GoodScore.{IsLed}
+use Rattle.mus_score.specs.Walks.{Distinct}
+use Rattle.abc_fields.specs.declared.header.Header.{Header}
 use Rattle.{abc_steps.specs.declared.step.BodyItem.BodyItem, abc_items.specs.Voices.unnamed_of}
-use Rattle.{abc_signs.specs.Signs.signs, abc_events.specs.{Bars.{bar_of, bars_of}, Leaves.leaves_of, Measures.measure_of_leaves}}
-use Rattle.abc_score.specs.{declared.voices.ReadVoice.ReadVoice, Voices.{AreDistinctIds, IsNoneOfIds, read_ids}, Score.{sung_words, voice_by_header, written_measures}}
+use Rattle.abc_signs.specs.Signs.{signs}
+use Rattle.abc_events.specs.Bars.{bar_of, bars_of}
+use Rattle.abc_events.specs.Leaves.{leaves_of}
+use Rattle.abc_events.specs.Measures.{measure_of_leaves}
+use Rattle.abc_score.specs.declared.voices.ReadVoice.{ReadVoice}
+use Rattle.abc_score.specs.Voices.{AreDistinctIds, IsNoneOfIds, read_ids}
+use Rattle.abc_score.specs.Score.{sung_words, voice_by_header, written_measures}
 
 module _ (header : Header) (items : List BodyItem) (n : ℕ) where
   -- a voice has as many measures as it is given

@@ -1,19 +1,40 @@
 -- In each measure of a voice without faults tuplets are full and events good.
 use Rattle.std.{proofs.lemmas.List.Elements.recursion_from_All, specs.List.AllByRecursion}
-use Rattle.std.proofs.Common.{arith, ◌≡◌, refl, sym, subst, ℕ, zero, suc, ◌+◌, ◌-◌, ◌≤◌, List, [], ◌∷◌, ◌++◌, Bool, true, false, cond, ◌==◌}
-use Rattle.{mus_units.specs.{declared.{note.Deco.Deco, key.Meter.Meter}, Good.IsGoodMeter}, abc_notes.specs.declared.part.GraceChord.GraceChord}
-use Rattle.{mus_score.specs.{declared.score.Music.Music, Good.outside}, abc_music.specs.Good.{AreGoodGraces, HasGraceHead}}
+use Rattle.std.proofs.Common.{arith, ◌≡◌, refl, sym, subst, ℕ, zero, suc, ◌+◌, ◌-◌, ◌≤◌, List, [], ◌∷◌, ◌++◌, Bool}
+use Rattle.std.proofs.Common.{true, false, cond, ◌==◌}
+use Rattle.mus_units.specs.declared.note.Deco.{Deco}
+use Rattle.mus_units.specs.declared.key.Meter.{Meter}
+use Rattle.mus_units.specs.Good.{IsGoodMeter}
+use Rattle.abc_notes.specs.declared.part.GraceChord.{GraceChord}
+use Rattle.mus_score.specs.declared.score.Music.{Music}
+use Rattle.mus_score.specs.Good.{outside}
+use Rattle.abc_music.specs.Good.{AreGoodGraces, HasGraceHead}
 use Rattle.abc_faults.specs.Faults.{ends_tuplets, faults_in, faults_of, is_free, sounds_behind}
-use Rattle.abc_steps.specs.{declared.{step.{Step.Step, PlacedStep.PlacedStep}, force.InForce.InForce, state.VoiceState.VoiceState, tuplets.OpenTuplets.OpenTuplets}, Force.force_at}
-use Rattle.abc_steps.specs.{Counts.{all_further, begins_group, further_measures, groups, measure_at, nearest_at}, Good.{IsGoodForce, IsGoodStep, IsGoodPlacedStep}}
-use Rattle.abc_steps.specs.{Tuplets.{after_event, is_compound, or_default, open_tuplets_at, open_tuplets_after, usual_q}, Places.{state_at, measure_of}}
+use Rattle.abc_steps.specs.declared.step.Step.{Step}
+use Rattle.abc_steps.specs.declared.step.PlacedStep.{PlacedStep}
+use Rattle.abc_steps.specs.declared.force.InForce.{InForce}
+use Rattle.abc_steps.specs.declared.state.VoiceState.{VoiceState}
+use Rattle.abc_steps.specs.declared.tuplets.OpenTuplets.{OpenTuplets}
+use Rattle.abc_steps.specs.Force.{force_at}
+use Rattle.abc_steps.specs.Counts.{all_further, begins_group, further_measures, groups, measure_at, nearest_at}
+use Rattle.abc_steps.specs.Good.{IsGoodForce, IsGoodStep, IsGoodPlacedStep}
+use Rattle.abc_steps.specs.Tuplets.{after_event, is_compound, or_default, open_tuplets_at, open_tuplets_after, usual_q}
+use Rattle.abc_steps.specs.Places.{state_at, measure_of}
 use Rattle.abc_steps.specs.{Looks.{Steps, since_event}, Kinds.is_sound}
-use Rattle.abc_signs.specs.{Signs.{HasDrawableValues, further_rests, parted_at, rest_written, signs, tree_items_of, sound_written}, declared.written.TreeItem.TreeItem}
-use Rattle.{abc_signs.specs.Waits.{graces_in, nothing_pending, pending_of}, abc_events.specs.{Leaves.{Words, leaves_from, words_of_event}, Measures.leaves_in, Leaf.Leaf}}
-use Rattle.abc_score.proofs.{Judging.{IsFew, rest_good, rest_values, sound_good, sound_some}, Nested.{HasSome, IsGoodAt, IsRatio, WellNested}}
-use Rattle.abc_score.proofs.{Basics.{back_all, either, front_all, none_before, none_behind}, Clear.{rest_clear, sound_clear}}
+use Rattle.abc_signs.specs.Signs.{HasDrawableValues, further_rests, parted_at, rest_written, signs, tree_items_of}
+use Rattle.abc_signs.specs.Signs.{sound_written}
+use Rattle.abc_signs.specs.declared.written.TreeItem.{TreeItem}
+use Rattle.abc_signs.specs.Waits.{graces_in, nothing_pending, pending_of}
+use Rattle.abc_events.specs.Leaves.{Words, leaves_from, words_of_event}
+use Rattle.abc_events.specs.Measures.{leaves_in}
+use Rattle.abc_events.specs.Leaf.{Leaf}
+use Rattle.abc_score.proofs.Judging.{IsFew, rest_good, rest_values, sound_good, sound_some}
+use Rattle.abc_score.proofs.Nested.{HasSome, IsGoodAt, IsRatio, WellNested}
+use Rattle.abc_score.proofs.Basics.{back_all, either, front_all, none_before, none_behind}
+use Rattle.abc_score.proofs.Clear.{rest_clear, sound_clear}
 use Rattle.abc_score.proofs.Since.{all_wait, each_at}
-use Rattle.abc_score.proofs.Walks.{Enough, next_enough, none_open, open_with, sound_parts, sounds_on, tuplet_clear, walk_force}
+use Rattle.abc_score.proofs.Walks.{Enough, next_enough, none_open, open_with, sound_parts, sounds_on, tuplet_clear}
+use Rattle.abc_score.proofs.Walks.{walk_force}
 
 -- ---- graces that wait
 step_graces : (s : Step) → IsGoodStep s → AreGoodGraces (graces_in s)

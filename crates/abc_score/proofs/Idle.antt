@@ -1,11 +1,25 @@
 -- A step that alone says nothing leaves all that is told of a voice as it is.
-use Rattle.std.proofs.Common.{◌≡◌, ◌∙◌, ◌<◌, refl, sym, ap, ℕ, ◌+◌, [], ◌∷◌, ◌++◌, length, get_or, reverse, take, drop, true, arith, List}
-use Rattle.abc_steps.specs.{declared.{step.{Step.Step, PlacedStep.PlacedStep}, force.InForce.InForce, state.VoiceState.VoiceState}, Looks.Steps, Places.state_at}
-use Rattle.abc_steps.specs.{Kinds.{is_event, is_bar}, Counts.{begins_group, further_measures}, Force.force_after, Tuplets.open_tuplets_after}
-use Rattle.abc_faults.{specs.{Faults.{faults_in, faults_of}, Weights.{weights_in, weights_of}}, proofs.Walks.{walk_parts, weigh_parts}}
+use Rattle.std.proofs.Common.{◌≡◌, ◌∙◌, ◌<◌, refl, sym, ap, ℕ, ◌+◌, [], ◌∷◌, ◌++◌, length, get_or, reverse, take, drop}
+use Rattle.std.proofs.Common.{true, arith, List}
+use Rattle.abc_steps.specs.declared.step.Step.{Step}
+use Rattle.abc_steps.specs.declared.step.PlacedStep.{PlacedStep}
+use Rattle.abc_steps.specs.declared.force.InForce.{InForce}
+use Rattle.abc_steps.specs.declared.state.VoiceState.{VoiceState}
+use Rattle.abc_steps.specs.Looks.{Steps}
+use Rattle.abc_steps.specs.Places.{state_at}
+use Rattle.abc_steps.specs.Kinds.{is_event, is_bar}
+use Rattle.abc_steps.specs.Counts.{begins_group, further_measures}
+use Rattle.abc_steps.specs.Force.{force_after}
+use Rattle.abc_steps.specs.Tuplets.{open_tuplets_after}
+use Rattle.abc_faults.specs.Faults.{faults_in, faults_of}
+use Rattle.abc_faults.specs.Weights.{weights_in, weights_of}
+use Rattle.abc_faults.proofs.Walks.{walk_parts, weigh_parts}
 use Rattle.abc_signs.specs.Signs.{tree_items_of}
 use Rattle.abc_lines.specs.declared.fault.Fault.{Fault}
-use Rattle.{std.specs.Prelude.Option, abc_faults.specs.declared.weights.Weight.Weight, abc_score.{specs.Judged.is_idle, proofs.Stops.IsAt}}
+use Rattle.std.specs.Prelude.{Option}
+use Rattle.abc_faults.specs.declared.weights.Weight.{Weight}
+use Rattle.abc_score.specs.Judged.{is_idle}
+use Rattle.abc_score.proofs.Stops.{IsAt}
 
 pub record IsIdleAt (first : InForce) (before : Steps) (at : PlacedStep) (behind : Steps) : Type 0 where
   pub faults : faults_of (state_at first before) before at behind at.step ≡ []

@@ -1,8 +1,17 @@
 -- The voices of a body: no two have one id, and at most 16 are mentioned.
-use Rattle.std.{specs.{Prelude.{◌≢◌, count_by, fold, nat_lt}, List.list_any, Str.bytes_eq}, proofs.lemmas.Slice.Eq.bytes_eq-Decides}
-use Rattle.std.proofs.Common.{◌≡◌, refl, sym, ap, subst, ℕ, ◌+◌, ◌≤◌, List, [], ◌∷◌, ◌++◌, length, map, Bool, true, false, cond, None, ⊎_elim, arith}
-use Rattle.std.proofs.lemmas.{Bool.{cases_Bool, cond_both, Decides.{nat_tests, not_from_Decides}, or_parts}, List.{Sums.sum_by-cons, length-map}}
-use Rattle.{abc_lines.specs.declared.book.Line.Line, abc_field.specs.declared.voice.VoiceDef.VoiceDef, abc_steps.specs.declared.step.BodyItem.BodyItem}
+use Rattle.std.specs.Prelude.{◌≢◌, count_by, fold, nat_lt}
+use Rattle.std.specs.List.{list_any}
+use Rattle.std.specs.Str.{bytes_eq}
+use Rattle.std.proofs.lemmas.Slice.Eq.{bytes_eq-Decides}
+use Rattle.std.proofs.Common.{◌≡◌, refl, sym, ap, subst, ℕ, ◌+◌, ◌≤◌, List, [], ◌∷◌, ◌++◌, length, map, Bool, true}
+use Rattle.std.proofs.Common.{false, cond, None, ⊎_elim, arith}
+use Rattle.std.proofs.lemmas.Bool.{cases_Bool, cond_both, or_parts}
+use Rattle.std.proofs.lemmas.Bool.Decides.{nat_tests, not_from_Decides}
+use Rattle.std.proofs.lemmas.List.Sums.{sum_by-cons}
+use Rattle.std.proofs.lemmas.List.{length-map}
+use Rattle.abc_lines.specs.declared.book.Line.{Line}
+use Rattle.abc_field.specs.declared.voice.VoiceDef.{VoiceDef}
+use Rattle.abc_steps.specs.declared.step.BodyItem.{BodyItem}
 use Rattle.abc_fields.specs.{declared.header.Header.Header, Headers.{AreDistinct, HasGoodValues}, Voicing.with_id}
 use Rattle.abc_score.specs.Voices.{AreDistinctIds, IsNoneOfIds, read_ids, voice_read, voices_read}
 use Rattle.abc_items.specs.Body.{ItemOrFault, gives, fails, first_item_fault, items_in, judged_items, IsBody}

@@ -1,17 +1,36 @@
 -- The nodes of a written event are good: of a note, a chord or a rest wherever it stands, and of a whole measure rest outside tuplets.
-use Rattle.std.{proofs.Common.{◌≤◌, List, ◌∷◌, map, length, Bool, true, false, cond, ◌&&◌, ◌==◌, nat_le}, specs.List.AllByRecursion}
-use Rattle.std.proofs.Common.{None, unwrap_or, IsTrue, div-le_self, le_trans, mul-le-mul_right, lit≤, arith, ◌≡◌, ◌∙◌, refl, ap, ℕ, suc, ◌+◌, ◌*◌, []}
+use Rattle.std.proofs.Common.{◌≤◌, List, ◌∷◌, map, length, Bool, true, false, cond, ◌&&◌, ◌==◌, nat_le}
+use Rattle.std.specs.List.{AllByRecursion}
+use Rattle.std.proofs.Common.{None, unwrap_or, IsTrue, div-le_self, le_trans, mul-le-mul_right, lit≤, arith, ◌≡◌, ◌∙◌}
+use Rattle.std.proofs.Common.{refl, ap, ℕ, suc, ◌+◌, ◌*◌, []}
 use Rattle.std.proofs.lemmas.{Bool.{Decides.nat_tests, and_from, or_left}, Nat.le-div}
-use Rattle.{abc_notes.specs.declared.part.GraceChord.GraceChord, abc_music.specs.Good.{AreGoodGraces, HasGraceHead}, abc_faults.specs.Faults.is_free}
-use Rattle.abc_steps.specs.{declared.{step.PlacedStep.PlacedStep, tuplets.OpenTuplets.OpenTuplets, state.VoiceState.VoiceState as Stand}, Force.meter_ticks}
-use Rattle.abc_score.proofs.{Rows.{at_note, at_rest, at_grace}, Nested.{IsGoodAt, HasSome, place_of, good_append, some_behind}, Singing.parts_some}
-use Rattle.mus_units.specs.{declared.{note.Head.Head, key.Meter.Meter, value.{Value.Value, TheConstants.WHOLE}}, Good.{IsGoodMeter, is_halving}}
+use Rattle.abc_notes.specs.declared.part.GraceChord.{GraceChord}
+use Rattle.abc_music.specs.Good.{AreGoodGraces, HasGraceHead}
+use Rattle.abc_faults.specs.Faults.{is_free}
+use Rattle.abc_steps.specs.declared.step.PlacedStep.{PlacedStep}
+use Rattle.abc_steps.specs.declared.tuplets.OpenTuplets.{OpenTuplets}
+use Rattle.abc_steps.specs.declared.state.VoiceState.{VoiceState as Stand}
+use Rattle.abc_steps.specs.Force.{meter_ticks}
+use Rattle.abc_score.proofs.Rows.{at_note, at_rest, at_grace}
+use Rattle.abc_score.proofs.Nested.{IsGoodAt, HasSome, place_of, good_append, some_behind}
+use Rattle.abc_score.proofs.Singing.{parts_some}
+use Rattle.mus_units.specs.declared.note.Head.{Head}
+use Rattle.mus_units.specs.declared.key.Meter.{Meter}
+use Rattle.mus_units.specs.declared.value.Value.{Value}
+use Rattle.mus_units.specs.declared.value.TheConstants.{WHOLE}
+use Rattle.mus_units.specs.Good.{IsGoodMeter, is_halving}
 use Rattle.mus_units.specs.Value.{value_length}
 use Rattle.mus_score.proofs.Bounds.{value_low, value_high}
-use Rattle.mus_score.specs.{declared.{score.Event.Event, good.{NodeVerdict.NodeVerdict, NodeContext.NodeContext}}, Good.{good_step, judged_within, outside}}
-use Rattle.abc_signs.specs.{declared.written.{WrittenEvent.WrittenEvent, Pending.Pending}, Signs.{rest_written, whole_value}}
+use Rattle.mus_score.specs.declared.score.Event.{Event}
+use Rattle.mus_score.specs.declared.good.NodeVerdict.{NodeVerdict}
+use Rattle.mus_score.specs.declared.good.NodeContext.{NodeContext}
+use Rattle.mus_score.specs.Good.{good_step, judged_within, outside}
+use Rattle.abc_signs.specs.declared.written.WrittenEvent.{WrittenEvent}
+use Rattle.abc_signs.specs.declared.written.Pending.{Pending}
+use Rattle.abc_signs.specs.Signs.{rest_written, whole_value}
 use Rattle.abc_events.specs.Leaves.{grace_event, grace_note}
-use Rattle.abc_events.specs.Leaves.{grace_nodes, nodes_of, Words, eighth, first_part, later_part, later_parts, parts, node_of, note_or_rest}
+use Rattle.abc_events.specs.Leaves.{grace_nodes, nodes_of, Words, eighth, first_part, later_part, later_parts, parts}
+use Rattle.abc_events.specs.Leaves.{node_of, note_or_rest}
 
 -- ---- events
 pub record IsPlayed (e : Event) : Type 0 where

@@ -1,12 +1,20 @@
 -- The words of a body stand on its lines in their order, so their lines rise.
 use Rattle.std.{specs.Prelude.{⊤, flat_map, Result, Ok, Err}, proofs.Common.{Some, None}}
-use Rattle.std.proofs.Common.{drop, arith, ◌≡◌, ◌∙◌, refl, sym, ap, subst, ℕ, zero, suc, ◌≤◌, ◌<◌, List, [], ◌∷◌, ◌++◌, Bool, true, false, Option}
-use Rattle.{abc_pieces.specs.declared.token.Token.Token, abc_music.specs.declared.token.Placed.Placed, abc_steps.specs.declared.step.BodyItem.BodyItem}
+use Rattle.std.proofs.Common.{drop, arith, ◌≡◌, ◌∙◌, refl, sym, ap, subst, ℕ, zero, suc, ◌≤◌, ◌<◌, List, [], ◌∷◌, ◌++◌}
+use Rattle.std.proofs.Common.{Bool, true, false, Option}
+use Rattle.abc_pieces.specs.declared.token.Token.{Token}
+use Rattle.abc_music.specs.declared.token.Placed.{Placed}
+use Rattle.abc_steps.specs.declared.step.BodyItem.{BodyItem}
 use Rattle.abc_field.specs.{declared.{directive.Breaks.Breaks, field.Field.Field}, Fields.{field_of, named_field}}
 use Rattle.{abc_fields.specs.declared.header.Header.Header, abc_score.specs.Order.{DoWordsRiseFrom, DoWordsRise}}
-use Rattle.abc_lines.specs.{declared.{book.Line.Line, fault.{Fault.Fault, FaultKind.FaultKind}, kind.LineKind.LineKind}, Good.NumbersRise}
+use Rattle.abc_lines.specs.declared.book.Line.{Line}
+use Rattle.abc_lines.specs.declared.fault.Fault.{Fault}
+use Rattle.abc_lines.specs.declared.fault.FaultKind.{FaultKind}
+use Rattle.abc_lines.specs.declared.kind.LineKind.{LineKind}
+use Rattle.abc_lines.specs.Good.{NumbersRise}
 use Rattle.abc_lines.specs.Kinds.{kind_of}
-use Rattle.abc_items.specs.Body.{ItemOrFault, gives, fails, field_item, item_of_field, cut_given, is_on, item_of_token, placed_given, item_of_line_end, KindGives}
+use Rattle.abc_items.specs.Body.{ItemOrFault, gives, fails, field_item, item_of_field, cut_given, is_on, item_of_token}
+use Rattle.abc_items.specs.Body.{placed_given, item_of_line_end, KindGives}
 use Rattle.abc_items.specs.Body.{BodyGives, no_lines, one_line, items_in, IsBody}
 
 -- words that are given on a line

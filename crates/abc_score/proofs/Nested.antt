@@ -1,8 +1,17 @@
 -- The tree of a measure is good where its tuplets are full and its events good.
-use Rattle.std.{proofs.{lemmas.Bool.{and_parts, and_from, or_left, or_right, Decides.nat_tests}, Common.{false, cond, ◌&&◌}}, specs.Prelude.⊤}
-use Rattle.std.proofs.Common.{◌||◌, nat_le, arith, ◌≡◌, ◌∙◌, refl, sym, ap, subst, ℕ, zero, suc, ◌+◌, ◌-◌, ◌≤◌, List, [], ◌∷◌, ◌++◌, map, Bool, true}
-use Rattle.mus_score.specs.{declared.{score.Music.Music, good.{NodeVerdict.NodeVerdict, NodeContext.NodeContext}}, Good.{all_judged, good_step, judged_within, outside}}
-use Rattle.{abc_steps.specs.{declared.tuplets.OpenTuplets.OpenTuplets, Tuplets.{fits, one_less, after_event, with_tuplet_opened}}, abc_score.proofs.Rows.at_tuplet}
+use Rattle.std.proofs.lemmas.Bool.{and_parts, and_from, or_left, or_right}
+use Rattle.std.proofs.lemmas.Bool.Decides.{nat_tests}
+use Rattle.std.proofs.Common.{false, cond, ◌&&◌}
+use Rattle.std.specs.Prelude.{⊤}
+use Rattle.std.proofs.Common.{◌||◌, nat_le, arith, ◌≡◌, ◌∙◌, refl, sym, ap, subst, ℕ, zero, suc, ◌+◌, ◌-◌, ◌≤◌, List}
+use Rattle.std.proofs.Common.{[], ◌∷◌, ◌++◌, map, Bool, true}
+use Rattle.mus_score.specs.declared.score.Music.{Music}
+use Rattle.mus_score.specs.declared.good.NodeVerdict.{NodeVerdict}
+use Rattle.mus_score.specs.declared.good.NodeContext.{NodeContext}
+use Rattle.mus_score.specs.Good.{all_judged, good_step, judged_within, outside}
+use Rattle.abc_steps.specs.declared.tuplets.OpenTuplets.{OpenTuplets}
+use Rattle.abc_steps.specs.Tuplets.{fits, one_less, after_event, with_tuplet_opened}
+use Rattle.abc_score.proofs.Rows.{at_tuplet}
 use Rattle.abc_events.specs.{Leaf.Leaf, Nesting.{Forest, none_more, one, group, cut, nest, music_of, tree_of}}
 use Rattle.mus_score.specs.declared.score.Music.TheVariants as music
 

@@ -1,12 +1,24 @@
 -- The parts of a written event as a good voice asks for them: numbered, within reach, with words and good changes.
-use Rattle.std.proofs.Common.{◌≡◌, refl, sym, subst, ℕ, suc, ◌+◌, ◌≤◌, ◌<◌, List, [], ◌∷◌, ◌++◌, map, length, None, IfSome, unwrap_or, arith}
+use Rattle.std.proofs.Common.{◌≡◌, refl, sym, subst, ℕ, suc, ◌+◌, ◌≤◌, ◌<◌, List, [], ◌∷◌, ◌++◌, map, length, None}
+use Rattle.std.proofs.Common.{IfSome, unwrap_or, arith}
 use Rattle.std.proofs.lemmas.List.{length-replicate, Elements.{All-nil, All-cons, All-from_recursion}}
 use Rattle.std.specs.{Prelude.{⊤, flat_map}, List.{All, AllByRecursion}}
-use Rattle.mus_units.specs.{declared.{note.Head.Head, pitch.Clef.Clef, value.Value.Value}, Good.{IsGoodKey, IsGoodMeter}}
-use Rattle.{mus_score.specs.{declared.score.Event.Event, GoodScore.IsInReach}, abc_notes.specs.declared.part.GraceChord.GraceChord}
-use Rattle.abc_signs.specs.{declared.written.{WrittenEvent.WrittenEvent, Pending.Pending, TreeItem.TreeItem}, Signs.with_tie}
-use Rattle.abc_events.specs.Leaves.{Words, first_part, later_part, later_parts, parts, some_more, later_head, grace_event, leaves_from, words_of_event}
-use Rattle.abc_score.{proofs.{Cores.{Core, CoresCount, CoresReach, IsGoodCore, IsSung, Reaches, sung}, Rows.leaf_rows}, specs.Score.event_count}
+use Rattle.mus_units.specs.declared.note.Head.{Head}
+use Rattle.mus_units.specs.declared.pitch.Clef.{Clef}
+use Rattle.mus_units.specs.declared.value.Value.{Value}
+use Rattle.mus_units.specs.Good.{IsGoodKey, IsGoodMeter}
+use Rattle.mus_score.specs.declared.score.Event.{Event}
+use Rattle.mus_score.specs.GoodScore.{IsInReach}
+use Rattle.abc_notes.specs.declared.part.GraceChord.{GraceChord}
+use Rattle.abc_signs.specs.declared.written.WrittenEvent.{WrittenEvent}
+use Rattle.abc_signs.specs.declared.written.Pending.{Pending}
+use Rattle.abc_signs.specs.declared.written.TreeItem.{TreeItem}
+use Rattle.abc_signs.specs.Signs.{with_tie}
+use Rattle.abc_events.specs.Leaves.{Words, first_part, later_part, later_parts, parts, some_more, later_head}
+use Rattle.abc_events.specs.Leaves.{grace_event, leaves_from, words_of_event}
+use Rattle.abc_score.proofs.Cores.{Core, CoresCount, CoresReach, IsGoodCore, IsSung, Reaches, sung}
+use Rattle.abc_score.proofs.Rows.{leaf_rows}
+use Rattle.abc_score.specs.Score.{event_count}
 use Rattle.abc_score.proofs.Singing.{plain, with_graces, grace_of, nodes_sung, nodes_are_sung}
 
 -- ---- numbers

@@ -1,15 +1,29 @@
 -- Heads and graces of a voice without faults are within reach, in the clef at their event.
-use Rattle.std.{proofs.lemmas.{Int.ints, List.Folds.list_any-append, Bool.or_parts}, specs.{Prelude.flat_map, List.{AllByRecursion, list_any}}}
-use Rattle.std.proofs.Common.{◌≡◌, ◌∙◌, refl, sym, ap, subst, ℕ, zero, suc, ◌+◌, ◌-◌, ℤ, pos, negsuc, ◌≤ℤ◌, int_lt, List, [], ◌∷◌, ◌++◌, Bool, true}
+use Rattle.std.proofs.lemmas.Int.{ints}
+use Rattle.std.proofs.lemmas.List.Folds.{list_any-append}
+use Rattle.std.proofs.lemmas.Bool.{or_parts}
+use Rattle.std.specs.Prelude.{flat_map}
+use Rattle.std.specs.List.{AllByRecursion, list_any}
+use Rattle.std.proofs.Common.{◌≡◌, ◌∙◌, refl, sym, ap, subst, ℕ, zero, suc, ◌+◌, ◌-◌, ℤ, pos, negsuc, ◌≤ℤ◌, int_lt}
+use Rattle.std.proofs.Common.{List, [], ◌∷◌, ◌++◌, Bool, true}
 use Rattle.std.proofs.Common.{false, cond, ◌||◌, Option, Some, None, is_some, unwrap_or, arith}
 use Rattle.mus_units.specs.{declared.{note.{Head.Head, Deco.Deco}, pitch.Clef.Clef}, Pitch.height_of}
 use Rattle.abc_notes.specs.declared.part.GraceChord.{GraceChord}
 use Rattle.abc_faults.specs.Faults.{any_grace_off, any_off, faults_in, faults_of, grace_faults, grace_faults_of, is_off}
-use Rattle.abc_steps.specs.{declared.{step.{Step.Step, PlacedStep.PlacedStep}, force.InForce.InForce, state.VoiceState.VoiceState}, Looks.{Steps, is_sound_tied, since_event}}
-use Rattle.abc_steps.specs.{Force.{changes_at, force_at, force_after, names_clef, some_if}, Places.{state_at, measure_of}, Kinds.is_event}
-use Rattle.abc_signs.specs.{Signs.{further_rests, rest_written, signs, tree_items_of, sound_written, tied_heads, with_tie}, Waits.{graces_in, pending_of}}
+use Rattle.abc_steps.specs.declared.step.Step.{Step}
+use Rattle.abc_steps.specs.declared.step.PlacedStep.{PlacedStep}
+use Rattle.abc_steps.specs.declared.force.InForce.{InForce}
+use Rattle.abc_steps.specs.declared.state.VoiceState.{VoiceState}
+use Rattle.abc_steps.specs.Looks.{Steps, is_sound_tied, since_event}
+use Rattle.abc_steps.specs.Force.{changes_at, force_at, force_after, names_clef, some_if}
+use Rattle.abc_steps.specs.Places.{state_at, measure_of}
+use Rattle.abc_steps.specs.Kinds.{is_event}
+use Rattle.abc_signs.specs.Signs.{further_rests, rest_written, signs, tree_items_of, sound_written, tied_heads}
+use Rattle.abc_signs.specs.Signs.{with_tie}
+use Rattle.abc_signs.specs.Waits.{graces_in, pending_of}
 use Rattle.abc_signs.specs.declared.written.TreeItem.{TreeItem}
-use Rattle.abc_score.proofs.{Basics.{all_both, with_tuplet, none_before, none_behind}, Clear.{no_fault, rest_clear, sound_clear}}
+use Rattle.abc_score.proofs.Basics.{all_both, with_tuplet, none_before, none_behind}
+use Rattle.abc_score.proofs.Clear.{no_fault, rest_clear, sound_clear}
 use Rattle.abc_score.proofs.{Parts.{SignsReach, heads_reach, DoReach}, Since.{since_none, since_on}}
 
 -- ---- heads and graces

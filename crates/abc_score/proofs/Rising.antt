@@ -1,9 +1,18 @@
 -- No event of a voice stands in an earlier measure than one before it, and none past its own measures.
 use Rattle.std.{proofs.Common.{true, false, cond, reverse}, specs.{Prelude.fold, List.AllByRecursion}}
-use Rattle.std.proofs.Common.{max, append-nil, arith, ◌≡◌, refl, sym, ap, subst, ℕ, zero, suc, ◌+◌, ◌-◌, ◌≤◌, ◌<◌, List, [], ◌∷◌, ◌++◌, map, Bool}
-use Rattle.abc_steps.specs.{Counts.{all_further, begins_group, further_measures, groups, measure_at, measures_begun, nearest_at}, Places.state_at, Looks.Steps}
-use Rattle.abc_steps.specs.{declared.{step.{Step.Step, PlacedStep.PlacedStep}, force.InForce.InForce, state.VoiceState.VoiceState}, Kinds.is_event}
-use Rattle.{abc_signs.specs.Signs.{further_rests, rest_written, signs, tree_items_of, sound_written}, abc_events.specs.Leaves.{Words, leaves_from}}
+use Rattle.std.proofs.Common.{max, append-nil, arith, ◌≡◌, refl, sym, ap, subst, ℕ, zero, suc, ◌+◌, ◌-◌, ◌≤◌, ◌<◌, List}
+use Rattle.std.proofs.Common.{[], ◌∷◌, ◌++◌, map, Bool}
+use Rattle.abc_steps.specs.Counts.{all_further, begins_group, further_measures, groups, measure_at, measures_begun}
+use Rattle.abc_steps.specs.Counts.{nearest_at}
+use Rattle.abc_steps.specs.Places.{state_at}
+use Rattle.abc_steps.specs.Looks.{Steps}
+use Rattle.abc_steps.specs.declared.step.Step.{Step}
+use Rattle.abc_steps.specs.declared.step.PlacedStep.{PlacedStep}
+use Rattle.abc_steps.specs.declared.force.InForce.{InForce}
+use Rattle.abc_steps.specs.declared.state.VoiceState.{VoiceState}
+use Rattle.abc_steps.specs.Kinds.{is_event}
+use Rattle.abc_signs.specs.Signs.{further_rests, rest_written, signs, tree_items_of, sound_written}
+use Rattle.abc_events.specs.Leaves.{Words, leaves_from}
 use Rattle.abc_signs.specs.declared.written.TreeItem.{TreeItem}
 use Rattle.abc_score.proofs.{Basics.{either, with_tuplet}, Clear.turned, Segments.{Rise, rise_lower}}
 use Rattle.abc_score.specs.{declared.voices.ReadVoice.ReadVoice, Score.{most_measures, own_measures}}

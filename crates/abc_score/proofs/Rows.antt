@@ -1,9 +1,14 @@
 -- The events of a tree in a row: tuplets around them change neither what they are nor what they weigh.
-use Rattle.std.proofs.Common.{◌≡◌, ◌∙◌, refl, sym, ap, ℕ, zero, suc, ◌+◌, ◌-◌, List, [], ◌∷◌, ◌++◌, map, sum, sum_by, Bool, append_assoc, arith}
+use Rattle.std.proofs.Common.{◌≡◌, ◌∙◌, refl, sym, ap, ℕ, zero, suc, ◌+◌, ◌-◌, List, [], ◌∷◌, ◌++◌, map, sum, sum_by}
+use Rattle.std.proofs.Common.{Bool, append_assoc, arith}
 use Rattle.std.proofs.lemmas.List.{map-append, Sums.{sum_by-cons, sum_by-append}}
 use Rattle.abc_events.specs.{Leaf.Leaf, Nesting.{Forest, none_more, one, group, cut, nest, music_of}}
 use Rattle.mus_score.specs.Good.{weight, weight_step}
-use Rattle.mus_score.specs.declared.score.{Event.Event, Music.{Music, TheOpen.Music-F, TheViews.roll-Music, TheFolds.{fold-Music, fold-roll-Music}}}
+use Rattle.mus_score.specs.declared.score.Event.{Event}
+use Rattle.mus_score.specs.declared.score.Music.{Music}
+use Rattle.mus_score.specs.declared.score.Music.TheOpen.{Music-F}
+use Rattle.mus_score.specs.declared.score.Music.TheViews.{roll-Music}
+use Rattle.mus_score.specs.declared.score.Music.TheFolds.{fold-Music, fold-roll-Music}
 use Rattle.mus_score.specs.declared.score.Music.TheVariants as music
 
 -- the nodes of each event, from the first to the last

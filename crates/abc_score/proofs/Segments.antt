@@ -1,11 +1,23 @@
 -- The measures of a voice one after the other are the voice, where no event stands in an earlier measure than one before it.
 use Rattle.std.proofs.{lemmas.Bool.{cases_lt, ne_eqb, eq-eqb}, Common.{length, true, false}}
-use Rattle.std.proofs.Common.{cond, arith, ⊎_elim, ◌≡◌, ◌∙◌, refl, sym, ap, subst, ℕ, zero, suc, ◌+◌, ◌≤◌, ◌<◌, List, [], ◌∷◌, ◌++◌, map, sum_by}
-use Rattle.std.proofs.lemmas.List.{map-append, Concat.flat_map-append, Folds.flat_map-map, Sums.{sum_by-cons, sum_by-append}}
+use Rattle.std.proofs.Common.{cond, arith, ⊎_elim, ◌≡◌, ◌∙◌, refl, sym, ap, subst, ℕ, zero, suc, ◌+◌, ◌≤◌, ◌<◌, List}
+use Rattle.std.proofs.Common.{[], ◌∷◌, ◌++◌, map, sum_by}
+use Rattle.std.proofs.lemmas.List.{map-append}
+use Rattle.std.proofs.lemmas.List.Concat.{flat_map-append}
+use Rattle.std.proofs.lemmas.List.Folds.{flat_map-map}
+use Rattle.std.proofs.lemmas.List.Sums.{sum_by-cons, sum_by-append}
 use Rattle.std.specs.{Prelude.{⊤, flat_map, ◌==◌}, List.{AllByRecursion, range_with_len}}
-use Rattle.{mus_units.specs.declared.note.Bar.Bar, abc_events.specs.{Leaf.Leaf, Measures.{leaves_in, measure_of_leaves, measures_in}}}
-use Rattle.mus_score.specs.{declared.score.{Flat.Flat, Music.Music, Measure.Measure}, GoodScore.events_of, Times.flats_of}
-use Rattle.abc_score.proofs.{Basics.either, Rows.{leaf_rows, weight_of, tree_weight}, Cores.{core, IsSung, sung, tree_sings}}
+use Rattle.mus_units.specs.declared.note.Bar.{Bar}
+use Rattle.abc_events.specs.Leaf.{Leaf}
+use Rattle.abc_events.specs.Measures.{leaves_in, measure_of_leaves, measures_in}
+use Rattle.mus_score.specs.declared.score.Flat.{Flat}
+use Rattle.mus_score.specs.declared.score.Music.{Music}
+use Rattle.mus_score.specs.declared.score.Measure.{Measure}
+use Rattle.mus_score.specs.GoodScore.{events_of}
+use Rattle.mus_score.specs.Times.{flats_of}
+use Rattle.abc_score.proofs.Basics.{either}
+use Rattle.abc_score.proofs.Rows.{leaf_rows, weight_of, tree_weight}
+use Rattle.abc_score.proofs.Cores.{core, IsSung, sung, tree_sings}
 
 -- events that stand in no earlier measure than one before them, from a measure on, and before another
 abbrev pub Rise : ℕ → ℕ → List Leaf → Type 0

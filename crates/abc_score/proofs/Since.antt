@@ -1,7 +1,13 @@
 -- What waits since an event: the steps behind the last one.
-use Rattle.std.{specs.{Prelude.flat_map, List.{AllByRecursion, before_first}}, proofs.lemmas.List.{reverse-append, Sums.take_while-cons}}
+use Rattle.std.specs.Prelude.{flat_map}
+use Rattle.std.specs.List.{AllByRecursion, before_first}
+use Rattle.std.proofs.lemmas.List.{reverse-append}
+use Rattle.std.proofs.lemmas.List.Sums.{take_while-cons}
 use Rattle.std.proofs.Common.{◌≡◌, ◌∙◌, refl, ap, List, [], ◌∷◌, ◌++◌, reverse, not, Bool, true, false, cond}
-use Rattle.{abc_steps.specs.{declared.step.PlacedStep.PlacedStep, Kinds.is_event, Looks.{Steps, since_event}}, abc_score.proofs.Basics.{all_both, either}}
+use Rattle.abc_steps.specs.declared.step.PlacedStep.{PlacedStep}
+use Rattle.abc_steps.specs.Kinds.{is_event}
+use Rattle.abc_steps.specs.Looks.{Steps, since_event}
+use Rattle.abc_score.proofs.Basics.{all_both, either}
 
 pub since_none : since_event [] ≡ []
 unfolding since_event

@@ -1,11 +1,19 @@
 -- The nodes of a written event: its parts, the first with its graces, and what they weigh.
-use Rattle.std.proofs.Common.{◌≡◌, ◌∙◌, refl, sym, ap, subst, ℕ, suc, ◌+◌, ◌*◌, ◌≤◌, max, List, [], ◌∷◌, ◌++◌, map, sum_by, length, Bool, arith}
+use Rattle.std.proofs.Common.{◌≡◌, ◌∙◌, refl, sym, ap, subst, ℕ, suc, ◌+◌, ◌*◌, ◌≤◌, max, List, [], ◌∷◌, ◌++◌, map}
+use Rattle.std.proofs.Common.{sum_by, length, Bool, arith}
 use Rattle.std.proofs.lemmas.List.{length-map, Sums.sum_by-cons}
-use Rattle.{mus_units.specs.declared.{note.Head.Head, value.Value.Value}, abc_notes.specs.declared.part.GraceChord.GraceChord}
-use Rattle.mus_score.specs.{Times.{Leafing, in_row, leaf, leaves_step, leaves_within, no_pending_leaf}, declared.score.{Event.Event, Music.TheOpen.Music-F}}
+use Rattle.mus_units.specs.declared.note.Head.{Head}
+use Rattle.mus_units.specs.declared.value.Value.{Value}
+use Rattle.abc_notes.specs.declared.part.GraceChord.{GraceChord}
+use Rattle.mus_score.specs.Times.{Leafing, in_row, leaf, leaves_step, leaves_within, no_pending_leaf}
+use Rattle.mus_score.specs.declared.score.Event.{Event}
+use Rattle.mus_score.specs.declared.score.Music.TheOpen.{Music-F}
 use Rattle.mus_score.specs.Good.{weight, weight_step}
-use Rattle.{abc_signs.specs.declared.written.{WrittenEvent.WrittenEvent, Pending.Pending}, abc_events.specs.Leaves.{grace_event, grace_note}}
-use Rattle.abc_events.specs.Leaves.{grace_nodes, nodes_of, Words, first_part, later_part, later_parts, parts, some_more, node_of, note_or_rest}
+use Rattle.abc_signs.specs.declared.written.WrittenEvent.{WrittenEvent}
+use Rattle.abc_signs.specs.declared.written.Pending.{Pending}
+use Rattle.abc_events.specs.Leaves.{grace_event, grace_note}
+use Rattle.abc_events.specs.Leaves.{grace_nodes, nodes_of, Words, first_part, later_part, later_parts, parts, some_more}
+use Rattle.abc_events.specs.Leaves.{node_of, note_or_rest}
 use Rattle.abc_score.proofs.Cores.{Core, core, Sings, sings_none, sings_append, sung, IsSung}
 use Rattle.abc_score.proofs.Rows.{weight_of, weight_of-append, weight_of-cons, at_note, at_rest, at_grace}
 use Rattle.mus_score.specs.declared.score.Music.TheVariants as music

@@ -1,15 +1,31 @@
 -- Behind an event with which there are too many heads and rests no fault comes first.
-use Rattle.std.{proofs.Common.{append_assoc, append-nil, take, reverse, get_or, map}, specs.{Prelude.◌<◌, List.{AllByRecursion, Contains, list_all}}}
-use Rattle.std.proofs.{lemmas.{Bool.{and_parts, Decides.nat_tests}, List.Elements.Contains-append_right}, Math.Seq.drop-append_seam}
-use Rattle.std.proofs.Common.{length, min, Bool, true, false, Option, None, arith, ◌≡◌, ◌∙◌, refl, sym, ap, subst, ℕ, ◌+◌, List, [], ◌∷◌, ◌++◌, drop}
+use Rattle.std.proofs.Common.{append_assoc, append-nil, take, reverse, get_or, map}
+use Rattle.std.specs.Prelude.{◌<◌}
+use Rattle.std.specs.List.{AllByRecursion, Contains, list_all}
+use Rattle.std.proofs.lemmas.Bool.{and_parts}
+use Rattle.std.proofs.lemmas.Bool.Decides.{nat_tests}
+use Rattle.std.proofs.lemmas.List.Elements.{Contains-append_right}
+use Rattle.std.proofs.Math.Seq.{drop-append_seam}
+use Rattle.std.proofs.Common.{length, min, Bool, true, false, Option, None, arith, ◌≡◌, ◌∙◌, refl, sym, ap, subst, ℕ}
+use Rattle.std.proofs.Common.{◌+◌, List, [], ◌∷◌, ◌++◌, drop}
 use Rattle.{abc_lines.specs.declared.fault.{Fault.Fault, FaultKind.FaultKind}, mus_units.specs.declared.pitch.Clef.Clef}
-use Rattle.abc_steps.specs.{declared.{step.{Step.Step, PlacedStep.PlacedStep}, force.InForce.InForce, state.VoiceState.VoiceState}, Looks.{Steps, since_event}}
+use Rattle.abc_steps.specs.declared.step.Step.{Step}
+use Rattle.abc_steps.specs.declared.step.PlacedStep.{PlacedStep}
+use Rattle.abc_steps.specs.declared.force.InForce.{InForce}
+use Rattle.abc_steps.specs.declared.state.VoiceState.{VoiceState}
+use Rattle.abc_steps.specs.Looks.{Steps, since_event}
 use Rattle.abc_steps.specs.{Tuplets.{fits, or_default}, Places.state_at, Kinds.is_event}
 use Rattle.abc_faults.proofs.{Caps.{capped_append, crowd_capped}, Firsts.first_append, Walks.at_front}
-use Rattle.abc_faults.specs.{First.{earlier, first_of, is_before}, declared.weights.Weight.Weight, Weights.stands_before}
-use Rattle.abc_faults.specs.Faults.{step_fault, fault_if, misfit_of, grace_faults_of, grace_faults, sound_faults, faults_of, faults_in}
-use Rattle.abc_faults.specs.Weights.{weights_in, weights_of, IsBehind, capped, crowd_fault, crowd_up_to, grace_weights_of, grace_weights, weight_at}
-use Rattle.abc_score.proofs.{Basics.{all_both, either}, Enough.{all_enough, enough_behind}, Since.{each_at, more_wait, none_wait}}
+use Rattle.abc_faults.specs.First.{earlier, first_of, is_before}
+use Rattle.abc_faults.specs.declared.weights.Weight.{Weight}
+use Rattle.abc_faults.specs.Weights.{stands_before}
+use Rattle.abc_faults.specs.Faults.{step_fault, fault_if, misfit_of, grace_faults_of, grace_faults, sound_faults}
+use Rattle.abc_faults.specs.Faults.{faults_of, faults_in}
+use Rattle.abc_faults.specs.Weights.{weights_in, weights_of, IsBehind, capped, crowd_fault, crowd_up_to}
+use Rattle.abc_faults.specs.Weights.{grace_weights_of, grace_weights, weight_at}
+use Rattle.abc_score.proofs.Basics.{all_both, either}
+use Rattle.abc_score.proofs.Enough.{all_enough, enough_behind}
+use Rattle.abc_score.proofs.Since.{each_at, more_wait, none_wait}
 use Rattle.abc_score.specs.Judged.{AreEnough, AreJudged, IsCrowdedAt}
 
 -- ---- faults stand at the steps that follow

@@ -1,5 +1,7 @@
 -- What a walk that takes a list apart has left.
-use Rattle.{std.{proofs.Common.{◌≡◌, ◌∙◌, sym, ap, zero, suc, List, [], ◌∷◌, ◌++◌, map, arith}, specs.List.All}, abc_faults.proofs.Walks.part_more}
+use Rattle.std.proofs.Common.{◌≡◌, ◌∙◌, sym, ap, zero, suc, List, [], ◌∷◌, ◌++◌, map, arith}
+use Rattle.std.specs.List.{All}
+use Rattle.abc_faults.proofs.Walks.{part_more}
 
 -- one element made of the first that was left
 pub mapped_taken : {X Y : Type 0} {xs ys : List X} {x : X} {new all : List Y} {y : Y} (f : X → Y) (done : List Y) → new ≡ done ++ y ∷ [] → y ≡ f x

@@ -1,9 +1,13 @@
 -- The verses that are too many, in a body whose lines of words rise: the first of the list comes first.
 use Rattle.std.{proofs.lemmas.Bool.{cond-false, Decides.nat_tests}, specs.Prelude.{⊤, nat_le}}
-use Rattle.std.proofs.Common.{◌≡◌, ◌∙◌, refl, sym, ap, subst, ℕ, ◌≤◌, List, [], ◌∷◌, ◌++◌, Bool, true, false, Option, Some, None, arith}
+use Rattle.std.proofs.Common.{◌≡◌, ◌∙◌, refl, sym, ap, subst, ℕ, ◌≤◌, List, [], ◌∷◌, ◌++◌, Bool, true, false, Option}
+use Rattle.std.proofs.Common.{Some, None, arith}
 use Rattle.{abc_lines.specs.declared.fault.Fault.Fault, abc_steps.specs.declared.step.BodyItem.BodyItem}
-use Rattle.{abc_faults.specs.First.{is_before, earlier, first_of}, abc_score.{proofs.Basics.either, specs.Order.{DoWordsRiseFrom, DoWordsRise}}}
-use Rattle.abc_words.specs.Verses.{verse_if, verses_from, number_on, too_many, faults_from, verse_faults, first_verse_fault as head_of}
+use Rattle.abc_faults.specs.First.{is_before, earlier, first_of}
+use Rattle.abc_score.proofs.Basics.{either}
+use Rattle.abc_score.specs.Order.{DoWordsRiseFrom, DoWordsRise}
+use Rattle.abc_words.specs.Verses.{verse_if, verses_from, number_on, too_many, faults_from, verse_faults}
+use Rattle.abc_words.specs.Verses.{first_verse_fault as head_of}
 use Rattle.abc_words.specs.declared.verses.Verse.{Verse}
 
 -- verses whose lines rise, from one on

@@ -1,18 +1,38 @@
 -- What the steps of a voice without faults are: each event has parts and good changes, and tuplets are full.
-use Rattle.std.proofs.Common.{◌≡◌, ◌∙◌, refl, sym, ap, subst, ℕ, zero, suc, ◌+◌, ◌-◌, ◌*◌, ◌/◌, ◌≤◌, List, [], ◌∷◌, length, Bool, true, false, cond}
-use Rattle.std.proofs.Common.{not, nat_le, ◌==◌, Option, Some, None, IfSome, unwrap_or, is_none, option_map, zero-add, eqb-true, arith}
-use Rattle.std.proofs.lemmas.{Bool.{cond_both, leb-true, leb-false, Decides.nat_tests}, Nat.mul-le, List.Sums.{sum_by-cons, take_while-cons}}
+use Rattle.std.proofs.Common.{◌≡◌, ◌∙◌, refl, sym, ap, subst, ℕ, zero, suc, ◌+◌, ◌-◌, ◌*◌, ◌/◌, ◌≤◌, List, [], ◌∷◌}
+use Rattle.std.proofs.Common.{length, Bool, true, false, cond}
+use Rattle.std.proofs.Common.{not, nat_le, ◌==◌, Option, Some, None, IfSome, unwrap_or, is_none, option_map, zero-add}
+use Rattle.std.proofs.Common.{eqb-true, arith}
+use Rattle.std.proofs.lemmas.Bool.{cond_both, leb-true, leb-false}
+use Rattle.std.proofs.lemmas.Bool.Decides.{nat_tests}
+use Rattle.std.proofs.lemmas.Nat.{mul-le}
+use Rattle.std.proofs.lemmas.List.Sums.{sum_by-cons, take_while-cons}
 use Rattle.std.specs.{Prelude.{⊤, count_by, nat_lt}, List.{AllByRecursion, before_first}}
-use Rattle.{mus_pitch.proofs.SignLaws.laid_good, abc_lines.specs.declared.fault.FaultKind.FaultKind, abc_field.specs.Keys.{GoodKeyIn, over_by}}
+use Rattle.mus_pitch.proofs.SignLaws.{laid_good}
+use Rattle.abc_lines.specs.declared.fault.FaultKind.{FaultKind}
+use Rattle.abc_field.specs.Keys.{GoodKeyIn, over_by}
 use Rattle.abc_signs.specs.{Signs.{further_rests, signs, tree_items_of, sound_written}, Waits.pending_of}
-use Rattle.abc_faults.specs.Faults.{ends_tuplets, step_fault, fault_if, faults_in, faults_of, misfit_of, sounds_behind, tuplet_faults}
-use Rattle.mus_units.specs.{Parts.{cut_in, cut_next, longest_within, parts_list, units_of}, Good.{AreGoodSigns, IsGoodKey, IsGoodMeter, IsGoodUnit}}
+use Rattle.abc_faults.specs.Faults.{ends_tuplets, step_fault, fault_if, faults_in, faults_of, misfit_of, sounds_behind}
+use Rattle.abc_faults.specs.Faults.{tuplet_faults}
+use Rattle.mus_units.specs.Parts.{cut_in, cut_next, longest_within, parts_list, units_of}
+use Rattle.mus_units.specs.Good.{AreGoodSigns, IsGoodKey, IsGoodMeter, IsGoodUnit}
 use Rattle.mus_units.specs.declared.{key.{Key.Key, Sign.Sign as KeySign}, value.Value.Value}
-use Rattle.abc_steps.specs.{Lengths.{left_factor, left_side, right_factor, right_side, written_length}, Places.{state_at, measure_of}, Kinds.is_sound}
-use Rattle.abc_steps.specs.{Good.{IsGoodForce, IsGoodSound, IsGoodStep, IsGoodPlacedStep}, Force.{changes_at, force_at, force_after, some_if}}
-use Rattle.abc_steps.specs.{Tuplets.{after_event, fits, one_less, with_tuplet_opened, or_default, open_tuplets_after}, Looks.Steps}
-use Rattle.abc_steps.specs.declared.{step.{WrittenSound.WrittenSound, Step.Step, PlacedStep.PlacedStep}, force.InForce.InForce, state.VoiceState.VoiceState, tuplets.OpenTuplets.OpenTuplets}
-use Rattle.abc_score.proofs.{Basics.{all_both, with_tuplet, none_before, none_behind}, Clear.{IsClearSound, no_fault, sound_clear}, Nested.IsOpen}
+use Rattle.abc_steps.specs.Lengths.{left_factor, left_side, right_factor, right_side, written_length}
+use Rattle.abc_steps.specs.Places.{state_at, measure_of}
+use Rattle.abc_steps.specs.Kinds.{is_sound}
+use Rattle.abc_steps.specs.Good.{IsGoodForce, IsGoodSound, IsGoodStep, IsGoodPlacedStep}
+use Rattle.abc_steps.specs.Force.{changes_at, force_at, force_after, some_if}
+use Rattle.abc_steps.specs.Tuplets.{after_event, fits, one_less, with_tuplet_opened, or_default, open_tuplets_after}
+use Rattle.abc_steps.specs.Looks.{Steps}
+use Rattle.abc_steps.specs.declared.step.WrittenSound.{WrittenSound}
+use Rattle.abc_steps.specs.declared.step.Step.{Step}
+use Rattle.abc_steps.specs.declared.step.PlacedStep.{PlacedStep}
+use Rattle.abc_steps.specs.declared.force.InForce.{InForce}
+use Rattle.abc_steps.specs.declared.state.VoiceState.{VoiceState}
+use Rattle.abc_steps.specs.declared.tuplets.OpenTuplets.{OpenTuplets}
+use Rattle.abc_score.proofs.Basics.{all_both, with_tuplet, none_before, none_behind}
+use Rattle.abc_score.proofs.Clear.{IsClearSound, no_fault, sound_clear}
+use Rattle.abc_score.proofs.Nested.{IsOpen}
 use Rattle.abc_score.proofs.{Judging.rest_values, Parts.IsWhole}
 
 -- ---- parts

@@ -1,5 +1,6 @@
 -- What the signs of a voice weigh is at most what its steps weigh, and that of all voices is at most 50,000 where they aren't crowded.
-use Rattle.std.proofs.Common.{⊎_elim, ◌≡◌, ◌∙◌, refl, sym, ap, subst, ℕ, zero, suc, ◌+◌, ◌-◌, ◌*◌, ◌≤◌, max, List, [], ◌∷◌, sum_by, length, Bool}
+use Rattle.std.proofs.Common.{⊎_elim, ◌≡◌, ◌∙◌, refl, sym, ap, subst, ℕ, zero, suc, ◌+◌, ◌-◌, ◌*◌, ◌≤◌, max, List, []}
+use Rattle.std.proofs.Common.{◌∷◌, sum_by, length, Bool}
 use Rattle.std.proofs.Common.{true, false, cond, Option, Some, None, mul_comm, mul-le-mul_left, arith}
 use Rattle.std.proofs.lemmas.Bool.{cases_Bool, cases_lt, Decides.nat_tests}
 use Rattle.std.proofs.lemmas.List.{length-map, Sums.{sum_by-cons, sum_by-append}, Elements.Contains-append_right}
@@ -7,14 +8,28 @@ use Rattle.std.specs.{Prelude.{flat_map, nat_lt, unwrap_or}, List.{AllByRecursio
 use Rattle.mus_units.specs.{declared.{note.{Head.Head, Deco.Deco}, value.Value.Value}, Parts.parts_list}
 use Rattle.abc_notes.specs.declared.part.GraceChord.{GraceChord}
 use Rattle.abc_score.proofs.{Basics.with_tuplet, Rows.{leaf_rows, weight_of}, Singing.{heads_of_graces, nodes_weight}}
-use Rattle.abc_steps.specs.{declared.{step.{WrittenSound.WrittenSound, Step.Step, PlacedStep.PlacedStep}, force.InForce.InForce, state.VoiceState.VoiceState}, Lengths.written_length}
-use Rattle.abc_steps.specs.{Looks.{Steps, is_sound_tied, since_event}, Good.{IsGoodStep, IsGoodPlacedStep}, Places.{state_at, measure_of}}
+use Rattle.abc_steps.specs.declared.step.WrittenSound.{WrittenSound}
+use Rattle.abc_steps.specs.declared.step.Step.{Step}
+use Rattle.abc_steps.specs.declared.step.PlacedStep.{PlacedStep}
+use Rattle.abc_steps.specs.declared.force.InForce.{InForce}
+use Rattle.abc_steps.specs.declared.state.VoiceState.{VoiceState}
+use Rattle.abc_steps.specs.Lengths.{written_length}
+use Rattle.abc_steps.specs.Looks.{Steps, is_sound_tied, since_event}
+use Rattle.abc_steps.specs.Good.{IsGoodStep, IsGoodPlacedStep}
+use Rattle.abc_steps.specs.Places.{state_at, measure_of}
 use Rattle.abc_events.specs.Leaves.{Words, leaves_from, nodes_of, words_of_event}
-use Rattle.abc_signs.specs.Signs.{further_rests, parted_at, rest_written, signs, tree_items_of, sound_written, tied_heads, with_tie}
-use Rattle.abc_signs.specs.{declared.written.{WrittenEvent.WrittenEvent, Pending.Pending, TreeItem.TreeItem}, Waits.{graces_in, nothing_pending, pending_of}}
+use Rattle.abc_signs.specs.Signs.{further_rests, parted_at, rest_written, signs, tree_items_of, sound_written}
+use Rattle.abc_signs.specs.Signs.{tied_heads, with_tie}
+use Rattle.abc_signs.specs.declared.written.WrittenEvent.{WrittenEvent}
+use Rattle.abc_signs.specs.declared.written.Pending.{Pending}
+use Rattle.abc_signs.specs.declared.written.TreeItem.{TreeItem}
+use Rattle.abc_signs.specs.Waits.{graces_in, nothing_pending, pending_of}
 use Rattle.abc_faults.proofs.Crowds.{crowd_held, not_before_itself}
-use Rattle.abc_faults.specs.{Weights.{grace_weights, grace_weights_of, sound_count}, declared.weights.Weight.Weight, First.is_below_or_tied}
-use Rattle.abc_faults.specs.Weights.{stands_before, weight_at, weights_in, weights_of, count_parts, count_up_to, crowd_fault, crowd_up_to, crowded}
+use Rattle.abc_faults.specs.Weights.{grace_weights, grace_weights_of, sound_count}
+use Rattle.abc_faults.specs.declared.weights.Weight.{Weight}
+use Rattle.abc_faults.specs.First.{is_below_or_tied}
+use Rattle.abc_faults.specs.Weights.{stands_before, weight_at, weights_in, weights_of, count_parts, count_up_to}
+use Rattle.abc_faults.specs.Weights.{crowd_fault, crowd_up_to, crowded}
 
 -- ---- signs
 abbrev pub written_weight : WrittenEvent → Pending → ℕ

@@ -1,25 +1,51 @@
 -- A score of voices without faults is good.
-use Rattle.std.proofs.Common.{◌≡◌, ◌∙◌, refl, sym, ap, subst, ℕ, suc, ◌+◌, ◌≤◌, ◌<◌, List, [], ◌∷◌, map, sum_by, length, le_trans, Bool, arith}
-use Rattle.std.proofs.lemmas.{List.Elements.{All-from_recursion, recursion_from_All, All-map}, Option.unwrap_or-slice_get}
-use Rattle.std.proofs.lemmas.List.{FromFn.{get_or-map-range_with_len, length-map-range_with_len}, Sums.{sum_by-cons, sum_by-append}, length-map}
+use Rattle.std.proofs.Common.{◌≡◌, ◌∙◌, refl, sym, ap, subst, ℕ, suc, ◌+◌, ◌≤◌, ◌<◌, List, [], ◌∷◌, map, sum_by, length}
+use Rattle.std.proofs.Common.{le_trans, Bool, arith}
+use Rattle.std.proofs.lemmas.List.Elements.{All-from_recursion, recursion_from_All, All-map}
+use Rattle.std.proofs.lemmas.Option.{unwrap_or-slice_get}
+use Rattle.std.proofs.lemmas.List.FromFn.{get_or-map-range_with_len, length-map-range_with_len}
+use Rattle.std.proofs.lemmas.List.Sums.{sum_by-cons, sum_by-append}
+use Rattle.std.proofs.lemmas.List.{length-map}
 use Rattle.std.specs.{Prelude.flat_map, List.{All, AllByRecursion, range_with_len}, Str.bytes_eq}
 use Rattle.abc_fields.specs.{declared.header.Header.Header, Headers.HasGoodValues}
 use Rattle.abc_steps.specs.{declared.step.BodyItem.BodyItem, Good.{IsGoodForce, IsGoodPlacedStep}}
-use Rattle.abc_items.{specs.{declared.voices.VoiceStart.VoiceStart, Good.IsGoodItem, Voices.{voice_ids, starts_of, unnamed_of}}, proofs.Laws.steps_good}
+use Rattle.abc_items.specs.declared.voices.VoiceStart.{VoiceStart}
+use Rattle.abc_items.specs.Good.{IsGoodItem}
+use Rattle.abc_items.specs.Voices.{voice_ids, starts_of, unnamed_of}
+use Rattle.abc_items.proofs.Laws.{steps_good}
 use Rattle.mus_score.{proofs.Scores.{all_within_bars, distinct_pairs, rising_bars}, specs.Good.IsGoodBody}
-use Rattle.mus_score.specs.{GoodScore.{AreInReach, IsGoodScore, IsGoodVoice, events_of, voice_weight}, declared.score.Measure.Measure}
-use Rattle.abc_signs.{specs.{declared.written.TreeItem.TreeItem, Signs.{HasDrawableValues, signs}}, proofs.Drawn.signs_drawn}
+use Rattle.mus_score.specs.GoodScore.{AreInReach, IsGoodScore, IsGoodVoice, events_of, voice_weight}
+use Rattle.mus_score.specs.declared.score.Measure.{Measure}
+use Rattle.abc_signs.specs.declared.written.TreeItem.{TreeItem}
+use Rattle.abc_signs.specs.Signs.{HasDrawableValues, signs}
+use Rattle.abc_signs.proofs.Drawn.{signs_drawn}
 use Rattle.abc_events.specs.{Bars.{bar_of, bars_of}, Nesting.tree_of, Leaf.Leaf}
-use Rattle.abc_events.specs.{Leaves.{Words, leaves_from, leaves_of, words_of_event}, Measures.{leaves_in, measure_of_leaves, measures_in}}
+use Rattle.abc_events.specs.Leaves.{Words, leaves_from, leaves_of, words_of_event}
+use Rattle.abc_events.specs.Measures.{leaves_in, measure_of_leaves, measures_in}
 use Rattle.abc_words.{proofs.FaultLaws.few_verses, specs.Rows.row_count}
-use Rattle.abc_words.specs.{Words.{event_words, music_rows, verse_sung, word_of}, declared.music.MusicRow.MusicRow, Verses.{verse_count, verses_of_voice}}
-use Rattle.abc_score.proofs.{Frames.{length_voice, lengths_agree, voices_apart, voices_led}, Parts.{signs_count, signs_good, signs_reach, signs_sung}}
-use Rattle.abc_score.proofs.{Clear.{IsClearVoice, few_measures, voices_clear}, Rows.{leaf_rows, tree_weight, weight_of}, Ids.{apart_read, few_read}}
-use Rattle.abc_score.proofs.{Segments.{Rise, measures_sing, measures_weigh, weight_in}, Weighing.{count, leaves_weigh, not_crowded, signs_weigh}}
-use Rattle.abc_score.proofs.{Reaching.voice_reach, Basics.none_behind, Forced.forced_rise, Nested.nested_good, Walks.walk_whole, Full.all_full}
-use Rattle.abc_score.proofs.{Cores.{CoresCount, CoresReach, IsGoodCore, count_of, events_of_cores, reach_of}, Rising.{own_most, voice_rise}}
-use Rattle.abc_score.specs.{Faults.{score_faults, voice_faults, voice_weights}, declared.voices.ReadVoice.ReadVoice, Voices.{voice_read, voices_read}}
-use Rattle.abc_score.specs.Score.{event_count, forced_of, most_measures, sung_notes_from, own_measures, score_of, score_with, sung_words, voice_by_header}
+use Rattle.abc_words.specs.Words.{event_words, music_rows, verse_sung, word_of}
+use Rattle.abc_words.specs.declared.music.MusicRow.{MusicRow}
+use Rattle.abc_words.specs.Verses.{verse_count, verses_of_voice}
+use Rattle.abc_score.proofs.Frames.{length_voice, lengths_agree, voices_apart, voices_led}
+use Rattle.abc_score.proofs.Parts.{signs_count, signs_good, signs_reach, signs_sung}
+use Rattle.abc_score.proofs.Clear.{IsClearVoice, few_measures, voices_clear}
+use Rattle.abc_score.proofs.Rows.{leaf_rows, tree_weight, weight_of}
+use Rattle.abc_score.proofs.Ids.{apart_read, few_read}
+use Rattle.abc_score.proofs.Segments.{Rise, measures_sing, measures_weigh, weight_in}
+use Rattle.abc_score.proofs.Weighing.{count, leaves_weigh, not_crowded, signs_weigh}
+use Rattle.abc_score.proofs.Reaching.{voice_reach}
+use Rattle.abc_score.proofs.Basics.{none_behind}
+use Rattle.abc_score.proofs.Forced.{forced_rise}
+use Rattle.abc_score.proofs.Nested.{nested_good}
+use Rattle.abc_score.proofs.Walks.{walk_whole}
+use Rattle.abc_score.proofs.Full.{all_full}
+use Rattle.abc_score.proofs.Cores.{CoresCount, CoresReach, IsGoodCore, count_of, events_of_cores, reach_of}
+use Rattle.abc_score.proofs.Rising.{own_most, voice_rise}
+use Rattle.abc_score.specs.Faults.{score_faults, voice_faults, voice_weights}
+use Rattle.abc_score.specs.declared.voices.ReadVoice.{ReadVoice}
+use Rattle.abc_score.specs.Voices.{voice_read, voices_read}
+use Rattle.abc_score.specs.Score.{event_count, forced_of, most_measures, sung_notes_from, own_measures, score_of}
+use Rattle.abc_score.specs.Score.{score_with, sung_words, voice_by_header}
 use Rattle.abc_score.specs.Score.{written_measures}
 
 -- ---- words

@@ -1,7 +1,16 @@
 -- What the building of a tune's score answers: the score of a body without fault, or the first fault, of the body and only then of the score.
 use Rattle.std.specs.Prelude.{◌≡◌, ◌⊎◌, ⊤, List, drop, Bool, Some, None}
-use Rattle.{abc_lines.specs.{declared.book.Line.Line, declared.book.TuneText.TuneText, declared.fault.Fault.Fault, declared.fault.TuneError.TuneError}, abc_fields.specs.declared.header.Header.{Header}}
-use Rattle.{abc_steps.specs.declared.step.BodyItem.{BodyItem}, abc_items.specs.Body.{HasFault, IsBody}, abc_faults.specs.First.{IsFirstInOrder}, mus_score.specs.declared.score.Score.{Score}, abc_score.specs.{Faults.score_faults, Score.score_of}}
+use Rattle.abc_lines.specs.declared.book.Line.{Line}
+use Rattle.abc_lines.specs.declared.book.TuneText.{TuneText}
+use Rattle.abc_lines.specs.declared.fault.Fault.{Fault}
+use Rattle.abc_lines.specs.declared.fault.TuneError.{TuneError}
+use Rattle.abc_fields.specs.declared.header.Header.{Header}
+use Rattle.abc_steps.specs.declared.step.BodyItem.{BodyItem}
+use Rattle.abc_items.specs.Body.{HasFault, IsBody}
+use Rattle.abc_faults.specs.First.{IsFirstInOrder}
+use Rattle.mus_score.specs.declared.score.Score.{Score}
+use Rattle.abc_score.specs.Faults.{score_faults}
+use Rattle.abc_score.specs.Score.{score_of}
 
 -- the lines behind the header
 abbrev pub body_lines : Header → TuneText → List Line

@@ -1,8 +1,16 @@
 -- All faults that the score of a body has: those of each voice by itself, its verses that are too
 -- many, and the places up to which all voices together have too many heads and rests.
 use Rattle.std.specs.Prelude.{ℕ, List, [], ◌++◌, flat_map}
-use Rattle.{abc_lines.specs.declared.fault.Fault.{Fault}, abc_fields.specs.declared.header.Header.{Header}, abc_steps.specs.declared.step.BodyItem.{BodyItem}, abc_items.specs.Voices.{unnamed_of}}
-use Rattle.{abc_faults.specs.{declared.weights.Weight.Weight, Faults.faults_in, Weights.crowded, Weights.weights_in}, abc_words.specs.Verses.{verse_faults}, abc_score.specs.{declared.voices.ReadVoice.ReadVoice, Voices.voices_read}}
+use Rattle.abc_lines.specs.declared.fault.Fault.{Fault}
+use Rattle.abc_fields.specs.declared.header.Header.{Header}
+use Rattle.abc_steps.specs.declared.step.BodyItem.{BodyItem}
+use Rattle.abc_items.specs.Voices.{unnamed_of}
+use Rattle.abc_faults.specs.declared.weights.Weight.{Weight}
+use Rattle.abc_faults.specs.Faults.{faults_in}
+use Rattle.abc_faults.specs.Weights.{crowded, weights_in}
+use Rattle.abc_words.specs.Verses.{verse_faults}
+use Rattle.abc_score.specs.declared.voices.ReadVoice.{ReadVoice}
+use Rattle.abc_score.specs.Voices.{voices_read}
 
 abbrev pub voice_faults : List ℕ → List BodyItem → ReadVoice → List Fault
 voice_faults unnamed items v = faults_in v.first [] v.steps ++ verse_faults v.start.id unnamed items

@@ -1,8 +1,19 @@
 -- Voices that are judged, and what is kept of their signs.
-use Rattle.std.specs.{Prelude.{◌≡◌, ◌≤◌, ◌<◌, ◌⊎◌, ◌++◌, [], List, Option, map, reverse, Bool, true, false}, List.{Contains, list_all}}
-use Rattle.{abc_lines.specs.declared.fault.Fault.{Fault}, abc_steps.specs.{declared.step.{Step.Step, PlacedStep.PlacedStep}, Counts.measures_begun, Kinds.is_event, Looks.Steps}, abc_signs.specs.Signs.{signs}}
-use Rattle.abc_faults.specs.{declared.weights.Weight.Weight, First.{first_of, is_before}, Weights.{capped, crowd_fault, crowd_up_to, stands_before, weight_at}}
-use Rattle.abc_score.specs.declared.{keeping.VoiceItems.VoiceItems, keeping.JudgedVoice.JudgedVoice, voices.ReadVoice.ReadVoice}
+use Rattle.std.specs.Prelude.{◌≡◌, ◌≤◌, ◌<◌, ◌⊎◌, ◌++◌, [], List, Option, map, reverse, Bool, true, false}
+use Rattle.std.specs.List.{Contains, list_all}
+use Rattle.abc_lines.specs.declared.fault.Fault.{Fault}
+use Rattle.abc_steps.specs.declared.step.Step.{Step}
+use Rattle.abc_steps.specs.declared.step.PlacedStep.{PlacedStep}
+use Rattle.abc_steps.specs.Counts.{measures_begun}
+use Rattle.abc_steps.specs.Kinds.{is_event}
+use Rattle.abc_steps.specs.Looks.{Steps}
+use Rattle.abc_signs.specs.Signs.{signs}
+use Rattle.abc_faults.specs.declared.weights.Weight.{Weight}
+use Rattle.abc_faults.specs.First.{first_of, is_before}
+use Rattle.abc_faults.specs.Weights.{capped, crowd_fault, crowd_up_to, stands_before, weight_at}
+use Rattle.abc_score.specs.declared.keeping.VoiceItems.{VoiceItems}
+use Rattle.abc_score.specs.declared.keeping.JudgedVoice.{JudgedVoice}
+use Rattle.abc_score.specs.declared.voices.ReadVoice.{ReadVoice}
 
 -- what is kept as whole is all signs of the voice, and how many measures it has
 abbrev pub AreItemsOf : ReadVoice → VoiceItems → Type 0

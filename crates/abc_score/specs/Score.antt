@@ -1,10 +1,22 @@
 -- The score of a body, put together from its voices.
 use Rattle.std.specs.Prelude.{ℕ, ◌+◌, List, [], ◌∷◌, ◌++◌, map, fold, max, reverse, Bool, true, false, Option}
-use Rattle.{mus_units.specs.declared.note.Head.{Head}, mus_score.specs.{declared.score.Measure.Measure, declared.score.Voice.Voice, declared.score.Score.Score, Seats.usual_gap, declared.score.Seat.Seat}}
-use Rattle.{abc_fields.specs.declared.header.Header.{Header}, abc_steps.specs.{declared.step.BodyItem.BodyItem, Counts.measures_begun}, abc_items.specs.Voices.{unnamed_of}}
+use Rattle.mus_units.specs.declared.note.Head.{Head}
+use Rattle.mus_score.specs.declared.score.Measure.{Measure}
+use Rattle.mus_score.specs.declared.score.Voice.{Voice}
+use Rattle.mus_score.specs.declared.score.Score.{Score}
+use Rattle.mus_score.specs.Seats.{usual_gap}
+use Rattle.mus_score.specs.declared.score.Seat.{Seat}
+use Rattle.abc_fields.specs.declared.header.Header.{Header}
+use Rattle.abc_steps.specs.declared.step.BodyItem.{BodyItem}
+use Rattle.abc_steps.specs.Counts.{measures_begun}
+use Rattle.abc_items.specs.Voices.{unnamed_of}
 use Rattle.abc_signs.specs.{declared.written.WrittenEvent.WrittenEvent, declared.written.TreeItem.TreeItem, Signs.signs}
 use Rattle.abc_events.specs.{Bars.bars_of, Bars.bar_before_events, Bars.forced_bars, Measures.measures_of}
-use Rattle.{abc_words.specs.{declared.music.SungNote.SungNote, Verses.verse_count, Words.words_of_events}, abc_score.specs.{declared.voices.ReadVoice.ReadVoice, Voices.voices_read}}
+use Rattle.abc_words.specs.declared.music.SungNote.{SungNote}
+use Rattle.abc_words.specs.Verses.{verse_count}
+use Rattle.abc_words.specs.Words.{words_of_events}
+use Rattle.abc_score.specs.declared.voices.ReadVoice.{ReadVoice}
+use Rattle.abc_score.specs.Voices.{voices_read}
 
 -- Words are sung on written events with heads, each numbered among all written events of its voice.
 abbrev pub note_if : List Head → ℕ → WrittenEvent → List SungNote

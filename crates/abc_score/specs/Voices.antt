@@ -1,7 +1,12 @@
 -- The voices of a body as they are read: each with what it begins with, and its steps.
 use Rattle.std.specs.{Prelude.{◌≢◌, ⊤, ℕ, ◌≤◌, ◌^◌, List, [], ◌∷◌, map, length}, List.All}
-use Rattle.{abc_fields.specs.declared.header.Header.{Header}, abc_steps.specs.{declared.step.BodyItem.BodyItem, declared.force.InForce.InForce, Good.IsGoodForce, Good.IsGoodPlacedStep}}
-use Rattle.{abc_items.specs.{declared.voices.VoiceStart.VoiceStart, Voices.starts_of, Voices.steps_of, Voices.unnamed_of}, abc_score.specs.declared.voices.ReadVoice.{ReadVoice}}
+use Rattle.abc_fields.specs.declared.header.Header.{Header}
+use Rattle.abc_steps.specs.declared.step.BodyItem.{BodyItem}
+use Rattle.abc_steps.specs.declared.force.InForce.{InForce}
+use Rattle.abc_steps.specs.Good.{IsGoodForce, IsGoodPlacedStep}
+use Rattle.abc_items.specs.declared.voices.VoiceStart.{VoiceStart}
+use Rattle.abc_items.specs.Voices.{starts_of, steps_of, unnamed_of}
+use Rattle.abc_score.specs.declared.voices.ReadVoice.{ReadVoice}
 
 -- a voice begins with its own first clef, and with the key, the meter and the unit length of the header
 abbrev pub first_force : Header → VoiceStart → InForce

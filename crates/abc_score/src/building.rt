@@ -1,6 +1,15 @@
-ghost use Rattle.std.specs.{Prelude.◌≡◌, Prelude.◌≤◌, Prelude.None, Prelude.length, Prelude.drop, Prelude.IfOk, Prelude.IfErr, List.All};
-ghost use Rattle.{abc_lines.specs.Good.{IsGoodTune}, abc_fields.specs.Headers.{HasGoodValues, IsGoodHeader}, abc_items.specs.{Good.IsGoodItem, Voices.voice_ids}, abc_faults.specs.First.{IsFirstInOrder}};
-ghost use Rattle.{mus_score.specs.GoodScore.{IsGoodScore}, abc_score.specs.{Faults.score_faults, Score.score_of, Order.DoWordsRise, Build.IsErrorIn, Build.IsFaultOf, Build.IsScoreOf}};
+ghost use Rattle.std.specs.Prelude.{◌≡◌, ◌≤◌, None, length, drop, IfOk, IfErr};
+ghost use Rattle.std.specs.List.{All};
+ghost use Rattle.abc_lines.specs.Good.{IsGoodTune};
+ghost use Rattle.abc_fields.specs.Headers.{HasGoodValues, IsGoodHeader};
+ghost use Rattle.abc_items.specs.Good.{IsGoodItem};
+ghost use Rattle.abc_items.specs.Voices.{voice_ids};
+ghost use Rattle.abc_faults.specs.First.{IsFirstInOrder};
+ghost use Rattle.mus_score.specs.GoodScore.{IsGoodScore};
+ghost use Rattle.abc_score.specs.Faults.{score_faults};
+ghost use Rattle.abc_score.specs.Score.{score_of};
+ghost use Rattle.abc_score.specs.Order.{DoWordsRise};
+ghost use Rattle.abc_score.specs.Build.{IsErrorIn, IsFaultOf, IsScoreOf};
 
 use crate::faults::fault_of_score;
 use crate::scores::score_with;

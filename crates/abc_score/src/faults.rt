@@ -1,5 +1,9 @@
 ghost use Rattle.std.specs.{Prelude.{◌≡◌, flat_map, IfOk}, List.All};
-ghost use Rattle.{abc_faults.specs.First.{IsFirstInOrder}, abc_score.specs.{Voices.IsGoodRead, Faults.{faults_of_voices, voice_faults, voice_weights}, Judged.{AreJudged, AreItemsOf, HasKept, reads_of}, Order.DoWordsRise}};
+ghost use Rattle.abc_faults.specs.First.{IsFirstInOrder};
+ghost use Rattle.abc_score.specs.Voices.{IsGoodRead};
+ghost use Rattle.abc_score.specs.Faults.{faults_of_voices, voice_faults, voice_weights};
+ghost use Rattle.abc_score.specs.Judged.{AreJudged, AreItemsOf, HasKept, reads_of};
+ghost use Rattle.abc_score.specs.Order.{DoWordsRise};
 
 use crate::keeping::{JudgedVoice, VoiceItems, judge_voice};
 use crate::voices::ReadVoice;

@@ -1,6 +1,15 @@
-ghost use Rattle.std.specs.{Prelude.{◌≡◌, ◌≤◌, ◌^◌, ◌++◌, [], length, reverse, true, false, nat_lt, IfOk, OnOk}, List.{All, list_all}};
-ghost use Rattle.{abc_faults.specs.{First.is_below_or_tied, Faults.faults_in, Weights.{crowd_up_to, stands_before, weight_at}}, abc_steps.specs.{declared.step.PlacedStep.PlacedStep, Good.IsGoodForce, Lengths.parts_at}};
-ghost use Rattle.{abc_signs.specs.Signs.{signs, tree_items_of, HasDrawableValues}, abc_score.specs.{Faults.voice_weights, Judged.{AreJudged, IsCrowdedAt, AreItemsOf, is_idle}, Voices.IsGoodRead}};
+ghost use Rattle.std.specs.Prelude.{◌≡◌, ◌≤◌, ◌^◌, ◌++◌, [], length, reverse, true, false, nat_lt, IfOk, OnOk};
+ghost use Rattle.std.specs.List.{All, list_all};
+ghost use Rattle.abc_faults.specs.First.{is_below_or_tied};
+ghost use Rattle.abc_faults.specs.Faults.{faults_in};
+ghost use Rattle.abc_faults.specs.Weights.{crowd_up_to, stands_before, weight_at};
+ghost use Rattle.abc_steps.specs.declared.step.PlacedStep.{PlacedStep};
+ghost use Rattle.abc_steps.specs.Good.{IsGoodForce};
+ghost use Rattle.abc_steps.specs.Lengths.{parts_at};
+ghost use Rattle.abc_signs.specs.Signs.{signs, tree_items_of, HasDrawableValues};
+ghost use Rattle.abc_score.specs.Faults.{voice_weights};
+ghost use Rattle.abc_score.specs.Judged.{AreJudged, IsCrowdedAt, AreItemsOf, is_idle};
+ghost use Rattle.abc_score.specs.Voices.{IsGoodRead};
 
 use crate::voices::ReadVoice;
 use abc_faults::{Weight, earlier, judge_step};

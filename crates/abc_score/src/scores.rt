@@ -1,6 +1,13 @@
 ghost use Rattle.std.specs.{Prelude.ℕ, Prelude.◌≡◌, Prelude.◌≤◌, Prelude.map, Prelude.IfOk, Prelude.None, List.All};
-ghost use Rattle.{abc_items.specs.Voices.{unnamed_of}, abc_words.specs.Verses.{verse_count, verse_fault}, abc_events.specs.{Bars.bars_of, Leaves.leaves_of}};
-ghost use Rattle.abc_score.specs.{declared.keeping.JudgedVoice.JudgedVoice, Judged.{AreItemsOf, HasKept, reads_of}, Voices.IsGoodRead, Score.forced_of, Score.most_measures, Score.own_measures, Score.score_with, Score.sung_words, Score.voice_by_header, Score.written_measures};
+ghost use Rattle.abc_items.specs.Voices.{unnamed_of};
+ghost use Rattle.abc_words.specs.Verses.{verse_count, verse_fault};
+ghost use Rattle.abc_events.specs.Bars.{bars_of};
+ghost use Rattle.abc_events.specs.Leaves.{leaves_of};
+ghost use Rattle.abc_score.specs.declared.keeping.JudgedVoice.{JudgedVoice};
+ghost use Rattle.abc_score.specs.Judged.{AreItemsOf, HasKept, reads_of};
+ghost use Rattle.abc_score.specs.Voices.{IsGoodRead};
+ghost use Rattle.abc_score.specs.Score.{forced_of, most_measures, own_measures, score_with, sung_words};
+ghost use Rattle.abc_score.specs.Score.{voice_by_header, written_measures};
 
 use crate::keeping::{JudgedVoice, VoiceItems, signs_of_voice};
 use crate::sung::sung_words;

@@ -1,5 +1,6 @@
 ghost use Rattle.std.specs.Prelude.{◌≡◌, ◌+◌, ◌++◌, ◌∷◌, ℕ, List, IfOk, OnOk};
-ghost use Rattle.{abc_signs.specs.declared.written.TreeItem.{TreeItem}, abc_score.specs.Score.{event_count, note_if, sung_notes_from, sung_words}};
+ghost use Rattle.abc_signs.specs.declared.written.TreeItem.{TreeItem};
+ghost use Rattle.abc_score.specs.Score.{event_count, note_if, sung_notes_from, sung_words};
 
 use abc_signs::{TreeItem, WrittenEvent};
 use abc_steps::BodyItem;

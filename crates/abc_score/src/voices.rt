@@ -1,5 +1,7 @@
 ghost use Rattle.std.specs.{Prelude.◌≡◌, Prelude.◌≤◌, Prelude.◌^◌, Prelude.length, Prelude.map, Prelude.IfOk, List.All};
-ghost use Rattle.{abc_fields.specs.Headers.{HasGoodValues}, abc_items.specs.Good.{IsGoodItem}, abc_score.specs.Voices.{first_force, voice_read, voices_read, IsGoodRead}};
+ghost use Rattle.abc_fields.specs.Headers.{HasGoodValues};
+ghost use Rattle.abc_items.specs.Good.{IsGoodItem};
+ghost use Rattle.abc_score.specs.Voices.{first_force, voice_read, voices_read, IsGoodRead};
 
 use abc_fields::Header;
 use abc_items::{VoiceStart, steps_of, unnamed_of, voices_of};

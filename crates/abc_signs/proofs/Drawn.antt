@@ -1,8 +1,26 @@
 -- The values of signs have at most three dots.
-use Rattle.std.{proofs.{Common.{◌≡◌, refl, sym, ap, ◌∙◌, subst, ℕ, zero, suc, ◌+◌, ◌-◌, ◌≤◌, List, [], ◌∷◌, ◌++◌, length, Bool, true, false, cond, Option, Some, None, arith, nat_le, reverse, take, drop, append-nil}, lemmas.{Bool.and_parts, List.{Elements.{All-nil, All-cons, All-append}, drop_all}}}, specs.{Prelude.{unwrap_or, find, option_map, ◌==◌, ◌*◌, ◌/◌, ⊤}, List.{All, list_all}}}
-use Rattle.mus_units.specs.{declared.value.Value.Value, Parts.units_of, Parts.all_values, Parts.longest_within, Parts.cut_next, Parts.cut_in, Parts.parts_list}
-use Rattle.abc_steps.specs.{declared.{step.{WrittenSound.WrittenSound, Step.Step, PlacedStep.PlacedStep}, force.InForce.InForce, state.VoiceState.VoiceState}, Looks.{Steps, since_event}, Lengths.written_length, Tuplets.{fits, or_default, usual_q}, Places.{state_at, measure_of}}
-use Rattle.abc_signs.specs.{declared.written.TreeItem.TreeItem, Signs.HasDrawableValues, Signs.sound_written, Signs.rest_written, Signs.further_rests, Signs.tuplet_of, Signs.tree_items_of, Signs.signs, Signs.parted_at, Signs.whole_value}
+use Rattle.std.proofs.Common.{◌≡◌, refl, sym, ap, ◌∙◌, subst, ℕ, zero, suc, ◌+◌, ◌-◌, ◌≤◌, List, [], ◌∷◌, ◌++◌, length}
+use Rattle.std.proofs.Common.{Bool, true, false, cond, Option, Some, None, arith, nat_le, reverse, take, drop}
+use Rattle.std.proofs.Common.{append-nil}
+use Rattle.std.proofs.lemmas.Bool.{and_parts}
+use Rattle.std.proofs.lemmas.List.Elements.{All-nil, All-cons, All-append}
+use Rattle.std.proofs.lemmas.List.{drop_all}
+use Rattle.std.specs.Prelude.{unwrap_or, find, option_map, ◌==◌, ◌*◌, ◌/◌, ⊤}
+use Rattle.std.specs.List.{All, list_all}
+use Rattle.mus_units.specs.declared.value.Value.{Value}
+use Rattle.mus_units.specs.Parts.{units_of, all_values, longest_within, cut_next, cut_in, parts_list}
+use Rattle.abc_steps.specs.declared.step.WrittenSound.{WrittenSound}
+use Rattle.abc_steps.specs.declared.step.Step.{Step}
+use Rattle.abc_steps.specs.declared.step.PlacedStep.{PlacedStep}
+use Rattle.abc_steps.specs.declared.force.InForce.{InForce}
+use Rattle.abc_steps.specs.declared.state.VoiceState.{VoiceState}
+use Rattle.abc_steps.specs.Looks.{Steps, since_event}
+use Rattle.abc_steps.specs.Lengths.{written_length}
+use Rattle.abc_steps.specs.Tuplets.{fits, or_default, usual_q}
+use Rattle.abc_steps.specs.Places.{state_at, measure_of}
+use Rattle.abc_signs.specs.declared.written.TreeItem.{TreeItem}
+use Rattle.abc_signs.specs.Signs.{HasDrawableValues, sound_written, rest_written, further_rests, tuplet_of}
+use Rattle.abc_signs.specs.Signs.{tree_items_of, signs, parted_at, whole_value}
 
 abbrev IsFew : Value → Type 0
 IsFew v = v.dots ≤ 3

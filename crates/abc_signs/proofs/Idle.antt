@@ -1,8 +1,16 @@
 -- Where no step that waits for an event says something of it, nothing waits for it.
-use Rattle.std.{proofs.Common.◌≡◌, proofs.Common.◌∙◌, proofs.Common.refl, proofs.Common.sym, proofs.Common.ap, proofs.Common.ℕ, proofs.Common.List, proofs.Common.[], proofs.Common.◌∷◌, proofs.Common.true, proofs.Common.false, proofs.Common.length, specs.Prelude.◌==◌, specs.List.list_any, proofs.lemmas.Bool.or_parts}
+use Rattle.std.proofs.Common.{◌≡◌, ◌∙◌, refl, sym, ap, ℕ, List, [], ◌∷◌, true, false, length}
+use Rattle.std.specs.Prelude.{◌==◌}
+use Rattle.std.specs.List.{list_any}
+use Rattle.std.proofs.lemmas.Bool.{or_parts}
 use Rattle.{mus_units.specs.declared.note.Deco.{Deco}, abc_steps.proofs.Between.{is_none}}
-use Rattle.abc_steps.specs.{declared.force.InForce.InForce, declared.step.Step.Step, declared.step.PlacedStep.PlacedStep, Looks.Steps, Force.{changes_at, names_key, names_clef, names_meter}}
-use Rattle.abc_signs.specs.Waits.{decos_in, mentions_in, graces_in, has_slash, ending_behind, tells, nothing_pending, pending_of}
+use Rattle.abc_steps.specs.declared.force.InForce.{InForce}
+use Rattle.abc_steps.specs.declared.step.Step.{Step}
+use Rattle.abc_steps.specs.declared.step.PlacedStep.{PlacedStep}
+use Rattle.abc_steps.specs.Looks.{Steps}
+use Rattle.abc_steps.specs.Force.{changes_at, names_key, names_clef, names_meter}
+use Rattle.abc_signs.specs.Waits.{decos_in, mentions_in, graces_in, has_slash, ending_behind, tells, nothing_pending}
+use Rattle.abc_signs.specs.Waits.{pending_of}
 
 step_idle : (now : InForce) (s : Step) (line column : ℕ) (waits : Steps) → tells s ≡ false → pending_of now waits [] ≡ pending_of now (record { step = s; line = line; column = column } ∷ waits) []
 unfolding pending_of changes_at tells decos_in mentions_in graces_in has_slash ending_behind names_key names_clef names_meter

@@ -1,7 +1,12 @@
 -- The next of several whole measure rests.
-use Rattle.std.proofs.Common.{◌≡◌, sym, ap, ◌∙◌, ℕ, suc, ◌+◌, ◌-◌, ◌<◌, Bool, false, List, [], ◌∷◌, ◌++◌, arith, append_assoc}
+use Rattle.std.proofs.Common.{◌≡◌, sym, ap, ◌∙◌, ℕ, suc, ◌+◌, ◌-◌, ◌<◌, Bool, false, List, [], ◌∷◌, ◌++◌, arith}
+use Rattle.std.proofs.Common.{append_assoc}
 use Rattle.abc_steps.specs.{declared.step.PlacedStep.PlacedStep, declared.state.VoiceState.VoiceState}
-use Rattle.abc_signs.specs.{declared.written.WrittenEvent.WrittenEvent, declared.written.Pending.Pending, declared.written.TreeItem.TreeItem, Waits.nothing_pending, Signs.rest_written, Signs.further_rests}
+use Rattle.abc_signs.specs.declared.written.WrittenEvent.{WrittenEvent}
+use Rattle.abc_signs.specs.declared.written.Pending.{Pending}
+use Rattle.abc_signs.specs.declared.written.TreeItem.{TreeItem}
+use Rattle.abc_signs.specs.Waits.{nothing_pending}
+use Rattle.abc_signs.specs.Signs.{rest_written, further_rests}
 
 next_rest : (now : VoiceState) (at : PlacedStep) (seen : Bool) (measure i count : ℕ) → i < count → further_rests now at seen (measure + i) (count - i) ≡ TreeItem.Event (rest_written now at seen (measure + i) false) nothing_pending ∷ further_rests now at seen (measure + (i + 1)) (count - (i + 1))
 next_rest now at seen measure i count less =

@@ -1,8 +1,25 @@
 -- The signs of a voice: its written events and the tuplets that begin in it, in the order of the text.
-use Rattle.std.specs.{Prelude.{ℕ, zero, suc, ◌+◌, ◌-◌, ◌≤◌, List, [], ◌∷◌, ◌++◌, map, Bool, false, ◌||◌, if◌then◌else◌, nat_le, Some, None, unwrap_or, ⊤}, List.All}
-use Rattle.{mus_units.specs.{declared.note.Head.Head, declared.value.Value.Value, Parts.parts_list, declared.value.Base.Base}, mus_score.specs.declared.score.Look.{Look}}
-use Rattle.abc_steps.specs.{declared.{step.{WrittenSound.WrittenSound, Step.Step, PlacedStep.PlacedStep}, force.InForce.InForce, state.VoiceState.VoiceState}, Looks.{Steps, since_event, is_sound_tied, slurs_begun, slurs_ended, has_parting}, Lengths.written_length, Tuplets.{or_default, fits, usual_q}, Force.meter_ticks, Places.{state_at, measure_of}}
-use Rattle.abc_signs.specs.{declared.written.WrittenEvent.WrittenEvent, declared.written.TreeItem.TreeItem, Waits.pending_of, Waits.nothing_pending}
+use Rattle.std.specs.Prelude.{ℕ, zero, suc, ◌+◌, ◌-◌, ◌≤◌, List, [], ◌∷◌, ◌++◌, map, Bool, false, ◌||◌, if◌then◌else◌}
+use Rattle.std.specs.Prelude.{nat_le, Some, None, unwrap_or, ⊤}
+use Rattle.std.specs.List.{All}
+use Rattle.mus_units.specs.declared.note.Head.{Head}
+use Rattle.mus_units.specs.declared.value.Value.{Value}
+use Rattle.mus_units.specs.Parts.{parts_list}
+use Rattle.mus_units.specs.declared.value.Base.{Base}
+use Rattle.mus_score.specs.declared.score.Look.{Look}
+use Rattle.abc_steps.specs.declared.step.WrittenSound.{WrittenSound}
+use Rattle.abc_steps.specs.declared.step.Step.{Step}
+use Rattle.abc_steps.specs.declared.step.PlacedStep.{PlacedStep}
+use Rattle.abc_steps.specs.declared.force.InForce.{InForce}
+use Rattle.abc_steps.specs.declared.state.VoiceState.{VoiceState}
+use Rattle.abc_steps.specs.Looks.{Steps, since_event, is_sound_tied, slurs_begun, slurs_ended, has_parting}
+use Rattle.abc_steps.specs.Lengths.{written_length}
+use Rattle.abc_steps.specs.Tuplets.{or_default, fits, usual_q}
+use Rattle.abc_steps.specs.Force.{meter_ticks}
+use Rattle.abc_steps.specs.Places.{state_at, measure_of}
+use Rattle.abc_signs.specs.declared.written.WrittenEvent.{WrittenEvent}
+use Rattle.abc_signs.specs.declared.written.TreeItem.{TreeItem}
+use Rattle.abc_signs.specs.Waits.{pending_of, nothing_pending}
 
 -- a space or the end of a line stands between an event and the one before it; a voice's first event has none before it
 abbrev pub parted_at : VoiceState → Steps → Bool

@@ -1,5 +1,7 @@
 -- What waited for an event, where it is kept.
-use Rattle.abc_signs.specs.{declared.written.PendingStore.PendingStore, declared.written.Pending.Pending, Waits.nothing_pending}
+use Rattle.abc_signs.specs.declared.written.PendingStore.{PendingStore}
+use Rattle.abc_signs.specs.declared.written.Pending.{Pending}
+use Rattle.abc_signs.specs.Waits.{nothing_pending}
 
 abbrev pub stored_pending : PendingStore → Pending
 stored_pending PendingStore.Nothing = nothing_pending

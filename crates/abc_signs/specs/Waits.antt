@@ -1,7 +1,16 @@
 -- What waits for an event: changes, graces, decorations, texts and an ending, of the steps that stand before it behind the event before.
-use Rattle.std.specs.{Prelude.{ℕ, List, [], ◌∷◌, ◌++◌, flat_map, Bool, true, false, ◌==◌, ◌||◌, if◌then◌else◌, Option, Some, None}, List.list_any}
-use Rattle.{mus_units.specs.declared.note.Deco.{Deco}, mus_score.specs.{declared.score.Mention.Mention, declared.score.Changes.Changes}, abc_notes.specs.declared.part.GraceChord.{GraceChord}}
-use Rattle.{abc_steps.specs.{declared.step.Step.Step, declared.force.InForce.InForce, Looks.Steps, Force.changes_at}, abc_signs.specs.declared.written.Pending.{Pending}}
+use Rattle.std.specs.Prelude.{ℕ, List, [], ◌∷◌, ◌++◌, flat_map, Bool, true, false, ◌==◌, ◌||◌, if◌then◌else◌, Option}
+use Rattle.std.specs.Prelude.{Some, None}
+use Rattle.std.specs.List.{list_any}
+use Rattle.mus_units.specs.declared.note.Deco.{Deco}
+use Rattle.mus_score.specs.declared.score.Mention.{Mention}
+use Rattle.mus_score.specs.declared.score.Changes.{Changes}
+use Rattle.abc_notes.specs.declared.part.GraceChord.{GraceChord}
+use Rattle.abc_steps.specs.declared.step.Step.{Step}
+use Rattle.abc_steps.specs.declared.force.InForce.{InForce}
+use Rattle.abc_steps.specs.Looks.{Steps}
+use Rattle.abc_steps.specs.Force.{changes_at}
+use Rattle.abc_signs.specs.declared.written.Pending.{Pending}
 
 unfoldable pub decos_in : Step → List Deco
 decos_in (Step.Deco deco) = deco ∷ []

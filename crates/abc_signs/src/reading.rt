@@ -1,7 +1,14 @@
-ghost use Rattle.std.specs.{Prelude.◌≡◌, Prelude.◌≤◌, Prelude.◌<◌, Prelude.◌^◌, Prelude.◌+◌, Prelude.◌-◌, Prelude.◌++◌, Prelude.◌∷◌, Prelude.[], Prelude.map, Prelude.length, Prelude.reverse, Prelude.unwrap_or, Prelude.true, Prelude.false, Prelude.IfOk, Prelude.OnOk, List.All};
+ghost use Rattle.std.specs.Prelude.{◌≡◌, ◌≤◌, ◌<◌, ◌^◌, ◌+◌, ◌-◌, ◌++◌, ◌∷◌, [], map, length, reverse, unwrap_or, true};
+ghost use Rattle.std.specs.Prelude.{false, IfOk, OnOk};
+ghost use Rattle.std.specs.List.{All};
 ghost use Rattle.mus_units.specs.Good.{IsGoodMeter};
-ghost use Rattle.abc_steps.specs.{Looks.since_event, Looks.slurs_begun, Looks.slurs_ended, Lengths.parts_at, declared.step.Step.Step, Good.IsGoodForce, Good.IsGoodPlacedStep, Good.IsGoodStep};
-ghost use Rattle.abc_signs.specs.Signs.{with_tie, tied_heads, for_note, look_of, whole_look, parted_at, sound_written, whole_value, rest_written, further_rests, rests_of, tuplet_of, tree_items_of, signs, HasDrawableValues};
+ghost use Rattle.abc_steps.specs.Looks.{since_event, slurs_begun, slurs_ended};
+ghost use Rattle.abc_steps.specs.Lengths.{parts_at};
+ghost use Rattle.abc_steps.specs.declared.step.Step.{Step};
+ghost use Rattle.abc_steps.specs.Good.{IsGoodForce, IsGoodPlacedStep, IsGoodStep};
+ghost use Rattle.abc_signs.specs.Signs.{with_tie, tied_heads, for_note, look_of, whole_look, parted_at, sound_written};
+ghost use Rattle.abc_signs.specs.Signs.{whole_value, rest_written, further_rests, rests_of, tuplet_of, tree_items_of};
+ghost use Rattle.abc_signs.specs.Signs.{signs, HasDrawableValues};
 
 use crate::waits::waiting_of;
 use crate::written::{StoredPending, TreeItem, WrittenEvent};

@@ -1,5 +1,7 @@
-ghost use Rattle.std.specs.{Prelude.◌≡◌, Prelude.◌++◌, Prelude.◌∷◌, Prelude.[], Prelude.None, Prelude.IfOk, Prelude.OnOk, List.list_any};
-ghost use Rattle.abc_signs.specs.Waits.{decos_in, is_annotation_above, mention_of, mentions_in, graces_in, has_slash, ending_behind, pending_of, nothing_pending, no_changes, tells};
+ghost use Rattle.std.specs.Prelude.{◌≡◌, ◌++◌, ◌∷◌, [], None, IfOk, OnOk};
+ghost use Rattle.std.specs.List.{list_any};
+ghost use Rattle.abc_signs.specs.Waits.{decos_in, is_annotation_above, mention_of, mentions_in, graces_in, has_slash};
+ghost use Rattle.abc_signs.specs.Waits.{ending_behind, pending_of, nothing_pending, no_changes, tells};
 
 use crate::written::{Pending, StoredPending};
 use abc_steps::copies::put_chords;

@@ -1,5 +1,7 @@
 -- Where nothing stands between two events, no broken rhythm does.
-use Rattle.std.proofs.{Common.{◌≡◌, ◌∙◌, refl, sym, ap, List, [], ◌∷◌, Bool, true, false, cond, None, length, arith, ◌==◌}, lemmas.Bool.Decides.nat_tests}
+use Rattle.std.proofs.Common.{◌≡◌, ◌∙◌, refl, sym, ap, List, [], ◌∷◌, Bool, true, false, cond, None, length, arith}
+use Rattle.std.proofs.Common.{◌==◌}
+use Rattle.std.proofs.lemmas.Bool.Decides.{nat_tests}
 use Rattle.abc_steps.specs.Looks.{Steps, broken_among}
 
 none_among : broken_among [] ≡ None

@@ -1,7 +1,13 @@
 -- Bounds of written lengths, and good keys.
-use Rattle.std.proofs.{Common.{◌≡◌, subst, sym, ℕ, ◌*◌, ◌^◌, ◌≤◌, arith, Option, Some, IsTrue, IfOk, Result, Ok, Err}, lemmas.Nat.mul-le}
-use Rattle.{mus_units.specs.{declared.key.Key.Key, declared.value.Frac.Frac, Good.IsGoodKey, Good.IsGoodUnit, Good.is_halving}, abc_field.specs.Keys.{GoodKeyIn}}
-use Rattle.abc_steps.specs.{declared.step.WrittenSound.WrittenSound, Good.IsGoodSound, Lengths.IsFactor, Lengths.IsLength}
+use Rattle.std.proofs.Common.{◌≡◌, subst, sym, ℕ, ◌*◌, ◌^◌, ◌≤◌, arith, Option, Some, IsTrue, IfOk, Result, Ok, Err}
+use Rattle.std.proofs.lemmas.Nat.{mul-le}
+use Rattle.mus_units.specs.declared.key.Key.{Key}
+use Rattle.mus_units.specs.declared.value.Frac.{Frac}
+use Rattle.mus_units.specs.Good.{IsGoodKey, IsGoodUnit, is_halving}
+use Rattle.abc_field.specs.Keys.{GoodKeyIn}
+use Rattle.abc_steps.specs.declared.step.WrittenSound.{WrittenSound}
+use Rattle.abc_steps.specs.Good.{IsGoodSound}
+use Rattle.abc_steps.specs.Lengths.{IsFactor, IsLength}
 
 pub good_copy : {E : Type 0} (key : Option Key) (whole : Key) (copy : Result Key E) → key ≡ Some whole → GoodKeyIn key → IfOk copy (λ k. k ≡ whole) → IfOk copy (λ k. IsGoodKey k)
 good_copy key whole (Ok k) is good same = let P : Key → Type 0 = λ k. IsGoodKey k in subst P (sym same) (subst GoodKeyIn is good)

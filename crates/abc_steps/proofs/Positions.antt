@@ -1,5 +1,10 @@
 -- The list before the first place that passes, by that place.
-use Rattle.std.{proofs.{Common.{◌≡◌, refl, ◌∙◌, sym, ap, ℕ, ◌-◌, ◌≤◌, List, length, take, drop, reverse, Bool, true, false, cond, ltb, arith, not, Option, Some, None, ◌++◌, length-drop, unwrap_or}, lemmas.List.{reverse-append, reverse-reverse, length-reverse, take-append-drop, take-append-le, take_all, Sums.prefix_len-le-length}}, specs.List.{position, position_or_len, before_first}}
+use Rattle.std.proofs.Common.{◌≡◌, refl, ◌∙◌, sym, ap, ℕ, ◌-◌, ◌≤◌, List, length, take, drop, reverse, Bool, true}
+use Rattle.std.proofs.Common.{false, cond, ltb, arith, not, Option, Some, None, ◌++◌, length-drop, unwrap_or}
+use Rattle.std.proofs.lemmas.List.{reverse-append, reverse-reverse, length-reverse, take-append-drop, take-append-le}
+use Rattle.std.proofs.lemmas.List.{take_all}
+use Rattle.std.proofs.lemmas.List.Sums.{prefix_len-le-length}
+use Rattle.std.specs.List.{position, position_or_len, before_first}
 
 pub unwrap_position : {X : Type 0} (p : X → Bool) (xs : List X) → unwrap_or (position p xs) (length xs) ≡ position_or_len p xs
 unwrap_position p xs = by_test (ltb (position_or_len p xs) (length xs)) refl where

@@ -1,6 +1,9 @@
 -- A length that a value has is that value alone, cut into parts.
 use Rattle.std.proofs.Common.{◌≡◌, ◌∙◌, sym, ap, ℕ, ◌-◌, ◌≤◌, [], ◌∷◌, Some, option_map, arith}
-use Rattle.mus_units.{specs.declared.value.Value.Value, specs.Parts.IsValueOf, specs.Parts.IsLongestValue, specs.Parts.units_of, specs.Parts.parts_list, proofs.Longest.value_some, proofs.Listed.cut_at_end, proofs.Listed.cut_on, proofs.Listed.listed_is}
+use Rattle.mus_units.specs.declared.value.Value.{Value}
+use Rattle.mus_units.specs.Parts.{IsValueOf, IsLongestValue, units_of, parts_list}
+use Rattle.mus_units.proofs.Longest.{value_some}
+use Rattle.mus_units.proofs.Listed.{cut_at_end, cut_on, listed_is}
 
 pub one_part : (num den : ℕ) (v : Value) → 1 ≤ den → IsValueOf num den v → Some (v ∷ []) ≡ parts_list num den
 one_part num den v above is =

@@ -1,6 +1,10 @@
 -- Measures: how many bars and whole measure rests stand before a place of a voice.
 use Rattle.std.specs.Prelude.{ℕ, ◌+◌, ◌-◌, [], ◌∷◌, Bool, true, false, if◌then◌else◌}
-use Rattle.abc_steps.specs.{declared.step.Step.Step, declared.counts.Nearest.Nearest, declared.counts.Counts.Counts, Kinds.is_event, Kinds.is_bar, Looks.Steps}
+use Rattle.abc_steps.specs.declared.step.Step.{Step}
+use Rattle.abc_steps.specs.declared.counts.Nearest.{Nearest}
+use Rattle.abc_steps.specs.declared.counts.Counts.{Counts}
+use Rattle.abc_steps.specs.Kinds.{is_event, is_bar}
+use Rattle.abc_steps.specs.Looks.{Steps}
 
 -- whether the nearest event or bar is an event or a bar
 abbrev pub nearest_at : Steps → Nearest

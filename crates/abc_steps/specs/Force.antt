@@ -1,6 +1,12 @@
 -- Clef, key, meter and unit in force at a place: those of the last field before it that names them, else those that the voice begins with.
-use Rattle.std.specs.{Prelude.{ℕ, ◌*◌, ◌/◌, List, [], ◌∷◌, Bool, true, false, if◌then◌else◌, Option, Some, None, is_some, unwrap_or}, List.list_any}
-use Rattle.{mus_units.specs.{Value.whole_note, declared.key.Sign.Sign, declared.key.Meter.Meter}, mus_score.specs.declared.score.Changes.{Changes}, abc_field.specs.Keys.{key_over}}
+use Rattle.std.specs.Prelude.{ℕ, ◌*◌, ◌/◌, List, [], ◌∷◌, Bool, true, false, if◌then◌else◌, Option, Some, None, is_some}
+use Rattle.std.specs.Prelude.{unwrap_or}
+use Rattle.std.specs.List.{list_any}
+use Rattle.mus_units.specs.Value.{whole_note}
+use Rattle.mus_units.specs.declared.key.Sign.{Sign}
+use Rattle.mus_units.specs.declared.key.Meter.{Meter}
+use Rattle.mus_score.specs.declared.score.Changes.{Changes}
+use Rattle.abc_field.specs.Keys.{key_over}
 use Rattle.abc_steps.specs.{declared.step.Step.Step, declared.force.InForce.InForce, Looks.Steps}
 
 -- what is in force behind a step

@@ -1,8 +1,13 @@
 -- Good steps: the values of fields are good, a note, a chord or a rest has a length, a grace note has
 -- a head, and numbers are those that a music line can write.
 use Rattle.std.specs.Prelude.{⊤, ◌≤◌, ◌^◌}
-use Rattle.{abc_music.specs.Good.{AreGoodGraces, IsGoodTuplet}, mus_units.specs.Good.{IsGoodKey, IsGoodMeter, IsGoodUnit}, abc_field.specs.Keys.{IsGoodKeyText}}
-use Rattle.abc_steps.specs.{declared.step.WrittenSound.WrittenSound, declared.step.Step.Step, declared.step.PlacedStep.PlacedStep, declared.force.InForce.InForce}
+use Rattle.abc_music.specs.Good.{AreGoodGraces, IsGoodTuplet}
+use Rattle.mus_units.specs.Good.{IsGoodKey, IsGoodMeter, IsGoodUnit}
+use Rattle.abc_field.specs.Keys.{IsGoodKeyText}
+use Rattle.abc_steps.specs.declared.step.WrittenSound.{WrittenSound}
+use Rattle.abc_steps.specs.declared.step.Step.{Step}
+use Rattle.abc_steps.specs.declared.step.PlacedStep.{PlacedStep}
+use Rattle.abc_steps.specs.declared.force.InForce.{InForce}
 
 pub record IsGoodSound (s : WrittenSound) : Type 0 where
   pub some : 1 ≤ s.num

@@ -1,7 +1,10 @@
 -- The written length of a note, a chord or a rest: its length times the unit and its broken factors.
 use Rattle.std.specs.Prelude.{ℕ, ◌*◌, ◌≤◌, ◌^◌, List, nat_le, true, false, if◌then◌else◌, Option, Some, None}
 use Rattle.mus_units.specs.{declared.value.Frac.Frac, declared.value.Value.Value, Parts.parts_list}
-use Rattle.abc_steps.specs.{declared.step.WrittenSound.WrittenSound, declared.step.PlacedStep.PlacedStep, declared.step.Step.Step, Looks.Steps, Looks.broken_before, Looks.broken_behind}
+use Rattle.abc_steps.specs.declared.step.WrittenSound.{WrittenSound}
+use Rattle.abc_steps.specs.declared.step.PlacedStep.{PlacedStep}
+use Rattle.abc_steps.specs.declared.step.Step.{Step}
+use Rattle.abc_steps.specs.Looks.{Steps, broken_before, broken_behind}
 
 abbrev pub once : Frac
 once = record { num = 1; den = 1 }

@@ -1,6 +1,9 @@
 -- What stands before and behind a place among the steps of a voice: `before` is what stands before it, the nearest first, and `behind` is what follows it.
-use Rattle.std.specs.{Prelude.{ℕ, List, reverse, find, count_by, Bool, false, if◌then◌else◌, Option, Some, None}, List.{before_first, list_any}}
-use Rattle.abc_steps.specs.{declared.step.PlacedStep.PlacedStep, Kinds.is_sound, Kinds.is_note, Kinds.is_event, Kinds.is_bar, Kinds.is_broken, Kinds.is_tie, Kinds.is_slur_on, Kinds.is_slur_off, Kinds.is_parting, Kinds.is_event_or_bar, Kinds.is_left_stop, Kinds.is_tie_stop}
+use Rattle.std.specs.Prelude.{ℕ, List, reverse, find, count_by, Bool, false, if◌then◌else◌, Option, Some, None}
+use Rattle.std.specs.List.{before_first, list_any}
+use Rattle.abc_steps.specs.declared.step.PlacedStep.{PlacedStep}
+use Rattle.abc_steps.specs.Kinds.{is_sound, is_note, is_event, is_bar, is_broken, is_tie, is_slur_on, is_slur_off}
+use Rattle.abc_steps.specs.Kinds.{is_parting, is_event_or_bar, is_left_stop, is_tie_stop}
 
 abbrev pub Steps : Type 0
 Steps = List PlacedStep

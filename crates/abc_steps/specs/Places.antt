@@ -1,6 +1,11 @@
 -- What holds at a place of a voice: the counts of its measure, what is in force, and what the open tuplets take.
 use Rattle.std.specs.Prelude.{ℕ, ◌+◌}
-use Rattle.abc_steps.specs.{declared.force.InForce.InForce, Looks.Steps, Counts.counts_of, Force.force_at, Tuplets.open_tuplets_at, declared.state.VoiceState.VoiceState}
+use Rattle.abc_steps.specs.declared.force.InForce.{InForce}
+use Rattle.abc_steps.specs.Looks.{Steps}
+use Rattle.abc_steps.specs.Counts.{counts_of}
+use Rattle.abc_steps.specs.Force.{force_at}
+use Rattle.abc_steps.specs.Tuplets.{open_tuplets_at}
+use Rattle.abc_steps.specs.declared.state.VoiceState.{VoiceState}
 
 abbrev pub state_at : InForce → Steps → VoiceState
 state_at first before = record { counts = counts_of before; force = force_at first before; taking = open_tuplets_at before }

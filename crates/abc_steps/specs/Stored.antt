@@ -1,5 +1,7 @@
 -- A note, a chord or a rest where it is kept: a rest and a single note in place, others apart.
-use Rattle.{std.specs.Prelude.{[], true}, abc_steps.specs.{declared.stored.SoundStore.SoundStore, declared.step.WrittenSound.WrittenSound}}
+use Rattle.std.specs.Prelude.{[], true}
+use Rattle.abc_steps.specs.declared.stored.SoundStore.{SoundStore}
+use Rattle.abc_steps.specs.declared.step.WrittenSound.{WrittenSound}
 
 abbrev pub stored_sound : SoundStore → WrittenSound
 stored_sound (SoundStore.Rest seen num den) = record { heads = []; seen = seen; decos = []; num = num; den = den }

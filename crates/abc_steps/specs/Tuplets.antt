@@ -1,6 +1,9 @@
 -- Tuplets: how many events the open ones still take.
 use Rattle.std.specs.Prelude.{ℕ, zero, suc, ◌-◌, [], ◌∷◌, Bool, true, false, nat_le, if◌then◌else◌, ◌==◌, ◌||◌, ◌&&◌}
-use Rattle.{mus_units.specs.declared.key.Meter.{Meter}, abc_steps.specs.{declared.step.Step.Step, declared.tuplets.OpenTuplets.OpenTuplets, Looks.Steps}}
+use Rattle.mus_units.specs.declared.key.Meter.{Meter}
+use Rattle.abc_steps.specs.declared.step.Step.{Step}
+use Rattle.abc_steps.specs.declared.tuplets.OpenTuplets.{OpenTuplets}
+use Rattle.abc_steps.specs.Looks.{Steps}
 
 -- a number that is left out is 0
 abbrev pub or_default : ℕ → ℕ → ℕ

@@ -1,6 +1,10 @@
-ghost use Rattle.std.specs.{Prelude.◌≡◌, Prelude.◌≤◌, Prelude.◌^◌, Prelude.IfOk, Prelude.OnOk, Prelude.OnErr, Prelude.Option, Prelude.MatchOption, Prelude.length, Prelude.is_some, List.list_any};
+ghost use Rattle.std.specs.Prelude.{◌≡◌, ◌≤◌, ◌^◌, IfOk, OnOk, OnErr, Option, MatchOption, length, is_some};
+ghost use Rattle.std.specs.List.{list_any};
 ghost use Rattle.{mus_units.specs.Good.{IsGoodKey, IsGoodMeter}, abc_field.specs.Keys.{key_over, IsGoodKeyText}};
-ghost use Rattle.abc_steps.specs.{declared.step.Step.Step, Force.{force_after, has_sign, names_key, names_clef, names_meter, some_if, changes_at, meter_ticks}, Good.{IsGoodStep, IsGoodForce}};
+ghost use Rattle.abc_steps.specs.declared.step.Step.{Step};
+ghost use Rattle.abc_steps.specs.Force.{force_after, has_sign, names_key, names_clef, names_meter, some_if, changes_at};
+ghost use Rattle.abc_steps.specs.Force.{meter_ticks};
+ghost use Rattle.abc_steps.specs.Good.{IsGoodStep, IsGoodForce};
 
 use crate::step::{PlacedStep, Step};
 use abc_field::KeyText;

@@ -1,5 +1,6 @@
 ghost use Rattle.std.specs.Prelude.{◌≡◌};
-ghost use Rattle.abc_steps.specs.Kinds.{has_head, is_sound, is_note, is_event, is_bar, is_broken, is_tie, is_slur_on, is_slur_off, is_parting, is_event_or_bar, is_left_stop, is_tie_stop};
+ghost use Rattle.abc_steps.specs.Kinds.{has_head, is_sound, is_note, is_event, is_bar, is_broken, is_tie, is_slur_on};
+ghost use Rattle.abc_steps.specs.Kinds.{is_slur_off, is_parting, is_event_or_bar, is_left_stop, is_tie_stop};
 
 use crate::step::Step;
 use mus_units::Head;

@@ -1,6 +1,8 @@
 ghost use Rattle.std.specs.{Prelude.{◌≡◌, ◌≤◌, ◌^◌, reverse, IfOk}, Option.option_copied};
 ghost use Rattle.mus_units.specs.{Good.IsGoodUnit, Parts.parts_list};
-ghost use Rattle.abc_steps.specs.{Good.IsGoodSound, Good.IsGoodPlacedStep, Lengths.{long_side, short_side, left_side, right_side, left_factor, right_factor, written_length, parts_at, IsFactor, IsLength}};
+ghost use Rattle.abc_steps.specs.Good.{IsGoodSound, IsGoodPlacedStep};
+ghost use Rattle.abc_steps.specs.Lengths.{long_side, short_side, left_side, right_side, left_factor, right_factor};
+ghost use Rattle.abc_steps.specs.Lengths.{written_length, parts_at, IsFactor, IsLength};
 
 use crate::looks::{broken_before, broken_behind};
 use crate::step::{PlacedStep, Step};

@@ -1,5 +1,12 @@
-ghost use Rattle.std.specs.{Prelude.{◌≡◌, ◌≤◌, ◌^◌, ◌<◌, reverse, length, find, count_by, IfSome, Bool}, Option.option_copied, List.{position, before_first, list_any}};
-ghost use Rattle.abc_steps.specs.{declared.step.PlacedStep.PlacedStep, Kinds.{is_note, is_event, is_bar, is_broken, is_tie, is_slur_on, is_slur_off, is_event_or_bar, is_left_stop, is_tie_stop}, Looks.{since_event, since_note, to_event, to_note, nearest_event, is_sound_tied, slurs_begun, slurs_ended, has_parting, is_some_sound, broken_among, broken_before, broken_behind, has_left, has_right}};
+ghost use Rattle.std.specs.Prelude.{◌≡◌, ◌≤◌, ◌^◌, ◌<◌, reverse, length, find, count_by, IfSome, Bool};
+ghost use Rattle.std.specs.Option.{option_copied};
+ghost use Rattle.std.specs.List.{position, before_first, list_any};
+ghost use Rattle.abc_steps.specs.declared.step.PlacedStep.{PlacedStep};
+ghost use Rattle.abc_steps.specs.Kinds.{is_note, is_event, is_bar, is_broken, is_tie, is_slur_on, is_slur_off};
+ghost use Rattle.abc_steps.specs.Kinds.{is_event_or_bar, is_left_stop, is_tie_stop};
+ghost use Rattle.abc_steps.specs.Looks.{since_event, since_note, to_event, to_note, nearest_event, is_sound_tied};
+ghost use Rattle.abc_steps.specs.Looks.{slurs_begun, slurs_ended, has_parting, is_some_sound, broken_among};
+ghost use Rattle.abc_steps.specs.Looks.{broken_before, broken_behind, has_left, has_right};
 
 use crate::kinds::{
     is_bar, is_broken, is_event, is_event_or_bar, is_left_stop, is_note, is_parting, is_slur_off,

@@ -1,5 +1,8 @@
 ghost use Rattle.std.specs.Prelude.{◌≡◌, ◌≤◌, ◌^◌, ◌+◌, ◌∷◌, [], IfOk, OnOk};
-ghost use Rattle.abc_steps.specs.{declared.force.InForce.InForce, Looks.Steps, Good.IsGoodForce, Good.IsGoodPlacedStep, Places.state_at, Places.measure_of};
+ghost use Rattle.abc_steps.specs.declared.force.InForce.{InForce};
+ghost use Rattle.abc_steps.specs.Looks.{Steps};
+ghost use Rattle.abc_steps.specs.Good.{IsGoodForce, IsGoodPlacedStep};
+ghost use Rattle.abc_steps.specs.Places.{state_at, measure_of};
 
 use crate::counts::{Counts, count_step, no_counts};
 use crate::force::{InForce, change_force};

@@ -1,5 +1,6 @@
 ghost use Rattle.std.specs.Prelude.{◌≡◌};
-ghost use Rattle.abc_steps.specs.Tuplets.{or_default, fits, one_less, after_event, with_tuplet_opened, open_tuplets_after, is_compound, usual_q};
+ghost use Rattle.abc_steps.specs.Tuplets.{or_default, fits, one_less, after_event, with_tuplet_opened};
+ghost use Rattle.abc_steps.specs.Tuplets.{open_tuplets_after, is_compound, usual_q};
 
 use crate::step::Step;
 use mus_units::Meter;

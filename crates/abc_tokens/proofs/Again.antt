@@ -1,10 +1,47 @@
 -- A plain spelling is read as its tokens.
-use Rattle.std.{proofs.{Common.{◌≡◌, ℕ, ◌-◌, ◌≤◌, Bool, true, false, eqb, List, [], ◌∷◌, ◌++◌, length, Option, Some, None, refl, sym, ap, ◌∙◌, subst, arith, Result, Ok, Err, IfOk, IfSome, map}, lemmas.{Fmt.decimal_digit, Bool.{cond_both, and_parts, leb-true, ne_eqb, both_ways, eq-eqb}}}, specs.{Fmt.decimal, Str.Parse.digits_value}}
+use Rattle.std.proofs.Common.{◌≡◌, ℕ, ◌-◌, ◌≤◌, Bool, true, false, eqb, List, [], ◌∷◌, ◌++◌, length, Option, Some, None}
+use Rattle.std.proofs.Common.{refl, sym, ap, ◌∙◌, subst, arith, Result, Ok, Err, IfOk, IfSome, map}
+use Rattle.std.proofs.lemmas.Fmt.{decimal_digit}
+use Rattle.std.proofs.lemmas.Bool.{cond_both, and_parts, leb-true, ne_eqb, both_ways, eq-eqb}
+use Rattle.std.specs.Fmt.{decimal}
+use Rattle.std.specs.Str.Parse.{digits_value}
 use Rattle.mus_units.specs.{declared.note.Bar.Bar, declared.note.Deco.Deco, declared.note.Head.Head, Bytes.is_digit}
-use Rattle.abc_pieces.{specs.{Forms.{Form, note_form, rest_form, measures_form, chord_form, grace_form, tuplet_form, slur_form, close_form, tie_form, broken_form, bar_form, ending_form, letter_form, named_form, says_form, inline_form, cut_form, space_form, passed_form, spelled, token_meant, after, IsGoodForm, StandsAt, is_kept_field, inline_token}, declared.token.{PieceBefore.PieceBefore, Token.Token}, Tuplets.{bare, with_q, with_r, IsTuplet, is_tuplet_digit, value_or_zero}, Reading.{read, piece_at, class_of}, Bars.{BarForm, bar_meant as bar_of}}, proofs.PieceReader.piece_reader}
-use Rattle.abc_notes.{specs.{declared.part.{GraceChord.GraceChord, Len.Len}, Runs.maybe, Lengths.{LengthForm, IsCount, count_of, len_of, IsWrittenLength}, Notes.{NoteForm, IsNote, head_of}, Items.sense, Decorations.{deco_of_letter, deco_of_name}, Chords.{ChordForm, heads_of, decos_of}, Graces.{GraceForm, body_of}, Parts.IsLongest}, proofs.{Bounds.digit_value-is, PartLaws.longest_of}}
-use Rattle.abc_music.specs.{declared.token.Placed.Placed, Tokens.Tokens, Tokens.ends, Tokens.goes, Tokens.column, Tokens.with_token}
-use Rattle.abc_tokens.{proofs.{Exact.{Stops, at_end, at_quote, IsExact, note_piece, rest_piece, measures_piece, tuplet_piece, slur_piece, broken_piece, bar_piece, ending_piece, named_piece, says_piece, inline_piece, space_piece, chord_piece, grace_piece}, Groups.{plain_chord, chord_spell, chord_heads, chord_decos, chord_good, chord_whole, chord_opens, heads_from, decos_from, some_heads, plain_grace, grace_spell, body_means, grace_good, body_whole, body_from}, Numbers.{digit_from, digits_again, count_again, is_count, count_means, len_form, len_again, head_form, head_good, head_means}, Bars.{plain_bar, same_bar}, Names.{GoodDeco, letter_good, name_good}}, specs.{Plain.{all_then, len_then, number_or_empty, deco_name, token_then, next_then, plain_text}, Again.{ReadsAs, IsReadable}}}
+use Rattle.abc_pieces.specs.Forms.{Form, note_form, rest_form, measures_form, chord_form, grace_form, tuplet_form}
+use Rattle.abc_pieces.specs.Forms.{slur_form, close_form, tie_form, broken_form, bar_form, ending_form, letter_form}
+use Rattle.abc_pieces.specs.Forms.{named_form, says_form, inline_form, cut_form, space_form, passed_form, spelled}
+use Rattle.abc_pieces.specs.Forms.{token_meant, after, IsGoodForm, StandsAt, is_kept_field, inline_token}
+use Rattle.abc_pieces.specs.declared.token.PieceBefore.{PieceBefore}
+use Rattle.abc_pieces.specs.declared.token.Token.{Token}
+use Rattle.abc_pieces.specs.Tuplets.{bare, with_q, with_r, IsTuplet, is_tuplet_digit, value_or_zero}
+use Rattle.abc_pieces.specs.Reading.{read, piece_at, class_of}
+use Rattle.abc_pieces.specs.Bars.{BarForm, bar_meant as bar_of}
+use Rattle.abc_pieces.proofs.PieceReader.{piece_reader}
+use Rattle.abc_notes.specs.declared.part.GraceChord.{GraceChord}
+use Rattle.abc_notes.specs.declared.part.Len.{Len}
+use Rattle.abc_notes.specs.Runs.{maybe}
+use Rattle.abc_notes.specs.Lengths.{LengthForm, IsCount, count_of, len_of, IsWrittenLength}
+use Rattle.abc_notes.specs.Notes.{NoteForm, IsNote, head_of}
+use Rattle.abc_notes.specs.Items.{sense}
+use Rattle.abc_notes.specs.Decorations.{deco_of_letter, deco_of_name}
+use Rattle.abc_notes.specs.Chords.{ChordForm, heads_of, decos_of}
+use Rattle.abc_notes.specs.Graces.{GraceForm, body_of}
+use Rattle.abc_notes.specs.Parts.{IsLongest}
+use Rattle.abc_notes.proofs.Bounds.{digit_value-is}
+use Rattle.abc_notes.proofs.PartLaws.{longest_of}
+use Rattle.abc_music.specs.declared.token.Placed.{Placed}
+use Rattle.abc_music.specs.Tokens.{Tokens, ends, goes, column, with_token}
+use Rattle.abc_tokens.proofs.Exact.{Stops, at_end, at_quote, IsExact, note_piece, rest_piece, measures_piece}
+use Rattle.abc_tokens.proofs.Exact.{tuplet_piece, slur_piece, broken_piece, bar_piece, ending_piece, named_piece}
+use Rattle.abc_tokens.proofs.Exact.{says_piece, inline_piece, space_piece, chord_piece, grace_piece}
+use Rattle.abc_tokens.proofs.Groups.{plain_chord, chord_spell, chord_heads, chord_decos, chord_good, chord_whole}
+use Rattle.abc_tokens.proofs.Groups.{chord_opens, heads_from, decos_from, some_heads, plain_grace, grace_spell}
+use Rattle.abc_tokens.proofs.Groups.{body_means, grace_good, body_whole, body_from}
+use Rattle.abc_tokens.proofs.Numbers.{digit_from, digits_again, count_again, is_count, count_means, len_form, len_again}
+use Rattle.abc_tokens.proofs.Numbers.{head_form, head_good, head_means}
+use Rattle.abc_tokens.proofs.Bars.{plain_bar, same_bar}
+use Rattle.abc_tokens.proofs.Names.{GoodDeco, letter_good, name_good}
+use Rattle.abc_tokens.specs.Plain.{all_then, len_then, number_or_empty, deco_name, token_then, next_then, plain_text}
+use Rattle.abc_tokens.specs.Again.{ReadsAs, IsReadable}
 
 -- a piece that is the plain spelling of the token, and is read as itself
 pub record IsPlain (t : Token) : Type 0 where

@@ -1,6 +1,9 @@
 -- A bar in its plain spelling is read as itself.
-use Rattle.std.proofs.Common.{◌≡◌, ℕ, zero, suc, ◌≤◌, Bool, true, false, eqb, ltb, List, refl, sym, subst, arith, not, ◌&&◌, if◌then◌else◌, ne_eqb, lt-ltb}
-use Rattle.{mus_units.specs.declared.note.Bar.{Bar}, abc_pieces.specs.Bars.{BarForm, signs, colons, IsGoodBar, bar_meant, spelled}, abc_tokens.specs.Plain.{is_colons, bar_then}}
+use Rattle.std.proofs.Common.{◌≡◌, ℕ, zero, suc, ◌≤◌, Bool, true, false, eqb, ltb, List, refl, sym, subst, arith, not}
+use Rattle.std.proofs.Common.{◌&&◌, if◌then◌else◌, ne_eqb, lt-ltb}
+use Rattle.mus_units.specs.declared.note.Bar.{Bar}
+use Rattle.abc_pieces.specs.Bars.{BarForm, signs, colons, IsGoodBar, bar_meant, spelled}
+use Rattle.abc_tokens.specs.Plain.{is_colons, bar_then}
 
 abbrev pub plain_bar : Bar → BarForm
 plain_bar b =

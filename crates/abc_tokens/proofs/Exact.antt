@@ -1,8 +1,39 @@
 -- Where a backquote or nothing follows, a piece in its plain spelling is read as itself.
-use Rattle.std.{proofs.{Common.{◌≡◌, ℕ, zero, suc, ◌≤◌, Bool, true, false, eqb, List, [], ◌∷◌, ◌++◌, length, Option, Some, None, refl, sym, ap, ◌∙◌, arith, inl, inr, not, option_map, append-nil}, lemmas.Bool.{and_parts, ne_eqb, both_ways, not-true}}, specs.List.list_all}
-use Rattle.mus_units.specs.{declared.pitch.Alter.Alter, declared.pitch.Letter.Letter, Bytes.is_digit, Bytes.is_blank, Bytes.is_letter, declared.pitch.Alter.TheVariants.Sharp2, declared.pitch.Letter.TheVariants.C}
-use Rattle.abc_notes.{specs.{Runs.{copies, maybe, span, begins}, Lengths.{LengthForm, length_then, length_from, IsWrittenLength, IsCount, number_at}, Notes.{NoteForm, note_then, sign_then, letter_byte, IsNote, note_at}, Items.{IsName, is_note_byte}, Chords.{ChordForm, chord_then, is_inside, IsChord, chord_at}, Graces.{GraceForm, IsGrace, is_slash_byte}}, proofs.{RunLaws.skip-yes, SpanLaws.{span-cons, span-zero, span-stops, span_all-append, span_all-stops}, LengthLaws.{goes_on, length_at-reaches, count-reads, count-stops}, NoteLaws.{note_goes_on, note_at-reaches}, ItemLaws.name_at-reads, GraceLaws.{grace-reads, has_lone_part}, ChordLaws.{chord-reads, has_lone}}}
-use Rattle.abc_pieces.{specs.{Bars.{BarForm, signs, colons, form_at, spelled as bar_then, IsGoodBar as IsBar}, Forms.{Form, note_form, rest_form, measures_form, chord_form, grace_form, tuplet_form, slur_form, broken_form, bar_form, ending_form, letter_form, named_form, says_form, inline_form, space_form, spelled, is_ending, is_quoted_byte, arrow, opening}, Reading.{FormAndRest, read, class_of, note_form_read, rest_read, measures_read, bar_read, chord_read, grace_read, tuplet_read, or_else, ending_read, broken_read, says_read, inline_read, space_read, bang_read, dot_read, bracket_form, piece_at}, Tuplets.{with_r, tuplet_then, tuplet_at, IsTuplet}, declared.token.{PieceBefore.PieceBefore, BracketOpening.BracketOpening}}, proofs.{BarLaws.{form_at-reaches, goes_on as bar_goes_on}, Classes.{digit_below, letter_apart}, PieceTakes.opening-behind}}
+use Rattle.std.proofs.Common.{◌≡◌, ℕ, zero, suc, ◌≤◌, Bool, true, false, eqb, List, [], ◌∷◌, ◌++◌, length, Option, Some}
+use Rattle.std.proofs.Common.{None, refl, sym, ap, ◌∙◌, arith, inl, inr, not, option_map, append-nil}
+use Rattle.std.proofs.lemmas.Bool.{and_parts, ne_eqb, both_ways, not-true}
+use Rattle.std.specs.List.{list_all}
+use Rattle.mus_units.specs.declared.pitch.Alter.{Alter}
+use Rattle.mus_units.specs.declared.pitch.Letter.{Letter}
+use Rattle.mus_units.specs.Bytes.{is_digit, is_blank, is_letter}
+use Rattle.mus_units.specs.declared.pitch.Alter.TheVariants.{Sharp2}
+use Rattle.mus_units.specs.declared.pitch.Letter.TheVariants.{C}
+use Rattle.abc_notes.specs.Runs.{copies, maybe, span, begins}
+use Rattle.abc_notes.specs.Lengths.{LengthForm, length_then, length_from, IsWrittenLength, IsCount, number_at}
+use Rattle.abc_notes.specs.Notes.{NoteForm, note_then, sign_then, letter_byte, IsNote, note_at}
+use Rattle.abc_notes.specs.Items.{IsName, is_note_byte}
+use Rattle.abc_notes.specs.Chords.{ChordForm, chord_then, is_inside, IsChord, chord_at}
+use Rattle.abc_notes.specs.Graces.{GraceForm, IsGrace, is_slash_byte}
+use Rattle.abc_notes.proofs.RunLaws.{skip-yes}
+use Rattle.abc_notes.proofs.SpanLaws.{span-cons, span-zero, span-stops, span_all-append, span_all-stops}
+use Rattle.abc_notes.proofs.LengthLaws.{goes_on, length_at-reaches, count-reads, count-stops}
+use Rattle.abc_notes.proofs.NoteLaws.{note_goes_on, note_at-reaches}
+use Rattle.abc_notes.proofs.ItemLaws.{name_at-reads}
+use Rattle.abc_notes.proofs.GraceLaws.{grace-reads, has_lone_part}
+use Rattle.abc_notes.proofs.ChordLaws.{chord-reads, has_lone}
+use Rattle.abc_pieces.specs.Bars.{BarForm, signs, colons, form_at, spelled as bar_then, IsGoodBar as IsBar}
+use Rattle.abc_pieces.specs.Forms.{Form, note_form, rest_form, measures_form, chord_form, grace_form, tuplet_form}
+use Rattle.abc_pieces.specs.Forms.{slur_form, broken_form, bar_form, ending_form, letter_form, named_form, says_form}
+use Rattle.abc_pieces.specs.Forms.{inline_form, space_form, spelled, is_ending, is_quoted_byte, arrow, opening}
+use Rattle.abc_pieces.specs.Reading.{FormAndRest, read, class_of, note_form_read, rest_read, measures_read, bar_read}
+use Rattle.abc_pieces.specs.Reading.{chord_read, grace_read, tuplet_read, or_else, ending_read, broken_read, says_read}
+use Rattle.abc_pieces.specs.Reading.{inline_read, space_read, bang_read, dot_read, bracket_form, piece_at}
+use Rattle.abc_pieces.specs.Tuplets.{with_r, tuplet_then, tuplet_at, IsTuplet}
+use Rattle.abc_pieces.specs.declared.token.PieceBefore.{PieceBefore}
+use Rattle.abc_pieces.specs.declared.token.BracketOpening.{BracketOpening}
+use Rattle.abc_pieces.proofs.BarLaws.{form_at-reaches, goes_on as bar_goes_on}
+use Rattle.abc_pieces.proofs.Classes.{digit_below, letter_apart}
+use Rattle.abc_pieces.proofs.PieceTakes.{opening-behind}
 
 pub data Stops : List ℕ → Type 0 where
   at_end : Stops []

@@ -1,9 +1,42 @@
 -- Chords and grace groups in their plain spelling are read as themselves.
-use Rattle.std.{proofs.{Common.{◌≡◌, ℕ, ◌≤◌, Bool, true, false, eqb, List, [], ◌∷◌, ◌++◌, length, Option, Some, None, refl, sym, ap, ◌∙◌, arith, inl, inr, append_assoc, not, option_map, map}, lemmas.Bool.{or_cases, and_parts, eqb-true, ne_eqb, not-true, or_parts}}, specs.{List.list_all, Fmt.decimal}}
-use Rattle.mus_units.specs.{declared.note.Deco.Deco, declared.note.Head.Head, declared.pitch.Alter.Alter, declared.pitch.Letter.Letter, Bytes.is_digit, declared.pitch.Alter.TheVariants.Sharp2, declared.pitch.Letter.TheVariants.C}
-use Rattle.abc_notes.{specs.{Items.{Inner, note_inside, letter_inside, named_inside, tie_inside, lone_inside, inner_then, IsInner, IsName, sense, InnerParts, inner_at, item_class, is_note_byte}, Graces.{GracePart, single, chorded, grace_part_then, IsGracePart, GraceParts, GraceForm, is_slash_byte, IsGrace, heads_in, body_of, grace_part_at, single_read, chorded_read}, declared.part.{GraceChord.GraceChord, Len.Len}, Runs.{maybe, begins, is_mark}, Lengths.{LengthForm, whole, length_then, len_of}, Notes.{NoteForm, note_then, sign_then, letter_byte, IsNote, head_of, note_at}, Parts.{no_part, then_part}, Chords.{ChordForm, chord_then, has_inner_head, IsChord, is_tied, tied_if, heads_of, decos_of}}, proofs.{LengthLaws.{goes_on, count-digits}, NoteLaws.note_goes_on, ItemLaws.name_at-reads, InnerLaws.inner_reader, PartLaws.longest_of, Bounds.digit_range, GraceLaws.{part_reader, at_bracket, lone_part_is, has_lone_part}, ChordLaws.has_lone, CutLaws.{maybe_append, sign_append, wider}}}
+use Rattle.std.proofs.Common.{◌≡◌, ℕ, ◌≤◌, Bool, true, false, eqb, List, [], ◌∷◌, ◌++◌, length, Option, Some, None}
+use Rattle.std.proofs.Common.{refl, sym, ap, ◌∙◌, arith, inl, inr, append_assoc, not, option_map, map}
+use Rattle.std.proofs.lemmas.Bool.{or_cases, and_parts, eqb-true, ne_eqb, not-true, or_parts}
+use Rattle.std.specs.List.{list_all}
+use Rattle.std.specs.Fmt.{decimal}
+use Rattle.mus_units.specs.declared.note.Deco.{Deco}
+use Rattle.mus_units.specs.declared.note.Head.{Head}
+use Rattle.mus_units.specs.declared.pitch.Alter.{Alter}
+use Rattle.mus_units.specs.declared.pitch.Letter.{Letter}
+use Rattle.mus_units.specs.Bytes.{is_digit}
+use Rattle.mus_units.specs.declared.pitch.Alter.TheVariants.{Sharp2}
+use Rattle.mus_units.specs.declared.pitch.Letter.TheVariants.{C}
+use Rattle.abc_notes.specs.Items.{Inner, note_inside, letter_inside, named_inside, tie_inside, lone_inside, inner_then}
+use Rattle.abc_notes.specs.Items.{IsInner, IsName, sense, InnerParts, inner_at, item_class, is_note_byte}
+use Rattle.abc_notes.specs.Graces.{GracePart, single, chorded, grace_part_then, IsGracePart, GraceParts, GraceForm}
+use Rattle.abc_notes.specs.Graces.{is_slash_byte, IsGrace, heads_in, body_of, grace_part_at, single_read, chorded_read}
+use Rattle.abc_notes.specs.declared.part.GraceChord.{GraceChord}
+use Rattle.abc_notes.specs.declared.part.Len.{Len}
+use Rattle.abc_notes.specs.Runs.{maybe, begins, is_mark}
+use Rattle.abc_notes.specs.Lengths.{LengthForm, whole, length_then, len_of}
+use Rattle.abc_notes.specs.Notes.{NoteForm, note_then, sign_then, letter_byte, IsNote, head_of, note_at}
+use Rattle.abc_notes.specs.Parts.{no_part, then_part}
+use Rattle.abc_notes.specs.Chords.{ChordForm, chord_then, has_inner_head, IsChord, is_tied, tied_if, heads_of, decos_of}
+use Rattle.abc_notes.proofs.LengthLaws.{goes_on, count-digits}
+use Rattle.abc_notes.proofs.NoteLaws.{note_goes_on}
+use Rattle.abc_notes.proofs.ItemLaws.{name_at-reads}
+use Rattle.abc_notes.proofs.InnerLaws.{inner_reader}
+use Rattle.abc_notes.proofs.PartLaws.{longest_of}
+use Rattle.abc_notes.proofs.Bounds.{digit_range}
+use Rattle.abc_notes.proofs.GraceLaws.{part_reader, at_bracket, lone_part_is, has_lone_part}
+use Rattle.abc_notes.proofs.ChordLaws.{has_lone}
+use Rattle.abc_notes.proofs.CutLaws.{maybe_append, sign_append, wider}
 use Rattle.abc_pieces.specs.{declared.token.BracketOpening.BracketOpening, Forms.opening}
-use Rattle.abc_tokens.{specs.Plain.{all_then, len_then, marks_of, is_small_letter, head_then, chord_head_then, deco_name, deco_then, heads_then, grace_chord_then}, proofs.{Numbers.{GoodLen, len_form, len_again, head_form, head_good, head_means, good_marks}, Names.{GoodDeco, letter_good, name_good}, Exact.{First, first_is, note_exact, chord_exact}}}
+use Rattle.abc_tokens.specs.Plain.{all_then, len_then, marks_of, is_small_letter, head_then, chord_head_then, deco_name}
+use Rattle.abc_tokens.specs.Plain.{deco_then, heads_then, grace_chord_then}
+use Rattle.abc_tokens.proofs.Numbers.{GoodLen, len_form, len_again, head_form, head_good, head_means, good_marks}
+use Rattle.abc_tokens.proofs.Names.{GoodDeco, letter_good, name_good}
+use Rattle.abc_tokens.proofs.Exact.{First, first_is, note_exact, chord_exact}
 
 -- ---- lists of bytes that pass
 

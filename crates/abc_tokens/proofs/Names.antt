@@ -1,7 +1,12 @@
 -- The plain name of a decoration is read as it.
-use Rattle.std.proofs.{Common.{◌≡◌, ℕ, cond, eqb, List, [], ◌∷◌, refl, sym, ap, ◌∙◌, subst, arith, inl, inr, ◌⊎◌, codes}, lemmas.Bool.cond_both}
-use Rattle.mus_units.specs.declared.note.Deco.{Deco, TheVariants.{Ks, Kr, Kf, Ka, Km, Kc, Kp, Kg, Kt, Ku, Kd, Kn, Below, Above, Quiet}}
-use Rattle.abc_notes.specs.{Decorations.deco_of_letter, Decorations.deco_of_name, Decorations.deco_of_text, Decorations.is_named, Decorations.is_one_of, Decorations.is_accent, Decorations.is_dynamic, Decorations.is_finger, Items.IsName}
+use Rattle.std.proofs.Common.{◌≡◌, ℕ, cond, eqb, List, [], ◌∷◌, refl, sym, ap, ◌∙◌, subst, arith, inl, inr, ◌⊎◌, codes}
+use Rattle.std.proofs.lemmas.Bool.{cond_both}
+use Rattle.mus_units.specs.declared.note.Deco.{Deco}
+use Rattle.mus_units.specs.declared.note.Deco.TheVariants.{Ks, Kr, Kf, Ka, Km, Kc, Kp, Kg, Kt, Ku, Kd, Kn, Below, Above}
+use Rattle.mus_units.specs.declared.note.Deco.TheVariants.{Quiet}
+use Rattle.abc_notes.specs.Decorations.{deco_of_letter, deco_of_name, deco_of_text, is_named, is_one_of, is_accent}
+use Rattle.abc_notes.specs.Decorations.{is_dynamic, is_finger}
+use Rattle.abc_notes.specs.Items.{IsName}
 use Rattle.abc_tokens.specs.Plain.{deco_name}
 
 -- the name means the decoration, and may stand between exclamation marks

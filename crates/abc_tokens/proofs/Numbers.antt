@@ -1,7 +1,24 @@
 -- Numbers, lengths and octaves in their plain spelling are read as themselves.
-use Rattle.std.{proofs.{Common.{◌≡◌, ℕ, zero, suc, ◌+◌, ◌-◌, ◌^◌, ◌≤◌, ◌<◌, Bool, true, false, cond, eqb, leb, List, [], ◌∷◌, length, get_or, refl, sym, ap, ◌∙◌, subst, arith, ℤ, pos, negsuc, ◌-ℤ◌, replicate, count_by, ◌*◌}, lemmas.{Fmt.decimal-digits_value, Str.Parse.{IsNumeralModel, IsDigitsTest, numerals_by_value}, Int.{Digits.digits_value-lt, ints}, List.Folds.sum_by-replicate, Bool.{cond_both, both_ways, leb-true, leb-false, le-leb, and_from, and_parts, eq-eqb}}}, specs.{List.list_all, Fmt.decimal, Str.Parse.digits_value}}
+use Rattle.std.proofs.Common.{◌≡◌, ℕ, zero, suc, ◌+◌, ◌-◌, ◌^◌, ◌≤◌, ◌<◌, Bool, true, false, cond, eqb, leb, List, []}
+use Rattle.std.proofs.Common.{◌∷◌, length, get_or, refl, sym, ap, ◌∙◌, subst, arith, ℤ, pos, negsuc, ◌-ℤ◌, replicate}
+use Rattle.std.proofs.Common.{count_by, ◌*◌}
+use Rattle.std.proofs.lemmas.Fmt.{decimal-digits_value}
+use Rattle.std.proofs.lemmas.Str.Parse.{IsNumeralModel, IsDigitsTest, numerals_by_value}
+use Rattle.std.proofs.lemmas.Int.Digits.{digits_value-lt}
+use Rattle.std.proofs.lemmas.Int.{ints}
+use Rattle.std.proofs.lemmas.List.Folds.{sum_by-replicate}
+use Rattle.std.proofs.lemmas.Bool.{cond_both, both_ways, leb-true, leb-false, le-leb, and_from, and_parts, eq-eqb}
+use Rattle.std.specs.List.{list_all}
+use Rattle.std.specs.Fmt.{decimal}
+use Rattle.std.specs.Str.Parse.{digits_value}
 use Rattle.mus_units.specs.{declared.note.Head.Head, Bytes.is_digit}
-use Rattle.abc_notes.{specs.{declared.part.Len.Len, Runs.{begins, is_mark}, Lengths.{LengthForm, whole, over, halved, AreNumberDigits, IsCount, IsWrittenLength, count_of, len_of}, Notes.{NoteForm, octave_of, head_of, IsNote}, Chords.tied_if}, proofs.Bounds.digit_range}
+use Rattle.abc_notes.specs.declared.part.Len.{Len}
+use Rattle.abc_notes.specs.Runs.{begins, is_mark}
+use Rattle.abc_notes.specs.Lengths.{LengthForm, whole, over, halved, AreNumberDigits, IsCount, IsWrittenLength}
+use Rattle.abc_notes.specs.Lengths.{count_of, len_of}
+use Rattle.abc_notes.specs.Notes.{NoteForm, octave_of, head_of, IsNote}
+use Rattle.abc_notes.specs.Chords.{tied_if}
+use Rattle.abc_notes.proofs.Bounds.{digit_range}
 use Rattle.abc_tokens.specs.Plain.{is_small_letter, marks_of}
 
 -- ---- numbers

@@ -1,5 +1,6 @@
 -- Writing a list one by one.
-use Rattle.std.proofs.Common.{◌≡◌, ℕ, zero, suc, List, ◌∷◌, ◌++◌, refl, ap, ◌∙◌, replicate, Result, Ok, Err, OnOk, append_assoc}
+use Rattle.std.proofs.Common.{◌≡◌, ℕ, zero, suc, List, ◌∷◌, ◌++◌, refl, ap, ◌∙◌, replicate, Result, Ok, Err, OnOk}
+use Rattle.std.proofs.Common.{append_assoc}
 use Rattle.{abc_notes.specs.Runs.{copies}, abc_tokens.specs.Plain.{PutsBytes}}
 
 puts_copies : (old new : List ℕ) (n b : ℕ) → new ≡ old ++ replicate n b → PutsBytes old new (copies n b)

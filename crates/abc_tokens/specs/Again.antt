@@ -1,6 +1,8 @@
 -- A text that is read as certain tokens, and tokens that some line is read as.
 use Rattle.std.specs.Prelude.{◌≡◌, ℕ, List, map, Bool}
-use Rattle.{abc_pieces.specs.declared.token.Token.{Token}, abc_music.specs.{declared.token.Placed.Placed, Tokens.TokensOf}}
+use Rattle.abc_pieces.specs.declared.token.Token.{Token}
+use Rattle.abc_music.specs.declared.token.Placed.{Placed}
+use Rattle.abc_music.specs.Tokens.{TokensOf}
 
 -- whether an exclamation mark is a line break is what `bang` says
 pub record ReadsAs (bang : Bool) (text : List ℕ) (tokens : List Token) : Type 0 where

@@ -3,9 +3,18 @@
 -- exclamation marks, a tuplet leaves a number that it lacks empty, and a bar has as few colons and bar signs as its features allow. Each
 -- spelling is written in front of what follows it.
 use Prim.Native.Char.{code}
-use Rattle.std.specs.{Prelude.{◌≡◌, ℕ, ℤ, pos, negsuc, ◌+◌, ◌-◌, List, [], ◌∷◌, ◌++◌, Bool, false, not, ◌==◌, ◌&&◌, nat_le, if◌then◌else◌, replicate, codes}, Fmt.decimal}
-use Rattle.mus_units.specs.declared.note.{Bar.Bar, Deco.{Deco, TheVariants.{Ks, Kr, Kf, Ka, Km, Kc, Kp, Kg, Kt, Ku, Kd, Kn, Below, Above, Quiet}}, Head.Head}
-use Rattle.abc_notes.specs.{declared.part.GraceChord.GraceChord, declared.part.Len.Len, Runs.copies, Runs.maybe, Notes.sign_then, Notes.letter_byte}
+use Rattle.std.specs.Prelude.{◌≡◌, ℕ, ℤ, pos, negsuc, ◌+◌, ◌-◌, List, [], ◌∷◌, ◌++◌, Bool, false, not, ◌==◌, ◌&&◌}
+use Rattle.std.specs.Prelude.{nat_le, if◌then◌else◌, replicate, codes}
+use Rattle.std.specs.Fmt.{decimal}
+use Rattle.mus_units.specs.declared.note.Bar.{Bar}
+use Rattle.mus_units.specs.declared.note.Deco.{Deco}
+use Rattle.mus_units.specs.declared.note.Deco.TheVariants.{Ks, Kr, Kf, Ka, Km, Kc, Kp, Kg, Kt, Ku, Kd, Kn, Below, Above}
+use Rattle.mus_units.specs.declared.note.Deco.TheVariants.{Quiet}
+use Rattle.mus_units.specs.declared.note.Head.{Head}
+use Rattle.abc_notes.specs.declared.part.GraceChord.{GraceChord}
+use Rattle.abc_notes.specs.declared.part.Len.{Len}
+use Rattle.abc_notes.specs.Runs.{copies, maybe}
+use Rattle.abc_notes.specs.Notes.{sign_then, letter_byte}
 use Rattle.abc_pieces.specs.{declared.token.Token.Token, Forms.arrow, Forms.rest_byte, Forms.measures_byte}
 
 -- one after the other, and what follows them

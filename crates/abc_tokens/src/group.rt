@@ -1,6 +1,7 @@
 ghost use Rattle.std.specs.Prelude.{◌≡◌, OnOk};
 ghost use Rattle.abc_pieces.specs.declared.token.Token.TheVariants.{Chord, Grace, Tuplet};
-ghost use Rattle.abc_tokens.specs.Plain.{PutsBytes, all_then, deco_name, deco_then, head_then, chord_head_then, heads_then, grace_chord_then, colon_then, token_then};
+ghost use Rattle.abc_tokens.specs.Plain.{PutsBytes, all_then, deco_name, deco_then, head_then, chord_head_then};
+ghost use Rattle.abc_tokens.specs.Plain.{heads_then, grace_chord_then, colon_then, token_then};
 
 use crate::bar::put_if;
 use crate::note::{put_head, put_len, put_number_or_nothing};

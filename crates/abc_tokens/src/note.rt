@@ -1,6 +1,8 @@
 ghost use Rattle.std.specs.Prelude.{◌≡◌, ◌∷◌, ◌++◌, [], OnOk, replicate};
-ghost use Rattle.{abc_notes.specs.Notes.{sign_then, letter_byte}, abc_pieces.specs.declared.token.Token.TheVariants.{Note, Rest, Measures}};
-ghost use Rattle.abc_tokens.specs.Plain.{PutsBytes, len_then, pitch_then, head_then, is_small_letter, number_or_empty, token_then};
+ghost use Rattle.abc_notes.specs.Notes.{sign_then, letter_byte};
+ghost use Rattle.abc_pieces.specs.declared.token.Token.TheVariants.{Note, Rest, Measures};
+ghost use Rattle.abc_tokens.specs.Plain.{PutsBytes, len_then, pitch_then, head_then, is_small_letter, number_or_empty};
+ghost use Rattle.abc_tokens.specs.Plain.{token_then};
 
 use abc_music::Len;
 use eng_lines::put_number;

@@ -1,7 +1,9 @@
 ghost use Rattle.std.specs.Prelude.{◌≡◌, OnOk, IfOk, false};
 ghost use Rattle.abc_notes.specs.Runs.{copies};
-ghost use Rattle.abc_pieces.specs.{Forms.arrow, declared.token.Token.TheVariants.Ending, declared.token.Token.TheVariants.Says, declared.token.Token.TheVariants.Inline};
-ghost use Rattle.abc_tokens.specs.{Again.IsReadable, Again.ReadsAs, Plain.PutsBytes, Plain.token_then, Plain.next_then, Plain.plain_text};
+ghost use Rattle.abc_pieces.specs.Forms.{arrow};
+ghost use Rattle.abc_pieces.specs.declared.token.Token.TheVariants.{Ending, Says, Inline};
+ghost use Rattle.abc_tokens.specs.Again.{IsReadable, ReadsAs};
+ghost use Rattle.abc_tokens.specs.Plain.{PutsBytes, token_then, next_then, plain_text};
 
 use crate::bar::put_bar;
 use crate::group::{put_chord, put_deco, put_grace, put_tuplet};

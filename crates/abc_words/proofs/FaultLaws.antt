@@ -1,6 +1,14 @@
 -- Verses, faults and numbers of verses, one verse more at a time.
-use Rattle.std.{proofs.{Common.{◌≡◌, ℕ, suc, ◌+◌, ◌≤◌, ◌<◌, List, [], ◌∷◌, ◌++◌, Bool, true, false, cond, length, map, take, drop, get_or, refl, sym, ap, ◌∙◌, subst, arith, append_assoc, append-nil, drop-cons, nat_le}, Math.Seq.take-suc, lemmas.{Bool.{le-leb, lt-leb, leb-true, leb-false}, List.Sums.sum_by-append}}, specs.{Prelude.{Some, None, fold, max, ◌==◌}, List.range_with_len}}
-use Rattle.abc_words.specs.{declared.verses.Verse.Verse, Verses.number_on, Verses.most_on, Verses.too_many, Verses.faults_from, Verses.first_verse_fault}
+use Rattle.std.proofs.Common.{◌≡◌, ℕ, suc, ◌+◌, ◌≤◌, ◌<◌, List, [], ◌∷◌, ◌++◌, Bool, true, false, cond, length, map}
+use Rattle.std.proofs.Common.{take, drop, get_or, refl, sym, ap, ◌∙◌, subst, arith, append_assoc, append-nil, drop-cons}
+use Rattle.std.proofs.Common.{nat_le}
+use Rattle.std.proofs.Math.Seq.{take-suc}
+use Rattle.std.proofs.lemmas.Bool.{le-leb, lt-leb, leb-true, leb-false}
+use Rattle.std.proofs.lemmas.List.Sums.{sum_by-append}
+use Rattle.std.specs.Prelude.{Some, None, fold, max, ◌==◌}
+use Rattle.std.specs.List.{range_with_len}
+use Rattle.abc_words.specs.declared.verses.Verse.{Verse}
+use Rattle.abc_words.specs.Verses.{number_on, most_on, too_many, faults_from, first_verse_fault}
 
 pub number_more : (row : ℕ) (before : List Verse) (v : Verse) → number_on row (before ++ v ∷ []) ≡ number_on row before + cond (v.row == row) 1 0
 number_more row before v = let both : number_on row (before ++ v ∷ []) ≡ number_on row before + (0 + cond (v.row == row) 1 0) = sum_by-append (λ (w : Verse). cond (w.row == row) 1 0) before (v ∷ []) in omega arith

@@ -1,5 +1,9 @@
 -- How many rows end before a line.
-use Rattle.std.{proofs.{Common.{◌≡◌, ℕ, zero, suc, ◌+◌, ◌≤◌, ◌<◌, List, [], ◌∷◌, Bool, true, false, cond, drop, length, nat_lt, refl, inl, inr, arith}, lemmas.{Bool.{cases_lt, lt-ltb, le-ltb}, List.Sums.prefix_len-le-length}}, specs.List.prefix_len}
+use Rattle.std.proofs.Common.{◌≡◌, ℕ, zero, suc, ◌+◌, ◌≤◌, ◌<◌, List, [], ◌∷◌, Bool, true, false, cond, drop, length}
+use Rattle.std.proofs.Common.{nat_lt, refl, inl, inr, arith}
+use Rattle.std.proofs.lemmas.Bool.{cases_lt, lt-ltb, le-ltb}
+use Rattle.std.proofs.lemmas.List.Sums.{prefix_len-le-length}
+use Rattle.std.specs.List.{prefix_len}
 use Rattle.abc_words.specs.Words.{row_of}
 
 -- counted on from a part of them

@@ -1,8 +1,30 @@
 -- Where notes have events of their own, the words of an event are those of its own row.
-use Rattle.std.{proofs.{Common.{◌≡◌, ℕ, zero, suc, ◌+◌, ◌<◌, ◌≤◌, List, [], ◌∷◌, ◌++◌, Bool, true, false, cond, length, map, get_or, slice_index_or, inl, inr, refl, sym, ap, ◌∙◌, arith, append_assoc, append-nil, reverse, nat_lt, slice_get, length-append}, lemmas.{Bool.{cases_lt, eqb-true, ne_eqb}, List.{get_or_default, reverse-append, Elements.{All-nil, All-cons, All-head, All-tail}, FromFn.get_or-map-range_with_len}}}, specs.{Prelude.{Option, Some, None, filter, ◌==◌, ◌⊎◌}, List.{All, range_with_len}, Option.option_or}}
-use Rattle.mus_lyric.specs.{declared.{singing.{NoteAt.NoteAt, Sung.Sung}, syllable.Syl.{Syl, TheVariants.{Print, Skip, Bar}}}, Syllables.syllables_of, Singing.{first_measure, notes_from, on_first, sung_from, sung_on}}
+use Rattle.std.proofs.Common.{◌≡◌, ℕ, zero, suc, ◌+◌, ◌<◌, ◌≤◌, List, [], ◌∷◌, ◌++◌, Bool, true, false, cond, length}
+use Rattle.std.proofs.Common.{map, get_or, slice_index_or, inl, inr, refl, sym, ap, ◌∙◌, arith, append_assoc}
+use Rattle.std.proofs.Common.{append-nil, reverse, nat_lt, slice_get, length-append}
+use Rattle.std.proofs.lemmas.Bool.{cases_lt, eqb-true, ne_eqb}
+use Rattle.std.proofs.lemmas.List.{get_or_default, reverse-append}
+use Rattle.std.proofs.lemmas.List.Elements.{All-nil, All-cons, All-head, All-tail}
+use Rattle.std.proofs.lemmas.List.FromFn.{get_or-map-range_with_len}
+use Rattle.std.specs.Prelude.{Option, Some, None, filter, ◌==◌, ◌⊎◌}
+use Rattle.std.specs.List.{All, range_with_len}
+use Rattle.std.specs.Option.{option_or}
+use Rattle.mus_lyric.specs.declared.singing.NoteAt.{NoteAt}
+use Rattle.mus_lyric.specs.declared.singing.Sung.{Sung}
+use Rattle.mus_lyric.specs.declared.syllable.Syl.{Syl}
+use Rattle.mus_lyric.specs.declared.syllable.Syl.TheVariants.{Print, Skip, Bar}
+use Rattle.mus_lyric.specs.Syllables.{syllables_of}
+use Rattle.mus_lyric.specs.Singing.{first_measure, notes_from, on_first, sung_from, sung_on}
 use Rattle.abc_steps.specs.declared.step.BodyItem.{BodyItem}
-use Rattle.abc_words.{specs.{Words.{AreOfDistinctEvents, end_if, event_words, music_row, music_rows, sung_note_at, notes_on, own_word, row_end, row_ends, row_of, sung_in, sung_with, verse_sung, word_at, word_of, words_of_events}, declared.music.{MusicRow.MusicRow, SungNote.SungNote}, Rows.{music_row_at, row_behind, row_count}, Verses.{verse_count, verses_of_voice}}, proofs.{Lines.row_of_within, WordLaws.or_none}}
+use Rattle.abc_words.specs.Words.{AreOfDistinctEvents, end_if, event_words, music_row, music_rows, sung_note_at}
+use Rattle.abc_words.specs.Words.{notes_on, own_word, row_end, row_ends, row_of, sung_in, sung_with, verse_sung}
+use Rattle.abc_words.specs.Words.{word_at, word_of, words_of_events}
+use Rattle.abc_words.specs.declared.music.MusicRow.{MusicRow}
+use Rattle.abc_words.specs.declared.music.SungNote.{SungNote}
+use Rattle.abc_words.specs.Rows.{music_row_at, row_behind, row_count}
+use Rattle.abc_words.specs.Verses.{verse_count, verses_of_voice}
+use Rattle.abc_words.proofs.Lines.{row_of_within}
+use Rattle.abc_words.proofs.WordLaws.{or_none}
 
 -- notes none of which is this event's
 abbrev IsFree : ℕ → List NoteAt → Type 0

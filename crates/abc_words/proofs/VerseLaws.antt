@@ -1,7 +1,16 @@
 -- Verses stand on rows of the body; and a row without a fault has at most eight.
-use Rattle.std.{proofs.{Common.{◌≡◌, ℕ, ◌+◌, ◌<◌, List, [], ◌∷◌, ◌++◌, Bool, true, false, refl, cond, reverse, sym, ap, ◌∙◌, subst, arith, append_assoc, append-nil}, lemmas.List.{reverse-append, Elements.{All-nil, All-cons, All-append}}}, specs.{Prelude.{Option, Some, None, ⊤, fold, map, max}, List.{All, list_any, range_with_len}}}
+use Rattle.std.proofs.Common.{◌≡◌, ℕ, ◌+◌, ◌<◌, List, [], ◌∷◌, ◌++◌, Bool, true, false, refl, cond, reverse, sym, ap}
+use Rattle.std.proofs.Common.{◌∙◌, subst, arith, append_assoc, append-nil}
+use Rattle.std.proofs.lemmas.List.{reverse-append}
+use Rattle.std.proofs.lemmas.List.Elements.{All-nil, All-cons, All-append}
+use Rattle.std.specs.Prelude.{Option, Some, None, ⊤, fold, map, max}
+use Rattle.std.specs.List.{All, list_any, range_with_len}
 use Rattle.abc_steps.specs.declared.step.BodyItem.{BodyItem}
-use Rattle.abc_words.specs.{declared.rows.RowState.RowState, declared.verses.Verse.Verse, Rows.row_behind, Rows.music_row_at, Rows.row_count, Rows.is_line_of, Rows.last_row, Rows.place_at, Verses.is_words_item, Verses.verse_if, Verses.verse_at, Verses.verses_from, Verses.verses_of_voice, Verses.number_on, Verses.verse_count, Verses.faults_from, Verses.first_verse_fault, Verses.verse_fault}
+use Rattle.abc_words.specs.declared.rows.RowState.{RowState}
+use Rattle.abc_words.specs.declared.verses.Verse.{Verse}
+use Rattle.abc_words.specs.Rows.{row_behind, music_row_at, row_count, is_line_of, last_row, place_at}
+use Rattle.abc_words.specs.Verses.{is_words_item, verse_if, verse_at, verses_from, verses_of_voice, number_on}
+use Rattle.abc_words.specs.Verses.{verse_count, faults_from, first_verse_fault, verse_fault}
 
 abbrev IsWithin : ℕ → Verse → Type 0
 IsWithin n v = v.row < n

@@ -1,7 +1,21 @@
 -- The words of all verses, seen event by event.
-use Rattle.std.{proofs.{Common.{◌≡◌, ℕ, ◌<◌, ◌≤◌, List, [], ◌∷◌, ◌++◌, length, map, slice_index_or, refl, sym, ap, subst, ◌∙◌, arith, append-nil}, lemmas.{Option.slice_get_past, List.{Elements.{All-nil, All-cons}, FromFn.{get_or-map-range_with_len, length-map-range_with_len}}}}, specs.{Prelude.{Option, Some, None, slice_get}, List.{All, range_with_len}, Option.option_or}}
+use Rattle.std.proofs.Common.{◌≡◌, ℕ, ◌<◌, ◌≤◌, List, [], ◌∷◌, ◌++◌, length, map, slice_index_or, refl, sym, ap, subst}
+use Rattle.std.proofs.Common.{◌∙◌, arith, append-nil}
+use Rattle.std.proofs.lemmas.Option.{slice_get_past}
+use Rattle.std.proofs.lemmas.List.Elements.{All-nil, All-cons}
+use Rattle.std.proofs.lemmas.List.FromFn.{get_or-map-range_with_len, length-map-range_with_len}
+use Rattle.std.specs.Prelude.{Option, Some, None, slice_get}
+use Rattle.std.specs.List.{All, range_with_len}
+use Rattle.std.specs.Option.{option_or}
 use Rattle.mus_lyric.specs.declared.singing.Sung.{Sung}
-use Rattle.abc_words.{specs.{declared.{music.{MusicRow.MusicRow, SungNote.SungNote}, verses.Verse.Verse}, Rows.row_count, Verses.verses_of_voice, Words.{event_words, music_row, music_rows, no_music, notes_on, row_ends, sung_in, sung_with, texts_on, verse_sung, with_notes, row_with_texts, word_of}}, proofs.Places.from_places}
+use Rattle.abc_words.specs.declared.music.MusicRow.{MusicRow}
+use Rattle.abc_words.specs.declared.music.SungNote.{SungNote}
+use Rattle.abc_words.specs.declared.verses.Verse.{Verse}
+use Rattle.abc_words.specs.Rows.{row_count}
+use Rattle.abc_words.specs.Verses.{verses_of_voice}
+use Rattle.abc_words.specs.Words.{event_words, music_row, music_rows, no_music, notes_on, row_ends, sung_in, sung_with}
+use Rattle.abc_words.specs.Words.{texts_on, verse_sung, with_notes, row_with_texts, word_of}
+use Rattle.abc_words.proofs.Places.{from_places}
 use Rattle.abc_steps.specs.declared.step.BodyItem.{BodyItem}
 
 pub or_none : {X : Type 0} (o : Option X) → option_or o None ≡ o

@@ -1,7 +1,11 @@
 -- The rows of a body, and which of them are a voice's. Music lines that a backslash joins are one
 -- row. What stands before a place is listed from the nearest on.
-use Rattle.std.specs.{Prelude.{ℕ, ◌+◌, List, [], ◌∷◌, Bool, false, not, ◌&&◌, ◌||◌, if◌then◌else◌, reverse, Option, Some, None}, Str.bytes_eq}
-use Rattle.{abc_steps.specs.declared.step.BodyItem.{BodyItem}, abc_items.specs.Voices.{claims, voice_next}, abc_words.specs.declared.rows.RowState.{RowState}}
+use Rattle.std.specs.Prelude.{ℕ, ◌+◌, List, [], ◌∷◌, Bool, false, not, ◌&&◌, ◌||◌, if◌then◌else◌, reverse, Option, Some}
+use Rattle.std.specs.Prelude.{None}
+use Rattle.std.specs.Str.{bytes_eq}
+use Rattle.abc_steps.specs.declared.step.BodyItem.{BodyItem}
+use Rattle.abc_items.specs.Voices.{claims, voice_next}
+use Rattle.abc_words.specs.declared.rows.RowState.{RowState}
 
 -- the row of a place: how many music lines before it end without a backslash
 abbrev pub row_behind : BodyItem → ℕ → ℕ

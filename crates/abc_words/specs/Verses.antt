@@ -1,6 +1,13 @@
 -- The verses of a voice: the texts of its `w:` lines, each on its last row there; how many verses the voice has; and which texts are too many.
-use Rattle.std.specs.{Prelude.{ℕ, ◌==◌, nat_le, max, List, [], ◌∷◌, ◌++◌, Bool, true, false, if◌then◌else◌, map, fold, count_by, Option, Some, None}, List.range_with_len}
-use Rattle.{abc_lines.specs.declared.fault.{Fault.Fault, FaultKind.FaultKind}, abc_steps.specs.declared.step.BodyItem.{BodyItem}, abc_words.specs.{declared.rows.RowState.RowState, declared.verses.Verse.Verse, Rows.place_at, Rows.row_count}}
+use Rattle.std.specs.Prelude.{ℕ, ◌==◌, nat_le, max, List, [], ◌∷◌, ◌++◌, Bool, true, false, if◌then◌else◌, map, fold}
+use Rattle.std.specs.Prelude.{count_by, Option, Some, None}
+use Rattle.std.specs.List.{range_with_len}
+use Rattle.abc_lines.specs.declared.fault.Fault.{Fault}
+use Rattle.abc_lines.specs.declared.fault.FaultKind.{FaultKind}
+use Rattle.abc_steps.specs.declared.step.BodyItem.{BodyItem}
+use Rattle.abc_words.specs.declared.rows.RowState.{RowState}
+use Rattle.abc_words.specs.declared.verses.Verse.{Verse}
+use Rattle.abc_words.specs.Rows.{place_at, row_count}
 
 -- Words belong to the voice that is current, on its last row; they are passed over where it has none.
 abbrev pub verse_if : Bool → Option ℕ → List ℕ → ℕ → List Verse

@@ -1,8 +1,18 @@
 -- The words of a voice's events. On each row of the body stand texts of `w:` lines, its verses, and
 -- notes of the voice; a verse is sung on the notes of each row by the text that the row has for it.
-use Rattle.std.specs.{Prelude.{ℕ, ◌==◌, nat_lt, List, [], ◌∷◌, ◌++◌, Bool, true, false, map, filter, flat_map, find, length, slice_get, slice_index_or, ◌≡◌, ◌<◌, Option, Some, None, option_map}, List.{All, prefix_len, range_with_len}}
-use Rattle.{mus_lyric.specs.{declared.singing.NoteAt.NoteAt, declared.singing.Sung.Sung, Syllables.syllables_of, Singing.sung_on}, abc_steps.specs.declared.step.BodyItem.{BodyItem}}
-use Rattle.abc_words.specs.{declared.verses.Verse.Verse, declared.music.SungNote.SungNote, declared.music.MusicRow.MusicRow, Rows.row_count, Verses.verses_of_voice, Verses.verse_count}
+use Rattle.std.specs.Prelude.{ℕ, ◌==◌, nat_lt, List, [], ◌∷◌, ◌++◌, Bool, true, false, map, filter, flat_map, find}
+use Rattle.std.specs.Prelude.{length, slice_get, slice_index_or, ◌≡◌, ◌<◌, Option, Some, None, option_map}
+use Rattle.std.specs.List.{All, prefix_len, range_with_len}
+use Rattle.mus_lyric.specs.declared.singing.NoteAt.{NoteAt}
+use Rattle.mus_lyric.specs.declared.singing.Sung.{Sung}
+use Rattle.mus_lyric.specs.Syllables.{syllables_of}
+use Rattle.mus_lyric.specs.Singing.{sung_on}
+use Rattle.abc_steps.specs.declared.step.BodyItem.{BodyItem}
+use Rattle.abc_words.specs.declared.verses.Verse.{Verse}
+use Rattle.abc_words.specs.declared.music.SungNote.{SungNote}
+use Rattle.abc_words.specs.declared.music.MusicRow.{MusicRow}
+use Rattle.abc_words.specs.Rows.{row_count}
+use Rattle.abc_words.specs.Verses.{verses_of_voice, verse_count}
 
 -- the physical lines at which rows end
 abbrev pub end_if : Bool → ℕ → List ℕ

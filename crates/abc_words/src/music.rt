@@ -1,5 +1,9 @@
-ghost use Rattle.std.specs.{Prelude.{◌≡◌, ◌≤◌, ◌<◌, ◌++◌, ◌∷◌, ℕ, [], length, map, slice_index_or, ◌==◌, if◌then◌else◌, IfOk, OnOk}, List.range_with_len};
-ghost use Rattle.abc_words.specs.{Rows.row_count, Words.{music_row, music_rows, no_music, sung_note_at, notes_on, row_end, row_ends, row_of, texts_on, with_notes, row_with_texts}};
+ghost use Rattle.std.specs.Prelude.{◌≡◌, ◌≤◌, ◌<◌, ◌++◌, ◌∷◌, ℕ, [], length, map, slice_index_or, ◌==◌, if◌then◌else◌};
+ghost use Rattle.std.specs.Prelude.{IfOk, OnOk};
+ghost use Rattle.std.specs.List.{range_with_len};
+ghost use Rattle.abc_words.specs.Rows.{row_count};
+ghost use Rattle.abc_words.specs.Words.{music_row, music_rows, no_music, sung_note_at, notes_on, row_end, row_ends};
+ghost use Rattle.abc_words.specs.Words.{row_of, texts_on, with_notes, row_with_texts};
 
 use crate::verses::{Verse, verses_of_voice};
 use abc_steps::BodyItem;

@@ -1,5 +1,7 @@
-ghost use Rattle.std.specs.{Prelude.◌≡◌, Prelude.◌<◌, Prelude.◌≤◌, Prelude.◌+◌, Prelude.◌^◌, Prelude.◌∷◌, Prelude.[], Prelude.List, Prelude.ℕ, Prelude.reverse, Prelude.length, Str.bytes_eq};
-ghost use Rattle.{abc_steps.specs.declared.step.BodyItem.{BodyItem}, abc_words.specs.Rows.{behind_end, behind_step, place_at}};
+ghost use Rattle.std.specs.Prelude.{◌≡◌, ◌<◌, ◌≤◌, ◌+◌, ◌^◌, ◌∷◌, [], List, ℕ, reverse, length};
+ghost use Rattle.std.specs.Str.{bytes_eq};
+ghost use Rattle.abc_steps.specs.declared.step.BodyItem.{BodyItem};
+ghost use Rattle.abc_words.specs.Rows.{behind_end, behind_step, place_at};
 
 use abc_items::voices::claims;
 use abc_steps::BodyItem;

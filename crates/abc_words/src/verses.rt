@@ -1,5 +1,9 @@
-ghost use Rattle.std.specs.{Prelude.{◌≡◌, ◌≤◌, ◌<◌, ◌+◌, ◌++◌, ◌∷◌, ◌^◌, [], List, ℕ, All, cond, fold, length, max, slice_index, ◌==◌, map, None, IfOk, OnOk}, List.{list_any, range_with_len}};
-ghost use Rattle.abc_words.specs.{Rows.row_count, Verses.{faults_from, first_verse_fault, is_words_item, number_on, too_many, verse_at, verse_count, verse_fault, verses_of_voice}};
+ghost use Rattle.std.specs.Prelude.{◌≡◌, ◌≤◌, ◌<◌, ◌+◌, ◌++◌, ◌∷◌, ◌^◌, [], List, ℕ, All, cond, fold, length, max};
+ghost use Rattle.std.specs.Prelude.{slice_index, ◌==◌, map, None, IfOk, OnOk};
+ghost use Rattle.std.specs.List.{list_any, range_with_len};
+ghost use Rattle.abc_words.specs.Rows.{row_count};
+ghost use Rattle.abc_words.specs.Verses.{faults_from, first_verse_fault, is_words_item, number_on, too_many, verse_at};
+ghost use Rattle.abc_words.specs.Verses.{verse_count, verse_fault, verses_of_voice};
 
 use crate::rows::{RowState, first_place, state_after};
 use abc_lines::{Fault, FaultKind};

@@ -1,5 +1,10 @@
-ghost use Rattle.std.specs.{Prelude.{◌≡◌, ◌<◌, ◌++◌, ◌∷◌, ℕ, [], All, None, length, map, flat_map, replicate, slice_index_or, IfOk, OnOk}, List.range_with_len, Option.{option_copied, option_flatten, option_or}};
-ghost use Rattle.abc_words.specs.{Verses.verse_count, Words.HasNoOtherWords, Words.HaveOwnWords, Words.event_words, Words.sung_in, Words.music_rows, Words.verse_sung, Words.word_of, Words.words_of_events};
+ghost use Rattle.std.specs.Prelude.{◌≡◌, ◌<◌, ◌++◌, ◌∷◌, ℕ, [], All, None, length, map, flat_map, replicate};
+ghost use Rattle.std.specs.Prelude.{slice_index_or, IfOk, OnOk};
+ghost use Rattle.std.specs.List.{range_with_len};
+ghost use Rattle.std.specs.Option.{option_copied, option_flatten, option_or};
+ghost use Rattle.abc_words.specs.Verses.{verse_count};
+ghost use Rattle.abc_words.specs.Words.{HasNoOtherWords, HaveOwnWords, event_words, sung_in, music_rows, verse_sung};
+ghost use Rattle.abc_words.specs.Words.{word_of, words_of_events};
 
 use crate::music::{MusicRow, SungNote, music_rows};
 use crate::verses::verse_count;

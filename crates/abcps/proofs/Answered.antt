@@ -1,7 +1,14 @@
 -- What is answered where both texts are written, and where something else is called for.
-use Rattle.std.{proofs.Common.{◌≡◌, refl, sym, subst, ◌⊎◌, inl, inr, List, [], ℕ, ◌≤◌, length, Option}, specs.Io.KnownBytes.{Consumes, IsAtEnd}}
+use Rattle.std.proofs.Common.{◌≡◌, refl, sym, subst, ◌⊎◌, inl, inr, List, [], ℕ, ◌≤◌, length, Option}
+use Rattle.std.specs.Io.KnownBytes.{Consumes, IsAtEnd}
 use Rattle.abcps_words.specs.{declared.command.Command.Command, Command.{Asks, limit_of}}
-use Rattle.abcps.specs.{Outcome.{IsAnswer, IsAnswered, IsCompleteStatus, IsCommandAnswer, IsQuiet, IsInputRead, ReadsInput, IsRunAnswer, ReadAll, Stream, WroteWhole, FailedAfterPrefix, ReportsLine}, Called.Called, Calls.{Calls, Refuses}, Refusals.{refusal_line, refusal_status}, declared.{refusing.Refusal.Refusal, status.Status.Status}}
+use Rattle.abcps.specs.Outcome.{IsAnswer, IsAnswered, IsCompleteStatus, IsCommandAnswer, IsQuiet, IsInputRead}
+use Rattle.abcps.specs.Outcome.{ReadsInput, IsRunAnswer, ReadAll, Stream, WroteWhole, FailedAfterPrefix, ReportsLine}
+use Rattle.abcps.specs.Called.{Called}
+use Rattle.abcps.specs.Calls.{Calls, Refuses}
+use Rattle.abcps.specs.Refusals.{refusal_line, refusal_status}
+use Rattle.abcps.specs.declared.refusing.Refusal.{Refusal}
+use Rattle.abcps.specs.declared.status.Status.{Status}
 
 abbrev Is : Called → Called → Type 0
 Is called other = other ≡ called

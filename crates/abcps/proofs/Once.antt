@@ -1,11 +1,39 @@
 -- A command calls for one answer on an input, however many jobs set its book; and for none on an input that it refuses.
 use Rattle.std.proofs.Common.{◌≡◌, ◌∙◌, refl, sym, ap, subst, ℕ, List, [], ◌∷◌, Bool, arith}
-use Rattle.{abc_lines.specs.Books.{book_of}, abc_fields.specs.declared.paper.Paper.{Paper}, gen_book.specs.Book.{book}, lay_breaks.{specs.{Breaking.sum_from, Spans.listed}, proofs.Unique.one_is_chosen}}
-use Rattle.lay_cert.{specs.{Answers.IsJudged, Listing.{Entry, none_forced}, Verdicts.{IsVerdict, AreVerdicts}, declared.check.{Judged.Judged, Verdict.{Verdict, TheVariants.{Least, NotLeast}}}}, proofs.Alone.tells_one}
-use Rattle.{ps_reports.specs.PaintText.{paint_text}, ps_reports.specs.SheetText.{sheet_report}, ps_machine.specs.OneAnswer.{HasOneAnswer}, ps_heard.specs.HeardText.{heard_text}, ps_text.specs.{Document.document, declared.sheet.Sheet.Sheet}}
-use Rattle.{set_book.specs.{declared.outcome.Outcome.Outcome, Once.HaveOneOutcome}, set_pages.{specs.{declared.plan.PagePlan.PagePlan, Sheet.{IsPagePlan, sheet_of}}, proofs.Whole.one_plan}, set_lists.specs.{Reports.reports, Trials.trial_text}}
+use Rattle.abc_lines.specs.Books.{book_of}
+use Rattle.abc_fields.specs.declared.paper.Paper.{Paper}
+use Rattle.gen_book.specs.Book.{book}
+use Rattle.lay_breaks.specs.Breaking.{sum_from}
+use Rattle.lay_breaks.specs.Spans.{listed}
+use Rattle.lay_breaks.proofs.Unique.{one_is_chosen}
+use Rattle.lay_cert.specs.Answers.{IsJudged}
+use Rattle.lay_cert.specs.Listing.{Entry, none_forced}
+use Rattle.lay_cert.specs.Verdicts.{IsVerdict, AreVerdicts}
+use Rattle.lay_cert.specs.declared.check.Judged.{Judged}
+use Rattle.lay_cert.specs.declared.check.Verdict.{Verdict}
+use Rattle.lay_cert.specs.declared.check.Verdict.TheVariants.{Least, NotLeast}
+use Rattle.lay_cert.proofs.Alone.{tells_one}
+use Rattle.ps_reports.specs.PaintText.{paint_text}
+use Rattle.ps_reports.specs.SheetText.{sheet_report}
+use Rattle.ps_machine.specs.OneAnswer.{HasOneAnswer}
+use Rattle.ps_heard.specs.HeardText.{heard_text}
+use Rattle.ps_text.specs.Document.{document}
+use Rattle.ps_text.specs.declared.sheet.Sheet.{Sheet}
+use Rattle.set_book.specs.declared.outcome.Outcome.{Outcome}
+use Rattle.set_book.specs.Once.{HaveOneOutcome}
+use Rattle.set_pages.specs.declared.plan.PagePlan.{PagePlan}
+use Rattle.set_pages.specs.Sheet.{IsPagePlan, sheet_of}
+use Rattle.set_pages.proofs.Whole.{one_plan}
+use Rattle.set_lists.specs.Reports.{reports}
+use Rattle.set_lists.specs.Trials.{trial_text}
 use Rattle.abcps_words.specs.declared.command.Command.{Command}
-use Rattle.abcps.specs.{Books.{AreSet, terms_in, CallsPages, CallsSystems, Tries, paper_in, status_of, systems_by, trial_of}, Calls.{Calls, CallsOne, IsPainted, Judges, NeverBoth, Shows, budget_of, by_one_job, status_by, verdicts_text}, declared.{status.Status.Status, refusing.Refusal.Refusal}, Called.{Called, IsQuietly}}
+use Rattle.abcps.specs.Books.{AreSet, terms_in, CallsPages, CallsSystems, Tries, paper_in, status_of, systems_by}
+use Rattle.abcps.specs.Books.{trial_of}
+use Rattle.abcps.specs.Calls.{Calls, CallsOne, IsPainted, Judges, NeverBoth, Shows, budget_of, by_one_job, status_by}
+use Rattle.abcps.specs.Calls.{verdicts_text}
+use Rattle.abcps.specs.declared.status.Status.{Status}
+use Rattle.abcps.specs.declared.refusing.Refusal.{Refusal}
+use Rattle.abcps.specs.Called.{Called, IsQuietly}
 use Rattle.set_tune.specs.Terms.{Manner, manner_by, unmoved}
 
 abbrev called_of : List ℕ → List ℕ → Status → Called

@@ -1,7 +1,16 @@
 -- The promises of a run, from its answer by cases.
-use Rattle.std.{proofs.Common.{◌≡◌, refl, sym, ◌∙◌, ap, subst, ◌⊎◌, inl, inr, ℕ, ◌≤◌, List, ◌++◌, length, length-append, append-nil, Option, Some, None, arith}, specs.Io.KnownBytes.{Consumes, IsAtEnd}}
+use Rattle.std.proofs.Common.{◌≡◌, refl, sym, ◌∙◌, ap, subst, ◌⊎◌, inl, inr, ℕ, ◌≤◌, List, ◌++◌, length, length-append}
+use Rattle.std.proofs.Common.{append-nil, Option, Some, None, arith}
+use Rattle.std.specs.Io.KnownBytes.{Consumes, IsAtEnd}
 use Rattle.abcps_words.specs.{Command.{Asks, AsksOne, IsListed, limit_of}, declared.command.Command.Command}
-use Rattle.abcps.specs.{Called.Called, Calls.{Calls, CallsOne, NeverBoth, Refuses}, Refusals.IsRefusalStatus, declared.{refusing.Refusal.Refusal, status.Status.Status}, Outcome.{FailedToWrite, HoldsPart, Stream, IsCommandAnswer, IsQuiet, IsInputRead, ReadsInput, IsRunAnswer, ReadAll, ReadTooMuch, WroteWhole, WriteFailed, RefusedInput}, Promises.{IsDone, IsRunOn, IsRefused, IsReportedOn, AsksWholeText, NoFault, Promises}}
+use Rattle.abcps.specs.Called.{Called}
+use Rattle.abcps.specs.Calls.{Calls, CallsOne, NeverBoth, Refuses}
+use Rattle.abcps.specs.Refusals.{IsRefusalStatus}
+use Rattle.abcps.specs.declared.refusing.Refusal.{Refusal}
+use Rattle.abcps.specs.declared.status.Status.{Status}
+use Rattle.abcps.specs.Outcome.{FailedToWrite, HoldsPart, Stream, IsCommandAnswer, IsQuiet, IsInputRead, ReadsInput}
+use Rattle.abcps.specs.Outcome.{IsRunAnswer, ReadAll, ReadTooMuch, WroteWhole, WriteFailed, RefusedInput}
+use Rattle.abcps.specs.Promises.{IsDone, IsRunOn, IsRefused, IsReportedOn, AsksWholeText, NoFault, Promises}
 
 -- a source that told its bytes was read to its end: they are the text
 whole_read : (before after : Option (List ℕ)) (told text : List ℕ) → before ≡ Some told → Consumes before after text → IsAtEnd after → text ≡ told

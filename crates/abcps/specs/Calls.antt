@@ -1,11 +1,26 @@
 -- What each command calls for, of an input that it doesn't refuse.
-use Rattle.std.specs.{Prelude.{◌≡◌, ℕ, ◌*◌, List, [], Bool, true, false, if◌then◌else◌, length, flat_map}, List.list_any}
-use Rattle.{gen_book.specs.Book.{book}, ps_text.specs.{Document.SpellsSheet, declared.sheet.Sheet.Sheet}, ps_read.specs.Answers.{IsDocumentRead, IsFirstFault}, ps_heard.specs.HeardText.{heard_text}}
-use Rattle.{ps_steps.specs.{declared.paint.PagePaint.PagePaint, Steps.{Paints, Halts}}, ps_reports.specs.PaintText.{paint_text}, ps_reports.specs.SheetText.{sheet_report}}
-use Rattle.lay_cert.specs.{declared.check.{Judged.Judged, Verdict.Verdict}, Answers.IsJudged, Listing.{Entry, IsListing}, Reports.verdict_text}
+use Rattle.std.specs.Prelude.{◌≡◌, ℕ, ◌*◌, List, [], Bool, true, false, if◌then◌else◌, length, flat_map}
+use Rattle.std.specs.List.{list_any}
+use Rattle.gen_book.specs.Book.{book}
+use Rattle.ps_text.specs.Document.{SpellsSheet}
+use Rattle.ps_text.specs.declared.sheet.Sheet.{Sheet}
+use Rattle.ps_read.specs.Answers.{IsDocumentRead, IsFirstFault}
+use Rattle.ps_heard.specs.HeardText.{heard_text}
+use Rattle.ps_steps.specs.declared.paint.PagePaint.{PagePaint}
+use Rattle.ps_steps.specs.Steps.{Paints, Halts}
+use Rattle.ps_reports.specs.PaintText.{paint_text}
+use Rattle.ps_reports.specs.SheetText.{sheet_report}
+use Rattle.lay_cert.specs.declared.check.Judged.{Judged}
+use Rattle.lay_cert.specs.declared.check.Verdict.{Verdict}
+use Rattle.lay_cert.specs.Answers.{IsJudged}
+use Rattle.lay_cert.specs.Listing.{Entry, IsListing}
+use Rattle.lay_cert.specs.Reports.{verdict_text}
 use Rattle.lay_cert.specs.ReaderStates as listing
 use Rattle.{abcps_words.specs.declared.command.Command.{Command}, set_tune.specs.Terms.{manner_by, unmoved}}
-use Rattle.abcps.specs.{Called.{Called, IsQuietly}, Books.{CallsPages, CallsSystems, Tries}, declared.{refusing.Refusal.Refusal, status.Status.Status}}
+use Rattle.abcps.specs.Called.{Called, IsQuietly}
+use Rattle.abcps.specs.Books.{CallsPages, CallsSystems, Tries}
+use Rattle.abcps.specs.declared.refusing.Refusal.{Refusal}
+use Rattle.abcps.specs.declared.status.Status.{Status}
 
 -- Of `inspect` and `hear`: a report on the one sheet that spells the input, which is all that it shows, or what its tunes sound.
 pub record Shows (report : Sheet → List ℕ) (text : List ℕ) (c : Called) : Type 0 where

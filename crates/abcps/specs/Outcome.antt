@@ -1,8 +1,21 @@
 -- What a run answers, and what it leaves on each stream: by cases on the answer.
-use Rattle.std.specs.{Prelude.{◌≡◌, ◌⊎◌, ◌<◌, ◌≤◌, ℕ, ◌+◌, List, [], Bool, length, take, Option}, Io.KnownBytes.{Keeps, Appends, Consumes, IsAtEnd}}
-use Rattle.{eng_io.specs.Causes.{Rose}, abc_lines.specs.Books.{book_of}, ps_text.specs.Document.{document}, set_book.specs.declared.outcome.Outcome.{Outcome}}
-use Rattle.{set_pages.specs.{Sheet.{IsPagePlan, sheet_of}, declared.plan.PagePlan.PagePlan}, abcps_words.specs.{Command.{Asks, IsListed, limit_of}, declared.command.Command.Command, Usage.usage_line}}
-use Rattle.abcps.specs.{Books.{AreSet, CallsPages, paper_in}, Called.Called, Calls.{Calls, Refuses}, Refusals.{refusal_line, refusal_status}, declared.{refusing.Refusal.Refusal, status.Status.Status}}
+use Rattle.std.specs.Prelude.{◌≡◌, ◌⊎◌, ◌<◌, ◌≤◌, ℕ, ◌+◌, List, [], Bool, length, take, Option}
+use Rattle.std.specs.Io.KnownBytes.{Keeps, Appends, Consumes, IsAtEnd}
+use Rattle.eng_io.specs.Causes.{Rose}
+use Rattle.abc_lines.specs.Books.{book_of}
+use Rattle.ps_text.specs.Document.{document}
+use Rattle.set_book.specs.declared.outcome.Outcome.{Outcome}
+use Rattle.set_pages.specs.Sheet.{IsPagePlan, sheet_of}
+use Rattle.set_pages.specs.declared.plan.PagePlan.{PagePlan}
+use Rattle.abcps_words.specs.Command.{Asks, IsListed, limit_of}
+use Rattle.abcps_words.specs.declared.command.Command.{Command}
+use Rattle.abcps_words.specs.Usage.{usage_line}
+use Rattle.abcps.specs.Books.{AreSet, CallsPages, paper_in}
+use Rattle.abcps.specs.Called.{Called}
+use Rattle.abcps.specs.Calls.{Calls, Refuses}
+use Rattle.abcps.specs.Refusals.{refusal_line, refusal_status}
+use Rattle.abcps.specs.declared.refusing.Refusal.{Refusal}
+use Rattle.abcps.specs.declared.status.Status.{Status}
 use Rattle.set_tune.specs.Terms.{Manner, manner_by}
 
 -- a stream before and after a call: its bytes, where known, and its count of faults

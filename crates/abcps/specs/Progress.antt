@@ -1,10 +1,29 @@
 -- A book as it is set, pressed and written, a batch of its tunes after another.
 use Rattle.std.specs.Prelude.{◌≡◌, ◌⊎◌, ℕ, List, [], ◌++◌, All, Bool, true, false, if◌then◌else◌, Result, Ok, Err}
-use Rattle.{abc_lines.specs.declared.book.TuneText.{TuneText}, abc_fields.specs.{declared.paper.Paper.Paper, Papers.{IsGoodPaper, body_height}}, eng_io.specs.Causes.{Rose}}
-use Rattle.{ps_text.specs.{Document.trailer, Prolog.prolog}, set_book.specs.{declared.outcome.Outcome.Outcome, Outcomes.AreOutcomes}}
-use Rattle.{set_lists.specs.Reports.{reports, some_fault}, lay_pages.specs.{declared.filling.Block.Block, Filling.AreGoodBlocks}}
-use Rattle.{set_pages.specs.{Flow.ending, Builder.{AddsOutcomes, HasRoom, CanGoOn, IsBuiltFrom, RisesBy, begun_text}, Sheet.{IsPagePlan, IsSetUnder, paper_frame}, declared.{builder.PageBuilder.PageBuilder, plan.PagePlan.PagePlan}, Drawings.all_blocks}, set_tune.specs.Terms.{Manner, Terms}}
-use Rattle.abcps.specs.{Called.Called, Books.{CallsPages, status_of}, Outcome.{SetStoppedEarly, IsQuiet, Stream, WroteWhole, FailedAfterPrefix, TookPrefix}, declared.{building.{WrittenBook.WrittenBook, BookProgress.BookProgress}, status.Status.Status}}
+use Rattle.abc_lines.specs.declared.book.TuneText.{TuneText}
+use Rattle.abc_fields.specs.declared.paper.Paper.{Paper}
+use Rattle.abc_fields.specs.Papers.{IsGoodPaper, body_height}
+use Rattle.eng_io.specs.Causes.{Rose}
+use Rattle.ps_text.specs.Document.{trailer}
+use Rattle.ps_text.specs.Prolog.{prolog}
+use Rattle.set_book.specs.declared.outcome.Outcome.{Outcome}
+use Rattle.set_book.specs.Outcomes.{AreOutcomes}
+use Rattle.set_lists.specs.Reports.{reports, some_fault}
+use Rattle.lay_pages.specs.declared.filling.Block.{Block}
+use Rattle.lay_pages.specs.Filling.{AreGoodBlocks}
+use Rattle.set_pages.specs.Flow.{ending}
+use Rattle.set_pages.specs.Builder.{AddsOutcomes, HasRoom, CanGoOn, IsBuiltFrom, RisesBy, begun_text}
+use Rattle.set_pages.specs.Sheet.{IsPagePlan, IsSetUnder, paper_frame}
+use Rattle.set_pages.specs.declared.builder.PageBuilder.{PageBuilder}
+use Rattle.set_pages.specs.declared.plan.PagePlan.{PagePlan}
+use Rattle.set_pages.specs.Drawings.{all_blocks}
+use Rattle.set_tune.specs.Terms.{Manner, Terms}
+use Rattle.abcps.specs.Called.{Called}
+use Rattle.abcps.specs.Books.{CallsPages, status_of}
+use Rattle.abcps.specs.Outcome.{SetStoppedEarly, IsQuiet, Stream, WroteWhole, FailedAfterPrefix, TookPrefix}
+use Rattle.abcps.specs.declared.building.WrittenBook.{WrittenBook}
+use Rattle.abcps.specs.declared.building.BookProgress.{BookProgress}
+use Rattle.abcps.specs.declared.status.Status.{Status}
 
 abbrev pub status_if : Bool → Status
 status_if refused = if refused then Status.SomeRefused else Status.Done

@@ -1,7 +1,16 @@
 -- What a run promises, one fact for each name.
 use Rattle.std.specs.Prelude.{◌≡◌, ◌≢◌, ◌⊎◌, ◌≤◌, ◌↔◌, List, ℕ, length, Some}
-use Rattle.{eng_io.specs.Causes.{Rose}, abcps_words.specs.{Command.{Asks, IsListed, limit_of}, declared.command.Command.Command, Usage.usage_line}}
-use Rattle.abcps.specs.{Outcome.{FailedToWrite, HoldsPart, Stream, IsQuiet, IsInputRead, ReadsInput, ReadTooMuch, WroteWhole, ReportsLine}, Called.Called, Calls.{Calls, Refuses, by_one_job}, Refusals.{IsRefusalStatus, refusal_line, refusal_status}, declared.{refusing.Refusal.Refusal, status.Status.Status}}
+use Rattle.eng_io.specs.Causes.{Rose}
+use Rattle.abcps_words.specs.Command.{Asks, IsListed, limit_of}
+use Rattle.abcps_words.specs.declared.command.Command.{Command}
+use Rattle.abcps_words.specs.Usage.{usage_line}
+use Rattle.abcps.specs.Outcome.{FailedToWrite, HoldsPart, Stream, IsQuiet, IsInputRead, ReadsInput, ReadTooMuch}
+use Rattle.abcps.specs.Outcome.{WroteWhole, ReportsLine}
+use Rattle.abcps.specs.Called.{Called}
+use Rattle.abcps.specs.Calls.{Calls, Refuses, by_one_job}
+use Rattle.abcps.specs.Refusals.{IsRefusalStatus, refusal_line, refusal_status}
+use Rattle.abcps.specs.declared.refusing.Refusal.{Refusal}
+use Rattle.abcps.specs.declared.status.Status.{Status}
 
 -- no stream counted a fault, where a count that stands at its end counts as risen
 pub record NoFault (i o e : Stream) : Type 0 where

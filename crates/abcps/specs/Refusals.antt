@@ -1,6 +1,8 @@
 -- What is answered to an input that is refused: the status, and the line on errors.
 use Rattle.std.specs.Prelude.{ℕ, List, [], ◌∷◌, ◌++◌, codes, decimal}
-use Rattle.{ps_reports.specs.PaintText.{halt_line}, abcps.specs.declared.{refusing.Refusal.Refusal, status.Status.Status}}
+use Rattle.ps_reports.specs.PaintText.{halt_line}
+use Rattle.abcps.specs.declared.refusing.Refusal.{Refusal}
+use Rattle.abcps.specs.declared.status.Status.{Status}
 
 abbrev pub not_pages_line : ℕ → List ℕ
 not_pages_line line = codes "not pages at line " ++ decimal line ++ 10 ∷ []

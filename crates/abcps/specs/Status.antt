@@ -1,5 +1,7 @@
 -- The numbers of the answers, with which the program exits, and the answer to a document that was not written to its end.
-use Rattle.{std.specs.Prelude.{ℕ}, ps_write.specs.declared.steps.DocError.{DocError}, abcps.specs.declared.status.Status.{Status}}
+use Rattle.std.specs.Prelude.{ℕ}
+use Rattle.ps_write.specs.declared.steps.DocError.{DocError}
+use Rattle.abcps.specs.declared.status.Status.{Status}
 
 abbrev pub status_number : Status → ℕ
 status_number Status.Done = 0

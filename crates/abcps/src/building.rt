@@ -1,7 +1,12 @@
 ghost use Rattle.std.specs.Prelude.{◌≡◌, List, IfOk, flat_map};
-ghost use Rattle.{abc_fields.specs.{declared.paper.Paper.Paper, Papers.IsGoodPaper}, ps_text.specs.Prolog.prolog, set_book.specs.declared.outcome.Outcome.{Outcome}};
+ghost use Rattle.abc_fields.specs.declared.paper.Paper.{Paper};
+ghost use Rattle.abc_fields.specs.Papers.{IsGoodPaper};
+ghost use Rattle.ps_text.specs.Prolog.{prolog};
+ghost use Rattle.set_book.specs.declared.outcome.Outcome.{Outcome};
 ghost use Rattle.set_pages.specs.{declared.plan.PagePlan.PagePlan, Sheet.paper_frame};
-ghost use Rattle.abcps.specs.{Outcome.{IsCompleteStatus, observed}, Progress.{CanAdd, IsBegun, IsFinished, IsBuiltOrStopped, IsRunning, WroteOrStopped, status_if}};
+ghost use Rattle.abcps.specs.Outcome.{IsCompleteStatus, observed};
+ghost use Rattle.abcps.specs.Progress.{CanAdd, IsBegun, IsFinished, IsBuiltOrStopped, IsRunning, WroteOrStopped};
+ghost use Rattle.abcps.specs.Progress.{status_if};
 
 use crate::status::Status;
 use abc_fields::Paper;

@@ -1,5 +1,8 @@
 ghost use Rattle.std.specs.Prelude.{◌≡◌, [], IfOk};
-ghost use Rattle.{ps_heard.specs.HeardText.{heard_text}, abcps.specs.{Outcome.{IsAnswer, IsAnswered, observed}, declared.status.Status.Status}, abcps_words.specs.declared.command.Command.{Command}};
+ghost use Rattle.ps_heard.specs.HeardText.{heard_text};
+ghost use Rattle.abcps.specs.Outcome.{IsAnswer, IsAnswered, observed};
+ghost use Rattle.abcps.specs.declared.status.Status.{Status};
+ghost use Rattle.abcps_words.specs.declared.command.Command.{Command};
 
 use crate::refusing::Refusal;
 use crate::reporting::{refuse, write_both};

@@ -1,6 +1,9 @@
 ghost use Rattle.std.specs.Prelude.{◌≡◌, ◌⊎◌, IfOk};
 ghost use Rattle.abcps_words.specs.Usage.{usage_line};
-ghost use Rattle.abcps.specs.{Outcome.{IsAnswered, IsCompleteStatus, IsQuiet, WroteWhole, FailedAfterPrefix, ReportsLine, observed}, Refusals.{refusal_line, refusal_status}, declared.status.Status.Status};
+ghost use Rattle.abcps.specs.Outcome.{IsAnswered, IsCompleteStatus, IsQuiet, WroteWhole, FailedAfterPrefix};
+ghost use Rattle.abcps.specs.Outcome.{ReportsLine, observed};
+ghost use Rattle.abcps.specs.Refusals.{refusal_line, refusal_status};
+ghost use Rattle.abcps.specs.declared.status.Status.{Status};
 
 use crate::refusing::Refusal;
 use crate::status::Status;

@@ -1,5 +1,8 @@
 ghost use Rattle.std.specs.Prelude.{◌≡◌, ◌≤◌, length, map, string_bytes};
-ghost use Rattle.{abcps_words.specs.Command.{IsGoodCommand, limit_of}, abcps.specs.{Calls.{CallsOne, NeverBoth}, Outcome.{IsAnswer, IsCommandAnswer, ReadsInput, IsRunAnswer, observed}, Promises.Promises}};
+ghost use Rattle.abcps_words.specs.Command.{IsGoodCommand, limit_of};
+ghost use Rattle.abcps.specs.Calls.{CallsOne, NeverBoth};
+ghost use Rattle.abcps.specs.Outcome.{IsAnswer, IsCommandAnswer, ReadsInput, IsRunAnswer, observed};
+ghost use Rattle.abcps.specs.Promises.{Promises};
 
 use crate::books::{set, systems, trial};
 use crate::hearing::hear;

@@ -1,7 +1,16 @@
 -- Words ask for one command, and its numbers are in range.
-use Rattle.std.{proofs.{Common.{◌≡◌, ℕ, pos, if◌then◌else◌, ◌==◌, List, ◌++◌, Option, Some, None, MatchOption, IfSome, IfNone, unwrap_or, refl, sym, ◌∙◌, ap, subst, arith, decimal}, lemmas.Fmt.decimal_is_IsNumeral}, specs.Str.Parse.digits_value}
+use Rattle.std.proofs.Common.{◌≡◌, ℕ, pos, if◌then◌else◌, ◌==◌, List, ◌++◌, Option, Some, None, MatchOption, IfSome}
+use Rattle.std.proofs.Common.{IfNone, unwrap_or, refl, sym, ◌∙◌, ap, subst, arith, decimal}
+use Rattle.std.proofs.lemmas.Fmt.{decimal_is_IsNumeral}
+use Rattle.std.specs.Str.Parse.{digits_value}
 use Rattle.mus_units.specs.declared.key.Spread.{Spread}
-use Rattle.abcps_words.{specs.{declared.{options.{Flag.Flag, Options.Options}, command.Command.Command}, Words.{IsUpTo, IsMove, front_of, HasTunes, IsSpelled, said, SaysCommand}, Command.{Asks, IsListed, AsksOne, AskedIsGood, IsGoodCommand}}, proofs.{Fronts.{head_of, tail_of, key_of, same_front}, Flags.{one_spelling, half_steps_good, jobs_good}}}
+use Rattle.abcps_words.specs.declared.options.Flag.{Flag}
+use Rattle.abcps_words.specs.declared.options.Options.{Options}
+use Rattle.abcps_words.specs.declared.command.Command.{Command}
+use Rattle.abcps_words.specs.Words.{IsUpTo, IsMove, front_of, HasTunes, IsSpelled, said, SaysCommand}
+use Rattle.abcps_words.specs.Command.{Asks, IsListed, AsksOne, AskedIsGood, IsGoodCommand}
+use Rattle.abcps_words.proofs.Fronts.{head_of, tail_of, key_of, same_front}
+use Rattle.abcps_words.proofs.Flags.{one_spelling, half_steps_good, jobs_good}
 
 -- the spread that a word is
 abbrev spread_back : List ℕ → Spread

@@ -1,6 +1,23 @@
 -- Options read one after another from the front: what stands read at each step, and that no other options have the same words.
-use Rattle.std.{proofs.{Common.{◌≡◌, ℕ, ℤ, pos, negsuc, ◌+◌, ◌<◌, ◌≤◌, ◌^◌, Bool, true, false, cond, ◌||◌, List, [], ◌∷◌, ◌++◌, length, Option, Some, None, is_some, unwrap_or, All, flat_map, refl, sym, ◌∙◌, ap, subst, arith, decimal, append_assoc}, lemmas.{Bool.true≢false, Fmt.{decimal_injective, signed_decimal_injective}, Int.ints, List.{append-nil, Elements.{All-head, All-tail, All-push}, Sums.sum_by-append}, Grind.flat_map-append}}, specs.{Int.Signed.mag, List.{list_any, count_by}, Option.option_or}}
-use Rattle.abcps_words.{specs.{Words.{IsUpTo, IsMove, flag_words, IsFlag, same_kind, IsOnce, IsSpelled, jobs_of, half_steps_of, first_said, said}, declared.options.{Flag.Flag, Options.Options}, Adding.{has_kind, with_flag, with_option}}, proofs.Fronts.{head_of, tail_of, clash}}
+use Rattle.std.proofs.Common.{◌≡◌, ℕ, ℤ, pos, negsuc, ◌+◌, ◌<◌, ◌≤◌, ◌^◌, Bool, true, false, cond, ◌||◌, List, [], ◌∷◌}
+use Rattle.std.proofs.Common.{◌++◌, length, Option, Some, None, is_some, unwrap_or, All, flat_map, refl, sym, ◌∙◌, ap}
+use Rattle.std.proofs.Common.{subst, arith, decimal, append_assoc}
+use Rattle.std.proofs.lemmas.Bool.{true≢false}
+use Rattle.std.proofs.lemmas.Fmt.{decimal_injective, signed_decimal_injective}
+use Rattle.std.proofs.lemmas.Int.{ints}
+use Rattle.std.proofs.lemmas.List.{append-nil}
+use Rattle.std.proofs.lemmas.List.Elements.{All-head, All-tail, All-push}
+use Rattle.std.proofs.lemmas.List.Sums.{sum_by-append}
+use Rattle.std.proofs.lemmas.Grind.{flat_map-append}
+use Rattle.std.specs.Int.Signed.{mag}
+use Rattle.std.specs.List.{list_any, count_by}
+use Rattle.std.specs.Option.{option_or}
+use Rattle.abcps_words.specs.Words.{IsUpTo, IsMove, flag_words, IsFlag, same_kind, IsOnce, IsSpelled, jobs_of}
+use Rattle.abcps_words.specs.Words.{half_steps_of, first_said, said}
+use Rattle.abcps_words.specs.declared.options.Flag.{Flag}
+use Rattle.abcps_words.specs.declared.options.Options.{Options}
+use Rattle.abcps_words.specs.Adding.{has_kind, with_flag, with_option}
+use Rattle.abcps_words.proofs.Fronts.{head_of, tail_of, clash}
 
 one_number : (n m : ℕ) → IsUpTo 64 n → IsUpTo 64 m → decimal n ≡ decimal m → n ≡ m
 one_number n m a b e = decimal_injective n m (omega (arith, a)) (omega (arith, b)) e

@@ -1,7 +1,14 @@
 -- What the first words can't be, and where the front of a command ends.
-use Rattle.std.{proofs.{Common.{◌≡◌, ℕ, ℤ, ◌+◌, true, false, ◌||◌, ◌==◌, if◌then◌else◌, List, [], ◌∷◌, ◌++◌, take, drop, codes, refl, sym, ◌∙◌, ap, arith, decimal}, lemmas.Bool.{true≢false, Decides.nat_tests}}, specs.Fmt.signed_decimal}
+use Rattle.std.proofs.Common.{◌≡◌, ℕ, ℤ, ◌+◌, true, false, ◌||◌, ◌==◌, if◌then◌else◌, List, [], ◌∷◌, ◌++◌, take, drop}
+use Rattle.std.proofs.Common.{codes, refl, sym, ◌∙◌, ap, arith, decimal}
+use Rattle.std.proofs.lemmas.Bool.{true≢false}
+use Rattle.std.proofs.lemmas.Bool.Decides.{nat_tests}
+use Rattle.std.specs.Fmt.{signed_decimal}
 use Rattle.mus_units.specs.declared.key.Spread.{Spread}
-use Rattle.abcps_words.specs.{declared.options.Flag.Flag, declared.command.Name.Name, declared.command.Command.Command, Words.IsUpTo, Words.IsMove, Words.name_bytes, Words.spread_word, Words.front_of, Words.HasTunes, Words.flag_words, Words.IsFlag}
+use Rattle.abcps_words.specs.declared.options.Flag.{Flag}
+use Rattle.abcps_words.specs.declared.command.Name.{Name}
+use Rattle.abcps_words.specs.declared.command.Command.{Command}
+use Rattle.abcps_words.specs.Words.{IsUpTo, IsMove, name_bytes, spread_word, front_of, HasTunes, flag_words, IsFlag}
 
 -- the words begin with no number from 1 to the most
 abbrev pub LacksNumber : ℕ → List (List ℕ) → Type 0

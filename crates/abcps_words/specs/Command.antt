@@ -1,6 +1,8 @@
 -- The command that words ask for.
 use Rattle.std.specs.Prelude.{◌≡◌, ⊤, ℕ, List, ◌++◌}
-use Rattle.abcps_words.specs.{declared.options.Flag.Flag, declared.command.Command.Command, Words.IsUpTo, Words.IsMove, Words.front_of, Words.HasTunes, Words.IsSpelled, Words.said, Words.SaysCommand}
+use Rattle.abcps_words.specs.declared.options.Flag.{Flag}
+use Rattle.abcps_words.specs.declared.command.Command.{Command}
+use Rattle.abcps_words.specs.Words.{IsUpTo, IsMove, front_of, HasTunes, IsSpelled, said, SaysCommand}
 
 -- The words ask for this command: they are its front and options that it takes, in any order, each at most once.
 pub record Asks (words : List (List ℕ)) (c : Command) : Type 0 where

@@ -1,6 +1,14 @@
 -- The words of a command: its name, the number of tunes or the spread where it takes one, and its options in any order, each at most once.
-use Rattle.std.specs.{Prelude.{◌≡◌, ◌≤◌, ◌≤ℤ◌, ⊤, ℕ, ℤ, pos, negsuc, Bool, true, false, List, [], ◌∷◌, All, Option, Some, None, unwrap_or, codes, decimal, flat_map, count_by}, Fmt.signed_decimal, List.list_any, Option.option_or}
-use Rattle.{mus_units.specs.declared.key.Spread.{Spread}, abcps_words.specs.declared.{options.Flag.Flag, options.Options.Options, command.Name.Name, command.Command.Command}}
+use Rattle.std.specs.Prelude.{◌≡◌, ◌≤◌, ◌≤ℤ◌, ⊤, ℕ, ℤ, pos, negsuc, Bool, true, false, List, [], ◌∷◌, All, Option, Some}
+use Rattle.std.specs.Prelude.{None, unwrap_or, codes, decimal, flat_map, count_by}
+use Rattle.std.specs.Fmt.{signed_decimal}
+use Rattle.std.specs.List.{list_any}
+use Rattle.std.specs.Option.{option_or}
+use Rattle.mus_units.specs.declared.key.Spread.{Spread}
+use Rattle.abcps_words.specs.declared.options.Flag.{Flag}
+use Rattle.abcps_words.specs.declared.options.Options.{Options}
+use Rattle.abcps_words.specs.declared.command.Name.{Name}
+use Rattle.abcps_words.specs.declared.command.Command.{Command}
 
 -- a number from 1 to the most
 pub record IsUpTo (most n : ℕ) : Type 0 where

@@ -1,5 +1,7 @@
 ghost use Rattle.std.specs.Prelude.{◌≡◌, ◌++◌, ◌∷◌, ℕ, List, IfSome, IfNone, MatchOption, map, string_bytes};
-ghost use Rattle.abcps_words.specs.{Words.name_bytes, Words.spread_word, Words.front_of, Words.HasTunes, Words.SaysCommand, Command.Asks, Command.IsListed, Command.IsGoodCommand, Command.limit_of, Command.AsksOne, Command.AskedIsGood, Usage.usage_line};
+ghost use Rattle.abcps_words.specs.Words.{name_bytes, spread_word, front_of, HasTunes, SaysCommand};
+ghost use Rattle.abcps_words.specs.Command.{Asks, IsListed, IsGoodCommand, limit_of, AsksOne, AskedIsGood};
+ghost use Rattle.abcps_words.specs.Usage.{usage_line};
 
 use crate::options::{Options, options_of};
 use crate::words::{is_word, take_number};

@@ -1,5 +1,7 @@
-ghost use Rattle.std.specs.{Prelude.◌≡◌, Prelude.◌++◌, Prelude.◌∷◌, Prelude.◌↔◌, Prelude.ℕ, Prelude.ℤ, Prelude.List, Prelude.IsTrue, Prelude.MatchOption, Prelude.decimal, Prelude.map, Prelude.string_bytes, Fmt.signed_decimal};
-ghost use Rattle.abcps_words.specs.{Words.IsUpTo, Words.IsMove, Words.flag_words, Words.IsFlag, Words.IsSpelled, Words.said, Adding.with_option, Adding.no_options};
+ghost use Rattle.std.specs.Prelude.{◌≡◌, ◌++◌, ◌∷◌, ◌↔◌, ℕ, ℤ, List, IsTrue, MatchOption, decimal, map, string_bytes};
+ghost use Rattle.std.specs.Fmt.{signed_decimal};
+ghost use Rattle.abcps_words.specs.Words.{IsUpTo, IsMove, flag_words, IsFlag, IsSpelled, said};
+ghost use Rattle.abcps_words.specs.Adding.{with_option, no_options};
 
 use crate::words::{is_word, take_half_steps, take_number};
 

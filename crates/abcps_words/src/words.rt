@@ -1,4 +1,6 @@
-ghost use Rattle.std.specs.{Prelude.◌≡◌, Prelude.◌<◌, Prelude.◌≤◌, Prelude.◌∷◌, Prelude.◌↔◌, Prelude.ℕ, Prelude.ℤ, Prelude.negsuc, Prelude.List, Prelude.IsTrue, Prelude.MatchOption, Prelude.decimal, Prelude.map, Prelude.string_bytes, Fmt.signed_decimal};
+ghost use Rattle.std.specs.Prelude.{◌≡◌, ◌<◌, ◌≤◌, ◌∷◌, ◌↔◌, ℕ, ℤ, negsuc, List, IsTrue, MatchOption, decimal, map};
+ghost use Rattle.std.specs.Prelude.{string_bytes};
+ghost use Rattle.std.specs.Fmt.{signed_decimal};
 ghost use Rattle.abcps_words.specs.Words.{IsUpTo, IsMove};
 
 use eng_lines::{small_number, strip};

@@ -1,4 +1,7 @@
-ghost use Rattle.std.specs.{Prelude.{◌≡◌, ℕ, ◌+◌, ◌-◌, ◌^◌, ◌≤◌, ◌<◌, ◌↔◌, [], List, Option, Some, Contains, IsErr, IfOk, OnErr, length, drop, min}, Io.{ReadsAtMost, WritesAtMost, KnownBytes.{ReadConsumes, WriteAppends}}};
+ghost use Rattle.std.specs.Prelude.{◌≡◌, ℕ, ◌+◌, ◌-◌, ◌^◌, ◌≤◌, ◌<◌, ◌↔◌, [], List, Option, Some, Contains, IsErr};
+ghost use Rattle.std.specs.Prelude.{IfOk, OnErr, length, drop, min};
+ghost use Rattle.std.specs.Io.{ReadsAtMost, WritesAtMost};
+ghost use Rattle.std.specs.Io.KnownBytes.{ReadConsumes, WriteAppends};
 ghost use Rattle.eng_io.specs.Causes.{ReadCause, WriteCause};
 
 use crate::traits::{Failed, Sink, Source};

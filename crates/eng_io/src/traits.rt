@@ -1,4 +1,6 @@
-ghost use Rattle.std.specs.{Prelude.{ℕ, ◌≤◌, List, Option, length}, Io.{ReadsAtMost, WritesAtMost, KnownBytes.{ReadConsumes, WriteAppends}}};
+ghost use Rattle.std.specs.Prelude.{ℕ, ◌≤◌, List, Option, length};
+ghost use Rattle.std.specs.Io.{ReadsAtMost, WritesAtMost};
+ghost use Rattle.std.specs.Io.KnownBytes.{ReadConsumes, WriteAppends};
 ghost use Rattle.eng_io.specs.Causes.{ReadCause, WriteCause};
 
 /// A read or a write failed, and took nothing.

@@ -1,5 +1,15 @@
 -- Bytes that lack one byte, and where a list of bytes is cut.
-use Rattle.std.{proofs.{Common.{◌≡◌, ◌≢◌, ℕ, zero, suc, ◌+◌, ◌%◌, ◌<◌, ◌^◌, ◌⊎◌, inl, inr, true, false, eqb, List, [], ◌∷◌, ◌++◌, length, take, drop, Some, None, refl, sym, ◌∙◌, ap, arith, slice_index_or, decimal}, lemmas.{Bool.{eqb-true, true≢false, cases_lt}, Option.none-some, List.{Quantifiers.position-Some, Sums.fails_before_first, append_cancel_left}, Fmt.{decimal_by_steps, decimal_injective}}}, specs.{Prelude.{Option, MatchOption}, List.{position, position_or_len}}}
+use Rattle.std.proofs.Common.{◌≡◌, ◌≢◌, ℕ, zero, suc, ◌+◌, ◌%◌, ◌<◌, ◌^◌, ◌⊎◌, inl, inr, true, false, eqb, List, []}
+use Rattle.std.proofs.Common.{◌∷◌, ◌++◌, length, take, drop, Some, None, refl, sym, ◌∙◌, ap, arith, slice_index_or}
+use Rattle.std.proofs.Common.{decimal}
+use Rattle.std.proofs.lemmas.Bool.{eqb-true, true≢false, cases_lt}
+use Rattle.std.proofs.lemmas.Option.{none-some}
+use Rattle.std.proofs.lemmas.List.Quantifiers.{position-Some}
+use Rattle.std.proofs.lemmas.List.Sums.{fails_before_first}
+use Rattle.std.proofs.lemmas.List.{append_cancel_left}
+use Rattle.std.proofs.lemmas.Fmt.{decimal_by_steps, decimal_injective}
+use Rattle.std.specs.Prelude.{Option, MatchOption}
+use Rattle.std.specs.List.{position, position_or_len}
 use Rattle.eng_lines.specs.Lines.{Lacks}
 
 pub lacks_both : (b : ℕ) (xs ys : List ℕ) → Lacks b xs → Lacks b ys → Lacks b (xs ++ ys)

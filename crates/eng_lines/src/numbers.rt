@@ -1,4 +1,5 @@
-ghost use Rattle.std.specs.{Prelude.{◌≡◌, ◌<◌, ◌^◌, ◌++◌, ◌∷◌, ℕ, List, decimal, MatchOption, OnErr, OnOk, Some, ◌==◌}, List.position};
+ghost use Rattle.std.specs.Prelude.{◌≡◌, ◌<◌, ◌^◌, ◌++◌, ◌∷◌, ℕ, List, decimal, MatchOption, OnErr, OnOk, Some, ◌==◌};
+ghost use Rattle.std.specs.List.{position};
 ghost use Rattle.eng_lines.specs.Lines.{Lacks};
 
 use itoa::Buffer;

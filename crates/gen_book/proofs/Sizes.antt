@@ -1,5 +1,7 @@
 -- A generated book is short: a tune of it has at most 700 bytes.
-use Rattle.std.{proofs.{Common.{◌≡◌, refl, ℕ, zero, suc, ◌+◌, ◌*◌, ◌≤◌, length, arith}, lemmas.{Fmt.length-decimal-le, List.length-append}}}
+use Rattle.std.proofs.Common.{◌≡◌, refl, ℕ, zero, suc, ◌+◌, ◌*◌, ◌≤◌, length, arith}
+use Rattle.std.proofs.lemmas.Fmt.{length-decimal-le}
+use Rattle.std.proofs.lemmas.List.{length-append}
 use Rattle.gen_book.specs.Book.{half_behind, heading_of_tune, line_behind, measure_behind, tune, tunes, book}
 
 line_length : (s : ℕ) → length (line_behind s) ≡ 41

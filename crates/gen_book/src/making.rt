@@ -1,5 +1,7 @@
 ghost use Rattle.std.specs.Prelude.{◌≡◌, ◌≤◌, ◌<◌, ◌^◌, ◌++◌, ◌∷◌, [], OnOk, IfOk, decimal, length};
-ghost use Rattle.gen_book.specs.Book.{next_number, letter_of_note, number_after_steps, half_behind, measure_behind, measures_behind, line_behind, lines_behind, key_of_tune, heading_of_tune, tune, tunes, book};
+ghost use Rattle.gen_book.specs.Book.{next_number, letter_of_note, number_after_steps, half_behind, measure_behind};
+ghost use Rattle.gen_book.specs.Book.{measures_behind, line_behind, lines_behind, key_of_tune, heading_of_tune, tune};
+ghost use Rattle.gen_book.specs.Book.{tunes, book};
 
 use eng_lines::put_number;
 use mus_units::{Memory, Text};

@@ -1,7 +1,16 @@
 -- The running least and greatest are the least and the greatest.
-use Rattle.std.{proofs.{Common.{◌≡◌, refl, sym, subst, ℕ, zero, suc, ◌<◌, length, slice_index_or, ℤ, pos, negsuc, int_le, Bool, true, ◌&&◌, List, [], ◌∷◌, ◌⊎◌, inl, inr, arith}, lemmas.{Int.{ints, fold-int_min_bounds, fold-int_min_reached, fold-int_max_bounds, fold-int_max_reached}, List.Elements.All-nil, Bool.Decides.nat_tests}}, specs.List.{Contains, list_all}}
+use Rattle.std.proofs.Common.{◌≡◌, refl, sym, subst, ℕ, zero, suc, ◌<◌, length, slice_index_or, ℤ, pos, negsuc, int_le}
+use Rattle.std.proofs.Common.{Bool, true, ◌&&◌, List, [], ◌∷◌, ◌⊎◌, inl, inr, arith}
+use Rattle.std.proofs.lemmas.Int.{ints, fold-int_min_bounds, fold-int_min_reached, fold-int_max_bounds}
+use Rattle.std.proofs.lemmas.Int.{fold-int_max_reached}
+use Rattle.std.proofs.lemmas.List.Elements.{All-nil}
+use Rattle.std.proofs.lemmas.Bool.Decides.{nat_tests}
+use Rattle.std.specs.List.{Contains, list_all}
 use Rattle.mus_units.specs.declared.glyph.Glyph.{Glyph}
-use Rattle.glyph_paths.specs.{Outlines.outline_of, Bounds.{abscissa, ordinate, least, greatest, IsClose, AreClose, coordinate, IsLeast, IsGreatest, AreBounds, further, furthest, first_or_zero, coordinates, extent, bounds_in}}
+use Rattle.glyph_paths.specs.Outlines.{outline_of}
+use Rattle.glyph_paths.specs.Bounds.{abscissa, ordinate, least, greatest, IsClose, AreClose, coordinate, IsLeast}
+use Rattle.glyph_paths.specs.Bounds.{IsGreatest, AreBounds, further, furthest, first_or_zero, coordinates, extent}
+use Rattle.glyph_paths.specs.Bounds.{bounds_in}
 
 at_front : (z r : ℤ) (zs : List ℤ) → (r ≡ z) ⊎ Contains (z ∷ zs) r → Contains (z ∷ zs) r
 at_front z r zs (inl e) = (0, omega arith, sym e)

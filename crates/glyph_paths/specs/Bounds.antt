@@ -1,7 +1,12 @@
 -- The bounds of a glyph: the least and greatest abscissa and ordinate over all points of its path, control points
 -- included, and all 0 where the path has no point.
-use Rattle.std.specs.{Prelude.{◌≡◌, ◌≤ℤ◌, ◌⊎◌, ℤ, pos, negsuc, List, [], ◌∷◌, All, Contains}, Int.{int_min, int_max}, List.{flat_map, fold}}
-use Rattle.{mus_units.specs.declared.glyph.Glyph.{Glyph}, glyph_paths.specs.{declared.paths.PathOp.PathOp, declared.bounds.Bounds.Bounds, Outlines.outline_of}}
+use Rattle.std.specs.Prelude.{◌≡◌, ◌≤ℤ◌, ◌⊎◌, ℤ, pos, negsuc, List, [], ◌∷◌, All, Contains}
+use Rattle.std.specs.Int.{int_min, int_max}
+use Rattle.std.specs.List.{flat_map, fold}
+use Rattle.mus_units.specs.declared.glyph.Glyph.{Glyph}
+use Rattle.glyph_paths.specs.declared.paths.PathOp.{PathOp}
+use Rattle.glyph_paths.specs.declared.bounds.Bounds.{Bounds}
+use Rattle.glyph_paths.specs.Outlines.{outline_of}
 use Rattle.glyph_paths.specs.declared.paths.PathOp.TheVariants as ops
 
 -- one of the two coordinates of a point

@@ -1,7 +1,13 @@
 -- The line of the prolog that defines a glyph: its name, and a procedure that moves to where it is drawn and runs its
 -- path. In a path each number and each operator has a space behind it.
-use Rattle.std.specs.{Prelude.ℕ, Prelude.ℤ, Prelude.List, Prelude.[], Prelude.◌∷◌, Prelude.◌++◌, Prelude.codes, Fmt.signed_decimal, List.flat_map}
-use Rattle.{mus_units.specs.declared.glyph.Glyph.{Glyph}, glyph_paths.specs.{Characters.space, declared.paths.PathOp.PathOp, Names.glyph_name, Outlines.outline_of}}
+use Rattle.std.specs.Prelude.{ℕ, ℤ, List, [], ◌∷◌, ◌++◌, codes}
+use Rattle.std.specs.Fmt.{signed_decimal}
+use Rattle.std.specs.List.{flat_map}
+use Rattle.mus_units.specs.declared.glyph.Glyph.{Glyph}
+use Rattle.glyph_paths.specs.Characters.{space}
+use Rattle.glyph_paths.specs.declared.paths.PathOp.{PathOp}
+use Rattle.glyph_paths.specs.Names.{glyph_name}
+use Rattle.glyph_paths.specs.Outlines.{outline_of}
 use Rattle.glyph_paths.specs.declared.paths.PathOp.TheVariants as ops
 
 -- numbers in decimal, a space behind each

@@ -1,9 +1,21 @@
 -- A sheet that shows a book sounds, for clear tunes whose voices have a staff each, as their scores do.
-use Rattle.std.{proofs.{Common.{refl, sym, ap, ◌∙◌, subst, ℕ, ◌≤◌, List, [], ◌∷◌, ◌++◌, length, map}, lemmas.List.Elements.{All-head, All-tail}}, specs.{Prelude.{All, Result, Ok, Err}, List.AllZip}}
-use Rattle.{abc_lines.specs.declared.fault.Fault.{Fault}, abc_fields.specs.{declared.paper.Paper.Paper, Papers.body_width}, lay_tune.specs.Systems.{gaps_between}, ps_text.specs.declared.sheet.Item.{Item}}
-use Rattle.{set_tune.specs.declared.tune.SetTune.{SetTune}, set_book.specs.declared.outcome.Outcome.{Outcome}, set_pages.specs.{Read.{ShowsOutcome, ShowsResult}, Sheet.{IsSetResult, IsSetUnder}}}
-use Rattle.{ps_heard.specs.Tunes.{staves_heard, systems_till, tunes_of}, law_book_sound.specs.Sounds.{BooksAreHeard, SoundsOutcome, SoundsResult, SoundsTune}}
-use Rattle.law_book_sound.proofs.{Staves.staves_sound, Tunes.{begun_once, begun_one, begun_ordinals, parts_tunes, rows_before, systems_read}}
+use Rattle.std.proofs.Common.{refl, sym, ap, ◌∙◌, subst, ℕ, ◌≤◌, List, [], ◌∷◌, ◌++◌, length, map}
+use Rattle.std.proofs.lemmas.List.Elements.{All-head, All-tail}
+use Rattle.std.specs.Prelude.{All, Result, Ok, Err}
+use Rattle.std.specs.List.{AllZip}
+use Rattle.abc_lines.specs.declared.fault.Fault.{Fault}
+use Rattle.abc_fields.specs.declared.paper.Paper.{Paper}
+use Rattle.abc_fields.specs.Papers.{body_width}
+use Rattle.lay_tune.specs.Systems.{gaps_between}
+use Rattle.ps_text.specs.declared.sheet.Item.{Item}
+use Rattle.set_tune.specs.declared.tune.SetTune.{SetTune}
+use Rattle.set_book.specs.declared.outcome.Outcome.{Outcome}
+use Rattle.set_pages.specs.Read.{ShowsOutcome, ShowsResult}
+use Rattle.set_pages.specs.Sheet.{IsSetResult, IsSetUnder}
+use Rattle.ps_heard.specs.Tunes.{staves_heard, systems_till, tunes_of}
+use Rattle.law_book_sound.specs.Sounds.{BooksAreHeard, SoundsOutcome, SoundsResult, SoundsTune}
+use Rattle.law_book_sound.proofs.Staves.{staves_sound}
+use Rattle.law_book_sound.proofs.Tunes.{begun_once, begun_one, begun_ordinals, parts_tunes, rows_before, systems_read}
 
 result_sounds : (paper : Paper) (ordinal : ℕ) (r : Result SetTune Fault) (part : List Item) → IsSetResult paper r → ShowsResult paper ordinal r part → SoundsResult ordinal r (tunes_of part)
 result_sounds paper ordinal (Ok t) part set shows =

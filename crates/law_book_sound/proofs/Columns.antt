@@ -1,10 +1,36 @@
 -- The columns that a listener finds on a staff of a page are those that the ranks of its marks tell.
-use Rattle.std.{proofs.lemmas.{Bool.{cases_order, Decides.nat_tests}, Cmp.int_cmp_total, Int.ints, List.{Elements.{All-contains, recursion_from_All}, Folds.list_any-from_Any}, Map.{Keys.sorted_from_all_adjacent, Views.Contains-from_any}}}
-use Rattle.std.{proofs.{Common.{ap₂, ◌∙◌, refl, sym, ap, subst, drop, drop-cons, arith, inl, inr}, Math.ListN.drop_of_length-le, lemmas.Option.same_Some}, specs.{Ordering.{int_cmp, int_eq}, declared.cmp.Ordering.TheVariants.Less}}
-use Rattle.std.specs.{Prelude.{◌≡◌, ℕ, zero, suc, ◌+◌, ◌<◌, ◌==◌, ◌&&◌, ◌-ℤ◌, ℤ, pos, ◌<ℤ◌, Bool, true, false, if◌then◌else◌, List, [], ◌∷◌, ◌++◌, length, map, flat_map, Some, None}, List.{All, AllByRecursion, Contains, list_any}}
-use Rattle.{mus_laid.specs.declared.laid.{Laid.Laid, Mark.Mark, StaffMarks.StaffMarks}, ps_text.specs.{Ranks.{all_ranked, anchors, is_same, rank_of, ranks}, declared.{marks.PageMark.PageMark, sheet.Staff.Staff}}}
-use Rattle.{ps_heard.{specs.{Columns.{column_at, heard_columns_from, heard_columns_of, bulges_as_tie, glyphs_at, noted, rising, tie_at}, Roles.role_of}, proofs.Places.rising_is}, set_staves.proofs.{Rising.{any_at, ranked_at, rises}, Shown.x_read}}
-use Rattle.{law_staff_columns.specs.Ranked.{columns_behind, noted_at, notes_at, rank_column, ranked_columns, tied_at, tie_ends_at}, set_staves.specs.Marks.{HasColumns, RisesAlong, called_mark, called_marks, x_at}, law_book_sound.proofs.Telling.column_alike}
+use Rattle.std.proofs.lemmas.Bool.{cases_order}
+use Rattle.std.proofs.lemmas.Bool.Decides.{nat_tests}
+use Rattle.std.proofs.lemmas.Cmp.{int_cmp_total}
+use Rattle.std.proofs.lemmas.Int.{ints}
+use Rattle.std.proofs.lemmas.List.Elements.{All-contains, recursion_from_All}
+use Rattle.std.proofs.lemmas.List.Folds.{list_any-from_Any}
+use Rattle.std.proofs.lemmas.Map.Keys.{sorted_from_all_adjacent}
+use Rattle.std.proofs.lemmas.Map.Views.{Contains-from_any}
+use Rattle.std.proofs.Common.{ap₂, ◌∙◌, refl, sym, ap, subst, drop, drop-cons, arith, inl, inr}
+use Rattle.std.proofs.Math.ListN.{drop_of_length-le}
+use Rattle.std.proofs.lemmas.Option.{same_Some}
+use Rattle.std.specs.Ordering.{int_cmp, int_eq}
+use Rattle.std.specs.declared.cmp.Ordering.TheVariants.{Less}
+use Rattle.std.specs.Prelude.{◌≡◌, ℕ, zero, suc, ◌+◌, ◌<◌, ◌==◌, ◌&&◌, ◌-ℤ◌, ℤ, pos, ◌<ℤ◌, Bool, true, false}
+use Rattle.std.specs.Prelude.{if◌then◌else◌, List, [], ◌∷◌, ◌++◌, length, map, flat_map, Some, None}
+use Rattle.std.specs.List.{All, AllByRecursion, Contains, list_any}
+use Rattle.mus_laid.specs.declared.laid.Laid.{Laid}
+use Rattle.mus_laid.specs.declared.laid.Mark.{Mark}
+use Rattle.mus_laid.specs.declared.laid.StaffMarks.{StaffMarks}
+use Rattle.ps_text.specs.Ranks.{all_ranked, anchors, is_same, rank_of, ranks}
+use Rattle.ps_text.specs.declared.marks.PageMark.{PageMark}
+use Rattle.ps_text.specs.declared.sheet.Staff.{Staff}
+use Rattle.ps_heard.specs.Columns.{column_at, heard_columns_from, heard_columns_of, bulges_as_tie, glyphs_at, noted}
+use Rattle.ps_heard.specs.Columns.{rising, tie_at}
+use Rattle.ps_heard.specs.Roles.{role_of}
+use Rattle.ps_heard.proofs.Places.{rising_is}
+use Rattle.set_staves.proofs.Rising.{any_at, ranked_at, rises}
+use Rattle.set_staves.proofs.Shown.{x_read}
+use Rattle.law_staff_columns.specs.Ranked.{columns_behind, noted_at, notes_at, rank_column, ranked_columns, tied_at}
+use Rattle.law_staff_columns.specs.Ranked.{tie_ends_at}
+use Rattle.set_staves.specs.Marks.{HasColumns, RisesAlong, called_mark, called_marks, x_at}
+use Rattle.law_book_sound.proofs.Telling.{column_alike}
 
 -- ---- what marks tell at a rank, they tell as marks called for
 rank_test : (i r : ℕ) → int_eq (pos i) (pos r) ≡ (r == i)

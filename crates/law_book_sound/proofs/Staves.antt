@@ -1,13 +1,46 @@
 -- Where each voice has a staff of its own, staff k of each system of a tune shows voice k, and together the systems sound what the voice does.
-use Rattle.std.proofs.{Common.{◌≡◌, refl, sym, ap, ap₂, ◌∙◌, subst, ℕ, zero, suc, ◌+◌, ◌-◌, ◌≤◌, ◌<◌, cond, List, [], ◌∷◌, ◌++◌, length, map, take, drop, Some, None, arith}, Math.Seq.take-add}
-use Rattle.std.proofs.lemmas.{Bool.ne_eqb, List.{drop_all, Folds.drop_split, Elements.{All-contains, All-head, All-tail}}, Option.{get_or_from_slice_get, none-some, same_Some, slice_get_within}}
-use Rattle.{std.specs.{Prelude.{All, Contains, flat_map, slice_get, slice_range}, List.range_with_len}, mus_units.specs.declared.note.{Bar.Bar, Head.Head}, mus_onsets.specs.Onsets.{timeline_of}}
-use Rattle.{mus_score.specs.{declared.score.{Measure.Measure, Score.Score, Seat.Seat, Voice.Voice}, GoodScore.{IsGoodScore, IsGoodVoice}, Seats.{grouped, is_lower, put_before}}, mus_laid.specs.declared.laid.StaffMarks.{StaffMarks}}
-use Rattle.{mus_drawn.specs.{declared.drawn.DrawnVoice.DrawnVoice, declared.standing.StaffState.StaffState, Drawn.drawn_voice, Drawn.standing_of}, mus_marks.specs.{System.is_drawn_lower, Tilt.tilted_staff}}
-use Rattle.{lay_breaks.specs.Breaking.{RisesFrom, last_from}, ps_text.specs.{declared.sheet.Staff.Staff, Ranks.{anchors, ranks}}, set_staves.specs.Marks.{ShowsIn, called_marks}, law_staff_columns.specs.{Ranked.ranked_columns, Told.first_at}}
-use Rattle.ps_heard.specs.{Hearing.heard_of, Tunes.{columns_if, most_staves, heard_staff_columns, staff_heard, staves_heard}}
-use Rattle.law_voice_sound.specs.{Clear.{IsClearScore, IsClearVoice}, Columns.{last_through, standing_through, heard_system, systems_columns, heard_voice}, Listened.columns_heard, Sounds.voice_heard}
-use Rattle.{law_voice_sound.proofs.{ClearVoices.clear_voice, Listening.{heard_told, told_join}}, law_staff_columns.proofs.Telling.{staff_told}, law_marks_apart.proofs.Laws.{columns_stand}, set_pages.proofs.Blocking.{columns_rise}}
+use Rattle.std.proofs.Common.{◌≡◌, refl, sym, ap, ap₂, ◌∙◌, subst, ℕ, zero, suc, ◌+◌, ◌-◌, ◌≤◌, ◌<◌, cond, List, []}
+use Rattle.std.proofs.Common.{◌∷◌, ◌++◌, length, map, take, drop, Some, None, arith}
+use Rattle.std.proofs.Math.Seq.{take-add}
+use Rattle.std.proofs.lemmas.Bool.{ne_eqb}
+use Rattle.std.proofs.lemmas.List.{drop_all}
+use Rattle.std.proofs.lemmas.List.Folds.{drop_split}
+use Rattle.std.proofs.lemmas.List.Elements.{All-contains, All-head, All-tail}
+use Rattle.std.proofs.lemmas.Option.{get_or_from_slice_get, none-some, same_Some, slice_get_within}
+use Rattle.std.specs.Prelude.{All, Contains, flat_map, slice_get, slice_range}
+use Rattle.std.specs.List.{range_with_len}
+use Rattle.mus_units.specs.declared.note.Bar.{Bar}
+use Rattle.mus_units.specs.declared.note.Head.{Head}
+use Rattle.mus_onsets.specs.Onsets.{timeline_of}
+use Rattle.mus_score.specs.declared.score.Measure.{Measure}
+use Rattle.mus_score.specs.declared.score.Score.{Score}
+use Rattle.mus_score.specs.declared.score.Seat.{Seat}
+use Rattle.mus_score.specs.declared.score.Voice.{Voice}
+use Rattle.mus_score.specs.GoodScore.{IsGoodScore, IsGoodVoice}
+use Rattle.mus_score.specs.Seats.{grouped, is_lower, put_before}
+use Rattle.mus_laid.specs.declared.laid.StaffMarks.{StaffMarks}
+use Rattle.mus_drawn.specs.declared.drawn.DrawnVoice.{DrawnVoice}
+use Rattle.mus_drawn.specs.declared.standing.StaffState.{StaffState}
+use Rattle.mus_drawn.specs.Drawn.{drawn_voice, standing_of}
+use Rattle.mus_marks.specs.System.{is_drawn_lower}
+use Rattle.mus_marks.specs.Tilt.{tilted_staff}
+use Rattle.lay_breaks.specs.Breaking.{RisesFrom, last_from}
+use Rattle.ps_text.specs.declared.sheet.Staff.{Staff}
+use Rattle.ps_text.specs.Ranks.{anchors, ranks}
+use Rattle.set_staves.specs.Marks.{ShowsIn, called_marks}
+use Rattle.law_staff_columns.specs.Ranked.{ranked_columns}
+use Rattle.law_staff_columns.specs.Told.{first_at}
+use Rattle.ps_heard.specs.Hearing.{heard_of}
+use Rattle.ps_heard.specs.Tunes.{columns_if, most_staves, heard_staff_columns, staff_heard, staves_heard}
+use Rattle.law_voice_sound.specs.Clear.{IsClearScore, IsClearVoice}
+use Rattle.law_voice_sound.specs.Columns.{last_through, standing_through, heard_system, systems_columns, heard_voice}
+use Rattle.law_voice_sound.specs.Listened.{columns_heard}
+use Rattle.law_voice_sound.specs.Sounds.{voice_heard}
+use Rattle.law_voice_sound.proofs.ClearVoices.{clear_voice}
+use Rattle.law_voice_sound.proofs.Listening.{heard_told, told_join}
+use Rattle.law_staff_columns.proofs.Telling.{staff_told}
+use Rattle.law_marks_apart.proofs.Laws.{columns_stand}
+use Rattle.set_pages.proofs.Blocking.{columns_rise}
 use Rattle.law_book_sound.{specs.Sounds.AreAlone, proofs.{Columns.columns_ranked, Tunes.{AreRead, AreReadAt}}}
 
 -- ---- measures in parts

@@ -1,6 +1,13 @@
 -- What marks tell at an abscissa is what their ranked forms tell at its rank, where the rank tells the anchor from all others.
-use Rattle.std.{proofs.{Common.{◌≡◌, refl, ap, ap₂, subst, List, [], ◌∷◌, ◌++◌, flat_map, ℤ, ◌-ℤ◌, Bool, Option, Some, None}, lemmas.Option.same_Some}, specs.{Prelude.{if◌then◌else◌, ◌&&◌}, Ordering.int_eq}}
-use Rattle.{ps_text.specs.{Ranks.all_ranked, Ranks.rank_of, Ranks.ranked, Ranks.◌>>=◌, declared.marks.PageMark.PageMark}, ps_heard.specs.{Columns.column_at, Columns.bulges_as_tie, Columns.glyphs_at, Columns.noted, Columns.tie_at, Roles.role_of}}
+use Rattle.std.proofs.Common.{◌≡◌, refl, ap, ap₂, subst, List, [], ◌∷◌, ◌++◌, flat_map, ℤ, ◌-ℤ◌, Bool, Option, Some}
+use Rattle.std.proofs.Common.{None}
+use Rattle.std.proofs.lemmas.Option.{same_Some}
+use Rattle.std.specs.Prelude.{if◌then◌else◌, ◌&&◌}
+use Rattle.std.specs.Ordering.{int_eq}
+use Rattle.ps_text.specs.Ranks.{all_ranked, rank_of, ranked, ◌>>=◌}
+use Rattle.ps_text.specs.declared.marks.PageMark.{PageMark}
+use Rattle.ps_heard.specs.Columns.{column_at, bulges_as_tie, glyphs_at, noted, tie_at}
+use Rattle.ps_heard.specs.Roles.{role_of}
 
 -- a step that gives something had something
 given : {A B : Type 0} (o : Option A) (f : A → Option B) (r : B) (P : Type 0) → (o >>= f) ≡ Some r → ((z : A) → o ≡ Some z → f z ≡ Some r → P) → P

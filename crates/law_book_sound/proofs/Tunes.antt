@@ -1,10 +1,26 @@
 -- The tunes of the items of a book: one for each part that has an item, and in it the systems of its breaking as they are read.
-use Rattle.std.{proofs.{Common.{◌≡◌, refl, sym, ap, ◌∙◌, subst, ℕ, ◌≤◌, ◌<◌, ℤ, List, [], ◌∷◌, ◌++◌, length, map, flat_map, arith}}, specs.{Prelude.{⊤, Result, Ok, Err}, List.{AllByRecursion, AllZip}}}
-use Rattle.{abc_lines.specs.declared.fault.Fault.{Fault}, abc_fields.specs.{declared.paper.Paper.Paper, Papers.body_width}, mus_score.specs.declared.score.Score.{Score}}
-use Rattle.{mus_laid.specs.declared.laid.SystemMarks.{SystemMarks}, lay_springs.specs.declared.margin.Placed.{Placed}, lay_breaks.specs.Breaking.{RisesFrom, last_from}, lay_pages.specs.declared.titles.TitleRow.{TitleRow}}
-use Rattle.{lay_tune.specs.Systems.{EachSpan, IsSetSystem}, ps_text.specs.declared.sheet.{Item.Item, Staff.Staff}, set_tune.specs.declared.tune.SetTune.{SetTune}, set_book.specs.declared.outcome.Outcome.{Outcome}}
-use Rattle.{set_staves.specs.Marks.{HasColumns, ShowsCall}, set_pages.specs.Read.{ShowSystems, ShowsOutcome, ShowsResult, ShowsRow, begun}}
-use Rattle.{ps_heard.specs.{declared.tunes.SheetTune.SheetTune, Tunes.{systems_till, tunes_of}}, lay_tune.proofs.Open.past_last}
+use Rattle.std.proofs.Common.{◌≡◌, refl, sym, ap, ◌∙◌, subst, ℕ, ◌≤◌, ◌<◌, ℤ, List, [], ◌∷◌, ◌++◌, length, map}
+use Rattle.std.proofs.Common.{flat_map, arith}
+use Rattle.std.specs.Prelude.{⊤, Result, Ok, Err}
+use Rattle.std.specs.List.{AllByRecursion, AllZip}
+use Rattle.abc_lines.specs.declared.fault.Fault.{Fault}
+use Rattle.abc_fields.specs.declared.paper.Paper.{Paper}
+use Rattle.abc_fields.specs.Papers.{body_width}
+use Rattle.mus_score.specs.declared.score.Score.{Score}
+use Rattle.mus_laid.specs.declared.laid.SystemMarks.{SystemMarks}
+use Rattle.lay_springs.specs.declared.margin.Placed.{Placed}
+use Rattle.lay_breaks.specs.Breaking.{RisesFrom, last_from}
+use Rattle.lay_pages.specs.declared.titles.TitleRow.{TitleRow}
+use Rattle.lay_tune.specs.Systems.{EachSpan, IsSetSystem}
+use Rattle.ps_text.specs.declared.sheet.Item.{Item}
+use Rattle.ps_text.specs.declared.sheet.Staff.{Staff}
+use Rattle.set_tune.specs.declared.tune.SetTune.{SetTune}
+use Rattle.set_book.specs.declared.outcome.Outcome.{Outcome}
+use Rattle.set_staves.specs.Marks.{HasColumns, ShowsCall}
+use Rattle.set_pages.specs.Read.{ShowSystems, ShowsOutcome, ShowsResult, ShowsRow, begun}
+use Rattle.ps_heard.specs.declared.tunes.SheetTune.{SheetTune}
+use Rattle.ps_heard.specs.Tunes.{systems_till, tunes_of}
+use Rattle.lay_tune.proofs.Open.{past_last}
 
 -- ---- items one after another
 till_join : (items more : List Item) → systems_till more ≡ [] → systems_till (items ++ more) ≡ systems_till items

@@ -1,8 +1,19 @@
 -- What a listener hears of the pages of a book: its tunes one after another, and of each staff of a tune what its voice sounds.
-use Rattle.std.specs.{Prelude.{◌≡◌, ℕ, ◌≤◌, List, [], ◌∷◌, All, map, flat_map, length, Result, Ok, Err}, List.{AllByRecursion, AllZip}}
-use Rattle.{abc_lines.specs.declared.fault.Fault.{Fault}, abc_fields.specs.declared.paper.Paper.{Paper}, mus_score.specs.declared.score.{Score.Score, Seat.Seat}}
-use Rattle.{set_tune.specs.declared.tune.SetTune.{SetTune}, set_book.specs.declared.outcome.Outcome.{Outcome}, set_pages.specs.{Read.ShowsBook, Sheet.IsSetUnder}}
-use Rattle.{ps_text.specs.declared.sheet.Sheet.{Sheet}, ps_heard.specs.{declared.tunes.SheetTune.SheetTune, Tunes.{items_of, staves_heard, tunes_of}}, law_voice_sound.specs.{Clear.IsClearScore, Sounds.voice_heard}}
+use Rattle.std.specs.Prelude.{◌≡◌, ℕ, ◌≤◌, List, [], ◌∷◌, All, map, flat_map, length, Result, Ok, Err}
+use Rattle.std.specs.List.{AllByRecursion, AllZip}
+use Rattle.abc_lines.specs.declared.fault.Fault.{Fault}
+use Rattle.abc_fields.specs.declared.paper.Paper.{Paper}
+use Rattle.mus_score.specs.declared.score.Score.{Score}
+use Rattle.mus_score.specs.declared.score.Seat.{Seat}
+use Rattle.set_tune.specs.declared.tune.SetTune.{SetTune}
+use Rattle.set_book.specs.declared.outcome.Outcome.{Outcome}
+use Rattle.set_pages.specs.Read.{ShowsBook}
+use Rattle.set_pages.specs.Sheet.{IsSetUnder}
+use Rattle.ps_text.specs.declared.sheet.Sheet.{Sheet}
+use Rattle.ps_heard.specs.declared.tunes.SheetTune.{SheetTune}
+use Rattle.ps_heard.specs.Tunes.{items_of, staves_heard, tunes_of}
+use Rattle.law_voice_sound.specs.Clear.{IsClearScore}
+use Rattle.law_voice_sound.specs.Sounds.{voice_heard}
 
 -- each voice has a staff of its own, as where no line says that some share one
 abbrev pub AreAlone : Score → Type 0

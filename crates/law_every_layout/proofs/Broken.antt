@@ -1,6 +1,13 @@
 -- There is a chosen breaking, or none is legal and some bar is the last that is reached.
-use Rattle.std.proofs.{Common.{◌≡◌, ◌∙◌, refl, sym, ap, subst, ℕ, zero, suc, ◌+◌, ◌-◌, ◌<◌, ◌≤◌, ◌⊎◌, inl, inr, Bool, true, false, List, [], ◌∷◌, length, reverse, replicate, Option, None, Some, IsSome, is_some, slice_index, slice_index_or, slice_set, arith}, lemmas.{Bool.{cases_lt, cases_eq, true≢false}, List.{length-set, length-replicate, get_or-replicate, reverse-reverse}}}
-use Rattle.lay_breaks.{specs.{Breaking.{IsChosen, IsPotential, IsReached, NoneLegal, sum_from}, Table.{IsRow, IsLeastBack, IsBreakTable, IsTrying, IsOffered, LeadsBack}}, proofs.{Choice.table_some, Trying.{trying_first, trying_done, trying_more, trying_none}}}
+use Rattle.std.proofs.Common.{◌≡◌, ◌∙◌, refl, sym, ap, subst, ℕ, zero, suc, ◌+◌, ◌-◌, ◌<◌, ◌≤◌, ◌⊎◌, inl, inr, Bool}
+use Rattle.std.proofs.Common.{true, false, List, [], ◌∷◌, length, reverse, replicate, Option, None, Some, IsSome}
+use Rattle.std.proofs.Common.{is_some, slice_index, slice_index_or, slice_set, arith}
+use Rattle.std.proofs.lemmas.Bool.{cases_lt, cases_eq, true≢false}
+use Rattle.std.proofs.lemmas.List.{length-set, length-replicate, get_or-replicate, reverse-reverse}
+use Rattle.lay_breaks.specs.Breaking.{IsChosen, IsPotential, IsReached, NoneLegal, sum_from}
+use Rattle.lay_breaks.specs.Table.{IsRow, IsLeastBack, IsBreakTable, IsTrying, IsOffered, LeadsBack}
+use Rattle.lay_breaks.proofs.Choice.{table_some}
+use Rattle.lay_breaks.proofs.Trying.{trying_first, trying_done, trying_more, trying_none}
 use Rattle.lay_breaks.proofs.Whole as whole
 
 abbrev no_sum : Option ℕ

@@ -1,9 +1,26 @@
 -- Each measure of a score has its columns, in a system that begins with it and in one that began before.
-use Rattle.std.proofs.Common.{◌≡◌, ℕ, zero, suc, ◌-◌, ◌<◌, ◌≤◌, ◌==◌, Bool, List, [], ◌∷◌, ◌++◌, length, length-append, map, slice_index_or, refl, sym, ◌∙◌, ap, subst, arith}
-use Rattle.{mus_score.specs.{declared.score.Score.Score, GoodScore.IsGoodScore}, mus_onsets.specs.{declared.keys.ColumnKey.ColumnKey, declared.times.Timeline.Timeline, Keys.AreKeys, Onsets.timeline_of}}
-use Rattle.{mus_laid.specs.declared.laid.StaffMarks.{StaffMarks}, mus_time.specs.Columns.{keys_called}, mus_marks.specs.System.{drawn_staves}}
-use Rattle.{lay_reaches.{specs.{declared.column.Column.Column, Columns.{column_reach, columns_of}}, proofs.Facts.columns_keys}, lay_columns.{specs.Measures.{AreMeasureColumns, keys_in, measure_staff}, proofs.Joined.measures_join}}
-use Rattle.{lay_spans.{specs.Columns.AreMeasures, proofs.Growing.each_more}, lay_tune.{specs.{Measures.{EachMeasure, IsMeasure}, Spans.{AreColumnsOf, score_gaps, verses_of}}, proofs.{Joins.{columns_join, measure_of}, RisingKeys.have_keys}}}
+use Rattle.std.proofs.Common.{◌≡◌, ℕ, zero, suc, ◌-◌, ◌<◌, ◌≤◌, ◌==◌, Bool, List, [], ◌∷◌, ◌++◌, length, length-append}
+use Rattle.std.proofs.Common.{map, slice_index_or, refl, sym, ◌∙◌, ap, subst, arith}
+use Rattle.mus_score.specs.declared.score.Score.{Score}
+use Rattle.mus_score.specs.GoodScore.{IsGoodScore}
+use Rattle.mus_onsets.specs.declared.keys.ColumnKey.{ColumnKey}
+use Rattle.mus_onsets.specs.declared.times.Timeline.{Timeline}
+use Rattle.mus_onsets.specs.Keys.{AreKeys}
+use Rattle.mus_onsets.specs.Onsets.{timeline_of}
+use Rattle.mus_laid.specs.declared.laid.StaffMarks.{StaffMarks}
+use Rattle.mus_time.specs.Columns.{keys_called}
+use Rattle.mus_marks.specs.System.{drawn_staves}
+use Rattle.lay_reaches.specs.declared.column.Column.{Column}
+use Rattle.lay_reaches.specs.Columns.{column_reach, columns_of}
+use Rattle.lay_reaches.proofs.Facts.{columns_keys}
+use Rattle.lay_columns.specs.Measures.{AreMeasureColumns, keys_in, measure_staff}
+use Rattle.lay_columns.proofs.Joined.{measures_join}
+use Rattle.lay_spans.specs.Columns.{AreMeasures}
+use Rattle.lay_spans.proofs.Growing.{each_more}
+use Rattle.lay_tune.specs.Measures.{EachMeasure, IsMeasure}
+use Rattle.lay_tune.specs.Spans.{AreColumnsOf, score_gaps, verses_of}
+use Rattle.lay_tune.proofs.Joins.{columns_join, measure_of}
+use Rattle.lay_tune.proofs.RisingKeys.{have_keys}
 
 -- what each of n places has, as a list
 pub has_each : {X : Type 0} (d : X) (P : ℕ → X → Type 0) (n : ℕ) → ((m : ℕ) → m < n → (x : X) × P m x) → (xs : List X) × (length xs ≡ n) × ((m : ℕ) → m < n → P m (slice_index_or xs m d))

@@ -1,6 +1,11 @@
 -- There is a greatest force, or the columns can't stand within the width at all.
-use Rattle.std.proofs.{Common.{ℕ, zero, suc, ◌<◌, ◌≤◌, inl, inr, ◌⊎◌, List, length, Option, IfSome, slice_index, arith, sym, subst}, lemmas.Bool.cases_eq}
-use Rattle.lay_springs.{specs.{declared.traits.Reach.Reach, Fit.{Fits, Passes, CanStandWithin}}, proofs.{Longer.cannot_stand, Made.fits_or_passes}}
+use Rattle.std.proofs.Common.{ℕ, zero, suc, ◌<◌, ◌≤◌, inl, inr, ◌⊎◌, List, length, Option, IfSome, slice_index, arith}
+use Rattle.std.proofs.Common.{sym, subst}
+use Rattle.std.proofs.lemmas.Bool.{cases_eq}
+use Rattle.lay_springs.specs.declared.traits.Reach.{Reach}
+use Rattle.lay_springs.specs.Fit.{Fits, Passes, CanStandWithin}
+use Rattle.lay_springs.proofs.Longer.{cannot_stand}
+use Rattle.lay_springs.proofs.Made.{fits_or_passes}
 
 -- a force, and none greater at which the columns can stand
 pub record IsGreatest (n : ℕ) (reach : ℕ → ℕ → Option Reach) (gaps : List ℕ) (spring : ℕ → ℕ → ℕ) (width force : ℕ) : Type 0 where

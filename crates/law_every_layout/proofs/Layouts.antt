@@ -1,9 +1,30 @@
 -- Every good score is laid out on a width, or has no way there.
-use Rattle.std.{specs.{Prelude.{◌≤◌, ◌⊎◌}, List.{All, AllByRecursion}}, proofs.{Common.{ℕ, inl, inr, refl, List, [], ◌∷◌, arith}, lemmas.List.Elements.All-from_recursion}}
-use Rattle.{mus_score.specs.{declared.score.Score.Score, GoodScore.IsGoodScore}, mus_onsets.specs.Onsets.{timeline_of}, mus_laid.specs.{declared.laid.SystemMarks.SystemMarks, Boxes.AreGoodMarks}, mus_marks.proofs.Alike.{tilted_good}}
-use Rattle.{lay_springs.specs.declared.margin.Placed.{Placed}, lay_pages.specs.declared.stacking.Heights.{Heights}, lay_breaks.specs.{declared.costs.Span.Span, Breaking.{FitsFrom, RisesFrom, last_from}, Spans.{AreSpans, listed, listed_stops}}}
-use Rattle.lay_tune.{specs.{declared.layout.Layout.Layout, Layout.{IsLayout, IsNoWay}, Spans.{AreSpansOf, is_forced_in}, Systems.{Beside, EachSpan, IsSetSystem, IsStack}}, proofs.{Breakings.least_of, Open.{past_last, some_of}}}
-use Rattle.law_every_layout.{specs.Every.EveryScoreIsLaid, proofs.{Broken.has_breaking, Set.has_set_system, Spans.has_spans, Stacked.has_stack}}
+use Rattle.std.specs.Prelude.{◌≤◌, ◌⊎◌}
+use Rattle.std.specs.List.{All, AllByRecursion}
+use Rattle.std.proofs.Common.{ℕ, inl, inr, refl, List, [], ◌∷◌, arith}
+use Rattle.std.proofs.lemmas.List.Elements.{All-from_recursion}
+use Rattle.mus_score.specs.declared.score.Score.{Score}
+use Rattle.mus_score.specs.GoodScore.{IsGoodScore}
+use Rattle.mus_onsets.specs.Onsets.{timeline_of}
+use Rattle.mus_laid.specs.declared.laid.SystemMarks.{SystemMarks}
+use Rattle.mus_laid.specs.Boxes.{AreGoodMarks}
+use Rattle.mus_marks.proofs.Alike.{tilted_good}
+use Rattle.lay_springs.specs.declared.margin.Placed.{Placed}
+use Rattle.lay_pages.specs.declared.stacking.Heights.{Heights}
+use Rattle.lay_breaks.specs.declared.costs.Span.{Span}
+use Rattle.lay_breaks.specs.Breaking.{FitsFrom, RisesFrom, last_from}
+use Rattle.lay_breaks.specs.Spans.{AreSpans, listed, listed_stops}
+use Rattle.lay_tune.specs.declared.layout.Layout.{Layout}
+use Rattle.lay_tune.specs.Layout.{IsLayout, IsNoWay}
+use Rattle.lay_tune.specs.Spans.{AreSpansOf, is_forced_in}
+use Rattle.lay_tune.specs.Systems.{Beside, EachSpan, IsSetSystem, IsStack}
+use Rattle.lay_tune.proofs.Breakings.{least_of}
+use Rattle.lay_tune.proofs.Open.{past_last, some_of}
+use Rattle.law_every_layout.specs.Every.{EveryScoreIsLaid}
+use Rattle.law_every_layout.proofs.Broken.{has_breaking}
+use Rattle.law_every_layout.proofs.Set.{has_set_system}
+use Rattle.law_every_layout.proofs.Spans.{has_spans}
+use Rattle.law_every_layout.proofs.Stacked.{has_stack}
 
 -- the texts of a system are good
 abbrev HaveGoodTexts : SystemMarks → Type 0

@@ -1,9 +1,28 @@
 -- The columns of a span that fits are set to the width, and the marks of its system are tilted over them.
-use Rattle.std.{specs.List.range_with_len, proofs.{Common.{◌≡◌, refl, sym, ap, ℕ, suc, ◌+◌, ◌-◌, ◌*◌, ◌/◌, ◌<◌, ◌≤◌, ◌==◌, if◌then◌else◌, inl, inr, Bool, true, false, ℤ, pos, negsuc, ◌+ℤ◌, ◌≤ℤ◌, List, length, map, Option, slice_index, slice_index_or, arith}, lemmas.{Bool.{cases_lt, true≢false}, Int.ints, List.FromFn.{get_or-map-range_with_len, length-map-range_with_len}}}}
-use Rattle.{mus_score.specs.declared.score.Score.{Score}, mus_onsets.specs.Onsets.{timeline_of}, mus_laid.specs.declared.laid.SystemMarks.{SystemMarks}, mus_marks.{specs.{System.drawn_staves, Tilt.{IsTilted, tilted_staff}}, proofs.Alike.tilted_alike}}
-use Rattle.lay_springs.{specs.{declared.{margin.Placed.Placed, traits.Reach.Reach}, Place.{IsPlace, StandApart, length_at, reach_at}, Fit.{Fits, IsSet, is_ragged}}, proofs.{Longer.fewer_apart, Made.has_place, Moved.set_apart}}
+use Rattle.std.specs.List.{range_with_len}
+use Rattle.std.proofs.Common.{◌≡◌, refl, sym, ap, ℕ, suc, ◌+◌, ◌-◌, ◌*◌, ◌/◌, ◌<◌, ◌≤◌, ◌==◌, if◌then◌else◌, inl, inr}
+use Rattle.std.proofs.Common.{Bool, true, false, ℤ, pos, negsuc, ◌+ℤ◌, ◌≤ℤ◌, List, length, map, Option, slice_index}
+use Rattle.std.proofs.Common.{slice_index_or, arith}
+use Rattle.std.proofs.lemmas.Bool.{cases_lt, true≢false}
+use Rattle.std.proofs.lemmas.Int.{ints}
+use Rattle.std.proofs.lemmas.List.FromFn.{get_or-map-range_with_len, length-map-range_with_len}
+use Rattle.mus_score.specs.declared.score.Score.{Score}
+use Rattle.mus_onsets.specs.Onsets.{timeline_of}
+use Rattle.mus_laid.specs.declared.laid.SystemMarks.{SystemMarks}
+use Rattle.mus_marks.specs.System.{drawn_staves}
+use Rattle.mus_marks.specs.Tilt.{IsTilted, tilted_staff}
+use Rattle.mus_marks.proofs.Alike.{tilted_alike}
+use Rattle.lay_springs.specs.declared.margin.Placed.{Placed}
+use Rattle.lay_springs.specs.declared.traits.Reach.{Reach}
+use Rattle.lay_springs.specs.Place.{IsPlace, StandApart, length_at, reach_at}
+use Rattle.lay_springs.specs.Fit.{Fits, IsSet, is_ragged}
+use Rattle.lay_springs.proofs.Longer.{fewer_apart}
+use Rattle.lay_springs.proofs.Made.{has_place}
+use Rattle.lay_springs.proofs.Moved.{set_apart}
 use Rattle.lay_reaches.{specs.{declared.column.Column.Column, Columns.column_reach}, proofs.Gaps.gaps_narrow}
-use Rattle.lay_tune.{specs.{Spans.{IsForceOf, IsSpanCost, column_length, score_gaps, system_columns, verses_of}, Systems.{IsJustified, IsSetSystem}}, proofs.Called.has_system}
+use Rattle.lay_tune.specs.Spans.{IsForceOf, IsSpanCost, column_length, score_gaps, system_columns, verses_of}
+use Rattle.lay_tune.specs.Systems.{IsJustified, IsSetSystem}
+use Rattle.lay_tune.proofs.Called.{has_system}
 use Rattle.law_every_layout.proofs.Spans.{columns_near, columns_short}
 
 -- what a width leaves past an end

@@ -1,11 +1,32 @@
 -- Every score has a list of the spans that fit a width.
-use Rattle.std.{proofs.Common.{◌≡◌, ℕ, zero, suc, ◌+◌, ◌-◌, ◌<◌, ◌≤◌, ◌^◌, ◌⊎◌, ◌==◌, inl, inr, Bool, true, false, List, [], ◌∷◌, ◌++◌, length, length-append, Option, None, Some, IfSome, option_map, unwrap_or, slice_get, slice_index, refl, subst, arith}, specs.List.All}
-use Rattle.{mus_score.specs.{declared.score.Score.Score, GoodScore.IsGoodScore}, lay_breaks.specs.{declared.costs.Span.Span, Spans.AreSpans}, lay_rows.specs.Tables.{IsCostTable}}
-use Rattle.lay_springs.{specs.{Place.{length_at, reach_at}, ReachView.reach_in_near}, proofs.{Ends.lengths_short, Placing.near_at}}
-use Rattle.lay_reaches.{specs.{declared.column.Column.Column, Column.{length_scales, length_short}, Columns.column_reach}, proofs.Gaps.gaps_narrow}
-use Rattle.lay_spans.specs.{Badness.badness_of, Columns.{AreMeasures, span_columns}, Forced.is_forced, Rows.{IsRowFrom, rows_spans}, SpanList.IsCost}
-use Rattle.lay_spans.proofs.{Adding.columns_some, Growing.{costs_more, free_more, rows_are_spans, rows_tell_spans, stops_at, stops_behind}}
-use Rattle.{lay_tune.{specs.Spans.{AreSpansOf, CanStandIn, IsForceOf, column_length, score_gaps, verses_of}, proofs.Open.spans_read}, law_every_layout.proofs.{Columns.{has_each, have_measures}, Forced.has_force}}
+use Rattle.std.proofs.Common.{◌≡◌, ℕ, zero, suc, ◌+◌, ◌-◌, ◌<◌, ◌≤◌, ◌^◌, ◌⊎◌, ◌==◌, inl, inr, Bool, true, false, List}
+use Rattle.std.proofs.Common.{[], ◌∷◌, ◌++◌, length, length-append, Option, None, Some, IfSome, option_map, unwrap_or}
+use Rattle.std.proofs.Common.{slice_get, slice_index, refl, subst, arith}
+use Rattle.std.specs.List.{All}
+use Rattle.mus_score.specs.declared.score.Score.{Score}
+use Rattle.mus_score.specs.GoodScore.{IsGoodScore}
+use Rattle.lay_breaks.specs.declared.costs.Span.{Span}
+use Rattle.lay_breaks.specs.Spans.{AreSpans}
+use Rattle.lay_rows.specs.Tables.{IsCostTable}
+use Rattle.lay_springs.specs.Place.{length_at, reach_at}
+use Rattle.lay_springs.specs.ReachView.{reach_in_near}
+use Rattle.lay_springs.proofs.Ends.{lengths_short}
+use Rattle.lay_springs.proofs.Placing.{near_at}
+use Rattle.lay_reaches.specs.declared.column.Column.{Column}
+use Rattle.lay_reaches.specs.Column.{length_scales, length_short}
+use Rattle.lay_reaches.specs.Columns.{column_reach}
+use Rattle.lay_reaches.proofs.Gaps.{gaps_narrow}
+use Rattle.lay_spans.specs.Badness.{badness_of}
+use Rattle.lay_spans.specs.Columns.{AreMeasures, span_columns}
+use Rattle.lay_spans.specs.Forced.{is_forced}
+use Rattle.lay_spans.specs.Rows.{IsRowFrom, rows_spans}
+use Rattle.lay_spans.specs.SpanList.{IsCost}
+use Rattle.lay_spans.proofs.Adding.{columns_some}
+use Rattle.lay_spans.proofs.Growing.{costs_more, free_more, rows_are_spans, rows_tell_spans, stops_at, stops_behind}
+use Rattle.lay_tune.specs.Spans.{AreSpansOf, CanStandIn, IsForceOf, column_length, score_gaps, verses_of}
+use Rattle.lay_tune.proofs.Open.{spans_read}
+use Rattle.law_every_layout.proofs.Columns.{has_each, have_measures}
+use Rattle.law_every_layout.proofs.Forced.{has_force}
 
 -- the reaches and the springs of any columns are small
 pub columns_near : (columns : List Column) (k lane : ℕ) → IfSome (reach_at column_reach columns k lane) (λ r. (r.left ≤ 1048576) × (r.right ≤ 1048576))

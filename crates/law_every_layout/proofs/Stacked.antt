@@ -1,9 +1,32 @@
 -- The staves of a system stand under one another.
-use Rattle.std.{specs.List.{AllByRecursion, filter}, proofs.{Common.{◌≡◌, ◌∙◌, refl, sym, ap, subst, ℕ, ◌-◌, ◌*◌, ◌≤◌, not, cond, Bool, true, false, ℤ, pos, ◌+ℤ◌, ◌-ℤ◌, ◌≤ℤ◌, List, [], ◌∷◌, ◌++◌, length, map, arith}, lemmas.{Int.{ints, clamps}, List.{length-map, Elements.recursion_from_All}}}}
-use Rattle.{mus_score.specs.{declared.{score.Score.Score, score.Voice.Voice}, GoodScore.{IsGoodScore, IsGoodVoice}, Seats.stands_lower}, mus_onsets.specs.{declared.keys.ColumnKey.ColumnKey, Onsets.timeline_of}}
-use Rattle.{mus_laid.specs.{declared.laid.{Laid.Laid, StaffMarks.StaffMarks, SystemMarks.SystemMarks}, Boxes.staff_heights, Ranked.by_columns}, mus_ink.specs.Drawing.{cut_dy}, mus_drawn.specs.declared.drawn.DrawnVoice.{DrawnVoice}}
-use Rattle.mus_marks.{specs.{Staff.{CoversLines, bare_marks, room_over, staff_bridges, staff_marks, staff_over, written_parts, verses_on}, System.drawn_staves, Tilt.{IsTilted, tilted_staff, voice_tilted}}, proofs.Lines.covers}
-use Rattle.{lay_pages.specs.{declared.stacking.Heights.Heights, Stacking.AreStavesStacked}, lay_tune.{specs.Systems.{IsStack, gaps_between}, proofs.Open.{gaps_count, staves_count}}}
+use Rattle.std.specs.List.{AllByRecursion, filter}
+use Rattle.std.proofs.Common.{◌≡◌, ◌∙◌, refl, sym, ap, subst, ℕ, ◌-◌, ◌*◌, ◌≤◌, not, cond, Bool, true, false, ℤ, pos}
+use Rattle.std.proofs.Common.{◌+ℤ◌, ◌-ℤ◌, ◌≤ℤ◌, List, [], ◌∷◌, ◌++◌, length, map, arith}
+use Rattle.std.proofs.lemmas.Int.{ints, clamps}
+use Rattle.std.proofs.lemmas.List.{length-map}
+use Rattle.std.proofs.lemmas.List.Elements.{recursion_from_All}
+use Rattle.mus_score.specs.declared.score.Score.{Score}
+use Rattle.mus_score.specs.declared.score.Voice.{Voice}
+use Rattle.mus_score.specs.GoodScore.{IsGoodScore, IsGoodVoice}
+use Rattle.mus_score.specs.Seats.{stands_lower}
+use Rattle.mus_onsets.specs.declared.keys.ColumnKey.{ColumnKey}
+use Rattle.mus_onsets.specs.Onsets.{timeline_of}
+use Rattle.mus_laid.specs.declared.laid.Laid.{Laid}
+use Rattle.mus_laid.specs.declared.laid.StaffMarks.{StaffMarks}
+use Rattle.mus_laid.specs.declared.laid.SystemMarks.{SystemMarks}
+use Rattle.mus_laid.specs.Boxes.{staff_heights}
+use Rattle.mus_laid.specs.Ranked.{by_columns}
+use Rattle.mus_ink.specs.Drawing.{cut_dy}
+use Rattle.mus_drawn.specs.declared.drawn.DrawnVoice.{DrawnVoice}
+use Rattle.mus_marks.specs.Staff.{CoversLines, bare_marks, room_over, staff_bridges, staff_marks, staff_over}
+use Rattle.mus_marks.specs.Staff.{written_parts, verses_on}
+use Rattle.mus_marks.specs.System.{drawn_staves}
+use Rattle.mus_marks.specs.Tilt.{IsTilted, tilted_staff, voice_tilted}
+use Rattle.mus_marks.proofs.Lines.{covers}
+use Rattle.lay_pages.specs.declared.stacking.Heights.{Heights}
+use Rattle.lay_pages.specs.Stacking.{AreStavesStacked}
+use Rattle.lay_tune.specs.Systems.{IsStack, gaps_between}
+use Rattle.lay_tune.proofs.Open.{gaps_count, staves_count}
 
 -- a staff that covers its lines, and no more than 2^30 below and above its base line
 record IsSound (staff : StaffMarks) : Type 0 where

@@ -1,6 +1,10 @@
 -- Every score is laid out on a width, or has no way there.
 use Rattle.std.specs.Prelude.{ℕ, ◌<◌, ◌≤◌, ◌⊎◌, List, length}
-use Rattle.{mus_score.specs.{declared.score.Score.Score, GoodScore.IsGoodScore}, lay_breaks.specs.declared.costs.Span.Span, lay_tune.specs.{declared.layout.Layout.Layout, Layout.{IsLayout, IsNoWay}}}
+use Rattle.mus_score.specs.declared.score.Score.{Score}
+use Rattle.mus_score.specs.GoodScore.{IsGoodScore}
+use Rattle.lay_breaks.specs.declared.costs.Span.{Span}
+use Rattle.lay_tune.specs.declared.layout.Layout.{Layout}
+use Rattle.lay_tune.specs.Layout.{IsLayout, IsNoWay}
 
 -- a good score, with a voice where it has a measure, has a layout, or no breaking of it is legal
 abbrev pub EveryScoreIsLaid : Type 0

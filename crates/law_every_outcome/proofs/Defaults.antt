@@ -1,6 +1,13 @@
 -- Any file header gives good defaults.
-use Rattle.std.{proofs.Common.{List, [], ◌∷◌, Option, Some, None, IfSome}, specs.{Prelude.unwrap_or, Option.{option_and_then, option_or}}}
-use Rattle.{mus_units.specs.{declared.{key.Meter.Meter, value.Frac.Frac}, Good.{IsGoodMeter, IsGoodUnit}}, abc_lines.specs.declared.book.Line.{Line}, abc_field.{specs.Last.last_of, proofs.GoodLaws.{meter_good, unit_good}}}
+use Rattle.std.proofs.Common.{List, [], ◌∷◌, Option, Some, None, IfSome}
+use Rattle.std.specs.Prelude.{unwrap_or}
+use Rattle.std.specs.Option.{option_and_then, option_or}
+use Rattle.mus_units.specs.declared.key.Meter.{Meter}
+use Rattle.mus_units.specs.declared.value.Frac.{Frac}
+use Rattle.mus_units.specs.Good.{IsGoodMeter, IsGoodUnit}
+use Rattle.abc_lines.specs.declared.book.Line.{Line}
+use Rattle.abc_field.specs.Last.{last_of}
+use Rattle.abc_field.proofs.GoodLaws.{meter_good, unit_good}
 use Rattle.abc_fields.specs.{Defaults.{defaults_of, line_meter, line_unit}, Good.{GoodUnitIn, IsGoodDefaults}}
 
 -- what holds of each that is named holds of the last that is

@@ -1,11 +1,36 @@
 -- The score that is drawn of any good one as the line of its staves says, or the fault of that line.
 use mathlib.Core.{HLevel.{×_discrete}, List.{List-discrete}, Logic.Dec.{and as both}}
-use Rattle.std.{proofs.{Common.{rules, ◌≡◌, ◌∙◌, refl, sym, ap, subst, ℕ, List, [], ◌∷◌, Bool, true, Decides, length, inl, inr}, lemmas.List.length-map, Math.{Bool.Bool-discrete, Decide.{map_dec, ℕ_discrete}}}, specs.{Prelude.{IfOk, IfSome, Option, Some, None, Result, Ok, Err, slice_get}, List.AllByRecursion, Option.option_to_list}}
-use Rattle.{abc_lines.specs.declared.{book.Line.Line, fault.{Fault.Fault, FaultKind.FaultKind}}, set_tune.specs.Setting.{IsScoreDrawn, share_fault}}
-use Rattle.mus_units.specs.{contracts.{key.{SignPartialEq.TheImpl.ghosts as signs, MeterPartialEq.TheImpl.ghosts as meters}, pitch.ClefPartialEq.TheImpl.ghosts as clefs}, declared.pitch.Clef.{Clef}}
-use Rattle.{mus_units.specs.declared.key.{Key.Key, Meter.Meter}, mus_score.specs.{declared.score.{Score.Score, Voice.Voice}, GoodScore.{IsGoodScore}}, lay_shared.specs.Drawn.{drawn_of}}
-use Rattle.lay_shared.specs.{declared.plan.{Plan.Plan, PlannedStaff.PlannedStaff}, Alike.{HaveSameChanges, DoShare, story_at}, Plans.{IsPlanFor, SpellsPlan, score_ids}, Reading.{plan_by, plan_signs_from}}
-use Rattle.lay_shared.{specs.declared.changes.{TimedChange.TimedChange, VoiceChanges.VoiceChanges}, proofs.{DrawnLaws.drawn_good, PlanLaws.{apart_ids, read-spells, spelled-plan, spelled-read}}}
+use Rattle.std.proofs.Common.{rules, ◌≡◌, ◌∙◌, refl, sym, ap, subst, ℕ, List, [], ◌∷◌, Bool, true, Decides, length, inl}
+use Rattle.std.proofs.Common.{inr}
+use Rattle.std.proofs.lemmas.List.{length-map}
+use Rattle.std.proofs.Math.Bool.{Bool-discrete}
+use Rattle.std.proofs.Math.Decide.{map_dec, ℕ_discrete}
+use Rattle.std.specs.Prelude.{IfOk, IfSome, Option, Some, None, Result, Ok, Err, slice_get}
+use Rattle.std.specs.List.{AllByRecursion}
+use Rattle.std.specs.Option.{option_to_list}
+use Rattle.abc_lines.specs.declared.book.Line.{Line}
+use Rattle.abc_lines.specs.declared.fault.Fault.{Fault}
+use Rattle.abc_lines.specs.declared.fault.FaultKind.{FaultKind}
+use Rattle.set_tune.specs.Setting.{IsScoreDrawn, share_fault}
+use Rattle.mus_units.specs.contracts.key.SignPartialEq.TheImpl.{ghosts as signs}
+use Rattle.mus_units.specs.contracts.key.MeterPartialEq.TheImpl.{ghosts as meters}
+use Rattle.mus_units.specs.contracts.pitch.ClefPartialEq.TheImpl.{ghosts as clefs}
+use Rattle.mus_units.specs.declared.pitch.Clef.{Clef}
+use Rattle.mus_units.specs.declared.key.Key.{Key}
+use Rattle.mus_units.specs.declared.key.Meter.{Meter}
+use Rattle.mus_score.specs.declared.score.Score.{Score}
+use Rattle.mus_score.specs.declared.score.Voice.{Voice}
+use Rattle.mus_score.specs.GoodScore.{IsGoodScore}
+use Rattle.lay_shared.specs.Drawn.{drawn_of}
+use Rattle.lay_shared.specs.declared.plan.Plan.{Plan}
+use Rattle.lay_shared.specs.declared.plan.PlannedStaff.{PlannedStaff}
+use Rattle.lay_shared.specs.Alike.{HaveSameChanges, DoShare, story_at}
+use Rattle.lay_shared.specs.Plans.{IsPlanFor, SpellsPlan, score_ids}
+use Rattle.lay_shared.specs.Reading.{plan_by, plan_signs_from}
+use Rattle.lay_shared.specs.declared.changes.TimedChange.{TimedChange}
+use Rattle.lay_shared.specs.declared.changes.VoiceChanges.{VoiceChanges}
+use Rattle.lay_shared.proofs.DrawnLaws.{drawn_good}
+use Rattle.lay_shared.proofs.PlanLaws.{apart_ids, read-spells, spelled-plan, spelled-read}
 
 -- ---- what can be told apart
 

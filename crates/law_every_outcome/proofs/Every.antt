@@ -1,11 +1,35 @@
 -- Every tune has an outcome, stage by stage: its header, its score, the voices that share staves, the move, the layout and the pages.
-use Rattle.std.proofs.Common.{◌≡◌, refl, ℕ, inl, inr, List, [], ◌∷◌, Option, Some, None, Result, Ok, Err, IfOk, IfSome, length}
-use Rattle.{abc_lines.specs.{declared.{book.TuneText.TuneText, fault.{Fault.Fault, FaultKind.FaultKind}}, Books.book_of}, abc_fields.specs.{declared.header.Header.Header, Defaults.defaults_of, Good.IsGoodDefaults, Headers.HasGoodValues, Papers.{body_height, paper_of, body_width}}}
-use Rattle.{mus_score.specs.{declared.score.Score.Score, GoodScore.IsGoodScore}, law_transposition.proofs.Sounding.moved_sounds_higher, mus_transpose.specs.Moved.IsMoved}
-use Rattle.{law_every_score.specs.Every.EveryTextIsRead, law_every_layout.specs.Every.EveryScoreIsLaid, lay_pages.specs.{Filling.first_tall, Titles.title_block_of}, lay_tune.specs.declared.layout.Layout.Layout}
-use Rattle.set_tune.{specs.{Setting.{HasHeader, HasScore, IsScoreDrawn, IsFaultOfTune, IsLaidTune, IsWritten, layout_fault, of_header, of_score, of_share, of_move, no_way, too_tall}, Terms.{Terms, terms_by}, declared.tune.SetTune.SetTune, Blocks.blocks_of}, proofs.Laid.heard_moved}
+use Rattle.std.proofs.Common.{◌≡◌, refl, ℕ, inl, inr, List, [], ◌∷◌, Option, Some, None, Result, Ok, Err, IfOk, IfSome}
+use Rattle.std.proofs.Common.{length}
+use Rattle.abc_lines.specs.declared.book.TuneText.{TuneText}
+use Rattle.abc_lines.specs.declared.fault.Fault.{Fault}
+use Rattle.abc_lines.specs.declared.fault.FaultKind.{FaultKind}
+use Rattle.abc_lines.specs.Books.{book_of}
+use Rattle.abc_fields.specs.declared.header.Header.{Header}
+use Rattle.abc_fields.specs.Defaults.{defaults_of}
+use Rattle.abc_fields.specs.Good.{IsGoodDefaults}
+use Rattle.abc_fields.specs.Headers.{HasGoodValues}
+use Rattle.abc_fields.specs.Papers.{body_height, paper_of, body_width}
+use Rattle.mus_score.specs.declared.score.Score.{Score}
+use Rattle.mus_score.specs.GoodScore.{IsGoodScore}
+use Rattle.law_transposition.proofs.Sounding.{moved_sounds_higher}
+use Rattle.mus_transpose.specs.Moved.{IsMoved}
+use Rattle.law_every_score.specs.Every.{EveryTextIsRead}
+use Rattle.law_every_layout.specs.Every.{EveryScoreIsLaid}
+use Rattle.lay_pages.specs.Filling.{first_tall}
+use Rattle.lay_pages.specs.Titles.{title_block_of}
+use Rattle.lay_tune.specs.declared.layout.Layout.{Layout}
+use Rattle.set_tune.specs.Setting.{HasHeader, HasScore, IsScoreDrawn, IsFaultOfTune, IsLaidTune, IsWritten}
+use Rattle.set_tune.specs.Setting.{layout_fault, of_header, of_score, of_share, of_move, no_way, too_tall}
+use Rattle.set_tune.specs.Terms.{Terms, terms_by}
+use Rattle.set_tune.specs.declared.tune.SetTune.{SetTune}
+use Rattle.set_tune.specs.Blocks.{blocks_of}
+use Rattle.set_tune.proofs.Laid.{heard_moved}
 use Rattle.set_book.specs.{declared.outcome.Outcome.Outcome, Outcomes.{AreOutcomes, IsOutcome, IsResult}}
-use Rattle.law_every_outcome.{specs.Every.EveryTuneHasAnOutcome, proofs.{Defaults.defaults_good, Draws.has_drawn, Moves.has_moved}}
+use Rattle.law_every_outcome.specs.Every.{EveryTuneHasAnOutcome}
+use Rattle.law_every_outcome.proofs.Defaults.{defaults_good}
+use Rattle.law_every_outcome.proofs.Draws.{has_drawn}
+use Rattle.law_every_outcome.proofs.Moves.{has_moved}
 
 module _ (every_text : EveryTextIsRead) (every_score : EveryScoreIsLaid) where
   module _ (tune : TuneText) (terms : Terms) where

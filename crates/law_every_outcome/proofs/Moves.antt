@@ -1,8 +1,17 @@
 -- A score is moved by any number of semitones, or it can't be moved so far.
 use mathlib.Core.Logic.Dec.{and as both}
-use Rattle.std.{proofs.{Common.{◌≡◌, ◌≢◌, refl, true, length}, lemmas.List.length-map, Math.{Bool.Bool-discrete, Decide.map_dec}}, specs.{Prelude.{ℤ, pos, zero, IfSome, Option, Some, None}, List.list_all}}
-use Rattle.{mus_units.specs.declared.key.Key.{Key}, mus_score.specs.{declared.score.Score.Score, GoodScore.IsGoodScore}, law_every_outcome.proofs.Draws.{decided}}
-use Rattle.mus_transpose.{specs.Moved.{CanMove, IsMoved, move_from, moved_score, on_circle, voice_by, voice_may}, proofs.MovedGood.{all_in_reach, moved_good, voices_decide}}
+use Rattle.std.proofs.Common.{◌≡◌, ◌≢◌, refl, true, length}
+use Rattle.std.proofs.lemmas.List.{length-map}
+use Rattle.std.proofs.Math.Bool.{Bool-discrete}
+use Rattle.std.proofs.Math.Decide.{map_dec}
+use Rattle.std.specs.Prelude.{ℤ, pos, zero, IfSome, Option, Some, None}
+use Rattle.std.specs.List.{list_all}
+use Rattle.mus_units.specs.declared.key.Key.{Key}
+use Rattle.mus_score.specs.declared.score.Score.{Score}
+use Rattle.mus_score.specs.GoodScore.{IsGoodScore}
+use Rattle.law_every_outcome.proofs.Draws.{decided}
+use Rattle.mus_transpose.specs.Moved.{CanMove, IsMoved, move_from, moved_score, on_circle, voice_by, voice_may}
+use Rattle.mus_transpose.proofs.MovedGood.{all_in_reach, moved_good, voices_decide}
 
 can_move : (d : Score) (key : Key) (by : ℤ) → Dec (CanMove d key by)
 can_move d key by =

@@ -1,5 +1,11 @@
 -- Every tune has an outcome: it is set, or it has a fault. So each book has a list of outcomes, whatever memory there is to find them.
-use Rattle.{std.specs.Prelude.{ℕ, List}, abc_lines.specs.{declared.book.TuneText.TuneText, Books.book_of}, abc_fields.specs.{Defaults.defaults_of, Good.IsGoodDefaults, Papers.paper_of}, set_tune.specs.Terms.{Manner, Terms, terms_by}}
+use Rattle.std.specs.Prelude.{ℕ, List}
+use Rattle.abc_lines.specs.declared.book.TuneText.{TuneText}
+use Rattle.abc_lines.specs.Books.{book_of}
+use Rattle.abc_fields.specs.Defaults.{defaults_of}
+use Rattle.abc_fields.specs.Good.{IsGoodDefaults}
+use Rattle.abc_fields.specs.Papers.{paper_of}
+use Rattle.set_tune.specs.Terms.{Manner, Terms, terms_by}
 use Rattle.set_book.specs.{declared.outcome.Outcome.Outcome, Outcomes.{AreOutcomes, IsOutcome}}
 
 pub record EveryTuneHasAnOutcome : Type 0 where

@@ -1,11 +1,35 @@
 -- The lines of a body have a first fault, or they are a body whose items are good.
-use Rattle.std.{proofs.{Common.{◌≡◌, refl, sym, subst, ℕ, ◌*◌, ◌^◌, ◌≤◌, ◌⊎◌, inl, inr, List, [], ◌∷◌, ◌++◌, length, Bool, true, false, All, Option, Some, None, flat_map, option_map, arith}, lemmas.{List.Elements.{All-nil, All-cons}, Nat.mul-le}, Math.Seq.take-length}, specs.Prelude.{⊤, Result, Ok, Err}}
-use Rattle.{mus_units.specs.declared.note.Head.{Head}, abc_lines.specs.{declared.{book.Line.Line, fault.Fault.Fault, fault.FaultKind.FaultKind, kind.LineKind.LineKind}, Kinds.kind_of}}
-use Rattle.{abc_notes.specs.declared.part.Len.{Len}, abc_pieces.specs.declared.token.{PieceBefore.PieceBefore, Token.Token, WrittenChord.WrittenChord}}
-use Rattle.abc_music.{specs.{declared.token.Placed.Placed, Good.{AreGoodHeads, AreGoodTokens, IsGoodLen, IsGoodToken}, Tokens.fault_at}, proofs.{Fronts.has_front, GoodLaws.good_front}}
-use Rattle.{abc_field.specs.{declared.{directive.Breaks.Breaks, field.Field.Field}, Fields.{field_of, named_field}}, abc_fields.specs.declared.header.Header.Header, abc_steps.specs.{declared.step.BodyItem.BodyItem, Good.IsGoodSound}}
+use Rattle.std.proofs.Common.{◌≡◌, refl, sym, subst, ℕ, ◌*◌, ◌^◌, ◌≤◌, ◌⊎◌, inl, inr, List, [], ◌∷◌, ◌++◌, length, Bool}
+use Rattle.std.proofs.Common.{true, false, All, Option, Some, None, flat_map, option_map, arith}
+use Rattle.std.proofs.lemmas.List.Elements.{All-nil, All-cons}
+use Rattle.std.proofs.lemmas.Nat.{mul-le}
+use Rattle.std.proofs.Math.Seq.{take-length}
+use Rattle.std.specs.Prelude.{⊤, Result, Ok, Err}
+use Rattle.mus_units.specs.declared.note.Head.{Head}
+use Rattle.abc_lines.specs.declared.book.Line.{Line}
+use Rattle.abc_lines.specs.declared.fault.Fault.{Fault}
+use Rattle.abc_lines.specs.declared.fault.FaultKind.{FaultKind}
+use Rattle.abc_lines.specs.declared.kind.LineKind.{LineKind}
+use Rattle.abc_lines.specs.Kinds.{kind_of}
+use Rattle.abc_notes.specs.declared.part.Len.{Len}
+use Rattle.abc_pieces.specs.declared.token.PieceBefore.{PieceBefore}
+use Rattle.abc_pieces.specs.declared.token.Token.{Token}
+use Rattle.abc_pieces.specs.declared.token.WrittenChord.{WrittenChord}
+use Rattle.abc_music.specs.declared.token.Placed.{Placed}
+use Rattle.abc_music.specs.Good.{AreGoodHeads, AreGoodTokens, IsGoodLen, IsGoodToken}
+use Rattle.abc_music.specs.Tokens.{fault_at}
+use Rattle.abc_music.proofs.Fronts.{has_front}
+use Rattle.abc_music.proofs.GoodLaws.{good_front}
+use Rattle.abc_field.specs.declared.directive.Breaks.{Breaks}
+use Rattle.abc_field.specs.declared.field.Field.{Field}
+use Rattle.abc_field.specs.Fields.{field_of, named_field}
+use Rattle.abc_fields.specs.declared.header.Header.{Header}
+use Rattle.abc_steps.specs.declared.step.BodyItem.{BodyItem}
+use Rattle.abc_steps.specs.Good.{IsGoodSound}
 use Rattle.abc_items.specs.{Good.IsGoodItem, Voices.declared_ids}
-use Rattle.abc_items.specs.Body.{ItemOrFault, gives, fails, item_of_field, chord_sound, sound, first_len, is_on, cut_given, item_of_token, placed_given, item_of_line_end, KindGives, BodyGives, no_lines, one_line, judged_items, first_item_fault, items_in, IsBody, HasFault}
+use Rattle.abc_items.specs.Body.{ItemOrFault, gives, fails, item_of_field, chord_sound, sound, first_len, is_on}
+use Rattle.abc_items.specs.Body.{cut_given, item_of_token, placed_given, item_of_line_end, KindGives, BodyGives}
+use Rattle.abc_items.specs.Body.{no_lines, one_line, judged_items, first_item_fault, items_in, IsBody, HasFault}
 use Rattle.law_every_score.proofs.GoodFields.{GoodRead, field_good, named_good}
 
 -- ---- what is given is good

@@ -1,10 +1,33 @@
 -- Each field that a line or a music line has is good.
-use Rattle.std.{proofs.{Common.{ℕ, List, Bool, arith}, lemmas.Bool.cond_both}, specs.{Prelude.{◌==◌, if◌then◌else◌, codes, Option, Some, None, IfSome, Result, Ok, IfOk}, Str.bytes_eq}}
-use Rattle.mus_units.specs.{declared.{key.Meter.Meter, pitch.Letter.Letter, key.Spread.Spread, value.Frac.Frac}, Good.{AreGoodSigns, IsGoodMeter, IsGoodUnit}}
-use Rattle.{mus_pitch.{specs.Circle.signs_of, proofs.SignLaws.{laid_good, signs_of_good}}, abc_lines.specs.{declared.{fault.FaultKind.FaultKind, kind.LineKind.LineKind}, Kinds.{field_text, kind_of}}}
-use Rattle.abc_field.{specs.{declared.{directive.Breaks.Breaks, key.{KeyText.KeyText, KeyWord.KeyWord, KeyStart.KeyStart}, voice.VoiceDef.VoiceDef, field.Field.Field}, Directives.{name_of, rest_of, breaks_of, spread_of}, Words.words_of}, proofs.GoodLaws.{meter_good, unit_good}}
-use Rattle.abc_field.specs.{Keys.{key_by, key_from, key_of, key_words, first_words, start_with, listed_signs, pipe_signs, IsGoodKeyText}, Meters.{meter_of, unit_of}, Voices.voice_of}
-use Rattle.abc_field.specs.Fields.{key_field, meter_field, unit_field, voice_field, written_field, named_field, breaks_field, spread_field, directive_field, field_by, field_of, IsGoodField}
+use Rattle.std.proofs.Common.{ℕ, List, Bool, arith}
+use Rattle.std.proofs.lemmas.Bool.{cond_both}
+use Rattle.std.specs.Prelude.{◌==◌, if◌then◌else◌, codes, Option, Some, None, IfSome, Result, Ok, IfOk}
+use Rattle.std.specs.Str.{bytes_eq}
+use Rattle.mus_units.specs.declared.key.Meter.{Meter}
+use Rattle.mus_units.specs.declared.pitch.Letter.{Letter}
+use Rattle.mus_units.specs.declared.key.Spread.{Spread}
+use Rattle.mus_units.specs.declared.value.Frac.{Frac}
+use Rattle.mus_units.specs.Good.{AreGoodSigns, IsGoodMeter, IsGoodUnit}
+use Rattle.mus_pitch.specs.Circle.{signs_of}
+use Rattle.mus_pitch.proofs.SignLaws.{laid_good, signs_of_good}
+use Rattle.abc_lines.specs.declared.fault.FaultKind.{FaultKind}
+use Rattle.abc_lines.specs.declared.kind.LineKind.{LineKind}
+use Rattle.abc_lines.specs.Kinds.{field_text, kind_of}
+use Rattle.abc_field.specs.declared.directive.Breaks.{Breaks}
+use Rattle.abc_field.specs.declared.key.KeyText.{KeyText}
+use Rattle.abc_field.specs.declared.key.KeyWord.{KeyWord}
+use Rattle.abc_field.specs.declared.key.KeyStart.{KeyStart}
+use Rattle.abc_field.specs.declared.voice.VoiceDef.{VoiceDef}
+use Rattle.abc_field.specs.declared.field.Field.{Field}
+use Rattle.abc_field.specs.Directives.{name_of, rest_of, breaks_of, spread_of}
+use Rattle.abc_field.specs.Words.{words_of}
+use Rattle.abc_field.proofs.GoodLaws.{meter_good, unit_good}
+use Rattle.abc_field.specs.Keys.{key_by, key_from, key_of, key_words, first_words, start_with, listed_signs, pipe_signs}
+use Rattle.abc_field.specs.Keys.{IsGoodKeyText}
+use Rattle.abc_field.specs.Meters.{meter_of, unit_of}
+use Rattle.abc_field.specs.Voices.{voice_of}
+use Rattle.abc_field.specs.Fields.{key_field, meter_field, unit_field, voice_field, written_field, named_field}
+use Rattle.abc_field.specs.Fields.{breaks_field, spread_field, directive_field, field_by, field_of, IsGoodField}
 
 -- ---- keys
 pipes_good : AreGoodSigns pipe_signs

@@ -1,10 +1,38 @@
 -- A tune's header has a first fault, or it is read and has good values.
-use Rattle.std.{proofs.{Common.{◌≡◌, refl, ℕ, ◌+◌, ◌*◌, ◌≤◌, ◌⊎◌, inl, inr, List, [], ◌∷◌, Bool, true, false, length, arith}, lemmas.{Bool.{cond_both, Decides.nat_tests}, List.Quantifiers.position-Some}}, specs.{Prelude.{Option, Some, None, IfSome, Result, Ok, Err, fold, nat_lt, unwrap_or, if◌then◌else◌}, Option.option_or}}
-use Rattle.{mus_units.specs.{declared.{key.Key.Key, key.Meter.Meter, key.Sign.Sign, value.Frac.Frac}, Good.{AreGoodSigns, IsGoodMeter, IsGoodUnit}}, mus_pitch.proofs.SignLaws.laid_good}
-use Rattle.{abc_lines.specs.declared.{book.Line.Line, book.TuneText.TuneText, fault.Fault.Fault, fault.FaultKind.FaultKind}, law_every_score.proofs.GoodFields.{GoodRead, field_good}}
-use Rattle.abc_field.specs.{declared.{field.Field.Field, key.KeyText.KeyText}, Fields.field_of, Keys.{GoodKeyIn, IsGoodKeyText, over_by}, Last.last_of, Meters.default_unit}
-use Rattle.abc_fields.{specs.{declared.{defaults.Defaults.Defaults, header.Header.Header}, Defaults.line_of, Good.{GoodUnitIn, IsGoodDefaults}, Voicing.{ids_after, ids_of}}, proofs.HeaderLaws.{last_key-good, last_meter-good, last_unit-good, voices-distinct, voices-few}}
-use Rattle.abc_fields.specs.Headers.{is_key_line, key_place, key_in, meter_in, unit_in, key_signs, unit_by, meter_from, staves_from, header_of, put_field, fields_of, line_fault, field_fault, ids_with, first_fault, head_lines, first_line_number, no_key, fault_by, header_fault, IsHeaderBy, IsHeaderOf, AreGoodFields, HasGoodValues, IsGoodHeader}
+use Rattle.std.proofs.Common.{◌≡◌, refl, ℕ, ◌+◌, ◌*◌, ◌≤◌, ◌⊎◌, inl, inr, List, [], ◌∷◌, Bool, true, false, length}
+use Rattle.std.proofs.Common.{arith}
+use Rattle.std.proofs.lemmas.Bool.{cond_both}
+use Rattle.std.proofs.lemmas.Bool.Decides.{nat_tests}
+use Rattle.std.proofs.lemmas.List.Quantifiers.{position-Some}
+use Rattle.std.specs.Prelude.{Option, Some, None, IfSome, Result, Ok, Err, fold, nat_lt, unwrap_or, if◌then◌else◌}
+use Rattle.std.specs.Option.{option_or}
+use Rattle.mus_units.specs.declared.key.Key.{Key}
+use Rattle.mus_units.specs.declared.key.Meter.{Meter}
+use Rattle.mus_units.specs.declared.key.Sign.{Sign}
+use Rattle.mus_units.specs.declared.value.Frac.{Frac}
+use Rattle.mus_units.specs.Good.{AreGoodSigns, IsGoodMeter, IsGoodUnit}
+use Rattle.mus_pitch.proofs.SignLaws.{laid_good}
+use Rattle.abc_lines.specs.declared.book.Line.{Line}
+use Rattle.abc_lines.specs.declared.book.TuneText.{TuneText}
+use Rattle.abc_lines.specs.declared.fault.Fault.{Fault}
+use Rattle.abc_lines.specs.declared.fault.FaultKind.{FaultKind}
+use Rattle.law_every_score.proofs.GoodFields.{GoodRead, field_good}
+use Rattle.abc_field.specs.declared.field.Field.{Field}
+use Rattle.abc_field.specs.declared.key.KeyText.{KeyText}
+use Rattle.abc_field.specs.Fields.{field_of}
+use Rattle.abc_field.specs.Keys.{GoodKeyIn, IsGoodKeyText, over_by}
+use Rattle.abc_field.specs.Last.{last_of}
+use Rattle.abc_field.specs.Meters.{default_unit}
+use Rattle.abc_fields.specs.declared.defaults.Defaults.{Defaults}
+use Rattle.abc_fields.specs.declared.header.Header.{Header}
+use Rattle.abc_fields.specs.Defaults.{line_of}
+use Rattle.abc_fields.specs.Good.{GoodUnitIn, IsGoodDefaults}
+use Rattle.abc_fields.specs.Voicing.{ids_after, ids_of}
+use Rattle.abc_fields.proofs.HeaderLaws.{last_key-good, last_meter-good, last_unit-good, voices-distinct, voices-few}
+use Rattle.abc_fields.specs.Headers.{is_key_line, key_place, key_in, meter_in, unit_in, key_signs, unit_by, meter_from}
+use Rattle.abc_fields.specs.Headers.{staves_from, header_of, put_field, fields_of, line_fault, field_fault, ids_with}
+use Rattle.abc_fields.specs.Headers.{first_fault, head_lines, first_line_number, no_key, fault_by, header_fault}
+use Rattle.abc_fields.specs.Headers.{IsHeaderBy, IsHeaderOf, AreGoodFields, HasGoodValues, IsGoodHeader}
 
 put_good : (read : Result Field FaultKind) (fs : List Field) → GoodRead read → AreGoodFields fs → AreGoodFields (put_field read fs)
 put_good (Ok f) fs good all = (good, all)

@@ -1,8 +1,25 @@
 -- A tune has a good score under its header, or a first fault of its body or its score.
 use Rattle.std.{proofs.Common.{refl, ◌⊎◌, inl, inr, Bool, List, Option, Some, None}, specs.List.All}
-use Rattle.{abc_lines.specs.declared.{book.TuneText.TuneText, fault.{Fault.Fault, TuneError.TuneError}}, abc_fields.specs.{declared.header.Header.Header, Headers.HasGoodValues}, abc_steps.specs.declared.step.BodyItem.{BodyItem}}
-use Rattle.{abc_items.specs.{Body.IsBody, Good.IsGoodItem}, abc_faults.{specs.First.{IsFirstInOrder, first_of}, proofs.Firsts.first_is}, mus_score.specs.{declared.score.Score.Score, GoodScore.IsGoodScore}}
-use Rattle.{abc_score.{specs.{Build.{IsFaultOf, IsScoreOf, body_lines}, Faults.score_faults, Score.score_of}, proofs.{Ids.few_ids, Wholes.good_score}}, law_every_score.{specs.Every.EveryTextIsRead, proofs.{Bodies.has_body, Headers.has_header}}}
+use Rattle.abc_lines.specs.declared.book.TuneText.{TuneText}
+use Rattle.abc_lines.specs.declared.fault.Fault.{Fault}
+use Rattle.abc_lines.specs.declared.fault.TuneError.{TuneError}
+use Rattle.abc_fields.specs.declared.header.Header.{Header}
+use Rattle.abc_fields.specs.Headers.{HasGoodValues}
+use Rattle.abc_steps.specs.declared.step.BodyItem.{BodyItem}
+use Rattle.abc_items.specs.Body.{IsBody}
+use Rattle.abc_items.specs.Good.{IsGoodItem}
+use Rattle.abc_faults.specs.First.{IsFirstInOrder, first_of}
+use Rattle.abc_faults.proofs.Firsts.{first_is}
+use Rattle.mus_score.specs.declared.score.Score.{Score}
+use Rattle.mus_score.specs.GoodScore.{IsGoodScore}
+use Rattle.abc_score.specs.Build.{IsFaultOf, IsScoreOf, body_lines}
+use Rattle.abc_score.specs.Faults.{score_faults}
+use Rattle.abc_score.specs.Score.{score_of}
+use Rattle.abc_score.proofs.Ids.{few_ids}
+use Rattle.abc_score.proofs.Wholes.{good_score}
+use Rattle.law_every_score.specs.Every.{EveryTextIsRead}
+use Rattle.law_every_score.proofs.Bodies.{has_body}
+use Rattle.law_every_score.proofs.Headers.{has_header}
 
 module _ (h : Header) (tune : TuneText) (flow : Bool) (good : HasGoodValues h) where
   abbrev HasScore : Type 0

@@ -1,8 +1,13 @@
 -- Every text of a tune is read: its header, and under it its score, are there or have a first fault.
 use Rattle.std.specs.Prelude.{◌≡◌, ◌⊎◌, Bool, Some, None}
 use Rattle.abc_lines.specs.declared.{book.TuneText.TuneText, fault.{Fault.Fault, TuneError.TuneError}}
-use Rattle.abc_fields.specs.{declared.{defaults.Defaults.Defaults, header.Header.Header}, Good.IsGoodDefaults, Headers.{header_fault, HasGoodValues, IsHeaderOf, IsGoodHeader}}
-use Rattle.{abc_score.specs.Build.{IsFaultOf, IsScoreOf}, mus_score.specs.{declared.score.Score.Score, GoodScore.IsGoodScore}}
+use Rattle.abc_fields.specs.declared.defaults.Defaults.{Defaults}
+use Rattle.abc_fields.specs.declared.header.Header.{Header}
+use Rattle.abc_fields.specs.Good.{IsGoodDefaults}
+use Rattle.abc_fields.specs.Headers.{header_fault, HasGoodValues, IsHeaderOf, IsGoodHeader}
+use Rattle.abc_score.specs.Build.{IsFaultOf, IsScoreOf}
+use Rattle.mus_score.specs.declared.score.Score.{Score}
+use Rattle.mus_score.specs.GoodScore.{IsGoodScore}
 
 pub record EveryTextIsRead : Type 0 where
   -- a tune has a first fault of its header, or a header with good values and no fault

@@ -1,7 +1,16 @@
 -- Marks that are alike but for their heights have the same boxes.
-use Rattle.std.{proofs.{Common.{◌≡◌, ◌∙◌, sym, ap, subst, refl, ℕ, ◌<◌, ℤ, pos, ◌+ℤ◌, ◌≤ℤ◌, List, length, get_or, arith}, lemmas.List.{get_or-map, length-map, Elements.Contains-get_or}}, specs.List.Contains}
-use Rattle.mus_laid.specs.{Boxes.sides_of, Shapes.laid_shape, Shapes.mark_shape, Shapes.marks_shape, declared.boxes.Sides.Sides, declared.laid.Laid.Laid, declared.laid.Mark.Mark}
-use Rattle.{lay_reaches.specs.Reaches.{rank_of_mark}, lay_tune.specs.Systems.{x_at}, law_marks_apart.specs.Apart.{AreApart, IsBoxed, Keeps, gap_of}}
+use Rattle.std.proofs.Common.{◌≡◌, ◌∙◌, sym, ap, subst, refl, ℕ, ◌<◌, ℤ, pos, ◌+ℤ◌, ◌≤ℤ◌, List, length, get_or, arith}
+use Rattle.std.proofs.lemmas.List.{get_or-map, length-map}
+use Rattle.std.proofs.lemmas.List.Elements.{Contains-get_or}
+use Rattle.std.specs.List.{Contains}
+use Rattle.mus_laid.specs.Boxes.{sides_of}
+use Rattle.mus_laid.specs.Shapes.{laid_shape, mark_shape, marks_shape}
+use Rattle.mus_laid.specs.declared.boxes.Sides.{Sides}
+use Rattle.mus_laid.specs.declared.laid.Laid.{Laid}
+use Rattle.mus_laid.specs.declared.laid.Mark.{Mark}
+use Rattle.lay_reaches.specs.Reaches.{rank_of_mark}
+use Rattle.lay_tune.specs.Systems.{x_at}
+use Rattle.law_marks_apart.specs.Apart.{AreApart, IsBoxed, Keeps, gap_of}
 
 box_shape : (x : Mark) → (rank_of_mark (mark_shape x) ≡ rank_of_mark x) × (sides_of (mark_shape x) ≡ sides_of x)
 box_shape (Mark.Glyph glyph rank dx dy) = (refl, refl)

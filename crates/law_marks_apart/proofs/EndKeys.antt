@@ -1,7 +1,17 @@
 -- The first column of a system is that of its head, and the last that of its last bar.
-use Rattle.std.{proofs.{Common.{◌≡◌, ◌∙◌, ℕ, zero, suc, ◌+◌, ◌-◌, ◌<◌, ◌≤◌, true, List, [], ◌∷◌, length, get_or, refl, ap, subst, inl, inr, arith}, lemmas.{Bool.{cases_lt, Decides.nat_tests}, List.get_or_default}}, specs.List.{All, Contains, slice_index}}
+use Rattle.std.proofs.Common.{◌≡◌, ◌∙◌, ℕ, zero, suc, ◌+◌, ◌-◌, ◌<◌, ◌≤◌, true, List, [], ◌∷◌, length, get_or, refl, ap}
+use Rattle.std.proofs.Common.{subst, inl, inr, arith}
+use Rattle.std.proofs.lemmas.Bool.{cases_lt}
+use Rattle.std.proofs.lemmas.Bool.Decides.{nat_tests}
+use Rattle.std.proofs.lemmas.List.{get_or_default}
+use Rattle.std.specs.List.{All, Contains, slice_index}
 use Rattle.mus_score.specs.{declared.score.Score.Score, GoodScore.IsGoodScore}
-use Rattle.mus_onsets.{specs.{declared.keys.{Class.Class, ColumnKey.ColumnKey}, Keys.{AreKeys, IsInSystem, bar_key, called_keys, head_key}, Onsets.timeline_of, Order.{BelowAll, is_below, Rises}}, proofs.Places.places_of}
+use Rattle.mus_onsets.specs.declared.keys.Class.{Class}
+use Rattle.mus_onsets.specs.declared.keys.ColumnKey.{ColumnKey}
+use Rattle.mus_onsets.specs.Keys.{AreKeys, IsInSystem, bar_key, called_keys, head_key}
+use Rattle.mus_onsets.specs.Onsets.{timeline_of}
+use Rattle.mus_onsets.specs.Order.{BelowAll, is_below, Rises}
+use Rattle.mus_onsets.proofs.Places.{places_of}
 use Rattle.mus_marks.proofs.Inside.{bars_inside, head_inside}
 
 -- ---- rising keys

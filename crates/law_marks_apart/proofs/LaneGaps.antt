@@ -1,6 +1,14 @@
 -- The lanes of the staves of a system: where they stand among all lanes, and the gaps in them.
-use Rattle.std.{proofs.{Common.{◌≡◌, ◌∙◌, ℕ, zero, suc, ◌+◌, ◌<◌, ◌≤◌, ◌==◌, if◌then◌else◌, List, [], ◌∷◌, length, Some, None, refl, sym, ap, subst, arith}, lemmas.{Bool.Decides.nat_tests, List.{get_or-append-add, get_or_append_left, get_or-replicate, length-append, length-replicate}, Option.{none-some, same_Some}}}, specs.List.{slice_get, slice_index}}
-use Rattle.{mus_laid.specs.declared.laid.Lane.{Lane}, lay_reaches.specs.Lanes.{gaps_of, lane_count, lane_number, lane_start, staff_gaps}, law_marks_apart.specs.Apart.{gap_of, Keeps}}
+use Rattle.std.proofs.Common.{◌≡◌, ◌∙◌, ℕ, zero, suc, ◌+◌, ◌<◌, ◌≤◌, ◌==◌, if◌then◌else◌, List, [], ◌∷◌, length, Some}
+use Rattle.std.proofs.Common.{None, refl, sym, ap, subst, arith}
+use Rattle.std.proofs.lemmas.Bool.Decides.{nat_tests}
+use Rattle.std.proofs.lemmas.List.{get_or-append-add, get_or_append_left, get_or-replicate, length-append}
+use Rattle.std.proofs.lemmas.List.{length-replicate}
+use Rattle.std.proofs.lemmas.Option.{none-some, same_Some}
+use Rattle.std.specs.List.{slice_get, slice_index}
+use Rattle.mus_laid.specs.declared.laid.Lane.{Lane}
+use Rattle.lay_reaches.specs.Lanes.{gaps_of, lane_count, lane_number, lane_start, staff_gaps}
+use Rattle.law_marks_apart.specs.Apart.{gap_of, Keeps}
 use Rattle.mus_laid.specs.declared.laid.Lane.TheVariants as lanes
 
 -- verses count from 1

@@ -1,7 +1,17 @@
 -- The marks of a staff are in its lanes, if they are in any: syllables are as many as the verses of its voices.
-use Rattle.std.{proofs.{Common.ℕ, Common.List, Common.arith, lemmas.List.Elements.All-contains, lemmas.List.Elements.All-from_recursion}, specs.{List.AllByRecursion, List.Contains}}
-use Rattle.{mus_units.specs.{declared.key.Meter.Meter, Good.IsGoodMeter}, mus_onsets.specs.declared.keys.ColumnKey.{ColumnKey}, mus_laid.specs.{declared.laid.Laid.Laid, Ranked.drawn_at}, mus_ink.specs.Signatures.{meter_marks}}
-use Rattle.{mus_drawn.specs.declared.drawn.DrawnVoice.{DrawnVoice}, mus_marks.{specs.{Staff.staff_marks, Staff.verses_on}, proofs.{Parts.FitsVoice, Parts.OfLaid, Parts.staff_all}}, law_marks_apart.proofs.LaneGaps.{HasLane}}
+use Rattle.std.proofs.Common.{ℕ, List, arith}
+use Rattle.std.proofs.lemmas.List.Elements.{All-contains, All-from_recursion}
+use Rattle.std.specs.List.{AllByRecursion, Contains}
+use Rattle.mus_units.specs.declared.key.Meter.{Meter}
+use Rattle.mus_units.specs.Good.{IsGoodMeter}
+use Rattle.mus_onsets.specs.declared.keys.ColumnKey.{ColumnKey}
+use Rattle.mus_laid.specs.declared.laid.Laid.{Laid}
+use Rattle.mus_laid.specs.Ranked.{drawn_at}
+use Rattle.mus_ink.specs.Signatures.{meter_marks}
+use Rattle.mus_drawn.specs.declared.drawn.DrawnVoice.{DrawnVoice}
+use Rattle.mus_marks.specs.Staff.{staff_marks, verses_on}
+use Rattle.mus_marks.proofs.Parts.{FitsVoice, OfLaid, staff_all}
+use Rattle.law_marks_apart.proofs.LaneGaps.{HasLane}
 
 module _ (verses : ℕ) where
   abbrev IsLaned : Laid → Type 0

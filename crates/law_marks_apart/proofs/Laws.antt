@@ -1,11 +1,42 @@
 -- The columns of a system that is set rise within the width, and boxes of marks in one lane of a staff stay apart there.
-use Rattle.std.{proofs.{Common.{◌≡◌, ◌∙◌, sym, ap, subst, refl, ℕ, ◌^◌, ◌<◌, ◌≤◌, ◌==◌, List, [], ◌∷◌, length, map, get_or, Option, Some, None, option_map, arith}, lemmas.{Option.{get_or_from_slice_get, none-some, same_Some, slice_get-get_or, slice_get-map, slice_get_within}, List.Elements.All-from_recursion}}, specs.List.{All, AllByRecursion, Contains, slice_get}}
-use Rattle.{mus_score.specs.{declared.score.Score.Score, declared.score.Voice.Voice, GoodScore.IsGoodScore, Seats.grouped}, mus_onsets.specs.Onsets.{timeline_of}}
-use Rattle.{mus_laid.specs.{declared.laid.Laid.Laid, declared.laid.StaffMarks.StaffMarks, declared.laid.SystemMarks.SystemMarks, Shapes.staff_shape}, mus_drawn.specs.{declared.drawn.DrawnVoice.DrawnVoice, Drawn.drawn_voice}}
-use Rattle.{mus_marks.{specs.{Staff.staff_marks, Staff.verses_on, System.drawn_staves, System.is_drawn_lower}, proofs.{Fitting.staves_fit, Parts.FitsVoice}}, lay_springs.specs.{declared.margin.Placed.Placed, Place.length_at, Place.reach_at}}
-use Rattle.{lay_reaches.{specs.Columns.column_reach, proofs.Covering.columns_cover}, law_marks_in_range.{specs.{Ranks.AreMarksRanked, Shown.IsShown}, proofs.Alike.same_in}}
-use Rattle.lay_tune.{specs.{Spans.{IsSystemOf, column_length, score_gaps, system_columns, verses_of}, Systems.{IsPlaced, IsSetSystem, StandWithin}}, proofs.Within.{justified_within, placed_stand, system_count}}
-use Rattle.law_marks_apart.{specs.Apart.AreApart, proofs.{Alike.same_apart, EndKeys.some_keys, LaneGaps.HasLane, LaneMarks.lane_of, SystemColumns.first_stands, SystemColumns.last_stands, Uncut.StandBetween, Uncut.staff_apart}}
+use Rattle.std.proofs.Common.{◌≡◌, ◌∙◌, sym, ap, subst, refl, ℕ, ◌^◌, ◌<◌, ◌≤◌, ◌==◌, List, [], ◌∷◌, length, map}
+use Rattle.std.proofs.Common.{get_or, Option, Some, None, option_map, arith}
+use Rattle.std.proofs.lemmas.Option.{get_or_from_slice_get, none-some, same_Some, slice_get-get_or, slice_get-map}
+use Rattle.std.proofs.lemmas.Option.{slice_get_within}
+use Rattle.std.proofs.lemmas.List.Elements.{All-from_recursion}
+use Rattle.std.specs.List.{All, AllByRecursion, Contains, slice_get}
+use Rattle.mus_score.specs.declared.score.Score.{Score}
+use Rattle.mus_score.specs.declared.score.Voice.{Voice}
+use Rattle.mus_score.specs.GoodScore.{IsGoodScore}
+use Rattle.mus_score.specs.Seats.{grouped}
+use Rattle.mus_onsets.specs.Onsets.{timeline_of}
+use Rattle.mus_laid.specs.declared.laid.Laid.{Laid}
+use Rattle.mus_laid.specs.declared.laid.StaffMarks.{StaffMarks}
+use Rattle.mus_laid.specs.declared.laid.SystemMarks.{SystemMarks}
+use Rattle.mus_laid.specs.Shapes.{staff_shape}
+use Rattle.mus_drawn.specs.declared.drawn.DrawnVoice.{DrawnVoice}
+use Rattle.mus_drawn.specs.Drawn.{drawn_voice}
+use Rattle.mus_marks.specs.Staff.{staff_marks, verses_on}
+use Rattle.mus_marks.specs.System.{drawn_staves, is_drawn_lower}
+use Rattle.mus_marks.proofs.Fitting.{staves_fit}
+use Rattle.mus_marks.proofs.Parts.{FitsVoice}
+use Rattle.lay_springs.specs.declared.margin.Placed.{Placed}
+use Rattle.lay_springs.specs.Place.{length_at, reach_at}
+use Rattle.lay_reaches.specs.Columns.{column_reach}
+use Rattle.lay_reaches.proofs.Covering.{columns_cover}
+use Rattle.law_marks_in_range.specs.Ranks.{AreMarksRanked}
+use Rattle.law_marks_in_range.specs.Shown.{IsShown}
+use Rattle.law_marks_in_range.proofs.Alike.{same_in}
+use Rattle.lay_tune.specs.Spans.{IsSystemOf, column_length, score_gaps, system_columns, verses_of}
+use Rattle.lay_tune.specs.Systems.{IsPlaced, IsSetSystem, StandWithin}
+use Rattle.lay_tune.proofs.Within.{justified_within, placed_stand, system_count}
+use Rattle.law_marks_apart.specs.Apart.{AreApart}
+use Rattle.law_marks_apart.proofs.Alike.{same_apart}
+use Rattle.law_marks_apart.proofs.EndKeys.{some_keys}
+use Rattle.law_marks_apart.proofs.LaneGaps.{HasLane}
+use Rattle.law_marks_apart.proofs.LaneMarks.{lane_of}
+use Rattle.law_marks_apart.proofs.SystemColumns.{first_stands, last_stands}
+use Rattle.law_marks_apart.proofs.Uncut.{StandBetween, staff_apart}
 
 pub columns_stand : (s : Score) (width a b : ℕ) (m : SystemMarks) (p : Placed) → IsSetSystem s width a b m p → StandWithin width (length m.keys) p.at
 columns_stand s width a b m p set = subst (λ keys. StandWithin width (length keys) p.at) set.alike.keys (placed_stand s width set.flat p set.placed)

@@ -1,10 +1,26 @@
 -- The columns of a system: as many as its keys, and the first and the last stand in each lane.
-use Rattle.std.proofs.{Common.{◌≡◌, ◌∙◌, sym, ap, subst, ℕ, ◌-◌, ◌<◌, ◌≤◌, true, List, [], length, get_or, arith}, lemmas.{List.{get_or-map, length-map}, Option.slice_get-get_or}}
-use Rattle.{mus_score.specs.{declared.score.Score.Score, GoodScore.IsGoodScore}, mus_onsets.specs.{declared.keys.Class.Class, declared.keys.ColumnKey.ColumnKey, Keys.key_at, Onsets.timeline_of}}
-use Rattle.{mus_laid.specs.{declared.laid.StaffMarks.StaffMarks, declared.laid.SystemMarks.SystemMarks}, mus_marks.specs.{Staff.staff_marks, Staff.verses_on, System.drawn_staves}}
+use Rattle.std.proofs.Common.{◌≡◌, ◌∙◌, sym, ap, subst, ℕ, ◌-◌, ◌<◌, ◌≤◌, true, List, [], length, get_or, arith}
+use Rattle.std.proofs.lemmas.List.{get_or-map, length-map}
+use Rattle.std.proofs.lemmas.Option.{slice_get-get_or}
+use Rattle.mus_score.specs.declared.score.Score.{Score}
+use Rattle.mus_score.specs.GoodScore.{IsGoodScore}
+use Rattle.mus_onsets.specs.declared.keys.Class.{Class}
+use Rattle.mus_onsets.specs.declared.keys.ColumnKey.{ColumnKey}
+use Rattle.mus_onsets.specs.Keys.{key_at}
+use Rattle.mus_onsets.specs.Onsets.{timeline_of}
+use Rattle.mus_laid.specs.declared.laid.StaffMarks.{StaffMarks}
+use Rattle.mus_laid.specs.declared.laid.SystemMarks.{SystemMarks}
+use Rattle.mus_marks.specs.Staff.{staff_marks, verses_on}
+use Rattle.mus_marks.specs.System.{drawn_staves}
 use Rattle.lay_springs.{specs.{Fit.StandsInAll, Place.reach_at}, proofs.Placing.reach_is}
-use Rattle.lay_reaches.{specs.{declared.column.Column.Column, Columns.StandsWhereDue, Columns.column_reach, Columns.columns_of, Lanes.gaps_of, Reaches.stands_always}, proofs.{Facts.columns_keys, Facts.columns_stand}}
-use Rattle.{lay_tune.{specs.{Spans.IsSystemOf, Spans.score_gaps, Spans.system_columns, Spans.verses_of}, proofs.Within.system_count}, law_marks_apart.proofs.EndKeys.{first_class, last_class, some_keys}}
+use Rattle.lay_reaches.specs.declared.column.Column.{Column}
+use Rattle.lay_reaches.specs.Columns.{StandsWhereDue, column_reach, columns_of}
+use Rattle.lay_reaches.specs.Lanes.{gaps_of}
+use Rattle.lay_reaches.specs.Reaches.{stands_always}
+use Rattle.lay_reaches.proofs.Facts.{columns_keys, columns_stand}
+use Rattle.lay_tune.specs.Spans.{IsSystemOf, score_gaps, system_columns, verses_of}
+use Rattle.lay_tune.proofs.Within.{system_count}
+use Rattle.law_marks_apart.proofs.EndKeys.{first_class, last_class, some_keys}
 
 module _ (keys : List ColumnKey) (staves : List StaffMarks) (lengths verses : List ℕ) where
   abbrev columns : List Column

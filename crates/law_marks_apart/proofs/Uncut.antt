@@ -1,11 +1,27 @@
 -- Where columns stand within less than 2^20, no reach is cut: the first and the last column stand in each lane, and what is cut would
 -- push one of them out. So the boxes of marks stay apart as the reaches of their columns do.
-use Rattle.std.{proofs.{Common.{◌≡◌, ◌∙◌, sym, ap, subst, inl, inr, ℕ, ◌+◌, ◌-◌, ◌^◌, ◌<◌, ℤ, pos, neg_ℤ, ◌+ℤ◌, ◌≤ℤ◌, List, length, Option, Some, arith}, lemmas.{Bool.cases_lt, Int.ints, List.Elements.All-contains, Option.{none-some, same_Some}}}, specs.List.{Contains, slice_get}}
-use Rattle.mus_laid.specs.{Boxes.sides_of, declared.boxes.Sides.Sides, declared.laid.Laid.Laid, declared.laid.Mark.Mark, declared.laid.StaffMarks.StaffMarks}
+use Rattle.std.proofs.Common.{◌≡◌, ◌∙◌, sym, ap, subst, inl, inr, ℕ, ◌+◌, ◌-◌, ◌^◌, ◌<◌, ℤ, pos, neg_ℤ, ◌+ℤ◌, ◌≤ℤ◌}
+use Rattle.std.proofs.Common.{List, length, Option, Some, arith}
+use Rattle.std.proofs.lemmas.Bool.{cases_lt}
+use Rattle.std.proofs.lemmas.Int.{ints}
+use Rattle.std.proofs.lemmas.List.Elements.{All-contains}
+use Rattle.std.proofs.lemmas.Option.{none-some, same_Some}
+use Rattle.std.specs.List.{Contains, slice_get}
+use Rattle.mus_laid.specs.Boxes.{sides_of}
+use Rattle.mus_laid.specs.declared.boxes.Sides.{Sides}
+use Rattle.mus_laid.specs.declared.laid.Laid.{Laid}
+use Rattle.mus_laid.specs.declared.laid.Mark.{Mark}
+use Rattle.mus_laid.specs.declared.laid.StaffMarks.{StaffMarks}
 use Rattle.lay_springs.specs.{declared.traits.Reach.Reach, Fit.StandsInAll, Place.StandApart, Place.reach_at}
-use Rattle.lay_reaches.specs.{declared.column.Column.Column, Columns.CoverMarks, Columns.Covers, Columns.column_reach, Lanes.gaps_of, Lanes.lane_count, Lanes.lane_number, Lanes.lane_start, Reaches.rank_of_mark}
-use Rattle.{law_marks_in_range.specs.Ranks.{AreMarksRanked, IsRanked}, lay_tune.{specs.Systems.x_at, proofs.Within.EndsWithin}}
-use Rattle.law_marks_apart.{specs.Apart.AreApart, specs.Apart.IsBoxed, specs.Apart.gap_of, proofs.LaneGaps.HasLane, proofs.LaneGaps.number_of, proofs.LaneGaps.place_of_lane}
+use Rattle.lay_reaches.specs.declared.column.Column.{Column}
+use Rattle.lay_reaches.specs.Columns.{CoverMarks, Covers, column_reach}
+use Rattle.lay_reaches.specs.Lanes.{gaps_of, lane_count, lane_number, lane_start}
+use Rattle.lay_reaches.specs.Reaches.{rank_of_mark}
+use Rattle.law_marks_in_range.specs.Ranks.{AreMarksRanked, IsRanked}
+use Rattle.lay_tune.specs.Systems.{x_at}
+use Rattle.lay_tune.proofs.Within.{EndsWithin}
+use Rattle.law_marks_apart.specs.Apart.{AreApart, IsBoxed, gap_of}
+use Rattle.law_marks_apart.proofs.LaneGaps.{HasLane, number_of, place_of_lane}
 
 -- columns that stand apart within a width, of which the first and the last stand in each lane
 pub record StandBetween (n : ℕ) (reach : ℕ → ℕ → Option Reach) (gaps : List ℕ) (spring : ℕ → ℕ) (width : ℕ) (at : List ℤ) : Type 0 where

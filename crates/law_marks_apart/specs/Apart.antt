@@ -1,7 +1,12 @@
 -- Boxes of marks where their columns stand: those of one lane of a staff in different columns are at least the lane's gap apart,
 -- and each box of a lane lies within the width. Loose marks are in no lane.
 use Rattle.std.specs.Prelude.{◌≡◌, ℕ, ◌<◌, ℤ, pos, ◌+ℤ◌, ◌≤ℤ◌, List, Some, Contains}
-use Rattle.{mus_laid.specs.{Boxes.sides_of, declared.boxes.Sides.Sides, declared.laid.Laid.Laid, declared.laid.Lane.Lane}, lay_reaches.specs.Reaches.{rank_of_mark}, lay_tune.specs.Systems.{x_at}}
+use Rattle.mus_laid.specs.Boxes.{sides_of}
+use Rattle.mus_laid.specs.declared.boxes.Sides.{Sides}
+use Rattle.mus_laid.specs.declared.laid.Laid.{Laid}
+use Rattle.mus_laid.specs.declared.laid.Lane.{Lane}
+use Rattle.lay_reaches.specs.Reaches.{rank_of_mark}
+use Rattle.lay_tune.specs.Systems.{x_at}
 
 -- 100 in the main lane, 300 in each other
 abbrev pub gap_of : Lane → ℕ

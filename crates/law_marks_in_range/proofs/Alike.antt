@@ -1,7 +1,16 @@
 -- Marks that are alike but for their heights stand at the same columns and show the same texts.
-use Rattle.std.{proofs.{Common.{◌≡◌, ◌∙◌, sym, ap, subst, refl, ℕ, ◌<◌, List, [], ◌∷◌, ◌++◌, length, map, flat_map, get_or, arith}, lemmas.List.{get_or-map, length-map}}, specs.List.All}
-use Rattle.mus_laid.specs.{declared.laid.Laid.Laid, declared.laid.Mark.Mark, declared.laid.StaffMarks.StaffMarks, declared.laid.SystemMarks.SystemMarks, Shapes.HaveSameShapes, Shapes.laid_shape, Shapes.mark_shape, Shapes.marks_shape, Shapes.staff_shape}
-use Rattle.law_marks_in_range.specs.{Ranks.AreAnchored, Ranks.AreMarksRanked, Ranks.IsRanked, Ranks.marks_ranks, Ranks.staves_ranks, Shown.IsShown, Texts.HasPrinted}
+use Rattle.std.proofs.Common.{◌≡◌, ◌∙◌, sym, ap, subst, refl, ℕ, ◌<◌, List, [], ◌∷◌, ◌++◌, length, map, flat_map}
+use Rattle.std.proofs.Common.{get_or, arith}
+use Rattle.std.proofs.lemmas.List.{get_or-map, length-map}
+use Rattle.std.specs.List.{All}
+use Rattle.mus_laid.specs.declared.laid.Laid.{Laid}
+use Rattle.mus_laid.specs.declared.laid.Mark.{Mark}
+use Rattle.mus_laid.specs.declared.laid.StaffMarks.{StaffMarks}
+use Rattle.mus_laid.specs.declared.laid.SystemMarks.{SystemMarks}
+use Rattle.mus_laid.specs.Shapes.{HaveSameShapes, laid_shape, mark_shape, marks_shape, staff_shape}
+use Rattle.law_marks_in_range.specs.Ranks.{AreAnchored, AreMarksRanked, IsRanked, marks_ranks, staves_ranks}
+use Rattle.law_marks_in_range.specs.Shown.{IsShown}
+use Rattle.law_marks_in_range.specs.Texts.{HasPrinted}
 
 -- what holds of things holds of others that come to the same
 pub same_in : {X Y : Type 0} (f : X → Y) (P : X → Type 0) → ((x y : X) → f x ≡ f y → P x → P y) → (xs ys : List X) → map f xs ≡ map f ys → All P xs → All P ys

@@ -1,12 +1,44 @@
 -- Arcs go from the column of an event to that of a later one. The head stands before all notes of a system and
 -- the bar of its last measure behind them, so that an end which the system cuts stands outside of them too.
-use Rattle.std.{proofs.{Common.{◌≡◌, ◌∙◌, ℕ, zero, suc, ◌-◌, ◌<◌, ◌≤◌, ◌⊎◌, inl, inr, Bool, true, false, nat_lt, nat_le, ◌==◌, ◌&&◌, if◌then◌else◌, List, [], ◌∷◌, ◌++◌, length, map, reverse, Option, Some, None, refl, sym, ap, subst, arith}, lemmas.{Bool.{cases_lt, Decides.nat_tests}, List.{Elements.{All-contains, All-from_recursion, recursion_from_All}, Sorted.{All-permutation, IsPermutation-reverse}}, Option.{get_or_from_slice_get, none-some, same_Some, slice_get_within}}}, specs.List.{All, AllByRecursion, Contains, find, list_any, slice_get, slice_index, slice_range}}
-use Rattle.{mus_units.specs.declared.note.Head.{Head}, mus_score.specs.{declared.score.Flat.Flat, declared.score.Measure.Measure, declared.score.Voice.Voice, GoodScore.AreCounted, GoodScore.IsGoodVoice, GoodScore.events_of, Times.flats_of}}
-use Rattle.{mus_onsets.{specs.{declared.keys.ColumnKey.ColumnKey, Keys.IsInSystem, Keys.bar_key, Keys.head_key, Order.is_below}, proofs.Orders.lower}, mus_stems.proofs.RunLaws.{all_append, all_drop}}
-use Rattle.mus_arcs.specs.{declared.{events.ArcEvent.ArcEvent, pairing.{Arc.Arc, SlurEnd.SlurEnd}, cutting.Piece.Piece}, Arcs.{arcs_of, slur_copies, has_pitch, open_ends, slur, slurs, slurs_at, spot, tie, ties_at, ties_from}, Events.{at_measure, events_from, events_of_voice}, Pieces.piece_of}
-use Rattle.{mus_laid.specs.declared.drawn.Bridge.{Bridge}, mus_words.specs.Arcs.{ArcEndEvent, arc_mark, slur_mark, tie_mark}, mus_drawn.specs.{declared.drawn.DrawnEvent.DrawnEvent, declared.drawn.DrawnMeasure.DrawnMeasure, Drawn.drawn_voice}}
-use Rattle.{mus_time.specs.Columns.{note_key}, mus_bridges.specs.Arcs.{arc_between, arc_in, arcs_between, event_at, event_in, has_id, piece_between, seen_of}}
-use Rattle.{mus_marks.proofs.{GoingOn.{AllGoOn, GoOn, IsEarlier, later_below}, Inside.{HasEvent, HasMeasures, measure_at, there}}, law_marks_in_range.proofs.Between.{AreBetween, IsBetween, both}}
+use Rattle.std.proofs.Common.{◌≡◌, ◌∙◌, ℕ, zero, suc, ◌-◌, ◌<◌, ◌≤◌, ◌⊎◌, inl, inr, Bool, true, false, nat_lt, nat_le}
+use Rattle.std.proofs.Common.{◌==◌, ◌&&◌, if◌then◌else◌, List, [], ◌∷◌, ◌++◌, length, map, reverse, Option, Some, None}
+use Rattle.std.proofs.Common.{refl, sym, ap, subst, arith}
+use Rattle.std.proofs.lemmas.Bool.{cases_lt}
+use Rattle.std.proofs.lemmas.Bool.Decides.{nat_tests}
+use Rattle.std.proofs.lemmas.List.Elements.{All-contains, All-from_recursion, recursion_from_All}
+use Rattle.std.proofs.lemmas.List.Sorted.{All-permutation, IsPermutation-reverse}
+use Rattle.std.proofs.lemmas.Option.{get_or_from_slice_get, none-some, same_Some, slice_get_within}
+use Rattle.std.specs.List.{All, AllByRecursion, Contains, find, list_any, slice_get, slice_index, slice_range}
+use Rattle.mus_units.specs.declared.note.Head.{Head}
+use Rattle.mus_score.specs.declared.score.Flat.{Flat}
+use Rattle.mus_score.specs.declared.score.Measure.{Measure}
+use Rattle.mus_score.specs.declared.score.Voice.{Voice}
+use Rattle.mus_score.specs.GoodScore.{AreCounted, IsGoodVoice, events_of}
+use Rattle.mus_score.specs.Times.{flats_of}
+use Rattle.mus_onsets.specs.declared.keys.ColumnKey.{ColumnKey}
+use Rattle.mus_onsets.specs.Keys.{IsInSystem, bar_key, head_key}
+use Rattle.mus_onsets.specs.Order.{is_below}
+use Rattle.mus_onsets.proofs.Orders.{lower}
+use Rattle.mus_stems.proofs.RunLaws.{all_append, all_drop}
+use Rattle.mus_arcs.specs.declared.events.ArcEvent.{ArcEvent}
+use Rattle.mus_arcs.specs.declared.pairing.Arc.{Arc}
+use Rattle.mus_arcs.specs.declared.pairing.SlurEnd.{SlurEnd}
+use Rattle.mus_arcs.specs.declared.cutting.Piece.{Piece}
+use Rattle.mus_arcs.specs.Arcs.{arcs_of, slur_copies, has_pitch, open_ends, slur, slurs, slurs_at, spot, tie, ties_at}
+use Rattle.mus_arcs.specs.Arcs.{ties_from}
+use Rattle.mus_arcs.specs.Events.{at_measure, events_from, events_of_voice}
+use Rattle.mus_arcs.specs.Pieces.{piece_of}
+use Rattle.mus_laid.specs.declared.drawn.Bridge.{Bridge}
+use Rattle.mus_words.specs.Arcs.{ArcEndEvent, arc_mark, slur_mark, tie_mark}
+use Rattle.mus_drawn.specs.declared.drawn.DrawnEvent.{DrawnEvent}
+use Rattle.mus_drawn.specs.declared.drawn.DrawnMeasure.{DrawnMeasure}
+use Rattle.mus_drawn.specs.Drawn.{drawn_voice}
+use Rattle.mus_time.specs.Columns.{note_key}
+use Rattle.mus_bridges.specs.Arcs.{arc_between, arc_in, arcs_between, event_at, event_in, has_id, piece_between}
+use Rattle.mus_bridges.specs.Arcs.{seen_of}
+use Rattle.mus_marks.proofs.GoingOn.{AllGoOn, GoOn, IsEarlier, later_below}
+use Rattle.mus_marks.proofs.Inside.{HasEvent, HasMeasures, measure_at, there}
+use Rattle.law_marks_in_range.proofs.Between.{AreBetween, IsBetween, both}
 
 -- ---- the arcs of a voice
 

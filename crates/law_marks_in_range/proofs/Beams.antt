@@ -1,8 +1,20 @@
 -- Beams go from the column of an event to that of a later one: within a measure the keys of notes rise.
-use Rattle.std.{proofs.{Common.{◌≡◌, ◌∙◌, ℕ, zero, suc, ◌+◌, ◌-◌, Bool, true, false, if◌then◌else◌, List, [], ◌∷◌, map, sym, arith}, lemmas.Bool.Decides.nat_tests}, specs.List.{AllByRecursion, Contains}}
-use Rattle.{mus_onsets.{specs.{declared.keys.ColumnKey.ColumnKey, Order.is_below, Order.same_key}, proofs.RankLaws.false_not_true}, mus_drawn.specs.{declared.drawn.DrawnEvent.DrawnEvent, declared.drawn.DrawnMeasure.DrawnMeasure}}
-use Rattle.mus_bridges.specs.{declared.stems.BeamStem.BeamStem, Beams.beam_marks, Beams.beams_at, Beams.beams_from, Beams.goes_on_at_level, Beams.last_at, Beams.level_from, Beams.levels_before, Beams.levels_from, Beams.stem_of, Bridges.beams_between, Bridges.beam_stem_at}
-use Rattle.{mus_marks.proofs.{GoingOn.AllGoOn, GoingOn.GoOn, GoingOn.IsEarlier, GoingOn.later_below, Inside.HasEvent, Inside.HasMeasures}, law_marks_in_range.proofs.Between.{AreBetween, both, unless}}
+use Rattle.std.proofs.Common.{◌≡◌, ◌∙◌, ℕ, zero, suc, ◌+◌, ◌-◌, Bool, true, false, if◌then◌else◌, List, [], ◌∷◌, map}
+use Rattle.std.proofs.Common.{sym, arith}
+use Rattle.std.proofs.lemmas.Bool.Decides.{nat_tests}
+use Rattle.std.specs.List.{AllByRecursion, Contains}
+use Rattle.mus_onsets.specs.declared.keys.ColumnKey.{ColumnKey}
+use Rattle.mus_onsets.specs.Order.{is_below, same_key}
+use Rattle.mus_onsets.proofs.RankLaws.{false_not_true}
+use Rattle.mus_drawn.specs.declared.drawn.DrawnEvent.{DrawnEvent}
+use Rattle.mus_drawn.specs.declared.drawn.DrawnMeasure.{DrawnMeasure}
+use Rattle.mus_bridges.specs.declared.stems.BeamStem.{BeamStem}
+use Rattle.mus_bridges.specs.Beams.{beam_marks, beams_at, beams_from, goes_on_at_level, last_at, level_from}
+use Rattle.mus_bridges.specs.Beams.{levels_before, levels_from, stem_of}
+use Rattle.mus_bridges.specs.Bridges.{beams_between, beam_stem_at}
+use Rattle.mus_marks.proofs.GoingOn.{AllGoOn, GoOn, IsEarlier, later_below}
+use Rattle.mus_marks.proofs.Inside.{HasEvent, HasMeasures}
+use Rattle.law_marks_in_range.proofs.Between.{AreBetween, both, unless}
 
 -- ---- over stems
 same_itself : (k : ColumnKey) → same_key k k ≡ true

@@ -1,7 +1,15 @@
 -- Beams and arcs that go from one of the columns of a system to a later one have ranks of such columns.
-use Rattle.std.{proofs.Common.{◌≡◌, Bool, true, false, if◌then◌else◌, List, [], ◌∷◌, ◌++◌, length, map, refl}, specs.List.{AllByRecursion, Contains}}
-use Rattle.{mus_stems.proofs.RunLaws.{all_append}, mus_onsets.{specs.{declared.keys.ColumnKey.ColumnKey, Order.is_below, Order.key_rank}, proofs.{RankLaws.rank_less, RankLaws.rank_rises_more}}}
-use Rattle.{mus_laid.specs.{declared.drawn.Bridge.Bridge, declared.drawn.BridgeShape.BridgeShape, Ranked.bridge_at, Ranked.span_at}, law_marks_in_range.{specs.Ranks.IsRanked, proofs.Standing.Ranked}}
+use Rattle.std.proofs.Common.{◌≡◌, Bool, true, false, if◌then◌else◌, List, [], ◌∷◌, ◌++◌, length, map, refl}
+use Rattle.std.specs.List.{AllByRecursion, Contains}
+use Rattle.mus_stems.proofs.RunLaws.{all_append}
+use Rattle.mus_onsets.specs.declared.keys.ColumnKey.{ColumnKey}
+use Rattle.mus_onsets.specs.Order.{is_below, key_rank}
+use Rattle.mus_onsets.proofs.RankLaws.{rank_less, rank_rises_more}
+use Rattle.mus_laid.specs.declared.drawn.Bridge.{Bridge}
+use Rattle.mus_laid.specs.declared.drawn.BridgeShape.{BridgeShape}
+use Rattle.mus_laid.specs.Ranked.{bridge_at, span_at}
+use Rattle.law_marks_in_range.specs.Ranks.{IsRanked}
+use Rattle.law_marks_in_range.proofs.Standing.{Ranked}
 
 module _ (keys : List ColumnKey) where
   -- from one of the columns to a later one

@@ -1,9 +1,21 @@
 -- Beams and arcs of a voice go from one of the columns of its system to a later one.
 use Rattle.std.{proofs.Common.{◌∙◌, ℕ, ◌-◌, ◌<◌, ◌≤◌, List, ◌++◌, drop, get_or, arith}, specs.List.{All, slice_range}}
-use Rattle.{mus_score.specs.{declared.score.Score.Score, GoodScore.IsGoodScore, GoodScore.IsGoodVoice}, mus_onsets.{specs.{declared.keys.ColumnKey.ColumnKey, Keys.AreKeys, Keys.called_keys, Onsets.timeline_of}, proofs.Places.places_of}}
-use Rattle.{mus_stems.proofs.RunLaws.{all_drop, all_take}, mus_drawn.specs.Drawn.{drawn_voice}, mus_time.proofs.Counts.{voice_count}, mus_bridges.specs.{Arcs.arcs_between, Bridges.{beams_between, bridges_of, grace_beams_between}}}
+use Rattle.mus_score.specs.declared.score.Score.{Score}
+use Rattle.mus_score.specs.GoodScore.{IsGoodScore, IsGoodVoice}
+use Rattle.mus_onsets.specs.declared.keys.ColumnKey.{ColumnKey}
+use Rattle.mus_onsets.specs.Keys.{AreKeys, called_keys}
+use Rattle.mus_onsets.specs.Onsets.{timeline_of}
+use Rattle.mus_onsets.proofs.Places.{places_of}
+use Rattle.mus_stems.proofs.RunLaws.{all_drop, all_take}
+use Rattle.mus_drawn.specs.Drawn.{drawn_voice}
+use Rattle.mus_time.proofs.Counts.{voice_count}
+use Rattle.mus_bridges.specs.Arcs.{arcs_between}
+use Rattle.mus_bridges.specs.Bridges.{beams_between, bridges_of, grace_beams_between}
 use Rattle.mus_marks.proofs.{GoingOn.GoOn, GoingOn.voice_goes_on, Inside.head_inside, Inside.measures_inside}
-use Rattle.law_marks_in_range.proofs.{Arcs.arcs_go_on, Arcs.voice_arcs_go, Beams.beams_go, Between.AreBetween, Between.both, GraceBeams.grace_beams_go}
+use Rattle.law_marks_in_range.proofs.Arcs.{arcs_go_on, voice_arcs_go}
+use Rattle.law_marks_in_range.proofs.Beams.{beams_go}
+use Rattle.law_marks_in_range.proofs.Between.{AreBetween, both}
+use Rattle.law_marks_in_range.proofs.GraceBeams.{grace_beams_go}
 
 module _ (s : Score) (a b : ℕ) (keys : List ColumnKey) (good : IsGoodScore s) (order : a < b) (within : b ≤ s.measures) (are : AreKeys keys (called_keys s (timeline_of s).lengths a b)) where
   pub voices_between : All (λ v. AreBetween keys (bridges_of (timeline_of s).lengths a b (drawn_voice v))) s.voices

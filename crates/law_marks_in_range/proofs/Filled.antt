@@ -1,9 +1,34 @@
 -- What is called for is drawn: an event, a grace, a bar and a head have a mark, and a change has one just where it changes what is drawn.
-use Rattle.std.proofs.{Common.{◌≡◌, ◌∙◌, ℕ, zero, suc, ℤ, ◌+◌, ◌*◌, ◌≤◌, Bool, true, false, ◌||◌, nat_le, List, [], ◌∷◌, ◌++◌, length, Option, Some, None, is_some, refl, ap, arith}, lemmas.Bool.Decides.nat_tests}
-use Rattle.mus_units.specs.declared.{glyph.Glyph.Glyph, key.Key.Key, key.Meter.Meter, key.Sign.Sign, note.Bar.Bar, note.Head.Head, pitch.Clef.Clef, value.Base.Base}
-use Rattle.{mus_score.specs.{declared.score.Changes.Changes, declared.score.Event.Event, declared.score.Look.Look}, mus_stems.specs.{declared.plans.StemPlan.StemPlan, Stills.flags_of}}
-use Rattle.{mus_onsets.{specs.Keys.change_has_mark, specs.Keys.key_has_mark, specs.Keys.meter_has_mark, proofs.RankLaws.false_not_true}, mus_laid.specs.declared.drawn.LaneInk.{LaneInk}}
-use Rattle.mus_ink.specs.{declared.graces.Group.Group, Bars.bar_marks, Changes.{behind_clef, change_marks, clef_if, count_if, head_marks, key_if, new_entries}, Decos.{body_marks, note_marks}, Distances.{entry_gap, entry_step}, Graces.{grace_body, grace_marks}, Kinds.head_glyph, Notes.{dot_marks, heads_marks, ledger_marks, note_heads, sign_marks}, Rests.{rest_dots, rest_glyphs, rest_marks, short_rests}, Signatures.{meter_if, meter_marks}, Stems.stem_marks}
+use Rattle.std.proofs.Common.{◌≡◌, ◌∙◌, ℕ, zero, suc, ℤ, ◌+◌, ◌*◌, ◌≤◌, Bool, true, false, ◌||◌, nat_le, List, [], ◌∷◌}
+use Rattle.std.proofs.Common.{◌++◌, length, Option, Some, None, is_some, refl, ap, arith}
+use Rattle.std.proofs.lemmas.Bool.Decides.{nat_tests}
+use Rattle.mus_units.specs.declared.glyph.Glyph.{Glyph}
+use Rattle.mus_units.specs.declared.key.Key.{Key}
+use Rattle.mus_units.specs.declared.key.Meter.{Meter}
+use Rattle.mus_units.specs.declared.key.Sign.{Sign}
+use Rattle.mus_units.specs.declared.note.Bar.{Bar}
+use Rattle.mus_units.specs.declared.note.Head.{Head}
+use Rattle.mus_units.specs.declared.pitch.Clef.{Clef}
+use Rattle.mus_units.specs.declared.value.Base.{Base}
+use Rattle.mus_score.specs.declared.score.Changes.{Changes}
+use Rattle.mus_score.specs.declared.score.Event.{Event}
+use Rattle.mus_score.specs.declared.score.Look.{Look}
+use Rattle.mus_stems.specs.declared.plans.StemPlan.{StemPlan}
+use Rattle.mus_stems.specs.Stills.{flags_of}
+use Rattle.mus_onsets.specs.Keys.{change_has_mark, key_has_mark, meter_has_mark}
+use Rattle.mus_onsets.proofs.RankLaws.{false_not_true}
+use Rattle.mus_laid.specs.declared.drawn.LaneInk.{LaneInk}
+use Rattle.mus_ink.specs.declared.graces.Group.{Group}
+use Rattle.mus_ink.specs.Bars.{bar_marks}
+use Rattle.mus_ink.specs.Changes.{behind_clef, change_marks, clef_if, count_if, head_marks, key_if, new_entries}
+use Rattle.mus_ink.specs.Decos.{body_marks, note_marks}
+use Rattle.mus_ink.specs.Distances.{entry_gap, entry_step}
+use Rattle.mus_ink.specs.Graces.{grace_body, grace_marks}
+use Rattle.mus_ink.specs.Kinds.{head_glyph}
+use Rattle.mus_ink.specs.Notes.{dot_marks, heads_marks, ledger_marks, note_heads, sign_marks}
+use Rattle.mus_ink.specs.Rests.{rest_dots, rest_glyphs, rest_marks, short_rests}
+use Rattle.mus_ink.specs.Signatures.{meter_if, meter_marks}
+use Rattle.mus_ink.specs.Stems.{stem_marks}
 use Rattle.law_marks_in_range.proofs.Planned.{IsPlanOf}
 
 abbrev pub has_some : List LaneInk → Bool

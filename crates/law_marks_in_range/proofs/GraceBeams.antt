@@ -1,8 +1,18 @@
 -- The beam of graces goes from the column of the first to that of the last, where there are two or more.
-use Rattle.std.{proofs.{Common.{◌≡◌, ℕ, suc, ◌+◌, ◌<◌, true, false, ◌==◌, List, [], ◌∷◌, length, refl, ap, subst, arith}, lemmas.Bool.Decides.nat_tests}, specs.List.{AllByRecursion, flat_map}}
-use Rattle.{mus_score.specs.declared.score.Event.{Event}, mus_onsets.specs.{declared.keys.Class.Class, declared.keys.ColumnKey.ColumnKey, Keys.key_at, Order.is_below}, mus_ink.specs.Graces.{grace_beam, group_of}}
-use Rattle.{mus_drawn.specs.{declared.drawn.DrawnEvent.DrawnEvent, declared.drawn.DrawnMeasure.DrawnMeasure}, mus_bridges.specs.Bridges.{beam_over, event_grace_beam, grace_beams_between}}
-use Rattle.{mus_marks.proofs.{Inside.HasEvent, Inside.HasMeasures}, law_marks_in_range.proofs.Between.{AreBetween, both, unless}}
+use Rattle.std.proofs.Common.{◌≡◌, ℕ, suc, ◌+◌, ◌<◌, true, false, ◌==◌, List, [], ◌∷◌, length, refl, ap, subst, arith}
+use Rattle.std.proofs.lemmas.Bool.Decides.{nat_tests}
+use Rattle.std.specs.List.{AllByRecursion, flat_map}
+use Rattle.mus_score.specs.declared.score.Event.{Event}
+use Rattle.mus_onsets.specs.declared.keys.Class.{Class}
+use Rattle.mus_onsets.specs.declared.keys.ColumnKey.{ColumnKey}
+use Rattle.mus_onsets.specs.Keys.{key_at}
+use Rattle.mus_onsets.specs.Order.{is_below}
+use Rattle.mus_ink.specs.Graces.{grace_beam, group_of}
+use Rattle.mus_drawn.specs.declared.drawn.DrawnEvent.{DrawnEvent}
+use Rattle.mus_drawn.specs.declared.drawn.DrawnMeasure.{DrawnMeasure}
+use Rattle.mus_bridges.specs.Bridges.{beam_over, event_grace_beam, grace_beams_between}
+use Rattle.mus_marks.proofs.Inside.{HasEvent, HasMeasures}
+use Rattle.law_marks_in_range.proofs.Between.{AreBetween, both, unless}
 
 further_below : (m tick i j : ℕ) → i < j → is_below (key_at m tick Class.Grace i) (key_at m tick Class.Grace j) ≡ true
 unfolding is_below

@@ -1,11 +1,39 @@
 -- A system that a good score calls for can be shown.
-use Rattle.std.{proofs.{Common.{◌≡◌, ◌∙◌, refl, sym, ap, subst, ℕ, zero, suc, ◌<◌, ◌≤◌, true, ◌==◌, get_or, inl, inr, List, [], ◌∷◌, ◌++◌, length, map, Option, Some, None, arith}, lemmas.{Bool.Decides.nat_tests, Grind.flat_map-append, List.{length-map, Elements.{All-from_recursion, All-map, Contains-append_cases, Contains-append_left, Contains-append_right, Contains-get_or, recursion_from_All}, Folds.{flat_map-map, list_any_at}}}}, specs.{List.{AllByRecursion, Contains, cons_option, flat_map, list_any}, Prelude.{All, IsTrue}}}
+use Rattle.std.proofs.Common.{◌≡◌, ◌∙◌, refl, sym, ap, subst, ℕ, zero, suc, ◌<◌, ◌≤◌, true, ◌==◌, get_or, inl, inr}
+use Rattle.std.proofs.Common.{List, [], ◌∷◌, ◌++◌, length, map, Option, Some, None, arith}
+use Rattle.std.proofs.lemmas.Bool.Decides.{nat_tests}
+use Rattle.std.proofs.lemmas.Grind.{flat_map-append}
+use Rattle.std.proofs.lemmas.List.{length-map}
+use Rattle.std.proofs.lemmas.List.Elements.{All-from_recursion, All-map, Contains-append_cases, Contains-append_left}
+use Rattle.std.proofs.lemmas.List.Elements.{Contains-append_right, Contains-get_or, recursion_from_All}
+use Rattle.std.proofs.lemmas.List.Folds.{flat_map-map, list_any_at}
+use Rattle.std.specs.List.{AllByRecursion, Contains, cons_option, flat_map, list_any}
+use Rattle.std.specs.Prelude.{All, IsTrue}
 use Rattle.mus_score.specs.{declared.score.Score.Score, GoodScore.IsGoodScore}
-use Rattle.mus_onsets.{specs.declared.keys.ColumnKey.ColumnKey, specs.Keys.head_key, specs.Keys.voice_keys, specs.Onsets.timeline_of, specs.Order.key_rank, proofs.RankLaws.false_not_true, proofs.RankLaws.rank_at_place}
-use Rattle.mus_laid.specs.{declared.laid.Laid.Laid, declared.laid.StaffMarks.StaffMarks, declared.laid.SystemMarks.SystemMarks, Ranked.anchor_rank, Ranked.is_rank}
-use Rattle.{mus_drawn.specs.{declared.drawn.DrawnVoice.DrawnVoice, Drawn.drawn_voice}, mus_time.proofs.{Called.staff_same, Counts.voice_count}}
-use Rattle.mus_marks.{specs.{Staff.staff_marks, System.{IsCall, drawn_staves, is_drawn_lower}}, proofs.{Groups.{grouped_all, grouped_whole}, Inside.{AreAmong, here, there, voices_called}}}
-use Rattle.law_marks_in_range.{specs.{Ranks.{AreAnchored, AreMarksRanked, IsRanked, marks_ranks, staves_ranks}, Shown.IsShown}, proofs.{Bridged.voices_between, Planned.voice_planned, Printed.texts_printed, Standing.{HasRank, same_rank}, Staves.{IsInside, own_columns, staff_holds, staff_ranked}}}
+use Rattle.mus_onsets.specs.declared.keys.ColumnKey.{ColumnKey}
+use Rattle.mus_onsets.specs.Keys.{head_key, voice_keys}
+use Rattle.mus_onsets.specs.Onsets.{timeline_of}
+use Rattle.mus_onsets.specs.Order.{key_rank}
+use Rattle.mus_onsets.proofs.RankLaws.{false_not_true, rank_at_place}
+use Rattle.mus_laid.specs.declared.laid.Laid.{Laid}
+use Rattle.mus_laid.specs.declared.laid.StaffMarks.{StaffMarks}
+use Rattle.mus_laid.specs.declared.laid.SystemMarks.{SystemMarks}
+use Rattle.mus_laid.specs.Ranked.{anchor_rank, is_rank}
+use Rattle.mus_drawn.specs.declared.drawn.DrawnVoice.{DrawnVoice}
+use Rattle.mus_drawn.specs.Drawn.{drawn_voice}
+use Rattle.mus_time.proofs.Called.{staff_same}
+use Rattle.mus_time.proofs.Counts.{voice_count}
+use Rattle.mus_marks.specs.Staff.{staff_marks}
+use Rattle.mus_marks.specs.System.{IsCall, drawn_staves, is_drawn_lower}
+use Rattle.mus_marks.proofs.Groups.{grouped_all, grouped_whole}
+use Rattle.mus_marks.proofs.Inside.{AreAmong, here, there, voices_called}
+use Rattle.law_marks_in_range.specs.Ranks.{AreAnchored, AreMarksRanked, IsRanked, marks_ranks, staves_ranks}
+use Rattle.law_marks_in_range.specs.Shown.{IsShown}
+use Rattle.law_marks_in_range.proofs.Bridged.{voices_between}
+use Rattle.law_marks_in_range.proofs.Planned.{voice_planned}
+use Rattle.law_marks_in_range.proofs.Printed.{texts_printed}
+use Rattle.law_marks_in_range.proofs.Standing.{HasRank, same_rank}
+use Rattle.law_marks_in_range.proofs.Staves.{IsInside, own_columns, staff_holds, staff_ranked}
 
 -- what one of some things has, others have by that thing
 of_each : {X K N : Type 0} (f : X → List K) (g : X → List N) (k : K) (n : N) (xs : List X) → AllByRecursion (λ x. Contains (f x) k → Contains (g x) n) xs → Contains (flat_map f xs) k → Contains (flat_map g xs) n

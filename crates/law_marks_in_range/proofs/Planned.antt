@@ -1,9 +1,33 @@
 -- The plan of each drawn event has its flags, and a shift for each of its heads.
-use Rattle.std.{proofs.{Common.{◌≡◌, ◌∙◌, ℕ, ℤ, pos, ◌+◌, Bool, true, false, if◌then◌else◌, List, [], ◌∷◌, ◌++◌, length, Option, Some, None, refl, ap, subst}, lemmas.List.{length-map, length-replicate, length-set}}, specs.{List.{AllByRecursion, flat_map, slice_set}, Prelude.replicate}}
+use Rattle.std.proofs.Common.{◌≡◌, ◌∙◌, ℕ, ℤ, pos, ◌+◌, Bool, true, false, if◌then◌else◌, List, [], ◌∷◌, ◌++◌, length}
+use Rattle.std.proofs.Common.{Option, Some, None, refl, ap, subst}
+use Rattle.std.proofs.lemmas.List.{length-map, length-replicate, length-set}
+use Rattle.std.specs.List.{AllByRecursion, flat_map, slice_set}
+use Rattle.std.specs.Prelude.{replicate}
 use Rattle.mus_units.specs.{declared.note.Wish.Wish, declared.pitch.Clef.Clef}
-use Rattle.mus_score.specs.{declared.score.Event.Event, declared.score.Flat.Flat, declared.score.Measure.Measure, declared.score.Voice.Voice, declared.score.Seat.Seat, GoodScore.clef_at, Times.flats_of}
-use Rattle.mus_stems.{specs.{declared.{heads.{LastHead.LastHead, HeadPosition.HeadPosition}, plans.StemPlan.StemPlan, stills.StemInput.StemInput}, Beams.{beams, is_joined}, Ends.{run_end, stands_up}, Heads.{Taken, gives_way, head_shift, shifted, shifts_of, stand_of, taken}, Plans.{first_event_id, plan_of, plans_along, plans_of_runs, run_plans, stems_of}, Stills.{clefs_from, flags_of, still_of, stills}}, proofs.RunLaws.runs_are_maximal}
-use Rattle.mus_drawn.specs.{declared.{drawn.{DrawnEvent.DrawnEvent, DrawnMeasure.DrawnMeasure, Style.Style}, standing.StaffState.StaffState}, Drawn.{drawn_events, drawn_measure, drawn_measures, drawn_voice, standing_after, standing_behind, standing_of, style_of}}
+use Rattle.mus_score.specs.declared.score.Event.{Event}
+use Rattle.mus_score.specs.declared.score.Flat.{Flat}
+use Rattle.mus_score.specs.declared.score.Measure.{Measure}
+use Rattle.mus_score.specs.declared.score.Voice.{Voice}
+use Rattle.mus_score.specs.declared.score.Seat.{Seat}
+use Rattle.mus_score.specs.GoodScore.{clef_at}
+use Rattle.mus_score.specs.Times.{flats_of}
+use Rattle.mus_stems.specs.declared.heads.LastHead.{LastHead}
+use Rattle.mus_stems.specs.declared.heads.HeadPosition.{HeadPosition}
+use Rattle.mus_stems.specs.declared.plans.StemPlan.{StemPlan}
+use Rattle.mus_stems.specs.declared.stills.StemInput.{StemInput}
+use Rattle.mus_stems.specs.Beams.{beams, is_joined}
+use Rattle.mus_stems.specs.Ends.{run_end, stands_up}
+use Rattle.mus_stems.specs.Heads.{Taken, gives_way, head_shift, shifted, shifts_of, stand_of, taken}
+use Rattle.mus_stems.specs.Plans.{first_event_id, plan_of, plans_along, plans_of_runs, run_plans, stems_of}
+use Rattle.mus_stems.specs.Stills.{clefs_from, flags_of, still_of, stills}
+use Rattle.mus_stems.proofs.RunLaws.{runs_are_maximal}
+use Rattle.mus_drawn.specs.declared.drawn.DrawnEvent.{DrawnEvent}
+use Rattle.mus_drawn.specs.declared.drawn.DrawnMeasure.{DrawnMeasure}
+use Rattle.mus_drawn.specs.declared.drawn.Style.{Style}
+use Rattle.mus_drawn.specs.declared.standing.StaffState.{StaffState}
+use Rattle.mus_drawn.specs.Drawn.{drawn_events, drawn_measure, drawn_measures, drawn_voice, standing_after}
+use Rattle.mus_drawn.specs.Drawn.{standing_behind, standing_of, style_of}
 
 pub record IsPlanOf (e : Event) (p : StemPlan) : Type 0 where
   pub flags : p.flags ≡ flags_of e.value.base

@@ -1,10 +1,27 @@
 -- The texts of the marks that a score calls for can be printed.
-use Rattle.std.{proofs.{Common.{ℕ, ◌≤◌, length, List, [], ◌∷◌, map, refl, sym, subst, arith}, lemmas.{Bool.Decides.nat_tests, List.Elements.All-from_recursion}}, specs.List.{All, AllByRecursion}}
-use Rattle.{mus_units.specs.{declared.key.Meter.Meter, Good.IsGoodMeter}, mus_score.specs.{declared.score.Score.Score, GoodScore.IsGoodScore}, mus_onsets.specs.{declared.keys.ColumnKey.ColumnKey, declared.times.Timeline.Timeline}}
-use Rattle.{mus_laid.specs.{declared.drawn.BridgeShape.BridgeShape, declared.laid.Laid.Laid, declared.laid.StaffMarks.StaffMarks, declared.laid.SystemMarks.SystemMarks, Ranked.drawn_at, Ranked.span_at}, mus_ink.specs.Signatures.{meter_marks}}
+use Rattle.std.proofs.Common.{ℕ, ◌≤◌, length, List, [], ◌∷◌, map, refl, sym, subst, arith}
+use Rattle.std.proofs.lemmas.Bool.Decides.{nat_tests}
+use Rattle.std.proofs.lemmas.List.Elements.{All-from_recursion}
+use Rattle.std.specs.List.{All, AllByRecursion}
+use Rattle.mus_units.specs.declared.key.Meter.{Meter}
+use Rattle.mus_units.specs.Good.{IsGoodMeter}
+use Rattle.mus_score.specs.declared.score.Score.{Score}
+use Rattle.mus_score.specs.GoodScore.{IsGoodScore}
+use Rattle.mus_onsets.specs.declared.keys.ColumnKey.{ColumnKey}
+use Rattle.mus_onsets.specs.declared.times.Timeline.{Timeline}
+use Rattle.mus_laid.specs.declared.drawn.BridgeShape.{BridgeShape}
+use Rattle.mus_laid.specs.declared.laid.Laid.{Laid}
+use Rattle.mus_laid.specs.declared.laid.StaffMarks.{StaffMarks}
+use Rattle.mus_laid.specs.declared.laid.SystemMarks.{SystemMarks}
+use Rattle.mus_laid.specs.Ranked.{drawn_at, span_at}
+use Rattle.mus_ink.specs.Signatures.{meter_marks}
 use Rattle.{mus_words.proofs.EachWord.{IsShown}, mus_drawn.specs.declared.drawn.DrawnVoice.{DrawnVoice}}
-use Rattle.mus_marks.{specs.{Staff.staff_marks, Staff.verses_on, System.IsCall, System.drawn_staves}, proofs.{Fitting.staves_fit, Parts.FitsVoice, Parts.OfLaid, Parts.staff_all}}
-use Rattle.law_marks_in_range.{specs.{Texts.HasPrinted, Texts.HavePrinted, Texts.IsPrinted}, proofs.{PrintedTexts.digits_printed, PrintedTexts.text_printed}}
+use Rattle.mus_marks.specs.Staff.{staff_marks, verses_on}
+use Rattle.mus_marks.specs.System.{IsCall, drawn_staves}
+use Rattle.mus_marks.proofs.Fitting.{staves_fit}
+use Rattle.mus_marks.proofs.Parts.{FitsVoice, OfLaid, staff_all}
+use Rattle.law_marks_in_range.specs.Texts.{HasPrinted, HavePrinted, IsPrinted}
+use Rattle.law_marks_in_range.proofs.PrintedTexts.{digits_printed, text_printed}
 
 abbrev IsGood : Laid → Type 0
 IsGood laid = HasPrinted laid.mark

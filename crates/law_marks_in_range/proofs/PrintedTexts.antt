@@ -1,6 +1,14 @@
 -- What is printed of a text has characters that a page may show, and so do decimals.
-use Rattle.std.{proofs.{Common.{ℕ, ◌+◌, ◌≤◌, ◌<◌, ◌%◌, ◌∙◌, List, [], ◌∷◌, ◌++◌, length, map, take, refl, arith}, lemmas.{Bool.{and_from, Decides.nat_tests}, Fmt.{decimal_by_steps, decimal_nonempty, length-decimal-le}, List.{length-map, length-take, Folds.list_all-append}}}, specs.{List.list_all, Prelude.{IsTrue, decimal}}}
-use Rattle.{mus_laid.specs.Printed.{is_printable, printed, printed_byte, printed_within}, law_marks_in_range.specs.Texts.{IsPrinted}}
+use Rattle.std.proofs.Common.{ℕ, ◌+◌, ◌≤◌, ◌<◌, ◌%◌, ◌∙◌, List, [], ◌∷◌, ◌++◌, length, map, take, refl, arith}
+use Rattle.std.proofs.lemmas.Bool.{and_from}
+use Rattle.std.proofs.lemmas.Bool.Decides.{nat_tests}
+use Rattle.std.proofs.lemmas.Fmt.{decimal_by_steps, decimal_nonempty, length-decimal-le}
+use Rattle.std.proofs.lemmas.List.{length-map, length-take}
+use Rattle.std.proofs.lemmas.List.Folds.{list_all-append}
+use Rattle.std.specs.List.{list_all}
+use Rattle.std.specs.Prelude.{IsTrue, decimal}
+use Rattle.mus_laid.specs.Printed.{is_printable, printed, printed_byte, printed_within}
+use Rattle.law_marks_in_range.specs.Texts.{IsPrinted}
 
 byte_printable : (b : ℕ) → IsTrue (is_printable (printed_byte b))
 unfolding printed_byte

@@ -1,14 +1,46 @@
 -- The marks of the voices of a staff that stand in columns stand in those that these voices call for, and each of these holds one. A lower
 -- voice of a staff has columns of its notes and graces alone.
-use Rattle.std.{proofs.{Common.{◌≡◌, ℕ, zero, suc, ◌+◌, ◌-◌, ◌<◌, ◌≤◌, inl, inr, Bool, true, false, not, ◌==◌, ◌&&◌, ◌||◌, if◌then◌else◌, List, [], ◌∷◌, ◌++◌, append_assoc, length, length-drop, length-take, map, drop, Option, refl, subst, arith}, lemmas.{Bool.Decides.nat_tests, List.Elements.{Contains-append_cases, Contains-append_left, Contains-append_right, filter-append}}}, specs.List.{AllByRecursion, Contains, slice_range}}
-use Rattle.{mus_units.specs.{declared.note.Bar.Bar, declared.pitch.Clef.Clef}, mus_score.specs.{declared.score.Event.Event, declared.score.Seat.Seat, Seats.is_lower}, mus_stems.proofs.RunLaws.{all_append, all_drop, all_take}}
-use Rattle.mus_onsets.{specs.{declared.keys.{Class.Class, ColumnKey.ColumnKey}, Order.key_rank, Keys.{bar_key, change_has_mark, change_keys, event_keys, grace_keys, has_features, head_key, is_for_each, key_at, keys_by}}, proofs.RankLaws.rank_less}
-use Rattle.mus_laid.specs.{declared.drawn.LaneInk.LaneInk, declared.drawn.Ink.Ink, declared.laid.Laid.Laid, Ranked.anchor_rank, Ranked.drawn_at, Ranked.ink_at, Ranked.is_rank, Ranked.stands_at_rank}
-use Rattle.mus_ink.specs.{declared.graces.Group.Group, Bars.bar_marks, Changes.change_marks, Changes.head_marks, Decos.note_marks, Graces.grace_marks, Graces.group_of}
-use Rattle.mus_drawn.specs.{declared.drawn.DrawnEvent.DrawnEvent, declared.drawn.DrawnMeasure.DrawnMeasure, declared.drawn.DrawnVoice.DrawnVoice, Drawn.raise_of}
+use Rattle.std.proofs.Common.{◌≡◌, ℕ, zero, suc, ◌+◌, ◌-◌, ◌<◌, ◌≤◌, inl, inr, Bool, true, false, not, ◌==◌, ◌&&◌, ◌||◌}
+use Rattle.std.proofs.Common.{if◌then◌else◌, List, [], ◌∷◌, ◌++◌, append_assoc, length, length-drop, length-take, map}
+use Rattle.std.proofs.Common.{drop, Option, refl, subst, arith}
+use Rattle.std.proofs.lemmas.Bool.Decides.{nat_tests}
+use Rattle.std.proofs.lemmas.List.Elements.{Contains-append_cases, Contains-append_left, Contains-append_right}
+use Rattle.std.proofs.lemmas.List.Elements.{filter-append}
+use Rattle.std.specs.List.{AllByRecursion, Contains, slice_range}
+use Rattle.mus_units.specs.declared.note.Bar.{Bar}
+use Rattle.mus_units.specs.declared.pitch.Clef.{Clef}
+use Rattle.mus_score.specs.declared.score.Event.{Event}
+use Rattle.mus_score.specs.declared.score.Seat.{Seat}
+use Rattle.mus_score.specs.Seats.{is_lower}
+use Rattle.mus_stems.proofs.RunLaws.{all_append, all_drop, all_take}
+use Rattle.mus_onsets.specs.declared.keys.Class.{Class}
+use Rattle.mus_onsets.specs.declared.keys.ColumnKey.{ColumnKey}
+use Rattle.mus_onsets.specs.Order.{key_rank}
+use Rattle.mus_onsets.specs.Keys.{bar_key, change_has_mark, change_keys, event_keys, grace_keys, has_features, head_key}
+use Rattle.mus_onsets.specs.Keys.{is_for_each, key_at, keys_by}
+use Rattle.mus_onsets.proofs.RankLaws.{rank_less}
+use Rattle.mus_laid.specs.declared.drawn.LaneInk.{LaneInk}
+use Rattle.mus_laid.specs.declared.drawn.Ink.{Ink}
+use Rattle.mus_laid.specs.declared.laid.Laid.{Laid}
+use Rattle.mus_laid.specs.Ranked.{anchor_rank, drawn_at, ink_at, is_rank, stands_at_rank}
+use Rattle.mus_ink.specs.declared.graces.Group.{Group}
+use Rattle.mus_ink.specs.Bars.{bar_marks}
+use Rattle.mus_ink.specs.Changes.{change_marks, head_marks}
+use Rattle.mus_ink.specs.Decos.{note_marks}
+use Rattle.mus_ink.specs.Graces.{grace_marks, group_of}
+use Rattle.mus_drawn.specs.declared.drawn.DrawnEvent.{DrawnEvent}
+use Rattle.mus_drawn.specs.declared.drawn.DrawnMeasure.{DrawnMeasure}
+use Rattle.mus_drawn.specs.declared.drawn.DrawnVoice.{DrawnVoice}
+use Rattle.mus_drawn.specs.Drawn.{raise_of}
 use Rattle.mus_time.specs.{Columns.{events_columns, has_old, measures_columns, voice_columns}, Columns.{note_key}}
-use Rattle.mus_marks.{specs.{declared.events.WordRoom.WordRoom, Events.{change_part, event_marks, events_marks, graces_from, levels_behind, levels_in, measures_marks, words_marks, words_part}, Staff.{columns_part, head_part, meter_shown, own_part}}, proofs.Inside.{AreAmong, among_left, among_right, here}}
-use Rattle.law_marks_in_range.{specs.Ranks.IsRanked, proofs.{Filled.HasSome, Filled.bar_some, Filled.change_has, Filled.grace_some, Filled.has_some, Filled.head_some, Filled.note_some, Planned.ArePlanned, Planned.IsMeasureAt, Planned.IsPlanOf}}
+use Rattle.mus_marks.specs.declared.events.WordRoom.{WordRoom}
+use Rattle.mus_marks.specs.Events.{change_part, event_marks, events_marks, graces_from, levels_behind, levels_in}
+use Rattle.mus_marks.specs.Events.{measures_marks, words_marks, words_part}
+use Rattle.mus_marks.specs.Staff.{columns_part, head_part, meter_shown, own_part}
+use Rattle.mus_marks.proofs.Inside.{AreAmong, among_left, among_right, here}
+use Rattle.law_marks_in_range.specs.Ranks.{IsRanked}
+use Rattle.law_marks_in_range.proofs.Filled.{HasSome, bar_some, change_has, grace_some, has_some, head_some, note_some}
+use Rattle.law_marks_in_range.proofs.Planned.{ArePlanned, IsMeasureAt, IsPlanOf}
 
 -- `AreRanked` by recursion on the marks
 abbrev pub Ranked : ℕ → List Laid → Type 0

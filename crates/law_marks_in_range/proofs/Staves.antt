@@ -1,9 +1,29 @@
 -- The marks of a staff stand in columns of the system, and each column that its voices call for holds one.
-use Rattle.std.{proofs.{Common.{ℕ, ◌+◌, ◌<◌, ◌≤◌, inl, inr, List, [], ◌∷◌, ◌++◌, length, Option, Some, arith}, lemmas.List.Elements.Contains-append_cases}, specs.List.{AllByRecursion, Contains, flat_map}}
-use Rattle.{mus_score.specs.Seats.{is_lower}, mus_stems.proofs.RunLaws.{all_append}, mus_onsets.{specs.{declared.keys.ColumnKey.ColumnKey, Keys.keys_by, Order.key_rank}, proofs.RankLaws.rank_less}}
-use Rattle.{mus_laid.specs.{declared.laid.Laid.Laid, Ranked.by_columns}, mus_drawn.specs.declared.drawn.DrawnVoice.{DrawnVoice}, mus_time.specs.Columns.{voice_columns}, mus_bridges.specs.Bridges.{bridges_of}}
-use Rattle.mus_marks.{specs.{declared.events.{WordRoom.WordRoom, StaffRoom.StaffRoom, TextCounts.TextCounts}, Staff.{own_part, room_over, staff_bridges, staff_marks, staff_over, texts_behind, verses_on, bare_marks, written_parts}}, proofs.{Columned.{columned_all, columned_has}, Inside.AreAmong}}
-use Rattle.law_marks_in_range.{specs.Ranks.IsRanked, proofs.{Between.AreBetween, Between.both, Between.bridges_ranked, Planned.IsMeasureAt, Standing.HasRank, Standing.Ranked, Standing.columns, Standing.rank_left, Standing.rank_right}}
+use Rattle.std.proofs.Common.{ℕ, ◌+◌, ◌<◌, ◌≤◌, inl, inr, List, [], ◌∷◌, ◌++◌, length, Option, Some, arith}
+use Rattle.std.proofs.lemmas.List.Elements.{Contains-append_cases}
+use Rattle.std.specs.List.{AllByRecursion, Contains, flat_map}
+use Rattle.mus_score.specs.Seats.{is_lower}
+use Rattle.mus_stems.proofs.RunLaws.{all_append}
+use Rattle.mus_onsets.specs.declared.keys.ColumnKey.{ColumnKey}
+use Rattle.mus_onsets.specs.Keys.{keys_by}
+use Rattle.mus_onsets.specs.Order.{key_rank}
+use Rattle.mus_onsets.proofs.RankLaws.{rank_less}
+use Rattle.mus_laid.specs.declared.laid.Laid.{Laid}
+use Rattle.mus_laid.specs.Ranked.{by_columns}
+use Rattle.mus_drawn.specs.declared.drawn.DrawnVoice.{DrawnVoice}
+use Rattle.mus_time.specs.Columns.{voice_columns}
+use Rattle.mus_bridges.specs.Bridges.{bridges_of}
+use Rattle.mus_marks.specs.declared.events.WordRoom.{WordRoom}
+use Rattle.mus_marks.specs.declared.events.StaffRoom.{StaffRoom}
+use Rattle.mus_marks.specs.declared.events.TextCounts.{TextCounts}
+use Rattle.mus_marks.specs.Staff.{own_part, room_over, staff_bridges, staff_marks, staff_over, texts_behind, verses_on}
+use Rattle.mus_marks.specs.Staff.{bare_marks, written_parts}
+use Rattle.mus_marks.proofs.Columned.{columned_all, columned_has}
+use Rattle.mus_marks.proofs.Inside.{AreAmong}
+use Rattle.law_marks_in_range.specs.Ranks.{IsRanked}
+use Rattle.law_marks_in_range.proofs.Between.{AreBetween, both, bridges_ranked}
+use Rattle.law_marks_in_range.proofs.Planned.{IsMeasureAt}
+use Rattle.law_marks_in_range.proofs.Standing.{HasRank, Ranked, columns, rank_left, rank_right}
 
 -- the columns that a voice calls for on its staff
 abbrev pub own_columns : List ℕ → ℕ → ℕ → DrawnVoice → List ColumnKey

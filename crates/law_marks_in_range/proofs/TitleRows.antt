@@ -1,7 +1,14 @@
 -- The rows of a title block stand within it, and their texts can be printed.
-use Rattle.std.{proofs.{Common.{ℕ, ◌+◌, ◌≤◌, List, [], ◌∷◌, length, Option, arith}, lemmas.{Int.ints, List.Elements.All-from_recursion}}, specs.List.{All, AllByRecursion}}
+use Rattle.std.proofs.Common.{ℕ, ◌+◌, ◌≤◌, List, [], ◌∷◌, length, Option, arith}
+use Rattle.std.proofs.lemmas.Int.{ints}
+use Rattle.std.proofs.lemmas.List.Elements.{All-from_recursion}
+use Rattle.std.specs.List.{All, AllByRecursion}
 use Rattle.{mus_units.specs.declared.glyph.Size.{Size}, mus_stems.proofs.RunLaws.{all_append}}
-use Rattle.lay_pages.specs.{declared.titles.{Alignment.Alignment, TitleRow.TitleRow, TitleBlock.TitleBlock}, Titles.{base_below, most_within, title_row_at, row_height, row_text, row_x, size_at, tempo_texts, title_block_of, with_row, with_text, with_texts}}
+use Rattle.lay_pages.specs.declared.titles.Alignment.{Alignment}
+use Rattle.lay_pages.specs.declared.titles.TitleRow.{TitleRow}
+use Rattle.lay_pages.specs.declared.titles.TitleBlock.{TitleBlock}
+use Rattle.lay_pages.specs.Titles.{base_below, most_within, title_row_at, row_height, row_text, row_x, size_at}
+use Rattle.lay_pages.specs.Titles.{tempo_texts, title_block_of, with_row, with_text, with_texts}
 use Rattle.law_marks_in_range.{specs.Texts.IsPrinted, specs.Titles.IsGoodRow, proofs.PrintedTexts.within_printed}
 
 -- rows stay within a block that grows

@@ -1,6 +1,9 @@
 -- The columns at which marks stand, by their ranks.
 use Rattle.std.specs.{Prelude.{ℕ, ◌<◌, ◌==◌, IsTrue, List, All, flat_map}, List.{filter_map, list_any}}
-use Rattle.mus_laid.specs.{declared.laid.Mark.Mark, declared.laid.Laid.Laid, declared.laid.StaffMarks.StaffMarks, Ranked.anchor_rank}
+use Rattle.mus_laid.specs.declared.laid.Mark.{Mark}
+use Rattle.mus_laid.specs.declared.laid.Laid.{Laid}
+use Rattle.mus_laid.specs.declared.laid.StaffMarks.{StaffMarks}
+use Rattle.mus_laid.specs.Ranked.{anchor_rank}
 
 -- a mark stands at one of n columns; a beam or an arc goes from one of them to a later one
 abbrev pub IsRanked : ℕ → Mark → Type 0

@@ -1,6 +1,8 @@
 -- A system whose marks can be shown.
 use Rattle.std.specs.Prelude.{◌<◌, ◌≤◌, length, All}
-use Rattle.{mus_laid.specs.declared.laid.SystemMarks.{SystemMarks}, law_marks_in_range.specs.{Ranks.AreAnchored, Ranks.AreMarksRanked, Ranks.staves_ranks, Texts.HavePrinted}}
+use Rattle.mus_laid.specs.declared.laid.SystemMarks.{SystemMarks}
+use Rattle.law_marks_in_range.specs.Ranks.{AreAnchored, AreMarksRanked, staves_ranks}
+use Rattle.law_marks_in_range.specs.Texts.{HavePrinted}
 
 -- it has a measure and a staff; its marks stand at its columns, each of which holds one; and its texts can be printed
 pub record IsShown (m : SystemMarks) : Type 0 where

@@ -1,5 +1,6 @@
 -- The texts of marks, as they can be printed.
-use Rattle.std.specs.{Prelude.ℕ, Prelude.⊤, Prelude.◌≤◌, Prelude.IsTrue, Prelude.List, Prelude.length, Prelude.All, List.list_all}
+use Rattle.std.specs.Prelude.{ℕ, ⊤, ◌≤◌, IsTrue, List, length, All}
+use Rattle.std.specs.List.{list_all}
 use Rattle.mus_laid.specs.{declared.laid.Mark.Mark, declared.laid.Laid.Laid, Printed.is_printable}
 
 -- 1 to 60 characters, none of which is a control character

@@ -1,12 +1,37 @@
 -- What the bridges of a voice tell at a rank: beams tell nothing, and no slur bulges as a tie does; a tie tells the height of its last head.
-use Rattle.std.{proofs.{Common.{◌≡◌, refl, ap, ◌∙◌, ℕ, zero, suc, ◌+◌, List, [], ◌∷◌, ◌++◌, append-nil, Bool, true, false, ◌&&◌, ◌||◌, cond, arith}, lemmas.{Int.{ints, clamps}, List.Folds.flat_map-map, Grind.flat_map-append}}, specs.{Prelude.{ℤ, ◌-ℤ◌, if◌then◌else◌, Option, Some, slice_get, filter, flat_map}, List.{AllByRecursion, find, list_any}}}
-use Rattle.{mus_units.specs.declared.{note.Head.Head, pitch.Clef.Clef, pitch.Pitch.Pitch}, mus_score.specs.{declared.score.Event.Event, GoodScore.IsInReach}, mus_onsets.specs.{declared.keys.ColumnKey.ColumnKey}}
-use Rattle.mus_arcs.specs.{declared.{cutting.Piece.Piece, events.ArcEvent.ArcEvent, pairing.Arc.Arc}, Arcs.{has_pitch, tie, ties_from}, Pieces.piece_of}
-use Rattle.{mus_laid.specs.{declared.drawn.Bridge.Bridge, Ranked.bridge_at}, mus_ink.specs.{Drawing.{cut_dy, steps_dy}, Graces.{grace_beam, group_of}, Notes.dy_of}, mus_words.specs.Arcs.{arc_mark, beside_head, slur_mark, tie_bulge, tie_dy}}
+use Rattle.std.proofs.Common.{◌≡◌, refl, ap, ◌∙◌, ℕ, zero, suc, ◌+◌, List, [], ◌∷◌, ◌++◌, append-nil, Bool, true, false}
+use Rattle.std.proofs.Common.{◌&&◌, ◌||◌, cond, arith}
+use Rattle.std.proofs.lemmas.Int.{ints, clamps}
+use Rattle.std.proofs.lemmas.List.Folds.{flat_map-map}
+use Rattle.std.proofs.lemmas.Grind.{flat_map-append}
+use Rattle.std.specs.Prelude.{ℤ, ◌-ℤ◌, if◌then◌else◌, Option, Some, slice_get, filter, flat_map}
+use Rattle.std.specs.List.{AllByRecursion, find, list_any}
+use Rattle.mus_units.specs.declared.note.Head.{Head}
+use Rattle.mus_units.specs.declared.pitch.Clef.{Clef}
+use Rattle.mus_units.specs.declared.pitch.Pitch.{Pitch}
+use Rattle.mus_score.specs.declared.score.Event.{Event}
+use Rattle.mus_score.specs.GoodScore.{IsInReach}
+use Rattle.mus_onsets.specs.declared.keys.ColumnKey.{ColumnKey}
+use Rattle.mus_arcs.specs.declared.cutting.Piece.{Piece}
+use Rattle.mus_arcs.specs.declared.events.ArcEvent.{ArcEvent}
+use Rattle.mus_arcs.specs.declared.pairing.Arc.{Arc}
+use Rattle.mus_arcs.specs.Arcs.{has_pitch, tie, ties_from}
+use Rattle.mus_arcs.specs.Pieces.{piece_of}
+use Rattle.mus_laid.specs.declared.drawn.Bridge.{Bridge}
+use Rattle.mus_laid.specs.Ranked.{bridge_at}
+use Rattle.mus_ink.specs.Drawing.{cut_dy, steps_dy}
+use Rattle.mus_ink.specs.Graces.{grace_beam, group_of}
+use Rattle.mus_ink.specs.Notes.{dy_of}
+use Rattle.mus_words.specs.Arcs.{arc_mark, beside_head, slur_mark, tie_bulge, tie_dy}
 use Rattle.mus_drawn.specs.declared.drawn.{DrawnEvent.DrawnEvent, DrawnMeasure.DrawnMeasure, DrawnVoice.DrawnVoice}
-use Rattle.mus_bridges.specs.{Arcs.{arc_between, arc_in, arcs_between, piece_between}, Beams.{beam_marks, beams_at, beams_from, level_from, levels_from}}
-use Rattle.mus_bridges.specs.{declared.stems.BeamStem.BeamStem, Bridges.{beam_over, beams_between, bridges_of, event_grace_beam, grace_beams_between}}
-use Rattle.{mus_marks.specs.Staff.{staff_bridges}, ps_heard.specs.Columns.{bulges_as_tie}, law_voice_sound.specs.Columns.{height_if, tie_heights}, law_staff_columns.specs.Ranked.{tied_at, tie_ends_at}}
+use Rattle.mus_bridges.specs.Arcs.{arc_between, arc_in, arcs_between, piece_between}
+use Rattle.mus_bridges.specs.Beams.{beam_marks, beams_at, beams_from, level_from, levels_from}
+use Rattle.mus_bridges.specs.declared.stems.BeamStem.{BeamStem}
+use Rattle.mus_bridges.specs.Bridges.{beam_over, beams_between, bridges_of, event_grace_beam, grace_beams_between}
+use Rattle.mus_marks.specs.Staff.{staff_bridges}
+use Rattle.ps_heard.specs.Columns.{bulges_as_tie}
+use Rattle.law_voice_sound.specs.Columns.{height_if, tie_heights}
+use Rattle.law_staff_columns.specs.Ranked.{tied_at, tie_ends_at}
 
 module _ (keys : List ColumnKey) (r : ℕ) where
   abbrev pub ends : Bridge → List ℤ

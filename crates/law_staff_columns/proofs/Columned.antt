@@ -1,9 +1,27 @@
 -- Slots that rise tell a column each: the notes of what is drawn there, and the ties that end at its rank. Other ranks tell nothing.
-use Rattle.std.{proofs.{Common.{◌≡◌, ◌∙◌, refl, sym, ap, ℕ, zero, suc, ◌+◌, ◌-◌, ◌<◌, ◌≤◌, ◌==◌, ℤ, Bool, true, false, if◌then◌else◌, List, [], ◌∷◌, ◌++◌, length, map, arith}, lemmas.{Bool.{eq-eqb, ne_eqb}, Grind.flat_map-append, List.append-nil}}, specs.List.Contains}
-use Rattle.mus_onsets.{specs.{declared.keys.ColumnKey.ColumnKey, Order.key_rank}, proofs.RankLaws.{rank_less, rank_rises_more}}
-use Rattle.{mus_laid.specs.{declared.{drawn.{Bridge.Bridge, LaneInk.LaneInk, Ink.Ink, BridgeShape.BridgeShape}, laid.Laid.Laid}, Ranked.{bridge_at, drawn_at, ink_at, span_at}}, mus_marks.proofs.Inside.{AreAmong, among_right, here}}
-use Rattle.{ps_heard.specs.declared.column.{HeardColumn.HeardColumn, HeardGlyph.HeardGlyph}, law_voice_sound.specs.Listened.{columns_heard}}
-use Rattle.law_staff_columns.{specs.Ranked.{columns_behind, noted_at, notes_at, ranked_columns, tied_at, tie_ends_at}, proofs.{Forms.{drawn_notes, ink_notes}, Rising.RiseFrom, Slots.{Slot, keys_of, laid, slot_laid}}}
+use Rattle.std.proofs.Common.{◌≡◌, ◌∙◌, refl, sym, ap, ℕ, zero, suc, ◌+◌, ◌-◌, ◌<◌, ◌≤◌, ◌==◌, ℤ, Bool, true, false}
+use Rattle.std.proofs.Common.{if◌then◌else◌, List, [], ◌∷◌, ◌++◌, length, map, arith}
+use Rattle.std.proofs.lemmas.Bool.{eq-eqb, ne_eqb}
+use Rattle.std.proofs.lemmas.Grind.{flat_map-append}
+use Rattle.std.proofs.lemmas.List.{append-nil}
+use Rattle.std.specs.List.{Contains}
+use Rattle.mus_onsets.specs.declared.keys.ColumnKey.{ColumnKey}
+use Rattle.mus_onsets.specs.Order.{key_rank}
+use Rattle.mus_onsets.proofs.RankLaws.{rank_less, rank_rises_more}
+use Rattle.mus_laid.specs.declared.drawn.Bridge.{Bridge}
+use Rattle.mus_laid.specs.declared.drawn.LaneInk.{LaneInk}
+use Rattle.mus_laid.specs.declared.drawn.Ink.{Ink}
+use Rattle.mus_laid.specs.declared.drawn.BridgeShape.{BridgeShape}
+use Rattle.mus_laid.specs.declared.laid.Laid.{Laid}
+use Rattle.mus_laid.specs.Ranked.{bridge_at, drawn_at, ink_at, span_at}
+use Rattle.mus_marks.proofs.Inside.{AreAmong, among_right, here}
+use Rattle.ps_heard.specs.declared.column.HeardColumn.{HeardColumn}
+use Rattle.ps_heard.specs.declared.column.HeardGlyph.{HeardGlyph}
+use Rattle.law_voice_sound.specs.Listened.{columns_heard}
+use Rattle.law_staff_columns.specs.Ranked.{columns_behind, noted_at, notes_at, ranked_columns, tied_at, tie_ends_at}
+use Rattle.law_staff_columns.proofs.Forms.{drawn_notes, ink_notes}
+use Rattle.law_staff_columns.proofs.Rising.{RiseFrom}
+use Rattle.law_staff_columns.proofs.Slots.{Slot, keys_of, laid, slot_laid}
 
 abbrev pub column : Bool → List HeardGlyph → List ℤ → HeardColumn
 column leads ns ts = record { leads = leads; notes = ns; ties = ts }

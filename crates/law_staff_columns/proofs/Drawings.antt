@@ -1,14 +1,49 @@
 -- The drawn measures of a voice, tilted or not, come of the score's, and their events have columns in its system.
-use Rattle.std.{proofs.{Common.{◌≡◌, Bool, refl, sym, ap, subst, ◌∙◌, zero, suc, ◌+◌, ◌≤◌, ◌<◌, ◌++◌, map, false, Some, arith}, lemmas.{List.{length-map, Elements.{All-contains, recursion_from_All}}, Simd.map-map}}, specs.{Prelude.{ℕ, ℤ, List, [], ◌∷◌, take, drop, slice_get, slice_range}, List.{AllByRecursion, AllZip, Contains, flat_map}}}
-use Rattle.mus_score.specs.{declared.score.{Flat.Flat, Measure.Measure, Score.Score, Seat.Seat, Voice.Voice}, GoodScore.{AreInReach, IsGoodScore, IsGoodVoice, IsInReach, clef_at, events_of}, Seats.is_lower, Times.flats_of}
+use Rattle.std.proofs.Common.{◌≡◌, Bool, refl, sym, ap, subst, ◌∙◌, zero, suc, ◌+◌, ◌≤◌, ◌<◌, ◌++◌, map, false, Some}
+use Rattle.std.proofs.Common.{arith}
+use Rattle.std.proofs.lemmas.List.{length-map}
+use Rattle.std.proofs.lemmas.List.Elements.{All-contains, recursion_from_All}
+use Rattle.std.proofs.lemmas.Simd.{map-map}
+use Rattle.std.specs.Prelude.{ℕ, ℤ, List, [], ◌∷◌, take, drop, slice_get, slice_range}
+use Rattle.std.specs.List.{AllByRecursion, AllZip, Contains, flat_map}
+use Rattle.mus_score.specs.declared.score.Flat.{Flat}
+use Rattle.mus_score.specs.declared.score.Measure.{Measure}
+use Rattle.mus_score.specs.declared.score.Score.{Score}
+use Rattle.mus_score.specs.declared.score.Seat.{Seat}
+use Rattle.mus_score.specs.declared.score.Voice.{Voice}
+use Rattle.mus_score.specs.GoodScore.{AreInReach, IsGoodScore, IsGoodVoice, IsInReach, clef_at, events_of}
+use Rattle.mus_score.specs.Seats.{is_lower}
+use Rattle.mus_score.specs.Times.{flats_of}
 use Rattle.mus_onsets.specs.{declared.keys.ColumnKey.ColumnKey, Keys.{AreKeys, called_keys}, Onsets.timeline_of}
-use Rattle.mus_stems.specs.{declared.{plans.StemPlan.StemPlan, stills.StemInput.StemInput}, Columns.AreInColumns, Displaced.AreDisplaced, Ends.{run_end, stands_up}, Heads.{AllNear, stand_of}, Signs.first_sign, Stills.{clefs_from, still_of, stills}}
-use Rattle.mus_stems.specs.{Beams.{beams, is_joined}, Plans.{first_event_id, plan_of, plans_along, plans_of_runs, run_plans, stems_of}}
-use Rattle.mus_stems.proofs.{ColumnLaws.signs_in_columns, DisplacedLaws.shifts_displace, RunLaws.{all_in_runs, runs_are_maximal}}
-use Rattle.{mus_units.specs.declared.{note.Wish.Wish, pitch.Clef.Clef}, mus_drawn.specs.declared.{drawn.{DrawnEvent.DrawnEvent, DrawnMeasure.DrawnMeasure, Style.Style}, standing.StaffState.StaffState}}
-use Rattle.mus_drawn.{specs.Drawn.{drawn_events, drawn_measure, drawn_measures, drawn_voice, opening_of, standing_after, standing_behind, standing_of, style_of}, proofs.Reaches.{near_of, reach_cut}}
-use Rattle.mus_marks.{specs.Tilt.{sloped_over, voice_tilted}, proofs.{Ending.{flat_event, flat_measure, flat_voice}, GoingOn.{AllGoOn, GoOn, voice_goes_on}, Inside.{HasEvent, HasMeasures, measure_at, measures_inside}}}
-use Rattle.{law_voice_sound.specs.Columns.{state_shown, standing_through}, law_staff_columns.proofs.{Forms.{AreSeated, EventsDrawn, MeasuresDrawn, flats_in}, Signed.{heads_shifted, signs_placed}}}
+use Rattle.mus_stems.specs.declared.plans.StemPlan.{StemPlan}
+use Rattle.mus_stems.specs.declared.stills.StemInput.{StemInput}
+use Rattle.mus_stems.specs.Columns.{AreInColumns}
+use Rattle.mus_stems.specs.Displaced.{AreDisplaced}
+use Rattle.mus_stems.specs.Ends.{run_end, stands_up}
+use Rattle.mus_stems.specs.Heads.{AllNear, stand_of}
+use Rattle.mus_stems.specs.Signs.{first_sign}
+use Rattle.mus_stems.specs.Stills.{clefs_from, still_of, stills}
+use Rattle.mus_stems.specs.Beams.{beams, is_joined}
+use Rattle.mus_stems.specs.Plans.{first_event_id, plan_of, plans_along, plans_of_runs, run_plans, stems_of}
+use Rattle.mus_stems.proofs.ColumnLaws.{signs_in_columns}
+use Rattle.mus_stems.proofs.DisplacedLaws.{shifts_displace}
+use Rattle.mus_stems.proofs.RunLaws.{all_in_runs, runs_are_maximal}
+use Rattle.mus_units.specs.declared.note.Wish.{Wish}
+use Rattle.mus_units.specs.declared.pitch.Clef.{Clef}
+use Rattle.mus_drawn.specs.declared.drawn.DrawnEvent.{DrawnEvent}
+use Rattle.mus_drawn.specs.declared.drawn.DrawnMeasure.{DrawnMeasure}
+use Rattle.mus_drawn.specs.declared.drawn.Style.{Style}
+use Rattle.mus_drawn.specs.declared.standing.StaffState.{StaffState}
+use Rattle.mus_drawn.specs.Drawn.{drawn_events, drawn_measure, drawn_measures, drawn_voice, opening_of, standing_after}
+use Rattle.mus_drawn.specs.Drawn.{standing_behind, standing_of, style_of}
+use Rattle.mus_drawn.proofs.Reaches.{near_of, reach_cut}
+use Rattle.mus_marks.specs.Tilt.{sloped_over, voice_tilted}
+use Rattle.mus_marks.proofs.Ending.{flat_event, flat_measure, flat_voice}
+use Rattle.mus_marks.proofs.GoingOn.{AllGoOn, GoOn, voice_goes_on}
+use Rattle.mus_marks.proofs.Inside.{HasEvent, HasMeasures, measure_at, measures_inside}
+use Rattle.law_voice_sound.specs.Columns.{state_shown, standing_through}
+use Rattle.law_staff_columns.proofs.Forms.{AreSeated, EventsDrawn, MeasuresDrawn, flats_in}
+use Rattle.law_staff_columns.proofs.Signed.{heads_shifted, signs_placed}
 
 -- ---- plans that have a place for each sign and head
 HasPlaces : StemInput → StemPlan → Type 0

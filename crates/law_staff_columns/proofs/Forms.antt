@@ -1,9 +1,24 @@
 -- What the parts of the proof say to one another: what ink tells, and drawn measures that come of the score's.
-use Rattle.std.specs.{Prelude.{⊤, ◌≡◌, ℕ, suc, ◌+◌, ◌≤◌, ◌<◌, ℤ, false, List, [], ◌∷◌, map, flat_map, Option, Some, None}, List.{All, AllByRecursion, Contains}}
-use Rattle.{mus_units.specs.declared.{note.Head.Head}, mus_score.specs.{declared.score.Flat.Flat, declared.score.Measure.Measure, GoodScore.{IsInReach, clef_at}, Seats.is_lower, Times.flats_of}}
-use Rattle.{mus_onsets.specs.declared.keys.ColumnKey.{ColumnKey}, mus_laid.specs.declared.{drawn.LaneInk.LaneInk, drawn.Ink.Ink}, mus_time.specs.Columns.{note_key}}
-use Rattle.mus_drawn.specs.{declared.drawn.DrawnEvent.DrawnEvent, declared.drawn.DrawnMeasure.DrawnMeasure, declared.standing.StaffState.StaffState, Drawn.{old_signs, standing_after, standing_behind}}
-use Rattle.{ps_heard.specs.{declared.column.HeardGlyph.HeardGlyph, Columns.noted, Roles.role_of}, law_voice_sound.specs.Columns.{state_shown}}
+use Rattle.std.specs.Prelude.{⊤, ◌≡◌, ℕ, suc, ◌+◌, ◌≤◌, ◌<◌, ℤ, false, List, [], ◌∷◌, map, flat_map, Option, Some, None}
+use Rattle.std.specs.List.{All, AllByRecursion, Contains}
+use Rattle.mus_units.specs.declared.note.Head.{Head}
+use Rattle.mus_score.specs.declared.score.Flat.{Flat}
+use Rattle.mus_score.specs.declared.score.Measure.{Measure}
+use Rattle.mus_score.specs.GoodScore.{IsInReach, clef_at}
+use Rattle.mus_score.specs.Seats.{is_lower}
+use Rattle.mus_score.specs.Times.{flats_of}
+use Rattle.mus_onsets.specs.declared.keys.ColumnKey.{ColumnKey}
+use Rattle.mus_laid.specs.declared.drawn.LaneInk.{LaneInk}
+use Rattle.mus_laid.specs.declared.drawn.Ink.{Ink}
+use Rattle.mus_time.specs.Columns.{note_key}
+use Rattle.mus_drawn.specs.declared.drawn.DrawnEvent.{DrawnEvent}
+use Rattle.mus_drawn.specs.declared.drawn.DrawnMeasure.{DrawnMeasure}
+use Rattle.mus_drawn.specs.declared.standing.StaffState.{StaffState}
+use Rattle.mus_drawn.specs.Drawn.{old_signs, standing_after, standing_behind}
+use Rattle.ps_heard.specs.declared.column.HeardGlyph.{HeardGlyph}
+use Rattle.ps_heard.specs.Columns.{noted}
+use Rattle.ps_heard.specs.Roles.{role_of}
+use Rattle.law_voice_sound.specs.Columns.{state_shown}
 
 -- what ink tells, wherever it stands
 abbrev pub ink_notes : Ink → List HeardGlyph

@@ -1,15 +1,52 @@
 -- What the marks of each part tell.
-use Rattle.std.proofs.{Common.{◌≡◌, refl, ℕ, zero, suc, ◌+◌, ◌*◌, ◌++◌, arith}, lemmas.{Grind.flat_map-append, List.append-nil}}
-use Rattle.std.specs.{Prelude.{⊤, ℤ, pos, Bool, true, false, List, [], ◌∷◌, Option, Some, None, length, slice_index_or}, List.{All, AllByRecursion}}
-use Rattle.mus_units.specs.declared.{glyph.Glyph.Glyph, key.{Meter.Meter, Sign.Sign, Key.Key}, note.{Bar.Bar, Deco.Deco, Head.Head}, pitch.{Alter.Alter, Clef.Clef}, value.Base.Base}
-use Rattle.{mus_score.specs.{declared.score.{Changes.Changes, Event.Event, Flat.Flat, Look.Look}, GoodScore.IsInReach}, mus_stems.{specs.declared.{dots.Spot.Spot, plans.StemPlan.StemPlan}, proofs.ColumnLaws.signs_in_columns}}
-use Rattle.mus_ink.specs.{declared.graces.Group.Group, Bars.{bar_marks, glyph_if}, Changes.{change_marks, head_marks, key_if, new_entries}, Decos.{behind_deco, body_marks, deco_marks, note_marks}}
-use Rattle.mus_ink.specs.{Distances.{entry_step, grace_sign_side, signature_side}, Drawing.{back, cut_dy, steps_dy}, Graces.{at_end, grace_body, grace_head_ink, grace_marks}, Kinds.{clef_row, deco_glyph, head_glyph, sign_glyph}}
-use Rattle.mus_ink.specs.{Notes.{dot_marks, heads_marks, ledger_marks, note_heads, sign_marks}, Rests.{rest_dots, rest_marks, short_rests}, Signatures.{entry_mark, entry_marks, meter_if, meter_marks}}
-use Rattle.{mus_ink.specs.Stems.{flag_marks, flags_or_stubs, stem_marks, stub_marks}, mus_words.proofs.EachWord.{syllables_all, texts_all, OfWords}, mus_drawn.{specs.Drawn.old_signs, proofs.Reaches.near_of}}
-use Rattle.{mus_marks.specs.{declared.events.WordRoom.WordRoom, Events.{no_texts, text_place, words_marks}}, ps_heard.specs.{declared.column.Role.Role, Columns.noted, Roles.role_of}}
-use Rattle.law_voice_sound.specs.Noted.{bar_notes, change_notes, change_signs, clef_note, entry_notes, head_column_notes, head_notes, naturals, new_signs, note, sign_notes}
-use Rattle.{mus_laid.specs.declared.drawn.LaneInk.LaneInk, law_staff_columns.proofs.{Forms.{AreShifted, AreSigned, drawn_notes, ink_notes}, Signed.signs_placed}}
+use Rattle.std.proofs.Common.{◌≡◌, refl, ℕ, zero, suc, ◌+◌, ◌*◌, ◌++◌, arith}
+use Rattle.std.proofs.lemmas.Grind.{flat_map-append}
+use Rattle.std.proofs.lemmas.List.{append-nil}
+use Rattle.std.specs.Prelude.{⊤, ℤ, pos, Bool, true, false, List, [], ◌∷◌, Option, Some, None, length, slice_index_or}
+use Rattle.std.specs.List.{All, AllByRecursion}
+use Rattle.mus_units.specs.declared.glyph.Glyph.{Glyph}
+use Rattle.mus_units.specs.declared.key.Meter.{Meter}
+use Rattle.mus_units.specs.declared.key.Sign.{Sign}
+use Rattle.mus_units.specs.declared.key.Key.{Key}
+use Rattle.mus_units.specs.declared.note.Bar.{Bar}
+use Rattle.mus_units.specs.declared.note.Deco.{Deco}
+use Rattle.mus_units.specs.declared.note.Head.{Head}
+use Rattle.mus_units.specs.declared.pitch.Alter.{Alter}
+use Rattle.mus_units.specs.declared.pitch.Clef.{Clef}
+use Rattle.mus_units.specs.declared.value.Base.{Base}
+use Rattle.mus_score.specs.declared.score.Changes.{Changes}
+use Rattle.mus_score.specs.declared.score.Event.{Event}
+use Rattle.mus_score.specs.declared.score.Flat.{Flat}
+use Rattle.mus_score.specs.declared.score.Look.{Look}
+use Rattle.mus_score.specs.GoodScore.{IsInReach}
+use Rattle.mus_stems.specs.declared.dots.Spot.{Spot}
+use Rattle.mus_stems.specs.declared.plans.StemPlan.{StemPlan}
+use Rattle.mus_stems.proofs.ColumnLaws.{signs_in_columns}
+use Rattle.mus_ink.specs.declared.graces.Group.{Group}
+use Rattle.mus_ink.specs.Bars.{bar_marks, glyph_if}
+use Rattle.mus_ink.specs.Changes.{change_marks, head_marks, key_if, new_entries}
+use Rattle.mus_ink.specs.Decos.{behind_deco, body_marks, deco_marks, note_marks}
+use Rattle.mus_ink.specs.Distances.{entry_step, grace_sign_side, signature_side}
+use Rattle.mus_ink.specs.Drawing.{back, cut_dy, steps_dy}
+use Rattle.mus_ink.specs.Graces.{at_end, grace_body, grace_head_ink, grace_marks}
+use Rattle.mus_ink.specs.Kinds.{clef_row, deco_glyph, head_glyph, sign_glyph}
+use Rattle.mus_ink.specs.Notes.{dot_marks, heads_marks, ledger_marks, note_heads, sign_marks}
+use Rattle.mus_ink.specs.Rests.{rest_dots, rest_marks, short_rests}
+use Rattle.mus_ink.specs.Signatures.{entry_mark, entry_marks, meter_if, meter_marks}
+use Rattle.mus_ink.specs.Stems.{flag_marks, flags_or_stubs, stem_marks, stub_marks}
+use Rattle.mus_words.proofs.EachWord.{syllables_all, texts_all, OfWords}
+use Rattle.mus_drawn.specs.Drawn.{old_signs}
+use Rattle.mus_drawn.proofs.Reaches.{near_of}
+use Rattle.mus_marks.specs.declared.events.WordRoom.{WordRoom}
+use Rattle.mus_marks.specs.Events.{no_texts, text_place, words_marks}
+use Rattle.ps_heard.specs.declared.column.Role.{Role}
+use Rattle.ps_heard.specs.Columns.{noted}
+use Rattle.ps_heard.specs.Roles.{role_of}
+use Rattle.law_voice_sound.specs.Noted.{bar_notes, change_notes, change_signs, clef_note, entry_notes}
+use Rattle.law_voice_sound.specs.Noted.{head_column_notes, head_notes, naturals, new_signs, note, sign_notes}
+use Rattle.mus_laid.specs.declared.drawn.LaneInk.{LaneInk}
+use Rattle.law_staff_columns.proofs.Forms.{AreShifted, AreSigned, drawn_notes, ink_notes}
+use Rattle.law_staff_columns.proofs.Signed.{signs_placed}
 
 -- ---- parts that tell nothing
 ledgers_quiet : (dys : List ℤ) → drawn_notes (ledger_marks dys) ≡ []

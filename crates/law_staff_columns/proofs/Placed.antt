@@ -1,11 +1,31 @@
 -- The drawn events of a voice in a row, each in its measure: one stands before the next, they are found by their ids, and those of a
 -- system have columns there.
-use Rattle.std.{proofs.{Common.{◌≡◌, refl, sym, ap, ◌∙◌, ℕ, suc, ◌+◌, ◌<◌, ◌≤◌, List, [], ◌∷◌, ◌++◌, true, cond, map, add-one, arith}, lemmas.{Bool.{eq-eqb, ne_eqb}, List.{map-append}}}, specs.{Prelude.{⊤, Some, slice_get}, List.{AllByRecursion, Contains, find}}}
-use Rattle.{mus_units.specs.declared.note.Head.{Head}, mus_score.specs.{declared.score.Measure.Measure, GoodScore.IsInReach, Times.flats_of}}
-use Rattle.{mus_onsets.specs.{declared.keys.{Class.Class, ColumnKey.ColumnKey}, Keys.head_key, Order.is_below}, mus_arcs.specs.{declared.events.ArcEvent.ArcEvent, Events.at_measure, Events.events_from}}
-use Rattle.mus_drawn.specs.{declared.{drawn.{DrawnEvent.DrawnEvent, DrawnMeasure.DrawnMeasure}, standing.StaffState.StaffState}, Drawn.standing_behind}
-use Rattle.{mus_onsets.proofs.Orders.{below_through, lower}, mus_marks.proofs.GoingOn.later_below, law_staff_columns.proofs.Rising.class_below}
-use Rattle.{mus_time.specs.Columns.{note_key}, mus_bridges.specs.Arcs.{event_at, event_in, has_id}, law_staff_columns.proofs.Forms.{AreSeated, MeasuresDrawn, flats_in}}
+use Rattle.std.proofs.Common.{◌≡◌, refl, sym, ap, ◌∙◌, ℕ, suc, ◌+◌, ◌<◌, ◌≤◌, List, [], ◌∷◌, ◌++◌, true, cond, map}
+use Rattle.std.proofs.Common.{add-one, arith}
+use Rattle.std.proofs.lemmas.Bool.{eq-eqb, ne_eqb}
+use Rattle.std.proofs.lemmas.List.{map-append}
+use Rattle.std.specs.Prelude.{⊤, Some, slice_get}
+use Rattle.std.specs.List.{AllByRecursion, Contains, find}
+use Rattle.mus_units.specs.declared.note.Head.{Head}
+use Rattle.mus_score.specs.declared.score.Measure.{Measure}
+use Rattle.mus_score.specs.GoodScore.{IsInReach}
+use Rattle.mus_score.specs.Times.{flats_of}
+use Rattle.mus_onsets.specs.declared.keys.Class.{Class}
+use Rattle.mus_onsets.specs.declared.keys.ColumnKey.{ColumnKey}
+use Rattle.mus_onsets.specs.Keys.{head_key}
+use Rattle.mus_onsets.specs.Order.{is_below}
+use Rattle.mus_arcs.specs.declared.events.ArcEvent.{ArcEvent}
+use Rattle.mus_arcs.specs.Events.{at_measure, events_from}
+use Rattle.mus_drawn.specs.declared.drawn.DrawnEvent.{DrawnEvent}
+use Rattle.mus_drawn.specs.declared.drawn.DrawnMeasure.{DrawnMeasure}
+use Rattle.mus_drawn.specs.declared.standing.StaffState.{StaffState}
+use Rattle.mus_drawn.specs.Drawn.{standing_behind}
+use Rattle.mus_onsets.proofs.Orders.{below_through, lower}
+use Rattle.mus_marks.proofs.GoingOn.{later_below}
+use Rattle.law_staff_columns.proofs.Rising.{class_below}
+use Rattle.mus_time.specs.Columns.{note_key}
+use Rattle.mus_bridges.specs.Arcs.{event_at, event_in, has_id}
+use Rattle.law_staff_columns.proofs.Forms.{AreSeated, MeasuresDrawn, flats_in}
 
 pub record Placed : Type 0 where
   pub measure : ℕ

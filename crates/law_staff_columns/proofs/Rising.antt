@@ -1,9 +1,31 @@
 -- The columns of a voice rise, also where the ends of its stems are others.
-use Rattle.std.{proofs.{Common.{◌≡◌, ◌∙◌, refl, sym, ap, subst, ℕ, suc, ℤ, ◌+◌, ◌-◌, ◌<◌, ◌≤◌, ◌==◌, Bool, true, false, not, ◌&&◌, if◌then◌else◌, List, [], ◌∷◌, ◌++◌, append_assoc, length, map, drop, take, arith}, lemmas.{Bool.Decides.nat_tests, List.{drop-map, take-map, Elements.{All-contains, All-head, All-tail}}}}, specs.{List.{All, slice_index, slice_range}, Prelude.⊤}}
-use Rattle.{mus_units.specs.declared.note.Bar.Bar, mus_score.specs.{declared.score.{Event.Event, Measure.Measure}, Times.flats_of}}
-use Rattle.mus_onsets.specs.{declared.keys.{Class.Class, ColumnKey.ColumnKey}, Keys.{IsInSystem, bar_key, change_has_mark, first_keys, grace_keys, has_features, head_key, key_at}, Order.{class_number, is_below, key_rank}}
-use Rattle.{mus_onsets.proofs.Orders.{below_through, lower}, mus_drawn.specs.{declared.{drawn.{DrawnEvent.DrawnEvent, DrawnMeasure.DrawnMeasure, DrawnVoice.DrawnVoice}, standing.StaffState.StaffState}, Drawn.standing_behind}}
-use Rattle.{mus_time.specs.Columns.{events_columns, has_old, measures_columns, note_key}, mus_marks.{specs.Tilt.voice_ended, proofs.Ending.{flat_event, flat_measure, flat_voice}}, law_staff_columns.proofs.Forms.{AreSeated, MeasuresDrawn}}
+use Rattle.std.proofs.Common.{◌≡◌, ◌∙◌, refl, sym, ap, subst, ℕ, suc, ℤ, ◌+◌, ◌-◌, ◌<◌, ◌≤◌, ◌==◌, Bool, true, false}
+use Rattle.std.proofs.Common.{not, ◌&&◌, if◌then◌else◌, List, [], ◌∷◌, ◌++◌, append_assoc, length, map, drop, take}
+use Rattle.std.proofs.Common.{arith}
+use Rattle.std.proofs.lemmas.Bool.Decides.{nat_tests}
+use Rattle.std.proofs.lemmas.List.{drop-map, take-map}
+use Rattle.std.proofs.lemmas.List.Elements.{All-contains, All-head, All-tail}
+use Rattle.std.specs.List.{All, slice_index, slice_range}
+use Rattle.std.specs.Prelude.{⊤}
+use Rattle.mus_units.specs.declared.note.Bar.{Bar}
+use Rattle.mus_score.specs.declared.score.Event.{Event}
+use Rattle.mus_score.specs.declared.score.Measure.{Measure}
+use Rattle.mus_score.specs.Times.{flats_of}
+use Rattle.mus_onsets.specs.declared.keys.Class.{Class}
+use Rattle.mus_onsets.specs.declared.keys.ColumnKey.{ColumnKey}
+use Rattle.mus_onsets.specs.Keys.{IsInSystem, bar_key, change_has_mark, first_keys, grace_keys, has_features, head_key}
+use Rattle.mus_onsets.specs.Keys.{key_at}
+use Rattle.mus_onsets.specs.Order.{class_number, is_below, key_rank}
+use Rattle.mus_onsets.proofs.Orders.{below_through, lower}
+use Rattle.mus_drawn.specs.declared.drawn.DrawnEvent.{DrawnEvent}
+use Rattle.mus_drawn.specs.declared.drawn.DrawnMeasure.{DrawnMeasure}
+use Rattle.mus_drawn.specs.declared.drawn.DrawnVoice.{DrawnVoice}
+use Rattle.mus_drawn.specs.declared.standing.StaffState.{StaffState}
+use Rattle.mus_drawn.specs.Drawn.{standing_behind}
+use Rattle.mus_time.specs.Columns.{events_columns, has_old, measures_columns, note_key}
+use Rattle.mus_marks.specs.Tilt.{voice_ended}
+use Rattle.mus_marks.proofs.Ending.{flat_event, flat_measure, flat_voice}
+use Rattle.law_staff_columns.proofs.Forms.{AreSeated, MeasuresDrawn}
 
 -- each key is above that before it, the first above k
 abbrev pub RiseFrom : ColumnKey → List ColumnKey → Type 0

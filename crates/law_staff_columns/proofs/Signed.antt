@@ -1,8 +1,15 @@
 -- Each written sign of a chord has a place, and each head a shift.
-use Rattle.std.proofs.{Common.{◌≡◌, ℕ, suc, ◌+◌, ℤ, Bool, true, false, if◌then◌else◌, List, [], ◌∷◌, length, map, refl, sym, ◌∙◌, Option, Some, None, is_some, slice_index_or, arith}, lemmas.List.length-map}
+use Rattle.std.proofs.Common.{◌≡◌, ℕ, suc, ◌+◌, ℤ, Bool, true, false, if◌then◌else◌, List, [], ◌∷◌, length, map, refl}
+use Rattle.std.proofs.Common.{sym, ◌∙◌, Option, Some, None, is_some, slice_index_or, arith}
+use Rattle.std.proofs.lemmas.List.{length-map}
 use Rattle.std.specs.{Prelude.slice_get, List.AllByRecursion}
 use Rattle.mus_units.specs.declared.{note.Head.Head, pitch.{Alter.Alter, Clef.Clef}}
-use Rattle.{mus_stems.{specs.{declared.heads.HeadPosition.HeadPosition, Columns.{AreInColumns, SignedAfter, sign_of_head, sign_where}, Heads.{Taken, stand_of}, Order.head_at}, proofs.OrderLaws.of_each}, law_staff_columns.proofs.Forms.{AreShifted, AreSigned}}
+use Rattle.mus_stems.specs.declared.heads.HeadPosition.{HeadPosition}
+use Rattle.mus_stems.specs.Columns.{AreInColumns, SignedAfter, sign_of_head, sign_where}
+use Rattle.mus_stems.specs.Heads.{Taken, stand_of}
+use Rattle.mus_stems.specs.Order.{head_at}
+use Rattle.mus_stems.proofs.OrderLaws.{of_each}
+use Rattle.law_staff_columns.proofs.Forms.{AreShifted, AreSigned}
 
 unsigned : (a : Option Alter) → (is_some a ≡ true → ⊥) → a ≡ None
 unsigned a never = grind (arith, never)

@@ -1,13 +1,40 @@
 -- What a voice alone on its staff draws, column by column: the key of each column, and what stands there. A change without marks has no column.
-use Rattle.std.{proofs.{Common.{◌≡◌, ◌∙◌, refl, sym, ap, ℕ, ◌+◌, ◌==◌, Bool, true, false, not, ◌&&◌, ◌||◌, nat_le, if◌then◌else◌, List, [], ◌∷◌, ◌++◌, append_assoc, length, map, Option, Some, None, arith}, lemmas.{Bool.or_parts, Bool.Decides.nat_tests, Grind.flat_map-append, List.{append-nil, map-append}}}, specs.{List.flat_map, Prelude.is_some}}
+use Rattle.std.proofs.Common.{◌≡◌, ◌∙◌, refl, sym, ap, ℕ, ◌+◌, ◌==◌, Bool, true, false, not, ◌&&◌, ◌||◌, nat_le}
+use Rattle.std.proofs.Common.{if◌then◌else◌, List, [], ◌∷◌, ◌++◌, append_assoc, length, map, Option, Some, None, arith}
+use Rattle.std.proofs.lemmas.Bool.{or_parts}
+use Rattle.std.proofs.lemmas.Bool.Decides.{nat_tests}
+use Rattle.std.proofs.lemmas.Grind.{flat_map-append}
+use Rattle.std.proofs.lemmas.List.{append-nil, map-append}
+use Rattle.std.specs.List.{flat_map}
+use Rattle.std.specs.Prelude.{is_some}
 use Rattle.mus_units.specs.declared.{key.{Key.Key, Meter.Meter, Sign.Sign}, note.Bar.Bar, pitch.Clef.Clef}
-use Rattle.mus_score.specs.{declared.score.{Changes.Changes, Event.Event, Measure.Measure, Seat.Seat}, Seats.is_lower, Times.flats_of}
-use Rattle.mus_onsets.specs.{declared.keys.{Class.Class, ColumnKey.ColumnKey}, Keys.{bar_key, change_has_mark, first_keys, grace_keys, has_features, head_key, key_at, key_has_mark, meter_has_mark}, Order.key_rank}
+use Rattle.mus_score.specs.declared.score.Changes.{Changes}
+use Rattle.mus_score.specs.declared.score.Event.{Event}
+use Rattle.mus_score.specs.declared.score.Measure.{Measure}
+use Rattle.mus_score.specs.declared.score.Seat.{Seat}
+use Rattle.mus_score.specs.Seats.{is_lower}
+use Rattle.mus_score.specs.Times.{flats_of}
+use Rattle.mus_onsets.specs.declared.keys.Class.{Class}
+use Rattle.mus_onsets.specs.declared.keys.ColumnKey.{ColumnKey}
+use Rattle.mus_onsets.specs.Keys.{bar_key, change_has_mark, first_keys, grace_keys, has_features, head_key, key_at}
+use Rattle.mus_onsets.specs.Keys.{key_has_mark, meter_has_mark}
+use Rattle.mus_onsets.specs.Order.{key_rank}
 use Rattle.{mus_laid.specs.{declared.{drawn.LaneInk.LaneInk, laid.Laid.Laid}, Ranked.drawn_at}}
-use Rattle.mus_ink.specs.{declared.graces.Group.Group, Bars.bar_marks, Changes.{change_marks, clef_if, head_marks, key_if}, Decos.note_marks, Graces.{grace_marks, group_of}}
-use Rattle.{mus_ink.specs.Signatures.{meter_if, meter_marks}, mus_drawn.specs.{declared.{drawn.{DrawnEvent.DrawnEvent, DrawnMeasure.DrawnMeasure}, standing.StaffState.StaffState}, Drawn.{raise_of, standing_after, standing_behind}}}
+use Rattle.mus_ink.specs.declared.graces.Group.{Group}
+use Rattle.mus_ink.specs.Bars.{bar_marks}
+use Rattle.mus_ink.specs.Changes.{change_marks, clef_if, head_marks, key_if}
+use Rattle.mus_ink.specs.Decos.{note_marks}
+use Rattle.mus_ink.specs.Graces.{grace_marks, group_of}
+use Rattle.mus_ink.specs.Signatures.{meter_if, meter_marks}
+use Rattle.mus_drawn.specs.declared.drawn.DrawnEvent.{DrawnEvent}
+use Rattle.mus_drawn.specs.declared.drawn.DrawnMeasure.{DrawnMeasure}
+use Rattle.mus_drawn.specs.declared.standing.StaffState.{StaffState}
+use Rattle.mus_drawn.specs.Drawn.{raise_of, standing_after, standing_behind}
 use Rattle.mus_time.specs.Columns.{events_columns, has_old, measures_columns, note_key}
-use Rattle.mus_marks.specs.{declared.events.WordRoom.WordRoom, Events.{change_part, event_marks, events_marks, graces_from, levels_behind, levels_in, measures_marks, note_rank, words_marks}, Staff.{columns_part}}
+use Rattle.mus_marks.specs.declared.events.WordRoom.{WordRoom}
+use Rattle.mus_marks.specs.Events.{change_part, event_marks, events_marks, graces_from, levels_behind, levels_in}
+use Rattle.mus_marks.specs.Events.{measures_marks, note_rank, words_marks}
+use Rattle.mus_marks.specs.Staff.{columns_part}
 use Rattle.{mus_marks.specs.Staff.meter_shown, law_staff_columns.proofs.Forms.{EventsDrawn, MeasuresDrawn}}
 
 pub record Slot : Type 0 where

@@ -1,19 +1,70 @@
 -- The marks of a voice in a system tell its columns.
-use Rattle.std.{proofs.{Common.{◌≡◌, ◌∙◌, refl, sym, ap, subst, ℕ, ℤ, ◌+◌, ◌-◌, ◌<◌, ◌≤◌, ◌==◌, Bool, true, false, if◌then◌else◌, List, [], ◌∷◌, ◌++◌, append_assoc, length, map, take, drop, Option, Some, arith}, lemmas.{Grind.flat_map-append, List.{append-nil, map-append, length-drop, length-take, take-append-drop, Elements.{All-contains, All-head, All-tail}, Folds.list_any-append}}}, specs.List.{All, flat_map, list_any, slice_range}}
+use Rattle.std.proofs.Common.{◌≡◌, ◌∙◌, refl, sym, ap, subst, ℕ, ℤ, ◌+◌, ◌-◌, ◌<◌, ◌≤◌, ◌==◌, Bool, true, false}
+use Rattle.std.proofs.Common.{if◌then◌else◌, List, [], ◌∷◌, ◌++◌, append_assoc, length, map, take, drop, Option, Some}
+use Rattle.std.proofs.Common.{arith}
+use Rattle.std.proofs.lemmas.Grind.{flat_map-append}
+use Rattle.std.proofs.lemmas.List.{append-nil, map-append, length-drop, length-take, take-append-drop}
+use Rattle.std.proofs.lemmas.List.Elements.{All-contains, All-head, All-tail}
+use Rattle.std.proofs.lemmas.List.Folds.{list_any-append}
+use Rattle.std.specs.List.{All, flat_map, list_any, slice_range}
 use Rattle.mus_units.specs.declared.{key.Sign.Sign, note.{Bar.Bar, Head.Head}, pitch.{Clef.Clef}}
-use Rattle.mus_score.specs.{declared.score.{Event.Event, Measure.Measure, Seat.Seat}, GoodScore.{IsInReach, clef_at}, Seats.is_lower, Times.flats_of}
-use Rattle.mus_onsets.specs.{declared.keys.{Class.Class, ColumnKey.ColumnKey}, Keys.{IsInSystem, all_keys, bar_key, change_has_mark, first_keys, head_key, key_at, keys_by, voice_keys}, Onsets.timeline_of, Order.key_rank}
-use Rattle.{mus_onsets.proofs.Places.places_of, mus_laid.specs.{declared.drawn.{Bridge.Bridge, LaneInk.LaneInk}, Ranked.bridge_at}, mus_time.{specs.Columns.has_old, proofs.Called.voice_same}}
-use Rattle.{mus_ink.specs.{declared.graces.Group.Group, Bars.{bar_glyph, bar_marks}, Changes.change_marks, Decos.note_marks, Graces.{grace_marks, group_of}}, mus_bridges.specs.Bridges.bridges_of}
-use Rattle.mus_drawn.specs.{declared.{drawn.{DrawnEvent.DrawnEvent, DrawnMeasure.DrawnMeasure, DrawnVoice.DrawnVoice}, standing.StaffState.StaffState}, Drawn.{drawn_voice, raise_of, standing_after, standing_behind, standing_of}}
-use Rattle.mus_marks.specs.{declared.events.WordRoom.WordRoom, Events.{levels_behind, levels_in, note_rank, words_marks}, Staff.{bare_marks, columns_part, meter_shown, own_part, room_over, staff_bridges, staff_marks, staff_over, verses_on}}
-use Rattle.mus_marks.{specs.Tilt.{sloped_over, voice_tilted}, proofs.Inside.{AreAmong, among_right, here, voices_called}}
-use Rattle.{ps_heard.specs.declared.column.{HeardColumn.HeardColumn, HeardGlyph.HeardGlyph, Role.Role}, law_voice_sound.proofs.Listening.{told_join}}
-use Rattle.law_voice_sound.specs.Columns.{bar_column, change_column, change_columns, chord_column, event_columns, heard_events, first_columns, grace_columns, last_event, last_through, heard_measures, state_shown, heard_system, tie_heights}
-use Rattle.law_voice_sound.specs.{Listened.{is_listed, columns_heard}, Noted.{bar_notes, change_signs, clef_notes, entry_notes, head_column_notes, head_notes, sign_notes}}
-use Rattle.law_staff_columns.{specs.{Ranked.{ranked_columns, tie_ends_at}, Told.{MarksTellColumns, first_at}}, proofs.{Columned.{column, ranks_told, slot_column, told_same}, Drawings.{measures_behind, measures_front, voice_drawn}, Placed.{Placed, all_placed, placed}}}
-use Rattle.law_staff_columns.proofs.{Forms.{EventsDrawn, IsDrawn, MeasuresDrawn, drawn_notes, flats_in, ink_notes}, Noting.{bar_told, change_told, grace_told, head_told, note_told, words_told}, Rising.{RiseFrom, columns_rise, ended_columns, head_least}}
-use Rattle.law_staff_columns.proofs.{Slots.{Slot, change_slots, event_slots, events_slots, first_slots, grace_slots, head_slot, measures_slots, no_marks, part_laid, slot, slots_behind, slots_keyed}, Tied.{AllTied, ties_stand, tied_after}}
+use Rattle.mus_score.specs.declared.score.Event.{Event}
+use Rattle.mus_score.specs.declared.score.Measure.{Measure}
+use Rattle.mus_score.specs.declared.score.Seat.{Seat}
+use Rattle.mus_score.specs.GoodScore.{IsInReach, clef_at}
+use Rattle.mus_score.specs.Seats.{is_lower}
+use Rattle.mus_score.specs.Times.{flats_of}
+use Rattle.mus_onsets.specs.declared.keys.Class.{Class}
+use Rattle.mus_onsets.specs.declared.keys.ColumnKey.{ColumnKey}
+use Rattle.mus_onsets.specs.Keys.{IsInSystem, all_keys, bar_key, change_has_mark, first_keys, head_key, key_at, keys_by}
+use Rattle.mus_onsets.specs.Keys.{voice_keys}
+use Rattle.mus_onsets.specs.Onsets.{timeline_of}
+use Rattle.mus_onsets.specs.Order.{key_rank}
+use Rattle.mus_onsets.proofs.Places.{places_of}
+use Rattle.mus_laid.specs.declared.drawn.Bridge.{Bridge}
+use Rattle.mus_laid.specs.declared.drawn.LaneInk.{LaneInk}
+use Rattle.mus_laid.specs.Ranked.{bridge_at}
+use Rattle.mus_time.specs.Columns.{has_old}
+use Rattle.mus_time.proofs.Called.{voice_same}
+use Rattle.mus_ink.specs.declared.graces.Group.{Group}
+use Rattle.mus_ink.specs.Bars.{bar_glyph, bar_marks}
+use Rattle.mus_ink.specs.Changes.{change_marks}
+use Rattle.mus_ink.specs.Decos.{note_marks}
+use Rattle.mus_ink.specs.Graces.{grace_marks, group_of}
+use Rattle.mus_bridges.specs.Bridges.{bridges_of}
+use Rattle.mus_drawn.specs.declared.drawn.DrawnEvent.{DrawnEvent}
+use Rattle.mus_drawn.specs.declared.drawn.DrawnMeasure.{DrawnMeasure}
+use Rattle.mus_drawn.specs.declared.drawn.DrawnVoice.{DrawnVoice}
+use Rattle.mus_drawn.specs.declared.standing.StaffState.{StaffState}
+use Rattle.mus_drawn.specs.Drawn.{drawn_voice, raise_of, standing_after, standing_behind, standing_of}
+use Rattle.mus_marks.specs.declared.events.WordRoom.{WordRoom}
+use Rattle.mus_marks.specs.Events.{levels_behind, levels_in, note_rank, words_marks}
+use Rattle.mus_marks.specs.Staff.{bare_marks, columns_part, meter_shown, own_part, room_over, staff_bridges}
+use Rattle.mus_marks.specs.Staff.{staff_marks, staff_over, verses_on}
+use Rattle.mus_marks.specs.Tilt.{sloped_over, voice_tilted}
+use Rattle.mus_marks.proofs.Inside.{AreAmong, among_right, here, voices_called}
+use Rattle.ps_heard.specs.declared.column.HeardColumn.{HeardColumn}
+use Rattle.ps_heard.specs.declared.column.HeardGlyph.{HeardGlyph}
+use Rattle.ps_heard.specs.declared.column.Role.{Role}
+use Rattle.law_voice_sound.proofs.Listening.{told_join}
+use Rattle.law_voice_sound.specs.Columns.{bar_column, change_column, change_columns, chord_column, event_columns}
+use Rattle.law_voice_sound.specs.Columns.{heard_events, first_columns, grace_columns, last_event, last_through}
+use Rattle.law_voice_sound.specs.Columns.{heard_measures, state_shown, heard_system, tie_heights}
+use Rattle.law_voice_sound.specs.Listened.{is_listed, columns_heard}
+use Rattle.law_voice_sound.specs.Noted.{bar_notes, change_signs, clef_notes, entry_notes, head_column_notes, head_notes}
+use Rattle.law_voice_sound.specs.Noted.{sign_notes}
+use Rattle.law_staff_columns.specs.Ranked.{ranked_columns, tie_ends_at}
+use Rattle.law_staff_columns.specs.Told.{MarksTellColumns, first_at}
+use Rattle.law_staff_columns.proofs.Columned.{column, ranks_told, slot_column, told_same}
+use Rattle.law_staff_columns.proofs.Drawings.{measures_behind, measures_front, voice_drawn}
+use Rattle.law_staff_columns.proofs.Placed.{Placed, all_placed, placed}
+use Rattle.law_staff_columns.proofs.Forms.{EventsDrawn, IsDrawn, MeasuresDrawn, drawn_notes, flats_in, ink_notes}
+use Rattle.law_staff_columns.proofs.Noting.{bar_told, change_told, grace_told, head_told, note_told, words_told}
+use Rattle.law_staff_columns.proofs.Rising.{RiseFrom, columns_rise, ended_columns, head_least}
+use Rattle.law_staff_columns.proofs.Slots.{Slot, change_slots, event_slots, events_slots, first_slots, grace_slots}
+use Rattle.law_staff_columns.proofs.Slots.{head_slot, measures_slots, no_marks, part_laid, slot, slots_behind}
+use Rattle.law_staff_columns.proofs.Slots.{slots_keyed}
+use Rattle.law_staff_columns.proofs.Tied.{AllTied, ties_stand, tied_after}
 use Rattle.mus_time.specs.Columns as columns
 
 -- where no head of a note is, ties are of no account

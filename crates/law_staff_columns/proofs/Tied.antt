@@ -1,12 +1,46 @@
 -- In the column of each event of a voice just those ties end that come from the event before it.
-use Rattle.std.{proofs.{Common.{◌≡◌, refl, sym, ap, ◌∙◌, ℕ, zero, suc, ◌+◌, ◌-◌, ◌<◌, ◌≤◌, ◌==◌, List, [], ◌∷◌, ◌++◌, append-nil, Bool, true, false, ◌&&◌, inl, inr, map, take, drop, filter, subst, arith}, lemmas.{Bool.{and_parts, eq-eqb, le-leb, leb-false, leb-true, lt-leb, lt-ltb, ne_eqb}, Bool.Decides.nat_tests, List.Elements.All-contains, Grind.flat_map-append}}, specs.{Prelude.{⊤, ℤ, ◌⊎◌, nat_le, nat_lt, if◌then◌else◌, Some, None, slice_get, slice_index, flat_map, Contains}, List.All}}
-use Rattle.{mus_units.specs.declared.note.Head.{Head}, mus_score.specs.{declared.score.{Measure.Measure, Score.Score, Voice.Voice}, Times.flats_of}}
-use Rattle.mus_onsets.{specs.{declared.keys.{Class.Class, ColumnKey.ColumnKey}, Keys.{IsInSystem, bar_key, head_key}, Onsets.timeline_of, Order.{is_below, key_rank}}, proofs.{Orders.below_through, RankLaws.rank_rises_more}}
-use Rattle.{mus_arcs.{specs.{declared.pairing.Arc.Arc, Arcs.{arcs_of, ties_from, ties_of}, Events.events_of_voice, Pieces.piece_of}, proofs.RuleLaws.arcs_of-ties_are}, mus_words.specs.Arcs.{arc_mark, bulges_up, tie_mark}}
-use Rattle.mus_drawn.specs.{declared.{drawn.{DrawnEvent.DrawnEvent, DrawnMeasure.DrawnMeasure, DrawnVoice.DrawnVoice}, standing.StaffState.StaffState}, Drawn.{standing_behind, standing_of}}
-use Rattle.{mus_bridges.specs.Arcs.{piece_between}, mus_marks.specs.Staff.staff_bridges, law_voice_sound.specs.Columns.{last_event, last_through, tie_heights}, law_staff_columns.{specs.Ranked.tie_ends_at, proofs.Forms.{MeasuresDrawn, flats_in}}}
-use Rattle.law_staff_columns.proofs.{Bridged.{arc_ends, bridges_told, ends, is_tie_bulge, tie_to, ties_elsewhere, ties_here}, Placed.{GoFrom, IsPlaced, Placed, all_placed}}
-use Rattle.law_staff_columns.proofs.{Placed.{heads, key, measures_go, measures_scored, placed, scored}, Rising.class_below}
+use Rattle.std.proofs.Common.{◌≡◌, refl, sym, ap, ◌∙◌, ℕ, zero, suc, ◌+◌, ◌-◌, ◌<◌, ◌≤◌, ◌==◌, List, [], ◌∷◌, ◌++◌}
+use Rattle.std.proofs.Common.{append-nil, Bool, true, false, ◌&&◌, inl, inr, map, take, drop, filter, subst, arith}
+use Rattle.std.proofs.lemmas.Bool.{and_parts, eq-eqb, le-leb, leb-false, leb-true, lt-leb, lt-ltb, ne_eqb}
+use Rattle.std.proofs.lemmas.Bool.Decides.{nat_tests}
+use Rattle.std.proofs.lemmas.List.Elements.{All-contains}
+use Rattle.std.proofs.lemmas.Grind.{flat_map-append}
+use Rattle.std.specs.Prelude.{⊤, ℤ, ◌⊎◌, nat_le, nat_lt, if◌then◌else◌, Some, None, slice_get, slice_index, flat_map}
+use Rattle.std.specs.Prelude.{Contains}
+use Rattle.std.specs.List.{All}
+use Rattle.mus_units.specs.declared.note.Head.{Head}
+use Rattle.mus_score.specs.declared.score.Measure.{Measure}
+use Rattle.mus_score.specs.declared.score.Score.{Score}
+use Rattle.mus_score.specs.declared.score.Voice.{Voice}
+use Rattle.mus_score.specs.Times.{flats_of}
+use Rattle.mus_onsets.specs.declared.keys.Class.{Class}
+use Rattle.mus_onsets.specs.declared.keys.ColumnKey.{ColumnKey}
+use Rattle.mus_onsets.specs.Keys.{IsInSystem, bar_key, head_key}
+use Rattle.mus_onsets.specs.Onsets.{timeline_of}
+use Rattle.mus_onsets.specs.Order.{is_below, key_rank}
+use Rattle.mus_onsets.proofs.Orders.{below_through}
+use Rattle.mus_onsets.proofs.RankLaws.{rank_rises_more}
+use Rattle.mus_arcs.specs.declared.pairing.Arc.{Arc}
+use Rattle.mus_arcs.specs.Arcs.{arcs_of, ties_from, ties_of}
+use Rattle.mus_arcs.specs.Events.{events_of_voice}
+use Rattle.mus_arcs.specs.Pieces.{piece_of}
+use Rattle.mus_arcs.proofs.RuleLaws.{arcs_of-ties_are}
+use Rattle.mus_words.specs.Arcs.{arc_mark, bulges_up, tie_mark}
+use Rattle.mus_drawn.specs.declared.drawn.DrawnEvent.{DrawnEvent}
+use Rattle.mus_drawn.specs.declared.drawn.DrawnMeasure.{DrawnMeasure}
+use Rattle.mus_drawn.specs.declared.drawn.DrawnVoice.{DrawnVoice}
+use Rattle.mus_drawn.specs.declared.standing.StaffState.{StaffState}
+use Rattle.mus_drawn.specs.Drawn.{standing_behind, standing_of}
+use Rattle.mus_bridges.specs.Arcs.{piece_between}
+use Rattle.mus_marks.specs.Staff.{staff_bridges}
+use Rattle.law_voice_sound.specs.Columns.{last_event, last_through, tie_heights}
+use Rattle.law_staff_columns.specs.Ranked.{tie_ends_at}
+use Rattle.law_staff_columns.proofs.Forms.{MeasuresDrawn, flats_in}
+use Rattle.law_staff_columns.proofs.Bridged.{arc_ends, bridges_told, ends, is_tie_bulge, tie_to, ties_elsewhere}
+use Rattle.law_staff_columns.proofs.Bridged.{ties_here}
+use Rattle.law_staff_columns.proofs.Placed.{GoFrom, IsPlaced, Placed, all_placed}
+use Rattle.law_staff_columns.proofs.Placed.{heads, key, measures_go, measures_scored, placed, scored}
+use Rattle.law_staff_columns.proofs.Rising.{class_below}
 
 -- ---- in a row of events
 module _ (keys : List ColumnKey) (a b : ℕ) where

@@ -1,7 +1,12 @@
 -- The columns of a staff as the ranks of its marks tell them: at each rank what the glyphs there tell, and where ties end. The
 -- column of rank 0 leads its system.
 use Rattle.std.specs.Prelude.{ℕ, zero, suc, ℤ, ◌-ℤ◌, ◌==◌, ◌&&◌, if◌then◌else◌, List, [], ◌∷◌, flat_map}
-use Rattle.{mus_laid.specs.declared.laid.{Laid.Laid, Mark.Mark}, ps_heard.specs.{declared.column.HeardColumn.HeardColumn, declared.column.HeardGlyph.HeardGlyph, Columns.bulges_as_tie, Columns.noted, Roles.role_of}}
+use Rattle.mus_laid.specs.declared.laid.Laid.{Laid}
+use Rattle.mus_laid.specs.declared.laid.Mark.{Mark}
+use Rattle.ps_heard.specs.declared.column.HeardColumn.{HeardColumn}
+use Rattle.ps_heard.specs.declared.column.HeardGlyph.{HeardGlyph}
+use Rattle.ps_heard.specs.Columns.{bulges_as_tie, noted}
+use Rattle.ps_heard.specs.Roles.{role_of}
 
 abbrev pub noted_at : ℕ → Mark → List HeardGlyph
 noted_at r (Mark.Glyph glyph rank dx dy) = if r == rank then noted (role_of glyph dy) dy else []

@@ -1,8 +1,19 @@
 -- The law that the marks of a voice tell its columns.
-use Rattle.std.specs.Prelude.{◌≡◌, ℕ, ℤ, ◌<◌, ◌≤◌, ◌==◌, if◌then◌else◌, List, [], ◌∷◌, length, take, slice_range, Contains, Option, Some, None}
-use Rattle.{mus_units.specs.declared.note.Bar.{Bar}, mus_score.specs.{declared.score.Score.Score, declared.score.Seat.Seat, declared.score.Voice.Voice, GoodScore.IsGoodScore}}
-use Rattle.{mus_onsets.specs.{declared.keys.ColumnKey.ColumnKey, Keys.AreKeys, Keys.called_keys, Onsets.timeline_of}, mus_drawn.specs.Drawn.{drawn_voice, standing_of}, mus_marks.specs.Tilt.{tilted_staff}}
-use Rattle.{law_voice_sound.specs.{Columns.last_through, Columns.standing_through, Columns.heard_system, Listened.columns_heard}, law_staff_columns.specs.Ranked.{ranked_columns}}
+use Rattle.std.specs.Prelude.{◌≡◌, ℕ, ℤ, ◌<◌, ◌≤◌, ◌==◌, if◌then◌else◌, List, [], ◌∷◌, length, take, slice_range}
+use Rattle.std.specs.Prelude.{Contains, Option, Some, None}
+use Rattle.mus_units.specs.declared.note.Bar.{Bar}
+use Rattle.mus_score.specs.declared.score.Score.{Score}
+use Rattle.mus_score.specs.declared.score.Seat.{Seat}
+use Rattle.mus_score.specs.declared.score.Voice.{Voice}
+use Rattle.mus_score.specs.GoodScore.{IsGoodScore}
+use Rattle.mus_onsets.specs.declared.keys.ColumnKey.{ColumnKey}
+use Rattle.mus_onsets.specs.Keys.{AreKeys, called_keys}
+use Rattle.mus_onsets.specs.Onsets.{timeline_of}
+use Rattle.mus_drawn.specs.Drawn.{drawn_voice, standing_of}
+use Rattle.mus_marks.specs.Tilt.{tilted_staff}
+use Rattle.law_voice_sound.specs.Columns.{last_through, standing_through, heard_system}
+use Rattle.law_voice_sound.specs.Listened.{columns_heard}
+use Rattle.law_staff_columns.specs.Ranked.{ranked_columns}
 
 -- the bar before measure a, where that is the first
 abbrev pub first_at : ℕ → Bar → Option Bar

@@ -1,8 +1,29 @@
 -- Keys move along the circle of fifths, and heads without a sign with them.
-use Rattle.std.{proofs.{Common.{◌≡◌, refl, sym, ap, ◌∙◌, ℕ, suc, ◌-◌, ◌%◌, ◌<◌, ◌==◌, Bool, true, ◌&&◌, nat_le, Decides, List, [], ◌∷◌, length, subst, arith}, lemmas.{Bool.{agree_below_at, and_parts, eqb-true, leb-true, Decides.{Decides-int_eq, nat_tests}}, Int.ints}}, specs.{Prelude.{ℤ, pos, negsuc, ◌+ℤ◌, ◌-ℤ◌, ◌*ℤ◌, ◌≤ℤ◌, int_le, unwrap_or, Some}, Int.{int_div_euclid, int_rem_euclid, RustNames.unsigned_abs}, List.slice_index_or, Ordering.int_eq, Cmp.Lexicographic.{pointwise, pointwise_decides}}}
-use Rattle.mus_units.specs.{Good.same_letter, Pitch.letter_number, declared.key.Key.Key, declared.key.Sign.Sign, declared.pitch.Alter.Alter, declared.pitch.Letter.Letter, declared.pitch.Pitch.Pitch}
-use Rattle.mus_pitch.specs.{Alteration.key_sign, Circle.fifths_of, Circle.is_signature, Circle.signs_of, Steps.pitch_of_steps, Steps.scale_letters, Steps.steps}
-use Rattle.mus_transpose.specs.{declared.moves.Move.Move, Moved.alter_from, Moved.alter_of, Moved.moved_key, Moved.key_may, Moved.move_for, Moved.moved_pitch, Moved.half_steps_above_c, Moved.new_sharps, Moved.octaves_between, Moved.on_circle, Moved.same_sign, Moved.semitones, Moved.sharps_by, Moved.sharps_in}
+use Rattle.std.proofs.Common.{◌≡◌, refl, sym, ap, ◌∙◌, ℕ, suc, ◌-◌, ◌%◌, ◌<◌, ◌==◌, Bool, true, ◌&&◌, nat_le, Decides}
+use Rattle.std.proofs.Common.{List, [], ◌∷◌, length, subst, arith}
+use Rattle.std.proofs.lemmas.Bool.{agree_below_at, and_parts, eqb-true, leb-true}
+use Rattle.std.proofs.lemmas.Bool.Decides.{Decides-int_eq, nat_tests}
+use Rattle.std.proofs.lemmas.Int.{ints}
+use Rattle.std.specs.Prelude.{ℤ, pos, negsuc, ◌+ℤ◌, ◌-ℤ◌, ◌*ℤ◌, ◌≤ℤ◌, int_le, unwrap_or, Some}
+use Rattle.std.specs.Int.{int_div_euclid, int_rem_euclid}
+use Rattle.std.specs.Int.RustNames.{unsigned_abs}
+use Rattle.std.specs.List.{slice_index_or}
+use Rattle.std.specs.Ordering.{int_eq}
+use Rattle.std.specs.Cmp.Lexicographic.{pointwise, pointwise_decides}
+use Rattle.mus_units.specs.Good.{same_letter}
+use Rattle.mus_units.specs.Pitch.{letter_number}
+use Rattle.mus_units.specs.declared.key.Key.{Key}
+use Rattle.mus_units.specs.declared.key.Sign.{Sign}
+use Rattle.mus_units.specs.declared.pitch.Alter.{Alter}
+use Rattle.mus_units.specs.declared.pitch.Letter.{Letter}
+use Rattle.mus_units.specs.declared.pitch.Pitch.{Pitch}
+use Rattle.mus_pitch.specs.Alteration.{key_sign}
+use Rattle.mus_pitch.specs.Circle.{fifths_of, is_signature, signs_of}
+use Rattle.mus_pitch.specs.Steps.{pitch_of_steps, scale_letters, steps}
+use Rattle.mus_transpose.specs.declared.moves.Move.{Move}
+use Rattle.mus_transpose.specs.Moved.{alter_from, alter_of, moved_key, key_may, move_for, moved_pitch}
+use Rattle.mus_transpose.specs.Moved.{half_steps_above_c, new_sharps, octaves_between, on_circle, same_sign, semitones}
+use Rattle.mus_transpose.specs.Moved.{sharps_by, sharps_in}
 
 -- ---- letters, alterations and keys by their numbers
 letter_back : (l : Letter) → slice_index_or scale_letters (letter_number l) Letter.C ≡ l

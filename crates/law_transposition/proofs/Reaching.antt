@@ -1,8 +1,27 @@
 -- Signs reach as far in a moved score as before, and what they reach sounds so many semitones higher.
-use Rattle.std.{proofs.{Common.{◌≡◌, zero, suc, refl, ap, ◌∙◌, List, [], ◌∷◌, map, Bool, true, false, ◌&&◌, cond, Decides, subst, arith}, lemmas.{Bool.{and_parts, false≢true, Decides.{Decides-and, Decides-eqb, Decides-int_eq, Decides-like, same_from_decides}}, Int.ints, List.{reverse-append, Folds.find-append}}}, specs.{Prelude.{ℤ, pos, negsuc, ◌+ℤ◌, ◌-ℤ◌, ◌*ℤ◌, Option, Some, None, is_some, unwrap_or, find, reverse}, List.AllByRecursion, Option.{option_and_then, option_or}, Ordering.int_eq}}
-use Rattle.mus_units.specs.{Good.same_letter, Pitch.letter_number, declared.key.Key.Key, declared.key.Spread.Spread, declared.note.Head.Head, declared.pitch.Alter.Alter, declared.pitch.Pitch.Pitch}
+use Rattle.std.proofs.Common.{◌≡◌, zero, suc, refl, ap, ◌∙◌, List, [], ◌∷◌, map, Bool, true, false, ◌&&◌, cond, Decides}
+use Rattle.std.proofs.Common.{subst, arith}
+use Rattle.std.proofs.lemmas.Bool.{and_parts, false≢true}
+use Rattle.std.proofs.lemmas.Bool.Decides.{Decides-and, Decides-eqb, Decides-int_eq, Decides-like, same_from_decides}
+use Rattle.std.proofs.lemmas.Int.{ints}
+use Rattle.std.proofs.lemmas.List.{reverse-append}
+use Rattle.std.proofs.lemmas.List.Folds.{find-append}
+use Rattle.std.specs.Prelude.{ℤ, pos, negsuc, ◌+ℤ◌, ◌-ℤ◌, ◌*ℤ◌, Option, Some, None, is_some, unwrap_or, find, reverse}
+use Rattle.std.specs.List.{AllByRecursion}
+use Rattle.std.specs.Option.{option_and_then, option_or}
+use Rattle.std.specs.Ordering.{int_eq}
+use Rattle.mus_units.specs.Good.{same_letter}
+use Rattle.mus_units.specs.Pitch.{letter_number}
+use Rattle.mus_units.specs.declared.key.Key.{Key}
+use Rattle.mus_units.specs.declared.key.Spread.{Spread}
+use Rattle.mus_units.specs.declared.note.Head.{Head}
+use Rattle.mus_units.specs.declared.pitch.Alter.{Alter}
+use Rattle.mus_units.specs.declared.pitch.Pitch.{Pitch}
 use Rattle.mus_pitch.specs.{Alteration.alteration_of, Alteration.is_said, Alteration.reaches, Steps.steps}
-use Rattle.mus_transpose.{specs.{declared.moves.Move.Move, Moved.{alter_from, alter_of, head_moves, is_near_staff, moved_key, key_may, moved_alter, moved_head, moved_pitch, moved_sign, half_steps_above_c, semitones, sign_moves}}, proofs.MovedGood.few_letters}
+use Rattle.mus_transpose.specs.declared.moves.Move.{Move}
+use Rattle.mus_transpose.specs.Moved.{alter_from, alter_of, head_moves, is_near_staff, moved_key, key_may, moved_alter}
+use Rattle.mus_transpose.specs.Moved.{moved_head, moved_pitch, moved_sign, half_steps_above_c, semitones, sign_moves}
+use Rattle.mus_transpose.proofs.MovedGood.{few_letters}
 use Rattle.law_transposition.proofs.Circle.{Higher, IsMove, key_higher, letters_same, steps_moved}
 
 abbrev pub Passed : {A : Type 0} → (A → Bool) → A → Type 0

@@ -1,9 +1,26 @@
 -- What is seen from the events of a moved score is what was seen, moved; and where the score can be moved, all of it can.
-use Rattle.std.{proofs.{Common.{◌≡◌, refl, sym, ◌∙◌, ap, ℕ, ◌*◌, Bool, true, List, [], ◌∷◌, ◌++◌, map, Option, Some, None, option_map, flat_map, subst}, lemmas.{Bool.and_parts, List.{map-append, Elements.recursion_from_All, Sums.AllPass-from_list_all}}}, specs.{Prelude.unwrap_or, List.{AllByRecursion, AllZip, list_all}}}
+use Rattle.std.proofs.Common.{◌≡◌, refl, sym, ◌∙◌, ap, ℕ, ◌*◌, Bool, true, List, [], ◌∷◌, ◌++◌, map, Option, Some, None}
+use Rattle.std.proofs.Common.{option_map, flat_map, subst}
+use Rattle.std.proofs.lemmas.Bool.{and_parts}
+use Rattle.std.proofs.lemmas.List.{map-append}
+use Rattle.std.proofs.lemmas.List.Elements.{recursion_from_All}
+use Rattle.std.proofs.lemmas.List.Sums.{AllPass-from_list_all}
+use Rattle.std.specs.Prelude.{unwrap_or}
+use Rattle.std.specs.List.{AllByRecursion, AllZip, list_all}
 use Rattle.mus_units.specs.declared.{key.Key.Key, note.Head.Head}
-use Rattle.mus_score.specs.{declared.{score.{Event.Event, Flat.Flat, Measure.Measure, Music.Music}, times.PendingLeaf.PendingLeaf}, Times.{Leafing, flats_of, in_row, leaf, leaves_step, leaves_within, no_pending_leaf}}
-use Rattle.mus_transpose.{specs.{declared.moves.Move.Move, Moved.{all_pass, all_true, body_may, changed_flat, event_by, event_may, head_moves, moved_key, key_may, measure_by, moved_head, passing_step}}, proofs.Changed.{Keeps, all_keep, bodies_unchanged, flats_changed}}
-use Rattle.mus_drawn.specs.{declared.standing.StaffState.StaffState, Drawn.standing_after, Drawn.standing_behind, Sounds.Seen, Sounds.all_heads, Sounds.grace_heads, Sounds.seen, Sounds.seen_from, Sounds.seen_in}
+use Rattle.mus_score.specs.declared.score.Event.{Event}
+use Rattle.mus_score.specs.declared.score.Flat.{Flat}
+use Rattle.mus_score.specs.declared.score.Measure.{Measure}
+use Rattle.mus_score.specs.declared.score.Music.{Music}
+use Rattle.mus_score.specs.declared.times.PendingLeaf.{PendingLeaf}
+use Rattle.mus_score.specs.Times.{Leafing, flats_of, in_row, leaf, leaves_step, leaves_within, no_pending_leaf}
+use Rattle.mus_transpose.specs.declared.moves.Move.{Move}
+use Rattle.mus_transpose.specs.Moved.{all_pass, all_true, body_may, changed_flat, event_by, event_may, head_moves}
+use Rattle.mus_transpose.specs.Moved.{moved_key, key_may, measure_by, moved_head, passing_step}
+use Rattle.mus_transpose.proofs.Changed.{Keeps, all_keep, bodies_unchanged, flats_changed}
+use Rattle.mus_drawn.specs.declared.standing.StaffState.{StaffState}
+use Rattle.mus_drawn.specs.Drawn.{standing_after, standing_behind}
+use Rattle.mus_drawn.specs.Sounds.{Seen, all_heads, grace_heads, seen, seen_from, seen_in}
 use Rattle.law_transposition.proofs.Reaching.{Holds, Passed}
 
 -- ---- what is seen is moved

@@ -1,10 +1,35 @@
 -- A moved score sounds so many semitones higher, head by head.
-use Rattle.std.{proofs.{Common.{◌≡◌, refl, sym, subst, ℕ, ◌+◌, zero, Bool, true, false, ◌&&◌, cond, List, [], ◌∷◌, ◌++◌, map, Option, None, arith}, lemmas.{Bool.and_parts, Int.ints, List.map-append}}, specs.{Prelude.{ℤ, pos, unwrap_or}, List.{AllByRecursion, AllZip, list_all, list_any}, Ordering.int_eq}}
-use Rattle.mus_units.specs.{Good.same_letter, declared.key.Key.Key, declared.key.Spread.Spread, declared.note.Head.Head, declared.pitch.Alter.Alter, declared.pitch.Pitch.Pitch}
-use Rattle.{mus_pitch.specs.Alteration.{alteration_of}, mus_score.specs.declared.score.{Score.Score, Voice.Voice}, mus_arcs.specs.Arcs.{has_pitch}}
-use Rattle.mus_drawn.specs.{declared.sounds.Sound.Sound, Drawn.standing_of, Sounds.Seen, Sounds.Sounding, Sounds.alter_by, Sounds.comes_tied, Sounds.event_sounds, Sounds.head_sounds, Sounds.seen_in, Sounds.sounds_as, Sounds.sounds_of, Sounds.tied_sound, Sounds.voice_sounds}
-use Rattle.mus_transpose.specs.{declared.moves.Move.Move, Moved.CanMove, Moved.body_may, Moved.head_moves, Moved.is_near_staff, Moved.key_may, Moved.move_for, Moved.move_from, Moved.moved_head, Moved.moved_pitch, Moved.moved_score, Moved.moved_sign, Moved.sharps_in, Moved.sign_moves, Moved.voice_by, Moved.voice_may}
-use Rattle.law_transposition.{specs.Higher.{AreHigher, IsHigher, MovedSoundsHigher}, proofs.{Circle.{Higher, IsMove, move_is, steps_moved}, Seeing.{SeenMay, joined, moved_seen, seen_in_may, seen_in_moved}, Reaching.{Both, both_cond, carried, each, neither, own_higher, pitch_kept, Holds, Passed, unsigned_higher}}}
+use Rattle.std.proofs.Common.{◌≡◌, refl, sym, subst, ℕ, ◌+◌, zero, Bool, true, false, ◌&&◌, cond, List, [], ◌∷◌, ◌++◌}
+use Rattle.std.proofs.Common.{map, Option, None, arith}
+use Rattle.std.proofs.lemmas.Bool.{and_parts}
+use Rattle.std.proofs.lemmas.Int.{ints}
+use Rattle.std.proofs.lemmas.List.{map-append}
+use Rattle.std.specs.Prelude.{ℤ, pos, unwrap_or}
+use Rattle.std.specs.List.{AllByRecursion, AllZip, list_all, list_any}
+use Rattle.std.specs.Ordering.{int_eq}
+use Rattle.mus_units.specs.Good.{same_letter}
+use Rattle.mus_units.specs.declared.key.Key.{Key}
+use Rattle.mus_units.specs.declared.key.Spread.{Spread}
+use Rattle.mus_units.specs.declared.note.Head.{Head}
+use Rattle.mus_units.specs.declared.pitch.Alter.{Alter}
+use Rattle.mus_units.specs.declared.pitch.Pitch.{Pitch}
+use Rattle.mus_pitch.specs.Alteration.{alteration_of}
+use Rattle.mus_score.specs.declared.score.Score.{Score}
+use Rattle.mus_score.specs.declared.score.Voice.{Voice}
+use Rattle.mus_arcs.specs.Arcs.{has_pitch}
+use Rattle.mus_drawn.specs.declared.sounds.Sound.{Sound}
+use Rattle.mus_drawn.specs.Drawn.{standing_of}
+use Rattle.mus_drawn.specs.Sounds.{Seen, Sounding, alter_by, comes_tied, event_sounds, head_sounds, seen_in, sounds_as}
+use Rattle.mus_drawn.specs.Sounds.{sounds_of, tied_sound, voice_sounds}
+use Rattle.mus_transpose.specs.declared.moves.Move.{Move}
+use Rattle.mus_transpose.specs.Moved.{CanMove, body_may, head_moves, is_near_staff, key_may, move_for, move_from}
+use Rattle.mus_transpose.specs.Moved.{moved_head, moved_pitch, moved_score, moved_sign, sharps_in, sign_moves, voice_by}
+use Rattle.mus_transpose.specs.Moved.{voice_may}
+use Rattle.law_transposition.specs.Higher.{AreHigher, IsHigher, MovedSoundsHigher}
+use Rattle.law_transposition.proofs.Circle.{Higher, IsMove, move_is, steps_moved}
+use Rattle.law_transposition.proofs.Seeing.{SeenMay, joined, moved_seen, seen_in_may, seen_in_moved}
+use Rattle.law_transposition.proofs.Reaching.{Both, both_cond, carried, each, neither, own_higher, pitch_kept, Holds}
+use Rattle.law_transposition.proofs.Reaching.{Passed, unsigned_higher}
 
 -- ---- a head
 

@@ -1,6 +1,9 @@
 -- How a moved score sounds: head by head as the score does, so many semitones higher.
 use Rattle.std.specs.{Prelude.◌≡◌, Prelude.ℤ, Prelude.◌+ℤ◌, Prelude.List, Prelude.Some, List.AllZip}
-use Rattle.{mus_units.specs.declared.key.Key.{Key}, mus_pitch.specs.Steps.{steps}, mus_score.specs.declared.score.Score.{Score}, mus_transpose.specs.Moved.{IsMoved, semitones}}
+use Rattle.mus_units.specs.declared.key.Key.{Key}
+use Rattle.mus_pitch.specs.Steps.{steps}
+use Rattle.mus_score.specs.declared.score.Score.{Score}
+use Rattle.mus_transpose.specs.Moved.{IsMoved, semitones}
 use Rattle.mus_drawn.specs.{declared.sounds.Sound.Sound, Sounds.sounds_of}
 
 -- the same head of the same event and voice, written so many letters higher, sounds so many semitones higher

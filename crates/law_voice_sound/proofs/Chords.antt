@@ -1,10 +1,24 @@
 -- What is read off the notes of a chord, where no two heads have one letter and octave.
-use Rattle.std.{proofs.{Common.{◌≡◌, refl, ap, ◌∙◌, List, [], ◌∷◌, ◌++◌, true, false, ◌||◌, not}, lemmas.{Bool.{and_right, or_parts}, List.Folds.list_any-append}}, specs.{Prelude.{ℤ, Option, Some, None}, List.{AllByRecursion, list_any}, Ordering.int_eq}}
+use Rattle.std.proofs.Common.{◌≡◌, refl, ap, ◌∙◌, List, [], ◌∷◌, ◌++◌, true, false, ◌||◌, not}
+use Rattle.std.proofs.lemmas.Bool.{and_right, or_parts}
+use Rattle.std.proofs.lemmas.List.Folds.{list_any-append}
+use Rattle.std.specs.Prelude.{ℤ, Option, Some, None}
+use Rattle.std.specs.List.{AllByRecursion, list_any}
+use Rattle.std.specs.Ordering.{int_eq}
 use Rattle.mus_units.specs.declared.{note.Head.Head, pitch.Alter.Alter, pitch.Clef.Clef}
-use Rattle.{mus_score.specs.GoodScore.{IsInReach}, mus_arcs.specs.Arcs.{has_pitch}, mus_ink.specs.Notes.{dy_of}, mus_drawn.specs.Hearing.{is_heard_at}}
+use Rattle.mus_score.specs.GoodScore.{IsInReach}
+use Rattle.mus_arcs.specs.Arcs.{has_pitch}
+use Rattle.mus_ink.specs.Notes.{dy_of}
+use Rattle.mus_drawn.specs.Hearing.{is_heard_at}
 use Rattle.mus_drawn.specs.declared.sounds.AlteredHead as score
-use Rattle.ps_heard.{proofs.Places.{itself}, specs.{declared.column.HeardGlyph.HeardGlyph, declared.column.Role.Role, Hearing.gives_key, Hearing.is_head, Hearing.is_sign, Hearing.sign_of_glyph}}
-use Rattle.law_voice_sound.{specs.{Clear.DistinctPitches, Noted.head_notes, Noted.note, Noted.sign_note, Noted.sign_notes}, proofs.{Pitches.{heights_apart, pitch_flip}, Reaching.AllReach}}
+use Rattle.ps_heard.proofs.Places.{itself}
+use Rattle.ps_heard.specs.declared.column.HeardGlyph.{HeardGlyph}
+use Rattle.ps_heard.specs.declared.column.Role.{Role}
+use Rattle.ps_heard.specs.Hearing.{gives_key, is_head, is_sign, sign_of_glyph}
+use Rattle.law_voice_sound.specs.Clear.{DistinctPitches}
+use Rattle.law_voice_sound.specs.Noted.{head_notes, note, sign_note, sign_notes}
+use Rattle.law_voice_sound.proofs.Pitches.{heights_apart, pitch_flip}
+use Rattle.law_voice_sound.proofs.Reaching.{AllReach}
 
 -- what passes over a sign, and over a head, passes over those of a chord
 pub signs_passed : {A : Type 0} (f : List HeardGlyph → A) → ((a : Alter) (dy : ℤ) (ns : List HeardGlyph) → f (note (Role.Sign a) dy ∷ ns) ≡ f ns) → (c : Clef) (hs : List Head) (ns : List HeardGlyph) → f (sign_notes c hs ++ ns) ≡ f ns

@@ -1,16 +1,34 @@
 -- A clear voice is heard at its columns as it sounds.
-use Rattle.std.proofs.{Common.{inl, inr, ◌≡◌, refl, sym, ap, ◌∙◌, subst, Bool, true, false, List, [], ◌∷◌, ◌++◌, map, flat_map, append_assoc, append-nil, Option, Some, None}, lemmas.List.Elements.{All-head, All-tail}}
+use Rattle.std.proofs.Common.{inl, inr, ◌≡◌, refl, sym, ap, ◌∙◌, subst, Bool, true, false, List, [], ◌∷◌, ◌++◌, map}
+use Rattle.std.proofs.Common.{flat_map, append_assoc, append-nil, Option, Some, None}
+use Rattle.std.proofs.lemmas.List.Elements.{All-head, All-tail}
 use Rattle.std.specs.{Prelude.{◌⊎◌, if◌then◌else◌}, List.All}
 use Rattle.mus_units.specs.declared.{key.Spread.Spread, note.Bar.Bar, note.Head.Head, pitch.Clef.Clef}
-use Rattle.mus_score.specs.{declared.score.{Flat.Flat, Measure.Measure}, GoodScore.{AreInReach, events_of}, Times.flats_of}
-use Rattle.mus_drawn.{specs.{declared.{sounds.Sound.Sound, standing.StaffState.StaffState}, Drawn.{standing_after, standing_behind, standing_of}, Sounds.{event_sounds, seen_in}}, proofs.{Reaches.reach_cut, SoundLaws.voices_are}}
-use Rattle.mus_drawn.specs.Hearing.{events_sounds, heard_behind, heard_from, measures_sounds, said_at, said_after, sounds_from}
+use Rattle.mus_score.specs.declared.score.Flat.{Flat}
+use Rattle.mus_score.specs.declared.score.Measure.{Measure}
+use Rattle.mus_score.specs.GoodScore.{AreInReach, events_of}
+use Rattle.mus_score.specs.Times.{flats_of}
+use Rattle.mus_drawn.specs.declared.sounds.Sound.{Sound}
+use Rattle.mus_drawn.specs.declared.standing.StaffState.{StaffState}
+use Rattle.mus_drawn.specs.Drawn.{standing_after, standing_behind, standing_of}
+use Rattle.mus_drawn.specs.Sounds.{event_sounds, seen_in}
+use Rattle.mus_drawn.proofs.Reaches.{reach_cut}
+use Rattle.mus_drawn.proofs.SoundLaws.{voices_are}
+use Rattle.mus_drawn.specs.Hearing.{events_sounds, heard_behind, heard_from, measures_sounds, said_at, said_after}
+use Rattle.mus_drawn.specs.Hearing.{sounds_from}
 use Rattle.mus_drawn.specs.declared.sounds.AlteredHead as score
 use Rattle.ps_heard.specs.declared.column.Heard as page
-use Rattle.ps_heard.{specs.{declared.column.Listener.Listener, Ear.{fresh, hear_column, hear_columns}}, proofs.EarLaws.{columns_append, heard_law}}
-use Rattle.law_voice_sound.specs.{Clear.{AreSeenBars, HaveNoHeads, IsClearFlat}, Sounds.{ClearVoicesAreHeard, heard_sound}}
-use Rattle.law_voice_sound.specs.Columns.{bar_column, heard_events, first_columns, head_column, last_event, last_through, heard_measures, shown_first, standing_through, systems_columns, heard_voice}
-use Rattle.law_voice_sound.proofs.{Openings.head_law, Voices.{IsReady, bar_tells, behind_bar, events_law, first_law, said_through, seen_or_left, sounds_join}}
+use Rattle.ps_heard.specs.declared.column.Listener.{Listener}
+use Rattle.ps_heard.specs.Ear.{fresh, hear_column, hear_columns}
+use Rattle.ps_heard.proofs.EarLaws.{columns_append, heard_law}
+use Rattle.law_voice_sound.specs.Clear.{AreSeenBars, HaveNoHeads, IsClearFlat}
+use Rattle.law_voice_sound.specs.Sounds.{ClearVoicesAreHeard, heard_sound}
+use Rattle.law_voice_sound.specs.Columns.{bar_column, heard_events, first_columns, head_column, last_event}
+use Rattle.law_voice_sound.specs.Columns.{last_through, heard_measures, shown_first, standing_through, systems_columns}
+use Rattle.law_voice_sound.specs.Columns.{heard_voice}
+use Rattle.law_voice_sound.proofs.Openings.{head_law}
+use Rattle.law_voice_sound.proofs.Voices.{IsReady, bar_tells, behind_bar, events_law, first_law, said_through}
+use Rattle.law_voice_sound.proofs.Voices.{seen_or_left, sounds_join}
 
 -- the sounds of a measure behind what was said, and of those behind it; where no note follows, nothing depends on what was said
 abbrev sounds_behind : Spread → StaffState → List Head → List score.AlteredHead → List Flat → (List score.AlteredHead → List Sound) → List Sound

@@ -1,12 +1,40 @@
 -- What a listener knows behind each column of a voice, by what the score has there.
-use Rattle.std.{proofs.{Common.{◌≡◌, refl, sym, ap, ◌∙◌, List, [], ◌∷◌, ◌++◌, map, reverse, append-nil, append_assoc, Bool, true, false, ◌&&◌, ◌||◌, cond}, lemmas.{Bool.or_parts, Grind.reverse_onto, List.map-append}}, specs.{Prelude.{⊤, ℤ, Option, Some, None, unwrap_or, if◌then◌else◌}, List.{find, list_any}, Option.{option_map, option_and_then}, Ordering.int_eq}}
-use Rattle.mus_units.specs.declared.{key.Sign.Sign, key.Spread.Spread, note.Head.Head, pitch.Alter.Alter, pitch.Clef.Clef, pitch.Pitch.Pitch}
-use Rattle.{mus_pitch.specs.Alteration.{is_said, key_sign, said_sign}, mus_arcs.specs.Arcs.{has_pitch}, mus_ink.specs.Notes.{dy_of}, mus_drawn.specs.Hearing.{heard, heard_alter, heard_from, is_heard_at, is_tied_to, partner_of}}
+use Rattle.std.proofs.Common.{◌≡◌, refl, sym, ap, ◌∙◌, List, [], ◌∷◌, ◌++◌, map, reverse, append-nil, append_assoc}
+use Rattle.std.proofs.Common.{Bool, true, false, ◌&&◌, ◌||◌, cond}
+use Rattle.std.proofs.lemmas.Bool.{or_parts}
+use Rattle.std.proofs.lemmas.Grind.{reverse_onto}
+use Rattle.std.proofs.lemmas.List.{map-append}
+use Rattle.std.specs.Prelude.{⊤, ℤ, Option, Some, None, unwrap_or, if◌then◌else◌}
+use Rattle.std.specs.List.{find, list_any}
+use Rattle.std.specs.Option.{option_map, option_and_then}
+use Rattle.std.specs.Ordering.{int_eq}
+use Rattle.mus_units.specs.declared.key.Sign.{Sign}
+use Rattle.mus_units.specs.declared.key.Spread.{Spread}
+use Rattle.mus_units.specs.declared.note.Head.{Head}
+use Rattle.mus_units.specs.declared.pitch.Alter.{Alter}
+use Rattle.mus_units.specs.declared.pitch.Clef.{Clef}
+use Rattle.mus_units.specs.declared.pitch.Pitch.{Pitch}
+use Rattle.mus_pitch.specs.Alteration.{is_said, key_sign, said_sign}
+use Rattle.mus_arcs.specs.Arcs.{has_pitch}
+use Rattle.mus_ink.specs.Notes.{dy_of}
+use Rattle.mus_drawn.specs.Hearing.{heard, heard_alter, heard_from, is_heard_at, is_tied_to, partner_of}
 use Rattle.mus_drawn.specs.declared.sounds.AlteredHead as score
 use Rattle.ps_heard.specs.declared.column.Heard as page
-use Rattle.ps_heard.{proofs.EarLaws.{ear_with, walked}, specs.{declared.column.{HeardColumn.HeardColumn, Listener.Listener, HeardGlyph.HeardGlyph, Role.Role}, Ear.{column_closed, hear_column}, Roles.pitch_at}}
-use Rattle.ps_heard.specs.Hearing.{clef_behind, entries, first_there, gives_key, head_of_glyph, heads_from, heard_of_glyph, is_head, last_or, said_with_column, said_with, sign_of_glyph, tied_from}
-use Rattle.law_voice_sound.{specs.{Clear.DistinctPitches, Columns.chord_column, Noted.head_notes, Noted.note}, proofs.Chords.{NoneHeard, SignsRead, chord_key, heads_passed, none_heard, none_more, signs_passed, signs_read}}
+use Rattle.ps_heard.proofs.EarLaws.{ear_with, walked}
+use Rattle.ps_heard.specs.declared.column.HeardColumn.{HeardColumn}
+use Rattle.ps_heard.specs.declared.column.Listener.{Listener}
+use Rattle.ps_heard.specs.declared.column.HeardGlyph.{HeardGlyph}
+use Rattle.ps_heard.specs.declared.column.Role.{Role}
+use Rattle.ps_heard.specs.Ear.{column_closed, hear_column}
+use Rattle.ps_heard.specs.Roles.{pitch_at}
+use Rattle.ps_heard.specs.Hearing.{clef_behind, entries, first_there, gives_key, head_of_glyph, heads_from}
+use Rattle.ps_heard.specs.Hearing.{heard_of_glyph, is_head, last_or, said_with_column, said_with, sign_of_glyph}
+use Rattle.ps_heard.specs.Hearing.{tied_from}
+use Rattle.law_voice_sound.specs.Clear.{DistinctPitches}
+use Rattle.law_voice_sound.specs.Columns.{chord_column}
+use Rattle.law_voice_sound.specs.Noted.{head_notes, note}
+use Rattle.law_voice_sound.proofs.Chords.{NoneHeard, SignsRead, chord_key, heads_passed, none_heard, none_more}
+use Rattle.law_voice_sound.proofs.Chords.{signs_passed, signs_read}
 use Rattle.law_voice_sound.proofs.{Pitches.{pitch_found, pitch_read}, Reaching.{AllReach, TiesEnd, as_heard, ties_to}}
 
 -- a head as a page shows it

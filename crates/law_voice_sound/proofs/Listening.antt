@@ -1,7 +1,18 @@
 -- A listener hears of columns what is of account in them.
-use Rattle.std.{proofs.{Common.{◌≡◌, refl, sym, ap, ◌∙◌, ℤ, Bool, true, false, ◌||◌, List, [], ◌∷◌, ◌++◌, append-nil}, lemmas.Bool.{false≢true, or_parts}}, specs.{Prelude.{if◌then◌else◌}, List.{list_any}}}
-use Rattle.{mus_units.specs.declared.key.Spread.{Spread}, law_voice_sound.specs.Listened.{has_notes, is_listed, is_told, plain, columns_heard}}
-use Rattle.ps_heard.{specs.{declared.column.{HeardColumn.HeardColumn, Listener.Listener, Heard.Heard, HeardGlyph.HeardGlyph, Role.Role}, Ear.{column_closed, fresh, hear_column, hear_columns, hear_from, hear_one, column_opened}, Hearing.{heard_of, last_or}}, proofs.EarLaws.heard_law}
+use Rattle.std.proofs.Common.{◌≡◌, refl, sym, ap, ◌∙◌, ℤ, Bool, true, false, ◌||◌, List, [], ◌∷◌, ◌++◌, append-nil}
+use Rattle.std.proofs.lemmas.Bool.{false≢true, or_parts}
+use Rattle.std.specs.Prelude.{if◌then◌else◌}
+use Rattle.std.specs.List.{list_any}
+use Rattle.mus_units.specs.declared.key.Spread.{Spread}
+use Rattle.law_voice_sound.specs.Listened.{has_notes, is_listed, is_told, plain, columns_heard}
+use Rattle.ps_heard.specs.declared.column.HeardColumn.{HeardColumn}
+use Rattle.ps_heard.specs.declared.column.Listener.{Listener}
+use Rattle.ps_heard.specs.declared.column.Heard.{Heard}
+use Rattle.ps_heard.specs.declared.column.HeardGlyph.{HeardGlyph}
+use Rattle.ps_heard.specs.declared.column.Role.{Role}
+use Rattle.ps_heard.specs.Ear.{column_closed, fresh, hear_column, hear_columns, hear_from, hear_one, column_opened}
+use Rattle.ps_heard.specs.Hearing.{heard_of, last_or}
+use Rattle.ps_heard.proofs.EarLaws.{heard_law}
 
 pub told_join : (xs ys : List HeardColumn) → columns_heard (xs ++ ys) ≡ columns_heard xs ++ columns_heard ys
 told_join [] ys = refl

@@ -1,11 +1,32 @@
 -- What a listener knows behind the head of a system, a change and a bar.
-use Rattle.std.{proofs.{Common.{◌≡◌, refl, ap, ◌∙◌, List, [], ◌∷◌, ◌++◌, map, append-nil, Bool, true, false, cond, not}}, specs.{Prelude.{ℤ, pos, Option, Some, None, unwrap_or, if◌then◌else◌}, List.{find, list_any}, Option.option_map}}
-use Rattle.mus_units.specs.{Good.same_letter, declared.{key.Key.Key, key.Sign.Sign, key.Spread.Spread, note.Head.Head, pitch.Alter.Alter, pitch.Clef.Clef, pitch.Pitch.Pitch}}
-use Rattle.{mus_pitch.specs.Alteration.{key_sign}, mus_ink.specs.{Drawing.steps_dy, Kinds.clef_row, Signatures.entry_dy}}
+use Rattle.std.proofs.Common.{◌≡◌, refl, ap, ◌∙◌, List, [], ◌∷◌, ◌++◌, map, append-nil, Bool, true, false, cond, not}
+use Rattle.std.specs.Prelude.{ℤ, pos, Option, Some, None, unwrap_or, if◌then◌else◌}
+use Rattle.std.specs.List.{find, list_any}
+use Rattle.std.specs.Option.{option_map}
+use Rattle.mus_units.specs.Good.{same_letter}
+use Rattle.mus_units.specs.declared.key.Key.{Key}
+use Rattle.mus_units.specs.declared.key.Sign.{Sign}
+use Rattle.mus_units.specs.declared.key.Spread.{Spread}
+use Rattle.mus_units.specs.declared.note.Head.{Head}
+use Rattle.mus_units.specs.declared.pitch.Alter.{Alter}
+use Rattle.mus_units.specs.declared.pitch.Clef.{Clef}
+use Rattle.mus_units.specs.declared.pitch.Pitch.{Pitch}
+use Rattle.mus_pitch.specs.Alteration.{key_sign}
+use Rattle.mus_ink.specs.Drawing.{steps_dy}
+use Rattle.mus_ink.specs.Kinds.{clef_row}
+use Rattle.mus_ink.specs.Signatures.{entry_dy}
 use Rattle.mus_drawn.specs.declared.sounds.AlteredHead as score
 use Rattle.ps_heard.specs.declared.column.Heard as page
-use Rattle.ps_heard.specs.{declared.column.{HeardColumn.HeardColumn, Listener.Listener, HeardGlyph.HeardGlyph, Role.Role}, Ear.hear_column, Hearing.{clef_behind, entries, gives_key, heads_from, is_head, said_with_column}}
-use Rattle.law_voice_sound.{specs.Noted.{change_notes, change_signs, clef_notes, entry_notes, head_column_notes, naturals, new_signs, note}, proofs.{Columns.{Hears, SameKey, column_law, shown_head}, Pitches.entries_read}}
+use Rattle.ps_heard.specs.declared.column.HeardColumn.{HeardColumn}
+use Rattle.ps_heard.specs.declared.column.Listener.{Listener}
+use Rattle.ps_heard.specs.declared.column.HeardGlyph.{HeardGlyph}
+use Rattle.ps_heard.specs.declared.column.Role.{Role}
+use Rattle.ps_heard.specs.Ear.{hear_column}
+use Rattle.ps_heard.specs.Hearing.{clef_behind, entries, gives_key, heads_from, is_head, said_with_column}
+use Rattle.law_voice_sound.specs.Noted.{change_notes, change_signs, clef_notes, entry_notes, head_column_notes}
+use Rattle.law_voice_sound.specs.Noted.{naturals, new_signs, note}
+use Rattle.law_voice_sound.proofs.Columns.{Hears, SameKey, column_law, shown_head}
+use Rattle.law_voice_sound.proofs.Pitches.{entries_read}
 
 -- what passes over a sign and a clef passes over those of a column
 entries_passed : {A : Type 0} (f : List HeardGlyph → A) → ((a : Alter) (dy : ℤ) (ns : List HeardGlyph) → f (note (Role.Sign a) dy ∷ ns) ≡ f ns) → (c : Clef) (ss : List Sign) → f (entry_notes c ss) ≡ f []

@@ -1,8 +1,31 @@
 -- A head's pitch is read off its height, and a key's entries off theirs.
-use Rattle.std.{proofs.{Common.{◌≡◌, refl, sym, ap, ◌∙◌, ℕ, ◌<◌, List, [], ◌∷◌, true, false, arith}, lemmas.{Bool.{and_parts, eqb-true, false≢true, false_from_ne_true, Decides.nat_tests}, Int.{ints, clamps}}}, specs.{Prelude.{ℤ, pos, negsuc, ◌+ℤ◌, ◌*ℤ◌}, Int.{int_div_euclid, int_rem_euclid, RustNames.unsigned_abs}, List.slice_index_or, Ordering.int_eq}}
-use Rattle.mus_units.specs.{Good.same_letter, Pitch.bottom_of, Pitch.height_of, Pitch.letter_number, declared.{key.Sign.Sign, note.Head.Head, pitch.Alter.Alter, pitch.Clef.Clef, pitch.Letter.Letter, pitch.Pitch.Pitch}}
-use Rattle.{mus_pitch.specs.Steps.{pitch_of_steps, scale_letters}, mus_score.specs.GoodScore.{IsInReach}, mus_arcs.specs.Arcs.{has_pitch}, mus_ink.specs.{Drawing.cut_dy, Drawing.steps_dy, Notes.dy_of, Signatures.entry_dy}}
-use Rattle.{ps_heard.{proofs.Places.{eq_is}, specs.{Hearing.entries, Roles.pitch_at}}, law_voice_sound.specs.Noted.{entry_notes}}
+use Rattle.std.proofs.Common.{◌≡◌, refl, sym, ap, ◌∙◌, ℕ, ◌<◌, List, [], ◌∷◌, true, false, arith}
+use Rattle.std.proofs.lemmas.Bool.{and_parts, eqb-true, false≢true, false_from_ne_true}
+use Rattle.std.proofs.lemmas.Bool.Decides.{nat_tests}
+use Rattle.std.proofs.lemmas.Int.{ints, clamps}
+use Rattle.std.specs.Prelude.{ℤ, pos, negsuc, ◌+ℤ◌, ◌*ℤ◌}
+use Rattle.std.specs.Int.{int_div_euclid, int_rem_euclid}
+use Rattle.std.specs.Int.RustNames.{unsigned_abs}
+use Rattle.std.specs.List.{slice_index_or}
+use Rattle.std.specs.Ordering.{int_eq}
+use Rattle.mus_units.specs.Good.{same_letter}
+use Rattle.mus_units.specs.Pitch.{bottom_of, height_of, letter_number}
+use Rattle.mus_units.specs.declared.key.Sign.{Sign}
+use Rattle.mus_units.specs.declared.note.Head.{Head}
+use Rattle.mus_units.specs.declared.pitch.Alter.{Alter}
+use Rattle.mus_units.specs.declared.pitch.Clef.{Clef}
+use Rattle.mus_units.specs.declared.pitch.Letter.{Letter}
+use Rattle.mus_units.specs.declared.pitch.Pitch.{Pitch}
+use Rattle.mus_pitch.specs.Steps.{pitch_of_steps, scale_letters}
+use Rattle.mus_score.specs.GoodScore.{IsInReach}
+use Rattle.mus_arcs.specs.Arcs.{has_pitch}
+use Rattle.mus_ink.specs.Drawing.{cut_dy, steps_dy}
+use Rattle.mus_ink.specs.Notes.{dy_of}
+use Rattle.mus_ink.specs.Signatures.{entry_dy}
+use Rattle.ps_heard.proofs.Places.{eq_is}
+use Rattle.ps_heard.specs.Hearing.{entries}
+use Rattle.ps_heard.specs.Roles.{pitch_at}
+use Rattle.law_voice_sound.specs.Noted.{entry_notes}
 
 -- ---- heads
 div_is : (w z : ℤ) → w ≡ pos 250 *ℤ z → int_div_euclid w (pos 250) ≡ z

@@ -1,8 +1,20 @@
 -- The ties that end in the column of an event end at just the heads to which one of the event before is tied.
-use Rattle.std.proofs.{Common.{◌≡◌, refl, sym, ap, ◌∙◌, Bool, true, false, cond, ◌&&◌, ◌||◌, List, [], ◌∷◌, Some}, Math.Bool.{and-false, and-true, or-false, or-true}, lemmas.List.Folds.{list_any-append}}
+use Rattle.std.proofs.Common.{◌≡◌, refl, sym, ap, ◌∙◌, Bool, true, false, cond, ◌&&◌, ◌||◌, List, [], ◌∷◌, Some}
+use Rattle.std.proofs.Math.Bool.{and-false, and-true, or-false, or-true}
+use Rattle.std.proofs.lemmas.List.Folds.{list_any-append}
 use Rattle.std.specs.{Prelude.{if◌then◌else◌}, List.{find, list_any}, Ordering.int_eq}
-use Rattle.{mus_units.specs.{declared.{note.Head.Head, pitch.Clef.Clef, pitch.Pitch.Pitch}, Pitch.height_of}, mus_score.specs.GoodScore.{IsInReach}, mus_arcs.specs.Arcs.{has_pitch}, mus_ink.specs.{Drawing.steps_dy, Notes.dy_of}}
-use Rattle.{ps_heard.proofs.Places.{itself}, law_voice_sound.{specs.Columns.{height_if, tie_heights}, proofs.{Pitches.{heights_apart, pitch_flip, pitch_found}, Reaching.{AllReach, TiesEnd, ties_to}}}}
+use Rattle.mus_units.specs.declared.note.Head.{Head}
+use Rattle.mus_units.specs.declared.pitch.Clef.{Clef}
+use Rattle.mus_units.specs.declared.pitch.Pitch.{Pitch}
+use Rattle.mus_units.specs.Pitch.{height_of}
+use Rattle.mus_score.specs.GoodScore.{IsInReach}
+use Rattle.mus_arcs.specs.Arcs.{has_pitch}
+use Rattle.mus_ink.specs.Drawing.{steps_dy}
+use Rattle.mus_ink.specs.Notes.{dy_of}
+use Rattle.ps_heard.proofs.Places.{itself}
+use Rattle.law_voice_sound.specs.Columns.{height_if, tie_heights}
+use Rattle.law_voice_sound.proofs.Pitches.{heights_apart, pitch_flip, pitch_found}
+use Rattle.law_voice_sound.proofs.Reaching.{AllReach, TiesEnd, ties_to}
 
 -- heights tell heads
 height_tells : (c : Clef) (h g : Head) (b : Bool) → has_pitch g.pitch h ≡ b → IsInReach c h → IsInReach c g → int_eq (dy_of c h) (dy_of c g) ≡ b

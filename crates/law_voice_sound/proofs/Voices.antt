@@ -1,16 +1,44 @@
 -- What is heard at the columns of a clear voice is what the voice sounds.
-use Rattle.std.proofs.{Common.{inl, inr, ◌≡◌, refl, sym, ap, ◌∙◌, ℕ, ◌+◌, pos, Bool, true, false, ◌&&◌, ◌||◌, List, [], ◌∷◌, ◌++◌, map, flat_map, append_assoc, append-nil, Option, Some, None}}
-use Rattle.std.{proofs.lemmas.List.{map-append, Elements.{All-head, All-tail}}, specs.{Prelude.{◌⊎◌, if◌then◌else◌}, List.All}}
-use Rattle.mus_units.specs.declared.{glyph.Glyph.Glyph, key.Sign.Sign, key.Spread.Spread, note.Bar.Bar, note.Head.Head, pitch.Clef.Clef}
-use Rattle.mus_score.specs.{declared.score.{Event.Event, Flat.Flat, Measure.Measure}, GoodScore.{AreInReach, IsInReach, clef_at}}
-use Rattle.{mus_onsets.specs.Keys.{has_features}, mus_ink.specs.Bars.{bar_glyph}, mus_drawn.specs.{declared.sounds.Sound.Sound, declared.standing.StaffState.StaffState, Drawn.{standing_after, standing_behind}}}
+use Rattle.std.proofs.Common.{inl, inr, ◌≡◌, refl, sym, ap, ◌∙◌, ℕ, ◌+◌, pos, Bool, true, false, ◌&&◌, ◌||◌, List, []}
+use Rattle.std.proofs.Common.{◌∷◌, ◌++◌, map, flat_map, append_assoc, append-nil, Option, Some, None}
+use Rattle.std.proofs.lemmas.List.{map-append}
+use Rattle.std.proofs.lemmas.List.Elements.{All-head, All-tail}
+use Rattle.std.specs.Prelude.{◌⊎◌, if◌then◌else◌}
+use Rattle.std.specs.List.{All}
+use Rattle.mus_units.specs.declared.glyph.Glyph.{Glyph}
+use Rattle.mus_units.specs.declared.key.Sign.{Sign}
+use Rattle.mus_units.specs.declared.key.Spread.{Spread}
+use Rattle.mus_units.specs.declared.note.Bar.{Bar}
+use Rattle.mus_units.specs.declared.note.Head.{Head}
+use Rattle.mus_units.specs.declared.pitch.Clef.{Clef}
+use Rattle.mus_score.specs.declared.score.Event.{Event}
+use Rattle.mus_score.specs.declared.score.Flat.{Flat}
+use Rattle.mus_score.specs.declared.score.Measure.{Measure}
+use Rattle.mus_score.specs.GoodScore.{AreInReach, IsInReach, clef_at}
+use Rattle.mus_onsets.specs.Keys.{has_features}
+use Rattle.mus_ink.specs.Bars.{bar_glyph}
+use Rattle.mus_drawn.specs.declared.sounds.Sound.{Sound}
+use Rattle.mus_drawn.specs.declared.standing.StaffState.{StaffState}
+use Rattle.mus_drawn.specs.Drawn.{standing_after, standing_behind}
 use Rattle.mus_drawn.specs.Hearing.{events_sounds, heard_at, heard_behind, said_at, said_after, sounds_from}
 use Rattle.mus_drawn.specs.declared.sounds.AlteredHead as score
 use Rattle.ps_heard.specs.declared.column.Heard as page
-use Rattle.ps_heard.{specs.{declared.column.{Listener.Listener, Role.Role}, Columns.noted, Ear.{hear_column, hear_columns}, Roles.role_of}, proofs.EarLaws.{columns_append}}
-use Rattle.law_voice_sound.specs.{Clear.{DistinctPitches, AreSilentMeasures, IsClearFlat}, Noted.{note}, Sounds.heard_sound}
-use Rattle.law_voice_sound.specs.Columns.{bar_column, change_columns, chord_column, event_columns, heard_events, first_columns, grace_columns, last_event, state_shown, tie_heights}
-use Rattle.law_voice_sound.proofs.{Columns.{Hears, grace_law, heads_heard, heads_in, note_law}, Listening.nothing_told, Openings.{bar_law, change_law}, Reaching.{AllReach, as_heard}, Ties.ties_end}
+use Rattle.ps_heard.specs.declared.column.Listener.{Listener}
+use Rattle.ps_heard.specs.declared.column.Role.{Role}
+use Rattle.ps_heard.specs.Columns.{noted}
+use Rattle.ps_heard.specs.Ear.{hear_column, hear_columns}
+use Rattle.ps_heard.specs.Roles.{role_of}
+use Rattle.ps_heard.proofs.EarLaws.{columns_append}
+use Rattle.law_voice_sound.specs.Clear.{DistinctPitches, AreSilentMeasures, IsClearFlat}
+use Rattle.law_voice_sound.specs.Noted.{note}
+use Rattle.law_voice_sound.specs.Sounds.{heard_sound}
+use Rattle.law_voice_sound.specs.Columns.{bar_column, change_columns, chord_column, event_columns, heard_events}
+use Rattle.law_voice_sound.specs.Columns.{first_columns, grace_columns, last_event, state_shown, tie_heights}
+use Rattle.law_voice_sound.proofs.Columns.{Hears, grace_law, heads_heard, heads_in, note_law}
+use Rattle.law_voice_sound.proofs.Listening.{nothing_told}
+use Rattle.law_voice_sound.proofs.Openings.{bar_law, change_law}
+use Rattle.law_voice_sound.proofs.Reaching.{AllReach, as_heard}
+use Rattle.law_voice_sound.proofs.Ties.{ties_end}
 
 -- what a listener knows who stands where the voice does
 pub record Knows (ear : Listener) (at : StaffState) (said : List Head) (before : List score.AlteredHead) (prev : List Head) (all : List page.Heard) : Type 0 where

@@ -1,8 +1,15 @@
 -- A clear voice: no chord, those of graces too, has two heads of one letter and octave, and no note follows an unseen bar
 -- behind a measure. Of the bar before the first measure nothing is asked: no note was heard before it.
 use Rattle.std.specs.{Prelude.{⊤, ◌≡◌, ◌⊎◌, false, List, [], ◌∷◌, All}, List.list_any}
-use Rattle.{mus_units.specs.declared.{glyph.Glyph.Glyph, note.Head.Head}, mus_arcs.specs.Arcs.{has_pitch}, mus_ink.specs.Bars.{bar_glyph}}
-use Rattle.mus_score.specs.{declared.score.Flat.Flat, declared.score.Measure.Measure, declared.score.Score.Score, declared.score.Voice.Voice, Times.flats_of}
+use Rattle.mus_units.specs.declared.glyph.Glyph.{Glyph}
+use Rattle.mus_units.specs.declared.note.Head.{Head}
+use Rattle.mus_arcs.specs.Arcs.{has_pitch}
+use Rattle.mus_ink.specs.Bars.{bar_glyph}
+use Rattle.mus_score.specs.declared.score.Flat.{Flat}
+use Rattle.mus_score.specs.declared.score.Measure.{Measure}
+use Rattle.mus_score.specs.declared.score.Score.{Score}
+use Rattle.mus_score.specs.declared.score.Voice.{Voice}
+use Rattle.mus_score.specs.Times.{flats_of}
 
 abbrev pub DistinctPitches : List Head → Type 0
 DistinctPitches [] = ⊤

@@ -2,9 +2,20 @@
 -- the event before are carried along. In the column of an event the ties end that come from the event before it.
 use Rattle.std.specs.{Prelude.{ℤ, Bool, true, false, if◌then◌else◌, List, [], ◌∷◌, ◌++◌, Option, Some, None}, List.find}
 use Rattle.mus_units.specs.declared.{note.Bar.Bar, note.Head.Head, pitch.Clef.Clef}
-use Rattle.mus_score.specs.{declared.score.Event.Event, declared.score.Flat.Flat, declared.score.Measure.Measure, declared.score.Voice.Voice, GoodScore.clef_at, Times.flats_of}
-use Rattle.{mus_onsets.specs.Keys.{has_features}, mus_arcs.specs.Arcs.{has_pitch}, mus_ink.specs.Notes.{dy_of}, mus_drawn.specs.{declared.standing.StaffState.StaffState, Drawn.standing_after, Drawn.standing_behind, Drawn.standing_of}}
-use Rattle.{ps_heard.specs.{declared.column.HeardColumn.HeardColumn, declared.column.Role.Role}, law_voice_sound.specs.Noted.{bar_notes, change_notes, head_column_notes, head_notes, sign_notes}}
+use Rattle.mus_score.specs.declared.score.Event.{Event}
+use Rattle.mus_score.specs.declared.score.Flat.{Flat}
+use Rattle.mus_score.specs.declared.score.Measure.{Measure}
+use Rattle.mus_score.specs.declared.score.Voice.{Voice}
+use Rattle.mus_score.specs.GoodScore.{clef_at}
+use Rattle.mus_score.specs.Times.{flats_of}
+use Rattle.mus_onsets.specs.Keys.{has_features}
+use Rattle.mus_arcs.specs.Arcs.{has_pitch}
+use Rattle.mus_ink.specs.Notes.{dy_of}
+use Rattle.mus_drawn.specs.declared.standing.StaffState.{StaffState}
+use Rattle.mus_drawn.specs.Drawn.{standing_after, standing_behind, standing_of}
+use Rattle.ps_heard.specs.declared.column.HeardColumn.{HeardColumn}
+use Rattle.ps_heard.specs.declared.column.Role.{Role}
+use Rattle.law_voice_sound.specs.Noted.{bar_notes, change_notes, head_column_notes, head_notes, sign_notes}
 
 -- the heights at which the ties from one event end at the heads of the next: each at the first of its letter and octave
 abbrev pub height_if : Clef → Option Head → List ℤ

@@ -1,6 +1,8 @@
 -- What a listener heeds of columns: a column that leads or has a note, and of its ties those that end where a head is.
 use Rattle.std.specs.{Prelude.{Bool, true, false, ◌||◌, if◌then◌else◌, List, [], ◌∷◌}, List.list_any}
-use Rattle.ps_heard.specs.{declared.column.HeardColumn.HeardColumn, declared.column.HeardGlyph.HeardGlyph, declared.column.Role.Role}
+use Rattle.ps_heard.specs.declared.column.HeardColumn.{HeardColumn}
+use Rattle.ps_heard.specs.declared.column.HeardGlyph.{HeardGlyph}
+use Rattle.ps_heard.specs.declared.column.Role.{Role}
 
 abbrev pub is_listed : Role → Bool
 is_listed Role.Head = true

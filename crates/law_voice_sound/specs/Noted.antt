@@ -1,8 +1,16 @@
 -- What a listener notes of the parts that a voice draws: clefs, entries, signs, heads and bars; all else is quiet.
 use Rattle.std.specs.Prelude.{ℤ, pos, List, [], ◌∷◌, ◌++◌, Option, Some, None}
-use Rattle.mus_units.specs.declared.{key.Key.Key, key.Sign.Sign, note.Bar.Bar, note.Head.Head, pitch.Alter.Alter, pitch.Clef.Clef}
+use Rattle.mus_units.specs.declared.key.Key.{Key}
+use Rattle.mus_units.specs.declared.key.Sign.{Sign}
+use Rattle.mus_units.specs.declared.note.Bar.{Bar}
+use Rattle.mus_units.specs.declared.note.Head.{Head}
+use Rattle.mus_units.specs.declared.pitch.Alter.{Alter}
+use Rattle.mus_units.specs.declared.pitch.Clef.{Clef}
 use Rattle.mus_ink.specs.{Bars.bar_glyph, Drawing.steps_dy, Kinds.clef_row, Notes.dy_of, Signatures.entry_dy}
-use Rattle.ps_heard.specs.{declared.column.HeardGlyph.HeardGlyph, declared.column.Role.Role, Columns.noted, Roles.role_of}
+use Rattle.ps_heard.specs.declared.column.HeardGlyph.{HeardGlyph}
+use Rattle.ps_heard.specs.declared.column.Role.{Role}
+use Rattle.ps_heard.specs.Columns.{noted}
+use Rattle.ps_heard.specs.Roles.{role_of}
 
 abbrev pub note : Role → ℤ → HeardGlyph
 note role dy = record { role = role; dy = dy }

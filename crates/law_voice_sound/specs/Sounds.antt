@@ -1,8 +1,14 @@
 -- What the heads of a voice sound, in order, as a listener hears it; and the law that they are heard so.
 use Rattle.std.specs.Prelude.{◌≡◌, List, map, flat_map, []}
-use Rattle.{mus_units.specs.declared.key.Spread.{Spread}, mus_score.specs.{declared.score.Measure.Measure, declared.score.Voice.Voice, GoodScore.IsGoodVoice}}
+use Rattle.mus_units.specs.declared.key.Spread.{Spread}
+use Rattle.mus_score.specs.declared.score.Measure.{Measure}
+use Rattle.mus_score.specs.declared.score.Voice.{Voice}
+use Rattle.mus_score.specs.GoodScore.{IsGoodVoice}
 use Rattle.mus_drawn.specs.{declared.sounds.Sound.Sound, Drawn.standing_of, Sounds.event_sounds, Sounds.seen_in}
-use Rattle.{ps_heard.specs.{declared.column.Heard.Heard, Hearing.heard_of}, law_voice_sound.specs.{Clear.IsClearVoice, Columns.heard_voice}}
+use Rattle.ps_heard.specs.declared.column.Heard.{Heard}
+use Rattle.ps_heard.specs.Hearing.{heard_of}
+use Rattle.law_voice_sound.specs.Clear.{IsClearVoice}
+use Rattle.law_voice_sound.specs.Columns.{heard_voice}
 
 abbrev pub heard_sound : Sound → Heard
 heard_sound x = record { pitch = x.pitch; alter = x.alter }

@@ -1,6 +1,11 @@
 -- The list that the table leads back is the chosen one.
-use Rattle.std.proofs.{Common.{◌≡◌, ℕ, ◌+◌, ◌<◌, ◌≤◌, Bool, List, [], ◌∷◌, Option, Some, None, unwrap_or, refl, sym, ◌∙◌, subst, arith, inl, inr, slice_index, slice_index_or}, lemmas.{Bool.{cases_lt, cases_eq}, Option.{none-some, same_Some}}}
-use Rattle.lay_breaks.specs.{Breaking.LexAtMost, Table.{top, IsLegalSpan, IsBack, sum_back, LeadsToBar, IsRow, IsLeastBack, IsBreakTable, LeadsBack}}
+use Rattle.std.proofs.Common.{◌≡◌, ℕ, ◌+◌, ◌<◌, ◌≤◌, Bool, List, [], ◌∷◌, Option, Some, None, unwrap_or, refl, sym, ◌∙◌}
+use Rattle.std.proofs.Common.{subst, arith, inl, inr, slice_index, slice_index_or}
+use Rattle.std.proofs.lemmas.Bool.{cases_lt, cases_eq}
+use Rattle.std.proofs.lemmas.Option.{none-some, same_Some}
+use Rattle.lay_breaks.specs.Breaking.{LexAtMost}
+use Rattle.lay_breaks.specs.Table.{top, IsLegalSpan, IsBack, sum_back, LeadsToBar, IsRow, IsLeastBack, IsBreakTable}
+use Rattle.lay_breaks.specs.Table.{LeadsBack}
 
 -- read from its end, r is the best list that ends at bar i, and the last of equals
 pub record IsChosenBack (cost : ℕ → ℕ → Option ℕ) (forced : ℕ → Bool) (i : ℕ) (r : List ℕ) : Type 0 where

@@ -1,5 +1,6 @@
 -- Only one breaking is chosen.
-use Rattle.std.proofs.{Common.{◌≡◌, ℕ, inl, inr, List, [], ◌∷◌, reverse, refl, sym, ◌∙◌, ap, arith}, lemmas.List.reverse-reverse}
+use Rattle.std.proofs.Common.{◌≡◌, ℕ, inl, inr, List, [], ◌∷◌, reverse, refl, sym, ◌∙◌, ap, arith}
+use Rattle.std.proofs.lemmas.List.{reverse-reverse}
 use Rattle.lay_breaks.specs.Breaking.{LexAtMost, sum_from, OneIsChosen}
 
 lex_same : (xs ys : List ℕ) → LexAtMost xs ys → LexAtMost ys xs → xs ≡ ys

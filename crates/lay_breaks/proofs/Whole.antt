@@ -1,6 +1,12 @@
 -- From the table to all legal breakings.
-use Rattle.std.proofs.{Common.{◌≡◌, ℕ, ◌≤◌, Bool, false, List, reverse, Option, Some, None, IsSome, refl, sym, ◌∙◌, ap, subst, arith, slice_index_or}, lemmas.List.reverse-reverse}
-use Rattle.lay_breaks.{specs.{Breaking.{IsLegal, sum_from, LexAtMost, IsPotential, IsChosen, IsReached, IsLeastSum, NoneLegal}, Table.{top, IsBack, sum_back, IsBreakTable, LeadsBack, IsLeastBack}}, proofs.{Ends.{back_legal, legal_back, sum_reverse}, Choice.{IsChosenBack, table_none, table_some, follows_chosen}}}
+use Rattle.std.proofs.Common.{◌≡◌, ℕ, ◌≤◌, Bool, false, List, reverse, Option, Some, None, IsSome, refl, sym, ◌∙◌, ap}
+use Rattle.std.proofs.Common.{subst, arith, slice_index_or}
+use Rattle.std.proofs.lemmas.List.{reverse-reverse}
+use Rattle.lay_breaks.specs.Breaking.{IsLegal, sum_from, LexAtMost, IsPotential, IsChosen, IsReached, IsLeastSum}
+use Rattle.lay_breaks.specs.Breaking.{NoneLegal}
+use Rattle.lay_breaks.specs.Table.{top, IsBack, sum_back, IsBreakTable, LeadsBack, IsLeastBack}
+use Rattle.lay_breaks.proofs.Ends.{back_legal, legal_back, sum_reverse}
+use Rattle.lay_breaks.proofs.Choice.{IsChosenBack, table_none, table_some, follows_chosen}
 
 module _ (cost : ℕ → ℕ → Option ℕ) (forced : ℕ → Bool) (free : forced 0 ≡ false) where
   -- what holds of each list of spans to bar i, read forwards, holds of each legal list

@@ -1,5 +1,8 @@
 -- What an error of `least` says: NoWay that no legal breaking exists, and how far a legal prefix goes; Memory nothing.
-use Rattle.{std.specs.Prelude.{ℕ, Bool, Option}, lay_breaks.specs.{Breaking.{NoneLegal, IsReached}, declared.breaking.BreakError.{BreakError, TheVariants.{NoWay, Memory}}}}
+use Rattle.std.specs.Prelude.{ℕ, Bool, Option}
+use Rattle.lay_breaks.specs.Breaking.{NoneLegal, IsReached}
+use Rattle.lay_breaks.specs.declared.breaking.BreakError.{BreakError}
+use Rattle.lay_breaks.specs.declared.breaking.BreakError.TheVariants.{NoWay, Memory}
 
 abbrev pub IsCause : (ℕ → ℕ → Option ℕ) → (ℕ → Bool) → ℕ → BreakError → Type 0
 IsCause cost forced n (NoWay reached) = NoneLegal cost forced n × IsReached cost forced n reached

@@ -1,7 +1,8 @@
 -- Breakings of the bars 1 to n into spans: which are legal, what they cost, which one is chosen, and what is least for each bar.
 -- A breaking is the rising list of the bars at which its spans end. `cost a b` is what the span from bar a to bar b costs, where it fits;
 -- `forced b` says whether each legal breaking has bar b.
-use Rattle.std.specs.Prelude.{◌≡◌, ℕ, ◌+◌, ◌<◌, ◌≤◌, ◌⊎◌, Bool, true, List, [], ◌∷◌, reverse, Option, MatchOption, Contains, unwrap_or, IsSome}
+use Rattle.std.specs.Prelude.{◌≡◌, ℕ, ◌+◌, ◌<◌, ◌≤◌, ◌⊎◌, Bool, true, List, [], ◌∷◌, reverse, Option, MatchOption}
+use Rattle.std.specs.Prelude.{Contains, unwrap_or, IsSome}
 
 -- each bar stands past the one before it, the first past a
 abbrev pub RisesFrom : ℕ → List ℕ → Type 0

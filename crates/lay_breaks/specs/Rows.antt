@@ -1,6 +1,11 @@
 -- Costs kept as rows: row a has the costs of the spans from bar a to a + 1, a + 2 and so on, up to the last that fits.
 -- So a span that is longer than one that doesn't fit doesn't fit either.
-use Rattle.std.{specs.Prelude.{◌≡◌, ℕ, ◌-◌, ◌<◌, ◌≤◌, ◌^◌, List, length, Option, Some, None, IfSome, All, option_and_then, slice_get, slice_index_or, refl}, proofs.{Common.{arith, sym, ◌∙◌, inl, inr}, lemmas.{Bool.cases_lt, Option.{slice_get_past, slice_get_within, slice_get-get_or, get_or_from_slice_get, none-some}}}}
+use Rattle.std.specs.Prelude.{◌≡◌, ℕ, ◌-◌, ◌<◌, ◌≤◌, ◌^◌, List, length, Option, Some, None, IfSome, All}
+use Rattle.std.specs.Prelude.{option_and_then, slice_get, slice_index_or, refl}
+use Rattle.std.proofs.Common.{arith, sym, ◌∙◌, inl, inr}
+use Rattle.std.proofs.lemmas.Bool.{cases_lt}
+use Rattle.std.proofs.lemmas.Option.{slice_get_past, slice_get_within, slice_get-get_or, get_or_from_slice_get}
+use Rattle.std.proofs.lemmas.Option.{none-some}
 
 -- the cost of the span from a to b
 abbrev pub row_cost : List (List ℕ) → ℕ → ℕ → Option ℕ

@@ -1,6 +1,10 @@
 -- Costs kept as a list of the spans that fit, by the bar at which they begin and then by the bar at which they end. From each bar the list
 -- has the spans from the shortest to the longest that fits, so a span that is longer than one that isn't listed isn't listed either.
-use Rattle.std.{specs.Prelude.{◌≡◌, ℕ, ◌+◌, ◌-◌, ◌<◌, ◌≤◌, ◌^◌, ◌⊎◌, ◌==◌, ◌&&◌, Bool, true, false, List, [], ◌∷◌, Option, Some, None, MatchOption, IfSome, IsSome, if◌then◌else◌, zero, suc, refl}, proofs.{Common.{arith, sym, ◌∙◌, ap, subst, inl, inr, is_some}, lemmas.Bool.{true≢false, Decides.nat_tests}}}
+use Rattle.std.specs.Prelude.{◌≡◌, ℕ, ◌+◌, ◌-◌, ◌<◌, ◌≤◌, ◌^◌, ◌⊎◌, ◌==◌, ◌&&◌, Bool, true, false, List, [], ◌∷◌}
+use Rattle.std.specs.Prelude.{Option, Some, None, MatchOption, IfSome, IsSome, if◌then◌else◌, zero, suc, refl}
+use Rattle.std.proofs.Common.{arith, sym, ◌∙◌, ap, subst, inl, inr, is_some}
+use Rattle.std.proofs.lemmas.Bool.{true≢false}
+use Rattle.std.proofs.lemmas.Bool.Decides.{nat_tests}
 use Rattle.lay_breaks.specs.declared.costs.Span.{Span}
 
 -- the span s stands directly after the span p: it begins further on and is the shortest from its bar, or it is p with one bar more

@@ -1,5 +1,7 @@
 ghost use Rattle.std.specs.Prelude.{◌≡◌, ◌+◌, ◌^◌, ◌<◌, ◌≤◌, ℕ, Option, IfOk, IfErr, length, slice_index_or};
-ghost use Rattle.lay_breaks.specs.{Breaking.{IsChosen, sum_from, IsPotential, OneIsChosen}, Answers.IsCause, declared.breaking.BreakError.TheVariants.Memory};
+ghost use Rattle.lay_breaks.specs.Breaking.{IsChosen, sum_from, IsPotential, OneIsChosen};
+ghost use Rattle.lay_breaks.specs.Answers.{IsCause};
+ghost use Rattle.lay_breaks.specs.declared.breaking.BreakError.TheVariants.{Memory};
 
 use crate::costs::Costs;
 use crate::table::{BreakTable, fill, last_reached, walk_back};

@@ -1,6 +1,7 @@
 // The table of the search, and what is read off it.
 
-ghost use Rattle.std.specs.Prelude.{◌≡◌, ◌+◌, ◌^◌, ◌<◌, ◌≤◌, ℕ, Option, List, if◌then◌else◌, nat_lt, IfOk, IsSome, IsTrue, length, reverse, vec_len, slice_index, slice_index_or, slice_set};
+ghost use Rattle.std.specs.Prelude.{◌≡◌, ◌+◌, ◌^◌, ◌<◌, ◌≤◌, ℕ, Option, List, if◌then◌else◌, nat_lt, IfOk, IsSome};
+ghost use Rattle.std.specs.Prelude.{IsTrue, length, reverse, vec_len, slice_index, slice_index_or, slice_set};
 ghost use Rattle.lay_breaks.specs.Table.{IsBreakTable, IsLeastBack, IsOffered, LeadsBack};
 
 use crate::costs::Costs;

@@ -1,9 +1,26 @@
 -- A text is cut into good lines in one way.
-use Rattle.std.proofs.{Common.{◌≡◌, ℕ, ◌<◌, ◌≤◌, ◌^◌, ◌==◌, Bool, true, false, List, [], ◌∷◌, ◌++◌, Option, Some, None, refl, sym, ◌∙◌, ap, subst, arith, inl, codes, decimal, if◌then◌else◌}, lemmas.{Bool.{true≢false, eq-eqb}, Fmt.decimal_injective}}
+use Rattle.std.proofs.Common.{◌≡◌, ℕ, ◌<◌, ◌≤◌, ◌^◌, ◌==◌, Bool, true, false, List, [], ◌∷◌, ◌++◌, Option, Some, None}
+use Rattle.std.proofs.Common.{refl, sym, ◌∙◌, ap, subst, arith, inl, codes, decimal, if◌then◌else◌}
+use Rattle.std.proofs.lemmas.Bool.{true≢false, eq-eqb}
+use Rattle.std.proofs.lemmas.Fmt.{decimal_injective}
 use mathlib.Core.List.{append_assoc}
-use Rattle.lay_breaks.specs.{Breaking.last_from, Breaking.IsPotential, Spans.AreSpans, Spans.listed, declared.costs.Span.Span}
-use Rattle.lay_cert.{specs.{Lines.{line_text, lines_then, sum_text}, Listing.{Entry, none_forced, IsListing, listing_lines}, ReaderStates.{ReaderState, begun, between, choosing, proving, ended, MayCome, state_after, Leads, IsStuck}, Told.IsGood, Laws.{GoodByLines, TellsOne, FaultsTellNone, NoPrefix}, declared.lines.ListingLine.ListingLine}, proofs.{Forms.{span_text, tune_text}, Grown.listed_within, Sums.{total_within, least_within, one_potential}, Steps.{step_good, leads_good, leads_lines}, Through.listing_leads}}
-use Rattle.eng_lines.{specs.Lines.Lacks, proofs.Words.lacks_both, proofs.Words.decimal_lacks, proofs.Words.one_cut, proofs.Words.one_field, proofs.Words.after_prefix, proofs.Words.head_of}
+use Rattle.lay_breaks.specs.Breaking.{last_from, IsPotential}
+use Rattle.lay_breaks.specs.Spans.{AreSpans, listed}
+use Rattle.lay_breaks.specs.declared.costs.Span.{Span}
+use Rattle.lay_cert.specs.Lines.{line_text, lines_then, sum_text}
+use Rattle.lay_cert.specs.Listing.{Entry, none_forced, IsListing, listing_lines}
+use Rattle.lay_cert.specs.ReaderStates.{ReaderState, begun, between, choosing, proving, ended, MayCome, state_after}
+use Rattle.lay_cert.specs.ReaderStates.{Leads, IsStuck}
+use Rattle.lay_cert.specs.Told.{IsGood}
+use Rattle.lay_cert.specs.Laws.{GoodByLines, TellsOne, FaultsTellNone, NoPrefix}
+use Rattle.lay_cert.specs.declared.lines.ListingLine.{ListingLine}
+use Rattle.lay_cert.proofs.Forms.{span_text, tune_text}
+use Rattle.lay_cert.proofs.Grown.{listed_within}
+use Rattle.lay_cert.proofs.Sums.{total_within, least_within, one_potential}
+use Rattle.lay_cert.proofs.Steps.{step_good, leads_good, leads_lines}
+use Rattle.lay_cert.proofs.Through.{listing_leads}
+use Rattle.eng_lines.specs.Lines.{Lacks}
+use Rattle.eng_lines.proofs.Words.{lacks_both, decimal_lacks, one_cut, one_field, after_prefix, head_of}
 
 abbrev lacks_test : ℕ → List ℕ → Bool
 lacks_test b [] = true

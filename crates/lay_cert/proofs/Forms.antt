@@ -1,7 +1,9 @@
 -- The text of a line, each part in front of what follows it.
 use Rattle.std.proofs.Common.{◌≡◌, ℕ, ◌∷◌, ◌++◌, ap, codes, decimal}
 use mathlib.Core.List.{append_assoc}
-use Rattle.{lay_breaks.specs.declared.costs.Span.{Span}, lay_cert.specs.{Lines.line_text, declared.lines.ListingLine.ListingLine}}
+use Rattle.lay_breaks.specs.declared.costs.Span.{Span}
+use Rattle.lay_cert.specs.Lines.{line_text}
+use Rattle.lay_cert.specs.declared.lines.ListingLine.{ListingLine}
 
 pub span_text : (s : Span) → line_text (ListingLine.OneSpan s) ≡ codes "span " ++ (decimal s.a ++ (32 ∷ (decimal s.b ++ (32 ∷ decimal s.badness))))
 span_text s = ap (λ t. codes "span " ++ t) (append_assoc (decimal s.a) (32 ∷ decimal s.b) (32 ∷ decimal s.badness))

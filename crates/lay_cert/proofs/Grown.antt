@@ -1,8 +1,14 @@
 -- Each part of a listing with one more at its end.
-use Rattle.std.proofs.{Common.{◌≡◌, ℕ, suc, ◌+◌, ◌<◌, ◌≤◌, Bool, true, false, List, [], ◌∷◌, ◌++◌, length, Option, Some, IsSome, refl, sym, ◌∙◌, ap, arith, if◌then◌else◌}, lemmas.Bool.true≢false}
+use Rattle.std.proofs.Common.{◌≡◌, ℕ, suc, ◌+◌, ◌<◌, ◌≤◌, Bool, true, false, List, [], ◌∷◌, ◌++◌, length, Option, Some}
+use Rattle.std.proofs.Common.{IsSome, refl, sym, ◌∙◌, ap, arith, if◌then◌else◌}
+use Rattle.std.proofs.lemmas.Bool.{true≢false}
 use mathlib.Core.List.{append_assoc, append-nil}
-use Rattle.lay_breaks.specs.{Breaking.RisesFrom, Breaking.FitsFrom, Breaking.last_from, Breaking.IsLegal, Spans.MayFollow, Spans.SpansFrom, Spans.listed, Spans.has_ends, Spans.ends_are, declared.costs.Span.Span}
-use Rattle.lay_cert.specs.{Listing.Entry, Listing.IsEntry, Listing.EntriesFrom, Listing.none_forced, Listing.entry_lines, Listing.all_lines, Listing.potential_lines, ReaderStates.last_tune_from, ReaderStates.last_span_from, declared.lines.ListingLine.ListingLine}
+use Rattle.lay_breaks.specs.Breaking.{RisesFrom, FitsFrom, last_from, IsLegal}
+use Rattle.lay_breaks.specs.Spans.{MayFollow, SpansFrom, listed, has_ends, ends_are}
+use Rattle.lay_breaks.specs.declared.costs.Span.{Span}
+use Rattle.lay_cert.specs.Listing.{Entry, IsEntry, EntriesFrom, none_forced, entry_lines, all_lines, potential_lines}
+use Rattle.lay_cert.specs.ReaderStates.{last_tune_from, last_span_from}
+use Rattle.lay_cert.specs.declared.lines.ListingLine.{ListingLine}
 
 pub push_potential : (i : ℕ) (ps : List (Option ℕ)) (p : Option ℕ) → potential_lines i (ps ++ p ∷ []) ≡ potential_lines i ps ++ ListingLine.Potential (i + length ps) p ∷ []
 push_potential i [] p = let e : i ≡ i + 0 = omega arith in ap (λ j. ListingLine.Potential j p ∷ []) e

@@ -1,6 +1,13 @@
 -- A span is found by the place of the first span from its bar.
-use Rattle.std.proofs.{Common.{◌≡◌, ◌≢◌, ℕ, zero, suc, ◌+◌, ◌-◌, ◌<◌, ◌≤◌, ◌⊎◌, inl, inr, Bool, true, false, List, [], ◌∷◌, ◌++◌, length, Option, Some, None, MatchOption, refl, sym, ◌∙◌, ap, subst, arith, if◌then◌else◌, option_and_then, slice_get, slice_index, slice_set, get_or-set_same, get_or-set_other}, lemmas.{Bool.cases_eq, Option.{none-some, same_Some}, List.length-append}}
-use Rattle.lay_breaks.specs.{Spans.IsNextSpan, Spans.MayFollow, Spans.SpansFrom, Spans.AreSpans, Spans.listed, Spans.has_ends, Spans.ends_are, declared.costs.Span.Span}
+use Rattle.std.proofs.Common.{◌≡◌, ◌≢◌, ℕ, zero, suc, ◌+◌, ◌-◌, ◌<◌, ◌≤◌, ◌⊎◌, inl, inr, Bool, true, false, List, []}
+use Rattle.std.proofs.Common.{◌∷◌, ◌++◌, length, Option, Some, None, MatchOption, refl, sym, ◌∙◌, ap, subst, arith}
+use Rattle.std.proofs.Common.{if◌then◌else◌, option_and_then, slice_get, slice_index, slice_set, get_or-set_same}
+use Rattle.std.proofs.Common.{get_or-set_other}
+use Rattle.std.proofs.lemmas.Bool.{cases_eq}
+use Rattle.std.proofs.lemmas.Option.{none-some, same_Some}
+use Rattle.std.proofs.lemmas.List.{length-append}
+use Rattle.lay_breaks.specs.Spans.{IsNextSpan, MayFollow, SpansFrom, AreSpans, listed, has_ends, ends_are}
+use Rattle.lay_breaks.specs.declared.costs.Span.{Span}
 use Rattle.lay_cert.specs.{ReaderStates.last_span_from, Indexed.IsIndexed, Indexed.looked_up, Indexed.cost_if}
 
 -- the one span with these ends is the one that is listed

@@ -1,7 +1,28 @@
 -- A step of the checker is one line, and its end is the end of the listing or the first fault.
-use Rattle.std.proofs.{Common.{◌≡◌, ◌≢◌, ℕ, ◌+◌, ◌^◌, ◌<◌, ◌≤◌, ◌⊎◌, inl, inr, true, List, [], ◌∷◌, ◌++◌, length, Option, Some, None, is_some, refl, sym, ◌∙◌, ap, subst, arith, slice_index_or, if◌then◌else◌, ◌==◌}, lemmas.{Bool.{true≢false, eq-eqb, eqb-true, ne_eqb}, List.{length-append, nil_from_length}}}
+use Rattle.std.proofs.Common.{◌≡◌, ◌≢◌, ℕ, ◌+◌, ◌^◌, ◌<◌, ◌≤◌, ◌⊎◌, inl, inr, true, List, [], ◌∷◌, ◌++◌, length, Option}
+use Rattle.std.proofs.Common.{Some, None, is_some, refl, sym, ◌∙◌, ap, subst, arith, slice_index_or, if◌then◌else◌}
+use Rattle.std.proofs.Common.{◌==◌}
+use Rattle.std.proofs.lemmas.Bool.{true≢false, eq-eqb, eqb-true, ne_eqb}
+use Rattle.std.proofs.lemmas.List.{length-append, nil_from_length}
 use Rattle.lay_breaks.specs.{Breaking.last_from, Spans.MayFollow, Spans.listed, declared.costs.Span.Span}
-use Rattle.lay_cert.{specs.{Lines.{line_text, lines_then}, Listing.{Entry, IsListing}, ReaderStates.{ReaderState, begun, between, choosing, proving, ended, MayCome, state_after, Leads, IsStuck, IsFirstFault, last_tune_from, last_span_from}, Verdicts.{AreVerdicts, IsVerdict}, Represents.{IsChoosing, Proves, Represents, NoneMayCome, IsStep, entry_so_far}, Answers.IsJudged, declared.{lines.ListingLine.ListingLine, check.{Judged.Judged, Verdict.Verdict}, state.{Choosing.Choosing, Proving.Proving, ListingState.ListingState}}}, proofs.{Grown.{listed_within, push_tune}, Steps.{leads_good, leads_more, one_more}, Through.begun_with, Alone.{apart, tune_alone, span_alone, choice_alone, may_lack, told_by_lines, faults_tell_none}}}
+use Rattle.lay_cert.specs.Lines.{line_text, lines_then}
+use Rattle.lay_cert.specs.Listing.{Entry, IsListing}
+use Rattle.lay_cert.specs.ReaderStates.{ReaderState, begun, between, choosing, proving, ended, MayCome, state_after}
+use Rattle.lay_cert.specs.ReaderStates.{Leads, IsStuck, IsFirstFault, last_tune_from, last_span_from}
+use Rattle.lay_cert.specs.Verdicts.{AreVerdicts, IsVerdict}
+use Rattle.lay_cert.specs.Represents.{IsChoosing, Proves, Represents, NoneMayCome, IsStep, entry_so_far}
+use Rattle.lay_cert.specs.Answers.{IsJudged}
+use Rattle.lay_cert.specs.declared.lines.ListingLine.{ListingLine}
+use Rattle.lay_cert.specs.declared.check.Judged.{Judged}
+use Rattle.lay_cert.specs.declared.check.Verdict.{Verdict}
+use Rattle.lay_cert.specs.declared.state.Choosing.{Choosing}
+use Rattle.lay_cert.specs.declared.state.Proving.{Proving}
+use Rattle.lay_cert.specs.declared.state.ListingState.{ListingState}
+use Rattle.lay_cert.proofs.Grown.{listed_within, push_tune}
+use Rattle.lay_cert.proofs.Steps.{leads_good, leads_more, one_more}
+use Rattle.lay_cert.proofs.Through.{begun_with}
+use Rattle.lay_cert.proofs.Alone.{apart, tune_alone, span_alone, choice_alone, may_lack, told_by_lines}
+use Rattle.lay_cert.proofs.Alone.{faults_tell_none}
 use Rattle.eng_lines.{specs.Lines.Lacks, proofs.Words.one_cut, proofs.Words.lacks_none}
 
 pub none_refused : (es : List Entry) (raw : List ℕ) (tune bars : ℕ) → raw ≡ line_text (ListingLine.Tune tune bars) → tune < 2 ^ 32 → bars < 2 ^ 32 → (tune ≤ last_tune_from 0 es) ⊎ (4000 < bars) → NoneMayCome (between es) raw

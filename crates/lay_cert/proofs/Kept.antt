@@ -1,7 +1,20 @@
 -- What the checker keeps while spans and breaks are told.
-use Rattle.std.{proofs.{Common.{◌≡◌, ◌≢◌, ℕ, ◌+◌, ◌^◌, ◌<◌, ◌≤◌, List, [], ◌∷◌, ◌++◌, length, Option, Some, None, IsSome, is_some, unwrap_or, refl, sym, ◌∙◌, ap, subst, arith, inl, inr, slice_set, Vec}, lemmas.{Bool.{true≢false, cases_eq}, List.length-set}}, specs.Global.Global}
-use Rattle.lay_breaks.specs.{Breaking.FitsFrom, Breaking.last_from, Breaking.sum_from, Breaking.IsLegal, Spans.MayFollow, Spans.AreSpans, Spans.listed, Spans.listed_small, declared.costs.Span.Span}
-use Rattle.lay_cert.{specs.{Indexed.IsIndexed, Listing.none_forced, ReaderStates.last_span_from, Represents.IsChoosing, declared.state.Choosing.Choosing}, proofs.{Grown.{push_span, push_last_span, push_last, push_legal, listed_within}, Indexing.{index_first, index_later}, Sums.total_within}}
+use Rattle.std.proofs.Common.{◌≡◌, ◌≢◌, ℕ, ◌+◌, ◌^◌, ◌<◌, ◌≤◌, List, [], ◌∷◌, ◌++◌, length, Option, Some, None, IsSome}
+use Rattle.std.proofs.Common.{is_some, unwrap_or, refl, sym, ◌∙◌, ap, subst, arith, inl, inr, slice_set, Vec}
+use Rattle.std.proofs.lemmas.Bool.{true≢false, cases_eq}
+use Rattle.std.proofs.lemmas.List.{length-set}
+use Rattle.std.specs.Global.{Global}
+use Rattle.lay_breaks.specs.Breaking.{FitsFrom, last_from, sum_from, IsLegal}
+use Rattle.lay_breaks.specs.Spans.{MayFollow, AreSpans, listed, listed_small}
+use Rattle.lay_breaks.specs.declared.costs.Span.{Span}
+use Rattle.lay_cert.specs.Indexed.{IsIndexed}
+use Rattle.lay_cert.specs.Listing.{none_forced}
+use Rattle.lay_cert.specs.ReaderStates.{last_span_from}
+use Rattle.lay_cert.specs.Represents.{IsChoosing}
+use Rattle.lay_cert.specs.declared.state.Choosing.{Choosing}
+use Rattle.lay_cert.proofs.Grown.{push_span, push_last_span, push_last, push_legal, listed_within}
+use Rattle.lay_cert.proofs.Indexing.{index_first, index_later}
+use Rattle.lay_cert.proofs.Sums.{total_within}
 
 -- no span leads back
 pub listed_past : (n a b : ℕ) (ss : List Span) → AreSpans n ss → b ≤ a → None ≡ listed ss a b

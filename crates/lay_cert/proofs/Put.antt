@@ -1,7 +1,14 @@
 -- The text of lines, one after the other.
-use Rattle.std.proofs.{Common.{decimal, ◌≡◌, ℕ, ◌+◌, ◌<◌, List, [], ◌∷◌, ◌++◌, length, map, take, Option, None, refl, sym, ◌∙◌, ap, arith, slice_index_or, rules}, lemmas.List.{map-append, take_more, length-take}}
+use Rattle.std.proofs.Common.{decimal, ◌≡◌, ℕ, ◌+◌, ◌<◌, List, [], ◌∷◌, ◌++◌, length, map, take, Option, None, refl}
+use Rattle.std.proofs.Common.{sym, ◌∙◌, ap, arith, slice_index_or, rules}
+use Rattle.std.proofs.lemmas.List.{map-append, take_more, length-take}
 use mathlib.Core.List.{append_assoc, append-nil}
-use Rattle.lay_cert.{specs.{Lines.{line_text, lines_then}, Laws.InParts, Reports.bars_text, Listing.{Entry, entry_lines, all_lines, entries_text, potential_lines}, declared.lines.ListingLine.ListingLine}, proofs.Grown.push_potential}
+use Rattle.lay_cert.specs.Lines.{line_text, lines_then}
+use Rattle.lay_cert.specs.Laws.{InParts}
+use Rattle.lay_cert.specs.Reports.{bars_text}
+use Rattle.lay_cert.specs.Listing.{Entry, entry_lines, all_lines, entries_text, potential_lines}
+use Rattle.lay_cert.specs.declared.lines.ListingLine.{ListingLine}
+use Rattle.lay_cert.proofs.Grown.{push_potential}
 
 pub lines_both : (ls ms : List ListingLine) → lines_then (ls ++ ms) [] ≡ lines_then ls [] ++ lines_then ms []
 lines_both [] ms = refl

@@ -1,8 +1,19 @@
 -- A line that may come keeps what holds of the entries told, and is the next of their lines.
-use Rattle.std.proofs.{Common.{◌≡◌, ℕ, ◌+◌, ◌<◌, ◌≤◌, ◌==◌, Bool, true, false, List, [], ◌∷◌, ◌++◌, length, map, Option, None, refl, sym, ◌∙◌, ap, subst, arith, inl, inr, if◌then◌else◌, slice_index_or}, lemmas.{Bool.{cases_lt, true≢false, eqb-true, eqb-false}, List.{map-append, length-append, get_or_append_left}}, Math.Seq.get_or-append_seam}
+use Rattle.std.proofs.Common.{◌≡◌, ℕ, ◌+◌, ◌<◌, ◌≤◌, ◌==◌, Bool, true, false, List, [], ◌∷◌, ◌++◌, length, map, Option}
+use Rattle.std.proofs.Common.{None, refl, sym, ◌∙◌, ap, subst, arith, inl, inr, if◌then◌else◌, slice_index_or}
+use Rattle.std.proofs.lemmas.Bool.{cases_lt, true≢false, eqb-true, eqb-false}
+use Rattle.std.proofs.lemmas.List.{map-append, length-append, get_or_append_left}
+use Rattle.std.proofs.Math.Seq.{get_or-append_seam}
 use mathlib.Core.List.{append_assoc, append-nil}
-use Rattle.lay_breaks.specs.{Breaking.IsLegal, Breaking.last_from, Breaking.IsPotential, Spans.listed, declared.costs.Span.Span}
-use Rattle.lay_cert.{specs.{Listing.{Entry, IsEntry, none_forced, entry_lines, all_lines, potential_lines}, ReaderStates.{ReaderState, begun, between, choosing, proving, MayCome, state_after, Leads, last_tune_from}, Told.{IsProving, IsGood, lines_of_state, begun_lines}, declared.lines.ListingLine.ListingLine}, proofs.Grown.{push_potential, push_entry, push_entries, push_span, push_legal, listed_within}}
+use Rattle.lay_breaks.specs.Breaking.{IsLegal, last_from, IsPotential}
+use Rattle.lay_breaks.specs.Spans.{listed}
+use Rattle.lay_breaks.specs.declared.costs.Span.{Span}
+use Rattle.lay_cert.specs.Listing.{Entry, IsEntry, none_forced, entry_lines, all_lines, potential_lines}
+use Rattle.lay_cert.specs.ReaderStates.{ReaderState, begun, between, choosing, proving, MayCome, state_after, Leads}
+use Rattle.lay_cert.specs.ReaderStates.{last_tune_from}
+use Rattle.lay_cert.specs.Told.{IsProving, IsGood, lines_of_state, begun_lines}
+use Rattle.lay_cert.specs.declared.lines.ListingLine.{ListingLine}
+use Rattle.lay_cert.proofs.Grown.{push_potential, push_entry, push_entries, push_span, push_legal, listed_within}
 
 -- an entry in the making with one more potential
 abbrev pub one_more : Entry → Option ℕ → Entry

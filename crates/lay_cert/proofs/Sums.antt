@@ -1,6 +1,9 @@
 -- How large the sums of a listing are, and that each is one.
-use Rattle.std.proofs.Common.{◌≡◌, ℕ, ◌+◌, ◌*◌, ◌^◌, ◌≤◌, Bool, List, [], ◌∷◌, Option, Some, None, IfSome, unwrap_or, refl, ap, arith}
-use Rattle.{lay_breaks.specs.{Breaking.RisesFrom, Breaking.last_from, Breaking.sum_from, Breaking.IsLegal, Breaking.IsPotential, Spans.AreSpans, Spans.listed, Spans.listed_small}, lay_cert.specs.Listing.{none_forced}}
+use Rattle.std.proofs.Common.{◌≡◌, ℕ, ◌+◌, ◌*◌, ◌^◌, ◌≤◌, Bool, List, [], ◌∷◌, Option, Some, None, IfSome, unwrap_or}
+use Rattle.std.proofs.Common.{refl, ap, arith}
+use Rattle.lay_breaks.specs.Breaking.{RisesFrom, last_from, sum_from, IsLegal, IsPotential}
+use Rattle.lay_breaks.specs.Spans.{AreSpans, listed, listed_small}
+use Rattle.lay_cert.specs.Listing.{none_forced}
 
 price_small : (o : Option ℕ) → IfSome o (λ v. v ≤ 2 ^ 40) → unwrap_or o 0 ≤ 2 ^ 40
 price_small None h = omega arith

@@ -1,8 +1,18 @@
 -- The lines of a listing are good, each after those before it.
-use Rattle.std.proofs.{Common.{◌≡◌, ℕ, suc, ◌+◌, ◌<◌, ◌≤◌, List, [], ◌∷◌, ◌++◌, length, map, Option, None, refl, sym, ap, subst, arith, if◌then◌else◌, slice_index_or}, lemmas.{Bool.{eq-eqb, ne_eqb}, List.length-append}}
+use Rattle.std.proofs.Common.{◌≡◌, ℕ, suc, ◌+◌, ◌<◌, ◌≤◌, List, [], ◌∷◌, ◌++◌, length, map, Option, None, refl, sym, ap}
+use Rattle.std.proofs.Common.{subst, arith, if◌then◌else◌, slice_index_or}
+use Rattle.std.proofs.lemmas.Bool.{eq-eqb, ne_eqb}
+use Rattle.std.proofs.lemmas.List.{length-append}
 use mathlib.Core.List.{append_assoc, append-nil}
-use Rattle.lay_breaks.specs.{Breaking.FitsFrom, Breaking.last_from, Breaking.IsPotential, Spans.SpansFrom, Spans.listed, declared.costs.Span.Span}
-use Rattle.lay_cert.{specs.{Listing.{Entry, IsEntry, EntriesFrom, none_forced, entry_lines, all_lines, listing_lines, potential_lines}, ReaderStates.{begun, between, choosing, proving, ended, Leads, last_tune_from, last_span_from}, declared.lines.ListingLine.ListingLine}, proofs.{Grown.{push_last_span, push_last, push_tune}, Steps.leads_both}}
+use Rattle.lay_breaks.specs.Breaking.{FitsFrom, last_from, IsPotential}
+use Rattle.lay_breaks.specs.Spans.{SpansFrom, listed}
+use Rattle.lay_breaks.specs.declared.costs.Span.{Span}
+use Rattle.lay_cert.specs.Listing.{Entry, IsEntry, EntriesFrom, none_forced, entry_lines, all_lines, listing_lines}
+use Rattle.lay_cert.specs.Listing.{potential_lines}
+use Rattle.lay_cert.specs.ReaderStates.{begun, between, choosing, proving, ended, Leads, last_tune_from, last_span_from}
+use Rattle.lay_cert.specs.declared.lines.ListingLine.{ListingLine}
+use Rattle.lay_cert.proofs.Grown.{push_last_span, push_last, push_tune}
+use Rattle.lay_cert.proofs.Steps.{leads_both}
 
 abbrev pub begun_with : ℕ → ℕ → List Span → List ℕ → Entry
 begun_with k n spans breaks = record { tune = k; bars = n; spans = spans; breaks = breaks; total = 0; potentials = [] }

@@ -1,6 +1,10 @@
 -- Spans that pass no forced bar keep each of them.
-use Rattle.std.proofs.{Common.{◌≡◌, ℕ, suc, ◌<◌, ◌≤◌, Bool, true, List, [], ◌∷◌, Option, None, is_some, refl, sym, ◌∙◌, ap, subst, arith, inl, inr, Contains}, lemmas.Bool.{true≢false, cases_order}}
-use Rattle.{lay_breaks.specs.Breaking.{FitsFrom, last_from, IsLegal}, lay_cert.specs.{Listing.none_forced, Laws.ForcedBySpans}}
+use Rattle.std.proofs.Common.{◌≡◌, ℕ, suc, ◌<◌, ◌≤◌, Bool, true, List, [], ◌∷◌, Option, None, is_some, refl, sym, ◌∙◌}
+use Rattle.std.proofs.Common.{ap, subst, arith, inl, inr, Contains}
+use Rattle.std.proofs.lemmas.Bool.{true≢false, cases_order}
+use Rattle.lay_breaks.specs.Breaking.{FitsFrom, last_from, IsLegal}
+use Rattle.lay_cert.specs.Listing.{none_forced}
+use Rattle.lay_cert.specs.Laws.{ForcedBySpans}
 
 module _ (cost : ℕ → ℕ → Option ℕ) (forced : ℕ → Bool) (stops : (a f b : ℕ) → a < f → f < b → forced f ≡ true → cost a b ≡ None) where
   kept : (a : ℕ) (bs : List ℕ) (f : ℕ) → FitsFrom cost a bs → a < f → f ≤ last_from a bs → forced f ≡ true → Contains bs f

@@ -1,6 +1,11 @@
 -- What the answers of the checker say.
 use Rattle.std.specs.Prelude.{ℕ, List}
-use Rattle.lay_cert.specs.{Listing.Entry, Listing.IsListing, ReaderStates.IsFirstFault, Verdicts.AreVerdicts, declared.check.Judged.Judged, declared.check.CertError.CertError, declared.check.CertError.TheVariants.NotListing, declared.check.CertError.TheVariants.Memory}
+use Rattle.lay_cert.specs.Listing.{Entry, IsListing}
+use Rattle.lay_cert.specs.ReaderStates.{IsFirstFault}
+use Rattle.lay_cert.specs.Verdicts.{AreVerdicts}
+use Rattle.lay_cert.specs.declared.check.Judged.{Judged}
+use Rattle.lay_cert.specs.declared.check.CertError.{CertError}
+use Rattle.lay_cert.specs.declared.check.CertError.TheVariants.{NotListing, Memory}
 
 -- the text is a listing, and these are the verdicts on its entries
 abbrev pub IsJudged : List ℕ → List Judged → Type 0

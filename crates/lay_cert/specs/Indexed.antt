@@ -1,5 +1,6 @@
 -- Where the spans from each bar begin in the list of spans, and what is found by it.
-use Rattle.std.specs.Prelude.{◌≡◌, ℕ, ◌+◌, ◌-◌, ◌≤◌, ◌^◌, List, length, Option, Some, None, IfSome, option_and_then, if◌then◌else◌, slice_get, slice_index, refl}
+use Rattle.std.specs.Prelude.{◌≡◌, ℕ, ◌+◌, ◌-◌, ◌≤◌, ◌^◌, List, length, Option, Some, None, IfSome, option_and_then}
+use Rattle.std.specs.Prelude.{if◌then◌else◌, slice_get, slice_index, refl}
 use Rattle.lay_breaks.specs.{Spans.has_ends, Spans.listed, declared.costs.Span.Span}
 
 abbrev pub cost_if : ℕ → ℕ → Span → Option ℕ

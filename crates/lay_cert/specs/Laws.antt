@@ -1,7 +1,10 @@
 -- The laws of listings.
 use Rattle.std.specs.Prelude.{◌≡◌, ℕ, ◌<◌, Bool, true, false, Option, None, List, [], ◌∷◌, ◌++◌, ◌↔◌}
 use Rattle.lay_breaks.specs.Breaking.{IsLegal}
-use Rattle.lay_cert.specs.{Lines.lines_then, Listing.Entry, Listing.IsListing, Listing.listing_lines, Listing.entries_text, Listing.none_forced, ReaderStates.IsFirstFault, ReaderStates.IsGoodThroughout, declared.lines.ListingLine.ListingLine}
+use Rattle.lay_cert.specs.Lines.{lines_then}
+use Rattle.lay_cert.specs.Listing.{Entry, IsListing, listing_lines, entries_text, none_forced}
+use Rattle.lay_cert.specs.ReaderStates.{IsFirstFault, IsGoodThroughout}
+use Rattle.lay_cert.specs.declared.lines.ListingLine.{ListingLine}
 
 -- a text is a listing exactly where each of its lines is good and the last is `end`
 abbrev pub GoodByLines : Type 0

@@ -1,6 +1,7 @@
 -- The lines of a listing, as they are printed.
 use Rattle.std.specs.Prelude.{ℕ, List, [], ◌∷◌, ◌++◌, Option, Some, None, codes, decimal}
-use Rattle.lay_cert.specs.declared.lines.ListingLine.{ListingLine, TheVariants.Listing, TheVariants.Tune, TheVariants.OneSpan, TheVariants.Choose, TheVariants.Total, TheVariants.Potential, TheVariants.End}
+use Rattle.lay_cert.specs.declared.lines.ListingLine.{ListingLine}
+use Rattle.lay_cert.specs.declared.lines.ListingLine.TheVariants.{Listing, Tune, OneSpan, Choose, Total, Potential, End}
 
 -- a sum, or the word none
 abbrev pub sum_text : Option ℕ → List ℕ

@@ -1,7 +1,12 @@
 -- What a listing is: for each tune the spans that fit among its bars, a choice of breaks, their total, and the potential of each bar.
 -- A breaking of a tune's listing is a rising list of bars that ends with the last and whose spans are all listed. No bar is forced.
-use Rattle.std.specs.Prelude.{◌≡◌, ℕ, ◌+◌, ◌<◌, ◌≤◌, ◌^◌, Bool, false, List, [], ◌∷◌, ◌++◌, length, Option, None, map, slice_index_or}
-use Rattle.{lay_breaks.specs.{Breaking.IsLegal, Breaking.sum_from, Breaking.IsPotential, Spans.AreSpans, Spans.listed, declared.costs.Span.Span}, lay_cert.specs.{Lines.lines_then, declared.lines.ListingLine.ListingLine}}
+use Rattle.std.specs.Prelude.{◌≡◌, ℕ, ◌+◌, ◌<◌, ◌≤◌, ◌^◌, Bool, false, List, [], ◌∷◌, ◌++◌, length, Option, None, map}
+use Rattle.std.specs.Prelude.{slice_index_or}
+use Rattle.lay_breaks.specs.Breaking.{IsLegal, sum_from, IsPotential}
+use Rattle.lay_breaks.specs.Spans.{AreSpans, listed}
+use Rattle.lay_breaks.specs.declared.costs.Span.{Span}
+use Rattle.lay_cert.specs.Lines.{lines_then}
+use Rattle.lay_cert.specs.declared.lines.ListingLine.{ListingLine}
 
 abbrev pub none_forced : ℕ → Bool
 none_forced b = false

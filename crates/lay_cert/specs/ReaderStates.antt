@@ -1,7 +1,12 @@
 -- Which line may come after which: the lines of a listing, each judged by the lines before it alone.
-use Rattle.std.specs.Prelude.{◌≡◌, ℕ, ◌+◌, ◌<◌, ◌≤◌, ◌^◌, ◌==◌, List, [], ◌∷◌, ◌++◌, length, Option, Some, None, IsSome, if◌then◌else◌}
-use Rattle.lay_breaks.specs.{Breaking.last_from, Breaking.sum_from, Breaking.IsPotential, Spans.MayFollow, Spans.listed, declared.costs.Span.Span}
-use Rattle.lay_cert.specs.{Lines.line_text, Lines.lines_then, Listing.Entry, Listing.none_forced, declared.lines.ListingLine.ListingLine}
+use Rattle.std.specs.Prelude.{◌≡◌, ℕ, ◌+◌, ◌<◌, ◌≤◌, ◌^◌, ◌==◌, List, [], ◌∷◌, ◌++◌, length, Option, Some, None, IsSome}
+use Rattle.std.specs.Prelude.{if◌then◌else◌}
+use Rattle.lay_breaks.specs.Breaking.{last_from, sum_from, IsPotential}
+use Rattle.lay_breaks.specs.Spans.{MayFollow, listed}
+use Rattle.lay_breaks.specs.declared.costs.Span.{Span}
+use Rattle.lay_cert.specs.Lines.{line_text, lines_then}
+use Rattle.lay_cert.specs.Listing.{Entry, none_forced}
+use Rattle.lay_cert.specs.declared.lines.ListingLine.{ListingLine}
 
 -- What the lines so far have told: nothing; whole entries; these and the spans and breaks of one more; these and its total
 -- and the potentials of its first bars; all.

@@ -1,7 +1,17 @@
 -- How the checker keeps what the lines so far have told.
 use Rattle.std.specs.Prelude.{◌≡◌, ℕ, ◌+◌, ◌≤◌, List, [], length, Option, None, MatchOption, slice_index_or}
-use Rattle.lay_breaks.specs.{Breaking.IsLegal, Breaking.last_from, Breaking.sum_from, Breaking.IsPotential, Spans.AreSpans, Spans.listed}
-use Rattle.lay_cert.specs.{Indexed.IsIndexed, Lines.line_text, Listing.{Entry, none_forced}, ReaderStates.{MayCome, state_after, last_tune_from, last_span_from}, Verdicts.{AreVerdicts, IsVerdict}, declared.{lines.ListingLine.ListingLine, check.Judged.Judged, state.{Choosing.Choosing, Proving.Proving, ListingState.ListingState}}}
+use Rattle.lay_breaks.specs.Breaking.{IsLegal, last_from, sum_from, IsPotential}
+use Rattle.lay_breaks.specs.Spans.{AreSpans, listed}
+use Rattle.lay_cert.specs.Indexed.{IsIndexed}
+use Rattle.lay_cert.specs.Lines.{line_text}
+use Rattle.lay_cert.specs.Listing.{Entry, none_forced}
+use Rattle.lay_cert.specs.ReaderStates.{MayCome, state_after, last_tune_from, last_span_from}
+use Rattle.lay_cert.specs.Verdicts.{AreVerdicts, IsVerdict}
+use Rattle.lay_cert.specs.declared.lines.ListingLine.{ListingLine}
+use Rattle.lay_cert.specs.declared.check.Judged.{Judged}
+use Rattle.lay_cert.specs.declared.state.Choosing.{Choosing}
+use Rattle.lay_cert.specs.declared.state.Proving.{Proving}
+use Rattle.lay_cert.specs.declared.state.ListingState.{ListingState}
 use Rattle.lay_cert.specs.ReaderStates as place
 
 -- the entry as far as its spans and breaks are told

@@ -1,7 +1,10 @@
 -- What holds of the entries that the lines so far have told, and which lines those are.
 use Rattle.std.specs.Prelude.{◌≡◌, ℕ, ◌<◌, ◌≤◌, ◌^◌, List, [], ◌∷◌, ◌++◌, length, None, map, slice_index_or}
-use Rattle.lay_breaks.specs.{Breaking.IsLegal, Breaking.last_from, Breaking.sum_from, Breaking.IsPotential, Spans.AreSpans, Spans.listed}
-use Rattle.lay_cert.specs.{Listing.Entry, Listing.EntriesFrom, Listing.none_forced, Listing.entry_lines, Listing.all_lines, Listing.listing_lines, ReaderStates.ReaderState, ReaderStates.begun, ReaderStates.between, ReaderStates.choosing, ReaderStates.proving, ReaderStates.ended, ReaderStates.last_tune_from, declared.lines.ListingLine.ListingLine}
+use Rattle.lay_breaks.specs.Breaking.{IsLegal, last_from, sum_from, IsPotential}
+use Rattle.lay_breaks.specs.Spans.{AreSpans, listed}
+use Rattle.lay_cert.specs.Listing.{Entry, EntriesFrom, none_forced, entry_lines, all_lines, listing_lines}
+use Rattle.lay_cert.specs.ReaderStates.{ReaderState, begun, between, choosing, proving, ended, last_tune_from}
+use Rattle.lay_cert.specs.declared.lines.ListingLine.{ListingLine}
 
 -- spans and a legal prefix of a choice, behind tunes up to number k
 pub record IsBegunEntry (k : ℕ) (e : Entry) : Type 0 where

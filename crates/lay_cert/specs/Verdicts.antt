@@ -2,7 +2,10 @@
 -- NotLeast which breaking is chosen over those spans, and that its total is smaller.
 use Rattle.std.specs.Prelude.{◌≡◌, ℕ, ◌<◌, ◌≤◌, List, [], ◌∷◌}
 use Rattle.lay_breaks.specs.{Breaking.IsLegal, Breaking.IsChosen, Breaking.sum_from, Spans.listed}
-use Rattle.lay_cert.specs.{Listing.Entry, Listing.none_forced, declared.check.Verdict.Verdict, declared.check.Judged.Judged, declared.check.Verdict.TheVariants.Least, declared.check.Verdict.TheVariants.NotLeast}
+use Rattle.lay_cert.specs.Listing.{Entry, none_forced}
+use Rattle.lay_cert.specs.declared.check.Verdict.{Verdict}
+use Rattle.lay_cert.specs.declared.check.Judged.{Judged}
+use Rattle.lay_cert.specs.declared.check.Verdict.TheVariants.{Least, NotLeast}
 
 abbrev pub IsVerdict : Entry → Verdict → Type 0
 IsVerdict e (Least total) = (total ≡ e.total) × ((other : List ℕ) → IsLegal (listed e.spans) none_forced other e.bars → total ≤ sum_from (listed e.spans) 0 other)

@@ -1,5 +1,7 @@
 ghost use Rattle.std.specs.Prelude.{◌≡◌, List, IfOk, IfErr};
-ghost use Rattle.lay_cert.specs.{Laws.GoodByLines, Laws.TellsOne, Laws.FaultsTellNone, Laws.NoPrefix, Listing.Entry, Listing.IsListing, Answers.IsJudged, Answers.IsCause};
+ghost use Rattle.lay_cert.specs.Laws.{GoodByLines, TellsOne, FaultsTellNone, NoPrefix};
+ghost use Rattle.lay_cert.specs.Listing.{Entry, IsListing};
+ghost use Rattle.lay_cert.specs.Answers.{IsJudged, IsCause};
 ghost use Rattle.lay_cert.specs.declared.check.CertError.TheVariants as answer;
 
 use crate::state::{ListingState, is_ended, step};

@@ -1,6 +1,14 @@
-ghost use Rattle.std.specs.Prelude.{◌≡◌, ◌≢◌, true, false, nat_lt, if◌then◌else◌, length, slice_set, ◌+◌, ◌^◌, ◌<◌, ◌≤◌, ℕ, List, [], ◌∷◌, ◌++◌, Option, Some, IfOk, IfSome, MatchOption, OnOk};
+ghost use Rattle.std.specs.Prelude.{◌≡◌, ◌≢◌, true, false, nat_lt, if◌then◌else◌, length, slice_set, ◌+◌, ◌^◌, ◌<◌};
+ghost use Rattle.std.specs.Prelude.{◌≤◌, ℕ, List, [], ◌∷◌, ◌++◌, Option, Some, IfOk, IfSome, MatchOption, OnOk};
 ghost use Rattle.lay_breaks.specs.{Breaking.last_from, Spans.MayFollow, Spans.listed};
-ghost use Rattle.lay_cert.specs.{Lines.line_text, Listing.Entry, ReaderStates.last_tune_from, Represents.{IsChoosing, IsGoodProving, IsSound, Represents, IsStep, Proves, entry_so_far, entry_with_total}, Verdicts.AreVerdicts, declared.check.{Judged.Judged, Verdict.TheVariants.{Least, NotLeast}}};
+ghost use Rattle.lay_cert.specs.Lines.{line_text};
+ghost use Rattle.lay_cert.specs.Listing.{Entry};
+ghost use Rattle.lay_cert.specs.ReaderStates.{last_tune_from};
+ghost use Rattle.lay_cert.specs.Represents.{IsChoosing, IsGoodProving, IsSound, Represents, IsStep, Proves};
+ghost use Rattle.lay_cert.specs.Represents.{entry_so_far, entry_with_total};
+ghost use Rattle.lay_cert.specs.Verdicts.{AreVerdicts};
+ghost use Rattle.lay_cert.specs.declared.check.Judged.{Judged};
+ghost use Rattle.lay_cert.specs.declared.check.Verdict.TheVariants.{Least, NotLeast};
 ghost use Rattle.lay_cert.specs.ReaderStates as place;
 ghost use Rattle.lay_cert.specs.declared.lines.ListingLine.TheVariants as line;
 ghost use Rattle.lay_cert.specs.declared.state.ListingState.TheVariants as stages;

@@ -1,5 +1,7 @@
 ghost use Rattle.std.specs.Prelude.{◌≡◌, ◌+◌, ◌++◌, ◌∷◌, [], ℕ, List, Option, map, length, ◌<◌, ◌^◌, OnOk};
-ghost use Rattle.lay_cert.specs.{Laws.InParts, Laws.ForcedBySpans, Lines.line_text, Lines.lines_then, Listing.entry_lines, Listing.potential_lines};
+ghost use Rattle.lay_cert.specs.Laws.{InParts, ForcedBySpans};
+ghost use Rattle.lay_cert.specs.Lines.{line_text, lines_then};
+ghost use Rattle.lay_cert.specs.Listing.{entry_lines, potential_lines};
 ghost use Rattle.lay_cert.specs.declared.lines.ListingLine.TheVariants as line;
 
 use crate::lines::{ListingLine, put_text};

@@ -1,12 +1,53 @@
 -- Behind its head, a measure that begins without a change has the columns that it has in a system which began before.
-use Rattle.std.{proofs.{Common.{◌≡◌, ◌∙◌, ℕ, ◌+◌, ◌-◌, ◌<◌, ◌≤◌, ◌==◌, ◌&&◌, not, Bool, true, false, if◌then◌else◌, min, List, [], ◌∷◌, ◌++◌, length, map, drop, Option, Some, None, refl, sym, ap, subst, arith}, lemmas.{Bool.Decides.nat_tests, List.{append-nil, Elements.{All-from_recursion, All-nil, recursion_from_All}, Sums.AllPass-from_list_all}}}, specs.List.{AllByRecursion, Contains, flat_map, list_all, slice_index, slice_range}}
+use Rattle.std.proofs.Common.{◌≡◌, ◌∙◌, ℕ, ◌+◌, ◌-◌, ◌<◌, ◌≤◌, ◌==◌, ◌&&◌, not, Bool, true, false, if◌then◌else◌, min}
+use Rattle.std.proofs.Common.{List, [], ◌∷◌, ◌++◌, length, map, drop, Option, Some, None, refl, sym, ap, subst, arith}
+use Rattle.std.proofs.lemmas.Bool.Decides.{nat_tests}
+use Rattle.std.proofs.lemmas.List.{append-nil}
+use Rattle.std.proofs.lemmas.List.Elements.{All-from_recursion, All-nil, recursion_from_All}
+use Rattle.std.proofs.lemmas.List.Sums.{AllPass-from_list_all}
+use Rattle.std.specs.List.{AllByRecursion, Contains, flat_map, list_all, slice_index, slice_range}
 use Rattle.mus_score.specs.{declared.score.{Score.Score, Voice.Voice}, GoodScore.IsGoodScore, Seats.is_lower}
-use Rattle.mus_onsets.{specs.{declared.{keys.{Class.Class, ColumnKey.ColumnKey}, times.Timeline.Timeline}, Keys.{AreKeys, IsInSystem, has_features, head_key, measure_keys, voice_keys}, Onsets.{measure_length, timeline_of}, Order.{Rises, class_number, is_below, key_rank}, Ranks.rank_at}, proofs.{Places.length_is, RankLaws.rank_at_place}}
-use Rattle.{mus_laid.specs.{declared.drawn.LaneInk.LaneInk, declared.laid.{Laid.Laid, StaffMarks.StaffMarks}, Ranked.drawn_at}, mus_ink.specs.Bars.{bar_marks}}
-use Rattle.{mus_drawn.specs.{declared.drawn.{DrawnEvent.DrawnEvent, DrawnMeasure.DrawnMeasure, DrawnVoice.DrawnVoice}, Drawn.drawn_voice}, mus_time.{specs.Columns.keys_called, proofs.Called.{called_places, called_same}}}
-use Rattle.mus_marks.{specs.{declared.events.WordRoom.WordRoom, Events.{bar_part, change_part, changes_nothing, event_marks, events_marks, graces_part, levels_behind, levels_in, measures_marks, note_part, note_rank, words_part}, Staff.{columns_part, head_part}, System.{drawn_staves, is_drawn_lower}}, proofs.{Groups.grouped_all, Inside.head_inside, Unchanged.nothing_marks}}
-use Rattle.lay_reaches.{specs.{declared.column.Column.Column, Columns.columns_of, Joining.{AreJoined, IsBelow, StavesJoin, moved}, Reaches.rank_of_mark as mark_rank}, proofs.JoinLaws.{behind_same, marks_join}}
-use Rattle.lay_columns.{specs.Measures.{AreFurther, AreMeasureColumns, begins_plain, first_plain, fixed_place, keys_in, measure_part, measure_staff, parts_from, staff_of_columns}, proofs.{HeadKeys.{ArePlain, one_plain, own_keys}, Joined.{HasMeasures, all_weaker, both_joined, voices_fit}, KeyLaws.slice_long, Ranks.{IsPlaced, measures_in, slice_fit}, Slots.{AreBelow, head_laid, head_slots, lay_below, lay_moved, measures_laid, measures_slots, slot}}}
+use Rattle.mus_onsets.specs.declared.keys.Class.{Class}
+use Rattle.mus_onsets.specs.declared.keys.ColumnKey.{ColumnKey}
+use Rattle.mus_onsets.specs.declared.times.Timeline.{Timeline}
+use Rattle.mus_onsets.specs.Keys.{AreKeys, IsInSystem, has_features, head_key, measure_keys, voice_keys}
+use Rattle.mus_onsets.specs.Onsets.{measure_length, timeline_of}
+use Rattle.mus_onsets.specs.Order.{Rises, class_number, is_below, key_rank}
+use Rattle.mus_onsets.specs.Ranks.{rank_at}
+use Rattle.mus_onsets.proofs.Places.{length_is}
+use Rattle.mus_onsets.proofs.RankLaws.{rank_at_place}
+use Rattle.mus_laid.specs.declared.drawn.LaneInk.{LaneInk}
+use Rattle.mus_laid.specs.declared.laid.Laid.{Laid}
+use Rattle.mus_laid.specs.declared.laid.StaffMarks.{StaffMarks}
+use Rattle.mus_laid.specs.Ranked.{drawn_at}
+use Rattle.mus_ink.specs.Bars.{bar_marks}
+use Rattle.mus_drawn.specs.declared.drawn.DrawnEvent.{DrawnEvent}
+use Rattle.mus_drawn.specs.declared.drawn.DrawnMeasure.{DrawnMeasure}
+use Rattle.mus_drawn.specs.declared.drawn.DrawnVoice.{DrawnVoice}
+use Rattle.mus_drawn.specs.Drawn.{drawn_voice}
+use Rattle.mus_time.specs.Columns.{keys_called}
+use Rattle.mus_time.proofs.Called.{called_places, called_same}
+use Rattle.mus_marks.specs.declared.events.WordRoom.{WordRoom}
+use Rattle.mus_marks.specs.Events.{bar_part, change_part, changes_nothing, event_marks, events_marks, graces_part}
+use Rattle.mus_marks.specs.Events.{levels_behind, levels_in, measures_marks, note_part, note_rank, words_part}
+use Rattle.mus_marks.specs.Staff.{columns_part, head_part}
+use Rattle.mus_marks.specs.System.{drawn_staves, is_drawn_lower}
+use Rattle.mus_marks.proofs.Groups.{grouped_all}
+use Rattle.mus_marks.proofs.Inside.{head_inside}
+use Rattle.mus_marks.proofs.Unchanged.{nothing_marks}
+use Rattle.lay_reaches.specs.declared.column.Column.{Column}
+use Rattle.lay_reaches.specs.Columns.{columns_of}
+use Rattle.lay_reaches.specs.Joining.{AreJoined, IsBelow, StavesJoin, moved}
+use Rattle.lay_reaches.specs.Reaches.{rank_of_mark as mark_rank}
+use Rattle.lay_reaches.proofs.JoinLaws.{behind_same, marks_join}
+use Rattle.lay_columns.specs.Measures.{AreFurther, AreMeasureColumns, begins_plain, first_plain, fixed_place, keys_in}
+use Rattle.lay_columns.specs.Measures.{measure_part, measure_staff, parts_from, staff_of_columns}
+use Rattle.lay_columns.proofs.HeadKeys.{ArePlain, one_plain, own_keys}
+use Rattle.lay_columns.proofs.Joined.{HasMeasures, all_weaker, both_joined, voices_fit}
+use Rattle.lay_columns.proofs.KeyLaws.{slice_long}
+use Rattle.lay_columns.proofs.Ranks.{IsPlaced, measures_in, slice_fit}
+use Rattle.lay_columns.proofs.Slots.{AreBelow, head_laid, head_slots, lay_below, lay_moved, measures_laid}
+use Rattle.lay_columns.proofs.Slots.{measures_slots, slot}
 
 -- ---- what a change would draw
 change_same : (keys : List ColumnKey) (m : ℕ) (lower : Bool) (e : DrawnEvent) → changes_nothing e.flat.event.changes ≡ true → change_part keys m true e ≡ change_part keys m lower e

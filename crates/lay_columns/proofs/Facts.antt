@@ -1,12 +1,40 @@
 -- What is true of the columns of one measure: they stand in it, the last is its bar, and texts are short.
-use Rattle.std.{proofs.{Common.{◌≡◌, ◌∙◌, ℕ, zero, suc, ◌+◌, ◌-◌, ◌<◌, ◌≤◌, Bool, true, false, List, [], ◌∷◌, length, map, take, drop, Some, Ok, Err, IfOk, Result, refl, sym, ap, subst, arith}, lemmas.{Bool.Decides.nat_tests, List.{length-map, Elements.{All-from_recursion, Contains-append_left, Contains-append_right, recursion_from_All}}}}, specs.List.{All, AllByRecursion, Contains, flat_map, slice_index, slice_range}}
-use Rattle.mus_score.specs.{declared.score.Measure.Measure, declared.score.Score.Score, declared.score.Voice.Voice, Seats.is_lower, Times.flats_of, GoodScore.IsGoodScore, GoodScore.IsLed}
-use Rattle.mus_onsets.specs.{declared.{keys.{Class.Class, ColumnKey.ColumnKey}, times.Timeline.Timeline}, Onsets.timeline_of, Keys.{AreKeys, all_keys, bar_key, called_keys, events_keys, first_keys, further_keys, IsInSystem, key_at, keys_by, measures_keys, signed_at}, Order.{BelowAll, is_below, Rises}}
-use Rattle.{mus_drawn.specs.{declared.drawn.DrawnMeasure.DrawnMeasure, declared.drawn.DrawnVoice.DrawnVoice}, mus_laid.specs.Boxes.{AreGoodMarks}}
-use Rattle.{mus_stems.proofs.RunLaws.{all_append, all_drop, all_take}, mus_time.{specs.Columns.keys_called, proofs.Called.called_places}}
-use Rattle.mus_marks.{specs.System.drawn_staves, proofs.Fitting.staves_fit, proofs.Parts.columns_all, proofs.Parts.Fits, proofs.Parts.FitsMeasure, proofs.Parts.FitsVoice, proofs.Parts.measures_all, proofs.GoodMarks.goods, proofs.GoodMarks.IsGood}
-use Rattle.lay_reaches.{specs.{declared.column.Column.Column, Columns.StandsWhereDue, Widened.HaveGoodMarks}, proofs.Facts.columns_stand}
-use Rattle.lay_columns.specs.Measures.{AreMeasureColumns, EndWithBar, fixed_place, keys_in, measure_part, measure_staff, parts_from}
+use Rattle.std.proofs.Common.{◌≡◌, ◌∙◌, ℕ, zero, suc, ◌+◌, ◌-◌, ◌<◌, ◌≤◌, Bool, true, false, List, [], ◌∷◌, length, map}
+use Rattle.std.proofs.Common.{take, drop, Some, Ok, Err, IfOk, Result, refl, sym, ap, subst, arith}
+use Rattle.std.proofs.lemmas.Bool.Decides.{nat_tests}
+use Rattle.std.proofs.lemmas.List.{length-map}
+use Rattle.std.proofs.lemmas.List.Elements.{All-from_recursion, Contains-append_left, Contains-append_right}
+use Rattle.std.proofs.lemmas.List.Elements.{recursion_from_All}
+use Rattle.std.specs.List.{All, AllByRecursion, Contains, flat_map, slice_index, slice_range}
+use Rattle.mus_score.specs.declared.score.Measure.{Measure}
+use Rattle.mus_score.specs.declared.score.Score.{Score}
+use Rattle.mus_score.specs.declared.score.Voice.{Voice}
+use Rattle.mus_score.specs.Seats.{is_lower}
+use Rattle.mus_score.specs.Times.{flats_of}
+use Rattle.mus_score.specs.GoodScore.{IsGoodScore, IsLed}
+use Rattle.mus_onsets.specs.declared.keys.Class.{Class}
+use Rattle.mus_onsets.specs.declared.keys.ColumnKey.{ColumnKey}
+use Rattle.mus_onsets.specs.declared.times.Timeline.{Timeline}
+use Rattle.mus_onsets.specs.Onsets.{timeline_of}
+use Rattle.mus_onsets.specs.Keys.{AreKeys, all_keys, bar_key, called_keys, events_keys, first_keys, further_keys}
+use Rattle.mus_onsets.specs.Keys.{IsInSystem, key_at, keys_by, measures_keys, signed_at}
+use Rattle.mus_onsets.specs.Order.{BelowAll, is_below, Rises}
+use Rattle.mus_drawn.specs.declared.drawn.DrawnMeasure.{DrawnMeasure}
+use Rattle.mus_drawn.specs.declared.drawn.DrawnVoice.{DrawnVoice}
+use Rattle.mus_laid.specs.Boxes.{AreGoodMarks}
+use Rattle.mus_stems.proofs.RunLaws.{all_append, all_drop, all_take}
+use Rattle.mus_time.specs.Columns.{keys_called}
+use Rattle.mus_time.proofs.Called.{called_places}
+use Rattle.mus_marks.specs.System.{drawn_staves}
+use Rattle.mus_marks.proofs.Fitting.{staves_fit}
+use Rattle.mus_marks.proofs.Parts.{columns_all, Fits, FitsMeasure, FitsVoice, measures_all}
+use Rattle.mus_marks.proofs.GoodMarks.{goods, IsGood}
+use Rattle.lay_reaches.specs.declared.column.Column.{Column}
+use Rattle.lay_reaches.specs.Columns.{StandsWhereDue}
+use Rattle.lay_reaches.specs.Widened.{HaveGoodMarks}
+use Rattle.lay_reaches.proofs.Facts.{columns_stand}
+use Rattle.lay_columns.specs.Measures.{AreMeasureColumns, EndWithBar, fixed_place, keys_in, measure_part, measure_staff}
+use Rattle.lay_columns.specs.Measures.{parts_from}
 
 -- ---- one measure of some
 single : {X : Type 0} (m : ℕ) (xs : List X) → m < length xs → (x : X) × (take 1 (drop m xs) ≡ x ∷ [])

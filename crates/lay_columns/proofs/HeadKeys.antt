@@ -1,9 +1,32 @@
 -- Behind the key of its head, a measure that begins without a change has the keys that it has in a system which began before.
-use Rattle.std.{proofs.{Common.{◌≡◌, ◌∙◌, ℕ, zero, suc, ◌+◌, ◌-◌, ◌<◌, ◌≤◌, ◌==◌, ◌&&◌, ◌||◌, ◌⊎◌, inl, inr, Bool, true, false, if◌then◌else◌, List, [], ◌∷◌, ◌++◌, length, take, drop, Option, None, is_none, refl, sym, ap, subst, arith}, lemmas.{Bool.Decides.nat_tests, List.Elements.{All-append, All-cons, All-contains, All-filter, All-from_recursion, All-nil}}}, specs.{List.{All, AllByRecursion, Contains, flat_map, slice_get, slice_index_or, slice_range}, Prelude.is_some}}
-use Rattle.{mus_units.specs.{declared.key.Key.Key, declared.key.Meter.Meter, declared.pitch.Clef.Clef}, mus_score.specs.{declared.score.{Changes.Changes, Event.Event}, Seats.is_lower}, mus_stems.proofs.RunLaws.{all_append}}
-use Rattle.mus_onsets.{specs.{declared.keys.{Class.Class, ColumnKey.ColumnKey}, Keys.{AreKeys, bar_key, change_has_mark, change_keys, event_keys, grace_keys, has_features, head_key, is_for_each, key_at, key_has_mark, keys_by, meter_has_mark}, Order.{class_number, is_below, key_rank}}, proofs.RankLaws.{false_not_true, rank_at_place}}
-use Rattle.{mus_drawn.specs.declared.drawn.{DrawnEvent.DrawnEvent, DrawnMeasure.DrawnMeasure, DrawnVoice.DrawnVoice}, mus_time.specs.Columns.{events_columns, has_old, measures_columns, note_key, staff_columns}}
-use Rattle.{mus_marks.specs.Events.{changes_nothing}, lay_columns.{specs.Measures.{begins_plain, first_plain, is_plain}, proofs.{Joined.all_weaker, KeyLaws.{keys_by_more, of_behind, parts}}}}
+use Rattle.std.proofs.Common.{◌≡◌, ◌∙◌, ℕ, zero, suc, ◌+◌, ◌-◌, ◌<◌, ◌≤◌, ◌==◌, ◌&&◌, ◌||◌, ◌⊎◌, inl, inr, Bool, true}
+use Rattle.std.proofs.Common.{false, if◌then◌else◌, List, [], ◌∷◌, ◌++◌, length, take, drop, Option, None, is_none}
+use Rattle.std.proofs.Common.{refl, sym, ap, subst, arith}
+use Rattle.std.proofs.lemmas.Bool.Decides.{nat_tests}
+use Rattle.std.proofs.lemmas.List.Elements.{All-append, All-cons, All-contains, All-filter, All-from_recursion, All-nil}
+use Rattle.std.specs.List.{All, AllByRecursion, Contains, flat_map, slice_get, slice_index_or, slice_range}
+use Rattle.std.specs.Prelude.{is_some}
+use Rattle.mus_units.specs.declared.key.Key.{Key}
+use Rattle.mus_units.specs.declared.key.Meter.{Meter}
+use Rattle.mus_units.specs.declared.pitch.Clef.{Clef}
+use Rattle.mus_score.specs.declared.score.Changes.{Changes}
+use Rattle.mus_score.specs.declared.score.Event.{Event}
+use Rattle.mus_score.specs.Seats.{is_lower}
+use Rattle.mus_stems.proofs.RunLaws.{all_append}
+use Rattle.mus_onsets.specs.declared.keys.Class.{Class}
+use Rattle.mus_onsets.specs.declared.keys.ColumnKey.{ColumnKey}
+use Rattle.mus_onsets.specs.Keys.{AreKeys, bar_key, change_has_mark, change_keys, event_keys, grace_keys, has_features}
+use Rattle.mus_onsets.specs.Keys.{head_key, is_for_each, key_at, key_has_mark, keys_by, meter_has_mark}
+use Rattle.mus_onsets.specs.Order.{class_number, is_below, key_rank}
+use Rattle.mus_onsets.proofs.RankLaws.{false_not_true, rank_at_place}
+use Rattle.mus_drawn.specs.declared.drawn.DrawnEvent.{DrawnEvent}
+use Rattle.mus_drawn.specs.declared.drawn.DrawnMeasure.{DrawnMeasure}
+use Rattle.mus_drawn.specs.declared.drawn.DrawnVoice.{DrawnVoice}
+use Rattle.mus_time.specs.Columns.{events_columns, has_old, measures_columns, note_key, staff_columns}
+use Rattle.mus_marks.specs.Events.{changes_nothing}
+use Rattle.lay_columns.specs.Measures.{begins_plain, first_plain, is_plain}
+use Rattle.lay_columns.proofs.Joined.{all_weaker}
+use Rattle.lay_columns.proofs.KeyLaws.{keys_by_more, of_behind, parts}
 
 -- ---- measures that begin without a change
 abbrev pub ArePlain : List DrawnMeasure → Type 0

@@ -1,12 +1,52 @@
 -- A system that is one measure longer has the columns of the system, then those of the further measure.
-use Rattle.std.{proofs.{Common.{◌≡◌, ◌≢◌, ◌∙◌, ℕ, ◌+◌, ◌-◌, ◌<◌, ◌≤◌, ◌==◌, true, false, List, [], ◌∷◌, ◌++◌, length, map, Some, None, refl, sym, ap, subst, arith}, lemmas.{Bool.Decides.nat_tests, List.{append-nil, append_assoc, length-map, Elements.{All-from_recursion, All-nil, Contains-append_right, filter_map-append, recursion_from_All}}}}, specs.List.{All, AllByRecursion, Contains, slice_index, slice_index_or, slice_range}}
-use Rattle.{mus_units.specs.declared.note.Bar.{Bar}, mus_score.specs.{declared.score.Score.Score, declared.score.Seat.Seat, declared.score.Voice.Voice, GoodScore.IsGoodScore, Seats.grouped}}
-use Rattle.mus_onsets.{specs.{declared.keys.{Class.Class, ColumnKey.ColumnKey}, Keys.{AreKeys, all_keys, bar_key, called_keys, first_keys, further_keys, IsInSystem, key_at, measures_keys, signed_at}, Onsets.{measure_length, timeline_of}, Order.key_rank}, proofs.Places.{further_places, length_is, places_of}}
-use Rattle.{mus_stems.proofs.RunLaws.{all_append}, mus_laid.specs.{declared.laid.Laid.Laid, declared.laid.StaffMarks.StaffMarks, declared.laid.SystemMarks.SystemMarks}}
-use Rattle.{mus_drawn.specs.{declared.drawn.DrawnMeasure.DrawnMeasure, declared.drawn.DrawnVoice.DrawnVoice, Drawn.drawn_voice}, mus_time.proofs.Counts.{voice_count}}
-use Rattle.mus_marks.{specs.Staff.columns_part, specs.Staff.staff_marks, specs.System.IsCall, specs.System.drawn_staves, specs.System.is_drawn_lower, proofs.Groups.grouped_all, proofs.OneList.same_keys}
-use Rattle.lay_reaches.{specs.{declared.column.Column.Column, Columns.columns_of, Joining.{AreJoined, IsBelow, moved, OfOtherMeasures, StavesJoin}, Reaches.{box_at, boxes_at, rank_of_mark as mark_rank}}, proofs.JoinLaws.{columns_join, marks_join}}
-use Rattle.lay_columns.{proofs.{Slots.{AreBelow, bar_slots, columns_laid, columns_slots, events_slots, first_slots, head_slots, lay, lay_append, lay_below, lay_moved, lay_same, measures_laid, measures_slots}, Facts.led_voice, KeyLaws.{keys_grow, slice_long, slice_more}, Ranks.{bars_in, columns_in, Fit, IsPlaced, measures_in, rank_behind, rank_front, rank_less, slice_fit, voice_fit}, SameBoxes.{core_part, staff_same}}, specs.{Law.{AreColumnsFrom, MeasuresJoin, one_after_the_other}, Measures.{AreMeasureColumns, fixed_place, keys_in, measure_part, measure_staff, parts_from, staff_of_columns}}}
+use Rattle.std.proofs.Common.{◌≡◌, ◌≢◌, ◌∙◌, ℕ, ◌+◌, ◌-◌, ◌<◌, ◌≤◌, ◌==◌, true, false, List, [], ◌∷◌, ◌++◌, length, map}
+use Rattle.std.proofs.Common.{Some, None, refl, sym, ap, subst, arith}
+use Rattle.std.proofs.lemmas.Bool.Decides.{nat_tests}
+use Rattle.std.proofs.lemmas.List.{append-nil, append_assoc, length-map}
+use Rattle.std.proofs.lemmas.List.Elements.{All-from_recursion, All-nil, Contains-append_right, filter_map-append}
+use Rattle.std.proofs.lemmas.List.Elements.{recursion_from_All}
+use Rattle.std.specs.List.{All, AllByRecursion, Contains, slice_index, slice_index_or, slice_range}
+use Rattle.mus_units.specs.declared.note.Bar.{Bar}
+use Rattle.mus_score.specs.declared.score.Score.{Score}
+use Rattle.mus_score.specs.declared.score.Seat.{Seat}
+use Rattle.mus_score.specs.declared.score.Voice.{Voice}
+use Rattle.mus_score.specs.GoodScore.{IsGoodScore}
+use Rattle.mus_score.specs.Seats.{grouped}
+use Rattle.mus_onsets.specs.declared.keys.Class.{Class}
+use Rattle.mus_onsets.specs.declared.keys.ColumnKey.{ColumnKey}
+use Rattle.mus_onsets.specs.Keys.{AreKeys, all_keys, bar_key, called_keys, first_keys, further_keys, IsInSystem, key_at}
+use Rattle.mus_onsets.specs.Keys.{measures_keys, signed_at}
+use Rattle.mus_onsets.specs.Onsets.{measure_length, timeline_of}
+use Rattle.mus_onsets.specs.Order.{key_rank}
+use Rattle.mus_onsets.proofs.Places.{further_places, length_is, places_of}
+use Rattle.mus_stems.proofs.RunLaws.{all_append}
+use Rattle.mus_laid.specs.declared.laid.Laid.{Laid}
+use Rattle.mus_laid.specs.declared.laid.StaffMarks.{StaffMarks}
+use Rattle.mus_laid.specs.declared.laid.SystemMarks.{SystemMarks}
+use Rattle.mus_drawn.specs.declared.drawn.DrawnMeasure.{DrawnMeasure}
+use Rattle.mus_drawn.specs.declared.drawn.DrawnVoice.{DrawnVoice}
+use Rattle.mus_drawn.specs.Drawn.{drawn_voice}
+use Rattle.mus_time.proofs.Counts.{voice_count}
+use Rattle.mus_marks.specs.Staff.{columns_part, staff_marks}
+use Rattle.mus_marks.specs.System.{IsCall, drawn_staves, is_drawn_lower}
+use Rattle.mus_marks.proofs.Groups.{grouped_all}
+use Rattle.mus_marks.proofs.OneList.{same_keys}
+use Rattle.lay_reaches.specs.declared.column.Column.{Column}
+use Rattle.lay_reaches.specs.Columns.{columns_of}
+use Rattle.lay_reaches.specs.Joining.{AreJoined, IsBelow, moved, OfOtherMeasures, StavesJoin}
+use Rattle.lay_reaches.specs.Reaches.{box_at, boxes_at, rank_of_mark as mark_rank}
+use Rattle.lay_reaches.proofs.JoinLaws.{columns_join, marks_join}
+use Rattle.lay_columns.proofs.Slots.{AreBelow, bar_slots, columns_laid, columns_slots, events_slots, first_slots}
+use Rattle.lay_columns.proofs.Slots.{head_slots, lay, lay_append, lay_below, lay_moved, lay_same, measures_laid}
+use Rattle.lay_columns.proofs.Slots.{measures_slots}
+use Rattle.lay_columns.proofs.Facts.{led_voice}
+use Rattle.lay_columns.proofs.KeyLaws.{keys_grow, slice_long, slice_more}
+use Rattle.lay_columns.proofs.Ranks.{bars_in, columns_in, Fit, IsPlaced, measures_in, rank_behind, rank_front}
+use Rattle.lay_columns.proofs.Ranks.{rank_less, slice_fit, voice_fit}
+use Rattle.lay_columns.proofs.SameBoxes.{core_part, staff_same}
+use Rattle.lay_columns.specs.Law.{AreColumnsFrom, MeasuresJoin, one_after_the_other}
+use Rattle.lay_columns.specs.Measures.{AreMeasureColumns, fixed_place, keys_in, measure_part, measure_staff, parts_from}
+use Rattle.lay_columns.specs.Measures.{staff_of_columns}
 
 itself : (a : ℕ) → (a == a) ≡ true
 itself a = grind (arith, nat_tests)

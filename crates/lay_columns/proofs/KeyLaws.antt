@@ -1,7 +1,23 @@
 -- Keys of a system one measure longer: those of the system, then those of the further measure.
-use Rattle.std.{proofs.{Common.{◌≡◌, ◌∙◌, ℕ, ◌+◌, ◌-◌, ◌<◌, ◌≤◌, ◌⊎◌, inl, inr, Bool, true, false, List, [], ◌∷◌, ◌++◌, length, length-drop, take, drop, refl, sym, ap, subst, arith}, Math.Seq.take-add, lemmas.List.{append_assoc, drop-drop, length-take-le, Elements.{Contains-append_cases, Contains-append_left, Contains-append_right, filter-append}}}, specs.{List.{AllByRecursion, Contains, flat_map, slice_range}, Prelude.slice_index}}
-use Rattle.mus_score.specs.{declared.score.Measure.Measure, declared.score.Score.Score, declared.score.Voice.Voice, Seats.is_lower, Times.flats_of}
-use Rattle.mus_onsets.{specs.{Keys.{AreKeys, all_keys, called_keys, events_keys, first_keys, further_keys, has_entries, is_for_each, key_at, keys_by, measure_keys, measures_keys, signed_at, signed_behind, signed_through, voice_keys}, declared.keys.{Class.Class, ColumnKey.ColumnKey}}, proofs.RankLaws.rises_join}
+use Rattle.std.proofs.Common.{◌≡◌, ◌∙◌, ℕ, ◌+◌, ◌-◌, ◌<◌, ◌≤◌, ◌⊎◌, inl, inr, Bool, true, false, List, [], ◌∷◌, ◌++◌}
+use Rattle.std.proofs.Common.{length, length-drop, take, drop, refl, sym, ap, subst, arith}
+use Rattle.std.proofs.Math.Seq.{take-add}
+use Rattle.std.proofs.lemmas.List.{append_assoc, drop-drop, length-take-le}
+use Rattle.std.proofs.lemmas.List.Elements.{Contains-append_cases, Contains-append_left, Contains-append_right}
+use Rattle.std.proofs.lemmas.List.Elements.{filter-append}
+use Rattle.std.specs.List.{AllByRecursion, Contains, flat_map, slice_range}
+use Rattle.std.specs.Prelude.{slice_index}
+use Rattle.mus_score.specs.declared.score.Measure.{Measure}
+use Rattle.mus_score.specs.declared.score.Score.{Score}
+use Rattle.mus_score.specs.declared.score.Voice.{Voice}
+use Rattle.mus_score.specs.Seats.{is_lower}
+use Rattle.mus_score.specs.Times.{flats_of}
+use Rattle.mus_onsets.specs.Keys.{AreKeys, all_keys, called_keys, events_keys, first_keys, further_keys, has_entries}
+use Rattle.mus_onsets.specs.Keys.{is_for_each, key_at, keys_by, measure_keys, measures_keys, signed_at, signed_behind}
+use Rattle.mus_onsets.specs.Keys.{signed_through, voice_keys}
+use Rattle.mus_onsets.specs.declared.keys.Class.{Class}
+use Rattle.mus_onsets.specs.declared.keys.ColumnKey.{ColumnKey}
+use Rattle.mus_onsets.proofs.RankLaws.{rises_join}
 
 -- ---- one more of some
 pub slice_more : {X : Type 0} (a b : ℕ) (xs : List X) → a ≤ b → slice_range xs a (b + 1) ≡ slice_range xs a b ++ slice_range xs b (b + 1)

@@ -1,13 +1,41 @@
 -- Ranks among the keys of a system and those of a further measure, and the keys of slots.
-use Rattle.std.{proofs.{Common.{◌≡◌, ◌∙◌, ℕ, zero, suc, ◌+◌, ◌-◌, ◌<◌, ◌≤◌, Bool, true, false, ◌==◌, ◌&&◌, ◌||◌, not, if◌then◌else◌, List, [], ◌∷◌, ◌++◌, length, take, drop, refl, sym, ap, subst, arith}, lemmas.{Bool.Decides.nat_tests, List.{Elements.Contains-append_right, Sums.sum_by-cons}}}, specs.List.{AllByRecursion, Contains, slice_get, slice_index, slice_range}}
+use Rattle.std.proofs.Common.{◌≡◌, ◌∙◌, ℕ, zero, suc, ◌+◌, ◌-◌, ◌<◌, ◌≤◌, Bool, true, false, ◌==◌, ◌&&◌, ◌||◌, not}
+use Rattle.std.proofs.Common.{if◌then◌else◌, List, [], ◌∷◌, ◌++◌, length, take, drop, refl, sym, ap, subst, arith}
+use Rattle.std.proofs.lemmas.Bool.Decides.{nat_tests}
+use Rattle.std.proofs.lemmas.List.Elements.{Contains-append_right}
+use Rattle.std.proofs.lemmas.List.Sums.{sum_by-cons}
+use Rattle.std.specs.List.{AllByRecursion, Contains, slice_get, slice_index, slice_range}
 use Rattle.mus_units.specs.{declared.note.Bar.Bar, declared.pitch.Clef.Clef}
-use Rattle.mus_score.specs.{declared.score.Event.Event, declared.score.Flat.Flat, declared.score.Measure.Measure, declared.score.Seat.Seat, declared.score.Voice.Voice, Good.total_ticks, Seats.is_lower, Times.flats_of}
+use Rattle.mus_score.specs.declared.score.Event.{Event}
+use Rattle.mus_score.specs.declared.score.Flat.{Flat}
+use Rattle.mus_score.specs.declared.score.Measure.{Measure}
+use Rattle.mus_score.specs.declared.score.Seat.{Seat}
+use Rattle.mus_score.specs.declared.score.Voice.{Voice}
+use Rattle.mus_score.specs.Good.{total_ticks}
+use Rattle.mus_score.specs.Seats.{is_lower}
+use Rattle.mus_score.specs.Times.{flats_of}
 use Rattle.mus_stems.{specs.declared.plans.StemPlan.StemPlan, proofs.RunLaws.all_append}
-use Rattle.mus_onsets.{specs.{declared.keys.{Class.Class, ColumnKey.ColumnKey}, Keys.{bar_key, events_keys, has_features, key_at, measures_keys, signed_through}, Onsets.{length_in_voice, ticks_of_some}, Order.{class_number, is_below, key_rank}}, proofs.{Orders.lower, RankLaws.rank_most}}
-use Rattle.{mus_ink.specs.{declared.graces.Group.Group, Bars.bar_marks, Decos.note_marks, Graces.group_of}, mus_laid.specs.declared.drawn.LaneInk.{LaneInk}}
-use Rattle.mus_drawn.specs.{declared.{drawn.{DrawnEvent.DrawnEvent, DrawnMeasure.DrawnMeasure, Style.Style}, standing.StaffState.StaffState}, Drawn.{drawn_events, drawn_measure, drawn_measures, drawn_voice, raise_of, standing_after, standing_behind, standing_of, style_of}}
+use Rattle.mus_onsets.specs.declared.keys.Class.{Class}
+use Rattle.mus_onsets.specs.declared.keys.ColumnKey.{ColumnKey}
+use Rattle.mus_onsets.specs.Keys.{bar_key, events_keys, has_features, key_at, measures_keys, signed_through}
+use Rattle.mus_onsets.specs.Onsets.{length_in_voice, ticks_of_some}
+use Rattle.mus_onsets.specs.Order.{class_number, is_below, key_rank}
+use Rattle.mus_onsets.proofs.Orders.{lower}
+use Rattle.mus_onsets.proofs.RankLaws.{rank_most}
+use Rattle.mus_ink.specs.declared.graces.Group.{Group}
+use Rattle.mus_ink.specs.Bars.{bar_marks}
+use Rattle.mus_ink.specs.Decos.{note_marks}
+use Rattle.mus_ink.specs.Graces.{group_of}
+use Rattle.mus_laid.specs.declared.drawn.LaneInk.{LaneInk}
+use Rattle.mus_drawn.specs.declared.drawn.DrawnEvent.{DrawnEvent}
+use Rattle.mus_drawn.specs.declared.drawn.DrawnMeasure.{DrawnMeasure}
+use Rattle.mus_drawn.specs.declared.drawn.Style.{Style}
+use Rattle.mus_drawn.specs.declared.standing.StaffState.{StaffState}
+use Rattle.mus_drawn.specs.Drawn.{drawn_events, drawn_measure, drawn_measures, drawn_voice, raise_of, standing_after}
+use Rattle.mus_drawn.specs.Drawn.{standing_behind, standing_of, style_of}
 use Rattle.{mus_time.specs.Columns.{note_key}, mus_marks.specs.Events.{levels_behind, levels_in}}
-use Rattle.lay_columns.proofs.Slots.{Slot, bar_slots, change_slots, columns_slots, event_slots, events_slots, first_slots, graces_slots, head_slots, measures_slots, slot, words_of}
+use Rattle.lay_columns.proofs.Slots.{Slot, bar_slots, change_slots, columns_slots, event_slots, events_slots}
+use Rattle.lay_columns.proofs.Slots.{first_slots, graces_slots, head_slots, measures_slots, slot, words_of}
 
 -- ---- ranks
 upper : (k l : ColumnKey) → k.measure < l.measure → is_below l k ≡ false

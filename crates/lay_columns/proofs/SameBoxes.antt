@@ -1,12 +1,42 @@
 -- Marks with the same boxes: where words go changes heights alone, and beams and arcs have no box.
-use Rattle.std.{proofs.{Common.{◌≡◌, ◌∙◌, ℕ, ℤ, ◌+◌, ◌<◌, ◌==◌, ◌&&◌, ◌||◌, Bool, true, false, if◌then◌else◌, List, [], ◌∷◌, ◌++◌, length, map, Option, Some, None, refl, sym, ap, subst}, lemmas.List.{append-nil, map-append, Elements.filter_map-append}}, specs.List.{flat_map, slice_range}}
-use Rattle.{mus_units.specs.declared.note.Bar.{Bar}, mus_score.specs.{declared.score.Flat.Flat, declared.score.Seat.Seat, Seats.is_lower}, mus_onsets.specs.declared.keys.ColumnKey.{ColumnKey}}
-use Rattle.mus_laid.specs.{declared.{laid.{Laid.Laid, Mark.Mark, Lane.Lane}, drawn.{Bridge.Bridge, LaneInk.LaneInk, BridgeShape.BridgeShape}}, Ranked.{anchor_rank, bridge_at, by_columns, drawn_at, is_rank, stands_at_rank}, Boxes.sides_of, Printed.printed}
+use Rattle.std.proofs.Common.{◌≡◌, ◌∙◌, ℕ, ℤ, ◌+◌, ◌<◌, ◌==◌, ◌&&◌, ◌||◌, Bool, true, false, if◌then◌else◌, List, []}
+use Rattle.std.proofs.Common.{◌∷◌, ◌++◌, length, map, Option, Some, None, refl, sym, ap, subst}
+use Rattle.std.proofs.lemmas.List.{append-nil, map-append}
+use Rattle.std.proofs.lemmas.List.Elements.{filter_map-append}
+use Rattle.std.specs.List.{flat_map, slice_range}
+use Rattle.mus_units.specs.declared.note.Bar.{Bar}
+use Rattle.mus_score.specs.declared.score.Flat.{Flat}
+use Rattle.mus_score.specs.declared.score.Seat.{Seat}
+use Rattle.mus_score.specs.Seats.{is_lower}
+use Rattle.mus_onsets.specs.declared.keys.ColumnKey.{ColumnKey}
+use Rattle.mus_laid.specs.declared.laid.Laid.{Laid}
+use Rattle.mus_laid.specs.declared.laid.Mark.{Mark}
+use Rattle.mus_laid.specs.declared.laid.Lane.{Lane}
+use Rattle.mus_laid.specs.declared.drawn.Bridge.{Bridge}
+use Rattle.mus_laid.specs.declared.drawn.LaneInk.{LaneInk}
+use Rattle.mus_laid.specs.declared.drawn.BridgeShape.{BridgeShape}
+use Rattle.mus_laid.specs.Ranked.{anchor_rank, bridge_at, by_columns, drawn_at, is_rank, stands_at_rank}
+use Rattle.mus_laid.specs.Boxes.{sides_of}
+use Rattle.mus_laid.specs.Printed.{printed}
 use Rattle.mus_ink.specs.{Distances.half_character, Drawing.back}
-use Rattle.mus_words.specs.{Syllables.{syllable, syllable_dx, syllable_if, syllables_from, verse_dy}, declared.texts.TextPlace.TextPlace, Words.words, Texts.{above_dy, above_from, below_dy, below_from, text_marks, texts_above, texts_below}}
-use Rattle.{mus_drawn.specs.{declared.drawn.DrawnEvent.DrawnEvent, declared.drawn.DrawnMeasure.DrawnMeasure, declared.drawn.DrawnVoice.DrawnVoice}, mus_bridges.specs.Bridges.{bridges_of}}
-use Rattle.mus_marks.{specs.{Staff.{bare_marks, columns_part, first_bar_part, head_part, own_part, room_over, staff_bridges, staff_marks, staff_over, texts_behind, verses_on, written_parts}, declared.events.{WordRoom.WordRoom, StaffRoom.StaffRoom, TextCounts.TextCounts}, Events.{bar_part, change_part, event_marks, events_marks, graces_part, levels_behind, levels_in, measures_marks, note_part, note_rank, words_part}}, proofs.Columned.columned_taken}
-use Rattle.lay_reaches.specs.{Lanes.lane_number, Reaches.box_at, Reaches.boxes_at, Reaches.is_lane_number, Reaches.rank_of_mark as mark_rank}
+use Rattle.mus_words.specs.Syllables.{syllable, syllable_dx, syllable_if, syllables_from, verse_dy}
+use Rattle.mus_words.specs.declared.texts.TextPlace.{TextPlace}
+use Rattle.mus_words.specs.Words.{words}
+use Rattle.mus_words.specs.Texts.{above_dy, above_from, below_dy, below_from, text_marks, texts_above, texts_below}
+use Rattle.mus_drawn.specs.declared.drawn.DrawnEvent.{DrawnEvent}
+use Rattle.mus_drawn.specs.declared.drawn.DrawnMeasure.{DrawnMeasure}
+use Rattle.mus_drawn.specs.declared.drawn.DrawnVoice.{DrawnVoice}
+use Rattle.mus_bridges.specs.Bridges.{bridges_of}
+use Rattle.mus_marks.specs.Staff.{bare_marks, columns_part, first_bar_part, head_part, own_part, room_over}
+use Rattle.mus_marks.specs.Staff.{staff_bridges, staff_marks, staff_over, texts_behind, verses_on, written_parts}
+use Rattle.mus_marks.specs.declared.events.WordRoom.{WordRoom}
+use Rattle.mus_marks.specs.declared.events.StaffRoom.{StaffRoom}
+use Rattle.mus_marks.specs.declared.events.TextCounts.{TextCounts}
+use Rattle.mus_marks.specs.Events.{bar_part, change_part, event_marks, events_marks, graces_part, levels_behind}
+use Rattle.mus_marks.specs.Events.{levels_in, measures_marks, note_part, note_rank, words_part}
+use Rattle.mus_marks.proofs.Columned.{columned_taken}
+use Rattle.lay_reaches.specs.Lanes.{lane_number}
+use Rattle.lay_reaches.specs.Reaches.{box_at, boxes_at, is_lane_number, rank_of_mark as mark_rank}
 use Rattle.lay_columns.specs.Measures.{fixed_place, parts_from}
 use Rattle.mus_laid.specs.declared.laid.Lane.TheVariants as lanes
 

@@ -1,12 +1,37 @@
 -- What stands in the columns of a staff, without its ranks: marks with the key of the column of each.
 -- With the rank of each key they are the marks of the staff, so that what moves the ranks moves them.
-use Rattle.std.{proofs.{Common.{◌≡◌, ◌∙◌, ℕ, pos, ◌+◌, ◌<◌, ◌==◌, ◌&&◌, ◌||◌, not, Bool, true, false, if◌then◌else◌, List, [], ◌∷◌, ◌++◌, map, Some, refl, sym, ap}, lemmas.List.{append-nil, append_assoc, map-append}}, specs.List.AllByRecursion}
-use Rattle.{mus_units.specs.{declared.note.Bar.Bar, declared.pitch.Clef.Clef}, mus_score.specs.{declared.score.Event.Event, declared.score.Flat.Flat, declared.score.Seat.Seat, Seats.is_lower}}
-use Rattle.mus_onsets.specs.{declared.keys.Class.Class, declared.keys.ColumnKey.ColumnKey, Keys.bar_key, Keys.has_features, Keys.head_key, Keys.key_at, Order.key_rank}
-use Rattle.mus_laid.specs.{declared.drawn.LaneInk.LaneInk, declared.drawn.Ink.Ink, declared.laid.Laid.Laid, Ranked.drawn_at, Ranked.ink_at}
-use Rattle.{mus_ink.specs.{declared.graces.Group.Group, Bars.bar_marks, Changes.change_marks, Changes.head_marks, Decos.note_marks, Graces.grace_marks, Graces.group_of}, mus_words.specs.{Syllables.syllables_from, Texts.text_marks}}
-use Rattle.{mus_drawn.specs.{declared.drawn.DrawnEvent.DrawnEvent, declared.drawn.DrawnMeasure.DrawnMeasure, Drawn.raise_of}, mus_time.specs.Columns.{note_key}}
-use Rattle.mus_marks.specs.{Events.change_part, Events.event_marks, Events.events_marks, Events.graces_from, Events.levels_behind, Events.levels_in, Events.measures_marks, Events.no_texts, Events.text_place, Staff.columns_part, Staff.head_part, Staff.meter_shown}
+use Rattle.std.proofs.Common.{◌≡◌, ◌∙◌, ℕ, pos, ◌+◌, ◌<◌, ◌==◌, ◌&&◌, ◌||◌, not, Bool, true, false, if◌then◌else◌, List}
+use Rattle.std.proofs.Common.{[], ◌∷◌, ◌++◌, map, Some, refl, sym, ap}
+use Rattle.std.proofs.lemmas.List.{append-nil, append_assoc, map-append}
+use Rattle.std.specs.List.{AllByRecursion}
+use Rattle.mus_units.specs.declared.note.Bar.{Bar}
+use Rattle.mus_units.specs.declared.pitch.Clef.{Clef}
+use Rattle.mus_score.specs.declared.score.Event.{Event}
+use Rattle.mus_score.specs.declared.score.Flat.{Flat}
+use Rattle.mus_score.specs.declared.score.Seat.{Seat}
+use Rattle.mus_score.specs.Seats.{is_lower}
+use Rattle.mus_onsets.specs.declared.keys.Class.{Class}
+use Rattle.mus_onsets.specs.declared.keys.ColumnKey.{ColumnKey}
+use Rattle.mus_onsets.specs.Keys.{bar_key, has_features, head_key, key_at}
+use Rattle.mus_onsets.specs.Order.{key_rank}
+use Rattle.mus_laid.specs.declared.drawn.LaneInk.{LaneInk}
+use Rattle.mus_laid.specs.declared.drawn.Ink.{Ink}
+use Rattle.mus_laid.specs.declared.laid.Laid.{Laid}
+use Rattle.mus_laid.specs.Ranked.{drawn_at, ink_at}
+use Rattle.mus_ink.specs.declared.graces.Group.{Group}
+use Rattle.mus_ink.specs.Bars.{bar_marks}
+use Rattle.mus_ink.specs.Changes.{change_marks, head_marks}
+use Rattle.mus_ink.specs.Decos.{note_marks}
+use Rattle.mus_ink.specs.Graces.{grace_marks, group_of}
+use Rattle.mus_words.specs.Syllables.{syllables_from}
+use Rattle.mus_words.specs.Texts.{text_marks}
+use Rattle.mus_drawn.specs.declared.drawn.DrawnEvent.{DrawnEvent}
+use Rattle.mus_drawn.specs.declared.drawn.DrawnMeasure.{DrawnMeasure}
+use Rattle.mus_drawn.specs.Drawn.{raise_of}
+use Rattle.mus_time.specs.Columns.{note_key}
+use Rattle.mus_marks.specs.Events.{change_part, event_marks, events_marks, graces_from, levels_behind, levels_in}
+use Rattle.mus_marks.specs.Events.{measures_marks, no_texts, text_place}
+use Rattle.mus_marks.specs.Staff.{columns_part, head_part, meter_shown}
 use Rattle.lay_reaches.specs.{Joining.{IsBelow, moved, moved_mark}, Reaches.rank_of_mark as mark_rank}
 use Rattle.lay_columns.specs.Measures.{fixed_place, fixed_room}
 

@@ -1,7 +1,14 @@
 -- The columns of measures, one after the other, are those of the system.
 use Rattle.std.specs.Prelude.{◌≡◌, ℕ, ◌+◌, ◌<◌, ◌≤◌, ◌==◌, ⊤, List, [], ◌∷◌, length, flat_map}
-use Rattle.{mus_score.specs.{declared.score.Score.Score, GoodScore.IsGoodScore}, mus_onsets.specs.{declared.times.Timeline.Timeline, Onsets.timeline_of}, mus_laid.specs.declared.laid.SystemMarks.{SystemMarks}, mus_marks.specs.System.{IsCall}}
-use Rattle.{lay_reaches.specs.{declared.column.Column.Column, Columns.columns_of}, lay_columns.specs.Measures.{AreMeasureColumns}}
+use Rattle.mus_score.specs.declared.score.Score.{Score}
+use Rattle.mus_score.specs.GoodScore.{IsGoodScore}
+use Rattle.mus_onsets.specs.declared.times.Timeline.{Timeline}
+use Rattle.mus_onsets.specs.Onsets.{timeline_of}
+use Rattle.mus_laid.specs.declared.laid.SystemMarks.{SystemMarks}
+use Rattle.mus_marks.specs.System.{IsCall}
+use Rattle.lay_reaches.specs.declared.column.Column.{Column}
+use Rattle.lay_reaches.specs.Columns.{columns_of}
+use Rattle.lay_columns.specs.Measures.{AreMeasureColumns}
 
 -- the columns of measure m, those of measure m + 1, and so on, in a system that begins with measure a
 abbrev pub AreColumnsFrom : Score → Timeline → ℕ → ℕ → List ℕ → List (List Column) → Type 0

@@ -1,9 +1,25 @@
 -- The columns of one measure: in a system that begins with it, and in one that began before. Heights, and what texts stand in a
 -- column before, are of no account to columns, so that syllables and texts stand in a place that is always the same.
-use Rattle.std.specs.Prelude.{◌≡◌, ℕ, pos, ◌+◌, ◌-◌, ◌==◌, Bool, true, false, List, [], ◌∷◌, ◌++◌, drop, map, min, slice_get, slice_range, Option, Some, None}
-use Rattle.{mus_score.specs.declared.score.Score.{Score}, mus_onsets.specs.{declared.keys.Class.Class, declared.keys.ColumnKey.ColumnKey, declared.times.Timeline.Timeline, Keys.AreKeys}}
-use Rattle.{mus_laid.specs.{declared.laid.Laid.Laid, declared.laid.StaffMarks.StaffMarks}, mus_drawn.specs.declared.drawn.{DrawnEvent.DrawnEvent, DrawnMeasure.DrawnMeasure, DrawnVoice.DrawnVoice}, mus_time.specs.Columns.{keys_called}}
-use Rattle.{mus_marks.specs.{declared.events.WordRoom.WordRoom, declared.events.StaffRoom.StaffRoom, Events.{changes_nothing, measures_marks}, Staff.columns_part, System.drawn_staves}, lay_reaches.specs.{declared.column.Column.Column, Columns.columns_of}}
+use Rattle.std.specs.Prelude.{◌≡◌, ℕ, pos, ◌+◌, ◌-◌, ◌==◌, Bool, true, false, List, [], ◌∷◌, ◌++◌, drop, map, min}
+use Rattle.std.specs.Prelude.{slice_get, slice_range, Option, Some, None}
+use Rattle.mus_score.specs.declared.score.Score.{Score}
+use Rattle.mus_onsets.specs.declared.keys.Class.{Class}
+use Rattle.mus_onsets.specs.declared.keys.ColumnKey.{ColumnKey}
+use Rattle.mus_onsets.specs.declared.times.Timeline.{Timeline}
+use Rattle.mus_onsets.specs.Keys.{AreKeys}
+use Rattle.mus_laid.specs.declared.laid.Laid.{Laid}
+use Rattle.mus_laid.specs.declared.laid.StaffMarks.{StaffMarks}
+use Rattle.mus_drawn.specs.declared.drawn.DrawnEvent.{DrawnEvent}
+use Rattle.mus_drawn.specs.declared.drawn.DrawnMeasure.{DrawnMeasure}
+use Rattle.mus_drawn.specs.declared.drawn.DrawnVoice.{DrawnVoice}
+use Rattle.mus_time.specs.Columns.{keys_called}
+use Rattle.mus_marks.specs.declared.events.WordRoom.{WordRoom}
+use Rattle.mus_marks.specs.declared.events.StaffRoom.{StaffRoom}
+use Rattle.mus_marks.specs.Events.{changes_nothing, measures_marks}
+use Rattle.mus_marks.specs.Staff.{columns_part}
+use Rattle.mus_marks.specs.System.{drawn_staves}
+use Rattle.lay_reaches.specs.declared.column.Column.{Column}
+use Rattle.lay_reaches.specs.Columns.{columns_of}
 
 -- over the lines of the staff
 abbrev pub fixed_room : StaffRoom

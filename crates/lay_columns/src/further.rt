@@ -1,6 +1,10 @@
 ghost use Rattle.std.specs.{Prelude.{◌≡◌, ◌<◌, true, All, IfOk, length, map}, List.list_all};
-ghost use Rattle.{mus_score.specs.GoodScore.{IsGoodScore}, mus_onsets.specs.Onsets.{timeline_of}, mus_drawn.specs.{Drawn.drawn_voice, Good.AreGoodMeasures}};
-ghost use Rattle.{mus_marks.specs.System.{drawn_staves}, lay_columns.specs.Measures.{AreFurther, begins_plain, first_plain, further_of}};
+ghost use Rattle.mus_score.specs.GoodScore.{IsGoodScore};
+ghost use Rattle.mus_onsets.specs.Onsets.{timeline_of};
+ghost use Rattle.mus_drawn.specs.Drawn.{drawn_voice};
+ghost use Rattle.mus_drawn.specs.Good.{AreGoodMeasures};
+ghost use Rattle.mus_marks.specs.System.{drawn_staves};
+ghost use Rattle.lay_columns.specs.Measures.{AreFurther, begins_plain, first_plain, further_of};
 
 use crate::measures::measure_columns;
 use lay_reaches::Column;

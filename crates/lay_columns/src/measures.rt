@@ -1,7 +1,16 @@
 ghost use Rattle.std.specs.Prelude.{◌≡◌, ◌≤◌, ◌<◌, ◌+◌, ◌++◌, ◌==◌, All, IfOk, OnOk, length, map};
-ghost use Rattle.{mus_score.specs.{GoodScore.IsGoodScore, Seats.grouped}, mus_onsets.specs.{Keys.IsInSystem, Onsets.timeline_of}, mus_drawn.specs.{Drawn.drawn_voice, Good.AreGoodMeasures}};
-ghost use Rattle.{mus_marks.specs.{Staff.verses_on, System.drawn_staves, System.is_drawn_lower}, lay_reaches.specs.{Columns.IsSmall, Columns.IsUncut, Columns.StandsWhereDue, Lanes.gaps_of}};
-ghost use Rattle.lay_columns.specs.Measures.{AreMeasureColumns, EndWithBar, fixed_place, measure_part, measure_staff, staff_of_columns};
+ghost use Rattle.mus_score.specs.GoodScore.{IsGoodScore};
+ghost use Rattle.mus_score.specs.Seats.{grouped};
+ghost use Rattle.mus_onsets.specs.Keys.{IsInSystem};
+ghost use Rattle.mus_onsets.specs.Onsets.{timeline_of};
+ghost use Rattle.mus_drawn.specs.Drawn.{drawn_voice};
+ghost use Rattle.mus_drawn.specs.Good.{AreGoodMeasures};
+ghost use Rattle.mus_marks.specs.Staff.{verses_on};
+ghost use Rattle.mus_marks.specs.System.{drawn_staves, is_drawn_lower};
+ghost use Rattle.lay_reaches.specs.Columns.{IsSmall, IsUncut, StandsWhereDue};
+ghost use Rattle.lay_reaches.specs.Lanes.{gaps_of};
+ghost use Rattle.lay_columns.specs.Measures.{AreMeasureColumns, EndWithBar, fixed_place, measure_part, measure_staff};
+ghost use Rattle.lay_columns.specs.Measures.{staff_of_columns};
 
 use lay_reaches::{Column, columns_in};
 use mus_drawn::DrawnVoice;

@@ -1,6 +1,13 @@
 -- Where blocks are placed one after the other, each follows the one before it.
-use Rattle.std.{proofs.{Common.{◌≡◌, refl, ap, ◌∙◌, ℕ, ◌+◌, ◌≤◌, ℤ, pos, negsuc, ◌-ℤ◌, ◌≤ℤ◌, ◌<ℤ◌, Bool, true, false, List, [], ◌∷◌, arith}, lemmas.{Bool.Decides.nat_tests, Int.ints}}, specs.Prelude.{◌||◌, nat_le}}
-use Rattle.lay_pages.specs.{declared.filling.{Block.Block, BlockSpot.BlockSpot}, Filling.{AreGoodBlocks, height_number, group_height, under, place_by, next_place, spot_at, spots_from, spots_of, Follows, same_page, next_page, FollowOn, AreFilled}}
+use Rattle.std.proofs.Common.{◌≡◌, refl, ap, ◌∙◌, ℕ, ◌+◌, ◌≤◌, ℤ, pos, negsuc, ◌-ℤ◌, ◌≤ℤ◌, ◌<ℤ◌, Bool, true, false}
+use Rattle.std.proofs.Common.{List, [], ◌∷◌, arith}
+use Rattle.std.proofs.lemmas.Bool.Decides.{nat_tests}
+use Rattle.std.proofs.lemmas.Int.{ints}
+use Rattle.std.specs.Prelude.{◌||◌, nat_le}
+use Rattle.lay_pages.specs.declared.filling.Block.{Block}
+use Rattle.lay_pages.specs.declared.filling.BlockSpot.{BlockSpot}
+use Rattle.lay_pages.specs.Filling.{AreGoodBlocks, height_number, group_height, under, place_by, next_place, spot_at}
+use Rattle.lay_pages.specs.Filling.{spots_from, spots_of, Follows, same_page, next_page, FollowOn, AreFilled}
 
 pub below : (high down : ℕ) (height : ℤ) → pos 0 ≤ℤ height → pos high -ℤ pos (down + height_number height + 1500) ≡ ((pos high -ℤ pos down) -ℤ height) -ℤ pos 1500
 below high down (pos n) good = omega (arith, ints)

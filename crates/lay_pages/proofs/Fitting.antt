@@ -1,6 +1,16 @@
 -- A group that fits where it begins: each of its blocks lies on the page, and so does what follows.
-use Rattle.std.{proofs.{Common.{◌≡◌, refl, ap, sym, ◌∙◌, ℕ, suc, ◌+◌, ◌≤◌, ◌^◌, ℤ, pos, negsuc, ◌-ℤ◌, ◌≤ℤ◌, Bool, true, false, not, List, [], ◌∷◌, ◌++◌, append_assoc, length, subst, arith}, lemmas.{Bool.Decides.nat_tests, Int.ints}}, specs.Prelude.{◌==◌, ◌&&◌, ◌||◌, nat_le, nat_lt, Option, Some, None}}
-use Rattle.lay_pages.specs.{Filling.{AreGoodBlocks, CanFollow, IsLoose, down_behind, first_place, height_number, with_kept, group_height, under, place_by, next_place, spot_at, spots_from, standing_from, tall_by, tall_from, AreWithin}, declared.filling.{Block.Block, BlockSpot.BlockSpot, Spot.Spot, PlacedBlock.PlacedBlock}}
+use Rattle.std.proofs.Common.{◌≡◌, refl, ap, sym, ◌∙◌, ℕ, suc, ◌+◌, ◌≤◌, ◌^◌, ℤ, pos, negsuc, ◌-ℤ◌, ◌≤ℤ◌, Bool, true}
+use Rattle.std.proofs.Common.{false, not, List, [], ◌∷◌, ◌++◌, append_assoc, length, subst, arith}
+use Rattle.std.proofs.lemmas.Bool.Decides.{nat_tests}
+use Rattle.std.proofs.lemmas.Int.{ints}
+use Rattle.std.specs.Prelude.{◌==◌, ◌&&◌, ◌||◌, nat_le, nat_lt, Option, Some, None}
+use Rattle.lay_pages.specs.Filling.{AreGoodBlocks, CanFollow, IsLoose, down_behind, first_place, height_number}
+use Rattle.lay_pages.specs.Filling.{with_kept, group_height, under, place_by, next_place, spot_at, spots_from}
+use Rattle.lay_pages.specs.Filling.{standing_from, tall_by, tall_from, AreWithin}
+use Rattle.lay_pages.specs.declared.filling.Block.{Block}
+use Rattle.lay_pages.specs.declared.filling.BlockSpot.{BlockSpot}
+use Rattle.lay_pages.specs.declared.filling.Spot.{Spot}
+use Rattle.lay_pages.specs.declared.filling.PlacedBlock.{PlacedBlock}
 
 -- the group that begins here ends on the page, and no group from here on is too tall
 pub record IsReady (high : ℕ) (place : BlockSpot) (blocks : List Block) : Type 0 where

@@ -1,7 +1,26 @@
 -- Blocks parted into pages that fit: each lies on its page, each comes behind the one before it, and one parting is chosen.
-use Rattle.std.{proofs.{Common.{◌≡◌, refl, ap, sym, ◌∙◌, subst, ℕ, zero, suc, ◌+◌, ◌-◌, ◌≤◌, ℤ, pos, negsuc, ◌≤ℤ◌, Bool, true, false, not, List, [], ◌∷◌, ◌++◌, append_assoc, length, take, drop, arith}, lemmas.{Bool.Decides.nat_tests, Int.ints, List.{drop-drop, drop_all, Elements.{All-drop, All-head}}}, Math.Seq.drop-nil}, specs.Prelude.{◌==◌, ◌&&◌, nat_le, if◌then◌else◌, IfOk, IsSome, Some, None, Result, Ok, Err}}
-use Rattle.lay_breaks.{specs.Breaking.FitsFrom, specs.Breaking.IsChosen, specs.Breaking.NoneLegal, specs.Breaking.RisesFrom, specs.Breaking.last_from, proofs.Unique.one_is_chosen}
-use Rattle.lay_pages.{specs.{Even.{AreEven, AreFitting, AreHeights, AreSpots, StandByPages, ComesBehind, ComeBehind, ends_behind, ends_page, groups_behind, filled, parted, group_heights, heights_from, page_cost, page_height, parted_from, parted_spots, even_spot_after, span_height, square, stacked, turns}, declared.filling.{Block.Block, BlockSpot.BlockSpot, Spot.Spot, PageError.PageError}, Filling.{AreGoodBlocks, AreFilled, AreWithin, FollowOn, Follows, same_page, next_page, group_height, height_number, spot_at, with_kept}}, proofs.{Filled.{at_top, below}, Fitting.{bottom_within, first_low, top_within}}}
+use Rattle.std.proofs.Common.{◌≡◌, refl, ap, sym, ◌∙◌, subst, ℕ, zero, suc, ◌+◌, ◌-◌, ◌≤◌, ℤ, pos, negsuc, ◌≤ℤ◌, Bool}
+use Rattle.std.proofs.Common.{true, false, not, List, [], ◌∷◌, ◌++◌, append_assoc, length, take, drop, arith}
+use Rattle.std.proofs.lemmas.Bool.Decides.{nat_tests}
+use Rattle.std.proofs.lemmas.Int.{ints}
+use Rattle.std.proofs.lemmas.List.{drop-drop, drop_all}
+use Rattle.std.proofs.lemmas.List.Elements.{All-drop, All-head}
+use Rattle.std.proofs.Math.Seq.{drop-nil}
+use Rattle.std.specs.Prelude.{◌==◌, ◌&&◌, nat_le, if◌then◌else◌, IfOk, IsSome, Some, None, Result, Ok, Err}
+use Rattle.lay_breaks.specs.Breaking.{FitsFrom, IsChosen, NoneLegal, RisesFrom, last_from}
+use Rattle.lay_breaks.proofs.Unique.{one_is_chosen}
+use Rattle.lay_pages.specs.Even.{AreEven, AreFitting, AreHeights, AreSpots, StandByPages, ComesBehind, ComeBehind}
+use Rattle.lay_pages.specs.Even.{ends_behind, ends_page, groups_behind, filled, parted, group_heights, heights_from}
+use Rattle.lay_pages.specs.Even.{page_cost, page_height, parted_from, parted_spots, even_spot_after, span_height}
+use Rattle.lay_pages.specs.Even.{square, stacked, turns}
+use Rattle.lay_pages.specs.declared.filling.Block.{Block}
+use Rattle.lay_pages.specs.declared.filling.BlockSpot.{BlockSpot}
+use Rattle.lay_pages.specs.declared.filling.Spot.{Spot}
+use Rattle.lay_pages.specs.declared.filling.PageError.{PageError}
+use Rattle.lay_pages.specs.Filling.{AreGoodBlocks, AreFilled, AreWithin, FollowOn, Follows, same_page, next_page}
+use Rattle.lay_pages.specs.Filling.{group_height, height_number, spot_at, with_kept}
+use Rattle.lay_pages.proofs.Filled.{at_top, below}
+use Rattle.lay_pages.proofs.Fitting.{bottom_within, first_low, top_within}
 use Rattle.lay_pages.specs.Even as even
 
 -- ---- a legal breaking of the groups has pages that fit

@@ -1,6 +1,10 @@
 -- Staves under one another are those that the function of the bases gives.
-use Rattle.std.proofs.{Common.{◌≡◌, refl, sym, ap, ap₂, ◌∙◌, ℕ, suc, ◌+◌, ◌-◌, ◌<◌, ℤ, pos, negsuc, ◌+ℤ◌, ◌-ℤ◌, ◌≤ℤ◌, List, [], ◌∷◌, length, drop, get_or, add-one, drop-cons, arith, subst}, lemmas.Int.ints}
-use Rattle.{mus_laid.specs.declared.laid.StaffMarks.{StaffMarks}, lay_pages.specs.Stacking.{AreGoodStaves, AreStavesStacked, above_base, below_base, under_top, bases_behind, bases_under, bottom_behind, bottom_under}}
+use Rattle.std.proofs.Common.{◌≡◌, refl, sym, ap, ap₂, ◌∙◌, ℕ, suc, ◌+◌, ◌-◌, ◌<◌, ℤ, pos, negsuc, ◌+ℤ◌, ◌-ℤ◌, ◌≤ℤ◌}
+use Rattle.std.proofs.Common.{List, [], ◌∷◌, length, drop, get_or, add-one, drop-cons, arith, subst}
+use Rattle.std.proofs.lemmas.Int.{ints}
+use Rattle.mus_laid.specs.declared.laid.StaffMarks.{StaffMarks}
+use Rattle.lay_pages.specs.Stacking.{AreGoodStaves, AreStavesStacked, above_base, below_base, under_top, bases_behind}
+use Rattle.lay_pages.specs.Stacking.{bases_under, bottom_behind, bottom_under}
 
 at_top : (top base : ℕ) (high : ℤ) → base ≡ top + above_base high → pos 2000 ≤ℤ high → under_top base +ℤ high ≡ under_top top
 at_top top base (pos n) up good = omega (arith, ints, up)

@@ -1,8 +1,15 @@
 -- Blocks on pages of which none is emptier than it must be: the groups of the blocks are parted into pages so that what the pages
 -- cost together is least. A parting is a breaking of the groups: the numbers of groups up to the end of each page.
-use Rattle.std.{specs.Prelude.{◌≡◌, ◌<◌, ◌≤◌, ⊤, ℕ, zero, suc, ◌+◌, ◌-◌, ◌*◌, ◌/◌, ◌^◌, ◌==◌, nat_le, ℤ, pos, ◌≤ℤ◌, Bool, true, false, not, ◌&&◌, if◌then◌else◌, List, [], ◌∷◌, length, take, drop, Option, Some, None, IfSome, All, refl}, proofs.{Common.{arith, ap}, lemmas.Bool.Decides.nat_tests}}
+use Rattle.std.specs.Prelude.{◌≡◌, ◌<◌, ◌≤◌, ⊤, ℕ, zero, suc, ◌+◌, ◌-◌, ◌*◌, ◌/◌, ◌^◌, ◌==◌, nat_le, ℤ, pos, ◌≤ℤ◌, Bool}
+use Rattle.std.specs.Prelude.{true, false, not, ◌&&◌, if◌then◌else◌, List, [], ◌∷◌, length, take, drop, Option, Some}
+use Rattle.std.specs.Prelude.{None, IfSome, All, refl}
+use Rattle.std.proofs.Common.{arith, ap}
+use Rattle.std.proofs.lemmas.Bool.Decides.{nat_tests}
 use Rattle.lay_breaks.specs.Breaking.{IsChosen}
-use Rattle.lay_pages.specs.{declared.filling.Block.Block, declared.filling.Spot.Spot, declared.filling.BlockSpot.BlockSpot, Filling.BeginOn, Filling.group_height, Filling.height_number, Filling.place_by, Filling.spot_at, Filling.spots_of, Filling.top_under, Filling.under}
+use Rattle.lay_pages.specs.declared.filling.Block.{Block}
+use Rattle.lay_pages.specs.declared.filling.Spot.{Spot}
+use Rattle.lay_pages.specs.declared.filling.BlockSpot.{BlockSpot}
+use Rattle.lay_pages.specs.Filling.{BeginOn, group_height, height_number, place_by, spot_at, spots_of, top_under, under}
 
 -- the heights of the groups, in order; `tied` says that a block before is tied to the first here
 abbrev pub heights_from : Bool → List Block → List ℤ

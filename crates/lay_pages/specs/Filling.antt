@@ -1,6 +1,11 @@
 -- Blocks on pages, from the top of a page down. A block that is tied to the next stands on one page with it; such a run of blocks is a group.
-use Rattle.std.specs.Prelude.{◌≡◌, ◌^◌, ◌≤◌, ⊤, ℕ, suc, ◌+◌, nat_le, nat_lt, ℤ, pos, negsuc, ◌-ℤ◌, ◌≤ℤ◌, ◌<ℤ◌, Bool, true, false, not, ◌&&◌, ◌||◌, List, [], ◌∷◌, Option, Some, None}
-use Rattle.lay_pages.specs.declared.filling.{Block.Block, Spot.Spot, BlockSpot.BlockSpot, PlacedBlock.PlacedBlock, PageError.PageError}
+use Rattle.std.specs.Prelude.{◌≡◌, ◌^◌, ◌≤◌, ⊤, ℕ, suc, ◌+◌, nat_le, nat_lt, ℤ, pos, negsuc, ◌-ℤ◌, ◌≤ℤ◌, ◌<ℤ◌, Bool}
+use Rattle.std.specs.Prelude.{true, false, not, ◌&&◌, ◌||◌, List, [], ◌∷◌, Option, Some, None}
+use Rattle.lay_pages.specs.declared.filling.Block.{Block}
+use Rattle.lay_pages.specs.declared.filling.Spot.{Spot}
+use Rattle.lay_pages.specs.declared.filling.BlockSpot.{BlockSpot}
+use Rattle.lay_pages.specs.declared.filling.PlacedBlock.{PlacedBlock}
+use Rattle.lay_pages.specs.declared.filling.PageError.{PageError}
 
 -- heights of 0 to 2^40
 abbrev pub AreGoodBlocks : List Block → Type 0

@@ -1,7 +1,12 @@
 -- The title block of a tune: a row for each title, in the middle; a row for each composer, at the
 -- right; and a row for the tempo, at the left. A text of which nothing is printed has no row.
 use Rattle.std.specs.Prelude.{ℕ, ◌+◌, ◌-◌, ◌*◌, ◌/◌, pos, min, List, [], ◌∷◌, ◌++◌, length, Option, Some, None}
-use Rattle.{mus_units.specs.declared.glyph.Size.{Size}, mus_laid.specs.{Boxes.character_width, Printed.printed_within}, lay_pages.specs.{declared.titles.Alignment.Alignment, declared.titles.TitleRow.TitleRow, declared.titles.TitleBlock.TitleBlock}}
+use Rattle.mus_units.specs.declared.glyph.Size.{Size}
+use Rattle.mus_laid.specs.Boxes.{character_width}
+use Rattle.mus_laid.specs.Printed.{printed_within}
+use Rattle.lay_pages.specs.declared.titles.Alignment.{Alignment}
+use Rattle.lay_pages.specs.declared.titles.TitleRow.{TitleRow}
+use Rattle.lay_pages.specs.declared.titles.TitleBlock.{TitleBlock}
 
 -- a row is so high, and its base line so far below its top
 abbrev pub row_height : Size → ℕ

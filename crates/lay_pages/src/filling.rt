@@ -1,5 +1,9 @@
-ghost use Rattle.std.specs.Prelude.{◌≡◌, ◌<◌, ◌≤◌, ◌+◌, ◌-◌, ◌*◌, ◌^◌, pos, ◌≤ℤ◌, nat_le, nat_lt, length, IfOk, IfErr, None};
-ghost use Rattle.lay_pages.specs.Filling.{AreGoodBlocks, CanFollow, IsLoose, behind_after, down_behind, first_place, height_number, group_height, next_place, page_behind, spot_at, spots_behind, spots_from, spots_of, standing_from, first_tall, AreWithin, AreFilled, IsPageError};
+ghost use Rattle.std.specs.Prelude.{◌≡◌, ◌<◌, ◌≤◌, ◌+◌, ◌-◌, ◌*◌, ◌^◌, pos, ◌≤ℤ◌, nat_le, nat_lt, length, IfOk, IfErr};
+ghost use Rattle.std.specs.Prelude.{None};
+ghost use Rattle.lay_pages.specs.Filling.{AreGoodBlocks, CanFollow, IsLoose, behind_after, down_behind, first_place};
+ghost use Rattle.lay_pages.specs.Filling.{height_number, group_height, next_place, page_behind, spot_at, spots_behind};
+ghost use Rattle.lay_pages.specs.Filling.{spots_from, spots_of, standing_from, first_tall, AreWithin, AreFilled};
+ghost use Rattle.lay_pages.specs.Filling.{IsPageError};
 ghost use Rattle.lay_pages.specs.declared.filling.PageError.TheVariants as errors;
 
 use mus_units::{Memory, Row};

@@ -1,5 +1,6 @@
 ghost use Rattle.std.specs.Prelude.{◌≡◌, ◌≤◌, ◌-◌, ◌++◌, ◌^◌, pos, ◌-ℤ◌, ◌≤ℤ◌, length, IfOk, OnOk};
-ghost use Rattle.lay_pages.specs.Stacking.{AreGoodStaves, AreStavesStacked, above_base, below_base, under_top, bases_behind, bases_under, bottom_behind, bottom_under};
+ghost use Rattle.lay_pages.specs.Stacking.{AreGoodStaves, AreStavesStacked, above_base, below_base, under_top};
+ghost use Rattle.lay_pages.specs.Stacking.{bases_behind, bases_under, bottom_behind, bottom_under};
 
 use mus_laid::{StaffMarks, SystemMarks};
 use mus_units::{Memory, Row};

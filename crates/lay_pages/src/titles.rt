@@ -1,6 +1,8 @@
-ghost use Rattle.std.specs.{Prelude.{◌≡◌, ◌≤◌, ◌+◌, ◌*◌, ◌-◌, ◌/◌, ◌^◌, min, length, IfOk, OnOk, pos}, Option.option_copied};
+ghost use Rattle.std.specs.Prelude.{◌≡◌, ◌≤◌, ◌+◌, ◌*◌, ◌-◌, ◌/◌, ◌^◌, min, length, IfOk, OnOk, pos};
+ghost use Rattle.std.specs.Option.{option_copied};
 ghost use Rattle.mus_laid.specs.Boxes.{character_width};
-ghost use Rattle.lay_pages.specs.Titles.{row_height, base_below, size_at, most_within, row_text, row_x, title_row_at, with_row, with_text, with_texts, tempo_texts, no_rows, title_block_of};
+ghost use Rattle.lay_pages.specs.Titles.{row_height, base_below, size_at, most_within, row_text, row_x, title_row_at};
+ghost use Rattle.lay_pages.specs.Titles.{with_row, with_text, with_texts, tempo_texts, no_rows, title_block_of};
 
 use mus_laid::printed_within;
 use mus_units::{Memory, Row, Size, Text};

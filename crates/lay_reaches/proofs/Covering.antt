@@ -1,8 +1,29 @@
 -- The reach of a column in a lane covers the boxes of its marks there.
-use Rattle.std.{proofs.{Common.{◌≡◌, ℕ, zero, suc, ℤ, pos, negsuc, neg_ℤ, ◌≤ℤ◌, ◌⊎◌, ◌+◌, ◌<◌, ◌≤◌, Bool, List, [], ◌∷◌, ◌++◌, map, length, Option, Some, None, refl, sym, ap, ◌∙◌, subst, arith, inl, inr, option_and_then, option_map, slice_get, get_or}, lemmas.{Bool.cases_lt, Int.ints, List.{length-map, FromFn.{length-map-range_with_len, get_or-map-range_with_len}}, Option.{none-some, same_Some, slice_get-get_or, slice_get-map}}}, specs.List.Contains}
-use Rattle.{mus_onsets.specs.{Onsets.greatest, declared.keys.ColumnKey.ColumnKey}, mus_laid.specs.{declared.boxes.Sides.Sides, declared.laid.Laid.Laid, declared.laid.StaffMarks.StaffMarks}}
-use Rattle.lay_springs.{specs.{declared.traits.Reach.Reach, Place.reach_at, ReachView.{most_reach, reach_in}}, proofs.Longer.get_front}
-use Rattle.lay_reaches.{specs.{declared.column.Column.Column, Columns.{column_reach, columns_from, CoverMarks, Covers}, Lanes.{lane_count, lane_start}, Reaches.{box_at, boxes_at, drawn_reach, drawn_row, left_of, reach_over, reaches_of, right_of, staff_reaches, standing, stands_always}}, proofs.{Facts.{near_all, near_over, reach_same}, Rows.box_is}}
+use Rattle.std.proofs.Common.{◌≡◌, ℕ, zero, suc, ℤ, pos, negsuc, neg_ℤ, ◌≤ℤ◌, ◌⊎◌, ◌+◌, ◌<◌, ◌≤◌, Bool, List, [], ◌∷◌}
+use Rattle.std.proofs.Common.{◌++◌, map, length, Option, Some, None, refl, sym, ap, ◌∙◌, subst, arith, inl, inr}
+use Rattle.std.proofs.Common.{option_and_then, option_map, slice_get, get_or}
+use Rattle.std.proofs.lemmas.Bool.{cases_lt}
+use Rattle.std.proofs.lemmas.Int.{ints}
+use Rattle.std.proofs.lemmas.List.{length-map}
+use Rattle.std.proofs.lemmas.List.FromFn.{length-map-range_with_len, get_or-map-range_with_len}
+use Rattle.std.proofs.lemmas.Option.{none-some, same_Some, slice_get-get_or, slice_get-map}
+use Rattle.std.specs.List.{Contains}
+use Rattle.mus_onsets.specs.Onsets.{greatest}
+use Rattle.mus_onsets.specs.declared.keys.ColumnKey.{ColumnKey}
+use Rattle.mus_laid.specs.declared.boxes.Sides.{Sides}
+use Rattle.mus_laid.specs.declared.laid.Laid.{Laid}
+use Rattle.mus_laid.specs.declared.laid.StaffMarks.{StaffMarks}
+use Rattle.lay_springs.specs.declared.traits.Reach.{Reach}
+use Rattle.lay_springs.specs.Place.{reach_at}
+use Rattle.lay_springs.specs.ReachView.{most_reach, reach_in}
+use Rattle.lay_springs.proofs.Longer.{get_front}
+use Rattle.lay_reaches.specs.declared.column.Column.{Column}
+use Rattle.lay_reaches.specs.Columns.{column_reach, columns_from, CoverMarks, Covers}
+use Rattle.lay_reaches.specs.Lanes.{lane_count, lane_start}
+use Rattle.lay_reaches.specs.Reaches.{box_at, boxes_at, drawn_reach, drawn_row, left_of, reach_over, reaches_of}
+use Rattle.lay_reaches.specs.Reaches.{right_of, staff_reaches, standing, stands_always}
+use Rattle.lay_reaches.proofs.Facts.{near_all, near_over, reach_same}
+use Rattle.lay_reaches.proofs.Rows.{box_is}
 
 -- ---- boxes
 abbrev taken : List Sides → Option Sides → List Sides

@@ -1,8 +1,25 @@
 -- What is true of each column: it is small, has a place for each lane, and stands where it must.
-use Rattle.std.{proofs.{Common.{◌≡◌, ℕ, ℤ, pos, negsuc, ◌+◌, ◌-◌, ◌*◌, ◌/◌, ◌^◌, ◌≤◌, min, Bool, true, false, List, [], ◌∷◌, map, length, Option, Some, None, IfSome, refl, sym, ap, ◌∙◌, subst, arith, if◌then◌else◌, option_and_then, slice_get, get_or}, lemmas.{List.{length-append, length-map, length-replicate, Elements.{All-append, All-cons, All-map, All-nil}, FromFn.length-map-range_with_len}, Option.{slice_get-get_or, slice_get_within, get_or_from_slice_get}}}, specs.List.{All, find, range_with_len}}
-use Rattle.{mus_onsets.specs.{Onsets.greatest, declared.keys.ColumnKey.ColumnKey}, mus_laid.specs.{declared.boxes.Sides.Sides, declared.laid.Laid.Laid, declared.laid.StaffMarks.StaffMarks}}
+use Rattle.std.proofs.Common.{◌≡◌, ℕ, ℤ, pos, negsuc, ◌+◌, ◌-◌, ◌*◌, ◌/◌, ◌^◌, ◌≤◌, min, Bool, true, false, List, []}
+use Rattle.std.proofs.Common.{◌∷◌, map, length, Option, Some, None, IfSome, refl, sym, ap, ◌∙◌, subst, arith}
+use Rattle.std.proofs.Common.{if◌then◌else◌, option_and_then, slice_get, get_or}
+use Rattle.std.proofs.lemmas.List.{length-append, length-map, length-replicate}
+use Rattle.std.proofs.lemmas.List.Elements.{All-append, All-cons, All-map, All-nil}
+use Rattle.std.proofs.lemmas.List.FromFn.{length-map-range_with_len}
+use Rattle.std.proofs.lemmas.Option.{slice_get-get_or, slice_get_within, get_or_from_slice_get}
+use Rattle.std.specs.List.{All, find, range_with_len}
+use Rattle.mus_onsets.specs.Onsets.{greatest}
+use Rattle.mus_onsets.specs.declared.keys.ColumnKey.{ColumnKey}
+use Rattle.mus_laid.specs.declared.boxes.Sides.{Sides}
+use Rattle.mus_laid.specs.declared.laid.Laid.{Laid}
+use Rattle.mus_laid.specs.declared.laid.StaffMarks.{StaffMarks}
 use Rattle.lay_springs.specs.{declared.traits.Reach.Reach, Fit.StandsInAll, ReachView.{cut_reach, most_reach, reach_in}}
-use Rattle.lay_reaches.specs.{declared.column.Column.Column, Column.spring_length, Columns.{columns_from, IsNearReach, IsSmall, IsUncut, StandsWhereDue}, Lanes.{gaps_of, lane_count, staff_gaps}, Naturals.{is_note_key, is_note_of, natural_for, natural_of, tick_or_end}, Reaches.{drawn_reach, drawn_row, left_of, reach_over, reaches_of, right_of, staff_reaches, standing, stands_always}}
+use Rattle.lay_reaches.specs.declared.column.Column.{Column}
+use Rattle.lay_reaches.specs.Column.{spring_length}
+use Rattle.lay_reaches.specs.Columns.{columns_from, IsNearReach, IsSmall, IsUncut, StandsWhereDue}
+use Rattle.lay_reaches.specs.Lanes.{gaps_of, lane_count, staff_gaps}
+use Rattle.lay_reaches.specs.Naturals.{is_note_key, is_note_of, natural_for, natural_of, tick_or_end}
+use Rattle.lay_reaches.specs.Reaches.{drawn_reach, drawn_row, left_of, reach_over, reaches_of, right_of, staff_reaches}
+use Rattle.lay_reaches.specs.Reaches.{standing, stands_always}
 
 -- ---- small
 left_near : (z : ℤ) → left_of z ≤ most_reach

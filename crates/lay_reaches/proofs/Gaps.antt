@@ -1,5 +1,8 @@
 -- The gaps of all lanes are small, and few where no staff has more than 255 verses.
-use Rattle.std.{proofs.{Common.{ℕ, ◌+◌, ◌*◌, ◌^◌, ◌≤◌, List, [], ◌∷◌, length, replicate, arith}, lemmas.List.{length-append, length-replicate, Elements.{All-append, All-cons, All-head, All-nil, All-replicate, All-tail}}}, specs.List.All}
+use Rattle.std.proofs.Common.{ℕ, ◌+◌, ◌*◌, ◌^◌, ◌≤◌, List, [], ◌∷◌, length, replicate, arith}
+use Rattle.std.proofs.lemmas.List.{length-append, length-replicate}
+use Rattle.std.proofs.lemmas.List.Elements.{All-append, All-cons, All-head, All-nil, All-replicate, All-tail}
+use Rattle.std.specs.List.{All}
 use Rattle.lay_reaches.specs.Lanes.{gaps_of, staff_gaps}
 
 pub gaps_narrow : (verses : List ℕ) → All (λ g. g ≤ 2 ^ 20) (gaps_of verses)

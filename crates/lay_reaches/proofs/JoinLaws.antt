@@ -1,7 +1,23 @@
 -- Columns of two lists of measures, one after the other.
-use Rattle.std.{proofs.{Common.{◌≡◌, ◌≢◌, ℕ, ◌+◌, ◌-◌, ◌<◌, ◌==◌, Bool, true, false, List, [], ◌∷◌, ◌++◌, map, length, Option, Some, None, refl, ap, ◌∙◌, arith, if◌then◌else◌, get_or}, lemmas.List.{append-nil, Elements.{All-head, All-tail, filter_map-append}, Folds.find-append}}, specs.{List.{All, find}, Option.option_or}}
-use Rattle.{mus_onsets.specs.declared.keys.ColumnKey.{ColumnKey}, mus_laid.specs.{Boxes.sides_of, declared.laid.Laid.Laid, declared.laid.Mark.Mark, declared.laid.StaffMarks.StaffMarks}}
-use Rattle.lay_reaches.{specs.{Columns.columns_from, Joining.{ColumnsJoin, IsBelow, MarksJoin, moved, moved_mark, OfOtherMeasures, StavesJoin}, Lanes.lane_count, Naturals.{is_note_key, is_note_of, natural_for, natural_of, tick_or_end}, Reaches.{box_at, boxes_at, drawn_reach, is_lane_number, rank_of_mark, reach_over, reaches_of, staff_reaches, standing, stands_always}}, proofs.Rows.same_range}
+use Rattle.std.proofs.Common.{◌≡◌, ◌≢◌, ℕ, ◌+◌, ◌-◌, ◌<◌, ◌==◌, Bool, true, false, List, [], ◌∷◌, ◌++◌, map, length}
+use Rattle.std.proofs.Common.{Option, Some, None, refl, ap, ◌∙◌, arith, if◌then◌else◌, get_or}
+use Rattle.std.proofs.lemmas.List.{append-nil}
+use Rattle.std.proofs.lemmas.List.Elements.{All-head, All-tail, filter_map-append}
+use Rattle.std.proofs.lemmas.List.Folds.{find-append}
+use Rattle.std.specs.List.{All, find}
+use Rattle.std.specs.Option.{option_or}
+use Rattle.mus_onsets.specs.declared.keys.ColumnKey.{ColumnKey}
+use Rattle.mus_laid.specs.Boxes.{sides_of}
+use Rattle.mus_laid.specs.declared.laid.Laid.{Laid}
+use Rattle.mus_laid.specs.declared.laid.Mark.{Mark}
+use Rattle.mus_laid.specs.declared.laid.StaffMarks.{StaffMarks}
+use Rattle.lay_reaches.specs.Columns.{columns_from}
+use Rattle.lay_reaches.specs.Joining.{ColumnsJoin, IsBelow, MarksJoin, moved, moved_mark, OfOtherMeasures, StavesJoin}
+use Rattle.lay_reaches.specs.Lanes.{lane_count}
+use Rattle.lay_reaches.specs.Naturals.{is_note_key, is_note_of, natural_for, natural_of, tick_or_end}
+use Rattle.lay_reaches.specs.Reaches.{box_at, boxes_at, drawn_reach, is_lane_number, rank_of_mark, reach_over}
+use Rattle.lay_reaches.specs.Reaches.{reaches_of, staff_reaches, standing, stands_always}
+use Rattle.lay_reaches.proofs.Rows.{same_range}
 
 -- ---- reaches
 staff_same : (always : Bool) (rank rank' : ℕ) (marks marks' : List Laid) (verses : ℕ) → ((lane : ℕ) → boxes_at rank lane marks ≡ boxes_at rank' lane marks')

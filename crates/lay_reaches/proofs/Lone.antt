@@ -1,5 +1,10 @@
 -- The reaches of a column that stands in one lane alone.
-use Rattle.std.{proofs.{Common.{[], ◌≡◌, ◌≢◌, ◌==◌, if◌then◌else◌, inl, inr, ℕ, zero, suc, ◌<◌, List, replicate, Option, Some, None, IfSome, refl, sym, ap, ◌∙◌, subst, set, get_or, get_or-set_same, get_or-set_other, slice_get, option_map, option_and_then, unwrap_or}, lemmas.{Bool.{cases_eq, eq-eqb, ne_eqb}, List.{length-replicate, set-get_or}, Option.unwrap_or-slice_get}}}
+use Rattle.std.proofs.Common.{[], ◌≡◌, ◌≢◌, ◌==◌, if◌then◌else◌, inl, inr, ℕ, zero, suc, ◌<◌, List, replicate, Option}
+use Rattle.std.proofs.Common.{Some, None, IfSome, refl, sym, ap, ◌∙◌, subst, set, get_or, get_or-set_same}
+use Rattle.std.proofs.Common.{get_or-set_other, slice_get, option_map, option_and_then, unwrap_or}
+use Rattle.std.proofs.lemmas.Bool.{cases_eq, eq-eqb, ne_eqb}
+use Rattle.std.proofs.lemmas.List.{length-replicate, set-get_or}
+use Rattle.std.proofs.lemmas.Option.{unwrap_or-slice_get}
 use Rattle.lay_springs.specs.{declared.traits.{Reach.Reach}, ReachView.{cut_reach, reach_in}}
 
 pub in_at : (reaches : List (Option Reach)) (lane : ℕ) → reach_in reaches lane ≡ option_map cut_reach (get_or reaches lane None)

@@ -1,7 +1,21 @@
 -- The reaches of a column in a staff's lanes, mark by mark.
-use Rattle.std.{proofs.{Common.{◌≡◌, ◌≢◌, ℕ, ◌<◌, ◌&&◌, ◌==◌, max, true, List, [], ◌∷◌, ◌++◌, map, length, Option, Some, None, refl, sym, ap, ◌∙◌, subst, arith, inl, inr, if◌then◌else◌, nat_lt, get_or, set, get_or-set_same, get_or-set_other}, lemmas.{Bool.cases_eq, List.{append-nil, length-set, Elements.filter_map-append, FromFn.{fill_by_all, length-map-range_with_len, get_or-map-range_with_len}}}}, specs.List.{cons_option, range_with_len}}
-use Rattle.{mus_onsets.specs.Onsets.{greatest}, mus_laid.specs.{Boxes.sides_of, declared.boxes.Sides.Sides, declared.laid.Laid.Laid}, lay_springs.specs.declared.traits.Reach.{Reach}}
-use Rattle.lay_reaches.specs.{Lanes.lane_number, Reaches.left_of, Reaches.right_of, Reaches.rank_of_mark, Reaches.box_at, Reaches.boxes_at, Reaches.reach_over, Reaches.drawn_reach, Reaches.drawn_row, Widened.reach_widened, Widened.widened_row}
+use Rattle.std.proofs.Common.{◌≡◌, ◌≢◌, ℕ, ◌<◌, ◌&&◌, ◌==◌, max, true, List, [], ◌∷◌, ◌++◌, map, length, Option, Some}
+use Rattle.std.proofs.Common.{None, refl, sym, ap, ◌∙◌, subst, arith, inl, inr, if◌then◌else◌, nat_lt, get_or, set}
+use Rattle.std.proofs.Common.{get_or-set_same, get_or-set_other}
+use Rattle.std.proofs.lemmas.Bool.{cases_eq}
+use Rattle.std.proofs.lemmas.List.{append-nil, length-set}
+use Rattle.std.proofs.lemmas.List.Elements.{filter_map-append}
+use Rattle.std.proofs.lemmas.List.FromFn.{fill_by_all, length-map-range_with_len, get_or-map-range_with_len}
+use Rattle.std.specs.List.{cons_option, range_with_len}
+use Rattle.mus_onsets.specs.Onsets.{greatest}
+use Rattle.mus_laid.specs.Boxes.{sides_of}
+use Rattle.mus_laid.specs.declared.boxes.Sides.{Sides}
+use Rattle.mus_laid.specs.declared.laid.Laid.{Laid}
+use Rattle.lay_springs.specs.declared.traits.Reach.{Reach}
+use Rattle.lay_reaches.specs.Lanes.{lane_number}
+use Rattle.lay_reaches.specs.Reaches.{left_of, right_of, rank_of_mark, box_at, boxes_at, reach_over, drawn_reach}
+use Rattle.lay_reaches.specs.Reaches.{drawn_row}
+use Rattle.lay_reaches.specs.Widened.{reach_widened, widened_row}
 
 -- ---- one more box
 greatest_map_more : {X : Type 0} (f : X → ℕ) (xs : List X) (x : X) → greatest (map f (xs ++ x ∷ [])) ≡ max (greatest (map f xs)) (f x)

@@ -1,7 +1,27 @@
 -- Bare columns, widened by the marks of each staff, have the reaches of their marks.
-use Rattle.std.{proofs.{Common.{◌≡◌, ◌≢◌, ℕ, zero, suc, ◌+◌, ◌<◌, ◌≤◌, ◌&&◌, ◌==◌, max, Bool, true, false, List, [], ◌∷◌, ◌++◌, map, length, replicate, Option, Some, None, refl, sym, ap, ◌∙◌, subst, arith, if◌then◌else◌, nat_lt}, Math.ListN.get_or-append, lemmas.List.{append-nil, append_assoc, length-append, length-map, replicate-append-replicate, set-append_left}}, specs.List.range_with_len}
-use Rattle.{mus_laid.specs.{Boxes.sides_of, declared.boxes.Sides.Sides, declared.laid.Laid.Laid, declared.laid.StaffMarks.StaffMarks}, mus_onsets.specs.declared.keys.ColumnKey.{ColumnKey}, lay_springs.specs.declared.traits.Reach.{Reach}}
-use Rattle.lay_reaches.{specs.{declared.column.Column.Column, Columns.{columns_from, columns_of}, Lanes.{lane_count, lane_number, lanes_of}, Naturals.natural_of, Reaches.{box_at, drawn_row, left_of, rank_of_mark, reaches_of, right_of, staff_reaches, standing, stands_always}, Widened.{bare_columns, place_of_lane, reach_widened, widened_at, widened_by, widened_by_mark, widened_by_marks, widened_by_staves, widened_row, with_widened}}, proofs.{Covering.row_long, Rows.{box_is, none_more, row_length, row_more}}}
+use Rattle.std.proofs.Common.{◌≡◌, ◌≢◌, ℕ, zero, suc, ◌+◌, ◌<◌, ◌≤◌, ◌&&◌, ◌==◌, max, Bool, true, false, List, [], ◌∷◌}
+use Rattle.std.proofs.Common.{◌++◌, map, length, replicate, Option, Some, None, refl, sym, ap, ◌∙◌, subst, arith}
+use Rattle.std.proofs.Common.{if◌then◌else◌, nat_lt}
+use Rattle.std.proofs.Math.ListN.{get_or-append}
+use Rattle.std.proofs.lemmas.List.{append-nil, append_assoc, length-append, length-map, replicate-append-replicate}
+use Rattle.std.proofs.lemmas.List.{set-append_left}
+use Rattle.std.specs.List.{range_with_len}
+use Rattle.mus_laid.specs.Boxes.{sides_of}
+use Rattle.mus_laid.specs.declared.boxes.Sides.{Sides}
+use Rattle.mus_laid.specs.declared.laid.Laid.{Laid}
+use Rattle.mus_laid.specs.declared.laid.StaffMarks.{StaffMarks}
+use Rattle.mus_onsets.specs.declared.keys.ColumnKey.{ColumnKey}
+use Rattle.lay_springs.specs.declared.traits.Reach.{Reach}
+use Rattle.lay_reaches.specs.declared.column.Column.{Column}
+use Rattle.lay_reaches.specs.Columns.{columns_from, columns_of}
+use Rattle.lay_reaches.specs.Lanes.{lane_count, lane_number, lanes_of}
+use Rattle.lay_reaches.specs.Naturals.{natural_of}
+use Rattle.lay_reaches.specs.Reaches.{box_at, drawn_row, left_of, rank_of_mark, reaches_of, right_of, staff_reaches}
+use Rattle.lay_reaches.specs.Reaches.{standing, stands_always}
+use Rattle.lay_reaches.specs.Widened.{bare_columns, place_of_lane, reach_widened, widened_at, widened_by}
+use Rattle.lay_reaches.specs.Widened.{widened_by_mark, widened_by_marks, widened_by_staves, widened_row, with_widened}
+use Rattle.lay_reaches.proofs.Covering.{row_long}
+use Rattle.lay_reaches.proofs.Rows.{box_is, none_more, row_length, row_more}
 
 -- ---- one place of a row
 row_next : (x : Option Reach) (row : List (Option Reach)) (place : ℕ) (box : Sides) → widened_row (x ∷ row) (suc place) box ≡ x ∷ widened_row row place box

@@ -1,8 +1,20 @@
 -- The columns of a system: one for each key, with its reach in each lane and the natural length of the spring behind it.
-use Rattle.std.specs.Prelude.{◌≡◌, ℕ, ◌+◌, ◌*◌, ◌/◌, ◌<◌, ◌≤◌, ◌⊎◌, pos, neg_ℤ, ◌≤ℤ◌, true, List, [], ◌∷◌, length, All, Contains, Option, Some, IfSome, option_and_then, slice_get}
-use Rattle.{mus_onsets.specs.declared.keys.ColumnKey.{ColumnKey}, mus_laid.specs.{Boxes.sides_of, declared.boxes.Sides.Sides, declared.laid.Laid.Laid, declared.laid.StaffMarks.StaffMarks}}
-use Rattle.lay_springs.specs.{declared.traits.Reach.Reach, Fit.StandsInAll, Place.reach_at, ReachView.{most_reach, reach_in}}
-use Rattle.lay_reaches.specs.{declared.column.Column.Column, Column.spring_length, Lanes.gaps_of, Lanes.lane_count, Lanes.lane_number, Lanes.lane_start, Naturals.natural_of, Reaches.rank_of_mark, Reaches.reaches_of, Reaches.stands_always}
+use Rattle.std.specs.Prelude.{◌≡◌, ℕ, ◌+◌, ◌*◌, ◌/◌, ◌<◌, ◌≤◌, ◌⊎◌, pos, neg_ℤ, ◌≤ℤ◌, true, List, [], ◌∷◌, length, All}
+use Rattle.std.specs.Prelude.{Contains, Option, Some, IfSome, option_and_then, slice_get}
+use Rattle.mus_onsets.specs.declared.keys.ColumnKey.{ColumnKey}
+use Rattle.mus_laid.specs.Boxes.{sides_of}
+use Rattle.mus_laid.specs.declared.boxes.Sides.{Sides}
+use Rattle.mus_laid.specs.declared.laid.Laid.{Laid}
+use Rattle.mus_laid.specs.declared.laid.StaffMarks.{StaffMarks}
+use Rattle.lay_springs.specs.declared.traits.Reach.{Reach}
+use Rattle.lay_springs.specs.Fit.{StandsInAll}
+use Rattle.lay_springs.specs.Place.{reach_at}
+use Rattle.lay_springs.specs.ReachView.{most_reach, reach_in}
+use Rattle.lay_reaches.specs.declared.column.Column.{Column}
+use Rattle.lay_reaches.specs.Column.{spring_length}
+use Rattle.lay_reaches.specs.Lanes.{gaps_of, lane_count, lane_number, lane_start}
+use Rattle.lay_reaches.specs.Naturals.{natural_of}
+use Rattle.lay_reaches.specs.Reaches.{rank_of_mark, reaches_of, stands_always}
 
 -- keys from some rank on
 abbrev pub columns_from : ℕ → List ColumnKey → List StaffMarks → List ℕ → List ℕ → List Column

@@ -1,7 +1,10 @@
 -- Columns of two lists of measures, one after the other: they are the columns of each, where the
 -- marks of the second keep their columns by ranks moved by the number of keys of the first.
 use Rattle.std.specs.Prelude.{◌≡◌, ◌≢◌, ℕ, ◌+◌, ◌<◌, ⊤, List, [], ◌∷◌, ◌++◌, length, map, All, Option, Some, None}
-use Rattle.{mus_onsets.specs.declared.keys.ColumnKey.{ColumnKey}, mus_laid.specs.{declared.laid.Laid.Laid, declared.laid.Mark.Mark, declared.laid.StaffMarks.StaffMarks}}
+use Rattle.mus_onsets.specs.declared.keys.ColumnKey.{ColumnKey}
+use Rattle.mus_laid.specs.declared.laid.Laid.{Laid}
+use Rattle.mus_laid.specs.declared.laid.Mark.{Mark}
+use Rattle.mus_laid.specs.declared.laid.StaffMarks.{StaffMarks}
 use Rattle.lay_reaches.specs.{Columns.columns_of, Reaches.boxes_at, Reaches.rank_of_mark}
 
 -- the marks of a staff have the boxes of the first marks in the first n columns, and behind them the boxes of the second

@@ -1,7 +1,11 @@
 -- The natural length of the spring behind a column: by the ticks from a note column to the next note
 -- column of its measure, or else to the measure's end. Other columns have none.
-use Rattle.std.specs.{Prelude.{ℕ, ◌*◌, ◌/◌, ◌-◌, Bool, true, false, ◌&&◌, ◌==◌, nat_le, if◌then◌else◌, List, Option, Some, None, unwrap_or, slice_get}, List.find}
-use Rattle.{mus_units.specs.Value.{whole_note}, mus_onsets.specs.{declared.keys.Class.Class, declared.keys.ColumnKey.ColumnKey}}
+use Rattle.std.specs.Prelude.{ℕ, ◌*◌, ◌/◌, ◌-◌, Bool, true, false, ◌&&◌, ◌==◌, nat_le, if◌then◌else◌, List, Option}
+use Rattle.std.specs.Prelude.{Some, None, unwrap_or, slice_get}
+use Rattle.std.specs.List.{find}
+use Rattle.mus_units.specs.Value.{whole_note}
+use Rattle.mus_onsets.specs.declared.keys.Class.{Class}
+use Rattle.mus_onsets.specs.declared.keys.ColumnKey.{ColumnKey}
 
 -- by the greatest row that isn't above the ticks
 abbrev pub natural_for : ℕ → ℕ

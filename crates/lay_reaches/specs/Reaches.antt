@@ -1,7 +1,17 @@
 -- How far a column reaches in a lane: as far as the boxes of its marks there, to the left and to the right, at least 0, and cut at 2^20.
-use Rattle.std.specs.{Prelude.{ℕ, ℤ, pos, negsuc, ◌+◌, min, Bool, true, false, ◌&&◌, ◌==◌, if◌then◌else◌, List, [], ◌∷◌, ◌++◌, map, filter_map, Option, Some, None}, List.range_with_len}
-use Rattle.{mus_onsets.specs.{Onsets.greatest, declared.keys.Class.Class}, mus_laid.specs.{Boxes.sides_of, declared.boxes.Sides.Sides, declared.laid.Mark.Mark, declared.laid.Laid.Laid, declared.laid.StaffMarks.StaffMarks}}
-use Rattle.{lay_springs.specs.{declared.traits.Reach.Reach, ReachView.most_reach}, lay_reaches.specs.{Lanes.lane_count, Lanes.lane_number}}
+use Rattle.std.specs.Prelude.{ℕ, ℤ, pos, negsuc, ◌+◌, min, Bool, true, false, ◌&&◌, ◌==◌, if◌then◌else◌, List, [], ◌∷◌}
+use Rattle.std.specs.Prelude.{◌++◌, map, filter_map, Option, Some, None}
+use Rattle.std.specs.List.{range_with_len}
+use Rattle.mus_onsets.specs.Onsets.{greatest}
+use Rattle.mus_onsets.specs.declared.keys.Class.{Class}
+use Rattle.mus_laid.specs.Boxes.{sides_of}
+use Rattle.mus_laid.specs.declared.boxes.Sides.{Sides}
+use Rattle.mus_laid.specs.declared.laid.Mark.{Mark}
+use Rattle.mus_laid.specs.declared.laid.Laid.{Laid}
+use Rattle.mus_laid.specs.declared.laid.StaffMarks.{StaffMarks}
+use Rattle.lay_springs.specs.declared.traits.Reach.{Reach}
+use Rattle.lay_springs.specs.ReachView.{most_reach}
+use Rattle.lay_reaches.specs.Lanes.{lane_count, lane_number}
 
 -- how far a box goes to the left, and to the right, of its column
 unfoldable pub left_of : ℤ → ℕ

@@ -1,5 +1,9 @@
 -- The reaches of a column in its lanes, of which a single one stands in place, and three do.
-use Rattle.{std.specs.Prelude.{List, Option, None, replicate, slice_set}, lay_springs.specs.declared.traits.Reach.{Reach}, lay_reaches.specs.declared.stands.{Single.Single, ReachStore.ReachStore, LaneReaches.LaneReaches}}
+use Rattle.std.specs.Prelude.{List, Option, None, replicate, slice_set}
+use Rattle.lay_springs.specs.declared.traits.Reach.{Reach}
+use Rattle.lay_reaches.specs.declared.stands.Single.{Single}
+use Rattle.lay_reaches.specs.declared.stands.ReachStore.{ReachStore}
+use Rattle.lay_reaches.specs.declared.stands.LaneReaches.{LaneReaches}
 
 abbrev pub single_held : Single → List (Option Reach)
 single_held single = slice_set (replicate single.lanes None) single.lane single.reach

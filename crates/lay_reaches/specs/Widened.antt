@@ -1,8 +1,15 @@
 -- Columns before any mark, and widened by marks one after the other.
-use Rattle.std.specs.Prelude.{ℕ, ◌+◌, max, nat_lt, if◌then◌else◌, List, [], ◌∷◌, length, replicate, Option, Some, None, All, slice_get, slice_index_or, slice_set}
-use Rattle.mus_laid.specs.{Boxes.AreGoodMarks, Boxes.sides_of, declared.boxes.Sides.Sides, declared.laid.Laid.Laid, declared.laid.StaffMarks.StaffMarks}
+use Rattle.std.specs.Prelude.{ℕ, ◌+◌, max, nat_lt, if◌then◌else◌, List, [], ◌∷◌, length, replicate, Option, Some, None}
+use Rattle.std.specs.Prelude.{All, slice_get, slice_index_or, slice_set}
+use Rattle.mus_laid.specs.Boxes.{AreGoodMarks, sides_of}
+use Rattle.mus_laid.specs.declared.boxes.Sides.{Sides}
+use Rattle.mus_laid.specs.declared.laid.Laid.{Laid}
+use Rattle.mus_laid.specs.declared.laid.StaffMarks.{StaffMarks}
 use Rattle.{mus_onsets.specs.declared.keys.ColumnKey.{ColumnKey}, lay_springs.specs.declared.traits.Reach.{Reach}}
-use Rattle.lay_reaches.specs.{declared.column.Column.Column, Lanes.lane_count, Lanes.lane_number, Naturals.natural_of, Reaches.left_of, Reaches.rank_of_mark, Reaches.right_of, Reaches.standing, Reaches.stands_always}
+use Rattle.lay_reaches.specs.declared.column.Column.{Column}
+use Rattle.lay_reaches.specs.Lanes.{lane_count, lane_number}
+use Rattle.lay_reaches.specs.Naturals.{natural_of}
+use Rattle.lay_reaches.specs.Reaches.{left_of, rank_of_mark, right_of, standing, stands_always}
 
 abbrev pub HaveGoodMarks : List StaffMarks → Type 0
 HaveGoodMarks staves = All (λ s. AreGoodMarks s.marks) staves

@@ -1,6 +1,9 @@
 ghost use Rattle.std.specs.Prelude.{◌≡◌, ◌+◌, ◌^◌, ◌<◌, OnOk, length};
 ghost use Rattle.mus_laid.specs.Boxes.{AreGoodMarks, IsGoodMark};
-ghost use Rattle.lay_reaches.specs.{Lanes.{lane_number, lanes_of}, Reaches.{left_of, right_of, rank_of_mark}, Widened.{HaveGoodMarks, place_of_lane, reach_widened, widened_row, widened_at, widened_by_mark, widened_by_marks, widened_by_staves}};
+ghost use Rattle.lay_reaches.specs.Lanes.{lane_number, lanes_of};
+ghost use Rattle.lay_reaches.specs.Reaches.{left_of, right_of, rank_of_mark};
+ghost use Rattle.lay_reaches.specs.Widened.{HaveGoodMarks, place_of_lane, reach_widened, widened_row, widened_at};
+ghost use Rattle.lay_reaches.specs.Widened.{widened_by_mark, widened_by_marks, widened_by_staves};
 
 use crate::column::Column;
 use crate::lanes::{lane_count, lane_number};

@@ -1,5 +1,6 @@
 ghost use Rattle.std.specs.{Prelude.◌≡◌, List.find};
-ghost use Rattle.lay_reaches.specs.Naturals.{natural_for, is_note_key, is_note_of, length_of_measure, tick_or_end, natural_of};
+ghost use Rattle.lay_reaches.specs.Naturals.{natural_for, is_note_key, is_note_of, length_of_measure, tick_or_end};
+ghost use Rattle.lay_reaches.specs.Naturals.{natural_of};
 
 use mus_onsets::{Class, ColumnKey};
 use mus_units::WHOLE;

@@ -1,5 +1,8 @@
-ghost use Rattle.std.specs.Prelude.{◌≡◌, ◌<◌, IfOk, IfSome, None, OnOk, Option, Some, length, option_copied, replicate, slice_get, slice_index_or, slice_set};
-ghost use Rattle.{std.proofs.Props.{props}, lay_reaches.specs.Reaches.{standing}, lay_springs.specs.ReachView.{TellsReach, reach_in}};
+ghost use Rattle.std.specs.Prelude.{◌≡◌, ◌<◌, IfOk, IfSome, None, OnOk, Option, Some, length, option_copied, replicate};
+ghost use Rattle.std.specs.Prelude.{slice_get, slice_index_or, slice_set};
+ghost use Rattle.std.proofs.Props.{props};
+ghost use Rattle.lay_reaches.specs.Reaches.{standing};
+ghost use Rattle.lay_springs.specs.ReachView.{TellsReach, reach_in};
 
 use lay_springs::{LaneReach, Reach, ReachView, cut_reach};
 use mus_units::{Memory, Row};

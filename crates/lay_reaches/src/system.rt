@@ -1,5 +1,8 @@
 ghost use Rattle.std.specs.Prelude.{◌≡◌, All, length, map, IfOk};
-ghost use Rattle.lay_reaches.specs.{Reaches.stands_always, Columns.columns_of, Columns.CoverMarks, Columns.IsSmall, Columns.IsUncut, Columns.StandsWhereDue, Lanes.gaps_of, Widened.HaveGoodMarks, Widened.bare_columns};
+ghost use Rattle.lay_reaches.specs.Reaches.{stands_always};
+ghost use Rattle.lay_reaches.specs.Columns.{columns_of, CoverMarks, IsSmall, IsUncut, StandsWhereDue};
+ghost use Rattle.lay_reaches.specs.Lanes.{gaps_of};
+ghost use Rattle.lay_reaches.specs.Widened.{HaveGoodMarks, bare_columns};
 
 use crate::column::Column;
 use crate::lanes::lanes_of;

@@ -1,5 +1,9 @@
 -- The rows that were made of the bars, in their order, are the table.
-use Rattle.std.{proofs.{Common.{◌≡◌, ℕ, zero, suc, ◌<◌, ◌≤◌, ◌^◌, List, [], ◌∷◌, length, All, slice_index, slice_index_or, arith, ◌∙◌, subst}, lemmas.{List.Elements.All-from_get_or, Slice.Zip.AllZip-long}}, specs.List.AllZip}
+use Rattle.std.proofs.Common.{◌≡◌, ℕ, zero, suc, ◌<◌, ◌≤◌, ◌^◌, List, [], ◌∷◌, length, All, slice_index, slice_index_or}
+use Rattle.std.proofs.Common.{arith, ◌∙◌, subst}
+use Rattle.std.proofs.lemmas.List.Elements.{All-from_get_or}
+use Rattle.std.proofs.lemmas.Slice.Zip.{AllZip-long}
+use Rattle.std.specs.List.{AllZip}
 use Rattle.{lay_breaks.specs.Rows.{AreSmall}, lay_rows.specs.Tables.{IsCostTable}}
 
 row_at : (is_row : ℕ → List ℕ → Type 0) (bars : List ℕ) (rows : List (List ℕ)) (a : ℕ) → AllZip is_row bars rows → a < length bars → is_row (slice_index bars a) (slice_index_or rows a [])

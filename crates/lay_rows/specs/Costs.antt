@@ -1,5 +1,7 @@
 -- The costs of spans kept as rows, one for each bar.
-use Rattle.std.{specs.Prelude.{◌≡◌, ℕ, ◌<◌, ◌≤◌, ◌^◌, nat_lt, true, List, Option, None, IfSome, if◌then◌else◌, refl}, proofs.{Common.{arith, sym, ◌∙◌}, lemmas.Bool.Decides.nat_tests}}
+use Rattle.std.specs.Prelude.{◌≡◌, ℕ, ◌<◌, ◌≤◌, ◌^◌, nat_lt, true, List, Option, None, IfSome, if◌then◌else◌, refl}
+use Rattle.std.proofs.Common.{arith, sym, ◌∙◌}
+use Rattle.std.proofs.lemmas.Bool.Decides.{nat_tests}
 use Rattle.lay_breaks.specs.Rows.{row_cost, rows_stop, rows_small, AreSmall}
 
 -- what the span from a to b costs, by the row of bar a

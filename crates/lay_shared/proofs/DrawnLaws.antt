@@ -1,7 +1,25 @@
 -- The score that is drawn is a good one.
-use Rattle.std.{proofs.{Common.{◌≡◌, ◌≢◌, refl, sym, ap, ◌∙◌, subst, ℕ, zero, suc, ◌+◌, ◌*◌, ◌<◌, ◌≤◌, List, [], ◌∷◌, ◌++◌, Bool, true, false, length, map, arith, inl, inr}, lemmas.{Bool.cases_lt, List.{map-append, Sums.{sum_by-append, sum_by-cons}, Elements.All-from_recursion}, Option.{get_or_from_slice_get, slice_get_cases, slice_get_within}}}, specs.{Prelude.{All, AllPairs, Option, Some, None, flat_map, slice_get, sum_by}, List.AllByRecursion, Option.option_to_list}}
-use Rattle.mus_score.{specs.declared.score.Score.Score, specs.declared.score.Voice.Voice, specs.Seats.is_lower, specs.Walks.Distinct, specs.GoodScore.IsGoodScore, specs.GoodScore.IsGoodVoice, specs.GoodScore.IsLed, specs.GoodScore.voice_weight, proofs.Scores.distinct_pairs}
-use Rattle.lay_shared.specs.{declared.drawing.SeatedVoice.SeatedVoice, declared.plan.Plan.Plan, declared.plan.PlannedStaff.PlannedStaff, Drawn.seated_voice, Drawn.drawn_of, Drawn.staff_gap, Drawn.leading, Drawn.lower, Drawn.seated, Drawn.sit, Drawn.sits_of, Drawn.staff_sits, Plans.NamesEachOnce, Plans.IsPlanFor, Plans.planned_voices}
+use Rattle.std.proofs.Common.{◌≡◌, ◌≢◌, refl, sym, ap, ◌∙◌, subst, ℕ, zero, suc, ◌+◌, ◌*◌, ◌<◌, ◌≤◌, List, [], ◌∷◌}
+use Rattle.std.proofs.Common.{◌++◌, Bool, true, false, length, map, arith, inl, inr}
+use Rattle.std.proofs.lemmas.Bool.{cases_lt}
+use Rattle.std.proofs.lemmas.List.{map-append}
+use Rattle.std.proofs.lemmas.List.Sums.{sum_by-append, sum_by-cons}
+use Rattle.std.proofs.lemmas.List.Elements.{All-from_recursion}
+use Rattle.std.proofs.lemmas.Option.{get_or_from_slice_get, slice_get_cases, slice_get_within}
+use Rattle.std.specs.Prelude.{All, AllPairs, Option, Some, None, flat_map, slice_get, sum_by}
+use Rattle.std.specs.List.{AllByRecursion}
+use Rattle.std.specs.Option.{option_to_list}
+use Rattle.mus_score.specs.declared.score.Score.{Score}
+use Rattle.mus_score.specs.declared.score.Voice.{Voice}
+use Rattle.mus_score.specs.Seats.{is_lower}
+use Rattle.mus_score.specs.Walks.{Distinct}
+use Rattle.mus_score.specs.GoodScore.{IsGoodScore, IsGoodVoice, IsLed, voice_weight}
+use Rattle.mus_score.proofs.Scores.{distinct_pairs}
+use Rattle.lay_shared.specs.declared.drawing.SeatedVoice.{SeatedVoice}
+use Rattle.lay_shared.specs.declared.plan.Plan.{Plan}
+use Rattle.lay_shared.specs.declared.plan.PlannedStaff.{PlannedStaff}
+use Rattle.lay_shared.specs.Drawn.{seated_voice, drawn_of, staff_gap, leading, lower, seated, sit, sits_of, staff_sits}
+use Rattle.lay_shared.specs.Plans.{NamesEachOnce, IsPlanFor, planned_voices}
 
 -- ---- the places of voices
 lower_places : (leads : Bool) (vs : List ℕ) → map (λ (at : SeatedVoice). at.place) (map (lower leads) vs) ≡ vs

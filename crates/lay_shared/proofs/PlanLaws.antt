@@ -1,7 +1,24 @@
 -- What is read of a `%%score` line is the plan that it spells.
-use Rattle.std.{proofs.{Common.{◌≡◌, ◌≢◌, refl, sym, ap, ◌∙◌, subst, ℕ, ◌<◌, ◌≤◌, List, [], ◌∷◌, ◌++◌, Bool, true, false, length, arith, append-nil, append_assoc, eqb-true, le-leb, leb-true, eq-eqb, true≢false, map, ◌^◌}, lemmas.{Bool.and_parts, Grind.flat_map-append, List.{Elements.All-from_recursion, get_or-map, length-map}}}, specs.{Prelude.{◌==◌, not, nat_le, flat_map, AllPairs, IfSome, Option, Some, None}, List.{AllByRecursion, list_all, list_any}}}
+use Rattle.std.proofs.Common.{◌≡◌, ◌≢◌, refl, sym, ap, ◌∙◌, subst, ℕ, ◌<◌, ◌≤◌, List, [], ◌∷◌, ◌++◌, Bool, true, false}
+use Rattle.std.proofs.Common.{length, arith, append-nil, append_assoc, eqb-true, le-leb, leb-true, eq-eqb, true≢false}
+use Rattle.std.proofs.Common.{map, ◌^◌}
+use Rattle.std.proofs.lemmas.Bool.{and_parts}
+use Rattle.std.proofs.lemmas.Grind.{flat_map-append}
+use Rattle.std.proofs.lemmas.List.Elements.{All-from_recursion}
+use Rattle.std.proofs.lemmas.List.{get_or-map, length-map}
+use Rattle.std.specs.Prelude.{◌==◌, not, nat_le, flat_map, AllPairs, IfSome, Option, Some, None}
+use Rattle.std.specs.List.{AllByRecursion, list_all, list_any}
 use Rattle.mus_score.specs.{declared.score.Score.Score, declared.score.Voice.Voice, GoodScore.IsGoodScore}
-use Rattle.lay_shared.{specs.{declared.{plan.{Plan.Plan, PlannedStaff.PlannedStaff}, signs.PlanSign.PlanSign}, Signs.Writes, Plans.{NamesEachOnce, IsPlanFor, SpellsPlan, score_ids, named, planned_voices}, Reading.{is_fair, is_once, plan_by, plan_if, run, plan_signs_from, start}, Trees.{Trees, no_tree, voice_tree, staff_tree, group_tree, voice_signs, tree_signs, shares_of, staves_of_group, staves_of_trees}}, proofs.{SignLaws.{AreApart, is_known, text-read, text-written}, TreeLaws.{run-trees, trees-run}}}
+use Rattle.lay_shared.specs.declared.plan.Plan.{Plan}
+use Rattle.lay_shared.specs.declared.plan.PlannedStaff.{PlannedStaff}
+use Rattle.lay_shared.specs.declared.signs.PlanSign.{PlanSign}
+use Rattle.lay_shared.specs.Signs.{Writes}
+use Rattle.lay_shared.specs.Plans.{NamesEachOnce, IsPlanFor, SpellsPlan, score_ids, named, planned_voices}
+use Rattle.lay_shared.specs.Reading.{is_fair, is_once, plan_by, plan_if, run, plan_signs_from, start}
+use Rattle.lay_shared.specs.Trees.{Trees, no_tree, voice_tree, staff_tree, group_tree, voice_signs, tree_signs}
+use Rattle.lay_shared.specs.Trees.{shares_of, staves_of_group, staves_of_trees}
+use Rattle.lay_shared.proofs.SignLaws.{AreApart, is_known, text-read, text-written}
+use Rattle.lay_shared.proofs.TreeLaws.{run-trees, trees-run}
 
 -- ---- no voice twice
 same_if : (v w : ℕ) (same : Bool) → (w == v) ≡ same → same ≡ false → v ≢ w

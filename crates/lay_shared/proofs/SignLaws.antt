@@ -1,6 +1,19 @@
 -- The signs that are read of a text are those that it writes.
-use Rattle.std.{proofs.{Common.{◌≡◌, ◌≢◌, refl, sym, ap, ◌∙◌, subst, ℕ, ◌<◌, ◌≤◌, List, [], ◌∷◌, ◌++◌, Bool, true, false, length, arith, eqb-true, lt-ltb, append-nil, append_assoc}, lemmas.{Bool.and_parts, List.{Quantifiers.position-Some, Sums.position_or_len_is}, Slice.Eq.bytes_eq-Decides}}, specs.{Prelude.{◌==◌, AllPairs, Option, Some, None, IfSome}, List.{list_all, position_or_len}, Option.option_to_list, Str.bytes_eq}}
-use Rattle.lay_shared.specs.{declared.signs.PlanSign.PlanSign, declared.signs.Bracket.Bracket, Signs.is_passed_in_plan, Signs.plan_sign_at, Signs.is_id, Signs.id_at, Signs.spelled_sign, Signs.BeginsNoId, Signs.SpellsSign, Signs.Writes, Reading.place_of, Reading.voice_sign, Reading.word_signs, Reading.plan_signs_from}
+use Rattle.std.proofs.Common.{◌≡◌, ◌≢◌, refl, sym, ap, ◌∙◌, subst, ℕ, ◌<◌, ◌≤◌, List, [], ◌∷◌, ◌++◌, Bool, true, false}
+use Rattle.std.proofs.Common.{length, arith, eqb-true, lt-ltb, append-nil, append_assoc}
+use Rattle.std.proofs.lemmas.Bool.{and_parts}
+use Rattle.std.proofs.lemmas.List.Quantifiers.{position-Some}
+use Rattle.std.proofs.lemmas.List.Sums.{position_or_len_is}
+use Rattle.std.proofs.lemmas.Slice.Eq.{bytes_eq-Decides}
+use Rattle.std.specs.Prelude.{◌==◌, AllPairs, Option, Some, None, IfSome}
+use Rattle.std.specs.List.{list_all, position_or_len}
+use Rattle.std.specs.Option.{option_to_list}
+use Rattle.std.specs.Str.{bytes_eq}
+use Rattle.lay_shared.specs.declared.signs.PlanSign.{PlanSign}
+use Rattle.lay_shared.specs.declared.signs.Bracket.{Bracket}
+use Rattle.lay_shared.specs.Signs.{is_passed_in_plan, plan_sign_at, is_id, id_at, spelled_sign, BeginsNoId, SpellsSign}
+use Rattle.lay_shared.specs.Signs.{Writes}
+use Rattle.lay_shared.specs.Reading.{place_of, voice_sign, word_signs, plan_signs_from}
 
 -- ---- bytes
 abbrev IsSignOf : ℕ → Option PlanSign → Type 0

@@ -1,6 +1,14 @@
 -- The signs of trees are read as their staves, and signs that are read are those of trees.
-use Rattle.std.{proofs.Common.{◌≡◌, refl, sym, ap, ◌∙◌, subst, ℕ, ◌≤◌, List, [], ◌∷◌, ◌++◌, Bool, true, false, length, arith, append-nil, append_assoc}, specs.Prelude.{◌||◌, Option, Some, None}}
-use Rattle.lay_shared.specs.{declared.{plan.PlannedStaff.PlannedStaff, reading.PlanReader.PlanReader, signs.{Bracket.Bracket, PlanSign.PlanSign}}, Reading.{has_no_bracket, same_bracket, run, start}, Trees.{Trees, no_tree, voice_tree, staff_tree, group_tree, voice_signs, tree_signs, shares_of, planned, staves_of_group, staves_of_trees}}
+use Rattle.std.proofs.Common.{◌≡◌, refl, sym, ap, ◌∙◌, subst, ℕ, ◌≤◌, List, [], ◌∷◌, ◌++◌, Bool, true, false, length}
+use Rattle.std.proofs.Common.{arith, append-nil, append_assoc}
+use Rattle.std.specs.Prelude.{◌||◌, Option, Some, None}
+use Rattle.lay_shared.specs.declared.plan.PlannedStaff.{PlannedStaff}
+use Rattle.lay_shared.specs.declared.reading.PlanReader.{PlanReader}
+use Rattle.lay_shared.specs.declared.signs.Bracket.{Bracket}
+use Rattle.lay_shared.specs.declared.signs.PlanSign.{PlanSign}
+use Rattle.lay_shared.specs.Reading.{has_no_bracket, same_bracket, run, start}
+use Rattle.lay_shared.specs.Trees.{Trees, no_tree, voice_tree, staff_tree, group_tree, voice_signs, tree_signs}
+use Rattle.lay_shared.specs.Trees.{shares_of, planned, staves_of_group, staves_of_trees}
 
 abbrev reading : Option (List ℕ) → List Bracket → Bool → List PlannedStaff → PlanReader
 reading inside open_ones leads staves = record { brackets = open_ones; inside = inside; leads = leads; staves = staves }

@@ -1,7 +1,18 @@
 -- Voices that can share a staff: they begin with the same clef, key and meter, and the same changes stand at the same places.
-use Rattle.std.specs.{Prelude.{◌≡◌, ⊤, ℕ, ◌+◌, List, [], ◌∷◌, ◌++◌, Bool, ◌||◌, if◌then◌else◌, Option, is_some, slice_get}, List.AllByRecursion, Option.option_map}
-use Rattle.mus_score.specs.{declared.score.Changes.Changes, declared.score.Flat.Flat, declared.score.Measure.Measure, declared.score.Score.Score, declared.score.Voice.Voice, Times.flats_of}
-use Rattle.lay_shared.specs.declared.{plan.Plan.Plan, plan.PlannedStaff.PlannedStaff, changes.TimedChange.TimedChange, changes.VoiceChanges.VoiceChanges}
+use Rattle.std.specs.Prelude.{◌≡◌, ⊤, ℕ, ◌+◌, List, [], ◌∷◌, ◌++◌, Bool, ◌||◌, if◌then◌else◌, Option, is_some}
+use Rattle.std.specs.Prelude.{slice_get}
+use Rattle.std.specs.List.{AllByRecursion}
+use Rattle.std.specs.Option.{option_map}
+use Rattle.mus_score.specs.declared.score.Changes.{Changes}
+use Rattle.mus_score.specs.declared.score.Flat.{Flat}
+use Rattle.mus_score.specs.declared.score.Measure.{Measure}
+use Rattle.mus_score.specs.declared.score.Score.{Score}
+use Rattle.mus_score.specs.declared.score.Voice.{Voice}
+use Rattle.mus_score.specs.Times.{flats_of}
+use Rattle.lay_shared.specs.declared.plan.Plan.{Plan}
+use Rattle.lay_shared.specs.declared.plan.PlannedStaff.{PlannedStaff}
+use Rattle.lay_shared.specs.declared.changes.TimedChange.{TimedChange}
+use Rattle.lay_shared.specs.declared.changes.VoiceChanges.{VoiceChanges}
 
 abbrev pub has_change : Changes → Bool
 has_change changes = is_some changes.clef || is_some changes.key || is_some changes.meter

@@ -1,6 +1,11 @@
 -- The score that is drawn by a plan: the voices that it names, in order, each with its seat and the gap above its staff.
-use Rattle.std.specs.{Prelude.{ℕ, List, [], ◌∷◌, Bool, false, map, flat_map, slice_get, if◌then◌else◌}, Option.option_to_list}
-use Rattle.{mus_units.specs.declared.note.Bar.{Bar}, mus_score.specs.{declared.score.Score.Score, declared.score.Seat.Seat, declared.score.Voice.Voice, Seats.usual_gap, Seats.wide_gap}}
+use Rattle.std.specs.Prelude.{ℕ, List, [], ◌∷◌, Bool, false, map, flat_map, slice_get, if◌then◌else◌}
+use Rattle.std.specs.Option.{option_to_list}
+use Rattle.mus_units.specs.declared.note.Bar.{Bar}
+use Rattle.mus_score.specs.declared.score.Score.{Score}
+use Rattle.mus_score.specs.declared.score.Seat.{Seat}
+use Rattle.mus_score.specs.declared.score.Voice.{Voice}
+use Rattle.mus_score.specs.Seats.{usual_gap, wide_gap}
 use Rattle.lay_shared.specs.declared.{drawing.SeatedVoice.SeatedVoice, plan.Plan.Plan, plan.PlannedStaff.PlannedStaff}
 
 abbrev pub sit : ℕ → Seat → Bool → SeatedVoice

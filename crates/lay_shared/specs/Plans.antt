@@ -1,7 +1,12 @@
 -- The plan of staves that a `%%score` line spells.
-use Rattle.std.specs.{Prelude.{◌≡◌, ◌≢◌, ◌≤◌, ◌<◌, ⊤, ℕ, List, [], ◌∷◌, length, map, flat_map, All, Option, Some, None}, List.{AllByRecursion, filter_map}}
+use Rattle.std.specs.Prelude.{◌≡◌, ◌≢◌, ◌≤◌, ◌<◌, ⊤, ℕ, List, [], ◌∷◌, length, map, flat_map, All, Option, Some, None}
+use Rattle.std.specs.List.{AllByRecursion, filter_map}
 use Rattle.mus_score.specs.{declared.score.Score.Score, declared.score.Voice.Voice}
-use Rattle.lay_shared.specs.{declared.signs.PlanSign.PlanSign, declared.plan.Plan.Plan, declared.plan.PlannedStaff.PlannedStaff, Signs.Writes, Trees.Trees, Trees.staves_of_trees, Trees.tree_signs}
+use Rattle.lay_shared.specs.declared.signs.PlanSign.{PlanSign}
+use Rattle.lay_shared.specs.declared.plan.Plan.{Plan}
+use Rattle.lay_shared.specs.declared.plan.PlannedStaff.{PlannedStaff}
+use Rattle.lay_shared.specs.Signs.{Writes}
+use Rattle.lay_shared.specs.Trees.{Trees, staves_of_trees, tree_signs}
 
 -- the ids of a score's voices
 abbrev pub score_ids : Score → List (List ℕ)

@@ -1,7 +1,18 @@
 -- The reading of a `%%score` line, between the code and what is meant: signs byte by byte, then staves
 -- sign by sign with the brackets that are open, the innermost first.
-use Rattle.std.specs.{Prelude.{ℕ, List, [], ◌∷◌, ◌++◌, Bool, true, false, ◌==◌, ◌&&◌, ◌||◌, not, nat_le, if◌then◌else◌, length, position, Option, Some, None}, List.list_any, Option.{option_and_then, option_to_list}, Str.bytes_eq}
-use Rattle.lay_shared.specs.{declared.plan.Plan.Plan, declared.plan.PlannedStaff.PlannedStaff, declared.reading.PlanReader.PlanReader, declared.signs.Bracket.Bracket, declared.signs.PlanSign.PlanSign, Plans.named, Signs.is_id, Signs.plan_sign_at, Trees.planned}
+use Rattle.std.specs.Prelude.{ℕ, List, [], ◌∷◌, ◌++◌, Bool, true, false, ◌==◌, ◌&&◌, ◌||◌, not, nat_le, if◌then◌else◌}
+use Rattle.std.specs.Prelude.{length, position, Option, Some, None}
+use Rattle.std.specs.List.{list_any}
+use Rattle.std.specs.Option.{option_and_then, option_to_list}
+use Rattle.std.specs.Str.{bytes_eq}
+use Rattle.lay_shared.specs.declared.plan.Plan.{Plan}
+use Rattle.lay_shared.specs.declared.plan.PlannedStaff.{PlannedStaff}
+use Rattle.lay_shared.specs.declared.reading.PlanReader.{PlanReader}
+use Rattle.lay_shared.specs.declared.signs.Bracket.{Bracket}
+use Rattle.lay_shared.specs.declared.signs.PlanSign.{PlanSign}
+use Rattle.lay_shared.specs.Plans.{named}
+use Rattle.lay_shared.specs.Signs.{is_id, plan_sign_at}
+use Rattle.lay_shared.specs.Trees.{planned}
 
 abbrev pub place_of : List ℕ → List (List ℕ) → Option ℕ
 place_of word ids = position (λ id. bytes_eq id word) ids

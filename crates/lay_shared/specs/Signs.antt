@@ -1,7 +1,10 @@
 -- How a `%%score` line is written, as signs: ids of voices, parentheses and brackets. Between signs
 -- stand blanks, `|`, `*`, `+` and `~`, which are passed over; behind an id stands no further byte of one.
 use Prim.Native.Char.{code}
-use Rattle.std.specs.{Prelude.{◌≡◌, ◌≤◌, ◌<◌, ⊤, ℕ, List, [], ◌∷◌, ◌++◌, Bool, true, false, ◌==◌, ◌&&◌, ◌||◌, not, if◌then◌else◌, length, codes, get_or, Option, Some, None}, List.list_all, Option.is_none}
+use Rattle.std.specs.Prelude.{◌≡◌, ◌≤◌, ◌<◌, ⊤, ℕ, List, [], ◌∷◌, ◌++◌, Bool, true, false, ◌==◌, ◌&&◌, ◌||◌, not}
+use Rattle.std.specs.Prelude.{if◌then◌else◌, length, codes, get_or, Option, Some, None}
+use Rattle.std.specs.List.{list_all}
+use Rattle.std.specs.Option.{is_none}
 use Rattle.{mus_units.specs.Bytes.{is_blank}, lay_shared.specs.declared.signs.{Bracket.Bracket, PlanSign.PlanSign}}
 
 abbrev pub is_passed_in_plan : ℕ → Bool

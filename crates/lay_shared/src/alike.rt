@@ -1,7 +1,10 @@
 //! Whether the voices of each staff are alike.
 
-ghost use Rattle.std.specs.{Prelude.◌≡◌, Prelude.All, Prelude.Decides, Prelude.IfOk, Prelude.length, List.AllByRecursion};
-ghost use Rattle.{mus_score.specs.GoodScore.{IsGoodScore, IsGoodVoice}, lay_shared.specs.{Alike.HaveSameChanges, Alike.DoShare, Alike.story_at, Alike.story_of, Plans.IsPlanFor}};
+ghost use Rattle.std.specs.Prelude.{◌≡◌, All, Decides, IfOk, length};
+ghost use Rattle.std.specs.List.{AllByRecursion};
+ghost use Rattle.mus_score.specs.GoodScore.{IsGoodScore, IsGoodVoice};
+ghost use Rattle.lay_shared.specs.Alike.{HaveSameChanges, DoShare, story_at, story_of};
+ghost use Rattle.lay_shared.specs.Plans.{IsPlanFor};
 
 use crate::changes::{TimedChange, VoiceChanges, story_of};
 use crate::plan::{Plan, PlannedStaff};

@@ -1,7 +1,9 @@
 //! What voices of one staff have in common.
 
 ghost use Rattle.std.specs.Prelude.{◌≡◌, ◌≤◌, ◌*◌, ◌++◌, All, length, IfOk, OnOk};
-ghost use Rattle.{mus_score.specs.{Good.IsGoodBody, Good.longest_ticks, Good.total_ticks, GoodScore.IsGoodVoice}, lay_shared.specs.Alike.{changes_from, event_changes, has_change, story_of}};
+ghost use Rattle.mus_score.specs.Good.{IsGoodBody, longest_ticks, total_ticks};
+ghost use Rattle.mus_score.specs.GoodScore.{IsGoodVoice};
+ghost use Rattle.lay_shared.specs.Alike.{changes_from, event_changes, has_change, story_of};
 
 use mus_score::{Changes, Flat, Measure, Voice, flatten};
 use mus_units::{Clef, Key, Memory, Meter, Row, copy_optional_key};

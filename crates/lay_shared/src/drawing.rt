@@ -1,7 +1,10 @@
 //! The score that is drawn by a plan.
 
 ghost use Rattle.std.specs.Prelude.{◌≡◌, ◌++◌, length, IfOk, OnOk, flat_map, map};
-ghost use Rattle.{mus_score.specs.GoodScore.{IsGoodScore}, lay_shared.specs.{Drawn.{seated_voice, drawn_of, first_bar, staff_gap, leading, lower, seated, sit, sits_of, staff_sits}, Plans.IsPlanFor}};
+ghost use Rattle.mus_score.specs.GoodScore.{IsGoodScore};
+ghost use Rattle.lay_shared.specs.Drawn.{seated_voice, drawn_of, first_bar, staff_gap, leading, lower, seated, sit};
+ghost use Rattle.lay_shared.specs.Drawn.{sits_of, staff_sits};
+ghost use Rattle.lay_shared.specs.Plans.{IsPlanFor};
 
 use crate::copies::copy_measures;
 use crate::plan::{Plan, PlannedStaff};

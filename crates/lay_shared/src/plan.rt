@@ -1,6 +1,9 @@
-ghost use Rattle.std.specs.{Prelude.{◌≡◌, ◌≢◌, ◌<◌, ◌^◌, ◌==◌, Some, [], length, AllPairs, IfOk, IfSome, map}, List.list_any};
+ghost use Rattle.std.specs.Prelude.{◌≡◌, ◌≢◌, ◌<◌, ◌^◌, ◌==◌, Some, [], length, AllPairs, IfOk, IfSome, map};
+ghost use Rattle.std.specs.List.{list_any};
 ghost use Rattle.mus_score.specs.{GoodScore.IsGoodScore, declared.score.Voice.Voice};
-ghost use Rattle.lay_shared.specs.{Plans.IsPlanFor, Plans.SpellsPlan, Plans.score_ids, Plans.named, Reading.is_fair, Reading.is_once, Reading.plan_by, Reading.plan_signs_from, declared.plan.Plan.Plan};
+ghost use Rattle.lay_shared.specs.Plans.{IsPlanFor, SpellsPlan, score_ids, named};
+ghost use Rattle.lay_shared.specs.Reading.{is_fair, is_once, plan_by, plan_signs_from};
+ghost use Rattle.lay_shared.specs.declared.plan.Plan.{Plan};
 
 use crate::reading::staves_by;
 use crate::signs::{PlanSign, signs_of};

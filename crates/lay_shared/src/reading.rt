@@ -1,7 +1,8 @@
 //! Staves read sign by sign.
 
 ghost use Rattle.std.specs.Prelude.{◌≡◌, ◌∷◌, ◌++◌, [], None, Some, IfOk, OnOk, MatchOption, cond};
-ghost use Rattle.lay_shared.specs.Reading.{staff_closed, ended, entered, has_no_bracket, left, staff_opened, run, same_bracket, start, after_sign, with_staff, with_voice};
+ghost use Rattle.lay_shared.specs.Reading.{staff_closed, ended, entered, has_no_bracket, left, staff_opened, run};
+ghost use Rattle.lay_shared.specs.Reading.{same_bracket, start, after_sign, with_staff, with_voice};
 
 use crate::plan::PlannedStaff;
 use crate::signs::{Bracket, PlanSign};

@@ -1,7 +1,9 @@
 //! The signs of a `%%score` line.
 
-ghost use Rattle.std.specs.{Prelude.◌≡◌, Prelude.◌<◌, Prelude.◌^◌, Prelude.◌++◌, Prelude.[], Prelude.length, Prelude.IfOk, Prelude.IfSome, Prelude.OnOk, Option.option_to_list};
-ghost use Rattle.lay_shared.specs.{Reading.place_of, Reading.plan_signs_from, Reading.voice_sign, Reading.word_signs, Signs.is_id, Signs.is_passed_in_plan, Signs.plan_sign_at};
+ghost use Rattle.std.specs.Prelude.{◌≡◌, ◌<◌, ◌^◌, ◌++◌, [], length, IfOk, IfSome, OnOk};
+ghost use Rattle.std.specs.Option.{option_to_list};
+ghost use Rattle.lay_shared.specs.Reading.{place_of, plan_signs_from, voice_sign, word_signs};
+ghost use Rattle.lay_shared.specs.Signs.{is_id, is_passed_in_plan, plan_sign_at};
 
 use mus_units::bytes::is_same;
 use mus_units::{Memory, Row, Text};

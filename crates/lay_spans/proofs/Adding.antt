@@ -1,6 +1,13 @@
 -- The columns of a span, and how they grow by a measure.
-use Rattle.std.proofs.{Common.{◌≡◌, ℕ, zero, suc, ◌+◌, ◌-◌, ◌<◌, ◌≤◌, List, [], ◌∷◌, ◌++◌, length, take, drop, flat_map, slice_index_or, get_or, Option, option_and_then, slice_get, arith, sym, ◌∙◌, ap, subst, length-append}, lemmas.List.{take_more, get_or-drop, append-nil, append_assoc, length-drop, Concat.flat_map-append}}
-use Rattle.{lay_springs.specs.{declared.traits.Reach.Reach, Place.reach_at, Fit.StandsInAll}, lay_spans.specs.Columns.{measures_from, span_columns, EndsInAll}}
+use Rattle.std.proofs.Common.{◌≡◌, ℕ, zero, suc, ◌+◌, ◌-◌, ◌<◌, ◌≤◌, List, [], ◌∷◌, ◌++◌, length, take, drop, flat_map}
+use Rattle.std.proofs.Common.{slice_index_or, get_or, Option, option_and_then, slice_get, arith, sym, ◌∙◌, ap, subst}
+use Rattle.std.proofs.Common.{length-append}
+use Rattle.std.proofs.lemmas.List.{take_more, get_or-drop, append-nil, append_assoc, length-drop}
+use Rattle.std.proofs.lemmas.List.Concat.{flat_map-append}
+use Rattle.lay_springs.specs.declared.traits.Reach.{Reach}
+use Rattle.lay_springs.specs.Place.{reach_at}
+use Rattle.lay_springs.specs.Fit.{StandsInAll}
+use Rattle.lay_spans.specs.Columns.{measures_from, span_columns, EndsInAll}
 
 -- a span has the columns of its first measure
 pub columns_some : {C : Type 0} (starts others : List (List C)) (a b : ℕ) → a < b → 0 < length (slice_index_or starts a []) → 0 < length (span_columns starts others a b)

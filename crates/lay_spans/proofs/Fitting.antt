@@ -1,7 +1,18 @@
 -- Which spans fit.
-use Rattle.std.proofs.{Common.{◌≡◌, ℕ, ◌+◌, ◌-◌, ◌<◌, ◌≤◌, List, [], ◌++◌, length, map, Option, None, Some, IfNone, option_map, option_and_then, unwrap_or, slice_get, slice_index_or, arith, sym, ◌∙◌, ap, subst, refl, inl, inr, length-append}, Math.Path.fun_ext, lemmas.{Bool.cases_lt, Option.slice_get-map, List.{append_assoc, length-map}}}
-use Rattle.lay_springs.{specs.declared.traits.Reach.Reach, specs.Place.reach_at, specs.Place.length_at, specs.Fit.Fits, specs.Fit.Passes, specs.Fit.CanStandWithin, specs.Fit.StandsInAll, proofs.Longer.cannot_stand, proofs.Longer.longer_fits_less}
-use Rattle.lay_spans.{specs.Columns.span_columns, specs.Columns.AreMeasures, specs.SpanList.FitsAtForce, specs.SpanList.IsForce, proofs.Adding.columns_some, proofs.Adding.columns_continue, proofs.Adding.ends_so}
+use Rattle.std.proofs.Common.{◌≡◌, ℕ, ◌+◌, ◌-◌, ◌<◌, ◌≤◌, List, [], ◌++◌, length, map, Option, None, Some, IfNone}
+use Rattle.std.proofs.Common.{option_map, option_and_then, unwrap_or, slice_get, slice_index_or, arith, sym, ◌∙◌, ap}
+use Rattle.std.proofs.Common.{subst, refl, inl, inr, length-append}
+use Rattle.std.proofs.Math.Path.{fun_ext}
+use Rattle.std.proofs.lemmas.Bool.{cases_lt}
+use Rattle.std.proofs.lemmas.Option.{slice_get-map}
+use Rattle.std.proofs.lemmas.List.{append_assoc, length-map}
+use Rattle.lay_springs.specs.declared.traits.Reach.{Reach}
+use Rattle.lay_springs.specs.Place.{reach_at, length_at}
+use Rattle.lay_springs.specs.Fit.{Fits, Passes, CanStandWithin, StandsInAll}
+use Rattle.lay_springs.proofs.Longer.{cannot_stand, longer_fits_less}
+use Rattle.lay_spans.specs.Columns.{span_columns, AreMeasures}
+use Rattle.lay_spans.specs.SpanList.{FitsAtForce, IsForce}
+use Rattle.lay_spans.proofs.Adding.{columns_some, columns_continue, ends_so}
 
 -- a longer span can't stand where a shorter one can't
 pub longer_stands : {C : Type 0} (reach : C → ℕ → Option Reach) (len : C → ℕ → ℕ) (gaps : List ℕ) (width force : ℕ) (starts others : List (List C)) (a b c : ℕ)

@@ -1,8 +1,25 @@
 -- The row of a bar, and the rows, while they grow.
-use Rattle.std.proofs.{Common.{◌≡◌, ℕ, ◌+◌, ◌-◌, ◌<◌, ◌≤◌, ℤ, Bool, List, [], ◌∷◌, ◌++◌, length, map, take, Option, None, Some, IsSome, slice_index, slice_index_or, get_or, true, false, arith, sym, ◌∙◌, ap, subst, refl, inl, inr, length-append}, Math.Seq.get_or-append_seam, lemmas.{Bool.{cases_lt, cases_eq, true≢false}, List.{get_or_append_left, length-map, take_all}, Option.{none-some, same_Some}}}
-use Rattle.lay_springs.{specs.{declared.{traits.Reach.Reach, progress.Progress.Progress}, Place.{reach_at, length_at, HasPlaced}}, proofs.{Clear.below_or_at, Longer.placed_on}}
+use Rattle.std.proofs.Common.{◌≡◌, ℕ, ◌+◌, ◌-◌, ◌<◌, ◌≤◌, ℤ, Bool, List, [], ◌∷◌, ◌++◌, length, map, take, Option, None}
+use Rattle.std.proofs.Common.{Some, IsSome, slice_index, slice_index_or, get_or, true, false, arith, sym, ◌∙◌, ap}
+use Rattle.std.proofs.Common.{subst, refl, inl, inr, length-append}
+use Rattle.std.proofs.Math.Seq.{get_or-append_seam}
+use Rattle.std.proofs.lemmas.Bool.{cases_lt, cases_eq, true≢false}
+use Rattle.std.proofs.lemmas.List.{get_or_append_left, length-map, take_all}
+use Rattle.std.proofs.lemmas.Option.{none-some, same_Some}
+use Rattle.lay_springs.specs.declared.traits.Reach.{Reach}
+use Rattle.lay_springs.specs.declared.progress.Progress.{Progress}
+use Rattle.lay_springs.specs.Place.{reach_at, length_at, HasPlaced}
+use Rattle.lay_springs.proofs.Clear.{below_or_at}
+use Rattle.lay_springs.proofs.Longer.{placed_on}
 use Rattle.{lay_breaks.specs.Spans.{AreSpans, listed}, lay_rows.specs.Tables.{IsCostTable}}
-use Rattle.lay_spans.{specs.{Columns.{measures_from, span_columns, AreMeasures}, Forced.ForcedInside, SpanList.{FitsAtForce, IsCost, IsNoSpan, IsSpanList}, Rows.{IsRowFrom, rows_spans}, Single.costs_small}, proofs.{Adding.{columns_some, columns_more}, Fitting.{longer_stands, seen_as}, Listing.{in_rows, past_rows, rows_form}}}
+use Rattle.lay_spans.specs.Columns.{measures_from, span_columns, AreMeasures}
+use Rattle.lay_spans.specs.Forced.{ForcedInside}
+use Rattle.lay_spans.specs.SpanList.{FitsAtForce, IsCost, IsNoSpan, IsSpanList}
+use Rattle.lay_spans.specs.Rows.{IsRowFrom, rows_spans}
+use Rattle.lay_spans.specs.Single.{costs_small}
+use Rattle.lay_spans.proofs.Adding.{columns_some, columns_more}
+use Rattle.lay_spans.proofs.Fitting.{longer_stands, seen_as}
+use Rattle.lay_spans.proofs.Listing.{in_rows, past_rows, rows_form}
 
 -- the columns that are seen, with one measure more
 pub seen_more : {D C : Type 0} (f : D → C) (old new : List D) (starts others : List (List C)) (a m : ℕ) → a ≤ m → m < length starts → length others ≡ length starts

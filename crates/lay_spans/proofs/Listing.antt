@@ -1,6 +1,15 @@
 -- Rows of costs as a list of spans.
-use Rattle.std.proofs.{Common.{◌≡◌, ℕ, suc, ◌+◌, ◌-◌, ◌<◌, ◌≤◌, ◌^◌, ◌⊎◌, List, [], ◌∷◌, ◌++◌, length, Option, None, Some, MatchOption, slice_index, slice_index_or, nat_lt, option_and_then, slice_get, true, false, arith, sym, ◌∙◌, ap, subst, refl, inl, inr}, lemmas.{Bool.{cases_eq, cases_lt, Decides.nat_tests}, List.get_or_past, Option.{slice_get_past, slice_get-get_or}}}
-use Rattle.{lay_breaks.specs.{declared.costs.Span.Span, Spans.AreSpans, Spans.SpansFrom, Spans.listed, Spans.has_ends, Spans.has_these}, lay_rows.specs.Costs.{cost_in}, lay_spans.specs.Rows.{row_spans, rows_spans}}
+use Rattle.std.proofs.Common.{◌≡◌, ℕ, suc, ◌+◌, ◌-◌, ◌<◌, ◌≤◌, ◌^◌, ◌⊎◌, List, [], ◌∷◌, ◌++◌, length, Option, None}
+use Rattle.std.proofs.Common.{Some, MatchOption, slice_index, slice_index_or, nat_lt, option_and_then, slice_get, true}
+use Rattle.std.proofs.Common.{false, arith, sym, ◌∙◌, ap, subst, refl, inl, inr}
+use Rattle.std.proofs.lemmas.Bool.{cases_eq, cases_lt}
+use Rattle.std.proofs.lemmas.Bool.Decides.{nat_tests}
+use Rattle.std.proofs.lemmas.List.{get_or_past}
+use Rattle.std.proofs.lemmas.Option.{slice_get_past, slice_get-get_or}
+use Rattle.lay_breaks.specs.declared.costs.Span.{Span}
+use Rattle.lay_breaks.specs.Spans.{AreSpans, SpansFrom, listed, has_ends, has_these}
+use Rattle.lay_rows.specs.Costs.{cost_in}
+use Rattle.lay_spans.specs.Rows.{row_spans, rows_spans}
 
 pub listed_here : (a b : ℕ) (s : Span) (ss : List Span) → s.a ≡ a → s.b ≡ b → listed (s ∷ ss) a b ≡ Some s.badness
 listed_here a b s ss e f = rw (has_these a b s e f) refl

@@ -1,6 +1,7 @@
 -- The columns of measures that stand in a system. `starts` has the columns of each measure in a system that begins with it,
 -- `others` in one that doesn't. The span from bar a to bar b has the measures a to b - 1, counted from 0.
-use Rattle.std.specs.Prelude.{◌≡◌, ℕ, ◌+◌, ◌-◌, ◌<◌, ◌≤◌, List, [], ◌∷◌, length, take, drop, flat_map, slice_index_or, Option}
+use Rattle.std.specs.Prelude.{◌≡◌, ℕ, ◌+◌, ◌-◌, ◌<◌, ◌≤◌, List, [], ◌∷◌, length, take, drop, flat_map, slice_index_or}
+use Rattle.std.specs.Prelude.{Option}
 use Rattle.lay_springs.specs.{declared.traits.Reach.Reach, Place.reach_at, Fit.StandsInAll}
 
 -- the measures of a system that begins at bar a

@@ -1,6 +1,8 @@
 -- The spans from each bar as a row of what they cost, and rows as a list of spans.
 use Rattle.std.specs.Prelude.{ℕ, ◌+◌, ◌<◌, ◌≤◌, Bool, List, [], ◌∷◌, ◌++◌, length, slice_index, Option}
-use Rattle.{lay_springs.specs.declared.traits.Reach.{Reach}, lay_breaks.specs.declared.costs.Span.{Span}, lay_spans.specs.SpanList.{IsCost, IsNoSpan}}
+use Rattle.lay_springs.specs.declared.traits.Reach.{Reach}
+use Rattle.lay_breaks.specs.declared.costs.Span.{Span}
+use Rattle.lay_spans.specs.SpanList.{IsCost, IsNoSpan}
 
 -- the row has what the spans from bar a to a + 1, a + 2 and so on cost, up to the longest that fits
 pub record IsRowFrom {C : Type 0} (reach : C → ℕ → Option Reach) (len : C → ℕ → ℕ) (gaps : List ℕ) (width : ℕ) (starts others : List (List C)) (forced : ℕ → Bool) (a : ℕ) (row : List ℕ) : Type 0 where

@@ -1,8 +1,22 @@
 -- What follows from what spans cost: no cost passes 2^40, columns have one force, and a bar has one row.
-use Rattle.std.proofs.{Common.{◌≡◌, ℕ, ◌+◌, ◌-◌, ◌*◌, ◌<◌, ◌≤◌, ◌^◌, ◌==◌, nat_le, if◌then◌else◌, true, false, Option, Some, Bool, List, length, All, arith, sym, ◌∙◌, ap, subst, inl, inr}, Math.Nat.mul-le-mul_left, lemmas.{Bool.cases_lt, List.{ext_get_or, Elements.All-from_get_or}, Option.same_Some}, Props.props}
+use Rattle.std.proofs.Common.{◌≡◌, ℕ, ◌+◌, ◌-◌, ◌*◌, ◌<◌, ◌≤◌, ◌^◌, ◌==◌, nat_le, if◌then◌else◌, true, false, Option}
+use Rattle.std.proofs.Common.{Some, Bool, List, length, All, arith, sym, ◌∙◌, ap, subst, inl, inr}
+use Rattle.std.proofs.Math.Nat.{mul-le-mul_left}
+use Rattle.std.proofs.lemmas.Bool.{cases_lt}
+use Rattle.std.proofs.lemmas.List.{ext_get_or}
+use Rattle.std.proofs.lemmas.List.Elements.{All-from_get_or}
+use Rattle.std.proofs.lemmas.Option.{same_Some}
+use Rattle.std.proofs.Props.{props}
 use mathlib.Core.HLevel.{Σ_prop_path}
-use Rattle.lay_springs.{specs.{declared.traits.Reach.Reach, Place.reach_at, Place.length_at, Fit.counted, Fit.is_ragged}, proofs.{Longer.stands, Ends.apart_down, Ends.length_rises}}
-use Rattle.lay_spans.specs.{Badness.{badness_of, badness_at}, Columns.{AreMeasures, span_columns}, SpanList.{FitsAtForce, IsForce, IsCost}, Rows.IsRowFrom}
+use Rattle.lay_springs.specs.declared.traits.Reach.{Reach}
+use Rattle.lay_springs.specs.Place.{reach_at, length_at}
+use Rattle.lay_springs.specs.Fit.{counted, is_ragged}
+use Rattle.lay_springs.proofs.Longer.{stands}
+use Rattle.lay_springs.proofs.Ends.{apart_down, length_rises}
+use Rattle.lay_spans.specs.Badness.{badness_of, badness_at}
+use Rattle.lay_spans.specs.Columns.{AreMeasures, span_columns}
+use Rattle.lay_spans.specs.SpanList.{FitsAtForce, IsForce, IsCost}
+use Rattle.lay_spans.specs.Rows.{IsRowFrom}
 
 one_reach : (o : Option Reach) → IsProp ((s : Reach) × (o ≡ Some s))
 one_reach o a b = Σ_prop_path (λ s. hlevel props) (same_Some a.0 b.0 (sym a.1 ∙ b.1))

@@ -1,6 +1,10 @@
 -- The spans of measures that fit within a width, and what each costs.
 use Rattle.std.specs.Prelude.{◌≡◌, ℕ, ◌<◌, ◌≤◌, ◌⊎◌, ◌==◌, Bool, List, length, Option, Some, None, IsSome}
-use Rattle.{lay_springs.specs.{declared.traits.Reach.Reach, Place.reach_at, Place.length_at, Fit.Fits, Fit.CanStandWithin}, lay_breaks.specs.{declared.costs.Span.Span, Spans.listed}}
+use Rattle.lay_springs.specs.declared.traits.Reach.{Reach}
+use Rattle.lay_springs.specs.Place.{reach_at, length_at}
+use Rattle.lay_springs.specs.Fit.{Fits, CanStandWithin}
+use Rattle.lay_breaks.specs.declared.costs.Span.{Span}
+use Rattle.lay_breaks.specs.Spans.{listed}
 use Rattle.lay_spans.specs.{Badness.badness_of, Columns.span_columns, Forced.ForcedInside}
 
 -- the end of the columns at a force is at most the width

@@ -1,5 +1,8 @@
 ghost use Rattle.std.specs.Prelude.{◌≡◌, ◌+◌, ◌≤◌, ℕ, Option, IfOk, IfErr, length, slice_index_or};
-ghost use Rattle.{lay_breaks.specs.{Answers.IsCause, Breaking.IsChosen, Breaking.sum_from, Breaking.IsPotential, Spans.listed}, lay_spans.specs.Forced.{is_forced}};
+ghost use Rattle.lay_breaks.specs.Answers.{IsCause};
+ghost use Rattle.lay_breaks.specs.Breaking.{IsChosen, sum_from, IsPotential};
+ghost use Rattle.lay_breaks.specs.Spans.{listed};
+ghost use Rattle.lay_spans.specs.Forced.{is_forced};
 
 use crate::costs::{FittingSpans, SpanCosts};
 use crate::marks::marks_of;

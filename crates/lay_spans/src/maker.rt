@@ -1,5 +1,8 @@
 ghost use Rattle.std.specs.Prelude.{◌≡◌, ◌+◌, ◌<◌, ◌≤◌, ◌^◌, ℕ, length, slice_index, slice_index_or, false};
-ghost use Rattle.{lay_spans.specs.{Columns.AreMeasures, Rows.IsRowFrom, Single.{measures_prop, one_row, row_small}}, lay_springs.proofs.Ends.{spring_rises}};
+ghost use Rattle.lay_spans.specs.Columns.{AreMeasures};
+ghost use Rattle.lay_spans.specs.Rows.{IsRowFrom};
+ghost use Rattle.lay_spans.specs.Single.{measures_prop, one_row, row_small};
+ghost use Rattle.lay_springs.proofs.Ends.{spring_rises};
 
 use crate::borrowed::BorrowedColumns;
 use crate::rows::row_from;

@@ -1,6 +1,9 @@
-ghost use Rattle.std.specs.Prelude.{◌≡◌, ◌+◌, ◌-◌, ◌<◌, ◌≤◌, ◌^◌, ◌++◌, ℕ, IfNone, IfOk, IfSome, OnOk, length, map, slice_index, slice_index_or, false, []};
+ghost use Rattle.std.specs.Prelude.{◌≡◌, ◌+◌, ◌-◌, ◌<◌, ◌≤◌, ◌^◌, ◌++◌, ℕ, IfNone, IfOk, IfSome, OnOk, length, map};
+ghost use Rattle.std.specs.Prelude.{slice_index, slice_index_or, false, []};
 ghost use Rattle.lay_springs.specs.{Fit.most_columns, Place.{reach_at, length_at, HasPlaced}};
-ghost use Rattle.lay_spans.specs.{Columns.measures_from, Columns.AreMeasures, Rows.IsRowFrom, Rows.row_spans, Rows.rows_spans, SpanList.FitsAt, SpanList.FitsAtForce};
+ghost use Rattle.lay_spans.specs.Columns.{measures_from, AreMeasures};
+ghost use Rattle.lay_spans.specs.Rows.{IsRowFrom, row_spans, rows_spans};
+ghost use Rattle.lay_spans.specs.SpanList.{FitsAt, FitsAtForce};
 
 use crate::borrowed::BorrowedColumns;
 use crate::forces::badness;

@@ -1,5 +1,8 @@
 ghost use Rattle.std.specs.Prelude.{◌≡◌, ◌+◌, ◌<◌, ◌≤◌, ◌^◌, ℕ, IfOk, length, map, slice_index};
-ghost use Rattle.{lay_breaks.specs.Spans.{AreSpans}, lay_spans.specs.{Columns.AreMeasures, Columns.span_columns, Forced.is_forced, SpanList.IsSpanList}};
+ghost use Rattle.lay_breaks.specs.Spans.{AreSpans};
+ghost use Rattle.lay_spans.specs.Columns.{AreMeasures, span_columns};
+ghost use Rattle.lay_spans.specs.Forced.{is_forced};
+ghost use Rattle.lay_spans.specs.SpanList.{IsSpanList};
 
 use crate::borrowed::BorrowedColumns;
 use crate::costs::FittingSpans;

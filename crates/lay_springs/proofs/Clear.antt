@@ -1,5 +1,9 @@
 -- One lane more.
-use Rattle.std.proofs.{Common.{◌≡◌, ℕ, ◌+◌, ◌<◌, ◌≤◌, ℤ, pos, ◌≤ℤ◌, Option, Some, IfSome, sym, ◌∙◌, arith, inl, inr, subst}, lemmas.{Bool.cases_lt, Option.same_Some, Int.ints}}
+use Rattle.std.proofs.Common.{◌≡◌, ℕ, ◌+◌, ◌<◌, ◌≤◌, ℤ, pos, ◌≤ℤ◌, Option, Some, IfSome, sym, ◌∙◌, arith, inl, inr}
+use Rattle.std.proofs.Common.{subst}
+use Rattle.std.proofs.lemmas.Bool.{cases_lt}
+use Rattle.std.proofs.lemmas.Option.{same_Some}
+use Rattle.std.proofs.lemmas.Int.{ints}
 use Rattle.lay_springs.specs.{declared.traits.Reach.Reach, Place.IsInside}
 
 -- what stands at k below n, or at n

@@ -1,6 +1,13 @@
 -- The end of the columns, and how it grows with the force.
-use Rattle.std.proofs.{Common.{◌≡◌, ℕ, ◌+◌, ◌-◌, ◌*◌, ◌/◌, ◌<◌, ◌≤◌, ℤ, pos, ◌+ℤ◌, ◌≤ℤ◌, List, Option, None, Some, option_map, unwrap_or, slice_get, arith, sym, ◌∙◌, refl}, lemmas.{Int.ints, Option.same_Some}, Math.Nat.{mul-le-mul_left, mul-le-mul_right}}
-use Rattle.lay_springs.{specs.{declared.traits.Reach.Reach, Place.{length_at, StandApart}, Fit.{IsEndOf, EndsAt}}, proofs.Clear.below_or_at}
+use Rattle.std.proofs.Common.{◌≡◌, ℕ, ◌+◌, ◌-◌, ◌*◌, ◌/◌, ◌<◌, ◌≤◌, ℤ, pos, ◌+ℤ◌, ◌≤ℤ◌, List, Option, None, Some}
+use Rattle.std.proofs.Common.{option_map, unwrap_or, slice_get, arith, sym, ◌∙◌, refl}
+use Rattle.std.proofs.lemmas.Int.{ints}
+use Rattle.std.proofs.lemmas.Option.{same_Some}
+use Rattle.std.proofs.Math.Nat.{mul-le-mul_left, mul-le-mul_right}
+use Rattle.lay_springs.specs.declared.traits.Reach.{Reach}
+use Rattle.lay_springs.specs.Place.{length_at, StandApart}
+use Rattle.lay_springs.specs.Fit.{IsEndOf, EndsAt}
+use Rattle.lay_springs.proofs.Clear.{below_or_at}
 
 pub end_more : (reach : ℕ → Option Reach) (lane : ℕ) (at old new : ℤ) (r : Reach) → reach lane ≡ Some r
     → old ≤ℤ new → (at +ℤ pos r.right) ≤ℤ new → ((v : ℤ) → old ≤ℤ v → (at +ℤ pos r.right) ≤ℤ v → new ≤ℤ v) → IsEndOf reach lane at old → IsEndOf reach (lane + 1) at new

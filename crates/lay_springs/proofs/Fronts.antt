@@ -1,6 +1,16 @@
 -- What stands furthest right in each lane.
-use Rattle.std.proofs.{Common.{get_or-set_same, get_or-set_other, slice_set, ◌≡◌, ℕ, ◌+◌, ◌*◌, ◌^◌, ◌<◌, ◌≤◌, inl, inr, ℤ, pos, negsuc, ◌+ℤ◌, ◌≤ℤ◌, List, length, Option, None, Some, IfSome, slice_index, slice_index_or, sym, ap, ◌∙◌, arith, subst, refl}, lemmas.{Bool.{cases_eq, eq-eqb, ne_eqb}, Int.ints, Option.{same_Some, none-some, slice_get_past}}}
-use Rattle.lay_springs.{specs.{declared.traits.{Reach.Reach, LaneReach.LaneReach, ReachView.ReachView}, ReachView.{IsLone, TellsReach, reach_in}, Place.{IsClear, StandApart, IsPlacedTo, AreFrontiers, IsPast, IsSomewhere, Advances}}, proofs.Clear.below_or_at}
+use Rattle.std.proofs.Common.{get_or-set_same, get_or-set_other, slice_set, ◌≡◌, ℕ, ◌+◌, ◌*◌, ◌^◌, ◌<◌, ◌≤◌, inl, inr}
+use Rattle.std.proofs.Common.{ℤ, pos, negsuc, ◌+ℤ◌, ◌≤ℤ◌, List, length, Option, None, Some, IfSome, slice_index}
+use Rattle.std.proofs.Common.{slice_index_or, sym, ap, ◌∙◌, arith, subst, refl}
+use Rattle.std.proofs.lemmas.Bool.{cases_eq, eq-eqb, ne_eqb}
+use Rattle.std.proofs.lemmas.Int.{ints}
+use Rattle.std.proofs.lemmas.Option.{same_Some, none-some, slice_get_past}
+use Rattle.lay_springs.specs.declared.traits.Reach.{Reach}
+use Rattle.lay_springs.specs.declared.traits.LaneReach.{LaneReach}
+use Rattle.lay_springs.specs.declared.traits.ReachView.{ReachView}
+use Rattle.lay_springs.specs.ReachView.{IsLone, TellsReach, reach_in}
+use Rattle.lay_springs.specs.Place.{IsClear, StandApart, IsPlacedTo, AreFrontiers, IsPast, IsSomewhere, Advances}
+use Rattle.lay_springs.proofs.Clear.{below_or_at}
 
 abbrev at : List ℤ → ℕ → ℤ
 at x k = slice_index_or x k (pos 0)

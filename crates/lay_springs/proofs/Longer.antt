@@ -1,6 +1,16 @@
 -- Columns that continue others: they need more room, and those are still placed.
-use Rattle.std.proofs.{Common.{◌≡◌, ℕ, zero, suc, ◌+◌, ◌-◌, ◌*◌, ◌<◌, ◌≤◌, ℤ, pos, ◌≤ℤ◌, List, [], ◌∷◌, ◌++◌, length, Option, option_map, option_and_then, unwrap_or, slice_get, slice_index_or, arith, sym, ◌∙◌, ap, subst, refl, length-append}, lemmas.{Int.ints, List.get_or_append_left, Nat.le-div}}
-use Rattle.lay_springs.{specs.{declared.{traits.Reach.Reach, progress.Progress.Progress}, Place.{reach_at, length_at, StandApart, IsFirst, HasPlaced}, Fit.{Fits, Passes, CanStandWithin, StandsInAll, LongerFitsLess, most_columns}}, proofs.{Ends.apart_down, Moved.moved_apart}}
+use Rattle.std.proofs.Common.{◌≡◌, ℕ, zero, suc, ◌+◌, ◌-◌, ◌*◌, ◌<◌, ◌≤◌, ℤ, pos, ◌≤ℤ◌, List, [], ◌∷◌, ◌++◌, length}
+use Rattle.std.proofs.Common.{Option, option_map, option_and_then, unwrap_or, slice_get, slice_index_or, arith, sym}
+use Rattle.std.proofs.Common.{◌∙◌, ap, subst, refl, length-append}
+use Rattle.std.proofs.lemmas.Int.{ints}
+use Rattle.std.proofs.lemmas.List.{get_or_append_left}
+use Rattle.std.proofs.lemmas.Nat.{le-div}
+use Rattle.lay_springs.specs.declared.traits.Reach.{Reach}
+use Rattle.lay_springs.specs.declared.progress.Progress.{Progress}
+use Rattle.lay_springs.specs.Place.{reach_at, length_at, StandApart, IsFirst, HasPlaced}
+use Rattle.lay_springs.specs.Fit.{Fits, Passes, CanStandWithin, StandsInAll, LongerFitsLess, most_columns}
+use Rattle.lay_springs.proofs.Ends.{apart_down}
+use Rattle.lay_springs.proofs.Moved.{moved_apart}
 
 pub stands : (n : ℕ) (reach : ℕ → ℕ → Option Reach) (gaps : List ℕ) (spring : ℕ → ℕ → ℕ) (width force : ℕ) → Fits n reach gaps spring width force → CanStandWithin n reach gaps spring width force
 stands n reach gaps spring width force h = record {

@@ -1,6 +1,18 @@
 -- There is a place of any columns, and it ends within the width or passes it.
-use Rattle.std.{specs.{Int.int_max, Prelude.◌<ℤ◌}, proofs.{Common.{◌≡◌, ℕ, zero, suc, ◌+◌, ◌-◌, ◌*◌, ◌<◌, ◌≤◌, ◌⊎◌, inl, inr, subst, ℤ, pos, negsuc, ◌+ℤ◌, ◌≤ℤ◌, List, length, take, replicate, Option, None, Some, IfSome, slice_index, slice_index_or, slice_set, sym, ap, ◌∙◌, arith, refl}, lemmas.{Int.{ints, clamps}, Bool.cases_lt, List.{length-set, length-replicate}}}}
-use Rattle.lay_springs.{specs.{declared.traits.Reach.Reach, Place.{IsPlacedTo, IsPlace}, Fit.{IsEndOf, EndsAt, Fits, Passes}}, proofs.{Clear.below_or_at, Longer.fewer_apart, Placing.{placed_first, placed_more, place_of}}}
+use Rattle.std.specs.Int.{int_max}
+use Rattle.std.specs.Prelude.{◌<ℤ◌}
+use Rattle.std.proofs.Common.{◌≡◌, ℕ, zero, suc, ◌+◌, ◌-◌, ◌*◌, ◌<◌, ◌≤◌, ◌⊎◌, inl, inr, subst, ℤ, pos, negsuc, ◌+ℤ◌}
+use Rattle.std.proofs.Common.{◌≤ℤ◌, List, length, take, replicate, Option, None, Some, IfSome, slice_index}
+use Rattle.std.proofs.Common.{slice_index_or, slice_set, sym, ap, ◌∙◌, arith, refl}
+use Rattle.std.proofs.lemmas.Int.{ints, clamps}
+use Rattle.std.proofs.lemmas.Bool.{cases_lt}
+use Rattle.std.proofs.lemmas.List.{length-set, length-replicate}
+use Rattle.lay_springs.specs.declared.traits.Reach.{Reach}
+use Rattle.lay_springs.specs.Place.{IsPlacedTo, IsPlace}
+use Rattle.lay_springs.specs.Fit.{IsEndOf, EndsAt, Fits, Passes}
+use Rattle.lay_springs.proofs.Clear.{below_or_at}
+use Rattle.lay_springs.proofs.Longer.{fewer_apart}
+use Rattle.lay_springs.proofs.Placing.{placed_first, placed_more, place_of}
 
 -- the least number that is at least `from` and whatever is asked
 pub record Top (from : ℤ) (Asked : ℤ → Type 0) : Type 0 where

@@ -1,5 +1,10 @@
 -- Columns that are set to the width still stand apart, and end at it.
-use Rattle.std.proofs.{Common.{◌≡◌, sym, subst, inl, inr, ℕ, ◌+◌, ◌-◌, ◌*◌, ◌/◌, ◌<◌, ◌≤◌, ℤ, pos, ◌+ℤ◌, List, Option, slice_index_or, arith}, lemmas.{Int.ints, Nat.le-div, Bool.cases_lt}, Math.Nat.div-mul-le_self}
+use Rattle.std.proofs.Common.{◌≡◌, sym, subst, inl, inr, ℕ, ◌+◌, ◌-◌, ◌*◌, ◌/◌, ◌<◌, ◌≤◌, ℤ, pos, ◌+ℤ◌, List, Option}
+use Rattle.std.proofs.Common.{slice_index_or, arith}
+use Rattle.std.proofs.lemmas.Int.{ints}
+use Rattle.std.proofs.lemmas.Nat.{le-div}
+use Rattle.std.proofs.lemmas.Bool.{cases_lt}
+use Rattle.std.proofs.Math.Nat.{div-mul-le_self}
 use Rattle.lay_springs.specs.{declared.traits.Reach.Reach, Place.StandApart, Fit.IsSet}
 
 share_rises : (rest i k d : ℕ) → 0 < d → i ≤ k → rest * i / d ≤ rest * k / d

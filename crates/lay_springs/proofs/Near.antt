@@ -1,5 +1,9 @@
 -- How far columns come nearer where the force falls.
-use Rattle.std.{specs.Int.int_max, proofs.{Common.{◌≡◌, ◌≢◌, ℕ, min, ◌+◌, ◌-◌, ◌*◌, ◌/◌, ◌<◌, ◌≤◌, ℤ, pos, ◌+ℤ◌, ◌≤ℤ◌, ◌⊎◌, inl, inr, List, length, Option, slice_index_or, arith}, lemmas.Int.{ints, clamps}, Math.Nat.{mul-le-mul_right, mul-add, add-mul}}}
+use Rattle.std.specs.Int.{int_max}
+use Rattle.std.proofs.Common.{◌≡◌, ◌≢◌, ℕ, min, ◌+◌, ◌-◌, ◌*◌, ◌/◌, ◌<◌, ◌≤◌, ℤ, pos, ◌+ℤ◌, ◌≤ℤ◌, ◌⊎◌, inl, inr, List}
+use Rattle.std.proofs.Common.{length, Option, slice_index_or, arith}
+use Rattle.std.proofs.lemmas.Int.{ints, clamps}
+use Rattle.std.proofs.Math.Nat.{mul-le-mul_right, mul-add, add-mul}
 use Rattle.lay_springs.{specs.{declared.traits.Reach.Reach, Place.{IsNearLeast, slack}, Fit.{IsEndOf, CanStandWithin}}}
 
 parts : (a b c k : ℕ) → (a + 255 * min k a) / 256 + (b + c) / 256 ≤ b / 256 + (a + c + 255 * min (k + 1) (a + c)) / 256

@@ -1,6 +1,15 @@
 -- One column more is placed.
-use Rattle.std.proofs.{Common.{◌≡◌, ℕ, ◌+◌, ◌*◌, ◌<◌, ◌≤◌, ◌≢◌, ℤ, pos, ◌+ℤ◌, ◌≤ℤ◌, List, length, take, Option, None, Some, IfSome, option_and_then, slice_get, slice_index_or, slice_set, ap, sym, arith, subst, refl, get_or-set_same, get_or-set_other}, lemmas.{Int.ints, List.{get_or-take, length-take-le}}}
-use Rattle.lay_springs.{specs.{declared.traits.Reach.Reach, Place.{reach_at, length_at, IsClear, IsInside, StandApart, IsPlace, IsPlacedTo, slack}}, proofs.{Clear.below_or_at, Longer.fewer_apart, Moved.moved_apart, Near.slack_up}}
+use Rattle.std.proofs.Common.{◌≡◌, ℕ, ◌+◌, ◌*◌, ◌<◌, ◌≤◌, ◌≢◌, ℤ, pos, ◌+ℤ◌, ◌≤ℤ◌, List, length, take, Option, None}
+use Rattle.std.proofs.Common.{Some, IfSome, option_and_then, slice_get, slice_index_or, slice_set, ap, sym, arith}
+use Rattle.std.proofs.Common.{subst, refl, get_or-set_same, get_or-set_other}
+use Rattle.std.proofs.lemmas.Int.{ints}
+use Rattle.std.proofs.lemmas.List.{get_or-take, length-take-le}
+use Rattle.lay_springs.specs.declared.traits.Reach.{Reach}
+use Rattle.lay_springs.specs.Place.{reach_at, length_at, IsClear, IsInside, StandApart, IsPlace, IsPlacedTo, slack}
+use Rattle.lay_springs.proofs.Clear.{below_or_at}
+use Rattle.lay_springs.proofs.Longer.{fewer_apart}
+use Rattle.lay_springs.proofs.Moved.{moved_apart}
+use Rattle.lay_springs.proofs.Near.{slack_up}
 
 -- the abscissa of a column
 abbrev at : List ℤ → ℕ → ℤ

@@ -1,6 +1,8 @@
 -- How hard columns can be pressed apart within a width.
-use Rattle.std.specs.Prelude.{◌≡◌, ℕ, ◌+◌, ◌-◌, ◌*◌, ◌/◌, Bool, ◌&&◌, nat_le, if◌then◌else◌, ◌<◌, ℤ, pos, ◌+ℤ◌, ◌≤ℤ◌, ◌<ℤ◌, List, ◌++◌, length, Option, Some, slice_index_or}
-use Rattle.lay_springs.specs.{declared.traits.Reach.Reach, Place.IsPlace, Place.StandApart, Place.reach_at, Place.length_at}
+use Rattle.std.specs.Prelude.{◌≡◌, ℕ, ◌+◌, ◌-◌, ◌*◌, ◌/◌, Bool, ◌&&◌, nat_le, if◌then◌else◌, ◌<◌, ℤ, pos, ◌+ℤ◌, ◌≤ℤ◌}
+use Rattle.std.specs.Prelude.{◌<ℤ◌, List, ◌++◌, length, Option, Some, slice_index_or}
+use Rattle.lay_springs.specs.declared.traits.Reach.{Reach}
+use Rattle.lay_springs.specs.Place.{IsPlace, StandApart, reach_at, length_at}
 
 -- e is the end of a column at `at`: the abscissa, or what its reaches come to, whichever is greatest
 pub record IsEndOf (reach : ℕ → Option Reach) (lanes : ℕ) (at e : ℤ) : Type 0 where

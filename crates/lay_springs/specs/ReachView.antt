@@ -1,5 +1,7 @@
 -- Where a column stands, lane by lane.
-use Rattle.std.{specs.Prelude.{◌≡◌, ◌≢◌, ◌==◌, ℕ, ◌^◌, ◌<◌, ◌≤◌, if◌then◌else◌, min, List, Option, None, Some, IfSome, option_map, option_and_then, slice_get}, proofs.Common.arith}
+use Rattle.std.specs.Prelude.{◌≡◌, ◌≢◌, ◌==◌, ℕ, ◌^◌, ◌<◌, ◌≤◌, if◌then◌else◌, min, List, Option, None, Some, IfSome}
+use Rattle.std.specs.Prelude.{option_map, option_and_then, slice_get}
+use Rattle.std.proofs.Common.{arith}
 use Rattle.lay_springs.specs.declared.traits.{Reach.Reach, LaneReach.LaneReach, ReachView.ReachView}
 
 -- no reach passes it

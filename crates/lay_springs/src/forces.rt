@@ -1,5 +1,7 @@
-ghost use Rattle.std.specs.Prelude.{◌≡◌, ◌+◌, ◌^◌, ◌<◌, ◌≤◌, ℕ, ℤ, pos, ◌≤ℤ◌, IfSome, IfNone, length, slice_index, slice_index_or};
-ghost use Rattle.lay_springs.specs.{Fit.{IsEndOf, Fits, CanStandWithin, LongerFitsLess, Passes, most_columns}, Place.{reach_at, length_at, HasPlaced}};
+ghost use Rattle.std.specs.Prelude.{◌≡◌, ◌+◌, ◌^◌, ◌<◌, ◌≤◌, ℕ, ℤ, pos, ◌≤ℤ◌, IfSome, IfNone, length, slice_index};
+ghost use Rattle.std.specs.Prelude.{slice_index_or};
+ghost use Rattle.lay_springs.specs.Fit.{IsEndOf, Fits, CanStandWithin, LongerFitsLess, Passes, most_columns};
+ghost use Rattle.lay_springs.specs.Place.{reach_at, length_at, HasPlaced};
 
 use crate::guesses::{highest, lowered, too_long};
 use crate::least::{larger, place_all, place_to};

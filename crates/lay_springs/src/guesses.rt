@@ -1,4 +1,5 @@
-ghost use Rattle.std.specs.Prelude.{◌≡◌, ◌+◌, ◌-◌, ◌*◌, ◌<◌, ◌≤◌, ◌^◌, ℕ, ℤ, List, pos, ◌+ℤ◌, ◌≤ℤ◌, length, slice_index_or};
+ghost use Rattle.std.specs.Prelude.{◌≡◌, ◌+◌, ◌-◌, ◌*◌, ◌<◌, ◌≤◌, ◌^◌, ℕ, ℤ, List, pos, ◌+ℤ◌, ◌≤ℤ◌, length};
+ghost use Rattle.std.specs.Prelude.{slice_index_or};
 ghost use Rattle.lay_springs.specs.{Fit.CanStandWithin, Place.{reach_at, length_at, slack, IsNearLeast, StandApart}};
 
 use crate::progress::{Progress, TightSprings};

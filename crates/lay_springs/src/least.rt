@@ -1,5 +1,8 @@
-ghost use Rattle.std.specs.Prelude.{◌≡◌, ◌+◌, ◌*◌, ◌≢◌, ◌⊎◌, ◌^◌, ◌<◌, ◌≤◌, ℕ, ℤ, pos, negsuc, ◌+ℤ◌, ◌≤ℤ◌, IfOk, IfSome, length, take, slice_index, slice_index_or, slice_set};
-ghost use Rattle.lay_springs.specs.{ReachView.{reach_in}, Place.{reach_at, length_at, IsPlace, IsPlacedTo, IsNearLeast, AreFrontiers, HasPlaced, IsPast, IsFirst, IsSomewhere, Advances, IsInside}};
+ghost use Rattle.std.specs.Prelude.{◌≡◌, ◌+◌, ◌*◌, ◌≢◌, ◌⊎◌, ◌^◌, ◌<◌, ◌≤◌, ℕ, ℤ, pos, negsuc, ◌+ℤ◌, ◌≤ℤ◌, IfOk};
+ghost use Rattle.std.specs.Prelude.{IfSome, length, take, slice_index, slice_index_or, slice_set};
+ghost use Rattle.lay_springs.specs.ReachView.{reach_in};
+ghost use Rattle.lay_springs.specs.Place.{reach_at, length_at, IsPlace, IsPlacedTo, IsNearLeast, AreFrontiers};
+ghost use Rattle.lay_springs.specs.Place.{HasPlaced, IsPast, IsFirst, IsSomewhere, Advances, IsInside};
 
 use crate::progress::{Progress, TightSprings};
 use crate::traits::{LaneReach, Reach, ReachView, Spaced, Spring, reach_in};

@@ -1,5 +1,7 @@
-ghost use Rattle.std.specs.Prelude.{◌≡◌, ◌+◌, ◌*◌, ◌^◌, ◌<◌, ◌≤◌, ◌-◌, ◌/◌, ℕ, ℤ, pos, ◌+ℤ◌, ◌≤ℤ◌, true, false, length, slice_index, slice_index_or};
-ghost use Rattle.lay_springs.specs.{Fit.{IsEndOf, Fits, IsSet, is_ragged, counted}, Place.{reach_at, length_at, IsPlace, HasPlaced, StandApart}};
+ghost use Rattle.std.specs.Prelude.{◌≡◌, ◌+◌, ◌*◌, ◌^◌, ◌<◌, ◌≤◌, ◌-◌, ◌/◌, ℕ, ℤ, pos, ◌+ℤ◌, ◌≤ℤ◌, true, false, length};
+ghost use Rattle.std.specs.Prelude.{slice_index, slice_index_or};
+ghost use Rattle.lay_springs.specs.Fit.{IsEndOf, Fits, IsSet, is_ragged, counted};
+ghost use Rattle.lay_springs.specs.Place.{reach_at, length_at, IsPlace, HasPlaced, StandApart};
 
 use crate::forces::end_of;
 use crate::least::place_all;

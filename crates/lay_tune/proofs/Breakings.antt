@@ -1,10 +1,20 @@
 -- The legal breakings of a score are those into its listed spans, and cost the same.
 use Rattle.std.proofs.{Common.{◌≡◌, ◌∙◌, ℕ, ◌+◌, ◌≤◌, ◌==◌, List, [], ◌∷◌, unwrap_or, refl, sym, ap, subst, arith}}
-use Rattle.{mus_score.specs.declared.score.Score.{Score}, lay_reaches.specs.{declared.column.Column.Column, Column.length_rises, Columns.column_reach}}
-use Rattle.lay_breaks.specs.{declared.costs.Span.Span, Breaking.FitsFrom, Breaking.IsChosen, Breaking.IsLegal, Breaking.RisesFrom, Breaking.last_from, Breaking.sum_from, Spans.listed}
+use Rattle.mus_score.specs.declared.score.Score.{Score}
+use Rattle.lay_reaches.specs.declared.column.Column.{Column}
+use Rattle.lay_reaches.specs.Column.{length_rises}
+use Rattle.lay_reaches.specs.Columns.{column_reach}
+use Rattle.lay_breaks.specs.declared.costs.Span.{Span}
+use Rattle.lay_breaks.specs.Breaking.{FitsFrom, IsChosen, IsLegal, RisesFrom, last_from, sum_from}
+use Rattle.lay_breaks.specs.Spans.{listed}
 use Rattle.lay_spans.specs.Single as single
 use Rattle.lay_spans.specs.{Badness.badness_of, Forced.is_forced}
-use Rattle.lay_tune.{specs.{Spans.{AreSpansOf, CanStandIn, IsForceOf, IsSpanCost, column_length, is_forced_in, score_gaps, system_columns}, Breakings.{CanBeSystem, CostTogether, IsLeastBreaking, IsLegalIn}, Systems.AllSpans}, proofs.{Called.has_system, Open.{past_last, some_of}}}
+use Rattle.lay_tune.specs.Spans.{AreSpansOf, CanStandIn, IsForceOf, IsSpanCost, column_length, is_forced_in, score_gaps}
+use Rattle.lay_tune.specs.Spans.{system_columns}
+use Rattle.lay_tune.specs.Breakings.{CanBeSystem, CostTogether, IsLeastBreaking, IsLegalIn}
+use Rattle.lay_tune.specs.Systems.{AllSpans}
+use Rattle.lay_tune.proofs.Called.{has_system}
+use Rattle.lay_tune.proofs.Open.{past_last, some_of}
 
 -- ---- the force of columns
 module _ (gaps : List ℕ) (width : ℕ) (columns : List Column) where

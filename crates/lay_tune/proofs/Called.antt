@@ -1,7 +1,15 @@
 -- A score calls for one system of given measures.
 use Rattle.std.proofs.Common.{◌≡◌, ◌∙◌, ℕ, ℤ, List, map, refl, sym, ap}
-use Rattle.{mus_score.specs.declared.score.Score.{Score}, mus_onsets.specs.{declared.keys.ColumnKey.ColumnKey, Keys.AreKeys, Keys.called_keys, Onsets.timeline_of}}
-use Rattle.{mus_laid.specs.{declared.laid.StaffMarks.StaffMarks, declared.laid.SystemMarks.SystemMarks}, mus_marks.{specs.{Staff.staff_marks, System.drawn_staves, Tilt.IsTilted, Tilt.tilted_staff}, proofs.OneList.same_keys}}
+use Rattle.mus_score.specs.declared.score.Score.{Score}
+use Rattle.mus_onsets.specs.declared.keys.ColumnKey.{ColumnKey}
+use Rattle.mus_onsets.specs.Keys.{AreKeys, called_keys}
+use Rattle.mus_onsets.specs.Onsets.{timeline_of}
+use Rattle.mus_laid.specs.declared.laid.StaffMarks.{StaffMarks}
+use Rattle.mus_laid.specs.declared.laid.SystemMarks.{SystemMarks}
+use Rattle.mus_marks.specs.Staff.{staff_marks}
+use Rattle.mus_marks.specs.System.{drawn_staves}
+use Rattle.mus_marks.specs.Tilt.{IsTilted, tilted_staff}
+use Rattle.mus_marks.proofs.OneList.{same_keys}
 use Rattle.lay_tune.{specs.Spans.IsSystemOf, proofs.RisingKeys.have_keys}
 
 abbrev marks_of : ℕ → ℕ → List ColumnKey → List StaffMarks → SystemMarks

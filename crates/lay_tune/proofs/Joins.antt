@@ -1,10 +1,26 @@
 -- The columns of each measure are what spans of measures are tried with, and those of the systems.
-use Rattle.std.{proofs.{Math.Seq.get_or-append_seam, Common.{◌≡◌, ◌∙◌, ℕ, suc, ◌+◌, ◌-◌, ◌<◌, ◌≤◌, ◌==◌, true, false, Option, None, List, [], ◌∷◌, ◌++◌, length, length-append, take, drop, flat_map, get_or, refl, sym, ap, subst, arith}, lemmas.{Bool.Decides.nat_tests, List.{get_or-drop, get_or-take, length-map, length-drop, length-take-le}}}, specs.List.{All, slice_index_or}}
-use Rattle.{mus_score.specs.{declared.score.Score.Score, GoodScore.IsGoodScore}, mus_onsets.specs.{declared.times.Timeline.Timeline, Onsets.timeline_of}}
-use Rattle.{lay_reaches.specs.{declared.column.Column.Column, Columns.StandsWhereDue, Columns.column_reach, Lanes.gaps_of, Reaches.stands_always}, mus_marks.specs.{Staff.verses_on, System.drawn_staves}}
-use Rattle.lay_columns.{specs.{Measures.AreFurther, Measures.AreMeasureColumns, Measures.EndWithBar, Measures.further_of, Law.AreColumnsFrom, Law.MeasuresJoin}, proofs.Facts.{measure_bar, measure_stands}}
+use Rattle.std.proofs.Math.Seq.{get_or-append_seam}
+use Rattle.std.proofs.Common.{◌≡◌, ◌∙◌, ℕ, suc, ◌+◌, ◌-◌, ◌<◌, ◌≤◌, ◌==◌, true, false, Option, None, List, [], ◌∷◌}
+use Rattle.std.proofs.Common.{◌++◌, length, length-append, take, drop, flat_map, get_or, refl, sym, ap, subst, arith}
+use Rattle.std.proofs.lemmas.Bool.Decides.{nat_tests}
+use Rattle.std.proofs.lemmas.List.{get_or-drop, get_or-take, length-map, length-drop, length-take-le}
+use Rattle.std.specs.List.{All, slice_index_or}
+use Rattle.mus_score.specs.declared.score.Score.{Score}
+use Rattle.mus_score.specs.GoodScore.{IsGoodScore}
+use Rattle.mus_onsets.specs.declared.times.Timeline.{Timeline}
+use Rattle.mus_onsets.specs.Onsets.{timeline_of}
+use Rattle.lay_reaches.specs.declared.column.Column.{Column}
+use Rattle.lay_reaches.specs.Columns.{StandsWhereDue, column_reach}
+use Rattle.lay_reaches.specs.Lanes.{gaps_of}
+use Rattle.lay_reaches.specs.Reaches.{stands_always}
+use Rattle.mus_marks.specs.Staff.{verses_on}
+use Rattle.mus_marks.specs.System.{drawn_staves}
+use Rattle.lay_columns.specs.Measures.{AreFurther, AreMeasureColumns, EndWithBar, further_of}
+use Rattle.lay_columns.specs.Law.{AreColumnsFrom, MeasuresJoin}
+use Rattle.lay_columns.proofs.Facts.{measure_bar, measure_stands}
 use Rattle.lay_spans.{specs.{Columns.EndsInAll, Columns.measures_from}, proofs.{Adding.ends_so, Growing.each_more}}
-use Rattle.lay_tune.specs.{Measures.EachFurther, Measures.EachMeasure, Measures.IsMeasure, Spans.AreColumnsOf, Spans.system_columns, Spans.verses_of}
+use Rattle.lay_tune.specs.Measures.{EachFurther, EachMeasure, IsMeasure}
+use Rattle.lay_tune.specs.Spans.{AreColumnsOf, system_columns, verses_of}
 
 -- columns that end with a bar end in each lane
 bar_ends : (verses : List ℕ) (columns : List Column) → EndWithBar columns → All (StandsWhereDue verses) columns → EndsInAll column_reach (length (gaps_of verses)) columns

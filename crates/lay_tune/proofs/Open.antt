@@ -1,12 +1,45 @@
 -- The spans of a score, and what stands open to a breaking of them.
-use Rattle.std.{proofs.{Common.{◌≡◌, ℕ, ◌-◌, ◌<◌, ◌≤◌, ◌*◌, ◌^◌, ◌==◌, not, Bool, List, [], ◌∷◌, length, map, Option, Some, None, IsSome, sym, ◌∙◌, ap, subst, refl, arith}, lemmas.{Bool.true≢false, List.{length-map, Elements.All-from_recursion, Sums.sum-map}}}, specs.List.{All, AllByRecursion, filter, sum_by}}
-use Rattle.mus_score.specs.{declared.score.Score.Score, declared.score.Voice.Voice, GoodScore.IsGoodScore, Seats.grouped, Seats.is_lower, Seats.stands_lower as lower}
-use Rattle.{mus_laid.specs.{declared.laid.StaffMarks.StaffMarks, declared.laid.SystemMarks.SystemMarks}, mus_drawn.specs.{declared.drawn.DrawnVoice.DrawnVoice, Drawn.drawn_voice}}
-use Rattle.{mus_marks.{specs.{Staff.verses_on, System.drawn_staves, System.is_drawn_lower}, proofs.{Fitting.few_verses, Groups.grouped_map}}, lay_reaches.specs.{declared.column.Column.Column, Column.length_rises, Columns.column_reach}}
-use Rattle.lay_springs.{specs.{Place.{length_at, reach_at}, Fit.{Passes}}, proofs.{Longer.{cannot_stand, stand_few, stands}, Ends.length_rises as lengths_rise}}
-use Rattle.lay_breaks.specs.{declared.costs.Span.Span, declared.breaking.BreakError.BreakError, Answers.IsCause, Breaking.FitsFrom, Breaking.IsChosen, Breaking.IsReached, Breaking.NoneLegal, Breaking.RisesFrom, Breaking.last_from, Spans.AreSpans, Spans.listed}
-use Rattle.lay_spans.{specs.Badness.badness_of, specs.Columns.AreMeasures, specs.Columns.span_columns, specs.Forced.is_forced, specs.SpanList.IsSpanList, proofs.Adding.columns_some}
-use Rattle.lay_tune.{proofs.StaffCounts.{count_grouped, few_groups, none_more}, specs.{Spans.{AreColumnsOf, AreSpansOf, CanStandIn, IsForceOf, column_length, score_gaps, system_columns, verses_of}, Layout.{IsCauseIn, layout_error}, Systems.{AllSpans, CanBeSet, HaveForce, gaps_between}}}
+use Rattle.std.proofs.Common.{◌≡◌, ℕ, ◌-◌, ◌<◌, ◌≤◌, ◌*◌, ◌^◌, ◌==◌, not, Bool, List, [], ◌∷◌, length, map, Option}
+use Rattle.std.proofs.Common.{Some, None, IsSome, sym, ◌∙◌, ap, subst, refl, arith}
+use Rattle.std.proofs.lemmas.Bool.{true≢false}
+use Rattle.std.proofs.lemmas.List.{length-map}
+use Rattle.std.proofs.lemmas.List.Elements.{All-from_recursion}
+use Rattle.std.proofs.lemmas.List.Sums.{sum-map}
+use Rattle.std.specs.List.{All, AllByRecursion, filter, sum_by}
+use Rattle.mus_score.specs.declared.score.Score.{Score}
+use Rattle.mus_score.specs.declared.score.Voice.{Voice}
+use Rattle.mus_score.specs.GoodScore.{IsGoodScore}
+use Rattle.mus_score.specs.Seats.{grouped, is_lower, stands_lower as lower}
+use Rattle.mus_laid.specs.declared.laid.StaffMarks.{StaffMarks}
+use Rattle.mus_laid.specs.declared.laid.SystemMarks.{SystemMarks}
+use Rattle.mus_drawn.specs.declared.drawn.DrawnVoice.{DrawnVoice}
+use Rattle.mus_drawn.specs.Drawn.{drawn_voice}
+use Rattle.mus_marks.specs.Staff.{verses_on}
+use Rattle.mus_marks.specs.System.{drawn_staves, is_drawn_lower}
+use Rattle.mus_marks.proofs.Fitting.{few_verses}
+use Rattle.mus_marks.proofs.Groups.{grouped_map}
+use Rattle.lay_reaches.specs.declared.column.Column.{Column}
+use Rattle.lay_reaches.specs.Column.{length_rises}
+use Rattle.lay_reaches.specs.Columns.{column_reach}
+use Rattle.lay_springs.specs.Place.{length_at, reach_at}
+use Rattle.lay_springs.specs.Fit.{Passes}
+use Rattle.lay_springs.proofs.Longer.{cannot_stand, stand_few, stands}
+use Rattle.lay_springs.proofs.Ends.{length_rises as lengths_rise}
+use Rattle.lay_breaks.specs.declared.costs.Span.{Span}
+use Rattle.lay_breaks.specs.declared.breaking.BreakError.{BreakError}
+use Rattle.lay_breaks.specs.Answers.{IsCause}
+use Rattle.lay_breaks.specs.Breaking.{FitsFrom, IsChosen, IsReached, NoneLegal, RisesFrom, last_from}
+use Rattle.lay_breaks.specs.Spans.{AreSpans, listed}
+use Rattle.lay_spans.specs.Badness.{badness_of}
+use Rattle.lay_spans.specs.Columns.{AreMeasures, span_columns}
+use Rattle.lay_spans.specs.Forced.{is_forced}
+use Rattle.lay_spans.specs.SpanList.{IsSpanList}
+use Rattle.lay_spans.proofs.Adding.{columns_some}
+use Rattle.lay_tune.proofs.StaffCounts.{count_grouped, few_groups, none_more}
+use Rattle.lay_tune.specs.Spans.{AreColumnsOf, AreSpansOf, CanStandIn, IsForceOf, column_length, score_gaps}
+use Rattle.lay_tune.specs.Spans.{system_columns, verses_of}
+use Rattle.lay_tune.specs.Layout.{IsCauseIn, layout_error}
+use Rattle.lay_tune.specs.Systems.{AllSpans, CanBeSet, HaveForce, gaps_between}
 
 -- columns that have a force don't pass the width at force 0
 pub never_passes : (gaps : List ℕ) (width : ℕ) (last : Bool) (cost : ℕ) (columns : List Column) → HaveForce gaps width last cost columns

@@ -1,6 +1,13 @@
 -- Every list of column keys has a rising list of the same keys.
-use Rattle.std.{proofs.{Common.{◌≡◌, ◌∙◌, ℕ, inl, inr, Bool, true, false, nat_lt, List, [], ◌∷◌, refl, sym, ap, subst, arith}, lemmas.Bool.Decides.nat_tests}, specs.List.Contains}
-use Rattle.mus_onsets.{specs.declared.keys.Class.Class, specs.declared.keys.ColumnKey.ColumnKey, specs.Keys.AreKeys, specs.Keys.key_at, specs.Order.BelowAll, specs.Order.Rises, specs.Order.class_number, specs.Order.is_below, specs.Order.is_below_or_tied, proofs.Orders.below_through}
+use Rattle.std.proofs.Common.{◌≡◌, ◌∙◌, ℕ, inl, inr, Bool, true, false, nat_lt, List, [], ◌∷◌, refl, sym, ap, subst}
+use Rattle.std.proofs.Common.{arith}
+use Rattle.std.proofs.lemmas.Bool.Decides.{nat_tests}
+use Rattle.std.specs.List.{Contains}
+use Rattle.mus_onsets.specs.declared.keys.Class.{Class}
+use Rattle.mus_onsets.specs.declared.keys.ColumnKey.{ColumnKey}
+use Rattle.mus_onsets.specs.Keys.{AreKeys, key_at}
+use Rattle.mus_onsets.specs.Order.{BelowAll, Rises, class_number, is_below, is_below_or_tied}
+use Rattle.mus_onsets.proofs.Orders.{below_through}
 use Rattle.mus_marks.proofs.{Inside.there, OneList.below_in, OneList.first_or}
 
 -- ---- the order of keys

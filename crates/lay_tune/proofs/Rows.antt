@@ -1,6 +1,12 @@
 -- Lists that grow at their end, and staves that may be stacked.
-use Rattle.std.{proofs.{Common.{◌≡◌, refl, ℕ, suc, ◌+◌, List, [], ◌∷◌, ◌++◌, length, drop, sym, ap, subst}, lemmas.List.{append_assoc, Elements.{All-head, All-tail}}}, specs.List.All}
-use Rattle.{mus_laid.specs.declared.laid.StaffMarks.{StaffMarks}, mus_marks.specs.Staff.{CoversLines}, lay_pages.specs.Stacking.{AreGoodStaves}, lay_tune.specs.Systems.{Beside, EachSpan}}
+use Rattle.std.proofs.Common.{◌≡◌, refl, ℕ, suc, ◌+◌, List, [], ◌∷◌, ◌++◌, length, drop, sym, ap, subst}
+use Rattle.std.proofs.lemmas.List.{append_assoc}
+use Rattle.std.proofs.lemmas.List.Elements.{All-head, All-tail}
+use Rattle.std.specs.List.{All}
+use Rattle.mus_laid.specs.declared.laid.StaffMarks.{StaffMarks}
+use Rattle.mus_marks.specs.Staff.{CoversLines}
+use Rattle.lay_pages.specs.Stacking.{AreGoodStaves}
+use Rattle.lay_tune.specs.Systems.{Beside, EachSpan}
 
 pub beside_more : {X Y : Type 0} (P : X → Y → Type 0) (xs : List X) (ys : List Y) (x : X) (y : Y) → Beside P xs ys → P x y → Beside P (xs ++ x ∷ []) (ys ++ y ∷ [])
 beside_more P [] [] x y h p = (p, tt)

@@ -1,5 +1,8 @@
 -- Groups of a list: how many there are, and that none has more than the whole list.
-use Rattle.std.{proofs.{Common.{◌≡◌, ◌∙◌, ℕ, suc, ◌≤◌, Bool, true, false, not, cond, if◌then◌else◌, List, [], ◌∷◌, length, refl, sym, ap, subst, arith}, lemmas.List.Sums.{count_by-le-length, length-filter, sum_by-append}}, specs.List.{AllByRecursion, filter, flat_map, sum_by}}
+use Rattle.std.proofs.Common.{◌≡◌, ◌∙◌, ℕ, suc, ◌≤◌, Bool, true, false, not, cond, if◌then◌else◌, List, [], ◌∷◌, length}
+use Rattle.std.proofs.Common.{refl, sym, ap, subst, arith}
+use Rattle.std.proofs.lemmas.List.Sums.{count_by-le-length, length-filter, sum_by-append}
+use Rattle.std.specs.List.{AllByRecursion, filter, flat_map, sum_by}
 use Rattle.{mus_score.specs.Seats.{grouped, put_before}, mus_marks.proofs.Groups.{grouped_front, grouped_whole}}
 
 module _ {A : Type 0} (joins : A → Bool) where

@@ -1,10 +1,35 @@
 -- Columns that stand apart rise from 0, and those of a system end within the width.
-use Rattle.std.proofs.{Common.{◌≡◌, ◌∙◌, sym, ap, subst, refl, inl, inr, ℕ, if◌then◌else◌, ◌+◌, ◌-◌, ◌*◌, ◌/◌, ◌<◌, ◌≤◌, ◌==◌, ◌^◌, ℤ, pos, ◌+ℤ◌, ◌≤ℤ◌, min, Bool, true, false, List, length, map, Option, Some, arith}, lemmas.{Bool.{cases_lt, true≢false, Decides.nat_tests}, Int.ints, List.length-map}}
-use Rattle.{mus_score.specs.declared.score.Score.{Score}, mus_onsets.specs.{Keys.{AreKeys, called_keys}, Onsets.timeline_of}, mus_laid.specs.declared.laid.SystemMarks.SystemMarks, mus_marks.{specs.Tilt.AreAbscissas, proofs.OneList.same_keys}}
-use Rattle.lay_springs.{specs.{declared.{traits.Reach.Reach, margin.Placed.Placed}, Fit.{Fits, IsSet, counted, is_ragged}, Place.{IsPlace, StandApart, length_at, reach_at}}, proofs.{Ends.{apart_down, length_rises as lengths_rise}, Longer.{rises, stands}}}
-use Rattle.lay_reaches.{specs.declared.column.Column.Column, specs.Column.length_rises, specs.Columns.column_reach, proofs.Facts.columns_keys}
-use Rattle.lay_spans.{specs.Badness.{badness_at}, specs.Columns.span_columns, specs.SpanList.FitsAtForce, proofs.Fitting.seen_as}
-use Rattle.lay_tune.{specs.{Spans.{AreColumnsOf, IsForceOf, IsSystemOf, column_length, score_gaps, system_columns, verses_of}, Systems.{CanBeSet, HaveForce, IsJustified, IsPlaced, StandWithin, x_at}}, proofs.Called.has_system}
+use Rattle.std.proofs.Common.{◌≡◌, ◌∙◌, sym, ap, subst, refl, inl, inr, ℕ, if◌then◌else◌, ◌+◌, ◌-◌, ◌*◌, ◌/◌, ◌<◌, ◌≤◌}
+use Rattle.std.proofs.Common.{◌==◌, ◌^◌, ℤ, pos, ◌+ℤ◌, ◌≤ℤ◌, min, Bool, true, false, List, length, map, Option, Some}
+use Rattle.std.proofs.Common.{arith}
+use Rattle.std.proofs.lemmas.Bool.{cases_lt, true≢false}
+use Rattle.std.proofs.lemmas.Bool.Decides.{nat_tests}
+use Rattle.std.proofs.lemmas.Int.{ints}
+use Rattle.std.proofs.lemmas.List.{length-map}
+use Rattle.mus_score.specs.declared.score.Score.{Score}
+use Rattle.mus_onsets.specs.Keys.{AreKeys, called_keys}
+use Rattle.mus_onsets.specs.Onsets.{timeline_of}
+use Rattle.mus_laid.specs.declared.laid.SystemMarks.{SystemMarks}
+use Rattle.mus_marks.specs.Tilt.{AreAbscissas}
+use Rattle.mus_marks.proofs.OneList.{same_keys}
+use Rattle.lay_springs.specs.declared.traits.Reach.{Reach}
+use Rattle.lay_springs.specs.declared.margin.Placed.{Placed}
+use Rattle.lay_springs.specs.Fit.{Fits, IsSet, counted, is_ragged}
+use Rattle.lay_springs.specs.Place.{IsPlace, StandApart, length_at, reach_at}
+use Rattle.lay_springs.proofs.Ends.{apart_down, length_rises as lengths_rise}
+use Rattle.lay_springs.proofs.Longer.{rises, stands}
+use Rattle.lay_reaches.specs.declared.column.Column.{Column}
+use Rattle.lay_reaches.specs.Column.{length_rises}
+use Rattle.lay_reaches.specs.Columns.{column_reach}
+use Rattle.lay_reaches.proofs.Facts.{columns_keys}
+use Rattle.lay_spans.specs.Badness.{badness_at}
+use Rattle.lay_spans.specs.Columns.{span_columns}
+use Rattle.lay_spans.specs.SpanList.{FitsAtForce}
+use Rattle.lay_spans.proofs.Fitting.{seen_as}
+use Rattle.lay_tune.specs.Spans.{AreColumnsOf, IsForceOf, IsSystemOf, column_length, score_gaps, system_columns}
+use Rattle.lay_tune.specs.Spans.{verses_of}
+use Rattle.lay_tune.specs.Systems.{CanBeSet, HaveForce, IsJustified, IsPlaced, StandWithin, x_at}
+use Rattle.lay_tune.proofs.Called.{has_system}
 
 -- the last of n columns stands within the width, and reaches no further
 pub record EndsWithin (n : ℕ) (reach : ℕ → ℕ → Option Reach) (gaps : List ℕ) (width : ℕ) (at : List ℤ) : Type 0 where

@@ -1,7 +1,11 @@
 -- The breakings of a score on a width that are legal, and the one of least total badness: said of the score and the width alone.
 use Rattle.std.specs.Prelude.{◌≡◌, ℕ, ◌+◌, ◌≤◌, true, List, [], ◌∷◌, reverse, Contains}
-use Rattle.{mus_score.specs.declared.score.Score.{Score}, mus_laid.specs.declared.laid.SystemMarks.{SystemMarks}, lay_breaks.specs.Breaking.{LexAtMost, RisesFrom, last_from}}
-use Rattle.{lay_spans.specs.Forced.{ForcedInside}, lay_tune.specs.{Spans.CanStandIn, Spans.IsSpanCost, Spans.IsSystemOf, Spans.is_forced_in, Spans.score_gaps, Spans.system_columns, Systems.AllSpans}}
+use Rattle.mus_score.specs.declared.score.Score.{Score}
+use Rattle.mus_laid.specs.declared.laid.SystemMarks.{SystemMarks}
+use Rattle.lay_breaks.specs.Breaking.{LexAtMost, RisesFrom, last_from}
+use Rattle.lay_spans.specs.Forced.{ForcedInside}
+use Rattle.lay_tune.specs.Spans.{CanStandIn, IsSpanCost, IsSystemOf, is_forced_in, score_gaps, system_columns}
+use Rattle.lay_tune.specs.Systems.{AllSpans}
 
 -- The measures from bar a to bar b can be a system: no forced bar stands strictly inside, and the columns of the marks that
 -- the score calls for there can stand within the width.

@@ -1,8 +1,16 @@
 -- What a layout of a score is, and why a score has none.
 use Rattle.std.specs.Prelude.{◌≡◌, ◌+◌, ◌≤◌, ℕ, ⊤, List, length, All, None, slice_index_or}
 use Rattle.{mus_score.specs.declared.score.Score.{Score}, mus_laid.specs.Boxes.{AreGoodMarks}}
-use Rattle.lay_breaks.specs.{declared.costs.Span.Span, declared.breaking.BreakError.BreakError, Breaking.{IsChosen, IsPotential, IsReached, NoneLegal, sum_from}, Spans.AreSpans, Spans.listed}
-use Rattle.lay_tune.specs.{declared.layout.LayoutError.LayoutError, Spans.AreSpansOf, Spans.is_forced_in, declared.layout.LayoutError.TheVariants.NoWay, declared.layout.LayoutError.TheVariants.Memory, declared.layout.Layout.Layout, Breakings.IsLeastBreaking, Systems.{Beside, EachSpan, IsSetSystem, IsStack}}
+use Rattle.lay_breaks.specs.declared.costs.Span.{Span}
+use Rattle.lay_breaks.specs.declared.breaking.BreakError.{BreakError}
+use Rattle.lay_breaks.specs.Breaking.{IsChosen, IsPotential, IsReached, NoneLegal, sum_from}
+use Rattle.lay_breaks.specs.Spans.{AreSpans, listed}
+use Rattle.lay_tune.specs.declared.layout.LayoutError.{LayoutError}
+use Rattle.lay_tune.specs.Spans.{AreSpansOf, is_forced_in}
+use Rattle.lay_tune.specs.declared.layout.LayoutError.TheVariants.{NoWay, Memory}
+use Rattle.lay_tune.specs.declared.layout.Layout.{Layout}
+use Rattle.lay_tune.specs.Breakings.{IsLeastBreaking}
+use Rattle.lay_tune.specs.Systems.{Beside, EachSpan, IsSetSystem, IsStack}
 
 -- The score laid out on a width: the listed spans are exactly those that fit, the breaking is the chosen one over them and the one
 -- of least total of the score, and each of its systems has the marks that the score calls for, set to the width and tilted there,

@@ -1,6 +1,9 @@
 -- What the systems of a score are set by: everything that is measured of the score before its breaking is chosen.
 use Rattle.std.specs.Prelude.{◌≡◌, ℕ, ◌<◌, ◌≤◌, ◌^◌, length, slice_index}
-use Rattle.{mus_score.specs.GoodScore.{IsGoodScore}, mus_onsets.specs.Onsets.{timeline_of}, lay_reaches.specs.Columns.{column_reach}, lay_spans.specs.Columns.{AreMeasures}}
+use Rattle.mus_score.specs.GoodScore.{IsGoodScore}
+use Rattle.mus_onsets.specs.Onsets.{timeline_of}
+use Rattle.lay_reaches.specs.Columns.{column_reach}
+use Rattle.lay_spans.specs.Columns.{AreMeasures}
 use Rattle.lay_tune.specs.{declared.systems.Measured.Measured, Spans.{AreColumnsOf, score_gaps}}
 
 pub record IsMeasured (m : Measured) : Type 0 where

@@ -1,7 +1,12 @@
 -- The columns of each measure of a score, in a system that begins with a measure.
 use Rattle.std.specs.Prelude.{◌≡◌, ℕ, ◌<◌, ◌==◌, List, [], length, Option, None, slice_index_or}
-use Rattle.{mus_score.specs.declared.score.Score.{Score}, mus_onsets.specs.Onsets.{timeline_of}, lay_reaches.specs.{declared.column.Column.Column, Columns.column_reach}}
-use Rattle.{lay_columns.specs.Measures.{AreFurther, AreMeasureColumns}, lay_spans.specs.Columns.{EndsInAll}, lay_tune.specs.Spans.{score_gaps, verses_of}}
+use Rattle.mus_score.specs.declared.score.Score.{Score}
+use Rattle.mus_onsets.specs.Onsets.{timeline_of}
+use Rattle.lay_reaches.specs.declared.column.Column.{Column}
+use Rattle.lay_reaches.specs.Columns.{column_reach}
+use Rattle.lay_columns.specs.Measures.{AreFurther, AreMeasureColumns}
+use Rattle.lay_spans.specs.Columns.{EndsInAll}
+use Rattle.lay_tune.specs.Spans.{score_gaps, verses_of}
 
 -- of measure m in a system that begins with measure a; the last stands in each lane
 pub record IsMeasure (s : Score) (a m : ℕ) (columns : List Column) : Type 0 where

@@ -1,8 +1,20 @@
 -- The spans of a score that fit a width, told from the marks that the score calls for in each.
 use Rattle.std.specs.Prelude.{◌≡◌, ℕ, ◌<◌, ◌≤◌, ◌==◌, Bool, List, map, Some, IsSome}
-use Rattle.{mus_score.specs.declared.score.Score.{Score}, mus_onsets.specs.Onsets.{timeline_of}, mus_laid.specs.declared.laid.SystemMarks.{SystemMarks}, mus_marks.specs.{Staff.verses_on, System.IsCall, System.drawn_staves}}
-use Rattle.{lay_reaches.specs.{declared.column.Column.Column, Column.spring_length, Columns.column_reach, Columns.columns_of, Lanes.gaps_of}, lay_breaks.specs.{declared.costs.Span.Span, Spans.listed}}
-use Rattle.lay_spans.specs.{Badness.badness_of, Columns.span_columns, Forced.ForcedInside, Forced.is_forced, SpanList.IsForce, SpanList.FitsAtForce}
+use Rattle.mus_score.specs.declared.score.Score.{Score}
+use Rattle.mus_onsets.specs.Onsets.{timeline_of}
+use Rattle.mus_laid.specs.declared.laid.SystemMarks.{SystemMarks}
+use Rattle.mus_marks.specs.Staff.{verses_on}
+use Rattle.mus_marks.specs.System.{IsCall, drawn_staves}
+use Rattle.lay_reaches.specs.declared.column.Column.{Column}
+use Rattle.lay_reaches.specs.Column.{spring_length}
+use Rattle.lay_reaches.specs.Columns.{column_reach, columns_of}
+use Rattle.lay_reaches.specs.Lanes.{gaps_of}
+use Rattle.lay_breaks.specs.declared.costs.Span.{Span}
+use Rattle.lay_breaks.specs.Spans.{listed}
+use Rattle.lay_spans.specs.Badness.{badness_of}
+use Rattle.lay_spans.specs.Columns.{span_columns}
+use Rattle.lay_spans.specs.Forced.{ForcedInside, is_forced}
+use Rattle.lay_spans.specs.SpanList.{IsForce, FitsAtForce}
 
 -- how many verses each staff has
 abbrev pub verses_of : Score → List ℕ

@@ -1,9 +1,20 @@
 -- The systems of a breaking: where their columns stand, and their staves under one another.
-use Rattle.std.specs.Prelude.{◌≡◌, ⊤, ℕ, ◌+◌, ◌<◌, ◌≤◌, ◌==◌, ◌^◌, Bool, true, false, not, ℤ, pos, ◌-ℤ◌, ◌≤ℤ◌, ◌<ℤ◌, List, [], ◌∷◌, length, map, filter, drop, Option, Some, slice_index_or}
-use Rattle.{mus_score.specs.{declared.score.Score.Score, declared.score.Voice.Voice, Seats.stands_lower}, mus_onsets.specs.Onsets.{timeline_of}, mus_laid.specs.{declared.laid.SystemMarks.SystemMarks, Shapes.HaveSameShapes}}
+use Rattle.std.specs.Prelude.{◌≡◌, ⊤, ℕ, ◌+◌, ◌<◌, ◌≤◌, ◌==◌, ◌^◌, Bool, true, false, not, ℤ, pos, ◌-ℤ◌, ◌≤ℤ◌, ◌<ℤ◌}
+use Rattle.std.specs.Prelude.{List, [], ◌∷◌, length, map, filter, drop, Option, Some, slice_index_or}
+use Rattle.mus_score.specs.declared.score.Score.{Score}
+use Rattle.mus_score.specs.declared.score.Voice.{Voice}
+use Rattle.mus_score.specs.Seats.{stands_lower}
+use Rattle.mus_onsets.specs.Onsets.{timeline_of}
+use Rattle.mus_laid.specs.declared.laid.SystemMarks.{SystemMarks}
+use Rattle.mus_laid.specs.Shapes.{HaveSameShapes}
 use Rattle.{mus_marks.specs.Tilt.{IsTilted}, lay_reaches.specs.{declared.column.Column.Column, Columns.column_reach}}
-use Rattle.{lay_springs.specs.{declared.margin.Placed.Placed, Place.IsPlace, Place.StandApart, Place.length_at, Place.reach_at, Fit.IsSet, Fit.counted, Fit.is_ragged}, lay_spans.specs.Badness.{badness_of}}
-use Rattle.{lay_pages.specs.{declared.stacking.Heights.Heights, Stacking.AreStavesStacked}, lay_tune.specs.Spans.{IsForceOf, IsSystemOf, column_length, score_gaps, system_columns}}
+use Rattle.lay_springs.specs.declared.margin.Placed.{Placed}
+use Rattle.lay_springs.specs.Place.{IsPlace, StandApart, length_at, reach_at}
+use Rattle.lay_springs.specs.Fit.{IsSet, counted, is_ragged}
+use Rattle.lay_spans.specs.Badness.{badness_of}
+use Rattle.lay_pages.specs.declared.stacking.Heights.{Heights}
+use Rattle.lay_pages.specs.Stacking.{AreStavesStacked}
+use Rattle.lay_tune.specs.Spans.{IsForceOf, IsSystemOf, column_length, score_gaps, system_columns}
 
 -- Two things for each span of a breaking, in order; the first span begins at bar a.
 abbrev pub EachSpan : {X Y : Type 0} → (ℕ → ℕ → X → Y → Type 0) → ℕ → List ℕ → List X → List Y → Type 0

@@ -1,9 +1,19 @@
 ghost use Rattle.std.specs.Prelude.{◌≡◌, ◌+◌, ◌<◌, ◌≤◌, ℕ, Option, All, IfErr, IfOk, length, map, slice_index_or};
-ghost use Rattle.{mus_score.specs.GoodScore.{IsGoodScore}, mus_onsets.specs.Onsets.{timeline_of}, mus_drawn.specs.{Drawn.drawn_voice, Good.AreGoodMeasures}, mus_laid.specs.Boxes.{AreGoodMarks}};
-ghost use Rattle.{lay_reaches.specs.Columns.{column_reach}, lay_breaks.specs.{Breaking.IsChosen, Breaking.IsPotential, Breaking.sum_from, Spans.AreSpans, Spans.listed}};
+ghost use Rattle.mus_score.specs.GoodScore.{IsGoodScore};
+ghost use Rattle.mus_onsets.specs.Onsets.{timeline_of};
+ghost use Rattle.mus_drawn.specs.Drawn.{drawn_voice};
+ghost use Rattle.mus_drawn.specs.Good.{AreGoodMeasures};
+ghost use Rattle.mus_laid.specs.Boxes.{AreGoodMarks};
+ghost use Rattle.lay_reaches.specs.Columns.{column_reach};
+ghost use Rattle.lay_breaks.specs.Breaking.{IsChosen, IsPotential, sum_from};
+ghost use Rattle.lay_breaks.specs.Spans.{AreSpans, listed};
 ghost use Rattle.lay_spans.specs.Columns.{AreMeasures};
 ghost use Rattle.lay_tune.specs.declared.layout.LayoutError.TheVariants as errors;
-ghost use Rattle.lay_tune.specs.{Breakings.IsLeastBreaking, Layout.{IsCauseIn, layout_error}, Measured.{IsMeasured}, Spans.{AreColumnsOf, AreSpansOf, is_forced_in, score_gaps, verses_of}, Systems.{Beside, EachSpan, IsSetSystem, IsStack}};
+ghost use Rattle.lay_tune.specs.Breakings.{IsLeastBreaking};
+ghost use Rattle.lay_tune.specs.Layout.{IsCauseIn, layout_error};
+ghost use Rattle.lay_tune.specs.Measured.{IsMeasured};
+ghost use Rattle.lay_tune.specs.Spans.{AreColumnsOf, AreSpansOf, is_forced_in, score_gaps, verses_of};
+ghost use Rattle.lay_tune.specs.Systems.{Beside, EachSpan, IsSetSystem, IsStack};
 
 use crate::measures::{columns_of_measures, others_of};
 use crate::systems::{Measured, Systems, set_systems};

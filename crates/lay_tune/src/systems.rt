@@ -1,6 +1,9 @@
 ghost use Rattle.std.specs.Prelude.{◌≡◌, ◌+◌, ◌<◌, ◌≤◌, ◌^◌, ◌==◌, ℕ, All, IfOk, length, map, slice_index};
 ghost use Rattle.{mus_drawn.specs.{Drawn.drawn_voice, Good.AreGoodMeasures}, mus_laid.specs.Boxes.{AreGoodMarks}};
-ghost use Rattle.{lay_breaks.specs.Spans.{listed}, lay_tune.specs.{Measured.{IsMeasured}, Systems.{AllSpans, Beside, CanBeSet, EachSpan, HaveForce, IsJustified, IsSetSystem, IsStack}}};
+ghost use Rattle.lay_breaks.specs.Spans.{listed};
+ghost use Rattle.lay_tune.specs.Measured.{IsMeasured};
+ghost use Rattle.lay_tune.specs.Systems.{AllSpans, Beside, CanBeSet, EachSpan, HaveForce, IsJustified, IsSetSystem};
+ghost use Rattle.lay_tune.specs.Systems.{IsStack};
 
 use crate::gaps::gaps_between;
 use lay_breaks::Costs;

@@ -1,5 +1,7 @@
 -- Each of two rows has the number of its bar.
-use Rattle.std.{specs.Prelude.{◌≡◌, ℕ, ◌<◌, ◌≤◌, ◌^◌, List, [], ◌∷◌, All}, proofs.{Common.{arith, sym, ◌∙◌, subst}, lemmas.List.Elements.All-cons}}
+use Rattle.std.specs.Prelude.{◌≡◌, ℕ, ◌<◌, ◌≤◌, ◌^◌, List, [], ◌∷◌, All}
+use Rattle.std.proofs.Common.{arith, sym, ◌∙◌, subst}
+use Rattle.std.proofs.lemmas.List.Elements.{All-cons}
 
 pub one_row : (a : ℕ) (row other : List ℕ) → row ≡ a ∷ [] → other ≡ a ∷ [] → row ≡ other
 one_row a row other h k = h ∙ sym k

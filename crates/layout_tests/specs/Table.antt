@@ -1,5 +1,9 @@
 -- A table of costs: rows, each cost of at most 2^40, and the forced bars as a list of marks.
-use Rattle.std.{specs.Prelude.{◌≡◌, ℕ, ◌<◌, ◌≤◌, ◌^◌, Bool, false, List, zero, suc, Option, Some, None, IfSome, option_map, nat_le, if◌then◌else◌, slice_index_or, refl}, proofs.{Common.{arith, sym}, lemmas.{Option.none-some, Bool.Decides.nat_tests}}}
+use Rattle.std.specs.Prelude.{◌≡◌, ℕ, ◌<◌, ◌≤◌, ◌^◌, Bool, false, List, zero, suc, Option, Some, None, IfSome}
+use Rattle.std.specs.Prelude.{option_map, nat_le, if◌then◌else◌, slice_index_or, refl}
+use Rattle.std.proofs.Common.{arith, sym}
+use Rattle.std.proofs.lemmas.Option.{none-some}
+use Rattle.std.proofs.lemmas.Bool.Decides.{nat_tests}
 use Rattle.lay_breaks.specs.Rows.{row_cost, rows_stop}
 
 abbrev pub capped_in_table : ℕ → ℕ

@@ -1,6 +1,7 @@
 //! Costs kept as rows, and what is chosen among their breakings.
 
-ghost use Rattle.{std.specs.Prelude.{length, refl}, layout_tests.specs.Table.{capped_cost, is_marked, capped_stop, capped_small}};
+ghost use Rattle.std.specs.Prelude.{length, refl};
+ghost use Rattle.layout_tests.specs.Table.{capped_cost, is_marked, capped_stop, capped_small};
 
 use case_texts::{Report, numbers_of, put_breaking, put_no_way};
 use lay_breaks::{BreakError, Costs, least};

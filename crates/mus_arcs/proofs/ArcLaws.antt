@@ -1,6 +1,9 @@
 -- The arcs that are found from the last event back are those of the rule.
-use Rattle.std.proofs.Common.{◌≡◌, ◌<◌, ℕ, suc, ◌+◌, ◌-◌, List, [], ◌∷◌, ◌++◌, drop, append_assoc, refl, sym, ◌∙◌, ap, arith, add-one}
-use Rattle.mus_arcs.specs.{declared.pairing.Arc.Arc, declared.pairing.SlurEnd.SlurEnd, Arcs.slur_copies, Arcs.slur, Arcs.slurs}
+use Rattle.std.proofs.Common.{◌≡◌, ◌<◌, ℕ, suc, ◌+◌, ◌-◌, List, [], ◌∷◌, ◌++◌, drop, append_assoc, refl, sym, ◌∙◌, ap}
+use Rattle.std.proofs.Common.{arith, add-one}
+use Rattle.mus_arcs.specs.declared.pairing.Arc.{Arc}
+use Rattle.mus_arcs.specs.declared.pairing.SlurEnd.{SlurEnd}
+use Rattle.mus_arcs.specs.Arcs.{slur_copies, slur, slurs}
 
 pub copies-more : (n : ℕ) (at : SlurEnd) → slur_copies (n + 1) at ≡ at ∷ slur_copies n at
 copies-more n at = rw add-one refl

@@ -1,7 +1,25 @@
 -- Where no slur and no tie begins at the events of a voice, it has no arcs.
-use Rattle.std.{proofs.{Common.{◌≡◌, ℕ, suc, List, [], ◌∷◌, Bool, true, false, not, ◌&&◌, ◌==◌, map, refl, sym, ◌∙◌, ap, subst, arith}, lemmas.{Bool.{and_parts, eqb-true, false≢true}, List.Elements.{All-nil, All-cons, All-head, All-tail, All-append, All-map}}}, specs.List.{All, list_all}}
-use Rattle.{mus_units.specs.declared.note.Head.{Head}, mus_score.specs.{declared.score.{Event.Event, Measure.Measure, Voice.Voice, Music.{Music, map-Music, TheOpen.Music-F, TheFolds.{fold-roll-Music, ind-Music}}}, GoodScore.IsGoodVoice}}
-use Rattle.mus_arcs.{specs.{declared.{events.ArcEvent.ArcEvent, pairing.Arc.Arc}, Arcs.{AreArcsOf, arcs_of, ties_at, ties_from}, Events.{at_measure, bare_step, events_in, events_of_voice, events_step, events_within, is_bare_music, is_bare_event, walked_from}}, proofs.{EventLaws.walked, OrderLaws.voice-in_order, RuleLaws.{arcs_of-by_rule, arcs_of-ties_are}}}
+use Rattle.std.proofs.Common.{◌≡◌, ℕ, suc, List, [], ◌∷◌, Bool, true, false, not, ◌&&◌, ◌==◌, map, refl, sym, ◌∙◌, ap}
+use Rattle.std.proofs.Common.{subst, arith}
+use Rattle.std.proofs.lemmas.Bool.{and_parts, eqb-true, false≢true}
+use Rattle.std.proofs.lemmas.List.Elements.{All-nil, All-cons, All-head, All-tail, All-append, All-map}
+use Rattle.std.specs.List.{All, list_all}
+use Rattle.mus_units.specs.declared.note.Head.{Head}
+use Rattle.mus_score.specs.declared.score.Event.{Event}
+use Rattle.mus_score.specs.declared.score.Measure.{Measure}
+use Rattle.mus_score.specs.declared.score.Voice.{Voice}
+use Rattle.mus_score.specs.declared.score.Music.{Music, map-Music}
+use Rattle.mus_score.specs.declared.score.Music.TheOpen.{Music-F}
+use Rattle.mus_score.specs.declared.score.Music.TheFolds.{fold-roll-Music, ind-Music}
+use Rattle.mus_score.specs.GoodScore.{IsGoodVoice}
+use Rattle.mus_arcs.specs.declared.events.ArcEvent.{ArcEvent}
+use Rattle.mus_arcs.specs.declared.pairing.Arc.{Arc}
+use Rattle.mus_arcs.specs.Arcs.{AreArcsOf, arcs_of, ties_at, ties_from}
+use Rattle.mus_arcs.specs.Events.{at_measure, bare_step, events_in, events_of_voice, events_step, events_within}
+use Rattle.mus_arcs.specs.Events.{is_bare_music, is_bare_event, walked_from}
+use Rattle.mus_arcs.proofs.EventLaws.{walked}
+use Rattle.mus_arcs.proofs.OrderLaws.{voice-in_order}
+use Rattle.mus_arcs.proofs.RuleLaws.{arcs_of-by_rule, arcs_of-ties_are}
 
 abbrev IsBare : ArcEvent → Type 0
 IsBare e = (e.begins == 0 && list_all (λ h. not h.tied) e.heads) ≡ true

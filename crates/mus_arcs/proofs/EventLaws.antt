@@ -1,7 +1,16 @@
 -- A walk over the nodes of a body gives its events.
-use Rattle.std.proofs.{Common.{◌≡◌, ℕ, suc, List, [], ◌∷◌, ◌++◌, ◌*◌, map, refl, sym, ◌∙◌, ap, subst}, lemmas.List.map-append}
-use Rattle.mus_score.specs.{declared.{score.{Event.Event, Measure.Measure, Music.{Music, map-Music, TheOpen.Music-F, TheViews.roll-Music, TheFolds.{fold-roll-Music, ind-Music}}}, times.PendingLeaf.PendingLeaf}, Times.{Leafing, in_row, leaves_step, leaves_within, no_pending_leaf}}
-use Rattle.mus_arcs.specs.Events.{at_measure, body_events, events_from, events_in, events_step, events_within, join, walked_from}
+use Rattle.std.proofs.Common.{◌≡◌, ℕ, suc, List, [], ◌∷◌, ◌++◌, ◌*◌, map, refl, sym, ◌∙◌, ap, subst}
+use Rattle.std.proofs.lemmas.List.{map-append}
+use Rattle.mus_score.specs.declared.score.Event.{Event}
+use Rattle.mus_score.specs.declared.score.Measure.{Measure}
+use Rattle.mus_score.specs.declared.score.Music.{Music, map-Music}
+use Rattle.mus_score.specs.declared.score.Music.TheOpen.{Music-F}
+use Rattle.mus_score.specs.declared.score.Music.TheViews.{roll-Music}
+use Rattle.mus_score.specs.declared.score.Music.TheFolds.{fold-roll-Music, ind-Music}
+use Rattle.mus_score.specs.declared.times.PendingLeaf.{PendingLeaf}
+use Rattle.mus_score.specs.Times.{Leafing, in_row, leaves_step, leaves_within, no_pending_leaf}
+use Rattle.mus_arcs.specs.Events.{at_measure, body_events, events_from, events_in, events_step, events_within, join}
+use Rattle.mus_arcs.specs.Events.{walked_from}
 
 Agrees : Music → Type 0
 Agrees m = (qs ps : ℕ) (w : PendingLeaf) → map (λ f. f.event) (leaves_within m qs ps w).flats ≡ events_within m

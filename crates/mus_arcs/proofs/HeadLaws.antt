@@ -1,6 +1,14 @@
 -- An event of a good body has no more heads than the whole body weighs.
-use Rattle.std.{proofs.{Common.{◌≤◌, ℕ, suc, ◌+◌, List, [], ◌∷◌, length, map, max, arith}, lemmas.List.{Elements.{All-nil, All-cons, All-head, All-tail, All-append, All-map}, Sums.sum_by-cons}}, specs.List.{All, sum_by}}
-use Rattle.mus_score.{specs.{declared.score.{Flat.Flat, Measure.Measure, Voice.Voice}, Good.{IsGoodBody, flat_weight, head_count}, Times.flats_of}, proofs.Bounds.flats_weigh}
+use Rattle.std.proofs.Common.{◌≤◌, ℕ, suc, ◌+◌, List, [], ◌∷◌, length, map, max, arith}
+use Rattle.std.proofs.lemmas.List.Elements.{All-nil, All-cons, All-head, All-tail, All-append, All-map}
+use Rattle.std.proofs.lemmas.List.Sums.{sum_by-cons}
+use Rattle.std.specs.List.{All, sum_by}
+use Rattle.mus_score.specs.declared.score.Flat.{Flat}
+use Rattle.mus_score.specs.declared.score.Measure.{Measure}
+use Rattle.mus_score.specs.declared.score.Voice.{Voice}
+use Rattle.mus_score.specs.Good.{IsGoodBody, flat_weight, head_count}
+use Rattle.mus_score.specs.Times.{flats_of}
+use Rattle.mus_score.proofs.Bounds.{flats_weigh}
 use Rattle.mus_arcs.specs.Events.{at_measure, body_events, events_from, events_of_voice}
 
 few_in : (f : Flat) (n : ℕ) → max 1 (length f.event.heads) + head_count f.graces + n ≤ 50000 → length f.event.heads ≤ 50000

@@ -1,7 +1,26 @@
 -- The arcs that are found from the last event back are in order, where the ids of the events rise.
-use Rattle.std.{proofs.{Common.{◌≡◌, ◌<◌, ◌≤◌, ℕ, zero, suc, List, [], ◌∷◌, ◌++◌, map, true, false, ◌==◌, ◌&&◌, drop, get_or, reverse, sym, ◌∙◌, subst, arith}, lemmas.List.{reverse-append, Elements.{All-nil, All-cons, All-head, All-tail, All-append, All-drop, All-weaker}, Sorted.{All-permutation, IsPermutation-reverse}, Concat.flat_map-cons}}, specs.{Prelude.if◌then◌else◌, List.{All, list_any}}}
-use Rattle.{mus_units.specs.declared.note.Head.{Head}, mus_score.specs.{declared.score.Flat.Flat, declared.score.Measure.Measure, declared.score.Voice.Voice, GoodScore.AreCounted, GoodScore.IsGoodVoice, GoodScore.events_of, Times.flats_of}}
-use Rattle.mus_arcs.{specs.{declared.{events.ArcEvent.ArcEvent, pairing.{Arc.Arc, SlurEnd.SlurEnd}}, Arcs.{AreOrdered, ComesBefore, ComesFirst, arcs_of, at_one, slur_copies, earlier, has_pitch, open_ends, slur, slurs, slurs_at, spot, tie, ties_at, ties_from}, Events.{at_measure, events_from, events_of_voice}}, proofs.RuleLaws.{IsSlurFrom, IsTieBehind, IsTieFrom, slurs-are, slurs_at-are, tie-is, ties-are, ties_at-are}}
+use Rattle.std.proofs.Common.{◌≡◌, ◌<◌, ◌≤◌, ℕ, zero, suc, List, [], ◌∷◌, ◌++◌, map, true, false, ◌==◌, ◌&&◌, drop}
+use Rattle.std.proofs.Common.{get_or, reverse, sym, ◌∙◌, subst, arith}
+use Rattle.std.proofs.lemmas.List.{reverse-append}
+use Rattle.std.proofs.lemmas.List.Elements.{All-nil, All-cons, All-head, All-tail, All-append, All-drop, All-weaker}
+use Rattle.std.proofs.lemmas.List.Sorted.{All-permutation, IsPermutation-reverse}
+use Rattle.std.proofs.lemmas.List.Concat.{flat_map-cons}
+use Rattle.std.specs.Prelude.{if◌then◌else◌}
+use Rattle.std.specs.List.{All, list_any}
+use Rattle.mus_units.specs.declared.note.Head.{Head}
+use Rattle.mus_score.specs.declared.score.Flat.{Flat}
+use Rattle.mus_score.specs.declared.score.Measure.{Measure}
+use Rattle.mus_score.specs.declared.score.Voice.{Voice}
+use Rattle.mus_score.specs.GoodScore.{AreCounted, IsGoodVoice, events_of}
+use Rattle.mus_score.specs.Times.{flats_of}
+use Rattle.mus_arcs.specs.declared.events.ArcEvent.{ArcEvent}
+use Rattle.mus_arcs.specs.declared.pairing.Arc.{Arc}
+use Rattle.mus_arcs.specs.declared.pairing.SlurEnd.{SlurEnd}
+use Rattle.mus_arcs.specs.Arcs.{AreOrdered, ComesBefore, ComesFirst, arcs_of, at_one, slur_copies, earlier, has_pitch}
+use Rattle.mus_arcs.specs.Arcs.{open_ends, slur, slurs, slurs_at, spot, tie, ties_at, ties_from}
+use Rattle.mus_arcs.specs.Events.{at_measure, events_from, events_of_voice}
+use Rattle.mus_arcs.proofs.RuleLaws.{IsSlurFrom, IsTieBehind, IsTieFrom, slurs-are, slurs_at-are, tie-is, ties-are}
+use Rattle.mus_arcs.proofs.RuleLaws.{ties_at-are}
 
 all_across : (P Q : Arc → Type 0) (R : Arc → Arc → Type 0) (xs ys : List Arc) → ((x y : Arc) → P x → Q y → R x y) → All P xs → All Q ys → All (λ x. All (R x) ys) xs
 all_across P Q R xs ys on p q = All-weaker P (λ x. All (R x) ys) (λ x px. All-weaker Q (R x) (λ y qy. on x y px qy) ys q) xs p

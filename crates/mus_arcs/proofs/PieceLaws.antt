@@ -1,5 +1,6 @@
 -- A system has a piece of an arc where they share a measure.
-use Rattle.std.proofs.{Common.◌≤◌, Common.◌<◌, Common.ℕ, Common.◌↔◌, Common.inl, Common.inr, Common.arith, lemmas.Bool.cases_lt}
+use Rattle.std.proofs.Common.{◌≤◌, ◌<◌, ℕ, ◌↔◌, inl, inr, arith}
+use Rattle.std.proofs.lemmas.Bool.{cases_lt}
 use Rattle.mus_arcs.specs.{declared.pairing.Arc.Arc, Pieces.HasPiece, Pieces.Touches}
 
 touches : (arc : Arc) (a b : ℕ) → arc.from ≤ arc.to → a < b → HasPiece arc a b → Touches arc a b

@@ -1,7 +1,21 @@
 -- The slurs that are found from the last event back are those that the rule pairs, and the ties are among them.
-use Rattle.std.{proofs.{Common.{◌≡◌, ◌≤◌, ℕ, zero, suc, List, [], ◌∷◌, ◌++◌, Bool, true, false, not, ◌==◌, ◌&&◌, length, drop, reverse, append_assoc, append-nil, refl, sym, ◌∙◌, ap, subst, arith}, lemmas.List.{Sorted.{All-permutation, IsPermutation-refl, IsPermutation-trans, IsPermutation-append_comm, IsPermutation-append_left, IsPermutation-append_right, IsPermutation-reverse}, Elements.{All-nil, All-cons, All-head, All-tail, All-append, All-weaker, filter-append}}, Math.Seq.drop-nil}, specs.{Prelude.{filter, IsPermutation, if◌then◌else◌}, List.{All, list_any}}}
+use Rattle.std.proofs.Common.{◌≡◌, ◌≤◌, ℕ, zero, suc, List, [], ◌∷◌, ◌++◌, Bool, true, false, not, ◌==◌, ◌&&◌, length}
+use Rattle.std.proofs.Common.{drop, reverse, append_assoc, append-nil, refl, sym, ◌∙◌, ap, subst, arith}
+use Rattle.std.proofs.lemmas.List.Sorted.{All-permutation, IsPermutation-refl, IsPermutation-trans}
+use Rattle.std.proofs.lemmas.List.Sorted.{IsPermutation-append_comm, IsPermutation-append_left}
+use Rattle.std.proofs.lemmas.List.Sorted.{IsPermutation-append_right, IsPermutation-reverse}
+use Rattle.std.proofs.lemmas.List.Elements.{All-nil, All-cons, All-head, All-tail, All-append, All-weaker}
+use Rattle.std.proofs.lemmas.List.Elements.{filter-append}
+use Rattle.std.proofs.Math.Seq.{drop-nil}
+use Rattle.std.specs.Prelude.{filter, IsPermutation, if◌then◌else◌}
+use Rattle.std.specs.List.{All, list_any}
 use Rattle.mus_units.specs.declared.note.Head.{Head}
-use Rattle.mus_arcs.{specs.{declared.{events.ArcEvent.ArcEvent, pairing.{Arc.Arc, SlurEnd.SlurEnd}}, Arcs.{arcs_of, slur_copies, has_pitch, open_ends, slur, slurs, slurs_at, slurs_by_ends, spot, tie, ties_at, ties_from, ties_of}}, proofs.ArcLaws.slurs-none}
+use Rattle.mus_arcs.specs.declared.events.ArcEvent.{ArcEvent}
+use Rattle.mus_arcs.specs.declared.pairing.Arc.{Arc}
+use Rattle.mus_arcs.specs.declared.pairing.SlurEnd.{SlurEnd}
+use Rattle.mus_arcs.specs.Arcs.{arcs_of, slur_copies, has_pitch, open_ends, slur, slurs, slurs_at, slurs_by_ends, spot}
+use Rattle.mus_arcs.specs.Arcs.{tie, ties_at, ties_from, ties_of}
+use Rattle.mus_arcs.proofs.ArcLaws.{slurs-none}
 
 length-copies : (n : ℕ) (at : SlurEnd) → length (slur_copies n at) ≡ n
 length-copies zero at = refl

@@ -1,6 +1,14 @@
 -- The arcs of a voice: slurs from a start to the end that takes it, and ties to the very next event.
-use Rattle.std.specs.{Prelude.{◌≡◌, ◌<◌, ◌≤◌, ℕ, zero, suc, List, [], ◌∷◌, ◌++◌, Bool, true, false, ◌&&◌, ◌==◌, not, if◌then◌else◌, filter, reverse, drop, IsTrue, IsPermutation, MatchBool}, List.{All, list_any}, Ordering.int_eq}
-use Rattle.{mus_units.specs.{declared.note.Head.Head, declared.pitch.Pitch.Pitch, Good.same_letter}, mus_arcs.specs.{declared.events.ArcEvent.ArcEvent, declared.pairing.Arc.Arc, declared.pairing.SlurEnd.SlurEnd}}
+use Rattle.std.specs.Prelude.{◌≡◌, ◌<◌, ◌≤◌, ℕ, zero, suc, List, [], ◌∷◌, ◌++◌, Bool, true, false, ◌&&◌, ◌==◌, not}
+use Rattle.std.specs.Prelude.{if◌then◌else◌, filter, reverse, drop, IsTrue, IsPermutation, MatchBool}
+use Rattle.std.specs.List.{All, list_any}
+use Rattle.std.specs.Ordering.{int_eq}
+use Rattle.mus_units.specs.declared.note.Head.{Head}
+use Rattle.mus_units.specs.declared.pitch.Pitch.{Pitch}
+use Rattle.mus_units.specs.Good.{same_letter}
+use Rattle.mus_arcs.specs.declared.events.ArcEvent.{ArcEvent}
+use Rattle.mus_arcs.specs.declared.pairing.Arc.{Arc}
+use Rattle.mus_arcs.specs.declared.pairing.SlurEnd.{SlurEnd}
 
 abbrev pub spot : ArcEvent → SlurEnd
 spot e = record { event = e.event; measure = e.measure }

@@ -1,6 +1,12 @@
 -- The events of a voice, each with its measure.
 use Rattle.std.specs.{Prelude.{ℕ, suc, Bool, false, not, ◌==◌, ◌&&◌, List, [], ◌∷◌, ◌++◌, map}, List.list_all}
-use Rattle.mus_score.specs.{declared.score.Event.Event, declared.score.Measure.Measure, declared.score.Voice.Voice, declared.score.Music.Music, declared.score.Music.TheOpen.Music-F, declared.score.Music.TheFolds.fold-Music, Times.flats_of}
+use Rattle.mus_score.specs.declared.score.Event.{Event}
+use Rattle.mus_score.specs.declared.score.Measure.{Measure}
+use Rattle.mus_score.specs.declared.score.Voice.{Voice}
+use Rattle.mus_score.specs.declared.score.Music.{Music}
+use Rattle.mus_score.specs.declared.score.Music.TheOpen.{Music-F}
+use Rattle.mus_score.specs.declared.score.Music.TheFolds.{fold-Music}
+use Rattle.mus_score.specs.Times.{flats_of}
 use Rattle.mus_arcs.specs.declared.events.ArcEvent.{ArcEvent}
 
 abbrev pub at_measure : ℕ → Event → ArcEvent

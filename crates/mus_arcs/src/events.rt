@@ -1,5 +1,8 @@
-ghost use Rattle.std.specs.{Prelude.◌≡◌, Prelude.◌++◌, Prelude.◌∷◌, Prelude.[], Prelude.◌≤◌, Prelude.not, Prelude.length, Prelude.map, Prelude.IfOk, Prelude.OnOk, List.{All, list_all}};
-ghost use Rattle.{mus_score.specs.GoodScore.{IsGoodVoice}, mus_arcs.specs.Events.{at_measure, events_in, events_of_voice, events_within, is_bare_music, is_bare_event, walked_from}};
+ghost use Rattle.std.specs.Prelude.{◌≡◌, ◌++◌, ◌∷◌, [], ◌≤◌, not, length, map, IfOk, OnOk};
+ghost use Rattle.std.specs.List.{All, list_all};
+ghost use Rattle.mus_score.specs.GoodScore.{IsGoodVoice};
+ghost use Rattle.mus_arcs.specs.Events.{at_measure, events_in, events_of_voice, events_within, is_bare_music};
+ghost use Rattle.mus_arcs.specs.Events.{is_bare_event, walked_from};
 
 use mus_score::{Event, Head, Measure, Music, Voice};
 use mus_units::{Few, Memory, Row};

@@ -1,6 +1,9 @@
-ghost use Rattle.std.specs.{Prelude.◌≡◌, Prelude.◌++◌, Prelude.◌∷◌, Prelude.[], Prelude.◌≤◌, Prelude.length, Prelude.reverse, Prelude.drop, Prelude.IfOk, Prelude.OnOk, List.All, List.list_any};
+ghost use Rattle.std.specs.Prelude.{◌≡◌, ◌++◌, ◌∷◌, [], ◌≤◌, length, reverse, drop, IfOk, OnOk};
+ghost use Rattle.std.specs.List.{All, list_any};
 ghost use Rattle.{mus_units.specs.Good.{same_letter}, mus_score.specs.GoodScore.{IsGoodVoice}};
-ghost use Rattle.mus_arcs.specs.{Arcs.{AreArcsOf, arcs_of, slur_copies, has_pitch, open_ends, slur, slurs, slurs_at, spot, tie, ties_at, ties_from}, Events.events_of_voice};
+ghost use Rattle.mus_arcs.specs.Arcs.{AreArcsOf, arcs_of, slur_copies, has_pitch, open_ends, slur, slurs, slurs_at};
+ghost use Rattle.mus_arcs.specs.Arcs.{spot, tie, ties_at, ties_from};
+ghost use Rattle.mus_arcs.specs.Events.{events_of_voice};
 
 use crate::events::{ArcEvent, are_bare, events_of_voice};
 use mus_score::{Head, Voice};

@@ -1,7 +1,18 @@
 -- The beams that are laid event by event are those of the levels.
-use Rattle.std.{proofs.{Common.{◌≡◌, ℕ, zero, suc, ◌+◌, ◌-◌, ◌≤◌, ◌<◌, ◌==◌, ◌⊎◌, inl, inr, nat_lt, Bool, true, false, cond, ◌&&◌, List, [], ◌∷◌, ◌++◌, append-nil, map, take, drop, filter, refl, sym, ◌∙◌, ap, arith}, lemmas.Bool.{true≢false, false≢true, cases_lt, eq-eqb, ne_eqb, lt-ltb, ltb-true, ltb-false, le-ltb, and_right}}, specs.List.AllByRecursion}
-use Rattle.{mus_stems.{specs.Runs.runs, specs.Runs.put_before, specs.Runs.run_more, proofs.RunLaws.maximal_runs, proofs.RunLaws.runs_front}, mus_ink.proofs.Counting.{one_less}}
-use Rattle.mus_bridges.specs.{declared.stems.BeamStem.BeamStem, Beams.{goes_on_at_level, last_at, level_from, levels_from, levels_before, beams_at, beams_from, beam_marks}, Levels.{joins, Level, last_in, long_runs, is_at, LevelsRise, ByFirst, AreLevels, bridge_of, OfOtherKeys, KeysDiffer, BeamsByLevels}}
+use Rattle.std.proofs.Common.{◌≡◌, ℕ, zero, suc, ◌+◌, ◌-◌, ◌≤◌, ◌<◌, ◌==◌, ◌⊎◌, inl, inr, nat_lt, Bool, true, false}
+use Rattle.std.proofs.Common.{cond, ◌&&◌, List, [], ◌∷◌, ◌++◌, append-nil, map, take, drop, filter, refl, sym, ◌∙◌, ap}
+use Rattle.std.proofs.Common.{arith}
+use Rattle.std.proofs.lemmas.Bool.{true≢false, false≢true, cases_lt, eq-eqb, ne_eqb, lt-ltb, ltb-true, ltb-false}
+use Rattle.std.proofs.lemmas.Bool.{le-ltb, and_right}
+use Rattle.std.specs.List.{AllByRecursion}
+use Rattle.mus_stems.specs.Runs.{runs, put_before, run_more}
+use Rattle.mus_stems.proofs.RunLaws.{maximal_runs, runs_front}
+use Rattle.mus_ink.proofs.Counting.{one_less}
+use Rattle.mus_bridges.specs.declared.stems.BeamStem.{BeamStem}
+use Rattle.mus_bridges.specs.Beams.{goes_on_at_level, last_at, level_from, levels_from, levels_before, beams_at}
+use Rattle.mus_bridges.specs.Beams.{beams_from, beam_marks}
+use Rattle.mus_bridges.specs.Levels.{joins, Level, last_in, long_runs, is_at, LevelsRise, ByFirst, AreLevels, bridge_of}
+use Rattle.mus_bridges.specs.Levels.{OfOtherKeys, KeysDiffer, BeamsByLevels}
 use Rattle.mus_onsets.specs.{declared.keys.ColumnKey.ColumnKey, Order.same_key}
 
 -- one level less

@@ -1,7 +1,16 @@
 -- The pieces of a voice's arcs in a system.
-use Rattle.std.specs.{Prelude.{ℕ, ◌-◌, ◌==◌, Bool, if◌then◌else◌, List, [], ◌∷◌, flat_map, slice_get, Option, Some, None}, List.find}
-use Rattle.{mus_onsets.specs.{declared.keys.ColumnKey.ColumnKey, Keys.bar_key, Keys.head_key}, mus_arcs.specs.{declared.pairing.Arc.Arc, declared.cutting.Piece.Piece, Pieces.piece_of}, mus_laid.specs.declared.drawn.Bridge.{Bridge}}
-use Rattle.{mus_words.specs.Arcs.{ArcEndEvent, arc_mark}, mus_drawn.specs.{declared.drawn.DrawnEvent.DrawnEvent, declared.drawn.DrawnMeasure.DrawnMeasure}, mus_time.specs.Columns.{note_key}}
+use Rattle.std.specs.Prelude.{ℕ, ◌-◌, ◌==◌, Bool, if◌then◌else◌, List, [], ◌∷◌, flat_map, slice_get, Option, Some, None}
+use Rattle.std.specs.List.{find}
+use Rattle.mus_onsets.specs.declared.keys.ColumnKey.{ColumnKey}
+use Rattle.mus_onsets.specs.Keys.{bar_key, head_key}
+use Rattle.mus_arcs.specs.declared.pairing.Arc.{Arc}
+use Rattle.mus_arcs.specs.declared.cutting.Piece.{Piece}
+use Rattle.mus_arcs.specs.Pieces.{piece_of}
+use Rattle.mus_laid.specs.declared.drawn.Bridge.{Bridge}
+use Rattle.mus_words.specs.Arcs.{ArcEndEvent, arc_mark}
+use Rattle.mus_drawn.specs.declared.drawn.DrawnEvent.{DrawnEvent}
+use Rattle.mus_drawn.specs.declared.drawn.DrawnMeasure.{DrawnMeasure}
+use Rattle.mus_time.specs.Columns.{note_key}
 
 abbrev pub has_id : ℕ → DrawnEvent → Bool
 has_id id e = e.flat.event.id == id

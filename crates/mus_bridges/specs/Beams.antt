@@ -1,7 +1,14 @@
 -- The beams of a measure, over the stems of its events, each with the key of its column.
-use Rattle.std.specs.Prelude.{ℕ, zero, suc, ◌+◌, ◌-◌, Bool, true, false, ◌&&◌, ◌==◌, nat_lt, if◌then◌else◌, List, [], ◌∷◌, ◌++◌}
-use Rattle.{mus_units.specs.declared.glyph.Way.{Way}, mus_stems.specs.declared.plans.StemPlan.{StemPlan}, mus_laid.specs.declared.drawn.Bridge.{Bridge}}
-use Rattle.{mus_onsets.specs.{declared.keys.ColumnKey.ColumnKey, Order.same_key}, mus_ink.specs.{Drawing.beam, Stems.lower_edge}, mus_bridges.specs.declared.stems.BeamStem.{BeamStem}}
+use Rattle.std.specs.Prelude.{ℕ, zero, suc, ◌+◌, ◌-◌, Bool, true, false, ◌&&◌, ◌==◌, nat_lt, if◌then◌else◌, List, []}
+use Rattle.std.specs.Prelude.{◌∷◌, ◌++◌}
+use Rattle.mus_units.specs.declared.glyph.Way.{Way}
+use Rattle.mus_stems.specs.declared.plans.StemPlan.{StemPlan}
+use Rattle.mus_laid.specs.declared.drawn.Bridge.{Bridge}
+use Rattle.mus_onsets.specs.declared.keys.ColumnKey.{ColumnKey}
+use Rattle.mus_onsets.specs.Order.{same_key}
+use Rattle.mus_ink.specs.Drawing.{beam}
+use Rattle.mus_ink.specs.Stems.{lower_edge}
+use Rattle.mus_bridges.specs.declared.stems.BeamStem.{BeamStem}
 
 unfoldable pub stem_of : ColumnKey → StemPlan → BeamStem
 stem_of key plan = record { key = key; up = plan.up; to = plan.to; group = plan.group; flags = plan.flags }

@@ -1,8 +1,17 @@
 -- What a voice has between the columns of a system: the beams of notes, those of graces, and the arcs.
 use Rattle.std.specs.Prelude.{ℕ, ◌+◌, List, [], ◌∷◌, ◌++◌, length, map, flat_map, slice_range}
-use Rattle.{mus_score.specs.declared.score.Event.{Event}, mus_onsets.specs.{declared.keys.Class.Class, Keys.key_at}, mus_laid.specs.declared.drawn.Bridge.{Bridge}}
-use Rattle.{mus_ink.specs.Graces.{grace_beam, group_of}, mus_drawn.specs.{declared.drawn.DrawnEvent.DrawnEvent, declared.drawn.DrawnMeasure.DrawnMeasure, declared.drawn.DrawnVoice.DrawnVoice}}
-use Rattle.{mus_time.specs.Columns.{note_key}, mus_bridges.specs.{declared.stems.BeamStem.BeamStem, Arcs.arcs_between, Beams.beam_marks, Beams.stem_of}}
+use Rattle.mus_score.specs.declared.score.Event.{Event}
+use Rattle.mus_onsets.specs.declared.keys.Class.{Class}
+use Rattle.mus_onsets.specs.Keys.{key_at}
+use Rattle.mus_laid.specs.declared.drawn.Bridge.{Bridge}
+use Rattle.mus_ink.specs.Graces.{grace_beam, group_of}
+use Rattle.mus_drawn.specs.declared.drawn.DrawnEvent.{DrawnEvent}
+use Rattle.mus_drawn.specs.declared.drawn.DrawnMeasure.{DrawnMeasure}
+use Rattle.mus_drawn.specs.declared.drawn.DrawnVoice.{DrawnVoice}
+use Rattle.mus_time.specs.Columns.{note_key}
+use Rattle.mus_bridges.specs.declared.stems.BeamStem.{BeamStem}
+use Rattle.mus_bridges.specs.Arcs.{arcs_between}
+use Rattle.mus_bridges.specs.Beams.{beam_marks, stem_of}
 
 -- the beams of notes, measure by measure from number m on
 abbrev pub beam_stem_at : ℕ → DrawnEvent → BeamStem

@@ -1,8 +1,14 @@
 -- The levels of beams. Level k, from 0, of a beam joins each maximal run of neighbours in it that have more than k flags.
 -- A run of two events or more is drawn, from its first to its last; a run of one is a stub. What is drawn comes by its first events, and at one event by level.
-use Rattle.std.specs.{Prelude.{◌≡◌, ℕ, ◌+◌, ◌≤◌, Bool, false, ◌&&◌, ◌==◌, nat_lt, ⊤, List, [], ◌∷◌, ◌++◌, map, filter}, List.AllByRecursion}
-use Rattle.{mus_stems.specs.Runs.{AreMaximalRuns}, mus_laid.specs.declared.drawn.Bridge.{Bridge}, mus_ink.specs.{Drawing.beam, Stems.lower_edge}}
-use Rattle.{mus_bridges.specs.{declared.stems.BeamStem.BeamStem, Beams.way_of, Beams.beam_marks}, mus_onsets.specs.Order.{same_key}}
+use Rattle.std.specs.Prelude.{◌≡◌, ℕ, ◌+◌, ◌≤◌, Bool, false, ◌&&◌, ◌==◌, nat_lt, ⊤, List, [], ◌∷◌, ◌++◌, map, filter}
+use Rattle.std.specs.List.{AllByRecursion}
+use Rattle.mus_stems.specs.Runs.{AreMaximalRuns}
+use Rattle.mus_laid.specs.declared.drawn.Bridge.{Bridge}
+use Rattle.mus_ink.specs.Drawing.{beam}
+use Rattle.mus_ink.specs.Stems.{lower_edge}
+use Rattle.mus_bridges.specs.declared.stems.BeamStem.{BeamStem}
+use Rattle.mus_bridges.specs.Beams.{way_of, beam_marks}
+use Rattle.mus_onsets.specs.Order.{same_key}
 
 -- whether level k joins two neighbours: both are in one beam and have it
 abbrev pub joins : ℕ → BeamStem → BeamStem → Bool

@@ -1,5 +1,7 @@
 ghost use Rattle.std.specs.{Prelude.◌≡◌, Prelude.◌++◌, Prelude.OnOk, Prelude.option_copied, List.find};
-ghost use Rattle.{mus_words.specs.Arcs.{arc_end_event}, mus_bridges.specs.Arcs.{has_id, event_at, seen_of, left_key, right_key, arc_between, piece_between, arc_in, arcs_between}};
+ghost use Rattle.mus_words.specs.Arcs.{arc_end_event};
+ghost use Rattle.mus_bridges.specs.Arcs.{has_id, event_at, seen_of, left_key, right_key, arc_between, piece_between};
+ghost use Rattle.mus_bridges.specs.Arcs.{arc_in, arcs_between};
 
 use mus_arcs::{Arc, Piece, pieces};
 use mus_drawn::{DrawnEvent, DrawnMeasure};

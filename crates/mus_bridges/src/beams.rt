@@ -1,5 +1,6 @@
 ghost use Rattle.std.specs.Prelude.{◌≡◌, ◌≤◌, ◌+◌, ◌++◌, length, flat_map, OnOk};
-ghost use Rattle.{mus_drawn.specs.Good.{AreGoodDrawn, AreGoodMeasures, IsGoodDrawn}, mus_bridges.specs.Bridges.{beams_between, beam_over, event_grace_beam, grace_beams_between}};
+ghost use Rattle.mus_drawn.specs.Good.{AreGoodDrawn, AreGoodMeasures, IsGoodDrawn};
+ghost use Rattle.mus_bridges.specs.Bridges.{beams_between, beam_over, event_grace_beam, grace_beams_between};
 
 use crate::stems::put_beams;
 use mus_drawn::{DrawnEvent, DrawnMeasure};

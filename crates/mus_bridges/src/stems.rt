@@ -1,5 +1,7 @@
 ghost use Rattle.std.specs.Prelude.{◌≡◌, ◌-◌, ◌++◌, map, OnOk};
-ghost use Rattle.mus_bridges.specs.{Beams.{stem_of, way_of, goes_on_at_level, last_at, level_from, levels_from, levels_before, beams_at, beams_from, beam_marks}, Bridges.beam_stem_at};
+ghost use Rattle.mus_bridges.specs.Beams.{stem_of, way_of, goes_on_at_level, last_at, level_from, levels_from};
+ghost use Rattle.mus_bridges.specs.Beams.{levels_before, beams_at, beams_from, beam_marks};
+ghost use Rattle.mus_bridges.specs.Bridges.{beam_stem_at};
 
 use mus_drawn::DrawnEvent;
 use mus_ink::drawing::put_beam;

@@ -1,9 +1,25 @@
 -- What is drawn of a good voice is good.
-use Rattle.std.{proofs.{Common.{◌≡◌, ◌≤◌, ◌+◌, ℕ, List, [], ◌∷◌, ◌++◌, length, map, max, refl, sym, ap, ◌∙◌, subst, arith}, lemmas.List.{Elements.{All-head, All-tail}, Sums.sum_by-cons}}, specs.{Prelude.{Option, Some, None, IfSome, unwrap_or, is_some, count_by}, List.{All, sum_by}}}
-use Rattle.mus_units.specs.{declared.key.Key.Key, declared.pitch.Clef.Clef, Good.AreGoodSigns, Good.IsGoodKey, declared.note.Bar.Bar}
-use Rattle.mus_score.specs.{declared.score.Event.Event, declared.score.Flat.Flat, Good.flat_count, Good.flat_weight, Good.head_count, GoodScore.AreInReach, GoodScore.IsInReach, GoodScore.IsGoodEvent, GoodScore.clef_at}
+use Rattle.std.proofs.Common.{◌≡◌, ◌≤◌, ◌+◌, ℕ, List, [], ◌∷◌, ◌++◌, length, map, max, refl, sym, ap, ◌∙◌, subst, arith}
+use Rattle.std.proofs.lemmas.List.Elements.{All-head, All-tail}
+use Rattle.std.proofs.lemmas.List.Sums.{sum_by-cons}
+use Rattle.std.specs.Prelude.{Option, Some, None, IfSome, unwrap_or, is_some, count_by}
+use Rattle.std.specs.List.{All, sum_by}
+use Rattle.mus_units.specs.declared.key.Key.{Key}
+use Rattle.mus_units.specs.declared.pitch.Clef.{Clef}
+use Rattle.mus_units.specs.Good.{AreGoodSigns, IsGoodKey}
+use Rattle.mus_units.specs.declared.note.Bar.{Bar}
+use Rattle.mus_score.specs.declared.score.Event.{Event}
+use Rattle.mus_score.specs.declared.score.Flat.{Flat}
+use Rattle.mus_score.specs.Good.{flat_count, flat_weight, head_count}
+use Rattle.mus_score.specs.GoodScore.{AreInReach, IsInReach, IsGoodEvent, clef_at}
 use Rattle.mus_stems.specs.{declared.plans.StemPlan.StemPlan, Plans.AllEndsNear}
-use Rattle.mus_drawn.{specs.{declared.{drawn.{DrawnEvent.DrawnEvent, SystemOpening.SystemOpening, Style.Style}, standing.StaffState.StaffState}, Drawn.{standing_after, standing_behind, old_signs, opening_of, drawn_events}, Good.{CanDraw, AllCanDraw, CanGrace, AllCanGrace, IsGoodDrawn, AreGoodDrawn, IsGoodMeasure}}, proofs.Reaches.near_of}
+use Rattle.mus_drawn.specs.declared.drawn.DrawnEvent.{DrawnEvent}
+use Rattle.mus_drawn.specs.declared.drawn.SystemOpening.{SystemOpening}
+use Rattle.mus_drawn.specs.declared.drawn.Style.{Style}
+use Rattle.mus_drawn.specs.declared.standing.StaffState.{StaffState}
+use Rattle.mus_drawn.specs.Drawn.{standing_after, standing_behind, old_signs, opening_of, drawn_events}
+use Rattle.mus_drawn.specs.Good.{CanDraw, AllCanDraw, CanGrace, AllCanGrace, IsGoodDrawn, AreGoodDrawn, IsGoodMeasure}
+use Rattle.mus_drawn.proofs.Reaches.{near_of}
 
 key_after : (key : Key) (new : Option Key) → IsGoodKey key → IfSome new IsGoodKey → IsGoodKey (unwrap_or new key)
 key_after key None good h = good

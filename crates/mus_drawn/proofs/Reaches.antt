@@ -1,7 +1,17 @@
 -- Events within reach of the staff can be drawn.
-use Rattle.std.{proofs.{Common.{◌≡◌, ◌≤◌, ◌+◌, ◌*◌, ℕ, List, [], ◌∷◌, ◌++◌, length, map, max, refl, arith}, lemmas.List.{Elements.{All-head, All-tail}, Sums.sum_by-cons}}, specs.List.{All, sum_by}}
-use Rattle.{mus_units.specs.{declared.note.Head.Head, declared.pitch.Clef.Clef}, mus_score.specs.{declared.score.Flat.Flat, Good.IsGoodFlat, Good.flat_weight, Good.head_count, GoodScore.AreInReach, GoodScore.IsInReach, GoodScore.clef_at}}
-use Rattle.{mus_stems.specs.{Heads.AllNear, Heads.stand_of, Stills.AllCanStand, Stills.CanDrawEvent, Stills.clefs_from}, mus_drawn.specs.{declared.standing.StaffState.StaffState, Drawn.standing_after, Drawn.standing_behind}}
+use Rattle.std.proofs.Common.{◌≡◌, ◌≤◌, ◌+◌, ◌*◌, ℕ, List, [], ◌∷◌, ◌++◌, length, map, max, refl, arith}
+use Rattle.std.proofs.lemmas.List.Elements.{All-head, All-tail}
+use Rattle.std.proofs.lemmas.List.Sums.{sum_by-cons}
+use Rattle.std.specs.List.{All, sum_by}
+use Rattle.mus_units.specs.declared.note.Head.{Head}
+use Rattle.mus_units.specs.declared.pitch.Clef.{Clef}
+use Rattle.mus_score.specs.declared.score.Flat.{Flat}
+use Rattle.mus_score.specs.Good.{IsGoodFlat, flat_weight, head_count}
+use Rattle.mus_score.specs.GoodScore.{AreInReach, IsInReach, clef_at}
+use Rattle.mus_stems.specs.Heads.{AllNear, stand_of}
+use Rattle.mus_stems.specs.Stills.{AllCanStand, CanDrawEvent, clefs_from}
+use Rattle.mus_drawn.specs.declared.standing.StaffState.{StaffState}
+use Rattle.mus_drawn.specs.Drawn.{standing_after, standing_behind}
 
 pub near_of : (clef : Clef) (heads : List Head) → All (IsInReach clef) heads → AllNear (map (stand_of clef) heads)
 unfolding stand_of

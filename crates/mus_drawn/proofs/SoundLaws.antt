@@ -1,8 +1,26 @@
 -- Heads that are heard one after the other sound as they do when each looks back.
-use Rattle.std.{proofs.Common.{◌≡◌, ℕ, ◌+◌, Bool, true, false, cond, ◌&&◌, ◌||◌, List, [], ◌∷◌, ◌++◌, refl, sym, ◌∙◌, ap, append_assoc, append-nil, Option, Some, None, option_map, flat_map}, specs.List.{find, list_any}}
-use Rattle.mus_units.specs.declared.{key.Sign.Sign, key.Spread.Spread, note.Head.Head, pitch.Alter.Alter, pitch.Pitch.Pitch}
-use Rattle.{mus_score.specs.{declared.score.Flat.Flat, declared.score.Measure.Measure, declared.score.Voice.Voice, Times.flats_of}, mus_pitch.specs.Alteration.{alteration_of}, mus_arcs.specs.Arcs.{has_pitch}}
-use Rattle.mus_drawn.specs.{Hearing.{is_heard_at, is_tied_to, partner_of, heard_alter, heard, heard_from, said_after, heard_at, heard_behind, sounds_from, events_sounds, measures_sounds, voices_sounds}, declared.{sounds.{AlteredHead.AlteredHead, Sound.Sound}, standing.StaffState.StaffState}, Drawn.{standing_after, standing_behind, standing_of}, Sounds.{Seen, Sounding, tied_sound, comes_tied, alter_by, sounds_as, all_heads, seen, seen_from, seen_in, head_sounds, event_sounds, voice_sounds}}
+use Rattle.std.proofs.Common.{◌≡◌, ℕ, ◌+◌, Bool, true, false, cond, ◌&&◌, ◌||◌, List, [], ◌∷◌, ◌++◌, refl, sym, ◌∙◌, ap}
+use Rattle.std.proofs.Common.{append_assoc, append-nil, Option, Some, None, option_map, flat_map}
+use Rattle.std.specs.List.{find, list_any}
+use Rattle.mus_units.specs.declared.key.Sign.{Sign}
+use Rattle.mus_units.specs.declared.key.Spread.{Spread}
+use Rattle.mus_units.specs.declared.note.Head.{Head}
+use Rattle.mus_units.specs.declared.pitch.Alter.{Alter}
+use Rattle.mus_units.specs.declared.pitch.Pitch.{Pitch}
+use Rattle.mus_score.specs.declared.score.Flat.{Flat}
+use Rattle.mus_score.specs.declared.score.Measure.{Measure}
+use Rattle.mus_score.specs.declared.score.Voice.{Voice}
+use Rattle.mus_score.specs.Times.{flats_of}
+use Rattle.mus_pitch.specs.Alteration.{alteration_of}
+use Rattle.mus_arcs.specs.Arcs.{has_pitch}
+use Rattle.mus_drawn.specs.Hearing.{is_heard_at, is_tied_to, partner_of, heard_alter, heard, heard_from, said_after}
+use Rattle.mus_drawn.specs.Hearing.{heard_at, heard_behind, sounds_from, events_sounds, measures_sounds, voices_sounds}
+use Rattle.mus_drawn.specs.declared.sounds.AlteredHead.{AlteredHead}
+use Rattle.mus_drawn.specs.declared.sounds.Sound.{Sound}
+use Rattle.mus_drawn.specs.declared.standing.StaffState.{StaffState}
+use Rattle.mus_drawn.specs.Drawn.{standing_after, standing_behind, standing_of}
+use Rattle.mus_drawn.specs.Sounds.{Seen, Sounding, tied_sound, comes_tied, alter_by, sounds_as, all_heads, seen}
+use Rattle.mus_drawn.specs.Sounds.{seen_from, seen_in, head_sounds, event_sounds, voice_sounds}
 
 -- heads with what they sound as
 abbrev heard_along : Sounding → List Head → List Head → List AlteredHead

@@ -1,7 +1,17 @@
 -- From measure to measure.
-use Rattle.std.proofs.Common.{◌≡◌, ◌<◌, ℕ, suc, ◌+◌, List, [], ◌∷◌, ◌++◌, append_assoc, drop, drop-cons, length, get_or, refl, sym, ap, ◌∙◌, subst, arith}
-use Rattle.mus_score.specs.{declared.score.Flat.Flat, declared.score.Measure.Measure, GoodScore.AreInReach, GoodScore.events_of, Times.flats_of}
-use Rattle.mus_drawn.{specs.{declared.{drawn.{DrawnMeasure.DrawnMeasure, Style.Style}, standing.StaffState.StaffState}, Drawn.{standing_behind, drawn_measure, drawn_measures}, Good.AllCanDraw}, proofs.{Reaches.reach_cut, GoodLaws.can_cut}}
+use Rattle.std.proofs.Common.{◌≡◌, ◌<◌, ℕ, suc, ◌+◌, List, [], ◌∷◌, ◌++◌, append_assoc, drop, drop-cons, length, get_or}
+use Rattle.std.proofs.Common.{refl, sym, ap, ◌∙◌, subst, arith}
+use Rattle.mus_score.specs.declared.score.Flat.{Flat}
+use Rattle.mus_score.specs.declared.score.Measure.{Measure}
+use Rattle.mus_score.specs.GoodScore.{AreInReach, events_of}
+use Rattle.mus_score.specs.Times.{flats_of}
+use Rattle.mus_drawn.specs.declared.drawn.DrawnMeasure.{DrawnMeasure}
+use Rattle.mus_drawn.specs.declared.drawn.Style.{Style}
+use Rattle.mus_drawn.specs.declared.standing.StaffState.{StaffState}
+use Rattle.mus_drawn.specs.Drawn.{standing_behind, drawn_measure, drawn_measures}
+use Rattle.mus_drawn.specs.Good.{AllCanDraw}
+use Rattle.mus_drawn.proofs.Reaches.{reach_cut}
+use Rattle.mus_drawn.proofs.GoodLaws.{can_cut}
 
 pub measures_cut : (ms : List Measure) (i : ℕ) (m : Measure) → i < length ms → m ≡ get_or ms i m → drop i ms ≡ m ∷ drop (i + 1) ms
 measures_cut ms i m inside here = let one : suc i ≡ i + 1 = omega arith in drop-cons ms i m inside ∙ ap (λ x. x ∷ drop (suc i) ms) (sym here) ∙ ap (λ n. m ∷ drop n ms) one

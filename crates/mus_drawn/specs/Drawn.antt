@@ -1,10 +1,26 @@
 -- A voice as it is drawn: its events one after the other, each with what is in force there, its place
 -- in time and its stem plan; and how it gives way to other voices on its staff.
-use Rattle.std.specs.Prelude.{ℕ, ◌+◌, ℤ, pos, negsuc, Bool, true, false, is_some, List, [], ◌∷◌, Option, Some, None, unwrap_or}
+use Rattle.std.specs.Prelude.{ℕ, ◌+◌, ℤ, pos, negsuc, Bool, true, false, is_some, List, [], ◌∷◌, Option, Some, None}
+use Rattle.std.specs.Prelude.{unwrap_or}
 use Rattle.mus_units.specs.{declared.key.Key.Key, declared.key.Sign.Sign, declared.note.Wish.Wish}
-use Rattle.mus_score.specs.{declared.score.Changes.Changes, declared.score.Flat.Flat, declared.score.Measure.Measure, declared.score.Voice.Voice, declared.score.Seat.Seat, GoodScore.clef_at, Times.flats_of}
-use Rattle.{mus_arcs.specs.{Arcs.arcs_of, Events.events_of_voice}, mus_stems.specs.{declared.plans.StemPlan.StemPlan, Plans.stems_of, Stills.clefs_from}}
-use Rattle.mus_drawn.specs.declared.{standing.StaffState.StaffState, drawn.DrawnEvent.DrawnEvent, drawn.DrawnMeasure.DrawnMeasure, drawn.DrawnVoice.DrawnVoice, drawn.SystemOpening.SystemOpening, drawn.Style.Style}
+use Rattle.mus_score.specs.declared.score.Changes.{Changes}
+use Rattle.mus_score.specs.declared.score.Flat.{Flat}
+use Rattle.mus_score.specs.declared.score.Measure.{Measure}
+use Rattle.mus_score.specs.declared.score.Voice.{Voice}
+use Rattle.mus_score.specs.declared.score.Seat.{Seat}
+use Rattle.mus_score.specs.GoodScore.{clef_at}
+use Rattle.mus_score.specs.Times.{flats_of}
+use Rattle.mus_arcs.specs.Arcs.{arcs_of}
+use Rattle.mus_arcs.specs.Events.{events_of_voice}
+use Rattle.mus_stems.specs.declared.plans.StemPlan.{StemPlan}
+use Rattle.mus_stems.specs.Plans.{stems_of}
+use Rattle.mus_stems.specs.Stills.{clefs_from}
+use Rattle.mus_drawn.specs.declared.standing.StaffState.{StaffState}
+use Rattle.mus_drawn.specs.declared.drawn.DrawnEvent.{DrawnEvent}
+use Rattle.mus_drawn.specs.declared.drawn.DrawnMeasure.{DrawnMeasure}
+use Rattle.mus_drawn.specs.declared.drawn.DrawnVoice.{DrawnVoice}
+use Rattle.mus_drawn.specs.declared.drawn.SystemOpening.{SystemOpening}
+use Rattle.mus_drawn.specs.declared.drawn.Style.{Style}
 
 -- Clef, key and meter in force are those of the last event that names them, else those with which the voice begins.
 abbrev pub standing_of : Voice → StaffState

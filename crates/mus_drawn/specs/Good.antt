@@ -1,8 +1,15 @@
 -- Good drawn voices: signatures have at most one sign for a letter, and heads, those of graces too,
 -- stand near the staff, and so do the ends of stems.
-use Rattle.std.specs.{Prelude.◌≤◌, Prelude.⊤, Prelude.List, Prelude.[], Prelude.◌∷◌, Prelude.length, Prelude.map, Prelude.IfSome, List.AllByRecursion}
-use Rattle.{mus_units.specs.{declared.pitch.Clef.Clef, Good.AreGoodSigns, Good.IsGoodKey}, mus_score.specs.{declared.score.Event.Event, declared.score.Flat.Flat}}
-use Rattle.{mus_stems.specs.{Heads.AllNear, Heads.stand_of, Plans.IsEndNear}, mus_drawn.specs.{declared.drawn.DrawnEvent.DrawnEvent, declared.drawn.DrawnMeasure.DrawnMeasure}}
+use Rattle.std.specs.Prelude.{◌≤◌, ⊤, List, [], ◌∷◌, length, map, IfSome}
+use Rattle.std.specs.List.{AllByRecursion}
+use Rattle.mus_units.specs.declared.pitch.Clef.{Clef}
+use Rattle.mus_units.specs.Good.{AreGoodSigns, IsGoodKey}
+use Rattle.mus_score.specs.declared.score.Event.{Event}
+use Rattle.mus_score.specs.declared.score.Flat.{Flat}
+use Rattle.mus_stems.specs.Heads.{AllNear, stand_of}
+use Rattle.mus_stems.specs.Plans.{IsEndNear}
+use Rattle.mus_drawn.specs.declared.drawn.DrawnEvent.{DrawnEvent}
+use Rattle.mus_drawn.specs.declared.drawn.DrawnMeasure.{DrawnMeasure}
 
 -- an event whose change of key is good and which has few verses
 pub record CanDraw (f : Flat) : Type 0 where

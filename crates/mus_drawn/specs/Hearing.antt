@@ -1,9 +1,22 @@
 -- How the heads of a score sound, as they are heard one after the other: what is in force, the heads of the measure so
 -- far and those of the event before are carried along. `Sounds` has what is meant.
-use Rattle.std.specs.{Prelude.{ℕ, ◌+◌, Bool, ◌&&◌, if◌then◌else◌, List, [], ◌∷◌, ◌++◌, flat_map, Option, Some, None}, List.{find, list_any}}
-use Rattle.mus_units.specs.declared.{key.Sign.Sign, key.Spread.Spread, note.Head.Head, pitch.Alter.Alter, pitch.Pitch.Pitch}
-use Rattle.{mus_score.specs.{declared.score.Flat.Flat, declared.score.Measure.Measure, declared.score.Voice.Voice, Times.flats_of}, mus_pitch.specs.Alteration.{alteration_of}, mus_arcs.specs.Arcs.{has_pitch}}
-use Rattle.mus_drawn.specs.{declared.standing.StaffState.StaffState, Drawn.standing_after, Drawn.standing_behind, Drawn.standing_of, declared.sounds.AlteredHead.AlteredHead, declared.sounds.Sound.Sound}
+use Rattle.std.specs.Prelude.{ℕ, ◌+◌, Bool, ◌&&◌, if◌then◌else◌, List, [], ◌∷◌, ◌++◌, flat_map, Option, Some, None}
+use Rattle.std.specs.List.{find, list_any}
+use Rattle.mus_units.specs.declared.key.Sign.{Sign}
+use Rattle.mus_units.specs.declared.key.Spread.{Spread}
+use Rattle.mus_units.specs.declared.note.Head.{Head}
+use Rattle.mus_units.specs.declared.pitch.Alter.{Alter}
+use Rattle.mus_units.specs.declared.pitch.Pitch.{Pitch}
+use Rattle.mus_score.specs.declared.score.Flat.{Flat}
+use Rattle.mus_score.specs.declared.score.Measure.{Measure}
+use Rattle.mus_score.specs.declared.score.Voice.{Voice}
+use Rattle.mus_score.specs.Times.{flats_of}
+use Rattle.mus_pitch.specs.Alteration.{alteration_of}
+use Rattle.mus_arcs.specs.Arcs.{has_pitch}
+use Rattle.mus_drawn.specs.declared.standing.StaffState.{StaffState}
+use Rattle.mus_drawn.specs.Drawn.{standing_after, standing_behind, standing_of}
+use Rattle.mus_drawn.specs.declared.sounds.AlteredHead.{AlteredHead}
+use Rattle.mus_drawn.specs.declared.sounds.Sound.{Sound}
 
 abbrev pub is_heard_at : Pitch → AlteredHead → Bool
 is_heard_at p x = has_pitch p x.head

@@ -1,10 +1,23 @@
 -- How the heads of a score sound, found by looking back from each. A head has the alteration of its own sign; else it
 -- sounds as the head that is tied into it; else it has that of the last sign before it in its measure and voice that
 -- reaches it, the signs of graces too; else its key's. Graces are not listed.
-use Rattle.std.specs.{Prelude.{ℕ, ◌+◌, Bool, ◌&&◌, if◌then◌else◌, List, [], ◌∷◌, ◌++◌, flat_map, Option, Some, None}, List.list_any}
-use Rattle.mus_units.specs.declared.{key.Sign.Sign, key.Spread.Spread, note.Head.Head, pitch.Alter.Alter, pitch.Pitch.Pitch}
-use Rattle.{mus_score.specs.{declared.score.Flat.Flat, declared.score.Measure.Measure, declared.score.Score.Score, declared.score.Voice.Voice, Times.flats_of}, mus_pitch.specs.Alteration.{alteration_of}, mus_arcs.specs.Arcs.{has_pitch}}
-use Rattle.mus_drawn.specs.{declared.sounds.Sound.Sound, declared.standing.StaffState.StaffState, Drawn.standing_behind, Drawn.standing_of}
+use Rattle.std.specs.Prelude.{ℕ, ◌+◌, Bool, ◌&&◌, if◌then◌else◌, List, [], ◌∷◌, ◌++◌, flat_map, Option, Some, None}
+use Rattle.std.specs.List.{list_any}
+use Rattle.mus_units.specs.declared.key.Sign.{Sign}
+use Rattle.mus_units.specs.declared.key.Spread.{Spread}
+use Rattle.mus_units.specs.declared.note.Head.{Head}
+use Rattle.mus_units.specs.declared.pitch.Alter.{Alter}
+use Rattle.mus_units.specs.declared.pitch.Pitch.{Pitch}
+use Rattle.mus_score.specs.declared.score.Flat.{Flat}
+use Rattle.mus_score.specs.declared.score.Measure.{Measure}
+use Rattle.mus_score.specs.declared.score.Score.{Score}
+use Rattle.mus_score.specs.declared.score.Voice.{Voice}
+use Rattle.mus_score.specs.Times.{flats_of}
+use Rattle.mus_pitch.specs.Alteration.{alteration_of}
+use Rattle.mus_arcs.specs.Arcs.{has_pitch}
+use Rattle.mus_drawn.specs.declared.sounds.Sound.{Sound}
+use Rattle.mus_drawn.specs.declared.standing.StaffState.{StaffState}
+use Rattle.mus_drawn.specs.Drawn.{standing_behind, standing_of}
 
 -- an event with what can be seen from it: the heads before it in its measure, its own graces' too, and its key's signs
 pub record Seen : Type 0 where

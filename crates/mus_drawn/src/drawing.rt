@@ -1,8 +1,12 @@
 ghost use Rattle.std.specs.Prelude.{◌≡◌, ◌≤◌, ◌*◌, ◌++◌, ◌∷◌, [], All, IfOk, OnOk, length, sum_by};
 ghost use Rattle.mus_units.specs.Good.{IsGoodKey};
-ghost use Rattle.mus_score.specs.{Good.{IsGoodBody, flat_count, IsGoodFlat, flat_weight, longest_ticks, total_ticks}, Times.flats_of, GoodScore.{AreInReach, IsGoodEvent, IsGoodVoice, events_of}};
+ghost use Rattle.mus_score.specs.Good.{IsGoodBody, flat_count, IsGoodFlat, flat_weight, longest_ticks, total_ticks};
+ghost use Rattle.mus_score.specs.Times.{flats_of};
+ghost use Rattle.mus_score.specs.GoodScore.{AreInReach, IsGoodEvent, IsGoodVoice, events_of};
 ghost use Rattle.mus_stems.specs.Plans.{stems_of, AllEndsNear};
-ghost use Rattle.mus_drawn.specs.{Drawn.{standing_after, standing_behind, drawn_event, drawn_events, drawn_measure, drawn_measures, drawn_voice, raise_of, style_of, wish_in_seat}, Good.{AllCanDraw, IsGoodMeasure, AreGoodMeasures}};
+ghost use Rattle.mus_drawn.specs.Drawn.{standing_after, standing_behind, drawn_event, drawn_events, drawn_measure};
+ghost use Rattle.mus_drawn.specs.Drawn.{drawn_measures, drawn_voice, raise_of, style_of, wish_in_seat};
+ghost use Rattle.mus_drawn.specs.Good.{AllCanDraw, IsGoodMeasure, AreGoodMeasures};
 
 use crate::drawn::{DrawnEvent, DrawnMeasure, DrawnVoice, Style};
 use crate::standing::{StaffState, change, old_signs, opening_of, standing_of};

@@ -1,6 +1,14 @@
-ghost use Rattle.std.specs.{Prelude.◌≡◌, Prelude.◌≤◌, Prelude.◌++◌, Prelude.[], Prelude.length, Prelude.flat_map, Prelude.All, Prelude.IfOk, Prelude.OnOk, List.find, List.list_any};
-ghost use Rattle.{mus_score.specs.{Good.IsGoodBody, GoodScore.IsGoodScore, GoodScore.IsGoodVoice, Times.flats_of}, mus_arcs.specs.Arcs.{has_pitch}};
-ghost use Rattle.mus_drawn.specs.{Drawn.{standing_after, standing_behind, standing_of}, Hearing.{is_heard_at, is_tied_to, partner_of, heard_alter, heard, heard_from, said_at, said_after, heard_at, heard_behind, sounds_from, events_sounds, measures_sounds, voices_sounds}, Sounds.sounds_of};
+ghost use Rattle.std.specs.Prelude.{◌≡◌, ◌≤◌, ◌++◌, [], length, flat_map, All, IfOk, OnOk};
+ghost use Rattle.std.specs.List.{find, list_any};
+ghost use Rattle.mus_score.specs.Good.{IsGoodBody};
+ghost use Rattle.mus_score.specs.GoodScore.{IsGoodScore, IsGoodVoice};
+ghost use Rattle.mus_score.specs.Times.{flats_of};
+ghost use Rattle.mus_arcs.specs.Arcs.{has_pitch};
+ghost use Rattle.mus_drawn.specs.Drawn.{standing_after, standing_behind, standing_of};
+ghost use Rattle.mus_drawn.specs.Hearing.{is_heard_at, is_tied_to, partner_of, heard_alter, heard, heard_from, said_at};
+ghost use Rattle.mus_drawn.specs.Hearing.{said_after, heard_at, heard_behind, sounds_from, events_sounds};
+ghost use Rattle.mus_drawn.specs.Hearing.{measures_sounds, voices_sounds};
+ghost use Rattle.mus_drawn.specs.Sounds.{sounds_of};
 
 use crate::standing::{StaffState, change, standing_of};
 use mus_pitch::in_force;

@@ -1,7 +1,14 @@
 -- One more of what is counted, and nothing of what isn't there.
-use Rattle.std.{proofs.Common.{◌≡◌, ℕ, suc, ◌+◌, ◌-◌, ◌*◌, ◌<◌, ℤ, pos, Bool, true, ◌&&◌, List, [], ◌∷◌, ◌++◌, Option, Some, None, is_none, refl, arith}, specs.List.list_all}
+use Rattle.std.proofs.Common.{◌≡◌, ℕ, suc, ◌+◌, ◌-◌, ◌*◌, ◌<◌, ℤ, pos, Bool, true, ◌&&◌, List, [], ◌∷◌, ◌++◌, Option}
+use Rattle.std.proofs.Common.{Some, None, is_none, refl, arith}
+use Rattle.std.specs.List.{list_all}
 use Rattle.mus_units.specs.declared.{glyph.Glyph.Glyph, note.Head.Head, pitch.Alter.Alter, pitch.Clef.Clef}
-use Rattle.mus_ink.specs.{Drawing.{glyph, loose_glyph}, Distances.{dot_side, dot_step, rest_dot_line}, Kinds.{flag_glyph, stub_glyph}, Notes.{dy_of, sign_mark, sign_marks}, Stems.{stem_dx, flag_dy, flag_marks, lower_edge, stub_marks}, Rests.{raised, short_dy, short_rests, rest_dots}}
+use Rattle.mus_ink.specs.Drawing.{glyph, loose_glyph}
+use Rattle.mus_ink.specs.Distances.{dot_side, dot_step, rest_dot_line}
+use Rattle.mus_ink.specs.Kinds.{flag_glyph, stub_glyph}
+use Rattle.mus_ink.specs.Notes.{dy_of, sign_mark, sign_marks}
+use Rattle.mus_ink.specs.Stems.{stem_dx, flag_dy, flag_marks, lower_edge, stub_marks}
+use Rattle.mus_ink.specs.Rests.{raised, short_dy, short_rests, rest_dots}
 
 pub one_less : (k n : ℕ) → k < n → n - k ≡ suc (n - (k + 1))
 one_less k n lt = omega arith

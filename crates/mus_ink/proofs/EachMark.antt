@@ -1,9 +1,38 @@
 -- One walk over the marks of each part: what holds of a glyph in the main lane, of a loose glyph, of a stem, and of
 -- the marks of a good meter holds of all marks of the parts.
-use Rattle.std.{proofs.Common.{ℕ, zero, suc, ℤ, ◌+◌, ◌-◌, max, Bool, true, false, ◌==◌, ◌&&◌, if◌then◌else◌, List, [], ◌∷◌, ◌++◌, Option, Some, None}, specs.{List.AllByRecursion, Prelude.IfSome}}
-use Rattle.mus_units.specs.{declared.glyph.Glyph.Glyph, declared.key.Key.Key, declared.key.Meter.Meter, declared.key.Sign.Sign, declared.note.Bar.Bar, declared.note.Deco.Deco, declared.note.Head.Head, declared.pitch.Alter.Alter, declared.pitch.Clef.Clef, declared.value.Base.Base, Good.IsGoodMeter}
-use Rattle.{mus_score.specs.{declared.score.Changes.Changes, declared.score.Event.Event, declared.score.Look.Look}, mus_stems.{proofs.RunLaws.all_append, specs.{declared.dots.Spot.Spot, declared.plans.StemPlan.StemPlan}}}
-use Rattle.mus_ink.specs.{declared.graces.Group.Group, Bars.{bar_marks, glyph_if}, Changes.{behind_clef, change_marks, clef_if, head_marks, key_if, new_entries}, Decos.{behind_deco, body_marks, deco_mark, deco_marks, note_marks}, Distances.{entry_gap, signature_side}, Kinds.{deco_glyph, head_glyph}, Graces.{at_end, grace_body, grace_head_ink, grace_marks}, Notes.{dot_marks, heads_marks, ledger_marks, note_heads, sign_mark, sign_marks}, Rests.{rest_dots, rest_glyphs, rest_marks, short_rests}, Signatures.{entry_mark, entry_marks, meter_if, meter_marks}, Stems.{flag_marks, flags_or_stubs, stem_if, stem_marks, stub_marks}, Drawing.{glyph, loose_glyph, stem}}
+use Rattle.std.proofs.Common.{ℕ, zero, suc, ℤ, ◌+◌, ◌-◌, max, Bool, true, false, ◌==◌, ◌&&◌, if◌then◌else◌, List, []}
+use Rattle.std.proofs.Common.{◌∷◌, ◌++◌, Option, Some, None}
+use Rattle.std.specs.List.{AllByRecursion}
+use Rattle.std.specs.Prelude.{IfSome}
+use Rattle.mus_units.specs.declared.glyph.Glyph.{Glyph}
+use Rattle.mus_units.specs.declared.key.Key.{Key}
+use Rattle.mus_units.specs.declared.key.Meter.{Meter}
+use Rattle.mus_units.specs.declared.key.Sign.{Sign}
+use Rattle.mus_units.specs.declared.note.Bar.{Bar}
+use Rattle.mus_units.specs.declared.note.Deco.{Deco}
+use Rattle.mus_units.specs.declared.note.Head.{Head}
+use Rattle.mus_units.specs.declared.pitch.Alter.{Alter}
+use Rattle.mus_units.specs.declared.pitch.Clef.{Clef}
+use Rattle.mus_units.specs.declared.value.Base.{Base}
+use Rattle.mus_units.specs.Good.{IsGoodMeter}
+use Rattle.mus_score.specs.declared.score.Changes.{Changes}
+use Rattle.mus_score.specs.declared.score.Event.{Event}
+use Rattle.mus_score.specs.declared.score.Look.{Look}
+use Rattle.mus_stems.proofs.RunLaws.{all_append}
+use Rattle.mus_stems.specs.declared.dots.Spot.{Spot}
+use Rattle.mus_stems.specs.declared.plans.StemPlan.{StemPlan}
+use Rattle.mus_ink.specs.declared.graces.Group.{Group}
+use Rattle.mus_ink.specs.Bars.{bar_marks, glyph_if}
+use Rattle.mus_ink.specs.Changes.{behind_clef, change_marks, clef_if, head_marks, key_if, new_entries}
+use Rattle.mus_ink.specs.Decos.{behind_deco, body_marks, deco_mark, deco_marks, note_marks}
+use Rattle.mus_ink.specs.Distances.{entry_gap, signature_side}
+use Rattle.mus_ink.specs.Kinds.{deco_glyph, head_glyph}
+use Rattle.mus_ink.specs.Graces.{at_end, grace_body, grace_head_ink, grace_marks}
+use Rattle.mus_ink.specs.Notes.{dot_marks, heads_marks, ledger_marks, note_heads, sign_mark, sign_marks}
+use Rattle.mus_ink.specs.Rests.{rest_dots, rest_glyphs, rest_marks, short_rests}
+use Rattle.mus_ink.specs.Signatures.{entry_mark, entry_marks, meter_if, meter_marks}
+use Rattle.mus_ink.specs.Stems.{flag_marks, flags_or_stubs, stem_if, stem_marks, stub_marks}
+use Rattle.mus_ink.specs.Drawing.{glyph, loose_glyph, stem}
 use Rattle.mus_laid.specs.declared.drawn.LaneInk.{LaneInk}
 
 -- what is asked of each kind of mark

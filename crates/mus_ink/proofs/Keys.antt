@@ -1,5 +1,7 @@
 -- A key has at most seven signs.
-use Rattle.std.{proofs.{Common.{◌≡◌, ℕ, suc, ◌+◌, ◌≤◌, List, [], ◌∷◌, length, refl, cond, arith}, lemmas.List.Sums.sum_by-cons}, specs.Prelude.count_by}
+use Rattle.std.proofs.Common.{◌≡◌, ℕ, suc, ◌+◌, ◌≤◌, List, [], ◌∷◌, length, refl, cond, arith}
+use Rattle.std.proofs.lemmas.List.Sums.{sum_by-cons}
+use Rattle.std.specs.Prelude.{count_by}
 use Rattle.mus_units.specs.{declared.pitch.Letter.Letter, declared.key.Sign.Sign, Good.AreGoodSigns, Good.same_letter}
 
 abbrev count_of : Letter → List Sign → ℕ

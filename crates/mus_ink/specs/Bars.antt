@@ -1,6 +1,9 @@
 -- A bar: its body by its features, then the dots of a repeat before it and behind it.
 use Rattle.std.specs.Prelude.{pos, Bool, true, false, ◌&&◌, ◌||◌, if◌then◌else◌, List, [], ◌∷◌, ◌++◌}
-use Rattle.{mus_units.specs.{declared.glyph.Glyph.Glyph, declared.note.Bar.Bar}, mus_laid.specs.declared.drawn.LaneInk.{LaneInk}, mus_ink.specs.Drawing.{glyph}}
+use Rattle.mus_units.specs.declared.glyph.Glyph.{Glyph}
+use Rattle.mus_units.specs.declared.note.Bar.{Bar}
+use Rattle.mus_laid.specs.declared.drawn.LaneInk.{LaneInk}
+use Rattle.mus_ink.specs.Drawing.{glyph}
 
 -- what ends is thick on the left, what begins on the right; then come double, dotted and unseen bars
 unfoldable pub bar_glyph : Bar → Glyph

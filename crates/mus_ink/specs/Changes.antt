@@ -1,7 +1,13 @@
 -- The head of a staff, and a change before an event.
 use Rattle.std.specs.Prelude.{ℕ, ◌+◌, ◌*◌, true, false, List, [], ◌∷◌, ◌++◌, length, Option, Some, None}
-use Rattle.{mus_units.specs.{declared.pitch.Clef.Clef, declared.key.Sign.Sign, declared.key.Key.Key, declared.key.Meter.Meter}, mus_score.specs.declared.score.Changes.{Changes}, mus_laid.specs.declared.drawn.LaneInk.{LaneInk}}
-use Rattle.mus_ink.specs.{Distances.clef_side, Distances.clef_width, Distances.entry_gap, Distances.entry_step, Distances.signature_side, Signatures.clef_mark, Signatures.entry_marks, Signatures.meter_if}
+use Rattle.mus_units.specs.declared.pitch.Clef.{Clef}
+use Rattle.mus_units.specs.declared.key.Sign.{Sign}
+use Rattle.mus_units.specs.declared.key.Key.{Key}
+use Rattle.mus_units.specs.declared.key.Meter.{Meter}
+use Rattle.mus_score.specs.declared.score.Changes.{Changes}
+use Rattle.mus_laid.specs.declared.drawn.LaneInk.{LaneInk}
+use Rattle.mus_ink.specs.Distances.{clef_side, clef_width, entry_gap, entry_step, signature_side}
+use Rattle.mus_ink.specs.Signatures.{clef_mark, entry_marks, meter_if}
 
 -- the clef, the entries and the meter drawn there
 unfoldable pub head_marks : Clef → List Sign → Option Meter → List LaneInk

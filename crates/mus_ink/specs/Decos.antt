@@ -1,8 +1,18 @@
 -- The top of an event, its decorations, and all marks of an event but its syllables and texts.
-use Rattle.std.specs.{Prelude.{ℕ, ℤ, pos, ◌+ℤ◌, Bool, true, false, List, [], ◌∷◌, ◌++◌, Option, Some, None}, Int.int_max}
-use Rattle.{mus_units.specs.{declared.glyph.Glyph.Glyph, declared.pitch.Clef.Clef, declared.note.Head.Head, declared.note.Deco.Deco}, mus_score.specs.declared.score.Event.{Event}}
+use Rattle.std.specs.Prelude.{ℕ, ℤ, pos, ◌+ℤ◌, Bool, true, false, List, [], ◌∷◌, ◌++◌, Option, Some, None}
+use Rattle.std.specs.Int.{int_max}
+use Rattle.mus_units.specs.declared.glyph.Glyph.{Glyph}
+use Rattle.mus_units.specs.declared.pitch.Clef.{Clef}
+use Rattle.mus_units.specs.declared.note.Head.{Head}
+use Rattle.mus_units.specs.declared.note.Deco.{Deco}
+use Rattle.mus_score.specs.declared.score.Event.{Event}
 use Rattle.{mus_stems.specs.declared.plans.StemPlan.{StemPlan}, mus_laid.specs.declared.drawn.LaneInk.{LaneInk}}
-use Rattle.mus_ink.specs.{Distances.deco_gap, Distances.deco_line, Distances.deco_step, Distances.top_line, Drawing.cut_dy, Drawing.glyph, Kinds.deco_glyph, Notes.dy_of, Notes.highest_dy, Notes.heads_marks, Stems.stem_marks, Rests.rest_marks}
+use Rattle.mus_ink.specs.Distances.{deco_gap, deco_line, deco_step, top_line}
+use Rattle.mus_ink.specs.Drawing.{cut_dy, glyph}
+use Rattle.mus_ink.specs.Kinds.{deco_glyph}
+use Rattle.mus_ink.specs.Notes.{dy_of, highest_dy, heads_marks}
+use Rattle.mus_ink.specs.Stems.{stem_marks}
+use Rattle.mus_ink.specs.Rests.{rest_marks}
 
 abbrev pub with_stem : Bool → ℤ → ℤ → ℤ
 with_stem true to top = int_max top to

@@ -1,8 +1,18 @@
 -- What is drawn in a column, with its lane: a glyph, a text of big characters, a stem; and a beam from one column to
 -- another. Nothing here says where these columns stand.
-use Rattle.std.specs.{Prelude.ℕ, Prelude.ℤ, Prelude.pos, Prelude.◌*ℤ◌, Prelude.◌-ℤ◌, Prelude.List, Int.int_min, Int.int_max}
-use Rattle.{mus_units.specs.declared.glyph.{Glyph.Glyph, Way.Way, Size.Size}, mus_onsets.specs.declared.keys.ColumnKey.{ColumnKey}}
-use Rattle.{mus_laid.specs.declared.{drawn.Ink.Ink, drawn.LaneInk.LaneInk, drawn.Bridge.Bridge, drawn.BridgeShape.BridgeShape, laid.Lane.Lane}, mus_stems.specs.Distances.{staff_step}, mus_ink.specs.Distances.{greatest_height}}
+use Rattle.std.specs.Prelude.{ℕ, ℤ, pos, ◌*ℤ◌, ◌-ℤ◌, List}
+use Rattle.std.specs.Int.{int_min, int_max}
+use Rattle.mus_units.specs.declared.glyph.Glyph.{Glyph}
+use Rattle.mus_units.specs.declared.glyph.Way.{Way}
+use Rattle.mus_units.specs.declared.glyph.Size.{Size}
+use Rattle.mus_onsets.specs.declared.keys.ColumnKey.{ColumnKey}
+use Rattle.mus_laid.specs.declared.drawn.Ink.{Ink}
+use Rattle.mus_laid.specs.declared.drawn.LaneInk.{LaneInk}
+use Rattle.mus_laid.specs.declared.drawn.Bridge.{Bridge}
+use Rattle.mus_laid.specs.declared.drawn.BridgeShape.{BridgeShape}
+use Rattle.mus_laid.specs.declared.laid.Lane.{Lane}
+use Rattle.mus_stems.specs.Distances.{staff_step}
+use Rattle.mus_ink.specs.Distances.{greatest_height}
 
 -- to the left of a column, or down
 abbrev pub back : ℕ → ℤ

@@ -1,8 +1,23 @@
 -- Graces: each has a column of its own, and those before one event are a group.
-use Rattle.std.specs.{Prelude.{ℤ, pos, ◌+ℤ◌, ◌-ℤ◌, Bool, true, false, ◌&&◌, ◌==◌, if◌then◌else◌, List, [], ◌∷◌, ◌++◌, length, map}, Int.int_max}
-use Rattle.{mus_units.specs.declared.{glyph.Glyph.Glyph, pitch.Clef.Clef, note.Head.Head, glyph.Way.Way}, mus_score.specs.declared.score.Event.{Event}}
-use Rattle.{mus_stems.specs.{Heads.stand_of, Signs.signs_from, Ends.low_of, Ends.high_of, Ledgers.ledgers_of}, mus_laid.specs.{declared.drawn.LaneInk.LaneInk, declared.drawn.Bridge.Bridge}, mus_onsets.specs.declared.keys.ColumnKey.{ColumnKey}}
-use Rattle.mus_ink.specs.{declared.graces.Group.Group, Distances.{beam_thickness, grace_sign_side, grace_stem_length, grace_stem_side}, Drawing.{back, beam, cut_dy, glyph, stem}, Notes.{dy_of, highest_dy, lowest_dy, sign_marks, ledger_marks}}
+use Rattle.std.specs.Prelude.{ℤ, pos, ◌+ℤ◌, ◌-ℤ◌, Bool, true, false, ◌&&◌, ◌==◌, if◌then◌else◌, List, [], ◌∷◌, ◌++◌}
+use Rattle.std.specs.Prelude.{length, map}
+use Rattle.std.specs.Int.{int_max}
+use Rattle.mus_units.specs.declared.glyph.Glyph.{Glyph}
+use Rattle.mus_units.specs.declared.pitch.Clef.{Clef}
+use Rattle.mus_units.specs.declared.note.Head.{Head}
+use Rattle.mus_units.specs.declared.glyph.Way.{Way}
+use Rattle.mus_score.specs.declared.score.Event.{Event}
+use Rattle.mus_stems.specs.Heads.{stand_of}
+use Rattle.mus_stems.specs.Signs.{signs_from}
+use Rattle.mus_stems.specs.Ends.{low_of, high_of}
+use Rattle.mus_stems.specs.Ledgers.{ledgers_of}
+use Rattle.mus_laid.specs.declared.drawn.LaneInk.{LaneInk}
+use Rattle.mus_laid.specs.declared.drawn.Bridge.{Bridge}
+use Rattle.mus_onsets.specs.declared.keys.ColumnKey.{ColumnKey}
+use Rattle.mus_ink.specs.declared.graces.Group.{Group}
+use Rattle.mus_ink.specs.Distances.{beam_thickness, grace_sign_side, grace_stem_length, grace_stem_side}
+use Rattle.mus_ink.specs.Drawing.{back, beam, cut_dy, glyph, stem}
+use Rattle.mus_ink.specs.Notes.{dy_of, highest_dy, lowest_dy, sign_marks, ledger_marks}
 
 -- where the stem of a grace alone ends, by its highest head
 unfoldable pub above_head : ℤ → ℤ

@@ -1,6 +1,13 @@
 -- What is drawn by which glyph, and where: a row for each clef, sign, base and decoration.
-use Rattle.{std.specs.Prelude.{ℤ, pos, negsuc, Bool, true, false, Option, Some, None}, mus_units.specs.declared.{glyph.Glyph.Glyph, pitch.Alter.Alter, pitch.Clef.Clef, note.Deco.Deco, value.Base.Base}}
-use Rattle.mus_ink.specs.{declared.kinds.Entries.Entries, declared.kinds.ClefRow.ClefRow, declared.kinds.RestRow.RestRow}
+use Rattle.std.specs.Prelude.{ℤ, pos, negsuc, Bool, true, false, Option, Some, None}
+use Rattle.mus_units.specs.declared.glyph.Glyph.{Glyph}
+use Rattle.mus_units.specs.declared.pitch.Alter.{Alter}
+use Rattle.mus_units.specs.declared.pitch.Clef.{Clef}
+use Rattle.mus_units.specs.declared.note.Deco.{Deco}
+use Rattle.mus_units.specs.declared.value.Base.{Base}
+use Rattle.mus_ink.specs.declared.kinds.Entries.{Entries}
+use Rattle.mus_ink.specs.declared.kinds.ClefRow.{ClefRow}
+use Rattle.mus_ink.specs.declared.kinds.RestRow.{RestRow}
 
 -- a clef: its glyph, the line that it names, and the heights of sharps and of flats of a signature, those of
 -- F, C, G, D, A, E and B; all heights in steps above the bottom line

@@ -1,7 +1,16 @@
 -- The heads of an event, and what stands beside them: signs, ledger lines and dots.
 use Rattle.std.specs.{Prelude.{ℤ, pos, List, [], ◌∷◌, ◌++◌, Option, Some}, Int.{int_max, int_min}}
-use Rattle.mus_units.specs.{Pitch.height_of, declared.glyph.Glyph.Glyph, declared.pitch.Alter.Alter, declared.pitch.Clef.Clef, declared.note.Head.Head, declared.value.Base.Base}
-use Rattle.{mus_stems.specs.{declared.dots.Spot.Spot, declared.plans.StemPlan.StemPlan}, mus_laid.specs.declared.drawn.LaneInk.{LaneInk}, mus_ink.specs.{Drawing.glyph, Drawing.steps_dy, Kinds.head_glyph, Kinds.sign_glyph}}
+use Rattle.mus_units.specs.Pitch.{height_of}
+use Rattle.mus_units.specs.declared.glyph.Glyph.{Glyph}
+use Rattle.mus_units.specs.declared.pitch.Alter.{Alter}
+use Rattle.mus_units.specs.declared.pitch.Clef.{Clef}
+use Rattle.mus_units.specs.declared.note.Head.{Head}
+use Rattle.mus_units.specs.declared.value.Base.{Base}
+use Rattle.mus_stems.specs.declared.dots.Spot.{Spot}
+use Rattle.mus_stems.specs.declared.plans.StemPlan.{StemPlan}
+use Rattle.mus_laid.specs.declared.drawn.LaneInk.{LaneInk}
+use Rattle.mus_ink.specs.Drawing.{glyph, steps_dy}
+use Rattle.mus_ink.specs.Kinds.{head_glyph, sign_glyph}
 
 unfoldable pub dy_of : Clef → Head → ℤ
 dy_of c h = steps_dy (height_of h.pitch c)

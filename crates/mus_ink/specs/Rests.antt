@@ -1,7 +1,13 @@
 -- Rests. raise is 0 where a voice has a staff of its own.
 use Rattle.std.specs.Prelude.{ℕ, zero, suc, ℤ, pos, ◌+◌, ◌*◌, ◌+ℤ◌, ◌-ℤ◌, List, [], ◌∷◌, ◌++◌}
-use Rattle.{mus_units.specs.{declared.glyph.Glyph.Glyph, declared.value.Base.Base}, mus_score.specs.declared.score.Look.{Look}, mus_laid.specs.declared.drawn.LaneInk.{LaneInk}}
-use Rattle.mus_ink.specs.{declared.kinds.RestRow.RestRow, Distances.dot_side, Distances.dot_step, Distances.rest_dot_line, Distances.rest_step, Drawing.cut_dy, Drawing.glyph, Drawing.steps_dy, Kinds.rest_row}
+use Rattle.mus_units.specs.declared.glyph.Glyph.{Glyph}
+use Rattle.mus_units.specs.declared.value.Base.{Base}
+use Rattle.mus_score.specs.declared.score.Look.{Look}
+use Rattle.mus_laid.specs.declared.drawn.LaneInk.{LaneInk}
+use Rattle.mus_ink.specs.declared.kinds.RestRow.{RestRow}
+use Rattle.mus_ink.specs.Distances.{dot_side, dot_step, rest_dot_line, rest_step}
+use Rattle.mus_ink.specs.Drawing.{cut_dy, glyph, steps_dy}
+use Rattle.mus_ink.specs.Kinds.{rest_row}
 
 unfoldable pub raised : ℤ → ℤ → ℤ
 raised raise dy = cut_dy (dy +ℤ raise)

@@ -1,7 +1,16 @@
 -- Clefs, the entries of key signatures, and meters.
 use Rattle.std.specs.Prelude.{ℕ, ℤ, pos, ◌+◌, ◌*◌, Bool, true, false, List, [], ◌∷◌, Option, Some, None, codes, decimal}
-use Rattle.{mus_units.specs.declared.{pitch.Letter.Letter, pitch.Alter.Alter, pitch.Clef.Clef, key.Sign.Sign, key.Meter.Meter}, mus_laid.specs.declared.drawn.LaneInk.{LaneInk}}
-use Rattle.mus_ink.specs.{declared.kinds.ClefRow.ClefRow, declared.kinds.Entries.Entries, Distances.entry_step, Distances.lower_number_line, Distances.meter_sign_line, Distances.upper_number_line, Drawing.big_text, Drawing.glyph, Drawing.steps_dy, Kinds.clef_row, Kinds.sign_glyph}
+use Rattle.mus_units.specs.declared.pitch.Letter.{Letter}
+use Rattle.mus_units.specs.declared.pitch.Alter.{Alter}
+use Rattle.mus_units.specs.declared.pitch.Clef.{Clef}
+use Rattle.mus_units.specs.declared.key.Sign.{Sign}
+use Rattle.mus_units.specs.declared.key.Meter.{Meter}
+use Rattle.mus_laid.specs.declared.drawn.LaneInk.{LaneInk}
+use Rattle.mus_ink.specs.declared.kinds.ClefRow.{ClefRow}
+use Rattle.mus_ink.specs.declared.kinds.Entries.{Entries}
+use Rattle.mus_ink.specs.Distances.{entry_step, lower_number_line, meter_sign_line, upper_number_line}
+use Rattle.mus_ink.specs.Drawing.{big_text, glyph, steps_dy}
+use Rattle.mus_ink.specs.Kinds.{clef_row, sign_glyph}
 
 -- a clef stands at the line that it names
 abbrev pub clef_mark : ℕ → Clef → LaneInk

@@ -1,7 +1,10 @@
 -- Stems, and the flags or stubs at their ends.
-use Rattle.std.specs.Prelude.{ℕ, zero, suc, ℤ, pos, ◌+◌, ◌-◌, ◌*◌, max, ◌+ℤ◌, ◌-ℤ◌, Bool, true, false, ◌&&◌, ◌==◌, if◌then◌else◌, List, [], ◌∷◌, ◌++◌}
+use Rattle.std.specs.Prelude.{ℕ, zero, suc, ℤ, pos, ◌+◌, ◌-◌, ◌*◌, max, ◌+ℤ◌, ◌-ℤ◌, Bool, true, false, ◌&&◌, ◌==◌}
+use Rattle.std.specs.Prelude.{if◌then◌else◌, List, [], ◌∷◌, ◌++◌}
 use Rattle.{mus_stems.specs.declared.plans.StemPlan.{StemPlan}, mus_laid.specs.declared.drawn.LaneInk.{LaneInk}}
-use Rattle.mus_ink.specs.{Distances.beam_thickness, Distances.level_step, Distances.stem_side, Drawing.back, Drawing.cut_dy, Drawing.glyph, Drawing.loose_glyph, Drawing.stem, Kinds.flag_glyph, Kinds.stub_glyph}
+use Rattle.mus_ink.specs.Distances.{beam_thickness, level_step, stem_side}
+use Rattle.mus_ink.specs.Drawing.{back, cut_dy, glyph, loose_glyph, stem}
+use Rattle.mus_ink.specs.Kinds.{flag_glyph, stub_glyph}
 
 -- a stem stands right of the heads, or left of them
 abbrev pub stem_dx : Bool → ℤ

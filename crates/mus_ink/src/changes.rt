@@ -1,5 +1,7 @@
 ghost use Rattle.std.specs.Prelude.{◌≡◌, ◌≤◌, length, IfSome, OnOk};
-ghost use Rattle.{mus_units.specs.Good.{AreGoodSigns, IsGoodKey}, mus_ink.specs.Changes.{head_marks, clef_if, behind_clef, new_entries, key_if, new_count, count_if, change_marks}};
+ghost use Rattle.mus_units.specs.Good.{AreGoodSigns, IsGoodKey};
+ghost use Rattle.mus_ink.specs.Changes.{head_marks, clef_if, behind_clef, new_entries, key_if, new_count, count_if};
+ghost use Rattle.mus_ink.specs.Changes.{change_marks};
 ghost use Rattle.mus_laid.specs.Ranked.{inked};
 
 use crate::distances::{CLEF_SIDE, CLEF_WIDTH, ENTRY_GAP, ENTRY_STEP, SIGNATURE_SIDE};

@@ -1,5 +1,6 @@
 ghost use Rattle.std.specs.Prelude.{◌≡◌, OnOk};
-ghost use Rattle.mus_ink.specs.Decos.{with_stem, top_of, first_deco, next_deco, deco_mark, behind_deco, deco_marks, body_marks, note_marks};
+ghost use Rattle.mus_ink.specs.Decos.{with_stem, top_of, first_deco, next_deco, deco_mark, behind_deco, deco_marks};
+ghost use Rattle.mus_ink.specs.Decos.{body_marks, note_marks};
 ghost use Rattle.{mus_stems.specs.Slope.{with_end}, mus_laid.specs.Ranked.{inked}};
 
 use crate::distances::{DECO_GAP, DECO_LINE, DECO_STEP, TOP_LINE};

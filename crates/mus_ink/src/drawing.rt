@@ -1,5 +1,6 @@
 ghost use Rattle.std.specs.Prelude.{◌≡◌, ◌++◌, ◌∷◌, [], OnOk};
-ghost use Rattle.{mus_ink.specs.Drawing.{cut_dy, steps_dy, glyph, loose_glyph, big_text, stem, beam}, mus_laid.specs.Ranked.{inked}};
+ghost use Rattle.mus_ink.specs.Drawing.{cut_dy, steps_dy, glyph, loose_glyph, big_text, stem, beam};
+ghost use Rattle.mus_laid.specs.Ranked.{inked};
 
 use crate::distances::{FURTHEST, STEP};
 use mus_laid::{Bridge, BridgeShape, Ink, Lane, LaneInk, MarkPen};

@@ -1,6 +1,13 @@
 ghost use Rattle.std.specs.Prelude.{◌≡◌, ◌≤◌, ◌++◌, length, map, OnOk};
-ghost use Rattle.mus_stems.specs.{Heads.AllNear, Heads.stand_of, Signs.signs_from, Ends.low_of, Ends.high_of, Ledgers.ledgers_of};
-ghost use Rattle.mus_ink.specs.{Distances.grace_sign_side, Drawing.back, Notes.{sign_marks, ledger_marks}, Graces.{above_head, grace_own_end, greatest_end, group_end, group_of, grace_head_ink, grace_stem_from, at_end, ends, grace_body, grace_marks, beam_edge, grace_beam}};
+ghost use Rattle.mus_stems.specs.Heads.{AllNear, stand_of};
+ghost use Rattle.mus_stems.specs.Signs.{signs_from};
+ghost use Rattle.mus_stems.specs.Ends.{low_of, high_of};
+ghost use Rattle.mus_stems.specs.Ledgers.{ledgers_of};
+ghost use Rattle.mus_ink.specs.Distances.{grace_sign_side};
+ghost use Rattle.mus_ink.specs.Drawing.{back};
+ghost use Rattle.mus_ink.specs.Notes.{sign_marks, ledger_marks};
+ghost use Rattle.mus_ink.specs.Graces.{above_head, grace_own_end, greatest_end, group_end, group_of, grace_head_ink};
+ghost use Rattle.mus_ink.specs.Graces.{grace_stem_from, at_end, ends, grace_body, grace_marks, beam_edge, grace_beam};
 ghost use Rattle.mus_laid.specs.Ranked.{inked};
 
 use crate::distances::{BEAM_THICKNESS, GRACE_SIGN_SIDE, GRACE_STEM_LENGTH, GRACE_STEM_SIDE};

@@ -1,5 +1,6 @@
 ghost use Rattle.std.specs.Prelude.{◌≡◌};
-ghost use Rattle.mus_ink.specs.Kinds.{clef_by, clef_row, deco_glyph, entries_at, flag_glyph, head_glyph, rest_by, rest_row, sign_glyph, stub_glyph};
+ghost use Rattle.mus_ink.specs.Kinds.{clef_by, clef_row, deco_glyph, entries_at, flag_glyph, head_glyph, rest_by};
+ghost use Rattle.mus_ink.specs.Kinds.{rest_row, sign_glyph, stub_glyph};
 
 use mus_units::{Alter, Base, Clef, Deco, Glyph};
 

@@ -1,6 +1,9 @@
 ghost use Rattle.std.specs.{Prelude.{◌≡◌, ◌∷◌, [], OnOk}, List.list_all, Option.is_none};
 ghost use Rattle.mus_units.specs.Pitch.{height_of};
-ghost use Rattle.{mus_ink.specs.{Drawing.{cut_dy, glyph}, Notes.{dy_of, highest_dy, lowest_dy, sign_mark, sign_marks, ledger_marks, note_heads, dot_marks, heads_marks}}, mus_laid.specs.Ranked.{inked}};
+ghost use Rattle.mus_ink.specs.Drawing.{cut_dy, glyph};
+ghost use Rattle.mus_ink.specs.Notes.{dy_of, highest_dy, lowest_dy, sign_mark, sign_marks, ledger_marks, note_heads};
+ghost use Rattle.mus_ink.specs.Notes.{dot_marks, heads_marks};
+ghost use Rattle.mus_laid.specs.Ranked.{inked};
 
 use crate::drawing::{cut_dy, put_glyph, steps_dy};
 use crate::kinds::{head_glyph, sign_glyph};

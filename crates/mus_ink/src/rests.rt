@@ -1,6 +1,9 @@
 ghost use Rattle.std.specs.Prelude.{◌≡◌, ◌+◌, ◌*◌, ◌∷◌, [], pos, OnOk};
 ghost use Rattle.mus_units.specs.declared.glyph.Glyph.TheVariants.{Dt};
-ghost use Rattle.mus_ink.specs.{Distances.{dot_side, dot_step, rest_dot_line}, Drawing.glyph, Rests.{raised, rest_dy, short_dy, short_rests, rest_glyph, rest_glyphs, rest_dots, rest_marks}};
+ghost use Rattle.mus_ink.specs.Distances.{dot_side, dot_step, rest_dot_line};
+ghost use Rattle.mus_ink.specs.Drawing.{glyph};
+ghost use Rattle.mus_ink.specs.Rests.{raised, rest_dy, short_dy, short_rests, rest_glyph, rest_glyphs, rest_dots};
+ghost use Rattle.mus_ink.specs.Rests.{rest_marks};
 ghost use Rattle.mus_laid.specs.Ranked.{inked};
 
 use crate::distances::{DOT_SIDE, DOT_STEP, REST_DOT_LINE, REST_STEP};

@@ -1,5 +1,7 @@
 ghost use Rattle.std.specs.Prelude.{◌≡◌, ◌≤◌, ◌∷◌, [], length, decimal, IfOk, OnOk};
-ghost use Rattle.{mus_ink.specs.Signatures.{clef_mark, height_at, entries_for, entry_dy, shown_alter, entry_mark, entry_marks, meter_marks, meter_if}, mus_laid.specs.Ranked.{inked}};
+ghost use Rattle.mus_ink.specs.Signatures.{clef_mark, height_at, entries_for, entry_dy, shown_alter, entry_mark};
+ghost use Rattle.mus_ink.specs.Signatures.{entry_marks, meter_marks, meter_if};
+ghost use Rattle.mus_laid.specs.Ranked.{inked};
 
 use crate::distances::{ENTRY_STEP, LOWER_NUMBER_LINE, METER_SIGN_LINE, UPPER_NUMBER_LINE};
 use crate::drawing::{put_big_text, put_glyph, steps_dy};

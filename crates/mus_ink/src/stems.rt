@@ -1,5 +1,8 @@
 ghost use Rattle.std.specs.Prelude.{◌≡◌, ◌-◌, ◌∷◌, [], OnOk};
-ghost use Rattle.mus_ink.specs.{Drawing.{glyph, loose_glyph}, Kinds.{flag_glyph, stub_glyph}, Stems.{stem_dx, stem_if, flag_dy, flag_marks, lower_edge, stub_marks, flags_or_stubs, stem_marks}};
+ghost use Rattle.mus_ink.specs.Drawing.{glyph, loose_glyph};
+ghost use Rattle.mus_ink.specs.Kinds.{flag_glyph, stub_glyph};
+ghost use Rattle.mus_ink.specs.Stems.{stem_dx, stem_if, flag_dy, flag_marks, lower_edge, stub_marks, flags_or_stubs};
+ghost use Rattle.mus_ink.specs.Stems.{stem_marks};
 ghost use Rattle.{mus_stems.specs.Slope.{with_end}, mus_laid.specs.Ranked.{inked}};
 
 use crate::distances::{BEAM_THICKNESS, LEVEL_STEP, STEM_SIDE};

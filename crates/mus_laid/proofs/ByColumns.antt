@@ -1,6 +1,13 @@
 -- Marks that are put into their columns one by one stand there part by part.
-use Rattle.std.{proofs.{Common.{◌≡◌, ◌∙◌, ℕ, zero, suc, ◌+◌, ◌<◌, ◌≤◌, cond, Bool, true, false, List, [], ◌∷◌, ◌++◌, length, get_or, set, map, Some, None, refl, sym, ap, append_assoc, arith}, lemmas.{Bool.Decides.nat_tests, List.{append-nil, FromFn.map-range_with_len_more}}}, specs.List.{filter, flat_map, range_with_len}}
-use Rattle.mus_laid.specs.{declared.laid.Laid.Laid, Ranked.anchor_rank, Ranked.at_rank, Ranked.by_columns, Ranked.is_rank, Ranked.stands_at_rank, Ranked.with_mark, Ranked.with_part, Ranked.with_parts}
+use Rattle.std.proofs.Common.{◌≡◌, ◌∙◌, ℕ, zero, suc, ◌+◌, ◌<◌, ◌≤◌, cond, Bool, true, false, List, [], ◌∷◌, ◌++◌}
+use Rattle.std.proofs.Common.{length, get_or, set, map, Some, None, refl, sym, ap, append_assoc, arith}
+use Rattle.std.proofs.lemmas.Bool.Decides.{nat_tests}
+use Rattle.std.proofs.lemmas.List.{append-nil}
+use Rattle.std.proofs.lemmas.List.FromFn.{map-range_with_len_more}
+use Rattle.std.specs.List.{filter, flat_map, range_with_len}
+use Rattle.mus_laid.specs.declared.laid.Laid.{Laid}
+use Rattle.mus_laid.specs.Ranked.{anchor_rank, at_rank, by_columns, is_rank, stands_at_rank, with_mark, with_part}
+use Rattle.mus_laid.specs.Ranked.{with_parts}
 
 -- ---- one mark
 stands : (r q : ℕ) (x : Laid) → anchor_rank x.mark ≡ Some q → r ≡ q → stands_at_rank r x ≡ true

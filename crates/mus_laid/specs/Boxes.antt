@@ -1,8 +1,15 @@
 -- The boxes that marks fill: from the least to the greatest height, and from the left to the right
 -- of the column. Stems, beams and arcs have heights alone.
-use Rattle.std.specs.{Prelude.{ℕ, ℤ, pos, negsuc, ◌*◌, ◌≤◌, ◌+ℤ◌, ⊤, List, [], ◌∷◌, length, Option, Some, None}, Int.{int_min, int_max}, List.AllByRecursion}
-use Rattle.{mus_units.specs.{declared.glyph.Glyph.Glyph, declared.glyph.Size.Size}, glyph_paths.specs.Bounds.{bounds_in}}
-use Rattle.mus_laid.specs.{declared.laid.Mark.Mark, declared.laid.Laid.Laid, declared.boxes.HeightRange.HeightRange, declared.boxes.Sides.Sides}
+use Rattle.std.specs.Prelude.{ℕ, ℤ, pos, negsuc, ◌*◌, ◌≤◌, ◌+ℤ◌, ⊤, List, [], ◌∷◌, length, Option, Some, None}
+use Rattle.std.specs.Int.{int_min, int_max}
+use Rattle.std.specs.List.{AllByRecursion}
+use Rattle.mus_units.specs.declared.glyph.Glyph.{Glyph}
+use Rattle.mus_units.specs.declared.glyph.Size.{Size}
+use Rattle.glyph_paths.specs.Bounds.{bounds_in}
+use Rattle.mus_laid.specs.declared.laid.Mark.{Mark}
+use Rattle.mus_laid.specs.declared.laid.Laid.{Laid}
+use Rattle.mus_laid.specs.declared.boxes.HeightRange.{HeightRange}
+use Rattle.mus_laid.specs.declared.boxes.Sides.{Sides}
 
 -- a text has at most 60 characters
 abbrev pub IsGoodMark : Mark → Type 0

@@ -1,7 +1,18 @@
 -- Marks by the ranks of their columns: what is drawn in a column by the rank of the column, and what goes from one
 -- column to another by the ranks of both. Nothing else of a mark depends on the system that it stands in.
-use Rattle.std.specs.{Prelude.{ℕ, ◌+◌, Bool, false, ◌==◌, List, [], ◌∷◌, ◌++◌, filter, flat_map, map, if◌then◌else◌, Option, Some, None}, List.range_with_len}
-use Rattle.{mus_onsets.specs.{declared.keys.ColumnKey.ColumnKey, Order.key_rank}, mus_laid.specs.declared.{drawn.Ink.Ink, drawn.LaneInk.LaneInk, drawn.BridgeShape.BridgeShape, drawn.Bridge.Bridge, laid.Laid.Laid, laid.Mark.Mark, laid.Lane.Lane, pen.MarkPen.MarkPen}}
+use Rattle.std.specs.Prelude.{ℕ, ◌+◌, Bool, false, ◌==◌, List, [], ◌∷◌, ◌++◌, filter, flat_map, map, if◌then◌else◌}
+use Rattle.std.specs.Prelude.{Option, Some, None}
+use Rattle.std.specs.List.{range_with_len}
+use Rattle.mus_onsets.specs.declared.keys.ColumnKey.{ColumnKey}
+use Rattle.mus_onsets.specs.Order.{key_rank}
+use Rattle.mus_laid.specs.declared.drawn.Ink.{Ink}
+use Rattle.mus_laid.specs.declared.drawn.LaneInk.{LaneInk}
+use Rattle.mus_laid.specs.declared.drawn.BridgeShape.{BridgeShape}
+use Rattle.mus_laid.specs.declared.drawn.Bridge.{Bridge}
+use Rattle.mus_laid.specs.declared.laid.Laid.{Laid}
+use Rattle.mus_laid.specs.declared.laid.Mark.{Mark}
+use Rattle.mus_laid.specs.declared.laid.Lane.{Lane}
+use Rattle.mus_laid.specs.declared.pen.MarkPen.{MarkPen}
 
 abbrev pub ink_at : ℕ → Ink → Mark
 ink_at r (Ink.Glyph glyph dx dy) = Mark.Glyph glyph r dx dy

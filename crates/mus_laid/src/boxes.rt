@@ -1,5 +1,7 @@
 ghost use Rattle.std.specs.{Prelude.◌≡◌, Prelude.◌+ℤ◌, Prelude.◌≤◌, Prelude.length, Int.int_min, Int.int_max};
-ghost use Rattle.mus_laid.specs.Boxes.{IsGoodMark, character_width, text_low, text_high, glyph_heights, text_heights, stem_heights, beam_heights, over_four, arc_heights, heights_of, glyph_sides, text_sides, sides_of, union_of_heights, staff_heights};
+ghost use Rattle.mus_laid.specs.Boxes.{IsGoodMark, character_width, text_low, text_high, glyph_heights, text_heights};
+ghost use Rattle.mus_laid.specs.Boxes.{stem_heights, beam_heights, over_four, arc_heights, heights_of, glyph_sides};
+ghost use Rattle.mus_laid.specs.Boxes.{text_sides, sides_of, union_of_heights, staff_heights};
 
 use crate::laid::{Laid, Mark};
 use glyph_paths::bounds_of;

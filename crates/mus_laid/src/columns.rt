@@ -1,4 +1,5 @@
-ghost use Rattle.std.specs.{Prelude.◌≡◌, Prelude.◌++◌, Prelude.[], Prelude.map, Prelude.flat_map, Prelude.IfOk, Prelude.OnOk, List.range_with_len};
+ghost use Rattle.std.specs.Prelude.{◌≡◌, ◌++◌, [], map, flat_map, IfOk, OnOk};
+ghost use Rattle.std.specs.List.{range_with_len};
 ghost use Rattle.mus_laid.specs.Ranked.{anchor_rank, at_rank, by_columns, with_mark, with_part, with_parts};
 
 use crate::laid::{Laid, Mark};

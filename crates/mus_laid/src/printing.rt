@@ -1,4 +1,5 @@
-ghost use Rattle.std.specs.{Prelude.◌≡◌, Prelude.◌≤◌, Prelude.length, Prelude.IfOk, Prelude.map, Prelude.take, Prelude.true, List.list_all};
+ghost use Rattle.std.specs.Prelude.{◌≡◌, ◌≤◌, length, IfOk, map, take, true};
+ghost use Rattle.std.specs.List.{list_all};
 ghost use Rattle.mus_laid.specs.Printed.{printed_byte, printed_within, printed, is_printable};
 
 use mus_units::{Memory, Text};

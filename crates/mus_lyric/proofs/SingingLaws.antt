@@ -1,6 +1,14 @@
 -- Syllables are sung in one way on the notes of a line, and it is the one that a walk gives.
-use Rattle.std.proofs.{Common.{◌≡◌, ◌≤◌, ◌<◌, ℕ, ◌+◌, List, [], ◌∷◌, ◌++◌, refl, sym, ◌∙◌, ap, subst, append_assoc, inl, inr, arith}, lemmas.{Bool.{cases_lt, lt-ltb, le-ltb}, List.Elements.{All-nil, All-cons, All-head, All-tail, All-append, All-weaker}}}
-use Rattle.mus_lyric.specs.{declared.{singing.{NoteAt.NoteAt, Sung.Sung}, syllable.Syl.{Syl, TheVariants.{Print, Skip, Bar}}}, Singing.{AreBefore, AreSungOn, Sings, TakesNote, bar, dropped, ends, first_measure, notes_from, on_first, with_sung, sung_from, sung_on, takes}}
+use Rattle.std.proofs.Common.{◌≡◌, ◌≤◌, ◌<◌, ℕ, ◌+◌, List, [], ◌∷◌, ◌++◌, refl, sym, ◌∙◌, ap, subst, append_assoc, inl}
+use Rattle.std.proofs.Common.{inr, arith}
+use Rattle.std.proofs.lemmas.Bool.{cases_lt, lt-ltb, le-ltb}
+use Rattle.std.proofs.lemmas.List.Elements.{All-nil, All-cons, All-head, All-tail, All-append, All-weaker}
+use Rattle.mus_lyric.specs.declared.singing.NoteAt.{NoteAt}
+use Rattle.mus_lyric.specs.declared.singing.Sung.{Sung}
+use Rattle.mus_lyric.specs.declared.syllable.Syl.{Syl}
+use Rattle.mus_lyric.specs.declared.syllable.Syl.TheVariants.{Print, Skip, Bar}
+use Rattle.mus_lyric.specs.Singing.{AreBefore, AreSungOn, Sings, TakesNote, bar, dropped, ends, first_measure}
+use Rattle.mus_lyric.specs.Singing.{notes_from, on_first, with_sung, sung_from, sung_on, takes}
 
 later : (count more : ℕ) (notes : List NoteAt) → count ≤ more → AreBefore count notes → AreBefore more notes
 later count more notes le h = All-weaker (λ n. n.measure < count) (λ n. n.measure < more) (λ n lt. omega arith) notes h

@@ -1,6 +1,12 @@
 -- Characters spell one list of syllables, and it is the one that a walk gives.
-use Rattle.std.proofs.{Common.{◌≡◌, ℕ, List, [], ◌∷◌, ◌++◌, refl, sym, ◌∙◌, ap, subst, append_assoc, append-nil}, lemmas.List.map-append}
-use Rattle.mus_lyric.specs.{declared.{character.Character.{Character, TheVariants.{Printed, Blank, Hyphen, Underscore, Star, BarLine}}, syllable.Syl.Syl}, Characters.characters, Syllables.{AreSyllablesOf, EndsRun, SpellsSyllables, nothing, blank, word, hyphened, hyphen, underscore, star, bar, printed_run, behind_run, syllables_of}}
+use Rattle.std.proofs.Common.{◌≡◌, ℕ, List, [], ◌∷◌, ◌++◌, refl, sym, ◌∙◌, ap, subst, append_assoc, append-nil}
+use Rattle.std.proofs.lemmas.List.{map-append}
+use Rattle.mus_lyric.specs.declared.character.Character.{Character}
+use Rattle.mus_lyric.specs.declared.character.Character.TheVariants.{Printed, Blank, Hyphen, Underscore, Star, BarLine}
+use Rattle.mus_lyric.specs.declared.syllable.Syl.{Syl}
+use Rattle.mus_lyric.specs.Characters.{characters}
+use Rattle.mus_lyric.specs.Syllables.{AreSyllablesOf, EndsRun, SpellsSyllables, nothing, blank, word, hyphened, hyphen}
+use Rattle.mus_lyric.specs.Syllables.{underscore, star, bar, printed_run, behind_run, syllables_of}
 use Rattle.mus_lyric.specs.declared.syllable.Syl.TheVariants as syl
 
 behind_run-printed : (before run : List ℕ) (more : List Character) → behind_run before (printed_run run ++ more) ≡ behind_run (before ++ run) more

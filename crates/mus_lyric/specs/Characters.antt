@@ -1,6 +1,7 @@
 -- The characters of a line of words: each byte is printed or is a sign, and `\-` is a hyphen that is printed.
 use Rattle.std.specs.Prelude.{ℕ, List, [], ◌∷◌, Bool, ◌==◌, ◌&&◌, ◌||◌, if◌then◌else◌}
-use Rattle.mus_lyric.specs.declared.character.Character.{Character, TheVariants.{Printed, Blank, Hyphen, Underscore, Star, BarLine}}
+use Rattle.mus_lyric.specs.declared.character.Character.{Character}
+use Rattle.mus_lyric.specs.declared.character.Character.TheVariants.{Printed, Blank, Hyphen, Underscore, Star, BarLine}
 
 -- a byte by itself: space and tab, - _ * and | are signs, ~ is printed as a space, and each other byte as it is
 unfoldable pub character_of : ℕ → Character

@@ -1,6 +1,9 @@
 -- On which notes syllables are sung.
 use Rattle.std.specs.{Prelude.{◌≡◌, ◌≤◌, ◌<◌, ℕ, ◌+◌, List, [], ◌∷◌, ◌++◌, nat_lt, if◌then◌else◌}, List.All}
-use Rattle.mus_lyric.specs.declared.{singing.{NoteAt.NoteAt, Sung.Sung}, syllable.Syl.{Syl, TheVariants.{Print, Skip, Bar}}}
+use Rattle.mus_lyric.specs.declared.singing.NoteAt.{NoteAt}
+use Rattle.mus_lyric.specs.declared.singing.Sung.{Sung}
+use Rattle.mus_lyric.specs.declared.syllable.Syl.{Syl}
+use Rattle.mus_lyric.specs.declared.syllable.Syl.TheVariants.{Print, Skip, Bar}
 
 -- what a syllable or a skip puts on the note that it takes
 abbrev pub with_sung : Syl → NoteAt → List Sung → List Sung

@@ -1,7 +1,10 @@
 -- The syllables of a line of words. A run of printed characters is a syllable, as long as it can
 -- be, and a hyphen directly behind it is printed with it and ends it.
 use Rattle.std.specs.Prelude.{ℕ, List, [], ◌∷◌, ◌++◌, map}
-use Rattle.mus_lyric.specs.{declared.{character.Character.{Character, TheVariants.{Printed, Blank, Hyphen, Underscore, Star, BarLine}}, syllable.Syl.Syl}, Characters.characters}
+use Rattle.mus_lyric.specs.declared.character.Character.{Character}
+use Rattle.mus_lyric.specs.declared.character.Character.TheVariants.{Printed, Blank, Hyphen, Underscore, Star, BarLine}
+use Rattle.mus_lyric.specs.declared.syllable.Syl.{Syl}
+use Rattle.mus_lyric.specs.Characters.{characters}
 use Rattle.mus_lyric.specs.declared.syllable.Syl.TheVariants as syl
 
 -- no printed character and no hyphen stands first

@@ -1,5 +1,6 @@
 ghost use Rattle.std.specs.Prelude.{◌≡◌, ◌++◌, ◌∷◌, [], ◌≤◌, ◌<◌, ◌+◌, ◌^◌, List, IfOk, OnOk, MatchOption};
-ghost use Rattle.mus_lyric.specs.{declared.singing.Sung.Sung, Singing.{AreSungOn, first_measure, notes_from, with_sung, sung_from, sung_on}};
+ghost use Rattle.mus_lyric.specs.declared.singing.Sung.{Sung};
+ghost use Rattle.mus_lyric.specs.Singing.{AreSungOn, first_measure, notes_from, with_sung, sung_from, sung_on};
 
 use crate::syllable::Syl;
 use mus_units::{Memory, Row, Text};

@@ -1,5 +1,7 @@
 ghost use Rattle.std.specs.Prelude.{◌≡◌, ◌++◌, ◌∷◌, [], List, IfOk, OnOk};
-ghost use Rattle.mus_lyric.specs.{declared.syllable.Syl.Syl, Characters.characters, Syllables.{AreSyllablesOf, behind_run, run_ended, syllables_of}};
+ghost use Rattle.mus_lyric.specs.declared.syllable.Syl.{Syl};
+ghost use Rattle.mus_lyric.specs.Characters.{characters};
+ghost use Rattle.mus_lyric.specs.Syllables.{AreSyllablesOf, behind_run, run_ended, syllables_of};
 ghost use Rattle.mus_lyric.specs.declared.syllable.Syl.TheVariants as syl;
 
 use crate::character::{Character, first_character};

@@ -1,16 +1,79 @@
 -- Other ends of stems leave all but heights as it was: what is drawn of a voice has the shape of what is drawn of it with all
 -- ends at 0. So tilted marks are those that are called for, but for their heights.
-use Rattle.std.{proofs.{Common.{◌≡◌, ◌∙◌, ℕ, zero, suc, ℤ, pos, ◌+◌, ◌-◌, max, sum, Bool, true, false, ◌&&◌, ◌||◌, ◌==◌, nat_lt, if◌then◌else◌, cond, List, [], ◌∷◌, ◌++◌, length, map, take, drop, Option, Some, None, refl, sym, ap, subst}, lemmas.{List.{drop-map, map-append, take-map, Sums.sum_by-cons}, Option.slice_get-map, Simd.map-map}}, specs.{List.{All, AllByRecursion, count_by, filter, find, flat_map, range_with_len, slice_get, slice_index_or, slice_range}, Option.option_map}}
+use Rattle.std.proofs.Common.{◌≡◌, ◌∙◌, ℕ, zero, suc, ℤ, pos, ◌+◌, ◌-◌, max, sum, Bool, true, false, ◌&&◌, ◌||◌, ◌==◌}
+use Rattle.std.proofs.Common.{nat_lt, if◌then◌else◌, cond, List, [], ◌∷◌, ◌++◌, length, map, take, drop, Option, Some}
+use Rattle.std.proofs.Common.{None, refl, sym, ap, subst}
+use Rattle.std.proofs.lemmas.List.{drop-map, map-append, take-map}
+use Rattle.std.proofs.lemmas.List.Sums.{sum_by-cons}
+use Rattle.std.proofs.lemmas.Option.{slice_get-map}
+use Rattle.std.proofs.lemmas.Simd.{map-map}
+use Rattle.std.specs.List.{All, AllByRecursion, count_by, filter, find, flat_map, range_with_len, slice_get}
+use Rattle.std.specs.List.{slice_index_or, slice_range}
+use Rattle.std.specs.Option.{option_map}
 use Rattle.mus_units.specs.declared.{glyph.Glyph.Glyph, note.Bar.Bar, note.Deco.Deco, note.Head.Head, pitch.Clef.Clef}
-use Rattle.mus_score.specs.{declared.score.Event.Event, declared.score.Flat.Flat, declared.score.Score.Score, declared.score.Seat.Seat, GoodScore.IsGoodScore, Seats.is_lower}
-use Rattle.mus_onsets.specs.{declared.keys.ColumnKey.ColumnKey, Order.same_key, declared.times.Timeline.Timeline, Keys.called_keys}
-use Rattle.{mus_arcs.specs.{declared.cutting.Piece.Piece, declared.pairing.Arc.Arc, Pieces.piece_of}, mus_stems.specs.{declared.plans.StemPlan.StemPlan, Slope.with_end}}
-use Rattle.mus_laid.specs.{declared.{drawn.{Bridge.Bridge, LaneInk.LaneInk}, laid.{Laid.Laid, Mark.Mark, SystemMarks.SystemMarks, Lane.Lane}}, Printed.printed, Ranked.{anchor_rank, at_rank, bridge_at, by_columns, drawn_at, is_rank, stands_at_rank}, Shapes.{HaveSameShapes, laid_shape, mark_shape, marks_shape, staff_shape}, Boxes.AreGoodMarks}
-use Rattle.mus_ink.specs.{Decos.{behind_deco, body_marks, deco_mark, deco_marks, first_deco, next_deco, note_marks, top_of}, Distances.half_character, Drawing.{back, beam, glyph, loose_glyph}, Kinds.{deco_glyph, flag_glyph, stub_glyph}, Notes.heads_marks, Stems.{flag_dy, flag_marks, flags_or_stubs, lower_edge, stem_dx, stem_if, stem_marks, stub_marks}}
-use Rattle.mus_words.specs.{Arcs.{arc_mark, slur_mark, tie_mark}, Syllables.{syllable_dx, syllable_if, syllables_from, verse_dy}, Texts.{above_dy, above_from, below_dy, below_from, text_marks, texts_above, texts_below}, Words.words}
-use Rattle.mus_drawn.specs.{declared.drawn.DrawnEvent.DrawnEvent, declared.drawn.DrawnMeasure.DrawnMeasure, declared.drawn.DrawnVoice.DrawnVoice, Drawn.raise_of}
-use Rattle.mus_bridges.specs.{declared.stems.BeamStem.BeamStem, Beams.{beam_marks, beams_at, beams_from, goes_on_at_level, last_at, level_from, levels_before, levels_from, stem_of, way_of}, Arcs.{arc_between, arc_in, arcs_between, event_at, event_in, has_id, left_key, piece_between, right_key, seen_of}, Bridges.{beams_between, bridges_of, event_grace_beam, grace_beams_between, beam_stem_at}}
-use Rattle.mus_marks.{specs.{Events.{bar_part, change_part, event_marks, events_marks, graces_part, levels_behind, levels_in, measures_marks, no_texts, note_part, note_rank, text_place, words_marks, words_part}, Staff.{bare_marks, columns_part, first_bar_part, head_part, is_above, is_below_staff, is_words, own_part, room_over, staff_marks, staff_over, text_above, text_below, texts_behind, texts_with, verses_on, written_parts}, declared.events.{WordRoom.WordRoom, StaffRoom.StaffRoom, TextCounts.TextCounts}, System.{IsCall, drawn_staves}, Tilt.{IsTilted, tilted_staff, voice_tilted}}, proofs.{Ending.{flat_event, flat_measure, ended_fits, flat_voice}, Fitting.staves_fit, OneList.same_keys, Parts.FitsVoice, GoodMarks.staves_good}}
+use Rattle.mus_score.specs.declared.score.Event.{Event}
+use Rattle.mus_score.specs.declared.score.Flat.{Flat}
+use Rattle.mus_score.specs.declared.score.Score.{Score}
+use Rattle.mus_score.specs.declared.score.Seat.{Seat}
+use Rattle.mus_score.specs.GoodScore.{IsGoodScore}
+use Rattle.mus_score.specs.Seats.{is_lower}
+use Rattle.mus_onsets.specs.declared.keys.ColumnKey.{ColumnKey}
+use Rattle.mus_onsets.specs.Order.{same_key}
+use Rattle.mus_onsets.specs.declared.times.Timeline.{Timeline}
+use Rattle.mus_onsets.specs.Keys.{called_keys}
+use Rattle.mus_arcs.specs.declared.cutting.Piece.{Piece}
+use Rattle.mus_arcs.specs.declared.pairing.Arc.{Arc}
+use Rattle.mus_arcs.specs.Pieces.{piece_of}
+use Rattle.mus_stems.specs.declared.plans.StemPlan.{StemPlan}
+use Rattle.mus_stems.specs.Slope.{with_end}
+use Rattle.mus_laid.specs.declared.drawn.Bridge.{Bridge}
+use Rattle.mus_laid.specs.declared.drawn.LaneInk.{LaneInk}
+use Rattle.mus_laid.specs.declared.laid.Laid.{Laid}
+use Rattle.mus_laid.specs.declared.laid.Mark.{Mark}
+use Rattle.mus_laid.specs.declared.laid.SystemMarks.{SystemMarks}
+use Rattle.mus_laid.specs.declared.laid.Lane.{Lane}
+use Rattle.mus_laid.specs.Printed.{printed}
+use Rattle.mus_laid.specs.Ranked.{anchor_rank, at_rank, bridge_at, by_columns, drawn_at, is_rank, stands_at_rank}
+use Rattle.mus_laid.specs.Shapes.{HaveSameShapes, laid_shape, mark_shape, marks_shape, staff_shape}
+use Rattle.mus_laid.specs.Boxes.{AreGoodMarks}
+use Rattle.mus_ink.specs.Decos.{behind_deco, body_marks, deco_mark, deco_marks, first_deco, next_deco, note_marks}
+use Rattle.mus_ink.specs.Decos.{top_of}
+use Rattle.mus_ink.specs.Distances.{half_character}
+use Rattle.mus_ink.specs.Drawing.{back, beam, glyph, loose_glyph}
+use Rattle.mus_ink.specs.Kinds.{deco_glyph, flag_glyph, stub_glyph}
+use Rattle.mus_ink.specs.Notes.{heads_marks}
+use Rattle.mus_ink.specs.Stems.{flag_dy, flag_marks, flags_or_stubs, lower_edge, stem_dx, stem_if, stem_marks}
+use Rattle.mus_ink.specs.Stems.{stub_marks}
+use Rattle.mus_words.specs.Arcs.{arc_mark, slur_mark, tie_mark}
+use Rattle.mus_words.specs.Syllables.{syllable_dx, syllable_if, syllables_from, verse_dy}
+use Rattle.mus_words.specs.Texts.{above_dy, above_from, below_dy, below_from, text_marks, texts_above, texts_below}
+use Rattle.mus_words.specs.Words.{words}
+use Rattle.mus_drawn.specs.declared.drawn.DrawnEvent.{DrawnEvent}
+use Rattle.mus_drawn.specs.declared.drawn.DrawnMeasure.{DrawnMeasure}
+use Rattle.mus_drawn.specs.declared.drawn.DrawnVoice.{DrawnVoice}
+use Rattle.mus_drawn.specs.Drawn.{raise_of}
+use Rattle.mus_bridges.specs.declared.stems.BeamStem.{BeamStem}
+use Rattle.mus_bridges.specs.Beams.{beam_marks, beams_at, beams_from, goes_on_at_level, last_at, level_from}
+use Rattle.mus_bridges.specs.Beams.{levels_before, levels_from, stem_of, way_of}
+use Rattle.mus_bridges.specs.Arcs.{arc_between, arc_in, arcs_between, event_at, event_in, has_id, left_key}
+use Rattle.mus_bridges.specs.Arcs.{piece_between, right_key, seen_of}
+use Rattle.mus_bridges.specs.Bridges.{beams_between, bridges_of, event_grace_beam, grace_beams_between, beam_stem_at}
+use Rattle.mus_marks.specs.Events.{bar_part, change_part, event_marks, events_marks, graces_part, levels_behind}
+use Rattle.mus_marks.specs.Events.{levels_in, measures_marks, no_texts, note_part, note_rank, text_place, words_marks}
+use Rattle.mus_marks.specs.Events.{words_part}
+use Rattle.mus_marks.specs.Staff.{bare_marks, columns_part, first_bar_part, head_part, is_above, is_below_staff}
+use Rattle.mus_marks.specs.Staff.{is_words, own_part, room_over, staff_marks, staff_over, text_above, text_below}
+use Rattle.mus_marks.specs.Staff.{texts_behind, texts_with, verses_on, written_parts}
+use Rattle.mus_marks.specs.declared.events.WordRoom.{WordRoom}
+use Rattle.mus_marks.specs.declared.events.StaffRoom.{StaffRoom}
+use Rattle.mus_marks.specs.declared.events.TextCounts.{TextCounts}
+use Rattle.mus_marks.specs.System.{IsCall, drawn_staves}
+use Rattle.mus_marks.specs.Tilt.{IsTilted, tilted_staff, voice_tilted}
+use Rattle.mus_marks.proofs.Ending.{flat_event, flat_measure, ended_fits, flat_voice}
+use Rattle.mus_marks.proofs.Fitting.{staves_fit}
+use Rattle.mus_marks.proofs.OneList.{same_keys}
+use Rattle.mus_marks.proofs.Parts.{FitsVoice}
+use Rattle.mus_marks.proofs.GoodMarks.{staves_good}
 use Rattle.mus_laid.specs.declared.laid.Lane.TheVariants as lanes
 
 joined : {X Y : Type 0} (f : X → Y) (xs ys us vs : List X) → map f xs ≡ map f us → map f ys ≡ map f vs → map f (xs ++ ys) ≡ map f (us ++ vs)

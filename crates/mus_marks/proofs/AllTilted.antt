@@ -1,7 +1,17 @@
 -- Voices that are tilted all at once: what they keep, and the staves that they stand on.
-use Rattle.std.{proofs.{Common.{◌≡◌, ◌∙◌, ℕ, ℤ, List, [], ◌∷◌, length, sum, map, refl, sym, ap, subst}, lemmas.{List.{Elements.{All-map}}, Simd.map-map}}, specs.List.{All, slice_index_or, slice_range}}
-use Rattle.{mus_score.specs.Seats.{grouped}, mus_onsets.specs.declared.keys.ColumnKey.{ColumnKey}, mus_drawn.specs.{declared.drawn.DrawnVoice.DrawnVoice, Good.AreGoodMeasures}}
-use Rattle.mus_marks.{specs.{Staff.{staff_marks, verses_on}, System.is_drawn_lower, Tilt.{over, sloped_over, tilted_staff, voice_ended, voice_tilted}}, proofs.{Ending.{ended_good, ended_length}, Groups.grouped_map}}
+use Rattle.std.proofs.Common.{◌≡◌, ◌∙◌, ℕ, ℤ, List, [], ◌∷◌, length, sum, map, refl, sym, ap, subst}
+use Rattle.std.proofs.lemmas.List.Elements.{All-map}
+use Rattle.std.proofs.lemmas.Simd.{map-map}
+use Rattle.std.specs.List.{All, slice_index_or, slice_range}
+use Rattle.mus_score.specs.Seats.{grouped}
+use Rattle.mus_onsets.specs.declared.keys.ColumnKey.{ColumnKey}
+use Rattle.mus_drawn.specs.declared.drawn.DrawnVoice.{DrawnVoice}
+use Rattle.mus_drawn.specs.Good.{AreGoodMeasures}
+use Rattle.mus_marks.specs.Staff.{staff_marks, verses_on}
+use Rattle.mus_marks.specs.System.{is_drawn_lower}
+use Rattle.mus_marks.specs.Tilt.{over, sloped_over, tilted_staff, voice_ended, voice_tilted}
+use Rattle.mus_marks.proofs.Ending.{ended_good, ended_length}
+use Rattle.mus_marks.proofs.Groups.{grouped_map}
 
 over_own : {A B : Type 0} (f : B → A → A) (g : A → B) (xs : List A) → over f (map g xs) xs ≡ map (λ x. f (g x) x) xs
 over_own f g [] = refl

@@ -1,6 +1,15 @@
 -- Lists of marks put together by columns: what holds of all marks of the lists, which marks stand in the columns, and what is taken from one column.
-use Rattle.std.{proofs.{Common.{◌≡◌, ◌∙◌, ℕ, zero, suc, ◌+◌, ◌<◌, Bool, true, false, cond, ◌⊎◌, inl, inr, List, [], ◌∷◌, ◌++◌, Option, Some, None, refl, sym, ap, subst, arith}, lemmas.{Bool.Decides.nat_tests, List.{append-nil, Elements.{filter_map-append, Contains-append_cases, Contains-append_left, Contains-append_right}}}}, specs.List.{AllByRecursion, Contains, cons_option, filter, filter_map, flat_map, range_with_len}}
-use Rattle.{mus_stems.proofs.RunLaws.{all_append}, mus_laid.specs.{declared.laid.Laid.Laid, Ranked.anchor_rank, Ranked.at_rank, Ranked.by_columns, Ranked.is_rank, Ranked.stands_at_rank}, mus_marks.proofs.Inside.{filter_has, none_there}}
+use Rattle.std.proofs.Common.{◌≡◌, ◌∙◌, ℕ, zero, suc, ◌+◌, ◌<◌, Bool, true, false, cond, ◌⊎◌, inl, inr, List, [], ◌∷◌}
+use Rattle.std.proofs.Common.{◌++◌, Option, Some, None, refl, sym, ap, subst, arith}
+use Rattle.std.proofs.lemmas.Bool.Decides.{nat_tests}
+use Rattle.std.proofs.lemmas.List.{append-nil}
+use Rattle.std.proofs.lemmas.List.Elements.{filter_map-append, Contains-append_cases, Contains-append_left}
+use Rattle.std.proofs.lemmas.List.Elements.{Contains-append_right}
+use Rattle.std.specs.List.{AllByRecursion, Contains, cons_option, filter, filter_map, flat_map, range_with_len}
+use Rattle.mus_stems.proofs.RunLaws.{all_append}
+use Rattle.mus_laid.specs.declared.laid.Laid.{Laid}
+use Rattle.mus_laid.specs.Ranked.{anchor_rank, at_rank, by_columns, is_rank, stands_at_rank}
+use Rattle.mus_marks.proofs.Inside.{filter_has, none_there}
 
 -- ---- what holds of all
 module _ (P : Laid → Type 0) where

@@ -1,7 +1,15 @@
 -- Texts that are counted mark by mark are those of all marks of a part.
-use Rattle.std.{proofs.{Common.{◌≡◌, ◌∙◌, ℕ, zero, suc, ◌+◌, ◌<◌, ◌≤◌, ◌&&◌, if◌then◌else◌, cond, Bool, true, false, List, [], ◌∷◌, ◌++◌, length, get_or, set, map, Some, None, refl, sym, ap, arith}, lemmas.{Bool.Decides.nat_tests, List.{FromFn.map-range_with_len_more, Sums.sum_by-cons}}}, specs.List.{count_by, range_with_len, slice_index_or}}
+use Rattle.std.proofs.Common.{◌≡◌, ◌∙◌, ℕ, zero, suc, ◌+◌, ◌<◌, ◌≤◌, ◌&&◌, if◌then◌else◌, cond, Bool, true, false, List}
+use Rattle.std.proofs.Common.{[], ◌∷◌, ◌++◌, length, get_or, set, map, Some, None, refl, sym, ap, arith}
+use Rattle.std.proofs.lemmas.Bool.Decides.{nat_tests}
+use Rattle.std.proofs.lemmas.List.FromFn.{map-range_with_len_more}
+use Rattle.std.proofs.lemmas.List.Sums.{sum_by-cons}
+use Rattle.std.specs.List.{count_by, range_with_len, slice_index_or}
 use Rattle.mus_laid.specs.{declared.laid.Laid.Laid, Ranked.anchor_rank, Ranked.is_rank, Ranked.stands_at_rank}
-use Rattle.mus_marks.specs.{declared.events.TextCounts.TextCounts, Events.no_texts, Places.text_counted, Places.with_text_counted, Places.with_texts_counted, Staff.is_above, Staff.is_below_staff, Staff.is_words, Staff.text_above, Staff.text_below, Staff.texts_behind, Staff.texts_with}
+use Rattle.mus_marks.specs.declared.events.TextCounts.{TextCounts}
+use Rattle.mus_marks.specs.Events.{no_texts}
+use Rattle.mus_marks.specs.Places.{text_counted, with_text_counted, with_texts_counted}
+use Rattle.mus_marks.specs.Staff.{is_above, is_below_staff, is_words, text_above, text_below, texts_behind, texts_with}
 
 -- ---- one mark
 stands : (r q : ℕ) (x : Laid) → anchor_rank x.mark ≡ Some q → r ≡ q → stands_at_rank r x ≡ true

@@ -1,8 +1,16 @@
 -- Events with other ends: the walks that write them, what stays as it was, and how it is undone.
-use Rattle.std.{proofs.{Common.{◌≡◌, ◌∙◌, ℕ, zero, suc, ℤ, pos, ◌+◌, ◌<◌, ◌≤◌, List, [], ◌∷◌, ◌++◌, length, get_or, set, take, drop, map, refl, sym, ap, subst, arith}, lemmas.List.{length-map, map-append, set-get_or, take-append-drop, Elements.{All-from_recursion, recursion_from_All}}}, specs.List.{All, AllByRecursion}}
+use Rattle.std.proofs.Common.{◌≡◌, ◌∙◌, ℕ, zero, suc, ℤ, pos, ◌+◌, ◌<◌, ◌≤◌, List, [], ◌∷◌, ◌++◌, length, get_or, set}
+use Rattle.std.proofs.Common.{take, drop, map, refl, sym, ap, subst, arith}
+use Rattle.std.proofs.lemmas.List.{length-map, map-append, set-get_or, take-append-drop}
+use Rattle.std.proofs.lemmas.List.Elements.{All-from_recursion, recursion_from_All}
+use Rattle.std.specs.List.{All, AllByRecursion}
 use Rattle.mus_stems.proofs.RunLaws.{all_append, all_drop, all_take}
-use Rattle.mus_drawn.specs.{declared.drawn.DrawnEvent.DrawnEvent, declared.drawn.DrawnMeasure.DrawnMeasure, declared.drawn.DrawnVoice.DrawnVoice, Good.AreGoodMeasures, Good.IsGoodDrawn, Good.IsGoodMeasure}
-use Rattle.mus_marks.{specs.Tilt.{end_left, event_ended, measure_ended, measure_left, over, voice_ended, voice_left}, proofs.Parts.Fits, proofs.Parts.FitsEvent, proofs.Parts.FitsMeasure}
+use Rattle.mus_drawn.specs.declared.drawn.DrawnEvent.{DrawnEvent}
+use Rattle.mus_drawn.specs.declared.drawn.DrawnMeasure.{DrawnMeasure}
+use Rattle.mus_drawn.specs.declared.drawn.DrawnVoice.{DrawnVoice}
+use Rattle.mus_drawn.specs.Good.{AreGoodMeasures, IsGoodDrawn, IsGoodMeasure}
+use Rattle.mus_marks.specs.Tilt.{end_left, event_ended, measure_ended, measure_left, over, voice_ended, voice_left}
+use Rattle.mus_marks.proofs.Parts.{Fits, FitsEvent, FitsMeasure}
 
 -- ---- f of each element and what a list has for it
 module _ {A B : Type 0} (f : B → A → A) where

@@ -1,10 +1,24 @@
 -- The measures of a good voice have good meters, and each of its events has a place for each verse.
-use Rattle.std.{proofs.{Common.{ℕ, ◌+◌, ◌*◌, ◌≤◌, List, [], ◌∷◌, ◌++◌, length, map, Option, Some, None, arith}, lemmas.List.Elements.recursion_from_All}, specs.{List.AllByRecursion, Prelude.{IfSome, unwrap_or}}}
+use Rattle.std.proofs.Common.{ℕ, ◌+◌, ◌*◌, ◌≤◌, List, [], ◌∷◌, ◌++◌, length, map, Option, Some, None, arith}
+use Rattle.std.proofs.lemmas.List.Elements.{recursion_from_All}
+use Rattle.std.specs.List.{AllByRecursion}
+use Rattle.std.specs.Prelude.{IfSome, unwrap_or}
 use Rattle.mus_units.specs.{declared.key.Meter.Meter, Good.IsGoodMeter}
-use Rattle.mus_score.specs.{declared.score.Flat.Flat, declared.score.Measure.Measure, declared.score.Score.Score, declared.score.Voice.Voice, GoodScore.IsGoodEvent, GoodScore.IsGoodScore, GoodScore.IsGoodVoice, GoodScore.events_of, Times.flats_of}
+use Rattle.mus_score.specs.declared.score.Flat.{Flat}
+use Rattle.mus_score.specs.declared.score.Measure.{Measure}
+use Rattle.mus_score.specs.declared.score.Score.{Score}
+use Rattle.mus_score.specs.declared.score.Voice.{Voice}
+use Rattle.mus_score.specs.GoodScore.{IsGoodEvent, IsGoodScore, IsGoodVoice, events_of}
+use Rattle.mus_score.specs.Times.{flats_of}
 use Rattle.mus_stems.specs.declared.plans.StemPlan.{StemPlan}
-use Rattle.mus_drawn.specs.{declared.drawn.Style.Style, declared.standing.StaffState.StaffState, Drawn.drawn_events, Drawn.drawn_measure, Drawn.drawn_measures, Drawn.drawn_voice, Drawn.opening_of, Drawn.standing_after, Drawn.standing_behind, Drawn.standing_of, Drawn.style_of}
-use Rattle.mus_marks.{specs.Staff.verses_on, specs.System.drawn_staves, specs.System.is_drawn_lower, proofs.Groups.grouped_all, proofs.Parts.Fits, proofs.Parts.FitsEvent, proofs.Parts.FitsMeasure, proofs.Parts.FitsVoice, proofs.Parts.verses_cons}
+use Rattle.mus_drawn.specs.declared.drawn.Style.{Style}
+use Rattle.mus_drawn.specs.declared.standing.StaffState.{StaffState}
+use Rattle.mus_drawn.specs.Drawn.{drawn_events, drawn_measure, drawn_measures, drawn_voice, opening_of, standing_after}
+use Rattle.mus_drawn.specs.Drawn.{standing_behind, standing_of, style_of}
+use Rattle.mus_marks.specs.Staff.{verses_on}
+use Rattle.mus_marks.specs.System.{drawn_staves, is_drawn_lower}
+use Rattle.mus_marks.proofs.Groups.{grouped_all}
+use Rattle.mus_marks.proofs.Parts.{Fits, FitsEvent, FitsMeasure, FitsVoice, verses_cons}
 
 all_cut : {A : Type 0} (P : A → Type 0) (xs ys : List A) → AllByRecursion P (xs ++ ys) → AllByRecursion P xs × AllByRecursion P ys
 all_cut P [] ys all = (tt, all)

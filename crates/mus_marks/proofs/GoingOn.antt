@@ -1,8 +1,22 @@
 -- Within a measure of a voice each event is later than those before it, has a greater id, and stands in a later column.
-use Rattle.std.{proofs.{Common.{◌≡◌, ℕ, suc, ◌+◌, ◌<◌, true, List, [], ◌∷◌, ◌++◌, arith}, lemmas.{Bool.Decides.nat_tests, List.Elements.recursion_from_All}}, specs.List.AllByRecursion}
-use Rattle.mus_score.{specs.{declared.score.{Flat.Flat, Measure.Measure, Voice.Voice}, Good.{IsGoodBody, IsGoodFlat}, GoodScore.{AreCounted, IsGoodVoice, events_of}, Times.flats_of}, proofs.Bounds.flats_good}
+use Rattle.std.proofs.Common.{◌≡◌, ℕ, suc, ◌+◌, ◌<◌, true, List, [], ◌∷◌, ◌++◌, arith}
+use Rattle.std.proofs.lemmas.Bool.Decides.{nat_tests}
+use Rattle.std.proofs.lemmas.List.Elements.{recursion_from_All}
+use Rattle.std.specs.List.{AllByRecursion}
+use Rattle.mus_score.specs.declared.score.Flat.{Flat}
+use Rattle.mus_score.specs.declared.score.Measure.{Measure}
+use Rattle.mus_score.specs.declared.score.Voice.{Voice}
+use Rattle.mus_score.specs.Good.{IsGoodBody, IsGoodFlat}
+use Rattle.mus_score.specs.GoodScore.{AreCounted, IsGoodVoice, events_of}
+use Rattle.mus_score.specs.Times.{flats_of}
+use Rattle.mus_score.proofs.Bounds.{flats_good}
 use Rattle.{mus_onsets.specs.Order.{is_below}, mus_stems.specs.declared.plans.StemPlan.{StemPlan}}
-use Rattle.mus_drawn.specs.{declared.{drawn.{DrawnEvent.DrawnEvent, DrawnMeasure.DrawnMeasure, Style.Style}, standing.StaffState.StaffState}, Drawn.{drawn_event, drawn_events, drawn_measure, drawn_measures, drawn_voice, standing_after, standing_behind, standing_of, style_of}}
+use Rattle.mus_drawn.specs.declared.drawn.DrawnEvent.{DrawnEvent}
+use Rattle.mus_drawn.specs.declared.drawn.DrawnMeasure.{DrawnMeasure}
+use Rattle.mus_drawn.specs.declared.drawn.Style.{Style}
+use Rattle.mus_drawn.specs.declared.standing.StaffState.{StaffState}
+use Rattle.mus_drawn.specs.Drawn.{drawn_event, drawn_events, drawn_measure, drawn_measures, drawn_voice, standing_after}
+use Rattle.mus_drawn.specs.Drawn.{standing_behind, standing_of, style_of}
 use Rattle.mus_time.specs.Columns.{note_key}
 
 -- each event is later than those before it, and has a greater id

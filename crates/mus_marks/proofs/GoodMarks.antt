@@ -1,8 +1,24 @@
 -- The texts of a staff have at most 60 characters.
-use Rattle.std.{proofs.{Common.{ℕ, ◌≤◌, List, [], ◌∷◌, length, map, take, subst, sym, arith}, lemmas.{List.{length-map, length-take, Elements.All-from_recursion}, Fmt.length-decimal-le, Bool.Decides.nat_tests}}, specs.{List.{All, AllByRecursion}, Prelude.{IsTrue, decimal}}}
-use Rattle.{mus_units.specs.{declared.key.Meter.Meter, Good.IsGoodMeter, Good.is_halving}, mus_onsets.specs.declared.keys.ColumnKey.{ColumnKey}}
-use Rattle.{mus_laid.specs.{declared.drawn.BridgeShape.BridgeShape, declared.laid.Laid.Laid, Boxes.AreGoodMarks, Boxes.IsGoodMark, Printed.printed_byte, Ranked.drawn_at, Ranked.span_at}, mus_ink.specs.Signatures.{meter_marks}}
-use Rattle.{mus_words.proofs.EachWord.{IsShown}, mus_drawn.specs.declared.drawn.DrawnVoice.{DrawnVoice}, mus_marks.{specs.{Staff.staff_marks, Staff.verses_on}, proofs.{Parts.FitsVoice, Parts.OfLaid, Parts.staff_all}}}
+use Rattle.std.proofs.Common.{ℕ, ◌≤◌, List, [], ◌∷◌, length, map, take, subst, sym, arith}
+use Rattle.std.proofs.lemmas.List.{length-map, length-take}
+use Rattle.std.proofs.lemmas.List.Elements.{All-from_recursion}
+use Rattle.std.proofs.lemmas.Fmt.{length-decimal-le}
+use Rattle.std.proofs.lemmas.Bool.Decides.{nat_tests}
+use Rattle.std.specs.List.{All, AllByRecursion}
+use Rattle.std.specs.Prelude.{IsTrue, decimal}
+use Rattle.mus_units.specs.declared.key.Meter.{Meter}
+use Rattle.mus_units.specs.Good.{IsGoodMeter, is_halving}
+use Rattle.mus_onsets.specs.declared.keys.ColumnKey.{ColumnKey}
+use Rattle.mus_laid.specs.declared.drawn.BridgeShape.{BridgeShape}
+use Rattle.mus_laid.specs.declared.laid.Laid.{Laid}
+use Rattle.mus_laid.specs.Boxes.{AreGoodMarks, IsGoodMark}
+use Rattle.mus_laid.specs.Printed.{printed_byte}
+use Rattle.mus_laid.specs.Ranked.{drawn_at, span_at}
+use Rattle.mus_ink.specs.Signatures.{meter_marks}
+use Rattle.mus_words.proofs.EachWord.{IsShown}
+use Rattle.mus_drawn.specs.declared.drawn.DrawnVoice.{DrawnVoice}
+use Rattle.mus_marks.specs.Staff.{staff_marks, verses_on}
+use Rattle.mus_marks.proofs.Parts.{FitsVoice, OfLaid, staff_all}
 
 halving_small : (n : ℕ) → IsTrue (is_halving n) → n ≤ 64
 halving_small n h = grind (arith, nat_tests, h)

@@ -1,5 +1,7 @@
 -- What holds of all elements holds of those behind the first; the first of good measures.
-use Rattle.std.{proofs.{Common.{◌≡◌, ◌≤◌, List, [], ◌∷◌, length, get_or, subst, sym, arith}, lemmas.List.Elements.{All-from_recursion, recursion_from_All}}, specs.List.All}
+use Rattle.std.proofs.Common.{◌≡◌, ◌≤◌, List, [], ◌∷◌, length, get_or, subst, sym, arith}
+use Rattle.std.proofs.lemmas.List.Elements.{All-from_recursion, recursion_from_All}
+use Rattle.std.specs.List.{All}
 use Rattle.mus_drawn.specs.{declared.drawn.DrawnMeasure.DrawnMeasure, Good.IsGoodMeasure, Good.AreGoodMeasures}
 
 pub all_behind : {A : Type 0} (P : A → Type 0) (x : A) (xs all : List A) → all ≡ x ∷ xs → All P all → All P xs

@@ -1,5 +1,8 @@
 -- Lists in groups: the first of them, what is in all of them, and which element leads each.
-use Rattle.std.{proofs.{Common.{◌≡◌, ◌≤◌, ◌∙◌, ℕ, suc, ◌+◌, ◌-◌, Bool, true, false, cond, List, [], ◌∷◌, ◌++◌, length, length-drop, take, drop, get_or, map, refl, sym, ap, append_assoc, arith}, lemmas.List.{drop_more, take_all}}, specs.List.{AllByRecursion, flat_map, prefix_len}}
+use Rattle.std.proofs.Common.{◌≡◌, ◌≤◌, ◌∙◌, ℕ, suc, ◌+◌, ◌-◌, Bool, true, false, cond, List, [], ◌∷◌, ◌++◌, length}
+use Rattle.std.proofs.Common.{length-drop, take, drop, get_or, map, refl, sym, ap, append_assoc, arith}
+use Rattle.std.proofs.lemmas.List.{drop_more, take_all}
+use Rattle.std.specs.List.{AllByRecursion, flat_map, prefix_len}
 use Rattle.mus_score.specs.Seats.{grouped, put_before}
 
 one_past : (n : ℕ) → n + 1 ≡ suc n

@@ -1,9 +1,24 @@
 -- The columns that a voice draws in are among those of its system.
-use Rattle.std.{proofs.{Common.{◌≡◌, ◌∙◌, ℕ, zero, suc, ◌+◌, ◌-◌, ◌<◌, ◌≤◌, Bool, true, false, cond, List, [], ◌∷◌, ◌++◌, length, length-drop, length-take, get_or, drop, Some, refl, sym, ap, subst, arith}, lemmas.{List.{get_or-drop, get_or-take, Elements.{All-from_recursion, Contains-append_left, Contains-append_right, recursion_from_All}}, Option.{get_or_from_slice_get, none-some, same_Some, slice_get_read, slice_get_within}}}, specs.List.{All, AllByRecursion, Contains, filter, flat_map, slice_get, slice_index_or, slice_range}}
-use Rattle.mus_score.specs.{declared.score.Event.Event, declared.score.Score.Score, declared.score.Voice.Voice, GoodScore.IsGoodScore, GoodScore.IsLed, Seats.is_lower}
-use Rattle.mus_onsets.specs.{Keys.{all_keys, AreKeys, bar_key, called_keys, change_keys, event_keys, first_keys, grace_keys, head_key, is_for_each, key_at, keys_by, voice_keys}, declared.keys.{Class.Class, ColumnKey.ColumnKey}}
+use Rattle.std.proofs.Common.{◌≡◌, ◌∙◌, ℕ, zero, suc, ◌+◌, ◌-◌, ◌<◌, ◌≤◌, Bool, true, false, cond, List, [], ◌∷◌, ◌++◌}
+use Rattle.std.proofs.Common.{length, length-drop, length-take, get_or, drop, Some, refl, sym, ap, subst, arith}
+use Rattle.std.proofs.lemmas.List.{get_or-drop, get_or-take}
+use Rattle.std.proofs.lemmas.List.Elements.{All-from_recursion, Contains-append_left, Contains-append_right}
+use Rattle.std.proofs.lemmas.List.Elements.{recursion_from_All}
+use Rattle.std.proofs.lemmas.Option.{get_or_from_slice_get, none-some, same_Some, slice_get_read, slice_get_within}
+use Rattle.std.specs.List.{All, AllByRecursion, Contains, filter, flat_map, slice_get, slice_index_or, slice_range}
+use Rattle.mus_score.specs.declared.score.Event.{Event}
+use Rattle.mus_score.specs.declared.score.Score.{Score}
+use Rattle.mus_score.specs.declared.score.Voice.{Voice}
+use Rattle.mus_score.specs.GoodScore.{IsGoodScore, IsLed}
+use Rattle.mus_score.specs.Seats.{is_lower}
+use Rattle.mus_onsets.specs.Keys.{all_keys, AreKeys, bar_key, called_keys, change_keys, event_keys, first_keys}
+use Rattle.mus_onsets.specs.Keys.{grace_keys, head_key, is_for_each, key_at, keys_by, voice_keys}
+use Rattle.mus_onsets.specs.declared.keys.Class.{Class}
+use Rattle.mus_onsets.specs.declared.keys.ColumnKey.{ColumnKey}
 use Rattle.mus_drawn.specs.{declared.drawn.{DrawnEvent.DrawnEvent, DrawnMeasure.DrawnMeasure}, Drawn.drawn_voice}
-use Rattle.{mus_time.{specs.Columns.{events_columns, has_old, measures_columns, voice_columns}, proofs.{Called.voice_same, Counts.voice_count}}, mus_time.specs.Columns.{note_key}}
+use Rattle.mus_time.specs.Columns.{events_columns, has_old, measures_columns, voice_columns, note_key}
+use Rattle.mus_time.proofs.Called.{voice_same}
+use Rattle.mus_time.proofs.Counts.{voice_count}
 
 abbrev pub AreAmong : List ColumnKey → List ColumnKey → Type 0
 AreAmong some keys = (k : ColumnKey) → Contains some k → Contains keys k

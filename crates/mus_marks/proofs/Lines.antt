@@ -1,6 +1,8 @@
 -- Marks reach at least over the lines of their staff.
 use Rattle.std.proofs.{Common.{ℤ, pos, ◌≤ℤ◌, List, [], ◌∷◌, arith}, lemmas.Int.{ints, clamps}}
-use Rattle.mus_laid.specs.{declared.boxes.HeightRange.HeightRange, declared.laid.Laid.Laid, Boxes.heights, Boxes.heights_of, Boxes.over_marks, Boxes.staff_heights, Boxes.union_of_heights}
+use Rattle.mus_laid.specs.declared.boxes.HeightRange.{HeightRange}
+use Rattle.mus_laid.specs.declared.laid.Laid.{Laid}
+use Rattle.mus_laid.specs.Boxes.{heights, heights_of, over_marks, staff_heights, union_of_heights}
 use Rattle.{mus_ink.specs.Drawing.{cut_dy}, mus_marks.specs.Staff.{CoversLines, staff_over}}
 
 low_over : (z : ℤ) (h : HeightRange) (all : List Laid) → h.low ≤ℤ z → (over_marks h all).low ≤ℤ z

@@ -1,6 +1,11 @@
 -- A rising list has its keys once and in order: there is one list of the keys of a system.
-use Rattle.std.{proofs.{Common.{◌≡◌, ◌∙◌, zero, suc, ◌⊎◌, inl, inr, true, List, [], ◌∷◌, refl, sym, ap, subst, arith}, lemmas.Bool.Decides.nat_tests}, specs.List.Contains}
-use Rattle.{mus_onsets.specs.{declared.keys.ColumnKey.ColumnKey, Keys.AreKeys, Order.BelowAll, Order.is_below, Order.Rises}, mus_marks.proofs.Inside.{here, none_there, there}}
+use Rattle.std.proofs.Common.{◌≡◌, ◌∙◌, zero, suc, ◌⊎◌, inl, inr, true, List, [], ◌∷◌, refl, sym, ap, subst, arith}
+use Rattle.std.proofs.lemmas.Bool.Decides.{nat_tests}
+use Rattle.std.specs.List.{Contains}
+use Rattle.mus_onsets.specs.declared.keys.ColumnKey.{ColumnKey}
+use Rattle.mus_onsets.specs.Keys.{AreKeys}
+use Rattle.mus_onsets.specs.Order.{BelowAll, is_below, Rises}
+use Rattle.mus_marks.proofs.Inside.{here, none_there, there}
 
 not_both : (k l : ColumnKey) → is_below k l ≡ true → is_below l k ≡ true → ⊥
 unfolding is_below

@@ -1,13 +1,48 @@
 -- One walk over the marks of voices: what holds of all that is drawn in a column, whatever the rank of the column, and
 -- of beams and arcs, holds of all marks of a measure, of the columns of a system, and of a staff.
-use Rattle.std.{proofs.{Common.{◌≡◌, ℕ, zero, suc, ◌+◌, ◌-◌, ◌≤◌, ◌==◌, ◌&&◌, ◌||◌, not, Bool, true, false, if◌then◌else◌, List, [], ◌∷◌, ◌++◌, take, length, map, drop, Option, Some, None, arith}, lemmas.List.Sums.sum_by-cons}, specs.{List.{AllByRecursion, flat_map, slice_index_or, slice_range}, Prelude.IfSome}}
-use Rattle.mus_units.specs.{declared.key.Meter.Meter, declared.key.Sign.Sign, declared.note.Bar.Bar, declared.pitch.Clef.Clef, Good.IsGoodMeter}
-use Rattle.{mus_score.specs.{declared.score.Event.Event, declared.score.Flat.Flat, declared.score.Seat.Seat, Seats.is_lower}, mus_onsets.specs.{declared.keys.ColumnKey.ColumnKey, Keys.has_features}}
-use Rattle.{mus_stems.proofs.RunLaws.{all_append, all_drop, all_take}, mus_laid.specs.{declared.drawn.Bridge.Bridge, declared.drawn.LaneInk.LaneInk, declared.laid.Laid.Laid, Ranked.bridge_at, Ranked.by_columns, Ranked.drawn_at}}
-use Rattle.mus_ink.{specs.{declared.graces.Group.Group, Bars.bar_marks, Changes.{change_marks, head_marks}, Decos.note_marks, Graces.grace_marks}, proofs.EachMark.{OfMarks, bar, change, grace, head, note}}
-use Rattle.mus_words.{specs.{Syllables.syllables_from, Texts.text_marks}, proofs.{EachWord.OfWords, EachWord.syllables_all, EachWord.texts_all}}
-use Rattle.{mus_drawn.specs.{declared.drawn.DrawnEvent.DrawnEvent, declared.drawn.DrawnMeasure.DrawnMeasure, declared.drawn.DrawnVoice.DrawnVoice, Drawn.raise_of}, mus_bridges.specs.Bridges.{bridges_of}}
-use Rattle.mus_marks.{specs.{declared.events.{WordRoom.WordRoom, StaffRoom.StaffRoom, TextCounts.TextCounts}, Events.{change_part, event_marks, events_marks, graces_from, graces_part, measures_marks, no_texts, note_part, text_place, words_marks, words_part}, Staff.{bare_marks, columns_part, first_bar_part, head_part, own_part, room_over, staff_marks, staff_over, verses_on, written_parts}}, proofs.Columned.columned_all}
+use Rattle.std.proofs.Common.{◌≡◌, ℕ, zero, suc, ◌+◌, ◌-◌, ◌≤◌, ◌==◌, ◌&&◌, ◌||◌, not, Bool, true, false, if◌then◌else◌}
+use Rattle.std.proofs.Common.{List, [], ◌∷◌, ◌++◌, take, length, map, drop, Option, Some, None, arith}
+use Rattle.std.proofs.lemmas.List.Sums.{sum_by-cons}
+use Rattle.std.specs.List.{AllByRecursion, flat_map, slice_index_or, slice_range}
+use Rattle.std.specs.Prelude.{IfSome}
+use Rattle.mus_units.specs.declared.key.Meter.{Meter}
+use Rattle.mus_units.specs.declared.key.Sign.{Sign}
+use Rattle.mus_units.specs.declared.note.Bar.{Bar}
+use Rattle.mus_units.specs.declared.pitch.Clef.{Clef}
+use Rattle.mus_units.specs.Good.{IsGoodMeter}
+use Rattle.mus_score.specs.declared.score.Event.{Event}
+use Rattle.mus_score.specs.declared.score.Flat.{Flat}
+use Rattle.mus_score.specs.declared.score.Seat.{Seat}
+use Rattle.mus_score.specs.Seats.{is_lower}
+use Rattle.mus_onsets.specs.declared.keys.ColumnKey.{ColumnKey}
+use Rattle.mus_onsets.specs.Keys.{has_features}
+use Rattle.mus_stems.proofs.RunLaws.{all_append, all_drop, all_take}
+use Rattle.mus_laid.specs.declared.drawn.Bridge.{Bridge}
+use Rattle.mus_laid.specs.declared.drawn.LaneInk.{LaneInk}
+use Rattle.mus_laid.specs.declared.laid.Laid.{Laid}
+use Rattle.mus_laid.specs.Ranked.{bridge_at, by_columns, drawn_at}
+use Rattle.mus_ink.specs.declared.graces.Group.{Group}
+use Rattle.mus_ink.specs.Bars.{bar_marks}
+use Rattle.mus_ink.specs.Changes.{change_marks, head_marks}
+use Rattle.mus_ink.specs.Decos.{note_marks}
+use Rattle.mus_ink.specs.Graces.{grace_marks}
+use Rattle.mus_ink.proofs.EachMark.{OfMarks, bar, change, grace, head, note}
+use Rattle.mus_words.specs.Syllables.{syllables_from}
+use Rattle.mus_words.specs.Texts.{text_marks}
+use Rattle.mus_words.proofs.EachWord.{OfWords, syllables_all, texts_all}
+use Rattle.mus_drawn.specs.declared.drawn.DrawnEvent.{DrawnEvent}
+use Rattle.mus_drawn.specs.declared.drawn.DrawnMeasure.{DrawnMeasure}
+use Rattle.mus_drawn.specs.declared.drawn.DrawnVoice.{DrawnVoice}
+use Rattle.mus_drawn.specs.Drawn.{raise_of}
+use Rattle.mus_bridges.specs.Bridges.{bridges_of}
+use Rattle.mus_marks.specs.declared.events.WordRoom.{WordRoom}
+use Rattle.mus_marks.specs.declared.events.StaffRoom.{StaffRoom}
+use Rattle.mus_marks.specs.declared.events.TextCounts.{TextCounts}
+use Rattle.mus_marks.specs.Events.{change_part, event_marks, events_marks, graces_from, graces_part, measures_marks}
+use Rattle.mus_marks.specs.Events.{no_texts, note_part, text_place, words_marks, words_part}
+use Rattle.mus_marks.specs.Staff.{bare_marks, columns_part, first_bar_part, head_part, own_part, room_over, staff_marks}
+use Rattle.mus_marks.specs.Staff.{staff_over, verses_on, written_parts}
+use Rattle.mus_marks.proofs.Columned.{columned_all}
 
 -- measures with good meters, whose events have a place for each of some verses
 abbrev pub FitsEvent : ℕ → DrawnEvent → Type 0

@@ -1,7 +1,15 @@
 -- The places of the voices of a staff, one after the other.
-use Rattle.std.proofs.{Common.{◌≡◌, ◌∙◌, ℕ, ◌+◌, ◌≤◌, ◌==◌, not, Bool, true, false, List, [], ◌∷◌, ◌++◌, length, Some, refl, sym, ap, append_assoc, arith}, lemmas.Bool.Decides.nat_tests}
-use Rattle.{mus_onsets.specs.declared.keys.ColumnKey.{ColumnKey}, mus_laid.specs.declared.laid.Laid.{Laid}, mus_drawn.specs.declared.drawn.DrawnVoice.{DrawnVoice}}
-use Rattle.mus_marks.{specs.declared.events.WordRoom.WordRoom, specs.declared.events.StaffRoom.StaffRoom, specs.Places.word_room_after, specs.Staff.own_part, specs.Staff.texts_behind, specs.Staff.verses_on, specs.Staff.written_parts, proofs.Parts.verses_cons}
+use Rattle.std.proofs.Common.{◌≡◌, ◌∙◌, ℕ, ◌+◌, ◌≤◌, ◌==◌, not, Bool, true, false, List, [], ◌∷◌, ◌++◌, length, Some}
+use Rattle.std.proofs.Common.{refl, sym, ap, append_assoc, arith}
+use Rattle.std.proofs.lemmas.Bool.Decides.{nat_tests}
+use Rattle.mus_onsets.specs.declared.keys.ColumnKey.{ColumnKey}
+use Rattle.mus_laid.specs.declared.laid.Laid.{Laid}
+use Rattle.mus_drawn.specs.declared.drawn.DrawnVoice.{DrawnVoice}
+use Rattle.mus_marks.specs.declared.events.WordRoom.{WordRoom}
+use Rattle.mus_marks.specs.declared.events.StaffRoom.{StaffRoom}
+use Rattle.mus_marks.specs.Places.{word_room_after}
+use Rattle.mus_marks.specs.Staff.{own_part, texts_behind, verses_on, written_parts}
+use Rattle.mus_marks.proofs.Parts.{verses_cons}
 
 module _ (columns : ℕ) (v : DrawnVoice) (behind rest : List DrawnVoice) (place next : WordRoom) (part : List Laid) (follows : Bool) (front : rest ≡ v ∷ behind) (is : next ≡ word_room_after columns place v.verses part follows) where
   pub next_room : next.room ≡ place.room

@@ -1,9 +1,26 @@
 -- Where events have no syllables and no texts, a voice has in columns what it has without them, wherever they would go.
-use Rattle.std.{proofs.{Common.{◌≡◌, ◌∙◌, ℕ, ℤ, ◌+◌, Bool, true, false, not, ◌&&◌, ◌||◌, ◌==◌, List, [], ◌∷◌, ◌++◌, length, map, Option, Some, None, is_none, refl, sym, ap, arith}, lemmas.Bool.and_parts}, specs.List.{flat_map, list_all, slice_index_or, slice_range}}
-use Rattle.{mus_units.specs.declared.note.Deco.{Deco}, mus_score.specs.{declared.score.{Flat.Flat, Mention.Mention}, Seats.is_lower}, mus_onsets.specs.declared.keys.ColumnKey.{ColumnKey}, mus_laid.specs.Ranked.{drawn_at}}
-use Rattle.mus_words.specs.{declared.texts.TextPlace.TextPlace, Syllables.syllables_from, Texts.{above_from, below_from, shown_deco, shown_ending, shown_mention, shown_number, text_marks, texts_above, texts_below}}
+use Rattle.std.proofs.Common.{◌≡◌, ◌∙◌, ℕ, ℤ, ◌+◌, Bool, true, false, not, ◌&&◌, ◌||◌, ◌==◌, List, [], ◌∷◌, ◌++◌}
+use Rattle.std.proofs.Common.{length, map, Option, Some, None, is_none, refl, sym, ap, arith}
+use Rattle.std.proofs.lemmas.Bool.{and_parts}
+use Rattle.std.specs.List.{flat_map, list_all, slice_index_or, slice_range}
+use Rattle.mus_units.specs.declared.note.Deco.{Deco}
+use Rattle.mus_score.specs.declared.score.Flat.{Flat}
+use Rattle.mus_score.specs.declared.score.Mention.{Mention}
+use Rattle.mus_score.specs.Seats.{is_lower}
+use Rattle.mus_onsets.specs.declared.keys.ColumnKey.{ColumnKey}
+use Rattle.mus_laid.specs.Ranked.{drawn_at}
+use Rattle.mus_words.specs.declared.texts.TextPlace.{TextPlace}
+use Rattle.mus_words.specs.Syllables.{syllables_from}
+use Rattle.mus_words.specs.Texts.{above_from, below_from, shown_deco, shown_ending, shown_mention, shown_number}
+use Rattle.mus_words.specs.Texts.{text_marks, texts_above, texts_below}
 use Rattle.mus_drawn.specs.declared.drawn.{DrawnEvent.DrawnEvent, DrawnMeasure.DrawnMeasure, DrawnVoice.DrawnVoice}
-use Rattle.mus_marks.specs.{declared.events.{WordRoom.WordRoom, StaffRoom.StaffRoom, TextCounts.TextCounts}, Events.{bar_part, change_part, event_marks, events_marks, graces_part, levels_behind, levels_in, measures_marks, no_texts, note_part, note_rank, text_place, words_marks}, Silent.{are_silent, is_silent, is_silent_staff, is_text}, Staff.{columns_part, first_bar_part, head_part, own_part, texts_behind, written_parts}}
+use Rattle.mus_marks.specs.declared.events.WordRoom.{WordRoom}
+use Rattle.mus_marks.specs.declared.events.StaffRoom.{StaffRoom}
+use Rattle.mus_marks.specs.declared.events.TextCounts.{TextCounts}
+use Rattle.mus_marks.specs.Events.{bar_part, change_part, event_marks, events_marks, graces_part, levels_behind}
+use Rattle.mus_marks.specs.Events.{levels_in, measures_marks, no_texts, note_part, note_rank, text_place, words_marks}
+use Rattle.mus_marks.specs.Silent.{are_silent, is_silent, is_silent_staff, is_text}
+use Rattle.mus_marks.specs.Staff.{columns_part, first_bar_part, head_part, own_part, texts_behind, written_parts}
 
 deco_silent : (below : Bool) (d : Deco) → not (is_text d) ≡ true → shown_deco below d ≡ []
 deco_silent false (Deco.Above t) e = grind (arith, e)

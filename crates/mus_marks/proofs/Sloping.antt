@@ -1,10 +1,27 @@
 -- Stems of drawn events can end on lines: own ends and abscissas are in range, and abscissas rise from event to event.
-use Rattle.std.{proofs.{Common.{◌≡◌, ℕ, zero, suc, ℤ, pos, ◌+◌, ◌-◌, ◌<◌, ◌≤◌, ◌<ℤ◌, List, [], ◌∷◌, length, map, drop, subst, arith}, lemmas.{Int.ints, List.{get_or-map, length-map, Elements.All-map}}}, specs.List.{All, AllByRecursion, slice_index_or, slice_range}}
+use Rattle.std.proofs.Common.{◌≡◌, ℕ, zero, suc, ℤ, pos, ◌+◌, ◌-◌, ◌<◌, ◌≤◌, ◌<ℤ◌, List, [], ◌∷◌, length, map, drop}
+use Rattle.std.proofs.Common.{subst, arith}
+use Rattle.std.proofs.lemmas.Int.{ints}
+use Rattle.std.proofs.lemmas.List.{get_or-map, length-map}
+use Rattle.std.proofs.lemmas.List.Elements.{All-map}
+use Rattle.std.specs.List.{All, AllByRecursion, slice_index_or, slice_range}
 use Rattle.mus_score.specs.{declared.score.Score.Score, GoodScore.IsGoodScore}
-use Rattle.mus_onsets.{specs.{declared.keys.ColumnKey.ColumnKey, declared.times.Timeline.Timeline, Keys.AreKeys, Keys.called_keys}, proofs.{RankLaws.rank_less, RankLaws.rank_rises_more}}
-use Rattle.mus_stems.{specs.{Slope.slope_input, Slope.AreAnchors, Slope.IsAbscissa, Slope.RisesAfter, Slope.RisesInBeams}, proofs.{RunLaws.all_drop, RunLaws.all_take}}
-use Rattle.{mus_drawn.specs.{declared.drawn.DrawnEvent.DrawnEvent, declared.drawn.DrawnMeasure.DrawnMeasure, Drawn.drawn_voice, Good.AreGoodDrawn, Good.AreGoodMeasures}, mus_time.{proofs.Goods.{good_slice}, specs.Columns.{note_key}}}
-use Rattle.mus_marks.{specs.{Events.note_rank, Tilt.{AllCanTilt, AreAbscissas, anchor_at}}, proofs.{GoingOn.{AllGoOn, GoOn, later_below, voice_goes_on}, Inside.{HasEvent, HasMeasures, measures_inside}}}
+use Rattle.mus_onsets.specs.declared.keys.ColumnKey.{ColumnKey}
+use Rattle.mus_onsets.specs.declared.times.Timeline.{Timeline}
+use Rattle.mus_onsets.specs.Keys.{AreKeys, called_keys}
+use Rattle.mus_onsets.proofs.RankLaws.{rank_less, rank_rises_more}
+use Rattle.mus_stems.specs.Slope.{slope_input, AreAnchors, IsAbscissa, RisesAfter, RisesInBeams}
+use Rattle.mus_stems.proofs.RunLaws.{all_drop, all_take}
+use Rattle.mus_drawn.specs.declared.drawn.DrawnEvent.{DrawnEvent}
+use Rattle.mus_drawn.specs.declared.drawn.DrawnMeasure.{DrawnMeasure}
+use Rattle.mus_drawn.specs.Drawn.{drawn_voice}
+use Rattle.mus_drawn.specs.Good.{AreGoodDrawn, AreGoodMeasures}
+use Rattle.mus_time.proofs.Goods.{good_slice}
+use Rattle.mus_time.specs.Columns.{note_key}
+use Rattle.mus_marks.specs.Events.{note_rank}
+use Rattle.mus_marks.specs.Tilt.{AllCanTilt, AreAbscissas, anchor_at}
+use Rattle.mus_marks.proofs.GoingOn.{AllGoOn, GoOn, later_below, voice_goes_on}
+use Rattle.mus_marks.proofs.Inside.{HasEvent, HasMeasures, measures_inside}
 
 module _ (s : Score) (t : Timeline) (a b : ℕ) (keys : List ColumnKey) (at : List ℤ) (places : AreAbscissas s t a b at) (are : AreKeys keys (called_keys s t.lengths a b)) where
   further : (i n : ℕ) → i + suc n < length at → slice_index_or at i (pos 0) <ℤ slice_index_or at (i + suc n) (pos 0)

@@ -1,7 +1,14 @@
 -- A change of nothing has no marks.
 use Rattle.std.proofs.Common.{◌≡◌, ◌+◌, ◌*◌, ◌&&◌, true, List, [], ◌++◌, Option, Some, None, is_none, refl, arith}
-use Rattle.{mus_units.specs.{declared.pitch.Clef.Clef, declared.key.Key.Key, declared.key.Meter.Meter, declared.key.Sign.Sign}, mus_score.specs.declared.score.Changes.{Changes}}
-use Rattle.{mus_ink.specs.{Distances.entry_gap, Distances.entry_step, Changes.behind_clef, Changes.change_marks, Changes.clef_if, Changes.count_if, Changes.key_if, Signatures.meter_if}, mus_marks.specs.Events.{changes_nothing}}
+use Rattle.mus_units.specs.declared.pitch.Clef.{Clef}
+use Rattle.mus_units.specs.declared.key.Key.{Key}
+use Rattle.mus_units.specs.declared.key.Meter.{Meter}
+use Rattle.mus_units.specs.declared.key.Sign.{Sign}
+use Rattle.mus_score.specs.declared.score.Changes.{Changes}
+use Rattle.mus_ink.specs.Distances.{entry_gap, entry_step}
+use Rattle.mus_ink.specs.Changes.{behind_clef, change_marks, clef_if, count_if, key_if}
+use Rattle.mus_ink.specs.Signatures.{meter_if}
+use Rattle.mus_marks.specs.Events.{changes_nothing}
 
 pub nothing_marks : (c : Clef) (old : List Sign) (changes : Changes) → changes_nothing changes ≡ true → change_marks c old changes ≡ []
 unfolding change_marks

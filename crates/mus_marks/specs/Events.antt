@@ -1,11 +1,36 @@
 -- The marks of events and of the measures that they are in, but for beams and arcs: the change before an event, its graces, the event
 -- itself, and its syllables and texts. What each part draws is said without a place; here it comes into its column.
-use Rattle.std.specs.Prelude.{ℕ, ◌+◌, Bool, true, false, ◌&&◌, ◌||◌, ◌==◌, is_none, if◌then◌else◌, List, [], ◌∷◌, ◌++◌, map, slice_index_or, Option, Some, None}
-use Rattle.{mus_units.specs.declared.pitch.Clef.{Clef}, mus_score.specs.{declared.score.Changes.Changes, declared.score.Event.Event, declared.score.Flat.Flat, Seats.is_lower}}
-use Rattle.{mus_onsets.specs.{declared.keys.Class.Class, declared.keys.ColumnKey.ColumnKey, Keys.bar_key, Order.key_rank, Ranks.rank_at}, mus_stems.specs.declared.plans.StemPlan.{StemPlan}}
-use Rattle.{mus_laid.specs.{declared.drawn.LaneInk.LaneInk, declared.laid.Laid.Laid, Ranked.drawn_at}, mus_ink.specs.{declared.graces.Group.Group, Bars.bar_marks, Changes.change_marks, Decos.note_marks, Graces.grace_marks, Graces.group_of}}
-use Rattle.{mus_words.specs.{declared.texts.TextPlace.TextPlace, Syllables.syllables_from, Texts.text_marks}, mus_drawn.specs.{declared.drawn.DrawnEvent.DrawnEvent, declared.drawn.DrawnMeasure.DrawnMeasure, Drawn.raise_of}}
-use Rattle.{mus_time.specs.Columns.{note_key}, mus_marks.specs.{declared.events.StaffRoom.StaffRoom, declared.events.TextCounts.TextCounts, declared.events.WordRoom.WordRoom}}
+use Rattle.std.specs.Prelude.{ℕ, ◌+◌, Bool, true, false, ◌&&◌, ◌||◌, ◌==◌, is_none, if◌then◌else◌, List, [], ◌∷◌, ◌++◌}
+use Rattle.std.specs.Prelude.{map, slice_index_or, Option, Some, None}
+use Rattle.mus_units.specs.declared.pitch.Clef.{Clef}
+use Rattle.mus_score.specs.declared.score.Changes.{Changes}
+use Rattle.mus_score.specs.declared.score.Event.{Event}
+use Rattle.mus_score.specs.declared.score.Flat.{Flat}
+use Rattle.mus_score.specs.Seats.{is_lower}
+use Rattle.mus_onsets.specs.declared.keys.Class.{Class}
+use Rattle.mus_onsets.specs.declared.keys.ColumnKey.{ColumnKey}
+use Rattle.mus_onsets.specs.Keys.{bar_key}
+use Rattle.mus_onsets.specs.Order.{key_rank}
+use Rattle.mus_onsets.specs.Ranks.{rank_at}
+use Rattle.mus_stems.specs.declared.plans.StemPlan.{StemPlan}
+use Rattle.mus_laid.specs.declared.drawn.LaneInk.{LaneInk}
+use Rattle.mus_laid.specs.declared.laid.Laid.{Laid}
+use Rattle.mus_laid.specs.Ranked.{drawn_at}
+use Rattle.mus_ink.specs.declared.graces.Group.{Group}
+use Rattle.mus_ink.specs.Bars.{bar_marks}
+use Rattle.mus_ink.specs.Changes.{change_marks}
+use Rattle.mus_ink.specs.Decos.{note_marks}
+use Rattle.mus_ink.specs.Graces.{grace_marks, group_of}
+use Rattle.mus_words.specs.declared.texts.TextPlace.{TextPlace}
+use Rattle.mus_words.specs.Syllables.{syllables_from}
+use Rattle.mus_words.specs.Texts.{text_marks}
+use Rattle.mus_drawn.specs.declared.drawn.DrawnEvent.{DrawnEvent}
+use Rattle.mus_drawn.specs.declared.drawn.DrawnMeasure.{DrawnMeasure}
+use Rattle.mus_drawn.specs.Drawn.{raise_of}
+use Rattle.mus_time.specs.Columns.{note_key}
+use Rattle.mus_marks.specs.declared.events.StaffRoom.{StaffRoom}
+use Rattle.mus_marks.specs.declared.events.TextCounts.{TextCounts}
+use Rattle.mus_marks.specs.declared.events.WordRoom.{WordRoom}
 
 abbrev pub note_rank : List ColumnKey → ℕ → DrawnEvent → ℕ
 note_rank keys m e = key_rank keys (note_key m e)

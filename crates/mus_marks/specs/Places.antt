@@ -1,6 +1,10 @@
 -- What the words of a voice need of their place, and how texts are counted mark by mark.
 use Rattle.std.specs.Prelude.{ℕ, ◌+◌, ◌≤◌, Bool, true, false, ◌&&◌, if◌then◌else◌, List, [], ◌∷◌, Option, IfSome}
-use Rattle.{mus_laid.specs.{declared.laid.Laid.Laid, Ranked.stands_at_rank}, mus_marks.specs.{declared.events.WordRoom.WordRoom, declared.events.TextCounts.TextCounts, Staff.is_above, Staff.is_below_staff, Staff.is_words, Staff.texts_behind}}
+use Rattle.mus_laid.specs.declared.laid.Laid.{Laid}
+use Rattle.mus_laid.specs.Ranked.{stands_at_rank}
+use Rattle.mus_marks.specs.declared.events.WordRoom.{WordRoom}
+use Rattle.mus_marks.specs.declared.events.TextCounts.{TextCounts}
+use Rattle.mus_marks.specs.Staff.{is_above, is_below_staff, is_words, texts_behind}
 
 -- eight verses from the first on have numbers
 abbrev pub HasVerses : Option WordRoom → Type 0

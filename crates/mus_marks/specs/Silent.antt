@@ -1,7 +1,13 @@
 -- Events that have no syllables and no texts. On a staff of such events it is of no account where these would go.
-use Rattle.std.specs.{Prelude.{◌≡◌, ℕ, Bool, true, false, not, ◌&&◌, ◌==◌, is_none, List, [], length, slice_range}, List.list_all}
-use Rattle.{mus_units.specs.declared.note.Deco.{Deco}, mus_score.specs.declared.score.Flat.{Flat}, mus_onsets.specs.declared.keys.ColumnKey.{ColumnKey}, mus_drawn.specs.declared.drawn.{DrawnMeasure.DrawnMeasure, DrawnVoice.DrawnVoice}}
-use Rattle.mus_marks.specs.{declared.events.StaffRoom.StaffRoom, Staff.bare_marks, Staff.room_over, Staff.verses_on, Staff.written_parts}
+use Rattle.std.specs.Prelude.{◌≡◌, ℕ, Bool, true, false, not, ◌&&◌, ◌==◌, is_none, List, [], length, slice_range}
+use Rattle.std.specs.List.{list_all}
+use Rattle.mus_units.specs.declared.note.Deco.{Deco}
+use Rattle.mus_score.specs.declared.score.Flat.{Flat}
+use Rattle.mus_onsets.specs.declared.keys.ColumnKey.{ColumnKey}
+use Rattle.mus_drawn.specs.declared.drawn.DrawnMeasure.{DrawnMeasure}
+use Rattle.mus_drawn.specs.declared.drawn.DrawnVoice.{DrawnVoice}
+use Rattle.mus_marks.specs.declared.events.StaffRoom.{StaffRoom}
+use Rattle.mus_marks.specs.Staff.{bare_marks, room_over, verses_on, written_parts}
 
 -- a fingering or a dynamic mark
 abbrev pub is_text : Deco → Bool

@@ -1,11 +1,35 @@
 -- The marks of a staff in a system, of the voices that stand on it: in the columns the head, the bar before the first measure and
 -- the measures; then the beams of notes, those of graces, and the arcs.
-use Rattle.std.specs.{Prelude.{ℕ, ◌+◌, pos, ◌≤ℤ◌, ◌==◌, Bool, true, false, not, ◌&&◌, ◌||◌, if◌then◌else◌, List, [], ◌∷◌, ◌++◌, length, map, sum, flat_map, count_by, slice_range, slice_index_or, Option, Some, None}, List.range_with_len}
-use Rattle.{mus_units.specs.{declared.key.Meter.Meter, declared.note.Bar.Bar}, mus_score.specs.{declared.score.Seat.Seat, Seats.is_lower}}
-use Rattle.mus_onsets.specs.{declared.keys.Class.Class, declared.keys.ColumnKey.ColumnKey, Keys.has_features, Keys.head_key, Order.key_rank, Ranks.rank_at}
-use Rattle.mus_laid.specs.{declared.laid.Laid.Laid, declared.laid.Lane.Lane, declared.laid.Mark.Mark, declared.laid.StaffMarks.StaffMarks, Boxes.staff_heights, Ranked.bridge_at, Ranked.by_columns, Ranked.drawn_at, Ranked.stands_at_rank}
-use Rattle.{mus_ink.specs.{Bars.bar_marks, Changes.head_marks, Drawing.cut_dy}, mus_drawn.specs.{declared.drawn.DrawnMeasure.DrawnMeasure, declared.drawn.DrawnVoice.DrawnVoice, declared.drawn.SystemOpening.SystemOpening}}
-use Rattle.{mus_bridges.specs.Bridges.{bridges_of}, mus_marks.specs.{declared.events.WordRoom.WordRoom, declared.events.StaffRoom.StaffRoom, declared.events.TextCounts.TextCounts, Events.measures_marks, Events.no_texts}}
+use Rattle.std.specs.Prelude.{ℕ, ◌+◌, pos, ◌≤ℤ◌, ◌==◌, Bool, true, false, not, ◌&&◌, ◌||◌, if◌then◌else◌, List, [], ◌∷◌}
+use Rattle.std.specs.Prelude.{◌++◌, length, map, sum, flat_map, count_by, slice_range, slice_index_or, Option, Some}
+use Rattle.std.specs.Prelude.{None}
+use Rattle.std.specs.List.{range_with_len}
+use Rattle.mus_units.specs.declared.key.Meter.{Meter}
+use Rattle.mus_units.specs.declared.note.Bar.{Bar}
+use Rattle.mus_score.specs.declared.score.Seat.{Seat}
+use Rattle.mus_score.specs.Seats.{is_lower}
+use Rattle.mus_onsets.specs.declared.keys.Class.{Class}
+use Rattle.mus_onsets.specs.declared.keys.ColumnKey.{ColumnKey}
+use Rattle.mus_onsets.specs.Keys.{has_features, head_key}
+use Rattle.mus_onsets.specs.Order.{key_rank}
+use Rattle.mus_onsets.specs.Ranks.{rank_at}
+use Rattle.mus_laid.specs.declared.laid.Laid.{Laid}
+use Rattle.mus_laid.specs.declared.laid.Lane.{Lane}
+use Rattle.mus_laid.specs.declared.laid.Mark.{Mark}
+use Rattle.mus_laid.specs.declared.laid.StaffMarks.{StaffMarks}
+use Rattle.mus_laid.specs.Boxes.{staff_heights}
+use Rattle.mus_laid.specs.Ranked.{bridge_at, by_columns, drawn_at, stands_at_rank}
+use Rattle.mus_ink.specs.Bars.{bar_marks}
+use Rattle.mus_ink.specs.Changes.{head_marks}
+use Rattle.mus_ink.specs.Drawing.{cut_dy}
+use Rattle.mus_drawn.specs.declared.drawn.DrawnMeasure.{DrawnMeasure}
+use Rattle.mus_drawn.specs.declared.drawn.DrawnVoice.{DrawnVoice}
+use Rattle.mus_drawn.specs.declared.drawn.SystemOpening.{SystemOpening}
+use Rattle.mus_bridges.specs.Bridges.{bridges_of}
+use Rattle.mus_marks.specs.declared.events.WordRoom.{WordRoom}
+use Rattle.mus_marks.specs.declared.events.StaffRoom.{StaffRoom}
+use Rattle.mus_marks.specs.declared.events.TextCounts.{TextCounts}
+use Rattle.mus_marks.specs.Events.{measures_marks, no_texts}
 
 -- the meter is drawn where the voice begins and where it changes
 abbrev pub meter_shown : ℕ → SystemOpening → Option Meter

@@ -1,7 +1,13 @@
 -- What a score calls for in a system of measures a to b - 1: the columns that its voices stand in, and for each staff, in order, its marks.
 use Rattle.std.specs.Prelude.{◌≡◌, ℕ, Bool, List, map}
-use Rattle.{mus_score.specs.{declared.score.Score.Score, Seats.grouped, Seats.is_lower}, mus_onsets.specs.{declared.times.Timeline.Timeline, Keys.AreKeys, Keys.called_keys}}
-use Rattle.{mus_laid.specs.{declared.laid.SystemMarks.SystemMarks}, mus_drawn.specs.{declared.drawn.DrawnVoice.DrawnVoice, Drawn.drawn_voice}, mus_marks.specs.Staff.{staff_marks}}
+use Rattle.mus_score.specs.declared.score.Score.{Score}
+use Rattle.mus_score.specs.Seats.{grouped, is_lower}
+use Rattle.mus_onsets.specs.declared.times.Timeline.{Timeline}
+use Rattle.mus_onsets.specs.Keys.{AreKeys, called_keys}
+use Rattle.mus_laid.specs.declared.laid.SystemMarks.{SystemMarks}
+use Rattle.mus_drawn.specs.declared.drawn.DrawnVoice.{DrawnVoice}
+use Rattle.mus_drawn.specs.Drawn.{drawn_voice}
+use Rattle.mus_marks.specs.Staff.{staff_marks}
 
 abbrev pub is_drawn_lower : DrawnVoice → Bool
 is_drawn_lower v = is_lower v.seat

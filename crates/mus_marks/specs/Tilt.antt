@@ -1,9 +1,18 @@
 -- The marks of a system over the abscissas of its columns: as those that the score calls for, but the stems of a beam end
 -- on its line. What stands on the ends of stems (beams, decorations, texts, arcs) follows them.
-use Rattle.std.specs.Prelude.{◌≡◌, ℕ, ◌+◌, ◌^◌, ℤ, pos, ◌≤ℤ◌, ◌<ℤ◌, ◌<◌, ⊤, List, [], ◌∷◌, ◌++◌, length, map, take, drop, slice_range, slice_index_or}
-use Rattle.{mus_score.specs.declared.score.Score.{Score}, mus_onsets.specs.{declared.keys.ColumnKey.ColumnKey, declared.times.Timeline.Timeline, Keys.AreKeys, Keys.called_keys}}
-use Rattle.mus_stems.specs.{declared.slopes.SlopeInput.SlopeInput, Slope.slope_input, Slope.sloped_ends, Slope.with_end, Slope.AreAnchors, Slope.RisesInBeams}
-use Rattle.{mus_laid.specs.{declared.laid.StaffMarks.StaffMarks, declared.laid.SystemMarks.SystemMarks}, mus_drawn.specs.{declared.drawn.DrawnEvent.DrawnEvent, declared.drawn.DrawnMeasure.DrawnMeasure, declared.drawn.DrawnVoice.DrawnVoice}}
+use Rattle.std.specs.Prelude.{◌≡◌, ℕ, ◌+◌, ◌^◌, ℤ, pos, ◌≤ℤ◌, ◌<ℤ◌, ◌<◌, ⊤, List, [], ◌∷◌, ◌++◌, length, map, take}
+use Rattle.std.specs.Prelude.{drop, slice_range, slice_index_or}
+use Rattle.mus_score.specs.declared.score.Score.{Score}
+use Rattle.mus_onsets.specs.declared.keys.ColumnKey.{ColumnKey}
+use Rattle.mus_onsets.specs.declared.times.Timeline.{Timeline}
+use Rattle.mus_onsets.specs.Keys.{AreKeys, called_keys}
+use Rattle.mus_stems.specs.declared.slopes.SlopeInput.{SlopeInput}
+use Rattle.mus_stems.specs.Slope.{slope_input, sloped_ends, with_end, AreAnchors, RisesInBeams}
+use Rattle.mus_laid.specs.declared.laid.StaffMarks.{StaffMarks}
+use Rattle.mus_laid.specs.declared.laid.SystemMarks.{SystemMarks}
+use Rattle.mus_drawn.specs.declared.drawn.DrawnEvent.{DrawnEvent}
+use Rattle.mus_drawn.specs.declared.drawn.DrawnMeasure.{DrawnMeasure}
+use Rattle.mus_drawn.specs.declared.drawn.DrawnVoice.{DrawnVoice}
 use Rattle.mus_marks.specs.{Events.note_rank, Staff.staff_marks, System.drawn_staves}
 
 -- what the line of its beam takes from an event of measure m: where its column stands is its abscissa

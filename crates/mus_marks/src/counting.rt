@@ -1,5 +1,8 @@
-ghost use Rattle.std.specs.{Prelude.◌≡◌, Prelude.map, Prelude.slice_index_or, Prelude.IfOk, Prelude.OnOk, List.range_with_len};
-ghost use Rattle.mus_marks.specs.{Events.no_texts, Places.text_counted, Places.with_text_counted, Places.with_texts_counted, Staff.is_words, Staff.texts_behind};
+ghost use Rattle.std.specs.Prelude.{◌≡◌, map, slice_index_or, IfOk, OnOk};
+ghost use Rattle.std.specs.List.{range_with_len};
+ghost use Rattle.mus_marks.specs.Events.{no_texts};
+ghost use Rattle.mus_marks.specs.Places.{text_counted, with_text_counted, with_texts_counted};
+ghost use Rattle.mus_marks.specs.Staff.{is_words, texts_behind};
 
 use crate::events::{TextCounts, texts_at};
 use mus_laid::{Laid, Lane, Mark, anchor_rank};

@@ -1,7 +1,15 @@
 ghost use Rattle.std.specs.Prelude.{◌≡◌, ◌≤◌, ◌++◌, length, map, option_copied, slice_index_or, IfOk, OnOk};
-ghost use Rattle.{mus_onsets.specs.Ranks.{AreRanked}, mus_stems.specs.Heads.{AllNear, stand_of}, mus_laid.specs.Ranked.{inked}};
-ghost use Rattle.{mus_ink.specs.{Decos.note_marks, Graces.grace_marks}, mus_drawn.specs.{Drawn.raise_of, Good.{AllCanGrace, AreGoodDrawn, IsGoodDrawn}}};
-ghost use Rattle.mus_marks.specs.{Events.{note_rank, changes_nothing, change_part, graces_from, graces_part, note_part, no_texts, text_place, words_marks, words_part, event_marks, levels_in, levels_behind, events_marks}, Places.HasVerses};
+ghost use Rattle.mus_onsets.specs.Ranks.{AreRanked};
+ghost use Rattle.mus_stems.specs.Heads.{AllNear, stand_of};
+ghost use Rattle.mus_laid.specs.Ranked.{inked};
+ghost use Rattle.mus_ink.specs.Decos.{note_marks};
+ghost use Rattle.mus_ink.specs.Graces.{grace_marks};
+ghost use Rattle.mus_drawn.specs.Drawn.{raise_of};
+ghost use Rattle.mus_drawn.specs.Good.{AllCanGrace, AreGoodDrawn, IsGoodDrawn};
+ghost use Rattle.mus_marks.specs.Events.{note_rank, changes_nothing, change_part, graces_from, graces_part, note_part};
+ghost use Rattle.mus_marks.specs.Events.{no_texts, text_place, words_marks, words_part, event_marks, levels_in};
+ghost use Rattle.mus_marks.specs.Events.{levels_behind, events_marks};
+ghost use Rattle.mus_marks.specs.Places.{HasVerses};
 
 use crate::silence::is_silent;
 use mus_drawn::{DrawnEvent, raise_of};

@@ -1,6 +1,8 @@
 ghost use Rattle.std.specs.Prelude.{◌≡◌, ◌≤◌, ◌<◌, ◌+◌, ◌++◌, length, map, option_copied, OnOk};
 ghost use Rattle.{mus_onsets.specs.{Keys.has_features, Ranks.AreRanked}, mus_drawn.specs.Good.{AreGoodMeasures}};
-ghost use Rattle.mus_marks.specs.{Events.bar_part, Events.measures_marks, Places.HasVerses, Staff.meter_shown, Staff.head_part, Staff.first_bar_part, Staff.columns_part};
+ghost use Rattle.mus_marks.specs.Events.{bar_part, measures_marks};
+ghost use Rattle.mus_marks.specs.Places.{HasVerses};
+ghost use Rattle.mus_marks.specs.Staff.{meter_shown, head_part, first_bar_part, columns_part};
 
 use crate::events::{WordRoom, put_events};
 use mus_drawn::{DrawnMeasure, SystemOpening};

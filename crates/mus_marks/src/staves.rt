@@ -1,6 +1,14 @@
-ghost use Rattle.std.specs.{Prelude.{◌≡◌, ◌≤◌, ◌+◌, ◌++◌, [], length, map, flat_map, option_copied, Some, None, All, IfOk, OnOk}, List.prefix_len};
-ghost use Rattle.{mus_score.specs.Seats.{grouped}, mus_drawn.specs.Good.{AreGoodMeasures}, mus_bridges.specs.Bridges.{bridges_of}};
-ghost use Rattle.mus_marks.specs.{Places.HasVerses, Places.word_room_after, Silent.FitsRoom, Silent.is_silent_staff, Staff.CoversLines, Staff.own_part, Staff.room_over, Staff.staff_marks, Staff.staff_over, Staff.verses_on, Staff.written_parts, System.is_drawn_lower};
+ghost use Rattle.std.specs.Prelude.{◌≡◌, ◌≤◌, ◌+◌, ◌++◌, [], length, map, flat_map, option_copied, Some, None, All};
+ghost use Rattle.std.specs.Prelude.{IfOk, OnOk};
+ghost use Rattle.std.specs.List.{prefix_len};
+ghost use Rattle.mus_score.specs.Seats.{grouped};
+ghost use Rattle.mus_drawn.specs.Good.{AreGoodMeasures};
+ghost use Rattle.mus_bridges.specs.Bridges.{bridges_of};
+ghost use Rattle.mus_marks.specs.Places.{HasVerses, word_room_after};
+ghost use Rattle.mus_marks.specs.Silent.{FitsRoom, is_silent_staff};
+ghost use Rattle.mus_marks.specs.Staff.{CoversLines, own_part, room_over, staff_marks, staff_over, verses_on};
+ghost use Rattle.mus_marks.specs.Staff.{written_parts};
+ghost use Rattle.mus_marks.specs.System.{is_drawn_lower};
 
 use crate::counting::texts_behind;
 use crate::events::{StaffRoom, WordRoom};

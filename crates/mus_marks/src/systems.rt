@@ -1,5 +1,9 @@
 ghost use Rattle.std.specs.Prelude.{◌≡◌, ◌≤◌, ◌<◌, map, All, IfOk};
-ghost use Rattle.{mus_score.specs.GoodScore.{IsGoodScore}, mus_onsets.specs.{Keys.IsInSystem, Onsets.timeline_of}, mus_drawn.specs.{Drawn.drawn_voice, Good.AreGoodMeasures}};
+ghost use Rattle.mus_score.specs.GoodScore.{IsGoodScore};
+ghost use Rattle.mus_onsets.specs.Keys.{IsInSystem};
+ghost use Rattle.mus_onsets.specs.Onsets.{timeline_of};
+ghost use Rattle.mus_drawn.specs.Drawn.{drawn_voice};
+ghost use Rattle.mus_drawn.specs.Good.{AreGoodMeasures};
 ghost use Rattle.{mus_laid.specs.Boxes.{AreGoodMarks}, mus_marks.specs.{Staff.CoversLines, System.IsCall}};
 
 use crate::staves::staves;

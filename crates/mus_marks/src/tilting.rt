@@ -1,7 +1,19 @@
 ghost use Rattle.std.specs.Prelude.{◌≡◌, ◌≤◌, ◌<◌, ◌+◌, length, map, pos, slice_index_or, slice_range, All, IfOk};
-ghost use Rattle.{mus_score.specs.{GoodScore.IsGoodScore, Seats.grouped}, mus_onsets.specs.{Keys.{AreKeys, IsInSystem, called_keys}, Onsets.timeline_of, Ranks.AreRanked}};
-ghost use Rattle.{mus_drawn.specs.{Drawn.drawn_voice, Good.AreGoodMeasures}, mus_stems.specs.Slope.{slope_input}, mus_laid.specs.{Boxes.AreGoodMarks, Shapes.HaveSameShapes}};
-ghost use Rattle.mus_marks.specs.{Staff.{CoversLines, verses_on}, System.{IsCall, is_drawn_lower}, Tilt.{CanTilt, AllCanTilt, ends_over, sloped_over, over, event_ended, end_left, measure_ended, measure_left, voice_ended, voice_left, tilted_staff, AreAbscissas, IsTilted}};
+ghost use Rattle.mus_score.specs.GoodScore.{IsGoodScore};
+ghost use Rattle.mus_score.specs.Seats.{grouped};
+ghost use Rattle.mus_onsets.specs.Keys.{AreKeys, IsInSystem, called_keys};
+ghost use Rattle.mus_onsets.specs.Onsets.{timeline_of};
+ghost use Rattle.mus_onsets.specs.Ranks.{AreRanked};
+ghost use Rattle.mus_drawn.specs.Drawn.{drawn_voice};
+ghost use Rattle.mus_drawn.specs.Good.{AreGoodMeasures};
+ghost use Rattle.mus_stems.specs.Slope.{slope_input};
+ghost use Rattle.mus_laid.specs.Boxes.{AreGoodMarks};
+ghost use Rattle.mus_laid.specs.Shapes.{HaveSameShapes};
+ghost use Rattle.mus_marks.specs.Staff.{CoversLines, verses_on};
+ghost use Rattle.mus_marks.specs.System.{IsCall, is_drawn_lower};
+ghost use Rattle.mus_marks.specs.Tilt.{CanTilt, AllCanTilt, ends_over, sloped_over, over, event_ended, end_left};
+ghost use Rattle.mus_marks.specs.Tilt.{measure_ended, measure_left, voice_ended, voice_left, tilted_staff};
+ghost use Rattle.mus_marks.specs.Tilt.{AreAbscissas, IsTilted};
 
 use crate::staves::staves;
 use mus_drawn::{DrawnEvent, DrawnMeasure, DrawnVoice};

@@ -1,7 +1,20 @@
 -- The tree and the events in a row have the same beats, and these tell onsets.
-use Rattle.std.{proofs.{Common.{◌≡◌, ◌∙◌, ℕ, ◌+◌, ◌*◌, ◌≤◌, List, [], ◌∷◌, ◌++◌, ap, map, refl, subst, sym, arith}, lemmas.List.{map-append, Sums.sum_by-cons}}, specs.{List.{AllByRecursion, sum_by}}}
-use Rattle.mus_score.{specs.{declared.{score.{Flat.Flat, Music.{Music, TheOpen.Music-F, TheFolds.{fold-roll-Music, ind-Music, map-Music}, TheViews.roll-Music}}, times.PendingLeaf.PendingLeaf}, Good.{IsGoodBody, longest_ticks, total_ticks}, Times.{InTuplets, Leafing, flats_of, in_row, leaves_step, leaves_within, no_pending_leaf}}, proofs.Bounds.{all_music, body_fits, flats_short, gathered}}
-use Rattle.mus_onsets.specs.{declared.beats.Beat.Beat, Beats.{beat_of, beat_onsets, beats_in_row, beats_of, beats_step, beats_within}, Onsets.event_onsets}
+use Rattle.std.proofs.Common.{◌≡◌, ◌∙◌, ℕ, ◌+◌, ◌*◌, ◌≤◌, List, [], ◌∷◌, ◌++◌, ap, map, refl, subst, sym, arith}
+use Rattle.std.proofs.lemmas.List.{map-append}
+use Rattle.std.proofs.lemmas.List.Sums.{sum_by-cons}
+use Rattle.std.specs.List.{AllByRecursion, sum_by}
+use Rattle.mus_score.specs.declared.score.Flat.{Flat}
+use Rattle.mus_score.specs.declared.score.Music.{Music}
+use Rattle.mus_score.specs.declared.score.Music.TheOpen.{Music-F}
+use Rattle.mus_score.specs.declared.score.Music.TheFolds.{fold-roll-Music, ind-Music, map-Music}
+use Rattle.mus_score.specs.declared.score.Music.TheViews.{roll-Music}
+use Rattle.mus_score.specs.declared.times.PendingLeaf.{PendingLeaf}
+use Rattle.mus_score.specs.Good.{IsGoodBody, longest_ticks, total_ticks}
+use Rattle.mus_score.specs.Times.{InTuplets, Leafing, flats_of, in_row, leaves_step, leaves_within, no_pending_leaf}
+use Rattle.mus_score.proofs.Bounds.{all_music, body_fits, flats_short, gathered}
+use Rattle.mus_onsets.specs.declared.beats.Beat.{Beat}
+use Rattle.mus_onsets.specs.Beats.{beat_of, beat_onsets, beats_in_row, beats_of, beats_step, beats_within}
+use Rattle.mus_onsets.specs.Onsets.{event_onsets}
 
 abbrev Agree : InTuplets (List Beat) → Leafing → Type 0
 Agree b l = (qs ps : ℕ) (w : PendingLeaf) → map beat_of (l qs ps w).flats ≡ b qs ps

@@ -1,7 +1,8 @@
 -- The order of column keys: no key is below itself, of two keys at most one is below the other, and what is below
 -- a key is below all that it is below.
 use Rattle.std.proofs.{Common.{◌≡◌, ℕ, ◌<◌, Bool, true, false, nat_lt, refl, arith}, lemmas.Bool.Decides.nat_tests}
-use Rattle.mus_onsets.specs.{declared.keys.ColumnKey.ColumnKey, Order.is_below, Order.class_number, Order.is_below_or_tied}
+use Rattle.mus_onsets.specs.declared.keys.ColumnKey.{ColumnKey}
+use Rattle.mus_onsets.specs.Order.{is_below, class_number, is_below_or_tied}
 
 pub not_itself : (k : ColumnKey) → is_below k k ≡ false
 unfolding is_below

@@ -1,8 +1,29 @@
 -- The keys that voices call for stand in the system's measures, and none behind its measure's end.
-use Rattle.std.{proofs.{Common.{◌≡◌, ℕ, zero, zero-add, suc, ◌+◌, ◌-◌, ◌≤◌, ◌<◌, List, [], ◌∷◌, ◌++◌, length, length-take, get_or, drop, take, filter, refl, sym, subst, Bool, true, false, ◌&&◌, ◌==◌, not, if◌then◌else◌, arith}, lemmas.{List.{Sums.sum_by-cons, Elements.{All-contains, All-from_recursion, Contains-get_or, recursion_from_All}, FromFn.{length-map-range_with_len, get_or-map-range_with_len}}, Bool.Decides.nat_tests}}, specs.List.{All, AllByRecursion, flat_map, slice_get, slice_index, slice_range}}
-use Rattle.mus_score.specs.{declared.score.Event.Event, declared.score.Flat.Flat, declared.score.Measure.Measure, declared.score.Score.Score, declared.score.Voice.Voice, Good.total_ticks, GoodScore.IsGoodScore, Seats.is_lower, Times.flats_of}
+use Rattle.std.proofs.Common.{◌≡◌, ℕ, zero, zero-add, suc, ◌+◌, ◌-◌, ◌≤◌, ◌<◌, List, [], ◌∷◌, ◌++◌, length, length-take}
+use Rattle.std.proofs.Common.{get_or, drop, take, filter, refl, sym, subst, Bool, true, false, ◌&&◌, ◌==◌, not}
+use Rattle.std.proofs.Common.{if◌then◌else◌, arith}
+use Rattle.std.proofs.lemmas.List.Sums.{sum_by-cons}
+use Rattle.std.proofs.lemmas.List.Elements.{All-contains, All-from_recursion, Contains-get_or, recursion_from_All}
+use Rattle.std.proofs.lemmas.List.FromFn.{length-map-range_with_len, get_or-map-range_with_len}
+use Rattle.std.proofs.lemmas.Bool.Decides.{nat_tests}
+use Rattle.std.specs.List.{All, AllByRecursion, flat_map, slice_get, slice_index, slice_range}
+use Rattle.mus_score.specs.declared.score.Event.{Event}
+use Rattle.mus_score.specs.declared.score.Flat.{Flat}
+use Rattle.mus_score.specs.declared.score.Measure.{Measure}
+use Rattle.mus_score.specs.declared.score.Score.{Score}
+use Rattle.mus_score.specs.declared.score.Voice.{Voice}
+use Rattle.mus_score.specs.Good.{total_ticks}
+use Rattle.mus_score.specs.GoodScore.{IsGoodScore}
+use Rattle.mus_score.specs.Seats.{is_lower}
+use Rattle.mus_score.specs.Times.{flats_of}
 use Rattle.mus_units.specs.declared.note.Bar.{Bar}
-use Rattle.mus_onsets.specs.{Keys.{key_at, change_keys, change_has_mark, grace_keys, event_keys, events_keys, signed_after, signed_through, measures_keys, first_keys, has_features, signed_at, voice_keys, all_keys, keys_by, is_for_each, called_keys, measure_keys, further_keys, AreKeys, IsInSystem}, declared.keys.{ColumnKey.ColumnKey, Class.Class}, Onsets.{length_in_voice, measure_length, ticks_of_some, timeline_of}}
+use Rattle.mus_onsets.specs.Keys.{key_at, change_keys, change_has_mark, grace_keys, event_keys, events_keys}
+use Rattle.mus_onsets.specs.Keys.{signed_after, signed_through, measures_keys, first_keys, has_features, signed_at}
+use Rattle.mus_onsets.specs.Keys.{voice_keys, all_keys, keys_by, is_for_each, called_keys, measure_keys, further_keys}
+use Rattle.mus_onsets.specs.Keys.{AreKeys, IsInSystem}
+use Rattle.mus_onsets.specs.declared.keys.ColumnKey.{ColumnKey}
+use Rattle.mus_onsets.specs.declared.keys.Class.{Class}
+use Rattle.mus_onsets.specs.Onsets.{length_in_voice, measure_length, ticks_of_some, timeline_of}
 
 pub length_of_lengths : (s : Score) → length (timeline_of s).lengths ≡ s.measures
 length_of_lengths s = length-map-range_with_len (measure_length s.voices) 0 s.measures

@@ -1,7 +1,15 @@
 -- Rising keys that stand before a key come first, and their number is its rank. Ranks rise with keys, and the rank
 -- of a key of the system is below the number of its keys; the i-th has rank i.
-use Rattle.std.{proofs.{Common.{◌≡◌, ℕ, zero, suc, ◌+◌, ◌≤◌, ◌<◌, Bool, true, false, List, [], ◌∷◌, ◌++◌, length, subst, refl, sym, ap, ◌∙◌, if◌then◌else◌, arith}, lemmas.Bool.Decides.nat_tests}, specs.{List.{AllByRecursion, AllWithin, Contains, slice_index_or, Sorted.{IsPartitionPoint, IsPartitionedBy}}, Ordering.partial_lt}}
-use Rattle.mus_onsets.{specs.{contracts.keys.ColumnKeyPartialOrd.TheImpl.ghosts, declared.keys.ColumnKey.ColumnKey, Order.{is_below, BelowAll, Rises, key_rank}}, proofs.Orders.{below_through, lower, not_both, not_itself}}
+use Rattle.std.proofs.Common.{◌≡◌, ℕ, zero, suc, ◌+◌, ◌≤◌, ◌<◌, Bool, true, false, List, [], ◌∷◌, ◌++◌, length, subst}
+use Rattle.std.proofs.Common.{refl, sym, ap, ◌∙◌, if◌then◌else◌, arith}
+use Rattle.std.proofs.lemmas.Bool.Decides.{nat_tests}
+use Rattle.std.specs.List.{AllByRecursion, AllWithin, Contains, slice_index_or}
+use Rattle.std.specs.List.Sorted.{IsPartitionPoint, IsPartitionedBy}
+use Rattle.std.specs.Ordering.{partial_lt}
+use Rattle.mus_onsets.specs.contracts.keys.ColumnKeyPartialOrd.TheImpl.{ghosts}
+use Rattle.mus_onsets.specs.declared.keys.ColumnKey.{ColumnKey}
+use Rattle.mus_onsets.specs.Order.{is_below, BelowAll, Rises, key_rank}
+use Rattle.mus_onsets.proofs.Orders.{below_through, lower, not_both, not_itself}
 
 pub below_is : (k l : ColumnKey) → partial_lt ghosts.partial_cmp k l ≡ is_below k l
 unfolding is_below

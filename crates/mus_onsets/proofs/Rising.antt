@@ -1,6 +1,14 @@
 -- The derived order of column keys is the order of columns.
-use Rattle.std.{proofs.{Common.{◌≡◌, ◌<◌, List, [], ◌∷◌, true, refl, arith}, lemmas.Bool.Decides.nat_tests}, specs.{List.{AllByRecursion, Sorted.IsStrictlySortedBy}, Ordering.{nat_cmp, ordering_then}, declared.cmp.Ordering.TheVariants.{Less, Equal}}}
-use Rattle.mus_onsets.specs.{contracts.keys.ColumnKeyOrd.TheImpl.ghosts, declared.keys.Class.Class, declared.keys.ColumnKey.ColumnKey, Order.is_below, Order.class_number, Order.BelowAll, Order.Rises}
+use Rattle.std.proofs.Common.{◌≡◌, ◌<◌, List, [], ◌∷◌, true, refl, arith}
+use Rattle.std.proofs.lemmas.Bool.Decides.{nat_tests}
+use Rattle.std.specs.List.{AllByRecursion}
+use Rattle.std.specs.List.Sorted.{IsStrictlySortedBy}
+use Rattle.std.specs.Ordering.{nat_cmp, ordering_then}
+use Rattle.std.specs.declared.cmp.Ordering.TheVariants.{Less, Equal}
+use Rattle.mus_onsets.specs.contracts.keys.ColumnKeyOrd.TheImpl.{ghosts}
+use Rattle.mus_onsets.specs.declared.keys.Class.{Class}
+use Rattle.mus_onsets.specs.declared.keys.ColumnKey.{ColumnKey}
+use Rattle.mus_onsets.specs.Order.{is_below, class_number, BelowAll, Rises}
 use Rattle.mus_onsets.specs.contracts.keys.ColumnKeyPartialEq.TheImpl as equal
 use Rattle.mus_onsets.specs.contracts.keys.ClassOrd.TheImpl as classes
 

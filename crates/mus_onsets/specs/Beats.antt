@@ -1,6 +1,13 @@
 -- Beats: what times take from the events of a body that are no graces, from left to right: the id, and how long the event lasts.
 use Rattle.std.specs.Prelude.{ℕ, ◌+◌, ◌*◌, List, [], ◌∷◌, ◌++◌, map}
-use Rattle.{mus_score.specs.{declared.score.{Event.Event, Flat.Flat, Music.{Music, TheOpen.Music-F, TheFolds.fold-Music}}, Times.{InTuplets, flats_of, scaled_ticks}}, mus_onsets.specs.declared.{beats.Beat.Beat, times.Onset.Onset}}
+use Rattle.mus_score.specs.declared.score.Event.{Event}
+use Rattle.mus_score.specs.declared.score.Flat.{Flat}
+use Rattle.mus_score.specs.declared.score.Music.{Music}
+use Rattle.mus_score.specs.declared.score.Music.TheOpen.{Music-F}
+use Rattle.mus_score.specs.declared.score.Music.TheFolds.{fold-Music}
+use Rattle.mus_score.specs.Times.{InTuplets, flats_of, scaled_ticks}
+use Rattle.mus_onsets.specs.declared.beats.Beat.{Beat}
+use Rattle.mus_onsets.specs.declared.times.Onset.{Onset}
 
 abbrev pub beat_of : Flat → Beat
 beat_of f = record { event = f.event.id; ticks = f.duration }

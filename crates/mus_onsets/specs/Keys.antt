@@ -1,7 +1,17 @@
 -- The keys of the columns of a system: those that its voices call for, each once, rising.
-use Rattle.std.specs.Prelude.{ℕ, ◌+◌, ◌≤◌, ◌<◌, Bool, true, false, not, ◌&&◌, ◌||◌, ◌==◌, nat_le, is_some, if◌then◌else◌, List, [], ◌∷◌, ◌++◌, length, take, filter, flat_map, slice_range, slice_index, Contains, Option, Some, None}
+use Rattle.std.specs.Prelude.{ℕ, ◌+◌, ◌≤◌, ◌<◌, Bool, true, false, not, ◌&&◌, ◌||◌, ◌==◌, nat_le, is_some}
+use Rattle.std.specs.Prelude.{if◌then◌else◌, List, [], ◌∷◌, ◌++◌, length, take, filter, flat_map, slice_range}
+use Rattle.std.specs.Prelude.{slice_index, Contains, Option, Some, None}
 use Rattle.mus_units.specs.{declared.key.Key.Key, declared.key.Meter.Meter, declared.note.Bar.Bar}
-use Rattle.mus_score.specs.{declared.score.Changes.Changes, declared.score.Event.Event, declared.score.Flat.Flat, declared.score.Measure.Measure, declared.score.Score.Score, declared.score.Voice.Voice, Good.total_ticks, Seats.is_lower, Times.flats_of}
+use Rattle.mus_score.specs.declared.score.Changes.{Changes}
+use Rattle.mus_score.specs.declared.score.Event.{Event}
+use Rattle.mus_score.specs.declared.score.Flat.{Flat}
+use Rattle.mus_score.specs.declared.score.Measure.{Measure}
+use Rattle.mus_score.specs.declared.score.Score.{Score}
+use Rattle.mus_score.specs.declared.score.Voice.{Voice}
+use Rattle.mus_score.specs.Good.{total_ticks}
+use Rattle.mus_score.specs.Seats.{is_lower}
+use Rattle.mus_score.specs.Times.{flats_of}
 use Rattle.mus_onsets.specs.{declared.keys.Class.Class, declared.keys.ColumnKey.ColumnKey, Order.Rises}
 
 abbrev pub key_at : ℕ → ℕ → Class → ℕ → ColumnKey

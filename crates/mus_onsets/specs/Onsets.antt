@@ -1,6 +1,12 @@
 -- Onsets: an event begins after the earlier events of its measure and voice. A measure lasts as long as its longest voice.
-use Rattle.std.specs.{Prelude.{ℕ, ◌+◌, max, List, [], ◌∷◌, ◌++◌, map, Option, Some, None, slice_get}, List.range_with_len}
-use Rattle.mus_score.specs.{declared.score.Flat.Flat, declared.score.Measure.Measure, declared.score.Score.Score, declared.score.Voice.Voice, Good.total_ticks, Times.flats_of}
+use Rattle.std.specs.Prelude.{ℕ, ◌+◌, max, List, [], ◌∷◌, ◌++◌, map, Option, Some, None, slice_get}
+use Rattle.std.specs.List.{range_with_len}
+use Rattle.mus_score.specs.declared.score.Flat.{Flat}
+use Rattle.mus_score.specs.declared.score.Measure.{Measure}
+use Rattle.mus_score.specs.declared.score.Score.{Score}
+use Rattle.mus_score.specs.declared.score.Voice.{Voice}
+use Rattle.mus_score.specs.Good.{total_ticks}
+use Rattle.mus_score.specs.Times.{flats_of}
 use Rattle.mus_onsets.specs.{declared.times.Onset.Onset, declared.times.Timeline.Timeline}
 
 -- the events of a measure in turn, each with those before it

@@ -1,6 +1,9 @@
 -- The rank of a column: the number of columns of its system that stand before it.
 use Rattle.std.specs.Prelude.{ℕ, ◌<◌, List, length}
-use Rattle.mus_onsets.specs.{declared.keys.Class.Class, declared.keys.ColumnKey.ColumnKey, Keys.key_at, Order.Rises, Order.key_rank}
+use Rattle.mus_onsets.specs.declared.keys.Class.{Class}
+use Rattle.mus_onsets.specs.declared.keys.ColumnKey.{ColumnKey}
+use Rattle.mus_onsets.specs.Keys.{key_at}
+use Rattle.mus_onsets.specs.Order.{Rises, key_rank}
 
 -- the keys of a system: they rise, and their ranks have 32 bits
 pub record AreRanked (keys : List ColumnKey) : Type 0 where

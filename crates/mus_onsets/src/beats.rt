@@ -1,7 +1,8 @@
 //! What times take from the events of a body, none of which is copied.
 
 ghost use Rattle.std.specs.Prelude.{◌≡◌, ◌≤◌, ◌*◌, ◌++◌, map, true, IfOk, OnOk, sum_by};
-ghost use Rattle.mus_score.specs.{Good.IsGoodBody, Good.longest_ticks, Times.{all_products_fit, is_scalable, products_fit, scaled_ticks}};
+ghost use Rattle.mus_score.specs.Good.{IsGoodBody, longest_ticks};
+ghost use Rattle.mus_score.specs.Times.{all_products_fit, is_scalable, products_fit, scaled_ticks};
 ghost use Rattle.mus_onsets.specs.{Beats.{beat_at, beats_in_row, beats_of, beats_within}};
 
 use mus_score::{Event, Music};

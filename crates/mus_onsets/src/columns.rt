@@ -1,5 +1,6 @@
 ghost use Rattle.std.specs.Prelude.{◌≡◌, ◌≤◌, ◌++◌, OnOk, filter, length};
-ghost use Rattle.mus_onsets.specs.Keys.{AreKeys, change_has_mark, event_keys, first_keys, grace_keys, has_entries, has_features, is_for_each, key_has_mark, meter_has_mark};
+ghost use Rattle.mus_onsets.specs.Keys.{AreKeys, change_has_mark, event_keys, first_keys, grace_keys, has_entries};
+ghost use Rattle.mus_onsets.specs.Keys.{has_features, is_for_each, key_has_mark, meter_has_mark};
 
 use crate::keys::{Class, ColumnKey};
 use mus_score::{Bar, Changes, Event, Flat, Key, Meter};

@@ -1,6 +1,11 @@
-ghost use Rattle.std.specs.{Prelude.◌≡◌, Prelude.◌≤◌, Prelude.◌<◌, Prelude.◌*◌, Prelude.◌++◌, Prelude.[], Prelude.All, Prelude.IfOk, Prelude.OnOk, Prelude.length, Prelude.map, Prelude.sum_by, List.range_with_len};
-ghost use Rattle.mus_score.specs.{Good.IsGoodBody, Good.longest_ticks, GoodScore.IsGoodScore, GoodScore.IsGoodVoice, Times.flats_of};
-ghost use Rattle.mus_onsets.specs.{Beats.beat_onsets, Onsets.{event_onsets, greatest, measure_length, length_in_voice, measure_onsets, timeline_of, voice_onsets}};
+ghost use Rattle.std.specs.Prelude.{◌≡◌, ◌≤◌, ◌<◌, ◌*◌, ◌++◌, [], All, IfOk, OnOk, length, map, sum_by};
+ghost use Rattle.std.specs.List.{range_with_len};
+ghost use Rattle.mus_score.specs.Good.{IsGoodBody, longest_ticks};
+ghost use Rattle.mus_score.specs.GoodScore.{IsGoodScore, IsGoodVoice};
+ghost use Rattle.mus_score.specs.Times.{flats_of};
+ghost use Rattle.mus_onsets.specs.Beats.{beat_onsets};
+ghost use Rattle.mus_onsets.specs.Onsets.{event_onsets, greatest, measure_length, length_in_voice, measure_onsets};
+ghost use Rattle.mus_onsets.specs.Onsets.{timeline_of, voice_onsets};
 
 use crate::beats::{Beat, beats};
 use mus_score::{Measure, Music, Score, Voice, body_duration};

@@ -1,6 +1,15 @@
 -- A key has at most one sign for each letter: the keys of the circle do, and signs laid on a key keep it so.
-use Rattle.std.{proofs.{Common.{◌≡◌, refl, ℕ, suc, ◌≤◌, List, [], ◌∷◌, Bool, true, not, take, map, arith, cond}, lemmas.{Grind.common_steps, List.{take-map, Filters.sum_by-filter_both, Sums.{sum_by-cons, sum_by-take-le, sum_by_push}}}, Math.Nat.le_trans}, specs.Prelude.{ℤ, pos, negsuc, reverse, filter, count_by}}
-use Rattle.mus_units.specs.{declared.pitch.Letter.Letter, declared.pitch.Alter.Alter, declared.key.Sign.Sign, Good.AreGoodSigns, Good.same_letter}
+use Rattle.std.proofs.Common.{◌≡◌, refl, ℕ, suc, ◌≤◌, List, [], ◌∷◌, Bool, true, not, take, map, arith, cond}
+use Rattle.std.proofs.lemmas.Grind.{common_steps}
+use Rattle.std.proofs.lemmas.List.{take-map}
+use Rattle.std.proofs.lemmas.List.Filters.{sum_by-filter_both}
+use Rattle.std.proofs.lemmas.List.Sums.{sum_by-cons, sum_by-take-le, sum_by_push}
+use Rattle.std.proofs.Math.Nat.{le_trans}
+use Rattle.std.specs.Prelude.{ℤ, pos, negsuc, reverse, filter, count_by}
+use Rattle.mus_units.specs.declared.pitch.Letter.{Letter}
+use Rattle.mus_units.specs.declared.pitch.Alter.{Alter}
+use Rattle.mus_units.specs.declared.key.Sign.{Sign}
+use Rattle.mus_units.specs.Good.{AreGoodSigns, same_letter}
 use Rattle.mus_units.specs.declared.pitch.Letter.TheVariants as letters
 use Rattle.mus_units.specs.declared.pitch.Alter.TheVariants as alters
 use Rattle.mus_pitch.specs.{Circle.sharp_order, Circle.signed, Circle.signs_of, Signs.with_sign, Signs.laid}

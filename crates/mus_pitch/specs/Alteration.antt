@@ -1,6 +1,13 @@
 -- The alteration that a note has, ties aside: its own sign, else the last sign before it that reaches it, else its key's.
-use Rattle.std.specs.{Prelude.{◌&&◌, List, Option, Some, None, Bool, false, find, reverse, is_some, unwrap_or}, Option.{option_map, option_and_then}, Ordering.int_eq}
-use Rattle.mus_units.specs.{declared.pitch.Alter.Alter, declared.pitch.Pitch.Pitch, declared.note.Head.Head, declared.key.Sign.Sign, declared.key.Spread.Spread, Good.same_letter}
+use Rattle.std.specs.Prelude.{◌&&◌, List, Option, Some, None, Bool, false, find, reverse, is_some, unwrap_or}
+use Rattle.std.specs.Option.{option_map, option_and_then}
+use Rattle.std.specs.Ordering.{int_eq}
+use Rattle.mus_units.specs.declared.pitch.Alter.{Alter}
+use Rattle.mus_units.specs.declared.pitch.Pitch.{Pitch}
+use Rattle.mus_units.specs.declared.note.Head.{Head}
+use Rattle.mus_units.specs.declared.key.Sign.{Sign}
+use Rattle.mus_units.specs.declared.key.Spread.{Spread}
+use Rattle.mus_units.specs.Good.{same_letter}
 use Rattle.mus_units.specs.declared.pitch.Alter.TheVariants as alters
 use Rattle.mus_units.specs.declared.key.Spread.TheVariants as spreads
 

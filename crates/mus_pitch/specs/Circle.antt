@@ -1,5 +1,6 @@
 -- Keys by the circle of fifths: how many sharps a tonic and its mode have, and which signs a number of sharps has.
-use Rattle.std.specs.Prelude.{suc, ℤ, pos, negsuc, ◌+ℤ◌, int_le, ◌&&◌, if◌then◌else◌, List, [], ◌∷◌, map, take, reverse, Option, Some, None, Bool}
+use Rattle.std.specs.Prelude.{suc, ℤ, pos, negsuc, ◌+ℤ◌, int_le, ◌&&◌, if◌then◌else◌, List, [], ◌∷◌, map, take, reverse}
+use Rattle.std.specs.Prelude.{Option, Some, None, Bool}
 use Rattle.mus_units.specs.{declared.pitch.Letter.Letter, declared.pitch.Alter.Alter, declared.key.Sign.Sign}
 use Rattle.mus_units.specs.declared.pitch.Letter.TheVariants as letters
 use Rattle.mus_units.specs.declared.pitch.Alter.TheVariants as alters

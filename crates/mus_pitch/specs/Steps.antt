@@ -1,5 +1,8 @@
 -- Pitches by their steps: the letters of all octaves from C0 up, one after the other.
-use Rattle.std.specs.{Prelude.{ℤ, pos, ◌+ℤ◌, ◌*ℤ◌, List, [], ◌∷◌}, Int.{int_div_euclid, int_rem_euclid, RustNames.unsigned_abs}, List.slice_index_or}
+use Rattle.std.specs.Prelude.{ℤ, pos, ◌+ℤ◌, ◌*ℤ◌, List, [], ◌∷◌}
+use Rattle.std.specs.Int.{int_div_euclid, int_rem_euclid}
+use Rattle.std.specs.Int.RustNames.{unsigned_abs}
+use Rattle.std.specs.List.{slice_index_or}
 use Rattle.mus_units.specs.{declared.pitch.Letter.Letter, declared.pitch.Pitch.Pitch, Pitch.letter_number}
 use Rattle.mus_units.specs.declared.pitch.Letter.TheVariants as letters
 

@@ -1,5 +1,7 @@
-ghost use Rattle.std.specs.{Prelude.{◌≡◌, ◌&&◌, find, reverse, is_some, unwrap_or}, Option.{option_map, option_copied, option_and_then}};
-ghost use Rattle.{mus_units.specs.Good.{same_letter}, mus_pitch.specs.Alteration.{reaches, is_said, said_sign, key_sign, alteration_of}};
+ghost use Rattle.std.specs.Prelude.{◌≡◌, ◌&&◌, find, reverse, is_some, unwrap_or};
+ghost use Rattle.std.specs.Option.{option_map, option_copied, option_and_then};
+ghost use Rattle.mus_units.specs.Good.{same_letter};
+ghost use Rattle.mus_pitch.specs.Alteration.{reaches, is_said, said_sign, key_sign, alteration_of};
 
 use crate::signs::same_letter;
 use mus_units::{Alter, Head, Key, Pitch, Sign, Spread};

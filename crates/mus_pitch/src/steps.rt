@@ -1,4 +1,7 @@
-ghost use Rattle.std.specs.{Prelude.◌≡◌, Prelude.pos, Int.int_div_euclid, Int.int_rem_euclid, Int.RustNames.unsigned_abs, List.slice_index_or};
+ghost use Rattle.std.specs.Prelude.{◌≡◌, pos};
+ghost use Rattle.std.specs.Int.{int_div_euclid, int_rem_euclid};
+ghost use Rattle.std.specs.Int.RustNames.{unsigned_abs};
+ghost use Rattle.std.specs.List.{slice_index_or};
 ghost use Rattle.mus_pitch.specs.Steps.{pitch_of_steps, scale_letters};
 
 use mus_units::{Letter, Pitch};

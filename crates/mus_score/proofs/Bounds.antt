@@ -1,7 +1,34 @@
 -- What good music keeps: products on the way are small, durations are neither 0 nor too long, and no head is lost.
-use Rattle.std.{proofs.{Common.{◌≡◌, ℕ, zero, suc, ◌+◌, ◌*◌, ◌/◌, ◌≤◌, List, [], ◌∷◌, ◌++◌, map, Bool, true, false, ◌&&◌, max, length, length-append, refl, sym, ◌∙◌, ap, subst, nat_le, arith, lit≤, inl, inr, if◌then◌else◌, mul_assoc, one-mul, div-le_self, le-mul_of_pos_right, le_trans, add-mul, mul-le-mul_right}, lemmas.{Bool.{and_parts, cases_Bool, leb-true, Decides.nat_tests}, List.{Sums.{sum_by-cons, sum_by-append}, map-append, length-map, Elements.All-from_recursion}, Nat.{le-div, mul-le}}}, specs.List.{sum, sum_by, AllByRecursion, All}}
-use Rattle.mus_units.specs.{declared.value.Base.Base, declared.value.Value.Value, Value.base_length, Value.with_dots, Value.value_length, Value.whole_note}
-use Rattle.mus_score.specs.{Good.{IsGoodNode, node_verdict, all_judged, tuplet_judged, good_step, judged_within, weight_step, weight, outside, IsGoodBody, is_good_note, is_rest, longest_ticks, IsGoodFlat, total_ticks, head_count, flat_weight, flat_count}, Times.{all_products_fit, durations_within, duration_of, flats_of, InTuplets, Leafing, scaled_ticks, is_scalable, all_fit, sum_within, leaf, in_row, no_pending_leaf, duration_step, duration_within, products_step, products_fit, leaves_step, leaves_within}, declared.{good.{NodeVerdict.NodeVerdict, NodeContext.NodeContext}, score.{Event.Event, Flat.Flat, Music.{Music, TheOpen.Music-F, TheFolds.{fold-roll-Music, map-Music, ind-Music}, TheViews.roll-Music}}, times.PendingLeaf.PendingLeaf}}
+use Rattle.std.proofs.Common.{◌≡◌, ℕ, zero, suc, ◌+◌, ◌*◌, ◌/◌, ◌≤◌, List, [], ◌∷◌, ◌++◌, map, Bool, true, false, ◌&&◌}
+use Rattle.std.proofs.Common.{max, length, length-append, refl, sym, ◌∙◌, ap, subst, nat_le, arith, lit≤, inl, inr}
+use Rattle.std.proofs.Common.{if◌then◌else◌, mul_assoc, one-mul, div-le_self, le-mul_of_pos_right, le_trans, add-mul}
+use Rattle.std.proofs.Common.{mul-le-mul_right}
+use Rattle.std.proofs.lemmas.Bool.{and_parts, cases_Bool, leb-true}
+use Rattle.std.proofs.lemmas.Bool.Decides.{nat_tests}
+use Rattle.std.proofs.lemmas.List.Sums.{sum_by-cons, sum_by-append}
+use Rattle.std.proofs.lemmas.List.{map-append, length-map}
+use Rattle.std.proofs.lemmas.List.Elements.{All-from_recursion}
+use Rattle.std.proofs.lemmas.Nat.{le-div, mul-le}
+use Rattle.std.specs.List.{sum, sum_by, AllByRecursion, All}
+use Rattle.mus_units.specs.declared.value.Base.{Base}
+use Rattle.mus_units.specs.declared.value.Value.{Value}
+use Rattle.mus_units.specs.Value.{base_length, with_dots, value_length, whole_note}
+use Rattle.mus_score.specs.Good.{IsGoodNode, node_verdict, all_judged, tuplet_judged, good_step, judged_within}
+use Rattle.mus_score.specs.Good.{weight_step, weight, outside, IsGoodBody, is_good_note, is_rest, longest_ticks}
+use Rattle.mus_score.specs.Good.{IsGoodFlat, total_ticks, head_count, flat_weight, flat_count}
+use Rattle.mus_score.specs.Times.{all_products_fit, durations_within, duration_of, flats_of, InTuplets, Leafing}
+use Rattle.mus_score.specs.Times.{scaled_ticks, is_scalable, all_fit, sum_within, leaf, in_row, no_pending_leaf}
+use Rattle.mus_score.specs.Times.{duration_step, duration_within, products_step, products_fit, leaves_step}
+use Rattle.mus_score.specs.Times.{leaves_within}
+use Rattle.mus_score.specs.declared.good.NodeVerdict.{NodeVerdict}
+use Rattle.mus_score.specs.declared.good.NodeContext.{NodeContext}
+use Rattle.mus_score.specs.declared.score.Event.{Event}
+use Rattle.mus_score.specs.declared.score.Flat.{Flat}
+use Rattle.mus_score.specs.declared.score.Music.{Music}
+use Rattle.mus_score.specs.declared.score.Music.TheOpen.{Music-F}
+use Rattle.mus_score.specs.declared.score.Music.TheFolds.{fold-roll-Music, map-Music, ind-Music}
+use Rattle.mus_score.specs.declared.score.Music.TheViews.{roll-Music}
+use Rattle.mus_score.specs.declared.times.PendingLeaf.{PendingLeaf}
 
 -- The length of a value.
 base_low : (b : Base) → 81 ≤ base_length b

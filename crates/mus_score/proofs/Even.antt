@@ -1,8 +1,30 @@
 -- In a good body every duration comes out even: a value's ticks are a multiple of 2^6 * 3^4 * 5^2 * 7^2,
 -- and so is a product of two numbers from 2 to 9 a divisor of that.
-use Rattle.std.{proofs.{Common.{◌≡◌, ℕ, zero, suc, ◌*◌, ◌/◌, ◌≤◌, List, [], ◌∷◌, ◌++◌, map, Bool, true, false, refl, sym, ◌∙◌, ap, subst, arith, if◌then◌else◌}, lemmas.Bool.and_parts, Math.Nat.mul-div_cancel_left}, specs.List.{AllByRecursion, AllZip}}
-use Rattle.mus_units.specs.{declared.value.Base.Base, declared.value.Value.Value, Value.base_length, Value.with_dots, Value.value_length, Parts.base_units, Parts.units_of}
-use Rattle.mus_score.{specs.{declared.{good.{NodeVerdict.NodeVerdict, NodeContext.NodeContext}, score.{Event.Event, Flat.Flat, Music.{Music, TheOpen.Music-F, TheFolds.{fold-roll-Music, map-Music, ind-Music}, TheViews.roll-Music}}, times.PendingLeaf.PendingLeaf}, Good.{IsGoodNode, node_verdict, all_judged, good_step, judged_within, outside, IsGoodBody, is_good_note, is_rest}, Times.{flats_of, InTuplets, Leafing, scaled_ticks, leaf, in_row, no_pending_leaf, leaves_step, leaves_within}, Even.{Ratio, ratios_in_row, ratios_step, ratios_within, IsEven, AreEvenEvents}}, proofs.Bounds.{note_ticks, note_dots, rest_ticks_inner, rest_dots, guarded, gathered, all_music, GoodTuplet, tuplet_good}}
+use Rattle.std.proofs.Common.{◌≡◌, ℕ, zero, suc, ◌*◌, ◌/◌, ◌≤◌, List, [], ◌∷◌, ◌++◌, map, Bool, true, false, refl, sym}
+use Rattle.std.proofs.Common.{◌∙◌, ap, subst, arith, if◌then◌else◌}
+use Rattle.std.proofs.lemmas.Bool.{and_parts}
+use Rattle.std.proofs.Math.Nat.{mul-div_cancel_left}
+use Rattle.std.specs.List.{AllByRecursion, AllZip}
+use Rattle.mus_units.specs.declared.value.Base.{Base}
+use Rattle.mus_units.specs.declared.value.Value.{Value}
+use Rattle.mus_units.specs.Value.{base_length, with_dots, value_length}
+use Rattle.mus_units.specs.Parts.{base_units, units_of}
+use Rattle.mus_score.specs.declared.good.NodeVerdict.{NodeVerdict}
+use Rattle.mus_score.specs.declared.good.NodeContext.{NodeContext}
+use Rattle.mus_score.specs.declared.score.Event.{Event}
+use Rattle.mus_score.specs.declared.score.Flat.{Flat}
+use Rattle.mus_score.specs.declared.score.Music.{Music}
+use Rattle.mus_score.specs.declared.score.Music.TheOpen.{Music-F}
+use Rattle.mus_score.specs.declared.score.Music.TheFolds.{fold-roll-Music, map-Music, ind-Music}
+use Rattle.mus_score.specs.declared.score.Music.TheViews.{roll-Music}
+use Rattle.mus_score.specs.declared.times.PendingLeaf.{PendingLeaf}
+use Rattle.mus_score.specs.Good.{IsGoodNode, node_verdict, all_judged, good_step, judged_within, outside, IsGoodBody}
+use Rattle.mus_score.specs.Good.{is_good_note, is_rest}
+use Rattle.mus_score.specs.Times.{flats_of, InTuplets, Leafing, scaled_ticks, leaf, in_row, no_pending_leaf}
+use Rattle.mus_score.specs.Times.{leaves_step, leaves_within}
+use Rattle.mus_score.specs.Even.{Ratio, ratios_in_row, ratios_step, ratios_within, IsEven, AreEvenEvents}
+use Rattle.mus_score.proofs.Bounds.{note_ticks, note_dots, rest_ticks_inner, rest_dots, guarded, gathered, all_music}
+use Rattle.mus_score.proofs.Bounds.{GoodTuplet, tuplet_good}
 
 -- The ticks of a value.
 abbrev part : ℕ

@@ -1,5 +1,9 @@
 -- From what a walk sees to what a good score asks.
-use Rattle.std.{proofs.{Common.{◌≡◌, ◌≢◌, ℕ, zero, suc, ◌+◌, ◌≤◌, ◌<◌, List, [], ◌∷◌, length, arith}, lemmas.List.{Elements.All-from_recursion, Kept.AllPairs-cons}}, specs.List.{All, AllByRecursion, AllPairs, slice_index, Sorted.IsStrictlyIncreasing}}
+use Rattle.std.proofs.Common.{◌≡◌, ◌≢◌, ℕ, zero, suc, ◌+◌, ◌≤◌, ◌<◌, List, [], ◌∷◌, length, arith}
+use Rattle.std.proofs.lemmas.List.Elements.{All-from_recursion}
+use Rattle.std.proofs.lemmas.List.Kept.{AllPairs-cons}
+use Rattle.std.specs.List.{All, AllByRecursion, AllPairs, slice_index}
+use Rattle.std.specs.List.Sorted.{IsStrictlyIncreasing}
 use Rattle.mus_score.specs.{declared.score.Voice.Voice, Walks.Distinct, Walks.RiseWithin}
 
 pub distinct_pairs : (vs : List Voice) → Distinct vs → AllPairs (λ v w. v.id ≢ w.id) vs

@@ -1,7 +1,12 @@
 -- Durations come out even. Around an event stand tuplets of p in the time of q: the product of those p times the event's duration is its
 -- ticks times the product of those q, so that no division leaves a remainder.
-use Rattle.std.specs.{Prelude.◌≡◌, Prelude.ℕ, Prelude.◌*◌, Prelude.List, Prelude.[], Prelude.◌∷◌, Prelude.◌++◌, Prelude.map, List.AllZip}
-use Rattle.mus_score.specs.{declared.score.Flat.Flat, declared.score.Music.Music, declared.score.Music.TheOpen.Music-F, declared.score.Music.TheFolds.fold-Music, Times.InTuplets}
+use Rattle.std.specs.Prelude.{◌≡◌, ℕ, ◌*◌, List, [], ◌∷◌, ◌++◌, map}
+use Rattle.std.specs.List.{AllZip}
+use Rattle.mus_score.specs.declared.score.Flat.{Flat}
+use Rattle.mus_score.specs.declared.score.Music.{Music}
+use Rattle.mus_score.specs.declared.score.Music.TheOpen.{Music-F}
+use Rattle.mus_score.specs.declared.score.Music.TheFolds.{fold-Music}
+use Rattle.mus_score.specs.Times.{InTuplets}
 
 -- the products of the q and of the p of the tuplets around an event
 pub record Ratio : Type 0 where

@@ -1,7 +1,14 @@
 -- Good music.
-use Rattle.std.specs.Prelude.{◌≡◌, ℕ, zero, suc, ◌+◌, ◌*◌, ◌≤◌, List, [], ◌∷◌, length, map, sum, Bool, true, false, ◌&&◌, ◌||◌, ◌==◌, nat_le, if◌then◌else◌, max, sum_by}
+use Rattle.std.specs.Prelude.{◌≡◌, ℕ, zero, suc, ◌+◌, ◌*◌, ◌≤◌, List, [], ◌∷◌, length, map, sum, Bool, true, false}
+use Rattle.std.specs.Prelude.{◌&&◌, ◌||◌, ◌==◌, nat_le, if◌then◌else◌, max, sum_by}
 use Rattle.mus_units.specs.Value.{value_length, whole_note}
-use Rattle.mus_score.specs.declared.{good.NodeVerdict.NodeVerdict, good.NodeContext.NodeContext, score.Event.Event, score.Flat.Flat, score.Music.Music, score.Music.TheOpen.Music-F, score.Music.TheFolds.fold-Music}
+use Rattle.mus_score.specs.declared.good.NodeVerdict.{NodeVerdict}
+use Rattle.mus_score.specs.declared.good.NodeContext.{NodeContext}
+use Rattle.mus_score.specs.declared.score.Event.{Event}
+use Rattle.mus_score.specs.declared.score.Flat.{Flat}
+use Rattle.mus_score.specs.declared.score.Music.{Music}
+use Rattle.mus_score.specs.declared.score.Music.TheOpen.{Music-F}
+use Rattle.mus_score.specs.declared.score.Music.TheFolds.{fold-Music}
 
 abbrev pub has_value_ticks : Event → Bool
 has_value_ticks e = nat_le e.value.dots 3 && e.ticks == value_length e.value

@@ -1,7 +1,19 @@
 -- Good scores: what each call that takes a score or a voice asks of it, and each call that makes one gives.
-use Rattle.std.specs.{Prelude.{◌≡◌, ◌≢◌, ⊤, ℕ, suc, pos, negsuc, ◌≤◌, ◌<◌, ◌≤ℤ◌, List, [], ◌∷◌, length, map, sum, sum_by, flat_map, false, All, AllPairs, IfSome, unwrap_or}, List.Sorted.IsStrictlyIncreasing}
-use Rattle.mus_units.specs.{declared.note.Head.Head, declared.pitch.Clef.Clef, Good.IsGoodKey, Good.IsGoodMeter, Pitch.height_of}
-use Rattle.mus_score.specs.{declared.score.Event.Event, declared.score.Flat.Flat, declared.score.Measure.Measure, declared.score.Voice.Voice, declared.score.Score.Score, Good.IsGoodBody, Good.weight, Seats.is_lower, Times.flats_of}
+use Rattle.std.specs.Prelude.{◌≡◌, ◌≢◌, ⊤, ℕ, suc, pos, negsuc, ◌≤◌, ◌<◌, ◌≤ℤ◌, List, [], ◌∷◌, length, map, sum, sum_by}
+use Rattle.std.specs.Prelude.{flat_map, false, All, AllPairs, IfSome, unwrap_or}
+use Rattle.std.specs.List.Sorted.{IsStrictlyIncreasing}
+use Rattle.mus_units.specs.declared.note.Head.{Head}
+use Rattle.mus_units.specs.declared.pitch.Clef.{Clef}
+use Rattle.mus_units.specs.Good.{IsGoodKey, IsGoodMeter}
+use Rattle.mus_units.specs.Pitch.{height_of}
+use Rattle.mus_score.specs.declared.score.Event.{Event}
+use Rattle.mus_score.specs.declared.score.Flat.{Flat}
+use Rattle.mus_score.specs.declared.score.Measure.{Measure}
+use Rattle.mus_score.specs.declared.score.Voice.{Voice}
+use Rattle.mus_score.specs.declared.score.Score.{Score}
+use Rattle.mus_score.specs.Good.{IsGoodBody, weight}
+use Rattle.mus_score.specs.Seats.{is_lower}
+use Rattle.mus_score.specs.Times.{flats_of}
 
 -- the events of measures, from the first to the last
 abbrev pub events_of : List Measure → List Flat

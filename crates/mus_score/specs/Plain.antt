@@ -1,6 +1,12 @@
 -- A plain score: notes and rests alone, with no grace, tuplet, decoration, mention, ending, slur mark, tied head or word.
-use Rattle.std.specs.{Prelude.◌==◌, Prelude.◌&&◌, Prelude.not, Prelude.List, Prelude.length, Prelude.Bool, Prelude.false, List.list_all, Option.is_none}
-use Rattle.mus_score.specs.declared.score.{Event.Event, Music.Music, Music.TheOpen.Music-F, Music.TheFolds.fold-Music, Score.Score}
+use Rattle.std.specs.Prelude.{◌==◌, ◌&&◌, not, List, length, Bool, false}
+use Rattle.std.specs.List.{list_all}
+use Rattle.std.specs.Option.{is_none}
+use Rattle.mus_score.specs.declared.score.Event.{Event}
+use Rattle.mus_score.specs.declared.score.Music.{Music}
+use Rattle.mus_score.specs.declared.score.Music.TheOpen.{Music-F}
+use Rattle.mus_score.specs.declared.score.Music.TheFolds.{fold-Music}
+use Rattle.mus_score.specs.declared.score.Score.{Score}
 
 abbrev pub is_plain_event : Event → Bool
 is_plain_event e =

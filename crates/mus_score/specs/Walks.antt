@@ -1,5 +1,6 @@
 -- What is seen of a score while its voices and bars are walked.
-use Rattle.std.specs.{Prelude.◌≢◌, Prelude.⊤, Prelude.ℕ, Prelude.◌<◌, Prelude.List, Prelude.[], Prelude.◌∷◌, List.AllByRecursion}
+use Rattle.std.specs.Prelude.{◌≢◌, ⊤, ℕ, ◌<◌, List, [], ◌∷◌}
+use Rattle.std.specs.List.{AllByRecursion}
 use Rattle.mus_score.specs.declared.score.Voice.{Voice}
 
 -- no voice has the id of a later one

@@ -1,5 +1,6 @@
 ghost use Rattle.std.specs.Prelude.{◌≡◌, ◌↔◌, IsTrue, map, min, sum};
-ghost use Rattle.mus_score.specs.Good.{IsGoodBody, all_judged, has_value_ticks, is_good_note, is_rest, judged_within, tuplet_judged, weight};
+ghost use Rattle.mus_score.specs.Good.{IsGoodBody, all_judged, has_value_ticks, is_good_note, is_rest, judged_within};
+ghost use Rattle.mus_score.specs.Good.{tuplet_judged, weight};
 
 use crate::score::{Event, Music};
 use mus_units::{WHOLE, ticks_of};

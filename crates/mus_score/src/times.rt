@@ -1,5 +1,11 @@
 ghost use Rattle.std.specs.Prelude.{◌≡◌, ◌∷◌, [], ◌≤◌, ◌<◌, ◌^◌, ◌++◌, map, true, IfOk, OnOk, ◌*◌, All, sum, sum_by};
-ghost use Rattle.mus_score.specs.{declared.score.Flat.Flat, Good.{IsGoodBody, IsGoodNode, IsGoodFlat, flat_count, flat_weight, longest_ticks, total_ticks, weight}, Even.AreEvenEvents, Times.{scaled_ticks, duration_of, duration_within, durations_within, products_fit, all_products_fit, is_scalable, leaf, leaves_within, in_row, flats_of, no_pending_leaf, Walked}};
+ghost use Rattle.mus_score.specs.declared.score.Flat.{Flat};
+ghost use Rattle.mus_score.specs.Good.{IsGoodBody, IsGoodNode, IsGoodFlat, flat_count, flat_weight, longest_ticks};
+ghost use Rattle.mus_score.specs.Good.{total_ticks, weight};
+ghost use Rattle.mus_score.specs.Even.{AreEvenEvents};
+ghost use Rattle.mus_score.specs.Times.{scaled_ticks, duration_of, duration_within, durations_within, products_fit};
+ghost use Rattle.mus_score.specs.Times.{all_products_fit, is_scalable, leaf, leaves_within, in_row, flats_of};
+ghost use Rattle.mus_score.specs.Times.{no_pending_leaf, Walked};
 
 use crate::copies::copy_event;
 use crate::score::{BorrowedEvent, Event, Flat, Music};

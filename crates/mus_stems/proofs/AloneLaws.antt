@@ -1,6 +1,15 @@
 -- A head alone isn't displaced, and where no head has a sign none is placed.
-use Rattle.std.{proofs.{Common.{◌≡◌, ℕ, zero, suc, ◌≤◌, ◌<◌, inl, ℤ, pos, Bool, true, false, List, [], ◌∷◌, length, replicate, slice_index_or, refl, sym, ◌∙◌, ap, Option, Some, None, arith}, lemmas.Bool.or_parts, lemmas.Int.ints}, specs.{Prelude.slice_get, Prelude.if◌then◌else◌, List.{AllByRecursion, list_any}}}
-use Rattle.mus_stems.{specs.{declared.heads.HeadPosition.HeadPosition, Heads.{AllNear, Taken, taken, gives_way, shifted, head_shift, shifts_of}, Signs.{sign_dx, signs_along, signs_from}, Order.{head_at, IsHead, IsAmong, AreTaken}}, proofs.OrderLaws.{taken_are, one_order}}
+use Rattle.std.proofs.Common.{◌≡◌, ℕ, zero, suc, ◌≤◌, ◌<◌, inl, ℤ, pos, Bool, true, false, List, [], ◌∷◌, length}
+use Rattle.std.proofs.Common.{replicate, slice_index_or, refl, sym, ◌∙◌, ap, Option, Some, None, arith}
+use Rattle.std.proofs.lemmas.Bool.{or_parts}
+use Rattle.std.proofs.lemmas.Int.{ints}
+use Rattle.std.specs.Prelude.{slice_get, if◌then◌else◌}
+use Rattle.std.specs.List.{AllByRecursion, list_any}
+use Rattle.mus_stems.specs.declared.heads.HeadPosition.{HeadPosition}
+use Rattle.mus_stems.specs.Heads.{AllNear, Taken, taken, gives_way, shifted, head_shift, shifts_of}
+use Rattle.mus_stems.specs.Signs.{sign_dx, signs_along, signs_from}
+use Rattle.mus_stems.specs.Order.{head_at, IsHead, IsAmong, AreTaken}
+use Rattle.mus_stems.proofs.OrderLaws.{taken_are, one_order}
 
 none_taken : (up : Bool) → AreTaken up [] []
 none_taken up = record { order = tt; only = tt; all = λ k s is. absurd (grind (arith, is)) }

@@ -1,6 +1,17 @@
 -- Signs stand in their columns, and in one way alone.
-use Rattle.std.{proofs.{Common.{◌≡◌, ℕ, ◌+◌, ◌<◌, ℤ, Bool, true, false, cond, if◌then◌else◌, List, [], ◌∷◌, length, replicate, refl, sym, ◌∙◌, subst, Option, Some, None, length-set, get_or-set_same, get_or-set_other}, lemmas.List.{get_or-replicate, length-replicate}}, specs.{Prelude.{slice_set, slice_index_or}, List.AllByRecursion}}
-use Rattle.mus_stems.{specs.{declared.heads.HeadPosition.HeadPosition, Heads.{AllNear, Taken, taken}, Signs.{sign_dx, signs_along, signs_from}, Order.IsHead, Columns.{sign_of_head, sign_where, SignedAfter, AreInColumns}}, proofs.{OrderLaws.{Apart, are_apart, taken_are, one_order}, DisplacedLaws.{head_within, same_lists}}}
+use Rattle.std.proofs.Common.{◌≡◌, ℕ, ◌+◌, ◌<◌, ℤ, Bool, true, false, cond, if◌then◌else◌, List, [], ◌∷◌, length}
+use Rattle.std.proofs.Common.{replicate, refl, sym, ◌∙◌, subst, Option, Some, None, length-set, get_or-set_same}
+use Rattle.std.proofs.Common.{get_or-set_other}
+use Rattle.std.proofs.lemmas.List.{get_or-replicate, length-replicate}
+use Rattle.std.specs.Prelude.{slice_set, slice_index_or}
+use Rattle.std.specs.List.{AllByRecursion}
+use Rattle.mus_stems.specs.declared.heads.HeadPosition.{HeadPosition}
+use Rattle.mus_stems.specs.Heads.{AllNear, Taken, taken}
+use Rattle.mus_stems.specs.Signs.{sign_dx, signs_along, signs_from}
+use Rattle.mus_stems.specs.Order.{IsHead}
+use Rattle.mus_stems.specs.Columns.{sign_of_head, sign_where, SignedAfter, AreInColumns}
+use Rattle.mus_stems.proofs.OrderLaws.{Apart, are_apart, taken_are, one_order}
+use Rattle.mus_stems.proofs.DisplacedLaws.{head_within, same_lists}
 
 either_get : (b : Bool) (xs ys : List (Option ℤ)) (p : ℕ) (z : Option ℤ) → slice_index_or xs p None ≡ z → slice_index_or ys p None ≡ z → slice_index_or (cond b xs ys) p None ≡ z
 either_get true xs ys p z e f = e

@@ -1,6 +1,13 @@
 -- One more of what is counted.
-use Rattle.std.proofs.{Common.{◌≡◌, ℕ, suc, ◌+◌, ◌-◌, ◌<◌, ℤ, pos, ◌-ℤ◌, ◌+ℤ◌, Bool, List, [], ◌∷◌, ◌++◌, Option, refl, sym, ap, ◌∙◌, append_assoc, arith, false}, lemmas.Int.ints}
-use Rattle.mus_stems.specs.{declared.heads.HeadPosition.HeadPosition, declared.heads.LastHead.LastHead, Heads.shifted, Heads.Taken, Heads.taken_at, Heads.taken_from, Signs.signs_along, Ledgers.ledger_lines, Dots.dot_at, Dots.dots_at}
+use Rattle.std.proofs.Common.{◌≡◌, ℕ, suc, ◌+◌, ◌-◌, ◌<◌, ℤ, pos, ◌-ℤ◌, ◌+ℤ◌, Bool, List, [], ◌∷◌, ◌++◌, Option, refl}
+use Rattle.std.proofs.Common.{sym, ap, ◌∙◌, append_assoc, arith, false}
+use Rattle.std.proofs.lemmas.Int.{ints}
+use Rattle.mus_stems.specs.declared.heads.HeadPosition.{HeadPosition}
+use Rattle.mus_stems.specs.declared.heads.LastHead.{LastHead}
+use Rattle.mus_stems.specs.Heads.{shifted, Taken, taken_at, taken_from}
+use Rattle.mus_stems.specs.Signs.{signs_along}
+use Rattle.mus_stems.specs.Ledgers.{ledger_lines}
+use Rattle.mus_stems.specs.Dots.{dot_at, dots_at}
 
 pub one_less : (k n : ℕ) → k < n → n - k ≡ suc (n - (k + 1))
 one_less k n lt = omega arith

@@ -1,6 +1,17 @@
 -- Heads are displaced as they should be, and in one way alone.
-use Rattle.std.{proofs.{Common.{◌≡◌, ℕ, zero, suc, ◌<◌, ℤ, pos, Bool, true, false, cond, not, ◌&&◌, List, [], ◌∷◌, length, replicate, refl, sym, ◌∙◌, ap, subst, Option, Some, None, arith, length-set, get_or-set_same, get_or-set_other, ext_get_or}, lemmas.List.{get_or-replicate, length-replicate}}, specs.{Prelude.{slice_get, slice_set, slice_index_or}, Ordering.int_eq, List.AllByRecursion}}
-use Rattle.mus_stems.{specs.{declared.heads.{HeadPosition.HeadPosition, LastHead.LastHead}, Heads.{AllNear, Taken, taken, is_step_past, gives_way, shifted, head_shift, shifts_of}, Order.{head_at, IsHead, AreTaken}, Displaced.{dx_of, is_displaced, dx_where, DisplacedAfter, Displaced, AreDisplaced}}, proofs.OrderLaws.{of_each, Apart, are_apart, taken_are, one_order}}
+use Rattle.std.proofs.Common.{◌≡◌, ℕ, zero, suc, ◌<◌, ℤ, pos, Bool, true, false, cond, not, ◌&&◌, List, [], ◌∷◌, length}
+use Rattle.std.proofs.Common.{replicate, refl, sym, ◌∙◌, ap, subst, Option, Some, None, arith, length-set}
+use Rattle.std.proofs.Common.{get_or-set_same, get_or-set_other, ext_get_or}
+use Rattle.std.proofs.lemmas.List.{get_or-replicate, length-replicate}
+use Rattle.std.specs.Prelude.{slice_get, slice_set, slice_index_or}
+use Rattle.std.specs.Ordering.{int_eq}
+use Rattle.std.specs.List.{AllByRecursion}
+use Rattle.mus_stems.specs.declared.heads.HeadPosition.{HeadPosition}
+use Rattle.mus_stems.specs.declared.heads.LastHead.{LastHead}
+use Rattle.mus_stems.specs.Heads.{AllNear, Taken, taken, is_step_past, gives_way, shifted, head_shift, shifts_of}
+use Rattle.mus_stems.specs.Order.{head_at, IsHead, AreTaken}
+use Rattle.mus_stems.specs.Displaced.{dx_of, is_displaced, dx_where, DisplacedAfter, Displaced, AreDisplaced}
+use Rattle.mus_stems.proofs.OrderLaws.{of_each, Apart, are_apart, taken_are, one_order}
 
 -- places within a list
 within_list : (ss : List HeadPosition) (k : ℕ) (s : HeadPosition) → slice_get ss k ≡ Some s → k < length ss

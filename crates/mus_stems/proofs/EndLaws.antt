@@ -1,7 +1,21 @@
 -- The own ends of what `stems_of` gives are in range, and there is a plan for each event.
-use Rattle.std.{proofs.{Common.{◌≡◌, ℕ, ℤ, pos, negsuc, ◌≤ℤ◌, Bool, true, false, List, [], ◌∷◌, length, suc, ap, ◌∙◌, refl, subst, sym, arith}, lemmas.Int.{ints, clamps}}, specs.List.AllByRecursion}
+use Rattle.std.proofs.Common.{◌≡◌, ℕ, ℤ, pos, negsuc, ◌≤ℤ◌, Bool, true, false, List, [], ◌∷◌, length, suc, ap, ◌∙◌}
+use Rattle.std.proofs.Common.{refl, subst, sym, arith}
+use Rattle.std.proofs.lemmas.Int.{ints, clamps}
+use Rattle.std.specs.List.{AllByRecursion}
 use Rattle.mus_units.specs.{declared.note.Wish.Wish, declared.pitch.Clef.Clef}
-use Rattle.mus_stems.{specs.{declared.{heads.HeadPosition.HeadPosition, stills.StemInput.StemInput, plans.StemPlan.StemPlan}, Heads.{AllNear, lowest, highest}, Stills.{clefs_from, stills, IsGoodStill, AllGood}, Beams.{is_joined, beams}, Ends.{upper_end, lower_end, outer_end, stem_own_end, stands_up, run_end}, Plans.{IsEndNear, plan_of, plans_along, run_plans, first_event_id, plans_of_runs, AllEndsNear}}, proofs.{Ranges.{InRange, low_near, high_near}, RunLaws.{all_in_runs, all_append, runs_length}, Taking.stills_length}}
+use Rattle.mus_stems.specs.declared.heads.HeadPosition.{HeadPosition}
+use Rattle.mus_stems.specs.declared.stills.StemInput.{StemInput}
+use Rattle.mus_stems.specs.declared.plans.StemPlan.{StemPlan}
+use Rattle.mus_stems.specs.Heads.{AllNear, lowest, highest}
+use Rattle.mus_stems.specs.Stills.{clefs_from, stills, IsGoodStill, AllGood}
+use Rattle.mus_stems.specs.Beams.{is_joined, beams}
+use Rattle.mus_stems.specs.Ends.{upper_end, lower_end, outer_end, stem_own_end, stands_up, run_end}
+use Rattle.mus_stems.specs.Plans.{IsEndNear, plan_of, plans_along, run_plans, first_event_id, plans_of_runs}
+use Rattle.mus_stems.specs.Plans.{AllEndsNear}
+use Rattle.mus_stems.proofs.Ranges.{InRange, low_near, high_near}
+use Rattle.mus_stems.proofs.RunLaws.{all_in_runs, all_append, runs_length}
+use Rattle.mus_stems.proofs.Taking.{stills_length}
 use Rattle.mus_score.specs.declared.score.Flat.{Flat}
 
 IsEnd : ℤ → Type 0

@@ -1,7 +1,24 @@
 -- Beams are told by the groups of plans, where the ids of events rise.
-use Rattle.std.{proofs.{Common.{◌≡◌, ℕ, suc, ◌+◌, ◌<◌, ℤ, Bool, true, false, cond, eqb, List, [], ◌∷◌, ◌++◌, length, map, refl, sym, subst, ap, ◌∙◌, arith}, lemmas.{Bool.{eq-eqb, ne_eqb}, List.{Folds.flat_map-map, length-map}}}, specs.{Prelude.slice_index, List.{flat_map, Sorted.IsStrictlyIncreasing}}}
+use Rattle.std.proofs.Common.{◌≡◌, ℕ, suc, ◌+◌, ◌<◌, ℤ, Bool, true, false, cond, eqb, List, [], ◌∷◌, ◌++◌, length, map}
+use Rattle.std.proofs.Common.{refl, sym, subst, ap, ◌∙◌, arith}
+use Rattle.std.proofs.lemmas.Bool.{eq-eqb, ne_eqb}
+use Rattle.std.proofs.lemmas.List.Folds.{flat_map-map}
+use Rattle.std.proofs.lemmas.List.{length-map}
+use Rattle.std.specs.Prelude.{slice_index}
+use Rattle.std.specs.List.{flat_map}
+use Rattle.std.specs.List.Sorted.{IsStrictlyIncreasing}
 use Rattle.mus_units.specs.declared.note.Wish.{Wish}
-use Rattle.mus_stems.{specs.{declared.{stills.StemInput.StemInput, plans.StemPlan.StemPlan, slopes.SlopeInput.SlopeInput}, Runs.{runs, put_before, JoinedAfter, EndsBefore, AreRuns}, Beams.{is_joined, beams}, Ends.{stands_up, run_end}, Plans.{plan_of, plans_along, run_plans, plans_of_runs}, Slope.{slope_input, slope_inputs, shares_beam}, Groups.{same_group, IdsRise, BeamsByGroups, SlopesByBeams}}, proofs.{RunLaws.{runs_are_maximal, runs_length, runs_of_whole}, EndLaws.run_length}}
+use Rattle.mus_stems.specs.declared.stills.StemInput.{StemInput}
+use Rattle.mus_stems.specs.declared.plans.StemPlan.{StemPlan}
+use Rattle.mus_stems.specs.declared.slopes.SlopeInput.{SlopeInput}
+use Rattle.mus_stems.specs.Runs.{runs, put_before, JoinedAfter, EndsBefore, AreRuns}
+use Rattle.mus_stems.specs.Beams.{is_joined, beams}
+use Rattle.mus_stems.specs.Ends.{stands_up, run_end}
+use Rattle.mus_stems.specs.Plans.{plan_of, plans_along, run_plans, plans_of_runs}
+use Rattle.mus_stems.specs.Slope.{slope_input, slope_inputs, shares_beam}
+use Rattle.mus_stems.specs.Groups.{same_group, IdsRise, BeamsByGroups, SlopesByBeams}
+use Rattle.mus_stems.proofs.RunLaws.{runs_are_maximal, runs_length, runs_of_whole}
+use Rattle.mus_stems.proofs.EndLaws.{run_length}
 
 -- ids that rise from event to event, the first of them above one before
 abbrev RiseBehind : ℕ → List StemInput → Type 0

@@ -1,6 +1,15 @@
 -- The heads that are taken level by level are those of an event in their order, and there is only one such order.
-use Rattle.std.{proofs.{Common.{◌≡◌, ℕ, zero, suc, ◌+◌, ◌≤◌, ℤ, pos, negsuc, ◌+ℤ◌, ◌≤ℤ◌, ◌<ℤ◌, ◌⊎◌, inl, inr, Bool, true, false, cond, List, [], ◌∷◌, refl, sym, ◌∙◌, ap, subst, Some, arith}, lemmas.{Int.ints, Bool.{false≢true, Decides.Decides-int_eq}}}, specs.{Prelude.slice_get, Ordering.int_eq, List.AllByRecursion}}
-use Rattle.mus_stems.specs.{declared.heads.HeadPosition.HeadPosition, Heads.IsNearStaff, Heads.AllNear, Heads.Taken, Heads.level_of, Heads.taken_one, Heads.taken_at, Heads.taken_from, Heads.taken, Order.IsBefore, Order.AreTakenInOrder, Order.head_at, Order.IsHead, Order.IsAmong, Order.AreTaken}
+use Rattle.std.proofs.Common.{◌≡◌, ℕ, zero, suc, ◌+◌, ◌≤◌, ℤ, pos, negsuc, ◌+ℤ◌, ◌≤ℤ◌, ◌<ℤ◌, ◌⊎◌, inl, inr, Bool, true}
+use Rattle.std.proofs.Common.{false, cond, List, [], ◌∷◌, refl, sym, ◌∙◌, ap, subst, Some, arith}
+use Rattle.std.proofs.lemmas.Int.{ints}
+use Rattle.std.proofs.lemmas.Bool.{false≢true}
+use Rattle.std.proofs.lemmas.Bool.Decides.{Decides-int_eq}
+use Rattle.std.specs.Prelude.{slice_get}
+use Rattle.std.specs.Ordering.{int_eq}
+use Rattle.std.specs.List.{AllByRecursion}
+use Rattle.mus_stems.specs.declared.heads.HeadPosition.{HeadPosition}
+use Rattle.mus_stems.specs.Heads.{IsNearStaff, AllNear, Taken, level_of, taken_one, taken_at, taken_from, taken}
+use Rattle.mus_stems.specs.Order.{IsBefore, AreTakenInOrder, head_at, IsHead, IsAmong, AreTaken}
 
 -- what holds of all holds of each
 pub of_each : (P : Taken → Type 0) (ts : List Taken) (t : Taken) → AllByRecursion P ts → IsAmong ts t → P t

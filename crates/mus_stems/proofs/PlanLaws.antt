@@ -1,7 +1,21 @@
 -- What `stems_of` gives are the plans of events, and there are no others.
-use Rattle.std.{proofs.Common.{◌≡◌, List, [], ◌∷◌, ◌++◌, map, refl, sym, ◌∙◌, ap, subst}, specs.List.{AllByRecursion, AllZip}}
+use Rattle.std.proofs.Common.{◌≡◌, List, [], ◌∷◌, ◌++◌, map, refl, sym, ◌∙◌, ap, subst}
+use Rattle.std.specs.List.{AllByRecursion, AllZip}
 use Rattle.mus_units.specs.declared.note.Wish.{Wish}
-use Rattle.mus_stems.{specs.{declared.{stills.StemInput.StemInput, plans.StemPlan.StemPlan}, Stills.{IsGoodStill, AllGood}, Beams.{is_joined, beams}, Ends.{stands_up, run_end, from_of, stem_own_end}, Dots.{first_dot, dots_along}, Signs.first_sign, Displaced.AreDisplaced, Columns.AreInColumns, Plans.{first_event_id, plan_of, plans_along, run_plans, plans_of_runs, InRun, in_run, in_runs, IsStemPlan, ArePlans, OnePlan}}, proofs.{RunLaws.{runs_are_maximal, all_in_runs, maximal_runs}, DisplacedLaws.{shifts_displace, one_displacing}, ColumnLaws.{signs_in_columns, one_column}}}
+use Rattle.mus_stems.specs.declared.stills.StemInput.{StemInput}
+use Rattle.mus_stems.specs.declared.plans.StemPlan.{StemPlan}
+use Rattle.mus_stems.specs.Stills.{IsGoodStill, AllGood}
+use Rattle.mus_stems.specs.Beams.{is_joined, beams}
+use Rattle.mus_stems.specs.Ends.{stands_up, run_end, from_of, stem_own_end}
+use Rattle.mus_stems.specs.Dots.{first_dot, dots_along}
+use Rattle.mus_stems.specs.Signs.{first_sign}
+use Rattle.mus_stems.specs.Displaced.{AreDisplaced}
+use Rattle.mus_stems.specs.Columns.{AreInColumns}
+use Rattle.mus_stems.specs.Plans.{first_event_id, plan_of, plans_along, run_plans, plans_of_runs, InRun, in_run}
+use Rattle.mus_stems.specs.Plans.{in_runs, IsStemPlan, ArePlans, OnePlan}
+use Rattle.mus_stems.proofs.RunLaws.{runs_are_maximal, all_in_runs, maximal_runs}
+use Rattle.mus_stems.proofs.DisplacedLaws.{shifts_displace, one_displacing}
+use Rattle.mus_stems.proofs.ColumnLaws.{signs_in_columns, one_column}
 
 is_plan : (wish : Wish) (run : List StemInput) (e : StemInput) → IsGoodStill e → IsStemPlan wish (in_run run e) (plan_of (stands_up wish run) (run_end (stands_up wish run) run) (first_event_id run) e)
 unfolding plan_of

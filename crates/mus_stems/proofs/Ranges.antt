@@ -1,6 +1,12 @@
 -- The lowest and the highest of good heads are in range.
-use Rattle.std.{proofs.{Common.{ℤ, pos, negsuc, ◌≤ℤ◌, List, [], ◌∷◌, arith}, lemmas.Int.{ints, clamps}}, specs.Int.{int_min, int_max}}
-use Rattle.mus_stems.specs.{declared.heads.HeadPosition.HeadPosition, declared.stills.StemInput.StemInput, Heads.AllNear, Heads.lowest, Heads.highest, Ends.low_of, Ends.high_of, Ends.lowest_in, Ends.highest_in, Ends.run_low, Ends.run_high, Stills.AllGood}
+use Rattle.std.proofs.Common.{ℤ, pos, negsuc, ◌≤ℤ◌, List, [], ◌∷◌, arith}
+use Rattle.std.proofs.lemmas.Int.{ints, clamps}
+use Rattle.std.specs.Int.{int_min, int_max}
+use Rattle.mus_stems.specs.declared.heads.HeadPosition.{HeadPosition}
+use Rattle.mus_stems.specs.declared.stills.StemInput.{StemInput}
+use Rattle.mus_stems.specs.Heads.{AllNear, lowest, highest}
+use Rattle.mus_stems.specs.Ends.{low_of, high_of, lowest_in, highest_in, run_low, run_high}
+use Rattle.mus_stems.specs.Stills.{AllGood}
 
 abbrev pub InRange : ℤ → Type 0
 InRange z = (negsuc 13 ≤ℤ z) × (z ≤ℤ pos 22)

@@ -1,5 +1,7 @@
 -- The runs of a list begin with the run at its front, and are its maximal runs.
-use Rattle.std.{proofs.Common.{◌≡◌, ℕ, zero, suc, ◌+◌, Bool, true, false, cond, List, [], ◌∷◌, ◌++◌, take, drop, refl, sym, ◌∙◌, ap, append_assoc, length, length-append, arith}, specs.List.{flat_map, AllByRecursion}}
+use Rattle.std.proofs.Common.{◌≡◌, ℕ, zero, suc, ◌+◌, Bool, true, false, cond, List, [], ◌∷◌, ◌++◌, take, drop, refl}
+use Rattle.std.proofs.Common.{sym, ◌∙◌, ap, append_assoc, length, length-append, arith}
+use Rattle.std.specs.List.{flat_map, AllByRecursion}
 use Rattle.mus_stems.specs.Runs.{runs, put_before, run_more, JoinedAfter, EndsBefore, AreRuns, AreMaximalRuns}
 
 pub runs_front : {A : Type 0} (joined : A → A → Bool) (d : A) (es : List A) →

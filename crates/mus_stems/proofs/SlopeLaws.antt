@@ -1,6 +1,20 @@
 -- Lines of beams: what events stand over them, and how far they rise.
-use Rattle.std.{proofs.{Common.{◌≡◌, ℕ, zero, suc, ◌+◌, ◌*◌, ◌/◌, ◌<◌, ◌≤◌, ℤ, pos, negsuc, ◌-ℤ◌, ◌*ℤ◌, ◌≤ℤ◌, ◌<ℤ◌, Bool, true, false, cond, List, [], ◌∷◌, take, drop, refl, subst, sym, ap, ◌∙◌, length, arith}, lemmas.Int.{ints, clamps, unsigned_abs-mul}, Math.Nat.{div-le_of_le-mul, div-lt_iff_lt-mul, mul-le-mul}}, specs.Int.{RustNames.unsigned_abs, int_div_euclid}}
-use Rattle.mus_stems.{specs.{Slope.{slope_input, slope_inputs, shares_beam, last_input, slope_line, rise_at, base_along, ends_along, beam_ends, sloped_ends, with_ends, sloped, ArePlaces, RisesInBeams, RisesAfter, IsAnchor, AreAnchors, IsLine, IsOver, AreOver, Rise, RiseFrom, IsBeamBase}, declared.{plans.StemPlan.StemPlan, slopes.{SlopeInput.SlopeInput, BeamLine.BeamLine}}, Plans.AllEndsNear, Runs.run_more, Ends.further_end}, proofs.RunLaws.{run_is, runs_length}}
+use Rattle.std.proofs.Common.{◌≡◌, ℕ, zero, suc, ◌+◌, ◌*◌, ◌/◌, ◌<◌, ◌≤◌, ℤ, pos, negsuc, ◌-ℤ◌, ◌*ℤ◌, ◌≤ℤ◌, ◌<ℤ◌, Bool}
+use Rattle.std.proofs.Common.{true, false, cond, List, [], ◌∷◌, take, drop, refl, subst, sym, ap, ◌∙◌, length, arith}
+use Rattle.std.proofs.lemmas.Int.{ints, clamps, unsigned_abs-mul}
+use Rattle.std.proofs.Math.Nat.{div-le_of_le-mul, div-lt_iff_lt-mul, mul-le-mul}
+use Rattle.std.specs.Int.RustNames.{unsigned_abs}
+use Rattle.std.specs.Int.{int_div_euclid}
+use Rattle.mus_stems.specs.Slope.{slope_input, slope_inputs, shares_beam, last_input, slope_line, rise_at, base_along}
+use Rattle.mus_stems.specs.Slope.{ends_along, beam_ends, sloped_ends, with_ends, sloped, ArePlaces, RisesInBeams}
+use Rattle.mus_stems.specs.Slope.{RisesAfter, IsAnchor, AreAnchors, IsLine, IsOver, AreOver, Rise, RiseFrom, IsBeamBase}
+use Rattle.mus_stems.specs.declared.plans.StemPlan.{StemPlan}
+use Rattle.mus_stems.specs.declared.slopes.SlopeInput.{SlopeInput}
+use Rattle.mus_stems.specs.declared.slopes.BeamLine.{BeamLine}
+use Rattle.mus_stems.specs.Plans.{AllEndsNear}
+use Rattle.mus_stems.specs.Runs.{run_more}
+use Rattle.mus_stems.specs.Ends.{further_end}
+use Rattle.mus_stems.proofs.RunLaws.{run_is, runs_length}
 
 all_anchors : (ps : List StemPlan) (xs : List ℤ) → AllEndsNear ps → ArePlaces xs → AreAnchors (slope_inputs ps xs)
 unfolding slope_input

@@ -1,7 +1,12 @@
 -- What is taken from events that can be drawn is good.
 use Rattle.std.proofs.Common.{◌≡◌, ◌≤◌, List, [], ◌∷◌, length, map, refl, subst, sym, ap, suc}
-use Rattle.{mus_units.specs.{declared.pitch.Clef.Clef, declared.note.Head.Head}, mus_score.specs.{declared.score.Flat.Flat, GoodScore.clef_at}}
-use Rattle.mus_stems.specs.{declared.stills.StemInput.StemInput, Heads.stand_of, Stills.still_of, Stills.clefs_from, Stills.stills, Stills.CanDrawEvent, Stills.AllCanStand, Stills.IsGoodStill, Stills.AllGood}
+use Rattle.mus_units.specs.declared.pitch.Clef.{Clef}
+use Rattle.mus_units.specs.declared.note.Head.{Head}
+use Rattle.mus_score.specs.declared.score.Flat.{Flat}
+use Rattle.mus_score.specs.GoodScore.{clef_at}
+use Rattle.mus_stems.specs.declared.stills.StemInput.{StemInput}
+use Rattle.mus_stems.specs.Heads.{stand_of}
+use Rattle.mus_stems.specs.Stills.{still_of, clefs_from, stills, CanDrawEvent, AllCanStand, IsGoodStill, AllGood}
 
 length-stands : (c : Clef) (hs : List Head) → length (map (stand_of c) hs) ≡ length hs
 length-stands c [] = refl

@@ -1,6 +1,7 @@
 -- The columns of signs. The written signs of an event are counted from the highest head down, at one height in the order
 -- of the text. Each stands in a column of its own, one further left than the sign before it.
-use Rattle.std.specs.Prelude.{◌≡◌, ℕ, ◌+◌, ℤ, Bool, false, if◌then◌else◌, ⊤, List, [], ◌∷◌, length, slice_index_or, Option, Some, None}
+use Rattle.std.specs.Prelude.{◌≡◌, ℕ, ◌+◌, ℤ, Bool, false, if◌then◌else◌, ⊤, List, [], ◌∷◌, length, slice_index_or}
+use Rattle.std.specs.Prelude.{Option, Some, None}
 use Rattle.mus_stems.specs.{declared.heads.HeadPosition.HeadPosition, Heads.Taken, Signs.sign_dx, Order.AreTaken}
 
 -- what a list in the order of the text has for a head: the dx of its sign, if it has one

@@ -1,7 +1,10 @@
 -- Displaced heads. The head that is taken first stands at its stem. Each other one is displaced to the other side of the
 -- stem exactly where it is at most one step past the head taken before it and that head isn't displaced.
-use Rattle.std.specs.{Prelude.{◌≡◌, ℤ, pos, Bool, not, ◌&&◌, if◌then◌else◌, ⊤, List, [], ◌∷◌, length, slice_index_or}, Ordering.int_eq}
-use Rattle.mus_stems.specs.{declared.heads.HeadPosition.HeadPosition, Heads.Taken, Heads.is_step_past, Heads.head_shift, Order.AreTaken}
+use Rattle.std.specs.Prelude.{◌≡◌, ℤ, pos, Bool, not, ◌&&◌, if◌then◌else◌, ⊤, List, [], ◌∷◌, length, slice_index_or}
+use Rattle.std.specs.Ordering.{int_eq}
+use Rattle.mus_stems.specs.declared.heads.HeadPosition.{HeadPosition}
+use Rattle.mus_stems.specs.Heads.{Taken, is_step_past, head_shift}
+use Rattle.mus_stems.specs.Order.{AreTaken}
 
 -- the dx that a list in the order of the text has for a head
 abbrev pub dx_of : List ℤ → Taken → ℤ

@@ -1,6 +1,11 @@
 -- The dots behind the heads of an event.
-use Rattle.std.specs.{Prelude.{ℕ, zero, suc, ℤ, pos, negsuc, ◌+◌, ◌*◌, ◌%◌, ◌+ℤ◌, ◌*ℤ◌, Bool, ◌==◌, if◌then◌else◌, List, [], ◌∷◌, ◌++◌}, Ordering.int_eq, List.list_any}
-use Rattle.mus_stems.specs.{declared.heads.HeadPosition.HeadPosition, declared.dots.Spot.Spot, Distances.staff_step, Distances.right_of_stem, Distances.dot_column, Distances.outer_dot_column, Distances.between_dots}
+use Rattle.std.specs.Prelude.{ℕ, zero, suc, ℤ, pos, negsuc, ◌+◌, ◌*◌, ◌%◌, ◌+ℤ◌, ◌*ℤ◌, Bool, ◌==◌, if◌then◌else◌, List}
+use Rattle.std.specs.Prelude.{[], ◌∷◌, ◌++◌}
+use Rattle.std.specs.Ordering.{int_eq}
+use Rattle.std.specs.List.{list_any}
+use Rattle.mus_stems.specs.declared.heads.HeadPosition.{HeadPosition}
+use Rattle.mus_stems.specs.declared.dots.Spot.{Spot}
+use Rattle.mus_stems.specs.Distances.{staff_step, right_of_stem, dot_column, outer_dot_column, between_dots}
 
 unfoldable pub is_right : ℤ → Bool
 is_right dx = int_eq dx right_of_stem

@@ -1,6 +1,13 @@
 -- Which way the stems of a run go, and where they begin and end.
-use Rattle.std.specs.{Prelude.{ℤ, pos, ◌+ℤ◌, ◌-ℤ◌, ◌*ℤ◌, Bool, true, false, ◌&&◌, nat_lt, int_lt, if◌then◌else◌, List, [], ◌∷◌, length}, Int.{int_min, int_max}}
-use Rattle.{mus_units.specs.declared.note.Wish.{Wish}, mus_stems.specs.{declared.heads.HeadPosition.HeadPosition, declared.stills.StemInput.StemInput, Distances.staff_step, Distances.middle_line, Distances.stem_length, Heads.lowest, Heads.highest, Stills.is_short}}
+use Rattle.std.specs.Prelude.{ℤ, pos, ◌+ℤ◌, ◌-ℤ◌, ◌*ℤ◌, Bool, true, false, ◌&&◌, nat_lt, int_lt, if◌then◌else◌, List}
+use Rattle.std.specs.Prelude.{[], ◌∷◌, length}
+use Rattle.std.specs.Int.{int_min, int_max}
+use Rattle.mus_units.specs.declared.note.Wish.{Wish}
+use Rattle.mus_stems.specs.declared.heads.HeadPosition.{HeadPosition}
+use Rattle.mus_stems.specs.declared.stills.StemInput.{StemInput}
+use Rattle.mus_stems.specs.Distances.{staff_step, middle_line, stem_length}
+use Rattle.mus_stems.specs.Heads.{lowest, highest}
+use Rattle.mus_stems.specs.Stills.{is_short}
 
 -- the heights of the lowest and the highest head, 0 without a head
 abbrev pub low_of : List HeadPosition → ℤ

@@ -1,7 +1,14 @@
 -- Beams are told by the `group` of plans: where the ids of events rise, the plans of a beam are a maximal run of
 -- neighbours with one group, the id of the event at which the beam begins.
-use Rattle.std.specs.{Prelude.◌≡◌, Prelude.ℤ, Prelude.Bool, Prelude.◌==◌, Prelude.List, Prelude.length, Prelude.map, List.Sorted.IsStrictlyIncreasing}
-use Rattle.{mus_units.specs.declared.note.Wish.{Wish}, mus_stems.specs.{declared.stills.StemInput.StemInput, declared.plans.StemPlan.StemPlan, Runs.runs, Beams.beams, Plans.run_plans, Plans.plans_of_runs, Slope.slope_inputs, Slope.shares_beam}}
+use Rattle.std.specs.Prelude.{◌≡◌, ℤ, Bool, ◌==◌, List, length, map}
+use Rattle.std.specs.List.Sorted.{IsStrictlyIncreasing}
+use Rattle.mus_units.specs.declared.note.Wish.{Wish}
+use Rattle.mus_stems.specs.declared.stills.StemInput.{StemInput}
+use Rattle.mus_stems.specs.declared.plans.StemPlan.{StemPlan}
+use Rattle.mus_stems.specs.Runs.{runs}
+use Rattle.mus_stems.specs.Beams.{beams}
+use Rattle.mus_stems.specs.Plans.{run_plans, plans_of_runs}
+use Rattle.mus_stems.specs.Slope.{slope_inputs, shares_beam}
 
 -- plans whose beams begin at one event
 unfoldable pub same_group : StemPlan → StemPlan → Bool

@@ -1,7 +1,16 @@
 -- Displaced heads: heads are taken from the lowest up where the stem goes up, and from the highest down where it goes down, at one height
 -- in the order of the text. A head at most one step past the one taken before it goes to the other side of the stem, unless that one did.
-use Rattle.std.specs.{Prelude.{ℕ, zero, suc, ℤ, pos, negsuc, ◌+◌, ◌+ℤ◌, ◌-ℤ◌, ◌≤ℤ◌, Bool, true, false, not, ◌&&◌, int_le, if◌then◌else◌, List, [], ◌∷◌, length, replicate, Option, Some, None, is_some}, Ordering.int_eq, Int.{int_min, int_max}, List.{slice_set, AllByRecursion}}
-use Rattle.{mus_units.specs.{Pitch.height_of, declared.note.Head.Head, declared.pitch.Clef.Clef}, mus_stems.specs.{declared.heads.HeadPosition.HeadPosition, declared.heads.LastHead.LastHead, Distances.right_of_stem, Distances.left_of_stem}}
+use Rattle.std.specs.Prelude.{ℕ, zero, suc, ℤ, pos, negsuc, ◌+◌, ◌+ℤ◌, ◌-ℤ◌, ◌≤ℤ◌, Bool, true, false, not, ◌&&◌, int_le}
+use Rattle.std.specs.Prelude.{if◌then◌else◌, List, [], ◌∷◌, length, replicate, Option, Some, None, is_some}
+use Rattle.std.specs.Ordering.{int_eq}
+use Rattle.std.specs.Int.{int_min, int_max}
+use Rattle.std.specs.List.{slice_set, AllByRecursion}
+use Rattle.mus_units.specs.Pitch.{height_of}
+use Rattle.mus_units.specs.declared.note.Head.{Head}
+use Rattle.mus_units.specs.declared.pitch.Clef.{Clef}
+use Rattle.mus_stems.specs.declared.heads.HeadPosition.{HeadPosition}
+use Rattle.mus_stems.specs.declared.heads.LastHead.{LastHead}
+use Rattle.mus_stems.specs.Distances.{right_of_stem, left_of_stem}
 
 -- where a head stands in a clef, and whether a sign is written before it
 unfoldable pub stand_of : Clef → Head → HeadPosition

@@ -1,7 +1,21 @@
 -- The stem plans of the events of a measure.
-use Rattle.std.specs.{Prelude.{◌≡◌, ℕ, ℤ, pos, negsuc, ◌≤ℤ◌, Bool, List, [], ◌∷◌, map}, List.{flat_map, AllByRecursion, AllZip}}
-use Rattle.{mus_units.specs.{declared.pitch.Clef.Clef, declared.note.Wish.Wish}, mus_score.specs.declared.score.Flat.{Flat}}
-use Rattle.mus_stems.specs.{declared.{stills.StemInput.StemInput, plans.StemPlan.StemPlan}, Heads.shifts_of, Displaced.AreDisplaced, Columns.AreInColumns, Signs.{first_sign, signs_from}, Ledgers.ledgers_of, Dots.{first_dot, dots_along}, Stills.{flags_of, stills}, Runs.AreMaximalRuns, Beams.{is_joined, beams}, Ends.{low_of, high_of, stands_up, stem_own_end, run_end, from_of, has_stem}}
+use Rattle.std.specs.Prelude.{◌≡◌, ℕ, ℤ, pos, negsuc, ◌≤ℤ◌, Bool, List, [], ◌∷◌, map}
+use Rattle.std.specs.List.{flat_map, AllByRecursion, AllZip}
+use Rattle.mus_units.specs.declared.pitch.Clef.{Clef}
+use Rattle.mus_units.specs.declared.note.Wish.{Wish}
+use Rattle.mus_score.specs.declared.score.Flat.{Flat}
+use Rattle.mus_stems.specs.declared.stills.StemInput.{StemInput}
+use Rattle.mus_stems.specs.declared.plans.StemPlan.{StemPlan}
+use Rattle.mus_stems.specs.Heads.{shifts_of}
+use Rattle.mus_stems.specs.Displaced.{AreDisplaced}
+use Rattle.mus_stems.specs.Columns.{AreInColumns}
+use Rattle.mus_stems.specs.Signs.{first_sign, signs_from}
+use Rattle.mus_stems.specs.Ledgers.{ledgers_of}
+use Rattle.mus_stems.specs.Dots.{first_dot, dots_along}
+use Rattle.mus_stems.specs.Stills.{flags_of, stills}
+use Rattle.mus_stems.specs.Runs.{AreMaximalRuns}
+use Rattle.mus_stems.specs.Beams.{is_joined, beams}
+use Rattle.mus_stems.specs.Ends.{low_of, high_of, stands_up, stem_own_end, run_end, from_of, has_stem}
 
 -- the event at which a run begins
 abbrev pub first_event_id : List StemInput → ℕ

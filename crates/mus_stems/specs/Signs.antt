@@ -1,6 +1,11 @@
 -- Where the signs before the heads of an event stand.
-use Rattle.std.specs.{Prelude.{ℕ, ℤ, pos, ◌+◌, ◌*◌, ◌-ℤ◌, Bool, false, if◌then◌else◌, List, [], ◌∷◌, length, replicate, Option, Some, None}, Ordering.int_eq, List.{slice_set, list_any}}
-use Rattle.mus_stems.specs.{declared.heads.HeadPosition.HeadPosition, Distances.left_of_stem, Distances.sign_column, Distances.outer_sign_column, Distances.between_columns, Heads.Taken, Heads.taken}
+use Rattle.std.specs.Prelude.{ℕ, ℤ, pos, ◌+◌, ◌*◌, ◌-ℤ◌, Bool, false, if◌then◌else◌, List, [], ◌∷◌, length, replicate}
+use Rattle.std.specs.Prelude.{Option, Some, None}
+use Rattle.std.specs.Ordering.{int_eq}
+use Rattle.std.specs.List.{slice_set, list_any}
+use Rattle.mus_stems.specs.declared.heads.HeadPosition.{HeadPosition}
+use Rattle.mus_stems.specs.Distances.{left_of_stem, sign_column, outer_sign_column, between_columns}
+use Rattle.mus_stems.specs.Heads.{Taken, taken}
 
 -- the dx of the k-th column of signs, from 0
 unfoldable pub sign_dx : ℤ → ℕ → ℤ

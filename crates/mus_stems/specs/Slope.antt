@@ -1,7 +1,15 @@
 -- Sloped beams: in a beam the stems end on a line over the abscissas of their events. The line climbs by what the last
 -- event's own end is above the first one's, at most 500, and stands as far out as the own ends of its events ask.
-use Rattle.std.specs.{Prelude.{◌≡◌, ℤ, pos, negsuc, ◌^◌, ◌+ℤ◌, ◌-ℤ◌, ◌*ℤ◌, ◌≤ℤ◌, ◌<ℤ◌, Bool, true, ◌==◌, ⊤, List, [], ◌∷◌}, Int.{int_min, int_max, int_div_euclid}, List.{flat_map, AllByRecursion}}
-use Rattle.mus_stems.specs.{declared.plans.StemPlan.StemPlan, declared.slopes.SlopeInput.SlopeInput, declared.slopes.BeamLine.BeamLine, Distances.steepest, Distances.steepest_down, Ends.further_end, Runs.runs}
+use Rattle.std.specs.Prelude.{◌≡◌, ℤ, pos, negsuc, ◌^◌, ◌+ℤ◌, ◌-ℤ◌, ◌*ℤ◌, ◌≤ℤ◌, ◌<ℤ◌, Bool, true, ◌==◌, ⊤, List, []}
+use Rattle.std.specs.Prelude.{◌∷◌}
+use Rattle.std.specs.Int.{int_min, int_max, int_div_euclid}
+use Rattle.std.specs.List.{flat_map, AllByRecursion}
+use Rattle.mus_stems.specs.declared.plans.StemPlan.{StemPlan}
+use Rattle.mus_stems.specs.declared.slopes.SlopeInput.{SlopeInput}
+use Rattle.mus_stems.specs.declared.slopes.BeamLine.{BeamLine}
+use Rattle.mus_stems.specs.Distances.{steepest, steepest_down}
+use Rattle.mus_stems.specs.Ends.{further_end}
+use Rattle.mus_stems.specs.Runs.{runs}
 
 -- what a slope takes from a plan, and the abscissa of its event
 unfoldable pub slope_input : StemPlan → ℤ → SlopeInput

@@ -1,7 +1,12 @@
 -- What a stem plan takes from an event: its value, whether a space or a line end parts it from the event before it, and
 -- where its heads stand in its clef.
 use Rattle.std.specs.{Prelude.{ℕ, ◌≤◌, Bool, true, false, ⊤, List, [], ◌∷◌, length, map}, List.AllByRecursion}
-use Rattle.{mus_units.specs.{declared.value.Base.Base, declared.pitch.Clef.Clef}, mus_score.specs.{declared.score.Flat.Flat, GoodScore.clef_at}, mus_stems.specs.{declared.stills.StemInput.StemInput, Heads.AllNear, Heads.stand_of}}
+use Rattle.mus_units.specs.declared.value.Base.{Base}
+use Rattle.mus_units.specs.declared.pitch.Clef.{Clef}
+use Rattle.mus_score.specs.declared.score.Flat.{Flat}
+use Rattle.mus_score.specs.GoodScore.{clef_at}
+use Rattle.mus_stems.specs.declared.stills.StemInput.{StemInput}
+use Rattle.mus_stems.specs.Heads.{AllNear, stand_of}
 
 -- the flags of a base: one for 1/8, one more for each halving
 abbrev pub flags_of : Base → ℕ

@@ -1,5 +1,7 @@
-ghost use Rattle.std.specs.{Prelude.◌≡◌, Prelude.◌≤ℤ◌, Prelude.◌≤◌, Prelude.◌++◌, Prelude.pos, Prelude.negsuc, Prelude.IfOk, Prelude.OnOk, List.list_any};
-ghost use Rattle.mus_stems.specs.{Heads.AllNear, Dots.is_right, Dots.first_dot, Dots.dot_place, Dots.dot_at, Dots.dots_at, Dots.dot_height, Dots.dots_along};
+ghost use Rattle.std.specs.Prelude.{◌≡◌, ◌≤ℤ◌, ◌≤◌, ◌++◌, pos, negsuc, IfOk, OnOk};
+ghost use Rattle.std.specs.List.{list_any};
+ghost use Rattle.mus_stems.specs.Heads.{AllNear};
+ghost use Rattle.mus_stems.specs.Dots.{is_right, first_dot, dot_place, dot_at, dots_at, dot_height, dots_along};
 
 use crate::distances::{BETWEEN_DOTS, DOT_COLUMN, OUTER_DOT_COLUMN, RIGHT_OF_STEM, STEP};
 use crate::heads::HeadPosition;

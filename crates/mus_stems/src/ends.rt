@@ -1,5 +1,9 @@
 ghost use Rattle.std.specs.Prelude.{◌≡◌, ◌≤ℤ◌, pos, negsuc};
-ghost use Rattle.mus_stems.specs.{Heads.AllNear, Stills.AllGood, Ends.{low_of, high_of, lowest_in, highest_in, run_low, run_high, is_up, stands_up, upper_end, lower_end, outer_end, stem_own_end, further_end, beam_end, run_end, from_of, has_stem}};
+ghost use Rattle.mus_stems.specs.Heads.{AllNear};
+ghost use Rattle.mus_stems.specs.Stills.{AllGood};
+ghost use Rattle.mus_stems.specs.Ends.{low_of, high_of, lowest_in, highest_in, run_low, run_high, is_up, stands_up};
+ghost use Rattle.mus_stems.specs.Ends.{upper_end, lower_end, outer_end, stem_own_end, further_end, beam_end, run_end};
+ghost use Rattle.mus_stems.specs.Ends.{from_of, has_stem};
 
 use crate::distances::{MIDDLE_LINE, STEM_LENGTH, STEP};
 use crate::heads::{HeadPosition, highest_from, lowest_from};

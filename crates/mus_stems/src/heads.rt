@@ -1,5 +1,6 @@
 ghost use Rattle.std.specs.Prelude.{◌≡◌, ◌≤ℤ◌, ◌<◌, ◌++◌, List, Option, pos, negsuc, length, map, IfOk};
-ghost use Rattle.mus_stems.specs.Heads.{stand_of, IsNearStaff, AllNear, lowest, highest, level_of, Taken, taken_one, taken_at, taken, is_step_past, gives_way, shifted, head_shift, shifts_of};
+ghost use Rattle.mus_stems.specs.Heads.{stand_of, IsNearStaff, AllNear, lowest, highest, level_of, Taken, taken_one};
+ghost use Rattle.mus_stems.specs.Heads.{taken_at, taken, is_step_past, gives_way, shifted, head_shift, shifts_of};
 
 use crate::distances::{LEFT_OF_STEM, RIGHT_OF_STEM};
 use mus_units::{Clef, Few, Head, Memory, Row, height};

@@ -1,5 +1,8 @@
 ghost use Rattle.std.specs.Prelude.{◌≡◌, ◌++◌, ◌∷◌, [], ◌≤◌, length, IfOk, OnOk};
-ghost use Rattle.mus_stems.specs.{Stills.{IsGoodStill, AllGood, AllCanStand, clefs_from, stills}, Beams.beams, Plans.{first_event_id, plan_of, plans_along, run_plans, plans_of_runs, stems_of, ArePlans, AllEndsNear}};
+ghost use Rattle.mus_stems.specs.Stills.{IsGoodStill, AllGood, AllCanStand, clefs_from, stills};
+ghost use Rattle.mus_stems.specs.Beams.{beams};
+ghost use Rattle.mus_stems.specs.Plans.{first_event_id, plan_of, plans_along, run_plans, plans_of_runs, stems_of};
+ghost use Rattle.mus_stems.specs.Plans.{ArePlans, AllEndsNear};
 
 use crate::beams::more_in_run;
 use crate::dots::{Spot, dot_dx, put_dots};

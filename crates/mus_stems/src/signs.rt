@@ -1,5 +1,8 @@
-ghost use Rattle.std.specs.{Prelude.◌≡◌, Prelude.◌≤ℤ◌, Prelude.◌<◌, Prelude.◌≤◌, Prelude.◌+◌, Prelude.List, Prelude.negsuc, Prelude.length, Prelude.Some, Prelude.None, Prelude.if◌then◌else◌, Prelude.false, Prelude.IfOk, List.list_any};
-ghost use Rattle.mus_stems.specs.{Heads.{IsNearStaff, AllNear, Taken, taken_one, taken_at, taken}, Signs.{is_left, first_sign, sign_dx, signs_along, signs_from}};
+ghost use Rattle.std.specs.Prelude.{◌≡◌, ◌≤ℤ◌, ◌<◌, ◌≤◌, ◌+◌, List, negsuc, length, Some, None, if◌then◌else◌, false};
+ghost use Rattle.std.specs.Prelude.{IfOk};
+ghost use Rattle.std.specs.List.{list_any};
+ghost use Rattle.mus_stems.specs.Heads.{IsNearStaff, AllNear, Taken, taken_one, taken_at, taken};
+ghost use Rattle.mus_stems.specs.Signs.{is_left, first_sign, sign_dx, signs_along, signs_from};
 
 use crate::distances::{BETWEEN_COLUMNS, LEFT_OF_STEM, OUTER_SIGN_COLUMN, SIGN_COLUMN};
 use crate::heads::{HeadPosition, level};

@@ -1,5 +1,13 @@
-ghost use Rattle.std.specs.{Prelude.{◌≡◌, ◌++◌, ◌≤◌, ◌≤ℤ◌, ◌<ℤ◌, ◌^◌, ◌∷◌, [], ◌+ℤ◌, ◌-ℤ◌, ◌*ℤ◌, pos, negsuc, length, IfOk, OnOk}, Int.{int_min, int_max, int_div_euclid}};
-ghost use Rattle.mus_stems.specs.{Distances.{steepest, steepest_down}, Plans.AllEndsNear, Runs.run_more, Slope.{slope_input, slope_inputs, shares_beam, last_input, slope_line, rise_at, base_along, ends_along, line_ends, beam_ends, sloped_ends, with_end, with_ends, sloped, ArePlaces, RisesInBeams, AreAnchors, IsLine, IsOver, AreOver, Rise, IsBeamBase}};
+ghost use Rattle.std.specs.Prelude.{◌≡◌, ◌++◌, ◌≤◌, ◌≤ℤ◌, ◌<ℤ◌, ◌^◌, ◌∷◌, [], ◌+ℤ◌, ◌-ℤ◌, ◌*ℤ◌, pos, negsuc, length};
+ghost use Rattle.std.specs.Prelude.{IfOk, OnOk};
+ghost use Rattle.std.specs.Int.{int_min, int_max, int_div_euclid};
+ghost use Rattle.mus_stems.specs.Distances.{steepest, steepest_down};
+ghost use Rattle.mus_stems.specs.Plans.{AllEndsNear};
+ghost use Rattle.mus_stems.specs.Runs.{run_more};
+ghost use Rattle.mus_stems.specs.Slope.{slope_input, slope_inputs, shares_beam, last_input, slope_line, rise_at};
+ghost use Rattle.mus_stems.specs.Slope.{base_along, ends_along, line_ends, beam_ends, sloped_ends, with_end, with_ends};
+ghost use Rattle.mus_stems.specs.Slope.{sloped, ArePlaces, RisesInBeams, AreAnchors, IsLine, IsOver, AreOver, Rise};
+ghost use Rattle.mus_stems.specs.Slope.{IsBeamBase};
 
 use crate::distances::STEEPEST;
 use crate::ends::further_of;

@@ -1,10 +1,40 @@
 -- The voices of a score call for the columns that they have as they are drawn.
-use Rattle.std.{proofs.{Common.{◌≡◌, ◌∙◌, ℕ, zero, suc, ◌+◌, ◌-◌, ◌<◌, ◌≤◌, Bool, true, false, not, ◌&&◌, ◌||◌, nat_le, if◌then◌else◌, List, [], ◌∷◌, ◌++◌, length, map, take, drop, Option, Some, None, refl, sym, ap, subst, arith}, lemmas.List.Sums.sum_by-cons}, specs.{List.{All, flat_map}, Prelude.{is_some, unwrap_or}}}
-use Rattle.mus_units.specs.{declared.key.Key.Key, declared.key.Meter.Meter, declared.note.Wish.Wish, declared.pitch.Clef.Clef}
-use Rattle.mus_score.specs.{declared.score.Flat.Flat, declared.score.Measure.Measure, declared.score.Score.Score, declared.score.Voice.Voice, Good.total_ticks, GoodScore.IsGoodScore, Seats.is_lower, Times.flats_of}
-use Rattle.mus_stems.{specs.declared.plans.StemPlan.StemPlan, specs.Plans.stems_of, specs.Stills.clefs_from, specs.Stills.stills, proofs.EndLaws.plans_length}
-use Rattle.mus_onsets.{proofs.Places.{further_places, places_of}, specs.{declared.times.Timeline.Timeline, Onsets.timeline_of, Keys.{all_keys, AreKeys, bar_key, called_keys, event_keys, events_keys, first_keys, grace_keys, has_entries, head_key, IsInSystem, key_at, key_has_mark, keys_by, measure_keys, measures_keys, meter_has_mark, signed_after, signed_behind, signed_through, voice_keys}, declared.keys.{Class.Class, ColumnKey.ColumnKey}}}
-use Rattle.mus_drawn.specs.{declared.{drawn.{DrawnVoice.DrawnVoice, Style.Style}, standing.StaffState.StaffState}, Drawn.{drawn_events, drawn_measure, drawn_measures, drawn_voice, old_signs, standing_after, standing_behind, standing_of, style_of}}
+use Rattle.std.proofs.Common.{◌≡◌, ◌∙◌, ℕ, zero, suc, ◌+◌, ◌-◌, ◌<◌, ◌≤◌, Bool, true, false, not, ◌&&◌, ◌||◌, nat_le}
+use Rattle.std.proofs.Common.{if◌then◌else◌, List, [], ◌∷◌, ◌++◌, length, map, take, drop, Option, Some, None, refl}
+use Rattle.std.proofs.Common.{sym, ap, subst, arith}
+use Rattle.std.proofs.lemmas.List.Sums.{sum_by-cons}
+use Rattle.std.specs.List.{All, flat_map}
+use Rattle.std.specs.Prelude.{is_some, unwrap_or}
+use Rattle.mus_units.specs.declared.key.Key.{Key}
+use Rattle.mus_units.specs.declared.key.Meter.{Meter}
+use Rattle.mus_units.specs.declared.note.Wish.{Wish}
+use Rattle.mus_units.specs.declared.pitch.Clef.{Clef}
+use Rattle.mus_score.specs.declared.score.Flat.{Flat}
+use Rattle.mus_score.specs.declared.score.Measure.{Measure}
+use Rattle.mus_score.specs.declared.score.Score.{Score}
+use Rattle.mus_score.specs.declared.score.Voice.{Voice}
+use Rattle.mus_score.specs.Good.{total_ticks}
+use Rattle.mus_score.specs.GoodScore.{IsGoodScore}
+use Rattle.mus_score.specs.Seats.{is_lower}
+use Rattle.mus_score.specs.Times.{flats_of}
+use Rattle.mus_stems.specs.declared.plans.StemPlan.{StemPlan}
+use Rattle.mus_stems.specs.Plans.{stems_of}
+use Rattle.mus_stems.specs.Stills.{clefs_from, stills}
+use Rattle.mus_stems.proofs.EndLaws.{plans_length}
+use Rattle.mus_onsets.proofs.Places.{further_places, places_of}
+use Rattle.mus_onsets.specs.declared.times.Timeline.{Timeline}
+use Rattle.mus_onsets.specs.Onsets.{timeline_of}
+use Rattle.mus_onsets.specs.Keys.{all_keys, AreKeys, bar_key, called_keys, event_keys, events_keys, first_keys}
+use Rattle.mus_onsets.specs.Keys.{grace_keys, has_entries, head_key, IsInSystem, key_at, key_has_mark, keys_by}
+use Rattle.mus_onsets.specs.Keys.{measure_keys, measures_keys, meter_has_mark, signed_after, signed_behind}
+use Rattle.mus_onsets.specs.Keys.{signed_through, voice_keys}
+use Rattle.mus_onsets.specs.declared.keys.Class.{Class}
+use Rattle.mus_onsets.specs.declared.keys.ColumnKey.{ColumnKey}
+use Rattle.mus_drawn.specs.declared.drawn.DrawnVoice.{DrawnVoice}
+use Rattle.mus_drawn.specs.declared.drawn.Style.{Style}
+use Rattle.mus_drawn.specs.declared.standing.StaffState.{StaffState}
+use Rattle.mus_drawn.specs.Drawn.{drawn_events, drawn_measure, drawn_measures, drawn_voice, old_signs, standing_after}
+use Rattle.mus_drawn.specs.Drawn.{standing_behind, standing_of, style_of}
 use Rattle.mus_time.specs.Columns.{events_columns, keys_called, measures_columns, staff_columns, voice_columns}
 
 -- ---- the columns of drawn events

@@ -1,7 +1,19 @@
 -- Voices have as many measures drawn as they have, and a score as many lengths as measures.
-use Rattle.std.{proofs.{Common.{◌≡◌, ◌∙◌, ℕ, suc, List, [], ◌∷◌, length, map, refl, sym, ap, subst}, lemmas.List.Elements.All-map}, specs.List.All}
-use Rattle.{mus_score.specs.{declared.score.{Measure.Measure, Score.Score, Voice.Voice}, GoodScore.IsGoodScore, Times.flats_of}, mus_onsets.{specs.{declared.times.Timeline.Timeline, Onsets.timeline_of}, proofs.Places.length_of_lengths}}
-use Rattle.mus_drawn.specs.{declared.standing.StaffState.StaffState, declared.drawn.DrawnVoice.DrawnVoice, declared.drawn.Style.Style, Drawn.drawn_measures, Drawn.drawn_voice, Drawn.standing_behind, Drawn.standing_of, Drawn.style_of}
+use Rattle.std.proofs.Common.{◌≡◌, ◌∙◌, ℕ, suc, List, [], ◌∷◌, length, map, refl, sym, ap, subst}
+use Rattle.std.proofs.lemmas.List.Elements.{All-map}
+use Rattle.std.specs.List.{All}
+use Rattle.mus_score.specs.declared.score.Measure.{Measure}
+use Rattle.mus_score.specs.declared.score.Score.{Score}
+use Rattle.mus_score.specs.declared.score.Voice.{Voice}
+use Rattle.mus_score.specs.GoodScore.{IsGoodScore}
+use Rattle.mus_score.specs.Times.{flats_of}
+use Rattle.mus_onsets.specs.declared.times.Timeline.{Timeline}
+use Rattle.mus_onsets.specs.Onsets.{timeline_of}
+use Rattle.mus_onsets.proofs.Places.{length_of_lengths}
+use Rattle.mus_drawn.specs.declared.standing.StaffState.{StaffState}
+use Rattle.mus_drawn.specs.declared.drawn.DrawnVoice.{DrawnVoice}
+use Rattle.mus_drawn.specs.declared.drawn.Style.{Style}
+use Rattle.mus_drawn.specs.Drawn.{drawn_measures, drawn_voice, standing_behind, standing_of, style_of}
 
 drawn_count : (style : Style) (now : StaffState) (ms : List Measure) → length (drawn_measures style now ms) ≡ length ms
 drawn_count style now [] = refl

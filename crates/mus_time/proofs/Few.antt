@@ -1,7 +1,29 @@
 -- A system has fewer columns than ranks have numbers.
-use Rattle.std.{proofs.{Common.{◌≡◌, ◌∙◌, ℕ, zero, suc, ◌+◌, ◌-◌, ◌*◌, ◌≤◌, ◌<◌, Bool, true, false, not, ◌&&◌, ◌==◌, if◌then◌else◌, List, [], ◌∷◌, ◌++◌, length, length-append, drop, refl, sym, ap, subst, arith}, lemmas.List.{length-take, Sums.{count_by-le-length, length-filter, sum_by-cons}, Elements.recursion_from_All}}, specs.List.{AllByRecursion, Contains, flat_map, slice_index, slice_index_or, slice_range, sum_by}}
-use Rattle.mus_score.{specs.{declared.score.{Event.Event, Flat.Flat, Measure.Measure, Score.Score, Voice.Voice}, Good.{IsGoodBody, flat_count, total_ticks}, Seats.is_lower, GoodScore.{IsGoodScore, IsGoodVoice}, Times.flats_of}, proofs.Bounds.flats_few}
-use Rattle.mus_onsets.{specs.{Keys.{all_keys, AreKeys, called_keys, change_has_mark, change_keys, event_keys, events_keys, first_keys, grace_keys, has_features, is_for_each, key_at, keys_by, measures_keys, signed_after, signed_at, signed_through, voice_keys, measure_keys, further_keys}, declared.keys.{ColumnKey.ColumnKey, Class.Class}, Order.{BelowAll, Rises, is_below}}, proofs.{Orders.not_itself, RankLaws.false_not_true}}
+use Rattle.std.proofs.Common.{◌≡◌, ◌∙◌, ℕ, zero, suc, ◌+◌, ◌-◌, ◌*◌, ◌≤◌, ◌<◌, Bool, true, false, not, ◌&&◌, ◌==◌}
+use Rattle.std.proofs.Common.{if◌then◌else◌, List, [], ◌∷◌, ◌++◌, length, length-append, drop, refl, sym, ap, subst}
+use Rattle.std.proofs.Common.{arith}
+use Rattle.std.proofs.lemmas.List.{length-take}
+use Rattle.std.proofs.lemmas.List.Sums.{count_by-le-length, length-filter, sum_by-cons}
+use Rattle.std.proofs.lemmas.List.Elements.{recursion_from_All}
+use Rattle.std.specs.List.{AllByRecursion, Contains, flat_map, slice_index, slice_index_or, slice_range, sum_by}
+use Rattle.mus_score.specs.declared.score.Event.{Event}
+use Rattle.mus_score.specs.declared.score.Flat.{Flat}
+use Rattle.mus_score.specs.declared.score.Measure.{Measure}
+use Rattle.mus_score.specs.declared.score.Score.{Score}
+use Rattle.mus_score.specs.declared.score.Voice.{Voice}
+use Rattle.mus_score.specs.Good.{IsGoodBody, flat_count, total_ticks}
+use Rattle.mus_score.specs.Seats.{is_lower}
+use Rattle.mus_score.specs.GoodScore.{IsGoodScore, IsGoodVoice}
+use Rattle.mus_score.specs.Times.{flats_of}
+use Rattle.mus_score.proofs.Bounds.{flats_few}
+use Rattle.mus_onsets.specs.Keys.{all_keys, AreKeys, called_keys, change_has_mark, change_keys, event_keys, events_keys}
+use Rattle.mus_onsets.specs.Keys.{first_keys, grace_keys, has_features, is_for_each, key_at, keys_by, measures_keys}
+use Rattle.mus_onsets.specs.Keys.{signed_after, signed_at, signed_through, voice_keys, measure_keys, further_keys}
+use Rattle.mus_onsets.specs.declared.keys.ColumnKey.{ColumnKey}
+use Rattle.mus_onsets.specs.declared.keys.Class.{Class}
+use Rattle.mus_onsets.specs.Order.{BelowAll, Rises, is_below}
+use Rattle.mus_onsets.proofs.Orders.{not_itself}
+use Rattle.mus_onsets.proofs.RankLaws.{false_not_true}
 use Rattle.{mus_stems.proofs.RunLaws.{all_drop, all_take}, mus_time.specs.Columns.{keys_called}}
 
 -- a list without the element at a place

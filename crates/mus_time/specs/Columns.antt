@@ -2,7 +2,9 @@
 -- nothing that stands before a measure is gone through to tell its columns.
 use Rattle.std.specs.Prelude.{ℕ, ◌+◌, Bool, true, false, nat_le, List, [], ◌∷◌, ◌++◌, length, slice_range}
 use Rattle.{mus_units.specs.declared.note.Bar.{Bar}, mus_score.specs.{declared.score.Score.Score, Seats.is_lower}}
-use Rattle.mus_onsets.specs.{declared.keys.Class.Class, declared.keys.ColumnKey.ColumnKey, Keys.{bar_key, called_keys, event_keys, first_keys, further_keys, head_key, key_at, keys_by}}
+use Rattle.mus_onsets.specs.declared.keys.Class.{Class}
+use Rattle.mus_onsets.specs.declared.keys.ColumnKey.{ColumnKey}
+use Rattle.mus_onsets.specs.Keys.{bar_key, called_keys, event_keys, first_keys, further_keys, head_key, key_at, keys_by}
 use Rattle.mus_drawn.specs.declared.drawn.{DrawnEvent.DrawnEvent, DrawnMeasure.DrawnMeasure, DrawnVoice.DrawnVoice}
 
 -- the column of an event itself

@@ -1,5 +1,7 @@
 ghost use Rattle.std.specs.Prelude.{◌≡◌, map, All, IfOk};
-ghost use Rattle.{mus_score.specs.GoodScore.{IsGoodScore, IsGoodVoice}, mus_drawn.specs.{Drawn.drawn_voice, Good.AreGoodMeasures}};
+ghost use Rattle.mus_score.specs.GoodScore.{IsGoodScore, IsGoodVoice};
+ghost use Rattle.mus_drawn.specs.Drawn.{drawn_voice};
+ghost use Rattle.mus_drawn.specs.Good.{AreGoodMeasures};
 
 use mus_drawn::{DrawnVoice, draw_voice};
 use mus_score::{Score, Voice};

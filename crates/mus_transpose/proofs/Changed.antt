@@ -1,6 +1,17 @@
 -- Folds over a tree with each event changed.
-use Rattle.std.{proofs.{Common.{◌≡◌, ℕ, Bool, List, [], ◌∷◌, ◌++◌, ◌*◌, map, refl, sym, ◌∙◌, ap, subst}, Math.Path.fun_ext, lemmas.List.{map-append, map-id, Elements.same_from_all_zip}}, specs.List.AllZip}
-use Rattle.mus_score.specs.{declared.{score.{Event.Event, Flat.Flat, Music.{Music, map-Music, TheOpen.Music-F, TheViews.roll-Music, TheFolds.{fold-Music, fold-roll-Music, ind-Music}}}, times.PendingLeaf.PendingLeaf}, Times.{Leafing, Leaves, flats_of, in_row, leaf, leaves_step, leaves_within, no_pending_leaf}}
+use Rattle.std.proofs.Common.{◌≡◌, ℕ, Bool, List, [], ◌∷◌, ◌++◌, ◌*◌, map, refl, sym, ◌∙◌, ap, subst}
+use Rattle.std.proofs.Math.Path.{fun_ext}
+use Rattle.std.proofs.lemmas.List.{map-append, map-id}
+use Rattle.std.proofs.lemmas.List.Elements.{same_from_all_zip}
+use Rattle.std.specs.List.{AllZip}
+use Rattle.mus_score.specs.declared.score.Event.{Event}
+use Rattle.mus_score.specs.declared.score.Flat.{Flat}
+use Rattle.mus_score.specs.declared.score.Music.{Music, map-Music}
+use Rattle.mus_score.specs.declared.score.Music.TheOpen.{Music-F}
+use Rattle.mus_score.specs.declared.score.Music.TheViews.{roll-Music}
+use Rattle.mus_score.specs.declared.score.Music.TheFolds.{fold-Music, fold-roll-Music, ind-Music}
+use Rattle.mus_score.specs.declared.times.PendingLeaf.{PendingLeaf}
+use Rattle.mus_score.specs.Times.{Leafing, Leaves, flats_of, in_row, leaf, leaves_step, leaves_within, no_pending_leaf}
 use Rattle.mus_transpose.specs.Moved.{changed, changed_flat, changed_layer, changed_step}
 
 -- what two folds must keep, one over the changed tree

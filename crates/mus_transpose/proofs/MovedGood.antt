@@ -1,9 +1,44 @@
 -- A moved score in reach is good.
-use Rattle.std.{proofs.{Common.{◌≡◌, ◌≢◌, ℕ, suc, ◌==◌, ◌&&◌, ◌*◌, ◌+ℤ◌, ◌<◌, nat_le, Bool, true, false, List, get_or, [], ◌∷◌, ◌++◌, length, map, refl, sym, ◌∙◌, Decides, ap, subst, arith, sum, if◌then◌else◌}, Math.Path.fun_ext, lemmas.{Bool.{false≢true, Decides.{Decides-and, Decides-by_and, Decides-like}}, Int.ints, List.{get_or-map, length-map, map-append, Elements.{All-map, All-weaker}, Sums.sum-map}, Simd.map-map}}, specs.{Prelude.{pos, negsuc, ◌≤ℤ◌, int_le, All, AllPairs, IfSome, Option, Some, None, sum_by, ℤ}, Int.int_div_euclid, Option.option_map, List.list_all}}
-use Rattle.mus_units.specs.{Good.IsGoodKey, Pitch.height_of, Pitch.letter_number, Value.value_length, Value.whole_note, declared.key.Key.Key, declared.note.Head.Head, declared.pitch.Clef.Clef, declared.pitch.Letter.Letter}
+use Rattle.std.proofs.Common.{◌≡◌, ◌≢◌, ℕ, suc, ◌==◌, ◌&&◌, ◌*◌, ◌+ℤ◌, ◌<◌, nat_le, Bool, true, false, List, get_or, []}
+use Rattle.std.proofs.Common.{◌∷◌, ◌++◌, length, map, refl, sym, ◌∙◌, Decides, ap, subst, arith, sum, if◌then◌else◌}
+use Rattle.std.proofs.Math.Path.{fun_ext}
+use Rattle.std.proofs.lemmas.Bool.{false≢true}
+use Rattle.std.proofs.lemmas.Bool.Decides.{Decides-and, Decides-by_and, Decides-like}
+use Rattle.std.proofs.lemmas.Int.{ints}
+use Rattle.std.proofs.lemmas.List.{get_or-map, length-map, map-append}
+use Rattle.std.proofs.lemmas.List.Elements.{All-map, All-weaker}
+use Rattle.std.proofs.lemmas.List.Sums.{sum-map}
+use Rattle.std.proofs.lemmas.Simd.{map-map}
+use Rattle.std.specs.Prelude.{pos, negsuc, ◌≤ℤ◌, int_le, All, AllPairs, IfSome, Option, Some, None, sum_by, ℤ}
+use Rattle.std.specs.Int.{int_div_euclid}
+use Rattle.std.specs.Option.{option_map}
+use Rattle.std.specs.List.{list_all}
+use Rattle.mus_units.specs.Good.{IsGoodKey}
+use Rattle.mus_units.specs.Pitch.{height_of, letter_number}
+use Rattle.mus_units.specs.Value.{value_length, whole_note}
+use Rattle.mus_units.specs.declared.key.Key.{Key}
+use Rattle.mus_units.specs.declared.note.Head.{Head}
+use Rattle.mus_units.specs.declared.pitch.Clef.{Clef}
+use Rattle.mus_units.specs.declared.pitch.Letter.{Letter}
 use Rattle.mus_pitch.proofs.SignLaws.{signs_of_good}
-use Rattle.mus_score.specs.{declared.{score.{Event.Event, Flat.Flat, Measure.Measure, Music.{Music, TheOpen.Music-F}, Score.Score, Voice.Voice}, good.NodeContext.NodeContext}, Good.{IsGoodBody, all_judged, good_step, has_value_ticks, node_verdict, outside, weight, weight_step}, GoodScore.{AreCounted, AreInReach, IsInReach, clef_at, IsGoodEvent, IsGoodScore, IsGoodVoice, IsLed, events_of, voice_weight}, Times.flats_of}
-use Rattle.mus_transpose.{specs.{Moved.{CanMove, Within, are_in_reach, event_by, in_reach, moved_key, body_by, changed, changed_flat, measure_by, move_from, moved_head, moved_score, on_circle, score_by, sharps_in, voice_by, voice_may}, declared.moves.Move.Move}, proofs.Changed.{flats_changed, fold_same}}
+use Rattle.mus_score.specs.declared.score.Event.{Event}
+use Rattle.mus_score.specs.declared.score.Flat.{Flat}
+use Rattle.mus_score.specs.declared.score.Measure.{Measure}
+use Rattle.mus_score.specs.declared.score.Music.{Music}
+use Rattle.mus_score.specs.declared.score.Music.TheOpen.{Music-F}
+use Rattle.mus_score.specs.declared.score.Score.{Score}
+use Rattle.mus_score.specs.declared.score.Voice.{Voice}
+use Rattle.mus_score.specs.declared.good.NodeContext.{NodeContext}
+use Rattle.mus_score.specs.Good.{IsGoodBody, all_judged, good_step, has_value_ticks, node_verdict, outside, weight}
+use Rattle.mus_score.specs.Good.{weight_step}
+use Rattle.mus_score.specs.GoodScore.{AreCounted, AreInReach, IsInReach, clef_at, IsGoodEvent, IsGoodScore, IsGoodVoice}
+use Rattle.mus_score.specs.GoodScore.{IsLed, events_of, voice_weight}
+use Rattle.mus_score.specs.Times.{flats_of}
+use Rattle.mus_transpose.specs.Moved.{CanMove, Within, are_in_reach, event_by, in_reach, moved_key, body_by, changed}
+use Rattle.mus_transpose.specs.Moved.{changed_flat, measure_by, move_from, moved_head, moved_score, on_circle, score_by}
+use Rattle.mus_transpose.specs.Moved.{sharps_in, voice_by, voice_may}
+use Rattle.mus_transpose.specs.declared.moves.Move.{Move}
+use Rattle.mus_transpose.proofs.Changed.{flats_changed, fold_same}
 
 -- ---- numbers
 pub twelfth_fits : (z : ℤ) → Within (negsuc 1199) (pos 1199) z → Within (negsuc 99) (pos 99) (int_div_euclid z (pos 12))

@@ -1,9 +1,33 @@
 -- Moved scores. A head moves by letters, and a sign before it becomes the one that is as many semitones higher; a key moves by
 -- sharps. Beside each stands the test whether it can be moved.
-use Rattle.std.specs.{Prelude.{◌≡◌, ◌≢◌, ⊤, zero, suc, ℕ, ℤ, pos, negsuc, ◌+ℤ◌, ◌-ℤ◌, ◌*ℤ◌, ◌≤ℤ◌, ◌&&◌, nat_le, int_le, Bool, true, false, List, [], ◌∷◌, length, map, All, MatchOption, Option, Some, None, Result, Ok, Err, is_some, unwrap_or}, Cmp.Lexicographic.pointwise, Int.{int_div_euclid, int_rem_euclid}, List.list_all, Option.option_map, Ordering.int_eq}
-use Rattle.mus_units.specs.{Good.same_letter, Pitch.height_of, declared.key.Key.Key, declared.key.Sign.Sign, declared.note.Head.Head, declared.pitch.Alter.Alter, declared.pitch.Clef.Clef, declared.pitch.Letter.Letter, declared.pitch.Pitch.Pitch}
+use Rattle.std.specs.Prelude.{◌≡◌, ◌≢◌, ⊤, zero, suc, ℕ, ℤ, pos, negsuc, ◌+ℤ◌, ◌-ℤ◌, ◌*ℤ◌, ◌≤ℤ◌, ◌&&◌, nat_le, int_le}
+use Rattle.std.specs.Prelude.{Bool, true, false, List, [], ◌∷◌, length, map, All, MatchOption, Option, Some, None}
+use Rattle.std.specs.Prelude.{Result, Ok, Err, is_some, unwrap_or}
+use Rattle.std.specs.Cmp.Lexicographic.{pointwise}
+use Rattle.std.specs.Int.{int_div_euclid, int_rem_euclid}
+use Rattle.std.specs.List.{list_all}
+use Rattle.std.specs.Option.{option_map}
+use Rattle.std.specs.Ordering.{int_eq}
+use Rattle.mus_units.specs.Good.{same_letter}
+use Rattle.mus_units.specs.Pitch.{height_of}
+use Rattle.mus_units.specs.declared.key.Key.{Key}
+use Rattle.mus_units.specs.declared.key.Sign.{Sign}
+use Rattle.mus_units.specs.declared.note.Head.{Head}
+use Rattle.mus_units.specs.declared.pitch.Alter.{Alter}
+use Rattle.mus_units.specs.declared.pitch.Clef.{Clef}
+use Rattle.mus_units.specs.declared.pitch.Letter.{Letter}
+use Rattle.mus_units.specs.declared.pitch.Pitch.{Pitch}
 use Rattle.mus_pitch.specs.{Circle.is_signature, Circle.signs_of, Steps.pitch_of_steps, Steps.steps}
-use Rattle.mus_score.specs.{declared.score.{Event.Event, Flat.Flat, Measure.Measure, Music.{Music, TheOpen.Music-F, TheViews.roll-Music, TheFolds.fold-Music}, Score.Score, Voice.Voice}, GoodScore.{AreInReach, clef_at, events_of}}
+use Rattle.mus_score.specs.declared.score.Event.{Event}
+use Rattle.mus_score.specs.declared.score.Flat.{Flat}
+use Rattle.mus_score.specs.declared.score.Measure.{Measure}
+use Rattle.mus_score.specs.declared.score.Music.{Music}
+use Rattle.mus_score.specs.declared.score.Music.TheOpen.{Music-F}
+use Rattle.mus_score.specs.declared.score.Music.TheViews.{roll-Music}
+use Rattle.mus_score.specs.declared.score.Music.TheFolds.{fold-Music}
+use Rattle.mus_score.specs.declared.score.Score.{Score}
+use Rattle.mus_score.specs.declared.score.Voice.{Voice}
+use Rattle.mus_score.specs.GoodScore.{AreInReach, clef_at, events_of}
 use Rattle.mus_transpose.specs.{declared.moves.Move.Move, declared.moves.MoveError.MoveError}
 
 -- the semitones from C to a letter

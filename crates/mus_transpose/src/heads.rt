@@ -1,6 +1,7 @@
 ghost use Rattle.std.specs.Prelude.{◌≡◌, ◌≤◌, ◌+ℤ◌, ◌-ℤ◌, ◌*ℤ◌, pos, negsuc, true, false, MatchOption};
 ghost use Rattle.mus_pitch.specs.Steps.{steps};
-ghost use Rattle.mus_transpose.specs.Moved.{Within, alter_from, alter_of, half_steps_above_c, semitones, head_moves, is_near_staff, moved_alter, moved_head, moved_pitch, moved_steps};
+ghost use Rattle.mus_transpose.specs.Moved.{Within, alter_from, alter_of, half_steps_above_c, semitones, head_moves};
+ghost use Rattle.mus_transpose.specs.Moved.{is_near_staff, moved_alter, moved_head, moved_pitch, moved_steps};
 
 use crate::moves::Move;
 use mus_pitch::pitch_of_steps;

@@ -1,5 +1,8 @@
-ghost use Rattle.std.specs.{Prelude.{◌≡◌, ◌≤◌, ◌+ℤ◌, pos, negsuc, length, true, false, IfOk, MatchOption}, Cmp.Lexicographic.pointwise};
-ghost use Rattle.{mus_pitch.specs.Circle.{is_signature}, mus_transpose.specs.Moved.{Within, GivesIfMovable, moved_key, key_may, on_circle, same_sign, sharps_by, sharps_in}};
+ghost use Rattle.std.specs.Prelude.{◌≡◌, ◌≤◌, ◌+ℤ◌, pos, negsuc, length, true, false, IfOk, MatchOption};
+ghost use Rattle.std.specs.Cmp.Lexicographic.{pointwise};
+ghost use Rattle.mus_pitch.specs.Circle.{is_signature};
+ghost use Rattle.mus_transpose.specs.Moved.{Within, GivesIfMovable, moved_key, key_may, on_circle, same_sign};
+ghost use Rattle.mus_transpose.specs.Moved.{sharps_by, sharps_in};
 
 use crate::moves::{Move, MoveError, Moved};
 use mus_pitch::key_of;

@@ -1,4 +1,5 @@
-ghost use Rattle.std.specs.{Prelude.◌≡◌, Prelude.◌+ℤ◌, Prelude.◌-ℤ◌, Prelude.◌*ℤ◌, Prelude.pos, Prelude.negsuc, Int.int_div_euclid, Int.int_rem_euclid};
+ghost use Rattle.std.specs.Prelude.{◌≡◌, ◌+ℤ◌, ◌-ℤ◌, ◌*ℤ◌, pos, negsuc};
+ghost use Rattle.std.specs.Int.{int_div_euclid, int_rem_euclid};
 ghost use Rattle.mus_transpose.specs.declared.moves.MoveError.TheVariants as errors;
 ghost use Rattle.mus_transpose.specs.Moved.{Within, new_sharps, move_for};
 

@@ -1,6 +1,9 @@
-ghost use Rattle.std.specs.{Prelude.◌≡◌, Prelude.length, Prelude.pos, Prelude.negsuc, Prelude.All, Prelude.IfOk, Prelude.IfSome, Prelude.MatchOption, Prelude.true, Prelude.map, List.list_all};
+ghost use Rattle.std.specs.Prelude.{◌≡◌, length, pos, negsuc, All, IfOk, IfSome, MatchOption, true, map};
+ghost use Rattle.std.specs.List.{list_all};
 ghost use Rattle.mus_score.specs.{Good.IsGoodBody, GoodScore.IsGoodScore, GoodScore.events_of};
-ghost use Rattle.mus_transpose.specs.Moved.{Within, CanMove, GivesIfMovable, IsMoved, are_in_reach, body_may, measure_by, move_from, moved_score, on_circle, score_by, voice_by, voice_may};
+ghost use Rattle.mus_transpose.specs.Moved.{Within, CanMove, GivesIfMovable, IsMoved, are_in_reach, body_may};
+ghost use Rattle.mus_transpose.specs.Moved.{measure_by, move_from, moved_score, on_circle, score_by, voice_by};
+ghost use Rattle.mus_transpose.specs.Moved.{voice_may};
 
 use crate::keys::{moved_key, on_circle, sharps_in};
 use crate::moves::{Move, MoveError, Moved, move_for};

@@ -1,5 +1,6 @@
 ghost use Rattle.std.specs.{Prelude.◌≡◌, Prelude.map, List.list_all};
-ghost use Rattle.mus_transpose.specs.Moved.{GivesIfMovable, all_pass, body_by, body_may, changed, event_by, event_may, head_moves, moved_head};
+ghost use Rattle.mus_transpose.specs.Moved.{GivesIfMovable, all_pass, body_by, body_may, changed, event_by, event_may};
+ghost use Rattle.mus_transpose.specs.Moved.{head_moves, moved_head};
 
 use crate::heads::moved_head;
 use crate::keys::moved_key;

@@ -1,6 +1,9 @@
 -- Cutting a length into parts, one by one.
-use Rattle.std.proofs.Common.{◌≡◌, sym, subst, ℕ, ◌+◌, ◌*◌, ◌-◌, ◌≤◌, ◌<◌, List, [], ◌∷◌, ◌++◌, length, length-append, append_assoc, append-nil, arith}
-use Rattle.mus_units.{specs.{declared.value.Value.Value, Parts.{units_of, IsLongestValue, ArePartsOf, IsPartsOf}}, proofs.Longest.{value_short, value_some}}
+use Rattle.std.proofs.Common.{◌≡◌, sym, subst, ℕ, ◌+◌, ◌*◌, ◌-◌, ◌≤◌, ◌<◌, List, [], ◌∷◌, ◌++◌, length, length-append}
+use Rattle.std.proofs.Common.{append_assoc, append-nil, arith}
+use Rattle.mus_units.specs.declared.value.Value.{Value}
+use Rattle.mus_units.specs.Parts.{units_of, IsLongestValue, ArePartsOf, IsPartsOf}
+use Rattle.mus_units.proofs.Longest.{value_short, value_some}
 
 pub parts_within : (vs : List Value) (left : ℕ) → ArePartsOf left vs → left ≤ 2047 * length vs
 parts_within [] left h = omega arith

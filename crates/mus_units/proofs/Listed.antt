@@ -1,6 +1,13 @@
 -- The parts of a length as a list that is computed.
-use Rattle.std.{proofs.{Common.{◌≡◌, refl, sym, subst, ◌&&◌, ◌∙◌, ap, ℕ, zero, suc, ◌+◌, ◌*◌, ◌/◌, ◌-◌, ◌≤◌, ◌<◌, List, [], ◌∷◌, ◌++◌, append_assoc, append-nil, Bool, true, false, Option, Some, None, option_map, ◌⊎◌, inl, inr, arith, nat_le, nat_lt, ◌==◌, find, flat_map}, lemmas.Bool.Decides.nat_tests, Math.Nat.mul-div_cancel}, specs.List.list_all}
-use Rattle.mus_units.specs.{declared.value.{Base.Base, Value.Value}, Parts.{units_of, IsLongestValue, all_values, dotted, longest_within, cut_in, parts_list}}
+use Rattle.std.proofs.Common.{◌≡◌, refl, sym, subst, ◌&&◌, ◌∙◌, ap, ℕ, zero, suc, ◌+◌, ◌*◌, ◌/◌, ◌-◌, ◌≤◌, ◌<◌, List}
+use Rattle.std.proofs.Common.{[], ◌∷◌, ◌++◌, append_assoc, append-nil, Bool, true, false, Option, Some, None}
+use Rattle.std.proofs.Common.{option_map, ◌⊎◌, inl, inr, arith, nat_le, nat_lt, ◌==◌, find, flat_map}
+use Rattle.std.proofs.lemmas.Bool.Decides.{nat_tests}
+use Rattle.std.proofs.Math.Nat.{mul-div_cancel}
+use Rattle.std.specs.List.{list_all}
+use Rattle.mus_units.specs.declared.value.Base.{Base}
+use Rattle.mus_units.specs.declared.value.Value.{Value}
+use Rattle.mus_units.specs.Parts.{units_of, IsLongestValue, all_values, dotted, longest_within, cut_in, parts_list}
 use Rattle.mus_units.specs.declared.value.Base.TheVariants as bases
 
 abbrev IsIn : {A : Type 0} → List A → A → Type 0

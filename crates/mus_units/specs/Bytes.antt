@@ -1,5 +1,6 @@
 -- Bytes of a text: their classes, and what is left without spaces and tabs at the ends.
-use Rattle.std.specs.{Prelude.{ℕ, ◌-◌, ◌&&◌, ◌||◌, ◌==◌, nat_le, Bool, false, List, [], ◌∷◌, take, drop, length, codes}, List.{prefix_len, suffix_len}}
+use Rattle.std.specs.Prelude.{ℕ, ◌-◌, ◌&&◌, ◌||◌, ◌==◌, nat_le, Bool, false, List, [], ◌∷◌, take, drop, length, codes}
+use Rattle.std.specs.List.{prefix_len, suffix_len}
 
 -- the byte is from the first to the second of two
 abbrev pub is_within : List ℕ → ℕ → Bool

@@ -1,6 +1,11 @@
 -- Good values: what each call that takes a key, a meter or a unit asks of it, and each call that makes one gives.
 use Rattle.std.specs.Prelude.{◌≡◌, ⊤, ℕ, ◌==◌, ◌≤◌, ◌||◌, Bool, IsTrue, List, count_by}
-use Rattle.mus_units.specs.{Pitch.letter_number, declared.pitch.Letter.Letter, declared.key.Sign.Sign, declared.key.Key.Key, declared.key.Meter.Meter, declared.value.Frac.Frac}
+use Rattle.mus_units.specs.Pitch.{letter_number}
+use Rattle.mus_units.specs.declared.pitch.Letter.{Letter}
+use Rattle.mus_units.specs.declared.key.Sign.{Sign}
+use Rattle.mus_units.specs.declared.key.Key.{Key}
+use Rattle.mus_units.specs.declared.key.Meter.{Meter}
+use Rattle.mus_units.specs.declared.value.Frac.{Frac}
 use Rattle.mus_units.specs.declared.key.Meter.TheVariants as meters
 
 abbrev pub same_letter : Letter → Letter → Bool

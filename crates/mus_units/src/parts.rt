@@ -1,5 +1,8 @@
-ghost use Rattle.std.specs.Prelude.{◌≡◌, ◌≤◌, ◌<◌, ◌^◌, ◌*◌, ◌+◌, ◌-◌, ℕ, ◌/◌, List, ◌++◌, ◌∷◌, [], IfOk, OnOk, OnErr, OnSome, MatchOption, IsSome, Some, None};
-ghost use Rattle.mus_units.specs.{declared.value.Value.Value, Parts.{IsValueOf, IsPartsOf, IsLongestValue, base_units, units_of, parts_list}, Value.with_dots};
+ghost use Rattle.std.specs.Prelude.{◌≡◌, ◌≤◌, ◌<◌, ◌^◌, ◌*◌, ◌+◌, ◌-◌, ℕ, ◌/◌, List, ◌++◌, ◌∷◌, [], IfOk, OnOk, OnErr};
+ghost use Rattle.std.specs.Prelude.{OnSome, MatchOption, IsSome, Some, None};
+ghost use Rattle.mus_units.specs.declared.value.Value.{Value};
+ghost use Rattle.mus_units.specs.Parts.{IsValueOf, IsPartsOf, IsLongestValue, base_units, units_of, parts_list};
+ghost use Rattle.mus_units.specs.Value.{with_dots};
 
 use crate::text::{Memory, Row};
 use crate::value::{Base, Value};

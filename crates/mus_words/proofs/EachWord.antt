@@ -1,9 +1,25 @@
 -- One walk over the syllables and texts of an event: what holds of a syllable of each verse, and of a text above and
 -- one below, as they are printed, holds of all of them. What prints nothing is not drawn.
-use Rattle.std.{proofs.{Common.{◌≡◌, ℕ, suc, ℤ, ◌+◌, ◌≤◌, ◌<◌, Bool, true, false, ◌==◌, if◌then◌else◌, List, [], ◌∷◌, ◌++◌, length, Option, Some, None, refl, subst, arith}, lemmas.Bool.Decides.nat_tests, Math.Bool.beq}, specs.{List.{AllByRecursion, flat_map}, Prelude.decimal}}
-use Rattle.{mus_units.specs.declared.note.Deco.{Deco}, mus_score.specs.{declared.score.Flat.Flat, declared.score.Mention.Mention}, mus_stems.proofs.RunLaws.{all_append}}
-use Rattle.{mus_laid.specs.{declared.drawn.LaneInk.LaneInk, Printed.printed, declared.laid.Lane.Lane}, mus_ink.specs.{Distances.half_character, Drawing.back}}
-use Rattle.mus_words.specs.{declared.texts.TextPlace.TextPlace, Syllables.{syllable_dx, syllable_if, syllables_from, verse_dy}, Texts.{above_from, below_from, shown_deco, shown_ending, shown_mention, shown_number, text_marks, texts_above, texts_below}, Words.{shown_text, words}}
+use Rattle.std.proofs.Common.{◌≡◌, ℕ, suc, ℤ, ◌+◌, ◌≤◌, ◌<◌, Bool, true, false, ◌==◌, if◌then◌else◌, List, [], ◌∷◌}
+use Rattle.std.proofs.Common.{◌++◌, length, Option, Some, None, refl, subst, arith}
+use Rattle.std.proofs.lemmas.Bool.Decides.{nat_tests}
+use Rattle.std.proofs.Math.Bool.{beq}
+use Rattle.std.specs.List.{AllByRecursion, flat_map}
+use Rattle.std.specs.Prelude.{decimal}
+use Rattle.mus_units.specs.declared.note.Deco.{Deco}
+use Rattle.mus_score.specs.declared.score.Flat.{Flat}
+use Rattle.mus_score.specs.declared.score.Mention.{Mention}
+use Rattle.mus_stems.proofs.RunLaws.{all_append}
+use Rattle.mus_laid.specs.declared.drawn.LaneInk.{LaneInk}
+use Rattle.mus_laid.specs.Printed.{printed}
+use Rattle.mus_laid.specs.declared.laid.Lane.{Lane}
+use Rattle.mus_ink.specs.Distances.{half_character}
+use Rattle.mus_ink.specs.Drawing.{back}
+use Rattle.mus_words.specs.declared.texts.TextPlace.{TextPlace}
+use Rattle.mus_words.specs.Syllables.{syllable_dx, syllable_if, syllables_from, verse_dy}
+use Rattle.mus_words.specs.Texts.{above_from, below_from, shown_deco, shown_ending, shown_mention, shown_number}
+use Rattle.mus_words.specs.Texts.{text_marks, texts_above, texts_below}
+use Rattle.mus_words.specs.Words.{shown_text, words}
 use Rattle.mus_laid.specs.declared.laid.Lane.TheVariants as lanes
 
 -- what is printed of a text, if that is anything

@@ -1,8 +1,21 @@
 -- Slurs and ties: the heights of their two ends, and how far they bulge.
-use Rattle.std.specs.{Prelude.{ℕ, ℤ, pos, ◌+ℤ◌, Bool, true, false, ◌&&◌, not, if◌then◌else◌, List, Option, Some, None}, List.{find, slice_get}}
-use Rattle.{mus_units.specs.{declared.pitch.Clef.Clef, declared.note.Head.Head}, mus_stems.specs.{declared.plans.StemPlan.StemPlan, Slope.with_end}, mus_arcs.specs.{declared.pairing.Arc.Arc, declared.cutting.Piece.Piece, Arcs.has_pitch}}
-use Rattle.{mus_laid.specs.declared.drawn.{BridgeShape.BridgeShape, Bridge.Bridge}, mus_onsets.specs.declared.keys.ColumnKey.{ColumnKey}}
-use Rattle.{mus_ink.specs.{Distances.cut_arc_line, Distances.slur_bulge, Distances.slur_gap, Distances.tie_gap, Drawing.back, Drawing.cut_dy, Notes.dy_of, Decos.top_of}, mus_words.specs.declared.arcs.ArcEnd.{ArcEnd}}
+use Rattle.std.specs.Prelude.{ℕ, ℤ, pos, ◌+ℤ◌, Bool, true, false, ◌&&◌, not, if◌then◌else◌, List, Option, Some, None}
+use Rattle.std.specs.List.{find, slice_get}
+use Rattle.mus_units.specs.declared.pitch.Clef.{Clef}
+use Rattle.mus_units.specs.declared.note.Head.{Head}
+use Rattle.mus_stems.specs.declared.plans.StemPlan.{StemPlan}
+use Rattle.mus_stems.specs.Slope.{with_end}
+use Rattle.mus_arcs.specs.declared.pairing.Arc.{Arc}
+use Rattle.mus_arcs.specs.declared.cutting.Piece.{Piece}
+use Rattle.mus_arcs.specs.Arcs.{has_pitch}
+use Rattle.mus_laid.specs.declared.drawn.BridgeShape.{BridgeShape}
+use Rattle.mus_laid.specs.declared.drawn.Bridge.{Bridge}
+use Rattle.mus_onsets.specs.declared.keys.ColumnKey.{ColumnKey}
+use Rattle.mus_ink.specs.Distances.{cut_arc_line, slur_bulge, slur_gap, tie_gap}
+use Rattle.mus_ink.specs.Drawing.{back, cut_dy}
+use Rattle.mus_ink.specs.Notes.{dy_of}
+use Rattle.mus_ink.specs.Decos.{top_of}
+use Rattle.mus_words.specs.declared.arcs.ArcEnd.{ArcEnd}
 
 -- the event at an end of an arc
 pub record ArcEndEvent : Type 0 where

@@ -1,6 +1,12 @@
 -- The syllables of an event: one for each verse in which it has one, each in the lane of its verse.
-use Rattle.std.specs.Prelude.{ℕ, ℤ, pos, ◌+◌, ◌*◌, ◌-ℤ◌, ◌==◌, if◌then◌else◌, List, [], ◌∷◌, ◌++◌, length, Option, Some, None}
-use Rattle.{mus_laid.specs.{declared.laid.Lane.Lane, declared.drawn.LaneInk.LaneInk, Printed.printed}, mus_ink.specs.{Distances.half_character, Distances.verse_step, Drawing.back, Drawing.cut_dy}, mus_words.specs.Words.{words}}
+use Rattle.std.specs.Prelude.{ℕ, ℤ, pos, ◌+◌, ◌*◌, ◌-ℤ◌, ◌==◌, if◌then◌else◌, List, [], ◌∷◌, ◌++◌, length, Option, Some}
+use Rattle.std.specs.Prelude.{None}
+use Rattle.mus_laid.specs.declared.laid.Lane.{Lane}
+use Rattle.mus_laid.specs.declared.drawn.LaneInk.{LaneInk}
+use Rattle.mus_laid.specs.Printed.{printed}
+use Rattle.mus_ink.specs.Distances.{half_character, verse_step}
+use Rattle.mus_ink.specs.Drawing.{back, cut_dy}
+use Rattle.mus_words.specs.Words.{words}
 
 -- a syllable has its middle at the column: half a character's width to the left for each of its characters
 unfoldable pub syllable_dx : ℕ → ℤ

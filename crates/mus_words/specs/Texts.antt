@@ -1,7 +1,16 @@
 -- The texts above and below an event, each as it is printed and from the staff outwards.
-use Rattle.std.{specs.Prelude.{ℕ, ℤ, pos, ◌+◌, ◌*◌, ◌+ℤ◌, ◌-ℤ◌, Bool, true, false, if◌then◌else◌, List, [], ◌∷◌, ◌++◌, flat_map, Option, Some, None, decimal}, proofs.Math.Bool.beq}
-use Rattle.{mus_units.specs.declared.note.Deco.{Deco}, mus_score.specs.{declared.score.Flat.Flat, declared.score.Mention.Mention}, mus_laid.specs.declared.{laid.Lane.Lane, drawn.LaneInk.LaneInk}}
-use Rattle.{mus_ink.specs.{Distances.half_character, Distances.text_gap, Distances.text_step, Distances.verse_step, Drawing.back, Drawing.cut_dy}, mus_words.specs.{declared.texts.TextPlace.TextPlace, Words.words, Words.shown_text}}
+use Rattle.std.specs.Prelude.{ℕ, ℤ, pos, ◌+◌, ◌*◌, ◌+ℤ◌, ◌-ℤ◌, Bool, true, false, if◌then◌else◌, List, [], ◌∷◌, ◌++◌}
+use Rattle.std.specs.Prelude.{flat_map, Option, Some, None, decimal}
+use Rattle.std.proofs.Math.Bool.{beq}
+use Rattle.mus_units.specs.declared.note.Deco.{Deco}
+use Rattle.mus_score.specs.declared.score.Flat.{Flat}
+use Rattle.mus_score.specs.declared.score.Mention.{Mention}
+use Rattle.mus_laid.specs.declared.laid.Lane.{Lane}
+use Rattle.mus_laid.specs.declared.drawn.LaneInk.{LaneInk}
+use Rattle.mus_ink.specs.Distances.{half_character, text_gap, text_step, verse_step}
+use Rattle.mus_ink.specs.Drawing.{back, cut_dy}
+use Rattle.mus_words.specs.declared.texts.TextPlace.{TextPlace}
+use Rattle.mus_words.specs.Words.{words, shown_text}
 use Rattle.mus_laid.specs.declared.laid.Lane.TheVariants as lanes
 
 abbrev pub shown_ending : Option (List ℕ) → List (List ℕ)

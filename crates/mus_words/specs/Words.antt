@@ -1,6 +1,10 @@
 -- Small texts in a lane. A text that prints nothing is no mark and counts nowhere.
 use Rattle.std.specs.Prelude.{ℕ, ℤ, ◌==◌, if◌then◌else◌, List, [], ◌∷◌, length}
-use Rattle.{mus_units.specs.declared.glyph.Size.{Size}, mus_laid.specs.{declared.drawn.Ink.Ink, declared.laid.Lane.Lane, declared.drawn.LaneInk.LaneInk, Printed.printed}}
+use Rattle.mus_units.specs.declared.glyph.Size.{Size}
+use Rattle.mus_laid.specs.declared.drawn.Ink.{Ink}
+use Rattle.mus_laid.specs.declared.laid.Lane.{Lane}
+use Rattle.mus_laid.specs.declared.drawn.LaneInk.{LaneInk}
+use Rattle.mus_laid.specs.Printed.{printed}
 
 abbrev pub words : Lane → ℤ → ℤ → List ℕ → LaneInk
 words lane dx dy text = record { ink = Ink.Words Size.Small dx dy text; lane = lane }

@@ -1,6 +1,8 @@
-ghost use Rattle.std.specs.{Prelude.◌≡◌, Prelude.◌++◌, Prelude.◌∷◌, Prelude.[], Prelude.OnOk, List.find, List.slice_get};
+ghost use Rattle.std.specs.Prelude.{◌≡◌, ◌++◌, ◌∷◌, [], OnOk};
+ghost use Rattle.std.specs.List.{find, slice_get};
 ghost use Rattle.mus_arcs.specs.Arcs.{has_pitch};
-ghost use Rattle.mus_words.specs.Arcs.{arc_end_event, arc_bridge, piece_dy, piece_mark, slur_dy, bulges_up, tie_bulge, dy_if, beside_head, tied_head, tie_dy, slur_mark, tie_mark, arc_mark};
+ghost use Rattle.mus_words.specs.Arcs.{arc_end_event, arc_bridge, piece_dy, piece_mark, slur_dy, bulges_up, tie_bulge};
+ghost use Rattle.mus_words.specs.Arcs.{dy_if, beside_head, tied_head, tie_dy, slur_mark, tie_mark, arc_mark};
 
 use mus_arcs::{Arc, Piece};
 use mus_ink::distances::{CUT_ARC_LINE, SLUR_BULGE, SLUR_GAP, TIE_GAP};

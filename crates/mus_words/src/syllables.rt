@@ -1,5 +1,7 @@
 ghost use Rattle.std.specs.Prelude.{◌≡◌, ◌+◌, ◌≤◌, ◌<◌, length, OnOk};
-ghost use Rattle.{mus_laid.specs.{Printed.{printed}, Ranked.{inked}}, mus_words.specs.Syllables.{syllable_dx, verse_dy, syllable, syllable_if, syllables_from}};
+ghost use Rattle.mus_laid.specs.Printed.{printed};
+ghost use Rattle.mus_laid.specs.Ranked.{inked};
+ghost use Rattle.mus_words.specs.Syllables.{syllable_dx, verse_dy, syllable, syllable_if, syllables_from};
 
 use crate::words::put_words;
 use mus_ink::distances::{HALF_CHARACTER, VERSE_STEP};

@@ -1,6 +1,7 @@
 ghost use Rattle.std.specs.Prelude.{◌≡◌, ◌≤◌, ◌+◌, ◌*◌, ◌++◌, ◌-ℤ◌, pos, min, flat_map, IfOk, OnOk};
 ghost use Rattle.mus_ink.specs.Distances.{text_step, verse_step};
-ghost use Rattle.mus_words.specs.Texts.{shown_ending, shown_number, shown_deco, shown_mention, texts_above, texts_below, above_dy, below_dy, above_from, below_from, text_marks};
+ghost use Rattle.mus_words.specs.Texts.{shown_ending, shown_number, shown_deco, shown_mention, texts_above};
+ghost use Rattle.mus_words.specs.Texts.{texts_below, above_dy, below_dy, above_from, below_from, text_marks};
 ghost use Rattle.mus_laid.specs.Ranked.{inked};
 
 use crate::words::{add_shown, put_words};

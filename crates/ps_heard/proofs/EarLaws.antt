@@ -1,7 +1,20 @@
 -- What a listener keeps in mind behind some columns is what these columns tell.
-use Rattle.std.{proofs.{Common.{◌≡◌, refl, sym, ap, ◌∙◌, subst, ℕ, suc, ◌+◌, ◌-◌, ◌<◌, List, [], ◌∷◌, ◌++◌, map, reverse, length, drop, drop-cons, get_or, append-nil, append_assoc, arith}, lemmas.Grind.reverse_onto}, specs.List.{flat_map, range_with_len}}
-use Rattle.{mus_units.specs.{declared.key.Sign.Sign, declared.key.Spread.Spread, declared.note.Head.Head, declared.pitch.Clef.Clef}, ps_text.specs.declared.sheet.Staff.{Staff}}
-use Rattle.ps_heard.specs.{declared.column.{HeardColumn.HeardColumn, Listener.Listener, Heard.Heard, HeardGlyph.HeardGlyph}, Ear.{column_closed, fresh, hear_column, hear_columns, hear_from}, Hearing.{heads_heard, clef_heard, head_of_glyph, heads_from, heard_of_glyph, heard_of, key_heard, last_heads, heard_if_note, said_before, said_with_column, said_with}}
+use Rattle.std.proofs.Common.{◌≡◌, refl, sym, ap, ◌∙◌, subst, ℕ, suc, ◌+◌, ◌-◌, ◌<◌, List, [], ◌∷◌, ◌++◌, map, reverse}
+use Rattle.std.proofs.Common.{length, drop, drop-cons, get_or, append-nil, append_assoc, arith}
+use Rattle.std.proofs.lemmas.Grind.{reverse_onto}
+use Rattle.std.specs.List.{flat_map, range_with_len}
+use Rattle.mus_units.specs.declared.key.Sign.{Sign}
+use Rattle.mus_units.specs.declared.key.Spread.{Spread}
+use Rattle.mus_units.specs.declared.note.Head.{Head}
+use Rattle.mus_units.specs.declared.pitch.Clef.{Clef}
+use Rattle.ps_text.specs.declared.sheet.Staff.{Staff}
+use Rattle.ps_heard.specs.declared.column.HeardColumn.{HeardColumn}
+use Rattle.ps_heard.specs.declared.column.Listener.{Listener}
+use Rattle.ps_heard.specs.declared.column.Heard.{Heard}
+use Rattle.ps_heard.specs.declared.column.HeardGlyph.{HeardGlyph}
+use Rattle.ps_heard.specs.Ear.{column_closed, fresh, hear_column, hear_columns, hear_from}
+use Rattle.ps_heard.specs.Hearing.{heads_heard, clef_heard, head_of_glyph, heads_from, heard_of_glyph, heard_of}
+use Rattle.ps_heard.specs.Hearing.{key_heard, last_heads, heard_if_note, said_before, said_with_column, said_with}
 
 abbrev pub ear_with : Clef → List Sign → List Head → List Heard → List Heard → List Heard → Listener
 ear_with c k said before here heard = record { clef = c; key = record { signs = k }; said = said; before = before; here = here; heard = heard }

@@ -1,7 +1,26 @@
 -- Columns that are filled mark after mark are the columns of the marks.
-use Rattle.std.{proofs.{Common.{◌≡◌, refl, sym, ap, ◌∙◌, subst, ℕ, zero, suc, ◌+◌, ◌<◌, Bool, true, false, ◌&&◌, List, [], ◌∷◌, ◌++◌, length, get_or, set, drop, drop-cons, arith, ℤ, pos, ◌-ℤ◌, append-nil, append_assoc}, lemmas.{Bool.{false≢true, or_parts}, Cmp.int_cmp_total, Grind.flat_map-append}}, specs.{Prelude.if◌then◌else◌, List.{flat_map, list_any, Sorted.IsStrictlySortedBy}, Ordering.{int_cmp, int_eq, is_eq, ordering_reverse}, declared.cmp.Ordering.TheVariants.Less}}
-use Rattle.{mus_units.specs.{declared.glyph.Glyph.Glyph, declared.glyph.Size.Size, declared.glyph.Way.Way}, ps_text.specs.declared.marks.PageMark.{PageMark}}
-use Rattle.ps_heard.{specs.{declared.column.{HeardColumn.HeardColumn, HeardGlyph.HeardGlyph, Role.Role}, Columns.{column_at, heard_columns_from, bulges_as_tie, glyphs_at, noted, tie_at}, Filling.{at_place, with_page_mark, with_marks, with_note, with_tie_at}, Roles.role_of}, proofs.Places.{Below, itself, not_among}}
+use Rattle.std.proofs.Common.{◌≡◌, refl, sym, ap, ◌∙◌, subst, ℕ, zero, suc, ◌+◌, ◌<◌, Bool, true, false, ◌&&◌, List, []}
+use Rattle.std.proofs.Common.{◌∷◌, ◌++◌, length, get_or, set, drop, drop-cons, arith, ℤ, pos, ◌-ℤ◌, append-nil}
+use Rattle.std.proofs.Common.{append_assoc}
+use Rattle.std.proofs.lemmas.Bool.{false≢true, or_parts}
+use Rattle.std.proofs.lemmas.Cmp.{int_cmp_total}
+use Rattle.std.proofs.lemmas.Grind.{flat_map-append}
+use Rattle.std.specs.Prelude.{if◌then◌else◌}
+use Rattle.std.specs.List.{flat_map, list_any}
+use Rattle.std.specs.List.Sorted.{IsStrictlySortedBy}
+use Rattle.std.specs.Ordering.{int_cmp, int_eq, is_eq, ordering_reverse}
+use Rattle.std.specs.declared.cmp.Ordering.TheVariants.{Less}
+use Rattle.mus_units.specs.declared.glyph.Glyph.{Glyph}
+use Rattle.mus_units.specs.declared.glyph.Size.{Size}
+use Rattle.mus_units.specs.declared.glyph.Way.{Way}
+use Rattle.ps_text.specs.declared.marks.PageMark.{PageMark}
+use Rattle.ps_heard.specs.declared.column.HeardColumn.{HeardColumn}
+use Rattle.ps_heard.specs.declared.column.HeardGlyph.{HeardGlyph}
+use Rattle.ps_heard.specs.declared.column.Role.{Role}
+use Rattle.ps_heard.specs.Columns.{column_at, heard_columns_from, bulges_as_tie, glyphs_at, noted, tie_at}
+use Rattle.ps_heard.specs.Filling.{at_place, with_page_mark, with_marks, with_note, with_tie_at}
+use Rattle.ps_heard.specs.Roles.{role_of}
+use Rattle.ps_heard.proofs.Places.{Below, itself, not_among}
 
 -- ---- one column changed
 as_it_is : (f : HeardColumn → HeardColumn) (c : HeardColumn) (b : Bool) → b ≡ false → (if b then f c else c) ≡ c

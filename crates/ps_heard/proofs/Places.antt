@@ -1,5 +1,19 @@
 -- Numbers in rising order, each once, and one of them sought.
-use Rattle.std.{proofs.{Common.{◌≡◌, refl, sym, ap, ◌∙◌, subst, ℕ, ◌<◌, ◌≤◌, Bool, true, false, cond, ◌||◌, nat_lt, List, [], ◌∷◌, length, get_or, arith, ℤ}, lemmas.{Bool.{false≢true, Decides.nat_tests}, Cmp.{int_cmp_total, int_eq_equiv}, Int.ints, Map.{Keys.Less-from_sorted, Views.{Contains-from_any, list_any-from_Contains}}}}, specs.{Prelude.{int_lt, if◌then◌else◌}, List.{AllByRecursion, Contains, list_any, Sorted.{IsNonDecreasingBy, IsPartitionPoint, IsStrictlySortedBy}}, Ordering.{int_cmp, int_eq, is_eq, is_gt, ordering_index}, declared.cmp.Ordering.{Ordering, TheVariants.{Less, Equal, Greater}}, FinMap.int_cmp-IsAntisymmetric}}
+use Rattle.std.proofs.Common.{◌≡◌, refl, sym, ap, ◌∙◌, subst, ℕ, ◌<◌, ◌≤◌, Bool, true, false, cond, ◌||◌, nat_lt, List}
+use Rattle.std.proofs.Common.{[], ◌∷◌, length, get_or, arith, ℤ}
+use Rattle.std.proofs.lemmas.Bool.{false≢true}
+use Rattle.std.proofs.lemmas.Bool.Decides.{nat_tests}
+use Rattle.std.proofs.lemmas.Cmp.{int_cmp_total, int_eq_equiv}
+use Rattle.std.proofs.lemmas.Int.{ints}
+use Rattle.std.proofs.lemmas.Map.Keys.{Less-from_sorted}
+use Rattle.std.proofs.lemmas.Map.Views.{Contains-from_any, list_any-from_Contains}
+use Rattle.std.specs.Prelude.{int_lt, if◌then◌else◌}
+use Rattle.std.specs.List.{AllByRecursion, Contains, list_any}
+use Rattle.std.specs.List.Sorted.{IsNonDecreasingBy, IsPartitionPoint, IsStrictlySortedBy}
+use Rattle.std.specs.Ordering.{int_cmp, int_eq, is_eq, is_gt, ordering_index}
+use Rattle.std.specs.declared.cmp.Ordering.{Ordering}
+use Rattle.std.specs.declared.cmp.Ordering.TheVariants.{Less, Equal, Greater}
+use Rattle.std.specs.FinMap.{int_cmp-IsAntisymmetric}
 use Rattle.ps_heard.specs.Columns.{inserted, rising}
 
 abbrev pub Below : ℤ → List ℤ → Type 0

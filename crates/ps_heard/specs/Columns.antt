@@ -1,8 +1,14 @@
 -- The columns of a staff of a system. The anchors of all staves of the system, from the left and each once, are the places of
 -- its columns. A column has what the glyphs at its anchor tell, in the staff's order, and the heights of the heads at which a
 -- tie ends there: an arc of bulge 400 or -400 ends that far from its head. The first column of a system leads it.
-use Rattle.std.specs.{Prelude.{ℤ, pos, negsuc, ◌-ℤ◌, ◌||◌, ◌&&◌, int_lt, if◌then◌else◌, Bool, true, false, List, [], ◌∷◌, flat_map}, Ordering.int_eq}
-use Rattle.{ps_text.specs.declared.marks.PageMark.{PageMark}, ps_heard.specs.{declared.column.HeardColumn.HeardColumn, declared.column.HeardGlyph.HeardGlyph, declared.column.Role.Role, Roles.role_of}}
+use Rattle.std.specs.Prelude.{ℤ, pos, negsuc, ◌-ℤ◌, ◌||◌, ◌&&◌, int_lt, if◌then◌else◌, Bool, true, false, List, [], ◌∷◌}
+use Rattle.std.specs.Prelude.{flat_map}
+use Rattle.std.specs.Ordering.{int_eq}
+use Rattle.ps_text.specs.declared.marks.PageMark.{PageMark}
+use Rattle.ps_heard.specs.declared.column.HeardColumn.{HeardColumn}
+use Rattle.ps_heard.specs.declared.column.HeardGlyph.{HeardGlyph}
+use Rattle.ps_heard.specs.declared.column.Role.{Role}
+use Rattle.ps_heard.specs.Roles.{role_of}
 
 -- quiet glyphs tell nothing
 abbrev pub noted : Role → ℤ → List HeardGlyph

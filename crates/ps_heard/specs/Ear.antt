@@ -2,7 +2,11 @@
 -- to is said in Hearing.
 use Rattle.std.specs.Prelude.{if◌then◌else◌, List, [], ◌∷◌, ◌++◌}
 use Rattle.mus_units.specs.declared.{key.Spread.Spread, pitch.Clef.Clef}
-use Rattle.ps_heard.specs.{declared.column.HeardColumn.HeardColumn, declared.column.Listener.Listener, declared.column.HeardGlyph.HeardGlyph, Hearing.clef_behind, Hearing.entries, Hearing.gives_key, Hearing.head_of_glyph, Hearing.heard_of_glyph, Hearing.last_or, Hearing.heard_if_note, Hearing.said_with}
+use Rattle.ps_heard.specs.declared.column.HeardColumn.{HeardColumn}
+use Rattle.ps_heard.specs.declared.column.Listener.{Listener}
+use Rattle.ps_heard.specs.declared.column.HeardGlyph.{HeardGlyph}
+use Rattle.ps_heard.specs.Hearing.{clef_behind, entries, gives_key, head_of_glyph, heard_of_glyph, last_or}
+use Rattle.ps_heard.specs.Hearing.{heard_if_note, said_with}
 
 -- a mark: a bar ends the measure, a head is said, and listed where it is no grace note's
 abbrev pub hear_one : Spread → HeardColumn → Listener → HeardGlyph → Listener

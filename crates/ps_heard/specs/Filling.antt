@@ -1,6 +1,10 @@
 -- How the columns of a staff are filled, mark after mark. This is the way that the program takes; what the columns are is said in Columns.
-use Rattle.std.specs.{Prelude.ℤ, Prelude.if◌then◌else◌, Prelude.List, Prelude.[], Prelude.◌∷◌, Prelude.◌++◌, Ordering.int_eq}
-use Rattle.{ps_text.specs.declared.marks.PageMark.{PageMark}, ps_heard.specs.{declared.column.HeardColumn.HeardColumn, declared.column.Role.Role, Columns.glyphs_at, Columns.noted, Columns.tie_at}}
+use Rattle.std.specs.Prelude.{ℤ, if◌then◌else◌, List, [], ◌∷◌, ◌++◌}
+use Rattle.std.specs.Ordering.{int_eq}
+use Rattle.ps_text.specs.declared.marks.PageMark.{PageMark}
+use Rattle.ps_heard.specs.declared.column.HeardColumn.{HeardColumn}
+use Rattle.ps_heard.specs.declared.column.Role.{Role}
+use Rattle.ps_heard.specs.Columns.{glyphs_at, noted, tie_at}
 
 abbrev pub with_note : Role → ℤ → HeardColumn → HeardColumn
 with_note role dy c = record c { notes = c.notes ++ noted role dy }

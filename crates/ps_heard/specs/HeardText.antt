@@ -1,8 +1,14 @@
 -- The text of what a sheet sounds. For each tune a line `tune` and its ordinal; for each of its staves, counted from 0, a line
 -- `staff` and its place; and for each head a line with its letter in capital, its alteration in half steps, -2 to 2, and its octave.
 use Rattle.std.specs.{Prelude.{ℕ, ℤ, pos, negsuc, List, ◌++◌, codes, decimal, flat_map}, Fmt.signed_decimal}
-use Rattle.{mus_units.specs.{declared.key.Spread.Spread, declared.pitch.Alter.Alter, declared.pitch.Letter.Letter}, ps_text.specs.{Document.numbered, declared.sheet.Sheet.Sheet}}
-use Rattle.ps_heard.specs.{declared.column.Heard.Heard, declared.tunes.SheetTune.SheetTune, Tunes.items_of, Tunes.staves_heard, Tunes.tunes_of}
+use Rattle.mus_units.specs.declared.key.Spread.{Spread}
+use Rattle.mus_units.specs.declared.pitch.Alter.{Alter}
+use Rattle.mus_units.specs.declared.pitch.Letter.{Letter}
+use Rattle.ps_text.specs.Document.{numbered}
+use Rattle.ps_text.specs.declared.sheet.Sheet.{Sheet}
+use Rattle.ps_heard.specs.declared.column.Heard.{Heard}
+use Rattle.ps_heard.specs.declared.tunes.SheetTune.{SheetTune}
+use Rattle.ps_heard.specs.Tunes.{items_of, staves_heard, tunes_of}
 
 abbrev pub letter_text : Letter → List ℕ
 letter_text Letter.C = codes "C"

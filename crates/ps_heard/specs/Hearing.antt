@@ -5,9 +5,24 @@
 -- at its height in its column; where a tie ends at it, the alteration of the head before the tie; the last sign of an earlier
 -- head of its measure that the spread reaches; its key's; natural. The head before a tie is the first of that letter and
 -- octave in the last earlier column of heads. Heads of grace notes count for signs, and are not listed.
-use Rattle.std.specs.{Prelude.{ℤ, ◌||◌, ◌&&◌, not, Bool, true, false, if◌then◌else◌, List, [], ◌∷◌, ◌++◌, reverse, Option, Some, None, unwrap_or}, List.{find, list_any}, Option.option_map, Ordering.int_eq}
-use Rattle.mus_units.specs.{Good.same_letter, declared.key.Sign.Sign, declared.key.Spread.Spread, declared.note.Head.Head, declared.pitch.Alter.Alter, declared.pitch.Clef.Clef, declared.pitch.Pitch.Pitch}
-use Rattle.{mus_pitch.specs.Alteration.{key_sign, said_sign}, ps_heard.specs.{declared.column.HeardColumn.HeardColumn, declared.column.Heard.Heard, declared.column.HeardGlyph.HeardGlyph, declared.column.Role.Role, Roles.pitch_at}}
+use Rattle.std.specs.Prelude.{ℤ, ◌||◌, ◌&&◌, not, Bool, true, false, if◌then◌else◌, List, [], ◌∷◌, ◌++◌, reverse}
+use Rattle.std.specs.Prelude.{Option, Some, None, unwrap_or}
+use Rattle.std.specs.List.{find, list_any}
+use Rattle.std.specs.Option.{option_map}
+use Rattle.std.specs.Ordering.{int_eq}
+use Rattle.mus_units.specs.Good.{same_letter}
+use Rattle.mus_units.specs.declared.key.Sign.{Sign}
+use Rattle.mus_units.specs.declared.key.Spread.{Spread}
+use Rattle.mus_units.specs.declared.note.Head.{Head}
+use Rattle.mus_units.specs.declared.pitch.Alter.{Alter}
+use Rattle.mus_units.specs.declared.pitch.Clef.{Clef}
+use Rattle.mus_units.specs.declared.pitch.Pitch.{Pitch}
+use Rattle.mus_pitch.specs.Alteration.{key_sign, said_sign}
+use Rattle.ps_heard.specs.declared.column.HeardColumn.{HeardColumn}
+use Rattle.ps_heard.specs.declared.column.Heard.{Heard}
+use Rattle.ps_heard.specs.declared.column.HeardGlyph.{HeardGlyph}
+use Rattle.ps_heard.specs.declared.column.Role.{Role}
+use Rattle.ps_heard.specs.Roles.{pitch_at}
 
 -- the last clef among what is noted, else the one before
 abbrev pub clef_or : Clef → Role → Clef

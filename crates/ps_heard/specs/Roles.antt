@@ -1,6 +1,12 @@
 -- What a glyph tells a listener, and the pitch at a height of a staff.
 use Rattle.std.specs.{Prelude.ℤ, Prelude.pos, Prelude.◌+ℤ◌, Prelude.if◌then◌else◌, Int.int_div_euclid, Ordering.int_eq}
-use Rattle.{mus_units.specs.{Pitch.bottom_of, declared.glyph.Glyph.Glyph, declared.pitch.Clef.Clef, declared.pitch.Pitch.Pitch, declared.pitch.Alter.Alter}, mus_pitch.specs.Steps.{pitch_of_steps}, ps_heard.specs.declared.column.Role.{Role}}
+use Rattle.mus_units.specs.Pitch.{bottom_of}
+use Rattle.mus_units.specs.declared.glyph.Glyph.{Glyph}
+use Rattle.mus_units.specs.declared.pitch.Clef.{Clef}
+use Rattle.mus_units.specs.declared.pitch.Pitch.{Pitch}
+use Rattle.mus_units.specs.declared.pitch.Alter.{Alter}
+use Rattle.mus_pitch.specs.Steps.{pitch_of_steps}
+use Rattle.ps_heard.specs.declared.column.Role.{Role}
 
 -- a C clef on the fourth line is tenor, and any other is alto
 abbrev pub c_clef : ℤ → Clef

@@ -1,8 +1,18 @@
 -- What the tunes of a sheet sound. The systems of a tune are those behind its Tune item and before the next one. A staff is
 -- heard through all of them in order, where they have it. There are as many staves as the largest of these systems has.
-use Rattle.std.specs.{Prelude.{ℕ, ℤ, max, List, [], ◌∷◌, length, map, flat_map, slice_get, Option, Some, None}, List.range_with_len}
-use Rattle.{mus_units.specs.declared.key.Spread.{Spread}, ps_text.specs.{Ranks.anchors, declared.sheet.Item.Item, declared.sheet.Page.Page, declared.sheet.Sheet.Sheet, declared.sheet.Staff.Staff}}
-use Rattle.ps_heard.specs.{declared.column.HeardColumn.HeardColumn, declared.column.Heard.Heard, declared.tunes.SheetTune.SheetTune, Columns.heard_columns_of, Hearing.heard_of}
+use Rattle.std.specs.Prelude.{ℕ, ℤ, max, List, [], ◌∷◌, length, map, flat_map, slice_get, Option, Some, None}
+use Rattle.std.specs.List.{range_with_len}
+use Rattle.mus_units.specs.declared.key.Spread.{Spread}
+use Rattle.ps_text.specs.Ranks.{anchors}
+use Rattle.ps_text.specs.declared.sheet.Item.{Item}
+use Rattle.ps_text.specs.declared.sheet.Page.{Page}
+use Rattle.ps_text.specs.declared.sheet.Sheet.{Sheet}
+use Rattle.ps_text.specs.declared.sheet.Staff.{Staff}
+use Rattle.ps_heard.specs.declared.column.HeardColumn.{HeardColumn}
+use Rattle.ps_heard.specs.declared.column.Heard.{Heard}
+use Rattle.ps_heard.specs.declared.tunes.SheetTune.{SheetTune}
+use Rattle.ps_heard.specs.Columns.{heard_columns_of}
+use Rattle.ps_heard.specs.Hearing.{heard_of}
 
 -- the items of a sheet, page after page
 abbrev pub items_of : Sheet → List Item

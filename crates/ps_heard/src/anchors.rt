@@ -1,4 +1,7 @@
-ghost use Rattle.std.specs.{Prelude.◌≡◌, Prelude.◌<◌, Prelude.◌++◌, Prelude.false, Prelude.flat_map, Prelude.length, Prelude.IfOk, Prelude.OnOk, Prelude.MatchOption, List.HoldsAt, List.list_any, List.Sorted.IsStrictlySortedBy, Ordering.int_cmp, Ordering.int_eq};
+ghost use Rattle.std.specs.Prelude.{◌≡◌, ◌<◌, ◌++◌, false, flat_map, length, IfOk, OnOk, MatchOption};
+ghost use Rattle.std.specs.List.{HoldsAt, list_any};
+ghost use Rattle.std.specs.List.Sorted.{IsStrictlySortedBy};
+ghost use Rattle.std.specs.Ordering.{int_cmp, int_eq};
 ghost use Rattle.{ps_text.specs.Ranks.{anchor_of, anchors}, ps_heard.specs.Columns.{rising}};
 
 use mus_units::{Memory, Row};

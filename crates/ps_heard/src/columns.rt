@@ -1,5 +1,8 @@
-ghost use Rattle.std.specs.{Prelude.◌≡◌, Prelude.◌++◌, Prelude.◌-ℤ◌, Prelude.[], Prelude.true, Prelude.length, Prelude.IfOk, Prelude.OnOk, List.Sorted.IsStrictlySortedBy, Ordering.int_cmp};
-ghost use Rattle.ps_heard.specs.{Columns.heard_columns_from, Columns.bulges_as_tie, Filling.at_place, Filling.with_page_mark, Filling.with_note, Filling.with_tie_at};
+ghost use Rattle.std.specs.Prelude.{◌≡◌, ◌++◌, ◌-ℤ◌, [], true, length, IfOk, OnOk};
+ghost use Rattle.std.specs.List.Sorted.{IsStrictlySortedBy};
+ghost use Rattle.std.specs.Ordering.{int_cmp};
+ghost use Rattle.ps_heard.specs.Columns.{heard_columns_from, bulges_as_tie};
+ghost use Rattle.ps_heard.specs.Filling.{at_place, with_page_mark, with_note, with_tie_at};
 
 use crate::anchors::place_of;
 use crate::column::{HeardColumn, HeardGlyph, Role};

@@ -1,7 +1,8 @@
 //! A staff, heard column by column.
 
 ghost use Rattle.std.specs.Prelude.{◌≡◌, ◌++◌, OnOk};
-ghost use Rattle.ps_heard.specs.Ear.{hear_one, hear_from, column_opened, column_closed, hear_column, hear_columns, fresh};
+ghost use Rattle.ps_heard.specs.Ear.{hear_one, hear_from, column_opened, column_closed, hear_column, hear_columns};
+ghost use Rattle.ps_heard.specs.Ear.{fresh};
 
 use crate::column::{Heard, HeardColumn, HeardGlyph, Listener, Role};
 use crate::heads::{head_of_glyph, heard_of_glyph};

@@ -1,7 +1,9 @@
 //! How a head of a column sounds.
 
 ghost use Rattle.std.specs.{Prelude.◌≡◌, List.find, List.list_any, Option.option_map, Ordering.int_eq};
-ghost use Rattle.{mus_pitch.specs.Alteration.{key_sign, said_sign}, ps_heard.specs.Hearing.{sign_of_glyph, is_same_pitch, tied_from, head_of_glyph, heard_of_glyph, first_there}};
+ghost use Rattle.mus_pitch.specs.Alteration.{key_sign, said_sign};
+ghost use Rattle.ps_heard.specs.Hearing.{sign_of_glyph, is_same_pitch, tied_from, head_of_glyph, heard_of_glyph};
+ghost use Rattle.ps_heard.specs.Hearing.{first_there};
 
 use crate::column::{Heard, HeardColumn, HeardGlyph, Listener, Role};
 use crate::pitches::pitch_at;

@@ -1,7 +1,8 @@
 //! What the tunes of a sheet sound.
 
 ghost use Rattle.std.specs.Prelude.{◌≡◌, IfOk, OnOk, flat_map};
-ghost use Rattle.ps_heard.specs.{Ear.hear_columns, Tunes.heard_staff_columns, Tunes.staff_heard, Tunes.staves_heard, Tunes.heard_in};
+ghost use Rattle.ps_heard.specs.Ear.{hear_columns};
+ghost use Rattle.ps_heard.specs.Tunes.{heard_staff_columns, staff_heard, staves_heard, heard_in};
 
 use crate::anchors::places_of;
 use crate::column::{Heard, Listener};

@@ -1,7 +1,10 @@
 //! What a sheet sounds, as text.
 
-ghost use Rattle.std.specs.{Prelude.◌≡◌, Prelude.◌++◌, Prelude.codes, Prelude.decimal, Prelude.flat_map, Prelude.OnOk, Fmt.signed_decimal};
-ghost use Rattle.{ps_text.specs.Document.{numbered}, ps_heard.specs.HeardText.{half_steps, head_line, heard_text, letter_text, heard_staff_text, heard_tune_text}};
+ghost use Rattle.std.specs.Prelude.{◌≡◌, ◌++◌, codes, decimal, flat_map, OnOk};
+ghost use Rattle.std.specs.Fmt.{signed_decimal};
+ghost use Rattle.ps_text.specs.Document.{numbered};
+ghost use Rattle.ps_heard.specs.HeardText.{half_steps, head_line, heard_text, letter_text, heard_staff_text};
+ghost use Rattle.ps_heard.specs.HeardText.{heard_tune_text};
 
 use crate::column::Heard;
 use crate::sheets::hear_tune;

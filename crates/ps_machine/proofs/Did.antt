@@ -1,6 +1,15 @@
 -- What operators do, told step by step.
-use Rattle.std.{proofs.{Common.{◌≡◌, ℤ, Bool, true, false, ◌&&◌, List, [], ◌∷◌, ◌++◌, refl, sym, subst, ◌∙◌, ap, FitsSigned, w64, to_z, of_z}, lemmas.Int.to_z-of_z}, specs.Prelude.Err}
-use Rattle.ps_steps.specs.{declared.{halt.Cause.Cause, graphics.Graphics.Graphics, paint.Seg.Seg}, Near.is_near, State.State, Operators.{Outcome, went, halted, lineto, curveto, add_seg, at_point, in_range, across, above, all_near}}
+use Rattle.std.proofs.Common.{◌≡◌, ℤ, Bool, true, false, ◌&&◌, List, [], ◌∷◌, ◌++◌, refl, sym, subst, ◌∙◌, ap}
+use Rattle.std.proofs.Common.{FitsSigned, w64, to_z, of_z}
+use Rattle.std.proofs.lemmas.Int.{to_z-of_z}
+use Rattle.std.specs.Prelude.{Err}
+use Rattle.ps_steps.specs.declared.halt.Cause.{Cause}
+use Rattle.ps_steps.specs.declared.graphics.Graphics.{Graphics}
+use Rattle.ps_steps.specs.declared.paint.Seg.{Seg}
+use Rattle.ps_steps.specs.Near.{is_near}
+use Rattle.ps_steps.specs.State.{State}
+use Rattle.ps_steps.specs.Operators.{Outcome, went, halted, lineto, curveto, add_seg, at_point, in_range, across, above}
+use Rattle.ps_steps.specs.Operators.{all_near}
 use Rattle.ps_machine.specs.{declared.state.Stop.Stop, Doing.DidOrStopped, Doing.IsPoint}
 
 is_in_range : (zs : List ℤ) (x : Outcome) → all_near zs ≡ true → in_range zs x ≡ x

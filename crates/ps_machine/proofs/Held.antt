@@ -1,7 +1,12 @@
 -- A piece more, for the state that is drawn with and for those that are saved.
-use Rattle.std.proofs.{Common.{◌≡◌, ◌≤◌, ◌∙◌, refl, sym, ap, subst, List, [], ◌∷◌, ◌++◌, length, take, drop, reverse, Some, ℕ, arith, length-append}, lemmas.List.{drop-append-le, take-append-le, reverse-append}}
+use Rattle.std.proofs.Common.{◌≡◌, ◌≤◌, ◌∙◌, refl, sym, ap, subst, List, [], ◌∷◌, ◌++◌, length, take, drop, reverse}
+use Rattle.std.proofs.Common.{Some, ℕ, arith, length-append}
+use Rattle.std.proofs.lemmas.List.{drop-append-le, take-append-le, reverse-append}
 use Rattle.ps_steps.specs.{declared.paint.Seg.Seg, Points.end_of, Points.last_move}
-use Rattle.ps_machine.specs.{Drawing.GraphicsStack, Pens.AreHeld, Pens.IsHeld, Pens.drawing_of, Pens.followed, Pens.graphics_of, Pens.saved_of, declared.canvas.PenState.PenState, declared.canvas.Saved.Saved}
+use Rattle.ps_machine.specs.Drawing.{GraphicsStack}
+use Rattle.ps_machine.specs.Pens.{AreHeld, IsHeld, drawing_of, followed, graphics_of, saved_of}
+use Rattle.ps_machine.specs.declared.canvas.PenState.{PenState}
+use Rattle.ps_machine.specs.declared.canvas.Saved.{Saved}
 
 -- the path with one more piece, the last first
 turned : (n : ℕ) (pieces : List Seg) (x : Seg) → n ≤ length pieces → reverse (drop n (pieces ++ x ∷ [])) ≡ x ∷ reverse (drop n pieces)

@@ -1,7 +1,17 @@
 -- How a run goes on, token by token.
 use Rattle.std.proofs.Common.{◌≡◌, ℕ, ◌+◌, ◌<◌, ◌≤◌, false, List, [], ◌∷◌, ◌++◌, Option, Some, None, refl, arith}
-use Rattle.ps_steps.{specs.{declared.{halt.Cause.Cause, token.{SimpleToken.SimpleToken, MachineToken.MachineToken}}, Tokens.{NoToken, passed}, State.{State, first_state}, Operators.{went, halted, executed}, Steps.{RunState, state_before, NextToken, from_pending, from_text, TakesSteps, here, step, Paints, unreadable, used_up, stuck, Halts}}, proofs.Joined.{now, joined}}
-use Rattle.{ps_tokens.specs.Programs.{AreTokensOf, all_read, fault_read, token_read}, ps_machine.specs.{declared.run.FetchedToken.FetchedToken, Nexts.machine_token, Nexts.IsTaken, Nexts.of_calls, Nexts.of_text, Nexts.IsFirstToken, Nexts.IsNext}}
+use Rattle.ps_steps.specs.declared.halt.Cause.{Cause}
+use Rattle.ps_steps.specs.declared.token.SimpleToken.{SimpleToken}
+use Rattle.ps_steps.specs.declared.token.MachineToken.{MachineToken}
+use Rattle.ps_steps.specs.Tokens.{NoToken, passed}
+use Rattle.ps_steps.specs.State.{State, first_state}
+use Rattle.ps_steps.specs.Operators.{went, halted, executed}
+use Rattle.ps_steps.specs.Steps.{RunState, state_before, NextToken, from_pending, from_text, TakesSteps, here, step}
+use Rattle.ps_steps.specs.Steps.{Paints, unreadable, used_up, stuck, Halts}
+use Rattle.ps_steps.proofs.Joined.{now, joined}
+use Rattle.ps_tokens.specs.Programs.{AreTokensOf, all_read, fault_read, token_read}
+use Rattle.ps_machine.specs.declared.run.FetchedToken.{FetchedToken}
+use Rattle.ps_machine.specs.Nexts.{machine_token, IsTaken, of_calls, of_text, IsFirstToken, IsNext}
 
 -- the run has come so far: its calls, its state, and the tokens of the text that are left
 pub record Come (text : List ℕ) (budget count : ℕ) (calls : List SimpleToken) (m : State) (left : List MachineToken) (fault : Option Cause) : Type 0 where

@@ -1,6 +1,16 @@
 -- A run has one answer, since a text begins with one token at most.
-use Rattle.std.proofs.{Common.{◌≡◌, ◌⊎◌, inl, inr, ℕ, suc, ◌+◌, ◌<◌, ◌≤◌, List, [], ◌∷◌, refl, sym, subst, ◌∙◌, ap, arith}, Math.Nat.{zero-add, suc-add}}
-use Rattle.ps_steps.specs.{Steps.{RunState, state_before, NextToken, from_pending, from_text, state_after, Step, TakesSteps, here, step, Ended, Unreadable, Stuck, Paints, Cannot, unreadable, used_up, stuck, Halts}, declared.{halt.Cause.Cause, paint.PagePaint.PagePaint, token.{SimpleToken.SimpleToken, MachineToken.MachineToken}}, State.{State, first_state}, Operators.{Outcome, went, halted, executed}}
+use Rattle.std.proofs.Common.{◌≡◌, ◌⊎◌, inl, inr, ℕ, suc, ◌+◌, ◌<◌, ◌≤◌, List, [], ◌∷◌, refl, sym, subst, ◌∙◌, ap}
+use Rattle.std.proofs.Common.{arith}
+use Rattle.std.proofs.Math.Nat.{zero-add, suc-add}
+use Rattle.ps_steps.specs.Steps.{RunState, state_before, NextToken, from_pending, from_text, state_after, Step}
+use Rattle.ps_steps.specs.Steps.{TakesSteps, here, step, Ended, Unreadable, Stuck, Paints, Cannot, unreadable, used_up}
+use Rattle.ps_steps.specs.Steps.{stuck, Halts}
+use Rattle.ps_steps.specs.declared.halt.Cause.{Cause}
+use Rattle.ps_steps.specs.declared.paint.PagePaint.{PagePaint}
+use Rattle.ps_steps.specs.declared.token.SimpleToken.{SimpleToken}
+use Rattle.ps_steps.specs.declared.token.MachineToken.{MachineToken}
+use Rattle.ps_steps.specs.State.{State, first_state}
+use Rattle.ps_steps.specs.Operators.{Outcome, went, halted, executed}
 use Rattle.{ps_tokens.specs.OneToken.{BeginsInOneWay}, ps_machine.specs.OneAnswer.{HasOneAnswer}}
 
 -- the token and the place behind it

@@ -1,7 +1,13 @@
 -- A text that a sheet spells gives what the sheet paints.
 use Rattle.std.{proofs.Common.{ℕ, List}, specs.Prelude.{Result, Ok, Err, IfOk, IfErr}}
-use Rattle.ps_steps.specs.{declared.halt.MachineError.MachineError, declared.paint.PagePaint.PagePaint, Steps.Paints, Steps.IsHalt, declared.halt.MachineError.TheVariants.Halt, declared.halt.MachineError.TheVariants.Memory}
-use Rattle.{ps_paint.specs.{Laws.PaintsSheets, PaintOf.paint_of}, ps_machine.specs.{OneAnswer.HasOneAnswer, Sheets.GivesItsSheet}}
+use Rattle.ps_steps.specs.declared.halt.MachineError.{MachineError}
+use Rattle.ps_steps.specs.declared.paint.PagePaint.{PagePaint}
+use Rattle.ps_steps.specs.Steps.{Paints, IsHalt}
+use Rattle.ps_steps.specs.declared.halt.MachineError.TheVariants.{Halt, Memory}
+use Rattle.ps_paint.specs.Laws.{PaintsSheets}
+use Rattle.ps_paint.specs.PaintOf.{paint_of}
+use Rattle.ps_machine.specs.OneAnswer.{HasOneAnswer}
+use Rattle.ps_machine.specs.Sheets.{GivesItsSheet}
 
 pub gives_its_sheet : (text : List ℕ) (budget : ℕ) (result : Result (List PagePaint) MachineError) → PaintsSheets → HasOneAnswer → IfOk result (λ pages. Paints text budget pages) → IfErr result (λ e. IsHalt text budget e)
     → GivesItsSheet text budget result

@@ -1,6 +1,11 @@
 -- Six whole numbers on top of the stack, two at a time.
-use Rattle.std.{proofs.Common.{◌≡◌, ℕ, zero, suc, ◌≤◌, ℤ, true, false, List, [], ◌∷◌, length, refl, ◌∙◌, ap, arith}, specs.Prelude.Err}
-use Rattle.ps_steps.specs.{declared.{halt.Cause.Cause, value.Operand.{Operand, TheVariants.Whole as whole_value}}, State.State, Operators.{Outcome, halted, has, pick, with_six, curveto}}
+use Rattle.std.proofs.Common.{◌≡◌, ℕ, zero, suc, ◌≤◌, ℤ, true, false, List, [], ◌∷◌, length, refl, ◌∙◌, ap, arith}
+use Rattle.std.specs.Prelude.{Err}
+use Rattle.ps_steps.specs.declared.halt.Cause.{Cause}
+use Rattle.ps_steps.specs.declared.value.Operand.{Operand}
+use Rattle.ps_steps.specs.declared.value.Operand.TheVariants.{Whole as whole_value}
+use Rattle.ps_steps.specs.State.{State}
+use Rattle.ps_steps.specs.Operators.{Outcome, halted, has, pick, with_six, curveto}
 use Rattle.ps_machine.specs.{declared.state.Stop.Stop, Doing.DidOrStopped, Doing.IsPointOfSix, Doing.IsSix}
 
 has_so_many : (n : ℕ) (st : List Operand) → n ≤ length st → has n st ≡ true

@@ -1,7 +1,18 @@
 -- Between the operators of the machine and the code: the code's state, and what its parts do.
 use Rattle.std.specs.Prelude.{◌≡◌, ℕ, suc, ℤ, ◌*ℤ◌, true, false, List, [], ◌∷◌, ◌++◌, reverse, Result, Ok, Err}
-use Rattle.ps_steps.specs.{declared.{halt.Cause.Cause, paint.Seg.Seg, token.SimpleToken.SimpleToken, value.Operand.{Operand, TheVariants.{Whole as whole_value, Font as font_value}}, graphics.Graphics.Graphics}, State.State, Operators.{Outcome, went, halted, with_two, with_six, pick, scalefont, scale, scaled, at_point, across, above, all_near}}
-use Rattle.ps_machine.specs.{declared.state.Machine.Machine, declared.operands.Bend.Bend, Naming.names_of, declared.state.Stop.Stop}
+use Rattle.ps_steps.specs.declared.halt.Cause.{Cause}
+use Rattle.ps_steps.specs.declared.paint.Seg.{Seg}
+use Rattle.ps_steps.specs.declared.token.SimpleToken.{SimpleToken}
+use Rattle.ps_steps.specs.declared.value.Operand.{Operand}
+use Rattle.ps_steps.specs.declared.value.Operand.TheVariants.{Whole as whole_value, Font as font_value}
+use Rattle.ps_steps.specs.declared.graphics.Graphics.{Graphics}
+use Rattle.ps_steps.specs.State.{State}
+use Rattle.ps_steps.specs.Operators.{Outcome, went, halted, with_two, with_six, pick, scalefont, scale, scaled}
+use Rattle.ps_steps.specs.Operators.{at_point, across, above, all_near}
+use Rattle.ps_machine.specs.declared.state.Machine.{Machine}
+use Rattle.ps_machine.specs.declared.operands.Bend.{Bend}
+use Rattle.ps_machine.specs.Naming.{names_of}
+use Rattle.ps_machine.specs.declared.state.Stop.{Stop}
 
 -- the state that the code keeps
 abbrev pub state_of : Machine → State

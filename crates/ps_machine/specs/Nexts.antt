@@ -1,6 +1,8 @@
 -- What the code says of the token that comes next: the first of the calls, else the first of the text.
 use Rattle.std.specs.Prelude.{◌≡◌, List, [], ◌∷◌}
-use Rattle.ps_steps.specs.declared.token.{SimpleToken.SimpleToken, MachineToken.{MachineToken, TheVariants.{Simple as simple_token, Procedure as procedure_token}}}
+use Rattle.ps_steps.specs.declared.token.SimpleToken.{SimpleToken}
+use Rattle.ps_steps.specs.declared.token.MachineToken.{MachineToken}
+use Rattle.ps_steps.specs.declared.token.MachineToken.TheVariants.{Simple as simple_token, Procedure as procedure_token}
 use Rattle.ps_machine.specs.{declared.execute.Ready.Ready, declared.run.FetchedToken.FetchedToken}
 
 abbrev pub machine_token : Ready → MachineToken

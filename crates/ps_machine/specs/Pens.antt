@@ -1,7 +1,12 @@
 -- How the code keeps graphics states. The pieces of all paths stand in one list. The path of the state that is drawn with is what stands there
 -- from its first piece on. A saved state has of the pieces those that stood there when it was saved, and so have those that were saved before it.
 use Rattle.std.specs.Prelude.{◌≡◌, ◌≤◌, ⊤, List, [], ◌∷◌, length, take, drop, reverse, Some}
-use Rattle.{ps_steps.specs.{declared.graphics.Graphics.Graphics, declared.paint.Seg.Seg, Points.current, Points.last_move}, ps_machine.specs.{Drawing.GraphicsStack, declared.canvas.PenState.PenState, declared.canvas.Saved.Saved}}
+use Rattle.ps_steps.specs.declared.graphics.Graphics.{Graphics}
+use Rattle.ps_steps.specs.declared.paint.Seg.{Seg}
+use Rattle.ps_steps.specs.Points.{current, last_move}
+use Rattle.ps_machine.specs.Drawing.{GraphicsStack}
+use Rattle.ps_machine.specs.declared.canvas.PenState.{PenState}
+use Rattle.ps_machine.specs.declared.canvas.Saved.{Saved}
 
 abbrev pub graphics_of : List Seg → PenState → Graphics
 graphics_of pieces pen = record { path = drop pen.first pieces; scale = pen.scale; x = pen.x; y = pen.y; font = pen.font; line = pen.line }

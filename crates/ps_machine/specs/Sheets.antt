@@ -1,7 +1,11 @@
 -- What a run gives of a text that a sheet spells: what the sheet paints, and never a halt, where the budget has 100 tokens
 -- for each byte of the text.
 use Rattle.std.specs.Prelude.{◌≡◌, ◌*◌, ◌≤◌, ℕ, List, length, Result, Ok, Err}
-use Rattle.{ps_text.specs.{Document.SpellsSheet, declared.sheet.Sheet.Sheet}, ps_steps.specs.declared.{halt.MachineError.MachineError, paint.PagePaint.PagePaint, halt.MachineError.TheVariants.Halt, halt.MachineError.TheVariants.Memory}}
+use Rattle.ps_text.specs.Document.{SpellsSheet}
+use Rattle.ps_text.specs.declared.sheet.Sheet.{Sheet}
+use Rattle.ps_steps.specs.declared.halt.MachineError.{MachineError}
+use Rattle.ps_steps.specs.declared.paint.PagePaint.{PagePaint}
+use Rattle.ps_steps.specs.declared.halt.MachineError.TheVariants.{Halt, Memory}
 use Rattle.ps_paint.specs.PaintOf.{paint_of}
 
 -- these pages, or want of memory

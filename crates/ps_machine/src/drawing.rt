@@ -1,7 +1,8 @@
 //! The operators that draw and move.
 
 ghost use Rattle.std.specs.Prelude.{◌≡◌};
-ghost use Rattle.ps_steps.specs.Operators.{operated, lineto, curveto, curveto_op, moveto_op, lineto_op, closepath_op, fill_op, stroke_op, gsave_op, grestore_op, translate_op};
+ghost use Rattle.ps_steps.specs.Operators.{operated, lineto, curveto, curveto_op, moveto_op, lineto_op, closepath_op};
+ghost use Rattle.ps_steps.specs.Operators.{fill_op, stroke_op, gsave_op, grestore_op, translate_op};
 ghost use Rattle.ps_machine.specs.Doing.{state_of, DidOrStopped, IsPoint, IsOnPath, numbers_of};
 
 use crate::canvas::Canvas;

@@ -1,7 +1,10 @@
 //! Tokens, executed.
 
 ghost use Rattle.std.specs.Prelude.{◌≡◌};
-ghost use Rattle.ps_steps.specs.{Operators.{executed, push}, declared.token.{MachineToken.TheVariants.{Simple as simple_token, Procedure as procedure_token}, SimpleToken.TheVariants.Name as name_token}};
+ghost use Rattle.ps_steps.specs.Operators.{executed, push};
+ghost use Rattle.ps_steps.specs.declared.token.MachineToken.TheVariants.{Simple as simple_token};
+ghost use Rattle.ps_steps.specs.declared.token.MachineToken.TheVariants.{Procedure as procedure_token};
+ghost use Rattle.ps_steps.specs.declared.token.SimpleToken.TheVariants.{Name as name_token};
 ghost use Rattle.ps_machine.specs.{Doing.state_of, Doing.DidOrStopped, Doing.IsExecuted, Nexts.machine_token};
 
 use crate::calls::Calls;

@@ -1,7 +1,9 @@
 //! The operators on names, fonts and pages.
 
 ghost use Rattle.std.specs.{Prelude.◌≡◌, Prelude.codes, Str.bytes_eq};
-ghost use Rattle.{ps_steps.specs.Operators.{operated, def_op, scale_op, setlinewidth_op, findfont_op, scalefont_op, setfont_op, showpage_op}, ps_machine.specs.Doing.{state_of, DidOrStopped}};
+ghost use Rattle.ps_steps.specs.Operators.{operated, def_op, scale_op, setlinewidth_op, findfont_op, scalefont_op};
+ghost use Rattle.ps_steps.specs.Operators.{setfont_op, showpage_op};
+ghost use Rattle.ps_machine.specs.Doing.{state_of, DidOrStopped};
 
 use crate::operands::{font_and_number, product};
 use crate::state::{Machine, Stop};

@@ -1,7 +1,8 @@
 //! The operators, by their names.
 
 ghost use Rattle.std.specs.{Prelude.◌≡◌, Str.bytes_eq};
-ghost use Rattle.{ps_steps.specs.Operators.{operated_if, operator_named}, ps_machine.specs.Doing.{state_of, DidOrStopped}};
+ghost use Rattle.ps_steps.specs.Operators.{operated_if, operator_named};
+ghost use Rattle.ps_machine.specs.Doing.{state_of, DidOrStopped};
 
 use crate::drawing::{
     closepath, curveto, fill, grestore, gsave, lineto, moveto, stroke, translate,

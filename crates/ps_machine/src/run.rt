@@ -1,7 +1,11 @@
 //! Runs of a text.
 
 ghost use Rattle.std.specs.Prelude.{◌≡◌, IfOk, IfErr};
-ghost use Rattle.{ps_steps.specs.{State.first_state, Steps.Paints, Steps.IsHalt}, ps_machine.specs.{Doing.state_of, Nexts.IsFirstToken, Nexts.IsNext, Sheets.GivesItsSheet}};
+ghost use Rattle.ps_steps.specs.State.{first_state};
+ghost use Rattle.ps_steps.specs.Steps.{Paints, IsHalt};
+ghost use Rattle.ps_machine.specs.Doing.{state_of};
+ghost use Rattle.ps_machine.specs.Nexts.{IsFirstToken, IsNext};
+ghost use Rattle.ps_machine.specs.Sheets.{GivesItsSheet};
 
 use crate::calls::Calls;
 use crate::canvas::Canvas;

@@ -1,7 +1,8 @@
 //! The operator that scales.
 
 ghost use Rattle.std.specs.Prelude.{◌≡◌, ◌*ℤ◌, reverse};
-ghost use Rattle.{ps_steps.specs.Operators.{operated, scaled, scale_op, factor}, ps_machine.specs.Doing.{state_of, DidOrStopped, IsFactors}};
+ghost use Rattle.ps_steps.specs.Operators.{operated, scaled, scale_op, factor};
+ghost use Rattle.ps_machine.specs.Doing.{state_of, DidOrStopped, IsFactors};
 
 use crate::state::{Machine, Stop};
 use ps_steps::{Cause, Hundredths, Number, Operand};

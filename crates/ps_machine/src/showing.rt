@@ -1,7 +1,9 @@
 //! The operator that shows words.
 
 ghost use Rattle.std.specs.Prelude.{◌≡◌};
-ghost use Rattle.{ps_steps.specs.{Points.current, Operators.operated, Operators.show_op, Operators.shown_at}, ps_machine.specs.Doing.{state_of, DidOrStopped}};
+ghost use Rattle.ps_steps.specs.Points.{current};
+ghost use Rattle.ps_steps.specs.Operators.{operated, show_op, shown_at};
+ghost use Rattle.ps_machine.specs.Doing.{state_of, DidOrStopped};
 
 use crate::operands::product;
 use crate::state::{Machine, Stop};

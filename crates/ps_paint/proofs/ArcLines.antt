@@ -1,7 +1,21 @@
 -- The lines of arcs.
-use Rattle.std.{proofs.{Common.{◌≡◌, true, ℤ, pos, negsuc, [], ◌∷◌, refl, arith, codes, int_div}, Math.IntN.{◌+ℤ◌, ◌-ℤ◌}, lemmas.Int.ints}, specs.Int.Signed.◌≤ℤ◌}
-use Rattle.{ps_text.specs.{Range.{IsNumber, IsSpan, IsStretch}, Line.{arc_line, points, ends_of, quarter}, Document.mark_text, declared.{sheet.Frame.Frame, marks.PageMark.PageMark}}, ps_steps.specs.State.Names}
-use Rattle.{ps_steps.specs.Operators.all_near, ps_paint.{specs.PaintOf.mark_paints, proofs.{Bodies.Made, Scales.from_zero, Runs.both_runs, Draws.{moves, curves, strokes}, Lines.{Draws, line_drawn, page_near}}}}
+use Rattle.std.proofs.Common.{◌≡◌, true, ℤ, pos, negsuc, [], ◌∷◌, refl, arith, codes, int_div}
+use Rattle.std.proofs.Math.IntN.{◌+ℤ◌, ◌-ℤ◌}
+use Rattle.std.proofs.lemmas.Int.{ints}
+use Rattle.std.specs.Int.Signed.{◌≤ℤ◌}
+use Rattle.ps_text.specs.Range.{IsNumber, IsSpan, IsStretch}
+use Rattle.ps_text.specs.Line.{arc_line, points, ends_of, quarter}
+use Rattle.ps_text.specs.Document.{mark_text}
+use Rattle.ps_text.specs.declared.sheet.Frame.{Frame}
+use Rattle.ps_text.specs.declared.marks.PageMark.{PageMark}
+use Rattle.ps_steps.specs.State.{Names}
+use Rattle.ps_steps.specs.Operators.{all_near}
+use Rattle.ps_paint.specs.PaintOf.{mark_paints}
+use Rattle.ps_paint.proofs.Bodies.{Made}
+use Rattle.ps_paint.proofs.Scales.{from_zero}
+use Rattle.ps_paint.proofs.Runs.{both_runs}
+use Rattle.ps_paint.proofs.Draws.{moves, curves, strokes}
+use Rattle.ps_paint.proofs.Lines.{Draws, line_drawn, page_near}
 
 record IsPart (d e : ℤ) : Type 0 where
   low : pos 0 ≤ℤ e

@@ -1,8 +1,23 @@
 -- The lines of beams.
 use Rattle.std.proofs.{Common.{◌≡◌, true, ℤ, pos, [], ◌∷◌, refl, arith}, Math.IntN.{◌+ℤ◌, +ℤ_comm}, lemmas.Int.ints}
-use Rattle.{mus_units.specs.declared.glyph.Way.Way, ps_text.specs.{Range.{IsNumber, IsSpan}, Line.{beam_line, points, ends_of}, Names.way_name, Document.mark_text, declared.{sheet.Frame.Frame, marks.PageMark.PageMark}}}
-use Rattle.{ps_steps.{specs.{declared.{token.{SimpleToken.{TheVariants.{Name as name_token}}}}, State.Names, Operators.all_near}}, ps_paint.{specs.PaintOf.{edge, mark_paints}, proofs.{Bodies.Made, Scales.{IsClose, Comes}}}}
-use Rattle.ps_paint.proofs.{Scales.{no_way, from_zero}, Runs.{both_runs, pushes}, Draws.{moves, lines, fills, saves, restores, translates}, Takes.IsTokenWord, Lines.{Draws, line_drawn, page_near}}
+use Rattle.mus_units.specs.declared.glyph.Way.{Way}
+use Rattle.ps_text.specs.Range.{IsNumber, IsSpan}
+use Rattle.ps_text.specs.Line.{beam_line, points, ends_of}
+use Rattle.ps_text.specs.Names.{way_name}
+use Rattle.ps_text.specs.Document.{mark_text}
+use Rattle.ps_text.specs.declared.sheet.Frame.{Frame}
+use Rattle.ps_text.specs.declared.marks.PageMark.{PageMark}
+use Rattle.ps_steps.specs.declared.token.SimpleToken.TheVariants.{Name as name_token}
+use Rattle.ps_steps.specs.State.{Names}
+use Rattle.ps_steps.specs.Operators.{all_near}
+use Rattle.ps_paint.specs.PaintOf.{edge, mark_paints}
+use Rattle.ps_paint.proofs.Bodies.{Made}
+use Rattle.ps_paint.proofs.Scales.{IsClose, Comes}
+use Rattle.ps_paint.proofs.Scales.{no_way, from_zero}
+use Rattle.ps_paint.proofs.Runs.{both_runs, pushes}
+use Rattle.ps_paint.proofs.Draws.{moves, lines, fills, saves, restores, translates}
+use Rattle.ps_paint.proofs.Takes.{IsTokenWord}
+use Rattle.ps_paint.proofs.Lines.{Draws, line_drawn, page_near}
 
 edge_number : (way : Way) → IsNumber (edge way)
 edge_number Way.Up = record { low = omega (arith, ints); high = omega (arith, ints) }

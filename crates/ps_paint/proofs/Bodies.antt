@@ -1,9 +1,25 @@
 -- The procedures that the prolog defines, as tokens.
 use Rattle.std.specs.{Prelude.{◌≡◌, ℤ, pos, ℕ, List, [], ◌∷◌, ◌++◌, codes, Some, None}, List.flat_map}
-use Rattle.{mus_units.specs.declared.glyph.{Glyph.Glyph, Size.Size, Way.Way}, glyph_paths.specs.{declared.paths.PathOp.PathOp, Names.glyph_name, Outlines.outline_of}, ps_text.specs.Names.{size_name, way_name}}
-use Rattle.{ps_text.specs.{declared.sheet.Frame.Frame, Range.IsFrame}, ps_steps.{specs.{declared.{token.{SimpleToken.{SimpleToken, TheVariants.{Whole as whole_token, Pointed as pointed_token, Label as label_token}}}}}}}
-use Rattle.{ps_steps.{specs.{declared.{token.{SimpleToken.{TheVariants.{Name as call}}}}, State.Names, Operators.{Operator, operator_name, moveto_op, lineto_op, curveto_op, closepath_op, fill_op, stroke_op, gsave_op}}}}
-use Rattle.{ps_steps.specs.Operators.{grestore_op, translate_op, scale_op, setlinewidth_op, findfont_op, scalefont_op, setfont_op, show_op}, ps_paint.{specs.PaintOf.edge, proofs.Runs.{op, wholes}}}
+use Rattle.mus_units.specs.declared.glyph.Glyph.{Glyph}
+use Rattle.mus_units.specs.declared.glyph.Size.{Size}
+use Rattle.mus_units.specs.declared.glyph.Way.{Way}
+use Rattle.glyph_paths.specs.declared.paths.PathOp.{PathOp}
+use Rattle.glyph_paths.specs.Names.{glyph_name}
+use Rattle.glyph_paths.specs.Outlines.{outline_of}
+use Rattle.ps_text.specs.Names.{size_name, way_name}
+use Rattle.ps_text.specs.declared.sheet.Frame.{Frame}
+use Rattle.ps_text.specs.Range.{IsFrame}
+use Rattle.ps_steps.specs.declared.token.SimpleToken.{SimpleToken}
+use Rattle.ps_steps.specs.declared.token.SimpleToken.TheVariants.{Whole as whole_token, Pointed as pointed_token}
+use Rattle.ps_steps.specs.declared.token.SimpleToken.TheVariants.{Label as label_token}
+use Rattle.ps_steps.specs.declared.token.SimpleToken.TheVariants.{Name as call}
+use Rattle.ps_steps.specs.State.{Names}
+use Rattle.ps_steps.specs.Operators.{Operator, operator_name, moveto_op, lineto_op, curveto_op, closepath_op, fill_op}
+use Rattle.ps_steps.specs.Operators.{stroke_op, gsave_op}
+use Rattle.ps_steps.specs.Operators.{grestore_op, translate_op, scale_op, setlinewidth_op, findfont_op, scalefont_op}
+use Rattle.ps_steps.specs.Operators.{setfont_op, show_op}
+use Rattle.ps_paint.specs.PaintOf.{edge}
+use Rattle.ps_paint.proofs.Runs.{op, wholes}
 
 -- a line of a staff
 abbrev pub rule_tokens : ℤ → List SimpleToken

@@ -1,6 +1,14 @@
 -- Comment lines: they are passed over.
-use Rattle.std.{proofs.{Common.{◌≡◌, ℕ, Bool, true, false, List, [], ◌∷◌, ◌++◌, append_assoc, refl, ◌∙◌, arith, decimal, not, ◌==◌}, lemmas.{Bool.Decides.nat_tests, List.Folds.list_all-append}}, specs.List.list_all}
-use Rattle.{mus_units.specs.Bytes.is_digit, ps_steps.specs.{Tokens.passed, State.State, Steps.{state_before, here}}, ps_paint.proofs.Takes.{Takes, decimal_digits, digits_pass}}
+use Rattle.std.proofs.Common.{◌≡◌, ℕ, Bool, true, false, List, [], ◌∷◌, ◌++◌, append_assoc, refl, ◌∙◌, arith, decimal}
+use Rattle.std.proofs.Common.{not, ◌==◌}
+use Rattle.std.proofs.lemmas.Bool.Decides.{nat_tests}
+use Rattle.std.proofs.lemmas.List.Folds.{list_all-append}
+use Rattle.std.specs.List.{list_all}
+use Rattle.mus_units.specs.Bytes.{is_digit}
+use Rattle.ps_steps.specs.Tokens.{passed}
+use Rattle.ps_steps.specs.State.{State}
+use Rattle.ps_steps.specs.Steps.{state_before, here}
+use Rattle.ps_paint.proofs.Takes.{Takes, decimal_digits, digits_pass}
 
 -- other than LF
 abbrev pub in_line : ℕ → Bool

@@ -1,10 +1,28 @@
 -- What the lines of a prolog define.
-use Rattle.std.{proofs.{Common.{◌≡◌, ℕ, ℤ, true, List, [], ◌∷◌, ◌++◌, append_assoc, None, refl, arith, codes}, lemmas.{Int.ints, Bool.and_parts}}, specs.List.{flat_map, list_all}}
-use Rattle.{mus_units.specs.declared.glyph.Glyph.Glyph, glyph_paths.specs.{declared.paths.PathOp.PathOp, Names.glyph_name, Outlines.outline_of, Procedure.{step_text, path_text, procedure_text}}}
-use Rattle.{ps_steps.{specs.{declared.{token.{SimpleToken.SimpleToken, MachineToken.{TheVariants.{Procedure as procedure_token}}}, value.{Operand.{TheVariants.{Label as label_value, Body as body_value}}}}, Near.is_near}}}
-use Rattle.ps_steps.specs.{Tokens.{opening_front, procedure_at, Body}, State.State, Operators.{def_op, gsave_op, grestore_op, translate_op, all_near, defined}, Steps.{state_before, from_text, Step, here, step}}
-use Rattle.ps_paint.proofs.{Bodies.{step_numbers, step_tokens, glyph_body}, Glyphs.{is_small, are_small}, GlyphTable.fine, Runs.{no_more, op}, Takes.{Takes, both_taken, takes_token, space_passed, takes_operator}}
-use Rattle.ps_paint.proofs.Lexing.{Lexes, nothing_lexed, both_lexed, IsNewName, label_stands, ends, lex_numbers, piece_stands, lexed}
+use Rattle.std.proofs.Common.{◌≡◌, ℕ, ℤ, true, List, [], ◌∷◌, ◌++◌, append_assoc, None, refl, arith, codes}
+use Rattle.std.proofs.lemmas.Int.{ints}
+use Rattle.std.proofs.lemmas.Bool.{and_parts}
+use Rattle.std.specs.List.{flat_map, list_all}
+use Rattle.mus_units.specs.declared.glyph.Glyph.{Glyph}
+use Rattle.glyph_paths.specs.declared.paths.PathOp.{PathOp}
+use Rattle.glyph_paths.specs.Names.{glyph_name}
+use Rattle.glyph_paths.specs.Outlines.{outline_of}
+use Rattle.glyph_paths.specs.Procedure.{step_text, path_text, procedure_text}
+use Rattle.ps_steps.specs.declared.token.SimpleToken.{SimpleToken}
+use Rattle.ps_steps.specs.declared.token.MachineToken.TheVariants.{Procedure as procedure_token}
+use Rattle.ps_steps.specs.declared.value.Operand.TheVariants.{Label as label_value, Body as body_value}
+use Rattle.ps_steps.specs.Near.{is_near}
+use Rattle.ps_steps.specs.Tokens.{opening_front, procedure_at, Body}
+use Rattle.ps_steps.specs.State.{State}
+use Rattle.ps_steps.specs.Operators.{def_op, gsave_op, grestore_op, translate_op, all_near, defined}
+use Rattle.ps_steps.specs.Steps.{state_before, from_text, Step, here, step}
+use Rattle.ps_paint.proofs.Bodies.{step_numbers, step_tokens, glyph_body}
+use Rattle.ps_paint.proofs.Glyphs.{is_small, are_small}
+use Rattle.ps_paint.proofs.GlyphTable.{fine}
+use Rattle.ps_paint.proofs.Runs.{no_more, op}
+use Rattle.ps_paint.proofs.Takes.{Takes, both_taken, takes_token, space_passed, takes_operator}
+use Rattle.ps_paint.proofs.Lexing.{Lexes, nothing_lexed, both_lexed, IsNewName, label_stands, ends, lex_numbers}
+use Rattle.ps_paint.proofs.Lexing.{piece_stands, lexed}
 
 smalls_near : (zs : List ℤ) → list_all is_small zs ≡ true → all_near zs ≡ true
 smalls_near [] e = refl

@@ -1,7 +1,18 @@
 -- A document paints its sheet.
-use Rattle.std.proofs.Common.{◌≡◌, ℕ, List, [], ◌∷◌, ◌++◌, length, append_assoc, append-nil, map, refl, ap, arith, decimal, codes}
-use Rattle.{ps_text.specs.{Document.{document, trailer, count_line}, declared.sheet.Sheet.Sheet, Range.IsSheet}, ps_steps.specs.{State.{State, first_state}, Steps.{state_before, TakesSteps}}, ps_paint.specs.Laws.PaintsSheets}
-use Rattle.ps_paint.{specs.PaintOf.{page_paint, paint_of}, proofs.{Takes.{Takes, both_taken}, Comments.{takes_comment, number_in_line}, Made.{all_names, all_made}, Starts.between, Lines.{Leads, both_lead, stays}}}
+use Rattle.std.proofs.Common.{◌≡◌, ℕ, List, [], ◌∷◌, ◌++◌, length, append_assoc, append-nil, map, refl, ap, arith}
+use Rattle.std.proofs.Common.{decimal, codes}
+use Rattle.ps_text.specs.Document.{document, trailer, count_line}
+use Rattle.ps_text.specs.declared.sheet.Sheet.{Sheet}
+use Rattle.ps_text.specs.Range.{IsSheet}
+use Rattle.ps_steps.specs.State.{State, first_state}
+use Rattle.ps_steps.specs.Steps.{state_before, TakesSteps}
+use Rattle.ps_paint.specs.Laws.{PaintsSheets}
+use Rattle.ps_paint.specs.PaintOf.{page_paint, paint_of}
+use Rattle.ps_paint.proofs.Takes.{Takes, both_taken}
+use Rattle.ps_paint.proofs.Comments.{takes_comment, number_in_line}
+use Rattle.ps_paint.proofs.Made.{all_names, all_made}
+use Rattle.ps_paint.proofs.Starts.{between}
+use Rattle.ps_paint.proofs.Lines.{Leads, both_lead, stays}
 use Rattle.ps_paint.proofs.{Pages.pages_drawn, PrologLines.prolog_taken}
 
 trailer_taken : (n : ℕ) (m : State) → Takes 0 (trailer n) m m

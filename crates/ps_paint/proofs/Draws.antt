@@ -1,9 +1,24 @@
 -- What the short procedures of the prolog draw.
-use Rattle.std.proofs.{Common.{◌≡◌, ℤ, pos, true, false, Bool, List, [], ◌∷◌, ◌++◌, refl, sym, codes, true≢false}, Math.IntN.◌*ℤ◌}
-use Rattle.{ps_text.specs.{declared.sheet.Frame.Frame, Range.IsFrame}, ps_steps.specs.Operators.{add_seg, all_near, close_path, moveto_op, lineto_op, curveto_op, closepath_op, fill_op, stroke_op, gsave_op, grestore_op}}
-use Rattle.{ps_steps.{specs.{Operators.translate_op, declared.{paint.{Seg.Seg, Paint.Paint, PagePaint.PagePaint}, value.{Operand.{Operand, TheVariants.{Whole as whole_value}}}, graphics.Graphics.Graphics}}}}
-use Rattle.{ps_steps.{specs.{declared.{token.{SimpleToken.{TheVariants.{Name as call}}}}, State.{State, Names}}}, ps_paint.{specs.PaintOf.{to_x, to_y, move, line, curve, stroked, filled_paint}, proofs.{Bodies.Made, Scales.Comes}}}
-use Rattle.ps_paint.proofs.{Scales.{comes_to, near_place, near_width}, Runs.{Runs, both_runs, calls, acts, op, is_in_range}}
+use Rattle.std.proofs.Common.{◌≡◌, ℤ, pos, true, false, Bool, List, [], ◌∷◌, ◌++◌, refl, sym, codes, true≢false}
+use Rattle.std.proofs.Math.IntN.{◌*ℤ◌}
+use Rattle.ps_text.specs.declared.sheet.Frame.{Frame}
+use Rattle.ps_text.specs.Range.{IsFrame}
+use Rattle.ps_steps.specs.Operators.{add_seg, all_near, close_path, moveto_op, lineto_op, curveto_op, closepath_op}
+use Rattle.ps_steps.specs.Operators.{fill_op, stroke_op, gsave_op, grestore_op}
+use Rattle.ps_steps.specs.Operators.{translate_op}
+use Rattle.ps_steps.specs.declared.paint.Seg.{Seg}
+use Rattle.ps_steps.specs.declared.paint.Paint.{Paint}
+use Rattle.ps_steps.specs.declared.paint.PagePaint.{PagePaint}
+use Rattle.ps_steps.specs.declared.value.Operand.{Operand}
+use Rattle.ps_steps.specs.declared.value.Operand.TheVariants.{Whole as whole_value}
+use Rattle.ps_steps.specs.declared.graphics.Graphics.{Graphics}
+use Rattle.ps_steps.specs.declared.token.SimpleToken.TheVariants.{Name as call}
+use Rattle.ps_steps.specs.State.{State, Names}
+use Rattle.ps_paint.specs.PaintOf.{to_x, to_y, move, line, curve, stroked, filled_paint}
+use Rattle.ps_paint.proofs.Bodies.{Made}
+use Rattle.ps_paint.proofs.Scales.{Comes}
+use Rattle.ps_paint.proofs.Scales.{comes_to, near_place, near_width}
+use Rattle.ps_paint.proofs.Runs.{Runs, both_runs, calls, acts, op, is_in_range}
 
 -- the graphics of a page with the origin at (x, y)
 abbrev pub drawing : Frame → ℤ → ℤ → List Seg → ℤ → Graphics

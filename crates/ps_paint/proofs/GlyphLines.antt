@@ -1,8 +1,28 @@
 -- The lines of glyphs.
-use Rattle.std.proofs.{Common.{◌≡◌, ◌+◌, ◌≤◌, ℤ, true, [], ◌∷◌, refl, arith}, Math.IntN.◌+ℤ◌, lemmas.{Int.ints, Bool.leb-true}}
-use Rattle.{mus_units.specs.declared.glyph.Glyph.Glyph, glyph_paths.specs.{Names.glyph_name, Outlines.outline_of}, ps_text.specs.{Document.mark_text, Line.glyph_line, declared.sheet.Frame.Frame, Range.IsNearNumber}}
-use Rattle.{ps_text.specs.{Range.{IsNumber, IsOffset, IsPlacedMark}, declared.marks.PageMark.PageMark}, ps_steps.{specs.{declared.{token.{SimpleToken.{TheVariants.{Name as name_token}}}}, State.Names, Operators.all_near}}}
-use Rattle.ps_paint.{specs.PaintOf.mark_paints, proofs.{Bodies.Made, Scales.{from_zero, from_number}, Runs.both_runs, Draws.{saves, translates}, Glyphs.{cost, outline_runs}, GlyphTable.fine, Takes.IsTokenWord}}
+use Rattle.std.proofs.Common.{◌≡◌, ◌+◌, ◌≤◌, ℤ, true, [], ◌∷◌, refl, arith}
+use Rattle.std.proofs.Math.IntN.{◌+ℤ◌}
+use Rattle.std.proofs.lemmas.Int.{ints}
+use Rattle.std.proofs.lemmas.Bool.{leb-true}
+use Rattle.mus_units.specs.declared.glyph.Glyph.{Glyph}
+use Rattle.glyph_paths.specs.Names.{glyph_name}
+use Rattle.glyph_paths.specs.Outlines.{outline_of}
+use Rattle.ps_text.specs.Document.{mark_text}
+use Rattle.ps_text.specs.Line.{glyph_line}
+use Rattle.ps_text.specs.declared.sheet.Frame.{Frame}
+use Rattle.ps_text.specs.Range.{IsNearNumber}
+use Rattle.ps_text.specs.Range.{IsNumber, IsOffset, IsPlacedMark}
+use Rattle.ps_text.specs.declared.marks.PageMark.{PageMark}
+use Rattle.ps_steps.specs.declared.token.SimpleToken.TheVariants.{Name as name_token}
+use Rattle.ps_steps.specs.State.{Names}
+use Rattle.ps_steps.specs.Operators.{all_near}
+use Rattle.ps_paint.specs.PaintOf.{mark_paints}
+use Rattle.ps_paint.proofs.Bodies.{Made}
+use Rattle.ps_paint.proofs.Scales.{from_zero, from_number}
+use Rattle.ps_paint.proofs.Runs.{both_runs}
+use Rattle.ps_paint.proofs.Draws.{saves, translates}
+use Rattle.ps_paint.proofs.Glyphs.{cost, outline_runs}
+use Rattle.ps_paint.proofs.GlyphTable.{fine}
+use Rattle.ps_paint.proofs.Takes.{IsTokenWord}
 use Rattle.ps_paint.proofs.{Takes.name_some, Lines.{Draws, line_drawn, page_near, offset_near}}
 
 glyph_word : (g : Glyph) → IsTokenWord (name_token (glyph_name g)) (glyph_name g)

@@ -1,7 +1,11 @@
 -- What holds of the name and of the outline of each glyph.
 use Rattle.std.{proofs.Common.{◌≡◌, true, false, Some, refl, codes, nat_le, ◌==◌}, specs.{List.list_all, Str.bytes_eq}}
-use Rattle.{mus_units.specs.declared.glyph.Glyph.Glyph, glyph_paths.specs.{Names.glyph_name, Outlines.outline_of}, ps_steps.specs.Tokens.{is_regular, is_name, begins, word_token}}
-use Rattle.{ps_steps.{specs.{declared.{token.{SimpleToken.{TheVariants.{Name as name_token}}}}}}, ps_paint.proofs.Glyphs.{are_small, is_drawn, cost}}
+use Rattle.mus_units.specs.declared.glyph.Glyph.{Glyph}
+use Rattle.glyph_paths.specs.Names.{glyph_name}
+use Rattle.glyph_paths.specs.Outlines.{outline_of}
+use Rattle.ps_steps.specs.Tokens.{is_regular, is_name, begins, word_token}
+use Rattle.ps_steps.specs.declared.token.SimpleToken.TheVariants.{Name as name_token}
+use Rattle.ps_paint.proofs.Glyphs.{are_small, is_drawn, cost}
 
 -- its name may be defined, is no operator of the prolog's lines, and its outline is drawn in a few tokens
 pub record IsFine (g : Glyph) : Type 0 where

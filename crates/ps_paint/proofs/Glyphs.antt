@@ -1,9 +1,25 @@
 -- Any outline is drawn as it is painted.
-use Rattle.std.proofs.{Common.{◌≡◌, ℕ, ◌+◌, ℤ, pos, negsuc, true, false, Bool, ◌&&◌, List, [], ◌∷◌, ◌++◌, append_assoc, append-nil, refl, arith, int_le}, Math.IntN.◌+ℤ◌, lemmas.{Int.ints, Bool.and_parts}}
+use Rattle.std.proofs.Common.{◌≡◌, ℕ, ◌+◌, ℤ, pos, negsuc, true, false, Bool, ◌&&◌, List, [], ◌∷◌, ◌++◌, append_assoc}
+use Rattle.std.proofs.Common.{append-nil, refl, arith, int_le}
+use Rattle.std.proofs.Math.IntN.{◌+ℤ◌}
+use Rattle.std.proofs.lemmas.Int.{ints}
+use Rattle.std.proofs.lemmas.Bool.{and_parts}
 use Rattle.std.specs.List.{flat_map, list_all, AllByRecursion}
-use Rattle.{glyph_paths.specs.declared.paths.PathOp.PathOp, ps_text.specs.{declared.sheet.Frame.Frame, Range.IsNearNumber}, ps_steps.specs.declared.{paint.{Seg.Seg, Paint.Paint, PagePaint.PagePaint}, value.Operand.Operand}}
-use Rattle.{ps_steps.specs.{declared.graphics.Graphics.Graphics, State.Names, Operators.grestore_op}, ps_paint.{specs.PaintOf.{stroked, filled_paint, outline_paints}, proofs.Bodies.{Made, step_numbers, step_tokens}}}
-use Rattle.ps_paint.proofs.{Scales.Comes, Runs.{Runs, both_runs, calls, op, pushes}, Draws.{drawing, page, moves, lines, curves, strokes, fills, restores, some_path, has_path}}
+use Rattle.glyph_paths.specs.declared.paths.PathOp.{PathOp}
+use Rattle.ps_text.specs.declared.sheet.Frame.{Frame}
+use Rattle.ps_text.specs.Range.{IsNearNumber}
+use Rattle.ps_steps.specs.declared.paint.Seg.{Seg}
+use Rattle.ps_steps.specs.declared.paint.Paint.{Paint}
+use Rattle.ps_steps.specs.declared.paint.PagePaint.{PagePaint}
+use Rattle.ps_steps.specs.declared.value.Operand.{Operand}
+use Rattle.ps_steps.specs.declared.graphics.Graphics.{Graphics}
+use Rattle.ps_steps.specs.State.{Names}
+use Rattle.ps_steps.specs.Operators.{grestore_op}
+use Rattle.ps_paint.specs.PaintOf.{stroked, filled_paint, outline_paints}
+use Rattle.ps_paint.proofs.Bodies.{Made, step_numbers, step_tokens}
+use Rattle.ps_paint.proofs.Scales.{Comes}
+use Rattle.ps_paint.proofs.Runs.{Runs, both_runs, calls, op, pushes}
+use Rattle.ps_paint.proofs.Draws.{drawing, page, moves, lines, curves, strokes, fills, restores, some_path, has_path}
 
 -- within 2^20 of 0
 abbrev pub is_small : ℤ → Bool

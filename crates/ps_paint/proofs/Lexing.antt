@@ -1,8 +1,17 @@
 -- The tokens in the text of a procedure.
-use Rattle.std.proofs.{Common.{◌≡◌, ℕ, ℤ, true, false, Bool, ◌&&◌, List, [], ◌∷◌, ◌++◌, drop, append_assoc, map, Option, Some, None, refl, sym, subst, ◌∙◌, ap, arith, ◌==◌, not}, lemmas.Bool.{true≢false, and_parts}}
+use Rattle.std.proofs.Common.{◌≡◌, ℕ, ℤ, true, false, Bool, ◌&&◌, List, [], ◌∷◌, ◌++◌, drop, append_assoc, map, Option}
+use Rattle.std.proofs.Common.{Some, None, refl, sym, subst, ◌∙◌, ap, arith, ◌==◌, not}
+use Rattle.std.proofs.lemmas.Bool.{true≢false, and_parts}
 use Rattle.std.{proofs.lemmas.Bool.Decides.nat_tests, specs.{List.{flat_map, list_all}, Fmt.signed_decimal}}
-use Rattle.{glyph_paths.specs.Procedure.numbers, ps_steps.{specs.{declared.{token.{SimpleToken.{SimpleToken, TheVariants.{Whole as whole_token, Label as label_token}}}}, Near.is_near, Tokens.{passed, IsFont, label_front}}}}
-use Rattle.{ps_steps.specs.{Tokens.{closing_front, Body, closes, goes_on, is_regular, is_name, begins, word_token}, Operators.all_near}, ps_paint.proofs.{Runs.wholes, Takes.{IsPassed, space_passed, Stands, word_stands}}}
+use Rattle.glyph_paths.specs.Procedure.{numbers}
+use Rattle.ps_steps.specs.declared.token.SimpleToken.{SimpleToken}
+use Rattle.ps_steps.specs.declared.token.SimpleToken.TheVariants.{Whole as whole_token, Label as label_token}
+use Rattle.ps_steps.specs.Near.{is_near}
+use Rattle.ps_steps.specs.Tokens.{passed, IsFont, label_front}
+use Rattle.ps_steps.specs.Tokens.{closing_front, Body, closes, goes_on, is_regular, is_name, begins, word_token}
+use Rattle.ps_steps.specs.Operators.{all_near}
+use Rattle.ps_paint.proofs.Runs.{wholes}
+use Rattle.ps_paint.proofs.Takes.{IsPassed, space_passed, Stands, word_stands}
 use Rattle.ps_paint.proofs.Takes.{word_at, number_word, name_some}
 
 body_passed : (s u : List ℕ) (ts : List SimpleToken) (r : List ℕ) → passed false u ≡ passed false s → Body s ts r → Body u ts r

@@ -1,9 +1,25 @@
 -- What whole lines of a page draw.
-use Rattle.std.proofs.{Common.{◌≡◌, ℕ, suc, ◌+◌, ◌*◌, ◌≤◌, ℤ, pos, true, List, [], ◌∷◌, ◌++◌, length, length-append, append_assoc, append-nil, Some, arith, All}, lemmas.{Int.ints, List.Elements.{All-head, All-tail}}}
+use Rattle.std.proofs.Common.{◌≡◌, ℕ, suc, ◌+◌, ◌*◌, ◌≤◌, ℤ, pos, true, List, [], ◌∷◌, ◌++◌, length, length-append}
+use Rattle.std.proofs.Common.{append_assoc, append-nil, Some, arith, All}
+use Rattle.std.proofs.lemmas.Int.{ints}
+use Rattle.std.proofs.lemmas.List.Elements.{All-head, All-tail}
 use Rattle.std.specs.List.{flat_map}
-use Rattle.{glyph_paths.specs.Procedure.numbers, ps_text.specs.{declared.sheet.Frame.Frame, Range.{IsNumber, IsOffset}}, ps_steps.specs.declared.{paint.{Paint.Paint, PagePaint.PagePaint}, token.SimpleToken.SimpleToken}}
-use Rattle.{ps_steps.{specs.{declared.{token.{SimpleToken.{TheVariants.{Name as name_token}}}, value.Operand.Operand, graphics.Graphics.Graphics}, Near.is_near, State.{State, Names}, Operators.all_near}}}
-use Rattle.ps_paint.proofs.{Scales.near, Runs.{Runs, pushed}, Draws.{corner, page}, Takes.{Takes, IsTokenWord, nothing_taken, both_taken, takes_line}}
+use Rattle.glyph_paths.specs.Procedure.{numbers}
+use Rattle.ps_text.specs.declared.sheet.Frame.{Frame}
+use Rattle.ps_text.specs.Range.{IsNumber, IsOffset}
+use Rattle.ps_steps.specs.declared.paint.Paint.{Paint}
+use Rattle.ps_steps.specs.declared.paint.PagePaint.{PagePaint}
+use Rattle.ps_steps.specs.declared.token.SimpleToken.{SimpleToken}
+use Rattle.ps_steps.specs.declared.token.SimpleToken.TheVariants.{Name as name_token}
+use Rattle.ps_steps.specs.declared.value.Operand.{Operand}
+use Rattle.ps_steps.specs.declared.graphics.Graphics.{Graphics}
+use Rattle.ps_steps.specs.Near.{is_near}
+use Rattle.ps_steps.specs.State.{State, Names}
+use Rattle.ps_steps.specs.Operators.{all_near}
+use Rattle.ps_paint.proofs.Scales.{near}
+use Rattle.ps_paint.proofs.Runs.{Runs, pushed}
+use Rattle.ps_paint.proofs.Draws.{corner, page}
+use Rattle.ps_paint.proofs.Takes.{Takes, IsTokenWord, nothing_taken, both_taken, takes_line}
 
 -- before and after each line of a page
 abbrev pub on_page : Frame → Names → List Operand → List Graphics → List Paint → List PagePaint → State

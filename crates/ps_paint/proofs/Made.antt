@@ -1,8 +1,19 @@
 -- The definitions that the prolog makes.
 use Rattle.std.proofs.Common.{◌≡◌, ℕ, List, [], ◌∷◌, Some, None, refl, codes}
-use Rattle.{mus_units.specs.declared.glyph.{Glyph.Glyph, Size.Size, Way.Way}, glyph_paths.specs.Names.{glyph_name, glyphs_in_order}, ps_text.specs.{Names.{size_name, way_name}, Range.IsFrame, declared.sheet.Frame.Frame}}
-use Rattle.ps_steps.specs.{declared.token.SimpleToken.SimpleToken, State.{Names, no_names}, Operators.{Operator, operator_name, defined, def_op, moveto_op, lineto_op, curveto_op, closepath_op, fill_op, stroke_op}}
-use Rattle.ps_paint.{specs.PaintOf.edge, proofs.{Runs.op, Bodies.{Made, sf_body, vl_body, st_body, beam_body, ac_body, size_body, pg_body, glyph_body}}}
+use Rattle.mus_units.specs.declared.glyph.Glyph.{Glyph}
+use Rattle.mus_units.specs.declared.glyph.Size.{Size}
+use Rattle.mus_units.specs.declared.glyph.Way.{Way}
+use Rattle.glyph_paths.specs.Names.{glyph_name, glyphs_in_order}
+use Rattle.ps_text.specs.Names.{size_name, way_name}
+use Rattle.ps_text.specs.Range.{IsFrame}
+use Rattle.ps_text.specs.declared.sheet.Frame.{Frame}
+use Rattle.ps_steps.specs.declared.token.SimpleToken.{SimpleToken}
+use Rattle.ps_steps.specs.State.{Names, no_names}
+use Rattle.ps_steps.specs.Operators.{Operator, operator_name, defined, def_op, moveto_op, lineto_op, curveto_op}
+use Rattle.ps_steps.specs.Operators.{closepath_op, fill_op, stroke_op}
+use Rattle.ps_paint.specs.PaintOf.{edge}
+use Rattle.ps_paint.proofs.Runs.{op}
+use Rattle.ps_paint.proofs.Bodies.{Made, sf_body, vl_body, st_body, beam_body, ac_body, size_body, pg_body, glyph_body}
 
 -- the names of its fixed lines and their procedures, in their order
 abbrev pub fixed_bodies : List (List ℕ × List SimpleToken)

@@ -1,11 +1,34 @@
 -- Marks, staves, systems, items and pages are drawn as they are painted.
-use Rattle.std.proofs.{Common.{◌≡◌, ℕ, ◌+◌, ◌≤◌, ℤ, pos, List, [], ◌∷◌, ◌++◌, length, length-append, append_assoc, append-nil, map, refl, subst, arith, decimal, codes, All}, Math.IntN.◌+ℤ◌, lemmas.Int.ints}
+use Rattle.std.proofs.Common.{◌≡◌, ℕ, ◌+◌, ◌≤◌, ℤ, pos, List, [], ◌∷◌, ◌++◌, length, length-append, append_assoc}
+use Rattle.std.proofs.Common.{append-nil, map, refl, subst, arith, decimal, codes, All}
+use Rattle.std.proofs.Math.IntN.{◌+ℤ◌}
+use Rattle.std.proofs.lemmas.Int.{ints}
 use Rattle.std.{proofs.lemmas.List.Elements.{All-head, All-tail}, specs.List.flat_map}
-use Rattle.ps_text.specs.Document.{numbered, mark_text, marks_text, rules_line, staff_line, staff_text, last_base, join_text, system_line, system_text, tune_line, tune_text, item_text, items_text, document_page}
-use Rattle.ps_text.specs.{Document.{heading_text, heading_line, closing}, declared.{marks.PageMark.PageMark, sheet.{Frame.Frame, Staff.Staff, Item.Item, Page.Page}}, Range.{IsNumber, IsPageMark, IsStaff, IsJoined}}
-use Rattle.{ps_text.specs.Range.{IsItem, IsPage}, ps_steps.specs.{declared.paint.PagePaint.PagePaint, State.{Names, first_graphics}}, ps_paint.specs.PaintOf.{mark_paints, staff_paints, join_paints, item_paints}}
-use Rattle.ps_paint.{specs.PaintOf.page_paint, proofs.{Bodies.Made, Takes.{nothing_taken, both_taken}, Comments.{takes_comment, number_in_line, two_in_line}, Lines.{Leads, both_lead, stays, Draws, nothing_drawn}}}
-use Rattle.ps_paint.proofs.{Lines.{passed_over, both_drawn, all_drawn}, StemLines.{stem_drawn, join_drawn}, StaffLines.rules_drawn, GlyphLines.glyph_drawn, WordLines.{words_drawn, title_drawn}, BeamLines.beam_drawn}
+use Rattle.ps_text.specs.Document.{numbered, mark_text, marks_text, rules_line, staff_line, staff_text, last_base}
+use Rattle.ps_text.specs.Document.{join_text, system_line, system_text, tune_line, tune_text, item_text, items_text}
+use Rattle.ps_text.specs.Document.{document_page}
+use Rattle.ps_text.specs.Document.{heading_text, heading_line, closing}
+use Rattle.ps_text.specs.declared.marks.PageMark.{PageMark}
+use Rattle.ps_text.specs.declared.sheet.Frame.{Frame}
+use Rattle.ps_text.specs.declared.sheet.Staff.{Staff}
+use Rattle.ps_text.specs.declared.sheet.Item.{Item}
+use Rattle.ps_text.specs.declared.sheet.Page.{Page}
+use Rattle.ps_text.specs.Range.{IsNumber, IsPageMark, IsStaff, IsJoined}
+use Rattle.ps_text.specs.Range.{IsItem, IsPage}
+use Rattle.ps_steps.specs.declared.paint.PagePaint.{PagePaint}
+use Rattle.ps_steps.specs.State.{Names, first_graphics}
+use Rattle.ps_paint.specs.PaintOf.{mark_paints, staff_paints, join_paints, item_paints}
+use Rattle.ps_paint.specs.PaintOf.{page_paint}
+use Rattle.ps_paint.proofs.Bodies.{Made}
+use Rattle.ps_paint.proofs.Takes.{nothing_taken, both_taken}
+use Rattle.ps_paint.proofs.Comments.{takes_comment, number_in_line, two_in_line}
+use Rattle.ps_paint.proofs.Lines.{Leads, both_lead, stays, Draws, nothing_drawn}
+use Rattle.ps_paint.proofs.Lines.{passed_over, both_drawn, all_drawn}
+use Rattle.ps_paint.proofs.StemLines.{stem_drawn, join_drawn}
+use Rattle.ps_paint.proofs.StaffLines.{rules_drawn}
+use Rattle.ps_paint.proofs.GlyphLines.{glyph_drawn}
+use Rattle.ps_paint.proofs.WordLines.{words_drawn, title_drawn}
+use Rattle.ps_paint.proofs.BeamLines.{beam_drawn}
 use Rattle.ps_paint.proofs.{ArcLines.arc_drawn, Starts.{between, page_begun, page_ended}}
 
 wide_number : (n : ℕ) → n ≤ 2147483648 → IsNumber (pos n)

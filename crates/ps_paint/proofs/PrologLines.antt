@@ -1,15 +1,49 @@
 -- A prolog makes its definitions and its font.
-use Rattle.std.proofs.Common.{◌≡◌, ℕ, ◌+◌, ◌*◌, ◌/◌, ◌%◌, ◌<◌, ◌≤◌, pos, true, false, Bool, List, [], ◌∷◌, ◌++◌, length, length-append, append_assoc, map, Some, None, refl, ap, arith, decimal, codes, ◌==◌}
-use Rattle.std.{proofs.lemmas.{Fmt.decimal_digit, Int.ints, Bool.Decides.nat_tests}, specs.{Char.digit_value, List.list_all}}
-use Rattle.{mus_units.specs.{Bytes.is_digit, declared.glyph.{Glyph.Glyph, Size.Size, Way.Way}}, glyph_paths.specs.{Names.{glyph_name, glyphs_in_order}, Procedure.numbers}, ps_text.specs.Prolog.{percent, first_text}}
-use Rattle.ps_text.specs.{Prolog.{box_start, procedures, page_start, page_end, last_text, box_line, scaling, page_line, glyph_lines, heading, prolog}, declared.sheet.Frame.Frame, Range.IsFrame}
-use Rattle.{ps_steps.{specs.{Tokens.{is_regular, is_name, begins, font_line, font_front, Body, word_token, pointed_number}, declared.{token.{SimpleToken.{SimpleToken, TheVariants.{Pointed as pointed_token}}}}}}}
-use Rattle.{ps_steps.{specs.{declared.{token.{SimpleToken.{TheVariants.{Whole as whole_token, Label as label_token, Font as font_token}}}}, Near.{is_near, is_near_hundredths}, State.{State, Names, first_graphics}}}}
-use Rattle.ps_steps.specs.{State.{first_state, no_names}, Operators.{defined, moveto_op, lineto_op, curveto_op, closepath_op, fill_op, stroke_op, gsave_op, scale_op, translate_op, setlinewidth_op, findfont_op}}
-use Rattle.{ps_steps.specs.Operators.{scalefont_op, setfont_op}, ps_paint.proofs.{Runs.{no_more, op}, Bodies.{sf_body, vl_body, st_body, beam_body, ac_body, size_body, pg_body, glyph_body}, Lexing.{Lexes, both_lexed}}}
-use Rattle.ps_paint.proofs.{Lexing.{lex_one, ends, lex_numbers, pieces_of, spaced, piece_token, piece_stands, lexed, lexed_to}, Made.{with_fixed, with_pg, with_glyphs, all_names}, Takes.{Takes, word_stands}}
-use Rattle.ps_paint.proofs.{Takes.{nothing_taken, both_taken, takes_token, line_end_passed, space_passed, IsTokenWord, digit_regular, digit_no_minus}, Comments.{takes_comment, two_in_line}, Defining.definition}
-use Rattle.ps_paint.{proofs.{Defining.{takes_definition, takes_glyph}, GlyphTable.fine, Starts.between, Lines.Leads}, specs.PaintOf.edge}
+use Rattle.std.proofs.Common.{◌≡◌, ℕ, ◌+◌, ◌*◌, ◌/◌, ◌%◌, ◌<◌, ◌≤◌, pos, true, false, Bool, List, [], ◌∷◌, ◌++◌, length}
+use Rattle.std.proofs.Common.{length-append, append_assoc, map, Some, None, refl, ap, arith, decimal, codes, ◌==◌}
+use Rattle.std.proofs.lemmas.Fmt.{decimal_digit}
+use Rattle.std.proofs.lemmas.Int.{ints}
+use Rattle.std.proofs.lemmas.Bool.Decides.{nat_tests}
+use Rattle.std.specs.Char.{digit_value}
+use Rattle.std.specs.List.{list_all}
+use Rattle.mus_units.specs.Bytes.{is_digit}
+use Rattle.mus_units.specs.declared.glyph.Glyph.{Glyph}
+use Rattle.mus_units.specs.declared.glyph.Size.{Size}
+use Rattle.mus_units.specs.declared.glyph.Way.{Way}
+use Rattle.glyph_paths.specs.Names.{glyph_name, glyphs_in_order}
+use Rattle.glyph_paths.specs.Procedure.{numbers}
+use Rattle.ps_text.specs.Prolog.{percent, first_text}
+use Rattle.ps_text.specs.Prolog.{box_start, procedures, page_start, page_end, last_text, box_line, scaling, page_line}
+use Rattle.ps_text.specs.Prolog.{glyph_lines, heading, prolog}
+use Rattle.ps_text.specs.declared.sheet.Frame.{Frame}
+use Rattle.ps_text.specs.Range.{IsFrame}
+use Rattle.ps_steps.specs.Tokens.{is_regular, is_name, begins, font_line, font_front, Body, word_token, pointed_number}
+use Rattle.ps_steps.specs.declared.token.SimpleToken.{SimpleToken}
+use Rattle.ps_steps.specs.declared.token.SimpleToken.TheVariants.{Pointed as pointed_token}
+use Rattle.ps_steps.specs.declared.token.SimpleToken.TheVariants.{Whole as whole_token, Label as label_token}
+use Rattle.ps_steps.specs.declared.token.SimpleToken.TheVariants.{Font as font_token}
+use Rattle.ps_steps.specs.Near.{is_near, is_near_hundredths}
+use Rattle.ps_steps.specs.State.{State, Names, first_graphics}
+use Rattle.ps_steps.specs.State.{first_state, no_names}
+use Rattle.ps_steps.specs.Operators.{defined, moveto_op, lineto_op, curveto_op, closepath_op, fill_op, stroke_op}
+use Rattle.ps_steps.specs.Operators.{gsave_op, scale_op, translate_op, setlinewidth_op, findfont_op}
+use Rattle.ps_steps.specs.Operators.{scalefont_op, setfont_op}
+use Rattle.ps_paint.proofs.Runs.{no_more, op}
+use Rattle.ps_paint.proofs.Bodies.{sf_body, vl_body, st_body, beam_body, ac_body, size_body, pg_body, glyph_body}
+use Rattle.ps_paint.proofs.Lexing.{Lexes, both_lexed}
+use Rattle.ps_paint.proofs.Lexing.{lex_one, ends, lex_numbers, pieces_of, spaced, piece_token, piece_stands, lexed}
+use Rattle.ps_paint.proofs.Lexing.{lexed_to}
+use Rattle.ps_paint.proofs.Made.{with_fixed, with_pg, with_glyphs, all_names}
+use Rattle.ps_paint.proofs.Takes.{Takes, word_stands}
+use Rattle.ps_paint.proofs.Takes.{nothing_taken, both_taken, takes_token, line_end_passed, space_passed, IsTokenWord}
+use Rattle.ps_paint.proofs.Takes.{digit_regular, digit_no_minus}
+use Rattle.ps_paint.proofs.Comments.{takes_comment, two_in_line}
+use Rattle.ps_paint.proofs.Defining.{definition}
+use Rattle.ps_paint.proofs.Defining.{takes_definition, takes_glyph}
+use Rattle.ps_paint.proofs.GlyphTable.{fine}
+use Rattle.ps_paint.proofs.Starts.{between}
+use Rattle.ps_paint.proofs.Lines.{Leads}
+use Rattle.ps_paint.specs.PaintOf.{edge}
 
 -- a state in which nothing was done but definitions
 abbrev pub being : Names → Bool → State

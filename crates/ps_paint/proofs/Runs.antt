@@ -1,8 +1,16 @@
 -- Runs over the tokens of procedures, put together.
 use Rattle.std.proofs.Common.{◌≡◌, ℕ, suc, ◌+◌, ℤ, true, List, [], ◌∷◌, ◌++◌, length, append_assoc, Some, None, refl}
-use Rattle.{ps_steps.{specs.{declared.{token.{SimpleToken.{SimpleToken, TheVariants.{Name as name_token, Whole as whole_token}}, MachineToken.{TheVariants.{Simple as simple_token}}}, value.Operand.Operand}}}}
-use Rattle.{ps_steps.{specs.{declared.{value.{Operand.{TheVariants.{Whole as whole_value}}}}, State.State, Operators.{Outcome, all_near, in_range, went, executed, operated, operator_name, operator_named, Operator}}}}
-use Rattle.ps_steps.{specs.{Operators.def_op, Steps.{from_pending, Step, TakesSteps, here, step}}, proofs.Joined.{joined, now}}
+use Rattle.ps_steps.specs.declared.token.SimpleToken.{SimpleToken}
+use Rattle.ps_steps.specs.declared.token.SimpleToken.TheVariants.{Name as name_token, Whole as whole_token}
+use Rattle.ps_steps.specs.declared.token.MachineToken.TheVariants.{Simple as simple_token}
+use Rattle.ps_steps.specs.declared.value.Operand.{Operand}
+use Rattle.ps_steps.specs.declared.value.Operand.TheVariants.{Whole as whole_value}
+use Rattle.ps_steps.specs.State.{State}
+use Rattle.ps_steps.specs.Operators.{Outcome, all_near, in_range, went, executed, operated, operator_name}
+use Rattle.ps_steps.specs.Operators.{operator_named, Operator}
+use Rattle.ps_steps.specs.Operators.{def_op}
+use Rattle.ps_steps.specs.Steps.{from_pending, Step, TakesSteps, here, step}
+use Rattle.ps_steps.proofs.Joined.{joined, now}
 
 simple_step : (t : SimpleToken) (ts body : List SimpleToken) (m k : State) (s : List ℕ) → executed (simple_token t) m ≡ went body k → Step (now (t ∷ ts) m s) (now (body ++ ts) k s)
 simple_step t ts body m k s e = record { token = simple_token t; rest = now ts m s; body = body; state = k; next = from_pending t ts m s; went = e; is = refl }

@@ -1,6 +1,13 @@
 -- Coordinates: how they add up, and that they are near.
-use Rattle.std.{proofs.{Common.{◌≡◌, ℕ, zero, suc, ◌*◌, ◌^◌, ◌<◌, ◌≤◌, ℤ, pos, negsuc, true, refl, arith}, Math.IntN.{◌+ℤ◌, ◌*ℤ◌, +ℤ_idl, suc_ℤ-*ℤ, zero-*ℤ}, lemmas.Int.ints}, specs.Int.Signed.◌≤ℤ◌}
-use Rattle.{mus_units.specs.declared.glyph.Size.Size, ps_text.specs.{declared.sheet.Frame.Frame, Range.{IsFrame, IsNumber, IsOffset}}, ps_steps.specs.Near.is_near, ps_paint.specs.PaintOf.font_height}
+use Rattle.std.proofs.Common.{◌≡◌, ℕ, zero, suc, ◌*◌, ◌^◌, ◌<◌, ◌≤◌, ℤ, pos, negsuc, true, refl, arith}
+use Rattle.std.proofs.Math.IntN.{◌+ℤ◌, ◌*ℤ◌, +ℤ_idl, suc_ℤ-*ℤ, zero-*ℤ}
+use Rattle.std.proofs.lemmas.Int.{ints}
+use Rattle.std.specs.Int.Signed.{◌≤ℤ◌}
+use Rattle.mus_units.specs.declared.glyph.Size.{Size}
+use Rattle.ps_text.specs.declared.sheet.Frame.{Frame}
+use Rattle.ps_text.specs.Range.{IsFrame, IsNumber, IsOffset}
+use Rattle.ps_steps.specs.Near.{is_near}
+use Rattle.ps_paint.specs.PaintOf.{font_height}
 
 -- within 2^43 of 0
 pub record IsClose (v : ℤ) : Type 0 where

@@ -1,8 +1,23 @@
 -- The lines of staves.
-use Rattle.std.proofs.{Common.{◌≡◌, ℕ, true, ℤ, pos, List, [], ◌∷◌, ◌++◌, refl, arith, nat_le, codes}, Math.IntN.{◌+ℤ◌, +ℤ_idr}, lemmas.Int.ints}
-use Rattle.{ps_text.specs.{Document.rules_line, declared.sheet.Frame.Frame, Range.IsNumber}, ps_steps.specs.declared.{paint.{Paint.Paint, Seg.Seg, PagePaint.PagePaint}, value.Operand.Operand}}
-use Rattle.{ps_steps.{specs.{declared.{value.{Operand.{TheVariants.{Whole as whole_value}}}, graphics.Graphics.Graphics}, State.Names, Operators.all_near}}, ps_paint.specs.PaintOf.{move, line, stroked, rules}}
-use Rattle.ps_paint.proofs.{Bodies.{Made, rule_tokens}, Scales.{Comes, no_way, close_number, from_zero, from_number}, Runs.{Runs, both_runs, pushes}, Draws.{drawing, page, moves, lines, saves, restores, translates}}
+use Rattle.std.proofs.Common.{◌≡◌, ℕ, true, ℤ, pos, List, [], ◌∷◌, ◌++◌, refl, arith, nat_le, codes}
+use Rattle.std.proofs.Math.IntN.{◌+ℤ◌, +ℤ_idr}
+use Rattle.std.proofs.lemmas.Int.{ints}
+use Rattle.ps_text.specs.Document.{rules_line}
+use Rattle.ps_text.specs.declared.sheet.Frame.{Frame}
+use Rattle.ps_text.specs.Range.{IsNumber}
+use Rattle.ps_steps.specs.declared.paint.Paint.{Paint}
+use Rattle.ps_steps.specs.declared.paint.Seg.{Seg}
+use Rattle.ps_steps.specs.declared.paint.PagePaint.{PagePaint}
+use Rattle.ps_steps.specs.declared.value.Operand.{Operand}
+use Rattle.ps_steps.specs.declared.value.Operand.TheVariants.{Whole as whole_value}
+use Rattle.ps_steps.specs.declared.graphics.Graphics.{Graphics}
+use Rattle.ps_steps.specs.State.{Names}
+use Rattle.ps_steps.specs.Operators.{all_near}
+use Rattle.ps_paint.specs.PaintOf.{move, line, stroked, rules}
+use Rattle.ps_paint.proofs.Bodies.{Made, rule_tokens}
+use Rattle.ps_paint.proofs.Scales.{Comes, no_way, close_number, from_zero, from_number}
+use Rattle.ps_paint.proofs.Runs.{Runs, both_runs, pushes}
+use Rattle.ps_paint.proofs.Draws.{drawing, page, moves, lines, saves, restores, translates}
 use Rattle.ps_paint.proofs.{Draws.{strokes, has_path}, Lines.{Draws, line_drawn, page_near}}
 
 module _ {f : Frame} {ds : Names} (made : Made f ds) where

@@ -1,10 +1,31 @@
 -- How a page begins and ends.
-use Rattle.std.proofs.{Common.{◌≡◌, ℕ, ℤ, pos, true, ◌&&◌, List, [], ◌∷◌, ◌++◌, append_assoc, refl, arith, decimal, codes, int_le, int_div, int_rem}, Math.IntN.{◌+ℤ◌, ◌*ℤ◌}, lemmas.Int.ints}
-use Rattle.{ps_text.specs.{Document.{heading_text, heading_line, closing}, declared.sheet.Frame.Frame}, ps_steps.specs.declared.{paint.{Paint.Paint, PagePaint.PagePaint}, graphics.Graphics.Graphics, value.Operand.Operand}}
-use Rattle.{ps_steps.{specs.{declared.{value.{Operand.{TheVariants.{Pointed as pointed_value}}}, token.{SimpleToken.{TheVariants.{Name as name_token, Pointed as pointed_token}}}}, Near.is_near, State.{State, Names}}}}
-use Rattle.{ps_steps.specs.{State.first_graphics, Operators.{went, same, scaled, with_factors, grestore_op, scale_op, translate_op, setlinewidth_op, showpage_op}}, ps_paint.specs.PaintOf.{to_x, to_y}}
-use Rattle.ps_paint.proofs.{Bodies.{Made, pg_body}, Scales.near, Runs.{Runs, op, then, both_runs, pushes, acts, is_in_range}, Draws.{page, saves}, Takes.{Takes, both_taken, takes_operator, takes_call, IsTokenWord}}
-use Rattle.ps_paint.proofs.{Takes.line_end_passed, Comments.{takes_comment, two_in_line}, Lines.on_page, WordLines.sets_font}
+use Rattle.std.proofs.Common.{◌≡◌, ℕ, ℤ, pos, true, ◌&&◌, List, [], ◌∷◌, ◌++◌, append_assoc, refl, arith, decimal}
+use Rattle.std.proofs.Common.{codes, int_le, int_div, int_rem}
+use Rattle.std.proofs.Math.IntN.{◌+ℤ◌, ◌*ℤ◌}
+use Rattle.std.proofs.lemmas.Int.{ints}
+use Rattle.ps_text.specs.Document.{heading_text, heading_line, closing}
+use Rattle.ps_text.specs.declared.sheet.Frame.{Frame}
+use Rattle.ps_steps.specs.declared.paint.Paint.{Paint}
+use Rattle.ps_steps.specs.declared.paint.PagePaint.{PagePaint}
+use Rattle.ps_steps.specs.declared.graphics.Graphics.{Graphics}
+use Rattle.ps_steps.specs.declared.value.Operand.{Operand}
+use Rattle.ps_steps.specs.declared.value.Operand.TheVariants.{Pointed as pointed_value}
+use Rattle.ps_steps.specs.declared.token.SimpleToken.TheVariants.{Name as name_token, Pointed as pointed_token}
+use Rattle.ps_steps.specs.Near.{is_near}
+use Rattle.ps_steps.specs.State.{State, Names}
+use Rattle.ps_steps.specs.State.{first_graphics}
+use Rattle.ps_steps.specs.Operators.{went, same, scaled, with_factors, grestore_op, scale_op, translate_op}
+use Rattle.ps_steps.specs.Operators.{setlinewidth_op, showpage_op}
+use Rattle.ps_paint.specs.PaintOf.{to_x, to_y}
+use Rattle.ps_paint.proofs.Bodies.{Made, pg_body}
+use Rattle.ps_paint.proofs.Scales.{near}
+use Rattle.ps_paint.proofs.Runs.{Runs, op, then, both_runs, pushes, acts, is_in_range}
+use Rattle.ps_paint.proofs.Draws.{page, saves}
+use Rattle.ps_paint.proofs.Takes.{Takes, both_taken, takes_operator, takes_call, IsTokenWord}
+use Rattle.ps_paint.proofs.Takes.{line_end_passed}
+use Rattle.ps_paint.proofs.Comments.{takes_comment, two_in_line}
+use Rattle.ps_paint.proofs.Lines.{on_page}
+use Rattle.ps_paint.proofs.WordLines.{sets_font}
 
 -- between two pages
 abbrev pub between : Names → List PagePaint → State

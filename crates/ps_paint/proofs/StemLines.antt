@@ -1,7 +1,17 @@
 -- Stems, and the lines that join staves.
 use Rattle.std.proofs.Common.{◌≡◌, true, ℤ, pos, [], ◌∷◌, ◌++◌, refl, arith, codes}
-use Rattle.{ps_text.specs.{Document.{mark_text, join_line}, Line.stem_line, declared.{sheet.Frame.Frame, marks.PageMark.PageMark}, Range.{IsStem, IsNumber}}, ps_steps.specs.{State.Names, Operators.all_near}}
-use Rattle.ps_paint.{specs.PaintOf.{move, line, stroked, mark_paints}, proofs.{Bodies.Made, Scales.{no_way, from_zero, from_number}, Runs.both_runs, Draws.{moves, lines, saves, restores, translates, strokes}}}
+use Rattle.ps_text.specs.Document.{mark_text, join_line}
+use Rattle.ps_text.specs.Line.{stem_line}
+use Rattle.ps_text.specs.declared.sheet.Frame.{Frame}
+use Rattle.ps_text.specs.declared.marks.PageMark.{PageMark}
+use Rattle.ps_text.specs.Range.{IsStem, IsNumber}
+use Rattle.ps_steps.specs.State.{Names}
+use Rattle.ps_steps.specs.Operators.{all_near}
+use Rattle.ps_paint.specs.PaintOf.{move, line, stroked, mark_paints}
+use Rattle.ps_paint.proofs.Bodies.{Made}
+use Rattle.ps_paint.proofs.Scales.{no_way, from_zero, from_number}
+use Rattle.ps_paint.proofs.Runs.{both_runs}
+use Rattle.ps_paint.proofs.Draws.{moves, lines, saves, restores, translates, strokes}
 use Rattle.ps_paint.proofs.Lines.{Draws, line_drawn, page_near, offset_near}
 
 module _ {f : Frame} {ds : Names} (made : Made f ds) where

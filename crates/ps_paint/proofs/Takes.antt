@@ -1,11 +1,30 @@
 -- The tokens of texts that are written: a text that is tokens with blanks behind them.
-use Rattle.std.proofs.{Common.{◌≡◌, ℕ, zero, suc, ◌+◌, ◌/◌, ◌%◌, ◌<◌, ◌≤◌, ◌^◌, ℤ, pos, negsuc, true, false, Bool, List, [], ◌∷◌, ◌++◌, length, append_assoc, Some, None, refl, sym, arith, decimal, ◌==◌}, Math.IntN.neg_ℤ}
-use Rattle.std.{proofs.{Math.Numerals.one-add, lemmas.{Int.ints, Bool.{true≢false, and_parts, Decides.nat_tests}, Fmt.{decimal_nonempty, decimal_is_IsNumeral}}}, specs.{Str.Parse.digits_value, List.list_all}}
+use Rattle.std.proofs.Common.{◌≡◌, ℕ, zero, suc, ◌+◌, ◌/◌, ◌%◌, ◌<◌, ◌≤◌, ◌^◌, ℤ, pos, negsuc, true, false, Bool, List}
+use Rattle.std.proofs.Common.{[], ◌∷◌, ◌++◌, length, append_assoc, Some, None, refl, sym, arith, decimal, ◌==◌}
+use Rattle.std.proofs.Math.IntN.{neg_ℤ}
+use Rattle.std.proofs.Math.Numerals.{one-add}
+use Rattle.std.proofs.lemmas.Int.{ints}
+use Rattle.std.proofs.lemmas.Bool.{true≢false, and_parts}
+use Rattle.std.proofs.lemmas.Bool.Decides.{nat_tests}
+use Rattle.std.proofs.lemmas.Fmt.{decimal_nonempty, decimal_is_IsNumeral}
+use Rattle.std.specs.Str.Parse.{digits_value}
+use Rattle.std.specs.List.{list_all}
 use Rattle.std.specs.Fmt.{digit_glyph, digits, digits_onto, signed_decimal}
-use Rattle.{mus_units.specs.Bytes.is_digit, glyph_paths.specs.Procedure.numbers, ps_steps.{specs.{Near.is_near, declared.{token.{SimpleToken.{SimpleToken, TheVariants.{Name as name_token, Whole as whole_token}}}}}}}
-use Rattle.{ps_steps.{specs.{declared.{token.{MachineToken.{TheVariants.{Simple as simple_token}}}, value.{Operand.{TheVariants.{Whole as whole_value}}}}, Tokens.{passed, IsWord, word_front, simple_at, Front, found}}}}
-use Rattle.ps_steps.specs.{Tokens.{is_regular, whole_number, word_token, is_name}, State.State, Operators.{Operator, def_op, operator_name, operated, went, executed, all_near}, Steps.{state_before, NextToken, from_text, state_after}}
-use Rattle.{ps_steps.{specs.Steps.{Step, TakesSteps, here, step}, proofs.Joined.joined}, ps_paint.proofs.Runs.{Runs, no_more, op, does, pushed}}
+use Rattle.mus_units.specs.Bytes.{is_digit}
+use Rattle.glyph_paths.specs.Procedure.{numbers}
+use Rattle.ps_steps.specs.Near.{is_near}
+use Rattle.ps_steps.specs.declared.token.SimpleToken.{SimpleToken}
+use Rattle.ps_steps.specs.declared.token.SimpleToken.TheVariants.{Name as name_token, Whole as whole_token}
+use Rattle.ps_steps.specs.declared.token.MachineToken.TheVariants.{Simple as simple_token}
+use Rattle.ps_steps.specs.declared.value.Operand.TheVariants.{Whole as whole_value}
+use Rattle.ps_steps.specs.Tokens.{passed, IsWord, word_front, simple_at, Front, found}
+use Rattle.ps_steps.specs.Tokens.{is_regular, whole_number, word_token, is_name}
+use Rattle.ps_steps.specs.State.{State}
+use Rattle.ps_steps.specs.Operators.{Operator, def_op, operator_name, operated, went, executed, all_near}
+use Rattle.ps_steps.specs.Steps.{state_before, NextToken, from_text, state_after}
+use Rattle.ps_steps.specs.Steps.{Step, TakesSteps, here, step}
+use Rattle.ps_steps.proofs.Joined.{joined}
+use Rattle.ps_paint.proofs.Runs.{Runs, no_more, op, does, pushed}
 
 -- whatever follows, the text leads from one state to another in n steps
 pub record Takes (n : ℕ) (text : List ℕ) (m k : State) : Type 0 where

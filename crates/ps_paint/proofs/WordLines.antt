@@ -1,12 +1,37 @@
 -- Words are shown where their line says, in marks and in titles.
-use Rattle.std.{proofs.{Common.{◌≡◌, ℕ, suc, ◌+◌, ◌≤◌, ℤ, pos, true, List, [], ◌∷◌, ◌++◌, length-append, append_assoc, refl, arith, IsTrue, codes}, Math.IntN.{◌*ℤ◌, +ℤ_idr}, lemmas.Int.ints}, specs.List.flat_map}
+use Rattle.std.proofs.Common.{◌≡◌, ℕ, suc, ◌+◌, ◌≤◌, ℤ, pos, true, List, [], ◌∷◌, ◌++◌, length-append, append_assoc}
+use Rattle.std.proofs.Common.{refl, arith, IsTrue, codes}
+use Rattle.std.proofs.Math.IntN.{◌*ℤ◌, +ℤ_idr}
+use Rattle.std.proofs.lemmas.Int.{ints}
+use Rattle.std.specs.List.{flat_map}
 use Rattle.std.specs.List.{list_all}
-use Rattle.{mus_units.specs.declared.glyph.Size.Size, glyph_paths.specs.Procedure.numbers, ps_text.specs.{Fields.{shown, in_parentheses}, Range.{is_shown, IsOffset, IsPlacedMark, IsTitle, IsWords}, Line.words_line}}
-use Rattle.{ps_text.specs.{Names.size_name, Document.{mark_text, title_line, title_text}, declared.{sheet.Frame.Frame, marks.PageMark.PageMark}}, ps_steps.specs.declared.paint.{Paint.Paint, PagePaint.PagePaint}}
-use Rattle.{ps_steps.{specs.{declared.{token.{SimpleToken.{TheVariants.{Label as label_token, Name as name_token, Words as words_token}}}, value.{Operand.{Operand, TheVariants.{Label as label_value, Words as words_value}}}}}}}
-use Rattle.ps_steps.specs.{declared.graphics.Graphics.Graphics, Near.is_near, Tokens.string_front, State.{State, Names}, Operators.{show_op, findfont_op, scalefont_op, setfont_op, all_near}}
-use Rattle.ps_paint.{specs.PaintOf.{move, words_paint, mark_paints, font_height}, proofs.{Bodies.{Made, size_body, shown_tokens, font_tokens}, Scales.{Comes, from_zero, from_number, near_size}, Runs.{Runs, no_more, op}}}
-use Rattle.ps_paint.proofs.{Runs.{then, both_runs, pushes, pushed, acts, is_in_range}, Draws.{drawing, corner, page, moves, saves, restores, translates}, Takes.{Takes, Stands, takes_token, space_passed, both_taken}}
+use Rattle.mus_units.specs.declared.glyph.Size.{Size}
+use Rattle.glyph_paths.specs.Procedure.{numbers}
+use Rattle.ps_text.specs.Fields.{shown, in_parentheses}
+use Rattle.ps_text.specs.Range.{is_shown, IsOffset, IsPlacedMark, IsTitle, IsWords}
+use Rattle.ps_text.specs.Line.{words_line}
+use Rattle.ps_text.specs.Names.{size_name}
+use Rattle.ps_text.specs.Document.{mark_text, title_line, title_text}
+use Rattle.ps_text.specs.declared.sheet.Frame.{Frame}
+use Rattle.ps_text.specs.declared.marks.PageMark.{PageMark}
+use Rattle.ps_steps.specs.declared.paint.Paint.{Paint}
+use Rattle.ps_steps.specs.declared.paint.PagePaint.{PagePaint}
+use Rattle.ps_steps.specs.declared.token.SimpleToken.TheVariants.{Label as label_token, Name as name_token}
+use Rattle.ps_steps.specs.declared.token.SimpleToken.TheVariants.{Words as words_token}
+use Rattle.ps_steps.specs.declared.value.Operand.{Operand}
+use Rattle.ps_steps.specs.declared.value.Operand.TheVariants.{Label as label_value, Words as words_value}
+use Rattle.ps_steps.specs.declared.graphics.Graphics.{Graphics}
+use Rattle.ps_steps.specs.Near.{is_near}
+use Rattle.ps_steps.specs.Tokens.{string_front}
+use Rattle.ps_steps.specs.State.{State, Names}
+use Rattle.ps_steps.specs.Operators.{show_op, findfont_op, scalefont_op, setfont_op, all_near}
+use Rattle.ps_paint.specs.PaintOf.{move, words_paint, mark_paints, font_height}
+use Rattle.ps_paint.proofs.Bodies.{Made, size_body, shown_tokens, font_tokens}
+use Rattle.ps_paint.proofs.Scales.{Comes, from_zero, from_number, near_size}
+use Rattle.ps_paint.proofs.Runs.{Runs, no_more, op}
+use Rattle.ps_paint.proofs.Runs.{then, both_runs, pushes, pushed, acts, is_in_range}
+use Rattle.ps_paint.proofs.Draws.{drawing, corner, page, moves, saves, restores, translates}
+use Rattle.ps_paint.proofs.Takes.{Takes, Stands, takes_token, space_passed, both_taken}
 use Rattle.ps_paint.proofs.{Takes.{takes_line, IsTokenWord}, Lines.{Draws, on_page, page_near, offset_near}}
 
 words_stand : (words : List ℕ) → IsTrue (list_all is_shown words) → Stands (words_token words) (40 ∷ flat_map shown words ++ 41 ∷ [])

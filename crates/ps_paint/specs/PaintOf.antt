@@ -1,8 +1,19 @@
 -- What a sheet paints, in 1/10000 point: for each page, item by item and mark by mark, the paths that are filled or stroked
 -- and the words that are shown.
-use Rattle.std.specs.{Prelude.ℕ, Prelude.ℤ, Prelude.pos, Prelude.◌*◌, Prelude.◌+ℤ◌, Prelude.◌-ℤ◌, Prelude.◌*ℤ◌, Prelude.List, Prelude.[], Prelude.◌∷◌, Prelude.◌++◌, Prelude.map, List.flat_map}
-use Rattle.{mus_units.specs.declared.glyph.{Size.Size, Way.Way}, glyph_paths.specs.{declared.paths.PathOp.PathOp, Outlines.neg, Outlines.outline_of}}
-use Rattle.ps_text.specs.{Line.quarter, Document.last_base, declared.marks.PageMark.PageMark, declared.sheet.Frame.Frame, declared.sheet.Staff.Staff, declared.sheet.Item.Item, declared.sheet.Page.Page, declared.sheet.Sheet.Sheet}
+use Rattle.std.specs.Prelude.{ℕ, ℤ, pos, ◌*◌, ◌+ℤ◌, ◌-ℤ◌, ◌*ℤ◌, List, [], ◌∷◌, ◌++◌, map}
+use Rattle.std.specs.List.{flat_map}
+use Rattle.mus_units.specs.declared.glyph.Size.{Size}
+use Rattle.mus_units.specs.declared.glyph.Way.{Way}
+use Rattle.glyph_paths.specs.declared.paths.PathOp.{PathOp}
+use Rattle.glyph_paths.specs.Outlines.{neg, outline_of}
+use Rattle.ps_text.specs.Line.{quarter}
+use Rattle.ps_text.specs.Document.{last_base}
+use Rattle.ps_text.specs.declared.marks.PageMark.{PageMark}
+use Rattle.ps_text.specs.declared.sheet.Frame.{Frame}
+use Rattle.ps_text.specs.declared.sheet.Staff.{Staff}
+use Rattle.ps_text.specs.declared.sheet.Item.{Item}
+use Rattle.ps_text.specs.declared.sheet.Page.{Page}
+use Rattle.ps_text.specs.declared.sheet.Sheet.{Sheet}
 use Rattle.ps_steps.specs.declared.paint.{Seg.Seg, Paint.Paint, PagePaint.PagePaint}
 
 -- where an abscissa and a height of a page come to lie: 100 times the margin, plus the percent of the scale times them

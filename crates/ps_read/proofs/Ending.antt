@@ -1,8 +1,18 @@
 -- No good line but the last is `%%EOF`, so no proper prefix of a document is a document.
-use Rattle.std.proofs.{Common.◌≡◌, Common.ℕ, Common.List, Common.[], Common.◌∷◌, Common.◌++◌, Common.refl, Common.sym, Common.◌∙◌, Common.ap, Common.arith, Common.codes, Common.◌==◌, Common.if◌then◌else◌, lemmas.Bool.ne_eqb}
+use Rattle.std.proofs.Common.{◌≡◌, ℕ, List, [], ◌∷◌, ◌++◌, refl, sym, ◌∙◌, ap, arith, codes, ◌==◌, if◌then◌else◌}
+use Rattle.std.proofs.lemmas.Bool.{ne_eqb}
 use Rattle.glyph_paths.specs.Names.{glyphs_in_order}
-use Rattle.ps_text.specs.{Document.staff_line, Document.system_line, Document.tune_line, Document.heading_line, Document.count_line, Prolog.procedures, Prolog.glyph_lines, Prolog.last_text, declared.sheet.Frame.Frame, declared.sheet.Sheet.Sheet}
-use Rattle.ps_read.{specs.{Laws.NoPrefix, Lines.{Line, line_text, lines_then, behind_line, IsFirstLine}, ReaderStates.{MayCome, after_prolog, state_after, Leads}, declared.state.ReaderState.ReaderState}, proofs.{Heads.{may_lack, IsMarkStart, mark_start, join_start, rules_start, title_start, no_line, same_start}, Through.{document_way, lines_on}}}
+use Rattle.ps_text.specs.Document.{staff_line, system_line, tune_line, heading_line, count_line}
+use Rattle.ps_text.specs.Prolog.{procedures, glyph_lines, last_text}
+use Rattle.ps_text.specs.declared.sheet.Frame.{Frame}
+use Rattle.ps_text.specs.declared.sheet.Sheet.{Sheet}
+use Rattle.ps_read.specs.Laws.{NoPrefix}
+use Rattle.ps_read.specs.Lines.{Line, line_text, lines_then, behind_line, IsFirstLine}
+use Rattle.ps_read.specs.ReaderStates.{MayCome, after_prolog, state_after, Leads}
+use Rattle.ps_read.specs.declared.state.ReaderState.{ReaderState}
+use Rattle.ps_read.proofs.Heads.{may_lack, IsMarkStart, mark_start, join_start, rules_start, title_start, no_line}
+use Rattle.ps_read.proofs.Heads.{same_start}
+use Rattle.ps_read.proofs.Through.{document_way, lines_on}
 use Rattle.ps_read.specs.Lines as line
 use Rattle.eng_lines.proofs.Words.{one_cut, head_of}
 

@@ -1,8 +1,18 @@
 -- The text of a line, each part in front of what follows it, and that its numbers may stand on a page.
-use Rattle.std.{proofs.{Common.{◌≡◌, ℕ, ℤ, pos, ◌≤◌, ◌^◌, true, ◌+◌, ◌/◌, ◌%◌, List, [], ◌∷◌, ◌++◌, refl, ◌∙◌, ap, arith, codes, decimal}, lemmas.{Fmt.decimal_digit, Int.ints}}, specs.List.{flat_map, list_all}}
+use Rattle.std.proofs.Common.{◌≡◌, ℕ, ℤ, pos, ◌≤◌, ◌^◌, true, ◌+◌, ◌/◌, ◌%◌, List, [], ◌∷◌, ◌++◌, refl, ◌∙◌, ap, arith}
+use Rattle.std.proofs.Common.{codes, decimal}
+use Rattle.std.proofs.lemmas.Fmt.{decimal_digit}
+use Rattle.std.proofs.lemmas.Int.{ints}
+use Rattle.std.specs.List.{flat_map, list_all}
 use mathlib.Core.List.{append_assoc}
 use Rattle.{mus_units.specs.declared.glyph.Size.{Size}, glyph_paths.specs.Procedure.{numbers}}
-use Rattle.ps_text.specs.{Document.{title_line}, Fields.{shown, in_parentheses}, Names.size_name, Prolog.{page_line, page_start, page_end, scaling, percent}, declared.prolog.TheConstants.PAGE_START, Range.IsNumber, Scanning.is_field_byte}
+use Rattle.ps_text.specs.Document.{title_line}
+use Rattle.ps_text.specs.Fields.{shown, in_parentheses}
+use Rattle.ps_text.specs.Names.{size_name}
+use Rattle.ps_text.specs.Prolog.{page_line, page_start, page_end, scaling, percent}
+use Rattle.ps_text.specs.declared.prolog.TheConstants.{PAGE_START}
+use Rattle.ps_text.specs.Range.{IsNumber}
+use Rattle.ps_text.specs.Scanning.{is_field_byte}
 
 abbrev pub title_numbers : ℤ → ℤ → List ℤ
 title_numbers x y = pos 0 ∷ pos 0 ∷ x ∷ y ∷ []

@@ -1,8 +1,29 @@
 -- How lines begin, and that none has an LF within.
-use Rattle.std.{proofs.{lemmas.{Bool.ne_eqb, List.Folds.list_all-append}, Common.{◌≡◌, ◌≢◌, ℕ, ℤ, pos, negsuc, zero, suc, ◌/◌, ◌%◌, ◌≤◌, Bool, true, false, ◌==◌, if◌then◌else◌, List, [], ◌∷◌, ◌++◌, refl, sym, ap, subst, arith, codes, IsTrue, not, true≢false, length, length-append}}, specs.{Fmt.{decimal, signed_decimal, digits, digits_onto, digit_glyph}, List.{flat_map, list_all}}}
-use Rattle.{mus_units.specs.{declared.glyph.Glyph.Glyph, declared.glyph.Size.Size, declared.glyph.Way.Way}, glyph_paths.specs.{Names.glyph_name, Procedure.numbers}}
-use Rattle.ps_text.specs.{Document.{rules_line, staff_line, join_line, system_line, title_line, tune_line, heading_line, count_line}, Fields.{shown, in_parentheses}, Line.{glyph_line, words_line, stem_line, beam_line, arc_line, points, mark_line}, Names.{size_name, way_name}, Prolog.{box_line, page_line, box_start, page_start, page_end, scaling, percent}, Range.{is_shown, IsPageMark}, declared.marks.PageMark.PageMark}
-use Rattle.{eng_lines.{specs.Lines.Lacks, proofs.Words.head_of}, ps_read.specs.{Lines.Line, Lines.line_text, ReaderStates.MayCome, declared.state.ReaderState.ReaderState}}
+use Rattle.std.proofs.lemmas.Bool.{ne_eqb}
+use Rattle.std.proofs.lemmas.List.Folds.{list_all-append}
+use Rattle.std.proofs.Common.{◌≡◌, ◌≢◌, ℕ, ℤ, pos, negsuc, zero, suc, ◌/◌, ◌%◌, ◌≤◌, Bool, true, false, ◌==◌}
+use Rattle.std.proofs.Common.{if◌then◌else◌, List, [], ◌∷◌, ◌++◌, refl, sym, ap, subst, arith, codes, IsTrue, not}
+use Rattle.std.proofs.Common.{true≢false, length, length-append}
+use Rattle.std.specs.Fmt.{decimal, signed_decimal, digits, digits_onto, digit_glyph}
+use Rattle.std.specs.List.{flat_map, list_all}
+use Rattle.mus_units.specs.declared.glyph.Glyph.{Glyph}
+use Rattle.mus_units.specs.declared.glyph.Size.{Size}
+use Rattle.mus_units.specs.declared.glyph.Way.{Way}
+use Rattle.glyph_paths.specs.Names.{glyph_name}
+use Rattle.glyph_paths.specs.Procedure.{numbers}
+use Rattle.ps_text.specs.Document.{rules_line, staff_line, join_line, system_line, title_line, tune_line, heading_line}
+use Rattle.ps_text.specs.Document.{count_line}
+use Rattle.ps_text.specs.Fields.{shown, in_parentheses}
+use Rattle.ps_text.specs.Line.{glyph_line, words_line, stem_line, beam_line, arc_line, points, mark_line}
+use Rattle.ps_text.specs.Names.{size_name, way_name}
+use Rattle.ps_text.specs.Prolog.{box_line, page_line, box_start, page_start, page_end, scaling, percent}
+use Rattle.ps_text.specs.Range.{is_shown, IsPageMark}
+use Rattle.ps_text.specs.declared.marks.PageMark.{PageMark}
+use Rattle.eng_lines.specs.Lines.{Lacks}
+use Rattle.eng_lines.proofs.Words.{head_of}
+use Rattle.ps_read.specs.Lines.{Line, line_text}
+use Rattle.ps_read.specs.ReaderStates.{MayCome}
+use Rattle.ps_read.specs.declared.state.ReaderState.{ReaderState}
 use Rattle.ps_read.specs.Lines as line
 
 abbrev IsDigit : ℕ → Type 0

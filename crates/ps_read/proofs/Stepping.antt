@@ -1,9 +1,35 @@
 -- A line that may come leads on, and where none of those in question may, that is told.
-use Rattle.std.proofs.{Common.{◌≡◌, ℕ, ℤ, ◌+◌, ◌<◌, ◌≤◌, ◌^◌, false, List, [], ◌∷◌, ◌++◌, length, Option, Some, None, is_some, IsSome, refl, sym, ◌∙◌, ap, arith, codes, decimal, MatchOption, Result, Ok, Err, IfOk}, lemmas.Fmt.decimal_injective}
+use Rattle.std.proofs.Common.{◌≡◌, ℕ, ℤ, ◌+◌, ◌<◌, ◌≤◌, ◌^◌, false, List, [], ◌∷◌, ◌++◌, length, Option, Some, None}
+use Rattle.std.proofs.Common.{is_some, IsSome, refl, sym, ◌∙◌, ap, arith, codes, decimal, MatchOption, Result, Ok, Err}
+use Rattle.std.proofs.Common.{IfOk}
+use Rattle.std.proofs.lemmas.Fmt.{decimal_injective}
 use mathlib.Core.List.{append_assoc}
-use Rattle.{mus_units.specs.{declared.glyph.Size.Size, declared.text.Memory.Memory}, glyph_paths.specs.{Names.glyphs_in_order}}
-use Rattle.ps_text.specs.{Document.{rules_line, staff_line, join_line, system_line, title_line, tune_line, heading_line, count_line}, Fields.in_parentheses, Line.mark_line, Prolog.{box_line, box_start, procedures, page_line, glyph_lines, last_text}, Range.{IsNumber, IsPageMark, IsTitle, IsFrame}, declared.{marks.PageMark.PageMark, sheet.{Frame.Frame, Staff.Staff, Sheet.Sheet, Item.Item}, prolog.TheConstants.BOX}}
-use Rattle.ps_read.{specs.{Lines.{Line, line_text, behind_line, IsFirstLine}, ReaderStates.{frame_from_numbers, with_item, with_page, staff_with_mark, system_with_staff, with_join, IsUnderTop, MayCome, after_prolog, state_after}, Steps.{NoneOf, IsNextOf, IsStepOf, Any, IsItemLine, IsSystemLine, IsJoinLine, IsNoMark}, Titles.{title_of, joined_of, rules_of, IsMarkRead}, declared.{lines.{Title.Title}, state.{Joined.Joined, OpenPage.OpenPage, OpenSystem.OpenSystem, ReaderState.ReaderState}}}, proofs.Heads.{mark_start, join_start, no_line}}
+use Rattle.mus_units.specs.declared.glyph.Size.{Size}
+use Rattle.mus_units.specs.declared.text.Memory.{Memory}
+use Rattle.glyph_paths.specs.Names.{glyphs_in_order}
+use Rattle.ps_text.specs.Document.{rules_line, staff_line, join_line, system_line, title_line, tune_line, heading_line}
+use Rattle.ps_text.specs.Document.{count_line}
+use Rattle.ps_text.specs.Fields.{in_parentheses}
+use Rattle.ps_text.specs.Line.{mark_line}
+use Rattle.ps_text.specs.Prolog.{box_line, box_start, procedures, page_line, glyph_lines, last_text}
+use Rattle.ps_text.specs.Range.{IsNumber, IsPageMark, IsTitle, IsFrame}
+use Rattle.ps_text.specs.declared.marks.PageMark.{PageMark}
+use Rattle.ps_text.specs.declared.sheet.Frame.{Frame}
+use Rattle.ps_text.specs.declared.sheet.Staff.{Staff}
+use Rattle.ps_text.specs.declared.sheet.Sheet.{Sheet}
+use Rattle.ps_text.specs.declared.sheet.Item.{Item}
+use Rattle.ps_text.specs.declared.prolog.TheConstants.{BOX}
+use Rattle.ps_read.specs.Lines.{Line, line_text, behind_line, IsFirstLine}
+use Rattle.ps_read.specs.ReaderStates.{frame_from_numbers, with_item, with_page, staff_with_mark, system_with_staff}
+use Rattle.ps_read.specs.ReaderStates.{with_join, IsUnderTop, MayCome, after_prolog, state_after}
+use Rattle.ps_read.specs.Steps.{NoneOf, IsNextOf, IsStepOf, Any, IsItemLine, IsSystemLine, IsJoinLine, IsNoMark}
+use Rattle.ps_read.specs.Titles.{title_of, joined_of, rules_of, IsMarkRead}
+use Rattle.ps_read.specs.declared.lines.Title.{Title}
+use Rattle.ps_read.specs.declared.state.Joined.{Joined}
+use Rattle.ps_read.specs.declared.state.OpenPage.{OpenPage}
+use Rattle.ps_read.specs.declared.state.OpenSystem.{OpenSystem}
+use Rattle.ps_read.specs.declared.state.ReaderState.{ReaderState}
+use Rattle.ps_read.proofs.Heads.{mark_start, join_start, no_line}
 use Rattle.ps_read.specs.Lines as line
 use Rattle.eng_lines.proofs.Words.{head_of, one_field, after_prefix}
 

@@ -1,9 +1,35 @@
 -- What the lines so far have told, and that a line that may come adds its text to it.
-use Rattle.std.{proofs.{Common.{◌≡◌, ℕ, ℤ, pos, ◌+◌, ◌<◌, ◌^◌, ◌+ℤ◌, List, [], ◌∷◌, ◌++◌, ◌⊎◌, inl, inr, length, Option, Some, None, IsSome, refl, sym, ◌∙◌, ap, subst, arith, codes, All, lit<, length-append, true≢false}, lemmas.{Grind.flat_map-append, List.Elements.{All-push, All-nil}}}, specs.{Prelude.⊤}}
+use Rattle.std.proofs.Common.{◌≡◌, ℕ, ℤ, pos, ◌+◌, ◌<◌, ◌^◌, ◌+ℤ◌, List, [], ◌∷◌, ◌++◌, ◌⊎◌, inl, inr, length, Option}
+use Rattle.std.proofs.Common.{Some, None, IsSome, refl, sym, ◌∙◌, ap, subst, arith, codes, All, lit<, length-append}
+use Rattle.std.proofs.Common.{true≢false}
+use Rattle.std.proofs.lemmas.Grind.{flat_map-append}
+use Rattle.std.proofs.lemmas.List.Elements.{All-push, All-nil}
+use Rattle.std.specs.Prelude.{⊤}
 use mathlib.Core.List.{append_assoc, append-nil}
 use Rattle.{glyph_paths.specs.Names.{glyphs_in_order}}
-use Rattle.ps_text.specs.{Document.{numbered, mark_text, marks_text, rules_line, staff_line, staff_text, last_base, join_line, join_text, system_line, system_text, title_text, tune_text, item_text, items_text, heading_line, heading_text, closing, document_page, count_line, trailer, document, SpellsSheet}, Line.mark_line, Prolog.{first_text, box_line, heading, procedures, page_line, glyph_lines, last_text, prolog}, Range.{IsNumber, IsPageMark, IsStaff, IsJoined, IsItem, IsAfter, InOrder, IsPage, IsFrame, IsSheet}, declared.{marks.PageMark.PageMark, sheet.{Frame.Frame, Staff.Staff, Item.Item, Page.Page, Sheet.Sheet}}}
-use Rattle.ps_read.specs.{Answers.IsGoodThroughout, Steps.IsItemLine, Lines.{Line, line_text, lines_then, behind_line}, ReaderStates.{frame_from_numbers, with_item, staff_with_mark, system_with_staff, system_ended, IsUnderTop, MayEnd, MayCome, after_prolog, state_after, Leads}, declared.state.{Joined.Joined, OpenPage.OpenPage, OpenSystem.OpenSystem, ReaderState.ReaderState}}
+use Rattle.ps_text.specs.Document.{numbered, mark_text, marks_text, rules_line, staff_line, staff_text, last_base}
+use Rattle.ps_text.specs.Document.{join_line, join_text, system_line, system_text, title_text, tune_text, item_text}
+use Rattle.ps_text.specs.Document.{items_text, heading_line, heading_text, closing, document_page, count_line, trailer}
+use Rattle.ps_text.specs.Document.{document, SpellsSheet}
+use Rattle.ps_text.specs.Line.{mark_line}
+use Rattle.ps_text.specs.Prolog.{first_text, box_line, heading, procedures, page_line, glyph_lines, last_text, prolog}
+use Rattle.ps_text.specs.Range.{IsNumber, IsPageMark, IsStaff, IsJoined, IsItem, IsAfter, InOrder, IsPage, IsFrame}
+use Rattle.ps_text.specs.Range.{IsSheet}
+use Rattle.ps_text.specs.declared.marks.PageMark.{PageMark}
+use Rattle.ps_text.specs.declared.sheet.Frame.{Frame}
+use Rattle.ps_text.specs.declared.sheet.Staff.{Staff}
+use Rattle.ps_text.specs.declared.sheet.Item.{Item}
+use Rattle.ps_text.specs.declared.sheet.Page.{Page}
+use Rattle.ps_text.specs.declared.sheet.Sheet.{Sheet}
+use Rattle.ps_read.specs.Answers.{IsGoodThroughout}
+use Rattle.ps_read.specs.Steps.{IsItemLine}
+use Rattle.ps_read.specs.Lines.{Line, line_text, lines_then, behind_line}
+use Rattle.ps_read.specs.ReaderStates.{frame_from_numbers, with_item, staff_with_mark, system_with_staff, system_ended}
+use Rattle.ps_read.specs.ReaderStates.{IsUnderTop, MayEnd, MayCome, after_prolog, state_after, Leads}
+use Rattle.ps_read.specs.declared.state.Joined.{Joined}
+use Rattle.ps_read.specs.declared.state.OpenPage.{OpenPage}
+use Rattle.ps_read.specs.declared.state.OpenSystem.{OpenSystem}
+use Rattle.ps_read.specs.declared.state.ReaderState.{ReaderState}
 use Rattle.ps_read.specs.Lines as line
 
 -- the text of whole pages, of a page whose items are being listed, and of a system whose staves are

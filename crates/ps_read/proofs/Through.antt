@@ -1,10 +1,33 @@
 -- The lines of a document are good, each after those before it.
-use Rattle.std.{proofs.{Common.{◌≡◌, ◌≢◌, ℕ, ℤ, pos, suc, ◌+◌, ◌<◌, ◌≤◌, ◌^◌, ◌+ℤ◌, ◌⊎◌, inl, inr, Bool, true, false, ◌==◌, List, [], ◌∷◌, ◌++◌, length, drop, Some, refl, sym, ◌∙◌, ap, subst, arith, codes, All, length-append, true≢false, eq-eqb, eqb-true}, lemmas.List.Elements.{All-head, All-tail}}, specs.Prelude.⊤}
+use Rattle.std.proofs.Common.{◌≡◌, ◌≢◌, ℕ, ℤ, pos, suc, ◌+◌, ◌<◌, ◌≤◌, ◌^◌, ◌+ℤ◌, ◌⊎◌, inl, inr, Bool, true, false}
+use Rattle.std.proofs.Common.{◌==◌, List, [], ◌∷◌, ◌++◌, length, drop, Some, refl, sym, ◌∙◌, ap, subst, arith, codes}
+use Rattle.std.proofs.Common.{All, length-append, true≢false, eq-eqb, eqb-true}
+use Rattle.std.proofs.lemmas.List.Elements.{All-head, All-tail}
+use Rattle.std.specs.Prelude.{⊤}
 use mathlib.Core.List.{append_assoc, append-nil}
 use Rattle.{glyph_paths.specs.Names.{glyphs_in_order}}
-use Rattle.ps_text.specs.{Document.{numbered, mark_text, marks_text, staff_line, staff_text, last_base, join_text, system_text, tune_text, title_text, item_text, items_text, heading_text, closing, document_page, count_line, trailer, document, SpellsSheet}, Prolog.{heading, procedures, glyph_lines, last_text, prolog}, Range.{IsNumber, IsPageMark, IsStaff, IsSystemItem, IsItem, InOrder, IsPage, IsFrame}, declared.{marks.PageMark.PageMark, sheet.{Frame.Frame, Staff.Staff, Item.Item, Page.Page, Sheet.Sheet}}}
+use Rattle.ps_text.specs.Document.{numbered, mark_text, marks_text, staff_line, staff_text, last_base, join_text}
+use Rattle.ps_text.specs.Document.{system_text, tune_text, title_text, item_text, items_text, heading_text, closing}
+use Rattle.ps_text.specs.Document.{document_page, count_line, trailer, document, SpellsSheet}
+use Rattle.ps_text.specs.Prolog.{heading, procedures, glyph_lines, last_text, prolog}
+use Rattle.ps_text.specs.Range.{IsNumber, IsPageMark, IsStaff, IsSystemItem, IsItem, InOrder, IsPage, IsFrame}
+use Rattle.ps_text.specs.declared.marks.PageMark.{PageMark}
+use Rattle.ps_text.specs.declared.sheet.Frame.{Frame}
+use Rattle.ps_text.specs.declared.sheet.Staff.{Staff}
+use Rattle.ps_text.specs.declared.sheet.Item.{Item}
+use Rattle.ps_text.specs.declared.sheet.Page.{Page}
+use Rattle.ps_text.specs.declared.sheet.Sheet.{Sheet}
 use Rattle.eng_lines.specs.Lines.{Lacks}
-use Rattle.ps_read.{specs.{Lines.{Line, line_text, lines_then, IsFirstLine}, ReaderStates.{with_item, open_system, system_ended, IsUnderTop, MayEnd, MayCome, after_prolog, state_after, Leads}, Steps.IsItemLine, Answers.IsGoodThroughout, declared.state.{Joined.Joined, OpenPage.OpenPage, OpenSystem.OpenSystem, ReaderState.ReaderState}}, proofs.Telling.first_told}
+use Rattle.ps_read.specs.Lines.{Line, line_text, lines_then, IsFirstLine}
+use Rattle.ps_read.specs.ReaderStates.{with_item, open_system, system_ended, IsUnderTop, MayEnd, MayCome, after_prolog}
+use Rattle.ps_read.specs.ReaderStates.{state_after, Leads}
+use Rattle.ps_read.specs.Steps.{IsItemLine}
+use Rattle.ps_read.specs.Answers.{IsGoodThroughout}
+use Rattle.ps_read.specs.declared.state.Joined.{Joined}
+use Rattle.ps_read.specs.declared.state.OpenPage.{OpenPage}
+use Rattle.ps_read.specs.declared.state.OpenSystem.{OpenSystem}
+use Rattle.ps_read.specs.declared.state.ReaderState.{ReaderState}
+use Rattle.ps_read.proofs.Telling.{first_told}
 use Rattle.ps_read.specs.Lines as line
 
 -- good lines lead from one place to another, and this is their text

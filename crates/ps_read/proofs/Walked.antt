@@ -1,7 +1,18 @@
 -- What holds before each line is read, and what follows at the end.
-use Rattle.std.proofs.{Common.{◌≡◌, ℕ, ◌+◌, ◌≤◌, List, [], ◌∷◌, ◌++◌, length, refl, sym, ◌∙◌, ap, subst, arith, length-append}}
-use Rattle.{ps_text.specs.{Document.SpellsSheet, declared.sheet.Sheet.Sheet}, eng_lines.{specs.Lines.Lacks, proofs.Words.one_cut, proofs.Words.lacks_none}}
-use Rattle.ps_read.{specs.{Lines.{Line, line_text, lines_then}, ReaderStates.{MayCome, state_after, Leads}, Answers.{IsGoodThroughout, IsFirstFault, IsDocumentRead}, Steps.{Any, NoneOf, IsNextOf}, declared.state.ReaderState.ReaderState}, proofs.{Heads.{may_lack, no_line}, Telling.lines_spell, Through.{document_way, lines_both, leads_both}}}
+use Rattle.std.proofs.Common.{◌≡◌, ℕ, ◌+◌, ◌≤◌, List, [], ◌∷◌, ◌++◌, length, refl, sym, ◌∙◌, ap, subst, arith}
+use Rattle.std.proofs.Common.{length-append}
+use Rattle.ps_text.specs.Document.{SpellsSheet}
+use Rattle.ps_text.specs.declared.sheet.Sheet.{Sheet}
+use Rattle.eng_lines.specs.Lines.{Lacks}
+use Rattle.eng_lines.proofs.Words.{one_cut, lacks_none}
+use Rattle.ps_read.specs.Lines.{Line, line_text, lines_then}
+use Rattle.ps_read.specs.ReaderStates.{MayCome, state_after, Leads}
+use Rattle.ps_read.specs.Answers.{IsGoodThroughout, IsFirstFault, IsDocumentRead}
+use Rattle.ps_read.specs.Steps.{Any, NoneOf, IsNextOf}
+use Rattle.ps_read.specs.declared.state.ReaderState.{ReaderState}
+use Rattle.ps_read.proofs.Heads.{may_lack, no_line}
+use Rattle.ps_read.proofs.Telling.{lines_spell}
+use Rattle.ps_read.proofs.Through.{document_way, lines_both, leads_both}
 
 -- good lines that pass through a text are at least as many as others that begin it
 as_many : (p q x y : ReaderState) (ls ms : List Line) (rest : List ℕ) → Leads p ls q → Leads x ms y → lines_then ls rest ≡ lines_then ms [] → length ls ≤ length ms

@@ -1,7 +1,11 @@
 -- What the answers of the reader say.
 use Rattle.std.specs.Prelude.{◌≡◌, ℕ, ◌+◌, List, [], length}
 use Rattle.ps_text.specs.{Document.SpellsSheet, declared.sheet.Sheet.Sheet}
-use Rattle.ps_read.specs.{Lines.Line, Lines.lines_then, ReaderStates.Leads, declared.state.ReaderState.ReaderState, declared.reading.PagesError.PagesError, declared.reading.PagesError.TheVariants.NotPages, declared.reading.PagesError.TheVariants.Memory}
+use Rattle.ps_read.specs.Lines.{Line, lines_then}
+use Rattle.ps_read.specs.ReaderStates.{Leads}
+use Rattle.ps_read.specs.declared.state.ReaderState.{ReaderState}
+use Rattle.ps_read.specs.declared.reading.PagesError.{PagesError}
+use Rattle.ps_read.specs.declared.reading.PagesError.TheVariants.{NotPages, Memory}
 
 -- a text begins with so many good lines
 pub record GoodLines (text : List ℕ) (count : ℕ) : Type 0 where

@@ -1,7 +1,10 @@
 -- The lines of a document, without the LF that ends each: those that stand as they are, and those with numbers or words in them.
 use Rattle.std.specs.Prelude.{◌≡◌, ℕ, ℤ, ◌+◌, List, [], ◌∷◌, ◌++◌, length, drop}
 use Rattle.{eng_lines.specs.Lines.{Lacks}, mus_units.specs.declared.glyph.Size.{Size}}
-use Rattle.ps_text.specs.{Document.rules_line, Document.staff_line, Document.join_line, Document.system_line, Document.title_line, Document.tune_line, Document.heading_line, Line.mark_line, Prolog.box_line, Prolog.page_line, declared.marks.PageMark.PageMark}
+use Rattle.ps_text.specs.Document.{rules_line, staff_line, join_line, system_line, title_line, tune_line, heading_line}
+use Rattle.ps_text.specs.Line.{mark_line}
+use Rattle.ps_text.specs.Prolog.{box_line, page_line}
+use Rattle.ps_text.specs.declared.marks.PageMark.{PageMark}
 
 pub data Line : Type 0 where
   Fixed : (text : List ℕ) → Line

@@ -1,8 +1,21 @@
 -- Which line may come after which: the lines of a document, each judged by the lines before it alone.
-use Rattle.std.specs.Prelude.{◌≡◌, ℕ, ℤ, pos, ◌+◌, ◌<◌, ◌≤◌, ◌^◌, ◌+ℤ◌, List, [], ◌∷◌, ◌++◌, length, codes, Option, Some, None, IsSome, ⊤}
-use Rattle.ps_text.specs.{Document.count_line, Prolog.{procedures, glyph_lines, last_text}, Range.{IsNumber, IsPageMark, IsTitle, IsOrdinal, IsFrame}, declared.{marks.PageMark.PageMark, sheet.{Frame.Frame, Staff.Staff, Item.Item, Sheet.Sheet}}}
+use Rattle.std.specs.Prelude.{◌≡◌, ℕ, ℤ, pos, ◌+◌, ◌<◌, ◌≤◌, ◌^◌, ◌+ℤ◌, List, [], ◌∷◌, ◌++◌, length, codes, Option}
+use Rattle.std.specs.Prelude.{Some, None, IsSome, ⊤}
+use Rattle.ps_text.specs.Document.{count_line}
+use Rattle.ps_text.specs.Prolog.{procedures, glyph_lines, last_text}
+use Rattle.ps_text.specs.Range.{IsNumber, IsPageMark, IsTitle, IsOrdinal, IsFrame}
+use Rattle.ps_text.specs.declared.marks.PageMark.{PageMark}
+use Rattle.ps_text.specs.declared.sheet.Frame.{Frame}
+use Rattle.ps_text.specs.declared.sheet.Staff.{Staff}
+use Rattle.ps_text.specs.declared.sheet.Item.{Item}
+use Rattle.ps_text.specs.declared.sheet.Sheet.{Sheet}
 use Rattle.glyph_paths.specs.Names.{glyphs_in_order}
-use Rattle.ps_read.specs.{Lines.{Line, Fixed, Box, PageStart, Heading, Tune, Title, System, Join, StaffHead, Rules, Mark, behind_line, IsFirstLine}, declared.state.{Joined.Joined, OpenPage.OpenPage, OpenSystem.OpenSystem, ReaderState.ReaderState}}
+use Rattle.ps_read.specs.Lines.{Line, Fixed, Box, PageStart, Heading, Tune, Title, System, Join, StaffHead, Rules, Mark}
+use Rattle.ps_read.specs.Lines.{behind_line, IsFirstLine}
+use Rattle.ps_read.specs.declared.state.Joined.{Joined}
+use Rattle.ps_read.specs.declared.state.OpenPage.{OpenPage}
+use Rattle.ps_read.specs.declared.state.OpenSystem.{OpenSystem}
+use Rattle.ps_read.specs.declared.state.ReaderState.{ReaderState}
 
 abbrev pub frame_from_numbers : ℕ → ℕ → ℕ → ℕ → ℕ → Frame
 frame_from_numbers wide high left bottom scale = record { wide = wide; high = high; left = left; bottom = bottom; scale = scale }

@@ -1,6 +1,8 @@
 -- What a step of the reader says: that no good line has the text, or the place behind the one that has.
 use Rattle.std.specs.Prelude.{◌≡◌, ℕ, List, Option, MatchOption, ⊤}
-use Rattle.ps_read.specs.{Lines.Line, Lines.Fixed, Lines.Tune, Lines.System, Lines.Join, Lines.Mark, Lines.line_text, ReaderStates.MayCome, ReaderStates.state_after, declared.state.ReaderState.ReaderState}
+use Rattle.ps_read.specs.Lines.{Line, Fixed, Tune, System, Join, Mark, line_text}
+use Rattle.ps_read.specs.ReaderStates.{MayCome, state_after}
+use Rattle.ps_read.specs.declared.state.ReaderState.{ReaderState}
 
 -- of the lines that are in question, none that may come here has this text
 abbrev pub NoneOf : (Line → Type 0) → ReaderState → List ℕ → Type 0

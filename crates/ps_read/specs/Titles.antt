@@ -1,7 +1,11 @@
 -- What a line tells, put together from its parts, and what a reader of such a line answers: what it tells and that it tells
 -- nothing else, or that it tells nothing of this sort.
 use Rattle.std.specs.Prelude.{◌≡◌, ℕ, ℤ, ◌≤◌, ◌^◌, List, Option, MatchOption}
-use Rattle.{mus_units.specs.declared.glyph.Size.{Size}, ps_text.specs.{Document.title_line, Document.join_line, Document.rules_line, Line.mark_line, Range.IsNumber, Range.IsTitle, Range.IsPageMark, declared.marks.PageMark.PageMark}}
+use Rattle.mus_units.specs.declared.glyph.Size.{Size}
+use Rattle.ps_text.specs.Document.{title_line, join_line, rules_line}
+use Rattle.ps_text.specs.Line.{mark_line}
+use Rattle.ps_text.specs.Range.{IsNumber, IsTitle, IsPageMark}
+use Rattle.ps_text.specs.declared.marks.PageMark.{PageMark}
 use Rattle.ps_read.specs.{declared.lines.Rules.Rules, declared.lines.Title.Title, declared.state.Joined.Joined}
 
 abbrev pub title_of : ℤ → ℤ → Size → List ℕ → Title

@@ -1,6 +1,9 @@
-ghost use Rattle.std.specs.Prelude.{◌≡◌, ℕ, ℤ, pos, ◌+◌, ◌<◌, ◌≤◌, ◌^◌, List, [], ◌∷◌, Some, MatchOption, IfOk, IfSome, Decides};
+ghost use Rattle.std.specs.Prelude.{◌≡◌, ℕ, ℤ, pos, ◌+◌, ◌<◌, ◌≤◌, ◌^◌, List, [], ◌∷◌, Some, MatchOption, IfOk, IfSome};
+ghost use Rattle.std.specs.Prelude.{Decides};
 ghost use Rattle.mus_units.specs.declared.glyph.Size.{Size};
-ghost use Rattle.ps_text.specs.{Document.title_line, Document.join_line, Document.rules_line, Document.heading_line, Document.staff_line, Document.count_line, Names.size_name, Range.IsNumber, Range.IsTitle};
+ghost use Rattle.ps_text.specs.Document.{title_line, join_line, rules_line, heading_line, staff_line, count_line};
+ghost use Rattle.ps_text.specs.Names.{size_name};
+ghost use Rattle.ps_text.specs.Range.{IsNumber, IsTitle};
 ghost use Rattle.ps_read.specs.Titles.{title_of, rules_of, joined_of, IsTitleRead, IsJoinRead, IsRulesRead};
 
 use crate::state::Joined;

@@ -1,5 +1,6 @@
 ghost use Rattle.std.specs.Prelude.{◌≡◌, ◌+◌, ◌<◌, ◌^◌, length, IfOk, Decides};
-ghost use Rattle.{ps_text.specs.Document.{heading_line}, ps_read.specs.Steps.{IsStep, IsStepOf, IsItemLine, IsSystemLine}};
+ghost use Rattle.ps_text.specs.Document.{heading_line};
+ghost use Rattle.ps_read.specs.Steps.{IsStep, IsStepOf, IsItemLine, IsSystemLine};
 ghost use Rattle.ps_read.specs.declared.state.ReaderState.TheVariants as at;
 
 use crate::lines::{Title, is_count, is_heading, is_text, read_title};

@@ -1,6 +1,11 @@
-ghost use Rattle.std.specs.Prelude.{◌≡◌, ◌<◌, ◌^◌, ◌++◌, ℕ, List, Some, MatchOption, IfOk, IfSome, Decides, ◌+◌, ◌/◌, ◌%◌, [], ◌≤◌};
-ghost use Rattle.{glyph_paths.specs.Names.{glyphs_in_order}, ps_text.specs.Prolog.{percent, page_line, glyph_lines, last_text}};
-ghost use Rattle.{ps_read.specs.{ReaderStates.after_prolog, Lines.IsFirstLine, Lines.behind_line, Steps.IsStep}, eng_lines.specs.Lines.{Lacks}};
+ghost use Rattle.std.specs.Prelude.{◌≡◌, ◌<◌, ◌^◌, ◌++◌, ℕ, List, Some, MatchOption, IfOk, IfSome, Decides, ◌+◌, ◌/◌};
+ghost use Rattle.std.specs.Prelude.{◌%◌, [], ◌≤◌};
+ghost use Rattle.glyph_paths.specs.Names.{glyphs_in_order};
+ghost use Rattle.ps_text.specs.Prolog.{percent, page_line, glyph_lines, last_text};
+ghost use Rattle.ps_read.specs.ReaderStates.{after_prolog};
+ghost use Rattle.ps_read.specs.Lines.{IsFirstLine, behind_line};
+ghost use Rattle.ps_read.specs.Steps.{IsStep};
+ghost use Rattle.eng_lines.specs.Lines.{Lacks};
 ghost use Rattle.ps_read.specs.declared.state.ReaderState.TheVariants as at;
 
 use crate::lines::is_text;

@@ -1,5 +1,8 @@
 ghost use Rattle.std.specs.Prelude.{IfOk, IfErr, MatchOption, ◌≡◌};
-ghost use Rattle.{ps_read.specs.{Answers.IsDocumentRead, Answers.IsCause, Laws.GoodByLines, Laws.NoPrefix, Steps.IsStep}, eng_lines.specs.Lines.{Lacks}};
+ghost use Rattle.ps_read.specs.Answers.{IsDocumentRead, IsCause};
+ghost use Rattle.ps_read.specs.Laws.{GoodByLines, NoPrefix};
+ghost use Rattle.ps_read.specs.Steps.{IsStep};
+ghost use Rattle.eng_lines.specs.Lines.{Lacks};
 ghost use Rattle.ps_read.specs.declared.state.ReaderState.TheVariants as at;
 ghost use Rattle.ps_read.specs.declared.reading.PagesError.TheVariants as answer;
 ghost use Rattle.ps_text.specs.declared.sheet.Sheet.{Sheet};

@@ -1,6 +1,8 @@
 ghost use Rattle.std.specs.{Prelude.{◌≡◌, ◌+◌, IfOk, Decides}, Option.{option_map}};
 ghost use Rattle.ps_text.specs.{Document.staff_line, Range.IsNumber};
-ghost use Rattle.ps_read.specs.{ReaderStates.IsUnderTop, ReaderStates.MayEnd, Steps.IsStep, Steps.IsStepOf, Steps.IsJoinLine, Steps.IsItemLine, Steps.IsNoMark, Titles.IsMarkRead};
+ghost use Rattle.ps_read.specs.ReaderStates.{IsUnderTop, MayEnd};
+ghost use Rattle.ps_read.specs.Steps.{IsStep, IsStepOf, IsJoinLine, IsItemLine, IsNoMark};
+ghost use Rattle.ps_read.specs.Titles.{IsMarkRead};
 ghost use Rattle.ps_read.specs.declared.state.ReaderState.TheVariants as at;
 
 use crate::lines::{Rules, is_staff_line, read_join, read_rules};

@@ -3,7 +3,12 @@
 -- y, and the words in parentheses, spelled as on a page. One space stands between two parts. A run that halts has one line:
 -- the number of tokens that were executed before, and the cause.
 use Rattle.std.specs.{Prelude.{ℕ, ℤ, List, [], ◌∷◌, ◌++◌, codes, decimal, flat_map}, Fmt.signed_decimal}
-use Rattle.{ps_text.specs.{Document.numbered, Fields.quoted}, ps_steps.specs.{declared.halt.Cause.Cause, declared.paint.Seg.Seg, declared.paint.Paint.Paint, declared.paint.PagePaint.PagePaint}}
+use Rattle.ps_text.specs.Document.{numbered}
+use Rattle.ps_text.specs.Fields.{quoted}
+use Rattle.ps_steps.specs.declared.halt.Cause.{Cause}
+use Rattle.ps_steps.specs.declared.paint.Seg.{Seg}
+use Rattle.ps_steps.specs.declared.paint.Paint.{Paint}
+use Rattle.ps_steps.specs.declared.paint.PagePaint.{PagePaint}
 
 -- numbers in decimal, a space before each
 unfoldable pub spaced : List ℤ → List ℕ

@@ -1,7 +1,18 @@
 -- What `inspect` prints of a sheet: a line for the frame, each page, each item, each staff and each mark, and last the number of pages.
-use Rattle.std.specs.{Prelude.ℕ, Prelude.ℤ, Prelude.pos, Prelude.List, Prelude.[], Prelude.◌∷◌, Prelude.◌++◌, Prelude.length, Prelude.codes, Prelude.decimal, List.flat_map}
-use Rattle.{mus_units.specs.declared.glyph.Size.{Size}, glyph_paths.specs.Names.{glyph_name}, ps_reports.specs.PaintText.{spaced}}
-use Rattle.ps_text.specs.{Fields.quoted, Names.size_name, Names.way_name, Document.numbered, declared.marks.PageMark.PageMark, declared.sheet.Frame.Frame, declared.sheet.Staff.Staff, declared.sheet.Item.Item, declared.sheet.Page.Page, declared.sheet.Sheet.Sheet}
+use Rattle.std.specs.Prelude.{ℕ, ℤ, pos, List, [], ◌∷◌, ◌++◌, length, codes, decimal}
+use Rattle.std.specs.List.{flat_map}
+use Rattle.mus_units.specs.declared.glyph.Size.{Size}
+use Rattle.glyph_paths.specs.Names.{glyph_name}
+use Rattle.ps_reports.specs.PaintText.{spaced}
+use Rattle.ps_text.specs.Fields.{quoted}
+use Rattle.ps_text.specs.Names.{size_name, way_name}
+use Rattle.ps_text.specs.Document.{numbered}
+use Rattle.ps_text.specs.declared.marks.PageMark.{PageMark}
+use Rattle.ps_text.specs.declared.sheet.Frame.{Frame}
+use Rattle.ps_text.specs.declared.sheet.Staff.{Staff}
+use Rattle.ps_text.specs.declared.sheet.Item.{Item}
+use Rattle.ps_text.specs.declared.sheet.Page.{Page}
+use Rattle.ps_text.specs.declared.sheet.Sheet.{Sheet}
 
 -- a line of a kind and numbers
 unfoldable pub plain_line : List ℕ → List ℤ → List ℕ

@@ -1,7 +1,9 @@
 //! Pages as text.
 
-ghost use Rattle.std.specs.{Prelude.◌≡◌, Prelude.◌++◌, Prelude.◌∷◌, Prelude.[], Prelude.codes, Prelude.flat_map, Prelude.OnOk, Fmt.signed_decimal};
-ghost use Rattle.{ps_text.specs.Fields.{quoted}, ps_reports.specs.PaintText.{spaced, seg_text, paint_line, painted_page, paint_text}};
+ghost use Rattle.std.specs.Prelude.{◌≡◌, ◌++◌, ◌∷◌, [], codes, flat_map, OnOk};
+ghost use Rattle.std.specs.Fmt.{signed_decimal};
+ghost use Rattle.ps_text.specs.Fields.{quoted};
+ghost use Rattle.ps_reports.specs.PaintText.{spaced, seg_text, paint_line, painted_page, paint_text};
 
 use eng_lines::put_number;
 use itoa::Buffer;

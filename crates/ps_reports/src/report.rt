@@ -1,6 +1,8 @@
 ghost use Rattle.std.specs.Prelude.{◌≡◌, ◌++◌, decimal, OnOk, IfOk};
 ghost use Rattle.ps_text.specs.Document.{numbered};
-ghost use Rattle.ps_reports.specs.SheetText.{plain_line, named_line, report_words_line, mark_report, marks_report, staff_report, system_report, item_report, items_report, page_report, frame_report, sheet_report};
+ghost use Rattle.ps_reports.specs.SheetText.{plain_line, named_line, report_words_line, mark_report, marks_report};
+ghost use Rattle.ps_reports.specs.SheetText.{staff_report, system_report, item_report, items_report, page_report};
+ghost use Rattle.ps_reports.specs.SheetText.{frame_report, sheet_report};
 
 use crate::put_spaced;
 use eng_lines::put_number;

@@ -1,8 +1,19 @@
 -- What a token does to the state, and why it may not. A number, a string, a label and a procedure are pushed; the font's line makes the
 -- font; a name calls the procedure that it was given, or else is one of the operators. An operator halts where it has too few operands
 -- (Stack), else where one is of another kind (Kind), and then for what is its own. A number with a point is an operand of `scale` alone.
-use Rattle.std.specs.{Prelude.{ℕ, zero, suc, ℤ, pos, ◌+ℤ◌, ◌*ℤ◌, int_le, int_div, int_rem, Bool, true, false, ◌&&◌, List, [], ◌∷◌, ◌++◌, codes, Option, Some, None}, Str.bytes_eq, Map.update}
-use Rattle.ps_steps.specs.{declared.{halt.Cause.Cause, paint.{Seg.Seg, Paint.Paint}}, Tokens.{SimpleToken, whole_token, pointed_token, far_token, words_token, label_token, name_token, font_token, MachineToken, simple_token, procedure_token}, Near.is_near, Points.current, State.{Operand, whole_value, pointed_value, words_value, label_value, body_value, font_value, Graphics, Names, State}}
+use Rattle.std.specs.Prelude.{ℕ, zero, suc, ℤ, pos, ◌+ℤ◌, ◌*ℤ◌, int_le, int_div, int_rem, Bool, true, false, ◌&&◌, List}
+use Rattle.std.specs.Prelude.{[], ◌∷◌, ◌++◌, codes, Option, Some, None}
+use Rattle.std.specs.Str.{bytes_eq}
+use Rattle.std.specs.Map.{update}
+use Rattle.ps_steps.specs.declared.halt.Cause.{Cause}
+use Rattle.ps_steps.specs.declared.paint.Seg.{Seg}
+use Rattle.ps_steps.specs.declared.paint.Paint.{Paint}
+use Rattle.ps_steps.specs.Tokens.{SimpleToken, whole_token, pointed_token, far_token, words_token, label_token}
+use Rattle.ps_steps.specs.Tokens.{name_token, font_token, MachineToken, simple_token, procedure_token}
+use Rattle.ps_steps.specs.Near.{is_near}
+use Rattle.ps_steps.specs.Points.{current}
+use Rattle.ps_steps.specs.State.{Operand, whole_value, pointed_value, words_value, label_value, body_value, font_value}
+use Rattle.ps_steps.specs.State.{Graphics, Names, State}
 
 -- a token changes the state, and may call for the tokens of a procedure; or the run halts there
 pub data Outcome : Type 0 where

@@ -1,8 +1,13 @@
 -- The state of the machine: the operand stack, the definitions, whether the font was made, the graphics state with the
 -- path, the saved ones, what was painted on the page so far, and the pages before it.
-use Rattle.{std.specs.Prelude.{ℕ, pos, Bool, false, List, [], Option, None}, ps_steps.specs.{declared.paint.Paint.Paint, declared.paint.PagePaint.PagePaint, Tokens.SimpleToken}}
+use Rattle.std.specs.Prelude.{ℕ, pos, Bool, false, List, [], Option, None}
+use Rattle.ps_steps.specs.declared.paint.Paint.{Paint}
+use Rattle.ps_steps.specs.declared.paint.PagePaint.{PagePaint}
+use Rattle.ps_steps.specs.Tokens.{SimpleToken}
 pub use Rattle.ps_steps.specs.{declared.value.Operand.Operand, declared.graphics.Graphics.Graphics}
-pub use Rattle.ps_steps.specs.declared.value.Operand.TheVariants.{Whole as whole_value, Pointed as pointed_value, Words as words_value, Label as label_value, Body as body_value, Font as font_value}
+pub use Rattle.ps_steps.specs.declared.value.Operand.TheVariants.{Whole as whole_value, Pointed as pointed_value}
+pub use Rattle.ps_steps.specs.declared.value.Operand.TheVariants.{Words as words_value, Label as label_value}
+pub use Rattle.ps_steps.specs.declared.value.Operand.TheVariants.{Body as body_value, Font as font_value}
 
 -- the procedure that a name was given, if any
 abbrev pub Names : Type 0

@@ -1,6 +1,12 @@
 -- Runs: the steps of the machine, and its answers.
 use Rattle.std.specs.Prelude.{◌≡◌, ℕ, zero, suc, ◌<◌, ◌≤◌, false, List, [], ◌∷◌, ◌++◌}
-use Rattle.ps_steps.specs.{declared.{halt.{Cause.Cause, MachineError.{MachineError, TheVariants.{Halt, Memory}}}, paint.PagePaint.PagePaint}, Tokens.{SimpleToken, MachineToken, simple_token, TokenAt, NoToken, passed}, State.{State, first_state}, Operators.{went, halted, executed}}
+use Rattle.ps_steps.specs.declared.halt.Cause.{Cause}
+use Rattle.ps_steps.specs.declared.halt.MachineError.{MachineError}
+use Rattle.ps_steps.specs.declared.halt.MachineError.TheVariants.{Halt, Memory}
+use Rattle.ps_steps.specs.declared.paint.PagePaint.{PagePaint}
+use Rattle.ps_steps.specs.Tokens.{SimpleToken, MachineToken, simple_token, TokenAt, NoToken, passed}
+use Rattle.ps_steps.specs.State.{State, first_state}
+use Rattle.ps_steps.specs.Operators.{went, halted, executed}
 
 -- where a run stands: the tokens of procedures that are still to be executed, the state, and the text that is left,
 -- which begins with no blank and no comment

@@ -5,11 +5,22 @@
 -- slash and a name are a label. A string is spelled in parentheses, as a page spells words. The line that makes the font
 -- is one token. A procedure from its `{` to its `}` is one token, and has no other procedure in it.
 use Prim.Native.Char.{code}
-use Rattle.std.specs.{Prelude.{◌≡◌, ℕ, ℤ, pos, neg_ℤ, ◌-◌, ◌≤◌, Bool, true, false, ◌&&◌, ◌||◌, not, ◌==◌, IsTrue, if◌then◌else◌, List, [], ◌∷◌, ◌++◌, length, take, drop, codes, Option, Some, None}, List.{list_all, flat_map}, Str.Parse.digits_value}
-use Rattle.{mus_units.specs.Bytes.{is_digit, is_letter}, ps_text.specs.{Fields.shown, Range.is_shown}, ps_steps.specs.{Near.is_near, Near.is_near_hundredths, declared.halt.Cause.Cause}}
+use Rattle.std.specs.Prelude.{◌≡◌, ℕ, ℤ, pos, neg_ℤ, ◌-◌, ◌≤◌, Bool, true, false, ◌&&◌, ◌||◌, not, ◌==◌, IsTrue}
+use Rattle.std.specs.Prelude.{if◌then◌else◌, List, [], ◌∷◌, ◌++◌, length, take, drop, codes, Option, Some, None}
+use Rattle.std.specs.List.{list_all, flat_map}
+use Rattle.std.specs.Str.Parse.{digits_value}
+use Rattle.mus_units.specs.Bytes.{is_digit, is_letter}
+use Rattle.ps_text.specs.Fields.{shown}
+use Rattle.ps_text.specs.Range.{is_shown}
+use Rattle.ps_steps.specs.Near.{is_near, is_near_hundredths}
+use Rattle.ps_steps.specs.declared.halt.Cause.{Cause}
 pub use Rattle.ps_steps.specs.{declared.token.SimpleToken.SimpleToken, declared.token.MachineToken.MachineToken}
-pub use Rattle.ps_steps.specs.declared.token.SimpleToken.TheVariants.{Whole as whole_token, Pointed as pointed_token, Far as far_token, Words as words_token, Label as label_token, Name as name_token, Font as font_token}
-pub use Rattle.ps_steps.specs.declared.token.MachineToken.TheVariants.{Simple as simple_token, Procedure as procedure_token}
+pub use Rattle.ps_steps.specs.declared.token.SimpleToken.TheVariants.{Whole as whole_token, Pointed as pointed_token}
+pub use Rattle.ps_steps.specs.declared.token.SimpleToken.TheVariants.{Far as far_token, Words as words_token}
+pub use Rattle.ps_steps.specs.declared.token.SimpleToken.TheVariants.{Label as label_token, Name as name_token}
+pub use Rattle.ps_steps.specs.declared.token.SimpleToken.TheVariants.{Font as font_token}
+pub use Rattle.ps_steps.specs.declared.token.MachineToken.TheVariants.{Simple as simple_token}
+pub use Rattle.ps_steps.specs.declared.token.MachineToken.TheVariants.{Procedure as procedure_token}
 
 -- space, tab, CR and LF
 abbrev pub is_white_space : ℕ → Bool

@@ -1,9 +1,32 @@
 -- A mark is found again from its numbers and its name.
-use Rattle.std.{proofs.{Common.{Result, Ok, Err, IfOk, cond, int_div, ◌<◌, ◌≤◌, ◌^◌, suc, ◌≡◌, refl, sym, ◌∙◌, subst, ℕ, ℤ, pos, negsuc, ◌+ℤ◌, ◌-ℤ◌, ◌≤ℤ◌, Bool, true, false, not, ◌&&◌, List, [], ◌∷◌, ◌++◌, append_assoc, length, codes, Option, Some, None, IsTrue, arith, lit≤}, lemmas.{Int.ints, Fmt.decimal_is_IsNumeral, Bool.{not-true, and_parts}}}, specs.{Fmt.{decimal, signed_decimal}, Str.{Parse.AllDigits, bytes_eq}, Int.RustNames.FitsSigned, List.{list_all, AllByRecursion, flat_map}}}
+use Rattle.std.proofs.Common.{Result, Ok, Err, IfOk, cond, int_div, ◌<◌, ◌≤◌, ◌^◌, suc, ◌≡◌, refl, sym, ◌∙◌, subst, ℕ}
+use Rattle.std.proofs.Common.{ℤ, pos, negsuc, ◌+ℤ◌, ◌-ℤ◌, ◌≤ℤ◌, Bool, true, false, not, ◌&&◌, List, [], ◌∷◌, ◌++◌}
+use Rattle.std.proofs.Common.{append_assoc, length, codes, Option, Some, None, IsTrue, arith, lit≤}
+use Rattle.std.proofs.lemmas.Int.{ints}
+use Rattle.std.proofs.lemmas.Fmt.{decimal_is_IsNumeral}
+use Rattle.std.proofs.lemmas.Bool.{not-true, and_parts}
+use Rattle.std.specs.Fmt.{decimal, signed_decimal}
+use Rattle.std.specs.Str.Parse.{AllDigits}
+use Rattle.std.specs.Str.{bytes_eq}
+use Rattle.std.specs.Int.RustNames.{FitsSigned}
+use Rattle.std.specs.List.{list_all, AllByRecursion, flat_map}
 use lib.Signed.{mag}
 use mir.Syntax.{w64}
-use Rattle.ps_text.{specs.{Fields.{shown, in_parentheses}, declared.marks.PageMark.PageMark, Names.{size_name, way_name}, Range.{IsNumber, IsOffset, IsPageMark, is_shown}, Line.{mark_line, glyph_line, stem_line, beam_line, arc_line, words_line, points, ends_of, quarter}, Scanning.is_field_byte, Reading.{is_small, glyph_named, glyph_at, glyph_from, words_at, words_from, stem_at, stem_from, offset_from, beam_from, arc_from, mark_from}}, proofs.Taken.numbers_cons}
-use Rattle.{mus_units.specs.{declared.glyph.Glyph.Glyph, declared.glyph.Size.Size, declared.glyph.Way.Way}, glyph_paths.specs.{Names.glyph_name, Names.glyphs_in_order, Procedure.numbers}}
+use Rattle.ps_text.specs.Fields.{shown, in_parentheses}
+use Rattle.ps_text.specs.declared.marks.PageMark.{PageMark}
+use Rattle.ps_text.specs.Names.{size_name, way_name}
+use Rattle.ps_text.specs.Range.{IsNumber, IsOffset, IsPageMark, is_shown}
+use Rattle.ps_text.specs.Line.{mark_line, glyph_line, stem_line, beam_line, arc_line, words_line, points, ends_of}
+use Rattle.ps_text.specs.Line.{quarter}
+use Rattle.ps_text.specs.Scanning.{is_field_byte}
+use Rattle.ps_text.specs.Reading.{is_small, glyph_named, glyph_at, glyph_from, words_at, words_from, stem_at, stem_from}
+use Rattle.ps_text.specs.Reading.{offset_from, beam_from, arc_from, mark_from}
+use Rattle.ps_text.proofs.Taken.{numbers_cons}
+use Rattle.mus_units.specs.declared.glyph.Glyph.{Glyph}
+use Rattle.mus_units.specs.declared.glyph.Size.{Size}
+use Rattle.mus_units.specs.declared.glyph.Way.{Way}
+use Rattle.glyph_paths.specs.Names.{glyph_name, glyphs_in_order}
+use Rattle.glyph_paths.specs.Procedure.{numbers}
 
 pub small_low : (z : ℤ) → is_small z ≡ true → negsuc 2147483647 ≤ℤ z
 unfolding is_small

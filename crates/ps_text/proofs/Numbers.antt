@@ -1,5 +1,18 @@
 -- Numbers of a page, as they stand in a line.
-use Rattle.std.{proofs.{Common.{◌≡◌, ℕ, ℤ, pos, negsuc, ◌<◌, ◌^◌, Bool, true, false, not, ◌==◌, List, [], ◌∷◌, ◌++◌, length, take, drop, append_assoc, ap, refl, sym, ◌∙◌, arith, suc, ◌-◌, int_le, unsigned_abs, true≢false}, lemmas.{Bool.{Decides.nat_tests, and_parts}, Grind.flat_map-append, Int.ints, Fmt.decimal_is_IsNumeral}, Math.Seq.{take-append_seam, drop-append_seam, take-length, drop-length}}, specs.{Fmt.{decimal, signed_decimal}, List.{prefix_len, list_all}, Str.Parse.AllDigits, Char.digit_value, Int.RustNames.FitsSigned}}
+use Rattle.std.proofs.Common.{◌≡◌, ℕ, ℤ, pos, negsuc, ◌<◌, ◌^◌, Bool, true, false, not, ◌==◌, List, [], ◌∷◌, ◌++◌}
+use Rattle.std.proofs.Common.{length, take, drop, append_assoc, ap, refl, sym, ◌∙◌, arith, suc, ◌-◌, int_le}
+use Rattle.std.proofs.Common.{unsigned_abs, true≢false}
+use Rattle.std.proofs.lemmas.Bool.Decides.{nat_tests}
+use Rattle.std.proofs.lemmas.Bool.{and_parts}
+use Rattle.std.proofs.lemmas.Grind.{flat_map-append}
+use Rattle.std.proofs.lemmas.Int.{ints}
+use Rattle.std.proofs.lemmas.Fmt.{decimal_is_IsNumeral}
+use Rattle.std.proofs.Math.Seq.{take-append_seam, drop-append_seam, take-length, drop-length}
+use Rattle.std.specs.Fmt.{decimal, signed_decimal}
+use Rattle.std.specs.List.{prefix_len, list_all}
+use Rattle.std.specs.Str.Parse.{AllDigits}
+use Rattle.std.specs.Char.{digit_value}
+use Rattle.std.specs.Int.RustNames.{FitsSigned}
 use Rattle.glyph_paths.specs.Procedure.{numbers}
 use lib.Dec.{leb-zero}
 use lib.Signed.{mag}

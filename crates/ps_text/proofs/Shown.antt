@@ -1,5 +1,7 @@
 -- The ways in which a byte is shown.
-use Rattle.std.proofs.{Common.{◌≡◌, ℕ, ◌+◌, ◌<◌, ◌≤◌, ◌/◌, ◌%◌, Bool, true, false, ◌==◌, List, [], ◌∷◌, ◌++◌, refl, IsTrue, arith, nat_le, sym, get_or}, lemmas.Bool.Decides.nat_tests}
+use Rattle.std.proofs.Common.{◌≡◌, ℕ, ◌+◌, ◌<◌, ◌≤◌, ◌/◌, ◌%◌, Bool, true, false, ◌==◌, List, [], ◌∷◌, ◌++◌, refl}
+use Rattle.std.proofs.Common.{IsTrue, arith, nat_le, sym, get_or}
+use Rattle.std.proofs.lemmas.Bool.Decides.{nat_tests}
 use Rattle.ps_text.specs.{Fields.is_special, Fields.shown, Range.is_shown}
 
 pub shown_open : shown 40 ≡ 92 ∷ 40 ∷ []

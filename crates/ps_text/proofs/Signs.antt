@@ -1,5 +1,7 @@
 -- Signed numbers that were passed to a function are those numbers.
-use Rattle.std.proofs.{Common.◌≡◌, Common.◌∙◌, Common.◌<◌, Common.ℤ, Common.of_z, Common.to_z, lemmas.Grind.common_steps, lemmas.Int.ints, lemmas.Int.to_z-of_z}
+use Rattle.std.proofs.Common.{◌≡◌, ◌∙◌, ◌<◌, ℤ, of_z, to_z}
+use Rattle.std.proofs.lemmas.Grind.{common_steps}
+use Rattle.std.proofs.lemmas.Int.{ints, to_z-of_z}
 use mir.Syntax.{w32, w64}
 use mir.Val.{SFits}
 use lib.Signed.{mag}

@@ -1,6 +1,12 @@
 -- What is left to be taken from the front of a line.
-use Rattle.std.{proofs.{Common.{◌≡◌, ℕ, ℤ, List, [], ◌∷◌, ◌++◌, refl, sym, ◌∙◌, append_assoc, append-nil, IsTrue}, lemmas.Bool.and_parts}, specs.{Fmt.signed_decimal, List.{flat_map, list_all, AllByRecursion}}}
-use Rattle.{glyph_paths.specs.Procedure.{numbers}, ps_text.specs.{Fields.shown, Range.is_shown, Range.IsNumber, Scanning.ReadsNumber}}
+use Rattle.std.proofs.Common.{◌≡◌, ℕ, ℤ, List, [], ◌∷◌, ◌++◌, refl, sym, ◌∙◌, append_assoc, append-nil, IsTrue}
+use Rattle.std.proofs.lemmas.Bool.{and_parts}
+use Rattle.std.specs.Fmt.{signed_decimal}
+use Rattle.std.specs.List.{flat_map, list_all, AllByRecursion}
+use Rattle.glyph_paths.specs.Procedure.{numbers}
+use Rattle.ps_text.specs.Fields.{shown}
+use Rattle.ps_text.specs.Range.{is_shown, IsNumber}
+use Rattle.ps_text.specs.Scanning.{ReadsNumber}
 
 -- some words were taken, and the others stand before a closing parenthesis
 pub record WordsLeft (text rest words tail : List ℕ) : Type 0 where

@@ -1,7 +1,18 @@
 -- The text of items, pages and documents, each line ended by an LF.
 use Rattle.std.specs.{Prelude.{◌≡◌, ℕ, ℤ, pos, ◌+◌, ◌+ℤ◌, List, [], ◌∷◌, ◌++◌, length, codes, decimal}, List.flat_map}
-use Rattle.{mus_units.specs.declared.glyph.Size.{Size}, glyph_paths.specs.{Characters.line_end, Characters.space, Procedure.numbers}}
-use Rattle.ps_text.specs.{Fields.in_parentheses, Line.mark_line, Names.size_name, Prolog.prolog, Range.IsSheet, declared.marks.PageMark.PageMark, declared.sheet.Staff.Staff, declared.sheet.Item.Item, declared.sheet.Page.Page, declared.sheet.Sheet.Sheet}
+use Rattle.mus_units.specs.declared.glyph.Size.{Size}
+use Rattle.glyph_paths.specs.Characters.{line_end, space}
+use Rattle.glyph_paths.specs.Procedure.{numbers}
+use Rattle.ps_text.specs.Fields.{in_parentheses}
+use Rattle.ps_text.specs.Line.{mark_line}
+use Rattle.ps_text.specs.Names.{size_name}
+use Rattle.ps_text.specs.Prolog.{prolog}
+use Rattle.ps_text.specs.Range.{IsSheet}
+use Rattle.ps_text.specs.declared.marks.PageMark.{PageMark}
+use Rattle.ps_text.specs.declared.sheet.Staff.{Staff}
+use Rattle.ps_text.specs.declared.sheet.Item.{Item}
+use Rattle.ps_text.specs.declared.sheet.Page.{Page}
+use Rattle.ps_text.specs.declared.sheet.Sheet.{Sheet}
 
 -- the text of a numbered thing for each of a list, the first with the number k
 abbrev pub numbered : {A : Type 0} → (ℕ → A → List ℕ) → ℕ → List A → List ℕ

@@ -1,7 +1,14 @@
 -- The line that spells a mark on a staff at y, without the LF that ends it.
 use Rattle.std.specs.Prelude.{ℕ, ℤ, pos, ◌+ℤ◌, ◌-ℤ◌, int_div, List, [], ◌∷◌, ◌++◌, codes}
-use Rattle.{mus_units.specs.{declared.glyph.Glyph.Glyph, declared.glyph.Size.Size, declared.glyph.Way.Way}, glyph_paths.specs.{Names.glyph_name, Procedure.numbers}}
-use Rattle.ps_text.specs.{Fields.in_parentheses, Names.size_name, Names.way_name, declared.writing.Ends.Ends, declared.marks.PageMark.PageMark}
+use Rattle.mus_units.specs.declared.glyph.Glyph.{Glyph}
+use Rattle.mus_units.specs.declared.glyph.Size.{Size}
+use Rattle.mus_units.specs.declared.glyph.Way.{Way}
+use Rattle.glyph_paths.specs.Names.{glyph_name}
+use Rattle.glyph_paths.specs.Procedure.{numbers}
+use Rattle.ps_text.specs.Fields.{in_parentheses}
+use Rattle.ps_text.specs.Names.{size_name, way_name}
+use Rattle.ps_text.specs.declared.writing.Ends.{Ends}
+use Rattle.ps_text.specs.declared.marks.PageMark.{PageMark}
 
 unfoldable pub glyph_line : Glyph → ℤ → ℤ → ℤ → ℤ → List ℕ
 glyph_line glyph x dx dy y = numbers (dx ∷ dy ∷ x ∷ y ∷ []) ++ glyph_name glyph

@@ -1,7 +1,10 @@
 -- The prolog of a document: the fixed lines, the lines that give the paper, and a procedure for each glyph.
 use Rattle.std.specs.{Prelude.{ℕ, ◌/◌, ◌%◌, List, [], ◌∷◌, ◌++◌, codes, decimal}, List.flat_map}
 use Rattle.mus_units.specs.declared.glyph.Glyph.{Glyph}
-use Rattle.{glyph_paths.specs.{Characters.digit, Characters.line_end, Characters.point, Characters.space, Names.glyphs_in_order, Procedure.procedure_text}, ps_text.specs.declared.sheet.Frame.{Frame}}
+use Rattle.glyph_paths.specs.Characters.{digit, line_end, point, space}
+use Rattle.glyph_paths.specs.Names.{glyphs_in_order}
+use Rattle.glyph_paths.specs.Procedure.{procedure_text}
+use Rattle.ps_text.specs.declared.sheet.Frame.{Frame}
 
 -- a percent as a number with two decimals
 unfoldable pub percent : ℕ → List ℕ

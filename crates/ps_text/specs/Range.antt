@@ -1,6 +1,13 @@
 -- What may stand on a page: the range of each number, and for each type the values that have a text.
-use Rattle.std.specs.{Prelude.{ℕ, ℤ, pos, negsuc, ◌^◌, ◌<◌, ◌≤◌, ◌+ℤ◌, ◌<ℤ◌, ◌≤ℤ◌, Bool, ◌&&◌, ◌||◌, nat_le, IsTrue, List, [], ◌∷◌, length, All, ⊤}, List.list_all}
-use Rattle.ps_text.specs.declared.{marks.PageMark.PageMark, sheet.Frame.Frame, sheet.Staff.Staff, sheet.Item.Item, sheet.Page.Page, sheet.Sheet.Sheet}
+use Rattle.std.specs.Prelude.{ℕ, ℤ, pos, negsuc, ◌^◌, ◌<◌, ◌≤◌, ◌+ℤ◌, ◌<ℤ◌, ◌≤ℤ◌, Bool, ◌&&◌, ◌||◌, nat_le, IsTrue}
+use Rattle.std.specs.Prelude.{List, [], ◌∷◌, length, All, ⊤}
+use Rattle.std.specs.List.{list_all}
+use Rattle.ps_text.specs.declared.marks.PageMark.{PageMark}
+use Rattle.ps_text.specs.declared.sheet.Frame.{Frame}
+use Rattle.ps_text.specs.declared.sheet.Staff.{Staff}
+use Rattle.ps_text.specs.declared.sheet.Item.{Item}
+use Rattle.ps_text.specs.declared.sheet.Page.{Page}
+use Rattle.ps_text.specs.declared.sheet.Sheet.{Sheet}
 
 -- a number of a page is within 2^40 of 0
 pub record IsNumber (z : ℤ) : Type 0 where

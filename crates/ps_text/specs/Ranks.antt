@@ -1,5 +1,7 @@
 -- Ranks read off a page: the marks of a staff, each abscissa replaced by the number of smaller anchors of its system.
-use Rattle.std.specs.{Prelude.{ℕ, ℤ, pos, ◌+◌, Bool, ◌&&◌, not, int_lt, int_le, if◌then◌else◌, List, [], ◌∷◌, flat_map, Option, Some, None}, List.list_any}
+use Rattle.std.specs.Prelude.{ℕ, ℤ, pos, ◌+◌, Bool, ◌&&◌, not, int_lt, int_le, if◌then◌else◌, List, [], ◌∷◌, flat_map}
+use Rattle.std.specs.Prelude.{Option, Some, None}
+use Rattle.std.specs.List.{list_any}
 use Rattle.ps_text.specs.{declared.marks.PageMark.PageMark, declared.sheet.Staff.Staff}
 
 -- a step that may give nothing

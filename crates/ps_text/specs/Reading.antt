@@ -1,7 +1,13 @@
 -- Between a mark and its line: the mark that some numbers and a name may be, as the reader finds it. The promise of the
 -- reader is that it gives the one mark that spells the line.
-use Rattle.std.specs.{Prelude.{ℕ, ℤ, pos, negsuc, ◌-ℤ◌, Bool, ◌&&◌, ◌==◌, int_le, if◌then◌else◌, List, length, codes, find, Option, Some, None, slice_index_or}, Str.bytes_eq}
-use Rattle.{mus_units.specs.{declared.glyph.Glyph.Glyph, declared.glyph.Size.Size, declared.glyph.Way.Way}, glyph_paths.specs.Names.{glyph_name, glyphs_in_order}, ps_text.specs.declared.marks.PageMark.{PageMark}}
+use Rattle.std.specs.Prelude.{ℕ, ℤ, pos, negsuc, ◌-ℤ◌, Bool, ◌&&◌, ◌==◌, int_le, if◌then◌else◌, List, length, codes}
+use Rattle.std.specs.Prelude.{find, Option, Some, None, slice_index_or}
+use Rattle.std.specs.Str.{bytes_eq}
+use Rattle.mus_units.specs.declared.glyph.Glyph.{Glyph}
+use Rattle.mus_units.specs.declared.glyph.Size.{Size}
+use Rattle.mus_units.specs.declared.glyph.Way.{Way}
+use Rattle.glyph_paths.specs.Names.{glyph_name, glyphs_in_order}
+use Rattle.ps_text.specs.declared.marks.PageMark.{PageMark}
 
 -- a signed number of 32 bits
 unfoldable pub is_small : ℤ → Bool

@@ -1,5 +1,6 @@
 ghost use Rattle.std.specs.Prelude.{◌≡◌, ◌++◌, OnOk};
-ghost use Rattle.ps_text.specs.Prolog.{percent, first_text, box_start, procedures, page_start, page_end, last_text, box_line, scaling, page_line, glyph_lines, heading, prolog};
+ghost use Rattle.ps_text.specs.Prolog.{percent, first_text, box_start, procedures, page_start, page_end, last_text};
+ghost use Rattle.ps_text.specs.Prolog.{box_line, scaling, page_line, glyph_lines, heading, prolog};
 
 use crate::sheet::Frame;
 use eng_lines::{put_named, put_next, put_number};

@@ -1,5 +1,6 @@
 ghost use Rattle.std.specs.{Prelude.◌≡◌, Prelude.◌+ℤ◌, Prelude.◌↔◌, Prelude.◌≤◌, Prelude.IsTrue, List.list_all};
-ghost use Rattle.ps_text.specs.Range.{IsNearNumber, IsNumber, IsOffset, IsWords, IsArcEnd, IsPlacedMark, IsStem, IsStretch, IsSpan, is_shown};
+ghost use Rattle.ps_text.specs.Range.{IsNearNumber, IsNumber, IsOffset, IsWords, IsArcEnd, IsPlacedMark, IsStem};
+ghost use Rattle.ps_text.specs.Range.{IsStretch, IsSpan, is_shown};
 
 const LARGEST: i64 = 1_099_511_627_776;
 

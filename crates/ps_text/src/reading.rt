@@ -1,6 +1,18 @@
-ghost use Rattle.std.specs.{Prelude.{◌≡◌, ◌≤◌, ◌++◌, ◌∷◌, ◌-ℤ◌, ◌≤ℤ◌, pos, negsuc, ℕ, ℤ, List, Some, true, if◌then◌else◌, IfOk, IsTrue, MatchOption, length, ◌==◌, ◌↔◌}, List.{AllByRecursion, flat_map, list_all}, Str.bytes_eq};
-ghost use Rattle.glyph_paths.specs.{Characters.close_parenthesis, Characters.space, Names.glyph_name, Procedure.numbers};
-ghost use Rattle.ps_text.specs.{declared.marks.PageMark.PageMark, Fields.shown, Line.mark_line, Range.{IsNumber, IsPageMark, is_shown}, Scanning.is_field_byte, Reading.{is_small, glyph_named, glyph_at, glyph_from, words_at, size_named, words_from, stem_at, stem_from, offset_from, beam_at, beam_from, arc_at, arc_from, mark_from}};
+ghost use Rattle.std.specs.Prelude.{◌≡◌, ◌≤◌, ◌++◌, ◌∷◌, ◌-ℤ◌, ◌≤ℤ◌, pos, negsuc, ℕ, ℤ, List, Some, true};
+ghost use Rattle.std.specs.Prelude.{if◌then◌else◌, IfOk, IsTrue, MatchOption, length, ◌==◌, ◌↔◌};
+ghost use Rattle.std.specs.List.{AllByRecursion, flat_map, list_all};
+ghost use Rattle.std.specs.Str.{bytes_eq};
+ghost use Rattle.glyph_paths.specs.Characters.{close_parenthesis, space};
+ghost use Rattle.glyph_paths.specs.Names.{glyph_name};
+ghost use Rattle.glyph_paths.specs.Procedure.{numbers};
+ghost use Rattle.ps_text.specs.declared.marks.PageMark.{PageMark};
+ghost use Rattle.ps_text.specs.Fields.{shown};
+ghost use Rattle.ps_text.specs.Line.{mark_line};
+ghost use Rattle.ps_text.specs.Range.{IsNumber, IsPageMark, is_shown};
+ghost use Rattle.ps_text.specs.Scanning.{is_field_byte};
+ghost use Rattle.ps_text.specs.Reading.{is_small, glyph_named, glyph_at, glyph_from, words_at, size_named, words_from};
+ghost use Rattle.ps_text.specs.Reading.{stem_at, stem_from, offset_from, beam_at, beam_from, arc_at, arc_from};
+ghost use Rattle.ps_text.specs.Reading.{mark_from};
 
 use crate::marks::PageMark;
 use crate::scanning::take_numbers;

@@ -1,5 +1,10 @@
-ghost use Rattle.std.specs.{Prelude.{◌≡◌, ℕ, ℤ, ◌<◌, ◌≤◌, ◌++◌, List, Some, None, IfOk, IfSome, IsNone, IsSomeAnd, length, true}, Fmt.signed_decimal, List.{AllByRecursion, prefix_len, list_all}};
-ghost use Rattle.{glyph_paths.specs.Procedure.{numbers}, ps_text.specs.{Range.IsNumber, Scanning.is_field_byte, Scanning.ReadsNumber}};
+ghost use Rattle.std.specs.Prelude.{◌≡◌, ℕ, ℤ, ◌<◌, ◌≤◌, ◌++◌, List, Some, None, IfOk, IfSome, IsNone, IsSomeAnd};
+ghost use Rattle.std.specs.Prelude.{length, true};
+ghost use Rattle.std.specs.Fmt.{signed_decimal};
+ghost use Rattle.std.specs.List.{AllByRecursion, prefix_len, list_all};
+ghost use Rattle.glyph_paths.specs.Procedure.{numbers};
+ghost use Rattle.ps_text.specs.Range.{IsNumber};
+ghost use Rattle.ps_text.specs.Scanning.{is_field_byte, ReadsNumber};
 
 use mus_units::{Memory, Row};
 use std::alloc::Global;

@@ -1,6 +1,10 @@
-ghost use Rattle.std.specs.{Prelude.{◌≡◌, ℕ, ◌<◌, ◌≤◌, ◌+◌, ◌/◌, ◌%◌, ◌++◌, ◌∷◌, [], List, Some, IfSome, IfOk, IsSomeAnd, IsNone, length, IsTrue}, List.{flat_map, list_all}};
+ghost use Rattle.std.specs.Prelude.{◌≡◌, ℕ, ◌<◌, ◌≤◌, ◌+◌, ◌/◌, ◌%◌, ◌++◌, ◌∷◌, [], List, Some, IfSome, IfOk};
+ghost use Rattle.std.specs.Prelude.{IsSomeAnd, IsNone, length, IsTrue};
+ghost use Rattle.std.specs.List.{flat_map, list_all};
 ghost use Rattle.glyph_paths.specs.Characters.{backslash, close_parenthesis, digit};
-ghost use Rattle.ps_text.specs.{Fields.is_special, Fields.shown, Fields.in_parentheses, Range.is_shown, Range.IsWords, Scanning.IsOctal};
+ghost use Rattle.ps_text.specs.Fields.{is_special, shown, in_parentheses};
+ghost use Rattle.ps_text.specs.Range.{is_shown, IsWords};
+ghost use Rattle.ps_text.specs.Scanning.{IsOctal};
 
 use mus_units::{Memory, Text};
 use std::alloc::Global;

@@ -1,5 +1,6 @@
 ghost use Rattle.std.specs.Prelude.{◌≡◌, ◌++◌, ◌↔◌, ◌≤ℤ◌, ◌+ℤ◌, ◌-ℤ◌, pos, IfOk, OnOk, IsTrue, MatchOption, length};
-ghost use Rattle.ps_text.specs.{Line.{mark_line, points, ends_of, quarter, beam_line, arc_line}, Range.{IsPageMark, IsSpan, IsStretch}};
+ghost use Rattle.ps_text.specs.Line.{mark_line, points, ends_of, quarter, beam_line, arc_line};
+ghost use Rattle.ps_text.specs.Range.{IsPageMark, IsSpan, IsStretch};
 
 use crate::fields::{LineEnd, put_line, put_words};
 use crate::marks::PageMark;

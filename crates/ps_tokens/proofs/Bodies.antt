@@ -1,6 +1,8 @@
 -- How the reading of a procedure goes on.
 use Rattle.std.proofs.Common.{◌≡◌, ℕ, false, List, [], ◌∷◌, ◌++◌, append_assoc}
-use Rattle.ps_steps.specs.{declared.halt.Cause.Cause, Tokens.found, Tokens.Front, Tokens.Body, Tokens.goes_on, Tokens.NoBody, Tokens.later, Tokens.passed, declared.token.SimpleToken.SimpleToken}
+use Rattle.ps_steps.specs.declared.halt.Cause.{Cause}
+use Rattle.ps_steps.specs.Tokens.{found, Front, Body, goes_on, NoBody, later, passed}
+use Rattle.ps_steps.specs.declared.token.SimpleToken.{SimpleToken}
 
 -- what was read so far, and what is left
 pub record BodyStage (bytes : List ℕ) (so_far : List SimpleToken) (rest : List ℕ) : Type 0 where

@@ -1,6 +1,16 @@
 -- Digits as a number.
-use Rattle.std.{proofs.{Common.{◌≡◌, ℕ, ◌-◌, ◌&&◌, ◌<◌, ◌≤◌, ◌^◌, true, false, List, [], ◌∷◌, length, take, drop, drop-drop, length-drop, length-append, Option, refl, sym, ◌∙◌, ap, arith, inl, inr, Result, Ok, Err, MatchOption, ◌==◌}, lemmas.{Bool.{cases_lt, true≢false, and_parts, Decides.nat_tests}, List.Folds.list_all-append}}, specs.{Result.result_ok, List.list_all, Str.Parse.{digits_value, AllDigits, IsNumeral, ParsesUnsigned, without_leading_plus}, Char.digit_value}}
-use Rattle.{mus_units.specs.Bytes.{is_digit}, ps_steps.specs.Tokens.{some_digits, is_fraction, is_pointed, unsigned, without_point}}
+use Rattle.std.proofs.Common.{◌≡◌, ℕ, ◌-◌, ◌&&◌, ◌<◌, ◌≤◌, ◌^◌, true, false, List, [], ◌∷◌, length, take, drop}
+use Rattle.std.proofs.Common.{drop-drop, length-drop, length-append, Option, refl, sym, ◌∙◌, ap, arith, inl, inr}
+use Rattle.std.proofs.Common.{Result, Ok, Err, MatchOption, ◌==◌}
+use Rattle.std.proofs.lemmas.Bool.{cases_lt, true≢false, and_parts}
+use Rattle.std.proofs.lemmas.Bool.Decides.{nat_tests}
+use Rattle.std.proofs.lemmas.List.Folds.{list_all-append}
+use Rattle.std.specs.Result.{result_ok}
+use Rattle.std.specs.List.{list_all}
+use Rattle.std.specs.Str.Parse.{digits_value, AllDigits, IsNumeral, ParsesUnsigned, without_leading_plus}
+use Rattle.std.specs.Char.{digit_value}
+use Rattle.mus_units.specs.Bytes.{is_digit}
+use Rattle.ps_steps.specs.Tokens.{some_digits, is_fraction, is_pointed, unsigned, without_point}
 
 digit_small : (b : ℕ) → is_digit b ≡ true → digit_value b < 10
 digit_small b e = grind (arith, nat_tests)

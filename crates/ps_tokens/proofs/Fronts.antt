@@ -1,5 +1,9 @@
 -- The longest run at the front of a list.
-use Rattle.std.{proofs.{Common.{◌≡◌, ℕ, ◌+◌, Bool, true, false, cond, List, [], ◌∷◌, ◌++◌, take, drop, get_or, length, ◌≤◌, refl, sym, ◌∙◌, ap, arith, true≢false}, Math.Numerals.one-add, lemmas.Bool.and_parts}, specs.List.{list_all, prefix_len}}
+use Rattle.std.proofs.Common.{◌≡◌, ℕ, ◌+◌, Bool, true, false, cond, List, [], ◌∷◌, ◌++◌, take, drop, get_or, length}
+use Rattle.std.proofs.Common.{◌≤◌, refl, sym, ◌∙◌, ap, arith, true≢false}
+use Rattle.std.proofs.Math.Numerals.{one-add}
+use Rattle.std.proofs.lemmas.Bool.{and_parts}
+use Rattle.std.specs.List.{list_all, prefix_len}
 use Rattle.ps_steps.specs.Tokens.{begins, is_regular, is_name, IsWord}
 
 pub run_passes : (p : ℕ → Bool) (s : List ℕ) → list_all p (take (prefix_len p s) s) ≡ true

@@ -1,7 +1,25 @@
 -- A text begins with one token at most, and where none stands there is one cause.
-use Rattle.std.{proofs.{Common.{◌≡◌, ℕ, true, false, cond, ◌==◌, append_assoc, List, [], ◌∷◌, ◌++◌, drop, Option, Some, None, refl, sym, subst, ◌∙◌, ap, arith}, lemmas.{Bool.{Decides.nat_tests, and_parts}, List.append_cancel_left}}, specs.List.{list_all, flat_map}}
-use Rattle.ps_steps.specs.{declared.{halt.Cause.Cause, token.{SimpleToken.{SimpleToken, TheVariants.{Words as words_token, Label as label_token, Font as font_token}}, MachineToken.{MachineToken, TheVariants.{Simple as simple_token, Procedure as procedure_token}}}}, Tokens.{Read, found, opening, closing, unread, Front, font_front, label_front, no_label, string_front, open_string, no_string, opening_front, closing_front, stray, word_front, no_word, IsWord, IsString, IsOpenString, IsFont, font_line, Body, closes, goes_on, NoBody, unclosed, nested, unread_within, later, TokenAt, simple_at, procedure_at, NoToken, unread_at, closing_at, no_body, is_regular, is_name, word_token, passed}}
-use Rattle.{ps_text.specs.Fields.{shown}, ps_tokens.{specs.OneToken.BeginsInOneWay, proofs.Fronts.one_run, proofs.Strings.one_string, proofs.Strings.one_words}}
+use Rattle.std.proofs.Common.{◌≡◌, ℕ, true, false, cond, ◌==◌, append_assoc, List, [], ◌∷◌, ◌++◌, drop, Option, Some}
+use Rattle.std.proofs.Common.{None, refl, sym, subst, ◌∙◌, ap, arith}
+use Rattle.std.proofs.lemmas.Bool.Decides.{nat_tests}
+use Rattle.std.proofs.lemmas.Bool.{and_parts}
+use Rattle.std.proofs.lemmas.List.{append_cancel_left}
+use Rattle.std.specs.List.{list_all, flat_map}
+use Rattle.ps_steps.specs.declared.halt.Cause.{Cause}
+use Rattle.ps_steps.specs.declared.token.SimpleToken.{SimpleToken}
+use Rattle.ps_steps.specs.declared.token.SimpleToken.TheVariants.{Words as words_token, Label as label_token}
+use Rattle.ps_steps.specs.declared.token.SimpleToken.TheVariants.{Font as font_token}
+use Rattle.ps_steps.specs.declared.token.MachineToken.{MachineToken}
+use Rattle.ps_steps.specs.declared.token.MachineToken.TheVariants.{Simple as simple_token, Procedure as procedure_token}
+use Rattle.ps_steps.specs.Tokens.{Read, found, opening, closing, unread, Front, font_front, label_front, no_label}
+use Rattle.ps_steps.specs.Tokens.{string_front, open_string, no_string, opening_front, closing_front, stray, word_front}
+use Rattle.ps_steps.specs.Tokens.{no_word, IsWord, IsString, IsOpenString, IsFont, font_line, Body, closes, goes_on}
+use Rattle.ps_steps.specs.Tokens.{NoBody, unclosed, nested, unread_within, later, TokenAt, simple_at, procedure_at}
+use Rattle.ps_steps.specs.Tokens.{NoToken, unread_at, closing_at, no_body, is_regular, is_name, word_token, passed}
+use Rattle.ps_text.specs.Fields.{shown}
+use Rattle.ps_tokens.specs.OneToken.{BeginsInOneWay}
+use Rattle.ps_tokens.proofs.Fronts.{one_run}
+use Rattle.ps_tokens.proofs.Strings.{one_string, one_words}
 
 -- what stands behind a slash, behind a parenthesis, and at a byte of a word
 data Slashed (s t : List ℕ) : Read → Type 0 where

@@ -1,6 +1,9 @@
 -- How the reading of a text goes on.
 use Rattle.std.proofs.Common.{◌≡◌, ℕ, false, List, [], ◌∷◌, ◌++◌, append_assoc, append-nil, Option, Some, None}
-use Rattle.{ps_steps.specs.{declared.halt.Cause.Cause, Tokens.TokenAt, Tokens.NoToken, Tokens.passed, Tokens.begins, Tokens.is_skipped, declared.token.MachineToken.MachineToken}, ps_tokens.specs.Programs.{AreTokensOf, all_read, fault_read, token_read}}
+use Rattle.ps_steps.specs.declared.halt.Cause.{Cause}
+use Rattle.ps_steps.specs.Tokens.{TokenAt, NoToken, passed, begins, is_skipped}
+use Rattle.ps_steps.specs.declared.token.MachineToken.{MachineToken}
+use Rattle.ps_tokens.specs.Programs.{AreTokensOf, all_read, fault_read, token_read}
 
 -- what was read so far, and what is left
 pub record ProgramStage (text : List ℕ) (so_far : List MachineToken) (rest : List ℕ) : Type 0 where

@@ -1,7 +1,13 @@
 -- What is left behind blanks and comments is no longer, and behind a token it is shorter.
-use Rattle.std.{proofs.Common.{◌≡◌, ℕ, suc, ◌<◌, ◌≤◌, Bool, true, false, List, [], ◌∷◌, length, length-append, arith, ◌==◌}, specs.List.flat_map}
+use Rattle.std.proofs.Common.{◌≡◌, ℕ, suc, ◌<◌, ◌≤◌, Bool, true, false, List, [], ◌∷◌, length, length-append, arith}
+use Rattle.std.proofs.Common.{◌==◌}
+use Rattle.std.specs.List.{flat_map}
 use Rattle.ps_text.specs.Fields.{shown}
-use Rattle.ps_steps.specs.{Tokens.{passed, is_white_space, found, opening, closing, Front, font_front, label_front, string_front, word_front, opening_front, closing_front, Body, closes, goes_on, TokenAt, simple_at, procedure_at, font_line}, declared.token.{SimpleToken.SimpleToken, MachineToken.MachineToken}}
+use Rattle.ps_steps.specs.Tokens.{passed, is_white_space, found, opening, closing, Front, font_front, label_front}
+use Rattle.ps_steps.specs.Tokens.{string_front, word_front, opening_front, closing_front, Body, closes, goes_on}
+use Rattle.ps_steps.specs.Tokens.{TokenAt, simple_at, procedure_at, font_line}
+use Rattle.ps_steps.specs.declared.token.SimpleToken.{SimpleToken}
+use Rattle.ps_steps.specs.declared.token.MachineToken.{MachineToken}
 
 passed_within : (inside : Bool) (s : List ℕ) → length (passed inside s) ≤ length s
 passed_within true [] = omega arith

@@ -1,6 +1,12 @@
 -- What spells a byte, what begins to, and what does neither.
-use Rattle.std.proofs.{Common.{◌≡◌, ℕ, ◌+◌, ◌-◌, ◌*◌, ◌/◌, ◌%◌, ◌<◌, ◌≤◌, Bool, true, false, List, [], ◌∷◌, ◌++◌, append-nil, length, length-append, refl, sym, ◌∙◌, ap, arith, IsTrue, true≢false}, lemmas.Bool.Decides.nat_tests}
-use Rattle.ps_text.{specs.{Fields.{is_special, shown}, Range.is_shown}, proofs.Shown.{is_open, is_close, is_slash, is_plain, is_high, sort_of, shown_open, shown_close, shown_slash, shown_plain, shown_octal, shown_range, head_equal, as_it_is, as_digits, escaped_of}}
+use Rattle.std.proofs.Common.{◌≡◌, ℕ, ◌+◌, ◌-◌, ◌*◌, ◌/◌, ◌%◌, ◌<◌, ◌≤◌, Bool, true, false, List, [], ◌∷◌, ◌++◌}
+use Rattle.std.proofs.Common.{append-nil, length, length-append, refl, sym, ◌∙◌, ap, arith, IsTrue, true≢false}
+use Rattle.std.proofs.lemmas.Bool.Decides.{nat_tests}
+use Rattle.ps_text.specs.Fields.{is_special, shown}
+use Rattle.ps_text.specs.Range.{is_shown}
+use Rattle.ps_text.proofs.Shown.{is_open, is_close, is_slash, is_plain, is_high, sort_of, shown_open, shown_close}
+use Rattle.ps_text.proofs.Shown.{shown_slash, shown_plain, shown_octal, shown_range, head_equal, as_it_is, as_digits}
+use Rattle.ps_text.proofs.Shown.{escaped_of}
 use Rattle.ps_tokens.specs.Spelling.{is_bare, is_lead, is_octal, IsByte, IsCut, IsBroken}
 
 bare_good : (b : ℕ) → is_bare b ≡ true → IsTrue (is_shown b)

@@ -1,6 +1,13 @@
 -- A string is read in one way.
-use Rattle.std.{proofs.{Common.{◌≡◌, ℕ, ◌+◌, ◌-◌, ◌*◌, ◌/◌, ◌%◌, ◌<◌, ◌≤◌, true, false, ◌==◌, List, [], ◌∷◌, ◌++◌, append_assoc, Option, Some, None, refl, sym, ◌∙◌, ap, arith, IsTrue}, lemmas.Bool.{Decides.nat_tests, and_parts}}, specs.List.{flat_map, list_all}}
-use Rattle.ps_text.{specs.{Fields.{is_special, shown}, Range.is_shown}, proofs.Shown.{Sort, is_open, is_close, is_slash, is_plain, is_high, sort_of, shown_open, shown_close, shown_slash, shown_plain, shown_octal, digit_is_plain}}
+use Rattle.std.proofs.Common.{◌≡◌, ℕ, ◌+◌, ◌-◌, ◌*◌, ◌/◌, ◌%◌, ◌<◌, ◌≤◌, true, false, ◌==◌, List, [], ◌∷◌, ◌++◌}
+use Rattle.std.proofs.Common.{append_assoc, Option, Some, None, refl, sym, ◌∙◌, ap, arith, IsTrue}
+use Rattle.std.proofs.lemmas.Bool.Decides.{nat_tests}
+use Rattle.std.proofs.lemmas.Bool.{and_parts}
+use Rattle.std.specs.List.{flat_map, list_all}
+use Rattle.ps_text.specs.Fields.{is_special, shown}
+use Rattle.ps_text.specs.Range.{is_shown}
+use Rattle.ps_text.proofs.Shown.{Sort, is_open, is_close, is_slash, is_plain, is_high, sort_of, shown_open, shown_close}
+use Rattle.ps_text.proofs.Shown.{shown_slash, shown_plain, shown_octal, digit_is_plain}
 use Rattle.ps_steps.specs.Tokens.{IsString}
 
 pub octal_read : ℕ → List ℕ → Option (ℕ × List ℕ)

@@ -1,6 +1,14 @@
 -- How the reading of a string goes on, and how it ends.
-use Rattle.std.{proofs.{Common.{◌≡◌, ℕ, List, [], ◌∷◌, ◌++◌, append_assoc, append-nil, true, refl, sym, ◌∙◌, ap, IsTrue}, lemmas.{List.{flat_map_more, Folds.list_all-append}, Bool.and_parts}}, specs.List.{flat_map, list_all}}
-use Rattle.{ps_text.specs.{Fields.shown, Range.is_shown}, ps_steps.specs.Tokens.{IsString, IsOpenString}, ps_tokens.{specs.{Spelling.IsCut, Spelling.IsBroken}, proofs.{Strings.one_byte, Strings.not_close}}}
+use Rattle.std.proofs.Common.{◌≡◌, ℕ, List, [], ◌∷◌, ◌++◌, append_assoc, append-nil, true, refl, sym, ◌∙◌, ap, IsTrue}
+use Rattle.std.proofs.lemmas.List.{flat_map_more}
+use Rattle.std.proofs.lemmas.List.Folds.{list_all-append}
+use Rattle.std.proofs.lemmas.Bool.{and_parts}
+use Rattle.std.specs.List.{flat_map, list_all}
+use Rattle.ps_text.specs.Fields.{shown}
+use Rattle.ps_text.specs.Range.{is_shown}
+use Rattle.ps_steps.specs.Tokens.{IsString, IsOpenString}
+use Rattle.ps_tokens.specs.Spelling.{IsCut, IsBroken}
+use Rattle.ps_tokens.proofs.Strings.{one_byte, not_close}
 
 -- words were read, and the rest is left
 pub record WordsStage (bytes words rest : List ℕ) : Type 0 where

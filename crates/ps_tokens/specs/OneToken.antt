@@ -1,6 +1,8 @@
 -- A text begins with one token at most, and where none stands there is one cause.
 use Rattle.std.specs.Prelude.{◌≡◌, ℕ, List, []}
-use Rattle.ps_steps.specs.{declared.halt.Cause.Cause, declared.token.MachineToken.MachineToken, Tokens.TokenAt, Tokens.NoToken}
+use Rattle.ps_steps.specs.declared.halt.Cause.{Cause}
+use Rattle.ps_steps.specs.declared.token.MachineToken.{MachineToken}
+use Rattle.ps_steps.specs.Tokens.{TokenAt, NoToken}
 
 pub record BeginsInOneWay : Type 0 where
   pub token : (s r q : List ℕ) (t u : MachineToken) → TokenAt s t r → TokenAt s u q → (t ≡ u) × (r ≡ q)

@@ -1,6 +1,8 @@
 -- What the reader of tokens gives.
 use Rattle.std.specs.Prelude.{ℕ, List}
-use Rattle.ps_tokens.specs.declared.{front.TokenStart.TokenStart as Given, body.{BodyRead.BodyRead, TokenRead.TokenRead}}
+use Rattle.ps_tokens.specs.declared.front.TokenStart.{TokenStart as Given}
+use Rattle.ps_tokens.specs.declared.body.BodyRead.{BodyRead}
+use Rattle.ps_tokens.specs.declared.body.TokenRead.{TokenRead}
 use Rattle.ps_tokens.specs.declared.front.TokenStart.TheVariants as given
 use Rattle.ps_steps.specs.Tokens.{Read, found, opening, closing, unread, Body, NoBody, TokenAt, NoToken}
 

@@ -1,7 +1,10 @@
 -- One byte as words spell it.
 use Prim.Native.Char.{code}
 use Rattle.std.specs.Prelude.{◌≡◌, ℕ, Bool, ◌&&◌, not, IsTrue, List, ◌∷◌, ◌++◌, codes}
-use Rattle.{mus_units.specs.Bytes.{is_within}, ps_text.specs.{Fields.is_special, Fields.shown, Range.is_shown}, ps_tokens.specs.declared.string.Spelling.{Spelling}}
+use Rattle.mus_units.specs.Bytes.{is_within}
+use Rattle.ps_text.specs.Fields.{is_special, shown}
+use Rattle.ps_text.specs.Range.{is_shown}
+use Rattle.ps_tokens.specs.declared.string.Spelling.{Spelling}
 
 -- a byte that stands for itself
 abbrev pub is_bare : ℕ → Bool

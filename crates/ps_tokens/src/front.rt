@@ -1,7 +1,8 @@
 //! What stands at the front of a text.
 
 ghost use Rattle.std.specs.Prelude.{◌≡◌, ◌≤◌, ◌++◌, ◌∷◌, ℕ, List, length, true, false, IfOk, MatchOption};
-ghost use Rattle.{ps_steps.specs.Tokens.{font_line, begins, is_regular, is_skipped, Front}, ps_tokens.specs.Reading.{read_of}};
+ghost use Rattle.ps_steps.specs.Tokens.{font_line, begins, is_regular, is_skipped, Front};
+ghost use Rattle.ps_tokens.specs.Reading.{read_of};
 
 use crate::number::word_token;
 use crate::scan::{is_name, word};

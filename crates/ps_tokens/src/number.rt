@@ -1,7 +1,10 @@
 //! Words that are numbers and names.
 
-ghost use Rattle.std.specs.{Prelude.{◌≡◌, ◌≤◌, ◌^◌, ◌+ℤ◌, ℤ, pos, true, false, List, ℕ, MatchOption, IfOk, Some, None, if◌then◌else◌}, Str.Parse.digits_value};
-ghost use Rattle.ps_steps.specs.Tokens.{some_digits, has_minus, unsigned, is_whole, is_pointed, number_written, hundredths_written, whole_number, pointed_number, without_point, word_token};
+ghost use Rattle.std.specs.Prelude.{◌≡◌, ◌≤◌, ◌^◌, ◌+ℤ◌, ℤ, pos, true, false, List, ℕ, MatchOption, IfOk, Some, None};
+ghost use Rattle.std.specs.Prelude.{if◌then◌else◌};
+ghost use Rattle.std.specs.Str.Parse.{digits_value};
+ghost use Rattle.ps_steps.specs.Tokens.{some_digits, has_minus, unsigned, is_whole, is_pointed, number_written};
+ghost use Rattle.ps_steps.specs.Tokens.{hundredths_written, whole_number, pointed_number, without_point, word_token};
 
 use crate::scan::{is_name, is_pointed, is_whole, unsigned};
 use mus_units::{Memory, Text};

@@ -1,8 +1,10 @@
 //! Bytes of blanks, comments and words.
 
-ghost use Rattle.std.specs.{Prelude.◌≡◌, Prelude.◌≤◌, Prelude.◌++◌, Prelude.◌||◌, Prelude.length, Prelude.true, Prelude.false, List.list_all, List.prefix_len};
+ghost use Rattle.std.specs.Prelude.{◌≡◌, ◌≤◌, ◌++◌, ◌||◌, length, true, false};
+ghost use Rattle.std.specs.List.{list_all, prefix_len};
 ghost use Rattle.mus_units.specs.Bytes.{is_digit, is_letter};
-ghost use Rattle.ps_steps.specs.Tokens.{is_white_space, is_delimiter, is_regular, is_skipped, passed, begins, some_digits, unsigned, is_whole, is_fraction, is_pointed, is_name};
+ghost use Rattle.ps_steps.specs.Tokens.{is_white_space, is_delimiter, is_regular, is_skipped, passed, begins};
+ghost use Rattle.ps_steps.specs.Tokens.{some_digits, unsigned, is_whole, is_fraction, is_pointed, is_name};
 
 use mus_units::bytes::{is_digit, is_letter};
 

@@ -1,7 +1,10 @@
 //! Strings, as words are spelled in parentheses.
 
 ghost use Rattle.std.specs.Prelude.{◌≡◌, ◌∷◌, ◌≤◌, true, false, IfOk};
-ghost use Rattle.{ps_text.specs.Fields.{is_special}, ps_steps.specs.Tokens.{Front}, ps_tokens.specs.{Reading.read_of, Spelling.IsSpelling, Spelling.is_bare, Spelling.is_lead, Spelling.is_octal}};
+ghost use Rattle.ps_text.specs.Fields.{is_special};
+ghost use Rattle.ps_steps.specs.Tokens.{Front};
+ghost use Rattle.ps_tokens.specs.Reading.{read_of};
+ghost use Rattle.ps_tokens.specs.Spelling.{IsSpelling, is_bare, is_lead, is_octal};
 
 use crate::front::TokenStart;
 use mus_units::{Memory, Text};

@@ -1,6 +1,14 @@
 -- A text of which a front has gone out, and what follows there.
-use Rattle.std.{proofs.{Common.{◌≡◌, ℕ, suc, ◌+◌, ◌<◌, List, [], ◌∷◌, ◌++◌, length, take, drop, refl, sym, ap, ◌∙◌, subst, get_or, map, add-one, drop-cons, append-nil, append_assoc, length-append, arith, Option}, lemmas.List.take-append-le, Math.Seq.{drop-length, take-append-add}, KnownBytes.{Appends-nil, Appends-trans}}, specs.Io.KnownBytes.Appends}
-use Rattle.ps_text.specs.{Document.{document, numbered, document_page, trailer}, Prolog.prolog, declared.sheet.Page.Page, declared.sheet.Sheet.Sheet}
+use Rattle.std.proofs.Common.{◌≡◌, ℕ, suc, ◌+◌, ◌<◌, List, [], ◌∷◌, ◌++◌, length, take, drop, refl, sym, ap, ◌∙◌, subst}
+use Rattle.std.proofs.Common.{get_or, map, add-one, drop-cons, append-nil, append_assoc, length-append, arith, Option}
+use Rattle.std.proofs.lemmas.List.{take-append-le}
+use Rattle.std.proofs.Math.Seq.{drop-length, take-append-add}
+use Rattle.std.proofs.KnownBytes.{Appends-nil, Appends-trans}
+use Rattle.std.specs.Io.KnownBytes.{Appends}
+use Rattle.ps_text.specs.Document.{document, numbered, document_page, trailer}
+use Rattle.ps_text.specs.Prolog.{prolog}
+use Rattle.ps_text.specs.declared.sheet.Page.{Page}
+use Rattle.ps_text.specs.declared.sheet.Sheet.{Sheet}
 use Rattle.ps_write.specs.{Written.{WrotePrefix, counted_from}, declared.steps.DocError.DocError}
 
 -- the front of a text went out, after which so many bytes were written, and the rest of it follows

@@ -1,6 +1,9 @@
 -- What a step of a writer, or a whole document, gave to a sink.
-use Rattle.std.specs.{Prelude.{◌≡◌, ℕ, ◌+◌, ◌^◌, ◌<◌, ◌≤◌, length, take, List, Option, Result, Ok, Err, ⊤}, Io.KnownBytes.Appends}
-use Rattle.{eng_io.specs.Causes.{Rose}, ps_write.specs.{declared.steps.DocError.DocError, declared.steps.DocWriter.DocWriter}}
+use Rattle.std.specs.Prelude.{◌≡◌, ℕ, ◌+◌, ◌^◌, ◌<◌, ◌≤◌, length, take, List, Option, Result, Ok, Err, ⊤}
+use Rattle.std.specs.Io.KnownBytes.{Appends}
+use Rattle.eng_io.specs.Causes.{Rose}
+use Rattle.ps_write.specs.declared.steps.DocError.{DocError}
+use Rattle.ps_write.specs.declared.steps.DocWriter.{DocWriter}
 
 -- exactly the first bytes that the error counts went out, or, for want of memory, a front of the text
 abbrev pub WrotePrefix : Option (List ℕ) → Option (List ℕ) → List ℕ → DocError → Type 0

@@ -1,5 +1,7 @@
 ghost use Rattle.std.specs.Prelude.{◌≡◌, ◌+◌, ◌-◌, ◌^◌, ◌<◌, Err};
-ghost use Rattle.{ps_text.specs.{Document.document, Range.IsSheet}, ps_write.specs.Written.{Wrote, Counted, FitsError, counted_from}};
+ghost use Rattle.ps_text.specs.Document.{document};
+ghost use Rattle.ps_text.specs.Range.{IsSheet};
+ghost use Rattle.ps_write.specs.Written.{Wrote, Counted, FitsError, counted_from};
 
 use crate::steps::{DocError, begin, finish, page};
 use eng_io::{Sink, WriteError};

@@ -1,4 +1,7 @@
-ghost use Rattle.{std.specs.Prelude.{IfOk}, abc_lines.specs.Good.{IsGoodTune}, abc_fields.specs.Good.{IsGoodDefaults}, mus_score.specs.GoodScore.{IsGoodScore}};
+ghost use Rattle.std.specs.Prelude.{IfOk};
+ghost use Rattle.abc_lines.specs.Good.{IsGoodTune};
+ghost use Rattle.abc_fields.specs.Good.{IsGoodDefaults};
+ghost use Rattle.mus_score.specs.GoodScore.{IsGoodScore};
 
 use abc_fields::{Defaults, Key, read_defaults, read_header};
 use abc_lines::{TuneError, TuneText, cut_book};

@@ -1,8 +1,20 @@
 -- The lines of a body give one list of items and faults.
-use Rattle.std.proofs.{Common.{◌≡◌, ◌∙◌, refl, sym, ap, subst, ℕ, ◌+◌, ◌≤◌, List, ◌++◌, length, take, drop, Some, arith, append_assoc, ⊎_elim}, lemmas.{Bool.cases_lt, List.{take-append-drop, take-take, take_all}}}
-use Rattle.{abc_lines.specs.{declared.{book.Line.Line, fault.Fault.Fault, kind.LineKind.LineKind}, Kinds.kind_of}, abc_steps.specs.declared.step.BodyItem.{BodyItem}}
-use Rattle.{abc_field.specs.declared.directive.Breaks.{Breaks}, abc_fields.specs.declared.header.Header.{Header}, set_book.proofs.LineFaults.{one_front_of}}
-use Rattle.abc_items.{specs.{Body.{ItemOrFault, KindGives, BodyGives, no_lines, one_line, judged_items, first_item_fault, items_in, IsBody, HasFault}, Voices.declared_ids}, proofs.Laws.stays}
+use Rattle.std.proofs.Common.{◌≡◌, ◌∙◌, refl, sym, ap, subst, ℕ, ◌+◌, ◌≤◌, List, ◌++◌, length, take, drop, Some, arith}
+use Rattle.std.proofs.Common.{append_assoc, ⊎_elim}
+use Rattle.std.proofs.lemmas.Bool.{cases_lt}
+use Rattle.std.proofs.lemmas.List.{take-append-drop, take-take, take_all}
+use Rattle.abc_lines.specs.declared.book.Line.{Line}
+use Rattle.abc_lines.specs.declared.fault.Fault.{Fault}
+use Rattle.abc_lines.specs.declared.kind.LineKind.{LineKind}
+use Rattle.abc_lines.specs.Kinds.{kind_of}
+use Rattle.abc_steps.specs.declared.step.BodyItem.{BodyItem}
+use Rattle.abc_field.specs.declared.directive.Breaks.{Breaks}
+use Rattle.abc_fields.specs.declared.header.Header.{Header}
+use Rattle.set_book.proofs.LineFaults.{one_front_of}
+use Rattle.abc_items.specs.Body.{ItemOrFault, KindGives, BodyGives, no_lines, one_line, judged_items, first_item_fault}
+use Rattle.abc_items.specs.Body.{items_in, IsBody, HasFault}
+use Rattle.abc_items.specs.Voices.{declared_ids}
+use Rattle.abc_items.proofs.Laws.{stays}
 
 one_by_kind : (breaks : Breaks) (line : Line) (kind : LineKind) (g h : List ItemOrFault) → KindGives breaks line kind g → KindGives breaks line kind h → g ≡ h
 one_by_kind breaks line LineKind.Music g h a b = let o = one_front_of breaks.bang line a.0 b.0 a.1 b.1 a.2 b.2 in a.3 ∙ sym (b.3 ∙ rw (o.0, o.1) refl)

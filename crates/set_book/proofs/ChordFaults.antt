@@ -1,9 +1,20 @@
 -- What stands behind a bracket that opens no chord, or behind a brace that opens no grace group, has one fault.
-use Rattle.std.{proofs.{Common.{◌≡◌, ◌∙◌, refl, sym, ap, subst, ℕ, List, [], ◌∷◌, ◌++◌, Bool, true, false, None}, lemmas.Bool.true≢false}, specs.{Prelude.◌==◌, List.list_all}}
-use Rattle.abc_notes.specs.{declared.part.Flaw.Flaw, Items.{Inner, inner_then, StandsInside, has_length, IsBadByte, inner_at, item_class}, Parts.{HasNone, leads_here, leads_on}, Runs.begins}
-use Rattle.abc_notes.specs.Chords.{InnerLeads, is_inside, ChordFault, chord_unclosed, chord_open, chord_headless, chord_flawed}
-use Rattle.abc_notes.specs.Graces.{GracePart, GraceLeads, part_has_length, IsGraceOwn, GraceFlawed, HasSlash, is_slash_byte, GraceFault, grace_unclosed, grace_open, grace_flawed}
-use Rattle.abc_notes.proofs.{PartLaws.none_of, InnerLaws.inner_reader, CutLaws.{inner_append, all_parts}, GraceLaws.part_reader}
+use Rattle.std.proofs.Common.{◌≡◌, ◌∙◌, refl, sym, ap, subst, ℕ, List, [], ◌∷◌, ◌++◌, Bool, true, false, None}
+use Rattle.std.proofs.lemmas.Bool.{true≢false}
+use Rattle.std.specs.Prelude.{◌==◌}
+use Rattle.std.specs.List.{list_all}
+use Rattle.abc_notes.specs.declared.part.Flaw.{Flaw}
+use Rattle.abc_notes.specs.Items.{Inner, inner_then, StandsInside, has_length, IsBadByte, inner_at, item_class}
+use Rattle.abc_notes.specs.Parts.{HasNone, leads_here, leads_on}
+use Rattle.abc_notes.specs.Runs.{begins}
+use Rattle.abc_notes.specs.Chords.{InnerLeads, is_inside, ChordFault, chord_unclosed, chord_open, chord_headless}
+use Rattle.abc_notes.specs.Chords.{chord_flawed}
+use Rattle.abc_notes.specs.Graces.{GracePart, GraceLeads, part_has_length, IsGraceOwn, GraceFlawed, HasSlash}
+use Rattle.abc_notes.specs.Graces.{is_slash_byte, GraceFault, grace_unclosed, grace_open, grace_flawed}
+use Rattle.abc_notes.proofs.PartLaws.{none_of}
+use Rattle.abc_notes.proofs.InnerLaws.{inner_reader}
+use Rattle.abc_notes.proofs.CutLaws.{inner_append, all_parts}
+use Rattle.abc_notes.proofs.GraceLaws.{part_reader}
 use Rattle.set_book.proofs.PartFaults.{by_test, none_at_end, one_stop, never_done, one_flaw}
 
 -- ---- chords

@@ -1,6 +1,10 @@
 -- One breaking is chosen, and its sums are one.
-use Rattle.std.proofs.{Common.{◌≡◌, ◌∙◌, ℕ, ◌+◌, ◌≤◌, Bool, List, length, slice_index_or, Option, Some, None, refl, sym, ap, arith}, lemmas.List.ext_get_or}
-use Rattle.lay_breaks.{specs.{declared.breaking.Breaking.Breaking, Breaking.{IsChosen, IsPotential, sum_from}}, proofs.Unique.one_is_chosen}
+use Rattle.std.proofs.Common.{◌≡◌, ◌∙◌, ℕ, ◌+◌, ◌≤◌, Bool, List, length, slice_index_or, Option, Some, None, refl, sym}
+use Rattle.std.proofs.Common.{ap, arith}
+use Rattle.std.proofs.lemmas.List.{ext_get_or}
+use Rattle.lay_breaks.specs.declared.breaking.Breaking.{Breaking}
+use Rattle.lay_breaks.specs.Breaking.{IsChosen, IsPotential, sum_from}
+use Rattle.lay_breaks.proofs.Unique.{one_is_chosen}
 
 -- a chosen breaking of n bars, what it costs, and the potential of each bar
 pub record IsBreaking (cost : ℕ → ℕ → Option ℕ) (forced : ℕ → Bool) (n : ℕ) (breaking : Breaking) : Type 0 where

@@ -1,8 +1,21 @@
 -- The columns of a system stand in one way.
-use Rattle.std.proofs.{Common.{◌≡◌, ◌∙◌, ℕ, ◌-◌, ◌*◌, ◌/◌, ◌<◌, inl, inr, ◌==◌, Bool, true, false, ℤ, pos, ◌+ℤ◌, List, length, slice_index_or, Option, refl, sym, ap, subst, arith}, lemmas.{Int.ints, Bool.cases_lt, List.ext_get_or}}
-use Rattle.{mus_score.specs.declared.score.Score.{Score}, mus_laid.specs.declared.laid.SystemMarks.{SystemMarks}, lay_reaches.specs.{declared.column.Column.Column, Columns.column_reach}}
-use Rattle.lay_springs.{specs.{declared.{margin.Placed.Placed, traits.Reach.Reach}, Place.{length_at, reach_at}, Fit.{IsEndOf, IsSet, counted, is_ragged}}, proofs.Unique.one_place}
-use Rattle.lay_tune.{specs.{Spans.{column_length, score_gaps, system_columns}, Systems.{IsJustified, IsPlaced}}, proofs.Breakings.one_force}
+use Rattle.std.proofs.Common.{◌≡◌, ◌∙◌, ℕ, ◌-◌, ◌*◌, ◌/◌, ◌<◌, inl, inr, ◌==◌, Bool, true, false, ℤ, pos, ◌+ℤ◌, List}
+use Rattle.std.proofs.Common.{length, slice_index_or, Option, refl, sym, ap, subst, arith}
+use Rattle.std.proofs.lemmas.Int.{ints}
+use Rattle.std.proofs.lemmas.Bool.{cases_lt}
+use Rattle.std.proofs.lemmas.List.{ext_get_or}
+use Rattle.mus_score.specs.declared.score.Score.{Score}
+use Rattle.mus_laid.specs.declared.laid.SystemMarks.{SystemMarks}
+use Rattle.lay_reaches.specs.declared.column.Column.{Column}
+use Rattle.lay_reaches.specs.Columns.{column_reach}
+use Rattle.lay_springs.specs.declared.margin.Placed.{Placed}
+use Rattle.lay_springs.specs.declared.traits.Reach.{Reach}
+use Rattle.lay_springs.specs.Place.{length_at, reach_at}
+use Rattle.lay_springs.specs.Fit.{IsEndOf, IsSet, counted, is_ragged}
+use Rattle.lay_springs.proofs.Unique.{one_place}
+use Rattle.lay_tune.specs.Spans.{column_length, score_gaps, system_columns}
+use Rattle.lay_tune.specs.Systems.{IsJustified, IsPlaced}
+use Rattle.lay_tune.proofs.Breakings.{one_force}
 
 -- ---- columns set to a width
 -- a column has one end

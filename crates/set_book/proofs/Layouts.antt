@@ -1,9 +1,24 @@
 -- A score has one layout on a width, or one reason why it has none, and not both.
 use Rattle.std.proofs.Common.{◌≡◌, ℕ, Bool, List, [], ◌∷◌, Option, refl, subst, arith}
-use Rattle.{mus_score.specs.declared.score.Score.{Score}, mus_onsets.specs.Onsets.{timeline_of}, mus_laid.specs.declared.laid.SystemMarks.{SystemMarks}, mus_marks.specs.Tilt.{IsTilted}}
-use Rattle.{lay_springs.specs.declared.margin.Placed.{Placed}, lay_pages.specs.declared.stacking.Heights.{Heights}, lay_breaks.specs.{declared.{breaking.Breaking.Breaking, costs.Span.Span}, Breaking.{IsReached, NoneLegal}, Spans.listed}}
-use Rattle.lay_tune.{specs.{declared.layout.Layout.Layout, Layout.{IsLayout, IsNoWay}, Spans.is_forced_in, Systems.{Beside, EachSpan, IsPlaced, IsSetSystem, IsStack}}, proofs.Called.{one_system, one_tilted}}
-use Rattle.set_book.proofs.{Chosen.{IsBreaking, one_breaking}, Justified.one_placed, Spanned.one_list, Stacked.{one_beside, one_stacked}}
+use Rattle.mus_score.specs.declared.score.Score.{Score}
+use Rattle.mus_onsets.specs.Onsets.{timeline_of}
+use Rattle.mus_laid.specs.declared.laid.SystemMarks.{SystemMarks}
+use Rattle.mus_marks.specs.Tilt.{IsTilted}
+use Rattle.lay_springs.specs.declared.margin.Placed.{Placed}
+use Rattle.lay_pages.specs.declared.stacking.Heights.{Heights}
+use Rattle.lay_breaks.specs.declared.breaking.Breaking.{Breaking}
+use Rattle.lay_breaks.specs.declared.costs.Span.{Span}
+use Rattle.lay_breaks.specs.Breaking.{IsReached, NoneLegal}
+use Rattle.lay_breaks.specs.Spans.{listed}
+use Rattle.lay_tune.specs.declared.layout.Layout.{Layout}
+use Rattle.lay_tune.specs.Layout.{IsLayout, IsNoWay}
+use Rattle.lay_tune.specs.Spans.{is_forced_in}
+use Rattle.lay_tune.specs.Systems.{Beside, EachSpan, IsPlaced, IsSetSystem, IsStack}
+use Rattle.lay_tune.proofs.Called.{one_system, one_tilted}
+use Rattle.set_book.proofs.Chosen.{IsBreaking, one_breaking}
+use Rattle.set_book.proofs.Justified.{one_placed}
+use Rattle.set_book.proofs.Spanned.{one_list}
+use Rattle.set_book.proofs.Stacked.{one_beside, one_stacked}
 
 -- a score has one system of any measures on a width
 one_set : (s : Score) (width a b : ℕ) (m n : SystemMarks) (p q : Placed) → IsSetSystem s width a b m p → IsSetSystem s width a b n q → (m ≡ n) × (p ≡ q)

@@ -1,9 +1,19 @@
 -- A music line gives one list of tokens up to its first fault, and one such fault, or none.
-use Rattle.std.{proofs.Common.{◌≡◌, ◌∙◌, refl, sym, ap, ℕ, List, length, Bool, Option, Some, None}, specs.Prelude.{MatchOption, ◌==◌, option_map}}
-use Rattle.{abc_lines.specs.declared.{book.Line.Line, fault.{Fault.Fault, FaultKind.FaultKind}}, abc_notes.specs.declared.part.Flaw.{Flaw}}
-use Rattle.abc_pieces.{specs.{Forms.{after, opening}, declared.token.{PieceBefore.PieceBefore, BracketOpening.BracketOpening}}, proofs.PieceReader.piece_reader}
-use Rattle.abc_music.specs.{declared.token.Placed.Placed, Tokens.{GivesTokens, clear, breaks, leads, GivesTokensOf, kind_after, IsBracketFlaw, IsOwnFlaw, fault_at}}
-use Rattle.set_book.proofs.{PartFaults.{by_test, none_at_end, one_longest}, ChordFaults.{one_chord_fault, one_grace_fault}}
+use Rattle.std.proofs.Common.{◌≡◌, ◌∙◌, refl, sym, ap, ℕ, List, length, Bool, Option, Some, None}
+use Rattle.std.specs.Prelude.{MatchOption, ◌==◌, option_map}
+use Rattle.abc_lines.specs.declared.book.Line.{Line}
+use Rattle.abc_lines.specs.declared.fault.Fault.{Fault}
+use Rattle.abc_lines.specs.declared.fault.FaultKind.{FaultKind}
+use Rattle.abc_notes.specs.declared.part.Flaw.{Flaw}
+use Rattle.abc_pieces.specs.Forms.{after, opening}
+use Rattle.abc_pieces.specs.declared.token.PieceBefore.{PieceBefore}
+use Rattle.abc_pieces.specs.declared.token.BracketOpening.{BracketOpening}
+use Rattle.abc_pieces.proofs.PieceReader.{piece_reader}
+use Rattle.abc_music.specs.declared.token.Placed.{Placed}
+use Rattle.abc_music.specs.Tokens.{GivesTokens, clear, breaks, leads, GivesTokensOf, kind_after, IsBracketFlaw}
+use Rattle.abc_music.specs.Tokens.{IsOwnFlaw, fault_at}
+use Rattle.set_book.proofs.PartFaults.{by_test, none_at_end, one_longest}
+use Rattle.set_book.proofs.ChordFaults.{one_chord_fault, one_grace_fault}
 
 one_bracket : (o : BracketOpening) (bang : Bool) (byte : ℕ) (s : List ℕ) (f g : Flaw) → IsBracketFlaw o bang byte s f → IsBracketFlaw o bang byte s g → f ≡ g
 one_bracket BracketOpening.Chord bang byte s f g a b = one_chord_fault bang s f g a b

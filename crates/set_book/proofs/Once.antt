@@ -1,13 +1,38 @@
 -- A tune has one outcome: what comes of each stage of its setting is one.
-use Rattle.std.{proofs.Common.{◌≡◌, ◌∙◌, refl, sym, ap, subst, ℕ, zero, ℤ, pos, List, [], ◌∷◌, Option, Some, None, Result, Ok, Err, inl, inr}, specs.Prelude.MatchOption}
-use Rattle.abc_lines.specs.declared.{book.{Line.Line, TuneText.TuneText}, fault.{Fault.Fault, FaultKind.FaultKind, TuneError.TuneError}}
-use Rattle.{abc_fields.specs.{declared.{defaults.Defaults.Defaults, header.Header.Header}, Headers.header_fault, Papers.{body_height, body_width}}, mus_units.specs.declared.key.Key.{Key}}
-use Rattle.{mus_score.specs.{declared.score.Score.Score, GoodScore.IsGoodScore}, mus_transpose.specs.Moved.{CanMove, IsMoved, moved_score}, lay_pages.specs.{declared.titles.TitleBlock.TitleBlock, Filling.first_tall}}
+use Rattle.std.proofs.Common.{◌≡◌, ◌∙◌, refl, sym, ap, subst, ℕ, zero, ℤ, pos, List, [], ◌∷◌, Option, Some, None}
+use Rattle.std.proofs.Common.{Result, Ok, Err, inl, inr}
+use Rattle.std.specs.Prelude.{MatchOption}
+use Rattle.abc_lines.specs.declared.book.Line.{Line}
+use Rattle.abc_lines.specs.declared.book.TuneText.{TuneText}
+use Rattle.abc_lines.specs.declared.fault.Fault.{Fault}
+use Rattle.abc_lines.specs.declared.fault.FaultKind.{FaultKind}
+use Rattle.abc_lines.specs.declared.fault.TuneError.{TuneError}
+use Rattle.abc_fields.specs.declared.defaults.Defaults.{Defaults}
+use Rattle.abc_fields.specs.declared.header.Header.{Header}
+use Rattle.abc_fields.specs.Headers.{header_fault}
+use Rattle.abc_fields.specs.Papers.{body_height, body_width}
+use Rattle.mus_units.specs.declared.key.Key.{Key}
+use Rattle.mus_score.specs.declared.score.Score.{Score}
+use Rattle.mus_score.specs.GoodScore.{IsGoodScore}
+use Rattle.mus_transpose.specs.Moved.{CanMove, IsMoved, moved_score}
+use Rattle.lay_pages.specs.declared.titles.TitleBlock.{TitleBlock}
+use Rattle.lay_pages.specs.Filling.{first_tall}
 use Rattle.lay_shared.{specs.{Alike.DoShare, Drawn.drawn_of, Plans.score_ids}, proofs.PlanLaws.{apart_ids, one_plan}}
-use Rattle.{lay_tune.{specs.{declared.layout.Layout.Layout, Layout.IsLayout}, proofs.Called.{has_system, one_system}}, set_tune.specs.{Terms.{Manner, Terms}, declared.tune.SetTune.SetTune, Blocks.blocks_of}}
-use Rattle.set_tune.specs.Setting.{HasHeader, HasScore, IsScoreDrawn, IsLaid, IsLaidTune, IsLayoutRefusal, IsMovedRefusal, IsTallRefusal, layout_fault, layout_of, of_header, of_score, of_share, of_move, no_way, too_tall}
-use Rattle.set_book.specs.{declared.outcome.Outcome.Outcome, Outcomes.{IsResult, IsOutcome, AreOutcomes}, Once.HaveOneOutcome}
-use Rattle.set_book.proofs.{Scores.{Writes, one_header, writes_once}, Layouts.{one_layout, one_way, no_way_laid}, Stages.{IsOnce, Then, goes_on, stops, then_once}}
+use Rattle.lay_tune.specs.declared.layout.Layout.{Layout}
+use Rattle.lay_tune.specs.Layout.{IsLayout}
+use Rattle.lay_tune.proofs.Called.{has_system, one_system}
+use Rattle.set_tune.specs.Terms.{Manner, Terms}
+use Rattle.set_tune.specs.declared.tune.SetTune.{SetTune}
+use Rattle.set_tune.specs.Blocks.{blocks_of}
+use Rattle.set_tune.specs.Setting.{HasHeader, HasScore, IsScoreDrawn, IsLaid, IsLaidTune, IsLayoutRefusal}
+use Rattle.set_tune.specs.Setting.{IsMovedRefusal, IsTallRefusal, layout_fault, layout_of, of_header, of_score}
+use Rattle.set_tune.specs.Setting.{of_share, of_move, no_way, too_tall}
+use Rattle.set_book.specs.declared.outcome.Outcome.{Outcome}
+use Rattle.set_book.specs.Outcomes.{IsResult, IsOutcome, AreOutcomes}
+use Rattle.set_book.specs.Once.{HaveOneOutcome}
+use Rattle.set_book.proofs.Scores.{Writes, one_header, writes_once}
+use Rattle.set_book.proofs.Layouts.{one_layout, one_way, no_way_laid}
+use Rattle.set_book.proofs.Stages.{IsOnce, Then, goes_on, stops, then_once}
 
 -- ---- the header
 abbrev Reads : TuneText → Defaults → Result Header Fault → Type 0

@@ -1,6 +1,12 @@
 -- Text that is read part by part has one place where reading stops, and one fault there.
-use Rattle.std.{proofs.{Common.{◌≡◌, ◌∙◌, refl, sym, ap, subst, ℕ, List, [], ◌∷◌, length, Bool, true, false, Option, Some, None}, lemmas.Option.same_Some}, specs.Prelude.MatchBool}
-use Rattle.abc_notes.{specs.{declared.part.Flaw.Flaw, Parts.{IsLongest, HasNone, LeadsByParts, leads_here, leads_on, Flawed, stuck_here, stuck_later, IsFlaw, length_at_place, goes_on_length}}, proofs.PartLaws.{Reader, longest_is, none_of, at_nil}}
+use Rattle.std.proofs.Common.{◌≡◌, ◌∙◌, refl, sym, ap, subst, ℕ, List, [], ◌∷◌, length, Bool, true, false, Option, Some}
+use Rattle.std.proofs.Common.{None}
+use Rattle.std.proofs.lemmas.Option.{same_Some}
+use Rattle.std.specs.Prelude.{MatchBool}
+use Rattle.abc_notes.specs.declared.part.Flaw.{Flaw}
+use Rattle.abc_notes.specs.Parts.{IsLongest, HasNone, LeadsByParts, leads_here, leads_on, Flawed, stuck_here}
+use Rattle.abc_notes.specs.Parts.{stuck_later, IsFlaw, length_at_place, goes_on_length}
+use Rattle.abc_notes.proofs.PartLaws.{Reader, longest_is, none_of, at_nil}
 
 -- a test gives two values one meaning where each of its sides does
 pub by_test : {A B C D E : Type 0} (b : Bool) → (A → C → E) → (B → D → E) → MatchBool b A B → MatchBool b C D → E

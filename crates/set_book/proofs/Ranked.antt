@@ -1,12 +1,33 @@
 -- There is one first of the faults of a score: of their kinds each has a rank of its own.
-use Rattle.std.proofs.{Common.{◌≡◌, ◌∙◌, refl, sym, ap, subst, ℕ, ◌<◌, List, [], ◌∷◌, ◌++◌, get_or, Bool, true, false, cond, None, arith, rules}, lemmas.{List.Elements.{All-from_recursion, All-contains}, Bool.Decides.nat_tests}}
+use Rattle.std.proofs.Common.{◌≡◌, ◌∙◌, refl, sym, ap, subst, ℕ, ◌<◌, List, [], ◌∷◌, ◌++◌, get_or, Bool, true, false}
+use Rattle.std.proofs.Common.{cond, None, arith, rules}
+use Rattle.std.proofs.lemmas.List.Elements.{All-from_recursion, All-contains}
+use Rattle.std.proofs.lemmas.Bool.Decides.{nat_tests}
 use Rattle.std.specs.{Prelude.{◌&&◌, not, nat_le, nat_lt, flat_map}, List.{AllByRecursion, Contains}}
-use Rattle.{abc_lines.specs.declared.fault.{Fault.Fault, FaultKind.FaultKind}, abc_fields.specs.declared.header.Header.{Header}, mus_units.specs.declared.pitch.Clef.{Clef}}
-use Rattle.abc_steps.specs.{declared.{force.InForce.InForce, state.VoiceState.VoiceState, step.{BodyItem.BodyItem, Step.Step, PlacedStep.PlacedStep}, tuplets.OpenTuplets.OpenTuplets}, Looks.{Steps, has_left, has_right}, Places.state_at, Tuplets.{fits, or_default}}
-use Rattle.abc_faults.specs.Faults.{step_fault, fault_if, misfit_of, sounds_behind, any_grace_off, grace_faults_of, grace_faults, sound_faults, faults_of, faults_in}
-use Rattle.abc_faults.specs.{First.{kind_rank, is_before, IsLeastFault, IsFirstInOrder}, Weights.{crowd_fault, crowd_faults_at, crowd_up_to}}
-use Rattle.{abc_words.specs.{declared.verses.Verse.Verse, Verses.{faults_from, verses_of_voice, number_on, too_many}}, abc_items.specs.Voices.{unnamed_of}}
-use Rattle.abc_score.{specs.{declared.voices.ReadVoice.ReadVoice, Voices.voices_read, Faults.{voice_faults, voice_weights, score_faults}}, proofs.Basics.all_both}
+use Rattle.abc_lines.specs.declared.fault.Fault.{Fault}
+use Rattle.abc_lines.specs.declared.fault.FaultKind.{FaultKind}
+use Rattle.abc_fields.specs.declared.header.Header.{Header}
+use Rattle.mus_units.specs.declared.pitch.Clef.{Clef}
+use Rattle.abc_steps.specs.declared.force.InForce.{InForce}
+use Rattle.abc_steps.specs.declared.state.VoiceState.{VoiceState}
+use Rattle.abc_steps.specs.declared.step.BodyItem.{BodyItem}
+use Rattle.abc_steps.specs.declared.step.Step.{Step}
+use Rattle.abc_steps.specs.declared.step.PlacedStep.{PlacedStep}
+use Rattle.abc_steps.specs.declared.tuplets.OpenTuplets.{OpenTuplets}
+use Rattle.abc_steps.specs.Looks.{Steps, has_left, has_right}
+use Rattle.abc_steps.specs.Places.{state_at}
+use Rattle.abc_steps.specs.Tuplets.{fits, or_default}
+use Rattle.abc_faults.specs.Faults.{step_fault, fault_if, misfit_of, sounds_behind, any_grace_off, grace_faults_of}
+use Rattle.abc_faults.specs.Faults.{grace_faults, sound_faults, faults_of, faults_in}
+use Rattle.abc_faults.specs.First.{kind_rank, is_before, IsLeastFault, IsFirstInOrder}
+use Rattle.abc_faults.specs.Weights.{crowd_fault, crowd_faults_at, crowd_up_to}
+use Rattle.abc_words.specs.declared.verses.Verse.{Verse}
+use Rattle.abc_words.specs.Verses.{faults_from, verses_of_voice, number_on, too_many}
+use Rattle.abc_items.specs.Voices.{unnamed_of}
+use Rattle.abc_score.specs.declared.voices.ReadVoice.{ReadVoice}
+use Rattle.abc_score.specs.Voices.{voices_read}
+use Rattle.abc_score.specs.Faults.{voice_faults, voice_weights, score_faults}
+use Rattle.abc_score.proofs.Basics.{all_both}
 
 -- ---- the kind of a rank
 

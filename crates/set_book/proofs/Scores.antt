@@ -1,8 +1,20 @@
 -- A tune has one header, and one score or one fault of its score, and not both.
 use Rattle.std.proofs.Common.{◌≡◌, ◌∙◌, sym, ap, subst, inl, inr, ℕ, Bool, Option, Some, None, Result, Ok, Err}
-use Rattle.{abc_lines.specs.declared.{book.TuneText.TuneText, fault.{Fault.Fault, TuneError.TuneError}}, abc_fields.specs.{declared.{defaults.Defaults.Defaults, header.Header.Header}, Headers.{IsHeaderBy, IsHeaderOf, key_place}}}
-use Rattle.{abc_faults.specs.First.{IsFirstInOrder, IsLeastFault}, mus_score.specs.{declared.score.Score.Score, GoodScore.IsGoodScore}, abc_score.specs.{Faults.score_faults, Score.score_of, Build.{body_lines, IsScoreOf, IsFaultOf}}}
-use Rattle.set_book.proofs.{Bodies.{one_items, no_body_fault, one_body_fault}, Ranked.{score_ranked, one_least, none_or_least}, Stages.IsOnce}
+use Rattle.abc_lines.specs.declared.book.TuneText.{TuneText}
+use Rattle.abc_lines.specs.declared.fault.Fault.{Fault}
+use Rattle.abc_lines.specs.declared.fault.TuneError.{TuneError}
+use Rattle.abc_fields.specs.declared.defaults.Defaults.{Defaults}
+use Rattle.abc_fields.specs.declared.header.Header.{Header}
+use Rattle.abc_fields.specs.Headers.{IsHeaderBy, IsHeaderOf, key_place}
+use Rattle.abc_faults.specs.First.{IsFirstInOrder, IsLeastFault}
+use Rattle.mus_score.specs.declared.score.Score.{Score}
+use Rattle.mus_score.specs.GoodScore.{IsGoodScore}
+use Rattle.abc_score.specs.Faults.{score_faults}
+use Rattle.abc_score.specs.Score.{score_of}
+use Rattle.abc_score.specs.Build.{body_lines, IsScoreOf, IsFaultOf}
+use Rattle.set_book.proofs.Bodies.{one_items, no_body_fault, one_body_fault}
+use Rattle.set_book.proofs.Ranked.{score_ranked, one_least, none_or_least}
+use Rattle.set_book.proofs.Stages.{IsOnce}
 
 by_place : (tune : TuneText) (defaults : Defaults) (h k : Header) (place : Option ℕ) → IsHeaderBy tune defaults h place → IsHeaderBy tune defaults k place → h ≡ k
 by_place tune defaults h k None a b = absurd a

@@ -1,7 +1,14 @@
 -- A score has one list of the spans that fit a width.
-use Rattle.std.proofs.{Common.{◌≡◌, ◌∙◌, ℕ, ◌<◌, ◌≤◌, inl, inr, Bool, true, false, if◌then◌else◌, List, [], ◌∷◌, Option, Some, None, refl, sym, ap, subst, arith}, lemmas.Option.{none-some, same_Some}}
-use Rattle.{mus_score.specs.declared.score.Score.{Score}, lay_breaks.specs.{declared.costs.Span.Span, Spans.{AreSpans, IsNextSpan, SpansFrom, ends_are, has_ends, has_these, listed}}}
-use Rattle.lay_tune.{specs.Spans.AreSpansOf, proofs.{Breakings.{cost_can_be, one_cost}, Called.has_system, Open.some_of}}
+use Rattle.std.proofs.Common.{◌≡◌, ◌∙◌, ℕ, ◌<◌, ◌≤◌, inl, inr, Bool, true, false, if◌then◌else◌, List, [], ◌∷◌, Option}
+use Rattle.std.proofs.Common.{Some, None, refl, sym, ap, subst, arith}
+use Rattle.std.proofs.lemmas.Option.{none-some, same_Some}
+use Rattle.mus_score.specs.declared.score.Score.{Score}
+use Rattle.lay_breaks.specs.declared.costs.Span.{Span}
+use Rattle.lay_breaks.specs.Spans.{AreSpans, IsNextSpan, SpansFrom, ends_are, has_ends, has_these, listed}
+use Rattle.lay_tune.specs.Spans.{AreSpansOf}
+use Rattle.lay_tune.proofs.Breakings.{cost_can_be, one_cost}
+use Rattle.lay_tune.proofs.Called.{has_system}
+use Rattle.lay_tune.proofs.Open.{some_of}
 
 -- what is listed is the first span of the list, or listed behind it
 data Found (s : Span) (ss : List Span) (a b v : ℕ) : Type 0 where

@@ -1,7 +1,12 @@
 -- The staves of a system are stacked in one way.
-use Rattle.std.proofs.{Common.{◌≡◌, ◌∙◌, ℕ, ℤ, pos, ◌+ℤ◌, ◌-ℤ◌, List, [], ◌∷◌, refl, sym, ap, subst, arith}, lemmas.Int.ints}
-use Rattle.{mus_score.specs.declared.score.Score.{Score}, mus_laid.specs.declared.laid.{StaffMarks.StaffMarks, SystemMarks.SystemMarks}}
-use Rattle.{lay_pages.specs.{declared.stacking.Heights.Heights, Stacking.AreStavesStacked}, lay_tune.specs.Systems.{Beside, IsStack, gaps_between}}
+use Rattle.std.proofs.Common.{◌≡◌, ◌∙◌, ℕ, ℤ, pos, ◌+ℤ◌, ◌-ℤ◌, List, [], ◌∷◌, refl, sym, ap, subst, arith}
+use Rattle.std.proofs.lemmas.Int.{ints}
+use Rattle.mus_score.specs.declared.score.Score.{Score}
+use Rattle.mus_laid.specs.declared.laid.StaffMarks.{StaffMarks}
+use Rattle.mus_laid.specs.declared.laid.SystemMarks.{SystemMarks}
+use Rattle.lay_pages.specs.declared.stacking.Heights.{Heights}
+use Rattle.lay_pages.specs.Stacking.{AreStavesStacked}
+use Rattle.lay_tune.specs.Systems.{Beside, IsStack, gaps_between}
 
 same_base : (top b c high : ℤ) → b +ℤ high ≡ top → c +ℤ high ≡ top → b ≡ c
 same_base top b c high h k = omega (arith, ints)

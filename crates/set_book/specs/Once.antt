@@ -1,8 +1,17 @@
 -- A tune has one outcome: what it is set as, or its fault, follows from the tune and its terms, and from nothing of how it was set. So a
 -- book has one list of outcomes, however many jobs set it.
 use Rattle.std.specs.Prelude.{◌≡◌, ℕ, List}
-use Rattle.{abc_lines.specs.declared.{book.TuneText.TuneText, fault.{Fault.Fault, TuneError.TuneError}}, abc_fields.specs.declared.{defaults.Defaults.Defaults, header.Header.Header}, mus_score.specs.declared.score.Score.{Score}}
-use Rattle.{mus_laid.specs.declared.laid.SystemMarks.{SystemMarks}, lay_tune.specs.Spans.{IsSystemOf}, set_tune.specs.{Terms.{Manner, Terms}, declared.tune.SetTune.SetTune, Setting.{HasScore, IsFaultOfTune, IsMovedRefusal, IsSetTune}}}
+use Rattle.abc_lines.specs.declared.book.TuneText.{TuneText}
+use Rattle.abc_lines.specs.declared.fault.Fault.{Fault}
+use Rattle.abc_lines.specs.declared.fault.TuneError.{TuneError}
+use Rattle.abc_fields.specs.declared.defaults.Defaults.{Defaults}
+use Rattle.abc_fields.specs.declared.header.Header.{Header}
+use Rattle.mus_score.specs.declared.score.Score.{Score}
+use Rattle.mus_laid.specs.declared.laid.SystemMarks.{SystemMarks}
+use Rattle.lay_tune.specs.Spans.{IsSystemOf}
+use Rattle.set_tune.specs.Terms.{Manner, Terms}
+use Rattle.set_tune.specs.declared.tune.SetTune.{SetTune}
+use Rattle.set_tune.specs.Setting.{HasScore, IsFaultOfTune, IsMovedRefusal, IsSetTune}
 use Rattle.set_book.specs.{declared.outcome.Outcome.Outcome, Outcomes.AreOutcomes}
 
 -- the one system of these measures of a score

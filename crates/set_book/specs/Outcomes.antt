@@ -1,6 +1,11 @@
 -- What comes of the tunes of a book: one outcome for each, in order.
 use Rattle.std.specs.{Prelude.{◌≡◌, List, Result, Ok, Err}, List.AllZip}
-use Rattle.{abc_lines.specs.declared.{book.TuneText.TuneText, fault.Fault.Fault}, set_tune.specs.{Terms.Terms, declared.tune.SetTune.SetTune, Setting.{IsFaultOfTune, IsSetTune}}, set_book.specs.declared.outcome.Outcome.{Outcome}}
+use Rattle.abc_lines.specs.declared.book.TuneText.{TuneText}
+use Rattle.abc_lines.specs.declared.fault.Fault.{Fault}
+use Rattle.set_tune.specs.Terms.{Terms}
+use Rattle.set_tune.specs.declared.tune.SetTune.{SetTune}
+use Rattle.set_tune.specs.Setting.{IsFaultOfTune, IsSetTune}
+use Rattle.set_book.specs.declared.outcome.Outcome.{Outcome}
 
 abbrev pub IsResult : TuneText → Terms → Result SetTune Fault → Type 0
 IsResult tune terms (Ok t) = IsSetTune tune terms t

@@ -1,7 +1,15 @@
 -- The text of a listing, put in its parts.
-use Rattle.std.{proofs.{Common.{◌≡◌, ℕ, List, [], ◌∷◌, ◌++◌, Result, Ok, Err, refl, sym, ◌∙◌, ap}, lemmas.List.append_assoc}, specs.List.cons_option}
-use Rattle.{abc_lines.specs.declared.fault.Fault.{Fault}, lay_cert.{specs.{Lines.lines_then, Listing.entries_text, declared.lines.ListingLine.ListingLine}, proofs.Put.in_parts}, set_tune.specs.declared.tune.SetTune.{SetTune}}
-use Rattle.{set_book.specs.declared.outcome.Outcome.{Outcome}, set_lists.specs.Listing.{entries_of, listing_text, outcomes_text, result_entry, result_text}}
+use Rattle.std.proofs.Common.{◌≡◌, ℕ, List, [], ◌∷◌, ◌++◌, Result, Ok, Err, refl, sym, ◌∙◌, ap}
+use Rattle.std.proofs.lemmas.List.{append_assoc}
+use Rattle.std.specs.List.{cons_option}
+use Rattle.abc_lines.specs.declared.fault.Fault.{Fault}
+use Rattle.lay_cert.specs.Lines.{lines_then}
+use Rattle.lay_cert.specs.Listing.{entries_text}
+use Rattle.lay_cert.specs.declared.lines.ListingLine.{ListingLine}
+use Rattle.lay_cert.proofs.Put.{in_parts}
+use Rattle.set_tune.specs.declared.tune.SetTune.{SetTune}
+use Rattle.set_book.specs.declared.outcome.Outcome.{Outcome}
+use Rattle.set_lists.specs.Listing.{entries_of, listing_text, outcomes_text, result_entry, result_text}
 
 outcomes_are : (os : List Outcome) → outcomes_text os ≡ entries_text (entries_of os)
 unfolding outcomes_text

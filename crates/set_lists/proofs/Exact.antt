@@ -1,10 +1,27 @@
 -- What is written of a book is a listing of its scores' breakings, and no way is told exactly where a score has none.
-use Rattle.std.{proofs.{Common.{◌≡◌, refl, ap, subst, inl, inr, ℕ, Bool, List, [], ◌∷◌, Result, Ok, Err}, lemmas.List.Elements.{All-cons, All-nil}}, specs.List.All}
-use Rattle.{abc_lines.specs.{declared.{book.TuneText.TuneText, fault.{Fault.Fault, FaultKind.FaultKind}}, Books.book_of}, abc_fields.specs.{declared.header.Header.Header, Papers.body_width}}
-use Rattle.{mus_score.specs.declared.score.Score.{Score}, lay_breaks.specs.declared.costs.Span.{Span}, lay_tune.{specs.{Breakings.IsLegalIn, Layout.IsNoWay}, proofs.Breakings.legal_listed}}
-use Rattle.set_tune.specs.{Terms.Terms, declared.tune.SetTune.SetTune, Setting.{HasScore, IsFaultOfTune, IsLaidTune, layout_fault, no_way, of_header, of_move, of_score, of_share, too_tall}}
+use Rattle.std.proofs.Common.{◌≡◌, refl, ap, subst, inl, inr, ℕ, Bool, List, [], ◌∷◌, Result, Ok, Err}
+use Rattle.std.proofs.lemmas.List.Elements.{All-cons, All-nil}
+use Rattle.std.specs.List.{All}
+use Rattle.abc_lines.specs.declared.book.TuneText.{TuneText}
+use Rattle.abc_lines.specs.declared.fault.Fault.{Fault}
+use Rattle.abc_lines.specs.declared.fault.FaultKind.{FaultKind}
+use Rattle.abc_lines.specs.Books.{book_of}
+use Rattle.abc_fields.specs.declared.header.Header.{Header}
+use Rattle.abc_fields.specs.Papers.{body_width}
+use Rattle.mus_score.specs.declared.score.Score.{Score}
+use Rattle.lay_breaks.specs.declared.costs.Span.{Span}
+use Rattle.lay_tune.specs.Breakings.{IsLegalIn}
+use Rattle.lay_tune.specs.Layout.{IsNoWay}
+use Rattle.lay_tune.proofs.Breakings.{legal_listed}
+use Rattle.set_tune.specs.Terms.{Terms}
+use Rattle.set_tune.specs.declared.tune.SetTune.{SetTune}
+use Rattle.set_tune.specs.Setting.{HasScore, IsFaultOfTune, IsLaidTune, layout_fault, no_way, of_header, of_move}
+use Rattle.set_tune.specs.Setting.{of_score, of_share, too_tall}
 use Rattle.set_book.specs.{declared.outcome.Outcome.Outcome, Once.HaveOneOutcome, Outcomes.{AreOutcomes, IsResult}}
-use Rattle.set_lists.{specs.Laws.{HasItsBreakings, ListsTheBook, NoWayIsExact}, proofs.{Legal.breakings_of_listing, Numbers.book_rises, Told.lists_the_set}}
+use Rattle.set_lists.specs.Laws.{HasItsBreakings, ListsTheBook, NoWayIsExact}
+use Rattle.set_lists.proofs.Legal.{breakings_of_listing}
+use Rattle.set_lists.proofs.Numbers.{book_rises}
+use Rattle.set_lists.proofs.Told.{lists_the_set}
 
 -- ---- the listing of a book
 module _ (terms : Terms) where

@@ -1,5 +1,11 @@
 -- Where a listed span stands.
-use Rattle.std.{proofs.{Common.{◌≡◌, ℕ, zero, suc, ◌+◌, ◌<◌, ◌≤◌, Bool, true, false, nat_lt, List, [], ◌∷◌, length, drop, Option, Some, None, option_map, if◌then◌else◌, arith, refl, sym, ◌∙◌, ap, subst, inl, inr, unwrap_or}, lemmas.{Bool.Decides.nat_tests, List.Sorted.IsNonDecreasingBy-from_all_adjacent}}, specs.List.{AllWithin, find, slice_index_or, Sorted.IsNonDecreasingBy}}
+use Rattle.std.proofs.Common.{◌≡◌, ℕ, zero, suc, ◌+◌, ◌<◌, ◌≤◌, Bool, true, false, nat_lt, List, [], ◌∷◌, length, drop}
+use Rattle.std.proofs.Common.{Option, Some, None, option_map, if◌then◌else◌, arith, refl, sym, ◌∙◌, ap, subst, inl, inr}
+use Rattle.std.proofs.Common.{unwrap_or}
+use Rattle.std.proofs.lemmas.Bool.Decides.{nat_tests}
+use Rattle.std.proofs.lemmas.List.Sorted.{IsNonDecreasingBy-from_all_adjacent}
+use Rattle.std.specs.List.{AllWithin, find, slice_index_or}
+use Rattle.std.specs.List.Sorted.{IsNonDecreasingBy}
 use Rattle.lay_breaks.specs.{declared.costs.Span.Span, Spans.{AreSpans, IsNextSpan, SpansFrom, has_ends, listed}}
 
 next_begins : (p s : Span) → IsNextSpan p s → p.a ≤ s.a

@@ -1,7 +1,18 @@
 -- The numbers of the tunes of a book.
-use Rattle.std.{proofs.{Common.{◌≡◌, ℕ, suc, ◌+◌, ◌<◌, ◌≤◌, ◌^◌, ◌==◌, Bool, true, false, List, [], ◌∷◌, length, drop, if◌then◌else◌, nat_eq, arith, sym, subst}, lemmas.List.{length-drop, length-map, Splits.length-slice_split, Sums.count_by-le-length}}, specs.List.{slice_split, starts_with}}
-use Rattle.abc_lines.specs.{declared.reading.LineContent.LineContent, Books.{begins_tune, book_of, tune_at, tunes_behind}, Lines.{byte_order_mark, is_end, lines_of, reading, readings, without_last_empty, without_mark}}
-use Rattle.{set_tune.specs.Terms.{Terms}, set_book.specs.{declared.outcome.Outcome.Outcome, Outcomes.AreOutcomes}, set_lists.specs.Laws.{BookRises, OrdinalsRise}}
+use Rattle.std.proofs.Common.{◌≡◌, ℕ, suc, ◌+◌, ◌<◌, ◌≤◌, ◌^◌, ◌==◌, Bool, true, false, List, [], ◌∷◌, length, drop}
+use Rattle.std.proofs.Common.{if◌then◌else◌, nat_eq, arith, sym, subst}
+use Rattle.std.proofs.lemmas.List.{length-drop, length-map}
+use Rattle.std.proofs.lemmas.List.Splits.{length-slice_split}
+use Rattle.std.proofs.lemmas.List.Sums.{count_by-le-length}
+use Rattle.std.specs.List.{slice_split, starts_with}
+use Rattle.abc_lines.specs.declared.reading.LineContent.{LineContent}
+use Rattle.abc_lines.specs.Books.{begins_tune, book_of, tune_at, tunes_behind}
+use Rattle.abc_lines.specs.Lines.{byte_order_mark, is_end, lines_of, reading, readings, without_last_empty}
+use Rattle.abc_lines.specs.Lines.{without_mark}
+use Rattle.set_tune.specs.Terms.{Terms}
+use Rattle.set_book.specs.declared.outcome.Outcome.{Outcome}
+use Rattle.set_book.specs.Outcomes.{AreOutcomes}
+use Rattle.set_lists.specs.Laws.{BookRises, OrdinalsRise}
 
 -- ---- a book has at most one line more than bytes
 dropped : (lines : List (List ℕ)) → length (without_last_empty lines) ≤ length lines

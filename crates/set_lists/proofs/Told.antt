@@ -1,10 +1,28 @@
 -- What comes of tunes can be listed, and its listing tells the tunes that are set.
-use Rattle.std.{proofs.{Common.{◌≡◌, ◌∙◌, sym, ℕ, ◌<◌, ◌≤◌, ◌^◌, Bool, true, List, [], ◌∷◌, Option, Some, None, Result, Ok, Err, arith, refl}, lemmas.List.Elements.{All-cons, All-nil}}, specs.List.{All, cons_option, slice_index_or}}
-use Rattle.{abc_lines.specs.declared.{book.TuneText.TuneText, fault.Fault.Fault}, abc_fields.specs.Papers.{body_width}, mus_score.specs.declared.score.Score.{Score}}
-use Rattle.{lay_breaks.specs.{declared.costs.Span.Span, Breaking.{IsLegal, IsPotential}, Spans.{AreSpans, listed}}, lay_tune.{specs.{Spans.{AreSpansOf, is_forced_in}, Systems.IsSetSystem}, proofs.Rows.span_count}}
-use Rattle.{lay_cert.{specs.Listing.{EntriesFrom, IsEntry, none_forced}, proofs.Unforced.forced_by_spans}, set_tune.specs.{Terms.Terms, declared.tune.SetTune.SetTune, Setting.IsSetTune}}
-use Rattle.set_book.{proofs.Spanned.listed_within, specs.{declared.outcome.Outcome.Outcome, Outcomes.{AreOutcomes, IsResult}}}
-use Rattle.set_lists.specs.{Laws.{ListsTheSet, OrdinalsRise, OutcomesAreListable}, Listing.{CanBeListed, IsListable, entries_of, entry_of, result_entry}}
+use Rattle.std.proofs.Common.{◌≡◌, ◌∙◌, sym, ℕ, ◌<◌, ◌≤◌, ◌^◌, Bool, true, List, [], ◌∷◌, Option, Some, None, Result}
+use Rattle.std.proofs.Common.{Ok, Err, arith, refl}
+use Rattle.std.proofs.lemmas.List.Elements.{All-cons, All-nil}
+use Rattle.std.specs.List.{All, cons_option, slice_index_or}
+use Rattle.abc_lines.specs.declared.book.TuneText.{TuneText}
+use Rattle.abc_lines.specs.declared.fault.Fault.{Fault}
+use Rattle.abc_fields.specs.Papers.{body_width}
+use Rattle.mus_score.specs.declared.score.Score.{Score}
+use Rattle.lay_breaks.specs.declared.costs.Span.{Span}
+use Rattle.lay_breaks.specs.Breaking.{IsLegal, IsPotential}
+use Rattle.lay_breaks.specs.Spans.{AreSpans, listed}
+use Rattle.lay_tune.specs.Spans.{AreSpansOf, is_forced_in}
+use Rattle.lay_tune.specs.Systems.{IsSetSystem}
+use Rattle.lay_tune.proofs.Rows.{span_count}
+use Rattle.lay_cert.specs.Listing.{EntriesFrom, IsEntry, none_forced}
+use Rattle.lay_cert.proofs.Unforced.{forced_by_spans}
+use Rattle.set_tune.specs.Terms.{Terms}
+use Rattle.set_tune.specs.declared.tune.SetTune.{SetTune}
+use Rattle.set_tune.specs.Setting.{IsSetTune}
+use Rattle.set_book.proofs.Spanned.{listed_within}
+use Rattle.set_book.specs.declared.outcome.Outcome.{Outcome}
+use Rattle.set_book.specs.Outcomes.{AreOutcomes, IsResult}
+use Rattle.set_lists.specs.Laws.{ListsTheSet, OrdinalsRise, OutcomesAreListable}
+use Rattle.set_lists.specs.Listing.{CanBeListed, IsListable, entries_of, entry_of, result_entry}
 
 -- ---- spans pass no forced bar
 pub unforced : (s : Score) (width : ℕ) (spans : List Span) → AreSpans s.measures spans → AreSpansOf s width spans → (breaks : List ℕ) (i : ℕ)

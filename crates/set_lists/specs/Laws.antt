@@ -1,9 +1,25 @@
 -- The laws of the listing of a book.
 use Rattle.std.specs.Prelude.{◌≡◌, ℕ, ◌<◌, ◌≤◌, ◌^◌, ◌↔◌, ⊤, All, List, [], ◌∷◌, length, Result, Ok, Err}
-use Rattle.{abc_lines.specs.{declared.{book.TuneText.TuneText, fault.{Fault.Fault, FaultKind.FaultKind}}, Books.book_of}, abc_fields.specs.{declared.{header.Header.Header, paper.Paper.Paper}, Papers.body_width}}
-use Rattle.{mus_score.specs.declared.score.Score.{Score}, lay_breaks.specs.{declared.costs.Span.Span, Breaking.IsLegal, Spans.{AreSpans, listed}}, lay_tune.specs.{Breakings.IsLegalIn, Spans.AreSpansOf}}
-use Rattle.{lay_cert.specs.Listing.{IsListing, none_forced}, set_tune.specs.{Terms.Terms, declared.tune.SetTune.SetTune, Setting.{HasScore, layout_fault}}}
-use Rattle.{set_book.specs.{declared.outcome.Outcome.Outcome, Outcomes.{AreOutcomes, IsOutcome}}, set_lists.specs.Listing.{AreListable, entries_of, listing_text}}
+use Rattle.abc_lines.specs.declared.book.TuneText.{TuneText}
+use Rattle.abc_lines.specs.declared.fault.Fault.{Fault}
+use Rattle.abc_lines.specs.declared.fault.FaultKind.{FaultKind}
+use Rattle.abc_lines.specs.Books.{book_of}
+use Rattle.abc_fields.specs.declared.header.Header.{Header}
+use Rattle.abc_fields.specs.declared.paper.Paper.{Paper}
+use Rattle.abc_fields.specs.Papers.{body_width}
+use Rattle.mus_score.specs.declared.score.Score.{Score}
+use Rattle.lay_breaks.specs.declared.costs.Span.{Span}
+use Rattle.lay_breaks.specs.Breaking.{IsLegal}
+use Rattle.lay_breaks.specs.Spans.{AreSpans, listed}
+use Rattle.lay_tune.specs.Breakings.{IsLegalIn}
+use Rattle.lay_tune.specs.Spans.{AreSpansOf}
+use Rattle.lay_cert.specs.Listing.{IsListing, none_forced}
+use Rattle.set_tune.specs.Terms.{Terms}
+use Rattle.set_tune.specs.declared.tune.SetTune.{SetTune}
+use Rattle.set_tune.specs.Setting.{HasScore, layout_fault}
+use Rattle.set_book.specs.declared.outcome.Outcome.{Outcome}
+use Rattle.set_book.specs.Outcomes.{AreOutcomes, IsOutcome}
+use Rattle.set_lists.specs.Listing.{AreListable, entries_of, listing_text}
 
 -- the numbers of the tunes rise, the first past k, and have 32 bits
 abbrev pub OrdinalsRise : ℕ → List Outcome → Type 0

@@ -1,6 +1,10 @@
 -- The listing of a book: the entry of each tune without a fault, in order.
-use Rattle.std.specs.{Prelude.{◌≡◌, ℕ, ◌<◌, ◌^◌, ⊤, All, List, [], length, Option, Some, None, Result, Ok, Err}, List.{filter_map, flat_map}}
-use Rattle.{abc_lines.specs.declared.fault.Fault.{Fault}, lay_breaks.specs.Spans.{AreSpans}, lay_cert.specs.{Lines.lines_then, Listing.{Entry, entry_lines, listing_lines}}}
+use Rattle.std.specs.Prelude.{◌≡◌, ℕ, ◌<◌, ◌^◌, ⊤, All, List, [], length, Option, Some, None, Result, Ok, Err}
+use Rattle.std.specs.List.{filter_map, flat_map}
+use Rattle.abc_lines.specs.declared.fault.Fault.{Fault}
+use Rattle.lay_breaks.specs.Spans.{AreSpans}
+use Rattle.lay_cert.specs.Lines.{lines_then}
+use Rattle.lay_cert.specs.Listing.{Entry, entry_lines, listing_lines}
 use Rattle.{set_tune.specs.declared.tune.SetTune.{SetTune}, set_book.specs.declared.outcome.Outcome.{Outcome}}
 
 -- what is listed of a tune

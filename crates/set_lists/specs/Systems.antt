@@ -1,7 +1,12 @@
 -- The systems of a book: for each tune without a fault its line, and a line for each of its systems.
 use Rattle.std.specs.{Prelude.{ℕ, List, [], ◌∷◌, ◌++◌, codes, decimal, Result, Ok, Err, unwrap_or}, List.flat_map}
-use Rattle.{abc_lines.specs.declared.fault.Fault.{Fault}, mus_laid.specs.declared.laid.SystemMarks.{SystemMarks}, lay_breaks.specs.{declared.costs.Span.Span, Spans.listed}}
-use Rattle.{lay_springs.specs.declared.margin.Placed.{Placed}, set_tune.specs.declared.tune.SetTune.{SetTune}, set_book.specs.declared.outcome.Outcome.{Outcome}}
+use Rattle.abc_lines.specs.declared.fault.Fault.{Fault}
+use Rattle.mus_laid.specs.declared.laid.SystemMarks.{SystemMarks}
+use Rattle.lay_breaks.specs.declared.costs.Span.{Span}
+use Rattle.lay_breaks.specs.Spans.{listed}
+use Rattle.lay_springs.specs.declared.margin.Placed.{Placed}
+use Rattle.set_tune.specs.declared.tune.SetTune.{SetTune}
+use Rattle.set_book.specs.declared.outcome.Outcome.{Outcome}
 
 -- the badness of the listed span from bar a to bar b
 abbrev pub badness_in : List Span → ℕ → ℕ → ℕ

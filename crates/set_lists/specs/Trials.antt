@@ -1,6 +1,11 @@
 -- The line of a trial, and what is counted of outcomes.
-use Rattle.std.specs.Prelude.{ℕ, Bool, List, [], ◌∷◌, ◌++◌, codes, decimal, length, sum_by, count_by, Result, Ok, Err, is_ok}
-use Rattle.{abc_lines.specs.declared.fault.Fault.{Fault}, set_tune.specs.declared.tune.SetTune.{SetTune}, set_book.specs.declared.outcome.Outcome.{Outcome}, set_lists.specs.{declared.trials.Trial.Trial, Reports.is_faulty}}
+use Rattle.std.specs.Prelude.{ℕ, Bool, List, [], ◌∷◌, ◌++◌, codes, decimal, length, sum_by, count_by, Result, Ok, Err}
+use Rattle.std.specs.Prelude.{is_ok}
+use Rattle.abc_lines.specs.declared.fault.Fault.{Fault}
+use Rattle.set_tune.specs.declared.tune.SetTune.{SetTune}
+use Rattle.set_book.specs.declared.outcome.Outcome.{Outcome}
+use Rattle.set_lists.specs.declared.trials.Trial.{Trial}
+use Rattle.set_lists.specs.Reports.{is_faulty}
 
 unfoldable pub trial_text : Trial → List ℕ
 trial_text t =

@@ -1,4 +1,5 @@
-ghost use Rattle.set_lists.specs.Laws.{BookRises, BreakingsOfListing, ListsTheBook, ListsTheSet, NoWayIsExact, OutcomesAreListable};
+ghost use Rattle.set_lists.specs.Laws.{BookRises, BreakingsOfListing, ListsTheBook, ListsTheSet, NoWayIsExact};
+ghost use Rattle.set_lists.specs.Laws.{OutcomesAreListable};
 
 use set_book::one_outcome;
 

@@ -1,5 +1,8 @@
 ghost use Rattle.std.specs.Prelude.{◌≡◌, [], ◌++◌, OnOk};
-ghost use Rattle.{lay_cert.specs.{Lines.lines_then, Listing.entry_lines}, set_lists.specs.Listing.{AreListable, CanBeListed, IsListable, entry_of, listing_text, outcome_text, outcomes_text}};
+ghost use Rattle.lay_cert.specs.Lines.{lines_then};
+ghost use Rattle.lay_cert.specs.Listing.{entry_lines};
+ghost use Rattle.set_lists.specs.Listing.{AreListable, CanBeListed, IsListable, entry_of, listing_text, outcome_text};
+ghost use Rattle.set_lists.specs.Listing.{outcomes_text};
 
 use lay_cert::{put_end, put_entry, put_heading};
 use mus_units::{Memory, Text};

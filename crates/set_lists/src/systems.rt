@@ -1,6 +1,8 @@
 ghost use Rattle.std.specs.{Prelude.{◌≡◌, ◌++◌, length, OnOk}, List.find, Option.option_copied};
 ghost use Rattle.lay_breaks.specs.Spans.{AreSpans, has_ends};
-ghost use Rattle.set_lists.specs.{Listing.{AreListable, IsListable}, Systems.{badness_in, outcome_lines, listed_system, system_lines, systems_text, listed_tune}};
+ghost use Rattle.set_lists.specs.Listing.{AreListable, IsListable};
+ghost use Rattle.set_lists.specs.Systems.{badness_in, outcome_lines, listed_system, system_lines, systems_text};
+ghost use Rattle.set_lists.specs.Systems.{listed_tune};
 
 use crate::words::put_word;
 use mus_units::{Memory, Text};

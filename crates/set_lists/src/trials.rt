@@ -1,5 +1,6 @@
 ghost use Rattle.std.specs.Prelude.{◌≡◌, ◌++◌, OnOk};
-ghost use Rattle.set_lists.specs.Trials.{fault_count, set_count, system_count, systems_in, total_in, total_of, trial_text};
+ghost use Rattle.set_lists.specs.Trials.{fault_count, set_count, system_count, systems_in, total_in, total_of};
+ghost use Rattle.set_lists.specs.Trials.{trial_text};
 
 use crate::words::put_word;
 use mus_units::{Memory, Text};

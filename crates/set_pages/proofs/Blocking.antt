@@ -1,10 +1,35 @@
 -- What the blocks of outcomes draw is ready to be drawn wherever they lie on a page.
-use Rattle.std.{proofs.{Common.{ℕ, ◌^◌, ◌<◌, ◌≤◌, ℤ, pos, ◌-ℤ◌, ◌≤ℤ◌, Bool, List, [], ◌∷◌, ◌++◌, length, Option, Some, None, arith}, lemmas.{Int.ints, List.Elements.{All-head, All-tail, All-weaker}}}, specs.{Prelude.{All, IfSome, Result, Ok, Err}, List.AllZip}}
-use Rattle.{abc_lines.specs.declared.fault.Fault.{Fault}, abc_fields.specs.{declared.paper.Paper.Paper, Papers.{IsGoodPaper, body_width}}, mus_score.specs.declared.score.Score.{Score}, mus_laid.specs.declared.laid.SystemMarks.{SystemMarks}}
-use Rattle.{lay_springs.specs.declared.margin.Placed.{Placed}, lay_pages.specs.declared.{stacking.Heights.Heights, titles.{TitleRow.TitleRow}}, law_marks_in_range.{specs.Titles.IsGoodRow, proofs.TitleRows.rows_stand}}
-use Rattle.{set_tune.{specs.{declared.tune.SetTune.SetTune, Blocks.{block_height, blocks_of, is_some_list, system_block, system_blocks, title_blocks}}, proofs.Laid.heard_moved}, set_book.specs.declared.outcome.Outcome.{Outcome}}
-use Rattle.{set_staves.{specs.{Drawn.{IsBase, IsOnPage, IsTop}, Marks.{RisesAlong}}, proofs.Shown.x_read}, lay_tune.specs.Systems.{StandWithin, gaps_between}}
-use Rattle.set_pages.{specs.{Drawings.{all_blocks, all_drawings, drawing, drawings_from, outcome_blocks, outcome_drawings, result_blocks, result_drawings, system, system_contents, title_contents}, Ready.{IsReadyOn, IsReadyRow}, Sheet.{IsSetResult, IsSetUnder}}, proofs.{Laying.{AreLaid, IsLaidSystem, paper_narrow, tune_laid}, Stacks.{IsBetween, stacked_lie}, Joined.zip_append}}
+use Rattle.std.proofs.Common.{ℕ, ◌^◌, ◌<◌, ◌≤◌, ℤ, pos, ◌-ℤ◌, ◌≤ℤ◌, Bool, List, [], ◌∷◌, ◌++◌, length, Option, Some}
+use Rattle.std.proofs.Common.{None, arith}
+use Rattle.std.proofs.lemmas.Int.{ints}
+use Rattle.std.proofs.lemmas.List.Elements.{All-head, All-tail, All-weaker}
+use Rattle.std.specs.Prelude.{All, IfSome, Result, Ok, Err}
+use Rattle.std.specs.List.{AllZip}
+use Rattle.abc_lines.specs.declared.fault.Fault.{Fault}
+use Rattle.abc_fields.specs.declared.paper.Paper.{Paper}
+use Rattle.abc_fields.specs.Papers.{IsGoodPaper, body_width}
+use Rattle.mus_score.specs.declared.score.Score.{Score}
+use Rattle.mus_laid.specs.declared.laid.SystemMarks.{SystemMarks}
+use Rattle.lay_springs.specs.declared.margin.Placed.{Placed}
+use Rattle.lay_pages.specs.declared.stacking.Heights.{Heights}
+use Rattle.lay_pages.specs.declared.titles.TitleRow.{TitleRow}
+use Rattle.law_marks_in_range.specs.Titles.{IsGoodRow}
+use Rattle.law_marks_in_range.proofs.TitleRows.{rows_stand}
+use Rattle.set_tune.specs.declared.tune.SetTune.{SetTune}
+use Rattle.set_tune.specs.Blocks.{block_height, blocks_of, is_some_list, system_block, system_blocks, title_blocks}
+use Rattle.set_tune.proofs.Laid.{heard_moved}
+use Rattle.set_book.specs.declared.outcome.Outcome.{Outcome}
+use Rattle.set_staves.specs.Drawn.{IsBase, IsOnPage, IsTop}
+use Rattle.set_staves.specs.Marks.{RisesAlong}
+use Rattle.set_staves.proofs.Shown.{x_read}
+use Rattle.lay_tune.specs.Systems.{StandWithin, gaps_between}
+use Rattle.set_pages.specs.Drawings.{all_blocks, all_drawings, drawing, drawings_from, outcome_blocks, outcome_drawings}
+use Rattle.set_pages.specs.Drawings.{result_blocks, result_drawings, system, system_contents, title_contents}
+use Rattle.set_pages.specs.Ready.{IsReadyOn, IsReadyRow}
+use Rattle.set_pages.specs.Sheet.{IsSetResult, IsSetUnder}
+use Rattle.set_pages.proofs.Laying.{AreLaid, IsLaidSystem, paper_narrow, tune_laid}
+use Rattle.set_pages.proofs.Stacks.{IsBetween, stacked_lie}
+use Rattle.set_pages.proofs.Joined.{zip_append}
 
 -- the tune that a block begins has an ordinal
 abbrev IsCounted : Option ℕ → Type 0

@@ -1,8 +1,13 @@
 -- The blocks of tunes of which none has a group that is too tall have none together: no block is tied to one of the next tune.
-use Rattle.std.{proofs.Common.{◌≡◌, refl, ap, ℕ, suc, Bool, true, false, not, List, [], ◌∷◌, ◌++◌, Option, None}, specs.Prelude.{◌&&◌, nat_lt, Result, Ok, Err}}
+use Rattle.std.proofs.Common.{◌≡◌, refl, ap, ℕ, suc, Bool, true, false, not, List, [], ◌∷◌, ◌++◌, Option, None}
+use Rattle.std.specs.Prelude.{◌&&◌, nat_lt, Result, Ok, Err}
 use Rattle.abc_lines.specs.declared.fault.Fault.{Fault}
-use Rattle.lay_pages.specs.{declared.{filling.Block.Block, stacking.Heights.Heights, titles.TitleRow.TitleRow}, Filling.{IsLoose, first_tall, group_height, height_number, tall_by, tall_from, with_kept}}
-use Rattle.{set_tune.specs.{declared.tune.SetTune.SetTune, Blocks.{blocks_of, is_some_list, system_blocks, title_blocks}}}
+use Rattle.lay_pages.specs.declared.filling.Block.{Block}
+use Rattle.lay_pages.specs.declared.stacking.Heights.{Heights}
+use Rattle.lay_pages.specs.declared.titles.TitleRow.{TitleRow}
+use Rattle.lay_pages.specs.Filling.{IsLoose, first_tall, group_height, height_number, tall_by, tall_from, with_kept}
+use Rattle.set_tune.specs.declared.tune.SetTune.{SetTune}
+use Rattle.set_tune.specs.Blocks.{blocks_of, is_some_list, system_blocks, title_blocks}
 use Rattle.set_pages.specs.Drawings.{result_blocks}
 
 -- a group ends with the last block

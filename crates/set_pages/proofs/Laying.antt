@@ -1,10 +1,26 @@
 -- The systems of a tune that is laid out on a paper: each can be shown, its columns stand within the width, its boxes stay apart and
 -- its staves stand under one another.
-use Rattle.std.{proofs.Common.{ℕ, ◌*◌, ◌+◌, ◌-◌, ◌/◌, ◌^◌, ◌<◌, ◌≤◌, List, [], ◌∷◌, length, arith}, specs.Prelude.{⊤, All}}
-use Rattle.{abc_fields.specs.{declared.paper.Paper.Paper, Papers.{IsGoodPaper, body_width}}, mus_score.specs.{declared.score.Score.Score, GoodScore.IsGoodScore}, mus_laid.specs.declared.laid.SystemMarks.{SystemMarks}}
-use Rattle.{lay_springs.specs.declared.margin.Placed.{Placed}, lay_breaks.specs.Breaking.{RisesFrom, last_from}, lay_pages.specs.{declared.stacking.Heights.Heights, Stacking.AreGoodStaves}}
-use Rattle.{lay_tune.{specs.Systems.{Beside, EachSpan, IsSetSystem, IsStack, StandWithin}, proofs.Open.past_last}, law_marks_in_range.{specs.Shown.IsShown, proofs.{Alike.alike_shown, Laws.call_shown}}}
-use Rattle.{law_marks_apart.{specs.Apart.AreApart, proofs.Laws.{boxes_apart, columns_stand}}, set_tune.specs.{declared.tune.SetTune.SetTune, Setting.IsLaidOut}, set_pages.proofs.Stacks.{tilted_good}}
+use Rattle.std.proofs.Common.{ℕ, ◌*◌, ◌+◌, ◌-◌, ◌/◌, ◌^◌, ◌<◌, ◌≤◌, List, [], ◌∷◌, length, arith}
+use Rattle.std.specs.Prelude.{⊤, All}
+use Rattle.abc_fields.specs.declared.paper.Paper.{Paper}
+use Rattle.abc_fields.specs.Papers.{IsGoodPaper, body_width}
+use Rattle.mus_score.specs.declared.score.Score.{Score}
+use Rattle.mus_score.specs.GoodScore.{IsGoodScore}
+use Rattle.mus_laid.specs.declared.laid.SystemMarks.{SystemMarks}
+use Rattle.lay_springs.specs.declared.margin.Placed.{Placed}
+use Rattle.lay_breaks.specs.Breaking.{RisesFrom, last_from}
+use Rattle.lay_pages.specs.declared.stacking.Heights.{Heights}
+use Rattle.lay_pages.specs.Stacking.{AreGoodStaves}
+use Rattle.lay_tune.specs.Systems.{Beside, EachSpan, IsSetSystem, IsStack, StandWithin}
+use Rattle.lay_tune.proofs.Open.{past_last}
+use Rattle.law_marks_in_range.specs.Shown.{IsShown}
+use Rattle.law_marks_in_range.proofs.Alike.{alike_shown}
+use Rattle.law_marks_in_range.proofs.Laws.{call_shown}
+use Rattle.law_marks_apart.specs.Apart.{AreApart}
+use Rattle.law_marks_apart.proofs.Laws.{boxes_apart, columns_stand}
+use Rattle.set_tune.specs.declared.tune.SetTune.{SetTune}
+use Rattle.set_tune.specs.Setting.{IsLaidOut}
+use Rattle.set_pages.proofs.Stacks.{tilted_good}
 
 -- a system that is laid out
 pub record IsLaidSystem (s : Score) (width : ℕ) (m : SystemMarks) (p : Placed) (h : Heights) : Type 0 where

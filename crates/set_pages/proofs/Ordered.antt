@@ -1,9 +1,23 @@
 -- The items of each page are good and in order: a title stands only in the block that begins a tune.
-use Rattle.std.{proofs.{Common.{ℕ, zero, suc, ℤ, Bool, true, false, cond, List, [], ◌∷◌, ◌++◌, map, Option, Some, None}, lemmas.List.Elements.{All-append, All-cons, All-head, All-nil, All-tail}}, specs.{Prelude.{◌==◌, ⊤, All, Result, Ok, Err}, List.AllZip}}
-use Rattle.{abc_lines.specs.declared.fault.Fault.{Fault}, lay_springs.specs.declared.margin.Placed.{Placed}, lay_pages.specs.declared.{filling.Spot.Spot, stacking.Heights.Heights, titles.TitleRow.TitleRow}}
-use Rattle.{mus_laid.specs.declared.laid.SystemMarks.{SystemMarks}, ps_text.specs.{declared.sheet.Item.Item, Range.{InOrder, IsAfter, IsItem, IsPage}}, set_tune.specs.declared.tune.SetTune.{SetTune}}
+use Rattle.std.proofs.Common.{ℕ, zero, suc, ℤ, Bool, true, false, cond, List, [], ◌∷◌, ◌++◌, map, Option, Some, None}
+use Rattle.std.proofs.lemmas.List.Elements.{All-append, All-cons, All-head, All-nil, All-tail}
+use Rattle.std.specs.Prelude.{◌==◌, ⊤, All, Result, Ok, Err}
+use Rattle.std.specs.List.{AllZip}
+use Rattle.abc_lines.specs.declared.fault.Fault.{Fault}
+use Rattle.lay_springs.specs.declared.margin.Placed.{Placed}
+use Rattle.lay_pages.specs.declared.filling.Spot.{Spot}
+use Rattle.lay_pages.specs.declared.stacking.Heights.{Heights}
+use Rattle.lay_pages.specs.declared.titles.TitleRow.{TitleRow}
+use Rattle.mus_laid.specs.declared.laid.SystemMarks.{SystemMarks}
+use Rattle.ps_text.specs.declared.sheet.Item.{Item}
+use Rattle.ps_text.specs.Range.{InOrder, IsAfter, IsItem, IsPage}
+use Rattle.set_tune.specs.declared.tune.SetTune.{SetTune}
 use Rattle.{set_book.specs.declared.outcome.Outcome.{Outcome}, set_staves.specs.Marks.{system_at}}
-use Rattle.set_pages.specs.{Drawings.{Content, Drawing, title, system, all_drawings, content_items, drawings_from, drawn, outcome_drawings, result_drawings, title_item_at, system_contents, systems_of, title_contents, tune_items}, Ready.IsDrawnInRange, Sheet.{items_on, pages_from}}
+use Rattle.set_pages.specs.Drawings.{Content, Drawing, title, system, all_drawings, content_items, drawings_from, drawn}
+use Rattle.set_pages.specs.Drawings.{outcome_drawings, result_drawings, title_item_at, system_contents, systems_of}
+use Rattle.set_pages.specs.Drawings.{title_contents, tune_items}
+use Rattle.set_pages.specs.Ready.{IsDrawnInRange}
+use Rattle.set_pages.specs.Sheet.{items_on, pages_from}
 
 -- each may stand behind any item
 abbrev pub BeginsFree : List Item → Type 0

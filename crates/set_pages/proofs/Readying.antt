@@ -1,9 +1,27 @@
 -- What is set on a paper: a placement and good heights for each system of a tune, and no group that is higher than the page.
-use Rattle.std.{proofs.{Common.{◌≡◌, ◌∙◌, refl, sym, ℕ, suc, ◌≤◌, true, false, if◌then◌else◌, List, [], ◌∷◌, length, None, arith}, lemmas.List.Elements.{All-cons, All-head, All-nil, All-tail, All-weaker}}, specs.Prelude.{All, Result, Ok, Err}}
-use Rattle.abc_lines.specs.{declared.{book.TuneText.TuneText, fault.Fault.Fault, reading.LineContent.LineContent}, Books.{begins_tune, book_of, tune_at, tunes_behind}, Lines.{readings, without_mark}}
-use Rattle.{abc_fields.specs.{declared.paper.Paper.Paper, Papers.{body_height, body_width}}, lay_pages.specs.Filling.{first_tall}, lay_tune.{specs.Systems.{IsSetSystem, IsStack}, proofs.Rows.{beside_count, span_count}}}
-use Rattle.{set_tune.{specs.{Terms.Terms, declared.tune.SetTune.SetTune}, proofs.Laid.good_heights}, set_book.specs.{declared.outcome.Outcome.Outcome, Outcomes.{AreOutcomes, IsResult}}}
-use Rattle.set_pages.{specs.{Drawings.{all_blocks, outcome_blocks, result_blocks}, Ready.{IsWhole, IsWholeResult}, Sheet.{IsSetResult, IsSetUnder}}, proofs.Fitting.{first_append, result_loose}}
+use Rattle.std.proofs.Common.{◌≡◌, ◌∙◌, refl, sym, ℕ, suc, ◌≤◌, true, false, if◌then◌else◌, List, [], ◌∷◌, length, None}
+use Rattle.std.proofs.Common.{arith}
+use Rattle.std.proofs.lemmas.List.Elements.{All-cons, All-head, All-nil, All-tail, All-weaker}
+use Rattle.std.specs.Prelude.{All, Result, Ok, Err}
+use Rattle.abc_lines.specs.declared.book.TuneText.{TuneText}
+use Rattle.abc_lines.specs.declared.fault.Fault.{Fault}
+use Rattle.abc_lines.specs.declared.reading.LineContent.{LineContent}
+use Rattle.abc_lines.specs.Books.{begins_tune, book_of, tune_at, tunes_behind}
+use Rattle.abc_lines.specs.Lines.{readings, without_mark}
+use Rattle.abc_fields.specs.declared.paper.Paper.{Paper}
+use Rattle.abc_fields.specs.Papers.{body_height, body_width}
+use Rattle.lay_pages.specs.Filling.{first_tall}
+use Rattle.lay_tune.specs.Systems.{IsSetSystem, IsStack}
+use Rattle.lay_tune.proofs.Rows.{beside_count, span_count}
+use Rattle.set_tune.specs.Terms.{Terms}
+use Rattle.set_tune.specs.declared.tune.SetTune.{SetTune}
+use Rattle.set_tune.proofs.Laid.{good_heights}
+use Rattle.set_book.specs.declared.outcome.Outcome.{Outcome}
+use Rattle.set_book.specs.Outcomes.{AreOutcomes, IsResult}
+use Rattle.set_pages.specs.Drawings.{all_blocks, outcome_blocks, result_blocks}
+use Rattle.set_pages.specs.Ready.{IsWhole, IsWholeResult}
+use Rattle.set_pages.specs.Sheet.{IsSetResult, IsSetUnder}
+use Rattle.set_pages.proofs.Fitting.{first_append, result_loose}
 
 -- the systems of a tune
 pub result_whole : (paper : Paper) (r : Result SetTune Fault) → IsSetResult paper r → IsWholeResult r

@@ -1,7 +1,18 @@
 -- Staves under one another: each base lies between the top and the bottom of its system, and so do all marks.
-use Rattle.std.{proofs.{Common.{◌≡◌, refl, ap, ℕ, suc, ℤ, pos, ◌+ℤ◌, ◌-ℤ◌, ◌≤ℤ◌, List, [], ◌∷◌, map, length, arith}, lemmas.{Int.ints, List.Elements.{All-cons, All-nil}}}, specs.Prelude.All}
-use Rattle.{mus_score.specs.declared.score.Score.{Score}, mus_onsets.specs.{declared.keys.ColumnKey.ColumnKey, Onsets.timeline_of}, mus_drawn.specs.declared.drawn.DrawnVoice.{DrawnVoice}}
-use Rattle.{mus_laid.specs.declared.laid.{StaffMarks.StaffMarks, SystemMarks.SystemMarks}, mus_marks.{specs.{Staff.{staff_marks}, System.drawn_staves, Tilt.{IsTilted, tilted_staff}}, proofs.Lines.covers}}
+use Rattle.std.proofs.Common.{◌≡◌, refl, ap, ℕ, suc, ℤ, pos, ◌+ℤ◌, ◌-ℤ◌, ◌≤ℤ◌, List, [], ◌∷◌, map, length, arith}
+use Rattle.std.proofs.lemmas.Int.{ints}
+use Rattle.std.proofs.lemmas.List.Elements.{All-cons, All-nil}
+use Rattle.std.specs.Prelude.{All}
+use Rattle.mus_score.specs.declared.score.Score.{Score}
+use Rattle.mus_onsets.specs.declared.keys.ColumnKey.{ColumnKey}
+use Rattle.mus_onsets.specs.Onsets.{timeline_of}
+use Rattle.mus_drawn.specs.declared.drawn.DrawnVoice.{DrawnVoice}
+use Rattle.mus_laid.specs.declared.laid.StaffMarks.{StaffMarks}
+use Rattle.mus_laid.specs.declared.laid.SystemMarks.{SystemMarks}
+use Rattle.mus_marks.specs.Staff.{staff_marks}
+use Rattle.mus_marks.specs.System.{drawn_staves}
+use Rattle.mus_marks.specs.Tilt.{IsTilted, tilted_staff}
+use Rattle.mus_marks.proofs.Lines.{covers}
 use Rattle.{lay_pages.specs.Stacking.{AreGoodStaves, AreStavesStacked}, set_pages.specs.Clear.{AreUnder, LieBetween}}
 
 -- the staves that are called for cover their lines

@@ -1,9 +1,27 @@
 -- Blocks that fill pages: their pages rise by one at most, their tops lie on the page, and there is a drawing for each.
-use Rattle.std.{proofs.{Common.{◌≡◌, refl, ap, inl, inr, ℕ, suc, ◌+◌, ◌^◌, ◌≤◌, ℤ, pos, ◌-ℤ◌, ◌≤ℤ◌, Bool, List, [], ◌∷◌, ◌++◌, length, Option, Some, None, arith}, lemmas.{Int.ints, List.{length-append, length-map, Elements.{All-head, All-tail}}}}, specs.{Prelude.{All, Result, Ok, Err}, List.AllZip}}
-use Rattle.{abc_lines.specs.declared.fault.Fault.{Fault}, mus_laid.specs.declared.laid.SystemMarks.{SystemMarks}, lay_springs.specs.declared.margin.Placed.{Placed}}
-use Rattle.lay_pages.specs.{declared.{filling.{Block.Block, Spot.Spot}, stacking.Heights.Heights, titles.TitleRow.TitleRow}, Even.{StandByPages, ComeBehind, same_page, next_page}, Filling.{AreGoodBlocks, AreWithin}}
-use Rattle.{set_tune.specs.{declared.tune.SetTune.SetTune, Blocks.{blocks_of, is_some_list, title_blocks}}, set_book.specs.declared.outcome.Outcome.{Outcome}, set_staves.specs.Drawn.{IsTop}}
-use Rattle.set_pages.specs.{Drawings.{Content, Drawing, all_blocks, all_drawings, drawings_from, result_blocks, result_drawings, system_contents, systems_of, title_contents}, Ready.{AreRising, AreRisingFrom, HasAllRows, IsReady, IsReadyOn, IsWhole, IsWholeResult}}
+use Rattle.std.proofs.Common.{◌≡◌, refl, ap, inl, inr, ℕ, suc, ◌+◌, ◌^◌, ◌≤◌, ℤ, pos, ◌-ℤ◌, ◌≤ℤ◌, Bool, List, [], ◌∷◌}
+use Rattle.std.proofs.Common.{◌++◌, length, Option, Some, None, arith}
+use Rattle.std.proofs.lemmas.Int.{ints}
+use Rattle.std.proofs.lemmas.List.{length-append, length-map}
+use Rattle.std.proofs.lemmas.List.Elements.{All-head, All-tail}
+use Rattle.std.specs.Prelude.{All, Result, Ok, Err}
+use Rattle.std.specs.List.{AllZip}
+use Rattle.abc_lines.specs.declared.fault.Fault.{Fault}
+use Rattle.mus_laid.specs.declared.laid.SystemMarks.{SystemMarks}
+use Rattle.lay_springs.specs.declared.margin.Placed.{Placed}
+use Rattle.lay_pages.specs.declared.filling.Block.{Block}
+use Rattle.lay_pages.specs.declared.filling.Spot.{Spot}
+use Rattle.lay_pages.specs.declared.stacking.Heights.{Heights}
+use Rattle.lay_pages.specs.declared.titles.TitleRow.{TitleRow}
+use Rattle.lay_pages.specs.Even.{StandByPages, ComeBehind, same_page, next_page}
+use Rattle.lay_pages.specs.Filling.{AreGoodBlocks, AreWithin}
+use Rattle.set_tune.specs.declared.tune.SetTune.{SetTune}
+use Rattle.set_tune.specs.Blocks.{blocks_of, is_some_list, title_blocks}
+use Rattle.set_book.specs.declared.outcome.Outcome.{Outcome}
+use Rattle.set_staves.specs.Drawn.{IsTop}
+use Rattle.set_pages.specs.Drawings.{Content, Drawing, all_blocks, all_drawings, drawings_from, result_blocks}
+use Rattle.set_pages.specs.Drawings.{result_drawings, system_contents, systems_of, title_contents}
+use Rattle.set_pages.specs.Ready.{AreRising, AreRisingFrom, HasAllRows, IsReady, IsReadyOn, IsWhole, IsWholeResult}
 
 -- pages rise by one at most
 rising_from : (high : ℕ) (block : Block) (blocks : List Block) (spot : Spot) (spots : List Spot) → AreWithin high (block ∷ blocks) (spot ∷ spots) → ComeBehind high (block ∷ blocks) (spot ∷ spots)

@@ -1,9 +1,23 @@
 -- A book while its tunes are set, one list of outcomes after another: where their blocks stand, and the text that they add.
-use Rattle.std.specs.{Prelude.{◌≡◌, ⊤, ℕ, ◌+◌, ◌^◌, ◌<◌, ◌≤◌, Bool, List, ◌++◌, Option, None, All, length, take, drop}, List.AllZip}
+use Rattle.std.specs.Prelude.{◌≡◌, ⊤, ℕ, ◌+◌, ◌^◌, ◌<◌, ◌≤◌, Bool, List, ◌++◌, Option, None, All, length, take, drop}
+use Rattle.std.specs.List.{AllZip}
 use Rattle.abc_fields.specs.{declared.paper.Paper.Paper, Papers.{body_height, body_width}}
-use Rattle.lay_pages.specs.{declared.filling.{Block.Block, Spot.Spot, PlacedBlock.PlacedBlock}, Filling.{AreGoodBlocks, AreWithin, CanFollow, behind_after, spots_behind}}
-use Rattle.set_pages.specs.{Sheet.{AreStanding, IsPagePlan, IsSetUnder, all_spots, sheet_of}, declared.{plan.PagePlan.PagePlan, builder.{PageBuilder.PageBuilder, PlacedOutcome.PlacedOutcome}}, Drawings.{all_blocks, all_drawings, outcome_drawings}, Flow.{begun_after, drawings_text, ending, placed_text, placed_texts}, Read.ShowsBook, Ready.{AreRising, IsDrawnInRange, IsReady, IsWhole}}
-use Rattle.{ps_text.specs.{Document.{numbered, document_page}, Range.IsSheet}, set_staves.specs.Drawn.IsWidth, set_book.specs.declared.outcome.Outcome.{Outcome}}
+use Rattle.lay_pages.specs.declared.filling.Block.{Block}
+use Rattle.lay_pages.specs.declared.filling.Spot.{Spot}
+use Rattle.lay_pages.specs.declared.filling.PlacedBlock.{PlacedBlock}
+use Rattle.lay_pages.specs.Filling.{AreGoodBlocks, AreWithin, CanFollow, behind_after, spots_behind}
+use Rattle.set_pages.specs.Sheet.{AreStanding, IsPagePlan, IsSetUnder, all_spots, sheet_of}
+use Rattle.set_pages.specs.declared.plan.PagePlan.{PagePlan}
+use Rattle.set_pages.specs.declared.builder.PageBuilder.{PageBuilder}
+use Rattle.set_pages.specs.declared.builder.PlacedOutcome.{PlacedOutcome}
+use Rattle.set_pages.specs.Drawings.{all_blocks, all_drawings, outcome_drawings}
+use Rattle.set_pages.specs.Flow.{begun_after, drawings_text, ending, placed_text, placed_texts}
+use Rattle.set_pages.specs.Read.{ShowsBook}
+use Rattle.set_pages.specs.Ready.{AreRising, IsDrawnInRange, IsReady, IsWhole}
+use Rattle.ps_text.specs.Document.{numbered, document_page}
+use Rattle.ps_text.specs.Range.{IsSheet}
+use Rattle.set_staves.specs.Drawn.{IsWidth}
+use Rattle.set_book.specs.declared.outcome.Outcome.{Outcome}
 
 -- nothing was pressed yet
 abbrev pub empty_builder : PageBuilder

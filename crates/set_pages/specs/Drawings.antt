@@ -1,8 +1,16 @@
 -- What the blocks of a book draw: those of the tunes without fault, in order. The first block of a tune begins it.
 use Rattle.std.specs.Prelude.{ℕ, ℤ, ◌-ℤ◌, List, [], ◌∷◌, ◌++◌, map, flat_map, Option, Some, None, Result, Ok, Err}
-use Rattle.{abc_lines.specs.declared.fault.Fault.{Fault}, mus_laid.specs.declared.laid.SystemMarks.{SystemMarks}, lay_springs.specs.declared.margin.Placed.{Placed}}
-use Rattle.{lay_pages.specs.declared.{filling.Block.Block, stacking.Heights.Heights, titles.TitleRow.TitleRow}, ps_text.specs.declared.sheet.Item.{Item}}
-use Rattle.{set_tune.specs.{declared.tune.SetTune.SetTune, Blocks.blocks_of}, set_book.specs.declared.outcome.Outcome.{Outcome}, set_staves.specs.Marks.{system_at}}
+use Rattle.abc_lines.specs.declared.fault.Fault.{Fault}
+use Rattle.mus_laid.specs.declared.laid.SystemMarks.{SystemMarks}
+use Rattle.lay_springs.specs.declared.margin.Placed.{Placed}
+use Rattle.lay_pages.specs.declared.filling.Block.{Block}
+use Rattle.lay_pages.specs.declared.stacking.Heights.{Heights}
+use Rattle.lay_pages.specs.declared.titles.TitleRow.{TitleRow}
+use Rattle.ps_text.specs.declared.sheet.Item.{Item}
+use Rattle.set_tune.specs.declared.tune.SetTune.{SetTune}
+use Rattle.set_tune.specs.Blocks.{blocks_of}
+use Rattle.set_book.specs.declared.outcome.Outcome.{Outcome}
+use Rattle.set_staves.specs.Marks.{system_at}
 
 -- the rows of a title block; or a system, where its columns stand, and how far the bases of its staves lie above its top
 pub data Content : Type 0 where

@@ -1,8 +1,20 @@
 -- What a reader finds on the pages of a book: its tunes one after another, and in each of their systems what the score calls for.
-use Rattle.std.specs.{Prelude.{◌≡◌, ⊤, ℕ, ℤ, pos, List, [], ◌∷◌, ◌++◌, All, map, flat_map, Result, Ok, Err}, List.AllZip}
-use Rattle.{abc_lines.specs.declared.fault.Fault.{Fault}, abc_fields.specs.{declared.paper.Paper.Paper, Papers.{body_height, body_width}}, mus_laid.specs.declared.laid.SystemMarks.{SystemMarks}}
-use Rattle.{lay_springs.specs.declared.margin.Placed.{Placed}, lay_pages.specs.declared.titles.TitleRow.{TitleRow}, lay_tune.specs.Systems.{gaps_between}, law_marks_apart.specs.Apart.{AreApart}}
-use Rattle.{ps_text.specs.declared.sheet.{Item.Item, Page.Page, Sheet.Sheet, Staff.Staff}, set_tune.specs.declared.tune.SetTune.{SetTune}, set_book.specs.declared.outcome.Outcome.{Outcome}}
+use Rattle.std.specs.Prelude.{◌≡◌, ⊤, ℕ, ℤ, pos, List, [], ◌∷◌, ◌++◌, All, map, flat_map, Result, Ok, Err}
+use Rattle.std.specs.List.{AllZip}
+use Rattle.abc_lines.specs.declared.fault.Fault.{Fault}
+use Rattle.abc_fields.specs.declared.paper.Paper.{Paper}
+use Rattle.abc_fields.specs.Papers.{body_height, body_width}
+use Rattle.mus_laid.specs.declared.laid.SystemMarks.{SystemMarks}
+use Rattle.lay_springs.specs.declared.margin.Placed.{Placed}
+use Rattle.lay_pages.specs.declared.titles.TitleRow.{TitleRow}
+use Rattle.lay_tune.specs.Systems.{gaps_between}
+use Rattle.law_marks_apart.specs.Apart.{AreApart}
+use Rattle.ps_text.specs.declared.sheet.Item.{Item}
+use Rattle.ps_text.specs.declared.sheet.Page.{Page}
+use Rattle.ps_text.specs.declared.sheet.Sheet.{Sheet}
+use Rattle.ps_text.specs.declared.sheet.Staff.{Staff}
+use Rattle.set_tune.specs.declared.tune.SetTune.{SetTune}
+use Rattle.set_book.specs.declared.outcome.Outcome.{Outcome}
 use Rattle.{set_staves.specs.Marks.{HasColumns, ShowsCall}, set_pages.specs.{Clear.AreUnder, Sheet.paper_frame}}
 
 -- all that stands on the pages of a sheet, in order

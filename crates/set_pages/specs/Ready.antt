@@ -1,8 +1,20 @@
 -- What is asked of a block before it is drawn, and what a drawn one is.
-use Rattle.std.specs.Prelude.{◌≡◌, ◌⊎◌, ⊤, ℕ, suc, ◌≤◌, ℤ, pos, ◌-ℤ◌, ◌≤ℤ◌, List, [], ◌∷◌, All, IfSome, length, Result, Ok, Err}
-use Rattle.{abc_lines.specs.declared.fault.Fault.{Fault}, lay_pages.specs.declared.{filling.{Spot.Spot, Block.Block}, titles.TitleRow.TitleRow}, mus_laid.specs.declared.laid.SystemMarks.{SystemMarks}}
-use Rattle.{law_marks_in_range.specs.{Shown.IsShown, Texts.IsPrinted}, ps_text.specs.Range.{IsItem, IsNumber}, set_tune.specs.{declared.tune.SetTune.SetTune, Blocks.HasGoodHeight}}
-use Rattle.{set_book.specs.declared.outcome.Outcome.{Outcome}, set_staves.specs.{Drawn.{IsBase, IsOnPage, IsTop}, Marks.RisesAlong}, set_pages.specs.Drawings.{Content, Drawing, title, system, drawn}}
+use Rattle.std.specs.Prelude.{◌≡◌, ◌⊎◌, ⊤, ℕ, suc, ◌≤◌, ℤ, pos, ◌-ℤ◌, ◌≤ℤ◌, List, [], ◌∷◌, All, IfSome, length, Result}
+use Rattle.std.specs.Prelude.{Ok, Err}
+use Rattle.abc_lines.specs.declared.fault.Fault.{Fault}
+use Rattle.lay_pages.specs.declared.filling.Spot.{Spot}
+use Rattle.lay_pages.specs.declared.filling.Block.{Block}
+use Rattle.lay_pages.specs.declared.titles.TitleRow.{TitleRow}
+use Rattle.mus_laid.specs.declared.laid.SystemMarks.{SystemMarks}
+use Rattle.law_marks_in_range.specs.Shown.{IsShown}
+use Rattle.law_marks_in_range.specs.Texts.{IsPrinted}
+use Rattle.ps_text.specs.Range.{IsItem, IsNumber}
+use Rattle.set_tune.specs.declared.tune.SetTune.{SetTune}
+use Rattle.set_tune.specs.Blocks.{HasGoodHeight}
+use Rattle.set_book.specs.declared.outcome.Outcome.{Outcome}
+use Rattle.set_staves.specs.Drawn.{IsBase, IsOnPage, IsTop}
+use Rattle.set_staves.specs.Marks.{RisesAlong}
+use Rattle.set_pages.specs.Drawings.{Content, Drawing, title, system, drawn}
 
 -- a row of a title block whose top is at a height
 pub record IsReadyRow (top : ℤ) (row : TitleRow) : Type 0 where

@@ -1,9 +1,25 @@
 -- The sheet of a book, from the outcomes of its tunes: the blocks of all tunes without fault stand on pages, filled or where a
 -- plan says, and each page has what its blocks draw.
-use Rattle.std.specs.Prelude.{⊤, ℕ, zero, suc, ◌+◌, ◌/◌, ◌≤◌, ◌==◌, if◌then◌else◌, List, [], ◌∷◌, ◌++◌, Result, Ok, Err, Bool, true, false, ◌≡◌, take, length}
-use Rattle.{abc_lines.specs.declared.{book.TuneText.TuneText, fault.Fault.Fault}, abc_fields.specs.{declared.{defaults.Defaults.Defaults, paper.Paper.Paper}, Papers.{body_height, body_width}}}
-use Rattle.{lay_pages.specs.{declared.filling.Spot.Spot, Even.{AreSpots, StandByPages}, Filling.{AreFilled, AreWithin, spots_of}}, set_pages.specs.{declared.plan.PagePlan.PagePlan, Drawings.{Drawing, all_blocks, all_drawings, drawn}}}
-use Rattle.{ps_text.specs.declared.sheet.{Frame.Frame, Item.Item, Page.Page, Sheet.Sheet}, set_tune.specs.{Terms.{Manner, terms_by}, declared.tune.SetTune.SetTune, Setting.IsSetTune}, set_book.specs.declared.outcome.Outcome.{Outcome}}
+use Rattle.std.specs.Prelude.{⊤, ℕ, zero, suc, ◌+◌, ◌/◌, ◌≤◌, ◌==◌, if◌then◌else◌, List, [], ◌∷◌, ◌++◌, Result, Ok, Err}
+use Rattle.std.specs.Prelude.{Bool, true, false, ◌≡◌, take, length}
+use Rattle.abc_lines.specs.declared.book.TuneText.{TuneText}
+use Rattle.abc_lines.specs.declared.fault.Fault.{Fault}
+use Rattle.abc_fields.specs.declared.defaults.Defaults.{Defaults}
+use Rattle.abc_fields.specs.declared.paper.Paper.{Paper}
+use Rattle.abc_fields.specs.Papers.{body_height, body_width}
+use Rattle.lay_pages.specs.declared.filling.Spot.{Spot}
+use Rattle.lay_pages.specs.Even.{AreSpots, StandByPages}
+use Rattle.lay_pages.specs.Filling.{AreFilled, AreWithin, spots_of}
+use Rattle.set_pages.specs.declared.plan.PagePlan.{PagePlan}
+use Rattle.set_pages.specs.Drawings.{Drawing, all_blocks, all_drawings, drawn}
+use Rattle.ps_text.specs.declared.sheet.Frame.{Frame}
+use Rattle.ps_text.specs.declared.sheet.Item.{Item}
+use Rattle.ps_text.specs.declared.sheet.Page.{Page}
+use Rattle.ps_text.specs.declared.sheet.Sheet.{Sheet}
+use Rattle.set_tune.specs.Terms.{Manner, terms_by}
+use Rattle.set_tune.specs.declared.tune.SetTune.{SetTune}
+use Rattle.set_tune.specs.Setting.{IsSetTune}
+use Rattle.set_book.specs.declared.outcome.Outcome.{Outcome}
 
 -- whole points, rounded up
 abbrev pub whole_points : ℕ → ℕ

@@ -3,7 +3,12 @@ ghost use Rattle.abc_fields.specs.declared.paper.Paper as paper;
 ghost use Rattle.abc_fields.specs.Papers.{IsGoodPaper, body_height};
 ghost use Rattle.set_book.specs.declared.outcome.Outcome as outcome;
 ghost use Rattle.lay_pages.specs.Filling.{AreGoodBlocks, AreWithin, CanFollow, IsLoose, first_tall};
-ghost use Rattle.set_pages.specs.{Drawings.{all_blocks, all_drawings}, Flow.begun_after, Builder.{AreOutcomesAt, AddsOutcomes, CanDrawOutcome, HasRoom, CanGoOn, IsBuiltFrom, IsTextOfOutcome, RisesBy, next_last_block, next_spots, empty_builder}, Ready.{IsReady, IsWhole}, Sheet.IsSetUnder};
+ghost use Rattle.set_pages.specs.Drawings.{all_blocks, all_drawings};
+ghost use Rattle.set_pages.specs.Flow.{begun_after};
+ghost use Rattle.set_pages.specs.Builder.{AreOutcomesAt, AddsOutcomes, CanDrawOutcome, HasRoom, CanGoOn, IsBuiltFrom};
+ghost use Rattle.set_pages.specs.Builder.{IsTextOfOutcome, RisesBy, next_last_block, next_spots, empty_builder};
+ghost use Rattle.set_pages.specs.Ready.{IsReady, IsWhole};
+ghost use Rattle.set_pages.specs.Sheet.{IsSetUnder};
 ghost use Rattle.set_pages.specs.declared.plan.PagePlan as plan;
 
 use crate::blocks::all_blocks;

@@ -1,5 +1,8 @@
 -- How many different numbers of a list are below another: as many as there are, where the list has each.
-use Rattle.std.{proofs.{Common.{◌≡◌, ℕ, zero, suc, ◌+◌, ◌<◌, ◌==◌, ◌&&◌, ◌||◌, not, nat_lt, if◌then◌else◌, Bool, true, false, IsTrue, List, [], ◌∷◌, refl, ap, arith}, lemmas.Bool.Decides.nat_tests}, specs.List.list_any}
+use Rattle.std.proofs.Common.{◌≡◌, ℕ, zero, suc, ◌+◌, ◌<◌, ◌==◌, ◌&&◌, ◌||◌, not, nat_lt, if◌then◌else◌, Bool, true}
+use Rattle.std.proofs.Common.{false, IsTrue, List, [], ◌∷◌, refl, ap, arith}
+use Rattle.std.proofs.lemmas.Bool.Decides.{nat_tests}
+use Rattle.std.specs.List.{list_any}
 
 abbrev pub distinct_below : ℕ → List ℕ → ℕ
 distinct_below r [] = 0

@@ -1,6 +1,13 @@
 -- What stands on a page has numbers of a page, and bytes that can be printed may be shown there.
-use Rattle.std.{proofs.{Common.{◌≡◌, ℕ, suc, ◌<◌, ℤ, pos, List, [], ◌∷◌, length, get_or, refl, sym, subst, arith}, lemmas.{Bool.{and_from, and_parts, Decides.nat_tests}, Int.ints}}, specs.{List.{All, list_all}, Prelude.IsTrue}}
-use Rattle.{mus_laid.specs.Printed.{is_printable}, ps_text.specs.Range.{IsArcEnd, IsNumber, IsOffset, IsSpan, IsStretch, IsWords, is_shown}, law_marks_in_range.specs.Texts.{IsPrinted}}
+use Rattle.std.proofs.Common.{◌≡◌, ℕ, suc, ◌<◌, ℤ, pos, List, [], ◌∷◌, length, get_or, refl, sym, subst, arith}
+use Rattle.std.proofs.lemmas.Bool.{and_from, and_parts}
+use Rattle.std.proofs.lemmas.Bool.Decides.{nat_tests}
+use Rattle.std.proofs.lemmas.Int.{ints}
+use Rattle.std.specs.List.{All, list_all}
+use Rattle.std.specs.Prelude.{IsTrue}
+use Rattle.mus_laid.specs.Printed.{is_printable}
+use Rattle.ps_text.specs.Range.{IsArcEnd, IsNumber, IsOffset, IsSpan, IsStretch, IsWords, is_shown}
+use Rattle.law_marks_in_range.specs.Texts.{IsPrinted}
 use Rattle.set_staves.{specs.Drawn.IsOnPage, specs.Marks.RisesAlong, specs.Marks.x_at, proofs.Rising.rises}
 
 number : (z : ℤ) → IsOnPage z → IsNumber z

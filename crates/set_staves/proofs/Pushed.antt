@@ -1,6 +1,11 @@
 -- A list that is made one value at a time.
-use Rattle.std.proofs.{Common.{◌≡◌, ℕ, suc, ◌+◌, ◌<◌, ℤ, ◌+ℤ◌, List, [], ◌∷◌, ◌++◌, length, map, take, drop, get_or, All, sym, ap, ap₂, ◌∙◌, subst, add-one, drop-cons, append_assoc}, lemmas.List.{map-append, take_more, Elements.All-push}}
-use Rattle.{mus_laid.specs.declared.laid.StaffMarks.{StaffMarks}, ps_text.specs.declared.sheet.Staff.{Staff}, set_staves.specs.Marks.{staff_at, staves_at}}
+use Rattle.std.proofs.Common.{◌≡◌, ℕ, suc, ◌+◌, ◌<◌, ℤ, ◌+ℤ◌, List, [], ◌∷◌, ◌++◌, length, map, take, drop, get_or, All}
+use Rattle.std.proofs.Common.{sym, ap, ap₂, ◌∙◌, subst, add-one, drop-cons, append_assoc}
+use Rattle.std.proofs.lemmas.List.{map-append, take_more}
+use Rattle.std.proofs.lemmas.List.Elements.{All-push}
+use Rattle.mus_laid.specs.declared.laid.StaffMarks.{StaffMarks}
+use Rattle.ps_text.specs.declared.sheet.Staff.{Staff}
+use Rattle.set_staves.specs.Marks.{staff_at, staves_at}
 
 module _ {X Y : Type 0} (f : X → Y) where
   pub mapped_more : (xs : List X) (i : ℕ) (x : X) (made more : List Y) (y : Y) → i < length xs → x ≡ get_or xs i x → made ≡ map f (take i xs) → y ≡ f x → more ≡ made ++ y ∷ [] → more ≡ map f (take (i + 1) xs)

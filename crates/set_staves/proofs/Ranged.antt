@@ -1,6 +1,12 @@
 -- A system that is drawn may stand on a page.
-use Rattle.std.proofs.{Common.{◌≡◌, ℕ, ◌^◌, ◌<◌, ◌≤◌, ℤ, pos, ◌+ℤ◌, List, [], ◌∷◌, length, All, sym, subst, arith}, lemmas.{Int.ints, List.Elements.All-head}}
-use Rattle.{mus_laid.specs.declared.laid.StaffMarks.{StaffMarks}, ps_text.specs.{Range.IsNumber, Range.IsStaff, Range.IsJoined, Range.IsSystemItem, declared.sheet.Staff.Staff}, set_staves.specs.{Drawn.IsBase, Marks.staves_at}}
+use Rattle.std.proofs.Common.{◌≡◌, ℕ, ◌^◌, ◌<◌, ◌≤◌, ℤ, pos, ◌+ℤ◌, List, [], ◌∷◌, length, All, sym, subst, arith}
+use Rattle.std.proofs.lemmas.Int.{ints}
+use Rattle.std.proofs.lemmas.List.Elements.{All-head}
+use Rattle.mus_laid.specs.declared.laid.StaffMarks.{StaffMarks}
+use Rattle.ps_text.specs.Range.{IsNumber, IsStaff, IsJoined, IsSystemItem}
+use Rattle.ps_text.specs.declared.sheet.Staff.{Staff}
+use Rattle.set_staves.specs.Drawn.{IsBase}
+use Rattle.set_staves.specs.Marks.{staves_at}
 
 -- the line that joins staves begins on the page
 above : (top base : ℤ) → IsBase top base → IsNumber ((top +ℤ base) +ℤ pos 2000)

@@ -1,6 +1,13 @@
 -- Columns that rise stand in the order of their ranks, and are told apart by where they stand.
-use Rattle.std.{proofs.{Common.{◌≡◌, ℕ, zero, suc, ◌+◌, ◌-◌, ◌<◌, ◌==◌, ◌||◌, nat_lt, true, IsTrue, int_lt, List, [], ◌∷◌, length, map, ℤ, pos, ◌<ℤ◌, Some, refl, ap, ap₂, ◌∙◌, subst, arith, inl, inr}, lemmas.{Bool.{cases_order, Decides.nat_tests}, Int.ints}}, specs.List.{list_any, AllByRecursion}}
-use Rattle.{ps_text.specs.Ranks.{is_same, count_below, rank_of}, set_staves.{specs.Marks.RisesAlong, specs.Marks.x_at, proofs.Counting.distinct_below, proofs.Counting.all_below}}
+use Rattle.std.proofs.Common.{◌≡◌, ℕ, zero, suc, ◌+◌, ◌-◌, ◌<◌, ◌==◌, ◌||◌, nat_lt, true, IsTrue, int_lt, List, [], ◌∷◌}
+use Rattle.std.proofs.Common.{length, map, ℤ, pos, ◌<ℤ◌, Some, refl, ap, ap₂, ◌∙◌, subst, arith, inl, inr}
+use Rattle.std.proofs.lemmas.Bool.{cases_order}
+use Rattle.std.proofs.lemmas.Bool.Decides.{nat_tests}
+use Rattle.std.proofs.lemmas.Int.{ints}
+use Rattle.std.specs.List.{list_any, AllByRecursion}
+use Rattle.ps_text.specs.Ranks.{is_same, count_below, rank_of}
+use Rattle.set_staves.specs.Marks.{RisesAlong, x_at}
+use Rattle.set_staves.proofs.Counting.{distinct_below, all_below}
 
 further : (at : List ℤ) → RisesAlong at → (d i j : ℕ) → i + suc d ≡ j → j < length at → x_at at i <ℤ x_at at j
 further at rise zero i j e long = let next : i + 1 ≡ j = omega arith in subst (λ t. x_at at i <ℤ x_at at t) next (rise i (omega arith))

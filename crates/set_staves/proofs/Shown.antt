@@ -1,8 +1,21 @@
 -- The ranks read off a system are those that its marks call for.
-use Rattle.std.{proofs.{Common.{◌≡◌, ℕ, zero, suc, ◌<◌, Bool, true, false, List, [], ◌∷◌, ◌++◌, length, map, get_or, ℤ, pos, ◌+ℤ◌, Some, refl, sym, ap, ap₂, subst, ◌∙◌, arith, flat_map}, lemmas.{Bool.eqb-true, List.{map-append, Elements.{All-cons, All-head, All-nil, All-tail, recursion_from_All}}}}, specs.{Prelude.{IsTrue, ◌==◌, ◌||◌}, List.{All, AllByRecursion, Contains, cons_option, list_any}}}
-use Rattle.mus_laid.specs.{declared.laid.Mark.Mark, declared.laid.Laid.Laid, declared.laid.StaffMarks.StaffMarks, Ranked.anchor_rank}
-use Rattle.{ps_text.specs.{Ranks.anchor_of, Ranks.anchors, Ranks.rank_of, Ranks.ranked, Ranks.all_ranked, Ranks.ranks, declared.sheet.Staff.Staff}, law_marks_in_range.specs.Ranks.{AreAnchored, AreMarksRanked, IsRanked, marks_ranks, staves_ranks}}
-use Rattle.set_staves.{specs.{Marks.x_at, Marks.page_mark, Marks.called_mark, Marks.called_marks, Marks.staff_at, Marks.staves_at, Marks.RisesAlong, Marks.HasColumns, Marks.ShowsIn, Marks.ShowsCall}, proofs.Rising.ranked_at}
+use Rattle.std.proofs.Common.{◌≡◌, ℕ, zero, suc, ◌<◌, Bool, true, false, List, [], ◌∷◌, ◌++◌, length, map, get_or, ℤ}
+use Rattle.std.proofs.Common.{pos, ◌+ℤ◌, Some, refl, sym, ap, ap₂, subst, ◌∙◌, arith, flat_map}
+use Rattle.std.proofs.lemmas.Bool.{eqb-true}
+use Rattle.std.proofs.lemmas.List.{map-append}
+use Rattle.std.proofs.lemmas.List.Elements.{All-cons, All-head, All-nil, All-tail, recursion_from_All}
+use Rattle.std.specs.Prelude.{IsTrue, ◌==◌, ◌||◌}
+use Rattle.std.specs.List.{All, AllByRecursion, Contains, cons_option, list_any}
+use Rattle.mus_laid.specs.declared.laid.Mark.{Mark}
+use Rattle.mus_laid.specs.declared.laid.Laid.{Laid}
+use Rattle.mus_laid.specs.declared.laid.StaffMarks.{StaffMarks}
+use Rattle.mus_laid.specs.Ranked.{anchor_rank}
+use Rattle.ps_text.specs.Ranks.{anchor_of, anchors, rank_of, ranked, all_ranked, ranks}
+use Rattle.ps_text.specs.declared.sheet.Staff.{Staff}
+use Rattle.law_marks_in_range.specs.Ranks.{AreAnchored, AreMarksRanked, IsRanked, marks_ranks, staves_ranks}
+use Rattle.set_staves.specs.Marks.{x_at, page_mark, called_mark, called_marks, staff_at, staves_at, RisesAlong}
+use Rattle.set_staves.specs.Marks.{HasColumns, ShowsIn, ShowsCall}
+use Rattle.set_staves.proofs.Rising.{ranked_at}
 
 -- ---- the anchors of a system are the abscissas of its anchors' ranks
 mark_anchors : (at : List ℤ) (mark : Mark) (xs : List ℤ) (rs : List ℕ) → xs ≡ map (x_at at) rs → anchor_of (page_mark at mark) ++ xs ≡ map (x_at at) (cons_option (anchor_rank mark) rs)

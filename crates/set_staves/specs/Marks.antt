@@ -1,8 +1,14 @@
 -- The marks that a system calls for, as they stand on a page: each rank is replaced by where the column
 -- of that rank stands. They are shown where the ranks read off the page are those that were called for.
-use Rattle.std.specs.Prelude.{◌≡◌, ℕ, ◌+◌, ◌<◌, ℤ, pos, ◌+ℤ◌, ◌<ℤ◌, ⊤, List, [], ◌∷◌, length, map, Some, All, Contains, slice_index_or}
-use Rattle.mus_laid.specs.{declared.laid.Mark.Mark, declared.laid.StaffMarks.StaffMarks, declared.laid.SystemMarks.SystemMarks}
-use Rattle.ps_text.specs.{Ranks.anchors, Ranks.ranks, declared.marks.PageMark.PageMark, declared.sheet.Staff.Staff, declared.sheet.Item.Item}
+use Rattle.std.specs.Prelude.{◌≡◌, ℕ, ◌+◌, ◌<◌, ℤ, pos, ◌+ℤ◌, ◌<ℤ◌, ⊤, List, [], ◌∷◌, length, map, Some, All, Contains}
+use Rattle.std.specs.Prelude.{slice_index_or}
+use Rattle.mus_laid.specs.declared.laid.Mark.{Mark}
+use Rattle.mus_laid.specs.declared.laid.StaffMarks.{StaffMarks}
+use Rattle.mus_laid.specs.declared.laid.SystemMarks.{SystemMarks}
+use Rattle.ps_text.specs.Ranks.{anchors, ranks}
+use Rattle.ps_text.specs.declared.marks.PageMark.{PageMark}
+use Rattle.ps_text.specs.declared.sheet.Staff.{Staff}
+use Rattle.ps_text.specs.declared.sheet.Item.{Item}
 
 -- where the column of a rank stands; 0 where there is no such column
 abbrev pub x_at : List ℤ → ℕ → ℤ

@@ -1,5 +1,7 @@
 ghost use Rattle.std.specs.Prelude.{◌≡◌, ◌<◌, All, IfOk, length, map};
-ghost use Rattle.{ps_text.specs.Range.{IsPageMark, IsWords}, law_marks_in_range.specs.{Ranks.AreMarksRanked, Ranks.IsRanked, Texts.HasPrinted, Texts.HavePrinted, Texts.IsPrinted}};
+ghost use Rattle.ps_text.specs.Range.{IsPageMark, IsWords};
+ghost use Rattle.law_marks_in_range.specs.Ranks.{AreMarksRanked, IsRanked};
+ghost use Rattle.law_marks_in_range.specs.Texts.{HasPrinted, HavePrinted, IsPrinted};
 ghost use Rattle.set_staves.specs.{Drawn.IsOnPage, Marks.RisesAlong, Marks.page_mark, Marks.x_at};
 
 use mus_laid::{Laid, Mark};

@@ -1,6 +1,7 @@
 ghost use Rattle.std.specs.Prelude.{◌≡◌, ◌+ℤ◌, All, IfOk, length};
 ghost use Rattle.{ps_text.specs.Range.{IsStaff}, law_marks_in_range.specs.{Ranks.AreMarksRanked, Texts.HavePrinted}};
-ghost use Rattle.set_staves.specs.{Drawn.IsBase, Drawn.IsOnPage, Drawn.IsWidth, Marks.RisesAlong, Marks.staff_at, Marks.staves_at};
+ghost use Rattle.set_staves.specs.Drawn.{IsBase, IsOnPage, IsWidth};
+ghost use Rattle.set_staves.specs.Marks.{RisesAlong, staff_at, staves_at};
 
 use crate::marks::place_marks;
 use mus_laid::StaffMarks;

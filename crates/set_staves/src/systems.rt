@@ -1,6 +1,7 @@
 ghost use Rattle.std.specs.Prelude.{◌≡◌, All, IfOk, length};
 ghost use Rattle.{ps_text.specs.Range.{IsItem}, law_marks_in_range.specs.Shown.{IsShown}};
-ghost use Rattle.set_staves.specs.{Drawn.IsBase, Drawn.IsOnPage, Drawn.IsTop, Drawn.IsWidth, Marks.RisesAlong, Marks.ShowsCall, Marks.staves_of_item, Marks.system_at};
+ghost use Rattle.set_staves.specs.Drawn.{IsBase, IsOnPage, IsTop, IsWidth};
+ghost use Rattle.set_staves.specs.Marks.{RisesAlong, ShowsCall, staves_of_item, system_at};
 
 use crate::staves::staves_for;
 use mus_laid::SystemMarks;

@@ -1,6 +1,12 @@
 -- The blocks of a tune have good heights.
-use Rattle.std.{proofs.{Common.{ℕ, ◌≤◌, ◌^◌, pos, ◌≤ℤ◌, Bool, List, [], ◌∷◌, ◌++◌, arith}, lemmas.{Int.ints, List.Elements.{All-head, All-tail}}}, specs.List.All}
-use Rattle.{lay_pages.specs.{declared.{stacking.Heights.Heights, titles.TitleRow.TitleRow}, Filling.AreGoodBlocks}, set_tune.specs.Blocks.{HasGoodHeight, block_height, system_blocks, title_blocks}}
+use Rattle.std.proofs.Common.{ℕ, ◌≤◌, ◌^◌, pos, ◌≤ℤ◌, Bool, List, [], ◌∷◌, ◌++◌, arith}
+use Rattle.std.proofs.lemmas.Int.{ints}
+use Rattle.std.proofs.lemmas.List.Elements.{All-head, All-tail}
+use Rattle.std.specs.List.{All}
+use Rattle.lay_pages.specs.declared.stacking.Heights.{Heights}
+use Rattle.lay_pages.specs.declared.titles.TitleRow.{TitleRow}
+use Rattle.lay_pages.specs.Filling.{AreGoodBlocks}
+use Rattle.set_tune.specs.Blocks.{HasGoodHeight, block_height, system_blocks, title_blocks}
 
 good_systems : (heights : List Heights) → All HasGoodHeight heights → AreGoodBlocks (system_blocks heights)
 good_systems [] all = tt

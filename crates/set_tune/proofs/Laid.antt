@@ -1,12 +1,43 @@
 -- What the setting of a tune rests on: a score with measures has a voice, a tune has few titles, and few blocks of good heights.
-use Rattle.std.{proofs.{Common.{◌≡◌, ℕ, ℤ, pos, negsuc, zero, suc, ◌+◌, ◌<◌, ◌≤◌, ◌^◌, Bool, List, [], ◌∷◌, ◌++◌, length, map, take, Option, Some, None, Result, Ok, Err, sym, subst, refl, arith}, lemmas.{List.{length-append, length-map, Sums.sum_by-cons, Elements.{All-cons, All-nil}}, Option.same_Some}}, specs.List.{cons_option, All, filter_map}}
-use Rattle.{abc_lines.specs.{declared.{book.{Line.Line, TuneText.TuneText}, fault.{Fault.Fault, FaultKind.FaultKind}}, Good.{IsGoodTune, size_of}}, abc_field.specs.{declared.field.Field.Field, Fields.field_of}}
-use Rattle.{abc_fields.specs.{declared.{defaults.Defaults.Defaults, header.Header.Header}, Headers.{IsHeaderBy, IsHeaderOf, composer_in, fields_of, key_place, put_field, title_in}}, abc_steps.specs.declared.step.BodyItem.{BodyItem}}
-use Rattle.{abc_score.specs.{declared.voices.ReadVoice.ReadVoice, Build.IsScoreOf, Score.score_with, Voices.voices_read}, mus_units.specs.declared.key.Key.{Key}, mus_transpose.specs.Moved.{IsMoved, move_from, voice_by}}
-use Rattle.{lay_shared.{specs.Plans.{IsPlanFor, score_ids}, proofs.{DrawnLaws.drawn_heard, PlanLaws.spelled-plan}}, mus_score.specs.{declared.score.{Score.Score, Voice.Voice}, GoodScore.IsGoodScore}}
-use Rattle.{mus_laid.specs.declared.laid.SystemMarks.{SystemMarks}, lay_breaks.specs.Breaking.{RisesFrom, last_from}, lay_pages.specs.declared.{stacking.Heights.Heights, titles.TitleRow.TitleRow}}
+use Rattle.std.proofs.Common.{◌≡◌, ℕ, ℤ, pos, negsuc, zero, suc, ◌+◌, ◌<◌, ◌≤◌, ◌^◌, Bool, List, [], ◌∷◌, ◌++◌, length}
+use Rattle.std.proofs.Common.{map, take, Option, Some, None, Result, Ok, Err, sym, subst, refl, arith}
+use Rattle.std.proofs.lemmas.List.{length-append, length-map}
+use Rattle.std.proofs.lemmas.List.Sums.{sum_by-cons}
+use Rattle.std.proofs.lemmas.List.Elements.{All-cons, All-nil}
+use Rattle.std.proofs.lemmas.Option.{same_Some}
+use Rattle.std.specs.List.{cons_option, All, filter_map}
+use Rattle.abc_lines.specs.declared.book.Line.{Line}
+use Rattle.abc_lines.specs.declared.book.TuneText.{TuneText}
+use Rattle.abc_lines.specs.declared.fault.Fault.{Fault}
+use Rattle.abc_lines.specs.declared.fault.FaultKind.{FaultKind}
+use Rattle.abc_lines.specs.Good.{IsGoodTune, size_of}
+use Rattle.abc_field.specs.declared.field.Field.{Field}
+use Rattle.abc_field.specs.Fields.{field_of}
+use Rattle.abc_fields.specs.declared.defaults.Defaults.{Defaults}
+use Rattle.abc_fields.specs.declared.header.Header.{Header}
+use Rattle.abc_fields.specs.Headers.{IsHeaderBy, IsHeaderOf, composer_in, fields_of, key_place, put_field, title_in}
+use Rattle.abc_steps.specs.declared.step.BodyItem.{BodyItem}
+use Rattle.abc_score.specs.declared.voices.ReadVoice.{ReadVoice}
+use Rattle.abc_score.specs.Build.{IsScoreOf}
+use Rattle.abc_score.specs.Score.{score_with}
+use Rattle.abc_score.specs.Voices.{voices_read}
+use Rattle.mus_units.specs.declared.key.Key.{Key}
+use Rattle.mus_transpose.specs.Moved.{IsMoved, move_from, voice_by}
+use Rattle.lay_shared.specs.Plans.{IsPlanFor, score_ids}
+use Rattle.lay_shared.proofs.DrawnLaws.{drawn_heard}
+use Rattle.lay_shared.proofs.PlanLaws.{spelled-plan}
+use Rattle.mus_score.specs.declared.score.Score.{Score}
+use Rattle.mus_score.specs.declared.score.Voice.{Voice}
+use Rattle.mus_score.specs.GoodScore.{IsGoodScore}
+use Rattle.mus_laid.specs.declared.laid.SystemMarks.{SystemMarks}
+use Rattle.lay_breaks.specs.Breaking.{RisesFrom, last_from}
+use Rattle.lay_pages.specs.declared.stacking.Heights.{Heights}
+use Rattle.lay_pages.specs.declared.titles.TitleRow.{TitleRow}
 use Rattle.lay_tune.{specs.Systems.{Beside, IsSetSystem, IsStack}, proofs.Rows.{beside_count, span_count}}
-use Rattle.set_tune.specs.{declared.tune.SetTune.SetTune, Blocks.{HasGoodHeight, blocks_of, is_some_list, system_block, system_blocks, title_blocks}, Terms.Manner, Setting.{HasScore, IsScoreDrawn, IsLaidOut}}
+use Rattle.set_tune.specs.declared.tune.SetTune.{SetTune}
+use Rattle.set_tune.specs.Blocks.{HasGoodHeight, blocks_of, is_some_list, system_block, system_blocks, title_blocks}
+use Rattle.set_tune.specs.Terms.{Manner}
+use Rattle.set_tune.specs.Setting.{HasScore, IsScoreDrawn, IsLaidOut}
 
 -- ---- voices
 has_voice : (header : Header) (items : List BodyItem) (flow : Bool) (voices : List ReadVoice) → 0 < (score_with header items flow voices).measures → 1 ≤ length (score_with header items flow voices).voices

@@ -1,8 +1,19 @@
 -- The stages of a tune's setting, put together: what each refuses is the one fault of the tune.
 use Rattle.std.proofs.Common.{◌≡◌, sym, subst, inl, inr, ℕ, None, Some, Result, Ok, Err, IfErr}
-use Rattle.{abc_lines.specs.declared.{book.TuneText.TuneText, fault.TuneError.TuneError}, abc_fields.specs.{declared.header.Header.Header, Papers.{body_height, body_width}}}
-use Rattle.{mus_score.specs.declared.score.Score.{Score}, lay_pages.specs.{Titles.title_block_of, Filling.first_tall}, lay_tune.specs.Layout.{IsNoWay}}
-use Rattle.set_tune.specs.{Terms.Terms, declared.tune.SetTune.SetTune, Blocks.blocks_of, Setting.{HasScore, IsFaultOfTune, IsLaid, IsLaidOut, IsLaidTune, IsLayoutRefusal, IsMovedRefusal, IsRefusal, IsTallRefusal, of_header, of_score, of_share, of_move, no_way, too_tall}}
+use Rattle.abc_lines.specs.declared.book.TuneText.{TuneText}
+use Rattle.abc_lines.specs.declared.fault.TuneError.{TuneError}
+use Rattle.abc_fields.specs.declared.header.Header.{Header}
+use Rattle.abc_fields.specs.Papers.{body_height, body_width}
+use Rattle.mus_score.specs.declared.score.Score.{Score}
+use Rattle.lay_pages.specs.Titles.{title_block_of}
+use Rattle.lay_pages.specs.Filling.{first_tall}
+use Rattle.lay_tune.specs.Layout.{IsNoWay}
+use Rattle.set_tune.specs.Terms.{Terms}
+use Rattle.set_tune.specs.declared.tune.SetTune.{SetTune}
+use Rattle.set_tune.specs.Blocks.{blocks_of}
+use Rattle.set_tune.specs.Setting.{HasScore, IsFaultOfTune, IsLaid, IsLaidOut, IsLaidTune, IsLayoutRefusal}
+use Rattle.set_tune.specs.Setting.{IsMovedRefusal, IsRefusal, IsTallRefusal, of_header, of_score, of_share, of_move}
+use Rattle.set_tune.specs.Setting.{no_way, too_tall}
 
 pub none_some : {X : Type 0} (x : X) → None ≡ Some x → ⊥
 none_some x e = cc

@@ -1,6 +1,9 @@
 -- The blocks of a tune: its title block, where that has a row, tied to the system below it where there is one; and its systems.
 use Rattle.std.specs.Prelude.{ℕ, ◌^◌, min, ℤ, pos, ◌≤ℤ◌, Bool, true, false, List, [], ◌∷◌, ◌++◌, map}
-use Rattle.lay_pages.specs.declared.{filling.Block.Block, stacking.Heights.Heights, titles.{TitleRow.TitleRow, TitleBlock.TitleBlock}}
+use Rattle.lay_pages.specs.declared.filling.Block.{Block}
+use Rattle.lay_pages.specs.declared.stacking.Heights.{Heights}
+use Rattle.lay_pages.specs.declared.titles.TitleRow.{TitleRow}
+use Rattle.lay_pages.specs.declared.titles.TitleBlock.{TitleBlock}
 
 -- a system's height is 0 to 2^40
 pub record HasGoodHeight (h : Heights) : Type 0 where

@@ -1,11 +1,33 @@
 -- A tune that is set, and the one fault of a tune that isn't.
 use Rattle.std.specs.Prelude.{◌≡◌, ◌⊎◌, ⊤, ℕ, ℤ, List, Bool, Option, Some, None, Result, Ok, Err}
-use Rattle.abc_lines.specs.declared.{book.{Line.Line, TuneText.TuneText}, fault.{Fault.Fault, FaultKind.FaultKind, TuneError.TuneError}}
-use Rattle.{abc_fields.specs.{declared.{defaults.Defaults.Defaults, header.Header.Header}, Headers.{IsHeaderOf, first_line_number, header_fault}, Papers.{body_height, body_width}}, abc_score.specs.Build.{IsFaultOf, IsScoreOf}}
-use Rattle.{mus_score.specs.{declared.score.Score.Score, GoodScore.IsGoodScore}, lay_breaks.specs.declared.costs.Span.{Span}}
-use Rattle.{lay_pages.specs.{Filling.first_tall, Titles.title_block_of}, lay_tune.specs.{declared.layout.Layout.Layout, Layout.{IsLayout, IsNoWay}}}
-use Rattle.{lay_shared.specs.{declared.plan.Plan.Plan, Alike.DoShare, Drawn.drawn_of, Plans.{SpellsPlan, score_ids}}, mus_units.specs.declared.key.Key.{Key}, mus_transpose.specs.Moved.{IsMoved}, mus_drawn.specs.Sounds.{sounds_of}}
-use Rattle.{law_transposition.specs.Higher.{AreHigher}, set_tune.specs.{Terms.{Manner, Terms}, declared.tune.SetTune.SetTune, Blocks.blocks_of}}
+use Rattle.abc_lines.specs.declared.book.Line.{Line}
+use Rattle.abc_lines.specs.declared.book.TuneText.{TuneText}
+use Rattle.abc_lines.specs.declared.fault.Fault.{Fault}
+use Rattle.abc_lines.specs.declared.fault.FaultKind.{FaultKind}
+use Rattle.abc_lines.specs.declared.fault.TuneError.{TuneError}
+use Rattle.abc_fields.specs.declared.defaults.Defaults.{Defaults}
+use Rattle.abc_fields.specs.declared.header.Header.{Header}
+use Rattle.abc_fields.specs.Headers.{IsHeaderOf, first_line_number, header_fault}
+use Rattle.abc_fields.specs.Papers.{body_height, body_width}
+use Rattle.abc_score.specs.Build.{IsFaultOf, IsScoreOf}
+use Rattle.mus_score.specs.declared.score.Score.{Score}
+use Rattle.mus_score.specs.GoodScore.{IsGoodScore}
+use Rattle.lay_breaks.specs.declared.costs.Span.{Span}
+use Rattle.lay_pages.specs.Filling.{first_tall}
+use Rattle.lay_pages.specs.Titles.{title_block_of}
+use Rattle.lay_tune.specs.declared.layout.Layout.{Layout}
+use Rattle.lay_tune.specs.Layout.{IsLayout, IsNoWay}
+use Rattle.lay_shared.specs.declared.plan.Plan.{Plan}
+use Rattle.lay_shared.specs.Alike.{DoShare}
+use Rattle.lay_shared.specs.Drawn.{drawn_of}
+use Rattle.lay_shared.specs.Plans.{SpellsPlan, score_ids}
+use Rattle.mus_units.specs.declared.key.Key.{Key}
+use Rattle.mus_transpose.specs.Moved.{IsMoved}
+use Rattle.mus_drawn.specs.Sounds.{sounds_of}
+use Rattle.law_transposition.specs.Higher.{AreHigher}
+use Rattle.set_tune.specs.Terms.{Manner, Terms}
+use Rattle.set_tune.specs.declared.tune.SetTune.{SetTune}
+use Rattle.set_tune.specs.Blocks.{blocks_of}
 
 -- The header of the tune, which has no fault.
 pub record HasHeader (tune : TuneText) (defaults : Defaults) (header : Header) : Type 0 where

@@ -1,6 +1,9 @@
 -- What a tune is set by: the defaults of its file, its paper, and the manner of setting. The number of jobs isn't part of it, so what
 -- is said of a tune that is set holds for any number of them.
-use Rattle.{std.specs.Prelude.{ℤ, pos, Bool}, abc_fields.specs.declared.{defaults.Defaults.Defaults, paper.Paper.Paper}, set_tune.specs.declared.how.How.{How}}
+use Rattle.std.specs.Prelude.{ℤ, pos, Bool}
+use Rattle.abc_fields.specs.declared.defaults.Defaults.{Defaults}
+use Rattle.abc_fields.specs.declared.paper.Paper.{Paper}
+use Rattle.set_tune.specs.declared.how.How.{How}
 
 -- with `flow` no bar is forced; the score is moved by so many semitones
 pub record Manner : Type 0 where

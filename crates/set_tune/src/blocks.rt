@@ -1,5 +1,7 @@
 ghost use Rattle.std.specs.Prelude.{◌≡◌, ◌≤◌, ◌+◌, ◌++◌, ◌^◌, All, length, min, pos, IfOk, OnOk};
-ghost use Rattle.{lay_pages.specs.Filling.{AreGoodBlocks}, set_tune.specs.Blocks.{HasGoodHeight, block_height, blocks_of, is_some_list, system_blocks, title_blocks}};
+ghost use Rattle.lay_pages.specs.Filling.{AreGoodBlocks};
+ghost use Rattle.set_tune.specs.Blocks.{HasGoodHeight, block_height, blocks_of, is_some_list, system_blocks};
+ghost use Rattle.set_tune.specs.Blocks.{title_blocks};
 
 use lay_pages::{Block, Heights, TitleBlock};
 use mus_units::{Memory, Row};

@@ -1,9 +1,21 @@
-ghost use Rattle.std.specs.{Prelude.{◌≡◌, ◌≤◌, ◌<◌, ◌^◌, ℕ, length, IfErr, IfOk, IfSome, None, Some, Ok}, Option.option_copied};
+ghost use Rattle.std.specs.Prelude.{◌≡◌, ◌≤◌, ◌<◌, ◌^◌, ℕ, length, IfErr, IfOk, IfSome, None, Some, Ok};
+ghost use Rattle.std.specs.Option.{option_copied};
 ghost use Rattle.{mus_score.specs.GoodScore.{IsGoodScore}, abc_lines.specs.Good.{IsGoodTune}};
 ghost use Rattle.abc_lines.specs.declared.fault.TuneError.TheVariants as errors;
-ghost use Rattle.{abc_fields.specs.{Good.IsGoodDefaults, Headers.first_line_number, Papers.{IsGoodPaper, body_height, body_width}}, lay_pages.specs.{Filling.first_tall, Titles.title_block_of}};
-ghost use Rattle.set_tune.specs.{Blocks.blocks_of, Setting.{HasScore, IsScoreDrawn, IsDrawRefusal, IsLaid, IsLaidOut, IsLayoutRefusal, IsMoveRefusal, IsMovedRefusal, IsRefusal, IsScoreRefusal, IsSetTune, IsTallRefusal, IsWritten, layout_fault, share_fault}, Terms.{manner_of, terms_by, terms_of, unmoved}};
-ghost use Rattle.{lay_shared.specs.{Plans.{IsPlanFor, SpellsPlan, score_ids}, declared.plan.Plan.Plan}, mus_transpose.specs.Moved.{IsMoved}, mus_drawn.specs.Sounds.{sounds_of}};
+ghost use Rattle.abc_fields.specs.Good.{IsGoodDefaults};
+ghost use Rattle.abc_fields.specs.Headers.{first_line_number};
+ghost use Rattle.abc_fields.specs.Papers.{IsGoodPaper, body_height, body_width};
+ghost use Rattle.lay_pages.specs.Filling.{first_tall};
+ghost use Rattle.lay_pages.specs.Titles.{title_block_of};
+ghost use Rattle.set_tune.specs.Blocks.{blocks_of};
+ghost use Rattle.set_tune.specs.Setting.{HasScore, IsScoreDrawn, IsDrawRefusal, IsLaid, IsLaidOut, IsLayoutRefusal};
+ghost use Rattle.set_tune.specs.Setting.{IsMoveRefusal, IsMovedRefusal, IsRefusal, IsScoreRefusal, IsSetTune};
+ghost use Rattle.set_tune.specs.Setting.{IsTallRefusal, IsWritten, layout_fault, share_fault};
+ghost use Rattle.set_tune.specs.Terms.{manner_of, terms_by, terms_of, unmoved};
+ghost use Rattle.lay_shared.specs.Plans.{IsPlanFor, SpellsPlan, score_ids};
+ghost use Rattle.lay_shared.specs.declared.plan.Plan.{Plan};
+ghost use Rattle.mus_transpose.specs.Moved.{IsMoved};
+ghost use Rattle.mus_drawn.specs.Sounds.{sounds_of};
 ghost use Rattle.law_transposition.specs.Higher.{AreHigher};
 
 use crate::blocks::blocks_of;

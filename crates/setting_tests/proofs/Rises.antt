@@ -1,8 +1,15 @@
 -- Abscissas that rise all along rise in each beam, and are those of a system that has as many columns.
-use Rattle.std.proofs.Common.{◌≡◌, ◌∙◌, ◌<◌, ◌<ℤ◌, ◌+◌, ℕ, zero, suc, ℤ, pos, List, [], ◌∷◌, length, slice_index_or, ap, arith}
-use Rattle.{mus_score.specs.declared.score.Score.{Score}, mus_onsets.specs.{declared.times.Timeline.Timeline, Keys.called_keys}, mus_laid.specs.declared.laid.SystemMarks.{SystemMarks}}
+use Rattle.std.proofs.Common.{◌≡◌, ◌∙◌, ◌<◌, ◌<ℤ◌, ◌+◌, ℕ, zero, suc, ℤ, pos, List, [], ◌∷◌, length, slice_index_or, ap}
+use Rattle.std.proofs.Common.{arith}
+use Rattle.mus_score.specs.declared.score.Score.{Score}
+use Rattle.mus_onsets.specs.declared.times.Timeline.{Timeline}
+use Rattle.mus_onsets.specs.Keys.{called_keys}
+use Rattle.mus_laid.specs.declared.laid.SystemMarks.{SystemMarks}
 use Rattle.mus_marks.{specs.{System.IsCall, Tilt.AreAbscissas}, proofs.OneList.same_keys}
-use Rattle.{mus_stems.specs.{declared.{plans.StemPlan.StemPlan, slopes.SlopeInput.SlopeInput}, Slope.{slope_input, slope_inputs, ArePlaces, IsAbscissa, RisesAfter, RisesInBeams}}, setting_tests.specs.Rising.{AreRisingNumbers, AreNumbersRisingFrom}}
+use Rattle.mus_stems.specs.declared.plans.StemPlan.{StemPlan}
+use Rattle.mus_stems.specs.declared.slopes.SlopeInput.{SlopeInput}
+use Rattle.mus_stems.specs.Slope.{slope_input, slope_inputs, ArePlaces, IsAbscissa, RisesAfter, RisesInBeams}
+use Rattle.setting_tests.specs.Rising.{AreRisingNumbers, AreNumbersRisingFrom}
 
 rises_after : (a : SlopeInput) (ps : List StemPlan) (xs : List ℤ) → AreNumbersRisingFrom a.x xs → RisesAfter a (slope_inputs ps xs)
 unfolding slope_input

@@ -1,7 +1,10 @@
 //! How events are drawn beside their heads.
 
 ghost use Rattle.std.specs.Prelude.{◌≡◌, IsTrue, All, length, map};
-ghost use Rattle.{mus_score.specs.{Good.IsGoodBody, GoodScore.IsGoodScore, GoodScore.IsGoodVoice}, mus_stems.specs.{Heads.{AllNear, IsNearStaff, stand_of}, Stills.{AllCanStand, CanDrawEvent, clefs_from}}};
+ghost use Rattle.mus_score.specs.Good.{IsGoodBody};
+ghost use Rattle.mus_score.specs.GoodScore.{IsGoodScore, IsGoodVoice};
+ghost use Rattle.mus_stems.specs.Heads.{AllNear, IsNearStaff, stand_of};
+ghost use Rattle.mus_stems.specs.Stills.{AllCanStand, CanDrawEvent, clefs_from};
 
 use case_texts::Report;
 use mus_score::{Flat, Measure, Score, Voice, flatten};

@@ -1,7 +1,11 @@
 //! Beams that slope.
 
-ghost use Rattle.{std.specs.Prelude.{IsTrue}, mus_score.specs.{Good.IsGoodBody, GoodScore.IsGoodScore, GoodScore.IsGoodVoice}};
-ghost use Rattle.{mus_stems.specs.{Plans.AllEndsNear, Slope.ArePlaces}, setting_tests.specs.Rising.{AreRisingNumbers, AreNumbersRisingFrom}};
+ghost use Rattle.std.specs.Prelude.{IsTrue};
+ghost use Rattle.mus_score.specs.Good.{IsGoodBody};
+ghost use Rattle.mus_score.specs.GoodScore.{IsGoodScore, IsGoodVoice};
+ghost use Rattle.mus_stems.specs.Plans.{AllEndsNear};
+ghost use Rattle.mus_stems.specs.Slope.{ArePlaces};
+ghost use Rattle.setting_tests.specs.Rising.{AreRisingNumbers, AreNumbersRisingFrom};
 
 use crate::marks::put_system;
 use crate::plans::{can_all_stand, put_plans};

@@ -1,4 +1,8 @@
-use Rattle.{std.{proofs.{Common.{arith, ◌≡◌, ◌≤◌, ◌-◌, ap, sym, subst, length, drop}, lemmas.{Result.on_ok_weaker, List.Elements.{All-take, All-drop}}}, specs.List.All}, mus_units.specs.declared.value.Value.{Value}}
+use Rattle.std.proofs.Common.{arith, ◌≡◌, ◌≤◌, ◌-◌, ap, sym, subst, length, drop}
+use Rattle.std.proofs.lemmas.Result.{on_ok_weaker}
+use Rattle.std.proofs.lemmas.List.Elements.{All-take, All-drop}
+use Rattle.std.specs.List.{All}
+use Rattle.mus_units.specs.declared.value.Value.{Value}
 use Rattle.abc_events.proofs.Single.{several_nodes}
 use Rattle.abc_events.proofs.leaves.put_several.Goals as goal
 

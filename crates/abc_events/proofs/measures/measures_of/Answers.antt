@@ -1,5 +1,8 @@
-use Rattle.std.{proofs.Common.◌≡◌, proofs.Common.suc, proofs.Common.ap, proofs.Common.length, proofs.Common.arith, specs.Vec.Iter.into_iter_items}
-use Rattle.abc_events.{specs.Leaves.leaves_of, proofs.{MeasureTrees.other_trees, MeasureTrees.measure_pushed, Taken.count_left}}
+use Rattle.std.proofs.Common.{◌≡◌, suc, ap, length, arith}
+use Rattle.std.specs.Vec.Iter.{into_iter_items}
+use Rattle.abc_events.specs.Leaves.{leaves_of}
+use Rattle.abc_events.proofs.MeasureTrees.{other_trees, measure_pushed}
+use Rattle.abc_events.proofs.Taken.{count_left}
 use Rattle.abc_events.proofs.measures.measures_of.Goals as goal
 
 pub loop-tree-preserved : goal.loop-tree-preserved

@@ -1,5 +1,9 @@
-use Rattle.std.{proofs.Common.◌≡◌, proofs.Common.◌<◌, proofs.Common.◌+◌, proofs.Common.[], proofs.Common.ℕ, proofs.Common.map, proofs.Common.length, proofs.Common.slice_index_or, specs.List.range_with_len, specs.Vec.Iter.into_iter_items, specs.Vec.Iter.into_iter_len}
-use Rattle.abc_events.specs.{Leaves.leaves_of, Nesting.{tree_of, grown, no_tree}, Measures.leaves_in, Measures.measure_of_leaves}
+use Rattle.std.proofs.Common.{◌≡◌, ◌<◌, ◌+◌, [], ℕ, map, length, slice_index_or}
+use Rattle.std.specs.List.{range_with_len}
+use Rattle.std.specs.Vec.Iter.{into_iter_items, into_iter_len}
+use Rattle.abc_events.specs.Leaves.{leaves_of}
+use Rattle.abc_events.specs.Nesting.{tree_of, grown, no_tree}
+use Rattle.abc_events.specs.Measures.{leaves_in, measure_of_leaves}
 use Rattle.abc_events.proofs.measures.measures_of.Given as goal
 
 abbrev pub invariant-loop-tree : goal.invariant-loop-tree

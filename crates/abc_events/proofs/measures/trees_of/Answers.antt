@@ -1,6 +1,12 @@
-use Rattle.std.{proofs.Common.◌≡◌, proofs.Common.◌∙◌, proofs.Common.◌++◌, proofs.Common.◌∷◌, proofs.Common.◌<◌, proofs.Common.ℕ, proofs.Common.ap, proofs.Common.subst, proofs.Common.sym, proofs.Common.length, proofs.Common.take, proofs.Common.drop, proofs.Common.slice_index_or, proofs.Common.arith, proofs.lemmas.Grind.common_steps, proofs.lemmas.List.take-append-le, proofs.lemmas.List.take_all, specs.Vec.Iter.into_iter_items}
+use Rattle.std.proofs.Common.{◌≡◌, ◌∙◌, ◌++◌, ◌∷◌, ◌<◌, ℕ, ap, subst, sym, length, take, drop, slice_index_or, arith}
+use Rattle.std.proofs.lemmas.Grind.{common_steps}
+use Rattle.std.proofs.lemmas.List.{take-append-le, take_all}
+use Rattle.std.specs.Vec.Iter.{into_iter_items}
 use Rattle.abc_signs.specs.Signs.{HasDrawableValues}
-use Rattle.abc_events.{specs.Leaves.leaves_from, specs.Measures.leaves_in, specs.Nesting.{TakesAnother, grown, no_tree}, proofs.Taken.all_left, proofs.Taken.count_left}
+use Rattle.abc_events.specs.Leaves.{leaves_from}
+use Rattle.abc_events.specs.Measures.{leaves_in}
+use Rattle.abc_events.specs.Nesting.{TakesAnother, grown, no_tree}
+use Rattle.abc_events.proofs.Taken.{all_left, count_left}
 use Rattle.abc_events.proofs.measures.trees_of.Goals as goal
 
 pub loop-sign-preserved : goal.loop-sign-preserved

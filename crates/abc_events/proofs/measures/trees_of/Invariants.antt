@@ -1,5 +1,10 @@
-use Rattle.std.{proofs.Common.◌≡◌, proofs.Common.◌<◌, proofs.Common.ℕ, proofs.Common.length, proofs.Common.slice_index_or, specs.List.All, specs.Vec.Iter.into_iter_items, specs.Vec.Iter.into_iter_len}
-use Rattle.{abc_signs.specs.Signs.HasDrawableValues, abc_events.specs.{Leaves.leaves_from, Measures.leaves_in, Nesting.{tree_of, TakesAnother, grown, no_tree}}}
+use Rattle.std.proofs.Common.{◌≡◌, ◌<◌, ℕ, length, slice_index_or}
+use Rattle.std.specs.List.{All}
+use Rattle.std.specs.Vec.Iter.{into_iter_items, into_iter_len}
+use Rattle.abc_signs.specs.Signs.{HasDrawableValues}
+use Rattle.abc_events.specs.Leaves.{leaves_from}
+use Rattle.abc_events.specs.Measures.{leaves_in}
+use Rattle.abc_events.specs.Nesting.{tree_of, TakesAnother, grown, no_tree}
 use Rattle.abc_events.proofs.measures.trees_of.Given as goal
 
 abbrev pub invariant-loop-sign : goal.invariant-loop-sign

@@ -1,4 +1,9 @@
-use Rattle.{std.proofs.Common.{List, subst}, abc_faults.{specs.{declared.weights.Weight.Weight, First.IsFirstInOrder, First.first_of, Weights.crowded}, proofs.{Crowds.first_along, Crowds.same_crowd, Firsts.first_is}}}
+use Rattle.std.proofs.Common.{List, subst}
+use Rattle.abc_faults.specs.declared.weights.Weight.{Weight}
+use Rattle.abc_faults.specs.First.{IsFirstInOrder, first_of}
+use Rattle.abc_faults.specs.Weights.{crowded}
+use Rattle.abc_faults.proofs.Crowds.{first_along, same_crowd}
+use Rattle.abc_faults.proofs.Firsts.{first_is}
 use Rattle.abc_faults.proofs.crowd.crowding.Goals as goal
 
 first : (c : goal.After-drop-weights-inside) → IsFirstInOrder (crowded c.args.weights) c.first_crowded.result

@@ -1,4 +1,8 @@
-use Rattle.{std.proofs.Common.{sym, subst}, abc_faults.{specs.declared.weights.Weight.Weight, specs.First.IsLeastFault, specs.Weights.crowded, proofs.Crowds.found_at, proofs.Crowds.none_found}}
+use Rattle.std.proofs.Common.{sym, subst}
+use Rattle.abc_faults.specs.declared.weights.Weight.{Weight}
+use Rattle.abc_faults.specs.First.{IsLeastFault}
+use Rattle.abc_faults.specs.Weights.{crowded}
+use Rattle.abc_faults.proofs.Crowds.{found_at, none_found}
 use Rattle.abc_faults.proofs.crowd.first_crowded.Goals as goal
 
 pub returns-then-w-left : goal.returns-then-w-left

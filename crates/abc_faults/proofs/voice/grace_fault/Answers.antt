@@ -1,5 +1,7 @@
 use Rattle.std.proofs.Common.{◌+◌, drop}
-use Rattle.abc_faults.{specs.Faults.grace_faults_of, specs.Faults.grace_faults, proofs.Firsts.found_more, proofs.Walks.grace_parts}
+use Rattle.abc_faults.specs.Faults.{grace_faults_of, grace_faults}
+use Rattle.abc_faults.proofs.Firsts.{found_more}
+use Rattle.abc_faults.proofs.Walks.{grace_parts}
 use Rattle.abc_faults.proofs.voice.grace_fault.Goals as goal
 
 pub loop-s-preserved : goal.loop-s-preserved

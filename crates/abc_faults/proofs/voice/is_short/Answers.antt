@@ -1,5 +1,8 @@
 use Rattle.std.proofs.Common.{◌≡◌, true, false, arith}
-use Rattle.{abc_steps.specs.Kinds.{is_sound}, abc_faults.{specs.Faults.ends_tuplets, proofs.Tuplets.step_on, proofs.voice.is_short.Goals.then-is_sound, proofs.voice.is_short.Goals.else-is_sound}}
+use Rattle.abc_steps.specs.Kinds.{is_sound}
+use Rattle.abc_faults.specs.Faults.{ends_tuplets}
+use Rattle.abc_faults.proofs.Tuplets.{step_on}
+use Rattle.abc_faults.proofs.voice.is_short.Goals.{then-is_sound, else-is_sound}
 use Rattle.abc_faults.proofs.voice.is_short.Goals as goal
 
 pub loop-s-preserved : goal.loop-s-preserved

@@ -1,4 +1,6 @@
-use Rattle.std.{proofs.Common.◌≡◌, proofs.Common.drop, specs.Prelude.nat_lt, specs.Prelude.count_by, specs.List.before_first}
+use Rattle.std.proofs.Common.{◌≡◌, drop}
+use Rattle.std.specs.Prelude.{nat_lt, count_by}
+use Rattle.std.specs.List.{before_first}
 use Rattle.{abc_steps.specs.Kinds.{is_sound}, abc_faults.specs.Faults.{ends_tuplets}}
 use Rattle.abc_faults.proofs.voice.is_short.Given as goal
 

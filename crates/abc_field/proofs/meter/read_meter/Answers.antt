@@ -1,4 +1,6 @@
-use Rattle.{std.proofs.Common.{subst, sym, IfSome}, mus_units.specs.Good.{IsGoodMeter}, abc_field.proofs.GoodLaws.{meter_good}}
+use Rattle.std.proofs.Common.{subst, sym, IfSome}
+use Rattle.mus_units.specs.Good.{IsGoodMeter}
+use Rattle.abc_field.proofs.GoodLaws.{meter_good}
 use Rattle.abc_field.proofs.meter.read_meter.Goals as goal
 
 pub returns-clause-good : goal.returns-clause-good

@@ -1,4 +1,6 @@
-use Rattle.{std.proofs.Common.{subst, sym, IfSome}, mus_units.specs.Good.{IsGoodUnit}, abc_field.proofs.GoodLaws.{unit_good}}
+use Rattle.std.proofs.Common.{subst, sym, IfSome}
+use Rattle.mus_units.specs.Good.{IsGoodUnit}
+use Rattle.abc_field.proofs.GoodLaws.{unit_good}
 use Rattle.abc_field.proofs.meter.read_unit.Goals as goal
 
 pub returns-clause-good : goal.returns-clause-good

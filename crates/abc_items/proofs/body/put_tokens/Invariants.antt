@@ -1,5 +1,7 @@
 use Rattle.std.{proofs.Common.{◌≡◌, ◌++◌, length, List, All, flat_map}, specs.Vec.Iter.{into_iter_items, into_iter_len}}
-use Rattle.{abc_music.specs.Good.{AreGoodTokens}, abc_items.specs.{Good.IsGoodItem, Body.ItemOrFault, Body.placed_given, Body.judged_items, Body.first_item_fault, Body.items_in}}
+use Rattle.abc_music.specs.Good.{AreGoodTokens}
+use Rattle.abc_items.specs.Good.{IsGoodItem}
+use Rattle.abc_items.specs.Body.{ItemOrFault, placed_given, judged_items, first_item_fault, items_in}
 use Rattle.abc_items.proofs.body.put_tokens.Given as goal
 
 abbrev pub invariant-loop-placed : goal.invariant-loop-placed

@@ -1,5 +1,6 @@
 use Rattle.std.proofs.Common.{[], arith, length, ◌<◌}
-use Rattle.abc_items.{specs.Body.no_lines, proofs.Laws.reads_nothing, proofs.Laws.lines_more, proofs.Laws.lines_stop, proofs.Laws.size_behind}
+use Rattle.abc_items.specs.Body.{no_lines}
+use Rattle.abc_items.proofs.Laws.{reads_nothing, lines_more, lines_stop, size_behind}
 use Rattle.abc_items.proofs.body.read_lines.Goals as goal
 
 pub loop-line-init : goal.loop-line-init

@@ -1,5 +1,9 @@
-use Rattle.{std.proofs.lemmas.Result.{on_ok_weaker, IfErr-weaker}, abc_music.specs.{declared.token.LineRest.LineRest, Tokens.{GivesTokensFrom, PartOf}}}
-use Rattle.abc_items.{specs.{Body.{item_of_line_end, MusicGives}, Reading.{Stops, StopsBy}}, proofs.MusicLaws.{part_more, part_stops, part_ends, end_stops}}
+use Rattle.std.proofs.lemmas.Result.{on_ok_weaker, IfErr-weaker}
+use Rattle.abc_music.specs.declared.token.LineRest.{LineRest}
+use Rattle.abc_music.specs.Tokens.{GivesTokensFrom, PartOf}
+use Rattle.abc_items.specs.Body.{item_of_line_end, MusicGives}
+use Rattle.abc_items.specs.Reading.{Stops, StopsBy}
+use Rattle.abc_items.proofs.MusicLaws.{part_more, part_stops, part_ends, end_stops}
 use Rattle.abc_items.proofs.body.read_music_line.Goals as goal
 
 pub returns-in-Err-clause-stops : goal.returns-in-Err-clause-stops

@@ -1,4 +1,7 @@
-use Rattle.{std.proofs.Common.{length, All}, abc_music.specs.Tokens.{IsWithinLine}, abc_items.{specs.Good.IsGoodItem, proofs.MusicLaws.LineStage}}
+use Rattle.std.proofs.Common.{length, All}
+use Rattle.abc_music.specs.Tokens.{IsWithinLine}
+use Rattle.abc_items.specs.Good.{IsGoodItem}
+use Rattle.abc_items.proofs.MusicLaws.{LineStage}
 use Rattle.abc_items.proofs.body.read_music_line.Given as goal
 
 abbrev pub invariant-loop-part : goal.invariant-loop-part

@@ -1,4 +1,8 @@
-use Rattle.{std.{proofs.Common.{arith, subst, sym, All}, specs.Str.bytes_eq}, abc_steps.specs.Good.{IsGoodPlacedStep}, abc_items.{specs.Voices.steps_of, proofs.Laws.{steps_good, steps_whole}}}
+use Rattle.std.proofs.Common.{arith, subst, sym, All}
+use Rattle.std.specs.Str.{bytes_eq}
+use Rattle.abc_steps.specs.Good.{IsGoodPlacedStep}
+use Rattle.abc_items.specs.Voices.{steps_of}
+use Rattle.abc_items.proofs.Laws.{steps_good, steps_whole}
 use Rattle.abc_items.proofs.voices.steps_of.Goals as goal
 
 pub returns-clause-good : goal.returns-clause-good

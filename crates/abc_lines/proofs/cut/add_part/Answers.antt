@@ -1,4 +1,6 @@
-use Rattle.{std.proofs.Common.{rules}, abc_lines.proofs.{LineLaws.line_off, Stages.part-begins, Stages.part-next, Stages.part-stops, Stages.part-ends}}
+use Rattle.std.proofs.Common.{rules}
+use Rattle.abc_lines.proofs.LineLaws.{line_off}
+use Rattle.abc_lines.proofs.Stages.{part-begins, part-next, part-stops, part-ends}
 use Rattle.abc_lines.proofs.cut.add_part.Goals as goal
 
 pub lines-init : goal.lines-init

@@ -1,5 +1,8 @@
 use Rattle.std.proofs.Common.{rules, ◌++◌}
-use Rattle.abc_lines.{specs.Books.joined, specs.Lines.readings, proofs.LineLaws.line_off, proofs.Stages.join-next, proofs.Stages.join-stops, proofs.Stages.join-ends}
+use Rattle.abc_lines.specs.Books.{joined}
+use Rattle.abc_lines.specs.Lines.{readings}
+use Rattle.abc_lines.proofs.LineLaws.{line_off}
+use Rattle.abc_lines.proofs.Stages.{join-next, join-stops, join-ends}
 use Rattle.abc_lines.proofs.cut.join.Goals as goal
 
 pub returns-then-not-goes_on : goal.returns-then-not-goes_on

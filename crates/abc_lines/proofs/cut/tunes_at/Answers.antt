@@ -1,4 +1,8 @@
-use Rattle.{std.proofs.Common.{rules, arith}, abc_lines.{specs.{Forward.tunes_from, Lines.readings}, proofs.{LineLaws.line_off, Stages.tunes-pass, Stages.tunes-next, Stages.tunes-end}}}
+use Rattle.std.proofs.Common.{rules, arith}
+use Rattle.abc_lines.specs.Forward.{tunes_from}
+use Rattle.abc_lines.specs.Lines.{readings}
+use Rattle.abc_lines.proofs.LineLaws.{line_off}
+use Rattle.abc_lines.proofs.Stages.{tunes-pass, tunes-next, tunes-end}
 use Rattle.abc_lines.proofs.cut.tunes_at.Goals as goal
 
 pub tune_at-requires : goal.tune_at-requires

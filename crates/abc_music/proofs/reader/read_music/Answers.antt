@@ -1,4 +1,6 @@
-use Rattle.{std.proofs.Common.{length}, abc_pieces.specs.declared.token.PieceBefore.TheVariants.{Other}, abc_music.proofs.Line.{tokens_of, error_of, one_list}}
+use Rattle.std.proofs.Common.{length}
+use Rattle.abc_pieces.specs.declared.token.PieceBefore.TheVariants.{Other}
+use Rattle.abc_music.proofs.Line.{tokens_of, error_of, one_list}
 use Rattle.abc_music.proofs.reader.read_music.Goals as goal
 
 pub returns-in-Some-clause-fault : goal.returns-in-Some-clause-fault

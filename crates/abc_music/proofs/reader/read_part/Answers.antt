@@ -1,5 +1,9 @@
 use Rattle.std.proofs.Common.{◌≡◌, ◌∷◌, arith, rules, None, Some, length, refl, ap, ◌∙◌}
-use Rattle.{abc_pieces.specs.Reading.{token_of}, abc_music.{specs.{declared.token.LineRest.LineRest, Tokens.column}, proofs.{Fronts.good_part, Line.done_at, Line.stuck_at, Line.step, Line.consumes, Line.put_few}}}
+use Rattle.abc_pieces.specs.Reading.{token_of}
+use Rattle.abc_music.specs.declared.token.LineRest.{LineRest}
+use Rattle.abc_music.specs.Tokens.{column}
+use Rattle.abc_music.proofs.Fronts.{good_part}
+use Rattle.abc_music.proofs.Line.{done_at, stuck_at, step, consumes, put_few}
 use Rattle.abc_music.proofs.reader.read_part.Goals as goal
 
 pub returns-in_default-clause-part : goal.returns-in_default-clause-part

@@ -1,5 +1,8 @@
 use Rattle.{std.proofs.Common.{subst, sym, length}, abc_pieces.specs.declared.token.PieceBefore.TheVariants.{Other}}
-use Rattle.abc_music.{specs.{declared.token.LineRest.LineRest, Tokens.{GivesTokensOf, GivesTokensFrom, PartOf}}, proofs.{GoodLaws.good_front, Line.read_more}}
+use Rattle.abc_music.specs.declared.token.LineRest.{LineRest}
+use Rattle.abc_music.specs.Tokens.{GivesTokensOf, GivesTokensFrom, PartOf}
+use Rattle.abc_music.proofs.GoodLaws.{good_front}
+use Rattle.abc_music.proofs.Line.{read_more}
 use Rattle.abc_music.proofs.reader.read_prefix.Goals as goal
 
 pub loop-tokens-preserved : goal.loop-tokens-preserved

@@ -1,5 +1,6 @@
 use Rattle.std.proofs.Common.{arith, sym, ◌∙◌}
-use Rattle.abc_notes.proofs.{PartLaws.{left_none, left_some}, InnerLaws.{inner_reader, inner_pair, found_inner, none_inner, inner_less}}
+use Rattle.abc_notes.proofs.PartLaws.{left_none, left_some}
+use Rattle.abc_notes.proofs.InnerLaws.{inner_reader, inner_pair, found_inner, none_inner, inner_less}
 use Rattle.abc_notes.proofs.chord.behind_parts.Goals as goal
 
 pub parts-smaller : goal.parts-smaller

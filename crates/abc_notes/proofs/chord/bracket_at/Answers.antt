@@ -1,5 +1,7 @@
 use Rattle.std.proofs.Common.{ap, ◌∙◌, ◌||◌}
-use Rattle.abc_notes.{specs.Items.is_inner_note, proofs.{PartLaws.{all_within}, InnerLaws.{found_inner, none_inner, inner_less}}}
+use Rattle.abc_notes.specs.Items.{is_inner_note}
+use Rattle.abc_notes.proofs.PartLaws.{all_within}
+use Rattle.abc_notes.proofs.InnerLaws.{found_inner, none_inner, inner_less}
 use Rattle.abc_notes.proofs.ChordLaws.{seeking-begins, seeking-next, seeking-ends, bracket_within}
 use Rattle.abc_notes.proofs.chord.bracket_at.Goals as goal
 

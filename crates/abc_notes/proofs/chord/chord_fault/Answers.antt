@@ -1,5 +1,7 @@
 use Rattle.std.proofs.{Common.{ap, sym, ◌∙◌, eqb-true}, lemmas.Bool.eqb-false}
-use Rattle.abc_notes.{specs.{Runs.begins, Chords.is_bracket}, proofs.ChordLaws.{chord-unclosed, chord-open, chord-headless, chord-flawed}}
+use Rattle.abc_notes.specs.Runs.{begins}
+use Rattle.abc_notes.specs.Chords.{is_bracket}
+use Rattle.abc_notes.proofs.ChordLaws.{chord-unclosed, chord-open, chord-headless, chord-flawed}
 use Rattle.abc_notes.proofs.chord.chord_fault.Goals as goal
 
 pub returns-then-is_empty-clause-fault : goal.returns-then-is_empty-clause-fault

@@ -1,5 +1,6 @@
 use Rattle.std.proofs.Common.{refl, arith}
-use Rattle.abc_notes.{specs.Chords.{deco_of, decos_of}, proofs.InnerLaws.{said-next, said-end, found_inner, none_inner, inner_less}}
+use Rattle.abc_notes.specs.Chords.{deco_of, decos_of}
+use Rattle.abc_notes.proofs.InnerLaws.{said-next, said-end, found_inner, none_inner, inner_less}
 use Rattle.abc_notes.proofs.chord.read_decos.Goals as goal
 
 pub parts-smaller : goal.parts-smaller

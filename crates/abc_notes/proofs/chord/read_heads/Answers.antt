@@ -1,5 +1,6 @@
 use Rattle.std.proofs.Common.{arith, ◌∙◌}
-use Rattle.abc_notes.{specs.Chords.senses, proofs.InnerLaws.{heads-next, heads-end, heads-are, found_inner, none_inner, inner_less}}
+use Rattle.abc_notes.specs.Chords.{senses}
+use Rattle.abc_notes.proofs.InnerLaws.{heads-next, heads-end, heads-are, found_inner, none_inner, inner_less}
 use Rattle.abc_notes.proofs.chord.read_heads.Goals as goal
 
 pub parts-smaller : goal.parts-smaller

@@ -1,8 +1,14 @@
-use Rattle.std.proofs.Common.{rules, ◌≡◌, ◌^◌, arith, ap, sym, ◌∙◌, Some, length, take, drop, ◌-◌, ◌+◌, ◌≤◌, ◌∷◌, ◌||◌, eqb-true}
-use Rattle.abc_notes.proofs.CrossLaws.{brace_upto, passing-begins, passing-found, closing-behind, rest-behind, passing-small, passing-size}
-use Rattle.abc_notes.proofs.CrossLaws.{passing-next, passing-ends, chord-within, clear-none, item-brace, item-at, length_shorter, brace_fits}
-use Rattle.abc_notes.proofs.{CrossLaws.{past_is, chord-brace}, InnerLaws.{found_inner, none_inner, inner_less}, PartLaws.all_within}
-use Rattle.abc_notes.proofs.GraceLaws.{found_part, none_part, part_less, seeking-begins, seeking-next, seeking-ends, brace_within}
+use Rattle.std.proofs.Common.{rules, ◌≡◌, ◌^◌, arith, ap, sym, ◌∙◌, Some, length, take, drop, ◌-◌, ◌+◌, ◌≤◌, ◌∷◌, ◌||◌}
+use Rattle.std.proofs.Common.{eqb-true}
+use Rattle.abc_notes.proofs.CrossLaws.{brace_upto, passing-begins, passing-found, closing-behind, rest-behind}
+use Rattle.abc_notes.proofs.CrossLaws.{passing-small, passing-size}
+use Rattle.abc_notes.proofs.CrossLaws.{passing-next, passing-ends, chord-within, clear-none, item-brace, item-at}
+use Rattle.abc_notes.proofs.CrossLaws.{length_shorter, brace_fits}
+use Rattle.abc_notes.proofs.CrossLaws.{past_is, chord-brace}
+use Rattle.abc_notes.proofs.InnerLaws.{found_inner, none_inner, inner_less}
+use Rattle.abc_notes.proofs.PartLaws.{all_within}
+use Rattle.abc_notes.proofs.GraceLaws.{found_part, none_part, part_less, seeking-begins, seeking-next, seeking-ends}
+use Rattle.abc_notes.proofs.GraceLaws.{brace_within}
 use Rattle.abc_notes.{specs.{Items.is_inner_note, Graces.is_in_grace}, proofs.CutLaws.none_left}
 use Rattle.abc_notes.proofs.grace.+braces.Goals as goal
 

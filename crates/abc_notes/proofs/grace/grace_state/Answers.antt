@@ -1,5 +1,6 @@
 use Rattle.std.proofs.Common.{rules}
-use Rattle.abc_notes.proofs.GraceLaws.{group-begins, group-next, group-stuck, group-ends, found_part, none_part, part_less}
+use Rattle.abc_notes.proofs.GraceLaws.{group-begins, group-next, group-stuck, group-ends, found_part, none_part}
+use Rattle.abc_notes.proofs.GraceLaws.{part_less}
 use Rattle.abc_notes.proofs.grace.grace_state.Goals as goal
 
 pub parts-init : goal.parts-init

@@ -1,4 +1,5 @@
-use Rattle.{std.proofs.Common.{rules, arith}, abc_notes.proofs.GraceLaws.{body-next, body-end, found_part, none_part, part_less, item_wider}}
+use Rattle.std.proofs.Common.{rules, arith}
+use Rattle.abc_notes.proofs.GraceLaws.{body-next, body-end, found_part, none_part, part_less, item_wider}
 use Rattle.abc_notes.proofs.grace.read_body.Goals as goal
 
 pub add_part-requires : goal.add_part-requires

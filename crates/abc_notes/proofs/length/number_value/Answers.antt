@@ -1,5 +1,8 @@
-use Rattle.std.proofs.{Common.{ℕ, ◌≡◌, ◌-◌, ◌+◌, ◌*◌, arith, refl, add-one, get_or, take}, lemmas.Int.Digits.digits_value_more}
-use Rattle.{std.specs.{Str.Parse.digits_value, Char.digit_value}, abc_notes.proofs.Bounds.{limit_step, digit_range, digit_at, digit_value-is}}
+use Rattle.std.proofs.Common.{ℕ, ◌≡◌, ◌-◌, ◌+◌, ◌*◌, arith, refl, add-one, get_or, take}
+use Rattle.std.proofs.lemmas.Int.Digits.{digits_value_more}
+use Rattle.std.specs.Str.Parse.{digits_value}
+use Rattle.std.specs.Char.{digit_value}
+use Rattle.abc_notes.proofs.Bounds.{limit_step, digit_range, digit_at, digit_value-is}
 use Rattle.abc_notes.proofs.length.number_value.Goals as goal
 
 pub loop-digit-preserved : goal.loop-digit-preserved

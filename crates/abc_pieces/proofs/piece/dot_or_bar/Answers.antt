@@ -1,4 +1,6 @@
-use Rattle.{std.proofs.Common.{refl}, abc_pieces.{specs.Reading.bar_read, specs.Reading.token_of, proofs.PieceText.letter_or_bar}}
+use Rattle.std.proofs.Common.{refl}
+use Rattle.abc_pieces.specs.Reading.{bar_read, token_of}
+use Rattle.abc_pieces.proofs.PieceText.{letter_or_bar}
 use Rattle.abc_pieces.proofs.piece.dot_or_bar.Goals as goal
 
 pub returns-in-None-clause-read : goal.returns-in-None-clause-read

@@ -1,4 +1,6 @@
-use Rattle.{std.proofs.Common.{◌∙◌, ◌≤◌, List, length, ap, drop, subst, sym}, abc_steps.specs.declared.step.BodyItem.BodyItem, abc_items.specs.Voices.voice_ids}
+use Rattle.std.proofs.Common.{◌∙◌, ◌≤◌, List, length, ap, drop, subst, sym}
+use Rattle.abc_steps.specs.declared.step.BodyItem.{BodyItem}
+use Rattle.abc_items.specs.Voices.{voice_ids}
 use Rattle.abc_score.proofs.{Ids.few_ids, Lines.words_rise_behind}
 use Rattle.abc_score.proofs.building.build.Goals as goal
 

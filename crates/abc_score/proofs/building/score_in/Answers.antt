@@ -1,8 +1,18 @@
-use Rattle.{std.{proofs.Common.{◌≡◌, ◌∙◌, List, ℕ, Option, [], ap, subst, sym}, specs.Prelude.None}, abc_lines.specs.declared.fault.Fault.Fault}
-use Rattle.{abc_faults.specs.First.IsFirstInOrder, abc_steps.specs.declared.step.BodyItem.BodyItem, mus_score.specs.GoodScore.IsGoodScore}
+use Rattle.std.proofs.Common.{◌≡◌, ◌∙◌, List, ℕ, Option, [], ap, subst, sym}
+use Rattle.std.specs.Prelude.{None}
+use Rattle.abc_lines.specs.declared.fault.Fault.{Fault}
+use Rattle.abc_faults.specs.First.{IsFirstInOrder}
+use Rattle.abc_steps.specs.declared.step.BodyItem.{BodyItem}
+use Rattle.mus_score.specs.GoodScore.{IsGoodScore}
 use Rattle.{abc_items.specs.Voices.unnamed_of, abc_words.specs.Verses.verse_fault}
-use Rattle.abc_score.{proofs.{Clear.{clear_verses, few_measures, voices_clear}, Taken.all_of, Wholes.good_score}, specs.Score.score_with}
-use Rattle.abc_score.specs.{declared.{keeping.JudgedVoice.JudgedVoice, voices.ReadVoice.ReadVoice}, Faults.faults_of_voices, Voices.IsGoodRead}
+use Rattle.abc_score.proofs.Clear.{clear_verses, few_measures, voices_clear}
+use Rattle.abc_score.proofs.Taken.{all_of}
+use Rattle.abc_score.proofs.Wholes.{good_score}
+use Rattle.abc_score.specs.Score.{score_with}
+use Rattle.abc_score.specs.declared.keeping.JudgedVoice.{JudgedVoice}
+use Rattle.abc_score.specs.declared.voices.ReadVoice.{ReadVoice}
+use Rattle.abc_score.specs.Faults.{faults_of_voices}
+use Rattle.abc_score.specs.Voices.{IsGoodRead}
 use Rattle.abc_score.proofs.building.score_in.Goals as goal
 
 -- no fault is found among those of all voices

@@ -1,9 +1,15 @@
-use Rattle.std.{proofs.Common.{◌≡◌, ◌∙◌, List, Option, ◌∷◌, ◌++◌, [], ap, arith, rules, sym}, specs.{Prelude.flat_map, Vec.Iter.into_iter_items}}
+use Rattle.std.proofs.Common.{◌≡◌, ◌∙◌, List, Option, ◌∷◌, ◌++◌, [], ap, arith, rules, sym}
+use Rattle.std.specs.Prelude.{flat_map}
+use Rattle.std.specs.Vec.Iter.{into_iter_items}
 use Rattle.std.proofs.lemmas.{List.{Elements.{All-nil, All-push}, map-append, flat_map_more}, Grind.common_steps}
-use Rattle.{abc_lines.specs.declared.fault.Fault.Fault, abc_faults.{specs.declared.weights.Weight.Weight, proofs.Walks.part_more}}
+use Rattle.abc_lines.specs.declared.fault.Fault.{Fault}
+use Rattle.abc_faults.specs.declared.weights.Weight.{Weight}
+use Rattle.abc_faults.proofs.Walks.{part_more}
 use Rattle.abc_events.proofs.Taken.{all_left, count_left}
 use Rattle.abc_score.{proofs.Enough.{judged_both, none_judged}, specs.Voices.IsGoodRead}
-use Rattle.abc_score.specs.{Judged.{AreJudged, HasKept, reads_of}, Faults.{voice_faults, voice_weights}, declared.keeping.JudgedVoice.JudgedVoice}
+use Rattle.abc_score.specs.Judged.{AreJudged, HasKept, reads_of}
+use Rattle.abc_score.specs.Faults.{voice_faults, voice_weights}
+use Rattle.abc_score.specs.declared.keeping.JudgedVoice.{JudgedVoice}
 use Rattle.abc_score.proofs.faults.judge_voices.Goals as goal
 
 -- by equal faults, weights and a fault that is found

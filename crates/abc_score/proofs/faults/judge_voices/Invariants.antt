@@ -1,5 +1,10 @@
-use Rattle.std.{proofs.Common.{◌≡◌, ◌++◌, length}, specs.{List.All, Prelude.flat_map, Vec.Iter.{into_iter_items, into_iter_len}}}
-use Rattle.abc_score.specs.{Faults.{voice_faults, voice_weights}, Judged.{AreJudged, HasKept, reads_of}, Voices.IsGoodRead}
+use Rattle.std.proofs.Common.{◌≡◌, ◌++◌, length}
+use Rattle.std.specs.List.{All}
+use Rattle.std.specs.Prelude.{flat_map}
+use Rattle.std.specs.Vec.Iter.{into_iter_items, into_iter_len}
+use Rattle.abc_score.specs.Faults.{voice_faults, voice_weights}
+use Rattle.abc_score.specs.Judged.{AreJudged, HasKept, reads_of}
+use Rattle.abc_score.specs.Voices.{IsGoodRead}
 use Rattle.abc_score.proofs.faults.judge_voices.Given as goal
 
 abbrev pub invariant-loop-read : goal.invariant-loop-read

@@ -1,4 +1,6 @@
-use Rattle.{std.proofs.Common.{◌∙◌, ◌++◌, [], ap, subst, sym}, abc_faults.specs.Faults.faults_in, abc_words.specs.Verses.{verse_fault, verse_faults}}
+use Rattle.std.proofs.Common.{◌∙◌, ◌++◌, [], ap, subst, sym}
+use Rattle.abc_faults.specs.Faults.{faults_in}
+use Rattle.abc_words.specs.Verses.{verse_fault, verse_faults}
 use Rattle.abc_score.{specs.{Faults.voice_weights, Judged.AreJudged}, proofs.{Enough.judged_with, Verses.verse_first}}
 use Rattle.abc_score.proofs.faults.voice_fault.Goals as goal
 

@@ -1,4 +1,6 @@
-use Rattle.std.proofs.{Common.{◌≡◌, ◌∙◌, ◌+◌, ◌++◌, ◌<◌, ℕ, length, get_or, sym, ap, reverse, take, drop, true, rules, arith}, lemmas.List.drop_all}
+use Rattle.std.proofs.Common.{◌≡◌, ◌∙◌, ◌+◌, ◌++◌, ◌<◌, ℕ, length, get_or, sym, ap, reverse, take, drop, true, rules}
+use Rattle.std.proofs.Common.{arith}
+use Rattle.std.proofs.lemmas.List.{drop_all}
 use Rattle.{abc_faults.proofs.Walks.{at_front, nearest, part_more}, abc_signs.specs.Signs.{signs, tree_items_of}}
 use Rattle.abc_steps.specs.{declared.{step.PlacedStep.PlacedStep, force.InForce.InForce}, Looks.Steps, Places.state_at}
 use Rattle.abc_score.{specs.Judged.is_idle, proofs.Idle.{idle_at, idle_so_far}}

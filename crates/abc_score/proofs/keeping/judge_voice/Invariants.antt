@@ -1,4 +1,6 @@
-use Rattle.{std.proofs.Common.{◌≡◌, ◌≤◌, ◌*◌, ◌++◌, [], reverse, take, drop, true}, abc_steps.specs.{Good.IsGoodForce, Places.state_at}}
+use Rattle.std.proofs.Common.{◌≡◌, ◌≤◌, ◌*◌, ◌++◌, [], reverse, take, drop, true}
+use Rattle.abc_steps.specs.Good.{IsGoodForce}
+use Rattle.abc_steps.specs.Places.{state_at}
 use Rattle.{abc_signs.specs.Signs.signs, abc_score.proofs.Stops.IsAt}
 use Rattle.abc_score.proofs.keeping.judge_voice.Given as goal
 

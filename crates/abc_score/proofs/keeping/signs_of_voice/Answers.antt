@@ -1,4 +1,7 @@
-use Rattle.{std.{proofs.Common.{[], subst, sym}, specs.List.All}, abc_signs.{specs.Signs.HasDrawableValues, proofs.Drawn.signs_drawn}}
+use Rattle.std.proofs.Common.{[], subst, sym}
+use Rattle.std.specs.List.{All}
+use Rattle.abc_signs.specs.Signs.{HasDrawableValues}
+use Rattle.abc_signs.proofs.Drawn.{signs_drawn}
 use Rattle.abc_score.proofs.keeping.signs_of_voice.Goals as goal
 
 pub returns-then-kept-clause-drawn : goal.returns-then-kept-clause-drawn

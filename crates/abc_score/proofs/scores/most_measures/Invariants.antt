@@ -1,4 +1,7 @@
-use Rattle.{std.{proofs.Common.{◌≡◌, drop}, specs.Prelude.{fold, map, max}}, abc_score.specs.{Judged.reads_of, Score.own_measures}}
+use Rattle.std.proofs.Common.{◌≡◌, drop}
+use Rattle.std.specs.Prelude.{fold, map, max}
+use Rattle.abc_score.specs.Judged.{reads_of}
+use Rattle.abc_score.specs.Score.{own_measures}
 use Rattle.abc_score.proofs.scores.most_measures.Given as goal
 
 abbrev pub invariant-loop-judged : goal.invariant-loop-judged

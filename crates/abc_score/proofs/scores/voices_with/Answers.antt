@@ -1,7 +1,13 @@
-use Rattle.{std.{proofs.Common.{◌≡◌, ap}, specs.{Prelude.None, Vec.Iter.into_iter_items}}, abc_items.specs.Voices.unnamed_of}
+use Rattle.std.proofs.Common.{◌≡◌, ap}
+use Rattle.std.specs.Prelude.{None}
+use Rattle.std.specs.Vec.Iter.{into_iter_items}
+use Rattle.abc_items.specs.Voices.{unnamed_of}
 use Rattle.{abc_words.specs.Verses.verse_fault, abc_events.proofs.Taken.{all_left, count_left}}
 use Rattle.abc_score.proofs.Taken.{mapped_taken}
-use Rattle.abc_score.specs.{declared.keeping.JudgedVoice.JudgedVoice, Judged.{HasKept, reads_of}, Voices.IsGoodRead, Score.voice_by_header}
+use Rattle.abc_score.specs.declared.keeping.JudgedVoice.{JudgedVoice}
+use Rattle.abc_score.specs.Judged.{HasKept, reads_of}
+use Rattle.abc_score.specs.Voices.{IsGoodRead}
+use Rattle.abc_score.specs.Score.{voice_by_header}
 use Rattle.abc_score.proofs.scores.voices_with.Goals as goal
 
 pub loop-judged-preserved : goal.loop-judged-preserved

@@ -1,6 +1,12 @@
-use Rattle.std.{proofs.Common.{◌≡◌, ◌++◌, map, length}, specs.{List.All, Prelude.None, Vec.Iter.{into_iter_items, into_iter_len}}}
+use Rattle.std.proofs.Common.{◌≡◌, ◌++◌, map, length}
+use Rattle.std.specs.List.{All}
+use Rattle.std.specs.Prelude.{None}
+use Rattle.std.specs.Vec.Iter.{into_iter_items, into_iter_len}
 use Rattle.{abc_items.specs.Voices.unnamed_of, abc_words.specs.Verses.verse_fault}
-use Rattle.abc_score.specs.{declared.keeping.JudgedVoice.JudgedVoice, Judged.{HasKept, reads_of}, Voices.IsGoodRead, Score.voice_by_header}
+use Rattle.abc_score.specs.declared.keeping.JudgedVoice.{JudgedVoice}
+use Rattle.abc_score.specs.Judged.{HasKept, reads_of}
+use Rattle.abc_score.specs.Voices.{IsGoodRead}
+use Rattle.abc_score.specs.Score.{voice_by_header}
 use Rattle.abc_score.proofs.scores.voices_with.Given as goal
 
 abbrev pub invariant-loop-judged : goal.invariant-loop-judged

@@ -1,4 +1,7 @@
-use Rattle.{std.{proofs.Common.{subst, sym}, specs.List.All}, abc_steps.specs.Good.{IsGoodForce, IsGoodPlacedStep}, abc_score.specs.Voices.first_force}
+use Rattle.std.proofs.Common.{subst, sym}
+use Rattle.std.specs.List.{All}
+use Rattle.abc_steps.specs.Good.{IsGoodForce, IsGoodPlacedStep}
+use Rattle.abc_score.specs.Voices.{first_force}
 use Rattle.abc_score.proofs.voices.read_voice.Goals as goal
 
 pub returns-clause-good : goal.returns-clause-good

@@ -1,5 +1,8 @@
-use Rattle.std.{proofs.Common.◌≡◌, proofs.Common.◌++◌, proofs.Common.None, proofs.Common.drop, specs.Prelude.flat_map, specs.List.list_any}
-use Rattle.{abc_steps.specs.Force.{changes_at}, abc_signs.specs.Waits.{decos_in, mentions_in, graces_in, has_slash, last_ending}}
+use Rattle.std.proofs.Common.{◌≡◌, ◌++◌, None, drop}
+use Rattle.std.specs.Prelude.{flat_map}
+use Rattle.std.specs.List.{list_any}
+use Rattle.abc_steps.specs.Force.{changes_at}
+use Rattle.abc_signs.specs.Waits.{decos_in, mentions_in, graces_in, has_slash, last_ending}
 use Rattle.abc_signs.proofs.waits.gathered.Given as goal
 
 abbrev pub invariant-loop-s : goal.invariant-loop-s

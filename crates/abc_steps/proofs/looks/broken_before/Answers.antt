@@ -1,4 +1,6 @@
-use Rattle.{std.proofs.Common.{reverse}, abc_steps.{specs.Looks.broken_before, specs.Looks.is_some_sound, specs.Looks.nearest_event, specs.Looks.since_event, proofs.Between.none_between}}
+use Rattle.std.proofs.Common.{reverse}
+use Rattle.abc_steps.specs.Looks.{broken_before, is_some_sound, nearest_event, since_event}
+use Rattle.abc_steps.proofs.Between.{none_between}
 use Rattle.abc_steps.proofs.looks.broken_before.Goals as goal
 
 pub returns-then-is_empty : goal.returns-then-is_empty

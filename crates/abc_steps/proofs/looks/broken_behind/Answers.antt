@@ -1,4 +1,5 @@
-use Rattle.abc_steps.{specs.Looks.broken_behind, specs.Looks.is_some_sound, specs.Looks.nearest_event, specs.Looks.to_event, proofs.Between.none_between}
+use Rattle.abc_steps.specs.Looks.{broken_behind, is_some_sound, nearest_event, to_event}
+use Rattle.abc_steps.proofs.Between.{none_between}
 use Rattle.abc_steps.proofs.looks.broken_behind.Goals as goal
 
 pub returns-then-is_empty : goal.returns-then-is_empty

@@ -1,5 +1,6 @@
 use Rattle.std.{proofs.Common.{◌<◌, ◌≤◌, length, take, slice_index, arith, ap, ◌∙◌}, specs.Prelude.Some}
-use Rattle.abc_words.{specs.Verses.number_on, proofs.FaultLaws.counted_on, proofs.FaultLaws.fault_found, proofs.FaultLaws.faults_on, proofs.FaultLaws.row_inside}
+use Rattle.abc_words.specs.Verses.{number_on}
+use Rattle.abc_words.proofs.FaultLaws.{counted_on, fault_found, faults_on, row_inside}
 use Rattle.abc_words.proofs.verses.first_fault.Goals as goal
 
 pub returns-then-number_at-ge8 : goal.returns-then-number_at-ge8

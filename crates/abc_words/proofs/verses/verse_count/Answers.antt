@@ -1,5 +1,7 @@
 use Rattle.std.proofs.{Common.◌≡◌, Common.arith, lemmas.Grind.common_steps}
-use Rattle.abc_words.{specs.Rows.row_count, specs.Verses.verse_count, specs.Verses.verses_of_voice, proofs.FaultLaws.few_verses}
+use Rattle.abc_words.specs.Rows.{row_count}
+use Rattle.abc_words.specs.Verses.{verse_count, verses_of_voice}
+use Rattle.abc_words.proofs.FaultLaws.{few_verses}
 use Rattle.abc_words.proofs.verses.verse_count.Goals as goal
 
 pub returns-clause-few : goal.returns-clause-few

@@ -1,4 +1,7 @@
-use Rattle.std.{proofs.{Common.{◌≡◌, ◌∙◌, sym, ap, [], None, rules, arith, slice_index_or}, lemmas.List.nil_from_length}, specs.{Option.option_or, Vec.Iter.into_iter_items}}
+use Rattle.std.proofs.Common.{◌≡◌, ◌∙◌, sym, ap, [], None, rules, arith, slice_index_or}
+use Rattle.std.proofs.lemmas.List.{nil_from_length}
+use Rattle.std.specs.Option.{option_or}
+use Rattle.std.specs.Vec.Iter.{into_iter_items}
 use Rattle.abc_words.{specs.Words.word_of, proofs.Places.from_places, proofs.WordLaws.or_none}
 use Rattle.abc_words.proofs.words.verse_words.Goals as goal
 

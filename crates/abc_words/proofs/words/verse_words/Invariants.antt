@@ -1,4 +1,6 @@
-use Rattle.std.{proofs.Common.{◌≡◌, ◌<◌, ℕ, None, length, slice_index_or}, specs.{Option.option_or, Vec.Iter.{into_iter_items, into_iter_len}}}
+use Rattle.std.proofs.Common.{◌≡◌, ◌<◌, ℕ, None, length, slice_index_or}
+use Rattle.std.specs.Option.{option_or}
+use Rattle.std.specs.Vec.Iter.{into_iter_items, into_iter_len}
 use Rattle.abc_words.specs.Words.{word_of}
 use Rattle.abc_words.proofs.words.verse_words.Given as goal
 

@@ -1,5 +1,11 @@
-use Rattle.std.{proofs.{Common.{◌≡◌, ◌∙◌, ap, map, length, slice_index_or, None, arith}, lemmas.List.FromFn.length-map-range_with_len}, specs.List.range_with_len}
-use Rattle.abc_words.{specs.Verses.verse_count, specs.Words.event_words, specs.Words.music_rows, specs.Words.words_of_events, proofs.OwnLaws.no_words_elsewhere, proofs.OwnLaws.own_words, proofs.Places.made_more, proofs.WordLaws.all_long, proofs.WordLaws.at_event, proofs.WordLaws.verse_places}
+use Rattle.std.proofs.Common.{◌≡◌, ◌∙◌, ap, map, length, slice_index_or, None, arith}
+use Rattle.std.proofs.lemmas.List.FromFn.{length-map-range_with_len}
+use Rattle.std.specs.List.{range_with_len}
+use Rattle.abc_words.specs.Verses.{verse_count}
+use Rattle.abc_words.specs.Words.{event_words, music_rows, words_of_events}
+use Rattle.abc_words.proofs.OwnLaws.{no_words_elsewhere, own_words}
+use Rattle.abc_words.proofs.Places.{made_more}
+use Rattle.abc_words.proofs.WordLaws.{all_long, at_event, verse_places}
 use Rattle.abc_words.proofs.words.words_of_events.Goals as goal
 
 pub loop-event-preserved : goal.loop-event-preserved

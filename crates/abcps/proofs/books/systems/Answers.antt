@@ -1,4 +1,8 @@
-use Rattle.{abcps.{specs.Books.{AreSet, terms_in, systems_called}, proofs.{Answered.answer_by, BookCalls.calls_systems}}, set_tune.specs.Terms.{manner_of}, std.proofs.Common.{subst, sym, arith}}
+use Rattle.abcps.specs.Books.{AreSet, terms_in, systems_called}
+use Rattle.abcps.proofs.Answered.{answer_by}
+use Rattle.abcps.proofs.BookCalls.{calls_systems}
+use Rattle.set_tune.specs.Terms.{manner_of}
+use Rattle.std.proofs.Common.{subst, sym, arith}
 use Rattle.{abc_lines.specs.Books.{book_of}, set_lists.specs.Listing.{AreListable}}
 use Rattle.abcps.proofs.books.systems.Goals as goal
 use Rattle.abcps_words.specs.declared.command.Command.{Command}

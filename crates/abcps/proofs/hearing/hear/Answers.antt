@@ -1,4 +1,9 @@
-use Rattle.{std.proofs.{Common.refl, KnownBytes.Keeps-refl}, abcps_words.specs.declared.command.Command.{Command}, abcps.{specs.{Calls.IsNoDocument, declared.refusing.Refusal.Refusal}, proofs.Answered.answer_refused}}
+use Rattle.std.proofs.Common.{refl}
+use Rattle.std.proofs.KnownBytes.{Keeps-refl}
+use Rattle.abcps_words.specs.declared.command.Command.{Command}
+use Rattle.abcps.specs.Calls.{IsNoDocument}
+use Rattle.abcps.specs.declared.refusing.Refusal.{Refusal}
+use Rattle.abcps.proofs.Answered.{answer_refused}
 use Rattle.abcps.proofs.hearing.hear.Goals as goal
 
 pub returns-in-Err-NotPages : goal.returns-in-Err-NotPages

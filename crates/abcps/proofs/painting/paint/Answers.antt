@@ -1,4 +1,9 @@
-use Rattle.{std.proofs.{Common.{refl, subst}, KnownBytes.Keeps-refl}, abcps_words.specs.declared.command.Command.{Command}, ps_steps.specs.Steps.{Halts}, abcps.{specs.declared.refusing.Refusal.Refusal, proofs.Answered.answer_refused}}
+use Rattle.std.proofs.Common.{refl, subst}
+use Rattle.std.proofs.KnownBytes.{Keeps-refl}
+use Rattle.abcps_words.specs.declared.command.Command.{Command}
+use Rattle.ps_steps.specs.Steps.{Halts}
+use Rattle.abcps.specs.declared.refusing.Refusal.{Refusal}
+use Rattle.abcps.proofs.Answered.{answer_refused}
 use Rattle.abcps.proofs.painting.paint.Goals as goal
 
 pub returns-in-Err-Halt : goal.returns-in-Err-Halt

@@ -1,4 +1,9 @@
-use Rattle.{set_tune.specs.Terms.{terms_of}, std.{proofs.Common.length, specs.Prelude.All}, abc_lines.specs.Good.{IsGoodTune}, abcps.proofs.{Batches.{IsCounted, IsSoFar}, Sent.stream}}
+use Rattle.set_tune.specs.Terms.{terms_of}
+use Rattle.std.proofs.Common.{length}
+use Rattle.std.specs.Prelude.{All}
+use Rattle.abc_lines.specs.Good.{IsGoodTune}
+use Rattle.abcps.proofs.Batches.{IsCounted, IsSoFar}
+use Rattle.abcps.proofs.Sent.{stream}
 use Rattle.abcps.proofs.printing.print_tunes.Given as goal
 
 abbrev pub invariant-batches : goal.invariant-batches

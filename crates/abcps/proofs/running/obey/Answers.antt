@@ -1,4 +1,7 @@
-use Rattle.{std.proofs.{Common.refl, KnownBytes.Keeps-refl}, abcps_words.specs.declared.command.Command.{Command}, abcps.proofs.Answered.{unread_obeyed}}
+use Rattle.std.proofs.Common.{refl}
+use Rattle.std.proofs.KnownBytes.{Keeps-refl}
+use Rattle.abcps_words.specs.declared.command.Command.{Command}
+use Rattle.abcps.proofs.Answered.{unread_obeyed}
 use Rattle.abcps.proofs.running.obey.Goals as goal
 
 pub returns-in-Make : goal.returns-in-Make

@@ -1,5 +1,7 @@
 use Rattle.std.proofs.Common.{◌≡◌, ◌∷◌, string_bytes, map, sym, ◌∙◌, ap}
-use Rattle.abcps_words.{specs.declared.command.Name.Name, specs.Words.name_bytes, proofs.Fronts.unnamed, proofs.Fronts.no_make, proofs.Fronts.no_trial, proofs.Fronts.no_hear}
+use Rattle.abcps_words.specs.declared.command.Name.{Name}
+use Rattle.abcps_words.specs.Words.{name_bytes}
+use Rattle.abcps_words.proofs.Fronts.{unnamed, no_make, no_trial, no_hear}
 use Rattle.abcps_words.proofs.command.take_front.Goals as goal
 
 pub returns-in_err-name_of : goal.returns-in_err-name_of

@@ -1,4 +1,6 @@
-use Rattle.std.proofs.{Common.◌≡◌, Common.◌<◌, Common.◌==◌, Common.ℕ, Common.zero, Common.suc, Common.Bool, Common.false, Common.length, Common.string_bytes, Common.map, Common.sym, Common.◌∙◌, Common.arith, lemmas.Bool.true≢false, lemmas.List.length-map}
+use Rattle.std.proofs.Common.{◌≡◌, ◌<◌, ◌==◌, ℕ, zero, suc, Bool, false, length, string_bytes, map, sym, ◌∙◌, arith}
+use Rattle.std.proofs.lemmas.Bool.{true≢false}
+use Rattle.std.proofs.lemmas.List.{length-map}
 use Rattle.abcps_words.proofs.Flags.{unreadable, repeated, one_more}
 use Rattle.abcps_words.proofs.options.options_of.Goals as goal
 

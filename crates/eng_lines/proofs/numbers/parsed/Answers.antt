@@ -1,4 +1,7 @@
-use Rattle.std.{proofs.{Common.{decimal, ◌∙◌, ap}, lemmas.{Fmt.{parse-decimal, IsAscii-decimal}, Str.IsUtf8-from_ascii}}, specs.Result.result_ok}
+use Rattle.std.proofs.Common.{decimal, ◌∙◌, ap}
+use Rattle.std.proofs.lemmas.Fmt.{parse-decimal, IsAscii-decimal}
+use Rattle.std.proofs.lemmas.Str.{IsUtf8-from_ascii}
+use Rattle.std.specs.Result.{result_ok}
 use Rattle.eng_lines.proofs.numbers.parsed.Goals as goal
 
 pub returns-in-Ok : goal.returns-in-Ok

@@ -1,4 +1,7 @@
-use Rattle.{std.proofs.Common.{rules, subst, sym}, glyph_paths.{specs.{Outlines.outline_of, Bounds.{AreBounds, AreClose}}, proofs.BoundLaws.{bounds_are, bounds_are_close}}}
+use Rattle.std.proofs.Common.{rules, subst, sym}
+use Rattle.glyph_paths.specs.Outlines.{outline_of}
+use Rattle.glyph_paths.specs.Bounds.{AreBounds, AreClose}
+use Rattle.glyph_paths.proofs.BoundLaws.{bounds_are, bounds_are_close}
 use Rattle.glyph_paths.proofs.bounds.bounds_of.Goals as goal
 
 pub returns-clause-value : goal.returns-clause-value

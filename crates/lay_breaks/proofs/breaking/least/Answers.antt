@@ -1,4 +1,5 @@
-use Rattle.std.proofs.{Common.{◌≡◌, None, Some, IsSome, arith, sym, ◌∙◌, subst, slice_index_or, reverse}, lemmas.List.get_or_read_under}
+use Rattle.std.proofs.Common.{◌≡◌, None, Some, IsSome, arith, sym, ◌∙◌, subst, slice_index_or, reverse}
+use Rattle.std.proofs.lemmas.List.{get_or_read_under}
 use Rattle.lay_breaks.{specs.Table.LeadsBack, proofs.breaking.least.Goals.After-walk_back}
 use Rattle.lay_breaks.proofs.Whole as whole
 use Rattle.lay_breaks.proofs.breaking.least.Goals as goal

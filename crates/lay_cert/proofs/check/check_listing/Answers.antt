@@ -1,5 +1,9 @@
-use Rattle.std.proofs.{Common.◌==◌, Common.◌∷◌, Common.IfSome, Common.length, Common.ap, Common.sym, Common.◌∙◌, Common.subst, Common.arith, lemmas.List.length-append, lemmas.Bool.true≢false}
-use Rattle.lay_cert.{proofs.Judging.{IsReading, first_fault, stuck_at_line, stuck_at_end, reading_more, judged_all, ended_stage, no_length}, specs.Represents.{IsStep, IsSound, Represents}}
+use Rattle.std.proofs.Common.{◌==◌, ◌∷◌, IfSome, length, ap, sym, ◌∙◌, subst, arith}
+use Rattle.std.proofs.lemmas.List.{length-append}
+use Rattle.std.proofs.lemmas.Bool.{true≢false}
+use Rattle.lay_cert.proofs.Judging.{IsReading, first_fault, stuck_at_line, stuck_at_end, reading_more, judged_all}
+use Rattle.lay_cert.proofs.Judging.{ended_stage, no_length}
+use Rattle.lay_cert.specs.Represents.{IsStep, IsSound, Represents}
 use Rattle.lay_cert.proofs.check.check_listing.Goals as goal
 
 pub returns-in_default-2-clause-cause : goal.returns-in_default-2-clause-cause

@@ -1,5 +1,6 @@
 use Rattle.std.proofs.Common.{◌<◌, ◌≤◌, [], subst, inl, inr}
-use Rattle.lay_cert.{specs.declared.lines.ListingLine.ListingLine, proofs.Judging.none_refused, proofs.Judging.entry_same}
+use Rattle.lay_cert.specs.declared.lines.ListingLine.{ListingLine}
+use Rattle.lay_cert.proofs.Judging.{none_refused, entry_same}
 use Rattle.lay_cert.proofs.state.after_entry.Goals as goal
 
 pub returns-then-branch-clause-step : goal.returns-then-branch-clause-step

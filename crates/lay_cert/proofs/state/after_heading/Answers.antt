@@ -1,5 +1,8 @@
 use Rattle.std.proofs.{Common.sym, Common.◌∙◌, lemmas.Bool.true≢false}
-use Rattle.lay_cert.{specs.declared.lines.ListingLine.ListingLine, proofs.Judging.none_choosing, proofs.state.after_heading.Goals.then-choosing-via-then-choosing, proofs.state.after_heading.Goals.then-choosing-via-else-choosing+in_ok-is_line+then-not-branch}
+use Rattle.lay_cert.specs.declared.lines.ListingLine.{ListingLine}
+use Rattle.lay_cert.proofs.Judging.{none_choosing}
+use Rattle.lay_cert.proofs.state.after_heading.Goals.{then-choosing-via-then-choosing}
+use Rattle.lay_cert.proofs.state.after_heading.Goals.{then-choosing-via-else-choosing+in_ok-is_line+then-not-branch}
 use Rattle.lay_cert.proofs.state.after_heading.Goals as goal
 
 pub returns-then-choosing-clause-step : goal.returns-then-choosing-clause-step

@@ -1,5 +1,10 @@
 use Rattle.std.proofs.Common.{None, Some, ap, sym, ◌∙◌, subst, slice_index_or}
-use Rattle.lay_cert.{specs.Lines.line_text, specs.ReaderStates.proving, specs.Represents.IsStep, specs.declared.lines.ListingLine.ListingLine, specs.declared.state.ListingState.ListingState, proofs.Judging.proved_all, proofs.Judging.proved_one}
+use Rattle.lay_cert.specs.Lines.{line_text}
+use Rattle.lay_cert.specs.ReaderStates.{proving}
+use Rattle.lay_cert.specs.Represents.{IsStep}
+use Rattle.lay_cert.specs.declared.lines.ListingLine.{ListingLine}
+use Rattle.lay_cert.specs.declared.state.ListingState.{ListingState}
+use Rattle.lay_cert.proofs.Judging.{proved_all, proved_one}
 use Rattle.lay_cert.proofs.state.after_total.Goals as goal
 
 pub returns-then-next-bars-clause-step : goal.returns-then-next-bars-clause-step

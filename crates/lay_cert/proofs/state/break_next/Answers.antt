@@ -1,5 +1,7 @@
 use Rattle.std.proofs.Common.{[], ◌∷◌, ◌++◌, ap, sym, ◌∙◌, refl, is_some}
-use Rattle.{lay_breaks.specs.Spans.{listed}, lay_cert.{specs.declared.lines.ListingLine.ListingLine, proofs.Judging.none_break, proofs.Judging.entry_same}}
+use Rattle.lay_breaks.specs.Spans.{listed}
+use Rattle.lay_cert.specs.declared.lines.ListingLine.{ListingLine}
+use Rattle.lay_cert.proofs.Judging.{none_break, entry_same}
 use Rattle.lay_cert.proofs.state.break_next.Goals as goal
 
 pub returns-in_ok-add_break-in-Some-clause-step : goal.returns-in_ok-add_break-in-Some-clause-step

@@ -1,6 +1,10 @@
-use Rattle.std.proofs.{Common.◌≡◌, Common.◌==◌, Common.[], Common.◌∷◌, Common.◌++◌, Common.length, Common.ap, Common.sym, Common.◌∙◌, Common.refl, Common.subst, lemmas.Bool.true≢false}
+use Rattle.std.proofs.Common.{◌≡◌, ◌==◌, [], ◌∷◌, ◌++◌, length, ap, sym, ◌∙◌, refl, subst}
+use Rattle.std.proofs.lemmas.Bool.{true≢false}
 use Rattle.lay_breaks.specs.Spans.{MayFollow}
-use Rattle.lay_cert.{specs.declared.lines.ListingLine.ListingLine, proofs.Judging.none_span, proofs.Judging.entry_same, proofs.Judging.no_length, proofs.state.span_next.Goals.then-not-is_empty-via-then-not-is_empty, proofs.state.span_next.Goals.then-not-is_empty-via-else-not-is_empty+then-not-may_follow}
+use Rattle.lay_cert.specs.declared.lines.ListingLine.{ListingLine}
+use Rattle.lay_cert.proofs.Judging.{none_span, entry_same, no_length}
+use Rattle.lay_cert.proofs.state.span_next.Goals.{then-not-is_empty-via-then-not-is_empty}
+use Rattle.lay_cert.proofs.state.span_next.Goals.{then-not-is_empty-via-else-not-is_empty+then-not-may_follow}
 use Rattle.lay_cert.proofs.state.span_next.Goals as goal
 
 pub returns-then-not-is_empty-clause-step : goal.returns-then-not-is_empty-clause-step

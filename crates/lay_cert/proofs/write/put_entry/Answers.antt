@@ -1,5 +1,8 @@
 use Rattle.std.proofs.Common.{◌++◌, ap, ◌∙◌, map, []}
-use Rattle.lay_cert.{specs.Lines.lines_then, specs.Listing.potential_lines, specs.declared.lines.ListingLine.ListingLine, proofs.Put.put_whole}
+use Rattle.lay_cert.specs.Lines.{lines_then}
+use Rattle.lay_cert.specs.Listing.{potential_lines}
+use Rattle.lay_cert.specs.declared.lines.ListingLine.{ListingLine}
+use Rattle.lay_cert.proofs.Put.{put_whole}
 use Rattle.lay_cert.proofs.write.put_entry.Goals as goal
 
 pub returns : goal.returns

@@ -1,7 +1,8 @@
 use Rattle.std.{proofs.Common.{◌∙◌, None, ap, subst, sym, arith}, specs.List.list_all}
 use Rattle.lay_columns.{specs.Measures.{AreFurther, begins_plain}, proofs.Behind.plain_further}
 use Rattle.lay_columns.proofs.further.further_columns.Goals as goal
-use Rattle.lay_columns.proofs.further.further_columns.Goals.{then-m-eq0-via-then-m-eq0, then-m-eq0-via-else-m-eq0+then-begin_plain}
+use Rattle.lay_columns.proofs.further.further_columns.Goals.{then-m-eq0-via-then-m-eq0}
+use Rattle.lay_columns.proofs.further.further_columns.Goals.{then-m-eq0-via-else-m-eq0+then-begin_plain}
 
 pub returns-then-m-eq0 : goal.returns-then-m-eq0
 returns-then-m-eq0 c =

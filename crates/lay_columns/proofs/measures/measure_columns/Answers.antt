@@ -1,7 +1,17 @@
-use Rattle.std.{proofs.Common.{◌≡◌, ◌∙◌, ◌+◌, ◌≤◌, ◌==◌, length, map, ap, subst, sym, arith}, specs.List.{All, Contains, slice_index}}
-use Rattle.{mus_onsets.{specs.declared.keys.Class.Class, specs.Keys.IsInSystem, specs.Keys.key_at, specs.Order.Rises, specs.Ranks.AreRanked}, mus_score.specs.Seats.{grouped}}
-use Rattle.{mus_time.proofs.Counts.{lengths_count, voices_count}, mus_marks.{specs.Staff.verses_on, specs.System.is_drawn_lower, proofs.Fitting.few_verses}, lay_reaches.specs.Widened.{HaveGoodMarks}}
-use Rattle.lay_columns.{specs.Measures.EndWithBar, specs.Measures.keys_in, specs.Measures.measure_staff, proofs.Facts.called_has_bar, proofs.Facts.end_with_bar, proofs.Facts.ok_through, proofs.Facts.places, proofs.Facts.staves_good}
+use Rattle.std.proofs.Common.{◌≡◌, ◌∙◌, ◌+◌, ◌≤◌, ◌==◌, length, map, ap, subst, sym, arith}
+use Rattle.std.specs.List.{All, Contains, slice_index}
+use Rattle.mus_onsets.specs.declared.keys.Class.{Class}
+use Rattle.mus_onsets.specs.Keys.{IsInSystem, key_at}
+use Rattle.mus_onsets.specs.Order.{Rises}
+use Rattle.mus_onsets.specs.Ranks.{AreRanked}
+use Rattle.mus_score.specs.Seats.{grouped}
+use Rattle.mus_time.proofs.Counts.{lengths_count, voices_count}
+use Rattle.mus_marks.specs.Staff.{verses_on}
+use Rattle.mus_marks.specs.System.{is_drawn_lower}
+use Rattle.mus_marks.proofs.Fitting.{few_verses}
+use Rattle.lay_reaches.specs.Widened.{HaveGoodMarks}
+use Rattle.lay_columns.specs.Measures.{EndWithBar, keys_in, measure_staff}
+use Rattle.lay_columns.proofs.Facts.{called_has_bar, end_with_bar, ok_through, places, staves_good}
 use Rattle.lay_columns.proofs.measures.measure_columns.Goals as goal
 
 pub invariant_of-frame : goal.invariant_of-frame

@@ -1,5 +1,12 @@
-use Rattle.std.{proofs.{Common.{◌≡◌, length-drop, ◌∙◌, ◌+◌, ◌++◌, ◌∷◌, [], length, sym, ap, subst, arith}, lemmas.List.Elements.All-drop}, specs.List.All}
-use Rattle.{mus_drawn.specs.Good.{AreGoodMeasures}, mus_marks.{specs.{Staff.verses_on, System.is_drawn_lower}, proofs.{Groups.group_turn, Groups.rest_from, Parts.verses_drop, Parts.verses_take}}, lay_columns.specs.Measures.{measure_staff}}
+use Rattle.std.proofs.Common.{◌≡◌, length-drop, ◌∙◌, ◌+◌, ◌++◌, ◌∷◌, [], length, sym, ap, subst, arith}
+use Rattle.std.proofs.lemmas.List.Elements.{All-drop}
+use Rattle.std.specs.List.{All}
+use Rattle.mus_drawn.specs.Good.{AreGoodMeasures}
+use Rattle.mus_marks.specs.Staff.{verses_on}
+use Rattle.mus_marks.specs.System.{is_drawn_lower}
+use Rattle.mus_marks.proofs.Groups.{group_turn, rest_from}
+use Rattle.mus_marks.proofs.Parts.{verses_drop, verses_take}
+use Rattle.lay_columns.specs.Measures.{measure_staff}
 use Rattle.lay_columns.proofs.measures.measure_staves.Goals as goal
 
 pub measure_staff-requires-clause-verses : goal.measure_staff-requires-clause-verses

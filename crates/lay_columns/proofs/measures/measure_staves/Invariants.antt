@@ -1,5 +1,9 @@
 use Rattle.std.{proofs.Common.{◌≡◌, ◌≤◌, ◌++◌, length, map}, specs.List.All}
-use Rattle.{mus_score.specs.Seats.{grouped}, mus_drawn.specs.Good.{AreGoodMeasures}, mus_marks.specs.{Staff.verses_on, System.is_drawn_lower}, lay_columns.specs.Measures.{measure_staff}}
+use Rattle.mus_score.specs.Seats.{grouped}
+use Rattle.mus_drawn.specs.Good.{AreGoodMeasures}
+use Rattle.mus_marks.specs.Staff.{verses_on}
+use Rattle.mus_marks.specs.System.{is_drawn_lower}
+use Rattle.lay_columns.specs.Measures.{measure_staff}
 use Rattle.lay_columns.proofs.measures.measure_staves.Given as goal
 
 abbrev pub invariant-staves : goal.invariant-staves

@@ -1,4 +1,7 @@
-use Rattle.{std.proofs.Common.{false, subst}, lay_breaks.specs.Answers.{IsCause}, lay_pages.{specs.Even.page_cost, proofs.Pages.some_legal}}
+use Rattle.std.proofs.Common.{false, subst}
+use Rattle.lay_breaks.specs.Answers.{IsCause}
+use Rattle.lay_pages.specs.Even.{page_cost}
+use Rattle.lay_pages.proofs.Pages.{some_legal}
 use Rattle.lay_pages.proofs.even.even_breaks.Goals as goal
 
 pub unreachable-requires : goal.unreachable-requires

@@ -1,4 +1,7 @@
-use Rattle.{std.proofs.Common.{subst, sym}, lay_pages.{specs.{Even.AreFitting, Even.StandByPages, Even.group_heights, Filling.AreWithin}, proofs.{Pages.chosen_fits, Pages.filled_if, Pages.parted_stacked, Pages.parted_within}}}
+use Rattle.std.proofs.Common.{subst, sym}
+use Rattle.lay_pages.specs.Even.{AreFitting, StandByPages, group_heights}
+use Rattle.lay_pages.specs.Filling.{AreWithin}
+use Rattle.lay_pages.proofs.Pages.{chosen_fits, filled_if, parted_stacked, parted_within}
 use Rattle.lay_pages.proofs.even.fill_even.Goals as goal
 
 pub returns-then-groups-gt-MOST_GROUPS-clause-stacked : goal.returns-then-groups-gt-MOST_GROUPS-clause-stacked

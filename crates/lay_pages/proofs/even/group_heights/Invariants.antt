@@ -1,5 +1,6 @@
 use Rattle.std.proofs.Common.{◌≡◌, ◌≤◌, ◌++◌, length, ℕ, None}
-use Rattle.lay_pages.specs.{Even.AreHeights, Even.group_heights, Even.heights_from, Filling.AreGoodBlocks, Filling.tall_from}
+use Rattle.lay_pages.specs.Even.{AreHeights, group_heights, heights_from}
+use Rattle.lay_pages.specs.Filling.{AreGoodBlocks, tall_from}
 use Rattle.lay_pages.proofs.even.group_heights.Given as goal
 
 abbrev pub invariant-groups : goal.invariant-groups

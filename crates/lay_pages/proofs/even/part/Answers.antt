@@ -1,5 +1,6 @@
 use Rattle.std.proofs.Common.{◌≡◌, ◌∷◌, ◌∙◌, ap, length, arith, rules}
-use Rattle.lay_pages.{specs.Even.ends_behind, specs.Even.even_spot_after, specs.Even.turns, proofs.Pages.fits_more, proofs.Pages.groups_next, proofs.Pages.page_next, proofs.Pages.parted_more}
+use Rattle.lay_pages.specs.Even.{ends_behind, even_spot_after, turns}
+use Rattle.lay_pages.proofs.Pages.{fits_more, groups_next, page_next, parted_more}
 use Rattle.lay_pages.proofs.even.part.Goals as goal
 
 pub placing-preserved : goal.placing-preserved

@@ -1,4 +1,7 @@
-use Rattle.{std.proofs.Common.{subst, sym}, lay_pages.{specs.Filling.AreWithin, specs.Filling.AreFilled, proofs.Filled.filled_so, proofs.Fitting.within_from, proofs.Fitting.ready_first}}
+use Rattle.std.proofs.Common.{subst, sym}
+use Rattle.lay_pages.specs.Filling.{AreWithin, AreFilled}
+use Rattle.lay_pages.proofs.Filled.{filled_so}
+use Rattle.lay_pages.proofs.Fitting.{within_from, ready_first}
 use Rattle.lay_pages.proofs.filling.fill.Goals as goal
 
 pub spots_from-requires-clause-room : goal.spots_from-requires-clause-room

@@ -1,5 +1,6 @@
 use Rattle.std.proofs.Common.{◌≤◌, ◌+◌, sym, subst, arith}
-use Rattle.lay_pages.{specs.Filling.CanFollow, specs.Filling.down_behind, specs.Filling.group_height, proofs.Fitting.behind_within, proofs.Fitting.end_of, proofs.Fitting.first_room}
+use Rattle.lay_pages.specs.Filling.{CanFollow, down_behind, group_height}
+use Rattle.lay_pages.proofs.Fitting.{behind_within, end_of, first_room}
 use Rattle.lay_pages.proofs.filling.fill_after.Goals as goal
 
 pub spots_from-requires-clause-room : goal.spots_from-requires-clause-room

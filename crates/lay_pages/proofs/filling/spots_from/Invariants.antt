@@ -1,5 +1,6 @@
 use Rattle.std.proofs.Common.{◌≡◌, ◌<◌, ◌+◌, ◌^◌, ◌++◌, length}
-use Rattle.lay_pages.{specs.Filling.AreGoodBlocks, specs.Filling.spots_from, specs.Filling.standing_from, proofs.Fitting.IsReady}
+use Rattle.lay_pages.specs.Filling.{AreGoodBlocks, spots_from, standing_from}
+use Rattle.lay_pages.proofs.Fitting.{IsReady}
 use Rattle.lay_pages.proofs.filling.spots_from.Given as goal
 
 abbrev pub invariant-placing : goal.invariant-placing

@@ -1,5 +1,9 @@
-use Rattle.std.proofs.{Common.{◌≡◌, ◌+◌, ◌++◌, ◌∷◌, [], ◌∙◌, length, length-append, drop, append_assoc, refl, sym, ap, subst, arith, rules, to_z, of_z, to_z-of_z, w64}, lemmas.{Int.ints, Slice.Zip.zip_turn}}
-use Rattle.lay_pages.{specs.Stacking.above_base, specs.Stacking.below_base, specs.Stacking.bases_behind, specs.Stacking.bottom_behind, specs.Stacking.under_top, proofs.Under.one_more}
+use Rattle.std.proofs.Common.{◌≡◌, ◌+◌, ◌++◌, ◌∷◌, [], ◌∙◌, length, length-append, drop, append_assoc, refl, sym, ap}
+use Rattle.std.proofs.Common.{subst, arith, rules, to_z, of_z, to_z-of_z, w64}
+use Rattle.std.proofs.lemmas.Int.{ints}
+use Rattle.std.proofs.lemmas.Slice.Zip.{zip_turn}
+use Rattle.lay_pages.specs.Stacking.{above_base, below_base, bases_behind, bottom_behind, under_top}
+use Rattle.lay_pages.proofs.Under.{one_more}
 use Rattle.lay_pages.proofs.stacking.put_bases.Goals as goal
 
 pub loop-staff-preserved : goal.loop-staff-preserved

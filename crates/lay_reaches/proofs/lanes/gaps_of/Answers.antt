@@ -1,4 +1,6 @@
-use Rattle.std.{proofs.{Common.{◌≤◌, ◌*◌, ◌^◌, ◌++◌, length, ap, ◌∙◌, sym, subst, arith}, lemmas.List.{append-nil, drop_all}}, specs.List.All}
+use Rattle.std.proofs.Common.{◌≤◌, ◌*◌, ◌^◌, ◌++◌, length, ap, ◌∙◌, sym, subst, arith}
+use Rattle.std.proofs.lemmas.List.{append-nil, drop_all}
+use Rattle.std.specs.List.{All}
 use Rattle.lay_reaches.{specs.Lanes.gaps_of, proofs.Gaps.gaps_narrow, proofs.Gaps.gaps_few}
 use Rattle.lay_reaches.proofs.lanes.gaps_of.Goals as goal
 

@@ -1,5 +1,7 @@
 use Rattle.std.proofs.{Common.{rules, ◌≡◌, ◌∙◌, None, Some, replicate, set, ap, sym}, lemmas.List.set-set}
-use Rattle.lay_reaches.proofs.{Lone.none_set, stands.with_reach.Goals.{in_default-via-in-Some+else-single-lane, in_default-via-in_default}}
+use Rattle.lay_reaches.proofs.Lone.{none_set}
+use Rattle.lay_reaches.proofs.stands.with_reach.Goals.{in_default-via-in-Some+else-single-lane}
+use Rattle.lay_reaches.proofs.stands.with_reach.Goals.{in_default-via-in_default}
 use Rattle.lay_reaches.proofs.stands.with_reach.Goals as goal
 
 pub returns-in_default : goal.returns-in_default

@@ -1,5 +1,12 @@
-use Rattle.std.{proofs.Common.◌≡◌, proofs.Common.map, proofs.Common.length, proofs.Common.sym, proofs.Common.ap, proofs.Common.◌∙◌, proofs.Common.subst, proofs.Common.arith, proofs.lemmas.List.take_at, specs.List.All}
-use Rattle.lay_reaches.{specs.{Columns.{columns_of, CoverMarks, IsSmall, IsUncut, StandsWhereDue}, Lanes.gaps_of, Widened.{bare_columns, widened_by_staves}}, proofs.{Covering.columns_cover, Facts.{columns_keys, columns_long, columns_small, columns_stand, columns_uncut}, Widening.{bare_long, columns_are, columns_many}}}
+use Rattle.std.proofs.Common.{◌≡◌, map, length, sym, ap, ◌∙◌, subst, arith}
+use Rattle.std.proofs.lemmas.List.{take_at}
+use Rattle.std.specs.List.{All}
+use Rattle.lay_reaches.specs.Columns.{columns_of, CoverMarks, IsSmall, IsUncut, StandsWhereDue}
+use Rattle.lay_reaches.specs.Lanes.{gaps_of}
+use Rattle.lay_reaches.specs.Widened.{bare_columns, widened_by_staves}
+use Rattle.lay_reaches.proofs.Covering.{columns_cover}
+use Rattle.lay_reaches.proofs.Facts.{columns_keys, columns_long, columns_small, columns_stand, columns_uncut}
+use Rattle.lay_reaches.proofs.Widening.{bare_long, columns_are, columns_many}
 use Rattle.lay_reaches.proofs.system.columns_in.Goals as goal
 
 pub returns-clause-value : goal.returns-clause-value

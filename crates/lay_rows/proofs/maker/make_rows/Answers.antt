@@ -1,5 +1,7 @@
 use Rattle.std.{proofs.Common.{◌<◌, arith, subst}, specs.List.AllZip}
-use Rattle.lay_rows.{specs.Tables.IsCostTable, proofs.Tables.{table_of_bars, table_small}, proofs.maker.make_rows.Goals.In_ok-rows}
+use Rattle.lay_rows.specs.Tables.{IsCostTable}
+use Rattle.lay_rows.proofs.Tables.{table_of_bars, table_small}
+use Rattle.lay_rows.proofs.maker.make_rows.Goals.{In_ok-rows}
 use Rattle.lay_rows.proofs.maker.make_rows.Goals as goal
 
 table : (g : _) (c : In_ok-rows g) → IsCostTable (g.M.RowMaker.is_row c.args.maker.now) c.args.n c.in_ok-rows.rows

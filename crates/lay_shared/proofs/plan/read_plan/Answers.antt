@@ -1,5 +1,8 @@
 use Rattle.std.proofs.{Common.{◌≡◌, ◌∙◌, sym, subst, length, IfSome, Some, []}, lemmas.Result.IfOk-weaker}
-use Rattle.lay_shared.{specs.declared.plan.Plan.Plan, specs.Plans.IsPlanFor, specs.Plans.SpellsPlan, specs.Reading.plan_by, specs.Reading.plan_signs_from, proofs.PlanLaws.read-good, proofs.PlanLaws.read-spells, proofs.PlanLaws.spelled-read}
+use Rattle.lay_shared.specs.declared.plan.Plan.{Plan}
+use Rattle.lay_shared.specs.Plans.{IsPlanFor, SpellsPlan}
+use Rattle.lay_shared.specs.Reading.{plan_by, plan_signs_from}
+use Rattle.lay_shared.proofs.PlanLaws.{read-good, read-spells, spelled-read}
 use Rattle.lay_shared.proofs.plan.read_plan.Goals as goal
 
 pub returns-clause-spells : goal.returns-clause-spells

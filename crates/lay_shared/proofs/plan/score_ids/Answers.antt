@@ -1,5 +1,7 @@
 use Rattle.std.proofs.{Common.{◌≡◌, ◌≢◌, ◌<◌, ◌^◌, AllPairs, IfOk, length, map, subst, sym}, lemmas.Result.IfOk-weaker}
-use Rattle.{mus_score.specs.declared.score.Voice.{Voice}, lay_shared.{specs.Plans.score_ids, proofs.PlanLaws.apart_ids, proofs.PlanLaws.few_ids}}
+use Rattle.mus_score.specs.declared.score.Voice.{Voice}
+use Rattle.lay_shared.specs.Plans.{score_ids}
+use Rattle.lay_shared.proofs.PlanLaws.{apart_ids, few_ids}
 use Rattle.lay_shared.proofs.plan.score_ids.Goals as goal
 
 pub returns-clause-few : goal.returns-clause-few

@@ -1,5 +1,11 @@
-use Rattle.std.proofs.{Common.{◌≡◌, ◌≤◌, ℕ, Bool, Option, IfOk, IfErr, None, slice_index_or, false, subst}, Math.Path.fun_ext}
-use Rattle.{lay_breaks.specs.{Answers.IsCause, Breaking.IsChosen, Breaking.sum_from, Breaking.IsPotential, Spans.listed}, lay_rows.specs.Costs.{cost_in}, lay_spans.{specs.Forced.is_forced, proofs.breaks.break_of.Goals.After-least}}
+use Rattle.std.proofs.Common.{◌≡◌, ◌≤◌, ℕ, Bool, Option, IfOk, IfErr, None, slice_index_or, false, subst}
+use Rattle.std.proofs.Math.Path.{fun_ext}
+use Rattle.lay_breaks.specs.Answers.{IsCause}
+use Rattle.lay_breaks.specs.Breaking.{IsChosen, sum_from, IsPotential}
+use Rattle.lay_breaks.specs.Spans.{listed}
+use Rattle.lay_rows.specs.Costs.{cost_in}
+use Rattle.lay_spans.specs.Forced.{is_forced}
+use Rattle.lay_spans.proofs.breaks.break_of.Goals.{After-least}
 use Rattle.lay_spans.proofs.breaks.break_of.Goals as goal
 
 -- what holds of the rows and the marks holds of the list and the forced bars

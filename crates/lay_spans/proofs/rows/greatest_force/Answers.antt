@@ -1,4 +1,7 @@
-use Rattle.{std.proofs.Common.{length, arith}, lay_springs.{specs.Place.reach_at, specs.Place.length_at, proofs.Longer.stand_few}, lay_spans.proofs.Fitting.{passes_never}}
+use Rattle.std.proofs.Common.{length, arith}
+use Rattle.lay_springs.specs.Place.{reach_at, length_at}
+use Rattle.lay_springs.proofs.Longer.{stand_few}
+use Rattle.lay_spans.proofs.Fitting.{passes_never}
 use Rattle.lay_spans.proofs.rows.greatest_force.Goals as goal
 
 pub returns-then-most_columns-cols-clause-none : goal.returns-then-most_columns-cols-clause-none

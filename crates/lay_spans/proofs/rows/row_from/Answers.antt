@@ -1,6 +1,13 @@
-use Rattle.std.proofs.{Common.{◌≡◌, ℕ, ◌+◌, ◌++◌, ◌<◌, ◌∷◌, [], ◌-◌, flat_map, map, take, drop, length, length-append, false, slice_index_or, arith, sym, ◌∙◌, ap, subst, rules}, lemmas.List.{length-map, take_at}}
+use Rattle.std.proofs.Common.{◌≡◌, ℕ, ◌+◌, ◌++◌, ◌<◌, ◌∷◌, [], ◌-◌, flat_map, map, take, drop, length, length-append}
+use Rattle.std.proofs.Common.{false, slice_index_or, arith, sym, ◌∙◌, ap, subst, rules}
+use Rattle.std.proofs.lemmas.List.{length-map, take_at}
 use Rattle.lay_springs.specs.Place.{HasPlaced}
-use Rattle.lay_spans.{specs.{Columns.{measures_from, span_columns}, SpanList.{IsForce, IsCost}}, proofs.{Adding.columns_some, Fitting.{force_of, seen_as, still_above, never_stands}, Growing.{placed_more, seen_more, costs_more, free_more, stops_at, stops_behind}, rows.row_from.Goals.{After-as_slice-columns, After-greatest_force, In_ok-push}}}
+use Rattle.lay_spans.specs.Columns.{measures_from, span_columns}
+use Rattle.lay_spans.specs.SpanList.{IsForce, IsCost}
+use Rattle.lay_spans.proofs.Adding.{columns_some}
+use Rattle.lay_spans.proofs.Fitting.{force_of, seen_as, still_above, never_stands}
+use Rattle.lay_spans.proofs.Growing.{placed_more, seen_more, costs_more, free_more, stops_at, stops_behind}
+use Rattle.lay_spans.proofs.rows.row_from.Goals.{After-as_slice-columns, After-greatest_force, In_ok-push}
 use Rattle.lay_spans.proofs.rows.row_from.Goals as goal
 
 columns : (g : _) (c : After-as_slice-columns g) → map (λ s. s.column.now) c.as_slice-columns.result.now ≡ span_columns c.args.starts.now c.args.others.now c.args.a (c.loop-m.m + 1)

@@ -1,5 +1,7 @@
 use Rattle.std.proofs.Common.{◌≡◌, ◌+◌, ◌<◌, ◌≤◌, ℕ, length, map, slice_index, slice_index_or, true, false}
-use Rattle.{lay_springs.specs.Place.{reach_at, length_at, HasPlaced}, lay_spans.specs.{Columns.span_columns, SpanList.FitsAtForce, SpanList.IsCost}}
+use Rattle.lay_springs.specs.Place.{reach_at, length_at, HasPlaced}
+use Rattle.lay_spans.specs.Columns.{span_columns}
+use Rattle.lay_spans.specs.SpanList.{FitsAtForce, IsCost}
 use Rattle.lay_spans.proofs.rows.row_from.Given as goal
 
 abbrev pub invariant-loop-m : goal.invariant-loop-m

@@ -1,6 +1,11 @@
 use Rattle.std.proofs.{Common.{◌≡◌, length, slice_index_or, false, sym, ◌∙◌, ap, subst}, Math.Path.fun_ext}
 use Rattle.{lay_breaks.specs.Spans.{AreSpans, listed}, lay_rows.specs.Tables.{IsCostTable}}
-use Rattle.lay_spans.{specs.{Forced.is_forced, SpanList.IsSpanList, Rows.{IsRowFrom, rows_spans}}, proofs.{Growing.{rows_are_spans, rows_tell_spans}, Listing.rows_listed, spans.spans_of.Goals.In_ok-list}}
+use Rattle.lay_spans.specs.Forced.{is_forced}
+use Rattle.lay_spans.specs.SpanList.{IsSpanList}
+use Rattle.lay_spans.specs.Rows.{IsRowFrom, rows_spans}
+use Rattle.lay_spans.proofs.Growing.{rows_are_spans, rows_tell_spans}
+use Rattle.lay_spans.proofs.Listing.{rows_listed}
+use Rattle.lay_spans.proofs.spans.spans_of.Goals.{In_ok-list}
 use Rattle.lay_spans.proofs.spans.spans_of.Goals as goal
 
 table : (g : _) (c : In_ok-list g) → IsCostTable (λ a row. IsRowFrom g.C.Spaced.reach_of g.C.Spring.length_of c.args.gaps.now c.args.width c.args.starts.now c.args.others.now

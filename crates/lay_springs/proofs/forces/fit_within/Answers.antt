@@ -1,6 +1,10 @@
 use Rattle.std.proofs.{Common.{◌-◌, length, arith, inl, inr}, lemmas.Bool.cases_lt}
 use Rattle.lay_springs.specs.Place.{reach_at, length_at}
-use Rattle.lay_springs.proofs.{Longer.stands, Ends.lengths_short, Made.fits_or_passes, Placing.near_at, forces.fit_within.Goals.{then-placed-gt0, else-placed-gt0}}
+use Rattle.lay_springs.proofs.Longer.{stands}
+use Rattle.lay_springs.proofs.Ends.{lengths_short}
+use Rattle.lay_springs.proofs.Made.{fits_or_passes}
+use Rattle.lay_springs.proofs.Placing.{near_at}
+use Rattle.lay_springs.proofs.forces.fit_within.Goals.{then-placed-gt0, else-placed-gt0}
 use Rattle.lay_springs.proofs.forces.fit_within.Goals as goal
 
 pub loop-low-preserved : goal.loop-low-preserved

@@ -1,5 +1,16 @@
-use Rattle.std.proofs.{Common.{◌≡◌, ◌-◌, ◌+◌, pos, ◌≤ℤ◌, ◌<ℤ◌, length, take, Some, subst, sym, inl, inr, slice_get, slice_index_or, arith, refl, to_z, of_z, w64}, lemmas.{Bool.cases_lt, Int.ints, List.get_or-take, Option.slice_get_read}}
-use Rattle.lay_springs.{specs.{Fit.{IsEndOf, EndsAt}, Place.{reach_at, length_at}}, proofs.{Placing.reach_is, Near.end_near, Ends.{length_rises, spring_rises}, Longer.cannot_stand, forces.too_great.Goals.{After-end_of-end, After-lowered}}}
+use Rattle.std.proofs.Common.{◌≡◌, ◌-◌, ◌+◌, pos, ◌≤ℤ◌, ◌<ℤ◌, length, take, Some, subst, sym, inl, inr, slice_get}
+use Rattle.std.proofs.Common.{slice_index_or, arith, refl, to_z, of_z, w64}
+use Rattle.std.proofs.lemmas.Bool.{cases_lt}
+use Rattle.std.proofs.lemmas.Int.{ints}
+use Rattle.std.proofs.lemmas.List.{get_or-take}
+use Rattle.std.proofs.lemmas.Option.{slice_get_read}
+use Rattle.lay_springs.specs.Fit.{IsEndOf, EndsAt}
+use Rattle.lay_springs.specs.Place.{reach_at, length_at}
+use Rattle.lay_springs.proofs.Placing.{reach_is}
+use Rattle.lay_springs.proofs.Near.{end_near}
+use Rattle.lay_springs.proofs.Ends.{length_rises, spring_rises}
+use Rattle.lay_springs.proofs.Longer.{cannot_stand}
+use Rattle.lay_springs.proofs.forces.too_great.Goals.{After-end_of-end, After-lowered}
 use Rattle.lay_springs.proofs.forces.too_great.Goals as goal
 
 module _ (g : _) (c : After-end_of-end g) where

@@ -1,5 +1,11 @@
-use Rattle.std.{proofs.{Common.{◌≡◌, ◌-◌, ◌*◌, ◌/◌, ◌≤◌, ℕ, length, ap, sym, ◌∙◌, refl, arith}, lemmas.{Int.ints, Option.slice_get_read}}}
-use Rattle.lay_springs.{specs.Place.length_at, proofs.{Placing.length_is, Near.slack_more, Ends.spring_short, Longer.fewer_apart}}
+use Rattle.std.proofs.Common.{◌≡◌, ◌-◌, ◌*◌, ◌/◌, ◌≤◌, ℕ, length, ap, sym, ◌∙◌, refl, arith}
+use Rattle.std.proofs.lemmas.Int.{ints}
+use Rattle.std.proofs.lemmas.Option.{slice_get_read}
+use Rattle.lay_springs.specs.Place.{length_at}
+use Rattle.lay_springs.proofs.Placing.{length_is}
+use Rattle.lay_springs.proofs.Near.{slack_more}
+use Rattle.lay_springs.proofs.Ends.{spring_short}
+use Rattle.lay_springs.proofs.Longer.{fewer_apart}
 use Rattle.lay_springs.proofs.guesses.stretched.Goals as goal
 
 pub loop-j-init : goal.loop-j-init

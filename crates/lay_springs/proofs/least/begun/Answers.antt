@@ -1,5 +1,14 @@
-use Rattle.std.{proofs.{Common.{◌≡◌, ap, pos, ◌≤ℤ◌, length, Some, slice_get, slice_set, arith, refl, to_z, of_z, w64, get_or-set_same, negsuc, replicate}, lemmas.{Int.{ints, to_z-of_z}, List.get_or-replicate, Option.slice_get_read}}, specs.Prelude.FitsSigned}
-use Rattle.lay_springs.{specs.Place.reach_at, proofs.{Placing.{placed_first, near_at, reach_is}, Clear.inside_bound, Fronts.{front_more, front_start}, least.begun.Goals.After-first_at-first}}
+use Rattle.std.proofs.Common.{◌≡◌, ap, pos, ◌≤ℤ◌, length, Some, slice_get, slice_set, arith, refl, to_z, of_z, w64}
+use Rattle.std.proofs.Common.{get_or-set_same, negsuc, replicate}
+use Rattle.std.proofs.lemmas.Int.{ints, to_z-of_z}
+use Rattle.std.proofs.lemmas.List.{get_or-replicate}
+use Rattle.std.proofs.lemmas.Option.{slice_get_read}
+use Rattle.std.specs.Prelude.{FitsSigned}
+use Rattle.lay_springs.specs.Place.{reach_at}
+use Rattle.lay_springs.proofs.Placing.{placed_first, near_at, reach_is}
+use Rattle.lay_springs.proofs.Clear.{inside_bound}
+use Rattle.lay_springs.proofs.Fronts.{front_more, front_start}
+use Rattle.lay_springs.proofs.least.begun.Goals.{After-first_at-first}
 use Rattle.lay_springs.proofs.least.begun.Goals as goal
 
 bound : (g : _) (c : After-first_at-first g) → c.first_at-first.result ≤ℤ pos 1048576

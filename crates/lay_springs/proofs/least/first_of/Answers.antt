@@ -1,4 +1,5 @@
-use Rattle.std.proofs.{Common.◌≡◌, Common.Some, Common.arith, Common.subst, Common.sym, Common.◌∙◌, Common.w64, lemmas.Int.{ints, to_z-of_z}}
+use Rattle.std.proofs.Common.{◌≡◌, Some, arith, subst, sym, ◌∙◌, w64}
+use Rattle.std.proofs.lemmas.Int.{ints, to_z-of_z}
 use Rattle.lay_springs.{specs.ReachView.TellsReach, proofs.{Clear.inside_more, Fronts.lone_told}}
 use Rattle.lay_springs.proofs.least.first_of.Goals as goal
 

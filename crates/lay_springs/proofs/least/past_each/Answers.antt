@@ -1,4 +1,7 @@
-use Rattle.std.proofs.{Common.{◌≡◌, ◌<◌, ◌≤◌, length, Some, arith, sym, ◌∙◌, inl, inr}, lemmas.{Bool.cases_lt, Int.ints, Option.none-some}}
+use Rattle.std.proofs.Common.{◌≡◌, ◌<◌, ◌≤◌, length, Some, arith, sym, ◌∙◌, inl, inr}
+use Rattle.std.proofs.lemmas.Bool.{cases_lt}
+use Rattle.std.proofs.lemmas.Int.{ints}
+use Rattle.std.proofs.lemmas.Option.{none-some}
 use Rattle.lay_springs.{specs.ReachView.{reach_in, reach_in_near}, proofs.Fronts.{none_past, past_more}}
 use Rattle.lay_springs.proofs.least.past_each.Goals as goal
 

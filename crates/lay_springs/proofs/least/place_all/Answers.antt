@@ -1,5 +1,7 @@
 use Rattle.std.proofs.Common.{◌≡◌, length, arith}
-use Rattle.lay_springs.{specs.Place.{reach_at, length_at, IsPlacedTo}, proofs.{Placing.place_of, least.place_all.Goals.After-place_to}}
+use Rattle.lay_springs.specs.Place.{reach_at, length_at, IsPlacedTo}
+use Rattle.lay_springs.proofs.Placing.{place_of}
+use Rattle.lay_springs.proofs.least.place_all.Goals.{After-place_to}
 use Rattle.lay_springs.proofs.least.place_all.Goals as goal
 
 all : (g : _) (c : After-place_to g) → IsPlacedTo (length c.args.cols.now) (reach_at g.C.Spaced.reach_of c.args.cols.now) c.args.gaps.now (length_at g.C.Spring.length_of c.args.cols.now) c.args.force

@@ -1,5 +1,15 @@
-use Rattle.std.{proofs.{Common.{◌≡◌, ◌≢◌, ◌+◌, ◌-◌, ◌*◌, ◌/◌, ◌≤◌, ◌<◌, ℕ, ℤ, pos, ◌+ℤ◌, ◌≤ℤ◌, List, length, ap, subst, sym, inl, inr, ◌∙◌, slice_index_or, slice_set, to_z, of_z, w64, arith, refl, get_or-set_same, get_or-set_other}, lemmas.{Int.{ints, to_z-of_z}, Option.slice_get_read}}}
-use Rattle.lay_springs.{specs.{Place.{length_at, reach_at, slack, IsPast, StandApart}}, proofs.{Placing.{placed_more, length_is, near_at, reach_is}, Near.next_near, Ends.spring_short, Longer.fewer_apart, Fronts.{front_clear, front_below, front_more, past_bound}, least.place_next.Goals.{After-set_past-next, After-tightened}}}
+use Rattle.std.proofs.Common.{◌≡◌, ◌≢◌, ◌+◌, ◌-◌, ◌*◌, ◌/◌, ◌≤◌, ◌<◌, ℕ, ℤ, pos, ◌+ℤ◌, ◌≤ℤ◌, List, length, ap, subst}
+use Rattle.std.proofs.Common.{sym, inl, inr, ◌∙◌, slice_index_or, slice_set, to_z, of_z, w64, arith, refl}
+use Rattle.std.proofs.Common.{get_or-set_same, get_or-set_other}
+use Rattle.std.proofs.lemmas.Int.{ints, to_z-of_z}
+use Rattle.std.proofs.lemmas.Option.{slice_get_read}
+use Rattle.lay_springs.specs.Place.{length_at, reach_at, slack, IsPast, StandApart}
+use Rattle.lay_springs.proofs.Placing.{placed_more, length_is, near_at, reach_is}
+use Rattle.lay_springs.proofs.Near.{next_near}
+use Rattle.lay_springs.proofs.Ends.{spring_short}
+use Rattle.lay_springs.proofs.Longer.{fewer_apart}
+use Rattle.lay_springs.proofs.Fronts.{front_clear, front_below, front_more, past_bound}
+use Rattle.lay_springs.proofs.least.place_next.Goals.{After-set_past-next, After-tightened}
 use Rattle.lay_springs.proofs.least.place_next.Goals as goal
 
 module _ (g : _) (c : After-set_past-next g) where

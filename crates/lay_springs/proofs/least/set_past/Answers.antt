@@ -1,5 +1,7 @@
 use Rattle.std.{proofs.{Common.{◌≡◌, ◌<◌, ◌∙◌, subst, pos, ◌+ℤ◌, to_z, of_z, w64, arith}, lemmas.Int.{ints, to_z-of_z}}}
-use Rattle.{lay_springs.specs.ReachView.{IsLone, TellsReach}, lay_springs.proofs.{Fronts.{lone_clear, lone_noted, lone_told}, least.set_past.Goals.After-from}}
+use Rattle.lay_springs.specs.ReachView.{IsLone, TellsReach}
+use Rattle.lay_springs.proofs.Fronts.{lone_clear, lone_noted, lone_told}
+use Rattle.lay_springs.proofs.least.set_past.Goals.{After-from}
 use Rattle.lay_springs.proofs.least.set_past.Goals as goal
 
 inside : (g : _) (c : After-from g) → c.in-OneLane.stand.lane < 4294967296

@@ -1,4 +1,7 @@
-use Rattle.{std.proofs.{Common.{length, w64, arith}, lemmas.Int.{ints, to_z-of_z}}, lay_springs.{specs.ReachView.{reach_in, reach_in_near}, proofs.Fronts.each_behind}}
+use Rattle.std.proofs.Common.{length, w64, arith}
+use Rattle.std.proofs.lemmas.Int.{ints, to_z-of_z}
+use Rattle.lay_springs.specs.ReachView.{reach_in, reach_in_near}
+use Rattle.lay_springs.proofs.Fronts.{each_behind}
 use Rattle.lay_springs.proofs.least.set_past_each.Goals as goal
 
 pub advance_each-requires-clause-small : goal.advance_each-requires-clause-small

@@ -1,5 +1,11 @@
-use Rattle.std.proofs.{Common.{◌≡◌, ◌-◌, ℤ, pos, length, Some, subst, sym, slice_get, slice_index_or, arith, refl, to_z, of_z, w64}, lemmas.{Int.ints, Option.slice_get_read}}
-use Rattle.lay_springs.{specs.{Place.reach_at, Fit.IsEndOf}, proofs.{Placing.reach_is, margin.rest_of.Goals.After-end_of}}
+use Rattle.std.proofs.Common.{◌≡◌, ◌-◌, ℤ, pos, length, Some, subst, sym, slice_get, slice_index_or, arith, refl, to_z}
+use Rattle.std.proofs.Common.{of_z, w64}
+use Rattle.std.proofs.lemmas.Int.{ints}
+use Rattle.std.proofs.lemmas.Option.{slice_get_read}
+use Rattle.lay_springs.specs.Place.{reach_at}
+use Rattle.lay_springs.specs.Fit.{IsEndOf}
+use Rattle.lay_springs.proofs.Placing.{reach_is}
+use Rattle.lay_springs.proofs.margin.rest_of.Goals.{After-end_of}
 use Rattle.lay_springs.proofs.margin.rest_of.Goals as goal
 
 ends : (g : _) (c : After-end_of g) → IsEndOf (reach_at g.C.Spaced.reach_of c.args.cols.now (length c.args.cols.now - 1)) (length c.args.gaps.now)

@@ -1,4 +1,10 @@
-use Rattle.{std.proofs.{Common.{length, arith, refl, subst}, lemmas.{Int.ints, List.take_all}}, lay_springs.{specs.Place.{reach_at, length_at, IsPlace}, proofs.{Ends.end_down, Moved.set_apart, margin.set.Goals.After-place_all}}}
+use Rattle.std.proofs.Common.{length, arith, refl, subst}
+use Rattle.std.proofs.lemmas.Int.{ints}
+use Rattle.std.proofs.lemmas.List.{take_all}
+use Rattle.lay_springs.specs.Place.{reach_at, length_at, IsPlace}
+use Rattle.lay_springs.proofs.Ends.{end_down}
+use Rattle.lay_springs.proofs.Moved.{set_apart}
+use Rattle.lay_springs.proofs.margin.set.Goals.{After-place_all}
 use Rattle.lay_springs.proofs.margin.set.Goals as goal
 
 place : (g : _) (c : After-place_all g) → IsPlace (length c.args.cols.now) (reach_at g.C.Spaced.reach_of c.args.cols.now) c.args.gaps.now (length_at g.C.Spring.length_of c.args.cols.now c.args.force) c.place_all.new.at

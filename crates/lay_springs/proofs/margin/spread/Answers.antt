@@ -1,4 +1,6 @@
-use Rattle.std.proofs.{Common.{◌≡◌, ◌-◌, ◌*◌, ◌/◌, ◌≢◌, ℤ, pos, ◌+ℤ◌, length, slice_index_or, slice_set, arith, ◌∙◌, to_z, of_z, w64, get_or-set_same, get_or-set_other}, lemmas.Int.ints}
+use Rattle.std.proofs.Common.{◌≡◌, ◌-◌, ◌*◌, ◌/◌, ◌≢◌, ℤ, pos, ◌+ℤ◌, length, slice_index_or, slice_set, arith, ◌∙◌}
+use Rattle.std.proofs.Common.{to_z, of_z, w64, get_or-set_same, get_or-set_other}
+use Rattle.std.proofs.lemmas.Int.{ints}
 use Rattle.lay_springs.proofs.Clear.{below_or_at}
 use Rattle.lay_springs.proofs.margin.spread.Goals as goal
 

@@ -1,5 +1,10 @@
 use Rattle.std.proofs.Common.{◌≡◌, ◌∙◌, ◌<◌, ◌≤◌, ap, length, rules, subst, sym}
-use Rattle.{mus_marks.{specs.Staff.verses_on, proofs.Fitting.few_verses}, lay_reaches.specs.Lanes.{gaps_of}, lay_tune.{specs.Spans.{AreColumnsOf, verses_of}, proofs.{Joins.columns_join, Open.few_lanes}}}
+use Rattle.mus_marks.specs.Staff.{verses_on}
+use Rattle.mus_marks.proofs.Fitting.{few_verses}
+use Rattle.lay_reaches.specs.Lanes.{gaps_of}
+use Rattle.lay_tune.specs.Spans.{AreColumnsOf, verses_of}
+use Rattle.lay_tune.proofs.Joins.{columns_join}
+use Rattle.lay_tune.proofs.Open.{few_lanes}
 use Rattle.lay_tune.proofs.layout.lay_out.Goals as goal
 
 pub staff_verses-requires : goal.staff_verses-requires

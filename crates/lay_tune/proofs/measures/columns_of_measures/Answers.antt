@@ -1,5 +1,8 @@
 use Rattle.std.proofs.Common.{◌+◌, sym, subst, arith}
-use Rattle.{lay_columns.specs.Measures.{AreFurther}, lay_tune.{specs.{Measures.{EachFurther, EachMeasure, IsMeasure}, Spans.verses_of}, proofs.Joins.{further_more, measure_more, measure_of}}}
+use Rattle.lay_columns.specs.Measures.{AreFurther}
+use Rattle.lay_tune.specs.Measures.{EachFurther, EachMeasure, IsMeasure}
+use Rattle.lay_tune.specs.Spans.{verses_of}
+use Rattle.lay_tune.proofs.Joins.{further_more, measure_more, measure_of}
 use Rattle.lay_tune.proofs.measures.columns_of_measures.Goals as goal
 
 pub loop-m-preserved : goal.loop-m-preserved

@@ -1,5 +1,9 @@
-use Rattle.std.{proofs.{Common.{◌∙◌, ◌-◌, ◌+◌, [], None, sym, subst, ap, arith}, lemmas.List.get_or_default}, specs.List.slice_index_or}
-use Rattle.{lay_columns.specs.Measures.{further_of}, lay_tune.{specs.Measures.{EachMeasure, IsMeasure}, proofs.Joins.{measure_more, other_of}}}
+use Rattle.std.proofs.Common.{◌∙◌, ◌-◌, ◌+◌, [], None, sym, subst, ap, arith}
+use Rattle.std.proofs.lemmas.List.{get_or_default}
+use Rattle.std.specs.List.{slice_index_or}
+use Rattle.lay_columns.specs.Measures.{further_of}
+use Rattle.lay_tune.specs.Measures.{EachMeasure, IsMeasure}
+use Rattle.lay_tune.proofs.Joins.{measure_more, other_of}
 use Rattle.lay_tune.proofs.measures.others_of.Goals as goal
 
 pub loop-m-preserved : goal.loop-m-preserved

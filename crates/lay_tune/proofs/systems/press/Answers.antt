@@ -1,6 +1,10 @@
 use Rattle.std.proofs.{Common.{◌∙◌, ap, drop, length, map, refl, subst, sym}, lemmas.List.take_at}
-use Rattle.{lay_springs.specs.Fit.{CanStandWithin, Fits, Passes}, lay_reaches.specs.Columns.{column_reach}, lay_spans.proofs.Fitting.{seen_as}}
-use Rattle.lay_tune.{specs.Spans.column_length, proofs.Open.never_passes, proofs.Within.counts_same, proofs.Within.justified_seen}
+use Rattle.lay_springs.specs.Fit.{CanStandWithin, Fits, Passes}
+use Rattle.lay_reaches.specs.Columns.{column_reach}
+use Rattle.lay_spans.proofs.Fitting.{seen_as}
+use Rattle.lay_tune.specs.Spans.{column_length}
+use Rattle.lay_tune.proofs.Open.{never_passes}
+use Rattle.lay_tune.proofs.Within.{counts_same, justified_seen}
 use Rattle.lay_tune.proofs.systems.press.Goals as goal
 
 pub unreachable-requires : goal.unreachable-requires

@@ -1,6 +1,15 @@
-use Rattle.std.proofs.{Common.◌≡◌, Common.◌==◌, Common.◌∙◌, Common.map, Common.subst, Common.sym, Common.ap, Common.arith, Common.length, lemmas.List.length-map, lemmas.Option.same_Some}
-use Rattle.{mus_onsets.specs.{Keys.AreKeys, Keys.called_keys, Onsets.timeline_of}, mus_marks.specs.{System.IsCall, System.drawn_staves, Tilt.AreAbscissas, Tilt.IsTilted, Tilt.tilted_staff}}
-use Rattle.lay_tune.{specs.Systems.HaveForce, specs.Systems.gaps_between, proofs.Called.has_system, proofs.Open.gaps_count, proofs.Open.staves_count, proofs.Rows.good_staves, proofs.Within.abscissas_of, proofs.Within.span_set}
+use Rattle.std.proofs.Common.{◌≡◌, ◌==◌, ◌∙◌, map, subst, sym, ap, arith, length}
+use Rattle.std.proofs.lemmas.List.{length-map}
+use Rattle.std.proofs.lemmas.Option.{same_Some}
+use Rattle.mus_onsets.specs.Keys.{AreKeys, called_keys}
+use Rattle.mus_onsets.specs.Onsets.{timeline_of}
+use Rattle.mus_marks.specs.System.{IsCall, drawn_staves}
+use Rattle.mus_marks.specs.Tilt.{AreAbscissas, IsTilted, tilted_staff}
+use Rattle.lay_tune.specs.Systems.{HaveForce, gaps_between}
+use Rattle.lay_tune.proofs.Called.{has_system}
+use Rattle.lay_tune.proofs.Open.{gaps_count, staves_count}
+use Rattle.lay_tune.proofs.Rows.{good_staves}
+use Rattle.lay_tune.proofs.Within.{abscissas_of, span_set}
 use Rattle.lay_tune.proofs.systems.set_system.Goals as goal
 
 pub press-requires-clause-fits : goal.press-requires-clause-fits

@@ -1,6 +1,14 @@
-use Rattle.std.{proofs.{Common.{◌≡◌, ◌∙◌, ℕ, ◌+◌, ◌<◌, ◌≤◌, List, [], ◌∷◌, ◌++◌, drop, length, slice_index_or, sym, subst, arith}, lemmas.List.{append-nil, drop_all, drop_more, Elements.{All-append, All-cons, All-nil}}}, specs.List.All}
-use Rattle.{mus_laid.specs.{Boxes.AreGoodMarks, declared.laid.SystemMarks.SystemMarks}, lay_springs.specs.declared.margin.Placed.{Placed}, lay_breaks.specs.Spans.{listed}}
-use Rattle.lay_tune.{specs.Systems.AllSpans, specs.Systems.Beside, specs.Systems.CanBeSet, specs.Systems.EachSpan, specs.Systems.IsSetSystem, specs.Systems.IsStack, proofs.Rows.beside_more, proofs.Rows.span_more}
+use Rattle.std.proofs.Common.{◌≡◌, ◌∙◌, ℕ, ◌+◌, ◌<◌, ◌≤◌, List, [], ◌∷◌, ◌++◌, drop, length, slice_index_or, sym, subst}
+use Rattle.std.proofs.Common.{arith}
+use Rattle.std.proofs.lemmas.List.{append-nil, drop_all, drop_more}
+use Rattle.std.proofs.lemmas.List.Elements.{All-append, All-cons, All-nil}
+use Rattle.std.specs.List.{All}
+use Rattle.mus_laid.specs.Boxes.{AreGoodMarks}
+use Rattle.mus_laid.specs.declared.laid.SystemMarks.{SystemMarks}
+use Rattle.lay_springs.specs.declared.margin.Placed.{Placed}
+use Rattle.lay_breaks.specs.Spans.{listed}
+use Rattle.lay_tune.specs.Systems.{AllSpans, Beside, CanBeSet, EachSpan, IsSetSystem, IsStack}
+use Rattle.lay_tune.proofs.Rows.{beside_more, span_more}
 use Rattle.lay_tune.proofs.systems.set_systems.Goals as goal
 
 abbrev Good : SystemMarks → Type 0

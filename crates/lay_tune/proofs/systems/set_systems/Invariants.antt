@@ -1,6 +1,10 @@
 use Rattle.std.{proofs.Common.{◌≡◌, ◌++◌, List, drop, map}, specs.List.All}
-use Rattle.{mus_laid.specs.{declared.laid.SystemMarks.SystemMarks, Boxes.AreGoodMarks}, mus_drawn.specs.Drawn.{drawn_voice}, lay_springs.specs.declared.margin.Placed.{Placed}}
-use Rattle.{lay_breaks.specs.Spans.{listed}, lay_tune.specs.Systems.{AllSpans, Beside, CanBeSet, EachSpan, IsSetSystem, IsStack}}
+use Rattle.mus_laid.specs.declared.laid.SystemMarks.{SystemMarks}
+use Rattle.mus_laid.specs.Boxes.{AreGoodMarks}
+use Rattle.mus_drawn.specs.Drawn.{drawn_voice}
+use Rattle.lay_springs.specs.declared.margin.Placed.{Placed}
+use Rattle.lay_breaks.specs.Spans.{listed}
+use Rattle.lay_tune.specs.Systems.{AllSpans, Beside, CanBeSet, EachSpan, IsSetSystem, IsStack}
 use Rattle.lay_tune.proofs.systems.set_systems.Given as goal
 
 abbrev pub invariant-loop-b : goal.invariant-loop-b

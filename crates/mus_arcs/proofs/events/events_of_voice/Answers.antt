@@ -1,4 +1,6 @@
-use Rattle.std.{proofs.Common.◌≡◌, proofs.Common.length, proofs.Common.◌≤◌, proofs.Common.sym, proofs.Common.subst, proofs.Common.arith, proofs.lemmas.Grind.common_steps, specs.List.All}
+use Rattle.std.proofs.Common.{◌≡◌, length, ◌≤◌, sym, subst, arith}
+use Rattle.std.proofs.lemmas.Grind.{common_steps}
+use Rattle.std.specs.List.{All}
 use Rattle.mus_arcs.{specs.Events.events_of_voice, proofs.EventLaws.walked, proofs.HeadLaws.few_heads}
 use Rattle.mus_arcs.proofs.events.events_of_voice.Goals as goal
 

@@ -1,5 +1,12 @@
-use Rattle.std.{proofs.Common.subst, proofs.Common.sym, proofs.Common.ap, proofs.Common.◌≡◌, proofs.Common.◌≤◌, proofs.Common.length, proofs.Common.◌∙◌, proofs.Common.arith, specs.Prelude.map, specs.Prelude.sum, specs.List.sum_by}
-use Rattle.{mus_score.specs.{Good.weight, Times.flats_of}, mus_units.specs.Good.{IsGoodKey}, mus_drawn.{specs.{Drawn.opening_of, Drawn.standing_behind, Good.AllCanDraw}, proofs.{GoodLaws.key_behind, GoodLaws.measure_good}}}
+use Rattle.std.proofs.Common.{subst, sym, ap, ◌≡◌, ◌≤◌, length, ◌∙◌, arith}
+use Rattle.std.specs.Prelude.{map, sum}
+use Rattle.std.specs.List.{sum_by}
+use Rattle.mus_score.specs.Good.{weight}
+use Rattle.mus_score.specs.Times.{flats_of}
+use Rattle.mus_units.specs.Good.{IsGoodKey}
+use Rattle.mus_drawn.specs.Drawn.{opening_of, standing_behind}
+use Rattle.mus_drawn.specs.Good.{AllCanDraw}
+use Rattle.mus_drawn.proofs.GoodLaws.{key_behind, measure_good}
 use Rattle.mus_drawn.proofs.drawing.draw_measure.Goals as goal
 
 pub returns-clause-good : goal.returns-clause-good

@@ -1,6 +1,9 @@
 use Rattle.std.proofs.Common.{◌≡◌, ◌<◌, ◌+◌, ◌++◌, ◌∷◌, drop, length, arith, rules, subst, sym}
-use Rattle.{mus_score.specs.{GoodScore.AreInReach, GoodScore.events_of, Times.flats_of}, mus_stems.proofs.RunLaws.{all_append}}
-use Rattle.mus_drawn.{specs.Good.AllCanDraw, specs.Good.AreGoodMeasures, specs.Good.IsGoodMeasure, proofs.Walks.measures_cut, proofs.Walks.reach_here, proofs.Walks.can_here, proofs.Walks.measures_step}
+use Rattle.mus_score.specs.GoodScore.{AreInReach, events_of}
+use Rattle.mus_score.specs.Times.{flats_of}
+use Rattle.mus_stems.proofs.RunLaws.{all_append}
+use Rattle.mus_drawn.specs.Good.{AllCanDraw, AreGoodMeasures, IsGoodMeasure}
+use Rattle.mus_drawn.proofs.Walks.{measures_cut, reach_here, can_here, measures_step}
 use Rattle.mus_drawn.proofs.drawing.draw_measures.Goals as goal
 
 pub draw_measure-requires-clause-reach : goal.draw_measure-requires-clause-reach

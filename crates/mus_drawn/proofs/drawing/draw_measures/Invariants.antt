@@ -1,5 +1,8 @@
 use Rattle.std.proofs.Common.{◌≡◌, ◌++◌, drop}
-use Rattle.{mus_units.specs.Good.{IsGoodKey}, mus_score.specs.GoodScore.{AreInReach, events_of}, mus_drawn.specs.{Drawn.drawn_measures, Good.AllCanDraw, Good.AreGoodMeasures}}
+use Rattle.mus_units.specs.Good.{IsGoodKey}
+use Rattle.mus_score.specs.GoodScore.{AreInReach, events_of}
+use Rattle.mus_drawn.specs.Drawn.{drawn_measures}
+use Rattle.mus_drawn.specs.Good.{AllCanDraw, AreGoodMeasures}
 use Rattle.mus_drawn.proofs.drawing.draw_measures.Given as goal
 
 abbrev pub invariant-loop-m : goal.invariant-loop-m

@@ -1,4 +1,8 @@
-use Rattle.{std.proofs.Common.{subst, sym}, mus_units.specs.Good.{IsGoodKey}, mus_score.specs.GoodScore.{events_of}, mus_drawn.{specs.Good.AllCanDraw, proofs.GoodLaws.voice_can_draw}}
+use Rattle.std.proofs.Common.{subst, sym}
+use Rattle.mus_units.specs.Good.{IsGoodKey}
+use Rattle.mus_score.specs.GoodScore.{events_of}
+use Rattle.mus_drawn.specs.Good.{AllCanDraw}
+use Rattle.mus_drawn.proofs.GoodLaws.{voice_can_draw}
 use Rattle.mus_drawn.proofs.drawing.draw_voice.Goals as goal
 
 pub draw_measures-requires-clause-key : goal.draw_measures-requires-clause-key

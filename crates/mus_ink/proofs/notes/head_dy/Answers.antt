@@ -1,5 +1,8 @@
 use Rattle.std.proofs.Common.{◌≡◌, ◌∙◌, ap, rules, to_z, of_z, w32}
-use Rattle.{mus_units.specs.Pitch.{height_of}, mus_ink.{specs.Drawing.cut_dy, specs.Drawing.steps_dy, specs.Notes.dy_of, proofs.Cuts.cut_inside}}
+use Rattle.mus_units.specs.Pitch.{height_of}
+use Rattle.mus_ink.specs.Drawing.{cut_dy, steps_dy}
+use Rattle.mus_ink.specs.Notes.{dy_of}
+use Rattle.mus_ink.proofs.Cuts.{cut_inside}
 use Rattle.mus_ink.proofs.notes.head_dy.Goals as goal
 
 pub returns : goal.returns

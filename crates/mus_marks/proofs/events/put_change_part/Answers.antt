@@ -1,5 +1,9 @@
-use Rattle.std.proofs.{Common.◌≡◌, Common.◌++◌, Common.[], Common.map, Common.subst, Common.sym, Common.ap, Common.◌∙◌, lemmas.List.append-nil}
-use Rattle.{mus_units.specs.Good.{AreGoodSigns}, mus_laid.specs.Ranked.{drawn_at}, mus_marks.{specs.Events.change_part, specs.Events.changes_nothing, proofs.Unchanged.nothing_marks}}
+use Rattle.std.proofs.Common.{◌≡◌, ◌++◌, [], map, subst, sym, ap, ◌∙◌}
+use Rattle.std.proofs.lemmas.List.{append-nil}
+use Rattle.mus_units.specs.Good.{AreGoodSigns}
+use Rattle.mus_laid.specs.Ranked.{drawn_at}
+use Rattle.mus_marks.specs.Events.{change_part, changes_nothing}
+use Rattle.mus_marks.proofs.Unchanged.{nothing_marks}
 use Rattle.mus_marks.proofs.events.put_change_part.Goals as goal
 
 pub put_change-requires-clause-old : goal.put_change-requires-clause-old

@@ -1,4 +1,5 @@
-use Rattle.std.{proofs.Common.◌∙◌, proofs.Common.sym, proofs.Common.ap, proofs.Common.append-nil, specs.Option.option_copied}
+use Rattle.std.proofs.Common.{◌∙◌, sym, ap, append-nil}
+use Rattle.std.specs.Option.{option_copied}
 use Rattle.{mus_laid.specs.Ranked.{inked}, mus_marks.proofs.Silent.{words_silent}}
 use Rattle.mus_marks.proofs.events.put_words.Goals as goal
 

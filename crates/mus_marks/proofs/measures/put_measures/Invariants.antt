@@ -1,4 +1,5 @@
-use Rattle.std.{proofs.Common.◌≡◌, proofs.Common.◌+◌, proofs.Common.◌++◌, proofs.Common.drop, specs.Option.option_copied}
+use Rattle.std.proofs.Common.{◌≡◌, ◌+◌, ◌++◌, drop}
+use Rattle.std.specs.Option.{option_copied}
 use Rattle.{mus_drawn.specs.Good.{AreGoodMeasures}, mus_marks.specs.Events.{measures_marks}}
 use Rattle.mus_marks.proofs.measures.put_measures.Given as goal
 

@@ -1,5 +1,11 @@
-use Rattle.std.{proofs.{Common.{◌≡◌, length-drop, ◌∙◌, ◌+◌, [], ◌∷◌, ◌++◌, length, ap, subst, sym, arith}, lemmas.List.Elements.{All-drop, All-push}}, specs.List.All}
-use Rattle.{mus_drawn.specs.Good.{AreGoodMeasures}, mus_marks.{specs.{Staff.CoversLines, Staff.staff_marks, Staff.verses_on, System.is_drawn_lower}, proofs.{Groups.group_turn, Groups.rest_from, Parts.verses_drop, Parts.verses_take}}}
+use Rattle.std.proofs.Common.{◌≡◌, length-drop, ◌∙◌, ◌+◌, [], ◌∷◌, ◌++◌, length, ap, subst, sym, arith}
+use Rattle.std.proofs.lemmas.List.Elements.{All-drop, All-push}
+use Rattle.std.specs.List.{All}
+use Rattle.mus_drawn.specs.Good.{AreGoodMeasures}
+use Rattle.mus_marks.specs.Staff.{CoversLines, staff_marks, verses_on}
+use Rattle.mus_marks.specs.System.{is_drawn_lower}
+use Rattle.mus_marks.proofs.Groups.{group_turn, rest_from}
+use Rattle.mus_marks.proofs.Parts.{verses_drop, verses_take}
 use Rattle.mus_marks.proofs.staves.staves.Goals as goal
 
 pub staff_marks-requires-clause-verses : goal.staff_marks-requires-clause-verses

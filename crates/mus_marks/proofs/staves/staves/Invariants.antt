@@ -1,5 +1,8 @@
 use Rattle.std.{proofs.Common.{◌≡◌, ◌++◌, ◌≤◌, length, map}, specs.List.All}
-use Rattle.{mus_score.specs.Seats.{grouped}, mus_drawn.specs.Good.{AreGoodMeasures}, mus_marks.specs.{Staff.CoversLines, Staff.staff_marks, Staff.verses_on, System.is_drawn_lower}}
+use Rattle.mus_score.specs.Seats.{grouped}
+use Rattle.mus_drawn.specs.Good.{AreGoodMeasures}
+use Rattle.mus_marks.specs.Staff.{CoversLines, staff_marks, verses_on}
+use Rattle.mus_marks.specs.System.{is_drawn_lower}
 use Rattle.mus_marks.proofs.staves.staves.Given as goal
 
 abbrev pub invariant-loop-rest : goal.invariant-loop-rest

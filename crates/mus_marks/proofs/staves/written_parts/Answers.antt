@@ -1,5 +1,10 @@
 use Rattle.std.proofs.Common.{◌≡◌, ◌∙◌, ◌≤◌, ◌+◌, ◌-◌, not, length, take, drop, ap, arith}
-use Rattle.{mus_drawn.specs.Good.{AreGoodMeasures}, mus_marks.{specs.{Places.word_room_after, Staff.verses_on}, proofs.{Goods.all_behind, Groups.front_is, Placed.next_first, Placed.next_part, Placed.next_room, Placed.none_behind}}}
+use Rattle.mus_drawn.specs.Good.{AreGoodMeasures}
+use Rattle.mus_marks.specs.Places.{word_room_after}
+use Rattle.mus_marks.specs.Staff.{verses_on}
+use Rattle.mus_marks.proofs.Goods.{all_behind}
+use Rattle.mus_marks.proofs.Groups.{front_is}
+use Rattle.mus_marks.proofs.Placed.{next_first, next_part, next_room, none_behind}
 use Rattle.mus_marks.proofs.staves.written_parts.Goals as goal
 
 pub loop-rest-preserved : goal.loop-rest-preserved

@@ -1,6 +1,12 @@
 use Rattle.std.{proofs.Common.{◌∙◌, ◌≤◌, map, refl, ap, subst, sym, arith}, specs.List.All}
-use Rattle.{mus_score.specs.Seats.{grouped}, mus_onsets.specs.Ranks.{AreRanked}, mus_laid.specs.Boxes.{AreGoodMarks}, mus_time.proofs.Counts.{lengths_count, voices_count}}
-use Rattle.mus_marks.{specs.Staff.staff_marks, specs.Staff.verses_on, specs.System.drawn_staves, specs.System.is_drawn_lower, proofs.Fitting.few_verses, proofs.Fitting.staves_fit, proofs.GoodMarks.staves_good}
+use Rattle.mus_score.specs.Seats.{grouped}
+use Rattle.mus_onsets.specs.Ranks.{AreRanked}
+use Rattle.mus_laid.specs.Boxes.{AreGoodMarks}
+use Rattle.mus_time.proofs.Counts.{lengths_count, voices_count}
+use Rattle.mus_marks.specs.Staff.{staff_marks, verses_on}
+use Rattle.mus_marks.specs.System.{drawn_staves, is_drawn_lower}
+use Rattle.mus_marks.proofs.Fitting.{few_verses, staves_fit}
+use Rattle.mus_marks.proofs.GoodMarks.{staves_good}
 use Rattle.mus_marks.proofs.systems.marks_of.Goals as goal
 
 pub invariant_of-frame : goal.invariant_of-frame

@@ -1,4 +1,7 @@
-use Rattle.{std.proofs.Common.{arith}, mus_marks.{specs.Tilt.{event_ended, end_left}, proofs.Ending.{turn_none, turn_some, walk_done}, proofs.tilting.exchange_ends.Goals.{then-i-ends, else-i-ends}}}
+use Rattle.std.proofs.Common.{arith}
+use Rattle.mus_marks.specs.Tilt.{event_ended, end_left}
+use Rattle.mus_marks.proofs.Ending.{turn_none, turn_some, walk_done}
+use Rattle.mus_marks.proofs.tilting.exchange_ends.Goals.{then-i-ends, else-i-ends}
 use Rattle.mus_marks.proofs.tilting.exchange_ends.Goals as goal
 
 pub loop-i-preserved : goal.loop-i-preserved

@@ -1,4 +1,7 @@
-use Rattle.{std.proofs.Common.{arith}, mus_marks.{specs.Tilt.{measure_ended, measure_left}, proofs.{Ending.{turn_none, turn_some, walk_done}, tilting.exchange_measures.Goals.{then-i-ends, else-i-ends}}}}
+use Rattle.std.proofs.Common.{arith}
+use Rattle.mus_marks.specs.Tilt.{measure_ended, measure_left}
+use Rattle.mus_marks.proofs.Ending.{turn_none, turn_some, walk_done}
+use Rattle.mus_marks.proofs.tilting.exchange_measures.Goals.{then-i-ends, else-i-ends}
 use Rattle.mus_marks.proofs.tilting.exchange_measures.Goals as goal
 
 pub loop-i-preserved : goal.loop-i-preserved

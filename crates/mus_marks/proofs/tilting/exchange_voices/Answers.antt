@@ -1,4 +1,7 @@
-use Rattle.{std.proofs.Common.{take, arith}, mus_marks.{specs.Tilt.{voice_ended, voice_left}, proofs.{Ending.{ended_long, turn_none, turn_some, walk_done}, tilting.exchange_voices.Goals.{then-i-ends, else-i-ends}}}}
+use Rattle.std.proofs.Common.{take, arith}
+use Rattle.mus_marks.specs.Tilt.{voice_ended, voice_left}
+use Rattle.mus_marks.proofs.Ending.{ended_long, turn_none, turn_some, walk_done}
+use Rattle.mus_marks.proofs.tilting.exchange_voices.Goals.{then-i-ends, else-i-ends}
 use Rattle.mus_marks.proofs.tilting.exchange_voices.Goals as goal
 
 pub exchange_voice-requires : goal.exchange_voice-requires

@@ -1,6 +1,16 @@
 use Rattle.std.{proofs.Common.{◌∙◌, ◌≤◌, map, refl, ap, subst, sym, arith}, specs.List.{All, slice_range}}
-use Rattle.{mus_score.specs.Seats.{grouped}, mus_onsets.specs.Ranks.{AreRanked}, mus_drawn.specs.Good.{AreGoodMeasures}, mus_time.proofs.{Called.keys_placed, Counts.{lengths_count, voices_count}, Few.few_keys}}
-use Rattle.mus_marks.{specs.{Staff.verses_on, System.is_drawn_lower, Tilt.AllCanTilt, Tilt.tilted_staff}, proofs.{Fitting.few_verses, Sloping.voices_can, Alike.tilted_alike, Alike.tilted_good}}
+use Rattle.mus_score.specs.Seats.{grouped}
+use Rattle.mus_onsets.specs.Ranks.{AreRanked}
+use Rattle.mus_drawn.specs.Good.{AreGoodMeasures}
+use Rattle.mus_time.proofs.Called.{keys_placed}
+use Rattle.mus_time.proofs.Counts.{lengths_count, voices_count}
+use Rattle.mus_time.proofs.Few.{few_keys}
+use Rattle.mus_marks.specs.Staff.{verses_on}
+use Rattle.mus_marks.specs.System.{is_drawn_lower}
+use Rattle.mus_marks.specs.Tilt.{AllCanTilt, tilted_staff}
+use Rattle.mus_marks.proofs.Fitting.{few_verses}
+use Rattle.mus_marks.proofs.Sloping.{voices_can}
+use Rattle.mus_marks.proofs.Alike.{tilted_alike, tilted_good}
 use Rattle.mus_marks.proofs.tilting.tilt_of.Goals as goal
 
 pub invariant_of-frame : goal.invariant_of-frame

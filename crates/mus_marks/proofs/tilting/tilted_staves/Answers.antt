@@ -1,6 +1,10 @@
 use Rattle.std.{proofs.Common.{◌≡◌, ◌∙◌, map, ap, subst, arith, length}, specs.{Prelude.IfOk}}
 use Rattle.mus_score.specs.Seats.{grouped}
-use Rattle.mus_marks.{specs.{Staff.staff_marks, System.is_drawn_lower, Tilt.voice_left}, proofs.{AllTilted.{all_tilted, staves_tilted, tilted_count, tilted_goods, tilted_verses}, Ending.{over_count, put_back, whole}}}
+use Rattle.mus_marks.specs.Staff.{staff_marks}
+use Rattle.mus_marks.specs.System.{is_drawn_lower}
+use Rattle.mus_marks.specs.Tilt.{voice_left}
+use Rattle.mus_marks.proofs.AllTilted.{all_tilted, staves_tilted, tilted_count, tilted_goods, tilted_verses}
+use Rattle.mus_marks.proofs.Ending.{over_count, put_back, whole}
 use Rattle.mus_marks.proofs.tilting.tilted_staves.Goals as goal
 
 pub staves-staves-requires-clause-each : goal.staves-staves-requires-clause-each

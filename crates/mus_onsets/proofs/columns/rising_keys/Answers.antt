@@ -1,5 +1,11 @@
-use Rattle.std.{proofs.{Common.{◌≡◌, subst, sym}, lemmas.List.{Filters.dedup_is, Kept.{Contains-dedup, Contains-from_dedup, IsStrictlySortedBy-dedup}, Sorted.{Contains-permutation, IsPermutation-sym}}}, specs.List.Contains}
-use Rattle.mus_onsets.{specs.contracts.keys.ColumnKeyOrd.TheImpl.Laws.total-law, specs.contracts.keys.ColumnKeyOrd.TheImpl.Laws.matches_eq-law, specs.contracts.keys.ColumnKeyEq.TheImpl.Laws.laws-law, proofs.Rising.rises_from_sorted, proofs.Rising.same_from_eq}
+use Rattle.std.proofs.Common.{◌≡◌, subst, sym}
+use Rattle.std.proofs.lemmas.List.Filters.{dedup_is}
+use Rattle.std.proofs.lemmas.List.Kept.{Contains-dedup, Contains-from_dedup, IsStrictlySortedBy-dedup}
+use Rattle.std.proofs.lemmas.List.Sorted.{Contains-permutation, IsPermutation-sym}
+use Rattle.std.specs.List.{Contains}
+use Rattle.mus_onsets.specs.contracts.keys.ColumnKeyOrd.TheImpl.Laws.{total-law, matches_eq-law}
+use Rattle.mus_onsets.specs.contracts.keys.ColumnKeyEq.TheImpl.Laws.{laws-law}
+use Rattle.mus_onsets.proofs.Rising.{rises_from_sorted, same_from_eq}
 use Rattle.mus_onsets.proofs.columns.rising_keys.Goals as goal
 
 pub returns : goal.returns

@@ -1,5 +1,8 @@
 use Rattle.std.proofs.Common.{◌∙◌, sym, ap}
-use Rattle.mus_onsets.{specs.Order.key_rank, proofs.RankLaws.rank_at_place, proofs.Rising.same_from_eq, proofs.ranks.next_rank.Goals.in-Some, proofs.ranks.next_rank.Goals.in_default}
+use Rattle.mus_onsets.specs.Order.{key_rank}
+use Rattle.mus_onsets.proofs.RankLaws.{rank_at_place}
+use Rattle.mus_onsets.proofs.Rising.{same_from_eq}
+use Rattle.mus_onsets.proofs.ranks.next_rank.Goals.{in-Some, in_default}
 use Rattle.mus_onsets.proofs.ranks.next_rank.Goals as goal
 
 pub returns : goal.returns

@@ -1,4 +1,7 @@
-use Rattle.{std.proofs.{Common.rules, lemmas.List.Sorted.IsPartitionPoint-from_clause}, mus_onsets.{specs.Order.is_below, proofs.RankLaws.parted, proofs.RankLaws.ranked}}
+use Rattle.std.proofs.Common.{rules}
+use Rattle.std.proofs.lemmas.List.Sorted.{IsPartitionPoint-from_clause}
+use Rattle.mus_onsets.specs.Order.{is_below}
+use Rattle.mus_onsets.proofs.RankLaws.{parted, ranked}
 use Rattle.mus_onsets.proofs.ranks.rank_of.Goals as goal
 
 pub returns : goal.returns

@@ -1,4 +1,6 @@
-use Rattle.{std.proofs.Common.{subst, sym}, mus_units.specs.Good.{AreGoodSigns}, mus_pitch.proofs.SignLaws.{signs_of_good}}
+use Rattle.std.proofs.Common.{subst, sym}
+use Rattle.mus_units.specs.Good.{AreGoodSigns}
+use Rattle.mus_pitch.proofs.SignLaws.{signs_of_good}
 use Rattle.mus_pitch.proofs.signs.key_of.Goals as goal
 
 pub returns-clause-good : goal.returns-clause-good

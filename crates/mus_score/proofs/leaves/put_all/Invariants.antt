@@ -1,4 +1,5 @@
-use Rattle.std.{proofs.Common.◌≡◌, proofs.Common.◌++◌, proofs.Common.length, specs.Vec.Iter.into_iter_items, specs.Vec.Iter.into_iter_len}
+use Rattle.std.proofs.Common.{◌≡◌, ◌++◌, length}
+use Rattle.std.specs.Vec.Iter.{into_iter_items, into_iter_len}
 use Rattle.mus_score.proofs.leaves.put_all.Given as goal
 
 abbrev pub invariant-loop-f : goal.invariant-loop-f

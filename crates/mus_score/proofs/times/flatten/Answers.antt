@@ -1,5 +1,10 @@
-use Rattle.std.proofs.{Common.◌≡◌, Common.◌∙◌, Common.◌++◌, Common.ap, Common.map, Common.subst, Common.sym, lemmas.List.Elements.All-same}
-use Rattle.mus_score.{specs.Good.IsGoodFlat, specs.Even.AreEvenEvents, specs.Times.flats_of, specs.Times.in_row, specs.Times.leaves_within, proofs.Bounds.flats_good, proofs.Even.flats_even}
+use Rattle.std.proofs.Common.{◌≡◌, ◌∙◌, ◌++◌, ap, map, subst, sym}
+use Rattle.std.proofs.lemmas.List.Elements.{All-same}
+use Rattle.mus_score.specs.Good.{IsGoodFlat}
+use Rattle.mus_score.specs.Even.{AreEvenEvents}
+use Rattle.mus_score.specs.Times.{flats_of, in_row, leaves_within}
+use Rattle.mus_score.proofs.Bounds.{flats_good}
+use Rattle.mus_score.proofs.Even.{flats_even}
 use Rattle.mus_score.proofs.times.flatten.Goals as goal
 
 pub returns-clause-each : goal.returns-clause-each

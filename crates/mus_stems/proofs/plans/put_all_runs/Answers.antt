@@ -1,4 +1,8 @@
-use Rattle.{std.proofs.Common.{subst, sym}, mus_stems.{specs.{Beams.is_joined, Plans.run_plans, Stills.IsGoodStill, Stills.AllGood}, proofs.{RunLaws.run_step, RunLaws.all_take, RunLaws.all_drop}}}
+use Rattle.std.proofs.Common.{subst, sym}
+use Rattle.mus_stems.specs.Beams.{is_joined}
+use Rattle.mus_stems.specs.Plans.{run_plans}
+use Rattle.mus_stems.specs.Stills.{IsGoodStill, AllGood}
+use Rattle.mus_stems.proofs.RunLaws.{run_step, all_take, all_drop}
 use Rattle.mus_stems.proofs.plans.put_all_runs.Goals as goal
 
 pub loop-d-preserved : goal.loop-d-preserved

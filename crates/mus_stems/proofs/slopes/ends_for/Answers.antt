@@ -1,5 +1,7 @@
 use Rattle.std.proofs.Common.{subst, sym}
-use Rattle.mus_stems.{specs.Slope.shares_beam, specs.Slope.beam_ends, specs.Slope.IsAnchor, specs.Slope.AreAnchors, specs.Slope.RisesInBeams, proofs.RunLaws.run_step, proofs.RunLaws.all_drop, proofs.SlopeLaws.beam_rises, proofs.SlopeLaws.rise_behind}
+use Rattle.mus_stems.specs.Slope.{shares_beam, beam_ends, IsAnchor, AreAnchors, RisesInBeams}
+use Rattle.mus_stems.proofs.RunLaws.{run_step, all_drop}
+use Rattle.mus_stems.proofs.SlopeLaws.{beam_rises, rise_behind}
 use Rattle.mus_stems.proofs.slopes.ends_for.Goals as goal
 
 pub put_beam-requires-clause-rise : goal.put_beam-requires-clause-rise

@@ -1,4 +1,7 @@
-use Rattle.std.{proofs.{Common.{◌≡◌, ◌*ℤ◌, ◌≤ℤ◌, pos, negsuc, refl, ◌∙◌, to_z, of_z, w32, w64, arith, ◌≤◌, ◌^◌}, lemmas.Int.{ints, fits_signed_mul, to_z-of_z}}, specs.Int.{int_div_euclid, RustNames.unsigned_abs}}
+use Rattle.std.proofs.Common.{◌≡◌, ◌*ℤ◌, ◌≤ℤ◌, pos, negsuc, refl, ◌∙◌, to_z, of_z, w32, w64, arith, ◌≤◌, ◌^◌}
+use Rattle.std.proofs.lemmas.Int.{ints, fits_signed_mul, to_z-of_z}
+use Rattle.std.specs.Int.{int_div_euclid}
+use Rattle.std.specs.Int.RustNames.{unsigned_abs}
 use Rattle.mus_stems.proofs.SlopeLaws.{rise_near}
 use Rattle.mus_stems.proofs.slopes.risen.Goals as goal
 

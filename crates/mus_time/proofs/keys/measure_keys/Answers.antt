@@ -1,5 +1,9 @@
 use Rattle.std.{proofs.Common.{◌∙◌, ◌+◌, ap, subst, sym, arith}, specs.List.{All, flat_map}}
-use Rattle.{mus_onsets.specs.Keys.{AreKeys, IsInSystem}, mus_time.{specs.Columns.{keys_called, staff_columns}, proofs.{Called.{called_places, called_same}, Counts.{lengths_count, voices_count}, Few.few_called}}}
+use Rattle.mus_onsets.specs.Keys.{AreKeys, IsInSystem}
+use Rattle.mus_time.specs.Columns.{keys_called, staff_columns}
+use Rattle.mus_time.proofs.Called.{called_places, called_same}
+use Rattle.mus_time.proofs.Counts.{lengths_count, voices_count}
+use Rattle.mus_time.proofs.Few.{few_called}
 use Rattle.mus_time.proofs.keys.measure_keys.Goals as goal
 
 pub keys_called-requires-clause-within : goal.keys_called-requires-clause-within

@@ -1,5 +1,9 @@
 use Rattle.std.{proofs.Common.{◌∙◌, true, ap, subst, sym, arith}, specs.List.{flat_map}}
-use Rattle.{mus_onsets.specs.Keys.{AreKeys}, mus_time.{specs.Columns.staff_columns, proofs.{Called.{keys_placed, voices_same}, Counts.{lengths_count, voices_count}, Few.few_keys}}}
+use Rattle.mus_onsets.specs.Keys.{AreKeys}
+use Rattle.mus_time.specs.Columns.{staff_columns}
+use Rattle.mus_time.proofs.Called.{keys_placed, voices_same}
+use Rattle.mus_time.proofs.Counts.{lengths_count, voices_count}
+use Rattle.mus_time.proofs.Few.{few_keys}
 use Rattle.mus_time.proofs.keys.system_keys.Goals as goal
 
 pub keys_called-requires-clause-within : goal.keys_called-requires-clause-within

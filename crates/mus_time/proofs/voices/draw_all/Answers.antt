@@ -1,4 +1,7 @@
-use Rattle.std.{proofs.{Common.{◌≡◌, ◌∙◌, ◌+◌, ◌++◌, ◌∷◌, [], map, drop, append_assoc, ap, subst, sym, arith}, lemmas.List.{drop_more, Elements.All-push}}, specs.List.All}
+use Rattle.std.proofs.Common.{◌≡◌, ◌∙◌, ◌+◌, ◌++◌, ◌∷◌, [], map, drop, append_assoc, ap, subst, sym, arith}
+use Rattle.std.proofs.lemmas.List.{drop_more}
+use Rattle.std.proofs.lemmas.List.Elements.{All-push}
+use Rattle.std.specs.List.{All}
 use Rattle.mus_drawn.specs.{Drawn.drawn_voice, Good.AreGoodMeasures}
 use Rattle.mus_time.proofs.voices.draw_all.Goals as goal
 

@@ -1,4 +1,6 @@
-use Rattle.std.{proofs.Common.◌∙◌, proofs.Common.Bool, proofs.Common.ap, proofs.Common.rules, proofs.Math.Path.fun_ext, specs.Cmp.Lexicographic.pointwise}
+use Rattle.std.proofs.Common.{◌∙◌, Bool, ap, rules}
+use Rattle.std.proofs.Math.Path.{fun_ext}
+use Rattle.std.specs.Cmp.Lexicographic.{pointwise}
 use Rattle.mus_units.specs.declared.key.Sign.{Sign}
 use Rattle.mus_transpose.proofs.keys.same_signs.Goals as goal
 

@@ -1,7 +1,9 @@
 -- The move of the header's key is the one meant, and the tests decide what can be moved by it.
-use Rattle.std.proofs.{Common.◌∙◌, Common.All, Common.List, Common.ap, Common.subst, Common.sym, Common.w8, lemmas.Int.to_z-of_z}
+use Rattle.std.proofs.Common.{◌∙◌, All, List, ap, subst, sym, w8}
+use Rattle.std.proofs.lemmas.Int.{to_z-of_z}
 use Rattle.mus_score.specs.{declared.score.Score.Score, declared.score.Voice.Voice, Good.IsGoodBody}
-use Rattle.mus_transpose.{specs.Moved.move_from, proofs.MovedGood.all_bodies_good, proofs.MovedGood.all_in_reach, proofs.MovedGood.has_moved, proofs.MovedGood.out_of_reach}
+use Rattle.mus_transpose.specs.Moved.{move_from}
+use Rattle.mus_transpose.proofs.MovedGood.{all_bodies_good, all_in_reach, has_moved, out_of_reach}
 use Rattle.mus_transpose.proofs.scores.moved_by.Goals as goal
 
 pub all_in_reach-requires : goal.all_in_reach-requires

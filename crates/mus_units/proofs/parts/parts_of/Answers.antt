@@ -1,5 +1,6 @@
 use Rattle.std.proofs.Common.{rules, ◌≡◌, ap, ◌-◌, [], ◌∷◌, ◌++◌, arith, length, length-append}
-use Rattle.mus_units.proofs.{Cutting.{cut_none, too_long, none_fits, parts_made, cut_more}, Listed.{cut_first, listed_none, long_at, fails_at, done_at, left_over, cut_one_more}}
+use Rattle.mus_units.proofs.Cutting.{cut_none, too_long, none_fits, parts_made, cut_more}
+use Rattle.mus_units.proofs.Listed.{cut_first, listed_none, long_at, fails_at, done_at, left_over, cut_one_more}
 use Rattle.mus_units.proofs.parts.parts_of.Goals as goal
 
 pub returns-in_default-clause-list : goal.returns-in_default-clause-list

@@ -1,4 +1,8 @@
-use Rattle.std.{proofs.Common.◌≡◌, proofs.Common.false, proofs.Common.subst, proofs.Common.get_or, proofs.Common.ℤ, proofs.Common.to_z, proofs.Common.of_z, proofs.Common.w64, proofs.lemmas.Int.to_z-of_z, specs.List.list_any, specs.Ordering.int_eq, specs.FinMap.int_cmp-IsAntisymmetric}
+use Rattle.std.proofs.Common.{◌≡◌, false, subst, get_or, ℤ, to_z, of_z, w64}
+use Rattle.std.proofs.lemmas.Int.{to_z-of_z}
+use Rattle.std.specs.List.{list_any}
+use Rattle.std.specs.Ordering.{int_eq}
+use Rattle.std.specs.FinMap.{int_cmp-IsAntisymmetric}
 use Rattle.ps_heard.proofs.Places.{none_there, sought}
 use Rattle.ps_heard.proofs.anchors.place_of.Goals as goal
 

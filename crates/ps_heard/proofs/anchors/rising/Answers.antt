@@ -1,4 +1,9 @@
-use Rattle.std.{proofs.{Common.{◌≡◌, subst, sym, refl}, lemmas.{Cmp.{int_cmp_total, int_eq_equiv}, List.{Filters.dedup_is, Kept.{Contains-dedup, Contains-from_dedup, IsStrictlySortedBy-dedup}, Sorted.{Contains-permutation, IsPermutation-sym}}}}, specs.List.Contains}
+use Rattle.std.proofs.Common.{◌≡◌, subst, sym, refl}
+use Rattle.std.proofs.lemmas.Cmp.{int_cmp_total, int_eq_equiv}
+use Rattle.std.proofs.lemmas.List.Filters.{dedup_is}
+use Rattle.std.proofs.lemmas.List.Kept.{Contains-dedup, Contains-from_dedup, IsStrictlySortedBy-dedup}
+use Rattle.std.proofs.lemmas.List.Sorted.{Contains-permutation, IsPermutation-sym}
+use Rattle.std.specs.List.{Contains}
 use Rattle.ps_heard.proofs.Places.{eq_is, rising_is}
 use Rattle.ps_heard.proofs.anchors.rising.Goals as goal
 

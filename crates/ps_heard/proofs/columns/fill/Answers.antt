@@ -1,5 +1,6 @@
 use Rattle.std.proofs.{Common.{◌≡◌, [], ap, sym, ◌∙◌, ◌≤◌, length, drop, arith}, lemmas.List.drop_all}
-use Rattle.ps_heard.{specs.Filling.with_marks, proofs.FillingLaws.filled, proofs.FillingLaws.mark_length, proofs.FillingLaws.marks_more}
+use Rattle.ps_heard.specs.Filling.{with_marks}
+use Rattle.ps_heard.proofs.FillingLaws.{filled, mark_length, marks_more}
 use Rattle.ps_heard.proofs.columns.fill.Goals as goal
 
 pub loop-mark-preserved : goal.loop-mark-preserved

@@ -1,5 +1,9 @@
-use Rattle.std.proofs.{Common.{◌≡◌, ap, sym, ◌∙◌, arith, ◌-ℤ◌, to_z, of_z, w32, w64}, lemmas.{Int.to_z-of_z, Result.on_ok_weaker}}
-use Rattle.{ps_text.proofs.Signs.{as_passed}, ps_heard.{specs.Columns.bulges_as_tie, proofs.FillingLaws.glyph_passed, proofs.FillingLaws.tie_passed}}
+use Rattle.std.proofs.Common.{◌≡◌, ap, sym, ◌∙◌, arith, ◌-ℤ◌, to_z, of_z, w32, w64}
+use Rattle.std.proofs.lemmas.Int.{to_z-of_z}
+use Rattle.std.proofs.lemmas.Result.{on_ok_weaker}
+use Rattle.ps_text.proofs.Signs.{as_passed}
+use Rattle.ps_heard.specs.Columns.{bulges_as_tie}
+use Rattle.ps_heard.proofs.FillingLaws.{glyph_passed, tie_passed}
 use Rattle.ps_heard.proofs.columns.put_mark.Goals as goal
 
 pub returns-in-Glyph : goal.returns-in-Glyph

@@ -1,5 +1,10 @@
-use Rattle.std.{proofs.{Common.{◌≡◌, false, ap, sym, subst, ◌∙◌, length, get_or, set, ℤ, w32, w64}, lemmas.{Int.to_z-of_z, Result.on_ok_weaker}}, specs.{List.list_any, Ordering.int_eq}}
-use Rattle.ps_heard.{specs.Filling.at_place, specs.Filling.with_note, proofs.FillingLaws.absent, proofs.FillingLaws.present}
+use Rattle.std.proofs.Common.{◌≡◌, false, ap, sym, subst, ◌∙◌, length, get_or, set, ℤ, w32, w64}
+use Rattle.std.proofs.lemmas.Int.{to_z-of_z}
+use Rattle.std.proofs.lemmas.Result.{on_ok_weaker}
+use Rattle.std.specs.List.{list_any}
+use Rattle.std.specs.Ordering.{int_eq}
+use Rattle.ps_heard.specs.Filling.{at_place, with_note}
+use Rattle.ps_heard.proofs.FillingLaws.{absent, present}
 use Rattle.ps_heard.proofs.columns.put_note.Goals as goal
 
 pub returns-in-Some : goal.returns-in-Some

@@ -1,5 +1,7 @@
 use Rattle.std.{proofs.{Common.{◌≡◌, rules, sym, subst, FitsSigned, w64}, lemmas.Int.to_z-of_z}, specs.Prelude.Err}
-use Rattle.{ps_steps.specs.Operators.{curveto}, ps_machine.{specs.{Doing.state_of, Doing.DidOrStopped, Doing.numbers_of}, proofs.{Did.curve_did, Did.point_passed, Did.first_stops, Did.second_stops, Did.third_stops}}}
+use Rattle.ps_steps.specs.Operators.{curveto}
+use Rattle.ps_machine.specs.Doing.{state_of, DidOrStopped, numbers_of}
+use Rattle.ps_machine.proofs.Did.{curve_did, point_passed, first_stops, second_stops, third_stops}
 use Rattle.ps_machine.proofs.drawing.add_curve.Goals as goal
 
 pub returns-in_err-a : goal.returns-in_err-a

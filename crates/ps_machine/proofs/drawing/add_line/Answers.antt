@@ -1,4 +1,7 @@
-use Rattle.{std.proofs.{Common.rules, Common.FitsSigned, Common.w64, lemmas.Int.to_z-of_z}, ps_machine.{specs.Doing.state_of, proofs.Did.line_did}}
+use Rattle.std.proofs.Common.{rules, FitsSigned, w64}
+use Rattle.std.proofs.lemmas.Int.{to_z-of_z}
+use Rattle.ps_machine.specs.Doing.{state_of}
+use Rattle.ps_machine.proofs.Did.{line_did}
 use Rattle.ps_machine.proofs.drawing.add_line.Goals as goal
 
 pub returns : goal.returns

@@ -1,5 +1,7 @@
 use Rattle.std.{proofs.Common.{◌≡◌, rules, reverse, sym, subst}, specs.Prelude.Err}
-use Rattle.{ps_steps.specs.Operators.{curveto, with_six}, ps_machine.{specs.Doing.state_of, specs.Doing.DidOrStopped, proofs.Six.six_stops}}
+use Rattle.ps_steps.specs.Operators.{curveto, with_six}
+use Rattle.ps_machine.specs.Doing.{state_of, DidOrStopped}
+use Rattle.ps_machine.proofs.Six.{six_stops}
 use Rattle.ps_machine.proofs.drawing.curveto.Goals as goal
 
 pub returns-in_err-bend : goal.returns-in_err-bend

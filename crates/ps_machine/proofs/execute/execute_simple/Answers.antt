@@ -1,5 +1,7 @@
 use Rattle.std.proofs.Common.{◌≡◌, subst}
-use Rattle.ps_steps.specs.{Operators.executed, declared.token.{MachineToken.TheVariants.Simple as simple_token, SimpleToken.TheVariants.Name as name_token}}
+use Rattle.ps_steps.specs.Operators.{executed}
+use Rattle.ps_steps.specs.declared.token.MachineToken.TheVariants.{Simple as simple_token}
+use Rattle.ps_steps.specs.declared.token.SimpleToken.TheVariants.{Name as name_token}
 use Rattle.ps_machine.specs.Doing.{state_of, IsExecuted}
 use Rattle.ps_machine.proofs.execute.execute_simple.Goals as goal
 

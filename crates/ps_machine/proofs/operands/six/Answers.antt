@@ -1,4 +1,6 @@
-use Rattle.std.{proofs.{Common.{◌≡◌, ◌≤◌, rules, arith, sym, subst, length, reverse}, lemmas.List.length-reverse}, specs.Prelude.Err}
+use Rattle.std.proofs.Common.{◌≡◌, ◌≤◌, rules, arith, sym, subst, length, reverse}
+use Rattle.std.proofs.lemmas.List.{length-reverse}
+use Rattle.std.specs.Prelude.{Err}
 use Rattle.ps_machine.{specs.Doing.IsSix, proofs.Six.end_stops, proofs.Six.second_stops, proofs.Six.first_stops}
 use Rattle.ps_machine.proofs.operands.six.Goals as goal
 

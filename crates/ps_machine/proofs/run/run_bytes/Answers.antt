@@ -1,5 +1,7 @@
 use Rattle.std.proofs.Common.{arith, ◌<◌}
-use Rattle.ps_machine.{specs.Doing.state_of, specs.Nexts.machine_token, proofs.Loop.come_first, proofs.Loop.come_more, proofs.Loop.come_end, proofs.Loop.come_unread, proofs.Loop.come_used, proofs.Loop.come_stuck}
+use Rattle.ps_machine.specs.Doing.{state_of}
+use Rattle.ps_machine.specs.Nexts.{machine_token}
+use Rattle.ps_machine.proofs.Loop.{come_first, come_more, come_end, come_unread, come_used, come_stuck}
 use Rattle.ps_machine.proofs.run.run_bytes.Goals as goal
 
 pub loop-calls-init : goal.loop-calls-init

@@ -1,5 +1,10 @@
-use Rattle.std.{proofs.Common.◌∷◌, proofs.Common.◌++◌, proofs.Common.Some, proofs.Common.◌∙◌, proofs.Common.ap, proofs.Common.codes, proofs.Common.lit≤, specs.List.flat_map}
-use Rattle.{glyph_paths.specs.Procedure.{numbers}, ps_text.specs.{Fields.shown, Names.size_name}, ps_read.{specs.Titles.title_of, proofs.{Forms.title_numbers, Forms.title_form, Forms.small_number, Forms.size_is_field}}}
+use Rattle.std.proofs.Common.{◌∷◌, ◌++◌, Some, ◌∙◌, ap, codes, lit≤}
+use Rattle.std.specs.List.{flat_map}
+use Rattle.glyph_paths.specs.Procedure.{numbers}
+use Rattle.ps_text.specs.Fields.{shown}
+use Rattle.ps_text.specs.Names.{size_name}
+use Rattle.ps_read.specs.Titles.{title_of}
+use Rattle.ps_read.proofs.Forms.{title_numbers, title_form, small_number, size_is_field}
 use Rattle.ps_read.proofs.lines.scan_title.Goals as goal
 use Rattle.eng_lines.proofs.Words.{after_prefix}
 

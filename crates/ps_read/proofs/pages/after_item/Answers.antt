@@ -1,4 +1,8 @@
-use Rattle.{std.proofs.{Common.subst, Common.w64, lemmas.Int.to_z-of_z}, ps_text.proofs.Numbers.{fits}, ps_read.{specs.Titles.IsTitleRead, proofs.Stepping.on_title}}
+use Rattle.std.proofs.Common.{subst, w64}
+use Rattle.std.proofs.lemmas.Int.{to_z-of_z}
+use Rattle.ps_text.proofs.Numbers.{fits}
+use Rattle.ps_read.specs.Titles.{IsTitleRead}
+use Rattle.ps_read.proofs.Stepping.{on_title}
 use Rattle.ps_read.proofs.pages.after_item.Goals as goal
 
 pub returns-in_ok-page-in-Some : goal.returns-in_ok-page-in-Some

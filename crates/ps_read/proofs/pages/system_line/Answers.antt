@@ -1,5 +1,6 @@
 use Rattle.std.proofs.Common.{arith}
-use Rattle.ps_read.proofs.{Stepping.{on_system, none_system, not_rising}, pages.system_line.Goals.{in_default-via-in-Some+else-a-b, in_default-via-in_default}}
+use Rattle.ps_read.proofs.Stepping.{on_system, none_system, not_rising}
+use Rattle.ps_read.proofs.pages.system_line.Goals.{in_default-via-in-Some+else-a-b, in_default-via-in_default}
 use Rattle.ps_read.proofs.pages.system_line.Goals as goal
 
 pub returns-in-Some : goal.returns-in-Some

@@ -1,5 +1,7 @@
 use Rattle.std.proofs.{Common.{◌∷◌, ◌++◌, ◌∙◌, arith, codes, decimal}, lemmas.Option.none-some}
-use Rattle.{ps_text.specs.declared.prolog.TheConstants.{PAGE_START}, eng_lines.proofs.Words.{one_field, after_prefix}, ps_read.proofs.Forms.{page_form, after_bottom}}
+use Rattle.ps_text.specs.declared.prolog.TheConstants.{PAGE_START}
+use Rattle.eng_lines.proofs.Words.{one_field, after_prefix}
+use Rattle.ps_read.proofs.Forms.{page_form, after_bottom}
 use Rattle.ps_read.proofs.prolog.scan_page_line.Goals as goal
 
 pub returns-in_err-rest-clause-told : goal.returns-in_err-rest-clause-told

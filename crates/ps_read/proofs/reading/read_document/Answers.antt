@@ -1,5 +1,7 @@
-use Rattle.std.proofs.{Common.{◌==◌, ◌∷◌, length, ap, sym, ◌∙◌, subst, arith, length-append, true≢false, eqb-true}, lemmas.List.nil_from_length}
-use Rattle.ps_read.{specs.Steps.IsStep, proofs.Walked.IsReading, proofs.Walked.first_fault, proofs.Walked.stuck_at_line, proofs.Walked.stuck_at_end, proofs.Walked.reading_more, proofs.Walked.read_all}
+use Rattle.std.proofs.Common.{◌==◌, ◌∷◌, length, ap, sym, ◌∙◌, subst, arith, length-append, true≢false, eqb-true}
+use Rattle.std.proofs.lemmas.List.{nil_from_length}
+use Rattle.ps_read.specs.Steps.{IsStep}
+use Rattle.ps_read.proofs.Walked.{IsReading, first_fault, stuck_at_line, stuck_at_end, reading_more, read_all}
 use Rattle.ps_read.proofs.reading.read_document.Goals as goal
 
 pub returns-in_default-2-clause-cause : goal.returns-in_default-2-clause-cause

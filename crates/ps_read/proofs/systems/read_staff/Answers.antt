@@ -1,4 +1,8 @@
-use Rattle.{std.proofs.{Common.subst, Common.w64, lemmas.Int.to_z-of_z}, ps_text.proofs.Numbers.{fits}, ps_read.{specs.Titles.IsRulesRead, proofs.Stepping.on_rules}}
+use Rattle.std.proofs.Common.{subst, w64}
+use Rattle.std.proofs.lemmas.Int.{to_z-of_z}
+use Rattle.ps_text.proofs.Numbers.{fits}
+use Rattle.ps_read.specs.Titles.{IsRulesRead}
+use Rattle.ps_read.proofs.Stepping.{on_rules}
 use Rattle.ps_read.proofs.systems.read_staff.Goals as goal
 
 pub returns : goal.returns

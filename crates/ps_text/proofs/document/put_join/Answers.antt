@@ -1,4 +1,7 @@
-use Rattle.std.proofs.{Common.{◌≡◌, ◌<◌, ◌≤◌, ◌-◌, List, [], ◌∷◌, length, get_or, take, drop, append-nil, arith, refl, sym}, lemmas.List.take_all, lemmas.Int.ints}
+use Rattle.std.proofs.Common.{◌≡◌, ◌<◌, ◌≤◌, ◌-◌, List, [], ◌∷◌, length, get_or, take, drop, append-nil, arith, refl}
+use Rattle.std.proofs.Common.{sym}
+use Rattle.std.proofs.lemmas.List.{take_all}
+use Rattle.std.proofs.lemmas.Int.{ints}
 use Rattle.ps_text.{specs.declared.sheet.Staff.Staff, specs.Document.join_text, proofs.Signs.as_passed}
 use Rattle.ps_text.proofs.document.put_join.Goals as goal
 

@@ -1,4 +1,8 @@
-use Rattle.std.proofs.{Common.{◌≡◌, ◌<◌, ◌+◌, ◌-◌, ◌++◌, ◌∷◌, List, ℕ, decimal, drop, length, ap, arith, rules, to_z-of_z}, Math.ListN.set, lemmas.{Fmt.length-decimal-le, List.{drop-set, length-append, length-drop, length-set}}}
+use Rattle.std.proofs.Common.{◌≡◌, ◌<◌, ◌+◌, ◌-◌, ◌++◌, ◌∷◌, List, ℕ, decimal, drop, length, ap, arith, rules}
+use Rattle.std.proofs.Common.{to_z-of_z}
+use Rattle.std.proofs.Math.ListN.{set}
+use Rattle.std.proofs.lemmas.Fmt.{length-decimal-le}
+use Rattle.std.proofs.lemmas.List.{drop-set, length-append, length-drop, length-set}
 use Rattle.ps_text.proofs.Numbers.{minus_first}
 use Rattle.ps_text.proofs.fields.write_number.Goals as goal
 

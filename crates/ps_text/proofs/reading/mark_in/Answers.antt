@@ -1,5 +1,8 @@
-use Rattle.std.proofs.{Common.◌≡◌, Common.◌∙◌, Common.to_z, Common.of_z, Common.w64, Common.ap, Common.arith, Common.◌∷◌, lemmas.List.nil_from_length, lemmas.Int.ints}
-use Rattle.ps_text.{specs.Reading.mark_from, proofs.FoundMarks.found_words, proofs.FoundMarks.found_wordless, proofs.FoundMarks.line_some, proofs.FoundMarks.if_ok}
+use Rattle.std.proofs.Common.{◌≡◌, ◌∙◌, to_z, of_z, w64, ap, arith, ◌∷◌}
+use Rattle.std.proofs.lemmas.List.{nil_from_length}
+use Rattle.std.proofs.lemmas.Int.{ints}
+use Rattle.ps_text.specs.Reading.{mark_from}
+use Rattle.ps_text.proofs.FoundMarks.{found_words, found_wordless, line_some, if_ok}
 use Rattle.ps_text.proofs.reading.mark_in.Goals as goal
 
 pub returns-in_default : goal.returns-in_default

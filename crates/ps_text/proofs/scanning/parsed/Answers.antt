@@ -1,4 +1,7 @@
-use Rattle.std.proofs.{Common.◌≡◌, Common.sym, Common.◌∙◌, Common.refl, lemmas.Int.to_z-of_z, lemmas.Fmt.IsAscii-signed, lemmas.Fmt.parse-signed_decimal, lemmas.Str.IsUtf8-from_ascii}
+use Rattle.std.proofs.Common.{◌≡◌, sym, ◌∙◌, refl}
+use Rattle.std.proofs.lemmas.Int.{to_z-of_z}
+use Rattle.std.proofs.lemmas.Fmt.{IsAscii-signed, parse-signed_decimal}
+use Rattle.std.proofs.lemmas.Str.{IsUtf8-from_ascii}
 use mir.Syntax.{w64}
 use Rattle.ps_text.proofs.Numbers.{small, fits}
 use Rattle.ps_text.proofs.scanning.parsed.Goals as goal

@@ -1,4 +1,6 @@
-use Rattle.std.{proofs.{Common.{arith, ◌≡◌, ◌<◌, sym, ◌∙◌, ap, Some, ◌∷◌, length, refl}, lemmas.Int.to_z-of_z}, specs.Fmt.signed_decimal}
+use Rattle.std.proofs.Common.{arith, ◌≡◌, ◌<◌, sym, ◌∙◌, ap, Some, ◌∷◌, length, refl}
+use Rattle.std.proofs.lemmas.Int.{to_z-of_z}
+use Rattle.std.specs.Fmt.{signed_decimal}
 use mir.Syntax.{w64}
 use Rattle.ps_text.proofs.Numbers.{fits, front_of_number, back_of_number, tail_of, no_back}
 use Rattle.ps_text.proofs.scanning.take_number.Goals as goal

@@ -1,5 +1,8 @@
 use Rattle.std.{proofs.Common.{◌≡◌, ℕ, ℤ, ◌++◌, List, length, true}, specs.List.{AllByRecursion, list_all}}
-use Rattle.{glyph_paths.specs.Procedure.{numbers}, ps_text.{specs.Range.IsNumber, specs.Scanning.is_field_byte, proofs.Taken.NumbersLeft}}
+use Rattle.glyph_paths.specs.Procedure.{numbers}
+use Rattle.ps_text.specs.Range.{IsNumber}
+use Rattle.ps_text.specs.Scanning.{is_field_byte}
+use Rattle.ps_text.proofs.Taken.{NumbersLeft}
 use Rattle.ps_text.proofs.scanning.take_numbers.Given as goal
 
 abbrev pub invariant-loop-z : goal.invariant-loop-z

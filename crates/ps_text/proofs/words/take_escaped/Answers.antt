@@ -1,5 +1,7 @@
 use Rattle.std.proofs.{Common.{arith, ◌≡◌, ◌∙◌, ap, length, get_or, sym, true, false}, lemmas.Bool.true≢false}
-use Rattle.ps_text.{specs.Fields.is_special, proofs.Numbers.tail_of, proofs.Shown.as_it_is, proofs.Shown.as_digits, proofs.Shown.escaped_of, proofs.Shown.digit_is_plain, proofs.Shown.first_of}
+use Rattle.ps_text.specs.Fields.{is_special}
+use Rattle.ps_text.proofs.Numbers.{tail_of}
+use Rattle.ps_text.proofs.Shown.{as_it_is, as_digits, escaped_of, digit_is_plain, first_of}
 use Rattle.ps_text.proofs.words.take_escaped.Goals as goal
 
 pub returns-in-empty-clause-reads : goal.returns-in-empty-clause-reads

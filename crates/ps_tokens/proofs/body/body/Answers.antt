@@ -1,5 +1,8 @@
 use Rattle.std.proofs.Common.{◌≡◌, [], sym, ◌∙◌, append-nil, arith}
-use Rattle.{ps_steps.specs.{declared.halt.Cause.Cause, Tokens.unclosed, Tokens.nested, Tokens.unread_within, Tokens.closes, Tokens.found, Tokens.Front}, ps_tokens.proofs.{Bodies.body_more, Shorter.found_shorter, Shorter.passed_length}}
+use Rattle.ps_steps.specs.declared.halt.Cause.{Cause}
+use Rattle.ps_steps.specs.Tokens.{unclosed, nested, unread_within, closes, found, Front}
+use Rattle.ps_tokens.proofs.Bodies.{body_more}
+use Rattle.ps_tokens.proofs.Shorter.{found_shorter, passed_length}
 use Rattle.ps_tokens.proofs.body.body.Goals as goal
 
 pub returns-then-is_empty : goal.returns-then-is_empty

@@ -1,5 +1,6 @@
 use Rattle.std.proofs.Common.{rules, ◌≡◌, true, false}
-use Rattle.{ps_steps.specs.Tokens.{is_name, font_front, no_label, label_front}, ps_tokens.proofs.Fronts.{no_name, name_some}}
+use Rattle.ps_steps.specs.Tokens.{is_name, font_front, no_label, label_front}
+use Rattle.ps_tokens.proofs.Fronts.{no_name, name_some}
 use Rattle.ps_tokens.proofs.front.slash.Goals as goal
 
 pub returns-in-Some : goal.returns-in-Some

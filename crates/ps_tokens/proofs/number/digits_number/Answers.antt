@@ -1,4 +1,6 @@
-use Rattle.{std.proofs.{lemmas.Fmt.IsAscii-from_digits, lemmas.Str.IsUtf8-from_ascii}, ps_tokens.proofs.Digits.{digits_parsed, all_digits, digits_all}}
+use Rattle.std.proofs.lemmas.Fmt.{IsAscii-from_digits}
+use Rattle.std.proofs.lemmas.Str.{IsUtf8-from_ascii}
+use Rattle.ps_tokens.proofs.Digits.{digits_parsed, all_digits, digits_all}
 use Rattle.ps_tokens.proofs.number.digits_number.Goals as goal
 
 pub returns-in-Ok : goal.returns-in-Ok

@@ -1,5 +1,7 @@
 use Rattle.std.proofs.Common.{arith, ◌≡◌, [], false}
-use Rattle.{ps_steps.specs.Tokens.{passed, TokenAt}, ps_tokens.proofs.{Shorter.token_shorter, Shorter.passed_length, Programs.program_more, Programs.program_ends, Programs.program_fails}}
+use Rattle.ps_steps.specs.Tokens.{passed, TokenAt}
+use Rattle.ps_tokens.proofs.Shorter.{token_shorter, passed_length}
+use Rattle.ps_tokens.proofs.Programs.{program_more, program_ends, program_fails}
 use Rattle.ps_tokens.proofs.program.read_program.Goals as goal
 
 pub returns-then-is_empty : goal.returns-then-is_empty

@@ -1,5 +1,6 @@
 use Rattle.std.proofs.{Common.rules, Common.◌≡◌, Common.true, Common.false, lemmas.List.nil_from_length}
-use Rattle.ps_tokens.{specs.Spelling.is_bare, proofs.Spellings.cut_nil, proofs.Spellings.bare_byte, proofs.Spellings.broken_bare}
+use Rattle.ps_tokens.specs.Spelling.{is_bare}
+use Rattle.ps_tokens.proofs.Spellings.{cut_nil, bare_byte, broken_bare}
 use Rattle.ps_tokens.proofs.string.read_spelling.Goals as goal
 
 pub returns-in-None : goal.returns-in-None

@@ -1,5 +1,6 @@
 use Rattle.std.proofs.{Common.rules, Common.◌≡◌, Common.true, Common.false, lemmas.List.nil_from_length}
-use Rattle.ps_tokens.{specs.Spelling.is_lead, specs.Spelling.is_octal, proofs.Spellings.cut_first, proofs.Spellings.broken_first, proofs.Spellings.broken_second}
+use Rattle.ps_tokens.specs.Spelling.{is_lead, is_octal}
+use Rattle.ps_tokens.proofs.Spellings.{cut_first, broken_first, broken_second}
 use Rattle.ps_tokens.proofs.string.second.Goals as goal
 
 pub returns-then-not-is_lead : goal.returns-then-not-is_lead

@@ -1,4 +1,7 @@
-use Rattle.{std.proofs.Common.{refl}, ps_steps.specs.Tokens.{string_front, open_string, no_string}, ps_tokens.proofs.{Spellings.byte_shorter, Words.words_string, Words.words_open, Words.words_no_string, Words.words_no_open}}
+use Rattle.std.proofs.Common.{refl}
+use Rattle.ps_steps.specs.Tokens.{string_front, open_string, no_string}
+use Rattle.ps_tokens.proofs.Spellings.{byte_shorter}
+use Rattle.ps_tokens.proofs.Words.{words_string, words_open, words_no_string, words_no_open}
 use Rattle.ps_tokens.proofs.string.string.Goals as goal
 
 pub loop-b-smaller : goal.loop-b-smaller

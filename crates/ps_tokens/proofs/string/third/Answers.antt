@@ -1,5 +1,6 @@
 use Rattle.std.proofs.{Common.rules, Common.◌≡◌, Common.true, Common.false, lemmas.List.nil_from_length}
-use Rattle.ps_tokens.{specs.Spelling.is_octal, proofs.Spellings.cut_second, proofs.Spellings.broken_low, proofs.Spellings.broken_third, proofs.Spellings.octal_byte}
+use Rattle.ps_tokens.specs.Spelling.{is_octal}
+use Rattle.ps_tokens.proofs.Spellings.{cut_second, broken_low, broken_third, octal_byte}
 use Rattle.ps_tokens.proofs.string.third.Goals as goal
 
 pub returns-then-value-lt-FIRST_HIGH : goal.returns-then-value-lt-FIRST_HIGH

@@ -1,4 +1,5 @@
-use Rattle.std.proofs.{Common.{◌∙◌, nat_lt, ap, rules, unwrap_or}, lemmas.List.Sorted.{IsPartitionPoint-from_clause, IsPartitionedBy-ltb}}
+use Rattle.std.proofs.Common.{◌∙◌, nat_lt, ap, rules, unwrap_or}
+use Rattle.std.proofs.lemmas.List.Sorted.{IsPartitionPoint-from_clause, IsPartitionedBy-ltb}
 use Rattle.set_lists.{specs.Systems.badness_in, proofs.Finding.{in_order, listed_past}}
 use Rattle.set_lists.proofs.systems.badness_in.Goals as goal
 

@@ -2,7 +2,12 @@ use denote.Exit.{no}
 use denote.Param.Send.{param_sync, arg_sync}
 use Rattle.std.proofs.Common.{◌≡◌, ◌∙◌, ap, arith, rules, subst, sym}
 use Rattle.{lay_pages.specs.Filling.AreGoodBlocks, set_staves.specs.Drawn.IsWidth}
-use Rattle.set_pages.{specs.Drawings.all_blocks, proofs.{Joined.{all_loose, pressed_more}, Readying.{all_fit, all_whole}, Shared.stood_sync, Stepping.texts_joined, Whole.{paper_wide, ready_spots}}}
+use Rattle.set_pages.specs.Drawings.{all_blocks}
+use Rattle.set_pages.proofs.Joined.{all_loose, pressed_more}
+use Rattle.set_pages.proofs.Readying.{all_fit, all_whole}
+use Rattle.set_pages.proofs.Shared.{stood_sync}
+use Rattle.set_pages.proofs.Stepping.{texts_joined}
+use Rattle.set_pages.proofs.Whole.{paper_wide, ready_spots}
 use Rattle.set_pages.proofs.builder.add_outcomes.Goals as goal
 
 pub all_blocks-requires : goal.all_blocks-requires

@@ -1,4 +1,8 @@
-use Rattle.{std.proofs.Common.{to_z, of_z, w64}, ps_text.specs.Range.{IsPageMark}, mus_laid.specs.declared.laid.Laid.{Laid}, set_staves.{specs.Marks.page_mark, proofs.{Pushed.mapped_more, Pushed.all_more}}}
+use Rattle.std.proofs.Common.{to_z, of_z, w64}
+use Rattle.ps_text.specs.Range.{IsPageMark}
+use Rattle.mus_laid.specs.declared.laid.Laid.{Laid}
+use Rattle.set_staves.specs.Marks.{page_mark}
+use Rattle.set_staves.proofs.Pushed.{mapped_more, all_more}
 use Rattle.set_staves.proofs.marks.place_marks.Goals as goal
 
 pub loop-laid-preserved : goal.loop-laid-preserved

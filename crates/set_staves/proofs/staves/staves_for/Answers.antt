@@ -1,5 +1,11 @@
-use Rattle.std.proofs.{Common.{◌≡◌, ◌+ℤ◌, ◌++◌, ◌∷◌, [], length, drop, refl, sym, subst, rules, arith, to_z, of_z, w64, to_z-of_z}, lemmas.{Int.ints, List.length-append, Slice.Zip.zip_turn}}
-use Rattle.{ps_text.specs.Range.{IsStaff}, set_staves.{specs.Marks.staff_at, specs.Marks.staves_at, proofs.Pushed.all_more, proofs.Pushed.staves_more}}
+use Rattle.std.proofs.Common.{◌≡◌, ◌+ℤ◌, ◌++◌, ◌∷◌, [], length, drop, refl, sym, subst, rules, arith, to_z, of_z, w64}
+use Rattle.std.proofs.Common.{to_z-of_z}
+use Rattle.std.proofs.lemmas.Int.{ints}
+use Rattle.std.proofs.lemmas.List.{length-append}
+use Rattle.std.proofs.lemmas.Slice.Zip.{zip_turn}
+use Rattle.ps_text.specs.Range.{IsStaff}
+use Rattle.set_staves.specs.Marks.{staff_at, staves_at}
+use Rattle.set_staves.proofs.Pushed.{all_more, staves_more}
 use Rattle.set_staves.proofs.staves.staves_for.Goals as goal
 
 pub loop-staff-preserved : goal.loop-staff-preserved

@@ -1,5 +1,9 @@
 use Rattle.std.{proofs.Common.{◌≡◌, length, sym, subst, rules, arith}, specs.List.All}
-use Rattle.{mus_laid.specs.declared.laid.StaffMarks.{StaffMarks}, law_marks_in_range.specs.Ranks.{AreAnchored, AreMarksRanked, staves_ranks}, set_staves.{proofs.{Ranged.good_system, Shown.shows_call}, specs.{Marks.ShowsCall, Marks.staves_at}}}
+use Rattle.mus_laid.specs.declared.laid.StaffMarks.{StaffMarks}
+use Rattle.law_marks_in_range.specs.Ranks.{AreAnchored, AreMarksRanked, staves_ranks}
+use Rattle.set_staves.proofs.Ranged.{good_system}
+use Rattle.set_staves.proofs.Shown.{shows_call}
+use Rattle.set_staves.specs.Marks.{ShowsCall, staves_at}
 use Rattle.set_staves.proofs.systems.system_item.Goals as goal
 
 pub returns-clause-good : goal.returns-clause-good

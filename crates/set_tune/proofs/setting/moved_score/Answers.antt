@@ -1,5 +1,7 @@
 use Rattle.std.proofs.Common.{rules, ◌≡◌, subst, Some, to_z, of_z, w8}
-use Rattle.{mus_transpose.specs.Moved.{IsMoved}, mus_drawn.specs.Sounds.{sounds_of}, law_transposition.specs.Higher.{AreHigher}}
+use Rattle.mus_transpose.specs.Moved.{IsMoved}
+use Rattle.mus_drawn.specs.Sounds.{sounds_of}
+use Rattle.law_transposition.specs.Higher.{AreHigher}
 use Rattle.set_tune.proofs.setting.moved_score.Goals as goal
 
 pub returns-in-Ok-move_score-clause-score : goal.returns-in-Ok-move_score-clause-score

@@ -1,4 +1,7 @@
-use Rattle.{std.proofs.Common.{ap}, set_tune.{specs.Terms.{manner_of, terms_of}, proofs.{Laid.{few_titles, heard_moved}, Refusals.{laid_tune, layout_refused, score_refused, tall_refused}}}}
+use Rattle.std.proofs.Common.{ap}
+use Rattle.set_tune.specs.Terms.{manner_of, terms_of}
+use Rattle.set_tune.proofs.Laid.{few_titles, heard_moved}
+use Rattle.set_tune.proofs.Refusals.{laid_tune, layout_refused, score_refused, tall_refused}
 use Rattle.set_tune.proofs.setting.set_how.Goals as goal
 
 pub returns-in-Err-clause-fault : goal.returns-in-Err-clause-fault

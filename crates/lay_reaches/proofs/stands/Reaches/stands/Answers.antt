@@ -1,5 +1,8 @@
-use Rattle.std.proofs.Common.{rules, ◌≡◌, ◌≢◌, ◌∙◌, ◌<◌, ◌==◌, if◌then◌else◌, [], None, Some, IfSome, arith, replicate, set, ap, sym, subst}
-use Rattle.{lay_springs.specs.ReachView.{cut_reach, reach_in}, lay_reaches.{specs.Stands.stored_reaches, proofs.Lone.{lone_told, none_told, nowhere, others}}}
+use Rattle.std.proofs.Common.{rules, ◌≡◌, ◌≢◌, ◌∙◌, ◌<◌, ◌==◌, if◌then◌else◌, [], None, Some, IfSome, arith, replicate}
+use Rattle.std.proofs.Common.{set, ap, sym, subst}
+use Rattle.lay_springs.specs.ReachView.{cut_reach, reach_in}
+use Rattle.lay_reaches.specs.Stands.{stored_reaches}
+use Rattle.lay_reaches.proofs.Lone.{lone_told, none_told, nowhere, others}
 use Rattle.lay_reaches.proofs.stands.Reaches.stands.Goals as goal
 
 pub returns : goal.returns

@@ -1,5 +1,6 @@
 use Rattle.std.proofs.Common.{◌≡◌, ◌++◌, ◌∷◌, [], ◌∙◌, ap, sym, subst, reverse}
-use Rattle.ps_machine.{specs.Pens.AreHeld, specs.Pens.IsHeld, specs.Pens.drawing_of, specs.Pens.followed, proofs.Held.all_held_more, proofs.Held.drawing_more, proofs.Held.held_more}
+use Rattle.ps_machine.specs.Pens.{AreHeld, IsHeld, drawing_of, followed}
+use Rattle.ps_machine.proofs.Held.{all_held_more, drawing_more, held_more}
 use Rattle.ps_machine.proofs.canvas.Canvas.push.Goals as goal
 
 pub invariant_of-self-2 : goal.invariant_of-self-2

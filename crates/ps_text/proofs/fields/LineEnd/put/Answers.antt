@@ -1,4 +1,5 @@
-use Rattle.std.proofs.{Common.{◌≡◌, ◌∙◌, subst, OnOk, ◌++◌, ◌-◌, append-nil, append_assoc, drop, length, rules, arith}, lemmas.List.{drop-append-le, length-drop, take_all}}
+use Rattle.std.proofs.Common.{◌≡◌, ◌∙◌, subst, OnOk, ◌++◌, ◌-◌, append-nil, append_assoc, drop, length, rules, arith}
+use Rattle.std.proofs.lemmas.List.{drop-append-le, length-drop, take_all}
 use Rattle.ps_text.proofs.Numbers.{one_more}
 use Rattle.ps_text.proofs.fields.LineEnd.put.Goals as goal
 
