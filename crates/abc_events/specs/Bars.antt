@@ -10,14 +10,24 @@ use Rattle.abc_steps.specs.Looks.{Steps}
 use Rattle.abc_steps.specs.Counts.{counts_of, measures_begun}
 
 abbrev pub plain_bar : Bar
-plain_bar = record { end = false; start = false; last = false; initial = false; double = false; dotted = false; unseen = false }
+plain_bar =
+    record { end = false; start = false; last = false; initial = false; double = false; dotted = false; unseen = false }
 
 abbrev pub unseen_bar : Bar
-unseen_bar = record { end = false; start = false; last = false; initial = false; double = false; dotted = false; unseen = true }
+unseen_bar =
+    record { end = false; start = false; last = false; initial = false; double = false; dotted = false; unseen = true }
 
 -- the features of both
 abbrev pub union : Bar → Bar → Bar
-union a b = record { end = a.end || b.end; start = a.start || b.start; last = a.last || b.last; initial = a.initial || b.initial; double = a.double || b.double; dotted = a.dotted || b.dotted; unseen = a.unseen || b.unseen }
+union a b = record {
+  end = a.end || b.end;
+  start = a.start || b.start;
+  last = a.last || b.last;
+  initial = a.initial || b.initial;
+  double = a.double || b.double;
+  dotted = a.dotted || b.dotted;
+  unseen = a.unseen || b.unseen;
+}
 
 abbrev pub union_with : Option Bar → Bar → Bar
 union_with None bar = bar
@@ -52,7 +62,8 @@ abbrev pub missing_bar : ℕ → ℕ → Bar
 missing_bar own measure = if measure + 1 == own then unseen_bar else plain_bar
 
 abbrev pub bar_of : Steps → ℕ → Bar
-bar_of steps measure = joined_or (missing_bar (measures_begun (reverse steps)) measure) (bars_at (measure + 1) (reverse steps))
+bar_of steps measure =
+    joined_or (missing_bar (measures_begun (reverse steps)) measure) (bars_at (measure + 1) (reverse steps))
 
 -- the bars of so many measures
 abbrev pub bars_of : Steps → ℕ → List Bar
@@ -65,13 +76,16 @@ is_near_bar Nearest.Bar = true
 is_near_bar _ = false
 
 abbrev pub forces_bar : ℕ → Counts → Bool
-forces_bar n counts = is_near_bar counts.nearest && (nat_le 1 (counts.groups + counts.further) && nat_lt (counts.groups + counts.further) n)
+forces_bar n counts =
+    is_near_bar counts.nearest
+    && (nat_le 1 (counts.groups + counts.further) && nat_lt (counts.groups + counts.further) n)
 
 abbrev pub with_bar : ℕ → List ℕ → List ℕ
 with_bar bar forced = if list_any (λ b. b == bar) forced then forced else forced ++ bar ∷ []
 
 unfoldable pub forced_behind : ℕ → Counts → Step → List ℕ → List ℕ
-forced_behind n counts Step.Break forced = if forces_bar n counts then with_bar (counts.groups + counts.further) forced else forced
+forced_behind n counts Step.Break forced =
+    if forces_bar n counts then with_bar (counts.groups + counts.further) forced else forced
 forced_behind n counts _ forced = forced
 
 abbrev pub forced_at : ℕ → Steps → List ℕ

@@ -73,7 +73,8 @@ later_parts w verses id (v ∷ vs) = later_part w verses id (some_more vs) v ∷
 
 abbrev pub parts : WrittenEvent → Pending → Words → ℕ → List Value → List Event
 parts w waiting words id [] = []
-parts w waiting words id (v ∷ vs) = first_part w waiting words id (some_more vs) v ∷ later_parts w (length words) (id + 1) vs
+parts w waiting words id (v ∷ vs) =
+    first_part w waiting words id (some_more vs) v ∷ later_parts w (length words) (id + 1) vs
 
 -- Nodes. An event without heads is a rest.
 abbrev pub note_or_rest : List Head → Event → Music
@@ -113,7 +114,8 @@ grace_nodes [] slash = []
 grace_nodes (g ∷ gs) slash = music.Grace (map grace_note (g ∷ gs)) slash ∷ []
 
 abbrev pub nodes_of : WrittenEvent → Pending → Words → ℕ → List Music
-nodes_of w waiting words id = grace_nodes waiting.graces waiting.slash ++ map node_of (parts w waiting words id w.values)
+nodes_of w waiting words id =
+    grace_nodes waiting.graces waiting.slash ++ map node_of (parts w waiting words id w.values)
 
 -- Ids count the parts of a voice; words are given for each of its written events, none past their end.
 abbrev pub words_of_event : List Words → ℕ → Words
@@ -121,7 +123,9 @@ words_of_event words k = unwrap_or (slice_get words k) []
 
 abbrev pub leaves_from : List Words → ℕ → ℕ → List TreeItem → List Leaf
 leaves_from words k id [] = []
-leaves_from words k id (TreeItem.Event w waiting ∷ signs) = Leaf.Event w.measure (nodes_of w waiting (words_of_event words k) id) ∷ leaves_from words (k + 1) (id + length w.values) signs
+leaves_from words k id (TreeItem.Event w waiting ∷ signs) =
+    Leaf.Event w.measure (nodes_of w waiting (words_of_event words k) id)
+    ∷ leaves_from words (k + 1) (id + length w.values) signs
 leaves_from words k id (TreeItem.Opens measure p q r ∷ signs) = Leaf.Opens measure p q r ∷ leaves_from words k id signs
 
 abbrev pub leaves_of : List Words → List TreeItem → List Leaf

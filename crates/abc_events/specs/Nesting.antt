@@ -21,7 +21,8 @@ abbrev pub cut : ℕ → Forest → Cut
 cut zero f = record { taken = none_more; left = f }
 cut (suc r) none_more = record { taken = none_more; left = none_more }
 cut (suc r) (one nodes f) = let c = cut r f in record { taken = one nodes c.taken; left = c.left }
-cut (suc r) (group p q takes inner f) = let c = cut (suc r - takes) f in record { taken = group p q takes inner c.taken; left = c.left }
+cut (suc r) (group p q takes inner f) =
+    let c = cut (suc r - takes) f in record { taken = group p q takes inner c.taken; left = c.left }
 
 -- a tuplet takes the next r events behind it
 abbrev pub put_in_front : Leaf → Forest → Forest
@@ -46,7 +47,9 @@ pub record Filled : Type 0 where
   pub forest : Forest
 
 abbrev pub fill_one : OpenTuplet → Filled → Filled
-fill_one o z = let c = cut o.left z.forest in record { nodes = o.before ++ music.Tuplet o.p o.q (z.nodes ++ music_of c.taken) ∷ []; forest = c.left }
+fill_one o z =
+    let c = cut o.left z.forest in
+    record { nodes = o.before ++ music.Tuplet o.p o.q (z.nodes ++ music_of c.taken) ∷ []; forest = c.left }
 
 abbrev pub filled_tuplets : List OpenTuplet → Filled → Filled
 filled_tuplets [] z = z

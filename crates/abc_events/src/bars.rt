@@ -113,7 +113,8 @@ pub fn own_measures(steps: &[PlacedStep]) -> u64
 /// Adds a step to the bars of each place.
 #[tactic(auto, unfolding(crate::specs::Bars::bars_behind))]
 fn put_bar(all: &mut [Option<Bar>], now: u64, s: &Step)
-    ensures { (begun : ℕ) → begun < length all.old → slice_index_or all.new begun None ≡ bars_behind begun now s.now (slice_index_or all.old begun None) }
+    ensures { (begun : ℕ) → begun < length all.old
+        → slice_index_or all.new begun None ≡ bars_behind begun now s.now (slice_index_or all.old begun None) }
 {
     if let Step::Bar(bar) = s {
         if now < all.len() as u64 {
@@ -134,7 +135,8 @@ struct Places {
 fn all_bars(alloc: Global, steps: &[PlacedStep], n: u32) -> Result<Places, Memory>
     requires { length steps.now ≤ 2 ^ 30 }
     ensures len { IfOk result (λ p. length p.all.items ≡ n + 1) }
-    ensures value { IfOk result (λ p. (begun : ℕ) → begun < n + 1 → slice_index_or p.all.items begun None ≡ bars_at begun (reverse steps.now)) }
+    ensures value { IfOk result
+        (λ p. (begun : ℕ) → begun < n + 1 → slice_index_or p.all.items begun None ≡ bars_at begun (reverse steps.now)) }
     ensures own { IfOk result (λ p. p.own ≡ measures_begun (reverse steps.now)) }
 {
     let mut all = vec![in alloc; None; n as usize + 1]?;

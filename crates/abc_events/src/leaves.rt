@@ -207,7 +207,8 @@ fn put_first(
     value: Value,
 ) -> Result<(), Memory>
     requires { value.dots ≤ 3 }
-    ensures { OnOk result (nodes.new ≡ nodes.old ++ node_of (first_part w.now first.waiting first.words first.id more value) ∷ []) }
+    ensures { OnOk result
+        (nodes.new ≡ nodes.old ++ node_of (first_part w.now first.waiting first.words first.id more value) ∷ []) }
 {
     let heads = with_ties(alloc, w.heads.as_slice(), more)?;
     nodes.push(node_of(first_part(w, heads, first, more, value)))
@@ -270,7 +271,8 @@ fn put_several(
     first: FirstPart,
 ) -> Result<(), Memory>
     requires { All (λ v. v.dots ≤ 3) w.now.values }
-    ensures { OnOk result (nodes.new ≡ nodes.old ++ map node_of (parts w.now first.waiting first.words first.id w.now.values)) }
+    ensures { OnOk result
+        (nodes.new ≡ nodes.old ++ map node_of (parts w.now first.waiting first.words first.id w.now.values)) }
 {
     let [value, others @ ..] = w.values.as_slice() else {
         return Ok(());

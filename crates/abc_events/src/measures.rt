@@ -34,8 +34,14 @@ fn empty_trees(alloc: Global, n: usize, room: usize) -> Result<Vec<Tree>, Memory
 fn put_written(alloc: Global, trees: &mut [Tree], e: VoiceEvent) -> Result<(), Memory>
     requires ready { (k : ℕ) → k < length trees.old → TakesAnother (slice_index_or trees.old k no_tree).stack.items }
     requires drawn { All (λ v. v.dots ≤ 3) e.written.values }
-    ensures ready { OnOk result ((k : ℕ) → k < length trees.old → TakesAnother (slice_index_or trees.new k no_tree).stack.items) }
-    ensures grown { OnOk result ((k : ℕ) (leaves : List Leaf) → k < length trees.old → grown (slice_index_or trees.new k no_tree) (leaves_in k leaves) ≡ grown (slice_index_or trees.old k no_tree) (leaves_in k (Leaf.Event e.written.measure (nodes_of e.written e.waits e.words e.id) ∷ leaves))) }
+    ensures ready { OnOk result
+        ((k : ℕ) → k < length trees.old → TakesAnother (slice_index_or trees.new k no_tree).stack.items) }
+    ensures grown { OnOk result
+        ((k : ℕ) (leaves : List Leaf)
+        → k < length trees.old
+        → grown (slice_index_or trees.new k no_tree) (leaves_in k leaves)
+        ≡ grown (slice_index_or trees.old k no_tree)
+        (leaves_in k (Leaf.Event e.written.measure (nodes_of e.written e.waits e.words e.id) ∷ leaves))) }
 {
     let measure = e.written.measure;
     if measure >= trees.len() as u64 {
@@ -54,8 +60,13 @@ fn put_opening(
     r: u8,
 ) -> Result<(), Memory>
     requires { (k : ℕ) → k < length trees.old → TakesAnother (slice_index_or trees.old k no_tree).stack.items }
-    ensures ready { OnOk result ((k : ℕ) → k < length trees.old → TakesAnother (slice_index_or trees.new k no_tree).stack.items) }
-    ensures grown { OnOk result ((k : ℕ) (leaves : List Leaf) → k < length trees.old → grown (slice_index_or trees.new k no_tree) (leaves_in k leaves) ≡ grown (slice_index_or trees.old k no_tree) (leaves_in k (Leaf.Opens measure p q r ∷ leaves))) }
+    ensures ready { OnOk result
+        ((k : ℕ) → k < length trees.old → TakesAnother (slice_index_or trees.new k no_tree).stack.items) }
+    ensures grown { OnOk result
+        ((k : ℕ) (leaves : List Leaf)
+        → k < length trees.old
+        → grown (slice_index_or trees.new k no_tree) (leaves_in k leaves)
+        ≡ grown (slice_index_or trees.old k no_tree) (leaves_in k (Leaf.Opens measure p q r ∷ leaves))) }
 {
     if measure >= trees.len() as u64 {
         return Ok(());
@@ -73,8 +84,14 @@ fn put_sign(
 ) -> Result<(), Memory>
     requires ready { (k : ℕ) → k < length trees.old → TakesAnother (slice_index_or trees.old k no_tree).stack.items }
     requires drawn { HasDrawableValues sign }
-    ensures ready { OnOk result ((k : ℕ) → k < length trees.old → TakesAnother (slice_index_or trees.new k no_tree).stack.items) }
-    ensures grown { OnOk result ((k : ℕ) (signs : List TreeItem) → k < length trees.old → grown (slice_index_or trees.new k no_tree) (leaves_in k (leaves_from words.now at.new.event at.new.id signs)) ≡ grown (slice_index_or trees.old k no_tree) (leaves_in k (leaves_from words.now at.old.event at.old.id (sign ∷ signs)))) }
+    ensures ready { OnOk result
+        ((k : ℕ) → k < length trees.old → TakesAnother (slice_index_or trees.new k no_tree).stack.items) }
+    ensures grown { OnOk result
+        ((k : ℕ) (signs : List TreeItem)
+        → k < length trees.old
+        → grown (slice_index_or trees.new k no_tree) (leaves_in k (leaves_from words.now at.new.event at.new.id signs))
+        ≡ grown (slice_index_or trees.old k no_tree)
+        (leaves_in k (leaves_from words.now at.old.event at.old.id (sign ∷ signs)))) }
 {
     match sign {
         TreeItem::Event { written, waiting } => {
@@ -101,7 +118,9 @@ fn trees_of(
 ) -> Result<Vec<Tree>, Memory>
     requires { All HasDrawableValues signs }
     ensures len { IfOk result (λ v. length v.items ≡ n) }
-    ensures trees { IfOk result (λ v. (k : ℕ) → k < n → grown (slice_index_or v.items k no_tree) [] ≡ tree_of (leaves_in k (leaves_of words.now signs))) }
+    ensures trees { IfOk result (λ v.
+        (k : ℕ)
+        → k < n → grown (slice_index_or v.items k no_tree) [] ≡ tree_of (leaves_in k (leaves_of words.now signs))) }
 {
     let room = signs.len().checked_div(n).unwrap_or(0);
     let mut trees = empty_trees(alloc, n, room)?;

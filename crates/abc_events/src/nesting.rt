@@ -77,7 +77,8 @@ fn close_full(
 /// Takes an event into the innermost tuplet, whose nodes are put behind a body.
 fn take_event(stack: &mut SmallVec<OpenTuplet, 2>) -> Result<(), Memory>
     requires { TakesAnother stack.old.items }
-    ensures { OnOk result ((body nodes : List Music) → Puts stack.old.items body stack.new.items (body ++ nodes) (one nodes)) }
+    ensures { OnOk result
+        ((body nodes : List Music) → Puts stack.old.items body stack.new.items (body ++ nodes) (one nodes)) }
 {
     let Some(o) = stack.pop() else {
         return Ok(());
@@ -100,7 +101,8 @@ fn begin(
     q: u8,
     r: u8,
 ) -> Result<(), Memory>
-    ensures open { OnOk result (stack.new.items ≡ stack.old.items ++ record { p = p; q = q; left = r; before = body.old } ∷ []) }
+    ensures open { OnOk result
+        (stack.new.items ≡ stack.old.items ++ record { p = p; q = q; left = r; before = body.old } ∷ []) }
     ensures empty { OnOk result (body.new ≡ []) }
 {
     let before = mem::replace(body, Row::new(alloc));
@@ -142,7 +144,9 @@ fn open_tuplet(
 pub fn put_event(alloc: Global, tree: &mut Tree, e: VoiceEvent) -> Result<(), Memory>
     requires ready { TakesAnother tree.old.stack.items }
     requires drawn { All (λ v. v.dots ≤ 3) e.written.values }
-    ensures puts { OnOk result (Puts tree.old.stack.items tree.old.body tree.new.stack.items tree.new.body (one (nodes_of e.written e.waits e.words e.id))) }
+    ensures puts { OnOk result
+        (Puts tree.old.stack.items tree.old.body tree.new.stack.items tree.new.body
+        (one (nodes_of e.written e.waits e.words e.id))) }
     ensures ready { OnOk result (TakesAnother tree.new.stack.items) }
 {
     put_nodes(alloc, &mut tree.body, e)?;
@@ -154,7 +158,9 @@ pub fn put_event(alloc: Global, tree: &mut Tree, e: VoiceEvent) -> Result<(), Me
 /// Opens a tuplet in the tree of its measure.
 pub fn put_tuplet(alloc: Global, tree: &mut Tree, p: u8, q: u8, r: u8) -> Result<(), Memory>
     requires { TakesAnother tree.old.stack.items }
-    ensures puts { OnOk result (Puts tree.old.stack.items tree.old.body tree.new.stack.items tree.new.body (put_in_front (Leaf.Opens 0 p q r))) }
+    ensures puts { OnOk result
+        (Puts tree.old.stack.items tree.old.body tree.new.stack.items tree.new.body
+        (put_in_front (Leaf.Opens 0 p q r))) }
     ensures ready { OnOk result (TakesAnother tree.new.stack.items) }
 {
     open_tuplet(alloc, &mut tree.stack, &mut tree.body, p, q, r)?;

@@ -19,7 +19,10 @@ pub record IsCapped (few all : ℕ) : Type 0 where
   pub same : few ≤ 50000 → few ≡ all
 
 both : (a b x y m n : ℕ) → IsCapped a b → IsCapped x y → m ≡ a + x → n ≡ b + y → IsCapped m n
-both a b x y m n h i e f = record { below = omega (arith, e, f, h.below, i.below); same = λ few. omega (arith, e, f, h.same (omega arith), i.same (omega arith)) }
+both a b x y m n h i e f = record {
+  below = omega (arith, e, f, h.below, i.below);
+  same = λ few. omega (arith, e, f, h.same (omega arith), i.same (omega arith));
+}
 
 count_capped : (w v : Weight) → IsCapped (count_up_to (capped w) (capped v)) (count_up_to w v)
 unfolding stands_before
@@ -28,11 +31,13 @@ count_capped w v = by_test (stands_before w v) where
   by_test true = record { below = omega arith; same = λ few. refl }
   by_test false = record { below = omega arith; same = λ few. omega arith }
 
-pub crowd_capped : (ws : List Weight) (w : Weight) → IsCapped (crowd_up_to (map capped ws) (capped w)) (crowd_up_to ws w)
+pub crowd_capped : (ws : List Weight) (w : Weight)
+    → IsCapped (crowd_up_to (map capped ws) (capped w)) (crowd_up_to ws w)
 crowd_capped [] w = record { below = omega arith; same = λ few. refl }
 crowd_capped (v ∷ ws) w =
     let few = sum_by-cons (count_up_to (capped w)) (capped v) (map capped ws) in
-    both (count_up_to (capped w) (capped v)) (count_up_to w v) (crowd_up_to (map capped ws) (capped w)) (crowd_up_to ws w) _ _ (count_capped w v) (crowd_capped ws w) few (sum_by-cons (count_up_to w) v ws)
+    both (count_up_to (capped w) (capped v)) (count_up_to w v) (crowd_up_to (map capped ws) (capped w))
+    (crowd_up_to ws w) _ _ (count_capped w v) (crowd_capped ws w) few (sum_by-cons (count_up_to w) v ws)
 
 same_test : (few all : ℕ) → IsCapped few all → nat_lt 50000 few ≡ nat_lt 50000 all
 same_test few all h = by_test (nat_lt 50000 few) refl where
@@ -40,11 +45,14 @@ same_test few all h = by_test (nat_lt 50000 few) refl where
   by_test true e = let below = h.below in grind (arith, nat_tests)
   by_test false e = let same : few ≡ all = h.same (grind (arith, nat_tests)) in ap (nat_lt 50000) same
 
-same_faults : (all some : List Weight) → flat_map (crowd_faults_at (map capped all)) (map capped some) ≡ flat_map (crowd_faults_at all) some
+same_faults : (all some : List Weight)
+    → flat_map (crowd_faults_at (map capped all)) (map capped some) ≡ flat_map (crowd_faults_at all) some
 same_faults all [] = refl
 same_faults all (w ∷ ws) =
-    let own : crowd_faults_at (map capped all) (capped w) ≡ crowd_faults_at all w = ap (λ b. cond b (crowd_fault w ∷ []) []) (same_test _ _ (crowd_capped all w)) in
-    ap (λ fs. fs ++ flat_map (crowd_faults_at (map capped all)) (map capped ws)) own ∙ ap (λ fs. crowd_faults_at all w ++ fs) (same_faults all ws)
+    let own : crowd_faults_at (map capped all) (capped w) ≡ crowd_faults_at all w =
+    ap (λ b. cond b (crowd_fault w ∷ []) []) (same_test _ _ (crowd_capped all w)) in
+    ap (λ fs. fs ++ flat_map (crowd_faults_at (map capped all)) (map capped ws)) own
+    ∙ ap (λ fs. crowd_faults_at all w ++ fs) (same_faults all ws)
 
 pub crowded_capped : (ws : List Weight) → crowded (map capped ws) ≡ crowded ws
 crowded_capped ws = same_faults ws ws

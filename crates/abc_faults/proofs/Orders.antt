@@ -10,14 +10,17 @@ use Rattle.abc_faults.specs.contracts.weights.WeightOrd.TheImpl.Laws.{total-law}
 use Rattle.abc_faults.specs.declared.weights.Weight.{Weight}
 use Rattle.abc_faults.specs.Weights.{stands_before, IsBehind, AreInOrder}
 
-shape : (v w : Weight) → ghosts.cmp v w ≡ ordering_then (nat_cmp v.line w.line) (ordering_then (nat_cmp v.column w.column) (nat_cmp v.count w.count))
+shape : (v w : Weight)
+    → ghosts.cmp v w
+    ≡ ordering_then (nat_cmp v.line w.line) (ordering_then (nat_cmp v.column w.column) (nat_cmp v.count w.count))
 shape v w = refl
 
 less_before : (v w : Weight) → is_lt (ghosts.cmp v w) ≡ false → stands_before v w ≡ false
 unfolding stands_before
 less_before v w h = grind (arith, nat_tests)
 
-from_places : (ws : List Weight) → ((i j : ℕ) (d : Weight) → i ≤ j → j < length ws → IsBehind (get_or ws i d) (get_or ws j d)) → AreInOrder ws
+from_places : (ws : List Weight)
+    → ((i j : ℕ) (d : Weight) → i ≤ j → j < length ws → IsBehind (get_or ws i d) (get_or ws j d)) → AreInOrder ws
 from_places [] h = tt
 from_places (w ∷ ws) h = (
   recursion_from_All (IsBehind w) ws (λ k d less. h 0 (suc k) d (omega arith) (omega arith)),
@@ -26,4 +29,6 @@ from_places (w ∷ ws) h = (
 
 pub order_from_sorted : (ws : List Weight) → IsSorted ghosts.cmp ws → AreInOrder ws
 order_from_sorted ws h =
-    let lt : Weight → Weight → Bool = λ v w. is_lt (ghosts.cmp v w) in from_places ws (λ i j d le less. less_before (get_or ws j d) (get_or ws i d) (sorted_far lt (ranks_by total-law (λ w. w)) ws h i j d le less))
+    let lt : Weight → Weight → Bool = λ v w. is_lt (ghosts.cmp v w) in
+    from_places ws (λ i j d le less.
+    less_before (get_or ws j d) (get_or ws i d) (sorted_far lt (ranks_by total-law (λ w. w)) ws h i j d le less))

@@ -1,4 +1,5 @@
--- All faults that hold in a voice, each at its place, by each step in turn with what stands before it, the nearest first, and what follows it.
+-- All faults that hold in a voice, each at its place, by each step in turn with what stands before it, the nearest
+-- first, and what follows it.
 use Rattle.std.specs.Prelude.{ℕ, ◌+◌, ◌-◌, List, [], ◌∷◌, ◌++◌, Bool, true, false, not, ◌&&◌, ◌||◌, nat_le, nat_lt}
 use Rattle.std.specs.Prelude.{int_lt, pos, negsuc, is_none, if◌then◌else◌, count_by, flat_map}
 use Rattle.std.specs.List.{before_first, list_any}
@@ -47,7 +48,9 @@ misfit_of _ = FaultKind.TupletCrosses
 
 -- one that fits is short where the measure ends before it has its events
 abbrev pub tuplet_faults : ℕ → OpenTuplets → PlacedStep → Steps → List Fault
-tuplet_faults r open_ones at behind = if fits r open_ones then fault_if (nat_lt (sounds_behind behind) r) FaultKind.TupletShort at else step_fault (misfit_of open_ones) at ∷ []
+tuplet_faults r open_ones at behind =
+    if fits r open_ones then fault_if (nat_lt (sounds_behind behind) r) FaultKind.TupletShort at
+    else step_fault (misfit_of open_ones) at ∷ []
 
 -- Heads. They stand from 14 steps below the bottom line of the staff to 22 above it.
 abbrev pub is_off : Clef → Head → Bool
@@ -83,7 +86,9 @@ sound_faults_if undrawable now at s =
     ++ fault_if (is_past (measure_of now)) FaultKind.TooManyMeasures at
 
 unfoldable pub sound_faults : VoiceState → Steps → PlacedStep → WrittenSound → Steps → List Fault
-sound_faults now before at s behind = let length = written_length now.force.unit s before behind in sound_faults_if (is_none (parts_list length.num length.den)) now at s
+sound_faults now before at s behind =
+    let length = written_length now.force.unit s before behind in
+    sound_faults_if (is_none (parts_list length.num length.den)) now at s
 
 -- whole measure rests, without their graces: the last of them must stand in a good measure too
 abbrev pub rest_faults : VoiceState → PlacedStep → ℕ → List Fault
@@ -92,12 +97,16 @@ rest_faults now at count =
     ++ fault_if (is_past (measure_of now + (count - 1))) FaultKind.TooManyMeasures at
 
 unfoldable pub faults_of : VoiceState → Steps → PlacedStep → Steps → Step → List Fault
-faults_of now before at behind (Step.Sound s) = sound_faults now before at s behind ++ grace_faults now.force.clef (since_event before)
-faults_of now before at behind (Step.Measures seen count) = rest_faults now at count ++ grace_faults now.force.clef (since_event before)
+faults_of now before at behind (Step.Sound s) =
+    sound_faults now before at s behind ++ grace_faults now.force.clef (since_event before)
+faults_of now before at behind (Step.Measures seen count) =
+    rest_faults now at count ++ grace_faults now.force.clef (since_event before)
 faults_of now before at behind (Step.Tuplet p q r) = tuplet_faults (or_default p r) now.taking at behind
-faults_of now before at behind (Step.Broken right dots) = fault_if (not (has_left before && has_right behind)) FaultKind.BrokenAlone at
+faults_of now before at behind (Step.Broken right dots) =
+    fault_if (not (has_left before && has_right behind)) FaultKind.BrokenAlone at
 faults_of now before at behind _ = []
 
 abbrev pub faults_in : InForce → Steps → Steps → List Fault
 faults_in first before [] = []
-faults_in first before (at ∷ behind) = faults_of (state_at first before) before at behind at.step ++ faults_in first (at ∷ before) behind
+faults_in first before (at ∷ behind) =
+    faults_of (state_at first before) before at behind at.step ++ faults_in first (at ∷ before) behind

@@ -36,7 +36,8 @@ abbrev pub is_below_or_tied : ℕ → ℕ → Bool → Bool
 is_below_or_tied x y rest = nat_lt x y || ((x == y) && rest)
 
 unfoldable pub is_before : Fault → Fault → Bool
-is_before f g = is_below_or_tied f.line g.line (is_below_or_tied f.column g.column (nat_lt (kind_rank f.kind) (kind_rank g.kind)))
+is_before f g =
+    is_below_or_tied f.line g.line (is_below_or_tied f.column g.column (nat_lt (kind_rank f.kind) (kind_rank g.kind)))
 
 -- one of the set, before which none of the set comes
 pub record IsLeastFault (set : List Fault) (f : Fault) : Type 0 where

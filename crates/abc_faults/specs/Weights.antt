@@ -31,7 +31,9 @@ count_parts (Some values) = length values
 
 -- the heads of a note or a chord, or the one rest, times its parts
 unfoldable pub sound_count : VoiceState → Steps → WrittenSound → Steps → ℕ
-sound_count now before s behind = let whole = written_length now.force.unit s before behind in max 1 (length s.heads) * count_parts (parts_list whole.num whole.den)
+sound_count now before s behind =
+    let whole = written_length now.force.unit s before behind in
+    max 1 (length s.heads) * count_parts (parts_list whole.num whole.den)
 
 abbrev pub grace_count : List GraceChord → ℕ
 grace_count body = sum_by (λ chord. length chord.heads) body
@@ -45,14 +47,17 @@ abbrev pub grace_weights : Steps → List Weight
 grace_weights waits = flat_map (λ s. grace_weights_of s s.step) waits
 
 unfoldable pub weights_of : VoiceState → Steps → PlacedStep → Steps → Step → List Weight
-weights_of now before at behind (Step.Sound s) = grace_weights (since_event before) ++ weight_at (sound_count now before s behind) at ∷ []
-weights_of now before at behind (Step.Measures seen count) = grace_weights (since_event before) ++ weight_at count at ∷ []
+weights_of now before at behind (Step.Sound s) =
+    grace_weights (since_event before) ++ weight_at (sound_count now before s behind) at ∷ []
+weights_of now before at behind (Step.Measures seen count) =
+    grace_weights (since_event before) ++ weight_at count at ∷ []
 weights_of now before at behind _ = []
 
 -- every step of a voice in turn, with what stands before it, the nearest first, and what follows it
 abbrev pub weights_in : InForce → Steps → Steps → List Weight
 weights_in first before [] = []
-weights_in first before (at ∷ behind) = weights_of (state_at first before) before at behind at.step ++ weights_in first (at ∷ before) behind
+weights_in first before (at ∷ behind) =
+    weights_of (state_at first before) before at behind at.step ++ weights_in first (at ∷ before) behind
 
 -- whether one stands before the other in the text, whatever their voices
 unfoldable pub stands_before : Weight → Weight → Bool

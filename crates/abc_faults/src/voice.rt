@@ -175,8 +175,17 @@ fn judge_sound(
     requires groups { now.now.counts.groups ≤ 2 ^ 30 }
     requires further { now.now.counts.further ≤ 2 ^ 46 }
     requires parts { parts.now ≡ parts_at now.now.force.unit (reverse before.now) (Step.Sound s.now) behind.now }
-    ensures fault { IfOk result (λ f. f ≡ first_of (sound_faults now.now (reverse before.now) at.now s.now behind.now ++ grace_faults now.now.force.clef (since_event (reverse before.now)))) }
-    ensures weights { OnOk result (weights.new ≡ weights.old ++ map capped (grace_weights (since_event (reverse before.now)) ++ weight_at (sound_count now.now (reverse before.now) s.now behind.now) at.now ∷ [])) }
+    ensures fault { IfOk result (λ f.
+        f
+        ≡ first_of
+        (sound_faults now.now (reverse before.now) at.now s.now behind.now
+        ++ grace_faults now.now.force.clef (since_event (reverse before.now)))) }
+    ensures weights { OnOk result
+        (weights.new
+        ≡ weights.old
+        ++ map capped
+        (grace_weights (since_event (reverse before.now))
+        ++ weight_at (sound_count now.now (reverse before.now) s.now behind.now) at.now ∷ [])) }
 {
     let waits = since_event(before);
     put_graces(weights, waits)?;
@@ -212,8 +221,13 @@ fn judge_rests(
 ) -> Result<Option<Fault>, Memory>
     requires groups { now.now.counts.groups ≤ 2 ^ 30 }
     requires further { now.now.counts.further ≤ 2 ^ 46 }
-    ensures fault { IfOk result (λ f. f ≡ first_of (rest_faults now.now at.now count ++ grace_faults now.now.force.clef (since_event (reverse before.now)))) }
-    ensures weights { OnOk result (weights.new ≡ weights.old ++ map capped (grace_weights (since_event (reverse before.now)) ++ weight_at count at.now ∷ [])) }
+    ensures fault { IfOk result (λ f.
+        f
+        ≡ first_of
+        (rest_faults now.now at.now count ++ grace_faults now.now.force.clef (since_event (reverse before.now)))) }
+    ensures weights { OnOk result
+        (weights.new
+        ≡ weights.old ++ map capped (grace_weights (since_event (reverse before.now)) ++ weight_at count at.now ∷ [])) }
 {
     let waits = since_event(before);
     put_graces(weights, waits)?;
@@ -243,8 +257,11 @@ pub fn judge_step(
     requires groups { now.now.counts.groups ≤ 2 ^ 30 }
     requires further { now.now.counts.further ≤ 2 ^ 46 }
     requires parts { parts.now ≡ parts_at now.now.force.unit (reverse before.now) at.now.step behind.now }
-    ensures fault { IfOk result (λ f. f ≡ first_of (faults_of now.now (reverse before.now) at.now behind.now at.now.step)) }
-    ensures weights { OnOk result (weights.new ≡ weights.old ++ map capped (weights_of now.now (reverse before.now) at.now behind.now at.now.step)) }
+    ensures fault { IfOk result
+        (λ f. f ≡ first_of (faults_of now.now (reverse before.now) at.now behind.now at.now.step)) }
+    ensures weights { OnOk result
+        (weights.new
+        ≡ weights.old ++ map capped (weights_of now.now (reverse before.now) at.now behind.now at.now.step)) }
 {
     match &at.step {
         Step::Sound(s) => judge_sound(weights, now, before, at, s, parts, behind),

@@ -17,23 +17,31 @@ abbrev pub Stops : (ℕ → Bool) → List ℕ → Type 0
 Stops p [] = ⊤
 Stops p (b ∷ s) = p b ≡ false
 
-pub prefix-stops : (p : ℕ → Bool) (front rest : List ℕ) → list_all p front ≡ true → Stops p rest → prefix_len p (front ++ rest) ≡ length front
+pub prefix-stops : (p : ℕ → Bool) (front rest : List ℕ)
+    → list_all p front ≡ true → Stops p rest → prefix_len p (front ++ rest) ≡ length front
 prefix-stops p [] [] all stops = refl
 prefix-stops p [] (b ∷ rest) all stops = rw stops refl
 prefix-stops p (b ∷ front) rest all stops =
-    let here : p b ≡ true = (and_parts _ _ all).0 in let more = prefix-stops p front rest (and_parts _ _ all).1 stops in rw here (omega (arith, more))
+    let here : p b ≡ true = (and_parts _ _ all).0 in
+    let more = prefix-stops p front rest (and_parts _ _ all).1 stops in
+    rw here (omega (arith, more))
 
 pub front-stops : (p : ℕ → Bool) (s : List ℕ) → Stops p (drop (prefix_len p s) s)
 front-stops p [] = tt
 front-stops p (b ∷ s) =
     by_test (p b)
-    (λ e. let one : 1 + prefix_len p s ≡ suc (prefix_len p s) = omega arith in let more = front-stops p s in rw (e, one) more) (λ e. rw e e)
+    (λ e.
+    let one : 1 + prefix_len p s ≡ suc (prefix_len p s) = omega arith in let more = front-stops p s in rw (e, one) more)
+    (λ e. rw e e)
 
 pub front-passes : (p : ℕ → Bool) (s : List ℕ) → list_all p (take (prefix_len p s) s) ≡ true
 front-passes p [] = refl
 front-passes p (b ∷ s) =
     by_test (p b)
-    (λ e. let one : 1 + prefix_len p s ≡ suc (prefix_len p s) = omega arith in let more = front-passes p s in rw (e, one) (rw (e, more) refl))
+    (λ e.
+    let one : 1 + prefix_len p s ≡ suc (prefix_len p s) = omega arith in
+    let more = front-passes p s in
+    rw (e, one) (rw (e, more) refl))
     (λ e. rw e refl)
 
 -- The same of the end, which is the front of the text from behind.
@@ -53,10 +61,15 @@ pub cut-reversed : (n : ℕ) (s : List ℕ) → n ≤ length s
 cut-reversed n s few =
     let front : List ℕ = take (length s - n) s in
     let back : List ℕ = drop (length s - n) s in
-    let parts : reverse s ≡ reverse back ++ reverse front = ap reverse (sym (take-append-drop (length s - n) s)) ∙ reverse-append front back in
+    let parts : reverse s ≡ reverse back ++ reverse front =
+    ap reverse (sym (take-append-drop (length s - n) s)) ∙ reverse-append front back in
     let size : n ≡ length (reverse back) = omega (arith, length-reverse back, length-drop (length s - n) s) in (
-      ap (take n) parts ∙ ap (λ k. take k (reverse back ++ reverse front)) size ∙ take-append_seam (reverse back) (reverse front),
-      ap (drop n) parts ∙ ap (λ k. drop k (reverse back ++ reverse front)) size ∙ drop-append_seam (reverse back) (reverse front),
+      ap (take n) parts
+          ∙ ap (λ k. take k (reverse back ++ reverse front)) size
+          ∙ take-append_seam (reverse back) (reverse front),
+      ap (drop n) parts
+          ∙ ap (λ k. drop k (reverse back ++ reverse front)) size
+          ∙ drop-append_seam (reverse back) (reverse front),
     )
 
 suffix-passes : (p : ℕ → Bool) (s : List ℕ) → list_all p (drop (length s - suffix_len p s) s) ≡ true
@@ -68,11 +81,13 @@ suffix-passes p s =
 
 -- Blanks.
 pub behind-cons : (b : ℕ) (s : List ℕ) → is_blank b ≡ true → after_blanks (b ∷ s) ≡ after_blanks s
-behind-cons b s e = let more : 1 + prefix_len is_blank s ≡ suc (prefix_len is_blank s) = omega arith in rw (e, more) refl
+behind-cons b s e =
+    let more : 1 + prefix_len is_blank s ≡ suc (prefix_len is_blank s) = omega arith in rw (e, more) refl
 
 pub blanks-passed : (blanks s : List ℕ) → list_all is_blank blanks ≡ true → after_blanks (blanks ++ s) ≡ after_blanks s
 blanks-passed [] s all = refl
-blanks-passed (b ∷ blanks) s all = let parts = and_parts _ _ all in behind-cons b (blanks ++ s) parts.0 ∙ blanks-passed blanks s parts.1
+blanks-passed (b ∷ blanks) s all =
+    let parts = and_parts _ _ all in behind-cons b (blanks ++ s) parts.0 ∙ blanks-passed blanks s parts.1
 
 pub blanks-gone : (s : List ℕ) → list_all is_blank s ≡ true → after_blanks s ≡ []
 blanks-gone s all = ap after_blanks (sym (append-nil s)) ∙ blanks-passed s [] all
@@ -92,34 +107,43 @@ trimmed-between text =
       back = drop size rest;
       front_blank = front-passes is_blank text;
       back_blank = suffix-passes is_blank rest;
-      cut = sym (take-append-drop (prefix_len is_blank text) text) ∙ ap (λ t. front ++ t) (sym (take-append-drop size rest));
+      cut =
+          sym (take-append-drop (prefix_len is_blank text) text)
+          ∙ ap (λ t. front ++ t) (sym (take-append-drop size rest));
     }
 
 abbrev ended : List ℕ → List ℕ
 ended t = take (length t - suffix_len is_blank t) t
 
-ended-left : (core back : List ℕ) → Stops is_blank (reverse core) → list_all is_blank back ≡ true → ended (core ++ back) ≡ core
+ended-left : (core back : List ℕ)
+    → Stops is_blank (reverse core) → list_all is_blank back ≡ true → ended (core ++ back) ≡ core
 ended-left core back stops all =
     let passes = reversed-passes is_blank back all in
     let blanks : suffix_len is_blank (core ++ back) ≡ length back =
-    ap (prefix_len is_blank) (reverse-append core back) ∙ prefix-stops is_blank (reverse back) (reverse core) passes stops ∙ length-reverse back in
-    let size : length (core ++ back) - suffix_len is_blank (core ++ back) ≡ length core = omega (arith, blanks, length-append core back) in
+    ap (prefix_len is_blank) (reverse-append core back)
+    ∙ prefix-stops is_blank (reverse back) (reverse core) passes stops
+    ∙ length-reverse back in
+    let size : length (core ++ back) - suffix_len is_blank (core ++ back) ≡ length core =
+    omega (arith, blanks, length-append core back) in
     rw size (take-append_seam core back)
 
 core-left : (core back : List ℕ) → Stops is_blank core → Stops is_blank (reverse core) → list_all is_blank back ≡ true
     → ended (after_blanks (core ++ back)) ≡ core
 core-left [] back begins ends all = ap ended (blanks-gone back all)
-core-left (b ∷ core) back begins ends all = ap ended (stays b (core ++ back) begins) ∙ ended-left (b ∷ core) back ends all
+core-left (b ∷ core) back begins ends all =
+    ap ended (stays b (core ++ back) begins) ∙ ended-left (b ∷ core) back ends all
 
 -- what begins and ends with no blank, and stands between blanks, is left
-pub bare-trimmed : (text core : List ℕ) → Stops is_blank core → Stops is_blank (reverse core) → IsBetweenBlanks text core → trimmed text ≡ core
+pub bare-trimmed : (text core : List ℕ)
+    → Stops is_blank core → Stops is_blank (reverse core) → IsBetweenBlanks text core → trimmed text ≡ core
 unfolding trimmed
 bare-trimmed text core begins ends between =
     rw (between.cut, blanks-passed between.front (core ++ between.back) between.front_blank)
     (core-left core between.back begins ends between.back_blank)
 
 -- so is what has no blank at all
-pub between-trimmed : (text core : List ℕ) → list_all (λ b. not (is_blank b)) core ≡ true → IsBetweenBlanks text core → trimmed text ≡ core
+pub between-trimmed : (text core : List ℕ)
+    → list_all (λ b. not (is_blank b)) core ≡ true → IsBetweenBlanks text core → trimmed text ≡ core
 between-trimmed text core none between =
     let ends = none-stops is_blank (reverse core) (reversed-passes (λ b. not (is_blank b)) core none) in
     bare-trimmed text core (none-stops is_blank core none) ends between

@@ -39,13 +39,16 @@ module _ (letter : ℕ) (text : List ℕ) where
       (λ key e. (k, key-says text key e)) (λ none. (k, λ key says. none-some key (sym none ∙ key-read text key says))))
       (λ not_k. byte_case Answers letter 77 _ _
       (λ m. option_case (λ o. Answers (meter_field o)) (meter_of text)
-      (λ meter e. (m, meter-says text meter e)) (λ none. (m, λ meter says. none-some meter (sym none ∙ meter-read text meter says))))
+      (λ meter e. (m, meter-says text meter e))
+      (λ none. (m, λ meter says. none-some meter (sym none ∙ meter-read text meter says))))
       (λ not_m. byte_case Answers letter 76 _ _
       (λ l. option_case (λ o. Answers (unit_field o)) (unit_of text)
-      (λ unit e. (l, unit-says text unit e)) (λ none. (l, λ unit says. none-some unit (sym none ∙ unit-read text unit says))))
+      (λ unit e. (l, unit-says text unit e))
+      (λ none. (l, λ unit says. none-some unit (sym none ∙ unit-read text unit says))))
       (λ not_l. byte_case Answers letter 86 _ _
       (λ v. option_case (λ o. Answers (voice_field o)) (voice_of text)
-      (λ voice e. (v, voice-says text voice e)) (λ none. (v, λ voice says. none-some voice (sym none ∙ voice-read text voice says))))
+      (λ voice e. (v, voice-says text voice e))
+      (λ none. (v, λ voice says. none-some voice (sym none ∙ voice-read text voice says))))
       (λ not_v. byte_case (NamedSays letter text) letter 119 _ _ (λ w. (w, refl))
       (λ not_w. byte_case (NamedSays letter text) letter 84 _ _ (λ t. (t, refl))
       (λ not_t. byte_case (NamedSays letter text) letter 67 _ _ (λ c. (c, refl))
@@ -131,18 +134,26 @@ pub directive-says : (name rest : List ℕ) → DirectiveSays name rest (directi
 unfolding directive_field
 directive-says name rest =
     word_case (DirectiveSays name rest) name (codes "linebreak") _ _
-    (λ is. option_case (λ o. DirectiveSays name rest (breaks_field o)) (breaks_of rest) (λ breaks e. (is, breaks-says rest breaks e))
+    (λ is.
+    option_case (λ o. DirectiveSays name rest (breaks_field o)) (breaks_of rest)
+    (λ breaks e. (is, breaks-says rest breaks e))
     (λ none. (
       λ breaks says. none-some breaks (sym none ∙ breaks-read rest breaks says.1),
       λ spread says. not_word {w = codes "linebreak"} refl (sym is ∙ says.0),
     )))
     (λ no_breaks. word_case (DirectiveSays name rest) name (codes "propagate-accidentals") _ _
-    (λ is. option_case (λ o. DirectiveSays name rest (spread_field o)) (spread_of rest) (λ spread e. (is, spread-says rest spread e))
-    (λ none. (λ breaks says. not_word no_breaks says.0, λ spread says. none-some spread (sym none ∙ spread-read rest spread says.1))))
+    (λ is.
+    option_case (λ o. DirectiveSays name rest (spread_field o)) (spread_of rest)
+    (λ spread e. (is, spread-says rest spread e))
+    (λ none. (
+      λ breaks says. not_word no_breaks says.0,
+      λ spread says. none-some spread (sym none ∙ spread-read rest spread says.1),
+    )))
     (λ no_spread. (λ breaks says. not_word no_breaks says.0, λ spread says. not_word no_spread says.0)))
 
 -- and it says nothing else
-pub directive-read : (name rest : List ℕ) (field : Field) → DirectiveSays name rest field → directive_field name rest ≡ field
+pub directive-read : (name rest : List ℕ) (field : Field)
+    → DirectiveSays name rest field → directive_field name rest ≡ field
 unfolding directive_field
 directive-read name rest (Field.Breaks breaks) says = rw (says.0, breaks-read rest breaks says.1) refl
 directive-read name rest (Field.Spread spread) says = rw (says.0, spread-read rest spread says.1) refl
@@ -154,7 +165,8 @@ directive-read name rest Field.Other says =
 directive-read name rest _ says = absurd says
 
 -- Lines.
-kind-answers : (line : List ℕ) (kind : LineKind) → MatchResult (field_by line kind) (KindSays line kind) (KindBad line kind)
+kind-answers : (line : List ℕ) (kind : LineKind)
+    → MatchResult (field_by line kind) (KindSays line kind) (KindBad line kind)
 kind-answers line (LineKind.Field letter) = named-answers letter (field_text line)
 kind-answers line LineKind.Directive = directive-says (name_of (field_text line)) (rest_of (field_text line))
 kind-answers line LineKind.Music = refl
@@ -162,11 +174,14 @@ kind-answers line LineKind.Music = refl
 -- a line reads as a field only where it says it
 pub line-says : (line : List ℕ) (field : Field) → field_of line ≡ Ok field → Says line field
 unfolding field_of
-line-says line field h = MatchResult-at_ok (KindSays line (kind_of line)) (KindBad line (kind_of line)) field h (kind-answers line (kind_of line))
+line-says line field h =
+    MatchResult-at_ok (KindSays line (kind_of line)) (KindBad line (kind_of line)) field h
+    (kind-answers line (kind_of line))
 
 kind-read : (line : List ℕ) (kind : LineKind) (field : Field) → KindSays line kind field → field_by line kind ≡ Ok field
 kind-read line (LineKind.Field letter) field says = named-read letter (field_text line) field says
-kind-read line LineKind.Directive field says = ap Ok (directive-read (name_of (field_text line)) (rest_of (field_text line)) field says)
+kind-read line LineKind.Directive field says =
+    ap Ok (directive-read (name_of (field_text line)) (rest_of (field_text line)) field says)
 kind-read line LineKind.Music field says = ap Ok (sym says)
 
 -- and wherever it does
@@ -177,9 +192,12 @@ line-read line field says = kind-read line (kind_of line) field says
 -- a line is refused only where its text is in no good form
 pub line-bad : (line : List ℕ) (fault : FaultKind) → field_of line ≡ Err fault → IsBad line fault
 unfolding field_of
-line-bad line fault h = MatchResult-at_err (KindSays line (kind_of line)) (KindBad line (kind_of line)) fault h (kind-answers line (kind_of line))
+line-bad line fault h =
+    MatchResult-at_err (KindSays line (kind_of line)) (KindBad line (kind_of line)) fault h
+    (kind-answers line (kind_of line))
 
-kind-refused : (line : List ℕ) (kind : LineKind) (fault : FaultKind) → KindBad line kind fault → field_by line kind ≡ Err fault
+kind-refused : (line : List ℕ) (kind : LineKind) (fault : FaultKind)
+    → KindBad line kind fault → field_by line kind ≡ Err fault
 kind-refused line (LineKind.Field letter) fault bad = named-refused letter (field_text line) fault bad
 kind-refused line _ fault bad = absurd bad
 
@@ -189,7 +207,8 @@ unfolding field_of
 line-refused line fault bad = kind-refused line (kind_of line) fault bad
 
 -- The same of what a call answers.
-pub named_refuses : (letter : ℕ) (text : List ℕ) (e : FieldError) → IsErrorOfField (named_field letter text) e → NamedRefuses letter text e
+pub named_refuses : (letter : ℕ) (text : List ℕ) (e : FieldError)
+    → IsErrorOfField (named_field letter text) e → NamedRefuses letter text e
 named_refuses letter text FieldError.Memory h = tt
 named_refuses letter text (FieldError.Fault kind) h = named-bad letter text kind h
 

@@ -35,7 +35,9 @@ form-good _ good = tt
 pub meter_good : (text : List ℕ) → IfSome (meter_of text) (λ m. IsGoodMeter m)
 meter_good text =
     option_case (λ o. IfSome o (λ m. IsGoodMeter m)) (meter_of text)
-    (λ meter read. let writes = (meter-says text meter read).writes in subst (λ m. IsGoodMeter m) writes.meant (form-good writes.form writes.good))
+    (λ meter read.
+    let writes = (meter-says text meter read).writes in
+    subst (λ m. IsGoodMeter m) writes.meant (form-good writes.form writes.good))
     (λ none. tt)
 
 unit-form-good : (form : UnitForm) → IsGoodUnitForm form → IsGoodUnit (unit_meant form)
@@ -46,5 +48,7 @@ unit-form-good (over_form below) good = (refl, good.1)
 pub unit_good : (text : List ℕ) → IfSome (unit_of text) (λ u. IsGoodUnit u)
 unit_good text =
     option_case (λ o. IfSome o (λ u. IsGoodUnit u)) (unit_of text)
-    (λ unit read. let writes = (unit-says text unit read).writes in subst (λ u. IsGoodUnit u) writes.meant (unit-form-good writes.form writes.good))
+    (λ unit read.
+    let writes = (unit-says text unit read).writes in
+    subst (λ u. IsGoodUnit u) writes.meant (unit-form-good writes.form writes.good))
     (λ none. tt)

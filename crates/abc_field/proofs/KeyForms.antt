@@ -80,7 +80,8 @@ unfolding tonic_of
 tonic-at Letter.C s = refl
 tonic-at _ s = refl
 
-tonic-plain : (letter : Letter) (accident : Accident) → tonic_of (tonic_spelled letter accident []) ≡ Some (with_mode letter accident None)
+tonic-plain : (letter : Letter) (accident : Accident)
+    → tonic_of (tonic_spelled letter accident []) ≡ Some (with_mode letter accident None)
 tonic-plain letter plain_tonic = tonic-at letter []
 tonic-plain letter sharp_tonic = tonic-at letter (35 ∷ [])
 tonic-plain letter flat_tonic = tonic-at letter (98 ∷ [])
@@ -109,16 +110,21 @@ no_flat _ = refl
 -- what is written on begins with neither a sharp nor a flat
 begins_other : (name : ModeName) (k a : ℕ) → no_accident name k → to_ascii_lowercase k ≡ k
     → to_ascii_lowercase a ≡ first_of (three_letters name) → (a == k) ≡ false
-begins_other name k a other low good = ne_eqb a k (λ is. eqb-false _ k other (sym good ∙ ap to_ascii_lowercase is ∙ low))
+begins_other name k a other low good =
+    ne_eqb a k (λ is. eqb-false _ k other (sym good ∙ ap to_ascii_lowercase is ∙ low))
 
 tonic-written : (letter : Letter) (accident : Accident) (mode : ModeForm) → IsGoodMode mode
-    → tonic_of (tonic_spelled letter accident (mode_spelled mode)) ≡ Some (with_mode letter accident (Some (mode_meant mode)))
+    → tonic_of (tonic_spelled letter accident (mode_spelled mode))
+    ≡ Some (with_mode letter accident (Some (mode_meant mode)))
 tonic-written letter accident minor_form good =
-    tonic-at letter (accident_spelled accident (codes "m")) ∙ altered-read letter accident 109 [] Mode.Min refl refl (mode-read minor_form tt)
+    tonic-at letter (accident_spelled accident (codes "m"))
+    ∙ altered-read letter accident 109 [] Mode.Min refl refl (mode-read minor_form tt)
 tonic-written letter accident (named_form name a b c more) good =
-    let other = λ (k : ℕ) (no : no_accident name k) (low : to_ascii_lowercase k ≡ k). begins_other name k a no low (ap first_of good) in
+    let other = λ (k : ℕ) (no : no_accident name k) (low : to_ascii_lowercase k ≡ k).
+    begins_other name k a no low (ap first_of good) in
     tonic-at letter (accident_spelled accident (a ∷ b ∷ c ∷ more))
-    ∙ altered-read letter accident a (b ∷ c ∷ more) (mode_of_name name) (other 35 (no_sharp name) refl) (other 98 (no_flat name) refl)
+    ∙ altered-read letter accident a (b ∷ c ∷ more) (mode_of_name name) (other 35 (no_sharp name) refl)
+    (other 98 (no_flat name) refl)
     (mode-read (named_form name a b c more) good)
 
 data IsTonic (w : List ℕ) : Type 0 where
@@ -127,7 +133,8 @@ data IsTonic (w : List ℕ) : Type 0 where
       → w ≡ tonic_spelled letter accident (mode_spelled mode) → IsTonic w
 
 module _ (w : List ℕ) (letter : Letter) where
-  on-takes : (accident : Accident) (s : List ℕ) → w ≡ tonic_spelled letter accident s → Where (IsTonic w) (mode_on letter (accident_meant accident) s)
+  on-takes : (accident : Accident) (s : List ℕ)
+      → w ≡ tonic_spelled letter accident s → Where (IsTonic w) (mode_on letter (accident_meant accident) s)
   on-takes accident [] is = bare letter accident is
   on-takes accident (b ∷ s) is =
       where_map _ (mode_of (b ∷ s)) (mode-takes (b ∷ s))
@@ -137,7 +144,8 @@ module _ (w : List ℕ) (letter : Letter) where
   altered-takes [] is = bare letter plain_tonic is
   altered-takes (b ∷ s) is =
       byte_case (Where (IsTonic w)) b 35 _ _ (λ e. on-takes sharp_tonic s (is ∙ ap (λ c. tonic_byte letter ∷ c ∷ s) e))
-      (λ _. byte_case (Where (IsTonic w)) b 98 _ _ (λ e. on-takes flat_tonic s (is ∙ ap (λ c. tonic_byte letter ∷ c ∷ s) e))
+      (λ _.
+      byte_case (Where (IsTonic w)) b 98 _ _ (λ e. on-takes flat_tonic s (is ∙ ap (λ c. tonic_byte letter ∷ c ∷ s) e))
       (λ _. on-takes plain_tonic (b ∷ s) is))
 
 tonic-takes : (w : List ℕ) → Where (IsTonic w) (tonic_of w)
@@ -145,7 +153,8 @@ unfolding tonic_of
 tonic-takes [] = tt
 tonic-takes (b ∷ s) = by_letter (natural_letter b) (natural-takes b)
   where
-    by_letter : (o : Option Letter) → Spells b o → Where (IsTonic (b ∷ s)) (option_and_then (λ letter. altered letter s) o)
+    by_letter : (o : Option Letter)
+        → Spells b o → Where (IsTonic (b ∷ s)) (option_and_then (λ letter. altered letter s) o)
     by_letter None is = tt
     by_letter (Some letter) is = altered-takes (b ∷ s) letter s (ap (λ c. c ∷ s) is)
 
@@ -157,7 +166,8 @@ tonic-fixed _ s = refl
 unmoded : (letter : Letter) (accident : Accident) (more : List (List ℕ)) → NoMode more
     → without_mode letter (accident_meant accident) more ≡ (key_start letter (accident_meant accident) Mode.Maj, more)
 unmoded letter accident [] none = refl
-unmoded letter accident (w ∷ more) none = rw (none_read (mode_of w) (mode-takes w) (λ mode. none mode.form mode.good mode.spelled)) refl
+unmoded letter accident (w ∷ more) none =
+    rw (none_read (mode_of w) (mode-takes w) (λ mode. none mode.form mode.good mode.spelled)) refl
 
 not_fixed : (w : List ℕ) → BeginsNoKey w → fixed_start w ≡ None
 not_fixed w no_key =
@@ -170,20 +180,24 @@ no_tonic w no_key (bare letter accident is) = no_key.no_tonic letter accident is
 no_tonic w no_key (moded letter accident mode good is) = no_key.no_written letter accident mode good is
 
 -- a good beginning is read
-head-read : (head : KeyHead) (more : List (List ℕ)) → IsGoodHead head more → first_words (head_spelled head more) ≡ (head_meant head, more)
+head-read : (head : KeyHead) (more : List (List ℕ))
+    → IsGoodHead head more → first_words (head_spelled head more) ≡ (head_meant head, more)
 unfolding first_words
 head-read empty_head more good = rw good refl
 head-read none_head more good = refl
 head-read bagpipe_head more good = refl
 head-read signed_bagpipe_head more good = refl
 head-read (tonic_head letter accident) more good =
-    rw (tonic-fixed letter (accident_spelled accident []), tonic-plain letter accident) (unmoded letter accident more good)
+    rw (tonic-fixed letter (accident_spelled accident []), tonic-plain letter accident)
+    (unmoded letter accident more good)
 head-read (written_head letter accident mode) more good =
-    rw (tonic-fixed letter (accident_spelled accident (mode_spelled mode)), tonic-written letter accident mode good) refl
+    rw (tonic-fixed letter (accident_spelled accident (mode_spelled mode)), tonic-written letter accident mode good)
+    refl
 head-read (parted_head letter accident mode) more good =
     rw (tonic-fixed letter (accident_spelled accident []), tonic-plain letter accident, mode-read mode good) refl
 head-read kept_head [] good = absurd good
-head-read kept_head (w ∷ more) good = rw (not_fixed w good, none_read (tonic_of w) (tonic-takes w) (no_tonic w good)) refl
+head-read kept_head (w ∷ more) good =
+    rw (not_fixed w good, none_read (tonic_of w) (tonic-takes w) (no_tonic w good)) refl
 
 -- and each list of words has one
 record HasHead (ws : List (List ℕ)) : Type 0 where
@@ -192,7 +206,8 @@ record HasHead (ws : List (List ℕ)) : Type 0 where
   good : IsGoodHead head more
   spelled : ws ≡ head_spelled head more
 
-headed : {ws : List (List ℕ)} (head : KeyHead) (more : List (List ℕ)) → IsGoodHead head more → ws ≡ head_spelled head more → HasHead ws
+headed : {ws : List (List ℕ)} (head : KeyHead) (more : List (List ℕ))
+    → IsGoodHead head more → ws ≡ head_spelled head more → HasHead ws
 headed head more good is = record { head = head; more = more; good = good; spelled = is }
 
 tonic_begun : (w : List ℕ) (more : List (List ℕ)) → IsTonic w → HasHead (w ∷ more)
@@ -202,20 +217,28 @@ tonic_begun w (v ∷ more) (bare letter accident is) =
     (λ _ e. let mode = where_read e (mode-takes v) in
     headed (parted_head letter accident mode.form) more mode.good
     (ap (λ t. t ∷ v ∷ more) is ∙ ap (λ t. tonic_spelled letter accident [] ∷ t ∷ more) mode.spelled))
-    (λ none. headed (tonic_head letter accident) (v ∷ more) (λ mode good. unread mode_of none (mode-read mode good)) (ap (λ t. t ∷ v ∷ more) is))
-tonic_begun w more (moded letter accident mode good is) = headed (written_head letter accident mode) more good (ap (λ t. t ∷ more) is)
+    (λ none.
+    headed (tonic_head letter accident) (v ∷ more) (λ mode good. unread mode_of none (mode-read mode good))
+    (ap (λ t. t ∷ v ∷ more) is))
+tonic_begun w more (moded letter accident mode good is) =
+    headed (written_head letter accident mode) more good (ap (λ t. t ∷ more) is)
 
 fixed_begun : (w : List ℕ) (more : List (List ℕ)) → Where (HasHead (w ∷ more)) (fixed_start w)
 fixed_begun w more =
     word_case (Where (HasHead (w ∷ more))) w (codes "none") _ _ (λ is. headed none_head more tt (ap (λ t. t ∷ more) is))
-    (λ _. word_case (Where (HasHead (w ∷ more))) w (codes "HP") _ _ (λ is. headed bagpipe_head more tt (ap (λ t. t ∷ more) is))
-    (λ _. word_case (Where (HasHead (w ∷ more))) w (codes "Hp") _ _ (λ is. headed signed_bagpipe_head more tt (ap (λ t. t ∷ more) is)) (λ _. tt)))
+    (λ _.
+    word_case (Where (HasHead (w ∷ more))) w (codes "HP") _ _
+    (λ is. headed bagpipe_head more tt (ap (λ t. t ∷ more) is))
+    (λ _.
+    word_case (Where (HasHead (w ∷ more))) w (codes "Hp") _ _
+    (λ is. headed signed_bagpipe_head more tt (ap (λ t. t ∷ more) is)) (λ _. tt)))
 
 has_head : (ws : List (List ℕ)) → HasHead ws
 has_head [] = headed empty_head [] refl refl
 has_head (w ∷ more) =
     option_case (λ _. HasHead (w ∷ more)) (fixed_start w) (λ _ e. where_read e (fixed_begun w more))
-    (λ free. option_case (λ _. HasHead (w ∷ more)) (tonic_of w) (λ _ e. tonic_begun w more (where_read e (tonic-takes w)))
+    (λ free.
+    option_case (λ _. HasHead (w ∷ more)) (tonic_of w) (λ _ e. tonic_begun w more (where_read e (tonic-takes w)))
     (λ none. headed kept_head (w ∷ more) (record {
       no_none = unread fixed_start free refl;
       no_bagpipe = unread fixed_start free refl;
@@ -225,15 +248,18 @@ has_head (w ∷ more) =
     }) refl))
 
 -- Keys.
-key-at : (text : List ℕ) (head : KeyHead) (forms : List KeyWordForm) → IsGoodHead head (map word_spelled forms) → AreGoodWords forms
+key-at : (text : List ℕ) (head : KeyHead) (forms : List KeyWordForm)
+    → IsGoodHead head (map word_spelled forms) → AreGoodWords forms
     → HasWords text (head_spelled head (map word_spelled forms))
     → key_of text ≡ key_by (start_with (head_meant head) (map word_meant forms)) (map word_meant forms)
 unfolding key_of
 key-at text head forms good_head good spelled =
     let words = map word_spelled forms in
-    rw (words-of-spelled (head_spelled head words) text spelled, head-read head words good_head, words-read forms good) refl
+    rw (words-of-spelled (head_spelled head words) text spelled, head-read head words good_head, words-read forms good)
+    refl
 
-key-from : (text : List ℕ) (head : HasHead (words_of text)) → key_of text ≡ key_from (head_meant head.head) (key_words head.more)
+key-from : (text : List ℕ) (head : HasHead (words_of text))
+    → key_of text ≡ key_from (head_meant head.head) (key_words head.more)
 unfolding key_of
 key-from text head = rw (head.spelled, head-read head.head head.more head.good) refl
 

@@ -58,15 +58,22 @@ record IsSign (w : List ℕ) : Type 0 where
   lower : Bool
   spelled : w ≡ alter_spelled alter ++ letter_spelled letter lower ∷ []
 
-signed-takes : (w : List ℕ) (alter : Alter) → Where (IsSign w) (signed_letter alter (after_prefix (alter_spelled alter) w))
+signed-takes : (w : List ℕ) (alter : Alter)
+    → Where (IsSign w) (signed_letter alter (after_prefix (alter_spelled alter) w))
 signed-takes w alter =
     option_case (λ o. Where (IsSign w) (signed_letter alter o)) (after_prefix (alter_spelled alter) w)
-    (λ s e. where_map _ (letter_alone s) (alone s (behind-takes (alter_spelled alter) w s e)) (λ sign. sign)) (λ none. tt)
+    (λ s e. where_map _ (letter_alone s) (alone s (behind-takes (alter_spelled alter) w s e)) (λ sign. sign))
+    (λ none. tt)
   where
     alone : (s : List ℕ) → w ≡ alter_spelled alter ++ s → Where (IsSign w) (letter_alone s)
     alone (b ∷ []) is =
         where_then (letter_of b) (letter-takes b)
-        (λ l. record { alter = alter; letter = l.letter; lower = l.lower; spelled = is ∙ ap (λ c. alter_spelled alter ++ c ∷ []) l.is })
+        (λ l. record {
+          alter = alter;
+          letter = l.letter;
+          lower = l.lower;
+          spelled = is ∙ ap (λ c. alter_spelled alter ++ c ∷ []) l.is;
+        })
     alone _ is = tt
 
 sign-takes : (w : List ℕ) → Where (IsSign w) (sign_of w)
@@ -78,7 +85,8 @@ sign-takes w =
     (where_or (IsSign w) _ _ (signed-takes w Alter.Flat) (signed-takes w Alter.Natural))))
 
 sign-read : (alter : Alter) (letter : Letter) (lower : Bool)
-    → sign_of (alter_spelled alter ++ letter_spelled letter lower ∷ []) ≡ Some (record { letter = letter; alter = alter })
+    → sign_of (alter_spelled alter ++ letter_spelled letter lower ∷ [])
+    ≡ Some (record { letter = letter; alter = alter })
 unfolding sign_of after_prefix
 sign-read Alter.Sharp2 Letter.C true = refl
 sign-read _ Letter.C true = refl
@@ -106,14 +114,17 @@ word-passed : (w : List ℕ) → IsPassed w → key_word w ≡ Some KeyWord.Pass
 unfolding key_word
 word-passed w good =
     let equals : has_equals w ≡ true = good.equals in
-    let no_exp = false_from_ne_true _ (λ e. no_equals w (codes "exp") equals refl ((bytes_eq-Decides w (codes "exp")).0 e)) in
-    let no_sign = none_read (sign_of w) (sign-takes w) (λ sign. good.no_sign sign.alter sign.letter sign.lower sign.spelled) in
+    let no_exp =
+    false_from_ne_true _ (λ e. no_equals w (codes "exp") equals refl ((bytes_eq-Decides w (codes "exp")).0 e)) in
+    let no_sign =
+    none_read (sign_of w) (sign-takes w) (λ sign. good.no_sign sign.alter sign.letter sign.lower sign.spelled) in
     let no_name = no_clef_read w (λ form. no_equals w (clef_spelled form) equals (clef-no-equals form)) in
     rw (no_exp, no_sign, no_front (codes "clef=") w good.no_clef, no_name, equals) refl
 
 word-read : (form : KeyWordForm) → IsGoodWord form → key_word (word_spelled form) ≡ Some (word_meant form)
 unfolding key_word sign_of after_prefix clef_of
-word-read (sign_word alter letter lower) good = rw (sign-no-exp alter (letter_spelled letter lower ∷ []), sign-read alter letter lower) refl
+word-read (sign_word alter letter lower) good =
+    rw (sign-no-exp alter (letter_spelled letter lower ∷ []), sign-read alter letter lower) refl
 word-read (clef_word clef) good = ap (λ o. option_map (λ c. KeyWord.Names c) o) (clef-read clef)
 word-read (passed_word word) good = word-passed word good
 word-read (name_word (plain_clef Clef.Treble)) good = refl
@@ -129,7 +140,8 @@ unfolding key_word
 word-takes w =
     word_case (Where (IsWord w)) w (codes "exp") _ _ (formed exp_word tt)
     (λ _. option_case (λ o. Where (IsWord w) (by_sign w o)) (sign_of w)
-    (λ sign e. let found = where_read e (sign-takes w) in formed (sign_word found.alter found.letter found.lower) tt found.spelled)
+    (λ sign e.
+    let found = where_read e (sign-takes w) in formed (sign_word found.alter found.letter found.lower) tt found.spelled)
     (λ no_sign. option_case (λ o. Where (IsWord w) (by_clef w o)) (after_prefix (codes "clef=") w)
     (λ name e. where_map _ (clef_of name) (clef_behind w name e) (λ clef. formed (clef_word clef.form) tt clef.spelled))
     (λ no_clef. option_case (λ o. Where (IsWord w) (by_name w o)) (clef_of w)
@@ -145,8 +157,10 @@ word-takes w =
 pub words-take : (ws : List (List ℕ)) → Where (HaveForms word_spelled AreGoodWords ws) (key_words ws)
 words-take [] = record { forms = []; good = tt; spelled = refl }
 words-take (w ∷ ws) =
-    more_forms word_spelled IsGoodWord AreGoodWords w ws (key_word w) (key_words ws) (λ _ _ one more. (one, more)) (word-takes w) (words-take ws)
+    more_forms word_spelled IsGoodWord AreGoodWords w ws (key_word w) (key_words ws) (λ _ _ one more. (one, more))
+    (word-takes w) (words-take ws)
 
-pub words-read : (forms : List KeyWordForm) → AreGoodWords forms → key_words (map word_spelled forms) ≡ Some (map word_meant forms)
+pub words-read : (forms : List KeyWordForm)
+    → AreGoodWords forms → key_words (map word_spelled forms) ≡ Some (map word_meant forms)
 words-read [] good = refl
 words-read (form ∷ forms) good = rw (word-read form good.0, words-read forms good.1) refl

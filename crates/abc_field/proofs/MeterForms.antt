@@ -51,7 +51,8 @@ begun byte [] stops some = absurd (some refl)
 begun byte (b ∷ t) stops some = ap (λ c. c ∷ t) (eqb-true b byte (not-false _ stops))
 
 -- where something stands behind such a byte, the first of them parts the text
-parted : (byte : ℕ) (s : List ℕ) → (behind_one (from_first byte s) ≡ [] → ⊥) → s ≡ before byte s ++ byte ∷ behind_one (from_first byte s)
+parted : (byte : ℕ) (s : List ℕ)
+    → (behind_one (from_first byte s) ≡ [] → ⊥) → s ≡ before byte s ++ byte ∷ behind_one (from_first byte s)
 unfolding before from_first
 parted byte s some =
     let n : ℕ = place_of_byte byte s in
@@ -64,7 +65,9 @@ behind-takes front s rest h =
     cond_both (starts_with nat_eq s front) (Some (drop (length front) s)) None (λ o. o ≡ Some rest → s ≡ front ++ rest)
     (λ begins left.
     let same = (bytes_eq-Decides front (take (length front) s)).0 begins in
-    sym (take-append-drop (length front) s) ∙ ap (λ t. t ++ drop (length front) s) (sym same) ∙ ap (λ t. front ++ t) (same_Some _ rest left))
+    sym (take-append-drop (length front) s)
+    ∙ ap (λ t. t ++ drop (length front) s) (sym same)
+    ∙ ap (λ t. front ++ t) (same_Some _ rest left))
     (λ other nothing. absurd (none_is_some rest nothing)) h
 
 pub behind-front : (front rest : List ℕ) → after_prefix front (front ++ rest) ≡ Some rest
@@ -85,7 +88,10 @@ digit-passes p b passes digit =
 digits-pass : (p : ℕ → Bool) (s : List ℕ) → DigitsPass p → list_all is_digit s ≡ true → list_all p s ≡ true
 digits-pass p [] passes all = refl
 digits-pass p (b ∷ s) passes all =
-    let parts = and_parts _ _ all in let here = digit-passes p b passes parts.0 in let more = digits-pass p s passes parts.1 in rw (here, more) refl
+    let parts = and_parts _ _ all in
+    let here = digit-passes p b passes parts.0 in
+    let more = digits-pass p s passes parts.1 in
+    rw (here, more) refl
 
 number-passes : (p : ℕ → Bool) (s : List ℕ) → DigitsPass p → is_number s ≡ true → list_all p s ≡ true
 number-passes p s passes number = digits-pass p s passes (and_parts _ _ (and_parts _ _ number).1).0
@@ -102,13 +108,15 @@ sum-passes p (term ∷ next ∷ terms) passes sign all =
     list_all-append p term (43 ∷ join_with_byte 43 (next ∷ terms)) ∙ rw (here, sign, more) refl
 
 -- Terms with a plus sign between each two are parted there again.
-split-at : (s rest : List ℕ) → lacks 43 s ≡ true → Stops (other 43) rest → slice_split is_plus (s ++ rest) ≡ s ∷ terms_after rest
+split-at : (s rest : List ℕ)
+    → lacks 43 s ≡ true → Stops (other 43) rest → slice_split is_plus (s ++ rest) ≡ s ∷ terms_after rest
 split-at s rest none stops = let cut = cut-at 43 s rest none stops in split_cut (s ++ rest) ∙ rw (cut.0, cut.1) refl
 
 split-joined : (term : List ℕ) (terms : List (List ℕ)) → list_all is_number (term ∷ terms) ≡ true
     → slice_split is_plus (join_with_byte 43 (term ∷ terms)) ≡ term ∷ terms
 split-joined term [] all =
-    ap (slice_split is_plus) (sym (append-nil term)) ∙ split-at term [] (number-passes (other 43) term refl (and_parts _ _ all).0) tt
+    ap (slice_split is_plus) (sym (append-nil term))
+    ∙ split-at term [] (number-passes (other 43) term refl (and_parts _ _ all).0) tt
 split-joined term (next ∷ terms) all =
     let parts = and_parts _ _ all in
     split-at term (43 ∷ join_with_byte 43 (next ∷ terms)) (number-passes (other 43) term refl parts.0) refl
@@ -125,7 +133,8 @@ added-takes [] total small = record { numbers = refl; few = omega arith }
 added-takes (term ∷ terms) total small =
     let next : ℕ = total + value_of term in
     let T : Type 0 = Terms total (term ∷ terms) in
-    cond_both (is_number term) (Some (value_of term)) None (λ o. Where T (option_and_then (λ n. with_terms n terms) (plus total o)))
+    cond_both (is_number term) (Some (value_of term)) None
+    (λ o. Where T (option_and_then (λ n. with_terms n terms) (plus total o)))
     (λ number. cond_both (nat_le next 99) (Some next) None (λ o. Where T (option_and_then (λ n. with_terms n terms) o))
     (λ few. where_then (with_terms next terms) (added-takes terms next (leb-true _ _ few))
     (λ rest. record { numbers = rw (number, rest.numbers) refl; few = omega (arith, rest.few) }))
@@ -139,7 +148,8 @@ added-reaches [] total all few = ap Some (omega arith)
 added-reaches (term ∷ terms) total all few =
     let number : is_number term ≡ true = (and_parts _ _ all).0 in
     let small : nat_le (total + value_of term) 99 ≡ true = le-leb _ _ (omega (arith, few)) in
-    rw (number, small) (added-reaches terms (total + value_of term) (and_parts _ _ all).1 (omega (arith, few)) ∙ ap Some (omega arith))
+    rw (number, small)
+    (added-reaches terms (total + value_of term) (and_parts _ _ all).1 (omega (arith, few)) ∙ ap Some (omega arith))
 
 record IsSum (s : List ℕ) : Type 0 where
   terms : List (List ℕ)
@@ -165,7 +175,9 @@ sum-reaches : (terms : List (List ℕ)) → 1 ≤ length terms → list_all is_n
 unfolding sum_of
 sum-reaches [] some all few = absurd (omega arith)
 sum-reaches (term ∷ terms) some all few =
-    ap (with_terms 0) (split-joined term terms all) ∙ added-reaches (term ∷ terms) 0 all (omega (arith, few)) ∙ ap Some (omega arith)
+    ap (with_terms 0) (split-joined term terms all)
+    ∙ added-reaches (term ∷ terms) 0 all (omega (arith, few))
+    ∙ ap Some (omega arith)
 
 -- What stands below.
 record IsBelow (s : List ℕ) : Type 0 where
@@ -192,20 +204,24 @@ record IsBehind (front s : List ℕ) : Type 0 where
 behind_below : (front s : List ℕ) → Where (IsBehind front s) (below_behind (after_prefix front s))
 behind_below front s =
     option_case (λ o. Where (IsBehind front s) (below_behind o)) (after_prefix front s)
-    (λ below is. where_then (below_of below) (below-takes below) (λ half. record { below = below; half = half; cut = behind-takes front s below is }))
+    (λ below is.
+    where_then (below_of below) (below-takes below)
+    (λ half. record { below = below; half = half; cut = behind-takes front s below is }))
     (λ none. tt)
 
 -- Both, in parentheses or not.
 abbrev IsMeter : List ℕ → Type 0
 IsMeter s = HasForm meter_spelled IsGoodMeterForm s
 
-ratio-takes : {A B T : Type 0} (above below : Option ℕ) → Where A above → Where B below → (A → B → T) → Where T (ratio above below)
+ratio-takes : {A B T : Type 0} (above below : Option ℕ)
+    → Where A above → Where B below → (A → B → T) → Where T (ratio above below)
 ratio-takes None below a b both = tt
 ratio-takes (Some n) None a b both = tt
 ratio-takes (Some n) (Some d) a b both = both a b
 
 sum-good : (s below : List ℕ) (sum : IsSum s) → IsBelow below → IsGoodSum sum.terms below
-sum-good s below sum half = record { some = sum.some; numbers = sum.numbers; few = sum.few; number = half.number; halving = half.halving }
+sum-good s below sum half =
+    record { some = sum.some; numbers = sum.numbers; few = sum.few; number = half.number; halving = half.halving }
 
 no_number : (s : List ℕ) → is_number s ≡ true → s ≡ [] → ⊥
 no_number s number empty = let same : is_number s ≡ false = ap is_number empty in cc
@@ -224,7 +240,8 @@ unfolding wrapped_ratio
 wrapped-takes s =
     let above : List ℕ = before 41 s in
     let after : List ℕ = behind_one (from_first 41 s) in
-    ratio-takes (sum_of above) (below_behind (after_prefix (codes "/") after)) (sum-takes above) (behind_below (codes "/") after)
+    ratio-takes (sum_of above) (below_behind (after_prefix (codes "/") after)) (sum-takes above)
+    (behind_below (codes "/") after)
     (λ sum low.
     let closed = parted 41 s (λ empty. let slash = low.cut in cc) in
     let all = closed ∙ ap (λ t. t ++ 41 ∷ after) sum.joined ∙ ap (λ t. join_with_byte 43 sum.terms ++ 41 ∷ t) low.cut in
@@ -259,28 +276,35 @@ digit_begins : (terms : List (List ℕ)) (s : List ℕ) → 1 ≤ length terms �
     → meter_at (join_with_byte 43 terms ++ s) ≡ plain_ratio (join_with_byte 43 terms ++ s)
 digit_begins [] s some all = absurd (omega arith)
 digit_begins ([] ∷ terms) s some all = cc
-digit_begins ((d ∷ ds) ∷ []) s some all = digit-first d (ds ++ s) (and_parts _ _ (number-passes is_digit (d ∷ ds) refl (and_parts _ _ all).0)).0
+digit_begins ((d ∷ ds) ∷ []) s some all =
+    digit-first d (ds ++ s) (and_parts _ _ (number-passes is_digit (d ∷ ds) refl (and_parts _ _ all).0)).0
 digit_begins ((d ∷ ds) ∷ next ∷ terms) s some all =
-    digit-first d ((ds ++ 43 ∷ join_with_byte 43 (next ∷ terms)) ++ s) (and_parts _ _ (number-passes is_digit (d ∷ ds) refl (and_parts _ _ all).0)).0
+    digit-first d ((ds ++ 43 ∷ join_with_byte 43 (next ∷ terms)) ++ s)
+    (and_parts _ _ (number-passes is_digit (d ∷ ds) refl (and_parts _ _ all).0)).0
 
 plain-read : (above below : List ℕ) (n d : ℕ) → lacks 47 above ≡ true → sum_of above ≡ Some n → below_of below ≡ Some d
     → plain_ratio (above ++ 47 ∷ below) ≡ Some (Meter.Ratio n d)
 unfolding plain_ratio
-plain-read above below n d none sum half = let cut = cut-at 47 above (47 ∷ below) none refl in rw (cut.0, cut.1, sum, half) refl
+plain-read above below n d none sum half =
+    let cut = cut-at 47 above (47 ∷ below) none refl in rw (cut.0, cut.1, sum, half) refl
 
-wrapped-read : (above below : List ℕ) (n d : ℕ) → lacks 41 above ≡ true → sum_of above ≡ Some n → below_of below ≡ Some d
+wrapped-read : (above below : List ℕ) (n d : ℕ)
+    → lacks 41 above ≡ true → sum_of above ≡ Some n → below_of below ≡ Some d
     → meter_at (40 ∷ (above ++ 41 ∷ 47 ∷ below)) ≡ Some (Meter.Ratio n d)
 unfolding meter_at ratio_of wrapped_ratio after_prefix
-wrapped-read above below n d none sum half = let cut = cut-at 41 above (41 ∷ 47 ∷ below) none refl in rw (cut.0, cut.1, sum, half) refl
+wrapped-read above below n d none sum half =
+    let cut = cut-at 41 above (41 ∷ 47 ∷ below) none refl in rw (cut.0, cut.1, sum, half) refl
 
 form-read : (form : MeterForm) → IsGoodMeterForm form → meter_at (meter_spelled form) ≡ Some (meter_meant form)
 unfolding meter_at
 form-read (sum_form terms below) good =
     digit_begins terms (47 ∷ below) good.some good.numbers
-    ∙ plain-read (join_with_byte 43 terms) below (value_sum terms) (value_of below) (sum-passes (other 47) terms refl refl good.numbers)
+    ∙ plain-read (join_with_byte 43 terms) below (value_sum terms) (value_of below)
+    (sum-passes (other 47) terms refl refl good.numbers)
     (sum-reaches terms good.some good.numbers good.few) (below-reaches below good.number good.halving)
 form-read (wrapped_form terms below) good =
-    wrapped-read (join_with_byte 43 terms) below (value_sum terms) (value_of below) (sum-passes (other 41) terms refl refl good.numbers)
+    wrapped-read (join_with_byte 43 terms) below (value_sum terms) (value_of below)
+    (sum-passes (other 41) terms refl refl good.numbers)
     (sum-reaches terms good.some good.numbers good.few) (below-reaches below good.number good.halving)
 form-read _ good = refl
 
@@ -305,7 +329,12 @@ meter-says text meter h =
     record {
       core = trimmed text;
       between = trimmed-between text;
-      writes = record { form = form.form; good = form.good; spelled = form.spelled; meant = form_meant meter_at form-read form h };
+      writes = record {
+        form = form.form;
+        good = form.good;
+        spelled = form.spelled;
+        meant = form_meant meter_at form-read form h;
+      };
     }
 
 -- and wherever one does
@@ -313,7 +342,9 @@ pub meter-read : (text : List ℕ) (meter : Meter) → SaysMeter text meter → 
 unfolding meter_of
 meter-read text meter says =
     let writes = says.writes in
-    ap meter_at (between-trimmed text says.core (ap (list_all no_blank) writes.spelled ∙ form-unblank writes.form writes.good) says.between)
+    ap meter_at
+    (between-trimmed text says.core (ap (list_all no_blank) writes.spelled ∙ form-unblank writes.form writes.good)
+    says.between)
     ∙ ap meter_at writes.spelled ∙ form-read writes.form writes.good ∙ ap Some writes.meant
 
 -- Unit lengths.
@@ -323,7 +354,8 @@ unit_at-takes s =
     word_case (Where (HasForm unit_spelled IsGoodUnitForm s)) s (codes "1") _ _ (formed whole_form tt)
     (λ _. over (below_behind (after_prefix (codes "1/") s)) (behind_below (codes "1/") s))
   where
-    over : (o : Option ℕ) → Where (IsBehind (codes "1/") s) o → Where (HasForm unit_spelled IsGoodUnitForm s) (one_over o)
+    over : (o : Option ℕ)
+        → Where (IsBehind (codes "1/") s) o → Where (HasForm unit_spelled IsGoodUnitForm s) (one_over o)
     over None low = tt
     over (Some d) low = formed (over_form low.below) (low.half.number, low.half.halving) low.cut
 
@@ -344,7 +376,12 @@ unit-says text unit h =
     record {
       core = trimmed text;
       between = trimmed-between text;
-      writes = record { form = form.form; good = form.good; spelled = form.spelled; meant = form_meant unit_at unit-form-read form h };
+      writes = record {
+        form = form.form;
+        good = form.good;
+        spelled = form.spelled;
+        meant = form_meant unit_at unit-form-read form h;
+      };
     }
 
 -- and wherever one does
@@ -352,5 +389,7 @@ pub unit-read : (text : List ℕ) (unit : Frac) → SaysUnit text unit → unit_
 unfolding unit_of
 unit-read text unit says =
     let writes = says.writes in
-    ap unit_at (between-trimmed text says.core (ap (list_all no_blank) writes.spelled ∙ unit-unblank writes.form writes.good) says.between)
+    ap unit_at
+    (between-trimmed text says.core (ap (list_all no_blank) writes.spelled ∙ unit-unblank writes.form writes.good)
+    says.between)
     ∙ ap unit_at writes.spelled ∙ unit-form-read writes.form writes.good ∙ ap Some writes.meant

@@ -9,4 +9,7 @@ unfolding before from_first
 split_cut [] = refl
 split_cut (b ∷ s) =
     by_test (b == 43) (λ e. rw e refl)
-    (λ e. let more : 1 + place_of_byte 43 s ≡ suc (place_of_byte 43 s) = omega arith in let same = split_cut s in rw (e, more, same) refl)
+    (λ e.
+    let more : 1 + place_of_byte 43 s ≡ suc (place_of_byte 43 s) = omega arith in
+    let same = split_cut s in
+    rw (e, more, same) refl)

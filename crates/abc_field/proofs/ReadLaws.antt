@@ -1,4 +1,5 @@
--- Something is read of a text only where a form spells it: by cases of what is read, for one word and for all words of a list.
+-- Something is read of a text only where a form spells it: by cases of what is read,
+-- for one word and for all words of a list.
 use Rattle.std.proofs.Common.{◌≡◌, refl, sym, ap, ◌∙◌, subst, ℕ, List, ◌∷◌, Bool, true, false, map, cond, ◌==◌, Option}
 use Rattle.std.proofs.Common.{Some, None, IfSome}
 use Rattle.std.proofs.lemmas.{Bool.{cond_both, eqb-true}, Option.{none-some, same_Some}, Slice.Eq.bytes_eq-Decides}
@@ -40,11 +41,13 @@ pub by_test : {T : Type 0} (test : Bool) → (test ≡ true → T) → (test ≡
 by_test true hit miss = hit refl
 by_test false hit miss = miss refl
 
-pub option_case : {X : Type 0} (Q : Option X → Type 0) (o : Option X) → ((x : X) → o ≡ Some x → Q (Some x)) → (o ≡ None → Q None) → Q o
+pub option_case : {X : Type 0} (Q : Option X → Type 0) (o : Option X)
+    → ((x : X) → o ≡ Some x → Q (Some x)) → (o ≡ None → Q None) → Q o
 option_case Q None some none = none refl
 option_case Q (Some x) some none = some x refl
 
-pub byte_case : {X : Type 0} (Q : X → Type 0) (b k : ℕ) (x y : X) → (b ≡ k → Q x) → ((b == k) ≡ false → Q y) → Q (cond (b == k) x y)
+pub byte_case : {X : Type 0} (Q : X → Type 0) (b k : ℕ) (x y : X)
+    → (b ≡ k → Q x) → ((b == k) ≡ false → Q y) → Q (cond (b == k) x y)
 byte_case Q b k x y same other = cond_both (b == k) x y Q (λ e. same (eqb-true b k e)) other
 
 pub word_case : {X : Type 0} (Q : X → Type 0) (w word : List ℕ) (x y : X)
@@ -65,13 +68,16 @@ pub formed : {Form : Type 0} {spelling : Form → List ℕ} {Good : Form → Typ
 formed form good is = record { form = form; good = good; spelled = is }
 
 -- where good forms are read as what they mean, what is read is what its form means
-pub form_meant : {Form X : Type 0} {spelling : Form → List ℕ} {Good : Form → Type 0} {meaning : Form → X} {w : List ℕ} {x : X}
+pub form_meant : {Form X : Type 0} {spelling : Form → List ℕ} {Good : Form → Type 0} {meaning : Form → X} {w : List ℕ}
+    {x : X}
     → (read : List ℕ → Option X) → ((form : Form) → Good form → read (spelling form) ≡ Some (meaning form))
     → (found : HasForm spelling Good w) → read w ≡ Some x → meaning found.form ≡ x
-form_meant {x = x} read back found e = same_Some _ x (sym (back found.form found.good) ∙ sym (ap read found.spelled) ∙ e)
+form_meant {x = x} read back found e =
+    same_Some _ x (sym (back found.form found.good) ∙ sym (ap read found.spelled) ∙ e)
 
 -- where nothing is read, what is read does not stand
-pub unread : {X : Type 0} {w v : List ℕ} {x : X} (read : List ℕ → Option X) → read w ≡ None → read v ≡ Some x → w ≡ v → ⊥
+pub unread : {X : Type 0} {w v : List ℕ} {x : X} (read : List ℕ → Option X)
+    → read w ≡ None → read v ≡ Some x → w ≡ v → ⊥
 unread {x = x} read none some is = none-some x (sym none ∙ ap read is ∙ some)
 
 -- and where no form stands, nothing is read
@@ -79,11 +85,13 @@ pub none_read : {X T : Type 0} (o : Option X) → Where T o → (T → ⊥) → 
 none_read None has none = refl
 none_read (Some x) has none = absurd (none has)
 
-pub nothing : {X : Type 0} {Says : X → Type 0} (o : Option X) → ((x : X) → o ≡ Some x → Says x) → ((x : X) → Says x → ⊥) → o ≡ None
+pub nothing : {X : Type 0} {Says : X → Type 0} (o : Option X)
+    → ((x : X) → o ≡ Some x → Says x) → ((x : X) → Says x → ⊥) → o ≡ None
 nothing o says bad = option_case (λ o. o ≡ None) o (λ x e. absurd (bad x (says x e))) (λ e. refl)
 
 -- good forms that spell the words
-pub record HaveForms {Form : Type 0} (spelling : Form → List ℕ) (AreGood : List Form → Type 0) (ws : List (List ℕ)) : Type 0 where
+pub record HaveForms {Form : Type 0} (spelling : Form → List ℕ) (AreGood : List Form → Type 0)
+    (ws : List (List ℕ)) : Type 0 where
   pub forms : List Form
   pub good : AreGood forms
   pub spelled : ws ≡ map spelling forms

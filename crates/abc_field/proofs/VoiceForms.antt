@@ -65,7 +65,8 @@ clef-takes w = by_end _ _ refl refl
     by_end false true e f =
         where_then (named_clef (take (length w - 2) w)) (named-takes (take (length w - 2) w))
         (λ name. formed (below_clef name.form) tt (ends-cut w (codes "-8") f ∙ ap (λ t. t ++ codes "-8") name.spelled))
-    by_end false false e f = where_then (named_clef w) (named-takes w) (λ name. formed (plain_clef name.form) tt name.spelled)
+    by_end false false e f =
+        where_then (named_clef w) (named-takes w) (λ name. formed (plain_clef name.form) tt name.spelled)
 
 -- where no form of a clef spells it, none is read
 pub no_clef_read : (w : List ℕ) → ((form : ClefForm) → w ≡ clef_spelled form → ⊥) → clef_of w ≡ None
@@ -81,11 +82,16 @@ clef_behind w name e =
     (λ clef. formed clef.form tt (behind-takes (codes "clef=") w name e ∙ ap (λ t. codes "clef=" ++ t) clef.spelled))
 
 -- Properties.
-property-read : (form : PropertyForm) → IsGoodProperty form → voice_word (property_spelled form) ≡ Some (property_meant form)
+property-read : (form : PropertyForm)
+    → IsGoodProperty form → voice_word (property_spelled form) ≡ Some (property_meant form)
 unfolding voice_word after_prefix clef_of
 property-read (clef_property clef) good = ap (λ o. option_map (λ c. VoiceWord.Names c) o) (clef-read clef)
 property-read (other_property word) good =
-    rw (no_front (codes "clef=") word good.no_clef, no_front (codes "stem=") word good.no_stem, no_clef_read word good.no_name) refl
+    rw (
+      no_front (codes "clef=") word good.no_clef,
+      no_front (codes "stem=") word good.no_stem,
+      no_clef_read word good.no_name,
+    ) refl
 property-read (stem_property Wish.Up) good = refl
 property-read (name_property (plain_clef Clef.Treble)) good = refl
 property-read (name_property (above_clef Clef.Treble)) good = refl
@@ -108,10 +114,13 @@ property-takes : (w : List ℕ) → Where (IsProperty w) (voice_word w)
 unfolding voice_word
 property-takes w =
     option_case (λ o. Where (IsProperty w) (by_clef w o)) (after_prefix (codes "clef=") w)
-    (λ name e. where_map _ (clef_of name) (clef_behind w name e) (λ clef. formed (clef_property clef.form) tt clef.spelled))
+    (λ name e.
+    where_map _ (clef_of name) (clef_behind w name e) (λ clef. formed (clef_property clef.form) tt clef.spelled))
     (λ no_clef. option_case (λ o. Where (IsProperty w) (by_stem w o)) (after_prefix (codes "stem=") w)
     (λ way e. where_map _ (wish_of way) (way-takes way)
-    (λ wish. formed (stem_property wish.form) tt (behind-takes (codes "stem=") w way e ∙ ap (λ t. codes "stem=" ++ t) wish.spelled)))
+    (λ wish.
+    formed (stem_property wish.form) tt
+    (behind-takes (codes "stem=") w way e ∙ ap (λ t. codes "stem=" ++ t) wish.spelled)))
     (λ no_stem. option_case (λ o. IsProperty w) (clef_of w)
     (λ clef e. let found = where_read e (clef-takes w) in formed (name_property found.form) tt found.spelled)
     (λ no_name. formed (other_property w) (record {
@@ -124,18 +133,22 @@ property-takes w =
 properties-take : (ws : List (List ℕ)) → Where (HaveForms property_spelled AreGoodProperties ws) (voice_words ws)
 properties-take [] = record { forms = []; good = tt; spelled = refl }
 properties-take (w ∷ ws) =
-    more_forms property_spelled IsGoodProperty AreGoodProperties w ws (voice_word w) (voice_words ws) (λ _ _ one more. (one, more)) (property-takes w)
+    more_forms property_spelled IsGoodProperty AreGoodProperties w ws (voice_word w) (voice_words ws)
+    (λ _ _ one more. (one, more)) (property-takes w)
     (properties-take ws)
 
-properties-read : (forms : List PropertyForm) → AreGoodProperties forms → voice_words (map property_spelled forms) ≡ Some (map property_meant forms)
+properties-read : (forms : List PropertyForm)
+    → AreGoodProperties forms → voice_words (map property_spelled forms) ≡ Some (map property_meant forms)
 properties-read [] good = refl
 properties-read (form ∷ forms) good = rw (property-read form good.0, properties-read forms good.1) refl
 
 -- Voices.
-voice-at : (text id rest : List ℕ) (forms : List PropertyForm) → IsFirstWord text id rest → is_good_voice id rest ≡ true → AreGoodProperties forms
+voice-at : (text id rest : List ℕ) (forms : List PropertyForm)
+    → IsFirstWord text id rest → is_good_voice id rest ≡ true → AreGoodProperties forms
     → properties_of rest ≡ map property_spelled forms → voice_of text ≡ Some (voice_def id (map property_meant forms))
 unfolding voice_of
-voice-at text id rest forms first fine good spelled = rw (first-read text id rest first, fine, spelled, properties-read forms good) refl
+voice-at text id rest forms first fine good spelled =
+    rw (first-read text id rest first, fine, spelled, properties-read forms good) refl
 
 -- a text reads as a voice only where a good form of it spells the text
 pub voice-says : (text : List ℕ) (voice : VoiceDef) → voice_of text ≡ Some voice → SaysVoice text voice
@@ -167,4 +180,5 @@ pub voice-read : (text : List ℕ) (voice : VoiceDef) → SaysVoice text voice �
 voice-read text voice says =
     let short : nat_le (length says.id) 20 ≡ true = le-leb _ _ says.short in
     let closed : not (ends_quoted false says.rest) ≡ true = says.closed in
-    voice-at text says.id says.rest says.forms says.first (rw (short, closed) refl) says.good says.spelled ∙ ap Some says.meant
+    voice-at text says.id says.rest says.forms says.first (rw (short, closed) refl) says.good says.spelled
+    ∙ ap Some says.meant

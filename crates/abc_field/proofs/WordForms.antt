@@ -15,7 +15,8 @@ word-whole : (s : List ℕ) → list_all (λ c. not (is_blank c)) (take (word_le
 word-whole [] = refl
 word-whole (b ∷ s) = by_test (is_blank b) (λ e. rw e refl) (λ e. let more = word-whole s in rw (e, e, more) refl)
 
-first-of : (text t : List ℕ) → after_blanks text ≡ t → BeginsWord t → IfSome (word_and_rest false t) (λ next. IsFirstWord text next.0 next.1)
+first-of : (text t : List ℕ)
+    → after_blanks text ≡ t → BeginsWord t → IfSome (word_and_rest false t) (λ next. IsFirstWord text next.0 next.1)
 first-of text [] is begins = tt
 first-of text (b ∷ s) is begins =
     record {
@@ -26,15 +27,18 @@ first-of text (b ∷ s) is begins =
       parted = word-stops false false (b ∷ s);
       cut =
           sym (take-append-drop (prefix_len is_blank text) text)
-          ∙ ap (λ t. take (prefix_len is_blank text) text ++ t) (is ∙ sym (take-append-drop (word_len false false (b ∷ s)) (b ∷ s)));
+          ∙ ap (λ t. take (prefix_len is_blank text) text ++ t)
+          (is ∙ sym (take-append-drop (word_len false false (b ∷ s)) (b ∷ s)));
     }
 
-pub first-takes : (text : List ℕ) (next : List ℕ × List ℕ) → next_word false text ≡ Some next → IsFirstWord text next.0 next.1
+pub first-takes : (text : List ℕ) (next : List ℕ × List ℕ)
+    → next_word false text ≡ Some next → IsFirstWord text next.0 next.1
 unfolding next_word
 first-takes text next h =
     some_holds (λ next. IsFirstWord text next.0 next.1) h (first-of text (after_blanks text) refl (behind-begins text))
 
-word-length : (word rest : List ℕ) → list_all (λ b. not (is_blank b)) word ≡ true → EndsWord rest → word_len false false (word ++ rest) ≡ length word
+word-length : (word rest : List ℕ)
+    → list_all (λ b. not (is_blank b)) word ≡ true → EndsWord rest → word_len false false (word ++ rest) ≡ length word
 word-length [] [] whole parts = refl
 word-length [] (b ∷ s) whole parts = let blank : is_blank b ≡ true = parts in rw blank refl
 word-length (b ∷ word) rest whole parts =
@@ -45,21 +49,25 @@ word-length (b ∷ word) rest whole parts =
 abbrev pub both : List ℕ → List ℕ → Option (List ℕ × List ℕ)
 both a b = Some (a, b)
 
-word-first : (word rest : List ℕ) → not (is_empty word) ≡ true → list_all (λ b. not (is_blank b)) word ≡ true → EndsWord rest
+word-first : (word rest : List ℕ)
+    → not (is_empty word) ≡ true → list_all (λ b. not (is_blank b)) word ≡ true → EndsWord rest
     → word_and_rest false (after_blanks (word ++ rest)) ≡ both word rest
 word-first [] rest some whole parts = cc
 word-first (b ∷ word) rest some whole parts =
     let here : is_blank b ≡ false = not-true (is_blank b) (and_parts _ _ whole).0 in
     ap (word_and_rest false) (stays b (word ++ rest) here)
-    ∙ rw (word-length (b ∷ word) rest whole parts, take-append_seam (b ∷ word) rest, drop-append_seam (b ∷ word) rest) refl
+    ∙ rw (word-length (b ∷ word) rest whole parts, take-append_seam (b ∷ word) rest, drop-append_seam (b ∷ word) rest)
+    refl
 
 pub first-read : (text word rest : List ℕ) → IsFirstWord text word rest → next_word false text ≡ both word rest
 unfolding next_word
 first-read text word rest first =
-    rw (first.cut, blanks-passed first.blanks (word ++ rest) first.blank) (word-first word rest first.some first.whole first.parted)
+    rw (first.cut, blanks-passed first.blanks (word ++ rest) first.blank)
+    (word-first word rest first.some first.whole first.parted)
 
 -- All words.
-words-more : (text : List ℕ) (next : List ℕ × List ℕ) → next_word false text ≡ Some next → words_of text ≡ next.0 ∷ words_of next.1
+words-more : (text : List ℕ) (next : List ℕ × List ℕ)
+    → next_word false text ≡ Some next → words_of text ≡ next.0 ∷ words_of next.1
 words-more text next e = words-next false text ∙ ap (words_after false) e
 
 words-none : (text : List ℕ) → next_word false text ≡ None → words_of text ≡ []
@@ -73,7 +81,8 @@ blank-none text all = rw (blanks-gone text all) refl
 pub words-of-spelled : (words : List (List ℕ)) (text : List ℕ) → HasWords text words → words_of text ≡ words
 words-of-spelled [] text has = words-none text (blank-none text has)
 words-of-spelled (word ∷ words) text has =
-    words-more text (word, has.0) (first-read text word has.0 has.1) ∙ ap (λ ws. word ∷ ws) (words-of-spelled words has.0 has.2)
+    words-more text (word, has.0) (first-read text word has.0 has.1)
+    ∙ ap (λ ws. word ∷ ws) (words-of-spelled words has.0 has.2)
 
 nothing-left : (t : List ℕ) → word_and_rest false t ≡ None → t ≡ []
 nothing-left [] e = refl
@@ -83,13 +92,15 @@ none-blank : (text : List ℕ) → next_word false text ≡ None → list_all is
 unfolding next_word
 none-blank text e =
     let nothing = nothing-left (after_blanks text) e in
-    let whole : take (prefix_len is_blank text) text ≡ text = rw (nothing, append-nil) at (take-append-drop (prefix_len is_blank text) text) in
+    let whole : take (prefix_len is_blank text) text ≡ text =
+    rw (nothing, append-nil) at (take-append-drop (prefix_len is_blank text) text) in
     subst (λ t. list_all is_blank t ≡ true) whole (front-passes is_blank text)
 
 -- and the words that it has stand in it
 pub words-spelled : (words : List (List ℕ)) (text : List ℕ) → words_of text ≡ words → HasWords text words
 words-spelled [] text is =
-    option_case (λ _. HasWords text []) (next_word false text) (λ next e. let more = words-more text next e in cc) (none-blank text)
+    option_case (λ _. HasWords text []) (next_word false text) (λ next e. let more = words-more text next e in cc)
+    (none-blank text)
 words-spelled (word ∷ words) text is =
     option_case (λ _. HasWords text (word ∷ words)) (next_word false text)
     (λ next e.

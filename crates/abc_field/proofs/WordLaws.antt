@@ -14,7 +14,9 @@ blank_passed quotes b s e = rw e refl
 words-behind : (quotes : Bool) (s : List ℕ) → words_in quotes s ≡ words_in quotes (after_blanks s)
 words-behind quotes [] = refl
 words-behind quotes (b ∷ s) =
-    by_test (is_blank b) (λ e. blank_passed quotes b s e ∙ words-behind quotes s ∙ ap (words_in quotes) (sym (behind-cons b s e))) (λ e. rw e refl)
+    by_test (is_blank b)
+    (λ e. blank_passed quotes b s e ∙ words-behind quotes s ∙ ap (words_in quotes) (sym (behind-cons b s e)))
+    (λ e. rw e refl)
 
 abbrev pub BeginsWord : List ℕ → Type 0
 BeginsWord [] = ⊤
@@ -29,10 +31,12 @@ pieces_after quotes (b ∷ s) = pieces quotes false s
 
 -- the first piece ends where a blank parts it from the next
 pieces-cut : (quotes quoted : Bool) (s : List ℕ)
-    → pieces quotes quoted s ≡ take (word_len quotes quoted s) s ∷ pieces_after quotes (drop (word_len quotes quoted s) s)
+    → pieces quotes quoted s
+    ≡ take (word_len quotes quoted s) s ∷ pieces_after quotes (drop (word_len quotes quoted s) s)
 pieces-cut quotes quoted [] = refl
 pieces-cut quotes quoted (b ∷ s) =
-    by_test (parts_words quoted b) (λ e. rw e refl) (λ e. let same = pieces-cut quotes (quoted_after quotes quoted b) s in rw (e, same) refl)
+    by_test (parts_words quoted b) (λ e. rw e refl)
+    (λ e. let same = pieces-cut quotes (quoted_after quotes quoted b) s in rw (e, same) refl)
 
 pub word-stops : (quotes quoted : Bool) (s : List ℕ) → EndsWord (drop (word_len quotes quoted s) s)
 word-stops quotes quoted [] = tt
@@ -43,7 +47,8 @@ word-stops quotes quoted (b ∷ s) =
 abbrev some : List ℕ → Bool
 some w = not (is_empty w)
 
-pub word-some : (quotes : Bool) (b : ℕ) (s : List ℕ) → is_blank b ≡ false → not (is_empty (take (word_len quotes false (b ∷ s)) (b ∷ s))) ≡ true
+pub word-some : (quotes : Bool) (b : ℕ) (s : List ℕ)
+    → is_blank b ≡ false → not (is_empty (take (word_len quotes false (b ∷ s)) (b ∷ s))) ≡ true
 word-some quotes b s e = rw e refl
 
 words-parted : (quotes : Bool) (s : List ℕ) → EndsWord s → filter some (pieces_after quotes s) ≡ words_in quotes s

@@ -23,10 +23,23 @@ has_word text word = list_any (λ w. bytes_eq w word) (words_of text)
 
 -- at least one of the known words
 abbrev pub names_breaks : List ℕ → Bool
-names_breaks text = (has_word text (codes "<EOL>") || has_word text (codes "$")) || (has_word text (codes "!") || has_word text (codes "<none>"))
+names_breaks text =
+    (has_word text (codes "<EOL>") || has_word text (codes "$"))
+    || (has_word text (codes "!") || has_word text (codes "<none>"))
 
 unfoldable pub breaks_of : List ℕ → Option Breaks
-breaks_of text = if names_breaks text then Some (record { eol = has_word text (codes "<EOL>"); dollar = has_word text (codes "$"); bang = has_word text (codes "!") }) else None
+breaks_of text =
+    if names_breaks text
+    then Some
+    (record {
+      eol = has_word text (codes "<EOL>");
+      dollar = has_word text (codes "$");
+      bang = has_word text (codes "!");
+    })
+    else None
 
 unfoldable pub spread_of : List ℕ → Option Spread
-spread_of text = if bytes_eq text (codes "not") then Some Spread.Not else (if bytes_eq text (codes "octave") then Some Spread.Octave else (if bytes_eq text (codes "pitch") then Some Spread.Pitch else None))
+spread_of text =
+    if bytes_eq text (codes "not") then Some Spread.Not
+    else (if bytes_eq text (codes "octave") then Some Spread.Octave
+    else (if bytes_eq text (codes "pitch") then Some Spread.Pitch else None))

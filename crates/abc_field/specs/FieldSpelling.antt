@@ -1,5 +1,6 @@
--- What a line says, one case for each kind of field: the letter or the directive that it has, and how its text is written. Where a text
--- with the letter of a key, a meter, a unit length or a voice is in no good form of that letter, the line is a fault.
+-- What a line says, one case for each kind of field: the letter or the directive that it has, and how its text is
+-- written. Where a text with the letter of a key, a meter, a unit length or a voice is in no good form of that letter,
+-- the line is a fault.
 use Prim.Native.Char.{code}
 use Rattle.std.specs.Prelude.{◌≡◌, ℕ, List, Bool, ⊤, ◌==◌, ◌||◌, IsTrue, not, codes}
 use Rattle.mus_units.specs.{declared.key.Meter.Meter, declared.key.Spread.Spread, declared.value.Frac.Frac}
@@ -34,7 +35,10 @@ SaysSpread text Spread.Pitch = text ≡ codes "pitch"
 
 -- the letters of the fields that say something: K, M, L, V, w, T, C, Q
 abbrev pub is_known : ℕ → Bool
-is_known letter = (letter == code "K" || letter == code "M") || (letter == code "L" || letter == code "V") || ((letter == code "w" || letter == code "T") || (letter == code "C" || letter == code "Q"))
+is_known letter =
+    (letter == code "K" || letter == code "M")
+    || (letter == code "L" || letter == code "V")
+    || ((letter == code "w" || letter == code "T") || (letter == code "C" || letter == code "Q"))
 
 -- What a field of that letter and text says. K:, M:, L: and V: are read; w:, T:, C: and Q: are kept
 -- as written; a field of another letter says nothing here.
@@ -61,7 +65,9 @@ DirectiveSpread name rest spread = (name ≡ codes "propagate-accidentals") × S
 abbrev pub DirectiveSays : List ℕ → List ℕ → Field → Type 0
 DirectiveSays name rest (Field.Breaks breaks) = DirectiveBreaks name rest breaks
 DirectiveSays name rest (Field.Spread spread) = DirectiveSpread name rest spread
-DirectiveSays name rest Field.Other = ((breaks : Breaks) → DirectiveBreaks name rest breaks → ⊥) × ((spread : Spread) → DirectiveSpread name rest spread → ⊥)
+DirectiveSays name rest Field.Other =
+    ((breaks : Breaks) → DirectiveBreaks name rest breaks → ⊥)
+    × ((spread : Spread) → DirectiveSpread name rest spread → ⊥)
 DirectiveSays name rest _ = ⊥
 
 -- what a line of that kind says; a music line says nothing here

@@ -39,11 +39,19 @@ voice_field None = Err FaultKind.BadVoice
 
 -- w:, T:, C: and Q: as written; other letters say nothing
 abbrev pub written_field : ℕ → List ℕ → Field
-written_field letter text = if letter == code "w" then Field.Words text else (if letter == code "T" then Field.Title text else (if letter == code "C" then Field.Composer text else (if letter == code "Q" then Field.Tempo text else Field.Other)))
+written_field letter text =
+    if letter == code "w" then Field.Words text
+    else (if letter == code "T" then Field.Title text
+    else (if letter == code "C" then Field.Composer text
+    else (if letter == code "Q" then Field.Tempo text else Field.Other)))
 
 -- K:, M:, L: and V: are read
 unfoldable pub named_field : ℕ → List ℕ → Result Field FaultKind
-named_field letter text = if letter == code "K" then key_field (key_of text) else (if letter == code "M" then meter_field (meter_of text) else (if letter == code "L" then unit_field (unit_of text) else (if letter == code "V" then voice_field (voice_of text) else Ok (written_field letter text))))
+named_field letter text =
+    if letter == code "K" then key_field (key_of text)
+    else (if letter == code "M" then meter_field (meter_of text)
+    else (if letter == code "L" then unit_field (unit_of text)
+    else (if letter == code "V" then voice_field (voice_of text) else Ok (written_field letter text))))
 
 abbrev pub breaks_field : Option Breaks → Field
 breaks_field (Some breaks) = Field.Breaks breaks
@@ -55,7 +63,9 @@ spread_field None = Field.Other
 
 -- a directive in another form says nothing
 unfoldable pub directive_field : List ℕ → List ℕ → Field
-directive_field name rest = if bytes_eq name (codes "linebreak") then breaks_field (breaks_of rest) else (if bytes_eq name (codes "propagate-accidentals") then spread_field (spread_of rest) else Field.Other)
+directive_field name rest =
+    if bytes_eq name (codes "linebreak") then breaks_field (breaks_of rest)
+    else (if bytes_eq name (codes "propagate-accidentals") then spread_field (spread_of rest) else Field.Other)
 
 abbrev pub field_by : List ℕ → LineKind → Result Field FaultKind
 field_by text (LineKind.Field letter) = named_field letter (field_text text)
@@ -80,4 +90,5 @@ IsErrorOfField read (FieldError.Fault kind) = read ≡ Err kind
 -- the fault of a line stands at its column 1
 abbrev pub IsFaultOfLine : Line → TuneError → Type 0
 IsFaultOfLine line TuneError.Memory = ⊤
-IsFaultOfLine line (TuneError.Fault fault) = (field_of line.text ≡ Err fault.kind) × (fault.line ≡ line.number) × (fault.column ≡ 1)
+IsFaultOfLine line (TuneError.Fault fault) =
+    (field_of line.text ≡ Err fault.kind) × (fault.line ≡ line.number) × (fault.column ≡ 1)

@@ -54,7 +54,8 @@ word_spelled (passed_word word) = word
 -- A word that is passed over has an equals sign, is no sign and letter, and doesn't begin with `clef=`.
 pub record IsPassed (word : List ℕ) : Type 0 where
   pub equals : IsTrue (list_any (λ b. b == code "=") word)
-  pub no_sign : (alter : Alter) (letter : Letter) (lower : Bool) → word ≡ alter_spelled alter ++ letter_spelled letter lower ∷ [] → ⊥
+  pub no_sign : (alter : Alter) (letter : Letter) (lower : Bool)
+      → word ≡ alter_spelled alter ++ letter_spelled letter lower ∷ [] → ⊥
   pub no_clef : (name : List ℕ) → word ≡ codes "clef=" ++ name → ⊥
 
 abbrev pub IsGoodWord : KeyWordForm → Type 0
@@ -116,7 +117,8 @@ mode_spelled (named_form name a b c more) = a ∷ b ∷ c ∷ more
 
 abbrev pub IsGoodMode : ModeForm → Type 0
 IsGoodMode minor_form = ⊤
-IsGoodMode (named_form name a b c more) = to_ascii_lowercase a ∷ to_ascii_lowercase b ∷ to_ascii_lowercase c ∷ [] ≡ three_letters name
+IsGoodMode (named_form name a b c more) =
+    to_ascii_lowercase a ∷ to_ascii_lowercase b ∷ to_ascii_lowercase c ∷ [] ≡ three_letters name
 
 abbrev pub mode_meant : ModeForm → Mode
 mode_meant minor_form = Mode.Min
@@ -176,7 +178,8 @@ pub record BeginsNoKey (word : List ℕ) : Type 0 where
   pub no_bagpipe : word ≡ codes "HP" → ⊥
   pub no_signed_bagpipe : word ≡ codes "Hp" → ⊥
   pub no_tonic : (letter : Letter) (accident : Accident) → word ≡ tonic_spelled letter accident [] → ⊥
-  pub no_written : (letter : Letter) (accident : Accident) (mode : ModeForm) → IsGoodMode mode → word ≡ tonic_spelled letter accident (mode_spelled mode) → ⊥
+  pub no_written : (letter : Letter) (accident : Accident) (mode : ModeForm)
+      → IsGoodMode mode → word ≡ tonic_spelled letter accident (mode_spelled mode) → ⊥
 
 abbrev pub BeginOther : List (List ℕ) → Type 0
 BeginOther [] = ⊥

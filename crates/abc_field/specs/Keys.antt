@@ -21,7 +21,13 @@ use Rattle.abc_field.specs.declared.key.KeyStart.{KeyStart}
 use Rattle.abc_field.specs.Words.{words_of, after_prefix}
 
 abbrev pub natural_letter : ℕ → Option Letter
-natural_letter b = if b == code "C" then Some Letter.C else (if b == code "D" then Some Letter.D else (if b == code "E" then Some Letter.E else (if b == code "F" then Some Letter.F else (if b == code "G" then Some Letter.G else (if b == code "A" then Some Letter.A else (if b == code "B" then Some Letter.B else None))))))
+natural_letter b =
+    if b == code "C" then Some Letter.C
+    else (if b == code "D" then Some Letter.D
+    else (if b == code "E" then Some Letter.E
+    else (if b == code "F" then Some Letter.F
+    else (if b == code "G" then Some Letter.G
+    else (if b == code "A" then Some Letter.A else (if b == code "B" then Some Letter.B else None))))))
 
 -- a letter of either case, which stands 32 further
 abbrev pub letter_of : ℕ → Option Letter
@@ -39,11 +45,20 @@ signed_letter alter (Some s) = option_map (λ l. record { letter = l; alter = al
 
 -- a sign and a letter: the first of these fronts that the word has is its sign
 unfoldable pub sign_of : List ℕ → Option Sign
-sign_of w = option_or (signed_letter Alter.Sharp2 (after_prefix (codes "^^") w)) (option_or (signed_letter Alter.Sharp (after_prefix (codes "^") w)) (option_or (signed_letter Alter.Flat2 (after_prefix (codes "__") w)) (option_or (signed_letter Alter.Flat (after_prefix (codes "_") w)) (signed_letter Alter.Natural (after_prefix (codes "=") w)))))
+sign_of w =
+    option_or (signed_letter Alter.Sharp2 (after_prefix (codes "^^") w))
+    (option_or (signed_letter Alter.Sharp (after_prefix (codes "^") w))
+    (option_or (signed_letter Alter.Flat2 (after_prefix (codes "__") w))
+    (option_or (signed_letter Alter.Flat (after_prefix (codes "_") w))
+    (signed_letter Alter.Natural (after_prefix (codes "=") w)))))
 
 -- the clef of that name
 abbrev pub named_clef : List ℕ → Option Clef
-named_clef w = if bytes_eq w (codes "treble") then Some Clef.Treble else (if bytes_eq w (codes "bass") then Some Clef.Bass else (if bytes_eq w (codes "alto") then Some Clef.Alto else (if bytes_eq w (codes "tenor") then Some Clef.Tenor else None)))
+named_clef w =
+    if bytes_eq w (codes "treble") then Some Clef.Treble
+    else (if bytes_eq w (codes "bass") then Some Clef.Bass
+    else (if bytes_eq w (codes "alto") then Some Clef.Alto
+    else (if bytes_eq w (codes "tenor") then Some Clef.Tenor else None)))
 
 -- an octave above or below at a clef's name is passed over
 abbrev pub has_octave : List ℕ → Bool
@@ -79,10 +94,19 @@ key_words (w ∷ ws) = option_and_then (λ k. option_map (λ ks. k ∷ ks) (key_
 
 -- a mode counts by its first three letters in any case
 abbrev pub major_like : List ℕ → Option Mode
-major_like w = if bytes_eq w (codes "maj") then Some Mode.Maj else (if bytes_eq w (codes "ion") then Some Mode.Maj else (if bytes_eq w (codes "mix") then Some Mode.Mix else (if bytes_eq w (codes "lyd") then Some Mode.Lyd else None)))
+major_like w =
+    if bytes_eq w (codes "maj") then Some Mode.Maj
+    else (if bytes_eq w (codes "ion") then Some Mode.Maj
+    else (if bytes_eq w (codes "mix") then Some Mode.Mix
+    else (if bytes_eq w (codes "lyd") then Some Mode.Lyd else None)))
 
 abbrev pub minor_like : List ℕ → Option Mode
-minor_like w = if bytes_eq w (codes "min") then Some Mode.Min else (if bytes_eq w (codes "aeo") then Some Mode.Min else (if bytes_eq w (codes "dor") then Some Mode.Dor else (if bytes_eq w (codes "phr") then Some Mode.Phr else (if bytes_eq w (codes "loc") then Some Mode.Loc else None))))
+minor_like w =
+    if bytes_eq w (codes "min") then Some Mode.Min
+    else (if bytes_eq w (codes "aeo") then Some Mode.Min
+    else (if bytes_eq w (codes "dor") then Some Mode.Dor
+    else (if bytes_eq w (codes "phr") then Some Mode.Phr
+    else (if bytes_eq w (codes "loc") then Some Mode.Loc else None))))
 
 abbrev pub mode_named : List ℕ → Option Mode
 mode_named w = option_or (major_like w) (minor_like w)
@@ -119,11 +143,14 @@ by_mode letter alter (Some mode) ws = (key_start letter alter mode, ws)
 -- a tonic's letter, its sharp or flat, and the mode that is written on
 abbrev pub mode_on : Letter → Alter → List ℕ → Option Tonic
 mode_on letter alter [] = Some (record { letter = letter; alter = alter; mode = None })
-mode_on letter alter (b ∷ s) = option_map (λ mode. record { letter = letter; alter = alter; mode = Some mode }) (mode_of (b ∷ s))
+mode_on letter alter (b ∷ s) =
+    option_map (λ mode. record { letter = letter; alter = alter; mode = Some mode }) (mode_of (b ∷ s))
 
 abbrev pub altered : Letter → List ℕ → Option Tonic
 altered letter [] = mode_on letter Alter.Natural []
-altered letter (b ∷ s) = if b == code "#" then mode_on letter Alter.Sharp s else (if b == code "b" then mode_on letter Alter.Flat s else mode_on letter Alter.Natural (b ∷ s))
+altered letter (b ∷ s) =
+    if b == code "#" then mode_on letter Alter.Sharp s
+    else (if b == code "b" then mode_on letter Alter.Flat s else mode_on letter Alter.Natural (b ∷ s))
 
 unfoldable pub tonic_of : List ℕ → Option Tonic
 tonic_of [] = None
@@ -134,13 +161,17 @@ by_tonic None w ws = (KeyStart.Kept, w ∷ ws)
 by_tonic (Some tonic) w ws = by_mode tonic.letter tonic.alter tonic.mode ws
 
 abbrev pub fixed_start : List ℕ → Option KeyStart
-fixed_start w = if bytes_eq w (codes "none") then Some (KeyStart.Sharps (pos 0)) else (if bytes_eq w (codes "HP") then Some (KeyStart.Sharps (pos 0)) else (if bytes_eq w (codes "Hp") then Some KeyStart.Pipes else None))
+fixed_start w =
+    if bytes_eq w (codes "none") then Some (KeyStart.Sharps (pos 0))
+    else (if bytes_eq w (codes "HP") then Some (KeyStart.Sharps (pos 0))
+    else (if bytes_eq w (codes "Hp") then Some KeyStart.Pipes else None))
 
 abbrev pub by_fixed : Option KeyStart → List ℕ → List (List ℕ) → KeyStart × List (List ℕ)
 by_fixed (Some start) w ws = (start, ws)
 by_fixed None w ws = by_tonic (tonic_of w) w ws
 
--- the first word: `none` and `HP` have no sign, `Hp` has those of the pipes, a tonic has those of its key; any other is no start
+-- the first word: `none` and `HP` have no sign, `Hp` has those of the pipes, a tonic has those of its key;
+-- any other is no start
 unfoldable pub first_words : List (List ℕ) → KeyStart × List (List ℕ)
 first_words [] = (KeyStart.Sharps (pos 0), [])
 first_words (w ∷ ws) = by_fixed (fixed_start w) w ws
@@ -167,11 +198,14 @@ abbrev pub start_with : KeyStart → List KeyWord → KeyStart
 start_with start ks = if list_any is_exp ks then KeyStart.Sharps (pos 0) else start
 
 abbrev pub pipe_signs : List Sign
-pipe_signs = record { letter = Letter.F; alter = Alter.Sharp } ∷ record { letter = Letter.C; alter = Alter.Sharp } ∷ record { letter = Letter.G; alter = Alter.Natural } ∷ []
+pipe_signs =
+    record { letter = Letter.F; alter = Alter.Sharp } ∷ record { letter = Letter.C; alter = Alter.Sharp }
+    ∷ record { letter = Letter.G; alter = Alter.Natural } ∷ []
 
 -- a whole key: the listed signs are laid on what it begins with
 abbrev pub whole_key : List Sign → List KeyWord → Option KeyText
-whole_key base ks = Some (record { key = Some (record { signs = laid base (listed_signs ks) }); adds = []; clef = last_of clef_in ks })
+whole_key base ks =
+    Some (record { key = Some (record { signs = laid base (listed_signs ks) }); adds = []; clef = last_of clef_in ks })
 
 abbrev pub key_by : KeyStart → List KeyWord → Option KeyText
 key_by KeyStart.Kept ks = Some (record { key = None; adds = listed_signs ks; clef = last_of clef_in ks })

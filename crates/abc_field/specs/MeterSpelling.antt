@@ -9,8 +9,8 @@ use Rattle.mus_units.specs.Good.{is_halving}
 use Rattle.abc_field.specs.Numbers.{is_number, value_of}
 use Rattle.abc_field.specs.WordSpelling.{IsBetweenBlanks}
 
--- A meter is C, C with a bar line, the word none or nothing; or numbers with a plus sign between each two, over a number, with or without
--- parentheses round what stands above. A number is kept as the digits that write it.
+-- A meter is C, C with a bar line, the word none or nothing; or numbers with a plus sign between each two, over a
+-- number, with or without parentheses round what stands above. A number is kept as the digits that write it.
 pub data MeterForm : Type 0 where
   common_form : MeterForm
   cut_form : MeterForm

@@ -52,7 +52,9 @@ unfoldable pub plain_ratio : List ℕ → Option Meter
 plain_ratio s = ratio (sum_of (before (code "/") s)) (below_of (behind_one (from_first (code "/") s)))
 
 unfoldable pub wrapped_ratio : List ℕ → Option Meter
-wrapped_ratio s = ratio (sum_of (before (code ")") s)) (below_behind (after_prefix (codes "/") (behind_one (from_first (code ")") s))))
+wrapped_ratio s =
+    ratio (sum_of (before (code ")") s))
+    (below_behind (after_prefix (codes "/") (behind_one (from_first (code ")") s))))
 
 abbrev pub ratio_by : List ℕ → Option (List ℕ) → Option Meter
 ratio_by s None = plain_ratio s
@@ -62,7 +64,11 @@ unfoldable pub ratio_of : List ℕ → Option Meter
 ratio_of s = ratio_by s (after_prefix (codes "(") s)
 
 unfoldable pub meter_at : List ℕ → Option Meter
-meter_at s = if bytes_eq s (codes "C") then Some Meter.Common else (if bytes_eq s (codes "C|") then Some Meter.Cut else (if bytes_eq s (codes "none") then Some Meter.Free else (if bytes_eq s [] then Some Meter.Free else ratio_of s)))
+meter_at s =
+    if bytes_eq s (codes "C") then Some Meter.Common
+    else (if bytes_eq s (codes "C|") then Some Meter.Cut
+    else (if bytes_eq s (codes "none") then Some Meter.Free
+    else (if bytes_eq s [] then Some Meter.Free else ratio_of s)))
 
 unfoldable pub meter_of : List ℕ → Option Meter
 meter_of text = meter_at (trimmed text)
@@ -73,12 +79,15 @@ one_over (Some n) = Some (record { num = 1; den = n })
 
 -- a unit length is 1, or 1 over a halving
 unfoldable pub unit_at : List ℕ → Option Frac
-unit_at s = if bytes_eq s (codes "1") then Some (record { num = 1; den = 1 }) else one_over (below_behind (after_prefix (codes "1/") s))
+unit_at s =
+    if bytes_eq s (codes "1") then Some (record { num = 1; den = 1 })
+    else one_over (below_behind (after_prefix (codes "1/") s))
 
 unfoldable pub unit_of : List ℕ → Option Frac
 unit_of text = unit_at (trimmed text)
 
 -- without a unit: a sixteenth where the meter is below 3/4, else an eighth
 abbrev pub default_unit : Meter → Frac
-default_unit (Meter.Ratio num den) = if nat_lt (4 * num) (3 * den) then record { num = 1; den = 16 } else record { num = 1; den = 8 }
+default_unit (Meter.Ratio num den) =
+    if nat_lt (4 * num) (3 * den) then record { num = 1; den = 16 } else record { num = 1; den = 8 }
 default_unit _ = record { num = 1; den = 8 }

@@ -68,8 +68,8 @@ property_meant (name_property clef) = VoiceWord.Names (clef_meant clef)
 property_meant (stem_property way) = VoiceWord.Asks way
 property_meant (other_property word) = VoiceWord.Passed
 
--- A voice is an id of at most 20 bytes, the first word of the text, and properties, which are parted at blanks outside quotes; no quote
--- stands open behind the id. Of several clefs the last counts, and of several ways of stems.
+-- A voice is an id of at most 20 bytes, the first word of the text, and properties, which are parted at blanks outside
+-- quotes; no quote stands open behind the id. Of several clefs the last counts, and of several ways of stems.
 pub record SaysVoice (text : List ℕ) (voice : VoiceDef) : Type 0 where
   pub id : List ℕ
   pub rest : List ℕ

@@ -11,7 +11,10 @@ use Rattle.abc_field.specs.Last.{last_of}
 use Rattle.abc_field.specs.Words.{next_word, properties_of, ends_quoted, after_prefix}
 
 abbrev pub wish_of : List ℕ → Option Wish
-wish_of w = if bytes_eq w (codes "up") then Some Wish.Up else (if bytes_eq w (codes "down") then Some Wish.Down else (if bytes_eq w (codes "auto") then Some Wish.Auto else None))
+wish_of w =
+    if bytes_eq w (codes "up") then Some Wish.Up
+    else (if bytes_eq w (codes "down") then Some Wish.Down
+    else (if bytes_eq w (codes "auto") then Some Wish.Auto else None))
 
 -- a property: `clef=` and a clef, `stem=` and a way, a clef's name, or one that is passed over
 abbrev pub named_or_passed : Option Clef → VoiceWord
@@ -44,7 +47,12 @@ wish_in _ = None
 
 -- the last clef and the last way count
 abbrev pub voice_def : List ℕ → List VoiceWord → VoiceDef
-voice_def id vs = record { id = id; clef = last_of clef_in vs; stem = unwrap_or (last_of wish_in vs) Wish.Auto; asks = is_some (last_of wish_in vs) }
+voice_def id vs = record {
+  id = id;
+  clef = last_of clef_in vs;
+  stem = unwrap_or (last_of wish_in vs) Wish.Auto;
+  asks = is_some (last_of wish_in vs);
+}
 
 -- an id has at most 20 bytes, and no quote stands open behind it
 abbrev pub is_good_voice : List ℕ → List ℕ → Bool
@@ -52,7 +60,8 @@ is_good_voice id rest = nat_le (length id) 20 && not (ends_quoted false rest)
 
 abbrev pub voice_by_id : Option (List ℕ × List ℕ) → Option VoiceDef
 voice_by_id None = None
-voice_by_id (Some next) = if is_good_voice next.0 next.1 then option_map (voice_def next.0) (voice_words (properties_of next.1)) else None
+voice_by_id (Some next) =
+    if is_good_voice next.0 next.1 then option_map (voice_def next.0) (voice_words (properties_of next.1)) else None
 
 -- the id is the first word; quotes count in what follows it
 unfoldable pub voice_of : List ℕ → Option VoiceDef

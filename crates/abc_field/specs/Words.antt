@@ -1,4 +1,5 @@
--- Words of a text: what stands between its spaces and tabs. Where quotes count, what stands between two of them is not parted.
+-- Words of a text: what stands between its spaces and tabs. Where quotes count,
+-- what stands between two of them is not parted.
 use Prim.Native.Char.{code}
 use Rattle.std.specs.Prelude.{ℕ, suc, List, [], ◌∷◌, Bool, true, false, ◌==◌, ◌&&◌, not, if◌then◌else◌, filter, take}
 use Rattle.std.specs.Prelude.{drop, length, nat_eq, Option, Some, None}
@@ -20,7 +21,9 @@ parts_words quoted b = is_blank b && not quoted
 -- the pieces between blanks, empty ones too
 abbrev pub pieces : Bool → Bool → List ℕ → List (List ℕ)
 pieces quotes quoted [] = [] ∷ []
-pieces quotes quoted (b ∷ s) = if parts_words quoted b then [] ∷ pieces quotes false s else onto_first b (pieces quotes (quoted_after quotes quoted b) s)
+pieces quotes quoted (b ∷ s) =
+    if parts_words quoted b then [] ∷ pieces quotes false s
+    else onto_first b (pieces quotes (quoted_after quotes quoted b) s)
 
 -- the pieces that have a byte
 unfoldable pub words_in : Bool → List ℕ → List (List ℕ)
@@ -46,11 +49,13 @@ trimmed s = between_blanks s
 -- What the code reads, one word after another: how long the word at the front is, and the word with what follows it.
 abbrev pub word_len : Bool → Bool → List ℕ → ℕ
 word_len quotes quoted [] = 0
-word_len quotes quoted (b ∷ s) = if parts_words quoted b then 0 else suc (word_len quotes (quoted_after quotes quoted b) s)
+word_len quotes quoted (b ∷ s) =
+    if parts_words quoted b then 0 else suc (word_len quotes (quoted_after quotes quoted b) s)
 
 abbrev pub word_and_rest : Bool → List ℕ → Option (List ℕ × List ℕ)
 word_and_rest quotes [] = None
-word_and_rest quotes (b ∷ s) = Some (take (word_len quotes false (b ∷ s)) (b ∷ s), drop (word_len quotes false (b ∷ s)) (b ∷ s))
+word_and_rest quotes (b ∷ s) =
+    Some (take (word_len quotes false (b ∷ s)) (b ∷ s), drop (word_len quotes false (b ∷ s)) (b ∷ s))
 
 unfoldable pub next_word : Bool → List ℕ → Option (List ℕ × List ℕ)
 next_word quotes s = word_and_rest quotes (after_blanks s)

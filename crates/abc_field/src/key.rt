@@ -448,7 +448,8 @@ fn with_next_mode<'a>(
     rest: &'a [u8],
 ) -> (KeyStart, &'a [u8])
     requires { words_of text.now ≡ word.now ∷ words_of rest.now }
-    ensures { (result.0, words_of result.1.now) ≡ with_next_mode letter alter word.now (words_of rest.now) (mode_of word.now) }
+    ensures { (result.0, words_of result.1.now)
+        ≡ with_next_mode letter alter word.now (words_of rest.now) (mode_of word.now) }
 {
     match mode_of(word) {
         Some(mode) => (key_start(letter, alter, mode), rest),

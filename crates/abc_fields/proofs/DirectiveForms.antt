@@ -72,11 +72,16 @@ kind-begins (a ∷ []) = tt
 kind-begins (a ∷ b ∷ s) =
     cond_both (is_percent_line (a ∷ b ∷ s)) _ _ (Begins (a ∷ b ∷ s))
     (λ e. let parts = and_parts _ _ e in
-    record { lead = percents; text = s; led = ap (λ x. pair x b s) (eqb-true a 37 parts.0) ∙ ap (λ x. pair 37 x s) (eqb-true b 37 parts.1) })
+    record {
+      lead = percents;
+      text = s;
+      led = ap (λ x. pair x b s) (eqb-true a 37 parts.0) ∙ ap (λ x. pair 37 x s) (eqb-true b 37 parts.1);
+    })
     (λ _. cond_both (is_field (a ∷ b ∷ s)) _ _ (Begins (a ∷ b ∷ s))
     (λ e.
     let colon = ap (λ x. pair a x s) (eqb-true b 58 (and_parts _ _ (and_parts _ _ e).0).1) in
-    byte_case (Begins (a ∷ b ∷ s)) a 73 _ _ (λ is. record { lead = instruction; text = s; led = colon ∙ ap (λ x. pair x 58 s) is })
+    byte_case (Begins (a ∷ b ∷ s)) a 73 _ _
+    (λ is. record { lead = instruction; text = s; led = colon ∙ ap (λ x. pair x 58 s) is })
     (λ _. record { rest = s; cut = colon }))
     (λ _. tt))
 
@@ -103,9 +108,12 @@ stops-parts (b ∷ s) stops = not-false (is_blank b) stops
 -- the text without the blanks at its start, from its first word on
 word-found : (text name after : List ℕ) → IsFirstWord text name after → after_blanks text ≡ name ++ after
 word-found text name after first =
-    ap after_blanks first.cut ∙ blanks-passed first.blanks (name ++ after) first.blank ∙ begun name first.some first.whole
+    ap after_blanks first.cut
+    ∙ blanks-passed first.blanks (name ++ after) first.blank
+    ∙ begun name first.some first.whole
   where
-    begun : (name : List ℕ) → not (is_empty name) ≡ true → list_all unblank name ≡ true → after_blanks (name ++ after) ≡ name ++ after
+    begun : (name : List ℕ)
+        → not (is_empty name) ≡ true → list_all unblank name ≡ true → after_blanks (name ++ after) ≡ name ++ after
     begun [] some whole = cc
     begun (b ∷ name) some whole = word-stays (b ∷ (name ++ after)) (not-true (is_blank b) (and_parts _ _ whole).0)
 
@@ -114,9 +122,11 @@ pub directive-read : (line name says : List ℕ) → IsDirective line name says 
 unfolding said_by name_of rest_of
 directive-read line name says is =
     let word = is.named in
-    let size : name_len (name ++ is.after) ≡ length name = prefix-stops unblank name is.after word.whole (name-stops is.after word.parted) in
+    let size : name_len (name ++ is.after) ≡ length name =
+    prefix-stops unblank name is.after word.whole (name-stops is.after word.parted) in
     let same : bytes_eq name name ≡ true = (bytes_eq-Decides name name).1 refl in
-    let left = bare-trimmed is.after says (bare-stops says is.bare.0) (bare-stops (reverse says) is.bare.1) is.between in
+    let left =
+    bare-trimmed is.after says (bare-stops says is.bare.0) (bare-stops (reverse says) is.bare.1) is.between in
     rw (is.led, lead-kind is.lead is.text, lead-text is.lead is.text, word-found is.text name is.after word)
     (rw size (rw (take-append_seam name is.after, same, drop-append_seam name is.after, left) refl))
 
@@ -152,6 +162,7 @@ kind-takes line name LineKind.Directive some led =
     (λ _. tt)
 kind-takes line name _ some begins = tt
 
-pub directive-takes : (line name : List ℕ) → not (is_empty name) ≡ true → IfSome (said_by name line) (IsDirective line name)
+pub directive-takes : (line name : List ℕ)
+    → not (is_empty name) ≡ true → IfSome (said_by name line) (IsDirective line name)
 unfolding said_by
 directive-takes line name some = kind-takes line name (kind_of line) some (kind-begins line)

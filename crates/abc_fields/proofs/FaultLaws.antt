@@ -27,7 +27,8 @@ ids-put ids (Ok f) fs = refl
 ids-put ids (Err kind) fs = refl
 
 ids-push : (ids : List (List ℕ)) (lines : List Line) (line : Line)
-    → fold ids_after ids (fields_of (lines ++ line ∷ [])) ≡ ids_with (fold ids_after ids (fields_of lines)) (field_of line.text)
+    → fold ids_after ids (fields_of (lines ++ line ∷ []))
+    ≡ ids_with (fold ids_after ids (fields_of lines)) (field_of line.text)
 ids-push ids [] line = ids-put ids (field_of line.text) []
 ids-push ids (first ∷ lines) line =
     let read = field_of first.text in
@@ -45,25 +46,31 @@ fault-is before line = by_reading (field_of line.text) refl
         → IfSome (field_fault (ids_of (fields_of before)) line read) (IsFaultBehind before line)
     by_reading (Err kind) e = inl (record { kind = kind; bad = line-bad line.text kind e; is = refl })
     by_reading (Ok f) e =
-        cond_both (nat_lt 16 (length (ids_after (ids_of (fields_of before)) f))) _ _ (λ o. IfSome o (IsFaultBehind before line))
+        cond_both (nat_lt 16 (length (ids_after (ids_of (fields_of before)) f))) _ _
+        (λ o. IfSome o (IsFaultBehind before line))
         (λ many. inr (record {
           field = f;
           says = line-says line.text f e;
-          many = subst (λ ids. 16 < length ids) (sym (fold-append ids_after [] (fields_of before) (f ∷ []))) (ltb-true 16 _ many);
+          many =
+              subst (λ ids. 16 < length ids) (sym (fold-append ids_after [] (fields_of before) (f ∷ [])))
+              (ltb-true 16 _ many);
           is = refl;
         }))
         (λ few. tt)
 
-fault-reaches : (before : List Line) (line : Line) (fault : Fault) → IsFaultBehind before line fault → fault_of_line before line ≡ Some fault
+fault-reaches : (before : List Line) (line : Line) (fault : Fault)
+    → IsFaultBehind before line fault → fault_of_line before line ≡ Some fault
 fault-reaches before line fault (inl bad) = rw (line-refused line.text bad.kind bad.bad) (ap Some bad.is)
 fault-reaches before line fault (inr voice) =
-    let more = subst (λ ids. 16 < length ids) (fold-append ids_after [] (fields_of before) (voice.field ∷ [])) voice.many in
+    let more =
+    subst (λ ids. 16 < length ids) (fold-append ids_after [] (fields_of before) (voice.field ∷ [])) voice.many in
     let many : nat_lt 16 (length (ids_after (ids_of (fields_of before)) voice.field)) ≡ true = lt-ltb 16 _ more in
     rw (line-read line.text voice.field voice.says, many) (ap Some voice.is)
 
 -- The same behind lines that were passed already.
 abbrev ClearBehind : List Line → List Line → Type 0
-ClearBehind done lines = (before : List Line) (line : Line) (after : List Line) (fault : Fault) → lines ≡ before ++ line ∷ after
+ClearBehind done lines =
+    (before : List Line) (line : Line) (after : List Line) (fault : Fault) → lines ≡ before ++ line ∷ after
     → IsFaultBehind (done ++ before) line fault → ⊥
 
 record FirstBehind (done lines : List Line) (fault : Fault) : Type 0 where
@@ -82,7 +89,8 @@ module _ (done : List Line) (line : Line) (none : fault_of_line done line ≡ No
   one_clear : (lines : List Line) → ClearBehind (done ++ line ∷ []) lines → ClearBehind done (line ∷ lines)
   one_clear lines clear [] other after fault e is =
       let same : other ≡ line = cc in
-      let here = subst (λ l. IsFaultBehind done l fault) same (subst (λ ls. IsFaultBehind ls other fault) (append-nil done) is) in
+      let here =
+      subst (λ l. IsFaultBehind done l fault) same (subst (λ ls. IsFaultBehind ls other fault) (append-nil done) is) in
       none-some fault (sym none ∙ fault-reaches done line fault here)
   one_clear lines clear (first ∷ before) other after fault e is =
       let same : first ≡ line = cc in
@@ -90,7 +98,8 @@ module _ (done : List Line) (line : Line) (none : fault_of_line done line ≡ No
       let passed = ap (λ l. done ++ l ∷ before) same ∙ sym (append_assoc done (line ∷ []) before) in
       clear before other after fault rest (subst (λ ls. IsFaultBehind ls other fault) passed is)
 
-  later : (lines : List Line) (o : Option Fault) → MatchOption o (ClearBehind (done ++ line ∷ []) lines) (FirstBehind (done ++ line ∷ []) lines)
+  later : (lines : List Line) (o : Option Fault)
+      → MatchOption o (ClearBehind (done ++ line ∷ []) lines) (FirstBehind (done ++ line ∷ []) lines)
       → MatchOption o (ClearBehind done (line ∷ lines)) (FirstBehind done (line ∷ lines))
   later lines None clear = one_clear lines clear
   later lines (Some fault) first =
@@ -103,37 +112,52 @@ module _ (done : List Line) (line : Line) (none : fault_of_line done line ≡ No
         clear = one_clear first.before first.clear;
       }
 
-found : (lines done : List Line) → MatchOption (first_fault (ids_of (fields_of done)) lines) (ClearBehind done lines) (FirstBehind done lines)
+found : (lines done : List Line)
+    → MatchOption (first_fault (ids_of (fields_of done)) lines) (ClearBehind done lines) (FirstBehind done lines)
 found [] done = nothing_clear done
 found (line ∷ lines) done =
     let passed : List Line = done ++ line ∷ [] in
     let ids : List (List ℕ) = ids_with (ids_of (fields_of done)) (field_of line.text) in
-    option_case (λ o. MatchOption (option_or o (first_fault ids lines)) (ClearBehind done (line ∷ lines)) (FirstBehind done (line ∷ lines)))
+    option_case (λ o.
+    MatchOption (option_or o (first_fault ids lines)) (ClearBehind done (line ∷ lines))
+    (FirstBehind done (line ∷ lines)))
     (fault_of_line done line)
     (λ fault e. record {
       before = [];
       line = line;
       after = lines;
       cut = refl;
-      is = subst (λ ls. IsFaultBehind ls line fault) (sym (append-nil done)) (some_holds (IsFaultBehind done line) e (fault-is done line));
+      is =
+          subst (λ ls. IsFaultBehind ls line fault) (sym (append-nil done))
+          (some_holds (IsFaultBehind done line) e (fault-is done line));
       clear = nothing_clear done;
     })
     (λ none. later done line none lines (first_fault ids lines) (rw (← ids-push [] done line) (found lines passed)))
 
 -- The fault of a header is the first of its lines.
-by-place : (tune : TuneText) (place : Option ℕ) → MatchOption (fault_by tune place) (IsClearBy tune place) (IsFaultBy tune place)
+by-place : (tune : TuneText) (place : Option ℕ)
+    → MatchOption (fault_by tune place) (IsClearBy tune place) (IsFaultBy tune place)
 by-place tune None = refl
 by-place tune (Some place) = whole (first_fault [] (head_lines tune place)) (found (head_lines tune place) [])
   where
-    whole : (o : Option Fault) → MatchOption o (ClearBehind [] (head_lines tune place)) (FirstBehind [] (head_lines tune place))
+    whole : (o : Option Fault)
+        → MatchOption o (ClearBehind [] (head_lines tune place)) (FirstBehind [] (head_lines tune place))
         → MatchOption o (IsClearBy tune (Some place)) (IsFaultBy tune (Some place))
     whole None clear = clear
     whole (Some fault) first =
-        record { before = first.before; line = first.line; after = first.after; cut = first.cut; is = first.is; clear = first.clear }
+        record {
+          before = first.before;
+          line = first.line;
+          after = first.after;
+          cut = first.cut;
+          is = first.is;
+          clear = first.clear;
+        }
 
 pub header-clear : (tune : TuneText) → header_fault tune ≡ None → IsClearHeader tune
 unfolding header_fault
-header-clear tune h = MatchOption-at_none (IsClearHeader tune) (IsFaultOfHeader tune) h (by-place tune (key_place tune.lines))
+header-clear tune h =
+    MatchOption-at_none (IsClearHeader tune) (IsFaultOfHeader tune) h (by-place tune (key_place tune.lines))
 
 pub header-refusal : (tune : TuneText) (e : TuneError) → IsHeaderFault tune e → IsHeaderRefusal tune e
 unfolding header_fault

@@ -44,7 +44,8 @@ record Reads {X : Type 0} (States : Line → X → Type 0) (f : Line → Option 
 
 -- The last that is stated.
 module _ {X : Type 0} (States : Line → X → Type 0) (f : Line → Option X) (reads : Reads States f) where
-  last_more : (line : Line) (lines : List Line) (o : Option X) → IsLastIfAny States lines o → IsLastIfAny States (line ∷ lines) (option_or o (f line))
+  last_more : (line : Line) (lines : List Line) (o : Option X)
+      → IsLastIfAny States lines o → IsLastIfAny States (line ∷ lines) (option_or o (f line))
   last_more line lines (Some x) last =
       record {
         before = line ∷ last.before;
@@ -56,7 +57,14 @@ module _ {X : Type 0} (States : Line → X → Type 0) (f : Line → Option X) (
       }
   last_more line lines None silent =
       option_case (IsLastIfAny States (line ∷ lines)) (f line)
-      (λ x e. record { before = []; line = line; after = lines; cut = refl; states = some_holds (States line) e (reads.takes line); silent = silent })
+      (λ x e. record {
+        before = [];
+        line = line;
+        after = lines;
+        cut = refl;
+        states = some_holds (States line) e (reads.takes line);
+        silent = silent;
+      })
       (λ none. (λ x states. none-some x (sym none ∙ reads.reaches line x states), silent))
 
   last-is : (lines : List Line) → IsLastIfAny States lines (last_of f lines)
@@ -66,9 +74,11 @@ module _ {X : Type 0} (States : Line → X → Type 0) (f : Line → Option X) (
   silent-unread : (lines : List Line) → AreSilent States lines → last_of f lines ≡ None
   silent-unread [] silent = refl
   silent-unread (line ∷ lines) silent =
-      rw (silent-unread lines silent.1) (nothing (f line) (λ x e. some_holds (States line) e (reads.takes line)) silent.0)
+      rw (silent-unread lines silent.1)
+      (nothing (f line) (λ x e. some_holds (States line) e (reads.takes line)) silent.0)
 
-  last-behind : (before after : List Line) (line : Line) (x : X) → last_of f (line ∷ after) ≡ Some x → last_of f (before ++ line ∷ after) ≡ Some x
+  last-behind : (before after : List Line) (line : Line) (x : X)
+      → last_of f (line ∷ after) ≡ Some x → last_of f (before ++ line ∷ after) ≡ Some x
   last-behind [] after line x h = h
   last-behind (first ∷ before) after line x h = rw (last-behind before after line x h) refl
 
@@ -85,7 +95,8 @@ module _ {X : Type 0} (States : Line → X → Type 0) (f : Line → Option X) (
       either None silent = inr (silent, refl)
       either (Some x) last = inl last
 
-  last-or-one : (default : X) (lines : List Line) (x : X) → IsLastOr States default lines x → x ≡ unwrap_or (last_of f lines) default
+  last-or-one : (default : X) (lines : List Line) (x : X)
+      → IsLastOr States default lines x → x ≡ unwrap_or (last_of f lines) default
   last-or-one default lines x (inl last) = ap (λ o. unwrap_or o default) (last-one lines (Some x) last)
   last-or-one default lines x (inr none) = none.1 ∙ ap (λ o. unwrap_or o default) (last-one lines None none.0)
 
@@ -94,10 +105,14 @@ length-reads : (name : List ℕ) → not (is_empty name) ≡ true → Reads (Sta
 unfolding line_length
 length-reads name some =
     record {
-      takes = λ line. some_then (StatesLength name line) length_of (said_by name line.text) (directive-takes line.text name some)
+      takes =
+          λ line.
+          some_then (StatesLength name line) length_of (said_by name line.text) (directive-takes line.text name some)
           (λ text directive. IfSome_then (length_of text) (length-writes text)
           (λ _ writes. record { text = text; directive = directive; writes = writes }));
-      reaches = λ line size states. rw (directive-read line.text name states.text states.directive) (length-read states.text size states.writes);
+      reaches =
+          λ line size states.
+          rw (directive-read line.text name states.text states.directive) (length-read states.text size states.writes);
     }
 
 scale-reads : Reads StatesScale line_scale
@@ -105,10 +120,14 @@ unfolding line_scale
 scale-reads =
     let name : List ℕ = codes "scale" in
     record {
-      takes = λ line. some_then (StatesScale line) scale_of (said_by name line.text) (directive-takes line.text name refl)
+      takes =
+          λ line. some_then (StatesScale line) scale_of (said_by name line.text) (directive-takes line.text name refl)
           (λ text directive. IfSome_then (scale_of text) (scale-writes text)
           (λ _ writes. record { text = text; directive = directive; writes = writes }));
-      reaches = λ line percent states. rw (directive-read line.text name states.text states.directive) (scale-read states.text percent states.writes);
+      reaches =
+          λ line percent states.
+          rw (directive-read line.text name states.text states.directive)
+          (scale-read states.text percent states.writes);
     }
 
 breaks-reads : Reads StatesBreaks line_breaks
@@ -116,10 +135,13 @@ unfolding line_breaks
 breaks-reads =
     let name : List ℕ = codes "linebreak" in
     record {
-      takes = λ line. some_then (StatesBreaks line) breaks_of (said_by name line.text) (directive-takes line.text name refl)
+      takes =
+          λ line. some_then (StatesBreaks line) breaks_of (said_by name line.text) (directive-takes line.text name refl)
           (λ text directive. some_from (breaks_of text)
           (λ breaks e. record { text = text; directive = directive; says = breaks-says text breaks e }));
-      reaches = λ line breaks states. rw (directive-read line.text name states.text states.directive) (breaks-read states.text breaks states.says);
+      reaches =
+          λ line breaks states.
+          rw (directive-read line.text name states.text states.directive) (breaks-read states.text breaks states.says);
     }
 
 spread-reads : Reads StatesSpread line_spread
@@ -127,10 +149,13 @@ unfolding line_spread
 spread-reads =
     let name : List ℕ = codes "propagate-accidentals" in
     record {
-      takes = λ line. some_then (StatesSpread line) spread_of (said_by name line.text) (directive-takes line.text name refl)
+      takes =
+          λ line. some_then (StatesSpread line) spread_of (said_by name line.text) (directive-takes line.text name refl)
           (λ text directive. some_from (spread_of text)
           (λ spread e. record { text = text; directive = directive; says = spread-says text spread e }));
-      reaches = λ line spread states. rw (directive-read line.text name states.text states.directive) (spread-read states.text spread states.says);
+      reaches =
+          λ line spread states.
+          rw (directive-read line.text name states.text states.directive) (spread-read states.text spread states.says);
     }
 
 staves-reads : Reads StatesStaves line_staves
@@ -138,7 +163,9 @@ unfolding line_staves
 staves-reads =
     record {
       takes = λ line. stated (said_by (codes "score") line.text) line (directive-takes line.text (codes "score") refl);
-      reaches = λ line staves states. rw (directive-read line.text (codes "score") staves.text states.directive, states.number) refl;
+      reaches =
+          λ line staves states.
+          rw (directive-read line.text (codes "score") staves.text states.directive, states.number) refl;
     }
   where
     stated : (o : Option (List ℕ)) (line : Line) → IfSome o (IsDirective line.text (codes "score"))
@@ -197,7 +224,10 @@ meter-reads =
           (λ meter e.
           let read = sym (meter-once has.rest) ∙ ap meter_of has.is ∙ e in
           record { text = has.rest; field = has.cut; says = meter-says has.rest meter read }));
-      reaches = λ line meter states. rw (states.field, meter-letter states.text) (meter-once states.text ∙ meter-read states.text meter states.says);
+      reaches =
+          λ line meter states.
+          rw (states.field, meter-letter states.text)
+          (meter-once states.text ∙ meter-read states.text meter states.says);
     }
 
 unit-reads : Reads StatesUnit line_unit
@@ -209,7 +239,9 @@ unit-reads =
           (λ unit e.
           let read = sym (unit-once has.rest) ∙ ap unit_of has.is ∙ e in
           record { text = has.rest; field = has.cut; says = unit-says has.rest unit read }));
-      reaches = λ line unit states. rw (states.field, unit-letter states.text) (unit-once states.text ∙ unit-read states.text unit states.says);
+      reaches =
+          λ line unit states.
+          rw (states.field, unit-letter states.text) (unit-once states.text ∙ unit-read states.text unit states.says);
     }
 
 -- The defaults.
@@ -226,26 +258,36 @@ defaults-are lines =
     }
 
 -- and no other values are
-pub defaults-one : (lines : List Line) (defaults : Defaults) → AreDefaultsBy lines defaults → defaults ≡ defaults_of lines
+pub defaults-one : (lines : List Line) (defaults : Defaults)
+    → AreDefaultsBy lines defaults → defaults ≡ defaults_of lines
 defaults-one lines defaults are =
     let meter = last-or-one StatesMeter line_meter meter-reads Meter.Free lines defaults.meter are.meter in
     let unit = last-one StatesUnit line_unit unit-reads lines defaults.unit are.unit in
     let breaks = last-or-one StatesBreaks line_breaks breaks-reads default_breaks lines defaults.breaks are.breaks in
     let spread = last-or-one StatesSpread line_spread spread-reads Spread.Pitch lines defaults.spread are.spread in
     let staves = last-one StatesStaves line_staves staves-reads lines defaults.staves are.staves in
-    let same : record { meter = defaults.meter; unit = defaults.unit; breaks = defaults.breaks; spread = defaults.spread; staves = defaults.staves }
+    let same : record {
+      meter = defaults.meter;
+      unit = defaults.unit;
+      breaks = defaults.breaks;
+      spread = defaults.spread;
+      staves = defaults.staves;
+    }
     ≡ defaults_of lines = rw (meter, unit, breaks, spread, staves) refl in
     same
 
 -- The staves of a tune.
-staves-by : (lines : List Line) (first : ℕ) (other : Option Line) → AreStavesBy lines first other (staves_by (last_of line_staves lines) other first)
+staves-by : (lines : List Line) (first : ℕ) (other : Option Line)
+    → AreStavesBy lines first other (staves_by (last_of line_staves lines) other first)
 staves-by lines first other = either (last_of line_staves lines) (last-is StatesStaves line_staves staves-reads lines)
   where
-    either : (own : Option Line) → IsLastIfAny StatesStaves lines own → AreStavesBy lines first other (staves_by own other first)
+    either : (own : Option Line)
+        → IsLastIfAny StatesStaves lines own → AreStavesBy lines first other (staves_by own other first)
     either None silent = inr (silent, refl)
     either (Some own) last = inl (own, last, refl)
 
-staves_up_to : (tune : TuneText) (defaults : Defaults) (header : Header) (place : Option ℕ) → IsHeaderBy tune defaults header place
+staves_up_to : (tune : TuneText) (defaults : Defaults) (header : Header) (place : Option ℕ)
+    → IsHeaderBy tune defaults header place
     → AreStavesUpTo tune defaults.staves place header.staves
 staves_up_to tune defaults header None h = h
 staves_up_to tune defaults header (Some place) h =
@@ -262,12 +304,14 @@ header_staves tune defaults header h = staves_up_to tune defaults header (key_pl
 length-or : (name : List ℕ) (default : ℕ) (lines : List Line) → not (is_empty name) ≡ true
     → IsLastOr (StatesLength name) default lines (length_in name default lines)
 unfolding length_in
-length-or name default lines some = last-or (StatesLength name) (line_length name) (length-reads name some) default lines
+length-or name default lines some =
+    last-or (StatesLength name) (line_length name) (length-reads name some) default lines
 
 length-one : (name : List ℕ) (default : ℕ) (lines : List Line) (size : ℕ) → not (is_empty name) ≡ true
     → IsLastOr (StatesLength name) default lines size → size ≡ length_in name default lines
 unfolding length_in
-length-one name default lines size some last = last-or-one (StatesLength name) (line_length name) (length-reads name some) default lines size last
+length-one name default lines size some last =
+    last-or-one (StatesLength name) (line_length name) (length-reads name some) default lines size last
 
 stated-is : (lines : List Line) → IsStatedPaper lines (stated lines)
 unfolding scale_in
@@ -292,7 +336,15 @@ stated-one lines p is =
     let top = length-one (codes "topmargin") 2800 lines p.top refl is.top in
     let bottom = length-one (codes "botmargin") 2800 lines p.bottom refl is.bottom in
     let scale = last-or-one StatesScale line_scale scale-reads 100 lines p.scale is.scale in
-    let same : record { wide = p.wide; high = p.high; left = p.left; right = p.right; top = p.top; bottom = p.bottom; scale = p.scale }
+    let same : record {
+      wide = p.wide;
+      high = p.high;
+      left = p.left;
+      right = p.right;
+      top = p.top;
+      bottom = p.bottom;
+      scale = p.scale;
+    }
     ≡ stated lines = rw (wide, high, left, right, top, bottom, scale) refl in
     same
 
@@ -303,15 +355,22 @@ roomy paper room =
     rw (wide, high) refl
 
 room_of : (paper : Paper) → is_wide_enough paper ≡ true → HasBodyRoom paper
-room_of paper e = let parts = and_parts _ _ e in (leb-true 10000 (body_width paper) parts.0, leb-true 10000 (body_height paper) parts.1)
+room_of paper e =
+    let parts = and_parts _ _ e in
+    (leb-true 10000 (body_width paper) parts.0, leb-true 10000 (body_height paper) parts.1)
 
 -- what is read is the paper
 pub paper-is : (lines : List Line) → IsPaperBy lines (paper_of lines)
 unfolding paper_of
 paper-is lines =
     cond_both (is_wide_enough (stated lines)) (stated lines) default_paper (IsPaperBy lines)
-    (λ wide. record { stated = stated lines; states = stated-is lines; chosen = inl (room_of (stated lines) wide, refl) })
-    (λ small. record { stated = stated lines; states = stated-is lines; chosen = inr (λ room. both_ways _ small (roomy (stated lines) room), refl) })
+    (λ wide.
+    record { stated = stated lines; states = stated-is lines; chosen = inl (room_of (stated lines) wide, refl) })
+    (λ small. record {
+      stated = stated lines;
+      states = stated-is lines;
+      chosen = inr (λ room. both_ways _ small (roomy (stated lines) room), refl);
+    })
 
 chosen-one : (p paper : Paper) → (HasBodyRoom p × (paper ≡ p)) ⊎ ((HasBodyRoom p → ⊥) × (paper ≡ default_paper))
     → paper ≡ cond (is_wide_enough p) p default_paper
@@ -322,4 +381,5 @@ chosen-one p paper (inr none) = rw (false_from_ne_true _ (λ wide. none.0 (room_
 pub paper-one : (lines : List Line) (paper : Paper) → IsPaperBy lines paper → paper ≡ paper_of lines
 unfolding paper_of
 paper-one lines paper is =
-    chosen-one is.stated paper is.chosen ∙ ap (λ p. cond (is_wide_enough p) p default_paper) (stated-one lines is.stated is.states)
+    chosen-one is.stated paper is.chosen
+    ∙ ap (λ p. cond (is_wide_enough p) p default_paper) (stated-one lines is.stated is.states)

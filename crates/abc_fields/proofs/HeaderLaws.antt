@@ -24,7 +24,8 @@ or-some : {X : Type 0} (P : X → Type 0) (a b : Option X) → IfSome a P → If
 or-some P None b ha hb = hb
 or-some P (Some x) b ha hb = ha
 
-last-good : {X : Type 0} (P : X → Type 0) (f : Field → Option X) → ((field : Field) → IsGoodField field → IfSome (f field) P) → (fs : List Field)
+last-good : {X : Type 0} (P : X → Type 0) (f : Field → Option X)
+    → ((field : Field) → IsGoodField field → IfSome (f field) P) → (fs : List Field)
     → AreGoodFields fs → IfSome (last_of f fs) P
 last-good P f one [] all = tt
 last-good P f one (field ∷ fs) all = or-some P (last_of f fs) (f field) (last-good P f one fs all.1) (one field all.0)
@@ -54,7 +55,8 @@ unit_in-good (Some u) h = h
 pub last_unit-good : (fs : List Field) → AreGoodFields fs → GoodUnitIn (last_of unit_in fs)
 last_unit-good fs all = unit_in-good (last_of unit_in fs) (last-good (λ u. IsGoodUnit u) unit_in unit-some fs all)
 
-pub good_copied : (o : Option (Bor KeyText)) → IfSome (option_copied o) (λ k. IsGoodKeyText k) → IfSome o (λ text. IsGoodKeyText text.now)
+pub good_copied : (o : Option (Bor KeyText))
+    → IfSome (option_copied o) (λ k. IsGoodKeyText k) → IfSome o (λ text. IsGoodKeyText text.now)
 good_copied None h = tt
 good_copied (Some text) h = h
 
@@ -65,7 +67,8 @@ good_push (g ∷ fs) f all good = (all.0, good_push fs f all.1 good)
 count_by-cons : {X : Type 0} (p : X → Bool) (x : X) (xs : List X) → count_by p (x ∷ xs) ≡ cond (p x) 1 0 + count_by p xs
 count_by-cons p x xs = sum_by-cons (λ y. cond (p y) 1 0) x xs
 
-count_by-push : {X : Type 0} (p : X → Bool) (xs : List X) (x : X) → count_by p (xs ++ x ∷ []) ≡ count_by p xs + cond (p x) 1 0
+count_by-push : {X : Type 0} (p : X → Bool) (xs : List X) (x : X)
+    → count_by p (xs ++ x ∷ []) ≡ count_by p xs + cond (p x) 1 0
 count_by-push p xs x = omega (arith, sum_by-append (λ y. cond (p y) 1 0) xs (x ∷ []), count_by-cons p x [])
 
 abbrev Once : List (List ℕ) → Type 0
@@ -82,12 +85,14 @@ once_new ids id new once x =
     by_test (bytes_eq x id)
     (λ e.
     let same : id ≡ x = sym ((bytes_eq-Decides x id).0 e) in
-    let none : count_by (bytes_eq x) ids ≡ 0 = subst (λ y. count_by (bytes_eq y) ids ≡ 0) same (none_counted (bytes_eq id) ids new) in
+    let none : count_by (bytes_eq x) ids ≡ 0 =
+    subst (λ y. count_by (bytes_eq y) ids ≡ 0) same (none_counted (bytes_eq id) ids new) in
     rw (count_by-push (bytes_eq x) ids id, none, e) (omega arith))
     (λ e. rw (count_by-push (bytes_eq x) ids id, e) (omega (arith, once x)))
 
 once_after : (ids : List (List ℕ)) (f : Field) → Once ids → Once (ids_after ids f)
-once_after ids (Field.Voice def) once = cond_both (list_any (bytes_eq def.id) ids) ids _ Once (λ known. once) (λ new. once_new ids def.id new once)
+once_after ids (Field.Voice def) once =
+    cond_both (list_any (bytes_eq def.id) ids) ids _ Once (λ known. once) (λ new. once_new ids def.id new once)
 once_after ids _ once = once
 
 once_all : (fs : List Field) (ids : List (List ℕ)) → Once ids → Once (fold ids_after ids fs)
@@ -116,9 +121,12 @@ pub record Stage (lines : List Line) (i : ℕ) (done : List Field) (known : List
   pub all_good : AreGoodFields done
   pub few_known : length known ≤ 16
 
-pub stage_more : (lines : List Line) (i : ℕ) (line : Line) (done new : List Field) (known now : List (List ℕ)) (f : Field)
-    → i < length lines → line ≡ get_or lines i line → new ≡ done ++ f ∷ [] → field_of line.text ≡ Ok f → now ≡ ids_after known f
-    → field_fault known line (Ok f) ≡ None → IsGoodField f → length now ≤ 16 → Stage lines i done known → Stage lines (i + 1) new now
+pub stage_more : (lines : List Line) (i : ℕ) (line : Line) (done new : List Field) (known now : List (List ℕ))
+    (f : Field)
+    → i < length lines → line ≡ get_or lines i line → new ≡ done ++ f ∷ [] → field_of line.text ≡ Ok f
+    → now ≡ ids_after known f
+    → field_fault known line (Ok f) ≡ None → IsGoodField f → length now ≤ 16 → Stage lines i done known
+    → Stage lines (i + 1) new now
 stage_more lines i line done new known now f inside here pushed read noted none good few stage =
     let one : i + 1 ≡ suc i = omega arith in
     let rest : List Line = drop (suc i) lines in

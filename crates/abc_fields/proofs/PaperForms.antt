@@ -30,7 +30,8 @@ read_as v rest = Some (v, rest)
 
 whole-read : (ds : List ℕ) → 1 ≤ length ds → value_of ds ≤ 100000 → whole_of ds ≡ Some (value_of ds)
 whole-read [] some few = absurd (omega (arith, some))
-whole-read (d ∷ ds) some few = let yes : nat_le (value_of (d ∷ ds)) 100000 ≡ true = le-leb (value_of (d ∷ ds)) 100000 few in rw yes refl
+whole-read (d ∷ ds) some few =
+    let yes : nat_le (value_of (d ∷ ds)) 100000 ≡ true = le-leb (value_of (d ∷ ds)) 100000 few in rw yes refl
 
 with-read : (w d : ℕ) (ds rest : List ℕ) → length (d ∷ ds) ≤ 2
     → with_decimals w (d ∷ ds) rest ≡ read_as (100 * w + value_of (take 2 ((d ∷ ds) ++ codes "00"))) rest
@@ -38,8 +39,10 @@ with-read w d [] rest few = ap (λ v. read_as v rest) (omega arith)
 with-read w d (e ∷ []) rest few = ap (λ v. read_as v rest) (omega arith)
 with-read w d (e ∷ f ∷ ds) rest few = absurd (omega (arith, few))
 
-decimals-read : (w : ℕ) (ds rest : List ℕ) → length ds ≤ 2 → list_all is_digit ds ≡ true → Stops is_digit rest → after_prefix (codes ".") rest ≡ None
-    → decimals w (point_spelled ds rest) (after_prefix (codes ".") (point_spelled ds rest)) ≡ read_as (100 * w + value_of (take 2 (ds ++ codes "00"))) rest
+decimals-read : (w : ℕ) (ds rest : List ℕ)
+    → length ds ≤ 2 → list_all is_digit ds ≡ true → Stops is_digit rest → after_prefix (codes ".") rest ≡ None
+    → decimals w (point_spelled ds rest) (after_prefix (codes ".") (point_spelled ds rest))
+    ≡ read_as (100 * w + value_of (take 2 (ds ++ codes "00"))) rest
 decimals-read w [] rest few all stops none = rw none (ap (λ v. read_as v rest) (omega arith))
 decimals-read w (d ∷ ds) rest few all stops none =
     let cut = digits-cut (d ∷ ds) rest all stops in
@@ -49,11 +52,14 @@ point-stops : (ds rest : List ℕ) → Stops is_digit rest → Stops is_digit (p
 point-stops [] rest stops = stops
 point-stops (d ∷ ds) rest stops = refl
 
-number-read : (number : PaperNumber) (rest : List ℕ) → IsGoodNumber number → value_of number.whole ≤ 100000 → Stops is_digit rest
-    → after_prefix (codes ".") rest ≡ None → hundredths_of (number_spelled number rest) ≡ read_as (hundredths number) rest
+number-read : (number : PaperNumber) (rest : List ℕ)
+    → IsGoodNumber number → value_of number.whole ≤ 100000 → Stops is_digit rest
+    → after_prefix (codes ".") rest ≡ None
+    → hundredths_of (number_spelled number rest) ≡ read_as (hundredths number) rest
 unfolding hundredths_of
 number-read number rest good few stops none =
-    let cut = digits-cut number.whole (point_spelled number.decimals rest) good.whole_digits (point-stops number.decimals rest stops) in
+    let cut = digits-cut number.whole (point_spelled number.decimals rest) good.whole_digits
+    (point-stops number.decimals rest stops) in
     rw (cut.0, cut.1, whole-read number.whole good.some few)
     (decimals-read (value_of number.whole) number.decimals rest good.few good.decimal_digits stops none)
 
@@ -93,15 +99,18 @@ with-takes w ds (a ∷ b ∷ []) rest whole all =
     }
 with-takes w ds _ rest whole all = tt
 
-decimals-takes : (w : ℕ) (ds s : List ℕ) → IsWhole ds w → IfSome (decimals w s (after_prefix (codes ".") s)) (IsNumberBefore (ds ++ s))
+decimals-takes : (w : ℕ) (ds s : List ℕ)
+    → IsWhole ds w → IfSome (decimals w s (after_prefix (codes ".") s)) (IsNumberBefore (ds ++ s))
 decimals-takes w ds s whole =
     option_case (λ o. IfSome (decimals w s o) (IsNumberBefore (ds ++ s))) (after_prefix (codes ".") s)
     (λ t e.
     let digits : List ℕ = take (digit_len t) t in
     let rest : List ℕ = drop (digit_len t) t in
     let parts = take-append-drop (digit_len t) t in
-    let same : codes "." ++ (digits ++ rest) ≡ s = ap (λ x. codes "." ++ x) parts ∙ sym (behind-takes (codes ".") s t e) in
-    subst (λ x. IfSome (with_decimals w digits rest) (IsNumberBefore (ds ++ x))) same (with-takes w ds digits rest whole (front-passes is_digit t)))
+    let same : codes "." ++ (digits ++ rest) ≡ s =
+    ap (λ x. codes "." ++ x) parts ∙ sym (behind-takes (codes ".") s t e) in
+    subst (λ x. IfSome (with_decimals w digits rest) (IsNumberBefore (ds ++ x))) same
+    (with-takes w ds digits rest whole (front-passes is_digit t)))
     (λ none. record {
       number = record { whole = ds; decimals = [] };
       good = record { some = whole.some; whole_digits = whole.all; few = omega arith; decimal_digits = refl };
@@ -116,7 +125,8 @@ number-takes s =
     let left : List ℕ = drop (digit_len s) s in
     some_then (IsNumberBefore s) _ (whole_of digits) (whole-takes digits (front-passes is_digit s))
     (λ w whole.
-    subst (λ t. IfSome (decimals w left (after_prefix (codes ".") left)) (IsNumberBefore t)) (take-append-drop (digit_len s) s)
+    subst (λ t. IfSome (decimals w left (after_prefix (codes ".") left)) (IsNumberBefore t))
+    (take-append-drop (digit_len s) s)
     (decimals-takes w digits left whole))
 
 -- Units.
@@ -140,9 +150,14 @@ record IsUnit (w : List ℕ) (v size : ℕ) : Type 0 where
 
 unit-takes : (v : ℕ) (w : List ℕ) → IfSome (in_units v w) (IsUnit w v)
 unit-takes v w =
-    word_case (λ o. IfSome o (IsUnit w v)) w (codes "pt") _ _ (λ is. record { unit = points; spelled = is; meant = refl })
-    (λ _. word_case (λ o. IfSome o (IsUnit w v)) w (codes "in") _ _ (λ is. record { unit = inches; spelled = is; meant = refl })
-    (λ _. word_case (λ o. IfSome o (IsUnit w v)) w (codes "cm") _ _ (λ is. record { unit = centimetres; spelled = is; meant = refl }) (λ _. tt)))
+    word_case (λ o. IfSome o (IsUnit w v)) w (codes "pt") _ _
+    (λ is. record { unit = points; spelled = is; meant = refl })
+    (λ _.
+    word_case (λ o. IfSome o (IsUnit w v)) w (codes "in") _ _
+    (λ is. record { unit = inches; spelled = is; meant = refl })
+    (λ _.
+    word_case (λ o. IfSome o (IsUnit w v)) w (codes "cm") _ _
+    (λ is. record { unit = centimetres; spelled = is; meant = refl }) (λ _. tt)))
 
 -- a length of paper has no number past 100,000 before its point
 few_points : (unit : LengthUnit) (w d : ℕ) → in_points unit (100 * w + d) ≤ 100000 → w ≤ 100000
@@ -173,8 +188,10 @@ pub length-read : (text : List ℕ) (size : ℕ) → WritesLength text size → 
 unfolding length_of
 length-read text size writes =
     let few = subst (λ u. u ≤ 100000) (sym writes.meant) writes.small in
-    let small = few_points writes.unit (value_of writes.number.whole) (value_of (take 2 (writes.number.decimals ++ codes "00"))) few in
-    let read = number-read writes.number (length_unit_spelled writes.unit) writes.good small (unit-stops writes.unit) (unit-pointless writes.unit) in
+    let small = few_points writes.unit (value_of writes.number.whole)
+    (value_of (take 2 (writes.number.decimals ++ codes "00"))) few in
+    let read = number-read writes.number (length_unit_spelled writes.unit) writes.good small (unit-stops writes.unit)
+    (unit-pointless writes.unit) in
     let yes : nat_le size 100000 ≡ true = le-leb size 100000 writes.small in
     rw (writes.spelled, read, unit-read writes.unit (hundredths writes.number), writes.meant, yes) refl
 
@@ -210,4 +227,5 @@ scale-read text percent writes =
     let small : value_of writes.number.whole ≤ 100000 = omega (arith, writes.meant, writes.high) in
     let least : nat_le 40 percent ≡ true = le-leb 40 percent writes.low in
     let most : nat_le percent 150 ≡ true = le-leb percent 150 writes.high in
-    rw (writes.spelled, number-read writes.number [] writes.good small tt alone-pointless, writes.meant, least, most) refl
+    rw (writes.spelled, number-read writes.number [] writes.good small tt alone-pointless, writes.meant, least, most)
+    refl

@@ -92,12 +92,15 @@ pub record AreDefaultsBy (lines : List Line) (defaults : Defaults) : Type 0 wher
 -- The staves of a tune whose header has these lines and whose first line has this number: the last
 -- that its lines state, else the file's, told of at that line.
 abbrev pub AreStavesBy : List Line → ℕ → Option Line → Option Line → Type 0
-AreStavesBy lines first other staves = ((own : Line) × IsLastOf StatesStaves lines own × (staves ≡ Some own)) ⊎ (AreSilent StatesStaves lines × (staves ≡ option_map (λ (line : Line). line_of first line.text) other))
+AreStavesBy lines first other staves =
+    ((own : Line) × IsLastOf StatesStaves lines own × (staves ≡ Some own))
+    ⊎ (AreSilent StatesStaves lines × (staves ≡ option_map (λ (line : Line). line_of first line.text) other))
 
 -- a tune's header ends with its first `K:`
 abbrev pub AreStavesUpTo : TuneText → Option Line → Option ℕ → Option Line → Type 0
 AreStavesUpTo tune other None staves = ⊥
-AreStavesUpTo tune other (Some place) staves = AreStavesBy (head_lines tune place) (first_line_number tune.lines) other staves
+AreStavesUpTo tune other (Some place) staves =
+    AreStavesBy (head_lines tune place) (first_line_number tune.lines) other staves
 
 abbrev pub AreStavesOf : TuneText → Defaults → Option Line → Type 0
 AreStavesOf tune defaults staves = AreStavesUpTo tune defaults.staves (key_place tune.lines) staves
@@ -116,7 +119,8 @@ pub record IsStatedPaper (lines : List Line) (paper : Paper) : Type 0 where
 abbrev pub HasBodyRoom : Paper → Type 0
 HasBodyRoom paper = (10000 ≤ body_width paper) × (10000 ≤ body_height paper)
 
--- The paper of a book whose file header has these lines: the stated one where its body has room, and all the defaults where it has not.
+-- The paper of a book whose file header has these lines: the stated one where its body has room, and all the defaults
+-- where it has not.
 pub record IsPaperBy (lines : List Line) (paper : Paper) : Type 0 where
   pub stated : Paper
   pub states : IsStatedPaper lines stated

@@ -29,7 +29,9 @@ IsFaultBehind before line fault = HasBadText line fault ⊎ HasVoiceTooMany befo
 
 -- none of the lines is at fault behind those before it
 abbrev pub AreClear : List Line → Type 0
-AreClear lines = (before : List Line) (line : Line) (after : List Line) (fault : Fault) → lines ≡ before ++ line ∷ after → IsFaultBehind before line fault → ⊥
+AreClear lines =
+    (before : List Line) (line : Line) (after : List Line) (fault : Fault)
+    → lines ≡ before ++ line ∷ after → IsFaultBehind before line fault → ⊥
 
 -- the first fault: its line is at fault behind those before it, and none of these is
 pub record IsFirstFault (lines : List Line) (fault : Fault) : Type 0 where
@@ -40,7 +42,8 @@ pub record IsFirstFault (lines : List Line) (fault : Fault) : Type 0 where
   pub is : IsFaultBehind before line fault
   pub clear : AreClear before
 
--- the fault of a tune's header: of a tune without `K:` at its first line, else the first fault of the lines up to the first `K:`
+-- the fault of a tune's header: of a tune without `K:` at its first line,
+-- else the first fault of the lines up to the first `K:`
 abbrev pub IsFaultBy : TuneText → Option ℕ → Fault → Type 0
 IsFaultBy tune None fault = no_key tune ≡ fault
 IsFaultBy tune (Some place) fault = IsFirstFault (head_lines tune place) fault

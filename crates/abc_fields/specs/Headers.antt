@@ -126,7 +126,8 @@ line_fault kind line = record { kind = kind; line = line.number; column = 1 }
 
 abbrev pub field_fault : List (List ℕ) → Line → Result Field FaultKind → Option Fault
 field_fault ids line (Err kind) = Some (line_fault kind line)
-field_fault ids line (Ok f) = if nat_lt 16 (length (ids_after ids f)) then Some (line_fault FaultKind.TooManyVoices line) else None
+field_fault ids line (Ok f) =
+    if nat_lt 16 (length (ids_after ids f)) then Some (line_fault FaultKind.TooManyVoices line) else None
 
 abbrev pub ids_with : List (List ℕ) → Result Field FaultKind → List (List ℕ)
 ids_with ids (Ok f) = ids_after ids f
@@ -135,7 +136,8 @@ ids_with ids (Err kind) = ids
 -- the fault of the first line that has one, where those ids were mentioned before
 abbrev pub first_fault : List (List ℕ) → List Line → Option Fault
 first_fault ids [] = None
-first_fault ids (line ∷ lines) = option_or (field_fault ids line (field_of line.text)) (first_fault (ids_with ids (field_of line.text)) lines)
+first_fault ids (line ∷ lines) =
+    option_or (field_fault ids line (field_of line.text)) (first_fault (ids_with ids (field_of line.text)) lines)
 
 -- the lines of the header, the first `K:` with them
 abbrev pub head_lines : TuneText → ℕ → List Line
@@ -158,7 +160,10 @@ header_fault tune = fault_by tune (key_place tune.lines)
 
 abbrev pub IsHeaderBy : TuneText → Defaults → Header → Option ℕ → Type 0
 IsHeaderBy tune defaults header None = ⊥
-IsHeaderBy tune defaults header (Some place) = header ≡ header_of (fields_of (head_lines tune place)) defaults (staves_from (head_lines tune place) defaults (first_line_number tune.lines)) (place + 1)
+IsHeaderBy tune defaults header (Some place) =
+    header
+    ≡ header_of (fields_of (head_lines tune place)) defaults
+    (staves_from (head_lines tune place) defaults (first_line_number tune.lines)) (place + 1)
 
 -- the header of a tune that has a `K:`
 unfoldable pub IsHeaderOf : TuneText → Defaults → Header → Type 0

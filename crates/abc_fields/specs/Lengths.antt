@@ -20,7 +20,8 @@ with_decimals whole _ rest = None
 -- a point is followed by one or two digits
 abbrev pub decimals : ℕ → List ℕ → Option (List ℕ) → Option (ℕ × List ℕ)
 decimals whole rest None = Some (whole * 100, rest)
-decimals whole rest (Some behind_point) = with_decimals whole (take (digit_len behind_point) behind_point) (drop (digit_len behind_point) behind_point)
+decimals whole rest (Some behind_point) =
+    with_decimals whole (take (digit_len behind_point) behind_point) (drop (digit_len behind_point) behind_point)
 
 -- no number that counts is past 100000
 abbrev pub whole_of : List ℕ → Option ℕ
@@ -28,18 +29,24 @@ whole_of [] = None
 whole_of (d ∷ ds) = if nat_le (value_of (d ∷ ds)) 100000 then Some (value_of (d ∷ ds)) else None
 
 unfoldable pub hundredths_of : List ℕ → Option (ℕ × List ℕ)
-hundredths_of s = option_and_then (λ whole. decimals whole (drop (digit_len s) s) (after_prefix (codes ".") (drop (digit_len s) s))) (whole_of (take (digit_len s) s))
+hundredths_of s =
+    option_and_then (λ whole. decimals whole (drop (digit_len s) s) (after_prefix (codes ".") (drop (digit_len s) s)))
+    (whole_of (take (digit_len s) s))
 
 -- hundredths of a point in that many hundredths of a unit
 abbrev pub in_units : ℕ → List ℕ → Option ℕ
-in_units v w = if bytes_eq w (codes "pt") then Some v else (if bytes_eq w (codes "in") then Some (72 * v) else (if bytes_eq w (codes "cm") then Some (v * 3600 / 127) else None))
+in_units v w =
+    if bytes_eq w (codes "pt") then Some v
+    else (if bytes_eq w (codes "in") then Some (72 * v)
+    else (if bytes_eq w (codes "cm") then Some (v * 3600 / 127) else None))
 
 -- a length past 100000 is none
 abbrev pub within_paper : ℕ → Option ℕ
 within_paper u = if nat_le u 100000 then Some u else None
 
 unfoldable pub length_of : List ℕ → Option ℕ
-length_of text = option_and_then (λ number. option_and_then within_paper (in_units number.0 number.1)) (hundredths_of text)
+length_of text =
+    option_and_then (λ number. option_and_then within_paper (in_units number.0 number.1)) (hundredths_of text)
 
 abbrev pub is_scale : ℕ → Bool
 is_scale v = nat_le 40 v && nat_le v 150

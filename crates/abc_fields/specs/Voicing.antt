@@ -31,7 +31,12 @@ wish_for id _ = None
 
 -- the last clef and the last way of stems that its lines name
 abbrev pub voice_from : List Field → List ℕ → VoiceDef
-voice_from fs id = record { id = id; clef = last_of (clef_for id) fs; stem = unwrap_or (last_of (wish_for id) fs) Wish.Auto; asks = is_some (last_of (wish_for id) fs) }
+voice_from fs id = record {
+  id = id;
+  clef = last_of (clef_for id) fs;
+  stem = unwrap_or (last_of (wish_for id) fs) Wish.Auto;
+  asks = is_some (last_of (wish_for id) fs);
+}
 
 abbrev pub voices_of : List Field → List VoiceDef
 voices_of fs = map (voice_from fs) (ids_of fs)

@@ -146,7 +146,10 @@ fn read_head(
     first: u32,
 ) -> Result<Result<Header, Fault>, Memory>
     requires { IsGoodDefaults defaults.now }
-    ensures value { IfOk result (λ read. IfOk read (λ header. header ≡ header_of (fields_of lines.now) defaults.now (staves_from lines.now defaults.now first) (length lines.now))) }
+    ensures value { IfOk result (λ read.
+        IfOk read (λ header.
+        header
+        ≡ header_of (fields_of lines.now) defaults.now (staves_from lines.now defaults.now first) (length lines.now))) }
     ensures none { IfOk result (λ read. IfOk read (λ header. first_fault [] lines.now ≡ None)) }
     ensures good { IfOk result (λ read. IfOk read (λ header. HasGoodValues header)) }
     ensures fault { IfOk result (λ read. IfErr read (λ fault. first_fault [] lines.now ≡ Some fault)) }
@@ -194,7 +197,8 @@ fn read_line(alloc: Global, ids: &mut VoiceIds, line: &Line) -> Result<Result<Fi
     ensures none { IfOk result (λ read. IfOk read (λ f. field_fault ids.old line.now (Ok f) ≡ None)) }
     ensures good { IfOk result (λ read. IfOk read (λ f. IsGoodField f)) }
     ensures few { IfOk result (λ read. IfOk read (λ f. length ids.new ≤ 16)) }
-    ensures fault { IfOk result (λ read. IfErr read (λ fault. field_fault ids.old line.now (field_of line.now.text) ≡ Some fault)) }
+    ensures fault { IfOk result
+        (λ read. IfErr read (λ fault. field_fault ids.old line.now (field_of line.now.text) ≡ Some fault)) }
 {
     match field_at(alloc, line) {
         Ok(field) => noted(alloc, ids, line, field),

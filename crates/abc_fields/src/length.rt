@@ -104,7 +104,8 @@ fn whole_of(digits: &[u8]) -> Option<u64>
 /// The number of that whole part, with the decimals behind a point.
 fn decimals(whole: u64, rest: &[u8]) -> Option<(u64, &[u8])>
     requires { whole ≤ 100000 }
-    ensures value { option_map (λ w. (w.0, w.1.now)) result ≡ decimals whole rest.now (after_prefix (codes ".") rest.now) }
+    ensures value { option_map (λ w. (w.0, w.1.now)) result
+        ≡ decimals whole rest.now (after_prefix (codes ".") rest.now) }
     ensures small { IfSome result (λ w. w.0 ≤ 20000000) }
 {
     match after_prefix(rest, b".") {

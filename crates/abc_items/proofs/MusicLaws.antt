@@ -25,48 +25,78 @@ pub record LineStage (breaks : Breaks) (line : Line) (before : Body) (place : To
   pub read : ReadTo breaks.bang line so_far place
   pub reads : Reads before (tokens_give breaks line so_far) body
 
-pub line_begins : (breaks : Breaks) (line : Line) (before : Body) (place : TokenCursor) → IsStart line place → LineStage breaks line before place before
-line_begins breaks line before place start = record { so_far = []; read = read_none breaks.bang line place start; reads = reads_nothing before }
+pub line_begins : (breaks : Breaks) (line : Line) (before : Body) (place : TokenCursor)
+    → IsStart line place → LineStage breaks line before place before
+line_begins breaks line before place start =
+    record { so_far = []; read = read_none breaks.bang line place start; reads = reads_nothing before }
 
-module _ (breaks : Breaks) (line : Line) (before : Body) (place : TokenCursor) (body : Body) (stage : LineStage breaks line before place body) where
-  pub part_more : (tokens : List Placed) (next : TokenCursor) (after : Body) → LeadsTo breaks.bang line place tokens next → Reads body (tokens_give breaks line tokens) after → LineStage breaks line before next after
+module _ (breaks : Breaks) (line : Line) (before : Body) (place : TokenCursor) (body : Body)
+    (stage : LineStage breaks line before place body) where
+  pub part_more : (tokens : List Placed) (next : TokenCursor) (after : Body)
+      → LeadsTo breaks.bang line place tokens next → Reads body (tokens_give breaks line tokens) after
+      → LineStage breaks line before next after
   part_more tokens next after on reads = record {
     so_far = stage.so_far ++ tokens;
     read = read_more breaks.bang line place next stage.so_far tokens (stage.so_far ++ tokens) stage.read on refl;
-    reads = subst (λ g. Reads before g after) (sym (flat_map-append (placed_given breaks line) stage.so_far tokens)) (reads_both before body after (tokens_give breaks line stage.so_far) (tokens_give breaks line tokens) stage.reads reads);
+    reads =
+        subst (λ g. Reads before g after) (sym (flat_map-append (placed_given breaks line) stage.so_far tokens))
+        (reads_both before body after (tokens_give breaks line stage.so_far) (tokens_give breaks line tokens)
+        stage.reads reads);
   }
 
   abbrev whole : List Placed → Option Fault → List ItemOrFault
-  whole tokens fault = tokens_give breaks line stage.so_far ++ (tokens_give breaks line tokens ++ item_of_line_end breaks line fault)
+  whole tokens fault =
+      tokens_give breaks line stage.so_far ++ (tokens_give breaks line tokens ++ item_of_line_end breaks line fault)
 
-  gives_whole : (tokens : List Placed) (fault : Option Fault) → GivesTokensFrom breaks.bang line place tokens fault → MusicGives breaks line (whole tokens fault)
+  gives_whole : (tokens : List Placed) (fault : Option Fault)
+      → GivesTokensFrom breaks.bang line place tokens fault → MusicGives breaks line (whole tokens fault)
   gives_whole tokens fault from =
       let last = item_of_line_end breaks line fault in (
         stage.so_far ++ tokens,
         fault,
         stage.read tokens fault from,
-        sym (append_assoc (tokens_give breaks line stage.so_far) (tokens_give breaks line tokens) last) ∙ ap (λ g. g ++ last) (sym (flat_map-append (placed_given breaks line) stage.so_far tokens)),
+        sym (append_assoc (tokens_give breaks line stage.so_far) (tokens_give breaks line tokens) last)
+            ∙ ap (λ g. g ++ last) (sym (flat_map-append (placed_given breaks line) stage.so_far tokens)),
       )
 
-  stops_so : (tokens : List Placed) (fault : Option Fault) (e : TuneError) → GivesTokensFrom breaks.bang line place tokens fault → Stops body (tokens_give breaks line tokens ++ item_of_line_end breaks line fault) e → StopsBy (MusicGives breaks line) before e
+  stops_so : (tokens : List Placed) (fault : Option Fault) (e : TuneError)
+      → GivesTokensFrom breaks.bang line place tokens fault
+      → Stops body (tokens_give breaks line tokens ++ item_of_line_end breaks line fault) e
+      → StopsBy (MusicGives breaks line) before e
   stops_so tokens fault e from stops =
       stops_by (MusicGives breaks line) before (whole tokens fault) e (gives_whole tokens fault from)
-      (stops_behind before body (tokens_give breaks line stage.so_far) (tokens_give breaks line tokens ++ item_of_line_end breaks line fault) e stage.reads stops)
+      (stops_behind before body (tokens_give breaks line stage.so_far)
+      (tokens_give breaks line tokens ++ item_of_line_end breaks line fault) e stage.reads stops)
 
-  pub part_ends : (tokens : List Placed) (fault : Option Fault) (after end : Body) → GivesTokensFrom breaks.bang line place tokens fault → Reads body (tokens_give breaks line tokens) after → Reads after (item_of_line_end breaks line fault) end → ReadsSome (MusicGives breaks line) before end
+  pub part_ends : (tokens : List Placed) (fault : Option Fault) (after end : Body)
+      → GivesTokensFrom breaks.bang line place tokens fault → Reads body (tokens_give breaks line tokens) after
+      → Reads after (item_of_line_end breaks line fault) end
+      → ReadsSome (MusicGives breaks line) before end
   part_ends tokens fault after end from reads last = record {
     given = whole tokens fault;
     gives_so = gives_whole tokens fault from;
-    reads = reads_both before body end (tokens_give breaks line stage.so_far) (tokens_give breaks line tokens ++ item_of_line_end breaks line fault) stage.reads
+    reads =
+        reads_both before body end (tokens_give breaks line stage.so_far)
+        (tokens_give breaks line tokens ++ item_of_line_end breaks line fault) stage.reads
         (reads_both body after end (tokens_give breaks line tokens) (item_of_line_end breaks line fault) reads last);
   }
 
-  pub end_stops : (tokens : List Placed) (fault : Option Fault) (after : Body) (e : TuneError) → GivesTokensFrom breaks.bang line place tokens fault → Reads body (tokens_give breaks line tokens) after → Stops after (item_of_line_end breaks line fault) e → StopsBy (MusicGives breaks line) before e
-  end_stops tokens fault after e from reads stops = stops_so tokens fault e from (stops_behind body after (tokens_give breaks line tokens) (item_of_line_end breaks line fault) e reads stops)
+  pub end_stops : (tokens : List Placed) (fault : Option Fault) (after : Body) (e : TuneError)
+      → GivesTokensFrom breaks.bang line place tokens fault → Reads body (tokens_give breaks line tokens) after
+      → Stops after (item_of_line_end breaks line fault) e
+      → StopsBy (MusicGives breaks line) before e
+  end_stops tokens fault after e from reads stops =
+      stops_so tokens fault e from
+      (stops_behind body after (tokens_give breaks line tokens) (item_of_line_end breaks line fault) e reads stops)
 
-  pub part_stops : (tokens : List Placed) (behind : LineRest) (e : TuneError) → PartOf breaks.bang line place tokens behind → Stops body (tokens_give breaks line tokens) e → StopsBy (MusicGives breaks line) before e
+  pub part_stops : (tokens : List Placed) (behind : LineRest) (e : TuneError)
+      → PartOf breaks.bang line place tokens behind → Stops body (tokens_give breaks line tokens) e
+      → StopsBy (MusicGives breaks line) before e
   part_stops tokens behind e part stops =
-      let all = behind_part breaks.bang line place tokens behind part in let last = item_of_line_end breaks line all.1 in
+      let all = behind_part breaks.bang line place tokens behind part in
+      let last = item_of_line_end breaks line all.1 in
       stops_so (tokens ++ all.0) all.1 e all.2
-      (subst (λ g. Stops body g e) (sym (append_assoc (tokens_give breaks line tokens) (tokens_give breaks line all.0) last) ∙ ap (λ g. g ++ last) (sym (flat_map-append (placed_given breaks line) tokens all.0)))
+      (subst (λ g. Stops body g e)
+      (sym (append_assoc (tokens_give breaks line tokens) (tokens_give breaks line all.0) last)
+      ∙ ap (λ g. g ++ last) (sym (flat_map-append (placed_given breaks line) tokens all.0)))
       (stops_before body (tokens_give breaks line tokens) (tokens_give breaks line all.0 ++ last) e stops))

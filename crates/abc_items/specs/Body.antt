@@ -59,7 +59,15 @@ abbrev pub written_head : Head × Len → Head
 written_head h = h.0
 
 abbrev pub chord_sound : WrittenChord → WrittenSound
-chord_sound chord = let first = first_len chord.heads in record { heads = map written_head chord.heads; seen = true; decos = chord.decos; num = first.num * chord.len.num; den = first.den * chord.len.den }
+chord_sound chord =
+    let first = first_len chord.heads in
+    record {
+      heads = map written_head chord.heads;
+      seen = true;
+      decos = chord.decos;
+      num = first.num * chord.len.num;
+      den = first.den * chord.len.den;
+    }
 
 -- a line break that is on, by the byte that it stands for: a dollar sign or an exclamation mark
 abbrev pub is_on : Breaks → ℕ → Bool
@@ -70,8 +78,10 @@ cut_given true line column = step_at Step.Break line column
 cut_given false line column = []
 
 unfoldable pub item_of_token : Breaks → Line → ℕ → Token → List ItemOrFault
-item_of_token breaks line column (Token.Note head len) = step_at (Step.Sound (sound (head ∷ []) true len.num len.den)) line.number column
-item_of_token breaks line column (Token.Rest seen len) = step_at (Step.Sound (sound [] seen len.num len.den)) line.number column
+item_of_token breaks line column (Token.Note head len) =
+    step_at (Step.Sound (sound (head ∷ []) true len.num len.den)) line.number column
+item_of_token breaks line column (Token.Rest seen len) =
+    step_at (Step.Sound (sound [] seen len.num len.den)) line.number column
 item_of_token breaks line column (Token.Measures seen count) = step_at (Step.Measures seen count) line.number column
 item_of_token breaks line column (Token.Chord chord) = step_at (Step.Sound (chord_sound chord)) line.number column
 item_of_token breaks line column (Token.Grace slash body) = step_at (Step.Grace slash body) line.number column
@@ -85,7 +95,8 @@ item_of_token breaks line column (Token.Ending text) = step_at (Step.Ending text
 item_of_token breaks line column (Token.Deco deco) = step_at (Step.Deco deco) line.number column
 item_of_token breaks line column (Token.Says text) = step_at (Step.Says text) line.number column
 item_of_token breaks line column (Token.Inline letter text) = item_of_field (named_field letter text) line.number column
-item_of_token breaks line column Token.Cut = cut_given (is_on breaks (get_or line.text (column - 1) 0)) line.number column
+item_of_token breaks line column Token.Cut =
+    cut_given (is_on breaks (get_or line.text (column - 1) 0)) line.number column
 item_of_token breaks line column Token.Space = step_at Step.Space line.number column
 
 abbrev pub placed_given : Breaks → Line → Placed → List ItemOrFault
@@ -96,15 +107,22 @@ abbrev pub is_line_joined : List ℕ → Bool
 is_line_joined text = ends_with nat_eq text (92 ∷ [])
 
 abbrev pub end_item : Breaks → Line → BodyItem
-end_item breaks line = BodyItem.LineEnd (is_line_joined line.text) (breaks.eol && not (is_line_joined line.text)) line.number (length line.text + 1)
+end_item breaks line =
+    BodyItem.LineEnd (is_line_joined line.text) (breaks.eol && not (is_line_joined line.text)) line.number
+    (length line.text + 1)
 
 abbrev pub item_of_line_end : Breaks → Line → Option Fault → List ItemOrFault
 item_of_line_end breaks line None = gives (end_item breaks line) ∷ []
 item_of_line_end breaks line (Some fault) = fails fault ∷ []
 
--- what a line gives: a field or a directive what it says, music its tokens up to its first fault and then that fault, or its end
+-- what a line gives: a field or a directive what it says, music its tokens up to its first fault and then that fault,
+-- or its end
 abbrev pub MusicGives : Breaks → Line → List ItemOrFault → Type 0
-MusicGives breaks line given = (tokens : List Placed) × (fault : Option Fault) × GivesTokensOf breaks.bang line tokens fault × (given ≡ flat_map (placed_given breaks line) tokens ++ item_of_line_end breaks line fault)
+MusicGives breaks line given =
+    (tokens : List Placed)
+    × (fault : Option Fault)
+    × GivesTokensOf breaks.bang line tokens fault
+    × (given ≡ flat_map (placed_given breaks line) tokens ++ item_of_line_end breaks line fault)
 
 abbrev pub KindGives : Breaks → Line → LineKind → List ItemOrFault → Type 0
 KindGives breaks line LineKind.Music given = MusicGives breaks line given
@@ -115,7 +133,9 @@ LineGives breaks line given = KindGives breaks line (kind_of line.text) given
 
 pub data BodyGives (breaks : Breaks) : List Line → List ItemOrFault → Type 0 where
   no_lines : BodyGives breaks [] []
-  one_line : (line : Line) (lines : List Line) (first others all : List ItemOrFault) → LineGives breaks line first → BodyGives breaks lines others → all ≡ first ++ others → BodyGives breaks (line ∷ lines) all
+  one_line : (line : Line) (lines : List Line) (first others all : List ItemOrFault)
+      → LineGives breaks line first → BodyGives breaks lines others → all ≡ first ++ others
+      → BodyGives breaks (line ∷ lines) all
 
 -- a voice field that mentions a seventeenth voice is a fault, `ids` being those mentioned before
 abbrev pub voice_judged : Bool → BodyItem → ℕ → ℕ → ItemOrFault
@@ -123,7 +143,8 @@ voice_judged true i line column = fails (record { kind = FaultKind.TooManyVoices
 voice_judged false i line column = gives i
 
 abbrev pub item_judged : List (List ℕ) → BodyItem → ItemOrFault
-item_judged ids (BodyItem.Voice def line column) = voice_judged (nat_lt 16 (length (with_id ids def.id))) (BodyItem.Voice def line column) line column
+item_judged ids (BodyItem.Voice def line column) =
+    voice_judged (nat_lt 16 (length (with_id ids def.id))) (BodyItem.Voice def line column) line column
 item_judged ids i = gives i
 
 abbrev pub judged_items : List (List ℕ) → List ItemOrFault → List ItemOrFault

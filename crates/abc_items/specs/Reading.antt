@@ -19,7 +19,8 @@ IsGivenError given (TuneError.Fault fault) = given ≡ fails fault ∷ []
 
 -- what is given has no fault, and whatever follows goes on behind it
 pub record Reads (before : Body) (given : List ItemOrFault) (after : Body) : Type 0 where
-  pub faults : (h : List ItemOrFault) → first_item_fault (judged_items before.ids (given ++ h)) ≡ first_item_fault (judged_items after.ids h)
+  pub faults : (h : List ItemOrFault)
+      → first_item_fault (judged_items before.ids (given ++ h)) ≡ first_item_fault (judged_items after.ids h)
   pub items : (h : List ItemOrFault) → before.items ++ items_in (given ++ h) ≡ after.items ++ items_in h
 
 abbrev pub Stops : Body → List ItemOrFault → TuneError → Type 0
@@ -42,7 +43,8 @@ StopsBy Gives before (TuneError.Fault fault) = StopsSome Gives before (TuneError
 
 abbrev pub LinesStop : Breaks → List Line → Body → TuneError → Type 0
 LinesStop breaks lines before TuneError.Memory = ⊤
-LinesStop breaks lines before (TuneError.Fault fault) = (count : ℕ) × StopsSome (BodyGives breaks (take count lines)) before (TuneError.Fault fault)
+LinesStop breaks lines before (TuneError.Fault fault) =
+    (count : ℕ) × StopsSome (BodyGives breaks (take count lines)) before (TuneError.Fault fault)
 
 abbrev pub judged_as : Option Fault → BodyItem → ItemOrFault
 judged_as None i = gives i

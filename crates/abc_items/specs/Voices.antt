@@ -1,4 +1,5 @@
--- The voices of a tune: which there are, in order of first mention; what each begins with; and which steps of the body are its own.
+-- The voices of a tune: which there are, in order of first mention; what each begins with; and which steps of the body
+-- are its own.
 use Rattle.std.specs.Prelude.{ℕ, List, [], ◌∷◌, ◌++◌, ◌==◌, ◌&&◌, not, Bool, true, false, if◌then◌else◌, map, fold}
 use Rattle.std.specs.Prelude.{find, length, Option, Some, None, unwrap_or}
 use Rattle.std.specs.Str.{bytes_eq}
@@ -78,7 +79,8 @@ still_alone alone _ = alone
 
 abbrev pub first_clef : List ℕ → Bool → List BodyItem → Option Clef
 first_clef id alone [] = None
-first_clef id alone (i ∷ items) = if decides id alone i then clef_of_item i else first_clef id (still_alone alone i) items
+first_clef id alone (i ∷ items) =
+    if decides id alone i then clef_of_item i else first_clef id (still_alone alone i) items
 
 abbrev pub clef_first : Header → List BodyItem → List ℕ → Option VoiceDef → Option Clef
 clef_first header items id (Some def) = def.clef
@@ -133,7 +135,8 @@ named_step false clef line column = []
 
 abbrev pub steps_in : List ℕ → Bool → BodyItem → List PlacedStep
 steps_in id own (BodyItem.Step s) = one_if own s
-steps_in id own (BodyItem.LineEnd joined breaks line column) = stood Step.LineEnd line column ∷ break_if (breaks && own) line column
+steps_in id own (BodyItem.LineEnd joined breaks line column) =
+    stood Step.LineEnd line column ∷ break_if (breaks && own) line column
 steps_in id own (BodyItem.Voice def line column) = named_step (bytes_eq id def.id) def.clef line column
 steps_in id own (BodyItem.Words text line) = []
 

@@ -28,11 +28,14 @@ first-nil = refl
 
 -- a line end stands in s, and splitting goes on behind it; or none does
 abbrev Step : List ℕ → Type 0
-Step s = ((slice_split is_end s ≡ (first_line s).0 ∷ slice_split is_end (first_line s).1) × (length (first_line s).1 < length s))
+Step s =
+    ((slice_split is_end s ≡ (first_line s).0 ∷ slice_split is_end (first_line s).1)
+    × (length (first_line s).1 < length s))
     ⊎ ((slice_split is_end s ≡ s ∷ []) × (first_line s ≡ pair s []))
 
 by_end : (b : ℕ) (s : List ℕ) → Step s → (e : Bool) → is_end b ≡ e → Step (b ∷ s)
-by_end b s others true h = inl (rw (first-end b s h) (slice_split-cons_yes is_end b s h), rw (first-end b s h) (omega arith))
+by_end b s others true h =
+    inl (rw (first-end b s h) (slice_split-cons_yes is_end b s h), rw (first-end b s h) (omega arith))
 by_end b s others false h =
     elim others [
       | inl more ↦ inl (
@@ -59,8 +62,12 @@ more_lines x (p ∷ ps) h = refl
 lines-step : (b : ℕ) (s : List ℕ) → lines_of (b ∷ s) ≡ (first_line (b ∷ s)).0 ∷ lines_of (first_line (b ∷ s)).1
 lines-step b s =
     elim (step (b ∷ s)) [
-      | inl more ↦ ap without_last_empty more.0 ∙ more_lines _ (slice_split is_end (first_line (b ∷ s)).1) (omega (arith, length-slice_split is_end (first_line (b ∷ s)).1))
-      | inr last ↦ ap without_last_empty last.0 ∙ one_line b s ∙ ap (λ (p : List ℕ × List ℕ). p.0 ∷ lines_of p.1) (sym last.1)
+      | inl more ↦
+          ap without_last_empty more.0
+          ∙ more_lines _ (slice_split is_end (first_line (b ∷ s)).1)
+          (omega (arith, length-slice_split is_end (first_line (b ∷ s)).1))
+      | inr last ↦
+          ap without_last_empty last.0 ∙ one_line b s ∙ ap (λ (p : List ℕ × List ℕ). p.0 ∷ lines_of p.1) (sym last.1)
     ]
 
 shorter : (b : ℕ) (s : List ℕ) → length (first_line (b ∷ s)).1 < length (b ∷ s)
@@ -90,18 +97,25 @@ first_line-parts : (s : List ℕ) → length (first_line s).0 + length (first_li
 unfolding first_line
 first_line-parts s = parts_le (position_or_len is_end s) s
 
-readings-cons : (b : ℕ) (s : List ℕ) → readings (b ∷ s) ≡ reading (first_line (b ∷ s)).0 ∷ readings (first_line (b ∷ s)).1
+readings-cons : (b : ℕ) (s : List ℕ)
+    → readings (b ∷ s) ≡ reading (first_line (b ∷ s)).0 ∷ readings (first_line (b ∷ s)).1
 unfolding readings
 readings-cons b s = ap (map reading) (lines-step b s)
 
 pub first_line_off : (b : ℕ) (s : List ℕ) → Off (b ∷ s) (first_line (b ∷ s)).0 (first_line (b ∷ s)).1
 first_line_off b s = record { readings = readings-cons b s; shorter = shorter b s; parts = first_line-parts (b ∷ s) }
 
-pub line_off : (s line rest : List ℕ) → (length s ≡ 0 → ⊥) → (◌≡◌ {A = List ℕ × List ℕ} (line, rest) (first_line s)) → Off s line rest
+pub line_off : (s line rest : List ℕ)
+    → (length s ≡ 0 → ⊥) → (◌≡◌ {A = List ℕ × List ℕ} (line, rest) (first_line s)) → Off s line rest
 line_off [] line rest some is = absurd (some refl)
 line_off (b ∷ s) line rest some is =
-    let first : line ≡ (first_line (b ∷ s)).0 = ap (λ (p : List ℕ × List ℕ). p.0) is in let others : rest ≡ (first_line (b ∷ s)).1 = ap (λ (p : List ℕ × List ℕ). p.1) is in
-    record { readings = rw (first, others) (readings-cons b s); shorter = rw others (shorter b s); parts = rw (first, others) (first_line-parts (b ∷ s)) }
+    let first : line ≡ (first_line (b ∷ s)).0 = ap (λ (p : List ℕ × List ℕ). p.0) is in
+    let others : rest ≡ (first_line (b ∷ s)).1 = ap (λ (p : List ℕ × List ℕ). p.1) is in
+    record {
+      readings = rw (first, others) (readings-cons b s);
+      shorter = rw others (shorter b s);
+      parts = rw (first, others) (first_line-parts (b ∷ s));
+    }
 
 pub latin-text : (line : List ℕ) → IsUtf8 line → in_latin line ≡ map narrow (chars line)
 unfolding in_latin

@@ -31,7 +31,8 @@ is_end_of_part line = is_empty_line line || begins_tune line
 abbrev pub is_joining : List ℕ → Bool
 is_joining text = starts_with nat_eq text (codes "+:")
 
--- Looking backwards: here a line stands first, the line before it second, and so on. No line up to it is empty or begins a tune.
+-- Looking backwards: here a line stands first, the line before it second, and so on. No line up to it is empty or
+-- begins a tune.
 abbrev pub is_in_header : List LineContent → Bool
 is_in_header [] = true
 is_in_header (line ∷ before) = not (is_end_of_part line) && is_in_header before
@@ -39,7 +40,8 @@ is_in_header (line ∷ before) = not (is_end_of_part line) && is_in_header befor
 -- the number of the last line at or before it that begins a tune, where no empty line stands after that one
 abbrev pub tune_of : List LineContent → Option ℕ
 tune_of [] = None
-tune_of (line ∷ before) = if begins_tune line then Some (suc (length before)) else (if is_empty_line line then None else tune_of before)
+tune_of (line ∷ before) =
+    if begins_tune line then Some (suc (length before)) else (if is_empty_line line then None else tune_of before)
 
 abbrev pub is_line_number : ℕ → Option ℕ → Bool
 is_line_number number None = false
@@ -70,7 +72,8 @@ whole_text text more = if is_field text then text ++ joined more else text
 
 -- a line as it is listed. A comment is not, nor is a `+:` line.
 abbrev pub line_of_text : ℕ → List ℕ → List LineContent → List Line
-line_of_text number text more = if is_joining text then [] else record { number = number; text = whole_text text more } ∷ []
+line_of_text number text more =
+    if is_joining text then [] else record { number = number; text = whole_text text more } ∷ []
 
 abbrev pub line_at : ℕ → LineContent → List LineContent → List Line
 line_at number Empty more = []
@@ -83,7 +86,9 @@ when belongs lines = if belongs then lines else []
 -- the listed lines that belong, of those behind the lines `before`, of which the last stands first
 abbrev pub listed_lines : (List LineContent → Bool) → List LineContent → List LineContent → List Line
 listed_lines belongs before [] = []
-listed_lines belongs before (line ∷ more) = when (belongs (line ∷ before)) (line_at (suc (length before)) line more) ++ listed_lines belongs (line ∷ before) more
+listed_lines belongs before (line ∷ more) =
+    when (belongs (line ∷ before)) (line_at (suc (length before)) line more)
+    ++ listed_lines belongs (line ∷ before) more
 
 abbrev pub tune_at : List LineContent → ℕ → ℕ → TuneText
 tune_at all ordinal number = record { ordinal = ordinal; lines = listed_lines (belongs_to number) [] all }
@@ -92,7 +97,8 @@ tune_at all ordinal number = record { ordinal = ordinal; lines = listed_lines (b
 abbrev pub tunes_behind : List LineContent → ℕ → List LineContent → List LineContent → List TuneText
 tunes_behind all ordinal before [] = []
 tunes_behind all ordinal before (line ∷ more) =
-    if begins_tune line then tune_at all ordinal (suc (length before)) ∷ tunes_behind all (suc ordinal) (line ∷ before) more
+    if begins_tune line then tune_at all ordinal (suc (length before)) ∷ tunes_behind all (suc ordinal) (line ∷ before)
+    more
     else tunes_behind all ordinal (line ∷ before) more
 
 abbrev pub book_of_lines : List LineContent → Book

@@ -9,11 +9,13 @@ use Rattle.abc_lines.specs.Books.{begins_tune, is_end_of_part, line_at}
 -- the listed lines up to the first that is empty or begins a tune; the first has this number
 unfoldable pub part_from : ℕ → List LineContent → List Line
 part_from number [] = []
-part_from number (line ∷ more) = if is_end_of_part line then [] else line_at number line more ++ part_from (suc number) more
+part_from number (line ∷ more) =
+    if is_end_of_part line then [] else line_at number line more ++ part_from (suc number) more
 
 -- the tune that begins with this line
 abbrev pub tune_from : ℕ → ℕ → LineContent → List LineContent → TuneText
-tune_from ordinal number line more = record { ordinal = ordinal; lines = line_at number line more ++ part_from (suc number) more }
+tune_from ordinal number line more =
+    record { ordinal = ordinal; lines = line_at number line more ++ part_from (suc number) more }
 
 -- the tunes that begin in these lines
 unfoldable pub tunes_from : ℕ → ℕ → List LineContent → List TuneText

@@ -8,7 +8,10 @@ use Rattle.abc_lines.specs.declared.kind.LineKind.TheVariants.{Field, Directive,
 
 -- a letter that may be a note, a rest or a blank of music: A to G, a to g, x, y, z
 abbrev pub is_music_letter : ℕ → Bool
-is_music_letter byte = (nat_le (code "A") byte && nat_le byte (code "G")) || (nat_le (code "a") byte && nat_le byte (code "g")) || (nat_le (code "x") byte && nat_le byte (code "z"))
+is_music_letter byte =
+    (nat_le (code "A") byte && nat_le byte (code "G"))
+    || (nat_le (code "a") byte && nat_le byte (code "g"))
+    || (nat_le (code "x") byte && nat_le byte (code "z"))
 
 -- a bar sign or a colon stands first
 abbrev pub begins_bar : List ℕ → Bool
@@ -19,7 +22,8 @@ begins_bar (byte ∷ rest) = byte == code "|" || byte == code ":"
 abbrev pub is_field : List ℕ → Bool
 is_field [] = false
 is_field (letter ∷ []) = false
-is_field (letter ∷ colon ∷ rest) = is_letter letter && colon == code ":" && not (is_music_letter letter && begins_bar rest)
+is_field (letter ∷ colon ∷ rest) =
+    is_letter letter && colon == code ":" && not (is_music_letter letter && begins_bar rest)
 
 -- two percent signs stand first
 abbrev pub is_percent_line : List ℕ → Bool
@@ -36,7 +40,8 @@ first_byte [] = 0
 first_byte (byte ∷ rest) = byte
 
 abbrev pub kind_of : List ℕ → LineKind
-kind_of text = if is_percent_line text then Directive else (if is_field text then field_kind (first_byte text) else Music)
+kind_of text =
+    if is_percent_line text then Directive else (if is_field text then field_kind (first_byte text) else Music)
 
 -- the text of a field or a directive: what stands behind its first two bytes and the blanks there
 abbrev pub field_text : List ℕ → List ℕ

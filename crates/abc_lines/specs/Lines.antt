@@ -1,4 +1,5 @@
--- The lines of an input: its pieces between line ends, without the carriage return at the end, each in Latin-1 and without its comment.
+-- The lines of an input: its pieces between line ends, without the carriage return at the end, each in Latin-1 and
+-- without its comment.
 use Prim.Native.Char.{code}
 use Rattle.std.specs.Prelude.{◌-◌, ◌+◌, ◌&&◌, not, ℕ, List, [], ◌∷◌, length, Bool, false, ◌==◌, if◌then◌else◌, take}
 use Rattle.std.specs.Prelude.{drop, map, nat_eq, nat_le, codes}
@@ -44,7 +45,8 @@ in_latin line = if is_utf8 line then map narrow (chars line) else line
 -- says that a backslash stands directly before these bytes
 abbrev pub comment_len : Bool → List ℕ → ℕ
 comment_len escaped [] = 0
-comment_len escaped (byte ∷ rest) = if byte == code "%" && not escaped then 0 else 1 + comment_len (byte == code "\\") rest
+comment_len escaped (byte ∷ rest) =
+    if byte == code "%" && not escaped then 0 else 1 + comment_len (byte == code "\\") rest
 
 unfoldable pub without_comment : List ℕ → List ℕ
 without_comment text = before_blanks (take (comment_len false text) text)
@@ -58,7 +60,9 @@ written text = if length text == 0 then Comment else Written text
 
 -- what is read of a line in Latin-1: `%%` lines have no comment
 abbrev pub reading_of : List ℕ → LineContent
-reading_of text = if is_empty_text text then Empty else (if is_percent_line text then Written text else written (without_comment text))
+reading_of text =
+    if is_empty_text text then Empty
+    else (if is_percent_line text then Written text else written (without_comment text))
 
 unfoldable pub reading : List ℕ → LineContent
 reading line = reading_of (in_latin (without_return line))

@@ -75,7 +75,8 @@ fn tune_at<'a>(
 ) -> Result<(TuneText, LineCursor<'a>), Memory>
     requires { number + length rest.now ≤ 2 ^ 30 }
     ensures tune { IfOk result (λ it. it.0 ≡ tune_from ordinal number reading (readings rest.now)) }
-    ensures rest { IfOk result (λ it. (o : ℕ) → tunes_from o it.1.number (readings it.1.rest.now) ≡ tunes_from o (suc number) (readings rest.now)) }
+    ensures rest { IfOk result (λ it.
+        (o : ℕ) → tunes_from o it.1.number (readings it.1.rest.now) ≡ tunes_from o (suc number) (readings rest.now)) }
     ensures within { IfOk result (λ it. it.1.number + length it.1.rest.now ≤ number + 1 + length rest.now) }
     ensures further { IfOk result (λ it. length it.1.rest.now ≤ length rest.now) }
     ensures counted { IfOk result (λ it. number < it.1.number) }
@@ -102,8 +103,12 @@ fn add_part<'a>(
 ) -> Result<LineCursor<'a>, Memory>
     requires { place.number + length place.rest.now ≤ 2 ^ 30 + 1 }
     ensures lines { OnOk result (out.new ≡ out.old ++ part_from place.entry.number (readings place.entry.rest.now)) }
-    ensures rest { IfOk result (λ it. (o : ℕ) → tunes_from o it.number (readings it.rest.now) ≡ tunes_from o place.entry.number (readings place.entry.rest.now)) }
-    ensures within { IfOk result (λ it. it.number + length it.rest.now ≤ place.entry.number + length place.entry.rest.now) }
+    ensures rest { IfOk result (λ it.
+        (o : ℕ)
+        → tunes_from o it.number (readings it.rest.now)
+        ≡ tunes_from o place.entry.number (readings place.entry.rest.now)) }
+    ensures within { IfOk result
+        (λ it. it.number + length it.rest.now ≤ place.entry.number + length place.entry.rest.now) }
     ensures further { IfOk result (λ it. length it.rest.now ≤ length place.entry.rest.now) }
     ensures counted { IfOk result (λ it. place.entry.number ≤ it.number) }
 {

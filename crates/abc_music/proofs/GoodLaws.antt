@@ -50,14 +50,23 @@ after_some n [] h = h
 after_some n (d ∷ ds) h = after_some (n * 10 + digit_value d) ds (omega arith)
 
 some_digit : (d : ℕ) → is_digit d ≡ true → (d == 48) ≡ false → 1 ≤ digit_value d
-some_digit d h e = let r = digit_range d h in let is = digit_value-is d r.0 r.1 in let other = eqb-false d 48 e in omega (arith, r, is, other)
+some_digit d h e =
+    let r = digit_range d h in
+    let is = digit_value-is d r.0 r.1 in
+    let other = eqb-false d 48 e in
+    omega (arith, r, is, other)
 
 number_some : (n : ℕ) (ds : List ℕ) → AreNumberDigits n ds → 1 ≤ digits_value 10 ds
 number_some n [] good = absurd (let s = good.some in omega (arith, s))
-number_some n (d ∷ ds) good = let p = and_parts _ _ good.digits in after_some (0 * 10 + digit_value d) ds (let s = some_digit d p.0 good.no_zero in omega (arith, s))
+number_some n (d ∷ ds) good =
+    let p = and_parts _ _ good.digits in
+    after_some (0 * 10 + digit_value d) ds (let s = some_digit d p.0 good.no_zero in omega (arith, s))
 
 number_four : (ds : List ℕ) → AreNumberDigits 4 ds → digits_value 10 ds ≤ 9999
-number_four ds good = let below = below_power ds good.digits in let power = power_small (length ds) good.few in omega (arith, below, power)
+number_four ds good =
+    let below = below_power ds good.digits in
+    let power = power_small (length ds) good.few in
+    omega (arith, below, power)
 
 count_four : (ds : List ℕ) → IsCount 4 ds → (1 ≤ count_of ds) × (count_of ds ≤ 9999)
 count_four [] good = (omega arith, omega arith)
@@ -65,9 +74,12 @@ count_four (d ∷ ds) good = (number_some 4 (d ∷ ds) good, number_four (d ∷ 
 
 count_three : (ds : List ℕ) → IsCount 3 ds → (1 ≤ count_of ds) × (count_of ds ≤ 999)
 count_three [] good = (omega arith, omega arith)
-count_three (a ∷ []) good = (number_some 3 (a ∷ []) good, let below = below_power (a ∷ []) good.digits in omega (arith, below))
-count_three (a ∷ b ∷ []) good = (number_some 3 (a ∷ b ∷ []) good, let below = below_power (a ∷ b ∷ []) good.digits in omega (arith, below))
-count_three (a ∷ b ∷ c ∷ []) good = (number_some 3 (a ∷ b ∷ c ∷ []) good, let below = below_power (a ∷ b ∷ c ∷ []) good.digits in omega (arith, below))
+count_three (a ∷ []) good =
+    (number_some 3 (a ∷ []) good, let below = below_power (a ∷ []) good.digits in omega (arith, below))
+count_three (a ∷ b ∷ []) good =
+    (number_some 3 (a ∷ b ∷ []) good, let below = below_power (a ∷ b ∷ []) good.digits in omega (arith, below))
+count_three (a ∷ b ∷ c ∷ []) good =
+    (number_some 3 (a ∷ b ∷ c ∷ []) good, let below = below_power (a ∷ b ∷ c ∷ []) good.digits in omega (arith, below))
 count_three (a ∷ b ∷ c ∷ d ∷ ds) good = absurd (let few = good.few in omega (arith, few))
 
 halves : (n : ℕ) → n ≤ 6 → (1 ≤ 2 ^ n) × (2 ^ n ≤ 9999)
@@ -75,21 +87,29 @@ halves (suc (suc (suc (suc (suc (suc (suc n))))))) h = absurd (omega arith)
 halves _ h = (omega arith, omega arith)
 
 good_len : (f : LengthForm) → IsWrittenLength f → IsGoodLen (len_of f)
-good_len (whole count) good = let c = count_four count good in record { some = c.0; num_high = c.1; above = omega arith; den_high = omega arith }
-good_len (over count below) good = let c = count_four count good.0 in record { some = c.0; num_high = c.1; above = over_some below good.1; den_high = over_high below good.1 } where
-  over_some : (below : List ℕ) → AreNumberDigits 4 below → 1 ≤ count_of below
-  over_some [] good = omega arith
-  over_some (d ∷ ds) good = number_some 4 (d ∷ ds) good
+good_len (whole count) good =
+    let c = count_four count good in record { some = c.0; num_high = c.1; above = omega arith; den_high = omega arith }
+good_len (over count below) good =
+    let c = count_four count good.0 in
+    record { some = c.0; num_high = c.1; above = over_some below good.1; den_high = over_high below good.1 } where
+      over_some : (below : List ℕ) → AreNumberDigits 4 below → 1 ≤ count_of below
+      over_some [] good = omega arith
+      over_some (d ∷ ds) good = number_some 4 (d ∷ ds) good
 
-  over_high : (below : List ℕ) → AreNumberDigits 4 below → count_of below ≤ 9999
-  over_high [] good = omega arith
-  over_high (d ∷ ds) good = number_four (d ∷ ds) good
-good_len (halved count slashes) good = let c = count_four count good.0 in let h = halves slashes good.2 in record { some = c.0; num_high = c.1; above = h.0; den_high = h.1 }
+      over_high : (below : List ℕ) → AreNumberDigits 4 below → count_of below ≤ 9999
+      over_high [] good = omega arith
+      over_high (d ∷ ds) good = number_four (d ∷ ds) good
+good_len (halved count slashes) good =
+    let c = count_four count good.0 in
+    let h = halves slashes good.2 in
+    record { some = c.0; num_high = c.1; above = h.0; den_high = h.1 }
 
 -- the heads of a chord
-good_heads : (bang : Bool) (text : List ℕ) (parts : List Inner) → Parts Inner (StandsInside bang) text parts → AreGoodHeads (heads_of (map sense parts))
+good_heads : (bang : Bool) (text : List ℕ) (parts : List Inner)
+    → Parts Inner (StandsInside bang) text parts → AreGoodHeads (heads_of (map sense parts))
 good_heads bang _ _ no_part = tt
-good_heads bang _ _ (then_part text (note_inside f) rest more longest others) = (good_len f.length longest.stands.good.length, good_heads bang rest more others)
+good_heads bang _ _ (then_part text (note_inside f) rest more longest others) =
+    (good_len f.length longest.stands.good.length, good_heads bang rest more others)
 good_heads bang _ _ (then_part _ _ rest more _ others) = good_heads bang rest more others
 
 some_head : (parts : List Inner) → has_inner_head parts ≡ true → HasHead (heads_of (map sense parts))
@@ -111,10 +131,13 @@ single_good : (part : Inner) → AreGoodGraces (body_of_sense (sense part))
 single_good (note_inside f) = (tt, tt)
 single_good _ = tt
 
-good_graces : (bang : Bool) (text : List ℕ) (parts : List GracePart) → Parts GracePart (StandsInGrace bang) text parts → AreGoodGraces (body_of parts)
+good_graces : (bang : Bool) (text : List ℕ) (parts : List GracePart)
+    → Parts GracePart (StandsInGrace bang) text parts → AreGoodGraces (body_of parts)
 good_graces bang _ _ no_part = tt
-good_graces bang _ _ (then_part text (single part) rest more longest others) = graces_both (body_of_sense (sense part)) (body_of more) (single_good part) (good_graces bang rest more others)
-good_graces bang _ _ (then_part text (chorded f) rest more longest others) = (some_grace_head f.parts longest.stands.good.head, good_graces bang rest more others)
+good_graces bang _ _ (then_part text (single part) rest more longest others) =
+    graces_both (body_of_sense (sense part)) (body_of more) (single_good part) (good_graces bang rest more others)
+good_graces bang _ _ (then_part text (chorded f) rest more longest others) =
+    (some_grace_head f.parts longest.stands.good.head, good_graces bang rest more others)
 
 -- tuplets
 zero_or_one : (q : List ℕ) → IsCount 1 q → value_or_zero q ≤ 9
@@ -129,19 +152,29 @@ zero_or_two (a ∷ b ∷ []) good = let below = below_power (a ∷ b ∷ []) goo
 zero_or_two (a ∷ b ∷ c ∷ r) good = absurd (let few = good.few in omega (arith, few))
 
 p_range : (p : ℕ) → is_tuplet_digit p ≡ true → (2 ≤ p - 48) × (p - 48 ≤ 9)
-p_range p h = let t = and_parts _ _ h in let low = leb-true 50 p t.0 in let high = leb-true p 57 t.1 in (omega (arith, low), omega (arith, high))
+p_range p h =
+    let t = and_parts _ _ h in
+    let low = leb-true 50 p t.0 in
+    let high = leb-true p 57 t.1 in
+    (omega (arith, low), omega (arith, high))
 
 good_tuplet : (f : TupletForm) → IsTuplet f → IsGoodTuplet (p_of f) (q_of f) (r_of f)
-good_tuplet (bare p) good = let r = p_range p good in record { p_low = r.0; p_high = r.1; q_high = omega arith; r_high = omega arith }
-good_tuplet (with_q p q) good = let r = p_range p good.0 in record { p_low = r.0; p_high = r.1; q_high = zero_or_one q good.1; r_high = omega arith }
-good_tuplet (with_r p q r) good = let s = p_range p good.0 in record { p_low = s.0; p_high = s.1; q_high = zero_or_one q good.1; r_high = zero_or_two r good.2 }
+good_tuplet (bare p) good =
+    let r = p_range p good in record { p_low = r.0; p_high = r.1; q_high = omega arith; r_high = omega arith }
+good_tuplet (with_q p q) good =
+    let r = p_range p good.0 in
+    record { p_low = r.0; p_high = r.1; q_high = zero_or_one q good.1; r_high = omega arith }
+good_tuplet (with_r p q r) good =
+    let s = p_range p good.0 in
+    record { p_low = s.0; p_high = s.1; q_high = zero_or_one q good.1; r_high = zero_or_two r good.2 }
 
 -- pieces
 abbrev IsGoodMaybe : Option Token → Type 0
 IsGoodMaybe None = ⊤
 IsGoodMaybe (Some t) = IsGoodToken t
 
-inline_good : (b : Bool) (letter : ℕ) (text : List ℕ) → IsGoodMaybe (if b then Some (Token.Inline letter text) else None)
+inline_good : (b : Bool) (letter : ℕ) (text : List ℕ)
+    → IsGoodMaybe (if b then Some (Token.Inline letter text) else None)
 inline_good true letter text = tt
 inline_good false letter text = tt
 
@@ -149,7 +182,8 @@ good_piece : (bang : Bool) (f : Form) → IsGoodForm bang f → IsGoodMaybe (tok
 good_piece bang (note_form f) good = good_len f.length good.length
 good_piece bang (rest_form seen len) good = good_len len good
 good_piece bang (measures_form seen count) good = count_three count good
-good_piece bang (chord_form f) good = (some_head f.parts good.0.head, good_heads bang f.inside f.parts good.0.parts, good_len f.length good.0.length)
+good_piece bang (chord_form f) good =
+    (some_head f.parts good.0.head, good_heads bang f.inside f.parts good.0.parts, good_len f.length good.0.length)
 good_piece bang (grace_form f) good = good_graces bang f.inside f.parts good.parts
 good_piece bang (tuplet_form f) good = good_tuplet f good
 good_piece bang (broken_form right count) good = good
@@ -157,12 +191,17 @@ good_piece bang (inline_form letter text) good = inline_good (is_kept_field lett
 good_piece bang (space_form blank more) good = tt
 good_piece bang _ good = tt
 
-good_put : (t : Option Token) (at : ℕ) (ts : List Placed) → IsGoodMaybe t → AreGoodTokens ts → AreGoodTokens (with_token t at ts)
+good_put : (t : Option Token) (at : ℕ) (ts : List Placed)
+    → IsGoodMaybe t → AreGoodTokens ts → AreGoodTokens (with_token t at ts)
 good_put None at ts good more = more
 good_put (Some t) at ts good more = (good, more)
 
-pub good_front : (bang : Bool) (n : ℕ) (before : PieceBefore) (at : ℕ) (s : List ℕ) (ts : List Placed) (end : Option Flaw) → GivesTokens bang n before at s ts end → AreGoodTokens ts
+pub good_front : (bang : Bool) (n : ℕ) (before : PieceBefore) (at : ℕ) (s : List ℕ) (ts : List Placed)
+    (end : Option Flaw)
+    → GivesTokens bang n before at s ts end → AreGoodTokens ts
 good_front bang n _ _ _ _ _ (clear before at) = tt
 good_front bang n _ _ _ _ _ (breaks before at byte s flaw h is) = tt
 good_front bang n _ _ _ _ _ (leads before at s f rest ts all end l more is) =
-    subst AreGoodTokens (sym is) (good_put (token_meant f) (column n (length s)) ts (good_piece bang f l.stands.good) (good_front bang n (after f) (length s) rest ts end more))
+    subst AreGoodTokens (sym is)
+    (good_put (token_meant f) (column n (length s)) ts (good_piece bang f l.stands.good)
+    (good_front bang n (after f) (length s) rest ts end more))

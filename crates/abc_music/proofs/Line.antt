@@ -27,82 +27,135 @@ put_append : (t : Option Token) (at : ℕ) (ts : List Placed) → with_token t a
 put_append None at ts = refl
 put_append (Some t) at ts = refl
 
-pub put_few : (t : Option Token) (at : ℕ) (so_far new : List Placed) → new ≡ so_far ++ with_token t at [] → length new ≤ length so_far + 1
+pub put_few : (t : Option Token) (at : ℕ) (so_far new : List Placed)
+    → new ≡ so_far ++ with_token t at [] → length new ≤ length so_far + 1
 put_few None at so_far new is = omega (arith, ap length is, length-append so_far [])
 put_few (Some t) at so_far new is = omega (arith, ap length is, length-append so_far (with_token (Some t) at []))
 
 -- what a call of the reader tells
-pub record Found (bang : Bool) (before : PieceBefore) (s : List ℕ) (t : Option Token) (next : PieceBefore) (rest : List ℕ) : Type 0 where
+pub record Found (bang : Bool) (before : PieceBefore) (s : List ℕ) (t : Option Token) (next : PieceBefore)
+    (rest : List ℕ) : Type 0 where
   pub form : Form
   pub is : piece_at bang before s ≡ read form rest
   pub token : t ≡ token_meant form
   pub tells : next ≡ after form
 
-from_read : (bang : Bool) (before : PieceBefore) (s : List ℕ) (t : Option Token) (next : PieceBefore) (rest : List ℕ) (r : FormAndRest) → piece_at bang before s ≡ r → Some (token_and_rest t next rest) ≡ meaning r → Found bang before s t next rest
+from_read : (bang : Bool) (before : PieceBefore) (s : List ℕ) (t : Option Token) (next : PieceBefore) (rest : List ℕ)
+    (r : FormAndRest)
+    → piece_at bang before s ≡ r → Some (token_and_rest t next rest) ≡ meaning r → Found bang before s t next rest
 from_read bang before s t next rest None e h = absurd cc
 from_read bang before s t next rest (Some z) e h =
-    let same : token_and_rest t next rest ≡ token_and_rest (token_meant z.0) (after z.0) z.1 = cc in record { form = z.0; is = e ∙ ap (λ x. read z.0 x) (sym (ap (λ p. p.2) same)); token = ap (λ p. p.0) same; tells = ap (λ p. p.1) same }
+    let same : token_and_rest t next rest ≡ token_and_rest (token_meant z.0) (after z.0) z.1 = cc in
+    record {
+      form = z.0;
+      is = e ∙ ap (λ x. read z.0 x) (sym (ap (λ p. p.2) same));
+      token = ap (λ p. p.0) same;
+      tells = ap (λ p. p.1) same;
+    }
 
-pub found : (bang : Bool) (before : PieceBefore) (s : List ℕ) (t : Option Token) (next : PieceBefore) (rest : List ℕ) → Some (token_and_rest t next rest) ≡ meaning (piece_at bang before s) → Found bang before s t next rest
+pub found : (bang : Bool) (before : PieceBefore) (s : List ℕ) (t : Option Token) (next : PieceBefore) (rest : List ℕ)
+    → Some (token_and_rest t next rest) ≡ meaning (piece_at bang before s) → Found bang before s t next rest
 found bang before s t next rest h = from_read bang before s t next rest (piece_at bang before s) refl h
 
-longest : (bang : Bool) (before : PieceBefore) (s : List ℕ) (f : Form) (rest : List ℕ) → piece_at bang before s ≡ read f rest → longest_piece bang before s f rest
+longest : (bang : Bool) (before : PieceBefore) (s : List ℕ) (f : Form) (rest : List ℕ)
+    → piece_at bang before s ≡ read f rest → longest_piece bang before s f rest
 longest bang before s f rest e = longest_of (piece_reader bang before) s (f, rest) e
 
-is_read : (bang : Bool) (before : PieceBefore) (s : List ℕ) (f : Form) (rest : List ℕ) → longest_piece bang before s f rest → piece_at bang before s ≡ read f rest
+is_read : (bang : Bool) (before : PieceBefore) (s : List ℕ) (f : Form) (rest : List ℕ)
+    → longest_piece bang before s f rest → piece_at bang before s ≡ read f rest
 is_read bang before s f rest l = longest_is (piece_reader bang before) s f rest l
 
-pub consumes : (bang : Bool) (before : PieceBefore) (s : List ℕ) (t : Option Token) (next : PieceBefore) (rest : List ℕ) → Some (token_and_rest t next rest) ≡ meaning (piece_at bang before s) → length rest < length s
-consumes bang before s t next rest h = let f = found bang before s t next rest h in less (piece_reader bang before) s (f.form, rest) f.is
+pub consumes : (bang : Bool) (before : PieceBefore) (s : List ℕ) (t : Option Token) (next : PieceBefore) (rest : List ℕ)
+    → Some (token_and_rest t next rest) ≡ meaning (piece_at bang before s) → length rest < length s
+consumes bang before s t next rest h =
+    let f = found bang before s t next rest h in less (piece_reader bang before) s (f.form, rest) f.is
 
 -- one piece further
-pub step : (bang : Bool) (line : Line) (place at next : TokenCursor) (so_far new : List Placed) (here : ℕ) (t : Option Token) →
-    LeadsTo bang line place so_far at → Some (token_and_rest t next.before next.rest.now) ≡ meaning (piece_at bang at.before at.rest.now) → next.at ≡ length at.rest.now → here ≡ column (length line.text) next.at → new ≡ so_far ++ with_token t here [] → LeadsTo bang line place new next
+pub step : (bang : Bool) (line : Line) (place at next : TokenCursor) (so_far new : List Placed) (here : ℕ)
+    (t : Option Token)
+    → LeadsTo bang line place so_far at
+    → Some (token_and_rest t next.before next.rest.now) ≡ meaning (piece_at bang at.before at.rest.now)
+    → next.at ≡ length at.rest.now → here ≡ column (length line.text) next.at → new ≡ so_far ++ with_token t here []
+    → LeadsTo bang line place new next
 step bang line place at next so_far new here t so h where_is is_column is =
-    let f = found bang at.before at.rest.now t next.before next.rest.now h in let l = longest bang at.before at.rest.now f.form next.rest.now f.is in
+    let f = found bang at.before at.rest.now t next.before next.rest.now h in
+    let l = longest bang at.before at.rest.now f.form next.rest.now f.is in
     λ ts fault more.
     let all : List Placed = with_token t here ts in
-    let front = subst (λ a. GivesTokens bang (length line.text) (after f.form) a next.rest.now ts more.0) where_is (subst (λ b. GivesTokens bang (length line.text) b next.at next.rest.now ts more.0) f.tells more.1) in
-    let one = leads at.before at.at at.rest.now f.form next.rest.now ts all more.0 l front (ap (λ o. with_token o here ts) f.token ∙ ap (λ c. with_token (token_meant f.form) c ts) (is_column ∙ ap (column (length line.text)) where_is)) in
-    subst (λ us. GivesTokensFrom bang line place us fault) (ap (λ us. so_far ++ us) (put_append t here ts) ∙ sym (append_assoc so_far (with_token t here []) ts) ∙ ap (λ us. us ++ ts) (sym is)) (so all fault (more.0, one, more.2))
+    let front = subst (λ a. GivesTokens bang (length line.text) (after f.form) a next.rest.now ts more.0) where_is
+    (subst (λ b. GivesTokens bang (length line.text) b next.at next.rest.now ts more.0) f.tells more.1) in
+    let one = leads at.before at.at at.rest.now f.form next.rest.now ts all more.0 l front
+    (ap (λ o. with_token o here ts) f.token
+    ∙ ap (λ c. with_token (token_meant f.form) c ts) (is_column ∙ ap (column (length line.text)) where_is)) in
+    subst (λ us. GivesTokensFrom bang line place us fault)
+    (ap (λ us. so_far ++ us) (put_append t here ts)
+    ∙ sym (append_assoc so_far (with_token t here []) ts)
+    ∙ ap (λ us. us ++ ts) (sym is))
+    (so all fault (more.0, one, more.2))
 
-from_start : (bang : Bool) (line : Line) (ts : List Placed) (end : Option Flaw) (before : PieceBefore) (at : ℕ) (rest : List ℕ) → rest ≡ line.text → before ≡ PieceBefore.Other → at ≡ 0 → GivesTokens bang (length line.text) before at rest ts end → GivesTokensAt bang line.text ts end
-from_start bang line ts end before at rest r b a front = subst (λ x. GivesTokens bang (length line.text) PieceBefore.Other 0 x ts end) r (subst (λ x. GivesTokens bang (length line.text) PieceBefore.Other x rest ts end) a (subst (λ x. GivesTokens bang (length line.text) x at rest ts end) b front))
+from_start : (bang : Bool) (line : Line) (ts : List Placed) (end : Option Flaw) (before : PieceBefore) (at : ℕ)
+    (rest : List ℕ) → rest ≡ line.text → before ≡ PieceBefore.Other → at ≡ 0
+    → GivesTokens bang (length line.text) before at rest ts end
+    → GivesTokensAt bang line.text ts end
+from_start bang line ts end before at rest r b a front =
+    subst (λ x. GivesTokens bang (length line.text) PieceBefore.Other 0 x ts end) r
+    (subst (λ x. GivesTokens bang (length line.text) PieceBefore.Other x rest ts end) a
+    (subst (λ x. GivesTokens bang (length line.text) x at rest ts end) b front))
 
 -- tokens lead from the start of a line to a place
 abbrev pub ReadTo : Bool → Line → List Placed → TokenCursor → Type 0
-ReadTo bang line so_far place = (more : List Placed) (fault : Option Fault) → GivesTokensFrom bang line place more fault → GivesTokensOf bang line (so_far ++ more) fault
+ReadTo bang line so_far place =
+    (more : List Placed) (fault : Option Fault)
+    → GivesTokensFrom bang line place more fault → GivesTokensOf bang line (so_far ++ more) fault
 
 pub read_none : (bang : Bool) (line : Line) (place : TokenCursor) → IsStart line place → ReadTo bang line [] place
-read_none bang line place start = λ more fault from. (from.0, from_start bang line more from.0 place.before place.at place.rest.now start.rest start.before start.at from.1, from.2)
+read_none bang line place start =
+    λ more fault from. (
+      from.0,
+      from_start bang line more from.0 place.before place.at place.rest.now start.rest start.before start.at from.1,
+      from.2,
+    )
 
-pub read_more : (bang : Bool) (line : Line) (place next : TokenCursor) (so_far ts new : List Placed) → ReadTo bang line so_far place → LeadsTo bang line place ts next → new ≡ so_far ++ ts → ReadTo bang line new next
-read_more bang line place next so_far ts new so on is = λ more fault from. subst (λ us. GivesTokensOf bang line us fault) (sym (append_assoc so_far ts more) ∙ ap (λ us. us ++ more) (sym is)) (so (ts ++ more) fault (on more fault from))
+pub read_more : (bang : Bool) (line : Line) (place next : TokenCursor) (so_far ts new : List Placed)
+    → ReadTo bang line so_far place → LeadsTo bang line place ts next → new ≡ so_far ++ ts → ReadTo bang line new next
+read_more bang line place next so_far ts new so on is =
+    λ more fault from.
+    subst (λ us. GivesTokensOf bang line us fault) (sym (append_assoc so_far ts more) ∙ ap (λ us. us ++ more) (sym is))
+    (so (ts ++ more) fault (on more fault from))
 
-ends_there : (bang : Bool) (n : ℕ) (before : PieceBefore) (at : ℕ) (rest : List ℕ) → length rest ≡ 0 → GivesTokens bang n before at rest [] None
+ends_there : (bang : Bool) (n : ℕ) (before : PieceBefore) (at : ℕ) (rest : List ℕ)
+    → length rest ≡ 0 → GivesTokens bang n before at rest [] None
 ends_there bang n before at [] h = clear before at
 ends_there bang n before at (b ∷ rest) h = absurd (omega (arith, h))
 
-pub done_at : (bang : Bool) (line : Line) (place at : TokenCursor) (so_far : List Placed) → LeadsTo bang line place so_far at → length at.rest.now ≡ 0 → GivesTokensFrom bang line place so_far None
-done_at bang line place at so_far so h = subst (λ us. GivesTokensFrom bang line place us None) (append-nil so_far) (so [] None (None, ends_there bang (length line.text) at.before at.at at.rest.now h, refl))
+pub done_at : (bang : Bool) (line : Line) (place at : TokenCursor) (so_far : List Placed)
+    → LeadsTo bang line place so_far at → length at.rest.now ≡ 0 → GivesTokensFrom bang line place so_far None
+done_at bang line place at so_far so h =
+    subst (λ us. GivesTokensFrom bang line place us None) (append-nil so_far)
+    (so [] None (None, ends_there bang (length line.text) at.before at.at at.rest.now h, refl))
 
 no_read : (r : FormAndRest) → None ≡ meaning r → r ≡ None
 no_read None h = refl
 no_read (Some z) h = absurd cc
 
-pub none_at : (bang : Bool) (before : PieceBefore) (s t : List ℕ) (byte : ℕ) → s ≡ byte ∷ t → None ≡ meaning (piece_at bang before s) → piece_at bang before (byte ∷ t) ≡ None
+pub none_at : (bang : Bool) (before : PieceBefore) (s t : List ℕ) (byte : ℕ)
+    → s ≡ byte ∷ t → None ≡ meaning (piece_at bang before s) → piece_at bang before (byte ∷ t) ≡ None
 none_at bang before s t byte cut none = ap (piece_at bang before) (sym cut) ∙ no_read (piece_at bang before s) none
 
 -- the two laws: one list, and a fault only where there is none
 nothing_read : (bang : Bool) (before : PieceBefore) (f : Form) (rest : List ℕ) → longest_piece bang before [] f rest → ⊥
-nothing_read bang before f rest l = let e : None ≡ read f rest = sym (at_nil (piece_reader bang before)) ∙ is_read bang before [] f rest l in cc
+nothing_read bang before f rest l =
+    let e : None ≡ read f rest = sym (at_nil (piece_reader bang before)) ∙ is_read bang before [] f rest l in cc
 
-nil_list : (bang : Bool) (n : ℕ) (before : PieceBefore) (s : List ℕ) (us : List Placed) → s ≡ [] → Tokens bang n before s us → us ≡ []
+nil_list : (bang : Bool) (n : ℕ) (before : PieceBefore) (s : List ℕ) (us : List Placed)
+    → s ≡ [] → Tokens bang n before s us → us ≡ []
 nil_list bang n _ _ _ e (ends before) = refl
-nil_list bang n _ _ _ e (goes before s f rest ts all l more is) = absurd (nothing_read bang before f rest (subst (λ t. longest_piece bang before t f rest) e l))
+nil_list bang n _ _ _ e (goes before s f rest ts all l more is) =
+    absurd (nothing_read bang before f rest (subst (λ t. longest_piece bang before t f rest) e l))
 
 -- the rest of a list of tokens, behind the piece that is read
-pub record Behind (bang : Bool) (n : ℕ) (before : PieceBefore) (s : List ℕ) (us : List Placed) (f : Form) (rest : List ℕ) : Type 0 where
+pub record Behind (bang : Bool) (n : ℕ) (before : PieceBefore) (s : List ℕ) (us : List Placed) (f : Form)
+    (rest : List ℕ) : Type 0 where
   pub ts : List Placed
   pub tokens : Tokens bang n (after f) rest ts
   pub is : us ≡ with_token (token_meant f) (column n (length s)) ts
@@ -111,59 +164,98 @@ abbrev one_of_both : Form → List ℕ → Form × List ℕ
 one_of_both f x = (f, x)
 
 same_piece : (f g : Form) (x y : List ℕ) → read f x ≡ read g y → (f ≡ g) × (x ≡ y)
-same_piece f g x y e = let is : one_of_both f x ≡ one_of_both g y = cc in (ap (λ (z : Form × List ℕ). z.0) is, ap (λ (z : Form × List ℕ). z.1) is)
+same_piece f g x y e =
+    let is : one_of_both f x ≡ one_of_both g y = cc in
+    (ap (λ (z : Form × List ℕ). z.0) is, ap (λ (z : Form × List ℕ). z.1) is)
 
-behind_it : (bang : Bool) (n : ℕ) (before : PieceBefore) (s : List ℕ) (us : List Placed) (f : Form) (rest : List ℕ) → piece_at bang before s ≡ read f rest → Tokens bang n before s us → Behind bang n before s us f rest
-behind_it bang n _ _ _ f rest e (ends before) = absurd (let h : None ≡ read f rest = sym (at_nil (piece_reader bang before)) ∙ e in cc)
+behind_it : (bang : Bool) (n : ℕ) (before : PieceBefore) (s : List ℕ) (us : List Placed) (f : Form) (rest : List ℕ)
+    → piece_at bang before s ≡ read f rest → Tokens bang n before s us → Behind bang n before s us f rest
+behind_it bang n _ _ _ f rest e (ends before) =
+    absurd (let h : None ≡ read f rest = sym (at_nil (piece_reader bang before)) ∙ e in cc)
 behind_it bang n _ _ _ f rest e (goes before s g others ts all l more is) =
     let same = same_piece g f others rest (sym (is_read bang before s g others l) ∙ e) in
-    record { ts = ts; tokens = subst (λ x. Tokens bang n (after f) x ts) same.1 (subst (λ h. Tokens bang n (after h) others ts) same.0 more); is = is ∙ ap (λ h. with_token (token_meant h) (column n (length s)) ts) same.0 }
+    record {
+      ts = ts;
+      tokens = subst (λ x. Tokens bang n (after f) x ts) same.1
+          (subst (λ h. Tokens bang n (after h) others ts) same.0 more);
+      is = is ∙ ap (λ h. with_token (token_meant h) (column n (length s)) ts) same.0;
+    }
 
-pub one_list : (bang : Bool) (n : ℕ) (before : PieceBefore) (s : List ℕ) (ts us : List Placed) → Tokens bang n before s ts → Tokens bang n before s us → ts ≡ us
+pub one_list : (bang : Bool) (n : ℕ) (before : PieceBefore) (s : List ℕ) (ts us : List Placed)
+    → Tokens bang n before s ts → Tokens bang n before s us → ts ≡ us
 one_list bang n _ _ _ us (ends before) b = sym (nil_list bang n before [] us refl b)
 one_list bang n _ _ _ us (goes before s f rest ts all l more is) b =
-    let r = behind_it bang n before s us f rest (is_read bang before s f rest l) b in is ∙ ap (λ x. with_token (token_meant f) (column n (length s)) x) (one_list bang n (after f) rest ts r.ts more r.tokens) ∙ sym r.is
+    let r = behind_it bang n before s us f rest (is_read bang before s f rest l) b in
+    is
+    ∙ ap (λ x. with_token (token_meant f) (column n (length s)) x)
+    (one_list bang n (after f) rest ts r.ts more r.tokens)
+    ∙ sym r.is
 
-stuck_tokens : (bang : Bool) (n : ℕ) (before : PieceBefore) (byte : ℕ) (t s : List ℕ) (ts : List Placed) → s ≡ byte ∷ t → HasNone Form (StandsAt bang before) s → Tokens bang n before s ts → ⊥
+stuck_tokens : (bang : Bool) (n : ℕ) (before : PieceBefore) (byte : ℕ) (t s : List ℕ) (ts : List Placed)
+    → s ≡ byte ∷ t → HasNone Form (StandsAt bang before) s → Tokens bang n before s ts → ⊥
 stuck_tokens bang n _ byte t _ _ e h (ends before) = cc
 stuck_tokens bang n _ byte t _ _ e h (goes before s f rest ts all l more is) = h f rest l.stands
 
-pub no_list : (bang : Bool) (n : ℕ) (before : PieceBefore) (at : ℕ) (s : List ℕ) (flaw : Flaw) (ts : List Placed) → Faulty bang before at s flaw → Tokens bang n before s ts → ⊥
-no_list bang n _ _ _ _ ts (stuck before at byte s flaw h is) b = stuck_tokens bang n before byte s (byte ∷ s) ts refl h b
-no_list bang n _ _ _ _ ts (later before at s f rest flaw l more) b = let r = behind_it bang n before s ts f rest (is_read bang before s f rest l) b in no_list bang n (after f) (length s) rest flaw r.ts more r.tokens
+pub no_list : (bang : Bool) (n : ℕ) (before : PieceBefore) (at : ℕ) (s : List ℕ) (flaw : Flaw) (ts : List Placed)
+    → Faulty bang before at s flaw → Tokens bang n before s ts → ⊥
+no_list bang n _ _ _ _ ts (stuck before at byte s flaw h is) b =
+    stuck_tokens bang n before byte s (byte ∷ s) ts refl h b
+no_list bang n _ _ _ _ ts (later before at s f rest flaw l more) b =
+    let r = behind_it bang n before s ts f rest (is_read bang before s f rest l) b in
+    no_list bang n (after f) (length s) rest flaw r.ts more r.tokens
 
-pub stuck_at : (bang : Bool) (line : Line) (place at : TokenCursor) (so_far : List Placed) (byte : ℕ) (t : List ℕ) (flaw : Flaw) (fault : Fault) → LeadsTo bang line place so_far at → at.rest.now ≡ byte ∷ t →
-    None ≡ meaning (piece_at bang at.before at.rest.now) → IsLineFlaw bang at.before at.at byte t flaw → fault ≡ fault_at line flaw → GivesTokensFrom bang line place so_far (Some fault)
+pub stuck_at : (bang : Bool) (line : Line) (place at : TokenCursor) (so_far : List Placed) (byte : ℕ) (t : List ℕ)
+    (flaw : Flaw) (fault : Fault)
+    → LeadsTo bang line place so_far at → at.rest.now ≡ byte ∷ t
+    → None ≡ meaning (piece_at bang at.before at.rest.now) → IsLineFlaw bang at.before at.at byte t flaw
+    → fault ≡ fault_at line flaw
+    → GivesTokensFrom bang line place so_far (Some fault)
 stuck_at bang line place at so_far byte t flaw fault so cut none is told =
-    let nothing = none_of (piece_reader bang at.before) (byte ∷ t) (none_at bang at.before at.rest.now t byte cut none) in
-    let one : GivesTokens bang (length line.text) at.before at.at at.rest.now [] (Some flaw) = rw cut (breaks at.before at.at byte t flaw nothing is) in
-    subst (λ us. GivesTokensFrom bang line place us (Some fault)) (append-nil so_far) (so [] (Some fault) (Some flaw, one, ap Some told))
+    let nothing =
+    none_of (piece_reader bang at.before) (byte ∷ t) (none_at bang at.before at.rest.now t byte cut none) in
+    let one : GivesTokens bang (length line.text) at.before at.at at.rest.now [] (Some flaw) =
+    rw cut (breaks at.before at.at byte t flaw nothing is) in
+    subst (λ us. GivesTokensFrom bang line place us (Some fault)) (append-nil so_far)
+    (so [] (Some fault) (Some flaw, one, ap Some told))
 
 -- a line without a fault has the tokens of its front, and a line with one has that fault
-front_tokens : (bang : Bool) (n : ℕ) (before : PieceBefore) (at : ℕ) (s : List ℕ) (ts : List Placed) (end : Option Flaw) → GivesTokens bang n before at s ts end → end ≡ None → Tokens bang n before s ts
+front_tokens : (bang : Bool) (n : ℕ) (before : PieceBefore) (at : ℕ) (s : List ℕ) (ts : List Placed) (end : Option Flaw)
+    → GivesTokens bang n before at s ts end → end ≡ None → Tokens bang n before s ts
 front_tokens bang n _ _ _ _ _ (clear before at) e = ends before
 front_tokens bang n _ _ _ _ _ (breaks before at byte s flaw h is) e = absurd cc
-front_tokens bang n _ _ _ _ _ (leads before at s f rest ts all end l more is) e = goes before s f rest ts all l (front_tokens bang n (after f) (length s) rest ts end more e) is
+front_tokens bang n _ _ _ _ _ (leads before at s f rest ts all end l more is) e =
+    goes before s f rest ts all l (front_tokens bang n (after f) (length s) rest ts end more e) is
 
-front_flaw : (bang : Bool) (n : ℕ) (before : PieceBefore) (at : ℕ) (s : List ℕ) (ts : List Placed) (end : Option Flaw) (flaw : Flaw) → GivesTokens bang n before at s ts end → end ≡ Some flaw → Faulty bang before at s flaw
+front_flaw : (bang : Bool) (n : ℕ) (before : PieceBefore) (at : ℕ) (s : List ℕ) (ts : List Placed) (end : Option Flaw)
+    (flaw : Flaw)
+    → GivesTokens bang n before at s ts end → end ≡ Some flaw → Faulty bang before at s flaw
 front_flaw bang n _ _ _ _ _ flaw (clear before at) e = absurd cc
-front_flaw bang n _ _ _ _ _ flaw (breaks before at byte s one h is) e = let same : one ≡ flaw = cc in subst (λ x. Faulty bang before at (byte ∷ s) x) same (stuck before at byte s one h is)
-front_flaw bang n _ _ _ _ _ flaw (leads before at s f rest ts all end l more is) e = later before at s f rest flaw l (front_flaw bang n (after f) (length s) rest ts end flaw more e)
+front_flaw bang n _ _ _ _ _ flaw (breaks before at byte s one h is) e =
+    let same : one ≡ flaw = cc in subst (λ x. Faulty bang before at (byte ∷ s) x) same (stuck before at byte s one h is)
+front_flaw bang n _ _ _ _ _ flaw (leads before at s f rest ts all end l more is) e =
+    later before at s f rest flaw l (front_flaw bang n (after f) (length s) rest ts end flaw more e)
 
 no_end : (line : Line) (end : Option Flaw) → None ≡ option_map (fault_at line) end → end ≡ None
 no_end line None e = refl
 no_end line (Some flaw) e = absurd cc
 
-pub tokens_of : (bang : Bool) (line : Line) (ts : List Placed) (fault : Option Fault) → GivesTokensOf bang line ts fault → fault ≡ None → TokensOf bang line.text ts
-tokens_of bang line ts fault front none = front_tokens bang (length line.text) PieceBefore.Other 0 line.text ts front.0 front.1 (no_end line front.0 (sym none ∙ front.2))
+pub tokens_of : (bang : Bool) (line : Line) (ts : List Placed) (fault : Option Fault)
+    → GivesTokensOf bang line ts fault → fault ≡ None → TokensOf bang line.text ts
+tokens_of bang line ts fault front none =
+    front_tokens bang (length line.text) PieceBefore.Other 0 line.text ts front.0 front.1
+    (no_end line front.0 (sym none ∙ front.2))
 
-error_by : (bang : Bool) (line : Line) (ts : List Placed) (fault : Fault) (end : Option Flaw) → GivesTokensAt bang line.text ts end → Some fault ≡ option_map (fault_at line) end → IsErrorOf bang line (TuneError.Fault fault)
+error_by : (bang : Bool) (line : Line) (ts : List Placed) (fault : Fault) (end : Option Flaw)
+    → GivesTokensAt bang line.text ts end → Some fault ≡ option_map (fault_at line) end
+    → IsErrorOf bang line (TuneError.Fault fault)
 error_by bang line ts fault None front e = absurd cc
 error_by bang line ts fault (Some flaw) front e =
-    let whole = front_flaw bang (length line.text) PieceBefore.Other 0 line.text ts (Some flaw) flaw front refl in let is : fault ≡ fault_at line flaw = cc in
+    let whole = front_flaw bang (length line.text) PieceBefore.Other 0 line.text ts (Some flaw) flaw front refl in
+    let is : fault ≡ fault_at line flaw = cc in
     (flaw, whole, is, λ us. no_list bang (length line.text) PieceBefore.Other 0 line.text flaw us whole)
 
-pub error_of : (bang : Bool) (line : Line) (ts : List Placed) (fault : Option Fault) (one : Fault) → GivesTokensOf bang line ts fault → fault ≡ Some one → IsErrorOf bang line (TuneError.Fault one)
+pub error_of : (bang : Bool) (line : Line) (ts : List Placed) (fault : Option Fault) (one : Fault)
+    → GivesTokensOf bang line ts fault → fault ≡ Some one → IsErrorOf bang line (TuneError.Fault one)
 error_of bang line ts fault one front is = error_by bang line ts one front.0 front.1 (sym is ∙ front.2)
 
 -- ---- where no piece stands, no chord and no grace group does
@@ -171,13 +263,18 @@ pub unmapped : {T U : Type 0} (f : T → U) (o : Option T) → option_map f o �
 unmapped f None e = refl
 unmapped f (Some x) e = absurd cc
 
-pub no_chord : (bang : Bool) (before : PieceBefore) (byte : ℕ) (t : List ℕ) → byte ≡ 91 → piece_at bang before (byte ∷ t) ≡ None → opening t ≡ BracketOpening.Chord → chord_at bang t ≡ None
+pub no_chord : (bang : Bool) (before : PieceBefore) (byte : ℕ) (t : List ℕ)
+    → byte ≡ 91 → piece_at bang before (byte ∷ t) ≡ None → opening t ≡ BracketOpening.Chord → chord_at bang t ≡ None
 unfolding piece_at class_of chord_read
 no_chord bang before byte t is none chord =
     let here : piece_at bang before (91 ∷ t) ≡ None = ap (λ b. piece_at bang before (b ∷ t)) (sym is) ∙ none in
-    let opened_is : bracket_form BracketOpening.Chord bang t ≡ None = ap (λ o. bracket_form o bang t) (sym chord) ∙ here in unmapped (λ (z : ChordForm × List ℕ). (chord_form z.0, z.1)) (chord_at bang t) opened_is
+    let opened_is : bracket_form BracketOpening.Chord bang t ≡ None =
+    ap (λ o. bracket_form o bang t) (sym chord) ∙ here in
+    unmapped (λ (z : ChordForm × List ℕ). (chord_form z.0, z.1)) (chord_at bang t) opened_is
 
-pub no_grace : (bang : Bool) (before : PieceBefore) (byte : ℕ) (t : List ℕ) → byte ≡ 123 → piece_at bang before (byte ∷ t) ≡ None → grace_at bang t ≡ None
+pub no_grace : (bang : Bool) (before : PieceBefore) (byte : ℕ) (t : List ℕ)
+    → byte ≡ 123 → piece_at bang before (byte ∷ t) ≡ None → grace_at bang t ≡ None
 unfolding piece_at class_of grace_read
 no_grace bang before byte t is none =
-    let here : piece_at bang before (123 ∷ t) ≡ None = ap (λ b. piece_at bang before (b ∷ t)) (sym is) ∙ none in unmapped (λ (z : GraceForm × List ℕ). (grace_form z.0, z.1)) (grace_at bang t) here
+    let here : piece_at bang before (123 ∷ t) ≡ None = ap (λ b. piece_at bang before (b ∷ t)) (sym is) ∙ none in
+    unmapped (λ (z : GraceForm × List ℕ). (grace_form z.0, z.1)) (grace_at bang t) here

@@ -30,8 +30,9 @@ with_token (Some t) at ts = record { token = t; column = at } ∷ ts
 -- the tokens of what is left of a line of n bytes, behind such a piece
 pub data Tokens (bang : Bool) (n : ℕ) : PieceBefore → List ℕ → List Placed → Type 0 where
   ends : (before : PieceBefore) → Tokens bang n before [] []
-  goes : (before : PieceBefore) (s : List ℕ) (f : Form) (rest : List ℕ) (ts all : List Placed) → IsLongest Form (StandsAt bang before) s f rest → Tokens bang n (after f) rest ts →
-      all ≡ with_token (token_meant f) (column n (length s)) ts → Tokens bang n before s all
+  goes : (before : PieceBefore) (s : List ℕ) (f : Form) (rest : List ℕ) (ts all : List Placed)
+      → IsLongest Form (StandsAt bang before) s f rest → Tokens bang n (after f) rest ts
+      → all ≡ with_token (token_meant f) (column n (length s)) ts → Tokens bang n before s all
 
 -- a byte that goes on the piece before it, and so makes that piece a fault
 abbrev pub kind_if : Bool → FaultKind → Option FaultKind
@@ -48,7 +49,8 @@ kind_after PieceBefore.Other byte = None
 abbrev pub IsHere : FaultKind → List ℕ → Flaw → Type 0
 IsHere kind s flaw = flaw ≡ record { kind = kind; left = length s }
 
--- behind a bracket: an inline field that is not closed, or the fault of a chord; a bar sign and a digit always make a piece there
+-- behind a bracket: an inline field that is not closed, or the fault of a chord;
+-- a bar sign and a digit always make a piece there
 abbrev pub IsBracketFlaw : BracketOpening → Bool → ℕ → List ℕ → Flaw → Type 0
 IsBracketFlaw BracketOpening.Bar bang byte s flaw = IsHere BadByte (byte ∷ s) flaw
 IsBracketFlaw BracketOpening.Ending bang byte s flaw = IsHere BadByte (byte ∷ s) flaw
@@ -64,20 +66,30 @@ IsOwnFlaw bang byte s flaw =
     (IsHere BadByte (byte ∷ s) flaw)))
 
 abbrev pub IsLineFlaw : Bool → PieceBefore → ℕ → ℕ → List ℕ → Flaw → Type 0
-IsLineFlaw bang before at byte s flaw = MatchOption (kind_after before byte) (IsOwnFlaw bang byte s flaw) (λ kind. flaw ≡ record { kind = kind; left = at })
+IsLineFlaw bang before at byte s flaw =
+    MatchOption (kind_after before byte) (IsOwnFlaw bang byte s flaw) (λ kind. flaw ≡ record { kind = kind; left = at })
 
 -- the first fault: no piece stands where reading the longest pieces has come to. The piece before
 -- it stands so many bytes from the end as `at` says.
 pub data Faulty (bang : Bool) : PieceBefore → ℕ → List ℕ → Flaw → Type 0 where
-  stuck : (before : PieceBefore) (at byte : ℕ) (s : List ℕ) (flaw : Flaw) → HasNone Form (StandsAt bang before) (byte ∷ s) → IsLineFlaw bang before at byte s flaw → Faulty bang before at (byte ∷ s) flaw
-  later : (before : PieceBefore) (at : ℕ) (s : List ℕ) (f : Form) (rest : List ℕ) (flaw : Flaw) → IsLongest Form (StandsAt bang before) s f rest → Faulty bang (after f) (length s) rest flaw → Faulty bang before at s flaw
+  stuck : (before : PieceBefore) (at byte : ℕ) (s : List ℕ) (flaw : Flaw)
+      → HasNone Form (StandsAt bang before) (byte ∷ s) → IsLineFlaw bang before at byte s flaw
+      → Faulty bang before at (byte ∷ s) flaw
+  later : (before : PieceBefore) (at : ℕ) (s : List ℕ) (f : Form) (rest : List ℕ) (flaw : Flaw)
+      → IsLongest Form (StandsAt bang before) s f rest → Faulty bang (after f) (length s) rest flaw
+      → Faulty bang before at s flaw
 
--- What a line gives up to its first fault: the tokens of the pieces before it, and the fault, or none where pieces stand up to the end.
+-- What a line gives up to its first fault: the tokens of the pieces before it, and the fault, or none where pieces
+-- stand up to the end.
 pub data GivesTokens (bang : Bool) (n : ℕ) : PieceBefore → ℕ → List ℕ → List Placed → Option Flaw → Type 0 where
   clear : (before : PieceBefore) (at : ℕ) → GivesTokens bang n before at [] [] None
-  breaks : (before : PieceBefore) (at byte : ℕ) (s : List ℕ) (flaw : Flaw) → HasNone Form (StandsAt bang before) (byte ∷ s) → IsLineFlaw bang before at byte s flaw → GivesTokens bang n before at (byte ∷ s) [] (Some flaw)
-  leads : (before : PieceBefore) (at : ℕ) (s : List ℕ) (f : Form) (rest : List ℕ) (ts all : List Placed) (end : Option Flaw) → IsLongest Form (StandsAt bang before) s f rest → GivesTokens bang n (after f) (length s) rest ts end →
-      all ≡ with_token (token_meant f) (column n (length s)) ts → GivesTokens bang n before at s all end
+  breaks : (before : PieceBefore) (at byte : ℕ) (s : List ℕ) (flaw : Flaw)
+      → HasNone Form (StandsAt bang before) (byte ∷ s) → IsLineFlaw bang before at byte s flaw
+      → GivesTokens bang n before at (byte ∷ s) [] (Some flaw)
+  leads : (before : PieceBefore) (at : ℕ) (s : List ℕ) (f : Form) (rest : List ℕ) (ts all : List Placed)
+      (end : Option Flaw)
+      → IsLongest Form (StandsAt bang before) s f rest → GivesTokens bang n (after f) (length s) rest ts end
+      → all ≡ with_token (token_meant f) (column n (length s)) ts → GivesTokens bang n before at s all end
 
 -- the tokens of a music line
 abbrev pub TokensOf : Bool → List ℕ → List Placed → Type 0
@@ -95,11 +107,16 @@ fault_at line flaw = record { kind = flaw.kind; line = line.number; column = col
 -- a fault is the first of the line, and comes only where no list is; Memory is free
 abbrev pub IsErrorOf : Bool → Line → TuneError → Type 0
 IsErrorOf bang line TuneError.Memory = Unit {0}
-IsErrorOf bang line (TuneError.Fault fault) = (flaw : Flaw) × FlawOf bang line.text flaw × (fault ≡ fault_at line flaw) × ((ts : List Placed) → TokensOf bang line.text ts → ⊥)
+IsErrorOf bang line (TuneError.Fault fault) =
+    (flaw : Flaw)
+    × FlawOf bang line.text flaw
+    × (fault ≡ fault_at line flaw)
+    × ((ts : List Placed) → TokensOf bang line.text ts → ⊥)
 
 -- the tokens before the first fault of a line, and that fault if the line has one
 abbrev pub GivesTokensOf : Bool → Line → List Placed → Option Fault → Type 0
-GivesTokensOf bang line ts fault = (end : Option Flaw) × GivesTokensAt bang line.text ts end × (fault ≡ option_map (fault_at line) end)
+GivesTokensOf bang line ts fault =
+    (end : Option Flaw) × GivesTokensAt bang line.text ts end × (fault ≡ option_map (fault_at line) end)
 
 -- the place where a line begins
 pub record IsStart (line : Line) (place : TokenCursor) : Type 0 where
@@ -113,15 +130,21 @@ IsWithinLine line place = (length place.rest.now ≤ length line.text) × (place
 
 -- the tokens from a place of a line up to its first fault, and that fault if there is one
 abbrev pub GivesTokensFrom : Bool → Line → TokenCursor → List Placed → Option Fault → Type 0
-GivesTokensFrom bang line place ts fault = (end : Option Flaw) × GivesTokens bang (length line.text) place.before place.at place.rest.now ts end × (fault ≡ option_map (fault_at line) end)
+GivesTokensFrom bang line place ts fault =
+    (end : Option Flaw)
+    × GivesTokens bang (length line.text) place.before place.at place.rest.now ts end
+    × (fault ≡ option_map (fault_at line) end)
 
 -- tokens lead from a place to another: whatever stands from there on stands behind them
 abbrev pub LeadsTo : Bool → Line → TokenCursor → List Placed → TokenCursor → Type 0
-LeadsTo bang line place ts next = (more : List Placed) (fault : Option Fault) → GivesTokensFrom bang line next more fault → GivesTokensFrom bang line place (ts ++ more) fault
+LeadsTo bang line place ts next =
+    (more : List Placed) (fault : Option Fault)
+    → GivesTokensFrom bang line next more fault → GivesTokensFrom bang line place (ts ++ more) fault
 
 -- a part of a line: tokens that lead to a later place, or all that stands before the first fault or the end
 abbrev pub PartOf : Bool → Line → TokenCursor → List Placed → LineRest → Type 0
-PartOf bang line place ts (LineRest.More next) = LeadsTo bang line place ts next × IsWithinLine line next × (length next.rest.now < length place.rest.now)
+PartOf bang line place ts (LineRest.More next) =
+    LeadsTo bang line place ts next × IsWithinLine line next × (length next.rest.now < length place.rest.now)
 PartOf bang line place ts (LineRest.End fault) = GivesTokensFrom bang line place ts fault
 
 -- a part has at most a thousand tokens, and just as many where more of the line stands behind them

@@ -31,7 +31,8 @@ pub fn read_music(alloc: Global, line: &Line, bang: bool) -> Result<Row<Placed>,
     // What is read is the list of tokens.
     ensures found { IfOk result (λ tokens. TokensOf bang line.now.text tokens) }
     // There is no other list.
-    ensures only { IfOk result (λ tokens. (others : List Placed) → TokensOf bang line.now.text others → tokens ≡ others) }
+    ensures only { IfOk result
+        (λ tokens. (others : List Placed) → TokensOf bang line.now.text others → tokens ≡ others) }
     // A fault is the first, and comes only where there is no list.
     ensures fault { IfErr result (λ e. IsErrorOf bang line.now e) }
     ensures good { IfOk result (λ tokens. AreGoodTokens tokens) }

@@ -10,7 +10,8 @@ limit_step (suc (suc (suc (suc i)))) v d h small digit = absurd (omega arith)
 limit_step _ v d h small digit = omega arith
 
 pub digit_range : (b : ℕ) → is_digit b ≡ true → (48 ≤ b) × (b < 58)
-digit_range b h = let p = and_parts _ _ h in let low = leb-true 48 b p.0 in let high = leb-true b 57 p.1 in (low, omega arith)
+digit_range b h =
+    let p = and_parts _ _ h in let low = leb-true 48 b p.0 in let high = leb-true b 57 p.1 in (low, omega arith)
 
 pub digit_at : (ds : List ℕ) (i : ℕ) → list_all is_digit ds ≡ true → i < length ds → is_digit (get_or ds i 0) ≡ true
 digit_at [] i h lt = absurd (omega arith)

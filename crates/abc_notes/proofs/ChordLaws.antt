@@ -63,8 +63,9 @@ inside_wide : (b : ℕ) → free b ≡ true → is_inside b ≡ true
 inside_wide b h = (and_parts _ _ h).0
 
 -- a bracket behind another one stands behind the length there
-behind_length : (l : LengthForm) (x inside front rest : List ℕ) → IsWrittenLength l → inside ++ (93 ∷ length_then l x) ≡ front ++ (93 ∷ rest) →
-    length (93 ∷ rest) < length (93 ∷ length_then l x) → length rest < length x
+behind_length : (l : LengthForm) (x inside front rest : List ℕ)
+    → IsWrittenLength l → inside ++ (93 ∷ length_then l x) ≡ front ++ (93 ∷ rest)
+    → length (93 ∷ rest) < length (93 ∷ length_then l x) → length rest < length x
 behind_length l x inside front rest good e shorter =
     cut_cases front inside (93 ∷ rest) (93 ∷ length_then l x) (sym e) (omega (arith, shorter))
     (λ same behind. absurd (omega (arith, shorter, ap length behind)))
@@ -104,8 +105,9 @@ module _ (bang : Bool) where
     pub off : bang ≡ false
     pub name : NameCut 93 (good_before head) behind c
 
-  in-closes : (head : Bool) (s c : List ℕ) (r : Option (List ℕ × List ℕ)) → IfSome r (λ z. IsName z.0 × (s ≡ z.0 ++ (33 ∷ z.1))) →
-      bracket_in bang head s r ≡ Some c → NameCut 93 (good_before head) s c
+  in-closes : (head : Bool) (s c : List ℕ) (r : Option (List ℕ × List ℕ))
+      → IfSome r (λ z. IsName z.0 × (s ≡ z.0 ++ (33 ∷ z.1)))
+      → bracket_in bang head s r ≡ Some c → NameCut 93 (good_before head) s c
   in-closes head s c None t e = absurd cc
   in-closes head s c (Some named) t e = name_upto-closes 93 (good_before head) s c named t e
 
@@ -117,14 +119,16 @@ module _ (bang : Bool) where
       let name = in-closes head s c (name_at s) (name_at-takes s) found.1 in
       record { behind = s; is = ap (λ x. x ∷ s) (eqb-true b 33 p.0); off = not-true bang p.1; name = name }
 
-  pub parts_before : (head : Bool) (s : List ℕ) → good_before head s ≡ true → InnerParts bang s (walk (inner_at bang) s).0
+  pub parts_before : (head : Bool) (s : List ℕ)
+      → good_before head s ≡ true → InnerParts bang s (walk (inner_at bang) s).0
   parts_before head s h = parts_of_walk reader s (eqb-true _ 0 (and_parts _ _ h).0)
 
   in_name-closes : (head : Bool) (text c : List ℕ) → bracket_in_name bang head text ≡ Some c → Closed head text c
   in_name-closes head text c e =
       let found = in_name-finds head text c e in let k = found.name in
       let w = walk (inner_at bang) k.before in
-      let longest = longest_of reader (33 ∷ k.before) (lone_inside, k.before) (lone_at bang k.before found.off k.names) in
+      let longest =
+      longest_of reader (33 ∷ k.before) (lone_inside, k.before) (lone_at bang k.before found.off k.names) in
       rw found.is (record {
         front = 33 ∷ k.before;
         rest = k.rest;
@@ -136,8 +140,9 @@ module _ (bang : Bool) where
       })
 
   -- a part and what closes behind it
-  then-closes : (head : Bool) (text c : List ℕ) (z : Inner × List ℕ) → inner_at bang text ≡ Some z → Closed (head || has_length z.0) z.1 c →
-      Closed head text c
+  then-closes : (head : Bool) (text c : List ℕ) (z : Inner × List ℕ)
+      → inner_at bang text ≡ Some z → Closed (head || has_length z.0) z.1 c
+      → Closed head text c
   then-closes head text c z e k =
       let u = inner_then z.0 k.front in let joined = joined_cut reader (inner_local bang) text c k.front z e k.cut in
       record {
@@ -153,7 +158,8 @@ module _ (bang : Bool) where
   abbrev pub last_at : Bool → List ℕ → Option (List ℕ)
   last_at head text = last_bracket bang head (walk (inner_at bang) text).0 (walk (inner_at bang) text).1
 
-  pub last_at-none : (head : Bool) (text : List ℕ) → inner_at bang text ≡ None → last_at head text ≡ bracket_here head text
+  pub last_at-none : (head : Bool) (text : List ℕ)
+      → inner_at bang text ≡ None → last_at head text ≡ bracket_here head text
   last_at-none head text e = rw (walk-none reader text e) refl
 
   pub last_at-some : (head : Bool) (text : List ℕ) (z : Inner × List ℕ) → inner_at bang text ≡ Some z →
@@ -164,8 +170,11 @@ module _ (bang : Bool) where
       ap (inner_then z.0) (walk_spells reader (inner_local bang) z.1) ∙ sym (stands_at reader text z e).cut in
       rw (walk-some reader text z e, spelled) refl
 
-  either_closes : (head : Bool) (text c : List ℕ) (z : Inner × List ℕ) (r : Option (List ℕ)) → inner_at bang text ≡ Some z →
-      ((d : List ℕ) → r ≡ Some d → Closed (head || has_length z.0) z.1 d) → later_or r (bracket_in_name bang head text) ≡ Some c → Closed head text c
+  either_closes : (head : Bool) (text c : List ℕ) (z : Inner × List ℕ) (r : Option (List ℕ))
+      → inner_at bang text ≡ Some z
+      → ((d : List ℕ) → r ≡ Some d → Closed (head || has_length z.0) z.1 d)
+      → later_or r (bracket_in_name bang head text) ≡ Some c
+      → Closed head text c
   either_closes head text c z None e next found = in_name-closes head text c found
   either_closes head text c z (Some d) e next found = then-closes head text c z e (next c found)
 
@@ -173,16 +182,20 @@ module _ (bang : Bool) where
   last_at-closes head text = by_parts reader (λ s. (h : Bool) (c : List ℕ) → last_at h s ≡ Some c → Closed h s c)
       (λ s e h c found. here-closes h s c (sym (last_at-none h s e) ∙ found))
       (λ s z e next h c found.
-      either_closes h s c z (last_at (h || has_length z.0) z.1) e (next (h || has_length z.0)) (sym (last_at-some h s z e) ∙ found)) text head
+      either_closes h s c z (last_at (h || has_length z.0) z.1) e (next (h || has_length z.0))
+      (sym (last_at-some h s z e) ∙ found))
+      text head
 
   pub bracket_at-closes : (text c : List ℕ) → bracket_at bang text ≡ Some c → Closed false text c
   unfolding bracket_at
   bracket_at-closes text c found = last_at-closes false text c found
 
   pub bracket_within : (text c : List ℕ) → bracket_at bang text ≡ Some c → length c ≤ length text
-  bracket_within text c found = let k = bracket_at-closes text c found in omega (arith, ap length k.cut, length-append k.front c)
+  bracket_within text c found =
+      let k = bracket_at-closes text c found in omega (arith, ap length k.cut, length-append k.front c)
 
-  -- ---- the last bracket is at or behind each at which a chord ends, and at it where no exclamation mark is passed over
+  -- ---- the last bracket is at or behind each at which a chord ends,
+  -- and at it where no exclamation mark is passed over
   record FoundLast (head : Bool) (text t : List ℕ) (lone : Bool) : Type 0 where
     closing : List ℕ
     is : last_at head text ≡ Some closing
@@ -205,20 +218,25 @@ module _ (bang : Bool) where
       bracket_in_name bang head (33 ∷ (name ++ (33 ∷ x))) ≡ name_upto 93 (good_before head) (name ++ (33 ∷ x)) (name, x)
   unfolding bracket_in_name
   in_name-reads head name x off good =
-      cond-true (not bang) _ None (not_from_false bang off) ∙ ap (bracket_in bang head (name ++ (33 ∷ x))) (name_at-reads name x good)
+      cond-true (not bang) _ None (not_from_false bang off)
+      ∙ ap (bracket_in bang head (name ++ (33 ∷ x))) (name_at-reads name x good)
 
-  in_name-found : (head : Bool) (before after rest : List ℕ) (parts : List Inner) → bang ≡ false → IsName (before ++ (93 ∷ after)) →
-      InnerParts bang before parts → (head || has_inner_head parts) ≡ true →
+  in_name-found : (head : Bool) (before after rest : List ℕ) (parts : List Inner)
+      → bang ≡ false → IsName (before ++ (93 ∷ after))
+      → InnerParts bang before parts → (head || has_inner_head parts) ≡ true →
       bracket_in_name bang head (33 ∷ ((before ++ (93 ∷ after)) ++ (33 ∷ rest))) ≡ Some (93 ∷ (after ++ (33 ∷ rest)))
   in_name-found head before after rest parts off good inner has =
       let names = all_parts is_name_byte before (93 ∷ after) good.bytes in
       let clear = wider free is_inside before inside_wide (clear_parts bang before parts inner names.0) in
       let passes : good_before head before ≡ true = rw (walk_of_parts reader before parts inner, has) refl in
-      in_name-reads head (before ++ (93 ∷ after)) rest off good ∙ name_upto-found 93 (good_before head) before after rest refl clear passes
+      in_name-reads head (before ++ (93 ∷ after)) rest off good
+      ∙ name_upto-found 93 (good_before head) before after rest refl clear passes
 
-  cross_last : (head lone : Bool) (text t : List ℕ) (z : Inner × List ℕ) (r : Option (List ℕ)) → inner_at bang text ≡ Some z →
-      length z.1 < length (93 ∷ t) → bracket_in_name bang head text ≡ Some (93 ∷ t) → lone ≡ true → last_at (head || has_length z.0) z.1 ≡ r →
-      FoundLast head text t lone
+  cross_last : (head lone : Bool) (text t : List ℕ) (z : Inner × List ℕ) (r : Option (List ℕ))
+      → inner_at bang text ≡ Some z
+      → length z.1 < length (93 ∷ t) → bracket_in_name bang head text ≡ Some (93 ∷ t) → lone ≡ true
+      → last_at (head || has_length z.0) z.1 ≡ r
+      → FoundLast head text t lone
   cross_last head lone text t z None e short found only is = record {
     closing = 93 ∷ t;
     is = last_at-some head text z e ∙ rw is found;
@@ -229,20 +247,26 @@ module _ (bang : Bool) where
       let shorter : length c < length (93 ∷ t) = omega (arith, short, ap length k.cut, length-append k.front c) in
       record { closing = c; is = last_at-some head text z e ∙ rw is refl; ends = inl (shorter, only) }
 
-  cross-found : (head : Bool) (u t v : List ℕ) (part : Inner) (more : List Inner) (z : Inner × List ℕ) → inner_at bang u ≡ Some (part, v) →
-      InnerParts bang v more → (head || has_inner_head (part ∷ more)) ≡ true → inner_at bang (u ++ (93 ∷ t)) ≡ Some z → length z.1 < length (93 ∷ t) →
-      FoundLast head (u ++ (93 ∷ t)) t (has_lone (part ∷ more))
+  cross-found : (head : Bool) (u t v : List ℕ) (part : Inner) (more : List Inner) (z : Inner × List ℕ)
+      → inner_at bang u ≡ Some (part, v)
+      → InnerParts bang v more → (head || has_inner_head (part ∷ more)) ≡ true → inner_at bang (u ++ (93 ∷ t)) ≡ Some z
+      → length z.1 < length (93 ∷ t)
+      → FoundLast head (u ++ (93 ∷ t)) t (has_lone (part ∷ more))
   cross-found head u t v part more z at others has e short =
       let text = u ++ (93 ∷ t) in let stands = stands_at reader text z e in
       let k = crossing bang 93 z.0 u t z.1 refl refl stands.good stands.cut short in
       let same = some_pair_parts part lone_inside v k.before (sym at ∙ k.lone) in
       let inner = subst (λ (x : List ℕ). InnerParts bang x more) same.1 others in
       let heads = subst (λ (p : Inner). (head || has_inner_head (p ∷ more)) ≡ true) same.0 has in
-      let found = ap (bracket_in_name bang head) k.spelled ∙ in_name-found head k.before k.after z.1 more k.off k.name inner heads ∙ ap Some k.tail in
-      cross_last head (has_lone (part ∷ more)) text t z (last_at (head || has_length z.0) z.1) e short found (or_left _ _ (ap is_lone same.0)) refl
+      let found = ap (bracket_in_name bang head) k.spelled
+      ∙ in_name-found head k.before k.after z.1 more k.off k.name inner heads
+      ∙ ap Some k.tail in
+      cross_last head (has_lone (part ∷ more)) text t z (last_at (head || has_length z.0) z.1) e short found
+      (or_left _ _ (ap is_lone same.0)) refl
 
-  last-reaches : (head : Bool) (u t : List ℕ) (ps : List Inner) → InnerParts bang u ps → (head || has_inner_head ps) ≡ true →
-      FoundLast head (u ++ (93 ∷ t)) t (has_lone ps)
+  last-reaches : (head : Bool) (u t : List ℕ) (ps : List Inner)
+      → InnerParts bang u ps → (head || has_inner_head ps) ≡ true
+      → FoundLast head (u ++ (93 ∷ t)) t (has_lone ps)
   last-reaches head _ t _ no_part has = record {
     closing = 93 ∷ t;
     is = last_at-none head (93 ∷ t) (at_bracket t) ∙ rw (sym (or-false head) ∙ has) refl;
@@ -251,7 +275,8 @@ module _ (bang : Bool) where
   last-reaches head _ t _ (then_part u part v more l others) has =
       elim (read_on reader (inner_local bang) part u v (93 ∷ t) l) [
         | inl on ↦
-            (let later = last-reaches (head || has_length part) v t more others (or_assoc head (has_length part) (has_inner_head more) ∙ has) in
+            (let later = last-reaches (head || has_length part) v t more others
+            (or_assoc head (has_length part) (has_inner_head more) ∙ has) in
             then-found head (has_lone more) (u ++ (93 ∷ t)) t (part, v ++ (93 ∷ t)) on later)
         | inr past ↦ cross-found head u t v part more past.0 (longest_is reader u part v l) others has past.1 past.2
       ]
@@ -265,8 +290,10 @@ module _ (bang : Bool) where
   chord_from-takes s (Some []) e = tt
   chord_from-takes s (Some (b ∷ c)) e =
       let k = bracket_at-closes s (b ∷ c) e in let l = length_at-takes c in
-      rw (cut_off s k.front (b ∷ c) k.cut, walk_of_parts reader k.front k.parts k.good)
-      (record { parts = k.good; head = k.has; length = l.1 }, k.cut ∙ ap (λ x. k.front ++ x) (k.is ∙ ap (λ x. 93 ∷ x) (sym (rest_same k.is) ∙ l.0)))
+      rw (cut_off s k.front (b ∷ c) k.cut, walk_of_parts reader k.front k.parts k.good) (
+        record { parts = k.good; head = k.has; length = l.1 },
+        k.cut ∙ ap (λ x. k.front ++ x) (k.is ∙ ap (λ x. 93 ∷ x) (sym (rest_same k.is) ∙ l.0)),
+      )
 
   pub chord_at-takes : (s : List ℕ) → TakesChord s (chord_at bang s)
   unfolding chord_at
@@ -283,24 +310,31 @@ module _ (bang : Bool) where
   unfolding bracket_at
   found_at s c e = e
 
-  chord_there : (f : ChordForm) (x : List ℕ) → IsChord bang f → last_at false (chord_then f x) ≡ Some (93 ∷ length_then f.length x) →
-      chord_at bang (chord_then f x) ≡ Some (chord_with f (length_from (length_then f.length x)))
+  chord_there : (f : ChordForm) (x : List ℕ)
+      → IsChord bang f → last_at false (chord_then f x) ≡ Some (93 ∷ length_then f.length x)
+      → chord_at bang (chord_then f x) ≡ Some (chord_with f (length_from (length_then f.length x)))
   chord_there f x good e =
       let c = 93 ∷ length_then f.length x in
-      let inside : take (length (f.inside ++ c) - length c) (f.inside ++ c) ≡ f.inside = cut_off (f.inside ++ c) f.inside c refl in
-      at_closing (chord_then f x) c (found_at _ c e) ∙ rw (inside, walk_of_parts reader f.inside f.parts good.parts) refl
+      let inside : take (length (f.inside ++ c) - length c) (f.inside ++ c) ≡ f.inside =
+      cut_off (f.inside ++ c) f.inside c refl in
+      at_closing (chord_then f x) c (found_at _ c e)
+      ∙ rw (inside, walk_of_parts reader f.inside f.parts good.parts) refl
 
   longer_chord : (f : ChordForm) (x c : List ℕ) → IsChord bang f → bracket_at bang (chord_then f x) ≡ Some c →
       length c < length (93 ∷ length_then f.length x) →
       (z : ChordForm × List ℕ) × (chord_at bang (chord_then f x) ≡ Some z) × ((length z.1 < length x) ⊎ (z ≡ (f, x)))
-  longer_chord f x [] good e shorter = absurd (let k = bracket_at-closes (chord_then f x) [] e in omega (arith, ap length k.is))
+  longer_chord f x [] good e shorter =
+      absurd (let k = bracket_at-closes (chord_then f x) [] e in omega (arith, ap length k.is))
   longer_chord f x (b ∷ c) good e shorter =
       let text = chord_then f x in let k = bracket_at-closes text (b ∷ c) e in
       let cut = k.cut ∙ ap (λ y. k.front ++ (y ∷ c)) (first_same k.is) in
       let near = behind_length f.length x f.inside k.front c good.length cut (omega (arith, shorter)) in
       let inside = take (length text - length (b ∷ c)) text in
       let l = length_at-takes c in (
-        (record { inside = inside; parts = (walk (inner_at bang) inside).0; length = (length_from c).0 }, (length_from c).1),
+        (
+          record { inside = inside; parts = (walk (inner_at bang) inside).0; length = (length_from c).0 },
+          (length_from c).1,
+        ),
         at_closing text (b ∷ c) e,
         inl (omega (arith, near, ap length l.0, length-length_then (length_from c).0 (length_from c).1)),
       )
@@ -314,7 +348,10 @@ module _ (bang : Bool) where
         | inr same ↦ (
           chord_with f (length_from (length_then f.length x)),
           chord_there f x good (k.is ∙ ap Some same),
-          elim (length_at-reaches f.length x good.length) [ inl near ↦ inl near.0 | inr same ↦ inr (ap (chord_with f) same) ],
+          elim (length_at-reaches f.length x good.length) [
+            | inl near ↦ inl near.0
+            | inr same ↦ inr (ap (chord_with f) same)
+          ],
         )
       ]
 
@@ -342,13 +379,17 @@ module _ (bang : Bool) where
       next ≡ later_or (bracket_in_name bang head rest) last → Seeking text new next behind
   seeking-next {text} {rest} {behind} {head} {new} {last} {next} {part} stage e newly later =
       rw (newly, later) (record {
-        found = sym (later_assoc _ _ last) ∙ ap (λ r. later_or r last) (sym (last_at-some head rest (part, behind) e)) ∙ stage.found;
+        found =
+            sym (later_assoc _ _ last)
+            ∙ ap (λ r. later_or r last) (sym (last_at-some head rest (part, behind) e))
+            ∙ stage.found;
         within = omega (arith, less reader rest (part, behind) e, stage.within);
       })
 
   pub seeking-ends : {text rest : List ℕ} {head : Bool} {last : Option (List ℕ)} → Seeking text head last rest →
       inner_at bang rest ≡ None → later_or (bracket_here head rest) last ≡ bracket_at bang text
-  seeking-ends {text} {rest} {head} {last} stage e = ap (λ r. later_or r last) (sym (last_at-none head rest e)) ∙ stage.found
+  seeking-ends {text} {rest} {head} {last} stage e =
+      ap (λ r. later_or r last) (sym (last_at-none head rest e)) ∙ stage.found
 
   -- ---- the fault
   pub chord-unclosed : (s w r : List ℕ) → two w r ≡ span_all is_inside s → length r ≡ 0 →
@@ -358,15 +399,20 @@ module _ (bang : Bool) where
   inner_leads : (s t : List ℕ) → (walk (inner_at bang) s).1 ≡ t → InnerLeads bang s (walk (inner_at bang) s).0 t
   inner_leads s t e = rw e at (leads_of_walk reader (inner_local bang) s)
 
-  pub chord-open : (s : List ℕ) → is_done (walk (inner_at bang) s) ≡ true → ChordFault bang s (record { kind = Unclosed; left = length s + 1 })
+  pub chord-open : (s : List ℕ)
+      → is_done (walk (inner_at bang) s) ≡ true → ChordFault bang s (record { kind = Unclosed; left = length s + 1 })
   chord-open s done = rw add-one (chord_open s _ (inner_leads s [] (nil_from_length _ (eqb-true _ 0 done))))
 
   -- parts with a head up to a bracket are a chord
-  last_here : (head : Bool) (ps : List Inner) (t : List ℕ) → (head || has_inner_head ps) ≡ true → last_bracket bang head ps (93 ∷ t) ≡ Some (93 ∷ t)
+  last_here : (head : Bool) (ps : List Inner) (t : List ℕ)
+      → (head || has_inner_head ps) ≡ true → last_bracket bang head ps (93 ∷ t) ≡ Some (93 ∷ t)
   last_here head [] rest has = rw (sym (or-false head) ∙ has) refl
-  last_here head (p ∷ ps) rest has = rw (last_here (head || has_length p) ps rest (or_assoc head (has_length p) (has_inner_head ps) ∙ has)) refl
+  last_here head (p ∷ ps) rest has =
+      rw (last_here (head || has_length p) ps rest (or_assoc head (has_length p) (has_inner_head ps) ∙ has)) refl
 
-  headless : (s rest : List ℕ) → (walk (inner_at bang) s).1 ≡ 93 ∷ rest → chord_at bang s ≡ None → has_inner_head (walk (inner_at bang) s).0 ≡ false
+  headless : (s rest : List ℕ)
+      → (walk (inner_at bang) s).1 ≡ 93 ∷ rest → chord_at bang s ≡ None
+      → has_inner_head (walk (inner_at bang) s).0 ≡ false
   headless s rest stop none = false_from_ne_true _ (λ e.
       let ps = (walk (inner_at bang) s).0 in
       let found = found_at s (93 ∷ rest) (ap (last_bracket bang false ps) stop ∙ last_here false ps rest e) in
@@ -375,17 +421,20 @@ module _ (bang : Bool) where
   pub chord-headless : (s : List ℕ) → chord_at bang s ≡ None → begins is_bracket (walk (inner_at bang) s).1 ≡ true →
       ChordFault bang s (record { kind = BadByte; left = length s + 1 })
   chord-headless s none at =
-      let stop = first_close 93 _ at in rw add-one (chord_headless s _ stop.0 (inner_leads s _ stop.1) (headless s stop.0 stop.1 none))
+      let stop = first_close 93 _ at in
+      rw add-one (chord_headless s _ stop.0 (inner_leads s _ stop.1) (headless s stop.0 stop.1 none))
 
   none_behind : (s t : List ℕ) → (walk (inner_at bang) s).1 ≡ t → HasNone Inner (StandsInside bang) t
   none_behind s t e = none_of reader t (ap (inner_at bang) (sym e) ∙ stops_at reader s)
 
-  pub chord-flawed : (s w r : List ℕ) (flaw : Flaw) → two w r ≡ span_all is_inside s → (length r ≡ 0 → ⊥) → is_done (walk (inner_at bang) s) ≡ false →
-      begins is_bracket (walk (inner_at bang) s).1 ≡ false → InnerFlawed bang None s flaw → ChordFault bang s flaw
+  pub chord-flawed : (s w r : List ℕ) (flaw : Flaw)
+      → two w r ≡ span_all is_inside s → (length r ≡ 0 → ⊥) → is_done (walk (inner_at bang) s) ≡ false
+      → begins is_bracket (walk (inner_at bang) s).1 ≡ false → InnerFlawed bang None s flaw → ChordFault bang s flaw
   chord-flawed s w r flaw cut some stuck other flawed = by_stop (walk (inner_at bang) s).1 refl
     where
       by_stop : (t : List ℕ) → (walk (inner_at bang) s).1 ≡ t → ChordFault bang s flaw
       by_stop [] e = absurd (let clash = sym stuck ∙ ap (λ (t : List ℕ). eqb (length t) 0) e in cc)
       by_stop (b ∷ t) e =
-          chord_flawed s (walk (inner_at bang) s).0 b t flaw (some_left is_inside s w r cut some) (inner_leads s (b ∷ t) e) (none_behind s (b ∷ t) e)
+          chord_flawed s (walk (inner_at bang) s).0 b t flaw (some_left is_inside s w r cut some)
+          (inner_leads s (b ∷ t) e) (none_behind s (b ∷ t) e)
           (sym (ap (begins is_bracket) e) ∙ other) flawed

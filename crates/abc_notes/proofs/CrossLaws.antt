@@ -1,4 +1,5 @@
--- The last brace within a chord at which a grace group may end stands behind one of the shorter chords that begin at the same bracket.
+-- The last brace within a chord at which a grace group may end stands behind one of the shorter chords that begin at
+-- the same bracket.
 use Rattle.std.proofs.Common.{◌≡◌, ℕ, suc, ◌+◌, ◌-◌, ◌≤◌, Bool, true, false, eqb, List, [], ◌∷◌, ◌++◌, length, take}
 use Rattle.std.proofs.Common.{drop, Bor, Option, Some, None}
 use Rattle.std.proofs.Common.{refl, sym, ap, ◌∙◌, arith, append_assoc, append-nil, not, ◌&&◌, ◌||◌, option_map}
@@ -34,7 +35,8 @@ use Rattle.abc_notes.proofs.{InnerLaws.{inner_reader, inner_pair, length-length_
 use Rattle.std.specs.List.{list_all}
 
 joined : (x y : List ℕ) (a b : Option (List ℕ)) →
-    later_or (option_map (λ c. c ++ y) a) (option_map (λ c. c ++ (x ++ y)) b) ≡ option_map (λ c. c ++ y) (later_or a (option_map (λ c. c ++ x) b))
+    later_or (option_map (λ c. c ++ y) a) (option_map (λ c. c ++ (x ++ y)) b)
+    ≡ option_map (λ c. c ++ y) (later_or a (option_map (λ c. c ++ x) b))
 joined x y (Some a) b = refl
 joined x y None None = refl
 joined x y None (Some b) = ap Some (sym (append_assoc b x y))
@@ -43,7 +45,8 @@ add_nothing : (r : Option (List ℕ)) → option_map (λ c. c ++ []) r ≡ r
 add_nothing None = refl
 add_nothing (Some c) = ap Some (append-nil c)
 
-behind_mark : (mark : Option (List ℕ)) (rest v y : List ℕ) → rest ≡ v ++ y → stands_behind (option_map (λ m. m ++ rest) mark) (Some y)
+behind_mark : (mark : Option (List ℕ)) (rest v y : List ℕ)
+    → rest ≡ v ++ y → stands_behind (option_map (λ m. m ++ rest) mark) (Some y)
 behind_mark None rest v y is = tt
 behind_mark (Some m) rest v y is =
     let whole : m ++ rest ≡ (m ++ v) ++ y = ap (λ x. m ++ x) is ∙ sym (append_assoc m v y) in
@@ -63,10 +66,12 @@ within_front [] w c rest cut is = absurd (omega (arith, first_same (cut ∙ is))
 within_front (b ∷ front) w c rest cut is = omega (arith, ap length cut, length-append front c)
 
 -- what follows a length
-pub length_shorter : (s : List ℕ) {rest : List ℕ} {len : Len} → length_read len rest ≡ length_read (len_of (length_from s).0) (length_from s).1 →
-    length rest ≤ length s
+pub length_shorter : (s : List ℕ) {rest : List ℕ} {len : Len}
+    → length_read len rest ≡ length_read (len_of (length_from s).0) (length_from s).1
+    → length rest ≤ length s
 length_shorter s e =
-    let l = length_from s in omega (arith, ap (λ p. length p.1) e, ap length (length_at-takes s).0, length-length_then l.0 l.1)
+    let l = length_from s in
+    omega (arith, ap (λ p. length p.1) e, ap length (length_at-takes s).0, length-length_then l.0 l.1)
 
 module _ (bang : Bool) where
   -- ---- the bracket in a name that is a part, from it on up to the end of the part
@@ -74,45 +79,55 @@ module _ (bang : Bool) where
   own_bracket head (named_inside name) = bracket_in_name bang head (33 ∷ (name ++ (33 ∷ [])))
   own_bracket head _ = None
 
-  unnamed_in : (head : Bool) (s : List ℕ) (z : Inner × List ℕ) (r : Option (List ℕ × List ℕ)) → named_or r s ≡ Some z → is_named z.0 ≡ false →
-      bracket_in bang head s r ≡ None
+  unnamed_in : (head : Bool) (s : List ℕ) (z : Inner × List ℕ) (r : Option (List ℕ × List ℕ))
+      → named_or r s ≡ Some z → is_named z.0 ≡ false
+      → bracket_in bang head s r ≡ None
   unnamed_in head s z None e n = refl
   unnamed_in head s z (Some named) e n =
-      let same = (some_pair_parts (named_inside named.0) z.0 named.1 z.1 e).0 in absurd (both_ways (is_named z.0) n (ap is_named (sym same)))
+      let same = (some_pair_parts (named_inside named.0) z.0 named.1 z.1 e).0 in
+      absurd (both_ways (is_named z.0) n (ap is_named (sym same)))
 
-  unnamed_own : (head : Bool) (s : List ℕ) (z : Inner × List ℕ) → inner_at bang s ≡ Some z → is_named z.0 ≡ false → bracket_in_name bang head s ≡ None
+  unnamed_own : (head : Bool) (s : List ℕ) (z : Inner × List ℕ)
+      → inner_at bang s ≡ Some z → is_named z.0 ≡ false → bracket_in_name bang head s ≡ None
   unfolding bracket_in_name
   unnamed_own head [] z e n = refl
   unnamed_own head (b ∷ s) z e n =
       cond_both {A = Option (List ℕ)} (eqb b 33 && not bang) _ None (λ r. r ≡ None)
       (λ h.
       let p = and_parts (eqb b 33) (not bang) h in
-      let read = sym (bang_at bang s (not-true bang p.1)) ∙ ap (λ x. inner_at bang (x ∷ s)) (sym (eqb-true b 33 p.0)) ∙ e in
+      let read =
+      sym (bang_at bang s (not-true bang p.1)) ∙ ap (λ x. inner_at bang (x ∷ s)) (sym (eqb-true b 33 p.0)) ∙ e in
       unnamed_in head s z (name_at s) read n)
       (λ h. refl)
 
-  part_own : (head : Bool) (part : Inner) (x : List ℕ) → IsInner bang part → inner_at bang (inner_then part x) ≡ Some (inner_pair part x) →
-      bracket_in_name bang head (inner_then part x) ≡ option_map (λ m. m ++ x) (own_bracket head part)
+  part_own : (head : Bool) (part : Inner) (x : List ℕ)
+      → IsInner bang part → inner_at bang (inner_then part x) ≡ Some (inner_pair part x)
+      → bracket_in_name bang head (inner_then part x) ≡ option_map (λ m. m ++ x) (own_bracket head part)
   part_own head (named_inside name) x good e =
       in_name-reads bang head name x good.0 good.1 ∙ name_upto-append 93 (good_before bang head) name x
       ∙ ap (option_map (λ (m : List ℕ). m ++ x)) (sym (in_name-reads bang head name [] good.0 good.1))
   part_own head part x good e = unnamed_own head (inner_then part x) (part, x) e refl
 
   -- ---- the text before a bracket in a name holds no bracket behind the mark
-  quiet_parts : (head : Bool) (u : List ℕ) (ps : List Inner) → InnerParts bang u ps → list_all is_name_byte u ≡ true → last_at bang head u ≡ None
+  quiet_parts : (head : Bool) (u : List ℕ) (ps : List Inner)
+      → InnerParts bang u ps → list_all is_name_byte u ≡ true → last_at bang head u ≡ None
   quiet_parts head _ _ no_part h = last_at-none bang head [] (at_nil (inner_reader bang))
   quiet_parts head _ _ (then_part u part rest more l others) h =
       let at = longest_is (inner_reader bang) u part rest l in
       let names = ap (list_all is_name_byte) (sym l.stands.cut) ∙ h in
-      let behind = all_parts is_name_byte (inner_then part []) rest (ap (list_all is_name_byte) (inner_append part [] rest) ∙ names) in
+      let behind = all_parts is_name_byte (inner_then part []) rest
+      (ap (list_all is_name_byte) (inner_append part [] rest) ∙ names) in
       let later = quiet_parts (head || has_length part) rest more others behind.1 in
-      last_at-some bang head u (part, rest) at ∙ rw later (unnamed_own head u (part, rest) at (not_named part rest names))
+      last_at-some bang head u (part, rest) at
+      ∙ rw later (unnamed_own head u (part, rest) at (not_named part rest names))
 
-  quiet_mark : (head : Bool) (u : List ℕ) (ps : List Inner) → bang ≡ false → InnerParts bang u ps → list_all is_name_byte u ≡ true →
-      last_at bang head (33 ∷ u) ≡ None
+  quiet_mark : (head : Bool) (u : List ℕ) (ps : List Inner)
+      → bang ≡ false → InnerParts bang u ps → list_all is_name_byte u ≡ true
+      → last_at bang head (33 ∷ u) ≡ None
   quiet_mark head u ps off good h =
       let at = lone_at bang u off h in let later = quiet_parts (head || has_length lone_inside) u ps good h in
-      last_at-some bang head (33 ∷ u) (lone_inside, u) at ∙ rw later (unnamed_own head (33 ∷ u) (lone_inside, u) at refl)
+      last_at-some bang head (33 ∷ u) (lone_inside, u) at
+      ∙ rw later (unnamed_own head (33 ∷ u) (lone_inside, u) at refl)
 
   -- a bracket in a name
   candidate : (head : Bool) (rest closing : List ℕ) → bracket_in_name bang head rest ≡ Some closing →
@@ -134,7 +149,8 @@ module _ (bang : Bool) where
     pub mark : Option (List ℕ)
     pub cut : w ≡ front ++ rest
     pub is : bracket ≡ option_map (λ m. m ++ rest) mark
-    pub brackets : (v y : List ℕ) → rest ≡ v ++ y → bracket_at bang (front ++ v) ≡ later_or (last_at bang head v) (option_map (λ m. m ++ v) mark)
+    pub brackets : (v y : List ℕ)
+        → rest ≡ v ++ y → bracket_at bang (front ++ v) ≡ later_or (last_at bang head v) (option_map (λ m. m ++ v) mark)
     pub found : last ≡ brace_upto w bracket
     pub left : (walk (inner_at bang) rest).1 ≡ (walk (inner_at bang) w).1
 
@@ -145,31 +161,47 @@ module _ (bang : Bool) where
       record { front = []; mark = None; cut = refl; is = refl; brackets = brackets; found = refl; left = refl }
 
   upto_mark : (w front rest v y : List ℕ) (mark last : Option (List ℕ)) → w ≡ front ++ rest → rest ≡ v ++ y →
-      bracket_at bang (front ++ v) ≡ option_map (λ m. m ++ v) mark → last ≡ brace_upto w (option_map (λ m. m ++ rest) mark) →
-      later_or (brace_between bang (option_map (λ m. m ++ rest) mark) (Some y)) last ≡ option_map (λ c. c ++ y) (brace_in_chord bang (front ++ v))
+      bracket_at bang (front ++ v) ≡ option_map (λ m. m ++ v) mark
+      → last ≡ brace_upto w (option_map (λ m. m ++ rest) mark)
+      → later_or (brace_between bang (option_map (λ m. m ++ rest) mark) (Some y)) last
+      ≡ option_map (λ c. c ++ y) (brace_in_chord bang (front ++ v))
   upto_mark w front rest v y None last cut is at found = rw (found, chord-none bang (front ++ v) at) refl
   upto_mark w front rest v y (Some m) last cut is at found =
       let k = bracket_at-closes bang (front ++ v) (m ++ v) at in let b = m ++ rest in
       let whole : b ≡ (m ++ v) ++ y = ap (λ x. m ++ x) is ∙ sym (append_assoc m v y) in
       let line : w ≡ k.front ++ b =
-      cut ∙ ap (λ x. front ++ x) is ∙ sym (append_assoc front v y) ∙ ap (λ x. x ++ y) k.cut ∙ append_assoc k.front (m ++ v) y
+      cut
+      ∙ ap (λ x. front ++ x) is
+      ∙ sym (append_assoc front v y)
+      ∙ ap (λ x. x ++ y) k.cut
+      ∙ append_assoc k.front (m ++ v) y
       ∙ ap (λ x. k.front ++ x) (sym whole) in
       let short = cut_off (front ++ v) k.front (m ++ v) k.cut in
-      rw (found, cut_off b (m ++ v) y whole, cut_off w k.front b line, whole, chord-some bang (front ++ v) (m ++ v) at, short)
+      rw (
+        found,
+        cut_off b (m ++ v) y whole,
+        cut_off w k.front b line,
+        whole,
+        chord-some bang (front ++ v) (m ++ v) at,
+        short,
+      )
       (joined (m ++ v) y (brace_behind bang (m ++ v)) (brace_in_chord bang k.front))
 
   small_mark : (head : Bool) (front rest : List ℕ) (mark : Option (List ℕ)) (n : ℕ) →
-      bracket_at bang (front ++ []) ≡ later_or (last_at bang head []) (option_map (λ m. m ++ []) mark) → length front + length rest ≤ n →
-      at_most_bytes n (option_map (λ m. m ++ rest) mark)
+      bracket_at bang (front ++ []) ≡ later_or (last_at bang head []) (option_map (λ m. m ++ []) mark)
+      → length front + length rest ≤ n
+      → at_most_bytes n (option_map (λ m. m ++ rest) mark)
   small_mark head front rest None n e h = tt
   small_mark head front rest (Some m) n e h =
       let quiet = last_at-none bang head [] (at_nil (inner_reader bang)) in
       let short = bracket_within bang (front ++ []) (m ++ []) (e ∙ ap (λ r. later_or r (Some (m ++ []))) quiet) in
       omega (arith, h, short, length-append front [], length-append m [], length-append m rest)
 
-  module _ {head : Bool} {w : List ℕ} {bracket last : Option (List ℕ)} {rest : List ℕ} (stage : Passing head w bracket last rest) where
+  module _ {head : Bool} {w : List ℕ} {bracket last : Option (List ℕ)} {rest : List ℕ}
+      (stage : Passing head w bracket last rest) where
     passing-upto : (v y : List ℕ) → rest ≡ v ++ y → last_at bang head v ≡ None →
-        later_or (brace_between bang bracket (Some y)) last ≡ option_map (λ c. c ++ y) (brace_in_chord bang (stage.front ++ v))
+        later_or (brace_between bang bracket (Some y)) last
+        ≡ option_map (λ c. c ++ y) (brace_in_chord bang (stage.front ++ v))
     passing-upto v y is quiet =
         let at = stage.brackets v y is ∙ ap (λ r. later_or r (option_map (λ (m : List ℕ). m ++ v) stage.mark)) quiet in
         ap (λ b. later_or (brace_between bang b (Some y)) last) stage.is
@@ -183,24 +215,29 @@ module _ (bang : Bool) where
 
     -- whether or not there is a bracket in a name
     found_or : (closing : Option (List ℕ)) → bracket_in_name bang head rest ≡ closing →
-        (later_or (brace_between bang bracket closing) last ≡ brace_upto w (later_or closing bracket)) × stands_behind bracket closing
+        (later_or (brace_between bang bracket closing) last ≡ brace_upto w (later_or closing bracket))
+        × stands_behind bracket closing
     found_or None e = (stage.found, tt)
     found_or (Some closing) e =
         let c = candidate head rest closing e in let u = stage.front ++ c.0 in
-        let line : w ≡ u ++ closing = stage.cut ∙ ap (λ x. stage.front ++ x) c.1 ∙ sym (append_assoc stage.front c.0 closing) in
-        let upto = ap (λ (t : List ℕ). option_map (λ (x : List ℕ). x ++ closing) (brace_in_chord bang t)) (sym (cut_off w u closing line)) in
+        let line : w ≡ u ++ closing =
+        stage.cut ∙ ap (λ x. stage.front ++ x) c.1 ∙ sym (append_assoc stage.front c.0 closing) in
+        let upto = ap (λ (t : List ℕ). option_map (λ (x : List ℕ). x ++ closing) (brace_in_chord bang t))
+        (sym (cut_off w u closing line)) in
         (passing-upto c.0 closing c.1 c.2 ∙ upto, passing-behind c.0 closing c.1)
 
     pub passing-found : {closing : Option (List ℕ)} → closing ≡ bracket_in_name bang head rest →
         later_or (brace_between bang bracket closing) last ≡ brace_upto w (later_or closing bracket)
     passing-found {closing} e = (found_or closing (sym e)).0
 
-    pub closing-behind : {closing : Option (List ℕ)} → closing ≡ bracket_in_name bang head rest → stands_behind bracket closing
+    pub closing-behind : {closing : Option (List ℕ)}
+        → closing ≡ bracket_in_name bang head rest → stands_behind bracket closing
     closing-behind {closing} e = (found_or closing (sym e)).1
 
     pub passing-small : (n : ℕ) → length w ≤ n → at_most_bytes n bracket
     passing-small n h =
-        let within : length stage.front + length rest ≤ n = omega (arith, h, ap length stage.cut, length-append stage.front rest) in
+        let within : length stage.front + length rest ≤ n =
+        omega (arith, h, ap length stage.cut, length-append stage.front rest) in
         rw stage.is (small_mark head stage.front rest stage.mark n (stage.brackets [] rest refl) within)
 
     pub passing-size : size_of bracket ≤ length w
@@ -208,13 +245,15 @@ module _ (bang : Bool) where
 
     pub passing-next : {new : Bool} {next found : Option (List ℕ)} {behind : List ℕ} {part : Inner} →
         inner_at bang rest ≡ Some (inner_pair part behind) → new ≡ (head || has_length part) →
-        next ≡ later_or (bracket_in_name bang head rest) bracket → found ≡ brace_upto w next → Passing new w next found behind
+        next ≡ later_or (bracket_in_name bang head rest) bracket
+        → found ≡ brace_upto w next → Passing new w next found behind
     passing-next {behind = behind} {part = part} e newly nextly so_far =
         let r = inner_reader bang in let stands = stands_at r rest (part, behind) e in
         let one = inner_then part [] in let own = own_bracket head part in
         let split : rest ≡ one ++ behind = stands.cut ∙ sym (inner_append part [] behind) in
         let before = stage.is ∙ ap (λ (x : List ℕ). option_map (λ (m : List ℕ). m ++ x) stage.mark) split in
-        let named = ap (bracket_in_name bang head) stands.cut ∙ part_own head part behind stands.good (ap (inner_at bang) (sym stands.cut) ∙ e) in
+        let named = ap (bracket_in_name bang head) stands.cut
+        ∙ part_own head part behind stands.good (ap (inner_at bang) (sym stands.cut) ∙ e) in
         rw newly (record {
           front = stage.front ++ one;
           mark = later_or own (option_map (λ (m : List ℕ). m ++ one) stage.mark);
@@ -236,10 +275,13 @@ module _ (bang : Bool) where
     pub passing-ends : inner_at bang rest ≡ None → is_done (walk (inner_at bang) w) ≡ true →
         later_or (brace_between bang bracket (Some rest)) last ≡ brace_in_chord bang w
     passing-ends none done =
-        let nothing : rest ≡ [] = sym (left_none (inner_reader bang) rest none) ∙ stage.left ∙ nil_from_length _ (eqb-true _ 0 done) in
+        let nothing : rest ≡ [] =
+        sym (left_none (inner_reader bang) rest none) ∙ stage.left ∙ nil_from_length _ (eqb-true _ 0 done) in
         let quiet = last_at-none bang head [] (at_nil (inner_reader bang)) in
         let all = brace_in_chord bang (stage.front ++ []) in
-        passing-upto [] rest refl quiet ∙ ap (λ (x : List ℕ). option_map (λ (c : List ℕ). c ++ x) all) nothing ∙ add_nothing all
+        passing-upto [] rest refl quiet
+        ∙ ap (λ (x : List ℕ). option_map (λ (c : List ℕ). c ++ x) all) nothing
+        ∙ add_nothing all
         ∙ ap (brace_in_chord bang) (ap (λ x. stage.front ++ x) (sym nothing) ∙ sym stage.cut)
 
   -- ---- what is found stands within the chord
@@ -264,8 +306,9 @@ module _ (bang : Bool) where
   same_brace_in (GracePiece.Chord inside) (single f) text e = absurd cc
   same_brace_in (GracePiece.Chord inside) (chorded f) text e = let same : inside.now ≡ f.inside = cc in rw same refl
 
-  item_stands : (item : GracePiece) (part : GracePart) (text behind : List ℕ) → inside_of_item item ≡ inside_of_part part →
-      StandsInGrace bang part text behind → IsItemAt bang item text
+  item_stands : (item : GracePiece) (part : GracePart) (text behind : List ℕ)
+      → inside_of_item item ≡ inside_of_part part
+      → StandsInGrace bang part text behind → IsItemAt bang item text
   item_stands (GracePiece.Part p) part text behind e stands = tt
   item_stands (GracePiece.Chord inside) (single f) text behind e stands = absurd cc
   item_stands (GracePiece.Chord inside) (chorded f) text behind e stands =
@@ -286,20 +329,25 @@ module _ (bang : Bool) where
     item-at = item_stands item f.part text behind f.encloses (stands_at (part_reader bang) text (f.part, behind) f.at)
 
   -- ---- behind one chord, up to a closing byte
-  pub brace_fits : (s : List ℕ) {rest brace : List ℕ} {len : Len} → length_read len rest ≡ length_read (len_of (length_from s).0) (length_from s).1 →
-      Some brace ≡ brace_at bang rest → length brace ≤ length s
+  pub brace_fits : (s : List ℕ) {rest brace : List ℕ} {len : Len}
+      → length_read len rest ≡ length_read (len_of (length_from s).0) (length_from s).1
+      → Some brace ≡ brace_at bang rest → length brace ≤ length s
   brace_fits s {rest} {brace} e found =
-      let k = brace_at-closes bang rest brace (sym found) in omega (arith, length_shorter s e, ap length k.cut, length-append k.front brace)
+      let k = brace_at-closes bang rest brace (sym found) in
+      omega (arith, length_shorter s e, ap length k.cut, length-append k.front brace)
 
   pub past_is : (closing : List ℕ) {bracket chord s rest brace : List ℕ} {b : ℕ} {len : Len} →
-      bracket ≡ take (length bracket - length closing) bracket ++ closing → chord ≡ take (length bracket - length closing) bracket → chord ≡ b ∷ s →
-      length_read len rest ≡ length_read (len_of (length_from s).0) (length_from s).1 → Some brace ≡ brace_at bang rest →
-      Some (drop (length chord - length brace) bracket) ≡ brace_between bang (Some bracket) (Some closing)
+      bracket ≡ take (length bracket - length closing) bracket ++ closing
+      → chord ≡ take (length bracket - length closing) bracket → chord ≡ b ∷ s
+      → length_read len rest ≡ length_read (len_of (length_from s).0) (length_from s).1
+      → Some brace ≡ brace_at bang rest
+      → Some (drop (length chord - length brace) bracket) ≡ brace_between bang (Some bracket) (Some closing)
   past_is closing {bracket} {chord} {s} {rest} {brace} {b} behind is first e found =
       let k = brace_at-closes bang rest brace (sym found) in let l = length_from s in
       let x = length_then l.0 [] in let y = b ∷ (x ++ k.front) in
       let same : rest ≡ l.1 = ap (λ p. p.1) e in
-      let long : length_then l.0 l.1 ≡ x ++ (k.front ++ brace) = sym (length_append l.0 [] l.1) ∙ ap (λ t. x ++ t) (sym same ∙ k.cut) in
+      let long : length_then l.0 l.1 ≡ x ++ (k.front ++ brace) =
+      sym (length_append l.0 [] l.1) ∙ ap (λ t. x ++ t) (sym same ∙ k.cut) in
       let split = (length_at-takes s).0 ∙ long ∙ sym (append_assoc x k.front brace) in
       let spelled : chord ≡ y ++ brace = first ∙ ap (λ t. b ∷ t) split in
       let line = behind ∙ ap (λ t. t ++ closing) (sym is ∙ spelled) ∙ append_assoc y brace closing in
@@ -310,19 +358,24 @@ module _ (bang : Bool) where
       ap Some drops ∙ ap (option_map (λ (c : List ℕ). c ++ closing)) (sym reads)
 
   -- ---- in a part
-  drops_in_chord : (text inside brace : List ℕ) → text ≡ (91 ∷ inside) ++ drop (suc (length inside)) text → Some brace ≡ brace_in_chord bang inside →
-      drop (length inside + 1 - length brace) text ≡ brace ++ drop (suc (length inside)) text
+  drops_in_chord : (text inside brace : List ℕ)
+      → text ≡ (91 ∷ inside) ++ drop (suc (length inside)) text → Some brace ≡ brace_in_chord bang inside
+      → drop (length inside + 1 - length brace) text ≡ brace ++ drop (suc (length inside)) text
   unfolding brace_in_chord
   drops_in_chord text inside brace cut found =
       let k = brace_at-closes bang (91 ∷ inside) brace (sym found) in let tail = drop (suc (length inside)) text in
-      let count : length inside + 1 - length brace ≡ length k.front = omega (arith, ap length k.cut, length-append k.front brace) in
-      let line : text ≡ k.front ++ (brace ++ tail) = cut ∙ ap (λ t. t ++ tail) k.cut ∙ append_assoc k.front brace tail in
+      let count : length inside + 1 - length brace ≡ length k.front =
+      omega (arith, ap length k.cut, length-append k.front brace) in
+      let line : text ≡ k.front ++ (brace ++ tail) =
+      cut ∙ ap (λ t. t ++ tail) k.cut ∙ append_assoc k.front brace tail in
       ap (λ n. drop n text) count ∙ ap (drop (length k.front)) line ∙ drop-append_seam k.front (brace ++ tail)
 
-  pub chord-brace : (text : List ℕ) {item : GracePiece} {brace : List ℕ} {inside : Bor (List ℕ)} → item ≡ GracePiece.Chord inside →
-      IsItemAt bang item text → Some brace ≡ brace_in_chord bang inside.now →
+  pub chord-brace : (text : List ℕ) {item : GracePiece} {brace : List ℕ} {inside : Bor (List ℕ)}
+      → item ≡ GracePiece.Chord inside
+      → IsItemAt bang item text → Some brace ≡ brace_in_chord bang inside.now →
       Some (drop (length inside.now + 1 - length brace) text) ≡ brace_in_item bang item text
   chord-brace text {item} {brace} {inside} is at some =
       let here : IsItemAt bang (GracePiece.Chord inside) text = rw is at at in
       let tail = drop (suc (length inside.now)) text in
-      rw is (ap Some (drops_in_chord text inside.now brace here.2 some) ∙ ap (option_map (λ (b : List ℕ). b ++ tail)) some)
+      rw is (ap Some (drops_in_chord text inside.now brace here.2 some)
+      ∙ ap (option_map (λ (b : List ℕ). b ++ tail)) some)

@@ -104,7 +104,8 @@ module _
 
   -- a part that stands at the front of a text stands there too where the text goes on
   pub moved : (part : I) (u v y : List ℕ) → Stands part u v → Stands part (u ++ y) (v ++ y)
-  moved part u v y stands = k.moves part u v (u ++ y) (v ++ y) stands (ap (λ s. s ++ y) (k.spells part u v stands) ∙ k.appends part v y)
+  moved part u v y stands =
+      k.moves part u v (u ++ y) (v ++ y) stands (ap (λ s. s ++ y) (k.spells part u v stands) ∙ k.appends part v y)
 
   -- a part that ends before the cut is read there too
   pub read_cut : (u y : List ℕ) (z : I × List ℕ) → at (u ++ y) ≡ Some z → length y ≤ length z.1 → AtCut u y z
@@ -116,13 +117,16 @@ module _
       let o = r.reaches z.0 u c.between (k.moves z.0 (u ++ y) z.1 u c.between stands here) in
       elim o.2 [
         | inl shorter ↦
-            (let longest = (longest_of r (u ++ y) z e).longest o.0.0 (o.0.1 ++ y) (moved o.0.0 u o.0.1 y (stands_at r u o.0 o.1)) in
-            absurd (omega (arith, shorter, longest, length-append o.0.1 y, ap length c.behind, length-append c.between y)))
+            (let longest =
+            (longest_of r (u ++ y) z e).longest o.0.0 (o.0.1 ++ y) (moved o.0.0 u o.0.1 y (stands_at r u o.0 o.1)) in
+            absurd (omega
+            (arith, shorter, longest, length-append o.0.1 y, ap length c.behind, length-append c.between y)))
         | inr same ↦ record { front = c.between; behind = c.behind; at_cut = o.1 ∙ ap Some same }
       ]
 
   -- up to the cut
-  pub read_upto : (u y front : List ℕ) (z : I × List ℕ) → at (u ++ y) ≡ Some z → z.1 ≡ front ++ y → at u ≡ Some (z.0, front)
+  pub read_upto : (u y front : List ℕ) (z : I × List ℕ)
+      → at (u ++ y) ≡ Some z → z.1 ≡ front ++ y → at u ≡ Some (z.0, front)
   read_upto u y front z e behind =
       let a = read_cut u y z e (omega (arith, ap length behind, length-append front y)) in
       a.at_cut ∙ ap (λ (x : List ℕ). Some (z.0, x)) (append_cancel_right a.front front y (sym a.behind ∙ behind))
@@ -146,7 +150,8 @@ module _
           | inr before ↦
               (let a = read_cut u y o.0 o.1 before in
               let same = (some_pair_parts o.0.0 part a.front v (sym a.at_cut ∙ longest_is r u part v l)).1 in
-              absurd (omega (arith, shorter, ap length a.behind, length-append a.front y, length-append v y, ap length same)))
+              absurd (omega
+              (arith, shorter, ap length a.behind, length-append a.front y, length-append v y, ap length same)))
         ]
       ]
 
@@ -160,17 +165,21 @@ module _
   pub leads_of_walk : (s : List ℕ) → LeadsByParts I Stands s (walk at s).0 (walk at s).1
   leads_of_walk = by_parts r (λ s. LeadsByParts I Stands s (walk at s).0 (walk at s).1)
       (λ s e. rw (walk-none r s e) (leads_here s))
-      (λ s z e next. rw (walk-some r s z e) (leads_on s z.0 z.1 (walk at z.1).0 (walk at z.1).1 (longest_of r s z e) next))
+      (λ s z e next.
+      rw (walk-some r s z e) (leads_on s z.0 z.1 (walk at z.1).0 (walk at z.1).1 (longest_of r s z e) next))
 
 -- ---- the bytes of a part that is no name close no group
-pub wider : (p q : ℕ → Bool) (s : List ℕ) → ((b : ℕ) → p b ≡ true → q b ≡ true) → list_all p s ≡ true → list_all q s ≡ true
+pub wider : (p q : ℕ → Bool) (s : List ℕ)
+    → ((b : ℕ) → p b ≡ true → q b ≡ true) → list_all p s ≡ true → list_all q s ≡ true
 wider p q [] k h = refl
-wider p q (b ∷ s) k h = let r = and_parts (p b) (list_all p s) h in and_from (q b) (list_all q s) (k b r.0) (wider p q s k r.1)
+wider p q (b ∷ s) k h =
+    let r = and_parts (p b) (list_all p s) h in and_from (q b) (list_all q s) (k b r.0) (wider p q s k r.1)
 
 pub all_join : (q : ℕ → Bool) (a x : List ℕ) → list_all q a ≡ true → list_all q x ≡ true → list_all q (a ++ x) ≡ true
 all_join q a x h k = list_all-append q a x ∙ and_from (list_all q a) (list_all q x) h k
 
-pub all_parts : (q : ℕ → Bool) (a x : List ℕ) → list_all q (a ++ x) ≡ true → (list_all q a ≡ true) × (list_all q x ≡ true)
+pub all_parts : (q : ℕ → Bool) (a x : List ℕ)
+    → list_all q (a ++ x) ≡ true → (list_all q a ≡ true) × (list_all q x ≡ true)
 all_parts q a x h = and_parts (list_all q a) (list_all q x) (sym (list_all-append q a x) ∙ h)
 
 abbrev pub free : ℕ → Bool
@@ -187,29 +196,36 @@ copies_free (suc n) = copies_free n
 
 digits_free : (ds : List ℕ) → list_all is_digit ds ≡ true → list_all free ds ≡ true
 digits_free ds h =
-    wider is_digit free ds (λ b digit. let r = digit_range b digit in rw (ne_eqb b 93 (omega arith), ne_eqb b 125 (omega arith)) refl) h
+    wider is_digit free ds
+    (λ b digit. let r = digit_range b digit in rw (ne_eqb b 93 (omega arith), ne_eqb b 125 (omega arith)) refl) h
 
 mark_free : (b : ℕ) → is_mark b ≡ true → free b ≡ true
-mark_free b h = elim (or_cases (eqb b 39) (eqb b 44) h) [ inl e ↦ rw (eqb-true b 39 e) refl | inr e ↦ rw (eqb-true b 44 e) refl ]
+mark_free b h =
+    elim (or_cases (eqb b 39) (eqb b 44) h) [ inl e ↦ rw (eqb-true b 39 e) refl | inr e ↦ rw (eqb-true b 44 e) refl ]
 
 pub length_free : (f : LengthForm) → IsWrittenLength f → list_all free (length_then f []) ≡ true
 length_free (whole c) good = all_join free c [] (digits_free c (count-digits 4 c good)) refl
 length_free (over c b) good =
-    all_join free c (47 ∷ (b ++ [])) (digits_free c (count-digits 4 c good.0)) (all_join free b [] (digits_free b good.1.digits) refl)
-length_free (halved c k) good = all_join free c (copies k 47 []) (digits_free c (count-digits 4 c good.0)) (copies_free k)
+    all_join free c (47 ∷ (b ++ [])) (digits_free c (count-digits 4 c good.0))
+    (all_join free b [] (digits_free b good.1.digits) refl)
+length_free (halved c k) good =
+    all_join free c (copies k 47 []) (digits_free c (count-digits 4 c good.0)) (copies_free k)
 
 -- no closing byte stands in such bytes
-free_past : (close : ℕ) (s rest m t : List ℕ) → free close ≡ false → list_all free s ≡ true → s ++ rest ≡ m ++ (close ∷ t) →
-    length rest < length (close ∷ t) → ⊥
+free_past : (close : ℕ) (s rest m t : List ℕ)
+    → free close ≡ false → list_all free s ≡ true → s ++ rest ≡ m ++ (close ∷ t)
+    → length rest < length (close ∷ t) → ⊥
 free_past close s rest m t closes all e short =
     cut_cases s m rest (close ∷ t) e (omega (arith, short)) (λ front behind. omega (arith, short, ap length behind))
     (λ b bs front behind.
     let here = (all_parts free m (b ∷ bs) (ap (list_all free) (sym front) ∙ all)).1 in
     both_ways (free b) (ap free (sym (first_same behind)) ∙ closes) (and_parts (free b) (list_all free bs) here).0)
 
-pub length_past : (close : ℕ) (l : LengthForm) (rest m t : List ℕ) → free close ≡ false → IsWrittenLength l → length_then l rest ≡ m ++ (close ∷ t) →
-    length rest < length (close ∷ t) → ⊥
-length_past close l rest m t closes good e = free_past close (length_then l []) rest m t closes (length_free l good) (length_append l [] rest ∙ e)
+pub length_past : (close : ℕ) (l : LengthForm) (rest m t : List ℕ)
+    → free close ≡ false → IsWrittenLength l → length_then l rest ≡ m ++ (close ∷ t)
+    → length rest < length (close ∷ t) → ⊥
+length_past close l rest m t closes good e =
+    free_past close (length_then l []) rest m t closes (length_free l good) (length_append l [] rest ∙ e)
 
 sign_free : (sign : Option Alter) (x : List ℕ) → list_all free x ≡ true → list_all free (sign_then sign x) ≡ true
 sign_free (Some Sharp2) x h = h
@@ -220,15 +236,18 @@ note_free f good =
     let b = letter_byte f.low f.letter in let t = length_then f.length [] in
     let marks = wider is_mark free f.marks mark_free good.marks in
     let behind = all_join free f.marks t marks (length_free f.length good.length) in
-    sign_free f.sign (b ∷ (f.marks ++ t)) (and_from (free b) (list_all free (f.marks ++ t)) (letter_free f.low f.letter) behind)
+    sign_free f.sign (b ∷ (f.marks ++ t))
+    (and_from (free b) (list_all free (f.marks ++ t)) (letter_free f.low f.letter) behind)
 
 abbrev pub is_named : Inner → Bool
 is_named (named_inside name) = true
 is_named _ = false
 
-pub inner_free : (bang : Bool) (f : Inner) → IsInner bang f → is_named f ≡ false → list_all free (inner_then f []) ≡ true
+pub inner_free : (bang : Bool) (f : Inner)
+    → IsInner bang f → is_named f ≡ false → list_all free (inner_then f []) ≡ true
 inner_free bang (note_inside f) good h = note_free f good
-inner_free bang (letter_inside b) good h = rw (one_of_all free (46 ∷ 126 ∷ 72 ∷ 76 ∷ 77 ∷ 79 ∷ 80 ∷ 83 ∷ 84 ∷ 117 ∷ 118 ∷ []) b refl good) refl
+inner_free bang (letter_inside b) good h =
+    rw (one_of_all free (46 ∷ 126 ∷ 72 ∷ 76 ∷ 77 ∷ 79 ∷ 80 ∷ 83 ∷ 84 ∷ 117 ∷ 118 ∷ []) b refl good) refl
 inner_free bang (named_inside name) good h = absurd cc
 inner_free bang (passed_inside b) good h = rw (one_of_all free (32 ∷ 9 ∷ 40 ∷ 41 ∷ []) b refl good) refl
 inner_free bang (tie_inside true) good h = refl
@@ -243,7 +262,8 @@ unnamed [] = refl
 unnamed (b ∷ s) = refl
 
 -- where a name is not closed the exclamation mark is alone
-pub lone_at : (bang : Bool) (s : List ℕ) → bang ≡ false → list_all is_name_byte s ≡ true → inner_at bang (33 ∷ s) ≡ Some (lone_inside, s)
+pub lone_at : (bang : Bool) (s : List ℕ)
+    → bang ≡ false → list_all is_name_byte s ≡ true → inner_at bang (33 ∷ s) ≡ Some (lone_inside, s)
 unfolding name_at
 lone_at bang s off h = rw (bang_at bang s off, all_span is_name_byte s h, unnamed s) refl
 
@@ -271,17 +291,22 @@ named_crosses bang close name (b ∷ u) t rest other off good e short =
       after = after;
       off = off;
       name = named;
-      lone = ap (λ x. inner_at bang (x ∷ u)) (sym (first_same e)) ∙ lone_at bang u off (all_parts is_name_byte u (close ∷ after) named.bytes).0;
+      lone =
+          ap (λ x. inner_at bang (x ∷ u)) (sym (first_same e))
+          ∙ lone_at bang u off (all_parts is_name_byte u (close ∷ after) named.bytes).0;
       spelled = sym e ∙ ap (λ (n : List ℕ). 33 ∷ (n ++ (33 ∷ rest))) is;
       tail = ap (λ x. close ∷ x) (sym (rest_same behind));
     })
 
 -- the part ends behind the closing byte
-pub crossing : (bang : Bool) (close : ℕ) (f : Inner) (u t rest : List ℕ) → free close ≡ false → eqb close 33 ≡ false → IsInner bang f →
-    u ++ (close ∷ t) ≡ inner_then f rest → length rest < length (close ∷ t) → Crosses bang close u t rest
-crossing bang close (named_inside name) u t rest closes other good e short = named_crosses bang close name u t rest other good.0 good.1 (sym e) short
+pub crossing : (bang : Bool) (close : ℕ) (f : Inner) (u t rest : List ℕ)
+    → free close ≡ false → eqb close 33 ≡ false → IsInner bang f
+    → u ++ (close ∷ t) ≡ inner_then f rest → length rest < length (close ∷ t) → Crosses bang close u t rest
+crossing bang close (named_inside name) u t rest closes other good e short =
+    named_crosses bang close name u t rest other good.0 good.1 (sym e) short
 crossing bang close f u t rest closes other good e short =
-    absurd (free_past close (inner_then f []) rest u t closes (inner_free bang f good refl) (inner_append f [] rest ∙ sym e) short)
+    absurd (free_past close (inner_then f []) rest u t closes (inner_free bang f good refl)
+    (inner_append f [] rest ∙ sym e) short)
 
 -- ---- up to the first closing byte
 abbrev pub two : List ℕ → List ℕ → List ℕ × List ℕ
@@ -294,7 +319,8 @@ none_left p s w [] cut none =
 none_left p s w (b ∷ r) cut none = absurd (omega (arith, none))
 
 pub some_left : (p : ℕ → Bool) (s w r : List ℕ) → two w r ≡ span_all p s → (length r ≡ 0 → ⊥) → list_all p s ≡ false
-some_left p s w r cut some = false_from_ne_true (list_all p s) (λ e. some (ap (λ (z : List ℕ × List ℕ). length z.1) (cut ∙ all_span p s e)))
+some_left p s w r cut some =
+    false_from_ne_true (list_all p s) (λ e. some (ap (λ (z : List ℕ × List ℕ). length z.1) (cut ∙ all_span p s e)))
 
 pub first_close : (close : ℕ) (t : List ℕ) → begins (λ b. eqb b close) t ≡ true → (rest : List ℕ) × (t ≡ close ∷ rest)
 first_close close [] h = absurd cc
@@ -308,7 +334,8 @@ cond_then false x y e = absurd cc
 abbrev pub name_upto : ℕ → (List ℕ → Bool) → List ℕ → List ℕ × List ℕ → Option (List ℕ)
 name_upto close passes text named =
     let inside = span_all (λ b. not (eqb b close)) named.0 in
-    cond {A = Option (List ℕ)} (not (eqb (length inside.1) 0) && passes inside.0) (Some (drop (length inside.0) text)) None
+    cond {A = Option (List ℕ)} (not (eqb (length inside.1) 0) && passes inside.0) (Some (drop (length inside.0) text))
+    None
 
 pub record NameCut (close : ℕ) (passes : List ℕ → Bool) (s c : List ℕ) : Type 0 where
   pub before : List ℕ
@@ -318,18 +345,21 @@ pub record NameCut (close : ℕ) (passes : List ℕ → Bool) (s c : List ℕ) :
   pub names : list_all is_name_byte before ≡ true
   pub good : passes before ≡ true
 
-name_end : (close : ℕ) (w : List ℕ) → not (eqb (length w) 0) ≡ true → begins (λ b. not (eqb b close)) w ≡ false → (t : List ℕ) × (w ≡ close ∷ t)
+name_end : (close : ℕ) (w : List ℕ)
+    → not (eqb (length w) 0) ≡ true → begins (λ b. not (eqb b close)) w ≡ false → (t : List ℕ) × (w ≡ close ∷ t)
 name_end close [] some stops = absurd cc
 name_end close (b ∷ w) some stops = (w, ap (λ x. x ∷ w) (eqb-true b close (not-false (eqb b close) stops)))
 
 pub name_upto-closes : (close : ℕ) (passes : List ℕ → Bool) (s c : List ℕ) (named : List ℕ × List ℕ) →
-    IsName named.0 × (s ≡ named.0 ++ (33 ∷ named.1)) → name_upto close passes s named ≡ Some c → NameCut close passes s c
+    IsName named.0 × (s ≡ named.0 ++ (33 ∷ named.1))
+    → name_upto close passes s named ≡ Some c → NameCut close passes s c
 name_upto-closes close passes s c named t e =
     let p = λ (b : ℕ). not (eqb b close) in let inside = span_all p named.0 in
     let found = cond_some _ _ _ e in let both = and_parts _ _ found.0 in
     let end = name_end close inside.1 both.0 (span_all-after p named.0) in
     let whole : named.0 ≡ inside.0 ++ (close ∷ end.0) = span_all-takes p named.0 ∙ ap (λ x. inside.0 ++ x) end.1 in
-    let cut : s ≡ inside.0 ++ (close ∷ (end.0 ++ (33 ∷ named.1))) = t.1 ∙ ap (λ x. x ++ (33 ∷ named.1)) whole ∙ append_assoc inside.0 _ _ in
+    let cut : s ≡ inside.0 ++ (close ∷ (end.0 ++ (33 ∷ named.1))) =
+    t.1 ∙ ap (λ x. x ++ (33 ∷ named.1)) whole ∙ append_assoc inside.0 _ _ in
     let is = sym found.1 ∙ ap (drop (length inside.0)) cut ∙ drop-append_seam inside.0 _ in
     record {
       before = inside.0;
@@ -346,7 +376,8 @@ pub name_upto-found : (close : ℕ) (passes : List ℕ → Bool) (before after r
 name_upto-found close passes before after rest same clear good =
     let p = λ (b : ℕ). not (eqb b close) in let stops = span_all-stops p (close ∷ after) (rw same refl) in
     let some = ne_eqb (suc (length after)) 0 (omega arith) in
-    rw (span_all-append p before (close ∷ after) clear, stops, append-nil, good, some, append_assoc, drop-append_seam) refl
+    rw (span_all-append p before (close ∷ after) clear, stops, append-nil, good, some, append_assoc, drop-append_seam)
+    refl
 
 cond_map : (c : Bool) (a b x : List ℕ) → a ≡ b ++ x →
     cond {A = Option (List ℕ)} c (Some a) None ≡ option_map (λ m. m ++ x) (cond {A = Option (List ℕ)} c (Some b) None)
@@ -355,10 +386,15 @@ cond_map false a b x e = refl
 
 -- it is the same whatever follows the name
 pub name_upto-append : (close : ℕ) (passes : List ℕ → Bool) (name x : List ℕ) →
-    name_upto close passes (name ++ (33 ∷ x)) (name, x) ≡ option_map (λ m. m ++ x) (name_upto close passes (name ++ (33 ∷ [])) (name, []))
+    name_upto close passes (name ++ (33 ∷ x)) (name, x)
+    ≡ option_map (λ m. m ++ x) (name_upto close passes (name ++ (33 ∷ [])) (name, []))
 name_upto-append close passes name x =
-    let p = λ (b : ℕ). not (eqb b close) in let inside = span_all p name in let n = length inside.0 in let whole = name ++ (33 ∷ []) in
-    let short : n ≤ length whole = omega (arith, ap length (span_all-takes p name), length-append inside.0 inside.1, length-append name (33 ∷ [])) in
+    let p = λ (b : ℕ). not (eqb b close) in
+    let inside = span_all p name in
+    let n = length inside.0 in
+    let whole = name ++ (33 ∷ []) in
+    let short : n ≤ length whole =
+    omega (arith, ap length (span_all-takes p name), length-append inside.0 inside.1, length-append name (33 ∷ [])) in
     cond_map (not (eqb (length inside.1) 0) && passes inside.0) _ (drop n whole) x
     (ap (drop n) (sym (append_assoc name (33 ∷ []) x)) ∙ drop-append-le n whole x short)
 
@@ -368,9 +404,11 @@ not_named (named_inside name) rest h = absurd cc
 not_named _ rest h = refl
 
 -- parts in a name close no group
-pub clear_parts : (bang : Bool) (s : List ℕ) (parts : List Inner) → InnerParts bang s parts → list_all is_name_byte s ≡ true → list_all free s ≡ true
+pub clear_parts : (bang : Bool) (s : List ℕ) (parts : List Inner)
+    → InnerParts bang s parts → list_all is_name_byte s ≡ true → list_all free s ≡ true
 clear_parts bang _ _ no_part h = refl
 clear_parts bang _ _ (then_part text part rest more l others) h =
     let one = inner_then part [] in let cut : text ≡ one ++ rest = l.stands.cut ∙ sym (inner_append part [] rest) in
     let names = all_parts is_name_byte one rest (ap (list_all is_name_byte) (sym cut) ∙ h) in
-    rw cut (all_join free one rest (inner_free bang part l.stands.good (not_named part [] names.0)) (clear_parts bang rest more others names.1))
+    rw cut (all_join free one rest (inner_free bang part l.stands.good (not_named part [] names.0))
+    (clear_parts bang rest more others names.1))

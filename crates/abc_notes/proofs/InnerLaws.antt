@@ -62,8 +62,10 @@ heads-behind : (head : Head) (len : Len) (t : Bool) (more : List Sense) →
     heads_after (Some (tied_if t head, len)) more ≡ (tied_if (t || is_tied more) head, len) ∷ heads_of more
 heads-behind head len true [] = refl
 heads-behind head len false [] = refl
-heads-behind head len true (says_note other l ∷ more) = ap (λ hs. (tied_if true head, len) ∷ hs) (heads-behind other l false more)
-heads-behind head len false (says_note other l ∷ more) = ap (λ hs. (tied_if false head, len) ∷ hs) (heads-behind other l false more)
+heads-behind head len true (says_note other l ∷ more) =
+    ap (λ hs. (tied_if true head, len) ∷ hs) (heads-behind other l false more)
+heads-behind head len false (says_note other l ∷ more) =
+    ap (λ hs. (tied_if false head, len) ∷ hs) (heads-behind other l false more)
 heads-behind head len true (says_tie ∷ more) = heads-behind head len true more
 heads-behind head len false (says_tie ∷ more) = heads-behind head len true more
 heads-behind head len t (_ ∷ more) = heads-behind head len t more
@@ -81,16 +83,20 @@ pub place_small : (b : Bool) (n here : ℕ) → here ≤ n → at_most n (length
 place_small true n here h = h
 place_small false n here h = tt
 
-flaw_here : (before : Option ℕ) (byte : ℕ) (rest : List ℕ) → IsFlaw IsBadByte before byte rest (inner_flaw before byte (suc (length rest)))
+flaw_here : (before : Option ℕ) (byte : ℕ) (rest : List ℕ)
+    → IsFlaw IsBadByte before byte rest (inner_flaw before byte (suc (length rest)))
 flaw_here None byte rest = refl
 flaw_here (Some at) byte rest =
-    cond_both {A = Flaw} (goes_on_length byte) (record { kind = BadLength; left = at }) (record { kind = BadByte; left = suc (length rest) })
+    cond_both {A = Flaw} (goes_on_length byte) (record { kind = BadLength; left = at })
+    (record { kind = BadByte; left = suc (length rest) })
     (λ f. MatchBool (goes_on_length byte) (f ≡ record { kind = BadLength; left = at }) (IsBadByte (byte ∷ rest) f))
     (λ e. rw e refl) (λ e. rw e refl)
 
-flaw_small : (before : Option ℕ) (byte here n : ℕ) → at_most n before → here ≤ n → (inner_flaw before byte here).left ≤ n
+flaw_small : (before : Option ℕ) (byte here n : ℕ)
+    → at_most n before → here ≤ n → (inner_flaw before byte here).left ≤ n
 flaw_small None byte here n small h = h
-flaw_small (Some at) byte here n small h = cond_both (goes_on_length byte) _ _ (λ (f : Flaw). f.left ≤ n) (λ e. small) (λ e. h)
+flaw_small (Some at) byte here n small h =
+    cond_both (goes_on_length byte) _ _ (λ (f : Flaw). f.left ≤ n) (λ e. small) (λ e. h)
 
 module _ (bang : Bool) where
   pub inner_reader : Reader Inner (StandsInside bang) (inner_at bang)
@@ -109,11 +115,16 @@ module _ (bang : Bool) where
     pub at : inner_at bang s ≡ Some (inner_pair part behind)
     pub says : item ≡ sense part
 
-  pub found_inner : (s : List ℕ) {item : Sense} {behind : List ℕ} → Some (sensed item behind) ≡ option_map given (inner_at bang s) →
-      FoundInner s item behind
+  pub found_inner : (s : List ℕ) {item : Sense} {behind : List ℕ}
+      → Some (sensed item behind) ≡ option_map given (inner_at bang s)
+      → FoundInner s item behind
   found_inner s h =
       let o = read_from given (inner_at bang s) _ h in
-      record { part = o.0.0; at = o.1 ∙ ap (λ x. Some (inner_pair o.0.0 x)) (sym (ap (λ p. p.1) o.2)); says = ap (λ p. p.0) o.2 }
+      record {
+        part = o.0.0;
+        at = o.1 ∙ ap (λ x. Some (inner_pair o.0.0 x)) (sym (ap (λ p. p.1) o.2));
+        says = ap (λ p. p.0) o.2;
+      }
 
   pub none_inner : (s : List ℕ) → None ≡ option_map given (inner_at bang s) → inner_at bang s ≡ None
   none_inner s h = none_from given (inner_at bang s) h
@@ -130,8 +141,9 @@ module _ (bang : Bool) where
     pub inner_less : length behind < length s
     inner_less = less inner_reader s (f.part, behind) f.at
 
-    pub inside-next : {w : List ℕ} {head new note : Bool} {before place : Option ℕ} → Inside w head before s → note ≡ is_inner_note item →
-        new ≡ (head || note) → place ≡ length_at_place note (length s) → Inside w new place behind
+    pub inside-next : {w : List ℕ} {head new note : Bool} {before place : Option ℕ}
+        → Inside w head before s → note ≡ is_inner_note item
+        → new ≡ (head || note) → place ≡ length_at_place note (length s) → Inside w new place behind
     inside-next {w} {head} {new} {note} {before} stage noted newly placed =
         let step = walk-some inner_reader s (f.part, behind) f.at in
         let is : note ≡ has_length f.part = noted ∙ ap is_inner_note f.says in
@@ -139,7 +151,10 @@ module _ (bang : Bool) where
         stuck_later before s f.part behind flaw (longest_of inner_reader s (f.part, behind) f.at) (rw is at h) in
         rw (placed, newly) (record {
           left = sym (left_some inner_reader s (f.part, behind) f.at) ∙ stage.left;
-          heads = or_assoc head note _ ∙ rw is (sym (ap (λ (z : List Inner × List ℕ). head || has_inner_head z.0) step)) ∙ stage.heads;
+          heads =
+              or_assoc head note _
+              ∙ rw is (sym (ap (λ (z : List Inner × List ℕ). head || has_inner_head z.0) step))
+              ∙ stage.heads;
           flaw = λ flaw h. stage.flaw flaw (later flaw h);
           within = omega (arith, stage.within, inner_less);
           small = place_small note (length w) (length s) stage.within;
@@ -149,31 +164,38 @@ module _ (bang : Bool) where
     pub senses-some : senses bang s ≡ item ∷ senses bang behind
     senses-some = rw (walk-some inner_reader s (f.part, behind) f.at, f.says) refl
 
-    pub heads-next : (out : List (Head × Len)) (last : Option (Head × Len)) {new total : List (Head × Len)} {next : Option (Head × Len)} →
-        new ≡ out ++ given_head last item → next ≡ next_last last item → out ++ heads_after last (senses bang s) ≡ total →
-        new ++ heads_after next (senses bang behind) ≡ total
+    pub heads-next : (out : List (Head × Len)) (last : Option (Head × Len)) {new total : List (Head × Len)}
+        {next : Option (Head × Len)}
+        → new ≡ out ++ given_head last item → next ≡ next_last last item
+        → out ++ heads_after last (senses bang s) ≡ total
+        → new ++ heads_after next (senses bang behind) ≡ total
     heads-next out last push is so_far = rw (push, is, append_assoc) (rw senses-some at so_far)
 
     -- parts that each give what they say of
     pub said-next : {X : Type 0} (gives : List Sense → List X) (one : Sense → List X) →
-        ((item : Sense) (more : List Sense) → gives (item ∷ more) ≡ one item ++ gives more) → (out : List X) {new total : List X} →
-        new ≡ out ++ one item → out ++ gives (senses bang s) ≡ total → new ++ gives (senses bang behind) ≡ total
-    said-next gives one cons out push so_far = rw (push, append_assoc) (rw (senses-some, cons item (senses bang behind)) at so_far)
+        ((item : Sense) (more : List Sense) → gives (item ∷ more) ≡ one item ++ gives more)
+        → (out : List X) {new total : List X}
+        → new ≡ out ++ one item → out ++ gives (senses bang s) ≡ total → new ++ gives (senses bang behind) ≡ total
+    said-next gives one cons out push so_far =
+        rw (push, append_assoc) (rw (senses-some, cons item (senses bang behind)) at so_far)
 
   pub senses-none : (s : List ℕ) → inner_at bang s ≡ None → senses bang s ≡ []
   senses-none s none = rw (walk-none inner_reader s none) refl
 
-  pub heads-end : (out : List (Head × Len)) (last : Option (Head × Len)) (s : List ℕ) {new total : List (Head × Len)} → inner_at bang s ≡ None →
-      new ≡ out ++ last_head last → out ++ heads_after last (senses bang s) ≡ total → new ≡ total
+  pub heads-end : (out : List (Head × Len)) (last : Option (Head × Len)) (s : List ℕ) {new total : List (Head × Len)}
+      → inner_at bang s ≡ None
+      → new ≡ out ++ last_head last → out ++ heads_after last (senses bang s) ≡ total → new ≡ total
   heads-end out last s none push so_far = push ∙ (rw (senses-none s none) at so_far)
 
-  pub said-end : {X : Type 0} (gives : List Sense → List X) → gives [] ≡ [] → {out total : List X} (s : List ℕ) → inner_at bang s ≡ None →
-      out ++ gives (senses bang s) ≡ total → out ≡ total
+  pub said-end : {X : Type 0} (gives : List Sense → List X)
+      → gives [] ≡ [] → {out total : List X} (s : List ℕ) → inner_at bang s ≡ None
+      → out ++ gives (senses bang s) ≡ total → out ≡ total
   said-end gives nothing s none so_far = rw (senses-none s none, nothing, append-nil) at so_far
 
   module _ {w : List ℕ} {head : Bool} {before : Option ℕ} {rest : List ℕ} (stage : Inside w head before rest) where
-    pub inside-stuck : {byte here : ℕ} {t : List ℕ} {flaw : Flaw} → rest ≡ byte ∷ t → here ≡ length rest → inner_at bang rest ≡ None →
-        flaw ≡ inner_flaw before byte here →
+    pub inside-stuck : {byte here : ℕ} {t : List ℕ} {flaw : Flaw}
+        → rest ≡ byte ∷ t → here ≡ length rest → inner_at bang rest ≡ None
+        → flaw ≡ inner_flaw before byte here →
         (is_done (walk (inner_at bang) w) ≡ false) × InnerFlawed bang None w flaw × (flaw.left ≤ length w)
     inside-stuck {byte} {here} {t} {flaw} cut place none is =
         let none_here = none_of inner_reader (byte ∷ t) (ap (inner_at bang) (sym cut) ∙ none) in
@@ -184,8 +206,11 @@ module _ (bang : Bool) where
           rw is (flaw_small before byte here (length w) stage.small (omega (arith, place, stage.within))),
         )
 
-    pub inside-ends : length rest ≡ 0 → (is_done (walk (inner_at bang) w) ≡ true) × (head ≡ has_inner_head (walk (inner_at bang) w).0)
+    pub inside-ends : length rest ≡ 0
+        → (is_done (walk (inner_at bang) w) ≡ true) × (head ≡ has_inner_head (walk (inner_at bang) w).0)
     unfolding walk
     inside-ends none =
-        let empty = nil_from_length rest none in
-        (rw (sym stage.left, empty) refl, sym (or-false head) ∙ sym (ap (λ x. head || has_inner_head (walk (inner_at bang) x).0) empty) ∙ stage.heads)
+        let empty = nil_from_length rest none in (
+          rw (sym stage.left, empty) refl,
+          sym (or-false head) ∙ sym (ap (λ x. head || has_inner_head (walk (inner_at bang) x).0) empty) ∙ stage.heads,
+        )

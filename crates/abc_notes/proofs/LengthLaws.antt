@@ -17,9 +17,11 @@ use Rattle.{std.specs.List.list_all, mus_units.specs.Bytes.is_digit}
 abbrev is_zero : ℕ → Bool
 is_zero b = eqb b 48
 
-good_from : (n : ℕ) (a b s : List ℕ) → s ≡ a ++ b → list_all is_digit a ≡ true → length a ≤ n → begins is_zero s ≡ false → IsCount n a
+good_from : (n : ℕ) (a b s : List ℕ)
+    → s ≡ a ++ b → list_all is_digit a ≡ true → length a ≤ n → begins is_zero s ≡ false → IsCount n a
 good_from n [] b s e pass few h = tt
-good_from n (d ∷ ds) b s e pass few h = record { some = omega arith; few = few; digits = pass; no_zero = subst (λ t. begins is_zero t ≡ false) e h }
+good_from n (d ∷ ds) b s e pass few h =
+    record { some = omega arith; few = few; digits = pass; no_zero = subst (λ t. begins is_zero t ≡ false) e h }
 
 number-good : (n : ℕ) (s : List ℕ) → begins is_zero s ≡ false → IsCount n (span is_digit n s).0
 number-good n s h = good_from n _ _ s (span-takes is_digit n s) (span-pass is_digit n s) (span-length is_digit n s) h
@@ -50,7 +52,8 @@ begins_append : (p : ℕ → Bool) (a x : List ℕ) → 1 ≤ length a → begin
 begins_append p [] x h = absurd (omega arith)
 begins_append p (b ∷ a) x h = refl
 
-number-reads-as : (n : ℕ) (ds x : List ℕ) → AreNumberDigits n ds → let m = span is_digit (n - length ds) x in number_at n (ds ++ x) ≡ (ds ++ m.0, m.1)
+number-reads-as : (n : ℕ) (ds x : List ℕ)
+    → AreNumberDigits n ds → let m = span is_digit (n - length ds) x in number_at n (ds ++ x) ≡ (ds ++ m.0, m.1)
 number-reads-as n ds x good =
     let no_zero = begins_append is_zero ds x good.some ∙ good.no_zero in
     let sum : length ds + (n - length ds) ≡ n = omega (arith, good.few) in
@@ -61,16 +64,23 @@ number-reads-as n ds x good =
 number-reads : (n : ℕ) (ds x : List ℕ) → AreNumberDigits n ds → Stops is_digit x ds (number_at n (ds ++ x))
 number-reads n ds x good =
     rw (number-reads-as n ds x good)
-    (elim (span-less is_digit (n - length ds) x) [ inl shorter ↦ inl shorter | inr same ↦ inr (rw (same, append-nil) refl) ])
+    (elim (span-less is_digit (n - length ds) x) [
+      | inl shorter ↦ inl shorter
+      | inr same ↦ inr (rw (same, append-nil) refl)
+    ])
 
 pub count-reads : (n : ℕ) (c x : List ℕ) → IsCount n c → Stops is_digit x c (number_at n (c ++ x))
 count-reads n [] x good = number-less n x
 count-reads n (d ∷ ds) x good = number-reads n (d ∷ ds) x good
 
 -- before a byte that is no digit the number is read as it stands
-pub count-stops : (n : ℕ) (c : List ℕ) (k : ℕ) (x : List ℕ) → is_digit k ≡ false → IsCount n c → number_at n (c ++ (k ∷ x)) ≡ (c, k ∷ x)
+pub count-stops : (n : ℕ) (c : List ℕ) (k : ℕ) (x : List ℕ)
+    → is_digit k ≡ false → IsCount n c → number_at n (c ++ (k ∷ x)) ≡ (c, k ∷ x)
 count-stops n c k x other good =
-    elim (count-reads n c (k ∷ x) good) [ inl shorter ↦ absurd (both_ways (is_digit k) other shorter.1) | inr same ↦ same ]
+    elim (count-reads n c (k ∷ x) good) [
+      | inl shorter ↦ absurd (both_ways (is_digit k) other shorter.1)
+      | inr same ↦ same
+    ]
 
 abbrev read_as : LengthForm → List ℕ → LengthForm × List ℕ
 read_as f x = (f, x)
@@ -93,8 +103,10 @@ length-copies zero = refl
 length-copies (suc k) = ap suc (length-copies k)
 
 -- what stands at the front, put together from its parts
-below-takes : (count sl after be last : List ℕ) → IsCount 4 count → list_all is_slash sl ≡ true → length sl ≤ 6 → after ≡ be ++ last → IsCount 4 be →
-    let z = below_at count (sl, after) (be, last) in (count ++ (sl ++ after) ≡ length_then z.0 z.1) × IsWrittenLength z.0
+below-takes : (count sl after be last : List ℕ)
+    → IsCount 4 count → list_all is_slash sl ≡ true → length sl ≤ 6 → after ≡ be ++ last → IsCount 4 be
+    → let z = below_at count (sl, after) (be, last) in
+    (count ++ (sl ++ after) ≡ length_then z.0 z.1) × IsWrittenLength z.0
 below-takes count [] after be last good pass few g below = (refl, good)
 below-takes count (c ∷ []) after [] last good pass few g below =
     (ap (λ t. count ++ t) (slashes-are (c ∷ []) after pass), (good, omega arith, omega arith))
@@ -108,7 +120,8 @@ unfolding length_from
 length_at-takes s =
     let count = number_at 4 s in let sl = span is_slash 6 count.1 in
     let pass = span-pass is_slash 6 count.1 in let few = span-length is_slash 6 count.1 in
-    let both = below-takes count.0 sl.0 sl.1 _ _ (number-count 4 s) pass few (number-takes 4 sl.1) (number-count 4 sl.1) in
+    let both =
+    below-takes count.0 sl.0 sl.1 _ _ (number-count 4 s) pass few (number-takes 4 sl.1) (number-count 4 sl.1) in
     (number-takes 4 s ∙ ap (λ t. count.0 ++ t) (span-takes is_slash 6 count.1) ∙ both.0, both.1)
 
 -- ---- the longest
@@ -123,7 +136,8 @@ either_left x = begins_wider is_digit goes_on x (λ b. or_left (is_digit b) (is_
 either_right : (x : List ℕ) → begins is_slash x ≡ true → begins goes_on x ≡ true
 either_right x = begins_wider is_slash goes_on x (λ b. or_right (is_digit b) (is_slash b))
 
-length-below : (count : List ℕ) (sl be : List ℕ × List ℕ) → length be.1 ≤ length sl.1 → length (below_at count sl be).1 ≤ length sl.1
+length-below : (count : List ℕ) (sl be : List ℕ × List ℕ)
+    → length be.1 ≤ length sl.1 → length (below_at count sl be).1 ≤ length sl.1
 length-below count ([], rest) be h = omega arith
 length-below count (c ∷ [], rest) ([], last) h = omega arith
 length-below count (c ∷ [], rest) (d ∷ ds, last) h = h
@@ -136,7 +150,8 @@ from_count count s = let sl = span is_slash 6 s in below_at count sl (number_at 
 length-from : (count s : List ℕ) → length (from_count count s).1 ≤ length s
 unfolding from_count
 length-from count s =
-    let sl = span is_slash 6 s in omega (arith, length-below count sl (number_at 4 sl.1) (length-number 4 sl.1), length-span is_slash 6 s)
+    let sl = span is_slash 6 s in
+    omega (arith, length-below count sl (number_at 4 sl.1) (length-number 4 sl.1), length-span is_slash 6 s)
 
 length_at-is : (s : List ℕ) → length_from s ≡ from_count (number_at 4 s).0 (number_at 4 s).1
 unfolding length_from from_count
@@ -147,12 +162,16 @@ unfolding from_count
 whole-reaches count x =
     let sl = span is_slash 6 x in
     elim (span-less is_slash 6 x) [
-      | inl shorter ↦ inl (omega (arith, shorter.0, length-below count sl (number_at 4 sl.1) (length-number 4 sl.1)), either_right x shorter.1)
+      | inl shorter ↦ inl (
+        omega (arith, shorter.0, length-below count sl (number_at 4 sl.1) (length-number 4 sl.1)),
+        either_right x shorter.1,
+      )
       | inr same ↦ inr (rw same refl)
     ]
 
 -- one slash, and no further one
-one_slash : (count x : List ℕ) → begins is_slash x ≡ false → from_count count (47 ∷ x) ≡ below_at count (47 ∷ [], x) (number_at 4 x)
+one_slash : (count x : List ℕ)
+    → begins is_slash x ≡ false → from_count count (47 ∷ x) ≡ below_at count (47 ∷ [], x) (number_at 4 x)
 unfolding from_count
 one_slash count x h = rw (span-append is_slash 5 (47 ∷ []) x refl, span-stops is_slash 5 x h) refl
 
@@ -169,12 +188,14 @@ over-reaches count d ds x good =
     ])
 
 -- a number was read, so it is below the slash
-below-one : (c x : List ℕ) (be : List ℕ × List ℕ) → x ≡ be.0 ++ be.1 → length be.1 < length x → length (below_at c (47 ∷ [], x) be).1 < length x
+below-one : (c x : List ℕ) (be : List ℕ × List ℕ)
+    → x ≡ be.0 ++ be.1 → length be.1 < length x → length (below_at c (47 ∷ [], x) be).1 < length x
 below-one count x ([], last) e h = absurd (omega (arith, ap length e))
 below-one count x (d ∷ ds, last) e h = h
 
 -- up to six slashes, and no more of them
-last_slash : (count : List ℕ) (k : ℕ) (x : List ℕ) → 1 ≤ k → Stops goes_on x (halved count k) (below_at count (copies k 47 [], x) (number_at 4 x))
+last_slash : (count : List ℕ) (k : ℕ) (x : List ℕ)
+    → 1 ≤ k → Stops goes_on x (halved count k) (below_at count (copies k 47 [], x) (number_at 4 x))
 last_slash count zero x some = absurd (omega (arith, some))
 last_slash count (suc zero) x some = elim (number-less 4 x) [
   | inl shorter ↦ inl (below-one count x (number_at 4 x) (number-takes 4 x) shorter.0, either_left x shorter.1)
@@ -182,7 +203,8 @@ last_slash count (suc zero) x some = elim (number-less 4 x) [
 ]
 last_slash count (suc (suc k)) x some = inr (ap (λ n. read_as (halved count (suc (suc n))) x) (length-copies k))
 
-halved-reaches : (count : List ℕ) (k : ℕ) (x : List ℕ) → 1 ≤ k → k ≤ 6 → Stops goes_on x (halved count k) (from_count count (copies k 47 x))
+halved-reaches : (count : List ℕ) (k : ℕ) (x : List ℕ)
+    → 1 ≤ k → k ≤ 6 → Stops goes_on x (halved count k) (from_count count (copies k 47 x))
 unfolding from_count
 halved-reaches count k x some few =
     let slashes = copies k 47 [] in let n = 6 - k in let m = span is_slash n x in
@@ -197,9 +219,13 @@ halved-reaches count k x some few =
     ])
 
 -- the law: a length that is read is as long as each that stands there
-pub length_at-reaches : (f : LengthForm) (x : List ℕ) → IsWrittenLength f → Stops goes_on x f (length_from (length_then f x))
+pub length_at-reaches : (f : LengthForm) (x : List ℕ)
+    → IsWrittenLength f → Stops goes_on x f (length_from (length_then f x))
 length_at-reaches (whole count) x good = rw length_at-is (elim (count-reads 4 count x good) [
-  | inl shorter ↦ inl (omega (arith, shorter.0, length-from (number_at 4 (count ++ x)).0 (number_at 4 (count ++ x)).1), either_left x shorter.1)
+  | inl shorter ↦ inl (
+    omega (arith, shorter.0, length-from (number_at 4 (count ++ x)).0 (number_at 4 (count ++ x)).1),
+    either_left x shorter.1,
+  )
   | inr same ↦ rw same (whole-reaches count x)
 ])
 length_at-reaches (over count []) x good = absurd (omega (arith, good.1.some))

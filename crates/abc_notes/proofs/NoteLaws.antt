@@ -29,9 +29,12 @@ unfolding sign_at
 sign_at-takes s =
     let up = skip 94 s in let down = skip 95 s in let P : Option Alter × List ℕ → Type 0 = λ z. s ≡ sign_then z.0 z.1 in
     cond_both up.0 _ _ P
-    (λ u. cond_both (skip 94 up.1).0 _ _ P (λ t. skipped 94 s u ∙ ap (λ x. 94 ∷ x) (skipped 94 up.1 t)) (λ t. skipped 94 s u))
+    (λ u.
+    cond_both (skip 94 up.1).0 _ _ P (λ t. skipped 94 s u ∙ ap (λ x. 94 ∷ x) (skipped 94 up.1 t)) (λ t. skipped 94 s u))
     (λ u. cond_both down.0 _ _ P
-    (λ d. cond_both (skip 95 down.1).0 _ _ P (λ t. skipped 95 s d ∙ ap (λ x. 95 ∷ x) (skipped 95 down.1 t)) (λ t. skipped 95 s d))
+    (λ d.
+    cond_both (skip 95 down.1).0 _ _ P (λ t. skipped 95 s d ∙ ap (λ x. 95 ∷ x) (skipped 95 down.1 t))
+    (λ t. skipped 95 s d))
     (λ d. cond_both (skip 61 s).0 _ _ P (skipped 61 s) (λ n. refl)))
 
 -- a byte that is no sign
@@ -62,9 +65,12 @@ letter_at-reads _ C = refl
 letter_at-reads _ _ = refl
 
 -- one test of a chain
-pick : (low : Bool) (b k : ℕ) (l : Letter) (other : Option Letter) → k ≡ letter_byte low l → IfSome other (λ m. b ≡ letter_byte low m) →
-    IfSome (cond (eqb b k) (Some l) other) (λ m. b ≡ letter_byte low m)
-pick low b k l other e rest = cond_both (eqb b k) (Some l) other (λ o. IfSome o (λ m. b ≡ letter_byte low m)) (λ t. eqb-true b k t ∙ e) (λ t. rest)
+pick : (low : Bool) (b k : ℕ) (l : Letter) (other : Option Letter)
+    → k ≡ letter_byte low l → IfSome other (λ m. b ≡ letter_byte low m)
+    → IfSome (cond (eqb b k) (Some l) other) (λ m. b ≡ letter_byte low m)
+pick low b k l other e rest =
+    cond_both (eqb b k) (Some l) other (λ o. IfSome o (λ m. b ≡ letter_byte low m)) (λ t. eqb-true b k t ∙ e)
+    (λ t. rest)
 
 upper_at-takes : (b : ℕ) → IfSome (upper_at b) (λ l. b ≡ letter_byte false l)
 upper_at-takes b =
@@ -74,10 +80,12 @@ upper_at-takes b =
 lower_at-takes : (b : ℕ) → IfSome (lower_at b) (λ l. b ≡ letter_byte true l)
 lower_at-takes b =
     let p = pick true b in
-    p 97 A _ refl (p 98 B _ refl (p 99 C _ refl (p 100 D _ refl (p 101 E _ refl (p 102 F _ refl (p 103 G None refl tt))))))
+    p 97 A _ refl
+    (p 98 B _ refl (p 99 C _ refl (p 100 D _ refl (p 101 E _ refl (p 102 F _ refl (p 103 G None refl tt))))))
 
-either-takes : (b : ℕ) (u l : Option Letter) → IfSome u (λ m. b ≡ letter_byte false m) → IfSome l (λ m. b ≡ letter_byte true m) →
-    IfSome (either_letter u l) (λ z. b ≡ letter_byte z.0 z.1)
+either-takes : (b : ℕ) (u l : Option Letter)
+    → IfSome u (λ m. b ≡ letter_byte false m) → IfSome l (λ m. b ≡ letter_byte true m)
+    → IfSome (either_letter u l) (λ z. b ≡ letter_byte z.0 z.1)
 either-takes b (Some u) l p q = p
 either-takes b None (Some l) p q = q
 either-takes b None None p q = tt
@@ -90,8 +98,9 @@ letter_at-takes b = either-takes b (upper_at b) (lower_at b) (upper_at-takes b) 
 abbrev pub TakesNote : List ℕ → Option (NoteForm × List ℕ) → Type 0
 TakesNote s read = IfSome read (λ z. (s ≡ note_then z.0 z.1) × IsNote z.0)
 
-from-takes : (s : List ℕ) (sign : Option Alter) (b : ℕ) (rest : List ℕ) (l : Option (Bool × Letter)) → s ≡ sign_then sign (b ∷ rest) →
-    IfSome l (λ z. b ≡ letter_byte z.0 z.1) → TakesNote s (note_from sign l rest)
+from-takes : (s : List ℕ) (sign : Option Alter) (b : ℕ) (rest : List ℕ) (l : Option (Bool × Letter))
+    → s ≡ sign_then sign (b ∷ rest)
+    → IfSome l (λ z. b ≡ letter_byte z.0 z.1) → TakesNote s (note_from sign l rest)
 from-takes s sign b rest None e is = tt
 from-takes s sign b rest (Some l) e is =
     let marks = span_all is_mark rest in let len = length_from marks.1 in let p = length_at-takes marks.1 in
@@ -100,7 +109,8 @@ from-takes s sign b rest (Some l) e is =
       record { marks = span_all-pass is_mark rest; length = p.1 },
     )
 
-behind-takes : (s : List ℕ) (sign : Option Alter) (rest : List ℕ) → s ≡ sign_then sign rest → TakesNote s (note_behind sign rest)
+behind-takes : (s : List ℕ) (sign : Option Alter) (rest : List ℕ)
+    → s ≡ sign_then sign rest → TakesNote s (note_behind sign rest)
 behind-takes s sign [] e = tt
 behind-takes s sign (b ∷ rest) e = from-takes s sign b rest (letter_at b) e (letter_at-takes b)
 
@@ -114,14 +124,19 @@ note_goes_on b = is_mark b || goes_on b
 
 -- a reading ended before x, where x begins so; or it is this one
 abbrev pub NoteStops : List ℕ → NoteForm → Option (NoteForm × List ℕ) → Type 0
-NoteStops x f read = (z : NoteForm × List ℕ) × (read ≡ Some z) × (((length z.1 < length x) × (begins note_goes_on x ≡ true)) ⊎ (z ≡ (f, x)))
+NoteStops x f read =
+    (z : NoteForm × List ℕ)
+    × (read ≡ Some z)
+    × (((length z.1 < length x) × (begins note_goes_on x ≡ true)) ⊎ (z ≡ (f, x)))
 
 count_no_mark : (d : ℕ) (ds : List ℕ) → AreNumberDigits 4 (d ∷ ds) → is_mark d ≡ false
 count_no_mark d ds good =
-    let r = digit_range d (and_parts _ _ good.digits).0 in or_from (eqb d 39) (eqb d 44) (ne_eqb d 39 (omega arith)) (ne_eqb d 44 (omega arith))
+    let r = digit_range d (and_parts _ _ good.digits).0 in
+    or_from (eqb d 39) (eqb d 44) (ne_eqb d 39 (omega arith)) (ne_eqb d 44 (omega arith))
 
 -- a length begins with no mark, or is empty
-length_no_mark : (len : LengthForm) (x : List ℕ) → IsWrittenLength len → (begins is_mark (length_then len x) ≡ false) ⊎ (length_then len x ≡ x)
+length_no_mark : (len : LengthForm) (x : List ℕ)
+    → IsWrittenLength len → (begins is_mark (length_then len x) ≡ false) ⊎ (length_then len x ≡ x)
 length_no_mark (whole []) x good = inr refl
 length_no_mark (whole (d ∷ ds)) x good = inl (count_no_mark d ds good)
 length_no_mark (over [] below) x good = inl refl
@@ -132,17 +147,20 @@ length_no_mark (halved (d ∷ ds) k) x good = inl (count_no_mark d ds good.0)
 
 finish : Option Alter → Bool → Letter → List ℕ × List ℕ → NoteForm × List ℕ
 finish sign low letter marks =
-    let len = length_from marks.1 in (record { sign = sign; low = low; letter = letter; marks = marks.0; length = len.0 }, len.1)
+    let len = length_from marks.1 in
+    (record { sign = sign; low = low; letter = letter; marks = marks.0; length = len.0 }, len.1)
 
 note-read : (sign : Option Alter) (low : Bool) (letter : Letter) (r : List ℕ) →
     note_at (sign_then sign (letter_byte low letter ∷ r)) ≡ Some (finish sign low letter (span_all is_mark r))
 unfolding note_at finish
-note-read sign low letter r = rw (sign_at-reads sign (letter_byte low letter) r (letter_sign low letter), letter_at-reads low letter) refl
+note-read sign low letter r =
+    rw (sign_at-reads sign (letter_byte low letter) r (letter_sign low letter), letter_at-reads low letter) refl
 
 abbrev Ends : List ℕ → NoteForm → NoteForm × List ℕ → Type 0
 Ends x f z = ((length z.1 < length x) × (begins note_goes_on x ≡ true)) ⊎ (z ≡ (f, x))
 
-marks-read : (f : NoteForm) (x : List ℕ) → IsNote f → Ends x f (finish f.sign f.low f.letter (span_all is_mark (f.marks ++ length_then f.length x)))
+marks-read : (f : NoteForm) (x : List ℕ)
+    → IsNote f → Ends x f (finish f.sign f.low f.letter (span_all is_mark (f.marks ++ length_then f.length x)))
 unfolding finish
 marks-read f x good =
     let y = length_then f.length x in let rest = (span_all is_mark y).1 in
@@ -151,10 +169,14 @@ marks-read f x good =
     (elim (span_all-less is_mark y) [
       | inl shorter ↦ elim (length_no_mark f.length x good.length) [
         | inl other ↦ absurd (both_ways (begins is_mark y) other shorter.1)
-        | inr empty ↦ inl (omega (arith, shorter.0, ap length empty, length-length_at rest), wider (ap (begins is_mark) (sym empty) ∙ shorter.1))
+        | inr empty ↦ inl (
+          omega (arith, shorter.0, ap length empty, length-length_at rest),
+          wider (ap (begins is_mark) (sym empty) ∙ shorter.1),
+        )
       ]
       | inr same ↦ rw (same, append-nil) (elim (length_at-reaches f.length x good.length) [
-        | inl shorter ↦ inl (shorter.0, begins_wider goes_on note_goes_on x (λ b. or_right (is_mark b) (goes_on b)) shorter.1)
+        | inl shorter ↦
+            inl (shorter.0, begins_wider goes_on note_goes_on x (λ b. or_right (is_mark b) (goes_on b)) shorter.1)
         | inr exact ↦ inr (rw exact refl)
       ])
     ])

@@ -1,21 +1,26 @@
--- A reader that gives what stands at the front, and gives as much as any part that stands there, reads the one list of longest parts.
+-- A reader that gives what stands at the front, and gives as much as any part that stands there,
+-- reads the one list of longest parts.
 use Rattle.std.proofs.Common.{◌≡◌, ℕ, zero, suc, ◌≤◌, ◌<◌, List, [], ◌∷◌, length, Option, Some, None, refl, sym, ap}
 use Rattle.std.proofs.Common.{◌∙◌, subst, arith, inl, inr, ◌⊎◌}
 use Rattle.std.proofs.{Common.{IfSome, option_map}, lemmas.{Option.same_Some, List.nil_from_length}}
 use Rattle.abc_notes.specs.Parts.{IsLongest, HasNone, Parts, no_part, then_part, walk_on, walk_from, walk}
 
-pub record Reader (I : Type 0) (Stands : I → List ℕ → List ℕ → Type 0) (at : List ℕ → Option (I × List ℕ)) : Type 0 where
+pub record Reader (I : Type 0) (Stands : I → List ℕ → List ℕ → Type 0)
+    (at : List ℕ → Option (I × List ℕ)) : Type 0 where
   pub takes : (s : List ℕ) → IfSome (at s) (λ z. Stands z.0 s z.1)
-  pub reaches : (f : I) (s x : List ℕ) → Stands f s x → (z : I × List ℕ) × (at s ≡ Some z) × ((length z.1 < length x) ⊎ (z ≡ (f, x)))
+  pub reaches : (f : I) (s x : List ℕ)
+      → Stands f s x → (z : I × List ℕ) × (at s ≡ Some z) × ((length z.1 < length x) ⊎ (z ≡ (f, x)))
   pub longer : (f : I) (s x : List ℕ) → Stands f s x → length x < length s
 
 -- what was read, of which a call gives a part, or that nothing was
-pub read_from : {A B : Type 0} (f : A → B) (r : Option A) (y : B) → Some y ≡ option_map f r → (x : A) × (r ≡ Some x) × (y ≡ f x)
+pub read_from : {A B : Type 0} (f : A → B) (r : Option A) (y : B)
+    → Some y ≡ option_map f r → (x : A) × (r ≡ Some x) × (y ≡ f x)
 read_from f None y e = absurd cc
 read_from f (Some x) y e = (x, refl, same_Some y (f x) e)
 
-pub mapped_some : {A B : Type 0} (f : A → B) (r : Option A) (P : B → Type 0) {Q : A → Type 0} → IfSome r Q → ((x : A) → Q x → P (f x)) →
-    IfSome (option_map f r) P
+pub mapped_some : {A B : Type 0} (f : A → B) (r : Option A) (P : B → Type 0) {Q : A → Type 0}
+    → IfSome r Q → ((x : A) → Q x → P (f x))
+    → IfSome (option_map f r) P
 mapped_some f None P h k = tt
 mapped_some f (Some x) P h k = k x h
 
@@ -29,7 +34,8 @@ pub none_from : {A B : Type 0} (f : A → B) (r : Option A) → None ≡ option_
 none_from f None e = refl
 none_from f (Some x) e = absurd cc
 
-module _ {I : Type 0} {Stands : I → List ℕ → List ℕ → Type 0} {at : List ℕ → Option (I × List ℕ)} (r : Reader I Stands at) where
+module _ {I : Type 0} {Stands : I → List ℕ → List ℕ → Type 0} {at : List ℕ → Option (I × List ℕ)}
+    (r : Reader I Stands at) where
   pub stands_at : (s : List ℕ) (z : I × List ℕ) → at s ≡ Some z → Stands z.0 s z.1
   stands_at s z e = subst (λ (o : Option (I × List ℕ)). IfSome o (λ y. Stands y.0 s y.1)) e (r.takes s)
 
@@ -60,9 +66,11 @@ module _ {I : Type 0} {Stands : I → List ℕ → List ℕ → Type 0} {at : Li
   at_nil = nothing_there (at []) refl
 
   same_step : (n m : ℕ) (s : List ℕ) (o : Option (I × List ℕ)) → at s ≡ o → length s ≤ suc n → length s ≤ suc m →
-      ((t : List ℕ) → length t ≤ n → length t ≤ m → walk_from at n t ≡ walk_from at m t) → walk_on (walk_from at n) s o ≡ walk_on (walk_from at m) s o
+      ((t : List ℕ) → length t ≤ n → length t ≤ m → walk_from at n t ≡ walk_from at m t)
+      → walk_on (walk_from at n) s o ≡ walk_on (walk_from at m) s o
   same_step n m s None e a b next = refl
-  same_step n m s (Some z) e a b next = let shorter = less s z e in rw (next z.1 (omega (arith, shorter, a)) (omega (arith, shorter, b))) refl
+  same_step n m s (Some z) e a b next =
+      let shorter = less s z e in rw (next z.1 (omega (arith, shorter, a)) (omega (arith, shorter, b))) refl
 
   empty_walk : (m : ℕ) → walk_on (walk_from at m) [] (at []) ≡ ([], [])
   empty_walk m = rw at_nil refl
@@ -83,7 +91,8 @@ module _ {I : Type 0} {Stands : I → List ℕ → List ℕ → Type 0} {at : Li
   pub walk-some : (s : List ℕ) (z : I × List ℕ) → at s ≡ Some z → walk at s ≡ (z.0 ∷ (walk at z.1).0, (walk at z.1).1)
   unfolding walk
   walk-some [] z e = absurd (omega (arith, less [] z e))
-  walk-some (x ∷ s) z e = rw (e, same_fuel (length s) (length z.1) z.1 (omega (arith, less (x ∷ s) z e)) (omega arith)) refl
+  walk-some (x ∷ s) z e =
+      rw (e, same_fuel (length s) (length z.1) z.1 (omega (arith, less (x ∷ s) z e)) (omega arith)) refl
 
   pub left_none : (s : List ℕ) → at s ≡ None → (walk at s).1 ≡ s
   left_none s e = ap (λ (w : List I × List ℕ). w.1) (walk-none s e)
@@ -96,7 +105,8 @@ module _ {I : Type 0} {Stands : I → List ℕ → List ℕ → Type 0} {at : Li
       ((s : List ℕ) (z : I × List ℕ) → at s ≡ Some z → P z.1 → P s) → (s : List ℕ) → P s
   by_parts P none some s = within (length s) s (omega arith)
     where
-      read_on : (t : List ℕ) (o : Option (I × List ℕ)) → at t ≡ o → ((z : I × List ℕ) → length z.1 < length t → P z.1) → P t
+      read_on : (t : List ℕ) (o : Option (I × List ℕ))
+          → at t ≡ o → ((z : I × List ℕ) → length z.1 < length t → P z.1) → P t
       read_on t None e next = none t e
       read_on t (Some z) e next = some t z e (next z (less t z e))
 
@@ -113,8 +123,10 @@ module _ {I : Type 0} {Stands : I → List ℕ → List ℕ → Type 0} {at : Li
   pub parts_of_walk : (s : List ℕ) → length (walk at s).1 ≡ 0 → Parts I Stands s (walk at s).0
   parts_of_walk = by_parts (λ s. length (walk at s).1 ≡ 0 → Parts I Stands s (walk at s).0)
       (λ s e done. let none = nil_from_length s (rw (walk-none s e) at done) in rw (walk-none s e, none) no_part)
-      (λ s z e next done. rw (walk-some s z e) (then_part s z.0 z.1 _ (longest_of s z e) (next (rw (walk-some s z e) at done))))
+      (λ s z e next done.
+      rw (walk-some s z e) (then_part s z.0 z.1 _ (longest_of s z e) (next (rw (walk-some s z e) at done))))
 
   pub walk_of_parts : (s : List ℕ) (is : List I) → Parts I Stands s is → walk at s ≡ (is, [])
   walk_of_parts _ _ no_part = walk-none [] at_nil
-  walk_of_parts _ _ (then_part s part rest more l others) = walk-some s (part, rest) (longest_is s part rest l) ∙ rw (walk_of_parts rest more others)
+  walk_of_parts _ _ (then_part s part rest more l others) =
+      walk-some s (part, rest) (longest_is s part rest l) ∙ rw (walk_of_parts rest more others)

@@ -28,7 +28,8 @@ pub skip_cases : (b : ℕ) (s : List ℕ) (P : Bool × List ℕ → Type 0) → 
     (begins (λ x. eqb x b) s ≡ false → P (false, s)) → P (skip b s)
 unfolding skip
 skip_cases b [] P there none = none refl
-skip_cases b (x ∷ s) P there none = cond_both _ (true, s) (false, x ∷ s) P (λ e. there s (ap (λ z. z ∷ s) (eqb-true x b e))) none
+skip_cases b (x ∷ s) P there none =
+    cond_both _ (true, s) (false, x ∷ s) P (λ e. there s (ap (λ z. z ∷ s) (eqb-true x b e))) none
 
 pub skip-takes : (b : ℕ) (s : List ℕ) → s ≡ maybe (skip b s).0 b (skip b s).1
 skip-takes b s = skip_cases b s (λ p. s ≡ maybe p.0 b p.1) (λ t e. e) (λ h. refl)
@@ -68,22 +69,27 @@ unfolding skip
 skip-yes b s = rw (same b) refl
 
 -- what is taken off is shorter and began so, or all is left
-pub run_off-less : (b : ℕ) (s : List ℕ) → ((length (run_off b s).1 < length s) × (begins (λ x. eqb x b) s ≡ true)) ⊎ (run_off b s ≡ (0, s))
+pub run_off-less : (b : ℕ) (s : List ℕ)
+    → ((length (run_off b s).1 < length s) × (begins (λ x. eqb x b) s ≡ true)) ⊎ (run_off b s ≡ (0, s))
 unfolding run_off
 run_off-less b [] = inr refl
 run_off-less b (x ∷ s) =
     let k = prefix_len (λ y. eqb y b) s in
     cond_both (eqb x b) (1 + k) 0
-    (λ m. ((length (drop m (x ∷ s)) < suc (length s)) × (eqb x b ≡ true)) ⊎ (◌≡◌ {A = ℕ × List ℕ} (m, drop m (x ∷ s)) (0, x ∷ s)))
+    (λ m.
+    ((length (drop m (x ∷ s)) < suc (length s)) × (eqb x b ≡ true))
+    ⊎ (◌≡◌ {A = ℕ × List ℕ} (m, drop m (x ∷ s)) (0, x ∷ s)))
     (λ e. inl (omega (arith, length-drop (1 + k) (x ∷ s)), e))
     (λ e. inr refl)
 
-pub skip-less : (b : ℕ) (s : List ℕ) → ((length (skip b s).1 < length s) × (begins (λ x. eqb x b) s ≡ true)) ⊎ (skip b s ≡ (false, s))
+pub skip-less : (b : ℕ) (s : List ℕ)
+    → ((length (skip b s).1 < length s) × (begins (λ x. eqb x b) s ≡ true)) ⊎ (skip b s ≡ (false, s))
 skip-less b s =
     skip_cases b s (λ p. ((length p.1 < length s) × (begins (λ x. eqb x b) s ≡ true)) ⊎ (p ≡ (false, s)))
     (λ t e. inl (omega (arith, ap length e), rw e (same b))) (λ h. inr refl)
 
 -- one test implies another at the front
-pub begins_wider : (p q : ℕ → Bool) (s : List ℕ) → ((b : ℕ) → p b ≡ true → q b ≡ true) → begins p s ≡ true → begins q s ≡ true
+pub begins_wider : (p q : ℕ → Bool) (s : List ℕ)
+    → ((b : ℕ) → p b ≡ true → q b ≡ true) → begins p s ≡ true → begins q s ≡ true
 begins_wider p q [] f h = absurd cc
 begins_wider p q (b ∷ s) f h = f b h

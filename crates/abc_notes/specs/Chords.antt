@@ -68,15 +68,20 @@ decos_of (part ∷ more) = deco_of part ++ decos_of more
 abbrev pub InnerLeads : Bool → List ℕ → List Inner → List ℕ → Type 0
 InnerLeads bang text parts rest = LeadsByParts Inner (StandsInside bang) text parts rest
 
--- the fault behind an opening bracket, where no chord stands: no closing bracket follows, or parts alone follow up to the end; or the parts
--- have no head up to a closing bracket; or the first fault of the parts, which stop at another byte
+-- the fault behind an opening bracket, where no chord stands: no closing bracket follows, or parts alone follow up to
+-- the end; or the parts have no head up to a closing bracket; or the first fault of the parts,
+-- which stop at another byte
 pub data ChordFault (bang : Bool) : List ℕ → Flaw → Type 0 where
-  chord_unclosed : (text : List ℕ) → list_all is_inside text ≡ true → ChordFault bang text (record { kind = Unclosed; left = suc (length text) })
-  chord_open : (text : List ℕ) (parts : List Inner) → InnerLeads bang text parts [] → ChordFault bang text (record { kind = Unclosed; left = suc (length text) })
-  chord_headless : (text : List ℕ) (parts : List Inner) (rest : List ℕ) → InnerLeads bang text parts (code "]" ∷ rest) → has_inner_head parts ≡ false →
-      ChordFault bang text (record { kind = BadByte; left = suc (length text) })
-  chord_flawed : (text : List ℕ) (parts : List Inner) (byte : ℕ) (rest : List ℕ) (flaw : Flaw) → list_all is_inside text ≡ false → InnerLeads bang text parts (byte ∷ rest) →
-      HasNone Inner (StandsInside bang) (byte ∷ rest) → (byte == code "]") ≡ false →
+  chord_unclosed : (text : List ℕ)
+      → list_all is_inside text ≡ true → ChordFault bang text (record { kind = Unclosed; left = suc (length text) })
+  chord_open : (text : List ℕ) (parts : List Inner)
+      → InnerLeads bang text parts [] → ChordFault bang text (record { kind = Unclosed; left = suc (length text) })
+  chord_headless : (text : List ℕ) (parts : List Inner) (rest : List ℕ)
+      → InnerLeads bang text parts (code "]" ∷ rest) → has_inner_head parts ≡ false
+      → ChordFault bang text (record { kind = BadByte; left = suc (length text) })
+  chord_flawed : (text : List ℕ) (parts : List Inner) (byte : ℕ) (rest : List ℕ) (flaw : Flaw)
+      → list_all is_inside text ≡ false → InnerLeads bang text parts (byte ∷ rest)
+      → HasNone Inner (StandsInside bang) (byte ∷ rest) → (byte == code "]") ≡ false →
       InnerFlawed bang None text flaw → ChordFault bang text flaw
 
 -- ---- reading, between these and the code
@@ -90,17 +95,23 @@ bracket_here head (byte ∷ rest) = if byte == code "]" && head then Some (byte 
 abbrev pub bracket_in : Bool → Bool → List ℕ → Option (List ℕ × List ℕ) → Option (List ℕ)
 bracket_in bang head text None = None
 bracket_in bang head text (Some named) =
-    let inside = span_all is_inside named.0 in let w = walk (inner_at bang) inside.0 in if not (length inside.1 == 0) && (is_done w && (head || has_inner_head w.0)) then Some (drop (length inside.0) text) else None
+    let inside = span_all is_inside named.0 in
+    let w = walk (inner_at bang) inside.0 in
+    if not (length inside.1 == 0) && (is_done w && (head || has_inner_head w.0)) then Some (drop (length inside.0) text)
+    else None
 
 -- the bracket that closes a chord where the exclamation mark in front begins no name
 unfoldable pub bracket_in_name : Bool → Bool → List ℕ → Option (List ℕ)
 bracket_in_name bang head [] = None
-bracket_in_name bang head (byte ∷ rest) = if byte == code "!" && not bang then bracket_in bang head rest (name_at rest) else None
+bracket_in_name bang head (byte ∷ rest) =
+    if byte == code "!" && not bang then bracket_in bang head rest (name_at rest) else None
 
 -- the last bracket at which a chord may end: the one behind all the parts, else one in a name
 abbrev pub last_bracket : Bool → Bool → List Inner → List ℕ → Option (List ℕ)
 last_bracket bang head [] rest = bracket_here head rest
-last_bracket bang head (part ∷ more) rest = later_or (last_bracket bang (head || has_length part) more rest) (bracket_in_name bang head (inner_then part (spelled_then inner_then more rest)))
+last_bracket bang head (part ∷ more) rest =
+    later_or (last_bracket bang (head || has_length part) more rest)
+    (bracket_in_name bang head (inner_then part (spelled_then inner_then more rest)))
 
 unfoldable pub bracket_at : Bool → List ℕ → Option (List ℕ)
 bracket_at bang text = let w = walk (inner_at bang) text in last_bracket bang false w.0 w.1
@@ -109,7 +120,9 @@ abbrev pub chord_from : Bool → List ℕ → Option (List ℕ) → Option (Chor
 chord_from bang text None = None
 chord_from bang text (Some []) = None
 chord_from bang text (Some (bracket ∷ rest)) =
-    let inside = take (length text - suc (length rest)) text in let len = length_from rest in Some (record { inside = inside; parts = (walk (inner_at bang) inside).0; length = len.0 }, len.1)
+    let inside = take (length text - suc (length rest)) text in
+    let len = length_from rest in
+    Some (record { inside = inside; parts = (walk (inner_at bang) inside).0; length = len.0 }, len.1)
 
 unfoldable pub chord_at : Bool → List ℕ → Option (ChordForm × List ℕ)
 chord_at bang text = chord_from bang text (bracket_at bang text)

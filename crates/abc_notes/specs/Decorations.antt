@@ -14,8 +14,10 @@ is_deco_letter byte = one_of (codes "~HLMOPSTuv") byte
 
 unfoldable pub deco_of_letter : ℕ → Deco
 deco_of_letter byte =
-    if byte == code "." then Ks else (if byte == code "~" then Kr else (if byte == code "H" then Kf else (if byte == code "L" then Ka
-    else (if byte == code "M" then Km else (if byte == code "O" then Kc else (if byte == code "P" then Kp else (if byte == code "S" then Kg
+    if byte == code "." then Ks
+    else (if byte == code "~" then Kr else (if byte == code "H" then Kf else (if byte == code "L" then Ka
+    else (if byte == code "M" then Km
+    else (if byte == code "O" then Kc else (if byte == code "P" then Kp else (if byte == code "S" then Kg
     else (if byte == code "T" then Kt else (if byte == code "u" then Ku else Kd)))))))))
 
 -- a name has no blank, no bar sign and no exclamation mark
@@ -33,7 +35,11 @@ unfoldable pub is_accent : List ℕ → Bool
 is_accent name = is_one_of (codes "accent" ∷ codes "emphasis" ∷ codes ">" ∷ []) name
 
 unfoldable pub is_dynamic : List ℕ → Bool
-is_dynamic name = is_one_of (codes "ppp" ∷ codes "pp" ∷ codes "p" ∷ codes "mp" ∷ codes "mf" ∷ codes "f" ∷ codes "ff" ∷ codes "fff" ∷ codes "sfz" ∷ []) name
+is_dynamic name =
+    is_one_of
+    (codes "ppp" ∷ codes "pp" ∷ codes "p" ∷ codes "mp" ∷ codes "mf" ∷ codes "f" ∷ codes "ff" ∷ codes "fff" ∷ codes "sfz"
+    ∷ [])
+    name
 
 unfoldable pub is_finger : List ℕ → Bool
 is_finger name = is_one_of (codes "1" ∷ codes "2" ∷ codes "3" ∷ codes "4" ∷ codes "5" ∷ []) name

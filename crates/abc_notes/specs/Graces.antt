@@ -78,10 +78,12 @@ body_of (part ∷ more) = body_of_part part ++ body_of more
 -- where no part stands: at a bracket the fault of a chord, else the byte
 abbrev pub IsGraceOwn : Bool → List ℕ → Flaw → Type 0
 IsGraceOwn bang [] flaw = ⊥
-IsGraceOwn bang (byte ∷ rest) flaw = MatchBool (byte == code "[") (ChordFault bang rest flaw) (IsBadByte (byte ∷ rest) flaw)
+IsGraceOwn bang (byte ∷ rest) flaw =
+    MatchBool (byte == code "[") (ChordFault bang rest flaw) (IsBadByte (byte ∷ rest) flaw)
 
 abbrev pub GraceFlawed : Bool → Option ℕ → List ℕ → Flaw → Type 0
-GraceFlawed bang before text flaw = Flawed GracePart (StandsInGrace bang) part_has_length (IsGraceOwn bang) before text flaw
+GraceFlawed bang before text flaw =
+    Flawed GracePart (StandsInGrace bang) part_has_length (IsGraceOwn bang) before text flaw
 
 -- the parts behind an opening brace and its slash as the line goes on, each as long as it can be
 abbrev pub GraceLeads : Bool → List ℕ → List GracePart → List ℕ → Type 0
@@ -95,10 +97,16 @@ pub record HasSlash (text : List ℕ) (slash : Bool) (behind : List ℕ) : Type 
 -- the fault behind an opening brace, where no grace group stands: no closing brace follows, or parts
 -- alone follow up to the end; or the first fault of the parts, which stop at another byte
 pub data GraceFault (bang : Bool) : List ℕ → Flaw → Type 0 where
-  grace_unclosed : (text : List ℕ) → list_all is_in_grace text ≡ true → GraceFault bang text (record { kind = Unclosed; left = suc (length text) })
-  grace_open : (text : List ℕ) (slash : Bool) (behind : List ℕ) (parts : List GracePart) → HasSlash text slash behind → GraceLeads bang behind parts [] → GraceFault bang text (record { kind = Unclosed; left = suc (length text) })
-  grace_flawed : (text : List ℕ) (slash : Bool) (behind : List ℕ) (parts : List GracePart) (byte : ℕ) (rest : List ℕ) (flaw : Flaw) → list_all is_in_grace text ≡ false → HasSlash text slash behind →
-      GraceLeads bang behind parts (byte ∷ rest) → (byte == code "}") ≡ false → GraceFlawed bang None behind flaw → GraceFault bang text flaw
+  grace_unclosed : (text : List ℕ)
+      → list_all is_in_grace text ≡ true → GraceFault bang text (record { kind = Unclosed; left = suc (length text) })
+  grace_open : (text : List ℕ) (slash : Bool) (behind : List ℕ) (parts : List GracePart)
+      → HasSlash text slash behind → GraceLeads bang behind parts []
+      → GraceFault bang text (record { kind = Unclosed; left = suc (length text) })
+  grace_flawed : (text : List ℕ) (slash : Bool) (behind : List ℕ) (parts : List GracePart) (byte : ℕ) (rest : List ℕ)
+      (flaw : Flaw)
+      → list_all is_in_grace text ≡ false → HasSlash text slash behind
+      → GraceLeads bang behind parts (byte ∷ rest) → (byte == code "}") ≡ false → GraceFlawed bang None behind flaw
+      → GraceFault bang text flaw
 
 -- ---- reading, between these and the code
 abbrev pub chorded_read : ChordForm × List ℕ → GracePart × List ℕ
@@ -109,7 +117,9 @@ single_read z = (single z.0, z.1)
 
 unfoldable pub grace_part_at : Bool → List ℕ → Option (GracePart × List ℕ)
 grace_part_at bang [] = None
-grace_part_at bang (byte ∷ rest) = if byte == code "[" then option_map chorded_read (chord_at bang rest) else option_map single_read (inner_at bang (byte ∷ rest))
+grace_part_at bang (byte ∷ rest) =
+    if byte == code "[" then option_map chorded_read (chord_at bang rest)
+    else option_map single_read (inner_at bang (byte ∷ rest))
 
 -- the brace in front closes the group
 abbrev pub brace_here : List ℕ → Option (List ℕ)
@@ -119,7 +129,11 @@ brace_here (byte ∷ rest) = if byte == code "}" then Some (byte ∷ rest) else 
 -- the first brace in a name, where parts alone stand before it
 abbrev pub brace_in : Bool → List ℕ → Option (List ℕ × List ℕ) → Option (List ℕ)
 brace_in bang text None = None
-brace_in bang text (Some named) = let inside = span_all is_in_grace named.0 in if not (length inside.1 == 0) && is_done (walk (grace_part_at bang) inside.0) then Some (drop (length inside.0) text) else None
+brace_in bang text (Some named) =
+    let inside = span_all is_in_grace named.0 in
+    if not (length inside.1 == 0) && is_done (walk (grace_part_at bang) inside.0)
+    then Some (drop (length inside.0) text)
+    else None
 
 -- the brace that closes a group where the exclamation mark in front begins no name
 unfoldable pub brace_in_name : Bool → List ℕ → Option (List ℕ)
@@ -136,7 +150,8 @@ closes_at bang text n = begins is_brace (drop n text) && is_done (walk (grace_pa
 -- the last brace, at most so many bytes on, before which parts alone stand
 abbrev pub last_closing : Bool → List ℕ → ℕ → Option (List ℕ)
 last_closing bang text zero = if closes_at bang text 0 then Some text else None
-last_closing bang text (suc n) = if closes_at bang text (suc n) then Some (drop (suc n) text) else last_closing bang text n
+last_closing bang text (suc n) =
+    if closes_at bang text (suc n) then Some (drop (suc n) text) else last_closing bang text n
 
 -- the last brace at which a group may end
 unfoldable pub brace_at : Bool → List ℕ → Option (List ℕ)
@@ -155,7 +170,8 @@ brace_behind bang (bracket ∷ rest) = brace_at bang (length_from rest).1
 abbrev pub brace_between : Bool → Option (List ℕ) → Option (List ℕ) → Option (List ℕ)
 brace_between bang bracket None = None
 brace_between bang None (Some closing) = None
-brace_between bang (Some bracket) (Some closing) = option_map (λ brace. brace ++ closing) (brace_behind bang (take (length bracket - length closing) bracket))
+brace_between bang (Some bracket) (Some closing) =
+    option_map (λ brace. brace ++ closing) (brace_behind bang (take (length bracket - length closing) bracket))
 
 -- the closing byte stands behind the bracket
 abbrev pub stands_behind : Option (List ℕ) → Option (List ℕ) → Type 0
@@ -170,18 +186,23 @@ at_most_bytes most (Some bytes) = length bytes ≤ most
 -- the last brace at which a group may end within its first part
 abbrev pub brace_in_part : Bool → GracePart → List ℕ → Option (List ℕ)
 brace_in_part bang (single part) text = brace_in_name bang text
-brace_in_part bang (chorded f) text = option_map (λ brace. brace ++ drop (suc (length f.inside)) text) (brace_in_chord bang f.inside)
+brace_in_part bang (chorded f) text =
+    option_map (λ brace. brace ++ drop (suc (length f.inside)) text) (brace_in_chord bang f.inside)
 
 abbrev pub grace_from : Bool → Bool → List ℕ → Option (List ℕ) → Option (GraceForm × List ℕ)
 grace_from bang slash text None = None
 grace_from bang slash text (Some []) = None
-grace_from bang slash text (Some (brace ∷ rest)) = let inside = take (length text - suc (length rest)) text in Some (record { slash = slash; inside = inside; parts = (walk (grace_part_at bang) inside).0 }, rest)
+grace_from bang slash text (Some (brace ∷ rest)) =
+    let inside = take (length text - suc (length rest)) text in
+    Some (record { slash = slash; inside = inside; parts = (walk (grace_part_at bang) inside).0 }, rest)
 
 unfoldable pub grace_at : Bool → List ℕ → Option (GraceForm × List ℕ)
 grace_at bang text = let slash = skip (code "/") text in grace_from bang slash.0 slash.1 (brace_at bang slash.1)
 
--- a part as the code reads it: what it gives to the body, whether it has a length, and what stands between its brackets where it is a chord
-abbrev pub bodied : List GraceChord → Bool → Option (List ℕ) → List ℕ → List GraceChord × Bool × Option (List ℕ) × List ℕ
+-- a part as the code reads it: what it gives to the body, whether it has a length, and what stands between its brackets
+-- where it is a chord
+abbrev pub bodied : List GraceChord
+    → Bool → Option (List ℕ) → List ℕ → List GraceChord × Bool × Option (List ℕ) × List ℕ
 bodied body lengthy inside rest = (body, lengthy, inside, rest)
 
 abbrev pub inside_of_part : GracePart → Option (List ℕ)
@@ -195,11 +216,15 @@ inside_of_item (GracePiece.Chord inside) = Some inside.now
 -- a part that the code has read off a text
 abbrev pub IsItemAt : Bool → GracePiece → List ℕ → Type 0
 IsItemAt bang (GracePiece.Part part) text = Unit {0}
-IsItemAt bang (GracePiece.Chord inside) text = (length inside.now < length text) × (is_done (walk (inner_at bang) inside.now) ≡ true) × (text ≡ (code "[" ∷ inside.now) ++ drop (suc (length inside.now)) text)
+IsItemAt bang (GracePiece.Chord inside) text =
+    (length inside.now < length text)
+    × (is_done (walk (inner_at bang) inside.now) ≡ true)
+    × (text ≡ (code "[" ∷ inside.now) ++ drop (suc (length inside.now)) text)
 
 abbrev pub brace_in_item : Bool → GracePiece → List ℕ → Option (List ℕ)
 brace_in_item bang (GracePiece.Part part) text = brace_in_name bang text
-brace_in_item bang (GracePiece.Chord inside) text = option_map (λ brace. brace ++ drop (suc (length inside.now)) text) (brace_in_chord bang inside.now)
+brace_in_item bang (GracePiece.Chord inside) text =
+    option_map (λ brace. brace ++ drop (suc (length inside.now)) text) (brace_in_chord bang inside.now)
 
 abbrev pub body_of_item : Bool → GracePiece → List GraceChord
 body_of_item bang (GracePiece.Part part) = body_of_sense (sense_of part)

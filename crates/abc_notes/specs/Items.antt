@@ -161,4 +161,5 @@ sensed part rest = (part, rest)
 -- which fault it is at such a byte, so many bytes from the end, behind a part with a length at that place
 abbrev pub inner_flaw : Option ℕ → ℕ → ℕ → Flaw
 inner_flaw None byte here = record { kind = BadByte; left = here }
-inner_flaw (Some at) byte here = if goes_on_length byte then record { kind = BadLength; left = at } else record { kind = BadByte; left = here }
+inner_flaw (Some at) byte here =
+    if goes_on_length byte then record { kind = BadLength; left = at } else record { kind = BadByte; left = here }

@@ -63,7 +63,10 @@ below_at count (_ ∷ [], rest) (d ∷ ds, after) = (over count (d ∷ ds), afte
 below_at count (x ∷ y ∷ ys, rest) below = (halved count (length (x ∷ y ∷ ys)), rest)
 
 unfoldable pub length_from : List ℕ → LengthForm × List ℕ
-length_from s = let count = number_at 4 s in let slashes = span is_slash 6 count.1 in below_at count.0 slashes (number_at 4 slashes.1)
+length_from s =
+    let count = number_at 4 s in
+    let slashes = span is_slash 6 count.1 in
+    below_at count.0 slashes (number_at 4 slashes.1)
 
 abbrev pub length_read : Len → List ℕ → Len × List ℕ
 length_read len rest = (len, rest)

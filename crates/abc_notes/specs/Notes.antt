@@ -1,5 +1,5 @@
--- A note: a sign or none, a letter, octave marks in any mix, and a length. A capital is in octave 4 and a small letter in octave 5; each
--- prime counts one octave up and each comma one down. Then reading a note from left to right.
+-- A note: a sign or none, a letter, octave marks in any mix, and a length. A capital is in octave 4 and a small letter
+-- in octave 5; each prime counts one octave up and each comma one down. Then reading a note from left to right.
 use Prim.Native.Char.{code}
 use Rattle.std.specs.Prelude.{◌≡◌, ℕ, ℤ, pos, ◌+ℤ◌, ◌-ℤ◌, List, [], ◌∷◌, ◌++◌, Bool, true, false, ◌==◌, if◌then◌else◌}
 use Rattle.std.specs.Prelude.{Option, Some, None, count_by}
@@ -56,10 +56,13 @@ pub record IsNote (f : NoteForm) : Type 0 where
 
 -- `C` is in octave 4 and `c` in octave 5, and each mark counts one up or down
 abbrev pub octave_of : Bool → List ℕ → ℤ
-octave_of low marks = (pos (if low then 5 else 4) +ℤ pos (count_by (λ b. b == code "'") marks)) -ℤ pos (count_by (λ b. b == code ",") marks)
+octave_of low marks =
+    (pos (if low then 5 else 4) +ℤ pos (count_by (λ b. b == code "'") marks)) -ℤ pos
+    (count_by (λ b. b == code ",") marks)
 
 abbrev pub head_of : NoteForm → Head
-head_of f = record { pitch = record { letter = f.letter; octave = octave_of f.low f.marks }; sign = f.sign; tied = false }
+head_of f =
+    record { pitch = record { letter = f.letter; octave = octave_of f.low f.marks }; sign = f.sign; tied = false }
 
 abbrev pub note_read : Head → Len → List ℕ → Head × Len × List ℕ
 note_read head len rest = (head, len, rest)
@@ -67,20 +70,28 @@ note_read head len rest = (head, len, rest)
 -- reading from left to right
 unfoldable pub sign_at : List ℕ → Option Alter × List ℕ
 sign_at s =
-    let up = skip (code "^") s in let up_two = skip (code "^") up.1 in let down = skip (code "_") s in let down_two = skip (code "_") down.1 in let plain = skip (code "=") s in
+    let up = skip (code "^") s in
+    let up_two = skip (code "^") up.1 in
+    let down = skip (code "_") s in
+    let down_two = skip (code "_") down.1 in
+    let plain = skip (code "=") s in
     if up.0 then (if up_two.0 then (Some Sharp2, up_two.1) else (Some Sharp, up.1))
     else (if down.0 then (if down_two.0 then (Some Flat2, down_two.1) else (Some Flat, down.1))
     else (if plain.0 then (Some Natural, plain.1) else (None, s)))
 
 abbrev pub upper_at : ℕ → Option Letter
 upper_at b =
-    if b == code "A" then Some A else (if b == code "B" then Some B else (if b == code "C" then Some C else (if b == code "D" then Some D
-    else (if b == code "E" then Some E else (if b == code "F" then Some F else (if b == code "G" then Some G else None))))))
+    if b == code "A" then Some A
+    else (if b == code "B" then Some B else (if b == code "C" then Some C else (if b == code "D" then Some D
+    else (if b == code "E" then Some E
+    else (if b == code "F" then Some F else (if b == code "G" then Some G else None))))))
 
 abbrev pub lower_at : ℕ → Option Letter
 lower_at b =
-    if b == code "a" then Some A else (if b == code "b" then Some B else (if b == code "c" then Some C else (if b == code "d" then Some D
-    else (if b == code "e" then Some E else (if b == code "f" then Some F else (if b == code "g" then Some G else None))))))
+    if b == code "a" then Some A
+    else (if b == code "b" then Some B else (if b == code "c" then Some C else (if b == code "d" then Some D
+    else (if b == code "e" then Some E
+    else (if b == code "f" then Some F else (if b == code "g" then Some G else None))))))
 
 abbrev pub either_letter : Option Letter → Option Letter → Option (Bool × Letter)
 either_letter (Some l) low = Some (false, l)
@@ -93,7 +104,10 @@ letter_at b = either_letter (upper_at b) (lower_at b)
 -- what stands behind the sign and the letter
 abbrev pub note_from : Option Alter → Option (Bool × Letter) → List ℕ → Option (NoteForm × List ℕ)
 note_from sign None rest = None
-note_from sign (Some l) rest = let marks = span_all is_mark rest in let len = length_from marks.1 in Some (record { sign = sign; low = l.0; letter = l.1; marks = marks.0; length = len.0 }, len.1)
+note_from sign (Some l) rest =
+    let marks = span_all is_mark rest in
+    let len = length_from marks.1 in
+    Some (record { sign = sign; low = l.0; letter = l.1; marks = marks.0; length = len.0 }, len.1)
 
 abbrev pub note_behind : Option Alter → List ℕ → Option (NoteForm × List ℕ)
 note_behind sign [] = None

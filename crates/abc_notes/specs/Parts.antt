@@ -1,5 +1,6 @@
--- Text that is read part by part, each part as long as it can be: the list of parts that a text is, and the first place where it has none.
--- `Stands part text rest` says that the part stands at the front of the text, with the rest behind it.
+-- Text that is read part by part, each part as long as it can be: the list of parts that a text is, and the first place
+-- where it has none. `Stands part text rest` says that the part stands at the front of the text,
+-- with the rest behind it.
 use Prim.Native.Char.{code}
 use Rattle.std.specs.Prelude.{◌≡◌, ◌≤◌, ℕ, zero, suc, List, [], ◌∷◌, length, Bool, true, false, ◌||◌, ◌==◌, Option}
 use Rattle.std.specs.Prelude.{Some, None, MatchBool}
@@ -8,7 +9,8 @@ use Rattle.abc_notes.specs.declared.part.Flaw.{Flaw}
 use Rattle.mus_units.specs.Bytes.{is_digit}
 
 -- the part stands at the front, and no longer one does
-pub record IsLongest (I : Type 0) (Stands : I → List ℕ → List ℕ → Type 0) (text : List ℕ) (part : I) (rest : List ℕ) : Type 0 where
+pub record IsLongest (I : Type 0) (Stands : I → List ℕ → List ℕ → Type 0) (text : List ℕ) (part : I)
+    (rest : List ℕ) : Type 0 where
   pub stands : Stands part text rest
   pub longest : (other : I) (behind : List ℕ) → Stands other text behind → length rest ≤ length behind
 
@@ -18,12 +20,15 @@ HasNone I Stands text = (part : I) (rest : List ℕ) → Stands part text rest �
 -- the parts of a text
 pub data Parts (I : Type 0) (Stands : I → List ℕ → List ℕ → Type 0) : List ℕ → List I → Type 0 where
   no_part : Parts I Stands [] []
-  then_part : (text : List ℕ) (part : I) (rest : List ℕ) (more : List I) → IsLongest I Stands text part rest → Parts I Stands rest more → Parts I Stands text (part ∷ more)
+  then_part : (text : List ℕ) (part : I) (rest : List ℕ) (more : List I)
+      → IsLongest I Stands text part rest → Parts I Stands rest more → Parts I Stands text (part ∷ more)
 
 -- a text begins with these parts, each as long as it can be, and then comes the rest
 pub data LeadsByParts (I : Type 0) (Stands : I → List ℕ → List ℕ → Type 0) : List ℕ → List I → List ℕ → Type 0 where
   leads_here : (text : List ℕ) → LeadsByParts I Stands text [] text
-  leads_on : (text : List ℕ) (part : I) (behind : List ℕ) (more : List I) (rest : List ℕ) → IsLongest I Stands text part behind → LeadsByParts I Stands behind more rest → LeadsByParts I Stands text (part ∷ more) rest
+  leads_on : (text : List ℕ) (part : I) (behind : List ℕ) (more : List I) (rest : List ℕ)
+      → IsLongest I Stands text part behind → LeadsByParts I Stands behind more rest
+      → LeadsByParts I Stands text (part ∷ more) rest
 
 -- a digit or a slash goes on a length
 abbrev pub goes_on_length : ℕ → Bool
@@ -33,17 +38,23 @@ goes_on_length byte = is_digit byte || byte == code "/"
 -- the end; any other fault is the text's own
 abbrev pub IsFlaw : (List ℕ → Flaw → Type 0) → Option ℕ → ℕ → List ℕ → Flaw → Type 0
 IsFlaw Own None byte rest flaw = Own (byte ∷ rest) flaw
-IsFlaw Own (Some at) byte rest flaw = MatchBool (goes_on_length byte) (flaw ≡ record { kind = BadLength; left = at }) (Own (byte ∷ rest) flaw)
+IsFlaw Own (Some at) byte rest flaw =
+    MatchBool (goes_on_length byte) (flaw ≡ record { kind = BadLength; left = at }) (Own (byte ∷ rest) flaw)
 
 abbrev pub length_at_place : Bool → ℕ → Option ℕ
 length_at_place true left = Some left
 length_at_place false left = None
 
 -- the first fault of a text; `before` is the place of the part before it, where that has a length
-pub data Flawed (I : Type 0) (Stands : I → List ℕ → List ℕ → Type 0) (is_lengthy : I → Bool) (Own : List ℕ → Flaw → Type 0) : Option ℕ → List ℕ → Flaw → Type 0 where
-  stuck_here : (before : Option ℕ) (byte : ℕ) (rest : List ℕ) (flaw : Flaw) → HasNone I Stands (byte ∷ rest) → IsFlaw Own before byte rest flaw → Flawed I Stands is_lengthy Own before (byte ∷ rest) flaw
-  stuck_later : (before : Option ℕ) (text : List ℕ) (part : I) (rest : List ℕ) (flaw : Flaw) → IsLongest I Stands text part rest →
-      Flawed I Stands is_lengthy Own (length_at_place (is_lengthy part) (length text)) rest flaw → Flawed I Stands is_lengthy Own before text flaw
+pub data Flawed (I : Type 0) (Stands : I → List ℕ → List ℕ → Type 0) (is_lengthy : I → Bool)
+    (Own : List ℕ → Flaw → Type 0) : Option ℕ → List ℕ → Flaw → Type 0 where
+  stuck_here : (before : Option ℕ) (byte : ℕ) (rest : List ℕ) (flaw : Flaw)
+      → HasNone I Stands (byte ∷ rest) → IsFlaw Own before byte rest flaw
+      → Flawed I Stands is_lengthy Own before (byte ∷ rest) flaw
+  stuck_later : (before : Option ℕ) (text : List ℕ) (part : I) (rest : List ℕ) (flaw : Flaw)
+      → IsLongest I Stands text part rest
+      → Flawed I Stands is_lengthy Own (length_at_place (is_lengthy part) (length text)) rest flaw
+      → Flawed I Stands is_lengthy Own before text flaw
 
 -- ---- reading, between these and the code
 abbrev pub walk_on : {I : Type 0} → (List ℕ → List I × List ℕ) → List ℕ → Option (I × List ℕ) → List I × List ℕ

@@ -23,7 +23,14 @@ use std::alloc::Global;
 /// Whether the inside of a chord has a head, or its first fault.
 pub fn inside_state(bang: bool, inside: &[u8]) -> Result<bool, Flaw>
     requires { length inside.now ≤ 2 ^ 30 }
-    ensures { MatchResult result (λ head. (is_done (walk (inner_at bang) inside.now) ≡ true) × (head ≡ has_inner_head (walk (inner_at bang) inside.now).0)) (λ flaw. (is_done (walk (inner_at bang) inside.now) ≡ false) × InnerFlawed bang None inside.now flaw × (flaw.left ≤ length inside.now)) }
+    ensures { MatchResult result
+        (λ head.
+        (is_done (walk (inner_at bang) inside.now) ≡ true)
+        × (head ≡ has_inner_head (walk (inner_at bang) inside.now).0))
+        (λ flaw.
+        (is_done (walk (inner_at bang) inside.now) ≡ false)
+        × InnerFlawed bang None inside.now flaw
+        × (flaw.left ≤ length inside.now)) }
 {
     let mut rest = inside;
     let mut before = None;
@@ -227,7 +234,9 @@ pub struct Chord<'a> {
 #[tactic(auto, unfolding(crate::specs::Chords::chord_at))]
 pub fn chord_at(bang: bool, bytes: &[u8]) -> Option<Chord<'_>>
     requires { length bytes.now ≤ 2 ^ 30 }
-    ensures read { option_map (λ x. chord_shown (senses bang x.inside.now) x.len x.inside.now x.rest.now) result ≡ option_map (λ z. chord_shown (map sense z.0.parts) (len_of z.0.length) z.0.inside z.1) (chord_at bang bytes.now) }
+    ensures read { option_map (λ x. chord_shown (senses bang x.inside.now) x.len x.inside.now x.rest.now) result
+        ≡ option_map (λ z. chord_shown (map sense z.0.parts) (len_of z.0.length) z.0.inside z.1)
+        (chord_at bang bytes.now) }
     ensures within { IfSome result (λ x. length x.inside.now ≤ length bytes.now) }
 {
     let closing = bracket_at(bang, bytes)?;
@@ -256,7 +265,8 @@ fn bracket_at(bang: bool, bytes: &[u8]) -> Option<&[u8]>
 
 /// The later one, else the earlier one.
 pub fn later_or<'a>(later: Option<&'a [u8]>, earlier: Option<&'a [u8]>) -> Option<&'a [u8]>
-    ensures { option_map (λ x. x.now) result ≡ later_or (option_map (λ x. x.now) later.entry) (option_map (λ x. x.now) earlier.entry) }
+    ensures { option_map (λ x. x.now) result
+        ≡ later_or (option_map (λ x. x.now) later.entry) (option_map (λ x. x.now) earlier.entry) }
 {
     match later {
         Some(_) => later,

@@ -27,7 +27,10 @@ use std::alloc::Global;
 #[tactic(auto, unfolding(crate::specs::Graces::grace_part_at))]
 pub fn grace_part_at(bang: bool, bytes: &[u8]) -> Option<(GracePiece<'_>, &[u8])>
     requires { length bytes.now ≤ 2 ^ 30 }
-    ensures read { option_map (λ x. bodied (body_of_item bang x.0) (item_has_length x.0) (inside_of_item x.0) x.1.now) result ≡ option_map (λ z. bodied (body_of_part z.0) (part_has_length z.0) (inside_of_part z.0) z.1) (grace_part_at bang bytes.now) }
+    ensures read { option_map (λ x. bodied (body_of_item bang x.0) (item_has_length x.0) (inside_of_item x.0) x.1.now)
+        result
+        ≡ option_map (λ z. bodied (body_of_part z.0) (part_has_length z.0) (inside_of_part z.0) z.1)
+        (grace_part_at bang bytes.now) }
     ensures within { IfSome result (λ x. item_within x.0 (length bytes.now)) }
 {
     let (first, rest) = bytes.split_first()?;
@@ -43,7 +46,10 @@ pub fn grace_part_at(bang: bool, bytes: &[u8]) -> Option<(GracePiece<'_>, &[u8])
 /// The first fault of the inside of a grace group, if it has one.
 fn grace_state(bang: bool, inside: &[u8]) -> Option<Flaw>
     requires { length inside.now ≤ 2 ^ 30 }
-    ensures { MatchOption result (is_done (walk (grace_part_at bang) inside.now) ≡ true) (λ flaw. (is_done (walk (grace_part_at bang) inside.now) ≡ false) × GraceFlawed bang None inside.now flaw × (flaw.left ≤ length inside.now)) }
+    ensures { MatchOption result (is_done (walk (grace_part_at bang) inside.now) ≡ true) (λ flaw.
+        (is_done (walk (grace_part_at bang) inside.now) ≡ false)
+        × GraceFlawed bang None inside.now flaw
+        × (flaw.left ≤ length inside.now)) }
 {
     let mut rest = inside;
     let mut before = None;
@@ -74,7 +80,8 @@ fn part_flaw(bang: bool, before: Option<usize>, bytes: &[u8]) -> Flaw
     requires some { length bytes.now ≢ 0 }
     requires none { grace_part_at bang bytes.now ≡ None }
     ensures flaw { IsPartFlaw bang before bytes.now result }
-    ensures within { MatchOption before (result.left ≤ length bytes.now) (λ at. length bytes.now ≤ at → result.left ≤ at) }
+    ensures within { MatchOption before (result.left ≤ length bytes.now)
+        (λ at. length bytes.now ≤ at → result.left ≤ at) }
 {
     match before {
         Some(at) if goes_on_with_length(bytes) => Flaw {
@@ -122,7 +129,8 @@ pub struct Grace<'a> {
 #[tactic(auto, unfolding(crate::specs::Graces::grace_at))]
 pub fn grace_at(bang: bool, bytes: &[u8]) -> Option<Grace<'_>>
     requires { length bytes.now ≤ 2 ^ 30 }
-    ensures read { option_map (λ x. grace_shown x.slash (body_inside bang x.inside.now) x.inside.now x.rest.now) result ≡ option_map (λ z. grace_shown z.0.slash (body_of z.0.parts) z.0.inside z.1) (grace_at bang bytes.now) }
+    ensures read { option_map (λ x. grace_shown x.slash (body_inside bang x.inside.now) x.inside.now x.rest.now) result
+        ≡ option_map (λ z. grace_shown z.0.slash (body_of z.0.parts) z.0.inside z.1) (grace_at bang bytes.now) }
     ensures within { IfSome result (λ x. length x.inside.now ≤ length bytes.now) }
 {
     let (slash, behind) = skip(b'/', bytes);
@@ -216,7 +224,8 @@ fn brace_between<'a>(
 ) -> Option<&'a [u8]>
     requires small { at_most_bytes (2 ^ 30) (option_map (λ x. x.now) bracket) }
     requires behind { stands_behind (option_map (λ x. x.now) bracket) (option_map (λ x. x.now) closing) }
-    ensures { option_map (λ x. x.now) result ≡ brace_between bang (option_map (λ x. x.now) bracket.entry) (option_map (λ x. x.now) closing.entry) }
+    ensures { option_map (λ x. x.now) result
+        ≡ brace_between bang (option_map (λ x. x.now) bracket.entry) (option_map (λ x. x.now) closing.entry) }
 {
     let closing = closing?;
     let bracket = bracket?;

@@ -13,7 +13,8 @@ use crate::part::{InnerPiece, ItemClass};
 #[tactic(auto, unfolding(crate::specs::Items::inner_at))]
 pub fn item_at(bang: bool, bytes: &[u8]) -> Option<(InnerPiece<'_>, &[u8])>
     requires { length bytes.now ≤ 2 ^ 30 }
-    ensures { option_map (λ x. sensed (sense_of x.0) x.1.now) result ≡ option_map (λ z. sensed (sense z.0) z.1) (inner_at bang bytes.now) }
+    ensures { option_map (λ x. sensed (sense_of x.0) x.1.now) result
+        ≡ option_map (λ z. sensed (sense z.0) z.1) (inner_at bang bytes.now) }
 {
     let (first, rest) = bytes.split_first()?;
     match item_class(*first) {
@@ -31,7 +32,8 @@ pub fn item_at(bang: bool, bytes: &[u8]) -> Option<(InnerPiece<'_>, &[u8])>
 }
 
 fn dot_inside(bytes: &[u8]) -> (InnerPiece<'_>, &[u8])
-    ensures { Some (sensed (sense_of result.0) result.1.now) ≡ option_map (λ z. sensed (sense z.0) z.1) (dot_inside bytes.now) }
+    ensures { Some (sensed (sense_of result.0) result.1.now)
+        ≡ option_map (λ z. sensed (sense z.0) z.1) (dot_inside bytes.now) }
 {
     match bytes.split_first() {
         None => (InnerPiece::Letter(b'.'), bytes),
@@ -48,7 +50,8 @@ fn dot_inside(bytes: &[u8]) -> (InnerPiece<'_>, &[u8])
 }
 
 fn named_or(bytes: &[u8]) -> (InnerPiece<'_>, &[u8])
-    ensures { Some (sensed (sense_of result.0) result.1.now) ≡ option_map (λ z. sensed (sense z.0) z.1) (named_or (name_at bytes.now) bytes.now) }
+    ensures { Some (sensed (sense_of result.0) result.1.now)
+        ≡ option_map (λ z. sensed (sense z.0) z.1) (named_or (name_at bytes.now) bytes.now) }
 {
     match name_at(bytes) {
         Some((name, rest)) => (InnerPiece::Named(name), rest),

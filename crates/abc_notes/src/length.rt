@@ -15,7 +15,8 @@ use crate::part::Len;
 #[inline(always)]
 #[tactic(auto, unfolding(crate::specs::Lengths::length_from))]
 pub fn length_from(bytes: &[u8]) -> (Len, &[u8])
-    ensures { let read = length_from bytes.now in length_read result.0 result.1.now ≡ length_read (len_of read.0) read.1 }
+    ensures { let read = length_from bytes.now in
+        length_read result.0 result.1.now ≡ length_read (len_of read.0) read.1 }
 {
     let (count, rest) = number_at(4, bytes);
     let num = value_of(count);

@@ -15,7 +15,8 @@ use mus_units::{Alter, Head, Letter, Pitch};
 #[inline(always)]
 pub fn note_at(bytes: &[u8]) -> Option<(Head, Len, &[u8])>
     requires { length bytes.now ≤ 2 ^ 30 }
-    ensures { option_map (λ x. note_read x.0 x.1 x.2.now) result ≡ option_map (λ x. note_read (head_of x.0) (len_of x.0.length) x.1) (note_at bytes.now) }
+    ensures { option_map (λ x. note_read x.0 x.1 x.2.now) result
+        ≡ option_map (λ x. note_read (head_of x.0) (len_of x.0.length) x.1) (note_at bytes.now) }
 {
     let (sign, rest) = sign_at(bytes);
     let (first, rest) = rest.split_first()?;

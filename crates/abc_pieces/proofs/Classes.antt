@@ -106,7 +106,10 @@ unfolding class_of
 digit_class b h = Digit-is (class_of b) (implied is_digit (λ x. is_Digit (class_of x)) 58 b refl (digit_below b h) h)
 
 blank_below : (b : ℕ) → is_blank b ≡ true → b < 58
-blank_below b h = elim (or_cases _ _ h) [ inl space ↦ (let e = eqb-true b 32 space in omega arith) | inr tab ↦ (let e = eqb-true b 9 tab in omega arith) ]
+blank_below b h = elim (or_cases _ _ h) [
+  | inl space ↦ (let e = eqb-true b 32 space in omega arith)
+  | inr tab ↦ (let e = eqb-true b 9 tab in omega arith)
+]
 
 pub blank_class : (b : ℕ) → is_blank b ≡ true → class_of b ≡ PieceClass.Blank
 unfolding class_of
@@ -114,7 +117,10 @@ blank_class b h = Blank-is (class_of b) (implied is_blank (λ x. is_Blank (class
 
 pub letter_class : (b : ℕ) → is_deco_letter b ≡ true → class_of b ≡ PieceClass.Letter
 unfolding class_of
-letter_class b h = Letter-is (class_of b) (implied is_deco_letter (λ x. is_Letter (class_of x)) 127 b refl (below_all (126 ∷ 72 ∷ 76 ∷ 77 ∷ 79 ∷ 80 ∷ 83 ∷ 84 ∷ 117 ∷ 118 ∷ []) 127 b refl h) h)
+letter_class b h =
+    Letter-is (class_of b)
+    (implied is_deco_letter (λ x. is_Letter (class_of x)) 127 b refl
+    (below_all (126 ∷ 72 ∷ 76 ∷ 77 ∷ 79 ∷ 80 ∷ 83 ∷ 84 ∷ 117 ∷ 118 ∷ []) 127 b refl h) h)
 
 passed_below : (b : ℕ) → is_passed b ≡ true → b < 127
 passed_below b h =
@@ -123,12 +129,14 @@ passed_below b h =
         | inl sign ↦ below_all (96 ∷ 42 ∷ 59 ∷ 63 ∷ 64 ∷ 35 ∷ 92 ∷ []) 127 b refl sign
         | inr letter ↦ below_all (119 ∷ 73 ∷ 74 ∷ 75 ∷ 78 ∷ 81 ∷ 82 ∷ 85 ∷ 86 ∷ 87 ∷ []) 127 b refl letter
       ]
-      | inr letter ↦ (let p = and_parts (leb 104 b) (leb b 116) letter in let high : b ≤ 116 = leb-true b 116 p.1 in omega arith)
+      | inr letter ↦
+          (let p = and_parts (leb 104 b) (leb b 116) letter in let high : b ≤ 116 = leb-true b 116 p.1 in omega arith)
     ]
 
 pub passed_class : (b : ℕ) → is_passed b ≡ true → class_of b ≡ PieceClass.Passed
 unfolding class_of
-passed_class b h = Passed-is (class_of b) (implied is_passed (λ x. is_Passed (class_of x)) 127 b refl (passed_below b h) h)
+passed_class b h =
+    Passed-is (class_of b) (implied is_passed (λ x. is_Passed (class_of x)) 127 b refl (passed_below b h) h)
 
 -- a letter is no digit and no bar sign
 pub letter_apart : (b : ℕ) → is_letter b ≡ true → (not (eqb b 124) && not (is_digit b)) ≡ true

@@ -17,11 +17,16 @@ Good s z = IsTuplet z.0 × (s ≡ tuplet_then z.0 z.1)
 
 q-takes : (p : ℕ) (s t : List ℕ) → is_tuplet_digit p ≡ true → s ≡ p ∷ 58 ∷ t → Good s (behind_q p (number_at 1 t))
 q-takes p s t digit cut =
-    let q = number_at 1 t in let colon = skip 58 q.1 in let r = number_at 2 colon.1 in let whole : s ≡ p ∷ 58 ∷ (q.0 ++ q.1) = cut ∙ ap (λ u. p ∷ 58 ∷ u) (number-takes 1 t) in
+    let q = number_at 1 t in
+    let colon = skip 58 q.1 in
+    let r = number_at 2 colon.1 in
+    let whole : s ≡ p ∷ 58 ∷ (q.0 ++ q.1) = cut ∙ ap (λ u. p ∷ 58 ∷ u) (number-takes 1 t) in
     cond_both {A = TupletForm × List ℕ} colon.0 (with_r p q.0 r.0, r.1) (with_q p q.0, q.1) (Good s)
     (λ e. (
       (digit, number-count 1 t, number-count 2 colon.1),
-      whole ∙ ap (λ u. p ∷ 58 ∷ (q.0 ++ u)) (skip-takes 58 q.1 ∙ ap (λ b. maybe b 58 colon.1) e ∙ ap (λ u. 58 ∷ u) (number-takes 2 colon.1)),
+      whole
+          ∙ ap (λ u. p ∷ 58 ∷ (q.0 ++ u))
+          (skip-takes 58 q.1 ∙ ap (λ b. maybe b 58 colon.1) e ∙ ap (λ u. 58 ∷ u) (number-takes 2 colon.1)),
     ))
     (λ e. ((digit, number-count 1 t), whole))
 
@@ -38,7 +43,9 @@ TakesTuplet s r = IfSome r (λ z. IsTuplet z.0 × (s ≡ tuplet_then z.0 z.1))
 pub tuplet_at-takes : (s : List ℕ) → TakesTuplet s (tuplet_at s)
 unfolding tuplet_at
 tuplet_at-takes [] = tt
-tuplet_at-takes (p ∷ t) = cond_both {A = Option (TupletForm × List ℕ)} (is_tuplet_digit p) (Some (behind_p p t)) None (TakesTuplet (p ∷ t)) (λ e. p-takes p t e) (λ e. tt)
+tuplet_at-takes (p ∷ t) =
+    cond_both {A = Option (TupletForm × List ℕ)} (is_tuplet_digit p) (Some (behind_p p t)) None (TakesTuplet (p ∷ t))
+    (λ e. p-takes p t e) (λ e. tt)
 
 -- ---- the longest
 abbrev Ends : List ℕ → TupletForm → TupletForm × List ℕ → Type 0
@@ -47,7 +54,8 @@ Ends x f z = (length z.1 < length x) ⊎ (z ≡ tuplet_with f x)
 length-behind_q : (p : ℕ) (q : List ℕ × List ℕ) → length (behind_q p q).1 ≤ length q.1
 length-behind_q p q =
     let colon = skip 58 q.1 in let r = number_at 2 colon.1 in
-    cond_both {A = TupletForm × List ℕ} colon.0 (with_r p q.0 r.0, r.1) (with_q p q.0, q.1) (λ z. length z.1 ≤ length q.1)
+    cond_both {A = TupletForm × List ℕ} colon.0 (with_r p q.0 r.0, r.1) (with_q p q.0, q.1)
+    (λ z. length z.1 ≤ length q.1)
     (λ e. omega (arith, length-skip 58 q.1, length-number 2 colon.1)) (λ e. omega arith)
 
 bare-reaches : (p : ℕ) (x : List ℕ) → Ends x (bare p) (behind_p p x)
@@ -77,21 +85,36 @@ q-reaches p q x good =
       ])
     ]
 
-r-reads : (p : ℕ) (q r x : List ℕ) → IsCount 1 q → behind_q p (number_at 1 (q ++ (58 ∷ (r ++ x)))) ≡ tuplet_with (with_r p q (number_at 2 (r ++ x)).0) (number_at 2 (r ++ x)).1
+r-reads : (p : ℕ) (q r x : List ℕ)
+    → IsCount 1 q
+    → behind_q p (number_at 1 (q ++ (58 ∷ (r ++ x))))
+    ≡ tuplet_with (with_r p q (number_at 2 (r ++ x)).0) (number_at 2 (r ++ x)).1
 r-reads p q r x good = rw (count-stops 1 q 58 (r ++ x) refl good, skip-yes 58 (r ++ x)) refl
 
-r-reaches : (p : ℕ) (q r x : List ℕ) → IsCount 1 q → IsCount 2 r → Ends x (with_r p q r) (behind_q p (number_at 1 (q ++ (58 ∷ (r ++ x)))))
-r-reaches p q r x good small = rw (r-reads p q r x good) (elim (count-reads 2 r x small) [ inl shorter ↦ inl shorter.0 | inr same ↦ inr (rw same refl) ])
+r-reaches : (p : ℕ) (q r x : List ℕ)
+    → IsCount 1 q → IsCount 2 r → Ends x (with_r p q r) (behind_q p (number_at 1 (q ++ (58 ∷ (r ++ x)))))
+r-reaches p q r x good small =
+    rw (r-reads p q r x good)
+    (elim (count-reads 2 r x small) [ inl shorter ↦ inl shorter.0 | inr same ↦ inr (rw same refl) ])
 
 at_digit : (p : ℕ) (t : List ℕ) → is_tuplet_digit p ≡ true → tuplet_at (p ∷ t) ≡ Some (behind_p p t)
 unfolding tuplet_at
 at_digit p t h = rw h refl
 
-pub tuplet_at-reaches : (f : TupletForm) (x : List ℕ) → IsTuplet f → (z : TupletForm × List ℕ) × (tuplet_at (tuplet_then f x) ≡ Some z) × ((length z.1 < length x) ⊎ (z ≡ (f, x)))
+pub tuplet_at-reaches : (f : TupletForm) (x : List ℕ)
+    → IsTuplet f
+    → (z : TupletForm × List ℕ) × (tuplet_at (tuplet_then f x) ≡ Some z) × ((length z.1 < length x) ⊎ (z ≡ (f, x)))
 tuplet_at-reaches (bare p) x good = (behind_p p x, at_digit p x good, bare-reaches p x)
-tuplet_at-reaches (with_q p q) x good = (behind_q p (number_at 1 (q ++ x)), at_digit p (58 ∷ (q ++ x)) good.0 ∙ ap Some (behind_colon p (q ++ x)), q-reaches p q x good.1)
-tuplet_at-reaches (with_r p q r) x good =
-    (behind_q p (number_at 1 (q ++ (58 ∷ (r ++ x)))), at_digit p (58 ∷ (q ++ (58 ∷ (r ++ x)))) good.0 ∙ ap Some (behind_colon p (q ++ (58 ∷ (r ++ x)))), r-reaches p q r x good.1 good.2)
+tuplet_at-reaches (with_q p q) x good = (
+  behind_q p (number_at 1 (q ++ x)),
+  at_digit p (58 ∷ (q ++ x)) good.0 ∙ ap Some (behind_colon p (q ++ x)),
+  q-reaches p q x good.1,
+)
+tuplet_at-reaches (with_r p q r) x good = (
+  behind_q p (number_at 1 (q ++ (58 ∷ (r ++ x)))),
+  at_digit p (58 ∷ (q ++ (58 ∷ (r ++ x)))) good.0 ∙ ap Some (behind_colon p (q ++ (58 ∷ (r ++ x)))),
+  r-reaches p q r x good.1 good.2,
+)
 
 pub tuplet-longer : (f : TupletForm) (x : List ℕ) → length x < length (tuplet_then f x)
 tuplet-longer (bare p) x = omega arith

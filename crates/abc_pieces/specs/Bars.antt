@@ -1,5 +1,5 @@
--- A bar: a dot or none, colons, an opening bracket or none, one or more bar signs, a closing bracket or none, and colons; or two or more
--- colons alone. Which features it has, and reading one from left to right.
+-- A bar: a dot or none, colons, an opening bracket or none, one or more bar signs, a closing bracket or none, and
+-- colons; or two or more colons alone. Which features it has, and reading one from left to right.
 use Prim.Native.Char.{code}
 use Rattle.std.specs.Prelude.{ℕ, ◌≤◌, List, Bool, true, false, ◌&&◌, ◌||◌, not, nat_lt, ◌==◌, if◌then◌else◌, Option}
 use Rattle.std.specs.Prelude.{Some, None}
@@ -12,7 +12,10 @@ pub data BarForm : Type 0 where
 
 -- its bytes, and what follows them
 abbrev pub spelled : BarForm → List ℕ → List ℕ
-spelled (signs dot before bracket lines close after) rest = maybe dot (code ".") (copies before (code ":") (maybe bracket (code "[") (copies lines (code "|") (maybe close (code "]") (copies after (code ":") rest)))))
+spelled (signs dot before bracket lines close after) rest =
+    maybe dot (code ".")
+    (copies before (code ":")
+    (maybe bracket (code "[") (copies lines (code "|") (maybe close (code "]") (copies after (code ":") rest)))))
 spelled (colons n) rest = copies n (code ":") rest
 
 abbrev pub IsGoodBar : BarForm → Type 0
@@ -26,8 +29,17 @@ is_alone dot before bracket lines close after = not dot && before == 0 && bracke
 abbrev pub bar_meant : BarForm → Bar
 bar_meant (signs dot before bracket lines close after) =
     let alone = is_alone dot before bracket lines close after in
-    record { end = nat_lt 0 before; start = nat_lt 0 after; last = close && not alone; initial = bracket && not alone; double = nat_lt 1 lines; dotted = dot; unseen = alone }
-bar_meant (colons n) = record { end = true; start = true; last = false; initial = false; double = false; dotted = false; unseen = false }
+    record {
+      end = nat_lt 0 before;
+      start = nat_lt 0 after;
+      last = close && not alone;
+      initial = bracket && not alone;
+      double = nat_lt 1 lines;
+      dotted = dot;
+      unseen = alone;
+    }
+bar_meant (colons n) =
+    record { end = true; start = true; last = false; initial = false; double = false; dotted = false; unseen = false }
 
 -- reading from left to right
 unfoldable pub form_at : List ℕ → Option (BarForm × List ℕ)

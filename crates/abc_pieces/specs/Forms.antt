@@ -152,7 +152,9 @@ token_meant (note_form f) = Some (Token.Note (head_of f) (len_of f.length))
 token_meant (rest_form seen len) = Some (Token.Rest seen (len_of len))
 token_meant (gap_form len) = None
 token_meant (measures_form seen count) = Some (Token.Measures seen (count_of count))
-token_meant (chord_form f) = let said = map sense f.parts in Some (Token.Chord (record { heads = heads_of said; decos = decos_of said; len = len_of f.length }))
+token_meant (chord_form f) =
+    let said = map sense f.parts in
+    Some (Token.Chord (record { heads = heads_of said; decos = decos_of said; len = len_of f.length }))
 token_meant (grace_form f) = Some (Token.Grace f.slash (body_of f.parts))
 token_meant (tuplet_form f) = Some (Token.Tuplet (p_of f) (q_of f) (r_of f))
 token_meant (slur_form dotted) = Some Token.SlurOn

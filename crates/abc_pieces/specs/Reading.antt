@@ -85,10 +85,14 @@ tuplet_read s = option_map (λ z. (tuplet_form z.0, z.1)) (tuplet_at s)
 
 unfoldable pub ending_read : Bool → List ℕ → FormAndRest
 ending_read bracket [] = None
-ending_read bracket (b ∷ s) = let more = span_all is_ending s in if is_digit b then read (ending_form bracket b more.0) more.1 else None
+ending_read bracket (b ∷ s) =
+    let more = span_all is_ending s in if is_digit b then read (ending_form bracket b more.0) more.1 else None
 
 unfoldable pub broken_read : PieceBefore → ℕ → List ℕ → FormAndRest
-broken_read before b s = let right = b == code ">" in let more = span (λ x. x == b) 2 s in if is_after_broken right before then None else read (broken_form right (suc (length more.0))) more.1
+broken_read before b s =
+    let right = b == code ">" in
+    let more = span (λ x. x == b) 2 s in
+    if is_after_broken right before then None else read (broken_form right (suc (length more.0))) more.1
 
 abbrev pub closed : (List ℕ → Form) → List ℕ × List ℕ → FormAndRest
 closed form (text, []) = None
@@ -99,7 +103,8 @@ says_read s = closed says_form (span_all is_quoted_byte s)
 
 abbrev pub plus_closed : List ℕ → List ℕ × List ℕ → FormAndRest
 plus_closed s (text, []) = read (passed_form (code "+")) s
-plus_closed s (text, mark ∷ rest) = if mark == code "+" then read (plus_form text) rest else read (passed_form (code "+")) s
+plus_closed s (text, mark ∷ rest) =
+    if mark == code "+" then read (plus_form text) rest else read (passed_form (code "+")) s
 
 unfoldable pub plus_read : List ℕ → FormAndRest
 plus_read s = plus_closed s (span_all is_plus_byte s)
@@ -122,7 +127,8 @@ bang_read false s = named_or_lone (name_at s) s
 
 abbrev pub dot_behind : List ℕ → FormAndRest → FormAndRest
 dot_behind [] other = other
-dot_behind (b ∷ s) other = if b == code "(" then read (slur_form true) s else (if b == code "-" then read (tie_form true) s else other)
+dot_behind (b ∷ s) other =
+    if b == code "(" then read (slur_form true) s else (if b == code "-" then read (tie_form true) s else other)
 
 unfoldable pub dot_read : List ℕ → FormAndRest
 dot_read s = dot_behind s (or_else (bar_read (code "." ∷ s)) (read (letter_form (code ".")) s))
@@ -165,8 +171,11 @@ abbrev pub token_of : Bool → BorrowedToken → Option Token
 token_of bang (BorrowedToken.Note head len) = Some (Token.Note head len)
 token_of bang (BorrowedToken.Rest token_and_rest len) = Some (Token.Rest token_and_rest len)
 token_of bang (BorrowedToken.Measures token_and_rest count) = Some (Token.Measures token_and_rest count)
-token_of bang (BorrowedToken.Chord inside len) = let said = senses bang inside.now in Some (Token.Chord (record { heads = heads_of said; decos = decos_of said; len = len }))
-token_of bang (BorrowedToken.Grace slash inside) = Some (Token.Grace slash (body_of (walk (grace_part_at bang) inside.now).0))
+token_of bang (BorrowedToken.Chord inside len) =
+    let said = senses bang inside.now in
+    Some (Token.Chord (record { heads = heads_of said; decos = decos_of said; len = len }))
+token_of bang (BorrowedToken.Grace slash inside) =
+    Some (Token.Grace slash (body_of (walk (grace_part_at bang) inside.now).0))
 token_of bang (BorrowedToken.Tuplet p q r) = Some (Token.Tuplet p q r)
 token_of bang BorrowedToken.SlurOn = Some Token.SlurOn
 token_of bang BorrowedToken.SlurOff = Some Token.SlurOff

@@ -7,7 +7,8 @@ use mus_units::Bar;
 /// The bar at the front, as long as it can be, and what follows it.
 #[tactic(auto, unfolding(crate::specs::Bars::form_at))]
 pub fn read_bar(bytes: &[u8]) -> Option<(Bar, &[u8])>
-    ensures { option_map (λ x. bar_read x.0 x.1.now) result ≡ option_map (λ z. bar_read (bar_meant z.0) z.1) (form_at bytes.now) }
+    ensures { option_map (λ x. bar_read x.0 x.1.now) result
+        ≡ option_map (λ z. bar_read (bar_meant z.0) z.1) (form_at bytes.now) }
 {
     let (dotted, rest) = skip(b'.', bytes);
     let (before, colons_rest) = run_off(b':', rest);

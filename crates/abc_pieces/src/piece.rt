@@ -271,7 +271,9 @@ fn dot<'a>(bytes: &'a [u8], rest: &'a [u8]) -> Option<LinePiece<'a>>
 }
 
 fn dot_or_bar<'a>(bytes: &'a [u8], rest: &'a [u8]) -> LinePiece<'a>
-    ensures read { (bang : Bool) → shown_piece bang (Some result) ≡ meaning (or_else (bar_read bytes.now) (read (letter_form (code ".")) rest.now)) }
+    ensures read { (bang : Bool)
+        → shown_piece bang (Some result)
+        ≡ meaning (or_else (bar_read bytes.now) (read (letter_form (code ".")) rest.now)) }
     ensures within { (n : ℕ) → found_within result.found n }
 {
     match bar_piece(bytes) {
@@ -361,7 +363,9 @@ fn grace(bang: bool, bytes: &[u8]) -> Option<LinePiece<'_>>
 #[tactic(auto, unfolding(crate::specs::Reading::tuplet_read))]
 #[inline(always)]
 fn paren(bytes: &[u8]) -> LinePiece<'_>
-    ensures read { (bang : Bool) → shown_piece bang (Some result) ≡ meaning (or_else (tuplet_read bytes.now) (read (slur_form false) bytes.now)) }
+    ensures read { (bang : Bool)
+        → shown_piece bang (Some result)
+        ≡ meaning (or_else (tuplet_read bytes.now) (read (slur_form false) bytes.now)) }
     ensures within { (n : ℕ) → found_within result.found n }
 {
     match tuplet_at(bytes) {

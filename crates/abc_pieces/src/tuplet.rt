@@ -20,7 +20,8 @@ pub struct Tuplet<'a> {
 #[tactic(auto, unfolding(crate::specs::Tuplets::tuplet_at))]
 #[inline(never)]
 pub(crate) fn tuplet_at(bytes: &[u8]) -> Option<Tuplet<'_>>
-    ensures { option_map (λ x. tuplet_shown x.p x.q x.r x.rest.now) result ≡ option_map (λ z. tuplet_shown (p_of z.0) (q_of z.0) (r_of z.0) z.1) (tuplet_at bytes.now) }
+    ensures { option_map (λ x. tuplet_shown x.p x.q x.r x.rest.now) result
+        ≡ option_map (λ z. tuplet_shown (p_of z.0) (q_of z.0) (r_of z.0) z.1) (tuplet_at bytes.now) }
 {
     let (p, rest) = bytes.split_first()?;
     if is_tuplet_digit(*p) {
@@ -32,7 +33,8 @@ pub(crate) fn tuplet_at(bytes: &[u8]) -> Option<Tuplet<'_>>
 
 fn behind_p(p: u8, bytes: &[u8]) -> Tuplet<'_>
     requires { is_tuplet_digit p ≡ true }
-    ensures { let z = behind_p p bytes.now in tuplet_shown result.p result.q result.r result.rest.now ≡ tuplet_shown (p_of z.0) (q_of z.0) (r_of z.0) z.1 }
+    ensures { let z = behind_p p bytes.now in
+        tuplet_shown result.p result.q result.r result.rest.now ≡ tuplet_shown (p_of z.0) (q_of z.0) (r_of z.0) z.1 }
 {
     let (colon, rest) = skip(b':', bytes);
     if colon {
@@ -52,7 +54,8 @@ fn behind_q<'a>(p: u8, q: &'a [u8], bytes: &'a [u8]) -> Tuplet<'a>
     requires p { is_tuplet_digit p ≡ true }
     requires few { length q.now ≤ 2 }
     requires digits { list_all is_digit q.now ≡ true }
-    ensures { let z = behind_q p (q.now, bytes.now) in tuplet_shown result.p result.q result.r result.rest.now ≡ tuplet_shown (p_of z.0) (q_of z.0) (r_of z.0) z.1 }
+    ensures { let z = behind_q p (q.now, bytes.now) in
+        tuplet_shown result.p result.q result.r result.rest.now ≡ tuplet_shown (p_of z.0) (q_of z.0) (r_of z.0) z.1 }
 {
     let (colon, rest) = skip(b':', bytes);
     if colon {

@@ -17,7 +17,8 @@ none_behind [] ys e = e
 none_behind (x ∷ xs) ys e = absurd cc
 
 -- what holds of both parts of a list
-pub all_both : {X : Type 0} (P : X → Type 0) (xs ys : List X) → AllByRecursion P xs → AllByRecursion P ys → AllByRecursion P (xs ++ ys)
+pub all_both : {X : Type 0} (P : X → Type 0) (xs ys : List X)
+    → AllByRecursion P xs → AllByRecursion P ys → AllByRecursion P (xs ++ ys)
 all_both P [] ys a b = b
 all_both P (x ∷ xs) ys a b = (a.0, all_both P xs ys a.1 b)
 
@@ -33,5 +34,6 @@ back_all P (x ∷ xs) ys h = back_all P xs ys h.1
 pub either : {X : Type 0} (P : X → Type 0) (b : Bool) (x y : X) → P x → P y → P (cond b x y)
 either P b x y h i = cond_both b x y P (λ e. h) (λ e. i)
 
-pub with_tuplet : (P : List TreeItem → Type 0) (now : VoiceState) (p q r : ℕ) → ((m x y z : ℕ) → P (TreeItem.Opens m x y z ∷ [])) → P [] → P (tuplet_of now p q r)
+pub with_tuplet : (P : List TreeItem → Type 0) (now : VoiceState) (p q r : ℕ)
+    → ((m x y z : ℕ) → P (TreeItem.Opens m x y z ∷ [])) → P [] → P (tuplet_of now p q r)
 with_tuplet P now p q r h i = either P (fits (or_default p r) now.taking) _ [] (h _ _ _ _) i

@@ -33,12 +33,14 @@ no_fault false kind at e = refl
 
 -- a note, a chord or a rest without faults
 pub record IsClearSound (now : VoiceState) (before behind : Steps) (s : WrittenSound) : Type 0 where
-  pub drawn : let whole = written_length now.force.unit s before behind in is_none (parts_list whole.num whole.den) ≡ false
+  pub drawn : let whole = written_length now.force.unit s before behind in
+      is_none (parts_list whole.num whole.den) ≡ false
   pub near : any_off now.force.clef s.heads ≡ false
   pub within : measure_of now < 2000
   pub graces : grace_faults now.force.clef (since_event before) ≡ []
 
-pub sound_clear : (now : VoiceState) (before behind : Steps) (at : PlacedStep) (s : WrittenSound) → faults_of now before at behind (Step.Sound s) ≡ []
+pub sound_clear : (now : VoiceState) (before behind : Steps) (at : PlacedStep) (s : WrittenSound)
+    → faults_of now before at behind (Step.Sound s) ≡ []
     → IsClearSound now before behind s
 unfolding faults_of sound_faults
 sound_clear now before behind at s e =
@@ -69,8 +71,10 @@ rest_clear now before behind at seen count e =
     }
 
 -- one step more: an event without a fault stands in a good measure
-step_within : (first : InForce) (before behind : Steps) (at : PlacedStep) (s : Step) → faults_of (state_at first before) before at behind s ≡ []
-    → measures_begun before ≤ 2000 → cond (is_event s) (measure_at before + further_measures s + 1) (measures_begun before) ≤ 2000
+step_within : (first : InForce) (before behind : Steps) (at : PlacedStep) (s : Step)
+    → faults_of (state_at first before) before at behind s ≡ []
+    → measures_begun before ≤ 2000
+    → cond (is_event s) (measure_at before + further_measures s + 1) (measures_begun before) ≤ 2000
 unfolding is_event further_measures
 step_within first before behind at (Step.Sound s) e few =
     let clear = sound_clear (state_at first before) before behind at s e in omega (arith, clear.within)
@@ -78,45 +82,59 @@ step_within first before behind at (Step.Measures seen count) e few =
     let clear = rest_clear (state_at first before) before behind at seen count e in omega (arith, clear.within)
 step_within first before behind at _ e few = few
 
-pub turned : (at : PlacedStep) (behind before : Steps) → reverse behind ++ (at ∷ before) ≡ reverse (at ∷ behind) ++ before
-turned at behind before = sym (ap (λ z. z ++ before) (reverse-append (at ∷ []) behind) ∙ append_assoc (reverse behind) (at ∷ []) before)
+pub turned : (at : PlacedStep) (behind before : Steps)
+    → reverse behind ++ (at ∷ before) ≡ reverse (at ∷ behind) ++ before
+turned at behind before =
+    sym (ap (λ z. z ++ before) (reverse-append (at ∷ []) behind) ∙ append_assoc (reverse behind) (at ∷ []) before)
 
-walk_within : (first : InForce) (before behind : Steps) → faults_in first before behind ≡ [] → measures_begun before ≤ 2000
+walk_within : (first : InForce) (before behind : Steps)
+    → faults_in first before behind ≡ [] → measures_begun before ≤ 2000
     → measures_begun (reverse behind ++ before) ≤ 2000
 walk_within first before [] e few = few
 walk_within first before (at ∷ behind) e few =
     subst (λ (z : Steps). measures_begun z ≤ 2000) (turned at behind before)
-    (walk_within first (at ∷ before) behind (none_behind _ _ e) (step_within first before behind at at.step (none_before _ _ e) few))
+    (walk_within first (at ∷ before) behind (none_behind _ _ e)
+    (step_within first before behind at at.step (none_before _ _ e) few))
 
 -- ---- voices
 own_within : (v : ReadVoice) → faults_in v.first [] v.steps ≡ [] → own_measures v ≤ 2000
-own_within v e = subst (λ (z : Steps). measures_begun z ≤ 2000) (append-nil (reverse v.steps)) (walk_within v.first [] v.steps e (omega arith))
+own_within v e =
+    subst (λ (z : Steps). measures_begun z ≤ 2000) (append-nil (reverse v.steps))
+    (walk_within v.first [] v.steps e (omega arith))
 
 -- voices without faults, by themselves and for their verses
 pub record IsClearVoice (unnamed : List ℕ) (items : List BodyItem) (v : ReadVoice) : Type 0 where
   pub own : faults_in v.first [] v.steps ≡ []
   pub verses : verse_fault v.start.id unnamed items ≡ None
 
-each_clear : (unnamed : List ℕ) (items : List BodyItem) (voices : List ReadVoice) → flat_map (voice_faults unnamed items) voices ≡ []
+each_clear : (unnamed : List ℕ) (items : List BodyItem) (voices : List ReadVoice)
+    → flat_map (voice_faults unnamed items) voices ≡ []
     → AllByRecursion (IsClearVoice unnamed items) voices
 each_clear unnamed items [] e = tt
 each_clear unnamed items (v ∷ voices) e =
-    let here = none_before _ _ e in
-    (record { own = none_before _ _ here; verses = ap head_of (none_behind _ _ here) }, each_clear unnamed items voices (none_behind _ _ e))
+    let here = none_before _ _ e in (
+      record { own = none_before _ _ here; verses = ap head_of (none_behind _ _ here) },
+      each_clear unnamed items voices (none_behind _ _ e),
+    )
 
-pub voices_clear : (unnamed : List ℕ) (items : List BodyItem) (voices : List ReadVoice) → faults_of_voices unnamed items voices ≡ []
+pub voices_clear : (unnamed : List ℕ) (items : List BodyItem) (voices : List ReadVoice)
+    → faults_of_voices unnamed items voices ≡ []
     → AllByRecursion (IsClearVoice unnamed items) voices
 voices_clear unnamed items voices e = each_clear unnamed items voices (none_before _ _ e)
 
-pub few_measures : (unnamed : List ℕ) (items : List BodyItem) (voices : List ReadVoice) → AllByRecursion (IsClearVoice unnamed items) voices
+pub few_measures : (unnamed : List ℕ) (items : List BodyItem) (voices : List ReadVoice)
+    → AllByRecursion (IsClearVoice unnamed items) voices
     → most_measures voices ≤ 2000
 few_measures unnamed items voices clear = most_within voices 0 clear (omega arith) where
   most_within : (voices : List ReadVoice) (most : ℕ) → AllByRecursion (IsClearVoice unnamed items) voices → most ≤ 2000
       → fold max most (map own_measures voices) ≤ 2000
   most_within [] most clear few = few
   most_within (v ∷ voices) most clear few =
-      most_within voices (max most (own_measures v)) clear.1 (let here = own_within v clear.0.own in omega (arith, here, few))
+      most_within voices (max most (own_measures v)) clear.1
+      (let here = own_within v clear.0.own in omega (arith, here, few))
 
-pub clear_verses : (unnamed : List ℕ) (items : List BodyItem) (voices : List ReadVoice) → AllByRecursion (IsClearVoice unnamed items) voices
+pub clear_verses : (unnamed : List ℕ) (items : List BodyItem) (voices : List ReadVoice)
+    → AllByRecursion (IsClearVoice unnamed items) voices
     → All (λ v. verse_fault v.start.id unnamed items ≡ None) voices
-clear_verses unnamed items voices clear = All-weaker (IsClearVoice unnamed items) _ (λ v h. h.verses) voices (All-from_recursion _ voices clear)
+clear_verses unnamed items voices clear =
+    All-weaker (IsClearVoice unnamed items) _ (λ v h. h.verses) voices (All-from_recursion _ voices clear)

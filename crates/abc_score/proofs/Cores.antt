@@ -24,7 +24,8 @@ Reaches clef e = All (IsInReach clef) e.heads
 
 abbrev pub CoresReach : Clef → List Core → Type 0
 CoresReach before [] = ⊤
-CoresReach before (c ∷ cs) = let clef = clef_at before c.0 in Reaches clef c.0 × All (Reaches clef) c.1 × CoresReach clef cs
+CoresReach before (c ∷ cs) =
+    let clef = clef_at before c.0 in Reaches clef c.0 × All (Reaches clef) c.1 × CoresReach clef cs
 
 abbrev pub CoresCount : ℕ → List Core → Type 0
 CoresCount n [] = ⊤
@@ -43,26 +44,32 @@ pub count_of : (n : ℕ) (fs : List Flat) → CoresCount n (map core fs) → Are
 count_of n [] h = tt
 count_of n (f ∷ fs) h = (h.0, count_of (suc n) fs h.1)
 
-pub events_of_cores : (verses : ℕ) (fs : List Flat) → AllByRecursion (IsGoodCore verses) (map core fs) → All (IsGoodEvent verses) fs
+pub events_of_cores : (verses : ℕ) (fs : List Flat)
+    → AllByRecursion (IsGoodCore verses) (map core fs) → All (IsGoodEvent verses) fs
 events_of_cores verses [] h = All-nil (IsGoodEvent verses)
 events_of_cores verses (f ∷ fs) h =
-    All-cons (IsGoodEvent verses) f fs (record { words = h.0.words; key = h.0.key; meter = h.0.meter }) (events_of_cores verses fs h.1)
+    All-cons (IsGoodEvent verses) f fs (record { words = h.0.words; key = h.0.key; meter = h.0.meter })
+    (events_of_cores verses fs h.1)
 
 -- ---- rows of nodes
 module _ (qs ps : ℕ) where
   flats-append : (xs ys : List Leafing) (w : PendingLeaf)
-      → (in_row (xs ++ ys) qs ps w).flats ≡ (in_row xs qs ps w).flats ++ (in_row ys qs ps (in_row xs qs ps w).waits).flats
+      → (in_row (xs ++ ys) qs ps w).flats
+      ≡ (in_row xs qs ps w).flats ++ (in_row ys qs ps (in_row xs qs ps w).waits).flats
   flats-append [] ys w = refl
   flats-append (x ∷ xs) ys w =
-      let first = x qs ps w in ap (λ z. first.flats ++ z) (flats-append xs ys first.waits) ∙ sym (append_assoc first.flats _ _)
+      let first = x qs ps w in
+      ap (λ z. first.flats ++ z) (flats-append xs ys first.waits) ∙ sym (append_assoc first.flats _ _)
 
-  waits-append : (xs ys : List Leafing) (w : PendingLeaf) → (in_row (xs ++ ys) qs ps w).waits ≡ (in_row ys qs ps (in_row xs qs ps w).waits).waits
+  waits-append : (xs ys : List Leafing) (w : PendingLeaf)
+      → (in_row (xs ++ ys) qs ps w).waits ≡ (in_row ys qs ps (in_row xs qs ps w).waits).waits
   waits-append [] ys w = refl
   waits-append (x ∷ xs) ys w = waits-append xs ys (x qs ps w).waits
 
 -- nodes that are these events, and behind which no grace waits
 pub record Sings (ms : List Music) (cs : List Core) : Type 0 where
-  pub cores : (qs ps : ℕ) (w : PendingLeaf) → w.graces ≡ [] → map core (in_row (map leaves_within ms) qs ps w).flats ≡ cs
+  pub cores : (qs ps : ℕ) (w : PendingLeaf)
+      → w.graces ≡ [] → map core (in_row (map leaves_within ms) qs ps w).flats ≡ cs
   pub none : (qs ps : ℕ) (w : PendingLeaf) → w.graces ≡ [] → (in_row (map leaves_within ms) qs ps w).waits.graces ≡ []
 
 pub sings_none : Sings [] []
@@ -73,18 +80,26 @@ sings_append xs ys cs ds a b = record {
   cores = λ qs ps w e.
       let r = in_row (map leaves_within xs) qs ps w in let s = in_row (map leaves_within ys) qs ps r.waits in
       ap (λ (z : List Leafing). map core (in_row z qs ps w).flats) (map-append leaves_within xs ys)
-      ∙ ap (map core) (flats-append qs ps (map leaves_within xs) (map leaves_within ys) w) ∙ map-append core r.flats s.flats
-      ∙ ap (λ z. z ++ map core s.flats) (a.cores qs ps w e) ∙ ap (λ z. cs ++ z) (b.cores qs ps r.waits (a.none qs ps w e));
+      ∙ ap (map core) (flats-append qs ps (map leaves_within xs) (map leaves_within ys) w)
+      ∙ map-append core r.flats s.flats
+      ∙ ap (λ z. z ++ map core s.flats) (a.cores qs ps w e)
+      ∙ ap (λ z. cs ++ z) (b.cores qs ps r.waits (a.none qs ps w e));
   none = λ qs ps w e.
       ap (λ (z : List Leafing). (in_row z qs ps w).waits.graces) (map-append leaves_within xs ys)
-      ∙ ap (λ (z : PendingLeaf). z.graces) (waits-append qs ps (map leaves_within xs) (map leaves_within ys) w) ∙ b.none qs ps _ (a.none qs ps w e);
+      ∙ ap (λ (z : PendingLeaf). z.graces) (waits-append qs ps (map leaves_within xs) (map leaves_within ys) w)
+      ∙ b.none qs ps _ (a.none qs ps w e);
 }
 
-pub sings_tuplet : (p q : ℕ) (inner : List Music) (cs : List Core) → Sings inner cs → Sings (music.Tuplet p q inner ∷ []) cs
+pub sings_tuplet : (p q : ℕ) (inner : List Music) (cs : List Core)
+    → Sings inner cs → Sings (music.Tuplet p q inner ∷ []) cs
 sings_tuplet p q inner cs h =
     let is = at_tuplet leaves_step p q inner in
     record {
-      cores = λ qs ps w e. ap (map core) (append-nil _) ∙ ap (λ (l : Leafing). map core (l qs ps w).flats) is ∙ h.cores (qs * q) (ps * p) _ e;
+      cores =
+          λ qs ps w e.
+          ap (map core) (append-nil _)
+          ∙ ap (λ (l : Leafing). map core (l qs ps w).flats) is
+          ∙ h.cores (qs * q) (ps * p) _ e;
       none = λ qs ps w e. ap (λ (l : Leafing). (l qs ps w).waits.graces) is ∙ h.none (qs * q) (ps * p) _ e;
     }
 
@@ -101,9 +116,11 @@ forest_sings (one nodes f) h = sings_append nodes (music_of f) (sung nodes) _ h.
 forest_sings (group p q takes inner f) h =
     let front = forest_sings inner (front_all IsSung (rows inner) (rows f) h) in
     let back = forest_sings f (back_all IsSung (rows inner) (rows f) h) in
-    rw (flat_map-append sung (rows inner) (rows f)) (sings_append (music.Tuplet p q _ ∷ []) (music_of f) _ _ (sings_tuplet p q _ _ front) back)
+    rw (flat_map-append sung (rows inner) (rows f))
+    (sings_append (music.Tuplet p q _ ∷ []) (music_of f) _ _ (sings_tuplet p q _ _ front) back)
 
-pub tree_sings : (ls : List Leaf) → AllByRecursion IsSung (leaf_rows ls) → map core (flats_of (tree_of ls)) ≡ flat_map sung (leaf_rows ls)
+pub tree_sings : (ls : List Leaf)
+    → AllByRecursion IsSung (leaf_rows ls) → map core (flats_of (tree_of ls)) ≡ flat_map sung (leaf_rows ls)
 tree_sings ls h =
     let sings = forest_sings (nest ls) (subst (AllByRecursion IsSung) (sym (nest_rows ls)) h) in
     sings.cores 1 1 no_pending_leaf refl ∙ ap (flat_map sung) (nest_rows ls)

@@ -28,7 +28,8 @@ back_within : (xs ys : List Weight) (w : Weight) → IsWithin ys (xs ++ ys) w
 back_within xs ys w = (Contains-append_right xs ys w, omega (arith, sum_by-append (count_up_to w) xs ys))
 
 -- ---- behind a crowd
-pub enough_behind : (some hidden : List Fault) (put light : List Weight) (at : Weight) → Contains put at → 50000 < crowd_up_to put at
+pub enough_behind : (some hidden : List Fault) (put light : List Weight) (at : Weight)
+    → Contains put at → 50000 < crowd_up_to put at
     → AllByRecursion (λ f. is_before f (crowd_fault at) ≡ false) hidden → AllByRecursion (IsBehind at) light
     → AreEnough some (some ++ hidden) put (put ++ light)
 enough_behind some hidden put light at held crowd late behind = record {
@@ -40,33 +41,43 @@ enough_behind some hidden put light at held crowd late behind = record {
   by_crowd : (f : Fault) → is_before f (crowd_fault at) ≡ false → HasCrowd put f
   by_crowd f e = record { at = at; held = held; crowd = crowd; behind = e }
 
-  held_in : (fs : List Fault) → AllByRecursion (λ f. is_before f (crowd_fault at) ≡ false) fs → (f : Fault) → Contains fs f
+  held_in : (fs : List Fault)
+      → AllByRecursion (λ f. is_before f (crowd_fault at) ≡ false) fs → (f : Fault) → Contains fs f
       → is_before f (crowd_fault at) ≡ false
   held_in fs late f = All-contains (λ f. is_before f (crowd_fault at) ≡ false) fs f (All-from_recursion _ fs late)
 
-  by_test : (w : Weight) (b : Bool) → stands_before w at ≡ b → IsWithin (put ++ light) put w ⊎ HasCrowd put (crowd_fault w)
+  by_test : (w : Weight) (b : Bool)
+      → stands_before w at ≡ b → IsWithin (put ++ light) put w ⊎ HasCrowd put (crowd_fault w)
   by_test w false e = inr (by_crowd (crowd_fault w) (same_order w at ∙ e))
   by_test w true e =
       let not = λ (k : Contains light w). All-contains (IsBehind at) light w (All-from_recursion _ light behind) k in
       inl (
-        λ h. ⊎_elim (λ k. k) (λ k. let later : stands_before w at ≡ false = not k in absurd cc) (Contains-append_cases put light w h),
+        λ h.
+            ⊎_elim (λ k. k) (λ k. let later : stands_before w at ≡ false = not k in absurd cc)
+            (Contains-append_cases put light w h),
         omega (arith, none_up_to w light (before_all w at light e behind), sum_by-append (count_up_to w) put light),
       )
 
 -- ---- two parts
-held_both : {X : Type 0} (us vs xs ys : List X) (x : X) → (Contains us x → Contains xs x) → (Contains vs x → Contains ys x)
+held_both : {X : Type 0} (us vs xs ys : List X) (x : X)
+    → (Contains us x → Contains xs x) → (Contains vs x → Contains ys x)
     → Contains (us ++ vs) x → Contains (xs ++ ys) x
 held_both us vs xs ys x a b h =
-    ⊎_elim (λ k. Contains-append_left xs ys x (a k)) (λ k. Contains-append_right xs ys x (b k)) (Contains-append_cases us vs x h)
+    ⊎_elim (λ k. Contains-append_left xs ys x (a k)) (λ k. Contains-append_right xs ys x (b k))
+    (Contains-append_cases us vs x h)
 
 within_both : (p q a b : List Weight) (w : Weight) → IsWithin p a w → IsWithin q b w → IsWithin (p ++ q) (a ++ b) w
-within_both p q a b w h i =
-    (held_both p q a b w h.0 i.0, omega (arith, h.1, i.1, sum_by-append (count_up_to w) p q, sum_by-append (count_up_to w) a b))
+within_both p q a b w h i = (
+  held_both p q a b w h.0 i.0,
+  omega (arith, h.1, i.1, sum_by-append (count_up_to w) p q, sum_by-append (count_up_to w) a b),
+)
 
 crowd_within : (xs ys : List Weight) (f : Fault) → ((w : Weight) → IsWithin xs ys w) → HasCrowd xs f → HasCrowd ys f
-crowd_within xs ys f h c = record { at = c.at; held = (h c.at).0 c.held; crowd = omega (arith, c.crowd, (h c.at).1); behind = c.behind }
+crowd_within xs ys f h c =
+    record { at = c.at; held = (h c.at).0 c.held; crowd = omega (arith, c.crowd, (h c.at).1); behind = c.behind }
 
-enough_both : {s f t g : List Fault} {p a q b : List Weight} → AreEnough s f p a → AreEnough t g q b → AreEnough (s ++ t) (f ++ g) (p ++ q) (a ++ b)
+enough_both : {s f t g : List Fault} {p a q b : List Weight}
+    → AreEnough s f p a → AreEnough t g q b → AreEnough (s ++ t) (f ++ g) (p ++ q) (a ++ b)
 enough_both {s = s} {f = f} {t = t} {g = g} {p = p} {a = a} {q = q} {b = b} h i =
     let front = λ (x : Fault). crowd_within p (p ++ q) x (front_within p q) in
     let back = λ (x : Fault). crowd_within q (p ++ q) x (back_within p q) in
@@ -77,63 +88,88 @@ enough_both {s = s} {f = f} {t = t} {g = g} {p = p} {a = a} {q = q} {b = b} h i 
           ⊎_elim (λ j. ⊎_map (Contains-append_left s t x) (front x) (h.others x j))
           (λ j. ⊎_map (Contains-append_right s t x) (back x) (i.others x j)) (Contains-append_cases f g x k);
       light = λ w.
-          ⊎_elim (λ j. ⊎_map (λ k. within_both a b p q w j k) (back (crowd_fault w)) (i.light w)) (λ j. inr (front (crowd_fault w) j)) (h.light w);
+          ⊎_elim (λ j. ⊎_map (λ k. within_both a b p q w j k) (back (crowd_fault w)) (i.light w))
+          (λ j. inr (front (crowd_fault w) j)) (h.light w);
     }
 
 -- ---- judged parts
 pub none_judged : (old : List Weight) → AreJudged [] [] None old old
-none_judged old = record { some = []; weights = []; first = refl; put = sym (append-nil old); enough = all_enough [] [] }
+none_judged old =
+    record { some = []; weights = []; first = refl; put = sym (append-nil old); enough = all_enough [] [] }
 
-pub judged_both : {f g : List Fault} {a b : List Weight} {found other : Option Fault} {old mid new : List Weight} → AreJudged f a found old mid
+pub judged_both : {f g : List Fault} {a b : List Weight} {found other : Option Fault} {old mid new : List Weight}
+    → AreJudged f a found old mid
     → AreJudged g b other mid new → AreJudged (f ++ g) (a ++ b) (earlier found other) old new
 judged_both {other = other} {old = old} h i =
-    let both = append_assoc old (map capped h.weights) (map capped i.weights) ∙ ap (λ z. old ++ z) (sym (capped_append h.weights i.weights)) in
+    let both = append_assoc old (map capped h.weights) (map capped i.weights)
+    ∙ ap (λ z. old ++ z) (sym (capped_append h.weights i.weights)) in
     record {
       some = h.some ++ i.some;
       weights = h.weights ++ i.weights;
-      first = ap (λ z. earlier z other) h.first ∙ (ap (earlier (first_of h.some)) i.first ∙ sym (first_append h.some i.some));
+      first =
+          ap (λ z. earlier z other) h.first
+          ∙ (ap (earlier (first_of h.some)) i.first ∙ sym (first_append h.some i.some));
       put = i.put ∙ (ap (λ z. z ++ map capped i.weights) h.put ∙ both);
       enough = enough_both h.enough i.enough;
     }
 
 -- faults without weights
-pub judged_with : {f : List Fault} {a : List Weight} {found other : Option Fault} {old new : List Weight} (g : List Fault)
+pub judged_with : {f : List Fault} {a : List Weight} {found other : Option Fault} {old new : List Weight}
+    (g : List Fault)
     → AreJudged f a found old new
     → other ≡ first_of g → AreJudged (f ++ g) a (earlier found other) old new
 judged_with {f = f} {a = a} {found = found} {other = other} {old = old} {new = new} g h is =
-    let more : AreJudged g [] other new new = record { some = g; weights = []; first = is; put = sym (append-nil new); enough = all_enough g [] } in
+    let more : AreJudged g [] other new new =
+    record { some = g; weights = []; first = is; put = sym (append-nil new); enough = all_enough g [] } in
     subst (λ z. AreJudged (f ++ g) z (earlier found other) old new) (append-nil a) (judged_both h more)
 
 -- ---- the first of all
 module _ {some faults : List Fault} {put all : List Weight} (h : AreEnough some faults put all) where
   covered : (f : Fault) → Contains (faults ++ crowded all) f → Contains some f ⊎ HasCrowd put f
-  covered f k = ⊎_elim (h.others f) (λ j. by_weight (fault_of all all f j)) (Contains-append_cases faults (crowded all) f k) where
-    by_weight : IsFaultOf all all f → Contains some f ⊎ HasCrowd put f
-    by_weight o =
-        let w = o.weight in
-        let itself = not_before_itself (crowd_fault w) in
-        let own : IsWithin all put w → HasCrowd put (crowd_fault w) =
-        λ l. record { at = w; held = l.0 (weight_held all all f o); crowd = omega (arith, o.crowd, l.1); behind = itself } in
-        inr (subst (HasCrowd put) (sym o.is) (⊎_elim own (λ c. c) (h.light w)))
+  covered f k =
+      ⊎_elim (h.others f) (λ j. by_weight (fault_of all all f j)) (Contains-append_cases faults (crowded all) f k) where
+        by_weight : IsFaultOf all all f → Contains some f ⊎ HasCrowd put f
+        by_weight o =
+            let w = o.weight in
+            let itself = not_before_itself (crowd_fault w) in
+            let own : IsWithin all put w → HasCrowd put (crowd_fault w) =
+            λ l.
+            record {
+              at = w;
+              held = l.0 (weight_held all all f o);
+              crowd = omega (arith, o.crowd, l.1);
+              behind = itself;
+            } in
+            inr (subst (HasCrowd put) (sym o.is) (⊎_elim own (λ c. c) (h.light w)))
 
   -- one of those that are found, which the fault isn't before
-  told : (f : Fault) → Contains some f ⊎ HasCrowd put f → (g : Fault) × (Contains (some ++ crowded put) g × (is_before f g ≡ false))
+  told : (f : Fault)
+      → Contains some f ⊎ HasCrowd put f → (g : Fault) × (Contains (some ++ crowded put) g × (is_before f g ≡ false))
   told f (inl j) = (f, (Contains-append_left some (crowded put) f j, not_before_itself f))
-  told f (inr c) = (crowd_fault c.at, (Contains-append_right some (crowded put) (crowd_fault c.at) (crowd_held put c.at c.held c.crowd), c.behind))
+  told f (inr c) = (
+    crowd_fault c.at,
+    (Contains-append_right some (crowded put) (crowd_fault c.at) (crowd_held put c.at c.held c.crowd), c.behind),
+  )
 
   crowd_kept : (f : Fault) → IsFaultOf put put f → Contains (crowded all) f
   crowd_kept f o =
       let within = h.within o.weight in
-      subst (Contains (crowded all)) (sym o.is) (crowd_held all o.weight (within.0 (weight_held put put f o)) (omega (arith, o.crowd, within.1)))
+      subst (Contains (crowded all)) (sym o.is)
+      (crowd_held all o.weight (within.0 (weight_held put put f o)) (omega (arith, o.crowd, within.1)))
 
   none_if : (fs : List Fault) → ((f : Fault) → Contains fs f → ⊥) → fs ≡ []
   none_if [] h = refl
   none_if (f ∷ fs) h = absurd (h f (0, omega arith, refl))
 
-  pub first_enough : (found : Option Fault) → IsFirstInOrder (some ++ crowded put) found → IsFirstInOrder (faults ++ crowded all) found
+  pub first_enough : (found : Option Fault)
+      → IsFirstInOrder (some ++ crowded put) found → IsFirstInOrder (faults ++ crowded all) found
   first_enough None first = none_if (faults ++ crowded all) (λ f k.
-      let c = told f (covered f k) in let held = subst (λ fs. Contains fs c.0) first c.1.0 in absurd (omega (arith, held.1)))
+      let c = told f (covered f k) in
+      let held = subst (λ fs. Contains fs c.0) first c.1.0 in
+      absurd (omega (arith, held.1)))
   first_enough (Some x) first = record {
-    held = held_both some (crowded put) faults (crowded all) x (h.held x) (λ k. crowd_kept x (fault_of put put x k)) first.held;
+    held =
+        held_both some (crowded put) faults (crowded all) x (h.held x) (λ k. crowd_kept x (fault_of put put x k))
+        first.held;
     least = λ f k. let c = told f (covered f k) in not_before x c.0 f (first.least c.0 c.1.0) c.1.1;
   }

@@ -15,7 +15,8 @@ Rises from n top (b ∷ bs) = (from < b) × (b < n) × (b ≤ top) × Rises b n 
 
 wider : (from n top higher : ℕ) (bs : List ℕ) → top ≤ higher → Rises from n top bs → Rises from n higher bs
 wider from n top higher [] less rise = tt
-wider from n top higher (b ∷ bs) less (above, below, within, rise) = (above, below, omega (arith, within, less), wider b n top higher bs less rise)
+wider from n top higher (b ∷ bs) less (above, below, within, rise) =
+    (above, below, omega (arith, within, less), wider b n top higher bs less rise)
 
 within_n : (from n top : ℕ) (bs : List ℕ) → Rises from n top bs → RiseWithin from n bs
 within_n from n top [] rise = tt
@@ -28,10 +29,15 @@ with_last : (from n top bar : ℕ) (bs : List ℕ) → list_any (λ b. b == bar)
     → Rises from n top bs → Rises from n bar (bs ++ bar ∷ [])
 with_last from n top bar [] new above below less rise = (above, below, omega arith, tt)
 with_last from n top bar (b ∷ bs) new above below less (behind, before, within, rise) =
-    let parts = or_parts (b == bar) _ new in
-    (behind, before, omega (arith, within, less), with_last b n top bar bs parts.1 (below_new b top bar parts.0 within less) below less rise)
+    let parts = or_parts (b == bar) _ new in (
+      behind,
+      before,
+      omega (arith, within, less),
+      with_last b n top bar bs parts.1 (below_new b top bar parts.0 within less) below less rise,
+    )
 
-with_bar_rises : (n top bar : ℕ) (bs : List ℕ) → 1 ≤ bar → bar < n → top ≤ bar → Rises 0 n top bs → Rises 0 n bar (with_bar bar bs)
+with_bar_rises : (n top bar : ℕ) (bs : List ℕ)
+    → 1 ≤ bar → bar < n → top ≤ bar → Rises 0 n top bs → Rises 0 n bar (with_bar bar bs)
 with_bar_rises n top bar bs some below less rise =
     cond_both (list_any (λ b. b == bar) bs) _ _ (Rises 0 n bar) (λ e. wider 0 n top bar bs less rise)
     (λ e. with_last 0 n top bar bs e (omega arith) below less rise)
@@ -52,7 +58,8 @@ step_rises n counts _ bs rise = rise
 
 measure_grows : (s : PlacedStep) (before : Steps) → measure_at before ≤ measure_at (s ∷ before)
 measure_grows s before =
-    either (λ g. measure_at before ≤ g + all_further (s ∷ before)) (begins_group s.step (nearest_at before)) _ _ (omega arith) (omega arith)
+    either (λ g. measure_at before ≤ g + all_further (s ∷ before)) (begins_group s.step (nearest_at before)) _ _
+    (omega arith) (omega arith)
 
 forced_rises : (n : ℕ) (before : Steps) → Rises 0 n (measure_at before) (forced_at n before)
 forced_rises n [] = tt

@@ -22,19 +22,25 @@ module _ (header : Header) (items : List BodyItem) (n : ℕ) where
   unfolding voice_by_header written_measures
   length_voice v =
       let all = signs v.first [] v.steps in let bars = bars_of v.steps n in
-      length-map-range_with_len (measure_of_leaves (leaves_of (sung_words v.start.id (unnamed_of header) items all) all) bars) 0 (length bars)
+      length-map-range_with_len
+      (measure_of_leaves (leaves_of (sung_words v.start.id (unnamed_of header) items all) all) bars) 0 (length bars)
       ∙ length-map-range_with_len (bar_of v.steps) 0 n
 
-  pub lengths_agree : (voices : List ReadVoice) → All (λ (v : Voice). length v.measures ≡ n) (map (voice_by_header header items n) voices)
-  lengths_agree voices = All-map (λ (v : Voice). length v.measures ≡ n) (voice_by_header header items n) voices (λ k d less. length_voice _)
+  pub lengths_agree : (voices : List ReadVoice)
+      → All (λ (v : Voice). length v.measures ≡ n) (map (voice_by_header header items n) voices)
+  lengths_agree voices =
+      All-map (λ (v : Voice). length v.measures ≡ n) (voice_by_header header items n) voices
+      (λ k d less. length_voice _)
 
   other_voices : (v : ReadVoice) (voices : List ReadVoice) → IsNoneOfIds v.start.id (read_ids voices)
-      → AllByRecursion (λ (w : Voice). (voice_by_header header items n v).id ≢ w.id) (map (voice_by_header header items n) voices)
+      → AllByRecursion (λ (w : Voice). (voice_by_header header items n v).id ≢ w.id)
+      (map (voice_by_header header items n) voices)
   unfolding voice_by_header
   other_voices v [] others = tt
   other_voices v (w ∷ voices) others = (others.0, other_voices v voices others.1)
 
-  pub voices_apart : (voices : List ReadVoice) → AreDistinctIds (read_ids voices) → Distinct (map (voice_by_header header items n) voices)
+  pub voices_apart : (voices : List ReadVoice)
+      → AreDistinctIds (read_ids voices) → Distinct (map (voice_by_header header items n) voices)
   voices_apart [] apart = tt
   voices_apart (v ∷ voices) apart = (other_voices v voices apart.0, voices_apart voices apart.1)
 

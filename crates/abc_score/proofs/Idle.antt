@@ -27,12 +27,14 @@ pub record IsIdleAt (first : InForce) (before : Steps) (at : PlacedStep) (behind
   pub signs : tree_items_of (state_at first before) before at behind at.step ≡ []
   pub place : state_at first (at ∷ before) ≡ state_at first before
 
-with_further : (now : VoiceState) (n : ℕ) → n ≡ now.counts.further → record now { counts = record now.counts { further = n } } ≡ now
+with_further : (now : VoiceState) (n : ℕ)
+    → n ≡ now.counts.further → record now { counts = record now.counts { further = n } } ≡ now
 with_further now n e = ap (λ k. record now { counts = record now.counts { further = k } }) e
 
 of_kind : (first : InForce) (before behind : Steps) (s : Step) (line column : ℕ) → is_idle s ≡ true
     → IsIdleAt first before (record { step = s; line = line; column = column }) behind
-unfolding is_idle faults_of weights_of tree_items_of is_event is_bar begins_group further_measures force_after open_tuplets_after
+unfolding is_idle faults_of weights_of tree_items_of is_event is_bar begins_group further_measures force_after
+    open_tuplets_after
 of_kind first before behind (Step.Sound s) line column e = absurd cc
 of_kind first before behind (Step.Measures seen count) line column e = absurd cc
 of_kind first before behind (Step.Tuplet p q r) line column e = absurd cc
@@ -49,11 +51,15 @@ of_kind first before behind _ line column e = record {
   place = with_further (state_at first before) _ (omega arith);
 }
 
-pub idle_at : (first : InForce) (before : Steps) (at : PlacedStep) (behind : Steps) → is_idle at.step ≡ true → IsIdleAt first before at behind
+pub idle_at : (first : InForce) (before : Steps) (at : PlacedStep) (behind : Steps)
+    → is_idle at.step ≡ true → IsIdleAt first before at behind
 idle_at first before at behind e = of_kind first before behind at.step at.line at.column e
 
-pub idle_so_far : {found : Option Fault} {old new : List Weight} (first : InForce) (steps : Steps) (i : ℕ) (at : PlacedStep) → i < length steps
-    → at ≡ get_or steps i at → is_idle at.step ≡ true → IsAt first steps (reverse (take i steps)) (drop i steps) found old new
+pub idle_so_far : {found : Option Fault} {old new : List Weight} (first : InForce) (steps : Steps) (i : ℕ)
+    (at : PlacedStep)
+    → i < length steps
+    → at ≡ get_or steps i at → is_idle at.step ≡ true
+    → IsAt first steps (reverse (take i steps)) (drop i steps) found old new
     → IsAt first steps (reverse (take (i + 1) steps)) (drop (i + 1) steps) found old new
 idle_so_far first steps i at less is e h =
     let before = reverse (take (i + 1) steps) in let behind = drop (i + 1) steps in

@@ -20,11 +20,13 @@ use Rattle.abc_items.specs.Voices.{claims, declared_ids, ids_after_item, ids_by_
 differ : (s t : List ℕ) → bytes_eq s t ≡ false → s ≢ t
 differ s t e = not_from_Decides (bytes_eq s t) (bytes_eq-Decides s t) e
 
-other_last : (id last : List ℕ) (ids : List (List ℕ)) → id ≢ last → IsNoneOfIds id ids → IsNoneOfIds id (ids ++ last ∷ [])
+other_last : (id last : List ℕ) (ids : List (List ℕ))
+    → id ≢ last → IsNoneOfIds id ids → IsNoneOfIds id (ids ++ last ∷ [])
 other_last id last [] new others = (new, tt)
 other_last id last (other ∷ ids) new others = (others.0, other_last id last ids new others.1)
 
-apart_last : (id : List ℕ) (ids : List (List ℕ)) → list_any (bytes_eq id) ids ≡ false → AreDistinctIds ids → AreDistinctIds (ids ++ id ∷ [])
+apart_last : (id : List ℕ) (ids : List (List ℕ))
+    → list_any (bytes_eq id) ids ≡ false → AreDistinctIds ids → AreDistinctIds (ids ++ id ∷ [])
 apart_last id [] new apart = (tt, tt)
 apart_last id (other ∷ ids) new apart =
     let parts = or_parts (bytes_eq id other) _ new in
@@ -34,10 +36,12 @@ apart_last id (other ∷ ids) new apart =
 abbrev times : List ℕ → List VoiceDef → ℕ
 times id defs = count_by (λ (def : VoiceDef). bytes_eq id def.id) defs
 
-times_on : (id : List ℕ) (def : VoiceDef) (defs : List VoiceDef) → times id (def ∷ defs) ≡ cond (bytes_eq id def.id) 1 0 + times id defs
+times_on : (id : List ℕ) (def : VoiceDef) (defs : List VoiceDef)
+    → times id (def ∷ defs) ≡ cond (bytes_eq id def.id) 1 0 + times id defs
 times_on id def defs = sum_by-cons (λ (d : VoiceDef). cond (bytes_eq id d.id) 1 0) def defs
 
-not_counted : (id : List ℕ) (defs : List VoiceDef) → times id defs ≤ 0 → IsNoneOfIds id (map (λ (def : VoiceDef). def.id) defs)
+not_counted : (id : List ℕ) (defs : List VoiceDef)
+    → times id defs ≤ 0 → IsNoneOfIds id (map (λ (def : VoiceDef). def.id) defs)
 not_counted id [] none = tt
 not_counted id (def ∷ defs) none =
     let whole = times_on id def defs in
@@ -63,7 +67,8 @@ item_apart ids (BodyItem.Voice def line column) apart =
     cond_both (list_any (bytes_eq def.id) ids) _ _ AreDistinctIds (λ e. apart) (λ e. apart_last def.id ids e apart)
 item_apart ids _ apart = apart
 
-items_apart : (ids : List (List ℕ)) (items : List BodyItem) → AreDistinctIds ids → AreDistinctIds (fold ids_after_item ids items)
+items_apart : (ids : List (List ℕ)) (items : List BodyItem)
+    → AreDistinctIds ids → AreDistinctIds (fold ids_after_item ids items)
 items_apart ids [] apart = apart
 items_apart ids (i ∷ items) apart = items_apart (ids_after_item ids i) items (item_apart ids i apart)
 
@@ -73,18 +78,22 @@ few_by_step [] true few = omega arith
 few_by_step [] false few = few
 few_by_step (id ∷ ids) claimed few = few
 
-few_given : (ids : List (List ℕ)) (given : List ItemOrFault) → length ids ≤ 16 → first_item_fault (judged_items ids given) ≡ None
+few_given : (ids : List (List ℕ)) (given : List ItemOrFault)
+    → length ids ≤ 16 → first_item_fault (judged_items ids given) ≡ None
     → length (fold ids_after_item ids (items_in given)) ≤ 16
 few_given ids [] few clear = few
 few_given ids (fails fault ∷ given) few clear = absurd cc
-few_given ids (gives (BodyItem.Step s) ∷ given) few clear = few_given (ids_by_step ids (claims s.step)) given (few_by_step ids (claims s.step) few) clear
+few_given ids (gives (BodyItem.Step s) ∷ given) few clear =
+    few_given (ids_by_step ids (claims s.step)) given (few_by_step ids (claims s.step) few) clear
 few_given ids (gives (BodyItem.LineEnd joined breaks line column) ∷ given) few clear = few_given ids given few clear
 few_given ids (gives (BodyItem.Words text line) ∷ given) few clear = few_given ids given few clear
 few_given ids (gives (BodyItem.Voice def line column) ∷ given) few clear =
-    ⊎_elim (λ e. let over = rw e at clear in absurd cc) (λ e. few_given (with_id ids def.id) given (grind (arith, nat_tests, e)) (rw e at clear))
+    ⊎_elim (λ e. let over = rw e at clear in absurd cc)
+    (λ e. few_given (with_id ids def.id) given (grind (arith, nat_tests, e)) (rw e at clear))
     (cases_Bool (nat_lt 16 (length (with_id ids def.id))))
 
-pub few_ids : (header : Header) (lines : List Line) (items : List BodyItem) → HasGoodValues header → IsBody header lines items
+pub few_ids : (header : Header) (lines : List Line) (items : List BodyItem)
+    → HasGoodValues header → IsBody header lines items
     → length (voice_ids header items) ≤ 16
 few_ids header lines items good body =
     let declared = length-map header.voices (λ (def : VoiceDef). def.id) in
@@ -97,11 +106,18 @@ ids_read : (header : Header) (items : List BodyItem) (ids : List (List ℕ))
 ids_read header items [] = refl
 ids_read header items (id ∷ ids) = ap (λ others. id ∷ others) (ids_read header items ids)
 
-pub few_read : (header : Header) (items : List BodyItem) → length (voice_ids header items) ≤ 16 → length (voices_read header items) ≤ 16
+pub few_read : (header : Header) (items : List BodyItem)
+    → length (voice_ids header items) ≤ 16 → length (voices_read header items) ≤ 16
 few_read header items few =
-    omega (arith, length-map (starts_of header items) (voice_read header items), length-map (voice_ids header items) (start_of header items), few)
+    omega (
+      arith,
+      length-map (starts_of header items) (voice_read header items),
+      length-map (voice_ids header items) (start_of header items),
+      few,
+    )
 
-pub apart_read : (header : Header) (items : List BodyItem) → HasGoodValues header → AreDistinctIds (read_ids (voices_read header items))
+pub apart_read : (header : Header) (items : List BodyItem)
+    → HasGoodValues header → AreDistinctIds (read_ids (voices_read header items))
 apart_read header items good =
     subst AreDistinctIds (sym (ids_read header items (voice_ids header items)))
     (items_apart (declared_ids header) items (declared_apart header.voices good.distinct))

@@ -40,33 +40,41 @@ cut_at : (on : Bool) (line column : ℕ) → AreAt line (cut_given on line colum
 cut_at true line column = tt
 cut_at false line column = tt
 
-token_at : (breaks : Breaks) (line : Line) (column : ℕ) (t : Token) → AreAt line.number (item_of_token breaks line column t)
+token_at : (breaks : Breaks) (line : Line) (column : ℕ) (t : Token)
+    → AreAt line.number (item_of_token breaks line column t)
 unfolding item_of_token
 token_at breaks line column (Token.Inline letter text) = given_at (named_field letter text) line.number column
 token_at breaks line column Token.Cut = cut_at (is_on breaks _) line.number column
 token_at breaks line column _ = tt
 
-tokens_at : (breaks : Breaks) (line : Line) (tokens : List Placed) → AreAt line.number (flat_map (placed_given breaks line) tokens)
+tokens_at : (breaks : Breaks) (line : Line) (tokens : List Placed)
+    → AreAt line.number (flat_map (placed_given breaks line) tokens)
 tokens_at breaks line [] = tt
 tokens_at breaks line (t ∷ tokens) =
-    both_at line.number (placed_given breaks line t) _ (token_at breaks line t.column t.token) (tokens_at breaks line tokens)
+    both_at line.number (placed_given breaks line t) _ (token_at breaks line t.column t.token)
+    (tokens_at breaks line tokens)
 
 end_at : (breaks : Breaks) (line : Line) (fault : Option Fault) → AreAt line.number (item_of_line_end breaks line fault)
 end_at breaks line None = tt
 end_at breaks line (Some fault) = tt
 
-line_at : (breaks : Breaks) (line : Line) (kind : LineKind) (given : List ItemOrFault) → KindGives breaks line kind given → AreAt line.number given
+line_at : (breaks : Breaks) (line : Line) (kind : LineKind) (given : List ItemOrFault)
+    → KindGives breaks line kind given → AreAt line.number given
 line_at breaks line LineKind.Music given (tokens, fault, front, is) =
-    rw is (both_at line.number (flat_map (placed_given breaks line) tokens) _ (tokens_at breaks line tokens) (end_at breaks line fault))
+    rw is (both_at line.number (flat_map (placed_given breaks line) tokens) _ (tokens_at breaks line tokens)
+    (end_at breaks line fault))
 line_at breaks line _ given is = rw is (given_at (field_of line.text) line.number 1)
 
 -- from a lower line on
-from_lower : (low high : ℕ) (items : List BodyItem) → low ≤ high → DoWordsRiseFrom high items → DoWordsRiseFrom low items
+from_lower : (low high : ℕ) (items : List BodyItem)
+    → low ≤ high → DoWordsRiseFrom high items → DoWordsRiseFrom low items
 from_lower low high [] less rise = tt
-from_lower low high (BodyItem.Words text line ∷ items) less rise = let first : high ≤ line = rise.0 in (omega arith, rise.1)
+from_lower low high (BodyItem.Words text line ∷ items) less rise =
+    let first : high ≤ line = rise.0 in (omega arith, rise.1)
 from_lower low high (_ ∷ items) less rise = from_lower low high items less rise
 
-with_line : (line low : ℕ) (g : List ItemOrFault) (others : List BodyItem) → low ≤ line → AreAt line g → DoWordsRiseFrom line others
+with_line : (line low : ℕ) (g : List ItemOrFault) (others : List BodyItem)
+    → low ≤ line → AreAt line g → DoWordsRiseFrom line others
     → DoWordsRiseFrom low (items_in g ++ others)
 with_line line low [] others less are rise = from_lower low line others less rise
 with_line line low (gives (BodyItem.Words text at) ∷ g) others less are rise =
@@ -91,11 +99,13 @@ is_under : (line : Line) (lines : List Line) → NumbersRise (line ∷ lines) �
 is_under line [] rise = tt
 is_under line (next ∷ lines) rise = let less : line.number < next.number = rise.0 in omega arith
 
-given_rise : (breaks : Breaks) (lines : List Line) (given : List ItemOrFault) (low : ℕ) → BodyGives breaks lines given → NumbersRise lines
+given_rise : (breaks : Breaks) (lines : List Line) (given : List ItemOrFault) (low : ℕ)
+    → BodyGives breaks lines given → NumbersRise lines
     → IsUnder low lines → DoWordsRiseFrom low (items_in given)
 given_rise breaks _ _ low no_lines rise under = tt
 given_rise breaks _ _ low (one_line line lines first others all one more is) rise under =
-    let later = given_rise breaks lines others line.number more (others_rise line lines rise) (is_under line lines rise) in
+    let later =
+    given_rise breaks lines others line.number more (others_rise line lines rise) (is_under line lines rise) in
     subst (DoWordsRiseFrom low) (sym (items_both first others) ∙ ap items_in (sym is))
     (with_line line.number low first (items_in others) under (line_at breaks line (kind_of line.text) first one) later)
 
@@ -108,8 +118,10 @@ rise_behind lines zero rise = rise
 rise_behind [] (suc k) rise = tt
 rise_behind (line ∷ lines) (suc k) rise = rise_behind lines k (others_rise line lines rise)
 
-pub words_rise_behind : {header : Header} {behind : List Line} {items found : List BodyItem} (lines : List Line) (k : ℕ) → NumbersRise lines
+pub words_rise_behind : {header : Header} {behind : List Line} {items found : List BodyItem} (lines : List Line) (k : ℕ)
+    → NumbersRise lines
     → behind ≡ drop k lines → IsBody header behind items → found ≡ items → DoWordsRise found
 words_rise_behind {header = header} {behind = behind} lines k rise cut body same =
     let own = subst NumbersRise (sym cut) (rise_behind lines k rise) in
-    subst DoWordsRise (sym (same ∙ body.are)) (given_rise header.breaks behind body.given 0 body.gives_so own (from_zero behind))
+    subst DoWordsRise (sym (same ∙ body.are))
+    (given_rise header.breaks behind body.given 0 body.gives_so own (from_zero behind))

@@ -58,19 +58,24 @@ pub record IsRatio (p q : ℕ) : Type 0 where
   pub q_low : 1 ≤ q
   pub q_high : q ≤ 9
 
-ratio_test : (p q : ℕ) (n b : Bool) → IsRatio p q → n ≡ true → b ≡ true → (nat_le 2 p && nat_le p 9 && nat_le 1 q && nat_le q 9 && n && b) ≡ true
+ratio_test : (p q : ℕ) (n b : Bool)
+    → IsRatio p q → n ≡ true → b ≡ true → (nat_le 2 p && nat_le p 9 && nat_le 1 q && nat_le q 9 && n && b) ≡ true
 ratio_test p q n b ratio some good = grind (arith, nat_tests)
 
 module _ (deeper : ℕ) (inner : Bool) (p q : ℕ) (body others : List Music) (some : HasSome (within deeper) body) where
   abbrev around : NodeContext
   around = record { deeper = suc deeper; inner = inner; grace = false }
 
-  group_good : IsRatio p q → IsGoodAt (within deeper) body → IsGoodAt around others → IsGoodAt around (music.Tuplet p q body ∷ others)
+  group_good : IsRatio p q
+      → IsGoodAt (within deeper) body → IsGoodAt around others → IsGoodAt around (music.Tuplet p q body ∷ others)
   group_good ratio good =
-      and_from _ _ (ap (λ (j : NodeContext → NodeVerdict). (j around).good) (at_tuplet good_step p q body) ∙ ratio_test p q _ _ ratio some good)
+      and_from _ _
+      (ap (λ (j : NodeContext → NodeVerdict). (j around).good) (at_tuplet good_step p q body)
+      ∙ ratio_test p q _ _ ratio some good)
 
   group_some : HasSome around (music.Tuplet p q body ∷ others)
-  group_some = or_left _ _ (ap (λ (j : NodeContext → NodeVerdict). (j around).some) (at_tuplet good_step p q body) ∙ some)
+  group_some =
+      or_left _ _ (ap (λ (j : NodeContext → NodeVerdict). (j around).some) (at_tuplet good_step p q body) ∙ some)
 
 -- ---- what the open tuplets take is good, and what is left
 abbrev pub IsOpen : OpenTuplets → Type 0
@@ -98,7 +103,8 @@ Fine (OpenTuplets.Nested inner outer) f = FineTwo inner (outer - inner) f
 one_left : (n r : ℕ) → n ≡ suc (suc r) → one_less n ≡ OpenTuplets.Single (suc r)
 one_left n r is = grind (arith, nat_tests)
 
-two_left : (m n r s : ℕ) → m ≡ suc (suc r) → n ≡ suc s → cond (nat_le m 1) (one_less n) (OpenTuplets.Nested (m - 1) (n - 1)) ≡ OpenTuplets.Nested (suc r) s
+two_left : (m n r s : ℕ) → m ≡ suc (suc r) → n ≡ suc s
+    → cond (nat_le m 1) (one_less n) (OpenTuplets.Nested (m - 1) (n - 1)) ≡ OpenTuplets.Nested (suc r) s
 two_left m n r s is also = grind (arith, nat_tests)
 
 behind_one : (r : ℕ) (f : Forest) → Fine (one_less (suc r)) f
@@ -106,49 +112,70 @@ behind_one : (r : ℕ) (f : Forest) → Fine (one_less (suc r)) f
 behind_one zero f fine = (refl, fine)
 behind_one (suc r) f fine = let own = subst (λ t. Fine t f) (one_left _ r refl) fine in (own.taken, own.behind)
 
-behind_two : (r s rest : ℕ) (f : Forest) → s ≡ r + rest → Fine (cond (nat_le (suc r) 1) (one_less (suc s)) (OpenTuplets.Nested (suc r - 1) (suc s - 1))) f
+behind_two : (r s rest : ℕ) (f : Forest)
+    → s ≡ r + rest → Fine (cond (nat_le (suc r) 1) (one_less (suc s)) (OpenTuplets.Nested (suc r - 1) (suc s - 1))) f
     → IsGoodAt (within 0) (music_of (cut r f).taken) × IsGoodAt (within 1) (music_of (cut rest (cut r f).left).taken)
     × IsGoodAt outside (music_of (cut rest (cut r f).left).left)
 behind_two zero s rest f is fine =
-    let same : s ≡ rest = omega arith in let own = behind_one rest f (subst (λ n. Fine (one_less (suc n)) f) same fine) in (refl, own.0, own.1)
+    let same : s ≡ rest = omega arith in
+    let own = behind_one rest f (subst (λ n. Fine (one_less (suc n)) f) same fine) in
+    (refl, own.0, own.1)
 behind_two (suc r) s rest f is fine =
     let same : s - suc r ≡ rest = omega arith in
-    let own = subst (λ n. FineTwo (suc r) n f) same (subst (λ t. Fine t f) (two_left _ _ r s refl refl) fine) in (own.taken, own.others, own.behind)
+    let own = subst (λ n. FineTwo (suc r) n f) same (subst (λ t. Fine t f) (two_left _ _ r s refl refl) fine) in
+    (own.taken, own.others, own.behind)
 
-event_fine : (t : OpenTuplets) (nodes : List Music) (f : Forest) → IsOpen t → IsGoodAt (place_of t) nodes → HasSome (place_of t) nodes
+event_fine : (t : OpenTuplets) (nodes : List Music) (f : Forest)
+    → IsOpen t → IsGoodAt (place_of t) nodes → HasSome (place_of t) nodes
     → Fine (after_event t) f
     → Fine t (one nodes f)
 unfolding after_event
 event_fine OpenTuplets.Nothing nodes f is good some fine = good_append outside nodes (music_of f) good fine
 event_fine (OpenTuplets.Single zero) nodes f is good some fine = absurd (omega (arith, is))
 event_fine (OpenTuplets.Single (suc r)) nodes f is good some fine =
-    let own = behind_one r f fine in record { taken = good_append _ nodes _ good own.0; some = some_append _ nodes _ some; behind = own.1 }
+    let own = behind_one r f fine in
+    record { taken = good_append _ nodes _ good own.0; some = some_append _ nodes _ some; behind = own.1 }
 event_fine (OpenTuplets.Nested zero outer) nodes f is good some fine = absurd (omega (arith, is.0))
 event_fine (OpenTuplets.Nested (suc r) zero) nodes f is good some fine = absurd (omega (arith, is.1))
 event_fine (OpenTuplets.Nested (suc r) (suc s)) nodes f is good some fine =
     let own = behind_two r s (suc s - suc r) f (omega (arith, is.1)) fine in
-    record { taken = good_append _ nodes _ good own.0; some = some_append _ nodes _ some; others = own.1; behind = own.2 }
+    record {
+      taken = good_append _ nodes _ good own.0;
+      some = some_append _ nodes _ some;
+      others = own.1;
+      behind = own.2;
+    }
 
-opens_fine : (t : OpenTuplets) (p q r : ℕ) (f : Forest) → IsOpen t → fits r t ≡ true → IsRatio p q → Fine (with_tuplet_opened r t) f
+opens_fine : (t : OpenTuplets) (p q r : ℕ) (f : Forest)
+    → IsOpen t → fits r t ≡ true → IsRatio p q → Fine (with_tuplet_opened r t) f
     → Fine t (group p q r (cut r f).taken (cut r f).left)
 unfolding fits
-opens_fine OpenTuplets.Nothing p q r f is fit ratio fine = group_good 1 false p q _ _ fine.some ratio fine.taken fine.behind
+opens_fine OpenTuplets.Nothing p q r f is fit ratio fine =
+    group_good 1 false p q _ _ fine.some ratio fine.taken fine.behind
 opens_fine (OpenTuplets.Single zero) p q r f is fit ratio fine = absurd (omega (arith, is))
 opens_fine (OpenTuplets.Single (suc l)) p q r f is fit ratio fine =
     let own = subst (λ b. Fine (cond b (OpenTuplets.Nested r (suc l)) (OpenTuplets.Single (suc l))) f) fit fine in
-    record { taken = group_good 0 true p q _ _ own.some ratio own.taken own.others; some = group_some 0 true p q _ _ own.some; behind = own.behind }
+    record {
+      taken = group_good 0 true p q _ _ own.some ratio own.taken own.others;
+      some = group_some 0 true p q _ _ own.some;
+      behind = own.behind;
+    }
 opens_fine (OpenTuplets.Nested inner outer) p q r f is fit ratio fine = absurd cc
 
 -- ---- the leaves of a measure
 abbrev pub WellNested : OpenTuplets → List Leaf → Type 0
 WellNested t [] = t ≡ OpenTuplets.Nothing
-WellNested t (Leaf.Event measure nodes ∷ ls) = IsOpen t × IsGoodAt (place_of t) nodes × HasSome (place_of t) nodes × WellNested (after_event t) ls
-WellNested t (Leaf.Opens measure p q r ∷ ls) = IsOpen t × (fits r t ≡ true) × IsRatio p q × WellNested (with_tuplet_opened r t) ls
+WellNested t (Leaf.Event measure nodes ∷ ls) =
+    IsOpen t × IsGoodAt (place_of t) nodes × HasSome (place_of t) nodes × WellNested (after_event t) ls
+WellNested t (Leaf.Opens measure p q r ∷ ls) =
+    IsOpen t × (fits r t ≡ true) × IsRatio p q × WellNested (with_tuplet_opened r t) ls
 
 nested_fine : (ls : List Leaf) (t : OpenTuplets) → WellNested t ls → Fine t (nest ls)
 nested_fine [] t h = subst (λ x. Fine x none_more) (sym h) refl
-nested_fine (Leaf.Event measure nodes ∷ ls) t h = event_fine t nodes (nest ls) h.0 h.1 h.2 (nested_fine ls (after_event t) h.3)
-nested_fine (Leaf.Opens measure p q r ∷ ls) t h = opens_fine t p q r (nest ls) h.0 h.1 h.2 (nested_fine ls (with_tuplet_opened r t) h.3)
+nested_fine (Leaf.Event measure nodes ∷ ls) t h =
+    event_fine t nodes (nest ls) h.0 h.1 h.2 (nested_fine ls (after_event t) h.3)
+nested_fine (Leaf.Opens measure p q r ∷ ls) t h =
+    opens_fine t p q r (nest ls) h.0 h.1 h.2 (nested_fine ls (with_tuplet_opened r t) h.3)
 
 pub nested_good : (ls : List Leaf) → WellNested OpenTuplets.Nothing ls → IsGoodAt outside (tree_of ls)
 nested_good ls h = nested_fine ls OpenTuplets.Nothing h

@@ -48,12 +48,14 @@ chords_reach clef [] e = tt
 chords_reach clef (g ∷ gs) e =
     let parts = or_parts (any_off clef g.heads) _ e in (all_reach clef g.heads parts.0, chords_reach clef gs parts.1)
 
-step_graces : (clef : Clef) (at : PlacedStep) (s : Step) → grace_faults_of clef at s ≡ [] → GracesReach clef (graces_in s)
+step_graces : (clef : Clef) (at : PlacedStep) (s : Step)
+    → grace_faults_of clef at s ≡ [] → GracesReach clef (graces_in s)
 unfolding graces_in grace_faults_of
 step_graces clef at (Step.Grace slash body) e = chords_reach clef body (no_fault _ _ at e)
 step_graces clef at _ e = tt
 
-waits_reach : (clef : Clef) (waits : Steps) → grace_faults clef waits ≡ [] → GracesReach clef (flat_map (λ s. graces_in s.step) waits)
+waits_reach : (clef : Clef) (waits : Steps)
+    → grace_faults clef waits ≡ [] → GracesReach clef (flat_map (λ s. graces_in s.step) waits)
 waits_reach clef [] e = tt
 waits_reach clef (s ∷ waits) e =
     all_both (λ (g : GraceChord). DoReach clef g.heads) _ _ (step_graces clef s s.step (none_before _ _ e))
@@ -99,11 +101,14 @@ shows_more : (named more : Bool) (last now next : Clef) → (more ≡ false → 
 shows_more false false last now next same h = h ∙ sym (same refl)
 shows_more _ _ last now next same h = refl
 
-clef_here : (first : InForce) (before : Steps) → Shows (any_clef (since_event before)) (event_clef first before) (force_at first before).clef
+clef_here : (first : InForce) (before : Steps)
+    → Shows (any_clef (since_event before)) (event_clef first before) (force_at first before).clef
 clef_here first [] = rw since_none refl
 clef_here first (s ∷ before) = rw (since_on s before) (by_event (is_event s.step) refl (clef_here first before)) where
-  by_event : (b : Bool) → is_event s.step ≡ b → Shows (any_clef (since_event before)) (event_clef first before) (force_at first before).clef
-      → Shows (any_clef (cond b [] (since_event before ++ s ∷ []))) (cond b (force_at first before).clef (event_clef first before))
+  by_event : (b : Bool) → is_event s.step ≡ b
+      → Shows (any_clef (since_event before)) (event_clef first before) (force_at first before).clef
+      → Shows (any_clef (cond b [] (since_event before ++ s ∷ [])))
+      (cond b (force_at first before).clef (event_clef first before))
       (force_after s.step (force_at first before)).clef
   by_event true e others = sym (ap (λ (f : InForce). f.clef) (event_force s.step (force_at first before) e))
   by_event false e others =
@@ -112,12 +117,14 @@ clef_here first (s ∷ before) = rw (since_on s before) (by_event (is_event s.st
       (shows_more _ (names_clef s.step) _ (force_at first before).clef _ same others)
 
 waiting_clef : (first : InForce) (before : Steps) (decos : List Deco)
-    → unwrap_or (pending_of (force_at first before) (since_event before) decos).changes.clef (event_clef first before) ≡ (force_at first before).clef
+    → unwrap_or (pending_of (force_at first before) (since_event before) decos).changes.clef (event_clef first before)
+    ≡ (force_at first before).clef
 unfolding pending_of changes_at
 waiting_clef first before decos = clef_here first before
 
 -- ---- all steps
-further_reach : (clef : Clef) (now : VoiceState) (at : PlacedStep) (seen : Bool) (measure n : ℕ) (rest : List TreeItem) → SignsReach clef rest
+further_reach : (clef : Clef) (now : VoiceState) (at : PlacedStep) (seen : Bool) (measure n : ℕ) (rest : List TreeItem)
+    → SignsReach clef rest
     → SignsReach clef (further_rests now at seen measure n ++ rest)
 unfolding rest_written
 further_reach clef now at seen measure zero rest h = h
@@ -129,16 +136,26 @@ step_reach : (first : InForce) (before behind : Steps) (at : PlacedStep) (s : St
     → SignsReach (event_clef first before) (tree_items_of (state_at first before) before at behind s ++ rest)
 unfolding tree_items_of sound_written rest_written is_event
 step_reach first before behind at (Step.Sound s) rest e h =
-    let now = force_at first before in let waits = since_event before in let clear = sound_clear (state_at first before) before behind at s e in
-    subst (λ (c : Clef). DoReach c (tied_heads s.heads behind) × GracesReach c (pending_of now waits s.decos).graces × SignsReach c rest)
-    (sym (waiting_clef first before s.decos))
-    (tied_reach now.clef s.heads behind (all_reach now.clef s.heads clear.near), waiting_reach now.clef now waits s.decos clear.graces, h)
+    let now = force_at first before in
+    let waits = since_event before in
+    let clear = sound_clear (state_at first before) before behind at s e in
+    subst (λ (c : Clef).
+    DoReach c (tied_heads s.heads behind) × GracesReach c (pending_of now waits s.decos).graces × SignsReach c rest)
+    (sym (waiting_clef first before s.decos)) (
+      tied_reach now.clef s.heads behind (all_reach now.clef s.heads clear.near),
+      waiting_reach now.clef now waits s.decos clear.graces,
+      h,
+    )
 step_reach first before behind at (Step.Measures seen count) rest e h =
     let place = state_at first before in let now = place.force in let waits = since_event before in
     let clear = rest_clear place before behind at seen count e in
     let others = further_rests place at seen (measure_of place + 1) (count - 1) ++ rest in
-    subst (λ (c : Clef). DoReach c [] × GracesReach c (pending_of now waits []).graces × SignsReach c others) (sym (waiting_clef first before []))
-    (tt, waiting_reach now.clef now waits [] clear.graces, further_reach now.clef place at seen (measure_of place + 1) (count - 1) rest h)
+    subst (λ (c : Clef). DoReach c [] × GracesReach c (pending_of now waits []).graces × SignsReach c others)
+    (sym (waiting_clef first before [])) (
+      tt,
+      waiting_reach now.clef now waits [] clear.graces,
+      further_reach now.clef place at seen (measure_of place + 1) (count - 1) rest h,
+    )
 step_reach first before behind at (Step.Tuplet p q r) rest e h =
     with_tuplet (λ z. SignsReach (event_clef first before) (z ++ rest)) (state_at first before) p q r (λ m x y z. h) h
 step_reach first before behind at _ rest e h = h
@@ -147,7 +164,9 @@ walk_reach : (first : InForce) (before behind : Steps) → faults_in first befor
     → SignsReach (event_clef first before) (signs first before behind)
 walk_reach first before [] e = tt
 walk_reach first before (at ∷ behind) e =
-    step_reach first before behind at at.step _ (none_before _ _ e) (walk_reach first (at ∷ before) behind (none_behind _ _ e))
+    step_reach first before behind at at.step _ (none_before _ _ e)
+    (walk_reach first (at ∷ before) behind (none_behind _ _ e))
 
-pub voice_reach : (first : InForce) (steps : Steps) → faults_in first [] steps ≡ [] → SignsReach first.clef (signs first [] steps)
+pub voice_reach : (first : InForce) (steps : Steps)
+    → faults_in first [] steps ≡ [] → SignsReach first.clef (signs first [] steps)
 voice_reach first steps e = walk_reach first [] steps e

@@ -26,7 +26,8 @@ cut_rows : (r : ℕ) (f : Forest) → rows (cut r f).taken ++ rows (cut r f).lef
 cut_rows zero f = refl
 cut_rows (suc r) none_more = refl
 cut_rows (suc r) (one nodes f) = ap (λ z. nodes ∷ z) (cut_rows r f)
-cut_rows (suc r) (group p q takes inner f) = append_assoc (rows inner) _ _ ∙ ap (λ z. rows inner ++ z) (cut_rows (suc r - takes) f)
+cut_rows (suc r) (group p q takes inner f) =
+    append_assoc (rows inner) _ _ ∙ ap (λ z. rows inner ++ z) (cut_rows (suc r - takes) f)
 
 pub nest_rows : (ls : List Leaf) → rows (nest ls) ≡ leaf_rows ls
 nest_rows [] = refl
@@ -48,7 +49,8 @@ module _ {A : Type 0} (step : Music-F A → A) where
   unfolding roll-Music denote.Hole.Carrier.roll
   at_grace body slash = fold-roll-Music A step (Music-F.Grace body slash)
 
-  pub at_tuplet : (p q : ℕ) (body : List Music) → fold-Music A step (music.Tuplet p q body) ≡ step (Music-F.Tuplet p q (map (fold-Music A step) body))
+  pub at_tuplet : (p q : ℕ) (body : List Music)
+      → fold-Music A step (music.Tuplet p q body) ≡ step (Music-F.Tuplet p q (map (fold-Music A step) body))
   unfolding roll-Music denote.Hole.Carrier.roll
   at_tuplet p q body = fold-roll-Music A step (Music-F.Tuplet p q body)
 
@@ -65,7 +67,9 @@ weight_of-cons m ms = sum_by-cons (λ n. n) (weight m) (map weight ms)
 forest_weight : (f : Forest) → weight_of (music_of f) ≡ sum_by weight_of (rows f)
 forest_weight none_more = refl
 forest_weight (one nodes f) =
-    weight_of-append nodes _ ∙ ap (λ n. weight_of nodes + n) (forest_weight f) ∙ sym (sum_by-cons weight_of nodes (rows f))
+    weight_of-append nodes _
+    ∙ ap (λ n. weight_of nodes + n) (forest_weight f)
+    ∙ sym (sum_by-cons weight_of nodes (rows f))
 forest_weight (group p q takes inner f) =
     let first = weight_of-cons (music.Tuplet p q (music_of inner)) (music_of f) in
     let own : weight (music.Tuplet p q (music_of inner)) ≡ weight_of (music_of inner) = at_tuplet weight_step p q _ in

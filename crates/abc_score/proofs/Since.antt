@@ -13,7 +13,8 @@ pub since_none : since_event [] ≡ []
 unfolding since_event
 since_none = refl
 
-pub since_on : (s : PlacedStep) (before : Steps) → since_event (s ∷ before) ≡ cond (is_event s.step) [] (since_event before ++ s ∷ [])
+pub since_on : (s : PlacedStep) (before : Steps)
+    → since_event (s ∷ before) ≡ cond (is_event s.step) [] (since_event before ++ s ∷ [])
 unfolding since_event
 since_on s before =
     ap reverse (take_while-cons (λ (s : PlacedStep). not (is_event s.step)) s before)
@@ -22,19 +23,24 @@ since_on s before =
       by_test true near = refl
       by_test false near = reverse-append (s ∷ []) near
 
-pub none_wait : (P : PlacedStep → Type 0) (at : PlacedStep) (before : Steps) → is_event at.step ≡ true → AllByRecursion P (since_event (at ∷ before))
+pub none_wait : (P : PlacedStep → Type 0) (at : PlacedStep) (before : Steps)
+    → is_event at.step ≡ true → AllByRecursion P (since_event (at ∷ before))
 none_wait P at before e = rw (since_on at before, e) tt
 
-pub more_wait : (P : PlacedStep → Type 0) (s : PlacedStep) (before : Steps) → AllByRecursion P (since_event before) → P s
+pub more_wait : (P : PlacedStep → Type 0) (s : PlacedStep) (before : Steps)
+    → AllByRecursion P (since_event before) → P s
     → AllByRecursion P (since_event (s ∷ before))
-more_wait P s before w h = rw since_on (either (AllByRecursion P) (is_event s.step) [] _ tt (all_both P (since_event before) _ w (h, tt)))
+more_wait P s before w h =
+    rw since_on (either (AllByRecursion P) (is_event s.step) [] _ tt (all_both P (since_event before) _ w (h, tt)))
 
-pub all_wait : (P : PlacedStep → Type 0) (before : Steps) → AllByRecursion P before → AllByRecursion P (since_event before)
+pub all_wait : (P : PlacedStep → Type 0) (before : Steps)
+    → AllByRecursion P before → AllByRecursion P (since_event before)
 all_wait P [] all = rw since_none tt
 all_wait P (s ∷ before) all = more_wait P s before (all_wait P before all.1) all.0
 
 -- what holds of all that each of the steps gives
-pub each_at : {X : Type 0} (P : X → Type 0) (Q : PlacedStep → Type 0) (of : PlacedStep → List X) → ((s : PlacedStep) → Q s → AllByRecursion P (of s))
+pub each_at : {X : Type 0} (P : X → Type 0) (Q : PlacedStep → Type 0) (of : PlacedStep → List X)
+    → ((s : PlacedStep) → Q s → AllByRecursion P (of s))
     → (waits : Steps) → AllByRecursion Q waits → AllByRecursion P (flat_map of waits)
 each_at P Q of h [] all = tt
 each_at P Q of h (s ∷ waits) all = all_both P (of s) _ (h s all.0) (each_at P Q of h waits all.1)

@@ -39,25 +39,32 @@ node_leaf (h ∷ hs) e = at_note leaves_step e
 
 plain_sings : (es : List Event) → Sings (map node_of es) (map plain es)
 plain_sings [] = sings_none
-plain_sings (e ∷ es) = sings_append (node_of e ∷ []) (map node_of es) (plain e ∷ []) (map plain es) one (plain_sings es) where
-  one : Sings (node_of e ∷ []) (plain e ∷ [])
-  one = record {
-    cores = λ qs ps w none.
-        ap (λ (l : Leafing). map core (in_row (l ∷ []) qs ps w).flats) (node_leaf e.heads e) ∙ ap (λ (gs : List Event). (e, gs) ∷ []) none;
-    none = λ qs ps w none. ap (λ (l : Leafing). (in_row (l ∷ []) qs ps w).waits.graces) (node_leaf e.heads e);
-  }
+plain_sings (e ∷ es) =
+    sings_append (node_of e ∷ []) (map node_of es) (plain e ∷ []) (map plain es) one (plain_sings es) where
+      one : Sings (node_of e ∷ []) (plain e ∷ [])
+      one = record {
+        cores = λ qs ps w none.
+            ap (λ (l : Leafing). map core (in_row (l ∷ []) qs ps w).flats) (node_leaf e.heads e)
+            ∙ ap (λ (gs : List Event). (e, gs) ∷ []) none;
+        none = λ qs ps w none. ap (λ (l : Leafing). (in_row (l ∷ []) qs ps w).waits.graces) (node_leaf e.heads e);
+      }
 
-graces_in_row : (gs : List GraceChord) → map (λ f. f.event) (in_row (map leaves_within (map grace_note gs)) 1 1 no_pending_leaf).flats ≡ map grace_of gs
+graces_in_row : (gs : List GraceChord)
+    → map (λ f. f.event) (in_row (map leaves_within (map grace_note gs)) 1 1 no_pending_leaf).flats ≡ map grace_of gs
 graces_in_row [] = refl
 graces_in_row (g ∷ gs) =
-    ap (λ (l : Leafing). map (λ f. f.event) (in_row (l ∷ map leaves_within (map grace_note gs)) 1 1 no_pending_leaf).flats) (at_note leaves_step (grace_of g))
+    ap (λ (l : Leafing).
+    map (λ f. f.event) (in_row (l ∷ map leaves_within (map grace_note gs)) 1 1 no_pending_leaf).flats)
+    (at_note leaves_step (grace_of g))
     ∙ ap (λ z. grace_of g ∷ z) (graces_in_row gs)
 
 -- graces go to the event behind them
 group_sings : (gs : List GraceChord) (slash : Bool) (e : Event) (es : List Event)
     → Sings (music.Grace (map grace_note gs) slash ∷ node_of e ∷ map node_of es) ((e, map grace_of gs) ∷ map plain es)
 group_sings gs slash e es =
-    let body = map grace_note gs in let more = map leaves_within (map node_of es) in let is_grace = at_grace leaves_step body slash in
+    let body = map grace_note gs in
+    let more = map leaves_within (map node_of es) in
+    let is_grace = at_grace leaves_step body slash in
     let grace : Leafing = leaves_step (Music-F.Grace (map leaves_within body) slash) in
     let own = node_leaf e.heads e in let behind = plain_sings es in
     let found = map (λ f. f.event) (in_row (map leaves_within body) 1 1 no_pending_leaf).flats in
@@ -70,7 +77,8 @@ group_sings gs slash e es =
           ∙ ap (λ (z : List Core). (e, map grace_of gs) ∷ z) (behind.cores qs ps no_pending_leaf refl);
       none = λ qs ps w none.
           ap (λ (l : Leafing). (in_row (l ∷ leaves_within (node_of e) ∷ more) qs ps w).waits.graces) is_grace
-          ∙ ap (λ (l : Leafing). (in_row (grace ∷ l ∷ more) qs ps w).waits.graces) own ∙ behind.none qs ps no_pending_leaf refl;
+          ∙ ap (λ (l : Leafing). (in_row (grace ∷ l ∷ more) qs ps w).waits.graces) own
+          ∙ behind.none qs ps no_pending_leaf refl;
     }
 
 graced_sings : (gs : List GraceChord) (slash : Bool) (es : List Event) → 1 ≤ length es
@@ -86,19 +94,24 @@ parts_some w waiting words id (v ∷ vs) some = omega arith
 
 nodes_sing : (w : WrittenEvent) (waiting : Pending) (words : Words) (id : ℕ) → 1 ≤ length w.values
     → Sings (nodes_of w waiting words id) (event_cores w waiting words id)
-nodes_sing w waiting words id some = graced_sings waiting.graces waiting.slash _ (parts_some w waiting words id w.values some)
+nodes_sing w waiting words id some =
+    graced_sings waiting.graces waiting.slash _ (parts_some w waiting words id w.values some)
 
 pub nodes_sung : (w : WrittenEvent) (waiting : Pending) (words : Words) (id : ℕ) → 1 ≤ length w.values
     → sung (nodes_of w waiting words id) ≡ event_cores w waiting words id
-nodes_sung w waiting words id some = let sings = nodes_sing w waiting words id some in sings.cores 1 1 no_pending_leaf refl
+nodes_sung w waiting words id some =
+    let sings = nodes_sing w waiting words id some in sings.cores 1 1 no_pending_leaf refl
 
-pub nodes_are_sung : (w : WrittenEvent) (waiting : Pending) (words : Words) (id : ℕ) → 1 ≤ length w.values → IsSung (nodes_of w waiting words id)
-nodes_are_sung w waiting words id some = subst (Sings _) (sym (nodes_sung w waiting words id some)) (nodes_sing w waiting words id some)
+pub nodes_are_sung : (w : WrittenEvent) (waiting : Pending) (words : Words) (id : ℕ)
+    → 1 ≤ length w.values → IsSung (nodes_of w waiting words id)
+nodes_are_sung w waiting words id some =
+    subst (Sings _) (sym (nodes_sung w waiting words id some)) (nodes_sing w waiting words id some)
 
 -- ---- their weight
 heads_weight : (heads : List Head) (e : Event) → e.heads ≡ heads → weight (note_or_rest heads e) ≡ max 1 (length heads)
 heads_weight [] e is = at_rest weight_step e
-heads_weight (h ∷ hs) e is = let long : length e.heads ≡ suc (length hs) = ap length is in at_note weight_step e ∙ (long ∙ omega arith)
+heads_weight (h ∷ hs) e is =
+    let long : length e.heads ≡ suc (length hs) = ap length is in at_note weight_step e ∙ (long ∙ omega arith)
 
 -- one event more, with as many heads
 one_more : (n m : ℕ) (e : Event) (es : List Event) → length e.heads ≡ m → weight_of (map node_of es) ≡ n * max 1 m
@@ -115,7 +128,8 @@ later_weight : (w : WrittenEvent) (verses id : ℕ) (vs : List Value)
 unfolding later_part
 later_weight w verses id [] = omega arith
 later_weight w verses id (v ∷ vs) =
-    one_more (length vs) (length w.heads) (later_part w verses id (some_more vs) v) (later_parts w verses (id + 1) vs) (length-map w.heads _)
+    one_more (length vs) (length w.heads) (later_part w verses id (some_more vs) v) (later_parts w verses (id + 1) vs)
+    (length-map w.heads _)
     (later_weight w verses (id + 1) vs)
 
 parts_weight : (w : WrittenEvent) (waiting : Pending) (words : Words) (id : ℕ) (vs : List Value)
@@ -123,7 +137,8 @@ parts_weight : (w : WrittenEvent) (waiting : Pending) (words : Words) (id : ℕ)
 unfolding first_part
 parts_weight w waiting words id [] = omega arith
 parts_weight w waiting words id (v ∷ vs) =
-    one_more (length vs) (length w.heads) (first_part w waiting words id (some_more vs) v) (later_parts w (length words) (id + 1) vs)
+    one_more (length vs) (length w.heads) (first_part w waiting words id (some_more vs) v)
+    (later_parts w (length words) (id + 1) vs)
     (length-map w.heads _) (later_weight w (length words) (id + 1) vs)
 
 abbrev pub heads_of_graces : List GraceChord → ℕ
@@ -144,8 +159,10 @@ group_weight (g ∷ gs) slash =
     omega (arith, weight_of-cons (music.Grace body slash) [], at_grace weight_step body slash, chords_weight (g ∷ gs))
 
 pub nodes_weight : (w : WrittenEvent) (waiting : Pending) (words : Words) (id : ℕ)
-    → weight_of (nodes_of w waiting words id) ≡ heads_of_graces waiting.graces + length w.values * max 1 (length w.heads)
+    → weight_of (nodes_of w waiting words id)
+    ≡ heads_of_graces waiting.graces + length w.values * max 1 (length w.heads)
 nodes_weight w waiting words id =
     let own = map node_of (parts w waiting words id w.values) in
-    weight_of-append (grace_nodes waiting.graces waiting.slash) own ∙ ap (λ n. n + weight_of own) (group_weight waiting.graces waiting.slash)
+    weight_of-append (grace_nodes waiting.graces waiting.slash) own
+    ∙ ap (λ n. n + weight_of own) (group_weight waiting.graces waiting.slash)
     ∙ ap (λ n. heads_of_graces waiting.graces + n) (parts_weight w waiting words id w.values)

@@ -43,9 +43,11 @@ module _ (P : Fault → Type 0) where
   grace_at clef at _ h = tt
 
   graces_at : (clef : Clef) (waits : Steps) → AllByRecursion AtStep waits → AllByRecursion P (grace_faults clef waits)
-  graces_at clef waits all = each_at P AtStep (λ s. grace_faults_of clef s s.step) (λ s h. grace_at clef s s.step h) waits all
+  graces_at clef waits all =
+      each_at P AtStep (λ s. grace_faults_of clef s s.step) (λ s h. grace_at clef s s.step h) waits all
 
-  step_at : (now : VoiceState) (before : Steps) (at : PlacedStep) (behind : Steps) (s : Step) → AllByRecursion AtStep (since_event before) → AtStep at
+  step_at : (now : VoiceState) (before : Steps) (at : PlacedStep) (behind : Steps) (s : Step)
+      → AllByRecursion AtStep (since_event before) → AtStep at
       → AllByRecursion P (faults_of now before at behind s)
   unfolding faults_of sound_faults
   step_at now before at behind (Step.Sound s) w h = search (all_both, if_at, graces_at)
@@ -56,7 +58,8 @@ module _ (P : Fault → Type 0) where
   step_at now before at behind (Step.Broken right dots) w h = if_at _ FaultKind.BrokenAlone at h
   step_at now before at behind _ w h = tt
 
-  faults_at : (first : InForce) (before behind : Steps) → AllByRecursion AtStep (since_event before) → AllByRecursion AtStep behind
+  faults_at : (first : InForce) (before behind : Steps)
+      → AllByRecursion AtStep (since_event before) → AllByRecursion AtStep behind
       → AllByRecursion P (faults_in first before behind)
   faults_at first before [] w h = tt
   faults_at first before (s ∷ behind) w h =
@@ -76,16 +79,19 @@ module _ (P : Weight → Type 0) where
   event_weighs : (waits : Steps) (at : PlacedStep) (n : ℕ) → AllByRecursion Weighs waits → Weighs at
       → AllByRecursion P (grace_weights waits ++ weight_at n at ∷ [])
   event_weighs waits at n w h =
-      all_both P (grace_weights waits) _ (each_at P Weighs (λ s. grace_weights_of s s.step) (λ s k. grace_weighs s s.step k) waits w) (h n, tt)
+      all_both P (grace_weights waits) _
+      (each_at P Weighs (λ s. grace_weights_of s s.step) (λ s k. grace_weighs s s.step k) waits w) (h n, tt)
 
-  step_weighs : (now : VoiceState) (before : Steps) (at : PlacedStep) (behind : Steps) (s : Step) → AllByRecursion Weighs (since_event before) → Weighs at
+  step_weighs : (now : VoiceState) (before : Steps) (at : PlacedStep) (behind : Steps) (s : Step)
+      → AllByRecursion Weighs (since_event before) → Weighs at
       → AllByRecursion P (weights_of now before at behind s)
   unfolding weights_of
   step_weighs now before at behind (Step.Sound s) w h = event_weighs (since_event before) at _ w h
   step_weighs now before at behind (Step.Measures seen count) w h = event_weighs (since_event before) at count w h
   step_weighs now before at behind _ w h = tt
 
-  weights_at : (first : InForce) (before behind : Steps) → AllByRecursion Weighs (since_event before) → AllByRecursion Weighs behind
+  weights_at : (first : InForce) (before behind : Steps)
+      → AllByRecursion Weighs (since_event before) → AllByRecursion Weighs behind
       → AllByRecursion P (weights_in first before behind)
   weights_at first before [] w h = tt
   weights_at first before (s ∷ behind) w h =
@@ -96,7 +102,8 @@ module _ (P : Weight → Type 0) where
 abbrev is_later : PlacedStep → PlacedStep → Bool
 is_later at s = stands_before (weight_at 0 at) (weight_at 0 s)
 
-later_fault : (at s : PlacedStep) → is_later at s ≡ true → AtStep (λ f. is_before f (crowd_fault (weight_at 0 at)) ≡ false) s
+later_fault : (at s : PlacedStep)
+    → is_later at s ≡ true → AtStep (λ f. is_before f (crowd_fault (weight_at 0 at)) ≡ false) s
 unfolding stands_before is_before
 later_fault at s h = λ kind. grind (arith, nat_tests)
 
@@ -104,26 +111,31 @@ later_weight : (n : ℕ) (at s : PlacedStep) → is_later at s ≡ true → Weig
 unfolding stands_before
 later_weight n at s h = λ m. grind (arith, nat_tests)
 
-each_later : (P : PlacedStep → Type 0) (at : PlacedStep) (behind : Steps) → ((s : PlacedStep) → is_later at s ≡ true → P s) → list_all (is_later at) behind ≡ true
+each_later : (P : PlacedStep → Type 0) (at : PlacedStep) (behind : Steps)
+    → ((s : PlacedStep) → is_later at s ≡ true → P s) → list_all (is_later at) behind ≡ true
     → AllByRecursion P behind
 each_later P at [] h all = tt
-each_later P at (s ∷ behind) h all = let parts = and_parts (is_later at s) _ all in (h s parts.0, each_later P at behind h parts.1)
+each_later P at (s ∷ behind) h all =
+    let parts = and_parts (is_later at s) _ all in (h s parts.0, each_later P at behind h parts.1)
 
 -- the weight of an event
 event_weight : (now : VoiceState) (before : Steps) (at : PlacedStep) (behind : Steps) (s : Step) → is_event s ≡ true
     → (n : ℕ) × Contains (weights_of now before at behind s) (weight_at n at)
 unfolding is_event weights_of
-event_weight now before at behind (Step.Sound s) e = (_, Contains-append_right (grace_weights (since_event before)) _ _ (0, omega arith, refl))
+event_weight now before at behind (Step.Sound s) e =
+    (_, Contains-append_right (grace_weights (since_event before)) _ _ (0, omega arith, refl))
 event_weight now before at behind (Step.Measures seen count) e =
     (count, Contains-append_right (grace_weights (since_event before)) _ _ (0, omega arith, refl))
 event_weight now before at behind _ e = absurd cc
 
-same_crowd : (ws : List Weight) (m n : ℕ) (at : PlacedStep) → crowd_up_to ws (weight_at m at) ≡ crowd_up_to ws (weight_at n at)
+same_crowd : (ws : List Weight) (m n : ℕ) (at : PlacedStep)
+    → crowd_up_to ws (weight_at m at) ≡ crowd_up_to ws (weight_at n at)
 unfolding stands_before
 same_crowd ws m n at = refl
 
 -- ---- a voice as far as it is judged
-pub record IsSoFar (faults hidden : List Fault) (all light : List Weight) (found : Option Fault) (old new : List Weight) : Type 0 where
+pub record IsSoFar (faults hidden : List Fault) (all light : List Weight) (found : Option Fault)
+    (old new : List Weight) : Type 0 where
   pub some : List Fault
   pub weights : List Weight
   pub first : found ≡ first_of some
@@ -132,11 +144,14 @@ pub record IsSoFar (faults hidden : List Fault) (all light : List Weight) (found
   pub weights_are : weights ++ light ≡ all
 
 pub none_so_far : (faults : List Fault) (all old : List Weight) → IsSoFar faults faults all all None old old
-none_so_far faults all old = record { some = []; weights = []; first = refl; faults_are = refl; put = sym (append-nil old); weights_are = refl }
+none_so_far faults all old =
+    record { some = []; weights = []; first = refl; faults_are = refl; put = sym (append-nil old); weights_are = refl }
 
 -- one step more
-more_so_far : {faults hidden rest : List Fault} {all light others : List Weight} {found mine next : Option Fault} {old new newer : List Weight}
-    → (own : List Fault) (put : List Weight) → IsSoFar faults hidden all light found old new → hidden ≡ own ++ rest → light ≡ put ++ others
+more_so_far : {faults hidden rest : List Fault} {all light others : List Weight} {found mine next : Option Fault}
+    {old new newer : List Weight}
+    → (own : List Fault) (put : List Weight) → IsSoFar faults hidden all light found old new → hidden ≡ own ++ rest
+    → light ≡ put ++ others
     → mine ≡ first_of own → next ≡ earlier found mine → newer ≡ new ++ map capped put
     → (h : IsSoFar faults rest all others next old newer) × ((w : Weight) → Contains put w → Contains h.weights w)
 more_so_far {mine = mine} {old = old} own put h parts weights is_mine is_next is_newer =
@@ -144,7 +159,10 @@ more_so_far {mine = mine} {old = old} own put h parts weights is_mine is_next is
       record {
         some = h.some ++ own;
         weights = h.weights ++ put;
-        first = is_next ∙ (ap (λ z. earlier z mine) h.first ∙ (ap (earlier (first_of h.some)) is_mine ∙ sym (first_append h.some own)));
+        first =
+            is_next
+            ∙ (ap (λ z. earlier z mine) h.first
+            ∙ (ap (earlier (first_of h.some)) is_mine ∙ sym (first_append h.some own)));
         faults_are = append_assoc h.some own _ ∙ (ap (λ z. h.some ++ z) (sym parts) ∙ h.faults_are);
         put = is_newer ∙ (ap (λ z. z ++ map capped put) h.put ∙ both);
         weights_are = append_assoc h.weights put _ ∙ (ap (λ z. h.weights ++ z) (sym weights) ∙ h.weights_are);
@@ -154,26 +172,33 @@ more_so_far {mine = mine} {old = old} own put h parts weights is_mine is_next is
 
 abbrev pub IsAt : InForce → Steps → Steps → Steps → Option Fault → List Weight → List Weight → Type 0
 IsAt first steps before behind found old new =
-    IsSoFar (faults_in first [] steps) (faults_in first before behind) (weights_in first [] steps) (weights_in first before behind) found old new
+    IsSoFar (faults_in first [] steps) (faults_in first before behind) (weights_in first [] steps)
+    (weights_in first before behind) found old new
 
 -- what stands at a step is put
 abbrev pub IsPut : InForce → Steps → PlacedStep → Steps → List Weight → Type 0
-IsPut first before at behind put = (w : Weight) → Contains (weights_of (state_at first before) before at behind at.step) w → Contains put w
+IsPut first before at behind put =
+    (w : Weight) → Contains (weights_of (state_at first before) before at behind at.step) w → Contains put w
 
-pub step_so_far : {at : PlacedStep} {now : VoiceState} {front back : Steps} {found mine next : Option Fault} {old new newer : List Weight}
-    → (first : InForce) (steps : Steps) (i : ℕ) → i < length steps → at ≡ get_or steps i at → now ≡ state_at first (reverse (take i steps))
+pub step_so_far : {at : PlacedStep} {now : VoiceState} {front back : Steps} {found mine next : Option Fault}
+    {old new newer : List Weight}
+    → (first : InForce) (steps : Steps) (i : ℕ) → i < length steps → at ≡ get_or steps i at
+    → now ≡ state_at first (reverse (take i steps))
     → front ≡ take i steps → back ≡ drop (i + 1) steps
-    → IsAt first steps (reverse (take i steps)) (drop i steps) found old new → mine ≡ first_of (faults_of now (reverse front) at back at.step)
+    → IsAt first steps (reverse (take i steps)) (drop i steps) found old new
+    → mine ≡ first_of (faults_of now (reverse front) at back at.step)
     → next ≡ earlier found mine → newer ≡ new ++ map capped (weights_of now (reverse front) at back at.step)
     → (h : IsAt first steps (at ∷ reverse (take i steps)) (drop (i + 1) steps) next old newer)
     × IsPut first (reverse (take i steps)) at (drop (i + 1) steps) h.weights
 step_so_far {at = at} first steps i less is is_now is_front is_back h is_mine is_next is_newer =
     let before = reverse (take i steps) in let behind = drop (i + 1) steps in let now = state_at first before in
     let there = at_front steps i at less is in
-    more_so_far (faults_of now before at behind at.step) (weights_of now before at behind at.step) h (ap (faults_in first before) there)
+    more_so_far (faults_of now before at behind at.step) (weights_of now before at behind at.step) h
+    (ap (faults_in first before) there)
     (ap (weights_in first before) there) (cc) is_next (cc)
 
-pub judged_whole : {faults : List Fault} {all : List Weight} {found : Option Fault} {old new : List Weight} → IsSoFar faults [] all [] found old new
+pub judged_whole : {faults : List Fault} {all : List Weight} {found : Option Fault} {old new : List Weight}
+    → IsSoFar faults [] all [] found old new
     → AreJudged faults all found old new
 judged_whole {faults = faults} {all = all} {old = old} h = record {
   some = faults;
@@ -184,20 +209,27 @@ judged_whole {faults = faults} {all = all} {old = old} h = record {
 }
 
 -- up to an event behind which nothing comes first
-pub judged_to : {at : PlacedStep} {behind : Steps} {found : Option Fault} {old new : List Weight} (first : InForce) (steps before : Steps)
-    → (h : IsAt first steps (at ∷ before) behind found old new) → IsPut first before at behind h.weights → IsCrowdedAt (drop (length old) new) at behind
+pub judged_to : {at : PlacedStep} {behind : Steps} {found : Option Fault} {old new : List Weight} (first : InForce)
+    (steps before : Steps)
+    → (h : IsAt first steps (at ∷ before) behind found old new) → IsPut first before at behind h.weights
+    → IsCrowdedAt (drop (length old) new) at behind
     → AreJudged (faults_in first [] steps) (weights_in first [] steps) found old new
 judged_to {at = at} {behind = behind} {old = old} {new = new} first steps before h put end =
-    let faults = faults_in first [] steps in let hidden = faults_in first (at ∷ before) behind in let light = weights_in first (at ∷ before) behind in
-    let own : drop (length old) new ≡ map capped h.weights = ap (drop (length old)) h.put ∙ drop-append_seam old (map capped h.weights) in
-    let event = event_weight (state_at first before) before at behind at.step end.event in let w = weight_at event.0 at in
+    let faults = faults_in first [] steps in
+    let hidden = faults_in first (at ∷ before) behind in
+    let light = weights_in first (at ∷ before) behind in
+    let own : drop (length old) new ≡ map capped h.weights =
+    ap (drop (length old)) h.put ∙ drop-append_seam old (map capped h.weights) in
+    let event = event_weight (state_at first before) before at behind at.step end.event in
+    let w = weight_at event.0 at in
     let few = ap (λ z. crowd_up_to z (weight_at 0 at)) own ∙ same_crowd (map capped h.weights) 0 (min 0 50001) at in
     let crowd : 50000 < crowd_up_to h.weights w =
     omega (arith, end.crowd, few, (crowd_capped h.weights (weight_at 0 at)).below, same_crowd h.weights event.0 0 at) in
     let IsLate : Fault → Type 0 = λ f. is_before f (crowd_fault w) ≡ false in
     let late = faults_at IsLate first (at ∷ before) behind (none_wait (AtStep IsLate) at before end.event)
     (each_later (AtStep IsLate) at behind (later_fault at) end.later) in
-    let farther = weights_at (IsBehind w) first (at ∷ before) behind (none_wait (Weighs (IsBehind w)) at before end.event)
+    let farther = weights_at (IsBehind w) first (at ∷ before) behind
+    (none_wait (Weighs (IsBehind w)) at before end.event)
     (each_later (Weighs (IsBehind w)) at behind (later_weight event.0 at) end.later) in
     let enough = enough_behind h.some hidden h.weights light w (put w event.1) crowd late farther in
     record {

@@ -4,7 +4,8 @@ use Rattle.std.specs.List.{All}
 use Rattle.abc_faults.proofs.Walks.{part_more}
 
 -- one element made of the first that was left
-pub mapped_taken : {X Y : Type 0} {xs ys : List X} {x : X} {new all : List Y} {y : Y} (f : X → Y) (done : List Y) → new ≡ done ++ y ∷ [] → y ≡ f x
+pub mapped_taken : {X Y : Type 0} {xs ys : List X} {x : X} {new all : List Y} {y : Y} (f : X → Y) (done : List Y)
+    → new ≡ done ++ y ∷ [] → y ≡ f x
     → xs ≡ x ∷ ys → done ++ map f xs ≡ all → new ++ map f ys ≡ all
 mapped_taken {xs = xs} {ys = ys} {y = y} f done put made cut so_far =
     part_more (y ∷ []) (map f ys) (map f xs) done _ _ (ap (map f) cut ∙ ap (λ z. z ∷ map f ys) (sym made)) put so_far

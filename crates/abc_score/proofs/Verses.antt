@@ -19,7 +19,8 @@ lower : (low high : ℕ) (vs : List Verse) → low ≤ high → DoLinesRise high
 lower low high [] less rise = tt
 lower low high (v ∷ vs) less rise = let first : high ≤ v.line = rise.0 in (omega arith, rise.1)
 
-with_verse : (current : Bool) (last : Option ℕ) (text : List ℕ) (low line : ℕ) (vs : List Verse) → low ≤ line → DoLinesRise line vs
+with_verse : (current : Bool) (last : Option ℕ) (text : List ℕ) (low line : ℕ) (vs : List Verse)
+    → low ≤ line → DoLinesRise line vs
     → DoLinesRise low (verse_if current last text line ++ vs)
 with_verse true (Some row) text low line vs less rise = (less, rise)
 with_verse true None text low line vs less rise = lower low line vs less rise
@@ -29,7 +30,8 @@ verses_rise : (id unnamed : List ℕ) (before behind : List BodyItem) (low : ℕ
     → DoLinesRise low (verses_from id unnamed before behind)
 verses_rise id unnamed before [] low rise = tt
 verses_rise id unnamed before (BodyItem.Words text line ∷ behind) low rise =
-    with_verse _ _ text low line _ rise.0 (verses_rise id unnamed (BodyItem.Words text line ∷ before) behind line rise.1)
+    with_verse _ _ text low line _ rise.0
+    (verses_rise id unnamed (BodyItem.Words text line ∷ before) behind line rise.1)
 verses_rise id unnamed before (item ∷ behind) low rise = verses_rise id unnamed (item ∷ before) behind low rise
 
 -- faults of verses from a line on: none of them, or the head of the list, comes before one on that line
@@ -44,7 +46,8 @@ not_earlier line other less = grind (arith, nat_tests)
 -- the head of such a list is its first
 head_first : (line : ℕ) (o : Option Fault) → IsFrom line o → earlier (Some (too_many line)) o ≡ Some (too_many line)
 head_first line None from = refl
-head_first line (Some f) from = cond-false _ _ _ (ap (λ g. is_before g (too_many line)) from.1 ∙ not_earlier line f.line from.0)
+head_first line (Some f) from =
+    cond-false _ _ _ (ap (λ g. is_before g (too_many line)) from.1 ∙ not_earlier line f.line from.0)
 
 higher : (low high : ℕ) (o : Option Fault) → low ≤ high → IsFrom high o → IsFrom low o
 higher low high None less from = tt

@@ -40,16 +40,21 @@ cut_some : (others : ℕ → Option (List Value)) (left : ℕ) (o : Option Value
     → 1 ≤ length (unwrap_or (cut_next others left o) [])
 cut_some others left None e = absurd cc
 cut_some others left (Some v) e = by_rest (others (left - units_of v)) e where
-  by_rest : (o : Option (List Value)) → is_none (option_map (λ vs. v ∷ vs) o) ≡ false → 1 ≤ length (unwrap_or (option_map (λ vs. v ∷ vs) o) [])
+  by_rest : (o : Option (List Value))
+      → is_none (option_map (λ vs. v ∷ vs) o) ≡ false → 1 ≤ length (unwrap_or (option_map (λ vs. v ∷ vs) o) [])
   by_rest None e = absurd cc
   by_rest (Some vs) e = omega arith
 
-parts_some : (num den : ℕ) → 1 ≤ num → is_none (parts_list num den) ≡ false → 1 ≤ length (unwrap_or (parts_list num den) [])
+parts_some : (num den : ℕ)
+    → 1 ≤ num → is_none (parts_list num den) ≡ false → 1 ≤ length (unwrap_or (parts_list num den) [])
 unfolding parts_list
 parts_some num den some e =
-    let left = 512 * num / den in let AreSome : Option (List Value) → Type 0 = λ o. is_none o ≡ false → 1 ≤ length (unwrap_or o []) in
+    let left = 512 * num / den in
+    let AreSome : Option (List Value) → Type 0 = λ o. is_none o ≡ false → 1 ≤ length (unwrap_or o []) in
     cond_both (left * den == 512 * num) _ _ AreSome
-    (λ is. cond_both (left == 0) _ _ AreSome (λ none. absurd (no_left left none is)) (λ none. cut_some (cut_in 7) left (longest_within left)))
+    (λ is.
+    cond_both (left == 0) _ _ AreSome (λ none. absurd (no_left left none is))
+    (λ none. cut_some (cut_in 7) left (longest_within left)))
     (λ is e. absurd cc) e where
       no_left : (left : ℕ) → (left == 0) ≡ true → (left * den == 512 * num) ≡ true → ⊥
       no_left left none is =
@@ -65,14 +70,18 @@ right_some : (o : Option PlacedStep) → 1 ≤ (right_factor o).num
 unfolding right_factor right_side
 right_some o = grind arith
 
-pub sound_parts : (now : VoiceState) (before behind : Steps) (at : PlacedStep) (s : WrittenSound) → IsGoodUnit now.force.unit → IsGoodSound s
+pub sound_parts : (now : VoiceState) (before behind : Steps) (at : PlacedStep) (s : WrittenSound)
+    → IsGoodUnit now.force.unit → IsGoodSound s
     → IsClearSound now before behind s → 1 ≤ length (sound_written now before at s behind).values
 unfolding sound_written written_length
 sound_parts now before behind at s unit good clear =
-    parts_some _ _ (mul-le 1 1 _ _ (mul-le 1 1 _ _ good.some (omega (arith, unit.0))) (mul-le 1 1 _ _ (left_some _) (right_some _))) clear.drawn
+    parts_some _ _
+    (mul-le 1 1 _ _ (mul-le 1 1 _ _ good.some (omega (arith, unit.0))) (mul-le 1 1 _ _ (left_some _) (right_some _)))
+    clear.drawn
 
 -- ---- what is in force
-over_good : (signs adds : List KeySign) (o : Option Key) → AreGoodSigns signs → GoodKeyIn o → AreGoodSigns (over_by signs adds o)
+over_good : (signs adds : List KeySign) (o : Option Key)
+    → AreGoodSigns signs → GoodKeyIn o → AreGoodSigns (over_by signs adds o)
 over_good signs adds None good whole = laid_good signs adds good
 over_good signs adds (Some key) good whole = whole
 
@@ -85,16 +94,19 @@ force_good (Step.Meter meter) now force good = record { key = force.key; meter =
 force_good (Step.Unit unit) now force good = record { key = force.key; meter = force.meter; unit = good }
 force_good _ now force good = force
 
-pub walk_force : (first : InForce) (before : Steps) → IsGoodForce first → AllByRecursion IsGoodPlacedStep before → IsGoodForce (force_at first before)
+pub walk_force : (first : InForce) (before : Steps)
+    → IsGoodForce first → AllByRecursion IsGoodPlacedStep before → IsGoodForce (force_at first before)
 walk_force first [] force good = force
-walk_force first (s ∷ before) force good = force_good s.step (force_at first before) (walk_force first before force good.1) good.0
+walk_force first (s ∷ before) force good =
+    force_good s.step (force_at first before) (walk_force first before force good.1) good.0
 
 -- ---- signs
 when_good : {X : Type 0} (P : X → Type 0) (b : Bool) (x : X) → P x → IfSome (some_if b x) P
 when_good P true x good = good
 when_good P false x good = tt
 
-step_whole : (now : VoiceState) (before behind : Steps) (at : PlacedStep) (s : Step) → IsGoodForce now.force → IsGoodStep s
+step_whole : (now : VoiceState) (before behind : Steps) (at : PlacedStep) (s : Step)
+    → IsGoodForce now.force → IsGoodStep s
     → faults_of now before at behind s ≡ [] → AllByRecursion IsWhole (tree_items_of now before at behind s)
 unfolding tree_items_of pending_of changes_at
 step_whole now before behind at (Step.Sound s) force good e =
@@ -107,10 +119,12 @@ step_whole now before behind at (Step.Measures seen count) force good e = (
   further_whole : (measure n : ℕ) → AllByRecursion IsWhole (further_rests now at seen measure n)
   further_whole measure zero = tt
   further_whole measure (suc n) = ((rest_values now at seen measure false, tt, tt), further_whole (measure + 1) n)
-step_whole now before behind at (Step.Tuplet p q r) force good e = with_tuplet (AllByRecursion IsWhole) now p q r (λ m x y z. (tt, tt)) tt
+step_whole now before behind at (Step.Tuplet p q r) force good e =
+    with_tuplet (AllByRecursion IsWhole) now p q r (λ m x y z. (tt, tt)) tt
 step_whole now before behind at _ force good e = tt
 
-pub walk_whole : (first : InForce) (before behind : Steps) → IsGoodForce first → AllByRecursion IsGoodPlacedStep before → AllByRecursion IsGoodPlacedStep behind
+pub walk_whole : (first : InForce) (before behind : Steps)
+    → IsGoodForce first → AllByRecursion IsGoodPlacedStep before → AllByRecursion IsGoodPlacedStep behind
     → faults_in first before behind ≡ [] → AllByRecursion IsWhole (signs first before behind)
 walk_whole first before [] force good goods e = tt
 walk_whole first before (at ∷ behind) force good goods e =
@@ -125,17 +139,23 @@ not_short n r e = grind (arith, nat_tests)
 pub tuplet_clear : (r : ℕ) (t : OpenTuplets) (at : PlacedStep) (behind : Steps) → tuplet_faults r t at behind ≡ []
     → (fits r t ≡ true) × (r ≤ sounds_behind behind)
 tuplet_clear r t at behind e = by_test (fits r t) e where
-  by_test : (b : Bool) → cond b (fault_if (nat_lt (sounds_behind behind) r) FaultKind.TupletShort at) (step_fault (misfit_of t) at ∷ []) ≡ []
+  by_test : (b : Bool)
+      → cond b (fault_if (nat_lt (sounds_behind behind) r) FaultKind.TupletShort at) (step_fault (misfit_of t) at ∷ [])
+      ≡ []
       → (b ≡ true) × (r ≤ sounds_behind behind)
   by_test true e = (refl, not_short _ r (no_fault _ _ _ e))
   by_test false e = absurd cc
 
-pub sounds_on : (s : PlacedStep) (rest : Steps) → sounds_behind (s ∷ rest) ≡ cond (ends_tuplets s.step) 0 (cond (is_sound s.step) 1 0 + sounds_behind rest)
+pub sounds_on : (s : PlacedStep) (rest : Steps)
+    → sounds_behind (s ∷ rest) ≡ cond (ends_tuplets s.step) 0 (cond (is_sound s.step) 1 0 + sounds_behind rest)
 unfolding sounds_behind
 sounds_on s rest =
-    let inside = before_first (λ (x : PlacedStep). ends_tuplets x.step) rest in let count : Steps → ℕ = count_by (λ (x : PlacedStep). is_sound x.step) in
-    ap count (take_while-cons (λ (x : PlacedStep). not (ends_tuplets x.step)) s rest) ∙ by_test inside (ends_tuplets s.step) where
-      by_test : (inside : Steps) (b : Bool) → count_by (λ (x : PlacedStep). is_sound x.step) (cond (not b) (s ∷ inside) [])
+    let inside = before_first (λ (x : PlacedStep). ends_tuplets x.step) rest in
+    let count : Steps → ℕ = count_by (λ (x : PlacedStep). is_sound x.step) in
+    ap count (take_while-cons (λ (x : PlacedStep). not (ends_tuplets x.step)) s rest)
+    ∙ by_test inside (ends_tuplets s.step) where
+      by_test : (inside : Steps) (b : Bool)
+          → count_by (λ (x : PlacedStep). is_sound x.step) (cond (not b) (s ∷ inside) [])
           ≡ cond b 0 (cond (is_sound s.step) 1 0 + count_by (λ (x : PlacedStep). is_sound x.step) inside)
       by_test inside true = refl
       by_test inside false = sum_by-cons (λ (x : PlacedStep). cond (is_sound x.step) 1 0) s inside
@@ -157,7 +177,9 @@ none_open (OpenTuplets.Single left) enough = absurd (omega (arith, enough.0, eno
 none_open (OpenTuplets.Nested inner outer) enough = absurd (omega (arith, enough.0, enough.1, enough.2))
 
 less_enough : (left n : ℕ) → left ≤ 1 + n → Enough (one_less left) n
-less_enough left n few = cond_both (nat_le left 1) _ _ (λ t. Enough t n) (λ e. tt) (λ e. let more = leb-false left 1 e in (omega arith, omega arith))
+less_enough left n few =
+    cond_both (nat_le left 1) _ _ (λ t. Enough t n) (λ e. tt)
+    (λ e. let more = leb-false left 1 e in (omega arith, omega arith))
 
 after_enough : (t : OpenTuplets) (n : ℕ) → Enough t (1 + n) → Enough (after_event t) n
 unfolding after_event
@@ -167,18 +189,21 @@ after_enough (OpenTuplets.Nested inner outer) n enough =
     cond_both (nat_le inner 1) _ _ (λ t. Enough t n) (λ e. less_enough outer n enough.2)
     (λ e. let more = leb-false inner 1 e in (omega arith, omega (arith, enough.1), omega (arith, enough.2)))
 
-opened_enough : (r : ℕ) (t : OpenTuplets) (n : ℕ) → fits r t ≡ true → 1 ≤ r → r ≤ n → Enough t n → Enough (with_tuplet_opened r t) n
+opened_enough : (r : ℕ) (t : OpenTuplets) (n : ℕ)
+    → fits r t ≡ true → 1 ≤ r → r ≤ n → Enough t n → Enough (with_tuplet_opened r t) n
 unfolding fits
 opened_enough r OpenTuplets.Nothing n fit some few enough = (some, few)
 opened_enough r (OpenTuplets.Single left) n fit some few enough =
-    subst (λ b. Enough (cond b (OpenTuplets.Nested r left) (OpenTuplets.Single left)) n) (sym fit) (some, leb-true r left fit, enough.1)
+    subst (λ b. Enough (cond b (OpenTuplets.Nested r left) (OpenTuplets.Single left)) n) (sym fit)
+    (some, leb-true r left fit, enough.1)
 opened_enough r (OpenTuplets.Nested inner outer) n fit some few enough = absurd cc
 
 pub default_some : (p r : ℕ) → 2 ≤ p → 1 ≤ or_default p r
 default_some p zero low = omega arith
 default_some p (suc r) low = omega arith
 
-pub next_enough : (now : VoiceState) (before behind : Steps) (at : PlacedStep) (s : Step) → IsGoodStep s → faults_of now before at behind s ≡ []
+pub next_enough : (now : VoiceState) (before behind : Steps) (at : PlacedStep) (s : Step)
+    → IsGoodStep s → faults_of now before at behind s ≡ []
     → Enough now.taking (cond (ends_tuplets s) 0 (cond (is_sound s) 1 0 + sounds_behind behind))
     → Enough (open_tuplets_after s now.taking) (sounds_behind behind)
 unfolding faults_of ends_tuplets is_sound open_tuplets_after
@@ -187,5 +212,6 @@ next_enough now before behind at (Step.Measures seen count) good e enough = tt
 next_enough now before behind at (Step.Bar bar) good e enough = tt
 next_enough now before behind at (Step.Tuplet p q r) good e enough =
     let clear = tuplet_clear (or_default p r) now.taking at behind e in
-    opened_enough _ now.taking _ clear.0 (default_some p r good.p_low) clear.1 (subst (Enough now.taking) (zero-add _) enough)
+    opened_enough _ now.taking _ clear.0 (default_some p r good.p_low) clear.1
+    (subst (Enough now.taking) (zero-add _) enough)
 next_enough now before behind at _ good e enough = subst (Enough now.taking) (zero-add _) enough

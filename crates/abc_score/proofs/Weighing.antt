@@ -1,4 +1,5 @@
--- What the signs of a voice weigh is at most what its steps weigh, and that of all voices is at most 50,000 where they aren't crowded.
+-- What the signs of a voice weigh is at most what its steps weigh,
+-- and that of all voices is at most 50,000 where they aren't crowded.
 use Rattle.std.proofs.Common.{⊎_elim, ◌≡◌, ◌∙◌, refl, sym, ap, subst, ℕ, zero, suc, ◌+◌, ◌-◌, ◌*◌, ◌≤◌, max, List, []}
 use Rattle.std.proofs.Common.{◌∷◌, sum_by, length, Bool}
 use Rattle.std.proofs.Common.{true, false, cond, Option, Some, None, mul_comm, mul-le-mul_left, arith}
@@ -39,7 +40,8 @@ abbrev pub sign_weight : TreeItem → ℕ
 sign_weight (TreeItem.Event w waiting) = written_weight w waiting
 sign_weight (TreeItem.Opens measure p q r) = 0
 
-pub leaves_weigh : (words : List Words) (k id : ℕ) (ss : List TreeItem) → sum_by weight_of (leaf_rows (leaves_from words k id ss)) ≡ sum_by sign_weight ss
+pub leaves_weigh : (words : List Words) (k id : ℕ) (ss : List TreeItem)
+    → sum_by weight_of (leaf_rows (leaves_from words k id ss)) ≡ sum_by sign_weight ss
 leaves_weigh words k id [] = refl
 leaves_weigh words k id (TreeItem.Event w waiting ∷ ss) =
     let others = leaf_rows (leaves_from words (k + 1) (id + length w.values) ss) in
@@ -58,10 +60,12 @@ unfolding graces_in grace_weights_of
 waits_step at (Step.Grace slash body) = omega arith
 waits_step at _ = refl
 
-waits_weight : (waits : Steps) → heads_of_graces (flat_map (λ s. graces_in s.step) waits) ≡ sum_by count (grace_weights waits)
+waits_weight : (waits : Steps)
+    → heads_of_graces (flat_map (λ s. graces_in s.step) waits) ≡ sum_by count (grace_weights waits)
 waits_weight [] = refl
 waits_weight (s ∷ waits) =
-    let left = sum_by-append (λ (g : GraceChord). length g.heads) (graces_in s.step) (flat_map (λ s. graces_in s.step) waits) in
+    let left =
+    sum_by-append (λ (g : GraceChord). length g.heads) (graces_in s.step) (flat_map (λ s. graces_in s.step) waits) in
     let right = sum_by-append count (grace_weights_of s s.step) (grace_weights waits) in
     omega (arith, left, waits_step s s.step, waits_weight waits, right)
 
@@ -79,32 +83,48 @@ length_tied [] behind = refl
 length_tied (h ∷ hs) behind = length-map (h ∷ hs) (with_tie (is_sound_tied behind))
 
 sound_weight : (now : VoiceState) (before behind : Steps) (at : PlacedStep) (s : WrittenSound) →
-    let w = sound_written now before at s behind in length w.values * max 1 (length w.heads) ≤ sound_count now before s behind
+    let w = sound_written now before at s behind in
+    length w.values * max 1 (length w.heads) ≤ sound_count now before s behind
 unfolding sound_written sound_count
 sound_weight now before behind at s =
-    let whole = written_length now.force.unit s before behind in let values = parts_list whole.num whole.den in let parts = unwrap_or values [] in
+    let whole = written_length now.force.unit s before behind in
+    let values = parts_list whole.num whole.den in
+    let parts = unwrap_or values [] in
     let heads = tied_heads s.heads behind in
-    let turned = mul_comm (length parts) (max 1 (length heads)) ∙ ap (λ n. max 1 n * length parts) (length_tied s.heads behind) in
-    subst (λ n. n ≤ max 1 (length s.heads) * count_parts values) (sym turned) (mul-le-mul_left (max 1 (length s.heads)) (few_values values))
+    let turned =
+    mul_comm (length parts) (max 1 (length heads)) ∙ ap (λ n. max 1 n * length parts) (length_tied s.heads behind) in
+    subst (λ n. n ≤ max 1 (length s.heads) * count_parts values) (sym turned)
+    (mul-le-mul_left (max 1 (length s.heads)) (few_values values))
 
-further_weight : (now : VoiceState) (at : PlacedStep) (seen : Bool) (measure n : ℕ) → sum_by sign_weight (further_rests now at seen measure n) ≡ n
+further_weight : (now : VoiceState) (at : PlacedStep) (seen : Bool) (measure n : ℕ)
+    → sum_by sign_weight (further_rests now at seen measure n) ≡ n
 unfolding rest_written
 further_weight now at seen measure zero = refl
 further_weight now at seen measure (suc n) =
-    let all = sum_by-cons sign_weight (TreeItem.Event (rest_written now at seen measure false) nothing_pending) (further_rests now at seen (measure + 1) n) in
+    let all = sum_by-cons sign_weight (TreeItem.Event (rest_written now at seen measure false) nothing_pending)
+    (further_rests now at seen (measure + 1) n) in
     omega (arith, all, further_weight now at seen (measure + 1) n)
 
 step_weight : (now : VoiceState) (before behind : Steps) (at : PlacedStep) (s : Step) → IsGoodStep s
     → sum_by sign_weight (tree_items_of now before at behind s) ≤ sum_by count (weights_of now before at behind s)
 unfolding tree_items_of weights_of rest_written
 step_weight now before behind at (Step.Sound s) good =
-    let waits = since_event before in let own = sound_weight now before behind at s in let graces = waiting_weight now.force waits s.decos in
-    omega (arith, own, graces, sum_by-append count (grace_weights waits) (weight_at (sound_count now before s behind) at ∷ []))
+    let waits = since_event before in
+    let own = sound_weight now before behind at s in
+    let graces = waiting_weight now.force waits s.decos in
+    omega (
+      arith,
+      own,
+      graces,
+      sum_by-append count (grace_weights waits) (weight_at (sound_count now before s behind) at ∷ []),
+    )
 step_weight now before behind at (Step.Measures seen n) good =
     let waits = since_event before in let first = rest_written now at seen (measure_of now) (parted_at now waits) in
-    let others = further_weight now at seen (measure_of now + 1) (n - 1) in let graces = waiting_weight now.force waits [] in
+    let others = further_weight now at seen (measure_of now + 1) (n - 1) in
+    let graces = waiting_weight now.force waits [] in
     let some : 1 ≤ n = good.0 in
-    let here = sum_by-cons sign_weight (TreeItem.Event first (pending_of now.force waits [])) (further_rests now at seen (measure_of now + 1) (n - 1)) in
+    let here = sum_by-cons sign_weight (TreeItem.Event first (pending_of now.force waits []))
+    (further_rests now at seen (measure_of now + 1) (n - 1)) in
     omega (arith, graces, others, here, sum_by-append count (grace_weights waits) (weight_at n at ∷ []), some)
 step_weight now before behind at (Step.Tuplet p q r) good =
     with_tuplet (λ z. sum_by sign_weight z ≤ 0) now p q r (λ m x y z. omega arith) (omega arith)
@@ -132,21 +152,32 @@ record Latest (ws : List Weight) : Type 0 where
   held : Contains ws weight
   behind : AllByRecursion (λ v. stands_before weight v ≡ false) ws
 
-later_all : (m w : Weight) (ws : List Weight) → stands_before m w ≡ true → AllByRecursion (λ v. stands_before m v ≡ false) ws
+later_all : (m w : Weight) (ws : List Weight)
+    → stands_before m w ≡ true → AllByRecursion (λ v. stands_before m v ≡ false) ws
     → AllByRecursion (λ v. stands_before w v ≡ false) ws
 unfolding stands_before
 later_all m w [] before all = tt
-later_all m w (v ∷ vs) before all = (below_later m.line m.column w.line w.column v.line v.column before all.0, later_all m w vs before all.1)
+later_all m w (v ∷ vs) before all =
+    (below_later m.line m.column w.line w.column v.line v.column before all.0, later_all m w vs before all.1)
 
 latest_of : (w : Weight) (ws : List Weight) → Latest (w ∷ ws)
 latest_of w [] = record { weight = w; held = (0, omega arith, refl); behind = (not_before_itself w, tt) }
 latest_of w (v ∷ vs) =
     let o = latest_of v vs in
-    ⊎_elim (λ e. record { weight = w; held = (0, omega arith, refl); behind = (not_before_itself w, later_all o.weight w (v ∷ vs) e o.behind) })
-    (λ e. record { weight = o.weight; held = Contains-append_right (w ∷ []) (v ∷ vs) o.weight o.held; behind = (e, o.behind) })
+    ⊎_elim (λ e. record {
+      weight = w;
+      held = (0, omega arith, refl);
+      behind = (not_before_itself w, later_all o.weight w (v ∷ vs) e o.behind);
+    })
+    (λ e. record {
+      weight = o.weight;
+      held = Contains-append_right (w ∷ []) (v ∷ vs) o.weight o.held;
+      behind = (e, o.behind);
+    })
     (cases_Bool (stands_before o.weight w))
 
-all_count : (m : Weight) (ws : List Weight) → AllByRecursion (λ v. stands_before m v ≡ false) ws → crowd_up_to ws m ≡ sum_by count ws
+all_count : (m : Weight) (ws : List Weight)
+    → AllByRecursion (λ v. stands_before m v ≡ false) ws → crowd_up_to ws m ≡ sum_by count ws
 all_count m [] all = refl
 all_count m (w ∷ ws) all =
     let here : count_up_to m w ≡ w.count = ap (λ b. cond b 0 w.count) all.0 in
@@ -157,5 +188,6 @@ not_crowded [] e = omega arith
 not_crowded (w ∷ ws) e =
     let o = latest_of w ws in let whole = all_count o.weight (w ∷ ws) o.behind in
     ⊎_elim (λ more.
-    let held = subst (λ fs. Contains fs (crowd_fault o.weight)) e (crowd_held (w ∷ ws) o.weight o.held more) in absurd (omega (arith, held.1)))
+    let held = subst (λ fs. Contains fs (crowd_fault o.weight)) e (crowd_held (w ∷ ws) o.weight o.held more) in
+    absurd (omega (arith, held.1)))
     (λ few. omega (arith, few, whole)) (cases_lt 50000 (crowd_up_to (w ∷ ws) o.weight))

@@ -56,26 +56,33 @@ each_words : (id unnamed : List ℕ) (items : List BodyItem) (ss : List TreeItem
 unfolding sung_words
 each_words id unnamed items ss j less =
     let rows = music_rows id unnamed items (sung_notes_from 0 ss) in let verses = verse_count id unnamed items in
-    ap length (unwrap_or-slice_get _ j [] ∙ get_or-map-range_with_len (event_words rows verses) 0 (event_count ss) j j [] less (omega arith))
+    ap length
+    (unwrap_or-slice_get _ j []
+    ∙ get_or-map-range_with_len (event_words rows verses) 0 (event_count ss) j j [] less (omega arith))
     ∙ length-map-range_with_len (λ verse. word_of (verse_sung rows verse) j) 0 verses
 
 -- leaves that have the same words at each place are the same
-leaves_alike : (words others : List Words) (k id : ℕ) (ss : List TreeItem) → ((j : ℕ) → words_of_event words j ≡ words_of_event others j)
+leaves_alike : (words others : List Words) (k id : ℕ) (ss : List TreeItem)
+    → ((j : ℕ) → words_of_event words j ≡ words_of_event others j)
     → leaves_from words k id ss ≡ leaves_from others k id ss
 leaves_alike words others k id [] same = refl
-leaves_alike words others k id (TreeItem.Event w waiting ∷ ss) same = cc (same k, leaves_alike words others (k + 1) (id + length w.values) ss same)
+leaves_alike words others k id (TreeItem.Event w waiting ∷ ss) same =
+    cc (same k, leaves_alike words others (k + 1) (id + length w.values) ss same)
 leaves_alike words others k id (TreeItem.Opens measure p q r ∷ ss) same = cc (leaves_alike words others k id ss same)
 
-no_words : (rows : List MusicRow) (events : List ℕ) (k : ℕ) → words_of_event [] k ≡ words_of_event (map (event_words rows 0) events) k
+no_words : (rows : List MusicRow) (events : List ℕ) (k : ℕ)
+    → words_of_event [] k ≡ words_of_event (map (event_words rows 0) events) k
 no_words rows (event ∷ events) (suc k) = no_words rows events k
 no_words rows _ _ = refl
 
 -- without verses it is the same whether each event has an empty row of words or none
-pub leaves_unsung : (id unnamed : List ℕ) (items : List BodyItem) (ss : List TreeItem) → verse_count id unnamed items ≡ 0
+pub leaves_unsung : (id unnamed : List ℕ) (items : List BodyItem) (ss : List TreeItem)
+    → verse_count id unnamed items ≡ 0
     → leaves_of [] ss ≡ leaves_of (sung_words id unnamed items ss) ss
 unfolding sung_words
 leaves_unsung id unnamed items ss none =
-    rw none (leaves_alike [] _ 0 0 ss (no_words (music_rows id unnamed items (sung_notes_from 0 ss)) (range_with_len 0 (event_count ss))))
+    rw none (leaves_alike [] _ 0 0 ss
+    (no_words (music_rows id unnamed items (sung_notes_from 0 ss)) (range_with_len 0 (event_count ss))))
 
 -- ---- a voice
 
@@ -103,79 +110,106 @@ module _ (header : Header) (items : List BodyItem) (n : ℕ) where
       let long : length (bars_of v.steps n) ≡ n = length-map-range_with_len (bar_of v.steps) 0 n in
       voice_rise (words_in v) v.first _ v.steps (omega (arith, long, is.own))
 
-  leaves_light : (v : ReadVoice) → IsKnown v → sum_by weight_of (leaf_rows (leaves_with v)) ≤ sum_by count (voice_weights v)
+  leaves_light : (v : ReadVoice)
+      → IsKnown v → sum_by weight_of (leaf_rows (leaves_with v)) ≤ sum_by count (voice_weights v)
   leaves_light v is =
       subst (λ k. k ≤ sum_by count (voice_weights v)) (sym (leaves_weigh (words_in v) 0 0 (signs v.first [] v.steps)))
       (signs_weigh v.first [] v.steps is.read.steps)
 
-  weight_high : (v : ReadVoice) → IsKnown v → voice_weight (voice_by_header header items n v) ≤ sum_by count (voice_weights v)
+  weight_high : (v : ReadVoice)
+      → IsKnown v → voice_weight (voice_by_header header items n v) ≤ sum_by count (voice_weights v)
   unfolding voice_by_header written_measures
   weight_high v is =
-      subst (λ k. k ≤ sum_by count (voice_weights v)) (sym (measures_weigh (leaves_with v) (bars_of v.steps n) (rise_in v is))) (leaves_light v is)
+      subst (λ k. k ≤ sum_by count (voice_weights v))
+      (sym (measures_weigh (leaves_with v) (bars_of v.steps n) (rise_in v is))) (leaves_light v is)
 
-  body_good : (v : ReadVoice) → IsKnown v → sum_by count (voice_weights v) ≤ 50000 → (k : ℕ) → IsGoodBody (tree_of (leaves_in k (leaves_with v)))
+  body_good : (v : ReadVoice)
+      → IsKnown v → sum_by count (voice_weights v) ≤ 50000 → (k : ℕ)
+      → IsGoodBody (tree_of (leaves_in k (leaves_with v)))
   body_good v is few k =
-      let ls = leaves_in k (leaves_with v) in let drawn = recursion_from_All HasDrawableValues _ (signs_drawn v.first [] v.steps) in
+      let ls = leaves_in k (leaves_with v) in
+      let drawn = recursion_from_All HasDrawableValues _ (signs_drawn v.first [] v.steps) in
       record {
         good = nested_good ls (all_full (words_in v) k v.first v.steps is.read.first is.read.steps is.clear.own drawn);
-        few = subst (λ n. n ≤ 50000) (sym (tree_weight ls)) (le_trans (weight_in k (leaves_with v)) (le_trans (leaves_light v is) few));
+        few =
+            subst (λ n. n ≤ 50000) (sym (tree_weight ls))
+            (le_trans (weight_in k (leaves_with v)) (le_trans (leaves_light v is) few));
       }
 
   voice_good : (v : ReadVoice) → HasGoodValues header → n ≤ 2000 → IsKnown v → sum_by count (voice_weights v) ≤ 50000
       → IsGoodVoice (voice_by_header header items n v)
   unfolding voice_by_header written_measures
   voice_good v good most is few =
-      let ss = signs v.first [] v.steps in let words = words_in v in let verses = verse_count v.start.id (unnamed_of header) items in
+      let ss = signs v.first [] v.steps in
+      let words = words_in v in
+      let verses = verse_count v.start.id (unnamed_of header) items in
       let ls = leaves_with v in let bars = bars_of v.steps n in let events = events_of (measures_in ls bars) in
       let whole = walk_whole v.first [] v.steps is.read.first tt is.read.steps is.clear.own in
       let sings = sym (measures_sing ls bars (rise_in v is) (signs_sung words 0 0 ss whole)) in
       let reach = signs_reach words 0 0 v.first.clef ss whole (voice_reach v.first v.steps is.clear.own) in
-      let good_words = signs_good words verses 0 0 ss whole (λ j less. each_words v.start.id (unnamed_of header) items ss j (omega (arith, less))) in
+      let good_words = signs_good words verses 0 0 ss whole
+      (λ j less. each_words v.start.id (unnamed_of header) items ss j (omega (arith, less))) in
       record {
         few_measures = subst (λ k. k ≤ 2000) (sym (length_voice header items n v)) most;
-        few_verses = few_verses (verses_of_voice v.start.id (unnamed_of header) items) (row_count items) is.clear.verses;
+        few_verses =
+            few_verses (verses_of_voice v.start.id (unnamed_of header) items) (row_count items) is.clear.verses;
         near = omega arith;
         few_heads = le_trans (weight_high v is) few;
         key = good.key;
         meter = good.meter;
-        bodies = All-map (λ (m : Measure). IsGoodBody m.body) (measure_of_leaves ls bars) (range_with_len 0 _) (λ k d less. body_good v is few _);
+        bodies =
+            All-map (λ (m : Measure). IsGoodBody m.body) (measure_of_leaves ls bars) (range_with_len 0 _)
+            (λ k d less. body_good v is few _);
         events = events_of_cores verses events (subst (AllByRecursion (IsGoodCore verses)) sings good_words);
-        reach = subst (λ clef. AreInReach clef events) is.read.clef (reach_of v.first.clef events (subst (CoresReach v.first.clef) sings reach));
+        reach =
+            subst (λ clef. AreInReach clef events) is.read.clef
+            (reach_of v.first.clef events (subst (CoresReach v.first.clef) sings reach));
         ids = count_of 0 events (subst (CoresCount 0) sings (signs_count words 0 0 ss whole));
       }
 
   -- ---- all voices
   voices_good : (voices : List ReadVoice) → HasGoodValues header → n ≤ 2000 → AllByRecursion IsKnown voices
-      → sum_by count (flat_map voice_weights voices) ≤ 50000 → AllByRecursion IsGoodVoice (map (voice_by_header header items n) voices)
+      → sum_by count (flat_map voice_weights voices) ≤ 50000
+      → AllByRecursion IsGoodVoice (map (voice_by_header header items n) voices)
   voices_good [] good most all few = tt
   voices_good (v ∷ voices) good most all few =
-      let both = sum_by-append count (voice_weights v) (flat_map voice_weights voices) in
-      (voice_good v good most all.0 (omega (arith, both, few)), voices_good voices good most all.1 (omega (arith, both, few)))
+      let both = sum_by-append count (voice_weights v) (flat_map voice_weights voices) in (
+        voice_good v good most all.0 (omega (arith, both, few)),
+        voices_good voices good most all.1 (omega (arith, both, few)),
+      )
 
   voices_weigh : (voices : List ReadVoice) → AllByRecursion IsKnown voices
       → sum_by voice_weight (map (voice_by_header header items n) voices) ≤ sum_by count (flat_map voice_weights voices)
   voices_weigh [] all = omega arith
   voices_weigh (v ∷ voices) all =
-      let first = sum_by-cons voice_weight (voice_by_header header items n v) (map (voice_by_header header items n) voices) in
+      let first =
+      sum_by-cons voice_weight (voice_by_header header items n v) (map (voice_by_header header items n) voices) in
       let both = sum_by-append count (voice_weights v) (flat_map voice_weights voices) in
       omega (arith, first, weight_high v all.0, voices_weigh voices all.1, both)
 
-  all_known : (voices : List ReadVoice) → AllByRecursion IsWellRead voices → AllByRecursion (IsClearVoice (unnamed_of header) items) voices
+  all_known : (voices : List ReadVoice)
+      → AllByRecursion IsWellRead voices → AllByRecursion (IsClearVoice (unnamed_of header) items) voices
       → AllByRecursion (λ (v : ReadVoice). own_measures v ≤ n) voices → AllByRecursion IsKnown voices
   all_known [] reads clears owns = tt
   all_known (v ∷ voices) reads clears owns =
       (record { read = reads.0; clear = clears.0; own = owns.0 }, all_known voices reads.1 clears.1 owns.1)
 
-all_read : (header : Header) (items : List BodyItem) (starts : List VoiceStart) → HasGoodValues header → All IsGoodItem items
+all_read : (header : Header) (items : List BodyItem) (starts : List VoiceStart)
+    → HasGoodValues header → All IsGoodItem items
     → AllByRecursion IsWellRead (map (voice_read header items) starts)
 all_read header items [] good given = tt
 all_read header items (start ∷ starts) good given =
     let steps = steps_good start.id (bytes_eq start.id (unnamed_of header)) items given in (
-      record { clef = refl; first = record { key = good.key; meter = good.meter; unit = good.unit }; steps = recursion_from_All IsGoodPlacedStep _ steps },
+      record {
+        clef = refl;
+        first = record { key = good.key; meter = good.meter; unit = good.unit };
+        steps = recursion_from_All IsGoodPlacedStep _ steps;
+      },
       all_read header items starts good given,
     )
 
-pub good_score : (header : Header) (items : List BodyItem) (flow : Bool) → HasGoodValues header → All IsGoodItem items → length (voice_ids header items) ≤ 16
+pub good_score : (header : Header) (items : List BodyItem) (flow : Bool)
+    → HasGoodValues header → All IsGoodItem items → length (voice_ids header items) ≤ 16
     → score_faults header items ≡ [] → IsGoodScore (score_of header items flow)
 unfolding score_with
 good_score header items flow good given few e =
@@ -184,7 +218,8 @@ good_score header items flow good given few e =
     let clears = voices_clear unnamed items voices e in let faults = flat_map (voice_faults unnamed items) voices in
     let light = not_crowded (flat_map voice_weights voices) (none_behind faults _ e) in
     let within = few_measures unnamed items voices clears in let rise = forced_rise flow voices n in
-    let known = all_known header items n voices (all_read header items (starts_of header items) good given) clears (own_most voices) in
+    let known = all_known header items n voices (all_read header items (starts_of header items) good given) clears
+    (own_most voices) in
     record {
       few_voices = omega (arith, length-map voices (voice_by_header header items n), few_read header items few);
       few_measures = within;

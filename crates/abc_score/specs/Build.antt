@@ -1,4 +1,5 @@
--- What the building of a tune's score answers: the score of a body without fault, or the first fault, of the body and only then of the score.
+-- What the building of a tune's score answers: the score of a body without fault, or the first fault, of the body and
+-- only then of the score.
 use Rattle.std.specs.Prelude.{◌≡◌, ◌⊎◌, ⊤, List, drop, Bool, Some, None}
 use Rattle.abc_lines.specs.declared.book.Line.{Line}
 use Rattle.abc_lines.specs.declared.book.TuneText.{TuneText}
@@ -31,7 +32,8 @@ pub record HasScoreFault (header : Header) (tune : TuneText) (fault : Fault) : T
 
 abbrev pub IsFaultOf : Header → TuneText → TuneError → Type 0
 IsFaultOf header tune TuneError.Memory = ⊤
-IsFaultOf header tune (TuneError.Fault fault) = HasFault header (body_lines header tune) fault ⊎ HasScoreFault header tune fault
+IsFaultOf header tune (TuneError.Fault fault) =
+    HasFault header (body_lines header tune) fault ⊎ HasScoreFault header tune fault
 
 -- the same of a body that is read
 abbrev pub IsErrorIn : Header → List BodyItem → TuneError → Type 0

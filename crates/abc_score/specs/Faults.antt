@@ -19,7 +19,8 @@ abbrev pub voice_weights : ReadVoice → List Weight
 voice_weights v = weights_in v.first [] v.steps
 
 abbrev pub faults_of_voices : List ℕ → List BodyItem → List ReadVoice → List Fault
-faults_of_voices unnamed items voices = flat_map (voice_faults unnamed items) voices ++ crowded (flat_map voice_weights voices)
+faults_of_voices unnamed items voices =
+    flat_map (voice_faults unnamed items) voices ++ crowded (flat_map voice_weights voices)
 
 abbrev pub score_faults : Header → List BodyItem → List Fault
 score_faults header items = faults_of_voices (unnamed_of header) items (voices_read header items)

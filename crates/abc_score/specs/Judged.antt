@@ -17,7 +17,8 @@ use Rattle.abc_score.specs.declared.voices.ReadVoice.{ReadVoice}
 
 -- what is kept as whole is all signs of the voice, and how many measures it has
 abbrev pub AreItemsOf : ReadVoice → VoiceItems → Type 0
-AreItemsOf v kept = kept.whole ≡ true → (kept.signs ≡ signs v.first [] v.steps) × (kept.measures ≡ measures_begun (reverse v.steps))
+AreItemsOf v kept =
+    kept.whole ≡ true → (kept.signs ≡ signs v.first [] v.steps) × (kept.measures ≡ measures_begun (reverse v.steps))
 
 abbrev pub HasKept : JudgedVoice → Type 0
 HasKept j = AreItemsOf j.read j.kept
@@ -64,7 +65,8 @@ pub record AreEnough (some faults : List Fault) (put all : List Weight) : Type 0
   pub light : (w : Weight) → IsWithin all put w ⊎ HasCrowd put (crowd_fault w)
 
 -- the first of enough faults is found, and enough weights are put
-pub record AreJudged (faults : List Fault) (all : List Weight) (found : Option Fault) (old new : List Weight) : Type 0 where
+pub record AreJudged (faults : List Fault) (all : List Weight) (found : Option Fault)
+    (old new : List Weight) : Type 0 where
   pub some : List Fault
   pub weights : List Weight
   pub first : found ≡ first_of some

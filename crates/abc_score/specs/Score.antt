@@ -38,7 +38,8 @@ unfoldable pub sung_words : List ℕ → List ℕ → List BodyItem → List Tre
 sung_words id unnamed items signs = words_of_events id unnamed items (sung_notes_from 0 signs) (event_count signs)
 
 unfoldable pub written_measures : List ℕ → List BodyItem → ℕ → ReadVoice → List Measure
-written_measures unnamed items n v = let all = signs v.first [] v.steps in measures_of all (sung_words v.start.id unnamed items all) (bars_of v.steps n)
+written_measures unnamed items n v =
+    let all = signs v.first [] v.steps in measures_of all (sung_words v.start.id unnamed items all) (bars_of v.steps n)
 
 -- a voice with so many measures: its own, and empty ones behind them
 unfoldable pub voice_by_header : Header → List BodyItem → ℕ → ReadVoice → Voice

@@ -13,7 +13,8 @@ abbrev pub first_force : Header → VoiceStart → InForce
 first_force header start = record { clef = start.clef; key = header.key; meter = header.meter; unit = header.unit }
 
 abbrev pub voice_read : Header → List BodyItem → VoiceStart → ReadVoice
-voice_read header items start = record { start = start; first = first_force header start; steps = steps_of start.id (unnamed_of header) items }
+voice_read header items start =
+    record { start = start; first = first_force header start; steps = steps_of start.id (unnamed_of header) items }
 
 -- in order of first mention
 abbrev pub voices_read : Header → List BodyItem → List ReadVoice

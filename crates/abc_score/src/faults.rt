@@ -31,7 +31,8 @@ fn voice_fault(
 ) -> Result<(Option<Fault>, VoiceItems), Memory>
     requires good { IsGoodRead v.now }
     requires rise { DoWordsRise items.now }
-    ensures judged { IfOk result (λ r. AreJudged (voice_faults unnamed.now items.now v.now) (voice_weights v.now) r.0 weights.old weights.new) }
+    ensures judged { IfOk result
+        (λ r. AreJudged (voice_faults unnamed.now items.now v.now) (voice_weights v.now) r.0 weights.old weights.new) }
     ensures kept { IfOk result (λ r. AreItemsOf v.now r.1) }
 {
     let (own, kept) = judge_voice(alloc, weights, v)?;
@@ -49,7 +50,9 @@ fn judge_voices(
 ) -> Result<JudgedVoices, Memory>
     requires good { All IsGoodRead voices }
     requires rise { DoWordsRise items.now }
-    ensures judged { IfOk result (λ j. AreJudged (flat_map (voice_faults unnamed.now items.now) voices) (flat_map voice_weights voices) j.fault weights.old weights.new) }
+    ensures judged { IfOk result (λ j.
+        AreJudged (flat_map (voice_faults unnamed.now items.now) voices) (flat_map voice_weights voices) j.fault
+        weights.old weights.new) }
     ensures reads { IfOk result (λ j. reads_of j.voices ≡ voices) }
     ensures kept { IfOk result (λ j. All HasKept j.voices) }
 {

@@ -60,7 +60,11 @@ fn keep(
     requires further { now.now.counts.further ≤ 2 ^ 46 }
     requires force { IsGoodForce now.now.force }
     requires parts { parts ≡ parts_at now.now.force.unit (reverse before.now) at.now.step behind.now }
-    ensures { OnOk result (kept.new.whole ≡ true → (kept.old.whole ≡ true) × (kept.new.signs ≡ kept.old.signs ++ tree_items_of now.now (reverse before.now) at.now behind.now at.now.step)) }
+    ensures { OnOk result
+        (kept.new.whole ≡ true
+        → (kept.old.whole ≡ true)
+        × (kept.new.signs
+        ≡ kept.old.signs ++ tree_items_of now.now (reverse before.now) at.now behind.now at.now.step)) }
 {
     if !kept.whole {
         return Ok(());
@@ -150,7 +154,8 @@ pub(crate) fn judge_voice(
     v: &ReadVoice,
 ) -> Result<(Option<Fault>, VoiceItems), Memory>
     requires { IsGoodRead v.now }
-    ensures judged { IfOk result (λ r. AreJudged (faults_in v.now.first [] v.now.steps) (voice_weights v.now) r.0 weights.old weights.new) }
+    ensures judged { IfOk result
+        (λ r. AreJudged (faults_in v.now.first [] v.now.steps) (voice_weights v.now) r.0 weights.old weights.new) }
     ensures kept { IfOk result (λ r. AreItemsOf v.now r.1) }
 {
     let steps = v.steps.as_slice();

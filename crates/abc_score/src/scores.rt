@@ -34,7 +34,8 @@ fn words_where_sung(
     signs: &[TreeItem],
 ) -> Result<Row<Row<Option<Text>>>, Memory>
     requires { verses ≡ verse_count v.now.start.id unnamed.now items.now }
-    ensures { IfOk result (λ words. leaves_of words signs.now ≡ leaves_of (sung_words v.now.start.id unnamed.now items.now signs.now) signs.now) }
+    ensures { IfOk result (λ words.
+        leaves_of words signs.now ≡ leaves_of (sung_words v.now.start.id unnamed.now items.now signs.now) signs.now) }
 {
     if verses == 0 {
         return Ok(Row::new(alloc));
@@ -56,7 +57,8 @@ fn written_measures(
     requires good { IsGoodRead v.now }
     requires kept { AreItemsOf v.now kept }
     requires counted { verses ≡ verse_count v.now.start.id unnamed.now items.now }
-    ensures { IfOk result (λ r. (n : ℕ) → bars.now ≡ bars_of v.now.steps n → r ≡ written_measures unnamed.now items.now n v.now) }
+    ensures { IfOk result
+        (λ r. (n : ℕ) → bars.now ≡ bars_of v.now.steps n → r ≡ written_measures unnamed.now items.now n v.now) }
 {
     let all = signs_of_voice(alloc, v, kept)?;
     let words = words_where_sung(alloc, unnamed, items, v, verses, all.as_slice())?;
@@ -108,7 +110,8 @@ fn voices_with(
 ) -> Result<Row<Voice>, Memory>
     requires good { All (λ (j : JudgedVoice). IsGoodRead j.read) voices }
     requires kept { All HasKept voices }
-    requires clear { All (λ (j : JudgedVoice). verse_fault j.read.start.id (unnamed_of header.now) items.now ≡ None) voices }
+    requires clear { All (λ (j : JudgedVoice). verse_fault j.read.start.id (unnamed_of header.now) items.now ≡ None)
+        voices }
     ensures { IfOk result (λ r. r ≡ map (voice_by_header header.now items.now n) (reads_of voices)) }
 {
     let mut out = Row::new(alloc);
@@ -170,7 +173,8 @@ pub fn score_with(
 ) -> Result<Score, Memory>
     requires good { All (λ (j : JudgedVoice). IsGoodRead j.read) voices }
     requires kept { All HasKept voices }
-    requires clear { All (λ (j : JudgedVoice). verse_fault j.read.start.id (unnamed_of header.now) items.now ≡ None) voices }
+    requires clear { All (λ (j : JudgedVoice). verse_fault j.read.start.id (unnamed_of header.now) items.now ≡ None)
+        voices }
     requires few { most_measures (reads_of voices) ≤ 2000 }
     ensures { IfOk result (λ score. score ≡ score_with header.now items.now flow (reads_of voices)) }
 {

@@ -32,8 +32,12 @@ fn put_note(notes: &mut Row<SungNote>, event: u32, w: &WrittenEvent) -> Result<(
 
 /// Adds a sign.
 fn put_sign(at: &mut Notes, sign: &TreeItem) -> Result<(), Memory>
-    ensures notes { OnOk result ((signs : List TreeItem) → at.new.notes ++ sung_notes_from at.new.events signs ≡ at.old.notes ++ sung_notes_from at.old.events (sign.now ∷ signs)) }
-    ensures events { OnOk result ((signs : List TreeItem) → at.new.events + event_count signs ≡ at.old.events + event_count (sign.now ∷ signs)) }
+    ensures notes { OnOk result
+        ((signs : List TreeItem)
+        → at.new.notes ++ sung_notes_from at.new.events signs
+        ≡ at.old.notes ++ sung_notes_from at.old.events (sign.now ∷ signs)) }
+    ensures events { OnOk result
+        ((signs : List TreeItem) → at.new.events + event_count signs ≡ at.old.events + event_count (sign.now ∷ signs)) }
 {
     match sign {
         TreeItem::Event { written, .. } => {

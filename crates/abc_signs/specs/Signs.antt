@@ -82,17 +82,24 @@ rest_written now at seen measure parted = record {
 -- the further ones, a measure each, for which nothing waits
 abbrev pub further_rests : VoiceState → PlacedStep → Bool → ℕ → ℕ → List TreeItem
 further_rests now at seen measure zero = []
-further_rests now at seen measure (suc n) = TreeItem.Event (rest_written now at seen measure false) nothing_pending ∷ further_rests now at seen (measure + 1) n
+further_rests now at seen measure (suc n) =
+    TreeItem.Event (rest_written now at seen measure false) nothing_pending ∷ further_rests now at seen (measure + 1) n
 
 abbrev pub rests_of : VoiceState → Steps → PlacedStep → Bool → ℕ → List TreeItem
-rests_of now waits at seen count = TreeItem.Event (rest_written now at seen (measure_of now) (parted_at now waits)) (pending_of now.force waits []) ∷ further_rests now at seen (measure_of now + 1) (count - 1)
+rests_of now waits at seen count =
+    TreeItem.Event (rest_written now at seen (measure_of now) (parted_at now waits)) (pending_of now.force waits [])
+    ∷ further_rests now at seen (measure_of now + 1) (count - 1)
 
 -- a tuplet that doesn't fit into the open ones begins nothing
 abbrev pub tuplet_of : VoiceState → ℕ → ℕ → ℕ → List TreeItem
-tuplet_of now p q r = if fits (or_default p r) now.taking then TreeItem.Opens (measure_of now) p (or_default (usual_q p now.force.meter) q) (or_default p r) ∷ [] else []
+tuplet_of now p q r =
+    if fits (or_default p r) now.taking
+    then TreeItem.Opens (measure_of now) p (or_default (usual_q p now.force.meter) q) (or_default p r) ∷ []
+    else []
 
 unfoldable pub tree_items_of : VoiceState → Steps → PlacedStep → Steps → Step → List TreeItem
-tree_items_of now before at behind (Step.Sound s) = TreeItem.Event (sound_written now before at s behind) (pending_of now.force (since_event before) s.decos) ∷ []
+tree_items_of now before at behind (Step.Sound s) =
+    TreeItem.Event (sound_written now before at s behind) (pending_of now.force (since_event before) s.decos) ∷ []
 tree_items_of now before at behind (Step.Measures seen count) = rests_of now (since_event before) at seen count
 tree_items_of now before at behind (Step.Tuplet p q r) = tuplet_of now p q r
 tree_items_of now before at behind _ = []
@@ -100,7 +107,8 @@ tree_items_of now before at behind _ = []
 -- every step of a voice in turn, with what stands before it, the nearest first, and what follows it
 abbrev pub signs : InForce → Steps → Steps → List TreeItem
 signs first before [] = []
-signs first before (at ∷ behind) = tree_items_of (state_at first before) before at behind at.step ++ signs first (at ∷ before) behind
+signs first before (at ∷ behind) =
+    tree_items_of (state_at first before) before at behind at.step ++ signs first (at ∷ before) behind
 
 -- Good signs: each value has at most three dots.
 abbrev pub HasDrawableValues : TreeItem → Type 0

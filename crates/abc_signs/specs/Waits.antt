@@ -1,4 +1,5 @@
--- What waits for an event: changes, graces, decorations, texts and an ending, of the steps that stand before it behind the event before.
+-- What waits for an event: changes, graces, decorations, texts and an ending, of the steps that stand before it behind
+-- the event before.
 use Rattle.std.specs.Prelude.{ℕ, List, [], ◌∷◌, ◌++◌, flat_map, Bool, true, false, ◌==◌, ◌||◌, if◌then◌else◌, Option}
 use Rattle.std.specs.Prelude.{Some, None}
 use Rattle.std.specs.List.{list_any}
@@ -16,13 +17,16 @@ unfoldable pub decos_in : Step → List Deco
 decos_in (Step.Deco deco) = deco ∷ []
 decos_in _ = []
 
--- a first character of ^ < > @ is an annotation above, and _ one below, both without it; any other text is a chord symbol, which stands above
+-- a first character of ^ < > @ is an annotation above, and _ one below, both without it; any other text is a chord
+-- symbol, which stands above
 abbrev pub is_annotation_above : ℕ → Bool
 is_annotation_above c = c == 94 || (c == 60 || (c == 62 || c == 64))
 
 abbrev pub mention_of : List ℕ → Mention
 mention_of [] = record { below = false; text = [] }
-mention_of (c ∷ text) = if is_annotation_above c then record { below = false; text = text } else (if c == 95 then record { below = true; text = text } else record { below = false; text = c ∷ text })
+mention_of (c ∷ text) =
+    if is_annotation_above c then record { below = false; text = text }
+    else (if c == 95 then record { below = true; text = text } else record { below = false; text = c ∷ text })
 
 unfoldable pub mentions_in : Step → List Mention
 mentions_in (Step.Says text) = mention_of text ∷ []
@@ -45,7 +49,8 @@ abbrev pub last_ending : Option (List ℕ) → Steps → Option (List ℕ)
 last_ending ending [] = ending
 last_ending ending (s ∷ waits) = last_ending (ending_behind s.step ending) waits
 
--- several groups of graces are one, with a slash where one of them has it; the decorations within a chord come behind those that waited
+-- several groups of graces are one, with a slash where one of them has it; the decorations within a chord come behind
+-- those that waited
 unfoldable pub pending_of : InForce → Steps → List Deco → Pending
 pending_of now waits inside = record {
   changes = changes_at now waits;

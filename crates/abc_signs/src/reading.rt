@@ -262,7 +262,8 @@ pub fn put_signs(
     requires further { now.now.counts.further ≤ 2 ^ 46 }
     requires force { IsGoodForce now.now.force }
     requires parts { parts ≡ parts_at now.now.force.unit (reverse before.now) at.now.step behind.now }
-    ensures { OnOk result (out.new ≡ out.old ++ tree_items_of now.now (reverse before.now) at.now behind.now at.now.step) }
+    ensures { OnOk result
+        (out.new ≡ out.old ++ tree_items_of now.now (reverse before.now) at.now behind.now at.now.step) }
 {
     match &at.step {
         Step::Sound(s) => {

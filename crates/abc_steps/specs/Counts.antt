@@ -9,7 +9,8 @@ use Rattle.abc_steps.specs.Looks.{Steps}
 -- whether the nearest event or bar is an event or a bar
 abbrev pub nearest_at : Steps → Nearest
 nearest_at [] = Nearest.Nothing
-nearest_at (s ∷ before) = if is_event s.step then Nearest.Event else (if is_bar s.step then Nearest.Bar else nearest_at before)
+nearest_at (s ∷ before) =
+    if is_event s.step then Nearest.Event else (if is_bar s.step then Nearest.Bar else nearest_at before)
 
 abbrev pub is_near_event : Nearest → Bool
 is_near_event Nearest.Event = true
@@ -40,8 +41,14 @@ measure_at before = groups before + all_further before
 -- how many measures the voice has begun: one more than that of its last event
 abbrev pub measures_begun : Steps → ℕ
 measures_begun [] = 0
-measures_begun (s ∷ before) = if is_event s.step then measure_at before + further_measures s.step + 1 else measures_begun before
+measures_begun (s ∷ before) =
+    if is_event s.step then measure_at before + further_measures s.step + 1 else measures_begun before
 
 -- what a walk along the steps keeps of it
 abbrev pub counts_of : Steps → Counts
-counts_of before = record { groups = groups before; further = all_further before; begun = measures_begun before; nearest = nearest_at before }
+counts_of before = record {
+  groups = groups before;
+  further = all_further before;
+  begun = measures_begun before;
+  nearest = nearest_at before;
+}

@@ -1,4 +1,5 @@
--- Clef, key, meter and unit in force at a place: those of the last field before it that names them, else those that the voice begins with.
+-- Clef, key, meter and unit in force at a place: those of the last field before it that names them, else those that the
+-- voice begins with.
 use Rattle.std.specs.Prelude.{ℕ, ◌*◌, ◌/◌, List, [], ◌∷◌, Bool, true, false, if◌then◌else◌, Option, Some, None, is_some}
 use Rattle.std.specs.Prelude.{unwrap_or}
 use Rattle.std.specs.List.{list_any}
@@ -12,7 +13,8 @@ use Rattle.abc_steps.specs.{declared.step.Step.Step, declared.force.InForce.InFo
 -- what is in force behind a step
 unfoldable pub force_after : Step → InForce → InForce
 force_after (Step.Clef clef) now = record now { clef = clef }
-force_after (Step.Key text) now = record now { clef = unwrap_or text.clef now.clef; key = record { signs = key_over now.key.signs text } }
+force_after (Step.Key text) now =
+    record now { clef = unwrap_or text.clef now.clef; key = record { signs = key_over now.key.signs text } }
 force_after (Step.Meter meter) now = record now { meter = meter }
 force_after (Step.Unit unit) now = record now { unit = unit }
 force_after _ now = now

@@ -11,11 +11,15 @@ once = record { num = 1; den = 1 }
 
 -- 3/2, 7/4 or 15/8 times as long
 abbrev pub long_side : ℕ → Frac
-long_side dots = if nat_le dots 1 then record { num = 3; den = 2 } else (if nat_le dots 2 then record { num = 7; den = 4 } else record { num = 15; den = 8 })
+long_side dots =
+    if nat_le dots 1 then record { num = 3; den = 2 }
+    else (if nat_le dots 2 then record { num = 7; den = 4 } else record { num = 15; den = 8 })
 
 -- 1/2, 1/4 or 1/8 times as long
 abbrev pub short_side : ℕ → Frac
-short_side dots = if nat_le dots 1 then record { num = 1; den = 2 } else (if nat_le dots 2 then record { num = 1; den = 4 } else record { num = 1; den = 8 })
+short_side dots =
+    if nat_le dots 1 then record { num = 1; den = 2 }
+    else (if nat_le dots 2 then record { num = 1; den = 4 } else record { num = 1; den = 8 })
 
 -- behind a side that is lengthened the right one is shortened, and the other way round
 unfoldable pub left_side : Step → Frac
@@ -38,11 +42,14 @@ right_factor None = once
 
 unfoldable pub written_length : Frac → WrittenSound → Steps → Steps → Frac
 written_length unit s before behind =
-    let left = left_factor (broken_behind behind) in let right = right_factor (broken_before before) in record { num = s.num * unit.num * (left.num * right.num); den = s.den * unit.den * (left.den * right.den) }
+    let left = left_factor (broken_behind behind) in
+    let right = right_factor (broken_before before) in
+    record { num = s.num * unit.num * (left.num * right.num); den = s.den * unit.den * (left.den * right.den) }
 
 -- the parts of what stands at a step: those of the length of a note, a chord or a rest, and none of any other step
 unfoldable pub parts_at : Frac → Steps → Step → Steps → Option (List Value)
-parts_at unit before (Step.Sound s) behind = let length = written_length unit s before behind in parts_list length.num length.den
+parts_at unit before (Step.Sound s) behind =
+    let length = written_length unit s before behind in parts_list length.num length.den
 parts_at unit before _ behind = None
 
 -- Bounds: those of a factor, and those of a written length.

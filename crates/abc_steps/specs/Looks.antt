@@ -1,4 +1,5 @@
--- What stands before and behind a place among the steps of a voice: `before` is what stands before it, the nearest first, and `behind` is what follows it.
+-- What stands before and behind a place among the steps of a voice: `before` is what stands before it, the nearest
+-- first, and `behind` is what follows it.
 use Rattle.std.specs.Prelude.{ℕ, List, reverse, find, count_by, Bool, false, if◌then◌else◌, Option, Some, None}
 use Rattle.std.specs.List.{before_first, list_any}
 use Rattle.abc_steps.specs.declared.step.PlacedStep.{PlacedStep}
@@ -56,7 +57,8 @@ broken_before before = if is_some_sound (nearest_event before) then broken_among
 unfoldable pub broken_behind : Steps → Option PlacedStep
 broken_behind behind = if is_some_sound (nearest_event behind) then broken_among (to_event behind) else None
 
--- The sides of a broken rhythm. On the left the nearest event, bar or other broken rhythm is an event with a length, on the right the nearest event or bar.
+-- The sides of a broken rhythm. On the left the nearest event, bar or other broken rhythm is an event with a length, on
+-- the right the nearest event or bar.
 unfoldable pub has_left : Steps → Bool
 has_left before = is_some_sound (find (λ s. is_left_stop s.step) before)
 

@@ -8,7 +8,8 @@ use Rattle.abc_steps.specs.Tuplets.{open_tuplets_at}
 use Rattle.abc_steps.specs.declared.state.VoiceState.{VoiceState}
 
 abbrev pub state_at : InForce → Steps → VoiceState
-state_at first before = record { counts = counts_of before; force = force_at first before; taking = open_tuplets_at before }
+state_at first before =
+    record { counts = counts_of before; force = force_at first before; taking = open_tuplets_at before }
 
 -- the measure of an event at the place, from 0; of several whole measure rests, that of the first
 abbrev pub measure_of : VoiceState → ℕ

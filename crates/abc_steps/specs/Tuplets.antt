@@ -23,12 +23,14 @@ one_less left = if nat_le left 1 then OpenTuplets.Nothing else OpenTuplets.Singl
 unfoldable pub after_event : OpenTuplets → OpenTuplets
 after_event OpenTuplets.Nothing = OpenTuplets.Nothing
 after_event (OpenTuplets.Single left) = one_less left
-after_event (OpenTuplets.Nested inner outer) = if nat_le inner 1 then one_less outer else OpenTuplets.Nested (inner - 1) (outer - 1)
+after_event (OpenTuplets.Nested inner outer) =
+    if nat_le inner 1 then one_less outer else OpenTuplets.Nested (inner - 1) (outer - 1)
 
 -- a tuplet that doesn't fit takes nothing
 abbrev pub with_tuplet_opened : ℕ → OpenTuplets → OpenTuplets
 with_tuplet_opened r OpenTuplets.Nothing = OpenTuplets.Single r
-with_tuplet_opened r (OpenTuplets.Single left) = if nat_le r left then OpenTuplets.Nested r left else OpenTuplets.Single left
+with_tuplet_opened r (OpenTuplets.Single left) =
+    if nat_le r left then OpenTuplets.Nested r left else OpenTuplets.Single left
 with_tuplet_opened r (OpenTuplets.Nested inner outer) = OpenTuplets.Nested inner outer
 
 -- the end of a measure closes all
@@ -50,4 +52,5 @@ is_compound _ = false
 
 -- the q of a tuplet that names none
 abbrev pub usual_q : ℕ → Meter → ℕ
-usual_q p m = if p == 2 || (p == 4 || p == 8) then 3 else (if p == 3 || p == 6 then 2 else (if is_compound m then 3 else 2))
+usual_q p m =
+    if p == 2 || (p == 4 || p == 8) then 3 else (if p == 3 || p == 6 then 2 else (if is_compound m then 3 else 2))

@@ -33,7 +33,13 @@ fn count_event(counts: &mut Counts, further: u64)
     requires groups { counts.old.groups ≤ 2 ^ 30 }
     requires before { counts.old.further ≤ 2 ^ 46 }
     requires further { further ≤ 65535 }
-    ensures { counts.new ≡ record { groups = counts.old.groups; further = counts.old.further + further; begun = counts.old.groups + counts.old.further + further + 1; nearest = Nearest.Event } }
+    ensures { counts.new
+        ≡ record {
+          groups = counts.old.groups;
+          further = counts.old.further + further;
+          begun = counts.old.groups + counts.old.further + further + 1;
+          nearest = Nearest.Event;
+        } }
 {
     counts.further += further;
     counts.begun = counts.groups + counts.further + 1;
@@ -43,7 +49,11 @@ fn count_event(counts: &mut Counts, further: u64)
 /// Counts a bar. The first one behind an event begins a group.
 fn count_bar(counts: &mut Counts)
     requires { counts.old.groups ≤ 2 ^ 30 }
-    ensures { counts.new ≡ record counts.old { groups = if is_near_event counts.old.nearest then counts.old.groups + 1 else counts.old.groups; nearest = Nearest.Bar } }
+    ensures { counts.new
+        ≡ record counts.old {
+          groups = if is_near_event counts.old.nearest then counts.old.groups + 1 else counts.old.groups;
+          nearest = Nearest.Bar;
+        } }
 {
     let begins = is_near_event(counts.nearest);
     counts.groups += u64::from(begins);

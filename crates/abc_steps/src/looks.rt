@@ -53,7 +53,8 @@ fn first_tie_stop(behind: &[PlacedStep]) -> Option<usize>
 #[tactic(auto, using(crate::proofs::Positions::up_to_place))]
 fn up_to(behind: &[PlacedStep], place: Option<usize>) -> &[PlacedStep]
     requires { IfSome place (λ n. n ≤ length behind.now) }
-    ensures value { (test : PlacedStep → Bool) → place ≡ position test behind.now → result.now ≡ before_first test behind.now }
+    ensures value { (test : PlacedStep → Bool)
+        → place ≡ position test behind.now → result.now ≡ before_first test behind.now }
     ensures within { length result.now ≤ length behind.now }
 {
     behind.split_at(place.unwrap_or(behind.len())).0
@@ -63,7 +64,8 @@ fn up_to(behind: &[PlacedStep], place: Option<usize>) -> &[PlacedStep]
 #[tactic(auto, using(crate::proofs::Positions::back_to_place))]
 fn back_to(before: &[PlacedStep], place: Option<usize>) -> &[PlacedStep]
     requires { IfSome place (λ n. n ≤ length before.now) }
-    ensures value { (test : PlacedStep → Bool) → place ≡ position test (reverse before.now) → result.now ≡ reverse (before_first test (reverse before.now)) }
+    ensures value { (test : PlacedStep → Bool)
+        → place ≡ position test (reverse before.now) → result.now ≡ reverse (before_first test (reverse before.now)) }
     ensures within { length result.now ≤ length before.now }
 {
     let count = place.unwrap_or(before.len());

@@ -43,7 +43,9 @@ pub fn step_over(alloc: Global, now: &mut VoiceState, s: &PlacedStep) -> Result<
     requires further { now.old.counts.further ≤ 2 ^ 46 }
     requires force { IsGoodForce now.old.force }
     requires step { IsGoodPlacedStep s.now }
-    ensures value { OnOk result ((first : InForce) (before : Steps) → now.old ≡ state_at first before → now.new ≡ state_at first (s.now ∷ before)) }
+    ensures value { OnOk result
+        ((first : InForce) (before : Steps)
+        → now.old ≡ state_at first before → now.new ≡ state_at first (s.now ∷ before)) }
     ensures groups { OnOk result (now.new.counts.groups ≤ now.old.counts.groups + 1) }
     ensures further { OnOk result (now.new.counts.further ≤ now.old.counts.further + 65535) }
     ensures force { OnOk result (IsGoodForce now.new.force) }

@@ -60,7 +60,8 @@ Kept name d = IsListed d ⊎ (deco_name d ≡ name)
 text_kept : (name : List ℕ) → Kept name (deco_of_text name)
 unfolding deco_of_text
 text_kept name =
-    cond_both (is_dynamic name) (Below name) (cond (is_finger name) (Above name) (Quiet name)) (Kept name) (λ e. inr refl) (λ e.
+    cond_both (is_dynamic name) (Below name) (cond (is_finger name) (Above name) (Quiet name)) (Kept name)
+    (λ e. inr refl) (λ e.
     cond_both (is_finger name) (Above name) (Quiet name) (Kept name) (λ e. inr refl) (λ e. inr refl))
 
 name_kept : (name : List ℕ) → Kept name (deco_of_name name)
@@ -82,7 +83,8 @@ name_kept name =
 
 kept_good : (name : List ℕ) (d : Deco) → d ≡ deco_of_name name → IsName name → Kept name d → GoodDeco d
 kept_good name d is good (inl listed) = listed_good d listed
-kept_good name d is good (inr same) = record { means = ap deco_of_name same ∙ sym is; name = subst IsName (sym same) good }
+kept_good name d is good (inr same) =
+    record { means = ap deco_of_name same ∙ sym is; name = subst IsName (sym same) good }
 
 pub name_good : (name : List ℕ) → IsName name → GoodDeco (deco_of_name name)
 name_good name good = kept_good name (deco_of_name name) refl good (name_kept name)

@@ -32,7 +32,11 @@ digit_to : (b : ℕ) → is_digit b ≡ true → (48 ≤ b) × (b ≤ 57)
 digit_to b h = let r = digit_range b h in (r.0, omega (arith, r.1))
 
 tells : IsDigitsTest AreDigits
-tells = record { empty = refl; parts = λ c cs h. (let p = and_parts (is_digit c) (list_all is_digit cs) h in (digit_to c p.0, p.1)); more = λ c cs r h. and_from (is_digit c) (list_all is_digit cs) (digit_from c r) h }
+tells = record {
+  empty = refl;
+  parts = λ c cs h. (let p = and_parts (is_digit c) (list_all is_digit cs) h in (digit_to c p.0, p.1));
+  more = λ c cs r h. and_from (is_digit c) (list_all is_digit cs) (digit_from c r) h;
+}
 
 model : IsNumeralModel AreDigits (digits_value 10)
 model = numerals_by_value AreDigits tells
@@ -48,8 +52,10 @@ not_zero_first (d ∷ ds) h some e = absurd (both_ways (eqb d 48) h (eq-eqb d 48
 -- the digits of a number are those that are written for it
 pub digits_again : (most : ℕ) (ds : List ℕ) → most ≤ 4 → AreNumberDigits most ds → decimal (digits_value 10 ds) ≡ ds
 digits_again most ds few h =
-    let below : digits_value 10 ds < 10 ^ length ds = digits_value-lt 10 ds (model.to ds h.digits) in let limit : 10 ^ length ds ≤ 10000 = few_digits (length ds) (omega (arith, few, h.few)) in
-    decimal-digits_value model ds h.digits (omega (arith, h.some)) (not_zero_first ds h.no_zero (omega (arith, h.some))) (omega (arith, below, limit))
+    let below : digits_value 10 ds < 10 ^ length ds = digits_value-lt 10 ds (model.to ds h.digits) in
+    let limit : 10 ^ length ds ≤ 10000 = few_digits (length ds) (omega (arith, few, h.few)) in
+    decimal-digits_value model ds h.digits (omega (arith, h.some)) (not_zero_first ds h.no_zero (omega (arith, h.some)))
+    (omega (arith, below, limit))
 
 -- what is written for a number is a number, and means it
 pub record Again (most n : ℕ) : Type 0 where
@@ -57,10 +63,14 @@ pub record Again (most n : ℕ) : Type 0 where
   pub means : digits_value 10 (decimal n) ≡ n
 
 pub number_again : (most : ℕ) (ds : List ℕ) → most ≤ 4 → AreNumberDigits most ds → Again most (digits_value 10 ds)
-number_again most ds few h = let e = digits_again most ds few h in record { good = subst (AreNumberDigits most) (sym e) h; means = ap (digits_value 10) e }
+number_again most ds few h =
+    let e = digits_again most ds few h in
+    record { good = subst (AreNumberDigits most) (sym e) h; means = ap (digits_value 10) e }
 
 one_again : (most : ℕ) → 1 ≤ most → most ≤ 4 → Again most 1
-one_again most some few = number_again most (49 ∷ []) few (record { some = omega arith; few = omega (arith, some); digits = refl; no_zero = refl })
+one_again most some few =
+    number_again most (49 ∷ []) few
+    (record { some = omega arith; few = omega (arith, some); digits = refl; no_zero = refl })
 
 pub count_again : (most : ℕ) (c : List ℕ) → 1 ≤ most → most ≤ 4 → IsCount most c → Again most (count_of c)
 count_again most [] some few h = one_again most some few
@@ -99,18 +109,27 @@ halves_again zero some few = absurd (omega arith)
 halves_again (suc zero) some few = number_again 4 (50 ∷ []) (omega arith) (one_digit 50 refl refl)
 halves_again (suc (suc zero)) some few = number_again 4 (52 ∷ []) (omega arith) (one_digit 52 refl refl)
 halves_again (suc (suc (suc zero))) some few = number_again 4 (56 ∷ []) (omega arith) (one_digit 56 refl refl)
-halves_again (suc (suc (suc (suc zero)))) some few = number_again 4 (49 ∷ 54 ∷ []) (omega arith) (two_digits 49 54 refl refl refl)
-halves_again (suc (suc (suc (suc (suc zero))))) some few = number_again 4 (51 ∷ 50 ∷ []) (omega arith) (two_digits 51 50 refl refl refl)
-halves_again (suc (suc (suc (suc (suc (suc zero)))))) some few = number_again 4 (54 ∷ 52 ∷ []) (omega arith) (two_digits 54 52 refl refl refl)
+halves_again (suc (suc (suc (suc zero)))) some few =
+    number_again 4 (49 ∷ 54 ∷ []) (omega arith) (two_digits 49 54 refl refl refl)
+halves_again (suc (suc (suc (suc (suc zero))))) some few =
+    number_again 4 (51 ∷ 50 ∷ []) (omega arith) (two_digits 51 50 refl refl refl)
+halves_again (suc (suc (suc (suc (suc (suc zero)))))) some few =
+    number_again 4 (54 ∷ 52 ∷ []) (omega arith) (two_digits 54 52 refl refl refl)
 halves_again (suc (suc (suc (suc (suc (suc (suc n))))))) some few = absurd (omega arith)
 
 both_again : (len : Len) → Again 4 len.num → Again 4 len.den → GoodLen len
-both_again len a b = record { good = (is_count 4 len.num a, b.good); means = rw (count_means 4 len.num a, count_means 4 len.den b) refl }
+both_again len a b =
+    record { good = (is_count 4 len.num a, b.good); means = rw (count_means 4 len.num a, count_means 4 len.den b) refl }
 
 pub len_again : (f : LengthForm) → IsWrittenLength f → GoodLen (len_of f)
-len_again (whole c) h = both_again (len_of (whole c)) (count_again 4 c (omega arith) (omega arith) h) (one_again 4 (omega arith) (omega arith))
-len_again (over c b) h = both_again (len_of (over c b)) (count_again 4 c (omega arith) (omega arith) h.0) (count_again 4 b (omega arith) (omega arith) (number_count 4 b h.1))
-len_again (halved c k) h = both_again (len_of (halved c k)) (count_again 4 c (omega arith) (omega arith) h.0) (halves_again k h.1 h.2)
+len_again (whole c) h =
+    both_again (len_of (whole c)) (count_again 4 c (omega arith) (omega arith) h)
+    (one_again 4 (omega arith) (omega arith))
+len_again (over c b) h =
+    both_again (len_of (over c b)) (count_again 4 c (omega arith) (omega arith) h.0)
+    (count_again 4 b (omega arith) (omega arith) (number_count 4 b h.1))
+len_again (halved c k) h =
+    both_again (len_of (halved c k)) (count_again 4 c (omega arith) (omega arith) h.0) (halves_again k h.1 h.2)
 
 -- ---- octaves
 counted : (b k n : ℕ) → count_by (λ c. eqb c b) (replicate n k) ≡ n * cond (eqb k b) 1 0
@@ -135,18 +154,27 @@ marks_are zero b h = refl
 marks_are (suc n) b h = and_from _ _ h (marks_are n b h)
 
 pub good_marks : (o : ℤ) → list_all is_mark (marks_of o) ≡ true
-good_marks (pos n) = cond_both (leb 5 n) (replicate (n - 5) 39) (replicate (4 - n) 44) (λ m. list_all is_mark m ≡ true) (λ e. marks_are (n - 5) 39 refl) (λ e. marks_are (4 - n) 44 refl)
+good_marks (pos n) =
+    cond_both (leb 5 n) (replicate (n - 5) 39) (replicate (4 - n) 44) (λ m. list_all is_mark m ≡ true)
+    (λ e. marks_are (n - 5) 39 refl) (λ e. marks_are (4 - n) 44 refl)
 good_marks (negsuc n) = marks_are (n + 5) 44 refl
 
 -- ---- heads
 abbrev pub head_form : Head → LengthForm → NoteForm
-head_form head len = record { sign = head.sign; low = is_small_letter head.pitch.octave; letter = head.pitch.letter; marks = marks_of head.pitch.octave; length = len }
+head_form head len = record {
+  sign = head.sign;
+  low = is_small_letter head.pitch.octave;
+  letter = head.pitch.letter;
+  marks = marks_of head.pitch.octave;
+  length = len;
+}
 
 pub head_good : (head : Head) (len : LengthForm) → IsWrittenLength len → IsNote (head_form head len)
 head_good head len h = record { marks = good_marks head.pitch.octave; length = h }
 
 abbrev untied_at : Head → ℤ → Head
-untied_at head octave = record { pitch = record { letter = head.pitch.letter; octave = octave }; sign = head.sign; tied = false }
+untied_at head octave =
+    record { pitch = record { letter = head.pitch.letter; octave = octave }; sign = head.sign; tied = false }
 
 pub head_means : (head : Head) (len : LengthForm) → head_of (head_form head len) ≡ tied_if false head
 head_means head len = ap (untied_at head) (same_octave head.pitch.octave)

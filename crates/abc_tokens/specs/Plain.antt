@@ -1,7 +1,7 @@
--- The one plain spelling of each token: a length is its two numbers with a slash between, an octave is written by commas or primes alone, a
--- space is one space, a line break is a dollar sign, an ending is an opening bracket and its text, a decoration is its first name between
--- exclamation marks, a tuplet leaves a number that it lacks empty, and a bar has as few colons and bar signs as its features allow. Each
--- spelling is written in front of what follows it.
+-- The one plain spelling of each token: a length is its two numbers with a slash between, an octave is written by
+-- commas or primes alone, a space is one space, a line break is a dollar sign, an ending is an opening bracket and its
+-- text, a decoration is its first name between exclamation marks, a tuplet leaves a number that it lacks empty, and a
+-- bar has as few colons and bar signs as its features allow. Each spelling is written in front of what follows it.
 use Prim.Native.Char.{code}
 use Rattle.std.specs.Prelude.{◌≡◌, ℕ, ℤ, pos, negsuc, ◌+◌, ◌-◌, List, [], ◌∷◌, ◌++◌, Bool, false, not, ◌==◌, ◌&&◌}
 use Rattle.std.specs.Prelude.{nat_le, if◌then◌else◌, replicate, codes}
@@ -35,7 +35,8 @@ marks_of (pos n) = if nat_le 5 n then replicate (n - 5) (code "'") else replicat
 marks_of (negsuc n) = replicate (n + 5) (code ",")
 
 abbrev pub pitch_then : Head → List ℕ → List ℕ
-pitch_then head x = letter_byte (is_small_letter head.pitch.octave) head.pitch.letter ∷ (marks_of head.pitch.octave ++ x)
+pitch_then head x =
+    letter_byte (is_small_letter head.pitch.octave) head.pitch.letter ∷ (marks_of head.pitch.octave ++ x)
 
 abbrev pub head_then : Head → List ℕ → List ℕ
 head_then head x = sign_then head.sign (pitch_then head x)
@@ -89,18 +90,26 @@ abbrev pub is_colons : Bar → Bool
 is_colons b = b.end && b.start && not b.last && not b.initial && not b.double && not b.dotted
 
 abbrev pub signs_then : Bar → List ℕ → List ℕ
-signs_then b x = maybe b.dotted (code ".") (maybe b.end (code ":") (maybe b.initial (code "[") (code "|" ∷ maybe b.double (code "|") (maybe b.last (code "]") (maybe b.start (code ":") x)))))
+signs_then b x =
+    maybe b.dotted (code ".")
+    (maybe b.end (code ":")
+    (maybe b.initial (code "[")
+    (code "|" ∷ maybe b.double (code "|") (maybe b.last (code "]") (maybe b.start (code ":") x)))))
 
 abbrev pub bar_then : Bar → List ℕ → List ℕ
-bar_then b x = if b.unseen then code "[" ∷ code "|" ∷ code "]" ∷ x else (if is_colons b then code ":" ∷ code ":" ∷ x else signs_then b x)
+bar_then b x =
+    if b.unseen then code "[" ∷ code "|" ∷ code "]" ∷ x
+    else (if is_colons b then code ":" ∷ code ":" ∷ x else signs_then b x)
 
 -- the plain spelling of a token, and what follows it
 abbrev pub token_then : Token → List ℕ → List ℕ
 token_then (Token.Note head len) x = head_then head (len_then len x)
 token_then (Token.Rest seen len) x = rest_byte seen ∷ len_then len x
 token_then (Token.Measures seen count) x = measures_byte seen ∷ (decimal count ++ x)
-token_then (Token.Chord chord) x = code "[" ∷ all_then deco_then chord.decos (all_then chord_head_then chord.heads (code "]" ∷ len_then chord.len x))
-token_then (Token.Grace slash body) x = code "{" ∷ maybe slash (code "/") (all_then grace_chord_then body (code "}" ∷ x))
+token_then (Token.Chord chord) x =
+    code "[" ∷ all_then deco_then chord.decos (all_then chord_head_then chord.heads (code "]" ∷ len_then chord.len x))
+token_then (Token.Grace slash body) x =
+    code "{" ∷ maybe slash (code "/") (all_then grace_chord_then body (code "}" ∷ x))
 token_then (Token.Tuplet p q r) x = code "(" ∷ plain_tuplet_then p q r x
 token_then Token.SlurOn x = code "(" ∷ x
 token_then Token.SlurOff x = code ")" ∷ x

@@ -7,11 +7,15 @@ use Rattle.std.specs.List.{prefix_len}
 use Rattle.abc_words.specs.Words.{row_of}
 
 -- counted on from a part of them
-pub prefix_from : {X : Type 0} (p : X → Bool) (xs : List X) (k : ℕ) → k ≤ prefix_len p xs → prefix_len p xs ≡ k + prefix_len p (drop k xs)
+pub prefix_from : {X : Type 0} (p : X → Bool) (xs : List X) (k : ℕ)
+    → k ≤ prefix_len p xs → prefix_len p xs ≡ k + prefix_len p (drop k xs)
 prefix_from p xs zero le = omega arith
 prefix_from p [] (suc k) le = absurd (omega arith)
 prefix_from p (x ∷ xs) (suc k) le = by_test (p x) (prefix_from p xs k) le where
-  by_test : (b : Bool) → (k ≤ prefix_len p xs → prefix_len p xs ≡ k + prefix_len p (drop k xs)) → suc k ≤ cond b (1 + prefix_len p xs) 0 → cond b (1 + prefix_len p xs) 0 ≡ suc k + prefix_len p (drop k xs)
+  by_test : (b : Bool)
+      → (k ≤ prefix_len p xs → prefix_len p xs ≡ k + prefix_len p (drop k xs))
+      → suc k ≤ cond b (1 + prefix_len p xs) 0
+      → cond b (1 + prefix_len p xs) 0 ≡ suc k + prefix_len p (drop k xs)
   by_test true more le = let rest : prefix_len p xs ≡ k + prefix_len p (drop k xs) = more (omega arith) in omega arith
   by_test false more le = absurd (omega arith)
 
@@ -22,7 +26,10 @@ row_of_within ends line = prefix_len-le-length (λ e. nat_lt e line) ends
 pub row_of_later : (ends : List ℕ) (line later : ℕ) → line ≤ later → row_of ends line ≤ row_of ends later
 row_of_later [] line later le = omega arith
 row_of_later (e ∷ ends) line later le = elim (cases_lt e line) [
-  | inl lt ↦ let less : e < later = omega arith in rw (lt-ltb e line lt, lt-ltb e later less) (let more : row_of ends line ≤ row_of ends later = row_of_later ends line later le in omega arith)
+  | inl lt ↦
+      let less : e < later = omega arith in
+      rw (lt-ltb e line lt, lt-ltb e later less)
+      (let more : row_of ends line ≤ row_of ends later = row_of_later ends line later le in omega arith)
   | inr ge ↦ rw (le-ltb e line ge) (omega arith)
 ]
 

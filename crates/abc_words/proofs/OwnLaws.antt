@@ -32,31 +32,45 @@ IsFree event notes = All (λ n. n.event ≡ event → ⊥) notes
 
 free_from : (count event : ℕ) (notes : List NoteAt) → IsFree event notes → IsFree event (notes_from count notes)
 free_from count event [] free = free
-free_from count event (n ∷ notes) free = by_test (nat_lt n.measure count) (free_from count event notes (All-tail (λ (m : NoteAt). m.event ≡ event → ⊥) n notes free)) where
-  by_test : (b : Bool) → IsFree event (notes_from count notes) → IsFree event (cond b (notes_from count notes) (n ∷ notes))
-  by_test true rest = rest
-  by_test false rest = free
+free_from count event (n ∷ notes) free =
+    by_test (nat_lt n.measure count)
+    (free_from count event notes (All-tail (λ (m : NoteAt). m.event ≡ event → ⊥) n notes free)) where
+      by_test : (b : Bool)
+          → IsFree event (notes_from count notes) → IsFree event (cond b (notes_from count notes) (n ∷ notes))
+      by_test true rest = rest
+      by_test false rest = free
 
 -- nothing is sung on an event that has no note
-silent_print : (text : List ℕ) (event : ℕ) (goes : ℕ → List NoteAt → List Sung) (notes : List NoteAt) → IsFree event notes → ((count : ℕ) (left : List NoteAt) → IsFree event left → word_of (goes count left) event ≡ None)
-    → word_of (on_first (λ note left. record { event = note.event; text = text } ∷ goes note.measure left) notes) event ≡ None
+silent_print : (text : List ℕ) (event : ℕ) (goes : ℕ → List NoteAt → List Sung) (notes : List NoteAt)
+    → IsFree event notes
+    → ((count : ℕ) (left : List NoteAt) → IsFree event left → word_of (goes count left) event ≡ None)
+    → word_of (on_first (λ note left. record { event = note.event; text = text } ∷ goes note.measure left) notes) event
+    ≡ None
 silent_print text event goes [] free rest = refl
 silent_print text event goes (n ∷ notes) free rest =
     rw (ne_eqb n.event event (All-head (λ (m : NoteAt). m.event ≡ event → ⊥) n notes free))
     (rest n.measure notes (All-tail (λ (m : NoteAt). m.event ≡ event → ⊥) n notes free))
 
 silent_skip : (event : ℕ) (goes : ℕ → List NoteAt → List Sung) (notes : List NoteAt) → IsFree event notes
-    → ((count : ℕ) (left : List NoteAt) → IsFree event left → word_of (goes count left) event ≡ None) → word_of (on_first (λ note left. goes note.measure left) notes) event ≡ None
+    → ((count : ℕ) (left : List NoteAt) → IsFree event left → word_of (goes count left) event ≡ None)
+    → word_of (on_first (λ note left. goes note.measure left) notes) event ≡ None
 silent_skip event goes [] free rest = refl
-silent_skip event goes (n ∷ notes) free rest = rest n.measure notes (All-tail (λ (m : NoteAt). m.event ≡ event → ⊥) n notes free)
+silent_skip event goes (n ∷ notes) free rest =
+    rest n.measure notes (All-tail (λ (m : NoteAt). m.event ≡ event → ⊥) n notes free)
 
-silent_from : (syls : List Syl) (count event : ℕ) (notes : List NoteAt) → IsFree event notes → word_of (sung_from syls count notes) event ≡ None
+silent_from : (syls : List Syl) (count event : ℕ) (notes : List NoteAt)
+    → IsFree event notes → word_of (sung_from syls count notes) event ≡ None
 silent_from [] count event notes free = refl
-silent_from (Print text ∷ syls) count event notes free = silent_print text event (sung_from syls) (notes_from count notes) (free_from count event notes free) (λ c left f. silent_from syls c event left f)
-silent_from (Skip ∷ syls) count event notes free = silent_skip event (sung_from syls) (notes_from count notes) (free_from count event notes free) (λ c left f. silent_from syls c event left f)
+silent_from (Print text ∷ syls) count event notes free =
+    silent_print text event (sung_from syls) (notes_from count notes) (free_from count event notes free)
+    (λ c left f. silent_from syls c event left f)
+silent_from (Skip ∷ syls) count event notes free =
+    silent_skip event (sung_from syls) (notes_from count notes) (free_from count event notes free)
+    (λ c left f. silent_from syls c event left f)
 silent_from (Bar ∷ syls) count event notes free = silent_from syls (count + 1) event notes free
 
-silent : (event : ℕ) (notes : List NoteAt) (text : Option (List ℕ)) → IsFree event notes → word_of (sung_with notes text) event ≡ None
+silent : (event : ℕ) (notes : List NoteAt) (text : Option (List ℕ))
+    → IsFree event notes → word_of (sung_with notes text) event ≡ None
 unfolding sung_on
 silent event notes None free = refl
 silent event notes (Some text) free = silent_from (syllables_of text) (first_measure notes) event notes free
@@ -65,46 +79,72 @@ silent event notes (Some text) free = silent_from (syllables_of text) (first_mea
 abbrev StandOn : List ℕ → ℕ → ℕ → List SungNote → Type 0
 StandOn ends event row notes = All (λ (n : SungNote). n.event ≡ event → row_of ends n.line ≡ row) notes
 
-free_elsewhere : (ends : List ℕ) (event row other : ℕ) (notes : List SungNote) → StandOn ends event row notes → (other ≡ row → ⊥) → IsFree event (notes_on other ends notes)
+free_elsewhere : (ends : List ℕ) (event row other : ℕ) (notes : List SungNote)
+    → StandOn ends event row notes → (other ≡ row → ⊥) → IsFree event (notes_on other ends notes)
 free_elsewhere ends event row other [] stand apart = All-nil (λ (m : NoteAt). m.event ≡ event → ⊥)
 free_elsewhere ends event row other (n ∷ notes) stand apart =
-    by_test (row_of ends n.line == other) refl (free_elsewhere ends event row other notes (All-tail (λ (m : SungNote). m.event ≡ event → row_of ends m.line ≡ row) n notes stand) apart) where
-      by_test : (b : Bool) → (row_of ends n.line == other) ≡ b → IsFree event (notes_on other ends notes) → IsFree event (map sung_note_at (cond b (n ∷ filter (λ m. row_of ends m.line == other) notes) (filter (λ m. row_of ends m.line == other) notes)))
+    by_test (row_of ends n.line == other) refl
+    (free_elsewhere ends event row other notes
+    (All-tail (λ (m : SungNote). m.event ≡ event → row_of ends m.line ≡ row) n notes stand) apart) where
+      by_test : (b : Bool) → (row_of ends n.line == other) ≡ b → IsFree event (notes_on other ends notes)
+          → IsFree event
+          (map sung_note_at
+          (cond b (n ∷ filter (λ m. row_of ends m.line == other) notes)
+          (filter (λ m. row_of ends m.line == other) notes)))
       by_test true here rest =
           All-cons (λ (m : NoteAt). m.event ≡ event → ⊥) (sung_note_at n) (notes_on other ends notes)
-          (λ is. apart (sym (eqb-true (row_of ends n.line) other here) ∙ All-head (λ (m : SungNote). m.event ≡ event → row_of ends m.line ≡ row) n notes stand is)) rest
+          (λ is.
+          apart (sym (eqb-true (row_of ends n.line) other here)
+          ∙ All-head (λ (m : SungNote). m.event ≡ event → row_of ends m.line ≡ row) n notes stand is))
+          rest
       by_test false here rest = rest
 
-word_both : (one other : List Sung) (event : ℕ) → word_of (one ++ other) event ≡ option_or (word_of one event) (word_of other event)
+word_both : (one other : List Sung) (event : ℕ)
+    → word_of (one ++ other) event ≡ option_or (word_of one event) (word_of other event)
 word_both [] other event = refl
 word_both (s ∷ one) other event = by_test (s.event == event) refl (word_both one other event) where
-  by_test : (b : Bool) → (s.event == event) ≡ b → word_of (one ++ other) event ≡ option_or (word_of one event) (word_of other event) → word_of (s ∷ one ++ other) event ≡ option_or (word_of (s ∷ one) event) (word_of other event)
+  by_test : (b : Bool) → (s.event == event) ≡ b
+      → word_of (one ++ other) event ≡ option_or (word_of one event) (word_of other event)
+      → word_of (s ∷ one ++ other) event ≡ option_or (word_of (s ∷ one) event) (word_of other event)
   by_test true here rest = rw here refl
   by_test false here rest = rw here rest
 
 -- rows from one on, where all but one are silent
-all_silent : (rows : ℕ → MusicRow) (verse event from n : ℕ) → ((row : ℕ) → from ≤ row → word_of (sung_in verse (rows row)) event ≡ None) → word_of (verse_sung (map rows (range_with_len from n)) verse) event ≡ None
+all_silent : (rows : ℕ → MusicRow) (verse event from n : ℕ)
+    → ((row : ℕ) → from ≤ row → word_of (sung_in verse (rows row)) event ≡ None)
+    → word_of (verse_sung (map rows (range_with_len from n)) verse) event ≡ None
 all_silent rows verse event from zero none = refl
 all_silent rows verse event from (suc n) none =
     word_both (sung_in verse (rows from)) (verse_sung (map rows (range_with_len (from + 1) n)) verse) event
-    ∙ (ap (λ w. option_or w (word_of (verse_sung (map rows (range_with_len (from + 1) n)) verse) event)) (none from (omega arith))
+    ∙ (ap (λ w. option_or w (word_of (verse_sung (map rows (range_with_len (from + 1) n)) verse) event))
+    (none from (omega arith))
     ∙ all_silent rows verse event (from + 1) n (λ row le. none row (omega arith)))
 
-one_sings : (rows : ℕ → MusicRow) (verse event own from n : ℕ) → ((row : ℕ) → (row ≡ own → ⊥) → word_of (sung_in verse (rows row)) event ≡ None) → from ≤ own → own < from + n
+one_sings : (rows : ℕ → MusicRow) (verse event own from n : ℕ)
+    → ((row : ℕ) → (row ≡ own → ⊥) → word_of (sung_in verse (rows row)) event ≡ None) → from ≤ own → own < from + n
     → word_of (verse_sung (map rows (range_with_len from n)) verse) event ≡ word_of (sung_in verse (rows own)) event
 one_sings rows verse event own from zero none le less = absurd (omega arith)
 one_sings rows verse event own from (suc n) none le less =
     word_both (sung_in verse (rows from)) (verse_sung (map rows (range_with_len (from + 1) n)) verse) event
     ∙ by_place (cases_lt from own) (one_sings rows verse event own (from + 1) n none) where
-      by_place : (from < own) ⊎ (own ≤ from) → (from + 1 ≤ own → own < from + 1 + n → word_of (verse_sung (map rows (range_with_len (from + 1) n)) verse) event ≡ word_of (sung_in verse (rows own)) event)
-          → option_or (word_of (sung_in verse (rows from)) event) (word_of (verse_sung (map rows (range_with_len (from + 1) n)) verse) event) ≡ word_of (sung_in verse (rows own)) event
+      by_place : (from < own) ⊎ (own ≤ from)
+          → (from + 1 ≤ own → own < from + 1 + n
+          → word_of (verse_sung (map rows (range_with_len (from + 1) n)) verse) event
+          ≡ word_of (sung_in verse (rows own)) event)
+          → option_or (word_of (sung_in verse (rows from)) event)
+          (word_of (verse_sung (map rows (range_with_len (from + 1) n)) verse) event)
+          ≡ word_of (sung_in verse (rows own)) event
       by_place (inl before) rest =
-          ap (λ w. option_or w (word_of (verse_sung (map rows (range_with_len (from + 1) n)) verse) event)) (none from (λ same. let e : from ≡ own = same in absurd (omega arith)))
+          ap (λ w. option_or w (word_of (verse_sung (map rows (range_with_len (from + 1) n)) verse) event))
+          (none from (λ same. let e : from ≡ own = same in absurd (omega arith)))
           ∙ rest (omega arith) (omega arith)
       by_place (inr ge) rest =
           let here : from ≡ own = omega arith in
-          ap (option_or (word_of (sung_in verse (rows from)) event)) (all_silent rows verse event (from + 1) n (λ row le. none row (λ same. let e : row ≡ own = same in absurd (omega arith))))
-          ∙ (or_none (word_of (sung_in verse (rows from)) event) ∙ ap (λ r. word_of (sung_in verse (rows r)) event) here)
+          ap (option_or (word_of (sung_in verse (rows from)) event))
+          (all_silent rows verse event (from + 1) n
+          (λ row le. none row (λ same. let e : row ≡ own = same in absurd (omega arith))))
+          ∙ (or_none (word_of (sung_in verse (rows from)) event)
+          ∙ ap (λ r. word_of (sung_in verse (rows r)) event) here)
 
 -- a body has a row more than it has ends of rows
 row_more : (i : BodyItem) (row : ℕ) → row_behind i row ≡ row + length (row_end i)
@@ -116,46 +156,79 @@ row_more (BodyItem.LineEnd joined breaks line column) row = by_test joined where
 row_more (BodyItem.Voice def line column) row = omega arith
 row_more (BodyItem.Words text line) row = omega arith
 
-rows_behind : (items before : List BodyItem) → music_row_at (reverse items ++ before) ≡ music_row_at before + length (row_ends items)
+rows_behind : (items before : List BodyItem)
+    → music_row_at (reverse items ++ before) ≡ music_row_at before + length (row_ends items)
 rows_behind [] before = omega arith
 rows_behind (i ∷ items) before =
-    let turned : reverse (i ∷ items) ++ before ≡ reverse items ++ (i ∷ before) = ap (λ xs. xs ++ before) (reverse-append (i ∷ []) items) ∙ append_assoc (reverse items) (i ∷ []) before in
-    let rest : music_row_at (reverse items ++ (i ∷ before)) ≡ row_behind i (music_row_at before) + length (row_ends items) = rows_behind items (i ∷ before) in
-    let here : row_behind i (music_row_at before) ≡ music_row_at before + length (row_end i) = row_more i (music_row_at before) in
-    let both : length (row_end i ++ row_ends items) ≡ length (row_end i) + length (row_ends items) = length-append (row_end i) (row_ends items) in ap music_row_at turned ∙ omega arith
+    let turned : reverse (i ∷ items) ++ before ≡ reverse items ++ (i ∷ before) =
+    ap (λ xs. xs ++ before) (reverse-append (i ∷ []) items) ∙ append_assoc (reverse items) (i ∷ []) before in
+    let rest : music_row_at (reverse items ++ (i ∷ before)) ≡ row_behind i (music_row_at before) + length
+    (row_ends items) = rows_behind items (i ∷ before) in
+    let here : row_behind i (music_row_at before) ≡ music_row_at before + length (row_end i) =
+    row_more i (music_row_at before) in
+    let both : length (row_end i ++ row_ends items) ≡ length (row_end i) + length (row_ends items) =
+    length-append (row_end i) (row_ends items) in
+    ap music_row_at turned ∙ omega arith
 
 row_within : (items : List BodyItem) (line : ℕ) → row_of (row_ends items) line < row_count items
 row_within items line =
-    let whole : music_row_at (reverse items ++ []) ≡ music_row_at [] + length (row_ends items) = rows_behind items [] in let same : music_row_at (reverse items ++ []) ≡ music_row_at (reverse items) = ap music_row_at (append-nil (reverse items)) in
-    let most : row_of (row_ends items) line ≤ length (row_ends items) = row_of_within (row_ends items) line in omega arith
+    let whole : music_row_at (reverse items ++ []) ≡ music_row_at [] + length (row_ends items) = rows_behind items [] in
+    let same : music_row_at (reverse items ++ []) ≡ music_row_at (reverse items) =
+    ap music_row_at (append-nil (reverse items)) in
+    let most : row_of (row_ends items) line ≤ length (row_ends items) = row_of_within (row_ends items) line in
+    omega arith
 
 -- the place of an event and a verse
-pub at_place : (rows : List MusicRow) (verses count event verse : ℕ) → event < count → verse < verses → word_at (map (event_words rows verses) (range_with_len 0 count)) event verse ≡ word_of (verse_sung rows verse) event
+pub at_place : (rows : List MusicRow) (verses count event verse : ℕ)
+    → event < count → verse < verses
+    → word_at (map (event_words rows verses) (range_with_len 0 count)) event verse
+    ≡ word_of (verse_sung rows verse) event
 at_place rows verses count event verse less within =
-    ap (λ ws. slice_index_or ws verse None) (get_or-map-range_with_len (event_words rows verses) 0 count event event [] less (omega arith))
+    ap (λ ws. slice_index_or ws verse None)
+    (get_or-map-range_with_len (event_words rows verses) 0 count event event [] less (omega arith))
     ∙ get_or-map-range_with_len (λ v. word_of (verse_sung rows v) event) 0 verses verse verse None within (omega arith)
 
-stand_apart : (ends : List ℕ) (notes : List SungNote) (i : ℕ) (d : SungNote) → AreOfDistinctEvents notes → i < length notes → StandOn ends (get_or notes i d).event (row_of ends (get_or notes i d).line) notes
-stand_apart ends notes i d apart less k e inside same = let at : k ≡ i = apart k i e d inside less same in ap (λ (n : SungNote). row_of ends n.line) (ap (λ j. get_or notes j e) at ∙ get_or_default notes i e d less)
+stand_apart : (ends : List ℕ) (notes : List SungNote) (i : ℕ) (d : SungNote)
+    → AreOfDistinctEvents notes → i < length notes
+    → StandOn ends (get_or notes i d).event (row_of ends (get_or notes i d).line) notes
+stand_apart ends notes i d apart less k e inside same =
+    let at : k ≡ i = apart k i e d inside less same in
+    ap (λ (n : SungNote). row_of ends n.line) (ap (λ j. get_or notes j e) at ∙ get_or_default notes i e d less)
 
-pub own_words : (id unnamed : List ℕ) (items : List BodyItem) (notes : List SungNote) (count i verse : ℕ) (d : SungNote) (words : List (List (Option (List ℕ))))
-    → words ≡ words_of_events id unnamed items notes count → AreOfDistinctEvents notes → i < length notes → (get_or notes i d).event < count → verse < verse_count id unnamed items
+pub own_words : (id unnamed : List ℕ) (items : List BodyItem) (notes : List SungNote) (count i verse : ℕ) (d : SungNote)
+    (words : List (List (Option (List ℕ))))
+    → words ≡ words_of_events id unnamed items notes count → AreOfDistinctEvents notes → i < length notes
+    → (get_or notes i d).event < count
+    → verse < verse_count id unnamed items
     → word_at words (get_or notes i d).event verse ≡ own_word id unnamed items notes (get_or notes i d) verse
 own_words id unnamed items notes count i verse d words are apart inside less within =
-    let rows : ℕ → MusicRow = music_row (verses_of_voice id unnamed items) (row_ends items) notes in let own : ℕ = row_of (row_ends items) (get_or notes i d).line in
+    let rows : ℕ → MusicRow = music_row (verses_of_voice id unnamed items) (row_ends items) notes in
+    let own : ℕ = row_of (row_ends items) (get_or notes i d).line in
     ap (λ ws. word_at ws (get_or notes i d).event verse) are
-    ∙ (at_place (music_rows id unnamed items notes) (verse_count id unnamed items) count (get_or notes i d).event verse less within
+    ∙ (at_place (music_rows id unnamed items notes) (verse_count id unnamed items) count (get_or notes i d).event verse
+    less within
     ∙ one_sings rows verse (get_or notes i d).event own 0 (row_count items)
-    (λ row other. silent (get_or notes i d).event (notes_on row (row_ends items) notes) (slice_get (rows row).texts verse) (free_elsewhere (row_ends items) (get_or notes i d).event own row notes (stand_apart (row_ends items) notes i d apart inside) other))
+    (λ row other.
+    silent (get_or notes i d).event (notes_on row (row_ends items) notes) (slice_get (rows row).texts verse)
+    (free_elsewhere (row_ends items) (get_or notes i d).event own row notes
+    (stand_apart (row_ends items) notes i d apart inside) other))
     (omega arith) (let inner : own < row_count items = row_within items (get_or notes i d).line in omega arith))
 
-free_of : (ends : List ℕ) (event row : ℕ) (notes : List SungNote) → All (λ n. n.event ≡ event → ⊥) notes → StandOn ends event row notes
+free_of : (ends : List ℕ) (event row : ℕ) (notes : List SungNote)
+    → All (λ n. n.event ≡ event → ⊥) notes → StandOn ends event row notes
 free_of ends event row notes free k d inside same = absurd (free k d inside same)
 
-pub no_words_elsewhere : (id unnamed : List ℕ) (items : List BodyItem) (notes : List SungNote) (count event verse : ℕ) (words : List (List (Option (List ℕ))))
-    → words ≡ words_of_events id unnamed items notes count → All (λ n. n.event ≡ event → ⊥) notes → event < count → verse < verse_count id unnamed items → word_at words event verse ≡ None
+pub no_words_elsewhere : (id unnamed : List ℕ) (items : List BodyItem) (notes : List SungNote) (count event verse : ℕ)
+    (words : List (List (Option (List ℕ))))
+    → words ≡ words_of_events id unnamed items notes count → All (λ n. n.event ≡ event → ⊥) notes → event < count
+    → verse < verse_count id unnamed items
+    → word_at words event verse ≡ None
 no_words_elsewhere id unnamed items notes count event verse words are free less within =
     let rows : ℕ → MusicRow = music_row (verses_of_voice id unnamed items) (row_ends items) notes in
-    ap (λ ws. word_at ws event verse) are ∙ (at_place (music_rows id unnamed items notes) (verse_count id unnamed items) count event verse less within
+    ap (λ ws. word_at ws event verse) are
+    ∙ (at_place (music_rows id unnamed items notes) (verse_count id unnamed items) count event verse less within
     ∙ all_silent rows verse event 0 (row_count items)
-    (λ row le. silent event (notes_on row (row_ends items) notes) (slice_get (rows row).texts verse) (free_elsewhere (row_ends items) event (row + 1) row notes (free_of (row_ends items) event (row + 1) notes free) (λ same. let e : row ≡ row + 1 = same in absurd (omega arith)))))
+    (λ row le.
+    silent event (notes_on row (row_ends items) notes) (slice_get (rows row).texts verse)
+    (free_elsewhere (row_ends items) event (row + 1) row notes (free_of (row_ends items) event (row + 1) notes free)
+    (λ same. let e : row ≡ row + 1 = same in absurd (omega arith)))))

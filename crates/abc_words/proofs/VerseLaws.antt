@@ -29,13 +29,16 @@ row_before (BodyItem.Voice def line column) row n less = less
 row_before (BodyItem.Words text line) row n less = less
 
 -- the rows of a voice begin before their place
-last_within : (id unnamed : List ℕ) (before : List BodyItem) (n : ℕ) → music_row_at before < n → LastWithin n (last_row id unnamed before)
+last_within : (id unnamed : List ℕ) (before : List BodyItem) (n : ℕ)
+    → music_row_at before < n → LastWithin n (last_row id unnamed before)
 last_within id unnamed [] n less = tt
 last_within id unnamed (BodyItem.Step s ∷ before) n less = last_within id unnamed before n less
 last_within id unnamed (BodyItem.LineEnd joined breaks line column ∷ before) n less =
-    let here : music_row_at before < n = row_before (BodyItem.LineEnd joined breaks line column) (music_row_at before) n less in
+    let here : music_row_at before < n =
+    row_before (BodyItem.LineEnd joined breaks line column) (music_row_at before) n less in
     by_test (is_line_of id unnamed before) here (last_within id unnamed before n here) where
-      by_test : (b : Bool) → music_row_at before < n → LastWithin n (last_row id unnamed before) → LastWithin n (cond b (Some (music_row_at before)) (last_row id unnamed before))
+      by_test : (b : Bool) → music_row_at before < n → LastWithin n (last_row id unnamed before)
+          → LastWithin n (cond b (Some (music_row_at before)) (last_row id unnamed before))
       by_test true here rest = here
       by_test false here rest = rest
 last_within id unnamed (BodyItem.Voice def line column ∷ before) n less = last_within id unnamed before n less
@@ -57,25 +60,36 @@ rows_rise [] before n less = less
 rows_rise (i ∷ behind) before n less = rows_rise behind before n (row_before i (music_row_at (behind ++ before)) n less)
 
 one_on : (i : BodyItem) (before items : List BodyItem) → reverse (i ∷ items) ++ before ≡ reverse items ++ (i ∷ before)
-one_on i before items = ap (λ xs. xs ++ before) (reverse-append (i ∷ []) items) ∙ append_assoc (reverse items) (i ∷ []) before
+one_on i before items =
+    ap (λ xs. xs ++ before) (reverse-append (i ∷ []) items) ∙ append_assoc (reverse items) (i ∷ []) before
 
-all_within : (id unnamed : List ℕ) (before items : List BodyItem) (n : ℕ) → music_row_at (reverse items ++ before) < n → All (IsWithin n) (verses_from id unnamed before items)
+all_within : (id unnamed : List ℕ) (before items : List BodyItem) (n : ℕ)
+    → music_row_at (reverse items ++ before) < n → All (IsWithin n) (verses_from id unnamed before items)
 all_within id unnamed before [] n less = All-nil (IsWithin n)
 all_within id unnamed before (i ∷ items) n less =
-    let here : music_row_at before < n = rows_rise (reverse (i ∷ items)) before n less in let more : music_row_at (reverse items ++ (i ∷ before)) < n = subst (λ xs. music_row_at xs < n) (one_on i before items) less in
+    let here : music_row_at before < n = rows_rise (reverse (i ∷ items)) before n less in
+    let more : music_row_at (reverse items ++ (i ∷ before)) < n =
+    subst (λ xs. music_row_at xs < n) (one_on i before items) less in
     All-append (IsWithin n) (verse_at (place_at id unnamed before) i) (verses_from id unnamed (i ∷ before) items)
     (verse_within (place_at id unnamed before) i n (last_within id unnamed before n here))
     (all_within id unnamed (i ∷ before) items n more)
 
-pub verses_within : (id unnamed : List ℕ) (items : List BodyItem) → All (λ v. v.row < row_count items) (verses_of_voice id unnamed items)
-verses_within id unnamed items = all_within id unnamed [] items (row_count items) (subst (λ xs. music_row_at xs < row_count items) (sym (append-nil (reverse items))) (omega arith))
+pub verses_within : (id unnamed : List ℕ) (items : List BodyItem)
+    → All (λ v. v.row < row_count items) (verses_of_voice id unnamed items)
+verses_within id unnamed items =
+    all_within id unnamed [] items (row_count items)
+    (subst (λ xs. music_row_at xs < row_count items) (sym (append-nil (reverse items))) (omega arith))
 
-pub found_within : (id unnamed : List ℕ) (items : List BodyItem) (verses : List Verse) (rows : ℕ) → verses ≡ verses_of_voice id unnamed items → rows ≡ row_count items → All (λ v. v.row < rows) verses
+pub found_within : (id unnamed : List ℕ) (items : List BodyItem) (verses : List Verse) (rows : ℕ)
+    → verses ≡ verses_of_voice id unnamed items → rows ≡ row_count items → All (λ v. v.row < rows) verses
 found_within id unnamed items verses rows are is =
-    let P : List Verse → Type 0 = λ vs. All (λ v. v.row < rows) vs in let Q : ℕ → Type 0 = λ n. All (λ v. v.row < n) (verses_of_voice id unnamed items) in subst P (sym are) (subst Q (sym is) (verses_within id unnamed items))
+    let P : List Verse → Type 0 = λ vs. All (λ v. v.row < rows) vs in
+    let Q : ℕ → Type 0 = λ n. All (λ v. v.row < n) (verses_of_voice id unnamed items) in
+    subst P (sym are) (subst Q (sym is) (verses_within id unnamed items))
 
 -- ---- a body without words
-none_along : (id unnamed : List ℕ) (before items : List BodyItem) → list_any is_words_item items ≡ false → verses_from id unnamed before items ≡ []
+none_along : (id unnamed : List ℕ) (before items : List BodyItem)
+    → list_any is_words_item items ≡ false → verses_from id unnamed before items ≡ []
 none_along id unnamed before [] none = refl
 none_along id unnamed before (BodyItem.Words text line ∷ items) none = absurd cc
 none_along id unnamed before (i ∷ items) none = none_along id unnamed (i ∷ before) items none
@@ -84,8 +98,14 @@ none_counted : (rows : List ℕ) → fold max 0 (map (λ row. number_on row []) 
 none_counted [] = refl
 none_counted (row ∷ rows) = none_counted rows
 
-pub no_words_no_count : (id unnamed : List ℕ) (items : List BodyItem) → list_any is_words_item items ≡ false → 0 ≡ verse_count id unnamed items
-no_words_no_count id unnamed items none = let rows = range_with_len 0 (row_count items) in sym (ap (λ vs. fold max 0 (map (λ row. number_on row vs) rows)) (none_along id unnamed [] items none) ∙ none_counted rows)
+pub no_words_no_count : (id unnamed : List ℕ) (items : List BodyItem)
+    → list_any is_words_item items ≡ false → 0 ≡ verse_count id unnamed items
+no_words_no_count id unnamed items none =
+    let rows = range_with_len 0 (row_count items) in
+    sym (ap (λ vs. fold max 0 (map (λ row. number_on row vs) rows)) (none_along id unnamed [] items none)
+    ∙ none_counted rows)
 
-pub no_words_no_fault : (id unnamed : List ℕ) (items : List BodyItem) → list_any is_words_item items ≡ false → None ≡ verse_fault id unnamed items
-no_words_no_fault id unnamed items none = ap (λ vs. first_verse_fault (faults_from [] vs)) (sym (none_along id unnamed [] items none))
+pub no_words_no_fault : (id unnamed : List ℕ) (items : List BodyItem)
+    → list_any is_words_item items ≡ false → None ≡ verse_fault id unnamed items
+no_words_no_fault id unnamed items none =
+    ap (λ vs. first_verse_fault (faults_from [] vs)) (sym (none_along id unnamed [] items none))

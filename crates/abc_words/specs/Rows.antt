@@ -39,7 +39,8 @@ is_claimed (i ∷ before) = is_claimed before
 abbrev pub is_own : List ℕ → List ℕ → List BodyItem → Bool
 is_own id unnamed [] = false
 is_own id unnamed (BodyItem.LineEnd joined breaks line column ∷ before) = false
-is_own id unnamed (BodyItem.Step s ∷ before) = (claims s.step && is_current id unnamed before) || is_own id unnamed before
+is_own id unnamed (BodyItem.Step s ∷ before) =
+    (claims s.step && is_current id unnamed before) || is_own id unnamed before
 is_own id unnamed (i ∷ before) = is_own id unnamed before
 
 -- A physical line that ends at a place is a line of each voice that one of its steps claims; where
@@ -50,16 +51,24 @@ is_line_of id unnamed before = is_own id unnamed before || (not (is_claimed befo
 -- the row of the last line of a voice before a place
 abbrev pub last_row : List ℕ → List ℕ → List BodyItem → Option ℕ
 last_row id unnamed [] = None
-last_row id unnamed (BodyItem.LineEnd joined breaks line column ∷ before) = if is_line_of id unnamed before then Some (music_row_at before) else last_row id unnamed before
+last_row id unnamed (BodyItem.LineEnd joined breaks line column ∷ before) =
+    if is_line_of id unnamed before then Some (music_row_at before) else last_row id unnamed before
 last_row id unnamed (i ∷ before) = last_row id unnamed before
 
 -- what a walk along the items knows of a place
 abbrev pub place_at : List ℕ → List ℕ → List BodyItem → RowState
-place_at id unnamed before = record { row = music_row_at before; current = is_current id unnamed before; claimed = is_claimed before; own = is_own id unnamed before; last = last_row id unnamed before }
+place_at id unnamed before = record {
+  row = music_row_at before;
+  current = is_current id unnamed before;
+  claimed = is_claimed before;
+  own = is_own id unnamed before;
+  last = last_row id unnamed before;
+}
 
 -- what a walk knows behind a step, and behind the end of a music line
 abbrev pub behind_step : RowState → Bool → RowState
-behind_step place claims = record place { claimed = claims || place.claimed; own = (claims && place.current) || place.own }
+behind_step place claims =
+    record place { claimed = claims || place.claimed; own = (claims && place.current) || place.own }
 
 abbrev pub behind_end : RowState → Bool → RowState
 behind_end place joined = record {

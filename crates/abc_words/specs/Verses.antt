@@ -1,4 +1,5 @@
--- The verses of a voice: the texts of its `w:` lines, each on its last row there; how many verses the voice has; and which texts are too many.
+-- The verses of a voice: the texts of its `w:` lines, each on its last row there; how many verses the voice has; and
+-- which texts are too many.
 use Rattle.std.specs.Prelude.{ℕ, ◌==◌, nat_le, max, List, [], ◌∷◌, ◌++◌, Bool, true, false, if◌then◌else◌, map, fold}
 use Rattle.std.specs.Prelude.{count_by, Option, Some, None}
 use Rattle.std.specs.List.{range_with_len}
@@ -25,7 +26,8 @@ is_words_item _ = false
 
 abbrev pub verses_from : List ℕ → List ℕ → List BodyItem → List BodyItem → List Verse
 verses_from id unnamed before [] = []
-verses_from id unnamed before (i ∷ behind) = verse_at (place_at id unnamed before) i ++ verses_from id unnamed (i ∷ before) behind
+verses_from id unnamed before (i ∷ behind) =
+    verse_at (place_at id unnamed before) i ++ verses_from id unnamed (i ∷ before) behind
 
 -- the verses of a voice, in the order of the text
 abbrev pub verses_of_voice : List ℕ → List ℕ → List BodyItem → List Verse

@@ -43,7 +43,8 @@ abbrev pub music_row : List Verse → List ℕ → List SungNote → ℕ → Mus
 music_row verses ends notes row = record { texts = texts_on row verses; notes = notes_on row ends notes }
 
 abbrev pub music_rows : List ℕ → List ℕ → List BodyItem → List SungNote → List MusicRow
-music_rows id unnamed items notes = map (music_row (verses_of_voice id unnamed items) (row_ends items) notes) (range_with_len 0 (row_count items))
+music_rows id unnamed items notes =
+    map (music_row (verses_of_voice id unnamed items) (row_ends items) notes) (range_with_len 0 (row_count items))
 
 -- what is sung in a verse on a row: nothing where the row has no text for it
 abbrev pub sung_with : List NoteAt → Option (List ℕ) → List Sung
@@ -65,7 +66,8 @@ event_words rows verses event = map (λ verse. word_of (verse_sung rows verse) e
 
 -- the words of so many events, for each a place per verse
 abbrev pub words_of_events : List ℕ → List ℕ → List BodyItem → List SungNote → ℕ → List (List (Option (List ℕ)))
-words_of_events id unnamed items notes count = map (event_words (music_rows id unnamed items notes) (verse_count id unnamed items)) (range_with_len 0 count)
+words_of_events id unnamed items notes count =
+    map (event_words (music_rows id unnamed items notes) (verse_count id unnamed items)) (range_with_len 0 count)
 
 -- ---- what the words are, event by event
 abbrev pub word_at : List (List (Option (List ℕ))) → ℕ → ℕ → Option (List ℕ)
@@ -73,21 +75,32 @@ word_at words event verse = slice_index_or (slice_index_or words event []) verse
 
 -- what is sung on a note in a verse, by the texts and the notes of the note's own row
 abbrev pub own_word : List ℕ → List ℕ → List BodyItem → List SungNote → SungNote → ℕ → Option (List ℕ)
-own_word id unnamed items notes note verse = word_of (sung_in verse (music_row (verses_of_voice id unnamed items) (row_ends items) notes (row_of (row_ends items) note.line))) note.event
+own_word id unnamed items notes note verse =
+    word_of (sung_in verse
+    (music_row (verses_of_voice id unnamed items) (row_ends items) notes (row_of (row_ends items) note.line)))
+    note.event
 
 -- no two notes are of one event
 abbrev pub AreOfDistinctEvents : List SungNote → Type 0
-AreOfDistinctEvents notes = (i j : ℕ) (c d : SungNote) → i < length notes → j < length notes → (slice_index_or notes i c).event ≡ (slice_index_or notes j d).event → i ≡ j
+AreOfDistinctEvents notes =
+    (i j : ℕ) (c d : SungNote)
+    → i < length notes → j < length notes → (slice_index_or notes i c).event ≡ (slice_index_or notes j d).event → i ≡ j
 
 -- each note has its own words
 abbrev pub HaveOwnWords : List ℕ → List ℕ → List BodyItem → List SungNote → ℕ → List (List (Option (List ℕ))) → Type 0
 HaveOwnWords id unnamed items notes count words =
-    AreOfDistinctEvents notes → (i verse : ℕ) (d : SungNote) → i < length notes → (slice_index_or notes i d).event < count → verse < verse_count id unnamed items
-    → word_at words (slice_index_or notes i d).event verse ≡ own_word id unnamed items notes (slice_index_or notes i d) verse
+    AreOfDistinctEvents notes
+    → (i verse : ℕ) (d : SungNote) → i < length notes → (slice_index_or notes i d).event < count
+    → verse < verse_count id unnamed items
+    → word_at words (slice_index_or notes i d).event verse
+    ≡ own_word id unnamed items notes (slice_index_or notes i d) verse
 
 -- an event without a note has no words
-abbrev pub HasNoOtherWords : List ℕ → List ℕ → List BodyItem → List SungNote → ℕ → List (List (Option (List ℕ))) → Type 0
-HasNoOtherWords id unnamed items notes count words = (event verse : ℕ) → All (λ n. n.event ≡ event → ⊥) notes → event < count → verse < verse_count id unnamed items → word_at words event verse ≡ None
+abbrev pub HasNoOtherWords : List ℕ
+    → List ℕ → List BodyItem → List SungNote → ℕ → List (List (Option (List ℕ))) → Type 0
+HasNoOtherWords id unnamed items notes count words =
+    (event verse : ℕ) → All (λ n. n.event ≡ event → ⊥) notes → event < count → verse < verse_count id unnamed items
+    → word_at words event verse ≡ None
 
 -- ---- rows as they are filled
 abbrev pub no_music : MusicRow

@@ -98,7 +98,10 @@ fn empty_rows(alloc: Global, n: usize) -> Result<Vec<MusicRow>, Memory>
 
 /// Adds the text of a verse to its row.
 fn put_text(rows: &mut [MusicRow], verse: Verse) -> Result<(), Memory>
-    ensures { OnOk result ((k : ℕ) → k < length rows.old → slice_index_or rows.new k no_music ≡ row_with_texts (slice_index_or rows.old k no_music) (texts_on k (verse ∷ []))) }
+    ensures { OnOk result
+        ((k : ℕ) → k < length rows.old
+        → slice_index_or rows.new k no_music
+        ≡ row_with_texts (slice_index_or rows.old k no_music) (texts_on k (verse ∷ []))) }
 {
     if verse.row >= rows.len() {
         return Ok(());
@@ -108,7 +111,10 @@ fn put_text(rows: &mut [MusicRow], verse: Verse) -> Result<(), Memory>
 
 /// Adds a note to a row.
 fn put_note(rows: &mut [MusicRow], row: usize, note: NoteAt) -> Result<(), Memory>
-    ensures { OnOk result ((k : ℕ) → k < length rows.old → slice_index_or rows.new k no_music ≡ with_notes (slice_index_or rows.old k no_music) (if row == k then note ∷ [] else [])) }
+    ensures { OnOk result
+        ((k : ℕ) → k < length rows.old
+        → slice_index_or rows.new k no_music
+        ≡ with_notes (slice_index_or rows.old k no_music) (if row == k then note ∷ [] else [])) }
 {
     if row >= rows.len() {
         return Ok(());
@@ -119,7 +125,10 @@ fn put_note(rows: &mut [MusicRow], row: usize, note: NoteAt) -> Result<(), Memor
 /// Adds the texts of verses to their rows.
 fn put_texts(rows: &mut Vec<MusicRow>, verses: Row<Verse>) -> Result<(), Memory>
     ensures len { OnOk result (length rows.new.items ≡ length rows.old.items) }
-    ensures rows { OnOk result ((k : ℕ) → k < length rows.old.items → slice_index_or rows.new.items k no_music ≡ row_with_texts (slice_index_or rows.old.items k no_music) (texts_on k verses)) }
+    ensures rows { OnOk result
+        ((k : ℕ) → k < length rows.old.items
+        → slice_index_or rows.new.items k no_music
+        ≡ row_with_texts (slice_index_or rows.old.items k no_music) (texts_on k verses)) }
 {
     for verse in verses.items {
         put_text(rows, verse)?;
@@ -131,7 +140,10 @@ fn put_texts(rows: &mut Vec<MusicRow>, verses: Row<Verse>) -> Result<(), Memory>
 #[tactic(auto, using(crate::proofs::Lines::row_of_zero))]
 fn put_notes(rows: &mut Vec<MusicRow>, ends: &[u32], notes: &[SungNote]) -> Result<(), Memory>
     ensures len { OnOk result (length rows.new.items ≡ length rows.old.items) }
-    ensures rows { OnOk result ((k : ℕ) → k < length rows.old.items → slice_index_or rows.new.items k no_music ≡ with_notes (slice_index_or rows.old.items k no_music) (notes_on k ends.now notes.now)) }
+    ensures rows { OnOk result
+        ((k : ℕ) → k < length rows.old.items
+        → slice_index_or rows.new.items k no_music
+        ≡ with_notes (slice_index_or rows.old.items k no_music) (notes_on k ends.now notes.now)) }
 {
     let mut row = 0;
     let mut last = 0;

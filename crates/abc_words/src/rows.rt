@@ -66,7 +66,8 @@ fn behind_end(place: RowState, joined: bool) -> RowState
 /// The place behind an item.
 pub(crate) fn state_after(id: &[u8], place: RowState, item: &BodyItem) -> RowState
     requires { place.row + 1 < 2 ^ 64 }
-    ensures place { (unnamed : List ℕ) (before : List BodyItem) → place ≡ place_at id.now unnamed before → result ≡ place_at id.now unnamed (item.now ∷ before) }
+    ensures place { (unnamed : List ℕ) (before : List BodyItem)
+        → place ≡ place_at id.now unnamed before → result ≡ place_at id.now unnamed (item.now ∷ before) }
     ensures row { result.row ≤ place.row + 1 }
 {
     match item {

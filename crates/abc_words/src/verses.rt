@@ -86,7 +86,8 @@ pub(crate) fn verses_of_voice(
 fn count_one(counts: &mut Vec<usize>, row: usize)
     requires { (k : ℕ) → slice_index counts.old.items k + 1 < 2 ^ 64 }
     ensures len { length counts.new.items ≡ length counts.old.items }
-    ensures counts { (k : ℕ) → k < length counts.old.items → slice_index counts.new.items k ≡ slice_index counts.old.items k + cond (row == k) 1 0 }
+    ensures counts { (k : ℕ) → k < length counts.old.items
+        → slice_index counts.new.items k ≡ slice_index counts.old.items k + cond (row == k) 1 0 }
 {
     if row < counts.len() {
         counts[row] += 1;

@@ -50,7 +50,8 @@ fn no_words(alloc: Global, count: usize) -> Result<Vec<Option<Text>>, Memory>
 
 /// Puts what is sung on the place of its event, where that has no words yet.
 fn put_word(words: &mut [Option<Text>], one: Sung)
-    ensures { (k : ℕ) → k < length words.old → slice_index_or words.new k None ≡ option_or (slice_index_or words.old k None) (word_of (one ∷ []) k) }
+    ensures { (k : ℕ) → k < length words.old
+        → slice_index_or words.new k None ≡ option_or (slice_index_or words.old k None) (word_of (one ∷ []) k) }
 {
     let place = one.event as usize;
     if place < words.len() && words[place].is_none() {
@@ -76,7 +77,9 @@ fn all_words(
     verses: usize,
     count: usize,
 ) -> Result<Row<Row<Option<Text>>>, Memory>
-    ensures { IfOk result (λ all. all ≡ map (λ verse. map (word_of (verse_sung rows.now verse)) (range_with_len 0 count)) (range_with_len 0 verses)) }
+    ensures { IfOk result (λ all.
+        all
+        ≡ map (λ verse. map (word_of (verse_sung rows.now verse)) (range_with_len 0 count)) (range_with_len 0 verses)) }
 {
     let mut all = Row::new(alloc);
     for verse in 0..verses {
@@ -95,7 +98,11 @@ fn voice_words(
     verses: usize,
     count: usize,
 ) -> Result<Row<Row<Option<Text>>>, Memory>
-    ensures { IfOk result (λ all. all ≡ map (λ verse. map (word_of (verse_sung (music_rows id.now unnamed.now items.now notes.now) verse)) (range_with_len 0 count)) (range_with_len 0 verses)) }
+    ensures { IfOk result (λ all.
+        all
+        ≡ map (λ verse.
+        map (word_of (verse_sung (music_rows id.now unnamed.now items.now notes.now) verse)) (range_with_len 0 count))
+        (range_with_len 0 verses)) }
 {
     if verses == 0 {
         return Ok(Row::new(alloc));

@@ -14,20 +14,27 @@ abbrev Is : Called → Called → Type 0
 Is called other = other ≡ called
 
 -- both texts were written
-answered_whole : (called : Called) (o e : Stream) (s : Status) → IsCompleteStatus s → s ≡ called.status → WroteWhole o called.page → WroteWhole e called.told → IsAnswered (Is called) s o e
+answered_whole : (called : Called) (o e : Stream) (s : Status)
+    → IsCompleteStatus s → s ≡ called.status → WroteWhole o called.page → WroteWhole e called.told
+    → IsAnswered (Is called) s o e
 answered_whole called o e Status.Done end is page told = (called, refl, is, page, told)
 answered_whole called o e Status.SomeRefused end is page told = (called, refl, is, page, told)
 answered_whole called o e Status.NotLeast end is page told = (called, refl, is, page, told)
 answered_whole called o e s end is page told = absurd end
 
 -- output has its whole text, and then errors was told its own
-pub answered_end : (called : Called) (o e : Stream) (s : Status) → IsCompleteStatus called.status → WroteWhole o called.page
-    → ((s ≡ called.status) × WroteWhole e called.told) ⊎ ((s ≡ Status.WriteFault) × FailedAfterPrefix e called.told) → IsAnswered (Is called) s o e
-answered_end called o e s end page (inl told) = answered_whole called o e s (subst IsCompleteStatus (sym told.0) end) told.0 page told.1
-answered_end called o e s end page (inr cut) = subst (λ t. IsAnswered (Is called) t o e) (sym cut.0) (called, refl, inr (page, cut.1))
+pub answered_end : (called : Called) (o e : Stream) (s : Status)
+    → IsCompleteStatus called.status → WroteWhole o called.page
+    → ((s ≡ called.status) × WroteWhole e called.told) ⊎ ((s ≡ Status.WriteFault) × FailedAfterPrefix e called.told)
+    → IsAnswered (Is called) s o e
+answered_end called o e s end page (inl told) =
+    answered_whole called o e s (subst IsCompleteStatus (sym told.0) end) told.0 page told.1
+answered_end called o e s end page (inr cut) =
+    subst (λ t. IsAnswered (Is called) t o e) (sym cut.0) (called, refl, inr (page, cut.1))
 
 -- what is answered for something is answered for what it is
-pub answered_weaker : (C D : Called → Type 0) → ((called : Called) → C called → D called) → (o e : Stream) (s : Status) → IsAnswered C s o e → IsAnswered D s o e
+pub answered_weaker : (C D : Called → Type 0)
+    → ((called : Called) → C called → D called) → (o e : Stream) (s : Status) → IsAnswered C s o e → IsAnswered D s o e
 answered_weaker C D give o e Status.Done r = (r.0, give r.0 r.1, r.2, r.3, r.4)
 answered_weaker C D give o e Status.SomeRefused r = (r.0, give r.0 r.1, r.2, r.3, r.4)
 answered_weaker C D give o e Status.NotLeast r = (r.0, give r.0 r.1, r.2, r.3, r.4)
@@ -37,7 +44,9 @@ answered_weaker C D give o e Status.Memory (quiet, inr part) = (quiet, inr (part
 answered_weaker C D give o e s r = absurd r
 
 -- what is answered for something is answered for what a command calls for, if that is it
-pub answer_of : (c : Command) (text : List ℕ) (C : Called → Type 0) → ((called : Called) → C called → Calls c text called) → (o e : Stream) (s : Status) → IsAnswered C s o e → IsAnswer c s text o e
+pub answer_of : (c : Command) (text : List ℕ) (C : Called → Type 0)
+    → ((called : Called) → C called → Calls c text called) → (o e : Stream) (s : Status) → IsAnswered C s o e
+    → IsAnswer c s text o e
 answer_of c text C give o e Status.Done r = (r.0, give r.0 r.1, r.2, r.3, r.4)
 answer_of c text C give o e Status.SomeRefused r = (r.0, give r.0 r.1, r.2, r.3, r.4)
 answer_of c text C give o e Status.NotLeast r = (r.0, give r.0 r.1, r.2, r.3, r.4)
@@ -47,24 +56,33 @@ answer_of c text C give o e Status.Memory (quiet, inr part) = (quiet, inr (inl (
 answer_of c text C give o e s r = absurd r
 
 -- the same of one thing that is called for
-pub answer_by : (c : Command) (text : List ℕ) (called : Called) → Calls c text called → (o e : Stream) (s : Status) → IsAnswered (Is called) s o e → IsAnswer c s text o e
-answer_by c text called calls o e s r = answer_of c text (Is called) (λ other is. subst (Calls c text) (sym is) calls) o e s r
+pub answer_by : (c : Command) (text : List ℕ) (called : Called)
+    → Calls c text called → (o e : Stream) (s : Status) → IsAnswered (Is called) s o e → IsAnswer c s text o e
+answer_by c text called calls o e s r =
+    answer_of c text (Is called) (λ other is. subst (Calls c text) (sym is) calls) o e s r
 
 -- the input was refused, or memory ran out
-pub answer_refused : (c : Command) (text : List ℕ) (refusal : Refusal) (o e : Stream) (s : Status) → Refuses c text refusal → IsQuiet o
-    → ((s ≡ Status.Memory) × IsQuiet e) ⊎ ((s ≡ refusal_status refusal) × ReportsLine e (refusal_line refusal)) → IsAnswer c s text o e
-answer_refused c text refusal o e s refuses quiet (inl none) = subst (λ t. IsAnswer c t text o e) (sym none.0) (none.1, inl quiet)
-answer_refused c text (Refusal.NotPages line) o e s refuses quiet (inr told) = subst (λ t. IsAnswer c t text o e) (sym told.0) (Refusal.NotPages line, refuses, refl, quiet, told.1)
-answer_refused c text (Refusal.Halted token cause) o e s refuses quiet (inr told) = subst (λ t. IsAnswer c t text o e) (sym told.0) (Refusal.Halted token cause, refuses, refl, quiet, told.1)
+pub answer_refused : (c : Command) (text : List ℕ) (refusal : Refusal) (o e : Stream) (s : Status)
+    → Refuses c text refusal → IsQuiet o
+    → ((s ≡ Status.Memory) × IsQuiet e) ⊎ ((s ≡ refusal_status refusal) × ReportsLine e (refusal_line refusal))
+    → IsAnswer c s text o e
+answer_refused c text refusal o e s refuses quiet (inl none) =
+    subst (λ t. IsAnswer c t text o e) (sym none.0) (none.1, inl quiet)
+answer_refused c text (Refusal.NotPages line) o e s refuses quiet (inr told) =
+    subst (λ t. IsAnswer c t text o e) (sym told.0) (Refusal.NotPages line, refuses, refl, quiet, told.1)
+answer_refused c text (Refusal.Halted token cause) o e s refuses quiet (inr told) =
+    subst (λ t. IsAnswer c t text o e) (sym told.0) (Refusal.Halted token cause, refuses, refl, quiet, told.1)
 
 -- what was read of a command that reads
-pub read_of : (c : Command) (i : Stream) (text : List ℕ) → ReadsInput c → ReadAll (limit_of c) i text → IsInputRead c i text
+pub read_of : (c : Command) (i : Stream) (text : List ℕ)
+    → ReadsInput c → ReadAll (limit_of c) i text → IsInputRead c i text
 read_of (Command.Make tunes) i text reads read = absurd reads
 read_of (Command.Trial tunes flow jobs even) i text reads read = absurd reads
 read_of c i text reads read = read
 
 -- a command that was answered was obeyed
-pub obeyed_of : (c : Command) (i o e : Stream) (text : List ℕ) (s : Status) → IsInputRead c i text → IsAnswer c s text o e → IsCommandAnswer c s i o e
+pub obeyed_of : (c : Command) (i o e : Stream) (text : List ℕ) (s : Status)
+    → IsInputRead c i text → IsAnswer c s text o e → IsCommandAnswer c s i o e
 obeyed_of c i o e text Status.Usage read r = absurd r
 obeyed_of c i o e text Status.ReadFault read r = absurd r
 obeyed_of c i o e text Status.TooLong read r = absurd r
@@ -73,22 +91,34 @@ obeyed_of c i o e text Status.Memory read (quiet, inr part) = (quiet, inr (text,
 obeyed_of c i o e text s read r = (text, read, r)
 
 -- what a command answers a run answers that asks for it
-pub run_of : (words : List (List ℕ)) (c : Command) (i o e : Stream) (s : Status) → Asks words c → IsCommandAnswer c s i o e → IsRunAnswer s words i o e
+pub run_of : (words : List (List ℕ)) (c : Command) (i o e : Stream) (s : Status)
+    → Asks words c → IsCommandAnswer c s i o e → IsRunAnswer s words i o e
 run_of words c i o e Status.Usage asked r = absurd r.2
 run_of words c i o e s asked r = (c, asked, r)
 
 -- an input was read to its end, and what was asked with it was answered
-pub read_obeyed : (c : Command) (before after : Option (List ℕ)) (count_before count_after limit : ℕ) (text : List ℕ) (o e : Stream) (s : Status)
-    → ReadsInput c → limit ≡ limit_of c → Consumes before after text → IsAtEnd after → length text ≤ limit → count_after ≡ count_before → IsAnswer c s text o e
-    → IsCommandAnswer c s (record { before = before; after = after; count_before = count_before; count_after = count_after }) o e
+pub read_obeyed : (c : Command) (before after : Option (List ℕ)) (count_before count_after limit : ℕ) (text : List ℕ)
+    (o e : Stream) (s : Status)
+    → ReadsInput c → limit ≡ limit_of c → Consumes before after text → IsAtEnd after → length text ≤ limit
+    → count_after ≡ count_before
+    → IsAnswer c s text o e
+    → IsCommandAnswer c s
+    (record { before = before; after = after; count_before = count_before; count_after = count_after }) o e
 read_obeyed c before after count_before count_after limit text o e s reads is taken whole within count r =
-    let i : Stream = record { before = before; after = after; count_before = count_before; count_after = count_after } in
-    let read : ReadAll (limit_of c) i text = record { taken = taken; whole = whole; within = subst (λ n. length text ≤ n) is within; count = count } in obeyed_of c i o e text s (read_of c i text reads read) r
+    let i : Stream =
+    record { before = before; after = after; count_before = count_before; count_after = count_after } in
+    let read : ReadAll (limit_of c) i text =
+    record { taken = taken; whole = whole; within = subst (λ n. length text ≤ n) is within; count = count } in
+    obeyed_of c i o e text s (read_of c i text reads read) r
 
 -- a stream that is as it was
 abbrev pub untouched : Option (List ℕ) → ℕ → Stream
 untouched left count = record { before = left; after = left; count_before = count; count_after = count }
 
 -- what was asked without an input was answered
-pub unread_obeyed : (c d : Command) (left : Option (List ℕ)) (count : ℕ) (o e : Stream) (s : Status) → c ≡ d → IsInputRead d (untouched left count) [] → IsAnswer d s [] o e → IsCommandAnswer c s (untouched left count) o e
-unread_obeyed c d left count o e s is read r = subst (λ x. IsCommandAnswer x s (untouched left count) o e) (sym is) (obeyed_of d (untouched left count) o e [] s read r)
+pub unread_obeyed : (c d : Command) (left : Option (List ℕ)) (count : ℕ) (o e : Stream) (s : Status)
+    → c ≡ d → IsInputRead d (untouched left count) [] → IsAnswer d s [] o e
+    → IsCommandAnswer c s (untouched left count) o e
+unread_obeyed c d left count o e s is read r =
+    subst (λ x. IsCommandAnswer x s (untouched left count) o e) (sym is)
+    (obeyed_of d (untouched left count) o e [] s read r)

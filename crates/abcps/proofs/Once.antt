@@ -41,29 +41,44 @@ called_of page told status = record { page = page; told = told; status = status 
 
 -- what is called for is its parts
 same_called : (c d : Called) → c.page ≡ d.page → c.told ≡ d.told → c.status ≡ d.status → c ≡ d
-same_called c d page told status = let made : called_of c.page c.told c.status ≡ called_of d.page d.told d.status = cc in made
+same_called c d page told status =
+    let made : called_of c.page c.told c.status ≡ called_of d.page d.told d.status = cc in made
 
 quiet_called : (c d : Called) → c.page ≡ d.page → IsQuietly c → IsQuietly d → c ≡ d
 quiet_called c d page a b = same_called c d page (a.told ∙ sym b.told) (a.status ∙ sym b.status)
 
 -- ---- the commands that set a book
-one_set : HaveOneOutcome → (manner : Manner) (text : List ℕ) (os ps : List Outcome) → AreSet manner text os → AreSet manner text ps → os ≡ ps
+one_set : HaveOneOutcome
+    → (manner : Manner) (text : List ℕ) (os ps : List Outcome) → AreSet manner text os → AreSet manner text ps → os ≡ ps
 one_set one manner text os ps a b = one.outcomes (terms_in manner text) (book_of text).tunes os ps a b
 
 -- what one outcome and one plan give is one
-by_plan : {A : Type 0} (make : PagePlan → List Outcome → A) (even : Bool) (paper : Paper) (os ps : List Outcome) (plan other : PagePlan) → os ≡ ps → IsPagePlan even paper os plan → IsPagePlan even paper ps other → make plan os ≡ make other ps
-by_plan make even paper os ps plan other same is also = ap (λ l. make plan l) same ∙ ap (λ p. make p ps) (one_plan even paper ps other plan also (subst (λ l. IsPagePlan even paper l plan) same is))
+by_plan : {A : Type 0} (make : PagePlan → List Outcome → A) (even : Bool) (paper : Paper) (os ps : List Outcome)
+    (plan other : PagePlan)
+    → os ≡ ps → IsPagePlan even paper os plan → IsPagePlan even paper ps other → make plan os ≡ make other ps
+by_plan make even paper os ps plan other same is also =
+    ap (λ l. make plan l) same
+    ∙ ap (λ p. make p ps) (one_plan even paper ps other plan also (subst (λ l. IsPagePlan even paper l plan) same is))
 
-pages_once : HaveOneOutcome → (manner : Manner) (even : Bool) (text : List ℕ) (c d : Called) → CallsPages manner even text c → CallsPages manner even text d → c ≡ d
+pages_once : HaveOneOutcome
+    → (manner : Manner) (even : Bool) (text : List ℕ) (c d : Called)
+    → CallsPages manner even text c → CallsPages manner even text d
+    → c ≡ d
 pages_once one manner even text c d a b =
     let same = one_set one manner text a.outcomes b.outcomes a.set b.set in
     same_called c d
-    (sym a.read.spelled ∙ ap document a.whole ∙ by_plan (λ p os. document (sheet_of p (paper_in text) os)) even (paper_in text) a.outcomes b.outcomes a.plan b.plan same a.parted b.parted
+    (sym a.read.spelled
+    ∙ ap document a.whole
+    ∙ by_plan (λ p os. document (sheet_of p (paper_in text) os)) even (paper_in text) a.outcomes b.outcomes a.plan
+    b.plan same a.parted b.parted
     ∙ ap document (sym b.whole) ∙ b.read.spelled)
     (a.told ∙ ap reports same ∙ sym b.told)
     (a.status ∙ ap status_of same ∙ sym b.status)
 
-systems_once : HaveOneOutcome → (manner : Manner) (table : Bool) (text : List ℕ) (c d : Called) → CallsSystems manner table text c → CallsSystems manner table text d → c ≡ d
+systems_once : HaveOneOutcome
+    → (manner : Manner) (table : Bool) (text : List ℕ) (c d : Called)
+    → CallsSystems manner table text c → CallsSystems manner table text d
+    → c ≡ d
 systems_once one manner table text c d a b =
     let same = one_set one manner text a.outcomes b.outcomes a.set b.set in
     same_called c d
@@ -71,59 +86,91 @@ systems_once one manner table text c d a b =
     (a.told ∙ ap reports same ∙ sym b.told)
     (a.status ∙ ap status_of same ∙ sym b.status)
 
-trial_once : HaveOneOutcome → (tunes : ℕ) (manner : Manner) (even : Bool) (c d : Called) → Tries tunes manner even c → Tries tunes manner even d → c ≡ d
+trial_once : HaveOneOutcome
+    → (tunes : ℕ) (manner : Manner) (even : Bool) (c d : Called) → Tries tunes manner even c → Tries tunes manner even d
+    → c ≡ d
 trial_once one tunes manner even c d a b =
     let same = one_set one manner (book tunes) a.outcomes b.outcomes a.set b.set in let paper = paper_in (book tunes) in
-    quiet_called c d (a.page ∙ by_plan (λ p os. trial_text (trial_of tunes os (sheet_of p paper os))) even paper a.outcomes b.outcomes a.plan b.plan same a.parted b.parted ∙ sym b.page) a.quietly b.quietly
+    quiet_called c d
+    (a.page
+    ∙ by_plan (λ p os. trial_text (trial_of tunes os (sheet_of p paper os))) even paper a.outcomes b.outcomes a.plan
+    b.plan same a.parted b.parted
+    ∙ sym b.page)
+    a.quietly b.quietly
 
 -- ---- the others
-sheet_once : (report : Sheet → List ℕ) (text : List ℕ) (c d : Called) → Shows report text c → Shows report text d → c ≡ d
-sheet_once report text c d a b = quiet_called c d (a.page ∙ ap report (b.read.only a.sheet a.read.spells) ∙ sym b.page) a.quietly b.quietly
+sheet_once : (report : Sheet → List ℕ) (text : List ℕ) (c d : Called)
+    → Shows report text c → Shows report text d → c ≡ d
+sheet_once report text c d a b =
+    quiet_called c d (a.page ∙ ap report (b.read.only a.sheet a.read.spells) ∙ sym b.page) a.quietly b.quietly
 
-least_or_not : (e : Entry) (total other better : ℕ) (breaks : List ℕ) → IsVerdict e (Least total) → IsVerdict e (NotLeast other better breaks) → ⊥
-least_or_not e total other better breaks a b = let least = a.1 breaks b.3.legal in let own = a.0 in let its = b.0 in let less = b.1 in let sum = b.2 in omega (arith, least, own, its, less, sum)
+least_or_not : (e : Entry) (total other better : ℕ) (breaks : List ℕ)
+    → IsVerdict e (Least total) → IsVerdict e (NotLeast other better breaks) → ⊥
+least_or_not e total other better breaks a b =
+    let least = a.1 breaks b.3.legal in
+    let own = a.0 in
+    let its = b.0 in
+    let less = b.1 in
+    let sum = b.2 in
+    omega (arith, least, own, its, less, sum)
 
 one_verdict : (e : Entry) (v w : Verdict) → IsVerdict e v → IsVerdict e w → v ≡ w
 one_verdict e (Least total) (Least other) a b = ap Least (a.0 ∙ sym b.0)
 one_verdict e (Least total) (NotLeast other better breaks) a b = absurd (least_or_not e total other better breaks a b)
 one_verdict e (NotLeast total better breaks) (Least other) a b = absurd (least_or_not e other total better breaks b a)
 one_verdict e (NotLeast total better breaks) (NotLeast other dear places) a b =
-    let same : breaks ≡ places = one_is_chosen (listed e.spans) none_forced e.bars breaks places a.3 b.3 in let totals : total ≡ other = a.0 ∙ sym b.0 in
+    let same : breaks ≡ places = one_is_chosen (listed e.spans) none_forced e.bars breaks places a.3 b.3 in
+    let totals : total ≡ other = a.0 ∙ sym b.0 in
     let sums : better ≡ dear = a.2 ∙ ap (sum_from (listed e.spans) 0) same ∙ sym b.2 in cc
 
 abbrev judged_of : ℕ → Verdict → Judged
 judged_of tune verdict = record { tune = tune; verdict = verdict }
 
-one_judged : (e : Entry) (j k : Judged) → j.tune ≡ e.tune → k.tune ≡ e.tune → IsVerdict e j.verdict → IsVerdict e k.verdict → j ≡ k
+one_judged : (e : Entry) (j k : Judged)
+    → j.tune ≡ e.tune → k.tune ≡ e.tune → IsVerdict e j.verdict → IsVerdict e k.verdict → j ≡ k
 one_judged e j k a b v w =
-    let tune : j.tune ≡ k.tune = a ∙ sym b in let verdict : j.verdict ≡ k.verdict = one_verdict e j.verdict k.verdict v w in
+    let tune : j.tune ≡ k.tune = a ∙ sym b in
+    let verdict : j.verdict ≡ k.verdict = one_verdict e j.verdict k.verdict v w in
     let made : judged_of j.tune j.verdict ≡ judged_of k.tune k.verdict = cc in made
 
 one_verdicts : (es : List Entry) (js ks : List Judged) → AreVerdicts es js → AreVerdicts es ks → js ≡ ks
 one_verdicts [] [] [] a b = refl
 one_verdicts [] [] (k ∷ ks) a b = absurd b
 one_verdicts (e ∷ es) (j ∷ js) [] a b = absurd b
-one_verdicts (e ∷ es) (j ∷ js) (k ∷ ks) a b = let first = one_judged e j k a.0 b.0 a.1 b.1 in let others = one_verdicts es js ks a.2 b.2 in cc
+one_verdicts (e ∷ es) (j ∷ js) (k ∷ ks) a b =
+    let first = one_judged e j k a.0 b.0 a.1 b.1 in let others = one_verdicts es js ks a.2 b.2 in cc
 one_verdicts es js ks a b = absurd a
 
 judged_once : (text : List ℕ) (js ks : List Judged) → IsJudged text js → IsJudged text ks → js ≡ ks
-judged_once text js ks a b = one_verdicts a.0 js ks a.2 (subst (λ es. AreVerdicts es ks) (tells_one text b.0 a.0 b.1 a.1) b.2)
+judged_once text js ks a b =
+    one_verdicts a.0 js ks a.2 (subst (λ es. AreVerdicts es ks) (tells_one text b.0 a.0 b.1 a.1) b.2)
 
 verdicts_once : (text : List ℕ) (c d : Called) → Judges text c → Judges text d → c ≡ d
 verdicts_once text c d a b =
-    let same = judged_once text a.judged b.judged a.verdicts b.verdicts in same_called c d (a.page ∙ ap verdicts_text same ∙ sym b.page) (a.told ∙ sym b.told) (a.status ∙ ap status_by same ∙ sym b.status)
+    let same = judged_once text a.judged b.judged a.verdicts b.verdicts in
+    same_called c d (a.page ∙ ap verdicts_text same ∙ sym b.page) (a.told ∙ sym b.told)
+    (a.status ∙ ap status_by same ∙ sym b.status)
 
 painted_once : HasOneAnswer → (text : List ℕ) (c d : Called) → IsPainted text c → IsPainted text d → c ≡ d
-painted_once alone text c d a b = quiet_called c d (a.page ∙ ap paint_text (alone.painted text (budget_of text) a.pages b.pages a.paints b.paints) ∙ sym b.page) a.quietly b.quietly
+painted_once alone text c d a b =
+    quiet_called c d
+    (a.page ∙ ap paint_text (alone.painted text (budget_of text) a.pages b.pages a.paints b.paints) ∙ sym b.page)
+    a.quietly b.quietly
 
 -- a command calls for one answer
-called_once : HaveOneOutcome → HasOneAnswer → (c : Command) (text : List ℕ) (called other : Called) → Calls c text called → Calls c text other → called ≡ other
-called_once one alone (Command.Set flow jobs by even) text called other a b = pages_once one (manner_by flow by) even text called other a b
-called_once one alone (Command.Systems flow table by) text called other a b = systems_once one (manner_by flow by) table text called other a b
+called_once : HaveOneOutcome
+    → HasOneAnswer → (c : Command) (text : List ℕ) (called other : Called) → Calls c text called → Calls c text other
+    → called ≡ other
+called_once one alone (Command.Set flow jobs by even) text called other a b =
+    pages_once one (manner_by flow by) even text called other a b
+called_once one alone (Command.Systems flow table by) text called other a b =
+    systems_once one (manner_by flow by) table text called other a b
 called_once one alone Command.Inspect text called other a b = sheet_once sheet_report text called other a b
 called_once one alone Command.Check text called other a b = verdicts_once text called other a b
-called_once one alone (Command.Make tunes) text called other a b = quiet_called called other (a.page ∙ sym b.page) a.quietly b.quietly
-called_once one alone (Command.Trial tunes flow jobs even) text called other a b = trial_once one tunes (unmoved flow) even called other a b
+called_once one alone (Command.Make tunes) text called other a b =
+    quiet_called called other (a.page ∙ sym b.page) a.quietly b.quietly
+called_once one alone (Command.Trial tunes flow jobs even) text called other a b =
+    trial_once one tunes (unmoved flow) even called other a b
 called_once one alone Command.Paint text called other a b = painted_once alone text called other a b
 called_once one alone (Command.Hear spread) text called other a b = sheet_once (heard_text spread) text called other a b
 
@@ -134,12 +181,18 @@ by_one c text called a = a
 
 -- commands that differ in nothing but jobs call for one answer
 pub calls_one : HaveOneOutcome → HasOneAnswer → CallsOne
-calls_one one alone c d text called other same a b = called_once one alone (by_one_job c) text other called (subst (λ x. Calls x text other) same (by_one d text other b)) (by_one c text called a)
+calls_one one alone c d text called other same a b =
+    called_once one alone (by_one_job c) text other called
+    (subst (λ x. Calls x text other) same (by_one d text other b)) (by_one c text called a)
 
 -- an input that is refused calls for nothing
 pub never_both : HasOneAnswer → NeverBoth
-never_both alone Command.Inspect text called (Refusal.NotPages line) calls refuses = refuses.unspelled calls.sheet calls.read.spells
-never_both alone (Command.Hear spread) text called (Refusal.NotPages line) calls refuses = refuses.unspelled calls.sheet calls.read.spells
-never_both alone Command.Check text called (Refusal.NotPages line) calls refuses = refuses.unspelled calls.verdicts.0 calls.verdicts.1
-never_both alone Command.Paint text called (Refusal.Halted token cause) calls refuses = alone.either text (budget_of text) calls.pages token cause calls.paints refuses
+never_both alone Command.Inspect text called (Refusal.NotPages line) calls refuses =
+    refuses.unspelled calls.sheet calls.read.spells
+never_both alone (Command.Hear spread) text called (Refusal.NotPages line) calls refuses =
+    refuses.unspelled calls.sheet calls.read.spells
+never_both alone Command.Check text called (Refusal.NotPages line) calls refuses =
+    refuses.unspelled calls.verdicts.0 calls.verdicts.1
+never_both alone Command.Paint text called (Refusal.Halted token cause) calls refuses =
+    alone.either text (budget_of text) calls.pages token cause calls.paints refuses
 never_both alone c text called refusal calls refuses = absurd refuses

@@ -13,16 +13,23 @@ use Rattle.abcps.specs.Outcome.{IsRunAnswer, ReadAll, ReadTooMuch, WroteWhole, W
 use Rattle.abcps.specs.Promises.{IsDone, IsRunOn, IsRefused, IsReportedOn, AsksWholeText, NoFault, Promises}
 
 -- a source that told its bytes was read to its end: they are the text
-whole_read : (before after : Option (List ℕ)) (told text : List ℕ) → before ≡ Some told → Consumes before after text → IsAtEnd after → text ≡ told
+whole_read : (before after : Option (List ℕ)) (told text : List ℕ)
+    → before ≡ Some told → Consumes before after text → IsAtEnd after → text ≡ told
 whole_read None after told text e taken end = cc
 whole_read (Some xs) None told text e taken end = absurd taken
-whole_read (Some xs) (Some ys) told text e taken end = let all : xs ≡ told = cc in sym (sym all ∙ taken ∙ ap (λ zs. text ++ zs) end ∙ append-nil text)
+whole_read (Some xs) (Some ys) told text e taken end =
+    let all : xs ≡ told = cc in sym (sym all ∙ taken ∙ ap (λ zs. text ++ zs) end ∙ append-nil text)
 
 -- what was taken is no longer than what there was
-taken_short : (before after : Option (List ℕ)) (told text : List ℕ) → before ≡ Some told → Consumes before after text → length text ≤ length told
+taken_short : (before after : Option (List ℕ)) (told text : List ℕ)
+    → before ≡ Some told → Consumes before after text → length text ≤ length told
 taken_short None after told text e taken = cc
 taken_short (Some xs) None told text e taken = absurd taken
-taken_short (Some xs) (Some ys) told text e taken = let all : xs ≡ told = cc in let sum : length told ≡ length (text ++ ys) = ap length (sym all ∙ taken) in let both = length-append text ys in omega arith
+taken_short (Some xs) (Some ys) told text e taken =
+    let all : xs ≡ told = cc in
+    let sum : length told ≡ length (text ++ ys) = ap length (sym all ∙ taken) in
+    let both = length-append text ys in
+    omega arith
 
 module _ (alone : CallsOne) (either : NeverBoth) (words : List (List ℕ)) (i o e : Stream) where
   usage_by : (s : Status) → IsRunAnswer s words i o e → (IsListed words → ⊥) → s ≡ Status.Usage
@@ -30,7 +37,10 @@ module _ (alone : CallsOne) (either : NeverBoth) (words : List (List ℕ)) (i o 
   usage_by s run not = absurd (not (run.0, run.1))
 
   -- what is answered where both texts are written
-  done_with : (c : Command) (text : List ℕ) (s : Status) → (called : Called) → Calls c text called → s ≡ called.status → WroteWhole o called.page → WroteWhole e called.told → IsDone c s text o e
+  done_with : (c : Command) (text : List ℕ) (s : Status)
+      → (called : Called) → Calls c text called → s ≡ called.status → WroteWhole o called.page
+      → WroteWhole e called.told
+      → IsDone c s text o e
   done_with c text s called calls ends page told = record {
     called = called;
     calls = calls;
@@ -41,8 +51,11 @@ module _ (alone : CallsOne) (either : NeverBoth) (words : List (List ℕ)) (i o 
     told = told;
   }
 
-  done_by : (s : Status) → IsRunAnswer s words i o e → (s ≡ Status.Usage → ⊥) → (s ≡ Status.ReadFault → ⊥) → (s ≡ Status.TooLong → ⊥) → (IsRefusalStatus s → ⊥)
-      → (s ≡ Status.WriteFault → ⊥) → (s ≡ Status.Memory → ⊥) → (c : Command) × (text : List ℕ) × AsksWholeText c words i text × IsDone c s text o e
+  done_by : (s : Status) → IsRunAnswer s words i o e → (s ≡ Status.Usage → ⊥) → (s ≡ Status.ReadFault → ⊥)
+      → (s ≡ Status.TooLong → ⊥)
+      → (IsRefusalStatus s → ⊥)
+      → (s ≡ Status.WriteFault → ⊥) → (s ≡ Status.Memory → ⊥)
+      → (c : Command) × (text : List ℕ) × AsksWholeText c words i text × IsDone c s text o e
   done_by Status.Usage run a b c d f g = absurd (a refl)
   done_by Status.ReadFault run a b c d f g = absurd (b refl)
   done_by Status.TooLong run a b c d f g = absurd (c refl)
@@ -50,13 +63,19 @@ module _ (alone : CallsOne) (either : NeverBoth) (words : List (List ℕ)) (i o 
   done_by Status.Halted run a b c d f g = absurd (d tt)
   done_by Status.WriteFault run a b c d f g = absurd (f refl)
   done_by Status.Memory run a b c d f g = absurd (g refl)
-  done_by s run a b c d f g = let r = run.2.2 in (run.0, run.2.0, record { asked = run.1; read = run.2.1 }, done_with run.0 run.2.0 s r.0 r.1 r.2 r.3 r.4)
+  done_by s run a b c d f g =
+      let r = run.2.2 in
+      (run.0, run.2.0, record { asked = run.1; read = run.2.1 }, done_with run.0 run.2.0 s r.0 r.1 r.2 r.3 r.4)
 
-  memory_part : (c : Command) → Asks words c → (IsQuiet o ⊎ ((text : List ℕ) × IsInputRead c i text × HoldsPart c text o)) → IsQuiet o ⊎ ((c : Command) × (text : List ℕ) × AsksWholeText c words i text × HoldsPart c text o)
+  memory_part : (c : Command)
+      → Asks words c
+      → (IsQuiet o ⊎ ((text : List ℕ) × IsInputRead c i text × HoldsPart c text o))
+      → IsQuiet o ⊎ ((c : Command) × (text : List ℕ) × AsksWholeText c words i text × HoldsPart c text o)
   memory_part c asked (inl none) = inl none
   memory_part c asked (inr part) = inr (c, part.0, record { asked = asked; read = part.1 }, part.2)
 
-  memory_by : IsRunAnswer Status.Memory words i o e → IsQuiet e × (IsQuiet o ⊎ ((c : Command) × (text : List ℕ) × AsksWholeText c words i text × HoldsPart c text o))
+  memory_by : IsRunAnswer Status.Memory words i o e
+      → IsQuiet e × (IsQuiet o ⊎ ((c : Command) × (text : List ℕ) × AsksWholeText c words i text × HoldsPart c text o))
   memory_by run = (run.2.0, memory_part run.0 run.1 run.2.1)
 
   -- the text that a command read is the one that the input told
@@ -69,7 +88,8 @@ module _ (alone : CallsOne) (either : NeverBoth) (words : List (List ℕ)) (i o 
   reads_or_not (Command.Trial tunes flow jobs even) = inr (λ reads. reads)
   reads_or_not c = inl tt
 
-  told_reader : (c : Command) (told : List ℕ) → ReadsInput c → IsReportedOn c i told → (i.before ≡ Some told) × (length told ≤ limit_of c)
+  told_reader : (c : Command) (told : List ℕ)
+      → ReadsInput c → IsReportedOn c i told → (i.before ≡ Some told) × (length told ≤ limit_of c)
   told_reader (Command.Make tunes) told reads is = absurd reads
   told_reader (Command.Trial tunes flow jobs even) told reads is = absurd reads
   told_reader c told reads is = is
@@ -79,16 +99,20 @@ module _ (alone : CallsOne) (either : NeverBoth) (words : List (List ℕ)) (i o 
   read_reader (Command.Trial tunes flow jobs even) text reads read = absurd reads
   read_reader c text reads read = read
 
-  read_told : (c : Command) (told text : List ℕ) → ReadsInput c → IsReportedOn c i told → IsInputRead c i text → text ≡ told
-  read_told c told text reads is read = told_all (limit_of c) told text (told_reader c told reads is).0 (read_reader c text reads read)
+  read_told : (c : Command) (told text : List ℕ)
+      → ReadsInput c → IsReportedOn c i told → IsInputRead c i text → text ≡ told
+  read_told c told text reads is read =
+      told_all (limit_of c) told text (told_reader c told reads is).0 (read_reader c text reads read)
 
   -- a command that reads nothing calls for the same of any text
-  unread_calls : (c : Command) (told text : List ℕ) (called : Called) → (ReadsInput c → ⊥) → Calls c text called → Calls c told called
+  unread_calls : (c : Command) (told text : List ℕ) (called : Called)
+      → (ReadsInput c → ⊥) → Calls c text called → Calls c told called
   unread_calls (Command.Make tunes) told text called not calls = calls
   unread_calls (Command.Trial tunes flow jobs even) told text called not calls = calls
   unread_calls c told text called not calls = absurd (not tt)
 
-  calls_told : (c : Command) (told text : List ℕ) (called : Called) → IsReportedOn c i told → IsInputRead c i text → Calls c text called → Calls c told called
+  calls_told : (c : Command) (told text : List ℕ) (called : Called)
+      → IsReportedOn c i told → IsInputRead c i text → Calls c text called → Calls c told called
   calls_told c told text called is read calls = by_reading (reads_or_not c)
     where
       by_reading : ReadsInput c ⊎ (ReadsInput c → ⊥) → Calls c told called
@@ -96,13 +120,24 @@ module _ (alone : CallsOne) (either : NeverBoth) (words : List (List ℕ)) (i o 
       by_reading (inr not) = unread_calls c told text called not calls
 
   -- what was called for was done, for the text that the input told
-  done_told : (c : Command) (told : List ℕ) (s : Status) → IsReportedOn c i told → (text : List ℕ) → IsInputRead c i text
-      → (called : Called) → Calls c text called → s ≡ called.status → WroteWhole o called.page → WroteWhole e called.told → IsDone c s told o e
-  done_told c told s is text read called calls ends page tells = done_with c told s called (calls_told c told text called is read calls) ends page tells
+  done_told : (c : Command) (told : List ℕ) (s : Status)
+      → IsReportedOn c i told → (text : List ℕ) → IsInputRead c i text
+      → (called : Called) → Calls c text called → s ≡ called.status → WroteWhole o called.page
+      → WroteWhole e called.told
+      → IsDone c s told o e
+  done_told c told s is text read called calls ends page tells =
+      done_with c told s called (calls_told c told text called is read calls) ends page tells
 
   -- an input that was refused
   refused_with : (c : Command) (text : List ℕ) (s : Status) → RefusedInput c s text o e → IsRefused c s text o e
-  refused_with c text s r = record { refusal = r.0; refuses = r.1; uncalled = λ called calls. either c text called r.0 calls r.1; ends = r.2; quiet = r.3; told = r.4 }
+  refused_with c text s r = record {
+    refusal = r.0;
+    refuses = r.1;
+    uncalled = λ called calls. either c text called r.0 calls r.1;
+    ends = r.2;
+    quiet = r.3;
+    told = r.4;
+  }
 
   -- a command that refuses its input reads it
   refused_reads : (c : Command) (text : List ℕ) (refusal : Refusal) → Refuses c text refusal → ReadsInput c
@@ -112,18 +147,34 @@ module _ (alone : CallsOne) (either : NeverBoth) (words : List (List ℕ)) (i o 
   refused_reads Command.Paint text refusal refuses = tt
   refused_reads c text refusal refuses = absurd refuses
 
-  refused_told : (c : Command) (told : List ℕ) (s : Status) → IsReportedOn c i told → (text : List ℕ) → IsInputRead c i text → RefusedInput c s text o e → IsRefused c s told o e
-  refused_told c told s is text read r = refused_with c told s (r.0, subst (λ t. Refuses c t r.0) (read_told c told text (refused_reads c text r.0 r.1) is read) r.1, r.2, r.3, r.4)
+  refused_told : (c : Command) (told : List ℕ) (s : Status)
+      → IsReportedOn c i told → (text : List ℕ) → IsInputRead c i text → RefusedInput c s text o e
+      → IsRefused c s told o e
+  refused_told c told s is text read r =
+      refused_with c told s (
+        r.0,
+        subst (λ t. Refuses c t r.0) (read_told c told text (refused_reads c text r.0 r.1) is read) r.1,
+        r.2,
+        r.3,
+        r.4,
+      )
 
-  refused_by : (s : Status) → IsRunAnswer s words i o e → IsRefusalStatus s → (c : Command) × (text : List ℕ) × AsksWholeText c words i text × IsRefused c s text o e
-  refused_by Status.NotPages run is = (run.0, run.2.0, record { asked = run.1; read = run.2.1 }, refused_with run.0 run.2.0 Status.NotPages run.2.2)
-  refused_by Status.Halted run is = (run.0, run.2.0, record { asked = run.1; read = run.2.1 }, refused_with run.0 run.2.0 Status.Halted run.2.2)
+  refused_by : (s : Status)
+      → IsRunAnswer s words i o e → IsRefusalStatus s
+      → (c : Command) × (text : List ℕ) × AsksWholeText c words i text × IsRefused c s text o e
+  refused_by Status.NotPages run is =
+      (run.0, run.2.0, record { asked = run.1; read = run.2.1 }, refused_with run.0 run.2.0 Status.NotPages run.2.2)
+  refused_by Status.Halted run is =
+      (run.0, run.2.0, record { asked = run.1; read = run.2.1 }, refused_with run.0 run.2.0 Status.Halted run.2.2)
   refused_by s run is = absurd is
 
-  too_long : (most : ℕ) (told text : List ℕ) → (i.before ≡ Some told) × (length told ≤ most) → ReadTooMuch most i text → ⊥
-  too_long most told text is read = let short = taken_short i.before i.after told text is.0 read.taken in omega (arith, short, read.past, is.1)
+  too_long : (most : ℕ) (told text : List ℕ)
+      → (i.before ≡ Some told) × (length told ≤ most) → ReadTooMuch most i text → ⊥
+  too_long most told text is read =
+      let short = taken_short i.before i.after told text is.0 read.taken in omega (arith, short, read.past, is.1)
 
-  not_too_long : (c : Command) (told text : List ℕ) → ReadsInput c → IsReportedOn c i told → ReadTooMuch (limit_of c) i text → ⊥
+  not_too_long : (c : Command) (told text : List ℕ)
+      → ReadsInput c → IsReportedOn c i told → ReadTooMuch (limit_of c) i text → ⊥
   not_too_long c told text reads is read = too_long (limit_of c) told text (told_reader c told reads is) read
 
   not_cut : (called : Called) → NoFault i o e → WriteFailed called o e → ⊥
@@ -135,30 +186,41 @@ module _ (alone : CallsOne) (either : NeverBoth) (words : List (List ℕ)) (i o 
   not_failed c text good (inr cut) = good.output cut.1
 
   -- a command was obeyed, no fault was counted, and memory was found
-  obeyed_as : (c : Command) (s : Status) → IsCommandAnswer c s i o e → (told : List ℕ) → NoFault i o e → IsReportedOn c i told → (s ≡ Status.Memory → ⊥) → (s ≡ Status.Usage → ⊥) → IsDone c s told o e ⊎ IsRefused c s told o e
+  obeyed_as : (c : Command) (s : Status)
+      → IsCommandAnswer c s i o e → (told : List ℕ) → NoFault i o e → IsReportedOn c i told → (s ≡ Status.Memory → ⊥)
+      → (s ≡ Status.Usage → ⊥)
+      → IsDone c s told o e ⊎ IsRefused c s told o e
   obeyed_as c Status.Usage r told good is ample listed = absurd (listed refl)
   obeyed_as c Status.ReadFault r told good is ample listed = absurd (good.input r.1)
   obeyed_as c Status.TooLong r told good is ample listed = absurd (not_too_long c told r.1.0 r.0 is r.1.1)
   obeyed_as c Status.Memory r told good is ample listed = absurd (ample refl)
   obeyed_as c Status.WriteFault (text, read, r) told good is ample listed = absurd (not_failed c text good r)
-  obeyed_as c Status.NotPages (text, read, r) told good is ample listed = inr (refused_told c told Status.NotPages is text read r)
-  obeyed_as c Status.Halted (text, read, r) told good is ample listed = inr (refused_told c told Status.Halted is text read r)
+  obeyed_as c Status.NotPages (text, read, r) told good is ample listed =
+      inr (refused_told c told Status.NotPages is text read r)
+  obeyed_as c Status.Halted (text, read, r) told good is ample listed =
+      inr (refused_told c told Status.Halted is text read r)
   obeyed_as c s (text, read, r) told good is ample listed = inl (done_told c told s is text read r.0 r.1 r.2 r.3 r.4)
 
   -- what this command answered, where the words ask for it
-  obeyed : AsksOne → (d : Command) (s : Status) → IsRunAnswer s words i o e → Asks words d → (s ≡ Status.Usage → ⊥) × IsCommandAnswer d s i o e
+  obeyed : AsksOne → (d : Command) (s : Status) → IsRunAnswer s words i o e → Asks words d
+      → (s ≡ Status.Usage → ⊥) × IsCommandAnswer d s i o e
   obeyed one d Status.Usage run asked = absurd (run.0 (d, asked))
   obeyed one d s run asked = (λ is. cc, subst (λ c. IsCommandAnswer c s i o e) (one words run.0 d run.1 asked) run.2)
 
-  answered_as : AsksOne → (s : Status) → IsRunAnswer s words i o e → (c : Command) (text : List ℕ) → IsRunOn c words i o e text → (s ≡ Status.Memory → ⊥) → IsDone c s text o e ⊎ IsRefused c s text o e
-  answered_as one s run c text given ample = let r = obeyed one c s run given.asked in obeyed_as c s r.1 text given.good given.told ample r.0
+  answered_as : AsksOne → (s : Status) → IsRunAnswer s words i o e → (c : Command) (text : List ℕ)
+      → IsRunOn c words i o e text → (s ≡ Status.Memory → ⊥)
+      → IsDone c s text o e ⊎ IsRefused c s text o e
+  answered_as one s run c text given ample =
+      let r = obeyed one c s run given.asked in obeyed_as c s r.1 text given.good given.told ample r.0
 
   pub promised : AsksOne → (s : Status) → IsRunAnswer s words i o e → Promises s words i o e
   promised one s run = record {
     usage = (λ is. (subst (λ t. IsRunAnswer t words i o e) is run).0, usage_by s run);
     usage_line = λ is. (let r = subst (λ t. IsRunAnswer t words i o e) is run in (r.1, r.2, r.3));
-    read_fault = λ is. (let r = subst (λ t. IsRunAnswer t words i o e) is run in ((r.0, r.1, r.2.0), r.2.1, r.2.2, r.2.3));
-    too_long = λ is. (let r = subst (λ t. IsRunAnswer t words i o e) is run in ((r.0, r.1, r.2.0, r.2.1), r.2.2, r.2.3));
+    read_fault =
+        λ is. (let r = subst (λ t. IsRunAnswer t words i o e) is run in ((r.0, r.1, r.2.0), r.2.1, r.2.2, r.2.3));
+    too_long =
+        λ is. (let r = subst (λ t. IsRunAnswer t words i o e) is run in ((r.0, r.1, r.2.0, r.2.1), r.2.2, r.2.3));
     refused = refused_by s run;
     write_fault = λ is. (let r = subst (λ t. IsRunAnswer t words i o e) is run in
         (r.0, r.2.0, record { asked = r.1; read = r.2.1 }, r.2.2));

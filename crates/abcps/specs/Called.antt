@@ -1,4 +1,5 @@
--- What is called for: the text that is written on output, the text that is told on errors, and the status when both are written.
+-- What is called for: the text that is written on output, the text that is told on errors,
+-- and the status when both are written.
 use Rattle.std.specs.Prelude.{◌≡◌, ℕ, List, []}
 use Rattle.abcps.specs.declared.status.Status.{Status}
 

@@ -22,7 +22,8 @@ use Rattle.abcps.specs.Books.{CallsPages, CallsSystems, Tries}
 use Rattle.abcps.specs.declared.refusing.Refusal.{Refusal}
 use Rattle.abcps.specs.declared.status.Status.{Status}
 
--- Of `inspect` and `hear`: a report on the one sheet that spells the input, which is all that it shows, or what its tunes sound.
+-- Of `inspect` and `hear`: a report on the one sheet that spells the input, which is all that it shows,
+-- or what its tunes sound.
 pub record Shows (report : Sheet → List ℕ) (text : List ℕ) (c : Called) : Type 0 where
   pub sheet : Sheet
   pub read : IsDocumentRead text sheet
@@ -83,10 +84,12 @@ by_one_job c = c
 
 -- What commands that differ in nothing but jobs call for of an input is one.
 abbrev pub CallsOne : Type 0
-CallsOne = (c d : Command) (text : List ℕ) (called other : Called) → by_one_job d ≡ by_one_job c → Calls c text called → Calls d text other → other ≡ called
+CallsOne =
+    (c d : Command) (text : List ℕ) (called other : Called)
+    → by_one_job d ≡ by_one_job c → Calls c text called → Calls d text other → other ≡ called
 
--- Which inputs are refused: `inspect` and `hear` refuse what no sheet spells, and `check` what is no listing, each by the number of its
--- first line that isn't good; and `paint` refuses what the machine halts on.
+-- Which inputs are refused: `inspect` and `hear` refuse what no sheet spells, and `check` what is no listing, each by
+-- the number of its first line that isn't good; and `paint` refuses what the machine halts on.
 pub record IsNoDocument (text : List ℕ) (number : ℕ) : Type 0 where
   pub first : IsFirstFault text number
   pub unspelled : (sheet : Sheet) → SpellsSheet sheet text → ⊥
@@ -104,4 +107,6 @@ Refuses _ text refusal = ⊥
 
 -- An input that is refused calls for nothing.
 abbrev pub NeverBoth : Type 0
-NeverBoth = (c : Command) (text : List ℕ) (called : Called) (refusal : Refusal) → Calls c text called → Refuses c text refusal → ⊥
+NeverBoth =
+    (c : Command) (text : List ℕ) (called : Called) (refusal : Refusal)
+    → Calls c text called → Refuses c text refusal → ⊥

@@ -27,7 +27,8 @@ pub record Stream : Type 0 where
 
 -- what is observed of a source or a sink that tells its bytes and its faults so
 abbrev pub observed : {A : Type 0} → (A → Option (List ℕ)) → (A → ℕ) → A → A → Stream
-observed bytes faults old new = record { before = bytes old; after = bytes new; count_before = faults old; count_after = faults new }
+observed bytes faults old new =
+    record { before = bytes old; after = bytes new; count_before = faults old; count_after = faults new }
 
 -- nothing was taken or given, and no fault was counted
 abbrev pub IsQuiet : Stream → Type 0
@@ -68,11 +69,12 @@ ReportsLine s line = WroteWhole s line ⊎ FailedAfterPrefix s line
 
 -- Output failed, and errors has nothing; or output has the whole text, and errors failed.
 abbrev pub WriteFailed : Called → Stream → Stream → Type 0
-WriteFailed called o e = (FailedAfterPrefix o called.page × IsQuiet e) ⊎ (WroteWhole o called.page × FailedAfterPrefix e called.told)
+WriteFailed called o e =
+    (FailedAfterPrefix o called.page × IsQuiet e) ⊎ (WroteWhole o called.page × FailedAfterPrefix e called.told)
 
--- `set` ended while some tunes of its book were left. Each tune has an outcome all the same, and what output took is a front of the
--- document of all of them, and of the document of the first of them, fewer than all, by the same plan; so it is one of whatever is
--- called for of the book.
+-- `set` ended while some tunes of its book were left. Each tune has an outcome all the same, and what output took is a
+-- front of the document of all of them, and of the document of the first of them, fewer than all, by the same plan; so
+-- it is one of whatever is called for of the book.
 pub record SetStoppedEarly (manner : Manner) (even : Bool) (text : List ℕ) (o : Stream) : Type 0 where
   pub count : ℕ
   pub left : count < length (book_of text).tunes
@@ -90,11 +92,16 @@ StoppedEarly _ text o = ⊥
 
 -- A sink failed while what is called for was written, or output did before `set` had set all tunes.
 abbrev pub FailedToWrite : Command → List ℕ → Stream → Stream → Type 0
-FailedToWrite c text o e = ((called : Called) × Calls c text called × WriteFailed called o e) ⊎ (StoppedEarly c text o × Rose o.count_before o.count_after × IsQuiet e)
+FailedToWrite c text o e =
+    ((called : Called) × Calls c text called × WriteFailed called o e)
+    ⊎ (StoppedEarly c text o × Rose o.count_before o.count_after × IsQuiet e)
 
--- Output has a front of what is called for, or of what `set` writes before it has set all tunes; and no fault was counted.
+-- Output has a front of what is called for, or of what `set` writes before it has set all tunes;
+-- and no fault was counted.
 abbrev pub HoldsPart : Command → List ℕ → Stream → Type 0
-HoldsPart c text o = ((called : Called) × Calls c text called × TookPrefix o called.page) ⊎ (StoppedEarly c text o × (o.count_after ≡ o.count_before))
+HoldsPart c text o =
+    ((called : Called) × Calls c text called × TookPrefix o called.page)
+    ⊎ (StoppedEarly c text o × (o.count_after ≡ o.count_before))
 
 -- What a command read: of an input all, and those that make a book themselves nothing.
 abbrev pub IsInputRead : Command → Stream → List ℕ → Type 0
@@ -117,7 +124,8 @@ IsCompleteStatus _ = ⊥
 
 -- both texts were written, and the answer is the one that goes with them
 abbrev pub WroteBoth : (Called → Type 0) → Status → Stream → Stream → Type 0
-WroteBoth C s o e = (called : Called) × C called × (s ≡ called.status) × WroteWhole o called.page × WroteWhole e called.told
+WroteBoth C s o e =
+    (called : Called) × C called × (s ≡ called.status) × WroteWhole o called.page × WroteWhole e called.told
 
 -- what is answered where something is called for
 abbrev pub IsAnswered : (Called → Type 0) → Status → Stream → Stream → Type 0
@@ -130,7 +138,12 @@ IsAnswered C _ o e = ⊥
 
 -- the input was refused: output has nothing, and errors was told why
 abbrev pub RefusedInput : Command → Status → List ℕ → Stream → Stream → Type 0
-RefusedInput c s text o e = (refusal : Refusal) × Refuses c text refusal × (s ≡ refusal_status refusal) × IsQuiet o × ReportsLine e (refusal_line refusal)
+RefusedInput c s text o e =
+    (refusal : Refusal)
+    × Refuses c text refusal
+    × (s ≡ refusal_status refusal)
+    × IsQuiet o
+    × ReportsLine e (refusal_line refusal)
 
 -- what is answered once the input was read
 abbrev pub IsAnswer : Command → Status → List ℕ → Stream → Stream → Type 0
@@ -143,8 +156,10 @@ IsAnswer c s text o e = IsAnswered (Calls c text) s o e
 -- what a command answers
 abbrev pub IsCommandAnswer : Command → Status → Stream → Stream → Stream → Type 0
 IsCommandAnswer c Status.ReadFault i o e = ReadsInput c × Rose i.count_before i.count_after × IsQuiet o × IsQuiet e
-IsCommandAnswer c Status.TooLong i o e = ReadsInput c × ((text : List ℕ) × ReadTooMuch (limit_of c) i text) × IsQuiet o × IsQuiet e
-IsCommandAnswer c Status.Memory i o e = IsQuiet e × (IsQuiet o ⊎ ((text : List ℕ) × IsInputRead c i text × HoldsPart c text o))
+IsCommandAnswer c Status.TooLong i o e =
+    ReadsInput c × ((text : List ℕ) × ReadTooMuch (limit_of c) i text) × IsQuiet o × IsQuiet e
+IsCommandAnswer c Status.Memory i o e =
+    IsQuiet e × (IsQuiet o ⊎ ((text : List ℕ) × IsInputRead c i text × HoldsPart c text o))
 IsCommandAnswer c s i o e = (text : List ℕ) × IsInputRead c i text × IsAnswer c s text o e
 
 -- what a run answers

@@ -64,15 +64,21 @@ abbrev pub text_so_far : PagePlan → Paper → List Outcome → List ℕ
 text_so_far plan paper outcomes = prolog (paper_frame paper) ++ begun_text plan paper outcomes
 
 -- outcomes were pressed behind others, and a stream has some of the text that they add
-pub record HaveAdded (plan : PagePlan) (paper : Paper) (before outcomes : List Outcome) (press : PageBuilder) (Took : List ℕ → Type 0) : Type 0 where
+pub record HaveAdded (plan : PagePlan) (paper : Paper) (before outcomes : List Outcome) (press : PageBuilder)
+    (Took : List ℕ → Type 0) : Type 0 where
   pub text : List ℕ
   pub pressed : AddsOutcomes plan paper before outcomes text press
   pub took : Took text
 
--- outcomes were pressed and written behind those that were taken, or not to their end: memory may have run out before any went out
-abbrev pub IsBuiltOrStopped : PagePlan → Paper → List Outcome → List Outcome → Stream → Result BookProgress Status → Type 0
-IsBuiltOrStopped plan paper before outcomes o (Ok r) = HaveAdded plan paper before outcomes r.press (WroteWhole o) × IsRunning plan paper (before ++ outcomes) r
-IsBuiltOrStopped plan paper before outcomes o (Err why) = (StoppedAfterPrefix why o []) ⊎ ((press : PageBuilder) × HaveAdded plan paper before outcomes press (StoppedAfterPrefix why o))
+-- outcomes were pressed and written behind those that were taken, or not to their end: memory may have run out before
+-- any went out
+abbrev pub IsBuiltOrStopped : PagePlan
+    → Paper → List Outcome → List Outcome → Stream → Result BookProgress Status → Type 0
+IsBuiltOrStopped plan paper before outcomes o (Ok r) =
+    HaveAdded plan paper before outcomes r.press (WroteWhole o) × IsRunning plan paper (before ++ outcomes) r
+IsBuiltOrStopped plan paper before outcomes o (Err why) =
+    (StoppedAfterPrefix why o [])
+    ⊎ ((press : PageBuilder) × HaveAdded plan paper before outcomes press (StoppedAfterPrefix why o))
 
 -- the blocks of some tunes, once they were set
 pub record AreGathered (terms : Terms) (tunes : List TuneText) (blocks : List Block) : Type 0 where
@@ -84,25 +90,29 @@ pub record AreGathered (terms : Terms) (tunes : List TuneText) (blocks : List Bl
 -- the plan of these tunes: filled, or the even one of their outcomes
 abbrev pub IsPlanned : Bool → Terms → List TuneText → PagePlan → Type 0
 IsPlanned false terms tunes plan = plan ≡ PagePlan.Filled
-IsPlanned true terms tunes plan = (all : List Outcome) × AreOutcomes terms tunes all × IsPagePlan true terms.paper all plan
+IsPlanned true terms tunes plan =
+    (all : List Outcome) × AreOutcomes terms tunes all × IsPagePlan true terms.paper all plan
 
 -- all that is left of the document of these outcomes was written behind their pages
 abbrev pub rest_text : ℕ → List ℕ
 rest_text begun = ending begun ++ trailer begun
 
 abbrev pub IsFinished : List Outcome → ℕ → Stream → Result WrittenBook Status → Type 0
-IsFinished outcomes begun o (Ok p) = WroteWhole o (rest_text begun) × (p.told ≡ reports outcomes) × (p.status ≡ status_of outcomes) × (p.pages ≡ begun)
+IsFinished outcomes begun o (Ok p) =
+    WroteWhole o (rest_text begun) × (p.told ≡ reports outcomes) × (p.status ≡ status_of outcomes) × (p.pages ≡ begun)
 IsFinished outcomes begun o (Err why) = StoppedAfterPrefix why o (rest_text begun)
 
 -- these tunes were set, and the document was written up to their last block
-pub record AreRunning (terms : Terms) (plan : PagePlan) (tunes : List TuneText) (o : Stream) (r : BookProgress) : Type 0 where
+pub record AreRunning (terms : Terms) (plan : PagePlan) (tunes : List TuneText) (o : Stream)
+    (r : BookProgress) : Type 0 where
   pub outcomes : List Outcome
   pub set : AreOutcomes terms tunes outcomes
   pub running : IsRunning plan terms.paper outcomes r
   pub wrote : WroteWhole o (text_so_far plan terms.paper outcomes)
 
 -- The first of these tunes were set, and the document was being written up to their last block.
-pub record AreCutOff (terms : Terms) (plan : PagePlan) (tunes : List TuneText) (o : Stream) (why : Status) : Type 0 where
+pub record AreCutOff (terms : Terms) (plan : PagePlan) (tunes : List TuneText) (o : Stream)
+    (why : Status) : Type 0 where
   pub before : List TuneText
   pub rest : List TuneText
   pub whole : before ++ rest ≡ tunes
@@ -122,12 +132,19 @@ CountsAs Status.WriteFault s = Rose s.count_before s.count_after
 CountsAs Status.Memory s = s.count_after ≡ s.count_before
 CountsAs _ s = ⊥
 
--- why the document of a book was not written to its end: memory ran out before it was begun, or all tunes were set, or some were left
+-- why the document of a book was not written to its end: memory ran out before it was begun, or all tunes were set, or
+-- some were left
 pub data IsUnwritten (manner : Manner) (even : Bool) (text : List ℕ) (o : Stream) (why : Status) : Type 0 where
   unbegun : why ≡ Status.Memory → IsQuiet o → IsUnwritten manner even text o why
-  all_set : (called : Called) → CallsPages manner even text called → StoppedAfterPrefix why o called.page → IsUnwritten manner even text o why
+  all_set : (called : Called)
+      → CallsPages manner even text called → StoppedAfterPrefix why o called.page → IsUnwritten manner even text o why
   some_left : SetStoppedEarly manner even text o → CountsAs why o → IsUnwritten manner even text o why
 
 abbrev pub IsBookWritten : Manner → Bool → List ℕ → Stream → Result WrittenBook Status → Type 0
-IsBookWritten manner even text o (Ok p) = (called : Called) × CallsPages manner even text called × (p.told ≡ called.told) × (p.status ≡ called.status) × WroteWhole o called.page
+IsBookWritten manner even text o (Ok p) =
+    (called : Called)
+    × CallsPages manner even text called
+    × (p.told ≡ called.told)
+    × (p.status ≡ called.status)
+    × WroteWhole o called.page
 IsBookWritten manner even text o (Err why) = IsUnwritten manner even text o why

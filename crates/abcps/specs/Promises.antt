@@ -35,8 +35,8 @@ pub record AsksWholeText (c : Command) (words : List (List ℕ)) (i : Stream) (t
   pub asked : Asks words c
   pub read : IsInputRead c i text
 
--- What was called for is on both sinks, and it is the one thing that is called for of this input, by any number of jobs: so the bytes
--- and the answer are the same for every number of them. The input is one that isn't refused.
+-- What was called for is on both sinks, and it is the one thing that is called for of this input, by any number of
+-- jobs: so the bytes and the answer are the same for every number of them. The input is one that isn't refused.
 pub record IsDone (c : Command) (s : Status) (text : List ℕ) (o e : Stream) : Type 0 where
   pub called : Called
   pub calls : Calls c text called
@@ -46,7 +46,8 @@ pub record IsDone (c : Command) (s : Status) (text : List ℕ) (o e : Stream) : 
   pub page : WroteWhole o called.page
   pub told : WroteWhole e called.told
 
--- The input is refused: nothing is called for, the answer is the refusal's, output has nothing, and errors was told the refusal's line.
+-- The input is refused: nothing is called for, the answer is the refusal's, output has nothing,
+-- and errors was told the refusal's line.
 pub record IsRefused (c : Command) (s : Status) (text : List ℕ) (o e : Stream) : Type 0 where
   pub refusal : Refusal
   pub refuses : Refuses c text refusal
@@ -61,19 +62,31 @@ pub record Promises (s : Status) (words : List (List ℕ)) (i o e : Stream) : Ty
   -- then nothing was read or written but the line of usage, or a front of it where the errors sink failed
   pub usage_line : s ≡ Status.Usage → IsQuiet i × IsQuiet o × ReportsLine e usage_line
   -- a fault of the input is answered only where a command reads and its count rose, and nothing is written
-  pub read_fault : s ≡ Status.ReadFault → ((c : Command) × Asks words c × ReadsInput c) × Rose i.count_before i.count_after × IsQuiet o × IsQuiet e
+  pub read_fault : s ≡ Status.ReadFault
+      → ((c : Command) × Asks words c × ReadsInput c) × Rose i.count_before i.count_after × IsQuiet o × IsQuiet e
   -- an input is too long where one byte past the command's limit was taken, and nothing is written
-  pub too_long : s ≡ Status.TooLong → ((c : Command) × Asks words c × ReadsInput c × ((text : List ℕ) × ReadTooMuch (limit_of c) i text)) × IsQuiet o × IsQuiet e
-  -- an input that is no document, or no listing, is told so by the line of its first fault, and one that can't be painted by the token
-  -- at which its run halts and the cause; nothing is written to output
-  pub refused : IsRefusalStatus s → (c : Command) × (text : List ℕ) × AsksWholeText c words i text × IsRefused c s text o e
-  -- a fault of a sink is answered only where its count rose: output has a front of its text and errors nothing, or output has
-  -- all of it and errors a front of its own; where `set` had tunes left, output has a front of the document of its whole book
-  pub write_fault : s ≡ Status.WriteFault → (c : Command) × (text : List ℕ) × AsksWholeText c words i text × FailedToWrite c text o e
-  -- for want of memory errors has nothing, and output nothing or a front of its text, or of the document of a whole book of which `set` had tunes left
-  pub memory : s ≡ Status.Memory → IsQuiet e × (IsQuiet o ⊎ ((c : Command) × (text : List ℕ) × AsksWholeText c words i text × HoldsPart c text o))
+  pub too_long : s ≡ Status.TooLong
+      → ((c : Command) × Asks words c × ReadsInput c × ((text : List ℕ) × ReadTooMuch (limit_of c) i text))
+      × IsQuiet o
+      × IsQuiet e
+  -- an input that is no document, or no listing, is told so by the line of its first fault, and one that can't be
+  -- painted by the token at which its run halts and the cause; nothing is written to output
+  pub refused : IsRefusalStatus s
+      → (c : Command) × (text : List ℕ) × AsksWholeText c words i text × IsRefused c s text o e
+  -- a fault of a sink is answered only where its count rose: output has a front of its text and errors nothing, or
+  -- output has all of it and errors a front of its own; where `set` had tunes left, output has a front of the document
+  -- of its whole book
+  pub write_fault : s ≡ Status.WriteFault
+      → (c : Command) × (text : List ℕ) × AsksWholeText c words i text × FailedToWrite c text o e
+  -- for want of memory errors has nothing, and output nothing or a front of its text, or of the document of a whole
+  -- book of which `set` had tunes left
+  pub memory : s ≡ Status.Memory
+      → IsQuiet e × (IsQuiet o ⊎ ((c : Command) × (text : List ℕ) × AsksWholeText c words i text × HoldsPart c text o))
   -- every other answer is the one that is called for, and both sinks have their whole texts
-  pub done : s ≢ Status.Usage → s ≢ Status.ReadFault → s ≢ Status.TooLong → (IsRefusalStatus s → ⊥) → s ≢ Status.WriteFault → s ≢ Status.Memory → (c : Command) × (text : List ℕ) × AsksWholeText c words i text × IsDone c s text o e
-  -- Where the words ask for a command, no fault is counted and the input is told within the limit: unless memory runs out, all
-  -- that the command calls for is done, or its input is refused.
-  pub answered : (c : Command) (text : List ℕ) → IsRunOn c words i o e text → s ≢ Status.Memory → IsDone c s text o e ⊎ IsRefused c s text o e
+  pub done : s ≢ Status.Usage
+      → s ≢ Status.ReadFault → s ≢ Status.TooLong → (IsRefusalStatus s → ⊥) → s ≢ Status.WriteFault → s ≢ Status.Memory
+      → (c : Command) × (text : List ℕ) × AsksWholeText c words i text × IsDone c s text o e
+  -- Where the words ask for a command, no fault is counted and the input is told within the limit: unless memory runs
+  -- out, all that the command calls for is done, or its input is refused.
+  pub answered : (c : Command) (text : List ℕ)
+      → IsRunOn c words i o e text → s ≢ Status.Memory → IsDone c s text o e ⊎ IsRefused c s text o e

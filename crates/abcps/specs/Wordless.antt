@@ -1,5 +1,5 @@
--- What is answered where the words of a run couldn't be had: a word that isn't UTF-8 is in no listed form, so the usage line is told; where
--- memory ran out nothing is written.
+-- What is answered where the words of a run couldn't be had: a word that isn't UTF-8 is in no listed form, so the usage
+-- line is told; where memory ran out nothing is written.
 use Rattle.std.specs.{Prelude.◌≡◌, declared.io.ErrorKind.ErrorKind}
 use Rattle.abcps_words.specs.Usage.{usage_line}
 use Rattle.abcps.specs.Outcome.{IsQuiet, Stream, ReportsLine}

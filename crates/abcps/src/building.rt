@@ -58,7 +58,8 @@ pub(crate) fn begin_book<O: Sink>(
     output: &mut O,
 ) -> Result<BookProgress, Status>
     requires { IsGoodPaper paper.now }
-    ensures wrote { WroteOrStopped (observed O.taken O.faults output.old output.new) (prolog (paper_frame paper.now)) result }
+    ensures wrote { WroteOrStopped (observed O.taken O.faults output.old output.new) (prolog (paper_frame paper.now))
+        result }
     ensures begun { IfOk result IsBegun }
 {
     let writer = begin(alloc, &paper_frame(paper), output)?;
@@ -77,7 +78,8 @@ fn send_all<O: Sink>(
     output: &mut O,
 ) -> Result<DocWriter, Status>
     requires { writer.pages ≡ 0 }
-    ensures wrote { WroteOrStopped (observed O.taken O.faults output.old output.new) (flat_map (λ text. text) texts) result }
+    ensures wrote { WroteOrStopped (observed O.taken O.faults output.old output.new) (flat_map (λ text. text) texts)
+        result }
     ensures count { IfOk result (λ next. next.pages ≡ 0) }
 {
     let mut writer = writer;
@@ -87,8 +89,8 @@ fn send_all<O: Sink>(
     Ok(writer)
 }
 
-/// Presses what came of some tunes behind those before them, and writes the text that they add. The outcomes are kept no
-/// longer.
+/// Presses what came of some tunes behind those before them, and writes the text that they add. The outcomes are kept
+/// no longer.
 pub(crate) fn write_outcomes<R: Threads + Sync, O: Sink>(
     rt: &R,
     alloc: Global,
@@ -100,7 +102,9 @@ pub(crate) fn write_outcomes<R: Threads + Sync, O: Sink>(
     output: &mut O,
 ) -> Result<BookProgress, Status>
     requires { CanAdd plan.now paper.now outcomes run }
-    ensures { (before : List Outcome) → IsRunning plan.now paper.now before run → IsBuiltOrStopped plan.now paper.now before outcomes (observed O.taken O.faults output.old output.new) result }
+    ensures { (before : List Outcome)
+        → IsRunning plan.now paper.now before run
+        → IsBuiltOrStopped plan.now paper.now before outcomes (observed O.taken O.faults output.old output.new) result }
 {
     let mut run = run;
     put_reports(&mut run.told, outcomes.as_slice())?;
@@ -117,7 +121,9 @@ pub(crate) fn finish_book<O: Sink>(
     output: &mut O,
 ) -> Result<WrittenBook, Status>
     requires { run.writer.pages ≡ 0 }
-    ensures { (plan : PagePlan) (paper : Paper) (outcomes : List Outcome) → IsRunning plan paper outcomes run → IsFinished outcomes run.press.begun (observed O.taken O.faults output.old output.new) result }
+    ensures { (plan : PagePlan) (paper : Paper) (outcomes : List Outcome)
+        → IsRunning plan paper outcomes run
+        → IsFinished outcomes run.press.begun (observed O.taken O.faults output.old output.new) result }
 {
     let mut text = Text::new(alloc);
     put_ending(u64::from(run.press.begun), &mut text)?;

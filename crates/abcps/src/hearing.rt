@@ -30,7 +30,9 @@ fn print<O: Sink, E: Sink>(
     output: &mut O,
     errors: &mut E,
 ) -> Status
-    ensures { IsAnswered (λ called. called ≡ record { page = heard_text spread sheet.now; told = []; status = Status.Done }) result (observed O.taken O.faults output.old output.new) (observed E.taken E.faults errors.old errors.new) }
+    ensures { IsAnswered
+        (λ called. called ≡ record { page = heard_text spread sheet.now; told = []; status = Status.Done }) result
+        (observed O.taken O.faults output.old output.new) (observed E.taken E.faults errors.old errors.new) }
 {
     let Ok(text) = text_of(alloc, spread, sheet) else {
         return Status::Memory;
@@ -46,7 +48,8 @@ pub(crate) fn hear<O: Sink, E: Sink>(
     output: &mut O,
     errors: &mut E,
 ) -> Status
-    ensures { IsAnswer (Command.Hear spread) result text.now (observed O.taken O.faults output.old output.new) (observed E.taken E.faults errors.old errors.new) }
+    ensures { IsAnswer (Command.Hear spread) result text.now (observed O.taken O.faults output.old output.new)
+        (observed E.taken E.faults errors.old errors.new) }
 {
     match read_document(alloc, text) {
         Ok(sheet) => print(alloc, spread, &sheet, output, errors),

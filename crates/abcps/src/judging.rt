@@ -58,7 +58,9 @@ fn print<O: Sink, E: Sink>(
     output: &mut O,
     errors: &mut E,
 ) -> Status
-    ensures { IsAnswered (λ called. called ≡ record { page = verdicts_text judged.now; told = []; status = status_by judged.now }) result (observed O.taken O.faults output.old output.new) (observed E.taken E.faults errors.old errors.new) }
+    ensures { IsAnswered
+        (λ called. called ≡ record { page = verdicts_text judged.now; told = []; status = status_by judged.now }) result
+        (observed O.taken O.faults output.old output.new) (observed E.taken E.faults errors.old errors.new) }
 {
     let Ok(text) = verdicts_text(alloc, judged) else {
         return Status::Memory;
@@ -73,7 +75,8 @@ pub(crate) fn check<O: Sink, E: Sink>(
     output: &mut O,
     errors: &mut E,
 ) -> Status
-    ensures { IsAnswer Command.Check result text.now (observed O.taken O.faults output.old output.new) (observed E.taken E.faults errors.old errors.new) }
+    ensures { IsAnswer Command.Check result text.now (observed O.taken O.faults output.old output.new)
+        (observed E.taken E.faults errors.old errors.new) }
 {
     match check_listing(alloc, text) {
         Ok(judged) => print(alloc, judged.as_slice(), output, errors),

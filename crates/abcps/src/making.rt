@@ -16,7 +16,8 @@ pub(crate) fn make_book<O: Sink, E: Sink>(
 ) -> Status
     requires some { 1 ≤ tunes }
     requires few { tunes ≤ 500 }
-    ensures { IsAnswer (Command.Make tunes) result [] (observed O.taken O.faults output.old output.new) (observed E.taken E.faults errors.old errors.new) }
+    ensures { IsAnswer (Command.Make tunes) result [] (observed O.taken O.faults output.old output.new)
+        (observed E.taken E.faults errors.old errors.new) }
 {
     let Ok(book) = make(alloc, tunes) else {
         return Status::Memory;

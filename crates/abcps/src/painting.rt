@@ -41,7 +41,8 @@ fn print<O: Sink, E: Sink>(
     output: &mut O,
     errors: &mut E,
 ) -> Status
-    ensures { IsAnswered (λ called. called ≡ record { page = paint_text pages.now; told = []; status = Status.Done }) result (observed O.taken O.faults output.old output.new) (observed E.taken E.faults errors.old errors.new) }
+    ensures { IsAnswered (λ called. called ≡ record { page = paint_text pages.now; told = []; status = Status.Done })
+        result (observed O.taken O.faults output.old output.new) (observed E.taken E.faults errors.old errors.new) }
 {
     let Ok(text) = text_of(alloc, pages) else {
         return Status::Memory;
@@ -57,7 +58,8 @@ pub(crate) fn paint<O: Sink, E: Sink>(
     errors: &mut E,
 ) -> Status
     requires { length text.now ≤ 268435456 }
-    ensures { IsAnswer Command.Paint result text.now (observed O.taken O.faults output.old output.new) (observed E.taken E.faults errors.old errors.new) }
+    ensures { IsAnswer Command.Paint result text.now (observed O.taken O.faults output.old output.new)
+        (observed E.taken E.faults errors.old errors.new) }
 {
     match run_machine(alloc, text, budget_of(text)) {
         Ok(pages) => print(alloc, pages.as_slice(), output, errors),

@@ -29,7 +29,8 @@ pub(crate) fn report_usage<E: Sink>(errors: &mut E)
 /// Tells errors the last text of a run, whose answer that is unless errors fails.
 pub(crate) fn report_last<E: Sink>(errors: &mut E, told: &[u8], with: Status) -> Status
     ensures { ((result ≡ with) × WroteWhole (observed E.taken E.faults errors.old errors.new) told.now)
-        ⊎ ((result ≡ Status.WriteFault) × FailedAfterPrefix (observed E.taken E.faults errors.old errors.new) told.now) }
+        ⊎ ((result ≡ Status.WriteFault)
+        × FailedAfterPrefix (observed E.taken E.faults errors.old errors.new) told.now) }
 {
     match write_all(errors, told) {
         Ok(()) => with,
@@ -47,7 +48,8 @@ pub(crate) fn write_both<O: Sink, E: Sink>(
     with: Status,
 ) -> Status
     requires { IsCompleteStatus with }
-    ensures { IsAnswered (λ called. called ≡ record { page = page.now; told = told.now; status = with }) result (observed O.taken O.faults output.old output.new) (observed E.taken E.faults errors.old errors.new) }
+    ensures { IsAnswered (λ called. called ≡ record { page = page.now; told = told.now; status = with }) result
+        (observed O.taken O.faults output.old output.new) (observed E.taken E.faults errors.old errors.new) }
 {
     match write_all(output, page) {
         Ok(()) => report_last(errors, told, with),
@@ -67,7 +69,8 @@ fn line_of(alloc: Global, refusal: Refusal) -> Result<Text, Memory>
 /// Tells why an input is refused; its answer stands whatever the sink does.
 pub(crate) fn refuse<E: Sink>(alloc: Global, refusal: Refusal, errors: &mut E) -> Status
     ensures { ((result ≡ Status.Memory) × IsQuiet (observed E.taken E.faults errors.old errors.new))
-        ⊎ ((result ≡ refusal_status refusal) × ReportsLine (observed E.taken E.faults errors.old errors.new) (refusal_line refusal)) }
+        ⊎ ((result ≡ refusal_status refusal)
+        × ReportsLine (observed E.taken E.faults errors.old errors.new) (refusal_line refusal)) }
 {
     let Ok(line) = line_of(alloc, refusal) else {
         return Status::Memory;

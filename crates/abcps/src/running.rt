@@ -36,7 +36,8 @@ fn answer<R: Threads + Sync, O: Sink, E: Sink, G: Gate + Sync>(
     requires reader { ReadsInput command }
     requires good { IsGoodCommand command }
     requires within { length text ≤ limit_of command }
-    ensures { IsAnswer command result text (observed O.taken O.faults output.old output.new) (observed E.taken E.faults errors.old errors.new) }
+    ensures { IsAnswer command result text (observed O.taken O.faults output.old output.new)
+        (observed E.taken E.faults errors.old errors.new) }
 {
     match command {
         Command::Set {
@@ -74,7 +75,8 @@ fn read_and_answer<R: Threads + Sync, S: Source, O: Sink, E: Sink, G: Gate + Syn
 ) -> Status
     requires reader { ReadsInput command }
     requires good { IsGoodCommand command }
-    ensures { IsCommandAnswer command result (observed S.left S.faults input.old input.new) (observed O.taken O.faults output.old output.new) (observed E.taken E.faults errors.old errors.new) }
+    ensures { IsCommandAnswer command result (observed S.left S.faults input.old input.new)
+        (observed O.taken O.faults output.old output.new) (observed E.taken E.faults errors.old errors.new) }
 {
     match read_all(alloc, input, command.limit()) {
         Err(ReadError::Fault) => Status::ReadFault,
@@ -95,7 +97,8 @@ fn obey<R: Threads + Sync, S: Source, O: Sink, E: Sink, G: Gate + Sync>(
     gate: &G,
 ) -> Status
     requires { IsGoodCommand command }
-    ensures { IsCommandAnswer command result (observed S.left S.faults input.old input.new) (observed O.taken O.faults output.old output.new) (observed E.taken E.faults errors.old errors.new) }
+    ensures { IsCommandAnswer command result (observed S.left S.faults input.old input.new)
+        (observed O.taken O.faults output.old output.new) (observed E.taken E.faults errors.old errors.new) }
 {
     match command {
         Command::Make { tunes } => make_book(alloc, tunes, output, errors),
@@ -122,7 +125,8 @@ fn run_words<R: Threads + Sync, S: Source, O: Sink, E: Sink, G: Gate + Sync>(
     errors: &mut E,
     gate: &G,
 ) -> Status
-    ensures { IsRunAnswer result (map string_bytes words.now) (observed S.left S.faults input.old input.new) (observed O.taken O.faults output.old output.new) (observed E.taken E.faults errors.old errors.new) }
+    ensures { IsRunAnswer result (map string_bytes words.now) (observed S.left S.faults input.old input.new)
+        (observed O.taken O.faults output.old output.new) (observed E.taken E.faults errors.old errors.new) }
 {
     let Some(command) = command_of(words) else {
         report_usage(errors);
@@ -176,7 +180,8 @@ pub fn run<R: Threads + Sync, S: Source, O: Sink, E: Sink, G: Gate + Sync>(
     errors: &mut E,
     gate: &G,
 ) -> Status
-    ensures { Promises result (map string_bytes words.now) (observed S.left S.faults input.old input.new) (observed O.taken O.faults output.old output.new) (observed E.taken E.faults errors.old errors.new) }
+    ensures { Promises result (map string_bytes words.now) (observed S.left S.faults input.old input.new)
+        (observed O.taken O.faults output.old output.new) (observed E.taken E.faults errors.old errors.new) }
 {
     asks_one();
     calls_one();

@@ -45,37 +45,64 @@ is_rebuilt (Command.Hear spread) o good says = refl
 is_rebuilt (Command.Make tunes) o good says = ap Command.Make (number_back tunes good)
 is_rebuilt (Command.Trial tunes flow jobs even) o good says = cc (number_back tunes good, says.0, says.1, says.2)
 
-pub one_front : (c d : Command) (o : Options) → front_of c ≡ front_of d → HasTunes c → HasTunes d → SaysCommand o c → SaysCommand o d → c ≡ d
-one_front c d o e a b says tells = sym (is_rebuilt c o a says) ∙ ap (λ front. rebuilt front o) e ∙ is_rebuilt d o b tells
+pub one_front : (c d : Command) (o : Options)
+    → front_of c ≡ front_of d → HasTunes c → HasTunes d → SaysCommand o c → SaysCommand o d → c ≡ d
+one_front c d o e a b says tells =
+    sym (is_rebuilt c o a says) ∙ ap (λ front. rebuilt front o) e ∙ is_rebuilt d o b tells
 
 pub asks_one : AsksOne
 asks_one words c d a b =
     let fronts = same_front c d a.behind b.behind (sym a.whole ∙ b.whole) in
-    let same : a.options ≡ b.options = one_spelling a.options b.options a.behind a.spelled (subst (IsSpelled b.options) (sym fronts.1) b.spelled) in
-    one_front c d (said a.options) fronts.0 a.tunes b.tunes a.says (subst (λ flags. SaysCommand (said flags) d) (sym same) b.says)
+    let same : a.options ≡ b.options =
+    one_spelling a.options b.options a.behind a.spelled (subst (IsSpelled b.options) (sym fronts.1) b.spelled) in
+    one_front c d (said a.options) fronts.0 a.tunes b.tunes a.says
+    (subst (λ flags. SaysCommand (said flags) d) (sym same) b.says)
 
-good_by : (c : Command) (flags : List Flag) (options : List (List ℕ)) → HasTunes c → IsSpelled flags options → SaysCommand (said flags) c → IsGoodCommand c
-good_by (Command.Set flow jobs by even) flags options good is says = (subst (IsUpTo 64) (sym says.1) (jobs_good flags is.in_range), subst IsMove (sym says.2) (half_steps_good flags is.in_range))
-good_by (Command.Systems flow table by) flags options good is says = subst IsMove (sym says.2) (half_steps_good flags is.in_range)
+good_by : (c : Command) (flags : List Flag) (options : List (List ℕ))
+    → HasTunes c → IsSpelled flags options → SaysCommand (said flags) c → IsGoodCommand c
+good_by (Command.Set flow jobs by even) flags options good is says = (
+  subst (IsUpTo 64) (sym says.1) (jobs_good flags is.in_range),
+  subst IsMove (sym says.2) (half_steps_good flags is.in_range),
+)
+good_by (Command.Systems flow table by) flags options good is says =
+    subst IsMove (sym says.2) (half_steps_good flags is.in_range)
 good_by (Command.Make tunes) flags options good is says = good
-good_by (Command.Trial tunes flow jobs even) flags options good is says = (good, subst (IsUpTo 64) (sym says.1) (jobs_good flags is.in_range))
+good_by (Command.Trial tunes flow jobs even) flags options good is says =
+    (good, subst (IsUpTo 64) (sym says.1) (jobs_good flags is.in_range))
 good_by c flags options good is says = tt
 
 pub asked_is_good : AskedIsGood
 asked_is_good words c asks = good_by c asks.options asks.behind asks.tunes asks.spelled asks.says
 
 -- what a command's front and its options, read from the same words, make of them
-module _ (words rest : List (List ℕ)) (c : Command) (o : Options) (flags : List Flag) (whole : words ≡ front_of c ++ rest) (is : IsSpelled flags rest) (says : o ≡ said flags) where
+module _ (words rest : List (List ℕ)) (c : Command) (o : Options) (flags : List Flag)
+    (whole : words ≡ front_of c ++ rest) (is : IsSpelled flags rest) (says : o ≡ said flags) where
   asked : (d : Command) → front_of d ≡ front_of c → HasTunes d → SaysCommand o d → Asks words d
-  asked d e good tells = record { options = flags; behind = rest; whole = whole ∙ ap (λ front. front ++ rest) (sym e); tunes = good; spelled = is; says = subst (λ o. SaysCommand o d) says tells }
+  asked d e good tells = record {
+    options = flags;
+    behind = rest;
+    whole = whole ∙ ap (λ front. front ++ rest) (sym e);
+    tunes = good;
+    spelled = is;
+    says = subst (λ o. SaysCommand o d) says tells;
+  }
 
-  pub asks_by : (r : Option Command) → MatchOption r ((d : Command) → front_of d ≡ front_of c → SaysCommand o d → ⊥) (λ d. (front_of d ≡ front_of c) × HasTunes d × SaysCommand o d) → IfSome r (λ d. Asks words d)
+  pub asks_by : (r : Option Command)
+      → MatchOption r ((d : Command) → front_of d ≡ front_of c → SaysCommand o d → ⊥)
+      (λ d. (front_of d ≡ front_of c) × HasTunes d × SaysCommand o d)
+      → IfSome r (λ d. Asks words d)
   asks_by None h = tt
   asks_by (Some d) h = asked d h.0 h.1 h.2
 
-  pub none_by : (r : Option Command) → MatchOption r ((d : Command) → front_of d ≡ front_of c → SaysCommand o d → ⊥) (λ d. (front_of d ≡ front_of c) × HasTunes d × SaysCommand o d) → IfNone r (IsListed words → ⊥)
+  pub none_by : (r : Option Command)
+      → MatchOption r ((d : Command) → front_of d ≡ front_of c → SaysCommand o d → ⊥)
+      (λ d. (front_of d ≡ front_of c) × HasTunes d × SaysCommand o d)
+      → IfNone r (IsListed words → ⊥)
   none_by None h = λ listed. (
-      let a = listed.1 in let fronts = same_front listed.0 c a.behind rest (sym a.whole ∙ whole) in let same : a.options ≡ flags = one_spelling a.options flags rest (subst (IsSpelled a.options) fronts.1 a.spelled) is in
+      let a = listed.1 in
+      let fronts = same_front listed.0 c a.behind rest (sym a.whole ∙ whole) in
+      let same : a.options ≡ flags =
+      one_spelling a.options flags rest (subst (IsSpelled a.options) fronts.1 a.spelled) is in
       h listed.0 fronts.0 (subst (λ o. SaysCommand o listed.0) (ap said same ∙ sym says) a.says))
   none_by (Some d) h = tt
 

@@ -39,18 +39,30 @@ key_of _ = 0
 key_eq : (m n : ℕ) → m ≡ n → (m == n) ≡ true
 key_eq m n e = grind (arith, nat_tests)
 
-pub clash : (name : List ℕ) (words other : List (List ℕ)) → words ≡ other → head_of words ≡ name → (key_of name == key_of (head_of other)) ≡ false → ⊥
-clash name words other e is apart = let same : key_of name ≡ key_of (head_of other) = sym (ap key_of is) ∙ ap (λ ws. key_of (head_of ws)) e in true≢false (sym (key_eq (key_of name) (key_of (head_of other)) same) ∙ apart)
+pub clash : (name : List ℕ) (words other : List (List ℕ))
+    → words ≡ other → head_of words ≡ name → (key_of name == key_of (head_of other)) ≡ false → ⊥
+clash name words other e is apart =
+    let same : key_of name ≡ key_of (head_of other) = sym (ap key_of is) ∙ ap (λ ws. key_of (head_of ws)) e in
+    true≢false (sym (key_eq (key_of name) (key_of (head_of other)) same) ∙ apart)
 
-pub no_jobs : (word : List ℕ) (words : List (List ℕ)) → word ≡ codes "--jobs" → LacksNumber 64 words → (f : Flag) (rest : List (List ℕ)) → IsFlag f → word ∷ words ≡ flag_words f ++ rest → ⊥
+pub no_jobs : (word : List ℕ) (words : List (List ℕ))
+    → word ≡ codes "--jobs" → LacksNumber 64 words → (f : Flag) (rest : List (List ℕ)) → IsFlag f
+    → word ∷ words ≡ flag_words f ++ rest
+    → ⊥
 no_jobs word words is none (Flag.Jobs n) rest good e = none n rest good (ap tail_of e)
 no_jobs word words is none f rest good e = clash (codes "--jobs") (word ∷ words) (flag_words f ++ rest) e is refl
 
-pub no_half_steps : (word : List ℕ) (words : List (List ℕ)) → word ≡ codes "--transpose" → LacksHalfSteps words → (f : Flag) (rest : List (List ℕ)) → IsFlag f → word ∷ words ≡ flag_words f ++ rest → ⊥
+pub no_half_steps : (word : List ℕ) (words : List (List ℕ))
+    → word ≡ codes "--transpose" → LacksHalfSteps words → (f : Flag) (rest : List (List ℕ)) → IsFlag f
+    → word ∷ words ≡ flag_words f ++ rest
+    → ⊥
 no_half_steps word words is none (Flag.Transpose z) rest good e = none z rest good (ap tail_of e)
-no_half_steps word words is none f rest good e = clash (codes "--transpose") (word ∷ words) (flag_words f ++ rest) e is refl
+no_half_steps word words is none f rest good e =
+    clash (codes "--transpose") (word ∷ words) (flag_words f ++ rest) e is refl
 
-pub unnamed : (word : List ℕ) (words : List (List ℕ)) → ((n : Name) → word ≡ name_bytes n → ⊥) → (c : Command) (rest : List (List ℕ)) → word ∷ words ≡ front_of c ++ rest → ⊥
+pub unnamed : (word : List ℕ) (words : List (List ℕ))
+    → ((n : Name) → word ≡ name_bytes n → ⊥) → (c : Command) (rest : List (List ℕ)) → word ∷ words ≡ front_of c ++ rest
+    → ⊥
 unnamed word words none (Command.Set flow jobs by even) rest e = none Name.Set (ap head_of e)
 unnamed word words none (Command.Systems flow table by) rest e = none Name.Systems (ap head_of e)
 unnamed word words none Command.Inspect rest e = none Name.Inspect (ap head_of e)
@@ -60,23 +72,35 @@ unnamed word words none (Command.Hear spread) rest e = none Name.Hear (ap head_o
 unnamed word words none (Command.Make tunes) rest e = none Name.Make (ap head_of e)
 unnamed word words none (Command.Trial tunes flow jobs even) rest e = none Name.Trial (ap head_of e)
 
-pub no_make : (word : List ℕ) (words : List (List ℕ)) → word ≡ name_bytes Name.Make → LacksNumber 500 words → (c : Command) (rest : List (List ℕ)) → HasTunes c → word ∷ words ≡ front_of c ++ rest → ⊥
+pub no_make : (word : List ℕ) (words : List (List ℕ))
+    → word ≡ name_bytes Name.Make → LacksNumber 500 words → (c : Command) (rest : List (List ℕ)) → HasTunes c
+    → word ∷ words ≡ front_of c ++ rest
+    → ⊥
 no_make word words is none (Command.Make tunes) rest good e = none tunes rest good (ap tail_of e)
 no_make word words is none c rest good e = clash (codes "make") (word ∷ words) (front_of c ++ rest) e is refl
 
-pub no_trial : (word : List ℕ) (words : List (List ℕ)) → word ≡ name_bytes Name.Trial → LacksNumber 500 words → (c : Command) (rest : List (List ℕ)) → HasTunes c → word ∷ words ≡ front_of c ++ rest → ⊥
+pub no_trial : (word : List ℕ) (words : List (List ℕ))
+    → word ≡ name_bytes Name.Trial → LacksNumber 500 words → (c : Command) (rest : List (List ℕ)) → HasTunes c
+    → word ∷ words ≡ front_of c ++ rest
+    → ⊥
 no_trial word words is none (Command.Trial tunes flow jobs even) rest good e = none tunes rest good (ap tail_of e)
 no_trial word words is none c rest good e = clash (codes "trial") (word ∷ words) (front_of c ++ rest) e is refl
 
-pub no_hear : (word : List ℕ) (words : List (List ℕ)) → word ≡ name_bytes Name.Hear → LacksSpread words → (c : Command) (rest : List (List ℕ)) → word ∷ words ≡ front_of c ++ rest → ⊥
+pub no_hear : (word : List ℕ) (words : List (List ℕ))
+    → word ≡ name_bytes Name.Hear → LacksSpread words → (c : Command) (rest : List (List ℕ))
+    → word ∷ words ≡ front_of c ++ rest
+    → ⊥
 no_hear word words is none (Command.Hear spread) rest e = none spread rest (ap tail_of e)
 no_hear word words is none c rest e = clash (codes "hear") (word ∷ words) (front_of c ++ rest) e is refl
 
 -- the front of a command is two words where the name is one of make, trial and hear, and else one
 abbrev front_length : List (List ℕ) → ℕ
-front_length words = if (key_of (head_of words) == 414) || (key_of (head_of words) == 432) || (key_of (head_of words) == 416) then 2 else 1
+front_length words =
+    if (key_of (head_of words) == 414) || (key_of (head_of words) == 432) || (key_of (head_of words) == 416) then 2
+    else 1
 
-front_is : (c : Command) (rest : List (List ℕ)) → take (front_length (front_of c ++ rest)) (front_of c ++ rest) ≡ front_of c
+front_is : (c : Command) (rest : List (List ℕ))
+    → take (front_length (front_of c ++ rest)) (front_of c ++ rest) ≡ front_of c
 front_is (Command.Set flow jobs by even) rest = refl
 front_is c rest = refl
 
@@ -84,7 +108,8 @@ rest_is : (c : Command) (rest : List (List ℕ)) → drop (front_length (front_o
 rest_is (Command.Set flow jobs by even) rest = refl
 rest_is c rest = refl
 
-pub same_front : (c d : Command) (xs ys : List (List ℕ)) → front_of c ++ xs ≡ front_of d ++ ys → (front_of c ≡ front_of d) × (xs ≡ ys)
+pub same_front : (c d : Command) (xs ys : List (List ℕ))
+    → front_of c ++ xs ≡ front_of d ++ ys → (front_of c ≡ front_of d) × (xs ≡ ys)
 same_front c d xs ys e = (
   sym (front_is c xs) ∙ ap (λ ws. take (front_length ws) ws) e ∙ front_is d ys,
   sym (rest_is c xs) ∙ ap (λ ws. drop (front_length ws) ws) e ∙ rest_is d ys,

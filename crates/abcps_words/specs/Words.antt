@@ -1,4 +1,5 @@
--- The words of a command: its name, the number of tunes or the spread where it takes one, and its options in any order, each at most once.
+-- The words of a command: its name, the number of tunes or the spread where it takes one, and its options in any order,
+-- each at most once.
 use Rattle.std.specs.Prelude.{◌≡◌, ◌≤◌, ◌≤ℤ◌, ⊤, ℕ, ℤ, pos, negsuc, Bool, true, false, List, [], ◌∷◌, All, Option, Some}
 use Rattle.std.specs.Prelude.{None, unwrap_or, codes, decimal, flat_map, count_by}
 use Rattle.std.specs.Fmt.{signed_decimal}
@@ -128,11 +129,14 @@ pub record IsBare (o : Options) : Type 0 where
 
 -- A command says what its options say, and takes no others: 1 job where none says how many, and no half step.
 abbrev pub SaysCommand : Options → Command → Type 0
-SaysCommand o (Command.Set flow jobs by even) = (flow ≡ o.flow) × (jobs ≡ unwrap_or o.jobs 1) × (by ≡ unwrap_or o.by (pos 0)) × (even ≡ o.even) × (o.table ≡ false)
-SaysCommand o (Command.Systems flow table by) = (flow ≡ o.flow) × (table ≡ o.table) × (by ≡ unwrap_or o.by (pos 0)) × (o.jobs ≡ None) × (o.even ≡ false)
+SaysCommand o (Command.Set flow jobs by even) =
+    (flow ≡ o.flow) × (jobs ≡ unwrap_or o.jobs 1) × (by ≡ unwrap_or o.by (pos 0)) × (even ≡ o.even) × (o.table ≡ false)
+SaysCommand o (Command.Systems flow table by) =
+    (flow ≡ o.flow) × (table ≡ o.table) × (by ≡ unwrap_or o.by (pos 0)) × (o.jobs ≡ None) × (o.even ≡ false)
 SaysCommand o Command.Inspect = IsBare o
 SaysCommand o Command.Check = IsBare o
 SaysCommand o (Command.Make tunes) = IsBare o
-SaysCommand o (Command.Trial tunes flow jobs even) = (flow ≡ o.flow) × (jobs ≡ unwrap_or o.jobs 1) × (even ≡ o.even) × (o.table ≡ false) × (o.by ≡ None)
+SaysCommand o (Command.Trial tunes flow jobs even) =
+    (flow ≡ o.flow) × (jobs ≡ unwrap_or o.jobs 1) × (even ≡ o.even) × (o.table ≡ false) × (o.by ≡ None)
 SaysCommand o Command.Paint = IsBare o
 SaysCommand o (Command.Hear spread) = IsBare o

@@ -159,7 +159,8 @@ fn name_of(word: &[u8]) -> Option<Name>
 
 /// The spread that a word is.
 fn spread_of(word: &[u8]) -> Option<Spread>
-    ensures { MatchOption result ((spread : Spread) → word.now ≡ spread_word spread → ⊥) (λ spread. word.now ≡ spread_word spread) }
+    ensures { MatchOption result ((spread : Spread) → word.now ≡ spread_word spread → ⊥)
+        (λ spread. word.now ≡ spread_word spread) }
 {
     if is_word(word, b"not") {
         Some(Spread::Not)

@@ -60,7 +60,8 @@ fn half_steps_up(word: &[u8]) -> Option<i8>
 
 /// The half steps from -12 to 12 that a word spells in decimal, without leading zeros.
 fn half_steps(word: &[u8]) -> Option<i8>
-    ensures { MatchOption result ((z : ℤ) → IsMove z → word.now ≡ signed_decimal z → ⊥) (λ z. IsMove z × (word.now ≡ signed_decimal z)) }
+    ensures { MatchOption result ((z : ℤ) → IsMove z → word.now ≡ signed_decimal z → ⊥)
+        (λ z. IsMove z × (word.now ≡ signed_decimal z)) }
 {
     match half_steps_down(word) {
         Some(down) => Some(down),

@@ -53,13 +53,15 @@ impl Source for MemSource {
 
     fn read(&mut self, buf: &mut [u8]) -> Result<usize, Failed>
         ensures bound { ReadsAtMost result buf.new }
-        ensures bytes { ReadConsumes (Some (drop self.old.at self.old.bytes)) (Some (drop self.new.at self.new.bytes)) result buf.new }
+        ensures bytes { ReadConsumes (Some (drop self.old.at self.old.bytes)) (Some (drop self.new.at self.new.bytes))
+            result buf.new }
         ensures never_falls { self.old.faults ≤ self.new.faults }
         ensures cause { ReadCause self.old.faults self.new.faults result }
         ensures fails { IsErr result ↔ Contains self.old.fails self.old.calls }
         ensures call { self.new.calls ≡ min (self.old.calls + 1) (2 ^ 64 - 1) }
         ensures same { IsSameSource self.old self.new }
-        ensures count { IfOk result (λ n. n ≡ min self.old.piece (min (length buf.old) (length self.old.bytes - self.old.at))) }
+        ensures count { IfOk result
+            (λ n. n ≡ min self.old.piece (min (length buf.old) (length self.old.bytes - self.old.at))) }
     {
         let call = self.calls;
         self.calls = call.saturating_add(1);

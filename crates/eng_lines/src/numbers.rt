@@ -39,7 +39,8 @@ fn first_at(byte: u8, bytes: &[u8]) -> Option<usize>
 
 /// The bytes before the first such byte, and those after it; `None` exactly where there is none.
 pub fn cut_at(byte: u8, bytes: &[u8]) -> Option<(&[u8], &[u8])>
-    ensures { MatchOption result (Lacks byte bytes.now) (λ z. (bytes.now ≡ z.0.now ++ byte ∷ z.1.now) × Lacks byte z.0.now) }
+    ensures { MatchOption result (Lacks byte bytes.now)
+        (λ z. (bytes.now ≡ z.0.now ++ byte ∷ z.1.now) × Lacks byte z.0.now) }
 {
     match first_at(byte, bytes) {
         Some(at) => Some((bytes.split_at(at).0, bytes.split_at(at + 1).1)),
@@ -49,7 +50,8 @@ pub fn cut_at(byte: u8, bytes: &[u8]) -> Option<(&[u8], &[u8])>
 
 /// What stands behind the prefix; `None` exactly where the bytes don't begin with it.
 pub fn strip<'a>(prefix: &[u8], bytes: &'a [u8]) -> Option<&'a [u8]>
-    ensures { MatchOption result ((rest : List ℕ) → bytes.now ≡ prefix.now ++ rest → ⊥) (λ rest. bytes.now ≡ prefix.now ++ rest.now) }
+    ensures { MatchOption result ((rest : List ℕ) → bytes.now ≡ prefix.now ++ rest → ⊥)
+        (λ rest. bytes.now ≡ prefix.now ++ rest.now) }
 {
     bytes.strip_prefix(prefix)
 }
@@ -66,7 +68,8 @@ fn parsed(bytes: &[u8]) -> Option<u64>
 /// The number that the bytes print: decimal, without a sign or leading zeros, and
 /// below 2^64. `None` exactly where they print none.
 pub fn number(bytes: &[u8]) -> Option<u64>
-    ensures { MatchOption result ((n : ℕ) → n < 2 ^ 64 → bytes.now ≡ decimal n → ⊥) (λ n. (bytes.now ≡ decimal n) × (n < 2 ^ 64)) }
+    ensures { MatchOption result ((n : ℕ) → n < 2 ^ 64 → bytes.now ≡ decimal n → ⊥)
+        (λ n. (bytes.now ≡ decimal n) × (n < 2 ^ 64)) }
 {
     match parsed(bytes) {
         Some(number) if Buffer::new().format(number).as_bytes() == bytes => Some(number),
@@ -76,7 +79,8 @@ pub fn number(bytes: &[u8]) -> Option<u64>
 
 /// The number below 2^32 that the bytes print; `None` exactly where they print none.
 pub fn small_number(bytes: &[u8]) -> Option<u32>
-    ensures { MatchOption result ((n : ℕ) → n < 2 ^ 32 → bytes.now ≡ decimal n → ⊥) (λ n. (bytes.now ≡ decimal n) × (n < 2 ^ 32)) }
+    ensures { MatchOption result ((n : ℕ) → n < 2 ^ 32 → bytes.now ≡ decimal n → ⊥)
+        (λ n. (bytes.now ≡ decimal n) × (n < 2 ^ 32)) }
 {
     match number(bytes) {
         Some(number) if number <= u32::MAX as u64 => Some(number as u32),
@@ -97,7 +101,8 @@ pub fn number_and_rest(bytes: &[u8]) -> Option<(u32, &[u8])>
 /// The two numbers below 2^32 behind the prefix, a space between them; `None` exactly
 /// where the bytes are no such line.
 pub fn numbers_after(prefix: &[u8], bytes: &[u8]) -> Option<(u32, u32)>
-    ensures { MatchOption result ((a b : ℕ) → a < 2 ^ 32 → b < 2 ^ 32 → bytes.now ≡ prefix.now ++ decimal a ++ 32 ∷ decimal b → ⊥)
+    ensures { MatchOption result
+        ((a b : ℕ) → a < 2 ^ 32 → b < 2 ^ 32 → bytes.now ≡ prefix.now ++ decimal a ++ 32 ∷ decimal b → ⊥)
         (λ z. (bytes.now ≡ prefix.now ++ decimal z.0 ++ 32 ∷ decimal z.1) × (z.0 < 2 ^ 32) × (z.1 < 2 ^ 32)) }
 {
     let rest = strip(prefix, bytes)?;

@@ -2,12 +2,19 @@
 use Rattle.std.proofs.Common.{◌≡◌, ◌∙◌, subst, ℕ, suc, ◌+◌, ◌-◌, ◌<◌, List, ◌++◌, append_assoc, arith}
 use Rattle.gen_book.specs.Book.{number_after_steps, line_behind, lines_behind, tune, tunes}
 
-pub one_line : (out new whole : List ℕ) (k s t : ℕ) → k < 16 → out ++ lines_behind (16 - k) s ≡ whole → new ≡ out ++ line_behind s → t ≡ number_after_steps 32 s → new ++ lines_behind (16 - (k + 1)) t ≡ whole
+pub one_line : (out new whole : List ℕ) (k s t : ℕ)
+    → k < 16 → out ++ lines_behind (16 - k) s ≡ whole → new ≡ out ++ line_behind s → t ≡ number_after_steps 32 s
+    → new ++ lines_behind (16 - (k + 1)) t ≡ whole
 one_line out new whole k s t within so_far put behind =
-    let left : 16 - k ≡ suc (16 - (k + 1)) = omega arith in let line : out ++ lines_behind (suc (16 - (k + 1))) s ≡ whole = subst (λ n. out ++ lines_behind n s ≡ whole) left so_far in
+    let left : 16 - k ≡ suc (16 - (k + 1)) = omega arith in
+    let line : out ++ lines_behind (suc (16 - (k + 1))) s ≡ whole =
+    subst (λ n. out ++ lines_behind n s ≡ whole) left so_far in
     rw (put, behind) (append_assoc out (line_behind s) (lines_behind (16 - (k + 1)) (number_after_steps 32 s)) ∙ line)
 
-pub one_tune : (out new whole : List ℕ) (n i : ℕ) → i < n + 1 → out ++ tunes (n + 1 - i) i ≡ whole → new ≡ out ++ tune i → new ++ tunes (n + 1 - (i + 1)) (i + 1) ≡ whole
+pub one_tune : (out new whole : List ℕ) (n i : ℕ)
+    → i < n + 1 → out ++ tunes (n + 1 - i) i ≡ whole → new ≡ out ++ tune i
+    → new ++ tunes (n + 1 - (i + 1)) (i + 1) ≡ whole
 one_tune out new whole n i within so_far put =
-    let left : n + 1 - i ≡ suc (n + 1 - (i + 1)) = omega arith in let line : out ++ tunes (suc (n + 1 - (i + 1))) i ≡ whole = subst (λ m. out ++ tunes m i ≡ whole) left so_far in
+    let left : n + 1 - i ≡ suc (n + 1 - (i + 1)) = omega arith in
+    let line : out ++ tunes (suc (n + 1 - (i + 1))) i ≡ whole = subst (λ m. out ++ tunes m i ≡ whole) left so_far in
     rw put (append_assoc out (tune i) (tunes (n + 1 - (i + 1)) (i + 1)) ∙ line)

@@ -10,11 +10,16 @@ line_length s = refl
 
 tune_short : (i : ℕ) → i ≤ 500 → length (tune i) ≤ 700
 unfolding tune heading_of_tune
-tune_short i few = let digits = length-decimal-le 3 i (omega arith) (omega (arith, few)) (omega (arith, few)) in simp (length-append, line_length) (omega (arith, digits))
+tune_short i few =
+    let digits = length-decimal-le 3 i (omega arith) (omega (arith, few)) (omega (arith, few)) in
+    simp (length-append, line_length) (omega (arith, digits))
 
 tunes_short : (k i : ℕ) → i + k ≤ 501 → length (tunes k i) ≤ 700 * k
 tunes_short zero i few = omega arith
-tunes_short (suc k) i few = let first = tune_short i (omega (arith, few)) in let more = tunes_short k (i + 1) (omega (arith, few)) in simp length-append (omega (arith, first, more))
+tunes_short (suc k) i few =
+    let first = tune_short i (omega (arith, few)) in
+    let more = tunes_short k (i + 1) (omega (arith, few)) in
+    simp length-append (omega (arith, first, more))
 
 pub book_short : (n : ℕ) → n ≤ 500 → length (book n) ≤ 350000
 unfolding book

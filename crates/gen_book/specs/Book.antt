@@ -1,5 +1,5 @@
--- The generated book of n tunes. Each tune has its number, a title, common time, eighths, one of four keys, and 16 lines
--- of four measures; its letters come from a number that begins as the tune's.
+-- The generated book of n tunes. Each tune has its number, a title, common time, eighths, one of four keys, and 16
+-- lines of four measures; its letters come from a number that begins as the tune's.
 use Rattle.std.specs.Prelude.{ℕ, zero, suc, ◌+◌, ◌*◌, ◌/◌, ◌%◌, ◌^◌, List, [], ◌∷◌, ◌++◌, codes, decimal, slice_index}
 
 -- the number behind a number
@@ -17,7 +17,9 @@ number_after_steps (suc k) s = next_number (number_after_steps k s)
 
 -- the four letters behind a number
 unfoldable pub half_behind : ℕ → List ℕ
-half_behind s = letter_of_note (number_after_steps 1 s) ∷ letter_of_note (number_after_steps 2 s) ∷ letter_of_note (number_after_steps 3 s) ∷ letter_of_note (number_after_steps 4 s) ∷ []
+half_behind s =
+    letter_of_note (number_after_steps 1 s) ∷ letter_of_note (number_after_steps 2 s)
+    ∷ letter_of_note (number_after_steps 3 s) ∷ letter_of_note (number_after_steps 4 s) ∷ []
 
 -- a measure: four letters, a space, four letters, a bar
 unfoldable pub measure_behind : ℕ → List ℕ
@@ -43,7 +45,8 @@ key_of_tune i = slice_index (codes "CGDF") (i % 4)
 
 -- the lines of a tune before its music
 unfoldable pub heading_of_tune : ℕ → List ℕ
-heading_of_tune i = codes "X:" ++ decimal i ++ codes "\nT:Tune " ++ decimal i ++ codes "\nM:4/4\nL:1/8\nK:" ++ key_of_tune i ∷ 10 ∷ []
+heading_of_tune i =
+    codes "X:" ++ decimal i ++ codes "\nT:Tune " ++ decimal i ++ codes "\nM:4/4\nL:1/8\nK:" ++ key_of_tune i ∷ 10 ∷ []
 
 -- a tune, and the empty line behind it
 unfoldable pub tune : ℕ → List ℕ

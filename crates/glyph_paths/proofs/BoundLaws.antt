@@ -19,12 +19,14 @@ at_front z r zs (inr c) = c
 pub least_is : (zs : List ℤ) → IsLeast zs (furthest least (first_or_zero zs) zs)
 unfolding further
 least_is [] = (All-nil _, inr (refl, refl))
-least_is (z ∷ zs) = ((fold-int_min_bounds z (z ∷ zs) _ refl).1, inl (at_front z _ zs (fold-int_min_reached z (z ∷ zs) _ refl)))
+least_is (z ∷ zs) =
+    ((fold-int_min_bounds z (z ∷ zs) _ refl).1, inl (at_front z _ zs (fold-int_min_reached z (z ∷ zs) _ refl)))
 
 pub greatest_is : (zs : List ℤ) → IsGreatest zs (furthest greatest (first_or_zero zs) zs)
 unfolding further
 greatest_is [] = (All-nil _, inr (refl, refl))
-greatest_is (z ∷ zs) = ((fold-int_max_bounds z (z ∷ zs) _ refl).1, inl (at_front z _ zs (fold-int_max_reached z (z ∷ zs) _ refl)))
+greatest_is (z ∷ zs) =
+    ((fold-int_max_bounds z (z ∷ zs) _ refl).1, inl (at_front z _ zs (fold-int_max_reached z (z ∷ zs) _ refl)))
 
 pub bounds_are : (g : Glyph) → AreBounds (outline_of g) (bounds_in g)
 unfolding bounds_in extent
@@ -39,12 +41,16 @@ bounds_are g = record {
 is_close : ℤ → Bool
 is_close z = int_le (negsuc 1999) z && int_le z (pos 2000)
 
-points_close : (g : Glyph) → (list_all is_close (coordinates abscissa (outline_of g)) && list_all is_close (coordinates ordinate (outline_of g))) ≡ true
+points_close : (g : Glyph)
+    → (list_all is_close (coordinates abscissa (outline_of g))
+    && list_all is_close (coordinates ordinate (outline_of g)))
+    ≡ true
 unfolding coordinates coordinate is_close
 points_close Glyph.Hb = refl
 points_close _ = refl
 
-close_at : (zs : List ℤ) → list_all is_close zs ≡ true → (k : ℕ) (z : ℤ) → k < length zs → slice_index_or zs k z ≡ z → IsClose z
+close_at : (zs : List ℤ)
+    → list_all is_close zs ≡ true → (k : ℕ) (z : ℤ) → k < length zs → slice_index_or zs k z ≡ z → IsClose z
 unfolding is_close
 close_at [] h k z lt e = absurd (omega arith)
 close_at (x ∷ zs) h zero z lt e = subst IsClose e (grind (arith, ints), grind (arith, ints))
@@ -56,7 +62,9 @@ close_of zs h z (inl c) = close_at zs h c.0 z c.1 c.2
 
 pub bounds_are_close : (g : Glyph) → AreClose (bounds_in g)
 bounds_are_close g =
-    let are = bounds_are g in let points = points_close g in let across : list_all is_close (coordinates abscissa (outline_of g)) ≡ true = grind (arith, nat_tests) in
+    let are = bounds_are g in
+    let points = points_close g in
+    let across : list_all is_close (coordinates abscissa (outline_of g)) ≡ true = grind (arith, nat_tests) in
     let up : list_all is_close (coordinates ordinate (outline_of g)) ≡ true = grind (arith, nat_tests) in
     record {
       left = close_of (coordinates abscissa (outline_of g)) across (bounds_in g).left are.left.1;

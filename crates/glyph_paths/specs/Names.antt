@@ -53,4 +53,10 @@ glyph_name glyphs.Kd = codes "kd"
 glyph_name glyphs.Kn = codes "kn"
 
 unfoldable pub glyphs_in_order : List Glyph
-glyphs_in_order = glyphs.Hb ∷ glyphs.Hw ∷ glyphs.Hh ∷ glyphs.Hq ∷ glyphs.Gh ∷ glyphs.Dt ∷ glyphs.Lg ∷ glyphs.Fu ∷ glyphs.Fd ∷ glyphs.Gf ∷ glyphs.Gs ∷ glyphs.Sr ∷ glyphs.Sl ∷ glyphs.R0 ∷ glyphs.R1 ∷ glyphs.R2 ∷ glyphs.R4 ∷ glyphs.R8 ∷ glyphs.Ax ∷ glyphs.As ∷ glyphs.An ∷ glyphs.Af ∷ glyphs.Ag ∷ glyphs.Cg ∷ glyphs.Cf ∷ glyphs.Cc ∷ glyphs.Bt ∷ glyphs.Bw ∷ glyphs.Bf ∷ glyphs.Bi ∷ glyphs.Bb ∷ glyphs.Bo ∷ glyphs.Dl ∷ glyphs.Dr ∷ glyphs.Nn ∷ glyphs.Ks ∷ glyphs.Kr ∷ glyphs.Kf ∷ glyphs.Ka ∷ glyphs.Km ∷ glyphs.Kc ∷ glyphs.Kp ∷ glyphs.Kg ∷ glyphs.Kt ∷ glyphs.Ku ∷ glyphs.Kd ∷ glyphs.Kn ∷ []
+glyphs_in_order =
+    glyphs.Hb ∷ glyphs.Hw ∷ glyphs.Hh ∷ glyphs.Hq ∷ glyphs.Gh ∷ glyphs.Dt ∷ glyphs.Lg ∷ glyphs.Fu ∷ glyphs.Fd
+    ∷ glyphs.Gf ∷ glyphs.Gs ∷ glyphs.Sr ∷ glyphs.Sl ∷ glyphs.R0 ∷ glyphs.R1 ∷ glyphs.R2 ∷ glyphs.R4 ∷ glyphs.R8
+    ∷ glyphs.Ax ∷ glyphs.As ∷ glyphs.An ∷ glyphs.Af ∷ glyphs.Ag ∷ glyphs.Cg ∷ glyphs.Cf ∷ glyphs.Cc ∷ glyphs.Bt
+    ∷ glyphs.Bw ∷ glyphs.Bf ∷ glyphs.Bi ∷ glyphs.Bb ∷ glyphs.Bo ∷ glyphs.Dl ∷ glyphs.Dr ∷ glyphs.Nn ∷ glyphs.Ks
+    ∷ glyphs.Kr ∷ glyphs.Kf ∷ glyphs.Ka ∷ glyphs.Km ∷ glyphs.Kc ∷ glyphs.Kp ∷ glyphs.Kg ∷ glyphs.Kt ∷ glyphs.Ku
+    ∷ glyphs.Kd ∷ glyphs.Kn ∷ []

@@ -26,4 +26,6 @@ unfoldable pub path_text : List PathOp → List ℕ
 path_text steps = flat_map step_text steps
 
 unfoldable pub procedure_text : Glyph → List ℕ
-procedure_text glyph = codes "/" ++ glyph_name glyph ++ codes " {gsave translate translate " ++ path_text (outline_of glyph) ++ codes "grestore} def"
+procedure_text glyph =
+    codes "/" ++ glyph_name glyph ++ codes " {gsave translate translate " ++ path_text (outline_of glyph)
+    ++ codes "grestore} def"

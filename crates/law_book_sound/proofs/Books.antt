@@ -17,25 +17,42 @@ use Rattle.law_book_sound.specs.Sounds.{BooksAreHeard, SoundsOutcome, SoundsResu
 use Rattle.law_book_sound.proofs.Staves.{staves_sound}
 use Rattle.law_book_sound.proofs.Tunes.{begun_once, begun_one, begun_ordinals, parts_tunes, rows_before, systems_read}
 
-result_sounds : (paper : Paper) (ordinal : ℕ) (r : Result SetTune Fault) (part : List Item) → IsSetResult paper r → ShowsResult paper ordinal r part → SoundsResult ordinal r (tunes_of part)
+result_sounds : (paper : Paper) (ordinal : ℕ) (r : Result SetTune Fault) (part : List Item)
+    → IsSetResult paper r → ShowsResult paper ordinal r part → SoundsResult ordinal r (tunes_of part)
 result_sounds paper ordinal (Ok t) part set shows =
-    let s = t.score in let laid = set.3.laid in let legal = laid.layout.least.legal in let items = shows.rows ++ shows.systems in
-    let read = systems_read paper s (gaps_between s.voices) 0 t.breaking.breaks t.systems t.placed shows.systems legal.rises legal.ends laid.layout.systems shows.shown in
-    let none = rows_before tunes_of (λ row base items. refl) t.title.rows shows.rows shows.systems shows.titled ∙ read.tunes in
-    let systems = rows_before systems_till (λ row base items. refl) t.title.rows shows.rows shows.systems shows.titled in
+    let s = t.score in
+    let laid = set.3.laid in
+    let legal = laid.layout.least.legal in
+    let items = shows.rows ++ shows.systems in
+    let read = systems_read paper s (gaps_between s.voices) 0 t.breaking.breaks t.systems t.placed shows.systems
+    legal.rises legal.ends laid.layout.systems shows.shown in
+    let none =
+    rows_before tunes_of (λ row base items. refl) t.title.rows shows.rows shows.systems shows.titled ∙ read.tunes in
+    let systems =
+    rows_before systems_till (λ row base items. refl) t.title.rows shows.rows shows.systems shows.titled in
     subst (λ part. SoundsTune ordinal t (tunes_of part)) (sym shows.parted) (record {
       once = begun_once ordinal items none;
       ordinals = begun_ordinals ordinal items none;
       clear = λ clear alone measures.
-          let some = read.some measures in let sound = staves_sound s (body_width paper) t.breaking.breaks (systems_till shows.systems) laid.score.good alone clear legal.rises legal.ends read.systems some in
-          (record { ordinal = ordinal; systems = systems_till items }, begun_one ordinal items none (subst (λ l. 1 ≤ length l) (sym systems) some), ap (staves_heard s.spread) systems ∙ sound);
+          let some = read.some measures in
+          let sound = staves_sound s (body_width paper) t.breaking.breaks (systems_till shows.systems) laid.score.good
+          alone clear legal.rises legal.ends read.systems some in (
+            record { ordinal = ordinal; systems = systems_till items },
+            begun_one ordinal items none (subst (λ l. 1 ≤ length l) (sym systems) some),
+            ap (staves_heard s.spread) systems ∙ sound,
+          );
     })
 result_sounds paper ordinal (Err fault) part set shows = ap tunes_of shows
 
-tunes_sound : (paper : Paper) (outcomes : List Outcome) (parts : List (List Item)) → All (IsSetUnder paper) outcomes → AllZip (ShowsOutcome paper) outcomes parts → AllZip SoundsOutcome outcomes (map tunes_of parts)
+tunes_sound : (paper : Paper) (outcomes : List Outcome) (parts : List (List Item))
+    → All (IsSetUnder paper) outcomes → AllZip (ShowsOutcome paper) outcomes parts
+    → AllZip SoundsOutcome outcomes (map tunes_of parts)
 tunes_sound paper [] [] set shows = tt
 tunes_sound paper (o ∷ outcomes) (part ∷ parts) set shows =
-    let here = All-head (IsSetUnder paper) o outcomes set in (result_sounds paper o.ordinal o.result part here.result shows.0, tunes_sound paper outcomes parts (All-tail (IsSetUnder paper) o outcomes set) shows.1)
+    let here = All-head (IsSetUnder paper) o outcomes set in (
+      result_sounds paper o.ordinal o.result part here.result shows.0,
+      tunes_sound paper outcomes parts (All-tail (IsSetUnder paper) o outcomes set) shows.1,
+    )
 tunes_sound paper _ _ set shows = absurd shows
 
 pub books_are_heard : BooksAreHeard

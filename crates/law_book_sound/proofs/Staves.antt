@@ -1,4 +1,5 @@
--- Where each voice has a staff of its own, staff k of each system of a tune shows voice k, and together the systems sound what the voice does.
+-- Where each voice has a staff of its own, staff k of each system of a tune shows voice k, and together the systems
+-- sound what the voice does.
 use Rattle.std.proofs.Common.{◌≡◌, refl, sym, ap, ap₂, ◌∙◌, subst, ℕ, zero, suc, ◌+◌, ◌-◌, ◌≤◌, ◌<◌, cond, List, []}
 use Rattle.std.proofs.Common.{◌∷◌, ◌++◌, length, map, take, drop, Some, None, arith}
 use Rattle.std.proofs.Math.Seq.{take-add}
@@ -48,18 +49,30 @@ abbrev parted : {A : Type 0} → List A → ℕ → List ℕ → List (List A)
 parted xs a [] = []
 parted xs a (b ∷ bs) = slice_range xs a b ∷ parted xs b bs
 
-parted_whole : {A : Type 0} (xs : List A) (a : ℕ) (bs : List ℕ) → RisesFrom a bs → last_from a bs ≡ length xs → flat_map (λ (part : List A). part) (parted xs a bs) ≡ drop a xs
+parted_whole : {A : Type 0} (xs : List A) (a : ℕ) (bs : List ℕ)
+    → RisesFrom a bs → last_from a bs ≡ length xs → flat_map (λ (part : List A). part) (parted xs a bs) ≡ drop a xs
 parted_whole xs a [] rises ends = sym (drop_all a xs (omega (arith, ends)))
-parted_whole xs a (b ∷ bs) rises ends = ap (λ more. slice_range xs a b ++ more) (parted_whole xs b bs rises.1 ends) ∙ sym (drop_split xs a b (omega (arith, rises.0)))
+parted_whole xs a (b ∷ bs) rises ends =
+    ap (λ more. slice_range xs a b ++ more) (parted_whole xs b bs rises.1 ends)
+    ∙ sym (drop_split xs a b (omega (arith, rises.0)))
 
 -- what is carried along through measures is carried through some of them, and then through those behind them
-module _ {S : Type 0} (through : S → List Measure → S) (none : (now : S) → through now [] ≡ now) (one : (now : S) (m : Measure) (ms : List Measure) → through now (m ∷ ms) ≡ through (through now (m ∷ [])) ms) where
+module _ {S : Type 0} (through : S → List Measure → S) (none : (now : S) → through now [] ≡ now)
+    (one : (now : S) (m : Measure) (ms : List Measure) → through now (m ∷ ms) ≡ through (through now (m ∷ [])) ms) where
   through_join : (now : S) (ms more : List Measure) → through now (ms ++ more) ≡ through (through now ms) more
   through_join now [] more = ap (λ now. through now more) (sym (none now))
-  through_join now (m ∷ ms) more = one now m (ms ++ more) ∙ through_join (through now (m ∷ [])) ms more ∙ ap (λ now. through now more) (sym (one now m ms))
+  through_join now (m ∷ ms) more =
+      one now m (ms ++ more)
+      ∙ through_join (through now (m ∷ [])) ms more
+      ∙ ap (λ now. through now more) (sym (one now m ms))
 
-  through_parts : (now : S) (ms : List Measure) (a b : ℕ) → a < b → through now (take b ms) ≡ through (through now (take a ms)) (slice_range ms a b)
-  through_parts now ms a b order = let sum : b ≡ a + (b - a) = omega (arith, order) in ap (λ n. through now (take n ms)) sum ∙ ap (through now) (take-add a (b - a) ms) ∙ through_join now (take a ms) (slice_range ms a b)
+  through_parts : (now : S) (ms : List Measure) (a b : ℕ)
+      → a < b → through now (take b ms) ≡ through (through now (take a ms)) (slice_range ms a b)
+  through_parts now ms a b order =
+      let sum : b ≡ a + (b - a) = omega (arith, order) in
+      ap (λ n. through now (take n ms)) sum
+      ∙ ap (through now) (take-add a (b - a) ms)
+      ∙ through_join now (take a ms) (slice_range ms a b)
 
 -- what is in force behind the first measures of a voice, and the heads of the event before
 abbrev now_at : Voice → ℕ → StaffState
@@ -75,25 +88,37 @@ not_first a b bar order = ap (λ t. cond t (Some bar) None) (ne_eqb b 0 (λ e. a
 abbrev each_alone : List Voice → List (List DrawnVoice)
 each_alone voices = map (λ v. drawn_voice v ∷ []) voices
 
-alone_staves : (voices : List Voice) → All (λ (v : Voice). v.seat ≡ Seat.Alone) voices → grouped is_drawn_lower (map drawn_voice voices) ≡ each_alone voices
+alone_staves : (voices : List Voice)
+    → All (λ (v : Voice). v.seat ≡ Seat.Alone) voices
+    → grouped is_drawn_lower (map drawn_voice voices) ≡ each_alone voices
 unfolding drawn_voice
 alone_staves [] alone = refl
 alone_staves (v ∷ []) alone = refl
 alone_staves (v ∷ w ∷ voices) alone =
     let behind = All-tail (λ (v : Voice). v.seat ≡ Seat.Alone) v (w ∷ voices) alone in
     ap (put_before is_drawn_lower (drawn_voice v)) (alone_staves (w ∷ voices) behind)
-    ∙ ap (λ seat. cond (is_lower seat) ((drawn_voice v ∷ drawn_voice w ∷ []) ∷ each_alone voices) ((drawn_voice v ∷ []) ∷ each_alone (w ∷ voices)))
+    ∙ ap (λ seat.
+    cond (is_lower seat) ((drawn_voice v ∷ drawn_voice w ∷ []) ∷ each_alone voices)
+    ((drawn_voice v ∷ []) ∷ each_alone (w ∷ voices)))
     (All-head (λ (v : Voice). v.seat ≡ Seat.Alone) w voices behind)
 
 module _ (system : List Staff) (marks : List DrawnVoice → StaffMarks) where
-  staff_of : (staves : List Staff) (voices : List Voice) (k : ℕ) (v : Voice) → ShowsIn system staves (map marks (each_alone voices)) → slice_get voices k ≡ Some v
-      → (staff : Staff) × (slice_get staves k ≡ Some staff) × (ranks system staff ≡ Some (called_marks (marks (drawn_voice v ∷ []))))
+  staff_of : (staves : List Staff) (voices : List Voice) (k : ℕ) (v : Voice)
+      → ShowsIn system staves (map marks (each_alone voices)) → slice_get voices k ≡ Some v
+      → (staff : Staff)
+      × (slice_get staves k ≡ Some staff)
+      × (ranks system staff ≡ Some (called_marks (marks (drawn_voice v ∷ []))))
   staff_of [] [] k v shows here = absurd (none-some v here)
-  staff_of (staff ∷ staves) (w ∷ voices) zero v shows here = (staff, refl, subst (λ w. ranks system staff ≡ Some (called_marks (marks (drawn_voice w ∷ [])))) (same_Some w v here) shows.0)
+  staff_of (staff ∷ staves) (w ∷ voices) zero v shows here = (
+    staff,
+    refl,
+    subst (λ w. ranks system staff ≡ Some (called_marks (marks (drawn_voice w ∷ [])))) (same_Some w v here) shows.0,
+  )
   staff_of (staff ∷ staves) (w ∷ voices) (suc k) v shows here = staff_of staves voices k v shows.1 here
   staff_of _ _ k v shows here = absurd shows
 
-  staff_count : (staves : List Staff) (voices : List Voice) → ShowsIn system staves (map marks (each_alone voices)) → length staves ≡ length voices
+  staff_count : (staves : List Staff) (voices : List Voice)
+      → ShowsIn system staves (map marks (each_alone voices)) → length staves ≡ length voices
   staff_count [] [] shows = refl
   staff_count (staff ∷ staves) (w ∷ voices) shows = ap suc (staff_count staves voices shows.1)
   staff_count _ _ shows = absurd shows
@@ -103,15 +128,21 @@ module _ (s : Score) (width : ℕ) (good : IsGoodScore s) (alone : AreAlone s) w
   abbrev marks_of : (a b : ℕ) (staves : List Staff) → AreReadAt s width a b staves → List DrawnVoice → StaffMarks
   marks_of a b staves read = tilted_staff read.marks.keys (timeline_of s).lengths read.placed.at a b
 
-  shown_alone : (a b : ℕ) (staves : List Staff) (read : AreReadAt s width a b staves) → ShowsIn staves staves (map (marks_of a b staves read) (each_alone s.voices))
-  shown_alone a b staves read = subst (ShowsIn staves staves) (read.set.tilted.staves ∙ ap (map (marks_of a b staves read)) (alone_staves s.voices alone)) read.symbols
+  shown_alone : (a b : ℕ) (staves : List Staff) (read : AreReadAt s width a b staves)
+      → ShowsIn staves staves (map (marks_of a b staves read) (each_alone s.voices))
+  shown_alone a b staves read =
+      subst (ShowsIn staves staves)
+      (read.set.tilted.staves ∙ ap (map (marks_of a b staves read)) (alone_staves s.voices alone)) read.symbols
 
   -- as many staves as voices, where there is a system
-  count_staves : (a : ℕ) (breaks : List ℕ) (systems : List (List Staff)) → AreRead s width a breaks systems → (most_staves systems ≤ length s.voices) × (1 ≤ length systems → most_staves systems ≡ length s.voices)
+  count_staves : (a : ℕ) (breaks : List ℕ) (systems : List (List Staff))
+      → AreRead s width a breaks systems
+      → (most_staves systems ≤ length s.voices) × (1 ≤ length systems → most_staves systems ≡ length s.voices)
   count_staves a [] [] read = (omega arith, λ some. absurd (omega (arith, some)))
   count_staves a (b ∷ breaks) (staves ∷ systems) read =
       let more = (count_staves b breaks systems read.1).0 in
-      let count = staff_count staves (marks_of a b staves read.0) staves s.voices (shown_alone a b staves read.0) in (omega arith, λ some. omega arith)
+      let count = staff_count staves (marks_of a b staves read.0) staves s.voices (shown_alone a b staves read.0) in
+      (omega arith, λ some. omega arith)
   count_staves a _ _ read = absurd read
 
   module _ (clear : IsClearScore s) (k : ℕ) (v : Voice) (here : slice_get s.voices k ≡ Some v) where
@@ -121,47 +152,73 @@ module _ (s : Score) (width : ℕ) (good : IsGoodScore s) (alone : AreAlone s) w
     of_voice : (P : Voice → Type 0) → All P s.voices → P v
     of_voice P all = All-contains P s.voices v all is_voice
 
-    system_told : (a b : ℕ) (staves : List Staff) → AreReadAt s width a b staves → columns_heard (heard_staff_columns k staves) ≡ columns_heard (heard_system (first_at a v.first) (now_at v a) (last_at v a) (slice_range v.measures a b))
+    system_told : (a b : ℕ) (staves : List Staff)
+        → AreReadAt s width a b staves
+        → columns_heard (heard_staff_columns k staves)
+        ≡ columns_heard (heard_system (first_at a v.first) (now_at v a) (last_at v a) (slice_range v.measures a b))
     system_told a b staves read =
-        let at = read.placed.at in let keys = read.marks.keys in let stand = columns_stand s width a b read.marks read.placed read.set in let marks = marks_of a b staves read (drawn_voice v ∷ []) in
+        let at = read.placed.at in
+        let keys = read.marks.keys in
+        let stand = columns_stand s width a b read.marks read.placed read.set in
+        let marks = marks_of a b staves read (drawn_voice v ∷ []) in
         let staff = staff_of staves (marks_of a b staves read) staves s.voices k v (shown_alone a b staves read) here in
         ap (λ o. columns_heard (columns_if (anchors staves) o)) staff.1
-        ∙ ap columns_heard (columns_ranked staves staff.0 marks at staff.2 read.columns (columns_rise width (length keys) at stand))
+        ∙ ap columns_heard
+        (columns_ranked staves staff.0 marks at staff.2 read.columns (columns_rise width (length keys) at stand))
         ∙ ap (λ n. columns_heard (ranked_columns n marks.marks)) stand.count_is
-        ∙ staff_told s v keys at a b good is_voice (of_voice (λ v. v.seat ≡ Seat.Alone) alone) read.order read.within read.set.tilted.keys
+        ∙ staff_told s v keys at a b good is_voice (of_voice (λ v. v.seat ≡ Seat.Alone) alone) read.order read.within
+        read.set.tilted.keys
 
     systems_told : (a : ℕ) (breaks : List ℕ) (systems : List (List Staff)) → AreRead s width a breaks systems
-        → columns_heard (flat_map (heard_staff_columns k) systems) ≡ columns_heard (systems_columns (first_at a v.first) (now_at v a) (last_at v a) (parted v.measures a breaks))
+        → columns_heard (flat_map (heard_staff_columns k) systems)
+        ≡ columns_heard (systems_columns (first_at a v.first) (now_at v a) (last_at v a) (parted v.measures a breaks))
     systems_told a [] [] read = refl
     systems_told a (b ∷ breaks) (staves ∷ systems) read =
         let part = slice_range v.measures a b in
         let goes_on : systems_columns (first_at b v.first) (now_at v b) (last_at v b) (parted v.measures b breaks)
-        ≡ systems_columns None (standing_through (now_at v a) part) (last_through (last_at v a) part) (parted v.measures b breaks) =
-        ap (λ first. systems_columns first (now_at v b) (last_at v b) (parted v.measures b breaks)) (not_first a b v.first read.0.order)
+        ≡ systems_columns None (standing_through (now_at v a) part) (last_through (last_at v a) part)
+        (parted v.measures b breaks) =
+        ap (λ first. systems_columns first (now_at v b) (last_at v b) (parted v.measures b breaks))
+        (not_first a b v.first read.0.order)
         ∙ ap₂ (λ now prev. systems_columns None now prev (parted v.measures b breaks))
         (through_parts standing_through (λ now. refl) (λ now m ms. refl) (standing_of v) v.measures a b read.0.order)
         (through_parts last_through (λ prev. refl) (λ prev m ms. refl) [] v.measures a b read.0.order) in
         told_join (heard_staff_columns k staves) (flat_map (heard_staff_columns k) systems)
-        ∙ ap₂ (λ xs ys. xs ++ ys) (system_told a b staves read.0) (systems_told b breaks systems read.1 ∙ ap columns_heard goes_on)
+        ∙ ap₂ (λ xs ys. xs ++ ys) (system_told a b staves read.0)
+        (systems_told b breaks systems read.1 ∙ ap columns_heard goes_on)
         ∙ sym (told_join (heard_system (first_at a v.first) (now_at v a) (last_at v a) part)
-        (systems_columns None (standing_through (now_at v a) part) (last_through (last_at v a) part) (parted v.measures b breaks)))
+        (systems_columns None (standing_through (now_at v a) part) (last_through (last_at v a) part)
+        (parted v.measures b breaks)))
     systems_told a _ _ read = absurd read
 
-    staff_sounds : (breaks : List ℕ) (systems : List (List Staff)) → RisesFrom 0 breaks → last_from 0 breaks ≡ s.measures → AreRead s width 0 breaks systems → staff_heard s.spread systems k ≡ voice_heard s.spread v
+    staff_sounds : (breaks : List ℕ) (systems : List (List Staff))
+        → RisesFrom 0 breaks → last_from 0 breaks ≡ s.measures → AreRead s width 0 breaks systems
+        → staff_heard s.spread systems k ≡ voice_heard s.spread v
     staff_sounds breaks systems rises ends read =
-        let part = parted v.measures 0 breaks in let whole = parted_whole v.measures 0 breaks rises (ends ∙ sym (of_voice (λ v. length v.measures ≡ s.measures) good.measures)) in
-        sym (heard_told s.spread (flat_map (heard_staff_columns k) systems)) ∙ ap (heard_of s.spread) (systems_told 0 breaks systems read) ∙ heard_told s.spread (heard_voice v part)
+        let part = parted v.measures 0 breaks in
+        let whole = parted_whole v.measures 0 breaks rises
+        (ends ∙ sym (of_voice (λ v. length v.measures ≡ s.measures) good.measures)) in
+        sym (heard_told s.spread (flat_map (heard_staff_columns k) systems))
+        ∙ ap (heard_of s.spread) (systems_told 0 breaks systems read)
+        ∙ heard_told s.spread (heard_voice v part)
         ∙ clear_voice s.spread v part whole (of_voice IsGoodVoice good.voices) (of_voice IsClearVoice clear)
 
 -- ---- staff after staff
-by_place : {X Y : Type 0} (f : ℕ → Y) (g : X → Y) (i : ℕ) (xs : List X) → ((k j : ℕ) (x : X) → i + k ≡ j → slice_get xs k ≡ Some x → f j ≡ g x) → map f (range_with_len i (length xs)) ≡ map g xs
+by_place : {X Y : Type 0} (f : ℕ → Y) (g : X → Y) (i : ℕ) (xs : List X)
+    → ((k j : ℕ) (x : X) → i + k ≡ j → slice_get xs k ≡ Some x → f j ≡ g x)
+    → map f (range_with_len i (length xs)) ≡ map g xs
 by_place f g i [] each = refl
-by_place f g i (x ∷ xs) each = ap₂ (λ y ys. y ∷ ys) (each 0 i x (omega arith) refl) (by_place f g (i + 1) xs (λ k j y sum here. each (suc k) j y (omega (arith, sum)) here))
+by_place f g i (x ∷ xs) each =
+    ap₂ (λ y ys. y ∷ ys) (each 0 i x (omega arith) refl)
+    (by_place f g (i + 1) xs (λ k j y sum here. each (suc k) j y (omega (arith, sum)) here))
 
-pub staves_sound : (s : Score) (width : ℕ) (breaks : List ℕ) (systems : List (List Staff)) → IsGoodScore s → AreAlone s → IsClearScore s → RisesFrom 0 breaks → last_from 0 breaks ≡ s.measures
-    → AreRead s width 0 breaks systems → 1 ≤ length systems → staves_heard s.spread systems ≡ map (voice_heard s.spread) s.voices
+pub staves_sound : (s : Score) (width : ℕ) (breaks : List ℕ) (systems : List (List Staff))
+    → IsGoodScore s → AreAlone s → IsClearScore s → RisesFrom 0 breaks → last_from 0 breaks ≡ s.measures
+    → AreRead s width 0 breaks systems → 1 ≤ length systems
+    → staves_heard s.spread systems ≡ map (voice_heard s.spread) s.voices
 staves_sound s width breaks systems good alone clear rises ends read some =
-    ap (λ n. map (staff_heard s.spread systems) (range_with_len 0 n)) ((count_staves s width good alone 0 breaks systems read).1 some)
+    ap (λ n. map (staff_heard s.spread systems) (range_with_len 0 n))
+    ((count_staves s width good alone 0 breaks systems read).1 some)
     ∙ by_place (staff_heard s.spread systems) (voice_heard s.spread) 0 s.voices (λ k j v sum here.
     let same : j ≡ k = omega (arith, sum) in
     staff_sounds s width good alone clear j v (ap (slice_get s.voices) same ∙ here) breaks systems rises ends read)

@@ -1,4 +1,5 @@
--- The tunes of the items of a book: one for each part that has an item, and in it the systems of its breaking as they are read.
+-- The tunes of the items of a book: one for each part that has an item,
+-- and in it the systems of its breaking as they are read.
 use Rattle.std.proofs.Common.{◌≡◌, refl, sym, ap, ◌∙◌, subst, ℕ, ◌≤◌, ◌<◌, ℤ, List, [], ◌∷◌, ◌++◌, length, map}
 use Rattle.std.proofs.Common.{flat_map, arith}
 use Rattle.std.specs.Prelude.{⊤, Result, Ok, Err}
@@ -29,10 +30,12 @@ till_join (Item.Tune ordinal ∷ items) more none = refl
 till_join (Item.Title x y size text ∷ items) more none = till_join items more none
 till_join (Item.System a b staves ∷ items) more none = ap (λ systems. staves ∷ systems) (till_join items more none)
 
-tunes_join : (items more : List Item) → systems_till more ≡ [] → tunes_of (items ++ more) ≡ tunes_of items ++ tunes_of more
+tunes_join : (items more : List Item)
+    → systems_till more ≡ [] → tunes_of (items ++ more) ≡ tunes_of items ++ tunes_of more
 tunes_join [] more none = refl
 tunes_join (Item.Tune ordinal ∷ items) more none =
-    ap (λ systems. record { ordinal = ordinal; systems = systems } ∷ tunes_of (items ++ more)) (till_join items more none)
+    ap (λ systems. record { ordinal = ordinal; systems = systems } ∷ tunes_of (items ++ more))
+    (till_join items more none)
     ∙ ap (λ parts. record { ordinal = ordinal; systems = systems_till items } ∷ parts) (tunes_join items more none)
 tunes_join (Item.Title x y size text ∷ items) more none = tunes_join items more none
 tunes_join (Item.System a b staves ∷ items) more none = tunes_join items more none
@@ -42,20 +45,28 @@ begun_opens : (ordinal : ℕ) (items : List Item) → systems_till (begun ordina
 begun_opens ordinal [] = refl
 begun_opens ordinal (item ∷ items) = refl
 
-result_opens : (paper : Paper) (ordinal : ℕ) (r : Result SetTune Fault) (part : List Item) → ShowsResult paper ordinal r part → systems_till part ≡ []
-result_opens paper ordinal (Ok t) part shows = ap systems_till shows.parted ∙ begun_opens ordinal (shows.rows ++ shows.systems)
+result_opens : (paper : Paper) (ordinal : ℕ) (r : Result SetTune Fault) (part : List Item)
+    → ShowsResult paper ordinal r part → systems_till part ≡ []
+result_opens paper ordinal (Ok t) part shows =
+    ap systems_till shows.parted ∙ begun_opens ordinal (shows.rows ++ shows.systems)
 result_opens paper ordinal (Err fault) part shows = ap systems_till shows
 
-parts_open : (paper : Paper) (outcomes : List Outcome) (parts : List (List Item)) → AllZip (ShowsOutcome paper) outcomes parts → systems_till (flat_map (λ (part : List Item). part) parts) ≡ []
+parts_open : (paper : Paper) (outcomes : List Outcome) (parts : List (List Item))
+    → AllZip (ShowsOutcome paper) outcomes parts → systems_till (flat_map (λ (part : List Item). part) parts) ≡ []
 parts_open paper [] [] shows = refl
-parts_open paper (o ∷ outcomes) (part ∷ parts) shows = till_join part (flat_map (λ (part : List Item). part) parts) (parts_open paper outcomes parts shows.1) ∙ result_opens paper o.ordinal o.result part shows.0
+parts_open paper (o ∷ outcomes) (part ∷ parts) shows =
+    till_join part (flat_map (λ (part : List Item). part) parts) (parts_open paper outcomes parts shows.1)
+    ∙ result_opens paper o.ordinal o.result part shows.0
 parts_open paper _ _ shows = absurd shows
 
-pub parts_tunes : (paper : Paper) (outcomes : List Outcome) (parts : List (List Item)) → AllZip (ShowsOutcome paper) outcomes parts
-    → tunes_of (flat_map (λ (part : List Item). part) parts) ≡ flat_map (λ (part : List SheetTune). part) (map tunes_of parts)
+pub parts_tunes : (paper : Paper) (outcomes : List Outcome) (parts : List (List Item))
+    → AllZip (ShowsOutcome paper) outcomes parts
+    → tunes_of (flat_map (λ (part : List Item). part) parts)
+    ≡ flat_map (λ (part : List SheetTune). part) (map tunes_of parts)
 parts_tunes paper [] [] shows = refl
 parts_tunes paper (o ∷ outcomes) (part ∷ parts) shows =
-    tunes_join part (flat_map (λ (part : List Item). part) parts) (parts_open paper outcomes parts shows.1) ∙ ap (λ more. tunes_of part ++ more) (parts_tunes paper outcomes parts shows.1)
+    tunes_join part (flat_map (λ (part : List Item). part) parts) (parts_open paper outcomes parts shows.1)
+    ∙ ap (λ more. tunes_of part ++ more) (parts_tunes paper outcomes parts shows.1)
 parts_tunes paper _ _ shows = absurd shows
 
 -- it is one tune at most, and one where it has a system
@@ -63,19 +74,29 @@ pub begun_once : (ordinal : ℕ) (items : List Item) → tunes_of items ≡ [] �
 begun_once ordinal [] none = omega arith
 begun_once ordinal (item ∷ items) none = omega (arith, ap length none)
 
-pub begun_ordinals : (ordinal : ℕ) (items : List Item) → tunes_of items ≡ [] → AllByRecursion (λ part. part.ordinal ≡ ordinal) (tunes_of (begun ordinal items))
+pub begun_ordinals : (ordinal : ℕ) (items : List Item)
+    → tunes_of items ≡ [] → AllByRecursion (λ part. part.ordinal ≡ ordinal) (tunes_of (begun ordinal items))
 begun_ordinals ordinal [] none = tt
-begun_ordinals ordinal (item ∷ items) none = (refl, subst (AllByRecursion (λ part. part.ordinal ≡ ordinal)) (sym none) tt)
+begun_ordinals ordinal (item ∷ items) none =
+    (refl, subst (AllByRecursion (λ part. part.ordinal ≡ ordinal)) (sym none) tt)
 
-pub begun_one : (ordinal : ℕ) (items : List Item) → tunes_of items ≡ [] → 1 ≤ length (systems_till items) → tunes_of (begun ordinal items) ≡ record { ordinal = ordinal; systems = systems_till items } ∷ []
+pub begun_one : (ordinal : ℕ) (items : List Item)
+    → tunes_of items ≡ [] → 1 ≤ length (systems_till items)
+    → tunes_of (begun ordinal items) ≡ record { ordinal = ordinal; systems = systems_till items } ∷ []
 begun_one ordinal [] none some = absurd (omega (arith, some))
-begun_one ordinal (item ∷ items) none some = ap (λ parts. record { ordinal = ordinal; systems = systems_till (item ∷ items) } ∷ parts) none
+begun_one ordinal (item ∷ items) none some =
+    ap (λ parts. record { ordinal = ordinal; systems = systems_till (item ∷ items) } ∷ parts) none
 
 -- ---- what passes over titles is read the same behind the rows of a title block
-pub rows_before : {X : Type 0} (read : List Item → X) → ((row : TitleRow) (base : ℤ) (items : List Item) → read (Item.Title row.x base row.size row.text ∷ items) ≡ read items)
+pub rows_before : {X : Type 0} (read : List Item → X)
+    → ((row : TitleRow) (base : ℤ) (items : List Item)
+    → read (Item.Title row.x base row.size row.text ∷ items) ≡ read items)
     → (rows : List TitleRow) (items more : List Item) → AllZip ShowsRow rows items → read (items ++ more) ≡ read more
 rows_before read passes [] [] more shows = refl
-rows_before read passes (row ∷ rows) (item ∷ items) more shows = ap (λ item. read (item ∷ items ++ more)) shows.0.title ∙ passes row shows.0.base (items ++ more) ∙ rows_before read passes rows items more shows.1
+rows_before read passes (row ∷ rows) (item ∷ items) more shows =
+    ap (λ item. read (item ∷ items ++ more)) shows.0.title
+    ∙ passes row shows.0.base (items ++ more)
+    ∙ rows_before read passes rows items more shows.1
 rows_before read passes _ _ more shows = absurd shows
 
 -- ---- the staves of measures a to b - 1, which are set and shown
@@ -99,12 +120,26 @@ pub record IsRead (s : Score) (width a : ℕ) (breaks : List ℕ) (items : List 
   pub tunes : tunes_of items ≡ []
   pub some : a < s.measures → 1 ≤ length (systems_till items)
 
-pub systems_read : (paper : Paper) (s : Score) (gaps : List ℕ) (a : ℕ) (breaks : List ℕ) (systems : List SystemMarks) (placed : List Placed) (items : List Item)
-    → RisesFrom a breaks → last_from a breaks ≡ s.measures → EachSpan (IsSetSystem s (body_width paper)) a breaks systems placed → ShowSystems paper gaps a breaks systems placed items
+pub systems_read : (paper : Paper) (s : Score) (gaps : List ℕ) (a : ℕ) (breaks : List ℕ) (systems : List SystemMarks)
+    (placed : List Placed) (items : List Item)
+    → RisesFrom a breaks → last_from a breaks ≡ s.measures
+    → EachSpan (IsSetSystem s (body_width paper)) a breaks systems placed
+    → ShowSystems paper gaps a breaks systems placed items
     → IsRead s (body_width paper) a breaks items
-systems_read paper s gaps a [] [] [] [] rises ends set shows = record { systems = tt; tunes = refl; some = λ order. absurd (omega (arith, ends, order)) }
+systems_read paper s gaps a [] [] [] [] rises ends set shows =
+    record { systems = tt; tunes = refl; some = λ order. absurd (omega (arith, ends, order)) }
 systems_read paper s gaps a (b ∷ breaks) (m ∷ systems) (p ∷ placed) (item ∷ items) rises ends set shows =
-    let more = systems_read paper s gaps b breaks systems placed items rises.1 ends set.1 shows.1 in let within : b ≤ s.measures = omega (arith, ends, past_last b breaks rises.1) in
-    let here : AreReadAt s (body_width paper) a b shows.0.staves = record { marks = m; placed = p; order = rises.0; within = within; set = set.0; symbols = shows.0.symbols; columns = shows.0.columns } in
-    subst (λ item. IsRead s (body_width paper) a (b ∷ breaks) (item ∷ items)) (sym shows.0.measures) (record { systems = (here, more.systems); tunes = more.tunes; some = λ order. omega arith })
+    let more = systems_read paper s gaps b breaks systems placed items rises.1 ends set.1 shows.1 in
+    let within : b ≤ s.measures = omega (arith, ends, past_last b breaks rises.1) in
+    let here : AreReadAt s (body_width paper) a b shows.0.staves = record {
+      marks = m;
+      placed = p;
+      order = rises.0;
+      within = within;
+      set = set.0;
+      symbols = shows.0.symbols;
+      columns = shows.0.columns;
+    } in
+    subst (λ item. IsRead s (body_width paper) a (b ∷ breaks) (item ∷ items)) (sym shows.0.measures)
+    (record { systems = (here, more.systems); tunes = more.tunes; some = λ order. omega arith })
 systems_read paper s gaps a _ _ _ _ rises ends set shows = absurd shows

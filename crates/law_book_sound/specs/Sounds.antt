@@ -1,4 +1,5 @@
--- What a listener hears of the pages of a book: its tunes one after another, and of each staff of a tune what its voice sounds.
+-- What a listener hears of the pages of a book: its tunes one after another,
+-- and of each staff of a tune what its voice sounds.
 use Rattle.std.specs.Prelude.{◌≡◌, ℕ, ◌≤◌, List, [], ◌∷◌, All, map, flat_map, length, Result, Ok, Err}
 use Rattle.std.specs.List.{AllByRecursion, AllZip}
 use Rattle.abc_lines.specs.declared.fault.Fault.{Fault}
@@ -23,12 +24,13 @@ AreAlone s = All (λ v. v.seat ≡ Seat.Alone) s.voices
 abbrev pub Sounds : Score → SheetTune → Type 0
 Sounds s part = staves_heard s.spread part.systems ≡ map (voice_heard s.spread) s.voices
 
--- A tune without a fault is heard once at most, under its ordinal; a clear one, each of whose voices has a staff of its own and that
--- has a measure, is heard as its score sounds. How others sound isn't said.
+-- A tune without a fault is heard once at most, under its ordinal; a clear one, each of whose voices has a staff of its
+-- own and that has a measure, is heard as its score sounds. How others sound isn't said.
 pub record SoundsTune (ordinal : ℕ) (t : SetTune) (parts : List SheetTune) : Type 0 where
   pub once : length parts ≤ 1
   pub ordinals : AllByRecursion (λ part. part.ordinal ≡ ordinal) parts
-  pub clear : IsClearScore t.score → AreAlone t.score → 1 ≤ t.score.measures → (part : SheetTune) × (parts ≡ part ∷ []) × Sounds t.score part
+  pub clear : IsClearScore t.score
+      → AreAlone t.score → 1 ≤ t.score.measures → (part : SheetTune) × (parts ≡ part ∷ []) × Sounds t.score part
 
 -- a tune with a fault isn't heard
 abbrev pub SoundsResult : ℕ → Result SetTune Fault → List SheetTune → Type 0
@@ -46,4 +48,6 @@ pub record SoundsBook (outcomes : List Outcome) (sheet : Sheet) : Type 0 where
 
 -- a sheet that shows a book sounds, for clear tunes whose voices have a staff each, as their scores do
 abbrev pub BooksAreHeard : Type 0
-BooksAreHeard = (paper : Paper) (outcomes : List Outcome) (sheet : Sheet) → All (IsSetUnder paper) outcomes → ShowsBook paper outcomes sheet → SoundsBook outcomes sheet
+BooksAreHeard =
+    (paper : Paper) (outcomes : List Outcome) (sheet : Sheet)
+    → All (IsSetUnder paper) outcomes → ShowsBook paper outcomes sheet → SoundsBook outcomes sheet

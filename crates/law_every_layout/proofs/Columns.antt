@@ -23,27 +23,41 @@ use Rattle.lay_tune.proofs.Joins.{columns_join, measure_of}
 use Rattle.lay_tune.proofs.RisingKeys.{have_keys}
 
 -- what each of n places has, as a list
-pub has_each : {X : Type 0} (d : X) (P : ℕ → X → Type 0) (n : ℕ) → ((m : ℕ) → m < n → (x : X) × P m x) → (xs : List X) × (length xs ≡ n) × ((m : ℕ) → m < n → P m (slice_index_or xs m d))
+pub has_each : {X : Type 0} (d : X) (P : ℕ → X → Type 0) (n : ℕ)
+    → ((m : ℕ) → m < n → (x : X) × P m x)
+    → (xs : List X) × (length xs ≡ n) × ((m : ℕ) → m < n → P m (slice_index_or xs m d))
 has_each d P zero one = ([], refl, λ m l. absurd (omega (arith, l)))
 has_each d P (suc n) one =
-    let before = has_each d P n (λ m l. one m (omega (arith, l))) in let here = one n (omega arith) in let same = before.1 in
+    let before = has_each d P n (λ m l. one m (omega (arith, l))) in
+    let here = one n (omega arith) in
+    let same = before.1 in
     let count = length-append before.0 (here.0 ∷ []) in (
       before.0 ++ here.0 ∷ [],
       omega (arith, count, same),
-      λ m l. each_more P before.0 here.0 d (λ m l. before.2 m (omega (arith, l, same))) (subst (λ i. P i here.0) (sym same) here.1) m (omega (arith, l, count, same)),
+      λ m l.
+          each_more P before.0 here.0 d (λ m l. before.2 m (omega (arith, l, same)))
+          (subst (λ i. P i here.0) (sym same) here.1) m (omega (arith, l, count, same)),
     )
 
 -- the columns of one measure
-has_columns : (begins : Bool) (s : Score) (t : Timeline) (m : ℕ) (verses : List ℕ) → (columns : List Column) × AreMeasureColumns begins s t m verses columns
+has_columns : (begins : Bool) (s : Score) (t : Timeline) (m : ℕ) (verses : List ℕ)
+    → (columns : List Column) × AreMeasureColumns begins s t m verses columns
 has_columns begins s t m verses =
-    let keys = have_keys (keys_called begins s t.lengths m) in let staves : List ColumnKey → List StaffMarks = λ ks. map (measure_staff begins ks t.lengths m) (drawn_staves s) in
-    let same : keys.0 ≡ keys_in (columns_of keys.0 (staves keys.0) t.lengths verses) = sym (columns_keys (staves keys.0) t.lengths verses 0 keys.0) in (
+    let keys = have_keys (keys_called begins s t.lengths m) in
+    let staves : List ColumnKey → List StaffMarks = λ ks. map (measure_staff begins ks t.lengths m) (drawn_staves s) in
+    let same : keys.0 ≡ keys_in (columns_of keys.0 (staves keys.0) t.lengths verses) =
+    sym (columns_keys (staves keys.0) t.lengths verses 0 keys.0) in (
       columns_of keys.0 (staves keys.0) t.lengths verses,
-      record { keys = subst (λ ks. AreKeys ks (keys_called begins s t.lengths m)) same keys.1; value = ap (λ ks. columns_of ks (staves ks) t.lengths verses) same },
+      record {
+        keys = subst (λ ks. AreKeys ks (keys_called begins s t.lengths m)) same keys.1;
+        value = ap (λ ks. columns_of ks (staves ks) t.lengths verses) same;
+      },
     )
 
 -- those of all measures, each in a system that begins with the measure that `from` tells
-has_measures : (s : Score) (from : ℕ → ℕ) → IsGoodScore s → (0 < s.measures → 1 ≤ length s.voices) → (rows : List (List Column)) × EachMeasure (λ m. IsMeasure s (from m) m) s.measures rows
+has_measures : (s : Score) (from : ℕ → ℕ)
+    → IsGoodScore s → (0 < s.measures → 1 ≤ length s.voices)
+    → (rows : List (List Column)) × EachMeasure (λ m. IsMeasure s (from m) m) s.measures rows
 has_measures s from good heard =
     let all = has_each [] (λ m. IsMeasure s (from m) m) s.measures (λ m l.
     let c = has_columns (from m == m) s (timeline_of s) m (verses_of s) in
@@ -60,7 +74,9 @@ pub record HasMeasures (s : Score) : Type 0 where
 
 pub have_measures : (s : Score) → IsGoodScore s → (0 < s.measures → 1 ≤ length s.voices) → HasMeasures s
 have_measures s good heard =
-    let starts = has_measures s (λ m. m) good heard in let others = has_measures s (λ m. m - 1) good heard in let count = starts.1.count in
+    let starts = has_measures s (λ m. m) good heard in
+    let others = has_measures s (λ m. m - 1) good heard in
+    let count = starts.1.count in
     record {
       starts = starts.0;
       others = others.0;

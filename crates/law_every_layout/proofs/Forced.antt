@@ -8,7 +8,8 @@ use Rattle.lay_springs.proofs.Longer.{cannot_stand}
 use Rattle.lay_springs.proofs.Made.{fits_or_passes}
 
 -- a force, and none greater at which the columns can stand
-pub record IsGreatest (n : ℕ) (reach : ℕ → ℕ → Option Reach) (gaps : List ℕ) (spring : ℕ → ℕ → ℕ) (width force : ℕ) : Type 0 where
+pub record IsGreatest (n : ℕ) (reach : ℕ → ℕ → Option Reach) (gaps : List ℕ) (spring : ℕ → ℕ → ℕ)
+    (width force : ℕ) : Type 0 where
   pub bound : force ≤ 2048
   pub fits : Fits n reach gaps spring width force
   pub greatest : (g : ℕ) → force < g → g ≤ 2048 → CanStandWithin n reach gaps spring width g → ⊥
@@ -20,12 +21,23 @@ module _ (n : ℕ) (reach : ℕ → ℕ → Option Reach) (gaps : List ℕ) (spr
   never : (force : ℕ) → Passes n reach gaps spring width force → CanStandWithin n reach gaps spring width force → ⊥
   never force p c = cannot_stand n reach gaps spring width force force some (λ i. omega arith) p c
 
-  below : (m : ℕ) → m ≤ 2048 → ((g : ℕ) → m < g → g ≤ 2048 → CanStandWithin n reach gaps spring width g → ⊥) → ((force : ℕ) × IsGreatest n reach gaps spring width force) ⊎ (CanStandWithin n reach gaps spring width 0 → ⊥)
-  below zero b none = elim (fits_or_passes n reach gaps spring width 0 some near narrow (λ i. short 0 i b)) [ inl f ↦ inl (0, record { bound = b; fits = f; greatest = none }) | inr p ↦ inr (never 0 p) ]
-  below (suc m) b none = elim (fits_or_passes n reach gaps spring width (suc m) some near narrow (λ i. short (suc m) i b)) [
-    | inl f ↦ inl (suc m, record { bound = b; fits = f; greatest = none })
-    | inr p ↦ below m (omega (arith, b)) (λ g l w c. elim (cases_eq (suc m) g) [ inl e ↦ never (suc m) p (subst (λ k. CanStandWithin n reach gaps spring width k) (sym e) c) | inr d ↦ none g (grind (arith, l, d)) w c ])
+  below : (m : ℕ) → m ≤ 2048
+      → ((g : ℕ) → m < g → g ≤ 2048 → CanStandWithin n reach gaps spring width g → ⊥)
+      → ((force : ℕ) × IsGreatest n reach gaps spring width force) ⊎ (CanStandWithin n reach gaps spring width 0 → ⊥)
+  below zero b none = elim (fits_or_passes n reach gaps spring width 0 some near narrow (λ i. short 0 i b)) [
+    | inl f ↦ inl (0, record { bound = b; fits = f; greatest = none })
+    | inr p ↦ inr (never 0 p)
   ]
+  below (suc m) b none =
+      elim (fits_or_passes n reach gaps spring width (suc m) some near narrow (λ i. short (suc m) i b)) [
+        | inl f ↦ inl (suc m, record { bound = b; fits = f; greatest = none })
+        | inr p ↦
+            below m (omega (arith, b)) (λ g l w c. elim (cases_eq (suc m) g) [
+              | inl e ↦ never (suc m) p (subst (λ k. CanStandWithin n reach gaps spring width k) (sym e) c)
+              | inr d ↦ none g (grind (arith, l, d)) w c
+            ])
+      ]
 
-  pub has_force : ((force : ℕ) × IsGreatest n reach gaps spring width force) ⊎ (CanStandWithin n reach gaps spring width 0 → ⊥)
+  pub has_force : ((force : ℕ) × IsGreatest n reach gaps spring width force)
+      ⊎ (CanStandWithin n reach gaps spring width 0 → ⊥)
   has_force = below 2048 (omega arith) (λ g l w c. omega (arith, l, w))

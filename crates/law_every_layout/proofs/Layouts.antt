@@ -33,11 +33,18 @@ HaveGoodTexts m = All (λ staff. AreGoodMarks staff.marks) m.staves
 module _ (s : Score) (width : ℕ) (good : IsGoodScore s) (spans : List Span) (exact : AreSpansOf s width spans) where
   -- the systems of bars whose spans are listed
   has_systems : (a : ℕ) (bs : List ℕ) → RisesFrom a bs → last_from a bs ≤ s.measures → FitsFrom (listed spans) a bs
-      → (ms : List SystemMarks) × (ps : List Placed) × (hs : List Heights) × EachSpan (IsSetSystem s width) a bs ms ps × Beside (IsStack s) ms hs × AllByRecursion HaveGoodTexts ms
+      → (ms : List SystemMarks)
+      × (ps : List Placed)
+      × (hs : List Heights)
+      × EachSpan (IsSetSystem s width) a bs ms ps
+      × Beside (IsStack s) ms hs
+      × AllByRecursion HaveGoodTexts ms
   has_systems a [] rises within fits = ([], [], [], tt, tt, tt)
   has_systems a (b ∷ bs) rises within fits =
       let past = past_last b bs rises.1 in let cost = some_of (listed spans a b) fits.0 in
-      let set = has_set_system s width a b cost.0 (exact.each a b cost.0 rises.0 (omega (arith, past, within)) cost.1) in let stack = has_stack s a b set.1.at set.0 good set.2.tilted in
+      let set =
+      has_set_system s width a b cost.0 (exact.each a b cost.0 rises.0 (omega (arith, past, within)) cost.1) in
+      let stack = has_stack s a b set.1.at set.0 good set.2.tilted in
       let more = has_systems b bs rises.1 within fits.1 in (
         set.0 ∷ more.0,
         set.1 ∷ more.1,
@@ -47,27 +54,39 @@ module _ (s : Score) (width : ℕ) (good : IsGoodScore s) (spans : List Span) (e
         (tilted_good s (timeline_of s) a b set.1.at set.0 set.2.tilted good, more.5),
       )
 
-  has_layout : AreSpans s.measures spans → ((l : Layout) × IsLayout s width l) ⊎ ((reached : ℕ) × (spans : List Span) × IsNoWay s width reached spans)
-  has_layout form = elim (has_breaking (listed spans) (is_forced_in s) s.measures (listed_stops s.measures spans form) refl) [
-    | inl b ↦
-        let legal = b.chosen.legal in let ends = legal.ends in let all = has_systems 0 b.breaks legal.rises (omega (arith, ends)) legal.fits in
-        inl (
-          record { breaking = record { breaks = b.breaks; total = b.total; potentials = b.potentials }; systems = all.0; placed = all.1; spans = spans; heights = all.2 },
-          record {
-            form = form;
-            spans = exact;
-            chosen = b.chosen;
-            total = b.sum;
-            least = least_of s width spans exact b.breaks b.total b.chosen b.sum;
-            one_each = b.one_each;
-            potentials = b.each;
-            systems = all.3;
-            heights = all.4;
-            texts = All-from_recursion HaveGoodTexts all.0 all.5;
-          },
-        )
-    | inr (none, (reached, furthest)) ↦ inr (reached, spans, record { form = form; exact = exact; none = none; furthest = furthest })
-  ]
+  has_layout : AreSpans s.measures spans
+      → ((l : Layout) × IsLayout s width l) ⊎ ((reached : ℕ) × (spans : List Span) × IsNoWay s width reached spans)
+  has_layout form =
+      elim (has_breaking (listed spans) (is_forced_in s) s.measures (listed_stops s.measures spans form) refl) [
+        | inl b ↦
+            let legal = b.chosen.legal in
+            let ends = legal.ends in
+            let all = has_systems 0 b.breaks legal.rises (omega (arith, ends)) legal.fits in
+            inl (
+              record {
+                breaking = record { breaks = b.breaks; total = b.total; potentials = b.potentials };
+                systems = all.0;
+                placed = all.1;
+                spans = spans;
+                heights = all.2;
+              },
+              record {
+                form = form;
+                spans = exact;
+                chosen = b.chosen;
+                total = b.sum;
+                least = least_of s width spans exact b.breaks b.total b.chosen b.sum;
+                one_each = b.one_each;
+                potentials = b.each;
+                systems = all.3;
+                heights = all.4;
+                texts = All-from_recursion HaveGoodTexts all.0 all.5;
+              },
+            )
+        | inr (none, (reached, furthest)) ↦
+            inr (reached, spans, record { form = form; exact = exact; none = none; furthest = furthest })
+      ]
 
 pub every_score : EveryScoreIsLaid
-every_score s width good heard = let listed = has_spans s width good heard in has_layout s width good listed.0 listed.2 listed.1
+every_score s width good heard =
+    let listed = has_spans s width good heard in has_layout s width good listed.0 listed.2 listed.1

@@ -31,34 +31,52 @@ rest_of (pos k) width l = (width - k, omega (arith, ints, l))
 rest_of (negsuc k) width l = (width + suc k, omega (arith, ints))
 
 -- columns that fit a width are set to it
-has_set : (n : ℕ) (reach : ℕ → ℕ → Option Reach) (gaps : List ℕ) (spring : ℕ → ℕ → ℕ) (width force : ℕ) → Fits n reach gaps spring width force
+has_set : (n : ℕ) (reach : ℕ → ℕ → Option Reach) (gaps : List ℕ) (spring : ℕ → ℕ → ℕ) (width force : ℕ)
+    → Fits n reach gaps spring width force
     → (at : List ℤ) × IsSet n reach gaps spring width force at × StandApart n reach gaps (spring force) at
 has_set n reach gaps spring width force (e, ends, l) = elim (cases_lt 1 n) [
   | inl several ↦
-      let rest = rest_of e width l in let f = λ (k : ℕ). slice_index_or ends.x k (pos 0) +ℤ pos (rest.0 * k / (n - 1)) in
+      let rest = rest_of e width l in
+      let f = λ (k : ℕ). slice_index_or ends.x k (pos 0) +ℤ pos (rest.0 * k / (n - 1)) in
       let is : IsSet n reach gaps spring width force (map f (range_with_len 0 n)) = record {
         x = ends.x;
         place = ends.place;
         count = length-map-range_with_len f 0 n;
         alone = λ one. absurd (omega (arith, one, several));
-        moved = λ _. (e, rest.0, ends.end, rest.1, λ k less. get_or-map-range_with_len f 0 n k k (pos 0) less (omega arith));
+        moved =
+            λ _.
+            (e, rest.0, ends.end, rest.1, λ k less. get_or-map-range_with_len f 0 n k k (pos 0) less (omega arith));
       } in
       (map f (range_with_len 0 n), is, set_apart n reach gaps spring width force _ (omega (arith, several)) is)
-  | inr few ↦
-      (ends.x, record { x = ends.x; place = ends.place; count = ends.place.count; alone = λ _. refl; moved = λ several. absurd (omega (arith, few, several)) }, ends.place.apart)
+  | inr few ↦ (
+    ends.x,
+    record {
+      x = ends.x;
+      place = ends.place;
+      count = ends.place.count;
+      alone = λ _. refl;
+      moved = λ several. absurd (omega (arith, few, several));
+    },
+    ends.place.apart,
+  )
 ]
 
 -- columns pressed with their force
-module _ (columns : List Column) (gaps : List ℕ) (width force : ℕ) (narrow : (lane : ℕ) → lane < length gaps → slice_index gaps lane ≤ 1048576) (h : IsForceOf gaps width columns force) where
+module _ (columns : List Column) (gaps : List ℕ) (width force : ℕ)
+    (narrow : (lane : ℕ) → lane < length gaps → slice_index gaps lane ≤ 1048576)
+    (h : IsForceOf gaps width columns force) where
   -- have a place at the natural force, also where there are none
-  has_natural : (x : List ℤ) × IsPlace (length columns) (reach_at column_reach columns) gaps (length_at column_length columns 256) x
+  has_natural : (x : List ℤ)
+      × IsPlace (length columns) (reach_at column_reach columns) gaps (length_at column_length columns 256) x
   has_natural = elim (cases_lt 0 (length columns)) [
     | inl some ↦
-        has_place (length columns) (reach_at column_reach columns) gaps (length_at column_length columns 256) (λ k lane _. columns_near columns k lane) narrow
+        has_place (length columns) (reach_at column_reach columns) gaps (length_at column_length columns 256)
+        (λ k lane _. columns_near columns k lane) narrow
         (λ i. columns_short columns 256 i (omega arith)) some
     | inr none ↦
         let place = h.fits.1.place in
-        let apart = fewer_apart (length columns) (length columns) _ _ gaps (length_at column_length columns 256) (length_at column_length columns force) h.fits.1.x (omega arith)
+        let apart = fewer_apart (length columns) (length columns) _ _ gaps (length_at column_length columns 256)
+        (length_at column_length columns force) h.fits.1.x (omega arith)
         (λ i lane l. refl) (λ i l. absurd (omega (arith, none, l))) place.apart in
         (h.fits.1.x, record { count = place.count; apart = apart; least = λ y a k l. absurd (omega (arith, none, l)) })
   ]
@@ -70,20 +88,48 @@ module _ (columns : List Column) (gaps : List ℕ) (width force : ℕ) (narrow :
       by : (b : Bool) → is_ragged last force ≡ b → (p : Placed) × IsJustified gaps width last columns p
       by true e = (
         record { force = 256; ragged = true; at = has_natural.0 },
-        record { pressed = (force, h, sym (ap (λ b. if b then 256 else force) e), sym e); loose = λ _. has_natural.1; set = λ is. absurd (true≢false is); apart = has_natural.1.apart },
+        record {
+          pressed = (force, h, sym (ap (λ b. if b then 256 else force) e), sym e);
+          loose = λ _. has_natural.1;
+          set = λ is. absurd (true≢false is);
+          apart = has_natural.1.apart;
+        },
       )
       by false e =
-          let set = has_set (length columns) (reach_at column_reach columns) gaps (length_at column_length columns) width force h.fits in (
+          let set = has_set (length columns) (reach_at column_reach columns) gaps (length_at column_length columns)
+          width force h.fits in (
             record { force = force; ragged = false; at = set.0 },
-            record { pressed = (force, h, sym (ap (λ b. if b then 256 else force) e), sym e); loose = λ is. absurd (true≢false (sym is)); set = λ _. set.1; apart = set.2 },
+            record {
+              pressed = (force, h, sym (ap (λ b. if b then 256 else force) e), sym e);
+              loose = λ is. absurd (true≢false (sym is));
+              set = λ _. set.1;
+              apart = set.2;
+            },
           )
 
 -- a span that costs something has a system, set to the width
-pub has_set_system : (s : Score) (width a b v : ℕ) → IsSpanCost s width a b v → (m : SystemMarks) × (p : Placed) × IsSetSystem s width a b m p
+pub has_set_system : (s : Score) (width a b v : ℕ)
+    → IsSpanCost s width a b v → (m : SystemMarks) × (p : Placed) × IsSetSystem s width a b m p
 has_set_system s width a b v cost =
     let flat = has_system s a b in
     let placed = has_justified (system_columns s flat.0) (score_gaps s) width cost.pressed.0
     (λ lane l. gaps_narrow (verses_of s) lane 0 l) (cost.pressed.2 flat.0 flat.1) (flat.0.b == s.measures) in
-    let keys = flat.0.keys in let m : SystemMarks = record { a = a; b = b; keys = keys; staves = map (tilted_staff keys (timeline_of s).lengths placed.0.at a b) (drawn_staves s) } in
-    let tilted : IsTilted s (timeline_of s) a b placed.0.at m = record { from = refl; to = refl; keys = flat.1.keys; staves = refl } in
-    (m, placed.0, record { flat = flat.0; called = flat.1; placed = placed.1; tilted = tilted; alike = tilted_alike s (timeline_of s) a b placed.0.at m tilted flat.0 flat.1 })
+    let keys = flat.0.keys in
+    let m : SystemMarks = record {
+      a = a;
+      b = b;
+      keys = keys;
+      staves = map (tilted_staff keys (timeline_of s).lengths placed.0.at a b) (drawn_staves s);
+    } in
+    let tilted : IsTilted s (timeline_of s) a b placed.0.at m =
+    record { from = refl; to = refl; keys = flat.1.keys; staves = refl } in (
+      m,
+      placed.0,
+      record {
+        flat = flat.0;
+        called = flat.1;
+        placed = placed.1;
+        tilted = tilted;
+        alike = tilted_alike s (timeline_of s) a b placed.0.at m tilted flat.0 flat.1;
+      },
+    )

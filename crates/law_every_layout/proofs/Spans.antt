@@ -29,20 +29,31 @@ use Rattle.law_every_layout.proofs.Columns.{has_each, have_measures}
 use Rattle.law_every_layout.proofs.Forced.{has_force}
 
 -- the reaches and the springs of any columns are small
-pub columns_near : (columns : List Column) (k lane : ℕ) → IfSome (reach_at column_reach columns k lane) (λ r. (r.left ≤ 1048576) × (r.right ≤ 1048576))
-columns_near columns k lane = near_at column_reach columns (λ r. (r.left ≤ 1048576) × (r.right ≤ 1048576)) lane (λ c. reach_in_near c.reaches lane) k
+pub columns_near : (columns : List Column) (k lane : ℕ)
+    → IfSome (reach_at column_reach columns k lane) (λ r. (r.left ≤ 1048576) × (r.right ≤ 1048576))
+columns_near columns k lane =
+    near_at column_reach columns (λ r. (r.left ≤ 1048576) × (r.right ≤ 1048576)) lane
+    (λ c. reach_in_near c.reaches lane) k
 
-pub columns_short : (columns : List Column) (force i : ℕ) → force ≤ 2048 → length_at column_length columns force i ≤ 1048576
-columns_short columns force i bound = lengths_short column_length columns force i (λ c. length_short c.natural) (λ c. length_scales c.natural force) (omega (arith, bound))
+pub columns_short : (columns : List Column) (force i : ℕ)
+    → force ≤ 2048 → length_at column_length columns force i ≤ 1048576
+columns_short columns force i bound =
+    lengths_short column_length columns force i (λ c. length_short c.natural) (λ c. length_scales c.natural force)
+    (omega (arith, bound))
 
 module _ (gaps : List ℕ) (width : ℕ) (narrow : All (λ g. g ≤ 2 ^ 20) gaps) where
-  pub has_force_in : (columns : List Column) → 0 < length columns → ((force : ℕ) × IsForceOf gaps width columns force) ⊎ (CanStandIn gaps width columns → ⊥)
+  pub has_force_in : (columns : List Column)
+      → 0 < length columns → ((force : ℕ) × IsForceOf gaps width columns force) ⊎ (CanStandIn gaps width columns → ⊥)
   has_force_in columns some =
       elim (has_force (length columns) (reach_at column_reach columns) gaps (length_at column_length columns) width some
-      (λ k lane l. columns_near columns k lane) (λ lane l. narrow lane 0 l) (columns_short columns)) [ inl f ↦ inl (f.0, record { bound = f.1.bound; fits = f.1.fits; greatest = f.1.greatest }) | inr never ↦ inr never ]
+      (λ k lane l. columns_near columns k lane) (λ lane l. narrow lane 0 l) (columns_short columns)) [
+        | inl f ↦ inl (f.0, record { bound = f.1.bound; fits = f.1.fits; greatest = f.1.greatest })
+        | inr never ↦ inr never
+      ]
 
   -- the row of bar a
-  module _ (starts others : List (List Column)) (forced : ℕ → Bool) (measures : AreMeasures column_reach (length gaps) starts others) (a : ℕ) (inside : a < length starts) where
+  module _ (starts others : List (List Column)) (forced : ℕ → Bool)
+      (measures : AreMeasures column_reach (length gaps) starts others) (a : ℕ) (inside : a < length starts) where
     abbrev IsRow : List ℕ → Type 0
     IsRow row = IsRowFrom column_reach column_length gaps width starts others forced a row
 
@@ -50,33 +61,62 @@ module _ (gaps : List ℕ) (width : ℕ) (narrow : All (λ g. g ≤ 2 ^ 20) gaps
     Costs b v = IsCost column_reach column_length gaps width starts others forced a b v
 
     -- what stands of it up to bar m, behind which d measures are left
-    row_on : (d m : ℕ) (row : List ℕ) → m + d ≡ length starts → a + length row ≡ m → ((k : ℕ) → k < length row → Costs (a + 1 + k) (slice_index row k))
+    row_on : (d m : ℕ) (row : List ℕ)
+        → m + d ≡ length starts → a + length row ≡ m
+        → ((k : ℕ) → k < length row → Costs (a + 1 + k) (slice_index row k))
         → ((f : ℕ) → a < f → f < m + 1 → forced f ≡ true → ⊥) → (row : List ℕ) × IsRow row
-    row_on zero m row left count each free = (row, record { within = omega (arith, left, count); each = each; stops = λ b past within. absurd (omega (arith, left, count, past, within)) })
+    row_on zero m row left count each free = (
+      row,
+      record {
+        within = omega (arith, left, count);
+        each = each;
+        stops = λ b past within. absurd (omega (arith, left, count, past, within));
+      },
+    )
     row_on (suc d) m row left count each free =
-        elim (has_force_in (span_columns starts others a (m + 1)) (columns_some starts others a (m + 1) (omega (arith, count)) (measures.begun a inside))) [
-          | inr never ↦ (row, stops_at column_reach column_length gaps width starts others forced a m row measures inside (omega (arith, left)) count each never)
+        elim (has_force_in (span_columns starts others a (m + 1))
+        (columns_some starts others a (m + 1) (omega (arith, count)) (measures.begun a inside))) [
+          | inr never ↦ (
+            row,
+            stops_at column_reach column_length gaps width starts others forced a m row measures inside
+                (omega (arith, left)) count each never,
+          )
           | inl pressed ↦
               let v = badness_of ((m + 1) == length starts) pressed.0 in
-              let more = costs_more column_reach column_length gaps width starts others forced a m row v count each (record { free = λ h. free h.0 h.1 h.2 h.3; pressed = (pressed.0, pressed.1, refl) }) in
-              let next : List ℕ = row ++ v ∷ [] in let grown = length-append row (v ∷ []) in let longer : a + length next ≡ m + 1 = omega (arith, count, grown) in
+              let more = costs_more column_reach column_length gaps width starts others forced a m row v count each
+              (record { free = λ h. free h.0 h.1 h.2 h.3; pressed = (pressed.0, pressed.1, refl) }) in
+              let next : List ℕ = row ++ v ∷ [] in
+              let grown = length-append row (v ∷ []) in
+              let longer : a + length next ≡ m + 1 = omega (arith, count, grown) in
               (elim (forced (m + 1)) as (λ t. forced (m + 1) ≡ t → (row : List ℕ) × IsRow row) [
-                | true ↦ λ is. (next, stops_behind column_reach column_length gaps width starts others forced a m next (omega (arith, left)) longer (omega (arith, count)) more is)
+                | true ↦ λ is. (
+                  next,
+                  stops_behind column_reach column_length gaps width starts others forced a m next (omega (arith, left))
+                      longer (omega (arith, count)) more is,
+                )
                 | false ↦ λ is. row_on d (m + 1) next (omega (arith, left)) longer more (free_more forced a m is free)
               ]) refl
         ]
 
     pub has_row : (row : List ℕ) × IsRow row
-    has_row = row_on (length starts - a) a [] (omega (arith, inside)) (omega arith) (λ k l. absurd (omega (arith, l))) (λ f l k is. absurd (omega (arith, l, k)))
+    has_row =
+        row_on (length starts - a) a [] (omega (arith, inside)) (omega arith) (λ k l. absurd (omega (arith, l)))
+        (λ f l k is. absurd (omega (arith, l, k)))
 
-pub has_spans : (s : Score) (width : ℕ) → IsGoodScore s → (0 < s.measures → 1 ≤ length s.voices) → (spans : List Span) × AreSpans s.measures spans × AreSpansOf s width spans
+pub has_spans : (s : Score) (width : ℕ)
+    → IsGoodScore s → (0 < s.measures → 1 ≤ length s.voices)
+    → (spans : List Span) × AreSpans s.measures spans × AreSpansOf s width spans
 has_spans s width good heard =
     let c = have_measures s good heard in let forced = is_forced (length c.starts) s.forced in
-    let rows = has_each [] (IsRowFrom column_reach column_length (score_gaps s) width c.starts c.others forced) (length c.starts)
+    let rows = has_each [] (IsRowFrom column_reach column_length (score_gaps s) width c.starts c.others forced)
+    (length c.starts)
     (λ a l. has_row (score_gaps s) width (gaps_narrow (verses_of s)) c.starts c.others forced c.measures a l) in
-    let table : IsCostTable (λ a row. IsRowFrom column_reach column_length (score_gaps s) width c.starts c.others forced a row) (length c.starts) rows.0 = record { count = rows.1; each = rows.2 } in (
+    let table : IsCostTable
+    (λ a row. IsRowFrom column_reach column_length (score_gaps s) width c.starts c.others forced a row)
+    (length c.starts) rows.0 = record { count = rows.1; each = rows.2 } in (
       rows_spans 0 rows.0,
-      subst (λ n. AreSpans n (rows_spans 0 rows.0)) c.count (rows_are_spans column_reach column_length (score_gaps s) width c.starts c.others forced rows.0 table),
+      subst (λ n. AreSpans n (rows_spans 0 rows.0)) c.count
+          (rows_are_spans column_reach column_length (score_gaps s) width c.starts c.others forced rows.0 table),
       spans_read s width c.starts c.others (rows_spans 0 rows.0) (score_gaps s) s.forced c.count refl refl c.join
           (rows_tell_spans column_reach column_length (score_gaps s) width c.starts c.others forced rows.0 table),
     )

@@ -44,23 +44,34 @@ not_above z = omega (arith, ints, clamps)
 
 over_sound : (all : List Laid) → IsSound (staff_over all)
 unfolding staff_over
-over_sound all = record { covers = covers all; low = not_below (staff_heights all).low; high = not_above (staff_heights all).high }
+over_sound all =
+    record { covers = covers all; low = not_below (staff_heights all).low; high = not_above (staff_heights all).high }
 
-sound : (keys : List ColumnKey) (lengths : List ℕ) (a b : ℕ) (vs : List DrawnVoice) → IsSound (staff_marks keys lengths a b vs)
+sound : (keys : List ColumnKey) (lengths : List ℕ) (a b : ℕ) (vs : List DrawnVoice)
+    → IsSound (staff_marks keys lengths a b vs)
 unfolding staff_marks
-sound keys lengths a b vs = over_sound (by_columns (length keys) (written_parts keys lengths (room_over (verses_on vs) (bare_marks keys lengths a b vs)) a b 1 [] vs) ++ staff_bridges keys lengths a b vs)
+sound keys lengths a b vs =
+    over_sound
+    (by_columns (length keys)
+    (written_parts keys lengths (room_over (verses_on vs) (bare_marks keys lengths a b vs)) a b 1 [] vs)
+    ++ staff_bridges keys lengths a b vs)
 
-all_sound : (keys : List ColumnKey) (lengths : List ℕ) (at : List ℤ) (a b : ℕ) (staves : List (List DrawnVoice)) → AllByRecursion IsSound (map (tilted_staff keys lengths at a b) staves)
+all_sound : (keys : List ColumnKey) (lengths : List ℕ) (at : List ℤ) (a b : ℕ) (staves : List (List DrawnVoice))
+    → AllByRecursion IsSound (map (tilted_staff keys lengths at a b) staves)
 all_sound keys lengths at a b [] = tt
-all_sound keys lengths at a b (vs ∷ staves) = (sound keys lengths a b (map (voice_tilted keys at a b) vs), all_sound keys lengths at a b staves)
+all_sound keys lengths at a b (vs ∷ staves) =
+    (sound keys lengths a b (map (voice_tilted keys at a b) vs), all_sound keys lengths at a b staves)
 
 -- gaps are small
-kept_near : (vs : List Voice) → AllByRecursion IsGoodVoice vs → AllByRecursion (λ g. g ≤ 1000) (map (λ v. v.gap) (filter (λ v. not (stands_lower v)) vs))
+kept_near : (vs : List Voice)
+    → AllByRecursion IsGoodVoice vs
+    → AllByRecursion (λ g. g ≤ 1000) (map (λ v. v.gap) (filter (λ v. not (stands_lower v)) vs))
 kept_near [] h = tt
 kept_near (v ∷ vs) h = by (not (stands_lower v)) (kept_near vs h.1)
   where
     by : (b : Bool) → AllByRecursion (λ g. g ≤ 1000) (map (λ v. v.gap) (filter (λ v. not (stands_lower v)) vs))
-        → AllByRecursion (λ g. g ≤ 1000) (map (λ v. v.gap) (cond b (v ∷ filter (λ v. not (stands_lower v)) vs) (filter (λ v. not (stands_lower v)) vs)))
+        → AllByRecursion (λ g. g ≤ 1000)
+        (map (λ v. v.gap) (cond b (v ∷ filter (λ v. not (stands_lower v)) vs) (filter (λ v. not (stands_lower v)) vs)))
     by true more = (h.0.near, more)
     by false more = more
 
@@ -69,29 +80,56 @@ gaps_near [] h = tt
 gaps_near (v ∷ vs) h = kept_near vs h.1
 
 -- staves from a top on, and how low the last of them ends
-stack_from : (top : ℤ) (gaps : List ℕ) (staves : List StaffMarks) → length gaps ≡ length staves - 1 → AllByRecursion IsSound staves → AllByRecursion (λ g. g ≤ 1000) gaps
-    → (bases : List ℤ) × (bottom : ℤ) × AreStavesStacked top gaps staves bases bottom × (bottom ≤ℤ top) × (top ≤ℤ (bottom +ℤ pos (2147484648 * length staves)))
+stack_from : (top : ℤ) (gaps : List ℕ) (staves : List StaffMarks)
+    → length gaps ≡ length staves - 1 → AllByRecursion IsSound staves → AllByRecursion (λ g. g ≤ 1000) gaps
+    → (bases : List ℤ)
+    × (bottom : ℤ)
+    × AreStavesStacked top gaps staves bases bottom
+    × (bottom ≤ℤ top)
+    × (top ≤ℤ (bottom +ℤ pos (2147484648 * length staves)))
 stack_from top [] [] e good near = ([], top, refl, omega (arith, ints), omega (arith, ints))
 stack_from top [] (staff ∷ []) e good near =
-    let low = good.0.low in let high = good.0.high in let under = good.0.covers.0 in let over = good.0.covers.1 in
-    ((top -ℤ staff.high) ∷ [], (top -ℤ staff.high) +ℤ staff.low, (omega (arith, ints), refl), omega (arith, ints), omega (arith, ints))
+    let low = good.0.low in let high = good.0.high in let under = good.0.covers.0 in let over = good.0.covers.1 in (
+      (top -ℤ staff.high) ∷ [],
+      (top -ℤ staff.high) +ℤ staff.low,
+      (omega (arith, ints), refl),
+      omega (arith, ints),
+      omega (arith, ints),
+    )
 stack_from top [] (staff ∷ next ∷ more) e good near = absurd (omega (arith, e))
 stack_from top (gap ∷ gaps) [] e good near = absurd (omega (arith, e))
 stack_from top (gap ∷ gaps) (staff ∷ []) e good near = absurd (omega (arith, e))
 stack_from top (gap ∷ gaps) (staff ∷ next ∷ more) e good near =
-    let low = good.0.low in let high = good.0.high in let under = good.0.covers.0 in let over = good.0.covers.1 in let small = near.0 in
-    let rest = stack_from (((top -ℤ staff.high) +ℤ staff.low) -ℤ pos gap) gaps (next ∷ more) (omega (arith, e)) good.1 near.1 in let below = rest.3 in let far = rest.4 in
+    let low = good.0.low in
+    let high = good.0.high in
+    let under = good.0.covers.0 in
+    let over = good.0.covers.1 in
+    let small = near.0 in
+    let rest =
+    stack_from (((top -ℤ staff.high) +ℤ staff.low) -ℤ pos gap) gaps (next ∷ more) (omega (arith, e)) good.1 near.1 in
+    let below = rest.3 in
+    let far = rest.4 in
     ((top -ℤ staff.high) ∷ rest.0, rest.1, (omega (arith, ints), rest.2), omega (arith, ints), omega (arith, ints))
 
 -- the tilted marks of a good score have a stack
-pub has_stack : (s : Score) (a b : ℕ) (at : List ℤ) (m : SystemMarks) → IsGoodScore s → IsTilted s (timeline_of s) a b at m → (h : Heights) × IsStack s m h
+pub has_stack : (s : Score) (a b : ℕ) (at : List ℤ) (m : SystemMarks)
+    → IsGoodScore s → IsTilted s (timeline_of s) a b at m → (h : Heights) × IsStack s m h
 has_stack s a b at m good is =
     let staff = tilted_staff m.keys (timeline_of s).lengths at a b in
-    let stack = stack_from (pos 0) (gaps_between s.voices) m.staves (gaps_count s m (gaps_between s.voices) staff refl is.staves)
+    let stack = stack_from (pos 0) (gaps_between s.voices) m.staves
+    (gaps_count s m (gaps_between s.voices) staff refl is.staves)
     (subst (AllByRecursion IsSound) (sym is.staves) (all_sound m.keys (timeline_of s).lengths at a b (drawn_staves s)))
     (gaps_near s.voices (recursion_from_All IsGoodVoice s.voices good.voices)) in
-    let low = stack.3 in let far = stack.4 in let count : length m.staves ≡ length (drawn_staves s) = ap (λ these. length these) is.staves ∙ length-map (drawn_staves s) staff in let few = good.few_voices in
+    let low = stack.3 in
+    let far = stack.4 in
+    let count : length m.staves ≡ length (drawn_staves s) =
+    ap (λ these. length these) is.staves ∙ length-map (drawn_staves s) staff in
+    let few = good.few_voices in
     let bottom : stack.1 ≡ (pos 0 -ℤ (pos 0 -ℤ stack.1)) = omega (arith, ints) in (
       record { bases = stack.0; height = pos 0 -ℤ stack.1 },
-      record { stacked = subst (AreStavesStacked (pos 0) (gaps_between s.voices) m.staves stack.0) bottom stack.2; low = omega (arith, ints, low); high = omega (arith, ints, far, count, few, staves_count s) },
+      record {
+        stacked = subst (AreStavesStacked (pos 0) (gaps_between s.voices) m.staves stack.0) bottom stack.2;
+        low = omega (arith, ints, low);
+        high = omega (arith, ints, far, count, few, staves_count s);
+      },
     )

@@ -8,4 +8,6 @@ use Rattle.lay_tune.specs.Layout.{IsLayout, IsNoWay}
 
 -- a good score, with a voice where it has a measure, has a layout, or no breaking of it is legal
 abbrev pub EveryScoreIsLaid : Type 0
-EveryScoreIsLaid = (s : Score) (width : ℕ) → IsGoodScore s → (0 < s.measures → 1 ≤ length s.voices) → ((l : Layout) × IsLayout s width l) ⊎ ((reached : ℕ) × (spans : List Span) × IsNoWay s width reached spans)
+EveryScoreIsLaid =
+    (s : Score) (width : ℕ) → IsGoodScore s → (0 < s.measures → 1 ≤ length s.voices)
+    → ((l : Layout) × IsLayout s width l) ⊎ ((reached : ℕ) × (spans : List Span) × IsNoWay s width reached spans)

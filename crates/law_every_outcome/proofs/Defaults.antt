@@ -15,11 +15,13 @@ or_if : {Y : Type 0} (P : Y → Type 0) (o p : Option Y) → IfSome o P → IfSo
 or_if P None p a b = b
 or_if P (Some y) p a b = a
 
-last_if : {X Y : Type 0} (P : Y → Type 0) (f : X → Option Y) → ((x : X) → IfSome (f x) P) → (xs : List X) → IfSome (last_of f xs) P
+last_if : {X Y : Type 0} (P : Y → Type 0) (f : X → Option Y)
+    → ((x : X) → IfSome (f x) P) → (xs : List X) → IfSome (last_of f xs) P
 last_if P f each [] = tt
 last_if P f each (x ∷ xs) = or_if P (last_of f xs) (f x) (last_if P f each xs) (each x)
 
-then_if : {X Y : Type 0} (P : Y → Type 0) (f : X → Option Y) → ((x : X) → IfSome (f x) P) → (o : Option X) → IfSome (option_and_then f o) P
+then_if : {X Y : Type 0} (P : Y → Type 0) (f : X → Option Y)
+    → ((x : X) → IfSome (f x) P) → (o : Option X) → IfSome (option_and_then f o) P
 then_if P f each None = tt
 then_if P f each (Some x) = each x
 

@@ -53,7 +53,9 @@ same_clef : Discrete Clef
 same_clef x y = decided (clefs.eq x y) (search rules)
 
 same_key : Discrete Key
-same_key = parted (List-discrete (λ x y. decided (signs.eq x y) (search rules))) (λ k. k.signs) (λ ss. record { signs = ss }) (λ k. refl)
+same_key =
+    parted (List-discrete (λ x y. decided (signs.eq x y) (search rules))) (λ k. k.signs) (λ ss. record { signs = ss })
+    (λ k. refl)
 
 same_meter : Discrete Meter
 same_meter x y = decided (meters.eq x y) (search rules)
@@ -61,12 +63,16 @@ same_meter x y = decided (meters.eq x y) (search rules)
 same_change : Discrete TimedChange
 same_change =
     let changes = ×_discrete (same_option same_clef) (×_discrete (same_option same_key) (same_option same_meter)) in
-    parted (×_discrete ℕ_discrete (×_discrete ℕ_discrete changes)) (λ x. (x.measure, (x.tick, (x.changes.clef, (x.changes.key, x.changes.meter)))))
-    (λ p. record { measure = p.0; tick = p.1.0; changes = record { clef = p.1.1.0; key = p.1.1.1.0; meter = p.1.1.1.1 } }) (λ x. refl)
+    parted (×_discrete ℕ_discrete (×_discrete ℕ_discrete changes))
+    (λ x. (x.measure, (x.tick, (x.changes.clef, (x.changes.key, x.changes.meter)))))
+    (λ p.
+    record { measure = p.0; tick = p.1.0; changes = record { clef = p.1.1.0; key = p.1.1.1.0; meter = p.1.1.1.1 } })
+    (λ x. refl)
 
 same_story : Discrete VoiceChanges
 same_story =
-    parted (×_discrete same_clef (×_discrete same_key (×_discrete same_meter (List-discrete same_change)))) (λ s. (s.clef, (s.key, (s.meter, s.changes))))
+    parted (×_discrete same_clef (×_discrete same_key (×_discrete same_meter (List-discrete same_change))))
+    (λ s. (s.clef, (s.key, (s.meter, s.changes))))
     (λ p. record { clef = p.0; key = p.1.0; meter = p.1.1.0; changes = p.1.1.1 }) (λ s. refl)
 
 -- ---- voices that share a staff
@@ -76,25 +82,46 @@ each P one (x ∷ xs) = both (one x) (each P one xs)
 
 alike : (voices : List Voice) (places : List ℕ) → Dec (HaveSameChanges voices places)
 alike voices [] = yes tt
-alike voices (v ∷ vs) = each (λ w. story_at voices v ≡ story_at voices w) (λ w. same_option same_story (story_at voices v) (story_at voices w)) vs
+alike voices (v ∷ vs) =
+    each (λ w. story_at voices v ≡ story_at voices w)
+    (λ w. same_option same_story (story_at voices v) (story_at voices w)) vs
 
 do_share : (w : Score) (plan : Plan) → Dec (DoShare w plan)
-do_share w plan = each (λ (staff : PlannedStaff). HaveSameChanges w.voices staff.voices) (λ staff. alike w.voices staff.voices) plan.staves
+do_share w plan =
+    each (λ (staff : PlannedStaff). HaveSameChanges w.voices staff.voices) (λ staff. alike w.voices staff.voices)
+    plan.staves
 
 -- ---- the drawn score
-fits : (w : Score) (line : Line) (plan : Plan) → SpellsPlan (score_ids w) line.text plan → IsPlanFor (length w.voices) plan
-fits w line plan spells = subst (λ n. IsPlanFor n plan) (length-map w.voices (λ (v : Voice). v.id)) (spelled-plan (score_ids w) line.text plan spells)
+fits : (w : Score) (line : Line) (plan : Plan)
+    → SpellsPlan (score_ids w) line.text plan → IsPlanFor (length w.voices) plan
+fits w line plan spells =
+    subst (λ n. IsPlanFor n plan) (length-map w.voices (λ (v : Voice). v.id))
+    (spelled-plan (score_ids w) line.text plan spells)
 
 abbrev HasDrawn : Option Line → Score → Type 0
 HasDrawn staves w = (r : Result Score Fault) × IsScoreDrawn staves w r × IfOk r IsGoodScore
 
-shared_if : (line : Line) (w : Score) (plan : Plan) → IsGoodScore w → SpellsPlan (score_ids w) line.text plan → Dec (DoShare w plan) → HasDrawn (Some line) w
-shared_if line w plan good spells (yes share) = (Ok (drawn_of w plan), (plan, spells, share, refl), drawn_good w plan good (fits w line plan spells))
-shared_if line w plan good spells (no apart) = (Err (share_fault line FaultKind.BadShare), inr (plan, spells, apart, refl), tt)
+shared_if : (line : Line) (w : Score) (plan : Plan)
+    → IsGoodScore w → SpellsPlan (score_ids w) line.text plan → Dec (DoShare w plan) → HasDrawn (Some line) w
+shared_if line w plan good spells (yes share) =
+    (Ok (drawn_of w plan), (plan, spells, share, refl), drawn_good w plan good (fits w line plan spells))
+shared_if line w plan good spells (no apart) =
+    (Err (share_fault line FaultKind.BadShare), inr (plan, spells, apart, refl), tt)
 
-spelled_if : (line : Line) (w : Score) (read : Option Plan) → IsGoodScore w → plan_by (plan_signs_from (score_ids w) [] line.text) ≡ read → HasDrawn (Some line) w
-spelled_if line w None good e = (Err (share_fault line FaultKind.BadScore), inl ((λ plan spells. let clash = sym e ∙ spelled-read (score_ids w) line.text plan (apart_ids w good) spells in cc), refl), tt)
-spelled_if line w (Some plan) good e = shared_if line w plan good (subst (λ r. IfSome r (SpellsPlan (score_ids w) line.text)) e (read-spells (score_ids w) line.text)) (do_share w plan)
+spelled_if : (line : Line) (w : Score) (read : Option Plan)
+    → IsGoodScore w → plan_by (plan_signs_from (score_ids w) [] line.text) ≡ read → HasDrawn (Some line) w
+spelled_if line w None good e = (
+  Err (share_fault line FaultKind.BadScore),
+  inl (
+    (λ plan spells. let clash = sym e ∙ spelled-read (score_ids w) line.text plan (apart_ids w good) spells in cc),
+    refl,
+  ),
+  tt,
+)
+spelled_if line w (Some plan) good e =
+    shared_if line w plan good
+    (subst (λ r. IfSome r (SpellsPlan (score_ids w) line.text)) e (read-spells (score_ids w) line.text))
+    (do_share w plan)
 
 pub has_drawn : (staves : Option Line) (w : Score) → IsGoodScore w → HasDrawn staves w
 has_drawn None w good = (Ok w, refl, good)

@@ -1,4 +1,5 @@
--- Every tune has an outcome, stage by stage: its header, its score, the voices that share staves, the move, the layout and the pages.
+-- Every tune has an outcome, stage by stage: its header, its score, the voices that share staves, the move, the layout
+-- and the pages.
 use Rattle.std.proofs.Common.{◌≡◌, refl, ℕ, inl, inr, List, [], ◌∷◌, Option, Some, None, Result, Ok, Err, IfOk, IfSome}
 use Rattle.std.proofs.Common.{length}
 use Rattle.abc_lines.specs.declared.book.TuneText.{TuneText}
@@ -40,7 +41,9 @@ module _ (every_text : EveryTextIsRead) (every_score : EveryScoreIsLaid) where
     faulty f is = (Err f, is)
 
     -- a tune that is laid out stands on pages, or a group of its blocks is too tall
-    stands : (t : SetTune) → IsLaidTune tune terms t → (o : Option ℕ) → first_tall (body_height terms.paper) (blocks_of t.title t.heights) ≡ o → HasResult
+    stands : (t : SetTune) → IsLaidTune tune terms t → (o : Option ℕ)
+        → first_tall (body_height terms.paper) (blocks_of t.title t.heights) ≡ o
+        → HasResult
     stands t is None fits = (Ok t, record { laid = is; fits = fits })
     stands t is (Some block) tall = faulty (layout_fault tune (FaultKind.TooTall block)) (too_tall t block is tall)
 
@@ -58,15 +61,28 @@ module _ (every_text : EveryTextIsRead) (every_score : EveryScoreIsLaid) where
 
     -- a score is laid out, or has no way
     lays : (header : Header) (score : Score) → HasScore tune terms.defaults terms.manner header score → HasResult
-    lays header score has = elim (every_score score (body_width terms.paper) has.good (heard_moved tune terms.defaults terms.manner header score has)) [
-      | inl l ↦ stands (tune_of header score l.0) (record { score = has; title = refl; layout = l.1 }) (first_tall (body_height terms.paper) (blocks_of (tune_of header score l.0).title (tune_of header score l.0).heights)) refl
-      | inr w ↦ faulty (layout_fault tune (FaultKind.NoWay w.0)) (no_way header score w.0 w.1 has w.2)
-    ]
+    lays header score has =
+        elim (every_score score (body_width terms.paper) has.good
+        (heard_moved tune terms.defaults terms.manner header score has)) [
+          | inl l ↦
+              stands (tune_of header score l.0) (record { score = has; title = refl; layout = l.1 })
+              (first_tall (body_height terms.paper)
+              (blocks_of (tune_of header score l.0).title (tune_of header score l.0).heights))
+              refl
+          | inr w ↦ faulty (layout_fault tune (FaultKind.NoWay w.0)) (no_way header score w.0 w.1 has w.2)
+        ]
 
-    module _ (header : Header) (written : Score) (is : IsWritten tune terms.defaults terms.manner.flow header written) where
+    module _ (header : Header) (written : Score)
+        (is : IsWritten tune terms.defaults terms.manner.flow header written) where
       -- the score that is drawn is moved, or can't be
-      moves : (drawn : Score) → IsScoreDrawn header.staves written (Ok drawn) → (o : Option Score) → IsMoved drawn header.key terms.manner.by o → IfSome o (λ t. IsGoodScore t × (t.measures ≡ drawn.measures) × (length t.voices ≡ length drawn.voices)) → HasResult
-      moves drawn draws None moved good = faulty (layout_fault tune FaultKind.BadMove) (of_move (record { header = header; written = written; is = is; drawn = drawn; draws = draws; moved = moved }))
+      moves : (drawn : Score) → IsScoreDrawn header.staves written (Ok drawn) → (o : Option Score)
+          → IsMoved drawn header.key terms.manner.by o
+          → IfSome o (λ t. IsGoodScore t × (t.measures ≡ drawn.measures) × (length t.voices ≡ length drawn.voices))
+          → HasResult
+      moves drawn draws None moved good =
+          faulty (layout_fault tune FaultKind.BadMove)
+          (of_move
+          (record { header = header; written = written; is = is; drawn = drawn; draws = draws; moved = moved }))
       moves drawn draws (Some score) moved good = lays header score (record {
         written = written;
         is = is;
@@ -78,28 +94,42 @@ module _ (every_text : EveryTextIsRead) (every_score : EveryScoreIsLaid) where
       })
 
       draws : (r : Result Score Fault) → IsScoreDrawn header.staves written r → IfOk r IsGoodScore → HasResult
-      draws (Err f) drawn good = faulty f (of_share f (record { header = header; written = written; is = is; draws = drawn }))
-      draws (Ok score) drawn good = let m = has_moved score header.key terms.manner.by good in moves score drawn m.0 m.1 m.2
+      draws (Err f) drawn good =
+          faulty f (of_share f (record { header = header; written = written; is = is; draws = drawn }))
+      draws (Ok score) drawn good =
+          let m = has_moved score header.key terms.manner.by good in moves score drawn m.0 m.1 m.2
 
     writes : (header : Header) → HasHeader tune terms.defaults header → HasGoodValues header → HasResult
     writes header has good = elim (every_text.score header tune terms.manner.flow good) [
       | inl f ↦ faulty f.0 (of_score header f.0 has f.1)
-      | inr s ↦ (let d = has_drawn header.staves s.0 s.2 in draws header s.0 (record { read = has; value = s.1; good = s.2 }) d.0 d.1 d.2)
+      | inr s ↦
+          (let d = has_drawn header.staves s.0 s.2 in
+          draws header s.0 (record { read = has; value = s.1; good = s.2 }) d.0 d.1 d.2)
     ]
 
     has_result : IsGoodDefaults terms.defaults → HasResult
-    has_result good = elim (every_text.header tune terms.defaults good) [ inl f ↦ faulty f.0 (of_header f.0 f.1) | inr h ↦ writes h.0 (record { value = h.1; clear = h.2 }) h.3.0 ]
+    has_result good = elim (every_text.header tune terms.defaults good) [
+      | inl f ↦ faulty f.0 (of_header f.0 f.1)
+      | inr h ↦ writes h.0 (record { value = h.1; clear = h.2 }) h.3.0
+    ]
 
     has_outcome : IsGoodDefaults terms.defaults → (o : Outcome) × IsOutcome terms tune o
-    has_outcome good = let r = has_result good in (record { ordinal = tune.ordinal; result = r.0 }, record { ordinal = refl; result = r.1 })
+    has_outcome good =
+        let r = has_result good in
+        (record { ordinal = tune.ordinal; result = r.0 }, record { ordinal = refl; result = r.1 })
 
-  has_outcomes : (terms : Terms) (tunes : List TuneText) → IsGoodDefaults terms.defaults → (os : List Outcome) × AreOutcomes terms tunes os
+  has_outcomes : (terms : Terms) (tunes : List TuneText)
+      → IsGoodDefaults terms.defaults → (os : List Outcome) × AreOutcomes terms tunes os
   has_outcomes terms [] good = ([], tt)
-  has_outcomes terms (tune ∷ tunes) good = let first = has_outcome tune terms good in let others = has_outcomes terms tunes good in (first.0 ∷ others.0, (first.1, others.1))
+  has_outcomes terms (tune ∷ tunes) good =
+      let first = has_outcome tune terms good in
+      let others = has_outcomes terms tunes good in
+      (first.0 ∷ others.0, (first.1, others.1))
 
   pub every_tune : EveryTuneHasAnOutcome
   every_tune = record {
     tune = has_outcome;
     book = λ text manner.
-        has_outcomes (terms_by (defaults_of (book_of text).header) (paper_of (book_of text).header) manner) (book_of text).tunes (defaults_good (book_of text).header);
+        has_outcomes (terms_by (defaults_of (book_of text).header) (paper_of (book_of text).header) manner)
+        (book_of text).tunes (defaults_good (book_of text).header);
   }

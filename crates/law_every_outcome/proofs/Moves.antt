@@ -17,18 +17,27 @@ can_move : (d : Score) (key : Key) (by : ℤ) → Dec (CanMove d key by)
 can_move d key by =
     let voices = (moved_score d key by).voices in
     map_dec (λ h. record { header = h.0; voices = h.1.0; reach = h.1.1 }) (λ can. (can.header, (can.voices, can.reach)))
-    (both (Bool-discrete (on_circle key) true) (both (Bool-discrete (list_all (voice_may (move_from key by)) d.voices) true) (decided (all_in_reach voices) (voices_decide voices))))
+    (both (Bool-discrete (on_circle key) true)
+    (both (Bool-discrete (list_all (voice_may (move_from key by)) d.voices) true)
+    (decided (all_in_reach voices) (voices_decide voices))))
 
 -- what comes of the score is as good, with as many measures and voices
 abbrev HasMoved : Score → Key → ℤ → Type 0
-HasMoved d key by = (r : Option Score) × IsMoved d key by r × IfSome r (λ t. IsGoodScore t × (t.measures ≡ d.measures) × (length t.voices ≡ length d.voices))
+HasMoved d key by =
+    (r : Option Score)
+    × IsMoved d key by r
+    × IfSome r (λ t. IsGoodScore t × (t.measures ≡ d.measures) × (length t.voices ≡ length d.voices))
 
 moved_if : (d : Score) (key : Key) (by : ℤ) → by ≢ pos 0 → IsGoodScore d → Dec (CanMove d key by) → HasMoved d key by
 moved_if d key by far good (yes can) =
-    let is = moved_good (move_from key by) d good can.reach in
-    (Some (moved_score d key by), record { same = λ e. absurd (far e); higher = λ n. (can, refl) }, (is, refl, length-map d.voices (voice_by (move_from key by))))
+    let is = moved_good (move_from key by) d good can.reach in (
+      Some (moved_score d key by),
+      record { same = λ e. absurd (far e); higher = λ n. (can, refl) },
+      (is, refl, length-map d.voices (voice_by (move_from key by))),
+    )
 moved_if d key by far good (no cant) = (None, record { same = λ e. absurd (far e); higher = λ n. cant }, tt)
 
 pub has_moved : (d : Score) (key : Key) (by : ℤ) → IsGoodScore d → HasMoved d key by
-has_moved d key (pos zero) good = (Some d, record { same = λ e. refl; higher = λ n. absurd (n refl) }, (good, refl, refl))
+has_moved d key (pos zero) good =
+    (Some d, record { same = λ e. refl; higher = λ n. absurd (n refl) }, (good, refl, refl))
 has_moved d key by good = moved_if d key by (λ e. cc) good (can_move d key by)

@@ -1,4 +1,5 @@
--- Every tune has an outcome: it is set, or it has a fault. So each book has a list of outcomes, whatever memory there is to find them.
+-- Every tune has an outcome: it is set, or it has a fault. So each book has a list of outcomes, whatever memory there
+-- is to find them.
 use Rattle.std.specs.Prelude.{ℕ, List}
 use Rattle.abc_lines.specs.declared.book.TuneText.{TuneText}
 use Rattle.abc_lines.specs.Books.{book_of}
@@ -12,4 +13,7 @@ pub record EveryTuneHasAnOutcome : Type 0 where
   -- under defaults with good values, as every file header gives them
   pub tune : (tune : TuneText) (terms : Terms) → IsGoodDefaults terms.defaults → (o : Outcome) × IsOutcome terms tune o
   -- and so have the tunes of each book, on its paper and under its file header
-  pub book : (text : List ℕ) (manner : Manner) → (os : List Outcome) × AreOutcomes (terms_by (defaults_of (book_of text).header) (paper_of (book_of text).header) manner) (book_of text).tunes os
+  pub book : (text : List ℕ) (manner : Manner)
+      → (os : List Outcome)
+      × AreOutcomes (terms_by (defaults_of (book_of text).header) (paper_of (book_of text).header) manner)
+      (book_of text).tunes os

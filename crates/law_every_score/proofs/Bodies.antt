@@ -52,26 +52,36 @@ field_given_good (Ok (Field.Voice def)) line at good = (tt, tt)
 field_given_good (Ok (Field.Words text)) line at good = (tt, tt)
 field_given_good (Ok _) line at good = tt
 
-sound_good : (heads : List Head) (seen : Bool) (len : Len) → IsGoodLen len → IsGoodSound (sound heads seen len.num len.den)
-sound_good heads seen len good = record { some = good.some; num_high = omega (arith, good.num_high); above = good.above; den_high = omega (arith, good.den_high) }
+sound_good : (heads : List Head) (seen : Bool) (len : Len)
+    → IsGoodLen len → IsGoodSound (sound heads seen len.num len.den)
+sound_good heads seen len good = record {
+  some = good.some;
+  num_high = omega (arith, good.num_high);
+  above = good.above;
+  den_high = omega (arith, good.den_high);
+}
 
 first_good : (heads : List (Head × Len)) → AreGoodHeads heads → IsGoodLen (first_len heads)
 first_good [] good = record { some = omega arith; num_high = omega arith; above = omega arith; den_high = omega arith }
 first_good (h ∷ more) good = good.0
 
 product : (a b : ℕ) → 1 ≤ a → a ≤ 9999 → 1 ≤ b → b ≤ 9999 → (1 ≤ a * b) × (a * b ≤ 2 ^ 40)
-product a b some high more most = (omega (arith, mul-le 1 1 a b some more), omega (arith, mul-le a b 9999 9999 high most))
+product a b some high more most =
+    (omega (arith, mul-le 1 1 a b some more), omega (arith, mul-le a b 9999 9999 high most))
 
 chord_good : (chord : WrittenChord) → AreGoodHeads chord.heads → IsGoodLen chord.len → IsGoodSound (chord_sound chord)
 chord_good chord heads len =
-    let first = first_good chord.heads heads in let num = product (first_len chord.heads).num chord.len.num first.some first.num_high len.some len.num_high in
-    let den = product (first_len chord.heads).den chord.len.den first.above first.den_high len.above len.den_high in record { some = num.0; num_high = num.1; above = den.0; den_high = den.1 }
+    let first = first_good chord.heads heads in
+    let num = product (first_len chord.heads).num chord.len.num first.some first.num_high len.some len.num_high in
+    let den = product (first_len chord.heads).den chord.len.den first.above first.den_high len.above len.den_high in
+    record { some = num.0; num_high = num.1; above = den.0; den_high = den.1 }
 
 cut_good : (on : Bool) (line at : ℕ) → AreGood (cut_given on line at)
 cut_good true line at = (tt, tt)
 cut_good false line at = tt
 
-token_good : (sets : Breaks) (line : Line) (at : ℕ) (token : Token) → IsGoodToken token → AreGood (item_of_token sets line at token)
+token_good : (sets : Breaks) (line : Line) (at : ℕ) (token : Token)
+    → IsGoodToken token → AreGood (item_of_token sets line at token)
 unfolding item_of_token
 token_good sets line at (Token.Note head len) good = (sound_good (head ∷ []) true len good, tt)
 token_good sets line at (Token.Rest seen len) good = (sound_good [] seen len good, tt)
@@ -79,31 +89,51 @@ token_good sets line at (Token.Measures seen count) good = (good, tt)
 token_good sets line at (Token.Chord chord) good = (chord_good chord good.1 good.2, tt)
 token_good sets line at (Token.Grace slash body) good = (good, tt)
 token_good sets line at (Token.Tuplet p q r) good = (good, tt)
-token_good sets line at (Token.Inline letter text) good = field_given_good (named_field letter text) line.number at (named_good letter text)
+token_good sets line at (Token.Inline letter text) good =
+    field_given_good (named_field letter text) line.number at (named_good letter text)
 token_good sets line at Token.Cut good = cut_good (is_on sets _) line.number at
 token_good sets line at _ good = (tt, tt)
 
-tokens_good : (sets : Breaks) (line : Line) (ts : List Placed) → AreGoodTokens ts → AreGood (flat_map (placed_given sets line) ts)
+tokens_good : (sets : Breaks) (line : Line) (ts : List Placed)
+    → AreGoodTokens ts → AreGood (flat_map (placed_given sets line) ts)
 tokens_good sets line [] good = tt
-tokens_good sets line (placed ∷ ts) good = both_good (placed_given sets line placed) (flat_map (placed_given sets line) ts) (token_good sets line placed.column placed.token good.0) (tokens_good sets line ts good.1)
+tokens_good sets line (placed ∷ ts) good =
+    both_good (placed_given sets line placed) (flat_map (placed_given sets line) ts)
+    (token_good sets line placed.column placed.token good.0) (tokens_good sets line ts good.1)
 
 end_good : (sets : Breaks) (line : Line) (fault : Option Fault) → AreGood (item_of_line_end sets line fault)
 end_good sets line None = (tt, tt)
 end_good sets line (Some fault) = tt
 
 -- ---- what lines give
-line_by : (sets : Breaks) (line : Line) (kind : LineKind) → (given : List ItemOrFault) × KindGives sets line kind given × AreGood given
+line_by : (sets : Breaks) (line : Line) (kind : LineKind)
+    → (given : List ItemOrFault) × KindGives sets line kind given × AreGood given
 line_by sets line LineKind.Music =
-    let n = length line.text in let front = has_front sets.bang n PieceBefore.Other 0 line.text in let fault = option_map (fault_at line) front.1 in
-    let tokens = flat_map (placed_given sets line) front.0 in let good = tokens_good sets line front.0 (good_front sets.bang n PieceBefore.Other 0 line.text front.0 front.1 front.2) in
-    (tokens ++ item_of_line_end sets line fault, (front.0, fault, (front.1, front.2, refl), refl), both_good tokens (item_of_line_end sets line fault) good (end_good sets line fault))
-line_by sets line _ = (item_of_field (field_of line.text) line.number 1, refl, field_given_good (field_of line.text) line.number 1 (field_good line.text))
+    let n = length line.text in
+    let front = has_front sets.bang n PieceBefore.Other 0 line.text in
+    let fault = option_map (fault_at line) front.1 in
+    let tokens = flat_map (placed_given sets line) front.0 in
+    let good =
+    tokens_good sets line front.0 (good_front sets.bang n PieceBefore.Other 0 line.text front.0 front.1 front.2) in (
+      tokens ++ item_of_line_end sets line fault,
+      (front.0, fault, (front.1, front.2, refl), refl),
+      both_good tokens (item_of_line_end sets line fault) good (end_good sets line fault),
+    )
+line_by sets line _ = (
+  item_of_field (field_of line.text) line.number 1,
+  refl,
+  field_given_good (field_of line.text) line.number 1 (field_good line.text),
+)
 
-has_given : (sets : Breaks) (lines : List Line) → (given : List ItemOrFault) × BodyGives sets lines given × AreGood given
+has_given : (sets : Breaks) (lines : List Line)
+    → (given : List ItemOrFault) × BodyGives sets lines given × AreGood given
 has_given sets [] = ([], no_lines, tt)
 has_given sets (line ∷ lines) =
-    let first = line_by sets line (kind_of line.text) in let others = has_given sets lines in
-    (first.0 ++ others.0, one_line line lines first.0 others.0 (first.0 ++ others.0) first.1 others.1 refl, both_good first.0 others.0 first.2 others.2)
+    let first = line_by sets line (kind_of line.text) in let others = has_given sets lines in (
+      first.0 ++ others.0,
+      one_line line lines first.0 others.0 (first.0 ++ others.0) first.1 others.1 refl,
+      both_good first.0 others.0 first.2 others.2,
+    )
 
 items_good : (given : List ItemOrFault) → AreGood given → All IsGoodItem (items_in given)
 items_good [] good = All-nil IsGoodItem
@@ -111,11 +141,27 @@ items_good (fails fault ∷ given) good = items_good given good
 items_good (gives i ∷ given) good = All-cons IsGoodItem i (items_in given) good.0 (items_good given good.1)
 
 abbrev HasBody : Header → List Line → Type 0
-HasBody h lines = ((f : Fault) × HasFault h lines f) ⊎ ((items : List BodyItem) × IsBody h lines items × All IsGoodItem items)
+HasBody h lines =
+    ((f : Fault) × HasFault h lines f) ⊎ ((items : List BodyItem) × IsBody h lines items × All IsGoodItem items)
 
-body_by : (h : Header) (lines : List Line) (given : List ItemOrFault) (fault : Option Fault) → BodyGives h.breaks lines given → AreGood given → first_item_fault (judged_items (declared_ids h) given) ≡ fault → HasBody h lines
-body_by h lines given (Some fault) so good e = inl (fault, record { count = length lines; given = given; gives_so = subst (λ ls. BodyGives h.breaks ls given) (sym (take-length lines)) so; first = e })
-body_by h lines given None so good e = inr (items_in given, record { given = given; gives_so = so; clear = e; are = refl }, items_good given good)
+body_by : (h : Header) (lines : List Line) (given : List ItemOrFault) (fault : Option Fault)
+    → BodyGives h.breaks lines given → AreGood given
+    → first_item_fault (judged_items (declared_ids h) given) ≡ fault
+    → HasBody h lines
+body_by h lines given (Some fault) so good e =
+    inl (
+      fault,
+      record {
+        count = length lines;
+        given = given;
+        gives_so = subst (λ ls. BodyGives h.breaks ls given) (sym (take-length lines)) so;
+        first = e;
+      },
+    )
+body_by h lines given None so good e =
+    inr (items_in given, record { given = given; gives_so = so; clear = e; are = refl }, items_good given good)
 
 pub has_body : (h : Header) (lines : List Line) → HasBody h lines
-has_body h lines = let all = has_given h.breaks lines in body_by h lines all.0 (first_item_fault (judged_items (declared_ids h) all.0)) all.1 all.2 refl
+has_body h lines =
+    let all = has_given h.breaks lines in
+    body_by h lines all.0 (first_item_fault (judged_items (declared_ids h) all.0)) all.1 all.2 refl

@@ -39,7 +39,8 @@ key_by_good (KeyStart.Sharps n) ks = laid_good (signs_of n) (listed_signs ks) (s
 key_by_good KeyStart.Pipes ks = laid_good pipe_signs (listed_signs ks) pipes_good
 key_by_good _ ks = tt
 
-key_from_good : (start : KeyStart) (words : Option (List KeyWord)) → IfSome (key_from start words) (λ k. IsGoodKeyText k)
+key_from_good : (start : KeyStart) (words : Option (List KeyWord))
+    → IfSome (key_from start words) (λ k. IsGoodKeyText k)
 key_from_good start None = tt
 key_from_good start (Some ks) = key_by_good (start_with start ks) ks
 
@@ -73,8 +74,10 @@ either P b x y one other = cond_both b x y P (λ e. one) (λ e. other)
 
 written_good : (letter : ℕ) (text : List ℕ) → IsGoodField (written_field letter text)
 written_good letter text =
-    either (λ f. IsGoodField f) (letter == 119) (Field.Words text) _ tt (either (λ f. IsGoodField f) (letter == 84) (Field.Title text) _ tt
-    (either (λ f. IsGoodField f) (letter == 67) (Field.Composer text) _ tt (either (λ f. IsGoodField f) (letter == 81) (Field.Tempo text) Field.Other tt tt)))
+    either (λ f. IsGoodField f) (letter == 119) (Field.Words text) _ tt
+    (either (λ f. IsGoodField f) (letter == 84) (Field.Title text) _ tt
+    (either (λ f. IsGoodField f) (letter == 67) (Field.Composer text) _ tt
+    (either (λ f. IsGoodField f) (letter == 81) (Field.Tempo text) Field.Other tt tt)))
 
 pub named_good : (letter : ℕ) (text : List ℕ) → GoodRead (named_field letter text)
 unfolding named_field
@@ -82,7 +85,8 @@ named_good letter text =
     either GoodRead (letter == 75) (key_field (key_of text)) _ (key_read (key_of text) (key_good text))
     (either GoodRead (letter == 77) (meter_field (meter_of text)) _ (meter_read (meter_of text) (meter_good text))
     (either GoodRead (letter == 76) (unit_field (unit_of text)) _ (unit_read (unit_of text) (unit_good text))
-    (either GoodRead (letter == 86) (voice_field (voice_of text)) (Ok (written_field letter text)) (voice_read (voice_of text)) (written_good letter text))))
+    (either GoodRead (letter == 86) (voice_field (voice_of text)) (Ok (written_field letter text))
+    (voice_read (voice_of text)) (written_good letter text))))
 
 breaks_good : (o : Option Breaks) → IsGoodField (breaks_field o)
 breaks_good None = tt
@@ -95,8 +99,10 @@ spread_good (Some s) = tt
 directive_good : (name rest : List ℕ) → IsGoodField (directive_field name rest)
 unfolding directive_field
 directive_good name rest =
-    either (λ f. IsGoodField f) (bytes_eq name (codes "linebreak")) (breaks_field (breaks_of rest)) _ (breaks_good (breaks_of rest))
-    (either (λ f. IsGoodField f) (bytes_eq name (codes "propagate-accidentals")) (spread_field (spread_of rest)) Field.Other (spread_good (spread_of rest)) tt)
+    either (λ f. IsGoodField f) (bytes_eq name (codes "linebreak")) (breaks_field (breaks_of rest)) _
+    (breaks_good (breaks_of rest))
+    (either (λ f. IsGoodField f) (bytes_eq name (codes "propagate-accidentals")) (spread_field (spread_of rest))
+    Field.Other (spread_good (spread_of rest)) tt)
 
 field_by_good : (text : List ℕ) (kind : LineKind) → GoodRead (field_by text kind)
 field_by_good text (LineKind.Field letter) = named_good letter (field_text text)

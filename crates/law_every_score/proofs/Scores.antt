@@ -23,16 +23,27 @@ use Rattle.law_every_score.proofs.Headers.{has_header}
 
 module _ (h : Header) (tune : TuneText) (flow : Bool) (good : HasGoodValues h) where
   abbrev HasScore : Type 0
-  HasScore = ((f : Fault) × IsFaultOf h tune (TuneError.Fault f)) ⊎ ((s : Score) × IsScoreOf h tune flow s × IsGoodScore s)
+  HasScore =
+      ((f : Fault) × IsFaultOf h tune (TuneError.Fault f)) ⊎ ((s : Score) × IsScoreOf h tune flow s × IsGoodScore s)
 
   -- the score of a body without fault, by its first fault
-  score_by : (items : List BodyItem) → IsBody h (body_lines h tune) items → All IsGoodItem items → (o : Option Fault) → IsFirstInOrder (score_faults h items) o → HasScore
+  score_by : (items : List BodyItem)
+      → IsBody h (body_lines h tune) items → All IsGoodItem items → (o : Option Fault)
+      → IsFirstInOrder (score_faults h items) o
+      → HasScore
   score_by items body given (Some f) first = inl (f, inr (record { items = items; body = body; first = first }))
   score_by items body given None clear =
-      inr (score_of h items flow, record { items = items; body = body; clear = clear; value = refl }, good_score h items flow good given (few_ids h (body_lines h tune) items good body) clear)
+      inr (
+        score_of h items flow,
+        record { items = items; body = body; clear = clear; value = refl },
+        good_score h items flow good given (few_ids h (body_lines h tune) items good body) clear,
+      )
 
   has_score : HasScore
-  has_score = elim (has_body h (body_lines h tune)) [ inl f ↦ inl (f.0, inl f.1) | inr b ↦ (let faults = score_faults h b.0 in score_by b.0 b.1 b.2 (first_of faults) (first_is faults)) ]
+  has_score = elim (has_body h (body_lines h tune)) [
+    | inl f ↦ inl (f.0, inl f.1)
+    | inr b ↦ (let faults = score_faults h b.0 in score_by b.0 b.1 b.2 (first_of faults) (first_is faults))
+  ]
 
 pub every_text : EveryTextIsRead
 every_text = record { header = has_header; score = has_score }

@@ -12,6 +12,9 @@ use Rattle.mus_score.specs.GoodScore.{IsGoodScore}
 pub record EveryTextIsRead : Type 0 where
   -- a tune has a first fault of its header, or a header with good values and no fault
   pub header : (tune : TuneText) (defaults : Defaults) → IsGoodDefaults defaults
-      → ((f : Fault) × (header_fault tune ≡ Some f)) ⊎ ((h : Header) × IsHeaderOf tune defaults h × (header_fault tune ≡ None) × IsGoodHeader tune h)
+      → ((f : Fault) × (header_fault tune ≡ Some f))
+      ⊎ ((h : Header) × IsHeaderOf tune defaults h × (header_fault tune ≡ None) × IsGoodHeader tune h)
   -- under such a header it has a first fault of its body or its score, or a good score
-  pub score : (h : Header) (tune : TuneText) (flow : Bool) → HasGoodValues h → ((f : Fault) × IsFaultOf h tune (TuneError.Fault f)) ⊎ ((s : Score) × IsScoreOf h tune flow s × IsGoodScore s)
+  pub score : (h : Header) (tune : TuneText) (flow : Bool)
+      → HasGoodValues h
+      → ((f : Fault) × IsFaultOf h tune (TuneError.Fault f)) ⊎ ((s : Score) × IsScoreOf h tune flow s × IsGoodScore s)

@@ -24,21 +24,32 @@ boxed_alike x y r box e b = record {
 }
 
 -- the mark of the same shape
-other : (xs ys : List Laid) → marks_shape xs ≡ marks_shape ys → (y : Laid) → Contains ys y → (x : Laid) × Contains xs x × (laid_shape x ≡ laid_shape y)
+other : (xs ys : List Laid)
+    → marks_shape xs ≡ marks_shape ys → (y : Laid) → Contains ys y
+    → (x : Laid) × Contains xs x × (laid_shape x ≡ laid_shape y)
 other xs ys e y (i, inside, is) =
-    let less : i < length xs = let a = length-map xs laid_shape in let b = length-map ys laid_shape in let c = ap (λ zs. length zs) e in omega (arith, a, b, c, inside) in (
+    let less : i < length xs = let a = length-map xs laid_shape in
+    let b = length-map ys laid_shape in
+    let c = ap (λ zs. length zs) e in
+    omega (arith, a, b, c, inside) in (
       get_or xs i y,
       Contains-get_or xs i y less,
-      sym (get_or-map laid_shape xs i y (laid_shape y) less) ∙ ap (λ zs. get_or zs i (laid_shape y)) e ∙ get_or-map laid_shape ys i y (laid_shape y) inside ∙ ap laid_shape is,
+      sym (get_or-map laid_shape xs i y (laid_shape y) less)
+          ∙ ap (λ zs. get_or zs i (laid_shape y)) e
+          ∙ get_or-map laid_shape ys i y (laid_shape y) inside
+          ∙ ap laid_shape is,
     )
 
 -- so that they are as far apart
-pub same_apart : (width : ℕ) (at : List ℤ) (xs ys : List Laid) → marks_shape xs ≡ marks_shape ys → AreApart width at xs → AreApart width at ys
+pub same_apart : (width : ℕ) (at : List ℤ) (xs ys : List Laid)
+    → marks_shape xs ≡ marks_shape ys → AreApart width at xs → AreApart width at ys
 same_apart width at xs ys e h = record {
   apart = λ x y r q first second in_x in_y at_x at_y same order.
       let u = other xs ys e x in_x in let v = other xs ys e y in_y in let lane = ap (λ (l : Laid). l.lane) u.2 in
       subst (λ l. ((x_at at r +ℤ first.right) +ℤ pos (gap_of l)) ≤ℤ (x_at at q +ℤ second.left)) lane
-      (h.apart u.0 v.0 r q first second u.1 v.1 (boxed_alike u.0 x r first u.2 at_x) (boxed_alike v.0 y q second v.2 at_y)
+      (h.apart u.0 v.0 r q first second u.1 v.1 (boxed_alike u.0 x r first u.2 at_x)
+      (boxed_alike v.0 y q second v.2 at_y)
       (lane ∙ same ∙ sym (ap (λ (l : Laid). l.lane) v.2)) order);
-  within = λ x r box in_x at_x. let u = other xs ys e x in_x in h.within u.0 r box u.1 (boxed_alike u.0 x r box u.2 at_x);
+  within =
+      λ x r box in_x at_x. let u = other xs ys e x in_x in h.within u.0 r box u.1 (boxed_alike u.0 x r box u.2 at_x);
 }

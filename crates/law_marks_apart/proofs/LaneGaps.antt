@@ -24,22 +24,39 @@ pub record IsPlaceOf (verses : List ℕ) (s count lane : ℕ) : Type 0 where
   pub inside : lane_start verses s + lane < length (gaps_of verses)
   pub gap : slice_index (gaps_of verses) (lane_start verses s + lane) ≡ slice_index (staff_gaps count) lane
 
-place_first : (v : ℕ) (verses : List ℕ) (count lane : ℕ) → v ≡ count → lane < lane_count count → IsPlaceOf (v ∷ verses) zero count lane
+place_first : (v : ℕ) (verses : List ℕ) (count lane : ℕ)
+    → v ≡ count → lane < lane_count count → IsPlaceOf (v ∷ verses) zero count lane
 place_first v verses count lane e l =
-    let place : 0 + lane ≡ lane = omega arith in let long = gaps_long v in let both = length-append (staff_gaps v) (gaps_of verses) in
+    let place : 0 + lane ≡ lane = omega arith in
+    let long = gaps_long v in
+    let both = length-append (staff_gaps v) (gaps_of verses) in
     let inside : lane < length (staff_gaps v) = subst (λ n. lane < n) (sym (gaps_long v ∙ ap lane_count e)) l in
-    record { inside = omega (arith, both, inside); gap = ap (slice_index (gaps_of (v ∷ verses))) place ∙ get_or_append_left (staff_gaps v) (gaps_of verses) 0 lane inside ∙ ap (λ n. slice_index (staff_gaps n) lane) e }
+    record {
+      inside = omega (arith, both, inside);
+      gap = ap (slice_index (gaps_of (v ∷ verses))) place
+          ∙ get_or_append_left (staff_gaps v) (gaps_of verses) 0 lane inside
+          ∙ ap (λ n. slice_index (staff_gaps n) lane) e;
+    }
 
-place_behind : (v : ℕ) (verses : List ℕ) (s count lane : ℕ) → IsPlaceOf verses s count lane → IsPlaceOf (v ∷ verses) (suc s) count lane
+place_behind : (v : ℕ) (verses : List ℕ) (s count lane : ℕ)
+    → IsPlaceOf verses s count lane → IsPlaceOf (v ∷ verses) (suc s) count lane
 place_behind v verses s count lane h =
     let both = length-append (staff_gaps v) (gaps_of verses) in let long = gaps_long v in let inside = h.inside in
-    let place : lane_count v + lane_start verses s + lane ≡ length (staff_gaps v) + (lane_start verses s + lane) = omega (arith, long) in
-    record { inside = omega (arith, both, long, inside); gap = ap (slice_index (gaps_of (v ∷ verses))) place ∙ get_or-append-add (staff_gaps v) (gaps_of verses) (lane_start verses s + lane) 0 ∙ h.gap }
+    let place : lane_count v + lane_start verses s + lane ≡ length (staff_gaps v) + (lane_start verses s + lane) =
+    omega (arith, long) in
+    record {
+      inside = omega (arith, both, long, inside);
+      gap = ap (slice_index (gaps_of (v ∷ verses))) place
+          ∙ get_or-append-add (staff_gaps v) (gaps_of verses) (lane_start verses s + lane) 0
+          ∙ h.gap;
+    }
 
-pub place_of_lane : (verses : List ℕ) (s count lane : ℕ) → slice_get verses s ≡ Some count → lane < lane_count count → IsPlaceOf verses s count lane
+pub place_of_lane : (verses : List ℕ) (s count lane : ℕ)
+    → slice_get verses s ≡ Some count → lane < lane_count count → IsPlaceOf verses s count lane
 place_of_lane [] s count lane e l = absurd (none-some count e)
 place_of_lane (v ∷ verses) zero count lane e l = place_first v verses count lane (same_Some v count e) l
-place_of_lane (v ∷ verses) (suc s) count lane e l = place_behind v verses s count lane (place_of_lane verses s count lane e l)
+place_of_lane (v ∷ verses) (suc s) count lane e l =
+    place_behind v verses s count lane (place_of_lane verses s count lane e l)
 
 -- the number of a lane that keeps its marks apart, and its gap
 pub record IsNumber (count : ℕ) (lane : Lane) (number : ℕ) : Type 0 where
@@ -55,11 +72,17 @@ verse_number n l = grind (arith, nat_tests)
 
 pub number_of : (count : ℕ) (lane : Lane) → Keeps lane → HasLane count lane → (number : ℕ) × IsNumber count lane number
 number_of count Lane.Main keeps has = (0, record { is = refl; low = omega arith; gap = refl })
-number_of count Lane.Above keeps has = (1, record { is = refl; low = omega arith; gap = gap_behind count 0 (omega arith) })
-number_of count lanes.Below keeps has = (2, record { is = refl; low = omega arith; gap = gap_behind count 1 (omega arith) })
+number_of count Lane.Above keeps has =
+    (1, record { is = refl; low = omega arith; gap = gap_behind count 0 (omega arith) })
+number_of count lanes.Below keeps has =
+    (2, record { is = refl; low = omega arith; gap = gap_behind count 1 (omega arith) })
 number_of count (Lane.Verse n) keeps (low, high) =
     let e : suc (1 + n) ≡ 2 + n = omega arith in (
       2 + n,
-      record { is = verse_number n low; low = omega (arith, high); gap = subst (λ k. slice_index (staff_gaps count) k ≡ 300) e (gap_behind count (1 + n) (omega (arith, high))) },
+      record {
+        is = verse_number n low;
+        low = omega (arith, high);
+        gap = subst (λ k. slice_index (staff_gaps count) k ≡ 300) e (gap_behind count (1 + n) (omega (arith, high)));
+      },
     )
 number_of count Lane.Loose keeps has = absurd keeps

@@ -26,15 +26,22 @@ module _ (verses : ℕ) where
 
   all_laned : (keys : List ColumnKey) → OfLaid verses keys IsLaned
   all_laned keys = record {
-    of_marks = λ r. record { of_glyph = λ g dx dy. tt; of_loose = λ g dx dy. tt; of_stem = λ dx from to. tt; of_meter = meter r };
-    of_words = λ r. record { of_syllable = λ low n t verse shown. verse; of_above = λ dy t shown. tt; of_below = λ dy t shown. tt };
+    of_marks =
+        λ r.
+        record { of_glyph = λ g dx dy. tt; of_loose = λ g dx dy. tt; of_stem = λ dx from to. tt; of_meter = meter r };
+    of_words =
+        λ r.
+        record { of_syllable = λ low n t verse shown. verse; of_above = λ dy t shown. tt; of_below = λ dy t shown. tt };
     of_bridge = λ b. tt;
   }
 
 -- the lane of a mark of a staff
-pub lane_of : (keys : List ColumnKey) (lengths : List ℕ) (a b : ℕ) (voices : List DrawnVoice) → AllByRecursion FitsVoice voices
+pub lane_of : (keys : List ColumnKey) (lengths : List ℕ) (a b : ℕ) (voices : List DrawnVoice)
+    → AllByRecursion FitsVoice voices
     → (laid : Laid) → Contains (staff_marks keys lengths a b voices).marks laid → HasLane (verses_on voices) laid.lane
 lane_of keys lengths a b voices fit laid has =
     let verses = verses_on voices in let all = (staff_marks keys lengths a b voices).marks in
     All-contains (IsLaned verses) all laid
-    (All-from_recursion (IsLaned verses) all (staff_all verses keys (IsLaned verses) (all_laned verses keys) lengths a b voices (omega arith) fit)) has
+    (All-from_recursion (IsLaned verses) all
+    (staff_all verses keys (IsLaned verses) (all_laned verses keys) lengths a b voices (omega arith) fit))
+    has

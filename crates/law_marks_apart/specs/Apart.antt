@@ -1,5 +1,5 @@
--- Boxes of marks where their columns stand: those of one lane of a staff in different columns are at least the lane's gap apart,
--- and each box of a lane lies within the width. Loose marks are in no lane.
+-- Boxes of marks where their columns stand: those of one lane of a staff in different columns are at least the lane's
+-- gap apart, and each box of a lane lies within the width. Loose marks are in no lane.
 use Rattle.std.specs.Prelude.{◌≡◌, ℕ, ◌<◌, ℤ, pos, ◌+ℤ◌, ◌≤ℤ◌, List, Some, Contains}
 use Rattle.mus_laid.specs.Boxes.{sides_of}
 use Rattle.mus_laid.specs.declared.boxes.Sides.{Sides}
@@ -26,6 +26,8 @@ pub record IsBoxed (x : Laid) (rank : ℕ) (box : Sides) : Type 0 where
 
 -- the marks of a staff
 pub record AreApart (width : ℕ) (at : List ℤ) (all : List Laid) : Type 0 where
-  pub apart : (x y : Laid) (r q : ℕ) (first second : Sides) → Contains all x → Contains all y → IsBoxed x r first → IsBoxed y q second
+  pub apart : (x y : Laid) (r q : ℕ) (first second : Sides)
+      → Contains all x → Contains all y → IsBoxed x r first → IsBoxed y q second
       → x.lane ≡ y.lane → r < q → ((x_at at r +ℤ first.right) +ℤ pos (gap_of x.lane)) ≤ℤ (x_at at q +ℤ second.left)
-  pub within : (x : Laid) (r : ℕ) (box : Sides) → Contains all x → IsBoxed x r box → (pos 0 ≤ℤ (x_at at r +ℤ box.left)) × ((x_at at r +ℤ box.right) ≤ℤ pos width)
+  pub within : (x : Laid) (r : ℕ) (box : Sides)
+      → Contains all x → IsBoxed x r box → (pos 0 ≤ℤ (x_at at r +ℤ box.left)) × ((x_at at r +ℤ box.right) ≤ℤ pos width)

@@ -13,9 +13,11 @@ use Rattle.law_marks_in_range.specs.Shown.{IsShown}
 use Rattle.law_marks_in_range.specs.Texts.{HasPrinted}
 
 -- what holds of things holds of others that come to the same
-pub same_in : {X Y : Type 0} (f : X → Y) (P : X → Type 0) → ((x y : X) → f x ≡ f y → P x → P y) → (xs ys : List X) → map f xs ≡ map f ys → All P xs → All P ys
+pub same_in : {X Y : Type 0} (f : X → Y) (P : X → Type 0)
+    → ((x y : X) → f x ≡ f y → P x → P y) → (xs ys : List X) → map f xs ≡ map f ys → All P xs → All P ys
 same_in f P h xs ys e all k d l =
-    let less : k < length xs = let a = length-map xs f in let b = length-map ys f in let c = ap (λ zs. length zs) e in omega (arith, a, b, c, l) in
+    let less : k < length xs =
+    let a = length-map xs f in let b = length-map ys f in let c = ap (λ zs. length zs) e in omega (arith, a, b, c, l) in
     h (get_or xs k d) (get_or ys k d)
     (sym (get_or-map f xs k d (f d) less) ∙ ap (λ zs. get_or zs k (f d)) e ∙ get_or-map f ys k d (f d) l) (all k d less)
 
@@ -31,7 +33,9 @@ ranks_shape : (all : List Laid) → marks_ranks (marks_shape all) ≡ marks_rank
 ranks_shape [] = refl
 ranks_shape (x ∷ all) = by x.mark (ranks_shape all)
   where
-    by : (mark : Mark) → marks_ranks (marks_shape all) ≡ marks_ranks all → marks_ranks (marks_shape (record { mark = mark; lane = x.lane } ∷ all)) ≡ marks_ranks (record { mark = mark; lane = x.lane } ∷ all)
+    by : (mark : Mark) → marks_ranks (marks_shape all) ≡ marks_ranks all
+        → marks_ranks (marks_shape (record { mark = mark; lane = x.lane } ∷ all))
+        ≡ marks_ranks (record { mark = mark; lane = x.lane } ∷ all)
     by (Mark.Glyph glyph rank dx dy) e = ap (λ t. rank ∷ t) e
     by (Mark.Words size rank dx dy text) e = ap (λ t. rank ∷ t) e
     by (Mark.Stem rank dx from to) e = ap (λ t. rank ∷ t) e
@@ -39,13 +43,20 @@ ranks_shape (x ∷ all) = by x.mark (ranks_shape all)
 
 staves_shape : (staves : List StaffMarks) → staves_ranks staves ≡ flat_map marks_ranks (map staff_shape staves)
 staves_shape [] = refl
-staves_shape (s ∷ staves) = ap (λ t. t ++ staves_ranks staves) (sym (ranks_shape s.marks)) ∙ ap (λ t. marks_ranks (staff_shape s) ++ t) (staves_shape staves)
+staves_shape (s ∷ staves) =
+    ap (λ t. t ++ staves_ranks staves) (sym (ranks_shape s.marks))
+    ∙ ap (λ t. marks_ranks (staff_shape s) ++ t) (staves_shape staves)
 
 -- of all marks of a system
-all_same : (P : Laid → Type 0) → ((x : Laid) → P (laid_shape x) ≡ P x) → (m n : SystemMarks) → HaveSameShapes m n → All (λ s. All P s.marks) m.staves → All (λ s. All P s.marks) n.staves
+all_same : (P : Laid → Type 0)
+    → ((x : Laid) → P (laid_shape x) ≡ P x) → (m n : SystemMarks) → HaveSameShapes m n
+    → All (λ s. All P s.marks) m.staves
+    → All (λ s. All P s.marks) n.staves
 all_same P is m n same =
     same_in staff_shape (λ s. All P s.marks)
-    (λ s t e. same_in laid_shape P (λ x y f h. subst (λ T. T) (is y) (subst P f (subst (λ T. T) (sym (is x)) h))) s.marks t.marks e)
+    (λ s t e.
+    same_in laid_shape P (λ x y f h. subst (λ T. T) (is y) (subst P f (subst (λ T. T) (sym (is x)) h))) s.marks t.marks
+    e)
     m.staves n.staves same.staves
 
 -- so that what is shown of a system is shown of one that is alike
@@ -58,6 +69,7 @@ alike_shown m n same h = record {
   ranked = subst (λ keys. All (λ s. AreMarksRanked (length keys) s.marks) n.staves) same.keys
       (all_same (λ x. IsRanked (length m.keys) x.mark) (λ x. ranked_shape (length m.keys) x.mark) m n same h.ranked);
   anchored = subst (λ keys. AreAnchored (length keys) (staves_ranks n.staves)) same.keys
-      (subst (AreAnchored (length m.keys)) (staves_shape m.staves ∙ ap (flat_map marks_ranks) same.staves ∙ sym (staves_shape n.staves)) h.anchored);
+      (subst (AreAnchored (length m.keys))
+      (staves_shape m.staves ∙ ap (flat_map marks_ranks) same.staves ∙ sym (staves_shape n.staves)) h.anchored);
   texts = all_same (λ x. HasPrinted x.mark) (λ x. printed_shape x.mark) m n same h.texts;
 }

@@ -31,7 +31,8 @@ module _ (keys : List ColumnKey) where
   AreStems (p ∷ ps) = Contains keys p.key × AllByRecursion (IsFrom p) ps × AreStems ps
 
   -- the last event of a run is the first or one behind it
-  last_is : (P : BeamStem → Type 0) (k : ℕ) (p : BeamStem) (qs : List BeamStem) → P p → AllByRecursion P qs → P (last_at k p qs)
+  last_is : (P : BeamStem → Type 0) (k : ℕ) (p : BeamStem) (qs : List BeamStem)
+      → P p → AllByRecursion P qs → P (last_at k p qs)
   last_is P k p [] own all = own
   last_is P k p (q ∷ qs) own all = by (goes_on_at_level k p q) (last_is P k q qs all.0 all.1)
     where
@@ -44,9 +45,11 @@ module _ (keys : List ColumnKey) where
 
   level : (k : ℕ) (p q : BeamStem) → Contains keys p.key → IsFrom p q → AreBetween keys (level_from k p q)
   unfolding level_from
-  level k p q has from = unless keys (same_key p.key q.key) _ (λ e. let to = from e in record { first = has; last = to.1; rise = to.0 })
+  level k p q has from =
+      unless keys (same_key p.key q.key) _ (λ e. let to = from e in record { first = has; last = to.1; rise = to.0 })
 
-  levels : (k n : ℕ) (p : BeamStem) (qs : List BeamStem) → Contains keys p.key → AllByRecursion (IsFrom p) qs → AreBetween keys (levels_from k n p qs)
+  levels : (k n : ℕ) (p : BeamStem) (qs : List BeamStem)
+      → Contains keys p.key → AllByRecursion (IsFrom p) qs → AreBetween keys (levels_from k n p qs)
   levels k zero p qs has all = tt
   levels k (suc n) p qs has all =
       both keys (level_from k p (last_at k p qs)) (levels_from (k + 1) n p qs)
@@ -57,22 +60,29 @@ module _ (keys : List ColumnKey) where
   beams group flags [] h = tt
   beams group flags (p ∷ ps) h =
       both keys (beams_at group flags p ps) (beams_from p.group p.flags ps)
-      (levels (levels_before p group flags) (p.flags - levels_before p group flags) p ps h.0 h.1) (beams p.group p.flags ps h.2)
+      (levels (levels_before p group flags) (p.flags - levels_before p group flags) p ps h.0 h.1)
+      (beams p.group p.flags ps h.2)
 
   -- ---- the beams of measures
-  from_event : (m : ℕ) (e : DrawnEvent) (es : List DrawnEvent) → AllByRecursion (HasEvent keys m) es → AllByRecursion (IsEarlier e) es → AllByRecursion (IsFrom (beam_stem_at m e)) (map (beam_stem_at m) es)
+  from_event : (m : ℕ) (e : DrawnEvent) (es : List DrawnEvent)
+      → AllByRecursion (HasEvent keys m) es → AllByRecursion (IsEarlier e) es
+      → AllByRecursion (IsFrom (beam_stem_at m e)) (map (beam_stem_at m) es)
   unfolding stem_of
   from_event m e [] all behind = tt
-  from_event m e (f ∷ fs) all behind = (λ apart. (later_below m e f behind.0.0, all.0.note), from_event m e fs all.1 behind.1)
+  from_event m e (f ∷ fs) all behind =
+      (λ apart. (later_below m e f behind.0.0, all.0.note), from_event m e fs all.1 behind.1)
 
-  stems : (m : ℕ) (es : List DrawnEvent) → AllByRecursion (HasEvent keys m) es → GoOn es → AreStems (map (beam_stem_at m) es)
+  stems : (m : ℕ) (es : List DrawnEvent)
+      → AllByRecursion (HasEvent keys m) es → GoOn es → AreStems (map (beam_stem_at m) es)
   unfolding stem_of
   stems m [] all on = tt
   stems m (e ∷ es) all on = (all.0.note, from_event m e es all.1 on.0, stems m es all.1 on.1)
 
-  pub beams_go : (lengths : List ℕ) (m : ℕ) (ds : List DrawnMeasure) → HasMeasures keys lengths m ds → AllGoOn ds → AreBetween keys (beams_between m ds)
+  pub beams_go : (lengths : List ℕ) (m : ℕ) (ds : List DrawnMeasure)
+      → HasMeasures keys lengths m ds → AllGoOn ds → AreBetween keys (beams_between m ds)
   unfolding beam_marks
   beams_go lengths m [] have on = tt
   beams_go lengths m (d ∷ ds) have on =
       both keys (beam_marks (map (beam_stem_at m) d.events)) (beams_between (m + 1) ds)
-      (beams 0 0 (map (beam_stem_at m) d.events) (stems m d.events have.0.events on.0)) (beams_go lengths (m + 1) ds have.1 on.1)
+      (beams 0 0 (map (beam_stem_at m) d.events) (stems m d.events have.0.events on.0))
+      (beams_go lengths (m + 1) ds have.1 on.1)

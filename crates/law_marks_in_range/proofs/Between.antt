@@ -28,9 +28,12 @@ module _ (keys : List ColumnKey) where
   unless true b h = tt
   unless false b h = (h refl, tt)
 
-  span_ranked : (left right : ColumnKey) (s : BridgeShape) → IsBetween left right → IsRanked (length keys) (span_at (key_rank keys left) (key_rank keys right) s)
-  span_ranked left right (BridgeShape.Beam way from to) h = (rank_rises_more keys left right h.rise h.first, rank_less keys right h.last)
-  span_ranked left right (BridgeShape.Arc from to bulge) h = (rank_rises_more keys left right h.rise h.first, rank_less keys right h.last)
+  span_ranked : (left right : ColumnKey) (s : BridgeShape)
+      → IsBetween left right → IsRanked (length keys) (span_at (key_rank keys left) (key_rank keys right) s)
+  span_ranked left right (BridgeShape.Beam way from to) h =
+      (rank_rises_more keys left right h.rise h.first, rank_less keys right h.last)
+  span_ranked left right (BridgeShape.Arc from to bulge) h =
+      (rank_rises_more keys left right h.rise h.first, rank_less keys right h.last)
 
   pub bridges_ranked : (bs : List Bridge) → AreBetween bs → Ranked (length keys) (map (bridge_at keys) bs)
   bridges_ranked [] h = tt

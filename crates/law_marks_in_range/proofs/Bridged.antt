@@ -17,14 +17,22 @@ use Rattle.law_marks_in_range.proofs.Beams.{beams_go}
 use Rattle.law_marks_in_range.proofs.Between.{AreBetween, both}
 use Rattle.law_marks_in_range.proofs.GraceBeams.{grace_beams_go}
 
-module _ (s : Score) (a b : ℕ) (keys : List ColumnKey) (good : IsGoodScore s) (order : a < b) (within : b ≤ s.measures) (are : AreKeys keys (called_keys s (timeline_of s).lengths a b)) where
+module _ (s : Score) (a b : ℕ) (keys : List ColumnKey) (good : IsGoodScore s) (order : a < b) (within : b ≤ s.measures)
+    (are : AreKeys keys (called_keys s (timeline_of s).lengths a b)) where
   pub voices_between : All (λ v. AreBetween keys (bridges_of (timeline_of s).lengths a b (drawn_voice v))) s.voices
   voices_between k d inside =
-      let lengths = (timeline_of s).lengths in let v = get_or s.voices k d in let own : IsGoodVoice v = good.voices k d inside in let count = voice_count v ∙ good.measures k d inside in
-      let ds = (drawn_voice v).measures in let some = slice_range ds a b in let on = voice_goes_on v own in let have = measures_inside s lengths a b keys good within are k d inside in
+      let lengths = (timeline_of s).lengths in
+      let v = get_or s.voices k d in
+      let own : IsGoodVoice v = good.voices k d inside in
+      let count = voice_count v ∙ good.measures k d inside in
+      let ds = (drawn_voice v).measures in
+      let some = slice_range ds a b in
+      let on = voice_goes_on v own in
+      let have = measures_inside s lengths a b keys good within are k d inside in
       both keys (beams_between a some ++ grace_beams_between a some) (arcs_between lengths a b ds (drawn_voice v).arcs)
       (both keys (beams_between a some) (grace_beams_between a some)
-      (beams_go keys lengths a some have (all_take (λ d. GoOn d.events) (b - a) (drop a ds) (all_drop (λ d. GoOn d.events) a ds on)))
+      (beams_go keys lengths a some have
+      (all_take (λ d. GoOn d.events) (b - a) (drop a ds) (all_drop (λ d. GoOn d.events) a ds on)))
       (grace_beams_go keys lengths a some have))
       (arcs_go_on keys lengths a b ds (record {
         order = order;

@@ -1,4 +1,5 @@
--- What is called for is drawn: an event, a grace, a bar and a head have a mark, and a change has one just where it changes what is drawn.
+-- What is called for is drawn: an event, a grace, a bar and a head have a mark, and a change has one just where it
+-- changes what is drawn.
 use Rattle.std.proofs.Common.{◌≡◌, ◌∙◌, ℕ, zero, suc, ℤ, ◌+◌, ◌*◌, ◌≤◌, Bool, true, false, ◌||◌, nat_le, List, [], ◌∷◌}
 use Rattle.std.proofs.Common.{◌++◌, length, Option, Some, None, is_some, refl, ap, arith}
 use Rattle.std.proofs.lemmas.Bool.Decides.{nat_tests}
@@ -64,12 +65,14 @@ clef_has : (c : Option Clef) → has_some (clef_if c) ≡ is_some c
 clef_has None = refl
 clef_has (Some c) = refl
 
-signs_have : (c : Clef) (first : ℕ) (old ss : List Sign) → has_some (new_entries c first old ss) ≡ (nat_le 1 (length old) || nat_le 1 (length ss))
+signs_have : (c : Clef) (first : ℕ) (old ss : List Sign)
+    → has_some (new_entries c first old ss) ≡ (nat_le 1 (length old) || nat_le 1 (length ss))
 signs_have c first [] [] = refl
 signs_have c first (o ∷ old) [] = grind (arith, nat_tests)
 signs_have c first old (s ∷ ss) = grind (arith, nat_tests)
 
-key_has : (c : Clef) (first : ℕ) (old : List Sign) (k : Option Key) → has_some (key_if c first old k) ≡ key_has_mark (nat_le 1 (length old)) k
+key_has : (c : Clef) (first : ℕ) (old : List Sign) (k : Option Key)
+    → has_some (key_if c first old k) ≡ key_has_mark (nat_le 1 (length old)) k
 key_has c first old None = refl
 key_has c first old (Some k) = signs_have c first old k.signs
 
@@ -81,12 +84,19 @@ meter_has dx (Some Meter.Common) = refl
 meter_has dx (Some Meter.Cut) = refl
 meter_has dx (Some (Meter.Ratio num den)) = refl
 
-pub change_has : (c : Clef) (old : List Sign) (ch : Changes) → has_some (change_marks c old ch) ≡ change_has_mark (nat_le 1 (length old)) ch
+pub change_has : (c : Clef) (old : List Sign) (ch : Changes)
+    → has_some (change_marks c old ch) ≡ change_has_mark (nat_le 1 (length old)) ch
 unfolding change_marks
 change_has c old ch =
-    let x = behind_clef ch.clef in let key = key_if c (x + entry_gap) old ch.key in let meter = meter_if (x + entry_step * count_if old ch.key) ch.meter in
+    let x = behind_clef ch.clef in
+    let key = key_if c (x + entry_gap) old ch.key in
+    let meter = meter_if (x + entry_step * count_if old ch.key) ch.meter in
     either (clef_if ch.clef ++ key) meter ∙ ap (λ b. b || has_some meter) (either (clef_if ch.clef) key)
-    ∙ rw (clef_has ch.clef, key_has c (x + entry_gap) old ch.key, meter_has (x + entry_step * count_if old ch.key) ch.meter) refl
+    ∙ rw (
+      clef_has ch.clef,
+      key_has c (x + entry_gap) old ch.key,
+      meter_has (x + entry_step * count_if old ch.key) ch.meter,
+    ) refl
 
 -- ---- events
 shorts_some : (g : Glyph) (top : ℤ) (n : ℕ) → 1 ≤ n → HasSome (short_rests g top 0 n)
@@ -103,28 +113,39 @@ rest_some raise Base.N16 n e = shorts_some _ _ n (omega (arith, e))
 rest_some raise Base.N32 n e = shorts_some _ _ n (omega (arith, e))
 rest_some raise Base.N64 n e = shorts_some _ _ n (omega (arith, e))
 
-look_some : (raise : ℤ) (look : Look) (base : Base) (dots n : ℕ) → n ≡ flags_of base → HasSome (rest_marks raise look base dots n)
+look_some : (raise : ℤ) (look : Look) (base : Base) (dots n : ℕ)
+    → n ≡ flags_of base → HasSome (rest_marks raise look base dots n)
 look_some raise Look.Unseen base dots n e = refl
 look_some raise Look.Whole base dots n e = refl
-look_some raise Look.Seen base dots n e = left (rest_glyphs raise base n) (rest_dots raise 0 dots) (rest_some raise base n e)
+look_some raise Look.Seen base dots n e =
+    left (rest_glyphs raise base n) (rest_dots raise 0 dots) (rest_some raise base n e)
 
-heads_some : (c : Clef) (g : Glyph) (h : Head) (hs : List Head) (dxs : List ℤ) → length dxs ≡ length (h ∷ hs) → HasSome (note_heads c g (h ∷ hs) dxs)
+heads_some : (c : Clef) (g : Glyph) (h : Head) (hs : List Head) (dxs : List ℤ)
+    → length dxs ≡ length (h ∷ hs) → HasSome (note_heads c g (h ∷ hs) dxs)
 heads_some c g h hs [] e = absurd (omega (arith, e))
 heads_some c g h hs (dx ∷ dxs) e = refl
 
-all_heads_some : (c : Clef) (base : Base) (h : Head) (hs : List Head) (p : StemPlan) → length p.shifts ≡ length (h ∷ hs) → HasSome (heads_marks c base (h ∷ hs) p)
+all_heads_some : (c : Clef) (base : Base) (h : Head) (hs : List Head) (p : StemPlan)
+    → length p.shifts ≡ length (h ∷ hs) → HasSome (heads_marks c base (h ∷ hs) p)
 unfolding heads_marks
 all_heads_some c base h hs p e =
     let g = head_glyph base in let beside = sign_marks c (h ∷ hs) p.signs ++ ledger_marks p.ledgers in
-    left (beside ++ note_heads c g (h ∷ hs) p.shifts) (dot_marks p.dots) (right beside (note_heads c g (h ∷ hs) p.shifts) (heads_some c g h hs p.shifts e))
+    left (beside ++ note_heads c g (h ∷ hs) p.shifts) (dot_marks p.dots)
+    (right beside (note_heads c g (h ∷ hs) p.shifts) (heads_some c g h hs p.shifts e))
 
-body_some : (c : Clef) (raise : ℤ) (hs : List Head) (e : Event) (p : StemPlan) (before after : ℕ) → p.flags ≡ flags_of e.value.base → length p.shifts ≡ length hs → HasSome (body_marks c raise hs e p before after)
+body_some : (c : Clef) (raise : ℤ) (hs : List Head) (e : Event) (p : StemPlan) (before after : ℕ)
+    → p.flags ≡ flags_of e.value.base → length p.shifts ≡ length hs → HasSome (body_marks c raise hs e p before after)
 body_some c raise [] e p before after flags shifts = look_some raise e.look e.value.base e.value.dots p.flags flags
-body_some c raise (h ∷ hs) e p before after flags shifts = left (heads_marks c e.value.base (h ∷ hs) p) (stem_marks p before after) (all_heads_some c e.value.base h hs p shifts)
+body_some c raise (h ∷ hs) e p before after flags shifts =
+    left (heads_marks c e.value.base (h ∷ hs) p) (stem_marks p before after)
+    (all_heads_some c e.value.base h hs p shifts)
 
-pub note_some : (c : Clef) (raise : ℤ) (e : Event) (p : StemPlan) (before after : ℕ) → IsPlanOf e p → HasSome (note_marks c raise e p before after)
+pub note_some : (c : Clef) (raise : ℤ) (e : Event) (p : StemPlan) (before after : ℕ)
+    → IsPlanOf e p → HasSome (note_marks c raise e p before after)
 unfolding note_marks
-note_some c raise e p before after plan = left (body_marks c raise e.heads e p before after) _ (body_some c raise e.heads e p before after plan.flags plan.shifts)
+note_some c raise e p before after plan =
+    left (body_marks c raise e.heads e p before after) _
+    (body_some c raise e.heads e p before after plan.flags plan.shifts)
 
 -- a grace has a stem
 pub grace_some : (c : Clef) (group : Group) (first : Bool) (g : Event) → HasSome (grace_marks c group first g)

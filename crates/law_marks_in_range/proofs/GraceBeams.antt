@@ -23,7 +23,8 @@ more_than_one : (n : ℕ) → (suc n == 1) ≡ false → 0 < n
 more_than_one n e = grind (arith, nat_tests)
 
 module _ (keys : List ColumnKey) where
-  over_graces : (m : ℕ) (e : DrawnEvent) (gs : List Event) → e.flat.graces ≡ gs → HasEvent keys m e → AreBetween keys (beam_over m e gs)
+  over_graces : (m : ℕ) (e : DrawnEvent) (gs : List Event)
+      → e.flat.graces ≡ gs → HasEvent keys m e → AreBetween keys (beam_over m e gs)
   unfolding grace_beam group_of
   over_graces m e [] is has = tt
   over_graces m e (g ∷ gs) is has =
@@ -31,14 +32,20 @@ module _ (keys : List ColumnKey) where
       unless keys (group_of e.clef e.flat.graces e.flat.slash).alone _ (λ alone. record {
         first = has.graces 0 (omega (arith, count));
         last = has.graces (length gs) (omega (arith, count));
-        rise = further_below m e.tick 0 (length gs) (more_than_one (length gs) (subst (λ k. (k == 1) ≡ false) count alone));
+        rise =
+            further_below m e.tick 0 (length gs)
+            (more_than_one (length gs) (subst (λ k. (k == 1) ≡ false) count alone));
       })
 
-  events_go : (m : ℕ) (es : List DrawnEvent) → AllByRecursion (HasEvent keys m) es → AreBetween keys (flat_map (event_grace_beam m) es)
+  events_go : (m : ℕ) (es : List DrawnEvent)
+      → AllByRecursion (HasEvent keys m) es → AreBetween keys (flat_map (event_grace_beam m) es)
   events_go m [] all = tt
-  events_go m (e ∷ es) all = both keys (event_grace_beam m e) (flat_map (event_grace_beam m) es) (over_graces m e e.flat.graces refl all.0) (events_go m es all.1)
+  events_go m (e ∷ es) all =
+      both keys (event_grace_beam m e) (flat_map (event_grace_beam m) es) (over_graces m e e.flat.graces refl all.0)
+      (events_go m es all.1)
 
-  pub grace_beams_go : (lengths : List ℕ) (m : ℕ) (ds : List DrawnMeasure) → HasMeasures keys lengths m ds → AreBetween keys (grace_beams_between m ds)
+  pub grace_beams_go : (lengths : List ℕ) (m : ℕ) (ds : List DrawnMeasure)
+      → HasMeasures keys lengths m ds → AreBetween keys (grace_beams_between m ds)
   grace_beams_go lengths m [] have = tt
   grace_beams_go lengths m (d ∷ ds) have =
       both keys (flat_map (event_grace_beam m) d.events) (grace_beams_between (m + 1) ds)

@@ -36,16 +36,21 @@ use Rattle.law_marks_in_range.proofs.Standing.{HasRank, same_rank}
 use Rattle.law_marks_in_range.proofs.Staves.{IsInside, own_columns, staff_holds, staff_ranked}
 
 -- what one of some things has, others have by that thing
-of_each : {X K N : Type 0} (f : X → List K) (g : X → List N) (k : K) (n : N) (xs : List X) → AllByRecursion (λ x. Contains (f x) k → Contains (g x) n) xs → Contains (flat_map f xs) k → Contains (flat_map g xs) n
+of_each : {X K N : Type 0} (f : X → List K) (g : X → List N) (k : K) (n : N) (xs : List X)
+    → AllByRecursion (λ x. Contains (f x) k → Contains (g x) n) xs
+    → Contains (flat_map f xs) k
+    → Contains (flat_map g xs) n
 of_each f g k n [] h (i, inside, is) = absurd (omega (arith, inside))
 of_each f g k n (x ∷ xs) h has = elim (Contains-append_cases (f x) (flat_map f xs) k has) [
   | inl own ↦ Contains-append_left (g x) (flat_map g xs) n (h.0 own)
   | inr more ↦ Contains-append_right (g x) (flat_map g xs) n (of_each f g k n xs h.1 more)
 ]
 
-over_groups : {X Y : Type 0} (f : X → List Y) (groups : List (List X)) → flat_map f (flat_map (λ g. g) groups) ≡ flat_map (flat_map f) groups
+over_groups : {X Y : Type 0} (f : X → List Y) (groups : List (List X))
+    → flat_map f (flat_map (λ g. g) groups) ≡ flat_map (flat_map f) groups
 over_groups f [] = refl
-over_groups f (g ∷ groups) = flat_map-append f g (flat_map (λ g. g) groups) ∙ ap (λ t. flat_map f g ++ t) (over_groups f groups)
+over_groups f (g ∷ groups) =
+    flat_map-append f g (flat_map (λ g. g) groups) ∙ ap (λ t. flat_map f g ++ t) (over_groups f groups)
 
 -- the rank of a mark is among those of its list
 equal : (r q : ℕ) → (r == q) ≡ true → q ≡ r
@@ -55,10 +60,14 @@ rank_is : (r : ℕ) (o : Option ℕ) → is_rank r o ≡ true → o ≡ Some r
 rank_is r None e = absurd (false_not_true e)
 rank_is r (Some q) e = ap Some (equal r q e)
 
-rank_held : (r : ℕ) (x : Laid) (xs : List Laid) → anchor_rank x.mark ≡ Some r → Contains xs x → Contains (marks_ranks xs) r
+rank_held : (r : ℕ) (x : Laid) (xs : List Laid)
+    → anchor_rank x.mark ≡ Some r → Contains xs x → Contains (marks_ranks xs) r
 rank_held r x [] is (i, inside, same) = absurd (omega (arith, inside))
-rank_held r x (y ∷ xs) is (zero, inside, same) = subst (λ o. Contains (cons_option o (marks_ranks xs)) r) (sym (ap (λ (l : Laid). anchor_rank l.mark) same ∙ is)) (here r (marks_ranks xs))
-rank_held r x (y ∷ xs) is (suc i, inside, same) = by (anchor_rank y.mark) (rank_held r x xs is (i, omega (arith, inside), same))
+rank_held r x (y ∷ xs) is (zero, inside, same) =
+    subst (λ o. Contains (cons_option o (marks_ranks xs)) r) (sym (ap (λ (l : Laid). anchor_rank l.mark) same ∙ is))
+    (here r (marks_ranks xs))
+rank_held r x (y ∷ xs) is (suc i, inside, same) =
+    by (anchor_rank y.mark) (rank_held r x xs is (i, omega (arith, inside), same))
   where
     by : (o : Option ℕ) → Contains (marks_ranks xs) r → Contains (cons_option o (marks_ranks xs)) r
     by None more = more
@@ -70,7 +79,8 @@ ranks_hold r xs h = rank_held r h.0 xs (rank_is r (anchor_rank h.0.mark) h.2) h.
 found : (n : ℕ) (ranks : List ℕ) → Contains ranks n → IsTrue (list_any (λ r. n == r) ranks)
 found n ranks (i, inside, is) = list_any_at (λ r. n == r) ranks i n inside (ap (λ r. n == r) is ∙ same_rank n)
 
-module _ (s : Score) (a b : ℕ) (m : SystemMarks) (good : IsGoodScore s) (rises : a < b) (within : b ≤ s.measures) (call : IsCall s (timeline_of s) a b m) where
+module _ (s : Score) (a b : ℕ) (m : SystemMarks) (good : IsGoodScore s) (rises : a < b) (within : b ≤ s.measures)
+    (call : IsCall s (timeline_of s) a b m) where
   abbrev lengths : List ℕ
   lengths = (timeline_of s).lengths
 
@@ -83,57 +93,93 @@ module _ (s : Score) (a b : ℕ) (m : SystemMarks) (good : IsGoodScore s) (rises
       let same = voice_count v ∙ good.measures k d inside in record {
         long = omega (arith, within, same);
         planned = voice_planned v;
-        among = subst (λ t. AreAmong t m.keys) (staff_same lengths a b v) (voices_called s lengths a b m.keys call.keys k d inside);
+        among =
+            subst (λ t. AreAmong t m.keys) (staff_same lengths a b v)
+            (voices_called s lengths a b m.keys call.keys k d inside);
         between = voices_between s a b m.keys good rises within call.keys k d inside;
       })
 
   staves_inside : AllByRecursion (AllByRecursion (IsInside m.keys lengths a b)) (drawn_staves s)
-  staves_inside = let voices = map drawn_voice s.voices in grouped_all is_drawn_lower (IsInside m.keys lengths a b) voices (recursion_from_All (IsInside m.keys lengths a b) voices voices_inside)
+  staves_inside =
+      let voices = map drawn_voice s.voices in
+      grouped_all is_drawn_lower (IsInside m.keys lengths a b) voices
+      (recursion_from_All (IsInside m.keys lengths a b) voices voices_inside)
 
-  each_ranked : (staves : List (List DrawnVoice)) → AllByRecursion (AllByRecursion (IsInside m.keys lengths a b)) staves → AllByRecursion (λ (s : StaffMarks). AreMarksRanked (length m.keys) s.marks) (map staff staves)
+  each_ranked : (staves : List (List DrawnVoice))
+      → AllByRecursion (AllByRecursion (IsInside m.keys lengths a b)) staves
+      → AllByRecursion (λ (s : StaffMarks). AreMarksRanked (length m.keys) s.marks) (map staff staves)
   each_ranked [] h = tt
-  each_ranked (voices ∷ staves) h = (All-from_recursion (λ laid. IsRanked (length m.keys) laid.mark) (staff voices).marks (staff_ranked m.keys lengths a b voices rises h.0), each_ranked staves h.1)
+  each_ranked (voices ∷ staves) h = (
+    All-from_recursion (λ laid. IsRanked (length m.keys) laid.mark) (staff voices).marks
+        (staff_ranked m.keys lengths a b voices rises h.0),
+    each_ranked staves h.1,
+  )
 
-  each_holds : (k : ColumnKey) → Contains m.keys k → (staves : List (List DrawnVoice)) → AllByRecursion (AllByRecursion (IsInside m.keys lengths a b)) staves
-      → AllByRecursion (λ voices. Contains (flat_map (own_columns lengths a b) voices) k → Contains (marks_ranks (staff voices).marks) (key_rank m.keys k)) staves
+  each_holds : (k : ColumnKey)
+      → Contains m.keys k → (staves : List (List DrawnVoice))
+      → AllByRecursion (AllByRecursion (IsInside m.keys lengths a b)) staves
+      → AllByRecursion
+      (λ voices.
+      Contains (flat_map (own_columns lengths a b) voices) k
+      → Contains (marks_ranks (staff voices).marks) (key_rank m.keys k))
+      staves
   each_holds k inside [] h = tt
-  each_holds k inside (voices ∷ staves) h = (λ has. ranks_hold (key_rank m.keys k) (staff voices).marks (staff_holds m.keys lengths a b voices rises h.0 k inside has), each_holds k inside staves h.1)
+  each_holds k inside (voices ∷ staves) h = (
+    λ has.
+        ranks_hold (key_rank m.keys k) (staff voices).marks
+        (staff_holds m.keys lengths a b voices rises h.0 k inside has),
+    each_holds k inside staves h.1,
+  )
 
   -- a column that is called for is called for by a staff
-  staff_calls : (k : ColumnKey) → Contains m.keys k → Contains (flat_map (flat_map (own_columns lengths a b)) (drawn_staves s)) k
+  staff_calls : (k : ColumnKey)
+      → Contains m.keys k → Contains (flat_map (flat_map (own_columns lengths a b)) (drawn_staves s)) k
   staff_calls k inside =
       let own = own_columns lengths a b in let voices = map drawn_voice s.voices in
       subst (λ t. Contains t k) (over_groups own (drawn_staves s))
       (subst (λ t. Contains (flat_map own t) k) (sym (grouped_whole is_drawn_lower voices))
       (subst (λ t. Contains t k) (sym (flat_map-map own drawn_voice s.voices))
       (of_each (voice_keys lengths a b) (λ v. own (drawn_voice v)) k k s.voices
-      (recursion_from_All _ s.voices (λ i d within'. subst (λ t. Contains t k) (staff_same lengths a b _))) (call.keys.only k inside))))
+      (recursion_from_All _ s.voices (λ i d within'. subst (λ t. Contains t k) (staff_same lengths a b _)))
+      (call.keys.only k inside))))
 
   staves_anchored : AreAnchored (length m.keys) (staves_ranks (map staff (drawn_staves s)))
   staves_anchored i inside =
-      let key = get_or m.keys i (head_key a) in let held = Contains-get_or m.keys i (head_key a) inside in let ranks = λ (voices : List DrawnVoice). marks_ranks (staff voices).marks in
+      let key = get_or m.keys i (head_key a) in
+      let held = Contains-get_or m.keys i (head_key a) inside in
+      let ranks = λ (voices : List DrawnVoice). marks_ranks (staff voices).marks in
       found i (staves_ranks (map staff (drawn_staves s)))
       (subst (λ ns. Contains ns i) (sym (flat_map-map (λ (t : StaffMarks). marks_ranks t.marks) staff (drawn_staves s)))
       (subst (Contains (flat_map ranks (drawn_staves s))) (rank_at_place m.keys i (head_key a) call.keys.rise inside)
-      (of_each (flat_map (own_columns lengths a b)) ranks key (key_rank m.keys key) (drawn_staves s) (each_holds key held (drawn_staves s) staves_inside) (staff_calls key held))))
+      (of_each (flat_map (own_columns lengths a b)) ranks key (key_rank m.keys key) (drawn_staves s)
+      (each_holds key held (drawn_staves s) staves_inside) (staff_calls key held))))
 
   staves_some : 1 ≤ length s.voices → 1 ≤ length (drawn_staves s)
   staves_some some = by (drawn_staves s) (grouped_whole is_drawn_lower (map drawn_voice s.voices))
     where
       by : (staves : List (List DrawnVoice)) → flat_map (λ g. g) staves ≡ map drawn_voice s.voices → 1 ≤ length staves
-      by [] e = let long = ap (λ vs. length vs) e in let count = length-map s.voices drawn_voice in omega (arith, long, count, some)
+      by [] e =
+          let long = ap (λ vs. length vs) e in
+          let count = length-map s.voices drawn_voice in
+          omega (arith, long, count, some)
       by (voices ∷ staves) e = omega arith
 
 -- what a score with a voice calls for in some of its measures can be shown
-pub call_shown : (s : Score) (a b : ℕ) (m : SystemMarks) → IsGoodScore s → 1 ≤ length s.voices → a < b → b ≤ s.measures → IsCall s (timeline_of s) a b m → IsShown m
+pub call_shown : (s : Score) (a b : ℕ) (m : SystemMarks)
+    → IsGoodScore s → 1 ≤ length s.voices → a < b → b ≤ s.measures → IsCall s (timeline_of s) a b m → IsShown m
 call_shown s a b m good some rises within call =
     let staff = staff_marks m.keys (timeline_of s).lengths a b in let count = length-map (drawn_staves s) staff in
     let staves = staves_some s a b m good rises within call some in record {
       rises = let from = call.from in let to = call.to in omega (arith, rises);
       staves = subst (λ (staves : List StaffMarks). 1 ≤ length staves) (sym call.staves) (omega (arith, count, staves));
-      ranked = subst (λ staves. All (λ (staff : StaffMarks). AreMarksRanked (length m.keys) staff.marks) staves) (sym call.staves)
-          (All-from_recursion (λ (staff : StaffMarks). AreMarksRanked (length m.keys) staff.marks) (map staff (drawn_staves s))
+      ranked =
+          subst (λ staves. All (λ (staff : StaffMarks). AreMarksRanked (length m.keys) staff.marks) staves)
+          (sym call.staves)
+          (All-from_recursion (λ (staff : StaffMarks). AreMarksRanked (length m.keys) staff.marks)
+          (map staff (drawn_staves s))
           (each_ranked s a b m good rises within call (drawn_staves s) (staves_inside s a b m good rises within call)));
-      anchored = subst (λ staves. AreAnchored (length m.keys) (staves_ranks staves)) (sym call.staves) (staves_anchored s a b m good rises within call);
+      anchored =
+          subst (λ staves. AreAnchored (length m.keys) (staves_ranks staves)) (sym call.staves)
+          (staves_anchored s a b m good rises within call);
       texts = texts_printed s (timeline_of s) a b m good call;
     }

@@ -40,13 +40,15 @@ Along R [] (y ∷ ys) = ⊥
 Along R (x ∷ xs) [] = ⊥
 Along R (x ∷ xs) (y ∷ ys) = R x y × Along R xs ys
 
-along_append : {A B : Type 0} (R : A → B → Type 0) (xs xt : List A) (ys yt : List B) → Along R xs ys → Along R xt yt → Along R (xs ++ xt) (ys ++ yt)
+along_append : {A B : Type 0} (R : A → B → Type 0) (xs xt : List A) (ys yt : List B)
+    → Along R xs ys → Along R xt yt → Along R (xs ++ xt) (ys ++ yt)
 along_append R [] xt [] yt h g = g
 along_append R [] xt (y ∷ ys) yt h g = absurd h
 along_append R (x ∷ xs) xt [] yt h g = absurd h
 along_append R (x ∷ xs) xt (y ∷ ys) yt h g = (h.0, along_append R xs xt ys yt h.1 g)
 
-along_through : {A B C : Type 0} (R : A → B → Type 0) (S : B → C → Type 0) (T : A → C → Type 0) → ((x : A) (y : B) (z : C) → R x y → S y z → T x z)
+along_through : {A B C : Type 0} (R : A → B → Type 0) (S : B → C → Type 0) (T : A → C → Type 0)
+    → ((x : A) (y : B) (z : C) → R x y → S y z → T x z)
     → (xs : List A) (ys : List B) (zs : List C) → Along R xs ys → Along S ys zs → Along T xs zs
 along_through R S T f [] [] [] h g = tt
 along_through R S T f [] [] (z ∷ zs) h g = absurd g
@@ -60,16 +62,22 @@ either_length : (b : Bool) (xs ys : List ℤ) (n : ℕ) → length xs ≡ n → 
 either_length true xs ys n h g = h
 either_length false xs ys n h g = g
 
-shifted_length : (dx : ℤ) (b : Option LastHead) (ts : List Taken) (xs : List ℤ) → length (shifted dx b ts xs) ≡ length xs
+shifted_length : (dx : ℤ) (b : Option LastHead) (ts : List Taken) (xs : List ℤ)
+    → length (shifted dx b ts xs) ≡ length xs
 shifted_length dx b [] xs = refl
 shifted_length dx b (t ∷ ts) xs =
-    either_length (gives_way b t.level) (shifted dx (Some (record { level = t.level; moved = true })) ts (slice_set xs t.place dx)) (shifted dx (Some (record { level = t.level; moved = false })) ts xs) (length xs)
-    (shifted_length dx (Some (record { level = t.level; moved = true })) ts (slice_set xs t.place dx) ∙ length-set xs t.place dx)
+    either_length (gives_way b t.level)
+    (shifted dx (Some (record { level = t.level; moved = true })) ts (slice_set xs t.place dx))
+    (shifted dx (Some (record { level = t.level; moved = false })) ts xs) (length xs)
+    (shifted_length dx (Some (record { level = t.level; moved = true })) ts (slice_set xs t.place dx)
+    ∙ length-set xs t.place dx)
     (shifted_length dx (Some (record { level = t.level; moved = false })) ts xs)
 
 shifts_length : (up : Bool) (ss : List HeadPosition) → length (shifts_of up ss) ≡ length ss
 unfolding shifts_of
-shifts_length up ss = shifted_length (head_shift up) None (taken up ss) (replicate (length ss) (pos 0)) ∙ length-replicate (length ss) (pos 0)
+shifts_length up ss =
+    shifted_length (head_shift up) None (taken up ss) (replicate (length ss) (pos 0))
+    ∙ length-replicate (length ss) (pos 0)
 
 -- ---- the plans of runs
 pub record IsPlanned (e : StemInput) (p : StemPlan) : Type 0 where
@@ -88,9 +96,12 @@ run_planned : (wish : Wish) (run : List StemInput) → Along IsPlanned run (run_
 unfolding run_plans
 run_planned wish run = along_planned (stands_up wish run) (run_end (stands_up wish run) run) (first_event_id run) run
 
-runs_planned : (wish : Wish) (rs : List (List StemInput)) → Along IsPlanned (flat_map (λ r. r) rs) (plans_of_runs wish rs)
+runs_planned : (wish : Wish) (rs : List (List StemInput))
+    → Along IsPlanned (flat_map (λ r. r) rs) (plans_of_runs wish rs)
 runs_planned wish [] = tt
-runs_planned wish (r ∷ rs) = along_append IsPlanned r (flat_map (λ r. r) rs) (run_plans wish r) (plans_of_runs wish rs) (run_planned wish r) (runs_planned wish rs)
+runs_planned wish (r ∷ rs) =
+    along_append IsPlanned r (flat_map (λ r. r) rs) (run_plans wish r) (plans_of_runs wish rs) (run_planned wish r)
+    (runs_planned wish rs)
 
 -- ---- the plans of events
 pub record IsStill (f : Flat) (e : StemInput) : Type 0 where
@@ -105,14 +116,16 @@ still_along : (clef : Clef) (fs : List Flat) → Along IsStill fs (stills fs (cl
 still_along clef [] = tt
 still_along clef (f ∷ fs) = (still f (clef_at clef f.event), still_along (clef_at clef f.event) fs)
 
-stems_planned : (wish : Wish) (clef : Clef) (fs : List Flat) → Along (λ f p. IsPlanOf f.event p) fs (stems_of wish fs (clefs_from clef fs))
+stems_planned : (wish : Wish) (clef : Clef) (fs : List Flat)
+    → Along (λ f p. IsPlanOf f.event p) fs (stems_of wish fs (clefs_from clef fs))
 unfolding stems_of
 stems_planned wish clef fs =
     let es = stills fs (clefs_from clef fs) in
     along_through IsStill IsPlanned (λ f p. IsPlanOf f.event p)
     (λ f e p at by. record { flags = by.flags ∙ ap flags_of at.base; shifts = by.shifts ∙ at.stands })
     fs es (plans_of_runs wish (beams es)) (still_along clef fs)
-    (subst (λ t. Along IsPlanned t (plans_of_runs wish (beams es))) (runs_are_maximal is_joined es).whole (runs_planned wish (beams es)))
+    (subst (λ t. Along IsPlanned t (plans_of_runs wish (beams es))) (runs_are_maximal is_joined es).whole
+    (runs_planned wish (beams es)))
 
 -- ---- drawn events
 -- of a voice at a seat
@@ -129,16 +142,24 @@ pub record IsMeasureAt (seat : Seat) (d : DrawnMeasure) : Type 0 where
   pub events : ArePlanned seat d.events
 
 module _ (style : Style) where
-  events_planned : (tick : ℕ) (now : StaffState) (fs : List Flat) (ps : List StemPlan) → Along (λ f p. IsPlanOf f.event p) fs ps → ArePlanned style.seat (drawn_events style tick now fs ps)
+  events_planned : (tick : ℕ) (now : StaffState) (fs : List Flat) (ps : List StemPlan)
+      → Along (λ f p. IsPlanOf f.event p) fs ps → ArePlanned style.seat (drawn_events style tick now fs ps)
   events_planned tick now [] ps h = tt
   events_planned tick now (f ∷ fs) [] h = tt
-  events_planned tick now (f ∷ fs) (p ∷ ps) h = (record { sits = refl; plan = h.0 }, events_planned (tick + f.duration) (standing_after now f.event.changes) fs ps h.1)
+  events_planned tick now (f ∷ fs) (p ∷ ps) h = (
+    record { sits = refl; plan = h.0 },
+    events_planned (tick + f.duration) (standing_after now f.event.changes) fs ps h.1,
+  )
 
   measure_planned : (now : StaffState) (m : Measure) → IsMeasureAt style.seat (drawn_measure style now m)
   unfolding drawn_measure
-  measure_planned now m = record { sits = refl; events = events_planned 0 now (flats_of m.body) _ (stems_planned style.wish now.clef (flats_of m.body)) }
+  measure_planned now m = record {
+    sits = refl;
+    events = events_planned 0 now (flats_of m.body) _ (stems_planned style.wish now.clef (flats_of m.body));
+  }
 
-  measures_planned : (now : StaffState) (ms : List Measure) → AllByRecursion (IsMeasureAt style.seat) (drawn_measures style now ms)
+  measures_planned : (now : StaffState) (ms : List Measure)
+      → AllByRecursion (IsMeasureAt style.seat) (drawn_measures style now ms)
   measures_planned now [] = tt
   measures_planned now (m ∷ ms) = (measure_planned now m, measures_planned (standing_behind now (flats_of m.body)) ms)
 

@@ -31,7 +31,8 @@ unfolding meter_marks
 meter r dx Meter.Free good = tt
 meter r dx Meter.Common good = (record { printable = refl; some = omega arith; few = omega arith }, tt)
 meter r dx Meter.Cut good = (record { printable = refl; some = omega arith; few = omega arith }, tt)
-meter r dx (Meter.Ratio num den) good = let halving = good.2 in (digits_printed num good.1, (digits_printed den (grind (arith, nat_tests, halving)), tt))
+meter r dx (Meter.Ratio num den) good =
+    let halving = good.2 in (digits_printed num good.1, (digits_printed den (grind (arith, nat_tests, halving)), tt))
 
 word : (t : List ℕ) → IsShown t → IsPrinted t
 word t shown = subst IsPrinted (sym shown.is) (text_printed shown.text (subst (λ u. 1 ≤ length u) shown.is shown.some))
@@ -42,22 +43,33 @@ span first last (BridgeShape.Arc from to bulge) = tt
 
 all_good : (verses : ℕ) (keys : List ColumnKey) → OfLaid verses keys IsGood
 all_good verses keys = record {
-  of_marks = λ r. record { of_glyph = λ g dx dy. tt; of_loose = λ g dx dy. tt; of_stem = λ dx from to. tt; of_meter = meter r };
-  of_words = λ r. record { of_syllable = λ low n t verse shown. word t shown; of_above = λ dy t shown. word t shown; of_below = λ dy t shown. word t shown };
+  of_marks =
+      λ r.
+      record { of_glyph = λ g dx dy. tt; of_loose = λ g dx dy. tt; of_stem = λ dx from to. tt; of_meter = meter r };
+  of_words =
+      λ r. record {
+        of_syllable = λ low n t verse shown. word t shown;
+        of_above = λ dy t shown. word t shown;
+        of_below = λ dy t shown. word t shown;
+      };
   of_bridge = λ b. span _ _ b.span;
 }
 
-staves_printed : (keys : List ColumnKey) (lengths : List ℕ) (a b : ℕ) (staves : List (List DrawnVoice)) → AllByRecursion (AllByRecursion FitsVoice) staves
+staves_printed : (keys : List ColumnKey) (lengths : List ℕ) (a b : ℕ) (staves : List (List DrawnVoice))
+    → AllByRecursion (AllByRecursion FitsVoice) staves
     → AllByRecursion (λ (staff : StaffMarks). HavePrinted staff.marks) (map (staff_marks keys lengths a b) staves)
 staves_printed keys lengths a b [] fit = tt
 staves_printed keys lengths a b (voices ∷ staves) fit =
     let verses = verses_on voices in (
-      All-from_recursion IsGood (staff_marks keys lengths a b voices).marks (staff_all verses keys IsGood (all_good verses keys) lengths a b voices (omega arith) fit.0),
+      All-from_recursion IsGood (staff_marks keys lengths a b voices).marks
+          (staff_all verses keys IsGood (all_good verses keys) lengths a b voices (omega arith) fit.0),
       staves_printed keys lengths a b staves fit.1,
     )
 
-pub texts_printed : (s : Score) (t : Timeline) (a b : ℕ) (m : SystemMarks) → IsGoodScore s → IsCall s t a b m → All (λ s. HavePrinted s.marks) m.staves
+pub texts_printed : (s : Score) (t : Timeline) (a b : ℕ) (m : SystemMarks)
+    → IsGoodScore s → IsCall s t a b m → All (λ s. HavePrinted s.marks) m.staves
 texts_printed s t a b m good call =
     subst (All (λ (staff : StaffMarks). HavePrinted staff.marks)) (sym call.staves)
-    (All-from_recursion (λ (staff : StaffMarks). HavePrinted staff.marks) (map (staff_marks m.keys t.lengths a b) (drawn_staves s))
+    (All-from_recursion (λ (staff : StaffMarks). HavePrinted staff.marks)
+    (map (staff_marks m.keys t.lengths a b) (drawn_staves s))
     (staves_printed m.keys t.lengths a b (drawn_staves s) (staves_fit s good)))

@@ -20,7 +20,10 @@ bytes_printable (b ∷ t) = and_from _ _ (byte_printable b) (bytes_printable t)
 
 -- at most n characters of a text, if these are any
 pub within_printed : (n : ℕ) (t : List ℕ) → n ≤ 60 → 1 ≤ length (printed_within n t) → IsPrinted (printed_within n t)
-within_printed n t most some = let mapped = length-map (take n t) printed_byte in let taken = length-take n t in record { printable = bytes_printable (take n t); some = some; few = omega (arith, mapped, taken, most) }
+within_printed n t most some =
+    let mapped = length-map (take n t) printed_byte in
+    let taken = length-take n t in
+    record { printable = bytes_printable (take n t); some = some; few = omega (arith, mapped, taken, most) }
 
 pub text_printed : (t : List ℕ) → 1 ≤ length (printed t) → IsPrinted (printed t)
 text_printed t some = within_printed 60 t (omega arith) some
@@ -34,10 +37,12 @@ digits_printable n h = decimal_by_steps (λ k ds. IsTrue (list_all is_printable 
   one : (k : ℕ) → k < 10 → IsTrue (list_all is_printable ((48 + k) ∷ []))
   one k h = and_from _ _ (digit_printable k h) refl
 
-  more : (k : ℕ) (ds : List ℕ) → 10 ≤ k → IsTrue (list_all is_printable ds) → IsTrue (list_all is_printable (ds ++ ((48 + k % 10) ∷ [])))
+  more : (k : ℕ) (ds : List ℕ)
+      → 10 ≤ k → IsTrue (list_all is_printable ds) → IsTrue (list_all is_printable (ds ++ ((48 + k % 10) ∷ [])))
   more k ds low h = list_all-append is_printable ds ((48 + k % 10) ∷ []) ∙ and_from _ _ h (one (k % 10) (omega arith))
 
 pub digits_printed : (n : ℕ) → n ≤ 99 → IsPrinted (decimal n)
 digits_printed n h =
-    let some = decimal_nonempty n (omega (arith, h)) in let few = length-decimal-le 2 n (omega arith) (omega (arith, h)) (omega (arith, h)) in
+    let some = decimal_nonempty n (omega (arith, h)) in
+    let few = length-decimal-le 2 n (omega arith) (omega (arith, h)) (omega (arith, h)) in
     record { printable = digits_printable n h; some = omega (arith, some); few = omega (arith, few) }

@@ -38,41 +38,63 @@ module _ (keys : List ColumnKey) (lengths : List ℕ) (a b : ℕ) where
     pub between : AreBetween keys (bridges_of lengths a b v)
 
   -- ---- its voices, one after the other
-  parts_ranked : (room : StaffRoom) (first : ℕ) (before : List TextCounts) (voices : List DrawnVoice) → a < b → AllByRecursion IsInside voices
+  parts_ranked : (room : StaffRoom) (first : ℕ) (before : List TextCounts) (voices : List DrawnVoice)
+      → a < b → AllByRecursion IsInside voices
       → AllByRecursion (Ranked (length keys)) (written_parts keys lengths room a b first before voices)
   parts_ranked room first before [] order h = tt
   parts_ranked room first before (v ∷ voices) order h =
-      let place : Option WordRoom = Some (record { room = room; first = first; before = before }) in let part = own_part keys lengths place a b v in
-      ((columns keys lengths place a b v order h.0.long h.0.planned).ranked h.0.among, parts_ranked room (first + v.verses) (texts_behind (length keys) before part) voices order h.1)
+      let place : Option WordRoom = Some (record { room = room; first = first; before = before }) in
+      let part = own_part keys lengths place a b v in (
+        (columns keys lengths place a b v order h.0.long h.0.planned).ranked h.0.among,
+        parts_ranked room (first + v.verses) (texts_behind (length keys) before part) voices order h.1,
+      )
 
-  parts_hold : (room : StaffRoom) (first : ℕ) (before : List TextCounts) (voices : List DrawnVoice) → a < b → AllByRecursion IsInside voices
-      → (k : ColumnKey) → Contains (flat_map (own_columns lengths a b) voices) k → HasRank (key_rank keys k) (flat_map (λ part. part) (written_parts keys lengths room a b first before voices))
+  parts_hold : (room : StaffRoom) (first : ℕ) (before : List TextCounts) (voices : List DrawnVoice)
+      → a < b → AllByRecursion IsInside voices
+      → (k : ColumnKey) → Contains (flat_map (own_columns lengths a b) voices) k
+      → HasRank (key_rank keys k) (flat_map (λ part. part) (written_parts keys lengths room a b first before voices))
   parts_hold room first before [] order h k has = absurd (let inside = has.1 in omega (arith, inside))
   parts_hold room first before (v ∷ voices) order h k has =
-      let place : Option WordRoom = Some (record { room = room; first = first; before = before }) in let part = own_part keys lengths place a b v in let behind = texts_behind (length keys) before part in
+      let place : Option WordRoom = Some (record { room = room; first = first; before = before }) in
+      let part = own_part keys lengths place a b v in
+      let behind = texts_behind (length keys) before part in
       let more = flat_map (λ part. part) (written_parts keys lengths room a b (first + v.verses) behind voices) in
-      elim (Contains-append_cases (own_columns lengths a b v) (flat_map (own_columns lengths a b) voices) k has) as (λ c. HasRank (key_rank keys k) (part ++ more)) [
-        | inl own ↦ rank_left (key_rank keys k) part more ((columns keys lengths place a b v order h.0.long h.0.planned).anchored k own)
-        | inr others ↦ rank_right (key_rank keys k) part more (parts_hold room (first + v.verses) behind voices order h.1 k others)
+      elim (Contains-append_cases (own_columns lengths a b v) (flat_map (own_columns lengths a b) voices) k has) as
+      (λ c.
+      HasRank (key_rank keys k) (part ++ more)) [
+        | inl own ↦
+            rank_left (key_rank keys k) part more
+            ((columns keys lengths place a b v order h.0.long h.0.planned).anchored k own)
+        | inr others ↦
+            rank_right (key_rank keys k) part more (parts_hold room (first + v.verses) behind voices order h.1 k others)
       ]
 
   -- ---- beams and arcs
-  all_between : (voices : List DrawnVoice) → AllByRecursion IsInside voices → AreBetween keys (flat_map (bridges_of lengths a b) voices)
+  all_between : (voices : List DrawnVoice)
+      → AllByRecursion IsInside voices → AreBetween keys (flat_map (bridges_of lengths a b) voices)
   all_between [] h = tt
-  all_between (v ∷ voices) h = both keys (bridges_of lengths a b v) (flat_map (bridges_of lengths a b) voices) h.0.between (all_between voices h.1)
+  all_between (v ∷ voices) h =
+      both keys (bridges_of lengths a b v) (flat_map (bridges_of lengths a b) voices) h.0.between
+      (all_between voices h.1)
 
   -- ---- the staff
   abbrev parts_of : List DrawnVoice → List (List Laid)
-  parts_of voices = written_parts keys lengths (room_over (verses_on voices) (bare_marks keys lengths a b voices)) a b 1 [] voices
+  parts_of voices =
+      written_parts keys lengths (room_over (verses_on voices) (bare_marks keys lengths a b voices)) a b 1 [] voices
 
-  pub staff_ranked : (voices : List DrawnVoice) → a < b → AllByRecursion IsInside voices → Ranked (length keys) (staff_marks keys lengths a b voices).marks
+  pub staff_ranked : (voices : List DrawnVoice)
+      → a < b → AllByRecursion IsInside voices → Ranked (length keys) (staff_marks keys lengths a b voices).marks
   unfolding staff_marks staff_over
   staff_ranked voices order h =
-      all_append (λ laid. IsRanked (length keys) laid.mark) (by_columns (length keys) (parts_of voices)) (staff_bridges keys lengths a b voices)
-      (columned_all (λ laid. IsRanked (length keys) laid.mark) (length keys) (parts_of voices) (parts_ranked _ 1 [] voices order h))
+      all_append (λ laid. IsRanked (length keys) laid.mark) (by_columns (length keys) (parts_of voices))
+      (staff_bridges keys lengths a b voices)
+      (columned_all (λ laid. IsRanked (length keys) laid.mark) (length keys) (parts_of voices)
+      (parts_ranked _ 1 [] voices order h))
       (bridges_ranked keys (flat_map (bridges_of lengths a b) voices) (all_between voices h))
 
-  pub staff_holds : (voices : List DrawnVoice) → a < b → AllByRecursion IsInside voices → (k : ColumnKey) → Contains keys k → Contains (flat_map (own_columns lengths a b) voices) k
+  pub staff_holds : (voices : List DrawnVoice)
+      → a < b → AllByRecursion IsInside voices → (k : ColumnKey) → Contains keys k
+      → Contains (flat_map (own_columns lengths a b) voices) k
       → HasRank (key_rank keys k) (staff_marks keys lengths a b voices).marks
   unfolding staff_marks staff_over
   staff_holds voices order h k inside has =

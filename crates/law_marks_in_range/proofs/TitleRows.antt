@@ -16,11 +16,18 @@ abbrev Stand : ℕ → ℕ → List TitleRow → Type 0
 Stand width height rows = AllByRecursion (IsGoodRow width height) rows
 
 good_in_more : (width low high : ℕ) (row : TitleRow) → low ≤ high → IsGoodRow width low row → IsGoodRow width high row
-good_in_more width low high row more good = record { left = good.left; right = good.right; top = good.top; bottom = omega (arith, ints, more, good.bottom); text = good.text }
+good_in_more width low high row more good = record {
+  left = good.left;
+  right = good.right;
+  top = good.top;
+  bottom = omega (arith, ints, more, good.bottom);
+  text = good.text;
+}
 
 stand_in_more : (width low high : ℕ) (rows : List TitleRow) → low ≤ high → Stand width low rows → Stand width high rows
 stand_in_more width low high [] more stand = tt
-stand_in_more width low high (row ∷ rows) more stand = (good_in_more width low high row more stand.0, stand_in_more width low high rows more stand.1)
+stand_in_more width low high (row ∷ rows) more stand =
+    (good_in_more width low high row more stand.0, stand_in_more width low high rows more stand.1)
 
 -- a row
 base_within : (size : Size) → base_below size ≤ row_height size
@@ -32,12 +39,20 @@ x_within width Alignment.Middle count = omega arith
 x_within width Alignment.Right count = omega arith
 x_within width Alignment.Left count = omega arith
 
-row_good : (width above : ℕ) (place : Alignment) (text : List ℕ) → IsPrinted text → IsGoodRow width (above + row_height (size_at place)) (title_row_at width above place text)
+row_good : (width above : ℕ) (place : Alignment) (text : List ℕ)
+    → IsPrinted text → IsGoodRow width (above + row_height (size_at place)) (title_row_at width above place text)
 row_good width above place text printed =
     let x = x_within width place (length text) in let base = base_within (size_at place) in
-    record { left = omega (arith, ints); right = omega (arith, ints, x); top = omega (arith, ints); bottom = omega (arith, ints, base); text = printed }
+    record {
+      left = omega (arith, ints);
+      right = omega (arith, ints, x);
+      top = omega (arith, ints);
+      bottom = omega (arith, ints, base);
+      text = printed;
+    }
 
-with_row_stand : (width : ℕ) (block : TitleBlock) (place : Alignment) (text : List ℕ) → (1 ≤ length text → IsPrinted text) → Stand width block.height block.rows
+with_row_stand : (width : ℕ) (block : TitleBlock) (place : Alignment) (text : List ℕ)
+    → (1 ≤ length text → IsPrinted text) → Stand width block.height block.rows
     → Stand width (with_row width block place text).height (with_row width block place text).rows
 with_row_stand width block place [] printed stand = stand
 with_row_stand width block place (byte ∷ text) printed stand =
@@ -45,19 +60,24 @@ with_row_stand width block place (byte ∷ text) printed stand =
     (stand_in_more width block.height (block.height + row_height (size_at place)) block.rows (omega arith) stand)
     (row_good width block.height place (byte ∷ text) (printed (omega arith)), tt)
 
-text_of_row : (width : ℕ) (place : Alignment) (text : List ℕ) → 1 ≤ length (row_text width place text) → IsPrinted (row_text width place text)
+text_of_row : (width : ℕ) (place : Alignment) (text : List ℕ)
+    → 1 ≤ length (row_text width place text) → IsPrinted (row_text width place text)
 unfolding row_text
 text_of_row width place text some = within_printed (most_within width (size_at place)) text (omega arith) some
 
 -- the rows of texts
-texts_stand : (width : ℕ) (place : Alignment) (block : TitleBlock) (texts : List (List ℕ)) → Stand width block.height block.rows
+texts_stand : (width : ℕ) (place : Alignment) (block : TitleBlock) (texts : List (List ℕ))
+    → Stand width block.height block.rows
     → Stand width (with_texts width place block texts).height (with_texts width place block texts).rows
 texts_stand width place block [] stand = stand
 texts_stand width place block (text ∷ texts) stand =
     texts_stand width place (with_text width place block text) texts
     (with_row_stand width block place (row_text width place text) (text_of_row width place text) stand)
 
-pub rows_stand : (width : ℕ) (titles composers : List (List ℕ)) (tempo : Option (List ℕ)) → All (IsGoodRow width (title_block_of width titles composers tempo).height) (title_block_of width titles composers tempo).rows
+pub rows_stand : (width : ℕ) (titles composers : List (List ℕ)) (tempo : Option (List ℕ))
+    → All (IsGoodRow width (title_block_of width titles composers tempo).height)
+    (title_block_of width titles composers tempo).rows
 rows_stand width titles composers tempo =
     All-from_recursion (IsGoodRow width (title_block_of width titles composers tempo).height) _
-    (texts_stand width Alignment.Left _ (tempo_texts tempo) (texts_stand width Alignment.Right _ composers (texts_stand width Alignment.Middle _ titles tt)))
+    (texts_stand width Alignment.Left _ (tempo_texts tempo)
+    (texts_stand width Alignment.Right _ composers (texts_stand width Alignment.Middle _ titles tt)))

@@ -1,4 +1,5 @@
--- What the bridges of a voice tell at a rank: beams tell nothing, and no slur bulges as a tie does; a tie tells the height of its last head.
+-- What the bridges of a voice tell at a rank: beams tell nothing, and no slur bulges as a tie does; a tie tells the
+-- height of its last head.
 use Rattle.std.proofs.Common.{◌≡◌, refl, ap, ◌∙◌, ℕ, zero, suc, ◌+◌, List, [], ◌∷◌, ◌++◌, append-nil, Bool, true, false}
 use Rattle.std.proofs.Common.{◌&&◌, ◌||◌, cond, arith}
 use Rattle.std.proofs.lemmas.Int.{ints, clamps}
@@ -74,20 +75,29 @@ module _ (keys : List ColumnKey) (r : ℕ) where
     abbrev pub arc_ends : Arc → List ℤ
     arc_ends x = flat_map ends (arc_in lengths a b ds x)
 
-    slur_between : (piece : Piece) (x : Arc) → x.tie ≡ false → (e f : Option DrawnEvent) → flat_map ends (arc_between lengths a b piece x e f) ≡ []
+    slur_between : (piece : Piece) (x : Arc)
+        → x.tie ≡ false → (e f : Option DrawnEvent) → flat_map ends (arc_between lengths a b piece x e f) ≡ []
     unfolding arc_mark slur_mark
     slur_between piece x slur e f = grind (arith, slur)
 
-    slur_piece : (piece : Option Piece) (x : Arc) → x.tie ≡ false → flat_map ends (piece_between lengths a b ds x piece) ≡ []
+    slur_piece : (piece : Option Piece) (x : Arc)
+        → x.tie ≡ false → flat_map ends (piece_between lengths a b ds x piece) ≡ []
     slur_piece piece x slur = grind (arith, slur_between, slur)
 
-    arcs_told : (xs : List Arc) → flat_map ends (arcs_between lengths a b ds xs) ≡ flat_map arc_ends (filter (λ x. x.tie) xs)
+    arcs_told : (xs : List Arc)
+        → flat_map ends (arcs_between lengths a b ds xs) ≡ flat_map arc_ends (filter (λ x. x.tie) xs)
     arcs_told [] = refl
-    arcs_told (x ∷ xs) = let slur = slur_piece (piece_of x a b) x in let more = arcs_told xs in flat_map-append ends (arc_in lengths a b ds x) (arcs_between lengths a b ds xs) ∙ grind (arith, slur, more)
+    arcs_told (x ∷ xs) =
+        let slur = slur_piece (piece_of x a b) x in
+        let more = arcs_told xs in
+        flat_map-append ends (arc_in lengths a b ds x) (arcs_between lengths a b ds xs) ∙ grind (arith, slur, more)
 
-  pub bridges_told : (lengths : List ℕ) (a b : ℕ) (v : DrawnVoice) → tie_ends_at (staff_bridges keys lengths a b (v ∷ [])) r ≡ flat_map (arc_ends lengths a b v.measures) (filter (λ x. x.tie) v.arcs)
+  pub bridges_told : (lengths : List ℕ) (a b : ℕ) (v : DrawnVoice)
+      → tie_ends_at (staff_bridges keys lengths a b (v ∷ [])) r
+      ≡ flat_map (arc_ends lengths a b v.measures) (filter (λ x. x.tie) v.arcs)
   bridges_told lengths a b v =
-      flat_map-map (λ l. tied_at r l.mark) (bridge_at keys) (bridges_of lengths a b v ++ []) ∙ simp (append-nil, flat_map-append, all_beams, all_graces, arcs_told lengths a b v.measures v.arcs)
+      flat_map-map (λ l. tied_at r l.mark) (bridge_at keys) (bridges_of lengths a b v ++ [])
+      ∙ simp (append-nil, flat_map-append, all_beams, all_graces, arcs_told lengths a b v.measures v.arcs)
 
 -- ---- the height that a tie tells: it ends 400 from its head, which is in reach
 tie_back : (up : Bool) (c : Clef) (h : Head) → IsInReach c h → beside_head up (dy_of c h) -ℤ tie_bulge up ≡ dy_of c h
@@ -96,12 +106,18 @@ tie_back true c h near = omega (arith, ints, clamps, near.0, near.1)
 tie_back false c h near = omega (arith, ints, clamps, near.0, near.1)
 
 height_told : (up : Bool) (c : Clef) (p : Pitch) (hs : List Head) → AllByRecursion (IsInReach c) hs
-    → (if list_any (has_pitch p) hs then (tie_dy up c (find (has_pitch p) hs) -ℤ tie_bulge up) ∷ [] else []) ≡ height_if c (find (has_pitch p) hs)
+    → (if list_any (has_pitch p) hs then (tie_dy up c (find (has_pitch p) hs) -ℤ tie_bulge up) ∷ [] else [])
+    ≡ height_if c (find (has_pitch p) hs)
 height_told up c p [] near = refl
 height_told up c p (h ∷ hs) near = by (has_pitch p h) (height_told up c p hs near.1)
   where
-    by : (b : Bool) → (if list_any (has_pitch p) hs then (tie_dy up c (find (has_pitch p) hs) -ℤ tie_bulge up) ∷ [] else []) ≡ height_if c (find (has_pitch p) hs)
-        → (if b || list_any (has_pitch p) hs then (tie_dy up c (cond b (Some h) (find (has_pitch p) hs)) -ℤ tie_bulge up) ∷ [] else []) ≡ height_if c (cond b (Some h) (find (has_pitch p) hs))
+    by : (b : Bool)
+        → (if list_any (has_pitch p) hs then (tie_dy up c (find (has_pitch p) hs) -ℤ tie_bulge up) ∷ [] else [])
+        ≡ height_if c (find (has_pitch p) hs)
+        → (if b || list_any (has_pitch p) hs
+        then (tie_dy up c (cond b (Some h) (find (has_pitch p) hs)) -ℤ tie_bulge up) ∷ []
+        else [])
+        ≡ height_if c (cond b (Some h) (find (has_pitch p) hs))
     by true more = ap (λ z. z ∷ []) (tie_back up c h near.0)
     by false more = more
 
@@ -110,14 +126,18 @@ is_tie_bulge up = grind arith
 
 -- ---- the ties from one event to the next, one for each tied head that has its pitch there
 abbrev pub tie_to : ArcEvent → ArcEvent → ℕ → Arc
-tie_to e next k = record { tie = true; first = e.event; last = next.event; head = k; from = e.measure; to = next.measure }
+tie_to e next k =
+    record { tie = true; first = e.event; last = next.event; head = k; from = e.measure; to = next.measure }
 
 module _ (f : Arc → List ℤ) (e next : ArcEvent) where
-  of_head : (k : ℕ) (z : ℤ) (t b : Bool) → f (tie_to e next k) ≡ z ∷ [] → flat_map f (if t && b then tie_to e next k ∷ [] else []) ≡ (if t then if b then z ∷ [] else [] else [])
+  of_head : (k : ℕ) (z : ℤ) (t b : Bool)
+      → f (tie_to e next k) ≡ z ∷ []
+      → flat_map f (if t && b then tie_to e next k ∷ [] else []) ≡ (if t then if b then z ∷ [] else [] else [])
   of_head k z t b told = grind (arith, append-nil, told)
 
   pub ties_here : (up : Bool) (k : ℕ) (c : Clef) (hs : List Head) → AllByRecursion (IsInReach c) next.heads
-      → ((i n : ℕ) (h : Head) → n ≡ i + k → slice_get hs i ≡ Some h → f (tie_to e next n) ≡ (tie_dy up c (find (has_pitch h.pitch) next.heads) -ℤ tie_bulge up) ∷ [])
+      → ((i n : ℕ) (h : Head) → n ≡ i + k → slice_get hs i ≡ Some h
+      → f (tie_to e next n) ≡ (tie_dy up c (find (has_pitch h.pitch) next.heads) -ℤ tie_bulge up) ∷ [])
       → flat_map f (ties_from e k hs next) ≡ tie_heights c hs next.heads
   ties_here up k c [] near here = refl
   ties_here up k c (h ∷ hs) near here =
@@ -129,6 +149,7 @@ module _ (f : Arc → List ℤ) (e next : ArcEvent) where
         ties_here up (suc k) c hs near (λ i n g same. here (suc i) n g (omega (arith, same))),
       ) refl
 
-  pub ties_elsewhere : (k : ℕ) (hs : List Head) → ((n : ℕ) → f (tie_to e next n) ≡ []) → flat_map f (ties_from e k hs next) ≡ []
+  pub ties_elsewhere : (k : ℕ) (hs : List Head)
+      → ((n : ℕ) → f (tie_to e next n) ≡ []) → flat_map f (ties_from e k hs next) ≡ []
   ties_elsewhere k [] none = refl
   ties_elsewhere k (h ∷ hs) none = grind (arith, flat_map-append, none k, ties_elsewhere (suc k) hs none)

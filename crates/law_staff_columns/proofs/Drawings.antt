@@ -49,114 +49,186 @@ use Rattle.law_staff_columns.proofs.Signed.{heads_shifted, signs_placed}
 HasPlaces : StemInput → StemPlan → Type 0
 HasPlaces e p = AreDisplaced p.up e.stands p.shifts × AreInColumns (first_sign p.shifts) e.stands p.signs
 
-along_placed : (up : Bool) (to : ℤ) (group : ℕ) (es more : List StemInput) (ps : List StemPlan) → AllByRecursion (λ e. AllNear e.stands) es → AllZip HasPlaces more ps
+along_placed : (up : Bool) (to : ℤ) (group : ℕ) (es more : List StemInput) (ps : List StemPlan)
+    → AllByRecursion (λ e. AllNear e.stands) es → AllZip HasPlaces more ps
     → AllZip HasPlaces (es ++ more) (plans_along up to group es ++ ps)
 unfolding plan_of HasPlaces
 along_placed up to group [] more ps near placed = placed
-along_placed up to group (e ∷ es) more ps near placed = ((shifts_displace up e.stands near.0, signs_in_columns _ e.stands near.0), along_placed up to group es more ps near.1 placed)
+along_placed up to group (e ∷ es) more ps near placed = (
+  (shifts_displace up e.stands near.0, signs_in_columns _ e.stands near.0),
+  along_placed up to group es more ps near.1 placed,
+)
 
-runs_placed : (wish : Wish) (rs : List (List StemInput)) → AllByRecursion (AllByRecursion (λ e. AllNear e.stands)) rs → AllZip HasPlaces (flat_map (λ r. r) rs) (plans_of_runs wish rs)
+runs_placed : (wish : Wish) (rs : List (List StemInput))
+    → AllByRecursion (AllByRecursion (λ e. AllNear e.stands)) rs
+    → AllZip HasPlaces (flat_map (λ r. r) rs) (plans_of_runs wish rs)
 unfolding run_plans
 runs_placed wish [] near = tt
-runs_placed wish (r ∷ rs) near = along_placed (stands_up wish r) (run_end (stands_up wish r) r) (first_event_id r) r _ _ near.0 (runs_placed wish rs near.1)
+runs_placed wish (r ∷ rs) near =
+    along_placed (stands_up wish r) (run_end (stands_up wish r) r) (first_event_id r) r _ _ near.0
+    (runs_placed wish rs near.1)
 
-stills_near : (clef : Clef) (fs : List Flat) → AreInReach clef fs → AllByRecursion (λ e. AllNear e.stands) (stills fs (clefs_from clef fs))
+stills_near : (clef : Clef) (fs : List Flat)
+    → AreInReach clef fs → AllByRecursion (λ e. AllNear e.stands) (stills fs (clefs_from clef fs))
 unfolding still_of
 stills_near clef [] reach = tt
-stills_near clef (f ∷ fs) reach = (near_of (clef_at clef f.event) f.event.heads reach.0, stills_near (clef_at clef f.event) fs reach.2)
+stills_near clef (f ∷ fs) reach =
+    (near_of (clef_at clef f.event) f.event.heads reach.0, stills_near (clef_at clef f.event) fs reach.2)
 
-stems_placed : (wish : Wish) (clef : Clef) (fs : List Flat) → AreInReach clef fs → AllZip HasPlaces (stills fs (clefs_from clef fs)) (stems_of wish fs (clefs_from clef fs))
+stems_placed : (wish : Wish) (clef : Clef) (fs : List Flat)
+    → AreInReach clef fs → AllZip HasPlaces (stills fs (clefs_from clef fs)) (stems_of wish fs (clefs_from clef fs))
 unfolding stems_of
 stems_placed wish clef fs reach =
-    let es = stills fs (clefs_from clef fs) in let runs = all_in_runs (λ e. AllNear e.stands) is_joined es (stills_near clef fs reach) in
-    subst (λ ds. AllZip HasPlaces ds (plans_of_runs wish (beams es))) (runs_are_maximal is_joined es).whole (runs_placed wish (beams es) runs)
+    let es = stills fs (clefs_from clef fs) in
+    let runs = all_in_runs (λ e. AllNear e.stands) is_joined es (stills_near clef fs reach) in
+    subst (λ ds. AllZip HasPlaces ds (plans_of_runs wish (beams es))) (runs_are_maximal is_joined es).whole
+    (runs_placed wish (beams es) runs)
 
 -- ---- measures as they are drawn, all ends at 0
-events_drawn : (style : Style) (tick : ℕ) (now : StaffState) (fs : List Flat) (ps : List StemPlan) → is_lower style.seat ≡ false → AreInReach now.clef fs → AllZip HasPlaces (stills fs (clefs_from now.clef fs)) ps
-    → (flats_in (map flat_event (drawn_events style tick now fs ps)) ≡ fs) × EventsDrawn now (map flat_event (drawn_events style tick now fs ps))
+events_drawn : (style : Style) (tick : ℕ) (now : StaffState) (fs : List Flat) (ps : List StemPlan)
+    → is_lower style.seat ≡ false → AreInReach now.clef fs → AllZip HasPlaces (stills fs (clefs_from now.clef fs)) ps
+    → (flats_in (map flat_event (drawn_events style tick now fs ps)) ≡ fs)
+    × EventsDrawn now (map flat_event (drawn_events style tick now fs ps))
 unfolding HasPlaces still_of
 events_drawn style tick now [] ps alone reach places = (refl, tt)
 events_drawn style tick now (f ∷ fs) [] alone reach places = absurd places
 events_drawn style tick now (f ∷ fs) (p ∷ ps) alone reach places =
-    let more = events_drawn style (tick + f.duration) (standing_after now f.event.changes) fs ps alone reach.2 places.1 in
+    let more =
+    events_drawn style (tick + f.duration) (standing_after now f.event.changes) fs ps alone reach.2 places.1 in
     let signs = signs_placed (first_sign p.shifts) (clef_at now.clef f.event) f.event.heads p.signs places.0.1 in
-    let shifts = heads_shifted f.event.heads p.shifts (places.0.0.each ∙ length-map f.event.heads (stand_of (clef_at now.clef f.event))) in
-    (ap (λ gs. f ∷ gs) more.0, (record { first = alone; clef = refl; old = refl; signs = signs; shifts = shifts; graces = reach.1 }, more.1))
+    let shifts = heads_shifted f.event.heads p.shifts
+    (places.0.0.each ∙ length-map f.event.heads (stand_of (clef_at now.clef f.event))) in (
+      ap (λ gs. f ∷ gs) more.0,
+      (record { first = alone; clef = refl; old = refl; signs = signs; shifts = shifts; graces = reach.1 }, more.1),
+    )
 
-opening_shown : (now : StaffState) (fs : List Flat) → ((opening_of now fs).clef ≡ (state_shown now fs).clef) × ((opening_of now fs).key ≡ (state_shown now fs).key)
+opening_shown : (now : StaffState) (fs : List Flat)
+    → ((opening_of now fs).clef ≡ (state_shown now fs).clef) × ((opening_of now fs).key ≡ (state_shown now fs).key)
 opening_shown now [] = (refl, refl)
 opening_shown now (f ∷ fs) = (refl, refl)
 
 module _ (keys : List ColumnKey) (a b : ℕ) where
-  events_seated : (style : Style) (m id low tick : ℕ) (now : StaffState) (fs : List Flat) (ps : List StemPlan) → AreInReach now.clef fs → GoOn (drawn_events style tick now fs ps)
-      → AllByRecursion (λ e. (low ≤ e.tick) × (id ≤ e.flat.event.id)) (drawn_events style tick now fs ps) → (a ≤ m → m < b → AllByRecursion (HasEvent keys m) (drawn_events style tick now fs ps))
+  events_seated : (style : Style) (m id low tick : ℕ) (now : StaffState) (fs : List Flat) (ps : List StemPlan)
+      → AreInReach now.clef fs → GoOn (drawn_events style tick now fs ps)
+      → AllByRecursion (λ e. (low ≤ e.tick) × (id ≤ e.flat.event.id)) (drawn_events style tick now fs ps)
+      → (a ≤ m → m < b → AllByRecursion (HasEvent keys m) (drawn_events style tick now fs ps))
       → AreSeated keys a b m id low (map flat_event (drawn_events style tick now fs ps))
   events_seated style m id low tick now [] ps reach on least has = tt
   events_seated style m id low tick now (f ∷ fs) [] reach on least has = tt
   events_seated style m id low tick now (f ∷ fs) (p ∷ ps) reach on least has = (
-    record { id = least.0.1; tick = least.0.0; column = λ from to. (has from to).0.note; heads = recursion_from_All (IsInReach (clef_at now.clef f.event)) f.event.heads reach.0 },
-    events_seated style m (suc f.event.id) (suc tick) (tick + f.duration) (standing_after now f.event.changes) fs ps reach.2 on.1 on.0 (λ from to. (has from to).1),
+    record {
+      id = least.0.1;
+      tick = least.0.0;
+      column = λ from to. (has from to).0.note;
+      heads = recursion_from_All (IsInReach (clef_at now.clef f.event)) f.event.heads reach.0;
+    },
+    events_seated style m (suc f.event.id) (suc tick) (tick + f.duration) (standing_after now f.event.changes) fs ps
+        reach.2 on.1 on.0 (λ from to. (has from to).1),
   )
 
   least : (es : List DrawnEvent) → AllByRecursion (λ e. (0 ≤ e.tick) × (0 ≤ e.flat.event.id)) es
   least [] = tt
   least (e ∷ es) = ((omega arith, omega arith), least es)
 
-  measures_drawn : (style : Style) (m : ℕ) (now : StaffState) (xs : List Measure) → is_lower style.seat ≡ false → AreInReach now.clef (events_of xs) → AllGoOn (drawn_measures style now xs)
-      → ((k n : ℕ) (d : DrawnMeasure) → n ≡ k + m → slice_get (drawn_measures style now xs) k ≡ Some d → a ≤ n → n < b → AllByRecursion (HasEvent keys n) d.events)
+  measures_drawn : (style : Style) (m : ℕ) (now : StaffState) (xs : List Measure)
+      → is_lower style.seat ≡ false → AreInReach now.clef (events_of xs) → AllGoOn (drawn_measures style now xs)
+      → ((k n : ℕ) (d : DrawnMeasure)
+      → n ≡ k + m → slice_get (drawn_measures style now xs) k ≡ Some d → a ≤ n → n < b
+      → AllByRecursion (HasEvent keys n) d.events)
       → MeasuresDrawn keys a b m now xs (map flat_measure (drawn_measures style now xs))
   unfolding drawn_measure
   measures_drawn style m now [] alone reach on has = tt
   measures_drawn style m now (x ∷ xs) alone reach on has =
-      let fs = flats_of x.body in let parts = reach_cut now fs (events_of xs) reach in let shown = opening_shown now fs in let d = drawn_measure style now x in
+      let fs = flats_of x.body in
+      let parts = reach_cut now fs (events_of xs) reach in
+      let shown = opening_shown now fs in
+      let d = drawn_measure style now x in
       let events = events_drawn style 0 now fs _ alone parts.0 (stems_placed style.wish now.clef fs parts.0) in
       let seats = events_seated style m 0 0 0 now fs _ parts.0 on.0 (least d.events) (has 0 m d (omega arith) refl) in (
-        record { first = alone; bar = refl; flats = events.0; clef = shown.0; key = shown.1; events = events.1; seats = seats },
-        measures_drawn style (m + 1) (standing_behind now fs) xs alone parts.1 on.1 (λ k n e same. has (suc k) n e (omega (arith, same))),
+        record {
+          first = alone;
+          bar = refl;
+          flats = events.0;
+          clef = shown.0;
+          key = shown.1;
+          events = events.1;
+          seats = seats;
+        },
+        measures_drawn style (m + 1) (standing_behind now fs) xs alone parts.1 on.1
+            (λ k n e same. has (suc k) n e (omega (arith, same))),
       )
 
   -- ---- ends are of no account
   events_kept : (now : StaffState) (es : List DrawnEvent) → EventsDrawn now (map flat_event es) → EventsDrawn now es
   events_kept now [] drawn = tt
   events_kept now (e ∷ es) drawn =
-      let d = drawn.0 in
-      (record { first = d.first; clef = d.clef; old = d.old; signs = d.signs; shifts = d.shifts; graces = d.graces }, events_kept (standing_after now e.flat.event.changes) es drawn.1)
+      let d = drawn.0 in (
+        record { first = d.first; clef = d.clef; old = d.old; signs = d.signs; shifts = d.shifts; graces = d.graces },
+        events_kept (standing_after now e.flat.event.changes) es drawn.1,
+      )
 
-  seats_kept : (m id tick : ℕ) (es : List DrawnEvent) → AreSeated keys a b m id tick (map flat_event es) → AreSeated keys a b m id tick es
+  seats_kept : (m id tick : ℕ) (es : List DrawnEvent)
+      → AreSeated keys a b m id tick (map flat_event es) → AreSeated keys a b m id tick es
   seats_kept m id tick [] seats = tt
   seats_kept m id tick (e ∷ es) seats =
-      let s = seats.0 in (record { id = s.id; tick = s.tick; column = s.column; heads = s.heads }, seats_kept m (suc e.flat.event.id) (suc e.tick) es seats.1)
+      let s = seats.0 in (
+        record { id = s.id; tick = s.tick; column = s.column; heads = s.heads },
+        seats_kept m (suc e.flat.event.id) (suc e.tick) es seats.1,
+      )
 
-  measures_kept : (m : ℕ) (now : StaffState) (xs : List Measure) (ds : List DrawnMeasure) → MeasuresDrawn keys a b m now xs (map flat_measure ds) → MeasuresDrawn keys a b m now xs ds
+  measures_kept : (m : ℕ) (now : StaffState) (xs : List Measure) (ds : List DrawnMeasure)
+      → MeasuresDrawn keys a b m now xs (map flat_measure ds) → MeasuresDrawn keys a b m now xs ds
   measures_kept m now [] [] drawn = tt
   measures_kept m now (x ∷ xs) (d ∷ ds) drawn =
       let r = drawn.0 in let same = sym (map-map (λ (e : DrawnEvent). e.flat) flat_event d.events) ∙ r.flats in (
-        record { first = r.first; bar = r.bar; flats = same; clef = r.clef; key = r.key; events = events_kept now d.events r.events; seats = seats_kept m 0 0 d.events r.seats },
+        record {
+          first = r.first;
+          bar = r.bar;
+          flats = same;
+          clef = r.clef;
+          key = r.key;
+          events = events_kept now d.events r.events;
+          seats = seats_kept m 0 0 d.events r.seats;
+        },
         measures_kept (m + 1) (standing_behind now (flats_of x.body)) xs ds drawn.1,
       )
   measures_kept m now xs ds drawn = absurd drawn
 
   -- ---- some of the measures
-  pub measures_behind : (k m n : ℕ) (now : StaffState) (xs : List Measure) (ds : List DrawnMeasure) → n ≡ k + m → MeasuresDrawn keys a b m now xs ds
+  pub measures_behind : (k m n : ℕ) (now : StaffState) (xs : List Measure) (ds : List DrawnMeasure)
+      → n ≡ k + m → MeasuresDrawn keys a b m now xs ds
       → MeasuresDrawn keys a b n (standing_through now (take k xs)) (drop k xs) (drop k ds)
-  measures_behind zero m n now xs ds at drawn = let here : m ≡ n = omega (arith, at) in subst (λ i. MeasuresDrawn keys a b i now xs ds) here drawn
+  measures_behind zero m n now xs ds at drawn =
+      let here : m ≡ n = omega (arith, at) in subst (λ i. MeasuresDrawn keys a b i now xs ds) here drawn
   measures_behind (suc k) m n now [] [] at drawn = tt
-  measures_behind (suc k) m n now (x ∷ xs) (d ∷ ds) at drawn = measures_behind k (m + 1) n (standing_behind now (flats_of x.body)) xs ds (omega (arith, at)) drawn.1
+  measures_behind (suc k) m n now (x ∷ xs) (d ∷ ds) at drawn =
+      measures_behind k (m + 1) n (standing_behind now (flats_of x.body)) xs ds (omega (arith, at)) drawn.1
   measures_behind (suc k) m n now xs ds at drawn = absurd drawn
 
-  pub measures_front : (n m : ℕ) (now : StaffState) (xs : List Measure) (ds : List DrawnMeasure) → MeasuresDrawn keys a b m now xs ds → MeasuresDrawn keys a b m now (take n xs) (take n ds)
+  pub measures_front : (n m : ℕ) (now : StaffState) (xs : List Measure) (ds : List DrawnMeasure)
+      → MeasuresDrawn keys a b m now xs ds → MeasuresDrawn keys a b m now (take n xs) (take n ds)
   measures_front zero m now xs ds drawn = tt
   measures_front (suc n) m now [] [] drawn = tt
-  measures_front (suc n) m now (x ∷ xs) (d ∷ ds) drawn = (drawn.0, measures_front n (m + 1) (standing_behind now (flats_of x.body)) xs ds drawn.1)
+  measures_front (suc n) m now (x ∷ xs) (d ∷ ds) drawn =
+      (drawn.0, measures_front n (m + 1) (standing_behind now (flats_of x.body)) xs ds drawn.1)
   measures_front (suc n) m now xs ds drawn = absurd drawn
 
-pub voice_drawn : (s : Score) (v : Voice) (keys : List ColumnKey) (at : List ℤ) (a b : ℕ) → IsGoodScore s → Contains s.voices v → v.seat ≡ Seat.Alone → b ≤ s.measures
-    → AreKeys keys (called_keys s (timeline_of s).lengths a b) → MeasuresDrawn keys a b 0 (standing_of v) v.measures (voice_tilted keys at a b (drawn_voice v)).measures
+pub voice_drawn : (s : Score) (v : Voice) (keys : List ColumnKey) (at : List ℤ) (a b : ℕ)
+    → IsGoodScore s → Contains s.voices v → v.seat ≡ Seat.Alone → b ≤ s.measures
+    → AreKeys keys (called_keys s (timeline_of s).lengths a b)
+    → MeasuresDrawn keys a b 0 (standing_of v) v.measures (voice_tilted keys at a b (drawn_voice v)).measures
 unfolding drawn_voice
 voice_drawn s v keys at a b good has alone within are =
-    let lengths = (timeline_of s).lengths in let now = standing_of v in let d = drawn_voice v in let fine = All-contains IsGoodVoice s.voices v good.voices has in
-    let seen = All-contains (λ w. HasMeasures keys lengths a (slice_range (drawn_voice w).measures a b)) s.voices v (measures_inside s lengths a b keys good within are) has in
+    let lengths = (timeline_of s).lengths in
+    let now = standing_of v in
+    let d = drawn_voice v in
+    let fine = All-contains IsGoodVoice s.voices v good.voices has in
+    let seen = All-contains (λ w. HasMeasures keys lengths a (slice_range (drawn_voice w).measures a b)) s.voices v
+    (measures_inside s lengths a b keys good within are) has in
     let same = sym (flat_voice a (sloped_over keys at a (slice_range d.measures a b)) d) in
-    measures_kept keys a b 0 now v.measures (voice_tilted keys at a b d).measures (subst (MeasuresDrawn keys a b 0 now v.measures) same
+    measures_kept keys a b 0 now v.measures (voice_tilted keys at a b d).measures
+    (subst (MeasuresDrawn keys a b 0 now v.measures) same
     (measures_drawn keys a b (style_of v) 0 now v.measures (ap is_lower alone) fine.reach (voice_goes_on v fine)
-    (λ k n e at is from to. (measure_at keys lengths a b n d.measures e seen from to (subst (λ i. slice_get d.measures i ≡ Some e) (omega (arith, at)) is)).events)))
+    (λ k n e at is from to.
+    (measure_at keys lengths a b n d.measures e seen from to
+    (subst (λ i. slice_get d.measures i ≡ Some e) (omega (arith, at)) is)).events)))

@@ -58,7 +58,8 @@ abbrev pub flats_in : List DrawnEvent → List Flat
 flats_in es = map (λ e. e.flat) es
 
 module _ (keys : List ColumnKey) (a b : ℕ) where
-  -- an event of measure m has at least this id and tick, a column in the system of measures a to b - 1, if it is there, and heads in reach
+  -- an event of measure m has at least this id and tick, a column in the system of measures a to b - 1, if it is there,
+  -- and heads in reach
   pub record IsSeated (m least low : ℕ) (e : DrawnEvent) : Type 0 where
     pub id : least ≤ e.flat.event.id
     pub tick : low ≤ e.tick
@@ -82,5 +83,6 @@ module _ (keys : List ColumnKey) (a b : ℕ) where
   -- from number m on
   abbrev pub MeasuresDrawn : ℕ → StaffState → List Measure → List DrawnMeasure → Type 0
   MeasuresDrawn m now [] [] = ⊤
-  MeasuresDrawn m now (x ∷ xs) (d ∷ ds) = IsMeasureOf m now x d × MeasuresDrawn (m + 1) (standing_behind now (flats_of x.body)) xs ds
+  MeasuresDrawn m now (x ∷ xs) (d ∷ ds) =
+      IsMeasureOf m now x d × MeasuresDrawn (m + 1) (standing_behind now (flats_of x.body)) xs ds
   MeasuresDrawn m now _ _ = ⊥

@@ -81,7 +81,8 @@ rest_dots_quiet : (raise : ℤ) (k n : ℕ) → drawn_notes (rest_dots raise k n
 rest_dots_quiet raise k zero = refl
 rest_dots_quiet raise k (suc n) = rest_dots_quiet raise (k + 1) n
 
-rest_quiet : (raise : ℤ) (look : Look) (base : Base) (dots flags : ℕ) → drawn_notes (rest_marks raise look base dots flags) ≡ []
+rest_quiet : (raise : ℤ) (look : Look) (base : Base) (dots flags : ℕ)
+    → drawn_notes (rest_marks raise look base dots flags) ≡ []
 rest_quiet raise look base dots flags = grind (arith, flat_map-append, shorts_quiet, rest_dots_quiet)
 
 meter_quiet : (dx : ℕ) (m : Option Meter) → drawn_notes (meter_if dx m) ≡ []
@@ -101,47 +102,63 @@ all_quiet [] quiet = refl
 all_quiet (d ∷ ds) quiet = simp (quiet.0, all_quiet ds quiet.1)
 
 words_quiet : OfWords (λ n. ⊤) (λ d. ink_notes d.ink ≡ [])
-words_quiet = record { of_syllable = λ low n t verse shown. refl; of_above = λ dy t shown. refl; of_below = λ dy t shown. refl }
+words_quiet =
+    record { of_syllable = λ low n t verse shown. refl; of_above = λ dy t shown. refl; of_below = λ dy t shown. refl }
 
 pub words_told : (place : Option WordRoom) (r : ℕ) (f : Flat) → drawn_notes (words_marks place r f) ≡ []
 words_told None r f = refl
 words_told (Some place) r f =
-    let syllables = all_quiet _ (syllables_all (λ n. ⊤) (λ d. ink_notes d.ink ≡ []) words_quiet place.room.low place.first f.event.words (λ i inside. tt)) in
-    let texts = all_quiet _ (texts_all (λ n. ⊤) (λ d. ink_notes d.ink ≡ []) words_quiet (text_place place.room (slice_index_or place.before r no_texts)) f) in simp (flat_map-append, syllables, texts)
+    let syllables = all_quiet _
+    (syllables_all (λ n. ⊤) (λ d. ink_notes d.ink ≡ []) words_quiet place.room.low place.first f.event.words
+    (λ i inside. tt)) in
+    let texts = all_quiet _
+    (texts_all (λ n. ⊤) (λ d. ink_notes d.ink ≡ []) words_quiet
+    (text_place place.room (slice_index_or place.before r no_texts)) f) in
+    simp (flat_map-append, syllables, texts)
 
 -- ---- clefs and entries
-clef_told : (c : Clef) → noted (role_of (clef_row c).glyph (steps_dy (clef_row c).line)) (steps_dy (clef_row c).line) ≡ clef_note c ∷ []
+clef_told : (c : Clef)
+    → noted (role_of (clef_row c).glyph (steps_dy (clef_row c).line)) (steps_dy (clef_row c).line) ≡ clef_note c ∷ []
 unfolding steps_dy cut_dy
 clef_told c = grind arith
 
 entry_told : (a : Alter) (dy : ℤ) → noted (role_of (sign_glyph a) dy) dy ≡ note (Role.Sign a) dy ∷ []
 entry_told a dy = grind arith
 
-entries_told : (c : Clef) (first k : ℕ) (ss : List Sign) → drawn_notes (entry_marks c false first k ss) ≡ entry_notes c ss
+entries_told : (c : Clef) (first k : ℕ) (ss : List Sign)
+    → drawn_notes (entry_marks c false first k ss) ≡ entry_notes c ss
 unfolding entry_mark
 entries_told c first k [] = refl
 entries_told c first k (s ∷ ss) = simp (entry_told, entries_told c first (k + 1) ss)
 
-ends_told : (c : Clef) (first k : ℕ) (ss : List Sign) → drawn_notes (entry_marks c true first k ss) ≡ entry_notes c (naturals ss)
+ends_told : (c : Clef) (first k : ℕ) (ss : List Sign)
+    → drawn_notes (entry_marks c true first k ss) ≡ entry_notes c (naturals ss)
 unfolding entry_mark
 ends_told c first k [] = refl
 ends_told c first k (s ∷ ss) = simp (ends_told c first (k + 1) ss)
 
-pub head_told : (c : Clef) (signs : List Sign) (meter : Option Meter) → drawn_notes (head_marks c signs meter) ≡ head_column_notes c signs
+pub head_told : (c : Clef) (signs : List Sign) (meter : Option Meter)
+    → drawn_notes (head_marks c signs meter) ≡ head_column_notes c signs
 unfolding head_marks
 head_told c signs meter =
-    let rest : drawn_notes (entry_marks c false signature_side 0 signs ++ meter_if (signature_side + entry_step * length signs) meter) ≡ entry_notes c signs =
+    let rest : drawn_notes
+    (entry_marks c false signature_side 0 signs ++ meter_if (signature_side + entry_step * length signs) meter)
+    ≡ entry_notes c signs =
     simp (flat_map-append, entries_told, meter_quiet, append-nil) in
     rw (clef_told, rest) refl
 
-new_told : (c : Clef) (first : ℕ) (old new : List Sign) → drawn_notes (new_entries c first old new) ≡ entry_notes c (new_signs old new)
+new_told : (c : Clef) (first : ℕ) (old new : List Sign)
+    → drawn_notes (new_entries c first old new) ≡ entry_notes c (new_signs old new)
 new_told c first old [] = ends_told c first 0 old
 new_told c first old (s ∷ ss) = entries_told c first 0 (s ∷ ss)
 
-key_told : (c : Clef) (first : ℕ) (old : Key) (new : Option Key) → drawn_notes (key_if c first (old_signs old new) new) ≡ entry_notes c (change_signs old.signs new)
+key_told : (c : Clef) (first : ℕ) (old : Key) (new : Option Key)
+    → drawn_notes (key_if c first (old_signs old new) new) ≡ entry_notes c (change_signs old.signs new)
 key_told c first old new = grind (arith, new_told)
 
-pub change_told : (c : Clef) (key : Key) (changes : Changes) → drawn_notes (change_marks c (old_signs key changes.key) changes) ≡ change_notes c key.signs changes.clef changes.key
+pub change_told : (c : Clef) (key : Key) (changes : Changes)
+    → drawn_notes (change_marks c (old_signs key changes.key) changes)
+    ≡ change_notes c key.signs changes.clef changes.key
 unfolding change_marks
 change_told c key changes = grind (arith, flat_map-append, clef_told, key_told, meter_quiet, append-nil)
 
@@ -150,7 +167,8 @@ unfolding bar_marks
 bar_told b = simp (flat_map-append, glyph_quiet, append-nil)
 
 -- ---- chords
-signs_told : (c : Clef) (hs : List Head) (dxs : List (Option ℤ)) → AreSigned hs dxs → drawn_notes (sign_marks c hs dxs) ≡ sign_notes c hs
+signs_told : (c : Clef) (hs : List Head) (dxs : List (Option ℤ))
+    → AreSigned hs dxs → drawn_notes (sign_marks c hs dxs) ≡ sign_notes c hs
 signs_told c [] dxs signed = refl
 signs_told c (h ∷ hs) [] signed = absurd signed
 signs_told c (h ∷ hs) (None ∷ dxs) signed = rw signed.0 (signs_told c hs dxs signed.1)
@@ -159,28 +177,50 @@ signs_told c (h ∷ hs) (Some dx ∷ dxs) signed = grind (arith, flat_map-append
 one_head : (base : Base) (dy : ℤ) → noted (role_of (head_glyph base) dy) dy ≡ note Role.Head dy ∷ []
 one_head base dy = grind arith
 
-heads_told : (c : Clef) (base : Base) (hs : List Head) (dxs : List ℤ) → AreShifted hs dxs → drawn_notes (note_heads c (head_glyph base) hs dxs) ≡ head_notes Role.Head c hs
+heads_told : (c : Clef) (base : Base) (hs : List Head) (dxs : List ℤ)
+    → AreShifted hs dxs → drawn_notes (note_heads c (head_glyph base) hs dxs) ≡ head_notes Role.Head c hs
 heads_told c base [] dxs shifted = refl
 heads_told c base (h ∷ hs) [] shifted = absurd shifted
 heads_told c base (h ∷ hs) (dx ∷ dxs) shifted = simp (one_head, heads_told c base hs dxs shifted)
 
-body_told : (c : Clef) (raise : ℤ) (hs : List Head) (e : Event) (plan : StemPlan) (before after : ℕ) → AreSigned hs plan.signs → AreShifted hs plan.shifts
+body_told : (c : Clef) (raise : ℤ) (hs : List Head) (e : Event) (plan : StemPlan) (before after : ℕ)
+    → AreSigned hs plan.signs → AreShifted hs plan.shifts
     → drawn_notes (body_marks c raise hs e plan before after) ≡ sign_notes c hs ++ head_notes Role.Head c hs
 unfolding heads_marks
 body_told c raise [] e plan before after signed shifted = rest_quiet raise e.look e.value.base e.value.dots plan.flags
 body_told c raise (h ∷ hs) e plan before after signed shifted =
-    simp (flat_map-append, signs_told c (h ∷ hs) plan.signs signed, ledgers_quiet, heads_told c e.value.base (h ∷ hs) plan.shifts shifted, dots_quiet, stems_quiet, append-nil)
+    simp (
+      flat_map-append,
+      signs_told c (h ∷ hs) plan.signs signed,
+      ledgers_quiet,
+      heads_told c e.value.base (h ∷ hs) plan.shifts shifted,
+      dots_quiet,
+      stems_quiet,
+      append-nil,
+    )
 
-pub note_told : (c : Clef) (raise : ℤ) (e : Event) (plan : StemPlan) (before after : ℕ) → AreSigned e.heads plan.signs → AreShifted e.heads plan.shifts
+pub note_told : (c : Clef) (raise : ℤ) (e : Event) (plan : StemPlan) (before after : ℕ)
+    → AreSigned e.heads plan.signs → AreShifted e.heads plan.shifts
     → drawn_notes (note_marks c raise e plan before after) ≡ sign_notes c e.heads ++ head_notes Role.Head c e.heads
 unfolding note_marks
-note_told c raise e plan before after signed shifted = simp (flat_map-append, body_told c raise e.heads e plan before after signed shifted, decos_quiet, append-nil)
+note_told c raise e plan before after signed shifted =
+    simp (flat_map-append, body_told c raise e.heads e plan before after signed shifted, decos_quiet, append-nil)
 
 graces_told : (c : Clef) (hs : List Head) → drawn_notes (grace_head_ink c hs) ≡ head_notes Role.Grace c hs
 graces_told c [] = refl
 graces_told c (h ∷ hs) = simp (graces_told c hs)
 
-pub grace_told : (c : Clef) (group : Group) (first : Bool) (g : Event) → All (IsInReach c) g.heads → drawn_notes (grace_marks c group first g) ≡ sign_notes c g.heads ++ head_notes Role.Grace c g.heads
+pub grace_told : (c : Clef) (group : Group) (first : Bool) (g : Event)
+    → All (IsInReach c) g.heads
+    → drawn_notes (grace_marks c group first g) ≡ sign_notes c g.heads ++ head_notes Role.Grace c g.heads
 unfolding grace_marks grace_body
 grace_told c group first g reach =
-    let signs = signs_in_columns (back grace_sign_side) _ (near_of c g.heads reach) in simp (flat_map-append, signs_told c g.heads _ (signs_placed _ c g.heads _ signs), ledgers_quiet, graces_told, end_quiet, append-nil)
+    let signs = signs_in_columns (back grace_sign_side) _ (near_of c g.heads reach) in
+    simp (
+      flat_map-append,
+      signs_told c g.heads _ (signs_placed _ c g.heads _ signs),
+      ledgers_quiet,
+      graces_told,
+      end_quiet,
+      append-nil,
+    )

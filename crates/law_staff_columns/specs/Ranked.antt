@@ -1,5 +1,5 @@
--- The columns of a staff as the ranks of its marks tell them: at each rank what the glyphs there tell, and where ties end. The
--- column of rank 0 leads its system.
+-- The columns of a staff as the ranks of its marks tell them: at each rank what the glyphs there tell, and where ties
+-- end. The column of rank 0 leads its system.
 use Rattle.std.specs.Prelude.{ℕ, zero, suc, ℤ, ◌-ℤ◌, ◌==◌, ◌&&◌, if◌then◌else◌, List, [], ◌∷◌, flat_map}
 use Rattle.mus_laid.specs.declared.laid.Laid.{Laid}
 use Rattle.mus_laid.specs.declared.laid.Mark.{Mark}

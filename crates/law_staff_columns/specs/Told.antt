@@ -19,7 +19,15 @@ use Rattle.law_staff_columns.specs.Ranked.{ranked_columns}
 abbrev pub first_at : ℕ → Bar → Option Bar
 first_at a bar = if a == 0 then Some bar else None
 
--- Measures a to b - 1 of a voice alone on its staff, over any abscissas: what the ranks of its marks tell is what its columns tell.
+-- Measures a to b - 1 of a voice alone on its staff, over any abscissas:
+-- what the ranks of its marks tell is what its columns tell.
 abbrev pub MarksTellColumns : Type 0
-MarksTellColumns = (s : Score) (v : Voice) (keys : List ColumnKey) (at : List ℤ) (a b : ℕ) → IsGoodScore s → Contains s.voices v → v.seat ≡ Seat.Alone → a < b → b ≤ s.measures → AreKeys keys (called_keys s (timeline_of s).lengths a b) → columns_heard (ranked_columns (length keys) (tilted_staff keys (timeline_of s).lengths at a b (drawn_voice v ∷ [])).marks)
-    ≡ columns_heard (heard_system (first_at a v.first) (standing_through (standing_of v) (take a v.measures)) (last_through [] (take a v.measures)) (slice_range v.measures a b))
+MarksTellColumns =
+    (s : Score) (v : Voice) (keys : List ColumnKey) (at : List ℤ) (a b : ℕ)
+    → IsGoodScore s → Contains s.voices v → v.seat ≡ Seat.Alone → a < b → b ≤ s.measures
+    → AreKeys keys (called_keys s (timeline_of s).lengths a b)
+    → columns_heard
+    (ranked_columns (length keys) (tilted_staff keys (timeline_of s).lengths at a b (drawn_voice v ∷ [])).marks)
+    ≡ columns_heard
+    (heard_system (first_at a v.first) (standing_through (standing_of v) (take a v.measures))
+    (last_through [] (take a v.measures)) (slice_range v.measures a b))

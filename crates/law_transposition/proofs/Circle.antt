@@ -31,7 +31,10 @@ letter_back Letter.C = refl
 letter_back _ = refl
 
 pub letters_same : (l k : Letter) → same_letter l k ≡ true → l ≡ k
-letters_same l k e = sym (letter_back l) ∙ ap (λ n. slice_index_or scale_letters n Letter.C) (eqb-true (letter_number l) (letter_number k) e) ∙ letter_back k
+letters_same l k e =
+    sym (letter_back l)
+    ∙ ap (λ n. slice_index_or scale_letters n Letter.C) (eqb-true (letter_number l) (letter_number k) e)
+    ∙ letter_back k
 
 alter_back : (a : Alter) → alter_from (alter_of a) ≡ Some a
 alter_back Alter.Flat2 = refl
@@ -46,7 +49,8 @@ sign_decides s t = (same, λ e. subst (λ u. same_sign s u ≡ true) e (grind (a
     same : same_sign s t ≡ true → s ≡ t
     same e =
         let parts = and_parts (same_letter s.letter t.letter) (int_eq (alter_of s.alter) (alter_of t.alter)) e in
-        let a = alters_same s.alter t.alter ((Decides-int_eq (alter_of s.alter) (alter_of t.alter)).0 parts.1) in λ i. record { letter = letters_same s.letter t.letter parts.0 i; alter = a i }
+        let a = alters_same s.alter t.alter ((Decides-int_eq (alter_of s.alter) (alter_of t.alter)).0 parts.1) in
+        λ i. record { letter = letters_same s.letter t.letter parts.0 i; alter = a i }
 
 few_sharps : (a : Alter) (n : ℕ) → n < 7 → is_signature (sharps_by a (pos (suc n))) ≡ true
 few_sharps Alter.Flat n few = grind (arith, nat_tests, ints)
@@ -54,10 +58,12 @@ few_sharps _ n few = grind (arith, nat_tests, ints)
 
 few_in : (signs : List Sign) → nat_le (length signs) 7 ≡ true → is_signature (sharps_in signs) ≡ true
 few_in [] few = refl
-few_in (s ∷ signs) few = let below = leb-true (suc (length signs)) 7 few in few_sharps s.alter (length signs) (omega arith)
+few_in (s ∷ signs) few =
+    let below = leb-true (suc (length signs)) 7 few in few_sharps s.alter (length signs) (omega arith)
 
 -- a key on the circle has the signs of -7 to 7 sharps
-key_signs : (k : Key) → on_circle k ≡ true → (is_signature (sharps_in k.signs) ≡ true) × (k.signs ≡ signs_of (sharps_in k.signs))
+key_signs : (k : Key)
+    → on_circle k ≡ true → (is_signature (sharps_in k.signs) ≡ true) × (k.signs ≡ signs_of (sharps_in k.signs))
 key_signs k e =
     let parts = and_parts (nat_le (length k.signs) 7) (pointwise same_sign k.signs (signs_of (sharps_in k.signs))) e in
     (few_in k.signs parts.0, (pointwise_decides sign_decides k.signs (signs_of (sharps_in k.signs))).0 parts.1)
@@ -74,7 +80,9 @@ window n z = int_le (n -ℤ pos 1) z && int_le z (n +ℤ pos 5)
 
 in_window : (n z : ℤ) → window n z ≡ true → InWindow n z
 unfolding window
-in_window n z e = let parts = and_parts (int_le (n -ℤ pos 1) z) (int_le z (n +ℤ pos 5)) e in record { low = grind (arith, ints); high = grind (arith, ints) }
+in_window n z e =
+    let parts = and_parts (int_le (n -ℤ pos 1) z) (int_le z (n +ℤ pos 5)) e in
+    record { low = grind (arith, ints); high = grind (arith, ints) }
 
 -- where a letter lies on the circle
 abbrev place : Letter → Alter → ℤ
@@ -93,20 +101,25 @@ in_keys Letter.C k few = agree_below_at (λ i. fits Letter.C (pos i -ℤ pos 7))
 in_keys l k few = agree_below_at (λ i. fits l (pos i -ℤ pos 7)) (λ _. true) 15 k refl few
 
 is_few : (n : ℤ) → is_signature n ≡ true → (negsuc 6 ≤ℤ n) × (n ≤ℤ pos 7)
-is_few n e = let parts = and_parts (int_le (negsuc 6) n) (int_le n (pos 7)) e in (grind (arith, ints), grind (arith, ints))
+is_few n e =
+    let parts = and_parts (int_le (negsuc 6) n) (int_le n (pos 7)) e in (grind (arith, ints), grind (arith, ints))
 
-numbered : (n : ℤ) → negsuc 6 ≤ℤ n → n ≤ℤ pos 7 → (unsigned_abs (n +ℤ pos 7) < 15) × (pos (unsigned_abs (n +ℤ pos 7)) -ℤ pos 7 ≡ n)
+numbered : (n : ℤ)
+    → negsuc 6 ≤ℤ n → n ≤ℤ pos 7 → (unsigned_abs (n +ℤ pos 7) < 15) × (pos (unsigned_abs (n +ℤ pos 7)) -ℤ pos 7 ≡ n)
 numbered n few many = (omega (arith, ints), omega (arith, ints))
 
 in_key : (p : Pitch) (n : ℤ) → is_signature n ≡ true → InWindow n (place p.letter (key_alter p (signs_of n)))
 unfolding fits
 in_key p n few =
     let bounds = is_few n few in let k = numbered n bounds.0 bounds.1 in
-    in_window n (place p.letter (key_alter p (signs_of n))) (subst (λ m. fits p.letter m ≡ true) k.1 (in_keys p.letter (unsigned_abs (n +ℤ pos 7)) k.0))
+    in_window n (place p.letter (key_alter p (signs_of n)))
+    (subst (λ m. fits p.letter m ≡ true) k.1 (in_keys p.letter (unsigned_abs (n +ℤ pos 7)) k.0))
 
 -- ---- letters and semitones of a pitch
 seven : (r : ℕ) → r < 7 → letter_number (slice_index_or scale_letters r Letter.C) ≡ r
-seven r few = eqb-true (letter_number (slice_index_or scale_letters r Letter.C)) r (agree_below_at (λ j. letter_number (slice_index_or scale_letters j Letter.C) == j) (λ _. true) 7 r refl few)
+seven r few =
+    eqb-true (letter_number (slice_index_or scale_letters r Letter.C)) r
+    (agree_below_at (λ j. letter_number (slice_index_or scale_letters j Letter.C) == j) (λ _. true) 7 r refl few)
 
 steps_back : (z : ℤ) → steps (pitch_of_steps z) ≡ z
 unfolding steps pitch_of_steps
@@ -148,7 +161,10 @@ move_is sharps by =
     let rounds = div_rem ((sharps +ℤ (pos 7 *ℤ by)) +ℤ pos 5) in let change = new_sharps sharps by -ℤ sharps in
     record {
       octaves = octaves_between change by;
-      fifths = div_exact ((pos 7 *ℤ change) -ℤ by) ((pos 4 *ℤ by) -ℤ (pos 7 *ℤ int_div_euclid ((sharps +ℤ (pos 7 *ℤ by)) +ℤ pos 5) (pos 12))) (omega (arith, ints));
+      fifths =
+          div_exact ((pos 7 *ℤ change) -ℤ by)
+          ((pos 4 *ℤ by) -ℤ (pos 7 *ℤ int_div_euclid ((sharps +ℤ (pos 7 *ℤ by)) +ℤ pos 5) (pos 12)))
+          (omega (arith, ints));
       letters = refl;
     }
 
@@ -156,16 +172,28 @@ move_is sharps by =
 pub record Higher (m : Move) (p : Pitch) (a b : Alter) : Type 0 where
   pub by : semitones (moved_pitch m p) b ≡ semitones p a +ℤ m.semitones
 
--- the arithmetic alone: h and s are semitones and letters, h' and s' those of the moved head, n and n + j the sharps of the two keys
+-- the arithmetic alone: h and s are semitones and letters, h' and s' those of the moved head, n and n + j the sharps of
+-- the two keys
 lattice : (n by j d t h s h' s' : ℤ) → (pos 7 *ℤ j) -ℤ by ≡ pos 12 *ℤ t → d ≡ (pos 4 *ℤ j) -ℤ (pos 7 *ℤ t) → s' ≡ s +ℤ d
     → InWindow n ((pos 7 *ℤ h) -ℤ (pos 12 *ℤ s)) → InWindow (n +ℤ j) ((pos 7 *ℤ h') -ℤ (pos 12 *ℤ s')) → h' ≡ h +ℤ by
 lattice n by j d t h s h' s' e f g v w = omega (arith, ints)
 
 -- the alteration that a key has for a letter, and the moved key for the moved one
-pub key_higher : (m : Move) (p : Pitch) (k : Key) → IsMove m → key_may m k ≡ true → Higher m p (key_alter p k.signs) (key_alter (moved_pitch m p) (moved_key m k).signs)
+pub key_higher : (m : Move) (p : Pitch) (k : Key)
+    → IsMove m → key_may m k ≡ true
+    → Higher m p (key_alter p k.signs) (key_alter (moved_pitch m p) (moved_key m k).signs)
 key_higher m p k move may =
-    let n = sharps_in k.signs in let keys = and_parts (on_circle k) (is_signature (n +ℤ m.sharps)) may in let signs = key_signs k keys.0 in let q = moved_pitch m p in
-    let a = key_alter p (signs_of n) in let b = key_alter q (signs_of (n +ℤ m.sharps)) in let v : InWindow n ((pos 7 *ℤ semitones p a) -ℤ (pos 12 *ℤ steps p)) = rw (fifths_are p a) (in_key p n signs.0) in
-    let w : InWindow (n +ℤ m.sharps) ((pos 7 *ℤ semitones q b) -ℤ (pos 12 *ℤ steps q)) = rw (fifths_are q b) (in_key q (n +ℤ m.sharps) keys.1) in
+    let n = sharps_in k.signs in
+    let keys = and_parts (on_circle k) (is_signature (n +ℤ m.sharps)) may in
+    let signs = key_signs k keys.0 in
+    let q = moved_pitch m p in
+    let a = key_alter p (signs_of n) in
+    let b = key_alter q (signs_of (n +ℤ m.sharps)) in
+    let v : InWindow n ((pos 7 *ℤ semitones p a) -ℤ (pos 12 *ℤ steps p)) = rw (fifths_are p a) (in_key p n signs.0) in
+    let w : InWindow (n +ℤ m.sharps) ((pos 7 *ℤ semitones q b) -ℤ (pos 12 *ℤ steps q)) =
+    rw (fifths_are q b) (in_key q (n +ℤ m.sharps) keys.1) in
     subst (λ s. Higher m p (key_alter p s) b) (sym signs.1)
-    (record { by = lattice n m.semitones m.sharps m.letters move.octaves (semitones p a) (steps p) (semitones q b) (steps q) move.fifths move.letters (steps_moved m p) v w })
+    (record {
+      by = lattice n m.semitones m.sharps m.letters move.octaves (semitones p a) (steps p) (semitones q b) (steps q)
+          move.fifths move.letters (steps_moved m p) v w;
+    })

@@ -21,4 +21,5 @@ pub record AreHigher (by : ℤ) (xs ys : List Sound) : Type 0 where
 
 -- what comes of a move by so many semitones sounds so many semitones higher
 abbrev pub MovedSoundsHigher : Type 0
-MovedSoundsHigher = (s t : Score) (header : Key) (by : ℤ) → IsMoved s header by (Some t) → AreHigher by (sounds_of s) (sounds_of t)
+MovedSoundsHigher =
+    (s t : Score) (header : Key) (by : ℤ) → IsMoved s header by (Some t) → AreHigher by (sounds_of s) (sounds_of t)

@@ -50,7 +50,13 @@ few_letters _ = omega arith
 
 pitch_is : (w : ℤ) (p : Pitch) → w ≡ pos 7 *ℤ p.octave +ℤ pos (letter_number p.letter) → pitch_of_steps w ≡ p
 unfolding pitch_of_steps
-pitch_is w p e = let few = few_letters p.letter in rw (rem_seven w p.octave (letter_number p.letter) few e, letter_back p.letter, div_seven w p.octave (letter_number p.letter) few e) refl
+pitch_is w p e =
+    let few = few_letters p.letter in
+    rw (
+      rem_seven w p.octave (letter_number p.letter) few e,
+      letter_back p.letter,
+      div_seven w p.octave (letter_number p.letter) few e,
+    ) refl
 
 pub dy_is : (c : Clef) (h : Head) → IsInReach c h → dy_of c h ≡ pos 250 *ℤ height_of h.pitch c
 unfolding dy_of steps_dy cut_dy
@@ -59,24 +65,35 @@ dy_is c h near = let low = near.0 in let high = near.1 in omega (arith, ints, cl
 -- the pitch read at a head's height is the head's
 pub pitch_read : (c : Clef) (h : Head) → IsInReach c h → pitch_at c (dy_of c h) ≡ h.pitch
 unfolding pitch_at
-pitch_read c h near = rw (div_is (dy_of c h) (height_of h.pitch c) (dy_is c h near)) (pitch_is (height_of h.pitch c +ℤ pos (bottom_of c)) h.pitch (omega (arith, ints)))
+pitch_read c h near =
+    rw (div_is (dy_of c h) (height_of h.pitch c) (dy_is c h near))
+    (pitch_is (height_of h.pitch c +ℤ pos (bottom_of c)) h.pitch (omega (arith, ints)))
 
 pub pitch_flip : (h g : Head) → has_pitch h.pitch g ≡ has_pitch g.pitch h
 pitch_flip h g = grind (arith, nat_tests, ints)
 
 pub pitch_found : (p : Pitch) (g : Head) → has_pitch p g ≡ true → p ≡ g.pitch
 pitch_found p g e =
-    let parts = and_parts (same_letter g.pitch.letter p.letter) (int_eq g.pitch.octave p.octave) e in let number = sym (eqb-true (letter_number g.pitch.letter) (letter_number p.letter) parts.0) in
-    let letter = sym (letter_back p.letter) ∙ ap (λ k. slice_index_or scale_letters k Letter.C) number ∙ letter_back g.pitch.letter in let octave = sym (eq_is g.pitch.octave p.octave parts.1) in
+    let parts = and_parts (same_letter g.pitch.letter p.letter) (int_eq g.pitch.octave p.octave) e in
+    let number = sym (eqb-true (letter_number g.pitch.letter) (letter_number p.letter) parts.0) in
+    let letter = sym (letter_back p.letter)
+    ∙ ap (λ k. slice_index_or scale_letters k Letter.C) number
+    ∙ letter_back g.pitch.letter in
+    let octave = sym (eq_is g.pitch.octave p.octave parts.1) in
     λ i. record { letter = letter i; octave = octave i }
 
 pitch_itself : (g : Head) → has_pitch g.pitch g ≡ true
 pitch_itself g = grind (arith, nat_tests, ints)
 
 -- heads of different pitches stand at different heights
-pub heights_apart : (c : Clef) (h g : Head) → IsInReach c h → IsInReach c g → has_pitch h.pitch g ≡ false → int_eq (dy_of c h) (dy_of c g) ≡ false
+pub heights_apart : (c : Clef) (h g : Head)
+    → IsInReach c h → IsInReach c g → has_pitch h.pitch g ≡ false → int_eq (dy_of c h) (dy_of c g) ≡ false
 heights_apart c h g p q n = false_from_ne_true (int_eq (dy_of c h) (dy_of c g)) (λ e.
-    false≢true (sym n ∙ ap (λ r. has_pitch r g) (sym (pitch_read c h p) ∙ ap (pitch_at c) (eq_is (dy_of c h) (dy_of c g) e) ∙ pitch_read c g q) ∙ pitch_itself g))
+    false≢true
+    (sym n
+    ∙ ap (λ r. has_pitch r g)
+    (sym (pitch_read c h p) ∙ ap (pitch_at c) (eq_is (dy_of c h) (dy_of c g) e) ∙ pitch_read c g q)
+    ∙ pitch_itself g))
 
 -- ---- keys
 letter_read : (c : Clef) (a : Alter) (l : Letter) → (pitch_at c (entry_dy c a l)).letter ≡ l

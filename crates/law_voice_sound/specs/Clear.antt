@@ -1,5 +1,5 @@
--- A clear voice: no chord, those of graces too, has two heads of one letter and octave, and no note follows an unseen bar
--- behind a measure. Of the bar before the first measure nothing is asked: no note was heard before it.
+-- A clear voice: no chord, those of graces too, has two heads of one letter and octave, and no note follows an unseen
+-- bar behind a measure. Of the bar before the first measure nothing is asked: no note was heard before it.
 use Rattle.std.specs.{Prelude.{⊤, ◌≡◌, ◌⊎◌, false, List, [], ◌∷◌, All}, List.list_any}
 use Rattle.mus_units.specs.declared.glyph.Glyph.{Glyph}
 use Rattle.mus_units.specs.declared.note.Head.{Head}

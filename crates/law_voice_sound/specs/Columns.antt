@@ -1,5 +1,6 @@
--- The columns of a voice that has a staff of its own, system by system, said of its score alone. What is in force and the heads of
--- the event before are carried along. In the column of an event the ties end that come from the event before it.
+-- The columns of a voice that has a staff of its own, system by system, said of its score alone. What is in force and
+-- the heads of the event before are carried along. In the column of an event the ties end that come from the event
+-- before it.
 use Rattle.std.specs.{Prelude.{ℤ, Bool, true, false, if◌then◌else◌, List, [], ◌∷◌, ◌++◌, Option, Some, None}, List.find}
 use Rattle.mus_units.specs.declared.{note.Bar.Bar, note.Head.Head, pitch.Clef.Clef}
 use Rattle.mus_score.specs.declared.score.Event.{Event}
@@ -31,7 +32,11 @@ abbrev pub chord_column : Role → Clef → List Head → List ℤ → HeardColu
 chord_column role c hs ties = record { leads = false; notes = sign_notes c hs ++ head_notes role c hs; ties = ties }
 
 abbrev pub change_column : StaffState → Flat → HeardColumn
-change_column now f = record { leads = false; notes = change_notes (clef_at now.clef f.event) now.key.signs f.event.changes.clef f.event.changes.key; ties = [] }
+change_column now f = record {
+  leads = false;
+  notes = change_notes (clef_at now.clef f.event) now.key.signs f.event.changes.clef f.event.changes.key;
+  ties = [];
+}
 
 abbrev pub bar_column : Bar → HeardColumn
 bar_column b = record { leads = false; notes = bar_notes b; ties = [] }
@@ -42,7 +47,9 @@ grace_columns c [] = []
 grace_columns c (g ∷ gs) = chord_column Role.Grace c g.heads [] ∷ grace_columns c gs
 
 abbrev pub event_columns : StaffState → List Head → Flat → List HeardColumn
-event_columns now prev f = let c = clef_at now.clef f.event in grace_columns c f.graces ++ chord_column Role.Head c f.event.heads (tie_heights c prev f.event.heads) ∷ []
+event_columns now prev f =
+    let c = clef_at now.clef f.event in
+    grace_columns c f.graces ++ chord_column Role.Head c f.event.heads (tie_heights c prev f.event.heads) ∷ []
 
 -- the head of a system shows the change before its first event
 abbrev pub change_columns : Bool → StaffState → Flat → List HeardColumn
@@ -51,7 +58,9 @@ change_columns false now f = change_column now f ∷ []
 
 abbrev pub heard_events : Bool → StaffState → List Head → List Flat → List HeardColumn
 heard_events in_head now prev [] = []
-heard_events in_head now prev (f ∷ fs) = (change_columns in_head now f ++ event_columns now prev f) ++ heard_events false (standing_after now f.event.changes) f.event.heads fs
+heard_events in_head now prev (f ∷ fs) =
+    (change_columns in_head now f ++ event_columns now prev f)
+    ++ heard_events false (standing_after now f.event.changes) f.event.heads fs
 
 -- the heads of the last event
 abbrev pub last_event : List Head → List Flat → List Head
@@ -83,7 +92,8 @@ first_columns (Some bar) = if has_features bar then bar_column bar ∷ [] else [
 
 -- a system of some measures; `first` is the bar before them, where they are the first of the voice
 abbrev pub heard_system : Option Bar → StaffState → List Head → List Measure → List HeardColumn
-heard_system first now prev ms = head_column (shown_first now ms) ∷ first_columns first ++ heard_measures true now prev ms
+heard_system first now prev ms =
+    head_column (shown_first now ms) ∷ first_columns first ++ heard_measures true now prev ms
 
 -- what is in force behind measures, and the heads of the last event
 abbrev pub standing_through : StaffState → List Measure → StaffState
@@ -97,7 +107,8 @@ last_through prev (m ∷ ms) = last_through (last_event prev (flats_of m.body)) 
 -- system after system
 abbrev pub systems_columns : Option Bar → StaffState → List Head → List (List Measure) → List HeardColumn
 systems_columns first now prev [] = []
-systems_columns first now prev (ms ∷ systems) = heard_system first now prev ms ++ systems_columns None (standing_through now ms) (last_through prev ms) systems
+systems_columns first now prev (ms ∷ systems) =
+    heard_system first now prev ms ++ systems_columns None (standing_through now ms) (last_through prev ms) systems
 
 abbrev pub heard_voice : Voice → List (List Measure) → List HeardColumn
 heard_voice v systems = systems_columns (Some v.first) (standing_of v) [] systems

@@ -16,7 +16,11 @@ abbrev pub is_told : HeardColumn → Bool
 is_told col = col.leads || has_notes col.notes
 
 abbrev pub plain : HeardColumn → HeardColumn
-plain col = record { leads = col.leads; notes = col.notes; ties = if list_any (λ n. is_listed n.role) col.notes then col.ties else [] }
+plain col = record {
+  leads = col.leads;
+  notes = col.notes;
+  ties = if list_any (λ n. is_listed n.role) col.notes then col.ties else [];
+}
 
 abbrev pub columns_heard : List HeardColumn → List HeardColumn
 columns_heard [] = []

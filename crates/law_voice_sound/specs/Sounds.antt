@@ -19,5 +19,7 @@ voice_heard spread v = map heard_sound (event_sounds 0 spread [] (seen_in (stand
 
 -- however the measures of a clear voice are parted into systems
 abbrev pub ClearVoicesAreHeard : Type 0
-ClearVoicesAreHeard = (spread : Spread) (v : Voice) (systems : List (List Measure)) → flat_map (λ (ms : List Measure). ms) systems ≡ v.measures → IsGoodVoice v → IsClearVoice v
+ClearVoicesAreHeard =
+    (spread : Spread) (v : Voice) (systems : List (List Measure))
+    → flat_map (λ (ms : List Measure). ms) systems ≡ v.measures → IsGoodVoice v → IsClearVoice v
     → heard_of spread (heard_voice v systems) ≡ voice_heard spread v

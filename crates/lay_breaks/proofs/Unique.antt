@@ -14,5 +14,8 @@ lex_same (x ∷ xs) (y ∷ ys) (inr h) (inr k) = let t = lex_same xs ys h.1 k.1 
 
 pub one_is_chosen : OneIsChosen
 one_is_chosen cost forced n xs ys hx hy =
-    let a = hx.least ys hy.legal in let b = hy.least xs hx.legal in let e : sum_from cost 0 ys ≡ sum_from cost 0 xs = omega arith in
-    let r = lex_same (reverse xs) (reverse ys) (hy.latest xs hx.legal (sym e)) (hx.latest ys hy.legal e) in sym (reverse-reverse xs) ∙ (ap reverse r ∙ reverse-reverse ys)
+    let a = hx.least ys hy.legal in
+    let b = hy.least xs hx.legal in
+    let e : sum_from cost 0 ys ≡ sum_from cost 0 xs = omega arith in
+    let r = lex_same (reverse xs) (reverse ys) (hy.latest xs hx.legal (sym e)) (hx.latest ys hy.legal e) in
+    sym (reverse-reverse xs) ∙ (ap reverse r ∙ reverse-reverse ys)

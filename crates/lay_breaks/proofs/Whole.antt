@@ -10,12 +10,19 @@ use Rattle.lay_breaks.proofs.Choice.{IsChosenBack, table_none, table_some, follo
 
 module _ (cost : ℕ → ℕ → Option ℕ) (forced : ℕ → Bool) (free : forced 0 ≡ false) where
   -- what holds of each list of spans to bar i, read forwards, holds of each legal list
-  pub every_legal : (i : ℕ) (P : List ℕ → Type 0) → ((r : List ℕ) → IsBack cost forced r → top r ≡ i → P (reverse r)) → (bs : List ℕ) → IsLegal cost forced bs i → P bs
-  every_legal i P p bs h = let b = legal_back cost forced (reverse bs) i (subst (λ bs. IsLegal cost forced bs i) (sym (reverse-reverse bs)) h) in subst P (reverse-reverse bs) (p (reverse bs) b.0 b.1)
+  pub every_legal : (i : ℕ) (P : List ℕ → Type 0)
+      → ((r : List ℕ) → IsBack cost forced r → top r ≡ i → P (reverse r))
+      → (bs : List ℕ) → IsLegal cost forced bs i
+      → P bs
+  every_legal i P p bs h =
+      let b =
+      legal_back cost forced (reverse bs) i (subst (λ bs. IsLegal cost forced bs i) (sym (reverse-reverse bs)) h) in
+      subst P (reverse-reverse bs) (p (reverse bs) b.0 b.1)
 
   pub least_sum : (i v : ℕ) → IsLeastBack cost forced i v → IsLeastSum cost forced i v
   least_sum i v h = record {
-    reached = (reverse h.way.0, back_legal cost forced free h.way.0 i h.way.1 h.way.2, sum_reverse cost h.way.0 ∙ h.way.3);
+    reached =
+        (reverse h.way.0, back_legal cost forced free h.way.0 i h.way.1 h.way.2, sum_reverse cost h.way.0 ∙ h.way.3);
     least = every_legal i (λ bs. v ≤ sum_from cost 0 bs) (λ r b e. rw (sum_reverse cost r) (h.least r b e));
   }
 
@@ -31,8 +38,14 @@ module _ (cost : ℕ → ℕ → Option ℕ) (forced : ℕ → Bool) (free : for
     none_at e = rw e at (potential n (omega arith))
 
     -- the last bar with a potential is the last that is reached
-    pub reached : (k : ℕ) → k ≤ n → IsSome (slice_index_or ps k None) → ((i : ℕ) → i ≤ n → IsSome (slice_index_or ps i None) → i ≤ k) → IsReached cost forced n k
-    reached k le some greatest = record { within = le; legal = way (slice_index_or ps k None) some (potential k le); greatest = λ i bs l h. greatest i l (is (slice_index_or ps i None) bs h (potential i l)) }
+    pub reached : (k : ℕ) → k ≤ n → IsSome (slice_index_or ps k None)
+        → ((i : ℕ) → i ≤ n → IsSome (slice_index_or ps i None) → i ≤ k)
+        → IsReached cost forced n k
+    reached k le some greatest = record {
+      within = le;
+      legal = way (slice_index_or ps k None) some (potential k le);
+      greatest = λ i bs l h. greatest i l (is (slice_index_or ps i None) bs h (potential i l));
+    }
       where
         way : (o : Option ℕ) → IsSome o → IsPotential cost forced k o → (bs : List ℕ) × IsLegal cost forced bs k
         way None s p = cc
@@ -42,12 +55,15 @@ module _ (cost : ℕ → ℕ → Option ℕ) (forced : ℕ → Bool) (free : for
         is None bs h p = absurd (p bs h)
         is (Some v) bs h p = refl
 
-    module _ (v : ℕ) (some : slice_index_or ps n None ≡ Some v) (bs : List ℕ) (follows : LeadsBack fs n (reverse bs)) where
+    module _ (v : ℕ) (some : slice_index_or ps n None ≡ Some v) (bs : List ℕ)
+        (follows : LeadsBack fs n (reverse bs)) where
       back : IsChosenBack cost forced n (reverse bs)
       back = follows_chosen cost forced n ps fs known (reverse bs) n v (omega arith) some follows
 
       legal : IsLegal cost forced bs n
-      legal = subst (λ bs. IsLegal cost forced bs n) (reverse-reverse bs) (back_legal cost forced free (reverse bs) n back.back back.ends)
+      legal =
+          subst (λ bs. IsLegal cost forced bs n) (reverse-reverse bs)
+          (back_legal cost forced free (reverse bs) n back.back back.ends)
 
       sum_is : sum_from cost 0 bs ≡ sum_back cost (reverse bs)
       sum_is = ap (sum_from cost 0) (sym (reverse-reverse bs)) ∙ sum_reverse cost (reverse bs)
@@ -63,7 +79,10 @@ module _ (cost : ℕ → ℕ → Option ℕ) (forced : ℕ → Bool) (free : for
       pub chosen : IsChosen cost forced n bs
       chosen = record {
         legal = legal;
-        least = subst (λ s. (other : List ℕ) → IsLegal cost forced other n → s ≤ sum_from cost 0 other) total (least_sum n v best).least;
-        latest = every_legal n (λ other. sum_from cost 0 other ≡ sum_from cost 0 bs → LexAtMost (reverse other) (reverse bs))
+        least =
+            subst (λ s. (other : List ℕ) → IsLegal cost forced other n → s ≤ sum_from cost 0 other) total
+            (least_sum n v best).least;
+        latest =
+            every_legal n (λ other. sum_from cost 0 other ≡ sum_from cost 0 bs → LexAtMost (reverse other) (reverse bs))
             (λ r b e q. rw reverse-reverse (back.latest r b e (sym (sum_reverse cost r) ∙ (q ∙ sum_is))));
       }

@@ -1,5 +1,6 @@
--- Breakings of the bars 1 to n into spans: which are legal, what they cost, which one is chosen, and what is least for each bar.
--- A breaking is the rising list of the bars at which its spans end. `cost a b` is what the span from bar a to bar b costs, where it fits;
+-- Breakings of the bars 1 to n into spans: which are legal, what they cost, which one is chosen, and what is least for
+-- each bar. A breaking is the rising list of the bars at which its spans end. `cost a b` is what the span from bar a to
+-- bar b costs, where it fits;
 -- `forced b` says whether each legal breaking has bar b.
 use Rattle.std.specs.Prelude.{◌≡◌, ℕ, ◌+◌, ◌<◌, ◌≤◌, ◌⊎◌, Bool, true, List, [], ◌∷◌, reverse, Option, MatchOption}
 use Rattle.std.specs.Prelude.{Contains, unwrap_or, IsSome}
@@ -24,8 +25,8 @@ abbrev pub sum_from : (ℕ → ℕ → Option ℕ) → ℕ → List ℕ → ℕ
 sum_from cost a [] = 0
 sum_from cost a (b ∷ bs) = unwrap_or (cost a b) 0 + sum_from cost b bs
 
--- A legal prefix that ends at bar i: a rising list that ends with i, has every forced bar up to i, and whose spans all fit.
--- The empty list is the one that ends at 0. Where i is the last bar, it is a legal breaking.
+-- A legal prefix that ends at bar i: a rising list that ends with i, has every forced bar up to i, and whose spans all
+-- fit. The empty list is the one that ends at 0. Where i is the last bar, it is a legal breaking.
 pub record IsLegal (cost : ℕ → ℕ → Option ℕ) (forced : ℕ → Bool) (breaks : List ℕ) (i : ℕ) : Type 0 where
   pub rises : RisesFrom 0 breaks
   pub ends : last_from 0 breaks ≡ i
@@ -43,11 +44,15 @@ LexAtMost (x ∷ xs) (y ∷ ys) = (x < y) ⊎ ((x ≡ y) × LexAtMost xs ys)
 pub record IsChosen (cost : ℕ → ℕ → Option ℕ) (forced : ℕ → Bool) (n : ℕ) (breaks : List ℕ) : Type 0 where
   pub legal : IsLegal cost forced breaks n
   pub least : (other : List ℕ) → IsLegal cost forced other n → sum_from cost 0 breaks ≤ sum_from cost 0 other
-  pub latest : (other : List ℕ) → IsLegal cost forced other n → sum_from cost 0 other ≡ sum_from cost 0 breaks → LexAtMost (reverse other) (reverse breaks)
+  pub latest : (other : List ℕ)
+      → IsLegal cost forced other n → sum_from cost 0 other ≡ sum_from cost 0 breaks
+      → LexAtMost (reverse other) (reverse breaks)
 
 -- of one row of costs one breaking alone is chosen
 abbrev pub OneIsChosen : Type 0
-OneIsChosen = (cost : ℕ → ℕ → Option ℕ) (forced : ℕ → Bool) (n : ℕ) (breaks others : List ℕ) → IsChosen cost forced n breaks → IsChosen cost forced n others → breaks ≡ others
+OneIsChosen =
+    (cost : ℕ → ℕ → Option ℕ) (forced : ℕ → Bool) (n : ℕ) (breaks others : List ℕ)
+    → IsChosen cost forced n breaks → IsChosen cost forced n others → breaks ≡ others
 
 -- v is the least sum of a legal prefix that ends at bar i
 pub record IsLeastSum (cost : ℕ → ℕ → Option ℕ) (forced : ℕ → Bool) (i v : ℕ) : Type 0 where

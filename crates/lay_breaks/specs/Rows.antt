@@ -16,25 +16,34 @@ abbrev pub AreSmall : List (List ℕ) → Type 0
 AreSmall rows = All (λ row. All (λ v. v ≤ 2 ^ 40) row) rows
 
 stop_in : (xs : List ℕ) (i j : ℕ) → i ≤ j → slice_get xs i ≡ None → slice_get xs j ≡ None
-stop_in xs i j l e = elim (cases_lt j (length xs)) [ inl lt ↦ absurd (none-some (slice_index_or xs i 0) (sym e ∙ slice_get-get_or xs i 0 (omega arith))) | inr ge ↦ slice_get_past xs j ge ]
+stop_in xs i j l e = elim (cases_lt j (length xs)) [
+  | inl lt ↦ absurd (none-some (slice_index_or xs i 0) (sym e ∙ slice_get-get_or xs i 0 (omega arith)))
+  | inr ge ↦ slice_get_past xs j ge
+]
 
 -- what follows from the form: the two laws of costs
 pub rows_stop : (rows : List (List ℕ)) (a b c : ℕ) → a < b → b < c → row_cost rows a b ≡ None → row_cost rows a c ≡ None
 rows_stop rows a b c l m e = at (slice_get rows a) e
   where
-    at : (o : Option (List ℕ)) → option_and_then (λ row. slice_get row (b - a - 1)) o ≡ None → option_and_then (λ row. slice_get row (c - a - 1)) o ≡ None
+    at : (o : Option (List ℕ))
+        → option_and_then (λ row. slice_get row (b - a - 1)) o ≡ None
+        → option_and_then (λ row. slice_get row (c - a - 1)) o ≡ None
     at None e = refl
     at (Some row) e = stop_in row (b - a - 1) (c - a - 1) (omega arith) e
 
 pub rows_small : (rows : List (List ℕ)) → AreSmall rows → (a b : ℕ) → IfSome (row_cost rows a b) (λ v. v ≤ 2 ^ 40)
 rows_small rows h a b = at (slice_get rows a) refl
   where
-    one : (row : List ℕ) → slice_get rows a ≡ Some row → (o : Option ℕ) → slice_get row (b - a - 1) ≡ o → IfSome o (λ v. v ≤ 2 ^ 40)
+    one : (row : List ℕ)
+        → slice_get rows a ≡ Some row → (o : Option ℕ) → slice_get row (b - a - 1) ≡ o → IfSome o (λ v. v ≤ 2 ^ 40)
     one row e None f = tt
     one row e (Some v) f =
-        let here = h a row (slice_get_within rows a row e) in let here' = rw (get_or_from_slice_get rows a row row e) at here in let k = here' (b - a - 1) v (slice_get_within row (b - a - 1) v f) in
+        let here = h a row (slice_get_within rows a row e) in
+        let here' = rw (get_or_from_slice_get rows a row row e) at here in
+        let k = here' (b - a - 1) v (slice_get_within row (b - a - 1) v f) in
         rw (get_or_from_slice_get row (b - a - 1) v v f) at k
 
-    at : (o : Option (List ℕ)) → slice_get rows a ≡ o → IfSome (option_and_then (λ row. slice_get row (b - a - 1)) o) (λ v. v ≤ 2 ^ 40)
+    at : (o : Option (List ℕ))
+        → slice_get rows a ≡ o → IfSome (option_and_then (λ row. slice_get row (b - a - 1)) o) (λ v. v ≤ 2 ^ 40)
     at None e = tt
     at (Some row) e = one row e (slice_get row (b - a - 1)) refl

@@ -24,7 +24,8 @@ pub trait Costs {
         ensures { result ≡ is_forced self.now b };
 
     /// A span that is longer than one that doesn't fit doesn't fit either.
-    ghost stays_none: { (s : Self) (a b c : ℕ) → a < b → b < c → c ≤ bars s → badness s a b ≡ Option.None → badness s a c ≡ Option.None };
+    ghost stays_none: { (s : Self) (a b c : ℕ)
+        → a < b → b < c → c ≤ bars s → badness s a b ≡ Option.None → badness s a c ≡ Option.None };
 
     /// No cost passes 2^40.
     ghost is_small: { (s : Self) (a b : ℕ) → a < b → b ≤ bars s → IfSome (badness s a b) (λ v. v ≤ 2 ^ 40) };

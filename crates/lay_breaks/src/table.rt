@@ -65,7 +65,8 @@ pub fn fill<K: Costs>(alloc: Global, costs: &K, n: u32) -> Result<BreakTable, Al
     requires few { n ≤ 8388608 }
     ensures one_each { IfOk result (λ t. vec_len t.potentials ≡ n + 1) }
     ensures one_from { IfOk result (λ t. vec_len t.froms ≡ n + 1) }
-    ensures known { IfOk result (λ t. IsBreakTable (K.badness costs.now) (K.is_forced costs.now) n n t.potentials.items t.froms.items) }
+    ensures known { IfOk result
+        (λ t. IsBreakTable (K.badness costs.now) (K.is_forced costs.now) n n t.potentials.items t.froms.items) }
 {
     let bars = n as usize + 1;
     let mut potentials = vec![in alloc; None; bars]?;

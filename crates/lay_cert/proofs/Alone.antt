@@ -30,7 +30,8 @@ pub lacks_by : (b : ℕ) (s : List ℕ) → lacks_test b s ≡ true → Lacks b 
 lacks_by b [] e = tt
 lacks_by b (x ∷ s) e = at (x == b) refl e (λ k. lacks_by b s k)
   where
-    at : (t : Bool) → (x == b) ≡ t → (if t then false else lacks_test b s) ≡ true → (lacks_test b s ≡ true → Lacks b s) → Lacks b (x ∷ s)
+    at : (t : Bool) → (x == b) ≡ t → (if t then false else lacks_test b s) ≡ true → (lacks_test b s ≡ true → Lacks b s)
+        → Lacks b (x ∷ s)
     at true is e more = absurd (true≢false (sym e))
     at false is e more = (λ q. true≢false (sym (eq-eqb x b q) ∙ is), more e)
 
@@ -40,7 +41,8 @@ digits_lack n l = decimal_lacks 10 n (inl (omega arith)) l
 space_lacks : (xs : List ℕ) → Lacks 10 xs → Lacks 10 (32 ∷ xs)
 space_lacks xs h = ((λ e. absurd (omega arith)), h)
 
-sum_lacks : (o : Option ℕ) (i n : ℕ) (spans : List Span) → i ≤ 4000 → AreSpans n spans → IsPotential (listed spans) none_forced i o → Lacks 10 (sum_text o)
+sum_lacks : (o : Option ℕ) (i n : ℕ) (spans : List Span)
+    → i ≤ 4000 → AreSpans n spans → IsPotential (listed spans) none_forced i o → Lacks 10 (sum_text o)
 sum_lacks None i n spans l h k = lacks_by 10 (codes "none") refl
 sum_lacks (Some v) i n spans l h k = let w = least_within n i v spans h k in digits_lack v (omega arith)
 
@@ -50,7 +52,8 @@ may_lack begun ListingLine.Listing m g = lacks_by 10 (codes "listing 1") refl
 may_lack (between es) (ListingLine.Tune tune bars) m g =
     lacks_both 10 (codes "tune " ++ decimal tune ++ 32 ∷ codes "measures ") (decimal bars)
     (lacks_both 10 (codes "tune " ++ decimal tune) (32 ∷ codes "measures ")
-    (lacks_both 10 (codes "tune ") (decimal tune) (lacks_by 10 (codes "tune ") refl) (let l = m.1 in digits_lack tune (omega arith)))
+    (lacks_both 10 (codes "tune ") (decimal tune) (lacks_by 10 (codes "tune ") refl)
+    (let l = m.1 in digits_lack tune (omega arith)))
     (lacks_by 10 (32 ∷ codes "measures ") refl))
     (let l = m.2 in digits_lack bars (omega arith))
 may_lack (between es) ListingLine.End m g = lacks_by 10 (codes "end") refl
@@ -65,12 +68,16 @@ may_lack (choosing es e) (ListingLine.Choose bar) m g =
     let w = (listed_within e.bars None e.spans (last_from 0 e.breaks) bar g.1.spans m).1 in let f = g.1.few in
     lacks_both 10 (codes "choose ") (decimal bar) (lacks_by 10 (codes "choose ") refl) (digits_lack bar (omega arith))
 may_lack (choosing es e) (ListingLine.Total total) m g =
-    let t = total_within e.bars (last_from 0 e.breaks) e.spans e.breaks g.1.spans g.1.choice in let f = g.1.few in let is = m.1 in let ends = m.0 in
+    let t = total_within e.bars (last_from 0 e.breaks) e.spans e.breaks g.1.spans g.1.choice in
+    let f = g.1.few in
+    let is = m.1 in
+    let ends = m.0 in
     lacks_both 10 (codes "total ") (decimal total) (lacks_by 10 (codes "total ") refl) (digits_lack total (omega arith))
 may_lack (proving es e) (ListingLine.Potential bar least) m g =
     let f = g.1.begun.few in let s = g.1.some_left in let is = m.0 in
     lacks_both 10 (codes "potential " ++ decimal bar) (32 ∷ sum_text least)
-    (lacks_both 10 (codes "potential ") (decimal bar) (lacks_by 10 (codes "potential ") refl) (digits_lack bar (omega arith)))
+    (lacks_both 10 (codes "potential ") (decimal bar) (lacks_by 10 (codes "potential ") refl)
+    (digits_lack bar (omega arith)))
     (space_lacks (sum_text least) (sum_lacks least bar e.bars e.spans (omega arith) g.1.begun.spans m.1))
 may_lack p l m g = absurd m
 
@@ -82,62 +89,106 @@ abbrev span_of : ℕ → ℕ → ℕ → Span
 span_of a b badness = record { a = a; b = b; badness = badness }
 
 -- lines of one kind with the same text tell the same
-pub tune_alone : (tune bars t b : ℕ) → tune < 2 ^ 64 → bars < 2 ^ 64 → t < 2 ^ 64 → b < 2 ^ 64 → line_text (ListingLine.Tune tune bars) ≡ line_text (ListingLine.Tune t b) → (tune ≡ t) × (bars ≡ b)
+pub tune_alone : (tune bars t b : ℕ)
+    → tune < 2 ^ 64 → bars < 2 ^ 64 → t < 2 ^ 64 → b < 2 ^ 64
+    → line_text (ListingLine.Tune tune bars) ≡ line_text (ListingLine.Tune t b)
+    → (tune ≡ t) × (bars ≡ b)
 tune_alone tune bars t b la lb ka kb e =
-    let r = after_prefix (codes "tune ") (line_text (ListingLine.Tune tune bars)) (decimal tune ++ (32 ∷ (codes "measures " ++ decimal bars))) (decimal t ++ (32 ∷ (codes "measures " ++ decimal b)))
+    let r = after_prefix (codes "tune ") (line_text (ListingLine.Tune tune bars))
+    (decimal tune ++ (32 ∷ (codes "measures " ++ decimal bars))) (decimal t ++ (32 ∷ (codes "measures " ++ decimal b)))
     (tune_text tune bars) (e ∙ tune_text t b) in
-    let f = one_field tune t _ (codes "measures " ++ decimal bars) (codes "measures " ++ decimal b) la ka refl r in
-    (f.0, decimal_injective bars b lb kb (after_prefix (codes "measures ") (codes "measures " ++ decimal bars) (decimal bars) (decimal b) refl f.1))
+    let f = one_field tune t _ (codes "measures " ++ decimal bars) (codes "measures " ++ decimal b) la ka refl r in (
+      f.0,
+      decimal_injective bars b lb kb
+          (after_prefix (codes "measures ") (codes "measures " ++ decimal bars) (decimal bars) (decimal b) refl f.1),
+    )
 
-pub span_alone : (s t : Span) → s.a < 2 ^ 64 → s.b < 2 ^ 64 → s.badness < 2 ^ 64 → t.a < 2 ^ 64 → t.b < 2 ^ 64 → t.badness < 2 ^ 64 → line_text (ListingLine.OneSpan s) ≡ line_text (ListingLine.OneSpan t) → s ≡ t
+pub span_alone : (s t : Span)
+    → s.a < 2 ^ 64 → s.b < 2 ^ 64 → s.badness < 2 ^ 64 → t.a < 2 ^ 64 → t.b < 2 ^ 64 → t.badness < 2 ^ 64
+    → line_text (ListingLine.OneSpan s) ≡ line_text (ListingLine.OneSpan t)
+    → s ≡ t
 span_alone s t ha hb hc ka kb kc e =
-    let r = after_prefix (codes "span ") (line_text (ListingLine.OneSpan s)) (decimal s.a ++ (32 ∷ (decimal s.b ++ (32 ∷ decimal s.badness)))) (decimal t.a ++ (32 ∷ (decimal t.b ++ (32 ∷ decimal t.badness))))
+    let r = after_prefix (codes "span ") (line_text (ListingLine.OneSpan s))
+    (decimal s.a ++ (32 ∷ (decimal s.b ++ (32 ∷ decimal s.badness))))
+    (decimal t.a ++ (32 ∷ (decimal t.b ++ (32 ∷ decimal t.badness))))
     (span_text s) (e ∙ span_text t) in
-    let a = one_field s.a t.a _ (decimal s.b ++ (32 ∷ decimal s.badness)) (decimal t.b ++ (32 ∷ decimal t.badness)) ha ka refl r in
-    let b = one_field s.b t.b _ (decimal s.badness) (decimal t.badness) hb kb refl a.1 in let c = decimal_injective s.badness t.badness hc kc b.1 in
+    let a = one_field s.a t.a _ (decimal s.b ++ (32 ∷ decimal s.badness)) (decimal t.b ++ (32 ∷ decimal t.badness)) ha
+    ka refl r in
+    let b = one_field s.b t.b _ (decimal s.badness) (decimal t.badness) hb kb refl a.1 in
+    let c = decimal_injective s.badness t.badness hc kc b.1 in
     ap (λ a. span_of a s.b s.badness) a.0 ∙ (ap (λ b. span_of t.a b s.badness) b.0 ∙ ap (λ c. span_of t.a t.b c) c)
 
-pub choice_alone : (bar b : ℕ) → bar < 2 ^ 64 → b < 2 ^ 64 → line_text (ListingLine.Choose bar) ≡ line_text (ListingLine.Choose b) → bar ≡ b
-choice_alone bar b l k e = decimal_injective bar b l k (after_prefix (codes "choose ") (line_text (ListingLine.Choose bar)) (decimal bar) (decimal b) refl e)
+pub choice_alone : (bar b : ℕ)
+    → bar < 2 ^ 64 → b < 2 ^ 64 → line_text (ListingLine.Choose bar) ≡ line_text (ListingLine.Choose b) → bar ≡ b
+choice_alone bar b l k e =
+    decimal_injective bar b l k
+    (after_prefix (codes "choose ") (line_text (ListingLine.Choose bar)) (decimal bar) (decimal b) refl e)
 
-same_tune : (es : List Entry) (tune bars : ℕ) (m : ListingLine) → MayCome (between es) (ListingLine.Tune tune bars) → MayCome (between es) m → line_text (ListingLine.Tune tune bars) ≡ line_text m → ListingLine.Tune tune bars ≡ m
+same_tune : (es : List Entry) (tune bars : ℕ) (m : ListingLine)
+    → MayCome (between es) (ListingLine.Tune tune bars) → MayCome (between es) m
+    → line_text (ListingLine.Tune tune bars) ≡ line_text m
+    → ListingLine.Tune tune bars ≡ m
 same_tune es tune bars (ListingLine.Tune t b) h k e =
-    let la = h.1 in let lb = h.2 in let ka = k.1 in let kb = k.2 in let f = tune_alone tune bars t b (omega arith) (omega arith) (omega arith) (omega arith) e in
+    let la = h.1 in
+    let lb = h.2 in
+    let ka = k.1 in
+    let kb = k.2 in
+    let f = tune_alone tune bars t b (omega arith) (omega arith) (omega arith) (omega arith) e in
     ap (λ t. ListingLine.Tune t bars) f.0 ∙ ap (λ b. ListingLine.Tune t b) f.1
 same_tune es tune bars ListingLine.End h k e = absurd (apart _ _ refl e)
 same_tune es tune bars m h k e = absurd k
 
-same_end : (es : List Entry) (m : ListingLine) → MayCome (between es) m → line_text ListingLine.End ≡ line_text m → ListingLine.End ≡ m
+same_end : (es : List Entry) (m : ListingLine)
+    → MayCome (between es) m → line_text ListingLine.End ≡ line_text m → ListingLine.End ≡ m
 same_end es ListingLine.End k e = refl
 same_end es (ListingLine.Tune t b) k e = absurd (apart _ _ refl e)
 same_end es m k e = absurd k
 
-same_span : (es : List Entry) (x : Entry) (s : Span) (m : ListingLine) → x.bars ≤ 4000 → MayCome (choosing es x) (ListingLine.OneSpan s) → MayCome (choosing es x) m → line_text (ListingLine.OneSpan s) ≡ line_text m → ListingLine.OneSpan s ≡ m
+same_span : (es : List Entry) (x : Entry) (s : Span) (m : ListingLine)
+    → x.bars ≤ 4000 → MayCome (choosing es x) (ListingLine.OneSpan s) → MayCome (choosing es x) m
+    → line_text (ListingLine.OneSpan s) ≡ line_text m
+    → ListingLine.OneSpan s ≡ m
 same_span es x s (ListingLine.OneSpan t) f h k e =
-    let ha = h.1.rises in let hb = h.1.within in let hc = h.1.small in let ka = k.1.rises in let kb = k.1.within in let kc = k.1.small in
-    ap ListingLine.OneSpan (span_alone s t (omega arith) (omega arith) (omega arith) (omega arith) (omega arith) (omega arith) e)
+    let ha = h.1.rises in
+    let hb = h.1.within in
+    let hc = h.1.small in
+    let ka = k.1.rises in
+    let kb = k.1.within in
+    let kc = k.1.small in
+    ap ListingLine.OneSpan
+    (span_alone s t (omega arith) (omega arith) (omega arith) (omega arith) (omega arith) (omega arith) e)
 same_span es x s (ListingLine.Choose b) f h k e = absurd (apart _ _ refl e)
 same_span es x s (ListingLine.Total t) f h k e = absurd (apart _ _ refl e)
 same_span es x s m f h k e = absurd k
 
-same_choice : (es : List Entry) (x : Entry) (bar : ℕ) (m : ListingLine) → IsGood (choosing es x) → MayCome (choosing es x) (ListingLine.Choose bar) → MayCome (choosing es x) m
+same_choice : (es : List Entry) (x : Entry) (bar : ℕ) (m : ListingLine)
+    → IsGood (choosing es x) → MayCome (choosing es x) (ListingLine.Choose bar) → MayCome (choosing es x) m
     → line_text (ListingLine.Choose bar) ≡ line_text m → ListingLine.Choose bar ≡ m
 same_choice es x bar (ListingLine.Choose b) g h k e =
-    let w = (listed_within x.bars None x.spans (last_from 0 x.breaks) bar g.1.spans h).1 in let v = (listed_within x.bars None x.spans (last_from 0 x.breaks) b g.1.spans k).1 in let f = g.1.few in
+    let w = (listed_within x.bars None x.spans (last_from 0 x.breaks) bar g.1.spans h).1 in
+    let v = (listed_within x.bars None x.spans (last_from 0 x.breaks) b g.1.spans k).1 in
+    let f = g.1.few in
     ap ListingLine.Choose (choice_alone bar b (omega arith) (omega arith) e)
 same_choice es x bar (ListingLine.OneSpan s) g h k e = absurd (apart _ _ refl e)
 same_choice es x bar (ListingLine.Total t) g h k e = absurd (apart _ _ refl e)
 same_choice es x bar m g h k e = absurd k
 
-same_total : (es : List Entry) (x : Entry) (total : ℕ) (m : ListingLine) → MayCome (choosing es x) (ListingLine.Total total) → MayCome (choosing es x) m → line_text (ListingLine.Total total) ≡ line_text m → ListingLine.Total total ≡ m
+same_total : (es : List Entry) (x : Entry) (total : ℕ) (m : ListingLine)
+    → MayCome (choosing es x) (ListingLine.Total total) → MayCome (choosing es x) m
+    → line_text (ListingLine.Total total) ≡ line_text m
+    → ListingLine.Total total ≡ m
 same_total es x total (ListingLine.Total t) h k e = ap ListingLine.Total (h.1 ∙ sym k.1)
 same_total es x total (ListingLine.OneSpan s) h k e = absurd (apart _ _ refl e)
 same_total es x total (ListingLine.Choose b) h k e = absurd (apart _ _ refl e)
 same_total es x total m h k e = absurd k
 
-same_potential : (es : List Entry) (x : Entry) (bar : ℕ) (least : Option ℕ) (m : ListingLine) → MayCome (proving es x) (ListingLine.Potential bar least) → MayCome (proving es x) m → ListingLine.Potential bar least ≡ m
+same_potential : (es : List Entry) (x : Entry) (bar : ℕ) (least : Option ℕ) (m : ListingLine)
+    → MayCome (proving es x) (ListingLine.Potential bar least) → MayCome (proving es x) m
+    → ListingLine.Potential bar least ≡ m
 same_potential es x bar least (ListingLine.Potential b o) h k =
-    let e : bar ≡ b = h.0 ∙ sym k.0 in let f = one_potential (listed x.spans) none_forced bar least o h.1 (subst (λ i. IsPotential (listed x.spans) none_forced i o) (sym e) k.1) in
+    let e : bar ≡ b = h.0 ∙ sym k.0 in
+    let f = one_potential (listed x.spans) none_forced bar least o h.1
+    (subst (λ i. IsPotential (listed x.spans) none_forced i o) (sym e) k.1) in
     ap (λ i. ListingLine.Potential i least) e ∙ ap (λ o. ListingLine.Potential b o) f
 same_potential es x bar least m h k = absurd k
 
@@ -146,7 +197,8 @@ same_listing ListingLine.Listing k = refl
 same_listing m k = absurd k
 
 -- of the lines that may come here each has a text of its own
-pub one_line : (p : ReaderState) (l m : ListingLine) → MayCome p l → MayCome p m → IsGood p → line_text l ≡ line_text m → l ≡ m
+pub one_line : (p : ReaderState) (l m : ListingLine)
+    → MayCome p l → MayCome p m → IsGood p → line_text l ≡ line_text m → l ≡ m
 one_line begun ListingLine.Listing m h k g e = same_listing m k
 one_line (between es) (ListingLine.Tune tune bars) m h k g e = same_tune es tune bars m h k e
 one_line (between es) ListingLine.End m h k g e = same_end es m k e
@@ -157,7 +209,9 @@ one_line (proving es x) (ListingLine.Potential bar least) m h k g e = same_poten
 one_line p l m h k g e = absurd h
 
 -- From one place good lines through the same text are the same lines.
-pub one_way : (p : ReaderState) (ls ms : List ListingLine) (es fs : List Entry) (more : List ℕ) → IsGood p → Leads p ls (ended es) → Leads p ms (ended fs) → lines_then ls more ≡ lines_then ms [] → (es ≡ fs) × (more ≡ [])
+pub one_way : (p : ReaderState) (ls ms : List ListingLine) (es fs : List Entry) (more : List ℕ)
+    → IsGood p → Leads p ls (ended es) → Leads p ms (ended fs) → lines_then ls more ≡ lines_then ms []
+    → (es ≡ fs) × (more ≡ [])
 one_way p [] [] es fs more g h k e = (ap entries (sym h ∙ k), e)
   where
     entries : ReaderState → List Entry
@@ -166,21 +220,32 @@ one_way p [] [] es fs more g h k e = (ap entries (sym h ∙ k), e)
 one_way p [] (m ∷ ms) es fs more g h k e = absurd (subst (λ p. MayCome p m) h k.0)
 one_way p (l ∷ ls) [] es fs more g h k e = absurd (subst (λ p. MayCome p l) k h.0)
 one_way p (l ∷ ls) (m ∷ ms) es fs more g h k e =
-    let c = one_cut 10 (line_text l) (line_text m) (lines_then ls more) (lines_then ms []) (may_lack p l h.0 g) (may_lack p m k.0 g) e in let s = one_line p l m h.0 k.0 g c.0 in
-    one_way (state_after p l) ls ms es fs more (step_good p l h.0 g) h.1 (subst (λ m. Leads (state_after p m) ms (ended fs)) (sym s) k.1) c.1
+    let c = one_cut 10 (line_text l) (line_text m) (lines_then ls more) (lines_then ms []) (may_lack p l h.0 g)
+    (may_lack p m k.0 g) e in
+    let s = one_line p l m h.0 k.0 g c.0 in
+    one_way (state_after p l) ls ms es fs more (step_good p l h.0 g) h.1
+    (subst (λ m. Leads (state_after p m) ms (ended fs)) (sym s) k.1) c.1
 
 -- Where the text is stuck, no lines lead through it.
-pub no_way : (p : ReaderState) (ls ms : List ListingLine) (q : ReaderState) (fs : List Entry) (rest : List ℕ) → IsGood p → Leads p ls q → IsStuck q rest → Leads p ms (ended fs) → lines_then ls rest ≡ lines_then ms [] → ⊥
+pub no_way : (p : ReaderState) (ls ms : List ListingLine) (q : ReaderState) (fs : List Entry) (rest : List ℕ)
+    → IsGood p → Leads p ls q → IsStuck q rest → Leads p ms (ended fs) → lines_then ls rest ≡ lines_then ms [] → ⊥
 no_way p [] [] q fs rest g h s k e = s.1 fs e (sym h ∙ k)
 no_way p [] (m ∷ ms) q fs rest g h s k e = s.0 m (lines_then ms []) e (subst (λ p. MayCome p m) h k.0)
 no_way p (l ∷ ls) [] q fs rest g h s k e = absurd (subst (λ p. MayCome p l) k h.0)
 no_way p (l ∷ ls) (m ∷ ms) q fs rest g h s k e =
-    let c = one_cut 10 (line_text l) (line_text m) (lines_then ls rest) (lines_then ms []) (may_lack p l h.0 g) (may_lack p m k.0 g) e in let is = one_line p l m h.0 k.0 g c.0 in
-    no_way (state_after p l) ls ms q fs rest (step_good p l h.0 g) h.1 s (subst (λ m. Leads (state_after p m) ms (ended fs)) (sym is) k.1) c.1
+    let c = one_cut 10 (line_text l) (line_text m) (lines_then ls rest) (lines_then ms []) (may_lack p l h.0 g)
+    (may_lack p m k.0 g) e in
+    let is = one_line p l m h.0 k.0 g c.0 in
+    no_way (state_after p l) ls ms q fs rest (step_good p l h.0 g) h.1 s
+    (subst (λ m. Leads (state_after p m) ms (ended fs)) (sym is) k.1) c.1
 
 -- the lines that lead to the end are those of the entries told
-pub told_by_lines : (text : List ℕ) (ls : List ListingLine) (es : List Entry) → text ≡ lines_then ls [] → Leads begun ls (ended es) → IsListing text es
-told_by_lines text ls es e h = record { entries = leads_good begun ls (ended es) h tt; lines = e ∙ ap (λ ls. lines_then ls []) (sym (leads_lines begun ls (ended es) h tt)) }
+pub told_by_lines : (text : List ℕ) (ls : List ListingLine) (es : List Entry)
+    → text ≡ lines_then ls [] → Leads begun ls (ended es) → IsListing text es
+told_by_lines text ls es e h = record {
+  entries = leads_good begun ls (ended es) h tt;
+  lines = e ∙ ap (λ ls. lines_then ls []) (sym (leads_lines begun ls (ended es) h tt));
+}
 
 pub good_by_lines : GoodByLines
 good_by_lines text es = (
@@ -189,16 +254,21 @@ good_by_lines text es = (
 )
 
 pub tells_one : TellsOne
-tells_one text es fs h k = (one_way begun (listing_lines es) (listing_lines fs) es fs [] tt (listing_leads es h.entries) (listing_leads fs k.entries) (sym h.lines ∙ k.lines)).0
+tells_one text es fs h k =
+    (one_way begun (listing_lines es) (listing_lines fs) es fs [] tt (listing_leads es h.entries)
+    (listing_leads fs k.entries) (sym h.lines ∙ k.lines)).0
 
 pub faults_tell_none : FaultsTellNone
-faults_tell_none text number es h k = no_way begun h.0 (listing_lines es) h.2 es h.1 tt h.4 h.5 (listing_leads es k.entries) (sym h.3 ∙ k.lines)
+faults_tell_none text number es h k =
+    no_way begun h.0 (listing_lines es) h.2 es h.1 tt h.4 h.5 (listing_leads es k.entries) (sym h.3 ∙ k.lines)
 
 lines_on : (ls : List ListingLine) (rest more : List ℕ) → lines_then ls rest ++ more ≡ lines_then ls (rest ++ more)
 lines_on [] rest more = refl
-lines_on (l ∷ ls) rest more = append_assoc (line_text l) (10 ∷ lines_then ls rest) more ∙ ap (λ t. line_text l ++ 10 ∷ t) (lines_on ls rest more)
+lines_on (l ∷ ls) rest more =
+    append_assoc (line_text l) (10 ∷ lines_then ls rest) more ∙ ap (λ t. line_text l ++ 10 ∷ t) (lines_on ls rest more)
 
 pub no_prefix : NoPrefix
 no_prefix text more es fs h k =
-    (one_way begun (listing_lines es) (listing_lines fs) es fs more tt (listing_leads es h.entries) (listing_leads fs k.entries)
+    (one_way begun (listing_lines es) (listing_lines fs) es fs more tt (listing_leads es h.entries)
+    (listing_leads fs k.entries)
     (sym (lines_on (listing_lines es) [] more) ∙ (ap (λ t. t ++ more) (sym h.lines) ∙ k.lines))).1

@@ -25,54 +25,89 @@ use Rattle.lay_cert.proofs.Alone.{apart, tune_alone, span_alone, choice_alone, m
 use Rattle.lay_cert.proofs.Alone.{faults_tell_none}
 use Rattle.eng_lines.{specs.Lines.Lacks, proofs.Words.one_cut, proofs.Words.lacks_none}
 
-pub none_refused : (es : List Entry) (raw : List ℕ) (tune bars : ℕ) → raw ≡ line_text (ListingLine.Tune tune bars) → tune < 2 ^ 32 → bars < 2 ^ 32 → (tune ≤ last_tune_from 0 es) ⊎ (4000 < bars) → NoneMayCome (between es) raw
+pub none_refused : (es : List Entry) (raw : List ℕ) (tune bars : ℕ)
+    → raw ≡ line_text (ListingLine.Tune tune bars) → tune < 2 ^ 32 → bars < 2 ^ 32
+    → (tune ≤ last_tune_from 0 es) ⊎ (4000 < bars)
+    → NoneMayCome (between es) raw
 none_refused es raw tune bars is lt lb out (ListingLine.Tune t b) e m =
-    let k0 = m.0 in let k1 = m.1 in let k2 = m.2 in let f = tune_alone tune bars t b (omega arith) (omega arith) (omega arith) (omega arith) (sym is ∙ e) in let f0 = f.0 in let f1 = f.1 in
+    let k0 = m.0 in
+    let k1 = m.1 in
+    let k2 = m.2 in
+    let f = tune_alone tune bars t b (omega arith) (omega arith) (omega arith) (omega arith) (sym is ∙ e) in
+    let f0 = f.0 in
+    let f1 = f.1 in
     elim out [ inl h ↦ absurd (omega arith) | inr h ↦ absurd (omega arith) ]
 none_refused es raw tune bars is lt lb out ListingLine.End e m = apart _ _ refl (sym is ∙ e)
 none_refused es raw tune bars is lt lb out l e m = absurd m
 
-pub none_span : (es : List Entry) (c : Choosing) (s : Span) → IsChoosing c → s.a < 2 ^ 32 → s.b < 2 ^ 32 → s.badness < 2 ^ 64
-    → (c.breaks ≡ [] → MayFollow c.bars c.last s → ⊥) → NoneMayCome (choosing es (entry_so_far c)) (line_text (ListingLine.OneSpan s))
+pub none_span : (es : List Entry) (c : Choosing) (s : Span)
+    → IsChoosing c → s.a < 2 ^ 32 → s.b < 2 ^ 32 → s.badness < 2 ^ 64
+    → (c.breaks ≡ [] → MayFollow c.bars c.last s → ⊥)
+    → NoneMayCome (choosing es (entry_so_far c)) (line_text (ListingLine.OneSpan s))
 none_span es c s h la lb lc f (ListingLine.OneSpan t) e m =
-    let ka = m.1.rises in let kb = m.1.within in let kc = m.1.small in let few = h.few in let is : t ≡ s = sym (span_alone s t (omega arith) (omega arith) lc (omega arith) (omega arith) (omega arith) e) in
-    f m.0 (subst (λ o. MayFollow c.bars o s) (sym h.last) (subst (λ t. MayFollow c.bars (last_span_from None c.spans) t) is m.1))
+    let ka = m.1.rises in
+    let kb = m.1.within in
+    let kc = m.1.small in
+    let few = h.few in
+    let is : t ≡ s = sym (span_alone s t (omega arith) (omega arith) lc (omega arith) (omega arith) (omega arith) e) in
+    f m.0 (subst (λ o. MayFollow c.bars o s) (sym h.last)
+    (subst (λ t. MayFollow c.bars (last_span_from None c.spans) t) is m.1))
 none_span es c s h la lb lc f (ListingLine.Choose b) e m = apart _ _ refl e
 none_span es c s h la lb lc f (ListingLine.Total t) e m = apart _ _ refl e
 none_span es c s h la lb lc f l e m = absurd m
 
-pub none_break : (es : List Entry) (c : Choosing) (bar : ℕ) → IsChoosing c → bar < 2 ^ 32 → listed c.spans c.at bar ≡ None → NoneMayCome (choosing es (entry_so_far c)) (line_text (ListingLine.Choose bar))
+pub none_break : (es : List Entry) (c : Choosing) (bar : ℕ)
+    → IsChoosing c → bar < 2 ^ 32 → listed c.spans c.at bar ≡ None
+    → NoneMayCome (choosing es (entry_so_far c)) (line_text (ListingLine.Choose bar))
 none_break es c bar h l f (ListingLine.Choose b) e m =
-    let w = (listed_within c.bars None c.spans (last_from 0 c.breaks) b h.spans m).1 in let few = h.few in let is : b ≡ bar = sym (choice_alone bar b (omega arith) (omega arith) e) in
-    let n : listed c.spans (last_from 0 c.breaks) b ≡ None = ap (λ b. listed c.spans (last_from 0 c.breaks) b) is ∙ (ap (λ a. listed c.spans a bar) (sym h.at) ∙ f) in true≢false (sym m ∙ ap is_some n)
+    let w = (listed_within c.bars None c.spans (last_from 0 c.breaks) b h.spans m).1 in
+    let few = h.few in
+    let is : b ≡ bar = sym (choice_alone bar b (omega arith) (omega arith) e) in
+    let n : listed c.spans (last_from 0 c.breaks) b ≡ None =
+    ap (λ b. listed c.spans (last_from 0 c.breaks) b) is ∙ (ap (λ a. listed c.spans a bar) (sym h.at) ∙ f) in
+    true≢false (sym m ∙ ap is_some n)
 none_break es c bar h l f (ListingLine.OneSpan s) e m = apart _ _ refl e
 none_break es c bar h l f (ListingLine.Total t) e m = apart _ _ refl e
 none_break es c bar h l f m e k = absurd k
 
 pub none_choosing : (es : List Entry) (c : Choosing) (raw : List ℕ) → IsChoosing c
-    → ((s : Span) → s.a < 2 ^ 32 → s.b < 2 ^ 32 → s.badness < 2 ^ 64 → raw ≡ line_text (ListingLine.OneSpan s) → ⊥) → ((bar : ℕ) → bar < 2 ^ 32 → raw ≡ line_text (ListingLine.Choose bar) → ⊥)
+    → ((s : Span) → s.a < 2 ^ 32 → s.b < 2 ^ 32 → s.badness < 2 ^ 64 → raw ≡ line_text (ListingLine.OneSpan s) → ⊥)
+    → ((bar : ℕ) → bar < 2 ^ 32 → raw ≡ line_text (ListingLine.Choose bar) → ⊥)
     → (c.at ≡ c.bars → raw ≡ line_text (ListingLine.Total c.total) → ⊥) → NoneMayCome (choosing es (entry_so_far c)) raw
-none_choosing es c raw h f g k (ListingLine.OneSpan s) e m = let ka = m.1.rises in let kb = m.1.within in let kc = m.1.small in let few = h.few in f s (omega arith) (omega arith) (omega arith) e
-none_choosing es c raw h f g k (ListingLine.Choose b) e m = let w = (listed_within c.bars None c.spans (last_from 0 c.breaks) b h.spans m).1 in let few = h.few in g b (omega arith) e
-none_choosing es c raw h f g k (ListingLine.Total t) e m = k (h.at ∙ m.0) (e ∙ ap (λ t. line_text (ListingLine.Total t)) (m.1 ∙ sym h.total))
+none_choosing es c raw h f g k (ListingLine.OneSpan s) e m =
+    let ka = m.1.rises in
+    let kb = m.1.within in
+    let kc = m.1.small in
+    let few = h.few in
+    f s (omega arith) (omega arith) (omega arith) e
+none_choosing es c raw h f g k (ListingLine.Choose b) e m =
+    let w = (listed_within c.bars None c.spans (last_from 0 c.breaks) b h.spans m).1 in
+    let few = h.few in
+    g b (omega arith) e
+none_choosing es c raw h f g k (ListingLine.Total t) e m =
+    k (h.at ∙ m.0) (e ∙ ap (λ t. line_text (ListingLine.Total t)) (m.1 ∙ sym h.total))
 none_choosing es c raw h f g k l e m = absurd m
 
 -- an entry is known by its parts
-pub entry_same : (c : Choosing) (t n : ℕ) (ss : List Span) (bs : List ℕ) → c.tune ≡ t → c.bars ≡ n → c.spans ≡ ss → c.breaks ≡ bs → begun_with t n ss bs ≡ entry_so_far c
+pub entry_same : (c : Choosing) (t n : ℕ) (ss : List Span) (bs : List ℕ)
+    → c.tune ≡ t → c.bars ≡ n → c.spans ≡ ss → c.breaks ≡ bs → begun_with t n ss bs ≡ entry_so_far c
 entry_same c t n ss bs et en es eb =
     ap (λ t. begun_with t n ss bs) (sym et) ∙ (ap (λ n. begun_with c.tune n ss bs) (sym en)
     ∙ (ap (λ ss. begun_with c.tune c.bars ss bs) (sym es) ∙ ap (λ bs. begun_with c.tune c.bars c.spans bs) (sym eb)))
 
-pub verdicts_more : (es : List Entry) (js : List Judged) (e : Entry) (j : Judged) → AreVerdicts es js → j.tune ≡ e.tune → IsVerdict e j.verdict → AreVerdicts (es ++ e ∷ []) (js ++ j ∷ [])
+pub verdicts_more : (es : List Entry) (js : List Judged) (e : Entry) (j : Judged)
+    → AreVerdicts es js → j.tune ≡ e.tune → IsVerdict e j.verdict → AreVerdicts (es ++ e ∷ []) (js ++ j ∷ [])
 verdicts_more [] [] e j h t v = (t, v, tt)
 verdicts_more (x ∷ es) (k ∷ js) e j h t v = (h.0, h.1, verdicts_more es js e j h.2 t v)
 verdicts_more es js e j h t v = absurd h
 
-pub at_ended : (Q : ReaderState → Type 0) (js : List Judged) (p : ReaderState) → Represents ListingState.Ended js p → ((es : List Entry) → AreVerdicts es js → Q (ended es)) → Q p
+pub at_ended : (Q : ReaderState → Type 0) (js : List Judged) (p : ReaderState)
+    → Represents ListingState.Ended js p → ((es : List Entry) → AreVerdicts es js → Q (ended es)) → Q p
 at_ended Q js (ended es) h q = q es h
 at_ended Q js p h q = absurd h
 
-lines_push : (ls : List ListingLine) (l : ListingLine) (rest : List ℕ) → lines_then (ls ++ l ∷ []) rest ≡ lines_then ls (line_text l ++ 10 ∷ rest)
+lines_push : (ls : List ListingLine) (l : ListingLine) (rest : List ℕ)
+    → lines_then (ls ++ l ∷ []) rest ≡ lines_then ls (line_text l ++ 10 ∷ rest)
 lines_push [] l rest = refl
 lines_push (k ∷ ls) l rest = ap (λ t. line_text k ++ 10 ∷ t) (lines_push ls l rest)
 
@@ -85,47 +120,64 @@ pub record IsReading (text : List ℕ) (s : ListingState) (js : List Judged) (re
   pub stands : Represents s js place
   pub counted : number ≡ length lines + 1
 
-pub reading_more : (text : List ℕ) (s t : ListingState) (js ks : List Judged) (rest raw behind : List ℕ) (number : ℕ) → IsReading text s js rest number
-    → rest ≡ raw ++ 10 ∷ behind → ((p : ReaderState) → Represents s js p → IsStep p raw ks (Some t)) → IsReading text t ks behind (number + 1)
+pub reading_more : (text : List ℕ) (s t : ListingState) (js ks : List Judged) (rest raw behind : List ℕ) (number : ℕ)
+    → IsReading text s js rest number
+    → rest ≡ raw ++ 10 ∷ behind
+    → ((p : ReaderState) → Represents s js p → IsStep p raw ks (Some t))
+    → IsReading text t ks behind (number + 1)
 reading_more text s t js ks rest raw behind number h cut step =
     let m = step h.place h.stands in let n = h.counted in let k = length-append h.lines (m.0 ∷ []) in
     record {
       lines = h.lines ++ m.0 ∷ [];
       place = state_after h.place m.0;
-      so_far = h.so_far ∙ (ap (λ r. lines_then h.lines r) (cut ∙ ap (λ r. r ++ 10 ∷ behind) m.1) ∙ sym (lines_push h.lines m.0 behind));
+      so_far =
+          h.so_far
+          ∙ (ap (λ r. lines_then h.lines r) (cut ∙ ap (λ r. r ++ 10 ∷ behind) m.1)
+          ∙ sym (lines_push h.lines m.0 behind));
       leads = leads_more begun h.lines h.place m.0 h.leads m.2;
       stands = m.3;
       counted = omega arith;
     }
 
 -- the cause of NotListing
-pub first_fault : (text : List ℕ) (s : ListingState) (js : List Judged) (rest : List ℕ) (number : ℕ) (h : IsReading text s js rest number)
+pub first_fault : (text : List ℕ) (s : ListingState) (js : List Judged) (rest : List ℕ) (number : ℕ)
+    (h : IsReading text s js rest number)
     → IsStuck h.place rest → IsFirstFault text number × ((es : List Entry) → IsListing text es → ⊥)
-first_fault text s js rest number h stuck = let f : IsFirstFault text number = (h.lines, rest, h.place, h.so_far, h.leads, stuck, h.counted) in (f, (λ es k. faults_tell_none text number es f k))
+first_fault text s js rest number h stuck =
+    let f : IsFirstFault text number = (h.lines, rest, h.place, h.so_far, h.leads, stuck, h.counted) in
+    (f, (λ es k. faults_tell_none text number es f k))
 
-pub stuck_at_line : (text : List ℕ) (s : ListingState) (js ks : List Judged) (rest raw behind : List ℕ) (number : ℕ) (h : IsReading text s js rest number)
-    → rest ≡ raw ++ 10 ∷ behind → Lacks 10 raw → ((p : ReaderState) → Represents s js p → IsStep p raw ks None) → IsStuck h.place rest
+pub stuck_at_line : (text : List ℕ) (s : ListingState) (js ks : List Judged) (rest raw behind : List ℕ) (number : ℕ)
+    (h : IsReading text s js rest number)
+    → rest ≡ raw ++ 10 ∷ behind → Lacks 10 raw
+    → ((p : ReaderState) → Represents s js p → IsStep p raw ks None)
+    → IsStuck h.place rest
 stuck_at_line text s js ks rest raw behind number h cut lacks step = (
   (λ l more e m. let g = leads_good begun h.lines h.place h.leads tt in
       let one = one_cut 10 raw (line_text l) behind more lacks (may_lack h.place l m g) (sym cut ∙ e) in
       step h.place h.stands l one.0 m),
-  (λ es e is. let n = ap length (sym cut ∙ e) in let k = length-append raw (10 ∷ behind) in absurd (omega (arith, n, k))),
+  (λ es e is.
+      let n = ap length (sym cut ∙ e) in let k = length-append raw (10 ∷ behind) in absurd (omega (arith, n, k))),
 )
 
-pub stuck_at_end : (p : ReaderState) (rest : List ℕ) → Lacks 10 rest → ((es : List Entry) → rest ≡ [] → p ≡ ended es → ⊥) → IsStuck p rest
+pub stuck_at_end : (p : ReaderState) (rest : List ℕ)
+    → Lacks 10 rest → ((es : List Entry) → rest ≡ [] → p ≡ ended es → ⊥) → IsStuck p rest
 stuck_at_end p rest lacks f = ((λ l more e m. lacks_none 10 (line_text l) more rest lacks e), f)
 
-pub judged_all : (text : List ℕ) (js : List Judged) (rest : List ℕ) (number : ℕ) → IsReading text ListingState.Ended js rest number → rest ≡ [] → IsJudged text js
+pub judged_all : (text : List ℕ) (js : List Judged) (rest : List ℕ) (number : ℕ)
+    → IsReading text ListingState.Ended js rest number → rest ≡ [] → IsJudged text js
 judged_all text js rest number h e =
     at_ended (λ p. Leads begun h.lines p → IsJudged text js) js h.place h.stands
     (λ es v l. (es, told_by_lines text h.lines es (h.so_far ∙ ap (λ r. lines_then h.lines r) e) l, v)) h.leads
 
 -- only the last stage stands for the end
-pub ended_stage : (s : ListingState) (js : List Judged) (es : List Entry) → Represents s js (ended es) → s ≡ ListingState.Ended
+pub ended_stage : (s : ListingState) (js : List Judged) (es : List Entry)
+    → Represents s js (ended es) → s ≡ ListingState.Ended
 ended_stage ListingState.Ended js es h = refl
 ended_stage s js es h = absurd h
 
-potential_here : (es : List Entry) (e : Entry) (v : Proving) → Proves v e → MayCome (proving es e) (ListingLine.Potential v.next (slice_index_or v.potentials v.next None))
+potential_here : (es : List Entry) (e : Entry) (v : Proving)
+    → Proves v e → MayCome (proving es e) (ListingLine.Potential v.next (slice_index_or v.potentials v.next None))
 potential_here es e v h = let le = h.kept.some_left in let eb = h.bars in (h.next, h.potentials v.next (omega arith))
 
 verdict_on : (e : Entry) (p : Option ℕ) (w : Verdict) → IsVerdict e w → IsVerdict (one_more e p) w
@@ -133,30 +185,52 @@ verdict_on e p (Verdict.Least t) k = k
 verdict_on e p (Verdict.NotLeast t b bs) k = k
 
 -- the potential of the last bar
-pub proved_all : (es : List Entry) (js : List Judged) (e : Entry) (v : Proving) (raw : List ℕ) → AreVerdicts es js → Proves v e → v.next ≡ v.bars
-    → raw ≡ line_text (ListingLine.Potential v.next (slice_index_or v.potentials v.next None)) → IsStep (proving es e) raw (js ++ record { tune = v.tune; verdict = v.verdict } ∷ []) (Some (ListingState.Between v.tune))
+pub proved_all : (es : List Entry) (js : List Judged) (e : Entry) (v : Proving) (raw : List ℕ)
+    → AreVerdicts es js → Proves v e → v.next ≡ v.bars
+    → raw ≡ line_text (ListingLine.Potential v.next (slice_index_or v.potentials v.next None))
+    → IsStep (proving es e) raw (js ++ record { tune = v.tune; verdict = v.verdict } ∷ [])
+    (Some (ListingState.Between v.tune))
 proved_all es js e v raw known h last is =
-    let p : Option ℕ = slice_index_or v.potentials v.next None in let n = h.next in let b = h.bars in let all : length e.potentials ≡ e.bars = omega arith in
+    let p : Option ℕ = slice_index_or v.potentials v.next None in
+    let n = h.next in
+    let b = h.bars in
+    let all : length e.potentials ≡ e.bars = omega arith in
     let j : Judged = record { tune = v.tune; verdict = v.verdict } in (
       ListingLine.Potential v.next p,
       is,
       potential_here es e v h,
-      subst (λ t. Represents (ListingState.Between v.tune) (js ++ j ∷ []) (if t then between (es ++ one_more e p ∷ []) else proving es (one_more e p))) (sym (eq-eqb (length e.potentials) e.bars all))
-          (h.tune ∙ sym (push_tune 0 es (one_more e p)), verdicts_more es js (one_more e p) j known h.tune (verdict_on e p v.verdict h.verdict)),
+      subst (λ t.
+          Represents (ListingState.Between v.tune) (js ++ j ∷ [])
+          (if t then between (es ++ one_more e p ∷ []) else proving es (one_more e p)))
+          (sym (eq-eqb (length e.potentials) e.bars all)) (
+            h.tune ∙ sym (push_tune 0 es (one_more e p)),
+            verdicts_more es js (one_more e p) j known h.tune (verdict_on e p v.verdict h.verdict),
+          ),
     )
 
 -- the potential of a bar before it
-pub proved_one : (es : List Entry) (js : List Judged) (e : Entry) (v : Proving) (raw : List ℕ) → AreVerdicts es js → Proves v e → v.next ≢ v.bars
+pub proved_one : (es : List Entry) (js : List Judged) (e : Entry) (v : Proving) (raw : List ℕ)
+    → AreVerdicts es js → Proves v e → v.next ≢ v.bars
     → raw ≡ line_text (ListingLine.Potential v.next (slice_index_or v.potentials v.next None))
-    → IsStep (proving es e) raw js (Some (ListingState.Proving (record { tune = v.tune; bars = v.bars; potentials = v.potentials; next = v.next + 1; verdict = v.verdict })))
+    → IsStep (proving es e) raw js
+    (Some (ListingState.Proving
+    (record { tune = v.tune; bars = v.bars; potentials = v.potentials; next = v.next + 1; verdict = v.verdict })))
 proved_one es js e v raw known h last is =
-    let p : Option ℕ = slice_index_or v.potentials v.next None in let n = h.next in let b = h.bars in let part : length e.potentials ≢ e.bars = omega arith in
+    let p : Option ℕ = slice_index_or v.potentials v.next None in
+    let n = h.next in
+    let b = h.bars in
+    let part : length e.potentials ≢ e.bars = omega arith in
     let le = h.kept.some_left in let some : v.next < v.bars = omega arith in (
       ListingLine.Potential v.next p,
       is,
       potential_here es e v h,
-      subst (λ t. Represents (ListingState.Proving (record { tune = v.tune; bars = v.bars; potentials = v.potentials; next = v.next + 1; verdict = v.verdict })) js
-          (if t then between (es ++ one_more e p ∷ []) else proving es (one_more e p))) (sym (ne_eqb (length e.potentials) e.bars part)) (
+      subst (λ t.
+          Represents
+          (ListingState.Proving
+          (record { tune = v.tune; bars = v.bars; potentials = v.potentials; next = v.next + 1; verdict = v.verdict }))
+          js
+          (if t then between (es ++ one_more e p ∷ []) else proving es (one_more e p)))
+          (sym (ne_eqb (length e.potentials) e.bars part)) (
             known,
             record {
               kept = record { few = h.kept.few; some_left = omega arith; one_each = h.kept.one_each };

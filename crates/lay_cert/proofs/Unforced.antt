@@ -6,8 +6,10 @@ use Rattle.lay_breaks.specs.Breaking.{FitsFrom, last_from, IsLegal}
 use Rattle.lay_cert.specs.Listing.{none_forced}
 use Rattle.lay_cert.specs.Laws.{ForcedBySpans}
 
-module _ (cost : ℕ → ℕ → Option ℕ) (forced : ℕ → Bool) (stops : (a f b : ℕ) → a < f → f < b → forced f ≡ true → cost a b ≡ None) where
-  kept : (a : ℕ) (bs : List ℕ) (f : ℕ) → FitsFrom cost a bs → a < f → f ≤ last_from a bs → forced f ≡ true → Contains bs f
+module _ (cost : ℕ → ℕ → Option ℕ) (forced : ℕ → Bool)
+    (stops : (a f b : ℕ) → a < f → f < b → forced f ≡ true → cost a b ≡ None) where
+  kept : (a : ℕ) (bs : List ℕ) (f : ℕ)
+      → FitsFrom cost a bs → a < f → f ≤ last_from a bs → forced f ≡ true → Contains bs f
   kept a [] f h l m t = absurd (omega arith)
   kept a (b ∷ bs) f h l m t = elim (cases_order f b) [
     | inl e ↦ subst (λ b. Contains (b ∷ bs) f) e (0, omega arith, refl)

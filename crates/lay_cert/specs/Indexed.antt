@@ -15,7 +15,8 @@ pub record IsIndexed (spans : List Span) (firsts : List ℕ) : Type 0 where
   pub each : (i : ℕ) (s : Span) → slice_get spans i ≡ Some s → i ≡ slice_index firsts s.a + (s.b - s.a - 1)
   pub inside : (a : ℕ) → slice_index firsts a ≤ length spans
 
-pub small_if_some : (spans : List Span) (a b : ℕ) → ((v : ℕ) → listed spans a b ≡ Some v → v ≤ 2 ^ 40) → IfSome (listed spans a b) (λ v. v ≤ 2 ^ 40)
+pub small_if_some : (spans : List Span) (a b : ℕ)
+    → ((v : ℕ) → listed spans a b ≡ Some v → v ≤ 2 ^ 40) → IfSome (listed spans a b) (λ v. v ≤ 2 ^ 40)
 small_if_some spans a b h = at (listed spans a b) h
   where
     at : (o : Option ℕ) → ((v : ℕ) → o ≡ Some v → v ≤ 2 ^ 40) → IfSome o (λ v. v ≤ 2 ^ 40)

@@ -24,9 +24,14 @@ NoPrefix = (text more : List ℕ) (es fs : List Entry) → IsListing text es →
 
 -- a listing is its first line, the lines of each entry, and its last line
 abbrev pub InParts : Type 0
-InParts = (es : List Entry) → lines_then (listing_lines es) [] ≡ lines_then (ListingLine.Listing ∷ []) [] ++ entries_text es ++ lines_then (ListingLine.End ∷ []) []
+InParts =
+    (es : List Entry)
+    → lines_then (listing_lines es) []
+    ≡ lines_then (ListingLine.Listing ∷ []) [] ++ entries_text es ++ lines_then (ListingLine.End ∷ []) []
 
 -- where no span passes a forced bar, the legal breakings are those of the same spans with no bar forced
 abbrev pub ForcedBySpans : Type 0
-ForcedBySpans = (cost : ℕ → ℕ → Option ℕ) (forced : ℕ → Bool) → forced 0 ≡ false → ((a f b : ℕ) → a < f → f < b → forced f ≡ true → cost a b ≡ None)
+ForcedBySpans =
+    (cost : ℕ → ℕ → Option ℕ) (forced : ℕ → Bool)
+    → forced 0 ≡ false → ((a f b : ℕ) → a < f → f < b → forced f ≡ true → cost a b ≡ None)
     → (breaks : List ℕ) (i : ℕ) → IsLegal cost forced breaks i ↔ IsLegal cost none_forced breaks i

@@ -1,5 +1,6 @@
--- What a listing is: for each tune the spans that fit among its bars, a choice of breaks, their total, and the potential of each bar.
--- A breaking of a tune's listing is a rising list of bars that ends with the last and whose spans are all listed. No bar is forced.
+-- What a listing is: for each tune the spans that fit among its bars, a choice of breaks, their total, and the
+-- potential of each bar. A breaking of a tune's listing is a rising list of bars that ends with the last and whose
+-- spans are all listed. No bar is forced.
 use Rattle.std.specs.Prelude.{◌≡◌, ℕ, ◌+◌, ◌<◌, ◌≤◌, ◌^◌, Bool, false, List, [], ◌∷◌, ◌++◌, length, Option, None, map}
 use Rattle.std.specs.Prelude.{slice_index_or}
 use Rattle.lay_breaks.specs.Breaking.{IsLegal, sum_from, IsPotential}
@@ -27,7 +28,8 @@ pub record IsEntry (e : Entry) : Type 0 where
   pub choice : IsLegal (listed e.spans) none_forced e.breaks e.bars
   pub total : e.total ≡ sum_from (listed e.spans) 0 e.breaks
   pub one_each : length e.potentials ≡ e.bars + 1
-  pub potentials : (i : ℕ) → i ≤ e.bars → IsPotential (listed e.spans) none_forced i (slice_index_or e.potentials i None)
+  pub potentials : (i : ℕ)
+      → i ≤ e.bars → IsPotential (listed e.spans) none_forced i (slice_index_or e.potentials i None)
 
 -- the numbers of the tunes rise, the first past k
 abbrev pub EntriesFrom : ℕ → List Entry → Type 0
@@ -40,7 +42,9 @@ potential_lines i (p ∷ ps) = ListingLine.Potential i p ∷ potential_lines (i 
 
 -- the lines of one tune
 abbrev pub entry_lines : Entry → List ListingLine
-entry_lines e = ListingLine.Tune e.tune e.bars ∷ map ListingLine.OneSpan e.spans ++ map ListingLine.Choose e.breaks ++ ListingLine.Total e.total ∷ potential_lines 0 e.potentials
+entry_lines e =
+    ListingLine.Tune e.tune e.bars ∷ map ListingLine.OneSpan e.spans ++ map ListingLine.Choose e.breaks
+    ++ ListingLine.Total e.total ∷ potential_lines 0 e.potentials
 
 abbrev pub all_lines : List Entry → List ListingLine
 all_lines [] = []

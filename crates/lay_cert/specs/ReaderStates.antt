@@ -8,8 +8,8 @@ use Rattle.lay_cert.specs.Lines.{line_text, lines_then}
 use Rattle.lay_cert.specs.Listing.{Entry, none_forced}
 use Rattle.lay_cert.specs.declared.lines.ListingLine.{ListingLine}
 
--- What the lines so far have told: nothing; whole entries; these and the spans and breaks of one more; these and its total
--- and the potentials of its first bars; all.
+-- What the lines so far have told: nothing; whole entries; these and the spans and breaks of one more; these and its
+-- total and the potentials of its first bars; all.
 pub data ReaderState : Type 0 where
   begun : ReaderState
   between : (es : List Entry) → ReaderState
@@ -25,33 +25,56 @@ abbrev pub last_span_from : Option Span → List Span → Option Span
 last_span_from last [] = last
 last_span_from last (s ∷ ss) = last_span_from (Some s) ss
 
--- The line may come next. A tune's number is past that of the tune before; a span comes before any break, and as the list of
--- spans asks; a break where the span from the break before it, or 0, is listed; the total where the last break is the last bar,
--- and only as the sum; a potential only for the next bar, and only as the least sum.
+-- The line may come next. A tune's number is past that of the tune before; a span comes before any break, and as the
+-- list of spans asks; a break where the span from the break before it, or 0, is listed; the total where the last break
+-- is the last bar, and only as the sum; a potential only for the next bar, and only as the least sum.
 abbrev pub MayCome : ReaderState → ListingLine → Type 0
 MayCome begun ListingLine.Listing = Unit {0}
 MayCome (between es) (ListingLine.Tune tune bars) = (last_tune_from 0 es < tune) × (tune < 2 ^ 32) × (bars ≤ 4000)
 MayCome (between es) ListingLine.End = Unit {0}
 MayCome (choosing es e) (ListingLine.OneSpan s) = (e.breaks ≡ []) × MayFollow e.bars (last_span_from None e.spans) s
 MayCome (choosing es e) (ListingLine.Choose bar) = IsSome (listed e.spans (last_from 0 e.breaks) bar)
-MayCome (choosing es e) (ListingLine.Total total) = (last_from 0 e.breaks ≡ e.bars) × (total ≡ sum_from (listed e.spans) 0 e.breaks)
-MayCome (proving es e) (ListingLine.Potential bar least) = (bar ≡ length e.potentials) × IsPotential (listed e.spans) none_forced bar least
+MayCome (choosing es e) (ListingLine.Total total) =
+    (last_from 0 e.breaks ≡ e.bars) × (total ≡ sum_from (listed e.spans) 0 e.breaks)
+MayCome (proving es e) (ListingLine.Potential bar least) =
+    (bar ≡ length e.potentials) × IsPotential (listed e.spans) none_forced bar least
 MayCome p l = ⊥
 
 -- one more potential: the entry is whole with that of its last bar
 abbrev pub with_potential : List Entry → Entry → Option ℕ → ReaderState
 with_potential es e p =
-    let more : Entry = record { tune = e.tune; bars = e.bars; spans = e.spans; breaks = e.breaks; total = e.total; potentials = e.potentials ++ p ∷ [] } in
+    let more : Entry = record {
+      tune = e.tune;
+      bars = e.bars;
+      spans = e.spans;
+      breaks = e.breaks;
+      total = e.total;
+      potentials = e.potentials ++ p ∷ [];
+    } in
     if length e.potentials == e.bars then between (es ++ more ∷ []) else proving es more
 
 -- what stands once the line has come
 abbrev pub state_after : ReaderState → ListingLine → ReaderState
 state_after begun ListingLine.Listing = between []
-state_after (between es) (ListingLine.Tune tune bars) = choosing es (record { tune = tune; bars = bars; spans = []; breaks = []; total = 0; potentials = [] })
+state_after (between es) (ListingLine.Tune tune bars) =
+    choosing es (record { tune = tune; bars = bars; spans = []; breaks = []; total = 0; potentials = [] })
 state_after (between es) ListingLine.End = ended es
-state_after (choosing es e) (ListingLine.OneSpan s) = choosing es (record { tune = e.tune; bars = e.bars; spans = e.spans ++ s ∷ []; breaks = e.breaks; total = 0; potentials = [] })
-state_after (choosing es e) (ListingLine.Choose bar) = choosing es (record { tune = e.tune; bars = e.bars; spans = e.spans; breaks = e.breaks ++ bar ∷ []; total = 0; potentials = [] })
-state_after (choosing es e) (ListingLine.Total total) = proving es (record { tune = e.tune; bars = e.bars; spans = e.spans; breaks = e.breaks; total = total; potentials = [] })
+state_after (choosing es e) (ListingLine.OneSpan s) =
+    choosing es
+    (record { tune = e.tune; bars = e.bars; spans = e.spans ++ s ∷ []; breaks = e.breaks; total = 0; potentials = [] })
+state_after (choosing es e) (ListingLine.Choose bar) =
+    choosing es
+    (record {
+      tune = e.tune;
+      bars = e.bars;
+      spans = e.spans;
+      breaks = e.breaks ++ bar ∷ [];
+      total = 0;
+      potentials = [];
+    })
+state_after (choosing es e) (ListingLine.Total total) =
+    proving es
+    (record { tune = e.tune; bars = e.bars; spans = e.spans; breaks = e.breaks; total = total; potentials = [] })
 state_after (proving es e) (ListingLine.Potential bar least) = with_potential es e least
 state_after p l = p
 
@@ -62,11 +85,20 @@ Leads p (l ∷ ls) q = MayCome p l × Leads (state_after p l) ls q
 
 -- no good line stands next, nor is this the end
 abbrev pub IsStuck : ReaderState → List ℕ → Type 0
-IsStuck p rest = ((l : ListingLine) (more : List ℕ) → rest ≡ line_text l ++ 10 ∷ more → MayCome p l → ⊥) × ((es : List Entry) → rest ≡ [] → p ≡ ended es → ⊥)
+IsStuck p rest =
+    ((l : ListingLine) (more : List ℕ) → rest ≡ line_text l ++ 10 ∷ more → MayCome p l → ⊥)
+    × ((es : List Entry) → rest ≡ [] → p ≡ ended es → ⊥)
 
 -- the number of the first line that isn't good, or one past the last where all are good and the last isn't `end`
 abbrev pub IsFirstFault : List ℕ → ℕ → Type 0
-IsFirstFault text number = (ls : List ListingLine) × (rest : List ℕ) × (p : ReaderState) × (text ≡ lines_then ls rest) × Leads begun ls p × IsStuck p rest × (number ≡ length ls + 1)
+IsFirstFault text number =
+    (ls : List ListingLine)
+    × (rest : List ℕ)
+    × (p : ReaderState)
+    × (text ≡ lines_then ls rest)
+    × Leads begun ls p
+    × IsStuck p rest
+    × (number ≡ length ls + 1)
 
 -- each line is good, and the last is `end`
 abbrev pub IsGoodThroughout : List ℕ → List Entry → Type 0

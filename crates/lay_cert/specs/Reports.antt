@@ -1,5 +1,5 @@
--- What is written of a verdict: `least`, the tune and its total; or `notleast`, the tune, its total, the least total and the
--- bars of the chosen breaking. One line each.
+-- What is written of a verdict: `least`, the tune and its total; or `notleast`, the tune, its total, the least total
+-- and the bars of the chosen breaking. One line each.
 use Rattle.std.specs.Prelude.{ℕ, List, [], ◌∷◌, ◌++◌, codes, decimal}
 use Rattle.lay_cert.specs.declared.check.Verdict.{Verdict, TheVariants.Least, TheVariants.NotLeast}
 
@@ -10,4 +10,5 @@ bars_text (b ∷ bs) = 32 ∷ decimal b ++ bars_text bs
 
 abbrev pub verdict_text : ℕ → Verdict → List ℕ
 verdict_text tune (Least total) = codes "least " ++ decimal tune ++ 32 ∷ decimal total ++ 10 ∷ []
-verdict_text tune (NotLeast total better breaks) = codes "notleast " ++ decimal tune ++ 32 ∷ decimal total ++ 32 ∷ decimal better ++ bars_text breaks ++ 10 ∷ []
+verdict_text tune (NotLeast total better breaks) =
+    codes "notleast " ++ decimal tune ++ 32 ∷ decimal total ++ 32 ∷ decimal better ++ bars_text breaks ++ 10 ∷ []

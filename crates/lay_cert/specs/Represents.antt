@@ -30,7 +30,8 @@ pub record IsChoosing (c : Choosing) : Type 0 where
 
 -- the same with its total
 abbrev pub entry_with_total : Choosing → Entry
-entry_with_total c = record { tune = c.tune; bars = c.bars; spans = c.spans; breaks = c.breaks; total = c.total; potentials = [] }
+entry_with_total c =
+    record { tune = c.tune; bars = c.bars; spans = c.spans; breaks = c.breaks; total = c.total; potentials = [] }
 
 pub record IsGoodProving (v : Proving) : Type 0 where
   pub few : v.bars ≤ 4000
@@ -44,7 +45,8 @@ pub record Proves (v : Proving) (e : Entry) : Type 0 where
   pub bars : v.bars ≡ e.bars
   pub next : v.next ≡ length e.potentials
   pub verdict : IsVerdict e v.verdict
-  pub potentials : (i : ℕ) → i ≤ e.bars → IsPotential (listed e.spans) none_forced i (slice_index_or v.potentials i None)
+  pub potentials : (i : ℕ)
+      → i ≤ e.bars → IsPotential (listed e.spans) none_forced i (slice_index_or v.potentials i None)
 
 abbrev pub IsSound : ListingState → Type 0
 IsSound (ListingState.Choosing c) = IsChoosing c
@@ -66,4 +68,6 @@ NoneMayCome p raw = (l : ListingLine) → raw ≡ line_text l → MayCome p l �
 
 -- what a step says: that no good line has the text, or the stage behind the one that has
 abbrev pub IsStep : place.ReaderState → List ℕ → List Judged → Option ListingState → Type 0
-IsStep p raw js o = MatchOption o (NoneMayCome p raw) (λ s. (l : ListingLine) × (raw ≡ line_text l) × MayCome p l × Represents s js (next p l))
+IsStep p raw js o =
+    MatchOption o (NoneMayCome p raw)
+    (λ s. (l : ListingLine) × (raw ≡ line_text l) × MayCome p l × Represents s js (next p l))

@@ -20,7 +20,8 @@ pub record IsProving (k : ℕ) (e : Entry) : Type 0 where
   pub ends : last_from 0 e.breaks ≡ e.bars
   pub total : e.total ≡ sum_from (listed e.spans) 0 e.breaks
   pub some_left : length e.potentials ≤ e.bars
-  pub potentials : (i : ℕ) → i < length e.potentials → IsPotential (listed e.spans) none_forced i (slice_index_or e.potentials i None)
+  pub potentials : (i : ℕ)
+      → i < length e.potentials → IsPotential (listed e.spans) none_forced i (slice_index_or e.potentials i None)
 
 abbrev pub IsGood : ReaderState → Type 0
 IsGood begun = Unit {0}

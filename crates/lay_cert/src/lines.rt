@@ -35,14 +35,16 @@ fn put_sum(out: &mut Text, sum: Option<u64>) -> Result<(), Memory>
 }
 
 fn put_tune(out: &mut Text, tune: u32, bars: u32) -> Result<(), Memory>
-    ensures { OnOk result (out.new ≡ out.old ++ codes "tune " ++ decimal tune ++ 32 ∷ codes "measures " ++ decimal bars) }
+    ensures { OnOk result
+        (out.new ≡ out.old ++ codes "tune " ++ decimal tune ++ 32 ∷ codes "measures " ++ decimal bars) }
 {
     put_named(out, b"tune ", tune as u64)?;
     put_named(out, b" measures ", bars as u64)
 }
 
 fn put_span(out: &mut Text, span: Span) -> Result<(), Memory>
-    ensures { OnOk result (out.new ≡ out.old ++ codes "span " ++ decimal span.a ++ 32 ∷ decimal span.b ++ 32 ∷ decimal span.badness) }
+    ensures { OnOk result
+        (out.new ≡ out.old ++ codes "span " ++ decimal span.a ++ 32 ∷ decimal span.b ++ 32 ∷ decimal span.badness) }
 {
     put_named(out, b"span ", span.a as u64)?;
     put_next(out, span.b as u64)?;

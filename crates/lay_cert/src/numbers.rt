@@ -10,7 +10,8 @@ use lay_breaks::Span;
 
 /// The number and the bars of a tune's first line.
 pub fn read_tune(bytes: &[u8]) -> Option<(u32, u32)>
-    ensures { MatchOption result ((tune bars : ℕ) → tune < 2 ^ 32 → bars < 2 ^ 32 → bytes.now ≡ line_text (line.Tune tune bars) → ⊥)
+    ensures { MatchOption result
+        ((tune bars : ℕ) → tune < 2 ^ 32 → bars < 2 ^ 32 → bytes.now ≡ line_text (line.Tune tune bars) → ⊥)
         (λ z. (bytes.now ≡ line_text (line.Tune z.0 z.1)) × (z.0 < 2 ^ 32) × (z.1 < 2 ^ 32)) }
 {
     let rest = strip(b"tune ", bytes)?;
@@ -20,7 +21,8 @@ pub fn read_tune(bytes: &[u8]) -> Option<(u32, u32)>
 
 /// The span of a span's line.
 pub fn read_span(bytes: &[u8]) -> Option<Span>
-    ensures { MatchOption result ((s : Span) → s.a < 2 ^ 32 → s.b < 2 ^ 32 → s.badness < 2 ^ 64 → bytes.now ≡ line_text (line.OneSpan s) → ⊥)
+    ensures { MatchOption result
+        ((s : Span) → s.a < 2 ^ 32 → s.b < 2 ^ 32 → s.badness < 2 ^ 64 → bytes.now ≡ line_text (line.OneSpan s) → ⊥)
         (λ s. (bytes.now ≡ line_text (line.OneSpan s)) × (s.a < 2 ^ 32) × (s.b < 2 ^ 32) × (s.badness < 2 ^ 64)) }
 {
     let rest = strip(b"span ", bytes)?;

@@ -28,7 +28,10 @@ fn put_not_least(
     better: u64,
     breaks: &[u32],
 ) -> Result<(), Memory>
-    ensures { OnOk result (out.new ≡ out.old ++ codes "notleast " ++ decimal tune ++ 32 ∷ decimal total ++ 32 ∷ decimal better ++ bars_text breaks.now ++ 10 ∷ []) }
+    ensures { OnOk result
+        (out.new
+        ≡ out.old ++ codes "notleast " ++ decimal tune ++ 32 ∷ decimal total ++ 32 ∷ decimal better
+        ++ bars_text breaks.now ++ 10 ∷ []) }
 {
     put_named(out, b"notleast ", tune as u64)?;
     put_next(out, total)?;

@@ -145,7 +145,11 @@ fn add_span(choosing: Choosing, span: Span) -> Result<Choosing, Memory>
     requires first { choosing.breaks ≡ [] }
     requires follows { MayFollow choosing.bars choosing.last span }
     ensures sound { IfOk result IsChoosing }
-    ensures more { IfOk result (λ c. (c.tune ≡ choosing.tune) × (c.bars ≡ choosing.bars) × (c.spans ≡ choosing.spans ++ span ∷ []) × (c.breaks ≡ choosing.breaks)) }
+    ensures more { IfOk result (λ c.
+        (c.tune ≡ choosing.tune)
+        × (c.bars ≡ choosing.bars)
+        × (c.spans ≡ choosing.spans ++ span ∷ [])
+        × (c.breaks ≡ choosing.breaks)) }
 {
     let Choosing {
         tune,
@@ -175,7 +179,11 @@ fn add_break(mut choosing: Choosing, bar: u32, cost: u64) -> Result<Choosing, Me
     requires sound { IsChoosing choosing }
     requires listed { listed choosing.spans choosing.at bar ≡ Some cost }
     ensures sound { IfOk result IsChoosing }
-    ensures more { IfOk result (λ c. (c.tune ≡ choosing.tune) × (c.bars ≡ choosing.bars) × (c.spans ≡ choosing.spans) × (c.breaks ≡ choosing.breaks ++ bar ∷ [])) }
+    ensures more { IfOk result (λ c.
+        (c.tune ≡ choosing.tune)
+        × (c.bars ≡ choosing.bars)
+        × (c.spans ≡ choosing.spans)
+        × (c.breaks ≡ choosing.breaks ++ bar ∷ [])) }
 {
     choosing.breaks.push(bar)?;
     choosing.total += cost;

@@ -42,22 +42,36 @@ upper : (k l : ColumnKey) → k.measure < l.measure → is_below l k ≡ false
 unfolding is_below
 upper k l h = grind (arith, nat_tests)
 
-rank_none : (b : ℕ) (ys : List ColumnKey) (k : ColumnKey) → k.measure < b → AllByRecursion (λ l. b ≤ l.measure) ys → key_rank ys k ≡ 0
+rank_none : (b : ℕ) (ys : List ColumnKey) (k : ColumnKey)
+    → k.measure < b → AllByRecursion (λ l. b ≤ l.measure) ys → key_rank ys k ≡ 0
 rank_none b [] k h from = refl
-rank_none b (y ∷ ys) k h from = let f = from.0 in ap (λ c. if c then 1 + key_rank ys k else key_rank ys k) (upper k y (omega (arith, h, f))) ∙ rank_none b ys k h from.1
+rank_none b (y ∷ ys) k h from =
+    let f = from.0 in
+    ap (λ c. if c then 1 + key_rank ys k else key_rank ys k) (upper k y (omega (arith, h, f)))
+    ∙ rank_none b ys k h from.1
 
-pub rank_front : (b : ℕ) (xs ys : List ColumnKey) (k : ColumnKey) → k.measure < b → AllByRecursion (λ l. b ≤ l.measure) ys → key_rank (xs ++ ys) k ≡ key_rank xs k
+pub rank_front : (b : ℕ) (xs ys : List ColumnKey) (k : ColumnKey)
+    → k.measure < b → AllByRecursion (λ l. b ≤ l.measure) ys → key_rank (xs ++ ys) k ≡ key_rank xs k
 rank_front b [] ys k h from = rank_none b ys k h from
 rank_front b (x ∷ xs) ys k h from = ap (λ n. if is_below x k then 1 + n else n) (rank_front b xs ys k h from)
 
-pub rank_behind : (b : ℕ) (xs ys : List ColumnKey) (k : ColumnKey) → b ≤ k.measure → AllByRecursion (λ l. l.measure < b) xs → key_rank (xs ++ ys) k ≡ length xs + key_rank ys k
+pub rank_behind : (b : ℕ) (xs ys : List ColumnKey) (k : ColumnKey)
+    → b ≤ k.measure → AllByRecursion (λ l. l.measure < b) xs → key_rank (xs ++ ys) k ≡ length xs + key_rank ys k
 rank_behind b [] ys k h to = omega arith
-rank_behind b (x ∷ xs) ys k h to = let t = to.0 in let more = rank_behind b xs ys k h to.1 in ap (λ c. if c then 1 + key_rank (xs ++ ys) k else key_rank (xs ++ ys) k) (lower x k (omega (arith, h, t))) ∙ omega (arith, more)
+rank_behind b (x ∷ xs) ys k h to =
+    let t = to.0 in
+    let more = rank_behind b xs ys k h to.1 in
+    ap (λ c. if c then 1 + key_rank (xs ++ ys) k else key_rank (xs ++ ys) k) (lower x k (omega (arith, h, t)))
+    ∙ omega (arith, more)
 
-pub rank_less : (xs : List ColumnKey) (k l : ColumnKey) → Contains xs l → is_below l k ≡ false → key_rank xs k < length xs
+pub rank_less : (xs : List ColumnKey) (k l : ColumnKey)
+    → Contains xs l → is_below l k ≡ false → key_rank xs k < length xs
 rank_less [] k l (i, inside, is) h = absurd (omega (arith, inside))
 rank_less (x ∷ xs) k l (zero, inside, is) h =
-    let e : key_rank (x ∷ xs) k ≡ key_rank xs k = ap (λ c. if c then 1 + key_rank xs k else key_rank xs k) (subst (λ z. is_below z k ≡ false) (sym is) h) in let most = rank_most xs k in omega (arith, e, most)
+    let e : key_rank (x ∷ xs) k ≡ key_rank xs k =
+    ap (λ c. if c then 1 + key_rank xs k else key_rank xs k) (subst (λ z. is_below z k ≡ false) (sym is) h) in
+    let most = rank_most xs k in
+    omega (arith, e, most)
 rank_less (x ∷ xs) k l (suc i, inside, is) h = by (is_below x k) (rank_less xs k l (i, omega (arith, inside), is) h)
   where
     by : (c : Bool) → key_rank xs k < length xs → (if c then 1 + key_rank xs k else key_rank xs k) < suc (length xs)
@@ -71,18 +85,24 @@ pub record IsPlaced (lengths : List ℕ) (a b least : ℕ) (k : ColumnKey) : Typ
   pub within : is_below (bar_key lengths k.measure) k ≡ false
   pub past : least ≤ class_number k.class
 
-pub bars_in : (lengths : List ℕ) (m : ℕ) (in_head signed : Bool) (xs : List Measure) (i : ℕ) → i < length xs → Contains (measures_keys lengths m in_head signed xs) (bar_key lengths (m + i))
+pub bars_in : (lengths : List ℕ) (m : ℕ) (in_head signed : Bool) (xs : List Measure) (i : ℕ)
+    → i < length xs → Contains (measures_keys lengths m in_head signed xs) (bar_key lengths (m + i))
 bars_in lengths m in_head signed [] i h = absurd (omega (arith, h))
 bars_in lengths m in_head signed (x ∷ xs) zero h =
     let e : m ≡ m + 0 = omega arith in
     subst (λ n. Contains (measures_keys lengths m in_head signed (x ∷ xs)) (bar_key lengths n)) e
-    (Contains-append_right (events_keys m in_head signed [] (flats_of x.body)) _ (bar_key lengths m) (0, omega arith, refl))
+    (Contains-append_right (events_keys m in_head signed [] (flats_of x.body)) _ (bar_key lengths m)
+    (0, omega arith, refl))
 bars_in lengths m in_head signed (x ∷ xs) (suc i) h =
-    let e : m + 1 + i ≡ m + suc i = omega arith in let more = bars_in lengths (m + 1) false (signed_through signed (flats_of x.body)) xs i (omega (arith, h)) in
+    let e : m + 1 + i ≡ m + suc i = omega arith in
+    let more = bars_in lengths (m + 1) false (signed_through signed (flats_of x.body)) xs i (omega (arith, h)) in
     subst (λ n. Contains (measures_keys lengths m in_head signed (x ∷ xs)) (bar_key lengths n)) e
-    (Contains-append_right (events_keys m in_head signed [] (flats_of x.body)) _ (bar_key lengths (m + 1 + i)) (suc more.0, omega (arith, more.1), more.2))
+    (Contains-append_right (events_keys m in_head signed [] (flats_of x.body)) _ (bar_key lengths (m + 1 + i))
+    (suc more.0, omega (arith, more.1), more.2))
 
-not_past : (lengths : List ℕ) (m tick : ℕ) (class : Class) (place : ℕ) → tick ≤ slice_index lengths m → class_number class < 5 → is_below (bar_key lengths m) (key_at m tick class place) ≡ false
+not_past : (lengths : List ℕ) (m tick : ℕ) (class : Class) (place : ℕ)
+    → tick ≤ slice_index lengths m → class_number class < 5
+    → is_below (bar_key lengths m) (key_at m tick class place) ≡ false
 unfolding is_below
 not_past lengths m tick class place h c = grind (arith, nat_tests, h, c)
 
@@ -94,32 +114,45 @@ bar_itself lengths m = grind (arith, nat_tests)
 abbrev pub Ticks : ℕ → List DrawnEvent → Type 0
 Ticks high es = AllByRecursion (λ e. e.tick ≤ high) es
 
-events_ticks : (style : Style) (high tick : ℕ) (now : StaffState) (fs : List Flat) (ps : List StemPlan) → tick + total_ticks fs ≤ high → Ticks high (drawn_events style tick now fs ps)
+events_ticks : (style : Style) (high tick : ℕ) (now : StaffState) (fs : List Flat) (ps : List StemPlan)
+    → tick + total_ticks fs ≤ high → Ticks high (drawn_events style tick now fs ps)
 events_ticks style high tick now [] ps h = tt
 events_ticks style high tick now (f ∷ fs) [] h = tt
 events_ticks style high tick now (f ∷ fs) (p ∷ ps) h =
-    let e = sum_by-cons (λ x. x.duration) f fs in (omega (arith, h), events_ticks style high (tick + f.duration) (standing_after now f.event.changes) fs ps (omega (arith, h, e)))
+    let e = sum_by-cons (λ x. x.duration) f fs in (
+      omega (arith, h),
+      events_ticks style high (tick + f.duration) (standing_after now f.event.changes) fs ps (omega (arith, h, e)),
+    )
 
 -- measures from number m on are within their lengths
 abbrev pub Fit : List ℕ → ℕ → List DrawnMeasure → Type 0
 Fit lengths m [] = Unit {0}
 Fit lengths m (d ∷ ds) = Ticks (slice_index lengths m) d.events × Fit lengths (m + 1) ds
 
-measure_ticks : (high : ℕ) (style : Style) (now : StaffState) (m : Measure) → total_ticks (flats_of m.body) ≤ high → Ticks high (drawn_measure style now m).events
+measure_ticks : (high : ℕ) (style : Style) (now : StaffState) (m : Measure)
+    → total_ticks (flats_of m.body) ≤ high → Ticks high (drawn_measure style now m).events
 unfolding drawn_measure
 measure_ticks high style now m h = events_ticks style high 0 now (flats_of m.body) _ (omega (arith, h))
 
-measures_fit : (lengths : List ℕ) (m : ℕ) (style : Style) (now : StaffState) (ms : List Measure) → ((i : ℕ) → i < length ms → ticks_of_some (slice_get ms i) ≤ slice_index lengths (m + i)) → Fit lengths m (drawn_measures style now ms)
+measures_fit : (lengths : List ℕ) (m : ℕ) (style : Style) (now : StaffState) (ms : List Measure)
+    → ((i : ℕ) → i < length ms → ticks_of_some (slice_get ms i) ≤ slice_index lengths (m + i))
+    → Fit lengths m (drawn_measures style now ms)
 measures_fit lengths m style now [] h = tt
 measures_fit lengths m style now (x ∷ xs) h = (
-  measure_ticks (slice_index lengths m) style now x (subst (λ z. total_ticks (flats_of x.body) ≤ slice_index lengths z) (omega arith) (h 0 (omega arith))),
+  measure_ticks (slice_index lengths m) style now x
+      (subst (λ z. total_ticks (flats_of x.body) ≤ slice_index lengths z) (omega arith) (h 0 (omega arith))),
   measures_fit lengths (m + 1) style (standing_behind now (flats_of x.body)) xs
-      (λ i k. subst (λ z. ticks_of_some (slice_get xs i) ≤ slice_index lengths z) (omega arith) (h (suc i) (omega (arith, k)))),
+      (λ i k.
+      subst (λ z. ticks_of_some (slice_get xs i) ≤ slice_index lengths z) (omega arith) (h (suc i) (omega (arith, k)))),
 )
 
-pub voice_fit : (lengths : List ℕ) (v : Voice) → ((k : ℕ) → k < length v.measures → length_in_voice k v ≤ slice_index lengths k) → Fit lengths 0 (drawn_voice v).measures
+pub voice_fit : (lengths : List ℕ) (v : Voice)
+    → ((k : ℕ) → k < length v.measures → length_in_voice k v ≤ slice_index lengths k)
+    → Fit lengths 0 (drawn_voice v).measures
 unfolding drawn_voice
-voice_fit lengths v h = measures_fit lengths 0 (style_of v) (standing_of v) v.measures (λ i k. subst (λ z. length_in_voice i v ≤ slice_index lengths z) (omega arith) (h i k))
+voice_fit lengths v h =
+    measures_fit lengths 0 (style_of v) (standing_of v) v.measures
+    (λ i k. subst (λ z. length_in_voice i v ≤ slice_index lengths z) (omega arith) (h i k))
 
 fit_take : (lengths : List ℕ) (m n : ℕ) (xs : List DrawnMeasure) → Fit lengths m xs → Fit lengths m (take n xs)
 fit_take lengths m zero xs h = tt
@@ -129,10 +162,14 @@ fit_take lengths m (suc n) (x ∷ xs) h = (h.0, fit_take lengths (m + 1) n xs h.
 fit_drop : (lengths : List ℕ) (m a : ℕ) (xs : List DrawnMeasure) → Fit lengths m xs → Fit lengths (m + a) (drop a xs)
 fit_drop lengths m zero xs h = subst (λ z. Fit lengths z xs) (omega arith) h
 fit_drop lengths m (suc a) [] h = tt
-fit_drop lengths m (suc a) (x ∷ xs) h = subst (λ z. Fit lengths z (drop a xs)) (omega arith) (fit_drop lengths (m + 1) a xs h.1)
+fit_drop lengths m (suc a) (x ∷ xs) h =
+    subst (λ z. Fit lengths z (drop a xs)) (omega arith) (fit_drop lengths (m + 1) a xs h.1)
 
-pub slice_fit : (lengths : List ℕ) (a b : ℕ) (xs : List DrawnMeasure) → Fit lengths 0 xs → Fit lengths a (slice_range xs a b)
-slice_fit lengths a b xs h = fit_take lengths a (b - a) (drop a xs) (subst (λ z. Fit lengths z (drop a xs)) (omega arith) (fit_drop lengths 0 a xs h))
+pub slice_fit : (lengths : List ℕ) (a b : ℕ) (xs : List DrawnMeasure)
+    → Fit lengths 0 xs → Fit lengths a (slice_range xs a b)
+slice_fit lengths a b xs h =
+    fit_take lengths a (b - a) (drop a xs)
+    (subst (λ z. Fit lengths z (drop a xs)) (omega arith) (fit_drop lengths 0 a xs h))
 
 -- ---- the keys of slots
 module _ (lengths : List ℕ) (a b least : ℕ) (low : least ≤ 2) where
@@ -142,62 +179,90 @@ module _ (lengths : List ℕ) (a b least : ℕ) (low : least ≤ 2) where
   both_in : (xs ys : List Slot) → AreIn xs → AreIn ys → AreIn (xs ++ ys)
   both_in xs ys p q = all_append (λ x. IsPlaced lengths a b least x.key) xs ys p q
 
-  placed_at : (m tick : ℕ) (class : Class) (place : ℕ) → a ≤ m → m < b → tick ≤ slice_index lengths m → class_number class < 5 → least ≤ class_number class → IsPlaced lengths a b least (key_at m tick class place)
-  placed_at m tick class place from to h c p = record { from = from; to = to; within = not_past lengths m tick class place h c; past = p }
+  placed_at : (m tick : ℕ) (class : Class) (place : ℕ)
+      → a ≤ m → m < b → tick ≤ slice_index lengths m → class_number class < 5 → least ≤ class_number class
+      → IsPlaced lengths a b least (key_at m tick class place)
+  placed_at m tick class place from to h c p =
+      record { from = from; to = to; within = not_past lengths m tick class place h c; past = p }
 
-  change_in : (m : ℕ) (in_head : Bool) (e : DrawnEvent) → a ≤ m → m < b → e.tick ≤ slice_index lengths m → AreIn (change_slots m in_head e)
+  change_in : (m : ℕ) (in_head : Bool) (e : DrawnEvent)
+      → a ≤ m → m < b → e.tick ≤ slice_index lengths m → AreIn (change_slots m in_head e)
   change_in m true e from to h = tt
   change_in m false e from to h = (placed_at m e.tick Class.Change 0 from to h (omega arith) (omega (arith, low)), tt)
 
-  graces_in : (m tick : ℕ) (clef : Clef) (group : Group) (i : ℕ) (gs : List Event) → a ≤ m → m < b → tick ≤ slice_index lengths m → AreIn (graces_slots m tick clef group i gs)
+  graces_in : (m tick : ℕ) (clef : Clef) (group : Group) (i : ℕ) (gs : List Event)
+      → a ≤ m → m < b → tick ≤ slice_index lengths m → AreIn (graces_slots m tick clef group i gs)
   graces_in m tick clef group i [] from to h = tt
-  graces_in m tick clef group i (g ∷ gs) from to h = (placed_at m tick Class.Grace i from to h (omega arith) (omega (arith, low)), graces_in m tick clef group (i + 1) gs from to h)
+  graces_in m tick clef group i (g ∷ gs) from to h = (
+    placed_at m tick Class.Grace i from to h (omega arith) (omega (arith, low)),
+    graces_in m tick clef group (i + 1) gs from to h,
+  )
 
-  note_in : (m : ℕ) (e : DrawnEvent) (xs : List LaneInk) → a ≤ m → m < b → e.tick ≤ slice_index lengths m → AreIn (slot (note_key m e) xs)
+  note_in : (m : ℕ) (e : DrawnEvent) (xs : List LaneInk)
+      → a ≤ m → m < b → e.tick ≤ slice_index lengths m → AreIn (slot (note_key m e) xs)
   note_in m e xs from to h = (placed_at m e.tick Class.Note 0 from to h (omega arith) (omega (arith, low)), tt)
 
-  none_or : (c : Bool) (k : ColumnKey) (xs : List LaneInk) → IsPlaced lengths a b least k → AreIn (if c then [] else slot k xs)
+  none_or : (c : Bool) (k : ColumnKey) (xs : List LaneInk)
+      → IsPlaced lengths a b least k → AreIn (if c then [] else slot k xs)
   none_or true k xs h = tt
   none_or false k xs h = (h, tt)
 
   module _ (first : ℕ) where
-    event_in : (m : ℕ) (in_head : Bool) (before after : ℕ) (e : DrawnEvent) → a ≤ m → m < b → e.tick ≤ slice_index lengths m → AreIn (event_slots first m in_head before after e)
+    event_in : (m : ℕ) (in_head : Bool) (before after : ℕ) (e : DrawnEvent)
+        → a ≤ m → m < b → e.tick ≤ slice_index lengths m → AreIn (event_slots first m in_head before after e)
     event_in m in_head before after e from to h =
-        let changes = change_slots m (in_head || is_lower e.seat) e in let graces = graces_slots m e.tick e.clef (group_of e.clef e.flat.graces e.flat.slash) 0 e.flat.graces in
+        let changes = change_slots m (in_head || is_lower e.seat) e in
+        let graces = graces_slots m e.tick e.clef (group_of e.clef e.flat.graces e.flat.slash) 0 e.flat.graces in
         let own = note_marks e.clef (raise_of e.seat) e.flat.event e.plan before after in
         both_in (changes ++ graces ++ slot (note_key m e) own) (slot (note_key m e) (words_of first e.flat))
         (both_in (changes ++ graces) (slot (note_key m e) own)
-        (both_in changes graces (change_in m (in_head || is_lower e.seat) e from to h) (graces_in m e.tick e.clef _ 0 e.flat.graces from to h))
+        (both_in changes graces (change_in m (in_head || is_lower e.seat) e from to h)
+        (graces_in m e.tick e.clef _ 0 e.flat.graces from to h))
         (note_in m e own from to h))
         (note_in m e (words_of first e.flat) from to h)
 
-    events_in : (m : ℕ) (in_head : Bool) (group flags : ℕ) (es : List DrawnEvent) → a ≤ m → m < b → Ticks (slice_index lengths m) es → AreIn (events_slots first m in_head group flags es)
+    events_in : (m : ℕ) (in_head : Bool) (group flags : ℕ) (es : List DrawnEvent)
+        → a ≤ m → m < b → Ticks (slice_index lengths m) es → AreIn (events_slots first m in_head group flags es)
     events_in m in_head group flags [] from to h = tt
     events_in m in_head group flags (e ∷ es) from to h =
-        both_in (event_slots first m in_head (levels_in e.plan group flags) (levels_behind e.plan es) e) (events_slots first m false e.plan.group e.plan.flags es)
-        (event_in m in_head (levels_in e.plan group flags) (levels_behind e.plan es) e from to h.0) (events_in m false e.plan.group e.plan.flags es from to h.1)
+        both_in (event_slots first m in_head (levels_in e.plan group flags) (levels_behind e.plan es) e)
+        (events_slots first m false e.plan.group e.plan.flags es)
+        (event_in m in_head (levels_in e.plan group flags) (levels_behind e.plan es) e from to h.0)
+        (events_in m false e.plan.group e.plan.flags es from to h.1)
 
-    pub measures_in : (m : ℕ) (in_head : Bool) (ds : List DrawnMeasure) → a ≤ m → m + length ds ≤ b → Fit lengths m ds → AreIn (measures_slots lengths first m in_head ds)
+    pub measures_in : (m : ℕ) (in_head : Bool) (ds : List DrawnMeasure)
+        → a ≤ m → m + length ds ≤ b → Fit lengths m ds → AreIn (measures_slots lengths first m in_head ds)
     measures_in m in_head [] from to h = tt
     measures_in m in_head (d ∷ ds) from to h =
         let here : m < b = omega (arith, to) in
-        both_in (events_slots first m in_head 0 0 d.events ++ bar_slots lengths m d) (measures_slots lengths first (m + 1) false ds)
+        both_in (events_slots first m in_head 0 0 d.events ++ bar_slots lengths m d)
+        (measures_slots lengths first (m + 1) false ds)
         (both_in (events_slots first m in_head 0 0 d.events) (bar_slots lengths m d)
-        (events_in m in_head 0 0 d.events from here h.0) (none_or (is_lower d.seat) (bar_key lengths m) _ (record { from = from; to = here; within = bar_itself lengths m; past = omega (arith, low) })))
+        (events_in m in_head 0 0 d.events from here h.0)
+        (none_or (is_lower d.seat) (bar_key lengths m) _
+        (record { from = from; to = here; within = bar_itself lengths m; past = omega (arith, low) })))
         (measures_in (m + 1) false ds (omega (arith, from)) (omega (arith, to)) h.1)
 
   head_in : (ds : List DrawnMeasure) → a < b → least ≡ 0 → AreIn (head_slots a ds)
   head_in [] h z = tt
-  head_in (d ∷ ds) h z = none_or (is_lower d.seat) (key_at a 0 Class.Head 0) _ (placed_at a 0 Class.Head 0 (omega arith) h (omega arith) (omega arith) (omega (arith, z)))
+  head_in (d ∷ ds) h z =
+      none_or (is_lower d.seat) (key_at a 0 Class.Head 0) _
+      (placed_at a 0 Class.Head 0 (omega arith) h (omega arith) (omega arith) (omega (arith, z)))
 
   first_in : (seat : Seat) (bar : Bar) → a < b → least ≡ 0 → AreIn (first_slots a seat bar)
   first_in seat bar h z = by (not (is_lower seat) && (a == 0) && has_features bar) (λ t. grind (arith, nat_tests))
     where
       by : (c : Bool) → (c ≡ true → a ≡ 0) → AreIn (if c then slot (key_at 0 0 Class.First 0) (bar_marks bar) else [])
-      by true begins = let e = begins refl in (placed_at 0 0 Class.First 0 (omega (arith, e)) (omega (arith, h)) (omega arith) (omega arith) (omega (arith, z)), tt)
+      by true begins =
+          let e = begins refl in (
+            placed_at 0 0 Class.First 0 (omega (arith, e)) (omega (arith, h)) (omega arith) (omega arith)
+                (omega (arith, z)),
+            tt,
+          )
       by false begins = tt
 
-  pub columns_in : (first : ℕ) (seat : Seat) (bar : Bar) (ds : List DrawnMeasure) → a < b → a + length ds ≤ b → Fit lengths a ds → least ≡ 0 → AreIn (columns_slots lengths first a seat bar ds)
+  pub columns_in : (first : ℕ) (seat : Seat) (bar : Bar) (ds : List DrawnMeasure)
+      → a < b → a + length ds ≤ b → Fit lengths a ds → least ≡ 0 → AreIn (columns_slots lengths first a seat bar ds)
   columns_in first seat bar ds h to fit z =
       both_in (head_slots a ds ++ first_slots a seat bar) (measures_slots lengths first a true ds)
       (both_in (head_slots a ds) (first_slots a seat bar) (head_in ds h z) (first_in seat bar h z))

@@ -56,16 +56,22 @@ marks_moved : (n q : ℕ) (xs : List LaneInk) → map (drawn_at (n + q)) xs ≡ 
 marks_moved n q [] = refl
 marks_moved n q (x ∷ xs) = rw (ink_moved n q x.ink, marks_moved n q xs) refl
 
-pub lay_moved : (n : ℕ) (keys keys' : List ColumnKey) (xs : List Slot) → AllByRecursion (λ x. key_rank keys' x.key ≡ n + key_rank keys x.key) xs → lay keys' xs ≡ map (moved n) (lay keys xs)
+pub lay_moved : (n : ℕ) (keys keys' : List ColumnKey) (xs : List Slot)
+    → AllByRecursion (λ x. key_rank keys' x.key ≡ n + key_rank keys x.key) xs
+    → lay keys' xs ≡ map (moved n) (lay keys xs)
 lay_moved n keys keys' [] h = refl
 lay_moved n keys keys' (x ∷ xs) h =
-    ap (λ q. map (drawn_at q) x.marks ++ lay keys' xs) h.0 ∙ ap (λ t. t ++ lay keys' xs) (marks_moved n (key_rank keys x.key) x.marks)
+    ap (λ q. map (drawn_at q) x.marks ++ lay keys' xs) h.0
+    ∙ ap (λ t. t ++ lay keys' xs) (marks_moved n (key_rank keys x.key) x.marks)
     ∙ ap (λ t. map (moved n) (map (drawn_at (key_rank keys x.key)) x.marks) ++ t) (lay_moved n keys keys' xs h.1)
     ∙ sym (map-append (moved n) (map (drawn_at (key_rank keys x.key)) x.marks) (lay keys xs))
 
-pub lay_same : (keys keys' : List ColumnKey) (xs : List Slot) → AllByRecursion (λ x. key_rank keys' x.key ≡ key_rank keys x.key) xs → lay keys' xs ≡ lay keys xs
+pub lay_same : (keys keys' : List ColumnKey) (xs : List Slot)
+    → AllByRecursion (λ x. key_rank keys' x.key ≡ key_rank keys x.key) xs → lay keys' xs ≡ lay keys xs
 lay_same keys keys' [] h = refl
-lay_same keys keys' (x ∷ xs) h = ap (λ q. map (drawn_at q) x.marks ++ lay keys' xs) h.0 ∙ ap (λ t. map (drawn_at (key_rank keys x.key)) x.marks ++ t) (lay_same keys keys' xs h.1)
+lay_same keys keys' (x ∷ xs) h =
+    ap (λ q. map (drawn_at q) x.marks ++ lay keys' xs) h.0
+    ∙ ap (λ t. map (drawn_at (key_rank keys x.key)) x.marks ++ t) (lay_same keys keys' xs h.1)
 
 -- ---- ranks below some number
 abbrev pub AreBelow : ℕ → List Laid → Type 0
@@ -76,11 +82,13 @@ ink_below n q (Ink.Glyph glyph dx dy) h = h
 ink_below n q (Ink.Words size dx dy text) h = h
 ink_below n q (Ink.Stem dx from to) h = tt
 
-below_then : (n q : ℕ) (xs : List LaneInk) (ys : List Laid) → q < n → AreBelow n ys → AreBelow n (map (drawn_at q) xs ++ ys)
+below_then : (n q : ℕ) (xs : List LaneInk) (ys : List Laid)
+    → q < n → AreBelow n ys → AreBelow n (map (drawn_at q) xs ++ ys)
 below_then n q [] ys h more = more
 below_then n q (x ∷ xs) ys h more = (ink_below n q x.ink h, below_then n q xs ys h more)
 
-pub lay_below : (n : ℕ) (keys : List ColumnKey) (xs : List Slot) → AllByRecursion (λ x. key_rank keys x.key < n) xs → AreBelow n (lay keys xs)
+pub lay_below : (n : ℕ) (keys : List ColumnKey) (xs : List Slot)
+    → AllByRecursion (λ x. key_rank keys x.key < n) xs → AreBelow n (lay keys xs)
 lay_below n keys [] h = tt
 lay_below n keys (x ∷ xs) h = below_then n (key_rank keys x.key) x.marks (lay keys xs) h.0 (lay_below n keys xs h.1)
 
@@ -91,10 +99,12 @@ lay_append keys (x ∷ xs) ys =
     ap (λ t. map (drawn_at (key_rank keys x.key)) x.marks ++ t) (lay_append keys xs ys)
     ∙ sym (append_assoc (map (drawn_at (key_rank keys x.key)) x.marks) (lay keys xs) (lay keys ys))
 
-both : (keys : List ColumnKey) (ps qs : List Laid) (xs ys : List Slot) → ps ≡ lay keys xs → qs ≡ lay keys ys → ps ++ qs ≡ lay keys (xs ++ ys)
+both : (keys : List ColumnKey) (ps qs : List Laid) (xs ys : List Slot)
+    → ps ≡ lay keys xs → qs ≡ lay keys ys → ps ++ qs ≡ lay keys (xs ++ ys)
 both keys ps qs xs ys p q = ap (λ t. t ++ qs) p ∙ ap (λ t. lay keys xs ++ t) q ∙ sym (lay_append keys xs ys)
 
-one : (keys : List ColumnKey) (key : ColumnKey) (xs : List LaneInk) → map (drawn_at (key_rank keys key)) xs ≡ lay keys (slot key xs)
+one : (keys : List ColumnKey) (key : ColumnKey) (xs : List LaneInk)
+    → map (drawn_at (key_rank keys key)) xs ≡ lay keys (slot key xs)
 one keys key xs = sym (append-nil (map (drawn_at (key_rank keys key)) xs))
 
 -- ---- the slots of a staff
@@ -104,7 +114,8 @@ change_slots m false e = slot (key_at m e.tick Class.Change 0) (change_marks e.c
 
 abbrev pub graces_slots : ℕ → ℕ → Clef → Group → ℕ → List Event → List Slot
 graces_slots m tick clef group i [] = []
-graces_slots m tick clef group i (g ∷ gs) = slot (key_at m tick Class.Grace i) (grace_marks clef group (i == 0) g) ++ graces_slots m tick clef group (i + 1) gs
+graces_slots m tick clef group i (g ∷ gs) =
+    slot (key_at m tick Class.Grace i) (grace_marks clef group (i == 0) g) ++ graces_slots m tick clef group (i + 1) gs
 
 -- the words of a voice whose verses count from `first` on
 abbrev pub words_of : ℕ → Flat → List LaneInk
@@ -112,37 +123,49 @@ words_of first f = syllables_from (pos 0) first f.event.words ++ text_marks (tex
 
 abbrev pub event_slots : ℕ → ℕ → Bool → ℕ → ℕ → DrawnEvent → List Slot
 event_slots first m in_head before after e =
-    change_slots m (in_head || is_lower e.seat) e ++ graces_slots m e.tick e.clef (group_of e.clef e.flat.graces e.flat.slash) 0 e.flat.graces
-    ++ slot (note_key m e) (note_marks e.clef (raise_of e.seat) e.flat.event e.plan before after) ++ slot (note_key m e) (words_of first e.flat)
+    change_slots m (in_head || is_lower e.seat) e
+    ++ graces_slots m e.tick e.clef (group_of e.clef e.flat.graces e.flat.slash) 0 e.flat.graces
+    ++ slot (note_key m e) (note_marks e.clef (raise_of e.seat) e.flat.event e.plan before after)
+    ++ slot (note_key m e) (words_of first e.flat)
 
 abbrev pub events_slots : ℕ → ℕ → Bool → ℕ → ℕ → List DrawnEvent → List Slot
 events_slots first m in_head group flags [] = []
-events_slots first m in_head group flags (e ∷ es) = event_slots first m in_head (levels_in e.plan group flags) (levels_behind e.plan es) e ++ events_slots first m false e.plan.group e.plan.flags es
+events_slots first m in_head group flags (e ∷ es) =
+    event_slots first m in_head (levels_in e.plan group flags) (levels_behind e.plan es) e
+    ++ events_slots first m false e.plan.group e.plan.flags es
 
 abbrev pub bar_slots : List ℕ → ℕ → DrawnMeasure → List Slot
 bar_slots lengths m d = if is_lower d.seat then [] else slot (bar_key lengths m) (bar_marks d.bar)
 
 abbrev pub measures_slots : List ℕ → ℕ → ℕ → Bool → List DrawnMeasure → List Slot
 measures_slots lengths first m in_head [] = []
-measures_slots lengths first m in_head (d ∷ ds) = (events_slots first m in_head 0 0 d.events ++ bar_slots lengths m d) ++ measures_slots lengths first (m + 1) false ds
+measures_slots lengths first m in_head (d ∷ ds) =
+    (events_slots first m in_head 0 0 d.events ++ bar_slots lengths m d)
+    ++ measures_slots lengths first (m + 1) false ds
 
 abbrev pub head_slots : ℕ → List DrawnMeasure → List Slot
 head_slots a [] = []
-head_slots a (d ∷ ds) = if is_lower d.seat then [] else slot (head_key a) (head_marks d.opening.clef d.opening.key.signs (meter_shown a d.opening))
+head_slots a (d ∷ ds) =
+    if is_lower d.seat then []
+    else slot (head_key a) (head_marks d.opening.clef d.opening.key.signs (meter_shown a d.opening))
 
 abbrev pub first_slots : ℕ → Seat → Bar → List Slot
-first_slots a seat b = if not (is_lower seat) && (a == 0) && has_features b then slot (key_at 0 0 Class.First 0) (bar_marks b) else []
+first_slots a seat b =
+    if not (is_lower seat) && (a == 0) && has_features b then slot (key_at 0 0 Class.First 0) (bar_marks b) else []
 
 abbrev pub columns_slots : List ℕ → ℕ → ℕ → Seat → Bar → List DrawnMeasure → List Slot
-columns_slots lengths first a seat b ds = head_slots a ds ++ first_slots a seat b ++ measures_slots lengths first a true ds
+columns_slots lengths first a seat b ds =
+    head_slots a ds ++ first_slots a seat b ++ measures_slots lengths first a true ds
 
 -- ---- they are its marks
 module _ (keys : List ColumnKey) where
-  change_laid : (m : ℕ) (in_head : Bool) (e : DrawnEvent) → change_part keys m in_head e ≡ lay keys (change_slots m in_head e)
+  change_laid : (m : ℕ) (in_head : Bool) (e : DrawnEvent)
+      → change_part keys m in_head e ≡ lay keys (change_slots m in_head e)
   change_laid m true e = refl
   change_laid m false e = one keys (key_at m e.tick Class.Change 0) (change_marks e.clef e.old e.flat.event.changes)
 
-  graces_laid : (m tick : ℕ) (clef : Clef) (group : Group) (i : ℕ) (gs : List Event) → graces_from keys m tick clef group i gs ≡ lay keys (graces_slots m tick clef group i gs)
+  graces_laid : (m tick : ℕ) (clef : Clef) (group : Group) (i : ℕ) (gs : List Event)
+      → graces_from keys m tick clef group i gs ≡ lay keys (graces_slots m tick clef group i gs)
   graces_laid m tick clef group i [] = refl
   graces_laid m tick clef group i (g ∷ gs) =
       let k = key_at m tick Class.Grace i in
@@ -150,46 +173,63 @@ module _ (keys : List ColumnKey) where
       (one keys k (grace_marks clef group (i == 0) g)) (graces_laid m tick clef group (i + 1) gs)
 
   -- those of a lower voice, or of a bar without features
-  unless : (lower : Bool) (k : ColumnKey) (xs : List LaneInk) → (if lower then [] else map (drawn_at (key_rank keys k)) xs) ≡ lay keys (if lower then [] else slot k xs)
+  unless : (lower : Bool) (k : ColumnKey) (xs : List LaneInk)
+      → (if lower then [] else map (drawn_at (key_rank keys k)) xs) ≡ lay keys (if lower then [] else slot k xs)
   unless true k xs = refl
   unless false k xs = one keys k xs
 
-  where_so : (shown : Bool) (k : ColumnKey) (xs : List LaneInk) → (if shown then map (drawn_at (key_rank keys k)) xs else []) ≡ lay keys (if shown then slot k xs else [])
+  where_so : (shown : Bool) (k : ColumnKey) (xs : List LaneInk)
+      → (if shown then map (drawn_at (key_rank keys k)) xs else []) ≡ lay keys (if shown then slot k xs else [])
   where_so true k xs = one keys k xs
   where_so false k xs = refl
 
   module _ (first : ℕ) where
-    event_laid : (m : ℕ) (in_head : Bool) (before after : ℕ) (e : DrawnEvent) → event_marks keys (Some (fixed_place first)) m in_head before after e ≡ lay keys (event_slots first m in_head before after e)
+    event_laid : (m : ℕ) (in_head : Bool) (before after : ℕ) (e : DrawnEvent)
+        → event_marks keys (Some (fixed_place first)) m in_head before after e
+        ≡ lay keys (event_slots first m in_head before after e)
     unfolding event_marks
     event_laid m in_head before after e =
-        let changes = change_slots m (in_head || is_lower e.seat) e in let graces = graces_slots m e.tick e.clef (group_of e.clef e.flat.graces e.flat.slash) 0 e.flat.graces in
-        let own = slot (note_key m e) (note_marks e.clef (raise_of e.seat) e.flat.event e.plan before after) in let texts = slot (note_key m e) (words_of first e.flat) in
+        let changes = change_slots m (in_head || is_lower e.seat) e in
+        let graces = graces_slots m e.tick e.clef (group_of e.clef e.flat.graces e.flat.slash) 0 e.flat.graces in
+        let own = slot (note_key m e) (note_marks e.clef (raise_of e.seat) e.flat.event e.plan before after) in
+        let texts = slot (note_key m e) (words_of first e.flat) in
         both keys _ _ (changes ++ graces ++ own) texts
         (both keys _ _ (changes ++ graces) own
-        (both keys _ _ changes graces (change_laid m (in_head || is_lower e.seat) e) (graces_laid m e.tick e.clef (group_of e.clef e.flat.graces e.flat.slash) 0 e.flat.graces))
+        (both keys _ _ changes graces (change_laid m (in_head || is_lower e.seat) e)
+        (graces_laid m e.tick e.clef (group_of e.clef e.flat.graces e.flat.slash) 0 e.flat.graces))
         (one keys (note_key m e) (note_marks e.clef (raise_of e.seat) e.flat.event e.plan before after)))
         (one keys (note_key m e) (words_of first e.flat))
 
-    events_laid : (m : ℕ) (in_head : Bool) (group flags : ℕ) (es : List DrawnEvent) → events_marks keys (Some (fixed_place first)) m in_head group flags es ≡ lay keys (events_slots first m in_head group flags es)
+    events_laid : (m : ℕ) (in_head : Bool) (group flags : ℕ) (es : List DrawnEvent)
+        → events_marks keys (Some (fixed_place first)) m in_head group flags es
+        ≡ lay keys (events_slots first m in_head group flags es)
     events_laid m in_head group flags [] = refl
     events_laid m in_head group flags (e ∷ es) =
-        both keys _ _ (event_slots first m in_head (levels_in e.plan group flags) (levels_behind e.plan es) e) (events_slots first m false e.plan.group e.plan.flags es)
-        (event_laid m in_head (levels_in e.plan group flags) (levels_behind e.plan es) e) (events_laid m false e.plan.group e.plan.flags es)
+        both keys _ _ (event_slots first m in_head (levels_in e.plan group flags) (levels_behind e.plan es) e)
+        (events_slots first m false e.plan.group e.plan.flags es)
+        (event_laid m in_head (levels_in e.plan group flags) (levels_behind e.plan es) e)
+        (events_laid m false e.plan.group e.plan.flags es)
 
-    pub measures_laid : (lengths : List ℕ) (m : ℕ) (in_head : Bool) (ds : List DrawnMeasure) → measures_marks keys lengths (Some (fixed_place first)) m in_head ds ≡ lay keys (measures_slots lengths first m in_head ds)
+    pub measures_laid : (lengths : List ℕ) (m : ℕ) (in_head : Bool) (ds : List DrawnMeasure)
+        → measures_marks keys lengths (Some (fixed_place first)) m in_head ds
+        ≡ lay keys (measures_slots lengths first m in_head ds)
     measures_laid lengths m in_head [] = refl
     measures_laid lengths m in_head (d ∷ ds) =
-        both keys _ _ (events_slots first m in_head 0 0 d.events ++ bar_slots lengths m d) (measures_slots lengths first (m + 1) false ds)
-        (both keys _ _ (events_slots first m in_head 0 0 d.events) (bar_slots lengths m d) (events_laid m in_head 0 0 d.events)
+        both keys _ _ (events_slots first m in_head 0 0 d.events ++ bar_slots lengths m d)
+        (measures_slots lengths first (m + 1) false ds)
+        (both keys _ _ (events_slots first m in_head 0 0 d.events) (bar_slots lengths m d)
+        (events_laid m in_head 0 0 d.events)
         (unless (is_lower d.seat) (bar_key lengths m) (bar_marks d.bar)))
         (measures_laid lengths (m + 1) false ds)
 
   pub head_laid : (a : ℕ) (ds : List DrawnMeasure) → head_part keys a ds ≡ lay keys (head_slots a ds)
   head_laid a [] = refl
-  head_laid a (d ∷ ds) = unless (is_lower d.seat) (head_key a) (head_marks d.opening.clef d.opening.key.signs (meter_shown a d.opening))
+  head_laid a (d ∷ ds) =
+      unless (is_lower d.seat) (head_key a) (head_marks d.opening.clef d.opening.key.signs (meter_shown a d.opening))
 
   pub columns_laid : (lengths : List ℕ) (first a : ℕ) (seat : Seat) (b : Bar) (ds : List DrawnMeasure)
-      → columns_part keys lengths (Some (fixed_place first)) a seat b ds ≡ lay keys (columns_slots lengths first a seat b ds)
+      → columns_part keys lengths (Some (fixed_place first)) a seat b ds
+      ≡ lay keys (columns_slots lengths first a seat b ds)
   unfolding columns_part
   columns_laid lengths first a seat b ds =
       both keys _ _ (head_slots a ds ++ first_slots a seat b) (measures_slots lengths first a true ds)

@@ -1,5 +1,6 @@
--- The columns of one measure: in a system that begins with it, and in one that began before. Heights, and what texts stand in a
--- column before, are of no account to columns, so that syllables and texts stand in a place that is always the same.
+-- The columns of one measure: in a system that begins with it, and in one that began before. Heights, and what texts
+-- stand in a column before, are of no account to columns, so that syllables and texts stand in a place that is always
+-- the same.
 use Rattle.std.specs.Prelude.{◌≡◌, ℕ, pos, ◌+◌, ◌-◌, ◌==◌, Bool, true, false, List, [], ◌∷◌, ◌++◌, drop, map, min}
 use Rattle.std.specs.Prelude.{slice_get, slice_range, Option, Some, None}
 use Rattle.mus_score.specs.declared.score.Score.{Score}
@@ -37,11 +38,13 @@ abbrev pub parts_from : (ℕ → DrawnVoice → List Laid) → ℕ → List Draw
 parts_from part first [] = []
 parts_from part first (v ∷ vs) = part first v ++ parts_from part (first + v.verses) vs
 
--- What stands in the columns of measure m of a voice: where the system begins with it, with the system's head and the bar before
--- the first measure; where it began before, each event behind its change and its graces, and the bar.
+-- What stands in the columns of measure m of a voice: where the system begins with it, with the system's head and the
+-- bar before the first measure; where it began before, each event behind its change and its graces, and the bar.
 abbrev pub measure_part : Bool → List ColumnKey → List ℕ → ℕ → ℕ → DrawnVoice → List Laid
-measure_part true keys lengths m first v = columns_part keys lengths (Some (fixed_place first)) m v.seat v.first (slice_range v.measures m (m + 1))
-measure_part false keys lengths m first v = measures_marks keys lengths (Some (fixed_place first)) m false (slice_range v.measures m (m + 1))
+measure_part true keys lengths m first v =
+    columns_part keys lengths (Some (fixed_place first)) m v.seat v.first (slice_range v.measures m (m + 1))
+measure_part false keys lengths m first v =
+    measures_marks keys lengths (Some (fixed_place first)) m false (slice_range v.measures m (m + 1))
 
 abbrev pub measure_staff : Bool → List ColumnKey → List ℕ → ℕ → List DrawnVoice → StaffMarks
 measure_staff begins keys lengths m voices = staff_of_columns (parts_from (measure_part begins keys lengths m) 1 voices)
@@ -61,19 +64,25 @@ begins_plain m v = is_plain (slice_get v.measures m)
 abbrev pub keys_in : List Column → List ColumnKey
 keys_in columns = map (λ c. c.key) columns
 
--- the columns of measure m in a system that begins with it or began before; verses are the numbers of verses of the staves
-pub record AreMeasureColumns (begins : Bool) (s : Score) (t : Timeline) (m : ℕ) (verses : List ℕ) (columns : List Column) : Type 0 where
+-- the columns of measure m in a system that begins with it or began before;
+-- verses are the numbers of verses of the staves
+pub record AreMeasureColumns (begins : Bool) (s : Score) (t : Timeline) (m : ℕ) (verses : List ℕ)
+    (columns : List Column) : Type 0 where
   pub keys : AreKeys (keys_in columns) (keys_called begins s t.lengths m)
-  pub value : columns ≡ columns_of (keys_in columns) (map (measure_staff begins (keys_in columns) t.lengths m) (drawn_staves s)) t.lengths verses
+  pub value : columns
+      ≡ columns_of (keys_in columns) (map (measure_staff begins (keys_in columns) t.lengths m) (drawn_staves s))
+      t.lengths verses
 
--- those of measure m in a system that begins with the measure before it, if there is one: they have their own, or stand behind the head
--- of those in a system that begins with m
+-- those of measure m in a system that begins with the measure before it, if there is one: they have their own, or stand
+-- behind the head of those in a system that begins with m
 abbrev pub further_of : ℕ → List Column → Option (List Column) → List Column
 further_of m begun None = drop (min m 1) begun
 further_of m begun (Some own) = own
 
 abbrev pub AreFurther : Score → Timeline → ℕ → List ℕ → Option (List Column) → Type 0
-AreFurther s t m verses own = (begun : List Column) → AreMeasureColumns true s t m verses begun → AreMeasureColumns ((m - 1) == m) s t m verses (further_of m begun own)
+AreFurther s t m verses own =
+    (begun : List Column)
+    → AreMeasureColumns true s t m verses begun → AreMeasureColumns ((m - 1) == m) s t m verses (further_of m begun own)
 
 -- the last column is that of a bar
 pub record EndWithBar (columns : List Column) : Type 0 where

@@ -60,7 +60,9 @@ fn put_part(
     requires lengths { length v.now.measures ≡ length frame.now.lengths.now }
     requires good { AreGoodMeasures v.now.measures }
     requires first { first ≤ 129 }
-    ensures { OnOk result (pen.new.marks ≡ pen.old.marks ++ measure_part begins frame.now.keys.now frame.now.lengths.now frame.now.a first v.now) }
+    ensures { OnOk result
+        (pen.new.marks
+        ≡ pen.old.marks ++ measure_part begins frame.now.keys.now frame.now.lengths.now frame.now.a first v.now) }
 {
     let (keys, lengths, m) = (frame.keys, frame.lengths, frame.a);
     let measures = &v.measures.as_slice()[m as usize..m as usize + 1];
@@ -83,7 +85,8 @@ fn measure_staff(
     requires each { All (λ v. length v.measures ≡ length frame.now.lengths.now) voices.now }
     requires good { All (λ v. AreGoodMeasures v.measures) voices.now }
     requires verses { verses_on voices.now ≤ 128 }
-    ensures { IfOk result (λ r. r ≡ measure_staff begins frame.now.keys.now frame.now.lengths.now frame.now.a voices.now) }
+    ensures { IfOk result
+        (λ r. r ≡ measure_staff begins frame.now.keys.now frame.now.lengths.now frame.now.a voices.now) }
 {
     let mut pen = MarkPen::new(alloc);
     let mut first = 1;
@@ -104,7 +107,10 @@ fn measure_staves(
     requires each { All (λ v. length v.measures ≡ length frame.now.lengths.now) voices.now }
     requires good { All (λ v. AreGoodMeasures v.measures) voices.now }
     requires verses { verses_on voices.now ≤ 128 }
-    ensures { IfOk result (λ r. r ≡ map (measure_staff begins frame.now.keys.now frame.now.lengths.now frame.now.a) (grouped is_drawn_lower voices.now)) }
+    ensures { IfOk result (λ r.
+        r
+        ≡ map (measure_staff begins frame.now.keys.now frame.now.lengths.now frame.now.a)
+        (grouped is_drawn_lower voices.now)) }
 {
     let mut staves = Row::with_room(alloc, voices.len())?;
     let mut rest = voices;

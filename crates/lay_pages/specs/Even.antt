@@ -1,5 +1,6 @@
--- Blocks on pages of which none is emptier than it must be: the groups of the blocks are parted into pages so that what the pages
--- cost together is least. A parting is a breaking of the groups: the numbers of groups up to the end of each page.
+-- Blocks on pages of which none is emptier than it must be: the groups of the blocks are parted into pages so that what
+-- the pages cost together is least. A parting is a breaking of the groups:
+-- the numbers of groups up to the end of each page.
 use Rattle.std.specs.Prelude.{◌≡◌, ◌<◌, ◌≤◌, ⊤, ℕ, zero, suc, ◌+◌, ◌-◌, ◌*◌, ◌/◌, ◌^◌, ◌==◌, nat_le, ℤ, pos, ◌≤ℤ◌, Bool}
 use Rattle.std.specs.Prelude.{true, false, not, ◌&&◌, if◌then◌else◌, List, [], ◌∷◌, length, take, drop, Option, Some}
 use Rattle.std.specs.Prelude.{None, IfSome, All, refl}
@@ -31,19 +32,23 @@ page_height heights = stacked heights - 1500
 abbrev pub span_height : List ℤ → ℕ → ℕ → ℕ
 span_height heights a b = page_height (take (b - a) (drop a heights))
 
--- What the page of the groups from a to b costs, where it fits: the square of what it leaves free, by 100; and the last page nothing.
+-- What the page of the groups from a to b costs, where it fits: the square of what it leaves free, by 100;
+-- and the last page nothing.
 abbrev pub square : ℕ → ℕ
 square n = n * n
 
 abbrev pub page_cost : ℕ → List ℤ → ℕ → ℕ → Option ℕ
-page_cost high heights a b = if nat_le (span_height heights a b) high then Some (if b == length heights then 0 else square ((high - span_height heights a b) / 100)) else None
+page_cost high heights a b =
+    if nat_le (span_height heights a b) high
+    then Some (if b == length heights then 0 else square ((high - span_height heights a b) / 100))
+    else None
 
 -- heights of groups that fit on a page
 abbrev pub AreHeights : ℕ → List ℤ → Type 0
 AreHeights high heights = All (λ h. (pos 0 ≤ℤ h) × (h ≤ℤ pos high)) heights
 
--- Pages end behind the listed numbers of groups. Behind a block the next one stands under it, or where a page ends with its group, at the
--- top of the next page. `group` is how many groups ended before the block's own.
+-- Pages end behind the listed numbers of groups. Behind a block the next one stands under it, or where a page ends with
+-- its group, at the top of the next page. `group` is how many groups ended before the block's own.
 abbrev pub ends_page : List ℕ → ℕ → Bool
 ends_page [] group = false
 ends_page (e ∷ ends) group = e == group + 1
@@ -65,7 +70,10 @@ groups_behind group block = if block.keep then group else group + 1
 -- where blocks stand of which the first has this place
 abbrev pub parted_from : ℕ → List ℕ → ℕ → BlockSpot → List Block → List Spot
 parted_from high ends group place [] = []
-parted_from high ends group place (block ∷ more) = spot_at high place ∷ parted_from high (ends_behind (turns ends group block) ends) (groups_behind group block) (even_spot_after (turns ends group block) place block) more
+parted_from high ends group place (block ∷ more) =
+    spot_at high place
+    ∷ parted_from high (ends_behind (turns ends group block) ends) (groups_behind group block)
+    (even_spot_after (turns ends group block) place block) more
 
 abbrev pub parted_spots : ℕ → List ℕ → List Block → List Spot
 parted_spots high breaks blocks = parted_from high breaks 0 (record { page = 0; down = 0 }) blocks
@@ -73,7 +81,11 @@ parted_spots high breaks blocks = parted_from high breaks 0 (record { page = 0; 
 -- Groups of which so many ended before go on pages with these ends; each page fits, the first from a place down.
 abbrev pub AreFitting : ℕ → ℕ → ℕ → List ℕ → List ℤ → Type 0
 AreFitting high down group [] heights = heights ≡ []
-AreFitting high down group (e ∷ ends) heights = (n : ℕ) × (e ≡ group + suc n) × (down + stacked (take (suc n) heights) ≤ high + 1500) × AreFitting high 0 e ends (drop (suc n) heights)
+AreFitting high down group (e ∷ ends) heights =
+    (n : ℕ)
+    × (e ≡ group + suc n)
+    × (down + stacked (take (suc n) heights) ≤ high + 1500)
+    × AreFitting high 0 e ends (drop (suc n) heights)
 
 -- The blocks stand by the chosen parting: no other parting of the groups into pages that fit costs less.
 pub record AreEven (high : ℕ) (blocks : List Block) (spots : List Spot) : Type 0 where
@@ -86,16 +98,20 @@ abbrev pub most_groups : ℕ
 most_groups = 8388608
 
 pub data AreSpots (even : Bool) (high : ℕ) (blocks : List Block) (spots : List Spot) : Type 0 where
-  filled : (even && nat_le (length (group_heights blocks)) most_groups) ≡ false → spots ≡ spots_of high blocks → AreSpots even high blocks spots
-  parted : even ≡ true → length (group_heights blocks) ≤ most_groups → AreEven high blocks spots → AreSpots even high blocks spots
+  filled : (even && nat_le (length (group_heights blocks)) most_groups) ≡ false
+      → spots ≡ spots_of high blocks → AreSpots even high blocks spots
+  parted : even ≡ true
+      → length (group_heights blocks) ≤ most_groups → AreEven high blocks spots → AreSpots even high blocks spots
 
--- The block behind one stands 1500 under it on the same page, or at the top of the next page; two of a group are never parted.
+-- The block behind one stands 1500 under it on the same page, or at the top of the next page;
+-- two of a group are never parted.
 pub data ComesBehind (high : ℕ) (block : Block) (spot : Spot) (next : Spot) : Type 0 where
   same_page : next.page ≡ spot.page → next.top ≡ top_under block spot → ComesBehind high block spot next
   next_page : block.keep ≡ false → next.page ≡ suc spot.page → next.top ≡ pos high → ComesBehind high block spot next
 
 abbrev pub ComeBehind : ℕ → List Block → List Spot → Type 0
-ComeBehind high (block ∷ blocks) (spot ∷ next ∷ spots) = ComesBehind high block spot next × ComeBehind high blocks (next ∷ spots)
+ComeBehind high (block ∷ blocks) (spot ∷ next ∷ spots) =
+    ComesBehind high block spot next × ComeBehind high blocks (next ∷ spots)
 ComeBehind high _ _ = ⊤
 
 abbrev pub StandByPages : ℕ → List Block → List Spot → Type 0
@@ -112,10 +128,13 @@ if_none : (b : Bool) (v : ℕ) → (if b then Some v else None) ≡ None → b �
 if_none true v e = absurd cc
 if_none false v e = refl
 
-pub cost_stops : (high : ℕ) (hs : List ℤ) (a b c : ℕ) → a < b → b < c → page_cost high hs a b ≡ None → page_cost high hs a c ≡ None
+pub cost_stops : (high : ℕ) (hs : List ℤ) (a b c : ℕ)
+    → a < b → b < c → page_cost high hs a b ≡ None → page_cost high hs a c ≡ None
 cost_stops high hs a b c l m e =
-    let past = if_none (nat_le (span_height hs a b) high) (if b == length hs then 0 else square ((high - span_height hs a b) / 100)) e in
-    let more = stacked_more (b - a) (c - a) (drop a hs) (omega arith) in let miss : nat_le (span_height hs a c) high ≡ false = grind (arith, nat_tests, past, more) in
+    let past = if_none (nat_le (span_height hs a b) high)
+    (if b == length hs then 0 else square ((high - span_height hs a b) / 100)) e in
+    let more = stacked_more (b - a) (c - a) (drop a hs) (omega arith) in
+    let miss : nat_le (span_height hs a c) high ≡ false = grind (arith, nat_tests, past, more) in
     ap (λ t. if t then Some (if c == length hs then 0 else square ((high - span_height hs a c) / 100)) else None) miss
 
 square_small : (n : ℕ) → n ≤ 671089 → square n ≤ 2 ^ 40
@@ -127,7 +146,9 @@ free_small high s low = grind arith
 pub cost_small : (high : ℕ) (hs : List ℤ) → high ≤ 2 ^ 26 → (a b : ℕ) → IfSome (page_cost high hs a b) (λ v. v ≤ 2 ^ 40)
 cost_small high hs low a b = by (nat_le (span_height hs a b) high) (b == length hs)
   where
-    by : (t u : Bool) → IfSome (if t then Some (if u then 0 else square ((high - span_height hs a b) / 100)) else None) (λ v. v ≤ 2 ^ 40)
+    by : (t u : Bool)
+        → IfSome (if t then Some (if u then 0 else square ((high - span_height hs a b) / 100)) else None)
+        (λ v. v ≤ 2 ^ 40)
     by false u = tt
     by true true = omega arith
     by true false = square_small ((high - span_height hs a b) / 100) (free_small high (span_height hs a b) low)

@@ -1,4 +1,5 @@
--- Blocks on pages, from the top of a page down. A block that is tied to the next stands on one page with it; such a run of blocks is a group.
+-- Blocks on pages, from the top of a page down. A block that is tied to the next stands on one page with it; such a run
+-- of blocks is a group.
 use Rattle.std.specs.Prelude.{◌≡◌, ◌^◌, ◌≤◌, ⊤, ℕ, suc, ◌+◌, nat_le, nat_lt, ℤ, pos, negsuc, ◌-ℤ◌, ◌≤ℤ◌, ◌<ℤ◌, Bool}
 use Rattle.std.specs.Prelude.{true, false, not, ◌&&◌, ◌||◌, List, [], ◌∷◌, Option, Some, None}
 use Rattle.lay_pages.specs.declared.filling.Block.{Block}
@@ -36,7 +37,8 @@ place_by true page down = record { page = page; down = down }
 place_by false page down = record { page = suc page; down = 0 }
 
 abbrev pub next_place : ℕ → BlockSpot → Block → List Block → BlockSpot
-next_place high place block more = place_by (block.keep || nat_le (under place block + group_height more) high) place.page (under place block)
+next_place high place block more =
+    place_by (block.keep || nat_le (under place block + group_height more) high) place.page (under place block)
 
 -- where blocks stand of which the first has this place
 abbrev pub spot_at : ℕ → BlockSpot → Spot
@@ -53,7 +55,8 @@ spots_of high blocks = spots_from high (record { page = 0; down = 0 }) blocks
 abbrev pub standing_from : ℕ → BlockSpot → List Block → Option PlacedBlock
 standing_from high place [] = None
 standing_from high place (block ∷ []) = Some (record { place = place; block = block })
-standing_from high place (block ∷ next ∷ more) = standing_from high (next_place high place block (next ∷ more)) (next ∷ more)
+standing_from high place (block ∷ next ∷ more) =
+    standing_from high (next_place high place block (next ∷ more)) (next ∷ more)
 
 -- The same of blocks that come behind others: the last of the others tells where the first of them stands.
 abbrev pub first_place : ℕ → Option PlacedBlock → List Block → BlockSpot
@@ -91,14 +94,16 @@ abbrev pub CanFollow : Option PlacedBlock → Type 0
 CanFollow None = ⊤
 CanFollow (Some last) = IsOpenEnd last
 
--- the block with which the first group begins that is higher than a page; `tied` says that a block before is tied to the first here
+-- the block with which the first group begins that is higher than a page; `tied` says that a block before is tied to
+-- the first here
 abbrev pub tall_by : Bool → ℕ → Option ℕ → Option ℕ
 tall_by true number others = Some number
 tall_by false number others = others
 
 abbrev pub tall_from : ℕ → ℕ → Bool → List Block → Option ℕ
 tall_from high number tied [] = None
-tall_from high number tied (block ∷ more) = tall_by (not tied && nat_lt high (group_height (block ∷ more))) number (tall_from high (suc number) block.keep more)
+tall_from high number tied (block ∷ more) =
+    tall_by (not tied && nat_lt high (group_height (block ∷ more))) number (tall_from high (suc number) block.keep more)
 
 abbrev pub first_tall : ℕ → List Block → Option ℕ
 first_tall high blocks = tall_from high 0 false blocks
@@ -106,7 +111,8 @@ first_tall high blocks = tall_from high 0 false blocks
 -- each block lies on its page, from 0 to its height
 abbrev pub AreWithin : ℕ → List Block → List Spot → Type 0
 AreWithin high [] [] = ⊤
-AreWithin high (block ∷ blocks) (spot ∷ spots) = ((spot.top ≤ℤ pos high) × (pos 0 ≤ℤ (spot.top -ℤ block.height))) × AreWithin high blocks spots
+AreWithin high (block ∷ blocks) (spot ∷ spots) =
+    ((spot.top ≤ℤ pos high) × (pos 0 ≤ℤ (spot.top -ℤ block.height))) × AreWithin high blocks spots
 AreWithin high _ _ = ⊥
 
 -- the top of what stands under a block, 1500 below its bottom
@@ -117,10 +123,13 @@ top_under block spot = (spot.top -ℤ block.height) -ℤ pos 1500
 -- latter only where a group begins with it that doesn't fit under the other.
 pub data Follows (high : ℕ) (block : Block) (spot : Spot) (more : List Block) (next : Spot) : Type 0 where
   same_page : next.page ≡ spot.page → next.top ≡ top_under block spot → Follows high block spot more next
-  next_page : block.keep ≡ false → top_under block spot <ℤ pos (group_height more) → next.page ≡ suc spot.page → next.top ≡ pos high → Follows high block spot more next
+  next_page : block.keep ≡ false
+      → top_under block spot <ℤ pos (group_height more) → next.page ≡ suc spot.page → next.top ≡ pos high
+      → Follows high block spot more next
 
 abbrev pub FollowOn : ℕ → List Block → List Spot → Type 0
-FollowOn high (block ∷ next ∷ more) (spot ∷ after ∷ spots) = Follows high block spot (next ∷ more) after × FollowOn high (next ∷ more) (after ∷ spots)
+FollowOn high (block ∷ next ∷ more) (spot ∷ after ∷ spots) =
+    Follows high block spot (next ∷ more) after × FollowOn high (next ∷ more) (after ∷ spots)
 FollowOn high _ _ = ⊤
 
 -- the first block stands at the top of the first page

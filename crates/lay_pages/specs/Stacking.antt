@@ -7,12 +7,13 @@ abbrev pub AreGoodStaves : List StaffMarks → Type 0
 AreGoodStaves [] = ⊤
 AreGoodStaves (staff ∷ more) = ((staff.low ≤ℤ pos 0) × (pos 2000 ≤ℤ staff.high)) × AreGoodStaves more
 
--- The first staff has its highest mark at the top; each next one has its highest mark under the lowest mark of the one before, as
--- far as the gap before it says; and the bottom is the lowest mark of the last.
+-- The first staff has its highest mark at the top; each next one has its highest mark under the lowest mark of the one
+-- before, as far as the gap before it says; and the bottom is the lowest mark of the last.
 abbrev pub AreStavesStacked : ℤ → List ℕ → List StaffMarks → List ℤ → ℤ → Type 0
 AreStavesStacked top [] [] [] bottom = bottom ≡ top
 AreStavesStacked top [] (staff ∷ []) (base ∷ []) bottom = (base +ℤ staff.high ≡ top) × (bottom ≡ base +ℤ staff.low)
-AreStavesStacked top (gap ∷ gaps) (staff ∷ next ∷ more) (base ∷ bases) bottom = (base +ℤ staff.high ≡ top) × AreStavesStacked ((base +ℤ staff.low) -ℤ pos gap) gaps (next ∷ more) bases bottom
+AreStavesStacked top (gap ∷ gaps) (staff ∷ next ∷ more) (base ∷ bases) bottom =
+    (base +ℤ staff.high ≡ top) × AreStavesStacked ((base +ℤ staff.low) -ℤ pos gap) gaps (next ∷ more) bases bottom
 AreStavesStacked top _ _ _ bottom = ⊥
 
 -- The same by how far each base line lies under the top of the block.
@@ -31,17 +32,21 @@ under_top down = pos 0 -ℤ pos down
 abbrev pub bases_behind : ℕ → List StaffMarks → List ℕ → List ℤ
 bases_behind bottom [] gaps = []
 bases_behind bottom (staff ∷ more) [] = []
-bases_behind bottom (staff ∷ more) (gap ∷ gaps) = under_top (bottom + gap + above_base staff.high) ∷ bases_behind (bottom + gap + above_base staff.high + below_base staff.low) more gaps
+bases_behind bottom (staff ∷ more) (gap ∷ gaps) =
+    under_top (bottom + gap + above_base staff.high)
+    ∷ bases_behind (bottom + gap + above_base staff.high + below_base staff.low) more gaps
 
 abbrev pub bases_under : List StaffMarks → List ℕ → List ℤ
 bases_under [] gaps = []
-bases_under (staff ∷ more) gaps = under_top (above_base staff.high) ∷ bases_behind (above_base staff.high + below_base staff.low) more gaps
+bases_under (staff ∷ more) gaps =
+    under_top (above_base staff.high) ∷ bases_behind (above_base staff.high + below_base staff.low) more gaps
 
 -- the lowest mark of the last staff
 abbrev pub bottom_behind : ℕ → List StaffMarks → List ℕ → ℕ
 bottom_behind bottom [] gaps = bottom
 bottom_behind bottom (staff ∷ more) [] = bottom
-bottom_behind bottom (staff ∷ more) (gap ∷ gaps) = bottom_behind (bottom + gap + above_base staff.high + below_base staff.low) more gaps
+bottom_behind bottom (staff ∷ more) (gap ∷ gaps) =
+    bottom_behind (bottom + gap + above_base staff.high + below_base staff.low) more gaps
 
 abbrev pub bottom_under : List StaffMarks → List ℕ → ℕ
 bottom_under [] gaps = 0

@@ -36,11 +36,19 @@ row_x width Alignment.Left count = 0
 
 -- the row of a text, its block being so high above it
 abbrev pub title_row_at : ℕ → ℕ → Alignment → List ℕ → TitleRow
-title_row_at width above place text = record { size = size_at place; x = pos (row_x width place (length text)); down = pos (above + base_below (size_at place)); text = text }
+title_row_at width above place text = record {
+  size = size_at place;
+  x = pos (row_x width place (length text));
+  down = pos (above + base_below (size_at place));
+  text = text;
+}
 
 abbrev pub with_row : ℕ → TitleBlock → Alignment → List ℕ → TitleBlock
 with_row width block place [] = block
-with_row width block place (byte ∷ text) = record { rows = block.rows ++ title_row_at width block.height place (byte ∷ text) ∷ []; height = block.height + row_height (size_at place) }
+with_row width block place (byte ∷ text) = record {
+  rows = block.rows ++ title_row_at width block.height place (byte ∷ text) ∷ [];
+  height = block.height + row_height (size_at place);
+}
 
 -- the block with a row more for each text
 abbrev pub with_text : ℕ → Alignment → TitleBlock → List ℕ → TitleBlock
@@ -58,4 +66,6 @@ abbrev pub no_rows : TitleBlock
 no_rows = record { rows = []; height = 0 }
 
 abbrev pub title_block_of : ℕ → List (List ℕ) → List (List ℕ) → Option (List ℕ) → TitleBlock
-title_block_of width titles composers tempo = with_texts width Alignment.Left (with_texts width Alignment.Right (with_texts width Alignment.Middle no_rows titles) composers) (tempo_texts tempo)
+title_block_of width titles composers tempo =
+    with_texts width Alignment.Left
+    (with_texts width Alignment.Right (with_texts width Alignment.Middle no_rows titles) composers) (tempo_texts tempo)

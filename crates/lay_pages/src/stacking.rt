@@ -21,7 +21,8 @@ pub fn stack(alloc: Global, system: &SystemMarks, gaps: &[u32]) -> Result<Height
     requires few { length system.now.staves ≤ 16 }
     requires good { AreGoodStaves system.now.staves }
     requires gaps { length gaps.now ≡ length system.now.staves - 1 }
-    ensures stacked { IfOk result (λ h. AreStavesStacked (pos 0) gaps.now system.now.staves h.bases (pos 0 -ℤ h.height)) }
+    ensures stacked { IfOk result
+        (λ h. AreStavesStacked (pos 0) gaps.now system.now.staves h.bases (pos 0 -ℤ h.height)) }
     ensures low { IfOk result (λ h. pos 0 ≤ℤ h.height) }
     ensures high { IfOk result (λ h. h.height ≤ℤ pos (2 ^ 40)) }
 {

@@ -32,7 +32,8 @@ unfolding right_of
 right_near (pos n) = omega arith
 right_near (negsuc n) = omega arith
 
-greatest_near : {X : Type 0} (f : X → ℕ) (most : ℕ) → ((x : X) → f x ≤ most) → (xs : List X) → greatest (map f xs) ≤ most
+greatest_near : {X : Type 0} (f : X → ℕ) (most : ℕ)
+    → ((x : X) → f x ≤ most) → (xs : List X) → greatest (map f xs) ≤ most
 greatest_near f most h [] = omega arith
 greatest_near f most h (x ∷ xs) = let a = h x in let b = greatest_near f most h xs in grind (arith, a, b)
 
@@ -48,17 +49,21 @@ near_standing always (Some reach) h = h
 near_standing true None h = (omega arith, omega arith)
 near_standing false None h = tt
 
-pub near_row : (always : Bool) (rank : ℕ) (marks : List Laid) (verses : ℕ) → All (λ o. IfSome o IsNearReach) (staff_reaches always rank marks verses)
+pub near_row : (always : Bool) (rank : ℕ) (marks : List Laid) (verses : ℕ)
+    → All (λ o. IfSome o IsNearReach) (staff_reaches always rank marks verses)
 near_row always rank marks verses =
     All-map (λ o. IfSome o IsNearReach) (standing always) (drawn_row marks (lane_count verses) rank)
-    (All-map (λ o. IfSome (standing always o) IsNearReach) (drawn_reach marks rank) (range_with_len 0 (lane_count verses))
+    (All-map (λ o. IfSome (standing always o) IsNearReach) (drawn_reach marks rank)
+    (range_with_len 0 (lane_count verses))
     (λ k d l. near_standing always _ (near_over _)))
 
-pub near_all : (always : Bool) (rank : ℕ) (staves : List StaffMarks) (verses : List ℕ) → All (λ o. IfSome o IsNearReach) (reaches_of always rank staves verses)
+pub near_all : (always : Bool) (rank : ℕ) (staves : List StaffMarks) (verses : List ℕ)
+    → All (λ o. IfSome o IsNearReach) (reaches_of always rank staves verses)
 near_all always rank [] verses = All-nil (λ o. IfSome o IsNearReach)
 near_all always rank (staff ∷ staves) [] = All-nil (λ o. IfSome o IsNearReach)
 near_all always rank (staff ∷ staves) (v ∷ verses) =
-    All-append (λ o. IfSome o IsNearReach) (staff_reaches always rank staff.marks v) (reaches_of always rank staves verses)
+    All-append (λ o. IfSome o IsNearReach) (staff_reaches always rank staff.marks v)
+    (reaches_of always rank staves verses)
     (near_row always rank staff.marks v) (near_all always rank staves verses)
 
 natural_near : (ticks : ℕ) → natural_for ticks ≤ 4000
@@ -67,15 +72,23 @@ natural_near ticks = grind arith
 natural_small : (key : ColumnKey) (behind : List ColumnKey) (lengths : List ℕ) → natural_of key behind lengths ≤ 4000
 natural_small key behind lengths = by (is_note_key key)
   where
-    by : (b : Bool) → (if b then natural_for (tick_or_end key.measure (find (is_note_of key.measure) behind) lengths - key.tick) else 0) ≤ 4000
+    by : (b : Bool)
+        → (if b then natural_for (tick_or_end key.measure (find (is_note_of key.measure) behind) lengths - key.tick)
+        else 0)
+        ≤ 4000
     by true = natural_near (tick_or_end key.measure (find (is_note_of key.measure) behind) lengths - key.tick)
     by false = omega arith
 
 -- ---- uncut
 cut_same : (reach : Reach) → IsNearReach reach → cut_reach reach ≡ reach
-cut_same reach h = let l : min reach.left (2 ^ 20) ≡ reach.left = let n = h.0 in omega (arith, n) in let r : min reach.right (2 ^ 20) ≡ reach.right = let n = h.1 in omega (arith, n) in rw (l, r) refl
+cut_same reach h =
+    let l : min reach.left (2 ^ 20) ≡ reach.left = let n = h.0 in omega (arith, n) in
+    let r : min reach.right (2 ^ 20) ≡ reach.right = let n = h.1 in omega (arith, n) in
+    rw (l, r) refl
 
-pub reach_same : (reaches : List (Option Reach)) (lane : ℕ) → All (λ o. IfSome o IsNearReach) reaches → reach_in reaches lane ≡ option_and_then (λ o. o) (slice_get reaches lane)
+pub reach_same : (reaches : List (Option Reach)) (lane : ℕ)
+    → All (λ o. IfSome o IsNearReach) reaches
+    → reach_in reaches lane ≡ option_and_then (λ o. o) (slice_get reaches lane)
 unfolding reach_in
 reach_same reaches lane all = by (slice_get reaches lane) refl
   where
@@ -83,26 +96,34 @@ reach_same reaches lane all = by (slice_get reaches lane) refl
     by None e = rw e refl
     by (Some None) e = rw e refl
     by (Some (Some reach)) e =
-        let near : IfSome (get_or reaches lane (Some reach)) IsNearReach = all lane (Some reach) (slice_get_within reaches lane (Some reach) e) in
-        let here = subst (λ t. IfSome t IsNearReach) (get_or_from_slice_get reaches lane (Some reach) (Some reach) e) near in rw e (ap (λ t. Some t) (cut_same reach here))
+        let near : IfSome (get_or reaches lane (Some reach)) IsNearReach =
+        all lane (Some reach) (slice_get_within reaches lane (Some reach) e) in
+        let here =
+        subst (λ t. IfSome t IsNearReach) (get_or_from_slice_get reaches lane (Some reach) (Some reach) e) near in
+        rw e (ap (λ t. Some t) (cut_same reach here))
 
 pub spring_same : (natural force : ℕ) → natural ≤ 4000 → spring_length natural force ≡ natural * force / 256
 unfolding spring_length
 spring_same natural force h = let e : min natural 4000 ≡ natural = omega (arith, h) in rw e refl
 
 -- ---- a place for each lane
-staff_long : (always : Bool) (rank : ℕ) (marks : List Laid) (verses : ℕ) → length (staff_reaches always rank marks verses) ≡ length (staff_gaps verses)
+staff_long : (always : Bool) (rank : ℕ) (marks : List Laid) (verses : ℕ)
+    → length (staff_reaches always rank marks verses) ≡ length (staff_gaps verses)
 staff_long always rank marks verses =
-    let a = length-map (drawn_row marks (lane_count verses) rank) (standing always) in let b = length-map-range_with_len (drawn_reach marks rank) 0 (lane_count verses) in
+    let a = length-map (drawn_row marks (lane_count verses) rank) (standing always) in
+    let b = length-map-range_with_len (drawn_reach marks rank) 0 (lane_count verses) in
     let c = length-replicate {A = ℕ} (2 + verses) 300 in grind (arith, a, b, c)
 
-pub reaches_long : (always : Bool) (rank : ℕ) (staves : List StaffMarks) (verses : List ℕ) → length verses ≡ length staves → length (reaches_of always rank staves verses) ≡ length (gaps_of verses)
+pub reaches_long : (always : Bool) (rank : ℕ) (staves : List StaffMarks) (verses : List ℕ)
+    → length verses ≡ length staves → length (reaches_of always rank staves verses) ≡ length (gaps_of verses)
 reaches_long always rank [] [] h = refl
 reaches_long always rank [] (v ∷ verses) h = grind (arith, h)
 reaches_long always rank (staff ∷ staves) [] h = refl
 reaches_long always rank (staff ∷ staves) (v ∷ verses) h =
     let a = staff_long always rank staff.marks v in let b = reaches_long always rank staves verses (omega (arith, h)) in
-    let c = length-append (staff_reaches always rank staff.marks v) (reaches_of always rank staves verses) in let d = length-append (staff_gaps v) (gaps_of verses) in grind (arith, a, b, c, d)
+    let c = length-append (staff_reaches always rank staff.marks v) (reaches_of always rank staves verses) in
+    let d = length-append (staff_gaps v) (gaps_of verses) in
+    grind (arith, a, b, c, d)
 
 -- ---- stands where it must
 abbrev Stands : Option Reach → Type 0
@@ -122,23 +143,42 @@ stands_all rank (staff ∷ staves) (v ∷ verses) =
 
 stands_in : (reaches : List (Option Reach)) → All Stands reaches → StandsInAll (reach_in reaches) (length reaches)
 unfolding reach_in
-stands_in reaches all lane l = let here = all lane None l in let e : slice_get reaches lane ≡ Some (Some here.0) = slice_get-get_or reaches lane None l ∙ ap (λ t. Some t) here.1 in (cut_reach here.0, rw e refl)
+stands_in reaches all lane l =
+    let here = all lane None l in
+    let e : slice_get reaches lane ≡ Some (Some here.0) =
+    slice_get-get_or reaches lane None l ∙ ap (λ t. Some t) here.1 in
+    (cut_reach here.0, rw e refl)
 
 -- ---- each column
 module _ (staves : List StaffMarks) (lengths verses : List ℕ) where
   abbrev column_at : ℕ → ColumnKey → List ColumnKey → Column
-  column_at rank key behind = record { key = key; reaches = reaches_of (stands_always key.class) rank staves verses; natural = natural_of key behind lengths }
+  column_at rank key behind = record {
+    key = key;
+    reaches = reaches_of (stands_always key.class) rank staves verses;
+    natural = natural_of key behind lengths;
+  }
 
-  all_columns : (P : Column → Type 0) → ((rank : ℕ) (key : ColumnKey) (behind : List ColumnKey) → P (column_at rank key behind)) → (rank : ℕ) (keys : List ColumnKey) → All P (columns_from rank keys staves lengths verses)
+  all_columns : (P : Column → Type 0)
+      → ((rank : ℕ) (key : ColumnKey) (behind : List ColumnKey) → P (column_at rank key behind))
+      → (rank : ℕ) (keys : List ColumnKey)
+      → All P (columns_from rank keys staves lengths verses)
   all_columns P h rank [] = All-nil P
-  all_columns P h rank (key ∷ behind) = All-cons P (column_at rank key behind) (columns_from (rank + 1) behind staves lengths verses) (h rank key behind) (all_columns P h (rank + 1) behind)
+  all_columns P h rank (key ∷ behind) =
+      All-cons P (column_at rank key behind) (columns_from (rank + 1) behind staves lengths verses) (h rank key behind)
+      (all_columns P h (rank + 1) behind)
 
-  pub columns_keys : (rank : ℕ) (keys : List ColumnKey) → map (λ c. c.key) (columns_from rank keys staves lengths verses) ≡ keys
+  pub columns_keys : (rank : ℕ) (keys : List ColumnKey)
+      → map (λ c. c.key) (columns_from rank keys staves lengths verses) ≡ keys
   columns_keys rank [] = refl
   columns_keys rank (key ∷ behind) = ap (λ t. key ∷ t) (columns_keys (rank + 1) behind)
 
   pub columns_small : (keys : List ColumnKey) → All IsSmall (columns_from 0 keys staves lengths verses)
-  columns_small keys = all_columns IsSmall (λ rank key behind. record { natural = natural_small key behind lengths; reaches = near_all (stands_always key.class) rank staves verses }) 0 keys
+  columns_small keys =
+      all_columns IsSmall
+      (λ rank key behind. record {
+        natural = natural_small key behind lengths;
+        reaches = near_all (stands_always key.class) rank staves verses;
+      }) 0 keys
 
   pub columns_uncut : (keys : List ColumnKey) → All IsUncut (columns_from 0 keys staves lengths verses)
   columns_uncut keys = all_columns IsUncut (λ rank key behind. record {
@@ -146,15 +186,19 @@ module _ (staves : List StaffMarks) (lengths verses : List ℕ) where
     spring = λ force. spring_same _ force (natural_small key behind lengths);
   }) 0 keys
 
-  pub columns_long : (keys : List ColumnKey) → length verses ≡ length staves → All (λ c. length c.reaches ≡ length (gaps_of verses)) (columns_from 0 keys staves lengths verses)
+  pub columns_long : (keys : List ColumnKey)
+      → length verses ≡ length staves
+      → All (λ c. length c.reaches ≡ length (gaps_of verses)) (columns_from 0 keys staves lengths verses)
   columns_long keys h = all_columns (λ c. length c.reaches ≡ length (gaps_of verses))
       (λ rank key behind. reaches_long (stands_always key.class) rank staves verses h) 0 keys
 
-  pub columns_stand : (keys : List ColumnKey) → length verses ≡ length staves → All (StandsWhereDue verses) (columns_from 0 keys staves lengths verses)
+  pub columns_stand : (keys : List ColumnKey)
+      → length verses ≡ length staves → All (StandsWhereDue verses) (columns_from 0 keys staves lengths verses)
   columns_stand keys h = all_columns (StandsWhereDue verses) by 0 keys
     where
       by : (rank : ℕ) (key : ColumnKey) (behind : List ColumnKey) → StandsWhereDue verses (column_at rank key behind)
       by rank key behind always =
-          subst (λ n. StandsInAll (reach_in (reaches_of (stands_always key.class) rank staves verses)) n) (reaches_long (stands_always key.class) rank staves verses h)
+          subst (λ n. StandsInAll (reach_in (reaches_of (stands_always key.class) rank staves verses)) n)
+          (reaches_long (stands_always key.class) rank staves verses h)
           (stands_in (reaches_of (stands_always key.class) rank staves verses)
           (subst (λ b. All Stands (reaches_of b rank staves verses)) (sym always) (stands_all rank staves verses)))

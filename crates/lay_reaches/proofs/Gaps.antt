@@ -8,11 +8,14 @@ use Rattle.lay_reaches.specs.Lanes.{gaps_of, staff_gaps}
 pub gaps_narrow : (verses : List ℕ) → All (λ g. g ≤ 2 ^ 20) (gaps_of verses)
 gaps_narrow [] = All-nil (λ g. g ≤ 2 ^ 20)
 gaps_narrow (v ∷ verses) = All-append (λ g. g ≤ 2 ^ 20) (staff_gaps v) (gaps_of verses)
-    (All-cons (λ g. g ≤ 2 ^ 20) 100 (replicate (2 + v) 300) (omega arith) (All-replicate (λ g. g ≤ 2 ^ 20) (2 + v) 300 (omega arith)))
+    (All-cons (λ g. g ≤ 2 ^ 20) 100 (replicate (2 + v) 300) (omega arith)
+    (All-replicate (λ g. g ≤ 2 ^ 20) (2 + v) 300 (omega arith)))
     (gaps_narrow verses)
 
 pub gaps_few : (verses : List ℕ) → All (λ v. v ≤ 255) verses → length (gaps_of verses) ≤ 258 * length verses
 gaps_few [] h = omega arith
 gaps_few (v ∷ verses) h =
-    let a = gaps_few verses (All-tail (λ v. v ≤ 255) v verses h) in let b = All-head (λ v. v ≤ 255) v verses h in let c = length-append (staff_gaps v) (gaps_of verses) in
+    let a = gaps_few verses (All-tail (λ v. v ≤ 255) v verses h) in
+    let b = All-head (λ v. v ≤ 255) v verses h in
+    let c = length-append (staff_gaps v) (gaps_of verses) in
     let d = length-replicate {A = ℕ} (2 + v) 300 in grind (arith, a, b, c, d)

@@ -1,4 +1,5 @@
--- The columns of a system: one for each key, with its reach in each lane and the natural length of the spring behind it.
+-- The columns of a system: one for each key, with its reach in each lane and the natural length of the spring behind
+-- it.
 use Rattle.std.specs.Prelude.{◌≡◌, ℕ, ◌+◌, ◌*◌, ◌/◌, ◌<◌, ◌≤◌, ◌⊎◌, pos, neg_ℤ, ◌≤ℤ◌, true, List, [], ◌∷◌, length, All}
 use Rattle.std.specs.Prelude.{Contains, Option, Some, IfSome, option_and_then, slice_get}
 use Rattle.mus_onsets.specs.declared.keys.ColumnKey.{ColumnKey}
@@ -34,18 +35,26 @@ column_reach column lane = reach_in column.reaches lane
 
 -- a reach covers a box, or is cut
 abbrev pub Covers : Reach → Sides → Type 0
-Covers reach box = ((neg_ℤ box.left ≤ℤ pos reach.left) ⊎ (reach.left ≡ most_reach)) × ((box.right ≤ℤ pos reach.right) ⊎ (reach.right ≡ most_reach))
+Covers reach box =
+    ((neg_ℤ box.left ≤ℤ pos reach.left) ⊎ (reach.left ≡ most_reach))
+    × ((box.right ≤ℤ pos reach.right) ⊎ (reach.right ≡ most_reach))
 
 -- each mark with a box is covered by the reach of its column in its lane
 abbrev pub CoverMarks : List StaffMarks → List ℕ → List Column → Type 0
 CoverMarks staves verses columns =
-    (s rank lane count : ℕ) (staff : StaffMarks) (laid : Laid) (box : Sides) → slice_get staves s ≡ Some staff → slice_get verses s ≡ Some count → Contains staff.marks laid
-    → rank_of_mark laid.mark ≡ Some rank → rank < length columns → lane_number laid.lane ≡ Some lane → lane < lane_count count → sides_of laid.mark ≡ Some box
-    → (reach : Reach) × (reach_at column_reach columns rank (lane_start verses s + lane) ≡ Some reach) × Covers reach box
+    (s rank lane count : ℕ) (staff : StaffMarks) (laid : Laid) (box : Sides)
+    → slice_get staves s ≡ Some staff → slice_get verses s ≡ Some count → Contains staff.marks laid
+    → rank_of_mark laid.mark ≡ Some rank → rank < length columns → lane_number laid.lane ≡ Some lane
+    → lane < lane_count count
+    → sides_of laid.mark ≡ Some box
+    → (reach : Reach)
+    × (reach_at column_reach columns rank (lane_start verses s + lane) ≡ Some reach)
+    × Covers reach box
 
 -- a column of a head, of the bar before the first measure or of a bar stands in each lane
 abbrev pub StandsWhereDue : List ℕ → Column → Type 0
-StandsWhereDue verses column = stands_always column.key.class ≡ true → StandsInAll (column_reach column) (length (gaps_of verses))
+StandsWhereDue verses column =
+    stands_always column.key.class ≡ true → StandsInAll (column_reach column) (length (gaps_of verses))
 
 abbrev pub IsNearReach : Reach → Type 0
 IsNearReach reach = (reach.left ≤ most_reach) × (reach.right ≤ most_reach)

@@ -7,7 +7,8 @@ use Rattle.mus_laid.specs.declared.laid.Mark.{Mark}
 use Rattle.mus_laid.specs.declared.laid.StaffMarks.{StaffMarks}
 use Rattle.lay_reaches.specs.{Columns.columns_of, Reaches.boxes_at, Reaches.rank_of_mark}
 
--- the marks of a staff have the boxes of the first marks in the first n columns, and behind them the boxes of the second
+-- the marks of a staff have the boxes of the first marks in the first n columns,
+-- and behind them the boxes of the second
 pub record AreJoined (n : ℕ) (joined first second : List Laid) : Type 0 where
   pub front : (rank lane : ℕ) → rank < n → boxes_at rank lane joined ≡ boxes_at rank lane first
   pub behind : (rank lane : ℕ) → boxes_at (n + rank) lane joined ≡ boxes_at rank lane second
@@ -19,15 +20,19 @@ StavesJoin n [] [] (b ∷ second) = ⊥
 StavesJoin n [] (a ∷ first) second = ⊥
 StavesJoin n (x ∷ joined) [] second = ⊥
 StavesJoin n (x ∷ joined) (a ∷ first) [] = ⊥
-StavesJoin n (x ∷ joined) (a ∷ first) (b ∷ second) = AreJoined n x.marks a.marks b.marks × StavesJoin n joined first second
+StavesJoin n (x ∷ joined) (a ∷ first) (b ∷ second) =
+    AreJoined n x.marks a.marks b.marks × StavesJoin n joined first second
 
 -- no key of the one list is of a measure of the other
 abbrev pub OfOtherMeasures : List ColumnKey → List ColumnKey → Type 0
 OfOtherMeasures front behind = All (λ k. All (λ l. l.measure ≢ k.measure) behind) front
 
 abbrev pub ColumnsJoin : Type 0
-ColumnsJoin = (front behind : List ColumnKey) (joined first second : List StaffMarks) (lengths verses : List ℕ) → OfOtherMeasures front behind → StavesJoin (length front) joined first second
-    → columns_of (front ++ behind) joined lengths verses ≡ columns_of front first lengths verses ++ columns_of behind second lengths verses
+ColumnsJoin =
+    (front behind : List ColumnKey) (joined first second : List StaffMarks) (lengths verses : List ℕ)
+    → OfOtherMeasures front behind → StavesJoin (length front) joined first second
+    → columns_of (front ++ behind) joined lengths verses
+    ≡ columns_of front first lengths verses ++ columns_of behind second lengths verses
 
 -- a mark in the column that stands n further on
 abbrev pub moved_mark : ℕ → Mark → Mark
@@ -47,4 +52,7 @@ IsBelow n (Some rank) = rank < n
 
 -- marks of the first n columns, then others moved n further on, then some without a box
 abbrev pub MarksJoin : Type 0
-MarksJoin = (n : ℕ) (first second loose : List Laid) → All (λ l. IsBelow n (rank_of_mark l.mark)) first → All (λ l. rank_of_mark l.mark ≡ None) loose → AreJoined n (first ++ map (moved n) second ++ loose) first second
+MarksJoin =
+    (n : ℕ) (first second loose : List Laid)
+    → All (λ l. IsBelow n (rank_of_mark l.mark)) first → All (λ l. rank_of_mark l.mark ≡ None) loose
+    → AreJoined n (first ++ map (moved n) second ++ loose) first second

@@ -40,4 +40,7 @@ tick_or_end measure (Some next) lengths = next.tick
 
 -- of a key and those behind it
 abbrev pub natural_of : ColumnKey → List ColumnKey → List ℕ → ℕ
-natural_of key behind lengths = if is_note_key key then natural_for (tick_or_end key.measure (find (is_note_of key.measure) behind) lengths - key.tick) else 0
+natural_of key behind lengths =
+    if is_note_key key
+    then natural_for (tick_or_end key.measure (find (is_note_of key.measure) behind) lengths - key.tick)
+    else 0

@@ -1,4 +1,5 @@
--- How far a column reaches in a lane: as far as the boxes of its marks there, to the left and to the right, at least 0, and cut at 2^20.
+-- How far a column reaches in a lane: as far as the boxes of its marks there, to the left and to the right, at least 0,
+-- and cut at 2^20.
 use Rattle.std.specs.Prelude.{ℕ, ℤ, pos, negsuc, ◌+◌, min, Bool, true, false, ◌&&◌, ◌==◌, if◌then◌else◌, List, [], ◌∷◌}
 use Rattle.std.specs.Prelude.{◌++◌, map, filter_map, Option, Some, None}
 use Rattle.std.specs.List.{range_with_len}
@@ -36,7 +37,10 @@ is_lane_number n (Some m) = n == m
 
 -- the box of a mark, where it stands at a column and in a lane of its staff
 abbrev pub box_at : ℕ → ℕ → Laid → Option Sides
-box_at rank lane laid = if is_lane_number rank (rank_of_mark laid.mark) && is_lane_number lane (lane_number laid.lane) then sides_of laid.mark else None
+box_at rank lane laid =
+    if is_lane_number rank (rank_of_mark laid.mark) && is_lane_number lane (lane_number laid.lane)
+    then sides_of laid.mark
+    else None
 
 abbrev pub boxes_at : ℕ → ℕ → List Laid → List Sides
 boxes_at rank lane marks = filter_map (box_at rank lane) marks
@@ -44,7 +48,11 @@ boxes_at rank lane marks = filter_map (box_at rank lane) marks
 -- as far as the furthest box; none without a box
 abbrev pub reach_over : List Sides → Option Reach
 reach_over [] = None
-reach_over (box ∷ boxes) = Some (record { left = greatest (map (λ s. left_of s.left) (box ∷ boxes)); right = greatest (map (λ s. right_of s.right) (box ∷ boxes)) })
+reach_over (box ∷ boxes) =
+    Some (record {
+      left = greatest (map (λ s. left_of s.left) (box ∷ boxes));
+      right = greatest (map (λ s. right_of s.right) (box ∷ boxes));
+    })
 
 abbrev pub drawn_reach : List Laid → ℕ → ℕ → Option Reach
 drawn_reach marks rank lane = reach_over (boxes_at rank lane marks)
@@ -74,4 +82,5 @@ staff_reaches always rank marks verses = map (standing always) (drawn_row marks 
 abbrev pub reaches_of : Bool → ℕ → List StaffMarks → List ℕ → List (Option Reach)
 reaches_of always rank [] verses = []
 reaches_of always rank (staff ∷ staves) [] = []
-reaches_of always rank (staff ∷ staves) (verses ∷ more) = staff_reaches always rank staff.marks verses ++ reaches_of always rank staves more
+reaches_of always rank (staff ∷ staves) (verses ∷ more) =
+    staff_reaches always rank staff.marks verses ++ reaches_of always rank staves more

@@ -157,7 +157,8 @@ impl Reaches {
 /// A reach more, in a lane: in place where there was none or one of the same lane, else as a row.
 fn with_reach(alloc: Global, single: Single, lane: usize, reach: Reach) -> Result<Reaches, Memory>
     requires { lane < single.lanes }
-    ensures { IfOk result (λ r. r ≡ slice_set (slice_set (replicate single.lanes None) single.lane single.reach) lane (Some reach)) }
+    ensures { IfOk result
+        (λ r. r ≡ slice_set (slice_set (replicate single.lanes None) single.lane single.reach) lane (Some reach)) }
 {
     match single.reach {
         Some(other) if single.lane != lane => {

@@ -6,17 +6,24 @@ use Rattle.std.proofs.lemmas.Slice.Zip.{AllZip-long}
 use Rattle.std.specs.List.{AllZip}
 use Rattle.{lay_breaks.specs.Rows.{AreSmall}, lay_rows.specs.Tables.{IsCostTable}}
 
-row_at : (is_row : ℕ → List ℕ → Type 0) (bars : List ℕ) (rows : List (List ℕ)) (a : ℕ) → AllZip is_row bars rows → a < length bars → is_row (slice_index bars a) (slice_index_or rows a [])
+row_at : (is_row : ℕ → List ℕ → Type 0) (bars : List ℕ) (rows : List (List ℕ)) (a : ℕ)
+    → AllZip is_row bars rows → a < length bars → is_row (slice_index bars a) (slice_index_or rows a [])
 row_at is_row [] rows a h l = absurd (omega arith)
 row_at is_row (b ∷ bars) [] a h l = absurd h
 row_at is_row (b ∷ bars) (row ∷ rows) zero h l = h.0
 row_at is_row (b ∷ bars) (row ∷ rows) (suc a) h l = row_at is_row bars rows a h.1 (omega arith)
 
-pub table_of_bars : (is_row : ℕ → List ℕ → Type 0) (n : ℕ) (bars : List ℕ) (rows : List (List ℕ)) → length bars ≡ n → ((a : ℕ) → a < n → slice_index bars a ≡ a) → AllZip is_row bars rows → IsCostTable is_row n rows
+pub table_of_bars : (is_row : ℕ → List ℕ → Type 0) (n : ℕ) (bars : List ℕ) (rows : List (List ℕ))
+    → length bars ≡ n → ((a : ℕ) → a < n → slice_index bars a ≡ a) → AllZip is_row bars rows → IsCostTable is_row n rows
 table_of_bars is_row n bars rows count each h = record {
   count = AllZip-long is_row bars rows h ∙ count;
   each = λ a l. subst (λ b. is_row b (slice_index_or rows a [])) (each a l) (row_at is_row bars rows a h (omega arith));
 }
 
-pub table_small : (is_row : ℕ → List ℕ → Type 0) (n : ℕ) (rows : List (List ℕ)) → ((a : ℕ) (row : List ℕ) → a < n → is_row a row → All (λ v. v ≤ 2 ^ 40) row) → IsCostTable is_row n rows → AreSmall rows
-table_small is_row n rows small h = All-from_get_or (λ row. All (λ v. v ≤ 2 ^ 40) row) rows [] (λ a l. let count = h.count in small a (slice_index_or rows a []) (omega arith) (h.each a (omega arith)))
+pub table_small : (is_row : ℕ → List ℕ → Type 0) (n : ℕ) (rows : List (List ℕ))
+    → ((a : ℕ) (row : List ℕ) → a < n → is_row a row → All (λ v. v ≤ 2 ^ 40) row)
+    → IsCostTable is_row n rows
+    → AreSmall rows
+table_small is_row n rows small h =
+    All-from_get_or (λ row. All (λ v. v ≤ 2 ^ 40) row) rows []
+    (λ a l. let count = h.count in small a (slice_index_or rows a []) (omega arith) (h.each a (omega arith)))

@@ -13,7 +13,9 @@ cost_of_rising : (rows : List (List ℕ)) (a b : ℕ) → a < b → cost_in rows
 cost_of_rising rows a b l = let t : nat_lt a b ≡ true = grind (arith, nat_tests) in rw t refl
 
 pub cost_stops : (rows : List (List ℕ)) (a b c : ℕ) → a < b → b < c → cost_in rows a b ≡ None → cost_in rows a c ≡ None
-cost_stops rows a b c l m e = cost_of_rising rows a c (omega arith) ∙ rows_stop rows a b c l m (sym (cost_of_rising rows a b l) ∙ e)
+cost_stops rows a b c l m e =
+    cost_of_rising rows a c (omega arith) ∙ rows_stop rows a b c l m (sym (cost_of_rising rows a b l) ∙ e)
 
-pub cost_small : (rows : List (List ℕ)) → AreSmall rows → (a b : ℕ) → a < b → IfSome (cost_in rows a b) (λ v. v ≤ 2 ^ 40)
+pub cost_small : (rows : List (List ℕ))
+    → AreSmall rows → (a b : ℕ) → a < b → IfSome (cost_in rows a b) (λ v. v ≤ 2 ^ 40)
 cost_small rows h a b l = rw (cost_of_rising rows a b l) (rows_small rows h a b)

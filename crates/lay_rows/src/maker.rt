@@ -25,7 +25,8 @@ pub trait RowMaker {
         ensures { IfOk result (λ row. is_row self.now a row) };
 
     // a bar has one row
-    ghost is_one: { (m : Self) (a : ℕ) (row other : List ℕ) → a < bars m → is_row m a row → is_row m a other → row ≡ other };
+    ghost is_one: { (m : Self) (a : ℕ) (row other : List ℕ)
+        → a < bars m → is_row m a row → is_row m a other → row ≡ other };
 
     // no cost passes 2^40
     ghost is_small: { (m : Self) (a : ℕ) (row : List ℕ) → a < bars m → is_row m a row → All (λ v. v ≤ 2 ^ 40) row };

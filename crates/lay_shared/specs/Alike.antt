@@ -1,4 +1,5 @@
--- Voices that can share a staff: they begin with the same clef, key and meter, and the same changes stand at the same places.
+-- Voices that can share a staff: they begin with the same clef, key and meter,
+-- and the same changes stand at the same places.
 use Rattle.std.specs.Prelude.{◌≡◌, ⊤, ℕ, ◌+◌, List, [], ◌∷◌, ◌++◌, Bool, ◌||◌, if◌then◌else◌, Option, is_some}
 use Rattle.std.specs.Prelude.{slice_get}
 use Rattle.std.specs.List.{AllByRecursion}
@@ -20,7 +21,10 @@ has_change changes = is_some changes.clef || is_some changes.key || is_some chan
 -- the changes of events that follow so many ticks of their measure
 abbrev pub event_changes : ℕ → ℕ → List Flat → List TimedChange
 event_changes measure tick [] = []
-event_changes measure tick (f ∷ fs) = (if has_change f.event.changes then record { measure = measure; tick = tick; changes = f.event.changes } ∷ [] else []) ++ event_changes measure (tick + f.duration) fs
+event_changes measure tick (f ∷ fs) =
+    (if has_change f.event.changes then record { measure = measure; tick = tick; changes = f.event.changes } ∷ []
+    else [])
+    ++ event_changes measure (tick + f.duration) fs
 
 -- the changes of measures, of which the first has this number
 abbrev pub changes_from : ℕ → List Measure → List TimedChange

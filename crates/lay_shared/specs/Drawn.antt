@@ -1,4 +1,5 @@
--- The score that is drawn by a plan: the voices that it names, in order, each with its seat and the gap above its staff.
+-- The score that is drawn by a plan: the voices that it names, in order,
+-- each with its seat and the gap above its staff.
 use Rattle.std.specs.Prelude.{ℕ, List, [], ◌∷◌, Bool, false, map, flat_map, slice_get, if◌then◌else◌}
 use Rattle.std.specs.Option.{option_to_list}
 use Rattle.mus_units.specs.declared.note.Bar.{Bar}
@@ -30,7 +31,8 @@ abbrev pub sits_of : List PlannedStaff → List SeatedVoice
 sits_of staves = flat_map (λ staff. staff_sits staff.leads staff.voices) staves
 
 abbrev pub no_feature : Bar
-no_feature = record { end = false; start = false; last = false; initial = false; double = false; dotted = false; unseen = false }
+no_feature =
+    record { end = false; start = false; last = false; initial = false; double = false; dotted = false; unseen = false }
 
 -- the first bar of a staff is drawn for its first voice alone
 abbrev pub first_bar : Seat → Bar → Bar

@@ -28,7 +28,9 @@ word_signs ids (b ∷ word) = voice_sign (place_of (b ∷ word) ids) ∷ []
 -- the signs of a text behind a part of a word
 abbrev pub plan_signs_from : List (List ℕ) → List ℕ → List ℕ → List PlanSign
 plan_signs_from ids word [] = word_signs ids word
-plan_signs_from ids word (b ∷ text) = if is_id b then plan_signs_from ids (word ++ b ∷ []) text else word_signs ids word ++ (option_to_list (plan_sign_at b) ++ plan_signs_from ids [] text)
+plan_signs_from ids word (b ∷ text) =
+    if is_id b then plan_signs_from ids (word ++ b ∷ []) text
+    else word_signs ids word ++ (option_to_list (plan_sign_at b) ++ plan_signs_from ids [] text)
 
 abbrev pub has_no_bracket : List Bracket → Bool
 has_no_bracket [] = true
@@ -41,7 +43,12 @@ same_bracket _ _ = false
 
 -- a further staff, which leads its group where none of that stands before it
 abbrev pub with_staff : PlanReader → List ℕ → PlanReader
-with_staff at voices = record { brackets = at.brackets; inside = None; leads = has_no_bracket at.brackets; staves = at.staves ++ planned at.leads voices ∷ [] }
+with_staff at voices = record {
+  brackets = at.brackets;
+  inside = None;
+  leads = has_no_bracket at.brackets;
+  staves = at.staves ++ planned at.leads voices ∷ [];
+}
 
 abbrev pub with_voice : PlanReader → ℕ → Option (List ℕ) → PlanReader
 with_voice at v None = with_staff at (v ∷ [])
@@ -62,7 +69,8 @@ entered at b (Some vs) = None
 -- behind the last bracket the next staff leads a group
 abbrev pub bracket_left : PlanReader → Bracket → List Bracket → Option PlanReader
 bracket_left at b [] = None
-bracket_left at b (c ∷ more) = if same_bracket b c then Some (record at { brackets = more; leads = at.leads || has_no_bracket more }) else None
+bracket_left at b (c ∷ more) =
+    if same_bracket b c then Some (record at { brackets = more; leads = at.leads || has_no_bracket more }) else None
 
 abbrev pub left : PlanReader → Bracket → Option (List ℕ) → Option PlanReader
 left at b None = bracket_left at b at.brackets

@@ -18,8 +18,10 @@ voice_signs (v ∷ vs) behind = PlanSign.Voice v ∷ voice_signs vs behind
 abbrev pub tree_signs : Trees → List PlanSign → List PlanSign
 tree_signs no_tree behind = behind
 tree_signs (voice_tree v more) behind = PlanSign.Voice v ∷ tree_signs more behind
-tree_signs (staff_tree v vs more) behind = PlanSign.StaffOpens ∷ PlanSign.Voice v ∷ voice_signs vs (PlanSign.StaffEnds ∷ tree_signs more behind)
-tree_signs (group_tree b inner more) behind = PlanSign.Opens b ∷ tree_signs inner (PlanSign.Ends b ∷ tree_signs more behind)
+tree_signs (staff_tree v vs more) behind =
+    PlanSign.StaffOpens ∷ PlanSign.Voice v ∷ voice_signs vs (PlanSign.StaffEnds ∷ tree_signs more behind)
+tree_signs (group_tree b inner more) behind =
+    PlanSign.Opens b ∷ tree_signs inner (PlanSign.Ends b ∷ tree_signs more behind)
 
 -- the voices of each staff, in the order of the text
 abbrev pub shares_of : Trees → List (List ℕ)

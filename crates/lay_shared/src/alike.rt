@@ -25,7 +25,8 @@ pub fn shared(alloc: Global, s: &Score, p: &Plan) -> Result<bool, Memory>
 /// Whether no two voices of one of these staves differ.
 fn are_shared(alloc: Global, voices: &[Voice], staves: &[PlannedStaff]) -> Result<bool, Memory>
     requires { All IsGoodVoice voices.now }
-    ensures { IfOk result (λ are. Decides are (AllByRecursion (λ staff. HaveSameChanges voices.now staff.voices) staves.now)) }
+    ensures { IfOk result
+        (λ are. Decides are (AllByRecursion (λ staff. HaveSameChanges voices.now staff.voices) staves.now)) }
 {
     for staff in staves {
         if !are_alike(alloc, voices, staff.voices.as_slice())? {
@@ -49,7 +50,8 @@ fn are_alike(alloc: Global, voices: &[Voice], places: &[u32]) -> Result<bool, Me
 /// Whether the voices at some places are like the one at this place.
 fn are_like(alloc: Global, voices: &[Voice], place: u32, others: &[u32]) -> Result<bool, Memory>
     requires { All IsGoodVoice voices.now }
-    ensures { IfOk result (λ are. Decides are (AllByRecursion (λ w. story_at voices.now place ≡ story_at voices.now w) others.now)) }
+    ensures { IfOk result
+        (λ are. Decides are (AllByRecursion (λ w. story_at voices.now place ≡ story_at voices.now w) others.now)) }
 {
     for other in others {
         if !is_like(alloc, voices, place, *other)? {

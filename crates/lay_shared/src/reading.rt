@@ -100,7 +100,8 @@ impl PlanReader {
     }
 
     fn open_staff(&mut self, alloc: Global) -> bool
-        ensures { cond result (staff_opened self.old self.old.inside ≡ Some self.new) (staff_opened self.old self.old.inside ≡ None) }
+        ensures { cond result (staff_opened self.old self.old.inside ≡ Some self.new)
+            (staff_opened self.old self.old.inside ≡ None) }
     {
         if self.inside.is_some() {
             return false;
@@ -110,7 +111,9 @@ impl PlanReader {
     }
 
     fn close_staff(&mut self) -> Result<bool, Memory>
-        ensures { IfOk result (λ went. cond went (staff_closed self.old self.old.inside ≡ Some self.new) (staff_closed self.old self.old.inside ≡ None)) }
+        ensures { IfOk result (λ went.
+            cond went (staff_closed self.old self.old.inside ≡ Some self.new)
+            (staff_closed self.old self.old.inside ≡ None)) }
     {
         match self.inside.take() {
             Some(voices) if voices.len() > 0 => {
@@ -122,7 +125,9 @@ impl PlanReader {
     }
 
     fn enter(&mut self, bracket: Bracket) -> Result<bool, Memory>
-        ensures { IfOk result (λ went. cond went (entered self.old bracket self.old.inside ≡ Some self.new) (entered self.old bracket self.old.inside ≡ None)) }
+        ensures { IfOk result (λ went.
+            cond went (entered self.old bracket self.old.inside ≡ Some self.new)
+            (entered self.old bracket self.old.inside ≡ None)) }
     {
         if self.inside.is_some() {
             return Ok(false);
@@ -132,7 +137,8 @@ impl PlanReader {
     }
 
     fn leave(&mut self, bracket: Bracket) -> bool
-        ensures { cond result (left self.old bracket self.old.inside ≡ Some self.new) (left self.old bracket self.old.inside ≡ None) }
+        ensures { cond result (left self.old bracket self.old.inside ≡ Some self.new)
+            (left self.old bracket self.old.inside ≡ None) }
     {
         if self.inside.is_some() {
             return false;
@@ -148,7 +154,8 @@ impl PlanReader {
 
     /// Reads one sign more; false where it can't stand there.
     fn take_sign(&mut self, alloc: Global, sign: PlanSign) -> Result<bool, Memory>
-        ensures { IfOk result (λ went. cond went (after_sign self.old sign ≡ Some self.new) (after_sign self.old sign ≡ None)) }
+        ensures { IfOk result
+            (λ went. cond went (after_sign self.old sign ≡ Some self.new) (after_sign self.old sign ≡ None)) }
     {
         match sign {
             PlanSign::Voice { place } => {

@@ -5,9 +5,11 @@ use Rattle.lay_breaks.specs.declared.costs.Span.{Span}
 use Rattle.lay_spans.specs.SpanList.{IsCost, IsNoSpan}
 
 -- the row has what the spans from bar a to a + 1, a + 2 and so on cost, up to the longest that fits
-pub record IsRowFrom {C : Type 0} (reach : C → ℕ → Option Reach) (len : C → ℕ → ℕ) (gaps : List ℕ) (width : ℕ) (starts others : List (List C)) (forced : ℕ → Bool) (a : ℕ) (row : List ℕ) : Type 0 where
+pub record IsRowFrom {C : Type 0} (reach : C → ℕ → Option Reach) (len : C → ℕ → ℕ) (gaps : List ℕ) (width : ℕ)
+    (starts others : List (List C)) (forced : ℕ → Bool) (a : ℕ) (row : List ℕ) : Type 0 where
   pub within : a + length row ≤ length starts
-  pub each : (k : ℕ) → k < length row → IsCost reach len gaps width starts others forced a (a + 1 + k) (slice_index row k)
+  pub each : (k : ℕ)
+      → k < length row → IsCost reach len gaps width starts others forced a (a + 1 + k) (slice_index row k)
   pub stops : (b : ℕ) → a + length row < b → b ≤ length starts → IsNoSpan reach len gaps width starts others forced a b
 
 -- the spans from bar a to b, b + 1 and so on, that cost what the row has

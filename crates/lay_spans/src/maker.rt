@@ -29,7 +29,9 @@ pub(crate) struct SpanMaker<'a, C: Spaced + Spring> {
 impl<'a, C: Spaced + Spring> RowMaker for SpanMaker<'a, C> {
     ghost bars = { λ m. length m.starts.now };
 
-    ghost is_row = { λ m a row. IsRowFrom C.reach_of C.length_of m.gaps.now m.width m.starts.now m.others.now (λ b. slice_index_or m.marks.now b false) a row };
+    ghost is_row = { λ m a row.
+        IsRowFrom C.reach_of C.length_of m.gaps.now m.width m.starts.now m.others.now
+        (λ b. slice_index_or m.marks.now b false) a row };
 
     fn costs_from(&self, a: u32) -> Result<Row<u64>, Memory> {
         row_from(
@@ -43,7 +45,12 @@ impl<'a, C: Spaced + Spring> RowMaker for SpanMaker<'a, C> {
         )
     }
 
-    ghost is_one = { λ m a row other l h k. one_row C.reach_of C.length_of m.gaps.now m.width m.starts.now m.others.now (λ b. slice_index_or m.marks.now b false) (λ c f g l m. spring_rises C.length_of C.scales c f g l) a row other h k };
+    ghost is_one = { λ m a row other l h k.
+        one_row C.reach_of C.length_of m.gaps.now m.width m.starts.now m.others.now
+        (λ b. slice_index_or m.marks.now b false) (λ c f g l m. spring_rises C.length_of C.scales c f g l) a row other h
+        k };
 
-    ghost is_small = { λ m a row l h. row_small C.reach_of C.length_of m.gaps.now m.width m.starts.now m.others.now (λ b. slice_index_or m.marks.now b false) a row h };
+    ghost is_small = { λ m a row l h.
+        row_small C.reach_of C.length_of m.gaps.now m.width m.starts.now m.others.now
+        (λ b. slice_index_or m.marks.now b false) a row h };
 }

@@ -36,11 +36,14 @@ fn greatest_force<C: Spaced + Spring>(
     requires most { most ≤ 2048 }
     requires room { length cols.now ≤ length at.old }
     requires one_each { length front.old ≡ length gaps.now }
-    requires placed { HasPlaced (length cols.now) (reach_at C.reach_of cols.now) gaps.now (length_at C.length_of cols.now) placed.old at.old front.old }
-    ensures placed { HasPlaced (length cols.now) (reach_at C.reach_of cols.now) gaps.now (length_at C.length_of cols.now) placed.new at.new front.new }
+    requires placed { HasPlaced (length cols.now) (reach_at C.reach_of cols.now) gaps.now
+        (length_at C.length_of cols.now) placed.old at.old front.old }
+    ensures placed { HasPlaced (length cols.now) (reach_at C.reach_of cols.now) gaps.now
+        (length_at C.length_of cols.now) placed.new at.new front.new }
     ensures bound { IfSome result (λ f. f ≤ most) }
     ensures fits { IfSome result (λ f. FitsAt C.reach_of C.length_of gaps.now width f cols.now) }
-    ensures greatest { IfSome result (λ f. (g : ℕ) → f < g → g ≤ most → FitsAtForce C.reach_of C.length_of gaps.now width g cols.now → ⊥) }
+    ensures greatest { IfSome result
+        (λ f. (g : ℕ) → f < g → g ≤ most → FitsAtForce C.reach_of C.length_of gaps.now width g cols.now → ⊥) }
     ensures none { IfNone result (FitsAtForce C.reach_of C.length_of gaps.now width 0 cols.now → ⊥) }
 {
     if most_columns(width) < cols.len() {

@@ -10,7 +10,9 @@ use Rattle.lay_springs.specs.Fit.{IsEndOf, EndsAt}
 use Rattle.lay_springs.proofs.Clear.{below_or_at}
 
 pub end_more : (reach : ℕ → Option Reach) (lane : ℕ) (at old new : ℤ) (r : Reach) → reach lane ≡ Some r
-    → old ≤ℤ new → (at +ℤ pos r.right) ≤ℤ new → ((v : ℤ) → old ≤ℤ v → (at +ℤ pos r.right) ≤ℤ v → new ≤ℤ v) → IsEndOf reach lane at old → IsEndOf reach (lane + 1) at new
+    → old ≤ℤ new → (at +ℤ pos r.right) ≤ℤ new → ((v : ℤ) → old ≤ℤ v → (at +ℤ pos r.right) ≤ℤ v → new ≤ℤ v)
+    → IsEndOf reach lane at old
+    → IsEndOf reach (lane + 1) at new
 end_more reach lane at old new r er le reached least h = record {
   past = let p = h.past in omega (arith, ints);
   reaches = λ k u lt eu.
@@ -22,26 +24,39 @@ end_more reach lane at old new r er le reached least h = record {
 }
 
 -- springs that are no longer let the columns stand where longer ones do
-pub apart_down : (n : ℕ) (reach : ℕ → ℕ → Option Reach) (gaps : List ℕ) (weak strong : ℕ → ℕ) (x : List ℤ) → ((i : ℕ) → weak i ≤ strong i) → StandApart n reach gaps strong x → StandApart n reach gaps weak x
-apart_down n reach gaps weak strong x le h = record { begins = h.begins; head = h.head; lanes = h.lanes; steps = h.steps; springs = λ i l. let s = h.springs i l in let k = le i in omega (arith, ints) }
+pub apart_down : (n : ℕ) (reach : ℕ → ℕ → Option Reach) (gaps : List ℕ) (weak strong : ℕ → ℕ) (x : List ℤ)
+    → ((i : ℕ) → weak i ≤ strong i) → StandApart n reach gaps strong x → StandApart n reach gaps weak x
+apart_down n reach gaps weak strong x le h = record {
+  begins = h.begins;
+  head = h.head;
+  lanes = h.lanes;
+  steps = h.steps;
+  springs = λ i l. let s = h.springs i l in let k = le i in omega (arith, ints);
+}
 
 -- the end doesn't fall as the force rises
-pub end_down : (n : ℕ) (reach : ℕ → ℕ → Option Reach) (gaps : List ℕ) (spring : ℕ → ℕ → ℕ) (f g : ℕ) (d e : ℤ) → 0 < n → ((i : ℕ) → spring f i ≤ spring g i)
+pub end_down : (n : ℕ) (reach : ℕ → ℕ → Option Reach) (gaps : List ℕ) (spring : ℕ → ℕ → ℕ) (f g : ℕ) (d e : ℤ)
+    → 0 < n → ((i : ℕ) → spring f i ≤ spring g i)
     → EndsAt n reach gaps spring f d → EndsAt n reach gaps spring g e → d ≤ℤ e
 end_down n reach gaps spring f g d e some le a b =
-    let last = a.place.least b.x (apart_down n reach gaps (spring f) (spring g) b.x le b.place.apart) (n - 1) (omega arith) in
+    let last =
+    a.place.least b.x (apart_down n reach gaps (spring f) (spring g) b.x le b.place.apart) (n - 1) (omega arith) in
     a.end.least e (let p = b.end.past in omega (arith, ints))
     (λ k r l er. let q = b.end.reaches k r l er in omega (arith, ints))
 
 -- a spring grows with the force
-pub spring_rises : {C : Type 0} (len : C → ℕ → ℕ) → ((c : C) (f : ℕ) → len c f ≡ len c 256 * f / 256) → (c : C) (f g : ℕ) → f ≤ g → len c f ≤ len c g
-spring_rises len scales c f g l = let less = scales c f in let more = scales c g in let up = mul-le-mul_left (len c 256) l in omega arith
+pub spring_rises : {C : Type 0} (len : C → ℕ → ℕ)
+    → ((c : C) (f : ℕ) → len c f ≡ len c 256 * f / 256) → (c : C) (f g : ℕ) → f ≤ g → len c f ≤ len c g
+spring_rises len scales c f g l =
+    let less = scales c f in let more = scales c g in let up = mul-le-mul_left (len c 256) l in omega arith
 
-pub spring_short : (natural force length result : ℕ) → natural ≤ 4096 → length ≡ natural * force / 256 → force < 65536 → result ≡ length → result ≤ 1048576
+pub spring_short : (natural force length result : ℕ)
+    → natural ≤ 4096 → length ≡ natural * force / 256 → force < 65536 → result ≡ length → result ≤ 1048576
 spring_short natural force length result short scales small is = let most = mul-le-mul_right force short in omega arith
 
 -- the springs of a list of columns grow with the force
-pub length_rises : {C : Type 0} (len : C → ℕ → ℕ) (cols : List C) (f g : ℕ) → ((c : C) → len c f ≤ len c g) → (i : ℕ) → length_at len cols f i ≤ length_at len cols g i
+pub length_rises : {C : Type 0} (len : C → ℕ → ℕ) (cols : List C) (f g : ℕ)
+    → ((c : C) → len c f ≤ len c g) → (i : ℕ) → length_at len cols f i ≤ length_at len cols g i
 length_rises len cols f g le i = at (slice_get cols i)
   where
     at : (o : _) → unwrap_or (option_map (λ c. len c f) o) 0 ≤ unwrap_or (option_map (λ c. len c g) o) 0
@@ -49,7 +64,8 @@ length_rises len cols f g le i = at (slice_get cols i)
     at (Some c) = le c
 
 -- and are short at a small force
-pub lengths_short : {C : Type 0} (len : C → ℕ → ℕ) (cols : List C) (force i : ℕ) → ((c : C) → len c 256 ≤ 4096) → ((c : C) → len c force ≡ len c 256 * force / 256) → force < 65536
+pub lengths_short : {C : Type 0} (len : C → ℕ → ℕ) (cols : List C) (force i : ℕ)
+    → ((c : C) → len c 256 ≤ 4096) → ((c : C) → len c force ≡ len c 256 * force / 256) → force < 65536
     → length_at len cols force i ≤ 1048576
 lengths_short len cols force i short scales small = at (slice_get cols i)
   where

@@ -28,8 +28,14 @@ pub record AskedBelow (m : ℕ) (f : ℕ → ℤ → Type 0) (w : ℤ) : Type 0 
   pub asks : f by w
 
 -- where each of the first m has a top over any number, so have all of them
-pub top_of : (f : ℕ → ℤ → Type 0) → ((i : ℕ) (from : ℤ) → Top from (f i)) → (m : ℕ) (from : ℤ) → Top from (AskedBelow m f)
-top_of f one zero from = record { v = from; past = omega (arith, ints); all = λ w a. absurd (let l = a.within in omega arith); least = λ u p q. p }
+pub top_of : (f : ℕ → ℤ → Type 0)
+    → ((i : ℕ) (from : ℤ) → Top from (f i)) → (m : ℕ) (from : ℤ) → Top from (AskedBelow m f)
+top_of f one zero from = record {
+  v = from;
+  past = omega (arith, ints);
+  all = λ w a. absurd (let l = a.within in omega arith);
+  least = λ u p q. p;
+}
 top_of f one (suc m) from =
     let r = top_of f one m from in let l = one m r.v in
     record {
@@ -38,7 +44,10 @@ top_of f one (suc m) from =
       all = λ w a. below_or_at (λ k. f k w → w ≤ℤ l.v) a.by m (let t = a.within in omega arith)
           (λ t h. let p = r.all w (record { by = a.by; within = t; asks = h }) in let q = l.past in omega (arith, ints))
           (λ h. l.all w h) a.asks;
-      least = λ u p q. l.least u (r.least u p (λ w a. q w (record { by = a.by; within = let t = a.within in omega arith; asks = a.asks })))
+      least =
+          λ u p q.
+          l.least u
+          (r.least u p (λ w a. q w (record { by = a.by; within = let t = a.within in omega arith; asks = a.asks })))
           (λ w h. q w (record { by = m; within = omega arith; asks = h }));
     }
 
@@ -47,11 +56,16 @@ abbrev pub AskedAt : Option Reach → (Reach → ℤ) → ℤ → Type 0
 AskedAt o f w = (r : Reach) × (o ≡ Some r) × (w ≡ f r)
 
 pub top_at : (o : Option Reach) (f : Reach → ℤ) (from : ℤ) → Top from (AskedAt o f)
-top_at None f from = record { v = from; past = omega (arith, ints); all = λ w a. absurd (let e = a.1 in cc); least = λ u p q. p }
+top_at None f from =
+    record { v = from; past = omega (arith, ints); all = λ w a. absurd (let e = a.1 in cc); least = λ u p q. p }
 top_at (Some r) f from = record {
   v = int_max from (f r);
   past = omega (arith, ints, clamps);
-  all = λ w a. let same : r ≡ a.0 = (let e = a.1 in cc) in let is : w ≡ f r = a.2 ∙ ap f (sym same) in rw is (omega (arith, ints, clamps));
+  all =
+      λ w a.
+      let same : r ≡ a.0 = (let e = a.1 in cc) in
+      let is : w ≡ f r = a.2 ∙ ap f (sym same) in
+      rw is (omega (arith, ints, clamps));
   least = λ u p q. let t = q (f r) (r, refl, refl) in omega (arith, ints, clamps);
 }
 
@@ -60,10 +74,16 @@ abbrev pub AskedBy : Option Reach → Option Reach → (Reach → Reach → ℤ)
 AskedBy o p f w = (r : Reach) × (o ≡ Some r) × AskedAt p (f r) w
 
 top_by : (o p : Option Reach) (f : Reach → Reach → ℤ) (from : ℤ) → Top from (AskedBy o p f)
-top_by None p f from = record { v = from; past = omega (arith, ints); all = λ w a. absurd (let e = a.1 in cc); least = λ u p q. p }
+top_by None p f from =
+    record { v = from; past = omega (arith, ints); all = λ w a. absurd (let e = a.1 in cc); least = λ u p q. p }
 top_by (Some r) p f from =
     let t = top_at p (f r) from in
-    record { v = t.v; past = t.past; all = λ w a. let same : r ≡ a.0 = (let e = a.1 in cc) in t.all w (subst (λ x. AskedAt p (f x) w) (sym same) a.2); least = λ u l q. t.least u l (λ w a. q w (r, refl, a)) }
+    record {
+      v = t.v;
+      past = t.past;
+      all = λ w a. let same : r ≡ a.0 = (let e = a.1 in cc) in t.all w (subst (λ x. AskedAt p (f x) w) (sym same) a.2);
+      least = λ u l q. t.least u l (λ w a. q w (r, refl, a));
+    }
 
 abbrev at : List ℤ → ℕ → ℤ
 at x k = slice_index_or x k (pos 0)
@@ -78,7 +98,10 @@ module _ (n : ℕ) (reach : ℕ → ℕ → Option Reach) (gaps : List ℕ) (spr
 
   first : 0 < n → Placed 0
   first some =
-      let lanes = length gaps in let t = top_of (λ lane w. AskedAt (reach 0 lane) (λ s. pos s.left) w) (λ lane from. top_at (reach 0 lane) (λ s. pos s.left) from) lanes (pos 0) in let zeros = replicate n (pos 0) in
+      let lanes = length gaps in
+      let t = top_of (λ lane w. AskedAt (reach 0 lane) (λ s. pos s.left) w)
+      (λ lane from. top_at (reach 0 lane) (λ s. pos s.left) from) lanes (pos 0) in
+      let zeros = replicate n (pos 0) in
       let count : length (replicate n (pos 0)) ≡ n = length-replicate n (pos 0) in (
         slice_set zeros 0 t.v,
         length-set zeros 0 t.v ∙ count,
@@ -90,60 +113,95 @@ module _ (n : ℕ) (reach : ℕ → ℕ → Option Reach) (gaps : List ℕ) (spr
       )
 
   abbrev Asks : List ℤ → ℕ → ℕ → ℕ → ℤ → Type 0
-  Asks x j i lane w = AskedBy (reach i lane) (reach j lane) (λ r s. at x i +ℤ pos (r.right + slice_index gaps lane + s.left)) w
+  Asks x j i lane w =
+      AskedBy (reach i lane) (reach j lane) (λ r s. at x i +ℤ pos (r.right + slice_index gaps lane + s.left)) w
 
   next : (j : ℕ) → j + 1 < n → Placed j → Placed (j + 1)
   next j l (x, count, placed) =
       let lanes = length gaps in let from : ℤ = int_max (at x j +ℤ pos 100) (at x j +ℤ pos (spring j)) in
-      let over = λ (i : ℕ). top_of (Asks x (j + 1) i) (λ lane from. top_by (reach i lane) (reach (j + 1) lane) (λ r s. at x i +ℤ pos (r.right + slice_index gaps lane + s.left)) from) lanes in
-      let t = top_of (λ i. AskedBelow lanes (Asks x (j + 1) i)) over (j + 1) from in let past = t.past in let last = placed.small j (omega arith) in let low = last.0 in let high = last.1 in
+      let over = λ (i : ℕ).
+      top_of (Asks x (j + 1) i)
+      (λ lane from.
+      top_by (reach i lane) (reach (j + 1) lane) (λ r s. at x i +ℤ pos (r.right + slice_index gaps lane + s.left)) from)
+      lanes in
+      let t = top_of (λ i. AskedBelow lanes (Asks x (j + 1) i)) over (j + 1) from in
+      let past = t.past in
+      let last = placed.small j (omega arith) in
+      let low = last.0 in
+      let high = last.1 in
       let len = short j in (
         slice_set x (j + 1) t.v,
         length-set x (j + 1) t.v ∙ count,
-        placed_more reach gaps (λ _. spring) 0 0 0 0 0 x (j + 1) t.v (omega arith) (omega (arith, l, count)) placed (omega arith) (omega arith)
+        placed_more reach gaps (λ _. spring) 0 0 0 0 0 x (j + 1) t.v (omega arith) (omega (arith, l, count)) placed
+            (omega arith) (omega arith)
             (λ k e. let z : j ≡ k = omega arith in rw (← z) (omega (arith, ints, clamps)))
             (λ k e. let z : j ≡ k = omega arith in rw (← z) (omega (arith, ints, clamps)))
-            (λ k lt lane r s le er es. t.all _ (record { by = k; within = lt; asks = record { by = lane; within = le; asks = (r, er, (s, es, refl)) } }))
+            (λ k lt lane r s le er es.
+            t.all _ (record {
+              by = k;
+              within = lt;
+              asks = record { by = lane; within = le; asks = (r, er, (s, es, refl)) };
+            }))
             (λ g drop y e a.
-            let before = fewer_apart (j + 1) (j + 1 + 1) reach reach gaps spring spring y (omega arith) (λ i lane l. refl) (λ i l. refl) a in
-            let below = placed.near 0 0 y refl before j (omega arith) in let step = a.steps j (omega arith) in let spr = a.springs j (omega arith) in
+            let before = fewer_apart (j + 1) (j + 1 + 1) reach reach gaps spring spring y (omega arith)
+            (λ i lane l. refl) (λ i l. refl) a in
+            let below = placed.near 0 0 y refl before j (omega arith) in
+            let step = a.steps j (omega arith) in
+            let spr = a.springs j (omega arith) in
             let less : t.v ≤ℤ at y (j + 1) = t.least (at y (j + 1)) (omega (arith, ints, clamps)) (λ w h.
-            let b = placed.near 0 0 y refl before h.by h.within in let c = a.lanes h.by (j + 1) h.within (omega arith) h.asks.by h.asks.asks.0 h.asks.asks.2.0 h.asks.within h.asks.asks.1 h.asks.asks.2.1 in
+            let b = placed.near 0 0 y refl before h.by h.within in
+            let c = a.lanes h.by (j + 1) h.within (omega arith) h.asks.by h.asks.asks.0 h.asks.asks.2.0 h.asks.within
+            h.asks.asks.1 h.asks.asks.2.1 in
             rw h.asks.asks.2.2 (omega (arith, ints))) in
             omega (arith, ints, less)) (
               omega (arith, ints, clamps),
               t.least (pos (1048576 + 3145728 * (j + 1))) (omega (arith, ints, clamps)) (λ w h.
-                  let up = (placed.small h.by h.within).1 in let before = h.within in let right = (rw h.asks.asks.1 at (near h.by h.asks.by h.asks.within)).1 in
-                  let left = (rw h.asks.asks.2.1 at (near (j + 1) h.asks.by h.asks.within)).0 in let gap = narrow h.asks.by h.asks.within in
+                  let up = (placed.small h.by h.within).1 in
+                  let before = h.within in
+                  let right = (rw h.asks.asks.1 at (near h.by h.asks.by h.asks.within)).1 in
+                  let left = (rw h.asks.asks.2.1 at (near (j + 1) h.asks.by h.asks.within)).0 in
+                  let gap = narrow h.asks.by h.asks.within in
                   rw h.asks.asks.2.2 (omega (arith, ints))),
             ),
       )
 
   placed_to : (j : ℕ) → j < n → Placed j
   placed_to zero l = first l
-  placed_to (suc j) l = let e : j + 1 ≡ suc j = omega arith in subst Placed e (next j (omega arith) (placed_to j (omega arith)))
+  placed_to (suc j) l =
+      let e : j + 1 ≡ suc j = omega arith in subst Placed e (next j (omega arith) (placed_to j (omega arith)))
 
   pub has_place : 0 < n → (x : List ℤ) × IsPlace n reach gaps spring x
   has_place some =
-      let p = placed_to (n - 1) (omega arith) in let e : n - 1 + 1 ≡ n = omega arith in let count = p.1 in
-      (take n p.0, place_of n reach gaps (λ _. spring) 0 0 0 p.0 (omega (arith, count)) (subst (λ j. IsPlacedTo j reach gaps (λ _. spring) 0 0 0 p.0) e p.2))
+      let p = placed_to (n - 1) (omega arith) in let e : n - 1 + 1 ≡ n = omega arith in let count = p.1 in (
+        take n p.0,
+        place_of n reach gaps (λ _. spring) 0 0 0 p.0 (omega (arith, count))
+            (subst (λ j. IsPlacedTo j reach gaps (λ _. spring) 0 0 0 p.0) e p.2),
+      )
 
 has_end : (reach : ℕ → Option Reach) (lanes : ℕ) (at : ℤ) → (e : ℤ) × IsEndOf reach lanes at e
 has_end reach lanes at =
-    let t = top_of (λ lane w. AskedAt (reach lane) (λ r. at +ℤ pos r.right) w) (λ lane from. top_at (reach lane) (λ r. at +ℤ pos r.right) from) lanes at in (
+    let t = top_of (λ lane w. AskedAt (reach lane) (λ r. at +ℤ pos r.right) w)
+    (λ lane from. top_at (reach lane) (λ r. at +ℤ pos r.right) from) lanes at in (
       t.v,
-      record { past = t.past; reaches = λ lane r l e. t.all _ (record { by = lane; within = l; asks = (r, e, refl) }); least = λ v p q. t.least v p (λ w a. rw a.asks.2 (q a.by a.asks.0 a.within a.asks.1)) },
+      record {
+        past = t.past;
+        reaches = λ lane r l e. t.all _ (record { by = lane; within = l; asks = (r, e, refl) });
+        least = λ v p q. t.least v p (λ w a. rw a.asks.2 (q a.by a.asks.0 a.within a.asks.1));
+      },
     )
 
 within_or_past : (e : ℤ) (width : ℕ) → (e ≤ℤ pos width) ⊎ (pos width <ℤ e)
-within_or_past (pos k) width = elim (cases_lt width k) [ inl lt ↦ inr (omega (arith, ints, lt)) | inr ge ↦ inl (omega (arith, ints, ge)) ]
+within_or_past (pos k) width =
+    elim (cases_lt width k) [ inl lt ↦ inr (omega (arith, ints, lt)) | inr ge ↦ inl (omega (arith, ints, ge)) ]
 within_or_past (negsuc k) width = inl (omega (arith, ints))
 
-pub fits_or_passes : (n : ℕ) (reach : ℕ → ℕ → Option Reach) (gaps : List ℕ) (spring : ℕ → ℕ → ℕ) (width force : ℕ) → 0 < n
+pub fits_or_passes : (n : ℕ) (reach : ℕ → ℕ → Option Reach) (gaps : List ℕ) (spring : ℕ → ℕ → ℕ) (width force : ℕ)
+    → 0 < n
     → ((k lane : ℕ) → lane < length gaps → IfSome (reach k lane) (λ r. (r.left ≤ 1048576) × (r.right ≤ 1048576)))
     → ((lane : ℕ) → lane < length gaps → slice_index gaps lane ≤ 1048576) → ((i : ℕ) → spring force i ≤ 1048576)
     → Fits n reach gaps spring width force ⊎ Passes n reach gaps spring width force
 fits_or_passes n reach gaps spring width force some near narrow short =
-    let p = has_place n reach gaps (spring force) near narrow short some in let e = has_end (reach (n - 1)) (length gaps) (slice_index_or p.0 (n - 1) (pos 0)) in
+    let p = has_place n reach gaps (spring force) near narrow short some in
+    let e = has_end (reach (n - 1)) (length gaps) (slice_index_or p.0 (n - 1) (pos 0)) in
     let ends : EndsAt n reach gaps spring force e.0 = record { x = p.0; place = p.1; end = e.1 } in
     elim (within_or_past e.0 width) [ inl l ↦ inl (e.0, ends, l) | inr g ↦ inr (e.0, ends, g) ]

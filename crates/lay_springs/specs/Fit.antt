@@ -8,10 +8,12 @@ use Rattle.lay_springs.specs.Place.{IsPlace, StandApart, reach_at, length_at}
 pub record IsEndOf (reach : ℕ → Option Reach) (lanes : ℕ) (at e : ℤ) : Type 0 where
   pub past : at ≤ℤ e
   pub reaches : (lane : ℕ) (r : Reach) → lane < lanes → reach lane ≡ Some r → (at +ℤ pos r.right) ≤ℤ e
-  pub least : (v : ℤ) → at ≤ℤ v → ((lane : ℕ) (r : Reach) → lane < lanes → reach lane ≡ Some r → (at +ℤ pos r.right) ≤ℤ v) → e ≤ℤ v
+  pub least : (v : ℤ)
+      → at ≤ℤ v → ((lane : ℕ) (r : Reach) → lane < lanes → reach lane ≡ Some r → (at +ℤ pos r.right) ≤ℤ v) → e ≤ℤ v
 
 -- the place of n columns at a force, and its end
-pub record EndsAt (n : ℕ) (reach : ℕ → ℕ → Option Reach) (gaps : List ℕ) (spring : ℕ → ℕ → ℕ) (force : ℕ) (e : ℤ) : Type 0 where
+pub record EndsAt (n : ℕ) (reach : ℕ → ℕ → Option Reach) (gaps : List ℕ) (spring : ℕ → ℕ → ℕ) (force : ℕ)
+    (e : ℤ) : Type 0 where
   pub x : List ℤ
   pub place : IsPlace n reach gaps (spring force) x
   pub end : IsEndOf (reach (n - 1)) (length gaps) (slice_index_or x (n - 1) (pos 0)) e
@@ -24,14 +26,20 @@ Fits n reach gaps spring width force = (e : ℤ) × EndsAt n reach gaps spring f
 abbrev pub Passes : ℕ → (ℕ → ℕ → Option Reach) → List ℕ → (ℕ → ℕ → ℕ) → ℕ → ℕ → Type 0
 Passes n reach gaps spring width force = (e : ℤ) × EndsAt n reach gaps spring force e × (pos width <ℤ e)
 
--- the abscissas of n columns at a force, set to the width: column k moves right by its part of what is left past the end
-pub record IsSet (n : ℕ) (reach : ℕ → ℕ → Option Reach) (gaps : List ℕ) (spring : ℕ → ℕ → ℕ) (width force : ℕ) (at : List ℤ) : Type 0 where
+-- the abscissas of n columns at a force, set to the width: column k moves right by its part of what is left past the
+-- end
+pub record IsSet (n : ℕ) (reach : ℕ → ℕ → Option Reach) (gaps : List ℕ) (spring : ℕ → ℕ → ℕ) (width force : ℕ)
+    (at : List ℤ) : Type 0 where
   pub x : List ℤ
   pub place : IsPlace n reach gaps (spring force) x
   pub count : length at ≡ n
   -- a lone column isn't moved
   pub alone : n ≡ 1 → at ≡ x
-  pub moved : 1 < n → (e : ℤ) × (rest : ℕ) × IsEndOf (reach (n - 1)) (length gaps) (slice_index_or x (n - 1) (pos 0)) e × ((e +ℤ pos rest) ≡ pos width)
+  pub moved : 1 < n
+      → (e : ℤ)
+      × (rest : ℕ)
+      × IsEndOf (reach (n - 1)) (length gaps) (slice_index_or x (n - 1) (pos 0)) e
+      × ((e +ℤ pos rest) ≡ pos width)
       × ((k : ℕ) → k < n → slice_index_or at k (pos 0) ≡ (slice_index_or x k (pos 0) +ℤ pos (rest * k / (n - 1))))
 
 -- the force as it counts, and whether the system is ragged: only a last one is
@@ -42,11 +50,14 @@ abbrev pub counted : Bool → ℕ → ℕ
 counted last force = if is_ragged last force then 256 else force
 
 -- some list of abscissas keeps the columns apart at a force and within the width
-pub record CanStandWithin (n : ℕ) (reach : ℕ → ℕ → Option Reach) (gaps : List ℕ) (spring : ℕ → ℕ → ℕ) (width force : ℕ) : Type 0 where
+pub record CanStandWithin (n : ℕ) (reach : ℕ → ℕ → Option Reach) (gaps : List ℕ) (spring : ℕ → ℕ → ℕ)
+    (width force : ℕ) : Type 0 where
   pub y : List ℤ
   pub apart : StandApart n reach gaps (spring force) y
   pub past : slice_index_or y (n - 1) (pos 0) ≤ℤ pos width
-  pub reaches : (lane : ℕ) (r : Reach) → lane < length gaps → reach (n - 1) lane ≡ Some r → (slice_index_or y (n - 1) (pos 0) +ℤ pos r.right) ≤ℤ pos width
+  pub reaches : (lane : ℕ) (r : Reach)
+      → lane < length gaps → reach (n - 1) lane ≡ Some r
+      → (slice_index_or y (n - 1) (pos 0) +ℤ pos r.right) ≤ℤ pos width
 
 -- how many columns can stand within a width at the most: neighbors stand 100 apart
 abbrev pub most_columns : ℕ → ℕ
@@ -56,7 +67,13 @@ most_columns width = width / 100 + 1
 abbrev pub StandsInAll : (ℕ → Option Reach) → ℕ → Type 0
 StandsInAll reach lanes = (lane : ℕ) → lane < lanes → (s : Reach) × (reach lane ≡ Some s)
 
--- a longer list of columns, whose last stands in each lane, can't stand within a width where a list that it continues can't
+-- a longer list of columns, whose last stands in each lane, can't stand within a width where a list that it continues
+-- can't
 abbrev pub LongerFitsLess : {C : Type 0} → (C → ℕ → Option Reach) → (C → ℕ → ℕ) → Type 0
-LongerFitsLess {C} reach len = (short rest : List C) (gaps : List ℕ) (width force : ℕ) → 0 < length short → 0 < length rest → StandsInAll (reach_at reach (short ++ rest) (length (short ++ rest) - 1)) (length gaps)
-    → CanStandWithin (length (short ++ rest)) (reach_at reach (short ++ rest)) gaps (length_at len (short ++ rest)) width force → CanStandWithin (length short) (reach_at reach short) gaps (length_at len short) width force
+LongerFitsLess {C} reach len =
+    (short rest : List C) (gaps : List ℕ) (width force : ℕ)
+    → 0 < length short → 0 < length rest
+    → StandsInAll (reach_at reach (short ++ rest) (length (short ++ rest) - 1)) (length gaps)
+    → CanStandWithin (length (short ++ rest)) (reach_at reach (short ++ rest)) gaps (length_at len (short ++ rest))
+    width force
+    → CanStandWithin (length short) (reach_at reach short) gaps (length_at len short) width force

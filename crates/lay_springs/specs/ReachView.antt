@@ -15,7 +15,8 @@ cut_reach reach = record { left = min reach.left most_reach; right = min reach.r
 unfoldable pub reach_in : List (Option Reach) → ℕ → Option Reach
 reach_in reaches lane = option_map cut_reach (option_and_then (λ reach. reach) (slice_get reaches lane))
 
-pub reach_in_near : (reaches : List (Option Reach)) (lane : ℕ) → IfSome (reach_in reaches lane) (λ r. (r.left ≤ 2 ^ 20) × (r.right ≤ 2 ^ 20))
+pub reach_in_near : (reaches : List (Option Reach)) (lane : ℕ)
+    → IfSome (reach_in reaches lane) (λ r. (r.left ≤ 2 ^ 20) × (r.right ≤ 2 ^ 20))
 unfolding reach_in
 reach_in_near reaches lane = near (option_and_then (λ reach. reach) (slice_get reaches lane))
   where

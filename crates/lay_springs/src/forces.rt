@@ -43,12 +43,17 @@ fn too_great<C: Spaced + Spring>(
     requires narrow { (lane : ℕ) → lane < length gaps.now → slice_index gaps.now lane ≤ 2 ^ 20 }
     requires room { length cols.now ≤ length at.old }
     requires one_each { length front.old ≡ length gaps.now }
-    requires placed { HasPlaced (length cols.now) (reach_at C.reach_of cols.now) gaps.now (length_at C.length_of cols.now) placed.old at.old front.old }
-    ensures placed { HasPlaced (length cols.now) (reach_at C.reach_of cols.now) gaps.now (length_at C.length_of cols.now) placed.new at.new front.new }
-    ensures fits { IfNone result (Fits (length cols.now) (reach_at C.reach_of cols.now) gaps.now (length_at C.length_of cols.now) width force) }
+    requires placed { HasPlaced (length cols.now) (reach_at C.reach_of cols.now) gaps.now
+        (length_at C.length_of cols.now) placed.old at.old front.old }
+    ensures placed { HasPlaced (length cols.now) (reach_at C.reach_of cols.now) gaps.now
+        (length_at C.length_of cols.now) placed.new at.new front.new }
+    ensures fits { IfNone result
+        (Fits (length cols.now) (reach_at C.reach_of cols.now) gaps.now (length_at C.length_of cols.now) width force) }
     ensures below { IfSome result (λ past. past ≤ force) }
     ensures never { IfSome result (λ past. (g : ℕ) → past ≤ g
-        → CanStandWithin (length cols.now) (reach_at C.reach_of cols.now) gaps.now (length_at C.length_of cols.now) width g → ⊥) }
+        → CanStandWithin (length cols.now) (reach_at C.reach_of cols.now) gaps.now (length_at C.length_of cols.now)
+        width g
+        → ⊥) }
 {
     *placed = place_all(cols, gaps, force, at, front, *placed);
     let last = cols.len() - 1;
@@ -103,13 +108,19 @@ pub fn fit_within<C: Spaced + Spring>(
     requires most { most ≤ 2048 }
     requires room { length cols.now ≤ length at.old }
     requires one_each { length front.old ≡ length gaps.now }
-    requires placed { HasPlaced (length cols.now) (reach_at C.reach_of cols.now) gaps.now (length_at C.length_of cols.now) placed.old at.old front.old }
-    ensures placed { HasPlaced (length cols.now) (reach_at C.reach_of cols.now) gaps.now (length_at C.length_of cols.now) placed.new at.new front.new }
+    requires placed { HasPlaced (length cols.now) (reach_at C.reach_of cols.now) gaps.now
+        (length_at C.length_of cols.now) placed.old at.old front.old }
+    ensures placed { HasPlaced (length cols.now) (reach_at C.reach_of cols.now) gaps.now
+        (length_at C.length_of cols.now) placed.new at.new front.new }
     ensures bound { IfSome result (λ f. f ≤ most) }
-    ensures fits { IfSome result (Fits (length cols.now) (reach_at C.reach_of cols.now) gaps.now (length_at C.length_of cols.now) width) }
+    ensures fits { IfSome result
+        (Fits (length cols.now) (reach_at C.reach_of cols.now) gaps.now (length_at C.length_of cols.now) width) }
     ensures greatest { IfSome result (λ f. (g : ℕ) → f < g → g ≤ most
-        → CanStandWithin (length cols.now) (reach_at C.reach_of cols.now) gaps.now (length_at C.length_of cols.now) width g → ⊥) }
-    ensures none { IfNone result (Passes (length cols.now) (reach_at C.reach_of cols.now) gaps.now (length_at C.length_of cols.now) width 0) }
+        → CanStandWithin (length cols.now) (reach_at C.reach_of cols.now) gaps.now (length_at C.length_of cols.now)
+        width g
+        → ⊥) }
+    ensures none { IfNone result
+        (Passes (length cols.now) (reach_at C.reach_of cols.now) gaps.now (length_at C.length_of cols.now) width 0) }
 {
     let mut low = 0;
     let mut high = if 0 < placed.count {

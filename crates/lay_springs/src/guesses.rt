@@ -12,7 +12,8 @@ pub(crate) fn lowered(force: u16, over: u64, tight: TightSprings) -> u16
     requires few { tight.count ≤ 2 ^ 26 }
     requires natural { tight.natural ≤ 2 ^ 38 }
     ensures below { result ≤ force }
-    ensures past { (g drop : ℕ) → g + drop ≡ force → 0 < drop → result ≤ g → slack tight.natural tight.count drop < over }
+    ensures past { (g drop : ℕ)
+        → g + drop ≡ force → 0 < drop → result ≤ g → slack tight.natural tight.count drop < over }
 {
     let room = (256 * over).saturating_sub(255 * tight.count);
     let steps = room.saturating_sub(1) / tight.natural.max(1);
@@ -54,9 +55,14 @@ fn stretched<C: Spaced + Spring>(cols: &[C], at: &[i64], placed: Progress) -> St
     ensures few { result.springs.count ≤ 2 ^ 26 }
     ensures natural { result.springs.natural ≤ 2 ^ 38 }
     ensures small { (pos 0 ≤ℤ result.end) × (result.end ≤ℤ pos (2 ^ 48)) }
-    ensures near { (gaps : List ℕ) → IsNearLeast placed.count (reach_at C.reach_of cols.now) gaps (length_at C.length_of cols.now) placed.force placed.tight.natural placed.tight.count at.now
-        → (g drop : ℕ) (y : List ℤ) → g + drop ≡ placed.force → StandApart (length cols.now) (reach_at C.reach_of cols.now) gaps (length_at C.length_of cols.now g) y
-        → result.end ≤ℤ (slice_index_or y (length cols.now - 1) (pos 0) +ℤ pos (slack result.springs.natural result.springs.count drop)) }
+    ensures near { (gaps : List ℕ)
+        → IsNearLeast placed.count (reach_at C.reach_of cols.now) gaps (length_at C.length_of cols.now) placed.force
+        placed.tight.natural placed.tight.count at.now
+        → (g drop : ℕ) (y : List ℤ) → g + drop ≡ placed.force
+        → StandApart (length cols.now) (reach_at C.reach_of cols.now) gaps (length_at C.length_of cols.now g) y
+        → result.end ≤ℤ
+        (slice_index_or y (length cols.now - 1) (pos 0) +ℤ pos
+        (slack result.springs.natural result.springs.count drop)) }
 {
     let mut end = at[placed.count - 1];
     let mut springs = placed.tight;
@@ -85,8 +91,12 @@ pub(crate) fn too_long<C: Spaced + Spring>(
     requires small { slice_index_or at.now (placed.count - 1) (pos 0) ≤ℤ pos (1048576 + 3145728 * (placed.count - 1)) }
     requires force { placed.force ≤ 2048 }
     ensures bound { result ≤ placed.force + 1 }
-    ensures never { (gaps : List ℕ) → IsNearLeast placed.count (reach_at C.reach_of cols.now) gaps (length_at C.length_of cols.now) placed.force placed.tight.natural placed.tight.count at.now
-        → (f : ℕ) → result ≤ f → f ≤ placed.force → CanStandWithin (length cols.now) (reach_at C.reach_of cols.now) gaps (length_at C.length_of cols.now) width f → ⊥ }
+    ensures never { (gaps : List ℕ)
+        → IsNearLeast placed.count (reach_at C.reach_of cols.now) gaps (length_at C.length_of cols.now) placed.force
+        placed.tight.natural placed.tight.count at.now
+        → (f : ℕ) → result ≤ f → f ≤ placed.force
+        → CanStandWithin (length cols.now) (reach_at C.reach_of cols.now) gaps (length_at C.length_of cols.now) width f
+        → ⊥ }
 {
     let Stretch { end, springs } = stretched(cols, at, placed);
     let width = i64::from(width);

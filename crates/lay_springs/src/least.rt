@@ -43,7 +43,8 @@ fn past_each(row: &[Option<Reach>], gaps: &[u32], front: &[i64], from: i64) -> i
     requires small { (lane : ℕ) → lane < length gaps.now → slice_index_or front.now lane (pos 0) ≤ℤ pos (2 ^ 61) }
     ensures kept { from ≤ℤ result }
     ensures clear { IsPast (reach_in row.now) gaps.now (length gaps.now) front.now result }
-    ensures least { (v : ℤ) → from ≤ℤ v → IsPast (reach_in row.now) gaps.now (length gaps.now) front.now v → result ≤ℤ v }
+    ensures least { (v : ℤ)
+        → from ≤ℤ v → IsPast (reach_in row.now) gaps.now (length gaps.now) front.now v → result ≤ℤ v }
 {
     let mut next = from;
     for lane in 0..row.len().min(gaps.len()) {
@@ -60,9 +61,11 @@ fn advance_each(row: &[Option<Reach>], at: i64, front: &mut [i64])
     requires lanes { length front.old < 2 ^ 32 }
     requires begins { pos 0 ≤ℤ at }
     requires small { at ≤ℤ pos (2 ^ 62) }
-    requires behind { (lane : ℕ) → lane < length front.old → IfSome (reach_in row.now lane) (λ r. slice_index_or front.old lane (pos 0) ≤ℤ at) }
+    requires behind { (lane : ℕ)
+        → lane < length front.old → IfSome (reach_in row.now lane) (λ r. slice_index_or front.old lane (pos 0) ≤ℤ at) }
     ensures { (lane : ℕ) → lane < length front.old
-        → Advances (reach_in row.now lane) at (slice_index_or front.old lane (pos 0)) (slice_index_or front.new lane (pos 0)) }
+        → Advances (reach_in row.now lane) at (slice_index_or front.old lane (pos 0))
+        (slice_index_or front.new lane (pos 0)) }
 {
     for lane in 0..row.len().min(front.len()) {
         let Some(r) = reach_in(row, lane) else {
@@ -96,9 +99,11 @@ fn set_past<C: Spaced>(col: &C, gaps: &[u32], from: i64, front: &mut [i64]) -> i
     requires near { from ≤ℤ pos (2 ^ 60) }
     ensures kept { from ≤ℤ result }
     ensures clear { IsPast (C.reach_of col.now) gaps.now (length gaps.now) front.old result }
-    ensures least { (v : ℤ) → from ≤ℤ v → IsPast (C.reach_of col.now) gaps.now (length gaps.now) front.old v → result ≤ℤ v }
+    ensures least { (v : ℤ)
+        → from ≤ℤ v → IsPast (C.reach_of col.now) gaps.now (length gaps.now) front.old v → result ≤ℤ v }
     ensures noted { (lane : ℕ) → lane < length front.old
-        → Advances (C.reach_of col.now lane) result (slice_index_or front.old lane (pos 0)) (slice_index_or front.new lane (pos 0)) }
+        → Advances (C.reach_of col.now lane) result (slice_index_or front.old lane (pos 0))
+        (slice_index_or front.new lane (pos 0)) }
 {
     let stand = match col.stands() {
         ReachView::OneLane(stand) => stand,
@@ -125,9 +130,11 @@ fn set_past_each(row: &[Option<Reach>], gaps: &[u32], from: i64, front: &mut [i6
     requires near { from ≤ℤ pos (2 ^ 60) }
     ensures kept { from ≤ℤ result }
     ensures clear { IsPast (reach_in row.now) gaps.now (length gaps.now) front.old result }
-    ensures least { (v : ℤ) → from ≤ℤ v → IsPast (reach_in row.now) gaps.now (length gaps.now) front.old v → result ≤ℤ v }
+    ensures least { (v : ℤ)
+        → from ≤ℤ v → IsPast (reach_in row.now) gaps.now (length gaps.now) front.old v → result ≤ℤ v }
     ensures noted { (lane : ℕ) → lane < length front.old
-        → Advances (reach_in row.now lane) result (slice_index_or front.old lane (pos 0)) (slice_index_or front.new lane (pos 0)) }
+        → Advances (reach_in row.now lane) result (slice_index_or front.old lane (pos 0))
+        (slice_index_or front.new lane (pos 0)) }
 {
     let at = past_each(row, gaps, front, from);
     advance_each(row, at, front);
@@ -201,12 +208,14 @@ pub(crate) fn place_to<C: Spaced + Spring>(
     requires narrow { (lane : ℕ) → lane < length gaps.now → slice_index gaps.now lane ≤ 2 ^ 20 }
     requires room { length cols.now ≤ length at.old }
     requires one_each { length front.old ≡ length gaps.now }
-    requires placed { HasPlaced (length cols.now) (reach_at C.reach_of cols.now) gaps.now (length_at C.length_of cols.now) placed at.old front.old }
+    requires placed { HasPlaced (length cols.now) (reach_at C.reach_of cols.now) gaps.now
+        (length_at C.length_of cols.now) placed at.old front.old }
     requires within { count ≤ length cols.now }
     ensures force { result.force ≡ force }
     ensures some { 0 < result.count }
     ensures count { count ≤ result.count }
-    ensures placed { HasPlaced (length cols.now) (reach_at C.reach_of cols.now) gaps.now (length_at C.length_of cols.now) result at.new front.new }
+    ensures placed { HasPlaced (length cols.now) (reach_at C.reach_of cols.now) gaps.now
+        (length_at C.length_of cols.now) result at.new front.new }
 {
     let begun = begun(cols, gaps, force, at, front, placed);
     let count = begun.count.max(count);
@@ -236,12 +245,16 @@ pub(crate) fn place_all<C: Spaced + Spring>(
     requires narrow { (lane : ℕ) → lane < length gaps.now → slice_index gaps.now lane ≤ 2 ^ 20 }
     requires room { length cols.now ≤ length at.old }
     requires one_each { length front.old ≡ length gaps.now }
-    requires placed { HasPlaced (length cols.now) (reach_at C.reach_of cols.now) gaps.now (length_at C.length_of cols.now) placed at.old front.old }
+    requires placed { HasPlaced (length cols.now) (reach_at C.reach_of cols.now) gaps.now
+        (length_at C.length_of cols.now) placed at.old front.old }
     ensures few { result.tight.count ≤ 2 ^ 26 }
     ensures natural { result.tight.natural ≤ 2 ^ 38 }
-    ensures near { IsNearLeast (length cols.now) (reach_at C.reach_of cols.now) gaps.now (length_at C.length_of cols.now) force result.tight.natural result.tight.count at.new }
-    ensures placed { HasPlaced (length cols.now) (reach_at C.reach_of cols.now) gaps.now (length_at C.length_of cols.now) result at.new front.new }
-    ensures place { IsPlace (length cols.now) (reach_at C.reach_of cols.now) gaps.now (length_at C.length_of cols.now force) (take (length cols.now) at.new) }
+    ensures near { IsNearLeast (length cols.now) (reach_at C.reach_of cols.now) gaps.now
+        (length_at C.length_of cols.now) force result.tight.natural result.tight.count at.new }
+    ensures placed { HasPlaced (length cols.now) (reach_at C.reach_of cols.now) gaps.now
+        (length_at C.length_of cols.now) result at.new front.new }
+    ensures place { IsPlace (length cols.now) (reach_at C.reach_of cols.now) gaps.now
+        (length_at C.length_of cols.now force) (take (length cols.now) at.new) }
     ensures small { (k : ℕ) → k < length cols.now
         → (pos 0 ≤ℤ slice_index_or at.new k (pos 0)) × (slice_index_or at.new k (pos 0) ≤ℤ pos (2 ^ 48)) }
 {
@@ -261,10 +274,12 @@ fn begun<C: Spaced + Spring>(
     requires lanes { length gaps.now < 2 ^ 32 }
     requires room { length cols.now ≤ length at.old }
     requires one_each { length front.old ≡ length gaps.now }
-    requires placed { HasPlaced (length cols.now) (reach_at C.reach_of cols.now) gaps.now (length_at C.length_of cols.now) placed at.old front.old }
+    requires placed { HasPlaced (length cols.now) (reach_at C.reach_of cols.now) gaps.now
+        (length_at C.length_of cols.now) placed at.old front.old }
     ensures force { result.force ≡ force }
     ensures some { 0 < result.count }
-    ensures placed { HasPlaced (length cols.now) (reach_at C.reach_of cols.now) gaps.now (length_at C.length_of cols.now) result at.new front.new }
+    ensures placed { HasPlaced (length cols.now) (reach_at C.reach_of cols.now) gaps.now
+        (length_at C.length_of cols.now) result at.new front.new }
 {
     if 0 < placed.count && placed.force == force {
         return placed;
@@ -300,10 +315,12 @@ fn place_next<C: Spaced + Spring>(
     requires past { 0 < j }
     requires inside { j < length cols.now }
     requires tight { (tight.natural ≤ 4096 * j) × (tight.count ≤ j) }
-    requires placed { IsPlacedTo j (reach_at C.reach_of cols.now) gaps.now (length_at C.length_of cols.now) force tight.natural tight.count at.old }
+    requires placed { IsPlacedTo j (reach_at C.reach_of cols.now) gaps.now (length_at C.length_of cols.now) force
+        tight.natural tight.count at.old }
     requires fronts { AreFrontiers j (reach_at C.reach_of cols.now) (length gaps.now) at.old front.old }
     ensures tight { (result.natural ≤ 4096 * (j + 1)) × (result.count ≤ j + 1) }
-    ensures placed { IsPlacedTo (j + 1) (reach_at C.reach_of cols.now) gaps.now (length_at C.length_of cols.now) force result.natural result.count at.new }
+    ensures placed { IsPlacedTo (j + 1) (reach_at C.reach_of cols.now) gaps.now (length_at C.length_of cols.now) force
+        result.natural result.count at.new }
     ensures fronts { AreFrontiers (j + 1) (reach_at C.reach_of cols.now) (length gaps.now) at.new front.new }
 {
     let before = at[j - 1];
@@ -321,7 +338,9 @@ fn tightened(tight: TightSprings, before: i64, spring: u32, natural: u32, next: 
     requires short { tight.natural ≤ 2 ^ 38 }
     requires begins { pos 0 ≤ℤ before }
     requires small { before ≤ℤ pos (2 ^ 60) }
-    ensures { (((before +ℤ pos spring) ≡ next) × (result.natural ≡ tight.natural + natural) × (result.count ≡ tight.count + 1))
+    ensures { (((before +ℤ pos spring) ≡ next)
+        × (result.natural ≡ tight.natural + natural)
+        × (result.count ≡ tight.count + 1))
         ⊎ (((before +ℤ pos spring) ≢ next) × (result.natural ≡ tight.natural) × (result.count ≡ tight.count)) }
 {
     if before + i64::from(spring) == next {
@@ -339,7 +358,8 @@ fn begin_fronts<C: Spaced>(col: &C, at: i64, front: &mut [i64])
     requires lanes { length front.old < 2 ^ 32 }
     requires begins { pos 0 ≤ℤ at }
     requires small { at ≤ℤ pos (2 ^ 62) }
-    ensures { (lane : ℕ) → lane < length front.old → Advances (C.reach_of col.now lane) at (negsuc 1099511627775) (slice_index_or front.new lane (pos 0)) }
+    ensures { (lane : ℕ) → lane < length front.old
+        → Advances (C.reach_of col.now lane) at (negsuc 1099511627775) (slice_index_or front.new lane (pos 0)) }
 {
     let stands = col.stands();
     for lane in 0..front.len() {
@@ -360,7 +380,8 @@ pub fn place<C: Spaced + Spring>(
     requires few { length cols.now ≤ 2 ^ 26 }
     requires lanes { length gaps.now < 2 ^ 32 }
     requires narrow { (lane : ℕ) → lane < length gaps.now → slice_index gaps.now lane ≤ 2 ^ 20 }
-    ensures { IfOk result (λ v. IsPlace (length cols.now) (reach_at C.reach_of cols.now) gaps.now (length_at C.length_of cols.now force) v) }
+    ensures { IfOk result (λ v.
+        IsPlace (length cols.now) (reach_at C.reach_of cols.now) gaps.now (length_at C.length_of cols.now force) v) }
 {
     let mut at = vec![in alloc; 0; cols.len()]?;
     let mut front = vec![in alloc; 0; gaps.len()]?;

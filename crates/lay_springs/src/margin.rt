@@ -75,10 +75,14 @@ fn set<C: Spaced + Spring>(
     requires narrow { (lane : ℕ) → lane < length gaps.now → slice_index gaps.now lane ≤ 2 ^ 20 }
     requires room { length at.old ≡ length cols.now }
     requires one_each { length front.old ≡ length gaps.now }
-    requires placed { HasPlaced (length cols.now) (reach_at C.reach_of cols.now) gaps.now (length_at C.length_of cols.now) placed at.old front.old }
-    requires fits { Fits (length cols.now) (reach_at C.reach_of cols.now) gaps.now (length_at C.length_of cols.now) width force }
-    ensures set { IsSet (length cols.now) (reach_at C.reach_of cols.now) gaps.now (length_at C.length_of cols.now) width force at.new }
-    ensures apart { StandApart (length cols.now) (reach_at C.reach_of cols.now) gaps.now (length_at C.length_of cols.now force) at.new }
+    requires placed { HasPlaced (length cols.now) (reach_at C.reach_of cols.now) gaps.now
+        (length_at C.length_of cols.now) placed at.old front.old }
+    requires fits { Fits (length cols.now) (reach_at C.reach_of cols.now) gaps.now (length_at C.length_of cols.now)
+        width force }
+    ensures set { IsSet (length cols.now) (reach_at C.reach_of cols.now) gaps.now (length_at C.length_of cols.now) width
+        force at.new }
+    ensures apart { StandApart (length cols.now) (reach_at C.reach_of cols.now) gaps.now
+        (length_at C.length_of cols.now force) at.new }
 {
     place_all(cols, gaps, force, at, front, placed);
     if cols.len() == 1 {
@@ -110,15 +114,20 @@ pub fn justify<C: Spaced + Spring>(
     requires narrow { (lane : ℕ) → lane < length gaps.now → slice_index gaps.now lane ≤ 2 ^ 20 }
     requires room { length at.items ≡ length cols.now }
     requires one_each { length front.old ≡ length gaps.now }
-    requires placed { HasPlaced (length cols.now) (reach_at C.reach_of cols.now) gaps.now (length_at C.length_of cols.now) placed at.items front.old }
-    requires fits { Fits (length cols.now) (reach_at C.reach_of cols.now) gaps.now (length_at C.length_of cols.now) width force }
+    requires placed { HasPlaced (length cols.now) (reach_at C.reach_of cols.now) gaps.now
+        (length_at C.length_of cols.now) placed at.items front.old }
+    requires fits { Fits (length cols.now) (reach_at C.reach_of cols.now) gaps.now (length_at C.length_of cols.now)
+        width force }
     ensures ragged { result.ragged ≡ is_ragged last force }
     ensures force { result.force ≡ counted last force }
     ensures loose { result.ragged ≡ true
-        → IsPlace (length cols.now) (reach_at C.reach_of cols.now) gaps.now (length_at C.length_of cols.now result.force) result.at }
+        → IsPlace (length cols.now) (reach_at C.reach_of cols.now) gaps.now
+        (length_at C.length_of cols.now result.force) result.at }
     ensures set { result.ragged ≡ false
-        → IsSet (length cols.now) (reach_at C.reach_of cols.now) gaps.now (length_at C.length_of cols.now) width result.force result.at }
-    ensures apart { StandApart (length cols.now) (reach_at C.reach_of cols.now) gaps.now (length_at C.length_of cols.now result.force) result.at }
+        → IsSet (length cols.now) (reach_at C.reach_of cols.now) gaps.now (length_at C.length_of cols.now) width
+        result.force result.at }
+    ensures apart { StandApart (length cols.now) (reach_at C.reach_of cols.now) gaps.now
+        (length_at C.length_of cols.now result.force) result.at }
 {
     let mut at = at;
     if last && force >= 256 {

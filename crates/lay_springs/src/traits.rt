@@ -69,7 +69,8 @@ pub trait Spaced {
         ensures { TellsReach result (reach_of self.now) };
 
     // no reach passes 2^20
-    ghost is_near: { (c : Self) (lane : ℕ) → lane < 2 ^ 32 → IfSome (reach_of c lane) (λ r. (r.left ≤ 2 ^ 20) × (r.right ≤ 2 ^ 20)) };
+    ghost is_near: { (c : Self) (lane : ℕ)
+        → lane < 2 ^ 32 → IfSome (reach_of c lane) (λ r. (r.left ≤ 2 ^ 20) × (r.right ≤ 2 ^ 20)) };
 }
 
 /// A column from which a spring leads to the next.

@@ -24,37 +24,61 @@ module _ (gaps : List ℕ) (width : ℕ) (columns : List Column) where
 
   -- columns that a force presses can stand
   pub can_stand : (force : ℕ) → IsForceOf gaps width columns force → CanStandIn gaps width columns
-  can_stand force h = single.can_stand column_reach column_length gaps width columns force (λ c. length_rises c.natural 0 force (omega arith)) h
+  can_stand force h =
+      single.can_stand column_reach column_length gaps width columns force
+      (λ c. length_rises c.natural 0 force (omega arith)) h
 
 module _ (s : Score) (width : ℕ) where
   -- a span costs one value
   pub one_cost : (a b v w : ℕ) → IsSpanCost s width a b v → IsSpanCost s width a b w → v ≡ w
   one_cost a b v w h k =
-      let system = has_system s a b in let forces = one_force (score_gaps s) width (system_columns s system.0) h.pressed.0 k.pressed.0 (h.pressed.2 system.0 system.1) (k.pressed.2 system.0 system.1) in
+      let system = has_system s a b in
+      let forces = one_force (score_gaps s) width (system_columns s system.0) h.pressed.0 k.pressed.0
+      (h.pressed.2 system.0 system.1) (k.pressed.2 system.0 system.1) in
       h.pressed.1 ∙ (ap (λ force. badness_of (b == s.measures) force) forces ∙ sym k.pressed.1)
 
   -- and so does a breaking
   one_total : (a : ℕ) (bs : List ℕ) (v w : ℕ) → CostTogether s width a bs v → CostTogether s width a bs w → v ≡ w
   one_total a [] v w h k = h ∙ sym k
-  one_total a (b ∷ bs) v w h k = let first = one_cost a b h.0 k.0 h.2 k.2 in let rest = one_total b bs h.1 k.1 h.3 k.3 in h.4 ∙ (ap (λ n. n + h.1) first ∙ (ap (λ n. k.0 + n) rest ∙ sym k.4))
+  one_total a (b ∷ bs) v w h k =
+      let first = one_cost a b h.0 k.0 h.2 k.2 in
+      let rest = one_total b bs h.1 k.1 h.3 k.3 in
+      h.4 ∙ (ap (λ n. n + h.1) first ∙ (ap (λ n. k.0 + n) rest ∙ sym k.4))
 
   -- a span that costs something can be a system
   pub cost_can_be : (a b v : ℕ) → IsSpanCost s width a b v → CanBeSystem s width a b
-  cost_can_be a b v cost = record { free = cost.free; stands = λ m is. can_stand (score_gaps s) width (system_columns s m) cost.pressed.0 (cost.pressed.2 m is) }
+  cost_can_be a b v cost = record {
+    free = cost.free;
+    stands = λ m is. can_stand (score_gaps s) width (system_columns s m) cost.pressed.0 (cost.pressed.2 m is);
+  }
 
   module _ (spans : List Span) (exact : AreSpansOf s width spans) where
     -- the spans of a breaking among those that are listed
-    all_can_be : (a : ℕ) (bs : List ℕ) → RisesFrom a bs → last_from a bs ≤ s.measures → FitsFrom (listed spans) a bs → AllSpans (CanBeSystem s width) a bs
+    all_can_be : (a : ℕ) (bs : List ℕ)
+        → RisesFrom a bs → last_from a bs ≤ s.measures → FitsFrom (listed spans) a bs
+        → AllSpans (CanBeSystem s width) a bs
     all_can_be a [] rises within h = tt
     all_can_be a (b ∷ bs) rises within h =
-        let l = past_last b bs rises.1 in let v = some_of (listed spans a b) h.0 in (cost_can_be a b v.0 (exact.each a b v.0 rises.0 (omega (arith, l, within)) v.1), all_can_be b bs rises.1 within h.1)
+        let l = past_last b bs rises.1 in
+        let v = some_of (listed spans a b) h.0 in (
+          cost_can_be a b v.0 (exact.each a b v.0 rises.0 (omega (arith, l, within)) v.1),
+          all_can_be b bs rises.1 within h.1,
+        )
 
-    all_fit : (a : ℕ) (bs : List ℕ) → RisesFrom a bs → last_from a bs ≤ s.measures → AllSpans (CanBeSystem s width) a bs → FitsFrom (listed spans) a bs
+    all_fit : (a : ℕ) (bs : List ℕ)
+        → RisesFrom a bs → last_from a bs ≤ s.measures → AllSpans (CanBeSystem s width) a bs
+        → FitsFrom (listed spans) a bs
     all_fit a [] rises within h = tt
     all_fit a (b ∷ bs) rises within h =
-        let l = past_last b bs rises.1 in let m = has_system s a b in (exact.fits a b m.0 rises.0 (omega (arith, l, within)) h.0.free m.1 (h.0.stands m.0 m.1), all_fit b bs rises.1 within h.1)
+        let l = past_last b bs rises.1 in
+        let m = has_system s a b in (
+          exact.fits a b m.0 rises.0 (omega (arith, l, within)) h.0.free m.1 (h.0.stands m.0 m.1),
+          all_fit b bs rises.1 within h.1,
+        )
 
-    all_cost : (a : ℕ) (bs : List ℕ) → RisesFrom a bs → last_from a bs ≤ s.measures → FitsFrom (listed spans) a bs → CostTogether s width a bs (sum_from (listed spans) a bs)
+    all_cost : (a : ℕ) (bs : List ℕ)
+        → RisesFrom a bs → last_from a bs ≤ s.measures → FitsFrom (listed spans) a bs
+        → CostTogether s width a bs (sum_from (listed spans) a bs)
     all_cost a [] rises within h = refl
     all_cost a (b ∷ bs) rises within h =
         let l = past_last b bs rises.1 in
@@ -67,28 +91,53 @@ module _ (s : Score) (width : ℕ) where
         )
 
     -- the legal breakings of the score are those into the listed spans
-    pub legal_in : (breaks : List ℕ) → IsLegal (listed spans) (is_forced_in s) breaks s.measures → IsLegalIn s width breaks
-    legal_in breaks h = record { rises = h.rises; ends = h.ends; every_forced = h.every_forced; fits = let e = h.ends in all_can_be 0 breaks h.rises (omega (arith, e)) h.fits }
+    pub legal_in : (breaks : List ℕ)
+        → IsLegal (listed spans) (is_forced_in s) breaks s.measures → IsLegalIn s width breaks
+    legal_in breaks h = record {
+      rises = h.rises;
+      ends = h.ends;
+      every_forced = h.every_forced;
+      fits = let e = h.ends in all_can_be 0 breaks h.rises (omega (arith, e)) h.fits;
+    }
 
-    pub legal_listed : (breaks : List ℕ) → IsLegalIn s width breaks → IsLegal (listed spans) (is_forced_in s) breaks s.measures
-    legal_listed breaks h = record { rises = h.rises; ends = h.ends; every_forced = h.every_forced; fits = let e = h.ends in all_fit 0 breaks h.rises (omega (arith, e)) h.fits }
+    pub legal_listed : (breaks : List ℕ)
+        → IsLegalIn s width breaks → IsLegal (listed spans) (is_forced_in s) breaks s.measures
+    legal_listed breaks h = record {
+      rises = h.rises;
+      ends = h.ends;
+      every_forced = h.every_forced;
+      fits = let e = h.ends in all_fit 0 breaks h.rises (omega (arith, e)) h.fits;
+    }
 
     -- what they cost is what is listed
-    legal_cost : (breaks : List ℕ) → IsLegal (listed spans) (is_forced_in s) breaks s.measures → CostTogether s width 0 breaks (sum_from (listed spans) 0 breaks)
+    legal_cost : (breaks : List ℕ)
+        → IsLegal (listed spans) (is_forced_in s) breaks s.measures
+        → CostTogether s width 0 breaks (sum_from (listed spans) 0 breaks)
     legal_cost breaks h = let e = h.ends in all_cost 0 breaks h.rises (omega (arith, e)) h.fits
 
     -- so the breaking that is chosen among them is the least of the score
-    pub least_of : (breaks : List ℕ) (total : ℕ) → IsChosen (listed spans) (is_forced_in s) s.measures breaks → total ≡ sum_from (listed spans) 0 breaks → IsLeastBreaking s width breaks total
+    pub least_of : (breaks : List ℕ) (total : ℕ)
+        → IsChosen (listed spans) (is_forced_in s) s.measures breaks → total ≡ sum_from (listed spans) 0 breaks
+        → IsLeastBreaking s width breaks total
     least_of breaks total chosen is = record {
       legal = legal_in breaks chosen.legal;
       costs = subst (CostTogether s width 0 breaks) (sym is) (legal_cost breaks chosen.legal);
       least = λ other legal.
-          let at = legal_listed other legal in let most = chosen.least other at in (sum_from (listed spans) 0 other, legal_cost other at, omega (arith, is, most));
+          let at = legal_listed other legal in
+          let most = chosen.least other at in
+          (sum_from (listed spans) 0 other, legal_cost other at, omega (arith, is, most));
       latest = λ other legal cost.
-          let at = legal_listed other legal in chosen.latest other at (one_total 0 other (sum_from (listed spans) 0 other) total (legal_cost other at) cost ∙ is);
+          let at = legal_listed other legal in
+          chosen.latest other at
+          (one_total 0 other (sum_from (listed spans) 0 other) total (legal_cost other at) cost ∙ is);
     }
 
 -- the same where forced bars were read off the score
-pub least_read : (s : Score) (width : ℕ) (spans : List Span) (forced breaks : List ℕ) (total : ℕ) → forced ≡ s.forced → AreSpansOf s width spans
-    → IsChosen (listed spans) (is_forced s.measures forced) s.measures breaks → total ≡ sum_from (listed spans) 0 breaks → IsLeastBreaking s width breaks total
-least_read s width spans forced breaks total all exact chosen is = least_of s width spans exact breaks total (subst (λ these. IsChosen (listed spans) (is_forced s.measures these) s.measures breaks) all chosen) is
+pub least_read : (s : Score) (width : ℕ) (spans : List Span) (forced breaks : List ℕ) (total : ℕ)
+    → forced ≡ s.forced → AreSpansOf s width spans
+    → IsChosen (listed spans) (is_forced s.measures forced) s.measures breaks
+    → total ≡ sum_from (listed spans) 0 breaks
+    → IsLeastBreaking s width breaks total
+least_read s width spans forced breaks total all exact chosen is =
+    least_of s width spans exact breaks total
+    (subst (λ these. IsChosen (listed spans) (is_forced s.measures these) s.measures breaks) all chosen) is

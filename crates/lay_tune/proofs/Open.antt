@@ -42,12 +42,15 @@ use Rattle.lay_tune.specs.Layout.{IsCauseIn, layout_error}
 use Rattle.lay_tune.specs.Systems.{AllSpans, CanBeSet, HaveForce, gaps_between}
 
 -- columns that have a force don't pass the width at force 0
-pub never_passes : (gaps : List ℕ) (width : ℕ) (last : Bool) (cost : ℕ) (columns : List Column) → HaveForce gaps width last cost columns
+pub never_passes : (gaps : List ℕ) (width : ℕ) (last : Bool) (cost : ℕ) (columns : List Column)
+    → HaveForce gaps width last cost columns
     → Passes (length columns) (reach_at column_reach columns) gaps (length_at column_length columns) width 0 → ⊥
 never_passes gaps width last cost columns h p =
-    cannot_stand (length columns) (reach_at column_reach columns) gaps (length_at column_length columns) width 0 h.pressed.0 h.some
+    cannot_stand (length columns) (reach_at column_reach columns) gaps (length_at column_length columns) width 0
+    h.pressed.0 h.some
     (lengths_rise column_length columns 0 h.pressed.0 (λ c. length_rises c.natural 0 h.pressed.0 (omega arith)))
-    p (stands (length columns) (reach_at column_reach columns) gaps (length_at column_length columns) width h.pressed.0 h.pressed.1.fits)
+    p (stands (length columns) (reach_at column_reach columns) gaps (length_at column_length columns) width h.pressed.0
+    h.pressed.1.fits)
 
 pub some_of : (o : Option ℕ) → IsSome o → (v : ℕ) × (o ≡ Some v)
 some_of None e = absurd (true≢false (sym e))
@@ -55,10 +58,14 @@ some_of (Some v) e = (v, refl)
 
 -- a listed span can be set
 pub span_open : (s : Score) (width : ℕ) (starts others : List (List Column)) (spans : List Span) (lanes : ℕ)
-    → length starts ≡ s.measures → AreMeasures column_reach lanes starts others → AreColumnsOf s starts others → AreSpansOf s width spans
-    → width < 2 ^ 32 → (a b : ℕ) → a < b → b ≤ s.measures → IsSome (listed spans a b) → CanBeSet s width (listed spans) a b
+    → length starts ≡ s.measures → AreMeasures column_reach lanes starts others → AreColumnsOf s starts others
+    → AreSpansOf s width spans
+    → width < 2 ^ 32 → (a b : ℕ) → a < b → b ≤ s.measures → IsSome (listed spans a b)
+    → CanBeSet s width (listed spans) a b
 span_open s width starts others spans lanes count measures join h narrow a b l m some =
-    let v = some_of (listed spans a b) some in let cost = h.each a b v.0 l m v.1 in let begun = measures.begun a (omega arith) in
+    let v = some_of (listed spans a b) some in
+    let cost = h.each a b v.0 l m v.1 in
+    let begun = measures.begun a (omega arith) in
     let first : 0 < length (span_columns starts others a b) = columns_some starts others a b l begun in
     record {
       rises = l;
@@ -66,9 +73,13 @@ span_open s width starts others spans lanes count measures join h narrow a b l m
       cost = v.0;
       costs_so = v.1;
       columns = λ marks is.
-          let columns = system_columns s marks in let force = cost.pressed.2 marks is in let some = subst (λ columns. 0 < length columns) (sym (join a b marks l m is)) first in
-          let few = stand_few (length columns) (reach_at column_reach columns) (score_gaps s) (length_at column_length columns) width cost.pressed.0 some
-          (stands (length columns) (reach_at column_reach columns) (score_gaps s) (length_at column_length columns) width cost.pressed.0 force.fits) in
+          let columns = system_columns s marks in
+          let force = cost.pressed.2 marks is in
+          let some = subst (λ columns. 0 < length columns) (sym (join a b marks l m is)) first in
+          let few = stand_few (length columns) (reach_at column_reach columns) (score_gaps s)
+          (length_at column_length columns) width cost.pressed.0 some
+          (stands (length columns) (reach_at column_reach columns) (score_gaps s) (length_at column_length columns)
+          width cost.pressed.0 force.fits) in
           record { some = some; few = omega (arith, few, narrow); pressed = (cost.pressed.0, force, cost.pressed.1) };
     }
 
@@ -76,19 +87,27 @@ pub past_last : (a : ℕ) (bs : List ℕ) → RisesFrom a bs → a ≤ last_from
 past_last a [] r = omega arith
 past_last a (b ∷ bs) r = let h = past_last b bs r.1 in let l = r.0 in omega arith
 
-all_open : (P : ℕ → ℕ → Type 0) (cost : ℕ → ℕ → Option ℕ) (n : ℕ) → ((a b : ℕ) → a < b → b ≤ n → IsSome (cost a b) → P a b)
+all_open : (P : ℕ → ℕ → Type 0) (cost : ℕ → ℕ → Option ℕ) (n : ℕ)
+    → ((a b : ℕ) → a < b → b ≤ n → IsSome (cost a b) → P a b)
     → (a : ℕ) (bs : List ℕ) → RisesFrom a bs → FitsFrom cost a bs → last_from a bs ≤ n → AllSpans P a bs
 all_open P cost n h a [] r f l = tt
-all_open P cost n h a (b ∷ bs) r f l = let p = past_last b bs r.1 in (h a b r.0 (omega arith) f.0, all_open P cost n h b bs r.1 f.1 l)
+all_open P cost n h a (b ∷ bs) r f l =
+    let p = past_last b bs r.1 in (h a b r.0 (omega arith) f.0, all_open P cost n h b bs r.1 f.1 l)
 
 -- the spans of the columns of measures are those of the score
 pub spans_read : (s : Score) (width : ℕ) (starts others : List (List Column)) (spans : List Span) (gaps forced : List ℕ)
     → length starts ≡ s.measures → gaps ≡ score_gaps s → forced ≡ s.forced → AreColumnsOf s starts others
-    → IsSpanList column_reach column_length gaps width starts others (is_forced (length starts) forced) spans → AreSpansOf s width spans
+    → IsSpanList column_reach column_length gaps width starts others (is_forced (length starts) forced) spans
+    → AreSpansOf s width spans
 spans_read s width starts others spans gaps forced count is all join h =
-    let these = subst (λ n. IsSpanList column_reach column_length (score_gaps s) width starts others (is_forced n s.forced) spans) count
-    (subst (λ bars. IsSpanList column_reach column_length (score_gaps s) width starts others (is_forced (length starts) bars) spans) all
-    (subst (λ these. IsSpanList column_reach column_length these width starts others (is_forced (length starts) forced) spans) is h)) in
+    let these = subst
+    (λ n. IsSpanList column_reach column_length (score_gaps s) width starts others (is_forced n s.forced) spans) count
+    (subst (λ bars.
+    IsSpanList column_reach column_length (score_gaps s) width starts others (is_forced (length starts) bars) spans)
+    all
+    (subst (λ these.
+    IsSpanList column_reach column_length these width starts others (is_forced (length starts) forced) spans)
+    is h)) in
     record {
       each = λ a b v l m e.
           let k = these.each a b v l (omega arith) e in
@@ -97,27 +116,40 @@ spans_read s width starts others spans gaps forced count is all join h =
             pressed = (
               k.pressed.0,
               subst (λ n. v ≡ badness_of (b == n) k.pressed.0) count k.pressed.2,
-              λ marks is. subst (λ columns. IsForceOf (score_gaps s) width columns k.pressed.0) (sym (join a b marks l m is)) k.pressed.1,
+              λ marks is.
+                  subst (λ columns. IsForceOf (score_gaps s) width columns k.pressed.0) (sym (join a b marks l m is))
+                  k.pressed.1,
             );
           };
       fits = λ a b marks l m free is stand.
-          these.fits a b l (omega arith) free (subst (λ columns. CanStandIn (score_gaps s) width columns) (join a b marks l m is) stand);
+          these.fits a b l (omega arith) free
+          (subst (λ columns. CanStandIn (score_gaps s) width columns) (join a b marks l m is) stand);
     }
 
 -- the chosen breaking can be set
-pub chosen_read : (s : Score) (width : ℕ) (starts others : List (List Column)) (spans : List Span) (gaps forced breaks bars : List ℕ) → length starts ≡ s.measures → gaps ≡ score_gaps s → forced ≡ s.forced → bars ≡ breaks
-    → AreMeasures column_reach (length (score_gaps s)) starts others → AreColumnsOf s starts others → IsSpanList column_reach column_length gaps width starts others (is_forced (length starts) forced) spans
-    → width < 2 ^ 32 → IsChosen (listed spans) (is_forced s.measures forced) s.measures breaks → AllSpans (CanBeSet s width (listed spans)) 0 bars
+pub chosen_read : (s : Score) (width : ℕ) (starts others : List (List Column)) (spans : List Span)
+    (gaps forced breaks bars : List ℕ)
+    → length starts ≡ s.measures → gaps ≡ score_gaps s → forced ≡ s.forced → bars ≡ breaks
+    → AreMeasures column_reach (length (score_gaps s)) starts others
+    → AreColumnsOf s starts others
+    → IsSpanList column_reach column_length gaps width starts others (is_forced (length starts) forced) spans
+    → width < 2 ^ 32
+    → IsChosen (listed spans) (is_forced s.measures forced) s.measures breaks
+    → AllSpans (CanBeSet s width (listed spans)) 0 bars
 chosen_read s width starts others spans gaps forced breaks bars count is all ends measures join h narrow chosen =
     let exact = spans_read s width starts others spans gaps forced count is all join h in
-    let legal = (subst (λ these. IsChosen (listed spans) (is_forced s.measures these) s.measures breaks) all chosen).legal in let last = legal.ends in
+    let legal =
+    (subst (λ these. IsChosen (listed spans) (is_forced s.measures these) s.measures breaks) all chosen).legal in
+    let last = legal.ends in
     subst (λ these. AllSpans (CanBeSet s width (listed spans)) 0 these) (sym ends)
     (all_open (CanBeSet s width (listed spans)) (listed spans) s.measures
-    (λ a b l m some. span_open s width starts others spans (length (score_gaps s)) count measures join exact narrow a b l m some)
+    (λ a b l m some.
+    span_open s width starts others spans (length (score_gaps s)) count measures join exact narrow a b l m some)
     0 breaks legal.rises legal.fits (omega arith))
 
 -- no way among the listed spans is none in the score
-pub cause_read : (s : Score) (width : ℕ) (spans : List Span) (forced : List ℕ) (error : BreakError) → forced ≡ s.forced → AreSpans s.measures spans → AreSpansOf s width spans
+pub cause_read : (s : Score) (width : ℕ) (spans : List Span) (forced : List ℕ) (error : BreakError)
+    → forced ≡ s.forced → AreSpans s.measures spans → AreSpansOf s width spans
     → IsCause (listed spans) (is_forced s.measures forced) s.measures error → IsCauseIn s width (layout_error error)
 cause_read s width spans forced (BreakError.NoWay reached) all form exact h = (
   spans,
@@ -131,24 +163,43 @@ cause_read s width spans forced (BreakError.NoWay reached) all form exact h = (
 cause_read s width spans forced BreakError.Memory all form exact h = tt
 
 -- a score has few lanes
-small_sums : (n : ℕ) (staves : List (List DrawnVoice)) → n ≤ 255 → AllByRecursion (λ vs. sum_by (λ v. v.verses) vs ≤ n) staves → AllByRecursion (λ k. k ≤ 255) (map verses_on staves)
+small_sums : (n : ℕ) (staves : List (List DrawnVoice))
+    → n ≤ 255
+    → AllByRecursion (λ vs. sum_by (λ v. v.verses) vs ≤ n) staves
+    → AllByRecursion (λ k. k ≤ 255) (map verses_on staves)
 small_sums n [] l h = tt
-small_sums n (vs ∷ staves) l h = let all = sum-map (λ (v : DrawnVoice). v.verses) vs in let here = h.0 in (omega (arith, l, all, here), small_sums n staves l h.1)
+small_sums n (vs ∷ staves) l h =
+    let all = sum-map (λ (v : DrawnVoice). v.verses) vs in
+    let here = h.0 in
+    (omega (arith, l, all, here), small_sums n staves l h.1)
 
 small_verses : (s : Score) → IsGoodScore s → All (λ n. n ≤ 255) (verses_of s)
 small_verses s good =
-    let voices = map drawn_voice s.voices in let most = few_verses s good in let all = sum-map (λ (v : DrawnVoice). v.verses) (map drawn_voice s.voices) in
+    let voices = map drawn_voice s.voices in
+    let most = few_verses s good in
+    let all = sum-map (λ (v : DrawnVoice). v.verses) (map drawn_voice s.voices) in
     All-from_recursion (λ n. n ≤ 255) (verses_of s)
-    (small_sums (sum_by (λ v. v.verses) voices) (drawn_staves s) (omega (arith, most, all)) (none_more is_drawn_lower (λ v. v.verses) voices))
+    (small_sums (sum_by (λ v. v.verses) voices) (drawn_staves s) (omega (arith, most, all))
+    (none_more is_drawn_lower (λ v. v.verses) voices))
 
 -- and no more staves than voices
 pub staves_count : (s : Score) → length (drawn_staves s) ≤ length s.voices
-staves_count s = let few = few_groups is_drawn_lower (map drawn_voice s.voices) in let each = length-map s.voices drawn_voice in omega (arith, few, each)
+staves_count s =
+    let few = few_groups is_drawn_lower (map drawn_voice s.voices) in
+    let each = length-map s.voices drawn_voice in
+    omega (arith, few, each)
 
-pub few_lanes : (s : Score) (verses gaps : List ℕ) → IsGoodScore s → verses ≡ verses_of s → (All (λ v. v ≤ 255) verses → length gaps ≤ 258 * length verses) → length gaps < 4294967296
+pub few_lanes : (s : Score) (verses gaps : List ℕ)
+    → IsGoodScore s → verses ≡ verses_of s
+    → (All (λ v. v ≤ 255) verses → length gaps ≤ 258 * length verses)
+    → length gaps < 4294967296
 few_lanes s verses gaps good is few =
     let small = few (subst (λ these. All (λ v. v ≤ 255) these) (sym is) (small_verses s good)) in
-    let count : length verses ≡ length (drawn_staves s) = ap (λ these. length these) is ∙ length-map (drawn_staves s) verses_on in let staves = staves_count s in let voices = good.few_voices in omega arith
+    let count : length verses ≡ length (drawn_staves s) =
+    ap (λ these. length these) is ∙ length-map (drawn_staves s) verses_on in
+    let staves = staves_count s in
+    let voices = good.few_voices in
+    omega arith
 
 -- as many gaps as staves but the first
 same_seat : (v : Voice) → is_lower (drawn_voice v).seat ≡ is_lower v.seat
@@ -158,8 +209,14 @@ same_seat v = refl
 gaps_of_voices : (vs : List Voice) → length (gaps_between vs) ≡ length (grouped is_drawn_lower (map drawn_voice vs)) - 1
 gaps_of_voices [] = refl
 gaps_of_voices (v ∷ vs) =
-    let drawn = ap (λ groups. length groups) (grouped_map drawn_voice lower is_drawn_lower same_seat (v ∷ vs)) in let same = length-map (grouped lower (v ∷ vs)) (map drawn_voice) in
-    let all = length-map (filter (λ v. not (lower v)) vs) (λ v. v.gap) in omega (arith, drawn, same, all, count_grouped lower v vs)
+    let drawn = ap (λ groups. length groups) (grouped_map drawn_voice lower is_drawn_lower same_seat (v ∷ vs)) in
+    let same = length-map (grouped lower (v ∷ vs)) (map drawn_voice) in
+    let all = length-map (filter (λ v. not (lower v)) vs) (λ v. v.gap) in
+    omega (arith, drawn, same, all, count_grouped lower v vs)
 
-pub gaps_count : (s : Score) (m : SystemMarks) (gaps : List ℕ) (staff : List DrawnVoice → StaffMarks) → gaps ≡ gaps_between s.voices → m.staves ≡ map staff (drawn_staves s) → length gaps ≡ length m.staves - 1
-gaps_count s m gaps staff is stand = ap (λ gs. length gs) is ∙ gaps_of_voices s.voices ∙ ap (λ n. n - 1) (sym (ap (λ these. length these) stand ∙ length-map (drawn_staves s) staff))
+pub gaps_count : (s : Score) (m : SystemMarks) (gaps : List ℕ) (staff : List DrawnVoice → StaffMarks)
+    → gaps ≡ gaps_between s.voices → m.staves ≡ map staff (drawn_staves s) → length gaps ≡ length m.staves - 1
+gaps_count s m gaps staff is stand =
+    ap (λ gs. length gs) is
+    ∙ gaps_of_voices s.voices
+    ∙ ap (λ n. n - 1) (sym (ap (λ these. length these) stand ∙ length-map (drawn_staves s) staff))

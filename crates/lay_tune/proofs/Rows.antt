@@ -8,27 +8,35 @@ use Rattle.mus_marks.specs.Staff.{CoversLines}
 use Rattle.lay_pages.specs.Stacking.{AreGoodStaves}
 use Rattle.lay_tune.specs.Systems.{Beside, EachSpan}
 
-pub beside_more : {X Y : Type 0} (P : X → Y → Type 0) (xs : List X) (ys : List Y) (x : X) (y : Y) → Beside P xs ys → P x y → Beside P (xs ++ x ∷ []) (ys ++ y ∷ [])
+pub beside_more : {X Y : Type 0} (P : X → Y → Type 0) (xs : List X) (ys : List Y) (x : X) (y : Y)
+    → Beside P xs ys → P x y → Beside P (xs ++ x ∷ []) (ys ++ y ∷ [])
 beside_more P [] [] x y h p = (p, tt)
 beside_more P (w ∷ xs) (z ∷ ys) x y h p = (h.0, beside_more P xs ys x y h.1 p)
 beside_more P _ _ x y h p = absurd h
 
 -- one span's things more, whatever stands behind them
-pub span_more : {X Y : Type 0} (P : ℕ → ℕ → X → Y → Type 0) (breaks : List ℕ) (xs : List X) (ys : List Y) (x : X) (y : Y) (a b i : ℕ) → drop i breaks ≡ b ∷ drop (i + 1) breaks
-    → ((more : List X) (rest : List Y) → EachSpan P a (drop i breaks) more rest → EachSpan P 0 breaks (xs ++ more) (ys ++ rest)) → P a b x y
-    → (more : List X) (rest : List Y) → EachSpan P b (drop (i + 1) breaks) more rest → EachSpan P 0 breaks ((xs ++ x ∷ []) ++ more) ((ys ++ y ∷ []) ++ rest)
+pub span_more : {X Y : Type 0} (P : ℕ → ℕ → X → Y → Type 0) (breaks : List ℕ) (xs : List X) (ys : List Y) (x : X)
+    (y : Y) (a b i : ℕ)
+    → drop i breaks ≡ b ∷ drop (i + 1) breaks
+    → ((more : List X) (rest : List Y)
+    → EachSpan P a (drop i breaks) more rest → EachSpan P 0 breaks (xs ++ more) (ys ++ rest))
+    → P a b x y
+    → (more : List X) (rest : List Y) → EachSpan P b (drop (i + 1) breaks) more rest
+    → EachSpan P 0 breaks ((xs ++ x ∷ []) ++ more) ((ys ++ y ∷ []) ++ rest)
 span_more P breaks xs ys x y a b i e before p more rest h =
     subst (λ rows. EachSpan P 0 breaks rows ((ys ++ y ∷ []) ++ rest)) (sym (append_assoc xs (x ∷ []) more))
     (subst (λ rows. EachSpan P 0 breaks (xs ++ x ∷ more) rows) (sym (append_assoc ys (y ∷ []) rest))
     (before (x ∷ more) (y ∷ rest) (subst (λ bs. EachSpan P a bs (x ∷ more) (y ∷ rest)) (sym e) (p, h))))
 
 -- as many as the spans
-pub span_count : {X Y : Type 0} (P : ℕ → ℕ → X → Y → Type 0) (a : ℕ) (breaks : List ℕ) (xs : List X) (ys : List Y) → EachSpan P a breaks xs ys → (length xs ≡ length breaks) × (length ys ≡ length breaks)
+pub span_count : {X Y : Type 0} (P : ℕ → ℕ → X → Y → Type 0) (a : ℕ) (breaks : List ℕ) (xs : List X) (ys : List Y)
+    → EachSpan P a breaks xs ys → (length xs ≡ length breaks) × (length ys ≡ length breaks)
 span_count P a [] [] [] h = (refl, refl)
 span_count P a (b ∷ bs) (x ∷ xs) (y ∷ ys) h = let more = span_count P b bs xs ys h.1 in (ap suc more.0, ap suc more.1)
 span_count P a _ _ _ h = absurd h
 
-pub beside_count : {X Y : Type 0} (P : X → Y → Type 0) (xs : List X) (ys : List Y) → Beside P xs ys → length ys ≡ length xs
+pub beside_count : {X Y : Type 0} (P : X → Y → Type 0) (xs : List X) (ys : List Y)
+    → Beside P xs ys → length ys ≡ length xs
 beside_count P [] [] h = refl
 beside_count P (x ∷ xs) (y ∷ ys) h = ap suc (beside_count P xs ys h.1)
 beside_count P _ _ h = absurd h

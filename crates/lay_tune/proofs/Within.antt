@@ -34,32 +34,49 @@ use Rattle.lay_tune.proofs.Called.{has_system}
 -- the last of n columns stands within the width, and reaches no further
 pub record EndsWithin (n : ℕ) (reach : ℕ → ℕ → Option Reach) (gaps : List ℕ) (width : ℕ) (at : List ℤ) : Type 0 where
   pub past : x_at at (n - 1) ≤ℤ pos width
-  pub reaches : (lane : ℕ) (r : Reach) → lane < length gaps → reach (n - 1) lane ≡ Some r → (x_at at (n - 1) +ℤ pos r.right) ≤ℤ pos width
+  pub reaches : (lane : ℕ) (r : Reach)
+      → lane < length gaps → reach (n - 1) lane ≡ Some r → (x_at at (n - 1) +ℤ pos r.right) ≤ℤ pos width
 
 -- ---- abscissas rise
-pub rise_to : (n : ℕ) (reach : ℕ → ℕ → Option Reach) (gaps : List ℕ) (spring : ℕ → ℕ) (at : List ℤ) → StandApart n reach gaps spring at → (i k : ℕ) → i ≤ k → k < n → x_at at i ≤ℤ x_at at k
-rise_to n reach gaps spring at h i k l m = let e : i + (k - i) ≡ k = omega arith in rw e at (rises n reach gaps spring at h (k - i) i (omega arith))
+pub rise_to : (n : ℕ) (reach : ℕ → ℕ → Option Reach) (gaps : List ℕ) (spring : ℕ → ℕ) (at : List ℤ)
+    → StandApart n reach gaps spring at → (i k : ℕ) → i ≤ k → k < n → x_at at i ≤ℤ x_at at k
+rise_to n reach gaps spring at h i k l m =
+    let e : i + (k - i) ≡ k = omega arith in rw e at (rises n reach gaps spring at h (k - i) i (omega arith))
 
-pub stand_low : (n : ℕ) (reach : ℕ → ℕ → Option Reach) (gaps : List ℕ) (spring : ℕ → ℕ) (at : List ℤ) → StandApart n reach gaps spring at → (k : ℕ) → k < n → pos 0 ≤ℤ x_at at k
-stand_low n reach gaps spring at h k l = let up = rise_to n reach gaps spring at h 0 k (omega arith) l in let first = h.begins (omega arith) in omega (arith, ints)
+pub stand_low : (n : ℕ) (reach : ℕ → ℕ → Option Reach) (gaps : List ℕ) (spring : ℕ → ℕ) (at : List ℤ)
+    → StandApart n reach gaps spring at → (k : ℕ) → k < n → pos 0 ≤ℤ x_at at k
+stand_low n reach gaps spring at h k l =
+    let up = rise_to n reach gaps spring at h 0 k (omega arith) l in
+    let first = h.begins (omega arith) in
+    omega (arith, ints)
 
-pub stand_within : (n : ℕ) (reach : ℕ → ℕ → Option Reach) (gaps : List ℕ) (spring : ℕ → ℕ) (width : ℕ) (at : List ℤ) → length at ≡ n
+pub stand_within : (n : ℕ) (reach : ℕ → ℕ → Option Reach) (gaps : List ℕ) (spring : ℕ → ℕ) (width : ℕ) (at : List ℤ)
+    → length at ≡ n
     → StandApart n reach gaps spring at → (0 < n → EndsWithin n reach gaps width at) → StandWithin width n at
 stand_within n reach gaps spring width at count h ends = record {
   count_is = count;
   rise = λ i l. let s = h.steps i l in omega (arith, ints);
   low = λ i l. stand_low n reach gaps spring at h i l;
   high = λ i l.
-      let up = rise_to n reach gaps spring at h i (n - 1) (omega arith) (omega arith) in let p = (ends (omega arith)).past in omega (arith, ints);
+      let up = rise_to n reach gaps spring at h i (n - 1) (omega arith) (omega arith) in
+      let p = (ends (omega arith)).past in
+      omega (arith, ints);
 }
 
 -- ---- the end
 module _ (n : ℕ) (reach : ℕ → ℕ → Option Reach) (gaps : List ℕ) (spring : ℕ → ℕ → ℕ) (width force weak : ℕ) where
   -- at a force that isn't above one that fits
-  place_within : (at : List ℤ) → 0 < n → ((i : ℕ) → spring weak i ≤ spring force i) → Fits n reach gaps spring width force → IsPlace n reach gaps (spring weak) at → EndsWithin n reach gaps width at
+  place_within : (at : List ℤ)
+      → 0 < n → ((i : ℕ) → spring weak i ≤ spring force i) → Fits n reach gaps spring width force
+      → IsPlace n reach gaps (spring weak) at
+      → EndsWithin n reach gaps width at
   place_within at some le fits place =
-      let last = place.least fits.1.x (apart_down n reach gaps (spring weak) (spring force) fits.1.x le fits.1.place.apart) (n - 1) (omega arith) in
-      record { past = let a = fits.1.end.past in let b = fits.2 in omega (arith, ints); reaches = λ lane r l e. let a = fits.1.end.reaches lane r l e in let b = fits.2 in omega (arith, ints) }
+      let last = place.least fits.1.x
+      (apart_down n reach gaps (spring weak) (spring force) fits.1.x le fits.1.place.apart) (n - 1) (omega arith) in
+      record {
+        past = let a = fits.1.end.past in let b = fits.2 in omega (arith, ints);
+        reaches = λ lane r l e. let a = fits.1.end.reaches lane r l e in let b = fits.2 in omega (arith, ints);
+      }
 
   share_whole : (rest d : ℕ) → 0 < d → rest * d / d ≡ rest
   share_whole rest d l = grind arith
@@ -67,35 +84,54 @@ module _ (n : ℕ) (reach : ℕ → ℕ → Option Reach) (gaps : List ℕ) (spr
   -- the last of columns that are set moves by all that was left
   moved_within : (at : List ℤ) → 1 < n → IsSet n reach gaps spring width weak at → EndsWithin n reach gaps width at
   moved_within at several is =
-      let m = is.moved several in let rest = m.1 in let whole : rest * (n - 1) / (n - 1) ≡ rest = share_whole rest (n - 1) (omega arith) in let there = rw whole at (m.4 (n - 1) (omega arith)) in
-      let comes_to = m.3 in record { past = let a = m.2.past in omega (arith, ints); reaches = λ lane r l e. let a = m.2.reaches lane r l e in omega (arith, ints) }
+      let m = is.moved several in
+      let rest = m.1 in
+      let whole : rest * (n - 1) / (n - 1) ≡ rest = share_whole rest (n - 1) (omega arith) in
+      let there = rw whole at (m.4 (n - 1) (omega arith)) in
+      let comes_to = m.3 in
+      record {
+        past = let a = m.2.past in omega (arith, ints);
+        reaches = λ lane r l e. let a = m.2.reaches lane r l e in omega (arith, ints);
+      }
 
-  pub set_within : (at : List ℤ) → 0 < n → ((i : ℕ) → spring weak i ≤ spring force i) → Fits n reach gaps spring width force → IsSet n reach gaps spring width weak at → EndsWithin n reach gaps width at
+  pub set_within : (at : List ℤ)
+      → 0 < n → ((i : ℕ) → spring weak i ≤ spring force i) → Fits n reach gaps spring width force
+      → IsSet n reach gaps spring width weak at
+      → EndsWithin n reach gaps width at
   set_within at some le fits is = elim (cases_lt 1 n) [
     | inl several ↦ moved_within at several is
-    | inr alone ↦ subst (EndsWithin n reach gaps width) (sym (is.alone (omega arith))) (place_within is.x some le fits is.place)
+    | inr alone ↦
+        subst (EndsWithin n reach gaps width) (sym (is.alone (omega arith))) (place_within is.x some le fits is.place)
   ]
 
 counted_low : (last : Bool) (force : ℕ) → counted last force ≤ force
 counted_low last force = grind (arith, nat_tests)
 
-pub justified_within : (gaps : List ℕ) (width : ℕ) (last : Bool) (columns : List Column) (p : Placed) → 0 < length columns
-    → IsJustified gaps width last columns p → EndsWithin (length columns) (reach_at column_reach columns) gaps width p.at
+pub justified_within : (gaps : List ℕ) (width : ℕ) (last : Bool) (columns : List Column) (p : Placed)
+    → 0 < length columns
+    → IsJustified gaps width last columns p
+    → EndsWithin (length columns) (reach_at column_reach columns) gaps width p.at
 justified_within gaps width last columns p some h = by p.ragged refl
   where
     weak : p.force ≤ h.pressed.0
     weak = subst (λ f. f ≤ h.pressed.0) (sym h.pressed.2) (counted_low last h.pressed.0)
 
     rises : (i : ℕ) → length_at column_length columns p.force i ≤ length_at column_length columns h.pressed.0 i
-    rises = lengths_rise column_length columns p.force h.pressed.0 (λ c. length_rises c.natural p.force h.pressed.0 weak)
+    rises =
+        lengths_rise column_length columns p.force h.pressed.0 (λ c. length_rises c.natural p.force h.pressed.0 weak)
 
     by : (b : Bool) → p.ragged ≡ b → EndsWithin (length columns) (reach_at column_reach columns) gaps width p.at
-    by true is = place_within (length columns) (reach_at column_reach columns) gaps (length_at column_length columns) width h.pressed.0 p.force p.at some rises
+    by true is =
+        place_within (length columns) (reach_at column_reach columns) gaps (length_at column_length columns) width
+        h.pressed.0 p.force p.at some rises
         h.pressed.1.fits (h.loose is)
-    by false is = set_within (length columns) (reach_at column_reach columns) gaps (length_at column_length columns) width h.pressed.0 p.force p.at some rises
+    by false is =
+        set_within (length columns) (reach_at column_reach columns) gaps (length_at column_length columns) width
+        h.pressed.0 p.force p.at some rises
         h.pressed.1.fits (h.set is)
 
-pub justified_count : (gaps : List ℕ) (width : ℕ) (last : Bool) (columns : List Column) (p : Placed) → IsJustified gaps width last columns p → length p.at ≡ length columns
+pub justified_count : (gaps : List ℕ) (width : ℕ) (last : Bool) (columns : List Column) (p : Placed)
+    → IsJustified gaps width last columns p → length p.at ≡ length columns
 justified_count gaps width last columns p h = by p.ragged refl
   where
     by : (b : Bool) → p.ragged ≡ b → length p.at ≡ length columns
@@ -103,62 +139,101 @@ justified_count gaps width last columns p h = by p.ragged refl
     by false is = (h.set is).count
 
 -- ---- columns that stand elsewhere
-pub justified_seen : {D : Type 0} (f : D → Column) (gaps : List ℕ) (width : ℕ) (last : Bool) (seen : List D) (force : ℕ) (p : Placed)
+pub justified_seen : {D : Type 0} (f : D → Column) (gaps : List ℕ) (width : ℕ) (last : Bool) (seen : List D) (force : ℕ)
+    (p : Placed)
     → IsForceOf gaps width (map f seen) force → p.ragged ≡ is_ragged last force → p.force ≡ counted last force
-    → (p.ragged ≡ true → IsPlace (length seen) (reach_at (λ s lane. column_reach (f s) lane) seen) gaps (length_at (λ s force. column_length (f s) force) seen p.force) p.at)
-    → (p.ragged ≡ false → IsSet (length seen) (reach_at (λ s lane. column_reach (f s) lane) seen) gaps (length_at (λ s force. column_length (f s) force) seen) width p.force p.at)
-    → StandApart (length seen) (reach_at (λ s lane. column_reach (f s) lane) seen) gaps (length_at (λ s force. column_length (f s) force) seen p.force) p.at → IsJustified gaps width last (map f seen) p
+    → (p.ragged ≡ true
+    → IsPlace (length seen) (reach_at (λ s lane. column_reach (f s) lane) seen) gaps
+    (length_at (λ s force. column_length (f s) force) seen p.force) p.at)
+    → (p.ragged ≡ false
+    → IsSet (length seen) (reach_at (λ s lane. column_reach (f s) lane) seen) gaps
+    (length_at (λ s force. column_length (f s) force) seen) width p.force p.at)
+    → StandApart (length seen) (reach_at (λ s lane. column_reach (f s) lane) seen) gaps
+    (length_at (λ s force. column_length (f s) force) seen p.force) p.at
+    → IsJustified gaps width last (map f seen) p
 justified_seen f gaps width last seen force p pressed ragged counted loose set apart = record {
   pressed = (force, pressed, counted, ragged);
-  loose = λ is. subst (λ T. T) (seen_as f column_reach column_length (λ n r l. IsPlace n r gaps (l p.force) p.at) seen (map f seen) refl) (loose is);
-  set = λ is. subst (λ T. T) (seen_as f column_reach column_length (λ n r l. IsSet n r gaps l width p.force p.at) seen (map f seen) refl) (set is);
-  apart = subst (λ T. T) (seen_as f column_reach column_length (λ n r l. StandApart n r gaps (l p.force) p.at) seen (map f seen) refl) apart;
+  loose =
+      λ is.
+      subst (λ T. T)
+      (seen_as f column_reach column_length (λ n r l. IsPlace n r gaps (l p.force) p.at) seen (map f seen) refl)
+      (loose is);
+  set =
+      λ is.
+      subst (λ T. T)
+      (seen_as f column_reach column_length (λ n r l. IsSet n r gaps l width p.force p.at) seen (map f seen) refl)
+      (set is);
+  apart =
+      subst (λ T. T)
+      (seen_as f column_reach column_length (λ n r l. StandApart n r gaps (l p.force) p.at) seen (map f seen) refl)
+      apart;
 }
 
 ragged_last : (last : Bool) (force : ℕ) → is_ragged last force ≡ true → (last ≡ true) × (256 ≤ force)
 ragged_last false force e = absurd (true≢false (sym e))
 ragged_last true force e = (refl, grind (arith, nat_tests))
 
--- the greatest force that was tried counts as the columns' own, where none that costs so much is above all that were tried
-pub counts_same : (gaps : List ℕ) (width : ℕ) (last : Bool) (cost : ℕ) (columns : List Column) (most found : ℕ) → (h : HaveForce gaps width last cost columns) → most ≤ 2048
-    → ((f : ℕ) → f ≤ 2048 → badness_at f ≤ cost → f ≤ most) → (cost ≡ 0 → most ≡ 256) → found ≤ most → Fits (length columns) (reach_at column_reach columns) gaps (length_at column_length columns) width found
-    → ((g : ℕ) → found < g → g ≤ most → FitsAtForce column_reach column_length gaps width g columns → ⊥) → (counted last found ≡ counted last h.pressed.0) × (is_ragged last found ≡ is_ragged last h.pressed.0)
-counts_same gaps width last cost columns most found h small high natural bound fits greatest = by (is_ragged last h.pressed.0) refl
+-- the greatest force that was tried counts as the columns' own,
+-- where none that costs so much is above all that were tried
+pub counts_same : (gaps : List ℕ) (width : ℕ) (last : Bool) (cost : ℕ) (columns : List Column) (most found : ℕ)
+    → (h : HaveForce gaps width last cost columns) → most ≤ 2048
+    → ((f : ℕ) → f ≤ 2048 → badness_at f ≤ cost → f ≤ most) → (cost ≡ 0 → most ≡ 256) → found ≤ most
+    → Fits (length columns) (reach_at column_reach columns) gaps (length_at column_length columns) width found
+    → ((g : ℕ) → found < g → g ≤ most → FitsAtForce column_reach column_length gaps width g columns → ⊥)
+    → (counted last found ≡ counted last h.pressed.0) × (is_ragged last found ≡ is_ragged last h.pressed.0)
+counts_same gaps width last cost columns most found h small high natural bound fits greatest =
+    by (is_ragged last h.pressed.0) refl
   where
     weaker : (g : ℕ) → g ≤ h.pressed.0 → FitsAtForce column_reach column_length gaps width g columns
     weaker g l =
-        let at = stands (length columns) (reach_at column_reach columns) gaps (length_at column_length columns) width h.pressed.0 h.pressed.1.fits in
-        let apart = apart_down (length columns) (reach_at column_reach columns) gaps (length_at column_length columns g) (length_at column_length columns h.pressed.0) at.y
+        let at = stands (length columns) (reach_at column_reach columns) gaps (length_at column_length columns) width
+        h.pressed.0 h.pressed.1.fits in
+        let apart = apart_down (length columns) (reach_at column_reach columns) gaps (length_at column_length columns g)
+        (length_at column_length columns h.pressed.0) at.y
         (lengths_rise column_length columns g h.pressed.0 (λ c. length_rises c.natural g h.pressed.0 l)) at.apart in
         record { y = at.y; apart = apart; past = at.past; reaches = at.reaches }
 
     least : found ≡ min h.pressed.0 most
     least = elim (cases_lt found (min h.pressed.0 most)) [
-      | inl less ↦ absurd (greatest (min h.pressed.0 most) less (omega arith) (weaker (min h.pressed.0 most) (omega arith)))
+      | inl less ↦
+          absurd (greatest (min h.pressed.0 most) less (omega arith) (weaker (min h.pressed.0 most) (omega arith)))
       | inr low ↦ elim (cases_lt h.pressed.0 found) [
-        | inl less ↦ absurd (h.pressed.1.greatest found less (omega arith) (stands (length columns) (reach_at column_reach columns) gaps (length_at column_length columns) width found fits))
+        | inl less ↦
+            absurd (h.pressed.1.greatest found less (omega arith)
+            (stands (length columns) (reach_at column_reach columns) gaps (length_at column_length columns) width found
+            fits))
         | inr high ↦ omega (arith, low, high, bound)
       ]
     ]
 
-    by : (b : Bool) → is_ragged last h.pressed.0 ≡ b → (counted last found ≡ counted last h.pressed.0) × (is_ragged last found ≡ is_ragged last h.pressed.0)
+    by : (b : Bool) → is_ragged last h.pressed.0 ≡ b
+        → (counted last found ≡ counted last h.pressed.0) × (is_ragged last found ≡ is_ragged last h.pressed.0)
     by false e =
         let costs = h.pressed.2 ∙ ap (λ b. badness_at (if b then 256 else h.pressed.0)) e in
-        let own = high h.pressed.0 h.pressed.1.bound (subst (λ v. badness_at h.pressed.0 ≤ v) (sym costs) (omega arith)) in let same : found ≡ h.pressed.0 = omega (arith, own, least) in
+        let own =
+        high h.pressed.0 h.pressed.1.bound (subst (λ v. badness_at h.pressed.0 ≤ v) (sym costs) (omega arith)) in
+        let same : found ≡ h.pressed.0 = omega (arith, own, least) in
         (ap (counted last) same, ap (is_ragged last) same)
     by true e =
-        let ends = ragged_last last h.pressed.0 e in let all = natural (h.pressed.2 ∙ ap (λ b. badness_at (if b then 256 else h.pressed.0)) e) in
-        let same : found ≡ 256 = omega (arith, ends.1, all, least) in let ragged : is_ragged last found ≡ true = rw (same, ends.0) refl in
+        let ends = ragged_last last h.pressed.0 e in
+        let all = natural (h.pressed.2 ∙ ap (λ b. badness_at (if b then 256 else h.pressed.0)) e) in
+        let same : found ≡ 256 = omega (arith, ends.1, all, least) in
+        let ragged : is_ragged last found ≡ true = rw (same, ends.0) refl in
         (ap (λ b. if b then 256 else found) ragged ∙ sym (ap (λ b. if b then 256 else h.pressed.0) e), ragged ∙ sym e)
 
 -- ---- the columns of a system
 pub system_count : (s : Score) (m : SystemMarks) → length (system_columns s m) ≡ length m.keys
-system_count s m = sym (length-map (system_columns s m) (λ c. c.key)) ∙ ap (λ ks. length ks) (columns_keys m.staves (timeline_of s).lengths (verses_of s) 0 m.keys)
+system_count s m =
+    sym (length-map (system_columns s m) (λ c. c.key))
+    ∙ ap (λ ks. length ks) (columns_keys m.staves (timeline_of s).lengths (verses_of s) 0 m.keys)
 
 -- what is known of a span that can be set, by the columns of its measures
-pub span_set : {s : Score} {width a b : ℕ} {costs : ℕ → ℕ → Option ℕ} {gaps : List ℕ} (starts others : List (List Column)) (columns : List Column)
-    → (fits : CanBeSet s width costs a b) → AreColumnsOf s starts others → gaps ≡ score_gaps s → columns ≡ span_columns starts others a b
-    → HaveForce gaps width (b == s.measures) fits.cost columns × ((p : Placed) → IsJustified gaps width (b == s.measures) columns p → IsPlaced s width (has_system s a b).0 p)
+pub span_set : {s : Score} {width a b : ℕ} {costs : ℕ → ℕ → Option ℕ} {gaps : List ℕ}
+    (starts others : List (List Column)) (columns : List Column)
+    → (fits : CanBeSet s width costs a b) → AreColumnsOf s starts others → gaps ≡ score_gaps s
+    → columns ≡ span_columns starts others a b
+    → HaveForce gaps width (b == s.measures) fits.cost columns
+    × ((p : Placed) → IsJustified gaps width (b == s.measures) columns p → IsPlaced s width (has_system s a b).0 p)
     × AreKeys (map (λ c. c.key) columns) (called_keys s (timeline_of s).lengths a b)
 span_set {s} {width} {a} {b} {costs} {gaps} starts others columns fits join are is =
     let m = (has_system s a b).0 in let call = (has_system s a b).1 in
@@ -169,24 +244,31 @@ span_set {s} {width} {a} {b} {costs} {gaps} starts others columns fits join are 
           (subst (λ b. IsJustified gaps width (b == s.measures) (system_columns s m) p) (sym call.to)
           (subst (λ cs. IsJustified gaps width (b == s.measures) cs p) (sym same) h)),
       subst (λ cs. AreKeys (map (λ c. c.key) cs) (called_keys s (timeline_of s).lengths a b)) same
-          (subst (λ keys. AreKeys keys (called_keys s (timeline_of s).lengths a b)) (sym (columns_keys m.staves (timeline_of s).lengths (verses_of s) 0 m.keys)) call.keys),
+          (subst (λ keys. AreKeys keys (called_keys s (timeline_of s).lengths a b))
+          (sym (columns_keys m.staves (timeline_of s).lengths (verses_of s) 0 m.keys)) call.keys),
     )
 
 -- they stand within the width wherever they are placed
-pub placed_stand : (s : Score) (width : ℕ) (m : SystemMarks) (p : Placed) → IsPlaced s width m p → StandWithin width (length m.keys) p.at
+pub placed_stand : (s : Score) (width : ℕ) (m : SystemMarks) (p : Placed)
+    → IsPlaced s width m p → StandWithin width (length m.keys) p.at
 placed_stand s width m p placed =
     let columns = system_columns s m in
     subst (λ n. StandWithin width n p.at) (system_count s m)
-    (stand_within (length columns) (reach_at column_reach columns) (score_gaps s) (length_at column_length columns p.force) width p.at
+    (stand_within (length columns) (reach_at column_reach columns) (score_gaps s)
+    (length_at column_length columns p.force) width p.at
     (justified_count (score_gaps s) width (m.b == s.measures) columns p placed) placed.apart
     (λ some. justified_within (score_gaps s) width (m.b == s.measures) columns p some placed))
 
 -- so marks can be tilted over them
-pub abscissas_of : (s : Score) (width a b : ℕ) (m : SystemMarks) (p : Placed) → width < 2 ^ 32 → IsSystemOf s a b m → IsPlaced s width m p → AreAbscissas s (timeline_of s) a b p.at
+pub abscissas_of : (s : Score) (width a b : ℕ) (m : SystemMarks) (p : Placed)
+    → width < 2 ^ 32 → IsSystemOf s a b m → IsPlaced s width m p → AreAbscissas s (timeline_of s) a b p.at
 abscissas_of s width a b m p narrow call placed =
     let stand = placed_stand s width m p placed in
     let count = stand.count_is in record {
-      each = λ keys are. count ∙ ap (λ ks. length ks) (same_keys m.keys keys (called_keys s (timeline_of s).lengths a b) call.keys are);
+      each =
+          λ keys are.
+          count
+          ∙ ap (λ ks. length ks) (same_keys m.keys keys (called_keys s (timeline_of s).lengths a b) call.keys are);
       rise = λ i less. stand.rise i (omega arith);
       low = λ i less. stand.low i (omega arith);
       high = λ i less. let most = stand.high i (omega arith) in omega (arith, ints);

@@ -1,4 +1,5 @@
--- The breakings of a score on a width that are legal, and the one of least total badness: said of the score and the width alone.
+-- The breakings of a score on a width that are legal, and the one of least total badness:
+-- said of the score and the width alone.
 use Rattle.std.specs.Prelude.{◌≡◌, ℕ, ◌+◌, ◌≤◌, true, List, [], ◌∷◌, reverse, Contains}
 use Rattle.mus_score.specs.declared.score.Score.{Score}
 use Rattle.mus_laid.specs.declared.laid.SystemMarks.{SystemMarks}
@@ -7,13 +8,14 @@ use Rattle.lay_spans.specs.Forced.{ForcedInside}
 use Rattle.lay_tune.specs.Spans.{CanStandIn, IsSpanCost, IsSystemOf, is_forced_in, score_gaps, system_columns}
 use Rattle.lay_tune.specs.Systems.{AllSpans}
 
--- The measures from bar a to bar b can be a system: no forced bar stands strictly inside, and the columns of the marks that
--- the score calls for there can stand within the width.
+-- The measures from bar a to bar b can be a system: no forced bar stands strictly inside, and the columns of the marks
+-- that the score calls for there can stand within the width.
 pub record CanBeSystem (s : Score) (width a b : ℕ) : Type 0 where
   pub free : ForcedInside (is_forced_in s) a b → ⊥
   pub stands : (m : SystemMarks) → IsSystemOf s a b m → CanStandIn (score_gaps s) width (system_columns s m)
 
--- A legal breaking of the score on a width: a rising list of bars that ends with the last, has every forced bar, and whose spans can each be a system.
+-- A legal breaking of the score on a width: a rising list of bars that ends with the last, has every forced bar, and
+-- whose spans can each be a system.
 pub record IsLegalIn (s : Score) (width : ℕ) (breaks : List ℕ) : Type 0 where
   pub rises : RisesFrom 0 breaks
   pub ends : last_from 0 breaks ≡ s.measures
@@ -23,12 +25,14 @@ pub record IsLegalIn (s : Score) (width : ℕ) (breaks : List ℕ) : Type 0 wher
 -- what the spans of a breaking cost together, each the badness of its greatest force; the first begins at bar a
 abbrev pub CostTogether : Score → ℕ → ℕ → List ℕ → ℕ → Type 0
 CostTogether s width a [] total = total ≡ 0
-CostTogether s width a (b ∷ bs) total = (v : ℕ) × (rest : ℕ) × IsSpanCost s width a b v × CostTogether s width b bs rest × (total ≡ v + rest)
+CostTogether s width a (b ∷ bs) total =
+    (v : ℕ) × (rest : ℕ) × IsSpanCost s width a b v × CostTogether s width b bs rest × (total ≡ v + rest)
 
--- The legal breaking of least total: each legal breaking has a total, and none that is smaller; and of those with this total
--- it is the one that, read from its end, is lexicographically greatest.
+-- The legal breaking of least total: each legal breaking has a total, and none that is smaller; and of those with this
+-- total it is the one that, read from its end, is lexicographically greatest.
 pub record IsLeastBreaking (s : Score) (width : ℕ) (breaks : List ℕ) (total : ℕ) : Type 0 where
   pub legal : IsLegalIn s width breaks
   pub costs : CostTogether s width 0 breaks total
   pub least : (other : List ℕ) → IsLegalIn s width other → (v : ℕ) × CostTogether s width 0 other v × (total ≤ v)
-  pub latest : (other : List ℕ) → IsLegalIn s width other → CostTogether s width 0 other total → LexAtMost (reverse other) (reverse breaks)
+  pub latest : (other : List ℕ)
+      → IsLegalIn s width other → CostTogether s width 0 other total → LexAtMost (reverse other) (reverse breaks)

@@ -12,9 +12,9 @@ use Rattle.lay_tune.specs.declared.layout.Layout.{Layout}
 use Rattle.lay_tune.specs.Breakings.{IsLeastBreaking}
 use Rattle.lay_tune.specs.Systems.{Beside, EachSpan, IsSetSystem, IsStack}
 
--- The score laid out on a width: the listed spans are exactly those that fit, the breaking is the chosen one over them and the one
--- of least total of the score, and each of its systems has the marks that the score calls for, set to the width and tilted there,
--- and its staves under one another.
+-- The score laid out on a width: the listed spans are exactly those that fit, the breaking is the chosen one over them
+-- and the one of least total of the score, and each of its systems has the marks that the score calls for, set to the
+-- width and tilted there, and its staves under one another.
 pub record IsLayout (s : Score) (width : ℕ) (l : Layout) : Type 0 where
   pub form : AreSpans s.measures l.spans
   pub spans : AreSpansOf s width l.spans
@@ -22,7 +22,8 @@ pub record IsLayout (s : Score) (width : ℕ) (l : Layout) : Type 0 where
   pub total : l.breaking.total ≡ sum_from (listed l.spans) 0 l.breaking.breaks
   pub least : IsLeastBreaking s width l.breaking.breaks l.breaking.total
   pub one_each : length l.breaking.potentials ≡ s.measures + 1
-  pub potentials : (i : ℕ) → i ≤ s.measures → IsPotential (listed l.spans) (is_forced_in s) i (slice_index_or l.breaking.potentials i None)
+  pub potentials : (i : ℕ)
+      → i ≤ s.measures → IsPotential (listed l.spans) (is_forced_in s) i (slice_index_or l.breaking.potentials i None)
   pub systems : EachSpan (IsSetSystem s width) 0 l.breaking.breaks l.systems l.placed
   pub heights : Beside (IsStack s) l.systems l.heights
   pub texts : All (λ m. All (λ staff. AreGoodMarks staff.marks) m.staves) l.systems

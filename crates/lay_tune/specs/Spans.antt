@@ -47,18 +47,26 @@ IsForceOf gaps width columns force = IsForce column_reach column_length gaps wid
 abbrev pub CanStandIn : List ℕ → ℕ → List Column → Type 0
 CanStandIn gaps width columns = FitsAtForce column_reach column_length gaps width 0 columns
 
--- the span from bar a to bar b fits and costs v: no forced bar stands strictly inside, and v is the badness of the greatest
--- force of the columns that the score calls for there
+-- the span from bar a to bar b fits and costs v: no forced bar stands strictly inside, and v is the badness of the
+-- greatest force of the columns that the score calls for there
 pub record IsSpanCost (s : Score) (width a b v : ℕ) : Type 0 where
   pub free : ForcedInside (is_forced_in s) a b → ⊥
-  pub pressed : (force : ℕ) × (v ≡ badness_of (b == s.measures) force) × ((m : SystemMarks) → IsSystemOf s a b m → IsForceOf (score_gaps s) width (system_columns s m) force)
+  pub pressed : (force : ℕ)
+      × (v ≡ badness_of (b == s.measures) force)
+      × ((m : SystemMarks) → IsSystemOf s a b m → IsForceOf (score_gaps s) width (system_columns s m) force)
 
--- the list has exactly the spans of the score that fit the width and have no forced bar strictly inside, each with what it costs
+-- the list has exactly the spans of the score that fit the width and have no forced bar strictly inside,
+-- each with what it costs
 pub record AreSpansOf (s : Score) (width : ℕ) (spans : List Span) : Type 0 where
   pub each : (a b v : ℕ) → a < b → b ≤ s.measures → listed spans a b ≡ Some v → IsSpanCost s width a b v
-  pub fits : (a b : ℕ) (m : SystemMarks) → a < b → b ≤ s.measures → (ForcedInside (is_forced_in s) a b → ⊥) → IsSystemOf s a b m → CanStandIn (score_gaps s) width (system_columns s m) → IsSome (listed spans a b)
+  pub fits : (a b : ℕ) (m : SystemMarks)
+      → a < b → b ≤ s.measures → (ForcedInside (is_forced_in s) a b → ⊥) → IsSystemOf s a b m
+      → CanStandIn (score_gaps s) width (system_columns s m)
+      → IsSome (listed spans a b)
 
--- The columns of each measure, as they stand where it begins a system and where it doesn't, are those of the systems: put one
--- after the other they are the columns of the marks that the score calls for.
+-- The columns of each measure, as they stand where it begins a system and where it doesn't, are those of the systems:
+-- put one after the other they are the columns of the marks that the score calls for.
 abbrev pub AreColumnsOf : Score → List (List Column) → List (List Column) → Type 0
-AreColumnsOf s starts others = (a b : ℕ) (m : SystemMarks) → a < b → b ≤ s.measures → IsSystemOf s a b m → system_columns s m ≡ span_columns starts others a b
+AreColumnsOf s starts others =
+    (a b : ℕ) (m : SystemMarks)
+    → a < b → b ≤ s.measures → IsSystemOf s a b m → system_columns s m ≡ span_columns starts others a b

@@ -29,19 +29,26 @@ Beside P [] (y ∷ ys) = ⊥
 Beside P (x ∷ xs) [] = ⊥
 Beside P (x ∷ xs) (y ∷ ys) = P x y × Beside P xs ys
 
--- Columns pressed with their greatest force, as it counts: set to the width, but for a ragged last system, which stands as placed.
+-- Columns pressed with their greatest force, as it counts: set to the width, but for a ragged last system,
+-- which stands as placed.
 pub record IsJustified (gaps : List ℕ) (width : ℕ) (last : Bool) (columns : List Column) (p : Placed) : Type 0 where
-  pub pressed : (force : ℕ) × IsForceOf gaps width columns force × (p.force ≡ counted last force) × (p.ragged ≡ is_ragged last force)
-  pub loose : p.ragged ≡ true → IsPlace (length columns) (reach_at column_reach columns) gaps (length_at column_length columns p.force) p.at
-  pub set : p.ragged ≡ false → IsSet (length columns) (reach_at column_reach columns) gaps (length_at column_length columns) width p.force p.at
-  pub apart : StandApart (length columns) (reach_at column_reach columns) gaps (length_at column_length columns p.force) p.at
+  pub pressed : (force : ℕ)
+      × IsForceOf gaps width columns force
+      × (p.force ≡ counted last force)
+      × (p.ragged ≡ is_ragged last force)
+  pub loose : p.ragged ≡ true
+      → IsPlace (length columns) (reach_at column_reach columns) gaps (length_at column_length columns p.force) p.at
+  pub set : p.ragged ≡ false
+      → IsSet (length columns) (reach_at column_reach columns) gaps (length_at column_length columns) width p.force p.at
+  pub apart : StandApart (length columns) (reach_at column_reach columns) gaps (length_at column_length columns p.force)
+      p.at
 
 -- the columns of a system of the score are justified; its last system is the one that ends with it
 abbrev pub IsPlaced : Score → ℕ → SystemMarks → Placed → Type 0
 IsPlaced s width m p = IsJustified (score_gaps s) width (m.b == s.measures) (system_columns s m) p
 
--- What a score has in measures a to b - 1, set to a width: the columns of the marks that it calls for are justified, and over
--- their abscissas the marks are tilted.
+-- What a score has in measures a to b - 1, set to a width: the columns of the marks that it calls for are justified,
+-- and over their abscissas the marks are tilted.
 pub record IsSetSystem (s : Score) (width a b : ℕ) (m : SystemMarks) (p : Placed) : Type 0 where
   pub flat : SystemMarks
   pub called : IsSystemOf s a b flat
@@ -71,7 +78,8 @@ pub record CanBeSet (s : Score) (width : ℕ) (costs : ℕ → ℕ → Option �
   pub within : b ≤ s.measures
   pub cost : ℕ
   pub costs_so : costs a b ≡ Some cost
-  pub columns : (m : SystemMarks) → IsSystemOf s a b m → HaveForce (score_gaps s) width (b == s.measures) cost (system_columns s m)
+  pub columns : (m : SystemMarks)
+      → IsSystemOf s a b m → HaveForce (score_gaps s) width (b == s.measures) cost (system_columns s m)
 
 -- each span of a breaking, the first of which begins at bar a
 abbrev pub AllSpans : (ℕ → ℕ → Type 0) → ℕ → List ℕ → Type 0

@@ -84,13 +84,18 @@ fn lay_out_measures<R: Threads + Sync>(
     requires drawn { All (λ v. AreGoodMeasures v.measures) voices.old }
     ensures form { IfOk result (λ l. AreSpans measured.now.score.now.measures l.spans) }
     ensures spans { IfOk result (λ l. AreSpansOf measured.now.score.now measured.now.width l.spans) }
-    ensures chosen { IfOk result (λ l. IsChosen (listed l.spans) (is_forced_in measured.now.score.now) measured.now.score.now.measures l.breaking.breaks) }
+    ensures chosen { IfOk result (λ l.
+        IsChosen (listed l.spans) (is_forced_in measured.now.score.now) measured.now.score.now.measures
+        l.breaking.breaks) }
     ensures total { IfOk result (λ l. l.breaking.total ≡ sum_from (listed l.spans) 0 l.breaking.breaks) }
-    ensures least { IfOk result (λ l. IsLeastBreaking measured.now.score.now measured.now.width l.breaking.breaks l.breaking.total) }
+    ensures least { IfOk result
+        (λ l. IsLeastBreaking measured.now.score.now measured.now.width l.breaking.breaks l.breaking.total) }
     ensures one_each { IfOk result (λ l. length l.breaking.potentials ≡ measured.now.score.now.measures + 1) }
     ensures potentials { IfOk result (λ l. (i : ℕ) → i ≤ measured.now.score.now.measures
-        → IsPotential (listed l.spans) (is_forced_in measured.now.score.now) i (slice_index_or l.breaking.potentials i Option.None)) }
-    ensures systems { IfOk result (λ l. EachSpan (IsSetSystem measured.now.score.now measured.now.width) 0 l.breaking.breaks l.systems l.placed) }
+        → IsPotential (listed l.spans) (is_forced_in measured.now.score.now) i
+        (slice_index_or l.breaking.potentials i Option.None)) }
+    ensures systems { IfOk result
+        (λ l. EachSpan (IsSetSystem measured.now.score.now measured.now.width) 0 l.breaking.breaks l.systems l.placed) }
     ensures heights { IfOk result (λ l. Beside (IsStack measured.now.score.now) l.systems l.heights) }
     ensures texts { IfOk result (λ l. All (λ m. All (λ staff. AreGoodMarks staff.marks) m.staves) l.systems) }
     ensures no_way { IfErr result (IsCauseIn measured.now.score.now measured.now.width) }
@@ -144,7 +149,8 @@ pub fn lay_out<R: Threads + Sync>(
     requires heard { 0 < s.now.measures → 1 ≤ length s.now.voices }
     ensures form { IfOk result (λ l. AreSpans s.now.measures l.spans) }
     ensures spans { IfOk result (λ l. AreSpansOf s.now width l.spans) }
-    ensures chosen { IfOk result (λ l. IsChosen (listed l.spans) (is_forced_in s.now) s.now.measures l.breaking.breaks) }
+    ensures chosen { IfOk result
+        (λ l. IsChosen (listed l.spans) (is_forced_in s.now) s.now.measures l.breaking.breaks) }
     ensures total { IfOk result (λ l. l.breaking.total ≡ sum_from (listed l.spans) 0 l.breaking.breaks) }
     ensures least { IfOk result (λ l. IsLeastBreaking s.now width l.breaking.breaks l.breaking.total) }
     ensures one_each { IfOk result (λ l. length l.breaking.potentials ≡ s.now.measures + 1) }

@@ -90,7 +90,8 @@ fn set_system(
     requires bars { length spans.now.rows.rows ≡ measured.now.score.now.measures }
     requires fits { CanBeSet measured.now.score.now measured.now.width (listed spans.now.list) a b }
     ensures kept { voices.new ≡ voices.old }
-    ensures system { IfOk result (λ set. IsSetSystem measured.now.score.now measured.now.width a b set.marks set.placed) }
+    ensures system { IfOk result
+        (λ set. IsSetSystem measured.now.score.now measured.now.width a b set.marks set.placed) }
     ensures heights { IfOk result (λ set. IsStack measured.now.score.now set.marks set.heights) }
     ensures good { IfOk result (λ set. All (λ staff. AreGoodMarks staff.marks) set.marks.staves) }
 {
@@ -137,7 +138,8 @@ pub(crate) fn set_systems(
     requires drawn { All (λ v. AreGoodMeasures v.measures) voices.old }
     requires bars { length spans.now.rows.rows ≡ measured.now.score.now.measures }
     requires fits { AllSpans (CanBeSet measured.now.score.now measured.now.width (listed spans.now.list)) 0 breaks.now }
-    ensures systems { IfOk result (λ r. EachSpan (IsSetSystem measured.now.score.now measured.now.width) 0 breaks.now r.marks r.placed) }
+    ensures systems { IfOk result
+        (λ r. EachSpan (IsSetSystem measured.now.score.now measured.now.width) 0 breaks.now r.marks r.placed) }
     ensures heights { IfOk result (λ r. Beside (IsStack measured.now.score.now) r.marks r.heights) }
     ensures good { IfOk result (λ r. All (λ m. All (λ staff. AreGoodMarks staff.marks) m.staves) r.marks) }
 {

@@ -7,4 +7,6 @@ pub one_row : (a : ℕ) (row other : List ℕ) → row ≡ a ∷ [] → other �
 one_row a row other h k = h ∙ sym k
 
 pub row_small : (a : ℕ) (row : List ℕ) → a < 2 → row ≡ a ∷ [] → All (λ v. v ≤ 2 ^ 40) row
-row_small a row l h = subst (λ row. All (λ v. v ≤ 2 ^ 40) row) (sym h) (All-cons (λ v. v ≤ 2 ^ 40) a [] (omega arith) (λ k d l. absurd (omega arith)))
+row_small a row l h =
+    subst (λ row. All (λ v. v ≤ 2 ^ 40) row) (sym h)
+    (All-cons (λ v. v ≤ 2 ^ 40) a [] (omega arith) (λ k d l. absurd (omega arith)))

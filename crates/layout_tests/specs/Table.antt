@@ -20,7 +20,8 @@ was_none : (o : Option ℕ) → option_map (λ v. capped_in_table v) o ≡ None 
 was_none None e = refl
 was_none (Some v) e = absurd (none-some (capped_in_table v) (sym e))
 
-pub capped_stop : (rows : List (List ℕ)) (a b c : ℕ) → a < b → b < c → capped_cost rows a b ≡ None → capped_cost rows a c ≡ None
+pub capped_stop : (rows : List (List ℕ)) (a b c : ℕ)
+    → a < b → b < c → capped_cost rows a b ≡ None → capped_cost rows a c ≡ None
 capped_stop rows a b c l m e = rw (rows_stop rows a b c l m (was_none (row_cost rows a b) e)) refl
 
 pub capped_small : (rows : List (List ℕ)) (a b : ℕ) → IfSome (capped_cost rows a b) (λ v. v ≤ 2 ^ 40)

@@ -1,8 +1,8 @@
 //! The calls that a case may name.
 //!
 //! Layout: `place`, `fit`, `within`, `set` and `last` on plain columns, `badness F`, `least` on a table of costs,
-//! `check` on a listing. Pages: `stack`, `fill H` and `even H`; `glyphs`; `glyph`, `words`, `stem`, `beam` and `arc` with a
-//! mark's numbers, `read Y` on lines of marks; `document`, `steps` and `whole`, `pages` and `page`, `hear W` and
+//! `check` on a listing. Pages: `stack`, `fill H` and `even H`; `glyphs`; `glyph`, `words`, `stem`, `beam` and `arc`
+//! with a mark's numbers, `read Y` on lines of marks; `document`, `steps` and `whole`, `pages` and `page`, `hear W` and
 //! `hear W PLACE`. The program: `commands`, `make N`. Streams: `source`, `sink`, `streams`. Rows that wait for each
 //! other: `meetings`.
 

@@ -24,7 +24,8 @@ use Rattle.mus_arcs.proofs.RuleLaws.{arcs_of-by_rule, arcs_of-ties_are}
 abbrev IsBare : ArcEvent → Type 0
 IsBare e = (e.begins == 0 && list_all (λ h. not h.tied) e.heads) ≡ true
 
-untied : (e : ArcEvent) (place : ℕ) (heads : List Head) (next : ArcEvent) → list_all (λ h. not h.tied) heads ≡ true → ties_from e place heads next ≡ []
+untied : (e : ArcEvent) (place : ℕ) (heads : List Head) (next : ArcEvent)
+    → list_all (λ h. not h.tied) heads ≡ true → ties_from e place heads next ≡ []
 untied e place [] next h = refl
 untied e place (head ∷ heads) next h =
     let parts = and_parts (not head.tied) (list_all (λ g. not g.tied) heads) h in
@@ -37,12 +38,15 @@ no_ties e (next ∷ events) h = untied e 0 e.heads next h
 none_of : (events : List ArcEvent) → All IsBare events → arcs_of events ≡ []
 none_of [] h = refl
 none_of (e ∷ events) h =
-    let parts = and_parts (e.begins == 0) (list_all (λ g. not g.tied) e.heads) (All-head IsBare e events h) in rw (eqb-true e.begins 0 parts.0, no_ties e events parts.1) (none_of events (All-tail IsBare e events h))
+    let parts = and_parts (e.begins == 0) (list_all (λ g. not g.tied) e.heads) (All-head IsBare e events h) in
+    rw (eqb-true e.begins 0 parts.0, no_ties e events parts.1) (none_of events (All-tail IsBare e events h))
 
 abbrev AllBare : List Event → Type 0
 AllBare events = All (λ e. is_bare_event e ≡ true) events
 
-layer : (x : Music-F Music) → bare_step (map-Music Music Bool is_bare_music x) ≡ true → AllBare (events_step (map-Music Music (List Event) events_within x))
+layer : (x : Music-F Music)
+    → bare_step (map-Music Music Bool is_bare_music x) ≡ true
+    → AllBare (events_step (map-Music Music (List Event) events_within x))
 layer (Music-F.Note e) h = All-cons (λ d. is_bare_event d ≡ true) e [] h (All-nil (λ d. is_bare_event d ≡ true))
 layer (Music-F.Rest e) h = All-cons (λ d. is_bare_event d ≡ true) e [] h (All-nil (λ d. is_bare_event d ≡ true))
 layer (Music-F.Grace body slash) h = absurd (false≢true h)
@@ -50,21 +54,32 @@ layer (Music-F.Tuplet p q body) h = absurd (false≢true h)
 
 bare_node : (m : Music) → is_bare_music m ≡ true → AllBare (events_within m)
 bare_node = ind-Music (λ m. is_bare_music m ≡ true → AllBare (events_within m)) (λ x y is h.
-    subst AllBare (sym (fold-roll-Music (List Event) events_step x)) (layer x (sym (fold-roll-Music Bool bare_step x) ∙ h)))
+    subst AllBare (sym (fold-roll-Music (List Event) events_step x))
+    (layer x (sym (fold-roll-Music Bool bare_step x) ∙ h)))
 
 bare_body : (body : List Music) → list_all is_bare_music body ≡ true → AllBare (events_in body)
 bare_body [] h = All-nil (λ e. is_bare_event e ≡ true)
-bare_body (m ∷ ms) h = let parts = and_parts (is_bare_music m) (list_all is_bare_music ms) h in All-append (λ e. is_bare_event e ≡ true) (events_within m) (events_in ms) (bare_node m parts.0) (bare_body ms parts.1)
+bare_body (m ∷ ms) h =
+    let parts = and_parts (is_bare_music m) (list_all is_bare_music ms) h in
+    All-append (λ e. is_bare_event e ≡ true) (events_within m) (events_in ms) (bare_node m parts.0)
+    (bare_body ms parts.1)
 
-all_bare : (number : ℕ) (ms : List Measure) → list_all (λ m. list_all is_bare_music m.body) ms ≡ true → All IsBare (walked_from number ms)
+all_bare : (number : ℕ) (ms : List Measure)
+    → list_all (λ m. list_all is_bare_music m.body) ms ≡ true → All IsBare (walked_from number ms)
 all_bare number [] h = All-nil IsBare
 all_bare number (m ∷ ms) h =
     let parts = and_parts (list_all is_bare_music m.body) (list_all (λ n. list_all is_bare_music n.body) ms) h in
     All-append IsBare (map (at_measure number) (events_in m.body)) (walked_from (suc number) ms)
-    (All-map IsBare (at_measure number) (events_in m.body) (bare_body m.body parts.0)) (all_bare (suc number) ms parts.1)
+    (All-map IsBare (at_measure number) (events_in m.body) (bare_body m.body parts.0))
+    (all_bare (suc number) ms parts.1)
 
-pub no_arcs : (v : Voice) → list_all (λ m. list_all is_bare_music m.body) v.measures ≡ true → arcs_of (events_of_voice v) ≡ []
+pub no_arcs : (v : Voice)
+    → list_all (λ m. list_all is_bare_music m.body) v.measures ≡ true → arcs_of (events_of_voice v) ≡ []
 no_arcs v h = ap arcs_of (sym (walked 0 v.measures)) ∙ none_of (walked_from 0 v.measures) (all_bare 0 v.measures h)
 
-pub are_arcs : (v : Voice) (arcs : List Arc) → IsGoodVoice v → arcs ≡ arcs_of (events_of_voice v) → AreArcsOf (events_of_voice v) arcs
-are_arcs v arcs good e = let all = events_of_voice v in subst (AreArcsOf all) (sym e) (record { slurs_are = arcs_of-by_rule all; ties_are = arcs_of-ties_are all; in_order = voice-in_order v good })
+pub are_arcs : (v : Voice) (arcs : List Arc)
+    → IsGoodVoice v → arcs ≡ arcs_of (events_of_voice v) → AreArcsOf (events_of_voice v) arcs
+are_arcs v arcs good e =
+    let all = events_of_voice v in
+    subst (AreArcsOf all) (sym e)
+    (record { slurs_are = arcs_of-by_rule all; ties_are = arcs_of-ties_are all; in_order = voice-in_order v good })

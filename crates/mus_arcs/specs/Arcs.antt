@@ -21,7 +21,8 @@ slur_copies (suc n) at = at ∷ slur_copies n at
 abbrev pub slur : SlurEnd → SlurEnd → List Arc
 slur start end =
     if start.event == end.event then []
-    else record { tie = false; first = start.event; last = end.event; head = 0; from = start.measure; to = end.measure } ∷ []
+    else record { tie = false; first = start.event; last = end.event; head = 0; from = start.measure; to = end.measure }
+    ∷ []
 
 -- starts and ends that pair in their order, until one of them has no more
 abbrev pub slurs : List SlurEnd → List SlurEnd → List Arc
@@ -33,7 +34,9 @@ slurs (start ∷ starts) (end ∷ ends) = slur start end ++ slurs starts ends
 -- last start that is not taken. `starts` are those not taken before these events, the last first.
 abbrev pub slurs_by_ends : List SlurEnd → List ArcEvent → List Arc
 slurs_by_ends starts [] = []
-slurs_by_ends starts (e ∷ events) = let unpaired = slur_copies e.begins (spot e) ++ starts in slurs unpaired (slur_copies e.ends (spot e)) ++ slurs_by_ends (drop e.ends unpaired) events
+slurs_by_ends starts (e ∷ events) =
+    let unpaired = slur_copies e.begins (spot e) ++ starts in
+    slurs unpaired (slur_copies e.ends (spot e)) ++ slurs_by_ends (drop e.ends unpaired) events
 
 abbrev pub has_pitch : Pitch → Head → Bool
 has_pitch p head = same_letter head.pitch.letter p.letter && int_eq head.pitch.octave p.octave
@@ -42,7 +45,8 @@ has_pitch p head = same_letter head.pitch.letter p.letter && int_eq head.pitch.o
 abbrev pub tie : ArcEvent → ℕ → Head → ArcEvent → List Arc
 tie e place head next =
     if head.tied && list_any (has_pitch head.pitch) next.heads
-    then record { tie = true; first = e.event; last = next.event; head = place; from = e.measure; to = next.measure } ∷ []
+    then record { tie = true; first = e.event; last = next.event; head = place; from = e.measure; to = next.measure }
+    ∷ []
     else []
 
 -- the ties of heads, of which the first has this place

@@ -19,7 +19,8 @@ body_events body = map (λ f. f.event) (flats_of body)
 -- the events of measures, of which the first has this number
 abbrev pub events_from : ℕ → List Measure → List ArcEvent
 events_from number [] = []
-events_from number (measure ∷ measures) = map (at_measure number) (body_events measure.body) ++ events_from (suc number) measures
+events_from number (measure ∷ measures) =
+    map (at_measure number) (body_events measure.body) ++ events_from (suc number) measures
 
 abbrev pub events_of_voice : Voice → List ArcEvent
 events_of_voice v = events_from 0 v.measures
@@ -43,7 +44,8 @@ events_in body = join (map events_within body)
 
 abbrev pub walked_from : ℕ → List Measure → List ArcEvent
 walked_from number [] = []
-walked_from number (measure ∷ measures) = map (at_measure number) (events_in measure.body) ++ walked_from (suc number) measures
+walked_from number (measure ∷ measures) =
+    map (at_measure number) (events_in measure.body) ++ walked_from (suc number) measures
 
 -- an event at which neither a slur nor a tie begins
 abbrev pub is_bare_event : Event → Bool

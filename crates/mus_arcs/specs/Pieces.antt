@@ -16,4 +16,7 @@ pub record Touches (arc : Arc) (a b : ℕ) : Type 0 where
 
 -- the piece there, cut at the left where the arc begins before the system, and at the right where it ends behind it
 unfoldable pub piece_of : Arc → ℕ → ℕ → Option Piece
-piece_of arc a b = if nat_lt arc.from b && nat_le a arc.to then Some (record { cut_left = nat_lt arc.from a; cut_right = nat_le b arc.to }) else None
+piece_of arc a b =
+    if nat_lt arc.from b && nat_le a arc.to
+    then Some (record { cut_left = nat_lt arc.from a; cut_right = nat_le b arc.to })
+    else None

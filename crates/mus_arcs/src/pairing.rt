@@ -73,7 +73,9 @@ fn put_arcs(
     requires heads { length event.now.heads ≤ 50000 }
     requires ends { reverse ends.old.items ≡ open_ends behind.now }
     ensures ends { OnOk result (reverse ends.new.items ≡ open_ends (event.now ∷ behind.now)) }
-    ensures arcs { OnOk result (backwards.new.items ≡ backwards.old.items ++ reverse (slurs_at event.now behind.now ++ ties_at event.now behind.now)) }
+    ensures arcs { OnOk result
+        (backwards.new.items
+        ≡ backwards.old.items ++ reverse (slurs_at event.now behind.now ++ ties_at event.now behind.now)) }
 {
     put_ties(event, behind, backwards)?;
     let at = spot_of(event);
@@ -110,7 +112,8 @@ fn put_slurs(
     backwards: &mut Vec<Arc>,
 ) -> Result<(), Memory>
     ensures left { OnOk result (reverse ends.new.items ≡ drop count (reverse ends.old.items)) }
-    ensures put { OnOk result (backwards.new.items ≡ backwards.old.items ++ slurs (slur_copies count start) (reverse ends.old.items)) }
+    ensures put { OnOk result
+        (backwards.new.items ≡ backwards.old.items ++ slurs (slur_copies count start) (reverse ends.old.items)) }
 {
     'times: for _n in 0..count {
         let Some(end) = ends.pop() else {

@@ -36,11 +36,13 @@ right_key lengths b piece m e = if piece.cut_right then bar_key lengths (b - 1) 
 abbrev pub arc_between : List ℕ → ℕ → ℕ → Piece → Arc → Option DrawnEvent → Option DrawnEvent → List Bridge
 arc_between lengths a b piece arc None last = []
 arc_between lengths a b piece arc (Some e) None = []
-arc_between lengths a b piece arc (Some e) (Some f) = arc_mark (left_key a piece arc.from e) (right_key lengths b piece arc.to f) piece arc (seen_of e) (seen_of f) ∷ []
+arc_between lengths a b piece arc (Some e) (Some f) =
+    arc_mark (left_key a piece arc.from e) (right_key lengths b piece arc.to f) piece arc (seen_of e) (seen_of f) ∷ []
 
 abbrev pub piece_between : List ℕ → ℕ → ℕ → List DrawnMeasure → Arc → Option Piece → List Bridge
 piece_between lengths a b ds arc None = []
-piece_between lengths a b ds arc (Some piece) = arc_between lengths a b piece arc (event_at ds arc.from arc.first) (event_at ds arc.to arc.last)
+piece_between lengths a b ds arc (Some piece) =
+    arc_between lengths a b piece arc (event_at ds arc.from arc.first) (event_at ds arc.to arc.last)
 
 -- what the system of measures a to b - 1 has of an arc; ds are all measures of the voice
 abbrev pub arc_in : List ℕ → ℕ → ℕ → List DrawnMeasure → Arc → List Bridge

@@ -28,7 +28,9 @@ last_at k p (q ∷ qs) = if goes_on_at_level k p q then last_at k q qs else p
 
 -- level k of the run from p to q: no beam where that is one event
 unfoldable pub level_from : ℕ → BeamStem → BeamStem → List Bridge
-level_from k p q = if same_key p.key q.key then [] else beam (way_of p.up) p.key q.key (lower_edge p.up p.to k) (lower_edge q.up q.to k) ∷ []
+level_from k p q =
+    if same_key p.key q.key then []
+    else beam (way_of p.up) p.key q.key (lower_edge p.up p.to k) (lower_edge q.up q.to k) ∷ []
 
 -- n levels from k on of the runs that begin at p
 abbrev pub levels_from : ℕ → ℕ → BeamStem → List BeamStem → List Bridge

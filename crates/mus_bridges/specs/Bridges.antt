@@ -24,7 +24,9 @@ beams_between m (d ∷ ds) = beam_marks (map (beam_stem_at m) d.events) ++ beams
 -- the beam of the graces before an event, from the column of the first to that of the last
 abbrev pub beam_over : ℕ → DrawnEvent → List Event → List Bridge
 beam_over m e [] = []
-beam_over m e (g ∷ gs) = grace_beam (key_at m e.tick Class.Grace 0) (key_at m e.tick Class.Grace (length gs)) (group_of e.clef e.flat.graces e.flat.slash)
+beam_over m e (g ∷ gs) =
+    grace_beam (key_at m e.tick Class.Grace 0) (key_at m e.tick Class.Grace (length gs))
+    (group_of e.clef e.flat.graces e.flat.slash)
 
 abbrev pub event_grace_beam : ℕ → DrawnEvent → List Bridge
 event_grace_beam m e = beam_over m e e.flat.graces

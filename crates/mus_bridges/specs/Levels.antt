@@ -1,5 +1,6 @@
--- The levels of beams. Level k, from 0, of a beam joins each maximal run of neighbours in it that have more than k flags.
--- A run of two events or more is drawn, from its first to its last; a run of one is a stub. What is drawn comes by its first events, and at one event by level.
+-- The levels of beams. Level k, from 0, of a beam joins each maximal run of neighbours in it that have more than k
+-- flags. A run of two events or more is drawn, from its first to its last; a run of one is a stub. What is drawn comes
+-- by its first events, and at one event by level.
 use Rattle.std.specs.Prelude.{◌≡◌, ℕ, ◌+◌, ◌≤◌, Bool, false, ◌&&◌, ◌==◌, nat_lt, ⊤, List, [], ◌∷◌, ◌++◌, map, filter}
 use Rattle.std.specs.List.{AllByRecursion}
 use Rattle.mus_stems.specs.Runs.{AreMaximalRuns}
@@ -42,7 +43,13 @@ LevelsRise k (l ∷ ls) = (k ≤ l.level) × LevelsRise (l.level + 1) ls
 -- some that begin at the first of the events, by level, and then those that begin further on
 abbrev pub ByFirst : List BeamStem → List Level → Type 0
 ByFirst [] ls = ls ≡ []
-ByFirst (e ∷ es) ls = (here : List Level) × (behind : List Level) × (ls ≡ here ++ behind) × AllByRecursion (λ l. l.first ≡ e) here × LevelsRise 0 here × ByFirst es behind
+ByFirst (e ∷ es) ls =
+    (here : List Level)
+    × (behind : List Level)
+    × (ls ≡ here ++ behind)
+    × AllByRecursion (λ l. l.first ≡ e) here
+    × LevelsRise 0 here
+    × ByFirst es behind
 
 -- what is drawn of the levels of the events of a measure
 pub record AreLevels (es : List BeamStem) (ls : List Level) : Type 0 where
@@ -51,7 +58,10 @@ pub record AreLevels (es : List BeamStem) (ls : List Level) : Type 0 where
 
 -- the beam of a level, between the lower edges at its ends
 abbrev pub bridge_of : Level → Bridge
-bridge_of l = let p = l.first in let q = l.last in beam (way_of p.up) p.key q.key (lower_edge p.up p.to l.level) (lower_edge q.up q.to l.level)
+bridge_of l =
+    let p = l.first in
+    let q = l.last in
+    beam (way_of p.up) p.key q.key (lower_edge p.up p.to l.level) (lower_edge q.up q.to l.level)
 
 pub record AreBeams (es : List BeamStem) (marks : List Bridge) : Type 0 where
   pub levels : List Level

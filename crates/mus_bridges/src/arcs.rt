@@ -79,7 +79,11 @@ fn put_arc_between(
     first: Option<&DrawnEvent<'_>>,
     last: Option<&DrawnEvent<'_>>,
 ) -> Result<(), Memory>
-    ensures { OnOk result (out.new ≡ out.old ++ arc_between frame.now.lengths.now frame.now.a frame.now.b piece arc.now (option_copied first.entry) (option_copied last.entry)) }
+    ensures { OnOk result
+        (out.new
+        ≡ out.old
+        ++ arc_between frame.now.lengths.now frame.now.a frame.now.b piece arc.now (option_copied first.entry)
+        (option_copied last.entry)) }
 {
     let (Some(first), Some(last)) = (first, last) else {
         return Ok(());
@@ -96,7 +100,8 @@ fn put_arc_in(
     measures: &[DrawnMeasure<'_>],
     arc: &Arc,
 ) -> Result<(), Memory>
-    ensures { OnOk result (out.new ≡ out.old ++ arc_in frame.now.lengths.now frame.now.a frame.now.b measures.now arc.now) }
+    ensures { OnOk result
+        (out.new ≡ out.old ++ arc_in frame.now.lengths.now frame.now.a frame.now.b measures.now arc.now) }
 {
     match pieces(arc, frame.a, frame.b) {
         None => Ok(()),
@@ -115,7 +120,8 @@ pub(crate) fn put_arcs_between(
     measures: &[DrawnMeasure<'_>],
     arcs: &[Arc],
 ) -> Result<(), Memory>
-    ensures { OnOk result (out.new ≡ out.old ++ arcs_between frame.now.lengths.now frame.now.a frame.now.b measures.now arcs.now) }
+    ensures { OnOk result
+        (out.new ≡ out.old ++ arcs_between frame.now.lengths.now frame.now.a frame.now.b measures.now arcs.now) }
 {
     for arc in arcs {
         put_arc_in(out, frame, measures, arc)?;

@@ -87,7 +87,8 @@ fn put_levels(
     p: BeamStem,
     behind: &[DrawnEvent<'_>],
 ) -> Result<(), Memory>
-    ensures { OnOk result (out.new ≡ out.old ++ levels_from level (flags - level) p (map (beam_stem_at measure) behind.now)) }
+    ensures { OnOk result
+        (out.new ≡ out.old ++ levels_from level (flags - level) p (map (beam_stem_at measure) behind.now)) }
 {
     for k in level..flags {
         put_level(out, k, p, last_at(k, measure, p, behind))?;

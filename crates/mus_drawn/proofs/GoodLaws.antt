@@ -25,11 +25,14 @@ key_after : (key : Key) (new : Option Key) → IsGoodKey key → IfSome new IsGo
 key_after key None good h = good
 key_after key (Some new) good h = h
 
-pub key_behind : (now : StaffState) (fs : List Flat) → IsGoodKey now.key → AllCanDraw fs → IsGoodKey (standing_behind now fs).key
+pub key_behind : (now : StaffState) (fs : List Flat)
+    → IsGoodKey now.key → AllCanDraw fs → IsGoodKey (standing_behind now fs).key
 key_behind now [] good h = good
-key_behind now (f ∷ fs) good h = key_behind (standing_after now f.event.changes) fs (key_after now.key f.event.changes.key good h.0.key) h.1
+key_behind now (f ∷ fs) good h =
+    key_behind (standing_after now f.event.changes) fs (key_after now.key f.event.changes.key good h.0.key) h.1
 
-opening_good : (now : StaffState) (fs : List Flat) → IsGoodKey now.key → AllCanDraw fs → IsGoodKey (opening_of now fs).key
+opening_good : (now : StaffState) (fs : List Flat)
+    → IsGoodKey now.key → AllCanDraw fs → IsGoodKey (opening_of now fs).key
 opening_good now [] good h = good
 opening_good now (f ∷ fs) good h = key_after now.key f.event.changes.key good h.0.key
 
@@ -37,18 +40,25 @@ old_good : (key : Key) (new : Option Key) → IsGoodKey key → AreGoodSigns (ol
 old_good key None good = λ letter. omega arith
 old_good key (Some new) good = good
 
-graces_good : (clef : Clef) (graces : List Event) → All (λ g. All (IsInReach clef) g.heads) graces → head_count graces ≤ 50000 → AllCanGrace clef graces
+graces_good : (clef : Clef) (graces : List Event)
+    → All (λ g. All (IsInReach clef) g.heads) graces → head_count graces ≤ 50000 → AllCanGrace clef graces
 graces_good clef [] h few = tt
 graces_good clef (g ∷ graces) h few =
     let sum = sum_by-cons (λ (e : Event). length e.heads) g graces in (
-      record { near = near_of clef g.heads (All-head (λ e. All (IsInReach clef) e.heads) g graces h); few = omega (arith, sum, few) },
+      record {
+        near = near_of clef g.heads (All-head (λ e. All (IsInReach clef) e.heads) g graces h);
+        few = omega (arith, sum, few);
+      },
       graces_good clef graces (All-tail (λ e. All (IsInReach clef) e.heads) g graces h) (omega (arith, sum, few)),
     )
 
-few_in : (f : Flat) (n : ℕ) → max 1 (length f.event.heads) + head_count f.graces + n ≤ 50000 → head_count f.graces ≤ 50000
+few_in : (f : Flat) (n : ℕ)
+    → max 1 (length f.event.heads) + head_count f.graces + n ≤ 50000 → head_count f.graces ≤ 50000
 few_in f n h = omega (arith, h)
 
-drawn_good : (style : Style) (tick : ℕ) (now : StaffState) (fs : List Flat) (ps : List StemPlan) → IsGoodKey now.key → AreInReach now.clef fs → AllCanDraw fs → AllEndsNear ps → sum_by flat_weight fs ≤ 50000 → sum_by flat_count fs ≤ 50000
+drawn_good : (style : Style) (tick : ℕ) (now : StaffState) (fs : List Flat) (ps : List StemPlan)
+    → IsGoodKey now.key → AreInReach now.clef fs → AllCanDraw fs → AllEndsNear ps → sum_by flat_weight fs ≤ 50000
+    → sum_by flat_count fs ≤ 50000
     → AreGoodDrawn (drawn_events style tick now fs ps)
 drawn_good style tick now [] ps good reach can near few count = tt
 drawn_good style tick now (f ∷ fs) [] good reach can near few count = tt
@@ -58,21 +68,30 @@ drawn_good style tick now (f ∷ fs) (p ∷ ps) good reach can near few count =
       record {
         old = old_good now.key f.event.changes.key good;
         key = can.0.key;
-        graces = graces_good (clef_at now.clef f.event) f.graces reach.1 (few_in f (sum_by flat_weight fs) (omega (arith, weights, few)));
+        graces =
+            graces_good (clef_at now.clef f.event) f.graces reach.1
+            (few_in f (sum_by flat_weight fs) (omega (arith, weights, few)));
         few_graces = omega (arith, counts, count);
         words = can.0.words;
         end = near.0;
       },
-      drawn_good style (tick + f.duration) (standing_after now f.event.changes) fs ps (key_after now.key f.event.changes.key good can.0.key) reach.2 can.1 near.1 (omega (arith, weights, few)) (omega (arith, counts, count)),
+      drawn_good style (tick + f.duration) (standing_after now f.event.changes) fs ps
+          (key_after now.key f.event.changes.key good can.0.key) reach.2 can.1 near.1 (omega (arith, weights, few))
+          (omega (arith, counts, count)),
     )
 
-pub measure_good : (style : Style) (now : StaffState) (fs flats : List Flat) (plans : List StemPlan) (o : SystemOpening) (es : List DrawnEvent) (bar : Bar) → flats ≡ fs → o ≡ opening_of now flats → es ≡ drawn_events style 0 now flats plans
-    → IsGoodKey now.key → AreInReach now.clef fs → AllCanDraw fs → AllEndsNear plans → sum_by flat_weight flats ≤ 50000 → sum_by flat_count flats ≤ 50000 → IsGoodMeasure (record { seat = style.seat; opening = o; events = es; bar = bar })
+pub measure_good : (style : Style) (now : StaffState) (fs flats : List Flat) (plans : List StemPlan) (o : SystemOpening)
+    (es : List DrawnEvent) (bar : Bar)
+    → flats ≡ fs → o ≡ opening_of now flats → es ≡ drawn_events style 0 now flats plans
+    → IsGoodKey now.key → AreInReach now.clef fs → AllCanDraw fs → AllEndsNear plans → sum_by flat_weight flats ≤ 50000
+    → sum_by flat_count flats ≤ 50000
+    → IsGoodMeasure (record { seat = style.seat; opening = o; events = es; bar = bar })
 measure_good style now fs flats plans o es bar same opens made good reach can near few count =
     let can_here = subst AllCanDraw (sym same) can in let reach_here = subst (AreInReach now.clef) (sym same) reach in
     record {
       opening = subst (λ x. IsGoodKey x.key) (sym opens) (opening_good now flats good can_here);
-      events = subst AreGoodDrawn (sym made) (drawn_good style 0 now flats plans good reach_here can_here near few count);
+      events =
+          subst AreGoodDrawn (sym made) (drawn_good style 0 now flats plans good reach_here can_here near few count);
     }
 
 pub can_cut : (fs gs : List Flat) → AllCanDraw (fs ++ gs) → AllCanDraw fs × AllCanDraw gs
@@ -82,4 +101,7 @@ can_cut (f ∷ fs) gs h = let r = can_cut fs gs h.1 in ((h.0, r.0), r.1)
 pub voice_can_draw : (verses : ℕ) (fs : List Flat) → verses ≤ 8 → All (IsGoodEvent verses) fs → AllCanDraw fs
 voice_can_draw verses [] few h = tt
 voice_can_draw verses (f ∷ fs) few h =
-    let own = All-head (IsGoodEvent verses) f fs h in (record { key = own.key; words = omega (arith, few, own.words) }, voice_can_draw verses fs few (All-tail (IsGoodEvent verses) f fs h))
+    let own = All-head (IsGoodEvent verses) f fs h in (
+      record { key = own.key; words = omega (arith, few, own.words) },
+      voice_can_draw verses fs few (All-tail (IsGoodEvent verses) f fs h),
+    )

@@ -13,20 +13,36 @@ use Rattle.mus_drawn.specs.Good.{AllCanDraw}
 use Rattle.mus_drawn.proofs.Reaches.{reach_cut}
 use Rattle.mus_drawn.proofs.GoodLaws.{can_cut}
 
-pub measures_cut : (ms : List Measure) (i : ℕ) (m : Measure) → i < length ms → m ≡ get_or ms i m → drop i ms ≡ m ∷ drop (i + 1) ms
-measures_cut ms i m inside here = let one : suc i ≡ i + 1 = omega arith in drop-cons ms i m inside ∙ ap (λ x. x ∷ drop (suc i) ms) (sym here) ∙ ap (λ n. m ∷ drop n ms) one
+pub measures_cut : (ms : List Measure) (i : ℕ) (m : Measure)
+    → i < length ms → m ≡ get_or ms i m → drop i ms ≡ m ∷ drop (i + 1) ms
+measures_cut ms i m inside here =
+    let one : suc i ≡ i + 1 = omega arith in
+    drop-cons ms i m inside ∙ ap (λ x. x ∷ drop (suc i) ms) (sym here) ∙ ap (λ n. m ∷ drop n ms) one
 
-pub reach_here : (now : StaffState) (ms : List Measure) (i : ℕ) (m : Measure) → i < length ms → m ≡ get_or ms i m → AreInReach now.clef (events_of (drop i ms))
-    → AreInReach now.clef (flats_of m.body) × AreInReach (standing_behind now (flats_of m.body)).clef (events_of (drop (i + 1) ms))
-reach_here now ms i m inside here h = reach_cut now (flats_of m.body) (events_of (drop (i + 1) ms)) (subst (λ x. AreInReach now.clef (events_of x)) (measures_cut ms i m inside here) h)
+pub reach_here : (now : StaffState) (ms : List Measure) (i : ℕ) (m : Measure)
+    → i < length ms → m ≡ get_or ms i m → AreInReach now.clef (events_of (drop i ms))
+    → AreInReach now.clef (flats_of m.body)
+    × AreInReach (standing_behind now (flats_of m.body)).clef (events_of (drop (i + 1) ms))
+reach_here now ms i m inside here h =
+    reach_cut now (flats_of m.body) (events_of (drop (i + 1) ms))
+    (subst (λ x. AreInReach now.clef (events_of x)) (measures_cut ms i m inside here) h)
 
-pub can_here : (ms : List Measure) (i : ℕ) (m : Measure) → i < length ms → m ≡ get_or ms i m → AllCanDraw (events_of (drop i ms)) → AllCanDraw (flats_of m.body) × AllCanDraw (events_of (drop (i + 1) ms))
-can_here ms i m inside here h = can_cut (flats_of m.body) (events_of (drop (i + 1) ms)) (subst (λ x. AllCanDraw (events_of x)) (measures_cut ms i m inside here) h)
+pub can_here : (ms : List Measure) (i : ℕ) (m : Measure)
+    → i < length ms → m ≡ get_or ms i m → AllCanDraw (events_of (drop i ms))
+    → AllCanDraw (flats_of m.body) × AllCanDraw (events_of (drop (i + 1) ms))
+can_here ms i m inside here h =
+    can_cut (flats_of m.body) (events_of (drop (i + 1) ms))
+    (subst (λ x. AllCanDraw (events_of x)) (measures_cut ms i m inside here) h)
 
-pub measures_step : (style : Style) (now first after : StaffState) (ms : List Measure) (i : ℕ) (m : Measure) (d : DrawnMeasure) (out new : List DrawnMeasure) → i < length ms → m ≡ get_or ms i m
+pub measures_step : (style : Style) (now first after : StaffState) (ms : List Measure) (i : ℕ) (m : Measure)
+    (d : DrawnMeasure) (out new : List DrawnMeasure)
+    → i < length ms → m ≡ get_or ms i m
     → new ≡ out ++ d ∷ [] → d ≡ drawn_measure style now m → after ≡ standing_behind now (flats_of m.body)
-    → out ++ drawn_measures style now (drop i ms) ≡ drawn_measures style first ms → new ++ drawn_measures style after (drop (i + 1) ms) ≡ drawn_measures style first ms
+    → out ++ drawn_measures style now (drop i ms) ≡ drawn_measures style first ms
+    → new ++ drawn_measures style after (drop (i + 1) ms) ≡ drawn_measures style first ms
 measures_step style now first after ms i m d out new inside here pushed made behind so_far =
-    ap (λ x. x ++ drawn_measures style after (drop (i + 1) ms)) pushed ∙ append_assoc out (d ∷ []) (drawn_measures style after (drop (i + 1) ms))
-    ∙ ap (λ x. out ++ x ∷ drawn_measures style after (drop (i + 1) ms)) made ∙ ap (λ x. out ++ drawn_measure style now m ∷ drawn_measures style x (drop (i + 1) ms)) behind
+    ap (λ x. x ++ drawn_measures style after (drop (i + 1) ms)) pushed
+    ∙ append_assoc out (d ∷ []) (drawn_measures style after (drop (i + 1) ms))
+    ∙ ap (λ x. out ++ x ∷ drawn_measures style after (drop (i + 1) ms)) made
+    ∙ ap (λ x. out ++ drawn_measure style now m ∷ drawn_measures style x (drop (i + 1) ms)) behind
     ∙ ap (λ x. out ++ drawn_measures style now x) (sym (measures_cut ms i m inside here)) ∙ so_far

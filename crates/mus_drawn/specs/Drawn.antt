@@ -27,7 +27,8 @@ abbrev pub standing_of : Voice → StaffState
 standing_of v = record { clef = v.clef; key = v.key; meter = v.meter }
 
 abbrev pub standing_after : StaffState → Changes → StaffState
-standing_after now ch = record { clef = unwrap_or ch.clef now.clef; key = unwrap_or ch.key now.key; meter = unwrap_or ch.meter now.meter }
+standing_after now ch =
+    record { clef = unwrap_or ch.clef now.clef; key = unwrap_or ch.key now.key; meter = unwrap_or ch.meter now.meter }
 
 abbrev pub standing_behind : StaffState → List Flat → StaffState
 standing_behind now [] = now
@@ -55,12 +56,20 @@ raise_of Seat.Lower = negsuc 999
 
 -- Events, each as long after the beginning as those before it last. `now` is what is in force before the first.
 abbrev pub drawn_event : Style → ℕ → StaffState → Flat → StemPlan → DrawnEvent
-drawn_event style tick now f p = record { seat = style.seat; flat = f; tick = tick; clef = clef_at now.clef f.event; old = old_signs now.key f.event.changes.key; plan = p }
+drawn_event style tick now f p = record {
+  seat = style.seat;
+  flat = f;
+  tick = tick;
+  clef = clef_at now.clef f.event;
+  old = old_signs now.key f.event.changes.key;
+  plan = p;
+}
 
 abbrev pub drawn_events : Style → ℕ → StaffState → List Flat → List StemPlan → List DrawnEvent
 drawn_events style tick now [] ps = []
 drawn_events style tick now (f ∷ fs) [] = []
-drawn_events style tick now (f ∷ fs) (p ∷ ps) = drawn_event style tick now f p ∷ drawn_events style (tick + f.duration) (standing_after now f.event.changes) fs ps
+drawn_events style tick now (f ∷ fs) (p ∷ ps) =
+    drawn_event style tick now f p ∷ drawn_events style (tick + f.duration) (standing_after now f.event.changes) fs ps
 
 -- What a head shows: what is in force at the first event of the measure, or before it where it has none.
 abbrev pub opening_at : StaffState → Bool → SystemOpening
@@ -72,11 +81,24 @@ opening_of now (f ∷ fs) = opening_at (standing_after now f.event.changes) (is_
 
 unfoldable pub drawn_measure : Style → StaffState → Measure → DrawnMeasure
 drawn_measure style now m =
-    let flats = flats_of m.body in record { seat = style.seat; opening = opening_of now flats; events = drawn_events style 0 now flats (stems_of style.wish flats (clefs_from now.clef flats)); bar = m.bar }
+    let flats = flats_of m.body in
+    record {
+      seat = style.seat;
+      opening = opening_of now flats;
+      events = drawn_events style 0 now flats (stems_of style.wish flats (clefs_from now.clef flats));
+      bar = m.bar;
+    }
 
 abbrev pub drawn_measures : Style → StaffState → List Measure → List DrawnMeasure
 drawn_measures style now [] = []
-drawn_measures style now (m ∷ ms) = drawn_measure style now m ∷ drawn_measures style (standing_behind now (flats_of m.body)) ms
+drawn_measures style now (m ∷ ms) =
+    drawn_measure style now m ∷ drawn_measures style (standing_behind now (flats_of m.body)) ms
 
 unfoldable pub drawn_voice : Voice → DrawnVoice
-drawn_voice v = record { seat = v.seat; first = v.first; measures = drawn_measures (style_of v) (standing_of v) v.measures; arcs = arcs_of (events_of_voice v); verses = v.verses }
+drawn_voice v = record {
+  seat = v.seat;
+  first = v.first;
+  measures = drawn_measures (style_of v) (standing_of v) v.measures;
+  arcs = arcs_of (events_of_voice v);
+  verses = v.verses;
+}

@@ -35,11 +35,14 @@ heard_alter None None p said spread signs = alteration_of p None said spread sig
 
 -- a head, behind those of its event so far; said are the heads before it in its measure
 abbrev pub heard : Spread → List Sign → List AlteredHead → List Head → List AlteredHead → Head → AlteredHead
-heard spread signs before said so_far h = record { head = h; alter = heard_alter h.sign (partner_of before so_far h.pitch) h.pitch said spread signs }
+heard spread signs before said so_far h =
+    record { head = h; alter = heard_alter h.sign (partner_of before so_far h.pitch) h.pitch said spread signs }
 
-abbrev pub heard_from : Spread → List Sign → List AlteredHead → List Head → List AlteredHead → List Head → List AlteredHead
+abbrev pub heard_from : Spread
+    → List Sign → List AlteredHead → List Head → List AlteredHead → List Head → List AlteredHead
 heard_from spread signs before said so_far [] = so_far
-heard_from spread signs before said so_far (h ∷ hs) = heard_from spread signs before (said ++ h ∷ []) (so_far ++ heard spread signs before said so_far h ∷ []) hs
+heard_from spread signs before said so_far (h ∷ hs) =
+    heard_from spread signs before (said ++ h ∷ []) (so_far ++ heard spread signs before said so_far h ∷ []) hs
 
 -- the heads that are said in a measure before those of an event, and behind them
 abbrev pub said_at : List Head → Flat → List Head
@@ -50,31 +53,38 @@ said_after said f = said_at said f ++ f.event.heads
 
 -- the heads of an event; before are those of the event before it in its voice
 abbrev pub heard_at : Spread → StaffState → List Head → List AlteredHead → Flat → List AlteredHead
-heard_at spread now said before f = heard_from spread (standing_after now f.event.changes).key.signs before (said_at said f) [] f.event.heads
+heard_at spread now said before f =
+    heard_from spread (standing_after now f.event.changes).key.signs before (said_at said f) [] f.event.heads
 
 abbrev pub heard_behind : Spread → StaffState → List Head → List AlteredHead → List Flat → List AlteredHead
 heard_behind spread now said before [] = before
-heard_behind spread now said before (f ∷ fs) = heard_behind spread (standing_after now f.event.changes) (said_after said f) (heard_at spread now said before f) fs
+heard_behind spread now said before (f ∷ fs) =
+    heard_behind spread (standing_after now f.event.changes) (said_after said f) (heard_at spread now said before f) fs
 
 -- heads from number k on
 abbrev pub sounds_from : ℕ → ℕ → ℕ → List AlteredHead → List Sound
 sounds_from voice event k [] = []
-sounds_from voice event k (x ∷ xs) = record { voice = voice; event = event; head = k; pitch = x.head.pitch; alter = x.alter } ∷ sounds_from voice event (k + 1) xs
+sounds_from voice event k (x ∷ xs) =
+    record { voice = voice; event = event; head = k; pitch = x.head.pitch; alter = x.alter }
+    ∷ sounds_from voice event (k + 1) xs
 
 abbrev pub events_sounds : ℕ → Spread → StaffState → List Head → List AlteredHead → List Flat → List Sound
 events_sounds voice spread now said before [] = []
 events_sounds voice spread now said before (f ∷ fs) =
     sounds_from voice f.event.id 0 (heard_at spread now said before f)
-    ++ events_sounds voice spread (standing_after now f.event.changes) (said_after said f) (heard_at spread now said before f) fs
+    ++ events_sounds voice spread (standing_after now f.event.changes) (said_after said f)
+    (heard_at spread now said before f) fs
 
 -- nothing is said at the beginning of a measure
 abbrev pub measures_sounds : ℕ → Spread → StaffState → List AlteredHead → List Measure → List Sound
 measures_sounds voice spread now before [] = []
 measures_sounds voice spread now before (m ∷ ms) =
     events_sounds voice spread now [] before (flats_of m.body)
-    ++ measures_sounds voice spread (standing_behind now (flats_of m.body)) (heard_behind spread now [] before (flats_of m.body)) ms
+    ++ measures_sounds voice spread (standing_behind now (flats_of m.body))
+    (heard_behind spread now [] before (flats_of m.body)) ms
 
 -- voices from number i on
 abbrev pub voices_sounds : ℕ → Spread → List Voice → List Sound
 voices_sounds i spread [] = []
-voices_sounds i spread (v ∷ vs) = measures_sounds i spread (standing_of v) [] v.measures ++ voices_sounds (i + 1) spread vs
+voices_sounds i spread (v ∷ vs) =
+    measures_sounds i spread (standing_of v) [] v.measures ++ voices_sounds (i + 1) spread vs

@@ -33,7 +33,8 @@ Sounding = List Head → Head → Alter
 -- a tie comes from the first tied head of its letter and octave: how that head sounds, where one of these heads is it
 abbrev pub tied_sound : Sounding → Pitch → List Head → List Head → Option Alter
 tied_sound sound p earlier [] = None
-tied_sound sound p earlier (g ∷ gs) = if g.tied && has_pitch p g then Some (sound earlier g) else tied_sound sound p (earlier ++ g ∷ []) gs
+tied_sound sound p earlier (g ∷ gs) =
+    if g.tied && has_pitch p g then Some (sound earlier g) else tied_sound sound p (earlier ++ g ∷ []) gs
 
 -- it goes to the first head of its letter and octave in the very next event
 abbrev pub comes_tied : Option Alter → Pitch → List Head → Option Alter
@@ -47,7 +48,9 @@ alter_by None None otherwise = otherwise
 -- a head of an event behind those before it in the event, where the events before are seen from it, the nearest first
 abbrev pub sounds_as : Spread → List Seen → Seen → Sounding
 sounds_as spread [] e earlier h = alter_by h.sign None (alteration_of h.pitch None (e.said ++ earlier) spread e.signs)
-sounds_as spread (d ∷ before) e earlier h = alter_by h.sign (comes_tied (tied_sound (sounds_as spread before d) h.pitch [] d.heads) h.pitch earlier) (alteration_of h.pitch None (e.said ++ earlier) spread e.signs)
+sounds_as spread (d ∷ before) e earlier h =
+    alter_by h.sign (comes_tied (tied_sound (sounds_as spread before d) h.pitch [] d.heads) h.pitch earlier)
+    (alteration_of h.pitch None (e.said ++ earlier) spread e.signs)
 
 -- the heads of an event, those of its graces first
 abbrev pub grace_heads : Flat → List Head
@@ -58,7 +61,12 @@ all_heads f = grace_heads f ++ f.event.heads
 
 -- an event behind those before it in its measure, at whose beginning `now` is in force
 abbrev pub seen : StaffState → List Flat → Flat → Seen
-seen now front f = record { id = f.event.id; heads = f.event.heads; said = flat_map all_heads front ++ grace_heads f; signs = (standing_behind now (front ++ f ∷ [])).key.signs }
+seen now front f = record {
+  id = f.event.id;
+  heads = f.event.heads;
+  said = flat_map all_heads front ++ grace_heads f;
+  signs = (standing_behind now (front ++ f ∷ [])).key.signs;
+}
 
 abbrev pub seen_from : StaffState → List Flat → List Flat → List Seen
 seen_from now front [] = []
@@ -71,17 +79,21 @@ seen_in now (m ∷ ms) = seen_from now [] (flats_of m.body) ++ seen_in (standing
 -- heads from number k on
 abbrev pub head_sounds : Sounding → ℕ → ℕ → ℕ → List Head → List Head → List Sound
 head_sounds sound voice event k earlier [] = []
-head_sounds sound voice event k earlier (h ∷ hs) = record { voice = voice; event = event; head = k; pitch = h.pitch; alter = sound earlier h } ∷ head_sounds sound voice event (k + 1) (earlier ++ h ∷ []) hs
+head_sounds sound voice event k earlier (h ∷ hs) =
+    record { voice = voice; event = event; head = k; pitch = h.pitch; alter = sound earlier h }
+    ∷ head_sounds sound voice event (k + 1) (earlier ++ h ∷ []) hs
 
 -- events in a row, behind those before them, the nearest first
 abbrev pub event_sounds : ℕ → Spread → List Seen → List Seen → List Sound
 event_sounds voice spread before [] = []
-event_sounds voice spread before (e ∷ es) = head_sounds (sounds_as spread before e) voice e.id 0 [] e.heads ++ event_sounds voice spread (e ∷ before) es
+event_sounds voice spread before (e ∷ es) =
+    head_sounds (sounds_as spread before e) voice e.id 0 [] e.heads ++ event_sounds voice spread (e ∷ before) es
 
 -- voices from number i on
 abbrev pub voice_sounds : ℕ → Spread → List Voice → List Sound
 voice_sounds i spread [] = []
-voice_sounds i spread (v ∷ vs) = event_sounds i spread [] (seen_in (standing_of v) v.measures) ++ voice_sounds (i + 1) spread vs
+voice_sounds i spread (v ∷ vs) =
+    event_sounds i spread [] (seen_in (standing_of v) v.measures) ++ voice_sounds (i + 1) spread vs
 
 abbrev pub sounds_of : Score → List Sound
 sounds_of s = voice_sounds 0 s.spread s.voices

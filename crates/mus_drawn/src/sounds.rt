@@ -233,7 +233,8 @@ fn put_body(
     body: &[Music],
 ) -> Result<(), Memory>
     requires { IsGoodBody body.now }
-    ensures sounds { OnOk result (out.new ≡ out.old ++ events_sounds voice spread now.old [] before.old (flats_of body.now)) }
+    ensures sounds { OnOk result
+        (out.new ≡ out.old ++ events_sounds voice spread now.old [] before.old (flats_of body.now)) }
     ensures now { OnOk result (now.new ≡ standing_behind now.old (flats_of body.now)) }
     ensures before { OnOk result (before.new ≡ heard_behind spread now.old [] before.old (flats_of body.now)) }
 {

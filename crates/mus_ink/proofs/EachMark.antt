@@ -46,7 +46,8 @@ module _ (P : LaneInk → Type 0) (w : OfMarks P) where
   two : (xs ys : List LaneInk) → AllByRecursion P xs → AllByRecursion P ys → AllByRecursion P (xs ++ ys)
   two = all_append P
 
-  either : (b : Bool) (xs ys : List LaneInk) → AllByRecursion P xs → AllByRecursion P ys → AllByRecursion P (if b then xs else ys)
+  either : (b : Bool) (xs ys : List LaneInk)
+      → AllByRecursion P xs → AllByRecursion P ys → AllByRecursion P (if b then xs else ys)
   either true xs ys p q = p
   either false xs ys p q = q
 
@@ -60,9 +61,13 @@ module _ (P : LaneInk → Type 0) (w : OfMarks P) where
   meter dx None good = tt
   meter dx (Some m) good = w.of_meter dx m good
 
-  pub head : (c : Clef) (ss : List Sign) (m : Option Meter) → IfSome m IsGoodMeter → AllByRecursion P (head_marks c ss m)
+  pub head : (c : Clef) (ss : List Sign) (m : Option Meter)
+      → IfSome m IsGoodMeter → AllByRecursion P (head_marks c ss m)
   unfolding head_marks
-  head c ss m good = (w.of_glyph _ _ _, two (entry_marks c false signature_side 0 ss) _ (entries c false signature_side 0 ss) (meter _ m good))
+  head c ss m good = (
+    w.of_glyph _ _ _,
+    two (entry_marks c false signature_side 0 ss) _ (entries c false signature_side 0 ss) (meter _ m good),
+  )
 
   clef : (c : Option Clef) → AllByRecursion P (clef_if c)
   clef None = tt
@@ -76,11 +81,13 @@ module _ (P : LaneInk → Type 0) (w : OfMarks P) where
   key c first old None = tt
   key c first old (Some k) = new_of c first old k.signs
 
-  pub change : (c : Clef) (old : List Sign) (ch : Changes) → IfSome ch.meter IsGoodMeter → AllByRecursion P (change_marks c old ch)
+  pub change : (c : Clef) (old : List Sign) (ch : Changes)
+      → IfSome ch.meter IsGoodMeter → AllByRecursion P (change_marks c old ch)
   unfolding change_marks
   change c old ch good =
       two (clef_if ch.clef ++ key_if c (behind_clef ch.clef + entry_gap) old ch.key) _
-      (two (clef_if ch.clef) _ (clef ch.clef) (key c (behind_clef ch.clef + entry_gap) old ch.key)) (meter _ ch.meter good)
+      (two (clef_if ch.clef) _ (clef ch.clef) (key c (behind_clef ch.clef + entry_gap) old ch.key))
+      (meter _ ch.meter good)
 
   -- ---- bars
   one_glyph : (b : Bool) (g : Glyph) → AllByRecursion P (glyph_if b g)
@@ -120,7 +127,9 @@ module _ (P : LaneInk → Type 0) (w : OfMarks P) where
   all_heads c base hs p =
       two (sign_marks c hs p.signs ++ ledger_marks p.ledgers ++ note_heads c (head_glyph base) hs p.shifts) _
       (two (sign_marks c hs p.signs ++ ledger_marks p.ledgers) _
-      (two (sign_marks c hs p.signs) _ (signs c hs p.signs) (ledgers p.ledgers)) (heads c (head_glyph base) hs p.shifts)) (dots p.dots)
+      (two (sign_marks c hs p.signs) _ (signs c hs p.signs) (ledgers p.ledgers))
+      (heads c (head_glyph base) hs p.shifts))
+      (dots p.dots)
 
   -- ---- stems
   one_stem : (has up : Bool) (from to : ℤ) → AllByRecursion P (stem_if has up from to)
@@ -138,7 +147,8 @@ module _ (P : LaneInk → Type 0) (w : OfMarks P) where
   ends : (p : StemPlan) (before after : ℕ) → AllByRecursion P (flags_or_stubs p before after)
   unfolding flags_or_stubs
   ends p before after =
-      either ((before == 0) && (after == 0)) (flag_marks p.up p.to 0 p.flags) (stub_marks (before == 0) p.up p.to (max before after) (p.flags - max before after))
+      either ((before == 0) && (after == 0)) (flag_marks p.up p.to 0 p.flags)
+      (stub_marks (before == 0) p.up p.to (max before after) (p.flags - max before after))
       (flags p.up p.to 0 p.flags) (stubs (before == 0) p.up p.to (max before after) (p.flags - max before after))
 
   stems : (p : StemPlan) (before after : ℕ) → AllByRecursion P (stem_marks p before after)
@@ -167,7 +177,8 @@ module _ (P : LaneInk → Type 0) (w : OfMarks P) where
   rest : (raise : ℤ) (look : Look) (base : Base) (n flags : ℕ) → AllByRecursion P (rest_marks raise look base n flags)
   rest raise Look.Unseen base n flags = (w.of_glyph _ _ _, tt)
   rest raise Look.Whole base n flags = (w.of_glyph _ _ _, tt)
-  rest raise Look.Seen base n flags = two (rest_glyphs raise base flags) _ (rest_by raise base flags) (rest_dotted raise 0 n)
+  rest raise Look.Seen base n flags =
+      two (rest_glyphs raise base flags) _ (rest_by raise base flags) (rest_dotted raise 0 n)
 
   -- ---- events
   deco : (dy : ℤ) (g : Option Glyph) → AllByRecursion P (deco_mark dy g)
@@ -176,15 +187,20 @@ module _ (P : LaneInk → Type 0) (w : OfMarks P) where
 
   all_decos : (dy : ℤ) (ds : List Deco) → AllByRecursion P (deco_marks dy ds)
   all_decos dy [] = tt
-  all_decos dy (d ∷ ds) = two (deco_mark dy (deco_glyph d)) _ (deco dy (deco_glyph d)) (all_decos (behind_deco dy (deco_glyph d)) ds)
+  all_decos dy (d ∷ ds) =
+      two (deco_mark dy (deco_glyph d)) _ (deco dy (deco_glyph d)) (all_decos (behind_deco dy (deco_glyph d)) ds)
 
-  body : (c : Clef) (raise : ℤ) (hs : List Head) (e : Event) (p : StemPlan) (before after : ℕ) → AllByRecursion P (body_marks c raise hs e p before after)
+  body : (c : Clef) (raise : ℤ) (hs : List Head) (e : Event) (p : StemPlan) (before after : ℕ)
+      → AllByRecursion P (body_marks c raise hs e p before after)
   body c raise [] e p before after = rest raise e.look e.value.base e.value.dots p.flags
-  body c raise (h ∷ hs) e p before after = two (heads_marks c e.value.base (h ∷ hs) p) _ (all_heads c e.value.base (h ∷ hs) p) (stems p before after)
+  body c raise (h ∷ hs) e p before after =
+      two (heads_marks c e.value.base (h ∷ hs) p) _ (all_heads c e.value.base (h ∷ hs) p) (stems p before after)
 
-  pub note : (c : Clef) (raise : ℤ) (e : Event) (p : StemPlan) (before after : ℕ) → AllByRecursion P (note_marks c raise e p before after)
+  pub note : (c : Clef) (raise : ℤ) (e : Event) (p : StemPlan) (before after : ℕ)
+      → AllByRecursion P (note_marks c raise e p before after)
   unfolding note_marks
-  note c raise e p before after = two (body_marks c raise e.heads e p before after) _ (body c raise e.heads e p before after) (all_decos _ e.decos)
+  note c raise e p before after =
+      two (body_marks c raise e.heads e p before after) _ (body c raise e.heads e p before after) (all_decos _ e.decos)
 
   -- ---- graces
   small_heads : (c : Clef) (hs : List Head) → AllByRecursion P (grace_head_ink c hs)
@@ -197,8 +213,12 @@ module _ (P : LaneInk → Type 0) (w : OfMarks P) where
 
   small_body : (c : Clef) (hs : List Head) → AllByRecursion P (grace_body c hs)
   unfolding grace_body
-  small_body c hs = two (sign_marks c hs _ ++ ledger_marks _) _ (two (sign_marks c hs _) _ (signs c hs _) (ledgers _)) (small_heads c hs)
+  small_body c hs =
+      two (sign_marks c hs _ ++ ledger_marks _) _ (two (sign_marks c hs _) _ (signs c hs _) (ledgers _))
+      (small_heads c hs)
 
   pub grace : (c : Clef) (group : Group) (first : Bool) (g : Event) → AllByRecursion P (grace_marks c group first g)
   unfolding grace_marks
-  grace c group first g = two _ _ (two (grace_body c g.heads) _ (small_body c g.heads) (w.of_stem _ _ _, tt)) (two _ _ (ended group.alone _ group.end) (ended _ _ group.end))
+  grace c group first g =
+      two _ _ (two (grace_body c g.heads) _ (small_body c g.heads) (w.of_stem _ _ _, tt))
+      (two _ _ (ended group.alone _ group.end) (ended _ _ group.end))

@@ -11,7 +11,9 @@ use Rattle.mus_ink.specs.Signatures.{clef_mark, entry_marks, meter_if}
 
 -- the clef, the entries and the meter drawn there
 unfoldable pub head_marks : Clef → List Sign → Option Meter → List LaneInk
-head_marks c signs meter = clef_mark clef_side c ∷ entry_marks c false signature_side 0 signs ++ meter_if (signature_side + entry_step * length signs) meter
+head_marks c signs meter =
+    clef_mark clef_side c ∷ entry_marks c false signature_side 0 signs
+    ++ meter_if (signature_side + entry_step * length signs) meter
 
 abbrev pub clef_if : Option Clef → List LaneInk
 clef_if None = []
@@ -42,4 +44,7 @@ count_if old (Some key) = new_count old key.signs
 
 -- a change: the clef in force there, the old key's signs, and what changes
 unfoldable pub change_marks : Clef → List Sign → Changes → List LaneInk
-change_marks c old changes = let x = behind_clef changes.clef in clef_if changes.clef ++ key_if c (x + entry_gap) old changes.key ++ meter_if (x + entry_step * count_if old changes.key) changes.meter
+change_marks c old changes =
+    let x = behind_clef changes.clef in
+    clef_if changes.clef ++ key_if c (x + entry_gap) old changes.key
+    ++ meter_if (x + entry_step * count_if old changes.key) changes.meter

@@ -47,8 +47,10 @@ deco_marks dy (d ∷ ds) = deco_mark dy (deco_glyph d) ++ deco_marks (behind_dec
 -- a rest, or heads with their stem
 abbrev pub body_marks : Clef → ℤ → List Head → Event → StemPlan → ℕ → ℕ → List LaneInk
 body_marks c raise [] e plan before after = rest_marks raise e.look e.value.base e.value.dots plan.flags
-body_marks c raise (h ∷ hs) e plan before after = heads_marks c e.value.base (h ∷ hs) plan ++ stem_marks plan before after
+body_marks c raise (h ∷ hs) e plan before after =
+    heads_marks c e.value.base (h ∷ hs) plan ++ stem_marks plan before after
 
 -- an event: its clef, how much its rest is raised, its stem plan, and the levels of the events beside it in its beam
 unfoldable pub note_marks : Clef → ℤ → Event → StemPlan → ℕ → ℕ → List LaneInk
-note_marks c raise e plan before after = body_marks c raise e.heads e plan before after ++ deco_marks (first_deco (top_of c e.heads plan)) e.decos
+note_marks c raise e plan before after =
+    body_marks c raise e.heads e plan before after ++ deco_marks (first_deco (top_of c e.heads plan)) e.decos

@@ -53,7 +53,10 @@ at_end false g end = []
 
 -- signs, ledgers and heads
 unfoldable pub grace_body : Clef → List Head → List LaneInk
-grace_body c heads = let stands = map (stand_of c) heads in sign_marks c heads (signs_from (back grace_sign_side) stands) ++ ledger_marks (ledgers_of (low_of stands) (high_of stands)) ++ grace_head_ink c heads
+grace_body c heads =
+    let stands = map (stand_of c) heads in
+    sign_marks c heads (signs_from (back grace_sign_side) stands)
+    ++ ledger_marks (ledgers_of (low_of stands) (high_of stands)) ++ grace_head_ink c heads
 
 -- a grace alone has a flag, and the first of a group its slash
 abbrev pub ends : Group → Bool → List LaneInk
@@ -61,11 +64,13 @@ ends group first = at_end group.alone Glyph.Gf group.end ++ at_end (first && gro
 
 -- one grace of a group
 unfoldable pub grace_marks : Clef → Group → Bool → Event → List LaneInk
-grace_marks c group first g = grace_body c g.heads ++ stem (pos grace_stem_side) (grace_stem_from c g.heads) group.end ∷ [] ++ ends group first
+grace_marks c group first g =
+    grace_body c g.heads ++ stem (pos grace_stem_side) (grace_stem_from c g.heads) group.end ∷ [] ++ ends group first
 
 -- the beam of a group of two graces or more, from the column of the first to that of the last
 unfoldable pub beam_edge : ℤ → ℤ
 beam_edge end = cut_dy (end -ℤ pos beam_thickness)
 
 unfoldable pub grace_beam : ColumnKey → ColumnKey → Group → List Bridge
-grace_beam first last group = if group.alone then [] else beam Way.Grace first last (beam_edge group.end) (beam_edge group.end) ∷ []
+grace_beam first last group =
+    if group.alone then [] else beam Way.Grace first last (beam_edge group.end) (beam_edge group.end) ∷ []

@@ -49,4 +49,6 @@ dot_marks (s ∷ ss) = glyph Glyph.Dt s.dx s.dy ∷ dot_marks ss
 
 -- signs, ledgers, heads and dots
 unfoldable pub heads_marks : Clef → Base → List Head → StemPlan → List LaneInk
-heads_marks c base heads plan = sign_marks c heads plan.signs ++ ledger_marks plan.ledgers ++ note_heads c (head_glyph base) heads plan.shifts ++ dot_marks plan.dots
+heads_marks c base heads plan =
+    sign_marks c heads plan.signs ++ ledger_marks plan.ledgers ++ note_heads c (head_glyph base) heads plan.shifts
+    ++ dot_marks plan.dots

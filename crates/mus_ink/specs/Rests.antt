@@ -36,7 +36,8 @@ rest_glyphs raise base flags = short_rests (rest_row base).glyph (rest_dy raise 
 -- dots, the k-th first
 abbrev pub rest_dots : ℤ → ℕ → ℕ → List LaneInk
 rest_dots raise k zero = []
-rest_dots raise k (suc n) = glyph Glyph.Dt (pos (dot_side + dot_step * k)) (raised raise (pos rest_dot_line)) ∷ rest_dots raise (k + 1) n
+rest_dots raise k (suc n) =
+    glyph Glyph.Dt (pos (dot_side + dot_step * k)) (raised raise (pos rest_dot_line)) ∷ rest_dots raise (k + 1) n
 
 -- an unseen rest has an empty glyph; a rest of a whole measure hangs as a whole rest, whatever it lasts
 abbrev pub rest_marks : ℤ → Look → Base → ℕ → ℕ → List LaneInk

@@ -45,14 +45,17 @@ entry_mark c a l dx = glyph (sign_glyph a) (pos dx) (entry_dy c a l)
 -- entries side by side, the k-th first
 abbrev pub entry_marks : Clef → Bool → ℕ → ℕ → List Sign → List LaneInk
 entry_marks c ends first k [] = []
-entry_marks c ends first k (s ∷ ss) = entry_mark c (shown_alter ends s.alter) s.letter (first + entry_step * k) ∷ entry_marks c ends first (k + 1) ss
+entry_marks c ends first k (s ∷ ss) =
+    entry_mark c (shown_alter ends s.alter) s.letter (first + entry_step * k) ∷ entry_marks c ends first (k + 1) ss
 
 -- two numbers, one above the other, or a sign for 4/4 and 2/2; a free meter has none
 unfoldable pub meter_marks : ℕ → Meter → List LaneInk
 meter_marks dx Meter.Free = []
 meter_marks dx Meter.Common = big_text (pos dx) (pos meter_sign_line) (codes "C") ∷ []
 meter_marks dx Meter.Cut = big_text (pos dx) (pos meter_sign_line) (codes "C|") ∷ []
-meter_marks dx (Meter.Ratio num den) = big_text (pos dx) (pos upper_number_line) (decimal num) ∷ big_text (pos dx) (pos lower_number_line) (decimal den) ∷ []
+meter_marks dx (Meter.Ratio num den) =
+    big_text (pos dx) (pos upper_number_line) (decimal num) ∷ big_text (pos dx) (pos lower_number_line) (decimal den)
+    ∷ []
 
 abbrev pub meter_if : ℕ → Option Meter → List LaneInk
 meter_if dx None = []

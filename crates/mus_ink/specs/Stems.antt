@@ -32,7 +32,8 @@ lower_edge false to k = cut_dy (to +ℤ pos (level_step * k))
 -- a stub goes to the right at the first event of a beam, to the left at others
 abbrev pub stub_marks : Bool → Bool → ℤ → ℕ → ℕ → List LaneInk
 stub_marks first up to k zero = []
-stub_marks first up to k (suc n) = loose_glyph (stub_glyph first) (stem_dx up) (lower_edge up to k) ∷ stub_marks first up to (k + 1) n
+stub_marks first up to k (suc n) =
+    loose_glyph (stub_glyph first) (stem_dx up) (lower_edge up to k) ∷ stub_marks first up to (k + 1) n
 
 -- before and after are the levels of the events at both sides in the beam, 0 for none. An event alone has flags;
 -- in a beam a level that neither side has is a stub

@@ -91,7 +91,9 @@ fn put_body(
     before: u8,
     after: u8,
 ) -> Result<(), Memory>
-    ensures { OnOk result (pen.new ≡ inked pen.old (body_marks clef raise event.now.heads event.now (with_end plan.now to) before after)) }
+    ensures { OnOk result
+        (pen.new
+        ≡ inked pen.old (body_marks clef raise event.now.heads event.now (with_end plan.now to) before after)) }
 {
     match event.heads.as_slice() {
         [] => put_rest(pen, raise, event.look, event.value, plan.flags),
@@ -118,7 +120,8 @@ pub fn put_note(
     before: u8,
     after: u8,
 ) -> Result<(), Memory>
-    ensures { OnOk result (pen.new ≡ inked pen.old (note_marks clef raise event.now (with_end plan.now to) before after)) }
+    ensures { OnOk result
+        (pen.new ≡ inked pen.old (note_marks clef raise event.now (with_end plan.now to) before after)) }
 {
     put_body(pen, clef, raise, event, plan, to, before, after)?;
     match event.decos.as_slice() {

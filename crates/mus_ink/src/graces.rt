@@ -112,7 +112,8 @@ fn put_grace_signs(
 ) -> Result<(), Memory>
     requires near { AllNear stands.now }
     requires few { length stands.now ≤ 50000 }
-    ensures { OnOk result (pen.new ≡ inked pen.old (sign_marks clef heads.now (signs_from (back grace_sign_side) stands.now))) }
+    ensures { OnOk result
+        (pen.new ≡ inked pen.old (sign_marks clef heads.now (signs_from (back grace_sign_side) stands.now))) }
 {
     let signs = signs_for(pen.alloc, -GRACE_SIGN_SIDE, stands)?;
     put_signs(pen, clef, heads, signs.as_slice())
@@ -120,7 +121,8 @@ fn put_grace_signs(
 
 fn put_grace_ledgers(pen: &mut MarkPen, stands: &[HeadPosition]) -> Result<(), Memory>
     requires { AllNear stands.now }
-    ensures { OnOk result (pen.new ≡ inked pen.old (ledger_marks (ledgers_of (low_of stands.now) (high_of stands.now)))) }
+    ensures { OnOk result
+        (pen.new ≡ inked pen.old (ledger_marks (ledgers_of (low_of stands.now) (high_of stands.now)))) }
 {
     let ledgers = ledgers_for(pen.alloc, lowest_head(stands), highest_head(stands))?;
     put_ledgers(pen, ledgers.as_slice())

@@ -62,7 +62,8 @@ fn shown_alter(ends: bool, alter: Alter) -> Alter
 #[tactic(auto, unfolding(crate::specs::Signatures::entry_mark))]
 fn put_entry(pen: &mut MarkPen, clef: Clef, ends: bool, sign: Sign, dx: u32) -> Result<(), Memory>
     requires { dx ≤ 10000 }
-    ensures { OnOk result (pen.new ≡ inked pen.old (entry_mark clef (shown_alter ends sign.alter) sign.letter dx ∷ [])) }
+    ensures { OnOk result
+        (pen.new ≡ inked pen.old (entry_mark clef (shown_alter ends sign.alter) sign.letter dx ∷ [])) }
 {
     let alter = shown_alter(ends, sign.alter);
     let dy = entry_dy(clef, alter, sign.letter);

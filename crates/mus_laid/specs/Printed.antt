@@ -1,4 +1,5 @@
--- The text that is printed for a text: at most 60 characters of it, tabs as spaces, and control characters as question marks.
+-- The text that is printed for a text: at most 60 characters of it, tabs as spaces,
+-- and control characters as question marks.
 use Rattle.std.specs.Prelude.{ℕ, ◌==◌, ◌||◌, ◌&&◌, nat_le, nat_lt, if◌then◌else◌, Bool, List, map, take}
 
 -- below 20 and from 7F to 9F, in hexadecimal

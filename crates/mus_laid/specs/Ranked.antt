@@ -46,8 +46,8 @@ is_rank n (Some r) = n == r
 abbrev pub stands_at_rank : ℕ → Laid → Bool
 stands_at_rank r x = is_rank r (anchor_rank x.mark)
 
--- Lists of marks put together by columns: in each of n columns what stands there of the first list, then of the second, and
--- so on. One list stays as it is.
+-- Lists of marks put together by columns: in each of n columns what stands there of the first list, then of the second,
+-- and so on. One list stays as it is.
 abbrev pub at_rank : List (List Laid) → ℕ → List Laid
 at_rank parts r = flat_map (λ part. filter (stands_at_rank r) part) parts
 
@@ -55,10 +55,12 @@ abbrev pub by_columns : ℕ → List (List Laid) → List Laid
 by_columns n (part ∷ []) = part
 by_columns n parts = flat_map (at_rank parts) (range_with_len 0 n)
 
--- columns from rank r on, with a mark behind what stands in its column; and with the marks of a part, and those of some parts
+-- columns from rank r on, with a mark behind what stands in its column; and with the marks of a part,
+-- and those of some parts
 abbrev pub with_mark : ℕ → Laid → List (List Laid) → List (List Laid)
 with_mark r x [] = []
-with_mark r x (column ∷ columns) = (if stands_at_rank r x then column ++ x ∷ [] else column) ∷ with_mark (r + 1) x columns
+with_mark r x (column ∷ columns) =
+    (if stands_at_rank r x then column ++ x ∷ [] else column) ∷ with_mark (r + 1) x columns
 
 abbrev pub with_part : List Laid → List (List Laid) → List (List Laid)
 with_part [] columns = columns

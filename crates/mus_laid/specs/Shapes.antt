@@ -1,5 +1,5 @@
--- What of a mark doesn't hang on how far stems reach: its kind, its column or columns, its lane, where it stands beside its
--- column, and what it shows. Its heights are left out.
+-- What of a mark doesn't hang on how far stems reach: its kind, its column or columns, its lane, where it stands beside
+-- its column, and what it shows. Its heights are left out.
 use Rattle.std.specs.Prelude.{◌≡◌, pos, List, map}
 use Rattle.mus_laid.specs.declared.laid.{Laid.Laid, Mark.Mark, StaffMarks.StaffMarks, SystemMarks.SystemMarks}
 

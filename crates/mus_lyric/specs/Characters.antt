@@ -21,4 +21,5 @@ is_escaped byte next = byte == 92 && next == 45
 abbrev pub characters : List ℕ → List Character
 characters [] = []
 characters (byte ∷ []) = character_of byte ∷ []
-characters (byte ∷ next ∷ more) = if is_escaped byte next then Printed 45 ∷ characters more else character_of byte ∷ characters (next ∷ more)
+characters (byte ∷ next ∷ more) =
+    if is_escaped byte next then Printed 45 ∷ characters more else character_of byte ∷ characters (next ∷ more)

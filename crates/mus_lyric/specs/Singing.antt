@@ -33,10 +33,14 @@ pub record Takes (count : ℕ) (notes : List NoteAt) (note : NoteAt) (left : Lis
 -- plus one for each bar sign since. What finds no note is dropped.
 pub data Sings : ℕ → List NoteAt → List Syl → List Sung → Type 0 where
   ends : (count : ℕ) (notes : List NoteAt) → Sings count notes [] []
-  bar : (count : ℕ) (notes : List NoteAt) (syls : List Syl) (sung : List Sung) → Sings (count + 1) notes syls sung → Sings count notes (Bar ∷ syls) sung
-  takes : (count : ℕ) (notes : List NoteAt) (syl : Syl) (syls : List Syl) (note : NoteAt) (left : List NoteAt) (sung : List Sung) →
-      TakesNote syl → Takes count notes note left → Sings note.measure left syls sung → Sings count notes (syl ∷ syls) (with_sung syl note sung)
-  dropped : (count : ℕ) (notes : List NoteAt) (syl : Syl) (syls : List Syl) (sung : List Sung) → TakesNote syl → AreBefore count notes → Sings count notes syls sung → Sings count notes (syl ∷ syls) sung
+  bar : (count : ℕ) (notes : List NoteAt) (syls : List Syl) (sung : List Sung)
+      → Sings (count + 1) notes syls sung → Sings count notes (Bar ∷ syls) sung
+  takes : (count : ℕ) (notes : List NoteAt) (syl : Syl) (syls : List Syl) (note : NoteAt) (left : List NoteAt)
+      (sung : List Sung)
+      → TakesNote syl → Takes count notes note left → Sings note.measure left syls sung
+      → Sings count notes (syl ∷ syls) (with_sung syl note sung)
+  dropped : (count : ℕ) (notes : List NoteAt) (syl : Syl) (syls : List Syl) (sung : List Sung)
+      → TakesNote syl → AreBefore count notes → Sings count notes syls sung → Sings count notes (syl ∷ syls) sung
 
 -- the count begins at the measure of the first note
 abbrev pub first_measure : List NoteAt → ℕ
@@ -60,7 +64,9 @@ on_first goes (note ∷ notes) = goes note notes
 
 abbrev pub sung_from : List Syl → ℕ → List NoteAt → List Sung
 sung_from [] count notes = []
-sung_from (Print text ∷ syls) count notes = on_first (λ note left. record { event = note.event; text = text } ∷ sung_from syls note.measure left) (notes_from count notes)
+sung_from (Print text ∷ syls) count notes =
+    on_first (λ note left. record { event = note.event; text = text } ∷ sung_from syls note.measure left)
+    (notes_from count notes)
 sung_from (Skip ∷ syls) count notes = on_first (λ note left. sung_from syls note.measure left) (notes_from count notes)
 sung_from (Bar ∷ syls) count notes = sung_from syls (count + 1) notes
 

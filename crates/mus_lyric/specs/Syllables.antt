@@ -25,12 +25,20 @@ printed_run run = map Printed run
 pub data SpellsSyllables : List Character → List Syl → Type 0 where
   nothing : SpellsSyllables [] []
   blank : (more : List Character) (syls : List Syl) → SpellsSyllables more syls → SpellsSyllables (Blank ∷ more) syls
-  word : (first : ℕ) (run : List ℕ) (more : List Character) (syls : List Syl) → EndsRun more → SpellsSyllables more syls → SpellsSyllables (Printed first ∷ printed_run run ++ more) (syl.Print (first ∷ run) ∷ syls)
-  hyphened : (first : ℕ) (run : List ℕ) (more : List Character) (syls : List Syl) → SpellsSyllables more syls → SpellsSyllables (Printed first ∷ printed_run run ++ Hyphen ∷ more) (syl.Print (first ∷ run ++ 45 ∷ []) ∷ syls)
-  hyphen : (more : List Character) (syls : List Syl) → SpellsSyllables more syls → SpellsSyllables (Hyphen ∷ more) (syl.Print (45 ∷ []) ∷ syls)
-  underscore : (more : List Character) (syls : List Syl) → SpellsSyllables more syls → SpellsSyllables (Underscore ∷ more) (syl.Print (95 ∷ []) ∷ syls)
-  star : (more : List Character) (syls : List Syl) → SpellsSyllables more syls → SpellsSyllables (Star ∷ more) (syl.Skip ∷ syls)
-  bar : (more : List Character) (syls : List Syl) → SpellsSyllables more syls → SpellsSyllables (BarLine ∷ more) (syl.Bar ∷ syls)
+  word : (first : ℕ) (run : List ℕ) (more : List Character) (syls : List Syl)
+      → EndsRun more → SpellsSyllables more syls
+      → SpellsSyllables (Printed first ∷ printed_run run ++ more) (syl.Print (first ∷ run) ∷ syls)
+  hyphened : (first : ℕ) (run : List ℕ) (more : List Character) (syls : List Syl)
+      → SpellsSyllables more syls
+      → SpellsSyllables (Printed first ∷ printed_run run ++ Hyphen ∷ more) (syl.Print (first ∷ run ++ 45 ∷ []) ∷ syls)
+  hyphen : (more : List Character) (syls : List Syl)
+      → SpellsSyllables more syls → SpellsSyllables (Hyphen ∷ more) (syl.Print (45 ∷ []) ∷ syls)
+  underscore : (more : List Character) (syls : List Syl)
+      → SpellsSyllables more syls → SpellsSyllables (Underscore ∷ more) (syl.Print (95 ∷ []) ∷ syls)
+  star : (more : List Character) (syls : List Syl)
+      → SpellsSyllables more syls → SpellsSyllables (Star ∷ more) (syl.Skip ∷ syls)
+  bar : (more : List Character) (syls : List Syl)
+      → SpellsSyllables more syls → SpellsSyllables (BarLine ∷ more) (syl.Bar ∷ syls)
 
 -- the syllables of a line of words
 abbrev pub AreSyllablesOf : List ℕ → List Syl → Type 0

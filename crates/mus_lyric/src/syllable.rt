@@ -45,7 +45,9 @@ fn put_character(
     run: &mut Text,
     syls: &mut Row<Syl>,
 ) -> Result<(), Memory>
-    ensures { OnOk result ((more : List Character) → syls.new ++ behind_run run.new more ≡ syls.old ++ behind_run run.old (character ∷ more)) }
+    ensures { OnOk result
+        ((more : List Character)
+        → syls.new ++ behind_run run.new more ≡ syls.old ++ behind_run run.old (character ∷ more)) }
 {
     match character {
         Character::Printed(byte) => {

@@ -18,24 +18,43 @@ over_own f g [] = refl
 over_own f g (x ∷ xs) = ap (λ t. f (g x) x ∷ t) (over_own f g xs)
 
 module _ (keys : List ColumnKey) (at : List ℤ) (a b : ℕ) where
-  pub all_tilted : (vs ws : List DrawnVoice) (ends : List (List (List ℤ))) → ws ≡ over (voice_ended a) ends vs → ends ≡ map (λ v. sloped_over keys at a (slice_range v.measures a b)) vs → ws ≡ map (voice_tilted keys at a b) vs
-  all_tilted vs ws ends is are = is ∙ ap (λ es. over (voice_ended a) es vs) are ∙ over_own (voice_ended a) (λ v. sloped_over keys at a (slice_range v.measures a b)) vs
+  pub all_tilted : (vs ws : List DrawnVoice) (ends : List (List (List ℤ)))
+      → ws ≡ over (voice_ended a) ends vs
+      → ends ≡ map (λ v. sloped_over keys at a (slice_range v.measures a b)) vs
+      → ws ≡ map (voice_tilted keys at a b) vs
+  all_tilted vs ws ends is are =
+      is
+      ∙ ap (λ es. over (voice_ended a) es vs) are
+      ∙ over_own (voice_ended a) (λ v. sloped_over keys at a (slice_range v.measures a b)) vs
 
-  pub tilted_count : (n : ℕ) (vs ws : List DrawnVoice) → ws ≡ map (voice_tilted keys at a b) vs → All (λ v. length v.measures ≡ n) vs → All (λ v. length v.measures ≡ n) ws
+  pub tilted_count : (n : ℕ) (vs ws : List DrawnVoice)
+      → ws ≡ map (voice_tilted keys at a b) vs → All (λ v. length v.measures ≡ n) vs
+      → All (λ v. length v.measures ≡ n) ws
   tilted_count n vs ws is each =
-      subst (All (λ v. length v.measures ≡ n)) (sym is) (All-map (λ v. length v.measures ≡ n) (voice_tilted keys at a b) vs
-      (λ k d inside. let v = slice_index_or vs k d in ended_length a (sloped_over keys at a (slice_range v.measures a b)) v ∙ each k d inside))
+      subst (All (λ v. length v.measures ≡ n)) (sym is)
+      (All-map (λ v. length v.measures ≡ n) (voice_tilted keys at a b) vs
+      (λ k d inside.
+      let v = slice_index_or vs k d in
+      ended_length a (sloped_over keys at a (slice_range v.measures a b)) v ∙ each k d inside))
 
-  pub tilted_goods : (vs ws : List DrawnVoice) → ws ≡ map (voice_tilted keys at a b) vs → All (λ v. AreGoodMeasures v.measures) vs → All (λ v. AreGoodMeasures v.measures) ws
+  pub tilted_goods : (vs ws : List DrawnVoice)
+      → ws ≡ map (voice_tilted keys at a b) vs → All (λ v. AreGoodMeasures v.measures) vs
+      → All (λ v. AreGoodMeasures v.measures) ws
   tilted_goods vs ws is good =
-      subst (All (λ v. AreGoodMeasures v.measures)) (sym is) (All-map (λ v. AreGoodMeasures v.measures) (voice_tilted keys at a b) vs
-      (λ k d inside. let v = slice_index_or vs k d in ended_good a (sloped_over keys at a (slice_range v.measures a b)) v (good k d inside)))
+      subst (All (λ v. AreGoodMeasures v.measures)) (sym is)
+      (All-map (λ v. AreGoodMeasures v.measures) (voice_tilted keys at a b) vs
+      (λ k d inside.
+      let v = slice_index_or vs k d in
+      ended_good a (sloped_over keys at a (slice_range v.measures a b)) v (good k d inside)))
 
   pub tilted_verses : (vs ws : List DrawnVoice) → ws ≡ map (voice_tilted keys at a b) vs → verses_on ws ≡ verses_on vs
   tilted_verses vs ws is = ap verses_on is ∙ ap sum (map-map (λ v. v.verses) (voice_tilted keys at a b) vs)
 
   -- the staves of tilted voices are the tilted staves
-  pub staves_tilted : (lengths : List ℕ) (vs : List DrawnVoice) → map (staff_marks keys lengths a b) (grouped is_drawn_lower (map (voice_tilted keys at a b) vs)) ≡ map (tilted_staff keys lengths at a b) (grouped is_drawn_lower vs)
+  pub staves_tilted : (lengths : List ℕ) (vs : List DrawnVoice)
+      → map (staff_marks keys lengths a b) (grouped is_drawn_lower (map (voice_tilted keys at a b) vs))
+      ≡ map (tilted_staff keys lengths at a b) (grouped is_drawn_lower vs)
   staves_tilted lengths vs =
-      ap (map (staff_marks keys lengths a b)) (grouped_map (voice_tilted keys at a b) is_drawn_lower is_drawn_lower (λ v. refl) vs)
+      ap (map (staff_marks keys lengths a b))
+      (grouped_map (voice_tilted keys at a b) is_drawn_lower is_drawn_lower (λ v. refl) vs)
       ∙ map-map (staff_marks keys lengths a b) (map (voice_tilted keys at a b)) (grouped is_drawn_lower vs)

@@ -30,18 +30,26 @@ GoOn (e ∷ es) = AllByRecursion (IsEarlier e) es × GoOn es
 abbrev pub AllGoOn : List DrawnMeasure → Type 0
 AllGoOn ds = AllByRecursion (λ d. GoOn d.events) ds
 
-events_behind : (style : Style) (e : DrawnEvent) (tick id : ℕ) (now : StaffState) (fs : List Flat) (ps : List StemPlan) → e.tick < tick → e.flat.event.id < id → AreCounted id fs → AllByRecursion (IsEarlier e) (drawn_events style tick now fs ps)
+events_behind : (style : Style) (e : DrawnEvent) (tick id : ℕ) (now : StaffState) (fs : List Flat) (ps : List StemPlan)
+    → e.tick < tick → e.flat.event.id < id → AreCounted id fs
+    → AllByRecursion (IsEarlier e) (drawn_events style tick now fs ps)
 events_behind style e tick id now [] ps later more count = tt
 events_behind style e tick id now (f ∷ fs) [] later more count = tt
 events_behind style e tick id now (f ∷ fs) (p ∷ ps) later more count =
-    let own = count.0 in ((later, omega (arith, own, more)), events_behind style e (tick + f.duration) (suc id) (standing_after now f.event.changes) fs ps (omega (arith, later)) (omega (arith, more)) count.1)
+    let own = count.0 in (
+      (later, omega (arith, own, more)),
+      events_behind style e (tick + f.duration) (suc id) (standing_after now f.event.changes) fs ps
+          (omega (arith, later)) (omega (arith, more)) count.1,
+    )
 
-events_go_on : (style : Style) (tick id : ℕ) (now : StaffState) (fs : List Flat) (ps : List StemPlan) → AllByRecursion IsGoodFlat fs → AreCounted id fs → GoOn (drawn_events style tick now fs ps)
+events_go_on : (style : Style) (tick id : ℕ) (now : StaffState) (fs : List Flat) (ps : List StemPlan)
+    → AllByRecursion IsGoodFlat fs → AreCounted id fs → GoOn (drawn_events style tick now fs ps)
 events_go_on style tick id now [] ps good count = tt
 events_go_on style tick id now (f ∷ fs) [] good count = tt
 events_go_on style tick id now (f ∷ fs) (p ∷ ps) good count =
     let some = good.0.some in let own = count.0 in (
-      events_behind style (drawn_event style tick now f p) (tick + f.duration) (suc id) (standing_after now f.event.changes) fs ps (omega (arith, some)) (omega (arith, own)) count.1,
+      events_behind style (drawn_event style tick now f p) (tick + f.duration) (suc id)
+          (standing_after now f.event.changes) fs ps (omega (arith, some)) (omega (arith, own)) count.1,
       events_go_on style (tick + f.duration) (suc id) (standing_after now f.event.changes) fs ps good.1 count.1,
     )
 
@@ -49,18 +57,27 @@ counted_cut : (n : ℕ) (fs gs : List Flat) → AreCounted n (fs ++ gs) → AreC
 counted_cut n [] gs h = (tt, (n, h))
 counted_cut n (f ∷ fs) gs h = let more = counted_cut (suc n) fs gs h.1 in ((h.0, more.0), more.1)
 
-measure_goes_on : (style : Style) (now : StaffState) (m : Measure) (n : ℕ) → IsGoodBody m.body → AreCounted n (flats_of m.body) → GoOn (drawn_measure style now m).events
+measure_goes_on : (style : Style) (now : StaffState) (m : Measure) (n : ℕ)
+    → IsGoodBody m.body → AreCounted n (flats_of m.body) → GoOn (drawn_measure style now m).events
 unfolding drawn_measure
-measure_goes_on style now m n good count = events_go_on style 0 n now (flats_of m.body) _ (recursion_from_All IsGoodFlat (flats_of m.body) (flats_good m.body good)) count
+measure_goes_on style now m n good count =
+    events_go_on style 0 n now (flats_of m.body) _
+    (recursion_from_All IsGoodFlat (flats_of m.body) (flats_good m.body good)) count
 
-measures_go_on : (style : Style) (now : StaffState) (ms : List Measure) (n : ℕ) → AllByRecursion (λ m. IsGoodBody m.body) ms → AreCounted n (events_of ms) → AllGoOn (drawn_measures style now ms)
+measures_go_on : (style : Style) (now : StaffState) (ms : List Measure) (n : ℕ)
+    → AllByRecursion (λ m. IsGoodBody m.body) ms → AreCounted n (events_of ms) → AllGoOn (drawn_measures style now ms)
 measures_go_on style now [] n good count = tt
 measures_go_on style now (m ∷ ms) n good count =
-    let parts = counted_cut n (flats_of m.body) (events_of ms) count in (measure_goes_on style now m n good.0 parts.0, measures_go_on style (standing_behind now (flats_of m.body)) ms parts.1.0 good.1 parts.1.1)
+    let parts = counted_cut n (flats_of m.body) (events_of ms) count in (
+      measure_goes_on style now m n good.0 parts.0,
+      measures_go_on style (standing_behind now (flats_of m.body)) ms parts.1.0 good.1 parts.1.1,
+    )
 
 pub voice_goes_on : (v : Voice) → IsGoodVoice v → AllGoOn (drawn_voice v).measures
 unfolding drawn_voice
-voice_goes_on v good = measures_go_on (style_of v) (standing_of v) v.measures 0 (recursion_from_All (λ m. IsGoodBody m.body) v.measures good.bodies) good.ids
+voice_goes_on v good =
+    measures_go_on (style_of v) (standing_of v) v.measures 0
+    (recursion_from_All (λ m. IsGoodBody m.body) v.measures good.bodies) good.ids
 
 pub later_below : (m : ℕ) (e f : DrawnEvent) → e.tick < f.tick → is_below (note_key m e) (note_key m f) ≡ true
 unfolding is_below

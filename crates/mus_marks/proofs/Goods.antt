@@ -7,6 +7,7 @@ use Rattle.mus_drawn.specs.{declared.drawn.DrawnMeasure.DrawnMeasure, Good.IsGoo
 pub all_behind : {A : Type 0} (P : A → Type 0) (x : A) (xs all : List A) → all ≡ x ∷ xs → All P all → All P xs
 all_behind P x xs all is h = All-from_recursion P xs (recursion_from_All P (x ∷ xs) (subst (All P) is h)).1
 
-pub first_good : (ms : List DrawnMeasure) (m : DrawnMeasure) → 1 ≤ length ms → m ≡ get_or ms 0 m → AreGoodMeasures ms → IsGoodMeasure m
+pub first_good : (ms : List DrawnMeasure) (m : DrawnMeasure)
+    → 1 ≤ length ms → m ≡ get_or ms 0 m → AreGoodMeasures ms → IsGoodMeasure m
 first_good [] m some is good = absurd (omega (arith, some))
 first_good (n ∷ ms) m some is good = subst IsGoodMeasure (sym is) good.0

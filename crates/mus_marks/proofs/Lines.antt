@@ -7,11 +7,13 @@ use Rattle.{mus_ink.specs.Drawing.{cut_dy}, mus_marks.specs.Staff.{CoversLines, 
 
 low_over : (z : ℤ) (h : HeightRange) (all : List Laid) → h.low ≤ℤ z → (over_marks h all).low ≤ℤ z
 low_over z h [] p = p
-low_over z h (laid ∷ more) p = low_over z (union_of_heights h (heights_of laid.mark)) more (omega (arith, ints, clamps, p))
+low_over z h (laid ∷ more) p =
+    low_over z (union_of_heights h (heights_of laid.mark)) more (omega (arith, ints, clamps, p))
 
 high_over : (z : ℤ) (h : HeightRange) (all : List Laid) → z ≤ℤ h.high → z ≤ℤ (over_marks h all).high
 high_over z h [] p = p
-high_over z h (laid ∷ more) p = high_over z (union_of_heights h (heights_of laid.mark)) more (omega (arith, ints, clamps, p))
+high_over z h (laid ∷ more) p =
+    high_over z (union_of_heights h (heights_of laid.mark)) more (omega (arith, ints, clamps, p))
 
 cut_low : (z : ℤ) → z ≤ℤ pos 0 → cut_dy z ≤ℤ pos 0
 unfolding cut_dy

@@ -12,12 +12,16 @@ HasVerses place = IfSome place (λ p. p.first ≤ 240)
 
 -- the texts of a column, with a mark that stands in it
 abbrev pub text_counted : Laid → TextCounts → TextCounts
-text_counted x texts = record { above = if is_words x.mark && is_above x.lane then texts.above + 1 else texts.above; below = if is_words x.mark && is_below_staff x.lane then texts.below + 1 else texts.below }
+text_counted x texts = record {
+  above = if is_words x.mark && is_above x.lane then texts.above + 1 else texts.above;
+  below = if is_words x.mark && is_below_staff x.lane then texts.below + 1 else texts.below;
+}
 
 -- those of columns from rank r on, with a mark; and with the marks of a part
 abbrev pub with_text_counted : ℕ → Laid → List TextCounts → List TextCounts
 with_text_counted r x [] = []
-with_text_counted r x (texts ∷ more) = (if stands_at_rank r x then text_counted x texts else texts) ∷ with_text_counted (r + 1) x more
+with_text_counted r x (texts ∷ more) =
+    (if stands_at_rank r x then text_counted x texts else texts) ∷ with_text_counted (r + 1) x more
 
 abbrev pub with_texts_counted : List Laid → List TextCounts → List TextCounts
 with_texts_counted [] texts = texts
@@ -26,4 +30,5 @@ with_texts_counted (x ∷ xs) texts = with_texts_counted xs (with_text_counted 0
 -- the place of the next voice of a staff; where none follows, that of the last
 abbrev pub word_room_after : ℕ → WordRoom → ℕ → List Laid → Bool → WordRoom
 word_room_after columns place verses part false = place
-word_room_after columns place verses part true = record { room = place.room; first = place.first + verses; before = texts_behind columns place.before part }
+word_room_after columns place verses part true =
+    record { room = place.room; first = place.first + verses; before = texts_behind columns place.before part }

@@ -1,5 +1,5 @@
--- The marks of a staff in a system, of the voices that stand on it: in the columns the head, the bar before the first measure and
--- the measures; then the beams of notes, those of graces, and the arcs.
+-- The marks of a staff in a system, of the voices that stand on it: in the columns the head, the bar before the first
+-- measure and the measures; then the beams of notes, those of graces, and the arcs.
 use Rattle.std.specs.Prelude.{ℕ, ◌+◌, pos, ◌≤ℤ◌, ◌==◌, Bool, true, false, not, ◌&&◌, ◌||◌, if◌then◌else◌, List, [], ◌∷◌}
 use Rattle.std.specs.Prelude.{◌++◌, length, map, sum, flat_map, count_by, slice_range, slice_index_or, Option, Some}
 use Rattle.std.specs.Prelude.{None}
@@ -40,14 +40,19 @@ abbrev pub head_part : List ColumnKey → ℕ → List DrawnMeasure → List Lai
 head_part keys a [] = []
 head_part keys a (d ∷ ds) =
     if is_lower d.seat then []
-    else map (drawn_at (key_rank keys (head_key a))) (head_marks d.opening.clef d.opening.key.signs (meter_shown a d.opening))
+    else map (drawn_at (key_rank keys (head_key a)))
+    (head_marks d.opening.clef d.opening.key.signs (meter_shown a d.opening))
 
 -- the bar before the first measure, where it has features; the first voice of a staff draws it
 abbrev pub first_bar_part : List ColumnKey → ℕ → Seat → Bar → List Laid
-first_bar_part keys a seat bar = if not (is_lower seat) && (a == 0) && has_features bar then map (drawn_at (rank_at keys 0 0 Class.First 0)) (bar_marks bar) else []
+first_bar_part keys a seat bar =
+    if not (is_lower seat) && (a == 0) && has_features bar
+    then map (drawn_at (rank_at keys 0 0 Class.First 0)) (bar_marks bar)
+    else []
 
 unfoldable pub columns_part : List ColumnKey → List ℕ → Option WordRoom → ℕ → Seat → Bar → List DrawnMeasure → List Laid
-columns_part keys lengths place a seat first ds = head_part keys a ds ++ first_bar_part keys a seat first ++ measures_marks keys lengths place a true ds
+columns_part keys lengths place a seat first ds =
+    head_part keys a ds ++ first_bar_part keys a seat first ++ measures_marks keys lengths place a true ds
 
 -- what a voice has in the columns of measures a to b - 1, with its syllables and texts where their place is known
 abbrev pub own_part : List ColumnKey → List ℕ → Option WordRoom → ℕ → ℕ → DrawnVoice → List Laid
@@ -59,11 +64,13 @@ staff_bridges keys lengths a b voices = map (bridge_at keys) (flat_map (bridges_
 
 -- all marks of a staff but syllables and texts
 abbrev pub bare_marks : List ColumnKey → List ℕ → ℕ → ℕ → List DrawnVoice → List Laid
-bare_marks keys lengths a b voices = flat_map (own_part keys lengths None a b) voices ++ staff_bridges keys lengths a b voices
+bare_marks keys lengths a b voices =
+    flat_map (own_part keys lengths None a b) voices ++ staff_bridges keys lengths a b voices
 
 -- syllables and texts stand outside of all other marks of their staff
 unfoldable pub room_over : ℕ → List Laid → StaffRoom
-room_over verses others = record { low = cut_dy (staff_heights others).low; high = cut_dy (staff_heights others).high; verses = verses }
+room_over verses others =
+    record { low = cut_dy (staff_heights others).low; high = cut_dy (staff_heights others).high; verses = verses }
 
 -- the verses of a staff are those of its voices, one after the other
 abbrev pub verses_on : List DrawnVoice → ℕ
@@ -90,27 +97,34 @@ text_below r x = stands_at_rank r x && is_words x.mark && is_below_staff x.lane
 
 -- the texts that a column has behind those of a part, where it had some before
 abbrev pub texts_with : TextCounts → List Laid → ℕ → TextCounts
-texts_with before part r = record { above = before.above + count_by (text_above r) part; below = before.below + count_by (text_below r) part }
+texts_with before part r =
+    record { above = before.above + count_by (text_above r) part; below = before.below + count_by (text_below r) part }
 
 -- of n columns
 abbrev pub texts_behind : ℕ → List TextCounts → List Laid → List TextCounts
 texts_behind n before part = map (λ r. texts_with (slice_index_or before r no_texts) part r) (range_with_len 0 n)
 
 -- the voices of a staff one after the other, each behind the verses and the texts of those before it
-abbrev pub written_parts : List ColumnKey → List ℕ → StaffRoom → ℕ → ℕ → ℕ → List TextCounts → List DrawnVoice → List (List Laid)
+abbrev pub written_parts : List ColumnKey
+    → List ℕ → StaffRoom → ℕ → ℕ → ℕ → List TextCounts → List DrawnVoice → List (List Laid)
 written_parts keys lengths room a b first before [] = []
 written_parts keys lengths room a b first before (v ∷ vs) =
-    let part = own_part keys lengths (Some (record { room = room; first = first; before = before })) a b v in part ∷ written_parts keys lengths room a b (first + v.verses) (texts_behind (length keys) before part) vs
+    let part = own_part keys lengths (Some (record { room = room; first = first; before = before })) a b v in
+    part ∷ written_parts keys lengths room a b (first + v.verses) (texts_behind (length keys) before part) vs
 
 -- marks, and how low and how high they reach
 unfoldable pub staff_over : List Laid → StaffMarks
 staff_over all = record { marks = all; low = cut_dy (staff_heights all).low; high = cut_dy (staff_heights all).high }
 
--- The marks of a staff in measures a to b - 1: column by column, in each what the voices have there one after the other; then
--- what goes between columns, voice by voice. The head, the bar before the first measure, changes and bars are the first voice's.
+-- The marks of a staff in measures a to b - 1: column by column, in each what the voices have there one after the
+-- other; then what goes between columns, voice by voice. The head, the bar before the first measure, changes and bars
+-- are the first voice's.
 unfoldable pub staff_marks : List ColumnKey → List ℕ → ℕ → ℕ → List DrawnVoice → StaffMarks
 staff_marks keys lengths a b voices =
-    let room = room_over (verses_on voices) (bare_marks keys lengths a b voices) in staff_over (by_columns (length keys) (written_parts keys lengths room a b 1 [] voices) ++ staff_bridges keys lengths a b voices)
+    let room = room_over (verses_on voices) (bare_marks keys lengths a b voices) in
+    staff_over
+    (by_columns (length keys) (written_parts keys lengths room a b 1 [] voices)
+    ++ staff_bridges keys lengths a b voices)
 
 -- a staff covers at least its lines
 abbrev pub CoversLines : StaffMarks → Type 0

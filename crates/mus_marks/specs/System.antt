@@ -1,4 +1,5 @@
--- What a score calls for in a system of measures a to b - 1: the columns that its voices stand in, and for each staff, in order, its marks.
+-- What a score calls for in a system of measures a to b - 1: the columns that its voices stand in, and for each staff,
+-- in order, its marks.
 use Rattle.std.specs.Prelude.{◌≡◌, ℕ, Bool, List, map}
 use Rattle.mus_score.specs.declared.score.Score.{Score}
 use Rattle.mus_score.specs.Seats.{grouped, is_lower}

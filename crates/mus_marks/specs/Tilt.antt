@@ -1,5 +1,5 @@
--- The marks of a system over the abscissas of its columns: as those that the score calls for, but the stems of a beam end
--- on its line. What stands on the ends of stems (beams, decorations, texts, arcs) follows them.
+-- The marks of a system over the abscissas of its columns: as those that the score calls for, but the stems of a beam
+-- end on its line. What stands on the ends of stems (beams, decorations, texts, arcs) follows them.
 use Rattle.std.specs.Prelude.{◌≡◌, ℕ, ◌+◌, ◌^◌, ℤ, pos, ◌≤ℤ◌, ◌<ℤ◌, ◌<◌, ⊤, List, [], ◌∷◌, ◌++◌, length, map, take}
 use Rattle.std.specs.Prelude.{drop, slice_range, slice_index_or}
 use Rattle.mus_score.specs.declared.score.Score.{Score}

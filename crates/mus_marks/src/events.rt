@@ -162,7 +162,9 @@ fn put_words(pen: &mut MarkPen, place: Option<&WordRoom>, flat: &Flat<'_>) -> Re
 
 /// Draws an event, but for its syllables and texts.
 fn draw_note(pen: &mut MarkPen, before: u8, after: u8, e: &DrawnEvent<'_>) -> Result<(), Memory>
-    ensures { OnOk result (pen.new ≡ inked pen.old (note_marks e.now.clef (raise_of e.now.seat) e.now.flat.event e.now.plan before after)) }
+    ensures { OnOk result
+        (pen.new
+        ≡ inked pen.old (note_marks e.now.clef (raise_of e.now.seat) e.now.flat.event e.now.plan before after)) }
 {
     let (event, plan) = (e.flat.event(), &e.plan);
     let raise = raise_of(e.seat);
@@ -182,7 +184,10 @@ fn put_note_part(
     requires keys { AreRanked keys.now }
     requires words { length e.now.flat.event.words ≤ 8 }
     requires verses { HasVerses (option_copied place) }
-    ensures { OnOk result (pen.new.marks ≡ pen.old.marks ++ note_part keys.now measure before after e.now ++ words_part (note_rank keys.now measure e.now) (option_copied place.entry) e.now.flat) }
+    ensures { OnOk result
+        (pen.new.marks
+        ≡ pen.old.marks ++ note_part keys.now measure before after e.now
+        ++ words_part (note_rank keys.now measure e.now) (option_copied place.entry) e.now.flat) }
 {
     pen.go_to(keys, note_key(measure, e));
     draw_note(pen, before, after, e)?;
@@ -205,7 +210,9 @@ fn put_event(
     requires keys { AreRanked keys.now }
     requires good { IsGoodDrawn e.now }
     requires verses { HasVerses (option_copied place) }
-    ensures { OnOk result (pen.new.marks ≡ pen.old.marks ++ event_marks keys.now (option_copied place.entry) measure in_head before after e.now) }
+    ensures { OnOk result
+        (pen.new.marks
+        ≡ pen.old.marks ++ event_marks keys.now (option_copied place.entry) measure in_head before after e.now) }
 {
     let drawn = in_head || e.seat.is_lower();
     put_change_part(pen, keys, measure, drawn, e)?;
@@ -243,7 +250,9 @@ pub(crate) fn put_events(
     requires keys { AreRanked keys.now }
     requires good { AreGoodDrawn events.now }
     requires verses { HasVerses (option_copied place) }
-    ensures { OnOk result (pen.new.marks ≡ pen.old.marks ++ events_marks keys.now (option_copied place.entry) measure in_head 0 0 events.now) }
+    ensures { OnOk result
+        (pen.new.marks
+        ≡ pen.old.marks ++ events_marks keys.now (option_copied place.entry) measure in_head 0 0 events.now) }
 {
     let mut rest = events;
     let (mut drawn, mut group, mut flags) = (in_head, 0, 0);

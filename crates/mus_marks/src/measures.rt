@@ -61,7 +61,9 @@ pub fn put_measures(
     requires few { length lengths.now ≤ 2000 }
     requires good { AreGoodMeasures measures.now }
     requires verses { HasVerses (option_copied place) }
-    ensures { OnOk result (pen.new.marks ≡ pen.old.marks ++ measures_marks keys.now lengths.now (option_copied place.entry) a in_head measures.now) }
+    ensures { OnOk result
+        (pen.new.marks
+        ≡ pen.old.marks ++ measures_marks keys.now lengths.now (option_copied place.entry) a in_head measures.now) }
 {
     let mut measure = a;
     let mut in_head = in_head;
@@ -154,7 +156,9 @@ pub fn put_columns_part(
     requires few { length lengths.now ≤ 2000 }
     requires good { AreGoodMeasures measures.now }
     requires verses { HasVerses (option_copied place) }
-    ensures { OnOk result (pen.new.marks ≡ pen.old.marks ++ columns_part keys.now lengths.now (option_copied place.entry) a seat first measures.now) }
+    ensures { OnOk result
+        (pen.new.marks
+        ≡ pen.old.marks ++ columns_part keys.now lengths.now (option_copied place.entry) a seat first measures.now) }
 {
     pen.marks.items.reserve(room_for(measures))?;
     put_head_part(pen, keys, a, measures)?;

@@ -35,7 +35,11 @@ fn put_own_part(
     requires lengths { length v.now.measures ≡ length frame.now.lengths.now }
     requires good { AreGoodMeasures v.now.measures }
     requires verses { HasVerses (option_copied place) }
-    ensures { OnOk result (pen.new.marks ≡ pen.old.marks ++ own_part frame.now.keys.now frame.now.lengths.now (option_copied place.entry) frame.now.a frame.now.b v.now) }
+    ensures { OnOk result
+        (pen.new.marks
+        ≡ pen.old.marks
+        ++ own_part frame.now.keys.now frame.now.lengths.now (option_copied place.entry) frame.now.a frame.now.b
+        v.now) }
 {
     let (keys, lengths, a) = (frame.keys, frame.lengths, frame.a);
     let measures = &v.measures.as_slice()[a as usize..frame.b as usize];
@@ -68,7 +72,10 @@ fn put_bare_parts(
 ) -> Result<(), Memory>
     requires each { All (λ v. length v.measures ≡ length frame.now.lengths.now) voices.now }
     requires good { All (λ v. AreGoodMeasures v.measures) voices.now }
-    ensures { OnOk result (pen.new.marks ≡ pen.old.marks ++ flat_map (own_part frame.now.keys.now frame.now.lengths.now None frame.now.a frame.now.b) voices.now) }
+    ensures { OnOk result
+        (pen.new.marks
+        ≡ pen.old.marks
+        ++ flat_map (own_part frame.now.keys.now frame.now.lengths.now None frame.now.a frame.now.b) voices.now) }
 {
     for v in voices {
         put_own_part(pen, frame, None, v)?;
@@ -187,7 +194,8 @@ fn written_part(
     requires lengths { length v.now.measures ≡ length frame.now.lengths.now }
     requires good { AreGoodMeasures v.now.measures }
     requires verses { place.now.first ≤ 129 }
-    ensures { IfOk result (λ r. r ≡ own_part frame.now.keys.now frame.now.lengths.now (Some place.now) frame.now.a frame.now.b v.now) }
+    ensures { IfOk result
+        (λ r. r ≡ own_part frame.now.keys.now frame.now.lengths.now (Some place.now) frame.now.a frame.now.b v.now) }
 {
     let mut pen = MarkPen::new(alloc);
     put_own_part(&mut pen, frame, Some(place), v)?;
@@ -204,7 +212,8 @@ fn written_parts(
     requires each { All (λ v. length v.measures ≡ length frame.now.lengths.now) voices.now }
     requires good { All (λ v. AreGoodMeasures v.measures) voices.now }
     requires verses { verses_on voices.now ≤ 128 }
-    ensures { IfOk result (λ r. r ≡ written_parts frame.now.keys.now frame.now.lengths.now room frame.now.a frame.now.b 1 [] voices.now) }
+    ensures { IfOk result
+        (λ r. r ≡ written_parts frame.now.keys.now frame.now.lengths.now room frame.now.a frame.now.b 1 [] voices.now) }
 {
     let mut parts = Row::new(alloc);
     let mut place = WordRoom {
@@ -234,7 +243,8 @@ fn staff_marks(
     requires each { All (λ v. length v.measures ≡ length frame.now.lengths.now) voices.now }
     requires good { All (λ v. AreGoodMeasures v.measures) voices.now }
     requires verses { verses_on voices.now ≤ 128 }
-    ensures staff { IfOk result (λ r. r ≡ staff_marks frame.now.keys.now frame.now.lengths.now frame.now.a frame.now.b voices.now) }
+    ensures staff { IfOk result
+        (λ r. r ≡ staff_marks frame.now.keys.now frame.now.lengths.now frame.now.a frame.now.b voices.now) }
     ensures lines { IfOk result CoversLines }
 {
     let bridges = bridges_on(alloc, frame, voices)?;
@@ -270,7 +280,10 @@ pub(crate) fn staves(
     requires each { All (λ v. length v.measures ≡ length frame.now.lengths.now) voices.now }
     requires good { All (λ v. AreGoodMeasures v.measures) voices.now }
     requires verses { verses_on voices.now ≤ 128 }
-    ensures staves { IfOk result (λ r. r ≡ map (staff_marks frame.now.keys.now frame.now.lengths.now frame.now.a frame.now.b) (grouped is_drawn_lower voices.now)) }
+    ensures staves { IfOk result (λ r.
+        r
+        ≡ map (staff_marks frame.now.keys.now frame.now.lengths.now frame.now.a frame.now.b)
+        (grouped is_drawn_lower voices.now)) }
     ensures lines { IfOk result (All CoversLines) }
 {
     let mut staves = Row::new(alloc);

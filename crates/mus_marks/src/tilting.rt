@@ -97,8 +97,13 @@ fn sloped_voices(
     voices: &[DrawnVoice<'_>],
 ) -> Result<Row<Row<Row<i32>>>, Memory>
     requires each { All (λ v. length v.measures ≡ length frame.now.lengths.now) voices.now }
-    requires slopes { All (λ v. AllCanTilt frame.now.keys.now at.now frame.now.a (slice_range v.measures frame.now.a frame.now.b)) voices.now }
-    ensures { IfOk result (λ r. r ≡ map (λ v. sloped_over frame.now.keys.now at.now frame.now.a (slice_range v.measures frame.now.a frame.now.b)) voices.now) }
+    requires slopes { All
+        (λ v. AllCanTilt frame.now.keys.now at.now frame.now.a (slice_range v.measures frame.now.a frame.now.b))
+        voices.now }
+    ensures { IfOk result (λ r.
+        r
+        ≡ map (λ v. sloped_over frame.now.keys.now at.now frame.now.a (slice_range v.measures frame.now.a frame.now.b))
+        voices.now) }
 {
     let mut ends = Row::with_room(alloc, voices.len())?;
     for v in voices {
@@ -181,9 +186,14 @@ fn tilted_staves(
     requires each { All (λ v. length v.measures ≡ length frame.now.lengths.now) voices.old }
     requires good { All (λ v. AreGoodMeasures v.measures) voices.old }
     requires verses { verses_on voices.old ≤ 128 }
-    requires slopes { All (λ v. AllCanTilt frame.now.keys.now at.now frame.now.a (slice_range v.measures frame.now.a frame.now.b)) voices.old }
+    requires slopes { All
+        (λ v. AllCanTilt frame.now.keys.now at.now frame.now.a (slice_range v.measures frame.now.a frame.now.b))
+        voices.old }
     ensures kept { voices.new ≡ voices.old }
-    ensures staves { IfOk result (λ r. r ≡ map (tilted_staff frame.now.keys.now frame.now.lengths.now at.now frame.now.a frame.now.b) (grouped is_drawn_lower voices.old)) }
+    ensures staves { IfOk result (λ r.
+        r
+        ≡ map (tilted_staff frame.now.keys.now frame.now.lengths.now at.now frame.now.a frame.now.b)
+        (grouped is_drawn_lower voices.old)) }
     ensures lines { IfOk result (All CoversLines) }
 {
     let mut ends = sloped_voices(alloc, frame, at, voices)?;

@@ -16,7 +16,9 @@ pub lower : (k l : ColumnKey) → k.measure < l.measure → is_below k l ≡ tru
 unfolding is_below
 lower k l h = grind (arith, nat_tests)
 
-then_through : (a b c : ℕ) (p q r : Bool) → (p ≡ true → q ≡ true → r ≡ true) → is_below_or_tied a b p ≡ true → is_below_or_tied b c q ≡ true → is_below_or_tied a c r ≡ true
+then_through : (a b c : ℕ) (p q r : Bool)
+    → (p ≡ true → q ≡ true → r ≡ true) → is_below_or_tied a b p ≡ true → is_below_or_tied b c q ≡ true
+    → is_below_or_tied a c r ≡ true
 then_through a b c p q true f h k = grind (arith, nat_tests)
 then_through a b c true true false f h k = absurd (false_not_true (f refl refl))
   where

@@ -18,7 +18,11 @@ class_less k l h = grind (arith, nat_tests)
 class_equal : (k l : Class) → classes.ghosts.cmp k l ≡ Equal → class_number k ≡ class_number l
 class_equal k l h = grind (arith, nat_tests)
 
-shape : (k l : ColumnKey) → ghosts.cmp k l ≡ ordering_then (nat_cmp k.measure l.measure) (ordering_then (nat_cmp k.tick l.tick) (ordering_then (classes.ghosts.cmp k.class l.class) (nat_cmp k.place l.place)))
+shape : (k l : ColumnKey)
+    → ghosts.cmp k l
+    ≡ ordering_then (nat_cmp k.measure l.measure)
+    (ordering_then (nat_cmp k.tick l.tick)
+    (ordering_then (classes.ghosts.cmp k.class l.class) (nat_cmp k.place l.place)))
 shape k l = refl
 
 below_from_less : (k l : ColumnKey) → ghosts.cmp k l ≡ Less → is_below k l ≡ true

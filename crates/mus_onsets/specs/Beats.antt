@@ -1,4 +1,5 @@
--- Beats: what times take from the events of a body that are no graces, from left to right: the id, and how long the event lasts.
+-- Beats: what times take from the events of a body that are no graces, from left to right: the id,
+-- and how long the event lasts.
 use Rattle.std.specs.Prelude.{ℕ, ◌+◌, ◌*◌, List, [], ◌∷◌, ◌++◌, map}
 use Rattle.mus_score.specs.declared.score.Event.{Event}
 use Rattle.mus_score.specs.declared.score.Flat.{Flat}
@@ -36,4 +37,6 @@ beats_within = fold-Music (InTuplets (List Beat)) beats_step
 -- onsets in a measure, from a tick on
 abbrev pub beat_onsets : ℕ → ℕ → ℕ → List Beat → List Onset
 beat_onsets voice measure tick [] = []
-beat_onsets voice measure tick (b ∷ bs) = record { voice = voice; measure = measure; event = b.event; tick = tick } ∷ beat_onsets voice measure (tick + b.ticks) bs
+beat_onsets voice measure tick (b ∷ bs) =
+    record { voice = voice; measure = measure; event = b.event; tick = tick }
+    ∷ beat_onsets voice measure (tick + b.ticks) bs

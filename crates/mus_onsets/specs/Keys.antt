@@ -51,7 +51,8 @@ has_features b = b.end || b.start || b.last || b.initial || b.double || b.dotted
 
 -- a change that the head draws has no column of its own
 abbrev pub change_keys : ℕ → ℕ → Bool → Bool → Changes → List ColumnKey
-change_keys m tick in_head signed ch = if not in_head && change_has_mark signed ch then key_at m tick Class.Change 0 ∷ [] else []
+change_keys m tick in_head signed ch =
+    if not in_head && change_has_mark signed ch then key_at m tick Class.Change 0 ∷ [] else []
 
 abbrev pub grace_keys : ℕ → ℕ → ℕ → List Event → List ColumnKey
 grace_keys m tick i [] = []
@@ -59,12 +60,16 @@ grace_keys m tick i (g ∷ gs) = key_at m tick Class.Grace i ∷ grace_keys m ti
 
 -- an event, behind its change and its graces
 abbrev pub event_keys : ℕ → ℕ → Bool → Bool → Flat → List ColumnKey
-event_keys m tick in_head signed f = change_keys m tick in_head signed f.event.changes ++ grace_keys m tick 0 f.graces ++ key_at m tick Class.Note 0 ∷ []
+event_keys m tick in_head signed f =
+    change_keys m tick in_head signed f.event.changes ++ grace_keys m tick 0 f.graces ++ key_at m tick Class.Note 0 ∷ []
 
--- the events of a measure in turn, each with those before it; the head draws the change before the first of the system's first measure
+-- the events of a measure in turn, each with those before it; the head draws the change before the first of the
+-- system's first measure
 abbrev pub events_keys : ℕ → Bool → Bool → List Flat → List Flat → List ColumnKey
 events_keys m in_head signed before [] = []
-events_keys m in_head signed before (f ∷ behind) = event_keys m (total_ticks before) in_head signed f ++ events_keys m false (signed_after signed f.event.changes.key) (f ∷ before) behind
+events_keys m in_head signed before (f ∷ behind) =
+    event_keys m (total_ticks before) in_head signed f
+    ++ events_keys m false (signed_after signed f.event.changes.key) (f ∷ before) behind
 
 abbrev pub signed_through : Bool → List Flat → Bool
 signed_through signed [] = signed
@@ -90,7 +95,9 @@ abbrev pub signed_at : ℕ → Voice → Bool
 signed_at a v = signed_behind (has_entries v.key) (take a v.measures)
 
 abbrev pub all_keys : List ℕ → ℕ → ℕ → Voice → List ColumnKey
-all_keys lengths a b v = key_at a 0 Class.Head 0 ∷ first_keys a v.first ++ measures_keys lengths a true (signed_at a v) (slice_range v.measures a b)
+all_keys lengths a b v =
+    key_at a 0 Class.Head 0 ∷ first_keys a v.first
+    ++ measures_keys lengths a true (signed_at a v) (slice_range v.measures a b)
 
 -- each voice of a staff has columns of its notes and graces; all else of the staff is drawn by the first of them
 abbrev pub is_for_each : ColumnKey → Bool
@@ -114,7 +121,8 @@ called_keys s lengths a b = flat_map (voice_keys lengths a b) s.voices
 
 -- measure m of a voice, in a system that begins before it
 abbrev pub measure_keys : List ℕ → ℕ → Voice → List ColumnKey
-measure_keys lengths m v = keys_by (is_lower v.seat) (measures_keys lengths m false (signed_at m v) (slice_range v.measures m (m + 1)))
+measure_keys lengths m v =
+    keys_by (is_lower v.seat) (measures_keys lengths m false (signed_at m v) (slice_range v.measures m (m + 1)))
 
 -- what the voices call for in measure m of a system that begins before it, voice by voice
 abbrev pub further_keys : Score → List ℕ → ℕ → List ColumnKey

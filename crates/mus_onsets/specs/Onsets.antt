@@ -1,4 +1,5 @@
--- Onsets: an event begins after the earlier events of its measure and voice. A measure lasts as long as its longest voice.
+-- Onsets: an event begins after the earlier events of its measure and voice.
+-- A measure lasts as long as its longest voice.
 use Rattle.std.specs.Prelude.{ℕ, ◌+◌, max, List, [], ◌∷◌, ◌++◌, map, Option, Some, None, slice_get}
 use Rattle.std.specs.List.{range_with_len}
 use Rattle.mus_score.specs.declared.score.Flat.{Flat}
@@ -40,4 +41,5 @@ abbrev pub measure_length : List Voice → ℕ → ℕ
 measure_length voices k = greatest (map (length_in_voice k) voices)
 
 abbrev pub timeline_of : Score → Timeline
-timeline_of s = record { onsets = voice_onsets 0 s.voices; lengths = map (measure_length s.voices) (range_with_len 0 s.measures) }
+timeline_of s =
+    record { onsets = voice_onsets 0 s.voices; lengths = map (measure_length s.voices) (range_with_len 0 s.measures) }

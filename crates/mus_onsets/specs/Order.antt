@@ -25,7 +25,11 @@ is_below k l =
 
 -- whether two keys are those of one column
 unfoldable pub same_key : ColumnKey → ColumnKey → Bool
-same_key k l = (k.measure == l.measure) && (k.tick == l.tick) && (class_number k.class == class_number l.class) && (k.place == l.place)
+same_key k l =
+    (k.measure == l.measure)
+    && (k.tick == l.tick)
+    && (class_number k.class == class_number l.class)
+    && (k.place == l.place)
 
 abbrev pub BelowAll : ColumnKey → List ColumnKey → Type 0
 BelowAll k [] = Unit {0}

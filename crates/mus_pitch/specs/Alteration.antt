@@ -1,4 +1,5 @@
--- The alteration that a note has, ties aside: its own sign, else the last sign before it that reaches it, else its key's.
+-- The alteration that a note has, ties aside: its own sign, else the last sign before it that reaches it,
+-- else its key's.
 use Rattle.std.specs.Prelude.{◌&&◌, List, Option, Some, None, Bool, false, find, reverse, is_some, unwrap_or}
 use Rattle.std.specs.Option.{option_map, option_and_then}
 use Rattle.std.specs.Ordering.{int_eq}
@@ -32,4 +33,5 @@ key_sign p signs = option_map (λ s. s.alter) (find (λ s. same_letter s.letter 
 -- the first of these that there is: the note's own sign, the last that reaches it, the key's, a natural
 abbrev pub alteration_of : Pitch → Option Alter → List Head → Spread → List Sign → Alter
 alteration_of p (Some own) said spread signs = own
-alteration_of p None said spread signs = unwrap_or (said_sign spread p said) (unwrap_or (key_sign p signs) alters.Natural)
+alteration_of p None said spread signs =
+    unwrap_or (said_sign spread p said) (unwrap_or (key_sign p signs) alters.Natural)

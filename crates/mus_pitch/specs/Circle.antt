@@ -43,7 +43,8 @@ abbrev pub is_signature : ℤ → Bool
 is_signature sharps = int_le (negsuc 6) sharps && int_le sharps (pos 7)
 
 abbrev pub signature_of : Letter → Alter → Mode → Option ℤ
-signature_of tonic alter mode = if is_signature (sharps_of tonic alter mode) then Some (sharps_of tonic alter mode) else None
+signature_of tonic alter mode =
+    if is_signature (sharps_of tonic alter mode) then Some (sharps_of tonic alter mode) else None
 
 -- the order in which sharps come; flats come the other way
 abbrev pub sharp_order : List Letter

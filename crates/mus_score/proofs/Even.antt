@@ -73,33 +73,49 @@ regrouped : (ps f p m l : ℕ) → ps * (f * ((p * m) * l)) ≡ (ps * p) * ((f *
 regrouped ps f p m l = omega arith
 
 taken_out : (t u qs ps k : ℕ) → t ≡ u * part → ps * k ≡ part → t * qs ≡ ps * (u * k * qs)
-taken_out t u qs ps k e h = let g : t * qs ≡ u * (ps * k) * qs = ap (λ z. z * qs) e ∙ ap (λ z. u * z * qs) (sym h) in let r : u * (ps * k) * qs ≡ ps * (u * k * qs) = omega arith in g ∙ r
+taken_out t u qs ps k e h =
+    let g : t * qs ≡ u * (ps * k) * qs = ap (λ z. z * qs) e ∙ ap (λ z. u * z * qs) (sym h) in
+    let r : u * (ps * k) * qs ≡ ps * (u * k * qs) = omega arith in
+    g ∙ r
 
 divided : (t qs ps k : ℕ) → 1 ≤ ps → t * qs ≡ ps * k → ps * scaled_ticks t qs ps ≡ t * qs
 divided t qs ps k some e = ap (λ z. ps * (z / ps)) e ∙ ap (λ z. ps * z) (mul-div_cancel_left k some) ∙ sym e
 
-value_even : (at : NodeContext) (v : Value) (t qs ps : ℕ) → t ≡ value_length v → v.dots ≤ 3 → Divides at ps → ps * scaled_ticks t qs ps ≡ t * qs
-value_even at v t qs ps e dots d = let k = d.factor * left at.deeper in divided t qs ps (units_of v * k * qs) d.some (taken_out t (units_of v) qs ps k (e ∙ value_parts v dots) d.all)
+value_even : (at : NodeContext) (v : Value) (t qs ps : ℕ)
+    → t ≡ value_length v → v.dots ≤ 3 → Divides at ps → ps * scaled_ticks t qs ps ≡ t * qs
+value_even at v t qs ps e dots d =
+    let k = d.factor * left at.deeper in
+    divided t qs ps (units_of v * k * qs) d.some (taken_out t (units_of v) qs ps k (e ∙ value_parts v dots) d.all)
 
 plain_even : (t qs ps : ℕ) → ps ≡ 1 → ps * scaled_ticks t qs ps ≡ t * qs
-plain_even t qs ps e = divided t qs ps (t * qs) (omega arith) (let r : 1 * (t * qs) ≡ t * qs = omega arith in sym (subst (λ z. z * (t * qs) ≡ t * qs) (sym e) r))
+plain_even t qs ps e =
+    divided t qs ps (t * qs) (omega arith)
+    (let r : 1 * (t * qs) ≡ t * qs = omega arith in sym (subst (λ z. z * (t * qs) ≡ t * qs) (sym e) r))
 
 -- Nodes.
 abbrev Evens : (NodeContext → NodeVerdict) → Leafing → InTuplets (List Ratio) → Type 0
-Evens j l r = (at : NodeContext) (qs ps : ℕ) → Divides at ps → (j at).good ≡ true → (waits : PendingLeaf) → AllZip IsEven (l qs ps waits).flats (r qs ps)
+Evens j l r =
+    (at : NodeContext) (qs ps : ℕ)
+    → Divides at ps → (j at).good ≡ true → (waits : PendingLeaf) → AllZip IsEven (l qs ps waits).flats (r qs ps)
 
-note_even : (e : Event) → Evens (λ at. node_verdict (is_good_note e) true) (leaf e) (λ qs ps. record { qs = qs; ps = ps } ∷ [])
+note_even : (e : Event)
+    → Evens (λ at. node_verdict (is_good_note e) true) (leaf e) (λ qs ps. record { qs = qs; ps = ps } ∷ [])
 note_even e at qs ps d good waits = (value_even at e.value e.ticks qs ps (note_ticks e good) (note_dots e good) d, tt)
 
-rest_within : (b : Bool) (at : NodeContext) (e : Event) (qs ps : ℕ) → at.inner ≡ b → is_rest b e ≡ true → Divides at ps → ps * scaled_ticks e.ticks qs ps ≡ e.ticks * qs
+rest_within : (b : Bool) (at : NodeContext) (e : Event) (qs ps : ℕ)
+    → at.inner ≡ b → is_rest b e ≡ true → Divides at ps → ps * scaled_ticks e.ticks qs ps ≡ e.ticks * qs
 rest_within true at e qs ps i h d = value_even at e.value e.ticks qs ps (rest_ticks_inner e h) (rest_dots true e h) d
 rest_within false at e qs ps i h d = plain_even e.ticks qs ps (d.plain i)
 
-rest_even : (e : Event) → Evens (λ at. node_verdict (if at.grace then false else is_rest at.inner e) true) (leaf e) (λ qs ps. record { qs = qs; ps = ps } ∷ [])
-rest_even e at qs ps d good waits = (rest_within at.inner at e qs ps refl (guarded at.grace (is_rest at.inner e) good).1 d, tt)
+rest_even : (e : Event)
+    → Evens (λ at. node_verdict (if at.grace then false else is_rest at.inner e) true) (leaf e)
+    (λ qs ps. record { qs = qs; ps = ps } ∷ [])
+rest_even e at qs ps d good waits =
+    (rest_within at.inner at e qs ps refl (guarded at.grace (is_rest at.inner e) good).1 d, tt)
 
 -- Lists of nodes.
-zip_append : (fs gs : List Flat) (rs ts : List Ratio) → AllZip IsEven fs rs → AllZip IsEven gs ts → AllZip IsEven (fs ++ gs) (rs ++ ts)
+zip_append : (fs gs : List Flat) (rs ts : List Ratio)
+    → AllZip IsEven fs rs → AllZip IsEven gs ts → AllZip IsEven (fs ++ gs) (rs ++ ts)
 zip_append [] gs [] ts a b = b
 zip_append [] gs (r ∷ rs) ts a b = absurd a
 zip_append (f ∷ fs) gs [] ts a b = absurd a
@@ -109,20 +125,31 @@ abbrev MusicEven : Music → Type 0
 MusicEven m = Evens (judged_within m) (leaves_within m) (ratios_within m)
 
 abbrev BodyEven : List Music → Type 0
-BodyEven ms = Evens (all_judged (map judged_within ms)) (in_row (map leaves_within ms)) (ratios_in_row (map ratios_within ms))
+BodyEven ms =
+    Evens (all_judged (map judged_within ms)) (in_row (map leaves_within ms)) (ratios_in_row (map ratios_within ms))
 
 body_even : (ms : List Music) → AllByRecursion MusicEven ms → BodyEven ms
 body_even [] all at qs ps d good waits = tt
 body_even (m ∷ ms) all at qs ps d good waits =
-    let g = and_parts (judged_within m at).good (all_judged (map judged_within ms) at).good good in let others = in_row (map leaves_within ms) qs ps (leaves_within m qs ps waits).waits in
-    zip_append (leaves_within m qs ps waits).flats others.flats (ratios_within m qs ps) (ratios_in_row (map ratios_within ms) qs ps)
+    let g = and_parts (judged_within m at).good (all_judged (map judged_within ms) at).good good in
+    let others = in_row (map leaves_within ms) qs ps (leaves_within m qs ps waits).waits in
+    zip_append (leaves_within m qs ps waits).flats others.flats (ratios_within m qs ps)
+    (ratios_in_row (map ratios_within ms) qs ps)
     (all.0 at qs ps d g.0 waits) (body_even ms all.1 at qs ps d g.1 (leaves_within m qs ps waits).waits)
 
-tuplet_even : (p q : ℕ) (ms : List Music) → BodyEven ms → Evens (good_step (Music-F.Tuplet p q (map judged_within ms))) (leaves_step (Music-F.Tuplet p q (map leaves_within ms))) (ratios_step (Music-F.Tuplet p q (map ratios_within ms)))
+tuplet_even : (p q : ℕ) (ms : List Music)
+    → BodyEven ms
+    → Evens (good_step (Music-F.Tuplet p q (map judged_within ms)))
+    (leaves_step (Music-F.Tuplet p q (map leaves_within ms))) (ratios_step (Music-F.Tuplet p q (map ratios_within ms)))
 tuplet_even p q ms body at qs ps d good waits =
-    let g = tuplet_good at.grace p q at.deeper (map judged_within ms) good in let deeper : ℕ = g.1.0 in let t : GoodTuplet p q deeper (all_judged (map judged_within ms)) = g.1.2 in
-    let k = divisor p t.some_p t.few_p in let outer : ps * (d.factor * (2520 * left deeper)) ≡ part = subst (λ z. ps * (d.factor * left z) ≡ part) g.1.1 d.all in
-    let split : ps * (d.factor * ((p * k.0) * left deeper)) ≡ part = subst (λ z. ps * (d.factor * (z * left deeper)) ≡ part) (sym k.1) outer in
+    let g = tuplet_good at.grace p q at.deeper (map judged_within ms) good in
+    let deeper : ℕ = g.1.0 in
+    let t : GoodTuplet p q deeper (all_judged (map judged_within ms)) = g.1.2 in
+    let k = divisor p t.some_p t.few_p in
+    let outer : ps * (d.factor * (2520 * left deeper)) ≡ part =
+    subst (λ z. ps * (d.factor * left z) ≡ part) g.1.1 d.all in
+    let split : ps * (d.factor * ((p * k.0) * left deeper)) ≡ part =
+    subst (λ z. ps * (d.factor * (z * left deeper)) ≡ part) (sym k.1) outer in
     body (record { deeper = deeper; inner = true; grace = false }) (qs * q) (ps * p) (record {
       some = let a = d.some in let b = t.some_p in grind arith;
       factor = d.factor * k.0;
@@ -131,11 +158,16 @@ tuplet_even p q ms body at qs ps d good waits =
     }) t.inside (record waits { tuplets = waits.tuplets ++ p ∷ [] })
 
 -- Every node.
-evens_along : (i j : NodeContext → NodeVerdict) (k l : Leafing) (r s : InTuplets (List Ratio)) → i ≡ j → k ≡ l → r ≡ s → Evens i k r → Evens j l s
-evens_along i j k l r s ij kl rs h = subst (λ z. Evens j l z) rs (subst (λ z. Evens j z r) kl (subst (λ z. Evens z k r) ij h))
+evens_along : (i j : NodeContext → NodeVerdict) (k l : Leafing) (r s : InTuplets (List Ratio))
+    → i ≡ j → k ≡ l → r ≡ s → Evens i k r → Evens j l s
+evens_along i j k l r s ij kl rs h =
+    subst (λ z. Evens j l z) rs (subst (λ z. Evens j z r) kl (subst (λ z. Evens z k r) ij h))
 
 abbrev StepEven : Music-F Music → Type 0
-StepEven x = Evens (good_step (map-Music Music (NodeContext → NodeVerdict) judged_within x)) (leaves_step (map-Music Music Leafing leaves_within x)) (ratios_step (map-Music Music (InTuplets (List Ratio)) ratios_within x))
+StepEven x =
+    Evens (good_step (map-Music Music (NodeContext → NodeVerdict) judged_within x))
+    (leaves_step (map-Music Music Leafing leaves_within x))
+    (ratios_step (map-Music Music (InTuplets (List Ratio)) ratios_within x))
 
 along : (x : Music-F Music) → StepEven x → MusicEven (roll-Music x)
 along x h =
@@ -145,14 +177,19 @@ along x h =
     (sym (fold-roll-Music (InTuplets (List Ratio)) ratios_step x))
     h
 
-step_even : (y : Music-F ((m : Music) × MusicEven m)) → StepEven (map-Music ((m : Music) × MusicEven m) Music (λ e. e.0) y)
+step_even : (y : Music-F ((m : Music) × MusicEven m))
+    → StepEven (map-Music ((m : Music) × MusicEven m) Music (λ e. e.0) y)
 step_even (Music-F.Note e) = note_even e
 step_even (Music-F.Rest e) = rest_even e
 step_even (Music-F.Grace ys slash) = λ at qs ps d good waits. tt
-step_even (Music-F.Tuplet p q ys) = tuplet_even p q (map (λ e. e.0) ys) (body_even (map (λ e. e.0) ys) (gathered MusicEven ys))
+step_even (Music-F.Tuplet p q ys) =
+    tuplet_even p q (map (λ e. e.0) ys) (body_even (map (λ e. e.0) ys) (gathered MusicEven ys))
 
 music_even : (m : Music) → MusicEven m
-music_even = ind-Music MusicEven (λ x y is. subst (λ z. MusicEven (roll-Music z)) is (along (map-Music ((m : Music) × MusicEven m) Music (λ e. e.0) y) (step_even y)))
+music_even =
+    ind-Music MusicEven (λ x y is.
+    subst (λ z. MusicEven (roll-Music z)) is
+    (along (map-Music ((m : Music) × MusicEven m) Music (λ e. e.0) y) (step_even y)))
 
 outermost : Divides outside 1
 outermost = record { some = omega arith; factor = 1; all = refl; plain = λ _. refl }

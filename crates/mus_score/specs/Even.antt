@@ -1,5 +1,5 @@
--- Durations come out even. Around an event stand tuplets of p in the time of q: the product of those p times the event's duration is its
--- ticks times the product of those q, so that no division leaves a remainder.
+-- Durations come out even. Around an event stand tuplets of p in the time of q: the product of those p times the
+-- event's duration is its ticks times the product of those q, so that no division leaves a remainder.
 use Rattle.std.specs.Prelude.{◌≡◌, ℕ, ◌*◌, List, [], ◌∷◌, ◌++◌, map}
 use Rattle.std.specs.List.{AllZip}
 use Rattle.mus_score.specs.declared.score.Flat.{Flat}

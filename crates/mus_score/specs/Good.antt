@@ -18,7 +18,10 @@ is_good_note e = nat_le 1 (length e.heads) && has_value_ticks e
 
 -- a rest outside tuplets may last a measure
 abbrev pub is_rest : Bool → Event → Bool
-is_rest inner e = length e.heads == 0 && nat_le e.value.dots 3 && (if inner then e.ticks == value_length e.value else nat_le 1 e.ticks && nat_le e.ticks (99 * whole_note))
+is_rest inner e =
+    length e.heads == 0
+    && nat_le e.value.dots 3
+    && (if inner then e.ticks == value_length e.value else nat_le 1 e.ticks && nat_le e.ticks (99 * whole_note))
 
 -- the heads and rests of a node, grace heads counted
 abbrev pub weight_step : Music-F ℕ → ℕ
@@ -40,12 +43,14 @@ all_judged (m ∷ ms) at = node_verdict ((m at).good && (all_judged ms at).good)
 abbrev pub tuplet_judged : ℕ → ℕ → List (NodeContext → NodeVerdict) → ℕ → NodeVerdict
 tuplet_judged p q body zero = node_verdict false false
 tuplet_judged p q body (suc deeper) =
-    let inside = all_judged body (record { deeper = deeper; inner = true; grace = false }) in node_verdict (nat_le 2 p && nat_le p 9 && nat_le 1 q && nat_le q 9 && inside.some && inside.good) inside.some
+    let inside = all_judged body (record { deeper = deeper; inner = true; grace = false }) in
+    node_verdict (nat_le 2 p && nat_le p 9 && nat_le 1 q && nat_le q 9 && inside.some && inside.good) inside.some
 
 abbrev pub good_step : Music-F (NodeContext → NodeVerdict) → NodeContext → NodeVerdict
 good_step (Music-F.Note e) at = node_verdict (is_good_note e) true
 good_step (Music-F.Rest e) at = node_verdict (if at.grace then false else is_rest at.inner e) true
-good_step (Music-F.Grace body slash) at = node_verdict (if at.grace then false else (all_judged body (record at { grace = true })).good) false
+good_step (Music-F.Grace body slash) at =
+    node_verdict (if at.grace then false else (all_judged body (record at { grace = true })).good) false
 good_step (Music-F.Tuplet p q body) at = if at.grace then node_verdict false false else tuplet_judged p q body at.deeper
 
 abbrev pub judged_within : Music → NodeContext → NodeVerdict

@@ -30,7 +30,9 @@ IsInReach clef h = (negsuc 13 ≤ℤ height_of h.pitch clef) × (height_of h.pit
 -- the heads of an event and of its graces, in the clef at the event
 abbrev pub AreInReach : Clef → List Flat → Type 0
 AreInReach before [] = ⊤
-AreInReach before (f ∷ fs) = let clef = clef_at before f.event in All (IsInReach clef) f.event.heads × All (λ g. All (IsInReach clef) g.heads) f.graces × AreInReach clef fs
+AreInReach before (f ∷ fs) =
+    let clef = clef_at before f.event in
+    All (IsInReach clef) f.event.heads × All (λ g. All (IsInReach clef) g.heads) f.graces × AreInReach clef fs
 
 -- ids count from n on
 abbrev pub AreCounted : ℕ → List Flat → Type 0

@@ -29,9 +29,11 @@ outer_near false low high p q = (omega (arith, ints, clamps, p.0, p.1), omega (a
 own_near : (up : Bool) (ss : List HeadPosition) → AllNear ss → IsEnd (stem_own_end up ss)
 unfolding IsEnd
 own_near up [] near = (omega (arith, ints), omega (arith, ints))
-own_near up (s ∷ ss) near = outer_near up (lowest s.height ss) (highest s.height ss) (low_near (s ∷ ss) near) (high_near (s ∷ ss) near)
+own_near up (s ∷ ss) near =
+    outer_near up (lowest s.height ss) (highest s.height ss) (low_near (s ∷ ss) near) (high_near (s ∷ ss) near)
 
-along_near : (up : Bool) (to : ℤ) (group : ℕ) (es : List StemInput) → AllGood es → AllEndsNear (plans_along up to group es)
+along_near : (up : Bool) (to : ℤ) (group : ℕ) (es : List StemInput)
+    → AllGood es → AllEndsNear (plans_along up to group es)
 unfolding plan_of IsEnd
 along_near up to group [] good = tt {0}
 along_near up to group (e ∷ es) good = (own_near up e.stands good.0.0, along_near up to group es good.1)
@@ -39,10 +41,15 @@ along_near up to group (e ∷ es) good = (own_near up e.stands good.0.0, along_n
 runs_near : (wish : Wish) (rs : List (List StemInput)) → AllByRecursion AllGood rs → AllEndsNear (plans_of_runs wish rs)
 unfolding run_plans
 runs_near wish [] good = tt {0}
-runs_near wish (r ∷ rs) good = all_append IsEndNear (run_plans wish r) (plans_of_runs wish rs) (along_near (stands_up wish r) (run_end (stands_up wish r) r) (first_event_id r) r good.0) (runs_near wish rs good.1)
+runs_near wish (r ∷ rs) good =
+    all_append IsEndNear (run_plans wish r) (plans_of_runs wish rs)
+    (along_near (stands_up wish r) (run_end (stands_up wish r) r) (first_event_id r) r good.0)
+    (runs_near wish rs good.1)
 
-pub ends_near : (wish : Wish) (es : List StemInput) (plans : List StemPlan) → plans ≡ plans_of_runs wish (beams es) → AllGood es → AllEndsNear plans
-ends_near wish es plans e good = subst AllEndsNear (sym e) (runs_near wish (beams es) (all_in_runs IsGoodStill is_joined es good))
+pub ends_near : (wish : Wish) (es : List StemInput) (plans : List StemPlan)
+    → plans ≡ plans_of_runs wish (beams es) → AllGood es → AllEndsNear plans
+ends_near wish es plans e good =
+    subst AllEndsNear (sym e) (runs_near wish (beams es) (all_in_runs IsGoodStill is_joined es good))
 
 -- a plan for each event
 along_length : (up : Bool) (to : ℤ) (group : ℕ) (es : List StemInput) → length (plans_along up to group es) ≡ length es
@@ -53,5 +60,10 @@ pub run_length : (wish : Wish) (r : List StemInput) → length (run_plans wish r
 unfolding run_plans
 run_length wish r = along_length (stands_up wish r) (run_end (stands_up wish r) r) (first_event_id r) r
 
-pub plans_length : (wish : Wish) (es : List StemInput) (plans : List StemPlan) (fs : List Flat) (clef : Clef) → plans ≡ plans_of_runs wish (beams es) → es ≡ stills fs (clefs_from clef fs) → length plans ≡ length fs
-plans_length wish es plans fs clef e f = ap (λ t. length t) e ∙ runs_length is_joined (run_plans wish) (run_length wish) es ∙ ap (λ t. length t) f ∙ stills_length clef fs
+pub plans_length : (wish : Wish) (es : List StemInput) (plans : List StemPlan) (fs : List Flat) (clef : Clef)
+    → plans ≡ plans_of_runs wish (beams es) → es ≡ stills fs (clefs_from clef fs) → length plans ≡ length fs
+plans_length wish es plans fs clef e f =
+    ap (λ t. length t) e
+    ∙ runs_length is_joined (run_plans wish) (run_length wish) es
+    ∙ ap (λ t. length t) f
+    ∙ stills_length clef fs

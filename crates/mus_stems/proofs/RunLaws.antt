@@ -7,11 +7,15 @@ use Rattle.mus_stems.specs.Runs.{runs, put_before, run_more, JoinedAfter, EndsBe
 pub runs_front : {A : Type 0} (joined : A → A → Bool) (d : A) (es : List A) →
     runs joined (d ∷ es) ≡ (d ∷ take (run_more joined d es) es) ∷ runs joined (drop (run_more joined d es) es)
 runs_front joined d [] = refl
-runs_front joined d (e ∷ es) = ap (λ t. put_before joined d t) (runs_front joined e es) ∙ step (joined d e) (runs_front joined e es)
+runs_front joined d (e ∷ es) =
+    ap (λ t. put_before joined d t) (runs_front joined e es) ∙ step (joined d e) (runs_front joined e es)
   where
-    step : (b : Bool) → runs joined (e ∷ es) ≡ (e ∷ take (run_more joined e es) es) ∷ runs joined (drop (run_more joined e es) es) →
-        cond b ((d ∷ e ∷ take (run_more joined e es) es) ∷ runs joined (drop (run_more joined e es) es)) ((d ∷ []) ∷ (e ∷ take (run_more joined e es) es) ∷ runs joined (drop (run_more joined e es) es))
-        ≡ (d ∷ take (cond b (suc (run_more joined e es)) 0) (e ∷ es)) ∷ runs joined (drop (cond b (suc (run_more joined e es)) 0) (e ∷ es))
+    step : (b : Bool)
+        → runs joined (e ∷ es) ≡ (e ∷ take (run_more joined e es) es) ∷ runs joined (drop (run_more joined e es) es)
+        → cond b ((d ∷ e ∷ take (run_more joined e es) es) ∷ runs joined (drop (run_more joined e es) es))
+        ((d ∷ []) ∷ (e ∷ take (run_more joined e es) es) ∷ runs joined (drop (run_more joined e es) es))
+        ≡ (d ∷ take (cond b (suc (run_more joined e es)) 0) (e ∷ es))
+        ∷ runs joined (drop (cond b (suc (run_more joined e es)) 0) (e ∷ es))
     step true h = refl
     step false h = ap (λ t. (d ∷ []) ∷ t) (sym h)
 
@@ -30,32 +34,44 @@ one_past n = omega arith
 
 -- the run at the front, and what is behind it
 pub run_is : {A : Type 0} (joined : A → A → Bool) (d : A) (more rest run : List A) (n : ℕ) →
-    rest ≡ d ∷ more → n ≡ run_more joined d more → run ≡ take (n + 1) rest → run ≡ d ∷ take (run_more joined d more) more
+    rest ≡ d ∷ more
+    → n ≡ run_more joined d more → run ≡ take (n + 1) rest → run ≡ d ∷ take (run_more joined d more) more
 run_is joined d more rest run n e1 e2 e3 = e3 ∙ rw (e1, e2, one_past (run_more joined d more)) refl
 
 behind_is : {A : Type 0} (joined : A → A → Bool) (d : A) (more rest after : List A) (n : ℕ) →
-    rest ≡ d ∷ more → n ≡ run_more joined d more → after ≡ drop (n + 1) rest → after ≡ drop (run_more joined d more) more
+    rest ≡ d ∷ more
+    → n ≡ run_more joined d more → after ≡ drop (n + 1) rest → after ≡ drop (run_more joined d more) more
 behind_is joined d more rest after n e1 e2 e4 = e4 ∙ rw (e1, e2, one_past (run_more joined d more)) refl
 
 -- a turn of a loop over runs, which puts what is made of the run at the front
-pub run_step : {A B : Type 0} (joined : A → A → Bool) (f : List A → List B) (d : A) (more rest run after : List A) (n : ℕ) (out new whole : List B) →
-    rest ≡ d ∷ more → n ≡ run_more joined d more → run ≡ take (n + 1) rest → after ≡ drop (n + 1) rest → new ≡ out ++ f run →
-    out ++ flat_map f (runs joined rest) ≡ whole → new ++ flat_map f (runs joined after) ≡ whole
+pub run_step : {A B : Type 0} (joined : A → A → Bool) (f : List A → List B) (d : A) (more rest run after : List A)
+    (n : ℕ) (out new whole : List B)
+    → rest ≡ d ∷ more → n ≡ run_more joined d more → run ≡ take (n + 1) rest → after ≡ drop (n + 1) rest
+    → new ≡ out ++ f run
+    → out ++ flat_map f (runs joined rest) ≡ whole → new ++ flat_map f (runs joined after) ≡ whole
 run_step joined f d more rest run after n out new whole e1 e2 e3 e4 e5 inv =
-    let k = run_more joined d more in let r = run_is joined d more rest run n e1 e2 e3 in let a = behind_is joined d more rest after n e1 e2 e4 in
-    rw (e5, r, a) (append_assoc out (f (d ∷ take k more)) (flat_map f (runs joined (drop k more))) ∙ sym (ap (λ t. out ++ flat_map f t) (ap (λ t. runs joined t) e1 ∙ runs_front joined d more)) ∙ inv)
+    let k = run_more joined d more in
+    let r = run_is joined d more rest run n e1 e2 e3 in
+    let a = behind_is joined d more rest after n e1 e2 e4 in
+    rw (e5, r, a)
+    (append_assoc out (f (d ∷ take k more)) (flat_map f (runs joined (drop k more)))
+    ∙ sym (ap (λ t. out ++ flat_map f t) (ap (λ t. runs joined t) e1 ∙ runs_front joined d more))
+    ∙ inv)
 
 -- an element in front of runs gives runs of the longer list
-put_whole : {A : Type 0} (joined : A → A → Bool) (d : A) (rs : List (List A)) → flat_map (λ r. r) (put_before joined d rs) ≡ d ∷ flat_map (λ r. r) rs
+put_whole : {A : Type 0} (joined : A → A → Bool) (d : A) (rs : List (List A))
+    → flat_map (λ r. r) (put_before joined d rs) ≡ d ∷ flat_map (λ r. r) rs
 put_whole joined d [] = refl
 put_whole joined d ([] ∷ rs) = refl
 put_whole joined d ((e ∷ r) ∷ rs) = step (joined d e)
   where
-    step : (b : Bool) → flat_map (λ r. r) (cond b ((d ∷ e ∷ r) ∷ rs) ((d ∷ []) ∷ (e ∷ r) ∷ rs)) ≡ d ∷ e ∷ r ++ flat_map (λ r. r) rs
+    step : (b : Bool)
+        → flat_map (λ r. r) (cond b ((d ∷ e ∷ r) ∷ rs) ((d ∷ []) ∷ (e ∷ r) ∷ rs)) ≡ d ∷ e ∷ r ++ flat_map (λ r. r) rs
     step true = refl
     step false = refl
 
-put_runs : {A : Type 0} (joined : A → A → Bool) (d : A) (rs : List (List A)) → AreRuns joined rs → AreRuns joined (put_before joined d rs)
+put_runs : {A : Type 0} (joined : A → A → Bool) (d : A) (rs : List (List A))
+    → AreRuns joined rs → AreRuns joined (put_before joined d rs)
 put_runs joined d [] are = (tt {0}, tt {0}, tt {0})
 put_runs joined d ([] ∷ rs) are = absurd are
 put_runs joined d ((e ∷ r) ∷ rs) are = step (joined d e) refl
@@ -76,7 +92,8 @@ pub runs_are_maximal : {A : Type 0} (joined : A → A → Bool) (es : List A) �
 runs_are_maximal joined es = record { whole = all_whole joined es; runs = all_runs joined es }
 
 -- what holds of each element of a list holds in each of its runs
-put_all : {A : Type 0} (P : A → Type 0) (joined : A → A → Bool) (d : A) (rs : List (List A)) → P d → AllByRecursion (AllByRecursion P) rs → AllByRecursion (AllByRecursion P) (put_before joined d rs)
+put_all : {A : Type 0} (P : A → Type 0) (joined : A → A → Bool) (d : A) (rs : List (List A))
+    → P d → AllByRecursion (AllByRecursion P) rs → AllByRecursion (AllByRecursion P) (put_before joined d rs)
 put_all P joined d [] p all = ((p, tt {0}), tt {0})
 put_all P joined d ([] ∷ rs) p all = ((p, tt {0}), all.1)
 put_all P joined d ((e ∷ r) ∷ rs) p all = step (joined d e)
@@ -85,37 +102,51 @@ put_all P joined d ((e ∷ r) ∷ rs) p all = step (joined d e)
     step true = ((p, all.0), all.1)
     step false = ((p, tt {0}), all)
 
-pub all_in_runs : {A : Type 0} (P : A → Type 0) (joined : A → A → Bool) (es : List A) → AllByRecursion P es → AllByRecursion (AllByRecursion P) (runs joined es)
+pub all_in_runs : {A : Type 0} (P : A → Type 0) (joined : A → A → Bool) (es : List A)
+    → AllByRecursion P es → AllByRecursion (AllByRecursion P) (runs joined es)
 all_in_runs P joined [] all = tt {0}
 all_in_runs P joined (d ∷ es) all = put_all P joined d (runs joined es) all.0 (all_in_runs P joined es all.1)
 
-pub all_append : {A : Type 0} (P : A → Type 0) (xs ys : List A) → AllByRecursion P xs → AllByRecursion P ys → AllByRecursion P (xs ++ ys)
+pub all_append : {A : Type 0} (P : A → Type 0) (xs ys : List A)
+    → AllByRecursion P xs → AllByRecursion P ys → AllByRecursion P (xs ++ ys)
 all_append P [] ys all more = more
 all_append P (x ∷ xs) ys all more = (all.0, all_append P xs ys all.1 more)
 
 -- what is as long as each run is in all as long as the list
-whole_length : {A B : Type 0} (f : List A → List B) → ((r : List A) → length (f r) ≡ length r) → (rs : List (List A)) → length (flat_map f rs) ≡ length (flat_map (λ r. r) rs)
+whole_length : {A B : Type 0} (f : List A → List B)
+    → ((r : List A) → length (f r) ≡ length r) → (rs : List (List A))
+    → length (flat_map f rs) ≡ length (flat_map (λ r. r) rs)
 whole_length f same [] = refl
-whole_length f same (r ∷ rs) = rw (length-append (f r) (flat_map f rs), length-append r (flat_map (λ r. r) rs), same r, whole_length f same rs) refl
+whole_length f same (r ∷ rs) =
+    rw (length-append (f r) (flat_map f rs), length-append r (flat_map (λ r. r) rs), same r, whole_length f same rs)
+    refl
 
-pub runs_length : {A B : Type 0} (joined : A → A → Bool) (f : List A → List B) → ((r : List A) → length (f r) ≡ length r) → (es : List A) → length (flat_map f (runs joined es)) ≡ length es
+pub runs_length : {A B : Type 0} (joined : A → A → Bool) (f : List A → List B)
+    → ((r : List A) → length (f r) ≡ length r) → (es : List A) → length (flat_map f (runs joined es)) ≡ length es
 runs_length joined f same es = whole_length f same (runs joined es) ∙ ap (λ t. length t) (all_whole joined es)
 
 -- what is cut into maximal runs is cut as `runs` does
-put_apart : {A : Type 0} (joined : A → A → Bool) (d : A) (rs : List (List A)) → EndsBefore joined d [] rs → put_before joined d rs ≡ (d ∷ []) ∷ rs
+put_apart : {A : Type 0} (joined : A → A → Bool) (d : A) (rs : List (List A))
+    → EndsBefore joined d [] rs → put_before joined d rs ≡ (d ∷ []) ∷ rs
 put_apart joined d [] ends = refl
 put_apart joined d ([] ∷ rs) ends = absurd ends
 put_apart joined d ((e ∷ r) ∷ rs) ends = ap (λ b. cond b ((d ∷ e ∷ r) ∷ rs) ((d ∷ []) ∷ (e ∷ r) ∷ rs)) ends
 
 front_run : {A : Type 0} (joined : A → A → Bool) (d : A) (es more : List A) (rs : List (List A)) →
-    JoinedAfter joined d es → EndsBefore joined d es rs → runs joined more ≡ rs → runs joined (d ∷ es ++ more) ≡ (d ∷ es) ∷ rs
+    JoinedAfter joined d es
+    → EndsBefore joined d es rs → runs joined more ≡ rs → runs joined (d ∷ es ++ more) ≡ (d ∷ es) ∷ rs
 front_run joined d [] more rs all ends h = ap (λ t. put_before joined d t) h ∙ put_apart joined d rs ends
-front_run joined d (e ∷ es) more rs all ends h = ap (λ t. put_before joined d t) (front_run joined e es more rs all.1 ends h) ∙ ap (λ b. cond b ((d ∷ e ∷ es) ∷ rs) ((d ∷ []) ∷ (e ∷ es) ∷ rs)) all.0
+front_run joined d (e ∷ es) more rs all ends h =
+    ap (λ t. put_before joined d t) (front_run joined e es more rs all.1 ends h)
+    ∙ ap (λ b. cond b ((d ∷ e ∷ es) ∷ rs) ((d ∷ []) ∷ (e ∷ es) ∷ rs)) all.0
 
-pub runs_of_whole : {A : Type 0} (joined : A → A → Bool) (rs : List (List A)) → AreRuns joined rs → runs joined (flat_map (λ r. r) rs) ≡ rs
+pub runs_of_whole : {A : Type 0} (joined : A → A → Bool) (rs : List (List A))
+    → AreRuns joined rs → runs joined (flat_map (λ r. r) rs) ≡ rs
 runs_of_whole joined [] are = refl
 runs_of_whole joined ([] ∷ rs) are = absurd are
-runs_of_whole joined ((e ∷ es) ∷ rs) are = front_run joined e es (flat_map (λ r. r) rs) rs are.0 are.1 (runs_of_whole joined rs are.2)
+runs_of_whole joined ((e ∷ es) ∷ rs) are =
+    front_run joined e es (flat_map (λ r. r) rs) rs are.0 are.1 (runs_of_whole joined rs are.2)
 
-pub maximal_runs : {A : Type 0} (joined : A → A → Bool) (es : List A) (rs : List (List A)) → AreMaximalRuns joined es rs → rs ≡ runs joined es
+pub maximal_runs : {A : Type 0} (joined : A → A → Bool) (es : List A) (rs : List (List A))
+    → AreMaximalRuns joined es rs → rs ≡ runs joined es
 maximal_runs joined es rs a = sym (runs_of_whole joined rs a.runs) ∙ ap (λ t. runs joined t) a.whole

@@ -22,87 +22,131 @@ all_anchors [] xs near places = tt {0}
 all_anchors (p ∷ ps) [] near places = tt {0}
 all_anchors (p ∷ ps) (x ∷ xs) near places = ((near.0.0, near.0.1, places.0), all_anchors ps xs near.1 places.1)
 
-pub anchors_are : (es : List SlopeInput) (ps : List StemPlan) (xs : List ℤ) → es ≡ slope_inputs ps xs → AllEndsNear ps → ArePlaces xs → AreAnchors es
+pub anchors_are : (es : List SlopeInput) (ps : List StemPlan) (xs : List ℤ)
+    → es ≡ slope_inputs ps xs → AllEndsNear ps → ArePlaces xs → AreAnchors es
 anchors_are es ps xs e near places = subst AreAnchors (sym e) (all_anchors ps xs near places)
 
 -- events of a beam stand over the line from its first to its last
 
 -- what of a beam's events is said of any line with the same ends
-between : (lo hi : ℤ) (a : SlopeInput) → IsAnchor a → lo ≤ℤ a.x → a.x ≤ℤ hi → (climb : ℤ) → IsOver (record { first = lo; last = hi; climb = climb }) a
+between : (lo hi : ℤ) (a : SlopeInput)
+    → IsAnchor a → lo ≤ℤ a.x → a.x ≤ℤ hi → (climb : ℤ) → IsOver (record { first = lo; last = hi; climb = climb }) a
 between lo hi a is after before climb = record { own_low = is.0; own_high = is.1; after = after; before = before }
 
 first_before : (a : SlopeInput) (es : List SlopeInput) → RiseFrom a es → a.x ≤ℤ (last_input a es).x
 first_before a [] r = omega (arith, ints)
 first_before a (b ∷ es) r = let h = first_before b es r.1 in let g = r.0 in omega (arith, ints, g, h)
 
-all_between : (lo climb : ℤ) (a : SlopeInput) (es : List SlopeInput) → lo ≤ℤ a.x → IsAnchor a → AreAnchors es → RiseFrom a es →
-    AreOver (record { first = lo; last = (last_input a es).x; climb = climb }) (a ∷ es)
+all_between : (lo climb : ℤ) (a : SlopeInput) (es : List SlopeInput)
+    → lo ≤ℤ a.x → IsAnchor a → AreAnchors es → RiseFrom a es
+    → AreOver (record { first = lo; last = (last_input a es).x; climb = climb }) (a ∷ es)
 all_between lo climb a [] after is are r = (between lo a.x a is after (omega (arith, ints)) climb, tt {0})
-all_between lo climb a (b ∷ es) after is are r = let g = r.0 in (between lo (last_input b es).x a is after (first_before a (b ∷ es) r) climb, all_between lo climb b es (omega (arith, ints, g, after)) are.0 are.1 r.1)
+all_between lo climb a (b ∷ es) after is are r =
+    let g = r.0 in (
+      between lo (last_input b es).x a is after (first_before a (b ∷ es) r) climb,
+      all_between lo climb b es (omega (arith, ints, g, after)) are.0 are.1 r.1,
+    )
 
 last_anchor : (a : SlopeInput) (es : List SlopeInput) → IsAnchor a → AreAnchors es → IsAnchor (last_input a es)
 last_anchor a [] is are = is
 last_anchor a (b ∷ es) is are = last_anchor b es are.0 are.1
 
 -- a quotient is at most 500 where 500 times the divisor is no less than what is divided
-pub quotient_near : (z m : ℤ) → pos 0 <ℤ m → unsigned_abs z ≤ 500 * unsigned_abs m → (negsuc 499 ≤ℤ int_div_euclid z m) × (int_div_euclid z m ≤ℤ pos 500)
-quotient_near (pos a) (pos b) some few = let q : a / b ≤ 500 = div-le_of_le-mul b (omega (arith, few)) in (omega (arith, ints), omega (arith, ints, q))
-quotient_near (negsuc a) (pos b) some few = let b_some : 0 < b = omega (arith, ints, some) in let q : a / b < 500 = (div-lt_iff_lt-mul b_some).1 (omega (arith, few)) in (omega (arith, ints, q), omega (arith, ints))
+pub quotient_near : (z m : ℤ)
+    → pos 0 <ℤ m → unsigned_abs z ≤ 500 * unsigned_abs m
+    → (negsuc 499 ≤ℤ int_div_euclid z m) × (int_div_euclid z m ≤ℤ pos 500)
+quotient_near (pos a) (pos b) some few =
+    let q : a / b ≤ 500 = div-le_of_le-mul b (omega (arith, few)) in (omega (arith, ints), omega (arith, ints, q))
+quotient_near (negsuc a) (pos b) some few =
+    let b_some : 0 < b = omega (arith, ints, some) in
+    let q : a / b < 500 = (div-lt_iff_lt-mul b_some).1 (omega (arith, few)) in
+    (omega (arith, ints, q), omega (arith, ints))
 quotient_near z (negsuc b) some few = absurd (omega (arith, ints, some))
 
-pub rise_near : (climb along length : ℤ) → negsuc 499 ≤ℤ climb → climb ≤ℤ pos 500 → pos 0 ≤ℤ along → along ≤ℤ length → pos 0 <ℤ length →
-    (negsuc 499 ≤ℤ int_div_euclid (climb *ℤ along) length) × (int_div_euclid (climb *ℤ along) length ≤ℤ pos 500)
+pub rise_near : (climb along length : ℤ)
+    → negsuc 499 ≤ℤ climb → climb ≤ℤ pos 500 → pos 0 ≤ℤ along → along ≤ℤ length → pos 0 <ℤ length
+    → (negsuc 499 ≤ℤ int_div_euclid (climb *ℤ along) length) × (int_div_euclid (climb *ℤ along) length ≤ℤ pos 500)
 rise_near climb along length low high begun within some =
-    let c : unsigned_abs climb ≤ 500 = omega (arith, ints, low, high) in let a : unsigned_abs along ≤ unsigned_abs length = omega (arith, ints, begun, within) in
-    quotient_near (climb *ℤ along) length some (subst (λ n. n ≤ 500 * unsigned_abs length) (sym (unsigned_abs-mul climb along)) (mul-le-mul c a))
+    let c : unsigned_abs climb ≤ 500 = omega (arith, ints, low, high) in
+    let a : unsigned_abs along ≤ unsigned_abs length = omega (arith, ints, begun, within) in
+    quotient_near (climb *ℤ along) length some
+    (subst (λ n. n ≤ 500 * unsigned_abs length) (sym (unsigned_abs-mul climb along)) (mul-le-mul c a))
 
 -- the rise of a line over an event of its beam
-rise_over : (line : BeamLine) (a : SlopeInput) → IsLine line → IsOver line a → (negsuc 499 ≤ℤ rise_at line a.x) × (rise_at line a.x ≤ℤ pos 500)
+rise_over : (line : BeamLine) (a : SlopeInput)
+    → IsLine line → IsOver line a → (negsuc 499 ≤ℤ rise_at line a.x) × (rise_at line a.x ≤ℤ pos 500)
 unfolding rise_at
 rise_over line a is over =
     let after = over.after in let before = over.before in let rising = is.rising in
-    rise_near line.climb (a.x -ℤ line.first) (line.last -ℤ line.first) is.low is.high (omega (arith, ints, after)) (omega (arith, ints, before)) (omega (arith, ints, rising))
+    rise_near line.climb (a.x -ℤ line.first) (line.last -ℤ line.first) is.low is.high (omega (arith, ints, after))
+    (omega (arith, ints, before)) (omega (arith, ints, rising))
 
 ask_near : (line : BeamLine) (a : SlopeInput) → IsLine line → IsOver line a → IsBeamBase (a.own -ℤ rise_at line a.x)
-ask_near line a is over = let r = rise_over line a is over in let low = over.own_low in let high = over.own_high in (omega (arith, ints, low, r.1), omega (arith, ints, high, r.0))
+ask_near line a is over =
+    let r = rise_over line a is over in
+    let low = over.own_low in
+    let high = over.own_high in
+    (omega (arith, ints, low, r.1), omega (arith, ints, high, r.0))
 
 further_near : (up : Bool) (y z : ℤ) → IsBeamBase y → IsBeamBase z → IsBeamBase (further_end up y z)
 unfolding further_end
 further_near true y z p q = (omega (arith, ints, clamps, p.0, q.0), omega (arith, ints, clamps, p.1, q.1))
 further_near false y z p q = (omega (arith, ints, clamps, p.0, q.0), omega (arith, ints, clamps, p.1, q.1))
 
-along_near : (up : Bool) (line : BeamLine) (z : ℤ) (es : List SlopeInput) → IsLine line → IsBeamBase z → AreOver line es → IsBeamBase (base_along up line z es)
+along_near : (up : Bool) (line : BeamLine) (z : ℤ) (es : List SlopeInput)
+    → IsLine line → IsBeamBase z → AreOver line es → IsBeamBase (base_along up line z es)
 along_near up line z [] is near are = near
-along_near up line z (a ∷ es) is near are = along_near up line (further_end up z (a.own -ℤ rise_at line a.x)) es is (further_near up z (a.own -ℤ rise_at line a.x) near (ask_near line a is are.0)) are.1
+along_near up line z (a ∷ es) is near are =
+    along_near up line (further_end up z (a.own -ℤ rise_at line a.x)) es is
+    (further_near up z (a.own -ℤ rise_at line a.x) near (ask_near line a is are.0)) are.1
 
 -- the base of a beam is near
-pub base_near : (line : BeamLine) (a : SlopeInput) (others beam : List SlopeInput) (base : ℤ) → base ≡ base_along a.up line (a.own -ℤ rise_at line a.x) others →
-    beam ≡ a ∷ others → IsLine line → AreOver line beam → IsBeamBase base
-base_near line a others beam base e f is are = let over = subst (AreOver line) f are in subst IsBeamBase (sym e) (along_near a.up line (a.own -ℤ rise_at line a.x) others is (ask_near line a is over.0) over.1)
+pub base_near : (line : BeamLine) (a : SlopeInput) (others beam : List SlopeInput) (base : ℤ)
+    → base ≡ base_along a.up line (a.own -ℤ rise_at line a.x) others
+    → beam ≡ a ∷ others → IsLine line → AreOver line beam → IsBeamBase base
+base_near line a others beam base e f is are =
+    let over = subst (AreOver line) f are in
+    subst IsBeamBase (sym e)
+    (along_near a.up line (a.own -ℤ rise_at line a.x) others is (ask_near line a is over.0) over.1)
 
 -- the line of a beam goes to the right, and its events stand over it
-pub line_goes : (a b z : SlopeInput) (beam others more : List SlopeInput) (line : BeamLine) → beam ≡ a ∷ others → others ≡ b ∷ more → z ≡ last_input b more → line ≡ slope_line a z →
-    AreAnchors beam → Rise beam → IsLine line × AreOver line beam
+pub line_goes : (a b z : SlopeInput) (beam others more : List SlopeInput) (line : BeamLine)
+    → beam ≡ a ∷ others → others ≡ b ∷ more → z ≡ last_input b more → line ≡ slope_line a z
+    → AreAnchors beam → Rise beam → IsLine line × AreOver line beam
 unfolding slope_line
 line_goes a b z beam others more line e f g h are rise =
     let whole = e ∙ ap (λ t. a ∷ t) f in let are1 = subst AreAnchors whole are in let rise1 = subst Rise whole rise in
     let goes : IsLine (slope_line a (last_input b more)) =
     (let r = rise1.0 in let l = first_before b more rise1.1 in
-    record { first = are1.0.2.0; rising = omega (arith, ints, r, l); last = (last_anchor b more are1.1.0 are1.1.1).2.1; low = omega (arith, ints, clamps); high = omega (arith, ints, clamps) }) in
-    let over : AreOver (slope_line a (last_input b more)) (a ∷ b ∷ more) = all_between a.x (slope_line a (last_input b more)).climb a (b ∷ more) (omega (arith, ints)) are1.0 are1.1 rise1 in
-    let same : line ≡ slope_line a (last_input b more) = h ∙ ap (slope_line a) g in (subst IsLine (sym same) goes, subst (λ t. AreOver line t) (sym whole) (subst (λ l. AreOver l (a ∷ b ∷ more)) (sym same) over))
+    record {
+      first = are1.0.2.0;
+      rising = omega (arith, ints, r, l);
+      last = (last_anchor b more are1.1.0 are1.1.1).2.1;
+      low = omega (arith, ints, clamps);
+      high = omega (arith, ints, clamps);
+    }) in
+    let over : AreOver (slope_line a (last_input b more)) (a ∷ b ∷ more) =
+    all_between a.x (slope_line a (last_input b more)).climb a (b ∷ more) (omega (arith, ints)) are1.0 are1.1 rise1 in
+    let same : line ≡ slope_line a (last_input b more) = h ∙ ap (slope_line a) g in (
+      subst IsLine (sym same) goes,
+      subst (λ t. AreOver line t) (sym whole) (subst (λ l. AreOver l (a ∷ b ∷ more)) (sym same) over),
+    )
 
 -- the abscissas of a beam rise, and so do those behind it
-rise_front : (a : SlopeInput) (es : List SlopeInput) → RisesAfter a es → RiseFrom a (take (run_more shares_beam a es) es)
+rise_front : (a : SlopeInput) (es : List SlopeInput)
+    → RisesAfter a es → RiseFrom a (take (run_more shares_beam a es) es)
 rise_front a [] r = tt {0}
 rise_front a (b ∷ bs) r = step (shares_beam a b) r.0 (rise_front b bs r.1)
   where
-    step : (t : Bool) → (t ≡ true → a.x <ℤ b.x) → RiseFrom b (take (run_more shares_beam b bs) bs) → RiseFrom a (take (cond t (suc (run_more shares_beam b bs)) 0) (b ∷ bs))
+    step : (t : Bool) → (t ≡ true → a.x <ℤ b.x) → RiseFrom b (take (run_more shares_beam b bs) bs)
+        → RiseFrom a (take (cond t (suc (run_more shares_beam b bs)) 0) (b ∷ bs))
     step true h rest = (h refl, rest)
     step false h rest = tt {0}
 
-pub beam_rises : (a : SlopeInput) (more rest beam : List SlopeInput) (n : ℕ) → rest ≡ a ∷ more → n ≡ run_more shares_beam a more → beam ≡ take (n + 1) rest → RisesInBeams rest → Rise beam
-beam_rises a more rest beam n e1 e2 e3 r = subst Rise (sym (run_is shares_beam a more rest beam n e1 e2 e3)) (rise_front a more (subst RisesInBeams e1 r))
+pub beam_rises : (a : SlopeInput) (more rest beam : List SlopeInput) (n : ℕ)
+    → rest ≡ a ∷ more → n ≡ run_more shares_beam a more → beam ≡ take (n + 1) rest → RisesInBeams rest → Rise beam
+beam_rises a more rest beam n e1 e2 e3 r =
+    subst Rise (sym (run_is shares_beam a more rest beam n e1 e2 e3)) (rise_front a more (subst RisesInBeams e1 r))
 
 pub rise_behind : (n : ℕ) (es : List SlopeInput) → RisesInBeams es → RisesInBeams (drop n es)
 rise_behind zero es r = r
@@ -126,8 +170,13 @@ anchors_length [] xs h = refl
 anchors_length (p ∷ ps) [] h = h
 anchors_length (p ∷ ps) (x ∷ xs) h = ap suc (anchors_length ps xs (omega (arith, h)))
 
-pub ends_length : (ends : List ℤ) (es : List SlopeInput) (ps : List StemPlan) (xs : List ℤ) → ends ≡ sloped_ends es → es ≡ slope_inputs ps xs → length xs ≡ length ps → length ends ≡ length ps
-ends_length ends es ps xs e f h = ap (λ t. length t) e ∙ runs_length shares_beam beam_ends beam_ends_length es ∙ ap (λ t. length t) f ∙ anchors_length ps xs h
+pub ends_length : (ends : List ℤ) (es : List SlopeInput) (ps : List StemPlan) (xs : List ℤ)
+    → ends ≡ sloped_ends es → es ≡ slope_inputs ps xs → length xs ≡ length ps → length ends ≡ length ps
+ends_length ends es ps xs e f h =
+    ap (λ t. length t) e
+    ∙ runs_length shares_beam beam_ends beam_ends_length es
+    ∙ ap (λ t. length t) f
+    ∙ anchors_length ps xs h
 
 with_ends_length : (ps : List StemPlan) (zs : List ℤ) → length zs ≡ length ps → length (with_ends ps zs) ≡ length ps
 with_ends_length [] zs h = refl
@@ -135,6 +184,10 @@ with_ends_length (p ∷ ps) [] h = h
 with_ends_length (p ∷ ps) (z ∷ zs) h = ap suc (with_ends_length ps zs (omega (arith, h)))
 
 -- as many plans as before
-pub sloped_length : (plans : List StemPlan) (ps : List StemPlan) (xs : List ℤ) → plans ≡ sloped ps xs → length xs ≡ length ps → length plans ≡ length ps
+pub sloped_length : (plans : List StemPlan) (ps : List StemPlan) (xs : List ℤ)
+    → plans ≡ sloped ps xs → length xs ≡ length ps → length plans ≡ length ps
 unfolding sloped
-sloped_length plans ps xs e h = ap (λ t. length t) e ∙ with_ends_length ps (sloped_ends (slope_inputs ps xs)) (ends_length (sloped_ends (slope_inputs ps xs)) (slope_inputs ps xs) ps xs refl refl h)
+sloped_length plans ps xs e h =
+    ap (λ t. length t) e
+    ∙ with_ends_length ps (sloped_ends (slope_inputs ps xs))
+    (ends_length (sloped_ends (slope_inputs ps xs)) (slope_inputs ps xs) ps xs refl refl h)

@@ -21,7 +21,8 @@ all_good [] cs can = tt {0}
 all_good (f ∷ fs) [] can = tt {0}
 all_good (f ∷ fs) (c ∷ cs) can = (still_is_good f c can.0, all_good fs cs can.1)
 
-pub stills_are_good : (es : List StemInput) (fs : List Flat) (cs : List Clef) → es ≡ stills fs cs → AllCanStand fs cs → AllGood es
+pub stills_are_good : (es : List StemInput) (fs : List Flat) (cs : List Clef)
+    → es ≡ stills fs cs → AllCanStand fs cs → AllGood es
 stills_are_good es fs cs e can = subst AllGood (sym e) (all_good fs cs can)
 
 pub stills_length : (clef : Clef) (fs : List Flat) → length (stills fs (clefs_from clef fs)) ≡ length fs

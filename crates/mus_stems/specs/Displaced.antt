@@ -1,5 +1,5 @@
--- Displaced heads. The head that is taken first stands at its stem. Each other one is displaced to the other side of the
--- stem exactly where it is at most one step past the head taken before it and that head isn't displaced.
+-- Displaced heads. The head that is taken first stands at its stem. Each other one is displaced to the other side of
+-- the stem exactly where it is at most one step past the head taken before it and that head isn't displaced.
 use Rattle.std.specs.Prelude.{◌≡◌, ℤ, pos, Bool, not, ◌&&◌, if◌then◌else◌, ⊤, List, [], ◌∷◌, length, slice_index_or}
 use Rattle.std.specs.Ordering.{int_eq}
 use Rattle.mus_stems.specs.declared.heads.HeadPosition.{HeadPosition}
@@ -19,7 +19,8 @@ dx_where up displaced = if displaced then head_shift up else pos 0
 -- heads that are taken one after the other, the first of them after b
 abbrev pub DisplacedAfter : Bool → List ℤ → Taken → List Taken → Type 0
 DisplacedAfter up xs b [] = ⊤
-DisplacedAfter up xs b (t ∷ ts) = (dx_of xs t ≡ dx_where up (is_step_past b.level t.level && not (is_displaced xs b))) × DisplacedAfter up xs t ts
+DisplacedAfter up xs b (t ∷ ts) =
+    (dx_of xs t ≡ dx_where up (is_step_past b.level t.level && not (is_displaced xs b))) × DisplacedAfter up xs t ts
 
 abbrev pub Displaced : Bool → List ℤ → List Taken → Type 0
 Displaced up xs [] = ⊤

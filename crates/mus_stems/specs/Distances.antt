@@ -1,5 +1,5 @@
--- The distances by which stems, heads, signs, dots and ledger lines stand, in u: to the right of their column, or above the
--- bottom line of the staff.
+-- The distances by which stems, heads, signs, dots and ledger lines stand, in u: to the right of their column, or above
+-- the bottom line of the staff.
 use Rattle.std.specs.Prelude.{ℕ, ℤ, pos, negsuc}
 
 -- a step of the staff, and the middle line, four steps up

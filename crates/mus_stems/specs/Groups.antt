@@ -20,9 +20,12 @@ IdsRise es = IsStrictlyIncreasing (map (λ (e : StemInput). e.id) es)
 
 -- the maximal runs of plans with one group are the plans of the beams, beam for beam
 abbrev pub BeamsByGroups : Type 0
-BeamsByGroups = (wish : Wish) (es : List StemInput) → IdsRise es → runs same_group (plans_of_runs wish (beams es)) ≡ map (run_plans wish) (beams es)
+BeamsByGroups =
+    (wish : Wish) (es : List StemInput)
+    → IdsRise es → runs same_group (plans_of_runs wish (beams es)) ≡ map (run_plans wish) (beams es)
 
 -- the runs that a slope goes by are as long as the beams, one for each
 abbrev pub SlopesByBeams : Type 0
 SlopesByBeams = (wish : Wish) (es : List StemInput) (xs : List ℤ) → IdsRise es → length xs ≡ length es
-    → map (λ run. length run) (runs shares_beam (slope_inputs (plans_of_runs wish (beams es)) xs)) ≡ map (λ beam. length beam) (beams es)
+    → map (λ run. length run) (runs shares_beam (slope_inputs (plans_of_runs wish (beams es)) xs))
+    ≡ map (λ beam. length beam) (beams es)

@@ -1,5 +1,6 @@
--- Displaced heads: heads are taken from the lowest up where the stem goes up, and from the highest down where it goes down, at one height
--- in the order of the text. A head at most one step past the one taken before it goes to the other side of the stem, unless that one did.
+-- Displaced heads: heads are taken from the lowest up where the stem goes up, and from the highest down where it goes
+-- down, at one height in the order of the text. A head at most one step past the one taken before it goes to the other
+-- side of the stem, unless that one did.
 use Rattle.std.specs.Prelude.{ℕ, zero, suc, ℤ, pos, negsuc, ◌+◌, ◌+ℤ◌, ◌-ℤ◌, ◌≤ℤ◌, Bool, true, false, not, ◌&&◌, int_le}
 use Rattle.std.specs.Prelude.{if◌then◌else◌, List, [], ◌∷◌, length, replicate, Option, Some, None, is_some}
 use Rattle.std.specs.Ordering.{int_eq}
@@ -45,7 +46,8 @@ pub record Taken : Type 0 where
 
 -- the head at place k, if it stands at level v, in front of what is taken after it
 unfoldable pub taken_one : Bool → ℤ → ℕ → HeadPosition → List Taken → List Taken
-taken_one up v k s rest = if int_eq (level_of up s.height) v then record { place = k; level = v; signed = s.signed } ∷ rest else rest
+taken_one up v k s rest =
+    if int_eq (level_of up s.height) v then record { place = k; level = v; signed = s.signed } ∷ rest else rest
 
 -- the heads at one level, counted from k
 abbrev pub taken_at : Bool → ℤ → ℕ → List HeadPosition → List Taken → List Taken
@@ -73,7 +75,8 @@ gives_way (Some b) v = is_step_past b.level v && not b.moved
 abbrev pub shifted : ℤ → Option LastHead → List Taken → List ℤ → List ℤ
 shifted dx b [] xs = xs
 shifted dx b (t ∷ ts) xs =
-    if gives_way b t.level then shifted dx (Some (record { level = t.level; moved = true })) ts (slice_set xs t.place dx)
+    if gives_way b t.level then shifted dx (Some (record { level = t.level; moved = true })) ts
+    (slice_set xs t.place dx)
     else shifted dx (Some (record { level = t.level; moved = false })) ts xs
 
 unfoldable pub head_shift : Bool → ℤ

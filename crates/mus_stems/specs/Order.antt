@@ -3,7 +3,8 @@
 use Rattle.std.specs.{Prelude.{◌≡◌, ℕ, ◌<◌, ◌<ℤ◌, ◌⊎◌, ⊤, Bool, List, [], ◌∷◌, slice_get, Some}, List.AllByRecursion}
 use Rattle.mus_stems.specs.{declared.heads.HeadPosition.HeadPosition, Heads.Taken, Heads.level_of}
 
--- a head is taken before another where it stands less far in the way in which heads are taken, or as far and earlier in the text
+-- a head is taken before another where it stands less far in the way in which heads are taken,
+-- or as far and earlier in the text
 abbrev pub IsBefore : Taken → Taken → Type 0
 IsBefore a b = (a.level <ℤ b.level) ⊎ ((a.level ≡ b.level) × (a.place < b.place))
 

@@ -85,7 +85,9 @@ pub record ArePlans (wish : Wish) (es : List StemInput) (plans : List StemPlan) 
 
 -- there are no other plans
 abbrev pub OnePlan : Type 0
-OnePlan = (wish : Wish) (es : List StemInput) (plans others : List StemPlan) → ArePlans wish es plans → ArePlans wish es others → plans ≡ others
+OnePlan =
+    (wish : Wish) (es : List StemInput) (plans others : List StemPlan)
+    → ArePlans wish es plans → ArePlans wish es others → plans ≡ others
 
 -- a stem's own end is -5250 to 7250
 abbrev pub IsEndNear : StemPlan → Type 0

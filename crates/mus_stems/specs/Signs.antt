@@ -13,7 +13,9 @@ sign_dx first k = first -ℤ pos (between_columns * k)
 
 abbrev pub signs_along : ℤ → ℕ → List Taken → List (Option ℤ) → List (Option ℤ)
 signs_along first k [] xs = xs
-signs_along first k (t ∷ ts) xs = if t.signed then signs_along first (k + 1) ts (slice_set xs t.place (Some (sign_dx first k))) else signs_along first k ts xs
+signs_along first k (t ∷ ts) xs =
+    if t.signed then signs_along first (k + 1) ts (slice_set xs t.place (Some (sign_dx first k)))
+    else signs_along first k ts xs
 
 unfoldable pub signs_from : ℤ → List HeadPosition → List (Option ℤ)
 signs_from first ss = signs_along first 0 (taken false ss) (replicate (length ss) None)

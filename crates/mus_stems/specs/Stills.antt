@@ -23,7 +23,13 @@ is_short Base.Whole = false
 is_short _ = true
 
 unfoldable pub still_of : Flat → Clef → StemInput
-still_of f c = record { id = f.event.id; base = f.event.value.base; dots = f.event.value.dots; parted = f.event.parted; stands = map (stand_of c) f.event.heads }
+still_of f c = record {
+  id = f.event.id;
+  base = f.event.value.base;
+  dots = f.event.value.dots;
+  parted = f.event.parted;
+  stands = map (stand_of c) f.event.heads;
+}
 
 -- the clef at each event
 abbrev pub clefs_from : Clef → List Flat → List Clef

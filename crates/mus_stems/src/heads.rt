@@ -125,7 +125,9 @@ fn shift_one(
     requires low { negsuc 21 ≤ℤ v }
     requires high { v ≤ℤ pos 22 }
     requires room { i < length shifts.old }
-    ensures moved { (rest : List Taken) → shifted (head_shift up) result rest shifts.new ≡ shifted (head_shift up) last (taken_one up v i s rest) shifts.old }
+    ensures moved { (rest : List Taken)
+        → shifted (head_shift up) result rest shifts.new
+        ≡ shifted (head_shift up) last (taken_one up v i s rest) shifts.old }
 {
     if level(up, s.height) != v {
         return last;
@@ -155,7 +157,9 @@ fn shift_level(
     requires low { negsuc 21 ≤ℤ v }
     requires high { v ≤ℤ pos 22 }
     requires room { length stands.now ≡ length shifts.old }
-    ensures moved { (rest : List Taken) → shifted (head_shift up) result rest shifts.new ≡ shifted (head_shift up) last (taken_at up v 0 stands.now rest) shifts.old }
+    ensures moved { (rest : List Taken)
+        → shifted (head_shift up) result rest shifts.new
+        ≡ shifted (head_shift up) last (taken_at up v 0 stands.now rest) shifts.old }
 {
     let mut before = last;
     let mut i = 0;

@@ -27,7 +27,8 @@ fn sign_one(first: i32, v: i32, s: HeadPosition, i: usize, k: u32, signs: &mut [
     requires few { k ≤ 2250000 }
     requires room { i < length signs.old }
     ensures bound { result ≤ k + 1 }
-    ensures signs { (rest : List Taken) → signs_along first result rest signs.new ≡ signs_along first k (taken_one false v i s rest) signs.old }
+    ensures signs { (rest : List Taken)
+        → signs_along first result rest signs.new ≡ signs_along first k (taken_one false v i s rest) signs.old }
 {
     if level(false, s.height) != v {
         return k;
@@ -47,7 +48,8 @@ fn sign_level(first: i32, v: i32, stands: &[HeadPosition], k: u32, signs: &mut [
     requires low { negsuc 1310 ≤ℤ first }
     requires bound { k ≤ 2200000 }
     ensures bound { result ≤ k + length stands.now }
-    ensures signs { (rest : List Taken) → signs_along first result rest signs.new ≡ signs_along first k (taken_at false v 0 stands.now rest) signs.old }
+    ensures signs { (rest : List Taken)
+        → signs_along first result rest signs.new ≡ signs_along first k (taken_at false v 0 stands.now rest) signs.old }
 {
     let mut next = k;
     let mut i = 0;

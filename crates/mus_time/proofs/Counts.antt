@@ -27,7 +27,9 @@ module _ (s : Score) (t : Timeline) (lengths : List ℕ) (is : lengths ≡ t.len
   pub lengths_count : length lengths ≡ s.measures
   lengths_count = ap length (is ∙ ap (λ z. z.lengths) timed) ∙ length_of_lengths s
 
-  pub voices_count : (voices : List DrawnVoice) → IsGoodScore s → voices ≡ map drawn_voice s.voices → All (λ v. length v.measures ≡ length lengths) voices
+  pub voices_count : (voices : List DrawnVoice)
+      → IsGoodScore s → voices ≡ map drawn_voice s.voices → All (λ v. length v.measures ≡ length lengths) voices
   voices_count voices good drawn =
       subst (All (λ v. length v.measures ≡ length lengths)) (sym drawn)
-      (All-map (λ v. length v.measures ≡ length lengths) drawn_voice s.voices (λ k d inside. voice_count _ ∙ good.measures k d inside ∙ sym lengths_count))
+      (All-map (λ v. length v.measures ≡ length lengths) drawn_voice s.voices
+      (λ k d inside. voice_count _ ∙ good.measures k d inside ∙ sym lengths_count))

@@ -1,5 +1,5 @@
--- The columns of voices as they are drawn. A drawn event has its place in time, and of the key before it what a change draws, so that
--- nothing that stands before a measure is gone through to tell its columns.
+-- The columns of voices as they are drawn. A drawn event has its place in time, and of the key before it what a change
+-- draws, so that nothing that stands before a measure is gone through to tell its columns.
 use Rattle.std.specs.Prelude.{ℕ, ◌+◌, Bool, true, false, nat_le, List, [], ◌∷◌, ◌++◌, length, slice_range}
 use Rattle.{mus_units.specs.declared.note.Bar.{Bar}, mus_score.specs.{declared.score.Score.Score, Seats.is_lower}}
 use Rattle.mus_onsets.specs.declared.keys.Class.{Class}
@@ -21,7 +21,8 @@ events_columns m in_head (e ∷ es) = event_keys m e.tick in_head (has_old e) e.
 
 abbrev pub measures_columns : List ℕ → ℕ → Bool → List DrawnMeasure → List ColumnKey
 measures_columns lengths m in_head [] = []
-measures_columns lengths m in_head (d ∷ ds) = events_columns m in_head d.events ++ bar_key lengths m ∷ measures_columns lengths (m + 1) false ds
+measures_columns lengths m in_head (d ∷ ds) =
+    events_columns m in_head d.events ++ bar_key lengths m ∷ measures_columns lengths (m + 1) false ds
 
 -- before the measures, where the system begins with measure a
 abbrev pub front_columns : Bool → ℕ → Bar → List ColumnKey
@@ -30,7 +31,8 @@ front_columns false a first = []
 
 -- measures a to b - 1 of a voice as if it had a staff for itself, in a system that begins with them or before
 abbrev pub range_columns : Bool → List ℕ → ℕ → ℕ → DrawnVoice → List ColumnKey
-range_columns begins lengths a b v = front_columns begins a v.first ++ measures_columns lengths a begins (slice_range v.measures a b)
+range_columns begins lengths a b v =
+    front_columns begins a v.first ++ measures_columns lengths a begins (slice_range v.measures a b)
 
 abbrev pub voice_columns : List ℕ → ℕ → ℕ → DrawnVoice → List ColumnKey
 voice_columns lengths a b v = range_columns true lengths a b v

@@ -1,5 +1,5 @@
--- Moved scores. A head moves by letters, and a sign before it becomes the one that is as many semitones higher; a key moves by
--- sharps. Beside each stands the test whether it can be moved.
+-- Moved scores. A head moves by letters, and a sign before it becomes the one that is as many semitones higher; a key
+-- moves by sharps. Beside each stands the test whether it can be moved.
 use Rattle.std.specs.Prelude.{◌≡◌, ◌≢◌, ⊤, zero, suc, ℕ, ℤ, pos, negsuc, ◌+ℤ◌, ◌-ℤ◌, ◌*ℤ◌, ◌≤ℤ◌, ◌&&◌, nat_le, int_le}
 use Rattle.std.specs.Prelude.{Bool, true, false, List, [], ◌∷◌, length, map, All, MatchOption, Option, Some, None}
 use Rattle.std.specs.Prelude.{Result, Ok, Err, is_some, unwrap_or}
@@ -71,7 +71,8 @@ abbrev pub octaves_between : ℤ → ℤ → ℤ
 octaves_between change by = int_div_euclid ((pos 7 *ℤ change) -ℤ by) (pos 12)
 
 abbrev pub move_by : ℤ → ℤ → Move
-move_by change by = record { semitones = by; sharps = change; letters = (pos 4 *ℤ change) -ℤ (pos 7 *ℤ octaves_between change by) }
+move_by change by =
+    record { semitones = by; sharps = change; letters = (pos 4 *ℤ change) -ℤ (pos 7 *ℤ octaves_between change by) }
 
 unfoldable pub move_for : ℤ → ℤ → Move
 move_for sharps by = move_by (new_sharps sharps by -ℤ sharps) by
@@ -83,8 +84,8 @@ moved_steps m p = steps p +ℤ m.letters
 unfoldable pub moved_pitch : Move → Pitch → Pitch
 moved_pitch m p = pitch_of_steps (moved_steps m p)
 
--- the moved pitch is in reach in one clef or another, from seven ledger lines below the lowest staff, G2, to seven above the
--- highest, E4: graces behind the last event of a measure stand in none of their own
+-- the moved pitch is in reach in one clef or another, from seven ledger lines below the lowest staff, G2, to seven
+-- above the highest, E4: graces behind the last event of a measure stand in none of their own
 abbrev pub is_near_staff : Move → Pitch → Bool
 is_near_staff m p = int_le (pos 4) (moved_steps m p) && int_le (moved_steps m p) (pos 52)
 
@@ -132,7 +133,10 @@ key_may m k = on_circle k && is_signature (sharps_in k.signs +ℤ m.sharps)
 
 -- ---- events, the graces among them
 abbrev pub event_by : Move → Event → Event
-event_by m e = record e { heads = map (moved_head m) e.heads; changes = record { clef = e.changes.clef; key = option_map (moved_key m) e.changes.key; meter = e.changes.meter } }
+event_by m e = record e {
+  heads = map (moved_head m) e.heads;
+  changes = record { clef = e.changes.clef; key = option_map (moved_key m) e.changes.key; meter = e.changes.meter };
+}
 
 abbrev pub event_may : Move → Event → Bool
 event_may m e = list_all (head_moves m) e.heads && unwrap_or (option_map (key_may m) e.changes.key) true
@@ -202,7 +206,8 @@ abbrev pub are_in_reach : Clef → List Flat → Bool
 are_in_reach before [] = true
 are_in_reach before (f ∷ fs) =
     list_all (in_reach (clef_at before f.event)) f.event.heads
-    && (list_all (λ g. list_all (in_reach (clef_at before f.event)) g.heads) f.graces && are_in_reach (clef_at before f.event) fs)
+    && (list_all (λ g. list_all (in_reach (clef_at before f.event)) g.heads) f.graces
+    && are_in_reach (clef_at before f.event) fs)
 
 -- ---- what can be moved
 
@@ -213,8 +218,8 @@ move_from header by = move_for (sharps_in header.signs) by
 abbrev pub moved_score : Score → Key → ℤ → Score
 moved_score s header by = score_by (move_from header by) s
 
--- the header's key and each key of the score, before and behind the move, are on the circle of fifths, no moved sign is past a
--- double one, and each moved head is in reach
+-- the header's key and each key of the score, before and behind the move, are on the circle of fifths, no moved sign is
+-- past a double one, and each moved head is in reach
 pub record CanMove (s : Score) (key : Key) (by : ℤ) : Type 0 where
   pub header : on_circle key ≡ true
   pub voices : list_all (voice_may (move_from key by)) s.voices ≡ true
@@ -223,4 +228,5 @@ pub record CanMove (s : Score) (key : Key) (by : ℤ) : Type 0 where
 -- what comes of a move by so many semitones: by none it is the score itself, and a score that can't be moved gives none
 pub record IsMoved (s : Score) (key : Key) (by : ℤ) (moved : Option Score) : Type 0 where
   pub same : by ≡ pos 0 → moved ≡ Some s
-  pub higher : by ≢ pos 0 → MatchOption moved (CanMove s key by → ⊥) (λ t. CanMove s key by × (t ≡ moved_score s key by))
+  pub higher : by ≢ pos 0
+      → MatchOption moved (CanMove s key by → ⊥) (λ t. CanMove s key by × (t ≡ moved_score s key by))

@@ -14,7 +14,8 @@ use mus_units::{Key, Memory, Row};
 use std::alloc::Global;
 
 fn measures_by(alloc: Global, by: Move, measures: &[Measure]) -> Moved<Row<Measure>>
-    ensures { GivesIfMovable (list_all (λ x. body_may by x.body) measures.now) (map (measure_by by) measures.now) result }
+    ensures { GivesIfMovable (list_all (λ x. body_may by x.body) measures.now) (map (measure_by by) measures.now)
+        result }
 {
     let mut out = Row::new(alloc);
     for measure in measures {
@@ -89,7 +90,9 @@ fn move_from(header: &Key, by: i8) -> Move
 /// A score by a move, or None where it can't be moved.
 fn moved_by(alloc: Global, s: &Score, header: &Key, by: i8) -> Result<Option<Score>, Memory>
     requires { IsGoodScore s.now }
-    ensures { IfOk result (λ r. MatchOption r (CanMove s.now header.now by → ⊥) (λ t. CanMove s.now header.now by × (t ≡ moved_score s.now header.now by))) }
+    ensures { IfOk result (λ r.
+        MatchOption r (CanMove s.now header.now by → ⊥)
+        (λ t. CanMove s.now header.now by × (t ≡ moved_score s.now header.now by))) }
 {
     if !on_circle(alloc, header)? {
         return Ok(None);

@@ -43,7 +43,8 @@ fn units(v: Value) -> u64
 
 /// The longest base that isn't above so many 512ths.
 fn base_within(left: u64) -> Option<Base>
-    ensures { MatchOption result (left < 8) (λ b. (base_units b ≤ left) × (left < 2048 → left < 2 * base_units b) × (2048 ≤ left → base_units b ≡ 1024)) }
+    ensures { MatchOption result (left < 8)
+        (λ b. (base_units b ≤ left) × (left < 2048 → left < 2 * base_units b) × (2048 ≤ left → base_units b ≡ 1024)) }
 {
     if left < 8 {
         None
@@ -143,7 +144,8 @@ pub fn parts_of(alloc: Global, num: u64, den: u64) -> Result<Option<Row<Value>>,
     requires above { 1 ≤ den }
     requires near { num ≤ 2 ^ 56 }
     requires high { den ≤ 2 ^ 56 }
-    ensures parts { IfOk result (λ r. MatchOption r ((vs : List Value) → IsPartsOf num den vs → ⊥) (λ vs. IsPartsOf num den vs)) }
+    ensures parts { IfOk result
+        (λ r. MatchOption r ((vs : List Value) → IsPartsOf num den vs → ⊥) (λ vs. IsPartsOf num den vs)) }
     ensures list { IfOk result (λ r. r ≡ parts_list num den) }
 {
     let mut parts = Row::new(alloc);

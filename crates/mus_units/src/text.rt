@@ -117,7 +117,8 @@ impl<'a> IntoIterator for &'a Text {
 
     type IntoIter = slice::Iter<'a, u8>;
 
-    ghost into_iter_gives = { λ text it. (iter_rest it ≡ text.now) × (length (iter_rest it) < 2 ^ 64) × IterYieldsInOrder ℕ };
+    ghost into_iter_gives = { λ text it.
+        (iter_rest it ≡ text.now) × (length (iter_rest it) < 2 ^ 64) × IterYieldsInOrder ℕ };
 
     fn into_iter(self) -> slice::Iter<'a, u8> {
         self.iter()
@@ -274,7 +275,8 @@ impl<'a, T> IntoIterator for &'a Row<T> {
 
     type IntoIter = slice::Iter<'a, T>;
 
-    ghost into_iter_gives = { λ row it. (iter_rest it ≡ row.now) × (length (iter_rest it) < 2 ^ 64) × IterYieldsInOrder T };
+    ghost into_iter_gives = { λ row it.
+        (iter_rest it ≡ row.now) × (length (iter_rest it) < 2 ^ 64) × IterYieldsInOrder T };
 
     fn into_iter(self) -> slice::Iter<'a, T> {
         self.iter()

@@ -37,7 +37,9 @@ piece_dy true false own other = other
 piece_dy true true own other = pos cut_arc_line
 
 abbrev pub piece_mark : ColumnKey → ColumnKey → Piece → ℤ → ℤ → ℤ → Bridge
-piece_mark left right piece from to bulge = arc_bridge left right (piece_dy piece.cut_left piece.cut_right from to) (piece_dy piece.cut_right piece.cut_left to from) bulge
+piece_mark left right piece from to bulge =
+    arc_bridge left right (piece_dy piece.cut_left piece.cut_right from to)
+    (piece_dy piece.cut_right piece.cut_left to from) bulge
 
 -- a slur ends above the tops of its events
 unfoldable pub slur_dy : ArcEndEvent → ℤ
@@ -73,7 +75,10 @@ slur_mark left right piece from to = piece_mark left right piece (slur_dy from) 
 -- n is the number of the tie's head in the first event
 unfoldable pub tie_mark : ColumnKey → ColumnKey → Piece → ℕ → ArcEndEvent → ArcEndEvent → Bridge
 tie_mark left right piece n from to =
-    let head = slice_get from.heads n in let up = bulges_up from.plan in piece_mark left right piece (tie_dy up from.clef head) (tie_dy up to.clef (tied_head head to.heads)) (tie_bulge up)
+    let head = slice_get from.heads n in
+    let up = bulges_up from.plan in
+    piece_mark left right piece (tie_dy up from.clef head) (tie_dy up to.clef (tied_head head to.heads)) (tie_bulge up)
 
 unfoldable pub arc_mark : ColumnKey → ColumnKey → Piece → Arc → ArcEndEvent → ArcEndEvent → Bridge
-arc_mark left right piece arc from to = if arc.tie then tie_mark left right piece arc.head from to else slur_mark left right piece from to
+arc_mark left right piece arc from to =
+    if arc.tie then tie_mark left right piece arc.head from to else slur_mark left right piece from to

@@ -21,7 +21,8 @@ shown_ending (Some t) = shown_text t
 abbrev pub shown_number : ℕ → List (List ℕ)
 shown_number p = shown_text (decimal p)
 
--- on one side of the staff, below it or above: a fingering stands above, a dynamic mark below, and other decorations are no text
+-- on one side of the staff, below it or above: a fingering stands above, a dynamic mark below, and other decorations
+-- are no text
 abbrev pub shown_deco : Bool → Deco → List (List ℕ)
 shown_deco false (Deco.Above t) = shown_text t
 shown_deco true (Deco.Below t) = shown_text t
@@ -33,13 +34,16 @@ shown_mention below m = if beq m.below below then shown_text m.text else []
 
 -- above: the ending, the numbers of the tuplets that begin there, the decorations, then what stood between quotes
 unfoldable pub texts_above : Flat → List (List ℕ)
-texts_above f = shown_ending f.event.ending ++ flat_map shown_number f.tuplets ++ flat_map (shown_deco false) f.event.decos ++ flat_map (shown_mention false) f.event.mentions
+texts_above f =
+    shown_ending f.event.ending ++ flat_map shown_number f.tuplets ++ flat_map (shown_deco false) f.event.decos
+    ++ flat_map (shown_mention false) f.event.mentions
 
 -- below: the decorations, then what stood between quotes
 unfoldable pub texts_below : Flat → List (List ℕ)
 texts_below f = flat_map (shown_deco true) f.event.decos ++ flat_map (shown_mention true) f.event.mentions
 
--- texts are over one another, and k of the column are nearer to the staff: above from a gap above the highest mark on, below from under the verses on
+-- texts are over one another, and k of the column are nearer to the staff: above from a gap above the highest mark on,
+-- below from under the verses on
 unfoldable pub above_dy : ℤ → ℕ → ℤ
 above_dy high k = cut_dy ((high +ℤ pos text_gap) +ℤ pos (text_step * k))
 
@@ -52,8 +56,10 @@ above_from high k (t ∷ ts) = words Lane.Above (back half_character) (above_dy 
 
 abbrev pub below_from : ℤ → ℕ → ℕ → List (List ℕ) → List LaneInk
 below_from low verses k [] = []
-below_from low verses k (t ∷ ts) = words lanes.Below (back half_character) (below_dy low verses k) t ∷ below_from low verses (k + 1) ts
+below_from low verses k (t ∷ ts) =
+    words lanes.Below (back half_character) (below_dy low verses k) t ∷ below_from low verses (k + 1) ts
 
 -- the texts of an event, behind those that its column has already
 unfoldable pub text_marks : TextPlace → Flat → List LaneInk
-text_marks place f = above_from place.high place.above (texts_above f) ++ below_from place.low place.verses place.below (texts_below f)
+text_marks place f =
+    above_from place.high place.above (texts_above f) ++ below_from place.low place.verses place.below (texts_below f)

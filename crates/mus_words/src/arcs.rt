@@ -86,7 +86,8 @@ fn put_slur(
     from: ArcEnd<'_>,
     to: ArcEnd<'_>,
 ) -> Result<(), Memory>
-    ensures { OnOk result (out.new ≡ out.old ++ slur_mark left right piece (arc_end_event from.entry) (arc_end_event to.entry) ∷ []) }
+    ensures { OnOk result
+        (out.new ≡ out.old ++ slur_mark left right piece (arc_end_event from.entry) (arc_end_event to.entry) ∷ []) }
 {
     put_piece(
         out,
@@ -181,7 +182,9 @@ fn put_tie(
     from: ArcEnd<'_>,
     to: ArcEnd<'_>,
 ) -> Result<(), Memory>
-    ensures { OnOk result (out.new ≡ out.old ++ tie_mark left right piece number (arc_end_event from.entry) (arc_end_event to.entry) ∷ []) }
+    ensures { OnOk result
+        (out.new
+        ≡ out.old ++ tie_mark left right piece number (arc_end_event from.entry) (arc_end_event to.entry) ∷ []) }
 {
     let head = numbered_head(from.heads, number);
     let up = bulges_up(from.plan);
@@ -208,7 +211,9 @@ pub fn put_arc(
     from: ArcEnd<'_>,
     to: ArcEnd<'_>,
 ) -> Result<(), Memory>
-    ensures { OnOk result (out.new ≡ out.old ++ arc_mark left right piece arc.now (arc_end_event from.entry) (arc_end_event to.entry) ∷ []) }
+    ensures { OnOk result
+        (out.new
+        ≡ out.old ++ arc_mark left right piece arc.now (arc_end_event from.entry) (arc_end_event to.entry) ∷ []) }
 {
     if arc.tie {
         put_tie(out, left, right, piece, arc.head, from, to)

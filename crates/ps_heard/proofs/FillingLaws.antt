@@ -34,10 +34,14 @@ joined : (c d : HeardColumn) (cs ds : List HeardColumn) → c ≡ d → cs ≡ d
 joined c d cs ds e f = rw (e, f) refl
 
 -- where the anchor is no place, nothing changes
-pub absent : (x : ℤ) (f : HeardColumn → HeardColumn) (ys : List ℤ) (cs : List HeardColumn) → list_any (int_eq x) ys ≡ false → at_place x f ys cs ≡ cs
+pub absent : (x : ℤ) (f : HeardColumn → HeardColumn) (ys : List ℤ) (cs : List HeardColumn)
+    → list_any (int_eq x) ys ≡ false → at_place x f ys cs ≡ cs
 absent x f [] cs e = refl
 absent x f (y ∷ ys) [] e = refl
-absent x f (y ∷ ys) (c ∷ cs) e = let p = or_parts (int_eq x y) (list_any (int_eq x) ys) e in joined (if int_eq x y then f c else c) c (at_place x f ys cs) cs (as_it_is f c (int_eq x y) p.0) (absent x f ys cs p.1)
+absent x f (y ∷ ys) (c ∷ cs) e =
+    let p = or_parts (int_eq x y) (list_any (int_eq x) ys) e in
+    joined (if int_eq x y then f c else c) c (at_place x f ys cs) cs (as_it_is f c (int_eq x y) p.0)
+    (absent x f ys cs p.1)
 
 none_short : (k : ℕ) → k < 0 → ⊥
 none_short k h = omega arith
@@ -54,13 +58,15 @@ below_at y (w ∷ ws) zero d b h = b.0
 below_at y (w ∷ ws) (suc k) d b h = below_at y ws k d b.1 (omega arith)
 
 -- the place of the anchor is changed, and no other
-pub present : (x : ℤ) (f : HeardColumn → HeardColumn) (ys : List ℤ) (cs : List HeardColumn) (k : ℕ) (v : HeardColumn) → IsStrictlySortedBy int_cmp ys → k < length ys
+pub present : (x : ℤ) (f : HeardColumn → HeardColumn) (ys : List ℤ) (cs : List HeardColumn) (k : ℕ) (v : HeardColumn)
+    → IsStrictlySortedBy int_cmp ys → k < length ys
     → length cs ≡ length ys → ((d : ℤ) → get_or ys k d ≡ x) → get_or cs k v ≡ v → set cs k (f v) ≡ at_place x f ys cs
 unfolding IsStrictlySortedBy
 present x f [] cs k v s h l at is = absurd (none_short k h)
 present x f (y ∷ ys) [] k v s h l at is = absurd (no_zero l)
 present x f (y ∷ ys) (c ∷ cs) zero v s h l at is =
-    let here : y ≡ x = at x in let out : list_any (int_eq x) ys ≡ false = not_among x ys (subst (λ w. Below w ys) here s.0) in
+    let here : y ≡ x = at x in
+    let out : list_any (int_eq x) ys ≡ false = not_among x ys (subst (λ w. Below w ys) here s.0) in
     joined (f v) (if int_eq x y then f c else c) cs (at_place x f ys cs)
     (ap f (sym is) ∙ sym (changed f c (int_eq x y) (subst (λ w. int_eq x w ≡ true) (sym here) (itself x))))
     (sym (absent x f ys cs out))
@@ -72,72 +78,102 @@ present x f (y ∷ ys) (c ∷ cs) (suc k) v s h l at is =
 
 -- ---- what a mark tells of each column
 nothing_one : (c : HeardColumn) → record c { notes = c.notes ++ []; ties = c.ties ++ [] } ≡ c
-nothing_one c = ap (λ t. record { leads = c.leads; notes = t; ties = c.ties ++ [] }) (append-nil c.notes) ∙ ap (λ t. record { leads = c.leads; notes = c.notes; ties = t }) (append-nil c.ties)
+nothing_one c =
+    ap (λ t. record { leads = c.leads; notes = t; ties = c.ties ++ [] }) (append-nil c.notes)
+    ∙ ap (λ t. record { leads = c.leads; notes = c.notes; ties = t }) (append-nil c.ties)
 
-glyph_one : (c : HeardColumn) (b : Bool) (ns : List HeardGlyph) → record c { notes = c.notes ++ (if b then ns else []); ties = c.ties ++ [] } ≡ (if b then record c { notes = c.notes ++ ns } else c)
+glyph_one : (c : HeardColumn) (b : Bool) (ns : List HeardGlyph)
+    → record c { notes = c.notes ++ (if b then ns else []); ties = c.ties ++ [] }
+    ≡ (if b then record c { notes = c.notes ++ ns } else c)
 glyph_one c true ns = ap (λ t. record { leads = c.leads; notes = c.notes ++ ns; ties = t }) (append-nil c.ties)
 glyph_one c false ns = nothing_one c
 
-glyph_told : (g : Glyph) (x dx dy : ℤ) (ys : List ℤ) (cs : List HeardColumn) → with_page_mark (PageMark.Glyph g x dx dy) ys cs ≡ at_place x (with_note (role_of g dy) dy) ys cs
+glyph_told : (g : Glyph) (x dx dy : ℤ) (ys : List ℤ) (cs : List HeardColumn)
+    → with_page_mark (PageMark.Glyph g x dx dy) ys cs ≡ at_place x (with_note (role_of g dy) dy) ys cs
 glyph_told g x dx dy [] cs = refl
 glyph_told g x dx dy (y ∷ ys) [] = refl
 glyph_told g x dx dy (y ∷ ys) (c ∷ cs) =
-    joined (record c { notes = c.notes ++ glyphs_at y (PageMark.Glyph g x dx dy); ties = c.ties ++ [] }) (if int_eq x y then with_note (role_of g dy) dy c else c)
+    joined (record c { notes = c.notes ++ glyphs_at y (PageMark.Glyph g x dx dy); ties = c.ties ++ [] })
+    (if int_eq x y then with_note (role_of g dy) dy c else c)
     (with_page_mark (PageMark.Glyph g x dx dy) ys cs) (at_place x (with_note (role_of g dy) dy) ys cs)
     (glyph_one c (int_eq x y) (noted (role_of g dy) dy)) (glyph_told g x dx dy ys cs)
 
 -- the same of what was passed
-pub glyph_passed : (g : Glyph) (x dx dy at low high : ℤ) (role : Role) (ys : List ℤ) (cs new : List HeardColumn) → at ≡ x → low ≡ dy → high ≡ dy → role ≡ role_of g low
+pub glyph_passed : (g : Glyph) (x dx dy at low high : ℤ) (role : Role) (ys : List ℤ) (cs new : List HeardColumn)
+    → at ≡ x → low ≡ dy → high ≡ dy → role ≡ role_of g low
     → new ≡ at_place at (with_note role high) ys cs → new ≡ with_page_mark (PageMark.Glyph g x dx dy) ys cs
 glyph_passed g x dx dy at low high role ys cs new e f h k is =
-    is ∙ ap (λ z. at_place z (with_note role high) ys cs) e ∙ ap (λ r. at_place x (with_note r high) ys cs) (k ∙ ap (role_of g) f)
+    is
+    ∙ ap (λ z. at_place z (with_note role high) ys cs) e
+    ∙ ap (λ r. at_place x (with_note r high) ys cs) (k ∙ ap (role_of g) f)
     ∙ ap (λ z. at_place x (with_note (role_of g dy) z) ys cs) h ∙ sym (glyph_told g x dx dy ys cs)
 
-tie_one : (c : HeardColumn) (b t : Bool) (dy : ℤ) → t ≡ true → record c { notes = c.notes ++ []; ties = c.ties ++ (if b && t then dy ∷ [] else []) } ≡ (if b then record c { ties = c.ties ++ dy ∷ [] } else c)
+tie_one : (c : HeardColumn) (b t : Bool) (dy : ℤ)
+    → t ≡ true
+    → record c { notes = c.notes ++ []; ties = c.ties ++ (if b && t then dy ∷ [] else []) }
+    ≡ (if b then record c { ties = c.ties ++ dy ∷ [] } else c)
 tie_one c b false dy e = absurd (false≢true e)
-tie_one c true true dy e = ap (λ t. record { leads = c.leads; notes = t; ties = c.ties ++ dy ∷ [] }) (append-nil c.notes)
+tie_one c true true dy e =
+    ap (λ t. record { leads = c.leads; notes = t; ties = c.ties ++ dy ∷ [] }) (append-nil c.notes)
 tie_one c false true dy e = nothing_one c
 
-tie_told : (x1 x2 from to bulge : ℤ) (ys : List ℤ) (cs : List HeardColumn) → bulges_as_tie bulge ≡ true → with_page_mark (PageMark.Arc x1 x2 from to bulge) ys cs ≡ at_place x2 (with_tie_at (to -ℤ bulge)) ys cs
+tie_told : (x1 x2 from to bulge : ℤ) (ys : List ℤ) (cs : List HeardColumn)
+    → bulges_as_tie bulge ≡ true
+    → with_page_mark (PageMark.Arc x1 x2 from to bulge) ys cs ≡ at_place x2 (with_tie_at (to -ℤ bulge)) ys cs
 tie_told x1 x2 from to bulge [] cs e = refl
 tie_told x1 x2 from to bulge (y ∷ ys) [] e = refl
 tie_told x1 x2 from to bulge (y ∷ ys) (c ∷ cs) e =
-    joined (record c { notes = c.notes ++ []; ties = c.ties ++ tie_at y (PageMark.Arc x1 x2 from to bulge) }) (if int_eq x2 y then with_tie_at (to -ℤ bulge) c else c)
+    joined (record c { notes = c.notes ++ []; ties = c.ties ++ tie_at y (PageMark.Arc x1 x2 from to bulge) })
+    (if int_eq x2 y then with_tie_at (to -ℤ bulge) c else c)
     (with_page_mark (PageMark.Arc x1 x2 from to bulge) ys cs) (at_place x2 (with_tie_at (to -ℤ bulge)) ys cs)
     (tie_one c (int_eq x2 y) (bulges_as_tie bulge) (to -ℤ bulge) e) (tie_told x1 x2 from to bulge ys cs e)
 
-pub tie_passed : (x1 x2 from to bulge at end passed : ℤ) (ys : List ℤ) (cs new : List HeardColumn) → bulges_as_tie bulge ≡ true → at ≡ x2 → passed ≡ end → end ≡ to -ℤ bulge
+pub tie_passed : (x1 x2 from to bulge at end passed : ℤ) (ys : List ℤ) (cs new : List HeardColumn)
+    → bulges_as_tie bulge ≡ true → at ≡ x2 → passed ≡ end → end ≡ to -ℤ bulge
     → new ≡ at_place at (with_tie_at passed) ys cs → new ≡ with_page_mark (PageMark.Arc x1 x2 from to bulge) ys cs
-tie_passed x1 x2 from to bulge at end passed ys cs new tie e f h is = is ∙ ap (λ z. at_place z (with_tie_at passed) ys cs) e ∙ ap (λ z. at_place x2 (with_tie_at z) ys cs) (f ∙ h) ∙ sym (tie_told x1 x2 from to bulge ys cs tie)
+tie_passed x1 x2 from to bulge at end passed ys cs new tie e f h is =
+    is
+    ∙ ap (λ z. at_place z (with_tie_at passed) ys cs) e
+    ∙ ap (λ z. at_place x2 (with_tie_at z) ys cs) (f ∙ h)
+    ∙ sym (tie_told x1 x2 from to bulge ys cs tie)
 
 -- a mark that tells nothing
-quiet_one : (c : HeardColumn) (ns : List HeardGlyph) (ts : List ℤ) → ns ≡ [] → ts ≡ [] → record c { notes = c.notes ++ ns; ties = c.ties ++ ts } ≡ c
+quiet_one : (c : HeardColumn) (ns : List HeardGlyph) (ts : List ℤ)
+    → ns ≡ [] → ts ≡ [] → record c { notes = c.notes ++ ns; ties = c.ties ++ ts } ≡ c
 quiet_one c ns ts e f =
-    ap (λ t. record { leads = c.leads; notes = c.notes ++ t; ties = c.ties ++ ts }) e ∙ ap (λ t. record { leads = c.leads; notes = c.notes ++ []; ties = c.ties ++ t }) f
+    ap (λ t. record { leads = c.leads; notes = c.notes ++ t; ties = c.ties ++ ts }) e
+    ∙ ap (λ t. record { leads = c.leads; notes = c.notes ++ []; ties = c.ties ++ t }) f
     ∙ nothing_one c
 
-quiet_told : (m : PageMark) (ys : List ℤ) (cs : List HeardColumn) → ((y : ℤ) → glyphs_at y m ≡ []) → ((y : ℤ) → tie_at y m ≡ []) → with_page_mark m ys cs ≡ cs
+quiet_told : (m : PageMark) (ys : List ℤ) (cs : List HeardColumn)
+    → ((y : ℤ) → glyphs_at y m ≡ []) → ((y : ℤ) → tie_at y m ≡ []) → with_page_mark m ys cs ≡ cs
 quiet_told m [] cs e f = refl
 quiet_told m (y ∷ ys) [] e f = refl
 quiet_told m (y ∷ ys) (c ∷ cs) e f =
     joined (record c { notes = c.notes ++ glyphs_at y m; ties = c.ties ++ tie_at y m }) c (with_page_mark m ys cs) cs
     (quiet_one c (glyphs_at y m) (tie_at y m) (e y) (f y)) (quiet_told m ys cs e f)
 
-pub words_told : (size : Size) (x dx dy : ℤ) (text : List ℕ) (ys : List ℤ) (cs : List HeardColumn) → with_page_mark (PageMark.Words size x dx dy text) ys cs ≡ cs
+pub words_told : (size : Size) (x dx dy : ℤ) (text : List ℕ) (ys : List ℤ) (cs : List HeardColumn)
+    → with_page_mark (PageMark.Words size x dx dy text) ys cs ≡ cs
 words_told size x dx dy text ys cs = quiet_told (PageMark.Words size x dx dy text) ys cs (λ y. refl) (λ y. refl)
 
-pub stem_told : (x dx from to : ℤ) (ys : List ℤ) (cs : List HeardColumn) → with_page_mark (PageMark.Stem x dx from to) ys cs ≡ cs
+pub stem_told : (x dx from to : ℤ) (ys : List ℤ) (cs : List HeardColumn)
+    → with_page_mark (PageMark.Stem x dx from to) ys cs ≡ cs
 stem_told x dx from to ys cs = quiet_told (PageMark.Stem x dx from to) ys cs (λ y. refl) (λ y. refl)
 
-pub beam_told : (way : Way) (x1 x2 from to : ℤ) (ys : List ℤ) (cs : List HeardColumn) → with_page_mark (PageMark.Beam way x1 x2 from to) ys cs ≡ cs
+pub beam_told : (way : Way) (x1 x2 from to : ℤ) (ys : List ℤ) (cs : List HeardColumn)
+    → with_page_mark (PageMark.Beam way x1 x2 from to) ys cs ≡ cs
 beam_told way x1 x2 from to ys cs = quiet_told (PageMark.Beam way x1 x2 from to) ys cs (λ y. refl) (λ y. refl)
 
 no_tie : (b t : Bool) (dy : ℤ) → t ≡ false → (if b && t then dy ∷ [] else []) ≡ []
 no_tie true t dy e = ap (λ u. if u then dy ∷ [] else []) e
 no_tie false t dy e = refl
 
-pub slur_told : (x1 x2 from to bulge : ℤ) (ys : List ℤ) (cs : List HeardColumn) → bulges_as_tie bulge ≡ false → with_page_mark (PageMark.Arc x1 x2 from to bulge) ys cs ≡ cs
-slur_told x1 x2 from to bulge ys cs e = quiet_told (PageMark.Arc x1 x2 from to bulge) ys cs (λ y. refl) (λ y. no_tie (int_eq x2 y) (bulges_as_tie bulge) (to -ℤ bulge) e)
+pub slur_told : (x1 x2 from to bulge : ℤ) (ys : List ℤ) (cs : List HeardColumn)
+    → bulges_as_tie bulge ≡ false → with_page_mark (PageMark.Arc x1 x2 from to bulge) ys cs ≡ cs
+slur_told x1 x2 from to bulge ys cs e =
+    quiet_told (PageMark.Arc x1 x2 from to bulge) ys cs (λ y. refl)
+    (λ y. no_tie (int_eq x2 y) (bulges_as_tie bulge) (to -ℤ bulge) e)
 
 -- ---- mark after mark
 pub mark_length : (m : PageMark) (ys : List ℤ) (cs : List HeardColumn) → length (with_page_mark m ys cs) ≡ length cs
@@ -145,7 +181,8 @@ mark_length m [] cs = refl
 mark_length m (y ∷ ys) [] = refl
 mark_length m (y ∷ ys) (c ∷ cs) = ap suc (mark_length m ys cs)
 
-pub columns_length : (leads : Bool) (ms : List PageMark) (ys : List ℤ) → length (heard_columns_from leads ms ys) ≡ length ys
+pub columns_length : (leads : Bool) (ms : List PageMark) (ys : List ℤ)
+    → length (heard_columns_from leads ms ys) ≡ length ys
 columns_length leads ms [] = refl
 columns_length leads ms (y ∷ ys) = ap suc (columns_length false ms ys)
 
@@ -153,26 +190,41 @@ one_more : {A B : Type 0} (f : A → List B) (ms : List A) (m : A) → flat_map 
 one_more f ms m = ap (λ t. flat_map f ms ++ t) (sym (append-nil (f m))) ∙ sym (flat_map-append f ms (m ∷ []))
 
 column_more : (leads : Bool) (ms : List PageMark) (m : PageMark) (y : ℤ)
-    → record (column_at leads ms y) { notes = (column_at leads ms y).notes ++ glyphs_at y m; ties = (column_at leads ms y).ties ++ tie_at y m } ≡ column_at leads (ms ++ m ∷ []) y
+    → record (column_at leads ms y) {
+      notes = (column_at leads ms y).notes ++ glyphs_at y m;
+      ties = (column_at leads ms y).ties ++ tie_at y m;
+    } ≡ column_at leads (ms ++ m ∷ []) y
 unfolding column_at
 column_more leads ms m y =
-    ap (λ t. record { leads = leads; notes = t; ties = flat_map (tie_at y) ms ++ tie_at y m }) (one_more (glyphs_at y) ms m)
-    ∙ ap (λ t. record { leads = leads; notes = flat_map (glyphs_at y) (ms ++ m ∷ []); ties = t }) (one_more (tie_at y) ms m)
+    ap (λ t. record { leads = leads; notes = t; ties = flat_map (tie_at y) ms ++ tie_at y m })
+    (one_more (glyphs_at y) ms m)
+    ∙ ap (λ t. record { leads = leads; notes = flat_map (glyphs_at y) (ms ++ m ∷ []); ties = t })
+    (one_more (tie_at y) ms m)
 
-mark_more : (leads : Bool) (ms : List PageMark) (m : PageMark) (ys : List ℤ) → with_page_mark m ys (heard_columns_from leads ms ys) ≡ heard_columns_from leads (ms ++ m ∷ []) ys
+mark_more : (leads : Bool) (ms : List PageMark) (m : PageMark) (ys : List ℤ)
+    → with_page_mark m ys (heard_columns_from leads ms ys) ≡ heard_columns_from leads (ms ++ m ∷ []) ys
 mark_more leads ms m [] = refl
 mark_more leads ms m (y ∷ ys) =
-    joined (record (column_at leads ms y) { notes = (column_at leads ms y).notes ++ glyphs_at y m; ties = (column_at leads ms y).ties ++ tie_at y m }) (column_at leads (ms ++ m ∷ []) y)
+    joined (record (column_at leads ms y) {
+      notes = (column_at leads ms y).notes ++ glyphs_at y m;
+      ties = (column_at leads ms y).ties ++ tie_at y m;
+    }) (column_at leads (ms ++ m ∷ []) y)
     (with_page_mark m ys (heard_columns_from false ms ys)) (heard_columns_from false (ms ++ m ∷ []) ys)
     (column_more leads ms m y) (mark_more false ms m ys)
 
-filled_behind : (leads : Bool) (done ms : List PageMark) (ys : List ℤ) → with_marks ms ys (heard_columns_from leads done ys) ≡ heard_columns_from leads (done ++ ms) ys
+filled_behind : (leads : Bool) (done ms : List PageMark) (ys : List ℤ)
+    → with_marks ms ys (heard_columns_from leads done ys) ≡ heard_columns_from leads (done ++ ms) ys
 filled_behind leads done [] ys = ap (λ t. heard_columns_from leads t ys) (sym (append-nil done))
-filled_behind leads done (m ∷ ms) ys = ap (with_marks ms ys) (mark_more leads done m ys) ∙ filled_behind leads (done ++ m ∷ []) ms ys ∙ ap (λ t. heard_columns_from leads t ys) (append_assoc done (m ∷ []) ms)
+filled_behind leads done (m ∷ ms) ys =
+    ap (with_marks ms ys) (mark_more leads done m ys)
+    ∙ filled_behind leads (done ++ m ∷ []) ms ys
+    ∙ ap (λ t. heard_columns_from leads t ys) (append_assoc done (m ∷ []) ms)
 
 -- one step of the loop that makes empty columns
-pub empty_more : (leads : Bool) (ys : List ℤ) (i : ℕ) (v : HeardColumn) (out new target : List HeardColumn) → i < length ys → v ≡ record { leads = leads; notes = []; ties = [] }
-    → new ≡ out ++ v ∷ [] → out ++ heard_columns_from leads [] (drop i ys) ≡ target → new ++ heard_columns_from false [] (drop (i + 1) ys) ≡ target
+pub empty_more : (leads : Bool) (ys : List ℤ) (i : ℕ) (v : HeardColumn) (out new target : List HeardColumn)
+    → i < length ys → v ≡ record { leads = leads; notes = []; ties = [] }
+    → new ≡ out ++ v ∷ [] → out ++ heard_columns_from leads [] (drop i ys) ≡ target
+    → new ++ heard_columns_from false [] (drop (i + 1) ys) ≡ target
 unfolding column_at
 empty_more leads ys i v out new target inside is pushed before =
     let one : i + 1 ≡ suc i = omega arith in let rest = heard_columns_from false [] (drop (suc i) ys) in
@@ -180,12 +232,16 @@ empty_more leads ys i v out new target inside is pushed before =
     ∙ ap (λ l. out ++ heard_columns_from leads [] l) (sym (drop-cons ys i (pos 0) inside)) ∙ before)
 
 -- one step of the loop over marks
-pub marks_more : (ys : List ℤ) (ms : List PageMark) (i : ℕ) (m : PageMark) (cols new target : List HeardColumn) → i < length ms → m ≡ get_or ms i m
-    → new ≡ with_page_mark m ys cols → with_marks (drop i ms) ys cols ≡ target → with_marks (drop (i + 1) ms) ys new ≡ target
+pub marks_more : (ys : List ℤ) (ms : List PageMark) (i : ℕ) (m : PageMark) (cols new target : List HeardColumn)
+    → i < length ms → m ≡ get_or ms i m
+    → new ≡ with_page_mark m ys cols → with_marks (drop i ms) ys cols ≡ target
+    → with_marks (drop (i + 1) ms) ys new ≡ target
 marks_more ys ms i m cols new target inside here is before =
-    let one : i + 1 ≡ suc i = omega arith in let cut : drop i ms ≡ m ∷ drop (suc i) ms = drop-cons ms i m inside ∙ ap (λ l. l ∷ drop (suc i) ms) (sym here) in
+    let one : i + 1 ≡ suc i = omega arith in
+    let cut : drop i ms ≡ m ∷ drop (suc i) ms = drop-cons ms i m inside ∙ ap (λ l. l ∷ drop (suc i) ms) (sym here) in
     rw one (ap (with_marks (drop (suc i) ms) ys) is ∙ ap (λ l. with_marks l ys cols) (sym cut) ∙ before)
 
 -- all marks
-pub filled : (leads : Bool) (ms : List PageMark) (ys : List ℤ) → with_marks ms ys (heard_columns_from leads [] ys) ≡ heard_columns_from leads ms ys
+pub filled : (leads : Bool) (ms : List PageMark) (ys : List ℤ)
+    → with_marks ms ys (heard_columns_from leads [] ys) ≡ heard_columns_from leads ms ys
 filled leads ms ys = filled_behind leads [] ms ys

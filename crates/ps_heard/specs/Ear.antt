@@ -1,5 +1,5 @@
--- What a listener keeps in mind, column after column from the left. This is the way that the program takes; what it comes
--- to is said in Hearing.
+-- What a listener keeps in mind, column after column from the left. This is the way that the program takes; what it
+-- comes to is said in Hearing.
 use Rattle.std.specs.Prelude.{if◌then◌else◌, List, [], ◌∷◌, ◌++◌}
 use Rattle.mus_units.specs.declared.{key.Spread.Spread, pitch.Clef.Clef}
 use Rattle.ps_heard.specs.declared.column.HeardColumn.{HeardColumn}
@@ -10,7 +10,10 @@ use Rattle.ps_heard.specs.Hearing.{heard_if_note, said_with}
 
 -- a mark: a bar ends the measure, a head is said, and listed where it is no grace note's
 abbrev pub hear_one : Spread → HeardColumn → Listener → HeardGlyph → Listener
-hear_one spread col ear n = record ear { said = said_with n.role (head_of_glyph ear.clef n.dy col.notes) ear.said; here = ear.here ++ heard_if_note n.role (heard_of_glyph spread col ear.clef ear.key.signs ear.before ear.said n.dy) }
+hear_one spread col ear n = record ear {
+  said = said_with n.role (head_of_glyph ear.clef n.dy col.notes) ear.said;
+  here = ear.here ++ heard_if_note n.role (heard_of_glyph spread col ear.clef ear.key.signs ear.before ear.said n.dy);
+}
 
 abbrev pub hear_from : Spread → HeardColumn → Listener → List HeardGlyph → Listener
 hear_from spread col ear [] = ear
@@ -18,7 +21,12 @@ hear_from spread col ear (n ∷ ns) = hear_from spread col (hear_one spread col 
 
 -- the clef and the key of a column
 abbrev pub column_opened : Listener → HeardColumn → Listener
-column_opened ear col = record ear { clef = clef_behind ear.clef col.notes; key = record { signs = if gives_key col.leads col.notes then entries (clef_behind ear.clef col.notes) col.notes else ear.key.signs } }
+column_opened ear col = record ear {
+  clef = clef_behind ear.clef col.notes;
+  key = record {
+    signs = if gives_key col.leads col.notes then entries (clef_behind ear.clef col.notes) col.notes else ear.key.signs;
+  };
+}
 
 -- behind a column its heads are the last ones, if it has some
 abbrev pub column_closed : Listener → Listener

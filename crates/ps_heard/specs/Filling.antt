@@ -1,4 +1,5 @@
--- How the columns of a staff are filled, mark after mark. This is the way that the program takes; what the columns are is said in Columns.
+-- How the columns of a staff are filled, mark after mark. This is the way that the program takes; what the columns are
+-- is said in Columns.
 use Rattle.std.specs.Prelude.{ℤ, if◌then◌else◌, List, [], ◌∷◌, ◌++◌}
 use Rattle.std.specs.Ordering.{int_eq}
 use Rattle.ps_text.specs.declared.marks.PageMark.{PageMark}
@@ -22,7 +23,8 @@ at_place x f (y ∷ ys) (c ∷ cs) = (if int_eq x y then f c else c) ∷ at_plac
 abbrev pub with_page_mark : PageMark → List ℤ → List HeardColumn → List HeardColumn
 with_page_mark m [] cs = cs
 with_page_mark m (y ∷ ys) [] = []
-with_page_mark m (y ∷ ys) (c ∷ cs) = record c { notes = c.notes ++ glyphs_at y m; ties = c.ties ++ tie_at y m } ∷ with_page_mark m ys cs
+with_page_mark m (y ∷ ys) (c ∷ cs) =
+    record c { notes = c.notes ++ glyphs_at y m; ties = c.ties ++ tie_at y m } ∷ with_page_mark m ys cs
 
 abbrev pub with_marks : List PageMark → List ℤ → List HeardColumn → List HeardColumn
 with_marks [] places cs = cs

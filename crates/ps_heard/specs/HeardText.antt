@@ -1,5 +1,6 @@
--- The text of what a sheet sounds. For each tune a line `tune` and its ordinal; for each of its staves, counted from 0, a line
--- `staff` and its place; and for each head a line with its letter in capital, its alteration in half steps, -2 to 2, and its octave.
+-- The text of what a sheet sounds. For each tune a line `tune` and its ordinal; for each of its staves, counted from 0,
+-- a line `staff` and its place; and for each head a line with its letter in capital, its alteration in half steps, -2
+-- to 2, and its octave.
 use Rattle.std.specs.{Prelude.{ℕ, ℤ, pos, negsuc, List, ◌++◌, codes, decimal, flat_map}, Fmt.signed_decimal}
 use Rattle.mus_units.specs.declared.key.Spread.{Spread}
 use Rattle.mus_units.specs.declared.pitch.Alter.{Alter}
@@ -28,14 +29,18 @@ half_steps Alter.Sharp = pos 1
 half_steps Alter.Sharp2 = pos 2
 
 abbrev pub head_line : Heard → List ℕ
-head_line x = letter_text x.pitch.letter ++ codes " " ++ signed_decimal (half_steps x.alter) ++ codes " " ++ signed_decimal x.pitch.octave ++ codes "\n"
+head_line x =
+    letter_text x.pitch.letter ++ codes " " ++ signed_decimal (half_steps x.alter) ++ codes " "
+    ++ signed_decimal x.pitch.octave ++ codes "\n"
 
 -- staff k of a tune
 abbrev pub heard_staff_text : ℕ → List Heard → List ℕ
 heard_staff_text k heads = codes "staff " ++ decimal k ++ codes "\n" ++ flat_map head_line heads
 
 abbrev pub heard_tune_text : Spread → SheetTune → List ℕ
-heard_tune_text spread part = codes "tune " ++ decimal part.ordinal ++ codes "\n" ++ numbered heard_staff_text 0 (staves_heard spread part.systems)
+heard_tune_text spread part =
+    codes "tune " ++ decimal part.ordinal ++ codes "\n"
+    ++ numbered heard_staff_text 0 (staves_heard spread part.systems)
 
 -- tune after tune
 abbrev pub heard_text : Spread → Sheet → List ℕ

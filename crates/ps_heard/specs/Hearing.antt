@@ -1,10 +1,11 @@
 -- How the heads of a staff sound, by its columns alone. A column is looked at with those before it, the nearest first.
--- Its clef is that of the last clef at or before it, at first treble. Its key is that of the last column at or before it
--- that gives one, at first without signs: a column of no heads that has signs gives a key, and the first column of a system
--- gives one whatever it has. A bar ends a measure. The alteration of a head is the first of these that there is: the sign
--- at its height in its column; where a tie ends at it, the alteration of the head before the tie; the last sign of an earlier
--- head of its measure that the spread reaches; its key's; natural. The head before a tie is the first of that letter and
--- octave in the last earlier column of heads. Heads of grace notes count for signs, and are not listed.
+-- Its clef is that of the last clef at or before it, at first treble. Its key is that of the last column at or before
+-- it that gives one, at first without signs: a column of no heads that has signs gives a key, and the first column of a
+-- system gives one whatever it has. A bar ends a measure. The alteration of a head is the first of these that there is:
+-- the sign at its height in its column; where a tie ends at it, the alteration of the head before the tie; the last
+-- sign of an earlier head of its measure that the spread reaches; its key's; natural. The head before a tie is the
+-- first of that letter and octave in the last earlier column of heads. Heads of grace notes count for signs,
+-- and are not listed.
 use Rattle.std.specs.Prelude.{ℤ, ◌||◌, ◌&&◌, not, Bool, true, false, if◌then◌else◌, List, [], ◌∷◌, ◌++◌, reverse}
 use Rattle.std.specs.Prelude.{Option, Some, None, unwrap_or}
 use Rattle.std.specs.List.{find, list_any}
@@ -61,7 +62,8 @@ gives_key leads ns = leads || (list_any (λ n. is_sign n.role) ns && not (list_a
 
 abbrev pub key_heard : List HeardColumn → List Sign
 key_heard [] = []
-key_heard (col ∷ earlier) = if gives_key col.leads col.notes then entries (clef_heard (col ∷ earlier)) col.notes else key_heard earlier
+key_heard (col ∷ earlier) =
+    if gives_key col.leads col.notes then entries (clef_heard (col ∷ earlier)) col.notes else key_heard earlier
 
 -- the first sign at a height
 abbrev pub sign_if : ℤ → ℤ → Role → Option Alter
@@ -89,7 +91,8 @@ said_with _ h said = said
 
 abbrev pub said_with_column : Clef → HeardColumn → List Head → List HeardGlyph → List Head
 said_with_column c col said [] = said
-said_with_column c col said (n ∷ ns) = said_with_column c col (said_with n.role (head_of_glyph c n.dy col.notes) said) ns
+said_with_column c col said (n ∷ ns) =
+    said_with_column c col (said_with n.role (head_of_glyph c n.dy col.notes) said) ns
 
 abbrev pub said_before : List HeardColumn → List Head
 said_before [] = []
@@ -103,7 +106,8 @@ abbrev pub tied_from : Bool → List Heard → Pitch → Option Heard
 tied_from true before p = find (is_same_pitch p) before
 tied_from false before p = None
 
--- the first of these that there is: its own sign, the alteration before its tie, the last sign that reaches it, its key's, natural
+-- the first of these that there is: its own sign, the alteration before its tie, the last sign that reaches it,
+-- its key's, natural
 abbrev pub first_there : Option Alter → Option Alter → Option Alter → Option Alter → Alter
 first_there own tied said key = unwrap_or own (unwrap_or tied (unwrap_or said (unwrap_or key Alter.Natural)))
 
@@ -131,7 +135,9 @@ heads_from spread col c key before said (n ∷ ns) =
 
 -- the heads of the nearest column, where those of the last column of heads before it are known
 abbrev pub heads_of_column : Spread → List Heard → HeardColumn → List HeardColumn → List Heard
-heads_of_column spread before col earlier = heads_from spread col (clef_heard (col ∷ earlier)) (key_heard (col ∷ earlier)) before (said_before earlier) col.notes
+heads_of_column spread before col earlier =
+    heads_from spread col (clef_heard (col ∷ earlier)) (key_heard (col ∷ earlier)) before (said_before earlier)
+    col.notes
 
 -- those of a column, else those before it
 abbrev pub last_or : List Heard → List Heard → List Heard
@@ -141,12 +147,14 @@ last_or before (x ∷ xs) = x ∷ xs
 -- the heads of the last column of heads
 abbrev pub last_heads : Spread → List HeardColumn → List Heard
 last_heads spread [] = []
-last_heads spread (col ∷ earlier) = last_or (last_heads spread earlier) (heads_of_column spread (last_heads spread earlier) col earlier)
+last_heads spread (col ∷ earlier) =
+    last_or (last_heads spread earlier) (heads_of_column spread (last_heads spread earlier) col earlier)
 
 -- all heads, from the left
 abbrev pub heads_heard : Spread → List HeardColumn → List Heard
 heads_heard spread [] = []
-heads_heard spread (col ∷ earlier) = heads_heard spread earlier ++ heads_of_column spread (last_heads spread earlier) col earlier
+heads_heard spread (col ∷ earlier) =
+    heads_heard spread earlier ++ heads_of_column spread (last_heads spread earlier) col earlier
 
 -- the heads of a staff, over its columns from the left
 unfoldable pub heard_of : Spread → List HeardColumn → List Heard

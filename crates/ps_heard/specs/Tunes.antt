@@ -1,5 +1,6 @@
--- What the tunes of a sheet sound. The systems of a tune are those behind its Tune item and before the next one. A staff is
--- heard through all of them in order, where they have it. There are as many staves as the largest of these systems has.
+-- What the tunes of a sheet sound. The systems of a tune are those behind its Tune item and before the next one. A
+-- staff is heard through all of them in order, where they have it.
+-- There are as many staves as the largest of these systems has.
 use Rattle.std.specs.Prelude.{ℕ, ℤ, max, List, [], ◌∷◌, length, map, flat_map, slice_get, Option, Some, None}
 use Rattle.std.specs.List.{range_with_len}
 use Rattle.mus_units.specs.declared.key.Spread.{Spread}

@@ -63,7 +63,8 @@ pub fn places_of(alloc: Global, staves: &[Staff]) -> Result<Row<i64>, Memory>
 /// The place of a number among numbers that rise, if it is one of them.
 pub fn place_of(numbers: &[i64], x: i64) -> Option<usize>
     requires { IsStrictlySortedBy int_cmp numbers.now }
-    ensures { MatchOption result (list_any (int_eq x) numbers.now ≡ false) (λ k. (k < length numbers.now) × HoldsAt (λ y. y ≡ x) numbers.now k) }
+    ensures { MatchOption result (list_any (int_eq x) numbers.now ≡ false)
+        (λ k. (k < length numbers.now) × HoldsAt (λ y. y ≡ x) numbers.now k) }
 {
     match numbers.binary_search(&x) {
         Ok(place) => Some(place),

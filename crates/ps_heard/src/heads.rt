@@ -64,7 +64,9 @@ fn sounded(
     spread: Spread,
     key: &Key,
 ) -> Alter
-    ensures { result ≡ first_there own (option_map (λ x. x.alter) tied) (said_sign spread pitch said.now) (key_sign pitch key.now.signs) }
+    ensures { result
+        ≡ first_there own (option_map (λ x. x.alter) tied) (said_sign spread pitch said.now)
+        (key_sign pitch key.now.signs) }
 {
     match (own, tied) {
         (Some(own), _) => own,

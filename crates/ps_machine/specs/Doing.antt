@@ -16,7 +16,15 @@ use Rattle.ps_machine.specs.declared.state.Stop.{Stop}
 
 -- the state that the code keeps
 abbrev pub state_of : Machine → State
-state_of m = record { stack = reverse m.stack.items; names = names_of m.names; made = m.made; now = m.canvas.now; saved = m.canvas.saved; paints = m.paints; pages = m.pages }
+state_of m = record {
+  stack = reverse m.stack.items;
+  names = names_of m.names;
+  made = m.made;
+  now = m.canvas.now;
+  saved = m.canvas.saved;
+  paints = m.paints;
+  pages = m.pages;
+}
 
 -- what a token did, and what the run says where it stops
 abbrev pub DidOrStopped : Outcome → Result (Unit {0}) Stop → State → Type 0
@@ -48,12 +56,14 @@ numbers_of b = b.first.0 ∷ b.first.1 ∷ b.second.0 ∷ b.second.1 ∷ b.end.0
 -- two of six whole numbers were on top of the stack, or one is of another kind
 abbrev pub IsPointOfSix : List Operand → Result (ℤ × ℤ) Stop → List Operand → Type 0
 IsPointOfSix st (Ok p) rest = st ≡ whole_value p.1 ∷ whole_value p.0 ∷ rest
-IsPointOfSix st (Err (Stop.Halted cause)) rest = (zs : List ℤ) (n : ℕ) (m : State) (f : List ℤ → State → Outcome) → pick zs (suc (suc n)) st m f ≡ halted cause
+IsPointOfSix st (Err (Stop.Halted cause)) rest =
+    (zs : List ℤ) (n : ℕ) (m : State) (f : List ℤ → State → Outcome) → pick zs (suc (suc n)) st m f ≡ halted cause
 IsPointOfSix st (Err Stop.Memory) rest = ⊥
 
 -- six whole numbers were on top of the stack, or there was a cause to halt
 abbrev pub IsSix : List Operand → Result Bend Stop → List Operand → Type 0
-IsSix st (Ok b) rest = (m : State) (f : List ℤ → State → Outcome) → with_six st m f ≡ f (numbers_of b) (record m { stack = rest })
+IsSix st (Ok b) rest =
+    (m : State) (f : List ℤ → State → Outcome) → with_six st m f ≡ f (numbers_of b) (record m { stack = rest })
 IsSix st (Err (Stop.Halted cause)) rest = (m : State) (f : List ℤ → State → Outcome) → with_six st m f ≡ halted cause
 IsSix st (Err Stop.Memory) rest = ⊥
 

@@ -10,8 +10,10 @@ machine_token (Ready.Simple t) = simple_token t.now
 machine_token (Ready.Procedure body) = procedure_token body.now
 
 -- a token, what is left of the calls, and what is left of the text
-pub data IsTaken (calls : List SimpleToken) (text : List MachineToken) : MachineToken → List SimpleToken → List MachineToken → Type 0 where
-  of_calls : (t : SimpleToken) (more : List SimpleToken) → calls ≡ t ∷ more → IsTaken calls text (simple_token t) more text
+pub data IsTaken (calls : List SimpleToken) (text : List MachineToken) : MachineToken
+    → List SimpleToken → List MachineToken → Type 0 where
+  of_calls : (t : SimpleToken) (more : List SimpleToken)
+      → calls ≡ t ∷ more → IsTaken calls text (simple_token t) more text
   of_text : (t : MachineToken) (more : List MachineToken) → calls ≡ [] → text ≡ t ∷ more → IsTaken calls text t [] more
 
 -- the first token of the text, or none

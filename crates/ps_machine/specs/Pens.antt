@@ -1,5 +1,6 @@
--- How the code keeps graphics states. The pieces of all paths stand in one list. The path of the state that is drawn with is what stands there
--- from its first piece on. A saved state has of the pieces those that stood there when it was saved, and so have those that were saved before it.
+-- How the code keeps graphics states. The pieces of all paths stand in one list. The path of the state that is drawn
+-- with is what stands there from its first piece on. A saved state has of the pieces those that stood there when it was
+-- saved, and so have those that were saved before it.
 use Rattle.std.specs.Prelude.{◌≡◌, ◌≤◌, ⊤, List, [], ◌∷◌, length, take, drop, reverse, Some}
 use Rattle.ps_steps.specs.declared.graphics.Graphics.{Graphics}
 use Rattle.ps_steps.specs.declared.paint.Seg.{Seg}
@@ -9,7 +10,8 @@ use Rattle.ps_machine.specs.declared.canvas.PenState.{PenState}
 use Rattle.ps_machine.specs.declared.canvas.Saved.{Saved}
 
 abbrev pub graphics_of : List Seg → PenState → Graphics
-graphics_of pieces pen = record { path = drop pen.first pieces; scale = pen.scale; x = pen.x; y = pen.y; font = pen.font; line = pen.line }
+graphics_of pieces pen =
+    record { path = drop pen.first pieces; scale = pen.scale; x = pen.x; y = pen.y; font = pen.font; line = pen.line }
 
 abbrev pub saved_of : List Seg → List Saved → List Graphics
 saved_of pieces [] = []
@@ -20,11 +22,15 @@ drawing_of pieces pen saved = record { now = graphics_of pieces pen; saved = sav
 
 -- a state's path begins among the pieces, and the state knows the points of its path
 abbrev pub IsHeld : List Seg → PenState → Type 0
-IsHeld pieces pen = (pen.first ≤ length pieces) × (pen.end ≡ current (drop pen.first pieces)) × (pen.start ≡ last_move (reverse (drop pen.first pieces)))
+IsHeld pieces pen =
+    (pen.first ≤ length pieces)
+    × (pen.end ≡ current (drop pen.first pieces))
+    × (pen.start ≡ last_move (reverse (drop pen.first pieces)))
 
 abbrev pub AreHeld : List Seg → List Saved → Type 0
 AreHeld pieces [] = ⊤
-AreHeld pieces (s ∷ saved) = (s.count ≤ length pieces) × IsHeld (take s.count pieces) s.pen × AreHeld (take s.count pieces) saved
+AreHeld pieces (s ∷ saved) =
+    (s.count ≤ length pieces) × IsHeld (take s.count pieces) s.pen × AreHeld (take s.count pieces) saved
 
 -- a state once a piece was added to its path: it knows the new points
 abbrev pub followed : PenState → Seg → PenState

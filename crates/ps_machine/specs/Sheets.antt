@@ -1,5 +1,5 @@
--- What a run gives of a text that a sheet spells: what the sheet paints, and never a halt, where the budget has 100 tokens
--- for each byte of the text.
+-- What a run gives of a text that a sheet spells: what the sheet paints, and never a halt, where the budget has 100
+-- tokens for each byte of the text.
 use Rattle.std.specs.Prelude.{◌≡◌, ◌*◌, ◌≤◌, ℕ, List, length, Result, Ok, Err}
 use Rattle.ps_text.specs.Document.{SpellsSheet}
 use Rattle.ps_text.specs.declared.sheet.Sheet.{Sheet}
@@ -15,4 +15,5 @@ Gives pages (Err (Halt token cause)) = ⊥
 Gives pages (Err Memory) = Unit {0}
 
 abbrev pub GivesItsSheet : List ℕ → ℕ → Result (List PagePaint) MachineError → Type 0
-GivesItsSheet text budget result = (s : Sheet) → SpellsSheet s text → 100 * length text ≤ budget → Gives (paint_of s) result
+GivesItsSheet text budget result =
+    (s : Sheet) → SpellsSheet s text → 100 * length text ≤ budget → Gives (paint_of s) result

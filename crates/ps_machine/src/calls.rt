@@ -44,7 +44,8 @@ impl<'a> Calls<'a> {
 
     /// Takes the first token that is left. A procedure of which nothing is left takes no place any more.
     pub fn next(&mut self) -> Result<Option<&'a SimpleToken>, Memory>
-        ensures { IfOk result (λ t. MatchOption t ((self.old ≡ []) × (self.new ≡ [])) (λ s. self.old ≡ s.now ∷ self.new)) }
+        ensures { IfOk result
+            (λ t. MatchOption t ((self.old ≡ []) × (self.new ≡ [])) (λ s. self.old ≡ s.now ∷ self.new)) }
     {
         while let Some(frame) = self.frames.pop() {
             if let Some((t, rest)) = frame.as_slice().split_first() {

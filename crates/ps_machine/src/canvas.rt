@@ -147,7 +147,8 @@ impl Canvas {
 
     /// Adds a piece at the end of the path; at an error all is as it was.
     pub fn push(&mut self, piece: Seg) -> Result<(), Memory>
-        ensures ok { OnOk result (self.new ≡ record self.old { now = record self.old.now { path = self.old.now.path ++ piece ∷ [] } }) }
+        ensures ok { OnOk result
+            (self.new ≡ record self.old { now = record self.old.now { path = self.old.now.path ++ piece ∷ [] } }) }
         ensures err { OnErr result (self.new ≡ self.old) }
     {
         self.pieces.push(piece)?;

@@ -34,7 +34,8 @@ impl<'a> Definitions<'a> {
 
     /// The procedure of a name, if it was given one.
     pub fn body_of(&self, name: &'a [u8]) -> Option<&'a [SimpleToken]>
-        ensures { MatchOption result (names_of self.now name.now ≡ None) (λ body. names_of self.now name.now ≡ Some body.now) }
+        ensures { MatchOption result (names_of self.now name.now ≡ None)
+            (λ body. names_of self.now name.now ≡ Some body.now) }
     {
         match self.bodies.get(&name) {
             Some(body) => Some(body.as_slice()),

@@ -27,7 +27,8 @@ fn execute_name<'a>(
     calls: &mut Calls<'a>,
     name: &'a [u8],
 ) -> Result<(), Stop>
-    ensures { IsExecuted (executed (simple_token (name_token name.now)) (state_of m.old)) calls.old result (state_of m.new) calls.new }
+    ensures { IsExecuted (executed (simple_token (name_token name.now)) (state_of m.old)) calls.old result
+        (state_of m.new) calls.new }
 {
     match m.names.body_of(name) {
         Some(body) => {
@@ -74,7 +75,8 @@ pub fn execute<'a>(
     calls: &mut Calls<'a>,
     t: Ready<'a>,
 ) -> Result<(), Stop>
-    ensures { IsExecuted (executed (machine_token t.entry) (state_of m.old)) calls.old result (state_of m.new) calls.new }
+    ensures { IsExecuted (executed (machine_token t.entry) (state_of m.old)) calls.old result (state_of m.new)
+        calls.new }
 {
     match t {
         Ready::Simple(t) => execute_simple(alloc, m, calls, t),

@@ -41,7 +41,8 @@ fn sum(a: i64, b: i128) -> Option<i64>
 
 /// A coordinate, or none where it is past 2^60 in size.
 pub fn coordinate(origin: i64, scale: &Number, v: i64) -> Option<i64>
-    ensures value { MatchOption result (is_near (origin +ℤ (scale.now *ℤ v)) ≡ false) (λ z. z ≡ origin +ℤ (scale.now *ℤ v)) }
+    ensures value { MatchOption result (is_near (origin +ℤ (scale.now *ℤ v)) ≡ false)
+        (λ z. z ≡ origin +ℤ (scale.now *ℤ v)) }
     ensures near { MatchOption result (true ≡ true) (λ z. is_near (origin +ℤ (scale.now *ℤ v)) ≡ true) }
 {
     sum(origin, times(scale.get(), v))

@@ -12,7 +12,8 @@ use ps_steps::{Cause, Operand, Paint};
 use std::alloc::Global;
 
 fn shown(alloc: Global, m: &mut Machine, words: &[u8]) -> Result<(), Stop>
-    ensures { DidOrStopped (shown_at words.now (current m.old.canvas.now.path) (state_of m.old)) result (state_of m.new) }
+    ensures { DidOrStopped (shown_at words.now (current m.old.canvas.now.path) (state_of m.old)) result
+        (state_of m.new) }
 {
     let Some((x, y)) = m.canvas.current() else {
         return Err(Stop::Halted(Cause::Point));

@@ -26,7 +26,10 @@ abbrev pub rule_tokens : ℤ → List SimpleToken
 rule_tokens up = whole_token (pos 0) ∷ whole_token up ∷ call (codes "m") ∷ call (codes "l") ∷ []
 
 abbrev pub sf_body : List SimpleToken
-sf_body = op gsave_op ∷ op translate_op ∷ (rule_tokens (pos 0) ++ rule_tokens (pos 500) ++ rule_tokens (pos 1000) ++ rule_tokens (pos 1500) ++ rule_tokens (pos 2000) ++ op stroke_op ∷ op grestore_op ∷ [])
+sf_body =
+    op gsave_op ∷ op translate_op
+    ∷ (rule_tokens (pos 0) ++ rule_tokens (pos 500) ++ rule_tokens (pos 1000) ++ rule_tokens (pos 1500)
+    ++ rule_tokens (pos 2000) ++ op stroke_op ∷ op grestore_op ∷ [])
 
 abbrev pub vl_body : List SimpleToken
 vl_body = call (codes "m") ∷ call (codes "l") ∷ op stroke_op ∷ []
@@ -36,14 +39,17 @@ st_body = op gsave_op ∷ op translate_op ∷ call (codes "m") ∷ call (codes "
 
 -- a beam's, whose edge is so far from the ends of its line
 abbrev pub beam_body : ℤ → List SimpleToken
-beam_body d = op gsave_op ∷ whole_token d ∷ whole_token (pos 0) ∷ op translate_op ∷ call (codes "m") ∷ call (codes "l") ∷ call (codes "l") ∷ call (codes "l") ∷ call (codes "h") ∷ op grestore_op ∷ []
+beam_body d =
+    op gsave_op ∷ whole_token d ∷ whole_token (pos 0) ∷ op translate_op ∷ call (codes "m") ∷ call (codes "l")
+    ∷ call (codes "l") ∷ call (codes "l") ∷ call (codes "h") ∷ op grestore_op ∷ []
 
 abbrev pub ac_body : List SimpleToken
 ac_body = call (codes "m") ∷ call (codes "c") ∷ op stroke_op ∷ []
 
 -- the font in a size is set
 abbrev pub font_tokens : ℤ → List SimpleToken
-font_tokens size = label_token (codes "EngFont") ∷ op findfont_op ∷ whole_token size ∷ op scalefont_op ∷ op setfont_op ∷ []
+font_tokens size =
+    label_token (codes "EngFont") ∷ op findfont_op ∷ whole_token size ∷ op scalefont_op ∷ op setfont_op ∷ []
 
 abbrev pub shown_tokens : List SimpleToken
 shown_tokens = op translate_op ∷ call (codes "m") ∷ op show_op ∷ op grestore_op ∷ []
@@ -54,8 +60,11 @@ size_body Size.Big = op gsave_op ∷ (font_tokens (pos 1600) ++ shown_tokens)
 
 -- the beginning of a page
 abbrev pub pg_body : Frame → List SimpleToken
-pg_body f = op gsave_op ∷ pointed_token (pos 1) ∷ pointed_token (pos 1) ∷ op scale_op ∷ whole_token (pos f.left) ∷ whole_token (pos f.bottom) ∷ op translate_op
-    ∷ pointed_token (pos f.scale) ∷ pointed_token (pos f.scale) ∷ op scale_op ∷ whole_token (pos 60) ∷ op setlinewidth_op ∷ font_tokens (pos 900)
+pg_body f =
+    op gsave_op ∷ pointed_token (pos 1) ∷ pointed_token (pos 1) ∷ op scale_op ∷ whole_token (pos f.left)
+    ∷ whole_token (pos f.bottom) ∷ op translate_op
+    ∷ pointed_token (pos f.scale) ∷ pointed_token (pos f.scale) ∷ op scale_op ∷ whole_token (pos 60)
+    ∷ op setlinewidth_op ∷ font_tokens (pos 900)
 
 -- a step of a path: its numbers, and its procedure
 abbrev pub step_numbers : PathOp → List ℤ
@@ -75,7 +84,8 @@ abbrev pub step_tokens : PathOp → List SimpleToken
 step_tokens s = wholes (step_numbers s) ++ call (step_name s) ∷ []
 
 abbrev pub glyph_body : Glyph → List SimpleToken
-glyph_body g = op gsave_op ∷ op translate_op ∷ op translate_op ∷ flat_map step_tokens (outline_of g) ++ op grestore_op ∷ []
+glyph_body g =
+    op gsave_op ∷ op translate_op ∷ op translate_op ∷ flat_map step_tokens (outline_of g) ++ op grestore_op ∷ []
 
 -- the procedures were made for a frame, and no operator's name was given one
 pub record Made (f : Frame) (ds : Names) : Type 0 where

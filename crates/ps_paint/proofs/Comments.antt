@@ -20,7 +20,8 @@ skip_line [] s e = refl
 skip_line (b ∷ line) s e = grind (arith, nat_tests, skip_line line s)
 
 pub takes_comment : (line : List ℕ) (m : State) → list_all in_line line ≡ true → Takes 0 (37 ∷ line ++ 10 ∷ []) m m
-takes_comment line m e = record { take = λ rest. rw (append_assoc line (10 ∷ []) rest, skip_line line rest e) (here (state_before m rest)) }
+takes_comment line m e =
+    record { take = λ rest. rw (append_assoc line (10 ∷ []) rest, skip_line line rest e) (here (state_before m rest)) }
 
 digit_in_line : (b : ℕ) → is_digit b ≡ true → in_line b ≡ true
 digit_in_line b e = grind (arith, nat_tests)

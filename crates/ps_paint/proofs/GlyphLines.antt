@@ -31,12 +31,19 @@ glyph_word g = let t = fine g in record { some = name_some (glyph_name g) t.good
 near_sum : (z d : ℤ) → IsNumber z → IsOffset d → IsNearNumber (z +ℤ d)
 near_sum z d n o = record { low = omega (arith, ints); high = omega (arith, ints) }
 
-pub glyph_drawn : {f : Frame} {ds : Names} (made : Made f ds) (g : Glyph) (y x dx dy : ℤ) → IsPlacedMark y x dx dy → Draws f ds (mark_text y (PageMark.Glyph g x dx dy)) (mark_paints f y (PageMark.Glyph g x dx dy))
+pub glyph_drawn : {f : Frame} {ds : Names} (made : Made f ds) (g : Glyph) (y x dx dy : ℤ)
+    → IsPlacedMark y x dx dy
+    → Draws f ds (mark_text y (PageMark.Glyph g x dx dy)) (mark_paints f y (PageMark.Glyph g x dx dy))
 unfolding mark_text glyph_line
 glyph_drawn made g y x dx dy s =
-    let zs = dx ∷ dy ∷ x ∷ y ∷ [] in let near : all_near zs ≡ true = rw (offset_near dx s.across, offset_near dy s.above, page_near x s.anchor, page_near y s.base) refl in
+    let zs = dx ∷ dy ∷ x ∷ y ∷ [] in
+    let near : all_near zs ≡ true =
+    rw (offset_near dx s.across, offset_near dy s.above, page_near x s.anchor, page_near y s.base) refl in
     let low : cost (outline_of g) ≤ 90 = leb-true (cost (outline_of g)) 90 ((fine g).few) in
-    line_drawn {n = 1 + (1 + (1 + cost (outline_of g)))} zs (glyph_name g) near (glyph_word g) (made.glyph g) (omega (arith, low))
-    (λ st saved ps pages. both_runs (saves made) (both_runs (translates made (from_zero x s.anchor) (from_zero y s.base))
+    line_drawn {n = 1 + (1 + (1 + cost (outline_of g)))} zs (glyph_name g) near (glyph_word g) (made.glyph g)
+    (omega (arith, low))
+    (λ st saved ps pages.
+    both_runs (saves made) (both_runs (translates made (from_zero x s.anchor) (from_zero y s.base))
     (both_runs (translates made (from_number x dx s.anchor s.across) (from_number y dy s.base s.above))
-    (outline_runs made (x +ℤ dx) (y +ℤ dy) (near_sum x dx s.anchor s.across) (near_sum y dy s.base s.above) (outline_of g) [] ps ((fine g).small) ((fine g).drawn)))))
+    (outline_runs made (x +ℤ dx) (y +ℤ dy) (near_sum x dx s.anchor s.across) (near_sum y dy s.base s.above)
+    (outline_of g) [] ps ((fine g).small) ((fine g).drawn)))))

@@ -19,5 +19,23 @@ pub record IsFine (g : Glyph) : Type 0 where
   pub few : nat_le (cost (outline_of g)) 90 ≡ true
 
 pub fine : (g : Glyph) → IsFine g
-fine Glyph.Hb = record { regular = refl; good = refl; other = refl; token = refl; no_def = refl; small = refl; drawn = refl; few = refl }
-fine _ = record { regular = refl; good = refl; other = refl; token = refl; no_def = refl; small = refl; drawn = refl; few = refl }
+fine Glyph.Hb = record {
+  regular = refl;
+  good = refl;
+  other = refl;
+  token = refl;
+  no_def = refl;
+  small = refl;
+  drawn = refl;
+  few = refl;
+}
+fine _ = record {
+  regular = refl;
+  good = refl;
+  other = refl;
+  token = refl;
+  no_def = refl;
+  small = refl;
+  drawn = refl;
+  few = refl;
+}

@@ -52,23 +52,40 @@ smalls : (zs : List ℤ) → list_all is_small zs ≡ true → AllByRecursion (�
 smalls [] e = tt
 smalls (z ∷ zs) e = let t = and_parts (is_small z) (list_all is_small zs) e in (t.0, smalls zs t.1)
 
-module _ {f : Frame} {ds : Names} (made : Made f ds) {font : ℤ} {st : List Operand} {g : Graphics} {saved : List Graphics} {pages : List PagePaint} (x y : ℤ) (nx : IsNearNumber x) (ny : IsNearNumber y) where
-  pub outline_runs : (steps : List PathOp) (path : List Seg) (ps : List Paint) → are_small steps ≡ true → is_drawn (some_path path) steps ≡ true
-      → Runs (cost steps) (flat_map step_tokens steps ++ op grestore_op ∷ []) (page ds st (drawing f x y path font) (g ∷ saved) ps pages) (page ds st g saved (ps ++ outline_paints f x y path steps) pages)
+module _ {f : Frame} {ds : Names} (made : Made f ds) {font : ℤ} {st : List Operand} {g : Graphics}
+    {saved : List Graphics} {pages : List PagePaint} (x y : ℤ) (nx : IsNearNumber x) (ny : IsNearNumber y) where
+  pub outline_runs : (steps : List PathOp) (path : List Seg) (ps : List Paint)
+      → are_small steps ≡ true → is_drawn (some_path path) steps ≡ true
+      → Runs (cost steps) (flat_map step_tokens steps ++ op grestore_op ∷ [])
+      (page ds st (drawing f x y path font) (g ∷ saved) ps pages)
+      (page ds st g saved (ps ++ outline_paints f x y path steps) pages)
   outline_runs [] path ps e d = rw (append-nil ps) (restores made)
   outline_runs (PathOp.Move a b ∷ rest) path ps e d =
       let t = and_parts (list_all is_small (a ∷ b ∷ [])) (are_small rest) e in let s = smalls (a ∷ b ∷ []) t.0 in
-      both_runs (pushes (a ∷ b ∷ [])) (both_runs (moves made (from_near x a nx s.0) (from_near y b ny s.1.0)) (outline_runs rest _ ps t.1 (rw (has_path path _) d)))
+      both_runs (pushes (a ∷ b ∷ []))
+      (both_runs (moves made (from_near x a nx s.0) (from_near y b ny s.1.0))
+      (outline_runs rest _ ps t.1 (rw (has_path path _) d)))
   outline_runs (PathOp.Line a b ∷ rest) path ps e d =
-      let t = and_parts (list_all is_small (a ∷ b ∷ [])) (are_small rest) e in let s = smalls (a ∷ b ∷ []) t.0 in let has = and_parts (some_path path) (is_drawn true rest) d in
-      both_runs (pushes (a ∷ b ∷ [])) (both_runs (lines made has.0 (from_near x a nx s.0) (from_near y b ny s.1.0)) (outline_runs rest _ ps t.1 (rw (has_path path _) has.1)))
+      let t = and_parts (list_all is_small (a ∷ b ∷ [])) (are_small rest) e in
+      let s = smalls (a ∷ b ∷ []) t.0 in
+      let has = and_parts (some_path path) (is_drawn true rest) d in
+      both_runs (pushes (a ∷ b ∷ []))
+      (both_runs (lines made has.0 (from_near x a nx s.0) (from_near y b ny s.1.0))
+      (outline_runs rest _ ps t.1 (rw (has_path path _) has.1)))
   outline_runs (PathOp.Curve a b c d p q ∷ rest) path ps e h =
-      let zs = a ∷ b ∷ c ∷ d ∷ p ∷ q ∷ [] in let t = and_parts (list_all is_small zs) (are_small rest) e in let s = smalls zs t.0 in
+      let zs = a ∷ b ∷ c ∷ d ∷ p ∷ q ∷ [] in
+      let t = and_parts (list_all is_small zs) (are_small rest) e in
+      let s = smalls zs t.0 in
       let has = and_parts (some_path path) (is_drawn true rest) h in
       both_runs (pushes zs)
-      (both_runs (curves made has.0 (from_near x a nx s.0) (from_near y b ny s.1.0) (from_near x c nx s.1.1.0) (from_near y d ny s.1.1.1.0) (from_near x p nx s.1.1.1.1.0) (from_near y q ny s.1.1.1.1.1.0))
+      (both_runs
+      (curves made has.0 (from_near x a nx s.0) (from_near y b ny s.1.0) (from_near x c nx s.1.1.0)
+      (from_near y d ny s.1.1.1.0) (from_near x p nx s.1.1.1.1.0) (from_near y q ny s.1.1.1.1.1.0))
       (outline_runs rest _ ps t.1 (rw (has_path path _) has.1)))
   outline_runs (PathOp.Fill ∷ rest) path ps e d =
-      let has = and_parts (some_path path) (is_drawn false rest) d in both_runs (fills made has.0) (rw append_assoc at (outline_runs rest [] (ps ++ filled_paint path ∷ []) e has.1))
+      let has = and_parts (some_path path) (is_drawn false rest) d in
+      both_runs (fills made has.0) (rw append_assoc at (outline_runs rest [] (ps ++ filled_paint path ∷ []) e has.1))
   outline_runs (PathOp.Stroke ∷ rest) path ps e d =
-      let has = and_parts (some_path path) (is_drawn false rest) d in both_runs (calls made.k (strokes made x y)) (rw append_assoc at (outline_runs rest [] (ps ++ stroked f path ∷ []) e has.1))
+      let has = and_parts (some_path path) (is_drawn false rest) d in
+      both_runs (calls made.k (strokes made x y))
+      (rw append_assoc at (outline_runs rest [] (ps ++ stroked f path ∷ []) e has.1))

@@ -17,9 +17,12 @@ use Rattle.ps_paint.proofs.Bodies.{Made, sf_body, vl_body, st_body, beam_body, a
 
 -- the names of its fixed lines and their procedures, in their order
 abbrev pub fixed_bodies : List (List ℕ × List SimpleToken)
-fixed_bodies = (codes "m", op moveto_op ∷ []) ∷ (codes "l", op lineto_op ∷ []) ∷ (codes "c", op curveto_op ∷ []) ∷ (codes "h", op closepath_op ∷ op fill_op ∷ []) ∷ (codes "k", op stroke_op ∷ [])
+fixed_bodies =
+    (codes "m", op moveto_op ∷ []) ∷ (codes "l", op lineto_op ∷ []) ∷ (codes "c", op curveto_op ∷ [])
+    ∷ (codes "h", op closepath_op ∷ op fill_op ∷ []) ∷ (codes "k", op stroke_op ∷ [])
     ∷ (codes "sf", sf_body) ∷ (codes "vl", vl_body) ∷ (codes "st", st_body)
-    ∷ (codes "bu", beam_body (edge Way.Up)) ∷ (codes "bd", beam_body (edge Way.Down)) ∷ (codes "gb", beam_body (edge Way.Grace))
+    ∷ (codes "bu", beam_body (edge Way.Up)) ∷ (codes "bd", beam_body (edge Way.Down))
+    ∷ (codes "gb", beam_body (edge Way.Grace))
     ∷ (codes "ac", ac_body) ∷ (codes "t1", size_body Size.Small) ∷ (codes "t2", size_body Size.Big) ∷ []
 
 abbrev pub with_bodies : List (List ℕ × List SimpleToken) → Names → Names
@@ -63,4 +66,20 @@ of_size f Size.Big = refl
 
 pub all_made : (f : Frame) → IsFrame f → Made f (all_names f)
 unfolding glyphs_in_order
-all_made f fr = record { frame = fr; free = free f; m = refl; l = refl; c = refl; h = refl; k = refl; sf = refl; vl = refl; st = refl; beam = of_beam f; ac = refl; words = of_size f; pg = refl; glyph = of_glyph f }
+all_made f fr = record {
+  frame = fr;
+  free = free f;
+  m = refl;
+  l = refl;
+  c = refl;
+  h = refl;
+  k = refl;
+  sf = refl;
+  vl = refl;
+  st = refl;
+  beam = of_beam f;
+  ac = refl;
+  words = of_size f;
+  pg = refl;
+  glyph = of_glyph f;
+}

@@ -60,39 +60,66 @@ module _ {f : Frame} {ds : Names} (made : Made f ds) where
   staff_drawn : (k : ℕ) (s : Staff) → IsStaff s → Draws f ds (staff_text k s) (staff_paints f s)
   unfolding staff_text staff_line marks_text
   staff_drawn k s h =
-      let a = 37 ∷ (codes " staff " ++ decimal k) in let r = rules_line s.width s.y in let ms = flat_map (mark_text s.y) s.marks in
-      let comment : Draws f ds (a ++ 10 ∷ []) [] = passed_over (λ m. takes_comment (codes " staff " ++ decimal k) m (number_in_line k)) in
-      let rules = rules_drawn made s.width s.y (wide_number s.width h.wide) h.base in let marks : Draws f ds ms (flat_map (mark_paints f s.y) s.marks) = all_drawn (mark_drawn s.y) s.marks h.drawn in
+      let a = 37 ∷ (codes " staff " ++ decimal k) in
+      let r = rules_line s.width s.y in
+      let ms = flat_map (mark_text s.y) s.marks in
+      let comment : Draws f ds (a ++ 10 ∷ []) [] =
+      passed_over (λ m. takes_comment (codes " staff " ++ decimal k) m (number_in_line k)) in
+      let rules = rules_drawn made s.width s.y (wide_number s.width h.wide) h.base in
+      let marks : Draws f ds ms (flat_map (mark_paints f s.y) s.marks) = all_drawn (mark_drawn s.y) s.marks h.drawn in
       rw (three_lines a r ms) at (both_drawn (both_drawn comment rules) marks)
 
-  staves_drawn : (k : ℕ) (staves : List Staff) → All IsStaff staves → Draws f ds (numbered staff_text k staves) (flat_map (staff_paints f) staves)
+  staves_drawn : (k : ℕ) (staves : List Staff)
+      → All IsStaff staves → Draws f ds (numbered staff_text k staves) (flat_map (staff_paints f) staves)
   staves_drawn k [] a = nothing_drawn
-  staves_drawn k (s ∷ rest) a = both_drawn (staff_drawn k s (All-head IsStaff s rest a)) (staves_drawn (k + 1) rest (All-tail IsStaff s rest a))
+  staves_drawn k (s ∷ rest) a =
+      both_drawn (staff_drawn k s (All-head IsStaff s rest a)) (staves_drawn (k + 1) rest (All-tail IsStaff s rest a))
 
-  joined_drawn : (staves : List Staff) → IsJoined staves → All IsStaff staves → Draws f ds (join_text staves) (join_paints f staves)
+  joined_drawn : (staves : List Staff)
+      → IsJoined staves → All IsStaff staves → Draws f ds (join_text staves) (join_paints f staves)
   joined_drawn [] j a = nothing_drawn
   joined_drawn (s ∷ []) j a = nothing_drawn
-  joined_drawn (s ∷ t ∷ rest) j a = join_drawn made (s.y +ℤ pos 2000) (last_base t rest) j (last_number t rest (All-tail IsStaff s (t ∷ rest) a))
+  joined_drawn (s ∷ t ∷ rest) j a =
+      join_drawn made (s.y +ℤ pos 2000) (last_base t rest) j (last_number t rest (All-tail IsStaff s (t ∷ rest) a))
 
   item_drawn : (i : Item) → IsItem i → Draws f ds (item_text i) (item_paints f i)
   unfolding tune_text tune_line system_text system_line
-  item_drawn (Item.Tune ordinal) h = passed_over (λ m. takes_comment (codes " tune " ++ decimal ordinal) m (number_in_line ordinal))
+  item_drawn (Item.Tune ordinal) h =
+      passed_over (λ m. takes_comment (codes " tune " ++ decimal ordinal) m (number_in_line ordinal))
   item_drawn (Item.Title x y size words) h = title_drawn made x y size words h
   item_drawn (Item.System a b staves) h =
       let c = 37 ∷ (codes " system " ++ decimal a ++ 32 ∷ decimal b) in
-      let comment : Draws f ds (c ++ 10 ∷ []) [] = passed_over (λ m. takes_comment (codes " system " ++ decimal a ++ 32 ∷ decimal b) m (two_in_line a b)) in
-      subst (λ t. Draws f ds (t ++ numbered staff_text 0 staves) (item_paints f (Item.System a b staves))) (append_assoc c (10 ∷ []) (join_text staves))
+      let comment : Draws f ds (c ++ 10 ∷ []) [] =
+      passed_over (λ m. takes_comment (codes " system " ++ decimal a ++ 32 ∷ decimal b) m (two_in_line a b)) in
+      subst (λ t. Draws f ds (t ++ numbered staff_text 0 staves) (item_paints f (Item.System a b staves)))
+      (append_assoc c (10 ∷ []) (join_text staves))
       (both_drawn (both_drawn comment (joined_drawn staves h.joined h.good)) (staves_drawn 0 staves h.good))
 
-  page_drawn : (k : ℕ) (p : Page) (pages : List PagePaint) → IsPage p → Leads (document_page k p) (between ds pages) (between ds (pages ++ page_paint f p ∷ []))
+  page_drawn : (k : ℕ) (p : Page) (pages : List PagePaint)
+      → IsPage p → Leads (document_page k p) (between ds pages) (between ds (pages ++ page_paint f p ∷ []))
   page_drawn k p pages h =
-      let d : Draws f ds (flat_map item_text p.items) (flat_map (item_paints f) p.items) = all_drawn item_drawn p.items h.items in let l = d.draw [] (first_graphics ∷ []) [] pages in
+      let d : Draws f ds (flat_map item_text p.items) (flat_map (item_paints f) p.items) =
+      all_drawn item_drawn p.items h.items in
+      let l = d.draw [] (first_graphics ∷ []) [] pages in
       rw (page_parts k p) (record {
         count = (18 + l.count) + 2;
-        few = let x = l.few in omega (arith, heading_some k, length-append (heading_text k ++ flat_map item_text p.items) closing, length-append (heading_text k) (flat_map item_text p.items));
-        takes = both_taken (both_taken (page_begun made k pages) l.takes) (page_ended made (flat_map (item_paints f) p.items) pages);
+        few =
+            let x = l.few in
+            omega (
+              arith,
+              heading_some k,
+              length-append (heading_text k ++ flat_map item_text p.items) closing,
+              length-append (heading_text k) (flat_map item_text p.items),
+            );
+        takes =
+            both_taken (both_taken (page_begun made k pages) l.takes)
+            (page_ended made (flat_map (item_paints f) p.items) pages);
       })
 
-  pub pages_drawn : (k : ℕ) (ps : List Page) (before : List PagePaint) → All IsPage ps → Leads (numbered document_page k ps) (between ds before) (between ds (before ++ map (page_paint f) ps))
+  pub pages_drawn : (k : ℕ) (ps : List Page) (before : List PagePaint)
+      → All IsPage ps
+      → Leads (numbered document_page k ps) (between ds before) (between ds (before ++ map (page_paint f) ps))
   pages_drawn k [] before a = rw (append-nil before) (stays nothing_taken)
-  pages_drawn k (p ∷ ps) before a = both_lead (page_drawn k p before (All-head IsPage p ps a)) (rw append_assoc at (pages_drawn (k + 1) ps (before ++ page_paint f p ∷ []) (All-tail IsPage p ps a)))
+  pages_drawn k (p ∷ ps) before a =
+      both_lead (page_drawn k p before (All-head IsPage p ps a))
+      (rw append_assoc at (pages_drawn (k + 1) ps (before ++ page_paint f p ∷ []) (All-tail IsPage p ps a)))

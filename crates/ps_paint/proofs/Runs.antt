@@ -12,8 +12,17 @@ use Rattle.ps_steps.specs.Operators.{def_op}
 use Rattle.ps_steps.specs.Steps.{from_pending, Step, TakesSteps, here, step}
 use Rattle.ps_steps.proofs.Joined.{joined, now}
 
-simple_step : (t : SimpleToken) (ts body : List SimpleToken) (m k : State) (s : List ℕ) → executed (simple_token t) m ≡ went body k → Step (now (t ∷ ts) m s) (now (body ++ ts) k s)
-simple_step t ts body m k s e = record { token = simple_token t; rest = now ts m s; body = body; state = k; next = from_pending t ts m s; went = e; is = refl }
+simple_step : (t : SimpleToken) (ts body : List SimpleToken) (m k : State) (s : List ℕ)
+    → executed (simple_token t) m ≡ went body k → Step (now (t ∷ ts) m s) (now (body ++ ts) k s)
+simple_step t ts body m k s e = record {
+  token = simple_token t;
+  rest = now ts m s;
+  body = body;
+  state = k;
+  next = from_pending t ts m s;
+  went = e;
+  is = refl;
+}
 
 -- whatever follows, these tokens lead from one state to another in n steps
 pub record Runs (n : ℕ) (ts : List SimpleToken) (m k : State) : Type 0 where
@@ -23,16 +32,26 @@ pub no_more : {m : State} → Runs 0 [] m m
 no_more {m} = record { run = λ rest s. here (now rest m s) }
 
 -- a token that calls nothing, and further ones
-pub then : {n : ℕ} {t : SimpleToken} {ts : List SimpleToken} {m k l : State} → executed (simple_token t) m ≡ went [] k → Runs n ts k l → Runs (suc n) (t ∷ ts) m l
-then {n} {t} {ts} {m} {k} {l} e r = record { run = λ rest s. step n _ (now (ts ++ rest) k s) _ (simple_step t (ts ++ rest) [] m k s e) (r.run rest s) }
+pub then : {n : ℕ} {t : SimpleToken} {ts : List SimpleToken} {m k l : State}
+    → executed (simple_token t) m ≡ went [] k → Runs n ts k l → Runs (suc n) (t ∷ ts) m l
+then {n} {t} {ts} {m} {k} {l} e r =
+    record { run = λ rest s. step n _ (now (ts ++ rest) k s) _ (simple_step t (ts ++ rest) [] m k s e) (r.run rest s) }
 
 -- a name that was given a procedure
-pub calls : {n : ℕ} {name : List ℕ} {body : List SimpleToken} {m k : State} → m.names name ≡ Some body → Runs n body m k → Runs (suc n) (name_token name ∷ []) m k
-calls {n} {name} {body} {m} h r = record { run = λ rest s. step n _ (now (body ++ rest) m s) _ (simple_step (name_token name) rest body m m s (rw h refl)) (r.run rest s) }
+pub calls : {n : ℕ} {name : List ℕ} {body : List SimpleToken} {m k : State}
+    → m.names name ≡ Some body → Runs n body m k → Runs (suc n) (name_token name ∷ []) m k
+calls {n} {name} {body} {m} h r = record {
+  run = λ rest s.
+      step n _ (now (body ++ rest) m s) _ (simple_step (name_token name) rest body m m s (rw h refl)) (r.run rest s);
+}
 
 -- runs one after the other
-pub both_runs : {n j : ℕ} {ts us : List SimpleToken} {m k l : State} → Runs n ts m k → Runs j us k l → Runs (n + j) (ts ++ us) m l
-both_runs {n} {j} {ts} {us} {m} {k} {l} r q = record { run = λ rest s. rw (append_assoc ts us rest) (joined n j _ (now (us ++ rest) k s) _ (r.run (us ++ rest) s) (q.run rest s)) }
+pub both_runs : {n j : ℕ} {ts us : List SimpleToken} {m k l : State}
+    → Runs n ts m k → Runs j us k l → Runs (n + j) (ts ++ us) m l
+both_runs {n} {j} {ts} {us} {m} {k} {l} r q = record {
+  run = λ rest s.
+      rw (append_assoc ts us rest) (joined n j _ (now (us ++ rest) k s) _ (r.run (us ++ rest) s) (q.run rest s));
+}
 
 -- an operator, by its name
 abbrev pub op : Operator → SimpleToken
@@ -43,10 +62,12 @@ named def_op = refl
 named _ = refl
 
 -- what it does, where its name was given no procedure
-pub does : (m : State) {k : State} (o : Operator) → m.names (operator_name o) ≡ None → operated o m ≡ went [] k → executed (simple_token (op o)) m ≡ went [] k
+pub does : (m : State) {k : State} (o : Operator)
+    → m.names (operator_name o) ≡ None → operated o m ≡ went [] k → executed (simple_token (op o)) m ≡ went [] k
 does m o h e = rw (h, named o) e
 
-pub acts : {m k : State} (o : Operator) → m.names (operator_name o) ≡ None → operated o m ≡ went [] k → Runs 1 (op o ∷ []) m k
+pub acts : {m k : State} (o : Operator)
+    → m.names (operator_name o) ≡ None → operated o m ≡ went [] k → Runs 1 (op o ∷ []) m k
 acts {m} o h e = then (does m o h e) no_more
 
 pub is_in_range : (zs : List ℤ) (x : Outcome) → all_near zs ≡ true → in_range zs x ≡ x

@@ -27,7 +27,8 @@ record IsWithin (p : ℕ) (z : ℤ) : Type 0 where
 
 bounded : (p : ℕ) (x : ℤ) → IsClose x → IsWithin p (pos p *ℤ x)
 bounded zero x c = rw (zero-*ℤ x) (record { low = omega (arith, ints); high = omega (arith, ints) })
-bounded (suc p) x c = let b = bounded p x c in rw (one_more p x) (record { low = omega (arith, ints); high = omega (arith, ints) })
+bounded (suc p) x c =
+    let b = bounded p x c in rw (one_more p x) (record { low = omega (arith, ints); high = omega (arith, ints) })
 
 pub near : (z : ℤ) → negsuc 1152921504606846975 ≤ℤ z → z ≤ℤ pos 1152921504606846976 → is_near z ≡ true
 near z l h = grind (arith, ints)
@@ -50,11 +51,14 @@ pub from_number : (z d : ℤ) → IsNumber z → IsOffset d → Comes z d (z +�
 from_number z d n o = record { is = refl; close = record { low = omega (arith, ints); high = omega (arith, ints) } }
 
 -- the same with a margin and a scale, across and above
-pub comes_to : (margin p : ℕ) {v a w : ℤ} → Comes v a w → (pos (100 * margin) +ℤ (pos p *ℤ v)) +ℤ (pos p *ℤ a) ≡ pos (100 * margin) +ℤ (pos p *ℤ w)
+pub comes_to : (margin p : ℕ) {v a w : ℤ}
+    → Comes v a w → (pos (100 * margin) +ℤ (pos p *ℤ v)) +ℤ (pos p *ℤ a) ≡ pos (100 * margin) +ℤ (pos p *ℤ w)
 comes_to margin p {v} {a} c = rw (← c.is, spread p v a) (omega (arith, ints))
 
-pub near_place : (margin p : ℕ) (x : ℤ) → margin < 2 ^ 32 → p ≤ 150 → IsClose x → is_near (pos (100 * margin) +ℤ (pos p *ℤ x)) ≡ true
-near_place margin p x l s c = let b = bounded p x c in near (pos (100 * margin) +ℤ (pos p *ℤ x)) (omega (arith, ints)) (omega (arith, ints))
+pub near_place : (margin p : ℕ) (x : ℤ)
+    → margin < 2 ^ 32 → p ≤ 150 → IsClose x → is_near (pos (100 * margin) +ℤ (pos p *ℤ x)) ≡ true
+near_place margin p x l s c =
+    let b = bounded p x c in near (pos (100 * margin) +ℤ (pos p *ℤ x)) (omega (arith, ints)) (omega (arith, ints))
 
 pub near_width : (f : Frame) → IsFrame f → is_near (pos 60 *ℤ pos f.scale) ≡ true
 near_width f g = near (pos 60 *ℤ pos f.scale) (omega (arith, ints)) (omega (arith, ints))

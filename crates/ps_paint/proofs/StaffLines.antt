@@ -22,20 +22,32 @@ use Rattle.ps_paint.proofs.{Draws.{strokes, has_path}, Lines.{Draws, line_drawn,
 
 module _ {f : Frame} {ds : Names} (made : Made f ds) where
   -- a line of a staff at y, behind others
-  next_rule : {w y up v : ℤ} {path : List Seg} {st : List Operand} {saved : List Graphics} {ps : List Paint} {pages : List PagePaint} → IsNumber w → Comes y up v
-      → Runs 6 (rule_tokens up) (page ds (whole_value up ∷ whole_value w ∷ st) (drawing f (pos 0) y path (pos 900)) saved ps pages)
+  next_rule : {w y up v : ℤ} {path : List Seg} {st : List Operand} {saved : List Graphics} {ps : List Paint}
+      {pages : List PagePaint}
+      → IsNumber w → Comes y up v
+      → Runs 6 (rule_tokens up)
+      (page ds (whole_value up ∷ whole_value w ∷ st) (drawing f (pos 0) y path (pos 900)) saved ps pages)
       (page ds st (drawing f (pos 0) y ((path ++ move f (pos 0) v ∷ []) ++ line f w v ∷ []) (pos 900)) saved ps pages)
-  next_rule {w} {up = up} {path = path} n c = both_runs (pushes (pos 0 ∷ up ∷ [])) (both_runs (moves made no_way c) (lines made (has_path path _) (from_zero w n) c))
+  next_rule {w} {up = up} {path = path} n c =
+      both_runs (pushes (pos 0 ∷ up ∷ []))
+      (both_runs (moves made no_way c) (lines made (has_path path _) (from_zero w n) c))
 
   above : (y : ℤ) (n : ℕ) → IsNumber y → nat_le n 2000 ≡ true → Comes y (pos n) (y +ℤ pos n)
   above y n h l = from_number y (pos n) h (record { low = grind (arith, ints); high = grind (arith, ints) })
 
-  pub rules_drawn : (width : ℕ) (y : ℤ) → IsNumber (pos width) → IsNumber y → Draws f ds (rules_line width y ++ 10 ∷ []) (stroked f (rules f (pos width) y) ∷ [])
+  pub rules_drawn : (width : ℕ) (y : ℤ)
+      → IsNumber (pos width) → IsNumber y
+      → Draws f ds (rules_line width y ++ 10 ∷ []) (stroked f (rules f (pos width) y) ∷ [])
   unfolding rules_line
   rules_drawn width y nw ny =
-      let w = pos width in let zs = w ∷ pos 2000 ∷ w ∷ pos 1500 ∷ w ∷ pos 1000 ∷ w ∷ pos 500 ∷ w ∷ pos 0 ∷ pos 0 ∷ y ∷ [] in let near : all_near zs ≡ true = rw (page_near w nw, page_near y ny) refl in
+      let w = pos width in
+      let zs = w ∷ pos 2000 ∷ w ∷ pos 1500 ∷ w ∷ pos 1000 ∷ w ∷ pos 500 ∷ w ∷ pos 0 ∷ pos 0 ∷ y ∷ [] in
+      let near : all_near zs ≡ true = rw (page_near w nw, page_near y ny) refl in
       let lowest : Comes y (pos 0) y = record { is = +ℤ_idr y; close = close_number y ny } in
-      line_drawn zs (codes "sf") near (record { some = omega arith; regular = refl; token = refl }) made.sf (omega arith)
+      line_drawn zs (codes "sf") near (record { some = omega arith; regular = refl; token = refl }) made.sf
+      (omega arith)
       (λ st saved ps pages. both_runs (saves made) (both_runs (translates made no_way (from_zero y ny))
-      (both_runs (next_rule nw lowest) (both_runs (next_rule nw (above y 500 ny refl)) (both_runs (next_rule nw (above y 1000 ny refl))
-      (both_runs (next_rule nw (above y 1500 ny refl)) (both_runs (next_rule nw (above y 2000 ny refl)) (both_runs (strokes made (pos 0) y) (restores made)))))))))
+      (both_runs (next_rule nw lowest)
+      (both_runs (next_rule nw (above y 500 ny refl)) (both_runs (next_rule nw (above y 1000 ny refl))
+      (both_runs (next_rule nw (above y 1500 ny refl))
+      (both_runs (next_rule nw (above y 2000 ny refl)) (both_runs (strokes made (pos 0) y) (restores made)))))))))

@@ -1,5 +1,5 @@
--- What a sheet paints, in 1/10000 point: for each page, item by item and mark by mark, the paths that are filled or stroked
--- and the words that are shown.
+-- What a sheet paints, in 1/10000 point: for each page, item by item and mark by mark, the paths that are filled or
+-- stroked and the words that are shown.
 use Rattle.std.specs.Prelude.{ℕ, ℤ, pos, ◌*◌, ◌+ℤ◌, ◌-ℤ◌, ◌*ℤ◌, List, [], ◌∷◌, ◌++◌, map}
 use Rattle.std.specs.List.{flat_map}
 use Rattle.mus_units.specs.declared.glyph.Size.{Size}
@@ -50,13 +50,14 @@ font_height Size.Big = pos 1600
 abbrev pub words_paint : Frame → Size → ℤ → ℤ → List ℕ → Paint
 words_paint f size x y words = Paint.Show (font_height size *ℤ pos f.scale) (to_x f x) (to_y f y) words
 
--- an outline moved by (x, y), behind the pieces of the path that it goes on with: a paint for each Fill and each Stroke,
--- of the pieces since the last one
+-- an outline moved by (x, y), behind the pieces of the path that it goes on with: a paint for each Fill and each
+-- Stroke, of the pieces since the last one
 abbrev pub outline_paints : Frame → ℤ → ℤ → List Seg → List PathOp → List Paint
 outline_paints f x y path [] = []
 outline_paints f x y path (PathOp.Move a b ∷ rest) = outline_paints f x y (path ++ move f (x +ℤ a) (y +ℤ b) ∷ []) rest
 outline_paints f x y path (PathOp.Line a b ∷ rest) = outline_paints f x y (path ++ line f (x +ℤ a) (y +ℤ b) ∷ []) rest
-outline_paints f x y path (PathOp.Curve a b c d p q ∷ rest) = outline_paints f x y (path ++ curve f (x +ℤ a) (y +ℤ b) (x +ℤ c) (y +ℤ d) (x +ℤ p) (y +ℤ q) ∷ []) rest
+outline_paints f x y path (PathOp.Curve a b c d p q ∷ rest) =
+    outline_paints f x y (path ++ curve f (x +ℤ a) (y +ℤ b) (x +ℤ c) (y +ℤ d) (x +ℤ p) (y +ℤ q) ∷ []) rest
 outline_paints f x y path (PathOp.Fill ∷ rest) = filled_paint path ∷ outline_paints f x y [] rest
 outline_paints f x y path (PathOp.Stroke ∷ rest) = stroked f path ∷ outline_paints f x y [] rest
 
@@ -72,18 +73,22 @@ edge Way.Grace = pos 190
 
 -- a beam from (x1, a) to (x2, b) is 250 thick
 abbrev pub beam_paint : Frame → ℤ → ℤ → ℤ → ℤ → Paint
-beam_paint f x1 a x2 b = filled_paint (move f x1 a ∷ line f x2 b ∷ line f x2 (b +ℤ pos 250) ∷ line f x1 (a +ℤ pos 250) ∷ [])
+beam_paint f x1 a x2 b =
+    filled_paint (move f x1 a ∷ line f x2 b ∷ line f x2 (b +ℤ pos 250) ∷ line f x1 (a +ℤ pos 250) ∷ [])
 
 -- an arc from (x1, a) to (x2, b), whose inner points are a quarter of the way from its ends, and so far above them
 abbrev pub arc_paint : Frame → ℤ → ℤ → ℤ → ℤ → ℤ → Paint
-arc_paint f x1 a x2 b bulge = stroked f (move f x1 a ∷ curve f (x1 +ℤ quarter x1 x2) (a +ℤ bulge) (x2 -ℤ quarter x1 x2) (b +ℤ bulge) x2 b ∷ [])
+arc_paint f x1 a x2 b bulge =
+    stroked f (move f x1 a ∷ curve f (x1 +ℤ quarter x1 x2) (a +ℤ bulge) (x2 -ℤ quarter x1 x2) (b +ℤ bulge) x2 b ∷ [])
 
 -- a mark of a staff at y
 abbrev pub mark_paints : Frame → ℤ → PageMark → List Paint
 mark_paints f y (PageMark.Glyph glyph x dx dy) = glyph_paints f (x +ℤ dx) (y +ℤ dy) (outline_of glyph)
 mark_paints f y (PageMark.Words size x dx dy words) = words_paint f size (x +ℤ dx) (y +ℤ dy) words ∷ []
-mark_paints f y (PageMark.Stem x dx from to) = stroked f (move f (x +ℤ dx) (y +ℤ from) ∷ line f (x +ℤ dx) (y +ℤ to) ∷ []) ∷ []
-mark_paints f y (PageMark.Beam way x1 x2 from to) = beam_paint f (x1 +ℤ edge way) (y +ℤ from) (x2 +ℤ edge way) (y +ℤ to) ∷ []
+mark_paints f y (PageMark.Stem x dx from to) =
+    stroked f (move f (x +ℤ dx) (y +ℤ from) ∷ line f (x +ℤ dx) (y +ℤ to) ∷ []) ∷ []
+mark_paints f y (PageMark.Beam way x1 x2 from to) =
+    beam_paint f (x1 +ℤ edge way) (y +ℤ from) (x2 +ℤ edge way) (y +ℤ to) ∷ []
 mark_paints f y (PageMark.Arc x1 x2 from to bulge) = arc_paint f x1 (y +ℤ from) x2 (y +ℤ to) bulge ∷ []
 
 -- a line of a staff, from the left margin
@@ -92,7 +97,9 @@ rule f width y = move f (pos 0) y ∷ line f width y ∷ []
 
 -- the five lines of a staff at y, from the lowest, in one stroke
 abbrev pub rules : Frame → ℤ → ℤ → List Seg
-rules f width y = rule f width y ++ rule f width (y +ℤ pos 500) ++ rule f width (y +ℤ pos 1000) ++ rule f width (y +ℤ pos 1500) ++ rule f width (y +ℤ pos 2000)
+rules f width y =
+    rule f width y ++ rule f width (y +ℤ pos 500) ++ rule f width (y +ℤ pos 1000) ++ rule f width (y +ℤ pos 1500)
+    ++ rule f width (y +ℤ pos 2000)
 
 -- a staff: its lines, and its marks
 abbrev pub staff_paints : Frame → Staff → List Paint
@@ -102,7 +109,8 @@ staff_paints f s = stroked f (rules f (pos s.width) s.y) ∷ flat_map (mark_pain
 abbrev pub join_paints : Frame → List Staff → List Paint
 join_paints f [] = []
 join_paints f (s ∷ []) = []
-join_paints f (s ∷ t ∷ rest) = stroked f (move f (pos 0) (last_base t rest) ∷ line f (pos 0) (s.y +ℤ pos 2000) ∷ []) ∷ []
+join_paints f (s ∷ t ∷ rest) =
+    stroked f (move f (pos 0) (last_base t rest) ∷ line f (pos 0) (s.y +ℤ pos 2000) ∷ []) ∷ []
 
 -- the beginning of a tune paints nothing; a title is shown; a system is its joining line and its staves
 abbrev pub item_paints : Frame → Item → List Paint

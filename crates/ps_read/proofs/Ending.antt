@@ -59,14 +59,17 @@ in_box [] text m = absurd (no_line text (behind_line text []) m.first)
 in_box (b ∷ rest) text m = refl
 
 mark_late : (text : List ℕ) → IsMarkStart (head_of text) → late ≡ on late text
-mark_late text h = let other = ne_eqb (head_of text) 37 h.0 in ap (λ b. if b then (if same_start 5 text last_line then over else late) else late) (sym other)
+mark_late text h =
+    let other = ne_eqb (head_of text) 37 h.0 in
+    ap (λ b. if b then (if same_start 5 text last_line then over else late) else late) (sym other)
 
 stage_on : (p : ReaderState) (l : Line) → MayCome p l → stage (state_after p l) ≡ on (stage p) (line_text l)
 unfolding heading_line count_line tune_line system_line staff_line
 stage_on (ReaderState.Boxed w h rest) (line.Fixed text) m = in_box rest text m
 stage_on (ReaderState.Boxed w h rest) (line.PageStart l b s) m = rw m.0 refl
 stage_on (ReaderState.Framed f rest) (line.Fixed text) m = after_framed f (behind_line text rest)
-stage_on (ReaderState.Items p) (line.Title x y size words) m = mark_late (line_text (line.Title x y size words)) (title_start x y size words)
+stage_on (ReaderState.Items p) (line.Title x y size words) m =
+    mark_late (line_text (line.Title x y size words)) (title_start x y size words)
 stage_on (ReaderState.System o) (line.Join x y) m = mark_late (line_text (line.Join x y)) (join_start x y)
 stage_on (ReaderState.Staff o) (line.Rules w y) m = mark_late (line_text (line.Rules w y)) (rules_start w y)
 stage_on (ReaderState.Marks o s) (line.Mark y k) m = mark_late (line_text (line.Mark y k)) (mark_start y k)
@@ -76,15 +79,21 @@ none_over : (q : ReaderState) (m : Line) → stage q ≡ over → MayCome q m �
 none_over (ReaderState.Ended t) m e k = absurd k
 none_over q m e k = absurd cc
 
-way_ends : (p q : ReaderState) (ls ms : List Line) (more : List ℕ) (s t : Sheet) → stage p ≡ stage q → Leads p ls (ReaderState.Ended s) → Leads q ms (ReaderState.Ended t) → lines_then ls more ≡ lines_then ms [] → more ≡ []
+way_ends : (p q : ReaderState) (ls ms : List Line) (more : List ℕ) (s t : Sheet)
+    → stage p ≡ stage q → Leads p ls (ReaderState.Ended s) → Leads q ms (ReaderState.Ended t)
+    → lines_then ls more ≡ lines_then ms []
+    → more ≡ []
 way_ends p q [] [] more s t a h k e = e
 way_ends p q [] (m ∷ ms) more s t a h k e = absurd (none_over q m (sym a ∙ ap stage h) k.0)
 way_ends p q (l ∷ ls) [] more s t a h k e = absurd (no_line (line_text l) (lines_then ls more) (sym e))
 way_ends p q (l ∷ ls) (m ∷ ms) more s t a h k e =
-    let c = one_cut 10 (line_text l) (line_text m) (lines_then ls more) (lines_then ms []) (may_lack p l h.0) (may_lack q m k.0) e in
-    let b = stage_on p l h.0 ∙ (ap (on (stage p)) c.0 ∙ (ap (λ i. on i (line_text m)) a ∙ sym (stage_on q m k.0))) in way_ends (state_after p l) (state_after q m) ls ms more s t b h.1 k.1 c.1
+    let c = one_cut 10 (line_text l) (line_text m) (lines_then ls more) (lines_then ms []) (may_lack p l h.0)
+    (may_lack q m k.0) e in
+    let b = stage_on p l h.0 ∙ (ap (on (stage p)) c.0 ∙ (ap (λ i. on i (line_text m)) a ∙ sym (stage_on q m k.0))) in
+    way_ends (state_after p l) (state_after q m) ls ms more s t b h.1 k.1 c.1
 
 pub no_prefix : NoPrefix
 no_prefix text more s t h k =
     let w = document_way s text h in let v = document_way t (text ++ more) k in
-    way_ends ReaderState.Begun ReaderState.Begun w.0 v.0 more s t refl w.2 v.2 (sym (lines_on w.0 more) ∙ (ap (λ x. x ++ more) (sym w.1) ∙ v.1))
+    way_ends ReaderState.Begun ReaderState.Begun w.0 v.0 more s t refl w.2 v.2
+    (sym (lines_on w.0 more) ∙ (ap (λ x. x ++ more) (sym w.1) ∙ v.1))

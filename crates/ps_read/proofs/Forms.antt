@@ -17,7 +17,9 @@ use Rattle.ps_text.specs.Scanning.{is_field_byte}
 abbrev pub title_numbers : ℤ → ℤ → List ℤ
 title_numbers x y = pos 0 ∷ pos 0 ∷ x ∷ y ∷ []
 
-pub title_form : (x y : ℤ) (size : Size) (words : List ℕ) → title_line x y size words ≡ codes "(" ++ (flat_map shown words ++ (41 ∷ (32 ∷ (numbers (title_numbers x y) ++ size_name size))))
+pub title_form : (x y : ℤ) (size : Size) (words : List ℕ)
+    → title_line x y size words
+    ≡ codes "(" ++ (flat_map shown words ++ (41 ∷ (32 ∷ (numbers (title_numbers x y) ++ size_name size))))
 unfolding title_line in_parentheses
 title_form x y size words = simp append_assoc
 
@@ -29,19 +31,25 @@ size_is_field Size.Small = refl
 size_is_field Size.Big = refl
 
 abbrev pub rules_numbers : ℕ → ℤ → List ℤ
-rules_numbers w y = pos w ∷ pos 2000 ∷ pos w ∷ pos 1500 ∷ pos w ∷ pos 1000 ∷ pos w ∷ pos 500 ∷ pos w ∷ pos 0 ∷ pos 0 ∷ y ∷ []
+rules_numbers w y =
+    pos w ∷ pos 2000 ∷ pos w ∷ pos 1500 ∷ pos w ∷ pos 1000 ∷ pos w ∷ pos 500 ∷ pos w ∷ pos 0 ∷ pos 0 ∷ y ∷ []
 
 abbrev pub after_bottom : ℕ → List ℕ
 after_bottom s = percent s ++ (32 ∷ (percent s ++ page_end))
 
-pub page_form : (l b s : ℕ) → page_line l b s ≡ PAGE_START.now ++ (decimal l ++ (32 ∷ (decimal b ++ (32 ∷ (codes "translate " ++ after_bottom s)))))
+pub page_form : (l b s : ℕ)
+    → page_line l b s
+    ≡ PAGE_START.now ++ (decimal l ++ (32 ∷ (decimal b ++ (32 ∷ (codes "translate " ++ after_bottom s)))))
 unfolding page_line page_start scaling
 page_form l b s =
     let f = percent s in let d = decimal l in let g = decimal b in let t = codes " translate " in
     append_assoc PAGE_START.now (d ++ 32 ∷ g ++ t ++ f ++ 32 ∷ f) page_end ∙ ap (λ v. PAGE_START.now ++ v)
     (append_assoc (d ++ 32 ∷ g ++ t ++ f) (32 ∷ f) page_end
-    ∙ (append_assoc (d ++ 32 ∷ g ++ t) f (32 ∷ (f ++ page_end)) ∙ (append_assoc (d ++ 32 ∷ g) t (after_bottom s) ∙ append_assoc d (32 ∷ g) (t ++ after_bottom s))))
+    ∙ (append_assoc (d ++ 32 ∷ g ++ t) f (32 ∷ (f ++ page_end))
+    ∙ (append_assoc (d ++ 32 ∷ g) t (after_bottom s) ∙ append_assoc d (32 ∷ g) (t ++ after_bottom s))))
 
-pub percent_bytes : (p : ℕ) (rest : List ℕ) → p ≤ 150 → percent p ++ rest ≡ (48 + p / 100) ∷ 46 ∷ (48 + p / 10 % 10) ∷ (48 + p % 10) ∷ rest
+pub percent_bytes : (p : ℕ) (rest : List ℕ)
+    → p ≤ 150 → percent p ++ rest ≡ (48 + p / 100) ∷ 46 ∷ (48 + p / 10 % 10) ∷ (48 + p % 10) ∷ rest
 unfolding percent
-percent_bytes p rest l = ap (λ s. (s ++ 46 ∷ (48 + p / 10 % 10) ∷ (48 + p % 10) ∷ []) ++ rest) (decimal_digit (p / 100) (omega arith))
+percent_bytes p rest l =
+    ap (λ s. (s ++ 46 ∷ (48 + p / 10 % 10) ∷ (48 + p % 10) ∷ []) ++ rest) (decimal_digit (p / 100) (omega arith))

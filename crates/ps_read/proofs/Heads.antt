@@ -38,10 +38,15 @@ by_test P true x y h k = h
 by_test P false x y h k = k
 
 -- what one more digit in front keeps holds of a number
-digits_keep : (P : List ℕ → Type 0) → ((d : ℕ) (ds : List ℕ) → IsDigit d → P ds → P (d ∷ ds)) → (k n : ℕ) (ds : List ℕ) → P ds → P (digits_onto k 10 false n ds)
+digits_keep : (P : List ℕ → Type 0)
+    → ((d : ℕ) (ds : List ℕ) → IsDigit d → P ds → P (d ∷ ds)) → (k n : ℕ) (ds : List ℕ) → P ds
+    → P (digits_onto k 10 false n ds)
 digits_keep P more zero n ds h = h
 digits_keep P more (suc k) n ds h =
-    let d = digit_glyph false (n % 10) in let g = more d ds (glyph_range n) h in by_test P (n / 10 == 0) (d ∷ ds) (digits_onto k 10 false (n / 10) (d ∷ ds)) g (digits_keep P more k (n / 10) (d ∷ ds) g)
+    let d = digit_glyph false (n % 10) in
+    let g = more d ds (glyph_range n) h in
+    by_test P (n / 10 == 0) (d ∷ ds) (digits_onto k 10 false (n / 10) (d ∷ ds)) g
+    (digits_keep P more k (n / 10) (d ∷ ds) g)
 
 -- lines of numbers or words begin neither as a comment nor as `grestore`
 abbrev pub IsMarkStart : ℕ → Type 0
@@ -49,9 +54,13 @@ IsMarkStart b = (b ≢ 37) × (b ≢ 103)
 
 decimal_start : (n : ℕ) → IsMarkStart (head_of (decimal n))
 unfolding digits
-decimal_start n = digits_keep (λ s. IsMarkStart (head_of s)) (λ d ds i h. let low = i.0 in let high = i.1 in (λ e. omega (arith, low, e), λ e. omega (arith, high, e))) 64 n [] (λ e. omega arith, λ e. omega arith)
+decimal_start n =
+    digits_keep (λ s. IsMarkStart (head_of s))
+    (λ d ds i h. let low = i.0 in let high = i.1 in (λ e. omega (arith, low, e), λ e. omega (arith, high, e))) 64 n []
+    (λ e. omega arith, λ e. omega arith)
 
-number_start : (ds zs name : List ℕ) → IsMarkStart (head_of ds) → IsMarkStart (head_of (((ds ++ 32 ∷ []) ++ zs) ++ name))
+number_start : (ds zs name : List ℕ)
+    → IsMarkStart (head_of ds) → IsMarkStart (head_of (((ds ++ 32 ∷ []) ++ zs) ++ name))
 number_start [] zs name h = (λ e. omega arith, λ e. omega arith)
 number_start (d ∷ ds) zs name h = h
 
@@ -108,7 +117,10 @@ numbers_whole (z ∷ zs) = grind (arith, list_all-append, signed_whole z, number
 
 shown_whole : (b : ℕ) → IsTrue (is_shown b) → is_whole (shown b) ≡ true
 unfolding shown is_shown
-shown_whole b h = let P : ℕ → Type 0 = λ b. IsTrue (is_shown b) in let other = ne_eqb b 10 (λ e. true≢false (sym (subst P e h))) in grind (arith, other)
+shown_whole b h =
+    let P : ℕ → Type 0 = λ b. IsTrue (is_shown b) in
+    let other = ne_eqb b 10 (λ e. true≢false (sym (subst P e h))) in
+    grind (arith, other)
 
 words_whole : (words : List ℕ) → IsTrue (list_all is_shown words) → is_whole (flat_map shown words) ≡ true
 words_whole [] h = refl
@@ -136,7 +148,8 @@ glyph_whole g = refl
 
 mark_whole : (y : ℤ) (m : PageMark) → IsPageMark y m → is_whole (mark_line y m) ≡ true
 unfolding glyph_line words_line stem_line beam_line arc_line points
-mark_whole y (PageMark.Words size x dx dy words) h = grind (arith, list_all-append, numbers_whole, parentheses_whole words h.1.shown, size_whole)
+mark_whole y (PageMark.Words size x dx dy words) h =
+    grind (arith, list_all-append, numbers_whole, parentheses_whole words h.1.shown, size_whole)
 mark_whole y m h = grind (arith, list_all-append, numbers_whole, glyph_whole, way_whole)
 
 count_whole : (k : ℕ) → is_whole (count_line k) ≡ true
@@ -145,12 +158,15 @@ count_whole k = decimal_whole k
 
 -- no good line has an LF within
 pub may_lack : (p : ReaderState) (l : Line) → MayCome p l → Lacks 10 (line_text l)
-unfolding box_line box_start page_line page_start page_end scaling heading_line tune_line title_line system_line join_line staff_line rules_line
+unfolding box_line box_start page_line page_start page_end scaling heading_line tune_line title_line system_line
+    join_line staff_line rules_line
 may_lack (ReaderState.Boxed w h rest) (line.Fixed text) m = m.whole
 may_lack (ReaderState.Framed f rest) (line.Fixed text) m = m.whole
 may_lack (ReaderState.Trailer s) (line.Fixed text) m = lacks text (rw m (count_whole (length s.pages)))
 may_lack p (line.Fixed text) m = lacks text (grind (arith, m))
-may_lack (ReaderState.Items p) (line.Title x y size words) m = lacks (title_line x y size words) (grind (arith, list_all-append, numbers_whole, parentheses_whole words m.good.shown, size_whole size))
+may_lack (ReaderState.Items p) (line.Title x y size words) m =
+    lacks (title_line x y size words)
+    (grind (arith, list_all-append, numbers_whole, parentheses_whole words m.good.shown, size_whole size))
 may_lack (ReaderState.Marks o s) (line.Mark y k) m = lacks (mark_line y k) (rw m.0 (mark_whole s.y k m.1))
 may_lack p l m = lacks (line_text l) (grind (arith, list_all-append, decimal_whole, percent_whole, numbers_whole))
 

@@ -18,7 +18,8 @@ pub record GoodLines (text : List ℕ) (count : ℕ) : Type 0 where
 
 -- each line of the text is good, and the last is `%%EOF`: the lines tell this sheet
 abbrev pub IsGoodThroughout : List ℕ → Sheet → Type 0
-IsGoodThroughout text s = (ls : List Line) × (text ≡ lines_then ls []) × Leads ReaderState.Begun ls (ReaderState.Ended s)
+IsGoodThroughout text s =
+    (ls : List Line) × (text ≡ lines_then ls []) × Leads ReaderState.Begun ls (ReaderState.Ended s)
 
 -- the lines before this one are good, and this one isn't, or isn't there; and the text doesn't end with `%%EOF`
 pub record IsFirstFault (text : List ℕ) (number : ℕ) : Type 0 where

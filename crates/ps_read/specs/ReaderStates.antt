@@ -18,7 +18,8 @@ use Rattle.ps_read.specs.declared.state.OpenSystem.{OpenSystem}
 use Rattle.ps_read.specs.declared.state.ReaderState.{ReaderState}
 
 abbrev pub frame_from_numbers : ℕ → ℕ → ℕ → ℕ → ℕ → Frame
-frame_from_numbers wide high left bottom scale = record { wide = wide; high = high; left = left; bottom = bottom; scale = scale }
+frame_from_numbers wide high left bottom scale =
+    record { wide = wide; high = high; left = left; bottom = bottom; scale = scale }
 
 abbrev pub with_item : OpenPage → Item → OpenPage
 with_item p item = record { sheet = p.sheet; items = p.items ++ item ∷ [] }
@@ -34,7 +35,8 @@ abbrev pub system_with_staff : OpenSystem → Staff → OpenSystem
 system_with_staff o s = record { page = o.page; a = o.a; b = o.b; join = o.join; staves = o.staves ++ s ∷ [] }
 
 abbrev pub with_join : OpenSystem → ℤ → ℤ → OpenSystem
-with_join o top foot = record { page = o.page; a = o.a; b = o.b; join = Some (record { top = top; foot = foot }); staves = o.staves }
+with_join o top foot =
+    record { page = o.page; a = o.a; b = o.b; join = Some (record { top = top; foot = foot }); staves = o.staves }
 
 abbrev pub open_system : OpenPage → ℕ → ℕ → OpenSystem
 open_system p a b = record { page = p; a = a; b = b; join = None; staves = [] }
@@ -48,7 +50,8 @@ abbrev pub IsUnderTop : Option Joined → List Staff → ℤ → Type 0
 IsUnderTop (Some j) [] y = (y +ℤ pos 2000) ≡ j.top
 IsUnderTop j staves y = ⊤
 
--- a system may end with a staff at y where no line joins its staves, or where it has another staff and y is the foot of that line
+-- a system may end with a staff at y where no line joins its staves,
+-- or where it has another staff and y is the foot of that line
 abbrev pub MayEnd : Option Joined → List Staff → ℤ → Type 0
 MayEnd None staves y = ⊤
 MayEnd (Some j) staves y = (1 ≤ length staves) × (y ≡ j.foot)
@@ -58,7 +61,8 @@ abbrev pub MayCome : ReaderState → Line → Type 0
 MayCome ReaderState.Begun (Fixed text) = text ≡ codes "%!PS-Adobe-3.0"
 MayCome ReaderState.Titled (Box wide high) = (wide < 2 ^ 32) × (high < 2 ^ 32)
 MayCome (ReaderState.Boxed wide high rest) (Fixed text) = IsFirstLine text rest
-MayCome (ReaderState.Boxed wide high rest) (PageStart left bottom scale) = (rest ≡ []) × IsFrame (frame_from_numbers wide high left bottom scale)
+MayCome (ReaderState.Boxed wide high rest) (PageStart left bottom scale) =
+    (rest ≡ []) × IsFrame (frame_from_numbers wide high left bottom scale)
 MayCome (ReaderState.Framed frame rest) (Fixed text) = IsFirstLine text rest
 MayCome (ReaderState.Between s) (Heading k) = (k ≡ length s.pages + 1) × (k < 2 ^ 32)
 MayCome (ReaderState.Between s) (Fixed text) = text ≡ codes "%%Trailer"
@@ -69,7 +73,8 @@ MayCome (ReaderState.Items p) (System a b) = (a < b) × (b < 2 ^ 32)
 MayCome (ReaderState.Items p) (Fixed text) = text ≡ codes "grestore"
 MayCome (ReaderState.System o) (Join top foot) = (o.join ≡ None) × IsNumber top × IsNumber foot
 MayCome (ReaderState.System o) (StaffHead k) = k ≡ 0
-MayCome (ReaderState.Staff o) (Rules width y) = (1 ≤ width) × (width ≤ 2 ^ 31) × IsNumber y × IsUnderTop o.join o.staves y
+MayCome (ReaderState.Staff o) (Rules width y) =
+    (1 ≤ width) × (width ≤ 2 ^ 31) × IsNumber y × IsUnderTop o.join o.staves y
 MayCome (ReaderState.Marks o s) (Mark y m) = (y ≡ s.y) × IsPageMark s.y m
 MayCome (ReaderState.Marks o s) (StaffHead k) = IsSome o.join × (k ≡ length o.staves + 1)
 MayCome (ReaderState.Marks o s) (Tune k) = MayEnd o.join o.staves s.y × IsOrdinal k
@@ -90,7 +95,8 @@ abbrev pub state_after : ReaderState → Line → ReaderState
 state_after ReaderState.Begun (Fixed text) = ReaderState.Titled
 state_after ReaderState.Titled (Box wide high) = ReaderState.Boxed wide high procedures
 state_after (ReaderState.Boxed wide high rest) (Fixed text) = ReaderState.Boxed wide high (behind_line text rest)
-state_after (ReaderState.Boxed wide high rest) (PageStart left bottom scale) = ReaderState.Framed (frame_from_numbers wide high left bottom scale) (glyph_lines glyphs_in_order ++ last_text)
+state_after (ReaderState.Boxed wide high rest) (PageStart left bottom scale) =
+    ReaderState.Framed (frame_from_numbers wide high left bottom scale) (glyph_lines glyphs_in_order ++ last_text)
 state_after (ReaderState.Framed frame rest) (Fixed text) = after_prolog frame (behind_line text rest)
 state_after (ReaderState.Between s) (Heading k) = ReaderState.Headed s
 state_after (ReaderState.Between s) (Fixed text) = ReaderState.Trailer s

@@ -65,7 +65,8 @@ pub fn is_count(alloc: Global, raw: &[u8], n: u64) -> Result<bool, Memory>
 }
 
 fn title_of(text: Text, zs: &[i64], name: &[u8]) -> Option<Title>
-    ensures { (x y : ℤ) (size : Size) → zs.now ≡ pos 0 ∷ pos 0 ∷ x ∷ y ∷ [] → name.now ≡ size_name size → result ≡ Some (title_of x y size text) }
+    ensures { (x y : ℤ) (size : Size)
+        → zs.now ≡ pos 0 ∷ pos 0 ∷ x ∷ y ∷ [] → name.now ≡ size_name size → result ≡ Some (title_of x y size text) }
 {
     let [_, _, x, y] = zs else {
         return None;
@@ -85,7 +86,9 @@ fn title_of(text: Text, zs: &[i64], name: &[u8]) -> Option<Title>
 
 /// The title that a line may tell.
 fn scan_title(alloc: Global, raw: &[u8]) -> Result<Option<Title>, Memory>
-    ensures { IfOk result (λ o. (x y : ℤ) (size : Size) (words : List ℕ) → IsTitle x y words → raw.now ≡ title_line x y size words → o ≡ Some (title_of x y size words)) }
+    ensures { IfOk result (λ o.
+        (x y : ℤ) (size : Size) (words : List ℕ)
+        → IsTitle x y words → raw.now ≡ title_line x y size words → o ≡ Some (title_of x y size words)) }
 {
     let Some(shown) = strip(b"(", raw) else {
         return Ok(None);
@@ -105,7 +108,8 @@ fn is_title(x: i64, y: i64, words: &[u8]) -> bool
 }
 
 fn is_title_line(alloc: Global, raw: &[u8], title: &Title) -> Result<bool, Memory>
-    ensures { IfOk result (λ r. Decides r (raw.now ≡ title_line title.now.x title.now.y title.now.size title.now.text)) }
+    ensures { IfOk result
+        (λ r. Decides r (raw.now ≡ title_line title.now.x title.now.y title.now.size title.now.text)) }
 {
     let mut line = Text::new(alloc);
     put_title_line(
@@ -148,7 +152,8 @@ fn joined_of(zs: &[i64]) -> Option<Joined>
 
 /// The line between staves that a line may tell.
 fn scan_join(alloc: Global, raw: &[u8]) -> Result<Option<Joined>, Memory>
-    ensures { IfOk result (λ o. (top foot : ℤ) → IsNumber top → IsNumber foot → raw.now ≡ join_line top foot → o ≡ Some (joined_of top foot)) }
+    ensures { IfOk result (λ o.
+        (top foot : ℤ) → IsNumber top → IsNumber foot → raw.now ≡ join_line top foot → o ≡ Some (joined_of top foot)) }
 {
     let (zs, _) = take_numbers(alloc, raw)?;
     Ok(joined_of(zs.as_slice()))
@@ -179,7 +184,11 @@ pub fn read_join(alloc: Global, raw: &[u8]) -> Result<Option<Joined>, Memory>
 }
 
 fn rules_of(zs: &[i64]) -> Option<Rules>
-    ensures right { (w : ℕ) (y : ℤ) → 1 ≤ w → w ≤ 2 ^ 31 → zs.now ≡ pos w ∷ pos 2000 ∷ pos w ∷ pos 1500 ∷ pos w ∷ pos 1000 ∷ pos w ∷ pos 500 ∷ pos w ∷ pos 0 ∷ pos 0 ∷ y ∷ [] → result ≡ Some (rules_of w y) }
+    ensures right { (w : ℕ) (y : ℤ)
+        → 1 ≤ w → w ≤ 2 ^ 31
+        → zs.now
+        ≡ pos w ∷ pos 2000 ∷ pos w ∷ pos 1500 ∷ pos w ∷ pos 1000 ∷ pos w ∷ pos 500 ∷ pos w ∷ pos 0 ∷ pos 0 ∷ y ∷ []
+        → result ≡ Some (rules_of w y) }
     ensures range { IfSome result (λ r. (1 ≤ r.width) × (r.width ≤ 2 ^ 31)) }
 {
     match zs {
@@ -198,7 +207,8 @@ fn rules_of(zs: &[i64]) -> Option<Rules>
 
 /// The lines of a staff that a line may tell.
 fn scan_rules(alloc: Global, raw: &[u8]) -> Result<Option<Rules>, Memory>
-    ensures right { IfOk result (λ o. (w : ℕ) (y : ℤ) → 1 ≤ w → w ≤ 2 ^ 31 → IsNumber y → raw.now ≡ rules_line w y → o ≡ Some (rules_of w y)) }
+    ensures right { IfOk result
+        (λ o. (w : ℕ) (y : ℤ) → 1 ≤ w → w ≤ 2 ^ 31 → IsNumber y → raw.now ≡ rules_line w y → o ≡ Some (rules_of w y)) }
     ensures range { IfOk result (λ o. IfSome o (λ r. (1 ≤ r.width) × (r.width ≤ 2 ^ 31))) }
 {
     let (zs, _) = take_numbers(alloc, raw)?;

@@ -20,7 +20,8 @@ use std::alloc::Global;
 /// What stands behind the line, where that is the first of the text.
 fn behind<'a>(line: &[u8], text: &'a [u8]) -> Option<&'a [u8]>
     requires { Lacks 10 line.now }
-    ensures { MatchOption result (IsFirstLine line.now text.now → ⊥) (λ rest. IsFirstLine line.now text.now × (rest.now ≡ behind_line line.now text.now)) }
+    ensures { MatchOption result (IsFirstLine line.now text.now → ⊥)
+        (λ rest. IsFirstLine line.now text.now × (rest.now ≡ behind_line line.now text.now)) }
 {
     match strip(line, text) {
         Some([b'\n', rest @ ..]) => Some(rest),
@@ -79,7 +80,9 @@ fn scan_percent(bytes: &[u8]) -> Option<u16>
 /// The margins and the scale that a line may tell.
 fn scan_page_line(raw: &[u8]) -> Option<(u32, u32, u16)>
     ensures small { IfSome result (λ r. (r.0 < 2 ^ 32) × (r.1 < 2 ^ 32)) }
-    ensures told { (left bottom scale : ℕ) → left < 2 ^ 32 → bottom < 2 ^ 32 → scale ≤ 150 → raw.now ≡ page_line left bottom scale → result ≡ Some (left, bottom, scale) }
+    ensures told { (left bottom scale : ℕ)
+        → left < 2 ^ 32 → bottom < 2 ^ 32 → scale ≤ 150 → raw.now ≡ page_line left bottom scale
+        → result ≡ Some (left, bottom, scale) }
 {
     let rest = strip(PAGE_START, raw)?;
     let (left, rest) = number_and_rest(rest)?;

@@ -1,6 +1,7 @@
--- The text of paints. For each page, counted from 1, a line `page k`, and then a line for each paint: `fill`, or `stroke`
--- and the width, and behind it each piece of the path as its numbers and `m`, `l`, `c` or `z`; or `show` with size, x and
--- y, and the words in parentheses, spelled as on a page. One space stands between two parts. A run that halts has one line:
+-- The text of paints. For each page, counted from 1, a line `page k`, and then a line for each paint: `fill`, or
+-- `stroke` and the width, and behind it each piece of the path as its numbers and `m`, `l`, `c` or `z`; or `show` with
+-- size, x and y, and the words in parentheses, spelled as on a page. One space stands between two parts. A run that
+-- halts has one line:
 -- the number of tokens that were executed before, and the cause.
 use Rattle.std.specs.{Prelude.{ℕ, ℤ, List, [], ◌∷◌, ◌++◌, codes, decimal, flat_map}, Fmt.signed_decimal}
 use Rattle.ps_text.specs.Document.{numbered}
@@ -23,7 +24,8 @@ seg_text Seg.Close = codes " z"
 abbrev pub paint_line : Paint → List ℕ
 paint_line (Paint.Fill path) = codes "fill" ++ flat_map seg_text path ++ codes "\n"
 paint_line (Paint.Stroke width path) = codes "stroke" ++ spaced (width ∷ []) ++ flat_map seg_text path ++ codes "\n"
-paint_line (Paint.Show size x y words) = codes "show" ++ spaced (size ∷ x ∷ y ∷ []) ++ codes " " ++ quoted words ++ codes "\n"
+paint_line (Paint.Show size x y words) =
+    codes "show" ++ spaced (size ∷ x ∷ y ∷ []) ++ codes " " ++ quoted words ++ codes "\n"
 
 abbrev pub painted_page : ℕ → PagePaint → List ℕ
 painted_page k page = codes "page " ++ decimal k ++ codes "\n" ++ flat_map paint_line page.paints

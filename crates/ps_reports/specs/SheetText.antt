@@ -1,4 +1,5 @@
--- What `inspect` prints of a sheet: a line for the frame, each page, each item, each staff and each mark, and last the number of pages.
+-- What `inspect` prints of a sheet: a line for the frame, each page, each item, each staff and each mark, and last the
+-- number of pages.
 use Rattle.std.specs.Prelude.{ℕ, ℤ, pos, List, [], ◌∷◌, ◌++◌, length, codes, decimal}
 use Rattle.std.specs.List.{flat_map}
 use Rattle.mus_units.specs.declared.glyph.Size.{Size}
@@ -39,7 +40,8 @@ marks_report ms = flat_map mark_report ms
 
 -- staff k of a system, from 0
 unfoldable pub staff_report : ℕ → Staff → List ℕ
-staff_report k staff = named_line (codes "staff ") (decimal k) (staff.y ∷ pos staff.width ∷ []) ++ marks_report staff.marks
+staff_report k staff =
+    named_line (codes "staff ") (decimal k) (staff.y ∷ pos staff.width ∷ []) ++ marks_report staff.marks
 
 unfoldable pub system_report : ℕ → ℕ → List Staff → List ℕ
 system_report a b staves = named_line (codes "system ") (decimal a) (pos b ∷ []) ++ numbered staff_report 0 staves
@@ -60,4 +62,6 @@ unfoldable pub frame_report : Frame → List ℕ
 frame_report f = plain_line (codes "frame") (pos f.wide ∷ pos f.high ∷ pos f.left ∷ pos f.bottom ∷ pos f.scale ∷ [])
 
 unfoldable pub sheet_report : Sheet → List ℕ
-sheet_report sheet = frame_report sheet.frame ++ numbered page_report 1 sheet.pages ++ named_line (codes "pages ") (decimal (length sheet.pages)) []
+sheet_report sheet =
+    frame_report sheet.frame ++ numbered page_report 1 sheet.pages
+    ++ named_line (codes "pages ") (decimal (length sheet.pages)) []

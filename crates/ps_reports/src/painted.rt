@@ -75,7 +75,8 @@ fn put_fill(out: &mut Text, path: &[Seg]) -> Result<(), Memory>
 }
 
 fn put_stroke(out: &mut Text, width: i64, path: &[Seg]) -> Result<(), Memory>
-    ensures { OnOk result (out.new ≡ out.old ++ codes "stroke" ++ spaced (width ∷ []) ++ flat_map seg_text path.now ++ codes "\n") }
+    ensures { OnOk result
+        (out.new ≡ out.old ++ codes "stroke" ++ spaced (width ∷ []) ++ flat_map seg_text path.now ++ codes "\n") }
 {
     out.append(b"stroke")?;
     put_spaced(out, &[width])?;
@@ -84,7 +85,9 @@ fn put_stroke(out: &mut Text, width: i64, path: &[Seg]) -> Result<(), Memory>
 }
 
 fn put_show(out: &mut Text, size: i64, x: i64, y: i64, words: &[u8]) -> Result<(), Memory>
-    ensures { OnOk result (out.new ≡ out.old ++ codes "show" ++ spaced (size ∷ x ∷ y ∷ []) ++ codes " " ++ quoted words.now ++ codes "\n") }
+    ensures { OnOk result
+        (out.new
+        ≡ out.old ++ codes "show" ++ spaced (size ∷ x ∷ y ∷ []) ++ codes " " ++ quoted words.now ++ codes "\n") }
 {
     out.append(b"show")?;
     put_spaced(out, &[size, x, y])?;

@@ -1,6 +1,7 @@
--- What a token does to the state, and why it may not. A number, a string, a label and a procedure are pushed; the font's line makes the
--- font; a name calls the procedure that it was given, or else is one of the operators. An operator halts where it has too few operands
--- (Stack), else where one is of another kind (Kind), and then for what is its own. A number with a point is an operand of `scale` alone.
+-- What a token does to the state, and why it may not. A number, a string, a label and a procedure are pushed; the
+-- font's line makes the font; a name calls the procedure that it was given, or else is one of the operators. An
+-- operator halts where it has too few operands (Stack), else where one is of another kind (Kind), and then for what is
+-- its own. A number with a point is an operand of `scale` alone.
 use Rattle.std.specs.Prelude.{ℕ, zero, suc, ℤ, pos, ◌+ℤ◌, ◌*ℤ◌, int_le, int_div, int_rem, Bool, true, false, ◌&&◌, List}
 use Rattle.std.specs.Prelude.{[], ◌∷◌, ◌++◌, codes, Option, Some, None}
 use Rattle.std.specs.Str.{bytes_eq}
@@ -78,12 +79,15 @@ at_point [] o = halted Cause.Point
 at_point (g ∷ path) o = o
 
 abbrev pub lineto : ℤ → ℤ → State → Outcome
-lineto x y m = at_point m.now.path (in_range (across m.now x ∷ above m.now y ∷ []) (add_seg (Seg.Line (across m.now x) (above m.now y)) m))
+lineto x y m =
+    at_point m.now.path
+    (in_range (across m.now x ∷ above m.now y ∷ []) (add_seg (Seg.Line (across m.now x) (above m.now y)) m))
 
 abbrev pub curveto : List ℤ → State → Outcome
 curveto (a ∷ b ∷ c ∷ d ∷ x ∷ y ∷ []) m = at_point m.now.path
     (in_range (across m.now a ∷ above m.now b ∷ across m.now c ∷ above m.now d ∷ across m.now x ∷ above m.now y ∷ [])
-    (add_seg (Seg.Curve (across m.now a) (above m.now b) (across m.now c) (above m.now d) (across m.now x) (above m.now y)) m))
+    (add_seg
+    (Seg.Curve (across m.now a) (above m.now b) (across m.now c) (above m.now d) (across m.now x) (above m.now y)) m))
 curveto _ m = halted Cause.Stack
 
 -- without a current point a Close does nothing
@@ -109,7 +113,9 @@ grestore (g ∷ gs) m = done (record m { now = g; saved = gs })
 
 -- the origin moves by the scale times two numbers
 abbrev pub translate : ℤ → ℤ → State → Outcome
-translate x y m = in_range (across m.now x ∷ above m.now y ∷ []) (done (record m { now = record m.now { x = across m.now x; y = above m.now y } }))
+translate x y m =
+    in_range (across m.now x ∷ above m.now y ∷ [])
+    (done (record m { now = record m.now { x = across m.now x; y = above m.now y } }))
 
 -- a factor in hundredths
 abbrev pub factor : Operand → Option ℤ
@@ -144,12 +150,16 @@ setlinewidth [] m = halted Cause.Stack
 
 -- the font that was made, at size 1
 abbrev pub findfont : List Operand → State → Outcome
-findfont (label_value name ∷ st) m = elim (m.made && bytes_eq name (codes "EngFont")) [ true ↦ done (record m { stack = font_value (pos 1) ∷ st }) | false ↦ halted Cause.Name ]
+findfont (label_value name ∷ st) m = elim (m.made && bytes_eq name (codes "EngFont")) [
+  | true ↦ done (record m { stack = font_value (pos 1) ∷ st })
+  | false ↦ halted Cause.Name
+]
 findfont (v ∷ st) m = halted Cause.Kind
 findfont [] m = halted Cause.Stack
 
 abbrev pub scalefont : List Operand → State → Outcome
-scalefont (whole_value z ∷ font_value s ∷ st) m = in_range ((s *ℤ z) ∷ []) (done (record m { stack = font_value (s *ℤ z) ∷ st }))
+scalefont (whole_value z ∷ font_value s ∷ st) m =
+    in_range ((s *ℤ z) ∷ []) (done (record m { stack = font_value (s *ℤ z) ∷ st }))
 scalefont (b ∷ a ∷ st) m = halted Cause.Kind
 scalefont _ m = halted Cause.Stack
 
@@ -161,7 +171,9 @@ setfont [] m = halted Cause.Stack
 -- words are shown at the current point, in the size of the font times the scale, and the path stays as it is
 abbrev pub shown_at : List ℕ → Option (ℤ × ℤ) → State → Outcome
 shown_at words None m = halted Cause.Point
-shown_at words (Some p) m = let size = m.now.font *ℤ m.now.scale in in_range (size ∷ []) (done (record m { paints = m.paints ++ Paint.Show size p.0 p.1 words ∷ [] }))
+shown_at words (Some p) m =
+    let size = m.now.font *ℤ m.now.scale in
+    in_range (size ∷ []) (done (record m { paints = m.paints ++ Paint.Show size p.0 p.1 words ∷ [] }))
 
 abbrev pub show : List Operand → State → Outcome
 show (words_value words ∷ st) m = shown_at words (current m.now.path) (record m { stack = st })
@@ -221,7 +233,8 @@ operator_name showpage_op = codes "showpage"
 
 abbrev pub operators : List Operator
 operators =
-    def_op ∷ moveto_op ∷ lineto_op ∷ curveto_op ∷ closepath_op ∷ fill_op ∷ stroke_op ∷ gsave_op ∷ grestore_op ∷ translate_op ∷ scale_op ∷ setlinewidth_op ∷ findfont_op ∷ scalefont_op ∷ setfont_op ∷ show_op ∷ showpage_op ∷ []
+    def_op ∷ moveto_op ∷ lineto_op ∷ curveto_op ∷ closepath_op ∷ fill_op ∷ stroke_op ∷ gsave_op ∷ grestore_op
+    ∷ translate_op ∷ scale_op ∷ setlinewidth_op ∷ findfont_op ∷ scalefont_op ∷ setfont_op ∷ show_op ∷ showpage_op ∷ []
 
 abbrev pub found_in : List Operator → List ℕ → Option Operator
 found_in [] name = None

@@ -29,4 +29,5 @@ abbrev pub first_graphics : Graphics
 first_graphics = record { path = []; scale = pos 10000; x = pos 0; y = pos 0; font = pos 0; line = pos 1 }
 
 abbrev pub first_state : State
-first_state = record { stack = []; names = no_names; made = false; now = first_graphics; saved = []; paints = []; pages = [] }
+first_state =
+    record { stack = []; names = no_names; made = false; now = first_graphics; saved = []; paints = []; pages = [] }

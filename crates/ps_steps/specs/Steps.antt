@@ -21,8 +21,11 @@ state_before m s = record { pending = []; state = m; text = passed false s }
 
 -- the next token, and the place behind it
 pub data NextToken : RunState → MachineToken → RunState → Type 0 where
-  from_pending : (t : SimpleToken) (ts : List SimpleToken) (m : State) (s : List ℕ) → NextToken (record { pending = t ∷ ts; state = m; text = s }) (simple_token t) (record { pending = ts; state = m; text = s })
-  from_text : (m : State) (s rest : List ℕ) (t : MachineToken) → TokenAt s t rest → NextToken (record { pending = []; state = m; text = s }) t (state_before m rest)
+  from_pending : (t : SimpleToken) (ts : List SimpleToken) (m : State) (s : List ℕ)
+      → NextToken (record { pending = t ∷ ts; state = m; text = s }) (simple_token t)
+      (record { pending = ts; state = m; text = s })
+  from_text : (m : State) (s rest : List ℕ) (t : MachineToken)
+      → TokenAt s t rest → NextToken (record { pending = []; state = m; text = s }) t (state_before m rest)
 
 -- a token was executed
 abbrev pub state_after : List SimpleToken → State → RunState → RunState

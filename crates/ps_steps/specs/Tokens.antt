@@ -1,9 +1,9 @@
 -- Tokens: how the bytes of a text are parted, and what stands at its front. Spaces, tabs, CR and LF part tokens, as far
--- as they need parting; a % outside a string begins a comment, which ends before the next LF. A word is a maximal run of
--- other bytes than these, `(`, `)`, `{`, `}` and `/`. It is a whole number, an optional minus and digits; or a number
--- with a point, such a number followed by a point and two digits; or a name, a letter and then letters and digits. A
--- slash and a name are a label. A string is spelled in parentheses, as a page spells words. The line that makes the font
--- is one token. A procedure from its `{` to its `}` is one token, and has no other procedure in it.
+-- as they need parting; a % outside a string begins a comment, which ends before the next LF. A word is a maximal run
+-- of other bytes than these, `(`, `)`, `{`, `}` and `/`. It is a whole number, an optional minus and digits; or a
+-- number with a point, such a number followed by a point and two digits; or a name, a letter and then letters and
+-- digits. A slash and a name are a label. A string is spelled in parentheses, as a page spells words. The line that
+-- makes the font is one token. A procedure from its `{` to its `}` is one token, and has no other procedure in it.
 use Prim.Native.Char.{code}
 use Rattle.std.specs.Prelude.{◌≡◌, ℕ, ℤ, pos, neg_ℤ, ◌-◌, ◌≤◌, Bool, true, false, ◌&&◌, ◌||◌, not, ◌==◌, IsTrue}
 use Rattle.std.specs.Prelude.{if◌then◌else◌, List, [], ◌∷◌, ◌++◌, length, take, drop, codes, Option, Some, None}
@@ -28,7 +28,8 @@ is_white_space b = (b == code " ") || (b == code "\t") || (b == code "\r") || (b
 
 -- ( ) { } / and %
 abbrev pub is_delimiter : ℕ → Bool
-is_delimiter b = (b == code "(") || (b == code ")") || (b == code "{") || (b == code "}") || (b == code "/") || (b == code "%")
+is_delimiter b =
+    (b == code "(") || (b == code ")") || (b == code "{") || (b == code "}") || (b == code "/") || (b == code "%")
 
 -- a byte of a word
 abbrev pub is_regular : ℕ → Bool
@@ -38,15 +39,20 @@ is_regular b = not (is_white_space b || is_delimiter b)
 abbrev pub is_skipped : ℕ → Bool
 is_skipped b = is_white_space b || (b == code "%")
 
--- a text without the blanks and comments at its front; the flag says that it begins within a comment, which ends before the next LF
+-- a text without the blanks and comments at its front; the flag says that it begins within a comment, which ends before
+-- the next LF
 abbrev pub passed : Bool → List ℕ → List ℕ
 passed inside [] = []
 passed true (b ∷ s) = elim (b == code "\n") [ true ↦ passed false s | false ↦ passed true s ]
-passed false (b ∷ s) = elim (is_white_space b) [ true ↦ passed false s | false ↦ elim (b == code "%") [ true ↦ passed true s | false ↦ b ∷ s ] ]
+passed false (b ∷ s) = elim (is_white_space b) [
+  | true ↦ passed false s
+  | false ↦ elim (b == code "%") [ true ↦ passed true s | false ↦ b ∷ s ]
+]
 
 -- the line that makes the font, one token
 abbrev pub font_line : List ℕ
-font_line = codes "/Courier findfont dup length dict begin {1 index /FID ne {def} {pop pop} ifelse} forall /Encoding ISOLatin1Encoding def currentdict end /EngFont exch definefont pop"
+font_line =
+    codes "/Courier findfont dup length dict begin {1 index /FID ne {def} {pop pop} ifelse} forall /Encoding ISOLatin1Encoding def currentdict end /EngFont exch definefont pop"
 
 abbrev pub some_digits : List ℕ → Bool
 some_digits [] = false
@@ -66,7 +72,9 @@ is_fraction (p ∷ a ∷ b ∷ []) = (p == code ".") && is_digit a && is_digit b
 is_fraction _ = false
 
 abbrev pub is_pointed : List ℕ → Bool
-is_pointed w = some_digits (take (length (unsigned w) - 3) (unsigned w)) && is_fraction (drop (length (unsigned w) - 3) (unsigned w))
+is_pointed w =
+    some_digits (take (length (unsigned w) - 3) (unsigned w))
+    && is_fraction (drop (length (unsigned w) - 3) (unsigned w))
 
 abbrev pub is_name : List ℕ → Bool
 is_name [] = false
@@ -89,11 +97,14 @@ has_minus (b ∷ w) = b == code "-"
 
 -- the number that an optional minus and digits write
 abbrev pub number_written : List ℕ → ℤ
-number_written w = if has_minus w then neg_ℤ (pos (digits_value 10 (unsigned w))) else pos (digits_value 10 (unsigned w))
+number_written w =
+    if has_minus w then neg_ℤ (pos (digits_value 10 (unsigned w))) else pos (digits_value 10 (unsigned w))
 
 -- in hundredths, where it has a point
 abbrev pub hundredths_written : List ℕ → ℤ
-hundredths_written w = if has_minus w then neg_ℤ (pos (digits_value 10 (without_point (unsigned w)))) else pos (digits_value 10 (without_point (unsigned w)))
+hundredths_written w =
+    if has_minus w then neg_ℤ (pos (digits_value 10 (without_point (unsigned w))))
+    else pos (digits_value 10 (without_point (unsigned w)))
 
 -- the token that a word is
 abbrev pub word_token : List ℕ → Option SimpleToken
@@ -140,11 +151,18 @@ IsFont s rest = s ≡ font_line ++ rest
 -- what stands at the front of a text that begins with no blank and no comment
 pub data Front (s : List ℕ) : Read → Type 0 where
   font_front : (rest : List ℕ) → IsFont s rest → Front s (found font_token rest)
-  label_front : (t w rest : List ℕ) → s ≡ code "/" ∷ t → ((r : List ℕ) → IsFont s r → ⊥) → IsWord t w rest → is_name w ≡ true → Front s (found (label_token w) rest)
-  no_label : (t : List ℕ) → s ≡ code "/" ∷ t → ((r : List ℕ) → IsFont s r → ⊥) → ((w rest : List ℕ) → IsWord t w rest → is_name w ≡ true → ⊥) → Front s (unread Cause.BadToken)
-  string_front : (t words rest : List ℕ) → s ≡ code "(" ∷ t → IsString t words rest → Front s (found (words_token words) rest)
+  label_front : (t w rest : List ℕ)
+      → s ≡ code "/" ∷ t → ((r : List ℕ) → IsFont s r → ⊥) → IsWord t w rest → is_name w ≡ true
+      → Front s (found (label_token w) rest)
+  no_label : (t : List ℕ) → s ≡ code "/" ∷ t → ((r : List ℕ) → IsFont s r → ⊥)
+      → ((w rest : List ℕ) → IsWord t w rest → is_name w ≡ true → ⊥)
+      → Front s (unread Cause.BadToken)
+  string_front : (t words rest : List ℕ)
+      → s ≡ code "(" ∷ t → IsString t words rest → Front s (found (words_token words) rest)
   open_string : (t : List ℕ) → s ≡ code "(" ∷ t → IsOpenString t → Front s (unread Cause.Unclosed)
-  no_string : (t : List ℕ) → s ≡ code "(" ∷ t → ((words rest : List ℕ) → IsString t words rest → ⊥) → (IsOpenString t → ⊥) → Front s (unread Cause.BadToken)
+  no_string : (t : List ℕ) → s ≡ code "(" ∷ t → ((words rest : List ℕ) → IsString t words rest → ⊥)
+      → (IsOpenString t → ⊥)
+      → Front s (unread Cause.BadToken)
   opening_front : (rest : List ℕ) → s ≡ code "{" ∷ rest → Front s (opening rest)
   closing_front : (rest : List ℕ) → s ≡ code "}" ∷ rest → Front s (closing rest)
   stray : (rest : List ℕ) → s ≡ code ")" ∷ rest → Front s (unread Cause.BadToken)
@@ -154,19 +172,22 @@ pub data Front (s : List ℕ) : Read → Type 0 where
 -- the tokens of a procedure, from behind its `{`, and what stands behind its `}`
 pub data Body : List ℕ → List SimpleToken → List ℕ → Type 0 where
   closes : (s rest : List ℕ) → Front (passed false s) (closing rest) → Body s [] rest
-  goes_on : (s r rest : List ℕ) (t : SimpleToken) (ts : List SimpleToken) → Front (passed false s) (found t r) → Body r ts rest → Body s (t ∷ ts) rest
+  goes_on : (s r rest : List ℕ) (t : SimpleToken) (ts : List SimpleToken)
+      → Front (passed false s) (found t r) → Body r ts rest → Body s (t ∷ ts) rest
 
 -- why it is none
 pub data NoBody : List ℕ → Cause → Type 0 where
   unclosed : (s : List ℕ) → passed false s ≡ [] → NoBody s Cause.Unclosed
   nested : (s rest : List ℕ) → Front (passed false s) (opening rest) → NoBody s Cause.BadToken
   unread_within : (s : List ℕ) (cause : Cause) → Front (passed false s) (unread cause) → NoBody s cause
-  later : (s r : List ℕ) (t : SimpleToken) (cause : Cause) → Front (passed false s) (found t r) → NoBody r cause → NoBody s cause
+  later : (s r : List ℕ) (t : SimpleToken) (cause : Cause)
+      → Front (passed false s) (found t r) → NoBody r cause → NoBody s cause
 
 -- a token stands at the front, and rest behind it
 pub data TokenAt (s : List ℕ) : MachineToken → List ℕ → Type 0 where
   simple_at : (t : SimpleToken) (rest : List ℕ) → Front s (found t rest) → TokenAt s (simple_token t) rest
-  procedure_at : (r rest : List ℕ) (ts : List SimpleToken) → Front s (opening r) → Body r ts rest → TokenAt s (procedure_token ts) rest
+  procedure_at : (r rest : List ℕ) (ts : List SimpleToken)
+      → Front s (opening r) → Body r ts rest → TokenAt s (procedure_token ts) rest
 
 -- none does
 pub data NoToken (s : List ℕ) : Cause → Type 0 where

@@ -72,7 +72,8 @@ tail_equal x xs ys e = cc
 pub head_equal : (x y : ℕ) (xs ys : List ℕ) → x ∷ xs ≡ y ∷ ys → x ≡ y
 head_equal x y xs ys e = cc
 
-pub escaped_of : (b : ℕ) (bytes rest : List ℕ) → IsTrue (is_shown b) → 92 ∷ bytes ≡ shown b ++ rest → Escaped b bytes rest
+pub escaped_of : (b : ℕ) (bytes rest : List ℕ)
+    → IsTrue (is_shown b) → 92 ∷ bytes ≡ shown b ++ rest → Escaped b bytes rest
 escaped_of b bytes rest h e = elim (sort_of b h) [
   | is_open k ↦ as_it_is (rw k refl) (rw k (tail_equal 92 bytes (40 ∷ rest) (rw (k, shown_open) at e)))
   | is_close k ↦ as_it_is (rw k refl) (rw k (tail_equal 92 bytes (41 ∷ rest) (rw (k, shown_close) at e)))

@@ -9,5 +9,6 @@ use lib.Signed.{mag}
 pub ruleset as_passed = (common_steps, ints, to_z-of_z)
 
 -- one of 32 bits, widened
-pub widened : (r z : ℤ) → r ≡ to_z w32 (of_z w32 z) → SFits w32 z → mag r < 9223372036854775808 → to_z w64 (of_z w64 r) ≡ z
+pub widened : (r z : ℤ)
+    → r ≡ to_z w32 (of_z w32 z) → SFits w32 z → mag r < 9223372036854775808 → to_z w64 (of_z w64 r) ≡ z
 widened r z e f g = to_z-of_z w64 r (record { sfits = g }) ∙ e ∙ to_z-of_z w32 z f

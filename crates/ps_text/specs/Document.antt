@@ -29,7 +29,9 @@ marks_text y ms = flat_map (mark_text y) ms
 
 -- the line that draws the five lines of a staff
 unfoldable pub rules_line : ℕ → ℤ → List ℕ
-rules_line width y = let w = pos width in numbers (w ∷ pos 2000 ∷ w ∷ pos 1500 ∷ w ∷ pos 1000 ∷ w ∷ pos 500 ∷ w ∷ pos 0 ∷ pos 0 ∷ y ∷ []) ++ codes "sf"
+rules_line width y =
+    let w = pos width in
+    numbers (w ∷ pos 2000 ∷ w ∷ pos 1500 ∷ w ∷ pos 1000 ∷ w ∷ pos 500 ∷ w ∷ pos 0 ∷ pos 0 ∷ y ∷ []) ++ codes "sf"
 
 unfoldable pub staff_line : ℕ → List ℕ
 staff_line k = codes "% staff " ++ decimal k

@@ -21,7 +21,8 @@ stem_line x dx from to y = numbers (dx ∷ to ∷ dx ∷ from ∷ x ∷ y ∷ []
 
 -- the points at the two ends of a beam or an arc, and those above them
 unfoldable pub ends_of : ℤ → ℤ → ℤ → ℤ → Ends
-ends_of y from to rise = record { left = y +ℤ from; left_above = (y +ℤ from) +ℤ rise; right = y +ℤ to; right_above = (y +ℤ to) +ℤ rise }
+ends_of y from to rise =
+    record { left = y +ℤ from; left_above = (y +ℤ from) +ℤ rise; right = y +ℤ to; right_above = (y +ℤ to) +ℤ rise }
 
 -- the point above the left end, at p, the one above the right end, at q, the right end and the left end
 unfoldable pub points : ℤ → ℤ → ℤ → ℤ → Ends → List ℕ
@@ -37,7 +38,8 @@ quarter x1 x2 = int_div (x2 -ℤ x1) (pos 4)
 
 -- an arc has its inner points a quarter of the way from its ends
 unfoldable pub arc_line : ℤ → ℤ → ℤ → ℤ → ℤ → ℤ → List ℕ
-arc_line x1 x2 from to bulge y = points (x1 +ℤ quarter x1 x2) (x2 -ℤ quarter x1 x2) x1 x2 (ends_of y from to bulge) ++ codes "ac"
+arc_line x1 x2 from to bulge y =
+    points (x1 +ℤ quarter x1 x2) (x2 -ℤ quarter x1 x2) x1 x2 (ends_of y from to bulge) ++ codes "ac"
 
 -- the line of a mark on a staff at y
 abbrev pub mark_line : ℤ → PageMark → List ℕ

@@ -39,7 +39,8 @@ procedures =
     ++ codes "/ac {m c stroke} def\n"
     ++ codes "/t1 {gsave translate m show grestore} def\n"
     ++ codes "/t2 {gsave /EngFont findfont 1600 scalefont setfont translate m show grestore} def\n"
-    ++ codes "/Courier findfont dup length dict begin {1 index /FID ne {def} {pop pop} ifelse} forall /Encoding ISOLatin1Encoding def currentdict end /EngFont exch definefont pop\n"
+    ++ codes
+    "/Courier findfont dup length dict begin {1 index /FID ne {def} {pop pop} ifelse} forall /Encoding ISOLatin1Encoding def currentdict end /EngFont exch definefont pop\n"
 
 -- the procedure that begins a page, up to the left margin
 unfoldable pub page_start : List ℕ
@@ -59,7 +60,8 @@ box_line wide high = box_start ++ decimal wide ++ space ∷ decimal high
 
 -- margins in u and the scale, twice
 unfoldable pub scaling : ℕ → ℕ → ℕ → List ℕ
-scaling left bottom scale = decimal left ++ space ∷ decimal bottom ++ codes " translate " ++ percent scale ++ space ∷ percent scale
+scaling left bottom scale =
+    decimal left ++ space ∷ decimal bottom ++ codes " translate " ++ percent scale ++ space ∷ percent scale
 
 -- the line that defines how a page begins, without its LF
 unfoldable pub page_line : ℕ → ℕ → ℕ → List ℕ
@@ -75,4 +77,5 @@ heading f = first_text ++ box_line f.wide f.high ++ line_end ∷ []
 
 -- the prolog of a document, up to the line `%%EndProlog`
 unfoldable pub prolog : Frame → List ℕ
-prolog f = heading f ++ procedures ++ page_line f.left f.bottom f.scale ++ line_end ∷ glyph_lines glyphs_in_order ++ last_text
+prolog f =
+    heading f ++ procedures ++ page_line f.left f.bottom f.scale ++ line_end ∷ glyph_lines glyphs_in_order ++ last_text

@@ -28,7 +28,8 @@ is_same a b = int_le a b && int_le b a
 -- how many different numbers of a list are below x
 abbrev pub count_below : ℤ → List ℤ → ℕ
 count_below x [] = 0
-count_below x (a ∷ rest) = if int_lt a x && not (list_any (is_same a) rest) then count_below x rest + 1 else count_below x rest
+count_below x (a ∷ rest) =
+    if int_lt a x && not (list_any (is_same a) rest) then count_below x rest + 1 else count_below x rest
 
 -- the rank of an abscissa that is an anchor
 unfoldable pub rank_of : List ℤ → ℤ → Option ℤ
@@ -39,8 +40,10 @@ abbrev pub ranked : List ℤ → PageMark → Option PageMark
 ranked all (PageMark.Glyph glyph x dx dy) = rank_of all x >>= λ r. Some (PageMark.Glyph glyph r dx dy)
 ranked all (PageMark.Words size x dx dy words) = rank_of all x >>= λ r. Some (PageMark.Words size r dx dy words)
 ranked all (PageMark.Stem x dx from to) = rank_of all x >>= λ r. Some (PageMark.Stem r dx from to)
-ranked all (PageMark.Beam way x1 x2 from to) = rank_of all x1 >>= λ r. rank_of all x2 >>= λ t. Some (PageMark.Beam way r t from to)
-ranked all (PageMark.Arc x1 x2 from to bulge) = rank_of all x1 >>= λ r. rank_of all x2 >>= λ t. Some (PageMark.Arc r t from to bulge)
+ranked all (PageMark.Beam way x1 x2 from to) =
+    rank_of all x1 >>= λ r. rank_of all x2 >>= λ t. Some (PageMark.Beam way r t from to)
+ranked all (PageMark.Arc x1 x2 from to bulge) =
+    rank_of all x1 >>= λ r. rank_of all x2 >>= λ t. Some (PageMark.Arc r t from to bulge)
 
 abbrev pub all_ranked : List ℤ → List PageMark → Option (List PageMark)
 all_ranked all [] = Some []

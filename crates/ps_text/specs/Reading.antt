@@ -34,7 +34,8 @@ abbrev pub size_named : List ℕ → Size
 size_named name = if bytes_eq name (codes "t2") then Size.Big else Size.Small
 
 unfoldable pub words_from : List ℕ → List ℤ → List ℕ → Option PageMark
-words_from words zs name = if length zs == 4 then words_at (size_named name) words (at zs 0) (at zs 1) (at zs 2) else None
+words_from words zs name =
+    if length zs == 4 then words_at (size_named name) words (at zs 0) (at zs 1) (at zs 2) else None
 
 unfoldable pub stem_at : ℤ → ℤ → ℤ → ℤ → Option PageMark
 stem_at dx to from x = if (is_small dx && is_small to) && is_small from then Some (PageMark.Stem x dx from to) else None
@@ -52,7 +53,8 @@ beam_at way x1 x2 (Some from) None = None
 beam_at way x1 x2 (Some from) (Some to) = Some (PageMark.Beam way x1 x2 from to)
 
 unfoldable pub beam_from : Way → ℤ → List ℤ → Option PageMark
-beam_from way y zs = if length zs == 8 then beam_at way (at zs 6) (at zs 4) (offset_from (at zs 7) y) (offset_from (at zs 5) y) else None
+beam_from way y zs =
+    if length zs == 8 then beam_at way (at zs 6) (at zs 4) (offset_from (at zs 7) y) (offset_from (at zs 5) y) else None
 
 abbrev pub arc_at : ℤ → ℤ → Option ℤ → Option ℤ → Option ℤ → Option PageMark
 arc_at x1 x2 None to bulge = None
@@ -61,7 +63,11 @@ arc_at x1 x2 (Some from) (Some to) None = None
 arc_at x1 x2 (Some from) (Some to) (Some bulge) = Some (PageMark.Arc x1 x2 from to bulge)
 
 unfoldable pub arc_from : ℤ → List ℤ → Option PageMark
-arc_from y zs = if length zs == 8 then arc_at (at zs 6) (at zs 4) (offset_from (at zs 7) y) (offset_from (at zs 5) y) (offset_from (at zs 1) (at zs 7)) else None
+arc_from y zs =
+    if length zs == 8
+    then arc_at (at zs 6) (at zs 4) (offset_from (at zs 7) y) (offset_from (at zs 5) y)
+    (offset_from (at zs 1) (at zs 7))
+    else None
 
 -- the mark by its name
 unfoldable pub mark_from : ℤ → List ℤ → List ℕ → Option PageMark

@@ -254,7 +254,10 @@ fn mark_from(y: i64, zs: &[i64], name: &[u8]) -> Option<PageMark>
 
 /// The mark that a line without words may be.
 fn mark_without_words(alloc: Global, line: &[u8], y: i64) -> Result<Option<PageMark>, Memory>
-    ensures { IfOk result (λ o. (zs : List ℤ) (name : List ℕ) → AllByRecursion IsNumber zs → list_all is_field_byte name ≡ true → line.now ≡ numbers zs ++ name → o ≡ mark_from y zs name) }
+    ensures { IfOk result (λ o.
+        (zs : List ℤ) (name : List ℕ)
+        → AllByRecursion IsNumber zs → list_all is_field_byte name ≡ true → line.now ≡ numbers zs ++ name
+        → o ≡ mark_from y zs name) }
 {
     let (zs, name) = take_numbers(alloc, line)?;
     Ok(mark_from(y, zs.as_slice(), name))
@@ -262,8 +265,11 @@ fn mark_without_words(alloc: Global, line: &[u8], y: i64) -> Result<Option<PageM
 
 /// The mark that a line may be of which this stands behind the opening parenthesis.
 fn mark_of_words(alloc: Global, line: &[u8]) -> Result<Option<PageMark>, Memory>
-    ensures { IfOk result (λ o. (words : List ℕ) (zs : List ℤ) (name : List ℕ) → IsTrue (list_all is_shown words) → AllByRecursion IsNumber zs → list_all is_field_byte name ≡ true
-        → line.now ≡ flat_map shown words ++ close_parenthesis ∷ space ∷ (numbers zs ++ name) → o ≡ words_from words zs name) }
+    ensures { IfOk result (λ o.
+        (words : List ℕ) (zs : List ℤ) (name : List ℕ)
+        → IsTrue (list_all is_shown words) → AllByRecursion IsNumber zs → list_all is_field_byte name ≡ true
+        → line.now ≡ flat_map shown words ++ close_parenthesis ∷ space ∷ (numbers zs ++ name)
+        → o ≡ words_from words zs name) }
 {
     let (text, rest) = take_words(alloc, line)?;
     let [_, _, rest @ ..] = rest else {
@@ -299,7 +305,9 @@ fn is_spelled(alloc: Global, m: &PageMark, y: i64, line: &[u8]) -> Result<bool, 
 /// The one mark that spells a line, without its LF, on a staff at `y`; `None`
 /// exactly where no mark does.
 pub fn read_op(alloc: Global, line: &[u8], y: i64) -> Result<Option<PageMark>, Memory>
-    ensures mark { IfOk result (λ o. MatchOption o ((m : PageMark) → IsPageMark y m → mark_line y m ≡ line.now → ⊥) (λ m. IsPageMark y m × (mark_line y m ≡ line.now))) }
+    ensures mark { IfOk result (λ o.
+        MatchOption o ((m : PageMark) → IsPageMark y m → mark_line y m ≡ line.now → ⊥)
+        (λ m. IsPageMark y m × (mark_line y m ≡ line.now))) }
     ensures one { IfOk result (λ o. (m : PageMark) → IsPageMark y m → mark_line y m ≡ line.now → o ≡ Some m) }
 {
     let Some(m) = mark_in(alloc, line, y)? else {

@@ -33,7 +33,8 @@ fn parsed(bytes: &[u8]) -> Option<i64>
 /// The number before the first space, and what follows that.
 pub fn take_number(bytes: &[u8]) -> Option<(i64, &[u8])>
     ensures shorter { IfSome result (λ r. length r.1.now < length bytes.now) }
-    ensures reads { (z : ℤ) (rest : List ℕ) → ReadsNumber z rest bytes.now → IsSomeAnd result (λ r. (r.0 ≡ z) × (r.1.now ≡ rest)) }
+    ensures reads { (z : ℤ) (rest : List ℕ)
+        → ReadsNumber z rest bytes.now → IsSomeAnd result (λ r. (r.0 ≡ z) × (r.1.now ≡ rest)) }
     ensures last { list_all is_field_byte bytes.now ≡ true → IsNone result }
 {
     let (front, rest) = bytes.split_at(field_len(bytes));
@@ -48,7 +49,10 @@ pub fn take_number(bytes: &[u8]) -> Option<(i64, &[u8])>
 
 /// The numbers at the front of these bytes, each with a space after it, and what follows them.
 pub fn take_numbers(alloc: Global, bytes: &[u8]) -> Result<(Row<i64>, &[u8]), Memory>
-    ensures { IfOk result (λ r. (zs : List ℤ) (name : List ℕ) → AllByRecursion IsNumber zs → list_all is_field_byte name ≡ true → bytes.now ≡ numbers zs ++ name → (r.0 ≡ zs) × (r.1.now ≡ name)) }
+    ensures { IfOk result (λ r.
+        (zs : List ℤ) (name : List ℕ)
+        → AllByRecursion IsNumber zs → list_all is_field_byte name ≡ true → bytes.now ≡ numbers zs ++ name
+        → (r.0 ≡ zs) × (r.1.now ≡ name)) }
 {
     let mut zs = Row::new(alloc);
     let mut rest = bytes;

@@ -10,7 +10,8 @@ use mus_units::{Memory, Text};
 use std::alloc::Global;
 
 fn octal(a: u8, b: u8, c: u8) -> Option<u8>
-    ensures { (z : ℕ) → 160 ≤ z → z < 256 → a ≡ digit (z / 64) → b ≡ digit (z / 8 % 8) → c ≡ digit (z % 8) → result ≡ Some z }
+    ensures { (z : ℕ)
+        → 160 ≤ z → z < 256 → a ≡ digit (z / 64) → b ≡ digit (z / 8 % 8) → c ≡ digit (z % 8) → result ≡ Some z }
 {
     if !(b'2' <= a && a <= b'3') {
         return None;
@@ -33,7 +34,8 @@ fn is_special(b: u8) -> bool
 /// The byte that three octal digits show, the first of which is `a`, and what follows them.
 fn take_octal(a: u8, bytes: &[u8]) -> Option<(u8, &[u8])>
     ensures shorter { IfSome result (λ r. length r.1.now < length bytes.now) }
-    ensures reads { (z : ℕ) (rest : List ℕ) → IsOctal z rest a bytes.now → IsSomeAnd result (λ r. (r.0 ≡ z) × (r.1.now ≡ rest)) }
+    ensures reads { (z : ℕ) (rest : List ℕ)
+        → IsOctal z rest a bytes.now → IsSomeAnd result (λ r. (r.0 ≡ z) × (r.1.now ≡ rest)) }
 {
     match bytes {
         [b, c, rest @ ..] => {
@@ -47,7 +49,9 @@ fn take_octal(a: u8, bytes: &[u8]) -> Option<(u8, &[u8])>
 /// The byte that stands after a backslash, as it is or as three octal digits, and what follows it.
 fn take_escaped(bytes: &[u8]) -> Option<(u8, &[u8])>
     ensures shorter { IfSome result (λ r. length r.1.now < length bytes.now) }
-    ensures reads { (b : ℕ) (rest : List ℕ) → IsTrue (is_shown b) → backslash ∷ bytes.now ≡ shown b ++ rest → IsSomeAnd result (λ r. (r.0 ≡ b) × (r.1.now ≡ rest)) }
+    ensures reads { (b : ℕ) (rest : List ℕ)
+        → IsTrue (is_shown b) → backslash ∷ bytes.now ≡ shown b ++ rest
+        → IsSomeAnd result (λ r. (r.0 ≡ b) × (r.1.now ≡ rest)) }
 {
     match bytes {
         [] => None,
@@ -64,7 +68,8 @@ fn take_escaped(bytes: &[u8]) -> Option<(u8, &[u8])>
 /// The byte that the front of words shows, and what follows it; none where the words end.
 fn take_shown(bytes: &[u8]) -> Option<(u8, &[u8])>
     ensures shorter { IfSome result (λ r. length r.1.now < length bytes.now) }
-    ensures reads { (b : ℕ) (rest : List ℕ) → IsTrue (is_shown b) → bytes.now ≡ shown b ++ rest → IsSomeAnd result (λ r. (r.0 ≡ b) × (r.1.now ≡ rest)) }
+    ensures reads { (b : ℕ) (rest : List ℕ)
+        → IsTrue (is_shown b) → bytes.now ≡ shown b ++ rest → IsSomeAnd result (λ r. (r.0 ≡ b) × (r.1.now ≡ rest)) }
     ensures ends { (rest : List ℕ) → bytes.now ≡ close_parenthesis ∷ rest → IsNone result }
 {
     match bytes {
@@ -79,7 +84,11 @@ fn take_shown(bytes: &[u8]) -> Option<(u8, &[u8])>
 
 /// The words at the front of these bytes, and what stands from their closing parenthesis on.
 pub fn take_words(alloc: Global, bytes: &[u8]) -> Result<(Text, &[u8]), Memory>
-    ensures { IfOk result (λ r. (words : List ℕ) (tail : List ℕ) → IsTrue (list_all is_shown words) → bytes.now ≡ flat_map shown words ++ close_parenthesis ∷ tail → (r.0 ≡ words) × (r.1.now ≡ close_parenthesis ∷ tail)) }
+    ensures { IfOk result (λ r.
+        (words : List ℕ) (tail : List ℕ)
+        → IsTrue (list_all is_shown words)
+        → bytes.now ≡ flat_map shown words ++ close_parenthesis ∷ tail
+        → (r.0 ≡ words) × (r.1.now ≡ close_parenthesis ∷ tail)) }
 {
     let mut text = Text::new(alloc);
     let mut rest = bytes;

@@ -217,7 +217,8 @@ pub fn is_page_mark(y: i64, m: &PageMark) -> bool
 /// The line of a mark on a staff at `y`, without the LF that ends it, or
 /// `None` exactly where the mark may not stand on that staff.
 pub fn write_op(alloc: Global, m: &PageMark, y: i64) -> Result<Option<Text>, Memory>
-    ensures { IfOk result (λ op. MatchOption op (¬ IsPageMark y m.now) (λ line. IsPageMark y m.now × (line ≡ mark_line y m.now))) }
+    ensures { IfOk result
+        (λ op. MatchOption op (¬ IsPageMark y m.now) (λ line. IsPageMark y m.now × (line ≡ mark_line y m.now))) }
 {
     if !is_page_mark(y, m) {
         return Ok(None);

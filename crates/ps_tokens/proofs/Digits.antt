@@ -20,7 +20,10 @@ no_plus b e = grind (arith, nat_tests)
 
 pub all_digits : (ds : List ℕ) → list_all is_digit ds ≡ true → AllDigits 10 ds
 all_digits [] e = tt
-all_digits (b ∷ ds) e = (digit_small b (and_parts (is_digit b) (list_all is_digit ds) e).0, all_digits ds (and_parts (is_digit b) (list_all is_digit ds) e).1)
+all_digits (b ∷ ds) e = (
+  digit_small b (and_parts (is_digit b) (list_all is_digit ds) e).0,
+  all_digits ds (and_parts (is_digit b) (list_all is_digit ds) e).1,
+)
 
 pub digits_all : (ds : List ℕ) → some_digits ds ≡ true → list_all is_digit ds ≡ true
 digits_all [] e = absurd (true≢false (sym e))
@@ -34,9 +37,15 @@ numeral : (ds : List ℕ) → some_digits ds ≡ true → IsNumeral 10 ds
 numeral [] e = absurd (true≢false (sym e))
 numeral (b ∷ ds) e = (omega arith, all_digits (b ∷ ds) e)
 
-pub digits_parsed : {E : Type 0} (k : ℕ) (ds : List ℕ) (r : Result ℕ E) (o : Option ℕ) → some_digits ds ≡ true → ParsesUnsigned k 10 ds r → o ≡ result_ok r → MatchOption o (2 ^ k ≤ digits_value 10 ds) (λ v. v ≡ digits_value 10 ds)
+pub digits_parsed : {E : Type 0} (k : ℕ) (ds : List ℕ) (r : Result ℕ E) (o : Option ℕ)
+    → some_digits ds ≡ true → ParsesUnsigned k 10 ds r → o ≡ result_ok r
+    → MatchOption o (2 ^ k ≤ digits_value 10 ds) (λ v. v ≡ digits_value 10 ds)
 digits_parsed k ds (Ok v) o e p q = rw q (p.1 ∙ ap (digits_value 10) (plain_digits ds e))
-digits_parsed k ds (Err x) o e p q = rw q (elim (cases_lt (digits_value 10 ds) (2 ^ k)) [ inl lt ↦ absurd (p (rw (plain_digits ds e) (numeral ds e, lt))) | inr ge ↦ ge ])
+digits_parsed k ds (Err x) o e p q =
+    rw q (elim (cases_lt (digits_value 10 ds) (2 ^ k)) [
+      | inl lt ↦ absurd (p (rw (plain_digits ds e) (numeral ds e, lt)))
+      | inr ge ↦ ge
+    ])
 
 some_is : (ds : List ℕ) → 1 ≤ length ds → list_all is_digit ds ≡ true → some_digits ds ≡ true
 some_is [] l e = absurd (omega arith)
@@ -48,7 +57,9 @@ some_length (b ∷ ds) e = omega arith
 
 -- behind the point are digits
 fraction_digits : (s : List ℕ) → is_fraction s ≡ true → list_all is_digit (drop 1 s) ≡ true
-fraction_digits (p ∷ a ∷ b ∷ []) e = let x = (and_parts ((p == 46) && is_digit a) (is_digit b) e).0 in rw ((and_parts (p == 46) (is_digit a) x).1, (and_parts ((p == 46) && is_digit a) (is_digit b) e).1) refl
+fraction_digits (p ∷ a ∷ b ∷ []) e =
+    let x = (and_parts ((p == 46) && is_digit a) (is_digit b) e).0 in
+    rw ((and_parts (p == 46) (is_digit a) x).1, (and_parts ((p == 46) && is_digit a) (is_digit b) e).1) refl
 fraction_digits (p ∷ a ∷ b ∷ c ∷ s) e = absurd (true≢false (sym e))
 fraction_digits _ e = absurd (true≢false (sym e))
 
@@ -59,11 +70,18 @@ fraction_length _ e = absurd (true≢false (sym e))
 
 pub pointed_digits : (w : List ℕ) → is_pointed w ≡ true → some_digits (without_point (unsigned w)) ≡ true
 pointed_digits w e =
-    let u = unsigned w in let f = (and_parts (some_digits (take (length u - 3) u)) (is_fraction (drop (length u - 3) u)) e).0 in
-    let b = (and_parts (some_digits (take (length u - 3) u)) (is_fraction (drop (length u - 3) u)) e).1 in let size = fraction_length (drop (length u - 3) u) b in
+    let u = unsigned w in
+    let f = (and_parts (some_digits (take (length u - 3) u)) (is_fraction (drop (length u - 3) u)) e).0 in
+    let b = (and_parts (some_digits (take (length u - 3) u)) (is_fraction (drop (length u - 3) u)) e).1 in
+    let size = fraction_length (drop (length u - 3) u) b in
     let long : 3 ≤ length u = omega (arith, size, length-drop (length u - 3) u) in
     let back : drop (length u - 2) u ≡ drop 1 (drop (length u - 3) u) =
     ap (λ k. drop k u) (omega arith) ∙ sym (drop-drop 1 (length u - 3) u) in
     some_is (without_point u)
-    (omega (arith, length-append (take (length u - 3) u) (drop (length u - 2) u), some_length (take (length u - 3) u) f))
-    (list_all-append is_digit (take (length u - 3) u) (drop (length u - 2) u) ∙ rw (digits_all (take (length u - 3) u) f, back, fraction_digits (drop (length u - 3) u) b) refl)
+    (omega (
+      arith,
+      length-append (take (length u - 3) u) (drop (length u - 2) u),
+      some_length (take (length u - 3) u) f,
+    ))
+    (list_all-append is_digit (take (length u - 3) u) (drop (length u - 2) u)
+    ∙ rw (digits_all (take (length u - 3) u) f, back, fraction_digits (drop (length u - 3) u) b) refl)

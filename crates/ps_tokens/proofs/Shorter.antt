@@ -14,13 +14,18 @@ passed_within true [] = omega arith
 passed_within false [] = omega arith
 passed_within true (b ∷ s) = one (b == 10) (passed_within true s) (passed_within false s)
   where
-    one : (t : Bool) → length (passed true s) ≤ length s → length (passed false s) ≤ length s → length (elim t as (λ _. List ℕ) [ true ↦ passed false s | false ↦ passed true s ]) ≤ suc (length s)
+    one : (t : Bool) → length (passed true s) ≤ length s → length (passed false s) ≤ length s
+        → length (elim t as (λ _. List ℕ) [ true ↦ passed false s | false ↦ passed true s ]) ≤ suc (length s)
     one true h k = omega arith
     one false h k = omega arith
 passed_within false (b ∷ s) = two (is_white_space b) (b == 37) (passed_within true s) (passed_within false s)
   where
     two : (t u : Bool) → length (passed true s) ≤ length s → length (passed false s) ≤ length s
-        → length (elim t as (λ _. List ℕ) [ true ↦ passed false s | false ↦ elim u as (λ _. List ℕ) [ true ↦ passed true s | false ↦ b ∷ s ] ]) ≤ suc (length s)
+        → length
+        (elim t as (λ _. List ℕ) [
+          | true ↦ passed false s
+          | false ↦ elim u as (λ _. List ℕ) [ true ↦ passed true s | false ↦ b ∷ s ]
+        ]) ≤ suc (length s)
     two true u h k = omega arith
     two false true h k = omega arith
     two false false h k = omega arith
@@ -30,8 +35,10 @@ passed_length s t e = rw e (passed_within false s)
 
 pub found_shorter : (s rest : List ℕ) (t : SimpleToken) → Front s (found t rest) → length rest < length s
 found_shorter s rest _ (font_front _ e) = rw e (omega (arith, length-append font_line rest))
-found_shorter s rest _ (label_front t w _ e other i n) = let x = i.some in rw (e, i.cut) (omega (arith, length-append w rest))
-found_shorter s rest _ (string_front t words _ e i) = rw (e, i.spelled) (omega (arith, length-append (flat_map shown words) (41 ∷ rest)))
+found_shorter s rest _ (label_front t w _ e other i n) =
+    let x = i.some in rw (e, i.cut) (omega (arith, length-append w rest))
+found_shorter s rest _ (string_front t words _ e i) =
+    rw (e, i.spelled) (omega (arith, length-append (flat_map shown words) (41 ∷ rest)))
 found_shorter s rest _ (word_front w _ t i e) = let x = i.some in rw i.cut (omega (arith, length-append w rest))
 
 closing_shorter : (s rest : List ℕ) → Front s (closing rest) → length rest < length s
@@ -42,7 +49,8 @@ opening_shorter s rest (opening_front _ e) = rw e (omega arith)
 
 body_shorter : (s rest : List ℕ) (ts : List SimpleToken) → Body s ts rest → length rest < length s
 body_shorter _ _ _ (closes s r f) = omega (arith, closing_shorter (passed false s) r f, passed_within false s)
-body_shorter _ _ _ (goes_on s q r t ts f b) = omega (arith, found_shorter (passed false s) q t f, passed_within false s, body_shorter q r ts b)
+body_shorter _ _ _ (goes_on s q r t ts f b) =
+    omega (arith, found_shorter (passed false s) q t f, passed_within false s, body_shorter q r ts b)
 
 pub token_shorter : (s rest : List ℕ) (t : MachineToken) → TokenAt s t rest → length rest < length s
 token_shorter s _ _ (simple_at t r f) = found_shorter s r t f

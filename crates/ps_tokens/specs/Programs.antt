@@ -9,4 +9,5 @@ use Rattle.ps_steps.specs.declared.token.MachineToken.{MachineToken}
 pub data AreTokensOf : List ℕ → List MachineToken → Option Cause → Type 0 where
   all_read : AreTokensOf [] [] None
   fault_read : (s : List ℕ) (cause : Cause) → (s ≡ [] → ⊥) → NoToken s cause → AreTokensOf s [] (Some cause)
-  token_read : (s rest : List ℕ) (t : MachineToken) (ts : List MachineToken) (fault : Option Cause) → TokenAt s t rest → AreTokensOf (passed false rest) ts fault → AreTokensOf s (t ∷ ts) fault
+  token_read : (s rest : List ℕ) (t : MachineToken) (ts : List MachineToken) (fault : Option Cause)
+      → TokenAt s t rest → AreTokensOf (passed false rest) ts fault → AreTokensOf s (t ∷ ts) fault

@@ -30,7 +30,8 @@ fn font_bytes() -> &'static [u8]
 }
 
 fn strip<'a>(prefix: &[u8], bytes: &'a [u8]) -> Option<&'a [u8]>
-    ensures { MatchOption result ((rest : List ℕ) → bytes.now ≡ prefix.now ++ rest → ⊥) (λ rest. bytes.now ≡ prefix.now ++ rest.now) }
+    ensures { MatchOption result ((rest : List ℕ) → bytes.now ≡ prefix.now ++ rest → ⊥)
+        (λ rest. bytes.now ≡ prefix.now ++ rest.now) }
 {
     bytes.strip_prefix(prefix)
 }

@@ -22,7 +22,9 @@ pub sent_none : (old : Option (List ℕ)) (start : ℕ) (all : List ℕ) → Sen
 sent_none old start all = record { front = []; whole = refl; sent = Appends-nil old; count = omega arith }
 
 -- the next part went out
-pub sent_more : (old mid new : Option (List ℕ)) (start before written : ℕ) (text rest all : List ℕ) → Sent old mid start before (text ++ rest) all → Appends mid new text → written ≡ before + length text → Sent old new start written rest all
+pub sent_more : (old mid new : Option (List ℕ)) (start before written : ℕ) (text rest all : List ℕ)
+    → Sent old mid start before (text ++ rest) all → Appends mid new text → written ≡ before + length text
+    → Sent old new start written rest all
 sent_more old mid new start before written text rest all s p e = record {
   front = s.front ++ text;
   whole = s.whole ∙ sym (append_assoc s.front text rest);
@@ -31,41 +33,69 @@ sent_more old mid new start before written text rest all s p e = record {
 }
 
 -- all of it did
-pub sent_all : (old new : Option (List ℕ)) (start written : ℕ) (all : List ℕ) → Sent old new start written [] all → Appends old new all × (written ≡ start + length all)
+pub sent_all : (old new : Option (List ℕ)) (start written : ℕ) (all : List ℕ)
+    → Sent old new start written [] all → Appends old new all × (written ≡ start + length all)
 sent_all old new start written all s =
-    let e : s.front ≡ all = sym (s.whole ∙ append-nil s.front) in (subst (λ (text : List ℕ). Appends old new text) e s.sent, subst (λ (text : List ℕ). written ≡ start + length text) e s.count)
+    let e : s.front ≡ all = sym (s.whole ∙ append-nil s.front) in (
+      subst (λ (text : List ℕ). Appends old new text) e s.sent,
+      subst (λ (text : List ℕ). written ≡ start + length text) e s.count,
+    )
 
 -- a first part that failed
-pub wrote_first : (old new : Option (List ℕ)) (text rest : List ℕ) (e : DocError) → WrotePrefix old new text e → WrotePrefix old new (text ++ rest) e
-wrote_first old new text rest (DocError.Write e) w = (rw (take-append-le e.written text rest w.1) w.0, omega (arith, length-append text rest, w.1))
-wrote_first old new text rest DocError.Memory w = (w.0, rw (take-append-le w.0 text rest w.2) w.1, omega (arith, length-append text rest, w.2))
+pub wrote_first : (old new : Option (List ℕ)) (text rest : List ℕ) (e : DocError)
+    → WrotePrefix old new text e → WrotePrefix old new (text ++ rest) e
+wrote_first old new text rest (DocError.Write e) w =
+    (rw (take-append-le e.written text rest w.1) w.0, omega (arith, length-append text rest, w.1))
+wrote_first old new text rest DocError.Memory w =
+    (w.0, rw (take-append-le w.0 text rest w.2) w.1, omega (arith, length-append text rest, w.2))
 
 -- a second one, told for both
-pub wrote_second : (old mid new : Option (List ℕ)) (front text : List ℕ) (n : ℕ) (e : DocError) → length front ≡ n → Appends old mid front → WrotePrefix mid new text e → WrotePrefix old new (front ++ text) (counted_from n e)
-wrote_second old mid new front text n (DocError.Write e) k p w =
-    (rw (← k, take-append-add front text e.written) (Appends-trans old mid new front (take e.written text) p w.0), omega (arith, length-append front text, w.1, k))
-wrote_second old mid new front text n DocError.Memory k p w = (n + w.0, rw (← k, take-append-add front text w.0) (Appends-trans old mid new front (take w.0 text) p w.1), omega (arith, length-append front text, w.2, k))
+pub wrote_second : (old mid new : Option (List ℕ)) (front text : List ℕ) (n : ℕ) (e : DocError)
+    → length front ≡ n → Appends old mid front → WrotePrefix mid new text e
+    → WrotePrefix old new (front ++ text) (counted_from n e)
+wrote_second old mid new front text n (DocError.Write e) k p w = (
+  rw (← k, take-append-add front text e.written) (Appends-trans old mid new front (take e.written text) p w.0),
+  omega (arith, length-append front text, w.1, k),
+)
+wrote_second old mid new front text n DocError.Memory k p w = (
+  n + w.0,
+  rw (← k, take-append-add front text w.0) (Appends-trans old mid new front (take w.0 text) p w.1),
+  omega (arith, length-append front text, w.2, k),
+)
 
 -- a part that failed after n bytes, told for the whole
-pub wrote_part : (old mid new : Option (List ℕ)) (start before n : ℕ) (text rest all : List ℕ) (e : DocError) → Sent old mid start before (text ++ rest) all → start + n ≡ before → WrotePrefix mid new text e → WrotePrefix old new all (counted_from n e)
+pub wrote_part : (old mid new : Option (List ℕ)) (start before n : ℕ) (text rest all : List ℕ) (e : DocError)
+    → Sent old mid start before (text ++ rest) all → start + n ≡ before → WrotePrefix mid new text e
+    → WrotePrefix old new all (counted_from n e)
 wrote_part old mid new start before n text rest all e s k w =
     subst (λ (bytes : List ℕ). WrotePrefix old new bytes (counted_from n e)) (sym s.whole)
-    (wrote_second old mid new s.front (text ++ rest) n e (omega (arith, s.count, k)) s.sent (wrote_first mid new text rest e w))
+    (wrote_second old mid new s.front (text ++ rest) n e (omega (arith, s.count, k)) s.sent
+    (wrote_first mid new text rest e w))
 
 -- a document is its prolog, its pages and its trailer
-pub document_start : (s : Sheet) → document s ≡ prolog s.frame ++ (numbered document_page 1 s.pages ++ trailer (length s.pages))
+pub document_start : (s : Sheet)
+    → document s ≡ prolog s.frame ++ (numbered document_page 1 s.pages ++ trailer (length s.pages))
 unfolding document
 document_start s = append_assoc (prolog s.frame) (numbered document_page 1 s.pages) (trailer (length s.pages))
 
 -- page i comes first of those that follow
-pub next_page : (k i : ℕ) (pages : List Page) (p : Page) → i < length pages → p ≡ get_or pages i p → numbered document_page k (drop i pages) ≡ document_page k p ++ numbered document_page (k + 1) (drop (i + 1) pages)
+pub next_page : (k i : ℕ) (pages : List Page) (p : Page)
+    → i < length pages → p ≡ get_or pages i p
+    → numbered document_page k (drop i pages) ≡ document_page k p ++ numbered document_page (k + 1) (drop (i + 1) pages)
 next_page k i pages p l g =
-    let first : drop i pages ≡ p ∷ drop (i + 1) pages = rw add-one (drop-cons pages i p l ∙ ap (λ (q : Page). q ∷ drop (suc i) pages) (sym g)) in
+    let first : drop i pages ≡ p ∷ drop (i + 1) pages =
+    rw add-one (drop-cons pages i p l ∙ ap (λ (q : Page). q ∷ drop (suc i) pages) (sym g)) in
     ap (λ ps. numbered document_page k ps) first
 
-pub page_then : (k i : ℕ) (pages : List Page) (p : Page) (tail : List ℕ) → i < length pages → p ≡ get_or pages i p → numbered document_page k (drop i pages) ++ tail ≡ document_page k p ++ (numbered document_page (k + 1) (drop (i + 1) pages) ++ tail)
-page_then k i pages p tail l g = ap (λ text. text ++ tail) (next_page k i pages p l g) ∙ append_assoc (document_page k p) (numbered document_page (k + 1) (drop (i + 1) pages)) tail
+pub page_then : (k i : ℕ) (pages : List Page) (p : Page) (tail : List ℕ)
+    → i < length pages → p ≡ get_or pages i p
+    → numbered document_page k (drop i pages) ++ tail
+    ≡ document_page k p ++ (numbered document_page (k + 1) (drop (i + 1) pages) ++ tail)
+page_then k i pages p tail l g =
+    ap (λ text. text ++ tail) (next_page k i pages p l g)
+    ∙ append_assoc (document_page k p) (numbered document_page (k + 1) (drop (i + 1) pages)) tail
 
 -- nothing comes between all pages and the end
-pub no_page : (k i : ℕ) (pages : List Page) (tail : List ℕ) → i ≡ length pages → numbered document_page k (drop i pages) ++ tail ≡ tail ++ []
+pub no_page : (k i : ℕ) (pages : List Page) (tail : List ℕ)
+    → i ≡ length pages → numbered document_page k (drop i pages) ++ tail ≡ tail ++ []
 no_page k i pages tail e = rw (e, drop-length pages) (sym (append-nil tail))

@@ -48,18 +48,24 @@ reads_once tune defaults (Err f) (Err g) a b = let same = sym a ∙ b in cc
 -- ---- the score that is drawn, or the fault of the line of its staves
 drawn_once : (staves : Option Line) (w : Score) → IsGoodScore w → IsOnce Score (IsScoreDrawn staves w)
 drawn_once None w good r q a b = a ∙ sym b
-drawn_once (Some line) w good (Ok s) (Ok t) (p, spells, share, is) (o, spelled, shared, at) = let same = one_plan (score_ids w) line.text o p (apart_ids w good) spelled spells in ap Ok (is ∙ sym (at ∙ ap (drawn_of w) same))
+drawn_once (Some line) w good (Ok s) (Ok t) (p, spells, share, is) (o, spelled, shared, at) =
+    let same = one_plan (score_ids w) line.text o p (apart_ids w good) spelled spells in
+    ap Ok (is ∙ sym (at ∙ ap (drawn_of w) same))
 drawn_once (Some line) w good (Ok s) (Err g) (p, spells, share, is) (inl (none, at)) = absurd (none p spells)
-drawn_once (Some line) w good (Ok s) (Err g) (p, spells, share, is) (inr (o, spelled, apart, at)) = absurd (apart (subst (DoShare w) (one_plan (score_ids w) line.text p o (apart_ids w good) spells spelled) share))
+drawn_once (Some line) w good (Ok s) (Err g) (p, spells, share, is) (inr (o, spelled, apart, at)) =
+    absurd (apart (subst (DoShare w) (one_plan (score_ids w) line.text p o (apart_ids w good) spells spelled) share))
 drawn_once (Some line) w good (Err f) (Ok t) (inl (none, is)) (o, spelled, shared, at) = absurd (none o spelled)
-drawn_once (Some line) w good (Err f) (Ok t) (inr (p, spells, apart, is)) (o, spelled, shared, at) = absurd (apart (subst (DoShare w) (one_plan (score_ids w) line.text o p (apart_ids w good) spelled spells) shared))
+drawn_once (Some line) w good (Err f) (Ok t) (inr (p, spells, apart, is)) (o, spelled, shared, at) =
+    absurd (apart (subst (DoShare w) (one_plan (score_ids w) line.text o p (apart_ids w good) spelled spells) shared))
 drawn_once (Some line) w good (Err f) (Err g) (inl (none, is)) (inl (other, at)) = ap Err (is ∙ sym at)
 drawn_once (Some line) w good (Err f) (Err g) (inl (none, is)) (inr (o, spelled, apart, at)) = absurd (none o spelled)
 drawn_once (Some line) w good (Err f) (Err g) (inr (p, spells, apart, is)) (inl (none, at)) = absurd (none p spells)
-drawn_once (Some line) w good (Err f) (Err g) (inr (p, spells, apart, is)) (inr (o, spelled, other, at)) = ap Err (is ∙ sym at)
+drawn_once (Some line) w good (Err f) (Err g) (inr (p, spells, apart, is)) (inr (o, spelled, other, at)) =
+    ap Err (is ∙ sym at)
 
 -- ---- the score that is moved
-one_of : (can : Type 0) (m : Score) (r q : Option Score) → MatchOption r (can → ⊥) (λ t. can × (t ≡ m)) → MatchOption q (can → ⊥) (λ t. can × (t ≡ m)) → r ≡ q
+one_of : (can : Type 0) (m : Score) (r q : Option Score)
+    → MatchOption r (can → ⊥) (λ t. can × (t ≡ m)) → MatchOption q (can → ⊥) (λ t. can × (t ≡ m)) → r ≡ q
 one_of can m None None a b = refl
 one_of can m None (Some u) a b = absurd (a b.0)
 one_of can m (Some t) None a b = absurd (b a.0)
@@ -67,17 +73,22 @@ one_of can m (Some t) (Some u) a b = ap Some (a.1 ∙ sym b.1)
 
 moved_once : (w : Score) (key : Key) (by : ℤ) (r q : Option Score) → IsMoved w key by r → IsMoved w key by q → r ≡ q
 moved_once w key (pos zero) r q a b = a.same refl ∙ sym (b.same refl)
-moved_once w key by r q a b = one_of (CanMove w key by) (moved_score w key by) r q (a.higher (λ e. cc)) (b.higher (λ e. cc))
+moved_once w key by r q a b =
+    one_of (CanMove w key by) (moved_score w key by) r q (a.higher (λ e. cc)) (b.higher (λ e. cc))
 
 abbrev headed : Header → Score → Header × Score
 headed header score = (header, score)
 
 abbrev Moves : TuneText → ℤ → Header → Score → Result (Header × Score) Fault → Type 0
 Moves tune by header drawn (Ok p) = (p ≡ headed header p.1) × IsMoved drawn header.key by (Some p.1)
-Moves tune by header drawn (Err fault) = IsMoved drawn header.key by None × (fault ≡ layout_fault tune FaultKind.BadMove)
+Moves tune by header drawn (Err fault) =
+    IsMoved drawn header.key by None × (fault ≡ layout_fault tune FaultKind.BadMove)
 
 moves_once : (tune : TuneText) (by : ℤ) (h : Header) (d : Score) → IsOnce (Header × Score) (Moves tune by h d)
-moves_once tune by h d (Ok p) (Ok q) a b = let same = moved_once d h.key by (Some p.1) (Some q.1) a.1 b.1 in let score : p.1 ≡ q.1 = cc in ap Ok (a.0 ∙ ap (headed h) score ∙ sym b.0)
+moves_once tune by h d (Ok p) (Ok q) a b =
+    let same = moved_once d h.key by (Some p.1) (Some q.1) a.1 b.1 in
+    let score : p.1 ≡ q.1 = cc in
+    ap Ok (a.0 ∙ ap (headed h) score ∙ sym b.0)
 moves_once tune by h d (Ok p) (Err g) a b = let clash = moved_once d h.key by (Some p.1) None a.1 b.0 in cc
 moves_once tune by h d (Err f) (Ok q) a b = let clash = moved_once d h.key by None (Some q.1) a.0 b.1 in cc
 moves_once tune by h d (Err f) (Err g) a b = ap Err (a.1 ∙ sym b.1)
@@ -85,30 +96,49 @@ moves_once tune by h d (Err f) (Err g) a b = ap Err (a.1 ∙ sym b.1)
 -- what comes of a tune up to its score
 abbrev Scores : TuneText → Defaults → Manner → Result (Header × Score) Fault → Type 0
 Scores tune defaults manner =
-    Then Header (Header × Score) (Reads tune defaults) (λ h. Then Score (Header × Score) (Writes tune manner.flow h) (λ w. Then Score (Header × Score) (IsScoreDrawn h.staves w) (λ d. Moves tune manner.by h d)))
+    Then Header (Header × Score) (Reads tune defaults) (λ h.
+    Then Score (Header × Score) (Writes tune manner.flow h)
+    (λ w. Then Score (Header × Score) (IsScoreDrawn h.staves w) (λ d. Moves tune manner.by h d)))
 
-scores_once : (tune : TuneText) (defaults : Defaults) (manner : Manner) → IsOnce (Header × Score) (Scores tune defaults manner)
+scores_once : (tune : TuneText) (defaults : Defaults) (manner : Manner)
+    → IsOnce (Header × Score) (Scores tune defaults manner)
 scores_once tune defaults manner =
     then_once _ _ _ _ (reads_once tune defaults) (λ h read.
-    then_once _ _ _ _ (writes_once tune manner.flow h) (λ w good. then_once _ _ _ _ (drawn_once h.staves w good.1) (λ d draws. moves_once tune manner.by h d)))
+    then_once _ _ _ _ (writes_once tune manner.flow h)
+    (λ w good. then_once _ _ _ _ (drawn_once h.staves w good.1) (λ d draws. moves_once tune manner.by h d)))
 
-scored : (tune : TuneText) (defaults : Defaults) (manner : Manner) (h : Header) (s : Score) → HasScore tune defaults manner h s → Scores tune defaults manner (Ok (h, s))
-scored tune defaults manner h s a = goes_on h _ a.is.read (goes_on a.written _ (a.is.value, a.is.good) (goes_on a.drawn _ a.draws (refl, a.moved)))
+scored : (tune : TuneText) (defaults : Defaults) (manner : Manner) (h : Header) (s : Score)
+    → HasScore tune defaults manner h s → Scores tune defaults manner (Ok (h, s))
+scored tune defaults manner h s a =
+    goes_on h _ a.is.read (goes_on a.written _ (a.is.value, a.is.good) (goes_on a.drawn _ a.draws (refl, a.moved)))
 
-refused : (tune : TuneText) (defaults : Defaults) (manner : Manner) (f : Fault) → IsMovedRefusal tune defaults manner (TuneError.Fault f) → Scores tune defaults manner (Err f)
+refused : (tune : TuneText) (defaults : Defaults) (manner : Manner) (f : Fault)
+    → IsMovedRefusal tune defaults manner (TuneError.Fault f) → Scores tune defaults manner (Err f)
 refused tune defaults manner f (inl (inl fault)) = stops f fault
 refused tune defaults manner f (inl (inr (h, read, fault))) = goes_on h (Err f) read (stops f fault)
-refused tune defaults manner f (inr (inl c)) = goes_on c.header (Err f) c.is.read (goes_on c.written (Err f) (c.is.value, c.is.good) (stops f c.draws))
-refused tune defaults manner f (inr (inr (c, at))) = goes_on c.header (Err f) c.is.read (goes_on c.written (Err f) (c.is.value, c.is.good) (goes_on c.drawn (Err f) c.draws (c.moved, at)))
+refused tune defaults manner f (inr (inl c)) =
+    goes_on c.header (Err f) c.is.read (goes_on c.written (Err f) (c.is.value, c.is.good) (stops f c.draws))
+refused tune defaults manner f (inr (inr (c, at))) =
+    goes_on c.header (Err f) c.is.read
+    (goes_on c.written (Err f) (c.is.value, c.is.good) (goes_on c.drawn (Err f) c.draws (c.moved, at)))
 
-one_scored : (tune : TuneText) (defaults : Defaults) (manner : Manner) (p q : Header × Score) → Scores tune defaults manner (Ok p) → Scores tune defaults manner (Ok q) → p ≡ q
+one_scored : (tune : TuneText) (defaults : Defaults) (manner : Manner) (p q : Header × Score)
+    → Scores tune defaults manner (Ok p) → Scores tune defaults manner (Ok q) → p ≡ q
 one_scored tune defaults manner p q a b = let same = scores_once tune defaults manner (Ok p) (Ok q) a b in cc
 
-one_music : (tune : TuneText) (defaults : Defaults) (manner : Manner) (h k : Header) (s t : Score) → HasScore tune defaults manner h s → HasScore tune defaults manner k t → s ≡ t
-one_music tune defaults manner h k s t a b = ap (λ (p : Header × Score). p.1) (one_scored tune defaults manner (h, s) (k, t) (scored tune defaults manner h s a) (scored tune defaults manner k t b))
+one_music : (tune : TuneText) (defaults : Defaults) (manner : Manner) (h k : Header) (s t : Score)
+    → HasScore tune defaults manner h s → HasScore tune defaults manner k t → s ≡ t
+one_music tune defaults manner h k s t a b =
+    ap (λ (p : Header × Score). p.1)
+    (one_scored tune defaults manner (h, s) (k, t) (scored tune defaults manner h s a)
+    (scored tune defaults manner k t b))
 
-no_refusal : (tune : TuneText) (defaults : Defaults) (manner : Manner) (h : Header) (s : Score) (f : Fault) → HasScore tune defaults manner h s → IsMovedRefusal tune defaults manner (TuneError.Fault f) → ⊥
-no_refusal tune defaults manner h s f a b = let clash = scores_once tune defaults manner (Ok (headed h s)) (Err f) (scored tune defaults manner h s a) (refused tune defaults manner f b) in cc
+no_refusal : (tune : TuneText) (defaults : Defaults) (manner : Manner) (h : Header) (s : Score) (f : Fault)
+    → HasScore tune defaults manner h s → IsMovedRefusal tune defaults manner (TuneError.Fault f) → ⊥
+no_refusal tune defaults manner h s f a b =
+    let clash = scores_once tune defaults manner (Ok (headed h s)) (Err f) (scored tune defaults manner h s a)
+    (refused tune defaults manner f b) in
+    cc
 
 -- ---- its layout
 abbrev Lays : TuneText → ℕ → Header × Score → Result SetTune Fault → Type 0
@@ -116,7 +146,16 @@ Lays tune width p (Ok t) = IsLaid width p.0 p.1 t
 Lays tune width p (Err fault) = IsLayoutRefusal tune width p.1 (TuneError.Fault fault)
 
 abbrev tune_of : Header → Score → TitleBlock → Layout → SetTune
-tune_of header score title l = record { header = header; score = score; title = title; breaking = l.breaking; systems = l.systems; placed = l.placed; spans = l.spans; heights = l.heights }
+tune_of header score title l = record {
+  header = header;
+  score = score;
+  title = title;
+  breaking = l.breaking;
+  systems = l.systems;
+  placed = l.placed;
+  spans = l.spans;
+  heights = l.heights;
+}
 
 laid_under : (width : ℕ) (p : Header × Score) (t : SetTune) → IsLaid width p.0 p.1 t → IsLayout p.1 width (layout_of t)
 laid_under width p t a = subst (λ s. IsLayout s width (layout_of t)) a.music a.layout
@@ -124,11 +163,18 @@ laid_under width p t a = subst (λ s. IsLayout s width (layout_of t)) a.music a.
 lays_once : (tune : TuneText) (width : ℕ) (p : Header × Score) → IsOnce SetTune (Lays tune width p)
 lays_once tune width p (Ok t) (Ok u) a b =
     let layout = one_layout p.1 width (layout_of t) (layout_of u) (laid_under width p t a) (laid_under width p u b) in
-    let head : t.header ≡ u.header = a.head ∙ sym b.head in let music : t.score ≡ u.score = a.music ∙ sym b.music in let title : t.title ≡ u.title = a.title ∙ sym b.title in
-    let made : tune_of t.header t.score t.title (layout_of t) ≡ tune_of u.header u.score u.title (layout_of u) = cc in ap Ok made
-lays_once tune width p (Ok t) (Err g) a (i, xs, way, is) = absurd (no_way_laid p.1 width i xs (layout_of t) way (laid_under width p t a))
-lays_once tune width p (Err f) (Ok u) (i, xs, way, is) b = absurd (no_way_laid p.1 width i xs (layout_of u) way (laid_under width p u b))
-lays_once tune width p (Err f) (Err g) (i, xs, way, is) (j, ys, other, at) = let same = one_way p.1 width i j xs ys way other in ap Err (is ∙ ap (λ n. layout_fault tune (FaultKind.NoWay n)) same ∙ sym at)
+    let head : t.header ≡ u.header = a.head ∙ sym b.head in
+    let music : t.score ≡ u.score = a.music ∙ sym b.music in
+    let title : t.title ≡ u.title = a.title ∙ sym b.title in
+    let made : tune_of t.header t.score t.title (layout_of t) ≡ tune_of u.header u.score u.title (layout_of u) = cc in
+    ap Ok made
+lays_once tune width p (Ok t) (Err g) a (i, xs, way, is) =
+    absurd (no_way_laid p.1 width i xs (layout_of t) way (laid_under width p t a))
+lays_once tune width p (Err f) (Ok u) (i, xs, way, is) b =
+    absurd (no_way_laid p.1 width i xs (layout_of u) way (laid_under width p u b))
+lays_once tune width p (Err f) (Err g) (i, xs, way, is) (j, ys, other, at) =
+    let same = one_way p.1 width i j xs ys way other in
+    ap Err (is ∙ ap (λ n. layout_fault tune (FaultKind.NoWay n)) same ∙ sym at)
 
 -- ---- its height
 abbrev Fits : TuneText → ℕ → SetTune → Result SetTune Fault → Type 0
@@ -139,27 +185,38 @@ fits_once : (tune : TuneText) (high : ℕ) (t : SetTune) → IsOnce SetTune (Fit
 fits_once tune high t (Ok u) (Ok v) a b = ap Ok (a.0 ∙ sym b.0)
 fits_once tune high t (Ok u) (Err g) (is, fits) (i, tall, at) = let clash = sym fits ∙ tall in cc
 fits_once tune high t (Err f) (Ok v) (i, tall, is) (at, fits) = let clash = sym fits ∙ tall in cc
-fits_once tune high t (Err f) (Err g) (i, tall, is) (j, more, at) = let same = sym tall ∙ more in let block : i ≡ j = cc in ap Err (is ∙ ap (λ n. layout_fault tune (FaultKind.TooTall n)) block ∙ sym at)
+fits_once tune high t (Err f) (Err g) (i, tall, is) (j, more, at) =
+    let same = sym tall ∙ more in
+    let block : i ≡ j = cc in
+    ap Err (is ∙ ap (λ n. layout_fault tune (FaultKind.TooTall n)) block ∙ sym at)
 
 -- ---- what comes of a tune
 abbrev Comes : TuneText → Terms → Result SetTune Fault → Type 0
 Comes tune terms =
-    Then (Header × Score) SetTune (Scores tune terms.defaults terms.manner) (λ p. Then SetTune SetTune (Lays tune (body_width terms.paper) p) (λ t. Fits tune (body_height terms.paper) t))
+    Then (Header × Score) SetTune (Scores tune terms.defaults terms.manner)
+    (λ p. Then SetTune SetTune (Lays tune (body_width terms.paper) p) (λ t. Fits tune (body_height terms.paper) t))
 
 comes_once : (tune : TuneText) (terms : Terms) → IsOnce SetTune (Comes tune terms)
-comes_once tune terms = then_once _ _ _ _ (scores_once tune terms.defaults terms.manner) (λ p some. then_once _ _ _ _ (lays_once tune (body_width terms.paper) p) (λ t laid. fits_once tune (body_height terms.paper) t))
+comes_once tune terms =
+    then_once _ _ _ _ (scores_once tune terms.defaults terms.manner) (λ p some.
+    then_once _ _ _ _ (lays_once tune (body_width terms.paper) p)
+    (λ t laid. fits_once tune (body_height terms.paper) t))
 
-laid_fits : (tune : TuneText) (terms : Terms) (t : SetTune) (r : Result SetTune Fault) → IsLaidTune tune terms t → Fits tune (body_height terms.paper) t r → Comes tune terms r
+laid_fits : (tune : TuneText) (terms : Terms) (t : SetTune) (r : Result SetTune Fault)
+    → IsLaidTune tune terms t → Fits tune (body_height terms.paper) t r → Comes tune terms r
 laid_fits tune terms t r a fits =
-    goes_on (t.header, t.score) r (scored tune terms.defaults terms.manner t.header t.score a.score) (goes_on t r (record { head = refl; music = refl; title = a.title; layout = a.layout }) fits)
+    goes_on (t.header, t.score) r (scored tune terms.defaults terms.manner t.header t.score a.score)
+    (goes_on t r (record { head = refl; music = refl; title = a.title; layout = a.layout }) fits)
 
 comes : (tune : TuneText) (terms : Terms) (r : Result SetTune Fault) → IsResult tune terms r → Comes tune terms r
 comes tune terms (Ok t) a = laid_fits tune terms t (Ok t) a.laid (refl, a.fits)
 comes tune terms (Err _) (of_header f fault) = stops f (refused tune terms.defaults terms.manner f (inl (inl fault)))
-comes tune terms (Err _) (of_score h f read fault) = stops f (refused tune terms.defaults terms.manner f (inl (inr (h, read, fault))))
+comes tune terms (Err _) (of_score h f read fault) =
+    stops f (refused tune terms.defaults terms.manner f (inl (inr (h, read, fault))))
 comes tune terms (Err _) (of_share f c) = stops f (refused tune terms.defaults terms.manner f (inr (inl c)))
 comes tune terms (Err _) (of_move c) = stops _ (refused tune terms.defaults terms.manner _ (inr (inr (c, refl))))
-comes tune terms (Err _) (no_way h s i xs has way) = goes_on (h, s) _ (scored tune terms.defaults terms.manner h s has) (stops _ (i, xs, way, refl))
+comes tune terms (Err _) (no_way h s i xs has way) =
+    goes_on (h, s) _ (scored tune terms.defaults terms.manner h s has) (stops _ (i, xs, way, refl))
 comes tune terms (Err _) (too_tall t i laid tall) = laid_fits tune terms t _ laid (i, tall, refl)
 
 one_result : (tune : TuneText) (terms : Terms) → IsOnce SetTune (IsResult tune terms)
@@ -169,17 +226,21 @@ one_result tune terms r q a b = comes_once tune terms r q (comes tune terms r a)
 abbrev outcome_of : ℕ → Result SetTune Fault → Outcome
 outcome_of ordinal result = record { ordinal = ordinal; result = result }
 
-outcome_once : (terms : Terms) (tune : TuneText) (o p : Outcome) → IsOutcome terms tune o → IsOutcome terms tune p → o ≡ p
+outcome_once : (terms : Terms) (tune : TuneText) (o p : Outcome)
+    → IsOutcome terms tune o → IsOutcome terms tune p → o ≡ p
 outcome_once terms tune o p a b =
-    let ordinal : o.ordinal ≡ p.ordinal = a.ordinal ∙ sym b.ordinal in let result = one_result tune terms o.result p.result a.result b.result in
+    let ordinal : o.ordinal ≡ p.ordinal = a.ordinal ∙ sym b.ordinal in
+    let result = one_result tune terms o.result p.result a.result b.result in
     let made : outcome_of o.ordinal o.result ≡ outcome_of p.ordinal p.result = cc in made
 
 -- the tunes of a book have one list of outcomes
-pub outcomes_once : (terms : Terms) (tunes : List TuneText) (os ps : List Outcome) → AreOutcomes terms tunes os → AreOutcomes terms tunes ps → os ≡ ps
+pub outcomes_once : (terms : Terms) (tunes : List TuneText) (os ps : List Outcome)
+    → AreOutcomes terms tunes os → AreOutcomes terms tunes ps → os ≡ ps
 outcomes_once terms [] [] [] a b = refl
 outcomes_once terms [] [] (p ∷ ps) a b = absurd b
 outcomes_once terms (tune ∷ tunes) (o ∷ os) [] a b = absurd b
-outcomes_once terms (tune ∷ tunes) (o ∷ os) (p ∷ ps) a b = let first = outcome_once terms tune o p a.0 b.0 in let others = outcomes_once terms tunes os ps a.1 b.1 in cc
+outcomes_once terms (tune ∷ tunes) (o ∷ os) (p ∷ ps) a b =
+    let first = outcome_once terms tune o p a.0 b.0 in let others = outcomes_once terms tunes os ps a.1 b.1 in cc
 outcomes_once terms tunes os ps a b = absurd a
 
 -- ---- the law
@@ -191,5 +252,7 @@ have_one_outcome = record {
   outcomes = outcomes_once;
   score = one_music;
   scored = no_refusal;
-  system = λ s a b. let m = has_system s a b in (m.0, record { is = m.1; only = λ other is. one_system s a b other m.0 is m.1 });
+  system =
+      λ s a b.
+      let m = has_system s a b in (m.0, record { is = m.1; only = λ other is. one_system s a b other m.0 is m.1 });
 }

@@ -34,8 +34,10 @@ use Rattle.abc_score.proofs.Basics.{all_both}
 -- the kinds in order, but for the faults of shared staves, of a move and of a layout
 abbrev ranked : List FaultKind
 ranked =
-    FaultKind.NoKey ∷ FaultKind.BadMeter ∷ FaultKind.BadUnit ∷ FaultKind.BadKey ∷ FaultKind.BadVoice ∷ FaultKind.TooManyVoices ∷ FaultKind.BadByte ∷ FaultKind.Unclosed
-    ∷ FaultKind.BadLength ∷ FaultKind.BadTuplet ∷ FaultKind.TooDeep ∷ FaultKind.TupletCrosses ∷ FaultKind.TupletShort ∷ FaultKind.BrokenAlone ∷ FaultKind.Undrawable ∷ FaultKind.StepRange
+    FaultKind.NoKey ∷ FaultKind.BadMeter ∷ FaultKind.BadUnit ∷ FaultKind.BadKey ∷ FaultKind.BadVoice
+    ∷ FaultKind.TooManyVoices ∷ FaultKind.BadByte ∷ FaultKind.Unclosed
+    ∷ FaultKind.BadLength ∷ FaultKind.BadTuplet ∷ FaultKind.TooDeep ∷ FaultKind.TupletCrosses ∷ FaultKind.TupletShort
+    ∷ FaultKind.BrokenAlone ∷ FaultKind.Undrawable ∷ FaultKind.StepRange
     ∷ FaultKind.RestWithoutMeter ∷ FaultKind.TooManyMeasures ∷ FaultKind.TooManyEvents ∷ FaultKind.TooManyVerses ∷ []
 
 abbrev kind_at : ℕ → FaultKind
@@ -56,7 +58,8 @@ IsRanked fault = kind_rank fault.kind < 20
 abbrev pub AreRanked : List Fault → Type 0
 AreRanked faults = AllByRecursion IsRanked faults
 
-each_ranked : {X : Type 0} (faults : X → List Fault) (xs : List X) → ((x : X) → AreRanked (faults x)) → AreRanked (flat_map faults xs)
+each_ranked : {X : Type 0} (faults : X → List Fault) (xs : List X)
+    → ((x : X) → AreRanked (faults x)) → AreRanked (flat_map faults xs)
 each_ranked faults [] h = tt
 each_ranked faults (x ∷ xs) h = all_both IsRanked (faults x) (flat_map faults xs) (h x) (each_ranked faults xs h)
 
@@ -73,8 +76,12 @@ misfit_ranked : (t : OpenTuplets) → kind_rank (misfit_of t) < 20
 misfit_ranked (OpenTuplets.Nested inner outer) = omega arith
 misfit_ranked _ = omega arith
 
-tuplet_ranked : (b : Bool) (r : ℕ) (open_ones : OpenTuplets) (at : PlacedStep) (behind : Steps) → AreRanked (cond b (fault_if (nat_lt (sounds_behind behind) r) FaultKind.TupletShort at) (step_fault (misfit_of open_ones) at ∷ []))
-tuplet_ranked true r open_ones at behind = if_ranked (nat_lt (sounds_behind behind) r) FaultKind.TupletShort at (omega arith)
+tuplet_ranked : (b : Bool) (r : ℕ) (open_ones : OpenTuplets) (at : PlacedStep) (behind : Steps)
+    → AreRanked
+    (cond b (fault_if (nat_lt (sounds_behind behind) r) FaultKind.TupletShort at)
+    (step_fault (misfit_of open_ones) at ∷ []))
+tuplet_ranked true r open_ones at behind =
+    if_ranked (nat_lt (sounds_behind behind) r) FaultKind.TupletShort at (omega arith)
 tuplet_ranked false r open_ones at behind = (misfit_ranked open_ones, tt)
 
 grace_ranked : (clef : Clef) (at : PlacedStep) (s : Step) → AreRanked (grace_faults_of clef at s)
@@ -88,33 +95,46 @@ graces_ranked clef waits = each_ranked (λ s. grace_faults_of clef s s.step) wai
 both_ranked : (fs gs : List Fault) → AreRanked fs → AreRanked gs → AreRanked (fs ++ gs)
 both_ranked fs gs a b = all_both IsRanked fs gs a b
 
-step_ranked : (now : VoiceState) (before : Steps) (at : PlacedStep) (behind : Steps) (s : Step) → AreRanked (faults_of now before at behind s)
+step_ranked : (now : VoiceState) (before : Steps) (at : PlacedStep) (behind : Steps) (s : Step)
+    → AreRanked (faults_of now before at behind s)
 unfolding faults_of sound_faults
 step_ranked now before at behind (Step.Sound s) = search (rules, both_ranked, if_ranked, graces_ranked) depth 12
-step_ranked now before at behind (Step.Measures seen count) = search (rules, both_ranked, if_ranked, graces_ranked) depth 12
-step_ranked now before at behind (Step.Tuplet p q r) = tuplet_ranked (fits (or_default p r) now.taking) (or_default p r) now.taking at behind
-step_ranked now before at behind (Step.Broken right dots) = if_ranked (not (has_left before && has_right behind)) FaultKind.BrokenAlone at (omega arith)
+step_ranked now before at behind (Step.Measures seen count) =
+    search (rules, both_ranked, if_ranked, graces_ranked) depth 12
+step_ranked now before at behind (Step.Tuplet p q r) =
+    tuplet_ranked (fits (or_default p r) now.taking) (or_default p r) now.taking at behind
+step_ranked now before at behind (Step.Broken right dots) =
+    if_ranked (not (has_left before && has_right behind)) FaultKind.BrokenAlone at (omega arith)
 step_ranked now before at behind _ = tt
 
 steps_ranked : (first : InForce) (before behind : Steps) → AreRanked (faults_in first before behind)
 steps_ranked first before [] = tt
-steps_ranked first before (at ∷ behind) = both_ranked _ _ (step_ranked (state_at first before) before at behind at.step) (steps_ranked first (at ∷ before) behind)
+steps_ranked first before (at ∷ behind) =
+    both_ranked _ _ (step_ranked (state_at first before) before at behind at.step)
+    (steps_ranked first (at ∷ before) behind)
 
 verses_ranked : (before behind : List Verse) → AreRanked (faults_from before behind)
 verses_ranked before [] = tt
-verses_ranked before (v ∷ behind) = both_ranked _ _ (when_ranked (nat_le 8 (number_on v.row before)) (too_many v.line) (omega arith)) (verses_ranked (before ++ v ∷ []) behind)
+verses_ranked before (v ∷ behind) =
+    both_ranked _ _ (when_ranked (nat_le 8 (number_on v.row before)) (too_many v.line) (omega arith))
+    (verses_ranked (before ++ v ∷ []) behind)
 
 voice_ranked : (unnamed : List ℕ) (items : List BodyItem) (v : ReadVoice) → AreRanked (voice_faults unnamed items v)
-voice_ranked unnamed items v = both_ranked _ _ (steps_ranked v.first [] v.steps) (verses_ranked [] (verses_of_voice v.start.id unnamed items))
+voice_ranked unnamed items v =
+    both_ranked _ _ (steps_ranked v.first [] v.steps) (verses_ranked [] (verses_of_voice v.start.id unnamed items))
 
 pub score_ranked : (header : Header) (items : List BodyItem) → AreRanked (score_faults header items)
 score_ranked header items =
-    let unnamed = unnamed_of header in let voices = voices_read header items in let weights = flat_map voice_weights voices in
+    let unnamed = unnamed_of header in
+    let voices = voices_read header items in
+    let weights = flat_map voice_weights voices in
     both_ranked _ _ (each_ranked (voice_faults unnamed items) voices (voice_ranked unnamed items))
-    (each_ranked (crowd_faults_at weights) weights (λ w. when_ranked (nat_lt 50000 (crowd_up_to weights w)) (crowd_fault w) (omega arith)))
+    (each_ranked (crowd_faults_at weights) weights
+    (λ w. when_ranked (nat_lt 50000 (crowd_up_to weights w)) (crowd_fault w) (omega arith)))
 
 -- ---- the first
-level : (f g : Fault) → is_before f g ≡ false → is_before g f ≡ false → (f.line ≡ g.line) × (f.column ≡ g.column) × (kind_rank f.kind ≡ kind_rank g.kind)
+level : (f g : Fault) → is_before f g ≡ false → is_before g f ≡ false
+    → (f.line ≡ g.line) × (f.column ≡ g.column) × (kind_rank f.kind ≡ kind_rank g.kind)
 unfolding is_before
 level f g h i = (grind (arith, nat_tests), grind (arith, nat_tests), grind (arith, nat_tests))
 
@@ -122,10 +142,16 @@ abbrev fault_of : FaultKind → ℕ → ℕ → Fault
 fault_of kind line column = record { kind = kind; line = line; column = column }
 
 -- two faults of which neither comes first are one where their ranks tell their kinds
-pub one_least : (faults : List Fault) (f g : Fault) → AreRanked faults → IsLeastFault faults f → IsLeastFault faults g → f ≡ g
+pub one_least : (faults : List Fault) (f g : Fault)
+    → AreRanked faults → IsLeastFault faults f → IsLeastFault faults g → f ≡ g
 one_least faults f g h a b =
-    let ranked = All-from_recursion IsRanked faults h in let same = level f g (b.least f a.held) (a.least g b.held) in let line = same.0 in let column = same.1 in
-    let kind : f.kind ≡ g.kind = kind_is f.kind (All-contains IsRanked faults f ranked a.held) ∙ ap kind_at same.2 ∙ sym (kind_is g.kind (All-contains IsRanked faults g ranked b.held)) in
+    let ranked = All-from_recursion IsRanked faults h in
+    let same = level f g (b.least f a.held) (a.least g b.held) in
+    let line = same.0 in
+    let column = same.1 in
+    let kind : f.kind ≡ g.kind = kind_is f.kind (All-contains IsRanked faults f ranked a.held)
+    ∙ ap kind_at same.2
+    ∙ sym (kind_is g.kind (All-contains IsRanked faults g ranked b.held)) in
     let made : fault_of f.kind f.line f.column ≡ fault_of g.kind g.line g.column = cc in made
 
 pub none_or_least : (faults : List Fault) (f : Fault) → IsFirstInOrder faults None → IsLeastFault faults f → ⊥

@@ -27,13 +27,17 @@ bool_send = search sendable depth 10
 
 -- ---- lists, texts and what may be missing, by themselves and as fields
 row_send : (T : RattleType) → IsSend T → IsSend (units.text.Row.the_row T)
-row_send T s = view_send _ _ _ _ _ (declared_send (units.text.Row.TheInside.the_type T) (as_row_send (row_field _) (Vec-send T s), tt))
+row_send T s =
+    view_send _ _ _ _ _
+    (declared_send (units.text.Row.TheInside.the_type T) (as_row_send (row_field _) (Vec-send T s), tt))
 
 row : (T : RattleType) → IsSend T → IsSend (as_row (units.text.Row.the_field T))
 row T s = as_row_send (units.text.Row.the_field T) (row_send T s)
 
 text_send : IsSend units.text.Text.the_row
-text_send = view_send _ _ _ _ _ (declared_send units.text.Text.TheInside.the_type (as_row_send (row_field _) (Vec-send _ u8_send), tt))
+text_send =
+    view_send _ _ _ _ _
+    (declared_send units.text.Text.TheInside.the_type (as_row_send (row_field _) (Vec-send _ u8_send), tt))
 
 option_send : (T : RattleType) → IsSend T → IsSend (Option.the_row T)
 option_send T s = variants_send (Option.enum T) (search (sendable, s) depth 10)
@@ -60,7 +64,9 @@ mention_send : IsSend score.Mention.the_row
 mention_send = search parts depth 100
 
 event_send : IsSend score.Event.the_row
-event_send = declared_send score.Event.the_type (search (parts, head_send, value_send, changes_send, deco_send, mention_send) depth 200 fits 20000)
+event_send =
+    declared_send score.Event.the_type
+    (search (parts, head_send, value_send, changes_send, deco_send, mention_send) depth 200 fits 20000)
 
 -- the tree of music where it stands in itself, by one layer of it
 music_layer : Sends score.Music.the_ring score.Music.the_member
@@ -70,17 +76,23 @@ music_layer = record {
         (as_row_send (row_field _) event_send, tt),
         (
           (as_row_send (row_field _) event_send, tt),
-          ((inner, (as_row_send (row_field _) bool_send, tt)), ((as_row_send (row_field _) u8_send, (as_row_send (row_field _) u8_send, (inner, tt))), tt)),
+          (
+            (inner, (as_row_send (row_field _) bool_send, tt)),
+            ((as_row_send (row_field _) u8_send, (as_row_send (row_field _) u8_send, (inner, tt))), tt),
+          ),
         ),
       );
 }
 
 hole_send : IsSend score.Music.the_hole
-hole_send = fix_send score.Music.the_ring (score.Music.by_members (Sends score.Music.the_ring) music_layer) score.Music.the_member
+hole_send =
+    fix_send score.Music.the_ring (score.Music.by_members (Sends score.Music.the_ring) music_layer)
+    score.Music.the_member
 
 music_send : IsSend score.Music.the_row
 music_send = let body = as_row_send (row_field _) (row_send _ hole_send) in
-    variants_send score.Music.enum ((event_send, tt), ((event_send, tt), ((body, (bool_send, tt)), ((u8_send, (u8_send, (body, tt))), tt))))
+    variants_send score.Music.enum
+    ((event_send, tt), ((event_send, tt), ((body, (bool_send, tt)), ((u8_send, (u8_send, (body, tt))), tt))))
 
 measure_send : IsSend score.Measure.the_row
 measure_send = declared_send score.Measure.the_type (search (parts, music_send) depth 100)

@@ -13,12 +13,15 @@ same_base top b c high h k = omega (arith, ints)
 
 -- base lines, and the bottom of the last staff
 one_stack : (top : ℤ) (gaps : List ℕ) (staves : List StaffMarks) (bases others : List ℤ) (bottom floor : ℤ)
-    → AreStavesStacked top gaps staves bases bottom → AreStavesStacked top gaps staves others floor → (bases ≡ others) × (bottom ≡ floor)
+    → AreStavesStacked top gaps staves bases bottom → AreStavesStacked top gaps staves others floor
+    → (bases ≡ others) × (bottom ≡ floor)
 one_stack top [] [] [] [] bottom floor h k = (refl, h ∙ sym k)
-one_stack top [] (staff ∷ []) (b ∷ []) (c ∷ []) bottom floor h k = let e = same_base top b c staff.high h.0 k.0 in (cc, h.1 ∙ (ap (λ x. x +ℤ staff.low) e ∙ sym k.1))
+one_stack top [] (staff ∷ []) (b ∷ []) (c ∷ []) bottom floor h k =
+    let e = same_base top b c staff.high h.0 k.0 in (cc, h.1 ∙ (ap (λ x. x +ℤ staff.low) e ∙ sym k.1))
 one_stack top (gap ∷ gaps) (staff ∷ next ∷ more) (b ∷ bs) (c ∷ cs) bottom floor h k =
     let e = same_base top b c staff.high h.0 k.0 in
-    let rest = one_stack ((b +ℤ staff.low) -ℤ pos gap) gaps (next ∷ more) bs cs bottom floor h.1 (subst (λ x. AreStavesStacked ((x +ℤ staff.low) -ℤ pos gap) gaps (next ∷ more) cs floor) (sym e) k.1) in
+    let rest = one_stack ((b +ℤ staff.low) -ℤ pos gap) gaps (next ∷ more) bs cs bottom floor h.1
+    (subst (λ x. AreStavesStacked ((x +ℤ staff.low) -ℤ pos gap) gaps (next ∷ more) cs floor) (sym e) k.1) in
     (cc rest.0, rest.1)
 one_stack top [] [] [] others bottom floor h k = absurd k
 one_stack top [] (staff ∷ []) (b ∷ []) others bottom floor h k = absurd k
@@ -31,13 +34,21 @@ heights_of bases height = record { bases = bases; height = height }
 -- the staves of a system are stacked in one way
 pub one_stacked : (s : Score) (m : SystemMarks) (x y : Heights) → IsStack s m x → IsStack s m y → x ≡ y
 one_stacked s m x y h k =
-    let both = one_stack (pos 0) (gaps_between s.voices) m.staves x.bases y.bases (pos 0 -ℤ x.height) (pos 0 -ℤ y.height) h.stacked k.stacked in
-    let bases = both.0 in let low = both.1 in let high : x.height ≡ y.height = omega (arith, ints, low) in let made : heights_of x.bases x.height ≡ heights_of y.bases y.height = cc in made
+    let both = one_stack (pos 0) (gaps_between s.voices) m.staves x.bases y.bases (pos 0 -ℤ x.height)
+    (pos 0 -ℤ y.height) h.stacked k.stacked in
+    let bases = both.0 in
+    let low = both.1 in
+    let high : x.height ≡ y.height = omega (arith, ints, low) in
+    let made : heights_of x.bases x.height ≡ heights_of y.bases y.height = cc in
+    made
 
 -- what belongs beside things one by one, where one thing belongs beside each
-pub one_beside : {X Y : Type 0} (P : X → Y → Type 0) → ((x : X) (y z : Y) → P x y → P x z → y ≡ z) → (xs : List X) (ys zs : List Y) → Beside P xs ys → Beside P xs zs → ys ≡ zs
+pub one_beside : {X Y : Type 0} (P : X → Y → Type 0)
+    → ((x : X) (y z : Y) → P x y → P x z → y ≡ z) → (xs : List X) (ys zs : List Y) → Beside P xs ys → Beside P xs zs
+    → ys ≡ zs
 one_beside P one [] [] [] h k = refl
 one_beside P one [] [] (z ∷ zs) h k = absurd k
 one_beside P one (x ∷ xs) (y ∷ ys) [] h k = absurd k
-one_beside P one (x ∷ xs) (y ∷ ys) (z ∷ zs) h k = let first = one x y z h.0 k.0 in let more = one_beside P one xs ys zs h.1 k.1 in cc
+one_beside P one (x ∷ xs) (y ∷ ys) (z ∷ zs) h k =
+    let first = one x y z h.0 k.0 in let more = one_beside P one xs ys zs h.1 k.1 in cc
 one_beside P one _ _ zs h k = absurd h

@@ -16,14 +16,21 @@ unfolding outcomes_text
 outcomes_are [] = refl
 outcomes_are (o ∷ os) = ap (λ t. result_text o.ordinal o.result ++ t) (outcomes_are os) ∙ at o.result
   where
-    at : (r : Result SetTune Fault) → result_text o.ordinal r ++ entries_text (entries_of os) ≡ entries_text (cons_option (result_entry o.ordinal r) (entries_of os))
+    at : (r : Result SetTune Fault)
+        → result_text o.ordinal r ++ entries_text (entries_of os)
+        ≡ entries_text (cons_option (result_entry o.ordinal r) (entries_of os))
     at (Ok t) = refl
     at (Err fault) = refl
 
 -- the first line, the entries and the last line put
-pub put_all : (os : List Outcome) (old one two three : List ℕ) → one ≡ old ++ lines_then (ListingLine.Listing ∷ []) [] → two ≡ one ++ outcomes_text os
+pub put_all : (os : List Outcome) (old one two three : List ℕ)
+    → one ≡ old ++ lines_then (ListingLine.Listing ∷ []) [] → two ≡ one ++ outcomes_text os
     → three ≡ two ++ lines_then (ListingLine.End ∷ []) [] → three ≡ old ++ listing_text os
 put_all os old one two three e f g =
-    let first = lines_then (ListingLine.Listing ∷ []) [] in let last = lines_then (ListingLine.End ∷ []) [] in let middle = outcomes_text os in
-    g ∙ (ap (λ t. t ++ last) (f ∙ ap (λ t. t ++ middle) e) ∙ (append_assoc (old ++ first) middle last ∙ (append_assoc old first (middle ++ last)
+    let first = lines_then (ListingLine.Listing ∷ []) [] in
+    let last = lines_then (ListingLine.End ∷ []) [] in
+    let middle = outcomes_text os in
+    g
+    ∙ (ap (λ t. t ++ last) (f ∙ ap (λ t. t ++ middle) e)
+    ∙ (append_assoc (old ++ first) middle last ∙ (append_assoc old first (middle ++ last)
     ∙ ap (λ t. old ++ t) (ap (λ t. first ++ (t ++ last)) (outcomes_are os) ∙ sym (in_parts (entries_of os))))))

@@ -34,24 +34,33 @@ unmarked bytes = at (starts_with nat_eq bytes byte_order_mark)
 few_lines : (bytes : List ℕ) → length (readings bytes) ≤ length bytes + 1
 unfolding readings
 few_lines bytes =
-    let mapped = length-map (lines_of bytes) reading in let l = dropped (slice_split is_end bytes) in let split = length-slice_split is_end bytes in let m = count_by-le-length is_end bytes in
+    let mapped = length-map (lines_of bytes) reading in
+    let l = dropped (slice_split is_end bytes) in
+    let split = length-slice_split is_end bytes in
+    let m = count_by-le-length is_end bytes in
     omega (arith, mapped, l, split, m)
 
 module _ (terms : Terms) (all : List LineContent) where
   -- the outcomes of the tunes that begin behind some lines, the first of which has a number past k
-  rise_behind : (before lines : List LineContent) (k : ℕ) (os : List Outcome) → k + length lines < 2 ^ 32 → AreOutcomes terms (tunes_behind all (suc k) before lines) os → OrdinalsRise k os
+  rise_behind : (before lines : List LineContent) (k : ℕ) (os : List Outcome)
+      → k + length lines < 2 ^ 32 → AreOutcomes terms (tunes_behind all (suc k) before lines) os → OrdinalsRise k os
   rise_behind before [] k [] l h = tt
   rise_behind before [] k (o ∷ os) l h = absurd h
   rise_behind before (line ∷ more) k os l h =
       at (begins_tune line) os (λ ps g. rise_behind (line ∷ before) more (suc k) ps (omega (arith, l)) g)
       (λ g. rise_behind (line ∷ before) more k os (omega (arith, l)) g) h
     where
-      at : (t : Bool) (ps : List Outcome) → ((qs : List Outcome) → AreOutcomes terms (tunes_behind all (suc (suc k)) (line ∷ before) more) qs → OrdinalsRise (suc k) qs)
+      at : (t : Bool) (ps : List Outcome)
+          → ((qs : List Outcome)
+          → AreOutcomes terms (tunes_behind all (suc (suc k)) (line ∷ before) more) qs → OrdinalsRise (suc k) qs)
           → (AreOutcomes terms (tunes_behind all (suc k) (line ∷ before) more) ps → OrdinalsRise k ps)
-          → AreOutcomes terms (if t then tune_at all (suc k) (suc (length before)) ∷ tunes_behind all (suc (suc k)) (line ∷ before) more
+          → AreOutcomes terms
+          (if t then tune_at all (suc k) (suc (length before)) ∷ tunes_behind all (suc (suc k)) (line ∷ before) more
           else tunes_behind all (suc k) (line ∷ before) more) ps → OrdinalsRise k ps
       at true [] further same h = absurd h
-      at true (p ∷ ps) further same h = let e : p.ordinal ≡ suc k = h.0.ordinal in (omega (arith, e), omega (arith, e, l), subst (λ j. OrdinalsRise j ps) (sym e) (further ps h.1))
+      at true (p ∷ ps) further same h =
+          let e : p.ordinal ≡ suc k = h.0.ordinal in
+          (omega (arith, e), omega (arith, e, l), subst (λ j. OrdinalsRise j ps) (sym e) (further ps h.1))
       at false ps further same h = same h
 
 pub book_rises : BookRises

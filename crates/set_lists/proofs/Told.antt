@@ -25,8 +25,10 @@ use Rattle.set_lists.specs.Laws.{ListsTheSet, OrdinalsRise, OutcomesAreListable}
 use Rattle.set_lists.specs.Listing.{CanBeListed, IsListable, entries_of, entry_of, result_entry}
 
 -- ---- spans pass no forced bar
-pub unforced : (s : Score) (width : ℕ) (spans : List Span) → AreSpans s.measures spans → AreSpansOf s width spans → (breaks : List ℕ) (i : ℕ)
-    → (IsLegal (listed spans) (is_forced_in s) breaks i → IsLegal (listed spans) none_forced breaks i) × (IsLegal (listed spans) none_forced breaks i → IsLegal (listed spans) (is_forced_in s) breaks i)
+pub unforced : (s : Score) (width : ℕ) (spans : List Span)
+    → AreSpans s.measures spans → AreSpansOf s width spans → (breaks : List ℕ) (i : ℕ)
+    → (IsLegal (listed spans) (is_forced_in s) breaks i → IsLegal (listed spans) none_forced breaks i)
+    × (IsLegal (listed spans) none_forced breaks i → IsLegal (listed spans) (is_forced_in s) breaks i)
 unforced s width spans form exact breaks i =
     let both = forced_by_spans (listed spans) (is_forced_in s) refl stops breaks i in (both.0, both.1)
   where
@@ -35,11 +37,15 @@ unforced s width spans form exact breaks i =
       where
         at : (o : Option ℕ) → listed spans a b ≡ o → o ≡ None
         at None e = refl
-        at (Some v) e = let ends = listed_within s.measures None spans form a b v e in absurd ((exact.each a b v ends.0 ends.1 e).free (f, l, m, t))
+        at (Some v) e =
+            let ends = listed_within s.measures None spans form a b v e in
+            absurd ((exact.each a b v ends.0 ends.1 e).free (f, l, m, t))
 
 potential : (s : Score) (width : ℕ) (spans : List Span) → AreSpans s.measures spans → AreSpansOf s width spans
-    → (i : ℕ) (o : Option ℕ) → IsPotential (listed spans) (is_forced_in s) i o → IsPotential (listed spans) none_forced i o
-potential s width spans form exact i None h = λ other legal. h other ((unforced s width spans form exact other i).1 legal)
+    → (i : ℕ) (o : Option ℕ) → IsPotential (listed spans) (is_forced_in s) i o
+    → IsPotential (listed spans) none_forced i o
+potential s width spans form exact i None h =
+    λ other legal. h other ((unforced s width spans form exact other i).1 legal)
 potential s width spans form exact i (Some v) h = record {
   reached = let way = h.reached in (way.0, (unforced s width spans form exact way.0 i).0 way.1, way.2);
   least = λ other legal. h.least other ((unforced s width spans form exact other i).1 legal);
@@ -50,7 +56,10 @@ module _ (tune : TuneText) (terms : Terms) (t : SetTune) (is : IsSetTune tune te
   can_be_listed : CanBeListed t
   can_be_listed = record {
     form = is.laid.layout.form;
-    beside = let both = span_count (IsSetSystem t.score (body_width terms.paper)) 0 t.breaking.breaks t.systems t.placed is.laid.layout.systems in both.1 ∙ sym both.0;
+    beside =
+        let both = span_count (IsSetSystem t.score (body_width terms.paper)) 0 t.breaking.breaks t.systems t.placed
+        is.laid.layout.systems in
+        both.1 ∙ sym both.0;
     few = let few = is.laid.score.good.few_measures in let one = is.laid.layout.one_each in omega (arith, few, one);
   }
 
@@ -60,10 +69,15 @@ module _ (tune : TuneText) (terms : Terms) (t : SetTune) (is : IsSetTune tune te
         numbered = numbered;
         few = let few = is.laid.score.good.few_measures in omega (arith, few);
         spans = layout.form;
-        choice = (unforced t.score _ t.spans layout.form layout.spans t.breaking.breaks t.score.measures).0 layout.chosen.legal;
+        choice =
+            (unforced t.score _ t.spans layout.form layout.spans t.breaking.breaks t.score.measures).0
+            layout.chosen.legal;
         total = layout.total;
         one_each = layout.one_each;
-        potentials = λ i l. potential t.score _ t.spans layout.form layout.spans i (slice_index_or t.breaking.potentials i None) (layout.potentials i l);
+        potentials =
+            λ i l.
+            potential t.score _ t.spans layout.form layout.spans i (slice_index_or t.breaking.potentials i None)
+            (layout.potentials i l);
       }
 
 -- ---- outcomes
@@ -72,20 +86,26 @@ module _ (terms : Terms) where
   is_listable tune (Ok t) h = can_be_listed tune terms t h
   is_listable tune (Err fault) h = tt
 
-  all_listable : (tunes : List TuneText) (os : List Outcome) → AreOutcomes terms tunes os → All (λ o. IsListable o.result) os
+  all_listable : (tunes : List TuneText) (os : List Outcome)
+      → AreOutcomes terms tunes os → All (λ o. IsListable o.result) os
   all_listable [] [] h = All-nil (λ o. IsListable o.result)
-  all_listable (t ∷ ts) (o ∷ os) h = All-cons (λ o. IsListable o.result) o os (is_listable t o.result h.0.result) (all_listable ts os h.1)
+  all_listable (t ∷ ts) (o ∷ os) h =
+      All-cons (λ o. IsListable o.result) o os (is_listable t o.result h.0.result) (all_listable ts os h.1)
   all_listable ts os h = absurd h
 
   -- the entries of outcomes whose numbers rise past k have numbers past each j up to k
-  entries : (tunes : List TuneText) (os : List Outcome) (k j : ℕ) → AreOutcomes terms tunes os → OrdinalsRise k os → j ≤ k → EntriesFrom j (entries_of os)
+  entries : (tunes : List TuneText) (os : List Outcome) (k j : ℕ)
+      → AreOutcomes terms tunes os → OrdinalsRise k os → j ≤ k → EntriesFrom j (entries_of os)
   entries [] [] k j h rise l = tt
   entries (t ∷ ts) (o ∷ os) k j h rise l =
       at o.result h.0.result (entries ts os o.ordinal o.ordinal h.1 rise.2 (omega arith))
       (entries ts os o.ordinal j h.1 rise.2 (let m = rise.0 in omega (arith, l, m)))
     where
-      at : (r : Result SetTune Fault) → IsResult t terms r → EntriesFrom o.ordinal (entries_of os) → EntriesFrom j (entries_of os) → EntriesFrom j (cons_option (result_entry o.ordinal r) (entries_of os))
-      at (Ok tune) is further same = (let m = rise.0 in omega (arith, l, m), is_entry t terms tune is o.ordinal rise.1, further)
+      at : (r : Result SetTune Fault)
+          → IsResult t terms r → EntriesFrom o.ordinal (entries_of os) → EntriesFrom j (entries_of os)
+          → EntriesFrom j (cons_option (result_entry o.ordinal r) (entries_of os))
+      at (Ok tune) is further same =
+          (let m = rise.0 in omega (arith, l, m), is_entry t terms tune is o.ordinal rise.1, further)
       at (Err fault) is further same = same
   entries ts os k j h rise l = absurd h
 

@@ -28,15 +28,22 @@ OrdinalsRise k (o ∷ os) = (k < o.ordinal) × (o.ordinal < 2 ^ 32) × OrdinalsR
 
 -- the numbers of the tunes of a book rise
 abbrev pub BookRises : Type 0
-BookRises = (bytes : List ℕ) (terms : Terms) (outcomes : List Outcome) → length bytes ≤ 2 ^ 30 → AreOutcomes terms (book_of bytes).tunes outcomes → OrdinalsRise 0 outcomes
+BookRises =
+    (bytes : List ℕ) (terms : Terms) (outcomes : List Outcome)
+    → length bytes ≤ 2 ^ 30 → AreOutcomes terms (book_of bytes).tunes outcomes → OrdinalsRise 0 outcomes
 
 -- what comes of tunes can be listed
 abbrev pub OutcomesAreListable : Type 0
-OutcomesAreListable = (terms : Terms) (tunes : List TuneText) (outcomes : List Outcome) → AreOutcomes terms tunes outcomes → AreListable outcomes
+OutcomesAreListable =
+    (terms : Terms) (tunes : List TuneText) (outcomes : List Outcome)
+    → AreOutcomes terms tunes outcomes → AreListable outcomes
 
 -- what is written of tunes whose numbers rise is a listing, and it tells the tunes without a fault
 abbrev pub ListsTheSet : Type 0
-ListsTheSet = (terms : Terms) (tunes : List TuneText) (outcomes : List Outcome) → AreOutcomes terms tunes outcomes → OrdinalsRise 0 outcomes → IsListing (listing_text outcomes) (entries_of outcomes)
+ListsTheSet =
+    (terms : Terms) (tunes : List TuneText) (outcomes : List Outcome)
+    → AreOutcomes terms tunes outcomes → OrdinalsRise 0 outcomes
+    → IsListing (listing_text outcomes) (entries_of outcomes)
 
 -- the breakings of a tune's entry, of which no bar is forced, are the legal breakings of its score
 abbrev pub BreakingsOfListing : Type 0
@@ -45,7 +52,8 @@ BreakingsOfListing = (s : Score) (width : ℕ) (spans : List Span) → AreSpans 
 
 -- The breakings of the entry of a tune that is set are the legal breakings of its score on this width.
 abbrev pub HasItsBreakings : ℕ → Result SetTune Fault → Type 0
-HasItsBreakings width (Ok t) = (breaks : List ℕ) → IsLegal (listed t.spans) none_forced breaks t.score.measures ↔ IsLegalIn t.score width breaks
+HasItsBreakings width (Ok t) =
+    (breaks : List ℕ) → IsLegal (listed t.spans) none_forced breaks t.score.measures ↔ IsLegalIn t.score width breaks
 HasItsBreakings width (Err fault) = ⊤
 
 -- The text is a listing of the tunes that are set, and the breakings that it lists are those of their scores.
@@ -55,13 +63,19 @@ pub record ListsTheScores (paper : Paper) (text : List ℕ) (outcomes : List Out
 
 -- what is written of a book is such a listing
 abbrev pub ListsTheBook : Type 0
-ListsTheBook = (bytes : List ℕ) (terms : Terms) (outcomes : List Outcome) → length bytes ≤ 2 ^ 30 → AreOutcomes terms (book_of bytes).tunes outcomes → ListsTheScores terms.paper (listing_text outcomes) outcomes
+ListsTheBook =
+    (bytes : List ℕ) (terms : Terms) (outcomes : List Outcome)
+    → length bytes ≤ 2 ^ 30 → AreOutcomes terms (book_of bytes).tunes outcomes
+    → ListsTheScores terms.paper (listing_text outcomes) outcomes
 
 -- the tune is told that it has no way: legal breakings of its first measures go up to some bar, and none to the last
 abbrev pub HasNoWay : TuneText → Outcome → Type 0
 HasNoWay tune outcome = (reached : ℕ) × (outcome.result ≡ Err (layout_fault tune (FaultKind.NoWay reached)))
 
--- A tune that has a score is told that it has no way exactly where its score has no legal breaking on the width of the body.
+-- A tune that has a score is told that it has no way exactly where its score has no legal breaking on the width of the
+-- body.
 abbrev pub NoWayIsExact : Type 0
-NoWayIsExact = (tune : TuneText) (terms : Terms) (header : Header) (score : Score) (outcome : Outcome) → HasScore tune terms.defaults terms.manner header score → IsOutcome terms tune outcome
+NoWayIsExact =
+    (tune : TuneText) (terms : Terms) (header : Header) (score : Score) (outcome : Outcome)
+    → HasScore tune terms.defaults terms.manner header score → IsOutcome terms tune outcome
     → HasNoWay tune outcome ↔ ((breaks : List ℕ) → IsLegalIn score (body_width terms.paper) breaks → ⊥)

@@ -9,7 +9,14 @@ use Rattle.{set_tune.specs.declared.tune.SetTune.{SetTune}, set_book.specs.decla
 
 -- what is listed of a tune
 abbrev pub entry_of : ℕ → SetTune → Entry
-entry_of ordinal t = record { tune = ordinal; bars = t.score.measures; spans = t.spans; breaks = t.breaking.breaks; total = t.breaking.total; potentials = t.breaking.potentials }
+entry_of ordinal t = record {
+  tune = ordinal;
+  bars = t.score.measures;
+  spans = t.spans;
+  breaks = t.breaking.breaks;
+  total = t.breaking.total;
+  potentials = t.breaking.potentials;
+}
 
 -- a tune with a fault has no entry
 abbrev pub result_entry : ℕ → Result SetTune Fault → Option Entry
@@ -36,8 +43,8 @@ outcomes_text outcomes = flat_map outcome_text outcomes
 abbrev pub listing_text : List Outcome → List ℕ
 listing_text outcomes = lines_then (listing_lines (entries_of outcomes)) []
 
--- what is asked of a tune whose systems or listing are written: its spans have their form, each of its systems has a place for
--- its columns, and its bars can be numbered
+-- what is asked of a tune whose systems or listing are written: its spans have their form, each of its systems has a
+-- place for its columns, and its bars can be numbered
 pub record CanBeListed (t : SetTune) : Type 0 where
   pub form : AreSpans t.score.measures t.spans
   pub beside : length t.placed ≡ length t.systems

@@ -26,7 +26,9 @@ system_lines spans (m ∷ ms) (p ∷ ps) = listed_system spans m p ++ system_lin
 
 -- a tune: its number, how many measures it has, and its total badness
 unfoldable pub listed_tune : ℕ → SetTune → List ℕ
-listed_tune ordinal t = codes "tune " ++ decimal ordinal ++ codes " measures " ++ decimal t.score.measures ++ codes " total " ++ decimal t.breaking.total ++ 10 ∷ []
+listed_tune ordinal t =
+    codes "tune " ++ decimal ordinal ++ codes " measures " ++ decimal t.score.measures ++ codes " total "
+    ++ decimal t.breaking.total ++ 10 ∷ []
 
 abbrev pub tune_lines : ℕ → SetTune → List ℕ
 tune_lines ordinal t = listed_tune ordinal t ++ system_lines t.spans t.systems t.placed

@@ -10,7 +10,8 @@ use Rattle.set_lists.specs.Reports.{is_faulty}
 unfoldable pub trial_text : Trial → List ℕ
 trial_text t =
     codes "trial " ++ decimal t.tunes ++ codes " set " ++ decimal t.set ++ codes " refused " ++ decimal t.refused
-    ++ codes " systems " ++ decimal t.systems ++ codes " pages " ++ decimal t.pages ++ codes " bytes " ++ decimal t.bytes
+    ++ codes " systems " ++ decimal t.systems ++ codes " pages " ++ decimal t.pages ++ codes " bytes "
+    ++ decimal t.bytes
     ++ codes " total " ++ decimal t.total ++ 10 ∷ []
 
 abbrev pub is_set : Outcome → Bool

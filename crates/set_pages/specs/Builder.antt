@@ -1,4 +1,5 @@
--- A book while its tunes are set, one list of outcomes after another: where their blocks stand, and the text that they add.
+-- A book while its tunes are set, one list of outcomes after another: where their blocks stand,
+-- and the text that they add.
 use Rattle.std.specs.Prelude.{◌≡◌, ⊤, ℕ, ◌+◌, ◌^◌, ◌<◌, ◌≤◌, Bool, List, ◌++◌, Option, None, All, length, take, drop}
 use Rattle.std.specs.List.{AllZip}
 use Rattle.abc_fields.specs.{declared.paper.Paper.Paper, Papers.{body_height, body_width}}
@@ -40,7 +41,8 @@ next_last_block (PagePlan.At spots) high p blocks = None
 -- the plan has room for more blocks: they lie on the pages that it says
 abbrev pub HasRoom : PagePlan → ℕ → PageBuilder → List Block → Type 0
 HasRoom PagePlan.Filled high p blocks = ⊤
-HasRoom (PagePlan.At spots) high p blocks = (p.put + length blocks ≤ length spots) × AreWithin high blocks (next_spots (PagePlan.At spots) high p blocks)
+HasRoom (PagePlan.At spots) high p blocks =
+    (p.put + length blocks ≤ length spots) × AreWithin high blocks (next_spots (PagePlan.At spots) high p blocks)
 
 -- a plan begins on the first page and skips none
 abbrev pub RisesBy : PagePlan → Type 0
@@ -53,10 +55,11 @@ CanGoOn p = CanFollow p.behind
 
 -- the text of the pages of these outcomes, up to the end of the last
 unfoldable pub begun_text : PagePlan → Paper → List Outcome → List ℕ
-begun_text plan paper outcomes = drawings_text (body_width paper) 0 (all_drawings outcomes) (all_spots plan paper outcomes)
+begun_text plan paper outcomes =
+    drawings_text (body_width paper) 0 (all_drawings outcomes) (all_spots plan paper outcomes)
 
--- these outcomes were pressed: each is set on the paper, its blocks are drawn where they stand, and it is known how many pages were begun
--- and which block was the last
+-- these outcomes were pressed: each is set on the paper, its blocks are drawn where they stand, and it is known how
+-- many pages were begun and which block was the last
 pub record IsBuiltFrom (plan : PagePlan) (paper : Paper) (outcomes : List Outcome) (p : PageBuilder) : Type 0 where
   pub rises : RisesBy plan
   pub set : All (IsSetUnder paper) outcomes
@@ -68,7 +71,8 @@ pub record IsBuiltFrom (plan : PagePlan) (paper : Paper) (outcomes : List Outcom
   pub good : AreGoodBlocks (all_blocks outcomes)
 
 -- outcomes were pressed behind others, and this is the text that they add
-pub record AddsOutcomes (plan : PagePlan) (paper : Paper) (before outcomes : List Outcome) (text : List ℕ) (p : PageBuilder) : Type 0 where
+pub record AddsOutcomes (plan : PagePlan) (paper : Paper) (before outcomes : List Outcome) (text : List ℕ)
+    (p : PageBuilder) : Type 0 where
   pub pressed : IsBuiltFrom plan paper (before ++ outcomes) p
   pub adds : begun_text plan paper (before ++ outcomes) ≡ begun_text plan paper before ++ text
 
@@ -87,15 +91,18 @@ pub record IsTextOfOutcome (width : ℕ) (s : PlacedOutcome) (text : List ℕ) :
   pub drawn : AreDrawnInRange width s
 
 -- outcomes whose blocks stand at these spots, behind so many pages that are begun
-pub record AreOutcomesAt (begun : ℕ) (outcomes : List Outcome) (spots : List Spot) (stood : List PlacedOutcome) : Type 0 where
+pub record AreOutcomesAt (begun : ℕ) (outcomes : List Outcome) (spots : List Spot)
+    (stood : List PlacedOutcome) : Type 0 where
   pub ready : (width : ℕ) → IsWidth width → All (CanDrawOutcome width) stood
   pub text : (width : ℕ) → placed_texts width stood ≡ drawings_text width begun (all_drawings outcomes) spots
-  pub drawn : (width : ℕ) → All (AreDrawnInRange width) stood → AllZip (IsDrawnInRange width) (all_drawings outcomes) spots
+  pub drawn : (width : ℕ)
+      → All (AreDrawnInRange width) stood → AllZip (IsDrawnInRange width) (all_drawings outcomes) spots
 
 -- the pages of these outcomes are so many, and have this text
 pub record HasText (plan : PagePlan) (paper : Paper) (outcomes : List Outcome) (begun : ℕ) : Type 0 where
   pub count : length (sheet_of plan paper outcomes).pages ≡ begun
-  pub text : numbered document_page 1 (sheet_of plan paper outcomes).pages ≡ begun_text plan paper outcomes ++ ending begun
+  pub text : numbered document_page 1 (sheet_of plan paper outcomes).pages
+      ≡ begun_text plan paper outcomes ++ ending begun
 
 -- and they can be written
 pub record IsSheetOf (plan : PagePlan) (paper : Paper) (outcomes : List Outcome) (begun : ℕ) : Type 0 where

@@ -12,7 +12,8 @@ use Rattle.set_tune.specs.Blocks.{blocks_of}
 use Rattle.set_book.specs.declared.outcome.Outcome.{Outcome}
 use Rattle.set_staves.specs.Marks.{system_at}
 
--- the rows of a title block; or a system, where its columns stand, and how far the bases of its staves lie above its top
+-- the rows of a title block; or a system, where its columns stand,
+-- and how far the bases of its staves lie above its top
 pub data Content : Type 0 where
   title : List TitleRow → Content
   system : SystemMarks → List ℤ → List ℤ → Content
@@ -47,7 +48,8 @@ title_contents [] = []
 title_contents (row ∷ rows) = title (row ∷ rows) ∷ []
 
 abbrev pub system_contents : List SystemMarks → List Placed → List Heights → List Content
-system_contents (m ∷ systems) (p ∷ placed) (h ∷ heights) = system m p.at h.bases ∷ system_contents systems placed heights
+system_contents (m ∷ systems) (p ∷ placed) (h ∷ heights) =
+    system m p.at h.bases ∷ system_contents systems placed heights
 system_contents _ _ _ = []
 
 abbrev pub systems_of : SetTune → List Content

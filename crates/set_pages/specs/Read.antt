@@ -1,4 +1,5 @@
--- What a reader finds on the pages of a book: its tunes one after another, and in each of their systems what the score calls for.
+-- What a reader finds on the pages of a book: its tunes one after another,
+-- and in each of their systems what the score calls for.
 use Rattle.std.specs.Prelude.{◌≡◌, ⊤, ℕ, ℤ, pos, List, [], ◌∷◌, ◌++◌, All, map, flat_map, Result, Ok, Err}
 use Rattle.std.specs.List.{AllZip}
 use Rattle.abc_lines.specs.declared.fault.Fault.{Fault}
@@ -21,10 +22,11 @@ use Rattle.{set_staves.specs.Marks.{HasColumns, ShowsCall}, set_pages.specs.{Cle
 abbrev pub items_of_pages : List Page → List Item
 items_of_pages pages = flat_map (λ (p : Page). p.items) pages
 
--- What is read of measures a to b - 1: the ranks read off each staff are the marks that the score calls for, each once, no other, and at
--- its height; the columns stand where they are set; the staves are as wide as the body; boxes of one lane in different columns keep
--- apart, and so do staves, which lie on the page.
-pub record ShowsSystem (paper : Paper) (gaps : List ℕ) (a b : ℕ) (m : SystemMarks) (p : Placed) (item : Item) : Type 0 where
+-- What is read of measures a to b - 1: the ranks read off each staff are the marks that the score calls for, each once,
+-- no other, and at its height; the columns stand where they are set; the staves are as wide as the body; boxes of one
+-- lane in different columns keep apart, and so do staves, which lie on the page.
+pub record ShowsSystem (paper : Paper) (gaps : List ℕ) (a b : ℕ) (m : SystemMarks) (p : Placed)
+    (item : Item) : Type 0 where
   pub staves : List Staff
   pub measures : item ≡ Item.System a b staves
   pub symbols : ShowsCall staves m.staves
@@ -36,7 +38,8 @@ pub record ShowsSystem (paper : Paper) (gaps : List ℕ) (a b : ℕ) (m : System
 -- For each span of a breaking, the first of which begins at bar a, one system.
 abbrev pub ShowSystems : Paper → List ℕ → ℕ → List ℕ → List SystemMarks → List Placed → List Item → Type 0
 ShowSystems paper gaps a [] [] [] [] = ⊤
-ShowSystems paper gaps a (b ∷ breaks) (m ∷ systems) (p ∷ placed) (item ∷ items) = ShowsSystem paper gaps a b m p item × ShowSystems paper gaps b breaks systems placed items
+ShowSystems paper gaps a (b ∷ breaks) (m ∷ systems) (p ∷ placed) (item ∷ items) =
+    ShowsSystem paper gaps a b m p item × ShowSystems paper gaps b breaks systems placed items
 ShowSystems paper gaps a _ _ _ _ = ⊥
 
 -- a row of a title block: its text, in its size, where it begins

@@ -22,7 +22,8 @@ pub record IsReadyRow (top : ℤ) (row : TitleRow) : Type 0 where
   pub base : IsNumber (top -ℤ row.down)
   pub printed : IsPrinted row.text
 
--- a system whose top is at a height: its marks can be shown, a column for each of its keys stands on the page, and a base for each staff
+-- a system whose top is at a height: its marks can be shown, a column for each of its keys stands on the page, and a
+-- base for each staff
 pub record CanStandOnPage (top : ℤ) (m : SystemMarks) (columns staves : List ℤ) : Type 0 where
   pub shown : IsShown m
   pub count : length columns ≡ length m.keys

@@ -1,5 +1,5 @@
--- The sheet of a book, from the outcomes of its tunes: the blocks of all tunes without fault stand on pages, filled or where a
--- plan says, and each page has what its blocks draw.
+-- The sheet of a book, from the outcomes of its tunes: the blocks of all tunes without fault stand on pages, filled or
+-- where a plan says, and each page has what its blocks draw.
 use Rattle.std.specs.Prelude.{⊤, ℕ, zero, suc, ◌+◌, ◌/◌, ◌≤◌, ◌==◌, if◌then◌else◌, List, [], ◌∷◌, ◌++◌, Result, Ok, Err}
 use Rattle.std.specs.Prelude.{Bool, true, false, ◌≡◌, take, length}
 use Rattle.abc_lines.specs.declared.book.TuneText.{TuneText}
@@ -26,17 +26,25 @@ abbrev pub whole_points : ℕ → ℕ
 whole_points u = (u + 99) / 100
 
 abbrev pub paper_frame : Paper → Frame
-paper_frame paper = record { wide = whole_points paper.wide; high = whole_points paper.high; left = paper.left; bottom = paper.bottom; scale = paper.scale }
+paper_frame paper = record {
+  wide = whole_points paper.wide;
+  high = whole_points paper.high;
+  left = paper.left;
+  bottom = paper.bottom;
+  scale = paper.scale;
+}
 
 -- what the drawings on a page, counted from 0, draw there
 abbrev pub items_on : ℕ → ℕ → List Drawing → List Spot → List Item
-items_on width page (d ∷ drawings) (s ∷ spots) = (if s.page == page then drawn width s.top d else []) ++ items_on width page drawings spots
+items_on width page (d ∷ drawings) (s ∷ spots) =
+    (if s.page == page then drawn width s.top d else []) ++ items_on width page drawings spots
 items_on width page _ _ = []
 
 -- so many pages, the first of which is counted k
 abbrev pub pages_from : ℕ → List Drawing → List Spot → ℕ → ℕ → List Page
 pages_from width drawings spots k zero = []
-pages_from width drawings spots k (suc more) = record { items = items_on width k drawings spots } ∷ pages_from width drawings spots (suc k) more
+pages_from width drawings spots k (suc more) =
+    record { items = items_on width k drawings spots } ∷ pages_from width drawings spots (suc k) more
 
 -- the pages are those up to that of the last block
 abbrev pub page_count : List Spot → ℕ
@@ -53,11 +61,15 @@ all_spots PagePlan.Filled paper outcomes = spots_of (body_height paper) (all_blo
 all_spots (PagePlan.At spots) paper outcomes = take (length (all_blocks outcomes)) spots
 
 unfoldable pub sheet_of : PagePlan → Paper → List Outcome → Sheet
-sheet_of plan paper outcomes = record { frame = paper_frame paper; pages = pages_of (body_width paper) (all_drawings outcomes) (all_spots plan paper outcomes) }
+sheet_of plan paper outcomes = record {
+  frame = paper_frame paper;
+  pages = pages_of (body_width paper) (all_drawings outcomes) (all_spots plan paper outcomes);
+}
 
 -- where blocks are filled, each follows the one before it as near as it can
 abbrev pub AreFilledBy : PagePlan → Paper → List Outcome → Type 0
-AreFilledBy PagePlan.Filled paper outcomes = AreFilled (body_height paper) (all_blocks outcomes) (all_spots PagePlan.Filled paper outcomes)
+AreFilledBy PagePlan.Filled paper outcomes =
+    AreFilled (body_height paper) (all_blocks outcomes) (all_spots PagePlan.Filled paper outcomes)
 AreFilledBy (PagePlan.At spots) paper outcomes = ⊤
 
 -- each block lies on its page, 1500 under the one before it or at the top of the next page
@@ -66,7 +78,8 @@ pub record AreStanding (plan : PagePlan) (paper : Paper) (outcomes : List Outcom
   pub stacked : StandByPages (body_height paper) (all_blocks outcomes) (all_spots plan paper outcomes)
   pub filled : AreFilledBy plan paper outcomes
 
--- The plan of a book: its blocks are filled; or evenly parted, so that no other parting of their groups into pages that fit costs less.
+-- The plan of a book: its blocks are filled; or evenly parted, so that no other parting of their groups into pages that
+-- fit costs less.
 pub record IsEvenPlan (paper : Paper) (outcomes : List Outcome) (spots : List Spot) : Type 0 where
   pub chosen : AreSpots true (body_height paper) (all_blocks outcomes) spots
   pub within : AreWithin (body_height paper) (all_blocks outcomes) spots
@@ -79,7 +92,8 @@ IsPagePlan true paper outcomes (PagePlan.At spots) = IsEvenPlan paper outcomes s
 
 -- a tune is set on the paper, or has a fault
 abbrev pub IsSetResult : Paper → Result SetTune Fault → Type 0
-IsSetResult paper (Ok t) = (tune : TuneText) × (defaults : Defaults) × (manner : Manner) × IsSetTune tune (terms_by defaults paper manner) t
+IsSetResult paper (Ok t) =
+    (tune : TuneText) × (defaults : Defaults) × (manner : Manner) × IsSetTune tune (terms_by defaults paper manner) t
 IsSetResult paper (Err fault) = ⊤
 
 -- under its ordinal in the book, which is counted from 1

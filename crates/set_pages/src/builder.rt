@@ -151,9 +151,9 @@ impl Work<PlacedOutcome, Text> for OutcomeWriter {
     }
 }
 
-/// Presses outcomes behind those that were pressed, and gives the texts that they add to the document, one for each: the
-/// blocks of the tunes without fault stand on pages by the plan, in order, before the first block of a tune stands its
-/// ordinal, and where a block begins a page, the page before it ends. So many jobs make the texts.
+/// Presses outcomes behind those that were pressed, and gives the texts that they add to the document, one for each:
+/// the blocks of the tunes without fault stand on pages by the plan, in order, before the first block of a tune stands
+/// its ordinal, and where a block begins a page, the page before it ends. So many jobs make the texts.
 ///
 /// `Memory` comes where memory ran out; 2^32 pages or more count as past it.
 pub fn add_outcomes<R: Threads + Sync>(
@@ -169,7 +169,10 @@ pub fn add_outcomes<R: Threads + Sync>(
     requires outcomes { All (IsSetUnder paper.now) outcomes }
     requires room { HasRoom plan.now (body_height paper.now) press.old (all_blocks outcomes) }
     requires open { CanGoOn press.old }
-    ensures pressed { IfOk result (λ texts. (before : List outcome.Outcome) → IsBuiltFrom plan.now paper.now before press.old → AddsOutcomes plan.now paper.now before outcomes (flat_map (λ text. text) texts) press.new) }
+    ensures pressed { IfOk result (λ texts.
+        (before : List outcome.Outcome)
+        → IsBuiltFrom plan.now paper.now before press.old
+        → AddsOutcomes plan.now paper.now before outcomes (flat_map (λ text. text) texts) press.new) }
     ensures open { OnOk result (CanGoOn press.new) }
 {
     let (width, high) = body_of(paper);

@@ -23,7 +23,9 @@ pub enum PagePlan {
 pub fn even_plan(alloc: Global, paper: &Paper, blocks: &[Block]) -> Result<PagePlan, Memory>
     requires paper { IsGoodPaper paper.now }
     requires blocks { AreBlocksOn paper.now blocks.now }
-    ensures { IfOk result (λ plan. (outcomes : List outcome.Outcome) → blocks.now ≡ all_blocks outcomes → IsPagePlan true paper.now outcomes plan) }
+    ensures { IfOk result (λ plan.
+        (outcomes : List outcome.Outcome)
+        → blocks.now ≡ all_blocks outcomes → IsPagePlan true paper.now outcomes plan) }
 {
     if blocks.len() > u32::MAX as usize {
         return Err(Memory);

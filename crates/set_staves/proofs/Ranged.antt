@@ -12,20 +12,25 @@ use Rattle.set_staves.specs.Marks.{staves_at}
 above : (top base : ℤ) → IsBase top base → IsNumber ((top +ℤ base) +ℤ pos 2000)
 above top base b = record { low = omega (arith, ints, b.low, b.high); high = omega (arith, ints, b.low, b.high) }
 
-joined : (width : ℕ) (at : List ℤ) (top : ℤ) (staves : List StaffMarks) (bases : List ℤ) → All (IsBase top) bases → IsJoined (staves_at width at top staves bases)
+joined : (width : ℕ) (at : List ℤ) (top : ℤ) (staves : List StaffMarks) (bases : List ℤ)
+    → All (IsBase top) bases → IsJoined (staves_at width at top staves bases)
 joined width at top [] bases h = tt
 joined width at top (s ∷ more) [] h = tt
 joined width at top (s ∷ []) (b ∷ bases) h = tt
 joined width at top (s ∷ u ∷ more) (b ∷ []) h = tt
 joined width at top (s ∷ u ∷ more) (b ∷ c ∷ bases) h = above top b (All-head (IsBase top) b (c ∷ bases) h)
 
-some : (width : ℕ) (at : List ℤ) (top : ℤ) (staves : List StaffMarks) (bases : List ℤ) → 1 ≤ length staves → length bases ≡ length staves → 1 ≤ length (staves_at width at top staves bases)
+some : (width : ℕ) (at : List ℤ) (top : ℤ) (staves : List StaffMarks) (bases : List ℤ)
+    → 1 ≤ length staves → length bases ≡ length staves → 1 ≤ length (staves_at width at top staves bases)
 some width at top [] bases h e = absurd (omega arith)
 some width at top (s ∷ more) [] h e = absurd (omega arith)
 some width at top (s ∷ more) (b ∷ bases) h e = omega arith
 
-pub good_system : (width : ℕ) (at : List ℤ) (top : ℤ) (a b : ℕ) (staves : List StaffMarks) (bases : List ℤ) (placed : List Staff)
-    → All (IsBase top) bases → a < b → b < 2 ^ 32 → 1 ≤ length staves → length bases ≡ length staves → placed ≡ staves_at width at top staves bases → All IsStaff placed → IsSystemItem a b placed
+pub good_system : (width : ℕ) (at : List ℤ) (top : ℤ) (a b : ℕ) (staves : List StaffMarks) (bases : List ℤ)
+    (placed : List Staff)
+    → All (IsBase top) bases → a < b → b < 2 ^ 32 → 1 ≤ length staves → length bases ≡ length staves
+    → placed ≡ staves_at width at top staves bases → All IsStaff placed
+    → IsSystemItem a b placed
 good_system width at top a b staves bases placed h rising last least e is good = record {
   rising = rising;
   last = last;

@@ -18,16 +18,20 @@ use Rattle.set_tune.specs.Setting.{no_way, too_tall}
 pub none_some : {X : Type 0} (x : X) → None ≡ Some x → ⊥
 none_some x e = cc
 
-pub score_refused : (tune : TuneText) (terms : Terms) (e : TuneError) → IsMovedRefusal tune terms.defaults terms.manner e → IsRefusal tune terms e
+pub score_refused : (tune : TuneText) (terms : Terms) (e : TuneError)
+    → IsMovedRefusal tune terms.defaults terms.manner e → IsRefusal tune terms e
 score_refused tune terms TuneError.Memory h = tt
 score_refused tune terms (TuneError.Fault fault) (inl (inl h)) = of_header fault h
 score_refused tune terms (TuneError.Fault fault) (inl (inr (header, has, is))) = of_score header fault has is
 score_refused tune terms (TuneError.Fault fault) (inr (inl cant)) = of_share fault cant
-score_refused tune terms (TuneError.Fault fault) (inr (inr (cant, at))) = subst (IsFaultOfTune tune terms) (sym at) (of_move cant)
+score_refused tune terms (TuneError.Fault fault) (inr (inr (cant, at))) =
+    subst (IsFaultOfTune tune terms) (sym at) (of_move cant)
 
 -- no breaking is legal
 pub layout_refused : (tune : TuneText) (terms : Terms) (header : Header) (score : Score) (width : ℕ) (e : TuneError)
-    → HasScore tune terms.defaults terms.manner header score → width ≡ body_width terms.paper → IsLayoutRefusal tune width score e → IsRefusal tune terms e
+    → HasScore tune terms.defaults terms.manner header score → width ≡ body_width terms.paper
+    → IsLayoutRefusal tune width score e
+    → IsRefusal tune terms e
 layout_refused tune terms header score width TuneError.Memory has is h = tt
 layout_refused tune terms header score width (TuneError.Fault fault) has is (reached, spans, none, at) =
     subst (IsFaultOfTune tune terms) (sym at)
@@ -35,15 +39,20 @@ layout_refused tune terms header score width (TuneError.Fault fault) has is (rea
 
 -- the tune up to its layout
 pub laid_tune : (tune : TuneText) (terms : Terms) (header : Header) (score : Score) (width : ℕ) (t : SetTune)
-    → HasScore tune terms.defaults terms.manner header score → width ≡ body_width terms.paper → IsLaid width header score t → IsLaidTune tune terms t
+    → HasScore tune terms.defaults terms.manner header score → width ≡ body_width terms.paper
+    → IsLaid width header score t
+    → IsLaidTune tune terms t
 laid_tune tune terms header score width t has is laid = record {
-  score = subst (λ h. HasScore tune terms.defaults terms.manner h t.score) (sym laid.head) (subst (λ s. HasScore tune terms.defaults terms.manner header s) (sym laid.music) has);
+  score =
+      subst (λ h. HasScore tune terms.defaults terms.manner h t.score) (sym laid.head)
+      (subst (λ s. HasScore tune terms.defaults terms.manner header s) (sym laid.music) has);
   title = subst (λ w. t.title ≡ title_block_of w t.header.titles t.header.composers t.header.tempo) is
       (subst (λ (h : Header). t.title ≡ title_block_of width h.titles h.composers h.tempo) (sym laid.head) laid.title);
   layout = subst (λ w. IsLaidOut w t) is laid.layout;
 }
 
-tall_error : (tune : TuneText) (terms : Terms) (high : ℕ) (t : SetTune) (e : TuneError) → IsLaidTune tune terms t → high ≡ body_height terms.paper → IsTallRefusal tune high t e → IsRefusal tune terms e
+tall_error : (tune : TuneText) (terms : Terms) (high : ℕ) (t : SetTune) (e : TuneError)
+    → IsLaidTune tune terms t → high ≡ body_height terms.paper → IsTallRefusal tune high t e → IsRefusal tune terms e
 tall_error tune terms high t TuneError.Memory laid is h = tt
 tall_error tune terms high t (TuneError.Fault fault) laid is (block, first, at) =
     subst (IsFaultOfTune tune terms) (sym at)
@@ -51,6 +60,7 @@ tall_error tune terms high t (TuneError.Fault fault) laid is (block, first, at) 
 
 -- a group is too high
 pub tall_refused : (tune : TuneText) (terms : Terms) (high : ℕ) (t : SetTune) (r : Result SetTune TuneError)
-    → IsLaidTune tune terms t → high ≡ body_height terms.paper → IfErr r (IsTallRefusal tune high t) → IfErr r (IsRefusal tune terms)
+    → IsLaidTune tune terms t → high ≡ body_height terms.paper → IfErr r (IsTallRefusal tune high t)
+    → IfErr r (IsRefusal tune terms)
 tall_refused tune terms high t (Ok set) laid is h = tt
 tall_refused tune terms high t (Err e) laid is h = tall_error tune terms high t e laid is h

@@ -1,4 +1,5 @@
--- The blocks of a tune: its title block, where that has a row, tied to the system below it where there is one; and its systems.
+-- The blocks of a tune: its title block, where that has a row, tied to the system below it where there is one;
+-- and its systems.
 use Rattle.std.specs.Prelude.{ℕ, ◌^◌, min, ℤ, pos, ◌≤ℤ◌, Bool, true, false, List, [], ◌∷◌, ◌++◌, map}
 use Rattle.lay_pages.specs.declared.filling.Block.{Block}
 use Rattle.lay_pages.specs.declared.stacking.Heights.{Heights}

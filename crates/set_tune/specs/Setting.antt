@@ -35,7 +35,8 @@ pub record HasHeader (tune : TuneText) (defaults : Defaults) (header : Header) :
   pub clear : header_fault tune ≡ None
 
 -- The header, and the score that the tune calls for under it, neither of which has a fault.
-pub record IsWritten (tune : TuneText) (defaults : Defaults) (flow : Bool) (header : Header) (score : Score) : Type 0 where
+pub record IsWritten (tune : TuneText) (defaults : Defaults) (flow : Bool) (header : Header)
+    (score : Score) : Type 0 where
   pub read : HasHeader tune defaults header
   pub value : IsScoreOf header tune flow score
   pub good : IsGoodScore score
@@ -47,18 +48,27 @@ share_fault line kind = record { kind = kind; line = line.number; column = 1 }
 -- the line spells no plan of the written score's staves, or two voices of one staff differ
 abbrev pub IsUnshared : Line → Score → Fault → Type 0
 IsUnshared line written fault =
-    (((plan : Plan) → SpellsPlan (score_ids written) line.text plan → ⊥) × (fault ≡ share_fault line FaultKind.BadScore))
-    ⊎ ((plan : Plan) × SpellsPlan (score_ids written) line.text plan × (DoShare written plan → ⊥) × (fault ≡ share_fault line FaultKind.BadShare))
+    (((plan : Plan) → SpellsPlan (score_ids written) line.text plan → ⊥)
+    × (fault ≡ share_fault line FaultKind.BadScore))
+    ⊎ ((plan : Plan)
+    × SpellsPlan (score_ids written) line.text plan
+    × (DoShare written plan → ⊥)
+    × (fault ≡ share_fault line FaultKind.BadShare))
 
--- What comes of the written score and that line, where there is one: the score that is drawn, or a fault. Without a line the score
--- that is drawn is the written one.
+-- What comes of the written score and that line, where there is one: the score that is drawn, or a fault. Without a
+-- line the score that is drawn is the written one.
 abbrev pub IsScoreDrawn : Option Line → Score → Result Score Fault → Type 0
 IsScoreDrawn None written drawn = drawn ≡ Ok written
-IsScoreDrawn (Some line) written (Ok drawn) = (plan : Plan) × SpellsPlan (score_ids written) line.text plan × DoShare written plan × (drawn ≡ drawn_of written plan)
+IsScoreDrawn (Some line) written (Ok drawn) =
+    (plan : Plan)
+    × SpellsPlan (score_ids written) line.text plan
+    × DoShare written plan
+    × (drawn ≡ drawn_of written plan)
 IsScoreDrawn (Some line) written (Err fault) = IsUnshared line written fault
 
 -- The header, and the score that is set: the drawn one, moved, so that each head sounds so many semitones higher.
-pub record HasScore (tune : TuneText) (defaults : Defaults) (manner : Manner) (header : Header) (score : Score) : Type 0 where
+pub record HasScore (tune : TuneText) (defaults : Defaults) (manner : Manner) (header : Header)
+    (score : Score) : Type 0 where
   pub written : Score
   pub is : IsWritten tune defaults manner.flow header written
   pub drawn : Score
@@ -85,7 +95,8 @@ pub record CantMove (tune : TuneText) (defaults : Defaults) (manner : Manner) : 
 
 -- the parts of a tune that are its layout
 abbrev pub layout_of : SetTune → Layout
-layout_of t = record { breaking = t.breaking; systems = t.systems; placed = t.placed; spans = t.spans; heights = t.heights }
+layout_of t =
+    record { breaking = t.breaking; systems = t.systems; placed = t.placed; spans = t.spans; heights = t.heights }
 
 abbrev pub IsLaidOut : ℕ → SetTune → Type 0
 IsLaidOut width t = IsLayout t.score width (layout_of t)
@@ -112,22 +123,31 @@ pub record IsSetTune (tune : TuneText) (terms : Terms) (t : SetTune) : Type 0 wh
 abbrev pub layout_fault : TuneText → FaultKind → Fault
 layout_fault tune kind = record { kind = kind; line = first_line_number tune.lines; column = 1 }
 
--- The one fault of a tune, by stages: of its header; where that has none, of its body or its score; where the score has none,
--- that its voices can't share staves as they should; where they can, that it can't be moved; where it can, that no breaking is
--- legal; and where one is, that a group of blocks is higher than the page.
+-- The one fault of a tune, by stages: of its header; where that has none, of its body or its score; where the score has
+-- none, that its voices can't share staves as they should; where they can, that it can't be moved; where it can, that
+-- no breaking is legal; and where one is, that a group of blocks is higher than the page.
 pub data IsFaultOfTune (tune : TuneText) (terms : Terms) : Fault → Type 0 where
   of_header : (fault : Fault) → header_fault tune ≡ Some fault → IsFaultOfTune tune terms fault
-  of_score : (header : Header) (fault : Fault) → HasHeader tune terms.defaults header → IsFaultOf header tune (TuneError.Fault fault) → IsFaultOfTune tune terms fault
+  of_score : (header : Header) (fault : Fault)
+      → HasHeader tune terms.defaults header → IsFaultOf header tune (TuneError.Fault fault)
+      → IsFaultOfTune tune terms fault
   of_share : (fault : Fault) → CantDraw tune terms.defaults terms.manner fault → IsFaultOfTune tune terms fault
   of_move : CantMove tune terms.defaults terms.manner → IsFaultOfTune tune terms (layout_fault tune FaultKind.BadMove)
-  no_way : (header : Header) (score : Score) (reached : ℕ) (spans : List Span) → HasScore tune terms.defaults terms.manner header score
-      → IsNoWay score (body_width terms.paper) reached spans → IsFaultOfTune tune terms (layout_fault tune (FaultKind.NoWay reached))
-  too_tall : (t : SetTune) (block : ℕ) → IsLaidTune tune terms t → first_tall (body_height terms.paper) (blocks_of t.title t.heights) ≡ Some block → IsFaultOfTune tune terms (layout_fault tune (FaultKind.TooTall block))
+  no_way : (header : Header) (score : Score) (reached : ℕ) (spans : List Span)
+      → HasScore tune terms.defaults terms.manner header score
+      → IsNoWay score (body_width terms.paper) reached spans
+      → IsFaultOfTune tune terms (layout_fault tune (FaultKind.NoWay reached))
+  too_tall : (t : SetTune) (block : ℕ)
+      → IsLaidTune tune terms t
+      → first_tall (body_height terms.paper) (blocks_of t.title t.heights) ≡ Some block
+      → IsFaultOfTune tune terms (layout_fault tune (FaultKind.TooTall block))
 
 -- The same of the stages up to the score; want of memory says nothing.
 abbrev pub IsScoreRefusal : TuneText → Defaults → TuneError → Type 0
 IsScoreRefusal tune defaults TuneError.Memory = ⊤
-IsScoreRefusal tune defaults (TuneError.Fault fault) = (header_fault tune ≡ Some fault) ⊎ ((header : Header) × HasHeader tune defaults header × IsFaultOf header tune (TuneError.Fault fault))
+IsScoreRefusal tune defaults (TuneError.Fault fault) =
+    (header_fault tune ≡ Some fault)
+    ⊎ ((header : Header) × HasHeader tune defaults header × IsFaultOf header tune (TuneError.Fault fault))
 
 -- why the written score isn't drawn
 abbrev pub IsDrawRefusal : Option Line → Score → TuneError → Type 0
@@ -137,23 +157,33 @@ IsDrawRefusal staves written (TuneError.Fault fault) = IsScoreDrawn staves writt
 -- why the drawn score isn't moved
 abbrev pub IsMoveRefusal : TuneText → Score → Key → ℤ → TuneError → Type 0
 IsMoveRefusal tune drawn key by TuneError.Memory = ⊤
-IsMoveRefusal tune drawn key by (TuneError.Fault fault) = IsMoved drawn key by None × (fault ≡ layout_fault tune FaultKind.BadMove)
+IsMoveRefusal tune drawn key by (TuneError.Fault fault) =
+    IsMoved drawn key by None × (fault ≡ layout_fault tune FaultKind.BadMove)
 
 -- why there is no score to lay out
 abbrev pub IsMovedRefusal : TuneText → Defaults → Manner → TuneError → Type 0
 IsMovedRefusal tune defaults manner TuneError.Memory = ⊤
 IsMovedRefusal tune defaults manner (TuneError.Fault fault) =
-    IsScoreRefusal tune defaults (TuneError.Fault fault) ⊎ (CantDraw tune defaults manner fault ⊎ (CantMove tune defaults manner × (fault ≡ layout_fault tune FaultKind.BadMove)))
+    IsScoreRefusal tune defaults (TuneError.Fault fault)
+    ⊎ (CantDraw tune defaults manner fault
+    ⊎ (CantMove tune defaults manner × (fault ≡ layout_fault tune FaultKind.BadMove)))
 
 -- why the score isn't laid out
 abbrev pub IsLayoutRefusal : TuneText → ℕ → Score → TuneError → Type 0
 IsLayoutRefusal tune width score TuneError.Memory = ⊤
-IsLayoutRefusal tune width score (TuneError.Fault fault) = (reached : ℕ) × (spans : List Span) × IsNoWay score width reached spans × (fault ≡ layout_fault tune (FaultKind.NoWay reached))
+IsLayoutRefusal tune width score (TuneError.Fault fault) =
+    (reached : ℕ)
+    × (spans : List Span)
+    × IsNoWay score width reached spans
+    × (fault ≡ layout_fault tune (FaultKind.NoWay reached))
 
 -- why a tune that is laid out isn't set
 abbrev pub IsTallRefusal : TuneText → ℕ → SetTune → TuneError → Type 0
 IsTallRefusal tune high t TuneError.Memory = ⊤
-IsTallRefusal tune high t (TuneError.Fault fault) = (block : ℕ) × (first_tall high (blocks_of t.title t.heights) ≡ Some block) × (fault ≡ layout_fault tune (FaultKind.TooTall block))
+IsTallRefusal tune high t (TuneError.Fault fault) =
+    (block : ℕ)
+    × (first_tall high (blocks_of t.title t.heights) ≡ Some block)
+    × (fault ≡ layout_fault tune (FaultKind.TooTall block))
 
 -- want of memory says nothing
 abbrev pub IsRefusal : TuneText → Terms → TuneError → Type 0

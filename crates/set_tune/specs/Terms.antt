@@ -1,5 +1,5 @@
--- What a tune is set by: the defaults of its file, its paper, and the manner of setting. The number of jobs isn't part of it, so what
--- is said of a tune that is set holds for any number of them.
+-- What a tune is set by: the defaults of its file, its paper, and the manner of setting. The number of jobs isn't part
+-- of it, so what is said of a tune that is set holds for any number of them.
 use Rattle.std.specs.Prelude.{ℤ, pos, Bool}
 use Rattle.abc_fields.specs.declared.defaults.Defaults.{Defaults}
 use Rattle.abc_fields.specs.declared.paper.Paper.{Paper}

@@ -168,7 +168,8 @@ fn draw_by(alloc: Global, written: &Score, line: &Line) -> Result<Score, TuneErr
 fn plan_of(alloc: Global, written: &Score, line: &Line) -> Result<Option<Plan>, Memory>
     requires { IsGoodScore written.now }
     ensures spells { IfOk result (λ read. IfSome read (SpellsPlan (score_ids written.now) line.now.text)) }
-    ensures only { IfOk result (λ read. (plan : Plan) → SpellsPlan (score_ids written.now) line.now.text plan → read ≡ Some plan) }
+    ensures only { IfOk result
+        (λ read. (plan : Plan) → SpellsPlan (score_ids written.now) line.now.text plan → read ≡ Some plan) }
     ensures good { IfOk result (λ read. IfSome read (IsPlanFor (length written.now.voices))) }
 {
     let ids = score_ids(alloc, written)?;
@@ -232,7 +233,8 @@ fn layout_fault(tune: &TuneText, kind: FaultKind) -> TuneError
 fn title_of(alloc: Global, width: u32, header: &Header) -> Result<TitleBlock, Memory>
     requires titles { length header.now.titles ≤ 2 ^ 32 }
     requires composers { length header.now.composers ≤ 2 ^ 32 }
-    ensures { IfOk result (λ title. title ≡ title_block_of width header.now.titles header.now.composers header.now.tempo) }
+    ensures { IfOk result
+        (λ title. title ≡ title_block_of width header.now.titles header.now.composers header.now.tempo) }
 {
     title_block(
         alloc,

@@ -17,7 +17,8 @@ put_first-requires c =
 pub put_later-requires : goal.put_later-requires
 put_later-requires c =
     let vs = c.as_slice.result.now in
-    All-take IsFew (length vs - 1) (drop 1 vs) (All-drop IsFew 1 vs (subst (λ us. All IsFew us) (sym c.as_slice.ensures) c.requires))
+    All-take IsFew (length vs - 1) (drop 1 vs)
+    (All-drop IsFew 1 vs (subst (λ us. All IsFew us) (sym c.as_slice.ensures) c.requires))
 
 pub returns : goal.returns
 returns c =

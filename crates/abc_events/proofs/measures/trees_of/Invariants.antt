@@ -11,7 +11,10 @@ abbrev pub invariant-loop-sign : goal.invariant-loop-sign
 invariant-loop-sign l = record {
   len : length l.trees.items ≡ l.n;
   ready : (k : ℕ) → k < l.n → TakesAnother (slice_index_or l.trees.items k no_tree).stack.items;
-  trees : (k : ℕ) → k < l.n → grown (slice_index_or l.trees.items k no_tree) (leaves_in k (leaves_from l.words l.at.event l.at.id (into_iter_items l.sign-iterator))) ≡ tree_of (leaves_in k (leaves_from l.words 0 0 (into_iter_items l.initial.sign-iterator)));
+  trees : (k : ℕ) → k < l.n
+      → grown (slice_index_or l.trees.items k no_tree)
+      (leaves_in k (leaves_from l.words l.at.event l.at.id (into_iter_items l.sign-iterator)))
+      ≡ tree_of (leaves_in k (leaves_from l.words 0 0 (into_iter_items l.initial.sign-iterator)));
   drawn : All HasDrawableValues (into_iter_items l.sign-iterator);
   count : into_iter_len l.sign-iterator ≡ length (into_iter_items l.sign-iterator);
 }

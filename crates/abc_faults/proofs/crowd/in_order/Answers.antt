@@ -4,5 +4,7 @@ use Rattle.abc_faults.proofs.crowd.in_order.Goals as goal
 
 pub returns-clause-order : goal.returns-clause-order
 returns-clause-order c =
-    let sorted = c.sort.new.self in let items = c.weights.inside.items in let whole : take items.len (sorted ++ drop (length sorted) items.items) ≡ sorted = grind (arith, common_steps) in
+    let sorted = c.sort.new.self in
+    let items = c.weights.inside.items in
+    let whole : take items.len (sorted ++ drop (length sorted) items.items) ≡ sorted = grind (arith, common_steps) in
     subst AreInOrder (sym whole) (order_from_sorted sorted c.in_ok-sort.ensures.sorted)

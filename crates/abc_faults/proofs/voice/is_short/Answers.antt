@@ -10,7 +10,11 @@ loop-s-preserved c =
     let s = c.s-item.result in let on : ends_tuplets s.step ≡ false = cc in
     elim c.if-is_sound.branch [
       | then-is_sound w ↦
-          let sound : is_sound s.step ≡ true = cc in step_on c.args.behind.now c.loop-s.s-index c.loop-s.left c.if-is_sound.left s _ c.loop-s-test.true c.s-item.is on (simp sound (omega arith)) c.loop-s.invariant
+          let sound : is_sound s.step ≡ true = cc in
+          step_on c.args.behind.now c.loop-s.s-index c.loop-s.left c.if-is_sound.left s _ c.loop-s-test.true c.s-item.is
+          on (simp sound (omega arith)) c.loop-s.invariant
       | else-is_sound w ↦
-          let sound : is_sound s.step ≡ false = cc in step_on c.args.behind.now c.loop-s.s-index c.loop-s.left c.if-is_sound.left s _ c.loop-s-test.true c.s-item.is on (simp sound (omega arith)) c.loop-s.invariant
+          let sound : is_sound s.step ≡ false = cc in
+          step_on c.args.behind.now c.loop-s.s-index c.loop-s.left c.if-is_sound.left s _ c.loop-s-test.true c.s-item.is
+          on (simp sound (omega arith)) c.loop-s.invariant
     ]

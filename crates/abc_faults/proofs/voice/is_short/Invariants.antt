@@ -5,4 +5,6 @@ use Rattle.{abc_steps.specs.Kinds.{is_sound}, abc_faults.specs.Faults.{ends_tupl
 use Rattle.abc_faults.proofs.voice.is_short.Given as goal
 
 abbrev pub invariant-loop-s : goal.invariant-loop-s
-invariant-loop-s l = nat_lt (count_by (λ s. is_sound s.step) (before_first (λ s. ends_tuplets s.step) (drop l.s-index l.behind))) l.left ≡ nat_lt (count_by (λ s. is_sound s.step) (before_first (λ s. ends_tuplets s.step) l.behind)) l.r
+invariant-loop-s l =
+    nat_lt (count_by (λ s. is_sound s.step) (before_first (λ s. ends_tuplets s.step) (drop l.s-index l.behind))) l.left
+    ≡ nat_lt (count_by (λ s. is_sound s.step) (before_first (λ s. ends_tuplets s.step) l.behind)) l.r

@@ -13,4 +13,5 @@ pub returns-clause-bad : goal.returns-clause-bad
 returns-clause-bad c =
     let letter = c.args.letter in
     let text = c.args.text.now in
-    IfErr-weaker c.named_field.result _ (NamedRefuses letter text) (named_refuses letter text) c.named_field.ensures.fault
+    IfErr-weaker c.named_field.result _ (NamedRefuses letter text) (named_refuses letter text)
+    c.named_field.ensures.fault

@@ -3,4 +3,5 @@ use Rattle.{abc_field.specs.Last.{last_of}, abc_fields.specs.Defaults.{line_brea
 use Rattle.abc_fields.proofs.defaults.last_breaks.Given as goal
 
 abbrev pub invariant-loop-line : goal.invariant-loop-line
-invariant-loop-line l = option_or (last_of (line_breaks) (drop l.line-index l.lines)) l.last ≡ last_of (line_breaks) l.lines
+invariant-loop-line l =
+    option_or (last_of (line_breaks) (drop l.line-index l.lines)) l.last ≡ last_of (line_breaks) l.lines

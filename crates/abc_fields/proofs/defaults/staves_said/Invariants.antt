@@ -4,5 +4,6 @@ use Rattle.abc_fields.proofs.defaults.staves_said.Given as goal
 
 abbrev pub invariant-loop-line : goal.invariant-loop-line
 invariant-loop-line l =
-    option_or (last_of line_staves (drop l.line-index l.lines)) (option_map (λ said. line_of said.number said.text.now) l.last)
+    option_or (last_of line_staves (drop l.line-index l.lines))
+    (option_map (λ said. line_of said.number said.text.now) l.last)
     ≡ last_of line_staves l.lines

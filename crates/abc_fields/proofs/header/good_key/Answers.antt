@@ -5,4 +5,5 @@ use Rattle.abc_fields.proofs.header.good_key.Goals as goal
 
 pub returns-clause-good : goal.returns-clause-good
 returns-clause-good c =
-    good_copied c.last_key.result (subst (λ o. IfSome o (λ k. IsGoodKeyText k)) (sym c.last_key.ensures) (last_key-good c.args.fields.now c.requires))
+    good_copied c.last_key.result
+    (subst (λ o. IfSome o (λ k. IsGoodKeyText k)) (sym c.last_key.ensures) (last_key-good c.args.fields.now c.requires))

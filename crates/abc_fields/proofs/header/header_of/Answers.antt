@@ -7,7 +7,8 @@ pub returns-clause-good : goal.returns-clause-good
 returns-clause-good c =
     let fields = c.as_slice-fields.result.now in
     let ids = c.requires.ids ∙ ap ids_of (sym c.as_slice-fields.ensures) in
-    let made : c.in_ok-voices_of.field-0 ≡ voices_of fields = c.in_ok-voices_of.ensures ∙ ap (λ ids. map (voice_from fields) ids) ids in
+    let made : c.in_ok-voices_of.field-0 ≡ voices_of fields =
+    c.in_ok-voices_of.ensures ∙ ap (λ ids. map (voice_from fields) ids) ids in
     let few : length (ids_of fields) ≤ 16 = subst (λ ids. length ids ≤ 16) ids c.requires.few in
     record {
       key = c.in_ok-key_of.ensures.good;

@@ -3,4 +3,5 @@ use Rattle.{abc_field.specs.Last.{last_of}, abc_fields.specs.Headers.{spread_in}
 use Rattle.abc_fields.proofs.header.last_spread.Given as goal
 
 abbrev pub invariant-loop-field : goal.invariant-loop-field
-invariant-loop-field l = option_or (last_of (spread_in) (drop l.field-index l.fields)) l.last ≡ last_of (spread_in) l.fields
+invariant-loop-field l =
+    option_or (last_of (spread_in) (drop l.field-index l.fields)) l.last ≡ last_of (spread_in) l.fields

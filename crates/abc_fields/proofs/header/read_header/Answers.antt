@@ -17,4 +17,5 @@ pub returns-clause-staves : goal.returns-clause-staves
 returns-clause-staves c =
     let tune = c.args.tune.now in
     let defaults = c.args.defaults.now in
-    IfOk-weaker c.tune_header.result _ (λ header. AreStavesOf tune defaults header.staves) (header_staves tune defaults) c.tune_header.ensures.value
+    IfOk-weaker c.tune_header.result _ (λ header. AreStavesOf tune defaults header.staves) (header_staves tune defaults)
+    c.tune_header.ensures.value

@@ -3,4 +3,5 @@ use Rattle.{abc_field.specs.Last.{last_of}, abc_fields.specs.Headers.{tempo_in}}
 use Rattle.abc_fields.proofs.header.tempo_text.Given as goal
 
 abbrev pub invariant-loop-field : goal.invariant-loop-field
-invariant-loop-field l = option_or (last_of (tempo_in) (drop l.field-index l.fields)) (option_copied l.last) ≡ last_of (tempo_in) l.fields
+invariant-loop-field l =
+    option_or (last_of (tempo_in) (drop l.field-index l.fields)) (option_copied l.last) ≡ last_of (tempo_in) l.fields

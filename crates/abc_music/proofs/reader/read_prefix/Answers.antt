@@ -7,13 +7,22 @@ use Rattle.abc_music.proofs.reader.read_prefix.Goals as goal
 
 pub loop-tokens-preserved : goal.loop-tokens-preserved
 loop-tokens-preserved c =
-    let part : PartOf c.args.bang c.args.line.now c.loop-tokens.place c.in_ok-part.part.tokens (LineRest.More c.in-More.next) = rw c.in-More.is at c.in_ok-part.ensures.part in
-    record { read = read_more c.args.bang c.args.line.now c.loop-tokens.place c.in-More.next c.loop-tokens.tokens c.in_ok-part.part.tokens c.append.new.self c.loop-tokens.invariant.read part.0 c.in_ok-append.ensures.ok; within = part.1 }
+    let part : PartOf c.args.bang c.args.line.now c.loop-tokens.place c.in_ok-part.part.tokens
+    (LineRest.More c.in-More.next) = rw c.in-More.is at c.in_ok-part.ensures.part in
+    record {
+      read = read_more c.args.bang c.args.line.now c.loop-tokens.place c.in-More.next c.loop-tokens.tokens
+          c.in_ok-part.part.tokens c.append.new.self c.loop-tokens.invariant.read part.0 c.in_ok-append.ensures.ok;
+      within = part.1;
+    }
 
 pub returns-in-End-clause-front : goal.returns-in-End-clause-front
 returns-in-End-clause-front c =
-    let part : GivesTokensFrom c.args.bang c.args.line.now c.loop-tokens.place c.in_ok-part.part.tokens c.in-End.fault = rw c.in-End.is at c.in_ok-part.ensures.part in
-    subst (λ us. GivesTokensOf c.args.bang c.args.line.now us c.in-End.fault) (sym c.in_ok-append.ensures.ok) (c.loop-tokens.invariant.read c.in_ok-part.part.tokens c.in-End.fault part)
+    let part : GivesTokensFrom c.args.bang c.args.line.now c.loop-tokens.place c.in_ok-part.part.tokens c.in-End.fault =
+    rw c.in-End.is at c.in_ok-part.ensures.part in
+    subst (λ us. GivesTokensOf c.args.bang c.args.line.now us c.in-End.fault) (sym c.in_ok-append.ensures.ok)
+    (c.loop-tokens.invariant.read c.in_ok-part.part.tokens c.in-End.fault part)
 
 pub returns-in-End-clause-good : goal.returns-in-End-clause-good
-returns-in-End-clause-good c = let front = returns-in-End-clause-front c in good_front c.args.bang (length c.args.line.now.text) Other 0 c.args.line.now.text c.append.new.self front.0 front.1
+returns-in-End-clause-good c =
+    let front = returns-in-End-clause-front c in
+    good_front c.args.bang (length c.args.line.now.text) Other 0 c.args.line.now.text c.append.new.self front.0 front.1

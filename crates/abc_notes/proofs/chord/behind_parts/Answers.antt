@@ -9,8 +9,12 @@ parts-smaller c = inner_less c.args.bang (found_inner c.args.bang c.parts.rest.n
 pub parts-preserved : goal.parts-preserved
 parts-preserved c =
     let found = found_inner c.args.bang c.parts.rest.now c.in-Some.ensures in
-    let step = left_some (inner_reader c.args.bang) c.parts.rest.now (inner_pair found.part c.in-Some.behind.now) found.at in
-    record { left = sym step ∙ c.parts.invariant.left; within = omega (arith, inner_less c.args.bang found, c.parts.invariant.within) }
+    let step =
+    left_some (inner_reader c.args.bang) c.parts.rest.now (inner_pair found.part c.in-Some.behind.now) found.at in
+    record {
+      left = sym step ∙ c.parts.invariant.left;
+      within = omega (arith, inner_less c.args.bang found, c.parts.invariant.within);
+    }
 
 pub returns : goal.returns
 returns c =

@@ -14,7 +14,8 @@ parts-smaller c = inner_less c.args.bang (found_inner c.args.bang c.parts.rest.n
 pub parts-preserved : goal.parts-preserved
 parts-preserved c =
     let found = found_inner c.args.bang c.parts.rest.now c.in-Some.ensures in
-    let head = c.either-head.ensures ∙ ap (λ b. c.parts.head || b) (c.is_inner_note.ensures ∙ ap is_inner_note found.says) in
+    let head =
+    c.either-head.ensures ∙ ap (λ b. c.parts.head || b) (c.is_inner_note.ensures ∙ ap is_inner_note found.says) in
     seeking-next c.args.bang c.parts.invariant found.at head (rw c.bracket_in_name.ensures at c.later_or-last.ensures)
 
 pub returns-clause-read : goal.returns-clause-read
@@ -23,4 +24,5 @@ returns-clause-read c =
     ∙ seeking-ends c.args.bang c.parts.invariant (none_inner c.args.bang c.parts.rest.now c.in_default.ensures)
 
 pub returns-clause-within : goal.returns-clause-within
-returns-clause-within c = all_within (λ x. x.now) _ c.later_or.result (returns-clause-read c) (bracket_within c.args.bang c.args.bytes.now)
+returns-clause-within c =
+    all_within (λ x. x.now) _ c.later_or.result (returns-clause-read c) (bracket_within c.args.bang c.args.bytes.now)

@@ -14,7 +14,8 @@ parts-smaller c = inner_less c.args.bang (found_inner c.args.bang c.parts.rest.n
 pub parts-preserved : goal.parts-preserved
 parts-preserved c =
     let found = found_inner c.args.bang c.parts.rest.now c.in-Some-item_at.ensures in
-    inside-next c.args.bang found c.parts.invariant c.is_inner_note-note.ensures c.either-head.ensures c.place_if-before.ensures
+    inside-next c.args.bang found c.parts.invariant c.is_inner_note-note.ensures c.either-head.ensures
+    c.place_if-before.ensures
 
 pub returns : goal.returns
 returns c = inside-ends c.args.bang c.parts.invariant c.in_default.ensures.cases

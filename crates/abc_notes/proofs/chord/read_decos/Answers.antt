@@ -10,9 +10,13 @@ pub parts-preserved : goal.parts-preserved
 parts-preserved c =
     let found = found_inner c.args.bang c.parts.rest.now c.in-Some.ensures in
     record {
-      decos = said-next c.args.bang found decos_of deco_of (λ item more. refl) c.parts.decos c.in_ok-add_deco.ensures c.parts.invariant.decos;
+      decos =
+          said-next c.args.bang found decos_of deco_of (λ item more. refl) c.parts.decos c.in_ok-add_deco.ensures
+          c.parts.invariant.decos;
       within = omega (arith, inner_less c.args.bang found, c.parts.invariant.within);
     }
 
 pub returns : goal.returns
-returns c = said-end c.args.bang decos_of refl c.parts.rest.now (none_inner c.args.bang c.parts.rest.now c.in_default.ensures) c.parts.invariant.decos
+returns c =
+    said-end c.args.bang decos_of refl c.parts.rest.now (none_inner c.args.bang c.parts.rest.now c.in_default.ensures)
+    c.parts.invariant.decos

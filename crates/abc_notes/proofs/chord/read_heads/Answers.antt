@@ -17,5 +17,6 @@ parts-preserved c =
 pub returns : goal.returns
 returns c =
     let none = none_inner c.args.bang c.parts.rest.now c.in_default.ensures in
-    heads-end c.args.bang c.parts.heads c.parts.last c.parts.rest.now none c.in_ok-add_last.ensures c.parts.invariant.heads
+    heads-end c.args.bang c.parts.heads c.parts.last c.parts.rest.now none c.in_ok-add_last.ensures
+    c.parts.invariant.heads
     ∙ heads-are (senses c.args.bang c.args.inside.now)

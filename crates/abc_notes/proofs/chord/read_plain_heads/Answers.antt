@@ -10,9 +10,13 @@ pub parts-preserved : goal.parts-preserved
 parts-preserved c =
     let found = found_inner c.args.bang c.parts.rest.now c.in-Some.ensures in
     record {
-      heads = said-next c.args.bang found heads_in plain_head heads_in-cons c.parts.heads c.in_ok-add_plain_head.ensures c.parts.invariant.heads;
+      heads =
+          said-next c.args.bang found heads_in plain_head heads_in-cons c.parts.heads c.in_ok-add_plain_head.ensures
+          c.parts.invariant.heads;
       within = omega (arith, inner_less c.args.bang found, c.parts.invariant.within);
     }
 
 pub returns : goal.returns
-returns c = said-end c.args.bang heads_in refl c.parts.rest.now (none_inner c.args.bang c.parts.rest.now c.in_default.ensures) c.parts.invariant.heads
+returns c =
+    said-end c.args.bang heads_in refl c.parts.rest.now (none_inner c.args.bang c.parts.rest.now c.in_default.ensures)
+    c.parts.invariant.heads

@@ -27,7 +27,8 @@ abbrev pub decreases-brace_at-parts : goal.decreases-brace_at-parts
 decreases-brace_at-parts l = length l.rest
 
 abbrev pub invariant-brace_behind_chords-parts : goal.invariant-brace_behind_chords-parts
-invariant-brace_behind_chords-parts l = Passing l.bang l.head l.inside (option_map (λ x. x.now) l.bracket) (option_map (λ x. x.now) l.last) l.rest
+invariant-brace_behind_chords-parts l =
+    Passing l.bang l.head l.inside (option_map (λ x. x.now) l.bracket) (option_map (λ x. x.now) l.last) l.rest
 
 abbrev pub decreases-brace_behind_chords-parts : goal.decreases-brace_behind_chords-parts
 decreases-brace_behind_chords-parts l = length l.rest

@@ -17,4 +17,6 @@ parts-preserved c =
     }
 
 pub returns : goal.returns
-returns c = body-end c.args.bang c.parts.rest.now (none_part c.args.bang c.parts.rest.now c.in_default.ensures.read) c.parts.invariant.body
+returns c =
+    body-end c.args.bang c.parts.rest.now (none_part c.args.bang c.parts.rest.now c.in_default.ensures.read)
+    c.parts.invariant.body

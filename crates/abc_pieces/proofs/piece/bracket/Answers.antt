@@ -3,4 +3,6 @@ use Rattle.abc_pieces.specs.{declared.token.BracketOpening.BracketOpening, Forms
 use Rattle.abc_pieces.proofs.piece.bracket.Goals as goal
 
 pub returns-in-Ending-clause-read : goal.returns-in-Ending-clause-read
-returns-in-Ending-clause-read c = let e : opening c.args.rest.now ≡ BracketOpening.Ending = sym c.opening.ensures ∙ c.in-Ending.is in rw e (c.ending.ensures.read c.args.bang true)
+returns-in-Ending-clause-read c =
+    let e : opening c.args.rest.now ≡ BracketOpening.Ending = sym c.opening.ensures ∙ c.in-Ending.is in
+    rw e (c.ending.ensures.read c.args.bang true)

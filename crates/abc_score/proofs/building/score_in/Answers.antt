@@ -16,14 +16,17 @@ use Rattle.abc_score.specs.Voices.{IsGoodRead}
 use Rattle.abc_score.proofs.building.score_in.Goals as goal
 
 -- no fault is found among those of all voices
-none_found : (id unnamed : List ℕ) (items : List BodyItem) (voices : List ReadVoice) (fault : Option Fault) → id ≡ unnamed → fault ≡ None
+none_found : (id unnamed : List ℕ) (items : List BodyItem) (voices : List ReadVoice) (fault : Option Fault)
+    → id ≡ unnamed → fault ≡ None
     → IsFirstInOrder (faults_of_voices id items voices) fault → faults_of_voices unnamed items voices ≡ []
 none_found id unnamed items voices fault same none first =
-    ap (λ id. faults_of_voices id items voices) (sym same) ∙ subst (IsFirstInOrder (faults_of_voices id items voices)) none first
+    ap (λ id. faults_of_voices id items voices) (sym same)
+    ∙ subst (IsFirstInOrder (faults_of_voices id items voices)) none first
 
 pub score_with-requires-clause-good : goal.score_with-requires-clause-good
 score_with-requires-clause-good c =
-    all_of (λ (j : JudgedVoice). j.read) IsGoodRead c.in_ok-judged.judged.voices (rw c.in_ok-judged.ensures.reads c.in_ok-voices.ensures.good)
+    all_of (λ (j : JudgedVoice). j.read) IsGoodRead c.in_ok-judged.judged.voices
+    (rw c.in_ok-judged.ensures.reads c.in_ok-voices.ensures.good)
 
 pub score_with-requires-clause-clear : goal.score_with-requires-clause-clear
 score_with-requires-clause-clear c =
@@ -44,5 +47,7 @@ returns-in_ok-score_with-in-None-clause-good c =
     let header = c.args.header.now in let items = c.args.items.now in let read = c.in_ok-voices.ensures.value in
     let none = none_found _ _ items _ _ c.unnamed_of.ensures c.in-None.is c.in_ok-judged.ensures.fault in
     let clear = ap (faults_of_voices (unnamed_of header) items) (sym read) ∙ none in
-    let made = c.in_ok-score_with-in-None.ensures ∙ ap (score_with header items c.args.flow) (c.in_ok-judged.ensures.reads ∙ read) in
-    subst IsGoodScore (sym made) (good_score header items c.args.flow c.requires.header c.requires.items c.requires.few clear)
+    let made = c.in_ok-score_with-in-None.ensures
+    ∙ ap (score_with header items c.args.flow) (c.in_ok-judged.ensures.reads ∙ read) in
+    subst IsGoodScore (sym made)
+    (good_score header items c.args.flow c.requires.header c.requires.items c.requires.few clear)

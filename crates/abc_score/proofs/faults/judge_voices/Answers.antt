@@ -13,7 +13,8 @@ use Rattle.abc_score.specs.declared.keeping.JudgedVoice.{JudgedVoice}
 use Rattle.abc_score.proofs.faults.judge_voices.Goals as goal
 
 -- by equal faults, weights and a fault that is found
-judged_of : {faults more : List Fault} {all ws : List Weight} {found next : Option Fault} {old new : List Weight} → more ≡ faults → ws ≡ all
+judged_of : {faults more : List Fault} {all ws : List Weight} {found next : Option Fault} {old new : List Weight}
+    → more ≡ faults → ws ≡ all
     → next ≡ found → AreJudged faults all found old new → AreJudged more ws next old new
 judged_of a b c judged = rw (a, b, c) judged
 
@@ -22,7 +23,9 @@ loop-read-init c = rw c.new-judged.ensures (search (rules, none_judged, All-nil)
 
 pub loop-read-preserved : goal.loop-read-preserved
 loop-read-preserved c =
-    let of = voice_faults c.args.unnamed.now c.args.items.now in let v = c.in-Some.read in let cut = c.in-Some.ensures.steps.0 in
+    let of = voice_faults c.args.unnamed.now c.args.items.now in
+    let v = c.in-Some.read in
+    let cut = c.in-Some.ensures.steps.0 in
     let old = into_iter_items c.loop-read.read-iterator in let new = into_iter_items c.next.new.self in
     let judged : JudgedVoice = record { read = v; kept = c.in_ok-own.kept } in let done = reads_of c.loop-read.judged in
     let more : reads_of c.push.new.self ≡ done ++ v ∷ [] =
@@ -32,11 +35,14 @@ loop-read-preserved c =
           (ap (flat_map voice_weights) more ∙ sym (flat_map_more voice_weights [] done v)) c.earlier-fault.ensures.value
           (judged_both c.loop-read.invariant.judged c.in_ok-own.ensures.judged);
       reads = part_more (v ∷ []) new old done _ _ cut more c.loop-read.invariant.reads;
-      kept = rw c.in_ok-push.ensures.ok (All-push HasKept c.loop-read.judged judged c.loop-read.invariant.kept c.in_ok-own.ensures.kept);
+      kept =
+          rw c.in_ok-push.ensures.ok
+          (All-push HasKept c.loop-read.judged judged c.loop-read.invariant.kept c.in_ok-own.ensures.kept);
       good = all_left IsGoodRead old new v cut c.loop-read.invariant.good;
       count = count_left old new v _ _ cut c.in-Some.ensures.steps.1 c.loop-read.invariant.count;
     }
 
 pub returns-clause-judged : goal.returns-clause-judged
 returns-clause-judged c =
-    let all : reads_of c.loop-read.judged ≡ c.args.voices = grind (arith, common_steps) in rw all at c.loop-read.invariant.judged
+    let all : reads_of c.loop-read.judged ≡ c.args.voices = grind (arith, common_steps) in
+    rw all at c.loop-read.invariant.judged

@@ -9,6 +9,9 @@ returns-clause-judged c =
     let v = c.args.v.now in let unnamed = c.args.unnamed.now in let items = c.args.items.now in
     let own = faults_in v.first [] v.steps in let verses = verse_faults v.start.id unnamed items in
     let found =
-    c.in_ok-verses.ensures ∙ ap (λ id. verse_fault id unnamed items) c.as_slice.ensures ∙ verse_first v.start.id unnamed items c.requires.rise in
-    subst (λ z. AreJudged (own ++ verses) (voice_weights v) z c.args.weights.now c.judge_voice.new.weights) (sym c.earlier.ensures.value)
+    c.in_ok-verses.ensures
+    ∙ ap (λ id. verse_fault id unnamed items) c.as_slice.ensures
+    ∙ verse_first v.start.id unnamed items c.requires.rise in
+    subst (λ z. AreJudged (own ++ verses) (voice_weights v) z c.args.weights.now c.judge_voice.new.weights)
+    (sym c.earlier.ensures.value)
     (judged_with verses c.in_ok-own.ensures.judged found)

@@ -14,22 +14,31 @@ sign_parts : (first : InForce) (steps : Steps) (i : ℕ) (at : PlacedStep) → i
 sign_parts first steps i at less is =
     let before = reverse (take i steps) in let behind = drop (i + 1) steps in
     ap (signs first before) (at_front steps i at less is)
-    ∙ ap (λ z. tree_items_of (state_at first before) before at behind at.step ++ signs first z behind) (sym (nearest steps i at less is))
+    ∙ ap (λ z. tree_items_of (state_at first before) before at behind at.step ++ signs first z behind)
+    (sym (nearest steps i at less is))
 
 pub loop-i-init : goal.loop-i-init
 loop-i-init c = search (rules, none_so_far)
 
 pub loop-i-preserved : goal.loop-i-preserved
 loop-i-preserved c =
-    let first = c.args.v.now.first in let steps = c.as_slice-steps.result.now in let i = c.loop-i.i in let at = c.index-steps-i.result in
-    let before = reverse (take i steps) in let behind = drop (i + 1) steps in let near = nearest steps i at c.loop-i-test.true c.index-steps-i.is in
-    let judged = step_so_far first steps i c.loop-i-test.true c.index-steps-i.is c.loop-i.invariant.place c.split_at.ensures.front
-    c.split_at-in-loop-i.ensures.back c.loop-i.invariant.judged c.in_ok-judge_step.ensures.fault c.earlier-found.ensures.value
+    let first = c.args.v.now.first in
+    let steps = c.as_slice-steps.result.now in
+    let i = c.loop-i.i in
+    let at = c.index-steps-i.result in
+    let before = reverse (take i steps) in
+    let behind = drop (i + 1) steps in
+    let near = nearest steps i at c.loop-i-test.true c.index-steps-i.is in
+    let judged = step_so_far first steps i c.loop-i-test.true c.index-steps-i.is c.loop-i.invariant.place
+    c.split_at.ensures.front
+    c.split_at-in-loop-i.ensures.back c.loop-i.invariant.judged c.in_ok-judge_step.ensures.fault
+    c.earlier-found.ensures.value
     c.in_ok-judge_step.ensures.weights in
     record {
       judged = rw near judged.0;
       kept = λ whole.
-          let kept = c.in_ok-keep.ensures whole in let own_signs = tree_items_of (state_at first before) before at behind at.step in
+          let kept = c.in_ok-keep.ensures whole in
+          let own_signs = tree_items_of (state_at first before) before at behind at.step in
           let is_put : c.keep.new.kept.signs ≡ c.loop-i.kept.signs ++ own_signs =
           cc (kept.1, c.loop-i.invariant.place, c.split_at.ensures.front, c.split_at-in-loop-i.ensures.back) in
           part_more own_signs _ (signs first before (drop i steps)) c.loop-i.kept.signs _ _
@@ -42,7 +51,10 @@ loop-i-preserved c =
 
 pub loop-i-preserved-then-is_idle : goal.loop-i-preserved-then-is_idle
 loop-i-preserved-then-is_idle c =
-    let first = c.args.v.now.first in let steps = c.as_slice-steps.result.now in let i = c.loop-i.i in let at = c.index-steps-i.result in
+    let first = c.args.v.now.first in
+    let steps = c.as_slice-steps.result.now in
+    let i = c.loop-i.i in
+    let at = c.index-steps-i.result in
     let behind = drop (i + 1) steps in let near = nearest steps i at c.loop-i-test.true c.index-steps-i.is in
     let test : is_idle at.step ≡ true = sym c.is_idle.ensures ∙ c.if-is_idle.true in
     let idle = idle_at first (reverse (take i steps)) at behind test in
@@ -60,8 +72,10 @@ loop-i-preserved-then-is_idle c =
 pub returns-then-is_end-clause-judged : goal.returns-then-is_end-clause-judged
 returns-then-is_end-clause-judged c =
     let first = c.args.v.now.first in let steps = c.as_slice-steps.result.now in
-    let judged = step_so_far first steps c.loop-i.i c.loop-i-test.true c.index-steps-i.is c.loop-i.invariant.place c.split_at.ensures.front
-    c.split_at-in-loop-i.ensures.back c.loop-i.invariant.judged c.in_ok-judge_step.ensures.fault c.earlier-found.ensures.value
+    let judged = step_so_far first steps c.loop-i.i c.loop-i-test.true c.index-steps-i.is c.loop-i.invariant.place
+    c.split_at.ensures.front
+    c.split_at-in-loop-i.ensures.back c.loop-i.invariant.judged c.in_ok-judge_step.ensures.fault
+    c.earlier-found.ensures.value
     c.in_ok-judge_step.ensures.weights in
     let own : c.split_at-then-len-limit.result.1.now ≡ drop (length c.args.weights.now) c.judge_step.new.weights =
     cc (c.split_at-then-len-limit.ensures.back, c.as_slice.ensures, c.len-start.ensures) in
@@ -71,4 +85,5 @@ returns-then-is_end-clause-judged c =
 pub returns-clause-judged : goal.returns-clause-judged
 returns-clause-judged c =
     let steps = c.as_slice-steps.result.now in
-    rw c.as_slice-steps.ensures at (judged_whole (rw (drop_all c.loop-i.i steps c.loop-i-test.false) at c.loop-i.invariant.judged))
+    rw c.as_slice-steps.ensures at
+    (judged_whole (rw (drop_all c.loop-i.i steps c.loop-i-test.false) at c.loop-i.invariant.judged))

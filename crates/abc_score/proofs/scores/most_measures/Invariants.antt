@@ -6,4 +6,5 @@ use Rattle.abc_score.proofs.scores.most_measures.Given as goal
 
 abbrev pub invariant-loop-judged : goal.invariant-loop-judged
 invariant-loop-judged l =
-    fold max l.most (map own_measures (reads_of (drop l.judged-index l.voices))) ≡ fold max 0 (map own_measures (reads_of l.voices))
+    fold max l.most (map own_measures (reads_of (drop l.judged-index l.voices)))
+    ≡ fold max 0 (map own_measures (reads_of l.voices))

@@ -12,10 +12,15 @@ use Rattle.abc_score.proofs.scores.voices_with.Goals as goal
 
 pub loop-judged-preserved : goal.loop-judged-preserved
 loop-judged-preserved c =
-    let old = into_iter_items c.loop-judged.judged-iterator in let new = into_iter_items c.next.new.self in let cut = c.in-Some.ensures.steps.0 in
-    let IsClear : JudgedVoice → Type 0 = λ j. verse_fault j.read.start.id (unnamed_of c.args.header.now) c.args.items.now ≡ None in
+    let old = into_iter_items c.loop-judged.judged-iterator in
+    let new = into_iter_items c.next.new.self in
+    let cut = c.in-Some.ensures.steps.0 in
+    let IsClear : JudgedVoice → Type 0 =
+    λ j. verse_fault j.read.start.id (unnamed_of c.args.header.now) c.args.items.now ≡ None in
     record {
-      list = mapped_taken (voice_by_header c.args.header.now c.args.items.now c.args.n) c.loop-judged.out c.in_ok-push.ensures.ok c.in_ok-voice_by_header.ensures
+      list =
+          mapped_taken (voice_by_header c.args.header.now c.args.items.now c.args.n) c.loop-judged.out
+          c.in_ok-push.ensures.ok c.in_ok-voice_by_header.ensures
           (ap reads_of cut) c.loop-judged.invariant.list;
       good = all_left (λ (j : JudgedVoice). IsGoodRead j.read) old new _ cut c.loop-judged.invariant.good;
       kept = all_left HasKept old new _ cut c.loop-judged.invariant.kept;

@@ -15,6 +15,7 @@ invariant-loop-judged l = record {
       ≡ map (voice_by_header l.header l.items l.n) (reads_of (into_iter_items l.initial.judged-iterator));
   good : All (λ (j : JudgedVoice). IsGoodRead j.read) (into_iter_items l.judged-iterator);
   kept : All HasKept (into_iter_items l.judged-iterator);
-  clear : All (λ (j : JudgedVoice). verse_fault j.read.start.id (unnamed_of l.header) l.items ≡ None) (into_iter_items l.judged-iterator);
+  clear : All (λ (j : JudgedVoice). verse_fault j.read.start.id (unnamed_of l.header) l.items ≡ None)
+      (into_iter_items l.judged-iterator);
   count : into_iter_len l.judged-iterator ≡ length (into_iter_items l.judged-iterator);
 }

@@ -11,5 +11,6 @@ returns-clause-good c =
     record {
       few = c.in_ok-steps-2.ensures.few;
       first = subst IsGoodForce (sym c.in_ok-first.ensures) at_start;
-      steps = subst (All IsGoodPlacedStep) (sym c.in_ok-steps-2.ensures.same) (c.in_ok-steps.ensures.good c.requires.items);
+      steps =
+          subst (All IsGoodPlacedStep) (sym c.in_ok-steps-2.ensures.same) (c.in_ok-steps.ensures.good c.requires.items);
     }

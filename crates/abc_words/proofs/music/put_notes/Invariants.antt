@@ -6,5 +6,7 @@ abbrev pub invariant-loop-note : goal.invariant-loop-note
 invariant-loop-note l = record {
   row : l.row ≡ row_of l.ends l.last;
   len : length l.rows.items ≡ length l.fn.rows.items;
-  rows : (k : ℕ) → k < length l.fn.rows.items → with_notes (slice_index_or l.rows.items k no_music) (notes_on k l.ends (drop l.note-index l.notes)) ≡ with_notes (slice_index_or l.fn.rows.items k no_music) (notes_on k l.ends l.notes);
+  rows : (k : ℕ) → k < length l.fn.rows.items
+      → with_notes (slice_index_or l.rows.items k no_music) (notes_on k l.ends (drop l.note-index l.notes))
+      ≡ with_notes (slice_index_or l.fn.rows.items k no_music) (notes_on k l.ends l.notes);
 }

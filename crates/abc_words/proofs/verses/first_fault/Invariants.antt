@@ -6,5 +6,6 @@ abbrev pub invariant-loop-verse : goal.invariant-loop-verse
 invariant-loop-verse l = record {
   len : length l.counts.items ≡ l.rows;
   counts : (k : ℕ) → k < l.rows → slice_index l.counts.items k ≡ number_on k (take l.verse-index l.verses);
-  faults : first_verse_fault (faults_from (take l.verse-index l.verses) (drop l.verse-index l.verses)) ≡ first_verse_fault (faults_from [] l.verses);
+  faults : first_verse_fault (faults_from (take l.verse-index l.verses) (drop l.verse-index l.verses))
+      ≡ first_verse_fault (faults_from [] l.verses);
 }

@@ -4,7 +4,8 @@ use Rattle.abc_words.proofs.verses.verses_of_voice.Given as goal
 
 abbrev pub invariant-loop-item : goal.invariant-loop-item
 invariant-loop-item l = record {
-  verses : l.verses ++ verses_from l.id l.unnamed (reverse (take l.item-index l.items)) (drop l.item-index l.items) ≡ verses_from l.id l.unnamed [] l.items;
+  verses : l.verses ++ verses_from l.id l.unnamed (reverse (take l.item-index l.items)) (drop l.item-index l.items)
+      ≡ verses_from l.id l.unnamed [] l.items;
   place : l.place ≡ place_at l.id l.unnamed (reverse (take l.item-index l.items));
   row : l.place.row ≤ l.item-index;
 }

@@ -10,12 +10,18 @@ use Rattle.abc_words.proofs.words.words_of_events.Goals as goal
 
 pub loop-event-preserved : goal.loop-event-preserved
 loop-event-preserved c =
-    made_more (event_words (music_rows c.args.id.now c.args.unnamed.now c.args.items.now c.args.notes.now) (verse_count c.args.id.now c.args.unnamed.now c.args.items.now))
+    made_more
+    (event_words (music_rows c.args.id.now c.args.unnamed.now c.args.items.now c.args.notes.now)
+    (verse_count c.args.id.now c.args.unnamed.now c.args.items.now))
     c.loop-event.event c.loop-event.words c.push.new.self c.in_ok-words_at.field-0
-    (at_event (music_rows c.args.id.now c.args.unnamed.now c.args.items.now c.args.notes.now) (verse_count c.args.id.now c.args.unnamed.now c.args.items.now) c.args.count c.loop-event.event
+    (at_event (music_rows c.args.id.now c.args.unnamed.now c.args.items.now c.args.notes.now)
+    (verse_count c.args.id.now c.args.unnamed.now c.args.items.now) c.args.count c.loop-event.event
     c.in_ok-all.all c.in_ok-words_at.field-0 c.loop-event-test.true
     (c.in_ok-all.ensures
-    ∙ ap (λ n. map (verse_places (music_rows c.args.id.now c.args.unnamed.now c.args.items.now c.args.notes.now) c.args.count) (range_with_len 0 n)) c.in_ok-verses.ensures.value)
+    ∙ ap (λ n.
+    map (verse_places (music_rows c.args.id.now c.args.unnamed.now c.args.items.now c.args.notes.now) c.args.count)
+    (range_with_len 0 n))
+    c.in_ok-verses.ensures.value)
     (c.in_ok-words_at.ensures ∙ ap (map (λ ws. slice_index_or ws c.loop-event.event None)) c.as_slice.ensures))
     c.loop-event.invariant c.in_ok-push.ensures.ok
 
@@ -23,20 +29,36 @@ pub returns-clause-len : goal.returns-clause-len
 returns-clause-len c =
     let end : c.loop-event.event ≡ c.args.count = omega arith in
     ap length c.loop-event.invariant
-    ∙ (length-map-range_with_len (event_words (music_rows c.args.id.now c.args.unnamed.now c.args.items.now c.args.notes.now) (verse_count c.args.id.now c.args.unnamed.now c.args.items.now)) 0 c.loop-event.event ∙ end)
+    ∙ (length-map-range_with_len
+    (event_words (music_rows c.args.id.now c.args.unnamed.now c.args.items.now c.args.notes.now)
+    (verse_count c.args.id.now c.args.unnamed.now c.args.items.now))
+    0 c.loop-event.event
+    ∙ end)
 
 pub returns-clause-verses : goal.returns-clause-verses
 returns-clause-verses c =
-    all_long (music_rows c.args.id.now c.args.unnamed.now c.args.items.now c.args.notes.now) (verse_count c.args.id.now c.args.unnamed.now c.args.items.now) c.loop-event.event c.loop-event.words c.loop-event.invariant
+    all_long (music_rows c.args.id.now c.args.unnamed.now c.args.items.now c.args.notes.now)
+    (verse_count c.args.id.now c.args.unnamed.now c.args.items.now) c.loop-event.event c.loop-event.words
+    c.loop-event.invariant
 
-are : (c : goal.After-drop-all-inside-2) → c.loop-event.words ≡ words_of_events c.args.id.now c.args.unnamed.now c.args.items.now c.args.notes.now c.args.count
+are : (c : goal.After-drop-all-inside-2)
+    → c.loop-event.words
+    ≡ words_of_events c.args.id.now c.args.unnamed.now c.args.items.now c.args.notes.now c.args.count
 are c =
     let end : c.loop-event.event ≡ c.args.count = omega arith in
     c.loop-event.invariant
-    ∙ ap (λ n. map (event_words (music_rows c.args.id.now c.args.unnamed.now c.args.items.now c.args.notes.now) (verse_count c.args.id.now c.args.unnamed.now c.args.items.now)) (range_with_len 0 n)) end
+    ∙ ap (λ n.
+    map (event_words (music_rows c.args.id.now c.args.unnamed.now c.args.items.now c.args.notes.now)
+    (verse_count c.args.id.now c.args.unnamed.now c.args.items.now))
+    (range_with_len 0 n))
+    end
 
 pub returns-clause-own : goal.returns-clause-own
-returns-clause-own c apart i verse d inside less within = own_words c.args.id.now c.args.unnamed.now c.args.items.now c.args.notes.now c.args.count i verse d c.loop-event.words (are c) apart inside less within
+returns-clause-own c apart i verse d inside less within =
+    own_words c.args.id.now c.args.unnamed.now c.args.items.now c.args.notes.now c.args.count i verse d
+    c.loop-event.words (are c) apart inside less within
 
 pub returns-clause-others : goal.returns-clause-others
-returns-clause-others c event verse free less within = no_words_elsewhere c.args.id.now c.args.unnamed.now c.args.items.now c.args.notes.now c.args.count event verse c.loop-event.words (are c) free less within
+returns-clause-others c event verse free less within =
+    no_words_elsewhere c.args.id.now c.args.unnamed.now c.args.items.now c.args.notes.now c.args.count event verse
+    c.loop-event.words (are c) free less within

@@ -11,11 +11,15 @@ pub write_systems-requires : goal.write_systems-requires
 write_systems-requires g c =
     let text = c.args.text in
     subst (λ outcomes. AreListable outcomes) (sym c.as_slice.ensures)
-    (c.outcomes_are_listable.ensures (terms_in (manner_of c.args.how) text) (book_of text).tunes c.in-Ok.book.outcomes c.in-Ok.ensures.set)
+    (c.outcomes_are_listable.ensures (terms_in (manner_of c.args.how) text) (book_of text).tunes c.in-Ok.book.outcomes
+    c.in-Ok.ensures.set)
 
 pub returns : goal.returns
 returns g c =
-    answer_by (Command.Systems c.args.how.flow c.args.table c.args.how.by) c.args.text (systems_called c.args.table c.as_slice.result.now)
-    (calls_systems c.lists_the_book.ensures (manner_of c.args.how) c.args.table c.args.text c.as_slice.result.now (let few = c.requires.within in omega (arith, few))
-    (subst (λ outcomes. AreSet (manner_of c.args.how) c.args.text outcomes) (sym c.as_slice.ensures) c.in-Ok.ensures.set))
+    answer_by (Command.Systems c.args.how.flow c.args.table c.args.how.by) c.args.text
+    (systems_called c.args.table c.as_slice.result.now)
+    (calls_systems c.lists_the_book.ensures (manner_of c.args.how) c.args.table c.args.text c.as_slice.result.now
+    (let few = c.requires.within in omega (arith, few))
+    (subst (λ outcomes. AreSet (manner_of c.args.how) c.args.text outcomes) (sym c.as_slice.ensures)
+    c.in-Ok.ensures.set))
     _ _ c.write_systems.result c.write_systems.ensures

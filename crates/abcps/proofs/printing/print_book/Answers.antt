@@ -4,7 +4,9 @@ use Rattle.{abcps.proofs.Batches.IsCounted, set_pages.proofs.Readying.{book_coun
 use Rattle.abcps.proofs.printing.print_book.Goals as goal
 
 pub print_all-requires-clause-counted : goal.print_all-requires-clause-counted
-print_all-requires-clause-counted g c κs within = let same = c.as_slice.ensures ∙ ap (λ (b : Book). b.tunes) c.in_ok-book.ensures.book in subst (λ tunes. All IsCounted tunes) (sym same) (book_counted c.args.text)
+print_all-requires-clause-counted g c κs within =
+    let same = c.as_slice.ensures ∙ ap (λ (b : Book). b.tunes) c.in_ok-book.ensures.book in
+    subst (λ tunes. All IsCounted tunes) (sym same) (book_counted c.args.text)
 
 pub returns : goal.returns
 returns g c = c.print_all.ensures c.args.text (record {

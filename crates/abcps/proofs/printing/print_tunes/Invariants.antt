@@ -10,7 +10,9 @@ abbrev pub invariant-batches : goal.invariant-batches
 invariant-batches g l = record {
   way :
       IsSoFar (terms_of l.setting.defaults.now l.setting.paper.now l.setting.how) l.plan l.tunes l.rest
-      (stream (g.O.Sink.taken l.fn.output) (g.O.Sink.taken l.output) (g.O.Sink.faults l.fn.output) (g.O.Sink.faults l.output)) l.run;
+      (stream (g.O.Sink.taken l.fn.output) (g.O.Sink.taken l.output) (g.O.Sink.faults l.fn.output)
+      (g.O.Sink.faults l.output))
+      l.run;
   good : All IsGoodTune l.rest;
   counted : All IsCounted l.rest;
 }

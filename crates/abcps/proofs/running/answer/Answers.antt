@@ -3,10 +3,13 @@ use mir.Syntax.{w8}
 use Rattle.abcps.proofs.running.answer.Goals as goal
 
 pub returns-in-Set : goal.returns-in-Set
-returns-in-Set g c = let by = to_z-of_z w8 c.in-Set.by (record { sfits = omega arith }) in rw c.in-Set.is (rw by at c.set.ensures)
+returns-in-Set g c =
+    let by = to_z-of_z w8 c.in-Set.by (record { sfits = omega arith }) in rw c.in-Set.is (rw by at c.set.ensures)
 
 pub returns-in-Systems : goal.returns-in-Systems
-returns-in-Systems g c = let by = to_z-of_z w8 c.in-Systems.by (record { sfits = omega arith }) in rw c.in-Systems.is (rw by at c.systems.ensures)
+returns-in-Systems g c =
+    let by = to_z-of_z w8 c.in-Systems.by (record { sfits = omega arith }) in
+    rw c.in-Systems.is (rw by at c.systems.ensures)
 
 pub returns-in-Inspect : goal.returns-in-Inspect
 returns-in-Inspect g c = rw (c.in-Inspect.is, ← c.as_slice.ensures) c.inspect.ensures

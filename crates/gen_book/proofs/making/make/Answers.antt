@@ -3,7 +3,9 @@ use Rattle.gen_book.{specs.Book.tunes, proofs.{More.{one_tune}, Sizes.book_short
 use Rattle.gen_book.proofs.making.make.Goals as goal
 
 pub loop-i-preserved : goal.loop-i-preserved
-loop-i-preserved c = one_tune c.loop-i.out c.put_tune.new.out _ c.args.n c.loop-i.i (omega (arith, c.loop-i-test.true)) c.loop-i.invariant c.in_ok-put_tune.ensures
+loop-i-preserved c =
+    one_tune c.loop-i.out c.put_tune.new.out _ c.args.n c.loop-i.i (omega (arith, c.loop-i-test.true))
+    c.loop-i.invariant c.in_ok-put_tune.ensures
 
 pub returns-clause-short : goal.returns-clause-short
 returns-clause-short c =

@@ -3,4 +3,5 @@ use Rattle.gen_book.specs.Book.{lines_behind}
 use Rattle.gen_book.proofs.making.put_lines.Given as goal
 
 abbrev pub invariant-loop-k : goal.invariant-loop-k
-invariant-loop-k l = record { text : l.out ++ lines_behind (16 - l.k) l.s ≡ l.fn.out ++ lines_behind 16 l.i; small : l.s < 2 ^ 31 }
+invariant-loop-k l =
+    record { text : l.out ++ lines_behind (16 - l.k) l.s ≡ l.fn.out ++ lines_behind 16 l.i; small : l.s < 2 ^ 31 }

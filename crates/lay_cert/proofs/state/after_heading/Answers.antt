@@ -11,7 +11,8 @@ returns-then-choosing-clause-step c es js v =
     (λ bar l e. c.in_default-read_choice.ensures bar l e)
     (λ ends e. elim c.then-choosing.branch [
       | then-choosing-via-then-choosing w ↦ w.if-choosing.true ends
-      | then-choosing-via-else-choosing+in_ok-is_line+then-not-branch w ↦ true≢false (sym (w.in_ok-is_line.ensures.1 e) ∙ w.if-not-branch.true)
+      | then-choosing-via-else-choosing+in_ok-is_line+then-not-branch w ↦
+          true≢false (sym (w.in_ok-is_line.ensures.1 e) ∙ w.if-not-branch.true)
     ])
 
 pub returns-clause-step : goal.returns-clause-step

@@ -14,9 +14,11 @@ returns-in_ok-add_break-in-Some-clause-step c es js v =
       (
         v,
         c.in_ok-add_break-in-Some.ensures.sound,
-        entry_same c.in_ok-add_break-in-Some.field-0 k.tune k.bars k.spans (k.breaks ++ c.args.bar ∷ []) m.0 m.1 m.2 m.3,
+        entry_same c.in_ok-add_break-in-Some.field-0 k.tune k.bars k.spans (k.breaks ++ c.args.bar ∷ []) m.0 m.1 m.2
+            m.3,
       ),
     )
 
 pub returns-in-None-clause-step : goal.returns-in-None-clause-step
-returns-in-None-clause-step c es js v = none_break es c.args.choosing c.args.bar c.requires.sound c.requires.small (sym c.next_cost.ensures ∙ c.in-None.is)
+returns-in-None-clause-step c es js v =
+    none_break es c.args.choosing c.args.bar c.requires.sound c.requires.small (sym c.next_cost.ensures ∙ c.in-None.is)

@@ -9,20 +9,28 @@ use Rattle.lay_cert.proofs.state.span_next.Goals as goal
 
 pub returns-then-not-is_empty-clause-step : goal.returns-then-not-is_empty-clause-step
 returns-then-not-is_empty-clause-step c es js v =
-    none_span es c.args.choosing c.args.span c.requires.sound c.requires.small.0 c.requires.small.1 c.requires.small.2 (λ none follows.
+    none_span es c.args.choosing c.args.span c.requires.sound c.requires.small.0 c.requires.small.1 c.requires.small.2
+    (λ none follows.
     elim c.then-not-is_empty.branch [
       | then-not-is_empty-via-then-not-is_empty w ↦
-          true≢false (sym (c.is_empty.ensures ∙ ap (λ xs. length xs == 0) (c.as_slice.ensures ∙ none)) ∙ w.if-not-is_empty.true)
-      | then-not-is_empty-via-else-not-is_empty+then-not-may_follow w ↦ w.may_follow.ensures.no w.if-not-may_follow.true follows
+          true≢false
+          (sym (c.is_empty.ensures ∙ ap (λ xs. length xs == 0) (c.as_slice.ensures ∙ none)) ∙ w.if-not-is_empty.true)
+      | then-not-is_empty-via-else-not-is_empty+then-not-may_follow w ↦
+          w.may_follow.ensures.no w.if-not-may_follow.true follows
     ])
 
 pub returns-clause-step : goal.returns-clause-step
 returns-clause-step c es js v =
     let k = c.args.choosing in let m = c.in_ok-add_span.ensures.more in
-    let none : k.breaks ≡ [] = sym c.as_slice.ensures ∙ no_length c.as_slice.result.now (sym c.is_empty.ensures ∙ c.if-not-is_empty.false) in (
+    let none : k.breaks ≡ [] =
+    sym c.as_slice.ensures ∙ no_length c.as_slice.result.now (sym c.is_empty.ensures ∙ c.if-not-is_empty.false) in (
       ListingLine.OneSpan c.args.span,
       refl,
-      (none, subst (λ o. MayFollow k.bars o c.args.span) c.requires.sound.last (c.may_follow.ensures.yes c.if-not-may_follow.false)),
+      (
+        none,
+        subst (λ o. MayFollow k.bars o c.args.span) c.requires.sound.last
+            (c.may_follow.ensures.yes c.if-not-may_follow.false),
+      ),
       (
         v,
         c.in_ok-add_span.ensures.sound,

@@ -25,20 +25,33 @@ invariant_of-frame c =
     }
 
 pub measure_staves-requires-clause-each : goal.measure_staves-requires-clause-each
-measure_staves-requires-clause-each c = voices_count c.args.s.now c.args.t.now c.as_slice-2.result.now c.as_slice-2.ensures c.requires.times c.args.voices.now c.requires.good c.requires.voices
+measure_staves-requires-clause-each c =
+    voices_count c.args.s.now c.args.t.now c.as_slice-2.result.now c.as_slice-2.ensures c.requires.times
+    c.args.voices.now c.requires.good c.requires.voices
 
 pub measure_staves-requires-clause-verses : goal.measure_staves-requires-clause-verses
-measure_staves-requires-clause-verses c = subst (λ vs. verses_on vs ≤ 128) (sym c.requires.voices) (few_verses c.args.s.now c.requires.good)
+measure_staves-requires-clause-verses c =
+    subst (λ vs. verses_on vs ≤ 128) (sym c.requires.voices) (few_verses c.args.s.now c.requires.good)
 
 pub columns_in-requires-clause-good : goal.columns_in-requires-clause-good
 columns_in-requires-clause-good c =
-    let staves = c.as_slice-3.ensures ∙ c.in_ok-staves.ensures ∙ ap (λ vs. map (measure_staff (c.args.a == c.args.m) c.as_slice.result.now c.as_slice-2.result.now c.args.m) (grouped is_drawn_lower vs)) c.requires.voices in
-    subst HaveGoodMarks (sym staves) (staves_good c.as_slice.result.now c.as_slice-2.result.now c.args.m (c.args.a == c.args.m) c.args.s.now c.requires.good)
+    let staves = c.as_slice-3.ensures
+    ∙ c.in_ok-staves.ensures
+    ∙ ap (λ vs.
+    map (measure_staff (c.args.a == c.args.m) c.as_slice.result.now c.as_slice-2.result.now c.args.m)
+    (grouped is_drawn_lower vs))
+    c.requires.voices in
+    subst HaveGoodMarks (sym staves)
+    (staves_good c.as_slice.result.now c.as_slice-2.result.now c.args.m (c.args.a == c.args.m) c.args.s.now
+    c.requires.good)
 
 pub returns-clause-places : goal.returns-clause-places
 returns-clause-places c =
-    ok_through (λ r. keys_in r ≡ c.as_slice.result.now) (All (λ d. IsInSystem c.args.t.now.lengths c.args.m (c.args.m + 1) d.key))
-    (λ r e. places (IsInSystem c.args.t.now.lengths c.args.m (c.args.m + 1)) c.in_ok-keys.keys r c.in_ok-keys.ensures.places (e ∙ c.as_slice.ensures))
+    ok_through (λ r. keys_in r ≡ c.as_slice.result.now)
+    (All (λ d. IsInSystem c.args.t.now.lengths c.args.m (c.args.m + 1) d.key))
+    (λ r e.
+    places (IsInSystem c.args.t.now.lengths c.args.m (c.args.m + 1)) c.in_ok-keys.keys r c.in_ok-keys.ensures.places
+    (e ∙ c.as_slice.ensures))
     c.columns_in.result c.columns_in.ensures.keys
 
 pub returns-clause-bar : goal.returns-clause-bar
@@ -47,8 +60,10 @@ returns-clause-bar c =
     (λ r e some.
     let same = e ∙ c.as_slice.ensures in
     end_with_bar c.args.t.now.lengths c.args.m r (subst Rises (sym same) c.in_ok-keys.ensures.keys.rise)
-    (places (IsInSystem c.args.t.now.lengths c.args.m (c.args.m + 1)) c.in_ok-keys.keys r c.in_ok-keys.ensures.places same)
+    (places (IsInSystem c.args.t.now.lengths c.args.m (c.args.m + 1)) c.in_ok-keys.keys r c.in_ok-keys.ensures.places
+    same)
     (subst (λ ks. Contains ks (key_at c.args.m (slice_index c.args.t.now.lengths c.args.m) Class.Bar 0)) (sym same)
     (c.in_ok-keys.ensures.keys.all (key_at c.args.m (slice_index c.args.t.now.lengths c.args.m) Class.Bar 0)
-    (called_has_bar (c.args.a == c.args.m) c.args.s.now c.args.t.now.lengths c.args.m c.requires.good some c.requires.within))))
+    (called_has_bar (c.args.a == c.args.m) c.args.s.now c.args.t.now.lengths c.args.m c.requires.good some
+    c.requires.within))))
     c.columns_in.result c.columns_in.ensures.keys

@@ -4,6 +4,9 @@ use Rattle.lay_columns.proofs.measures.measure_staff.Given as goal
 
 abbrev pub invariant-loop-v : goal.invariant-loop-v
 invariant-loop-v l = record {
-  marks : l.pen.marks ++ parts_from (measure_part l.begins l.frame.keys.now l.frame.lengths.now l.frame.a) l.first (drop l.v-index l.voices) ≡ parts_from (measure_part l.begins l.frame.keys.now l.frame.lengths.now l.frame.a) 1 l.voices;
+  marks : l.pen.marks
+      ++ parts_from (measure_part l.begins l.frame.keys.now l.frame.lengths.now l.frame.a) l.first
+      (drop l.v-index l.voices)
+      ≡ parts_from (measure_part l.begins l.frame.keys.now l.frame.lengths.now l.frame.a) 1 l.voices;
   few : l.first + verses_on (drop l.v-index l.voices) ≤ 129;
 }

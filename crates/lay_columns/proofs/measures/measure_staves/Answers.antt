@@ -10,16 +10,35 @@ use Rattle.lay_columns.specs.Measures.{measure_staff}
 use Rattle.lay_columns.proofs.measures.measure_staves.Goals as goal
 
 pub measure_staff-requires-clause-verses : goal.measure_staff-requires-clause-verses
-measure_staff-requires-clause-verses c = let few = c.staves.invariant.verses in omega (arith, few, verses_take (c.lower_count-count.result + 1) c.staves.rest.now)
+measure_staff-requires-clause-verses c =
+    let few = c.staves.invariant.verses in
+    omega (arith, few, verses_take (c.lower_count-count.result + 1) c.staves.rest.now)
 
 pub staves-preserved : goal.staves-preserved
 staves-preserved c =
-    let rest = c.staves.rest.now in let n = c.lower_count-count.result in let more = rest_from (n + 1) rest in let fewer = verses_drop (n + 1) rest in let few = c.staves.invariant.verses in
+    let rest = c.staves.rest.now in
+    let n = c.lower_count-count.result in
+    let more = rest_from (n + 1) rest in
+    let fewer = verses_drop (n + 1) rest in
+    let few = c.staves.invariant.verses in
     let behind = ap verses_on more in record {
-      staves = group_turn is_drawn_lower (measure_staff c.args.begins c.args.frame.now.keys.now c.args.frame.now.lengths.now c.args.frame.now.a) rest n c.staves.staves c.push.new.self _ c.in-len1-up.len_at_least c.lower_count-count.ensures.value
-          (c.in_ok-push.ensures.ok ∙ ap (λ staff. c.staves.staves ++ staff ∷ []) c.in_ok-measure_staff.ensures) c.staves.invariant.staves;
-      each = subst (All (λ v. length v.measures ≡ length c.args.frame.now.lengths.now)) (sym more) (All-drop (λ v. length v.measures ≡ length c.args.frame.now.lengths.now) (n + 1) rest c.staves.invariant.each);
-      good = subst (All (λ v. AreGoodMeasures v.measures)) (sym more) (All-drop (λ v. AreGoodMeasures v.measures) (n + 1) rest c.staves.invariant.good);
+      staves =
+          group_turn is_drawn_lower
+          (measure_staff c.args.begins c.args.frame.now.keys.now c.args.frame.now.lengths.now c.args.frame.now.a) rest n
+          c.staves.staves c.push.new.self _ c.in-len1-up.len_at_least c.lower_count-count.ensures.value
+          (c.in_ok-push.ensures.ok ∙ ap (λ staff. c.staves.staves ++ staff ∷ []) c.in_ok-measure_staff.ensures)
+          c.staves.invariant.staves;
+      each =
+          subst (All (λ v. length v.measures ≡ length c.args.frame.now.lengths.now)) (sym more)
+          (All-drop (λ v. length v.measures ≡ length c.args.frame.now.lengths.now) (n + 1) rest
+          c.staves.invariant.each);
+      good =
+          subst (All (λ v. AreGoodMeasures v.measures)) (sym more)
+          (All-drop (λ v. AreGoodMeasures v.measures) (n + 1) rest c.staves.invariant.good);
       verses = omega (arith, fewer, few, behind);
-      shorter = let less = ap (λ vs. length vs) more in let left = length-drop (n + 1) rest in let before = c.staves.invariant.shorter in omega (arith, less, left, before);
+      shorter =
+          let less = ap (λ vs. length vs) more in
+          let left = length-drop (n + 1) rest in
+          let before = c.staves.invariant.shorter in
+          omega (arith, less, left, before);
     }

@@ -8,7 +8,9 @@ use Rattle.lay_columns.proofs.measures.measure_staves.Given as goal
 
 abbrev pub invariant-staves : goal.invariant-staves
 invariant-staves l = record {
-  staves : l.staves ++ map (measure_staff l.begins l.frame.keys.now l.frame.lengths.now l.frame.a) (grouped is_drawn_lower l.rest) ≡ map (measure_staff l.begins l.frame.keys.now l.frame.lengths.now l.frame.a) (grouped is_drawn_lower l.voices);
+  staves : l.staves
+      ++ map (measure_staff l.begins l.frame.keys.now l.frame.lengths.now l.frame.a) (grouped is_drawn_lower l.rest)
+      ≡ map (measure_staff l.begins l.frame.keys.now l.frame.lengths.now l.frame.a) (grouped is_drawn_lower l.voices);
   each : All (λ v. length v.measures ≡ length l.frame.lengths.now) l.rest;
   good : All (λ v. AreGoodMeasures v.measures) l.rest;
   verses : verses_on l.rest ≤ 128;

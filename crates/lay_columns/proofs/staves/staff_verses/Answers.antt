@@ -6,14 +6,26 @@ use Rattle.mus_marks.proofs.Parts.{verses_drop, verses_take}
 use Rattle.lay_columns.proofs.staves.staff_verses.Goals as goal
 
 pub verses_on-requires : goal.verses_on-requires
-verses_on-requires c = let few = c.staves.invariant.few in omega (arith, few, verses_take (c.lower_count-count.result + 1) c.staves.rest.now)
+verses_on-requires c =
+    let few = c.staves.invariant.few in
+    omega (arith, few, verses_take (c.lower_count-count.result + 1) c.staves.rest.now)
 
 pub staves-preserved : goal.staves-preserved
 staves-preserved c =
-    let rest = c.staves.rest.now in let n = c.lower_count-count.result in let fewer = verses_drop (n + 1) rest in let few = c.staves.invariant.few in let more = rest_from (n + 1) rest in
+    let rest = c.staves.rest.now in
+    let n = c.lower_count-count.result in
+    let fewer = verses_drop (n + 1) rest in
+    let few = c.staves.invariant.few in
+    let more = rest_from (n + 1) rest in
     let behind = ap verses_on more in record {
-      verses = group_turn is_drawn_lower verses_on rest n c.staves.verses c.push.new.self _ c.in-len1-up.len_at_least c.lower_count-count.ensures.value
+      verses =
+          group_turn is_drawn_lower verses_on rest n c.staves.verses c.push.new.self _ c.in-len1-up.len_at_least
+          c.lower_count-count.ensures.value
           (c.in_ok-push.ensures.ok ∙ ap (λ n. c.staves.verses ++ n ∷ []) c.verses_on.ensures) c.staves.invariant.verses;
       few = omega (arith, fewer, few, behind);
-      shorter = let less = ap (λ vs. length vs) more in let left = length-drop (n + 1) rest in let before = c.staves.invariant.shorter in omega (arith, less, left, before);
+      shorter =
+          let less = ap (λ vs. length vs) more in
+          let left = length-drop (n + 1) rest in
+          let before = c.staves.invariant.shorter in
+          omega (arith, less, left, before);
     }

@@ -3,7 +3,11 @@ use Rattle.{mus_score.specs.Seats.{grouped}, mus_marks.specs.{Staff.verses_on, S
 use Rattle.lay_columns.proofs.staves.staff_verses.Given as goal
 
 abbrev pub invariant-staves : goal.invariant-staves
-invariant-staves l = record { verses : l.verses ++ map verses_on (grouped is_drawn_lower l.rest) ≡ map verses_on (grouped is_drawn_lower l.voices); few : verses_on l.rest ≤ 128; shorter : length l.rest ≤ length l.voices }
+invariant-staves l = record {
+  verses : l.verses ++ map verses_on (grouped is_drawn_lower l.rest) ≡ map verses_on (grouped is_drawn_lower l.voices);
+  few : verses_on l.rest ≤ 128;
+  shorter : length l.rest ≤ length l.voices;
+}
 
 abbrev pub decreases-staves : goal.decreases-staves
 decreases-staves l = length l.rest

@@ -10,7 +10,10 @@ spots_from-requires-clause-room c = (ready_first c.args.high c.args.blocks.now (
 pub returns-in-Ok-clause-within : goal.returns-in-Ok-clause-within
 returns-in-Ok-clause-within c =
     subst (λ spots. AreWithin c.args.high c.args.blocks.now spots) (sym c.in-Ok.ensures.spots)
-    (within_from c.args.high (record { page = 0; down = 0 }) c.args.blocks.now c.requires.good (ready_first c.args.high c.args.blocks.now (sym c.in-None.ensures)))
+    (within_from c.args.high (record { page = 0; down = 0 }) c.args.blocks.now c.requires.good
+    (ready_first c.args.high c.args.blocks.now (sym c.in-None.ensures)))
 
 pub returns-in-Ok-clause-filled : goal.returns-in-Ok-clause-filled
-returns-in-Ok-clause-filled c = subst (λ spots. AreFilled c.args.high c.args.blocks.now spots) (sym c.in-Ok.ensures.spots) (filled_so c.args.high c.args.blocks.now c.requires.good)
+returns-in-Ok-clause-filled c =
+    subst (λ spots. AreFilled c.args.high c.args.blocks.now spots) (sym c.in-Ok.ensures.spots)
+    (filled_so c.args.high c.args.blocks.now c.requires.good)

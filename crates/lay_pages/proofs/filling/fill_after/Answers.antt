@@ -10,11 +10,13 @@ spots_from-requires-clause-room c =
 
 pub returns-clause-within : goal.returns-clause-within
 returns-clause-within c =
-    behind_within c.args.high c.args.behind c.args.blocks.now c.first_place-place.result c.in_ok-filled.filled.spots c.first_place-place.ensures c.in_ok-filled.ensures.spots
+    behind_within c.args.high c.args.behind c.args.blocks.now c.first_place-place.result c.in_ok-filled.filled.spots
+    c.first_place-place.ensures c.in_ok-filled.ensures.spots
     c.requires.good c.requires.behind c.requires.fits
 
 pub returns-clause-follows : goal.returns-clause-follows
 returns-clause-follows c loose =
     subst CanFollow (sym c.in_ok-filled.ensures.behind)
     (end_of c.args.high c.args.high c.first_place-place.result c.args.blocks.now c.requires.good loose
-    (subst (λ behind. down_behind behind ≤ c.args.high) c.in_ok-filled.ensures.behind c.in_ok-filled.ensures.down) (omega arith))
+    (subst (λ behind. down_behind behind ≤ c.args.high) c.in_ok-filled.ensures.behind c.in_ok-filled.ensures.down)
+    (omega arith))

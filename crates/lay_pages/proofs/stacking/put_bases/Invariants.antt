@@ -4,7 +4,9 @@ use Rattle.lay_pages.proofs.stacking.put_bases.Given as goal
 
 abbrev pub invariant-loop-staff : goal.invariant-loop-staff
 invariant-loop-staff l = record {
-  bases : l.bases ++ bases_behind l.bottom (drop (length l.yielded) l.staves) (drop (length l.yielded) l.gaps) ≡ l.fn.bases ++ bases_behind l.fn.bottom l.staves l.gaps;
-  bottom : bottom_behind l.bottom (drop (length l.yielded) l.staves) (drop (length l.yielded) l.gaps) ≡ bottom_behind l.fn.bottom l.staves l.gaps;
+  bases : l.bases ++ bases_behind l.bottom (drop (length l.yielded) l.staves) (drop (length l.yielded) l.gaps)
+      ≡ l.fn.bases ++ bases_behind l.fn.bottom l.staves l.gaps;
+  bottom : bottom_behind l.bottom (drop (length l.yielded) l.staves) (drop (length l.yielded) l.gaps)
+      ≡ bottom_behind l.fn.bottom l.staves l.gaps;
   low : l.bottom ≤ 2 ^ 33 * (length l.yielded + 1);
 }

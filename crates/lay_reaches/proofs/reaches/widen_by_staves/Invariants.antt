@@ -6,5 +6,6 @@ abbrev pub invariant-loop-staff : goal.invariant-loop-staff
 invariant-loop-staff l = record {
   good : HaveGoodMarks (drop (length l.yielded) l.staves);
   lanes : l.start + lanes_of (drop (length l.yielded) l.verses) ≡ lanes_of l.verses;
-  columns : widened_by_staves l.columns l.start (drop (length l.yielded) l.staves) (drop (length l.yielded) l.verses) ≡ widened_by_staves l.fn.columns 0 l.staves l.verses;
+  columns : widened_by_staves l.columns l.start (drop (length l.yielded) l.staves) (drop (length l.yielded) l.verses)
+      ≡ widened_by_staves l.fn.columns 0 l.staves l.verses;
 }

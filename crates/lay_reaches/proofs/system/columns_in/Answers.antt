@@ -11,12 +11,23 @@ use Rattle.lay_reaches.proofs.system.columns_in.Goals as goal
 
 pub returns-clause-value : goal.returns-clause-value
 returns-clause-value c =
-    let keys = c.args.keys.now in let lengths = c.args.lengths.now in let staves = c.args.staves.now in let verses = c.args.verses.now in
-    let bare = c.deref_mut.ensures.value ∙ c.columns.view_is ∙ c.in_ok-columns.ensures in let lanes = ap (λ n. bare_columns keys lengths n) c.in_ok-lanes_of.ensures in
+    let keys = c.args.keys.now in
+    let lengths = c.args.lengths.now in
+    let staves = c.args.staves.now in
+    let verses = c.args.verses.now in
+    let bare = c.deref_mut.ensures.value ∙ c.columns.view_is ∙ c.in_ok-columns.ensures in
+    let lanes = ap (λ n. bare_columns keys lengths n) c.in_ok-lanes_of.ensures in
     let now : c.widen_by_staves.new.columns ≡ columns_of keys staves lengths verses =
-    c.in_ok-widen_by_staves.ensures ∙ ap (λ t. widened_by_staves t 0 staves verses) (bare ∙ lanes) ∙ columns_are lengths keys staves verses c.requires.counts in
-    let old = ap length bare in let many = bare_long lengths c.in_ok-lanes_of.field-0 keys in let new = ap length now in let as_many = columns_many lengths staves verses 0 keys in
-    let len = c.deref_mut.ensures.len in take_at c.widen_by_staves.new.columns _ c.columns.inside.items.len (grind (arith, old, many, new, as_many, len)) ∙ now
+    c.in_ok-widen_by_staves.ensures
+    ∙ ap (λ t. widened_by_staves t 0 staves verses) (bare ∙ lanes)
+    ∙ columns_are lengths keys staves verses c.requires.counts in
+    let old = ap length bare in
+    let many = bare_long lengths c.in_ok-lanes_of.field-0 keys in
+    let new = ap length now in
+    let as_many = columns_many lengths staves verses 0 keys in
+    let len = c.deref_mut.ensures.len in
+    take_at c.widen_by_staves.new.columns _ c.columns.inside.items.len (grind (arith, old, many, new, as_many, len))
+    ∙ now
 
 pub returns-clause-keys : goal.returns-clause-keys
 returns-clause-keys c =

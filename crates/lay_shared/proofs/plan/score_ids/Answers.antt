@@ -8,10 +8,12 @@ pub returns-clause-few : goal.returns-clause-few
 returns-clause-few c =
     IfOk-weaker c.ids_of_voices.result (λ ids. ids ≡ score_ids c.args.s.now) (λ ids. length ids < 2 ^ 32)
     (λ ids e. subst (λ i. length i < 2 ^ 32) (sym e) (few_ids c.args.s.now c.requires))
-    (subst (λ vs. IfOk c.ids_of_voices.result (λ ids. ids ≡ map (λ (v : Voice). v.id) vs)) c.as_slice.ensures c.ids_of_voices.ensures)
+    (subst (λ vs. IfOk c.ids_of_voices.result (λ ids. ids ≡ map (λ (v : Voice). v.id) vs)) c.as_slice.ensures
+    c.ids_of_voices.ensures)
 
 pub returns-clause-apart : goal.returns-clause-apart
 returns-clause-apart c =
     IfOk-weaker c.ids_of_voices.result (λ ids. ids ≡ score_ids c.args.s.now) (λ ids. AllPairs (λ i j. i ≢ j) ids)
     (λ ids e. subst (λ ids. AllPairs (λ i j. i ≢ j) ids) (sym e) (apart_ids c.args.s.now c.requires))
-    (subst (λ vs. IfOk c.ids_of_voices.result (λ ids. ids ≡ map (λ (v : Voice). v.id) vs)) c.as_slice.ensures c.ids_of_voices.ensures)
+    (subst (λ vs. IfOk c.ids_of_voices.result (λ ids. ids ≡ map (λ (v : Voice). v.id) vs)) c.as_slice.ensures
+    c.ids_of_voices.ensures)

@@ -4,5 +4,7 @@ use Rattle.lay_spans.proofs.marks.mark.Given as goal
 abbrev pub invariant-loop-bar : goal.invariant-loop-bar
 invariant-loop-bar l = record {
   count : length l.marks ≡ length l.fn.marks;
-  marked : (b : ℕ) → slice_index_or l.marks b false ≡ ((nat_lt 0 b && nat_lt b (length l.fn.marks)) && list_any (λ f. f == b) (take l.bar-index l.forced));
+  marked : (b : ℕ)
+      → slice_index_or l.marks b false
+      ≡ ((nat_lt 0 b && nat_lt b (length l.fn.marks)) && list_any (λ f. f == b) (take l.bar-index l.forced));
 }

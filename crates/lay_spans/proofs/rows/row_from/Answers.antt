@@ -10,78 +10,117 @@ use Rattle.lay_spans.proofs.Growing.{placed_more, seen_more, costs_more, free_mo
 use Rattle.lay_spans.proofs.rows.row_from.Goals.{After-as_slice-columns, After-greatest_force, In_ok-push}
 use Rattle.lay_spans.proofs.rows.row_from.Goals as goal
 
-columns : (g : _) (c : After-as_slice-columns g) → map (λ s. s.column.now) c.as_slice-columns.result.now ≡ span_columns c.args.starts.now c.args.others.now c.args.a (c.loop-m.m + 1)
+columns : (g : _) (c : After-as_slice-columns g)
+    → map (λ s. s.column.now) c.as_slice-columns.result.now
+    ≡ span_columns c.args.starts.now c.args.others.now c.args.a (c.loop-m.m + 1)
 columns g c =
     ap (λ seen. map (λ s. s.column.now) seen) c.as_slice-columns.ensures
     ∙ seen_more (λ s. s.column.now) c.loop-m.seen c.see.new.seen c.args.starts.now c.args.others.now c.args.a c.loop-m.m
-    (let l = c.loop-m.invariant.count in omega arith) (let l = c.loop-m-test.true in omega arith) c.requires.measures.same c.loop-m.invariant.columns
+    (let l = c.loop-m.invariant.count in omega arith) (let l = c.loop-m-test.true in omega arith)
+    c.requires.measures.same c.loop-m.invariant.columns
     (c.in_ok-see.ensures ∙ ap (λ r. map (λ s. s.column.now) c.loop-m.seen ++ r) c.measure.ensures)
 
 -- what the search wrote stands where it was lent
-at_is : (g : _) (c : After-greatest_force g) → take c.resize.new.self.len (c.greatest_force.new.at ++ drop (length c.greatest_force.new.at) c.resize.new.self.items) ≡ c.greatest_force.new.at
-at_is g c = take_at c.greatest_force.new.at _ c.resize.new.self.len (c.greatest_force.auto.at ∙ (ap (λ at. length at) c.deref_mut.ensures.value ∙ sym c.resize.new.self.ok.0))
+at_is : (g : _) (c : After-greatest_force g)
+    → take c.resize.new.self.len
+    (c.greatest_force.new.at ++ drop (length c.greatest_force.new.at) c.resize.new.self.items)
+    ≡ c.greatest_force.new.at
+at_is g c =
+    take_at c.greatest_force.new.at _ c.resize.new.self.len
+    (c.greatest_force.auto.at ∙ (ap (λ at. length at) c.deref_mut.ensures.value ∙ sym c.resize.new.self.ok.0))
 
 -- no longer span fits
 pub returns-in_default : goal.returns-in_default
 returns-in_default g c =
     let b = (goal.at.returns-in_default g c).After-as_slice-columns in
-    stops_at g.C.Spaced.reach_of g.C.Spring.length_of c.args.gaps.now c.args.width c.args.starts.now c.args.others.now (λ b. slice_index_or c.args.marks.now b false)
-    c.args.a c.loop-m.m c.loop-m.row c.requires.measures c.requires.inside (let l = c.loop-m-test.true in omega arith) c.loop-m.invariant.count c.loop-m.invariant.each
-    (never_stands (λ s. s.column.now) g.C.Spaced.reach_of g.C.Spring.length_of c.args.gaps.now c.args.width c.as_slice-columns.result.now
+    stops_at g.C.Spaced.reach_of g.C.Spring.length_of c.args.gaps.now c.args.width c.args.starts.now c.args.others.now
+    (λ b. slice_index_or c.args.marks.now b false)
+    c.args.a c.loop-m.m c.loop-m.row c.requires.measures c.requires.inside (let l = c.loop-m-test.true in omega arith)
+    c.loop-m.invariant.count c.loop-m.invariant.each
+    (never_stands (λ s. s.column.now) g.C.Spaced.reach_of g.C.Spring.length_of c.args.gaps.now c.args.width
+    c.as_slice-columns.result.now
     (span_columns c.args.starts.now c.args.others.now c.args.a (c.loop-m.m + 1)) (columns g b)
     c.in_default.ensures.none)
 
 count : (g : _) (c : In_ok-push g) → c.args.a + length c.push.new.self ≡ c.loop-m.m + 1
 count g c =
-    let k : length c.push.new.self ≡ length (c.loop-m.row ++ c.badness.result ∷ []) = ap (λ row. length row) c.in_ok-push.ensures.ok in let n = length-append c.loop-m.row (c.badness.result ∷ []) in
+    let k : length c.push.new.self ≡ length (c.loop-m.row ++ c.badness.result ∷ []) =
+    ap (λ row. length row) c.in_ok-push.ensures.ok in
+    let n = length-append c.loop-m.row (c.badness.result ∷ []) in
     let i = c.loop-m.invariant.count in omega arith
 
 -- the span with this measure
 module _ (g : _) (c : In_ok-push g)
-    (seen : map (λ s. s.column.now) c.as_slice-columns.result.now ≡ span_columns c.args.starts.now c.args.others.now c.args.a (c.loop-m.m + 1)) where
+    (seen : map (λ s. s.column.now) c.as_slice-columns.result.now
+    ≡ span_columns c.args.starts.now c.args.others.now c.args.a (c.loop-m.m + 1)) where
   abbrev Costs : ℕ → ℕ → Type 0
-  Costs b v = IsCost g.C.Spaced.reach_of g.C.Spring.length_of c.args.gaps.now c.args.width c.args.starts.now c.args.others.now (λ b. slice_index_or c.args.marks.now b false) c.args.a b v
+  Costs b v =
+      IsCost g.C.Spaced.reach_of g.C.Spring.length_of c.args.gaps.now c.args.width c.args.starts.now c.args.others.now
+      (λ b. slice_index_or c.args.marks.now b false) c.args.a b v
 
-  force : IsForce g.C.Spaced.reach_of g.C.Spring.length_of c.args.gaps.now c.args.width (span_columns c.args.starts.now c.args.others.now c.args.a (c.loop-m.m + 1)) c.in-Some.force
+  force : IsForce g.C.Spaced.reach_of g.C.Spring.length_of c.args.gaps.now c.args.width
+      (span_columns c.args.starts.now c.args.others.now c.args.a (c.loop-m.m + 1)) c.in-Some.force
   force =
-      force_of (λ s. s.column.now) g.C.Spaced.reach_of g.C.Spring.length_of c.args.gaps.now c.args.width c.loop-m.most c.as_slice-columns.result.now
-      (span_columns c.args.starts.now c.args.others.now c.args.a (c.loop-m.m + 1)) c.in-Some.force seen c.loop-m.invariant.most
+      force_of (λ s. s.column.now) g.C.Spaced.reach_of g.C.Spring.length_of c.args.gaps.now c.args.width c.loop-m.most
+      c.as_slice-columns.result.now
+      (span_columns c.args.starts.now c.args.others.now c.args.a (c.loop-m.m + 1)) c.in-Some.force seen
+      c.loop-m.invariant.most
       c.in-Some.ensures.bound c.in-Some.ensures.fits c.in-Some.ensures.greatest
-      (still_above g.C.Spaced.reach_of g.C.Spring.length_of c.args.gaps.now c.args.width c.loop-m.most c.args.starts.now c.args.others.now c.args.a c.loop-m.m
+      (still_above g.C.Spaced.reach_of g.C.Spring.length_of c.args.gaps.now c.args.width c.loop-m.most c.args.starts.now
+      c.args.others.now c.args.a c.loop-m.m
       c.requires.measures c.requires.inside (let l = c.loop-m-test.true in omega arith) c.loop-m.invariant.above)
 
   costs : Costs (c.loop-m.m + 1) c.badness.result
-  costs = record { free = λ h. c.loop-m.invariant.free h.0 h.1 h.2 h.3; pressed = (c.in-Some.force, force, c.badness.ensures.value) }
+  costs = record {
+    free = λ h. c.loop-m.invariant.free h.0 h.1 h.2 h.3;
+    pressed = (c.in-Some.force, force, c.badness.ensures.value);
+  }
 
   each : (k : ℕ) → k < length c.push.new.self → Costs (c.args.a + 1 + k) (slice_index_or c.push.new.self k 0)
-  each = subst (λ row. (k : ℕ) → k < length row → Costs (c.args.a + 1 + k) (slice_index_or row k 0)) (sym c.in_ok-push.ensures.ok)
-      (costs_more g.C.Spaced.reach_of g.C.Spring.length_of c.args.gaps.now c.args.width c.args.starts.now c.args.others.now (λ b. slice_index_or c.args.marks.now b false)
+  each =
+      subst (λ row. (k : ℕ) → k < length row → Costs (c.args.a + 1 + k) (slice_index_or row k 0))
+      (sym c.in_ok-push.ensures.ok)
+      (costs_more g.C.Spaced.reach_of g.C.Spring.length_of c.args.gaps.now c.args.width c.args.starts.now
+      c.args.others.now (λ b. slice_index_or c.args.marks.now b false)
       c.args.a c.loop-m.m c.loop-m.row c.badness.result c.loop-m.invariant.count c.loop-m.invariant.each costs)
 
 pub returns-then-marks-m : goal.returns-then-marks-m
 returns-then-marks-m g c =
-    let b = (goal.at.returns-then-marks-m g c).After-as_slice-columns in let pushed = (goal.at.returns-then-marks-m g c).In_ok-push in
-    stops_behind g.C.Spaced.reach_of g.C.Spring.length_of c.args.gaps.now c.args.width c.args.starts.now c.args.others.now (λ b. slice_index_or c.args.marks.now b false)
-    c.args.a c.loop-m.m c.push.new.self (let l = c.loop-m-test.true in omega arith) (count g pushed) (let l = c.loop-m.invariant.count in omega arith)
+    let b = (goal.at.returns-then-marks-m g c).After-as_slice-columns in
+    let pushed = (goal.at.returns-then-marks-m g c).In_ok-push in
+    stops_behind g.C.Spaced.reach_of g.C.Spring.length_of c.args.gaps.now c.args.width c.args.starts.now
+    c.args.others.now (λ b. slice_index_or c.args.marks.now b false)
+    c.args.a c.loop-m.m c.push.new.self (let l = c.loop-m-test.true in omega arith) (count g pushed)
+    (let l = c.loop-m.invariant.count in omega arith)
     (each g pushed (columns g b))
     (search rules)
 
 pub loop-m-preserved : goal.loop-m-preserved
 loop-m-preserved g c =
-    let b = (goal.at.loop-m-preserved g c).After-as_slice-columns in let pushed = (goal.at.loop-m-preserved g c).In_ok-push in let pressed = force g pushed (columns g b) in
+    let b = (goal.at.loop-m-preserved g c).After-as_slice-columns in
+    let pushed = (goal.at.loop-m-preserved g c).In_ok-push in
+    let pressed = force g pushed (columns g b) in
     let l = c.loop-m.invariant.count in let lent = (goal.at.loop-m-preserved g c).After-greatest_force in
     record {
       columns = sym (ap (λ seen. map (λ s. s.column.now) seen) c.as_slice-columns.ensures) ∙ columns g b;
       count = count g pushed;
       each = each g pushed (columns g b);
-      free = free_more (λ b. slice_index_or c.args.marks.now b false) c.args.a c.loop-m.m (search rules) c.loop-m.invariant.free;
+      free =
+          free_more (λ b. slice_index_or c.args.marks.now b false) c.args.a c.loop-m.m (search rules)
+          c.loop-m.invariant.free;
       most = let b = pressed.bound in omega arith;
-      room = ap (λ at. length at) (at_is g lent) ∙ (c.greatest_force.auto.at ∙ (c.deref_mut.ensures.len ∙ (c.in_ok-resize.ensures.len
-          ∙ (sym (length-map c.as_slice-columns.result.now (λ s. s.column.now)) ∙ ap (λ cs. length cs) (columns g b)))));
+      room =
+          ap (λ at. length at) (at_is g lent)
+          ∙ (c.greatest_force.auto.at ∙ (c.deref_mut.ensures.len ∙ (c.in_ok-resize.ensures.len
+          ∙ (sym (length-map c.as_slice-columns.result.now (λ s. s.column.now))
+          ∙ ap (λ cs. length cs) (columns g b)))));
       placed = rw (at_is g lent) (subst (λ T. T)
           (seen_as (λ s. s.column.now) g.C.Spaced.reach_of g.C.Spring.length_of
-          (λ n r l. HasPlaced n r c.args.gaps.now l c.greatest_force.new.placed c.greatest_force.new.at c.greatest_force.new.front)
-          c.as_slice-columns.result.now (span_columns c.args.starts.now c.args.others.now c.args.a (c.loop-m.m + 1)) (columns g b))
+          (λ n r l.
+          HasPlaced n r c.args.gaps.now l c.greatest_force.new.placed c.greatest_force.new.at
+          c.greatest_force.new.front)
+          c.as_slice-columns.result.now (span_columns c.args.starts.now c.args.others.now c.args.a (c.loop-m.m + 1))
+          (columns g b))
           c.greatest_force.ensures.placed);
       above = λ g past within. (omega arith, pressed.greatest g past within);
     }
@@ -89,7 +128,8 @@ loop-m-preserved g c =
 pub loop-m-init : goal.loop-m-init
 loop-m-init g c =
     let e : c.args.a - c.args.a ≡ 0 = omega arith in
-    let none : span_columns c.args.starts.now c.args.others.now c.args.a c.args.a ≡ [] = ap (λ k. flat_map (λ measure. measure) (take k (measures_from c.args.starts.now c.args.others.now c.args.a))) e in
+    let none : span_columns c.args.starts.now c.args.others.now c.args.a c.args.a ≡ [] =
+    ap (λ k. flat_map (λ measure. measure) (take k (measures_from c.args.starts.now c.args.others.now c.args.a))) e in
     record {
       columns = ap (λ seen. map (λ s. s.column.now) seen) c.in_ok-seen.ensures ∙ sym none;
       count = let row = ap (λ row. length row) c.in_ok-row.ensures in omega arith;
@@ -103,14 +143,19 @@ loop-m-init g c =
 
 pub greatest_force-requires-clause-some : goal.greatest_force-requires-clause-some
 greatest_force-requires-clause-some g c =
-    let count = ap (λ cs. length cs) (columns g (goal.at.greatest_force-requires-clause-some g c).After-as_slice-columns) in let same = length-map c.as_slice-columns.result.now (λ s. s.column.now) in
-    let some = columns_some c.args.starts.now c.args.others.now c.args.a (c.loop-m.m + 1) (let l = c.loop-m.invariant.count in omega arith) (c.requires.measures.begun c.args.a c.requires.inside) in
+    let count =
+    ap (λ cs. length cs) (columns g (goal.at.greatest_force-requires-clause-some g c).After-as_slice-columns) in
+    let same = length-map c.as_slice-columns.result.now (λ s. s.column.now) in
+    let some = columns_some c.args.starts.now c.args.others.now c.args.a (c.loop-m.m + 1)
+    (let l = c.loop-m.invariant.count in omega arith) (c.requires.measures.begun c.args.a c.requires.inside) in
     omega (arith, count, same, some)
 
 pub greatest_force-requires-clause-placed : goal.greatest_force-requires-clause-placed
 greatest_force-requires-clause-placed g c =
     placed_more (λ s. s.column.now) g.C.Spaced.reach_of g.C.Spring.length_of c.args.gaps.now
-    c.loop-m.placed c.loop-m.at.items c.deref_mut.result.now _ c.loop-m.front c.as_slice-columns.result.now c.args.starts.now c.args.others.now c.args.a c.loop-m.m
-    (let l = c.loop-m.invariant.count in omega arith) (let l = c.loop-m-test.true in omega arith) c.requires.measures.same
+    c.loop-m.placed c.loop-m.at.items c.deref_mut.result.now _ c.loop-m.front c.as_slice-columns.result.now
+    c.args.starts.now c.args.others.now c.args.a c.loop-m.m
+    (let l = c.loop-m.invariant.count in omega arith) (let l = c.loop-m-test.true in omega arith)
+    c.requires.measures.same
     (columns g (goal.at.greatest_force-requires-clause-placed g c).After-as_slice-columns) c.loop-m.invariant.room
     (c.deref_mut.ensures.value ∙ c.in_ok-resize.ensures.items) c.loop-m.invariant.placed

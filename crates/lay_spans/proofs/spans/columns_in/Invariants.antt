@@ -3,4 +3,5 @@ use Rattle.lay_spans.specs.Columns.{span_columns}
 use Rattle.lay_spans.proofs.spans.columns_in.Given as goal
 
 abbrev pub invariant-loop-m : goal.invariant-loop-m
-invariant-loop-m g l = record { columns : map (λ s. s.column.now) l.seen ≡ span_columns l.starts l.others l.a l.m; past : l.a ≤ l.m }
+invariant-loop-m g l =
+    record { columns : map (λ s. s.column.now) l.seen ≡ span_columns l.starts l.others l.a l.m; past : l.a ≤ l.m }

@@ -11,7 +11,12 @@ pub loop-low-preserved : goal.loop-low-preserved
 loop-low-preserved g c =
     let i = c.loop-low.invariant in let tried = c.highest-force.ensures in let less = c.in-Some.ensures.below in
     let half = c.div_ceil-half.ensures in record {
-      between = elim (cases_lt c.in-Some.past c.loop-low.low) [ inl under ↦ absurd (c.in-Some.ensures.never (c.loop-low.low - 1) (omega arith) (stands _ _ _ _ _ _ (i.fits (omega arith)))) | inr above ↦ above ];
+      between = elim (cases_lt c.in-Some.past c.loop-low.low) [
+        | inl under ↦
+            absurd (c.in-Some.ensures.never (c.loop-low.low - 1) (omega arith)
+            (stands _ _ _ _ _ _ (i.fits (omega arith))))
+        | inr above ↦ above
+      ];
       within = let h = tried.high in let w = i.within in omega arith;
       few = let b = tried.below in omega arith;
       short = let s = i.short in omega arith;
@@ -24,15 +29,25 @@ loop-low-preserved g c =
 
 pub returns-else-low-eq0-clause-greatest : goal.returns-else-low-eq0-clause-greatest
 returns-else-low-eq0-clause-greatest g c = λ f past within stood.
-    c.loop-low.invariant.never f (let done = c.loop-low-test.false in let some = c.if-low-eq0.false in omega arith) within stood
+    c.loop-low.invariant.never f (let done = c.loop-low-test.false in let some = c.if-low-eq0.false in omega arith)
+    within stood
 
 pub returns-then-low-eq0-clause-none : goal.returns-then-low-eq0-clause-none
 returns-then-low-eq0-clause-none g c =
     let len = length_at g.C.Spring.length_of c.args.cols.now in
-    elim (fits_or_passes (length c.args.cols.now) (reach_at g.C.Spaced.reach_of c.args.cols.now) c.args.gaps.now len c.args.width 0 c.requires.some
-    (λ k lane l. near_at g.C.Spaced.reach_of c.args.cols.now _ lane (λ col. g.met.C.Spaced.is_near col lane (let few = c.requires.lanes in omega arith)) k) c.requires.narrow
-    (λ i. lengths_short g.C.Spring.length_of c.args.cols.now 0 i g.met.C.Spring.is_short (λ col. g.met.C.Spring.scales col 0) (omega arith))) [
-      | inl fits ↦ absurd (c.loop-low.invariant.never 0 (let done = c.loop-low-test.false in let none = c.if-low-eq0.true in omega arith) (omega arith) (stands _ _ _ _ _ _ fits))
+    elim (fits_or_passes (length c.args.cols.now) (reach_at g.C.Spaced.reach_of c.args.cols.now) c.args.gaps.now len
+    c.args.width 0 c.requires.some
+    (λ k lane l.
+    near_at g.C.Spaced.reach_of c.args.cols.now _ lane
+    (λ col. g.met.C.Spaced.is_near col lane (let few = c.requires.lanes in omega arith)) k)
+    c.requires.narrow
+    (λ i.
+    lengths_short g.C.Spring.length_of c.args.cols.now 0 i g.met.C.Spring.is_short (λ col. g.met.C.Spring.scales col 0)
+    (omega arith))) [
+      | inl fits ↦
+          absurd (c.loop-low.invariant.never 0
+          (let done = c.loop-low-test.false in let none = c.if-low-eq0.true in omega arith) (omega arith)
+          (stands _ _ _ _ _ _ fits))
       | inr passes ↦ passes
     ]
 
@@ -52,7 +67,10 @@ loop-low-init g c =
         never = λ f from within stood. omega arith;
       })
       | else-placed-gt0 w ↦
-          let e = w.too_long-high.ensures in let placed = w.place_to.ensures.placed in let same = w.place_to.ensures.force in let bound = rw same at e.bound in
+          let e = w.too_long-high.ensures in
+          let placed = w.place_to.ensures.placed in
+          let same = w.place_to.ensures.force in
+          let bound = rw same at e.bound in
           rw (w.at-is, w.front-is, w.placed-is, w.high-is) (record {
             between = omega arith;
             within = bound;

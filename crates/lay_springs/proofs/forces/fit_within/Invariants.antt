@@ -10,9 +10,15 @@ invariant-loop-low g l = record {
   short : l.half ≤ 8196;
   room : length l.cols ≤ length l.at;
   one_each : length l.front ≡ length l.gaps;
-  placed : HasPlaced (length l.cols) (reach_at g.C.Spaced.reach_of l.cols) l.gaps (length_at g.C.Spring.length_of l.cols) l.placed l.at l.front;
-  fits : 0 < l.low → Fits (length l.cols) (reach_at g.C.Spaced.reach_of l.cols) l.gaps (length_at g.C.Spring.length_of l.cols) l.width (l.low - 1);
-  never : (f : ℕ) → l.high ≤ f → f ≤ l.most → CanStandWithin (length l.cols) (reach_at g.C.Spaced.reach_of l.cols) l.gaps (length_at g.C.Spring.length_of l.cols) l.width f → ⊥;
+  placed : HasPlaced (length l.cols) (reach_at g.C.Spaced.reach_of l.cols) l.gaps
+      (length_at g.C.Spring.length_of l.cols) l.placed l.at l.front;
+  fits : 0 < l.low
+      → Fits (length l.cols) (reach_at g.C.Spaced.reach_of l.cols) l.gaps (length_at g.C.Spring.length_of l.cols)
+      l.width (l.low - 1);
+  never : (f : ℕ) → l.high ≤ f → f ≤ l.most
+      → CanStandWithin (length l.cols) (reach_at g.C.Spaced.reach_of l.cols) l.gaps
+      (length_at g.C.Spring.length_of l.cols) l.width f
+      → ⊥;
 }
 
 abbrev pub decreases-loop-low : goal.decreases-loop-low

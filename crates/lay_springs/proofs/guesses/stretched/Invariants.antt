@@ -8,7 +8,11 @@ invariant-loop-j g l = record {
   small : l.end ≤ℤ pos (1048576 + 3145728 * l.j);
   natural : l.springs.natural ≤ 4096 * (l.j + 1);
   count : l.springs.count ≤ l.j + 1;
-  near : (gaps : List ℕ) → IsNearLeast l.placed.count (reach_at g.C.Spaced.reach_of l.cols) gaps (length_at g.C.Spring.length_of l.cols) l.placed.force l.placed.tight.natural l.placed.tight.count l.at
-      → (f drop : ℕ) (y : List ℤ) → f + drop ≡ l.placed.force → StandApart (length l.cols) (reach_at g.C.Spaced.reach_of l.cols) gaps (length_at g.C.Spring.length_of l.cols f) y
+  near : (gaps : List ℕ)
+      → IsNearLeast l.placed.count (reach_at g.C.Spaced.reach_of l.cols) gaps (length_at g.C.Spring.length_of l.cols)
+      l.placed.force l.placed.tight.natural l.placed.tight.count l.at
+      → (f drop : ℕ) (y : List ℤ) → f + drop ≡ l.placed.force
+      → StandApart (length l.cols) (reach_at g.C.Spaced.reach_of l.cols) gaps (length_at g.C.Spring.length_of l.cols f)
+      y
       → l.end ≤ℤ (slice_index_or y l.j (pos 0) +ℤ pos (slack l.springs.natural l.springs.count drop));
 }

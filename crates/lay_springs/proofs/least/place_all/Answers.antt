@@ -4,12 +4,20 @@ use Rattle.lay_springs.proofs.Placing.{place_of}
 use Rattle.lay_springs.proofs.least.place_all.Goals.{After-place_to}
 use Rattle.lay_springs.proofs.least.place_all.Goals as goal
 
-all : (g : _) (c : After-place_to g) → IsPlacedTo (length c.args.cols.now) (reach_at g.C.Spaced.reach_of c.args.cols.now) c.args.gaps.now (length_at g.C.Spring.length_of c.args.cols.now) c.args.force
+all : (g : _) (c : After-place_to g)
+    → IsPlacedTo (length c.args.cols.now) (reach_at g.C.Spaced.reach_of c.args.cols.now) c.args.gaps.now
+    (length_at g.C.Spring.length_of c.args.cols.now) c.args.force
     c.place_to.result.tight.natural c.place_to.result.tight.count c.place_to.new.at
-all g c = let e = c.place_to.ensures in let done : c.place_to.result.count ≡ length c.args.cols.now = let within = e.placed.within in let count = e.count in omega arith in rw (done, e.force) at e.placed.placed
+all g c =
+    let e = c.place_to.ensures in
+    let done : c.place_to.result.count ≡ length c.args.cols.now =
+    let within = e.placed.within in let count = e.count in omega arith in
+    rw (done, e.force) at e.placed.placed
 
 pub returns-clause-place : goal.returns-clause-place
-returns-clause-place g c = place_of _ _ _ _ _ _ _ _ (let room = c.requires.room in omega arith) (all g (goal.at.returns-clause-place g c).After-place_to)
+returns-clause-place g c =
+    place_of _ _ _ _ _ _ _ _ (let room = c.requires.room in omega arith)
+    (all g (goal.at.returns-clause-place g c).After-place_to)
 
 pub returns-clause-near : goal.returns-clause-near
 returns-clause-near g c = (all g (goal.at.returns-clause-near g c).After-place_to).near

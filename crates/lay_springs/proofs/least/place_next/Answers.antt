@@ -22,24 +22,30 @@ module _ (g : _) (c : After-set_past-next g) where
   high : slice_index_or c.args.at.now (c.args.j - 1) (pos 0) ≤ℤ pos (1048576 + 3145728 * (c.args.j - 1))
   high = (c.requires.placed.small (c.args.j - 1) (omega arith)).1
 
-  before_is : to_z w64 (of_z w64 (slice_index_or c.args.at.now (c.args.j - 1) (pos 0))) ≡ slice_index_or c.args.at.now (c.args.j - 1) (pos 0)
+  before_is : to_z w64 (of_z w64 (slice_index_or c.args.at.now (c.args.j - 1) (pos 0)))
+      ≡ slice_index_or c.args.at.now (c.args.j - 1) (pos 0)
   before_is = omega (arith, ints, low, high)
 
   -- the spring that was read, at a force
-  spring_at : (force : ℕ) → length_at g.C.Spring.length_of c.args.cols.now force (c.args.j - 1) ≡ c.length-natural.result * force / 256
+  spring_at : (force : ℕ)
+      → length_at g.C.Spring.length_of c.args.cols.now force (c.args.j - 1) ≡ c.length-natural.result * force / 256
   spring_at force =
       length_is g.C.Spring.length_of c.args.cols.now force (c.args.j - 1) c.index-cols-j.result
-      (slice_get_read c.args.cols.now (length c.args.cols.now) (c.args.j - 1) c.index-cols-j.result refl (omega arith) c.index-cols-j.is)
+      (slice_get_read c.args.cols.now (length c.args.cols.now) (c.args.j - 1) c.index-cols-j.result refl (omega arith)
+      c.index-cols-j.is)
       ∙ (g.met.C.Spring.scales c.index-cols-j.result force ∙ ap (λ n. n * force / 256) (sym c.length-natural.ensures))
 
   spring_is : length_at g.C.Spring.length_of c.args.cols.now c.args.force (c.args.j - 1) ≡ c.length-spring.result
   spring_is =
       length_is g.C.Spring.length_of c.args.cols.now c.args.force (c.args.j - 1) c.index-cols-j-2.result
-      (slice_get_read c.args.cols.now (length c.args.cols.now) (c.args.j - 1) c.index-cols-j-2.result refl (omega arith) c.index-cols-j-2.is) ∙ sym c.length-spring.ensures
+      (slice_get_read c.args.cols.now (length c.args.cols.now) (c.args.j - 1) c.index-cols-j-2.result refl (omega arith)
+      c.index-cols-j-2.is)
+      ∙ sym c.length-spring.ensures
 
   col_is : reach_at g.C.Spaced.reach_of c.args.cols.now c.args.j ≡ g.C.Spaced.reach_of c.index-cols-j-3.result
   col_is = reach_is g.C.Spaced.reach_of c.args.cols.now c.args.j c.index-cols-j-3.result
-      (slice_get_read c.args.cols.now (length c.args.cols.now) c.args.j c.index-cols-j-3.result refl (omega arith) c.index-cols-j-3.is)
+      (slice_get_read c.args.cols.now (length c.args.cols.now) c.args.j c.index-cols-j-3.result refl (omega arith)
+      c.index-cols-j-3.is)
 
   same : to_z w64 (of_z w64 v) ≡ v
   same = to_z-of_z w64 v (record { sfits = c.set_past-next.type_inv })
@@ -47,63 +53,101 @@ module _ (g : _) (c : After-set_past-next g) where
   -- no column is placed past this
   bound : v ≤ℤ pos (1048576 + 3145728 * c.args.j)
   bound =
-      let short = spring_short _ c.args.force _ c.length-spring.result (g.met.C.Spring.is_short c.index-cols-j-2.result) (g.met.C.Spring.scales c.index-cols-j-2.result c.args.force) c.ranges.force.fits c.length-spring.ensures in
-      let from = c.after.ensures.least (pos (1048576 + 3145728 * c.args.j)) (omega (arith, ints, low, high)) (omega (arith, ints, low, high)) in
+      let short = spring_short _ c.args.force _ c.length-spring.result (g.met.C.Spring.is_short c.index-cols-j-2.result)
+      (g.met.C.Spring.scales c.index-cols-j-2.result c.args.force) c.ranges.force.fits c.length-spring.ensures in
+      let from = c.after.ensures.least (pos (1048576 + 3145728 * c.args.j)) (omega (arith, ints, low, high))
+      (omega (arith, ints, low, high)) in
       c.set_past-next.ensures.least (pos (1048576 + 3145728 * c.args.j)) (omega (arith, ints))
-      (subst (λ r. IsPast r c.args.gaps.now (length c.args.gaps.now) c.args.front.now (pos (1048576 + 3145728 * c.args.j))) col_is
+      (subst (λ r.
+      IsPast r c.args.gaps.now (length c.args.gaps.now) c.args.front.now (pos (1048576 + 3145728 * c.args.j)))
+      col_is
       (past_bound _ c.args.gaps.now _ _ _ _ c.args.j c.args.at.now c.args.front.now c.requires.placed c.requires.fronts
-      (λ k lane lt. near_at g.C.Spaced.reach_of c.args.cols.now _ lane (λ col. g.met.C.Spaced.is_near col lane (let l = c.requires.lanes in omega arith)) k)
+      (λ k lane lt.
+      near_at g.C.Spaced.reach_of c.args.cols.now _ lane
+      (λ col. g.met.C.Spaced.is_near col lane (let l = c.requires.lanes in omega arith)) k)
       c.requires.narrow))
 
-  past : ((slice_index_or c.args.at.now (c.args.j - 1) (pos 0) +ℤ pos 100) ≤ℤ v) × ((slice_index_or c.args.at.now (c.args.j - 1) (pos 0) +ℤ pos c.length-spring.result) ≤ℤ v)
+  past : ((slice_index_or c.args.at.now (c.args.j - 1) (pos 0) +ℤ pos 100) ≤ℤ v)
+      × ((slice_index_or c.args.at.now (c.args.j - 1) (pos 0) +ℤ pos c.length-spring.result) ≤ℤ v)
   past = (omega (arith, ints, low, high), omega (arith, ints, low, high))
 
   begins : pos 0 ≤ℤ v
   begins = omega (arith, ints, low, (past).0)
 
   -- the column isn't past where it stands in a list at most so far below, nor past where the spring ends
-  from_near : (weak : ℕ → ℕ) (y : List ℤ) (d : ℕ) → StandApart (c.args.j + 1) (reach_at g.C.Spaced.reach_of c.args.cols.now) c.args.gaps.now weak y
+  from_near : (weak : ℕ → ℕ) (y : List ℤ) (d : ℕ)
+      → StandApart (c.args.j + 1) (reach_at g.C.Spaced.reach_of c.args.cols.now) c.args.gaps.now weak y
       → ((k : ℕ) → k < c.args.j → slice_index_or c.args.at.now k (pos 0) ≤ℤ (slice_index_or y k (pos 0) +ℤ pos d))
-      → (w : ℤ) → (slice_index_or y c.args.j (pos 0) +ℤ pos d) ≤ℤ w → (slice_index_or c.args.at.now (c.args.j - 1) (pos 0) +ℤ pos c.length-spring.result) ≤ℤ w → v ≤ℤ w
+      → (w : ℤ) → (slice_index_or y c.args.j (pos 0) +ℤ pos d) ≤ℤ w
+      → (slice_index_or c.args.at.now (c.args.j - 1) (pos 0) +ℤ pos c.length-spring.result) ≤ℤ w
+      → v ≤ℤ w
   from_near weak y d h near w up spring =
-      let z : c.args.j - 1 + 1 ≡ c.args.j = omega arith in let one = rw z at (h.steps (c.args.j - 1) (omega arith)) in let below = near (c.args.j - 1) (omega arith) in
+      let z : c.args.j - 1 + 1 ≡ c.args.j = omega arith in
+      let one = rw z at (h.steps (c.args.j - 1) (omega arith)) in
+      let below = near (c.args.j - 1) (omega arith) in
       let from = c.after.ensures.least w (omega (arith, ints, low, high)) (omega (arith, ints, low, high)) in
       c.set_past-next.ensures.least w (rw (to_z-of_z w64 c.after.result (record { sfits = c.after.type_inv })) from)
       (subst (λ r. IsPast r c.args.gaps.now (length c.args.gaps.now) c.args.front.now w) col_is
-      (front_below _ c.args.gaps.now _ _ _ _ c.args.j c.args.at.now c.args.front.now c.requires.placed c.requires.fronts weak y d w h near up))
+      (front_below _ c.args.gaps.now _ _ _ _ c.args.j c.args.at.now c.args.front.now c.requires.placed c.requires.fronts
+      weak y d w h near up))
 
 pub set_past-next-requires-clause-near : goal.set_past-next-requires-clause-near
 set_past-next-requires-clause-near g c =
     let before = c.requires.placed.small (c.args.j - 1) (omega arith) in let low = before.0 in let high = before.1 in
-    let short = spring_short _ c.args.force _ c.length-spring.result (g.met.C.Spring.is_short c.index-cols-j-2.result) (g.met.C.Spring.scales c.index-cols-j-2.result c.args.force) c.ranges.force.fits c.length-spring.ensures in
-    let from = c.after.ensures.least (pos 1152921504606846976) (omega (arith, ints)) (omega (arith, ints)) in omega (arith, ints)
+    let short = spring_short _ c.args.force _ c.length-spring.result (g.met.C.Spring.is_short c.index-cols-j-2.result)
+    (g.met.C.Spring.scales c.index-cols-j-2.result c.args.force) c.ranges.force.fits c.length-spring.ensures in
+    let from = c.after.ensures.least (pos 1152921504606846976) (omega (arith, ints)) (omega (arith, ints)) in
+    omega (arith, ints)
 
 pub tightened-requires-clause-small : goal.tightened-requires-clause-small
-tightened-requires-clause-small g c = let before = c.requires.placed.small (c.args.j - 1) (omega arith) in let low = before.0 in let high = before.1 in omega (arith, ints)
+tightened-requires-clause-small g c =
+    let before = c.requires.placed.small (c.args.j - 1) (omega arith) in
+    let low = before.0 in
+    let high = before.1 in
+    omega (arith, ints)
 
 pub returns-clause-tight : goal.returns-clause-tight
 returns-clause-tight g c =
-    let short : c.length-natural.result ≤ 4096 = rw c.length-natural.ensures (g.met.C.Spring.is_short c.index-cols-j.result) in let t = c.requires.tight in
-    elim c.tightened.ensures [ inl h ↦ rw (h.1, h.2) (omega arith, omega arith) | inr h ↦ rw (h.1, h.2) (omega arith, omega arith) ]
+    let short : c.length-natural.result ≤ 4096 =
+    rw c.length-natural.ensures (g.met.C.Spring.is_short c.index-cols-j.result) in
+    let t = c.requires.tight in
+    elim c.tightened.ensures [
+      | inl h ↦ rw (h.1, h.2) (omega arith, omega arith)
+      | inr h ↦ rw (h.1, h.2) (omega arith, omega arith)
+    ]
 
 pub returns-clause-placed : goal.returns-clause-placed
 returns-clause-placed g c =
-    let s = (goal.at.returns-clause-placed g c).After-set_past-next in let t = c.tightened.ensures in let z : c.args.j - 1 + 1 ≡ c.args.j = omega arith in
-    rw (same g s) (placed_more _ c.args.gaps.now _ c.args.force c.args.tight.natural c.args.tight.count c.tightened.result.natural c.tightened.result.count
+    let s = (goal.at.returns-clause-placed g c).After-set_past-next in
+    let t = c.tightened.ensures in
+    let z : c.args.j - 1 + 1 ≡ c.args.j = omega arith in
+    rw (same g s)
+    (placed_more _ c.args.gaps.now _ c.args.force c.args.tight.natural c.args.tight.count c.tightened.result.natural
+    c.tightened.result.count
     c.args.at.now c.args.j (v g s) c.requires.past (omega arith) c.requires.placed
     (elim t [ inl h ↦ rw h.1 (omega arith) | inr h ↦ rw h.1 (omega arith) ])
     (elim t [ inl h ↦ rw h.2 (omega arith) | inr h ↦ rw h.2 (omega arith) ])
     (λ k q. let z : c.args.j - 1 ≡ k = omega arith in rw (← z) (past g s).0)
     (λ k q. let z : c.args.j - 1 ≡ k = omega arith in rw (← z, spring_is g s) (past g s).1)
-    (front_clear _ c.args.gaps.now _ _ _ _ c.args.j c.args.at.now c.args.front.now c.requires.placed c.requires.fronts (v g s)
-    (subst (λ r. IsPast r c.args.gaps.now (length c.args.gaps.now) c.args.front.now (v g s)) (sym (col_is g s)) c.set_past-next.ensures.clear))
+    (front_clear _ c.args.gaps.now _ _ _ _ c.args.j c.args.at.now c.args.front.now c.requires.placed c.requires.fronts
+    (v g s)
+    (subst (λ r. IsPast r c.args.gaps.now (length c.args.gaps.now) c.args.front.now (v g s)) (sym (col_is g s))
+    c.set_past-next.ensures.clear))
     (λ weak drop y e apart.
-    let len : c.length-spring.result ≡ c.length-natural.result * (weak + drop) / 256 = sym (spring_is g s) ∙ (spring_at g s c.args.force ∙ ap (λ f. c.length-natural.result * f / 256) (sym e)) in
-    let near = c.requires.placed.near weak drop y e (fewer_apart c.args.j (c.args.j + 1) _ _ c.args.gaps.now _ _ y (omega arith) (λ i lane l. refl) (λ i l. refl) apart) in
-    next_near c.args.tight.natural c.args.tight.count c.tightened.result.natural c.tightened.result.count c.length-natural.result weak drop
-    (slice_index_or c.args.at.now (c.args.j - 1) (pos 0)) (v g s) (slice_index_or y (c.args.j - 1) (pos 0)) (slice_index_or y c.args.j (pos 0))
-    (rw (before_is g s, same g s, len) at t) (near (c.args.j - 1) (omega arith)) (rw (z, spring_at g s weak) at (apart.springs (c.args.j - 1) (omega arith))) (rw len at (past g s).1)
-    (λ w up spring. from_near g s (length_at g.C.Spring.length_of c.args.cols.now weak) y (slack c.args.tight.natural c.args.tight.count drop) apart near w up (rw len spring)))
+    let len : c.length-spring.result ≡ c.length-natural.result * (weak + drop) / 256 =
+    sym (spring_is g s) ∙ (spring_at g s c.args.force ∙ ap (λ f. c.length-natural.result * f / 256) (sym e)) in
+    let near = c.requires.placed.near weak drop y e
+    (fewer_apart c.args.j (c.args.j + 1) _ _ c.args.gaps.now _ _ y (omega arith) (λ i lane l. refl) (λ i l. refl)
+    apart) in
+    next_near c.args.tight.natural c.args.tight.count c.tightened.result.natural c.tightened.result.count
+    c.length-natural.result weak drop
+    (slice_index_or c.args.at.now (c.args.j - 1) (pos 0)) (v g s) (slice_index_or y (c.args.j - 1) (pos 0))
+    (slice_index_or y c.args.j (pos 0))
+    (rw (before_is g s, same g s, len) at t) (near (c.args.j - 1) (omega arith))
+    (rw (z, spring_at g s weak) at (apart.springs (c.args.j - 1) (omega arith))) (rw len at (past g s).1)
+    (λ w up spring.
+    from_near g s (length_at g.C.Spring.length_of c.args.cols.now weak) y
+    (slack c.args.tight.natural c.args.tight.count drop) apart near w up (rw len spring)))
     (begins g s, bound g s))
 
 pub returns-clause-fronts : goal.returns-clause-fronts
@@ -114,6 +158,8 @@ returns-clause-fronts g c =
     (λ k l. let ne : k ≢ c.args.j = omega arith in get_or-set_other c.args.at.now c.args.j k (v g s) (pos 0) ne)
     (get_or-set_same c.args.at.now c.args.j (v g s) (pos 0) (omega arith))
     (begins g s) (let top = bound g s in omega (arith, ints))
-    (λ lane lt. near_at g.C.Spaced.reach_of c.args.cols.now _ lane (λ col. g.met.C.Spaced.is_near col lane (let l = c.requires.lanes in omega arith)) c.args.j)
+    (λ lane lt.
+    near_at g.C.Spaced.reach_of c.args.cols.now _ lane
+    (λ col. g.met.C.Spaced.is_near col lane (let l = c.requires.lanes in omega arith)) c.args.j)
     (λ lane lt. rw (ap (λ r. r lane) (col_is g s)) (c.set_past-next.ensures.noted lane (omega arith)))
     c.requires.fronts)

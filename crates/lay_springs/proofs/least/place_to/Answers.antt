@@ -4,12 +4,24 @@ use Rattle.lay_springs.proofs.least.place_to.Goals as goal
 
 pub returns-clause-placed : goal.returns-clause-placed
 returns-clause-placed g c =
-    let done : c.loop-j.j ≡ c.max-count.result = let within = c.loop-j.auto.j-end in let test = c.loop-j-test.false in let most = c.max-count.ensures in let begun = c.loop-j.auto.j in omega arith in
+    let done : c.loop-j.j ≡ c.max-count.result = let within = c.loop-j.auto.j-end in
+    let test = c.loop-j-test.false in
+    let most = c.max-count.ensures in
+    let begun = c.loop-j.auto.j in
+    omega arith in
     let i = c.loop-j.invariant in
     record {
       within = let within = i.within in omega arith;
       tight = subst (λ j. (c.loop-j.tight.natural ≤ 4096 * j) × (c.loop-j.tight.count ≤ j)) done i.tight;
-      placed = subst (λ j. IsPlacedTo j (reach_at g.C.Spaced.reach_of c.args.cols.now) c.args.gaps.now (length_at g.C.Spring.length_of c.args.cols.now) c.args.force
+      placed =
+          subst (λ j.
+          IsPlacedTo j (reach_at g.C.Spaced.reach_of c.args.cols.now) c.args.gaps.now
+          (length_at g.C.Spring.length_of c.args.cols.now) c.args.force
           c.loop-j.tight.natural c.loop-j.tight.count c.loop-j.at) done i.placed;
-      front = λ some. subst (λ j. AreFrontiers j (reach_at g.C.Spaced.reach_of c.args.cols.now) (length c.args.gaps.now) c.loop-j.at c.loop-j.front) done i.front;
+      front =
+          λ some.
+          subst (λ j.
+          AreFrontiers j (reach_at g.C.Spaced.reach_of c.args.cols.now) (length c.args.gaps.now) c.loop-j.at
+          c.loop-j.front)
+          done i.front;
     }

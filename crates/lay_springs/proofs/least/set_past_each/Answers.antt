@@ -6,11 +6,19 @@ use Rattle.lay_springs.proofs.least.set_past_each.Goals as goal
 
 pub advance_each-requires-clause-small : goal.advance_each-requires-clause-small
 advance_each-requires-clause-small c =
-    rw (to_z-of_z w64 c.past_each-at.result (record { sfits = c.past_each-at.type_inv })) (c.past_each-at.ensures.least _ (let near = c.requires.near.le in omega (arith, ints))
-    (λ lane s lt e some. let near = rw e at (reach_in_near c.args.row.now lane) in let left = near.0 in let gap = c.requires.narrow lane lt in let high = c.requires.small lane lt in omega (arith, ints)))
+    rw (to_z-of_z w64 c.past_each-at.result (record { sfits = c.past_each-at.type_inv }))
+    (c.past_each-at.ensures.least _ (let near = c.requires.near.le in omega (arith, ints))
+    (λ lane s lt e some. let near = rw e at (reach_in_near c.args.row.now lane) in
+    let left = near.0 in
+    let gap = c.requires.narrow lane lt in
+    let high = c.requires.small lane lt in
+    omega (arith, ints)))
 
 pub advance_each-requires-clause-behind : goal.advance_each-requires-clause-behind
 advance_each-requires-clause-behind c =
     rw (to_z-of_z w64 c.past_each-at.result (record { sfits = c.past_each-at.type_inv }))
-    (λ lane l. each_behind (reach_in c.args.row.now) c.args.gaps.now (length c.args.gaps.now) c.args.front.now c.past_each-at.result
-    (let begins = c.requires.begins.le in let kept = c.past_each-at.ensures.kept in omega (arith, ints)) c.past_each-at.ensures.clear lane (let room = c.requires.room in omega arith))
+    (λ lane l.
+    each_behind (reach_in c.args.row.now) c.args.gaps.now (length c.args.gaps.now) c.args.front.now
+    c.past_each-at.result
+    (let begins = c.requires.begins.le in let kept = c.past_each-at.ensures.kept in omega (arith, ints))
+    c.past_each-at.ensures.clear lane (let room = c.requires.room in omega arith))

@@ -9,8 +9,11 @@ use Rattle.lay_tune.proofs.systems.press.Goals as goal
 
 pub unreachable-requires : goal.unreachable-requires
 unreachable-requires c =
-    never_passes c.args.gaps.now c.args.width c.args.last c.args.cost (map (λ s. s.column.now) c.args.columns.now) c.requires.fits
-    (subst (λ T. T) (seen_as (λ s. s.column.now) column_reach column_length (λ n r l. Passes n r c.args.gaps.now l c.args.width 0) c.args.columns.now (map (λ s. s.column.now) c.args.columns.now) refl)
+    never_passes c.args.gaps.now c.args.width c.args.last c.args.cost (map (λ s. s.column.now) c.args.columns.now)
+    c.requires.fits
+    (subst (λ T. T)
+    (seen_as (λ s. s.column.now) column_reach column_length (λ n r l. Passes n r c.args.gaps.now l c.args.width 0)
+    c.args.columns.now (map (λ s. s.column.now) c.args.columns.now) refl)
     (c.in_default.ensures.none))
 
 pub fit_within-requires-clause-placed : goal.fit_within-requires-clause-placed
@@ -25,11 +28,19 @@ justify-requires-clause-placed c =
 pub returns : goal.returns
 returns c =
     let columns = map (λ s. s.column.now) c.args.columns.now in let found = c.in-Some.ensures in
-    let counts = counts_same c.args.gaps.now c.args.width c.args.last c.args.cost columns c.most_force-most.result c.in-Some.force c.requires.fits
+    let counts = counts_same c.args.gaps.now c.args.width c.args.last c.args.cost columns c.most_force-most.result
+    c.in-Some.force c.requires.fits
     c.most_force-most.ensures.bound c.most_force-most.ensures.most c.most_force-most.ensures.natural found.bound
-    (subst (λ T. T) (seen_as (λ s. s.column.now) column_reach column_length (λ n r l. Fits n r c.args.gaps.now l c.args.width c.in-Some.force) c.args.columns.now columns refl) found.fits)
+    (subst (λ T. T)
+    (seen_as (λ s. s.column.now) column_reach column_length
+    (λ n r l. Fits n r c.args.gaps.now l c.args.width c.in-Some.force) c.args.columns.now columns refl)
+    found.fits)
     (λ g past within at. found.greatest g past within
-    (subst (λ T. T) (sym (seen_as (λ s. s.column.now) column_reach column_length (λ n r l. CanStandWithin n r c.args.gaps.now l c.args.width g) c.args.columns.now columns refl)) at)) in
-    justified_seen (λ s. s.column.now) c.args.gaps.now c.args.width c.args.last c.args.columns.now c.requires.fits.pressed.0 c.justify.result
+    (subst (λ T. T)
+    (sym (seen_as (λ s. s.column.now) column_reach column_length
+    (λ n r l. CanStandWithin n r c.args.gaps.now l c.args.width g) c.args.columns.now columns refl))
+    at)) in
+    justified_seen (λ s. s.column.now) c.args.gaps.now c.args.width c.args.last c.args.columns.now
+    c.requires.fits.pressed.0 c.justify.result
     c.requires.fits.pressed.1 (c.justify.ensures.ragged ∙ counts.1) (c.justify.ensures.force ∙ counts.0)
     c.justify.ensures.loose c.justify.ensures.set c.justify.ensures.apart

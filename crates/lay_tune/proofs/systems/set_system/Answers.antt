@@ -15,9 +15,16 @@ use Rattle.lay_tune.proofs.systems.set_system.Goals as goal
 pub press-requires-clause-fits : goal.press-requires-clause-fits
 press-requires-clause-fits c =
     let cost : c.requires.fits.cost ≡ c.in-Some.cost =
-    same_Some c.requires.fits.cost c.in-Some.cost (sym c.requires.fits.costs_so ∙ (sym (c.args.spans.now.same c.args.a c.args.b) ∙ (sym c.cost.ensures ∙ c.in-Some.is))) in
-    subst (λ cost. HaveForce c.args.measured.now.gaps.now c.args.measured.now.width (c.args.b == c.args.measured.now.score.now.measures) cost (map (λ s. s.column.now) c.as_slice-columns.result.now)) cost
-    (span_set c.args.measured.now.starts.now c.args.measured.now.others.now (map (λ s. s.column.now) c.as_slice-columns.result.now) c.requires.fits c.requires.measured.columns c.requires.measured.gaps
+    same_Some c.requires.fits.cost c.in-Some.cost
+    (sym c.requires.fits.costs_so
+    ∙ (sym (c.args.spans.now.same c.args.a c.args.b) ∙ (sym c.cost.ensures ∙ c.in-Some.is))) in
+    subst (λ cost.
+    HaveForce c.args.measured.now.gaps.now c.args.measured.now.width
+    (c.args.b == c.args.measured.now.score.now.measures) cost (map (λ s. s.column.now) c.as_slice-columns.result.now))
+    cost
+    (span_set c.args.measured.now.starts.now c.args.measured.now.others.now
+    (map (λ s. s.column.now) c.as_slice-columns.result.now) c.requires.fits c.requires.measured.columns
+    c.requires.measured.gaps
     (ap (map (λ s. s.column.now)) c.as_slice-columns.ensures ∙ c.in_ok-seen.ensures)).0
 
 pub tilt_of-requires-clause-keys : goal.tilt_of-requires-clause-keys
@@ -25,31 +32,45 @@ tilt_of-requires-clause-keys c =
     let s = c.args.measured.now.score.now in
     subst (λ t. AreKeys c.in_ok-keys.keys (called_keys s t.lengths c.args.a c.args.b)) (sym c.requires.measured.times)
     (subst (λ keys. AreKeys keys (called_keys s (timeline_of s).lengths c.args.a c.args.b)) (sym c.in_ok-keys.ensures)
-    (span_set c.args.measured.now.starts.now c.args.measured.now.others.now (map (λ s. s.column.now) c.as_slice-columns.result.now) c.requires.fits c.requires.measured.columns c.requires.measured.gaps
+    (span_set c.args.measured.now.starts.now c.args.measured.now.others.now
+    (map (λ s. s.column.now) c.as_slice-columns.result.now) c.requires.fits c.requires.measured.columns
+    c.requires.measured.gaps
     (ap (map (λ s. s.column.now)) c.as_slice-columns.ensures ∙ c.in_ok-seen.ensures)).2)
 
 pub tilt_of-requires-clause-places : goal.tilt_of-requires-clause-places
 tilt_of-requires-clause-places c =
     let s = c.args.measured.now.score.now in
-    let placed = (span_set c.args.measured.now.starts.now c.args.measured.now.others.now (map (λ s. s.column.now) c.as_slice-columns.result.now) c.requires.fits c.requires.measured.columns c.requires.measured.gaps
-    (ap (map (λ s. s.column.now)) c.as_slice-columns.ensures ∙ c.in_ok-seen.ensures)).1 c.in_ok-placed.placed c.in_ok-placed.ensures in
+    let placed = (span_set c.args.measured.now.starts.now c.args.measured.now.others.now
+    (map (λ s. s.column.now) c.as_slice-columns.result.now) c.requires.fits c.requires.measured.columns
+    c.requires.measured.gaps
+    (ap (map (λ s. s.column.now)) c.as_slice-columns.ensures ∙ c.in_ok-seen.ensures)).1 c.in_ok-placed.placed
+    c.in_ok-placed.ensures in
     let narrow = c.requires.measured.wide in let flat = has_system s c.args.a c.args.b in
     subst (λ at. AreAbscissas s c.args.measured.now.times.now c.args.a c.args.b at) (sym c.as_slice-at.ensures)
     (subst (λ t. AreAbscissas s t c.args.a c.args.b c.in_ok-placed.placed.at) (sym c.requires.measured.times)
-    (abscissas_of s c.args.measured.now.width c.args.a c.args.b flat.0 c.in_ok-placed.placed (omega arith) flat.1 placed))
+    (abscissas_of s c.args.measured.now.width c.args.a c.args.b flat.0 c.in_ok-placed.placed (omega arith) flat.1
+    placed))
 
 pub stack-requires-clause-good : goal.stack-requires-clause-good
 stack-requires-clause-good c = good_staves c.in_ok-marks.marks.staves c.in_ok-marks.ensures.lines
 
 pub stack-requires-clause-few : goal.stack-requires-clause-few
 stack-requires-clause-few c =
-    let count = ap (λ these. length these) c.in_ok-marks.ensures.tilted.staves ∙ length-map (drawn_staves c.args.measured.now.score.now) (tilted_staff c.in_ok-marks.marks.keys c.args.measured.now.times.now.lengths c.as_slice-at.result.now c.args.a c.args.b) in
-    let staves = staves_count c.args.measured.now.score.now in let voices = c.requires.measured.good.few_voices in omega (arith, count, staves, voices)
+    let count = ap (λ these. length these) c.in_ok-marks.ensures.tilted.staves
+    ∙ length-map (drawn_staves c.args.measured.now.score.now)
+    (tilted_staff c.in_ok-marks.marks.keys c.args.measured.now.times.now.lengths c.as_slice-at.result.now c.args.a
+    c.args.b) in
+    let staves = staves_count c.args.measured.now.score.now in
+    let voices = c.requires.measured.good.few_voices in
+    omega (arith, count, staves, voices)
 
 pub stack-requires-clause-gaps : goal.stack-requires-clause-gaps
 stack-requires-clause-gaps c =
-    gaps_count c.args.measured.now.score.now c.in_ok-marks.marks c.as_slice-2.result.now (tilted_staff c.in_ok-marks.marks.keys c.args.measured.now.times.now.lengths c.as_slice-at.result.now c.args.a c.args.b)
-    (c.as_slice-2.ensures ∙ c.in_ok-between.ensures ∙ ap gaps_between c.as_slice.ensures) c.in_ok-marks.ensures.tilted.staves
+    gaps_count c.args.measured.now.score.now c.in_ok-marks.marks c.as_slice-2.result.now
+    (tilted_staff c.in_ok-marks.marks.keys c.args.measured.now.times.now.lengths c.as_slice-at.result.now c.args.a
+    c.args.b)
+    (c.as_slice-2.ensures ∙ c.in_ok-between.ensures ∙ ap gaps_between c.as_slice.ensures)
+    c.in_ok-marks.ensures.tilted.staves
 
 pub returns-clause-system : goal.returns-clause-system
 returns-clause-system c =
@@ -57,9 +78,17 @@ returns-clause-system c =
     let tilted = c.in_ok-marks in record {
       flat = flat.0;
       called = flat.1;
-      placed = (span_set c.args.measured.now.starts.now c.args.measured.now.others.now (map (λ s. s.column.now) c.as_slice-columns.result.now) c.requires.fits c.requires.measured.columns c.requires.measured.gaps
-          (ap (map (λ s. s.column.now)) c.as_slice-columns.ensures ∙ c.in_ok-seen.ensures)).1 c.in_ok-placed.placed c.in_ok-placed.ensures;
-      tilted = subst (λ t. IsTilted s t c.args.a c.args.b c.in_ok-placed.placed.at tilted.marks) c.requires.measured.times
-          (subst (λ at. IsTilted s c.args.measured.now.times.now c.args.a c.args.b at tilted.marks) c.as_slice-at.ensures tilted.ensures.tilted);
-      alike = tilted.ensures.alike flat.0 (subst (λ t. IsCall s t c.args.a c.args.b flat.0) (sym c.requires.measured.times) flat.1);
+      placed =
+          (span_set c.args.measured.now.starts.now c.args.measured.now.others.now
+          (map (λ s. s.column.now) c.as_slice-columns.result.now) c.requires.fits c.requires.measured.columns
+          c.requires.measured.gaps
+          (ap (map (λ s. s.column.now)) c.as_slice-columns.ensures ∙ c.in_ok-seen.ensures)).1 c.in_ok-placed.placed
+          c.in_ok-placed.ensures;
+      tilted =
+          subst (λ t. IsTilted s t c.args.a c.args.b c.in_ok-placed.placed.at tilted.marks) c.requires.measured.times
+          (subst (λ at. IsTilted s c.args.measured.now.times.now c.args.a c.args.b at tilted.marks)
+          c.as_slice-at.ensures tilted.ensures.tilted);
+      alike =
+          tilted.ensures.alike flat.0
+          (subst (λ t. IsCall s t c.args.a c.args.b flat.0) (sym c.requires.measured.times) flat.1);
     }

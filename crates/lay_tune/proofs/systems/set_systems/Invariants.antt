@@ -10,7 +10,9 @@ use Rattle.lay_tune.proofs.systems.set_systems.Given as goal
 abbrev pub invariant-loop-b : goal.invariant-loop-b
 invariant-loop-b l = record {
   kept : l.voices ≡ map drawn_voice l.measured.score.now.voices;
-  systems : (more : List SystemMarks) (at : List Placed) → EachSpan (IsSetSystem l.measured.score.now l.measured.width) l.a (drop l.b-index l.breaks) more at → EachSpan (IsSetSystem l.measured.score.now l.measured.width) 0 l.breaks (l.marks ++ more) (l.placed ++ at);
+  systems : (more : List SystemMarks) (at : List Placed)
+      → EachSpan (IsSetSystem l.measured.score.now l.measured.width) l.a (drop l.b-index l.breaks) more at
+      → EachSpan (IsSetSystem l.measured.score.now l.measured.width) 0 l.breaks (l.marks ++ more) (l.placed ++ at);
   heights : Beside (IsStack l.measured.score.now) l.marks l.heights;
   good : All (λ m. All (λ staff. AreGoodMarks staff.marks) m.staves) l.marks;
   fits : AllSpans (CanBeSet l.measured.score.now l.measured.width (listed l.spans.list)) l.a (drop l.b-index l.breaks);

@@ -9,4 +9,5 @@ returns-clause-events c = grind (arith, common_steps, walked)
 
 pub returns-clause-heads : goal.returns-clause-heads
 returns-clause-heads c =
-    let is : c.put_measures.new.events ≡ events_of_voice c.args.v.now = grind (arith, common_steps, walked) in subst (All (λ e. length e.heads ≤ 50000)) (sym is) (few_heads c.args.v.now c.requires.bodies)
+    let is : c.put_measures.new.events ≡ events_of_voice c.args.v.now = grind (arith, common_steps, walked) in
+    subst (All (λ e. length e.heads ≤ 50000)) (sym is) (few_heads c.args.v.now c.requires.bodies)

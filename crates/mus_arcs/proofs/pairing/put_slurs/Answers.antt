@@ -7,7 +7,9 @@ times-preserved c =
     let was : reverse c.times.ends.items ≡ c.in-Some.end ∷ reverse c.pop.new.self.items = grind (arith, common_steps) in
     record {
       left = drop-step c.args.count c.times._n c.in-Some.end _ _ _ c.times-test.true was c.times.invariant.left;
-      put = slurs-step c.args.count c.times._n c.args.start c.in-Some.end _ _ _ _ _ c.times-test.true was c.in_ok-put_slur.ensures c.times.invariant.put;
+      put =
+          slurs-step c.args.count c.times._n c.args.start c.in-Some.end _ _ _ _ _ c.times-test.true was
+          c.in_ok-put_slur.ensures c.times.invariant.put;
     }
 
 pub returns-in_default-clause-put : goal.returns-in_default-clause-put

@@ -7,7 +7,8 @@ use Rattle.mus_drawn.proofs.drawing.draw_measures.Given as goal
 
 abbrev pub invariant-loop-m : goal.invariant-loop-m
 invariant-loop-m l = record {
-  measures : l.out ++ drawn_measures l.style l.now (drop l.m-index l.measures) ≡ drawn_measures l.style l.fn.now l.measures;
+  measures : l.out ++ drawn_measures l.style l.now (drop l.m-index l.measures)
+      ≡ drawn_measures l.style l.fn.now l.measures;
   good : AreGoodMeasures l.out;
   key : IsGoodKey l.now.key;
   reach : AreInReach l.now.clef (events_of (drop l.m-index l.measures));

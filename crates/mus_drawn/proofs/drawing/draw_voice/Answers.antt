@@ -9,4 +9,6 @@ pub draw_measures-requires-clause-key : goal.draw_measures-requires-clause-key
 draw_measures-requires-clause-key c = subst (λ n. IsGoodKey n.key) (sym c.in_ok-now.ensures) c.requires.key
 
 pub draw_measures-requires-clause-events : goal.draw_measures-requires-clause-events
-draw_measures-requires-clause-events c = subst (λ ms. AllCanDraw (events_of ms)) (sym c.as_slice.ensures) (voice_can_draw c.args.v.now.verses (events_of c.args.v.now.measures) c.requires.few_verses c.requires.events)
+draw_measures-requires-clause-events c =
+    subst (λ ms. AllCanDraw (events_of ms)) (sym c.as_slice.ensures)
+    (voice_can_draw c.args.v.now.verses (events_of c.args.v.now.measures) c.requires.few_verses c.requires.events)

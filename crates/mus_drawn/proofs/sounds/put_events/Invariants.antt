@@ -4,7 +4,9 @@ use Rattle.mus_drawn.proofs.sounds.put_events.Given as goal
 
 abbrev pub invariant-loop-flat : goal.invariant-loop-flat
 invariant-loop-flat l = record {
-  sounds : l.out ++ events_sounds l.voice l.spread l.now l.said l.before (drop l.flat-index l.flats) ≡ l.fn.out ++ events_sounds l.voice l.spread l.fn.now [] l.fn.before l.flats;
+  sounds : l.out ++ events_sounds l.voice l.spread l.now l.said l.before (drop l.flat-index l.flats)
+      ≡ l.fn.out ++ events_sounds l.voice l.spread l.fn.now [] l.fn.before l.flats;
   now : standing_behind l.now (drop l.flat-index l.flats) ≡ standing_behind l.fn.now l.flats;
-  before : heard_behind l.spread l.now l.said l.before (drop l.flat-index l.flats) ≡ heard_behind l.spread l.fn.now [] l.fn.before l.flats;
+  before : heard_behind l.spread l.now l.said l.before (drop l.flat-index l.flats)
+      ≡ heard_behind l.spread l.fn.now [] l.fn.before l.flats;
 }

@@ -4,4 +4,5 @@ use Rattle.mus_ink.proofs.changes.count_if.Goals as goal
 
 pub new_count-requires-clause-few : goal.new_count-requires-clause-few
 new_count-requires-clause-few c =
-    let good : IsGoodKey c.in-Some.key = subst (λ k. IfSome k IsGoodKey) c.in-Some.is c.requires.key in subst (λ t. length t ≤ 7) (sym c.as_slice.ensures) (few_signs c.in-Some.key.signs good)
+    let good : IsGoodKey c.in-Some.key = subst (λ k. IfSome k IsGoodKey) c.in-Some.is c.requires.key in
+    subst (λ t. length t ≤ 7) (sym c.as_slice.ensures) (few_signs c.in-Some.key.signs good)

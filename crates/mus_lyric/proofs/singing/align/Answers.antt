@@ -2,7 +2,8 @@ use Rattle.std.proofs.{Common.◌≡◌, Common.arith, lemmas.Grind.common_steps
 use Rattle.mus_lyric.{specs.Singing.{first_measure, sung_from}, proofs.SingingLaws.{is_sung, is_one, is_value}}
 use Rattle.mus_lyric.proofs.singing.align.Goals as goal
 
-walked : (c : goal.Left-syllables) → c.syllables.sung ≡ sung_from c.args.syls.now (first_measure c.args.notes.now) c.args.notes.now
+walked : (c : goal.Left-syllables)
+    → c.syllables.sung ≡ sung_from c.args.syls.now (first_measure c.args.notes.now) c.args.notes.now
 walked c = grind (arith, common_steps)
 
 pub returns-clause-sung : goal.returns-clause-sung

@@ -14,5 +14,6 @@ returns-then-changes_nothing c =
     let same = ap (λ event. changes_nothing event.changes) c.event.ensures in
     let none : change_part c.args.keys.now c.args.measure c.args.drawn c.args.e.now ≡ [] =
     ap (λ b. change_part c.args.keys.now c.args.measure b c.args.e.now) c.if-drawn.false
-    ∙ ap (map (drawn_at _)) (nothing_marks _ _ _ (sym same ∙ sym c.changes_nothing.ensures ∙ c.if-changes_nothing.true)) in
+    ∙ ap (map (drawn_at _))
+    (nothing_marks _ _ _ (sym same ∙ sym c.changes_nothing.ensures ∙ c.if-changes_nothing.true)) in
     sym (append-nil c.args.pen.now.marks) ∙ ap (λ t. c.args.pen.now.marks ++ t) (sym none)

@@ -4,6 +4,7 @@ use Rattle.mus_marks.proofs.events.put_graces.Given as goal
 
 abbrev pub invariant-loop-i : goal.invariant-loop-i
 invariant-loop-i l = record {
-  marks : l.pen.marks ++ graces_from l.keys l.measure l.tick l.clef l.group l.i (drop l.i l.graces) ≡ l.fn.pen.marks ++ graces_from l.keys l.measure l.tick l.clef l.group 0 l.graces;
+  marks : l.pen.marks ++ graces_from l.keys l.measure l.tick l.clef l.group l.i (drop l.i l.graces)
+      ≡ l.fn.pen.marks ++ graces_from l.keys l.measure l.tick l.clef l.group 0 l.graces;
   good : AllCanGrace l.clef (drop l.i l.graces);
 }

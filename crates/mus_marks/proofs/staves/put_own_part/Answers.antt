@@ -4,4 +4,6 @@ use Rattle.mus_marks.proofs.staves.put_own_part.Goals as goal
 
 pub put_columns_part-requires-clause-good : goal.put_columns_part-requires-clause-good
 put_columns_part-requires-clause-good c =
-    subst (λ ms. AreGoodMeasures (take (c.args.frame.now.b - c.args.frame.now.a) (drop c.args.frame.now.a ms))) (sym c.as_slice.ensures) (good_slice c.args.frame.now.a (c.args.frame.now.b - c.args.frame.now.a) c.args.v.now.measures c.requires.good)
+    subst (λ ms. AreGoodMeasures (take (c.args.frame.now.b - c.args.frame.now.a) (drop c.args.frame.now.a ms)))
+    (sym c.as_slice.ensures)
+    (good_slice c.args.frame.now.a (c.args.frame.now.b - c.args.frame.now.a) c.args.v.now.measures c.requires.good)

@@ -10,7 +10,9 @@ invariant-loop-rest l = record {
   each : All (λ v. length v.measures ≡ length l.frame.lengths.now) l.rest;
   good : All (λ v. AreGoodMeasures v.measures) l.rest;
   verses : verses_on l.rest ≤ 128;
-  staves : l.staves ++ map (staff_marks l.frame.keys.now l.frame.lengths.now l.frame.a l.frame.b) (grouped is_drawn_lower l.rest) ≡ map (staff_marks l.frame.keys.now l.frame.lengths.now l.frame.a l.frame.b) (grouped is_drawn_lower l.voices);
+  staves : l.staves
+      ++ map (staff_marks l.frame.keys.now l.frame.lengths.now l.frame.a l.frame.b) (grouped is_drawn_lower l.rest)
+      ≡ map (staff_marks l.frame.keys.now l.frame.lengths.now l.frame.a l.frame.b) (grouped is_drawn_lower l.voices);
   lines : All CoversLines l.staves;
   shorter : length l.rest ≤ length l.voices;
 }

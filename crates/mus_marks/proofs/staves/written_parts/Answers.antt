@@ -9,17 +9,28 @@ use Rattle.mus_marks.proofs.staves.written_parts.Goals as goal
 
 pub loop-rest-preserved : goal.loop-rest-preserved
 loop-rest-preserved c =
-    let keys = c.args.frame.now.keys.now in let lengths = c.args.frame.now.lengths.now in let so_far = c.loop-rest.invariant in
+    let keys = c.args.frame.now.keys.now in
+    let lengths = c.args.frame.now.lengths.now in
+    let so_far = c.loop-rest.invariant in
     let rest = c.loop-rest.rest.now in let v = c.v-item.result in let behind = take (length rest - 1) (drop 1 rest) in
-    let place = c.loop-rest.place in let next = c.in_ok-place.place in let part = c.in_ok-part.part in let follows = not c.is_empty-follows.result in let front = front_is rest v c.in-len1-up.len_at_least c.v-item.is in
-    let is : next ≡ word_room_after (length keys) place v.verses part follows = c.in_ok-place.ensures ∙ ap (λ p. word_room_after (length keys) place v.verses p follows) c.as_slice.ensures in
-    let few : next.first + verses_on behind ≤ 129 = next_first (length keys) v behind rest place next part follows front is so_far.verses in
+    let place = c.loop-rest.place in
+    let next = c.in_ok-place.place in
+    let part = c.in_ok-part.part in
+    let follows = not c.is_empty-follows.result in
+    let front = front_is rest v c.in-len1-up.len_at_least c.v-item.is in
+    let is : next ≡ word_room_after (length keys) place v.verses part follows =
+    c.in_ok-place.ensures ∙ ap (λ p. word_room_after (length keys) place v.verses p follows) c.as_slice.ensures in
+    let few : next.first + verses_on behind ≤ 129 =
+    next_first (length keys) v behind rest place next part follows front is so_far.verses in
     record {
       each = all_behind (λ w. length w.measures ≡ length lengths) v behind rest front so_far.each;
       good = all_behind (λ w. AreGoodMeasures w.measures) v behind rest front so_far.good;
       first = omega (arith, few);
       room = next_room (length keys) v behind rest place next part follows front is ∙ so_far.room;
       verses = few;
-      parts = next_part keys lengths c.args.room c.args.frame.now.a c.args.frame.now.b v behind rest place next part c.loop-rest.parts c.push.new.self _ follows front so_far.room c.in_ok-part.ensures is
-          (none_behind (length behind) c.is_empty-follows.result c.is_empty-follows.ensures) c.in_ok-push.ensures.ok so_far.parts;
+      parts =
+          next_part keys lengths c.args.room c.args.frame.now.a c.args.frame.now.b v behind rest place next part
+          c.loop-rest.parts c.push.new.self _ follows front so_far.room c.in_ok-part.ensures is
+          (none_behind (length behind) c.is_empty-follows.result c.is_empty-follows.ensures) c.in_ok-push.ensures.ok
+          so_far.parts;
     }

@@ -9,7 +9,10 @@ invariant-loop-rest l = record {
   first : l.place.first ≤ 129;
   room : l.place.room ≡ l.fn.room;
   verses : l.place.first + verses_on l.rest ≤ 129;
-  parts : l.parts ++ written_parts l.frame.keys.now l.frame.lengths.now l.fn.room l.frame.a l.frame.b l.place.first l.place.before l.rest ≡ written_parts l.frame.keys.now l.frame.lengths.now l.fn.room l.frame.a l.frame.b 1 [] l.voices;
+  parts : l.parts
+      ++ written_parts l.frame.keys.now l.frame.lengths.now l.fn.room l.frame.a l.frame.b l.place.first l.place.before
+      l.rest
+      ≡ written_parts l.frame.keys.now l.frame.lengths.now l.fn.room l.frame.a l.frame.b 1 [] l.voices;
 }
 
 abbrev pub decreases-loop-rest : goal.decreases-loop-rest

@@ -20,22 +20,34 @@ invariant_of-frame c =
     }
 
 pub staves-requires-clause-each : goal.staves-requires-clause-each
-staves-requires-clause-each c = voices_count c.args.s.now c.args.t.now c.as_slice-2.result.now c.as_slice-2.ensures c.requires.times c.args.voices.now c.requires.good c.requires.voices
+staves-requires-clause-each c =
+    voices_count c.args.s.now c.args.t.now c.as_slice-2.result.now c.as_slice-2.ensures c.requires.times
+    c.args.voices.now c.requires.good c.requires.voices
 
 pub returns-clause-call : goal.returns-clause-call
 returns-clause-call c = record {
   from = refl;
   to = refl;
   keys = c.in_ok-keys.ensures.keys;
-  staves = c.in_ok-staves.ensures.staves ∙ ap (λ ks. map (staff_marks ks c.as_slice-2.result.now c.args.a c.args.b) (grouped is_drawn_lower c.args.voices.now)) c.as_slice.ensures
-      ∙ ap (λ ls. map (staff_marks c.in_ok-keys.keys ls c.args.a c.args.b) (grouped is_drawn_lower c.args.voices.now)) c.as_slice-2.ensures
-      ∙ ap (λ vs. map (staff_marks c.in_ok-keys.keys c.args.t.now.lengths c.args.a c.args.b) (grouped is_drawn_lower vs)) c.requires.voices;
+  staves =
+      c.in_ok-staves.ensures.staves
+      ∙ ap (λ ks.
+      map (staff_marks ks c.as_slice-2.result.now c.args.a c.args.b) (grouped is_drawn_lower c.args.voices.now))
+      c.as_slice.ensures
+      ∙ ap (λ ls. map (staff_marks c.in_ok-keys.keys ls c.args.a c.args.b) (grouped is_drawn_lower c.args.voices.now))
+      c.as_slice-2.ensures
+      ∙ ap (λ vs.
+      map (staff_marks c.in_ok-keys.keys c.args.t.now.lengths c.args.a c.args.b) (grouped is_drawn_lower vs))
+      c.requires.voices;
 }
 
 pub returns-clause-good : goal.returns-clause-good
 returns-clause-good c =
     let call = returns-clause-call c in
-    subst (λ ss. All (λ s. AreGoodMarks s.marks) ss) (sym call.staves) (staves_good c.in_ok-keys.keys c.args.t.now.lengths c.args.a c.args.b (drawn_staves c.args.s.now) (staves_fit c.args.s.now c.requires.good))
+    subst (λ ss. All (λ s. AreGoodMarks s.marks) ss) (sym call.staves)
+    (staves_good c.in_ok-keys.keys c.args.t.now.lengths c.args.a c.args.b (drawn_staves c.args.s.now)
+    (staves_fit c.args.s.now c.requires.good))
 
 pub staves-requires-clause-verses : goal.staves-requires-clause-verses
-staves-requires-clause-verses c = subst (λ vs. verses_on vs ≤ 128) (sym c.requires.voices) (few_verses c.args.s.now c.requires.good)
+staves-requires-clause-verses c =
+    subst (λ vs. verses_on vs ≤ 128) (sym c.requires.voices) (few_verses c.args.s.now c.requires.good)

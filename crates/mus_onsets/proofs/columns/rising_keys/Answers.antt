@@ -10,9 +10,19 @@ use Rattle.mus_onsets.proofs.columns.rising_keys.Goals as goal
 
 pub returns : goal.returns
 returns c =
-    let is = dedup_is _ _ _ c.dedup.ensures.filtered in let moved = c.sort_unstable.ensures.permutation in let view : c.keys.inside.items.items ≡ c.args.keys = c.keys.view_is in
+    let is = dedup_is _ _ _ c.dedup.ensures.filtered in
+    let moved = c.sort_unstable.ensures.permutation in
+    let view : c.keys.inside.items.items ≡ c.args.keys = c.keys.view_is in
     record {
-      rise = rw is (rises_from_sorted _ (IsStrictlySortedBy-dedup total-law matches_eq-law _ c.sort_unstable.ensures.sorted));
-      all = λ k h. rw is (Contains-dedup laws-law same_from_eq _ k (Contains-permutation _ _ k moved (subst (λ z. Contains z k) (sym view) h)));
-      only = λ k h. subst (λ z. Contains z k) view (Contains-permutation _ _ k (IsPermutation-sym _ _ moved) (Contains-from_dedup _ _ k (rw is at h)));
+      rise =
+          rw is (rises_from_sorted _
+          (IsStrictlySortedBy-dedup total-law matches_eq-law _ c.sort_unstable.ensures.sorted));
+      all =
+          λ k h.
+          rw is (Contains-dedup laws-law same_from_eq _ k
+          (Contains-permutation _ _ k moved (subst (λ z. Contains z k) (sym view) h)));
+      only =
+          λ k h.
+          subst (λ z. Contains z k) view
+          (Contains-permutation _ _ k (IsPermutation-sym _ _ moved) (Contains-from_dedup _ _ k (rw is at h)));
     }

@@ -11,12 +11,16 @@ pub returns-clause-each : goal.returns-clause-each
 returns-clause-each c =
     let leaves = in_row (map leaves_within c.args.body.now) 1 1 in
     let e : c.put_nodes.new.out ≡ flats_of c.args.body.now =
-    c.in_ok-put_nodes.ensures.0 ∙ ap (λ out. out ++ (leaves c.no_waits-waits.result).flats) c.in_ok-out.ensures ∙ ap (λ waits. (leaves waits).flats) c.no_waits-waits.ensures in
+    c.in_ok-put_nodes.ensures.0
+    ∙ ap (λ out. out ++ (leaves c.no_waits-waits.result).flats) c.in_ok-out.ensures
+    ∙ ap (λ waits. (leaves waits).flats) c.no_waits-waits.ensures in
     All-same IsGoodFlat c.put_nodes.new.out (flats_of c.args.body.now) e (flats_good c.args.body.now c.requires)
 
 pub returns-clause-even : goal.returns-clause-even
 returns-clause-even c =
     let leaves = in_row (map leaves_within c.args.body.now) 1 1 in
     let e : c.put_nodes.new.out ≡ flats_of c.args.body.now =
-    c.in_ok-put_nodes.ensures.0 ∙ ap (λ out. out ++ (leaves c.no_waits-waits.result).flats) c.in_ok-out.ensures ∙ ap (λ waits. (leaves waits).flats) c.no_waits-waits.ensures in
+    c.in_ok-put_nodes.ensures.0
+    ∙ ap (λ out. out ++ (leaves c.no_waits-waits.result).flats) c.in_ok-out.ensures
+    ∙ ap (λ waits. (leaves waits).flats) c.no_waits-waits.ensures in
     subst (λ r. AreEvenEvents r c.args.body.now) (sym e) (flats_even c.args.body.now c.requires)

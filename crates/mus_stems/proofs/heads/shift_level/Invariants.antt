@@ -6,5 +6,7 @@ abbrev pub invariant-loop-s : goal.invariant-loop-s
 invariant-loop-s l = record {
   count : l.i ≡ l.s-index;
   near : AllNear (drop l.s-index l.stands);
-  moved : (rest : List Taken) → shifted (head_shift l.up) l.before (taken_at l.up l.v l.i (drop l.s-index l.stands) rest) l.shifts ≡ shifted (head_shift l.up) l.fn.last (taken_at l.up l.v 0 l.stands rest) l.fn.shifts;
+  moved : (rest : List Taken)
+      → shifted (head_shift l.up) l.before (taken_at l.up l.v l.i (drop l.s-index l.stands) rest) l.shifts
+      ≡ shifted (head_shift l.up) l.fn.last (taken_at l.up l.v 0 l.stands rest) l.fn.shifts;
 }

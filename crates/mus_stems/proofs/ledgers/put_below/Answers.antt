@@ -4,5 +4,7 @@ use Rattle.mus_stems.proofs.ledgers.put_below.Goals as goal
 
 pub loop-k-preserved : goal.loop-k-preserved
 loop-k-preserved c =
-    let s = lines_step line_below c.loop-k.k c.count_below-k-end.result c.loop-k-test.true in let same : to_z w32 (of_z w32 c.ledger_below.result) ≡ c.ledger_below.result = omega (arith, ints) in
-    pushed c.loop-k.out c.push.new.self _ _ _ _ _ c.in_ok-push.ensures.ok (same ∙ c.ledger_below.ensures) s c.loop-k.invariant
+    let s = lines_step line_below c.loop-k.k c.count_below-k-end.result c.loop-k-test.true in
+    let same : to_z w32 (of_z w32 c.ledger_below.result) ≡ c.ledger_below.result = omega (arith, ints) in
+    pushed c.loop-k.out c.push.new.self _ _ _ _ _ c.in_ok-push.ensures.ok (same ∙ c.ledger_below.ensures) s
+    c.loop-k.invariant

@@ -8,4 +8,7 @@ use Rattle.ps_machine.proofs.execute.execute_simple.Goals as goal
 pub returns-in-Name : goal.returns-in-Name
 returns-in-Name c =
     let e : name_token c.as_slice-in-Name.result.now ≡ c.args.t.now = cc in
-    subst (λ t. IsExecuted (executed (simple_token t) (state_of c.args.m.now)) c.args.calls.now c.execute_name.result (state_of c.execute_name.new.m) c.execute_name.new.calls) e c.execute_name.ensures
+    subst (λ t.
+    IsExecuted (executed (simple_token t) (state_of c.args.m.now)) c.args.calls.now c.execute_name.result
+    (state_of c.execute_name.new.m) c.execute_name.new.calls)
+    e c.execute_name.ensures

@@ -6,6 +6,17 @@ pub returns-clause-right : goal.returns-clause-right
 unfolding rules_line
 returns-clause-right c w y some wide number e =
     let n = small_number w wide in let zero = small_number 0 (lit≤ tt) in
-    let k = c.in_ok-zs.ensures (rules_numbers w y) (codes "sf")
-    (n, (small_number 2000 (lit≤ tt), (n, (small_number 1500 (lit≤ tt), (n, (small_number 1000 (lit≤ tt), (n, (small_number 500 (lit≤ tt), (n, (zero, (zero, (number, tt)))))))))))) refl e in
+    let k = c.in_ok-zs.ensures (rules_numbers w y) (codes "sf") (
+      n,
+      (
+        small_number 2000 (lit≤ tt),
+        (
+          n,
+          (
+            small_number 1500 (lit≤ tt),
+            (n, (small_number 1000 (lit≤ tt), (n, (small_number 500 (lit≤ tt), (n, (zero, (zero, (number, tt)))))))),
+          ),
+        ),
+      ),
+    ) refl e in
     c.rules_of.ensures.right w y some wide (c.as_slice.ensures ∙ k.0)

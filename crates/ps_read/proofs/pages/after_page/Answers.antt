@@ -7,4 +7,6 @@ returns-then-is_text c = on_trailer c.args.sheet c.args.raw.now (c.is_text.ensur
 
 pub returns-then-branch : goal.returns-then-branch
 returns-then-branch c =
-    let h = c.in_ok-is_next_heading.ensures.0 c.if-branch.true in on_heading c.args.sheet c.args.raw.now (h.1 ∙ ap (λ n. heading_line (n + 1)) c.len.ensures) (subst (λ n. n + 1 < 2 ^ 32) c.len.ensures h.0)
+    let h = c.in_ok-is_next_heading.ensures.0 c.if-branch.true in
+    on_heading c.args.sheet c.args.raw.now (h.1 ∙ ap (λ n. heading_line (n + 1)) c.len.ensures)
+    (subst (λ n. n + 1 < 2 ^ 32) c.len.ensures h.0)

@@ -6,4 +6,6 @@ pub returns : goal.returns
 unfolding last_text
 returns c =
     c.in_ok-append.ensures.ok
-    ∙ ap (λ t. t ++ LAST.now) (c.in_ok-put_glyphs.ensures ∙ (ap (λ t. t ++ glyph_lines c.all_glyphs.result.now) c.new-rest.ensures ∙ ap glyph_lines c.all_glyphs.ensures))
+    ∙ ap (λ t. t ++ LAST.now)
+    (c.in_ok-put_glyphs.ensures
+    ∙ (ap (λ t. t ++ glyph_lines c.all_glyphs.result.now) c.new-rest.ensures ∙ ap glyph_lines c.all_glyphs.ensures))

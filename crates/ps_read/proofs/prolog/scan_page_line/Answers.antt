@@ -8,32 +8,60 @@ pub returns-in_err-rest-clause-told : goal.returns-in_err-rest-clause-told
 returns-in_err-rest-clause-told c l b s ll lb ls e = absurd (c.in_err-rest.ensures _ (e ∙ page_form l b s))
 
 pub returns-in_err-left-clause-told : goal.returns-in_err-left-clause-told
-returns-in_err-left-clause-told c l b s ll lb ls e = let t = after_prefix PAGE_START.now c.args.raw.now c.in_ok-rest.rest.now _ c.in_ok-rest.ensures (e ∙ page_form l b s) in absurd (c.in_err-left.ensures l _ ll t)
+returns-in_err-left-clause-told c l b s ll lb ls e =
+    let t =
+    after_prefix PAGE_START.now c.args.raw.now c.in_ok-rest.rest.now _ c.in_ok-rest.ensures (e ∙ page_form l b s) in
+    absurd (c.in_err-left.ensures l _ ll t)
 
 pub returns-in_err-bottom-clause-told : goal.returns-in_err-bottom-clause-told
 returns-in_err-bottom-clause-told c l b s ll lb ls e =
-    let r2 = codes "translate " ++ after_bottom s in let t = after_prefix PAGE_START.now c.args.raw.now c.in_ok-rest.rest.now _ c.in_ok-rest.ensures (e ∙ page_form l b s) in
-    let x = c.in_ok-left.ensures in let m = one_field c.in_ok-left.left l c.in_ok-rest.rest.now c.in_ok-left.rest.now (decimal b ++ (32 ∷ r2)) (omega (arith, x)) (omega (arith, ll)) x.0 t in
+    let r2 = codes "translate " ++ after_bottom s in
+    let t =
+    after_prefix PAGE_START.now c.args.raw.now c.in_ok-rest.rest.now _ c.in_ok-rest.ensures (e ∙ page_form l b s) in
+    let x = c.in_ok-left.ensures in
+    let m = one_field c.in_ok-left.left l c.in_ok-rest.rest.now c.in_ok-left.rest.now (decimal b ++ (32 ∷ r2))
+    (omega (arith, x)) (omega (arith, ll)) x.0 t in
     absurd (c.in_err-bottom.ensures b r2 lb m.1)
 
 pub returns-in_err-rest-2-clause-told : goal.returns-in_err-rest-2-clause-told
 returns-in_err-rest-2-clause-told c l b s ll lb ls e =
-    let r2 = codes "translate " ++ after_bottom s in let t = after_prefix PAGE_START.now c.args.raw.now c.in_ok-rest.rest.now _ c.in_ok-rest.ensures (e ∙ page_form l b s) in
-    let x = c.in_ok-left.ensures in let m = one_field c.in_ok-left.left l c.in_ok-rest.rest.now c.in_ok-left.rest.now (decimal b ++ (32 ∷ r2)) (omega (arith, x)) (omega (arith, ll)) x.0 t in
-    let y = c.in_ok-bottom.ensures in let n = one_field c.in_ok-bottom.bottom b c.in_ok-left.rest.now c.in_ok-bottom.rest.now r2 (omega (arith, y)) (omega (arith, lb)) y.0 m.1 in
+    let r2 = codes "translate " ++ after_bottom s in
+    let t =
+    after_prefix PAGE_START.now c.args.raw.now c.in_ok-rest.rest.now _ c.in_ok-rest.ensures (e ∙ page_form l b s) in
+    let x = c.in_ok-left.ensures in
+    let m = one_field c.in_ok-left.left l c.in_ok-rest.rest.now c.in_ok-left.rest.now (decimal b ++ (32 ∷ r2))
+    (omega (arith, x)) (omega (arith, ll)) x.0 t in
+    let y = c.in_ok-bottom.ensures in
+    let n = one_field c.in_ok-bottom.bottom b c.in_ok-left.rest.now c.in_ok-bottom.rest.now r2 (omega (arith, y))
+    (omega (arith, lb)) y.0 m.1 in
     absurd (c.in_err-rest-2.ensures (after_bottom s) n.1)
 
 pub returns-in_err-scale-clause-told : goal.returns-in_err-scale-clause-told
 returns-in_err-scale-clause-told c l b s ll lb ls e =
-    let r2 = codes "translate " ++ after_bottom s in let t = after_prefix PAGE_START.now c.args.raw.now c.in_ok-rest.rest.now _ c.in_ok-rest.ensures (e ∙ page_form l b s) in
-    let x = c.in_ok-left.ensures in let m = one_field c.in_ok-left.left l c.in_ok-rest.rest.now c.in_ok-left.rest.now (decimal b ++ (32 ∷ r2)) (omega (arith, x)) (omega (arith, ll)) x.0 t in
-    let y = c.in_ok-bottom.ensures in let n = one_field c.in_ok-bottom.bottom b c.in_ok-left.rest.now c.in_ok-bottom.rest.now r2 (omega (arith, y)) (omega (arith, lb)) y.0 m.1 in
-    let k = after_prefix (codes "translate ") c.in_ok-bottom.rest.now c.in_ok-rest-2.rest.now (after_bottom s) c.in_ok-rest-2.ensures n.1 in absurd (none-some s (c.in_err-scale.ensures s _ ls k))
+    let r2 = codes "translate " ++ after_bottom s in
+    let t =
+    after_prefix PAGE_START.now c.args.raw.now c.in_ok-rest.rest.now _ c.in_ok-rest.ensures (e ∙ page_form l b s) in
+    let x = c.in_ok-left.ensures in
+    let m = one_field c.in_ok-left.left l c.in_ok-rest.rest.now c.in_ok-left.rest.now (decimal b ++ (32 ∷ r2))
+    (omega (arith, x)) (omega (arith, ll)) x.0 t in
+    let y = c.in_ok-bottom.ensures in
+    let n = one_field c.in_ok-bottom.bottom b c.in_ok-left.rest.now c.in_ok-bottom.rest.now r2 (omega (arith, y))
+    (omega (arith, lb)) y.0 m.1 in
+    let k = after_prefix (codes "translate ") c.in_ok-bottom.rest.now c.in_ok-rest-2.rest.now (after_bottom s)
+    c.in_ok-rest-2.ensures n.1 in
+    absurd (none-some s (c.in_err-scale.ensures s _ ls k))
 
 pub returns-clause-told : goal.returns-clause-told
 returns-clause-told c l b s ll lb ls e =
-    let r2 = codes "translate " ++ after_bottom s in let t = after_prefix PAGE_START.now c.args.raw.now c.in_ok-rest.rest.now _ c.in_ok-rest.ensures (e ∙ page_form l b s) in
-    let x = c.in_ok-left.ensures in let m = one_field c.in_ok-left.left l c.in_ok-rest.rest.now c.in_ok-left.rest.now (decimal b ++ (32 ∷ r2)) (omega (arith, x)) (omega (arith, ll)) x.0 t in
-    let y = c.in_ok-bottom.ensures in let n = one_field c.in_ok-bottom.bottom b c.in_ok-left.rest.now c.in_ok-bottom.rest.now r2 (omega (arith, y)) (omega (arith, lb)) y.0 m.1 in
-    let k = after_prefix (codes "translate ") c.in_ok-bottom.rest.now c.in_ok-rest-2.rest.now (after_bottom s) c.in_ok-rest-2.ensures n.1 in
+    let r2 = codes "translate " ++ after_bottom s in
+    let t =
+    after_prefix PAGE_START.now c.args.raw.now c.in_ok-rest.rest.now _ c.in_ok-rest.ensures (e ∙ page_form l b s) in
+    let x = c.in_ok-left.ensures in
+    let m = one_field c.in_ok-left.left l c.in_ok-rest.rest.now c.in_ok-left.rest.now (decimal b ++ (32 ∷ r2))
+    (omega (arith, x)) (omega (arith, ll)) x.0 t in
+    let y = c.in_ok-bottom.ensures in
+    let n = one_field c.in_ok-bottom.bottom b c.in_ok-left.rest.now c.in_ok-bottom.rest.now r2 (omega (arith, y))
+    (omega (arith, lb)) y.0 m.1 in
+    let k = after_prefix (codes "translate ") c.in_ok-bottom.rest.now c.in_ok-rest-2.rest.now (after_bottom s)
+    c.in_ok-rest-2.ensures n.1 in
     let last = c.in_ok-scale.ensures s _ ls k in grind (arith, m, n, last)

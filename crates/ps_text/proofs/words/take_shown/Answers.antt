@@ -3,7 +3,12 @@ use Rattle.ps_text.proofs.{Numbers.tail_of, Shown.slashed, Shown.bare, Shown.sho
 use Rattle.ps_text.proofs.words.take_shown.Goals as goal
 
 pub returns-in-empty-clause-reads : goal.returns-in-empty-clause-reads
-returns-in-empty-clause-reads c b rest h e = let l = c.in-empty.len_below in elim (shows_of b c.args.bytes.now rest h e) [ slashed more k ↦ omega (arith, ap length k) | bare n k ↦ omega (arith, ap length k) ]
+returns-in-empty-clause-reads c b rest h e =
+    let l = c.in-empty.len_below in
+    elim (shows_of b c.args.bytes.now rest h e) [
+      | slashed more k ↦ omega (arith, ap length k)
+      | bare n k ↦ omega (arith, ap length k)
+    ]
 
 pub returns-in-41-clause-reads : goal.returns-in-41-clause-reads
 returns-in-41-clause-reads c b rest h e = let i = c.in-41.is in elim (shows_of b c.args.bytes.now rest h e) [

@@ -6,7 +6,9 @@ pub returns-in-41 : goal.returns-in-41
 returns-in-41 c = stray c.in-Some.rest.now (c.in-Some.ensures.cases.0 ∙ ap (λ b. b ∷ c.in-Some.rest.now) c.in-41.is)
 
 pub returns-in-123 : goal.returns-in-123
-returns-in-123 c = opening_front c.in-Some.rest.now (c.in-Some.ensures.cases.0 ∙ ap (λ b. b ∷ c.in-Some.rest.now) c.in-123.is)
+returns-in-123 c =
+    opening_front c.in-Some.rest.now (c.in-Some.ensures.cases.0 ∙ ap (λ b. b ∷ c.in-Some.rest.now) c.in-123.is)
 
 pub returns-in-125 : goal.returns-in-125
-returns-in-125 c = closing_front c.in-Some.rest.now (c.in-Some.ensures.cases.0 ∙ ap (λ b. b ∷ c.in-Some.rest.now) c.in-125.is)
+returns-in-125 c =
+    closing_front c.in-Some.rest.now (c.in-Some.ensures.cases.0 ∙ ap (λ b. b ∷ c.in-Some.rest.now) c.in-125.is)

@@ -11,5 +11,8 @@ work_all-requires-send-O g c κs within = param_send 2 _ (arg_send _ no _ outcom
 pub returns : goal.returns
 returns g c =
     let outcomes = c.in_ok-outcomes.outcomes in
-    subst (λ tunes. AreOutcomes (terms_of (defaults_of c.args.book.now.header) c.args.paper.now c.args.how) tunes outcomes) c.as_slice.ensures
-    (subst (λ defaults. AreOutcomes (terms_of defaults c.args.paper.now c.args.how) c.as_slice.result.now outcomes) c.in_ok-defaults.ensures.value c.in_ok-outcomes.ensures)
+    subst (λ tunes.
+    AreOutcomes (terms_of (defaults_of c.args.book.now.header) c.args.paper.now c.args.how) tunes outcomes)
+    c.as_slice.ensures
+    (subst (λ defaults. AreOutcomes (terms_of defaults c.args.paper.now c.args.how) c.as_slice.result.now outcomes)
+    c.in_ok-defaults.ensures.value c.in_ok-outcomes.ensures)

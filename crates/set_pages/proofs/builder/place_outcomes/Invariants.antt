@@ -4,6 +4,7 @@ use Rattle.set_pages.proofs.builder.place_outcomes.Given as goal
 
 abbrev pub invariant-loop-outcome : goal.invariant-loop-outcome
 invariant-loop-outcome l = record {
-  way : IsParting l.fn.begun (into_iter_items l.initial.outcome-iterator) l.spots l.begun (into_iter_items l.outcome-iterator) l.rest l.stood;
+  way : IsParting l.fn.begun (into_iter_items l.initial.outcome-iterator) l.spots l.begun
+      (into_iter_items l.outcome-iterator) l.rest l.stood;
   count : into_iter_len l.outcome-iterator ≡ length (into_iter_items l.outcome-iterator);
 }

@@ -11,7 +11,11 @@ returns-in-Ok-move_score-clause-score c =
       is = c.in-Ok.ensures.score;
       drawn = c.in-Ok-draw_score.drawn;
       draws = c.in-Ok-draw_score.ensures.drawn;
-      moved = subst (λ by. IsMoved c.in-Ok-draw_score.drawn c.in-Ok.read.0.key by (Some c.in-Ok-move_score.score)) whole c.in-Ok-move_score.ensures.moved;
-      sounds = subst (λ by. AreHigher by (sounds_of c.in-Ok-draw_score.drawn) (sounds_of c.in-Ok-move_score.score)) whole c.in-Ok-move_score.ensures.sounds;
+      moved =
+          subst (λ by. IsMoved c.in-Ok-draw_score.drawn c.in-Ok.read.0.key by (Some c.in-Ok-move_score.score)) whole
+          c.in-Ok-move_score.ensures.moved;
+      sounds =
+          subst (λ by. AreHigher by (sounds_of c.in-Ok-draw_score.drawn) (sounds_of c.in-Ok-move_score.score)) whole
+          c.in-Ok-move_score.ensures.sounds;
       good = c.in-Ok-move_score.ensures.good;
     }

@@ -3,7 +3,9 @@ use Rattle.set_tune.{specs.Blocks.{HasGoodHeight, blocks_of}, proofs.Laid.{few_b
 use Rattle.set_tune.proofs.setting.on_pages.Goals as goal
 
 pub blocks_of-requires : goal.blocks_of-requires
-blocks_of-requires c = subst (λ hs. All HasGoodHeight hs) (sym c.as_slice.ensures) (good_heights c.args.laid.score c.args.laid.systems c.args.laid.heights c.requires.laid.1.heights)
+blocks_of-requires c =
+    subst (λ hs. All HasGoodHeight hs) (sym c.as_slice.ensures)
+    (good_heights c.args.laid.score c.args.laid.systems c.args.laid.heights c.requires.laid.1.heights)
 
 pub fill-requires-clause-few : goal.fill-requires-clause-few
 fill-requires-clause-few c =
