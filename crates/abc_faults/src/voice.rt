@@ -162,7 +162,9 @@ fn sound_fault(
 }
 
 /// The first fault of a note, a chord or a rest of these parts. Puts its weight, behind those of its graces.
-#[tactic(auto, using(crate::proofs::Firsts::first_append, crate::proofs::Caps::capped_append), unfolding(crate::specs::Faults::sound_faults, crate::specs::Weights::sound_count, abc_steps::specs::Lengths::parts_at))]
+#[tactic(auto, using(crate::proofs::Firsts::first_append, crate::proofs::Caps::capped_append), //
+unfolding(crate::specs::Faults::sound_faults, crate::specs::Weights::sound_count, //
+abc_steps::specs::Lengths::parts_at))]
 fn judge_sound(
     weights: &mut Row<Weight>,
     now: &VoiceState,

@@ -56,7 +56,8 @@ fn any_slash(waits: &[PlacedStep]) -> bool
 }
 
 /// Adds what a step says of the event behind it, changes and slashes aside.
-#[tactic(auto, unfolding(crate::specs::Waits::decos_in, crate::specs::Waits::mentions_in, crate::specs::Waits::ending_behind, crate::specs::Waits::graces_in))]
+#[tactic(auto, unfolding(crate::specs::Waits::decos_in, crate::specs::Waits::mentions_in, //
+crate::specs::Waits::ending_behind, crate::specs::Waits::graces_in))]
 fn put_waiting(alloc: Global, out: &mut Pending, s: &Step) -> Result<(), Memory>
     ensures changes { OnOk result (out.new.changes ≡ out.old.changes) }
     ensures decos { OnOk result (out.new.decos ≡ out.old.decos ++ decos_in s.now) }

@@ -74,7 +74,8 @@ pub fn no_counts() -> Counts
 
 /// Counts a step. Most steps leave the counts as they are.
 #[inline(always)]
-#[tactic(auto, unfolding(crate::specs::Kinds::is_event, crate::specs::Kinds::is_bar, crate::specs::Counts::begins_group, crate::specs::Counts::further_measures))]
+#[tactic(auto, unfolding(crate::specs::Kinds::is_event, crate::specs::Kinds::is_bar, //
+crate::specs::Counts::begins_group, crate::specs::Counts::further_measures))]
 pub fn count_step(counts: &mut Counts, s: &PlacedStep)
     requires groups { counts.old.groups ≤ 2 ^ 30 }
     requires further { counts.old.further ≤ 2 ^ 46 }

@@ -77,7 +77,8 @@ const DEFAULT_HALF_STEPS: i8 = 0;
 
 /// The text of the usage line; `usage` gives it.
 const USAGE: &[u8] =
-    b"usage: abcps set [--flow] [--jobs N] [--transpose N] [--even] | systems [--flow] [--table] [--transpose N] | inspect | check | make N | trial N [--flow] [--jobs N] [--even] | paint | hear W\n";
+    b"usage: abcps set [--flow] [--jobs N] [--transpose N] [--even] | systems [--flow] [--table] [--transpose N] | \
+      inspect | check | make N | trial N [--flow] [--jobs N] [--even] | paint | hear W\n";
 
 impl Command {
     /// The most bytes that its input may have; 0 where it reads none.

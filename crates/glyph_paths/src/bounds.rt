@@ -26,7 +26,8 @@ fn within(left: i32, low: i32, right: i32, high: i32) -> Bounds
 }
 
 /// The bounds of each glyph, so that no outline is walked for them.
-#[tactic(auto, unfolding(crate::specs::Bounds::bounds_in, crate::specs::Bounds::extent, crate::specs::Bounds::coordinates, crate::specs::Bounds::coordinate, crate::specs::Bounds::further))]
+#[tactic(auto, unfolding(crate::specs::Bounds::bounds_in, crate::specs::Bounds::extent, //
+crate::specs::Bounds::coordinates, crate::specs::Bounds::coordinate, crate::specs::Bounds::further))]
 fn known_bounds(g: Glyph) -> Bounds
     ensures { result ≡ bounds_in g }
 {

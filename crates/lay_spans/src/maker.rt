@@ -20,7 +20,8 @@ pub(crate) struct SpanMaker<'a, C: Spaced + Spring> {
     pub(crate) gaps: &'a [u32],
     pub(crate) width: u32,
     pub(crate) marks: &'a [bool],
-    pub(crate) ghost measures: { AreMeasures C.reach_of (length gaps.now) starts.now others.now } by { measures_prop C.reach_of (length gaps.now) starts.now others.now },
+    pub(crate) ghost measures: { AreMeasures C.reach_of (length gaps.now) starts.now others.now } //
+    by { measures_prop C.reach_of (length gaps.now) starts.now others.now },
     pub(crate) ghost lanes: { length gaps.now < 2 ^ 32 },
     pub(crate) ghost narrow: { (lane : ℕ) → lane < length gaps.now → slice_index gaps.now lane ≤ 2 ^ 20 },
     pub(crate) ghost marked: { length marks.now ≡ length starts.now + 1 },

@@ -106,7 +106,8 @@ fn points_up(wish: Wish, low: i32, high: i32) -> bool
 }
 
 /// Whether the stems of a run go up.
-#[tactic(auto, unfolding(crate::specs::Ends::stands_up), using(crate::proofs::Ranges::run_low_near, crate::proofs::Ranges::run_high_near))]
+#[tactic(auto, unfolding(crate::specs::Ends::stands_up), using(crate::proofs::Ranges::run_low_near, //
+crate::proofs::Ranges::run_high_near))]
 pub fn run_points_up(wish: Wish, run: &[StemInput]) -> bool
     requires { AllGood run.now }
     ensures { result ≡ stands_up wish run.now }

@@ -146,7 +146,8 @@ fn put_all_runs(
 ///
 /// `first` is the clef in force before them, `wish` the way of stems that the voice asks for. Each
 /// head stands at a height of -14 to 22 in its clef.
-#[tactic(auto, using(crate::proofs::Taking::stills_are_good, crate::proofs::PlanLaws::are_plans, crate::proofs::EndLaws::ends_near, crate::proofs::EndLaws::plans_length), unfolding(crate::specs::Plans::stems_of))]
+#[tactic(auto, using(crate::proofs::Taking::stills_are_good, crate::proofs::PlanLaws::are_plans, //
+crate::proofs::EndLaws::ends_near, crate::proofs::EndLaws::plans_length), unfolding(crate::specs::Plans::stems_of))]
 pub fn stems(
     alloc: Global,
     events: &[Flat<'_>],

@@ -290,7 +290,8 @@ fn copy_all_with(alloc: Global, plans: &[StemPlan], ends: &[i32]) -> Result<Row<
 /// `at` has the abscissa of each event in u, from 0 to 2^40, rising within a beam. The line climbs
 /// from the first event to the last by the difference of their own ends, at most 500, and stands as
 /// far out as the own ends of its events ask. An event without a beam keeps its own end.
-#[tactic(auto, using(crate::proofs::SlopeLaws::anchors_are, crate::proofs::SlopeLaws::ends_length, crate::proofs::SlopeLaws::sloped_length), unfolding(crate::specs::Slope::sloped))]
+#[tactic(auto, using(crate::proofs::SlopeLaws::anchors_are, crate::proofs::SlopeLaws::ends_length, //
+crate::proofs::SlopeLaws::sloped_length), unfolding(crate::specs::Slope::sloped))]
 pub fn slope(alloc: Global, plans: &[StemPlan], at: &[i64]) -> Result<Row<StemPlan>, Memory>
     requires each { length at.now ≡ length plans.now }
     requires ends { AllEndsNear plans.now }

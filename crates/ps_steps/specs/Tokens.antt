@@ -52,7 +52,8 @@ passed false (b ∷ s) = elim (is_white_space b) [
 -- the line that makes the font, one token
 abbrev pub font_line : List ℕ
 font_line =
-    codes "/Courier findfont dup length dict begin {1 index /FID ne {def} {pop pop} ifelse} forall /Encoding ISOLatin1Encoding def currentdict end /EngFont exch definefont pop"
+    codes "/Courier findfont dup length dict begin {1 index /FID ne {def} {pop pop} ifelse} forall /Encoding "
+    ++ codes "ISOLatin1Encoding def currentdict end /EngFont exch definefont pop"
 
 abbrev pub some_digits : List ℕ → Bool
 some_digits [] = false

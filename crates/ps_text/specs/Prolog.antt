@@ -40,7 +40,8 @@ procedures =
     ++ codes "/t1 {gsave translate m show grestore} def\n"
     ++ codes "/t2 {gsave /EngFont findfont 1600 scalefont setfont translate m show grestore} def\n"
     ++ codes
-    "/Courier findfont dup length dict begin {1 index /FID ne {def} {pop pop} ifelse} forall /Encoding ISOLatin1Encoding def currentdict end /EngFont exch definefont pop\n"
+    "/Courier findfont dup length dict begin {1 index /FID ne {def} {pop pop} ifelse} forall /Encoding "
+    ++ codes "ISOLatin1Encoding def currentdict end /EngFont exch definefont pop\n"
 
 -- the procedure that begins a page, up to the left margin
 unfoldable pub page_start : List ℕ

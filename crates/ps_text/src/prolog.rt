@@ -16,7 +16,26 @@ pub const BOX: &[u8] = b"%%BoundingBox: 0 0 ";
 
 /// From behind the bounding box to the procedure that begins a page.
 pub const PROCEDURES: &[u8] =
-    b"%%LanguageLevel: 2\n%%Pages: (atend)\n%%EndComments\n%%BeginProlog\n/m {moveto} def\n/l {lineto} def\n/c {curveto} def\n/h {closepath fill} def\n/k {stroke} def\n/sf {gsave translate 0 0 m l 0 500 m l 0 1000 m l 0 1500 m l 0 2000 m l stroke grestore} def\n/vl {m l stroke} def\n/st {gsave translate m l stroke grestore} def\n/bu {gsave 280 0 translate m l l l h grestore} def\n/bd {gsave -280 0 translate m l l l h grestore} def\n/gb {gsave 190 0 translate m l l l h grestore} def\n/ac {m c stroke} def\n/t1 {gsave translate m show grestore} def\n/t2 {gsave /EngFont findfont 1600 scalefont setfont translate m show grestore} def\n/Courier findfont dup length dict begin {1 index /FID ne {def} {pop pop} ifelse} forall /Encoding ISOLatin1Encoding def currentdict end /EngFont exch definefont pop\n";
+    b"%%LanguageLevel: 2\n\
+      %%Pages: (atend)\n\
+      %%EndComments\n\
+      %%BeginProlog\n\
+      /m {moveto} def\n\
+      /l {lineto} def\n\
+      /c {curveto} def\n\
+      /h {closepath fill} def\n\
+      /k {stroke} def\n\
+      /sf {gsave translate 0 0 m l 0 500 m l 0 1000 m l 0 1500 m l 0 2000 m l stroke grestore} def\n\
+      /vl {m l stroke} def\n\
+      /st {gsave translate m l stroke grestore} def\n\
+      /bu {gsave 280 0 translate m l l l h grestore} def\n\
+      /bd {gsave -280 0 translate m l l l h grestore} def\n\
+      /gb {gsave 190 0 translate m l l l h grestore} def\n\
+      /ac {m c stroke} def\n\
+      /t1 {gsave translate m show grestore} def\n\
+      /t2 {gsave /EngFont findfont 1600 scalefont setfont translate m show grestore} def\n\
+      /Courier findfont dup length dict begin {1 index /FID ne {def} {pop pop} ifelse} forall /Encoding \
+      ISOLatin1Encoding def currentdict end /EngFont exch definefont pop\n";
 
 /// The procedure that begins a page, up to the left margin.
 pub const PAGE_START: &[u8] = b"/pg {gsave 0.01 0.01 scale ";

@@ -117,7 +117,8 @@ fn put_arc(
 }
 
 /// Adds the line of a mark on a staff, without the LF that ends it.
-#[tactic(auto, using(crate::proofs::Signs::as_passed, crate::proofs::Letters::letters_of_glyph), unfolding(crate::specs::Line::glyph_line, crate::specs::Line::words_line, crate::specs::Line::stem_line))]
+#[tactic(auto, using(crate::proofs::Signs::as_passed, crate::proofs::Letters::letters_of_glyph), //
+unfolding(crate::specs::Line::glyph_line, crate::specs::Line::words_line, crate::specs::Line::stem_line))]
 pub fn put_op(out: &mut Text, end: &LineEnd, m: &PageMark) -> Result<(), Memory>
     requires { IsPageMark end.now.y m.now }
     ensures { OnOk result (out.new ≡ out.old ++ mark_line end.now.y m.now) }

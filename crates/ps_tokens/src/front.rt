@@ -21,7 +21,8 @@ pub enum TokenStart<'a> {
 }
 
 const FONT: &[u8] =
-    b"/Courier findfont dup length dict begin {1 index /FID ne {def} {pop pop} ifelse} forall /Encoding ISOLatin1Encoding def currentdict end /EngFont exch definefont pop";
+    b"/Courier findfont dup length dict begin {1 index /FID ne {def} {pop pop} ifelse} forall /Encoding \
+      ISOLatin1Encoding def currentdict end /EngFont exch definefont pop";
 
 fn font_bytes() -> &'static [u8]
     ensures { result.now ≡ font_line }
