@@ -105,7 +105,7 @@ from-takes s sign b rest None e is = tt
 from-takes s sign b rest (Some l) e is =
     let marks = span_all is_mark rest in let len = length_from marks.1 in let p = length_at-takes marks.1 in
     let behind : rest ≡ marks.0 ++ length_then len.0 len.1 =
-      span_all-takes is_mark rest ∙ ap (λ t. marks.0 ++ t) p.0 in (
+    span_all-takes is_mark rest ∙ ap (λ t. marks.0 ++ t) p.0 in (
       e ∙ ap (λ t. sign_then sign (t ∷ rest)) is ∙ ap (λ t. sign_then sign (letter_byte l.0 l.1 ∷ t)) behind,
       record { marks = span_all-pass is_mark rest; length = p.1 },
     )

@@ -15,8 +15,7 @@ pub const FIRST: &[u8] = b"%!PS-Adobe-3.0\n";
 pub const BOX: &[u8] = b"%%BoundingBox: 0 0 ";
 
 /// From behind the bounding box to the procedure that begins a page.
-pub const PROCEDURES: &[u8] =
-    b"%%LanguageLevel: 2\n\
+pub const PROCEDURES: &[u8] = b"%%LanguageLevel: 2\n\
       %%Pages: (atend)\n\
       %%EndComments\n\
       %%BeginProlog\n\
