@@ -100,7 +100,10 @@ def prove(crate, sums, jobs):
         if ran.returncode:
             shutil.rmtree(part)
             return f"{crate.name} isn't proved:\n{ran.stdout}", 0
-        os.rename(part, room)
+        try:
+            os.rename(part, room)
+        except OSError:  # another clone has proved the same meanwhile
+            shutil.rmtree(part)
         took = time.monotonic() - before
     sums[crate.name] = summed(room, all_files(room))
     put_statements(room, os.path.dirname(crate.rlib))

@@ -1,8 +1,10 @@
 -- A book as it is set, pressed and written, a batch of its tunes after another.
-use Rattle.std.specs.Prelude.{◌≡◌, ◌⊎◌, ℕ, List, [], ◌++◌, All, Bool, true, false, if◌then◌else◌, Result, Ok, Err}
+use Rattle.std.specs.Prelude.{◌≡◌, ◌⊎◌, ℕ, List, [], ◌++◌, All, Bool, true, false, if◌then◌else◌, flat_map, Result, Ok}
+use Rattle.std.specs.Prelude.{Err}
+use Rattle.std.specs.List.{AllZip}
 use Rattle.abc_lines.specs.declared.book.TuneText.{TuneText}
 use Rattle.abc_fields.specs.declared.paper.Paper.{Paper}
-use Rattle.abc_fields.specs.Papers.{IsGoodPaper, body_height}
+use Rattle.abc_fields.specs.Papers.{IsGoodPaper, body_height, body_width}
 use Rattle.eng_io.specs.Causes.{Rose}
 use Rattle.ps_text.specs.Document.{trailer}
 use Rattle.ps_text.specs.Prolog.{prolog}
@@ -12,7 +14,9 @@ use Rattle.set_lists.specs.Reports.{reports, some_fault}
 use Rattle.lay_pages.specs.declared.filling.Block.{Block}
 use Rattle.lay_pages.specs.Filling.{AreGoodBlocks}
 use Rattle.set_pages.specs.Flow.{ending}
-use Rattle.set_pages.specs.Builder.{AddsOutcomes, HasRoom, CanGoOn, IsBuiltFrom, RisesBy, begun_text}
+use Rattle.set_pages.specs.Builder.{AddsOutcomes, HasRoom, CanGoOn, IsBuiltFrom, IsTextOfOutcome, RisesBy}
+use Rattle.set_pages.specs.Builder.{begun_text}
+use Rattle.set_pages.specs.declared.builder.PlacedOutcome.{PlacedOutcome}
 use Rattle.set_pages.specs.Sheet.{IsPagePlan, IsSetUnder, paper_frame}
 use Rattle.set_pages.specs.declared.builder.PageBuilder.{PageBuilder}
 use Rattle.set_pages.specs.declared.plan.PagePlan.{PagePlan}
@@ -23,6 +27,7 @@ use Rattle.abcps.specs.Books.{CallsPages, status_of}
 use Rattle.abcps.specs.Outcome.{SetStoppedEarly, IsQuiet, Stream, WroteWhole, FailedAfterPrefix, TookPrefix}
 use Rattle.abcps.specs.declared.building.WrittenBook.{WrittenBook}
 use Rattle.abcps.specs.declared.building.BookProgress.{BookProgress}
+use Rattle.abcps.specs.declared.printing.NextOutcomes.{NextOutcomes}
 use Rattle.abcps.specs.declared.status.Status.{Status}
 
 abbrev pub status_if : Bool → Status
@@ -70,6 +75,20 @@ pub record HaveAdded (plan : PagePlan) (paper : Paper) (before outcomes : List O
   pub pressed : AddsOutcomes plan paper before outcomes text press
   pub took : Took text
 
+-- with the texts of these placed outcomes, they run after those that were taken
+abbrev pub WillRun : PagePlan → Paper → List Outcome → List Outcome → List PlacedOutcome → BookProgress → Type 0
+WillRun plan paper before outcomes placed r =
+    (texts : List (List ℕ)) → AllZip (IsTextOfOutcome (body_width paper)) placed texts
+    → AddsOutcomes plan paper before outcomes (flat_map (λ text. text) texts) r.press
+    × IsRunning plan paper (before ++ outcomes) r
+
+-- the same but for what the writer has written
+pub record IsSameProgress (r next : BookProgress) : Type 0 where
+  pub press : next.press ≡ r.press
+  pub told : next.told ≡ r.told
+  pub refused : next.refused ≡ r.refused
+  pub uncounted : next.writer.pages ≡ 0
+
 -- outcomes were pressed and written behind those that were taken, or not to their end: memory may have run out before
 -- any went out
 abbrev pub IsBuiltOrStopped : PagePlan
@@ -79,6 +98,13 @@ IsBuiltOrStopped plan paper before outcomes o (Ok r) =
 IsBuiltOrStopped plan paper before outcomes o (Err why) =
     (StoppedAfterPrefix why o [])
     ⊎ ((press : PageBuilder) × HaveAdded plan paper before outcomes press (StoppedAfterPrefix why o))
+
+-- outcomes were written after those that were taken, and the next tunes were set; or they were not written to their end
+abbrev pub IsTurn : Terms → PagePlan
+    → List Outcome → List Outcome → List TuneText → Stream → Result NextOutcomes Status → Type 0
+IsTurn terms plan before outcomes next o (Ok t) =
+    IsBuiltOrStopped plan terms.paper before outcomes o (Ok t.run) × AreOutcomes terms next t.outcomes
+IsTurn terms plan before outcomes next o (Err why) = IsBuiltOrStopped plan terms.paper before outcomes o (Err why)
 
 -- the blocks of some tunes, once they were set
 pub record AreGathered (terms : Terms) (tunes : List TuneText) (blocks : List Block) : Type 0 where

@@ -1,24 +1,24 @@
-ghost use Rattle.std.specs.Prelude.{◌≡◌, List, IfOk, flat_map};
+ghost use Rattle.std.specs.Prelude.{◌≡◌, List, All, IfOk, OnOk, flat_map};
 ghost use Rattle.abc_fields.specs.declared.paper.Paper.{Paper};
-ghost use Rattle.abc_fields.specs.Papers.{IsGoodPaper};
+ghost use Rattle.abc_fields.specs.Papers.{IsGoodPaper, body_width};
 ghost use Rattle.ps_text.specs.Prolog.{prolog};
 ghost use Rattle.set_book.specs.declared.outcome.Outcome.{Outcome};
-ghost use Rattle.set_pages.specs.{declared.plan.PagePlan.PagePlan, Sheet.paper_frame};
+ghost use Rattle.set_pages.specs.{declared.plan.PagePlan.PagePlan, Builder.CanDrawOutcome, Sheet.paper_frame};
 ghost use Rattle.abcps.specs.Outcome.{IsCompleteStatus, observed};
-ghost use Rattle.abcps.specs.Progress.{CanAdd, IsBegun, IsFinished, IsBuiltOrStopped, IsRunning, WroteOrStopped};
+ghost use Rattle.abcps.specs.Progress.{CanAdd, IsBegun, IsFinished, IsRunning, IsSameProgress, WillRun, WroteOrStopped};
 ghost use Rattle.abcps.specs.Progress.{status_if};
 
 use crate::status::Status;
 use abc_fields::Paper;
 use eng_io::Sink;
-use eng_jobs::Jobs;
 use mus_units::{Memory, Row, Text};
 use ps_write::{DocWriter, begin, finish, send_pages};
 use set_book::Outcome;
 use set_lists::{has_fault, put_reports};
-use set_pages::{PageBuilder, PagePlan, add_outcomes, new_builder, paper_frame, put_ending};
+use set_pages::{
+    PageBuilder, PagePlan, PlacedOutcome, add_outcomes, new_builder, paper_frame, put_ending,
+};
 use std::alloc::Global;
-use std::thread::Threads;
 
 /// What runs along while the tunes of a book are set and its pages are written: where its blocks stand so far, the
 /// reports of the faults so far, whether there was one, and the document.
@@ -71,7 +71,7 @@ pub(crate) fn begin_book<O: Sink>(
     })
 }
 
-/// Writes texts, one behind another.
+/// Writes texts, one after another.
 fn send_all<O: Sink>(
     texts: Row<Text>,
     writer: DocWriter,
@@ -89,27 +89,41 @@ fn send_all<O: Sink>(
     Ok(writer)
 }
 
-/// Presses what came of some tunes behind those before them, and writes the text that they add. The outcomes are kept
-/// no longer.
-pub(crate) fn write_outcomes<R: Threads + Sync, O: Sink>(
-    rt: &R,
+/// Places the outcomes of some tunes after those before them, and adds their reports. The text of their pages is still
+/// to be made.
+pub(crate) fn place_outcomes(
     alloc: Global,
     paper: &Paper,
     plan: &PagePlan,
-    jobs: Jobs,
     outcomes: Row<Outcome>,
+    run: &mut BookProgress,
+) -> Result<Row<PlacedOutcome>, Memory>
+    requires { CanAdd plan.now paper.now outcomes run.old }
+    ensures ready { IfOk result (λ placed. All (CanDrawOutcome (body_width paper.now)) placed) }
+    ensures runs { IfOk result (λ placed.
+        (before : List Outcome)
+        → IsRunning plan.now paper.now before run.old
+        → WillRun plan.now paper.now before outcomes placed run.new) }
+    ensures uncounted { OnOk result (run.new.writer.pages ≡ 0) }
+{
+    put_reports(&mut run.told, outcomes.as_slice())?;
+    run.refused = run.refused || has_fault(outcomes.as_slice());
+    let placed = add_outcomes(alloc, paper, plan, outcomes, &mut run.press)?;
+    Ok(placed)
+}
+
+/// Writes the texts of outcomes that were placed.
+pub(crate) fn write_texts<O: Sink>(
+    texts: Row<Text>,
     run: BookProgress,
     output: &mut O,
 ) -> Result<BookProgress, Status>
-    requires { CanAdd plan.now paper.now outcomes run }
-    ensures { (before : List Outcome)
-        → IsRunning plan.now paper.now before run
-        → IsBuiltOrStopped plan.now paper.now before outcomes (observed O.taken O.faults output.old output.new) result }
+    requires { run.writer.pages ≡ 0 }
+    ensures wrote { WroteOrStopped (observed O.taken O.faults output.old output.new) (flat_map (λ text. text) texts)
+        result }
+    ensures same { IfOk result (IsSameProgress run) }
 {
     let mut run = run;
-    put_reports(&mut run.told, outcomes.as_slice())?;
-    run.refused = run.refused || has_fault(outcomes.as_slice());
-    let texts = add_outcomes(rt, alloc, paper, plan, outcomes, jobs, &mut run.press)?;
     run.writer = send_all(texts, run.writer, output)?;
     Ok(run)
 }

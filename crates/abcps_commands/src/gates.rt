@@ -1,8 +1,9 @@
-//! Gates that count the tunes that enter.
+//! Gates that count the tunes that enter, and one at which two tunes wait for each other.
 
 use crate::case::RunCase;
 use crate::running::{Finished, Host, PIECE, Streams, ran_through};
 use abcps::Gate;
+use case_texts::Meeting;
 use std::alloc::{AllocError, Global};
 use std::io;
 use std::sync::atomic::AtomicU64;
@@ -10,6 +11,9 @@ use std::sync::atomic::Ordering::SeqCst;
 
 /// How many tunes a gate knows.
 const MOST_TUNES: usize = 1000;
+
+/// How many turns a tune waits for the other.
+const TURNS: u32 = 200_000_000;
 
 /// A gate that keeps how often each tune entered, by its place in the book.
 #[derive(Drop)]
@@ -69,4 +73,25 @@ pub(crate) fn ran_counted<R: Host>(rt: &R, case: &RunCase) -> io::Result<(Finish
     let counter = make_counter(rt.alloc())?;
     let finished = ran_through(rt, case, &Streams::sound(PIECE), &counter)?;
     Ok((finished, counter.sum()))
+}
+
+/// A gate at which each of two tunes waits for the other.
+#[derive(Drop)]
+struct MeetingGate {
+    meeting: Meeting,
+}
+
+impl Gate for MeetingGate {
+    fn enter(&self, tune: u32) {
+        self.meeting.wait((tune % 2) as usize);
+    }
+}
+
+/// Runs a case of two tunes over streams that never fail, and returns whether the tunes met.
+pub(crate) fn ran_meeting<R: Host>(rt: &R, case: &RunCase) -> io::Result<(Finished, bool)> {
+    let gate = MeetingGate {
+        meeting: Meeting::new(TURNS),
+    };
+    let finished = ran_through(rt, case, &Streams::sound(PIECE), &gate)?;
+    Ok((finished, gate.meeting.have_met()))
 }

@@ -1,8 +1,8 @@
 //! Runs each command of the top call over streams in memory, and tells of each case in its folder whether what is
 //! answered and written is what stands there: over streams that never fail (the table `cases`), and with each call
-//! of each stream failing in turn (the table `failing`); and how often each tune of a book enters the gate (the table
-//! `gates`). `case` says how a line of a table is read. Then it tells of books and of painted programs, as `books`
-//! and `painting` say.
+//! of each stream failing in turn (the table `failing`); how often each tune of a book enters the gate (the table
+//! `gates`); and whether two tunes that wait for each other meet (the table `meetings`). `case` says how a line of a
+//! table is read. Then it tells of books and of painted programs, as `books` and `painting` say.
 #![tactic(auto)]
 
 mod books;
@@ -18,7 +18,7 @@ use crate::books::tell_books;
 use crate::case::{RunCase, named_case, verdict};
 use crate::failing::{is_told, tell_failures};
 use crate::files::read_table;
-use crate::gates::{Entered, ran_counted};
+use crate::gates::{Entered, ran_counted, ran_meeting};
 use crate::painting::tell_painted;
 use crate::running::{PIECE, Streams};
 pub use running::Host;
@@ -81,11 +81,30 @@ fn tell_gates<R: Host>(rt: &R) -> io::Result<()> {
     Ok(())
 }
 
+/// Tells a case of two tunes that wait for each other, and whether they met.
+fn tell_meeting<R: Host>(rt: &R, line: &str) -> io::Result<()> {
+    let (name, case) = named_case(rt, line)?;
+    let (finished, have_met) = ran_meeting(rt, &case)?;
+    let met = if have_met { "met" } else { "alone" };
+    let verdict = verdict(case.is_told(&finished));
+    println!(rt; "{name}, {met}: {verdict}")
+}
+
+/// Tells each case of the table `meetings`.
+fn tell_meetings<R: Host>(rt: &R) -> io::Result<()> {
+    let table = read_table(rt, "meetings")?;
+    for line in table.lines() {
+        tell_meeting(rt, line)?;
+    }
+    Ok(())
+}
+
 /// Tells each case of the tables, of the books and of the painted programs.
 pub fn tell_commands<R: Host>(rt: &R) -> io::Result<()> {
     tell_cases(rt)?;
     tell_failing(rt)?;
     tell_gates(rt)?;
+    tell_meetings(rt)?;
     tell_books(rt)?;
     tell_painted(rt)
 }

@@ -35,6 +35,11 @@ impl Meeting {
         }
     }
 
+    /// Returns whether both met the other.
+    pub fn have_met(&self) -> bool {
+        self.met[0].load(SeqCst) && self.met[1].load(SeqCst)
+    }
+
     /// Adds of each whether it met the other.
     pub fn put_met(&self, out: &mut Report) -> Result<(), Memory> {
         for met in &self.met {

@@ -70,4 +70,4 @@ NoneMayCome p raw = (l : ListingLine) → raw ≡ line_text l → MayCome p l �
 abbrev pub IsStep : place.ReaderState → List ℕ → List Judged → Option ListingState → Type 0
 IsStep p raw js o =
     MatchOption o (NoneMayCome p raw)
-    (λ s. (l : ListingLine) × (raw ≡ line_text l) × MayCome p l × Represents s js (next p l))
+    (λ s. (l : ListingLine) × (raw ≡ line_text l) × MayCome p l × Represents s js (state_after p l))

@@ -43,8 +43,8 @@ impl<'a, M: RowMaker> Work<u32, Row<u64>> for Making<'a, M> {
 
     ghost gives = { λ w a row. M.is_row w.maker.now a row };
 
-    fn work(&self, a: &u32, _jobs: Jobs) -> Result<Row<u64>, Memory> {
-        self.maker.costs_from(*a)
+    fn work(&self, a: u32, _jobs: Jobs) -> Result<Row<u64>, Memory> {
+        self.maker.costs_from(a)
     }
 }
 
@@ -62,7 +62,7 @@ fn bars_below(alloc: Global, n: u32) -> Result<Row<u32>, Memory>
 
 /// The table of a maker of `n` rows, whatever the number of jobs.
 ///
-/// The rows are made by all jobs, each the next that none has begun, side by side where threads can be made.
+/// The bars are halved by join, and the jobs with them; the halves are made side by side where threads can be made.
 pub fn make_rows<R: Threads + Sync, M: RowMaker + Sync>(
     rt: &R,
     alloc: Global,
@@ -76,6 +76,6 @@ pub fn make_rows<R: Threads + Sync, M: RowMaker + Sync>(
     ensures { IfOk result (λ made. IsCostTable (M.is_row maker.now) n made.rows) }
 {
     let bars = bars_below(alloc, n)?;
-    let rows = work_all(rt, alloc, bars.as_slice(), jobs, &Making { maker })?;
+    let rows = work_all(rt, alloc, bars, jobs, &Making { maker })?;
     Ok(Rows { rows })
 }

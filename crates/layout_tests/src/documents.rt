@@ -9,9 +9,8 @@ use eng_io::MemSink;
 use mus_units::{Memory, Row, Text};
 use ps_read::{PagesError, read_document};
 use ps_text::{Frame, Item, Page, Sheet, Staff, put_page, put_prolog, put_trailer};
-use ps_write::{DocError, begin, finish, page, put_pages_from, send_pages, write_document};
+use ps_write::{DocError, begin, finish, page, send_pages, write_document};
 use std::alloc::Global;
-use std::slice::from_ref;
 
 /// The line that ends what is the same in every document.
 const END_OF_PROLOG: &[u8] = b"%%EndProlog\n";
@@ -63,7 +62,7 @@ fn in_steps(alloc: Global, out: &mut MemSink) -> Result<(), DocError> {
     let w = begin(alloc, &paper(), out)?;
     let w = page(alloc, w, &empty_page(alloc), out)?;
     let mut text = Text::new(alloc);
-    put_pages_from(&mut text, 2, from_ref(&empty_page(alloc)))?;
+    put_page(&mut text, 2, &empty_page(alloc))?;
     let w = send_pages(w, 1, text.as_slice(), out)?;
     finish(alloc, w, out)
 }

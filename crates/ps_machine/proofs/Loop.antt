@@ -48,7 +48,7 @@ comes : (s : List ℕ) (calls : List SimpleToken) (m : State) (left : List Machi
     → AreTokensOf s left fault → IsTaken calls left t calls2 left2 → Coming (now calls m s) t calls2 m left2 fault
 comes s calls m left fault _ _ _ r (of_calls t more e) =
     rw e (record { rest = s; next = from_pending t more m s; read = r })
-comes s calls m left fault _ _ _ r (of_text t more e f) = rw e (token_comes s t more fault m (rw f state_before r))
+comes s calls m left fault _ _ _ r (of_text t more e f) = rw e (token_comes s t more fault m (rw f at r))
 
 ends : (s : List ℕ) → AreTokensOf s [] None → s ≡ []
 ends _ all_read = refl
@@ -69,13 +69,13 @@ module _ (text : List ℕ) (budget count : ℕ) (calls : List SimpleToken) (m : 
     last = now calls m c.rest;
     within = c.within;
     run = c.run;
-    ended = record { calls = e; text = ends c.rest (rw (f, g) state_before c.read) };
+    ended = record { calls = e; text = ends c.rest (rw (f, g) at c.read) };
     painted = refl;
   }
 
   pub come_unread : (cause : Cause) → calls ≡ [] → left ≡ [] → fault ≡ Some cause → Halts text budget count cause
   come_unread cause e f g =
-      let x = faulty c.rest cause (rw (f, g) state_before c.read) in
+      let x = faulty c.rest cause (rw (f, g) at c.read) in
       record {
         last = now calls m c.rest;
         within = c.within;

@@ -88,7 +88,7 @@ takes_definition name body ts m n b free =
     rw (
       append_assoc body (125 ∷ 32 ∷ []) (codes "def\n"),
       append_assoc name (32 ∷ []) (123 ∷ (body ++ 125 ∷ codes " def\n")),
-    ) state_before (both_taken label (both_taken (takes_body body ts m1 b) last))
+    ) at (both_taken label (both_taken (takes_body body ts m1 b) last))
 
 abbrev glyph_body_text : Glyph → List ℕ
 glyph_body_text g = (codes "gsave translate translate " ++ flat_map step_text (outline_of g)) ++ codes "grestore"

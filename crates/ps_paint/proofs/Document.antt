@@ -21,7 +21,7 @@ trailer_taken n m =
     let a = takes_comment (codes "%Trailer") m refl in
     let b = takes_comment (codes "%Pages: " ++ decimal n) m (number_in_line n) in
     let c = takes_comment (codes "%EOF") m refl in
-    rw (parts (codes "%%Trailer\n") (codes "%%Pages: " ++ decimal n) (codes "%%EOF\n")) state_before
+    rw (parts (codes "%%Trailer\n") (codes "%%Pages: " ++ decimal n) (codes "%%EOF\n")) at
     (both_taken (both_taken a b) c)
   where
     parts : (x y z : List ℕ) → (x ++ (y ++ 10 ∷ [])) ++ z ≡ (x ++ y) ++ 10 ∷ z
@@ -40,14 +40,14 @@ pub paints_sheets : PaintsSheets
 paints_sheets s text budget spells enough =
     let l = document_led s spells.good in let k = between (all_names s.frame) (paint_of s) in
     let run : TakesSteps l.count (state_before first_state (document s)) (state_before k []) =
-    rw (append-nil (document s)) state_before (l.takes.take []) in
+    rw (append-nil (document s)) at (l.takes.take []) in
     let few = l.few in
     let same = ap (λ t. length t) spells.spelled in
     record {
       count = l.count;
       last = state_before k [];
       within = omega (arith, few, same, enough);
-      run = rw spells.spelled state_before run;
+      run = rw spells.spelled at run;
       ended = record { calls = refl; text = refl };
       painted = refl;
     }

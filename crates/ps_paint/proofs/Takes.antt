@@ -157,7 +157,7 @@ takes_token {n} {t} {w} {body} {b} {m} {k} {l} i p e r = record {
         rest = state_before m rest;
         body = body;
         state = k;
-        next = rw (p.passes rest) state_before next;
+        next = rw (p.passes rest) at next;
         went = e;
         is = refl;
       } in
@@ -192,7 +192,7 @@ takes_numbers (z ∷ zs) m e =
     let k : State = record m { stack = whole_value z ∷ m.stack } in
     let one : Takes 1 (signed_decimal z ++ 32 ∷ []) m k =
     takes_word (number_word z ((and_parts (is_near z) (all_near zs) e).0)) space_passed refl in
-    rw (one-add (length zs)) state_before
+    rw (one-add (length zs)) at
     (both_taken one (takes_numbers zs k ((and_parts (is_near z) (all_near zs) e).1)))
 
 -- a line of numbers and of a name that runs a procedure

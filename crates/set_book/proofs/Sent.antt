@@ -26,12 +26,12 @@ bool_send : IsSend (as_row bool-field)
 bool_send = search sendable depth 10
 
 -- ---- lists, texts and what may be missing, by themselves and as fields
-row_send : (T : RattleType) → IsSend T → IsSend (units.text.Row.the_row T)
+pub row_send : (T : RattleType) → IsSend T → IsSend (units.text.Row.the_row T)
 row_send T s =
     view_send _ _ _ _ _
     (declared_send (units.text.Row.TheInside.the_type T) (as_row_send (row_field _) (Vec-send T s), tt))
 
-row : (T : RattleType) → IsSend T → IsSend (as_row (units.text.Row.the_field T))
+pub row : (T : RattleType) → IsSend T → IsSend (as_row (units.text.Row.the_field T))
 row T s = as_row_send (units.text.Row.the_field T) (row_send T s)
 
 text_send : IsSend units.text.Text.the_row

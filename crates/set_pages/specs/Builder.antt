@@ -1,13 +1,14 @@
 -- A book while its tunes are set, one list of outcomes after another: where their blocks stand,
 -- and the text that they add.
-use Rattle.std.specs.Prelude.{◌≡◌, ⊤, ℕ, ◌+◌, ◌^◌, ◌<◌, ◌≤◌, Bool, List, ◌++◌, Option, None, All, length, take, drop}
+use Rattle.std.specs.Prelude.{◌≡◌, ⊤, ℕ, ◌+◌, ◌^◌, ◌<◌, ◌≤◌, List, ◌++◌, Option, None, All, flat_map, length, take}
+use Rattle.std.specs.Prelude.{drop}
 use Rattle.std.specs.List.{AllZip}
 use Rattle.abc_fields.specs.{declared.paper.Paper.Paper, Papers.{body_height, body_width}}
 use Rattle.lay_pages.specs.declared.filling.Block.{Block}
 use Rattle.lay_pages.specs.declared.filling.Spot.{Spot}
 use Rattle.lay_pages.specs.declared.filling.PlacedBlock.{PlacedBlock}
 use Rattle.lay_pages.specs.Filling.{AreGoodBlocks, AreWithin, CanFollow, behind_after, spots_behind}
-use Rattle.set_pages.specs.Sheet.{AreStanding, IsPagePlan, IsSetUnder, all_spots, sheet_of}
+use Rattle.set_pages.specs.Sheet.{AreStanding, IsSetUnder, all_spots, sheet_of}
 use Rattle.set_pages.specs.declared.plan.PagePlan.{PagePlan}
 use Rattle.set_pages.specs.declared.builder.PageBuilder.{PageBuilder}
 use Rattle.set_pages.specs.declared.builder.PlacedOutcome.{PlacedOutcome}
@@ -89,6 +90,12 @@ AreDrawnInRange width s = AllZip (IsDrawnInRange width) (outcome_drawings s.outc
 pub record IsTextOfOutcome (width : ℕ) (s : PlacedOutcome) (text : List ℕ) : Type 0 where
   pub value : text ≡ placed_text width s
   pub drawn : AreDrawnInRange width s
+
+-- with the texts of these placed outcomes, outcomes are added after others
+abbrev pub WillAdd : PagePlan → Paper → List Outcome → List Outcome → List PlacedOutcome → PageBuilder → Type 0
+WillAdd plan paper before outcomes placed p =
+    (texts : List (List ℕ)) → AllZip (IsTextOfOutcome (body_width paper)) placed texts
+    → AddsOutcomes plan paper before outcomes (flat_map (λ text. text) texts) p
 
 -- outcomes whose blocks stand at these spots, behind so many pages that are begun
 pub record AreOutcomesAt (begun : ℕ) (outcomes : List Outcome) (spots : List Spot)

@@ -1,11 +1,11 @@
-ghost use Rattle.std.specs.{Prelude.{◌≡◌, ◌<◌, ◌^◌, ◌++◌, [], List, None, All, IfOk, OnOk, flat_map}, List.AllZip};
+ghost use Rattle.std.specs.{Prelude.{◌≡◌, ◌<◌, ◌^◌, ◌++◌, [], List, None, All, IfOk, OnOk}, List.AllZip};
 ghost use Rattle.abc_fields.specs.declared.paper.Paper as paper;
-ghost use Rattle.abc_fields.specs.Papers.{IsGoodPaper, body_height};
+ghost use Rattle.abc_fields.specs.Papers.{IsGoodPaper, body_height, body_width};
 ghost use Rattle.set_book.specs.declared.outcome.Outcome as outcome;
 ghost use Rattle.lay_pages.specs.Filling.{AreGoodBlocks, AreWithin, CanFollow, IsLoose, first_tall};
 ghost use Rattle.set_pages.specs.Drawings.{all_blocks, all_drawings};
 ghost use Rattle.set_pages.specs.Flow.{begun_after};
-ghost use Rattle.set_pages.specs.Builder.{AreOutcomesAt, AddsOutcomes, CanDrawOutcome, HasRoom, CanGoOn, IsBuiltFrom};
+ghost use Rattle.set_pages.specs.Builder.{AreOutcomesAt, CanDrawOutcome, HasRoom, CanGoOn, IsBuiltFrom, WillAdd};
 ghost use Rattle.set_pages.specs.Builder.{IsTextOfOutcome, RisesBy, next_last_block, next_spots, empty_builder};
 ghost use Rattle.set_pages.specs.Ready.{IsReady, IsWhole};
 ghost use Rattle.set_pages.specs.Sheet.{IsSetUnder};
@@ -15,12 +15,11 @@ use crate::blocks::all_blocks;
 use crate::drawing::{block_count, put_outcome};
 use crate::plan::PagePlan;
 use abc_fields::{Paper, body_of};
-use eng_jobs::{Jobs, Work, work_all};
+use eng_jobs::{Jobs, Work};
 use lay_pages::{Block, PlacedBlock, Placement, Spot, fill_after};
 use mus_units::{Memory, Row, Text};
 use set_book::Outcome;
 use std::alloc::Global;
-use std::thread::Threads;
 
 /// A book while its tunes are set, one list of outcomes after another: how many of its pages were begun, the last block
 /// with its place where blocks are filled, and how many blocks there were. What was set isn't kept once it is pressed.
@@ -31,15 +30,15 @@ pub struct PageBuilder {
     pub(crate) put: usize,
 }
 
-/// What came of a tune, where its blocks stand, and how many pages were begun before them.
+/// The outcome of a tune, the places of its blocks, and the number of pages that were begun before them.
 #[derive(Drop)]
-pub(crate) struct PlacedOutcome {
+pub struct PlacedOutcome {
     pub(crate) begun: u32,
     pub(crate) outcome: Outcome,
     pub(crate) spots: Row<Spot>,
 }
 
-/// A press with no outcomes.
+/// Returns a builder with no outcomes.
 pub fn new_builder() -> PageBuilder
     ensures value { result ≡ empty_builder }
     ensures pressed { (plan : plan.PagePlan) (paper : paper.Paper) → RisesBy plan → IsBuiltFrom plan paper [] result }
@@ -125,68 +124,77 @@ fn place_outcomes(
     Ok(stood)
 }
 
-/// The writing of what stands on pages of a width.
+/// The making of the text of placed outcomes, on pages whose body has this width.
 #[derive(Drop)]
-struct OutcomeWriter {
-    alloc: Global,
-    width: u32,
+pub struct OutcomeWriter {
+    pub alloc: Global,
+    pub width: u32,
+}
+
+impl OutcomeWriter {
+    /// Returns the making of text on a paper.
+    pub fn on(alloc: Global, paper: &Paper) -> OutcomeWriter
+        requires { IsGoodPaper paper.now }
+        ensures { result.width ≡ body_width paper.now }
+    {
+        let (width, _) = body_of(paper);
+        OutcomeWriter { alloc, width }
+    }
 }
 
 impl Work<PlacedOutcome, Text> for OutcomeWriter {
-    ghost takes = { λ w stood. CanDrawOutcome w.width stood };
+    ghost takes = { λ w placed. CanDrawOutcome w.width placed };
 
-    ghost gives = { λ w stood text. IsTextOfOutcome w.width stood text };
+    ghost gives = { λ w placed text. IsTextOfOutcome w.width placed text };
 
-    fn work(&self, stood: &PlacedOutcome, _jobs: Jobs) -> Result<Text, Memory> {
+    fn work(&self, placed: PlacedOutcome, _jobs: Jobs) -> Result<Text, Memory> {
         let mut text = Text::new(self.alloc);
         put_outcome(
             self.alloc,
             self.width,
-            u64::from(stood.begun),
-            &stood.outcome,
-            stood.spots.as_slice(),
+            u64::from(placed.begun),
+            &placed.outcome,
+            placed.spots.as_slice(),
             &mut text,
         )?;
         Ok(text)
     }
 }
 
-/// Presses outcomes behind those that were pressed, and gives the texts that they add to the document, one for each:
-/// the blocks of the tunes without fault stand on pages by the plan, in order, before the first block of a tune stands
-/// its ordinal, and where a block begins a page, the page before it ends. So many jobs make the texts.
+/// Places outcomes after those that were added, and returns them with the places of their blocks, of which
+/// `OutcomeWriter` makes the text that they add to the document: the blocks of the tunes without fault are on pages by
+/// the plan, in order; before the first block of a tune comes its ordinal, and where a block begins a page, the page
+/// before it ends.
 ///
-/// `Memory` comes where memory ran out; 2^32 pages or more count as past it.
-pub fn add_outcomes<R: Threads + Sync>(
-    rt: &R,
+/// `Memory` comes if memory runs out; 2^32 pages or more count as that too.
+pub fn add_outcomes(
     alloc: Global,
     paper: &Paper,
     plan: &PagePlan,
     outcomes: Row<Outcome>,
-    jobs: Jobs,
     press: &mut PageBuilder,
-) -> Result<Row<Text>, Memory>
+) -> Result<Row<PlacedOutcome>, Memory>
     requires paper { IsGoodPaper paper.now }
     requires outcomes { All (IsSetUnder paper.now) outcomes }
     requires room { HasRoom plan.now (body_height paper.now) press.old (all_blocks outcomes) }
     requires open { CanGoOn press.old }
-    ensures pressed { IfOk result (λ texts.
+    ensures ready { IfOk result (λ placed. All (CanDrawOutcome (body_width paper.now)) placed) }
+    ensures adds { IfOk result (λ placed.
         (before : List outcome.Outcome)
         → IsBuiltFrom plan.now paper.now before press.old
-        → AddsOutcomes plan.now paper.now before outcomes (flat_map (λ text. text) texts) press.new) }
+        → WillAdd plan.now paper.now before outcomes placed press.new) }
     ensures open { OnOk result (CanGoOn press.new) }
 {
-    let (width, high) = body_of(paper);
+    let (_, high) = body_of(paper);
     let blocks = all_blocks(alloc, outcomes.as_slice())?;
-    let placed = place_blocks(alloc, high, plan, press, blocks.as_slice())?;
+    let filled = place_blocks(alloc, high, plan, press, blocks.as_slice())?;
     let Some(put) = press.put.checked_add(blocks.len()) else {
         return Err(Memory);
     };
-    let spots = placed.spots.as_slice();
-    let stood = place_outcomes(alloc, press.begun, outcomes, spots)?;
-    let writing = OutcomeWriter { alloc, width };
-    let texts = work_all(rt, alloc, stood.as_slice(), jobs, &writing)?;
+    let spots = filled.spots.as_slice();
+    let placed = place_outcomes(alloc, press.begun, outcomes, spots)?;
     press.begun = begun_after(press.begun, spots)?;
-    press.behind = placed.behind;
+    press.behind = filled.behind;
     press.put = put;
-    Ok(texts)
+    Ok(placed)
 }

@@ -1,6 +1,13 @@
-use Rattle.std.{proofs.Common.take, specs.List.AllZip}
+use Rattle.std.proofs.Common.{◌≡◌, All, length}
+use Rattle.std.specs.Vec.Iter.{into_iter_items, into_iter_len}
+use Rattle.eng_jobs.proofs.ZipLaws.{Awaits}
 use Rattle.eng_jobs.proofs.work.work_in_turn.Given as goal
 
--- the outcomes so far are those of the items so far
+-- with the outcomes of the items that are left, the outcomes so far are those of all items
 abbrev pub invariant-loop-item : goal.invariant-loop-item
-invariant-loop-item g l = AllZip (g.W.Work.gives l.work) (take l.item-index l.items) l.outcomes
+invariant-loop-item g l = record {
+  awaits : Awaits (g.W.Work.gives l.work) (into_iter_items l.initial.item-iterator)
+      (into_iter_items l.item-iterator) l.outcomes;
+  taken : All (g.W.Work.takes l.work) (into_iter_items l.item-iterator);
+  count : into_iter_len l.item-iterator ≡ length (into_iter_items l.item-iterator);
+}

@@ -1,4 +1,4 @@
-use Rattle.std.{proofs.Common.{◌<◌, arith, subst}, specs.List.AllZip}
+use Rattle.std.proofs.Common.{◌<◌, arith, subst}
 use Rattle.lay_rows.specs.Tables.{IsCostTable}
 use Rattle.lay_rows.proofs.Tables.{table_of_bars, table_small}
 use Rattle.lay_rows.proofs.maker.make_rows.Goals.{In_ok-rows}
@@ -7,9 +7,7 @@ use Rattle.lay_rows.proofs.maker.make_rows.Goals as goal
 table : (g : _) (c : In_ok-rows g) → IsCostTable (g.M.RowMaker.is_row c.args.maker.now) c.args.n c.in_ok-rows.rows
 table g c =
     table_of_bars (g.M.RowMaker.is_row c.args.maker.now) c.args.n c.in_ok-bars.bars c.in_ok-rows.rows
-    c.in_ok-bars.ensures.count c.in_ok-bars.ensures.each
-    (subst (λ bars. AllZip (g.M.RowMaker.is_row c.args.maker.now) bars c.in_ok-rows.rows) c.as_slice.ensures
-    c.in_ok-rows.ensures)
+    c.in_ok-bars.ensures.count c.in_ok-bars.ensures.each c.in_ok-rows.ensures
 
 pub invariant_of-result : goal.invariant_of-result
 invariant_of-result g c =
