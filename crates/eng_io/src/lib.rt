@@ -1,7 +1,7 @@
-//! Sources of bytes and sinks for them, which count their faults.
+//! Sources and sinks of bytes that count their faults.
 //!
-//! Two traits, forms over memory that give and take in pieces and fail where they are told to, adapters
-//! over real streams, and reading and writing of a whole text with the cause of every failure.
+//! The crate has two traits, in-memory versions that work in pieces and fail on request, adapters over real streams,
+//! and reading and writing of a whole text with the cause of every failure.
 #![tactic(auto)]
 
 pub mod memory;

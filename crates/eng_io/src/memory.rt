@@ -8,8 +8,8 @@ use crate::traits::{Failed, Sink, Source};
 use mus_units::{Row, Text};
 use std::alloc::Global;
 
-/// Bytes in memory, given in pieces of at most `piece` bytes from the place `at`
-/// on. Exactly the calls numbered in `fails`, from 0, fail, and they take nothing.
+/// Bytes in memory, given in pieces of at most `piece` bytes from index `at` on. Exactly the calls numbered in
+/// `fails`, from 0, fail, and they take nothing.
 #[derive(Drop)]
 pub struct MemSource {
     pub bytes: Text,
@@ -23,7 +23,7 @@ pub struct MemSource {
 }
 
 impl MemSource {
-    /// The source that begins at the first of `bytes`. Takes no memory.
+    /// Returns the source that begins at the first of `bytes`. Takes no memory.
     pub fn new(bytes: Text, piece: u32, fails: Row<u64>) -> MemSource
         requires { 1 ≤ piece }
         ensures bytes { result.bytes ≡ bytes }
@@ -77,8 +77,8 @@ impl Source for MemSource {
     }
 }
 
-/// A sink that keeps its bytes and takes at most `piece` of them in each call. The calls numbered in
-/// `fails`, from 0, fail; any other call may fail for want of memory, and `refusals` counts those.
+/// A sink that keeps its bytes and takes at most `piece` of them in each call. The calls numbered in `fails`, from 0,
+/// fail. Any other call may fail because memory runs out, and `refusals` counts those.
 #[derive(Drop)]
 pub struct MemSink {
     pub bytes: Text,
@@ -90,7 +90,7 @@ pub struct MemSink {
 }
 
 impl MemSink {
-    /// The sink that has taken nothing. Takes no memory.
+    /// Returns the sink that has taken nothing. Takes no memory.
     pub fn new(alloc: Global, piece: u32, fails: Row<u64>) -> MemSink
         ensures bytes { result.bytes ≡ [] }
         ensures piece { result.piece ≡ piece }
@@ -109,14 +109,14 @@ impl MemSink {
         }
     }
 
-    /// How many of the failed calls weren't numbered to fail.
+    /// Returns how many of the failed calls weren't numbered to fail.
     pub fn refused(&self) -> u64
         ensures { result ≡ self.now.refusals }
     {
         self.refusals
     }
 
-    /// The bytes that were taken.
+    /// Returns the bytes taken so far.
     pub fn taken(&self) -> &[u8]
         ensures { result.now ≡ self.now.bytes }
     {

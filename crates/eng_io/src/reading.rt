@@ -6,16 +6,16 @@ use mus_units::{Memory, Text};
 use std::alloc::Global;
 use thiserror::Error;
 
-/// How many bytes one call of a source is asked for.
+/// How many bytes are requested in one call of a source.
 const MOST: usize = 65_536;
 
 /// Why a source wasn't read to its end.
 #[derive(Clone, Copy, Debug, PartialEq, Eq, Error)]
 pub enum ReadError {
-    /// A read failed: the source's count of faults rose.
+    /// A read failed: the source's fault count rose.
     #[error("the input failed")]
     Fault,
-    /// One byte more than the limit was taken.
+    /// The source gave one byte more than the limit.
     #[error("the input is too long")]
     TooLong,
     /// Memory ran out.
@@ -23,8 +23,8 @@ pub enum ReadError {
     Memory,
 }
 
-/// Reads a source to its end, in at most `limit` bytes. It takes at most one byte more than that, which
-/// is TooLong; Fault comes only where the source's count rose. Each turn takes a byte or is the last.
+/// Reads a source to its end, up to `limit` bytes. Takes at most one byte more than that; if it does, the result is
+/// `TooLong`. `Fault` is returned only if the source's fault count rose. Each iteration takes a byte or is the last.
 pub fn read_all<S: Source>(alloc: Global, src: &mut S, limit: u64) -> Result<Text, ReadError>
     requires { limit ≤ 2 ^ 40 }
     ensures took { ReadTook (S.left src.old) (S.left src.new) limit result }

@@ -1,7 +1,7 @@
 use crate::traits::{Failed, Sink, Source};
 use std::io::{Read, Write};
 
-/// A source over a stream of std. It counts each error of the stream, from 0 on.
+/// A source over a stream of std. It counts each error of the stream, starting at 0.
 #[derive(Drop)]
 pub struct StdSource<R> {
     pub reader: R,
@@ -11,7 +11,7 @@ pub struct StdSource<R> {
 impl<R> StdSource<R> {
     ghost use Rattle.std.specs.Prelude.{◌≡◌};
 
-    /// The source over `reader`. Takes no memory.
+    /// Returns the source over `reader`. Takes no memory.
     pub fn new(reader: R) -> StdSource<R>
         ensures reader { result.reader ≡ reader }
         ensures faults { result.faults ≡ 0 }
@@ -36,8 +36,8 @@ impl<R: Read> Source for StdSource<R> {
     }
 }
 
-/// A sink over a stream of std. It counts each error of the stream, and each time
-/// that it takes no byte of a piece that has one, from 0 on.
+/// A sink over a stream of std. It counts, starting at 0, each error of the stream, and each time that the stream
+/// takes no byte of a piece that has one.
 #[derive(Drop)]
 pub struct StdSink<W> {
     pub writer: W,
@@ -47,7 +47,7 @@ pub struct StdSink<W> {
 impl<W> StdSink<W> {
     ghost use Rattle.std.specs.Prelude.{◌≡◌};
 
-    /// The sink over `writer`. Takes no memory.
+    /// Returns the sink over `writer`. Takes no memory.
     pub fn new(writer: W) -> StdSink<W>
         ensures writer { result.writer ≡ writer }
         ensures faults { result.faults ≡ 0 }

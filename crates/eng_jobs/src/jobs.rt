@@ -1,6 +1,6 @@
 ghost use Rattle.std.specs.Prelude.{◌≤◌};
 
-/// How many threads may work side by side: 1 to 64.
+/// The number of threads that may work in parallel: 1 to 64.
 #[derive(Clone, Copy, PartialEq, Eq)]
 pub struct Jobs {
     pub count: u8,

@@ -1,4 +1,4 @@
--- Bytes that lack one byte, and where a list of bytes is cut.
+-- Bytes that lack one byte, and where a list of bytes is split.
 use Rattle.std.proofs.Common.{◌≡◌, ◌≢◌, ℕ, zero, suc, ◌+◌, ◌%◌, ◌<◌, ◌^◌, ◌⊎◌, inl, inr, true, false, eqb, List, []}
 use Rattle.std.proofs.Common.{◌∷◌, ◌++◌, length, take, drop, Some, None, refl, sym, ◌∙◌, ap, arith, slice_index_or}
 use Rattle.std.proofs.Common.{decimal}
@@ -16,7 +16,7 @@ pub lacks_both : (b : ℕ) (xs ys : List ℕ) → Lacks b xs → Lacks b ys → 
 lacks_both b [] ys h k = k
 lacks_both b (x ∷ xs) ys h k = (h.0, lacks_both b xs ys h.1 k)
 
--- numbers are of digits alone
+-- numbers consist of digits only
 pub decimal_lacks : (b n : ℕ) → (b < 48) ⊎ (57 < b) → n < 2 ^ 64 → Lacks b (decimal n)
 decimal_lacks b n out l = decimal_by_steps (λ n ds. Lacks b ds)
     (λ n h. (other n out h, tt))
@@ -35,7 +35,7 @@ abbrev pub tail_of : List ℕ → List ℕ
 tail_of [] = []
 tail_of (x ∷ xs) = xs
 
--- where the same list is cut at the same byte twice, the parts are the same
+-- if the same list is split at the same byte twice, the parts are the same
 pub one_cut : (b : ℕ) (f g r s : List ℕ) → Lacks b f → Lacks b g → f ++ b ∷ r ≡ g ++ b ∷ s → (f ≡ g) × (r ≡ s)
 one_cut b [] [] r s h k e = (refl, ap tail_of e)
 one_cut b [] (y ∷ g) r s h k e = absurd (k.0 (sym (ap head_of e)))
@@ -45,7 +45,7 @@ one_cut b (x ∷ f) (y ∷ g) r s h k e =
     let x_is : x ≡ y = ap head_of e in
     (ap (λ t. x ∷ t) m.0 ∙ ap (λ x. x ∷ g) x_is, m.1)
 
--- what lacks a byte isn't cut at it
+-- a list that lacks a byte isn't split at it
 pub lacks_none : (b : ℕ) (f r s : List ℕ) → Lacks b s → s ≡ f ++ b ∷ r → ⊥
 lacks_none b [] r [] h e = absurd (nothing e)
   where
@@ -65,7 +65,7 @@ lacks_each b (x ∷ s) h = (
     same : (x b : ℕ) → x ≡ b → eqb x b ≡ true
     same x b e = grind arith
 
--- cut at the first place of the byte
+-- split at the first occurrence of the byte
 cut_here : (b : ℕ) (s : List ℕ) (i : ℕ)
     → i < length s → eqb (slice_index_or s i 0) b ≡ true → ((k : ℕ) → k < i → eqb (slice_index_or s k 0) b ≡ false)
     → (s ≡ take i s ++ b ∷ drop (suc i) s) × Lacks b (take i s)
@@ -95,7 +95,7 @@ cut_none b s e = lacks_each b s (λ k l. elim (cases_lt (position_or_len (λ x. 
         → position (λ x. eqb x b) s ≡ Some (position_or_len (λ x. eqb x b) s)
     here lt = grind arith
 
--- where the same bytes are a number, a space and more in two ways, the two are the same
+-- if the same bytes are a number, a space and more in two ways, the two are the same
 pub one_field : (a n : ℕ) (t r s : List ℕ)
     → a < 2 ^ 64 → n < 2 ^ 64 → t ≡ decimal a ++ 32 ∷ r → t ≡ decimal n ++ 32 ∷ s → (a ≡ n) × (r ≡ s)
 one_field a n t r s la ln e f =
@@ -106,7 +106,7 @@ one_field a n t r s la ln e f =
 pub after_prefix : (p t r s : List ℕ) → t ≡ p ++ r → t ≡ p ++ s → r ≡ s
 after_prefix p t r s e f = append_cancel_left p r s (sym e ∙ f)
 
--- a number behind a prefix
+-- a number after a prefix
 pub one_from : (p t rest : List ℕ) (r : Option ℕ)
     → t ≡ p ++ rest
     → MatchOption r ((n : ℕ) → n < 2 ^ 32 → rest ≡ decimal n → ⊥) (λ n. (rest ≡ decimal n) × (n < 2 ^ 32))

@@ -1,4 +1,4 @@
--- What a line of a text is made of: bytes that lack the one that ends it.
+-- The contents of a line of a text: bytes that lack the one that ends it.
 use Rattle.std.specs.Prelude.{ℕ, ◌≢◌, List, [], ◌∷◌}
 
 -- the byte isn't among them

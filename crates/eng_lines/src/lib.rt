@@ -1,5 +1,5 @@
-//! Lines of a text, and the numbers on them: printed in decimal, and read as they
-//! are printed and in no other way.
+//! Lines of a text, and the numbers on them: printed in decimal, and read exactly in the form in which they are
+//! printed.
 #![tactic(auto)]
 
 pub mod numbers;

@@ -5,9 +5,9 @@ ghost use Rattle.eng_lines.specs.Lines.{Lacks};
 use itoa::Buffer;
 use mus_units::{Memory, Text};
 
-/// Puts a number at the end of a text, in decimal without leading zeros.
+/// Adds a number at the end of a text, in decimal without leading zeros.
 ///
-/// At an error the text is as it was.
+/// On an error the text is unchanged.
 pub fn put_number(out: &mut Text, number: u64) -> Result<(), Memory>
     ensures ok { OnOk result (out.new ≡ out.old ++ decimal number) }
     ensures err { OnErr result (out.new ≡ out.old) }
@@ -15,7 +15,7 @@ pub fn put_number(out: &mut Text, number: u64) -> Result<(), Memory>
     out.append(Buffer::new().format(number).as_bytes())
 }
 
-/// Puts a word at the end of a text, and a number behind it.
+/// Adds a word and then a number at the end of a text.
 pub fn put_named(out: &mut Text, name: &[u8], number: u64) -> Result<(), Memory>
     ensures { OnOk result (out.new ≡ out.old ++ name.now ++ decimal number) }
 {
@@ -23,7 +23,7 @@ pub fn put_named(out: &mut Text, name: &[u8], number: u64) -> Result<(), Memory>
     put_number(out, number)
 }
 
-/// Puts a space at the end of a text, and a number behind it.
+/// Adds a space and then a number at the end of a text.
 pub fn put_next(out: &mut Text, number: u64) -> Result<(), Memory>
     ensures { OnOk result (out.new ≡ out.old ++ 32 ∷ decimal number) }
 {
@@ -37,7 +37,8 @@ fn first_at(byte: u8, bytes: &[u8]) -> Option<usize>
     bytes.iter().position(|b| *b == byte)
 }
 
-/// The bytes before the first such byte, and those after it; `None` exactly where there is none.
+/// Splits at the first occurrence of a byte: returns the bytes before it and those after it. `None` exactly when
+/// there is none.
 pub fn cut_at(byte: u8, bytes: &[u8]) -> Option<(&[u8], &[u8])>
     ensures { MatchOption result (Lacks byte bytes.now)
         (λ z. (bytes.now ≡ z.0.now ++ byte ∷ z.1.now) × Lacks byte z.0.now) }
@@ -48,7 +49,7 @@ pub fn cut_at(byte: u8, bytes: &[u8]) -> Option<(&[u8], &[u8])>
     }
 }
 
-/// What stands behind the prefix; `None` exactly where the bytes don't begin with it.
+/// Returns the rest after the prefix. `None` exactly when the bytes don't begin with it.
 pub fn strip<'a>(prefix: &[u8], bytes: &'a [u8]) -> Option<&'a [u8]>
     ensures { MatchOption result ((rest : List ℕ) → bytes.now ≡ prefix.now ++ rest → ⊥)
         (λ rest. bytes.now ≡ prefix.now ++ rest.now) }
@@ -65,8 +66,8 @@ fn parsed(bytes: &[u8]) -> Option<u64>
     }
 }
 
-/// The number that the bytes print: decimal, without a sign or leading zeros, and
-/// below 2^64. `None` exactly where they print none.
+/// Returns the number that the bytes print: decimal, without a sign or leading zeros, and below 2^64. `None` exactly
+/// when they print none.
 pub fn number(bytes: &[u8]) -> Option<u64>
     ensures { MatchOption result ((n : ℕ) → n < 2 ^ 64 → bytes.now ≡ decimal n → ⊥)
         (λ n. (bytes.now ≡ decimal n) × (n < 2 ^ 64)) }
@@ -77,7 +78,7 @@ pub fn number(bytes: &[u8]) -> Option<u64>
     }
 }
 
-/// The number below 2^32 that the bytes print; `None` exactly where they print none.
+/// Returns the number below 2^32 that the bytes print. `None` exactly when they print none.
 pub fn small_number(bytes: &[u8]) -> Option<u32>
     ensures { MatchOption result ((n : ℕ) → n < 2 ^ 32 → bytes.now ≡ decimal n → ⊥)
         (λ n. (bytes.now ≡ decimal n) × (n < 2 ^ 32)) }
@@ -88,8 +89,8 @@ pub fn small_number(bytes: &[u8]) -> Option<u32>
     }
 }
 
-/// The number below 2^32 before the first space, and what stands behind the space;
-/// `None` exactly where the bytes don't begin so.
+/// Returns the number below 2^32 before the first space, and the rest after the space. `None` exactly when the bytes
+/// don't begin so.
 pub fn number_and_rest(bytes: &[u8]) -> Option<(u32, &[u8])>
     ensures { MatchOption result ((n : ℕ) (rest : List ℕ) → n < 2 ^ 32 → bytes.now ≡ decimal n ++ 32 ∷ rest → ⊥)
         (λ z. (bytes.now ≡ decimal z.0 ++ 32 ∷ z.1.now) × (z.0 < 2 ^ 32)) }
@@ -98,8 +99,8 @@ pub fn number_and_rest(bytes: &[u8]) -> Option<(u32, &[u8])>
     Some((small_number(front)?, rest))
 }
 
-/// The two numbers below 2^32 behind the prefix, a space between them; `None` exactly
-/// where the bytes are no such line.
+/// Returns the two numbers below 2^32 after the prefix, with a space between them. `None` exactly when the bytes are
+/// no such line.
 pub fn numbers_after(prefix: &[u8], bytes: &[u8]) -> Option<(u32, u32)>
     ensures { MatchOption result
         ((a b : ℕ) → a < 2 ^ 32 → b < 2 ^ 32 → bytes.now ≡ prefix.now ++ decimal a ++ 32 ∷ decimal b → ⊥)
@@ -111,7 +112,7 @@ pub fn numbers_after(prefix: &[u8], bytes: &[u8]) -> Option<(u32, u32)>
     Some((a, b))
 }
 
-/// The number below 2^32 behind the prefix; `None` exactly where the bytes are no such line.
+/// Returns the number below 2^32 after the prefix. `None` exactly when the bytes are no such line.
 pub fn number_after(prefix: &[u8], bytes: &[u8]) -> Option<u32>
     ensures { MatchOption result ((a : ℕ) → a < 2 ^ 32 → bytes.now ≡ prefix.now ++ decimal a → ⊥)
         (λ a. (bytes.now ≡ prefix.now ++ decimal a) × (a < 2 ^ 32)) }

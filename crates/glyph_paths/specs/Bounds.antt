@@ -1,5 +1,5 @@
 -- The bounds of a glyph: the least and greatest abscissa and ordinate over all points of its path, control points
--- included, and all 0 where the path has no point.
+-- included. All are 0 if the path has no point.
 use Rattle.std.specs.Prelude.{◌≡◌, ◌≤ℤ◌, ◌⊎◌, ℤ, pos, negsuc, List, [], ◌∷◌, All, Contains}
 use Rattle.std.specs.Int.{int_min, int_max}
 use Rattle.std.specs.List.{flat_map, fold}
@@ -14,7 +14,7 @@ pub data Axis : Type 0 where
   abscissa : Axis
   ordinate : Axis
 
--- one of the two ends of what points cover along an axis
+-- one of the two ends of the range that points cover along an axis
 pub data End : Type 0 where
   least : End
   greatest : End
@@ -36,7 +36,7 @@ along axis ops.Stroke = []
 unfoldable pub coordinates : Axis → List PathOp → List ℤ
 coordinates axis steps = flat_map (along axis) steps
 
--- the least of some numbers is one of them, and none is less; without any it is 0
+-- the least of some numbers is one of them, and none is less; without any number it is 0
 abbrev pub IsLeast : List ℤ → ℤ → Type 0
 IsLeast zs z = All (λ other. z ≤ℤ other) zs × (Contains zs z ⊎ ((zs ≡ []) × (z ≡ pos 0)))
 
@@ -44,14 +44,14 @@ IsLeast zs z = All (λ other. z ≤ℤ other) zs × (Contains zs z ⊎ ((zs ≡ 
 abbrev pub IsGreatest : List ℤ → ℤ → Type 0
 IsGreatest zs z = All (λ other. other ≤ℤ z) zs × (Contains zs z ⊎ ((zs ≡ []) × (z ≡ pos 0)))
 
--- what the bounds of a path are
+-- the bounds of a path
 pub record AreBounds (steps : List PathOp) (bounds : Bounds) : Type 0 where
   pub left : IsLeast (coordinates abscissa steps) bounds.left
   pub low : IsLeast (coordinates ordinate steps) bounds.low
   pub right : IsGreatest (coordinates abscissa steps) bounds.right
   pub high : IsGreatest (coordinates ordinate steps) bounds.high
 
--- no point of a glyph is further than 2000 from where it is drawn
+-- no point of a glyph is farther than 2000 from where it is drawn
 abbrev pub IsClose : ℤ → Type 0
 IsClose z = (negsuc 1999 ≤ℤ z) × (z ≤ℤ pos 2000)
 

@@ -1,5 +1,5 @@
 -- The line of the prolog that defines a glyph: its name, and a procedure that moves to where it is drawn and runs its
--- path. In a path each number and each operator has a space behind it.
+-- path. In a path a space follows each number and each operator.
 use Rattle.std.specs.Prelude.{ℕ, ℤ, List, [], ◌∷◌, ◌++◌, codes}
 use Rattle.std.specs.Fmt.{signed_decimal}
 use Rattle.std.specs.List.{flat_map}
@@ -10,11 +10,11 @@ use Rattle.glyph_paths.specs.Names.{glyph_name}
 use Rattle.glyph_paths.specs.Outlines.{outline_of}
 use Rattle.glyph_paths.specs.declared.paths.PathOp.TheVariants as ops
 
--- numbers in decimal, a space behind each
+-- numbers in decimal, with a space after each
 unfoldable pub numbers : List ℤ → List ℕ
 numbers zs = flat_map (λ z. signed_decimal z ++ space ∷ []) zs
 
--- a step of a path: its numbers, and its operator
+-- a step of a path: its numbers, then its operator
 abbrev pub step_text : PathOp → List ℕ
 step_text (ops.Move x y) = numbers (x ∷ y ∷ []) ++ codes "m "
 step_text (ops.Line x y) = numbers (x ∷ y ∷ []) ++ codes "l "

@@ -3,8 +3,8 @@ ghost use Rattle.glyph_paths.specs.{Outlines.outline_of, Bounds.{within, bounds_
 
 use mus_units::Glyph;
 
-/// The least and greatest abscissa and ordinate of a glyph's points, in u from
-/// the place at which it is drawn. All 0 for a glyph without a point.
+/// The least and greatest abscissa and ordinate of a glyph's points, in u from the point at which it is drawn. All 0
+/// for a glyph without a point.
 #[derive(Clone, Copy, PartialEq, Eq)]
 pub struct Bounds {
     pub left: i32,
@@ -13,7 +13,7 @@ pub struct Bounds {
     pub high: i32,
 }
 
-/// The bounds from a least abscissa and ordinate to a greatest.
+/// Returns the bounds from a least abscissa and ordinate to a greatest.
 fn within(left: i32, low: i32, right: i32, high: i32) -> Bounds
     ensures { result ≡ within left low right high }
 {
@@ -25,7 +25,7 @@ fn within(left: i32, low: i32, right: i32, high: i32) -> Bounds
     }
 }
 
-/// The bounds of each glyph, so that no outline is walked for them.
+/// Returns the bounds of each glyph from a table, so that no outline has to be walked.
 #[tactic(auto, unfolding(crate::specs::Bounds::bounds_in, crate::specs::Bounds::extent, //
 crate::specs::Bounds::coordinates, crate::specs::Bounds::coordinate, crate::specs::Bounds::further))]
 fn known_bounds(g: Glyph) -> Bounds
@@ -82,8 +82,8 @@ fn known_bounds(g: Glyph) -> Bounds
     }
 }
 
-/// The least and greatest abscissa and ordinate over all points of a glyph's
-/// outline, control points included; all 0 without a point. Takes no memory.
+/// Returns the least and greatest abscissa and ordinate over all points of a glyph's outline, control points
+/// included; all 0 without a point. Takes no memory.
 pub fn bounds_of(g: Glyph) -> Bounds
     ensures value { result ≡ bounds_in g }
     ensures bounds { AreBounds (outline_of g) result }

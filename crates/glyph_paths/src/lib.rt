@@ -1,5 +1,5 @@
-//! The glyphs: their names, their outlines, their bounds and the lines that
-//! define them in a page's prolog, all from one table.
+//! The glyphs: their names, their outlines, their bounds and the lines that define them in a page's prolog, all from
+//! one table.
 #![tactic(auto)]
 
 pub mod bounds;

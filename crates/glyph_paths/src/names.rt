@@ -3,7 +3,7 @@ ghost use Rattle.glyph_paths.specs.Names.{glyph_name, glyphs_in_order};
 
 use mus_units::Glyph;
 
-/// The name of the procedure that draws a glyph: two letters.
+/// Returns the name of the procedure that draws a glyph: two letters.
 pub fn name_of(g: Glyph) -> &'static [u8]
     ensures { result.now ≡ glyph_name g }
 {
@@ -108,7 +108,7 @@ const ALL: [Glyph; 47] = [
     Glyph::Kn,
 ];
 
-/// All glyphs, in the order in which a prolog defines them.
+/// Returns all glyphs, in the order in which a prolog defines them.
 #[tactic(auto, unfolding(crate::specs::Names::glyphs_in_order))]
 pub fn all_glyphs() -> &'static [Glyph]
     ensures { result.now ≡ glyphs_in_order }

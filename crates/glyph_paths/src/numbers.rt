@@ -4,7 +4,7 @@ ghost use Rattle.glyph_paths.specs.Procedure.{numbers};
 use itoa::Buffer;
 use mus_units::{Memory, Text};
 
-/// Adds numbers in decimal, a space behind each.
+/// Adds numbers in decimal, with a space after each.
 #[tactic(auto, unfolding(crate::specs::Procedure::numbers))]
 pub(crate) fn put_numbers(out: &mut Text, zs: &[i64]) -> Result<(), Memory>
     ensures { OnOk result (out.new ≡ out.old ++ numbers zs.now) }

@@ -3,8 +3,8 @@ ghost use Rattle.glyph_paths.specs.Outlines.{outline_of};
 
 use mus_units::Glyph;
 
-/// A step of a path: to a point, along a line or a curve with its two control
-/// points, or the painting of what was drawn since the last painting.
+/// A step of a path: a line to a point, a curve to a point with its two control points, or the painting of what was
+/// drawn since the last painting.
 #[derive(Clone, Copy, PartialEq, Eq)]
 pub enum PathOp {
     Move(i32, i32),
@@ -454,7 +454,7 @@ const KN: [PathOp; 3] = [
     PathOp::Stroke,
 ];
 
-/// The path of a glyph, in u from the place at which it is drawn. Takes no memory.
+/// Returns the path of a glyph, in u from the point at which it is drawn. Takes no memory.
 pub fn outline(g: Glyph) -> &'static [PathOp]
     ensures { result.now ≡ outline_of g }
 {

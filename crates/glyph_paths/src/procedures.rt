@@ -57,8 +57,8 @@ fn put_path(out: &mut Text, steps: &[PathOp]) -> Result<(), Memory>
     Ok(())
 }
 
-/// The line of a page's prolog that defines a glyph, without its line end:
-/// `/NAME {gsave translate translate PATH grestore} def`.
+/// Returns the line of a page's prolog that defines a glyph, without its line end: `/NAME {gsave translate translate
+/// PATH grestore} def`.
 #[tactic(auto, unfolding(crate::specs::Procedure::procedure_text))]
 pub fn procedure(alloc: Global, g: Glyph) -> Result<Text, Memory>
     ensures { IfOk result (λ line. line ≡ procedure_text g) }

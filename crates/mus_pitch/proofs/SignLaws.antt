@@ -1,4 +1,4 @@
--- A key has at most one sign for each letter: the keys of the circle do, and signs laid on a key keep it so.
+-- A key has at most one entry per letter: the keys of the circle do, and added accidentals keep it so.
 use Rattle.std.proofs.Common.{◌≡◌, refl, ℕ, suc, ◌≤◌, List, [], ◌∷◌, Bool, true, not, take, map, arith, cond}
 use Rattle.std.proofs.lemmas.Grind.{common_steps}
 use Rattle.std.proofs.lemmas.List.{take-map}
@@ -14,7 +14,7 @@ use Rattle.mus_units.specs.declared.pitch.Letter.TheVariants as letters
 use Rattle.mus_units.specs.declared.pitch.Alter.TheVariants as alters
 use Rattle.mus_pitch.specs.{Circle.sharp_order, Circle.signed, Circle.signs_of, Signs.with_sign, Signs.laid}
 
--- one letter stands once among the seven
+-- each letter occurs once among the seven
 once_each : (alter : Alter) (letter : Letter)
     → count_by (λ (s : Sign). same_letter s.letter letter) (map (signed alter) sharp_order) ≤ 1
 once_each alter letters.C = omega arith
@@ -29,7 +29,7 @@ few_of : (p : Sign → Bool) (f : Letter → Sign) (n : ℕ) (order : List Lette
     → count_by p (map f order) ≤ 1 → count_by p (map f (take n order)) ≤ 1
 few_of p f n order few = rw (← take-map f n order) (le_trans (sum_by-take-le (λ s. cond (p s) 1 0) (map f order) n) few)
 
--- the signs of a number of sharps or flats
+-- the entries of a number of sharps or flats
 pub signs_of_good : (n : ℤ) → AreGoodSigns (signs_of n)
 unfolding signs_of
 signs_of_good (pos n) letter =
@@ -39,7 +39,7 @@ signs_of_good (negsuc n) letter =
     few_of (λ (s : Sign). same_letter s.letter letter) (signed alters.Flat) (suc n) (reverse sharp_order)
     (once_each_back alters.Flat letter)
 
--- no sign of a letter is left once it is taken away
+-- no entry of a letter is left once it is removed
 none_left : (signs : List Sign) (add : Sign) (letter : Letter) → same_letter add.letter letter ≡ true
     → count_by (λ (s : Sign). same_letter s.letter letter)
     (filter (λ (s : Sign). not (same_letter s.letter add.letter)) signs)
@@ -54,7 +54,7 @@ none_left (s ∷ signs) add letter e =
       none_left signs add letter e,
     )
 
--- a sign laid on good signs
+-- one entry added to good entries
 pub with_sign-good : (signs : List Sign) (add : Sign) → AreGoodSigns signs → AreGoodSigns (with_sign signs add)
 with_sign-good signs add good letter =
     let one : Sign → ℕ = λ s. cond (same_letter s.letter letter) 1 0 in
@@ -67,7 +67,7 @@ with_sign-good signs add good letter =
       sum_by-filter_both stays (λ s. not (stays s)) (λ s. refl) one signs,
     )
 
--- signs laid on good signs
+-- entries added to good entries
 pub laid_good : (signs adds : List Sign) → AreGoodSigns signs → AreGoodSigns (laid signs adds)
 laid_good signs [] good = good
 laid_good signs (add ∷ adds) good = laid_good (with_sign signs add) adds (with_sign-good signs add good)

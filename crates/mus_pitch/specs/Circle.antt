@@ -1,4 +1,4 @@
--- Keys by the circle of fifths: how many sharps a tonic and its mode have, and which signs a number of sharps has.
+-- Keys by the circle of fifths: how many sharps a tonic and its mode have, and which entries a number of sharps has.
 use Rattle.std.specs.Prelude.{suc, ℤ, pos, negsuc, ◌+ℤ◌, int_le, ◌&&◌, if◌then◌else◌, List, [], ◌∷◌, map, take, reverse}
 use Rattle.std.specs.Prelude.{Option, Some, None, Bool}
 use Rattle.mus_units.specs.{declared.pitch.Letter.Letter, declared.pitch.Alter.Alter, declared.key.Sign.Sign}
@@ -25,7 +25,7 @@ shift_of alters.Natural = pos 0
 shift_of alters.Sharp = pos 7
 shift_of alters.Sharp2 = pos 14
 
--- the major scale with the same signs begins so many fifths further
+-- the major scale with the same entries begins this many fifths further
 abbrev pub mode_shift : Mode → ℤ
 mode_shift modes.Lyd = pos 1
 mode_shift modes.Maj = pos 0
@@ -46,14 +46,14 @@ abbrev pub signature_of : Letter → Alter → Mode → Option ℤ
 signature_of tonic alter mode =
     if is_signature (sharps_of tonic alter mode) then Some (sharps_of tonic alter mode) else None
 
--- the order in which sharps come; flats come the other way
+-- the order in which sharps are added; flats come in reverse order
 abbrev pub sharp_order : List Letter
 sharp_order = letters.F ∷ letters.C ∷ letters.G ∷ letters.D ∷ letters.A ∷ letters.E ∷ letters.B ∷ []
 
 abbrev pub signed : Alter → Letter → Sign
 signed alter letter = record { letter = letter; alter = alter }
 
--- the signs of a number of sharps, or of flats where it is negative, in the order in which they are drawn
+-- the entries of a number of sharps, or of flats if it is negative, in the order in which they are drawn
 unfoldable pub signs_of : ℤ → List Sign
 signs_of (pos n) = map (signed alters.Sharp) (take n sharp_order)
 signs_of (negsuc n) = map (signed alters.Flat) (take (suc n) (reverse sharp_order))

@@ -1,12 +1,12 @@
--- How further signs are laid on those of a key.
+-- How further accidentals are added to those of a key.
 use Rattle.std.specs.Prelude.{◌==◌, ◌≤◌, ◌++◌, not, List, [], ◌∷◌, filter, count_by, Bool}
 use Rattle.mus_units.specs.{Good.same_letter, declared.key.Sign.Sign}
 
--- an added sign takes away the sign of its letter and goes last
+-- an added accidental replaces the entry of its letter and goes last
 abbrev pub with_sign : List Sign → Sign → List Sign
 with_sign signs add = filter (λ s. not (same_letter s.letter add.letter)) signs ++ add ∷ []
 
--- signs laid on others, one after another
+-- accidentals added to others, one by one
 abbrev pub laid : List Sign → List Sign → List Sign
 laid signs [] = signs
 laid signs (add ∷ adds) = laid (with_sign signs add) adds

@@ -14,7 +14,7 @@ scale_letters = letters.C ∷ letters.D ∷ letters.E ∷ letters.F ∷ letters.
 unfoldable pub steps : Pitch → ℤ
 steps p = pos 7 *ℤ p.octave +ℤ pos (letter_number p.letter)
 
--- the pitch so many steps above C0
+-- the pitch a number of steps above C0
 unfoldable pub pitch_of_steps : ℤ → Pitch
 pitch_of_steps n = record {
   letter = slice_index_or scale_letters (unsigned_abs (int_rem_euclid n (pos 7))) letters.C;

@@ -6,8 +6,8 @@ ghost use Rattle.mus_pitch.specs.Alteration.{reaches, is_said, said_sign, key_si
 use crate::signs::same_letter;
 use mus_units::{Alter, Head, Key, Pitch, Sign, Spread};
 
-/// The alteration of a note at `p`, ties aside: its own sign, else the last sign among the earlier heads
-/// of its measure that the spread reaches, else its key's, else natural. Takes no memory.
+/// Returns the alteration of a note at `p`, ties aside: its own accidental, else the last accidental among the
+/// earlier heads of its measure whose spread reaches it, else its key's, else natural. Takes no memory.
 pub fn in_force(p: Pitch, own: Option<Alter>, said: &[Head], spread: Spread, key: &Key) -> Alter
     ensures { result ≡ alteration_of p own said.now spread key.now.signs }
 {
@@ -20,28 +20,28 @@ pub fn in_force(p: Pitch, own: Option<Alter>, said: &[Head], spread: Spread, key
     }
 }
 
-/// The last sign among earlier heads that reaches the pitch.
+/// Returns the last accidental among earlier heads that reaches the pitch.
 fn said_sign(spread: Spread, p: Pitch, said: &[Head]) -> Option<Alter>
     ensures { result ≡ said_sign spread p said.now }
 {
     last_said(spread, p, said)?.sign
 }
 
-/// The last head that has a sign that reaches the pitch.
+/// Returns the last head whose accidental reaches the pitch.
 fn last_said(spread: Spread, p: Pitch, said: &[Head]) -> Option<&Head>
     ensures { option_copied result ≡ find (is_said spread p) (reverse said.now) }
 {
     said.iter().rev().find(|head| is_said(spread, p, head))
 }
 
-/// Whether a head has a sign that reaches the pitch.
+/// Returns whether a head has an accidental that reaches the pitch.
 fn is_said(spread: Spread, p: Pitch, head: &Head) -> bool
     ensures { result ≡ is_said spread p head.now }
 {
     head.sign.is_some() && reaches(spread, head.pitch, p)
 }
 
-/// The sign that a key has for the pitch's letter.
+/// Returns the accidental that a key has for the pitch's letter.
 fn key_sign(p: Pitch, signs: &[Sign]) -> Option<Alter>
     ensures { result ≡ key_sign p signs.now }
 {
@@ -51,7 +51,7 @@ fn key_sign(p: Pitch, signs: &[Sign]) -> Option<Alter>
     Some(sign.alter)
 }
 
-/// Whether a sign at one pitch reaches another.
+/// Returns whether an accidental at one pitch reaches another pitch.
 fn reaches(spread: Spread, from: Pitch, to: Pitch) -> bool
     ensures { result ≡ reaches spread from to }
 {

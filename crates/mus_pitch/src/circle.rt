@@ -3,7 +3,7 @@ ghost use Rattle.mus_pitch.specs.Circle.{fifths_of, shift_of, mode_shift, sharps
 
 use mus_units::{Alter, Letter};
 
-/// The mode of a key. `Maj` stands for Ionian too, and `Min` for Aeolian.
+/// The mode of a key. `Maj` also covers Ionian, and `Min` Aeolian.
 #[derive(Clone, Copy, PartialEq, Eq)]
 pub enum Mode {
     Maj,
@@ -15,7 +15,7 @@ pub enum Mode {
     Lyd,
 }
 
-/// The number of sharps of a key, negative for flats. None where it is outside -7 to 7. Takes no memory.
+/// Returns the number of sharps of a key, negative for flats. `None` if it is outside -7 to 7. Takes no memory.
 pub fn signature(tonic: Letter, alter: Alter, mode: Mode) -> Option<i8>
     ensures value { result ≡ signature_of tonic alter mode }
     ensures low { IfSome result (λ n. negsuc 6 ≤ℤ n) }
@@ -36,14 +36,14 @@ fn sharps(tonic: Letter, alter: Alter, mode: Mode) -> i8
     fifths(tonic) + shift(alter) + mode_shift(mode)
 }
 
-/// Whether a signature has so many sharps.
+/// Returns whether a signature may have the given number of sharps.
 fn is_signature(sharps: i8) -> bool
     ensures { result ≡ is_signature sharps }
 {
     sharps >= -7 && sharps <= 7
 }
 
-/// The place of a letter on the circle of fifths, with C at 0.
+/// Returns the position of a letter on the circle of fifths, with C at 0.
 fn fifths(letter: Letter) -> i8
     ensures value { result ≡ fifths_of letter }
     ensures low { negsuc 0 ≤ℤ result }
@@ -60,7 +60,7 @@ fn fifths(letter: Letter) -> i8
     }
 }
 
-/// How far an alteration goes on the circle of fifths.
+/// Returns how far an alteration moves on the circle of fifths.
 fn shift(alter: Alter) -> i8
     ensures value { result ≡ shift_of alter }
     ensures low { negsuc 13 ≤ℤ result }
@@ -75,7 +75,7 @@ fn shift(alter: Alter) -> i8
     }
 }
 
-/// How far a mode's signature lies from that of major.
+/// Returns how far a mode's signature is from that of major.
 fn mode_shift(mode: Mode) -> i8
     ensures value { result ≡ mode_shift mode }
     ensures low { negsuc 4 ≤ℤ result }

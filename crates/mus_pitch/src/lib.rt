@@ -1,8 +1,8 @@
-//! Keys by the circle of fifths, and the alteration that a note has.
+//! Keys by the circle of fifths, and the alteration of a note.
 //!
-//! A tonic and its mode have a number of sharps, that number has a signature, and signs are laid
-//! on a signature. A note's alteration is its own sign, one written before it, or its key's.
-//! A pitch is found by its steps above C0.
+//! A tonic and its mode have a number of sharps, and that number has a signature, which further accidentals may
+//! change. A note's alteration comes from its own accidental, one written before it, or its key. A pitch is found
+//! from its steps above C0.
 #![tactic(auto)]
 
 pub mod alteration;

@@ -6,7 +6,7 @@ ghost use Rattle.mus_pitch.specs.{Circle.{signs_of, signed, sharp_order}, Signs.
 use mus_units::{Alter, Key, Letter, Memory, Row, Sign};
 use std::alloc::Global;
 
-/// The letters in the order in which sharps come.
+/// The letters in the order in which sharps are added.
 const SHARP_ORDER: [Letter; 7] = [
     Letter::F,
     Letter::C,
@@ -17,7 +17,7 @@ const SHARP_ORDER: [Letter; 7] = [
     Letter::B,
 ];
 
-/// The key of a number of sharps, negative for flats: it has at most seven signs.
+/// Returns the key with a number of sharps, negative for flats; it has at most seven entries.
 pub fn key_of(alloc: Global, sharps: i8) -> Result<Key, Memory>
     ensures value { IfOk result (λ key. key.signs ≡ signs_of sharps) }
     ensures good { IfOk result (λ key. IsGoodKey key) }
@@ -67,8 +67,7 @@ fn first_flats(alloc: Global, count: usize) -> Result<Row<Sign>, Memory>
     Ok(Row { items })
 }
 
-/// A key with further signs laid on it, one after another: each takes away the
-/// entry of its letter and goes last.
+/// Returns a key with further accidentals added one by one: each replaces the entry of its letter and goes last.
 pub fn with_signs(alloc: Global, key: &Key, adds: &[Sign]) -> Result<Key, Memory>
     requires { IsGoodKey key.now }
     ensures value { IfOk result (λ new. new.signs ≡ laid key.now.signs adds.now) }
@@ -88,7 +87,7 @@ fn laid_on(alloc: Global, signs: &[Sign], adds: &[Sign]) -> Result<Row<Sign>, Me
     Ok(Row { items })
 }
 
-/// The signs of other letters, and then this sign.
+/// Returns the entries of the other letters, followed by this one.
 fn with_sign(alloc: Global, signs: &[Sign], add: Sign) -> Result<Vec<Sign>, Memory>
     ensures { IfOk result (λ v. v.items ≡ with_sign signs.now add) }
 {
@@ -108,7 +107,7 @@ fn without(alloc: Global, signs: &[Sign], letter: Letter) -> Result<Vec<Sign>, M
     Ok(others)
 }
 
-/// Whether two letters are one.
+/// Returns whether two letters are the same.
 pub(crate) fn same_letter(a: Letter, b: Letter) -> bool
     ensures { result ≡ same_letter a b }
 {

@@ -6,7 +6,7 @@ ghost use Rattle.mus_pitch.specs.Steps.{pitch_of_steps, scale_letters};
 
 use mus_units::{Letter, Pitch};
 
-/// The letter so many steps above C.
+/// Returns the letter a number of steps above C.
 fn letter_at(number: u32) -> Letter
     ensures { result ≡ slice_index_or scale_letters number Letter.C }
 {
@@ -34,7 +34,7 @@ fn above_seventh(steps: i32) -> u32
     steps.rem_euclid(7).unsigned_abs()
 }
 
-/// The pitch so many steps above C0; a step is from one letter to the next. Takes no memory.
+/// Returns the pitch a number of steps above C0; a step leads from one letter to the next. Takes no memory.
 #[tactic(auto, unfolding(crate::specs::Steps::pitch_of_steps))]
 pub fn pitch_of_steps(steps: i32) -> Pitch
     ensures { result ≡ pitch_of_steps steps }

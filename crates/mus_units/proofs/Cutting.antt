@@ -1,4 +1,4 @@
--- Cutting a length into parts, one by one.
+-- Splitting a length into parts, one by one.
 use Rattle.std.proofs.Common.{◌≡◌, sym, subst, ℕ, ◌+◌, ◌*◌, ◌-◌, ◌≤◌, ◌<◌, List, [], ◌∷◌, ◌++◌, length, length-append}
 use Rattle.std.proofs.Common.{append_assoc, append-nil, arith}
 use Rattle.mus_units.specs.declared.value.Value.{Value}

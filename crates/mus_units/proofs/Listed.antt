@@ -1,4 +1,4 @@
--- The parts of a length as a list that is computed.
+-- The parts of a length as a computed list.
 use Rattle.std.proofs.Common.{◌≡◌, refl, sym, subst, ◌&&◌, ◌∙◌, ap, ℕ, zero, suc, ◌+◌, ◌*◌, ◌/◌, ◌-◌, ◌≤◌, ◌<◌, List}
 use Rattle.std.proofs.Common.{[], ◌∷◌, ◌++◌, append_assoc, append-nil, Bool, true, false, Option, Some, None}
 use Rattle.std.proofs.Common.{option_map, ◌⊎◌, inl, inr, arith, nat_le, nat_lt, ◌==◌, find, flat_map}
@@ -55,7 +55,7 @@ value_in : (v : Value) → v.dots ≤ 3 → IsIn all_values v
 unfolding every_base
 value_in v h = in_flat every_base v.base v (base_in v.base) (dots_in v.base v.dots h)
 
--- each is longer than all behind it, has three dots at the most, and is eight units long at the least
+-- each is longer than all after it, has at most three dots, and is at least eight units long
 abbrev descends : List Value → Bool
 descends [] = true
 descends (x ∷ xs) =
@@ -97,7 +97,7 @@ none_of left (x ∷ xs) d h =
 pub none_is_listed : (left : ℕ) → left < 8 → longest_within left ≡ None
 none_is_listed left h = none_of left all_values refl h
 
--- what is longer than so many values isn't cut into as many
+-- a length of more than n times 2047 units isn't split into n parts
 pub too_long_to_cut : (n left : ℕ) → 2047 * n < left → cut_in n left ≡ None
 too_long_to_cut zero left h =
     let some : (left == 0) ≡ false = grind (arith, nat_tests) in rw some refl
@@ -138,7 +138,7 @@ listed_is num den all some is =
     let whole : (all * den == 512 * num) ≡ true = grind (arith, nat_tests) in
     rw (whole_is num den all some is, whole) refl
 
--- what is left to cut behind the parts so far
+-- what is left to split after the parts so far
 pub done_at : (num den all left i : ℕ) (parts : List Value)
     → 1 ≤ den → all * den ≡ 512 * num → left ≡ 0
     → option_map (λ vs. parts ++ vs) (cut_in (8 - i) left) ≡ cut_in 8 all

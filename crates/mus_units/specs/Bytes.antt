@@ -2,7 +2,7 @@
 use Rattle.std.specs.Prelude.{ℕ, ◌-◌, ◌&&◌, ◌||◌, ◌==◌, nat_le, Bool, false, List, [], ◌∷◌, take, drop, length, codes}
 use Rattle.std.specs.List.{prefix_len, suffix_len}
 
--- the byte is from the first to the second of two
+-- the byte lies between the two, both included
 abbrev pub is_within : List ℕ → ℕ → Bool
 is_within (low ∷ high ∷ []) byte = nat_le low byte && nat_le byte high
 is_within _ byte = false
@@ -13,7 +13,7 @@ is_digit byte = is_within (codes "09") byte
 abbrev pub is_letter : ℕ → Bool
 is_letter byte = is_within (codes "AZ") byte || is_within (codes "az") byte
 
--- the byte is the first or the second of two
+-- the byte is one of the two
 abbrev pub is_either : List ℕ → ℕ → Bool
 is_either (one ∷ other ∷ []) byte = byte == one || byte == other
 is_either _ byte = false
@@ -22,11 +22,11 @@ is_either _ byte = false
 abbrev pub is_blank : ℕ → Bool
 is_blank byte = is_either (codes " \t") byte
 
--- what stands behind the blanks at the front
+-- the rest after the leading blanks
 abbrev pub after_blanks : List ℕ → List ℕ
 after_blanks text = drop (prefix_len is_blank text) text
 
--- what stands before the blanks at the end
+-- what comes before the trailing blanks
 abbrev pub before_blanks : List ℕ → List ℕ
 before_blanks text = take (length text - suffix_len is_blank text) text
 

@@ -1,4 +1,4 @@
--- Some values, of which a single one stands in place.
+-- A list of values; a single value is kept in place.
 use Rattle.{std.specs.Prelude.{List}, mus_units.specs.declared.few.FewStore.{FewStore}}
 
 abbrev pub stored_values : {T : Type 0} → FewStore T → List T

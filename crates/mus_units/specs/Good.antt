@@ -1,4 +1,5 @@
--- Good values: what each call that takes a key, a meter or a unit asks of it, and each call that makes one gives.
+-- Good values: what each call that takes a key, a meter or a unit requires of it, and each call that makes one
+-- ensures.
 use Rattle.std.specs.Prelude.{◌≡◌, ⊤, ℕ, ◌==◌, ◌≤◌, ◌||◌, Bool, IsTrue, List, count_by}
 use Rattle.mus_units.specs.Pitch.{letter_number}
 use Rattle.mus_units.specs.declared.pitch.Letter.{Letter}
@@ -11,7 +12,7 @@ use Rattle.mus_units.specs.declared.key.Meter.TheVariants as meters
 abbrev pub same_letter : Letter → Letter → Bool
 same_letter a b = letter_number a == letter_number b
 
--- at most one sign for each letter
+-- at most one entry per letter
 abbrev pub AreGoodSigns : List Sign → Type 0
 AreGoodSigns signs = (letter : Letter) → count_by (λ s. same_letter s.letter letter) signs ≤ 1
 

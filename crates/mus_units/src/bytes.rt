@@ -3,35 +3,35 @@
 ghost use Rattle.std.specs.{Prelude.{◌≡◌, ◌≤◌, length}, List.{prefix_len, suffix_len}, Str.bytes_eq};
 ghost use Rattle.mus_units.specs.Bytes.{is_digit, is_letter, is_blank, after_blanks, before_blanks, trimmed};
 
-/// Whether a byte is one of 0 to 9.
+/// Returns whether a byte is one of 0 to 9.
 pub fn is_digit(byte: u8) -> bool
     ensures { result ≡ is_digit byte }
 {
     byte >= b'0' && byte <= b'9'
 }
 
-/// Whether a byte is one of A to Z or a to z.
+/// Returns whether a byte is one of A to Z or a to z.
 pub fn is_letter(byte: u8) -> bool
     ensures { result ≡ is_letter byte }
 {
     (byte >= b'A' && byte <= b'Z') || (byte >= b'a' && byte <= b'z')
 }
 
-/// Whether a byte is a space or a tab.
+/// Returns whether a byte is a space or a tab.
 pub fn is_blank(byte: u8) -> bool
     ensures { result ≡ is_blank byte }
 {
     byte == b' ' || byte == b'\t'
 }
 
-/// Whether two texts have the same bytes.
+/// Returns whether two texts have the same bytes.
 pub fn is_same(text: &[u8], other: &[u8]) -> bool
     ensures { result ≡ bytes_eq text.now other.now }
 {
     text == other
 }
 
-/// How many spaces and tabs stand first.
+/// Counts the leading spaces and tabs.
 pub fn leading_blanks(text: &[u8]) -> usize
     ensures value { result ≡ prefix_len is_blank text.now }
     ensures within { result ≤ length text.now }
@@ -39,7 +39,7 @@ pub fn leading_blanks(text: &[u8]) -> usize
     text.iter().take_while(|byte| is_blank(**byte)).count()
 }
 
-/// How many spaces and tabs stand last.
+/// Counts the trailing spaces and tabs.
 pub fn trailing_blanks(text: &[u8]) -> usize
     ensures value { result ≡ suffix_len is_blank text.now }
     ensures within { result ≤ length text.now }
@@ -50,21 +50,21 @@ pub fn trailing_blanks(text: &[u8]) -> usize
         .count()
 }
 
-/// What stands behind the spaces and tabs at the front.
+/// Returns the text after its leading spaces and tabs.
 pub fn after_blanks(text: &[u8]) -> &[u8]
     ensures { result.now ≡ after_blanks text.now }
 {
     text.split_at(leading_blanks(text)).1
 }
 
-/// What stands before the spaces and tabs at the end.
+/// Returns the text before its trailing spaces and tabs.
 pub fn before_blanks(text: &[u8]) -> &[u8]
     ensures { result.now ≡ before_blanks text.now }
 {
     text.split_at(text.len() - trailing_blanks(text)).0
 }
 
-/// What is left without the spaces and tabs at both ends.
+/// Returns the text without the spaces and tabs at both ends.
 pub fn trimmed(text: &[u8]) -> &[u8]
     ensures { result.now ≡ trimmed text.now }
 {

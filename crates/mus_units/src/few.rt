@@ -4,14 +4,14 @@ use crate::text::{Memory, Row};
 use std::alloc::Global;
 use std::marker::Model;
 
-/// Where some values stand: a single one in place, others in a row.
+/// Storage for a list of values: a single value in place, others in a row.
 #[derive(Drop)]
 enum FewStore<T> {
     One([T; 1]),
     Row(Row<T>),
 }
 
-/// A list of values, which contracts see as a list. A single one takes no memory.
+/// A list of values, which contracts see as a list. A single value takes no memory.
 #[derive(Drop)]
 pub struct Few<T> {
     held: FewStore<T>,
@@ -31,7 +31,7 @@ impl<T> Model for Few<T> {
 }
 
 impl<T> Few<T> {
-    /// A single one.
+    /// Returns a list of a single value.
     pub fn one(value: T) -> Few<T>
         ensures { result ≡ value ∷ [] }
     {
@@ -40,7 +40,7 @@ impl<T> Few<T> {
         }
     }
 
-    /// All of them, as a slice.
+    /// Returns all values, as a slice.
     pub fn as_slice(&self) -> &[T]
         ensures { result.now ≡ self.now }
     {
@@ -52,7 +52,7 @@ impl<T> Few<T> {
 }
 
 impl<T: Copy> Few<T> {
-    /// The same values.
+    /// Returns a list of the same values.
     pub fn copy(&self, alloc: Global) -> Result<Few<T>, Memory>
         ensures { IfOk result (λ it. it ≡ self.now) }
     {

@@ -1,5 +1,4 @@
-/// The glyphs, in the order in which a page's prolog defines them. Each is
-/// named by the two letters of its procedure.
+/// The glyphs, in the order in which a page's prolog defines them. Each is named by the two letters of its procedure.
 #[derive(Clone, Copy, PartialEq, Eq)]
 pub enum Glyph {
     Hb,

@@ -18,7 +18,7 @@ pub struct Key {
 }
 
 impl Key {
-    /// A key of the same entries.
+    /// Returns a key with the same entries.
     pub fn copy(&self, alloc: Global) -> Result<Key, Memory>
         ensures { IfOk result (λ it. it ≡ self.now) }
     {
@@ -28,7 +28,7 @@ impl Key {
     }
 }
 
-/// A copy of a key that may be absent.
+/// Copies a key that may be absent.
 pub fn copy_optional_key(alloc: Global, key: &Option<Key>) -> Result<Option<Key>, Memory>
     ensures { IfOk result (λ it. it ≡ key.now) }
 {
@@ -47,8 +47,8 @@ pub enum Meter {
     Ratio { num: u8, den: u8 },
 }
 
-/// How far a sign before a note reaches to later notes of its measure: not at
-/// all, to its own letter and octave, or to its letter in every octave.
+/// How far an accidental reaches to later notes of its measure: not at all, to its own letter and octave, or to its
+/// letter in every octave.
 #[derive(Clone, Copy, PartialEq, Eq)]
 pub enum Spread {
     Not,

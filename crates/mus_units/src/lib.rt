@@ -1,8 +1,8 @@
 //! The plain types of the engraver, and what is computed from them alone.
 //!
-//! Lists of bytes and of values that contracts see as lists; note values and
-//! their ticks; pitches and their heights on a staff; keys and meters; heads,
-//! bars and decorations as written; the names of glyphs; classes of bytes.
+//! They are: lists of bytes and of values that contracts see as lists; note values and their ticks; pitches and their
+//! heights on a staff; keys and meters; note heads, bars and decorations as written; the names of glyphs; classes of
+//! bytes.
 #![tactic(auto)]
 
 pub mod bytes;

@@ -4,7 +4,7 @@ use crate::pitch::{Alter, Pitch};
 use crate::text::{Memory, Row, Text};
 use std::alloc::Global;
 
-/// A note head as written: its pitch, the sign before it, and whether a tie begins at it.
+/// A note head as written: its pitch, the accidental before it, and whether a tie begins at it.
 #[derive(Clone, Copy, PartialEq, Eq)]
 pub struct Head {
     pub pitch: Pitch,
@@ -12,8 +12,8 @@ pub struct Head {
     pub tied: bool,
 }
 
-/// The features of a bar. `end` and `start` are repeat dots before and after
-/// it, `last` is the thick line of a final bar.
+/// The features of a bar: `end` and `start` are repeat dots before and after it, `last` is the thick line of a final
+/// bar.
 #[derive(Clone, Copy, PartialEq, Eq)]
 pub struct Bar {
     pub end: bool,
@@ -25,8 +25,8 @@ pub struct Bar {
     pub unseen: bool,
 }
 
-/// A decoration: one of those that have a glyph, named by it; a dynamic mark
-/// below the staff; a fingering above it; or a name that draws nothing.
+/// A decoration: one that has a glyph, named by it; a dynamic mark below the staff; a fingering above it; or a name
+/// that draws nothing.
 #[derive(Drop)]
 pub enum Deco {
     Ks,
@@ -47,7 +47,7 @@ pub enum Deco {
 }
 
 impl Deco {
-    /// The same decoration.
+    /// Returns the same decoration.
     pub fn copy(&self, alloc: Global) -> Result<Deco, Memory>
         ensures { IfOk result (λ it. it ≡ self.now) }
     {
@@ -71,7 +71,7 @@ impl Deco {
     }
 }
 
-/// Puts copies of decorations behind others.
+/// Adds copies of decorations after others.
 pub fn put_decos(alloc: Global, out: &mut Row<Deco>, decos: &[Deco]) -> Result<(), Memory>
     ensures { OnOk result (out.new ≡ out.old ++ decos.now) }
 {
@@ -81,7 +81,7 @@ pub fn put_decos(alloc: Global, out: &mut Row<Deco>, decos: &[Deco]) -> Result<(
     Ok(())
 }
 
-/// Copies of decorations.
+/// Copies decorations.
 pub fn copy_decos(alloc: Global, decos: &[Deco]) -> Result<Row<Deco>, Memory>
     ensures { IfOk result (λ it. it ≡ decos.now) }
 {
@@ -90,7 +90,7 @@ pub fn copy_decos(alloc: Global, decos: &[Deco]) -> Result<Row<Deco>, Memory>
     Ok(copies)
 }
 
-/// Which way the stems of a voice are asked to go.
+/// The direction asked for the stems of a voice.
 #[derive(Clone, Copy, PartialEq, Eq)]
 pub enum Wish {
     Auto,

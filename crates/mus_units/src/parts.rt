@@ -8,7 +8,7 @@ use crate::text::{Memory, Row};
 use crate::value::{Base, Value};
 use std::alloc::Global;
 
-/// The 512ths of a whole note in a base.
+/// Returns the 512ths of a whole note in a base.
 fn units_of_base(base: Base) -> u64
     ensures value { result ≡ base_units base }
     ensures high { result ≤ 1024 }
@@ -26,7 +26,7 @@ fn units_of_base(base: Base) -> u64
     }
 }
 
-/// The 512ths of a whole note in a value.
+/// Returns the 512ths of a whole note in a value.
 fn units(v: Value) -> u64
     requires { v.dots ≤ 3 }
     ensures value { result ≡ units_of v }
@@ -41,7 +41,7 @@ fn units(v: Value) -> u64
     }
 }
 
-/// The longest base that isn't above so many 512ths.
+/// Returns the longest base that isn't longer than the given number of 512ths.
 fn base_within(left: u64) -> Option<Base>
     ensures { MatchOption result (left < 8)
         (λ b. (base_units b ≤ left) × (left < 2048 → left < 2 * base_units b) × (2048 ≤ left → base_units b ≡ 1024)) }
@@ -67,7 +67,7 @@ fn base_within(left: u64) -> Option<Base>
     }
 }
 
-/// The dots that fit behind a base of so many 512ths.
+/// Returns how many dots fit after a base within the given number of 512ths.
 fn dots_within(base: u64, left: u64) -> u8
     requires high { base ≤ 1024 }
     requires fits { base ≤ left }
@@ -90,7 +90,7 @@ fn dots_within(base: u64, left: u64) -> u8
     3
 }
 
-/// The longest value that isn't above so many 512ths.
+/// Returns the longest value that isn't longer than the given number of 512ths.
 fn longest(left: u64) -> Option<Value>
     ensures { MatchOption result (left < 8) (λ v. IsLongestValue left v) }
 {
@@ -99,7 +99,7 @@ fn longest(left: u64) -> Option<Value>
     Some(Value { base, dots })
 }
 
-/// The 512ths of a length, where it is a whole number of them.
+/// Returns the 512ths of a length, if it is a whole number of them.
 fn whole_units(num: u64, den: u64) -> Option<u128>
     requires above { 1 ≤ den }
     requires high { den ≤ 2 ^ 56 }
@@ -116,8 +116,8 @@ fn whole_units(num: u64, den: u64) -> Option<u128>
     }
 }
 
-/// The value whose length is `num / den` of a whole note. None exactly where no
-/// value has that length. Takes no memory.
+/// Returns the value whose length is `num / den` of a whole note. `None` exactly when no value has that length. Takes
+/// no memory.
 #[inline(always)]
 pub fn value_of(num: u64, den: u64) -> Option<Value>
     requires some { 1 ≤ num }
@@ -137,8 +137,8 @@ pub fn value_of(num: u64, den: u64) -> Option<Value>
     if units(v) == left { Some(v) } else { None }
 }
 
-/// The parts of the length `num / den` of a whole note: one to eight values with that sum, each the
-/// longest that isn't above what the ones before it leave. None exactly where there is no such list.
+/// Returns the parts of the length `num / den` of a whole note: one to eight values with that sum, each the longest
+/// that isn't longer than what the ones before it leave. `None` exactly when there is no such list.
 pub fn parts_of(alloc: Global, num: u64, den: u64) -> Result<Option<Row<Value>>, Memory>
     requires some { 1 ≤ num }
     requires above { 1 ≤ den }

@@ -30,7 +30,7 @@ pub struct Pitch {
     pub octave: i32,
 }
 
-/// A clef, named as a field names it.
+/// A clef, named as in a field.
 #[derive(Clone, Copy, PartialEq, Eq)]
 pub enum Clef {
     Treble,
@@ -39,7 +39,7 @@ pub enum Clef {
     Tenor,
 }
 
-/// The place of a letter above C.
+/// Returns how many steps a letter is above C.
 fn number(letter: Letter) -> u8
     ensures { result ≡ letter_number letter }
 {
@@ -54,7 +54,7 @@ fn number(letter: Letter) -> u8
     }
 }
 
-/// The steps from C0 to the bottom line of a clef.
+/// Returns the steps from C0 to the bottom line of a clef.
 fn bottom(clef: Clef) -> u8
     ensures { result ≡ bottom_of clef }
 {
@@ -66,8 +66,7 @@ fn bottom(clef: Clef) -> u8
     }
 }
 
-/// The height of a pitch in a clef: staff steps above the bottom line, negative
-/// below it. Takes no memory.
+/// Returns the height of a pitch in a clef: staff steps above the bottom line, negative below it. Takes no memory.
 pub fn height(p: Pitch, c: Clef) -> i64
     ensures { result ≡ height_of p c }
 {

@@ -7,7 +7,7 @@ use std::alloc::{AllocError, AllocFailed, Global};
 use std::marker::Model;
 use std::slice;
 
-/// Memory ran out. Every call that allocates may answer it, and no clause says when.
+/// Out of memory. Every call that allocates may return it; no clause says when.
 #[derive(Clone, Copy, PartialEq, Eq)]
 pub struct Memory;
 
@@ -38,7 +38,7 @@ impl Model for Text {
 }
 
 impl Text {
-    /// The empty text.
+    /// Returns the empty text.
     pub fn new(alloc: Global) -> Text
         ensures { result ≡ [] }
     {
@@ -47,7 +47,7 @@ impl Text {
         }
     }
 
-    /// A text of these bytes.
+    /// Returns a text of these bytes.
     pub fn from_slice(alloc: Global, bytes: &[u8]) -> Result<Text, Memory>
         ensures { IfOk result (λ t. t ≡ bytes.now) }
     {
@@ -56,28 +56,28 @@ impl Text {
         })
     }
 
-    /// How many there are.
+    /// Returns the number of bytes.
     pub fn len(&self) -> usize
         ensures { result ≡ length self.now }
     {
         self.bytes.len()
     }
 
-    /// Whether there are none.
+    /// Returns whether the text is empty.
     pub fn is_empty(&self) -> bool
         ensures { result ≡ (length self.now == 0) }
     {
         self.bytes.as_slice().is_empty()
     }
 
-    /// All of it, as a slice.
+    /// Returns the whole text, as a slice.
     pub fn as_slice(&self) -> &[u8]
         ensures { result.now ≡ self.now }
     {
         self.bytes.as_slice()
     }
 
-    /// Its bytes, from the first on.
+    /// Iterates over the bytes, from the first on.
     pub fn iter(&self) -> slice::Iter<'_, u8>
         ensures rest { iter_rest result ≡ self.now }
         ensures bound { length (iter_rest result) < 2 ^ 64 }
@@ -86,14 +86,14 @@ impl Text {
         self.bytes.as_slice().iter()
     }
 
-    /// A text of the same bytes.
+    /// Returns a text of the same bytes.
     pub fn copy(&self, alloc: Global) -> Result<Text, Memory>
         ensures { IfOk result (λ it. it ≡ self.now) }
     {
         Text::from_slice(alloc, self.as_slice())
     }
 
-    /// Adds one byte at the end; at an error the text is as it was.
+    /// Adds one byte at the end. On an error the text is unchanged.
     pub fn push(&mut self, byte: u8) -> Result<(), Memory>
         ensures ok { OnOk result (self.new ≡ self.old ++ byte ∷ []) }
         ensures err { OnErr result (self.new ≡ self.old) }
@@ -102,7 +102,7 @@ impl Text {
         Ok(())
     }
 
-    /// Adds bytes at the end; at an error the text is as it was.
+    /// Adds bytes at the end. On an error the text is unchanged.
     pub fn append(&mut self, bytes: &[u8]) -> Result<(), Memory>
         ensures ok { OnOk result (self.new ≡ self.old ++ bytes.now) }
         ensures err { OnErr result (self.new ≡ self.old) }
@@ -143,7 +143,7 @@ impl<T> Model for Row<T> {
 }
 
 impl<T> Row<T> {
-    /// The empty row.
+    /// Returns the empty row.
     pub fn new(alloc: Global) -> Row<T>
         ensures { result ≡ [] }
     {
@@ -152,7 +152,7 @@ impl<T> Row<T> {
         }
     }
 
-    /// The empty row, with room for so many values.
+    /// Returns the empty row, with room for the given number of values.
     pub fn with_room(alloc: Global, room: usize) -> Result<Row<T>, Memory>
         ensures { IfOk result (λ row. row ≡ []) }
     {
@@ -161,28 +161,28 @@ impl<T> Row<T> {
         })
     }
 
-    /// How many there are.
+    /// Returns the number of values.
     pub fn len(&self) -> usize
         ensures { result ≡ length self.now }
     {
         self.items.len()
     }
 
-    /// Whether there are none.
+    /// Returns whether the row is empty.
     pub fn is_empty(&self) -> bool
         ensures { result ≡ (length self.now == 0) }
     {
         self.items.as_slice().is_empty()
     }
 
-    /// All of it, as a slice.
+    /// Returns the whole row, as a slice.
     pub fn as_slice(&self) -> &[T]
         ensures { result.now ≡ self.now }
     {
         self.items.as_slice()
     }
 
-    /// Its values, from the first on.
+    /// Iterates over the values, from the first on.
     pub fn iter(&self) -> slice::Iter<'_, T>
         ensures rest { iter_rest result ≡ self.now }
         ensures bound { length (iter_rest result) < 2 ^ 64 }
@@ -191,28 +191,28 @@ impl<T> Row<T> {
         self.items.as_slice().iter()
     }
 
-    /// The value at a place, counted from 0, if it has one.
+    /// Returns the value at an index, counted from 0, if there is one.
     pub fn get(&self, place: usize) -> Option<&T>
         ensures { option_copied result ≡ slice_get self.now place }
     {
         self.items.as_slice().get(place)
     }
 
-    /// The first value, if there is one.
+    /// Returns the first value, if there is one.
     pub fn first(&self) -> Option<&T>
         ensures { option_copied result ≡ slice_get self.now 0 }
     {
         self.items.as_slice().first()
     }
 
-    /// The last value, if there is one.
+    /// Returns the last value, if there is one.
     pub fn last(&self) -> Option<&T>
         ensures { option_copied result ≡ slice_get self.now (length self.now - 1) }
     {
         self.items.as_slice().last()
     }
 
-    /// Adds one value at the end; at an error the row is as it was.
+    /// Adds one value at the end. On an error the row is unchanged.
     #[inline(always)]
     pub fn push(&mut self, item: T) -> Result<(), Memory>
     where
@@ -239,7 +239,7 @@ impl<T> Row<T> {
         Ok(())
     }
 
-    /// Moves the values of another row to its end; at an error the row is as it was.
+    /// Moves the values of another row to the end of this one. On an error the row is unchanged.
     pub fn append(&mut self, more: Row<T>) -> Result<(), Memory>
     where
         T: Drop,
@@ -253,7 +253,7 @@ impl<T> Row<T> {
 }
 
 impl<T: Copy> Row<T> {
-    /// A row of these values.
+    /// Returns a row of these values.
     pub fn from_slice(alloc: Global, items: &[T]) -> Result<Row<T>, Memory>
         ensures { IfOk result (λ it. it ≡ items.now) }
     {
@@ -262,7 +262,7 @@ impl<T: Copy> Row<T> {
         })
     }
 
-    /// A row of the same values.
+    /// Returns a row of the same values.
     pub fn copy(&self, alloc: Global) -> Result<Row<T>, Memory>
         ensures { IfOk result (λ it. it ≡ self.now) }
     {
@@ -283,7 +283,7 @@ impl<'a, T> IntoIterator for &'a Row<T> {
     }
 }
 
-/// A copy of a text that may be absent.
+/// Copies a text that may be absent.
 pub fn copy_optional_text(alloc: Global, text: &Option<Text>) -> Result<Option<Text>, Memory>
     ensures { IfOk result (λ it. it ≡ text.now) }
 {
@@ -293,7 +293,7 @@ pub fn copy_optional_text(alloc: Global, text: &Option<Text>) -> Result<Option<T
     }
 }
 
-/// Copies of texts each of which may be absent.
+/// Copies texts each of which may be absent.
 pub fn copy_optional_texts(
     alloc: Global,
     texts: &[Option<Text>],

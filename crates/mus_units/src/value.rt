@@ -1,8 +1,8 @@
 ghost use Rattle.std.specs.Prelude.{◌≡◌, ◌≤◌, ◌*◌};
 ghost use Rattle.mus_units.specs.{Parts.units_of, Value.base_length, Value.value_length};
 
-/// The ticks of a whole note, 2^15 * 3^4 * 5^2 * 7^2, so that every length with
-/// tuplets two deep is a whole number of ticks.
+/// The number of ticks in a whole note: 2^15 * 3^4 * 5^2 * 7^2. With it, every length under up to two nested tuplets
+/// is a whole number of ticks.
 pub const WHOLE: u64 = 3_251_404_800;
 
 /// A fraction as written, not reduced.
@@ -25,14 +25,14 @@ pub enum Base {
     N64,
 }
 
-/// A base with up to three dots: its length is the base and its halves, one for each dot.
+/// A base with up to three dots: its length is the base plus its halves, one per dot.
 #[derive(Clone, Copy, PartialEq, Eq)]
 pub struct Value {
     pub base: Base,
     pub dots: u8,
 }
 
-/// The ticks of a base.
+/// Returns the ticks of a base.
 fn base_ticks(base: Base) -> u64
     ensures { result ≡ base_length base }
 {
@@ -48,8 +48,8 @@ fn base_ticks(base: Base) -> u64
     }
 }
 
-/// The length of a value in ticks: its 512ths of a whole note, each of which is
-/// `WHOLE / 512` ticks. Takes no memory.
+/// Returns the length of a value in ticks: its 512ths of a whole note, each of which is `WHOLE / 512` ticks. Takes no
+/// memory.
 pub fn ticks_of(v: Value) -> u64
     requires { v.dots ≤ 3 }
     ensures value { result ≡ value_length v }

@@ -3,7 +3,7 @@ use Rattle.std.specs.Vec.Iter.{into_iter_items, into_iter_len}
 use Rattle.eng_jobs.proofs.ZipLaws.{Awaits}
 use Rattle.eng_jobs.proofs.work.work_in_turn.Given as goal
 
--- with the outcomes of the items that are left, the outcomes so far are those of all items
+-- together with the outcomes of the remaining items, the outcomes so far are those of all items
 abbrev pub invariant-loop-item : goal.invariant-loop-item
 invariant-loop-item g l = record {
   awaits : Awaits (g.W.Work.gives l.work) (into_iter_items l.initial.item-iterator)

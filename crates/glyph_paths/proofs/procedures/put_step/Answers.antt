@@ -1,7 +1,7 @@
 use Rattle.std.proofs.{Common.{rules, ◌≡◌, arith, ℤ, to_z, of_z, w32, w64, append_assoc, FitsSigned}, lemmas.Int.ints}
 use Rattle.glyph_paths.proofs.procedures.put_step.Goals as goal
 
--- a coordinate that was widened and passed on is the coordinate
+-- a coordinate that is widened and passed on stays the same
 passed_on : (x r : ℤ) → FitsSigned w32 x → r ≡ to_z w32 (of_z w32 x) → to_z w64 (of_z w64 r) ≡ x
 passed_on x r fits e = omega (arith, ints)
 
