@@ -1,4 +1,4 @@
--- Going forwards lists the lines that belong by looking backwards.
+-- Going forwards lists the lines that belong when looking backwards.
 use Rattle.std.proofs.Common.{◌≡◌, ℕ, suc, ◌≤◌, ◌<◌, Bool, true, false, cond, List, [], ◌∷◌, ◌++◌, length, Some, None}
 use Rattle.std.proofs.Common.{refl, sym, ap, ◌∙◌, arith}
 use Rattle.std.proofs.lemmas.Bool.{cond_both, eqb-true, eq-eqb, ne_eqb, and_right}
@@ -40,7 +40,7 @@ book_parts : (h g : List Line) (t u : List TuneText)
     → h ≡ g → t ≡ u → ◌≡◌ {A = Book} (record { header = h; tunes = t }) (record { header = g; tunes = u })
 book_parts h g t u e f = rw (e, f) refl
 
--- a place is within the header or it is behind it
+-- a position is in the header or after it
 header-done : (before more : List LineContent)
     → is_in_header before ≡ false → listed_lines is_in_header before more ≡ []
 header-done before [] h = refl
@@ -87,7 +87,7 @@ not_yet lines number later = by_cases (belongs_to number lines) refl
     by_cases true e = absurd (omega (arith, later, tune_within lines number e))
     by_cases false e = refl
 
--- a line behind the beginning of a tune begins another one, ends it or stays in it
+-- a line after the beginning of a tune begins another tune, ends this one or stays in it
 later_line : (before : List LineContent) (line : LineContent) (number : ℕ)
     → number ≤ length before → (b : Bool) → belongs_to number before ≡ b
     → belongs_to number (line ∷ before) ≡ (not (is_end_of_part line) && b)
@@ -128,7 +128,7 @@ tune-listed before (line ∷ more) number within h =
     tune-step before more line number (is_end_of_part line) refl within h
     (tune-listed (line ∷ before) more number (omega (arith, within)))
 
--- where all lines have come to `more` behind `before`: no later tune has a line among those
+-- once the lines `before` are read and `more` is left: no later tune has a line among `before`
 abbrev Comes : (all before more : List LineContent) → Type 0
 Comes all before more =
     (number : ℕ)

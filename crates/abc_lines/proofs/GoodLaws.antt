@@ -1,4 +1,4 @@
--- The book that is found is good: numbers rise, and the lines of a part are no longer than the input.
+-- The book found is good: numbers rise, and the lines of a part are no longer than the input.
 use Rattle.std.proofs.Common.{◌≡◌, ℕ, zero, suc, ◌+◌, ◌-◌, ◌≤◌, ◌^◌, Bool, true, false, cond, eqb, List, [], ◌∷◌, ◌++◌}
 use Rattle.std.proofs.Common.{length, take, drop, refl, ap, ◌∙◌, subst, arith}
 use Rattle.std.proofs.lemmas.Bool.{cond_both, eqb-true, and_parts}
@@ -38,7 +38,7 @@ length-take-le zero s = omega arith
 length-take-le (suc n) [] = omega arith
 length-take-le (suc n) (b ∷ s) = omega (arith, length-take-le n s)
 
--- what a line is read as is no longer than the line
+-- the content of a line is no longer than the line
 return-le : (s : List ℕ) → length (without_return s) ≤ length s
 return-le s =
     cond_both (ends_with nat_eq s (13 ∷ [])) (take (length s - 1) s) s (λ t. length t ≤ length s)
@@ -156,7 +156,7 @@ part-le number (line ∷ more) =
     (λ f. omega
     (arith, size-append (line_at number line more) (part_from (suc number) more), line-le number line more, others))))
 
--- numbers rise from a number on
+-- line numbers rise from a given number on
 abbrev RisesFrom : ℕ → List Line → Type 0
 RisesFrom number [] = Unit {0}
 RisesFrom number (line ∷ lines) = (number ≤ line.number) × RisesFrom (suc line.number) lines

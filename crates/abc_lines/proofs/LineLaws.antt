@@ -1,4 +1,4 @@
--- The first line is read, and then the others.
+-- The first line is read, then the others.
 use Rattle.std.proofs.Common.{◌≡◌, ℕ, zero, suc, ◌+◌, ◌≤◌, ◌<◌, Bool, true, false, List, [], ◌∷◌, length, take, drop}
 use Rattle.std.proofs.Common.{refl, sym, ap, ◌∙◌, arith, inl, inr, ◌⊎◌}
 use Rattle.std.proofs.lemmas.Bool.{ne_eqb}
@@ -26,7 +26,7 @@ first-nil : first_line [] ≡ pair [] []
 unfolding first_line
 first-nil = refl
 
--- a line end stands in s, and splitting goes on behind it; or none does
+-- s contains a line end, and splitting continues after it; or s contains none
 abbrev Step : List ℕ → Type 0
 Step s =
     ((slice_split is_end s ≡ (first_line s).0 ∷ slice_split is_end (first_line s).1)

@@ -1,4 +1,4 @@
--- What the loops of the cutting keep, and each of their steps.
+-- The invariants of the loops that split a book, and each of their steps.
 use Rattle.std.proofs.Common.{◌≡◌, ℕ, suc, ◌+◌, ◌≤◌, ◌<◌, ◌^◌, true, false, List, [], ◌∷◌, ◌++◌, length, refl, sym, ap}
 use Rattle.std.proofs.Common.{◌∙◌, arith, append_assoc, append-nil, add-one}
 use Rattle.std.proofs.lemmas.Grind.{length_at_push}
@@ -31,7 +31,7 @@ join-ends out total s none so_far =
     let here : joined (readings s) ≡ [] = rw (readings-none s none) refl in
     sym (append-nil out) ∙ ap (λ t. out ++ t) (sym here) ∙ so_far
 
--- a part is listed from the place (from, start) on, and stands at (number, s)
+-- a part is listed from the position (from, start) on, and has reached (number, s)
 pub record Part (first out : List Line) (from number : ℕ) (start s : List ℕ) : Type 0 where
   pub lines : out ++ part_from number (readings s) ≡ first ++ part_from from (readings start)
   pub tunes : (ordinal : ℕ) → tunes_from ordinal number (readings s) ≡ tunes_from ordinal from (readings start)
@@ -79,7 +79,7 @@ part-ends first out from number start s none so_far =
     let here : part_from number (readings s) ≡ [] = rw (readings-none s none) (part-nil number) in
     sym (append-nil out) ∙ ap (λ t. out ++ t) (sym here) ∙ so_far.lines
 
--- the tunes so far, at the place (number, s)
+-- the tunes so far, at the position (number, s)
 pub record Tunes (out : List TuneText) (total : List TuneText) (number : ℕ) (s : List ℕ) : Type 0 where
   pub tunes : out ++ tunes_from (suc (length out)) number (readings s) ≡ total
   pub within : number + length s ≤ 2 ^ 30 + 1

@@ -1,5 +1,5 @@
--- The book: which lines belong to the file header and to which tune, by looking backwards from a
--- line, and the text that a listed line has with the `+:` lines that are joined to it.
+-- The book: which lines belong to the file header and to which tune, found by looking backwards from a line, and the
+-- text of a listed line together with the `+:` lines that are joined to it.
 use Prim.Native.Char.{code}
 use Rattle.std.specs.Prelude.{ℕ, suc, List, [], ◌∷◌, ◌++◌, length, Bool, true, false, ◌==◌, ◌&&◌, ◌||◌, not}
 use Rattle.std.specs.Prelude.{if◌then◌else◌, Option, Some, None, nat_eq, codes}
@@ -12,7 +12,7 @@ use Rattle.abc_lines.specs.declared.reading.LineContent.TheVariants.{Empty, Comm
 use Rattle.abc_lines.specs.Kinds.{is_field, field_text}
 use Rattle.abc_lines.specs.Lines.{readings, without_mark}
 
--- a line that begins `X:` begins a tune
+-- a line that begins with `X:` begins a tune
 abbrev pub begins_tune : LineContent → Bool
 begins_tune Empty = false
 begins_tune Comment = false
@@ -23,21 +23,21 @@ is_empty_line Empty = true
 is_empty_line Comment = false
 is_empty_line (Written text) = false
 
--- an empty line and the first line of a tune end what stands before them
+-- an empty line and the first line of a tune end the part before them
 abbrev pub is_end_of_part : LineContent → Bool
 is_end_of_part line = is_empty_line line || begins_tune line
 
--- a line that begins `+:` goes on the field before it
+-- a line that begins with `+:` continues the field before it
 abbrev pub is_joining : List ℕ → Bool
 is_joining text = starts_with nat_eq text (codes "+:")
 
--- Looking backwards: here a line stands first, the line before it second, and so on. No line up to it is empty or
+-- Looking backwards: a list begins with a line, then has the line before it, and so on. No line up to it is empty or
 -- begins a tune.
 abbrev pub is_in_header : List LineContent → Bool
 is_in_header [] = true
 is_in_header (line ∷ before) = not (is_end_of_part line) && is_in_header before
 
--- the number of the last line at or before it that begins a tune, where no empty line stands after that one
+-- the number of the last line, up to this one, that begins a tune, if no empty line follows that line
 abbrev pub tune_of : List LineContent → Option ℕ
 tune_of [] = None
 tune_of (line ∷ before) =
@@ -50,7 +50,7 @@ is_line_number number (Some other) = other == number
 abbrev pub belongs_to : ℕ → List LineContent → Bool
 belongs_to number lines = is_line_number number (tune_of lines)
 
--- a joining goes on over comments and `+:` lines
+-- joining continues over comments and `+:` lines
 abbrev pub goes_on : LineContent → Bool
 goes_on Empty = false
 goes_on Comment = true
@@ -62,7 +62,7 @@ added Empty = []
 added Comment = []
 added (Written text) = code " " ∷ field_text text
 
--- what the `+:` lines add that stand directly behind a field
+-- what the `+:` lines directly after a field add
 abbrev pub joined : List LineContent → List ℕ
 joined [] = []
 joined (line ∷ more) = if goes_on line then added line ++ joined more else []
@@ -70,7 +70,7 @@ joined (line ∷ more) = if goes_on line then added line ++ joined more else []
 abbrev pub whole_text : List ℕ → List LineContent → List ℕ
 whole_text text more = if is_field text then text ++ joined more else text
 
--- a line as it is listed. A comment is not, nor is a `+:` line.
+-- a line as it is listed; comments and `+:` lines are not
 abbrev pub line_of_text : ℕ → List ℕ → List LineContent → List Line
 line_of_text number text more =
     if is_joining text then [] else record { number = number; text = whole_text text more } ∷ []
@@ -83,7 +83,7 @@ line_at number (Written text) more = line_of_text number text more
 abbrev pub when : Bool → List Line → List Line
 when belongs lines = if belongs then lines else []
 
--- the listed lines that belong, of those behind the lines `before`, of which the last stands first
+-- the listed lines that belong, out of those after the lines `before`, which are listed last line first
 abbrev pub listed_lines : (List LineContent → Bool) → List LineContent → List LineContent → List Line
 listed_lines belongs before [] = []
 listed_lines belongs before (line ∷ more) =
@@ -93,7 +93,7 @@ listed_lines belongs before (line ∷ more) =
 abbrev pub tune_at : List LineContent → ℕ → ℕ → TuneText
 tune_at all ordinal number = record { ordinal = ordinal; lines = listed_lines (belongs_to number) [] all }
 
--- the tunes that begin behind the lines `before`, each with its lines among all lines
+-- the tunes that begin after the lines `before`, each with its lines among all lines
 abbrev pub tunes_behind : List LineContent → ℕ → List LineContent → List LineContent → List TuneText
 tunes_behind all ordinal before [] = []
 tunes_behind all ordinal before (line ∷ more) =

@@ -1,4 +1,4 @@
--- Between the book as it is defined and the code: the same lines, found by going forwards.
+-- A link between the definition of a book and the code: the same lines, found by going forwards.
 use Rattle.std.specs.Prelude.{ℕ, suc, List, [], ◌∷◌, ◌++◌, if◌then◌else◌}
 use Rattle.abc_lines.specs.declared.book.Line.{Line}
 use Rattle.abc_lines.specs.declared.book.TuneText.{TuneText}

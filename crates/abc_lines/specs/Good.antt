@@ -1,4 +1,4 @@
--- Good lines and tunes: what each call that takes one asks, and each that makes one gives.
+-- Good lines and tunes: what each call that takes one requires, and each call that makes one ensures.
 use Rattle.std.specs.Prelude.{◌≤◌, ◌<◌, ◌^◌, ⊤, ℕ, List, [], ◌∷◌, length, sum, map, All}
 use Rattle.abc_lines.specs.{declared.book.Line.Line, declared.book.TuneText.TuneText, declared.book.Book.Book}
 
@@ -6,7 +6,7 @@ use Rattle.abc_lines.specs.{declared.book.Line.Line, declared.book.TuneText.Tune
 abbrev pub IsGoodLine : Line → Type 0
 IsGoodLine line = length line.text ≤ 2 ^ 30
 
--- each line stands behind the one before it
+-- each line's number is greater than that of the line before it
 abbrev pub NumbersRise : List Line → Type 0
 NumbersRise [] = ⊤
 NumbersRise (line ∷ []) = ⊤

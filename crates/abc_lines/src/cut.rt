@@ -13,17 +13,17 @@ use mus_units::bytes::after_blanks;
 use mus_units::{Memory, Row, Text};
 use std::alloc::Global;
 
-/// A place in a book: what is left of its bytes, and the number of the line that begins there.
+/// A position in a book: the rest of its bytes, and the number of the line that begins there.
 #[derive(Clone, Copy)]
 pub struct LineCursor<'a> {
     pub rest: &'a [u8],
     pub number: u32,
 }
 
-/// The file header and the tunes of a book, for at most 2^30 bytes.
+/// Returns the file header and the tunes of a book of at most 2^30 bytes.
 ///
-/// Lines that are empty, all comment or free text aren't listed, and a `+:` line
-/// is joined to the field before it. Tunes and lines are numbered from 1.
+/// Lines that are empty, all comment or free text aren't listed, and a `+:` line is joined to the field before it.
+/// Tunes and lines are numbered from 1.
 pub fn cut_book(alloc: Global, bytes: &[u8]) -> Result<Book, Memory>
     requires { length bytes.now ≤ 2 ^ 30 }
     ensures book { IfOk result (λ book. book ≡ book_of bytes.now) }
@@ -39,7 +39,7 @@ pub fn cut_book(alloc: Global, bytes: &[u8]) -> Result<Book, Memory>
     Ok(Book { header, tunes })
 }
 
-/// The tunes that begin from a place on.
+/// Returns the tunes that begin at or after a position.
 fn tunes_at(alloc: Global, place: LineCursor<'_>) -> Result<Row<TuneText>, Memory>
     requires counted { 1 ≤ place.number }
     requires within { place.number + length place.rest.now ≤ 2 ^ 30 + 1 }
@@ -65,7 +65,7 @@ fn tunes_at(alloc: Global, place: LineCursor<'_>) -> Result<Row<TuneText>, Memor
     Ok(tunes)
 }
 
-/// The tune that begins with a line of this number, and the place where it ends.
+/// Returns the tune that begins with the line of this number, and the position where it ends.
 fn tune_at<'a>(
     alloc: Global,
     ordinal: u32,
@@ -94,8 +94,7 @@ fn tune_at<'a>(
     Ok((TuneText { ordinal, lines }, next))
 }
 
-/// Adds the listed lines up to the first that is empty or begins a tune, and
-/// gives the place of that one.
+/// Adds the listed lines up to the first that is empty or begins a tune, and returns the position of that line.
 fn add_part<'a>(
     alloc: Global,
     out: &mut Row<Line>,
@@ -128,7 +127,7 @@ fn add_part<'a>(
     Ok(at)
 }
 
-/// Adds a line where it is listed; `rest` follows it.
+/// Adds a line if it is listed; `rest` follows it.
 fn add_line(
     alloc: Global,
     out: &mut Row<Line>,
@@ -160,7 +159,7 @@ fn add_text(
     out.push(Line { number, text })
 }
 
-/// A text with that of the `+:` lines that are joined to it.
+/// Returns a text with that of the `+:` lines that are joined to it.
 fn whole_text(alloc: Global, text: Text, rest: &[u8]) -> Result<Text, Memory>
     ensures { IfOk result (λ it. it ≡ whole_text text (readings rest.now)) }
 {
@@ -171,7 +170,7 @@ fn whole_text(alloc: Global, text: Text, rest: &[u8]) -> Result<Text, Memory>
     Ok(text)
 }
 
-/// Adds what the `+:` lines at the front of `bytes` add.
+/// Adds what the `+:` lines at the start of `bytes` add.
 fn join(alloc: Global, out: &mut Text, bytes: &[u8]) -> Result<(), Memory>
     ensures { OnOk result (out.new ≡ out.old ++ joined (readings bytes.now)) }
 {

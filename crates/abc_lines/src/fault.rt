@@ -3,18 +3,18 @@ ghost use Rattle.abc_lines.specs.declared.fault.TuneError.TheVariants as errors;
 
 use mus_units::Memory;
 
-/// Why a tune is refused. The order is that in which faults at one place count.
+/// Why a tune is refused. The order is that of precedence among faults at one place.
 #[derive(Clone, Copy, PartialEq, Eq)]
 pub enum FaultKind {
     /// The tune has no `K:` line.
     NoKey,
-    /// A meter of another form.
+    /// A meter in none of the accepted forms.
     BadMeter,
-    /// A unit length of another form.
+    /// A unit length in none of the accepted forms.
     BadUnit,
-    /// A key of another form.
+    /// A key in none of the accepted forms.
     BadKey,
-    /// A voice of another form.
+    /// A voice in none of the accepted forms.
     BadVoice,
     /// A seventeenth voice.
     TooManyVoices,
@@ -22,40 +22,40 @@ pub enum FaultKind {
     BadByte,
     /// A quote, chord, grace or inline field that isn't closed on its line.
     Unclosed,
-    /// A length of another form.
+    /// A length in none of the accepted forms.
     BadLength,
     /// A tuplet whose numbers are out of range.
     BadTuplet,
-    /// A tuplet within two others.
+    /// A tuplet nested in two others.
     TooDeep,
-    /// A tuplet of more notes than the one around it still takes.
+    /// A tuplet of more notes than the tuplet around it still takes.
     TupletCrosses,
-    /// A bar, a whole measure rest or the end before a tuplet has its notes.
+    /// A bar, a whole measure rest or the end before a tuplet has all its notes.
     TupletShort,
     /// A broken rhythm without a note or rest of the measure on each side.
     BrokenAlone,
     /// A written length that has no parts.
     Undrawable,
-    /// A head too far from the staff.
+    /// A note head too far from the staff.
     StepRange,
     /// A whole measure rest in free meter.
     RestWithoutMeter,
-    /// A two thousand and first measure.
+    /// A measure past the 2000th.
     TooManyMeasures,
-    /// A head or rest past the fifty thousandth.
+    /// A note head or rest past the 50,000th.
     TooManyEvents,
     /// A ninth line of words on one music line.
     TooManyVerses,
-    /// `%%score` pairs its signs badly, or names no voice, one twice or one that isn't there.
+    /// A `%%score` whose signs don't pair, or that names no voice, a voice twice or a voice that doesn't exist.
     BadScore,
     /// Two voices of one staff differ in first clef, key or meter, or in their changes.
     BadShare,
-    /// A key, a sign or a head that can't be moved so far.
+    /// A key, an accidental or a note head that can't be transposed by the given distance.
     BadMove,
     /// No legal breaking; `reached` is the greatest bar at which a legal prefix ends.
     NoWay { reached: u32 },
-    /// A group of blocks higher than the page; `block` is its first block, from 0
-    /// among those of the tune.
+    /// A group of blocks higher than the page; `block` is the index of its first block among those of the tune, from
+    /// 0.
     TooTall { block: u32 },
 }
 
@@ -67,7 +67,7 @@ pub struct Fault {
     pub column: u32,
 }
 
-/// Why a call on a tune has no answer: the tune's fault, or want of memory.
+/// Why a call on a tune fails: the tune's fault, or out of memory.
 #[derive(Clone, Copy, PartialEq, Eq)]
 pub enum TuneError {
     Fault(Fault),

@@ -5,9 +5,8 @@ ghost use Rattle.abc_lines.specs.Kinds.{field_kind, kind_of, after_blanks, field
 use crate::book::Line;
 use mus_units::bytes::{after_blanks, is_letter};
 
-/// What a line is by its first bytes. A field has a letter and a colon first, a
-/// directive `%%` or `I:`, and every other line is music. A letter of A to G, a
-/// to g, x, y or z before `:|` or `::` is music too.
+/// The kind of a line, determined by its first bytes. A field begins with a letter and a colon, a directive with `%%`
+/// or `I:`, and every other line is music. A letter A to G, a to g, x, y or z before `:|` or `::` is music too.
 #[derive(Clone, Copy, PartialEq, Eq)]
 pub enum LineKind {
     Field { letter: u8 },
@@ -15,7 +14,7 @@ pub enum LineKind {
     Music,
 }
 
-/// What a line is. Takes no memory.
+/// Returns the kind of a line. Takes no memory.
 pub fn kind_of(line: &Line) -> LineKind
     ensures { result ≡ kind_of line.now.text }
 {
@@ -29,8 +28,8 @@ pub fn kind_of(line: &Line) -> LineKind
     }
 }
 
-/// The text of a field or a directive: what stands behind its first two bytes
-/// and the spaces and tabs there. Takes no memory.
+/// Returns the text of a field or a directive: the rest after its first two bytes and the spaces and tabs that follow
+/// them. Takes no memory.
 pub fn field_text(line: &Line) -> &[u8]
     ensures { result.now ≡ field_text line.now.text }
 {
@@ -47,7 +46,7 @@ fn field_kind(letter: u8) -> LineKind
     }
 }
 
-/// Whether two percent signs stand first.
+/// Returns whether a line begins with two percent signs.
 pub(crate) fn is_percent_line(text: &[u8]) -> bool
     ensures { result ≡ is_percent_line text.now }
 {
@@ -60,7 +59,7 @@ pub(crate) fn is_percent_line(text: &[u8]) -> bool
     *first == b'%' && *second == b'%'
 }
 
-/// Whether a letter and a colon stand first, and not a letter of music before a bar.
+/// Returns whether a line begins with a letter and a colon, but not with a letter of music before a bar.
 pub(crate) fn is_field(text: &[u8]) -> bool
     ensures { result ≡ is_field text.now }
 {
@@ -90,7 +89,7 @@ fn begins_bar(text: &[u8]) -> bool
     }
 }
 
-/// What stands behind the first two bytes.
+/// Returns the rest after the first two bytes.
 pub(crate) fn behind_two(text: &[u8]) -> &[u8]
     ensures { result.now ≡ drop 2 text.now }
 {

@@ -1,7 +1,7 @@
 //! A tune book as lines: the file header, and the lines of each tune.
 //!
-//! Bytes are cut into lines once; comments go, and each line is a list of Latin-1 bytes with its number.
-//! The faults of tunes, which every later stage answers, are named here too.
+//! Bytes are split into lines once. Comments are removed, and each line is a list of Latin-1 bytes with its number.
+//! The faults of tunes, which every later stage returns, are named here too.
 #![tactic(auto)]
 
 pub mod book;

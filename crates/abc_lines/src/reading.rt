@@ -11,18 +11,18 @@ use mus_units::bytes::{before_blanks, leading_blanks};
 use mus_units::{Memory, Text};
 use std::alloc::{AllocError, Global};
 
-/// What is read of one line of the input.
+/// The content of one line of the input.
 #[derive(Drop)]
 pub enum LineContent {
-    /// Spaces and tabs alone.
+    /// Only spaces and tabs.
     Empty,
-    /// A comment alone, which is passed over.
+    /// Only a comment, which is skipped.
     Comment,
-    /// Text in Latin-1, without comment.
+    /// Text in Latin-1, without its comment.
     Written(Text),
 }
 
-/// The input without the byte order mark at its start.
+/// Returns the input without the byte order mark at its start.
 pub(crate) fn without_mark(bytes: &[u8]) -> &[u8]
     ensures { result.now ≡ without_mark bytes.now }
 {
@@ -33,7 +33,7 @@ pub(crate) fn without_mark(bytes: &[u8]) -> &[u8]
     }
 }
 
-/// The first line without its line end, and what follows it.
+/// Returns the first line without its line end, and the rest after it.
 #[tactic(auto, unfolding(crate::specs::Lines::first_line))]
 pub(crate) fn first_line(bytes: &[u8]) -> (&[u8], &[u8])
     ensures { (result.0.now, result.1.now) ≡ first_line bytes.now }
@@ -52,7 +52,7 @@ fn line_len(bytes: &[u8]) -> usize
     bytes.iter().take_while(|byte| **byte != b'\n').count()
 }
 
-/// What is read of a line.
+/// Returns the content of a line.
 #[tactic(auto, unfolding(crate::specs::Lines::reading))]
 pub(crate) fn read_line(alloc: Global, line: &[u8]) -> Result<LineContent, Memory>
     ensures { IfOk result (λ it. it ≡ reading line.now) }

@@ -1,4 +1,4 @@
--- Where no piece stands there is a fault, so a line has a front from each of its places on.
+-- Where there is no piece there is a fault, so a line has a prefix from each of its positions on.
 use Rattle.std.specs.Prelude.{◌==◌, MatchBool, MatchOption}
 use Rattle.std.proofs.Common.{◌≡◌, ℕ, zero, suc, ◌+◌, ◌≤◌, ◌<◌, Bool, true, false, List, [], ◌∷◌, ◌++◌, length, Option}
 use Rattle.std.proofs.Common.{Some, None, refl, sym, ap, ◌∙◌, subst, arith, append-nil, eqb-true, option_map}
@@ -156,7 +156,7 @@ line_flaw : (at : ℕ) (Own : Flaw → Type 0) (kind : Option FaultKind)
 line_flaw at Own None own = own
 line_flaw at Own (Some kind) own = (record { kind = kind; left = at }, refl)
 
--- what a line gives from a place on
+-- what a line gives from a position on
 abbrev HasFront : Bool → ℕ → PieceBefore → ℕ → List ℕ → Type 0
 HasFront bang n before at s = (ts : List Placed) × (end : Option Flaw) × GivesTokens bang n before at s ts end
 
@@ -192,7 +192,7 @@ front_from bang line place =
     let f = has_front bang (length line.text) place.before place.at place.rest.now in
     (f.0, option_map (fault_at line) f.1, (f.1, f.2, refl))
 
--- some more tokens stand behind a part, with which the line is read up to its first fault
+-- a part is followed by some more tokens, with which the line is read up to its first fault
 pub behind_part : (bang : Bool) (line : Line) (place : TokenCursor) (ts : List Placed) (behind : LineRest)
     → PartOf bang line place ts behind
     → (more : List Placed) × (fault : Option Fault) × GivesTokensFrom bang line place (ts ++ more) fault

@@ -32,7 +32,7 @@ pub put_few : (t : Option Token) (at : ℕ) (so_far new : List Placed)
 put_few None at so_far new is = omega (arith, ap length is, length-append so_far [])
 put_few (Some t) at so_far new is = omega (arith, ap length is, length-append so_far (with_token (Some t) at []))
 
--- what a call of the reader tells
+-- what the result of a reader's call states
 pub record Found (bang : Bool) (before : PieceBefore) (s : List ℕ) (t : Option Token) (next : PieceBefore)
     (rest : List ℕ) : Type 0 where
   pub form : Form
@@ -102,7 +102,7 @@ from_start bang line ts end before at rest r b a front =
     (subst (λ x. GivesTokens bang (length line.text) PieceBefore.Other x rest ts end) a
     (subst (λ x. GivesTokens bang (length line.text) x at rest ts end) b front))
 
--- tokens lead from the start of a line to a place
+-- tokens lead from the start of a line to a position
 abbrev pub ReadTo : Bool → Line → List Placed → TokenCursor → Type 0
 ReadTo bang line so_far place =
     (more : List Placed) (fault : Option Fault)
@@ -142,7 +142,7 @@ pub none_at : (bang : Bool) (before : PieceBefore) (s t : List ℕ) (byte : ℕ)
     → s ≡ byte ∷ t → None ≡ meaning (piece_at bang before s) → piece_at bang before (byte ∷ t) ≡ None
 none_at bang before s t byte cut none = ap (piece_at bang before) (sym cut) ∙ no_read (piece_at bang before s) none
 
--- the two laws: one list, and a fault only where there is none
+-- the two laws: one list only, and a fault only if there is none
 nothing_read : (bang : Bool) (before : PieceBefore) (f : Form) (rest : List ℕ) → longest_piece bang before [] f rest → ⊥
 nothing_read bang before f rest l =
     let e : None ≡ read f rest = sym (at_nil (piece_reader bang before)) ∙ is_read bang before [] f rest l in cc
@@ -153,7 +153,7 @@ nil_list bang n _ _ _ e (ends before) = refl
 nil_list bang n _ _ _ e (goes before s f rest ts all l more is) =
     absurd (nothing_read bang before f rest (subst (λ t. longest_piece bang before t f rest) e l))
 
--- the rest of a list of tokens, behind the piece that is read
+-- the rest of a list of tokens, after the piece just read
 pub record Behind (bang : Bool) (n : ℕ) (before : PieceBefore) (s : List ℕ) (us : List Placed) (f : Form)
     (rest : List ℕ) : Type 0 where
   pub ts : List Placed
@@ -218,7 +218,7 @@ stuck_at bang line place at so_far byte t flaw fault so cut none is told =
     subst (λ us. GivesTokensFrom bang line place us (Some fault)) (append-nil so_far)
     (so [] (Some fault) (Some flaw, one, ap Some told))
 
--- a line without a fault has the tokens of its front, and a line with one has that fault
+-- a line without a fault has the tokens of its prefix, and a line with a fault has that fault
 front_tokens : (bang : Bool) (n : ℕ) (before : PieceBefore) (at : ℕ) (s : List ℕ) (ts : List Placed) (end : Option Flaw)
     → GivesTokens bang n before at s ts end → end ≡ None → Tokens bang n before s ts
 front_tokens bang n _ _ _ _ _ (clear before at) e = ends before
@@ -258,7 +258,7 @@ pub error_of : (bang : Bool) (line : Line) (ts : List Placed) (fault : Option Fa
     → GivesTokensOf bang line ts fault → fault ≡ Some one → IsErrorOf bang line (TuneError.Fault one)
 error_of bang line ts fault one front is = error_by bang line ts one front.0 front.1 (sym is ∙ front.2)
 
--- ---- where no piece stands, no chord and no grace group does
+-- ---- where there is no piece, there is no chord and no grace group
 pub unmapped : {T U : Type 0} (f : T → U) (o : Option T) → option_map f o ≡ None → o ≡ None
 unmapped f None e = refl
 unmapped f (Some x) e = absurd cc

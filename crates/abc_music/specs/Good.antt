@@ -1,5 +1,5 @@
--- Good tokens, which are those that a music line can write: numbers within their bounds, a head in
--- each chord, and a head in each note or chord of a grace group.
+-- Good tokens, which are those that a music line can write: numbers within their bounds, a head in each chord, and a
+-- head in each note or chord of a grace group.
 use Rattle.std.specs.Prelude.{ℕ, ◌≤◌, ⊤, List, [], ◌∷◌}
 use Rattle.mus_units.specs.declared.note.Head.{Head}
 use Rattle.abc_notes.specs.declared.part.Len.{Len}
@@ -7,7 +7,7 @@ use Rattle.abc_notes.specs.declared.part.GraceChord.{GraceChord}
 use Rattle.abc_pieces.specs.declared.token.Token.{Token}
 use Rattle.abc_music.specs.declared.token.Placed.{Placed}
 
--- numbers of one to four digits, and no zero
+-- numbers of one to four digits, and not zero
 pub record IsGoodLen (len : Len) : Type 0 where
   pub some : 1 ≤ len.num
   pub num_high : len.num ≤ 9999

@@ -1,5 +1,5 @@
--- The tokens of a music line: piece by piece, each the longest that stands at the front of what is
--- left; and the first fault of a line that has no such list.
+-- The tokens of a music line: piece by piece, each the longest at the start of what is left; and the first fault of a
+-- line that has no such list.
 use Prim.Native.Char.{code}
 use Rattle.std.specs.Prelude.{◌≡◌, ℕ, ◌+◌, ◌-◌, ◌≤◌, ◌<◌, List, [], ◌∷◌, ◌++◌, length, Bool, ◌==◌, if◌then◌else◌}
 use Rattle.std.specs.Prelude.{Option, Some, None, MatchBool, MatchOption, option_map}
@@ -19,7 +19,7 @@ use Rattle.abc_pieces.specs.declared.token.PieceBefore.{PieceBefore}
 use Rattle.abc_pieces.specs.declared.token.BracketOpening.{BracketOpening}
 use Rattle.abc_music.specs.declared.token.{Placed.Placed, TokenCursor.TokenCursor, LineRest.LineRest}
 
--- where s begins in a line of n bytes that ends with it
+-- the column at which s begins, for a line of n bytes that ends with s
 abbrev pub column : ℕ → ℕ → ℕ
 column n left = n + 1 - left
 
@@ -27,14 +27,14 @@ abbrev pub with_token : Option Token → ℕ → List Placed → List Placed
 with_token None at ts = ts
 with_token (Some t) at ts = record { token = t; column = at } ∷ ts
 
--- the tokens of what is left of a line of n bytes, behind such a piece
+-- the tokens of what is left of a line of n bytes, after a piece with this effect
 pub data Tokens (bang : Bool) (n : ℕ) : PieceBefore → List ℕ → List Placed → Type 0 where
   ends : (before : PieceBefore) → Tokens bang n before [] []
   goes : (before : PieceBefore) (s : List ℕ) (f : Form) (rest : List ℕ) (ts all : List Placed)
       → IsLongest Form (StandsAt bang before) s f rest → Tokens bang n (after f) rest ts
       → all ≡ with_token (token_meant f) (column n (length s)) ts → Tokens bang n before s all
 
--- a byte that goes on the piece before it, and so makes that piece a fault
+-- a byte that continues the piece before it, and so makes that piece a fault
 abbrev pub kind_if : Bool → FaultKind → Option FaultKind
 kind_if goes_on kind = if goes_on then Some kind else None
 
@@ -49,15 +49,15 @@ kind_after PieceBefore.Other byte = None
 abbrev pub IsHere : FaultKind → List ℕ → Flaw → Type 0
 IsHere kind s flaw = flaw ≡ record { kind = kind; left = length s }
 
--- behind a bracket: an inline field that is not closed, or the fault of a chord;
--- a bar sign and a digit always make a piece there
+-- after a bracket: an inline field that is not closed, or the fault of a chord; a bar sign and a digit always make a
+-- piece there
 abbrev pub IsBracketFlaw : BracketOpening → Bool → ℕ → List ℕ → Flaw → Type 0
 IsBracketFlaw BracketOpening.Bar bang byte s flaw = IsHere BadByte (byte ∷ s) flaw
 IsBracketFlaw BracketOpening.Ending bang byte s flaw = IsHere BadByte (byte ∷ s) flaw
 IsBracketFlaw BracketOpening.Inline bang byte s flaw = IsHere Unclosed (byte ∷ s) flaw
 IsBracketFlaw BracketOpening.Chord bang byte s flaw = ChordFault bang s flaw
 
--- a byte at which no piece stands: a quote that is not closed, what a bracket or a brace opens, or the byte itself
+-- a byte where there is no piece: a quote that is not closed, what a bracket or a brace opens, or the byte itself
 abbrev pub IsOwnFlaw : Bool → ℕ → List ℕ → Flaw → Type 0
 IsOwnFlaw bang byte s flaw =
     MatchBool (byte == code "\"") (IsHere Unclosed (byte ∷ s) flaw)
@@ -69,8 +69,8 @@ abbrev pub IsLineFlaw : Bool → PieceBefore → ℕ → ℕ → List ℕ → Fl
 IsLineFlaw bang before at byte s flaw =
     MatchOption (kind_after before byte) (IsOwnFlaw bang byte s flaw) (λ kind. flaw ≡ record { kind = kind; left = at })
 
--- the first fault: no piece stands where reading the longest pieces has come to. The piece before
--- it stands so many bytes from the end as `at` says.
+-- the first fault: after reading the longest pieces, there is no piece at what is left. The piece before it begins
+-- `at` bytes from the end.
 pub data Faulty (bang : Bool) : PieceBefore → ℕ → List ℕ → Flaw → Type 0 where
   stuck : (before : PieceBefore) (at byte : ℕ) (s : List ℕ) (flaw : Flaw)
       → HasNone Form (StandsAt bang before) (byte ∷ s) → IsLineFlaw bang before at byte s flaw
@@ -79,8 +79,8 @@ pub data Faulty (bang : Bool) : PieceBefore → ℕ → List ℕ → Flaw → Ty
       → IsLongest Form (StandsAt bang before) s f rest → Faulty bang (after f) (length s) rest flaw
       → Faulty bang before at s flaw
 
--- What a line gives up to its first fault: the tokens of the pieces before it, and the fault, or none where pieces
--- stand up to the end.
+-- What a line gives up to its first fault: the tokens of the pieces before it, and the fault, or none if there are
+-- pieces up to the end.
 pub data GivesTokens (bang : Bool) (n : ℕ) : PieceBefore → ℕ → List ℕ → List Placed → Option Flaw → Type 0 where
   clear : (before : PieceBefore) (at : ℕ) → GivesTokens bang n before at [] [] None
   breaks : (before : PieceBefore) (at byte : ℕ) (s : List ℕ) (flaw : Flaw)
@@ -104,7 +104,7 @@ GivesTokensAt bang text ts end = GivesTokens bang (length text) PieceBefore.Othe
 abbrev pub fault_at : Line → Flaw → Fault
 fault_at line flaw = record { kind = flaw.kind; line = line.number; column = column (length line.text) flaw.left }
 
--- a fault is the first of the line, and comes only where no list is; Memory is free
+-- a fault is the first of the line, and is returned only if there is no list; Memory is always allowed
 abbrev pub IsErrorOf : Bool → Line → TuneError → Type 0
 IsErrorOf bang line TuneError.Memory = Unit {0}
 IsErrorOf bang line (TuneError.Fault fault) =
@@ -118,36 +118,36 @@ abbrev pub GivesTokensOf : Bool → Line → List Placed → Option Fault → Ty
 GivesTokensOf bang line ts fault =
     (end : Option Flaw) × GivesTokensAt bang line.text ts end × (fault ≡ option_map (fault_at line) end)
 
--- the place where a line begins
+-- the cursor at the start of a line
 pub record IsStart (line : Line) (place : TokenCursor) : Type 0 where
   pub rest : place.rest.now ≡ line.text
   pub before : place.before ≡ PieceBefore.Other
   pub at : place.at ≡ 0
 
--- no more is left at a place than the line has, and the piece before it begins within the line
+-- at a cursor no more is left than the line has, and the piece before it begins within the line
 abbrev pub IsWithinLine : Line → TokenCursor → Type 0
 IsWithinLine line place = (length place.rest.now ≤ length line.text) × (place.at ≤ length line.text)
 
--- the tokens from a place of a line up to its first fault, and that fault if there is one
+-- the tokens from a cursor in a line up to its first fault, and that fault if there is one
 abbrev pub GivesTokensFrom : Bool → Line → TokenCursor → List Placed → Option Fault → Type 0
 GivesTokensFrom bang line place ts fault =
     (end : Option Flaw)
     × GivesTokens bang (length line.text) place.before place.at place.rest.now ts end
     × (fault ≡ option_map (fault_at line) end)
 
--- tokens lead from a place to another: whatever stands from there on stands behind them
+-- tokens lead from one cursor to another: the tokens from the second on follow them
 abbrev pub LeadsTo : Bool → Line → TokenCursor → List Placed → TokenCursor → Type 0
 LeadsTo bang line place ts next =
     (more : List Placed) (fault : Option Fault)
     → GivesTokensFrom bang line next more fault → GivesTokensFrom bang line place (ts ++ more) fault
 
--- a part of a line: tokens that lead to a later place, or all that stands before the first fault or the end
+-- a part of a line: tokens that lead to a later cursor, or all tokens before the first fault or the end
 abbrev pub PartOf : Bool → Line → TokenCursor → List Placed → LineRest → Type 0
 PartOf bang line place ts (LineRest.More next) =
     LeadsTo bang line place ts next × IsWithinLine line next × (length next.rest.now < length place.rest.now)
 PartOf bang line place ts (LineRest.End fault) = GivesTokensFrom bang line place ts fault
 
--- a part has at most a thousand tokens, and just as many where more of the line stands behind them
+-- a part has at most a thousand tokens, and exactly a thousand if more of the line follows
 abbrev pub IsFull : List Placed → LineRest → Type 0
 IsFull ts (LineRest.More next) = length ts ≡ 1000
 IsFull ts (LineRest.End fault) = length ts ≤ 1000

@@ -24,16 +24,16 @@ use std::alloc::Global;
 /// The most tokens of a part.
 const MOST: usize = 1000;
 
-/// The tokens of a music line with their columns, or the first fault of the line.
-/// `bang` says that `!` is a line break. Linear in the line.
+/// Returns the tokens of a music line with their columns, or the first fault of the line. If `bang` is set, `!` is a
+/// line break. Linear in the line.
 pub fn read_music(alloc: Global, line: &Line, bang: bool) -> Result<Row<Placed>, TuneError>
     requires { IsGoodLine line.now }
-    // What is read is the list of tokens.
+    // The result is the list of tokens.
     ensures found { IfOk result (λ tokens. TokensOf bang line.now.text tokens) }
     // There is no other list.
     ensures only { IfOk result
         (λ tokens. (others : List Placed) → TokensOf bang line.now.text others → tokens ≡ others) }
-    // A fault is the first, and comes only where there is no list.
+    // A fault is the first of the line, and is returned only if there is no list.
     ensures fault { IfErr result (λ e. IsErrorOf bang line.now e) }
     ensures good { IfOk result (λ tokens. AreGoodTokens tokens) }
 {
@@ -44,8 +44,8 @@ pub fn read_music(alloc: Global, line: &Line, bang: bool) -> Result<Row<Placed>,
     }
 }
 
-/// The tokens of a music line up to its first fault, and that fault if it has one.
-/// `bang` says that `!` is a line break. Linear in the line.
+/// Returns the tokens of a music line up to its first fault, and that fault if it has one. If `bang` is set, `!` is a
+/// line break. Linear in the line.
 pub fn read_prefix(alloc: Global, line: &Line, bang: bool) -> Result<TokenPrefix, Memory>
     requires { IsGoodLine line.now }
     ensures front { IfOk result (λ front. GivesTokensOf bang line.now front.tokens front.fault) }
@@ -63,7 +63,7 @@ pub fn read_prefix(alloc: Global, line: &Line, bang: bool) -> Result<TokenPrefix
     }
 }
 
-/// The place where a music line begins.
+/// Returns the cursor at the start of a music line.
 pub fn start(line: &Line) -> TokenCursor<'_>
     ensures { IsStart line.now result }
 {
@@ -74,9 +74,8 @@ pub fn start(line: &Line) -> TokenCursor<'_>
     }
 }
 
-/// The tokens of a music line from a place on, up to its first fault or to the thousandth of them, and
-/// what stands behind them. So a line can be read in parts of which one alone is held at a time.
-/// Linear in what is read.
+/// Returns the tokens of a music line from a cursor on, up to its first fault or the thousandth token, and what
+/// follows them. So a line can be read in parts, with only one part in memory at a time. Linear in what is read.
 pub fn read_part<'a>(
     alloc: Global,
     line: &Line,
@@ -140,8 +139,8 @@ fn fault_at(line: &Line, flaw: Flaw) -> Fault
     }
 }
 
-/// The fault where no piece stands: `first` and then `behind` are left, and the
-/// piece before begins `at` bytes from the end.
+/// Returns the fault where there is no piece: `first` and then `behind` are left, and the piece before begins `at`
+/// bytes from the end.
 fn line_flaw(bang: bool, before: PieceBefore, at: usize, first: u8, behind: &[u8]) -> Flaw
     requires small { length behind.now < 2 ^ 30 }
     requires none { piece_at bang before (first ∷ behind.now) ≡ None }
@@ -278,7 +277,7 @@ fn token(alloc: Global, bang: bool, found: BorrowedToken<'_>) -> Result<Option<T
     }))
 }
 
-/// Whether an inline field of this letter is kept.
+/// Returns whether an inline field of this letter is kept.
 fn is_kept_field(letter: u8) -> bool
     ensures { result ≡ is_kept_field letter }
 {

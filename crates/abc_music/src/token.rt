@@ -16,8 +16,8 @@ pub struct TokenPrefix {
     pub fault: Option<Fault>,
 }
 
-/// A place in a music line: what is left of its bytes, what the piece before tells
-/// of the next, and how far from the end of the line that piece begins.
+/// A position in a music line: the rest of its bytes, the effect of the piece before on the next, and how far from
+/// the end of the line that piece begins.
 #[derive(Clone, Copy)]
 pub struct TokenCursor<'a> {
     pub rest: &'a [u8],
@@ -25,15 +25,15 @@ pub struct TokenCursor<'a> {
     pub at: usize,
 }
 
-/// What stands behind a part of a music line: more of the line from a place on, or
-/// no more: its first fault, or else its end.
+/// What follows a part of a music line: more of the line from a cursor on, or no more: its first fault, or else its
+/// end.
 #[derive(Clone, Copy)]
 pub enum LineRest<'a> {
     More(TokenCursor<'a>),
     End(Option<Fault>),
 }
 
-/// Some tokens of a music line, and what stands behind them.
+/// Some tokens of a music line, and what follows them.
 #[derive(Drop)]
 pub struct LinePart<'a> {
     pub tokens: Row<Placed>,

@@ -1,4 +1,4 @@
--- Reading a bar gives the longest.
+-- Reading a bar gives the longest one.
 use Rattle.std.proofs.Common.{◌≡◌, ℕ, zero, suc, ◌+◌, ◌≤◌, ◌<◌, Bool, true, false, cond, eqb, ltb, List, ◌∷◌, length}
 use Rattle.std.proofs.Common.{refl, sym, ap, subst, ◌∙◌, arith, Option, Some, None, ◌⊎◌, inl, inr, add-zero, ◌||◌}
 use Rattle.std.proofs.lemmas.Bool.{cond_both, eqb-true, ne_eqb, le-ltb, ltb-false, or_parts}
@@ -8,7 +8,7 @@ use Rattle.abc_notes.proofs.RunLaws.{skip-maybe, skip-yes, length-run_off, lengt
 use Rattle.abc_notes.proofs.RunLaws.{begins_wider}
 use Rattle.abc_pieces.specs.Bars.{BarForm, signs, colons, spelled, IsGoodBar, form_at}
 
--- what is read stands at the front
+-- what is read is at the start
 pub record Takes (s : List ℕ) (x : BarForm × List ℕ) : Type 0 where
   pub good : IsGoodBar x.0
   pub cut : s ≡ spelled x.0 x.1
@@ -48,7 +48,7 @@ form_at-takes s =
           ∙ ap (copies n.0 124) (skip-takes 93 n.1 ∙ ap (maybe c.0 93) (run_off-takes 58 c.1)))));
     })
 
--- a reading of these bytes: it ends before them, or where they end, and then it is this form
+-- a reading that leaves less than x, or that leaves exactly x and is then this form
 abbrev pub goes_on : ℕ → Bool
 goes_on b = eqb b 124 || eqb b 93 || eqb b 58 || eqb b 91
 
@@ -69,7 +69,7 @@ lacks_colon : (o : Bool) (s : List ℕ) → Lacks 58 (maybe o 91 (124 ∷ s))
 lacks_colon true s = refl
 lacks_colon false s = refl
 
--- what stands before the last bar sign is read as it stands
+-- what precedes the last bar sign is read as written
 signs-read : (d : Bool) (b : ℕ) (o : Bool) (m : ℕ) (s : List ℕ) →
     let n = run_off 124 s in
     let c = skip 93 n.1 in
@@ -87,7 +87,7 @@ signs-read d b o m s =
     let some : eqb (suc m + (run_off 124 s).0) 0 ≡ false = ne_eqb _ _ (omega arith) in
     rw (dot, before, stops, add-zero, bracket, lines, some) refl
 
--- what stands after the last bar sign, read from there
+-- what follows the last bar sign, read from there
 abbrev Tail : Bool → ℕ → List ℕ → Type 0
 Tail c a x =
     let s = maybe c 93 (copies a 58 x) in
@@ -140,7 +140,7 @@ signs-reaches d b o m c a x =
       ],
     )
 
--- bar signs behind colons and a bracket: so x begins with one of the three
+-- bar signs after colons and a bracket: so x begins with one of the three
 behind_colons : (x : List ℕ) → begins (λ b. eqb b 124) (skip 91 (run_off 58 x).1).1 ≡ true → begins goes_on x ≡ true
 behind_colons x h =
     elim (run_off-less 58 x) [

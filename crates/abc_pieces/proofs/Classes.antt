@@ -1,4 +1,4 @@
--- What the class of a byte tells of it, and the class of each first byte.
+-- What the class of a byte says about the byte, and the class of each first byte.
 use Rattle.std.proofs.Common.{◌≡◌, ℕ, ◌≤◌, ◌<◌, Bool, true, false, cond, eqb, leb, [], ◌∷◌, refl, subst, arith, inl}
 use Rattle.std.proofs.Common.{inr, ◌||◌, ◌&&◌, not}
 use Rattle.std.proofs.lemmas.Bool.{cond_both, eqb-true, leb-true, or_cases, and_parts, both_ways}
@@ -138,7 +138,7 @@ unfolding class_of
 passed_class b h =
     Passed-is (class_of b) (implied is_passed (λ x. is_Passed (class_of x)) 127 b refl (passed_below b h) h)
 
--- a letter is no digit and no bar sign
+-- a letter is neither a digit nor a bar sign
 pub letter_apart : (b : ℕ) → is_letter b ≡ true → (not (eqb b 124) && not (is_digit b)) ≡ true
 letter_apart b h =
     let below : b < 123 = elim (or_cases (leb 65 b && leb b 90) (leb 97 b && leb b 122) h) [

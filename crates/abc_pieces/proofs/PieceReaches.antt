@@ -1,4 +1,4 @@
--- A piece that is read is as long as each that stands there.
+-- A piece that is read is at least as long as each piece at the same place.
 use Rattle.std.proofs.Common.{◌≡◌, ℕ, zero, suc, ◌+◌, ◌-◌, ◌≤◌, ◌<◌, Bool, true, false, cond, eqb, List, [], ◌∷◌, ◌++◌}
 use Rattle.std.proofs.Common.{length, Option, Some, None, refl, ap, ◌∙◌, subst, arith, inl, inr, ◌⊎◌, ◌||◌, ◌&&◌, not}
 use Rattle.std.proofs.Common.{option_map, IfSome, append-nil, length-append}
@@ -321,7 +321,7 @@ by_sign bang before None false C t = refl
 by_sign bang before None _ C t = refl
 by_sign bang before _ _ _ t = refl
 
--- a bar behind a dot, a bracket, a colon or a bar sign
+-- a bar after a dot, a bracket, a colon or a bar sign
 dotted_bar : (b : ℕ) (o : Bool) (m : ℕ) (c : Bool) (a : ℕ) (x : List ℕ)
     → dot_read (copies b 58 (maybe o 91 (copies (suc m) 124 (maybe c 93 (copies a 58 x))))) ≡
     or_else (bar_read (46 ∷ copies b 58 (maybe o 91 (copies (suc m) 124 (maybe c 93 (copies a 58 x))))))
@@ -439,7 +439,7 @@ cut-reaches bang before b x h =
           rw (eqb-true b 33 p.1, at_class bang before 33 x PieceClass.Bang refl, p.0) (same x (cut_form 33)))
     ]
 
--- ---- behind a bracket
+-- ---- after a bracket
 opened_ending : (bang : Bool) (d : ℕ) (t : List ℕ)
     → is_digit d ≡ true → bracket_form (opening (d ∷ t)) bang (d ∷ t) ≡ ending_read true (d ∷ t)
 opened_ending bang d t digit = rw (ne_eqb d 124 (let lt = digit_below d digit in omega arith), digit) refl

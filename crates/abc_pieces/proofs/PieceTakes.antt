@@ -1,4 +1,4 @@
--- A piece that is read stands at the front.
+-- A piece that is read is at the start of the text.
 use Rattle.std.proofs.Common.{◌≡◌, ℕ, suc, Bool, true, false, cond, eqb, List, [], ◌∷◌, ◌++◌, length, Option, Some}
 use Rattle.std.proofs.Common.{None, refl, sym, ap, ◌∙◌, arith, ◌&&◌, IfSome, option_map}
 use Rattle.std.proofs.lemmas.Bool.{cond_both, or_left, or_right, and_parts, eqb-true, not-false, eq-eqb}
@@ -84,7 +84,7 @@ either-takes : (bang : Bool) (before : PieceBefore) (s : List ℕ) (r other : Fo
 either-takes bang before s (Some z) other p q = p
 either-takes bang before s None other p q = q
 
--- ---- behind a bracket
+-- ---- after a bracket
 bracket-takes : (bang : Bool) (before : PieceBefore) (s : List ℕ) → Takes bang before (91 ∷ s) (ending_read true s)
 unfolding ending_read
 bracket-takes bang before [] = tt

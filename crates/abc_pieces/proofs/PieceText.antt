@@ -1,4 +1,4 @@
--- What a piece is read as, where the code puts it together.
+-- What a piece is read as, where the code assembles it.
 use Rattle.std.proofs.Common.{◌≡◌, ℕ, suc, ◌+◌, Bool, true, List, ◌∷◌, Option, Some, None, take, drop, refl, ap, arith}
 use Rattle.std.specs.List.{prefix_len}
 use Rattle.{mus_units.specs.Bytes.{is_digit}, abc_notes.specs.{Runs.span_all, Decorations.deco_of_letter}}

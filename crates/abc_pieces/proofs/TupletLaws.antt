@@ -1,4 +1,4 @@
--- Reading a tuplet gives the longest.
+-- Reading a tuplet gives the longest one.
 use Rattle.std.proofs.Common.{◌≡◌, ℕ, ◌≤◌, ◌<◌, true, List, [], ◌∷◌, ◌++◌, length, Option, Some, None, refl, ap, ◌∙◌}
 use Rattle.std.proofs.Common.{arith, inl, inr, ◌⊎◌, IfSome, length-append}
 use Rattle.std.proofs.lemmas.Bool.{cond_both}

@@ -1,5 +1,5 @@
 -- A bar: a dot or none, colons, an opening bracket or none, one or more bar signs, a closing bracket or none, and
--- colons; or two or more colons alone. Which features it has, and reading one from left to right.
+-- colons; or two or more colons alone. This file says which features it has, and how it is read from left to right.
 use Prim.Native.Char.{code}
 use Rattle.std.specs.Prelude.{ℕ, ◌≤◌, List, Bool, true, false, ◌&&◌, ◌||◌, not, nat_lt, ◌==◌, if◌then◌else◌, Option}
 use Rattle.std.specs.Prelude.{Some, None}
@@ -10,7 +10,7 @@ pub data BarForm : Type 0 where
   signs : (dot : Bool) (before : ℕ) (bracket : Bool) (lines : ℕ) (close : Bool) (after : ℕ) → BarForm
   colons : (n : ℕ) → BarForm
 
--- its bytes, and what follows them
+-- its bytes, and the rest after them
 abbrev pub spelled : BarForm → List ℕ → List ℕ
 spelled (signs dot before bracket lines close after) rest =
     maybe dot (code ".")

@@ -1,5 +1,5 @@
--- The pieces of a music line: the bytes of each kind, what it says, and what it tells of the next.
--- A piece is the spelling of a token, or one item that is passed over.
+-- The pieces of a music line: the bytes of each kind, the token that it spells, and its effect on the next piece. A
+-- piece is the spelling of a token, or one item that is skipped.
 use Prim.Native.Char.{code}
 use Rattle.std.specs.Prelude.{◌≡◌, ℕ, ◌≤◌, List, [], ◌∷◌, ◌++◌, map, Bool, true, false, not, ◌==◌, ◌&&◌, ◌||◌}
 use Rattle.std.specs.Prelude.{if◌then◌else◌, Option, Some, None, codes}
@@ -76,7 +76,7 @@ abbrev pub bracket_then : Bool → List ℕ → List ℕ
 bracket_then true s = code "[" ∷ s
 bracket_then false s = s
 
--- the bytes of a piece, and what follows them
+-- the bytes of a piece, and the rest after them
 abbrev pub spelled : Form → List ℕ → List ℕ
 spelled (note_form f) x = note_then f x
 spelled (rest_form seen len) x = rest_byte seen ∷ length_then len x
@@ -101,8 +101,8 @@ spelled (passed_form byte) x = byte ∷ x
 spelled lone_form x = code "!" ∷ x
 spelled (plus_form text) x = code "+" ∷ (text ++ (code "+" ∷ x))
 
--- what stands behind an opening bracket: a bar sign makes a bar, a digit an ending, a letter and
--- a colon an inline field; all else is a chord
+-- what follows an opening bracket: a bar sign makes a bar, a digit an ending, a letter and a colon an inline field;
+-- anything else is a chord
 abbrev pub opening : List ℕ → BracketOpening
 opening [] = BracketOpening.Chord
 opening (byte ∷ rest) =
@@ -111,7 +111,7 @@ opening (byte ∷ rest) =
     else (if is_letter byte && begins (λ b. b == code ":") rest then BracketOpening.Inline
     else BracketOpening.Chord))
 
--- a dollar sign, and where it is a line break an exclamation mark
+-- a dollar sign, or an exclamation mark where it is a line break
 abbrev pub is_cut : Bool → ℕ → Bool
 is_cut bang byte = byte == code "$" || (bang && byte == code "!")
 
@@ -173,7 +173,7 @@ token_meant (passed_form byte) = None
 token_meant lone_form = None
 token_meant (plus_form text) = None
 
--- what a piece tells of the next
+-- the effect of a piece on the next
 abbrev pub after : Form → PieceBefore
 after (note_form f) = PieceBefore.Lengthy
 after (rest_form seen len) = PieceBefore.Lengthy
@@ -216,13 +216,13 @@ is_after_broken right PieceBefore.Lengthy = false
 is_after_broken right PieceBefore.Paren = false
 is_after_broken right PieceBefore.Other = false
 
--- digits are an ending only after a bar, and an arrow stands behind no arrow of its way
+-- digits are an ending only after a bar, and an arrow doesn't follow an arrow of the same direction
 abbrev pub IsAllowed : PieceBefore → Form → Type 0
 IsAllowed before (ending_form bracket digit more) = (bracket || is_after_bar before) ≡ true
 IsAllowed before (broken_form right count) = is_after_broken right before ≡ false
 IsAllowed before _ = Unit {0}
 
--- the piece stands at the front of s behind such a piece, with rest behind it
+-- the piece is at the start of s, after a piece with the effect `before`, and `rest` follows it
 pub record StandsAt (bang : Bool) (before : PieceBefore) (f : Form) (s rest : List ℕ) : Type 0 where
   pub good : IsGoodForm bang f
   pub allowed : IsAllowed before f

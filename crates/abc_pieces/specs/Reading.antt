@@ -1,4 +1,4 @@
--- Reading the longest piece: between the pieces as they are defined and the code.
+-- Reading the longest piece: a link between the definition of pieces and the code.
 use Prim.Native.Char.{code}
 use Rattle.std.specs.Prelude.{◌≤◌, ℕ, suc, List, [], ◌∷◌, length, Bool, true, false, ◌==◌, ◌||◌, if◌then◌else◌, Option}
 use Rattle.std.specs.Prelude.{Some, None, option_map}
@@ -191,7 +191,7 @@ token_of bang BorrowedToken.Cut = Some Token.Cut
 token_of bang BorrowedToken.Space = Some Token.Space
 token_of bang BorrowedToken.Passed = None
 
--- a token, what it tells of the next piece, and what follows
+-- a token, its effect on the next piece, and the rest
 abbrev pub token_and_rest : Option Token → PieceBefore → List ℕ → Option Token × PieceBefore × List ℕ
 token_and_rest t before rest = (t, before, rest)
 
@@ -201,7 +201,7 @@ shown_piece bang p = option_map (λ x. token_and_rest (token_of bang x.found) x.
 abbrev pub meaning : FormAndRest → Option (Option Token × PieceBefore × List ℕ)
 meaning z = option_map (λ x. token_and_rest (token_meant x.0) (after x.0) x.1) z
 
--- the text of a chord or a grace has at most so many bytes
+-- the text of a chord or a grace group has at most the given number of bytes
 abbrev pub found_within : BorrowedToken → ℕ → Type 0
 found_within (BorrowedToken.Chord inside len) most = length inside.now ≤ most
 found_within (BorrowedToken.Grace slash inside) most = length inside.now ≤ most

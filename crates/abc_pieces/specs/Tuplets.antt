@@ -1,4 +1,4 @@
--- A tuplet: its p, and q and r behind colons, each of which may be left empty.
+-- A tuplet: its p, then q and r after colons, each of which may be left empty.
 use Prim.Native.Char.{code}
 use Rattle.std.specs.Prelude.{◌≡◌, ◌-◌, ℕ, List, [], ◌∷◌, ◌++◌, Bool, true, if◌then◌else◌, Option, Some, None, codes}
 use Rattle.std.specs.Str.Parse.{digits_value}
@@ -13,7 +13,7 @@ pub data TupletForm : Type 0 where
 abbrev pub is_tuplet_digit : ℕ → Bool
 is_tuplet_digit byte = is_within (codes "29") byte
 
--- what stands behind the parenthesis, and what follows
+-- what follows the parenthesis, and the rest
 abbrev pub tuplet_then : TupletForm → List ℕ → List ℕ
 tuplet_then (bare p) rest = p ∷ rest
 tuplet_then (with_q p q) rest = p ∷ code ":" ∷ (q ++ rest)
@@ -44,7 +44,7 @@ r_of (bare p) = 0
 r_of (with_q p q) = 0
 r_of (with_r p q r) = value_or_zero r
 
--- ---- reading, between these and the code
+-- ---- reading: a link between these and the code
 abbrev pub behind_q : ℕ → List ℕ × List ℕ → TupletForm × List ℕ
 behind_q p q =
     let colon = skip (code ":") q.1 in

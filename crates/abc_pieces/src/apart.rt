@@ -4,7 +4,7 @@ use mus_units::Memory;
 use std::alloc::Global;
 use std::marker::Model;
 
-/// A value that stands apart, so that what holds it is small. Contracts see the value.
+/// A value on the heap, so that what contains it is small. Contracts see the value.
 #[derive(Drop)]
 pub struct Boxed<T> {
     value: Box<T>,
@@ -19,7 +19,7 @@ impl<T> Model for Boxed<T> {
 }
 
 impl<T> Boxed<T> {
-    /// A value, apart.
+    /// Puts a value on the heap.
     pub fn new(alloc: Global, value: T) -> Result<Boxed<T>, Memory>
     where
         T: Drop,
@@ -30,14 +30,14 @@ impl<T> Boxed<T> {
         })
     }
 
-    /// The value.
+    /// Returns a reference to the value.
     pub fn get(&self) -> &T
         ensures { result.now ≡ self.now }
     {
         &self.value
     }
 
-    /// The value, which stands apart no more.
+    /// Takes the value off the heap.
     pub fn into_inner(self) -> T
     where
         T: Drop,

@@ -4,7 +4,7 @@ ghost use Rattle.abc_pieces.specs.Bars.{signs, bar_meant, form_at, bar_read};
 use abc_notes::bytes::{run_off, skip};
 use mus_units::Bar;
 
-/// The bar at the front, as long as it can be, and what follows it.
+/// Returns the bar at the start, as long as it can be, and the rest after it.
 #[tactic(auto, unfolding(crate::specs::Bars::form_at))]
 pub fn read_bar(bytes: &[u8]) -> Option<(Bar, &[u8])>
     ensures { option_map (λ x. bar_read x.0 x.1.now) result

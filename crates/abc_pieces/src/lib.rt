@@ -1,5 +1,5 @@
-//! The pieces of a music line: what each kind spells and says, and reading the
-//! longest one at the front of a line.
+//! The pieces of a music line: the bytes and the token of each kind, and a reader of the longest piece at the start
+//! of a line.
 #![tactic(auto)]
 
 pub mod apart;

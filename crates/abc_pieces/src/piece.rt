@@ -20,7 +20,7 @@ use abc_notes::length::{count_of, length_from, number_at};
 use abc_notes::note::note_at;
 use mus_units::bytes::{is_digit, is_letter};
 
-/// What stands at the front, what it tells of the next piece, and what follows.
+/// The first piece, its effect on the next piece, and the rest.
 #[derive(Clone, Copy)]
 pub struct LinePiece<'a> {
     pub found: BorrowedToken<'a>,
@@ -28,8 +28,8 @@ pub struct LinePiece<'a> {
     pub rest: &'a [u8],
 }
 
-/// The piece at the front, as long as it can be, behind a piece that tells
-/// `before`. `bang` says that `!` is a line break.
+/// Returns the piece at the start, as long as it can be, after a piece with the effect `before`. If `bang` is set,
+/// `!` is a line break.
 #[tactic(auto, unfolding(crate::specs::Reading::piece_at))]
 pub fn piece_at(bang: bool, before: PieceBefore, bytes: &[u8]) -> Option<LinePiece<'_>>
     requires { length bytes.now ≤ 2 ^ 30 }
@@ -255,7 +255,7 @@ fn bar_piece(bytes: &[u8]) -> Option<LinePiece<'_>>
     })
 }
 
-/// A piece that begins with a dot; `rest` stands behind the dot.
+/// Reads a piece that begins with a dot; `rest` follows the dot.
 #[tactic(auto, unfolding(crate::specs::Reading::dot_read))]
 #[inline(never)]
 fn dot<'a>(bytes: &'a [u8], rest: &'a [u8]) -> Option<LinePiece<'a>>
@@ -282,7 +282,7 @@ fn dot_or_bar<'a>(bytes: &'a [u8], rest: &'a [u8]) -> LinePiece<'a>
     }
 }
 
-/// A piece that begins with a bracket; `rest` stands behind the bracket.
+/// Reads a piece that begins with a bracket; `rest` follows the bracket.
 #[inline(never)]
 fn bracket<'a>(bang: bool, bytes: &'a [u8], rest: &'a [u8]) -> Option<LinePiece<'a>>
     requires cut { bytes.now ≡ code "[" ∷ rest.now }
@@ -298,7 +298,7 @@ fn bracket<'a>(bang: bool, bytes: &'a [u8], rest: &'a [u8]) -> Option<LinePiece<
     }
 }
 
-/// What stands behind an opening bracket.
+/// Returns what follows an opening bracket, by its first bytes.
 pub fn opening(bytes: &[u8]) -> BracketOpening
     ensures { result ≡ opening bytes.now }
 {
@@ -359,7 +359,7 @@ fn grace(bang: bool, bytes: &[u8]) -> Option<LinePiece<'_>>
     ))
 }
 
-/// A piece that begins with a parenthesis.
+/// Reads a piece that begins with a parenthesis.
 #[tactic(auto, unfolding(crate::specs::Reading::tuplet_read))]
 #[inline(always)]
 fn paren(bytes: &[u8]) -> LinePiece<'_>
@@ -456,7 +456,7 @@ fn text_len(bytes: &[u8]) -> usize
     bytes.iter().take_while(|b| **b != b'"').count()
 }
 
-/// An inline field, which the bytes begin.
+/// Reads the inline field with which the bytes begin.
 #[tactic(auto, unfolding(crate::specs::Reading::inline_read))]
 fn inline(bytes: &[u8]) -> Option<LinePiece<'_>>
     ensures read { (bang : Bool) → shown_piece bang result ≡ meaning (inline_read bytes.now) }
@@ -475,7 +475,7 @@ fn inline(bytes: &[u8]) -> Option<LinePiece<'_>>
     ))
 }
 
-/// A piece that begins with an exclamation mark.
+/// Reads a piece that begins with an exclamation mark.
 #[tactic(auto, unfolding(crate::specs::Reading::bang_read))]
 fn bang_piece(bang: bool, bytes: &[u8]) -> LinePiece<'_>
     ensures read { shown_piece bang (Some result) ≡ meaning (bang_read bang bytes.now) }
@@ -490,7 +490,7 @@ fn bang_piece(bang: bool, bytes: &[u8]) -> LinePiece<'_>
     }
 }
 
-/// A piece that begins with a plus sign.
+/// Reads a piece that begins with a plus sign.
 #[tactic(auto, unfolding(crate::specs::Reading::plus_read, abc_notes::specs::Runs::span_all))]
 #[inline(never)]
 fn plus(bytes: &[u8]) -> LinePiece<'_>

@@ -2,8 +2,7 @@ use crate::apart::Boxed;
 use abc_notes::{GraceChord, Len};
 use mus_units::{Bar, Deco, Head, Row, Text};
 
-/// A chord as written: its heads with their lengths, the decorations within it,
-/// and the length behind its bracket.
+/// A chord as written: its heads with their lengths, the decorations inside it, and the length after its bracket.
 #[derive(Drop)]
 pub struct WrittenChord {
     pub heads: Row<(Head, Len)>,
@@ -11,9 +10,8 @@ pub struct WrittenChord {
     pub len: Len,
 }
 
-/// What a piece of a music line says. `Cut` is `$`, or `!` where that is a line
-/// break; `Says` is the text between quotes; `Inline` has the letters K, L, M and
-/// V alone. In a `Tuplet` an absent q or r is 0.
+/// The token that a piece of a music line spells. `Cut` is `$`, or `!` where that is a line break. `Says` is the text
+/// between quotes. `Inline` has only the letters K, L, M and V. In a `Tuplet` a missing q or r is 0.
 #[derive(Drop)]
 pub enum Token {
     Note { head: Head, len: Len },
@@ -35,8 +33,8 @@ pub enum Token {
     Space,
 }
 
-/// What the piece before tells of the next: `Lengthy` has a length, `Paren` is a
-/// slur's beginning or a tuplet, which digits may not follow.
+/// The effect of a piece on the next one: `Lengthy` has a length; `Paren` is a slur's beginning or a tuplet, which
+/// digits may not follow.
 #[derive(Clone, Copy, PartialEq, Eq)]
 pub enum PieceBefore {
     Bar,
@@ -46,8 +44,7 @@ pub enum PieceBefore {
     Other,
 }
 
-/// A token that isn't copied from its line. The text of a chord or a grace is
-/// what stands between its brackets.
+/// A token that isn't copied from its line. The text of a chord or a grace group is what is between its brackets.
 #[derive(Clone, Copy)]
 pub enum BorrowedToken<'a> {
     Note { head: Head, len: Len },
@@ -71,7 +68,7 @@ pub enum BorrowedToken<'a> {
     Passed,
 }
 
-/// What a piece may be, by its first byte.
+/// The possible kinds of a piece, by its first byte.
 #[derive(Clone, Copy, PartialEq, Eq)]
 pub enum PieceClass {
     Note,
@@ -97,7 +94,7 @@ pub enum PieceClass {
     Nothing,
 }
 
-/// What stands behind an opening bracket.
+/// What follows an opening bracket.
 #[derive(Clone, Copy, PartialEq, Eq)]
 pub enum BracketOpening {
     Bar,

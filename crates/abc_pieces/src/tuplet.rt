@@ -7,7 +7,7 @@ ghost use Rattle.abc_pieces.specs.Tuplets.{value_or_zero, tuplet_shown};
 use abc_notes::bytes::skip;
 use abc_notes::length::number_at;
 
-/// The numbers of a tuplet, 0 where one is absent, and what follows it.
+/// The numbers of a tuplet, 0 for each missing one, and the rest after it.
 #[derive(Clone, Copy)]
 pub struct Tuplet<'a> {
     pub p: u8,
@@ -16,7 +16,7 @@ pub struct Tuplet<'a> {
     pub rest: &'a [u8],
 }
 
-/// The tuplet behind a parenthesis.
+/// Reads the tuplet after a parenthesis.
 #[tactic(auto, unfolding(crate::specs::Tuplets::tuplet_at))]
 #[inline(never)]
 pub(crate) fn tuplet_at(bytes: &[u8]) -> Option<Tuplet<'_>>
@@ -82,7 +82,7 @@ fn is_tuplet_digit(byte: u8) -> bool
     matches!(byte, b'2'..=b'9')
 }
 
-/// The value of up to two digits, 0 of none.
+/// Returns the value of up to two digits; 0 if there are none.
 fn small_value(digits: &[u8]) -> u8
     requires few { length digits.now ≤ 2 }
     requires digits { list_all is_digit digits.now ≡ true }

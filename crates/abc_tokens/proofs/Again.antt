@@ -43,7 +43,7 @@ use Rattle.abc_tokens.proofs.Names.{GoodDeco, letter_good, name_good}
 use Rattle.abc_tokens.specs.Plain.{all_then, len_then, number_or_empty, deco_name, token_then, next_then, plain_text}
 use Rattle.abc_tokens.specs.Again.{ReadsAs, IsReadable}
 
--- a piece that is the plain spelling of the token, and is read as itself
+-- a piece that is the plain spelling of the token and is read as itself
 pub record IsPlain (t : Token) : Type 0 where
   pub form : Form
   pub means : token_meant form ≡ Some t
@@ -202,7 +202,7 @@ inline_plain letter text good =
     })
     (λ dropped. tt)
 
--- what any piece says has a plain spelling
+-- whatever a piece spells has a plain spelling
 plain_of : (bang : Bool) (f : Form) → IsGoodForm bang f → IfSome (token_meant f) IsPlain
 unfolding piece_at class_of
 plain_of bang (note_form f) good = note_plain f good
@@ -318,7 +318,7 @@ text_found n [] good = record { placed = []; tokens = ends PieceBefore.Other; sa
 text_found n (t ∷ ts) good =
     one n t (all_then next_then ts []) ts good.0 (next_stops ts) (next_found n (after good.0.form) ts good.1)
 
--- what is spelled is read again
+-- a spelled text is read as its tokens again
 pub reads_again : (ts : List Token) → IsReadable ts → ReadsAs false (plain_text ts) ts
 reads_again ts h =
     let f = text_found (length (plain_text ts)) ts (readable_plain ts h) in

@@ -12,7 +12,7 @@ plain_bar b =
     else signs b.dotted (if b.end then 1 else 0) b.initial (if b.double then 2 else 1) b.last
     (if b.start then 1 else 0))
 
--- a bar by its features as the bytes show them
+-- a bar by its features, as the bytes show them
 abbrev flags : Bool → Bool → Bool → Bool → Bool → Bool → Bar
 flags d e o w c s =
     let alone = not d && not e && o && not w && c && not s in

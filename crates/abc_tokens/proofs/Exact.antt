@@ -1,4 +1,4 @@
--- Where a backquote or nothing follows, a piece in its plain spelling is read as itself.
+-- If a backquote or nothing follows, a piece in its plain spelling is read as itself.
 use Rattle.std.proofs.Common.{◌≡◌, ℕ, zero, suc, ◌≤◌, Bool, true, false, eqb, List, [], ◌∷◌, ◌++◌, length, Option, Some}
 use Rattle.std.proofs.Common.{None, refl, sym, ap, ◌∙◌, arith, inl, inr, not, option_map, append-nil}
 use Rattle.std.proofs.lemmas.Bool.{and_parts, ne_eqb, both_ways, not-true}

@@ -279,7 +279,7 @@ heads_whole : (hs : List (Head × Len)) → has_lone (head_parts hs) ≡ false
 heads_whole [] = refl
 heads_whole (h ∷ hs) = tied_whole h.0.tied (head_parts hs) (heads_whole hs)
 
--- no exclamation mark is passed over
+-- no exclamation mark is skipped
 pub chord_whole : (hs : List (Head × Len)) (ds : List Deco) → has_lone (deco_parts ds (head_parts hs)) ≡ false
 chord_whole hs [] = heads_whole hs
 chord_whole hs (d ∷ ds) = chord_whole hs ds
@@ -293,7 +293,7 @@ chord_good (h ∷ hs) ds len some heads decos good = record {
   length = good.good;
 }
 
--- what stands behind the bracket is no bar, no ending and no inline field
+-- what follows the bracket is no bar, no ending and no inline field
 abbrev is_colon : ℕ → Bool
 is_colon b = eqb b 58
 
@@ -339,7 +339,7 @@ pub chord_opens : (hs : List (Head × Len)) (ds : List Deco) (len : Len)
 chord_opens hs ds len some good =
     ap opening (chord_spell hs ds (93 ∷ len_then len [])) ∙ opens_chord hs ds (93 ∷ len_then len []) some good
 
--- ---- what any chord says can be written
+-- ---- any chord that is read can be written
 heads_add : (bang : Bool) (f : Inner) (more : List Inner)
     → IsInner bang f → GoodHeads (heads_of (map sense more)) → GoodHeads (heads_of (map sense (f ∷ more)))
 heads_add bang (note_inside f) more good h = (len_again f.length good.length, h)
@@ -498,7 +498,7 @@ part_exact (h ∷ g ∷ hs) x some stops =
     chorded_exact (of_parts (note_parts (h ∷ g ∷ hs)) (whole [])) x (notes_chord h (g ∷ hs)) (notes_whole (h ∷ g ∷ hs))
     stops
 
--- a byte that begins a part of a grace group goes on nothing, and is no slash
+-- a byte that begins a part of a grace group continues nothing, and is no slash
 begins_part : (p : ℕ → Bool) (hs : List Head) (x : List ℕ)
     → 1 ≤ length hs → p 91 ≡ false → ((s : List ℕ) → (b : First s) → p b.byte ≡ false)
     → begins p (grace_part_then (plain_part hs) x) ≡ false
@@ -539,7 +539,7 @@ grace_good slash body good = record {
   slash_is_read = λ e. body_begins is_slash_byte body good refl (λ s b. b.slash);
 }
 
--- ---- what any grace group says can be written
+-- ---- any grace group that is read can be written
 heads_untied : (parts : List Inner) → Untied (heads_in (map sense parts))
 heads_untied [] = tt
 heads_untied (note_inside f ∷ more) = (refl, heads_untied more)

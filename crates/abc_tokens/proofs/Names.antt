@@ -1,4 +1,4 @@
--- The plain name of a decoration is read as it.
+-- The plain name of a decoration is read as that decoration.
 use Rattle.std.proofs.Common.{◌≡◌, ℕ, cond, eqb, List, [], ◌∷◌, refl, sym, ap, ◌∙◌, subst, arith, inl, inr, ◌⊎◌, codes}
 use Rattle.std.proofs.lemmas.Bool.{cond_both}
 use Rattle.mus_units.specs.declared.note.Deco.{Deco}
@@ -9,7 +9,7 @@ use Rattle.abc_notes.specs.Decorations.{is_dynamic, is_finger}
 use Rattle.abc_notes.specs.Items.{IsName}
 use Rattle.abc_tokens.specs.Plain.{deco_name}
 
--- the name means the decoration, and may stand between exclamation marks
+-- the name means the decoration, and may be put between exclamation marks
 pub record GoodDeco (d : Deco) : Type 0 where
   pub means : deco_of_name (deco_name d) ≡ d
   pub name : IsName (deco_name d)
@@ -53,7 +53,7 @@ letter_listed b =
 pub letter_good : (b : ℕ) → GoodDeco (deco_of_letter b)
 letter_good b = listed_good (deco_of_letter b) (letter_listed b)
 
--- a name means a listed decoration, or one that keeps the name
+-- a name means a listed decoration, or a decoration that keeps the name
 abbrev Kept : List ℕ → Deco → Type 0
 Kept name d = IsListed d ⊎ (deco_name d ≡ name)
 

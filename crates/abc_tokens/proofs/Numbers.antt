@@ -49,7 +49,7 @@ not_zero_first : (ds : List ℕ) → begins (λ b. eqb b 48) ds ≡ false → 0 
 not_zero_first [] h some e = absurd (omega (arith, some))
 not_zero_first (d ∷ ds) h some e = absurd (both_ways (eqb d 48) h (eq-eqb d 48 e))
 
--- the digits of a number are those that are written for it
+-- the digits of a number are the ones written for it
 pub digits_again : (most : ℕ) (ds : List ℕ) → most ≤ 4 → AreNumberDigits most ds → decimal (digits_value 10 ds) ≡ ds
 digits_again most ds few h =
     let below : digits_value 10 ds < 10 ^ length ds = digits_value-lt 10 ds (model.to ds h.digits) in
@@ -57,7 +57,7 @@ digits_again most ds few h =
     decimal-digits_value model ds h.digits (omega (arith, h.some)) (not_zero_first ds h.no_zero (omega (arith, h.some)))
     (omega (arith, below, limit))
 
--- what is written for a number is a number, and means it
+-- the bytes written for a number are a number, and mean it
 pub record Again (most n : ℕ) : Type 0 where
   pub good : AreNumberDigits most (decimal n)
   pub means : digits_value 10 (decimal n) ≡ n

@@ -1,4 +1,4 @@
--- Writing a list one by one.
+-- Writing a list element by element.
 use Rattle.std.proofs.Common.{◌≡◌, ℕ, zero, suc, List, ◌∷◌, ◌++◌, refl, ap, ◌∙◌, replicate, Result, Ok, Err, OnOk}
 use Rattle.std.proofs.Common.{append_assoc}
 use Rattle.{abc_notes.specs.Runs.{copies}, abc_tokens.specs.Plain.{PutsBytes}}

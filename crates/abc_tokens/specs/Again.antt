@@ -4,7 +4,7 @@ use Rattle.abc_pieces.specs.declared.token.Token.{Token}
 use Rattle.abc_music.specs.declared.token.Placed.{Placed}
 use Rattle.abc_music.specs.Tokens.{TokensOf}
 
--- whether an exclamation mark is a line break is what `bang` says
+-- `bang` says whether an exclamation mark is a line break
 pub record ReadsAs (bang : Bool) (text : List ℕ) (tokens : List Token) : Type 0 where
   pub placed : List Placed
   pub reads : TokensOf bang text placed

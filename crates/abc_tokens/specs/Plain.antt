@@ -1,7 +1,8 @@
--- The one plain spelling of each token: a length is its two numbers with a slash between, an octave is written by
--- commas or primes alone, a space is one space, a line break is a dollar sign, an ending is an opening bracket and its
--- text, a decoration is its first name between exclamation marks, a tuplet leaves a number that it lacks empty, and a
--- bar has as few colons and bar signs as its features allow. Each spelling is written in front of what follows it.
+-- The one plain spelling of each token. A length is its two numbers with a slash between. An octave is written with
+-- commas only or primes only. A space is one space, and a line break is a dollar sign. An ending is an opening
+-- bracket and its text. A decoration is its first name between exclamation marks. A tuplet leaves a missing number
+-- empty. A bar has as few colons and bar signs as its features allow. Each spelling is written before what follows
+-- it.
 use Prim.Native.Char.{code}
 use Rattle.std.specs.Prelude.{◌≡◌, ℕ, ℤ, pos, negsuc, ◌+◌, ◌-◌, List, [], ◌∷◌, ◌++◌, Bool, false, not, ◌==◌, ◌&&◌}
 use Rattle.std.specs.Prelude.{nat_le, if◌then◌else◌, replicate, codes}
@@ -25,7 +26,7 @@ all_then one_then (a ∷ more) x = one_then a (all_then one_then more x)
 abbrev pub len_then : Len → List ℕ → List ℕ
 len_then len x = decimal len.num ++ (code "/" ∷ (decimal len.den ++ x))
 
--- from octave 5 on a small letter and primes, else a capital and commas
+-- from octave 5 on a small letter and primes, otherwise a capital and commas
 abbrev pub is_small_letter : ℤ → Bool
 is_small_letter (pos n) = nat_le 5 n
 is_small_letter (negsuc n) = false
@@ -41,11 +42,11 @@ pitch_then head x =
 abbrev pub head_then : Head → List ℕ → List ℕ
 head_then head x = sign_then head.sign (pitch_then head x)
 
--- a head of a chord, with a hyphen where it is tied
+-- a head of a chord, with a hyphen if it is tied
 abbrev pub chord_head_then : Head × Len → List ℕ → List ℕ
 chord_head_then h x = head_then h.0 (len_then h.1 (maybe h.0.tied (code "-") x))
 
--- the first name of a decoration that has a glyph, and a text's own name
+-- the first name of a decoration that has a glyph; a text's own name
 abbrev pub deco_name : Deco → List ℕ
 deco_name Ks = codes "staccato"
 deco_name Kr = codes "roll"
@@ -66,7 +67,7 @@ deco_name (Quiet text) = text
 abbrev pub deco_then : Deco → List ℕ → List ℕ
 deco_then deco x = code "!" ∷ (deco_name deco ++ (code "!" ∷ x))
 
--- several heads of a grace group stand between brackets
+-- several heads of a grace group are put in brackets
 abbrev pub heads_then : List Head → List ℕ → List ℕ
 heads_then [] x = code "[" ∷ code "]" ∷ x
 heads_then (head ∷ []) x = head_then head x
@@ -75,7 +76,7 @@ heads_then (head ∷ second ∷ more) x = code "[" ∷ all_then head_then (head 
 abbrev pub grace_chord_then : GraceChord → List ℕ → List ℕ
 grace_chord_then chord x = heads_then chord.heads x
 
--- an absent number is left empty
+-- a missing number is left empty
 abbrev pub number_or_empty : ℕ → List ℕ
 number_or_empty n = if n == 0 then [] else decimal n
 
@@ -123,15 +124,15 @@ token_then (Token.Inline letter text) x = code "[" ∷ letter ∷ code ":" ∷ (
 token_then Token.Cut x = code "$" ∷ x
 token_then Token.Space x = code " " ∷ x
 
--- a backquote, and a token behind it
+-- a backquote and then a token
 abbrev pub next_then : Token → List ℕ → List ℕ
 next_then t x = code "`" ∷ token_then t x
 
--- the plain spelling of tokens: a backquote between two
+-- the plain spelling of tokens, with a backquote between two
 abbrev pub plain_text : List Token → List ℕ
 plain_text [] = []
 plain_text (t ∷ more) = token_then t (all_then next_then more [])
 
--- the bytes were put at the end, whatever follows
+-- the bytes were added at the end, whatever follows
 abbrev pub PutsBytes : List ℕ → List ℕ → (List ℕ → List ℕ) → Type 0
 PutsBytes old new put_then = (x : List ℕ) → new ++ x ≡ old ++ put_then x

@@ -3,14 +3,14 @@ ghost use Rattle.{abc_notes.specs.Runs.{maybe}, abc_tokens.specs.Plain.{PutsByte
 
 use mus_units::{Bar, Memory, Text};
 
-/// Adds the byte where the flag says so.
+/// Adds the byte if the flag is set.
 pub fn put_if(out: &mut Text, flag: bool, byte: u8) -> Result<(), Memory>
     ensures { OnOk result (PutsBytes out.old out.new (maybe flag byte)) }
 {
     if flag { out.push(byte) } else { Ok(()) }
 }
 
-/// Whether a bar has repeat dots on both sides, and no other feature.
+/// Returns whether a bar has repeat dots on both sides, and no other feature.
 fn is_colons(bar: Bar) -> bool
     ensures { result ≡ is_colons bar }
 {

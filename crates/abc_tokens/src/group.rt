@@ -9,7 +9,7 @@ use abc_music::{GraceChord, Len, WrittenChord};
 use eng_lines::put_number;
 use mus_units::{Deco, Head, Memory, Text};
 
-/// The first name of a decoration that has a glyph, or a text's own name.
+/// Returns the first name of a decoration that has a glyph, or a text's own name.
 fn deco_name(deco: &Deco) -> &[u8]
     ensures { result.now ≡ deco_name deco.now }
 {
@@ -104,7 +104,7 @@ fn put_colon(out: &mut Text, number: u8) -> Result<(), Memory>
     put_number_or_nothing(out, u64::from(number))
 }
 
-/// Adds a tuplet, with nothing for a later number that is 0.
+/// Adds a tuplet; a later number that is 0 adds nothing.
 pub fn put_tuplet(out: &mut Text, p: u8, q: u8, r: u8) -> Result<(), Memory>
     ensures { OnOk result (PutsBytes out.old out.new (token_then (Tuplet p q r))) }
 {
@@ -114,7 +114,7 @@ pub fn put_tuplet(out: &mut Text, p: u8, q: u8, r: u8) -> Result<(), Memory>
     put_colon(out, r)
 }
 
-/// Adds a chord: its decorations, its heads, and its length behind the bracket.
+/// Adds a chord: its decorations, its heads, and its length after the bracket.
 pub fn put_chord(out: &mut Text, chord: &WrittenChord) -> Result<(), Memory>
     ensures { OnOk result (PutsBytes out.old out.new (token_then (Chord chord.now))) }
 {

@@ -1,5 +1,5 @@
-//! Tokens of a music line: the reader of `abc_music`, given out, and their one plain spelling, with a backquote
-//! between two.
+//! Tokens of a music line: re-exports the reader of `abc_music`, and defines the one plain spelling of tokens, with a
+//! backquote between two.
 #![tactic(auto)]
 
 pub mod bar;

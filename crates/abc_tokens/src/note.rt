@@ -8,7 +8,7 @@ use abc_music::Len;
 use eng_lines::put_number;
 use mus_units::{Alter, Head, Letter, Memory, Text};
 
-/// Adds a number, and nothing where it is 0.
+/// Adds a number, or nothing if it is 0.
 pub fn put_number_or_nothing(out: &mut Text, number: u64) -> Result<(), Memory>
     ensures { OnOk result (out.new ≡ out.old ++ number_or_empty number) }
 {
@@ -27,7 +27,7 @@ pub fn put_len(out: &mut Text, len: Len) -> Result<(), Memory>
     put_number(out, u64::from(len.den))
 }
 
-/// Adds the byte so many times.
+/// Adds the given number of copies of the byte.
 pub fn put_copies(out: &mut Text, byte: u8, count: usize) -> Result<(), Memory>
     ensures { OnOk result (out.new ≡ out.old ++ replicate count byte) }
 {
@@ -50,7 +50,7 @@ fn put_sign(out: &mut Text, sign: Option<Alter>) -> Result<(), Memory>
     }
 }
 
-/// The byte of a letter, small or a capital.
+/// Returns the byte of a letter, small or capital.
 fn byte_of(small: bool, letter: Letter) -> u8
     ensures { result ≡ letter_byte small letter }
 {
@@ -85,7 +85,7 @@ fn put_pitch(out: &mut Text, head: Head) -> Result<(), Memory>
     }
 }
 
-/// Adds a head: its sign, its letter, and the marks of its octave.
+/// Adds a head: its accidental, its letter, and its octave marks.
 pub fn put_head(out: &mut Text, head: Head) -> Result<(), Memory>
     ensures { OnOk result (PutsBytes out.old out.new (head_then head)) }
 {
@@ -101,7 +101,7 @@ pub fn put_note(out: &mut Text, head: Head, len: Len) -> Result<(), Memory>
     put_len(out, len)
 }
 
-/// Adds a rest, seen or unseen.
+/// Adds a rest, visible or invisible.
 pub fn put_rest(out: &mut Text, seen: bool, len: Len) -> Result<(), Memory>
     ensures { OnOk result (PutsBytes out.old out.new (token_then (Rest seen len))) }
 {
@@ -109,7 +109,7 @@ pub fn put_rest(out: &mut Text, seen: bool, len: Len) -> Result<(), Memory>
     put_len(out, len)
 }
 
-/// Adds whole measures of rest, seen or unseen.
+/// Adds whole measures of rest, visible or invisible.
 pub fn put_measures(out: &mut Text, seen: bool, count: u16) -> Result<(), Memory>
     ensures { OnOk result (PutsBytes out.old out.new (token_then (Measures seen count))) }
 {

@@ -12,8 +12,8 @@ use abc_music::Token;
 use mus_units::{Memory, Text};
 use std::alloc::Global;
 
-/// The tokens in their plain spelling, a backquote between two. For tokens that some line reads as,
-/// reading that text where `!` is no line break gives them again.
+/// Returns the tokens in their plain spelling, with a backquote between two. If some line reads as these tokens,
+/// reading the returned text with `!` as no line break gives the tokens again.
 pub fn spell(alloc: Global, tokens: &[Token]) -> Result<Text, Memory>
     ensures text { IfOk result (λ text. text ≡ plain_text tokens.now) }
     ensures again { IsReadable tokens.now → IfOk result (λ text. ReadsAs false text tokens.now) }
