@@ -1,4 +1,4 @@
--- Reading a chord gives the longest, and where there is none its fault is found.
+-- Reading a chord gives the longest one; if there is none, its fault is found.
 use Rattle.std.proofs.Common.{◌≡◌, ℕ, ◌+◌, ◌-◌, ◌≤◌, ◌<◌, Bool, true, false, eqb, List, [], ◌∷◌, ◌++◌, length, take}
 use Rattle.std.proofs.Common.{Option, Some, None, refl, sym}
 use Rattle.std.proofs.Common.{ap, ◌∙◌, subst, arith, inl, inr, ◌⊎◌, add-one, ◌&&◌, ◌||◌, not, IfSome}
@@ -47,7 +47,7 @@ pub later_none : (a : Option (List ℕ)) → later_or a None ≡ a
 later_none None = refl
 later_none (Some a) = refl
 
--- an exclamation mark that is passed over
+-- an exclamation mark that is skipped
 abbrev pub is_lone : Inner → Bool
 is_lone lone_inside = true
 is_lone _ = false
@@ -62,7 +62,7 @@ chord-longer f x = omega (arith, length-append f.inside (93 ∷ length_then f.le
 inside_wide : (b : ℕ) → free b ≡ true → is_inside b ≡ true
 inside_wide b h = (and_parts _ _ h).0
 
--- a bracket behind another one stands behind the length there
+-- a bracket after another bracket comes after the length there
 behind_length : (l : LengthForm) (x inside front rest : List ℕ)
     → IsWrittenLength l → inside ++ (93 ∷ length_then l x) ≡ front ++ (93 ∷ rest)
     → length (93 ∷ rest) < length (93 ∷ length_then l x) → length rest < length x
@@ -78,7 +78,7 @@ module _ (bang : Bool) where
   abbrev reader : Reader Inner (StandsInside bang) (inner_at bang)
   reader = inner_reader bang
 
-  -- ---- a bracket that is found closes good parts with a head
+  -- ---- a found bracket closes good parts with a head
   pub record Closed (head : Bool) (text c : List ℕ) : Type 0 where
     pub front : List ℕ
     pub rest : List ℕ
@@ -95,7 +95,7 @@ module _ (bang : Bool) where
       let is = sym found.1 ∙ ap (λ x. x ∷ s) (eqb-true b 93 p.0) in
       record { front = []; rest = s; parts = []; is = is; cut = found.1; good = no_part; has = or-false head ∙ p.1 }
 
-  -- in a name, of which the exclamation mark is passed over
+  -- in a name whose exclamation mark is skipped
   abbrev pub good_before : Bool → List ℕ → Bool
   good_before head t = let w = walk (inner_at bang) t in is_done w && (head || has_inner_head w.0)
 
@@ -139,7 +139,7 @@ module _ (bang : Bool) where
         has = (and_parts (is_done w) (head || has_inner_head w.0) k.good).1;
       })
 
-  -- a part and what closes behind it
+  -- a part and what closes after it
   then-closes : (head : Bool) (text c : List ℕ) (z : Inner × List ℕ)
       → inner_at bang text ≡ Some z → Closed (head || has_length z.0) z.1 c
       → Closed head text c
@@ -194,8 +194,8 @@ module _ (bang : Bool) where
   bracket_within text c found =
       let k = bracket_at-closes text c found in omega (arith, ap length k.cut, length-append k.front c)
 
-  -- ---- the last bracket is at or behind each at which a chord ends,
-  -- and at it where no exclamation mark is passed over
+  -- ---- the last bracket is at or after each bracket at which a chord ends, and at it if no exclamation mark is
+  -- skipped
   record FoundLast (head : Bool) (text t : List ℕ) (lone : Bool) : Type 0 where
     closing : List ℕ
     is : last_at head text ≡ Some closing
@@ -355,7 +355,7 @@ module _ (bang : Bool) where
         )
       ]
 
-  -- where no exclamation mark is passed over, the chord itself is read
+  -- if no exclamation mark is skipped, the chord itself is read
   pub chord-reads : (f : ChordForm) (x : List ℕ) → IsChord bang f → has_lone f.parts ≡ false →
       chord_at bang (chord_then f x) ≡ Some (chord_with f (length_from (length_then f.length x)))
   chord-reads f x good whole =

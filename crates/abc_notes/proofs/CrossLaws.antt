@@ -1,4 +1,4 @@
--- The last brace within a chord at which a grace group may end stands behind one of the shorter chords that begin at
+-- The last brace within a chord at which a grace group may end comes after one of the shorter chords that begin at
 -- the same bracket.
 use Rattle.std.proofs.Common.{◌≡◌, ℕ, suc, ◌+◌, ◌-◌, ◌≤◌, Bool, true, false, eqb, List, [], ◌∷◌, ◌++◌, length, take}
 use Rattle.std.proofs.Common.{drop, Bor, Option, Some, None}
@@ -108,7 +108,7 @@ module _ (bang : Bool) where
       ∙ ap (option_map (λ (m : List ℕ). m ++ x)) (sym (in_name-reads bang head name [] good.0 good.1))
   part_own head part x good e = unnamed_own head (inner_then part x) (part, x) e refl
 
-  -- ---- the text before a bracket in a name holds no bracket behind the mark
+  -- ---- the text before a bracket in a name contains no bracket after the mark
   quiet_parts : (head : Bool) (u : List ℕ) (ps : List Inner)
       → InnerParts bang u ps → list_all is_name_byte u ≡ true → last_at bang head u ≡ None
   quiet_parts head _ _ no_part h = last_at-none bang head [] (at_nil (inner_reader bang))
@@ -284,7 +284,7 @@ module _ (bang : Bool) where
         ∙ add_nothing all
         ∙ ap (brace_in_chord bang) (ap (λ x. stage.front ++ x) (sym nothing) ∙ sym stage.cut)
 
-  -- ---- what is found stands within the chord
+  -- ---- what is found is within the chord
   pub chord-within : (w c : List ℕ) → brace_in_chord bang w ≡ Some c → length c ≤ length w
   unfolding brace_in_chord
   chord-within w c e = let k = brace_at-closes bang (91 ∷ w) c e in within_front k.front w c k.rest k.cut k.is
@@ -328,7 +328,7 @@ module _ (bang : Bool) where
     pub item-at : IsItemAt bang item text
     item-at = item_stands item f.part text behind f.encloses (stands_at (part_reader bang) text (f.part, behind) f.at)
 
-  -- ---- behind one chord, up to a closing byte
+  -- ---- after one chord, up to a closing byte
   pub brace_fits : (s : List ℕ) {rest brace : List ℕ} {len : Len}
       → length_read len rest ≡ length_read (len_of (length_from s).0) (length_from s).1
       → Some brace ≡ brace_at bang rest → length brace ≤ length s

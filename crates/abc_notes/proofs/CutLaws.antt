@@ -1,4 +1,4 @@
--- Parts at the front of a text that goes on, and of the text that is cut off there.
+-- Parts at the start of a text that goes on, and of the same text cut off.
 use Rattle.std.proofs.Common.{◌≡◌, ◌⊎◌, ℕ, zero, suc, ◌≤◌, ◌<◌, Bool, true, false, cond, eqb, List, [], ◌∷◌, ◌++◌}
 use Rattle.std.proofs.Common.{length, drop, Option, Some, None}
 use Rattle.std.proofs.Common.{refl, sym, ap, ◌∙◌, subst, arith, inl, inr, append_assoc, append-nil, ◌&&◌, not}
@@ -72,7 +72,7 @@ cut_at (a ∷ u) (b ∷ w) y x e h =
     let r = cut_at u w y x (rest_same e) h in
     record { between = r.between; behind = r.behind; front = ap (λ c. c ∷ u) (first_same e) ∙ ap (λ s. b ∷ s) r.front }
 
--- they are one cut, or some bytes stand between them
+-- they are one cut, or there are some bytes between them
 pub cut_cases : {P : Type 0} (u w y x : List ℕ) → u ++ y ≡ w ++ x → length y ≤ length x → (u ≡ w → x ≡ y → P) →
     ((b : ℕ) (m : List ℕ) → u ≡ w ++ (b ∷ m) → x ≡ b ∷ (m ++ y) → P) → P
 cut_cases {P} u w y x e h here apart = let c = cut_at u w y x e h in by_between c.between c.front c.behind
@@ -81,7 +81,7 @@ cut_cases {P} u w y x e h here apart = let c = cut_at u w y x e h in by_between 
     by_between [] front behind = here (front ∙ append-nil w) behind
     by_between (b ∷ m) front behind = apart b m front behind
 
--- ---- parts that may stand before any text
+-- ---- parts that may come before any text
 pub record Local (I : Type 0) (Stands : I → List ℕ → List ℕ → Type 0) (one : I → List ℕ → List ℕ) : Type 0 where
   pub spells : (f : I) (s x : List ℕ) → Stands f s x → s ≡ one f x
   pub moves : (f : I) (s x t y : List ℕ) → Stands f s x → t ≡ one f y → Stands f t y
@@ -102,12 +102,12 @@ module _
     pub behind : z.1 ≡ front ++ y
     pub at_cut : at u ≡ Some (z.0, front)
 
-  -- a part that stands at the front of a text stands there too where the text goes on
+  -- a part at the start of a text is also at the start if the text goes on
   pub moved : (part : I) (u v y : List ℕ) → Stands part u v → Stands part (u ++ y) (v ++ y)
   moved part u v y stands =
       k.moves part u v (u ++ y) (v ++ y) stands (ap (λ s. s ++ y) (k.spells part u v stands) ∙ k.appends part v y)
 
-  -- a part that ends before the cut is read there too
+  -- a part that ends before the cut is also read from the text cut off
   pub read_cut : (u y : List ℕ) (z : I × List ℕ) → at (u ++ y) ≡ Some z → length y ≤ length z.1 → AtCut u y z
   read_cut u y z e h =
       let stands = stands_at r (u ++ y) z e in
@@ -131,14 +131,14 @@ module _
       let a = read_cut u y z e (omega (arith, ap length behind, length-append front y)) in
       a.at_cut ∙ ap (λ (x : List ℕ). Some (z.0, x)) (append_cancel_right a.front front y (sym a.behind ∙ behind))
 
-  -- a part and what is cut behind it
+  -- a part and the text after it, which is cut off
   pub joined_cut : (text c front : List ℕ) (z : I × List ℕ) → at text ≡ Some z → z.1 ≡ front ++ c →
       (text ≡ one z.0 front ++ c) × (at (one z.0 front) ≡ Some (z.0, front))
   joined_cut text c front z e behind =
       let cut = k.spells z.0 text z.1 (stands_at r text z e) ∙ ap (one z.0) behind ∙ sym (k.appends z.0 front c) in
       (cut, read_upto (one z.0 front) c front z (ap at (sym cut) ∙ e) behind)
 
-  -- where a text goes on its part is read as before, or one that ends behind the cut
+  -- if a text goes on, its part is read as before, or one is read that ends after the cut
   pub read_on : (part : I) (u v y : List ℕ) → IsLongest I Stands u part v →
       (at (u ++ y) ≡ Some (part, v ++ y)) ⊎ ((z : I × List ℕ) × (at (u ++ y) ≡ Some z) × (length z.1 < length y))
   read_on part u v y l =
@@ -155,13 +155,13 @@ module _
         ]
       ]
 
-  -- the bytes of what is read off a text are the text
+  -- the parts read from a text, and the rest, spell the text
   pub walk_spells : (s : List ℕ) → spelled_then one (walk at s).0 (walk at s).1 ≡ s
   walk_spells = by_parts r (λ s. spelled_then one (walk at s).0 (walk at s).1 ≡ s)
       (λ s e. rw (walk-none r s e) refl)
       (λ s z e next. rw (walk-some r s z e) (ap (one z.0) next ∙ sym (k.spells z.0 s z.1 (stands_at r s z e))))
 
-  -- what is read off a text leads up to what is left
+  -- the parts read from a text lead up to what is left
   pub leads_of_walk : (s : List ℕ) → LeadsByParts I Stands s (walk at s).0 (walk at s).1
   leads_of_walk = by_parts r (λ s. LeadsByParts I Stands s (walk at s).0 (walk at s).1)
       (λ s e. rw (walk-none r s e) (leads_here s))
@@ -211,7 +211,7 @@ length_free (over c b) good =
 length_free (halved c k) good =
     all_join free c (copies k 47 []) (digits_free c (count-digits 4 c good.0)) (copies_free k)
 
--- no closing byte stands in such bytes
+-- such bytes contain no closing byte
 free_past : (close : ℕ) (s rest m t : List ℕ)
     → free close ≡ false → list_all free s ≡ true → s ++ rest ≡ m ++ (close ∷ t)
     → length rest < length (close ∷ t) → ⊥
@@ -261,13 +261,13 @@ unnamed : (s : List ℕ) → closed_name s [] ≡ None
 unnamed [] = refl
 unnamed (b ∷ s) = refl
 
--- where a name is not closed the exclamation mark is alone
+-- if a name is not closed, the exclamation mark is alone
 pub lone_at : (bang : Bool) (s : List ℕ)
     → bang ≡ false → list_all is_name_byte s ≡ true → inner_at bang (33 ∷ s) ≡ Some (lone_inside, s)
 unfolding name_at
 lone_at bang s off h = rw (bang_at bang s off, all_span is_name_byte s h, unnamed s) refl
 
--- ---- where a part goes past a closing byte it is a name, and but for it an exclamation mark is passed over
+-- ---- a part that goes past a closing byte is a name; without the name, an exclamation mark is skipped
 pub record Crosses (bang : Bool) (close : ℕ) (u t rest : List ℕ) : Type 0 where
   pub before : List ℕ
   pub after : List ℕ
@@ -298,7 +298,7 @@ named_crosses bang close name (b ∷ u) t rest other off good e short =
       tail = ap (λ x. close ∷ x) (sym (rest_same behind));
     })
 
--- the part ends behind the closing byte
+-- the part ends after the closing byte
 pub crossing : (bang : Bool) (close : ℕ) (f : Inner) (u t rest : List ℕ)
     → free close ≡ false → eqb close 33 ≡ false → IsInner bang f
     → u ++ (close ∷ t) ≡ inner_then f rest → length rest < length (close ∷ t) → Crosses bang close u t rest
@@ -312,7 +312,7 @@ crossing bang close f u t rest closes other good e short =
 abbrev pub two : List ℕ → List ℕ → List ℕ × List ℕ
 two a b = (a, b)
 
--- nothing is left where none was cut off
+-- nothing is left if nothing was cut off
 pub none_left : (p : ℕ → Bool) (s w r : List ℕ) → two w r ≡ span_all p s → length r ≡ 0 → list_all p s ≡ true
 none_left p s w [] cut none =
     let whole = rw (← cut, append-nil) at (span_all-takes p s) in rw whole (rw (← cut) at (span_all-pass p s))
@@ -330,7 +330,7 @@ pub cond_then : {A : Type 0} (b : Bool) (x : Option A) (y : A) → cond b x None
 cond_then true x y e = (refl, e)
 cond_then false x y e = absurd cc
 
--- the first closing byte in a name, where what stands before it passes: what stands from there on
+-- the text from the first closing byte in a name on, if what comes before that byte passes
 abbrev pub name_upto : ℕ → (List ℕ → Bool) → List ℕ → List ℕ × List ℕ → Option (List ℕ)
 name_upto close passes text named =
     let inside = span_all (λ b. not (eqb b close)) named.0 in

@@ -1,4 +1,4 @@
--- Reading a part of a grace group, and a group, gives the longest; where there is none its fault is found.
+-- Reading a part of a grace group, or a group, gives the longest one; if there is none, its fault is found.
 use Rattle.std.proofs.Common.{◌≡◌, ℕ, zero, suc, ◌+◌, ◌-◌, ◌≤◌, ◌<◌, Bool, true, false, eqb, List, [], ◌∷◌, ◌++◌}
 use Rattle.std.proofs.Common.{length, take, drop, Option, Some}
 use Rattle.std.proofs.Common.{None, refl, sym, ap, ◌∙◌, subst, arith, inl, inr, ◌⊎◌, append_assoc, append-nil, add-one}
@@ -70,7 +70,7 @@ part-longer (chorded f) x = omega (arith, chord-longer f x)
 pub grace-longer : (f : GraceForm) (x : List ℕ) → length x < length (grace_then f x)
 grace-longer f x = omega (arith, length-maybe f.slash 47 (f.inside ++ (125 ∷ x)), length-append f.inside (125 ∷ x))
 
--- parts and chords that pass over no exclamation mark
+-- parts and chords that skip no exclamation mark
 abbrev pub lone_part_is : GracePart → Bool
 lone_part_is (single f) = is_lone f
 lone_part_is (chorded f) = has_lone f.parts
@@ -146,7 +146,7 @@ module _ (bang : Bool) where
     appends = part_append;
   }
 
-  -- ---- what a call of the reader tells
+  -- ---- what the result of a reader's call states
   abbrev given : GracePart × List ℕ → List GraceChord × Bool × Option (List ℕ) × List ℕ
   given z = bodied (body_of_part z.0) (part_has_length z.0) (inside_of_part z.0) z.1
 
@@ -244,7 +244,7 @@ module _ (bang : Bool) where
     unfolding walk
     group-ends none = let empty = nil_from_length rest none in rw (sym stage.left, empty) refl
 
-  -- ---- a brace that is found closes good parts
+  -- ---- a found brace closes good parts
   pub record ClosedGroup (text c : List ℕ) : Type 0 where
     pub front : List ℕ
     pub rest : List ℕ
@@ -295,7 +295,7 @@ module _ (bang : Bool) where
         good = then_part u (single lone_inside) k.before _ longest (good_parts k.before k.good);
       }
 
-  -- ---- the last brace before which parts alone stand
+  -- ---- the last brace before which there are only parts
   closes_there : (text : List ℕ) (n : ℕ) → closes_at bang text n ≡ true → ClosedGroup text (drop n text)
   closes_there text n h =
       let p = and_parts _ _ h in let first = first_close 125 (drop n text) p.0 in
@@ -361,7 +361,7 @@ module _ (bang : Bool) where
       cut_cases k.front l.front c d (sym k.cut ∙ l.cut) (omega (arith, same)) (λ front behind. sym behind)
       (λ b m front behind. absurd (omega (arith, same, ap length behind, length-append m c)))
 
-  -- the last of the braces that stand more than `least` bytes from the end
+  -- the last of the braces that are more than `least` bytes from the end
   record GivesLast (text : List ℕ) (least : ℕ) (r : Option (List ℕ)) : Type 0 where
     closes : (c : List ℕ) → r ≡ Some c → ClosedGroup text c
     reaches : (d : List ℕ) → ClosedGroup text d → least < length d → AtLast d r
@@ -385,7 +385,7 @@ module _ (bang : Bool) where
   unfolding grace_part_at inner_at item_class
   at_brace t = refl
 
-  -- where no part stands a brace in front alone closes
+  -- where there is no part, only a brace at the start closes
   nothing_before : (u d text : List ℕ) (ps : List GracePart)
       → GraceParts bang u ps → text ≡ u ++ d → grace_part_at bang text ≡ None → text ≡ d
   nothing_before _ d text _ no_part cut none = cut
@@ -402,7 +402,7 @@ module _ (bang : Bool) where
     reaches = λ d k some. (d, ap brace_here (front_none text d none k ∙ k.is) ∙ ap Some (sym k.is), omega arith);
   })
 
-  -- the parts before a brace begin with the part that stands there, where that ends before the brace
+  -- the parts before a brace begin with the first part of the text, if that part ends before the brace
   abbrev FirstPart : List ℕ → Type 0
   FirstPart u =
       (z : GracePart × List ℕ) × (more : List GracePart) × (grace_part_at bang u ≡ Some z) × GraceParts bang z.1 more
@@ -508,7 +508,7 @@ module _ (bang : Bool) where
   abbrev tail_of : ChordForm → List ℕ → List ℕ
   tail_of f rest = 93 ∷ length_then f.length rest
 
-  -- a brace that stands behind the bracket in front, and not behind the chord, stands between its brackets
+  -- a brace that is after the leading bracket, but not after the chord, is between the chord's brackets
   brace_inside : (f : ChordForm) (rest d : List ℕ)
       → IsChord bang f → ClosedGroup (91 ∷ chord_then f rest) d → length rest < length d
       → length (tail_of f rest) ≤ length d
@@ -605,7 +605,7 @@ module _ (bang : Bool) where
       later_or (brace_at bang (length_from c).1) (option_map (λ (x : List ℕ). x ++ t) (brace_at bang (91 ∷ inside))))
       tail
 
-  -- where no exclamation mark is passed over, neither in the group nor in its chords, the line is read as the inside is
+  -- if no exclamation mark is skipped, neither in the group nor in its chords, the line is read as the inside is
   abbrev with_length : ChordForm → LengthForm → ChordForm
   with_length f l = record { inside = f.inside; parts = f.parts; length = l }
 
@@ -658,7 +658,7 @@ module _ (bang : Bool) where
   abbrev pub TakesGrace : List ℕ → Option (GraceForm × List ℕ) → Type 0
   TakesGrace s r = IfSome r (λ z. IsGrace bang z.0 × (s ≡ grace_then z.0 z.1))
 
-  -- behind a slash that was not there no slash stands
+  -- if no slash is read, none comes next
   no_slash : (s : List ℕ) → (skip 47 s).0 ≡ false → begins is_slash_byte (skip 47 s).1 ≡ false
   no_slash s =
       skip_cases 47 s (λ p. p.0 ≡ false → begins is_slash_byte p.1 ≡ false) (λ t e is. absurd cc) (λ none is. none)
@@ -732,7 +732,7 @@ module _ (bang : Bool) where
         | inl shorter ↦ longer_grace f x o.0 good o.1 shorter
       ]
 
-  -- where no exclamation mark is passed over, the group itself is read
+  -- if no exclamation mark is skipped, the group itself is read
   pub grace-reads : (f : GraceForm) (x : List ℕ)
       → IsGrace bang f → has_lone_part f.parts ≡ false → grace_at bang (grace_then f x) ≡ Some (f, x)
   grace-reads f x good whole =

@@ -1,4 +1,4 @@
--- The inside of a chord as loops read it.
+-- The inside of a chord as the loops read it.
 use Rattle.std.proofs.Common.{◌≡◌, ℕ, zero, suc, ◌+◌, ◌≤◌, ◌<◌, Bool, true, false, List, [], ◌∷◌, ◌++◌, length, Option}
 use Rattle.std.proofs.Common.{Some, None, refl, sym, ap}
 use Rattle.std.proofs.Common.{◌∙◌, arith, append_assoc, append-nil, ◌||◌, option_map, MatchBool, length-append}
@@ -57,7 +57,7 @@ inner-longer _ x = omega arith
 abbrev pub inner_pair : Inner → List ℕ → Inner × List ℕ
 inner_pair f x = (f, x)
 
--- a head that a tie may still reach is tied where one does
+-- a head that a tie may still reach is tied if one does
 heads-behind : (head : Head) (len : Len) (t : Bool) (more : List Sense) →
     heads_after (Some (tied_if t head, len)) more ≡ (tied_if (t || is_tied more) head, len) ∷ heads_of more
 heads-behind head len true [] = refl
@@ -106,7 +106,7 @@ module _ (bang : Bool) where
     longer = λ f s x stands. rw stands.cut (inner-longer f x);
   }
 
-  -- ---- what a call of the reader tells
+  -- ---- what the result of a reader's call states
   abbrev given : Inner × List ℕ → Sense × List ℕ
   given z = sensed (sense z.0) z.1
 
@@ -160,7 +160,7 @@ module _ (bang : Bool) where
           small = place_small note (length w) (length s) stage.within;
         })
 
-    -- ---- what is said inside
+    -- ---- the meaning of the inside
     pub senses-some : senses bang s ≡ item ∷ senses bang behind
     senses-some = rw (walk-some inner_reader s (f.part, behind) f.at, f.says) refl
 

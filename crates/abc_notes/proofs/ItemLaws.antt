@@ -1,4 +1,4 @@
--- Reading a part of a chord or a grace gives the longest.
+-- Reading a part of a chord or a grace group gives the longest one.
 use Rattle.std.proofs.Common.{◌≡◌, ℕ, ◌<◌, Bool, true, false, eqb, ltb, List, [], ◌∷◌, ◌++◌, length, Option, Some, None}
 use Rattle.std.proofs.Common.{refl, ap, ◌∙◌, arith, rules}
 use Rattle.std.proofs.Common.{inl, inr, ◌⊎◌, ◌||◌, not, IfSome, option_map, append-nil, length-append}
@@ -81,7 +81,7 @@ name_at-reads (b ∷ name) x good =
       append-nil name,
     ) refl
 
--- ---- what is read stands at the front
+-- ---- what is read is at the start
 abbrev pub TakesInner : Bool → List ℕ → ReadInner → Type 0
 TakesInner bang s r = IfSome r (λ z. StandsInside bang z.0 s z.1)
 
@@ -137,7 +137,7 @@ unfolding inner_at
 inner_at-takes bang [] = tt
 inner_at-takes bang (b ∷ s) = by-takes (item_class b) bang b s (fact b)
 
--- ---- what is read is as long as each part that stands there
+-- ---- what is read is at least as long as each part at the same place
 abbrev ReachesInner : List ℕ → Inner → ReadInner → Type 0
 ReachesInner x f r = (z : Inner × List ℕ) × (r ≡ Some z) × ((length z.1 < length x) ⊎ (z ≡ (f, x)))
 

@@ -1,4 +1,4 @@
--- Reading a length gives the longest.
+-- Reading a length gives the longest one.
 use Rattle.std.proofs.Common.{◌≡◌, ℕ, zero, suc, ◌+◌, ◌-◌, ◌≤◌, ◌<◌, Bool, true, false, eqb, List, [], ◌∷◌, ◌++◌}
 use Rattle.std.proofs.Common.{length, refl, sym, ap, subst, ◌∙◌}
 use Rattle.std.proofs.Common.{arith, inl, inr, ◌⊎◌, ◌||◌, append-nil}
@@ -26,7 +26,7 @@ good_from n (d ∷ ds) b s e pass few h =
 number-good : (n : ℕ) (s : List ℕ) → begins is_zero s ≡ false → IsCount n (span is_digit n s).0
 number-good n s h = good_from n _ _ s (span-takes is_digit n s) (span-pass is_digit n s) (span-length is_digit n s) h
 
--- a number at the front
+-- a number at the start
 by_zero : (n : ℕ) (s : List ℕ) (P : List ℕ × List ℕ → Type 0) → (begins is_zero s ≡ true → P ([], s)) →
     (begins is_zero s ≡ false → P (span is_digit n s)) → P (number_at n s)
 unfolding number_at
@@ -41,7 +41,7 @@ number-count n s = by_zero n s (λ z. IsCount n z.0) (λ e. tt) (λ e. number-go
 pub length-number : (n : ℕ) (s : List ℕ) → length (number_at n s).1 ≤ length s
 length-number n s = by_zero n s (λ z. length z.1 ≤ length s) (λ e. omega arith) (λ e. length-span is_digit n s)
 
--- a reading of x ended before it, where x begins so; or it is this one, and all of x is left
+-- a reading that leaves less than x, where x begins with such a byte; or that is this one and leaves all of x
 abbrev pub Stops : (ℕ → Bool) → List ℕ → {A : Type 0} → A → A × List ℕ → Type 0
 Stops more x {A} a z = ((length z.1 < length x) × (begins more x ≡ true)) ⊎ (◌≡◌ {A = A × List ℕ} z (a, x))
 
@@ -73,7 +73,7 @@ pub count-reads : (n : ℕ) (c x : List ℕ) → IsCount n c → Stops is_digit 
 count-reads n [] x good = number-less n x
 count-reads n (d ∷ ds) x good = number-reads n (d ∷ ds) x good
 
--- before a byte that is no digit the number is read as it stands
+-- before a byte that is no digit the number is read as written
 pub count-stops : (n : ℕ) (c : List ℕ) (k : ℕ) (x : List ℕ)
     → is_digit k ≡ false → IsCount n c → number_at n (c ++ (k ∷ x)) ≡ (c, k ∷ x)
 count-stops n c k x other good =
@@ -102,7 +102,7 @@ length-copies : (k : ℕ) → length (copies k 47 []) ≡ k
 length-copies zero = refl
 length-copies (suc k) = ap suc (length-copies k)
 
--- what stands at the front, put together from its parts
+-- the start of the text, assembled from its parts
 below-takes : (count sl after be last : List ℕ)
     → IsCount 4 count → list_all is_slash sl ≡ true → length sl ≤ 6 → after ≡ be ++ last → IsCount 4 be
     → let z = below_at count (sl, after) (be, last) in
@@ -126,7 +126,7 @@ length_at-takes s =
 
 -- ---- the longest
 
--- what goes on a length
+-- the bytes that continue a length
 abbrev pub goes_on : ℕ → Bool
 goes_on b = is_digit b || is_slash b
 
@@ -143,7 +143,7 @@ length-below count (c ∷ [], rest) ([], last) h = omega arith
 length-below count (c ∷ [], rest) (d ∷ ds, last) h = h
 length-below count (c ∷ d ∷ sl, rest) be h = omega arith
 
--- behind the count
+-- after the count
 from_count : List ℕ → List ℕ → LengthForm × List ℕ
 from_count count s = let sl = span is_slash 6 s in below_at count sl (number_at 4 sl.1)
 
@@ -218,7 +218,7 @@ halved-reaches count k x some few =
       | inr same ↦ rw (same, append-nil) (last_slash count k x some)
     ])
 
--- the law: a length that is read is as long as each that stands there
+-- the law: a length that is read is at least as long as each length at the same place
 pub length_at-reaches : (f : LengthForm) (x : List ℕ)
     → IsWrittenLength f → Stops goes_on x f (length_from (length_then f x))
 length_at-reaches (whole count) x good = rw length_at-is (elim (count-reads 4 count x good) [

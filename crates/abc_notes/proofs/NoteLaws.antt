@@ -1,4 +1,4 @@
--- Reading a note gives the longest.
+-- Reading a note gives the longest one.
 use Rattle.std.proofs.Common.{◌≡◌, ℕ, zero, suc, ◌<◌, Bool, true, false, cond, eqb, List, [], ◌∷◌, ◌++◌, length, Option}
 use Rattle.std.proofs.Common.{Some, None, refl, ap, sym}
 use Rattle.std.proofs.Common.{◌∙◌, arith, inl, inr, ◌⊎◌, ◌||◌, IfSome, append-nil}
@@ -20,7 +20,7 @@ use Rattle.mus_units.specs.declared.pitch.Alter.TheVariants.{Flat2, Flat, Natura
 use Rattle.mus_units.specs.declared.pitch.Letter.{Letter}
 use Rattle.mus_units.specs.declared.pitch.Letter.TheVariants.{C, D, E, F, G, A, B}
 
--- ---- the sign
+-- ---- the accidental
 skipped : (b : ℕ) (s : List ℕ) → (skip b s).0 ≡ true → s ≡ b ∷ (skip b s).1
 skipped b s h = skip-takes b s ∙ rw h refl
 
@@ -37,7 +37,7 @@ sign_at-takes s =
     (λ t. skipped 95 s d))
     (λ d. cond_both (skip 61 s).0 _ _ P (skipped 61 s) (λ n. refl)))
 
--- a byte that is no sign
+-- a byte that is no accidental
 pub record NoSign (b : ℕ) : Type 0 where
   pub up : eqb b 94 ≡ false
   pub down : eqb b 95 ≡ false
@@ -119,11 +119,11 @@ pub note_at-takes : (s : List ℕ) → TakesNote s (note_at s)
 unfolding note_at
 note_at-takes s = behind-takes s (sign_at s).0 (sign_at s).1 (sign_at-takes s)
 
--- what goes on a note
+-- the bytes that continue a note
 abbrev pub note_goes_on : ℕ → Bool
 note_goes_on b = is_mark b || goes_on b
 
--- a reading ended before x, where x begins so; or it is this one
+-- a reading that leaves less than x, where x begins with such a byte; or that is this one and leaves x
 abbrev pub NoteStops : List ℕ → NoteForm → Option (NoteForm × List ℕ) → Type 0
 NoteStops x f read =
     (z : NoteForm × List ℕ)

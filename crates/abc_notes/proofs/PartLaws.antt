@@ -1,5 +1,5 @@
--- A reader that gives what stands at the front, and gives as much as any part that stands there,
--- reads the one list of longest parts.
+-- A reader that returns a part at the start of the text, at least as long as any part there, reads the one list of
+-- longest parts.
 use Rattle.std.proofs.Common.{◌≡◌, ℕ, zero, suc, ◌≤◌, ◌<◌, List, [], ◌∷◌, length, Option, Some, None, refl, sym, ap}
 use Rattle.std.proofs.Common.{◌∙◌, subst, arith, inl, inr, ◌⊎◌}
 use Rattle.std.proofs.{Common.{IfSome, option_map}, lemmas.{Option.same_Some, List.nil_from_length}}
@@ -100,7 +100,7 @@ module _ {I : Type 0} {Stands : I → List ℕ → List ℕ → Type 0} {at : Li
   pub left_some : (s : List ℕ) (z : I × List ℕ) → at s ≡ Some z → (walk at s).1 ≡ (walk at z.1).1
   left_some s z e = ap (λ (w : List I × List ℕ). w.1) (walk-some s z e)
 
-  -- what holds where no part stands, and in front of a part where it holds behind it, holds of each text
+  -- what holds where there is no part, and carries over from a rest to a part before it, holds of each text
   pub by_parts : (P : List ℕ → Type 0) → ((s : List ℕ) → at s ≡ None → P s) →
       ((s : List ℕ) (z : I × List ℕ) → at s ≡ Some z → P z.1 → P s) → (s : List ℕ) → P s
   by_parts P none some s = within (length s) s (omega arith)
@@ -114,7 +114,7 @@ module _ {I : Type 0} {Stands : I → List ℕ → List ℕ → Type 0} {at : Li
       within zero t h = read_on t (at t) refl (λ z lt. absurd (omega (arith, lt, h)))
       within (suc n) t h = read_on t (at t) refl (λ z lt. within n z.1 (omega (arith, lt, h)))
 
-  -- no part stands where reading the parts stops
+  -- there is no part where reading the parts stops
   pub stops_at : (s : List ℕ) → at (walk at s).1 ≡ None
   stops_at = by_parts (λ s. at (walk at s).1 ≡ None)
       (λ s e. ap (λ (w : List I × List ℕ). at w.1) (walk-none s e) ∙ e)

@@ -1,4 +1,4 @@
--- What is taken off the front of a list is what stands there.
+-- What is taken off the start of a list was there.
 use Rattle.std.proofs.Common.{◌≡◌, ℕ, zero, suc, ◌+◌, ◌≤◌, ◌<◌, Bool, true, false, eqb, List, [], ◌∷◌, length, drop}
 use Rattle.std.proofs.Common.{refl, ap, arith, zero-add, ◌∙◌}
 use Rattle.std.proofs.{Common.{inl, inr, ◌⊎◌, length-drop}, lemmas.Bool.{cond_both, eqb-true, eq-eqb}}
@@ -23,7 +23,7 @@ run_off-takes b (x ∷ s) =
     rw more (ap (λ z. z ∷ s) is ∙ ap (λ z. b ∷ z) (run_off-takes b s)))
     (λ e. refl)
 
--- either the byte stands in front or not
+-- either the byte comes first or not
 pub skip_cases : (b : ℕ) (s : List ℕ) (P : Bool × List ℕ → Type 0) → ((t : List ℕ) → s ≡ b ∷ t → P (true, t)) →
     (begins (λ x. eqb x b) s ≡ false → P (false, s)) → P (skip b s)
 unfolding skip
@@ -68,7 +68,7 @@ pub skip-yes : (b : ℕ) (s : List ℕ) → skip b (b ∷ s) ≡ (true, s)
 unfolding skip
 skip-yes b s = rw (same b) refl
 
--- what is taken off is shorter and began so, or all is left
+-- either the rest is shorter and the text began with such a byte, or all is left
 pub run_off-less : (b : ℕ) (s : List ℕ)
     → ((length (run_off b s).1 < length s) × (begins (λ x. eqb x b) s ≡ true)) ⊎ (run_off b s ≡ (0, s))
 unfolding run_off
@@ -88,7 +88,7 @@ skip-less b s =
     skip_cases b s (λ p. ((length p.1 < length s) × (begins (λ x. eqb x b) s ≡ true)) ⊎ (p ≡ (false, s)))
     (λ t e. inl (omega (arith, ap length e), rw e (same b))) (λ h. inr refl)
 
--- one test implies another at the front
+-- one test implies another for the first byte
 pub begins_wider : (p q : ℕ → Bool) (s : List ℕ)
     → ((b : ℕ) → p b ≡ true → q b ≡ true) → begins p s ≡ true → begins q s ≡ true
 begins_wider p q [] f h = absurd cc

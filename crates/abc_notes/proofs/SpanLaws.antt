@@ -1,4 +1,4 @@
--- What stands at the front and passes.
+-- The bytes at the start that pass a test.
 use Rattle.std.proofs.Common.{◌≡◌, ℕ, zero, suc, ◌+◌, ◌≤◌, ◌<◌, Bool, true, false, cond, List, [], ◌∷◌, ◌++◌, length}
 use Rattle.std.proofs.Common.{take, drop, refl, ap, zero-add}
 use Rattle.std.proofs.Common.{arith, inl, inr, ◌⊎◌, take_all, length-append}
@@ -25,7 +25,7 @@ unfolding span
 span-nil p zero = refl
 span-nil p (suc n) = refl
 
--- what holds where nothing more passes, and in front of what passes where it holds behind it, holds of each text
+-- what holds where no more bytes pass, and carries over from a rest to a passing byte before it, holds of each text
 span_by : (p : ℕ → Bool) (P : ℕ → List ℕ → List ℕ × List ℕ → Type 0)
     → ((n : ℕ) (s : List ℕ) → (length s ≤ n → begins p s ≡ false) → P n s ([], s))
     → ((n x : ℕ) (s : List ℕ)
@@ -56,7 +56,7 @@ span-stops p =
     span_by p (λ n s z. begins p s ≡ false → z ≡ ([], s)) (λ n s h none. refl)
     (λ n x s e next none. absurd (both_ways (p x) none e))
 
--- what is taken off is shorter and began so, or all is left
+-- either the rest is shorter and the text began with a passing byte, or all is left
 pub span-less : (p : ℕ → Bool) (n : ℕ) (s : List ℕ)
     → ((length (span p n s).1 < length s) × (begins p s ≡ true)) ⊎ (span p n s ≡ ([], s))
 span-less p =

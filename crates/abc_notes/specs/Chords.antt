@@ -1,5 +1,5 @@
--- A chord: what stands between its brackets, which is read part by part, and the length behind
--- them. A name within may hold a closing bracket; a chord is as long as it can be.
+-- A chord: what is between its brackets, which is read part by part, and the length after them. A name inside may
+-- contain a closing bracket; a chord is as long as it can be.
 use Prim.Native.Char.{code}
 use Rattle.std.specs.Prelude.{◌≡◌, ◌≤◌, ◌-◌, ℕ, suc, List, [], ◌∷◌, ◌++◌, length, take, drop, map, Bool, true, false}
 use Rattle.std.specs.Prelude.{not, ◌==◌, ◌||◌, ◌&&◌, if◌then◌else◌, Option, Some, None}
@@ -31,7 +31,7 @@ abbrev pub has_inner_head : List Inner → Bool
 has_inner_head [] = false
 has_inner_head (part ∷ more) = has_length part || has_inner_head more
 
--- what stands behind the opening bracket, and what follows the chord
+-- what follows the opening bracket, and the rest after the chord
 abbrev pub chord_then : ChordForm → List ℕ → List ℕ
 chord_then f rest = f.inside ++ (code "]" ∷ length_then f.length rest)
 
@@ -40,7 +40,7 @@ pub record IsChord (bang : Bool) (f : ChordForm) : Type 0 where
   pub head : has_inner_head f.parts ≡ true
   pub length : IsWrittenLength f.length
 
--- a head is tied where a tie stands behind it before the next head
+-- a head is tied if a tie comes after it and before the next head
 abbrev pub is_tied : List Sense → Bool
 is_tied [] = false
 is_tied (says_note head len ∷ more) = false
@@ -64,13 +64,13 @@ abbrev pub decos_of : List Sense → List Deco
 decos_of [] = []
 decos_of (part ∷ more) = deco_of part ++ decos_of more
 
--- the parts behind an opening bracket as the line goes on, each as long as it can be
+-- the parts after an opening bracket as the line goes on, each as long as it can be
 abbrev pub InnerLeads : Bool → List ℕ → List Inner → List ℕ → Type 0
 InnerLeads bang text parts rest = LeadsByParts Inner (StandsInside bang) text parts rest
 
--- the fault behind an opening bracket, where no chord stands: no closing bracket follows, or parts alone follow up to
--- the end; or the parts have no head up to a closing bracket; or the first fault of the parts,
--- which stop at another byte
+-- the fault after an opening bracket, where there is no chord: no closing bracket follows, or only parts follow up to
+-- the end; or the parts have no head up to a closing bracket; or the first fault of the parts, which stop at another
+-- byte
 pub data ChordFault (bang : Bool) : List ℕ → Flaw → Type 0 where
   chord_unclosed : (text : List ℕ)
       → list_all is_inside text ≡ true → ChordFault bang text (record { kind = Unclosed; left = suc (length text) })
@@ -84,14 +84,14 @@ pub data ChordFault (bang : Bool) : List ℕ → Flaw → Type 0 where
       → HasNone Inner (StandsInside bang) (byte ∷ rest) → (byte == code "]") ≡ false →
       InnerFlawed bang None text flaw → ChordFault bang text flaw
 
--- ---- reading, between these and the code
+-- ---- reading: a link between these and the code
 
--- the bracket in front closes a chord that has a head
+-- the bracket at the start closes a chord that has a head
 abbrev pub bracket_here : Bool → List ℕ → Option (List ℕ)
 bracket_here head [] = None
 bracket_here head (byte ∷ rest) = if byte == code "]" && head then Some (byte ∷ rest) else None
 
--- the first bracket in a name, where parts alone stand before it and there is a head
+-- the first bracket in a name, if only parts come before it and there is a head
 abbrev pub bracket_in : Bool → Bool → List ℕ → Option (List ℕ × List ℕ) → Option (List ℕ)
 bracket_in bang head text None = None
 bracket_in bang head text (Some named) =
@@ -100,13 +100,13 @@ bracket_in bang head text (Some named) =
     if not (length inside.1 == 0) && (is_done w && (head || has_inner_head w.0)) then Some (drop (length inside.0) text)
     else None
 
--- the bracket that closes a chord where the exclamation mark in front begins no name
+-- the bracket that closes a chord if the leading exclamation mark begins no name
 unfoldable pub bracket_in_name : Bool → Bool → List ℕ → Option (List ℕ)
 bracket_in_name bang head [] = None
 bracket_in_name bang head (byte ∷ rest) =
     if byte == code "!" && not bang then bracket_in bang head rest (name_at rest) else None
 
--- the last bracket at which a chord may end: the one behind all the parts, else one in a name
+-- the last bracket at which a chord may end: the one after all the parts, otherwise one in a name
 abbrev pub last_bracket : Bool → Bool → List Inner → List ℕ → Option (List ℕ)
 last_bracket bang head [] rest = bracket_here head rest
 last_bracket bang head (part ∷ more) rest =
@@ -127,7 +127,7 @@ chord_from bang text (Some (bracket ∷ rest)) =
 unfoldable pub chord_at : Bool → List ℕ → Option (ChordForm × List ℕ)
 chord_at bang text = chord_from bang text (bracket_at bang text)
 
--- what the parts inside say
+-- the meanings of the parts inside
 abbrev pub senses : Bool → List ℕ → List Sense
 senses bang inside = map sense (walk (inner_at bang) inside).0
 
@@ -140,7 +140,7 @@ abbrev pub tie_last : Option (Head × Len) → Option (Head × Len)
 tie_last None = None
 tie_last (Some head) = Some (tied_if true head.0, head.1)
 
--- a part gives the head before it, which no tie can reach any more, and may be a head itself
+-- a part adds the head before it, which no tie can reach any more, and may be a head itself
 abbrev pub given_head : Option (Head × Len) → Sense → List (Head × Len)
 given_head last (says_note head len) = last_head last
 given_head last _ = []

@@ -1,5 +1,5 @@
--- Decorations: the letters that name one, and what each name says. Dynamic marks stand below the
--- staff and fingers above it; a name that is not known draws nothing.
+-- Decorations: the letters that name one, and the meaning of each name. Dynamic marks go below the staff and
+-- fingerings above it; an unknown name draws nothing.
 use Prim.Native.Char.{code}
 use Rattle.std.specs.Prelude.{ℕ, List, [], ◌∷◌, Bool, false, ◌==◌, ◌||◌, not, if◌then◌else◌, nat_eq, codes}
 use lib.Pointwise.{pointwise}
@@ -20,7 +20,7 @@ deco_of_letter byte =
     else (if byte == code "O" then Kc else (if byte == code "P" then Kp else (if byte == code "S" then Kg
     else (if byte == code "T" then Kt else (if byte == code "u" then Ku else Kd)))))))))
 
--- a name has no blank, no bar sign and no exclamation mark
+-- a name contains no blank, no bar sign and no exclamation mark
 abbrev pub is_name_byte : ℕ → Bool
 is_name_byte byte = not (one_of (codes "! \t|") byte)
 

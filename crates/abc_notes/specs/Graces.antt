@@ -1,5 +1,5 @@
--- A grace group: a slash or none, and notes and chords between braces. A name within, also within a
--- chord, may hold a closing brace; a group is as long as it can be.
+-- A grace group: a slash or none, and notes and chords between braces. A name in the group, even in a chord of it,
+-- may contain a closing brace; a group is as long as it can be.
 use Prim.Native.Char.{code}
 use Rattle.std.specs.Prelude.{◌≡◌, ◌≤◌, ◌<◌, ◌-◌, ℕ, zero, suc, List, [], ◌∷◌, ◌++◌, length, take, drop, map, Bool}
 use Rattle.std.specs.Prelude.{true, false, not, ◌==◌, ◌&&◌, if◌then◌else◌, Option, Some, None, option_map, MatchBool}
@@ -49,7 +49,7 @@ pub record GraceForm : Type 0 where
 abbrev pub is_slash_byte : ℕ → Bool
 is_slash_byte byte = byte == code "/"
 
--- what stands behind the opening brace, and what follows the group
+-- what follows the opening brace, and the rest after the group
 abbrev pub grace_then : GraceForm → List ℕ → List ℕ
 grace_then f rest = maybe f.slash (code "/") (f.inside ++ (code "}" ∷ rest))
 
@@ -57,7 +57,7 @@ pub record IsGrace (bang : Bool) (f : GraceForm) : Type 0 where
   pub parts : GraceParts bang f.inside f.parts
   pub slash_is_read : f.slash ≡ false → begins is_slash_byte f.inside ≡ false
 
--- notes and chords; ties inside are passed over
+-- notes and chords; ties inside are skipped
 abbrev pub heads_in : List Sense → List Head
 heads_in [] = []
 heads_in (says_note head len ∷ more) = head ∷ heads_in more
@@ -75,7 +75,7 @@ abbrev pub body_of : List GracePart → List GraceChord
 body_of [] = []
 body_of (part ∷ more) = body_of_part part ++ body_of more
 
--- where no part stands: at a bracket the fault of a chord, else the byte
+-- where there is no part: at a bracket the fault of a chord, otherwise the byte
 abbrev pub IsGraceOwn : Bool → List ℕ → Flaw → Type 0
 IsGraceOwn bang [] flaw = ⊥
 IsGraceOwn bang (byte ∷ rest) flaw =
@@ -85,17 +85,17 @@ abbrev pub GraceFlawed : Bool → Option ℕ → List ℕ → Flaw → Type 0
 GraceFlawed bang before text flaw =
     Flawed GracePart (StandsInGrace bang) part_has_length (IsGraceOwn bang) before text flaw
 
--- the parts behind an opening brace and its slash as the line goes on, each as long as it can be
+-- the parts after an opening brace and its slash as the line goes on, each as long as it can be
 abbrev pub GraceLeads : Bool → List ℕ → List GracePart → List ℕ → Type 0
 GraceLeads bang text parts rest = LeadsByParts GracePart (StandsInGrace bang) text parts rest
 
--- the slash behind an opening brace, if one stands there
+-- the slash after an opening brace, if there is one
 pub record HasSlash (text : List ℕ) (slash : Bool) (behind : List ℕ) : Type 0 where
   pub cut : text ≡ maybe slash (code "/") behind
   pub is_read : slash ≡ false → begins is_slash_byte behind ≡ false
 
--- the fault behind an opening brace, where no grace group stands: no closing brace follows, or parts
--- alone follow up to the end; or the first fault of the parts, which stop at another byte
+-- the fault after an opening brace, where there is no grace group: no closing brace follows, or only parts follow up
+-- to the end; or the first fault of the parts, which stop at another byte
 pub data GraceFault (bang : Bool) : List ℕ → Flaw → Type 0 where
   grace_unclosed : (text : List ℕ)
       → list_all is_in_grace text ≡ true → GraceFault bang text (record { kind = Unclosed; left = suc (length text) })
@@ -108,7 +108,7 @@ pub data GraceFault (bang : Bool) : List ℕ → Flaw → Type 0 where
       → GraceLeads bang behind parts (byte ∷ rest) → (byte == code "}") ≡ false → GraceFlawed bang None behind flaw
       → GraceFault bang text flaw
 
--- ---- reading, between these and the code
+-- ---- reading: a link between these and the code
 abbrev pub chorded_read : ChordForm × List ℕ → GracePart × List ℕ
 chorded_read z = (chorded z.0, z.1)
 
@@ -121,12 +121,12 @@ grace_part_at bang (byte ∷ rest) =
     if byte == code "[" then option_map chorded_read (chord_at bang rest)
     else option_map single_read (inner_at bang (byte ∷ rest))
 
--- the brace in front closes the group
+-- the brace at the start closes the group
 abbrev pub brace_here : List ℕ → Option (List ℕ)
 brace_here [] = None
 brace_here (byte ∷ rest) = if byte == code "}" then Some (byte ∷ rest) else None
 
--- the first brace in a name, where parts alone stand before it
+-- the first brace in a name, if only parts come before it
 abbrev pub brace_in : Bool → List ℕ → Option (List ℕ × List ℕ) → Option (List ℕ)
 brace_in bang text None = None
 brace_in bang text (Some named) =
@@ -135,7 +135,7 @@ brace_in bang text (Some named) =
     then Some (drop (length inside.0) text)
     else None
 
--- the brace that closes a group where the exclamation mark in front begins no name
+-- the brace that closes a group if the leading exclamation mark begins no name
 unfoldable pub brace_in_name : Bool → List ℕ → Option (List ℕ)
 brace_in_name bang [] = None
 brace_in_name bang (byte ∷ rest) = if byte == code "!" && not bang then brace_in bang rest (name_at rest) else None
@@ -143,11 +143,11 @@ brace_in_name bang (byte ∷ rest) = if byte == code "!" && not bang then brace_
 abbrev pub is_brace : ℕ → Bool
 is_brace byte = byte == code "}"
 
--- so many bytes on a brace stands, and parts alone stand before it
+-- there is a brace n bytes on, and only parts come before it
 abbrev pub closes_at : Bool → List ℕ → ℕ → Bool
 closes_at bang text n = begins is_brace (drop n text) && is_done (walk (grace_part_at bang) (take n text))
 
--- the last brace, at most so many bytes on, before which parts alone stand
+-- the last brace, at most n bytes on, before which there are only parts
 abbrev pub last_closing : Bool → List ℕ → ℕ → Option (List ℕ)
 last_closing bang text zero = if closes_at bang text 0 then Some text else None
 last_closing bang text (suc n) =
@@ -161,19 +161,19 @@ brace_at bang text = last_closing bang text (length text)
 unfoldable pub brace_in_chord : Bool → List ℕ → Option (List ℕ)
 brace_in_chord bang inside = brace_at bang (code "[" ∷ inside)
 
--- behind a chord, which is given from its closing bracket on
+-- after a chord, which is given from its closing bracket on
 abbrev pub brace_behind : Bool → List ℕ → Option (List ℕ)
 brace_behind bang [] = None
 brace_behind bang (bracket ∷ rest) = brace_at bang (length_from rest).1
 
--- behind the chord that ends at the bracket, up to the closing byte of a longer one
+-- after the chord that ends at the bracket, up to the closing byte of a longer one
 abbrev pub brace_between : Bool → Option (List ℕ) → Option (List ℕ) → Option (List ℕ)
 brace_between bang bracket None = None
 brace_between bang None (Some closing) = None
 brace_between bang (Some bracket) (Some closing) =
     option_map (λ brace. brace ++ closing) (brace_behind bang (take (length bracket - length closing) bracket))
 
--- the closing byte stands behind the bracket
+-- the closing byte comes after the bracket
 abbrev pub stands_behind : Option (List ℕ) → Option (List ℕ) → Type 0
 stands_behind bracket None = Unit {0}
 stands_behind None (Some closing) = Unit {0}
@@ -199,8 +199,8 @@ grace_from bang slash text (Some (brace ∷ rest)) =
 unfoldable pub grace_at : Bool → List ℕ → Option (GraceForm × List ℕ)
 grace_at bang text = let slash = skip (code "/") text in grace_from bang slash.0 slash.1 (brace_at bang slash.1)
 
--- a part as the code reads it: what it gives to the body, whether it has a length, and what stands between its brackets
--- where it is a chord
+-- a part as the code reads it: what it adds to the body, whether it has a length, and what is between its brackets if
+-- it is a chord
 abbrev pub bodied : List GraceChord
     → Bool → Option (List ℕ) → List ℕ → List GraceChord × Bool × Option (List ℕ) × List ℕ
 bodied body lengthy inside rest = (body, lengthy, inside, rest)
@@ -213,7 +213,7 @@ abbrev pub inside_of_item : GracePiece → Option (List ℕ)
 inside_of_item (GracePiece.Part part) = None
 inside_of_item (GracePiece.Chord inside) = Some inside.now
 
--- a part that the code has read off a text
+-- a part that the code has read from a text
 abbrev pub IsItemAt : Bool → GracePiece → List ℕ → Type 0
 IsItemAt bang (GracePiece.Part part) text = Unit {0}
 IsItemAt bang (GracePiece.Chord inside) text =
@@ -244,12 +244,12 @@ plain_head _ = []
 abbrev pub grace_shown : Bool → List GraceChord → List ℕ → List ℕ → Bool × List GraceChord × List ℕ × List ℕ
 grace_shown slash body inside rest = (slash, body, inside, rest)
 
--- the same at the front of a text that has a byte
+-- the same at the start of a text that has a byte
 abbrev pub IsPartFlaw : Bool → Option ℕ → List ℕ → Flaw → Type 0
 IsPartFlaw bang before [] flaw = ⊥
 IsPartFlaw bang before (byte ∷ rest) flaw = IsFlaw (IsGraceOwn bang) before byte rest flaw
 
--- the text of a chord that is a part has at most so many bytes
+-- the text of a chord that is a part has at most `most` bytes
 abbrev pub item_within : GracePiece → ℕ → Type 0
 item_within (GracePiece.Part part) most = Unit {0}
 item_within (GracePiece.Chord inside) most = length inside.now ≤ most

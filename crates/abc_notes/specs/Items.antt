@@ -1,5 +1,5 @@
--- What may stand within a chord or a grace: notes, decorations, ties, and what is passed over
--- there, which is blanks, slurs and a lone exclamation mark.
+-- The parts of a chord or a grace group: notes, decorations, ties, and what is skipped there, which is blanks, slurs
+-- and a lone exclamation mark.
 use Prim.Native.Char.{code}
 use Rattle.std.specs.Prelude.{◌≡◌, ◌≤◌, ℕ, List, [], ◌∷◌, ◌++◌, length, Bool, true, false, ◌==◌, ◌||◌, if◌then◌else◌}
 use Rattle.std.specs.Prelude.{Option, Some, None, option_map, codes}
@@ -25,7 +25,7 @@ pub data Inner : Type 0 where
   passed_inside : (byte : ℕ) → Inner
   lone_inside : Inner
 
--- its bytes, and what follows them
+-- its bytes, and the rest after them
 abbrev pub inner_then : Inner → List ℕ → List ℕ
 inner_then (note_inside f) rest = note_then f rest
 inner_then (letter_inside byte) rest = byte ∷ rest
@@ -46,7 +46,7 @@ is_passed_inside byte = one_of (codes " \t()") byte
 abbrev pub is_letter_inside : ℕ → Bool
 is_letter_inside byte = byte == code "." || is_deco_letter byte
 
--- where an exclamation mark is a line break, none stands within
+-- if an exclamation mark is a line break, there is none inside
 abbrev pub IsInner : Bool → Inner → Type 0
 IsInner bang (note_inside f) = IsNote f
 IsInner bang (letter_inside byte) = is_letter_inside byte ≡ true
@@ -60,7 +60,7 @@ pub record StandsInside (bang : Bool) (part : Inner) (text rest : List ℕ) : Ty
   pub good : IsInner bang part
   pub cut : text ≡ inner_then part rest
 
--- what a part says
+-- the meaning of a part
 pub data Sense : Type 0 where
   says_note : Head → Len → Sense
   says_letter : (byte : ℕ) → Sense
@@ -84,7 +84,7 @@ is_inner_note _ = false
 abbrev pub has_length : Inner → Bool
 has_length part = is_inner_note (sense part)
 
--- a byte at which no part stands
+-- a byte where there is no part
 abbrev pub IsBadByte : List ℕ → Flaw → Type 0
 IsBadByte text flaw = flaw ≡ record { kind = BadByte; left = length text }
 
@@ -94,7 +94,7 @@ InnerParts bang text parts = Parts Inner (StandsInside bang) text parts
 abbrev pub InnerFlawed : Bool → Option ℕ → List ℕ → Flaw → Type 0
 InnerFlawed bang before text flaw = Flawed Inner (StandsInside bang) has_length IsBadByte before text flaw
 
--- ---- reading, between these and the code
+-- ---- reading: a link between these and the code
 abbrev pub ReadInner : Type 0
 ReadInner = Option (Inner × List ℕ)
 
@@ -106,7 +106,7 @@ closed_name [] rest = None
 closed_name (byte ∷ name) [] = None
 closed_name (byte ∷ name) (mark ∷ rest) = if mark == code "!" then Some (byte ∷ name, rest) else None
 
--- a name and the exclamation mark behind it
+-- a name and the exclamation mark after it
 unfoldable pub name_at : List ℕ → Option (List ℕ × List ℕ)
 name_at text = let name = span_all is_name_byte text in closed_name name.0 name.1
 
@@ -158,7 +158,7 @@ sense_of InnerPiece.Passed = says_nothing
 abbrev pub sensed : Sense → List ℕ → Sense × List ℕ
 sensed part rest = (part, rest)
 
--- which fault it is at such a byte, so many bytes from the end, behind a part with a length at that place
+-- the kind of fault at such a byte, `here` bytes from the end, after a part with a length at `at`, if any
 abbrev pub inner_flaw : Option ℕ → ℕ → ℕ → Flaw
 inner_flaw None byte here = record { kind = BadByte; left = here }
 inner_flaw (Some at) byte here =

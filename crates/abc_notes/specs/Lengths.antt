@@ -1,6 +1,6 @@
--- Numbers and lengths. A number has digits, no zero in front, and no more digits than it may have. A
--- length is a number of at most four digits or none, and then nothing, a slash and such a number, or
--- one to six slashes, each of which halves. What they mean, and reading them.
+-- Numbers and lengths. A number has digits, no leading zero, and no more digits than allowed. A length is a number of
+-- at most four digits or none, followed by nothing, by a slash and such a number, or by one to six slashes, each of
+-- which halves. What they mean, and how they are read.
 use Prim.Native.Char.{code}
 use Rattle.std.specs.Prelude.{◌≡◌, ℕ, zero, suc, ◌≤◌, ◌^◌, List, [], ◌∷◌, ◌++◌, length, Bool, true, false, ◌==◌}
 use Rattle.std.specs.Prelude.{if◌then◌else◌}
@@ -10,7 +10,7 @@ use Rattle.abc_notes.specs.declared.part.Len.{Len}
 use Rattle.abc_notes.specs.Runs.{copies, span, begins}
 use Rattle.mus_units.specs.Bytes.{is_digit}
 
--- the digits of a number: at least one, at most `most`, and no zero in front
+-- the digits of a number: at least one, at most `most`, and no leading zero
 pub record AreNumberDigits (most : ℕ) (ds : List ℕ) : Type 0 where
   pub some : 1 ≤ length ds
   pub few : length ds ≤ most
@@ -26,13 +26,13 @@ abbrev pub count_of : List ℕ → ℕ
 count_of [] = 1
 count_of (d ∷ ds) = digits_value 10 (d ∷ ds)
 
--- a number or none, and then nothing, a slash and a number, or slashes
+-- a number or none, followed by nothing, by a slash and a number, or by slashes
 pub data LengthForm : Type 0 where
   whole : (count : List ℕ) → LengthForm
   over : (count below : List ℕ) → LengthForm
   halved : (count : List ℕ) (slashes : ℕ) → LengthForm
 
--- its bytes, and what follows them
+-- its bytes, and the rest after them
 abbrev pub length_then : LengthForm → List ℕ → List ℕ
 length_then (whole count) rest = count ++ rest
 length_then (over count below) rest = count ++ (code "/" ∷ (below ++ rest))
@@ -48,14 +48,14 @@ len_of (whole count) = record { num = count_of count; den = 1 }
 len_of (over count below) = record { num = count_of count; den = count_of below }
 len_of (halved count slashes) = record { num = count_of count; den = 2 ^ slashes }
 
--- a number at the front, and what follows
+-- a number at the start, and the rest
 unfoldable pub number_at : ℕ → List ℕ → List ℕ × List ℕ
 number_at most s = if begins (λ b. b == code "0") s then ([], s) else span is_digit most s
 
 abbrev pub is_slash : ℕ → Bool
 is_slash b = b == code "/"
 
--- behind the first number: up to six slashes, and a number behind a lone slash
+-- after the first number: up to six slashes, and a number after a lone slash
 abbrev pub below_at : List ℕ → List ℕ × List ℕ → List ℕ × List ℕ → LengthForm × List ℕ
 below_at count ([], rest) below = (whole count, rest)
 below_at count (_ ∷ [], rest) ([], _) = (halved count 1, rest)

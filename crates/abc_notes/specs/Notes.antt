@@ -1,5 +1,6 @@
--- A note: a sign or none, a letter, octave marks in any mix, and a length. A capital is in octave 4 and a small letter
--- in octave 5; each prime counts one octave up and each comma one down. Then reading a note from left to right.
+-- A note: an accidental or none, a letter, octave marks in any mix, and a length. A capital is in octave 4 and a
+-- small letter in octave 5; each prime counts one octave up and each comma one down. Then reading a note from left to
+-- right.
 use Prim.Native.Char.{code}
 use Rattle.std.specs.Prelude.{◌≡◌, ℕ, ℤ, pos, ◌+ℤ◌, ◌-ℤ◌, List, [], ◌∷◌, ◌++◌, Bool, true, false, ◌==◌, if◌then◌else◌}
 use Rattle.std.specs.Prelude.{Option, Some, None, count_by}
@@ -20,7 +21,7 @@ pub record NoteForm : Type 0 where
   pub marks : List ℕ
   pub length : LengthForm
 
--- two carets, one, two underscores, one, or an equals sign; or no sign
+-- two carets, one caret, two underscores, one underscore, an equals sign, or no accidental
 abbrev pub sign_then : Option Alter → List ℕ → List ℕ
 sign_then None rest = rest
 sign_then (Some Sharp2) rest = code "^" ∷ code "^" ∷ rest
@@ -46,7 +47,7 @@ letter_byte true E = code "e"
 letter_byte true F = code "f"
 letter_byte true G = code "g"
 
--- the bytes of a note, and what follows them
+-- the bytes of a note, and the rest after them
 abbrev pub note_then : NoteForm → List ℕ → List ℕ
 note_then f rest = sign_then f.sign (letter_byte f.low f.letter ∷ (f.marks ++ length_then f.length rest))
 
@@ -101,7 +102,7 @@ either_letter None None = None
 unfoldable pub letter_at : ℕ → Option (Bool × Letter)
 letter_at b = either_letter (upper_at b) (lower_at b)
 
--- what stands behind the sign and the letter
+-- what follows the accidental and the letter
 abbrev pub note_from : Option Alter → Option (Bool × Letter) → List ℕ → Option (NoteForm × List ℕ)
 note_from sign None rest = None
 note_from sign (Some l) rest =

@@ -1,6 +1,6 @@
--- Text that is read part by part, each part as long as it can be: the list of parts that a text is, and the first place
--- where it has none. `Stands part text rest` says that the part stands at the front of the text,
--- with the rest behind it.
+-- Text that is read part by part, each part as long as it can be: the list of parts that make up a text, and the
+-- first place where it has none. `Stands part text rest` says that the part is at the start of the text and that the
+-- rest follows it.
 use Prim.Native.Char.{code}
 use Rattle.std.specs.Prelude.{◌≡◌, ◌≤◌, ℕ, zero, suc, List, [], ◌∷◌, length, Bool, true, false, ◌||◌, ◌==◌, Option}
 use Rattle.std.specs.Prelude.{Some, None, MatchBool}
@@ -8,7 +8,7 @@ use Rattle.abc_lines.specs.declared.fault.FaultKind.TheVariants.{BadLength}
 use Rattle.abc_notes.specs.declared.part.Flaw.{Flaw}
 use Rattle.mus_units.specs.Bytes.{is_digit}
 
--- the part stands at the front, and no longer one does
+-- the part is at the start, and no longer one is
 pub record IsLongest (I : Type 0) (Stands : I → List ℕ → List ℕ → Type 0) (text : List ℕ) (part : I)
     (rest : List ℕ) : Type 0 where
   pub stands : Stands part text rest
@@ -23,19 +23,19 @@ pub data Parts (I : Type 0) (Stands : I → List ℕ → List ℕ → Type 0) : 
   then_part : (text : List ℕ) (part : I) (rest : List ℕ) (more : List I)
       → IsLongest I Stands text part rest → Parts I Stands rest more → Parts I Stands text (part ∷ more)
 
--- a text begins with these parts, each as long as it can be, and then comes the rest
+-- a text begins with these parts, each as long as it can be, and the rest follows
 pub data LeadsByParts (I : Type 0) (Stands : I → List ℕ → List ℕ → Type 0) : List ℕ → List I → List ℕ → Type 0 where
   leads_here : (text : List ℕ) → LeadsByParts I Stands text [] text
   leads_on : (text : List ℕ) (part : I) (behind : List ℕ) (more : List I) (rest : List ℕ)
       → IsLongest I Stands text part behind → LeadsByParts I Stands behind more rest
       → LeadsByParts I Stands text (part ∷ more) rest
 
--- a digit or a slash goes on a length
+-- a digit or a slash continues a length
 abbrev pub goes_on_length : ℕ → Bool
 goes_on_length byte = is_digit byte || byte == code "/"
 
--- where no part stands: a length that goes on is a fault of the part that has it, `at` bytes from
--- the end; any other fault is the text's own
+-- where there is no part: a length that goes on is a fault of the part that has it, `at` bytes from the end; any
+-- other fault is the text's own
 abbrev pub IsFlaw : (List ℕ → Flaw → Type 0) → Option ℕ → ℕ → List ℕ → Flaw → Type 0
 IsFlaw Own None byte rest flaw = Own (byte ∷ rest) flaw
 IsFlaw Own (Some at) byte rest flaw =
@@ -45,7 +45,7 @@ abbrev pub length_at_place : Bool → ℕ → Option ℕ
 length_at_place true left = Some left
 length_at_place false left = None
 
--- the first fault of a text; `before` is the place of the part before it, where that has a length
+-- the first fault of a text; `before` is the place of the part before it, if that part has a length
 pub data Flawed (I : Type 0) (Stands : I → List ℕ → List ℕ → Type 0) (is_lengthy : I → Bool)
     (Own : List ℕ → Flaw → Type 0) : Option ℕ → List ℕ → Flaw → Type 0 where
   stuck_here : (before : Option ℕ) (byte : ℕ) (rest : List ℕ) (flaw : Flaw)
@@ -56,24 +56,24 @@ pub data Flawed (I : Type 0) (Stands : I → List ℕ → List ℕ → Type 0) (
       → Flawed I Stands is_lengthy Own (length_at_place (is_lengthy part) (length text)) rest flaw
       → Flawed I Stands is_lengthy Own before text flaw
 
--- ---- reading, between these and the code
+-- ---- reading: a link between these and the code
 abbrev pub walk_on : {I : Type 0} → (List ℕ → List I × List ℕ) → List ℕ → Option (I × List ℕ) → List I × List ℕ
 walk_on next text None = ([], text)
 walk_on next text (Some z) = (z.0 ∷ (next z.1).0, (next z.1).1)
 
--- parts are read off a text of at most so many
+-- parts are read from a text, at most n of them
 abbrev pub walk_from : {I : Type 0} → (List ℕ → Option (I × List ℕ)) → ℕ → List ℕ → List I × List ℕ
 walk_from at zero text = ([], text)
 walk_from at (suc n) text = walk_on (walk_from at n) text (at text)
 
--- the parts that a reader reads off a text, and what is left
+-- the parts that a reader reads from a text, and what is left
 unfoldable pub walk : {I : Type 0} → (List ℕ → Option (I × List ℕ)) → List ℕ → List I × List ℕ
 walk at text = walk_from at (length text) text
 
 abbrev pub is_done : {I : Type 0} → List I × List ℕ → Bool
 is_done w = length w.1 == 0
 
--- the bytes of parts, and what follows them
+-- the bytes of parts, and the rest after them
 abbrev pub spelled_then : {I : Type 0} → (I → List ℕ → List ℕ) → List I → List ℕ → List ℕ
 spelled_then one [] rest = rest
 spelled_then one (part ∷ more) rest = one part (spelled_then one more rest)

@@ -1,11 +1,11 @@
-//! The front of a list of bytes.
+//! The start of a list of bytes.
 
 ghost use Rattle.std.specs.{Prelude.◌≡◌, Prelude.◌≤◌, Prelude.◌==◌, Prelude.length, Prelude.take, List.prefix_len};
 ghost use Rattle.{mus_units.specs.Bytes.{is_digit}, abc_notes.specs.Runs.{run_off, skip, span, span_all, is_mark}};
 
 use mus_units::bytes::is_digit;
 
-/// How often this byte stands at the front, and what follows.
+/// Counts how often this byte is repeated at the start, and returns the count with the rest.
 #[tactic(auto, unfolding(crate::specs::Runs::run_off))]
 pub fn run_off(byte: u8, bytes: &[u8]) -> (usize, &[u8])
     ensures read { (result.0, result.1.now) ≡ run_off byte bytes.now }
@@ -22,7 +22,7 @@ fn run_len(byte: u8, bytes: &[u8]) -> usize
     bytes.iter().take_while(|b| **b == byte).count()
 }
 
-/// Whether this byte stands at the front, and what follows.
+/// Returns whether this byte comes first, and the rest.
 #[tactic(auto, unfolding(crate::specs::Runs::skip))]
 pub fn skip(byte: u8, bytes: &[u8]) -> (bool, &[u8])
     ensures read { (result.0, result.1.now) ≡ skip byte bytes.now }
@@ -34,7 +34,7 @@ pub fn skip(byte: u8, bytes: &[u8]) -> (bool, &[u8])
     }
 }
 
-/// The digits at the front, at most `limit` of them, and what follows.
+/// Returns the digits at the start, at most `limit` of them, and the rest.
 #[tactic(auto, unfolding(crate::specs::Runs::span))]
 pub fn digits_off(limit: usize, bytes: &[u8]) -> (&[u8], &[u8])
     ensures { (result.0.now, result.1.now) ≡ span is_digit limit bytes.now }
@@ -53,7 +53,7 @@ fn digit_count(limit: usize, bytes: &[u8]) -> usize
         .count()
 }
 
-/// The octave marks at the front, and what follows.
+/// Returns the octave marks at the start, and the rest.
 #[tactic(auto, unfolding(crate::specs::Runs::span_all))]
 pub fn marks_off(bytes: &[u8]) -> (&[u8], &[u8])
     ensures read { (result.0.now, result.1.now) ≡ span_all is_mark bytes.now }

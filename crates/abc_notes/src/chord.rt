@@ -20,7 +20,7 @@ use mus_units::bytes::is_digit;
 use mus_units::{Deco, Head, Memory, Row};
 use std::alloc::Global;
 
-/// Whether the inside of a chord has a head, or its first fault.
+/// Returns whether the inside of a chord has a head, or its first fault.
 pub fn inside_state(bang: bool, inside: &[u8]) -> Result<bool, Flaw>
     requires { length inside.now ≤ 2 ^ 30 }
     ensures { MatchResult result
@@ -48,21 +48,21 @@ pub fn inside_state(bang: bool, inside: &[u8]) -> Result<bool, Flaw>
     Ok(head)
 }
 
-/// Whether one of the two holds.
+/// Returns whether one of the two holds.
 pub fn either(one: bool, other: bool) -> bool
     ensures { result ≡ (one || other) }
 {
     one || other
 }
 
-/// The place where a part has a length.
+/// Returns the place of a part, if it has a length.
 pub fn place_if(lengthy: bool, here: usize) -> Option<usize>
     ensures { result ≡ length_at_place lengthy here }
 {
     if lengthy { Some(here) } else { None }
 }
 
-/// Whether the piece is a note.
+/// Returns whether the piece is a note.
 pub fn is_inner_note(item: InnerPiece<'_>) -> bool
     ensures { result ≡ is_inner_note (sense_of item.entry) }
 {
@@ -87,14 +87,14 @@ fn inner_flaw(before: Option<usize>, byte: u8, here: usize) -> Flaw
     }
 }
 
-/// Whether a byte goes on a length.
+/// Returns whether a byte continues a length.
 pub fn goes_on_length(byte: u8) -> bool
     ensures { result ≡ goes_on_length byte }
 {
     is_digit(byte) || byte == b'/'
 }
 
-/// The inside of a chord up to its closing bracket, and what follows.
+/// Returns the inside of a chord up to its closing bracket, and the rest.
 #[tactic(auto, unfolding(crate::specs::Runs::span_all))]
 pub fn bracketed(bytes: &[u8]) -> (&[u8], &[u8])
     ensures read { (result.0.now, result.1.now) ≡ span_all is_inside bytes.now }
@@ -111,7 +111,7 @@ fn inside_len(bytes: &[u8]) -> usize
     bytes.iter().take_while(|byte| **byte != b']').count()
 }
 
-/// The heads of a chord, in the order of the text.
+/// Returns the heads of a chord, in the order of the text.
 pub fn read_heads(alloc: Global, bang: bool, inside: &[u8]) -> Result<Row<(Head, Len)>, Memory>
     requires { length inside.now ≤ 2 ^ 30 }
     ensures { IfOk result (λ heads. heads ≡ heads_of (senses bang inside.now)) }
@@ -127,7 +127,7 @@ pub fn read_heads(alloc: Global, bang: bool, inside: &[u8]) -> Result<Row<(Head,
     Ok(heads)
 }
 
-/// The heads inside a chord, without ties, in the order of the text.
+/// Returns the heads inside a chord, without ties, in the order of the text.
 pub fn read_plain_heads(alloc: Global, bang: bool, inside: &[u8]) -> Result<Row<Head>, Memory>
     requires { length inside.now ≤ 2 ^ 30 }
     ensures { IfOk result (λ heads. heads ≡ heads_in (senses bang inside.now)) }
@@ -150,8 +150,8 @@ fn add_plain_head(heads: &mut Row<Head>, item: InnerPiece<'_>) -> Result<(), Mem
     }
 }
 
-/// Adds the head before a part where no tie can reach it any more, and gives the
-/// one that a tie may still reach.
+/// Adds the head before a part if no tie can reach that head any more, and returns the head that a tie may still
+/// reach.
 fn add_head(
     heads: &mut Row<(Head, Len)>,
     last: Option<(Head, Len)>,
@@ -198,7 +198,7 @@ fn tied_if(tied: bool, head: Head) -> Head
     }
 }
 
-/// The decorations inside a chord, in the order of the text.
+/// Returns the decorations inside a chord, in the order of the text.
 pub fn read_decos(alloc: Global, bang: bool, inside: &[u8]) -> Result<Row<Deco>, Memory>
     requires { length inside.now ≤ 2 ^ 30 }
     ensures { IfOk result (λ decos. decos ≡ decos_of (senses bang inside.now)) }
@@ -222,7 +222,7 @@ fn add_deco(alloc: Global, decos: &mut Row<Deco>, item: InnerPiece<'_>) -> Resul
     }
 }
 
-/// A chord that is read: the text between its brackets, its length, and what follows.
+/// A chord that was read: the text between its brackets, its length, and the rest after it.
 #[derive(Clone, Copy)]
 pub struct Chord<'a> {
     pub inside: &'a [u8],
@@ -230,7 +230,7 @@ pub struct Chord<'a> {
     pub rest: &'a [u8],
 }
 
-/// The chord behind an opening bracket, as long as it can be.
+/// Reads the chord after an opening bracket, as long as it can be.
 #[tactic(auto, unfolding(crate::specs::Chords::chord_at))]
 pub fn chord_at(bang: bool, bytes: &[u8]) -> Option<Chord<'_>>
     requires { length bytes.now ≤ 2 ^ 30 }
@@ -246,7 +246,7 @@ pub fn chord_at(bang: bool, bytes: &[u8]) -> Option<Chord<'_>>
     Some(Chord { inside, len, rest })
 }
 
-/// The closing bracket of the longest chord behind an opening bracket, and what follows it.
+/// Returns the closing bracket of the longest chord after an opening bracket, and the rest after it.
 fn bracket_at(bang: bool, bytes: &[u8]) -> Option<&[u8]>
     requires { length bytes.now ≤ 2 ^ 30 }
     ensures read { option_map (λ x. x.now) result ≡ bracket_at bang bytes.now }
@@ -263,7 +263,7 @@ fn bracket_at(bang: bool, bytes: &[u8]) -> Option<&[u8]>
     later_or(bracket_here(head, rest), last)
 }
 
-/// The later one, else the earlier one.
+/// Returns the later one if there is one, otherwise the earlier one.
 pub fn later_or<'a>(later: Option<&'a [u8]>, earlier: Option<&'a [u8]>) -> Option<&'a [u8]>
     ensures { option_map (λ x. x.now) result
         ≡ later_or (option_map (λ x. x.now) later.entry) (option_map (λ x. x.now) earlier.entry) }
@@ -274,7 +274,7 @@ pub fn later_or<'a>(later: Option<&'a [u8]>, earlier: Option<&'a [u8]>) -> Optio
     }
 }
 
-/// The closing bracket in front, where there is a head before it.
+/// Returns the closing bracket at the start, if there is one and a head before it.
 fn bracket_here(head: bool, bytes: &[u8]) -> Option<&[u8]>
     ensures { option_map (λ x. x.now) result ≡ bracket_here head bytes.now }
 {
@@ -284,7 +284,7 @@ fn bracket_here(head: bool, bytes: &[u8]) -> Option<&[u8]>
     }
 }
 
-/// The bracket that closes the chord where the exclamation mark in front begins no name.
+/// Returns the bracket that closes the chord if the leading exclamation mark begins no name.
 #[tactic(auto, unfolding(crate::specs::Chords::bracket_in_name))]
 pub fn bracket_in_name(bang: bool, head: bool, bytes: &[u8]) -> Option<&[u8]>
     requires { length bytes.now ≤ 2 ^ 30 }
@@ -319,7 +319,7 @@ fn is_good_inside(bang: bool, head: bool, inside: &[u8]) -> bool
     }
 }
 
-/// The fault behind an opening bracket at which no chord stands.
+/// Returns the fault after an opening bracket where there is no chord.
 pub fn chord_fault(bang: bool, bytes: &[u8]) -> Flaw
     requires small { length bytes.now ≤ 2 ^ 30 }
     requires none { chord_at bang bytes.now ≡ None }
@@ -354,7 +354,7 @@ fn begins_with_bracket(bytes: &[u8]) -> bool
     }
 }
 
-/// What is left of the line where the parts of a chord end.
+/// Returns what is left of the line where the parts of a chord end.
 fn behind_parts(bang: bool, bytes: &[u8]) -> &[u8]
     requires { length bytes.now ≤ 2 ^ 30 }
     ensures { result.now ≡ (walk (inner_at bang) bytes.now).1 }

@@ -5,7 +5,7 @@ ghost use Rattle.abc_notes.specs.Decorations.{is_dynamic, is_finger};
 use mus_units::{Deco, Memory, Text};
 use std::alloc::Global;
 
-/// The decoration that a letter names.
+/// Returns the decoration that a letter names.
 #[tactic(auto, unfolding(crate::specs::Decorations::deco_of_letter))]
 pub fn deco_of_letter(byte: u8) -> Deco
     ensures { result ≡ deco_of_letter byte }
@@ -25,7 +25,7 @@ pub fn deco_of_letter(byte: u8) -> Deco
     }
 }
 
-/// The decoration that a name between exclamation marks says.
+/// Returns the decoration that a name between exclamation marks means.
 #[tactic(auto, unfolding(crate::specs::Decorations::deco_of_name))]
 pub fn deco_of_name(alloc: Global, name: &[u8]) -> Result<Deco, Memory>
     ensures { IfOk result (λ it. it ≡ deco_of_name name.now) }

@@ -23,7 +23,7 @@ use abc_lines::FaultKind;
 use mus_units::{Memory, Row};
 use std::alloc::Global;
 
-/// The part of a grace group at the front, as long as it can be, and what follows it.
+/// Returns the part of a grace group at the start, as long as it can be, and the rest after it.
 #[tactic(auto, unfolding(crate::specs::Graces::grace_part_at))]
 pub fn grace_part_at(bang: bool, bytes: &[u8]) -> Option<(GracePiece<'_>, &[u8])>
     requires { length bytes.now ≤ 2 ^ 30 }
@@ -43,7 +43,7 @@ pub fn grace_part_at(bang: bool, bytes: &[u8]) -> Option<(GracePiece<'_>, &[u8])
     }
 }
 
-/// The first fault of the inside of a grace group, if it has one.
+/// Returns the first fault of the inside of a grace group, if it has one.
 fn grace_state(bang: bool, inside: &[u8]) -> Option<Flaw>
     requires { length inside.now ≤ 2 ^ 30 }
     ensures { MatchOption result (is_done (walk (grace_part_at bang) inside.now) ≡ true) (λ flaw.
@@ -74,7 +74,7 @@ fn has_length(part: GracePiece<'_>) -> bool
     }
 }
 
-/// The fault where no part stands; `before` is the place of a length before it.
+/// Returns the fault where there is no part; `before` is the place of a length before it.
 fn part_flaw(bang: bool, before: Option<usize>, bytes: &[u8]) -> Flaw
     requires small { length bytes.now ≤ 2 ^ 30 }
     requires some { length bytes.now ≢ 0 }
@@ -117,7 +117,7 @@ fn own_flaw(bang: bool, bytes: &[u8]) -> Flaw
     }
 }
 
-/// A grace group that is read: whether it has a slash, the text between its braces, and what follows.
+/// A grace group that was read: whether it has a slash, the text between its braces, and the rest after it.
 #[derive(Clone, Copy)]
 pub struct Grace<'a> {
     pub slash: bool,
@@ -125,7 +125,7 @@ pub struct Grace<'a> {
     pub rest: &'a [u8],
 }
 
-/// The grace group behind an opening brace.
+/// Reads the grace group after an opening brace.
 #[tactic(auto, unfolding(crate::specs::Graces::grace_at))]
 pub fn grace_at(bang: bool, bytes: &[u8]) -> Option<Grace<'_>>
     requires { length bytes.now ≤ 2 ^ 30 }
@@ -144,7 +144,7 @@ pub fn grace_at(bang: bool, bytes: &[u8]) -> Option<Grace<'_>>
     })
 }
 
-/// The closing brace of the longest grace group whose parts begin here, and what follows it.
+/// Returns the closing brace of the longest grace group whose parts begin here, and the rest after it.
 #[cycle(braces)]
 fn brace_at(bang: bool, bytes: &[u8]) -> Option<&[u8]>
     requires { length bytes.now ≤ 2 ^ 30 }
@@ -160,7 +160,7 @@ fn brace_at(bang: bool, bytes: &[u8]) -> Option<&[u8]>
     later_or(brace_here(rest), last)
 }
 
-/// The last closing brace within the part in front at which a group may end.
+/// Returns the last closing brace within the first part at which a group may end.
 #[cycle(braces)]
 fn brace_in_part<'a>(bang: bool, part: GracePiece<'a>, bytes: &'a [u8]) -> Option<&'a [u8]>
     requires small { length bytes.now ≤ 2 ^ 30 }
@@ -176,8 +176,8 @@ fn brace_in_part<'a>(bang: bool, part: GracePiece<'a>, bytes: &'a [u8]) -> Optio
     }
 }
 
-/// The last closing brace within the inside of a chord at which a group may end
-/// that begins with the bracket of the chord. Most chords hold no brace.
+/// Returns the last closing brace inside a chord at which a group that begins with the bracket of the chord may end.
+/// Most chords contain no brace.
 #[cycle(braces)]
 fn brace_in_chord(bang: bool, inside: &[u8]) -> Option<&[u8]>
     requires small { length inside.now ≤ 2 ^ 30 }
@@ -192,7 +192,7 @@ fn brace_in_chord(bang: bool, inside: &[u8]) -> Option<&[u8]>
     }
 }
 
-/// The same, behind each of the shorter chords that begin here.
+/// Returns the same, looking after each of the shorter chords that begin here.
 #[cycle(braces)]
 fn brace_behind_chords(bang: bool, inside: &[u8]) -> Option<&[u8]>
     requires small { length inside.now ≤ 2 ^ 30 }
@@ -214,8 +214,8 @@ fn brace_behind_chords(bang: bool, inside: &[u8]) -> Option<&[u8]>
     later_or(brace_between(bang, bracket, Some(rest)), last)
 }
 
-/// The last closing brace at which a group may end behind the chord that ends at
-/// the bracket, and before the closing byte of a longer one.
+/// Returns the last closing brace at which a group may end, after the chord that ends at the bracket and before the
+/// closing byte of a longer one.
 #[cycle(braces)]
 fn brace_between<'a>(
     bang: bool,
@@ -244,7 +244,7 @@ fn brace_past<'a>(bang: bool, bracket: &'a [u8], closing: &'a [u8]) -> Option<&'
     Some(bracket.split_at(chord.len() - brace.len()).1)
 }
 
-/// The closing brace in front.
+/// Returns the closing brace at the start, if there is one.
 fn brace_here(bytes: &[u8]) -> Option<&[u8]>
     ensures { option_map (λ x. x.now) result ≡ brace_here bytes.now }
 {
@@ -254,7 +254,7 @@ fn brace_here(bytes: &[u8]) -> Option<&[u8]>
     }
 }
 
-/// The brace that closes the group where the exclamation mark in front begins no name.
+/// Returns the brace that closes the group if the leading exclamation mark begins no name.
 #[tactic(auto, unfolding(crate::specs::Graces::brace_in_name))]
 fn brace_in_name(bang: bool, bytes: &[u8]) -> Option<&[u8]>
     requires { length bytes.now ≤ 2 ^ 30 }
@@ -289,7 +289,7 @@ fn is_good_inside(bang: bool, inside: &[u8]) -> bool
     }
 }
 
-/// The inside of a grace group up to its closing brace, and what follows.
+/// Returns the inside of a grace group up to its closing brace, and the rest.
 #[tactic(auto, unfolding(crate::specs::Runs::span_all))]
 fn braced(bytes: &[u8]) -> (&[u8], &[u8])
     ensures read { (result.0.now, result.1.now) ≡ span_all is_in_grace bytes.now }
@@ -306,7 +306,7 @@ fn inside_len(bytes: &[u8]) -> usize
     bytes.iter().take_while(|byte| **byte != b'}').count()
 }
 
-/// The fault behind an opening brace at which no grace group stands.
+/// Returns the fault after an opening brace where there is no grace group.
 pub fn grace_fault(bang: bool, bytes: &[u8]) -> Flaw
     requires small { length bytes.now ≤ 2 ^ 30 }
     requires none { grace_at bang bytes.now ≡ None }
@@ -329,7 +329,7 @@ pub fn grace_fault(bang: bool, bytes: &[u8]) -> Flaw
     }
 }
 
-/// The notes and chords of a grace group, in the order of the text.
+/// Returns the notes and chords of a grace group, in the order of the text.
 pub fn read_body(alloc: Global, bang: bool, inside: &[u8]) -> Result<Row<GraceChord>, Memory>
     requires { length inside.now ≤ 2 ^ 30 }
     ensures { IfOk result (λ body. body ≡ body_inside bang inside.now) }

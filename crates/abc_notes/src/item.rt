@@ -8,8 +8,8 @@ ghost use Rattle.abc_notes.specs.Runs.{span_all, is_note_letter};
 use crate::note::note_at;
 use crate::part::{InnerPiece, ItemClass};
 
-/// The part of a chord or a grace at the front, as long as it can be, and what
-/// follows it. `bang` says that `!` is a line break.
+/// Reads the part of a chord or a grace group at the start, as long as it can be, and returns it with the rest. If
+/// `bang` is set, `!` is a line break.
 #[tactic(auto, unfolding(crate::specs::Items::inner_at))]
 pub fn item_at(bang: bool, bytes: &[u8]) -> Option<(InnerPiece<'_>, &[u8])>
     requires { length bytes.now ≤ 2 ^ 30 }
@@ -59,7 +59,7 @@ fn named_or(bytes: &[u8]) -> (InnerPiece<'_>, &[u8])
     }
 }
 
-/// A name and the exclamation mark behind it, and what follows.
+/// Reads a name and the exclamation mark after it, and returns the name with the rest.
 #[tactic(auto, unfolding(crate::specs::Items::name_at, crate::specs::Runs::span_all))]
 pub fn name_at(bytes: &[u8]) -> Option<(&[u8], &[u8])>
     ensures read { option_map (λ x. (x.0.now, x.1.now)) result ≡ name_at bytes.now }
@@ -116,7 +116,7 @@ fn item_class(byte: u8) -> ItemClass
     }
 }
 
-/// Whether a note may begin so.
+/// Returns whether a note may begin with this byte.
 pub fn is_note_byte(byte: u8) -> bool
     ensures { result ≡ is_note_byte byte }
 {
@@ -129,7 +129,7 @@ fn is_note_letter(byte: u8) -> bool
     matches!(byte, b'A'..=b'G' | b'a'..=b'g')
 }
 
-/// Whether it is a letter that names a decoration.
+/// Returns whether this is a letter that names a decoration.
 pub fn is_deco_letter(byte: u8) -> bool
     ensures { result ≡ is_deco_letter byte }
 {

@@ -11,7 +11,7 @@ ghost use Rattle.abc_notes.specs.Lengths.{is_slash, length_read};
 use crate::bytes::digits_off;
 use crate::part::Len;
 
-/// A length at the front, which may be empty, and what follows.
+/// Reads a length at the start, which may be empty, and returns it with the rest.
 #[inline(always)]
 #[tactic(auto, unfolding(crate::specs::Lengths::length_from))]
 pub fn length_from(bytes: &[u8]) -> (Len, &[u8])
@@ -39,7 +39,7 @@ pub fn length_from(bytes: &[u8]) -> (Len, &[u8])
     }
 }
 
-/// The number of at most so many digits at the front, or no digit, and what follows.
+/// Reads a number of at most `most` digits at the start, or no digit, and returns it with the rest.
 pub fn number_at(most: usize, bytes: &[u8]) -> (&[u8], &[u8])
     ensures read { (result.0.now, result.1.now) ≡ number_at most bytes.now }
     ensures good { IsCount most result.0.now }
@@ -75,7 +75,7 @@ fn slash_count(bytes: &[u8]) -> usize
     bytes.iter().take(6).take_while(|b| **b == b'/').count()
 }
 
-/// The value of a number; 1 where it has no digit.
+/// Returns the value of a number; 1 if it has no digit.
 pub fn value_of(digits: &[u8]) -> u32
     requires { IsCount 4 digits.now }
     ensures { result ≡ count_of digits.now }
@@ -99,7 +99,7 @@ fn number_value(digits: &[u8]) -> u32
     value
 }
 
-/// The value of a number of at most three digits; 1 where it has no digit.
+/// Returns the value of a number of at most three digits; 1 if it has no digit.
 pub fn count_of(digits: &[u8]) -> u16
     requires { IsCount 3 digits.now }
     ensures { result ≡ count_of digits.now }

@@ -1,5 +1,5 @@
-//! Notes of a music line, alone, in chords and in grace groups: what each spells and says, and
-//! reading the longest one at the front of a line.
+//! Notes of a music line, alone, in chords and in grace groups: how each is spelled, what it means, and a reader of
+//! the longest one at the start of a line.
 #![tactic(auto)]
 
 pub mod bytes;

@@ -10,7 +10,7 @@ use crate::length::length_from;
 use crate::part::Len;
 use mus_units::{Alter, Head, Letter, Pitch};
 
-/// The note at the front, as long as it can be, and what follows.
+/// Reads the note at the start, as long as it can be, and returns it with the rest.
 #[tactic(auto, unfolding(crate::specs::Notes::note_at))]
 #[inline(always)]
 pub fn note_at(bytes: &[u8]) -> Option<(Head, Len, &[u8])>

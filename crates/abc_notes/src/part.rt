@@ -14,14 +14,14 @@ pub struct GraceChord {
     pub heads: Row<Head>,
 }
 
-/// A fault of a line, and how many bytes are left of the line from its place on.
+/// A fault of a line, and how many bytes of the line are left from its place on.
 #[derive(Clone, Copy, PartialEq, Eq)]
 pub struct Flaw {
     pub kind: FaultKind,
     pub left: usize,
 }
 
-/// What a piece within a chord or a grace says.
+/// The meaning of a piece inside a chord or a grace group.
 #[derive(Clone, Copy)]
 pub enum InnerPiece<'a> {
     Note { head: Head, len: Len },
@@ -31,15 +31,14 @@ pub enum InnerPiece<'a> {
     Passed,
 }
 
-/// A part of a grace group: as within a chord, or a chord, of which it has the
-/// text between the brackets.
+/// A part of a grace group: a part as inside a chord, or a chord, given by the text between its brackets.
 #[derive(Clone, Copy)]
 pub enum GracePiece<'a> {
     Part(InnerPiece<'a>),
     Chord(&'a [u8]),
 }
 
-/// What a piece within a chord or a grace may be, by its first byte.
+/// The possible kinds of a piece inside a chord or a grace group, by its first byte.
 #[derive(Clone, Copy, PartialEq, Eq)]
 pub enum ItemClass {
     Note,
