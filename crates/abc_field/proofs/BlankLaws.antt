@@ -1,4 +1,4 @@
--- A text without the blanks at its ends is what stands between blanks in it.
+-- A text without the blanks at its ends is a part of it between blanks.
 use Rattle.std.proofs.Common.{◌≡◌, refl, sym, ap, ◌∙◌, subst, ℕ, suc, ◌+◌, ◌-◌, ◌≤◌, List, [], ◌∷◌, ◌++◌, Bool, true}
 use Rattle.std.proofs.Common.{false, length, take, drop}
 use Rattle.std.proofs.{Common.{arith, not, reverse}, lemmas.Bool.{and_parts, not-true}}
@@ -12,7 +12,7 @@ use Rattle.abc_lines.specs.Kinds.{is_blank, after_blanks}
 use Rattle.abc_field.specs.{Words.trimmed, WordSpelling.IsBetweenBlanks}
 use Rattle.abc_field.proofs.ReadLaws.{by_test}
 
--- How many at the front pass a test, and that they do.
+-- How many bytes at the start pass a test, and that they do.
 abbrev pub Stops : (ℕ → Bool) → List ℕ → Type 0
 Stops p [] = ⊤
 Stops p (b ∷ s) = p b ≡ false
@@ -44,7 +44,7 @@ front-passes p (b ∷ s) =
     rw (e, one) (rw (e, more) refl))
     (λ e. rw e refl)
 
--- The same of the end, which is the front of the text from behind.
+-- The same for the end, which is the start of the reversed text.
 pub reversed-passes : (p : ℕ → Bool) (s : List ℕ) → list_all p s ≡ true → list_all p (reverse s) ≡ true
 reversed-passes p [] all = refl
 reversed-passes p (b ∷ s) all =
@@ -95,7 +95,7 @@ blanks-gone s all = ap after_blanks (sym (append-nil s)) ∙ blanks-passed s [] 
 pub stays : (b : ℕ) (s : List ℕ) → is_blank b ≡ false → after_blanks (b ∷ s) ≡ b ∷ s
 stays b s e = rw e refl
 
--- what is left without the blanks at its ends stands between blanks
+-- the text without the blanks at its ends is between blanks
 pub trimmed-between : (text : List ℕ) → IsBetweenBlanks text (trimmed text)
 unfolding trimmed
 trimmed-between text =
@@ -133,7 +133,7 @@ core-left [] back begins ends all = ap ended (blanks-gone back all)
 core-left (b ∷ core) back begins ends all =
     ap ended (stays b (core ++ back) begins) ∙ ended-left (b ∷ core) back ends all
 
--- what begins and ends with no blank, and stands between blanks, is left
+-- a part between blanks that begins and ends with no blank is what is left
 pub bare-trimmed : (text core : List ℕ)
     → Stops is_blank core → Stops is_blank (reverse core) → IsBetweenBlanks text core → trimmed text ≡ core
 unfolding trimmed
@@ -141,7 +141,7 @@ bare-trimmed text core begins ends between =
     rw (between.cut, blanks-passed between.front (core ++ between.back) between.front_blank)
     (core-left core between.back begins ends between.back_blank)
 
--- so is what has no blank at all
+-- so is a part that has no blank at all
 pub between-trimmed : (text core : List ℕ)
     → list_all (λ b. not (is_blank b)) core ≡ true → IsBetweenBlanks text core → trimmed text ≡ core
 between-trimmed text core none between =

@@ -1,5 +1,5 @@
--- The function that the code follows and the relation that is meant agree: a line reads as a field
--- exactly where it says it, and is refused exactly where it says nothing.
+-- The function that the code follows and the intended relation agree: a line reads as a field exactly when it says
+-- the field, and is refused exactly when it says nothing.
 use Rattle.std.proofs.Common.{◌≡◌, refl, sym, ap, ◌∙◌, ℕ, List, false, ◌==◌, ◌||◌, Some, None, Result, Ok, Err}
 use Rattle.std.proofs.Common.{MatchResult, IfSome, codes}
 use Rattle.std.proofs.lemmas.Bool.{cond_both, not-true, or_parts}
@@ -26,7 +26,7 @@ use Rattle.abc_field.proofs.{KeyForms.{key-says, key-read}, MeterForms.{meter-sa
 use Rattle.abc_field.proofs.ReadLaws.{some_holds, option_case, byte_case, word_case, not_word, nothing}
 use Rattle.abc_field.proofs.VoiceForms.{voice-says, voice-read}
 
--- A letter and a text say the field that is read of them, or are the fault.
+-- A letter and a text say the field that is read from them, or are the fault.
 module _ (letter : ℕ) (text : List ℕ) where
   abbrev Answers : Result Field FaultKind → Type 0
   Answers answer = MatchResult answer (NamedSays letter text) (NamedBad letter text)
@@ -58,7 +58,7 @@ module _ (letter : ℕ) (text : List ℕ) where
   pub named-says : (field : Field) → named_field letter text ≡ Ok field → NamedSays letter text field
   named-says field h = MatchResult-at_ok (NamedSays letter text) (NamedBad letter text) field h named-answers
 
-  -- a letter and a text that are refused are in no good form of that letter
+  -- a refused letter and text are in no good form of that letter
   pub named-bad : (kind : FaultKind) → named_field letter text ≡ Err kind → NamedBad letter text kind
   named-bad kind h = MatchResult-at_err (NamedSays letter text) (NamedBad letter text) kind h named-answers
 
@@ -171,7 +171,7 @@ kind-answers line (LineKind.Field letter) = named-answers letter (field_text lin
 kind-answers line LineKind.Directive = directive-says (name_of (field_text line)) (rest_of (field_text line))
 kind-answers line LineKind.Music = refl
 
--- a line reads as a field only where it says it
+-- a line reads as a field only if it says the field
 pub line-says : (line : List ℕ) (field : Field) → field_of line ≡ Ok field → Says line field
 unfolding field_of
 line-says line field h =
@@ -184,12 +184,12 @@ kind-read line LineKind.Directive field says =
     ap Ok (directive-read (name_of (field_text line)) (rest_of (field_text line)) field says)
 kind-read line LineKind.Music field says = ap Ok (sym says)
 
--- and wherever it does
+-- and it does whenever it says the field
 pub line-read : (line : List ℕ) (field : Field) → Says line field → field_of line ≡ Ok field
 unfolding field_of
 line-read line field says = kind-read line (kind_of line) field says
 
--- a line is refused only where its text is in no good form
+-- a line is refused only if its text is in no good form
 pub line-bad : (line : List ℕ) (fault : FaultKind) → field_of line ≡ Err fault → IsBad line fault
 unfolding field_of
 line-bad line fault h =
@@ -201,12 +201,12 @@ kind-refused : (line : List ℕ) (kind : LineKind) (fault : FaultKind)
 kind-refused line (LineKind.Field letter) fault bad = named-refused letter (field_text line) fault bad
 kind-refused line _ fault bad = absurd bad
 
--- and wherever it is
+-- and it is whenever its text is in no good form
 pub line-refused : (line : List ℕ) (fault : FaultKind) → IsBad line fault → field_of line ≡ Err fault
 unfolding field_of
 line-refused line fault bad = kind-refused line (kind_of line) fault bad
 
--- The same of what a call answers.
+-- The same for what a call returns.
 pub named_refuses : (letter : ℕ) (text : List ℕ) (e : FieldError)
     → IsErrorOfField (named_field letter text) e → NamedRefuses letter text e
 named_refuses letter text FieldError.Memory h = tt

@@ -1,4 +1,4 @@
--- What is read as a meter or a unit length has good numbers.
+-- A meter or unit length that is read has good numbers.
 use Rattle.std.proofs.Common.{◌≡◌, refl, ℕ, ◌+◌, ◌*◌, ◌-◌, ◌≤◌, List, [], ◌∷◌, true, length, arith, subst, IfSome, not}
 use Rattle.std.proofs.Common.{◌==◌}
 use Rattle.std.{proofs.lemmas.Bool.{and_parts, leb-true, Decides.nat_tests}, specs.List.list_all}

@@ -1,4 +1,4 @@
--- A text reads as a key exactly where a good form of it spells the words of the text.
+-- A text reads as a key exactly when a good form of it spells the words of the text.
 use Rattle.std.proofs.Common.{◌≡◌, refl, sym, ap, ◌∙◌, subst, ℕ, List, [], ◌∷◌, false, map, ◌==◌, Option, Some, None}
 use Rattle.std.proofs.Common.{codes}
 use Rattle.std.proofs.lemmas.Bool.{eqb-false, ne_eqb}
@@ -107,7 +107,7 @@ no_flat : (name : ModeName) → no_accident name 98
 no_flat maj_name = refl
 no_flat _ = refl
 
--- what is written on begins with neither a sharp nor a flat
+-- a mode written directly after a tonic begins with neither a sharp nor a flat
 begins_other : (name : ModeName) (k a : ℕ) → no_accident name k → to_ascii_lowercase k ≡ k
     → to_ascii_lowercase a ≡ first_of (three_letters name) → (a == k) ≡ false
 begins_other name k a other low good =
@@ -199,7 +199,7 @@ head-read kept_head [] good = absurd good
 head-read kept_head (w ∷ more) good =
     rw (not_fixed w good, none_read (tonic_of w) (tonic-takes w) (no_tonic w good)) refl
 
--- and each list of words has one
+-- and each list of words has a good beginning
 record HasHead (ws : List (List ℕ)) : Type 0 where
   head : KeyHead
   more : List (List ℕ)
@@ -263,7 +263,7 @@ key-from : (text : List ℕ) (head : HasHead (words_of text))
 unfolding key_of
 key-from text head = rw (head.spelled, head-read head.head head.more head.good) refl
 
--- a text reads as a key only where a good form of it spells the text
+-- a text reads as a key only if a good form of it spells the text
 pub key-says : (text : List ℕ) (key : KeyText) → key_of text ≡ Some key → SaysKey text key
 key-says text key h =
     let begun = has_head (words_of text) in
@@ -283,6 +283,6 @@ key-says text key h =
     })
     (λ none. absurd (none-some key (sym (key-from text begun ∙ ap (key_from (head_meant begun.head)) none) ∙ h)))
 
--- and wherever one does
+-- and it does whenever one spells it
 pub key-read : (text : List ℕ) (key : KeyText) → SaysKey text key → key_of text ≡ Some key
 key-read text key says = key-at text says.head says.forms says.good_head says.good says.spelled ∙ says.meant

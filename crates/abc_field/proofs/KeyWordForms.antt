@@ -1,4 +1,4 @@
--- A word of a key reads as a sign, a clef or another word exactly where a good form of it spells it.
+-- A word of a key reads as an accidental, a clef or another word exactly when a good form of it spells the word.
 use Rattle.std.proofs.Common.{◌≡◌, refl, ap, ◌∙◌, ℕ, ◌-◌, ◌≤◌, List, [], ◌∷◌, ◌++◌, Bool, true, false, map, arith, ◌==◌}
 use Rattle.std.proofs.Common.{Option, Some, IfSome, codes}
 use Rattle.std.proofs.lemmas.Bool.{cond_both, false_from_ne_true}
@@ -51,7 +51,7 @@ letter-takes b =
     (IfSome_then (natural_letter (b - 32)) (natural-takes (b - 32))
     (λ letter is. record { letter = letter; lower = true; is = omega (arith, is, byte-past letter) }))
 
--- Signs.
+-- Accidentals.
 record IsSign (w : List ℕ) : Type 0 where
   alter : Alter
   letter : Letter
@@ -93,7 +93,7 @@ sign-read _ Letter.C true = refl
 sign-read _ _ true = refl
 sign-read _ _ _ = refl
 
--- Words behind the beginning.
+-- Words after the beginning.
 sign-no-exp : (alter : Alter) (s : List ℕ) → bytes_eq (alter_spelled alter ++ s) (codes "exp") ≡ false
 sign-no-exp Alter.Sharp2 s = refl
 sign-no-exp _ s = refl

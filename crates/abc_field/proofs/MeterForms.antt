@@ -1,4 +1,4 @@
--- A text reads as a meter exactly where a good form of that meter spells it; likewise unit lengths.
+-- A text reads as a meter exactly when a good form of that meter spells it; likewise unit lengths.
 use Rattle.std.proofs.Common.{◌≡◌, refl, sym, ap, ◌∙◌, ℕ, ◌+◌, ◌≤◌, List, [], ◌∷◌, ◌++◌, Bool, true, false, length}
 use Rattle.std.proofs.Common.{take, drop, arith}
 use Rattle.std.proofs.Common.{◌==◌, ◌||◌, not, nat_eq, nat_le, Option, Some, None, codes, take-append-drop, append-nil}
@@ -38,7 +38,7 @@ lacks byte s = list_all (other byte) s
 pub none_is_some : {X : Type 0} (x : X) → ◌≡◌ {A = Option X} None (Some x) → ⊥
 none_is_some x e = cc
 
--- What stands before and behind the first such byte.
+-- What comes before and after the first such byte.
 cut-at : (byte : ℕ) (s rest : List ℕ) → lacks byte s ≡ true → Stops (other byte) rest
     → (before byte (s ++ rest) ≡ s) × (from_first byte (s ++ rest) ≡ rest)
 unfolding before from_first
@@ -50,7 +50,7 @@ begun : (byte : ℕ) (t : List ℕ) → Stops (other byte) t → (behind_one t �
 begun byte [] stops some = absurd (some refl)
 begun byte (b ∷ t) stops some = ap (λ c. c ∷ t) (eqb-true b byte (not-false _ stops))
 
--- where something stands behind such a byte, the first of them parts the text
+-- if something follows such a byte, the first such byte separates the text
 parted : (byte : ℕ) (s : List ℕ)
     → (behind_one (from_first byte s) ≡ [] → ⊥) → s ≡ before byte s ++ byte ∷ behind_one (from_first byte s)
 unfolding before from_first
@@ -58,7 +58,7 @@ parted byte s some =
     let n : ℕ = place_of_byte byte s in
     sym (take-append-drop n s) ∙ ap (λ t. take n s ++ t) (begun byte (drop n s) (front-stops (other byte) s) some)
 
--- What stands behind a front.
+-- What follows a prefix.
 pub behind-takes : (front s rest : List ℕ) → after_prefix front s ≡ Some rest → s ≡ front ++ rest
 unfolding after_prefix
 behind-takes front s rest h =
@@ -107,7 +107,7 @@ sum-passes p (term ∷ next ∷ terms) passes sign all =
     let more = sum-passes p (next ∷ terms) passes sign parts.1 in
     list_all-append p term (43 ∷ join_with_byte 43 (next ∷ terms)) ∙ rw (here, sign, more) refl
 
--- Terms with a plus sign between each two are parted there again.
+-- Terms with a plus sign between each two are split there again.
 split-at : (s rest : List ℕ)
     → lacks 43 s ≡ true → Stops (other 43) rest → slice_split is_plus (s ++ rest) ≡ s ∷ terms_after rest
 split-at s rest none stops = let cut = cut-at 43 s rest none stops in split_cut (s ++ rest) ∙ rw (cut.0, cut.1) refl
@@ -122,7 +122,7 @@ split-joined term (next ∷ terms) all =
     split-at term (43 ∷ join_with_byte 43 (next ∷ terms)) (number-passes (other 43) term refl parts.0) refl
     ∙ ap (λ ts. term ∷ ts) (split-joined next terms parts.1)
 
--- Sums: terms on top of a total.
+-- Sums: terms added to a total.
 record Terms (total : ℕ) (terms : List (List ℕ)) : Type 0 where
   numbers : list_all is_number terms ≡ true
   few : total + value_sum terms ≤ 99
@@ -179,7 +179,7 @@ sum-reaches (term ∷ terms) some all few =
     ∙ added-reaches (term ∷ terms) 0 all (omega (arith, few))
     ∙ ap Some (omega arith)
 
--- What stands below.
+-- The number below.
 record IsBelow (s : List ℕ) : Type 0 where
   number : is_number s ≡ true
   halving : is_halving (value_of s) ≡ true
@@ -321,7 +321,7 @@ form-unblank (wrapped_form terms below) good =
     ∙ rw (sum-passes no_blank terms refl refl good.numbers, number-passes no_blank below refl good.number) refl
 form-unblank _ good = refl
 
--- a text reads as a meter only where a good form of it spells the text
+-- a text reads as a meter only if a good form of it spells the text
 pub meter-says : (text : List ℕ) (meter : Meter) → meter_of text ≡ Some meter → SaysMeter text meter
 unfolding meter_of
 meter-says text meter h =
@@ -337,7 +337,7 @@ meter-says text meter h =
       };
     }
 
--- and wherever one does
+-- and it does whenever one spells it
 pub meter-read : (text : List ℕ) (meter : Meter) → SaysMeter text meter → meter_of text ≡ Some meter
 unfolding meter_of
 meter-read text meter says =
@@ -368,7 +368,7 @@ unit-unblank : (form : UnitForm) → IsGoodUnitForm form → list_all no_blank (
 unit-unblank whole_form good = refl
 unit-unblank (over_form below) good = number-passes no_blank below refl good.0
 
--- a text reads as a unit length only where a good form of it spells the text
+-- a text reads as a unit length only if a good form of it spells the text
 pub unit-says : (text : List ℕ) (unit : Frac) → unit_of text ≡ Some unit → SaysUnit text unit
 unfolding unit_of
 unit-says text unit h =
@@ -384,7 +384,7 @@ unit-says text unit h =
       };
     }
 
--- and wherever one does
+-- and it does whenever one spells it
 pub unit-read : (text : List ℕ) (unit : Frac) → SaysUnit text unit → unit_of text ≡ Some unit
 unfolding unit_of
 unit-read text unit says =

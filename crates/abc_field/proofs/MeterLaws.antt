@@ -1,9 +1,9 @@
--- Terms of a sum: the first of them, and those behind it.
+-- Terms of a sum: the first term, and those after it.
 use Rattle.std.{proofs.Common.{◌≡◌, refl, ℕ, suc, ◌+◌, List, [], ◌∷◌, arith, ◌==◌}, specs.List.slice_split}
 use Rattle.abc_field.specs.{Numbers.{place_of_byte, before, from_first}, Meters.{is_plus, terms_after}}
 use Rattle.abc_field.proofs.ReadLaws.{by_test}
 
--- the terms are the first of them and those behind it
+-- the terms are the first term and those after it
 pub split_cut : (s : List ℕ) → slice_split is_plus s ≡ before 43 s ∷ terms_after (from_first 43 s)
 unfolding before from_first
 split_cut [] = refl

@@ -1,10 +1,10 @@
--- Values of digits: below a limit they are kept by a sum that stops at it.
+-- Values of digits: a sum that stops at a limit keeps values below the limit.
 use Rattle.std.proofs.Common.{◌≡◌, ℕ, ◌+◌, ◌*◌, ◌-◌, ◌≤◌, ◌<◌, List, [], ◌∷◌, true, length, arith, min}
 use Rattle.std.proofs.lemmas.Bool.{and_parts, leb-true}
 use Rattle.std.specs.{List.list_all, Prelude.⊤}
 use Rattle.abc_field.specs.Numbers.{is_digit, is_number, value_after, value_of}
 
--- values that are one below the limit stay so
+-- values that are the same below the limit stay so
 pub value_after-min : (ds : List ℕ) (x y : ℕ)
     → min x 10000000 ≡ min y 10000000 → min (value_after x ds) 10000000 ≡ min (value_after y ds) 10000000
 value_after-min [] x y e = e

@@ -1,11 +1,11 @@
--- Something is read of a text only where a form spells it: by cases of what is read,
--- for one word and for all words of a list.
+-- Something is read from a text only if a form spells the text: proved by cases of what is read, for one word and for
+-- all words of a list.
 use Rattle.std.proofs.Common.{◌≡◌, refl, sym, ap, ◌∙◌, subst, ℕ, List, ◌∷◌, Bool, true, false, map, cond, ◌==◌, Option}
 use Rattle.std.proofs.Common.{Some, None, IfSome}
 use Rattle.std.proofs.lemmas.{Bool.{cond_both, eqb-true}, Option.{none-some, same_Some}, Slice.Eq.bytes_eq-Decides}
 use Rattle.std.specs.{Option.{option_map, option_and_then, option_or}, Str.bytes_eq}
 
--- T holds wherever something is read
+-- T holds whenever something is read
 abbrev pub Where : {X : Type 0} → Type 0 → Option X → Type 0
 Where T o = IfSome o (λ _. T)
 
@@ -36,7 +36,7 @@ pub where_map : {X Y S T : Type 0} (f : X → Y) (o : Option X) → Where S o �
 where_map f None has next = tt
 where_map f (Some x) has next = next has
 
--- by a test, whether something is read, whether a byte is this one, and whether a word is
+-- cases: by a test, by whether something is read, by whether a byte is this one, and by whether a word is
 pub by_test : {T : Type 0} (test : Bool) → (test ≡ true → T) → (test ≡ false → T) → T
 by_test true hit miss = hit refl
 by_test false hit miss = miss refl
@@ -67,7 +67,7 @@ pub formed : {Form : Type 0} {spelling : Form → List ℕ} {Good : Form → Typ
     → (form : Form) → Good form → w ≡ spelling form → HasForm spelling Good w
 formed form good is = record { form = form; good = good; spelled = is }
 
--- where good forms are read as what they mean, what is read is what its form means
+-- if good forms are read as what they mean, what is read is what its form means
 pub form_meant : {Form X : Type 0} {spelling : Form → List ℕ} {Good : Form → Type 0} {meaning : Form → X} {w : List ℕ}
     {x : X}
     → (read : List ℕ → Option X) → ((form : Form) → Good form → read (spelling form) ≡ Some (meaning form))
@@ -75,12 +75,12 @@ pub form_meant : {Form X : Type 0} {spelling : Form → List ℕ} {Good : Form �
 form_meant {x = x} read back found e =
     same_Some _ x (sym (back found.form found.good) ∙ sym (ap read found.spelled) ∙ e)
 
--- where nothing is read, what is read does not stand
+-- if nothing is read from a text, it is no text from which something is read
 pub unread : {X : Type 0} {w v : List ℕ} {x : X} (read : List ℕ → Option X)
     → read w ≡ None → read v ≡ Some x → w ≡ v → ⊥
 unread {x = x} read none some is = none-some x (sym none ∙ ap read is ∙ some)
 
--- and where no form stands, nothing is read
+-- and if there is no form, nothing is read
 pub none_read : {X T : Type 0} (o : Option X) → Where T o → (T → ⊥) → o ≡ None
 none_read None has none = refl
 none_read (Some x) has none = absurd (none has)

@@ -1,4 +1,4 @@
--- A text reads as a clef, and as a voice, exactly where a good form of it spells it.
+-- A text reads as a clef, or as a voice, exactly when a good form of it spells the text.
 use Rattle.std.proofs.Common.{◌≡◌, refl, sym, ap, ◌∙◌, ℕ, ◌-◌, List, [], ◌∷◌, ◌++◌, Bool, true, false, length, take}
 use Rattle.std.proofs.Common.{drop, map, not, nat_eq, nat_le}
 use Rattle.std.proofs.Common.{◌||◌, Some, None, codes, cond, take-append-drop}
@@ -44,7 +44,7 @@ named-takes w =
     (λ _. word_case (Where (IsName w)) w (codes "alto") _ _ (formed Clef.Alto tt)
     (λ _. word_case (Where (IsName w)) w (codes "tenor") _ _ (formed Clef.Tenor tt) (λ _. tt))))
 
--- a text that ends in these two bytes is what stands before them, and they
+-- a text that ends with these two bytes is what precedes them, followed by them
 ends-cut : (w end : List ℕ) → ends_with nat_eq w end ≡ true → w ≡ take (length w - length end) w ++ end
 ends-cut w end e =
     let same : end ≡ drop (length w - length end) w = (bytes_eq-Decides end (drop (length w - length end) w)).0 e in
@@ -68,7 +68,7 @@ clef-takes w = by_end _ _ refl refl
     by_end false false e f =
         where_then (named_clef w) (named-takes w) (λ name. formed (plain_clef name.form) tt name.spelled)
 
--- where no form of a clef spells it, none is read
+-- if no form of a clef spells it, none is read
 pub no_clef_read : (w : List ℕ) → ((form : ClefForm) → w ≡ clef_spelled form → ⊥) → clef_of w ≡ None
 no_clef_read w none = none_read (clef_of w) (clef-takes w) (λ clef. none clef.form clef.spelled)
 
@@ -150,7 +150,7 @@ unfolding voice_of
 voice-at text id rest forms first fine good spelled =
     rw (first-read text id rest first, fine, spelled, properties-read forms good) refl
 
--- a text reads as a voice only where a good form of it spells the text
+-- a text reads as a voice only if a good form of it spells the text
 pub voice-says : (text : List ℕ) (voice : VoiceDef) → voice_of text ≡ Some voice → SaysVoice text voice
 unfolding voice_of
 voice-says text voice h =
@@ -175,7 +175,7 @@ voice-says text voice h =
     (λ bad. tt))
     (λ none. tt))
 
--- and wherever one does
+-- and it does whenever one spells it
 pub voice-read : (text : List ℕ) (voice : VoiceDef) → SaysVoice text voice → voice_of text ≡ Some voice
 voice-read text voice says =
     let short : nat_le (length says.id) 20 ≡ true = le-leb _ _ says.short in

@@ -1,4 +1,4 @@
--- The words that are read one after another are those of the text, with blanks between them.
+-- The words read one after another are those of the text, with blanks between them.
 use Rattle.std.proofs.Common.{◌≡◌, refl, sym, ap, ◌∙◌, subst, ℕ, List, [], ◌∷◌, ◌++◌, true, false, length, take, not}
 use Rattle.std.proofs.Common.{Option, Some, None, IfSome}
 use Rattle.std.proofs.{Common.{take-append-drop, append-nil}, lemmas.{Bool.{and_parts, not-true}, Option.none-some}}
@@ -77,7 +77,7 @@ blank-none : (text : List ℕ) → list_all is_blank text ≡ true → next_word
 unfolding next_word
 blank-none text all = rw (blanks-gone text all) refl
 
--- a text has the words that stand in it
+-- a text spelled with these words has these words
 pub words-of-spelled : (words : List (List ℕ)) (text : List ℕ) → HasWords text words → words_of text ≡ words
 words-of-spelled [] text has = words-none text (blank-none text has)
 words-of-spelled (word ∷ words) text has =
@@ -96,7 +96,7 @@ none-blank text e =
     rw (nothing, append-nil) at (take-append-drop (prefix_len is_blank text) text) in
     subst (λ t. list_all is_blank t ≡ true) whole (front-passes is_blank text)
 
--- and the words that it has stand in it
+-- and it is spelled with the words that it has
 pub words-spelled : (words : List (List ℕ)) (text : List ℕ) → words_of text ≡ words → HasWords text words
 words-spelled [] text is =
     option_case (λ _. HasWords text []) (next_word false text) (λ next e. let more = words-more text next e in cc)

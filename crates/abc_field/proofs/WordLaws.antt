@@ -1,4 +1,4 @@
--- The words of a text are its first word and the words of what follows it.
+-- The words of a text are its first word and the words of the rest.
 use Rattle.std.proofs.Common.{◌≡◌, refl, ap, sym, ◌∙◌, ℕ, List, [], ◌∷◌, Bool, true, false, not, take, drop}
 use Rattle.std.{proofs.lemmas.Bool.and_parts, specs.{Prelude.{⊤, Option, filter}}}
 use Rattle.abc_lines.specs.Kinds.{is_blank, after_blanks}
@@ -29,7 +29,7 @@ abbrev pieces_after : Bool → List ℕ → List (List ℕ)
 pieces_after quotes [] = []
 pieces_after quotes (b ∷ s) = pieces quotes false s
 
--- the first piece ends where a blank parts it from the next
+-- the first piece ends where a blank separates it from the next
 pieces-cut : (quotes quoted : Bool) (s : List ℕ)
     → pieces quotes quoted s
     ≡ take (word_len quotes quoted s) s ∷ pieces_after quotes (drop (word_len quotes quoted s) s)
@@ -64,7 +64,7 @@ words-at quotes (b ∷ s) begins =
     let others = words-parted quotes (drop (word_len quotes false (b ∷ s)) (b ∷ s)) (word-stops quotes false (b ∷ s)) in
     ap (filter some) (pieces-cut quotes false (b ∷ s)) ∙ rw (first, others) refl
 
--- the words of a text are its first word and the words of what follows it
+-- the words of a text are its first word and the words of the rest
 pub words-next : (quotes : Bool) (s : List ℕ) → words_in quotes s ≡ words_after quotes (next_word quotes s)
 unfolding next_word
 words-next quotes s = words-behind quotes s ∙ words-at quotes (after_blanks s) (behind-begins s)

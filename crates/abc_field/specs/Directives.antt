@@ -1,4 +1,4 @@
--- Directives: their name, and what those that bear on breaks and on signs say.
+-- Directives: their name, and what those about line breaks and accidentals say.
 use Rattle.std.specs.Prelude.{ℕ, List, Bool, ◌||◌, not, if◌then◌else◌, take, drop, codes, Option, Some, None}
 use Rattle.std.specs.List.{prefix_len, list_any}
 use Rattle.std.specs.Str.{bytes_eq}
@@ -7,14 +7,14 @@ use Rattle.abc_lines.specs.Kinds.{is_blank}
 use Rattle.abc_field.specs.declared.directive.Breaks.{Breaks}
 use Rattle.abc_field.specs.Words.{words_of, trimmed}
 
--- the name is what stands before the first blank
+-- the name is the text before the first blank
 abbrev pub name_len : List ℕ → ℕ
 name_len text = prefix_len (λ b. not (is_blank b)) text
 
 unfoldable pub name_of : List ℕ → List ℕ
 name_of text = take (name_len text) text
 
--- what a directive of that name says
+-- the text of a directive after its name
 unfoldable pub rest_of : List ℕ → List ℕ
 rest_of text = trimmed (drop (name_len text) text)
 

@@ -1,6 +1,5 @@
--- What a line says, one case for each kind of field: the letter or the directive that it has, and how its text is
--- written. Where a text with the letter of a key, a meter, a unit length or a voice is in no good form of that letter,
--- the line is a fault.
+-- What a line says, one case per kind of field: its letter or its directive, and how its text is written. If a text
+-- with the letter of a key, a meter, a unit length or a voice is in no good form of that letter, the line is a fault.
 use Prim.Native.Char.{code}
 use Rattle.std.specs.Prelude.{◌≡◌, ℕ, List, Bool, ⊤, ◌==◌, ◌||◌, IsTrue, not, codes}
 use Rattle.mus_units.specs.{declared.key.Meter.Meter, declared.key.Spread.Spread, declared.value.Frac.Frac}
@@ -19,15 +18,15 @@ use Rattle.abc_field.specs.KeySpelling.{SaysKey}
 use Rattle.abc_field.specs.MeterSpelling.{SaysMeter, SaysUnit}
 use Rattle.abc_field.specs.VoiceSpelling.{SaysVoice}
 
--- Line breaks: at least one of the four words stands among the words of the text, and each
--- of the three breaks is on where its word does; `<none>` adds none, and other words are passed over.
+-- Line breaks: at least one of the four words is among the words of the text, and each of the three breaks is on
+-- exactly when its word is there; `<none>` adds none, and other words are ignored.
 pub record SaysBreaks (text : List ℕ) (breaks : Breaks) : Type 0 where
   pub some : IsTrue (names_breaks text)
   pub eol : breaks.eol ≡ has_word text (codes "<EOL>")
   pub dollar : breaks.dollar ≡ has_word text (codes "$")
   pub bang : breaks.bang ≡ has_word text (codes "!")
 
--- how far signs reach, by its name
+-- how far accidentals reach, by name
 abbrev pub SaysSpread : List ℕ → Spread → Type 0
 SaysSpread text Spread.Not = text ≡ codes "not"
 SaysSpread text Spread.Octave = text ≡ codes "octave"
@@ -40,8 +39,8 @@ is_known letter =
     || (letter == code "L" || letter == code "V")
     || ((letter == code "w" || letter == code "T") || (letter == code "C" || letter == code "Q"))
 
--- What a field of that letter and text says. K:, M:, L: and V: are read; w:, T:, C: and Q: are kept
--- as written; a field of another letter says nothing here.
+-- What a field of that letter and text says. K:, M:, L: and V: are read; w:, T:, C: and Q: are kept as written; a
+-- field of another letter says nothing here.
 abbrev pub NamedSays : ℕ → List ℕ → Field → Type 0
 NamedSays letter text (Field.Key key) = (letter ≡ code "K") × SaysKey text key
 NamedSays letter text (Field.Meter meter) = (letter ≡ code "M") × SaysMeter text meter
@@ -61,7 +60,8 @@ DirectiveBreaks name rest breaks = (name ≡ codes "linebreak") × SaysBreaks re
 abbrev pub DirectiveSpread : List ℕ → List ℕ → Spread → Type 0
 DirectiveSpread name rest spread = (name ≡ codes "propagate-accidentals") × SaysSpread rest spread
 
--- What a directive of that name says with what follows the name; one of another name or in another form says nothing.
+-- What a directive of that name says with the text after its name. One of another name or in another form says
+-- nothing.
 abbrev pub DirectiveSays : List ℕ → List ℕ → Field → Type 0
 DirectiveSays name rest (Field.Breaks breaks) = DirectiveBreaks name rest breaks
 DirectiveSays name rest (Field.Spread spread) = DirectiveSpread name rest spread
@@ -80,7 +80,7 @@ KindSays text LineKind.Music field = field ≡ Field.Other
 abbrev pub Says : List ℕ → Field → Type 0
 Says line field = KindSays line (kind_of line) field
 
--- The text of that letter is in no good form of it, so that it is this fault.
+-- The text of that letter is in no good form of it, and so is this fault.
 abbrev pub NamedBad : ℕ → List ℕ → FaultKind → Type 0
 NamedBad letter text FaultKind.BadKey = (letter ≡ code "K") × ((key : KeyText) → SaysKey text key → ⊥)
 NamedBad letter text FaultKind.BadMeter = (letter ≡ code "M") × ((meter : Meter) → SaysMeter text meter → ⊥)
@@ -92,16 +92,16 @@ abbrev pub KindBad : List ℕ → LineKind → FaultKind → Type 0
 KindBad text (LineKind.Field letter) kind = NamedBad letter (field_text text) kind
 KindBad text _ kind = ⊥
 
--- the line says nothing, and is this fault
+-- the line says nothing and is this fault
 abbrev pub IsBad : List ℕ → FaultKind → Type 0
 IsBad line kind = KindBad line (kind_of line) kind
 
--- why a letter and a text say nothing: the fault that they are, or want of memory
+-- why a letter and a text say nothing: their fault, or out of memory
 abbrev pub NamedRefuses : ℕ → List ℕ → FieldError → Type 0
 NamedRefuses letter text FieldError.Memory = ⊤
 NamedRefuses letter text (FieldError.Fault kind) = NamedBad letter text kind
 
--- why a line says nothing: the fault that it is, which stands at its column 1, or want of memory
+-- why a line says nothing: its fault, which is at its column 1, or out of memory
 abbrev pub IsBadLine : Line → TuneError → Type 0
 IsBadLine line TuneError.Memory = ⊤
 IsBadLine line (TuneError.Fault fault) = IsBad line.text fault.kind × (fault.line ≡ line.number) × (fault.column ≡ 1)

@@ -1,4 +1,5 @@
--- What a line says: its field, or its fault. The function that the code follows; what is meant is in FieldSpelling.
+-- What a line says: its field, or its fault. This is the function that the code follows; FieldSpelling has the
+-- intended relation.
 use Prim.Native.Char.{code}
 use Rattle.std.specs.Prelude.{◌≡◌, ℕ, List, ◌==◌, if◌then◌else◌, codes, Option, Some, None, Result, Ok, Err, ⊤}
 use Rattle.std.specs.Str.{bytes_eq}
@@ -82,12 +83,12 @@ IsGoodField (Field.Meter meter) = IsGoodMeter meter
 IsGoodField (Field.Unit unit) = IsGoodUnit unit
 IsGoodField _ = ⊤
 
--- why there is no field: the fault, or want of memory
+-- why there is no field: the fault, or out of memory
 abbrev pub IsErrorOfField : Result Field FaultKind → FieldError → Type 0
 IsErrorOfField read FieldError.Memory = ⊤
 IsErrorOfField read (FieldError.Fault kind) = read ≡ Err kind
 
--- the fault of a line stands at its column 1
+-- the fault of a line is at its column 1
 abbrev pub IsFaultOfLine : Line → TuneError → Type 0
 IsFaultOfLine line TuneError.Memory = ⊤
 IsFaultOfLine line (TuneError.Fault fault) =

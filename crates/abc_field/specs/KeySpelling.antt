@@ -14,7 +14,7 @@ use Rattle.abc_field.specs.Keys.{key_start, start_with, key_by}
 use Rattle.abc_field.specs.VoiceSpelling.{ClefForm, clef_spelled, clef_meant}
 use Rattle.abc_field.specs.WordSpelling.{HasWords}
 
--- A to G; a small letter stands 32 further
+-- A to G; a small letter is 32 further
 abbrev pub tonic_byte : Letter → ℕ
 tonic_byte Letter.C = code "C"
 tonic_byte Letter.D = code "D"
@@ -35,8 +35,8 @@ alter_spelled Alter.Flat2 = codes "__"
 alter_spelled Alter.Flat = codes "_"
 alter_spelled Alter.Natural = codes "="
 
--- A word behind the beginning: `exp`; a sign and a letter of either case; a clef behind `clef=` or
--- by its name alone; or another word with an equals sign in it, which is passed over.
+-- A word after the beginning: `exp`; an accidental and a letter of either case; a clef after `clef=` or by its name
+-- alone; or another word with an equals sign in it, which is ignored.
 pub data KeyWordForm : Type 0 where
   exp_word : KeyWordForm
   sign_word : (alter : Alter) (letter : Letter) (lower : Bool) → KeyWordForm
@@ -51,7 +51,7 @@ word_spelled (clef_word clef) = codes "clef=" ++ clef_spelled clef
 word_spelled (name_word clef) = clef_spelled clef
 word_spelled (passed_word word) = word
 
--- A word that is passed over has an equals sign, is no sign and letter, and doesn't begin with `clef=`.
+-- An ignored word has an equals sign, is not an accidental and a letter, and does not begin with `clef=`.
 pub record IsPassed (word : List ℕ) : Type 0 where
   pub equals : IsTrue (list_any (λ b. b == code "=") word)
   pub no_sign : (alter : Alter) (letter : Letter) (lower : Bool)
@@ -124,7 +124,7 @@ abbrev pub mode_meant : ModeForm → Mode
 mode_meant minor_form = Mode.Min
 mode_meant (named_form name a b c more) = mode_of_name name
 
--- A tonic is a letter, and a sharp, a flat or none of them.
+-- A tonic is a letter, and a sharp, a flat or neither.
 pub data Accident : Type 0 where
   plain_tonic : Accident
   sharp_tonic : Accident
@@ -140,12 +140,12 @@ accident_meant plain_tonic = Alter.Natural
 accident_meant sharp_tonic = Alter.Sharp
 accident_meant flat_tonic = Alter.Flat
 
--- a tonic, and what is written on
+-- a tonic, and what is written directly after it
 abbrev pub tonic_spelled : Letter → Accident → List ℕ → List ℕ
 tonic_spelled letter accident more = tonic_byte letter ∷ accident_spelled accident more
 
--- How a key begins: with nothing at all; with `none`, `HP` or `Hp`; with a tonic that has no mode, a
--- mode written on, or a mode as the next word; or with another word, which keeps the key in force.
+-- How a key begins: with nothing at all; with `none`, `HP` or `Hp`; with a tonic that has no mode, a mode written
+-- directly after it, or a mode as the next word; or with another word, which keeps the key in force.
 pub data KeyHead : Type 0 where
   empty_head : KeyHead
   none_head : KeyHead
@@ -156,7 +156,7 @@ pub data KeyHead : Type 0 where
   parted_head : (letter : Letter) (accident : Accident) (mode : ModeForm) → KeyHead
   kept_head : KeyHead
 
--- the words of the beginning, and what follows them
+-- the words of the beginning, and the words after them
 abbrev pub head_spelled : KeyHead → List (List ℕ) → List (List ℕ)
 head_spelled empty_head more = more
 head_spelled none_head more = codes "none" ∷ more
@@ -207,8 +207,8 @@ head_meant (written_head letter accident mode) = key_start letter (accident_mean
 head_meant (parted_head letter accident mode) = key_start letter (accident_meant accident) (mode_meant mode)
 head_meant kept_head = KeyStart.Kept
 
--- The words of the text are a good beginning and good other words, and the key is what these make of
--- that beginning. There is none where the signature has more than seven signs and no `exp` empties it.
+-- The words of the text are a good beginning and good other words, and the key is what the other words make of that
+-- beginning. There is none if the signature has more than seven accidentals and no `exp` empties it.
 pub record SaysKey (text : List ℕ) (key : KeyText) : Type 0 where
   pub head : KeyHead
   pub forms : List KeyWordForm

@@ -1,4 +1,4 @@
--- What a key's text says: which signs, and which clef.
+-- What a key's text says: which accidentals, and which clef.
 use Prim.Native.Char.{code}
 use Rattle.std.specs.Prelude.{ℕ, ℤ, pos, List, [], ◌∷◌, Bool, true, false, ◌==◌, ◌||◌, ⊤, nat_eq, if◌then◌else◌, length}
 use Rattle.std.specs.Prelude.{take, codes, Option, Some, None, ◌-◌}
@@ -29,7 +29,7 @@ natural_letter b =
     else (if b == code "G" then Some Letter.G
     else (if b == code "A" then Some Letter.A else (if b == code "B" then Some Letter.B else None))))))
 
--- a letter of either case, which stands 32 further
+-- a letter of either case; a small letter is 32 further
 abbrev pub letter_of : ℕ → Option Letter
 letter_of b = option_or (natural_letter b) (natural_letter (b - 32))
 
@@ -43,7 +43,7 @@ abbrev pub signed_letter : Alter → Option (List ℕ) → Option Sign
 signed_letter alter None = None
 signed_letter alter (Some s) = option_map (λ l. record { letter = l; alter = alter }) (letter_alone s)
 
--- a sign and a letter: the first of these fronts that the word has is its sign
+-- an accidental and a letter: the accidental is the first of these prefixes that the word has
 unfoldable pub sign_of : List ℕ → Option Sign
 sign_of w =
     option_or (signed_letter Alter.Sharp2 (after_prefix (codes "^^") w))
@@ -60,7 +60,7 @@ named_clef w =
     else (if bytes_eq w (codes "alto") then Some Clef.Alto
     else (if bytes_eq w (codes "tenor") then Some Clef.Tenor else None)))
 
--- an octave above or below at a clef's name is passed over
+-- an octave above or below after a clef's name is ignored
 abbrev pub has_octave : List ℕ → Bool
 has_octave w = ends_with nat_eq w (codes "+8") || ends_with nat_eq w (codes "-8")
 
@@ -70,8 +70,8 @@ without_octave w = if has_octave w then take (length w - 2) w else w
 unfoldable pub clef_of : List ℕ → Option Clef
 clef_of w = named_clef (without_octave w)
 
--- Words behind the tonic. `exp` empties what was listed so far, a sign word adds a sign, a clef
--- is named with or without `clef=`, and other words with an equals sign are passed over.
+-- Words after the tonic. `exp` empties what was listed so far, an accidental word adds an accidental, a clef is named
+-- with or without `clef=`, and other words with an equals sign are ignored.
 abbrev pub by_name : List ℕ → Option Clef → Option KeyWord
 by_name w (Some clef) = Some (KeyWord.Names clef)
 by_name w None = if list_any (λ b. b == code "=") w then Some KeyWord.Passed else None
@@ -87,12 +87,12 @@ by_sign w None = by_clef w (after_prefix (codes "clef=") w)
 unfoldable pub key_word : List ℕ → Option KeyWord
 key_word w = if bytes_eq w (codes "exp") then Some KeyWord.Empties else by_sign w (sign_of w)
 
--- all words, or none where one is of no such kind
+-- all words, or None if one is of no such kind
 abbrev pub key_words : List (List ℕ) → Option (List KeyWord)
 key_words [] = Some []
 key_words (w ∷ ws) = option_and_then (λ k. option_map (λ ks. k ∷ ks) (key_words ws)) (key_word w)
 
--- a mode counts by its first three letters in any case
+-- a mode is read by its first three letters in any case
 abbrev pub major_like : List ℕ → Option Mode
 major_like w =
     if bytes_eq w (codes "maj") then Some Mode.Maj
@@ -119,7 +119,7 @@ mode_by_three _ = None
 unfoldable pub mode_of : List ℕ → Option Mode
 mode_of w = if bytes_eq w (codes "m") then Some Mode.Min else mode_by_three w
 
--- what a tonic and its mode begin with: so many sharps, or more than a signature has
+-- what a tonic and its mode begin with: a number of sharps, or more than a signature has
 abbrev pub started_by : Option ℤ → KeyStart
 started_by None = KeyStart.Beyond
 started_by (Some n) = KeyStart.Sharps n
@@ -140,7 +140,7 @@ abbrev pub by_mode : Letter → Alter → Option Mode → List (List ℕ) → Ke
 by_mode letter alter None ws = without_mode letter alter ws
 by_mode letter alter (Some mode) ws = (key_start letter alter mode, ws)
 
--- a tonic's letter, its sharp or flat, and the mode that is written on
+-- a tonic's letter, its sharp or flat, and the mode that is written directly after them
 abbrev pub mode_on : Letter → Alter → List ℕ → Option Tonic
 mode_on letter alter [] = Some (record { letter = letter; alter = alter; mode = None })
 mode_on letter alter (b ∷ s) =
@@ -170,8 +170,8 @@ abbrev pub by_fixed : Option KeyStart → List ℕ → List (List ℕ) → KeySt
 by_fixed (Some start) w ws = (start, ws)
 by_fixed None w ws = by_tonic (tonic_of w) w ws
 
--- the first word: `none` and `HP` have no sign, `Hp` has those of the pipes, a tonic has those of its key;
--- any other is no start
+-- the first word: `none` and `HP` have no accidental, `Hp` has those of the pipes, a tonic has those of its key; any
+-- other word is no start
 unfoldable pub first_words : List (List ℕ) → KeyStart × List (List ℕ)
 first_words [] = (KeyStart.Sharps (pos 0), [])
 first_words (w ∷ ws) = by_fixed (fixed_start w) w ws
@@ -189,7 +189,7 @@ abbrev pub clef_in : KeyWord → Option Clef
 clef_in (KeyWord.Names clef) = Some clef
 clef_in _ = None
 
--- the signs listed behind the last `exp`
+-- the accidentals listed after the last `exp`
 unfoldable pub listed_signs : List KeyWord → List Sign
 listed_signs ks = filter_map sign_in (after_last is_exp ks)
 
@@ -202,7 +202,7 @@ pipe_signs =
     record { letter = Letter.F; alter = Alter.Sharp } ∷ record { letter = Letter.C; alter = Alter.Sharp }
     ∷ record { letter = Letter.G; alter = Alter.Natural } ∷ []
 
--- a whole key: the listed signs are laid on what it begins with
+-- a whole key: the listed accidentals added to what it begins with
 abbrev pub whole_key : List Sign → List KeyWord → Option KeyText
 whole_key base ks =
     Some (record { key = Some (record { signs = laid base (listed_signs ks) }); adds = []; clef = last_of clef_in ks })

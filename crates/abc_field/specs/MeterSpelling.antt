@@ -1,5 +1,5 @@
--- How meters and unit lengths are written: each form with its spelling, when it is good, and what
--- it means. Blanks round the whole text count for nothing.
+-- How meters and unit lengths are written: each form with its spelling, when it is good, and what it means. Blanks
+-- around the whole text are ignored.
 use Prim.Native.Char.{code}
 use Rattle.std.specs.Prelude.{◌≡◌, ℕ, ◌+◌, ◌≤◌, List, [], ◌∷◌, ◌++◌, IsTrue, ⊤, length, codes}
 use Rattle.std.specs.List.{list_all, join_with_byte}
@@ -10,7 +10,7 @@ use Rattle.abc_field.specs.Numbers.{is_number, value_of}
 use Rattle.abc_field.specs.WordSpelling.{IsBetweenBlanks}
 
 -- A meter is C, C with a bar line, the word none or nothing; or numbers with a plus sign between each two, over a
--- number, with or without parentheses round what stands above. A number is kept as the digits that write it.
+-- number, with or without parentheses around the numbers above. A number is kept as the digits that write it.
 pub data MeterForm : Type 0 where
   common_form : MeterForm
   cut_form : MeterForm
@@ -35,8 +35,8 @@ abbrev pub value_sum : List (List ℕ) → ℕ
 value_sum [] = 0
 value_sum (term ∷ terms) = value_of term + value_sum terms
 
--- At least one term, each of them a number, with a sum of at most 99; below them a number that
--- halves a whole note. As no number is 0, the sum is at least 1.
+-- At least one term, each of them a number, with a sum of at most 99; below them a number that halves a whole note.
+-- Since no number is 0, the sum is at least 1.
 pub record IsGoodSum (terms : List (List ℕ)) (below : List ℕ) : Type 0 where
   pub some : 1 ≤ length terms
   pub numbers : IsTrue (list_all is_number terms)
@@ -67,7 +67,7 @@ pub record WritesMeter (s : List ℕ) (meter : Meter) : Type 0 where
   pub spelled : s ≡ meter_spelled form
   pub meant : meter_meant form ≡ meter
 
--- the text, blanks round it aside, is how the meter is written
+-- the text, without the blanks around it, is how the meter is written
 pub record SaysMeter (text : List ℕ) (meter : Meter) : Type 0 where
   pub core : List ℕ
   pub between : IsBetweenBlanks text core
@@ -98,7 +98,7 @@ pub record WritesUnit (s : List ℕ) (unit : Frac) : Type 0 where
   pub spelled : s ≡ unit_spelled form
   pub meant : unit_meant form ≡ unit
 
--- the text, blanks round it aside, is how the unit length is written
+-- the text, without the blanks around it, is how the unit length is written
 pub record SaysUnit (text : List ℕ) (unit : Frac) : Type 0 where
   pub core : List ℕ
   pub between : IsBetweenBlanks text core

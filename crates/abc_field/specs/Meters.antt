@@ -15,12 +15,12 @@ abbrev pub halving_of : Option ℕ → Option ℕ
 halving_of None = None
 halving_of (Some n) = if is_halving n then Some n else None
 
--- a number on top of a total, where both are at most 99
+-- a number added to a total, if the sum is at most 99
 abbrev pub plus : ℕ → Option ℕ → Option ℕ
 plus total None = None
 plus total (Some n) = if nat_le (total + n) 99 then Some (total + n) else None
 
--- the sum of numbers on top of what came before
+-- the sum of numbers, added to what came before
 abbrev pub with_terms : ℕ → List (List ℕ) → Option ℕ
 with_terms total [] = Some total
 with_terms total (term ∷ terms) = option_and_then (λ n. with_terms n terms) (plus total (number_of term))
@@ -31,7 +31,7 @@ is_plus b = b == code "+"
 unfoldable pub sum_of : List ℕ → Option ℕ
 sum_of s = with_terms 0 (slice_split is_plus s)
 
--- the terms behind a first one
+-- the terms after a first one
 abbrev pub terms_after : List ℕ → List (List ℕ)
 terms_after [] = []
 terms_after (b ∷ s) = slice_split is_plus s
@@ -86,7 +86,7 @@ unit_at s =
 unfoldable pub unit_of : List ℕ → Option Frac
 unit_of text = unit_at (trimmed text)
 
--- without a unit: a sixteenth where the meter is below 3/4, else an eighth
+-- without a unit: a sixteenth if the meter is below 3/4, otherwise an eighth
 abbrev pub default_unit : Meter → Frac
 default_unit (Meter.Ratio num den) =
     if nat_lt (4 * num) (3 * den) then record { num = 1; den = 16 } else record { num = 1; den = 8 }

@@ -7,7 +7,7 @@ use Rattle.abc_field.specs.Voices.{voice_def}
 use Rattle.abc_field.specs.WordSpelling.{IsFirstWord}
 use Rattle.abc_field.specs.Words.{properties_of, ends_quoted}
 
--- A clef is its name; an octave above or below may stand behind it, and counts for nothing.
+-- A clef is its name; an octave above or below may follow the name, and is ignored.
 pub data ClefForm : Type 0 where
   plain_clef : (clef : Clef) → ClefForm
   above_clef : (clef : Clef) → ClefForm
@@ -29,8 +29,8 @@ clef_meant (plain_clef clef) = clef
 clef_meant (above_clef clef) = clef
 clef_meant (below_clef clef) = clef
 
--- A property of a voice: a clef behind `clef=` or by its name alone, a way of stems behind
--- `stem=`, or any other word, which is passed over.
+-- A property of a voice: a clef after `clef=` or by its name alone, a stem direction after `stem=`, or any other
+-- word, which is ignored.
 pub data PropertyForm : Type 0 where
   clef_property : (clef : ClefForm) → PropertyForm
   name_property : (clef : ClefForm) → PropertyForm
@@ -48,7 +48,7 @@ property_spelled (name_property clef) = clef_spelled clef
 property_spelled (stem_property way) = codes "stem=" ++ wish_name way
 property_spelled (other_property word) = word
 
--- A word that is passed over begins with neither `clef=` nor `stem=` and is no clef's name.
+-- An ignored word begins with neither `clef=` nor `stem=` and is not the name of a clef.
 pub record IsOther (word : List ℕ) : Type 0 where
   pub no_clef : (name : List ℕ) → word ≡ codes "clef=" ++ name → ⊥
   pub no_stem : (way : List ℕ) → word ≡ codes "stem=" ++ way → ⊥
@@ -68,8 +68,9 @@ property_meant (name_property clef) = VoiceWord.Names (clef_meant clef)
 property_meant (stem_property way) = VoiceWord.Asks way
 property_meant (other_property word) = VoiceWord.Passed
 
--- A voice is an id of at most 20 bytes, the first word of the text, and properties, which are parted at blanks outside
--- quotes; no quote stands open behind the id. Of several clefs the last counts, and of several ways of stems.
+-- A voice is an id of at most 20 bytes, which is the first word of the text, and properties, which are separated at
+-- blanks outside quotes. No quote is left open after the id. Of several clefs the last counts, and so it does of
+-- several stem directions.
 pub record SaysVoice (text : List ℕ) (voice : VoiceDef) : Type 0 where
   pub id : List ℕ
   pub rest : List ℕ

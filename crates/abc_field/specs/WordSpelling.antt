@@ -1,8 +1,8 @@
--- How blanks stand round a text and between words. A blank is a space or a tab.
+-- Blanks around a text and between words. A blank is a space or a tab.
 use Rattle.std.specs.{Prelude.{◌≡◌, ℕ, List, [], ◌∷◌, ◌++◌, IsTrue, ⊤, not}, List.list_all}
 use Rattle.{abc_lines.specs.Kinds.{is_blank}, abc_field.specs.Words.{is_empty}}
 
--- the text is this, between blanks or not
+-- the text is `core`, with or without blanks around it
 pub record IsBetweenBlanks (text core : List ℕ) : Type 0 where
   pub front : List ℕ
   pub back : List ℕ
@@ -15,7 +15,7 @@ abbrev pub EndsWord : List ℕ → Type 0
 EndsWord [] = ⊤
 EndsWord (b ∷ s) = IsTrue (is_blank b)
 
--- the text is this word, behind blanks or not, and this rest
+-- the text is this word, with or without blanks before it, and then this rest
 pub record IsFirstWord (text word rest : List ℕ) : Type 0 where
   pub blanks : List ℕ
   pub blank : IsTrue (list_all is_blank blanks)
@@ -24,7 +24,7 @@ pub record IsFirstWord (text word rest : List ℕ) : Type 0 where
   pub parted : EndsWord rest
   pub cut : text ≡ blanks ++ (word ++ rest)
 
--- the text is these words, with blanks between each two, and blanks or none at both ends
+-- the text is these words, with blanks between each two, and with or without blanks at both ends
 abbrev pub HasWords : List ℕ → List (List ℕ) → Type 0
 HasWords text [] = IsTrue (list_all is_blank text)
 HasWords text (word ∷ words) = (rest : List ℕ) × IsFirstWord text word rest × HasWords rest words

@@ -1,5 +1,4 @@
--- Words of a text: what stands between its spaces and tabs. Where quotes count,
--- what stands between two of them is not parted.
+-- Words of a text: the pieces between its spaces and tabs. If quotes count, the text between two quotes is not split.
 use Prim.Native.Char.{code}
 use Rattle.std.specs.Prelude.{ℕ, suc, List, [], ◌∷◌, Bool, true, false, ◌==◌, ◌&&◌, not, if◌then◌else◌, filter, take}
 use Rattle.std.specs.Prelude.{drop, length, nat_eq, Option, Some, None}
@@ -11,7 +10,7 @@ abbrev pub is_empty : List ℕ → Bool
 is_empty [] = true
 is_empty (b ∷ s) = false
 
--- whether the place behind this byte stands between quotes
+-- whether the position after this byte is between quotes
 abbrev pub quoted_after : Bool → Bool → ℕ → Bool
 quoted_after quotes quoted b = if quotes && b == code "\"" then not quoted else quoted
 
@@ -29,15 +28,15 @@ pieces quotes quoted (b ∷ s) =
 unfoldable pub words_in : Bool → List ℕ → List (List ℕ)
 words_in quotes s = filter (λ w. not (is_empty w)) (pieces quotes false s)
 
--- the words of a text in which quotes mean nothing
+-- the words of a text in which quotes have no meaning
 abbrev pub words_of : List ℕ → List (List ℕ)
 words_of s = words_in false s
 
--- the words of a text in which quoted blanks part nothing
+-- the words of a text in which quoted blanks do not separate words
 abbrev pub properties_of : List ℕ → List (List ℕ)
 properties_of s = words_in true s
 
--- a quote stands open at the end
+-- a quote is open at the end
 abbrev pub ends_quoted : Bool → List ℕ → Bool
 ends_quoted quoted [] = quoted
 ends_quoted quoted (b ∷ s) = ends_quoted (quoted_after true quoted b) s
@@ -46,7 +45,7 @@ ends_quoted quoted (b ∷ s) = ends_quoted (quoted_after true quoted b) s
 unfoldable pub trimmed : List ℕ → List ℕ
 trimmed s = between_blanks s
 
--- What the code reads, one word after another: how long the word at the front is, and the word with what follows it.
+-- What the code reads, one word after another: the length of the first word, and that word with the rest.
 abbrev pub word_len : Bool → Bool → List ℕ → ℕ
 word_len quotes quoted [] = 0
 word_len quotes quoted (b ∷ s) =
@@ -60,11 +59,11 @@ word_and_rest quotes (b ∷ s) =
 unfoldable pub next_word : Bool → List ℕ → Option (List ℕ × List ℕ)
 next_word quotes s = word_and_rest quotes (after_blanks s)
 
--- what stands behind a front, where the text begins with it
+-- the rest after a prefix, if the text begins with it
 unfoldable pub after_prefix : List ℕ → List ℕ → Option (List ℕ)
 after_prefix front s = if starts_with nat_eq s front then Some (drop (length front) s) else None
 
--- the words, by the first of them and what follows it
+-- the words: the first of them and those of the rest
 abbrev pub words_after : Bool → Option (List ℕ × List ℕ) → List (List ℕ)
 words_after quotes None = []
 words_after quotes (Some next) = next.0 ∷ words_in quotes next.1

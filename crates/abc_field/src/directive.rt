@@ -14,7 +14,7 @@ pub struct Breaks {
     pub bang: bool,
 }
 
-/// The name of a directive, and what it says.
+/// Returns the name of a directive, and its text.
 #[tactic(auto, unfolding(crate::specs::Directives::name_of, crate::specs::Directives::rest_of))]
 pub fn cut_name(text: &[u8]) -> (&[u8], &[u8])
     ensures name { result.0.now ≡ name_of text.now }
@@ -31,7 +31,7 @@ fn name_len(text: &[u8]) -> usize
     text.iter().take_while(|byte| !is_blank(**byte)).count()
 }
 
-/// The line breaks that are listed, or none where no known word is.
+/// Returns the line breaks that are listed, or `None` if there is no known word.
 #[tactic(auto, unfolding(crate::specs::Directives::breaks_of))]
 pub fn read_breaks(text: &[u8]) -> Option<Breaks>
     ensures { result ≡ breaks_of text.now }
@@ -59,7 +59,7 @@ fn has_either(text: &[u8], one: &[u8], other: &[u8]) -> bool
     has_word(text, one) || has_word(text, other)
 }
 
-/// How far signs reach, by name.
+/// Returns how far accidentals reach, by name.
 #[tactic(auto, unfolding(crate::specs::Directives::spread_of))]
 pub fn read_spread(text: &[u8]) -> Option<Spread>
     ensures { result ≡ spread_of text.now }

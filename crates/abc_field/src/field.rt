@@ -18,8 +18,8 @@ use abc_lines::{Fault, FaultKind, Line, LineKind, TuneError, field_text, kind_of
 use mus_units::{Frac, Memory, Meter, Spread, Text};
 use std::alloc::Global;
 
-/// What a line says. Texts are as written, without the blanks at their start.
-/// `Other` is a field, a directive or a music line that says nothing here.
+/// The meaning of a line. Texts are as written, without the blanks at their start. `Other` is a field, a directive or
+/// a music line that has no meaning here.
 #[derive(Drop)]
 pub enum Field {
     Key(KeyText),
@@ -35,8 +35,7 @@ pub enum Field {
     Other,
 }
 
-/// Why a letter and a text are no field: the fault, which stands where the field
-/// stands, or want of memory.
+/// Why a letter and a text are no field: the fault, whose place is that of the field, or out of memory.
 #[derive(Clone, Copy, PartialEq, Eq)]
 pub enum FieldError {
     Fault(FaultKind),
@@ -51,8 +50,8 @@ impl From<Memory> for FieldError {
     }
 }
 
-/// What a line says. A line that begins `K:`, `M:`, `L:` or `V:` and is in no good
-/// form is a fault at its column 1.
+/// Reads the field of a line. A line that begins with `K:`, `M:`, `L:` or `V:` and has no good form is a fault at its
+/// column 1.
 pub fn read_field(alloc: Global, line: &Line) -> Result<Field, TuneError>
     ensures says { IfOk result (λ field. Says line.now.text field) }
     ensures bad { IfErr result (λ e. IsBadLine line.now e) }
@@ -63,7 +62,7 @@ pub fn read_field(alloc: Global, line: &Line) -> Result<Field, TuneError>
     line_field(alloc, line)
 }
 
-/// The field of a line, or its fault with its place.
+/// Returns the field of a line, or its fault with its place.
 fn line_field(alloc: Global, line: &Line) -> Result<Field, TuneError>
     ensures value { IfOk result (λ field. field_of line.now.text ≡ Ok field) }
     ensures good { IfOk result (λ field. IsGoodField field) }
@@ -93,8 +92,8 @@ pub fn field_at(alloc: Global, line: &Line) -> Result<Field, FieldError>
     }
 }
 
-/// The field of a letter and a text, as a line has it and as `[K:..]`, `[M:..]`,
-/// `[L:..]` and `[V:..]` have it within a music line.
+/// Reads the field of a letter and a text, as on a line of its own or as `[K:..]`, `[M:..]`, `[L:..]` or `[V:..]`
+/// within a music line.
 pub fn read_named(alloc: Global, letter: u8, text: &[u8]) -> Result<Field, FieldError>
     ensures says { IfOk result (λ field. NamedSays letter text.now field) }
     ensures bad { IfErr result (λ e. NamedRefuses letter text.now e) }
@@ -105,7 +104,7 @@ pub fn read_named(alloc: Global, letter: u8, text: &[u8]) -> Result<Field, Field
     named_field(alloc, letter, text)
 }
 
-/// The field of a letter and a text, by the letter.
+/// Returns the field of a letter and a text, chosen by the letter.
 #[tactic(auto, unfolding(crate::specs::Fields::named_field))]
 fn named_field(alloc: Global, letter: u8, text: &[u8]) -> Result<Field, FieldError>
     ensures value { IfOk result (λ field. named_field letter text.now ≡ Ok field) }
@@ -165,7 +164,7 @@ fn voice_field(alloc: Global, text: &[u8]) -> Result<Field, FieldError>
     }
 }
 
-/// A field that is kept as written, or one that says nothing.
+/// Returns a field that is kept as written, or one that has no meaning here.
 fn written_field(alloc: Global, letter: u8, text: &[u8]) -> Result<Field, FieldError>
     ensures value { IfOk result (λ field. field ≡ written_field letter text.now) }
     ensures good { IfOk result (λ field. IsGoodField field) }
@@ -180,7 +179,7 @@ fn written_field(alloc: Global, letter: u8, text: &[u8]) -> Result<Field, FieldE
     }
 }
 
-/// A directive that bears on line breaks or on the reach of signs.
+/// Reads a directive, which may set line breaks or how far accidentals reach.
 fn read_directive(text: &[u8]) -> Field
     ensures value { result ≡ directive_field (name_of text.now) (rest_of text.now) }
     ensures good { IsGoodField result }

@@ -19,9 +19,9 @@ use mus_pitch::{Mode, key_of, signature, with_signs};
 use mus_units::{Alter, Clef, Key, Letter, Memory, Row, Sign};
 use std::alloc::Global;
 
-/// What a key's text says. Where it has a tonic, `none`, `HP`, `Hp` or `exp`, `key`
-/// is the whole key with the listed signs laid on it and `adds` is empty; else
-/// `adds` are signs to be laid on the key in force. `clef` is the last clef named.
+/// The meaning of a key's text. If the text has a tonic, `none`, `HP`, `Hp` or `exp`, `key` is the whole key with the
+/// listed accidentals added and `adds` is empty. Otherwise `adds` are accidentals to add to the key in force. `clef`
+/// is the last clef named.
 #[derive(Drop)]
 pub struct KeyText {
     pub key: Option<Key>,
@@ -29,7 +29,7 @@ pub struct KeyText {
     pub clef: Option<Clef>,
 }
 
-/// A word behind the tonic: `exp`, a sign, a clef, or one that is passed over.
+/// A word after the tonic: `exp`, an accidental, a clef, or a word that is ignored.
 #[derive(Clone, Copy, PartialEq, Eq)]
 pub enum KeyWord {
     Empties,
@@ -38,8 +38,8 @@ pub enum KeyWord {
     Passed,
 }
 
-/// What a key begins with: the key in force, a number of sharps of -7 to 7, the
-/// signs of the pipes, or more signs than a signature has.
+/// What a key begins with: the key in force, a number of sharps from -7 to 7, the accidentals of the pipes, or more
+/// accidentals than a signature has.
 #[derive(Clone, Copy, PartialEq, Eq)]
 pub enum KeyStart {
     Kept,
@@ -48,7 +48,7 @@ pub enum KeyStart {
     Beyond,
 }
 
-/// A tonic as written, with the mode that is written on it.
+/// A tonic as written, with the mode that is written directly after it.
 #[derive(Clone, Copy, PartialEq, Eq)]
 pub struct Tonic {
     pub letter: Letter,
@@ -56,7 +56,7 @@ pub struct Tonic {
     pub mode: Option<Mode>,
 }
 
-/// What the text of a key says, if it is one.
+/// Reads the text of a key, if it is one.
 #[tactic(auto, unfolding(crate::specs::Keys::key_of))]
 pub fn read_key(alloc: Global, text: &[u8]) -> Result<Option<KeyText>, Memory>
     ensures value { IfOk result (λ found. found ≡ key_of text.now) }
@@ -101,7 +101,7 @@ fn whole_of(alloc: Global, sharps: i8, words: &[KeyWord]) -> Result<Option<KeyTe
     whole_key(alloc, &base, words)
 }
 
-/// The key of the great pipes: F sharp, C sharp and G natural.
+/// Returns the key of the Highland pipes: F sharp, C sharp and G natural.
 fn pipes(alloc: Global, words: &[KeyWord]) -> Result<Option<KeyText>, Memory>
     ensures value { IfOk result (λ found. found ≡ key_by starts.Pipes words.now) }
     ensures good { IfOk result (λ found. IfSome found (λ k. IsGoodKeyText k)) }
@@ -126,7 +126,7 @@ fn pipes(alloc: Global, words: &[KeyWord]) -> Result<Option<KeyText>, Memory>
     whole_key(alloc, &Key { signs }, words)
 }
 
-/// A whole key: the listed signs are laid on what it begins with.
+/// Returns a whole key: the listed accidentals added to what it begins with.
 fn whole_key(alloc: Global, base: &Key, words: &[KeyWord]) -> Result<Option<KeyText>, Memory>
     requires { IsGoodKey base.now }
     ensures value { IfOk result (λ found. found ≡ whole_key base.now.signs words.now) }
@@ -141,7 +141,7 @@ fn whole_key(alloc: Global, base: &Key, words: &[KeyWord]) -> Result<Option<KeyT
     }))
 }
 
-/// With an `exp` the signature begins empty.
+/// Returns the start of a key; with an `exp` the signature begins empty.
 fn start_with(start: KeyStart, words: &[KeyWord]) -> KeyStart
     ensures { result ≡ start_with start words.now }
 {
@@ -167,7 +167,7 @@ fn is_exp(word: KeyWord) -> bool
     }
 }
 
-/// The signs listed behind the last `exp`.
+/// Returns the accidentals listed after the last `exp`.
 #[tactic(auto, unfolding(crate::specs::Keys::listed_signs))]
 fn listed_signs(alloc: Global, words: &[KeyWord]) -> Result<Row<Sign>, Memory>
     ensures { IfOk result (λ row. row ≡ listed_signs words.now) }
@@ -225,7 +225,7 @@ fn clef_in(word: KeyWord) -> Option<Clef>
     }
 }
 
-/// All words, or none where one is of no such kind.
+/// Reads all words. `None` if one is of no such kind.
 fn key_words(alloc: Global, text: &[u8]) -> Result<Option<Row<KeyWord>>, Memory>
     ensures { IfOk result (λ found. found ≡ key_words (words_of text.now)) }
 {
@@ -279,7 +279,7 @@ fn has_equals(word: &[u8]) -> bool
     word.iter().any(|byte| *byte == b'=')
 }
 
-/// The clef of that name; an octave at its end is passed over.
+/// Returns the clef of that name; an octave at its end is ignored.
 #[tactic(auto, unfolding(crate::specs::Keys::clef_of))]
 pub fn clef_of(name: &[u8]) -> Option<Clef>
     ensures { result ≡ clef_of name.now }
@@ -319,7 +319,7 @@ fn has_octave(name: &[u8]) -> bool
     name.ends_with(b"+8") || name.ends_with(b"-8")
 }
 
-/// The sign and letter that a word is.
+/// Reads a word as an accidental and a letter.
 #[tactic(auto, unfolding(crate::specs::Keys::sign_of))]
 fn sign_of(word: &[u8]) -> Option<Sign>
     ensures { result ≡ sign_of word.now }
@@ -354,7 +354,7 @@ fn letter_alone(text: &[u8]) -> Option<Letter>
     }
 }
 
-/// The letter of either case.
+/// Returns the letter of a byte in either case.
 fn letter_of(byte: u8) -> Option<Letter>
     ensures { result ≡ letter_of byte }
 {
@@ -376,7 +376,7 @@ fn natural_letter(byte: u8) -> Option<Letter>
     }
 }
 
-/// What the first words begin a key with, and the text of the other words.
+/// Returns what the first words begin a key with, and the text of the other words.
 #[tactic(auto, unfolding(crate::specs::Keys::first_words))]
 fn first_words(text: &[u8]) -> (KeyStart, &[u8])
     ensures { (result.0, words_of result.1.now) ≡ first_words (words_of text.now) }
@@ -430,7 +430,7 @@ fn by_mode(tonic: Tonic, rest: &[u8]) -> (KeyStart, &[u8])
     }
 }
 
-/// The mode that the next word names goes with the tonic; without one it is major.
+/// Returns the start by a tonic and the mode that the next word names; if it names none, the mode is major.
 fn without_mode(letter: Letter, alter: Alter, text: &[u8]) -> (KeyStart, &[u8])
     ensures { (result.0, words_of result.1.now) ≡ without_mode letter alter (words_of text.now) }
 {
@@ -466,7 +466,7 @@ fn key_start(letter: Letter, alter: Alter, mode: Mode) -> KeyStart
     }
 }
 
-/// The tonic that a word is, with the mode that is written on it.
+/// Reads a word as a tonic with the mode written directly after it.
 #[tactic(auto, unfolding(crate::specs::Keys::tonic_of))]
 fn tonic_of(word: &[u8]) -> Option<Tonic>
     ensures { result ≡ tonic_of word.now }
@@ -503,7 +503,8 @@ fn mode_on(letter: Letter, alter: Alter, text: &[u8]) -> Option<Tonic>
     })
 }
 
-/// The mode that a word names: `m` is minor, any other counts by its first three letters in any case.
+/// Returns the mode that a word names: `m` is minor, and any other word is read by its first three letters in any
+/// case.
 #[tactic(auto, unfolding(crate::specs::Keys::mode_of))]
 fn mode_of(word: &[u8]) -> Option<Mode>
     ensures { result ≡ mode_of word.now }

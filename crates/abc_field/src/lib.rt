@@ -1,4 +1,4 @@
-//! Fields: what a line of a header or a body says, or its fault.
+//! Fields: the meaning of a line of a header or a body, or its fault.
 #![tactic(auto)]
 
 pub mod directive;

@@ -10,7 +10,7 @@ use crate::numbers::{behind_one, cut_at, number_of};
 use crate::words::{after_prefix, is_same, trimmed};
 use mus_units::{Frac, Meter};
 
-/// The meter that a text is, if it is one.
+/// Reads the meter that a text spells, if it spells one.
 pub fn read_meter(text: &[u8]) -> Option<Meter>
     ensures value { result ≡ meter_of text.now }
     ensures good { IfSome result (λ m. IsGoodMeter m) }
@@ -42,7 +42,7 @@ fn meter_at(text: &[u8]) -> Option<Meter>
     }
 }
 
-/// A number or a sum over a halving.
+/// Reads a number or a sum over a number that halves a whole note.
 #[tactic(auto, unfolding(crate::specs::Meters::ratio_of))]
 fn ratio_of(text: &[u8]) -> Option<Meter>
     ensures { result ≡ ratio_of text.now }
@@ -77,7 +77,7 @@ fn ratio(num: Option<u8>, den: Option<u8>) -> Option<Meter>
     Some(Meter::Ratio { num, den })
 }
 
-/// The sum of the numbers between plus signs, where it is at most 99.
+/// Returns the sum of the numbers between plus signs, if it is at most 99.
 #[tactic(auto, unfolding(crate::specs::Meters::sum_of), using(crate::proofs::MeterLaws::split_cut))]
 fn sum_of(text: &[u8]) -> Option<u8>
     ensures { result ≡ sum_of text.now }
@@ -92,7 +92,7 @@ fn sum_of(text: &[u8]) -> Option<u8>
     Some(total)
 }
 
-/// A number on top of a total, where both are at most 99.
+/// Adds a number to a total, if the sum is at most 99.
 fn add(total: u8, term: &[u8]) -> Option<u8>
     requires { total ≤ 99 }
     ensures value { result ≡ plus total (number_of term.now) }
@@ -106,7 +106,7 @@ fn add(total: u8, term: &[u8]) -> Option<u8>
     }
 }
 
-/// The halving that a number is.
+/// Returns the number that a text spells, if it halves a whole note.
 fn below_of(text: &[u8]) -> Option<u8>
     ensures { result ≡ below_of text.now }
 {
@@ -134,7 +134,7 @@ fn is_halving(number: u64) -> bool
     matches!(number, 1 | 2 | 4 | 8 | 16 | 32 | 64)
 }
 
-/// The unit length that a text is, if it is one.
+/// Reads the unit length that a text spells, if it spells one.
 pub fn read_unit(text: &[u8]) -> Option<Frac>
     ensures value { result ≡ unit_of text.now }
     ensures good { IfSome result (λ u. IsGoodUnit u) }
@@ -164,7 +164,7 @@ fn unit_at(text: &[u8]) -> Option<Frac>
     }
 }
 
-/// The unit length without an `L:` line: a sixteenth where the meter is below 3/4, else an eighth.
+/// Returns the unit length without an `L:` line: a sixteenth if the meter is below 3/4, otherwise an eighth.
 pub fn default_unit(meter: Meter) -> Frac
     ensures value { result ≡ default_unit meter }
     ensures good { IsGoodUnit result }

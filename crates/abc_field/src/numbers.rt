@@ -1,4 +1,4 @@
-//! Numbers as they are written.
+//! Numbers as written.
 
 ghost use Rattle.std.specs.Prelude.{◌≡◌, ◌≤◌, ◌<◌, IfSome, IsTrue, length, nat_le, ◌&&◌, not, ◌==◌, ◌+◌, ◌*◌, ◌-◌, min};
 ghost use Rattle.std.specs.List.{list_all};
@@ -35,14 +35,14 @@ fn is_short(text: &[u8]) -> bool
     1 <= text.len() && text.len() <= 4
 }
 
-/// Whether a text is a number of music: one to four digits, the first of them no zero.
+/// Returns whether a text is a number as in music: one to four digits, the first of them not zero.
 fn is_number(text: &[u8]) -> bool
     ensures { result ≡ is_number text.now }
 {
     is_short(text) && has_digits_of_number(text)
 }
 
-/// The number of music that a text is.
+/// Returns the number that a text writes as in music, if it writes one.
 #[tactic(auto, unfolding(crate::specs::Numbers::number_of), using(crate::proofs::NumberLaws::number_small))]
 pub fn number_of(text: &[u8]) -> Option<u64>
     ensures value { result ≡ number_of text.now }
@@ -55,9 +55,10 @@ pub fn number_of(text: &[u8]) -> Option<u64>
     }
 }
 
-/// The value of digits, where it is below this limit, else the limit.
+/// The cap on the value of digits.
 const LIMIT: u64 = 10_000_000;
 
+/// Returns the value of the digits if it is below the limit, otherwise the limit.
 pub fn capped_value(digits: &[u8]) -> u64
     ensures { result ≡ min (value_of digits.now) 10000000 }
 {
@@ -76,8 +77,8 @@ fn with_digit(value: u64, digit: u8) -> u64
     (value * 10 + u64::from(digit.saturating_sub(b'0'))).min(LIMIT)
 }
 
-/// What stands before the first such byte, and the rest, which begins with it;
-/// where there is none all and nothing.
+/// Splits a text before the first such byte: returns what precedes the byte and the rest, which begins with it. If
+/// there is none, returns the whole text and nothing.
 #[tactic(auto, unfolding(crate::specs::Numbers::before, crate::specs::Numbers::from_first))]
 pub fn cut_at(byte: u8, text: &[u8]) -> (&[u8], &[u8])
     ensures before { result.0.now ≡ before byte text.now }
@@ -94,7 +95,7 @@ fn place_of_byte(byte: u8, text: &[u8]) -> usize
     text.iter().take_while(|b| **b != byte).count()
 }
 
-/// What stands behind the first byte.
+/// Returns the rest after the first byte.
 pub fn behind_one(text: &[u8]) -> &[u8]
     ensures { result.now ≡ behind_one text.now }
 {

@@ -11,8 +11,8 @@ use crate::words::{after_prefix, ends_quoted, is_same, next_word};
 use mus_units::{Clef, Memory, Row, Text, Wish};
 use std::alloc::Global;
 
-/// What a voice's field says: its id of 1 to 20 bytes, the last clef that it names, and the last way of
-/// stems. `asks` tells whether it names a way; where it doesn't, `stem` is `Auto`.
+/// The meaning of a voice's field: its id of 1 to 20 bytes, the last clef that it names, and the last stem direction.
+/// `asks` says whether it names a direction; if it doesn't, `stem` is `Auto`.
 #[derive(Drop)]
 pub struct VoiceDef {
     pub id: Text,
@@ -21,7 +21,7 @@ pub struct VoiceDef {
     pub asks: bool,
 }
 
-/// A property of a voice: a clef, a way of stems, or one that is passed over.
+/// A property of a voice: a clef, a stem direction, or one that is ignored.
 #[derive(Clone, Copy, PartialEq, Eq)]
 pub enum VoiceWord {
     Names(Clef),
@@ -29,7 +29,7 @@ pub enum VoiceWord {
     Passed,
 }
 
-/// What the text of a voice says, if it is one.
+/// Reads the text of a voice, if it is one.
 #[tactic(auto, unfolding(crate::specs::Voices::voice_of))]
 pub fn read_voice(alloc: Global, text: &[u8]) -> Result<Option<VoiceDef>, Memory>
     ensures { IfOk result (λ found. found ≡ voice_of text.now) }
@@ -67,7 +67,7 @@ fn voice_def(alloc: Global, id: &[u8], words: &[VoiceWord]) -> Result<VoiceDef, 
     })
 }
 
-/// All properties, or none where one has an unknown clef or way of stems.
+/// Reads all properties. `None` if one has an unknown clef or stem direction.
 fn voice_words(alloc: Global, text: &[u8]) -> Result<Option<Row<VoiceWord>>, Memory>
     ensures { IfOk result (λ found. found ≡ voice_words (properties_of text.now)) }
 {

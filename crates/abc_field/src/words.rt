@@ -1,4 +1,4 @@
-//! Words of a text, by its spaces and tabs.
+//! Words of a text, separated by spaces and tabs.
 
 ghost use Rattle.std.specs.Prelude.{◌≡◌, ◌≤◌, length, false};
 ghost use Rattle.std.specs.Option.{option_map, option_copied};
@@ -11,7 +11,7 @@ ghost use Rattle.abc_field.specs.Words.{ends_quoted, words_of, words_in, words_a
 pub use mus_units::bytes::{is_blank, is_same};
 use mus_units::bytes::{after_blanks, trimmed as between_blanks};
 
-/// What is left without the blanks at both ends.
+/// Returns the text without the blanks at both ends.
 #[tactic(auto, unfolding(crate::specs::Words::trimmed))]
 pub fn trimmed(text: &[u8]) -> &[u8]
     ensures { result.now ≡ trimmed text.now }
@@ -19,8 +19,8 @@ pub fn trimmed(text: &[u8]) -> &[u8]
     between_blanks(text)
 }
 
-/// The first word and what follows it, or none where there are only blanks. Where
-/// quotes count, blanks between two of them are part of a word.
+/// Returns the first word and the rest after it, or `None` if there are only blanks. If quotes count, blanks between
+/// two quotes are part of a word.
 #[tactic(auto, using(crate::proofs::WordLaws::words_next_is))]
 pub fn next_word(quotes: bool, text: &[u8]) -> Option<(&[u8], &[u8])>
     ensures read { option_map (λ w. (w.0.now, w.1.now)) result ≡ next_word quotes text.now }
@@ -46,7 +46,7 @@ fn word_and_rest(quotes: bool, text: &[u8]) -> Option<(&[u8], &[u8])>
     }
 }
 
-/// How long the word at the front is.
+/// Returns the length of the first word.
 fn word_len(quotes: bool, text: &[u8]) -> usize
     ensures value { result ≡ word_len quotes false text.now }
     ensures within { result ≤ length text.now }
@@ -67,7 +67,7 @@ fn parts_words(quoted: bool, byte: u8) -> bool
     is_blank(byte) && !quoted
 }
 
-/// Whether the place behind this byte stands between quotes.
+/// Returns whether the position after this byte is between quotes.
 fn quoted_after(quotes: bool, quoted: bool, byte: u8) -> bool
     ensures { result ≡ quoted_after quotes quoted byte }
 {
@@ -78,7 +78,7 @@ fn quoted_after(quotes: bool, quoted: bool, byte: u8) -> bool
     }
 }
 
-/// Whether a quote stands open at the end.
+/// Returns whether a quote is open at the end.
 pub fn ends_quoted(text: &[u8]) -> bool
     ensures { result ≡ ends_quoted false text.now }
 {
@@ -89,7 +89,7 @@ pub fn ends_quoted(text: &[u8]) -> bool
     quoted
 }
 
-/// Whether a word is one of those of the text.
+/// Returns whether a word is one of the words of the text.
 pub fn has_word(text: &[u8], word: &[u8]) -> bool
     ensures { result ≡ list_any (λ w. bytes_eq w word.now) (words_of text.now) }
 {
@@ -103,7 +103,7 @@ pub fn has_word(text: &[u8], word: &[u8]) -> bool
     false
 }
 
-/// What stands behind a front, where the text begins with it.
+/// Returns the rest after a prefix, if the text begins with it.
 #[tactic(auto, unfolding(crate::specs::Words::after_prefix))]
 pub fn after_prefix<'a>(text: &'a [u8], front: &[u8]) -> Option<&'a [u8]>
     ensures { option_copied result ≡ after_prefix front.now text.now }
