@@ -171,7 +171,7 @@ module _ (bang : Bool) where
         → new ++ heads_after next (senses bang behind) ≡ total
     heads-next out last push is so_far = rw (push, is, append_assoc) (rw senses-some at so_far)
 
-    -- parts that each give what they say of
+    -- parts that each add what they mean
     pub said-next : {X : Type 0} (gives : List Sense → List X) (one : Sense → List X) →
         ((item : Sense) (more : List Sense) → gives (item ∷ more) ≡ one item ++ gives more)
         → (out : List X) {new total : List X}

@@ -12,7 +12,7 @@ pub record Reader (I : Type 0) (Stands : I → List ℕ → List ℕ → Type 0)
       → Stands f s x → (z : I × List ℕ) × (at s ≡ Some z) × ((length z.1 < length x) ⊎ (z ≡ (f, x)))
   pub longer : (f : I) (s x : List ℕ) → Stands f s x → length x < length s
 
--- what was read, of which a call gives a part, or that nothing was
+-- what was read, of which a call returns a part, or that nothing was read
 pub read_from : {A B : Type 0} (f : A → B) (r : Option A) (y : B)
     → Some y ≡ option_map f r → (x : A) × (r ≡ Some x) × (y ≡ f x)
 read_from f None y e = absurd cc

@@ -147,7 +147,7 @@ unfoldable pub inner_at : Bool → List ℕ → ReadInner
 inner_at bang [] = None
 inner_at bang (byte ∷ rest) = inner_by_class (item_class byte) bang byte rest
 
--- what the code has read of a part
+-- the meaning of a part as the code has read it
 abbrev pub sense_of : InnerPiece → Sense
 sense_of (InnerPiece.Note head len) = says_note head len
 sense_of (InnerPiece.Letter byte) = says_letter byte

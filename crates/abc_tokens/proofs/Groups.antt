@@ -41,7 +41,7 @@ use Rattle.abc_tokens.proofs.Exact.{First, first_is, note_exact, chord_exact}
 -- ---- lists of bytes that pass
 
 -- a byte that closes no chord and no grace group
--- ---- spelling in front of more
+-- ---- spelling before more
 all_append : {I : Type 0} (f : I → List ℕ → List ℕ)
     → ((a : I) (s x : List ℕ) → f a s ++ x ≡ f a (s ++ x)) → (list : List I) (s x : List ℕ)
     → all_then f list s ++ x ≡ all_then f list (s ++ x)

@@ -23,8 +23,8 @@ pub enum ReadError {
     Memory,
 }
 
-/// Reads a source to its end, up to `limit` bytes. Takes at most one byte more than that; if it does, the result is
-/// `TooLong`. `Fault` is returned only if the source's fault count rose. Each iteration takes a byte or is the last.
+/// Reads a source to its end, in at most `limit` bytes. Takes at most one byte more than that, which is `TooLong`.
+/// `Fault` is returned only if the source's fault count rose. Each iteration takes a byte or is the last.
 pub fn read_all<S: Source>(alloc: Global, src: &mut S, limit: u64) -> Result<Text, ReadError>
     requires { limit ≤ 2 ^ 40 }
     ensures took { ReadTook (S.left src.old) (S.left src.new) limit result }
