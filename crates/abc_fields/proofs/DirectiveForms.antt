@@ -1,4 +1,4 @@
--- A line is read as a directive of a name, with what it says, exactly where it is written as one.
+-- A line is read as a directive with a name and a text exactly when it is written as one.
 use Rattle.std.proofs.Common.{◌≡◌, refl, sym, ap, ◌∙◌, subst, ℕ, zero, suc, ◌-◌, List, [], ◌∷◌, ◌++◌, Bool, true}
 use Rattle.std.proofs.Common.{length, take, drop}
 use Rattle.std.proofs.lemmas.Bool.{and_parts, cond_both, eqb-true, not-true, not-false, not_from_true}
@@ -21,7 +21,7 @@ use Rattle.abc_fields.specs.Defaults.{rest_if, said_by}
 use Rattle.abc_fields.specs.DirectiveSpelling.{Lead, percents, instruction, lead_spelled, BeginsBare, HasBareEnds}
 use Rattle.abc_fields.specs.DirectiveSpelling.{IsDirective}
 
--- What stands between blanks and has none at its ends is left without them.
+-- A text between blanks that has none at its own ends stays when they are trimmed.
 bare-stops : (s : List ℕ) → BeginsBare s → Stops is_blank s
 bare-stops [] bare = tt
 bare-stops (b ∷ s) bare = not-true (is_blank b) bare
@@ -34,7 +34,7 @@ pub word-stays : (s : List ℕ) → BeginsWord s → after_blanks s ≡ s
 word-stays [] begins = refl
 word-stays (b ∷ s) begins = rw begins refl
 
--- What is left has no blank at its ends.
+-- A trimmed text has no blank at its ends.
 front-kept : (n : ℕ) (s : List ℕ) → BeginsWord s → BeginsBare (take n s)
 front-kept zero s begins = tt
 front-kept (suc n) [] begins = tt
@@ -48,7 +48,7 @@ trimmed-bare text =
     let begins = word-bare (after_blanks (reverse s)) (behind-begins (reverse s)) in
     (front-kept (length s - suffix_len is_blank s) s (behind-begins text), subst BeginsBare ended begins)
 
--- What a line begins with, by its kind: the lead of a directive, or a letter and a colon.
+-- How a line begins, by its kind: the lead of a directive, or a letter and a colon.
 pub record IsLed (line : List ℕ) : Type 0 where
   pub lead : Lead
   pub text : List ℕ
@@ -93,7 +93,7 @@ lead-text : (lead : Lead) (text : List ℕ) → field_text (lead_spelled lead ++
 lead-text percents text = refl
 lead-text instruction text = refl
 
--- The name of a directive, and what it says.
+-- The name of a directive, and its text.
 abbrev unblank : ℕ → Bool
 unblank b = not (is_blank b)
 
@@ -105,7 +105,7 @@ stops-parts : (s : List ℕ) → Stops unblank s → EndsWord s
 stops-parts [] stops = tt
 stops-parts (b ∷ s) stops = not-false (is_blank b) stops
 
--- the text without the blanks at its start, from its first word on
+-- the text without its leading blanks, from its first word on
 word-found : (text name after : List ℕ) → IsFirstWord text name after → after_blanks text ≡ name ++ after
 word-found text name after first =
     ap after_blanks first.cut
@@ -117,7 +117,7 @@ word-found text name after first =
     begun [] some whole = cc
     begun (b ∷ name) some whole = word-stays (b ∷ (name ++ after)) (not-true (is_blank b) (and_parts _ _ whole).0)
 
--- a directive of that name is read as it
+-- a directive with that name is read as one
 pub directive-read : (line name says : List ℕ) → IsDirective line name says → said_by name line ≡ Some says
 unfolding said_by name_of rest_of
 directive-read line name says is =
@@ -130,7 +130,7 @@ directive-read line name says is =
     rw (is.led, lead-kind is.lead is.text, lead-text is.lead is.text, word-found is.text name is.after word)
     (rw size (rw (take-append_seam name is.after, same, drop-append_seam name is.after, left) refl))
 
--- and what is read as one is a directive of that name, which has a byte
+-- and a line read as one is a directive with that name, which has a byte
 kind-takes : (line name : List ℕ) (kind : LineKind) → not (is_empty name) ≡ true → Begins line kind
     → IfSome (rest_if name line kind) (IsDirective line name)
 unfolding name_of rest_of

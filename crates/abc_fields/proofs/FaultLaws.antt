@@ -1,4 +1,4 @@
--- The fault that is found line by line, with the ids of voices carried along, is the first fault.
+-- The fault found line by line, with the ids of voices carried along, is the first fault.
 use Rattle.std.proofs.Common.{◌≡◌, refl, sym, ap, ◌∙◌, subst, ℕ, ◌<◌, List, [], ◌∷◌, ◌++◌, true, length, append_assoc}
 use Rattle.std.proofs.Common.{inl, inr}
 use Rattle.std.proofs.lemmas.{Bool.{cond_both, ltb-true, lt-ltb}, List.{append-nil, Sums.fold-append}}
@@ -20,7 +20,7 @@ use Rattle.abc_fields.specs.Headers.{key_place, put_field, fields_of, field_faul
 use Rattle.abc_fields.specs.Headers.{fault_by}
 use Rattle.abc_fields.specs.{Headers.{header_fault, IsHeaderFault}, Voicing.{ids_after, ids_of}}
 
--- The ids behind some lines, and behind one line more.
+-- The ids after some lines, and after one more line.
 ids-put : (ids : List (List ℕ)) (read : Result Field FaultKind) (fs : List Field)
     → fold ids_after ids (put_field read fs) ≡ fold ids_after (ids_with ids read) fs
 ids-put ids (Ok f) fs = refl
@@ -35,7 +35,7 @@ ids-push ids (first ∷ lines) line =
     ids-put ids read (fields_of (lines ++ line ∷ [])) ∙ ids-push (ids_with ids read) lines line
     ∙ ap (λ known. ids_with known (field_of line.text)) (sym (ids-put ids read (fields_of lines)))
 
--- A line's fault, by what it reads as.
+-- A line's fault, by the result of reading it.
 abbrev fault_of_line : List Line → Line → Option Fault
 fault_of_line before line = field_fault (ids_of (fields_of before)) line (field_of line.text)
 
@@ -67,7 +67,7 @@ fault-reaches before line fault (inr voice) =
     let many : nat_lt 16 (length (ids_after (ids_of (fields_of before)) voice.field)) ≡ true = lt-ltb 16 _ more in
     rw (line-read line.text voice.field voice.says, many) (ap Some voice.is)
 
--- The same behind lines that were passed already.
+-- The same after lines that were already passed.
 abbrev ClearBehind : List Line → List Line → Type 0
 ClearBehind done lines =
     (before : List Line) (line : Line) (after : List Line) (fault : Fault) → lines ≡ before ++ line ∷ after
@@ -134,7 +134,7 @@ found (line ∷ lines) done =
     })
     (λ none. later done line none lines (first_fault ids lines) (rw (← ids-push [] done line) (found lines passed)))
 
--- The fault of a header is the first of its lines.
+-- The fault of a header is the first fault of its lines.
 by-place : (tune : TuneText) (place : Option ℕ)
     → MatchOption (fault_by tune place) (IsClearBy tune place) (IsFaultBy tune place)
 by-place tune None = refl

@@ -1,4 +1,4 @@
--- What is read off the lines of a file header is what they state: of each kind the last.
+-- The values read from the lines of a file header are those that they state: the last of each kind.
 use Rattle.std.proofs.Common.{◌≡◌, refl, sym, ap, ◌∙◌, subst, ℕ, List, [], ◌∷◌, ◌++◌, true, inl, inr}
 use Rattle.std.proofs.lemmas.Bool.{and_parts, both_ways, cond_both, false_from_ne_true, leb-true, le-leb}
 use Rattle.std.proofs.lemmas.Option.{IfSome_then, none-some}
@@ -37,12 +37,12 @@ use Rattle.abc_fields.specs.Papers.{paper_of}
 use Rattle.abc_fields.proofs.DirectiveForms.{Begins, kind-begins, directive-takes, directive-read, word-stays}
 use Rattle.abc_fields.proofs.PaperForms.{length-writes, length-read, scale-writes, scale-read}
 
--- that a line is read as stating a value exactly where it states it
+-- a line is read as stating a value exactly when it states it
 record Reads {X : Type 0} (States : Line → X → Type 0) (f : Line → Option X) : Type 0 where
   takes : (line : Line) → IfSome (f line) (States line)
   reaches : (line : Line) (x : X) → States line x → f line ≡ Some x
 
--- The last that is stated.
+-- The last value stated.
 module _ {X : Type 0} (States : Line → X → Type 0) (f : Line → Option X) (reads : Reads States f) where
   last_more : (line : Line) (lines : List Line) (o : Option X)
       → IsLastIfAny States lines o → IsLastIfAny States (line ∷ lines) (option_or o (f line))
@@ -178,7 +178,7 @@ trimmed-once : (text : List ℕ) → trimmed (after_blanks text) ≡ trimmed tex
 unfolding trimmed
 trimmed-once text = rw (word-stays (after_blanks text) (behind-begins text)) refl
 
--- a field's text stands behind its letter and a colon, without the blanks there
+-- a field's text follows its letter, a colon and any blanks
 record HasText (letter : ℕ) (line text : List ℕ) : Type 0 where
   rest : List ℕ
   cut : line ≡ letter ∷ codes ":" ++ rest
@@ -246,7 +246,7 @@ unit-reads =
 
 -- The defaults.
 
--- what is read are the defaults
+-- the values read are the defaults
 pub defaults-are : (lines : List Line) → AreDefaultsBy lines (defaults_of lines)
 defaults-are lines =
     record {
@@ -359,7 +359,7 @@ room_of paper e =
     let parts = and_parts _ _ e in
     (leb-true 10000 (body_width paper) parts.0, leb-true 10000 (body_height paper) parts.1)
 
--- what is read is the paper
+-- the values read are the paper
 pub paper-is : (lines : List Line) → IsPaperBy lines (paper_of lines)
 unfolding paper_of
 paper-is lines =

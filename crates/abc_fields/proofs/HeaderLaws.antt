@@ -1,4 +1,4 @@
--- What good fields give is good, and the ids that fields mention are distinct.
+-- Good fields yield good values, and the ids that fields mention are distinct.
 use Rattle.std.proofs.Common.{◌≡◌, refl, ap, sym, ◌∙◌, ℕ, suc, ◌+◌, ◌≤◌, List, [], ◌∷◌, ◌++◌, Bool, true, false, map}
 use Rattle.std.proofs.Common.{length, arith, subst, cond, Bor}
 use Rattle.std.proofs.{Common.{◌<◌, get_or, drop, drop-cons, append_assoc}, lemmas.{Bool.cond_both, List.length-map}}
@@ -106,14 +106,14 @@ voices_counted fs (i ∷ ids) id =
     count_by-cons (λ (def : VoiceDef). bytes_eq id def.id) (voice_from fs i) (map (voice_from fs) ids)
     ∙ ap (λ n. cond (bytes_eq id i) 1 0 + n) (voices_counted fs ids id) ∙ sym (count_by-cons (bytes_eq id) i ids)
 
--- no two voices of fields have one id
+-- no two voices of fields have the same id
 pub voices-distinct : (fs : List Field) → AreDistinct (voices_of fs)
 voices-distinct fs id = rw (voices_counted fs (ids_of fs) id) (once_all fs [] (λ x. omega arith) id)
 
 pub voices-few : (fs : List Field) → length (ids_of fs) ≤ 16 → length (voices_of fs) ≤ 16
 voices-few fs few = omega (arith, length-map (ids_of fs) (voice_from fs))
 
--- how far the lines of a header were read: what is left, with what was read, is the whole
+-- how far the lines of a header have been read: what is left, with what was read, is the whole
 pub record Stage (lines : List Line) (i : ℕ) (done : List Field) (known : List (List ℕ)) : Type 0 where
   pub fields_so_far : done ++ fields_of (drop i lines) ≡ fields_of lines
   pub ids_so_far : fold ids_after known (fields_of (drop i lines)) ≡ ids_of (fields_of lines)

@@ -1,4 +1,4 @@
--- A text reads as a length, or as a scale, exactly where a good form of it spells the text.
+-- A text reads as a length, or as a scale, exactly when a good form of it spells the text.
 use Rattle.std.proofs.Common.{◌≡◌, refl, sym, ap, ◌∙◌, subst, ℕ, ◌+◌, ◌*◌, ◌≤◌, List, [], ◌∷◌, ◌++◌, true, length, take}
 use Rattle.std.proofs.Common.{drop, arith}
 use Rattle.std.proofs.lemmas.Bool.{and_parts, cond_both, leb-true, le-leb}
@@ -18,7 +18,7 @@ use Rattle.abc_fields.specs.PaperSpelling.{PaperNumber, point_spelled, number_sp
 use Rattle.abc_fields.specs.PaperSpelling.{LengthUnit, points, inches}
 use Rattle.abc_fields.specs.PaperSpelling.{centimetres, length_unit_spelled, in_points, WritesLength, WritesScale}
 
--- A good number is read, and what follows it is left.
+-- A good number is read, and the text after it is left.
 digits-cut : (ds s : List ℕ) → list_all is_digit ds ≡ true → Stops is_digit s
     → (take (digit_len (ds ++ s)) (ds ++ s) ≡ ds) × (drop (digit_len (ds ++ s)) (ds ++ s) ≡ s)
 digits-cut ds s all stops =
@@ -63,7 +63,7 @@ number-read number rest good few stops none =
     rw (cut.0, cut.1, whole-read number.whole good.some few)
     (decimals-read (value_of number.whole) number.decimals rest good.few good.decimal_digits stops none)
 
--- What is read is a good number.
+-- A number that is read is good.
 record IsNumberBefore (s : List ℕ) (z : ℕ × List ℕ) : Type 0 where
   number : PaperNumber
   good : IsGoodNumber number
@@ -159,14 +159,14 @@ unit-takes v w =
     word_case (λ o. IfSome o (IsUnit w v)) w (codes "cm") _ _
     (λ is. record { unit = centimetres; spelled = is; meant = refl }) (λ _. tt)))
 
--- a length of paper has no number past 100,000 before its point
+-- a paper length has no number above 100,000 before its point
 few_points : (unit : LengthUnit) (w d : ℕ) → in_points unit (100 * w + d) ≤ 100000 → w ≤ 100000
 few_points points w d few = omega (arith, few)
 few_points _ w d few = omega (arith, few)
 
 -- Lengths.
 
--- a text reads as a length only where a good form of it spells the text
+-- a text reads as a length only if a good form of it spells the text
 pub length-writes : (text : List ℕ) → IfSome (length_of text) (WritesLength text)
 unfolding length_of
 length-writes text =
@@ -183,7 +183,7 @@ length-writes text =
     })
     (λ many. tt)))
 
--- and wherever one does
+-- and whenever one does
 pub length-read : (text : List ℕ) (size : ℕ) → WritesLength text size → length_of text ≡ Some size
 unfolding length_of
 length-read text size writes =
@@ -197,7 +197,7 @@ length-read text size writes =
 
 -- The scale.
 
--- a text reads as a scale only where a good form of it spells the text
+-- a text reads as a scale only if a good form of it spells the text
 pub scale-writes : (text : List ℕ) → IfSome (scale_of text) (WritesScale text)
 unfolding scale_of
 scale-writes text =
@@ -220,7 +220,7 @@ alone-pointless : after_prefix (codes ".") [] ≡ None
 unfolding after_prefix
 alone-pointless = refl
 
--- and wherever one does
+-- and whenever one does
 pub scale-read : (text : List ℕ) (percent : ℕ) → WritesScale text percent → scale_of text ≡ Some percent
 unfolding scale_of
 scale-read text percent writes =

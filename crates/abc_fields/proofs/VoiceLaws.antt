@@ -1,4 +1,4 @@
--- Ids kept as keys of a set are the ids by their bytes.
+-- Ids kept as keys of a set are the same as ids kept as bytes.
 use Rattle.std.proofs.Common.{◌≡◌, refl, ap, sym, ◌∙◌, ℕ, List, [], ◌∷◌, ◌++◌, map, suc, ◌+◌, ◌<◌, length, get_or, drop}
 use Rattle.std.proofs.Common.{drop-cons, append_assoc}
 use Rattle.std.{proofs.{Common.{arith}, lemmas.{List.map-append, Simd.map-map}}, specs.{Prelude.◌||◌, List.list_any}}
@@ -21,12 +21,12 @@ names_insert f ks k =
     rw (sym (any_by_name f ks k))
     (by_test (list_any (λ y. bytes_eq (f k) (f y)) ks) (λ e. rw e refl) (λ e. rw e (map-append f ks (k ∷ []))))
 
--- voices by the ids that keys have
+-- voices by the ids of keys
 pub voices_by_key : {X : Type 0} (f : X → List ℕ) (fs : List Field) (ks : List X)
     → map (λ k. voice_from fs (f k)) ks ≡ map (voice_from fs) (map f ks)
 voices_by_key f fs ks = sym (map-map (voice_from fs) f ks)
 
--- one voice more is made, of the key at this place
+-- one more voice is made, from the key at this index
 pub voices-more : {X : Type 0} (f : X → VoiceDef) (ids : List X) (i : ℕ) (item : X) (done new : List VoiceDef)
     (def : VoiceDef)
     → i < length ids → item ≡ get_or ids i item → new ≡ done ++ def ∷ [] → def ≡ f item

@@ -1,4 +1,4 @@
--- What the file header sets for every tune: the last good value of each kind counts.
+-- The file header's settings for every tune: the last good value of each kind counts.
 use Prim.Native.Char.{code}
 use Rattle.std.specs.Prelude.{ℕ, List, true, false, ◌==◌, if◌then◌else◌, codes, Option, Some, None, unwrap_or}
 use Rattle.std.specs.Option.{option_and_then, option_map}
@@ -15,7 +15,7 @@ use Rattle.abc_field.specs.Last.{last_of}
 use Rattle.abc_field.specs.Meters.{meter_of, unit_of}
 use Rattle.abc_fields.specs.declared.defaults.Defaults.{Defaults}
 
--- the text of a field, where the line is one of that letter
+-- the text of a field, if the line is one with that letter
 abbrev pub text_if : ℕ → List ℕ → LineKind → Option (List ℕ)
 text_if letter text (LineKind.Field other) = if other == letter then Some (field_text text) else None
 text_if letter text _ = None
@@ -23,7 +23,7 @@ text_if letter text _ = None
 unfoldable pub text_of : ℕ → List ℕ → Option (List ℕ)
 text_of letter text = text_if letter text (kind_of text)
 
--- what a directive says, where the line is one of that name
+-- the text of a directive, if the line is one with that name
 abbrev pub rest_named : List ℕ → List ℕ → Option (List ℕ)
 rest_named name text = if bytes_eq (name_of text) name then Some (rest_of text) else None
 
@@ -49,11 +49,11 @@ line_spread line = option_and_then spread_of (said_by (codes "propagate-accident
 abbrev pub line_of : ℕ → List ℕ → Line
 line_of number text = record { number = number; text = text }
 
--- what a line says of staves, with its number
+-- the text of a `%%score` line, with its number
 unfoldable pub line_staves : Line → Option Line
 line_staves line = option_map (line_of line.number) (said_by (codes "score") line.text)
 
--- without any, line ends and `$` break lines
+-- the default: line ends and `$` break lines
 abbrev pub default_breaks : Breaks
 default_breaks = record { eol = true; dollar = true; bang = false }
 

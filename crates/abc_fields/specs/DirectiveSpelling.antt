@@ -1,5 +1,5 @@
--- How a directive is written: `%%` or `I:`, which mean the same, then its name, with blanks before
--- it or not, and behind it what the directive says, between blanks.
+-- The form of a directive: `%%` or `I:`, which mean the same, then optional blanks, then its name, then its text
+-- between blanks.
 use Rattle.std.specs.Prelude.{◌≡◌, ℕ, List, [], ◌∷◌, ◌++◌, IsTrue, ⊤, not, reverse, codes}
 use Rattle.{abc_lines.specs.Kinds.{is_blank}, abc_field.specs.WordSpelling.{IsFirstWord, IsBetweenBlanks}}
 
@@ -11,16 +11,16 @@ abbrev pub lead_spelled : Lead → List ℕ
 lead_spelled percents = codes "%%"
 lead_spelled instruction = codes "I:"
 
--- no blank stands first
+-- does not begin with a blank
 abbrev pub BeginsBare : List ℕ → Type 0
 BeginsBare [] = ⊤
 BeginsBare (b ∷ s) = IsTrue (not (is_blank b))
 
--- no blank stands at either end
+-- has no blank at either end
 abbrev pub HasBareEnds : List ℕ → Type 0
 HasBareEnds s = BeginsBare s × BeginsBare (reverse s)
 
--- the line is a directive of that name that says this
+-- the line is a directive with that name and this text
 pub record IsDirective (line name says : List ℕ) : Type 0 where
   pub lead : Lead
   pub text : List ℕ

@@ -1,5 +1,5 @@
--- What the file header states for all tunes and of the paper, and a tune's header of its staves: of
--- each kind the last line that states one counts, and a line in another form states nothing.
+-- What the file header states for all tunes and the paper, and what a tune's header states about its staves. For each
+-- kind the last line that states one counts; a line in another form states nothing.
 use Rattle.std.specs.{Prelude.{◌≡◌, ◌⊎◌, ◌≤◌, ℕ, List, [], ◌∷◌, ◌++◌, ⊤, Option, Some, None, codes}, Option.option_map}
 use Rattle.mus_units.specs.declared.key.Meter.{Meter}
 use Rattle.mus_units.specs.declared.key.Spread.{Spread}
@@ -46,7 +46,7 @@ pub record StatesStaves (line : Line) (staves : Line) : Type 0 where
   pub directive : IsDirective line.text (codes "score") staves.text
   pub number : staves.number ≡ line.number
 
--- a directive of that name and a length
+-- a directive with that name and a length
 pub record StatesLength (name : List ℕ) (line : Line) (size : ℕ) : Type 0 where
   pub text : List ℕ
   pub directive : IsDirective line.text name text
@@ -57,14 +57,14 @@ pub record StatesScale (line : Line) (percent : ℕ) : Type 0 where
   pub directive : IsDirective line.text (codes "scale") text
   pub writes : WritesScale text percent
 
--- What all lines state.
+-- What all lines together state.
 
 -- none of the lines states one
 abbrev pub AreSilent : {X : Type 0} → (Line → X → Type 0) → List Line → Type 0
 AreSilent States [] = ⊤
 AreSilent {X} States (line ∷ lines) = ((x : X) → States line x → ⊥) × AreSilent States lines
 
--- a line states it, and no line behind that one states another
+-- a line states it, and no line after that one states another
 pub record IsLastOf {X : Type 0} (States : Line → X → Type 0) (lines : List Line) (x : X) : Type 0 where
   pub before : List Line
   pub line : Line
@@ -73,7 +73,7 @@ pub record IsLastOf {X : Type 0} (States : Line → X → Type 0) (lines : List 
   pub states : States line x
   pub silent : AreSilent States after
 
--- the last that is stated, or this one where none is
+-- the last value stated, or this one if there is none
 abbrev pub IsLastOr : {X : Type 0} → (Line → X → Type 0) → X → List Line → X → Type 0
 IsLastOr States default lines x = IsLastOf States lines x ⊎ (AreSilent States lines × (x ≡ default))
 
@@ -89,8 +89,8 @@ pub record AreDefaultsBy (lines : List Line) (defaults : Defaults) : Type 0 wher
   pub spread : IsLastOr StatesSpread Spread.Pitch lines defaults.spread
   pub staves : IsLastIfAny StatesStaves lines defaults.staves
 
--- The staves of a tune whose header has these lines and whose first line has this number: the last
--- that its lines state, else the file's, told of at that line.
+-- The staves of a tune whose header has these lines and whose first line has this number: the last that its lines
+-- state, or else the file's, placed at that first line.
 abbrev pub AreStavesBy : List Line → ℕ → Option Line → Option Line → Type 0
 AreStavesBy lines first other staves =
     ((own : Line) × IsLastOf StatesStaves lines own × (staves ≡ Some own))
@@ -105,7 +105,7 @@ AreStavesUpTo tune other (Some place) staves =
 abbrev pub AreStavesOf : TuneText → Defaults → Option Line → Type 0
 AreStavesOf tune defaults staves = AreStavesUpTo tune defaults.staves (key_place tune.lines) staves
 
--- each value is the last that is stated, or its default
+-- each value is the last one stated, or its default
 pub record IsStatedPaper (lines : List Line) (paper : Paper) : Type 0 where
   pub wide : IsLastOr (StatesLength (codes "pagewidth")) default_paper.wide lines paper.wide
   pub high : IsLastOr (StatesLength (codes "pageheight")) default_paper.high lines paper.high
@@ -115,12 +115,12 @@ pub record IsStatedPaper (lines : List Line) (paper : Paper) : Type 0 where
   pub bottom : IsLastOr (StatesLength (codes "botmargin")) default_paper.bottom lines paper.bottom
   pub scale : IsLastOr StatesScale default_paper.scale lines paper.scale
 
--- the body is at least 10,000 hundredths of a point wide and as high
+-- the body is at least 10,000 hundredths of a point wide and high
 abbrev pub HasBodyRoom : Paper → Type 0
 HasBodyRoom paper = (10000 ≤ body_width paper) × (10000 ≤ body_height paper)
 
--- The paper of a book whose file header has these lines: the stated one where its body has room, and all the defaults
--- where it has not.
+-- The paper of a book whose file header has these lines: the stated paper if its body has room, or else all the
+-- defaults.
 pub record IsPaperBy (lines : List Line) (paper : Paper) : Type 0 where
   pub stated : Paper
   pub states : IsStatedPaper lines stated

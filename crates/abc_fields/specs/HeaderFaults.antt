@@ -1,4 +1,4 @@
--- When a line of a header is at fault, by the lines before it, and which fault is the first.
+-- When a line of a header is at fault, given the lines before it, and which fault is the first.
 use Rattle.std.specs.Prelude.{◌≡◌, ◌<◌, ◌⊎◌, ℕ, List, [], ◌∷◌, ◌++◌, length, ⊤, Option, Some, None}
 use Rattle.abc_lines.specs.declared.book.Line.{Line}
 use Rattle.abc_lines.specs.declared.book.TuneText.{TuneText}
@@ -10,30 +10,30 @@ use Rattle.abc_field.specs.FieldSpelling.{Says, IsBad}
 use Rattle.abc_fields.specs.Headers.{key_place, fields_of, line_fault, head_lines, no_key}
 use Rattle.abc_fields.specs.Voicing.{ids_of}
 
--- the text of the line is in no good form of its letter
+-- the text of the line has no good form for its letter
 pub record HasBadText (line : Line) (fault : Fault) : Type 0 where
   pub kind : FaultKind
   pub bad : IsBad line.text kind
   pub is : line_fault kind line ≡ fault
 
--- the line says a field with which more than 16 voices are mentioned
+-- the line is a field with which more than 16 voices are mentioned
 pub record HasVoiceTooMany (before : List Line) (line : Line) (fault : Fault) : Type 0 where
   pub field : Field
   pub says : Says line.text field
   pub many : 16 < length (ids_of (fields_of before ++ field ∷ []))
   pub is : line_fault FaultKind.TooManyVoices line ≡ fault
 
--- the fault that a line is behind these lines
+-- the fault of a line that follows these lines
 abbrev pub IsFaultBehind : List Line → Line → Fault → Type 0
 IsFaultBehind before line fault = HasBadText line fault ⊎ HasVoiceTooMany before line fault
 
--- none of the lines is at fault behind those before it
+-- no line is at fault after those before it
 abbrev pub AreClear : List Line → Type 0
 AreClear lines =
     (before : List Line) (line : Line) (after : List Line) (fault : Fault)
     → lines ≡ before ++ line ∷ after → IsFaultBehind before line fault → ⊥
 
--- the first fault: its line is at fault behind those before it, and none of these is
+-- the first fault: its line is at fault after those before it, and none of these is
 pub record IsFirstFault (lines : List Line) (fault : Fault) : Type 0 where
   pub before : List Line
   pub line : Line
@@ -42,8 +42,8 @@ pub record IsFirstFault (lines : List Line) (fault : Fault) : Type 0 where
   pub is : IsFaultBehind before line fault
   pub clear : AreClear before
 
--- the fault of a tune's header: of a tune without `K:` at its first line,
--- else the first fault of the lines up to the first `K:`
+-- the fault of a tune's header: without `K:` at the tune's first line, or else the first fault of the lines up to the
+-- first `K:`
 abbrev pub IsFaultBy : TuneText → Option ℕ → Fault → Type 0
 IsFaultBy tune None fault = no_key tune ≡ fault
 IsFaultBy tune (Some place) fault = IsFirstFault (head_lines tune place) fault
@@ -59,7 +59,7 @@ IsClearBy tune (Some place) = AreClear (head_lines tune place)
 abbrev pub IsClearHeader : TuneText → Type 0
 IsClearHeader tune = IsClearBy tune (key_place tune.lines)
 
--- why there is no header: its fault, or want of memory
+-- why there is no header: its fault, or out of memory
 abbrev pub IsHeaderRefusal : TuneText → TuneError → Type 0
 IsHeaderRefusal tune TuneError.Memory = ⊤
 IsHeaderRefusal tune (TuneError.Fault fault) = IsFaultOfHeader tune fault

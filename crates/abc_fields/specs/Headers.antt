@@ -1,4 +1,4 @@
--- The header of a tune: what counts of its lines up to the first `K:`, and its first fault.
+-- The header of a tune: the values of its lines up to the first `K:`, and its first fault.
 use Prim.Native.Char.{code}
 use Rattle.std.specs.Prelude.{◌≡◌, ℕ, ◌+◌, ◌≤◌, List, [], ◌∷◌, Bool, nat_lt, if◌then◌else◌, length, take, position}
 use Rattle.std.specs.Prelude.{Option, Some, None, Result, Ok, Err, is_some, unwrap_or, ⊤, count_by}
@@ -29,14 +29,14 @@ use Rattle.abc_field.specs.Keys.{key_over}
 use Rattle.abc_field.specs.Last.{last_of}
 use Rattle.abc_field.specs.Meters.{default_unit}
 
--- the place of the first `K:`
+-- the index of the first `K:`
 abbrev pub is_key_line : Line → Bool
 is_key_line line = is_some (text_of (code "K") line.text)
 
 abbrev pub key_place : List Line → Option ℕ
 key_place lines = position is_key_line lines
 
--- What each kind of field gives.
+-- The values of each kind of field.
 abbrev pub title_in : Field → Option (List ℕ)
 title_in (Field.Title text) = Some text
 title_in _ = None
@@ -69,7 +69,7 @@ abbrev pub spread_in : Field → Option Spread
 spread_in (Field.Spread spread) = Some spread
 spread_in _ = None
 
--- the header's key is laid on no sign, and its clef is treble where none is named
+-- the header's key is applied to no accidentals, and its clef is treble if none is named
 abbrev pub key_signs : Option KeyText → List Sign
 key_signs None = []
 key_signs (Some key) = key_over [] key
@@ -78,7 +78,7 @@ abbrev pub key_clef : Option KeyText → Clef
 key_clef None = Clef.Treble
 key_clef (Some key) = unwrap_or key.clef Clef.Treble
 
--- the tune's last unit, else the file's, else by the tune's meter
+-- the tune's last unit, or else the file's, or else the one for the tune's meter
 abbrev pub unit_by : Option Frac → Option Frac → Meter → Frac
 unit_by (Some unit) other meter = unit
 unit_by None (Some unit) meter = unit
@@ -87,14 +87,14 @@ unit_by None None meter = default_unit meter
 abbrev pub meter_from : List Field → Defaults → Meter
 meter_from fs defaults = unwrap_or (last_of meter_in fs) defaults.meter
 
--- the tune's last `%%score`, else the file's, which is told of at the tune's first line
+-- the tune's last `%%score`, or else the file's, placed at the tune's first line
 abbrev pub staves_by : Option Line → Option Line → ℕ → Option Line
 staves_by own other first = option_or own (option_map (λ (line : Line). line_of first line.text) other)
 
 abbrev pub staves_from : List Line → Defaults → ℕ → Option Line
 staves_from lines defaults first = staves_by (last_of line_staves lines) defaults.staves first
 
--- of each kind the last counts, and every title and composer
+-- the last value of each kind counts, and every title and composer
 abbrev pub header_of : List Field → Defaults → Option Line → ℕ → Header
 header_of fs defaults staves body = record {
   titles = filter_map title_in fs;
@@ -120,7 +120,7 @@ abbrev pub fields_of : List Line → List Field
 fields_of [] = []
 fields_of (line ∷ lines) = put_field (field_of line.text) (fields_of lines)
 
--- Faults. A line is at fault where its field is, or where it mentions a seventeenth voice.
+-- Faults. A line is at fault if its field is, or if it mentions a seventeenth voice.
 abbrev pub line_fault : FaultKind → Line → Fault
 line_fault kind line = record { kind = kind; line = line.number; column = 1 }
 
@@ -133,13 +133,13 @@ abbrev pub ids_with : List (List ℕ) → Result Field FaultKind → List (List 
 ids_with ids (Ok f) = ids_after ids f
 ids_with ids (Err kind) = ids
 
--- the fault of the first line that has one, where those ids were mentioned before
+-- the fault of the first line that has one, if those ids were mentioned before
 abbrev pub first_fault : List (List ℕ) → List Line → Option Fault
 first_fault ids [] = None
 first_fault ids (line ∷ lines) =
     option_or (field_fault ids line (field_of line.text)) (first_fault (ids_with ids (field_of line.text)) lines)
 
--- the lines of the header, the first `K:` with them
+-- the lines of the header, including the first `K:`
 abbrev pub head_lines : TuneText → ℕ → List Line
 head_lines tune place = take (place + 1) tune.lines
 
@@ -150,7 +150,7 @@ first_line_number (line ∷ lines) = line.number
 abbrev pub no_key : TuneText → Fault
 no_key tune = record { kind = FaultKind.NoKey; line = first_line_number tune.lines; column = 1 }
 
--- the header's fault, if it has one: without a `K:` it is at the `X:`, else the first of its lines
+-- the header's fault, if any: without a `K:` it is at the `X:`, or else it is the first fault of its lines
 abbrev pub fault_by : TuneText → Option ℕ → Option Fault
 fault_by tune None = Some (no_key tune)
 fault_by tune (Some place) = first_fault [] (head_lines tune place)
@@ -178,7 +178,7 @@ abbrev pub AreGoodFields : List Field → Type 0
 AreGoodFields [] = ⊤
 AreGoodFields (f ∷ fs) = IsGoodField f × AreGoodFields fs
 
--- no two voices have one id
+-- no two voices have the same id
 abbrev pub AreDistinct : List VoiceDef → Type 0
 AreDistinct defs = (id : List ℕ) → count_by (λ (def : VoiceDef). bytes_eq id def.id) defs ≤ 1
 

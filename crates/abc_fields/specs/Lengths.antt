@@ -1,4 +1,4 @@
--- Lengths of paper and its scale: numbers with up to two decimals, and a unit.
+-- Paper lengths and the paper scale: numbers with up to two decimals, and a unit.
 use Prim.Native.Char.{code}
 use Rattle.std.specs.Prelude.{ℕ, ◌+◌, ◌-◌, ◌*◌, ◌/◌, List, [], ◌∷◌, Bool, ◌&&◌, nat_le, if◌then◌else◌, take, drop}
 use Rattle.std.specs.Prelude.{codes, Option, Some, None}
@@ -7,11 +7,11 @@ use Rattle.std.specs.Option.{option_and_then}
 use Rattle.std.specs.Str.{bytes_eq}
 use Rattle.abc_field.specs.{Numbers.is_digit, Numbers.value_of, Words.after_prefix}
 
--- the digits at the front, and what follows them
+-- the leading digits, and what follows them
 abbrev pub digit_len : List ℕ → ℕ
 digit_len s = prefix_len is_digit s
 
--- so many hundredths, and what follows the number
+-- a number in hundredths, and what follows it
 abbrev pub with_decimals : ℕ → List ℕ → List ℕ → Option (ℕ × List ℕ)
 with_decimals whole (a ∷ []) rest = Some (whole * 100 + (a - code "0") * 10, rest)
 with_decimals whole (a ∷ b ∷ []) rest = Some (whole * 100 + ((a - code "0") * 10 + (b - code "0")), rest)
@@ -23,7 +23,7 @@ decimals whole rest None = Some (whole * 100, rest)
 decimals whole rest (Some behind_point) =
     with_decimals whole (take (digit_len behind_point) behind_point) (drop (digit_len behind_point) behind_point)
 
--- no number that counts is past 100000
+-- no number that counts is above 100000
 abbrev pub whole_of : List ℕ → Option ℕ
 whole_of [] = None
 whole_of (d ∷ ds) = if nat_le (value_of (d ∷ ds)) 100000 then Some (value_of (d ∷ ds)) else None
@@ -33,14 +33,14 @@ hundredths_of s =
     option_and_then (λ whole. decimals whole (drop (digit_len s) s) (after_prefix (codes ".") (drop (digit_len s) s)))
     (whole_of (take (digit_len s) s))
 
--- hundredths of a point in that many hundredths of a unit
+-- that many hundredths of a unit in hundredths of a point
 abbrev pub in_units : ℕ → List ℕ → Option ℕ
 in_units v w =
     if bytes_eq w (codes "pt") then Some v
     else (if bytes_eq w (codes "in") then Some (72 * v)
     else (if bytes_eq w (codes "cm") then Some (v * 3600 / 127) else None))
 
--- a length past 100000 is none
+-- a length above 100000 is none
 abbrev pub within_paper : ℕ → Option ℕ
 within_paper u = if nat_le u 100000 then Some u else None
 

@@ -1,15 +1,15 @@
--- How lengths of paper and the scale are written: each form with its spelling, when it is good, and
--- what it means. A number is one or more digits, and then nothing or a point and one or two digits.
+-- How paper lengths and the scale are written: each form with its spelling, when it is good, and what it means. A
+-- number is one or more digits, optionally followed by a point and one or two digits.
 use Rattle.std.specs.Prelude.{◌≡◌, ℕ, ◌+◌, ◌*◌, ◌/◌, ◌≤◌, List, [], ◌∷◌, ◌++◌, IsTrue, length, take, codes}
 use Rattle.std.specs.List.{list_all}
 use Rattle.abc_field.specs.Numbers.{is_digit, value_of}
 
--- a number as its digits before the point and behind it; without any behind it there is no point
+-- a number as its digits before and after the point; if there are none after it, there is no point
 pub record PaperNumber : Type 0 where
   pub whole : List ℕ
   pub decimals : List ℕ
 
--- The spelling of each form stands in front of what follows it.
+-- The spelling of each form, followed by the rest of the text.
 abbrev pub point_spelled : List ℕ → List ℕ → List ℕ
 point_spelled [] rest = rest
 point_spelled (d ∷ ds) rest = codes "." ++ ((d ∷ ds) ++ rest)
@@ -23,7 +23,7 @@ pub record IsGoodNumber (number : PaperNumber) : Type 0 where
   pub few : length number.decimals ≤ 2
   pub decimal_digits : IsTrue (list_all is_digit number.decimals)
 
--- how many hundredths a number is: a decimal that is not written is a zero
+-- a number in hundredths; an unwritten decimal is a zero
 abbrev pub hundredths : PaperNumber → ℕ
 hundredths number = 100 * value_of number.whole + value_of (take 2 (number.decimals ++ codes "00"))
 
@@ -38,14 +38,14 @@ length_unit_spelled points = codes "pt"
 length_unit_spelled inches = codes "in"
 length_unit_spelled centimetres = codes "cm"
 
--- So many hundredths of a unit, in hundredths of a point. An inch is 72 points, and 127 hundredths of
--- a centimetre are half an inch, 3600 hundredths of a point; what is left over is dropped.
+-- Hundredths of a unit in hundredths of a point. An inch is 72 points, and 127 hundredths of a centimetre are half an
+-- inch, 3600 hundredths of a point; the remainder is dropped.
 abbrev pub in_points : LengthUnit → ℕ → ℕ
 in_points points v = v
 in_points inches v = 72 * v
 in_points centimetres v = v * 3600 / 127
 
--- the text is how that many hundredths of a point are written; no length of paper is past 100,000
+-- the text writes that many hundredths of a point; no paper length is above 100,000
 pub record WritesLength (text : List ℕ) (size : ℕ) : Type 0 where
   pub number : PaperNumber
   pub unit : LengthUnit
@@ -54,7 +54,7 @@ pub record WritesLength (text : List ℕ) (size : ℕ) : Type 0 where
   pub meant : in_points unit (hundredths number) ≡ size
   pub small : size ≤ 100000
 
--- the text is how that scale is written: a number of 0.40 to 1.50, here in percent
+-- the text writes that scale: a number from 0.40 to 1.50, here in percent
 pub record WritesScale (text : List ℕ) (percent : ℕ) : Type 0 where
   pub number : PaperNumber
   pub good : IsGoodNumber number

@@ -23,7 +23,7 @@ scale_in lines = unwrap_or (last_of line_scale lines) 100
 abbrev pub default_paper : Paper
 default_paper = record { wide = 59500; high = 84200; left = 5100; right = 5100; top = 2800; bottom = 2800; scale = 100 }
 
--- what stands in the file header, in hundredths of a point
+-- the paper that the file header states, in hundredths of a point
 abbrev pub stated : List Line → Paper
 stated lines = record {
   wide = length_in (codes "pagewidth") 59500 lines;
@@ -45,14 +45,14 @@ body_width p = left_by p.wide p.left p.right p.scale
 abbrev pub body_height : Paper → ℕ
 body_height p = left_by p.high p.top p.bottom p.scale
 
--- where the body is too small, all values are the defaults
+-- if the body is too small, all values are the defaults
 abbrev pub is_wide_enough : Paper → Bool
 is_wide_enough p = nat_le 10000 (body_width p) && nat_le 10000 (body_height p)
 
 unfoldable pub paper_of : List Line → Paper
 paper_of lines = if is_wide_enough (stated lines) then stated lines else default_paper
 
--- no value past 100000, a scale of 40 to 150, and a body of at least 10000 each way
+-- no value above 100000, a scale of 40 to 150, and a body of at least 10000 each way
 pub record IsGoodPaper (p : Paper) : Type 0 where
   pub small_wide : p.wide ≤ 100000
   pub small_high : p.high ≤ 100000

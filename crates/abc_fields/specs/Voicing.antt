@@ -1,4 +1,4 @@
--- The voices that fields name: each id once, in order of first mention, with what its lines say.
+-- The voices that fields name: each id once, in order of first mention, with what its lines set.
 use Rattle.std.specs.Prelude.{ℕ, List, [], ◌∷◌, ◌++◌, ◌&&◌, if◌then◌else◌, map, fold, Option, Some, None, is_some}
 use Rattle.std.specs.Prelude.{unwrap_or}
 use Rattle.std.specs.List.{list_any}
@@ -9,7 +9,7 @@ use Rattle.abc_field.specs.declared.voice.VoiceDef.{VoiceDef}
 use Rattle.abc_field.specs.declared.field.Field.{Field}
 use Rattle.abc_field.specs.Last.{last_of}
 
--- an id that stands there already doesn't come again
+-- an id that is already there is not added again
 abbrev pub with_id : List (List ℕ) → List ℕ → List (List ℕ)
 with_id ids id = if list_any (bytes_eq id) ids then ids else ids ++ id ∷ []
 
@@ -17,7 +17,7 @@ abbrev pub ids_after : List (List ℕ) → Field → List (List ℕ)
 ids_after ids (Field.Voice def) = with_id ids def.id
 ids_after ids _ = ids
 
--- the ids that fields mention, each once, the first mentioned first
+-- the ids that fields mention, each once, in order of first mention
 abbrev pub ids_of : List Field → List (List ℕ)
 ids_of fs = fold ids_after [] fs
 
@@ -29,7 +29,7 @@ abbrev pub wish_for : List ℕ → Field → Option Wish
 wish_for id (Field.Voice def) = if bytes_eq def.id id && def.asks then Some def.stem else None
 wish_for id _ = None
 
--- the last clef and the last way of stems that its lines name
+-- the last clef and the last stem direction that its lines name
 abbrev pub voice_from : List Field → List ℕ → VoiceDef
 voice_from fs id = record {
   id = id;

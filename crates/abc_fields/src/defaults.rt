@@ -15,8 +15,8 @@ use mus_units::bytes::is_same;
 use mus_units::{Frac, Memory, Meter, Spread, Text};
 use std::alloc::Global;
 
-/// What the file header sets for every tune. Without a unit each tune's own meter
-/// decides it. `staves` is the line of the last `%%score`: its number, and what it says.
+/// The file header's settings for every tune. If `unit` is `None`, each tune's own meter determines it. `staves` is
+/// the line of the last `%%score`: its number and its text.
 #[derive(Drop)]
 pub struct Defaults {
     pub meter: Meter,
@@ -26,7 +26,7 @@ pub struct Defaults {
     pub staves: Option<Line>,
 }
 
-/// What a `%%score` says, and the number of its line.
+/// The text of a `%%score` and the number of its line.
 #[derive(Clone, Copy)]
 pub(crate) struct StavesDirective<'a> {
     pub(crate) number: u32,
@@ -34,7 +34,7 @@ pub(crate) struct StavesDirective<'a> {
 }
 
 impl StavesDirective<'_> {
-    /// The same as a line of its own.
+    /// Returns it as an owned line.
     pub(crate) fn to_line(self, alloc: Global) -> Result<Line, Memory>
         ensures { IfOk result (λ line. line ≡ line_of self.entry.number self.entry.text.now) }
     {
@@ -45,8 +45,8 @@ impl StavesDirective<'_> {
     }
 }
 
-/// The last good values of the file header, else free meter, no unit, breaks at
-/// line ends and `$`, and signs that reach every octave; and its last `%%score`.
+/// Returns the last good values in the file header, or else free meter, no unit, breaks at line ends and `$`, and
+/// accidentals that apply in every octave; and its last `%%score`.
 pub fn read_defaults(alloc: Global, book: &Book) -> Result<Defaults, Memory>
     ensures states { IfOk result (AreDefaultsBy book.now.header) }
     ensures only { IfOk result (λ d. (defaults : Defaults) → AreDefaultsBy book.now.header defaults → defaults ≡ d) }
@@ -74,7 +74,7 @@ fn defaults_of(alloc: Global, book: &Book) -> Result<Defaults, Memory>
     })
 }
 
-/// The line of the last `%%score`.
+/// Returns the line of the last `%%score`.
 pub(crate) fn last_staves(alloc: Global, lines: &[Line]) -> Result<Option<Line>, Memory>
     ensures { IfOk result (λ last. last ≡ last_of line_staves lines.now) }
 {
@@ -84,7 +84,7 @@ pub(crate) fn last_staves(alloc: Global, lines: &[Line]) -> Result<Option<Line>,
     }
 }
 
-/// What the last `%%score` says.
+/// Returns the text of the last `%%score`.
 #[tactic(auto, unfolding(crate::specs::Defaults::line_staves))]
 fn staves_said(lines: &[Line]) -> Option<StavesDirective<'_>>
     ensures { option_map (λ said. line_of said.number said.text.now) result ≡ last_of line_staves lines.now }
@@ -185,7 +185,7 @@ fn line_spread(line: &Line) -> Option<Spread>
     }
 }
 
-/// The text of a field, where the line is one of that letter.
+/// Returns the text of a field if the line is one with that letter.
 #[tactic(auto, unfolding(crate::specs::Defaults::text_of))]
 pub(crate) fn text_of(letter: u8, line: &Line) -> Option<&[u8]>
     ensures { option_copied result ≡ text_of letter line.now.text }
@@ -196,7 +196,7 @@ pub(crate) fn text_of(letter: u8, line: &Line) -> Option<&[u8]>
     }
 }
 
-/// What a directive says, where the line is one of that name.
+/// Returns the text of a directive if the line is one with that name.
 #[tactic(auto, unfolding(crate::specs::Defaults::said_by))]
 pub(crate) fn said_by<'a>(name: &[u8], line: &'a Line) -> Option<&'a [u8]>
     ensures { option_copied result ≡ said_by name.now line.now.text }

@@ -28,10 +28,9 @@ use mus_pitch::with_signs;
 use mus_units::{Clef, Frac, Key, Memory, Meter, Row, Sign, Spread, Text};
 use std::alloc::Global;
 
-/// The header of a tune. `voices` are in order of first mention, each with the last
-/// clef and the last way of stems that its lines name. `staves` is what the last
-/// `%%score` says, at the number of its line, else what the file's says, at the number of
-/// the tune's first line. `body` is the index of the first line behind the `K:`.
+/// The header of a tune. `voices` are in order of first mention, each with the last clef and the last stem direction
+/// that its lines name. `staves` is the text of the tune's last `%%score` with the number of its line, or else that
+/// of the file's with the number of the tune's first line. `body` is the index of the first line after the `K:`.
 #[derive(Drop)]
 pub struct Header {
     pub titles: Row<Text>,
@@ -48,8 +47,9 @@ pub struct Header {
     pub body: u32,
 }
 
-/// The header of a tune, or its first fault: a tune without `K:` at its first line, else the first line
-/// up to the `K:` that has a fault of its field or mentions a seventeenth voice, at column 1.
+/// Returns the header of a tune, or its first fault. A tune without `K:` has its fault at its first line. Any other
+/// has it at the first line up to the `K:` that has a fault in its field or mentions a seventeenth voice, at column
+/// 1.
 pub fn read_header(alloc: Global, tune: &TuneText, defaults: &Defaults) -> Result<Header, TuneError>
     requires { IsGoodDefaults defaults.now }
     ensures value { IfOk result (λ header. IsHeaderOf tune.now defaults.now header) }
@@ -63,7 +63,7 @@ pub fn read_header(alloc: Global, tune: &TuneText, defaults: &Defaults) -> Resul
     tune_header(alloc, tune, defaults)
 }
 
-/// The header of a tune, or why there is none.
+/// Returns the header of a tune, or why there is none.
 fn tune_header(alloc: Global, tune: &TuneText, defaults: &Defaults) -> Result<Header, TuneError>
     requires { IsGoodDefaults defaults.now }
     ensures value { IfOk result (λ header. IsHeaderOf tune.now defaults.now header) }
@@ -104,7 +104,7 @@ fn header_or_fault(
     }
 }
 
-/// The fault of a tune without `K:`, at its first line.
+/// Returns the fault of a tune without `K:`, at its first line.
 fn no_key(tune: &TuneText) -> Fault
     ensures { result ≡ no_key tune.now }
 {
@@ -124,7 +124,7 @@ fn first_line_number(lines: &[Line]) -> u32
     }
 }
 
-/// The place of the first `K:`.
+/// Returns the index of the first `K:`.
 fn key_place(lines: &[Line]) -> Option<usize>
     ensures value { result ≡ key_place lines.now }
     ensures within { IfSome result (λ place. place < length lines.now) }
@@ -138,7 +138,7 @@ fn is_key_line(line: &Line) -> bool
     text_of(b'K', line).is_some()
 }
 
-/// The header that these lines are, the `K:` last, of a tune whose first line has this number.
+/// Reads the header in these lines, the `K:` last, of a tune whose first line has this number.
 fn read_head(
     alloc: Global,
     lines: &[Line],
@@ -170,7 +170,7 @@ struct HeaderFields {
     ids: VoiceIds,
 }
 
-/// The fields of lines, or the first fault among them.
+/// Returns the fields of lines, or the first fault among them.
 fn read_fields(alloc: Global, lines: &[Line]) -> Result<Result<HeaderFields, Fault>, Memory>
     ensures fields { IfOk result (λ read. IfOk read (λ r. r.fields ≡ fields_of lines.now)) }
     ensures ids { IfOk result (λ read. IfOk read (λ r. r.ids ≡ ids_of (fields_of lines.now))) }
@@ -190,7 +190,7 @@ fn read_fields(alloc: Global, lines: &[Line]) -> Result<Result<HeaderFields, Fau
     Ok(Ok(HeaderFields { fields, ids }))
 }
 
-/// The field of a line, which may mention one voice more, or the line's fault.
+/// Returns the field of a line, which may mention one more voice, or the line's fault.
 fn read_line(alloc: Global, ids: &mut VoiceIds, line: &Line) -> Result<Result<Field, Fault>, Memory>
     ensures field { IfOk result (λ read. IfOk read (λ f. field_of line.now.text ≡ Ok f)) }
     ensures ids { IfOk result (λ read. IfOk read (λ f. ids.new ≡ ids_after ids.old f)) }
@@ -207,7 +207,7 @@ fn read_line(alloc: Global, ids: &mut VoiceIds, line: &Line) -> Result<Result<Fi
     }
 }
 
-/// A field whose voice is noted, or a fault where it is the seventeenth.
+/// Records the voice that a field mentions and returns the field, or a fault if the voice is the seventeenth.
 fn noted(
     alloc: Global,
     ids: &mut VoiceIds,
@@ -229,7 +229,7 @@ fn noted(
     Ok(Ok(field))
 }
 
-/// A fault at the first column of a line.
+/// Returns a fault at the first column of a line.
 fn line_fault(kind: FaultKind, line: &Line) -> Fault
     ensures { result ≡ line_fault kind line.now }
 {
@@ -240,7 +240,7 @@ fn line_fault(kind: FaultKind, line: &Line) -> Fault
     }
 }
 
-/// The line of the tune's last `%%score`, else of the file's, at the tune's first line.
+/// Returns the line of the tune's last `%%score`, or else the file's, at the tune's first line.
 fn staves_from(
     alloc: Global,
     lines: &[Line],
@@ -261,7 +261,7 @@ fn staves_from(
     }
 }
 
-/// What counts of the fields of a header.
+/// Builds the header from its fields.
 fn header_of(
     alloc: Global,
     read: &HeaderFields,
@@ -297,7 +297,7 @@ fn header_of(
     })
 }
 
-/// The tune's last meter, else the file's.
+/// Returns the tune's last meter, or else the file's.
 fn meter_from(fields: &[Field], defaults: &Defaults) -> Meter
     requires good { AreGoodFields fields.now }
     requires defaults { IsGoodDefaults defaults.now }
@@ -332,7 +332,7 @@ fn good_unit(fields: &[Field]) -> Option<Frac>
     last_unit(fields)
 }
 
-/// The tune's last unit, else the file's, else by the tune's meter.
+/// Returns the tune's last unit, or else the file's, or else the one for the tune's meter.
 fn unit_by(own: Option<Frac>, other: Option<Frac>, meter: Meter) -> Frac
     requires own { GoodUnitIn own }
     requires other { GoodUnitIn other }
@@ -393,7 +393,7 @@ fn tempo_text(fields: &[Field]) -> Option<&[u8]>
     last
 }
 
-/// The header's key, laid on no sign.
+/// Returns the header's key, applied to no accidentals.
 fn key_of(alloc: Global, fields: &[Field]) -> Result<Key, Memory>
     requires { AreGoodFields fields.now }
     ensures value { IfOk result (λ key. key.signs ≡ key_signs (last_of key_in fields.now)) }
@@ -433,7 +433,7 @@ fn same_key(alloc: Global, key: &Key) -> Result<Key, Memory>
     Ok(Key { signs })
 }
 
-/// The header's clef, treble where none is named.
+/// Returns the header's clef, or treble if none is named.
 fn clef_of(fields: &[Field]) -> Clef
     ensures { result ≡ key_clef (last_of key_in fields.now) }
 {

@@ -1,4 +1,4 @@
-//! Lengths of paper, and its scale.
+//! Paper lengths and the paper scale.
 
 ghost use Rattle.std.specs.Prelude.{◌≡◌, ◌≤◌, ◌&&◌, nat_le, length, IfSome, IsTrue, take, drop, codes, ◌-◌};
 ghost use Rattle.std.specs.List.{prefix_len};
@@ -13,7 +13,7 @@ use abc_field::numbers::capped_value;
 use abc_field::words::after_prefix;
 use mus_units::bytes::{is_digit, is_same};
 
-/// A length of at most 100,000 hundredths of a point.
+/// Reads a length of at most 100,000 hundredths of a point.
 #[tactic(auto, unfolding(crate::specs::Lengths::length_of))]
 pub(crate) fn read_length(text: &[u8]) -> Option<u32>
     ensures value { result ≡ length_of text.now }
@@ -49,7 +49,7 @@ fn in_units(number: u64, unit: &[u8]) -> Option<u64>
     }
 }
 
-/// A scale of 40 to 150 percent.
+/// Reads a scale of 40 to 150 percent.
 #[tactic(auto, unfolding(crate::specs::Lengths::scale_of))]
 pub(crate) fn read_scale(text: &[u8]) -> Option<u16>
     ensures value { result ≡ scale_of text.now }
@@ -80,7 +80,7 @@ fn is_scale(number: u64) -> bool
     40 <= number && number <= 150
 }
 
-/// The hundredths that a number with up to two decimals has, and what follows it.
+/// Reads a number with up to two decimals. Returns it in hundredths, with what follows it.
 #[tactic(auto, unfolding(crate::specs::Lengths::hundredths_of))]
 fn hundredths_of(text: &[u8]) -> Option<(u64, &[u8])>
     ensures value { option_map (λ w. (w.0, w.1.now)) result ≡ hundredths_of text.now }
@@ -101,7 +101,7 @@ fn whole_of(digits: &[u8]) -> Option<u64>
     if value <= 100_000 { Some(value) } else { None }
 }
 
-/// The number of that whole part, with the decimals behind a point.
+/// Returns the number with this whole part, with the decimals after a point.
 fn decimals(whole: u64, rest: &[u8]) -> Option<(u64, &[u8])>
     requires { whole ≤ 100000 }
     ensures value { option_map (λ w. (w.0, w.1.now)) result
@@ -133,7 +133,7 @@ fn with_decimals<'a>(whole: u64, digits: &[u8], rest: &'a [u8]) -> Option<(u64, 
     }
 }
 
-/// The value of a digit.
+/// Returns the value of a digit.
 fn digit(byte: u8) -> u64
     ensures value { result ≡ byte - code "0" }
     ensures small { result ≤ 207 }

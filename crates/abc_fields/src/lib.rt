@@ -1,5 +1,5 @@
-//! Headers: what the lines of a tune's header say together, or its first fault, and what the file
-//! header says of the tunes and of the paper. It gives out the reader of one field of `abc_field`.
+//! Headers: the values that the lines of a tune's header give together, or its first fault, and what the file header
+//! sets for the tunes and the paper. Re-exports the reader of one field from `abc_field`.
 #![tactic(auto)]
 
 pub mod defaults;

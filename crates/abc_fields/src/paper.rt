@@ -21,8 +21,8 @@ pub struct Paper {
     pub scale: u16,
 }
 
-/// The paper that the file header states: of each directive the last good value counts. Where the body
-/// would be below 10,000 in width or height, all values are the defaults. Takes no memory.
+/// Returns the paper that the file header states: the last good value of each directive. If the body would be less
+/// than 10,000 wide or high, all values are the defaults. Takes no memory.
 pub fn read_paper(book: &Book) -> Paper
     ensures states { IsPaperBy book.now.header result }
     ensures only { (paper : Paper) → IsPaperBy book.now.header paper → paper ≡ result }
@@ -45,8 +45,8 @@ fn paper_of(book: &Book) -> Paper
     }
 }
 
-/// The width and height of the body: what the margins leave, in hundredths of a
-/// point as scaled. Takes no memory.
+/// Returns the width and height of the body: what the margins leave, in hundredths of a point as scaled. Takes no
+/// memory.
 pub fn body_of(p: &Paper) -> (u32, u32)
     requires { IsGoodPaper p.now }
     ensures { result ≡ (body_width p.now, body_height p.now) }
@@ -105,7 +105,7 @@ fn body_height(p: &Paper) -> u32
     left_by(p.high, p.top, p.bottom, p.scale)
 }
 
-/// What two margins leave, in units of the scale.
+/// Returns what two margins leave, in units of the scale.
 fn left_by(whole: u32, one: u32, other: u32, scale: u16) -> u32
     requires whole { whole ≤ 100000 }
     requires one { one ≤ 100000 }
@@ -116,7 +116,7 @@ fn left_by(whole: u32, one: u32, other: u32, scale: u16) -> u32
     whole.saturating_sub(one + other) * 100 / u32::from(scale)
 }
 
-/// The last length that a directive of that name states, or the default.
+/// Returns the last length that a directive of that name states, or the default.
 #[tactic(auto, unfolding(crate::specs::Papers::length_in))]
 fn length_in(name: &[u8], default: u32, lines: &[Line]) -> u32
     requires { default ≤ 100000 }

@@ -12,7 +12,7 @@ use mus_units::{Clef, Memory, Row, Text, Wish};
 use std::alloc::Global;
 use std::marker::Model;
 
-/// The ids that fields have mentioned, each once, the first mentioned first.
+/// The ids that fields have mentioned, each once, in order of first mention.
 #[derive(Drop)]
 pub(crate) struct VoiceIds {
     set: IndexSet<Vec<u8>>,
@@ -27,7 +27,7 @@ impl Model for VoiceIds {
 }
 
 impl VoiceIds {
-    /// No ids.
+    /// Returns an empty list of ids.
     pub(crate) fn new(alloc: Global) -> VoiceIds
         ensures { result ≡ [] }
     {
@@ -36,14 +36,14 @@ impl VoiceIds {
         }
     }
 
-    /// How many there are.
+    /// Returns the number of ids.
     pub(crate) fn len(&self) -> usize
         ensures { result ≡ length self.now }
     {
         self.set.as_slice().len()
     }
 
-    /// Adds an id at the end, where it isn't there.
+    /// Adds an id at the end unless it is already there.
     pub(crate) fn mention(&mut self, alloc: Global, id: &[u8]) -> Result<(), Memory>
         ensures { OnOk result (self.new ≡ with_id self.old id.now) }
     {
@@ -63,7 +63,7 @@ pub(crate) fn mention(alloc: Global, ids: &mut VoiceIds, field: &Field) -> Resul
     }
 }
 
-/// The voice of each id: the last clef and the last way of stems that its lines name.
+/// Returns the voice of each id: the last clef and the last stem direction that its lines name.
 pub(crate) fn voices_of(
     alloc: Global,
     ids: &VoiceIds,

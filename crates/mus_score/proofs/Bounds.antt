@@ -1,4 +1,5 @@
--- What good music keeps: products on the way are small, durations are neither 0 nor too long, and no head is lost.
+-- Invariants of good music: intermediate products are small, durations are neither 0 nor too long, and no head is
+-- lost.
 use Rattle.std.proofs.Common.{◌≡◌, ℕ, zero, suc, ◌+◌, ◌*◌, ◌/◌, ◌≤◌, List, [], ◌∷◌, ◌++◌, map, Bool, true, false, ◌&&◌}
 use Rattle.std.proofs.Common.{max, length, length-append, refl, sym, ◌∙◌, ap, subst, nat_le, arith, lit≤, inl, inr}
 use Rattle.std.proofs.Common.{if◌then◌else◌, mul_assoc, one-mul, div-le_self, le-mul_of_pos_right, le_trans, add-mul}
@@ -81,7 +82,7 @@ rest_dots b e h = grind (arith, nat_tests)
 rest_heads : (b : Bool) (e : Event) → is_rest b e ≡ true → length e.heads ≡ 0
 rest_heads b e h = grind (arith, nat_tests)
 
--- The products of the tuplets around a place: at most nine times nine, where one stands in the other.
+-- The products of the tuplets around a node: at most nine times nine, if one tuplet is inside the other.
 abbrev nines : ℕ → ℕ
 nines zero = 1
 nines (suc n) = 9 * nines n
@@ -105,7 +106,7 @@ more_nines a b n h k =
     let e : a * 9 * nines n ≤ 81 = subst (λ z. z ≤ 81) (sym (mul_assoc a 9 (nines n))) h in
     le_trans (mul-le (a * b) (nines n) (a * 9) (nines n) (mul-le a b a 9 (omega arith) k) (omega arith)) e
 
--- ticks that may stand at a place
+-- ticks that an event may have in a context
 pub record MayLast (at : NodeContext) (ticks : ℕ) : Type 0 where
   pub low : 1 ≤ ticks
   pub high : ticks ≤ 99 * whole_note
@@ -130,8 +131,8 @@ reaches at ticks qs ps a m = elim (cases_Bool at.inner) [
   | inr o ↦ subst (λ z. z ≤ ticks) (sym (a.plain o)) m.low
 ]
 
--- What a node or several keep at a place, where w is their weight, f says that products fit,
--- d is their duration and l their leaves.
+-- What one or more nodes keep in a context, where w is their weight, f says that products fit, d is their duration
+-- and l their leaves.
 pub record Kept (at : NodeContext) (w : ℕ) (f : InTuplets Bool) (d : InTuplets ℕ) (l : Leafing)
     (qs ps : ℕ) : Type 0 where
   pub fits : f qs ps ≡ true

@@ -1,5 +1,5 @@
--- In a good body every duration comes out even: a value's ticks are a multiple of 2^6 * 3^4 * 5^2 * 7^2,
--- and so is a product of two numbers from 2 to 9 a divisor of that.
+-- In a good body every duration is exact: a value's ticks are a multiple of 2^6 * 3^4 * 5^2 * 7^2, and a product of
+-- two numbers from 2 to 9 divides that.
 use Rattle.std.proofs.Common.{◌≡◌, ℕ, zero, suc, ◌*◌, ◌/◌, ◌≤◌, List, [], ◌∷◌, ◌++◌, map, Bool, true, false, refl, sym}
 use Rattle.std.proofs.Common.{◌∙◌, ap, subst, arith, if◌then◌else◌}
 use Rattle.std.proofs.lemmas.Bool.{and_parts}
@@ -44,12 +44,12 @@ dotted _ (suc (suc (suc (suc n)))) few = absurd (omega arith)
 pub value_parts : (v : Value) → v.dots ≤ 3 → value_length v ≡ units_of v * part
 value_parts v few = dotted v.base v.dots few
 
--- The products of the tuplets around a place.
+-- The products of the tuplets around a node.
 abbrev left : ℕ → ℕ
 left zero = 1
 left (suc n) = 2520 * left n
 
--- the product of the p around a place divides what is left for the tuplets that may still stand in it
+-- the product of the p around a node divides what is left for the tuplets that may still be nested in it
 pub record Divides (at : NodeContext) (ps : ℕ) : Type 0 where
   pub some : 1 ≤ ps
   pub factor : ℕ

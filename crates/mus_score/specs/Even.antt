@@ -1,5 +1,5 @@
--- Durations come out even. Around an event stand tuplets of p in the time of q: the product of those p times the
--- event's duration is its ticks times the product of those q, so that no division leaves a remainder.
+-- Durations are exact. For the tuplets of p in the time of q around an event, the product of the p times the event's
+-- duration is its ticks times the product of the q, so no division leaves a remainder.
 use Rattle.std.specs.Prelude.{◌≡◌, ℕ, ◌*◌, List, [], ◌∷◌, ◌++◌, map}
 use Rattle.std.specs.List.{AllZip}
 use Rattle.mus_score.specs.declared.score.Flat.{Flat}
@@ -17,7 +17,7 @@ abbrev pub ratios_in_row : List (InTuplets (List Ratio)) → InTuplets (List Rat
 ratios_in_row [] qs ps = []
 ratios_in_row (r ∷ rs) qs ps = r qs ps ++ ratios_in_row rs qs ps
 
--- a ratio for each event that is no grace, from left to right
+-- a ratio for each event that is not a grace, from left to right
 abbrev pub ratios_step : Music-F (InTuplets (List Ratio)) → InTuplets (List Ratio)
 ratios_step (Music-F.Note e) qs ps = record { qs = qs; ps = ps } ∷ []
 ratios_step (Music-F.Rest e) qs ps = record { qs = qs; ps = ps } ∷ []

@@ -23,7 +23,7 @@ is_rest inner e =
     && nat_le e.value.dots 3
     && (if inner then e.ticks == value_length e.value else nat_le 1 e.ticks && nat_le e.ticks (99 * whole_note))
 
--- the heads and rests of a node, grace heads counted
+-- the heads and rests of a node, including grace heads
 abbrev pub weight_step : Music-F ℕ → ℕ
 weight_step (Music-F.Note e) = length e.heads
 weight_step (Music-F.Rest e) = 1
@@ -67,7 +67,7 @@ pub record IsGoodBody (body : List Music) : Type 0 where
 abbrev pub IsGoodNode : Music → Type 0
 IsGoodNode m = IsGoodBody (m ∷ [])
 
--- the most ticks that an event of a good body lasts: 99 whole notes, nine times in each of two tuplets
+-- the longest duration of an event of a good body, in ticks: 99 whole notes, times nine in each of two tuplets
 abbrev pub longest_ticks : ℕ
 longest_ticks = 99 * whole_note * 81
 
@@ -76,7 +76,7 @@ pub record IsGoodFlat (f : Flat) : Type 0 where
   pub short : f.duration ≤ longest_ticks
   pub dots : f.event.value.dots ≤ 3
 
--- how long the events of a body last together
+-- the total duration of the events of a body
 abbrev pub total_ticks : List Flat → ℕ
 total_ticks = sum_by (λ f. f.duration)
 

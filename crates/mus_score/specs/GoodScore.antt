@@ -1,4 +1,4 @@
--- Good scores: what each call that takes a score or a voice asks of it, and each call that makes one gives.
+-- Good scores: required by each call that takes a score or a voice, and guaranteed by each call that makes one.
 use Rattle.std.specs.Prelude.{◌≡◌, ◌≢◌, ⊤, ℕ, suc, pos, negsuc, ◌≤◌, ◌<◌, ◌≤ℤ◌, List, [], ◌∷◌, length, map, sum, sum_by}
 use Rattle.std.specs.Prelude.{flat_map, false, All, AllPairs, IfSome, unwrap_or}
 use Rattle.std.specs.List.Sorted.{IsStrictlyIncreasing}
@@ -15,15 +15,15 @@ use Rattle.mus_score.specs.Good.{IsGoodBody, weight}
 use Rattle.mus_score.specs.Seats.{is_lower}
 use Rattle.mus_score.specs.Times.{flats_of}
 
--- the events of measures, from the first to the last
+-- the events of measures, in order
 abbrev pub events_of : List Measure → List Flat
 events_of ms = flat_map (λ m. flats_of m.body) ms
 
--- the clef at an event: the one that it names, else the one before it
+-- the clef at an event: the one that it names, or else the one before it
 abbrev pub clef_at : Clef → Event → Clef
 clef_at before e = unwrap_or e.changes.clef before
 
--- the heights that have a place: seven ledger lines below the staff and above it
+-- the heights within reach: up to seven ledger lines below or above the staff
 abbrev pub IsInReach : Clef → Head → Type 0
 IsInReach clef h = (negsuc 13 ≤ℤ height_of h.pitch clef) × (height_of h.pitch clef ≤ℤ pos 22)
 
@@ -39,13 +39,13 @@ abbrev pub AreCounted : ℕ → List Flat → Type 0
 AreCounted n [] = ⊤
 AreCounted n (f ∷ fs) = (f.event.id ≡ n) × AreCounted (suc n) fs
 
--- the words of an event have a place for each verse, and its changes name good keys and meters
+-- the words of an event have an entry for each verse, and its changes name good keys and meters
 pub record IsGoodEvent (verses : ℕ) (f : Flat) : Type 0 where
   pub words : length f.event.words ≡ verses
   pub key : IfSome f.event.changes.key IsGoodKey
   pub meter : IfSome f.event.changes.meter IsGoodMeter
 
--- the heads and rests of a voice, those of graces counted
+-- the heads and rests of a voice, including those of graces
 abbrev pub voice_weight : Voice → ℕ
 voice_weight v = sum_by (λ m. sum (map weight m.body)) v.measures
 

@@ -1,5 +1,5 @@
--- A plain score: notes and rests alone, with no grace, tuplet, decoration, mention, ending, slur mark,
--- tied head or word.
+-- A plain score: only notes and rests, with no grace, tuplet, decoration, mention, ending, slur mark, tied head or
+-- word.
 use Rattle.std.specs.Prelude.{◌==◌, ◌&&◌, not, List, length, Bool, false}
 use Rattle.std.specs.List.{list_all}
 use Rattle.std.specs.Option.{is_none}

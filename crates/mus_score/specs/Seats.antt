@@ -1,27 +1,28 @@
--- The staves of a score: each begins at a voice that isn't lower, and has the lower voices right behind it.
+-- The staves of a score: each begins at a voice that is not lower and includes the lower voices right after it.
 use Rattle.std.specs.Prelude.{ℕ, Bool, true, false, if◌then◌else◌, List, [], ◌∷◌}
 use Rattle.mus_score.specs.{declared.score.Seat.Seat, declared.score.Voice.Voice}
 
--- how far staves keep from one another, in u: the first of an outermost group from what is above it, and all others
+-- the distances between staves, in u: that of the first staff of an outermost group from what is above it, and all
+-- others
 abbrev pub wide_gap : ℕ
 wide_gap = 1000
 
 abbrev pub usual_gap : ℕ
 usual_gap = 500
 
--- whether a voice stands on the staff of the one before it
+-- whether a voice is on the staff of the voice before it
 abbrev pub is_lower : Seat → Bool
 is_lower Seat.Lower = true
 is_lower _ = false
 
 module _ {A : Type 0} (joins : A → Bool) where
-  -- an element before groups: in the first of them, where the one that leads it joins the one before it
+  -- an element before groups: in the first group, if the element that leads that group joins the one before it
   abbrev pub put_before : A → List (List A) → List (List A)
   put_before x [] = (x ∷ []) ∷ []
   put_before x ([] ∷ groups) = (x ∷ []) ∷ groups
   put_before x ((y ∷ ys) ∷ groups) = if joins y then (x ∷ y ∷ ys) ∷ groups else (x ∷ []) ∷ (y ∷ ys) ∷ groups
 
-  -- a list in groups, of which each but the first begins with an element that doesn't join the one before it
+  -- a list in groups; each group but the first begins with an element that does not join the one before it
   abbrev pub grouped : List A → List (List A)
   grouped [] = []
   grouped (x ∷ xs) = put_before x (grouped xs)

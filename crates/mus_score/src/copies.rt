@@ -35,7 +35,7 @@ fn copy_changes(alloc: Global, changes: &Changes) -> Result<Changes, Memory>
     })
 }
 
-/// A copy of an event.
+/// Returns a copy of an event.
 pub fn copy_event(alloc: Global, e: &Event) -> Result<Event, Memory>
     ensures { IfOk result (λ f. f ≡ e.now) }
 {

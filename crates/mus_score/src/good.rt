@@ -5,8 +5,8 @@ ghost use Rattle.mus_score.specs.Good.{tuplet_judged, weight};
 use crate::score::{Event, Music};
 use mus_units::{WHOLE, ticks_of};
 
-/// Where a node stands: how many tuplets may still stand in it, and whether a tuplet or a grace
-/// group is around it.
+/// The context of a node: how many tuplets may still be nested in it, and whether a tuplet or a grace group is around
+/// it.
 #[derive(Clone, Copy, PartialEq, Eq)]
 pub struct NodeContext {
     pub deeper: u8,
@@ -14,14 +14,14 @@ pub struct NodeContext {
     pub grace: bool,
 }
 
-/// Whether a node is good at its place, and whether it has an event that is no grace.
+/// Whether a node is good in its context, and whether it has an event that is not a grace.
 #[derive(Clone, Copy, PartialEq, Eq)]
 pub struct NodeVerdict {
     pub good: bool,
     pub some: bool,
 }
 
-/// Whether the ticks of an event are those of its value.
+/// Returns whether the ticks of an event are those of its value.
 fn has_ticks_of_value(e: &Event) -> bool
     ensures { result ≡ has_value_ticks e.now }
 {
@@ -47,7 +47,7 @@ fn is_good_rest(inner: bool, e: &Event) -> bool
     }
 }
 
-/// A tuplet that stands in no grace group.
+/// Judges a tuplet that is in no grace group.
 #[cycle(judging)]
 fn judge_tuplet(p: u8, q: u8, body: &[Music], deeper: u8) -> NodeVerdict
     ensures { result ≡ tuplet_judged p q (map judged_within body.now) deeper }
@@ -118,7 +118,7 @@ fn judge_all(body: &[Music], at: NodeContext) -> NodeVerdict
     all
 }
 
-/// The heads and rests of a node, or 50,001 where there are more.
+/// Returns the number of heads and rests of a node, or 50,001 if there are more than 50,000.
 #[cycle(weighing)]
 fn weight_within(m: &Music) -> u64
     ensures { result ≡ min 50001 (weight m.now) }
@@ -131,7 +131,7 @@ fn weight_within(m: &Music) -> u64
     }
 }
 
-/// The heads and rests of a body, or 50,001 where there are more. Takes no memory.
+/// Returns the number of heads and rests of a body, or 50,001 if there are more than 50,000. Takes no memory.
 #[cycle(weighing)]
 pub fn weights_within(body: &[Music]) -> u64
     ensures { result ≡ min 50001 (sum (map weight body.now)) }
@@ -143,10 +143,10 @@ pub fn weights_within(body: &[Music]) -> u64
     sum
 }
 
-/// Whether a body is good: tuplets at most two deep, each with p of 2 to 9, q of 1 to 9 and an
-/// event that is no grace; notes alone in grace groups; heads on notes and none on rests; ticks
-/// that are those of the value, but for a rest outside tuplets, which lasts 1 tick to 99 whole
-/// notes; at most 50,000 heads and rests. Takes no memory.
+/// Returns whether a body is good: tuplets nest at most two deep, each with p of 2 to 9, q of 1 to 9 and an event
+/// that is not a grace. Grace groups hold notes only. Notes have heads and rests have none. Ticks are those of the
+/// value, except that a rest outside tuplets may last from 1 tick to 99 whole notes. There are at most 50,000 heads
+/// and rests. Takes no memory.
 pub fn is_good_body(body: &[Music]) -> bool
     ensures { IsTrue result ↔ IsGoodBody body.now }
 {

@@ -6,7 +6,7 @@ use crate::times::flatten;
 use mus_units::{Memory, Row};
 use std::alloc::Global;
 
-/// The events of measures, from the first to the last.
+/// Returns the events of measures, in order.
 pub fn events(alloc: Global, measures: &[Measure]) -> Result<Row<Flat<'_>>, Memory>
     requires { All (λ m. IsGoodBody m.body) measures.now }
     ensures { IfOk result (λ r. r ≡ events_of measures.now) }

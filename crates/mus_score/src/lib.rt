@@ -1,7 +1,7 @@
-//! The score: its tree of music, its durations, and its events in a row.
+//! The score: its tree of music, its durations, and its list of events.
 //!
-//! A tree has notes, rests, grace groups and tuplets; the events of a measure are its leaves that
-//! are no graces, from left to right. Durations are ticks, which divide by every tuplet two deep.
+//! A tree has notes, rests, grace groups and tuplets. The events of a measure are its leaves that are not graces,
+//! from left to right. Durations are in ticks, which are divisible by every tuplet nested up to two deep.
 #![tactic(auto)]
 
 pub mod copies;

@@ -61,8 +61,8 @@ fn are_plain_voices(voices: &[Voice]) -> bool
     voices.iter().all(|v| are_plain(v.measures.as_slice()))
 }
 
-/// Whether a score is plain: it has no grace, tuplet, decoration, mention, ending, slur mark, tied
-/// head or word. Takes no memory.
+/// Returns whether a score is plain: it has no grace, tuplet, decoration, mention, ending, slur mark, tied head or
+/// word. Takes no memory.
 pub fn is_plain(s: &Score) -> bool
     ensures { result ≡ is_plain_score s.now }
 {

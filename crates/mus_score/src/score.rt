@@ -4,7 +4,7 @@ ghost use Rattle.mus_score.specs.Seats.{is_lower};
 use mus_units::{Bar, Clef, Deco, Few, Head, Key, Meter, Row, Spread, Text, Value, Wish};
 use std::marker::Model;
 
-/// How a rest or a note is drawn: seen, unseen, or as a rest of a whole measure.
+/// How a rest or a note is drawn: visible, invisible, or as a rest of a whole measure.
 #[derive(Clone, Copy, PartialEq, Eq)]
 pub enum Look {
     Seen,
@@ -12,15 +12,14 @@ pub enum Look {
     Whole,
 }
 
-/// A text between quotes: below the staff or above it.
+/// A quoted text, below or above the staff.
 #[derive(Drop)]
 pub struct Mention {
     pub below: bool,
     pub text: Text,
 }
 
-/// What changes before an event: a clef, a key, a meter that a field names there,
-/// be the value new or not.
+/// A change before an event: a clef, key or meter that a field names there, whether or not its value is new.
 #[derive(Drop)]
 pub struct Changes {
     pub clef: Option<Clef>,
@@ -28,10 +27,10 @@ pub struct Changes {
     pub meter: Option<Meter>,
 }
 
-/// A part of a written note, chord or rest: a length that has no value of its own is several parts.
-/// `id` counts the events of a voice from 0, `ticks` is the written length in ticks; `begins` and
-/// `ends` count slurs; `words` has a place for each verse. `parted` says that a space or a line end
-/// stands between the event and the one before it in its voice. A rest has no heads.
+/// A part of a written note, chord or rest: a length that no single value has is split into several parts. `id`
+/// counts the events of a voice from 0. `ticks` is the written length in ticks. `begins` and `ends` count slurs.
+/// `words` has an entry for each verse. `parted` is true if a space or a line end separates the event from the one
+/// before it in its voice. A rest has no heads.
 #[derive(Drop)]
 pub struct Event {
     pub id: u32,
@@ -49,7 +48,7 @@ pub struct Event {
     pub words: Row<Option<Text>>,
 }
 
-/// A node of the tree of music. A grace group holds notes alone; a tuplet has `p` in the time of `q`.
+/// A node of the tree of music. A grace group holds only notes; a tuplet has `p` in the time of `q`.
 #[derive(Drop)]
 pub enum Music {
     Note(Event),
@@ -58,26 +57,26 @@ pub enum Music {
     Tuplet { p: u8, q: u8, body: Row<Music> },
 }
 
-/// A measure and the bar behind it.
+/// A measure and the bar after it.
 #[derive(Drop)]
 pub struct Measure {
     pub body: Row<Music>,
     pub bar: Bar,
 }
 
-/// Where a voice stands among the staves of its score.
+/// The place of a voice among the staves of its score.
 #[derive(Clone, Copy, PartialEq, Eq)]
 pub enum Seat {
-    /// It has its staff for itself.
+    /// Alone on its staff.
     Alone,
-    /// It is the first of several voices on its staff.
+    /// The first of several voices on its staff.
     Upper,
-    /// It stands on the staff of the voice before it.
+    /// On the staff of the voice before it.
     Lower,
 }
 
 impl Seat {
-    /// Whether the voice stands on the staff of the voice before it.
+    /// Returns whether the voice is on the staff of the voice before it.
     pub fn is_lower(self) -> bool
         ensures { result ≡ is_lower self }
     {
@@ -88,9 +87,8 @@ impl Seat {
     }
 }
 
-/// A voice: its id, where it stands, and how far its staff keeps from the one above, in u (of a
-/// lower voice that says nothing); what it begins with, the number of its verses, the bar before
-/// its first event, and its measures.
+/// A voice: its id, its seat, and the distance of its staff from the one above, in u (without meaning for a lower
+/// voice); its initial state, the number of its verses, the bar before its first event, and its measures.
 #[derive(Drop)]
 pub struct Voice {
     pub id: Text,
@@ -105,8 +103,8 @@ pub struct Voice {
     pub measures: Row<Measure>,
 }
 
-/// A tune: its voices, which all have `measures` measures and by their seats say which staves there
-/// are, and the bars at which a system must end.
+/// A tune: its voices, which all have `measures` measures and whose seats determine the staves, and the bars at which
+/// a system must end.
 #[derive(Drop)]
 pub struct Score {
     pub voices: Row<Voice>,
@@ -115,7 +113,7 @@ pub struct Score {
     pub spread: Spread,
 }
 
-/// An event that stays in the tree of its measure, which contracts see as the event.
+/// An event that stays in the tree of its measure. Contracts see it as the event.
 #[derive(Drop)]
 pub struct BorrowedEvent<'a> {
     pub(crate) event: &'a Event,
@@ -129,8 +127,8 @@ impl<'a> Model for BorrowedEvent<'a> {
     ghost view = { λ lent. lent.event.now };
 }
 
-/// An event, lent by the tree of its measure, with what that says of it: its duration in ticks, the
-/// `p` of the tuplets that begin at it, outer first, and the graces before it.
+/// An event borrowed from the tree of its measure, with its duration in ticks, the `p` of the tuplets that begin at
+/// it, outermost first, and the graces before it.
 #[derive(Drop)]
 pub struct Flat<'a> {
     pub event: BorrowedEvent<'a>,

@@ -13,7 +13,7 @@ use mus_units::{Memory, Row};
 use std::alloc::Global;
 use std::mem;
 
-/// Ticks, times the tuplets around.
+/// Returns ticks scaled by the tuplets around them.
 #[tactic(auto, unfolding(crate::specs::Times::is_scalable))]
 fn scaled_ticks(ticks: u64, qs: u64, ps: u64) -> u64
     requires { is_scalable ticks qs ps ≡ true }
@@ -22,7 +22,8 @@ fn scaled_ticks(ticks: u64, qs: u64, ps: u64) -> u64
     ticks * qs / ps
 }
 
-/// How long a node lasts in the tuplets around it, the product of whose q is `qs` and of whose p `ps`.
+/// Returns the duration of a node in the tuplets around it, whose q have the product `qs` and whose p the product
+/// `ps`.
 #[cycle(durations)]
 fn duration_in(m: &Music, qs: u64, ps: u64) -> u64
     requires products { products_fit m.now qs ps ≡ true }
@@ -41,7 +42,7 @@ fn duration_in(m: &Music, qs: u64, ps: u64) -> u64
     }
 }
 
-/// How long nodes last one after the other.
+/// Returns the total duration of nodes.
 #[cycle(durations)]
 fn durations_in(body: &[Music], qs: u64, ps: u64) -> u64
     requires products { all_products_fit body.now qs ps ≡ true }
@@ -55,9 +56,9 @@ fn durations_in(body: &[Music], qs: u64, ps: u64) -> u64
     sum
 }
 
-/// How long a node of a body lasts, in ticks: an event its written ticks, times q/p of each tuplet
-/// around it in the node, which comes out even; a grace group 0; a tuplet the sum of what is in it.
-/// Takes no memory.
+/// Returns the duration of a node of a body, in ticks. An event lasts its written ticks, times q/p for each tuplet
+/// around it in the node; this division leaves no remainder. A grace group lasts 0. A tuplet lasts the sum of its
+/// content. Takes no memory.
 #[tactic(auto, using(crate::proofs::Bounds::node_bounds))]
 pub fn duration(m: &Music) -> u64
     requires { IsGoodNode m.now }
@@ -68,7 +69,7 @@ pub fn duration(m: &Music) -> u64
     duration_in(m, 1, 1)
 }
 
-/// How long the events of a body last together, in ticks. Takes no memory.
+/// Returns the total duration of the events of a body, in ticks. Takes no memory.
 #[tactic(auto, using(crate::proofs::Bounds::total_bounds))]
 pub fn body_duration(body: &[Music]) -> u64
     requires { IsGoodBody body.now }
@@ -78,7 +79,7 @@ pub fn body_duration(body: &[Music]) -> u64
     durations_in(body, 1, 1)
 }
 
-/// What waits for the next leaf: the tuplets that begin there, outer first, and its graces.
+/// What is pending for the next leaf: the tuplets that begin there, outermost first, and its graces.
 #[derive(Drop)]
 pub struct PendingLeaf {
     pub tuplets: Row<u8>,
@@ -117,7 +118,7 @@ fn put_leaf<'a>(
     })
 }
 
-/// Copies of the events of some flats, put behind other graces.
+/// Adds copies of the events of some flats after other graces.
 fn put_graces(alloc: Global, graces: &mut Row<Event>, flats: &[Flat<'_>]) -> Result<(), Memory>
     ensures { OnOk result (graces.new ≡ graces.old ++ map (λ f. f.event) flats.now) }
 {
@@ -182,10 +183,10 @@ fn put_nodes<'a>(
     Ok(())
 }
 
-/// The events of a body that are no graces, from left to right: each with its duration in ticks, the `p`
-/// of the tuplets that begin at it, outer first, and the graces before it. What stands in a tuplet's end
-/// waits for the next event; graces behind the last event belong to none. Each duration comes out even:
-/// times the product of the `p` around the event it is the event's ticks times the product of the `q`.
+/// Returns the events of a body that are not graces, from left to right: each with its duration in ticks, the `p` of
+/// the tuplets that begin at it, outermost first, and the graces before it. Graces at a tuplet's end are pending for
+/// the next event; graces after the last event belong to none. No duration is rounded: times the product of the `p`
+/// around the event it is the event's ticks times the product of the `q`.
 #[tactic(auto, using(crate::proofs::Bounds::body_bounds))]
 pub fn flatten(alloc: Global, body: &[Music]) -> Result<Row<Flat<'_>>, Memory>
     requires { IsGoodBody body.now }
