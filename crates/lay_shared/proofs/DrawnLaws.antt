@@ -1,4 +1,4 @@
--- The score that is drawn is a good one.
+-- The drawn score is good.
 use Rattle.std.proofs.Common.{◌≡◌, ◌≢◌, refl, sym, ap, ◌∙◌, subst, ℕ, zero, suc, ◌+◌, ◌*◌, ◌<◌, ◌≤◌, List, [], ◌∷◌}
 use Rattle.std.proofs.Common.{◌++◌, Bool, true, false, length, map, arith, inl, inr}
 use Rattle.std.proofs.lemmas.Bool.{cases_lt}
@@ -21,7 +21,7 @@ use Rattle.lay_shared.specs.declared.plan.PlannedStaff.{PlannedStaff}
 use Rattle.lay_shared.specs.Drawn.{seated_voice, drawn_of, staff_gap, leading, lower, seated, sit, sits_of, staff_sits}
 use Rattle.lay_shared.specs.Plans.{NamesEachOnce, IsPlanFor, planned_voices}
 
--- ---- the places of voices
+-- ---- the indices of voices
 lower_places : (leads : Bool) (vs : List ℕ) → map (λ (at : SeatedVoice). at.place) (map (lower leads) vs) ≡ vs
 lower_places leads [] = refl
 lower_places leads (v ∷ vs) = ap (λ s. v ∷ s) (lower_places leads vs)
@@ -93,7 +93,7 @@ drawn_sum f voices (at ∷ sits) same =
     one_sum f at (slice_get voices at.place) (flat_map (seated_voice voices) sits)
     (picked voices (map (λ (at : SeatedVoice). at.place) sits)) (same at) (drawn_sum f voices sits same)
 
--- the places behind the first, and how often the first stands among places
+-- the indices after the first, and how often the first occurs among indices
 abbrev further : List ℕ → List ℕ
 further [] = []
 further (zero ∷ ks) = further ks
@@ -221,7 +221,7 @@ led_by : (vs : List ℕ) → is_lower (leading vs) ≡ false
 led_by [] = refl
 led_by (v ∷ vs) = refl
 
--- there is a first voice, and it isn't lower
+-- there is a first voice, and it is not lower
 abbrev Leads : List Voice → Type 0
 Leads [] = ⊥
 Leads (v ∷ vs) = is_lower v.seat ≡ false

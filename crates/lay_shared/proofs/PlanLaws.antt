@@ -1,4 +1,4 @@
--- What is read of a `%%score` line is the plan that it spells.
+-- The plan read from a `%%score` line is the plan that the line spells.
 use Rattle.std.proofs.Common.{◌≡◌, ◌≢◌, refl, sym, ap, ◌∙◌, subst, ℕ, ◌<◌, ◌≤◌, List, [], ◌∷◌, ◌++◌, Bool, true, false}
 use Rattle.std.proofs.Common.{length, arith, append-nil, append_assoc, eqb-true, le-leb, leb-true, eq-eqb, true≢false}
 use Rattle.std.proofs.Common.{map, ◌^◌}
@@ -122,7 +122,7 @@ plan-names : (trees : Trees) (ss : List PlanSign)
 plan-names trees ss e =
     voices-staves trees ∙ sym (append-nil (joined (shares_of trees))) ∙ sym (named-trees trees []) ∙ ap named (sym e)
 
--- ---- a plan that is spelled is one for the score
+-- ---- a spelled plan is one for the score
 named-known : (ids : List (List ℕ)) (ss : List PlanSign) (text : List ℕ)
     → Writes ids ss text → AllByRecursion (λ v. v < length ids) (named ss)
 named-known ids [] text h = tt

@@ -1,4 +1,4 @@
--- The signs that are read of a text are those that it writes.
+-- The signs read from a text are those that it writes.
 use Rattle.std.proofs.Common.{◌≡◌, ◌≢◌, refl, sym, ap, ◌∙◌, subst, ℕ, ◌<◌, ◌≤◌, List, [], ◌∷◌, ◌++◌, Bool, true, false}
 use Rattle.std.proofs.Common.{length, arith, eqb-true, lt-ltb, append-nil, append_assoc}
 use Rattle.std.proofs.lemmas.Bool.{and_parts}

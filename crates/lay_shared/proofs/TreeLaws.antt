@@ -1,4 +1,4 @@
--- The signs of trees are read as their staves, and signs that are read are those of trees.
+-- The signs of trees are read as their staves, and signs that can be read are those of trees.
 use Rattle.std.proofs.Common.{◌≡◌, refl, sym, ap, ◌∙◌, subst, ℕ, ◌≤◌, List, [], ◌∷◌, ◌++◌, Bool, true, false, length}
 use Rattle.std.proofs.Common.{arith, append-nil, append_assoc}
 use Rattle.std.specs.Prelude.{◌||◌, Option, Some, None}
@@ -30,7 +30,7 @@ voices-run us (v ∷ vs) bs leads staves behind =
     voices-run (us ++ v ∷ []) vs bs leads staves behind
     ∙ ap (λ ws. run (reading (Some ws) bs leads staves) behind) (append_assoc us (v ∷ []) vs)
 
--- whether the next staff leads its group, behind these
+-- whether the next staff leads its group, after these
 abbrev leads_behind : Bool → List (List ℕ) → Bool
 leads_behind leads [] = leads
 leads_behind leads (vs ∷ more) = false
@@ -115,7 +115,7 @@ outer-run (group_tree c inner more) staves behind =
 pub trees-run : (trees : Trees) → run start (tree_signs trees []) ≡ Some (staves_of_trees trees)
 trees-run trees = outer-run trees [] []
 
--- ---- what is read are trees
+-- ---- what is read is a tree
 
 -- trees, then the innermost open bracket is closed, and so on
 abbrev Behind : List Bracket → List PlanSign → Type 0
@@ -123,7 +123,7 @@ Behind [] ss = (trees : Trees) × (ss ≡ tree_signs trees [])
 Behind (b ∷ bs) ss =
     (trees : Trees) × (more : List PlanSign) × (ss ≡ tree_signs trees (PlanSign.Ends b ∷ more)) × Behind bs more
 
--- voices up to the end of a staff of which some stand already, then the same
+-- voices up to the end of a staff, some of which are already there, then the same
 abbrev Left : Option (List ℕ) → List Bracket → List PlanSign → Type 0
 Left None bs ss = Behind bs ss
 Left (Some us) bs ss =

@@ -1,5 +1,5 @@
--- Voices that can share a staff: they begin with the same clef, key and meter,
--- and the same changes stand at the same places.
+-- Voices that can share a staff: they begin with the same clef, key and meter and have the same changes at the same
+-- places.
 use Rattle.std.specs.Prelude.{◌≡◌, ⊤, ℕ, ◌+◌, List, [], ◌∷◌, ◌++◌, Bool, ◌||◌, if◌then◌else◌, Option, is_some}
 use Rattle.std.specs.Prelude.{slice_get}
 use Rattle.std.specs.List.{AllByRecursion}
@@ -18,7 +18,7 @@ use Rattle.lay_shared.specs.declared.changes.VoiceChanges.{VoiceChanges}
 abbrev pub has_change : Changes → Bool
 has_change changes = is_some changes.clef || is_some changes.key || is_some changes.meter
 
--- the changes of events that follow so many ticks of their measure
+-- the changes of events that follow that many ticks of their measure
 abbrev pub event_changes : ℕ → ℕ → List Flat → List TimedChange
 event_changes measure tick [] = []
 event_changes measure tick (f ∷ fs) =
@@ -26,7 +26,7 @@ event_changes measure tick (f ∷ fs) =
     else [])
     ++ event_changes measure (tick + f.duration) fs
 
--- the changes of measures, of which the first has this number
+-- the changes of measures, the first of which has this number
 abbrev pub changes_from : ℕ → List Measure → List TimedChange
 changes_from k [] = []
 changes_from k (m ∷ ms) = event_changes k 0 (flats_of m.body) ++ changes_from (k + 1) ms

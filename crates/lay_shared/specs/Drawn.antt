@@ -1,5 +1,4 @@
--- The score that is drawn by a plan: the voices that it names, in order,
--- each with its seat and the gap above its staff.
+-- The score drawn by a plan: the voices that it names, in order, each with its seat and the gap above its staff.
 use Rattle.std.specs.Prelude.{ℕ, List, [], ◌∷◌, Bool, false, map, flat_map, slice_get, if◌then◌else◌}
 use Rattle.std.specs.Option.{option_to_list}
 use Rattle.mus_units.specs.declared.note.Bar.{Bar}
@@ -15,7 +14,7 @@ sit place seat leads = record { place = place; seat = seat; leads = leads }
 abbrev pub lower : Bool → ℕ → SeatedVoice
 lower leads place = sit place Seat.Lower leads
 
--- the first voice of a staff is upper, where others stand on it
+-- the first voice of a staff is upper if the staff has others
 abbrev pub leading : List ℕ → Seat
 leading [] = Seat.Alone
 leading (v ∷ vs) = Seat.Upper
@@ -34,7 +33,7 @@ abbrev pub no_feature : Bar
 no_feature =
     record { end = false; start = false; last = false; initial = false; double = false; dotted = false; unseen = false }
 
--- the first bar of a staff is drawn for its first voice alone
+-- the first bar of a staff is drawn only for its first voice
 abbrev pub first_bar : Seat → Bar → Bar
 first_bar Seat.Lower bar = no_feature
 first_bar _ bar = bar
@@ -42,7 +41,7 @@ first_bar _ bar = bar
 abbrev pub seated : SeatedVoice → Voice → Voice
 seated at v = record v { seat = at.seat; gap = staff_gap at.leads; first = first_bar at.seat v.first }
 
--- the voice of a place, as it sits there
+-- the voice at an index, with its seat
 abbrev pub seated_voice : List Voice → SeatedVoice → List Voice
 seated_voice voices at = map (seated at) (option_to_list (slice_get voices at.place))
 

@@ -25,8 +25,8 @@ abbrev pub NamesEachOnce : List ℕ → Type 0
 NamesEachOnce [] = ⊤
 NamesEachOnce (v ∷ vs) = AllByRecursion (λ w. v ≢ w) vs × NamesEachOnce vs
 
--- The text spells the plan, with these ids of voices: its signs are those of trees, so that they pair
--- and parentheses hold ids alone and at least one; each id is a voice's and stands once; and there is one.
+-- The text spells the plan, with these voice ids: its signs are those of trees, so they pair and parentheses hold
+-- only ids and at least one; each id is a voice's and occurs once; and there is at least one.
 pub record SpellsPlan (ids : List (List ℕ)) (text : List ℕ) (plan : Plan) : Type 0 where
   pub signs : List PlanSign
   pub trees : Trees
@@ -40,7 +40,7 @@ pub record SpellsPlan (ids : List (List ℕ)) (text : List ℕ) (plan : Plan) : 
 abbrev pub planned_voices : List PlannedStaff → List ℕ
 planned_voices staves = flat_map (λ staff. staff.voices) staves
 
--- a plan for a score of so many voices: it names at least one, each at most once, and no staff is without one
+-- a plan for a score with that many voices: it names at least one, each at most once, and no staff is without one
 pub record IsPlanFor (count : ℕ) (plan : Plan) : Type 0 where
   pub known : All (λ v. v < count) (planned_voices plan.staves)
   pub once : NamesEachOnce (planned_voices plan.staves)

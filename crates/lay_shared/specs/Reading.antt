@@ -1,5 +1,5 @@
--- The reading of a `%%score` line, between the code and what is meant: signs byte by byte, then staves
--- sign by sign with the brackets that are open, the innermost first.
+-- The reading of a `%%score` line, between the code and the meaning: signs byte by byte, then staves sign by sign
+-- with the open brackets, the innermost first.
 use Rattle.std.specs.Prelude.{ℕ, List, [], ◌∷◌, ◌++◌, Bool, true, false, ◌==◌, ◌&&◌, ◌||◌, not, nat_le, if◌then◌else◌}
 use Rattle.std.specs.Prelude.{length, position, Option, Some, None}
 use Rattle.std.specs.List.{list_any}
@@ -25,7 +25,7 @@ abbrev pub word_signs : List (List ℕ) → List ℕ → List PlanSign
 word_signs ids [] = []
 word_signs ids (b ∷ word) = voice_sign (place_of (b ∷ word) ids) ∷ []
 
--- the signs of a text behind a part of a word
+-- the signs of a text after a part of a word
 abbrev pub plan_signs_from : List (List ℕ) → List ℕ → List ℕ → List PlanSign
 plan_signs_from ids word [] = word_signs ids word
 plan_signs_from ids word (b ∷ text) =
@@ -41,7 +41,7 @@ same_bracket Bracket.Square Bracket.Square = true
 same_bracket Bracket.Curly Bracket.Curly = true
 same_bracket _ _ = false
 
--- a further staff, which leads its group where none of that stands before it
+-- one more staff, which leads its group if no staff of that group is before it
 abbrev pub with_staff : PlanReader → List ℕ → PlanReader
 with_staff at voices = record {
   brackets = at.brackets;
@@ -66,7 +66,7 @@ abbrev pub entered : PlanReader → Bracket → Option (List ℕ) → Option Pla
 entered at b None = Some (record at { brackets = b ∷ at.brackets })
 entered at b (Some vs) = None
 
--- behind the last bracket the next staff leads a group
+-- after the last bracket the next staff leads a group
 abbrev pub bracket_left : PlanReader → Bracket → List Bracket → Option PlanReader
 bracket_left at b [] = None
 bracket_left at b (c ∷ more) =

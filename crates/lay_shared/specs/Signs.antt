@@ -1,5 +1,5 @@
--- How a `%%score` line is written, as signs: ids of voices, parentheses and brackets. Between signs
--- stand blanks, `|`, `*`, `+` and `~`, which are passed over; behind an id stands no further byte of one.
+-- How a `%%score` line is written, as signs: voice ids, parentheses and brackets. Between signs there may be blanks,
+-- `|`, `*`, `+` and `~`, which are skipped; no further byte of an id follows an id.
 use Prim.Native.Char.{code}
 use Rattle.std.specs.Prelude.{◌≡◌, ◌≤◌, ◌<◌, ⊤, ℕ, List, [], ◌∷◌, ◌++◌, Bool, true, false, ◌==◌, ◌&&◌, ◌||◌, not}
 use Rattle.std.specs.Prelude.{if◌then◌else◌, length, codes, get_or, Option, Some, None}
@@ -10,7 +10,7 @@ use Rattle.{mus_units.specs.Bytes.{is_blank}, lay_shared.specs.declared.signs.{B
 abbrev pub is_passed_in_plan : ℕ → Bool
 is_passed_in_plan b = is_blank b || b == code "|" || b == code "*" || b == code "+" || b == code "~"
 
--- the sign that a byte is
+-- the sign that a byte writes
 abbrev pub plan_sign_at : ℕ → Option PlanSign
 plan_sign_at b =
     if b == code "(" then Some PlanSign.StaffOpens
@@ -21,7 +21,7 @@ plan_sign_at b =
     else if b == code "}" then Some (PlanSign.Ends Bracket.Curly)
     else None
 
--- ids have no blank and no sign in them
+-- ids contain no blank and no sign
 abbrev pub is_id : ℕ → Bool
 is_id b = not (is_passed_in_plan b) && is_none (plan_sign_at b)
 
@@ -36,7 +36,7 @@ abbrev pub closing_bracket : Bracket → List ℕ
 closing_bracket Bracket.Square = codes "]"
 closing_bracket Bracket.Curly = codes "}"
 
--- what each sign is written as
+-- the spelling of each sign
 abbrev pub spelled_sign : List (List ℕ) → PlanSign → List ℕ
 spelled_sign ids (PlanSign.Voice v) = id_at ids v
 spelled_sign ids PlanSign.UnknownVoice = []
@@ -45,12 +45,12 @@ spelled_sign ids PlanSign.StaffEnds = codes ")"
 spelled_sign ids (PlanSign.Opens b) = opening_bracket b
 spelled_sign ids (PlanSign.Ends b) = closing_bracket b
 
--- no byte of an id stands first
+-- does not begin with a byte of an id
 abbrev pub BeginsNoId : List ℕ → Type 0
 BeginsNoId [] = ⊤
 BeginsNoId (b ∷ s) = is_id b ≡ false
 
--- a voice stands there by its whole id
+-- a voice is written there by its whole id
 pub record IsVoice (ids : List (List ℕ)) (v : ℕ) (behind : List ℕ) : Type 0 where
   pub known : v < length ids
   pub some : 1 ≤ length (id_at ids v)
@@ -62,7 +62,7 @@ SpellsSign ids (PlanSign.Voice v) behind = IsVoice ids v behind
 SpellsSign ids PlanSign.UnknownVoice behind = ⊥
 SpellsSign ids _ behind = ⊤
 
--- the sign is the first of the text, with the rest behind it
+-- the sign is the first of the text, followed by the rest
 pub record IsFirstSign (ids : List (List ℕ)) (sign : PlanSign) (text behind : List ℕ) : Type 0 where
   pub passed : List ℕ
   pub over : list_all is_passed_in_plan passed ≡ true

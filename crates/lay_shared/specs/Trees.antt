@@ -1,16 +1,16 @@
--- The trees of a `%%score` line, as they are written: a voice by itself has a staff of its own, voices
--- in parentheses share one, and brackets stand round trees.
+-- The trees of a `%%score` line, as they are written: a single voice has a staff of its own, voices in parentheses
+-- share one, and brackets enclose trees.
 use Rattle.std.specs.Prelude.{ℕ, List, [], ◌∷◌, ◌++◌, Bool, true, false}
 use Rattle.lay_shared.specs.declared.{signs.Bracket.Bracket, signs.PlanSign.PlanSign, plan.PlannedStaff.PlannedStaff}
 
--- a row of trees: the first, and those behind it
+-- a list of trees: the first, and those after it
 pub data Trees : Type 0 where
   no_tree : Trees
   voice_tree : ℕ → Trees → Trees
   staff_tree : ℕ → List ℕ → Trees → Trees
   group_tree : Bracket → Trees → Trees → Trees
 
--- The signs of trees, in front of what follows them.
+-- The signs of trees, followed by the rest.
 abbrev pub voice_signs : List ℕ → List PlanSign → List PlanSign
 voice_signs [] behind = behind
 voice_signs (v ∷ vs) behind = PlanSign.Voice v ∷ voice_signs vs behind
@@ -33,7 +33,7 @@ shares_of (group_tree b inner more) = shares_of inner ++ shares_of more
 abbrev pub planned : Bool → List ℕ → PlannedStaff
 planned leads voices = record { leads = leads; voices = voices }
 
--- the staves of one group: the first of them leads it, where none of it stands before them
+-- the staves of one group: the first of them leads it if no other staff of the group is before them
 abbrev pub staves_of_group : Bool → List (List ℕ) → List PlannedStaff
 staves_of_group leads [] = []
 staves_of_group leads (voices ∷ more) = planned leads voices ∷ staves_of_group false more

@@ -12,8 +12,8 @@ use mus_score::{Changes, Score, Voice};
 use mus_units::{Key, Memory, Sign};
 use std::alloc::Global;
 
-/// Whether no two voices of one staff differ in first clef, key or meter, or in the list of their
-/// changes with measure and tick. Ticks are those of the whole score.
+/// Returns whether no two voices of one staff differ in first clef, key or meter, or in the list of their changes
+/// with measure and tick. Ticks are those of the whole score.
 pub fn shared(alloc: Global, s: &Score, p: &Plan) -> Result<bool, Memory>
     requires good { IsGoodScore s.now }
     requires plan { IsPlanFor (length s.now.voices) p.now }
@@ -22,7 +22,7 @@ pub fn shared(alloc: Global, s: &Score, p: &Plan) -> Result<bool, Memory>
     are_shared(alloc, s.voices.as_slice(), p.staves.as_slice())
 }
 
-/// Whether no two voices of one of these staves differ.
+/// Returns whether no two voices of one of these staves differ.
 fn are_shared(alloc: Global, voices: &[Voice], staves: &[PlannedStaff]) -> Result<bool, Memory>
     requires { All IsGoodVoice voices.now }
     ensures { IfOk result
@@ -36,7 +36,7 @@ fn are_shared(alloc: Global, voices: &[Voice], staves: &[PlannedStaff]) -> Resul
     Ok(true)
 }
 
-/// Whether no two voices at these places differ.
+/// Returns whether no two voices at these indices differ.
 fn are_alike(alloc: Global, voices: &[Voice], places: &[u32]) -> Result<bool, Memory>
     requires { All IsGoodVoice voices.now }
     ensures { IfOk result (λ are. Decides are (HaveSameChanges voices.now places.now)) }
@@ -47,7 +47,7 @@ fn are_alike(alloc: Global, voices: &[Voice], places: &[u32]) -> Result<bool, Me
     are_like(alloc, voices, *first, others)
 }
 
-/// Whether the voices at some places are like the one at this place.
+/// Returns whether the voices at some indices are like the one at this index.
 fn are_like(alloc: Global, voices: &[Voice], place: u32, others: &[u32]) -> Result<bool, Memory>
     requires { All IsGoodVoice voices.now }
     ensures { IfOk result

@@ -1,4 +1,4 @@
-//! What voices of one staff have in common.
+//! What the voices of one staff must have in common.
 
 ghost use Rattle.std.specs.Prelude.{◌≡◌, ◌≤◌, ◌*◌, ◌++◌, All, length, IfOk, OnOk};
 ghost use Rattle.mus_score.specs.Good.{IsGoodBody, longest_ticks, total_ticks};
@@ -9,7 +9,7 @@ use mus_score::{Changes, Flat, Measure, Voice, flatten};
 use mus_units::{Clef, Key, Memory, Meter, Row, copy_optional_key};
 use std::alloc::Global;
 
-/// What changes before an event of a voice: in which measure, and after how many ticks of it.
+/// The changes before an event of a voice: in which measure, and after how many ticks of it.
 #[derive(Drop)]
 pub struct TimedChange {
     pub measure: u32,
@@ -17,7 +17,7 @@ pub struct TimedChange {
     pub changes: Changes,
 }
 
-/// What a voice begins with, and what changes in it.
+/// The initial state of a voice, and its changes.
 #[derive(Drop)]
 pub struct VoiceChanges {
     pub clef: Clef,
@@ -26,7 +26,7 @@ pub struct VoiceChanges {
     pub changes: Row<TimedChange>,
 }
 
-/// The story of a voice.
+/// Returns the initial state and the changes of a voice.
 pub(crate) fn story_of(alloc: Global, v: &Voice) -> Result<VoiceChanges, Memory>
     requires { IsGoodVoice v.now }
     ensures { IfOk result (λ story. story ≡ story_of v.now) }
@@ -52,7 +52,7 @@ fn changes_of(alloc: Global, measures: &[Measure]) -> Result<Row<TimedChange>, M
     Ok(changes)
 }
 
-/// Puts the changes of a measure's events.
+/// Adds the changes of a measure's events.
 fn put_changes(
     alloc: Global,
     changes: &mut Row<TimedChange>,

@@ -36,7 +36,7 @@ fn copy_body(alloc: Global, body: &[Music]) -> Result<Row<Music>, Memory>
     Ok(copy)
 }
 
-/// The same measures.
+/// Returns a copy of measures.
 pub(crate) fn copy_measures(alloc: Global, measures: &[Measure]) -> Result<Row<Measure>, Memory>
     ensures { IfOk result (λ copy. copy ≡ measures.now) }
 {

@@ -1,4 +1,4 @@
-//! The score that is drawn by a plan.
+//! The score drawn by a plan.
 
 ghost use Rattle.std.specs.Prelude.{◌≡◌, ◌++◌, length, IfOk, OnOk, flat_map, map};
 ghost use Rattle.mus_score.specs.GoodScore.{IsGoodScore};
@@ -12,8 +12,8 @@ use mus_score::{Bar, Score, Seat, Voice};
 use mus_units::{Memory, Row};
 use std::alloc::Global;
 
-/// A voice by its place in the score, where it stands among the staves, and whether its staff is the
-/// first of an outermost group.
+/// A voice by its index in the score, its seat among the staves, and whether its staff is the first of an outermost
+/// group.
 #[derive(Clone, Copy)]
 pub struct SeatedVoice {
     pub place: u32,
@@ -21,9 +21,9 @@ pub struct SeatedVoice {
     pub leads: bool,
 }
 
-/// The score that is drawn: the voices that the plan names, in its order, each with its seat and
-/// the gap above its staff, 1000 u before the first staff of an outermost group and 500 before
-/// others. A lower voice has no feature in its first bar.
+/// Returns the score drawn by a plan: the voices that the plan names, in its order, each with its seat and the gap
+/// above its staff, which is 1000 u before the first staff of an outermost group and 500 u before others. A lower
+/// voice has no feature in its first bar.
 pub fn drawn(alloc: Global, s: &Score, p: &Plan) -> Result<Score, Memory>
     requires good { IsGoodScore s.now }
     requires plan { IsPlanFor (length s.now.voices) p.now }
@@ -134,7 +134,7 @@ fn put_lower(sits: &mut Row<SeatedVoice>, leads: bool, places: &[u32]) -> Result
     Ok(())
 }
 
-/// The seat of the first voice of a staff, by the others.
+/// Returns the seat of the first voice of a staff, given the others.
 fn leading(others: &[u32]) -> Seat
     ensures { result ≡ leading others.now }
 {

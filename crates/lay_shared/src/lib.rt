@@ -1,5 +1,5 @@
-//! Staves that voices share: what a `%%score` line says, the score that is drawn by it, and whether
-//! the voices of each staff are alike.
+//! Staves that voices share: the plan that a `%%score` line spells, the score drawn by it, and whether the voices of
+//! each staff are alike.
 #![tactic(auto)]
 
 pub mod alike;

@@ -11,21 +11,21 @@ use mus_score::{Score, Voice};
 use mus_units::{Memory, Row, Text};
 use std::alloc::Global;
 
-/// A staff of a plan: the places of its voices in the score, in order. `leads` says that it is the
-/// first of an outermost group.
+/// A staff of a plan: the indices of its voices in the score, in order. `leads` is true if it is the first of an
+/// outermost group.
 #[derive(Drop)]
 pub struct PlannedStaff {
     pub leads: bool,
     pub voices: Row<u32>,
 }
 
-/// The staves that a `%%score` line asks for, from the highest down.
+/// The staves that a `%%score` line asks for, from top to bottom.
 #[derive(Drop)]
 pub struct Plan {
     pub staves: Row<PlannedStaff>,
 }
 
-/// The ids of a score's voices, in order.
+/// Returns the ids of a score's voices, in order.
 pub fn score_ids(alloc: Global, s: &Score) -> Result<Row<Text>, Memory>
     requires { IsGoodScore s.now }
     ensures value { IfOk result (λ ids. ids ≡ score_ids s.now) }
@@ -45,9 +45,9 @@ fn ids_of_voices(alloc: Global, voices: &[Voice]) -> Result<Row<Text>, Memory>
     Ok(ids)
 }
 
-/// The plan that a text spells, for a score whose voices have these ids; None exactly where
-/// parentheses or brackets don't pair, parentheses hold no voice or another sign than ids, an id is
-/// no voice's, an id stands twice, or no voice is named.
+/// Returns the plan that a text spells, for a score whose voices have these ids. `None` exactly when parentheses or
+/// brackets don't pair, parentheses hold no voice or a sign that is not an id, an id is no voice's, an id occurs
+/// twice, or no voice is named.
 pub fn read_plan(alloc: Global, text: &[u8], ids: &[Text]) -> Result<Option<Plan>, Memory>
     requires few { length ids.now < 2 ^ 32 }
     requires apart { AllPairs (λ i j. i ≢ j) ids.now }
@@ -79,7 +79,7 @@ fn plan_by(alloc: Global, signs: &[PlanSign]) -> Result<Option<Plan>, Memory>
     }
 }
 
-/// The voices that signs name.
+/// Returns the voices that signs name.
 fn named(alloc: Global, signs: &[PlanSign]) -> Result<Row<u32>, Memory>
     ensures { IfOk result (λ voices. voices ≡ named signs.now) }
 {
@@ -92,7 +92,7 @@ fn named(alloc: Global, signs: &[PlanSign]) -> Result<Row<u32>, Memory>
     Ok(voices)
 }
 
-/// Whether a voice is named, and none twice.
+/// Returns whether at least one voice is named, and none twice.
 fn is_fair(voices: &[u32]) -> bool
     ensures { result ≡ is_fair voices.now }
 {

@@ -1,4 +1,4 @@
-//! Staves read sign by sign.
+//! Reading staves sign by sign.
 
 ghost use Rattle.std.specs.Prelude.{◌≡◌, ◌∷◌, ◌++◌, [], None, Some, IfOk, OnOk, MatchOption, cond};
 ghost use Rattle.lay_shared.specs.Reading.{staff_closed, ended, entered, has_no_bracket, left, staff_opened, run};
@@ -10,7 +10,7 @@ use mus_units::{Memory, Row};
 use std::alloc::Global;
 use std::marker::Model;
 
-/// The brackets that are open; contracts see the innermost first.
+/// The open brackets; contracts see the innermost first.
 #[derive(Drop)]
 pub struct Brackets {
     stack: Vec<Bracket>,
@@ -47,7 +47,7 @@ impl Brackets {
         Ok(())
     }
 
-    /// Takes the innermost one.
+    /// Removes and returns the innermost one.
     fn close(&mut self) -> Option<Bracket>
         ensures { MatchOption result ((self.old ≡ []) × (self.new ≡ [])) (λ b. self.old ≡ b ∷ self.new) }
     {
@@ -55,8 +55,8 @@ impl Brackets {
     }
 }
 
-/// How far the signs were read: the brackets that are open, the voices since a `(` that isn't
-/// closed, whether the next staff leads an outermost group, and the staves.
+/// The state of the reader: the open brackets, the voices since a `(` that is not closed, whether the next staff
+/// leads an outermost group, and the staves.
 #[derive(Drop)]
 pub struct PlanReader {
     pub brackets: Brackets,
@@ -77,7 +77,7 @@ impl PlanReader {
         }
     }
 
-    /// Puts a staff of these voices.
+    /// Adds a staff with these voices.
     fn put_staff(&mut self, voices: Row<u32>) -> Result<(), Memory>
         ensures { OnOk result (self.new ≡ with_staff self.old voices) }
     {
@@ -152,7 +152,7 @@ impl PlanReader {
         }
     }
 
-    /// Reads one sign more; false where it can't stand there.
+    /// Reads one more sign. Returns false if it can't be there.
     fn take_sign(&mut self, alloc: Global, sign: PlanSign) -> Result<bool, Memory>
         ensures { IfOk result
             (λ went. cond went (after_sign self.old sign ≡ Some self.new) (after_sign self.old sign ≡ None)) }
@@ -170,7 +170,7 @@ impl PlanReader {
         }
     }
 
-    /// The staves, where nothing is open.
+    /// Returns the staves if nothing is open.
     fn end(self) -> Option<Row<PlannedStaff>>
         ensures { result ≡ ended self }
     {
@@ -191,7 +191,7 @@ fn is_same(bracket: Bracket, other: Bracket) -> bool
     )
 }
 
-/// The staves that signs ask for, or None where the signs don't pair or stand where they can't.
+/// Returns the staves that signs ask for. `None` if the signs don't pair or are where they can't be.
 pub(crate) fn staves_by(
     alloc: Global,
     signs: &[PlanSign],

@@ -9,15 +9,15 @@ use mus_units::bytes::is_same;
 use mus_units::{Memory, Row, Text};
 use std::alloc::Global;
 
-/// The two kinds of brackets round staves, `[ ]` and `{ }`.
+/// The two kinds of brackets around staves, `[ ]` and `{ }`.
 #[derive(Clone, Copy)]
 pub enum Bracket {
     Square,
     Curly,
 }
 
-/// A sign of the text: a voice, by its place, or an id of none; `(` and `)` round voices of one
-/// staff; and brackets round staves.
+/// A sign of the text: a voice by its index, or an id that no voice has; `(` and `)` around voices of one staff; and
+/// brackets around staves.
 #[derive(Clone, Copy)]
 pub enum PlanSign {
     Voice { place: u32 },
@@ -28,7 +28,7 @@ pub enum PlanSign {
     Ends { bracket: Bracket },
 }
 
-/// The signs of a text, in order.
+/// Returns the signs of a text, in order.
 pub(crate) fn signs_of(alloc: Global, text: &[u8], ids: &[Text]) -> Result<Row<PlanSign>, Memory>
     requires { length ids.now < 2 ^ 32 }
     ensures { IfOk result (λ signs. signs ≡ plan_signs_from ids.now [] text.now) }
@@ -48,7 +48,7 @@ pub(crate) fn signs_of(alloc: Global, text: &[u8], ids: &[Text]) -> Result<Row<P
     Ok(signs)
 }
 
-/// Puts the voice that a word names; a word without a byte names none.
+/// Adds the voice that a word names; an empty word names none.
 fn put_word(signs: &mut Row<PlanSign>, word: &[u8], ids: &[Text]) -> Result<(), Memory>
     requires { length ids.now < 2 ^ 32 }
     ensures { OnOk result (signs.new ≡ signs.old ++ word_signs ids.now word.now) }

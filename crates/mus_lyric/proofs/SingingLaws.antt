@@ -1,4 +1,4 @@
--- Syllables are sung in one way on the notes of a line, and it is the one that a walk gives.
+-- Syllables are sung in exactly one way on the notes of a line: the way that a walk finds.
 use Rattle.std.proofs.Common.{◌≡◌, ◌≤◌, ◌<◌, ℕ, ◌+◌, List, [], ◌∷◌, ◌++◌, refl, sym, ◌∙◌, ap, subst, append_assoc, inl}
 use Rattle.std.proofs.Common.{inr, arith}
 use Rattle.std.proofs.lemmas.Bool.{cases_lt, lt-ltb, le-ltb}
@@ -36,7 +36,7 @@ notes_from-none count (note ∷ notes) h =
     let lt : note.measure < count = All-head (λ n. n.measure < count) note notes h in
     rw (lt-ltb note.measure count lt) (notes_from-none count notes (All-tail (λ n. n.measure < count) note notes h))
 
--- what was passed over to come to the first note that the count reaches
+-- the notes skipped to reach the first note that the count allows
 record Passes (count : ℕ) (notes : List NoteAt) (note : NoteAt) (behind : List NoteAt) : Type 0 where
   before : List NoteAt
   are : notes ≡ before ++ note ∷ behind
@@ -68,7 +68,7 @@ found count (note ∷ notes) = elim (cases_lt note.measure count) [
       (record { before = []; are = refl; earlier = All-nil (λ n. n.measure < count); reaches = ge })
 ]
 
--- nothing is sung where the count has passed all notes
+-- nothing is sung if the count is past all notes
 sung_from-none : (syls : List Syl) (count : ℕ) (notes : List NoteAt)
     → AreBefore count notes → sung_from syls count notes ≡ []
 sung_from-none [] count notes h = refl
@@ -80,7 +80,7 @@ sung_from-none (Bar ∷ syls) count notes h =
 goes_on : Syl → List Syl → NoteAt → List NoteAt → List Sung
 goes_on syl syls note left = with_sung syl note (sung_from syls note.measure left)
 
--- a syllable or a skip goes on behind the first note that the count reaches
+-- a syllable or a skip continues after the first note that the count allows
 sung_from-takes : (syl : Syl) (syls : List Syl) (count : ℕ) (notes : List NoteAt)
     → TakesNote syl → sung_from (syl ∷ syls) count notes ≡ on_first (goes_on syl syls) (notes_from count notes)
 unfolding goes_on
@@ -110,7 +110,7 @@ one_way _ _ _ _ (dropped count all syl syls sung t none s) passed notes e h =
     ∙ sym (sung_from-takes syl syls count notes t
     ∙ ap (on_first (goes_on syl syls)) (notes_from-none count notes none_left))
 
--- a syllable or a skip, on what the count finds, where all that follows is sung
+-- a syllable or a skip, on the note that the count finds, when all that follows is sung
 sings_on : (syl : Syl) (syls : List Syl) (count : ℕ) (passed notes found : List NoteAt)
     → TakesNote syl → AreBefore count passed → Found count notes found
     → ((count : ℕ) (passed notes : List NoteAt)

@@ -1,4 +1,4 @@
--- Characters spell one list of syllables, and it is the one that a walk gives.
+-- Characters spell exactly one list of syllables: the list that a walk finds.
 use Rattle.std.proofs.Common.{◌≡◌, ℕ, List, [], ◌∷◌, ◌++◌, refl, sym, ◌∙◌, ap, subst, append_assoc, append-nil}
 use Rattle.std.proofs.lemmas.List.{map-append}
 use Rattle.mus_lyric.specs.declared.character.Character.{Character}

@@ -1,4 +1,4 @@
--- The characters of a line of words: each byte is printed or is a sign, and `\-` is a hyphen that is printed.
+-- The characters of a line of words: each byte is printed or is a sign, and `\-` is a printed hyphen.
 use Rattle.std.specs.Prelude.{ℕ, List, [], ◌∷◌, Bool, ◌==◌, ◌&&◌, ◌||◌, if◌then◌else◌}
 use Rattle.mus_lyric.specs.declared.character.Character.{Character}
 use Rattle.mus_lyric.specs.declared.character.Character.TheVariants.{Printed, Blank, Hyphen, Underscore, Star, BarLine}

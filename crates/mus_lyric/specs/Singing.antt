@@ -11,7 +11,7 @@ with_sung (Print text) note sung = record { event = note.event; text = text } �
 with_sung Skip note sung = sung
 with_sung Bar note sung = sung
 
--- a syllable or a skip, which take a note
+-- a syllable or a skip: both take a note
 abbrev pub TakesNote : Syl → Type 0
 TakesNote (Print text) = Unit {0}
 TakesNote Skip = Unit {0}
@@ -20,7 +20,7 @@ TakesNote Bar = ⊥
 abbrev pub AreBefore : ℕ → List NoteAt → Type 0
 AreBefore count notes = All (λ n. n.measure < count) notes
 
--- a note is the first of those not yet taken whose measure is at least the count; these others are left
+-- a note is the first of those not yet taken whose measure is at least the count, and these other notes are left
 pub record Takes (count : ℕ) (notes : List NoteAt) (note : NoteAt) (left : List NoteAt) : Type 0 where
   pub before : List NoteAt
   pub behind : List NoteAt
@@ -29,8 +29,8 @@ pub record Takes (count : ℕ) (notes : List NoteAt) (note : NoteAt) (left : Lis
   pub earlier : AreBefore count before
   pub reaches : count ≤ note.measure
 
--- Syllables sung on the notes not yet taken. The count is the measure of the last note taken,
--- plus one for each bar sign since. What finds no note is dropped.
+-- Syllables sung on the notes not yet taken. The count is the measure of the last note taken, plus one for each bar
+-- sign since. A syllable or skip that finds no note is dropped.
 pub data Sings : ℕ → List NoteAt → List Syl → List Sung → Type 0 where
   ends : (count : ℕ) (notes : List NoteAt) → Sings count notes [] []
   bar : (count : ℕ) (notes : List NoteAt) (syls : List Syl) (sung : List Sung)
@@ -47,13 +47,13 @@ abbrev pub first_measure : List NoteAt → ℕ
 first_measure [] = 0
 first_measure (note ∷ notes) = note.measure
 
--- what is sung where the notes of a line of music meet the syllables of a line of words
+-- what is sung when the syllables of a line of words are aligned with the notes of a line of music
 abbrev pub AreSungOn : List NoteAt → List Syl → List Sung → Type 0
 AreSungOn notes syls sung = Sings (first_measure notes) notes syls sung
 
--- ---- one list of what is sung, between its definition and the code
+-- ---- what is sung as a list, between its definition and the code
 
--- the notes from the first on whose measure is at least the count
+-- the notes from the first one whose measure is at least the count
 abbrev pub notes_from : ℕ → List NoteAt → List NoteAt
 notes_from count [] = []
 notes_from count (note ∷ notes) = if nat_lt note.measure count then notes_from count notes else note ∷ notes

@@ -1,5 +1,5 @@
--- The syllables of a line of words. A run of printed characters is a syllable, as long as it can
--- be, and a hyphen directly behind it is printed with it and ends it.
+-- The syllables of a line of words. A syllable is a longest run of printed characters, and a hyphen directly after it
+-- is printed with it and ends it.
 use Rattle.std.specs.Prelude.{ℕ, List, [], ◌∷◌, ◌++◌, map}
 use Rattle.mus_lyric.specs.declared.character.Character.{Character}
 use Rattle.mus_lyric.specs.declared.character.Character.TheVariants.{Printed, Blank, Hyphen, Underscore, Star, BarLine}
@@ -7,7 +7,7 @@ use Rattle.mus_lyric.specs.declared.syllable.Syl.{Syl}
 use Rattle.mus_lyric.specs.Characters.{characters}
 use Rattle.mus_lyric.specs.declared.syllable.Syl.TheVariants as syl
 
--- no printed character and no hyphen stands first
+-- does not begin with a printed character or a hyphen
 abbrev pub EndsRun : List Character → Type 0
 EndsRun [] = Unit {0}
 EndsRun (Printed byte ∷ more) = ⊥
@@ -17,7 +17,7 @@ EndsRun (Underscore ∷ more) = Unit {0}
 EndsRun (Star ∷ more) = Unit {0}
 EndsRun (BarLine ∷ more) = Unit {0}
 
--- the characters of a run of bytes that are printed
+-- the characters of a run of printed bytes
 abbrev pub printed_run : List ℕ → List Character
 printed_run run = map Printed run
 
@@ -46,12 +46,12 @@ AreSyllablesOf words syls = SpellsSyllables (characters words) syls
 
 -- ---- one list of syllables, between their definition and the code
 
--- a run that ends here, where there is one
+-- a run that ends here, if there is one
 abbrev pub run_ended : List ℕ → List Syl → List Syl
 run_ended [] syls = syls
 run_ended (first ∷ run) syls = syl.Print (first ∷ run) ∷ syls
 
--- the syllables of characters behind a run
+-- the syllables of characters after a run
 abbrev pub behind_run : List ℕ → List Character → List Syl
 behind_run run [] = run_ended run []
 behind_run run (Printed byte ∷ more) = behind_run (run ++ byte ∷ []) more

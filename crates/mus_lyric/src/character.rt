@@ -1,7 +1,7 @@
 ghost use Rattle.std.specs.Prelude.{◌≡◌, ◌<◌, ◌∷◌, [], length, IfSome, MatchOption};
 ghost use Rattle.mus_lyric.specs.Characters.{character_of, characters};
 
-/// What a byte means in a line of words: a byte that is printed, or a sign.
+/// The meaning of a byte in a line of words: a printed byte or a sign.
 #[derive(Clone, Copy, PartialEq, Eq)]
 pub enum Character {
     Printed(u8),
@@ -12,7 +12,7 @@ pub enum Character {
     BarLine,
 }
 
-/// The first character of some bytes, and the bytes behind it.
+/// Returns the first character of some bytes, and the bytes after it.
 pub(crate) fn first_character(bytes: &[u8]) -> Option<(Character, &[u8])>
     ensures first { MatchOption result (bytes.now ≡ []) (λ x. characters bytes.now ≡ x.0 ∷ characters x.1.now) }
     ensures shorter { IfSome result (λ x. length x.1.now < length bytes.now) }
@@ -24,7 +24,7 @@ pub(crate) fn first_character(bytes: &[u8]) -> Option<(Character, &[u8])>
     }
 }
 
-/// What a byte means by itself.
+/// Returns the meaning of a single byte.
 #[tactic(auto, unfolding(crate::specs::Characters::character_of))]
 fn character_of(byte: u8) -> Character
     ensures { result ≡ character_of byte }

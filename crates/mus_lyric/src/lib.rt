@@ -1,7 +1,7 @@
 //! Lyrics: the syllables of a line of words, and the notes on which they are sung.
 //!
-//! A line of words is read as characters, and runs of printed ones are syllables. Each syllable
-//! takes the next note, and a bar sign moves on to the notes of the next measure.
+//! A line of words is read as characters; runs of printed ones are syllables. Each syllable takes the next note, and
+//! a bar sign moves on to the notes of the next measure.
 #![tactic(auto)]
 
 pub mod character;

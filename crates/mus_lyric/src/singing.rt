@@ -20,11 +20,11 @@ pub struct Sung {
     pub text: Text,
 }
 
-/// What is sung where the notes of a line of music meet the syllables of a line of words.
+/// Aligns the syllables of a line of words with the notes of a line of music. Returns what is sung.
 ///
-/// Each syllable and each skip takes the first note not yet taken whose measure is at least the count:
-/// the measure of the last note taken, at first that of the first note, plus one for each bar sign
-/// since. What finds no note is dropped.
+/// Each syllable and each skip takes the first note not yet taken whose measure is at least the count. The count is
+/// the measure of the last note taken, or at first that of the first note, plus one for each bar sign since. A
+/// syllable or skip that finds no note is dropped.
 pub fn align(alloc: Global, syls: &[Syl], notes: &[NoteAt]) -> Result<Row<Sung>, Memory>
     ensures sung { IfOk result (λ sung. AreSungOn notes.now syls.now sung) }
     ensures one_list { IfOk result (λ sung. (other : List Sung) → AreSungOn notes.now syls.now other → other ≡ sung) }
@@ -48,7 +48,7 @@ pub fn align(alloc: Global, syls: &[Syl], notes: &[NoteAt]) -> Result<Row<Sung>,
     Ok(sung)
 }
 
-/// The measure of the first note.
+/// Returns the measure of the first note.
 fn first_measure(notes: &[NoteAt]) -> u64
     ensures value { result ≡ first_measure notes.now }
     ensures within { result < 2 ^ 32 }
@@ -59,7 +59,7 @@ fn first_measure(notes: &[NoteAt]) -> u64
     }
 }
 
-/// The first note whose measure is at least the count, and the notes behind it.
+/// Returns the first note whose measure is at least the count, and the notes after it.
 fn next_note(notes: &[NoteAt], count: u64) -> Option<(NoteAt, &[NoteAt])>
     ensures { MatchOption result (notes_from count notes.now ≡ []) (λ x. notes_from count notes.now ≡ x.0 ∷ x.1.now) }
 {

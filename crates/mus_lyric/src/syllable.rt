@@ -9,7 +9,7 @@ use mus_units::{Memory, Row, Text};
 use std::alloc::Global;
 use std::mem;
 
-/// A syllable that is printed, a note that is passed over, or a bar sign.
+/// A printed syllable, a skipped note, or a bar sign.
 #[derive(Drop)]
 pub enum Syl {
     Print(Text),
@@ -17,11 +17,11 @@ pub enum Syl {
     Bar,
 }
 
-/// The syllables of a line of words.
+/// Returns the syllables of a line of words.
 ///
-/// A syllable runs to a blank, `-`, `_`, `*` or `|`; a `-` directly behind it is printed with it and
-/// ends it. Any other `-` is a syllable, and so is `_`; `*` is a note that is passed over and `|` a bar
-/// sign. `~` is printed as a space and `\-` as a hyphen.
+/// A syllable runs up to a blank, `-`, `_`, `*` or `|`; a `-` directly after it is printed with it and ends it. Any
+/// other `-` is a syllable, and so is `_`; `*` skips a note and `|` is a bar sign. `~` is printed as a space and `\-`
+/// as a hyphen.
 pub fn syllables(alloc: Global, words: &[u8]) -> Result<Row<Syl>, Memory>
     ensures spelt { IfOk result (λ syls. AreSyllablesOf words.now syls) }
     ensures one_list { IfOk result (λ syls. (other : List Syl) → AreSyllablesOf words.now other → other ≡ syls) }
@@ -38,7 +38,7 @@ pub fn syllables(alloc: Global, words: &[u8]) -> Result<Row<Syl>, Memory>
     Ok(syls)
 }
 
-/// Adds a character to the run before it, or ends that run and adds what the character is by itself.
+/// Adds a character to the run before it, or ends that run and adds the meaning of the character by itself.
 fn put_character(
     alloc: Global,
     character: Character,
@@ -75,7 +75,7 @@ fn put_character(
     Ok(())
 }
 
-/// Adds the run as a syllable, where it has a byte, and begins a new one.
+/// Adds the run as a syllable if it has a byte, and begins a new one.
 fn end_run(alloc: Global, run: &mut Text, syls: &mut Row<Syl>) -> Result<(), Memory>
     ensures put { OnOk result (syls.new ≡ syls.old ++ run_ended run.old []) }
     ensures fresh { OnOk result (run.new ≡ []) }

@@ -14,7 +14,7 @@ use Rattle.mus_score.specs.declared.times.PendingLeaf.{PendingLeaf}
 use Rattle.mus_score.specs.Times.{Leafing, Leaves, flats_of, in_row, leaf, leaves_step, leaves_within, no_pending_leaf}
 use Rattle.mus_transpose.specs.Moved.{changed, changed_flat, changed_layer, changed_step}
 
--- what two folds must keep, one over the changed tree
+-- what two folds must preserve, one of them over the changed tree
 pub record Keeps {A B : Type 0} (g : Event → Event) (R : A → B → Type 0) (s : Music-F A → A)
     (t : Music-F B → B) : Type 0 where
   pub note : (e : Event) → R (s (Music-F.Note (g e))) (t (Music-F.Note e))
@@ -60,7 +60,7 @@ pub all_keep : {A B : Type 0} (g : Event → Event) (R : A → B → Type 0) (s 
 all_keep g R s t k [] = tt
 all_keep g R s t k (m ∷ ms) = (folds_keep g R s t k m, all_keep g R s t k ms)
 
--- ---- a fold that doesn't see the change
+-- ---- a fold that does not see the change
 abbrev Equal : {A : Type 0} → A → A → Type 0
 Equal a b = a ≡ b
 
@@ -139,7 +139,7 @@ flats_changed g keeps body =
     (row g (map leaves_within (map (changed g) body)) (map leaves_within body)
     (all_keep g (Changes g) leaves_step leaves_step k body) 1 1 no_pending_leaf)
 
--- ---- where nothing changes
+-- ---- when nothing changes
 abbrev Same : Music → Type 0
 Same m = changed (λ e. e) m ≡ m
 

@@ -185,7 +185,7 @@ moved_good m s good reach = record {
   led = led_still m s.voices good.led;
 }
 
--- ---- what is in reach, and its tests
+-- ---- reach, and its tests
 le_decides : (x y : ℤ) → Decides (int_le x y) (x ≤ℤ y)
 le_decides x y = (λ e. grind (arith, ints), λ l. grind (arith, ints))
 
@@ -224,7 +224,7 @@ voices_decide vs =
     Decides-by_and test (λ v. AreInReach v.clef (events_of v.measures)) (list_all test)
     (λ v. flats_decide v.clef (events_of v.measures)) refl (λ _ _. refl) vs
 
--- ---- what the tests tell of a move
+-- ---- what the tests say about a move
 abbrev pub all_in_reach : List Voice → Bool
 all_in_reach vs = list_all (λ v. are_in_reach v.clef (events_of v.measures)) vs
 

@@ -1,5 +1,5 @@
--- Moved scores. A head moves by letters, and a sign before it becomes the one that is as many semitones higher; a key
--- moves by sharps. Beside each stands the test whether it can be moved.
+-- Moved scores. A head moves by letters, and an accidental before it becomes the one that is as many semitones
+-- higher; a key moves by sharps. Beside each is the test whether it can be moved.
 use Rattle.std.specs.Prelude.{◌≡◌, ◌≢◌, ⊤, zero, suc, ℕ, ℤ, pos, negsuc, ◌+ℤ◌, ◌-ℤ◌, ◌*ℤ◌, ◌≤ℤ◌, ◌&&◌, nat_le, int_le}
 use Rattle.std.specs.Prelude.{Bool, true, false, List, [], ◌∷◌, length, map, All, MatchOption, Option, Some, None}
 use Rattle.std.specs.Prelude.{Result, Ok, Err, is_some, unwrap_or}
@@ -47,7 +47,7 @@ alter_of Alter.Natural = pos 0
 alter_of Alter.Sharp = pos 1
 alter_of Alter.Sharp2 = pos 2
 
--- the alteration of so many semitones, where there is one
+-- the alteration by that many semitones, if there is one
 abbrev pub alter_from : ℤ → Option Alter
 alter_from (pos zero) = Some Alter.Natural
 alter_from (pos (suc zero)) = Some Alter.Sharp
@@ -62,7 +62,7 @@ semitones p a = (pos 12 *ℤ p.octave +ℤ pos (half_steps_above_c p.letter)) +�
 abbrev pub Within : ℤ → ℤ → ℤ → Type 0
 Within least most z = (least ≤ℤ z) × (z ≤ℤ most)
 
--- the key of -5 to 6 sharps that is seven fifths further for each semitone, whole rounds of twelve fifths aside
+-- the key of -5 to 6 sharps that is seven fifths further for each semitone, modulo twelve fifths
 abbrev pub new_sharps : ℤ → ℤ → ℤ
 new_sharps sharps by = int_rem_euclid ((sharps +ℤ (pos 7 *ℤ by)) +ℤ pos 5) (pos 12) -ℤ pos 5
 
@@ -84,16 +84,16 @@ moved_steps m p = steps p +ℤ m.letters
 unfoldable pub moved_pitch : Move → Pitch → Pitch
 moved_pitch m p = pitch_of_steps (moved_steps m p)
 
--- the moved pitch is in reach in one clef or another, from seven ledger lines below the lowest staff, G2, to seven
--- above the highest, E4: graces behind the last event of a measure stand in none of their own
+-- the moved pitch is in reach in at least one clef, from seven ledger lines below the lowest staff, G2, to seven
+-- above the highest, E4: graces after the last event of a measure are in no clef of their own
 abbrev pub is_near_staff : Move → Pitch → Bool
 is_near_staff m p = int_le (pos 4) (moved_steps m p) && int_le (moved_steps m p) (pos 52)
 
--- the alteration at the moved pitch with which a head is so many semitones higher, where there is one
+-- the alteration at the moved pitch with which a head is that many semitones higher, if there is one
 unfoldable pub moved_alter : Move → Pitch → Alter → Option Alter
 moved_alter m p a = alter_from ((semitones p a +ℤ m.semitones) -ℤ semitones (moved_pitch m p) Alter.Natural)
 
--- a sign that is past a double one stays, but its score can't be moved
+-- an accidental that would be beyond a double one stays, but its score cannot be moved
 abbrev pub moved_sign : Move → Pitch → Option Alter → Option Alter
 moved_sign m p sign = option_map (λ a. unwrap_or (moved_alter m p a) a) sign
 
@@ -108,7 +108,7 @@ head_moves m h = is_near_staff m h.pitch && sign_moves m h.pitch h.sign
 
 -- ---- keys
 
--- the sharps of a key by its first sign, a flat counting as one less
+-- the sharps of a key by its first accidental; each flat counts as one less
 abbrev pub sharps_by : Alter → ℤ → ℤ
 sharps_by Alter.Flat count = pos 0 -ℤ count
 sharps_by _ count = count
@@ -120,7 +120,7 @@ sharps_in (s ∷ signs) = sharps_by s.alter (pos (suc (length signs)))
 abbrev pub same_sign : Sign → Sign → Bool
 same_sign s t = same_letter s.letter t.letter && int_eq (alter_of s.alter) (alter_of t.alter)
 
--- a key on the circle of fifths has the signs of -7 to 7 sharps, in their order
+-- a key on the circle of fifths has the accidentals of -7 to 7 sharps, in their order
 abbrev pub on_circle : Key → Bool
 on_circle k = nat_le (length k.signs) 7 && pointwise same_sign k.signs (signs_of (sharps_in k.signs))
 
@@ -131,7 +131,7 @@ moved_key m k = record { signs = signs_of (sharps_in k.signs +ℤ m.sharps) }
 abbrev pub key_may : Move → Key → Bool
 key_may m k = on_circle k && is_signature (sharps_in k.signs +ℤ m.sharps)
 
--- ---- events, the graces among them
+-- ---- events, including graces
 abbrev pub event_by : Move → Event → Event
 event_by m e = record e {
   heads = map (moved_head m) e.heads;
@@ -163,7 +163,7 @@ abbrev pub all_true : List Bool → Bool
 all_true [] = true
 all_true (b ∷ bs) = b && all_true bs
 
--- each event in a node passes a test, graces too
+-- each event in a node passes a test, including graces
 abbrev pub passing_step : (Event → Bool) → Music-F Bool → Bool
 passing_step test (Music-F.Note e) = test e
 passing_step test (Music-F.Rest e) = test e
@@ -192,13 +192,13 @@ voice_may by v = key_may by v.key && list_all (λ x. body_may by x.body) v.measu
 abbrev pub score_by : Move → Score → Score
 score_by by s = record s { voices = map (voice_by by) s.voices }
 
--- what a call gives: the moved value where all in it can be moved, else no move
+-- the result of a call: the moved value if all in it can be moved, or else no move
 abbrev pub GivesIfMovable : {A : Type 0} → Bool → A → Result A MoveError → Type 0
 GivesIfMovable may x (Ok r) = (may ≡ true) × (r ≡ x)
 GivesIfMovable may x (Err MoveError.NoMove) = may ≡ false
 GivesIfMovable may x (Err MoveError.Memory) = ⊤
 
--- ---- what is in reach: the same as `AreInReach`, as a test
+-- ---- reach: the same as `AreInReach`, as a test
 abbrev pub in_reach : Clef → Head → Bool
 in_reach clef h = int_le (negsuc 13) (height_of h.pitch clef) && int_le (height_of h.pitch clef) (pos 22)
 
@@ -218,14 +218,14 @@ move_from header by = move_for (sharps_in header.signs) by
 abbrev pub moved_score : Score → Key → ℤ → Score
 moved_score s header by = score_by (move_from header by) s
 
--- the header's key and each key of the score, before and behind the move, are on the circle of fifths, no moved sign is
--- past a double one, and each moved head is in reach
+-- the header's key and each key of the score, before and after the move, are on the circle of fifths, no moved
+-- accidental is beyond a double one, and each moved head is in reach
 pub record CanMove (s : Score) (key : Key) (by : ℤ) : Type 0 where
   pub header : on_circle key ≡ true
   pub voices : list_all (voice_may (move_from key by)) s.voices ≡ true
   pub reach : All (λ v. AreInReach v.clef (events_of v.measures)) (moved_score s key by).voices
 
--- what comes of a move by so many semitones: by none it is the score itself, and a score that can't be moved gives none
+-- the result of a move by that many semitones: by none the score itself, and none if the score cannot be moved
 pub record IsMoved (s : Score) (key : Key) (by : ℤ) (moved : Option Score) : Type 0 where
   pub same : by ≡ pos 0 → moved ≡ Some s
   pub higher : by ≢ pos 0

@@ -7,7 +7,7 @@ use crate::moves::Move;
 use mus_pitch::pitch_of_steps;
 use mus_units::{Alter, Clef, Head, Letter, Pitch, height};
 
-/// The semitones from C to a letter.
+/// Returns the semitones from C to a letter.
 fn natural(letter: Letter) -> u8
     ensures value { result ≡ half_steps_above_c letter }
     ensures most { result ≤ 11 }
@@ -23,7 +23,7 @@ fn natural(letter: Letter) -> u8
     }
 }
 
-/// The semitones of an alteration.
+/// Returns the semitones of an alteration.
 fn half_steps(alter: Alter) -> i64
     ensures value { result ≡ alter_of alter }
     ensures fits { Within (negsuc 1) (pos 2) result }
@@ -37,7 +37,7 @@ fn half_steps(alter: Alter) -> i64
     }
 }
 
-/// The alteration of so many semitones.
+/// Returns the alteration by this number of semitones, if there is one.
 fn alter_from(z: i64) -> Option<Alter>
     ensures { result ≡ alter_from z }
 {
@@ -51,7 +51,7 @@ fn alter_from(z: i64) -> Option<Alter>
     }
 }
 
-/// The semitones of a pitch above C0, its alteration aside.
+/// Returns the semitones of a pitch above C0, ignoring its alteration.
 fn natural_semitones(p: Pitch) -> i64
     ensures value { result ≡ pos 12 *ℤ p.octave +ℤ pos (half_steps_above_c p.letter) }
     ensures fits { Within (negsuc 28999999999) (pos 29000000000) result }
@@ -67,7 +67,7 @@ fn semitones(p: Pitch, a: Alter) -> i64
     natural_semitones(p) + half_steps(a)
 }
 
-/// The steps of a pitch above C0. The bottom line of the treble clef is 30 steps above C0.
+/// Returns the steps of a pitch above C0. The bottom line of the treble clef is 30 steps above C0.
 #[tactic(auto, using(crate::proofs::MovedGood::few_letters), unfolding(mus_pitch::specs::Steps::steps))]
 fn steps(p: Pitch) -> i64
     ensures value { result ≡ steps p }
@@ -89,7 +89,7 @@ fn is_near_staff(m: Move, p: Pitch) -> bool
     4 <= steps && steps <= 52
 }
 
-/// The moved pitch, or None where it is in reach in no clef.
+/// Returns the moved pitch. `None` if it is in reach in no clef.
 #[tactic(auto, unfolding(crate::specs::Moved::moved_pitch))]
 fn moved_pitch(m: Move, p: Pitch) -> Option<Pitch>
     ensures { MatchOption result (is_near_staff m p ≡ false) (λ q. (is_near_staff m p ≡ true) × (q ≡ moved_pitch m p)) }
@@ -109,7 +109,7 @@ fn semitones_between(from: i64, by: i32, to: i64) -> i64
     from + i64::from(by) - to
 }
 
-/// What a sign becomes before the moved pitch `q`, or None where that is past a double one.
+/// Returns what an accidental becomes before the moved pitch `q`. `None` if that is beyond a double one.
 #[tactic(auto, unfolding(crate::specs::Moved::moved_alter))]
 fn moved_alter(m: Move, p: Pitch, q: Pitch, a: Alter) -> Option<Alter>
     requires { q ≡ moved_pitch m p }
@@ -119,7 +119,7 @@ fn moved_alter(m: Move, p: Pitch, q: Pitch, a: Alter) -> Option<Alter>
     alter_from(semitones_between(semitones(p, a), m.semitones, natural))
 }
 
-/// The moved head, or None where it or its sign has no moved one.
+/// Returns the moved head. `None` if it or its accidental can't be moved.
 pub(crate) fn moved_head(m: Move, h: Head) -> Option<Head>
     ensures { MatchOption result (head_moves m h ≡ false) (λ r. (head_moves m h ≡ true) × (r ≡ moved_head m h)) }
 {

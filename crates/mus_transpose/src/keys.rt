@@ -9,7 +9,7 @@ use mus_pitch::key_of;
 use mus_units::{Alter, Key, Memory, Sign};
 use std::alloc::Global;
 
-/// The sharps of at most seven signs, by the first of them: a flat counts as one less.
+/// Returns the number of sharps of at most seven accidentals, by the first of them: each flat counts as one less.
 pub(crate) fn sharps_in(signs: &[Sign]) -> i8
     requires { length signs.now ≤ 7 }
     ensures value { result ≡ sharps_in signs.now }
@@ -31,7 +31,7 @@ fn same_signs(signs: &[Sign], others: &[Sign]) -> bool
     signs == others
 }
 
-/// Whether a key has the signs of -7 to 7 sharps, in their order.
+/// Returns whether a key has the accidentals of -7 to 7 sharps, in their order.
 pub(crate) fn on_circle(alloc: Global, key: &Key) -> Result<bool, Memory>
     ensures { IfOk result (λ r. r ≡ on_circle key.now) }
 {
@@ -42,7 +42,7 @@ pub(crate) fn on_circle(alloc: Global, key: &Key) -> Result<bool, Memory>
     Ok(same_signs(key.signs.as_slice(), other.signs.as_slice()))
 }
 
-/// The sharps of the moved key.
+/// Returns the number of sharps of the moved key.
 fn moved_sharps(sharps: i8, by: i32) -> i64
     ensures value { result ≡ sharps +ℤ by }
     ensures fits { Within (negsuc 2999999999) (pos 3000000000) result }
@@ -50,7 +50,7 @@ fn moved_sharps(sharps: i8, by: i32) -> i64
     i64::from(sharps) + i64::from(by)
 }
 
-/// The sharps of a signature, or None where there are more than seven sharps or flats.
+/// Returns the sharps of a signature. `None` if there are more than seven sharps or flats.
 fn signature(sharps: i64) -> Option<i8>
     requires { Within (negsuc 2999999999) (pos 3000000000) sharps }
     ensures { MatchOption result (is_signature sharps ≡ false) (λ n. (is_signature sharps ≡ true) × (n ≡ sharps)) }
@@ -62,7 +62,7 @@ fn signature(sharps: i64) -> Option<i8>
     }
 }
 
-/// The moved key.
+/// Returns the moved key.
 pub(crate) fn moved_key(alloc: Global, by: Move, key: &Key) -> Moved<Key>
     ensures { GivesIfMovable (key_may by key.now) (moved_key by key.now) result }
 {

@@ -1,8 +1,8 @@
-//! Transposition: a score with each head moved by so many semitones, along the circle of fifths.
+//! Transposition: a score with each head moved by a number of semitones, along the circle of fifths.
 //!
-//! The key of a tune's header moves to the nearest key that is so many semitones away, and each
-//! key and each head of the score moves by as many fifths. A sign before a head becomes the one
-//! with which the head is as many semitones higher.
+//! The key of a tune's header moves to the nearest key that many semitones away, and each key and each head of the
+//! score moves by the same number of fifths. An accidental before a head becomes the one with which the head sounds
+//! that many semitones higher.
 #![tactic(auto)]
 
 pub mod heads;

@@ -5,8 +5,8 @@ ghost use Rattle.mus_transpose.specs.Moved.{Within, new_sharps, move_for};
 
 use mus_units::Memory;
 
-/// How far a score moves: by how many semitones its heads sound higher, by how many sharps its keys
-/// move, and by how many letters its heads.
+/// How far a score moves: by how many semitones its heads sound higher, by how many sharps its keys move, and by how
+/// many letters its heads move.
 #[derive(Clone, Copy, PartialEq, Eq)]
 pub struct Move {
     pub semitones: i32,
@@ -14,10 +14,10 @@ pub struct Move {
     pub letters: i32,
 }
 
-/// Why nothing is moved.
+/// Why a move fails.
 #[derive(Clone, Copy, PartialEq, Eq)]
 pub enum MoveError {
-    /// A key, a sign or a head has no moved one.
+    /// A key, an accidental or a head can't be moved.
     NoMove,
     /// Memory ran out.
     Memory,
@@ -33,14 +33,14 @@ impl From<Memory> for MoveError {
 
 pub(crate) type Moved<T> = Result<T, MoveError>;
 
-/// Seven fifths for each semitone, from a key of so many sharps.
+/// Returns the key seven fifths further for each semitone, from a key with this number of sharps.
 fn climbed(sharps: i8, by: i8) -> i32
     ensures { result ≡ (sharps +ℤ (pos 7 *ℤ by)) +ℤ pos 5 }
 {
     i32::from(sharps) + 7 * i32::from(by) + 5
 }
 
-/// How far a number is above the last multiple of 12.
+/// Returns the distance of a number above the last multiple of 12.
 fn above_twelve(z: i32) -> i32
     ensures value { result ≡ int_rem_euclid z (pos 12) }
     ensures fits { Within (pos 0) (pos 11) result }
@@ -48,7 +48,7 @@ fn above_twelve(z: i32) -> i32
     z.rem_euclid(12)
 }
 
-/// The sharps of the new key.
+/// Returns the number of sharps of the new key.
 fn new_sharps(sharps: i8, by: i8) -> i32
     ensures value { result ≡ new_sharps sharps by }
     ensures fits { Within (negsuc 4) (pos 6) result }
@@ -56,7 +56,7 @@ fn new_sharps(sharps: i8, by: i8) -> i32
     above_twelve(climbed(sharps, by)) - 5
 }
 
-/// By how many sharps keys move.
+/// Returns by how many sharps keys move.
 fn change_of(sharps: i8, by: i8) -> i32
     ensures value { result ≡ new_sharps sharps by -ℤ sharps }
     ensures fits { Within (negsuc 131) (pos 134) result }
@@ -89,7 +89,7 @@ fn letters(change: i32, octaves: i32) -> i32
     4 * change - 7 * octaves
 }
 
-/// The move by `by` semitones from a key of `sharps` sharps.
+/// Returns the move by `by` semitones from a key of `sharps` sharps.
 #[tactic(auto, unfolding(crate::specs::Moved::move_for))]
 pub(crate) fn move_for(sharps: i8, by: i8) -> Move
     ensures { result ≡ move_for sharps by }

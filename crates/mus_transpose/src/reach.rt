@@ -25,7 +25,7 @@ fn graces_in_reach(clef: Clef, graces: &[Event]) -> bool
         .all(|grace| heads_in_reach(clef, grace.heads.as_slice()))
 }
 
-/// Whether each head of some events is in reach, grace heads too.
+/// Returns whether each head of some events is in reach, including grace heads.
 pub(crate) fn are_in_reach(before: Clef, flats: &[Flat<'_>]) -> bool
     ensures { result ≡ are_in_reach before flats.now }
 {

@@ -54,7 +54,7 @@ fn voices_by(alloc: Global, by: Move, voices: &[Voice]) -> Moved<Row<Voice>>
     Ok(out)
 }
 
-/// A moved copy of a score.
+/// Returns a moved copy of a score.
 fn score_by(alloc: Global, by: Move, s: &Score) -> Moved<Score>
     ensures { GivesIfMovable (list_all (voice_may by) s.now.voices) (score_by by s.now) result }
 {
@@ -79,7 +79,7 @@ fn all_in_reach(alloc: Global, voices: &[Voice]) -> Result<bool, Memory>
     Ok(true)
 }
 
-/// The move by so many semitones of a tune whose header names this key.
+/// Returns the move by this number of semitones of a tune whose header names this key.
 fn move_from(header: &Key, by: i8) -> Move
     requires { on_circle header.now ≡ true }
     ensures { result ≡ move_from header.now by }
@@ -87,7 +87,7 @@ fn move_from(header: &Key, by: i8) -> Move
     move_for(sharps_in(header.signs.as_slice()), by)
 }
 
-/// A score by a move, or None where it can't be moved.
+/// Returns a score moved by a move. `None` if it can't be moved.
 fn moved_by(alloc: Global, s: &Score, header: &Key, by: i8) -> Result<Option<Score>, Memory>
     requires { IsGoodScore s.now }
     ensures { IfOk result (λ r.
@@ -110,12 +110,12 @@ fn moved_by(alloc: Global, s: &Score, header: &Key, by: i8) -> Result<Option<Sco
     }
 }
 
-/// A score moved by `by` semitones, itself for none. The key of the tune's header, of k
-/// sharps, moves to that of k' sharps, -5 to 6, for which k' - k - 7·by is a multiple of 12; every
-/// key has j = k' - k sharps more, every head, grace heads too, stands 4·j - 7·(7·j - by)/12
-/// letters higher, and a sign before a head becomes the one with which the head is `by` semitones
-/// higher. None exactly where `by` isn't 0 and a key, the header's too, isn't one of -7 to 7
-/// sharps before and behind the move, or a sign would be past a double one, or a head out of reach.
+/// Returns a score moved by `by` semitones; by 0 it is the score itself. The key of the tune's header, of k sharps,
+/// moves to that of k' sharps, -5 to 6, for which k' - k - 7·by is a multiple of 12. Every key has j = k' - k sharps
+/// more. Every head, including grace heads, is 4·j - 7·(7·j - by)/12 letters higher, and an accidental before a head
+/// becomes the one with which the head is `by` semitones higher. `None` exactly when `by` isn't 0 and a key,
+/// including the header's, isn't one of -7 to 7 sharps before and after the move, or an accidental would be beyond a
+/// double one, or a head out of reach.
 #[tactic(auto, using(crate::proofs::MovedGood::moved_good))]
 pub fn moved_or_same(alloc: Global, s: Score, header: &Key, by: i8) -> Result<Option<Score>, Memory>
     requires { IsGoodScore s }

@@ -26,7 +26,7 @@ fn moved_heads(alloc: Global, m: Move, heads: &[Head]) -> Moved<Few<Head>>
     Ok(Few::from(out))
 }
 
-/// A moved copy of an event.
+/// Returns a moved copy of an event.
 fn event_by(alloc: Global, by: Move, e: &Event) -> Moved<Event>
     ensures { GivesIfMovable (event_may by e.now) (event_by by e.now) result }
 {
@@ -57,7 +57,7 @@ fn node_by(alloc: Global, by: Move, node: &Music) -> Moved<Music>
     }
 }
 
-/// A copy of a body, its events moved.
+/// Returns a copy of a body with its events moved.
 #[cycle(trees)]
 pub(crate) fn body_by(alloc: Global, by: Move, body: &[Music]) -> Moved<Row<Music>>
     ensures { GivesIfMovable (body_may by body.now) (body_by by body.now) result }

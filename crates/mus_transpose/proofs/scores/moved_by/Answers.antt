@@ -1,4 +1,4 @@
--- The move of the header's key is the one meant, and the tests decide what can be moved by it.
+-- The header's key gives the right move, and the tests decide whether the score can be moved by it.
 use Rattle.std.proofs.Common.{◌∙◌, All, List, ap, subst, sym, w8}
 use Rattle.std.proofs.lemmas.Int.{to_z-of_z}
 use Rattle.mus_score.specs.{declared.score.Score.Score, declared.score.Voice.Voice, Good.IsGoodBody}
