@@ -1,4 +1,4 @@
--- What is read goes on from part to part.
+-- Reading continues from part to part.
 use Rattle.std.proofs.Common.{◌≡◌, ℕ, suc, ◌+◌, ◌<◌, ◌≤◌, ◌^◌, List, [], ◌∷◌, ◌++◌, length, map, take, drop, get_or}
 use Rattle.std.proofs.Common.{refl, sym, ap, ◌∙◌, subst, arith, append_assoc, append-nil, drop-cons, Option, Some, None}
 use Rattle.std.proofs.Common.{Bool, true, false, ◌&&◌, All, flat_map}
@@ -26,7 +26,7 @@ use Rattle.abc_lines.specs.Good.{size_of}
 use Rattle.abc_music.specs.declared.token.Placed.{Placed}
 use Rattle.{abc_field.specs.declared.directive.Breaks.{Breaks}, abc_fields.specs.declared.header.Header.{Header}}
 
--- one element more of a row that is made of another
+-- one more element of a list mapped from another
 pub mapped-more : {X Y : Type 0} (f : X → Y) (xs : List X) (i : ℕ) (x : X) (done new : List Y) (y : Y)
     → i < length xs → x ≡ get_or xs i x → new ≡ done ++ y ∷ [] → y ≡ f x
     → done ++ map f (drop i xs) ≡ map f xs → new ++ map f (drop (i + 1) xs) ≡ map f xs
@@ -111,7 +111,7 @@ stops_within of a b all rest more x (TuneError.Fault fault) faults is s =
     ∙ ap (λ g. first_item_fault (judged_items b.ids g)) (append-nil (of x ++ flat_map of more))
     ∙ stays b.ids (of x) (flat_map of more) fault s
 
--- one line more
+-- one more line
 pub lines_more : (breaks : Breaks) (lines : List Line) (i : ℕ) (line : Line) (a b c : Body)
     → i < length lines → line ≡ get_or lines i line
     → ReadsSome (BodyGives breaks (take i lines)) a b → ReadsSome (LineGives breaks line) b c

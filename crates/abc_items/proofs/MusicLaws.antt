@@ -1,4 +1,4 @@
--- A music line as it is read part by part.
+-- Reading a music line part by part.
 use Rattle.std.proofs.Common.{List, [], ◌++◌, Option, refl, sym, ap, ◌∙◌, subst, append_assoc, flat_map}
 use Rattle.std.proofs.lemmas.Grind.{flat_map-append}
 use Rattle.abc_lines.specs.declared.book.Line.{Line}
@@ -19,7 +19,7 @@ use Rattle.abc_items.proofs.Laws.{reads_nothing, reads_both, stops_before, stops
 abbrev tokens_give : Breaks → Line → List Placed → List ItemOrFault
 tokens_give breaks line tokens = flat_map (placed_given breaks line) tokens
 
--- where the reading stands: tokens lead there, and a body has what they give
+-- the state of the reading: tokens lead up to it, and a body has their items
 pub record LineStage (breaks : Breaks) (line : Line) (before : Body) (place : TokenCursor) (body : Body) : Type 0 where
   pub so_far : List Placed
   pub read : ReadTo breaks.bang line so_far place

@@ -1,5 +1,5 @@
--- What the lines of a body give, line by line and token by token in the order of the text: items
--- or faults. The body is its items where no fault is among them, and else has the first of them.
+-- The items or faults that the lines of a body give, line by line and token by token in the order of the text. A body
+-- without a fault is its items; any other has the first of its faults.
 use Rattle.std.specs.Prelude.{◌≡◌, ℕ, ◌+◌, ◌-◌, ◌*◌, ◌==◌, ◌&&◌, not, nat_lt, List, [], ◌∷◌, ◌++◌, Bool, true, false}
 use Rattle.std.specs.Prelude.{if◌then◌else◌, map, flat_map, length, take, get_or, Option, Some, None, Result, Ok, Err}
 use Rattle.std.specs.Prelude.{⊤, nat_eq}
@@ -33,8 +33,8 @@ pub data ItemOrFault : Type 0 where
 abbrev pub step_at : Step → ℕ → ℕ → List ItemOrFault
 step_at s line column = gives (BodyItem.Step (stood s line column)) ∷ []
 
--- A field: keys, meters and unit lengths are steps, a voice becomes current, words are kept; every
--- other field says nothing in a body. What is no good field is a fault at its place.
+-- A field: keys, meters and unit lengths are steps, a voice becomes current, words are kept; every other field adds
+-- nothing to a body. A field that is not good is a fault at its place.
 abbrev pub field_item : Field → ℕ → ℕ → List ItemOrFault
 field_item (Field.Key text) line column = step_at (Step.Key text) line column
 field_item (Field.Meter meter) line column = step_at (Step.Meter meter) line column
@@ -69,7 +69,7 @@ chord_sound chord =
       den = first.den * chord.len.den;
     }
 
--- a line break that is on, by the byte that it stands for: a dollar sign or an exclamation mark
+-- whether the line break that a byte writes, a dollar sign or an exclamation mark, is on
 abbrev pub is_on : Breaks → ℕ → Bool
 is_on breaks byte = if byte == 36 then breaks.dollar else breaks.bang
 
@@ -102,7 +102,7 @@ item_of_token breaks line column Token.Space = step_at Step.Space line.number co
 abbrev pub placed_given : Breaks → Line → Placed → List ItemOrFault
 placed_given breaks line placed = item_of_token breaks line placed.column placed.token
 
--- the end of a music line: a backslash there joins the next line to it, and else it is a line break where line ends are
+-- the end of a music line: a backslash there joins the next line to it; otherwise it is a line break if line ends are
 abbrev pub is_line_joined : List ℕ → Bool
 is_line_joined text = ends_with nat_eq text (92 ∷ [])
 
@@ -115,8 +115,8 @@ abbrev pub item_of_line_end : Breaks → Line → Option Fault → List ItemOrFa
 item_of_line_end breaks line None = gives (end_item breaks line) ∷ []
 item_of_line_end breaks line (Some fault) = fails fault ∷ []
 
--- what a line gives: a field or a directive what it says, music its tokens up to its first fault and then that fault,
--- or its end
+-- the items or faults of a line: for a field or a directive its item, for music its tokens up to its first fault and
+-- then that fault, or its end
 abbrev pub MusicGives : Breaks → Line → List ItemOrFault → Type 0
 MusicGives breaks line given =
     (tokens : List Placed)
@@ -137,7 +137,7 @@ pub data BodyGives (breaks : Breaks) : List Line → List ItemOrFault → Type 0
       → LineGives breaks line first → BodyGives breaks lines others → all ≡ first ++ others
       → BodyGives breaks (line ∷ lines) all
 
--- a voice field that mentions a seventeenth voice is a fault, `ids` being those mentioned before
+-- a voice field that mentions a seventeenth voice is a fault; `ids` are those mentioned before
 abbrev pub voice_judged : Bool → BodyItem → ℕ → ℕ → ItemOrFault
 voice_judged true i line column = fails (record { kind = FaultKind.TooManyVoices; line = line; column = column })
 voice_judged false i line column = gives i
@@ -169,7 +169,7 @@ pub record IsBody (header : Header) (lines : List Line) (items : List BodyItem) 
   pub clear : first_item_fault (judged_items (declared_ids header) given) ≡ None
   pub are : items ≡ items_in given
 
--- the first fault of a body: what some first lines give has it first
+-- the first fault of a body: the items or faults of a prefix of its lines have it first
 pub record HasFault (header : Header) (lines : List Line) (fault : Fault) : Type 0 where
   pub count : ℕ
   pub given : List ItemOrFault

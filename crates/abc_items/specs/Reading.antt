@@ -1,4 +1,4 @@
--- Between what a body is and the code: what has been read so far, whatever follows.
+-- Between the meaning of a body and the code: what has been read so far, whatever follows.
 use Rattle.std.specs.Prelude.{◌≡◌, ℕ, List, [], ◌∷◌, ◌++◌, take, Option, Some, None, Bool, true, false, ⊤}
 use Rattle.abc_lines.specs.declared.book.Line.{Line}
 use Rattle.abc_lines.specs.declared.fault.Fault.{Fault}
@@ -17,7 +17,7 @@ abbrev pub IsGivenError : List ItemOrFault → TuneError → Type 0
 IsGivenError given TuneError.Memory = ⊤
 IsGivenError given (TuneError.Fault fault) = given ≡ fails fault ∷ []
 
--- what is given has no fault, and whatever follows goes on behind it
+-- what is given has no fault, and whatever follows continues after it
 pub record Reads (before : Body) (given : List ItemOrFault) (after : Body) : Type 0 where
   pub faults : (h : List ItemOrFault)
       → first_item_fault (judged_items before.ids (given ++ h)) ≡ first_item_fault (judged_items after.ids h)

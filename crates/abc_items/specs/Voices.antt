@@ -1,5 +1,5 @@
--- The voices of a tune: which there are, in order of first mention; what each begins with; and which steps of the body
--- are its own.
+-- The voices of a tune: which ones there are, in order of first mention; what each begins with; and which steps of
+-- the body belong to it.
 use Rattle.std.specs.Prelude.{ℕ, List, [], ◌∷◌, ◌++◌, ◌==◌, ◌&&◌, not, Bool, true, false, if◌then◌else◌, map, fold}
 use Rattle.std.specs.Prelude.{find, length, Option, Some, None, unwrap_or}
 use Rattle.std.specs.Str.{bytes_eq}
@@ -14,7 +14,8 @@ use Rattle.abc_steps.specs.declared.step.PlacedStep.{PlacedStep}
 use Rattle.abc_steps.specs.declared.step.BodyItem.{BodyItem}
 use Rattle.abc_items.specs.declared.voices.VoiceStart.{VoiceStart}
 
--- whether a step makes its voice, and its line one of its voice: spaces, line breaks, line ends and fields don't
+-- whether a step establishes its voice, and its line as a line of that voice: spaces, line breaks, line ends and
+-- fields do not
 unfoldable pub claims : Step → Bool
 claims Step.Space = false
 claims Step.Break = false
@@ -25,12 +26,12 @@ claims (Step.Unit unit) = false
 claims (Step.Clef clef) = false
 claims _ = true
 
--- the id of the voice that music without any voice makes
+-- the id of the voice for music without any voice
 abbrev pub voice_one : List ℕ
 voice_one = 49 ∷ []
 
--- The ids that are mentioned, each once, the first mentioned first: a voice field mentions its id,
--- and a step that claims its voice mentions the voice 1 where no other was mentioned.
+-- The ids that are mentioned, each once, in order of first mention: a voice field mentions its id, and a step that
+-- claims its voice mentions the voice 1 if no other was mentioned.
 abbrev pub ids_by_step : List (List ℕ) → Bool → List (List ℕ)
 ids_by_step [] true = voice_one ∷ []
 ids_by_step [] false = []
@@ -48,7 +49,7 @@ declared_ids header = map (λ (def : VoiceDef). def.id) header.voices
 abbrev pub voice_ids : Header → List BodyItem → List (List ℕ)
 voice_ids header items = fold ids_after_item (declared_ids header) items
 
--- where music stands before any voice field goes: to the first declared voice, else to the voice 1
+-- the voice of music before any voice field: the first declared voice, or else the voice 1
 abbrev pub first_id : List VoiceDef → List ℕ
 first_id [] = voice_one
 first_id (def ∷ defs) = def.id
@@ -56,13 +57,13 @@ first_id (def ∷ defs) = def.id
 abbrev pub unnamed_of : Header → List ℕ
 unnamed_of header = first_id header.voices
 
--- A voice begins with the clef of its declaration; else with that of the voice field that mentions
--- it first; else, and where music mentions it first, with the header's.
+-- A voice begins with the clef of its declaration, or else with that of the voice field that mentions it first, or
+-- else, also if music mentions it first, with the header's.
 abbrev pub declared : Header → List ℕ → Option VoiceDef
 declared header id = find (λ (def : VoiceDef). bytes_eq def.id id) header.voices
 
--- the clef of the first voice field of an id; none where music that stands before any voice field
--- has mentioned the voice 1. `alone` says that no voice was declared or named so far.
+-- the clef of the first voice field of an id; none if music before any voice field has mentioned the voice 1. `alone`
+-- is true if no voice was declared or named so far.
 abbrev pub decides : List ℕ → Bool → BodyItem → Bool
 decides id alone (BodyItem.Voice def line column) = bytes_eq def.id id
 decides id alone (BodyItem.Step s) = alone && claims s.step && bytes_eq id voice_one
@@ -89,7 +90,7 @@ clef_first header items id None = first_clef id (length header.voices == 0) item
 abbrev pub start_clef : Header → List BodyItem → List ℕ → Clef
 start_clef header items id = unwrap_or (clef_first header items id (declared header id)) header.clef
 
--- the last way of stems that a field of the tune names for the voice, else Auto
+-- the last stem direction that a field of the tune names for the voice, or else Auto
 abbrev pub wish_if : Bool → Wish → Option Wish
 wish_if true wish = Some wish
 wish_if false wish = None
@@ -111,9 +112,9 @@ start_of header items id = record { id = id; clef = start_clef header items id; 
 abbrev pub starts_of : Header → List BodyItem → List VoiceStart
 starts_of header items = map (start_of header items) (voice_ids header items)
 
--- The steps of a voice. A step belongs to the voice of the last voice field before it; `own` says
--- whether that is this one. The end of a line is a step of every voice, and a line break of the voice
--- that is current there; a voice field with a clef is a step of the voice that it names.
+-- The steps of a voice. A step belongs to the voice of the last voice field before it; `own` is true if that is this
+-- voice. The end of a line is a step of every voice, and a line break is a step of the voice that is current there; a
+-- voice field with a clef is a step of the voice that it names.
 abbrev pub stood : Step → ℕ → ℕ → PlacedStep
 stood s line column = record { step = s; line = line; column = column }
 
@@ -148,11 +149,11 @@ abbrev pub steps_from : List ℕ → Bool → List BodyItem → List PlacedStep
 steps_from id own [] = []
 steps_from id own (i ∷ items) = steps_in id own i ++ steps_from id (own_next id own i) items
 
--- before any voice field, music is of the voice `unnamed`
+-- before any voice field, music belongs to the voice `unnamed`
 abbrev pub steps_of : List ℕ → List ℕ → List BodyItem → List PlacedStep
 steps_of id unnamed items = steps_from id (bytes_eq id unnamed) items
 
--- the voice that is current behind an item
+-- the current voice after an item
 abbrev pub voice_next : BodyItem → List ℕ → List ℕ
 voice_next (BodyItem.Voice def line column) now = def.id
 voice_next _ now = now

@@ -22,15 +22,15 @@ use abc_steps::BodyItem;
 use mus_units::{Memory, Row, Text};
 use std::alloc::Global;
 
-/// A body as far as it is read: the voices that it has mentioned, and its items.
+/// The part of a body read so far: the voices that it has mentioned, and its items.
 #[derive(Drop)]
 pub struct Body {
     pub ids: Row<Text>,
     pub items: Row<BodyItem>,
 }
 
-/// The items of a body, or its first fault: of a field, of a music line, or a
-/// seventeenth voice. `lines` are those of the tune behind its header.
+/// Returns the items of a body, or its first fault: a fault of a field or of a music line, or a seventeenth voice.
+/// `lines` are the lines of the tune after its header.
 pub fn read_body(alloc: Global, header: &Header, lines: &[Line]) -> Result<Row<BodyItem>, TuneError>
     requires { size_of lines.now ≤ 2 ^ 30 }
     ensures items { IfOk result (λ items. IsBody header.now lines.now items) }
@@ -47,7 +47,7 @@ pub fn read_body(alloc: Global, header: &Header, lines: &[Line]) -> Result<Row<B
     }
 }
 
-/// How many bytes some lines have, with one for the end of each.
+/// Returns the number of bytes in some lines, plus one for the end of each.
 fn bytes_of(lines: &[Line]) -> usize {
     let mut size: usize = 0;
     for line in lines {
@@ -77,7 +77,7 @@ fn read_lines(
     Ok(())
 }
 
-/// Adds what a line gives, up to its first fault.
+/// Adds the items of a line, up to its first fault.
 fn read_line(alloc: Global, breaks: Breaks, line: &Line, body: &mut Body) -> Result<(), TuneError>
     requires line { IsGoodLine line.now }
     requires before { All IsGoodItem body.old.items }
@@ -92,7 +92,7 @@ fn read_line(alloc: Global, breaks: Breaks, line: &Line, body: &mut Body) -> Res
     }
 }
 
-/// Adds what a field or a directive says.
+/// Adds the items of a field or a directive.
 fn read_field_line(alloc: Global, line: &Line, body: &mut Body) -> Result<(), TuneError>
     requires before { All IsGoodItem body.old.items }
     ensures reads { OnOk result (Reads body.old (item_of_field (field_of line.now.text) line.now.number 1) body.new) }
@@ -176,7 +176,7 @@ fn put_token(
     }
 }
 
-/// Whether a music line ends in a backslash.
+/// Returns whether a music line ends in a backslash.
 fn is_line_joined(text: &[u8]) -> bool
     ensures { result ≡ is_line_joined text.now }
 {
@@ -196,7 +196,7 @@ fn end_item(breaks: Breaks, line: &Line) -> BodyItem
     }
 }
 
-/// Adds the end of a music line, or answers its fault.
+/// Adds the end of a music line, or returns its fault.
 fn put_end(
     alloc: Global,
     breaks: Breaks,
@@ -230,7 +230,7 @@ fn put_found(alloc: Global, body: &mut Body, found: Option<BodyItem>) -> Result<
     }
 }
 
-/// Adds an item, or answers that it mentions a seventeenth voice.
+/// Adds an item, or returns the fault if it mentions a seventeenth voice.
 #[inline(always)]
 fn put_item(alloc: Global, body: &mut Body, item: BodyItem) -> Result<(), TuneError>
     requires item { IsGoodItem item }
@@ -249,7 +249,7 @@ fn put_item(alloc: Global, body: &mut Body, item: BodyItem) -> Result<(), TuneEr
     }
 }
 
-/// Whether a voice is past the sixteenth.
+/// Returns whether a voice is beyond the sixteenth.
 #[inline(never)]
 fn is_past(ids: &[Text], id: &[u8]) -> bool
     ensures { result ≡ nat_lt 16 (length (with_id ids.now id.now)) }
@@ -260,7 +260,7 @@ fn is_past(ids: &[Text], id: &[u8]) -> bool
     ids.len() >= 16
 }
 
-/// The fault of a voice field that mentions a seventeenth voice.
+/// Returns the fault of a voice field that mentions a seventeenth voice.
 #[inline(always)]
 fn voice_fault(ids: &[Text], item: &BodyItem) -> Option<Fault>
     ensures { judged_as result item.now ≡ item_judged ids.now item.now }

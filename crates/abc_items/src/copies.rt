@@ -1,4 +1,4 @@
-//! Copies of steps and of what they hold.
+//! Copies of steps and of their content.
 
 ghost use Rattle.std.specs.Prelude.{◌≡◌, IfOk};
 

@@ -1,5 +1,5 @@
-//! The body of a tune as items: steps, ends of music lines, voices and words, or the first fault of the
-//! body. The voices of a tune in order of first mention, and the steps that each of them has.
+//! The body of a tune as items: steps, ends of music lines, voices and words, or the first fault of the body. Also
+//! the voices of a tune in order of first mention, and the steps of each voice.
 #![tactic(auto)]
 
 pub mod body;

@@ -1,4 +1,4 @@
-//! What a field and a token of a music line give to the body.
+//! The items that fields and tokens of a music line add to the body.
 
 ghost use Rattle.std.specs.Prelude.{◌≡◌, ◌≤◌, ◌^◌, true, ◌*◌, ◌-◌, ◌∷◌, [], map, get_or, IfOk, IfErr, IfSome, Ok, Err};
 ghost use Rattle.abc_music.specs.Good.{AreGoodHeads, IsGoodLen, IsGoodToken};
@@ -32,8 +32,8 @@ fn key(alloc: Global, text: KeyText, line: u32, column: u32) -> Result<Option<Bo
     Ok(Some(stood(step, line, column)))
 }
 
-/// What a field gives to a body: keys, meters and unit lengths are steps, a voice
-/// becomes current, words are kept, and every other field says nothing there.
+/// Returns the item that a field adds to a body: keys, meters and unit lengths are steps, a voice becomes current,
+/// words are kept, and every other field adds nothing.
 pub(crate) fn field_item(
     alloc: Global,
     field: Field,
@@ -54,7 +54,7 @@ pub(crate) fn field_item(
     }
 }
 
-/// What a field within a music line gives, or its fault.
+/// Returns the item of a field within a music line, or its fault.
 #[inline(never)]
 fn inline_item(
     alloc: Global,
@@ -74,7 +74,7 @@ fn inline_item(
     }
 }
 
-/// The heads of a chord, without their lengths.
+/// Returns the heads of a chord, without their lengths.
 fn heads_of(alloc: Global, heads: &[(Head, Len)]) -> Result<Row<Head>, Memory>
     ensures { IfOk result (λ found. found ≡ map written_head heads.now) }
 {
@@ -82,7 +82,7 @@ fn heads_of(alloc: Global, heads: &[(Head, Len)]) -> Result<Row<Head>, Memory>
     Ok(Row { items })
 }
 
-/// The length of the first head of a chord.
+/// Returns the length of the first head of a chord.
 fn first_len(heads: &[(Head, Len)]) -> Len
     requires { AreGoodHeads heads.now }
     ensures value { result ≡ first_len heads.now }
@@ -104,7 +104,7 @@ fn product(one: u32, other: u32) -> u64
     u64::from(one) * u64::from(other)
 }
 
-/// A chord has the length of its first note, times its own.
+/// Returns a chord, whose length is that of its first note, times its own.
 #[inline(never)]
 fn chord(alloc: Global, chord: WrittenChord) -> Result<WrittenSound, Memory>
     requires heads { AreGoodHeads chord.heads }
@@ -122,7 +122,7 @@ fn chord(alloc: Global, chord: WrittenChord) -> Result<WrittenSound, Memory>
     })
 }
 
-/// The byte at a column, counted from 1.
+/// Returns the byte at a column, counted from 1.
 fn byte_at(text: &[u8], column: u32) -> u8
     ensures { result ≡ get_or text.now (column - 1) 0 }
 {
@@ -133,7 +133,7 @@ fn byte_at(text: &[u8], column: u32) -> u8
     }
 }
 
-/// Whether the line break that a byte stands for is on.
+/// Returns whether the line break that a byte writes is on.
 fn is_on(breaks: Breaks, byte: u8) -> bool
     ensures { result ≡ is_on breaks byte }
 {
@@ -155,8 +155,8 @@ fn cut(on: bool, line: u32, column: u32) -> Option<BodyItem>
     }
 }
 
-/// What a token of a music line gives, or the fault of the field within it: the
-/// step of a token that is one, else what an inline field or a line break gives.
+/// Returns the item of a token of a music line, or the fault of the field within it: the step of a token that is one,
+/// or else the item of an inline field or a line break.
 #[tactic(auto, unfolding(crate::specs::Body::item_of_token))]
 pub(crate) fn token_item(
     alloc: Global,

@@ -19,8 +19,8 @@ use abc_steps::{BodyItem, PlacedStep, Step};
 use mus_units::{Clef, Memory, Row, Text, Wish};
 use std::alloc::Global;
 
-/// What a voice begins with: its id, its first clef, and the last way of stems that
-/// the tune names for it. Its key, meter and unit length are the header's.
+/// What a voice begins with: its id, its first clef, and the last stem direction that the tune names for it. Its key,
+/// meter and unit length are the header's.
 #[derive(Drop)]
 pub struct VoiceStart {
     pub id: Text,
@@ -28,8 +28,8 @@ pub struct VoiceStart {
     pub stem: Wish,
 }
 
-/// Whether a step makes its voice, and its line one of its voice: spaces, line
-/// breaks, line ends and fields don't.
+/// Returns whether a step establishes its voice, and its line as a line of that voice: spaces, line breaks, line ends
+/// and fields don't.
 #[tactic(auto, unfolding(crate::specs::Voices::claims))]
 pub fn claims(step: &Step) -> bool
     ensures { result ≡ claims step.now }
@@ -58,7 +58,7 @@ pub(crate) fn is_mentioned(ids: &[Text], id: &[u8]) -> bool
     ids.iter().any(|other| is_same(id, other.as_slice()))
 }
 
-/// Adds an id at the end, where it isn't there.
+/// Adds an id at the end unless it is already there.
 pub(crate) fn mention(alloc: Global, ids: &mut Row<Text>, id: &[u8]) -> Result<(), Memory>
     ensures { OnOk result (ids.new ≡ with_id ids.old id.now) }
 {
@@ -68,7 +68,7 @@ pub(crate) fn mention(alloc: Global, ids: &mut Row<Text>, id: &[u8]) -> Result<(
     ids.push(Text::from_slice(alloc, id)?)
 }
 
-/// The ids that the header declares, in order.
+/// Returns the ids that the header declares, in order.
 pub(crate) fn declared_ids(alloc: Global, header: &Header) -> Result<Row<Text>, Memory>
     ensures { IfOk result (λ ids. ids ≡ declared_ids header.now) }
 {
@@ -111,7 +111,7 @@ fn mention_step(alloc: Global, ids: &mut Row<Text>, step: &Step) -> Result<(), M
     Ok(())
 }
 
-/// The ids of a tune's voices, in order of first mention.
+/// Returns the ids of a tune's voices, in order of first mention.
 fn voice_ids(alloc: Global, header: &Header, items: &[BodyItem]) -> Result<Row<Text>, Memory>
     ensures { IfOk result (λ ids. ids ≡ voice_ids header.now items.now) }
 {
@@ -122,7 +122,7 @@ fn voice_ids(alloc: Global, header: &Header, items: &[BodyItem]) -> Result<Row<T
     Ok(ids)
 }
 
-/// The voice to which music goes that stands before any voice field of the body.
+/// Returns the voice of the music before any voice field of the body.
 pub fn unnamed_of(header: &Header) -> &[u8]
     ensures { result.now ≡ unnamed_of header.now }
 {
@@ -142,7 +142,7 @@ fn declared<'a>(header: &'a Header, id: &[u8]) -> Option<&'a VoiceDef>
         .find(|def| is_same(def.id.as_slice(), id))
 }
 
-/// Whether the first clef of a voice is decided at an item.
+/// Returns whether an item decides the first clef of a voice.
 fn decides(id: &[u8], alone: bool, item: &BodyItem) -> bool
     ensures { result ≡ decides id.now alone item.now }
 {
@@ -172,7 +172,7 @@ fn still_alone(alone: bool, item: &BodyItem) -> bool
     }
 }
 
-/// The clef of the first voice field of an id, unless music stands alone before it.
+/// Returns the clef of the first voice field of an id, unless music without any voice comes before it.
 fn first_clef(id: &[u8], undeclared: bool, items: &[BodyItem]) -> Option<Clef>
     ensures { result ≡ first_clef id.now undeclared items.now }
 {
@@ -240,9 +240,8 @@ fn start_of(
     })
 }
 
-/// The voices of a tune in order of first mention, with what each begins with.
-/// A voice begins with the clef of its declaration, else with that of the voice
-/// field that mentions it first, else with the header's.
+/// Returns the voices of a tune in order of first mention, with what each begins with. A voice begins with the clef
+/// of its declaration, or else with that of the voice field that mentions it first, or else with the header's.
 pub fn voices_of(
     alloc: Global,
     header: &Header,
@@ -269,8 +268,8 @@ fn starts_in(
     Ok(starts)
 }
 
-/// The steps of a voice, `unnamed` being the voice of what stands before any voice
-/// field. The end of a line is a step of every voice.
+/// Returns the steps of a voice. `unnamed` is the voice of the music before any voice field. The end of a line is a
+/// step of every voice.
 pub fn steps_of(
     alloc: Global,
     id: &[u8],
@@ -290,7 +289,7 @@ pub fn steps_of(
     Ok(steps)
 }
 
-/// Whether what follows an item is of the voice.
+/// Returns whether what follows an item belongs to the voice.
 fn own_next(id: &[u8], own: bool, item: &BodyItem) -> bool
     ensures { result ≡ own_next id.now own item.now }
 {

@@ -1,4 +1,4 @@
--- Where nothing stands between two events, no broken rhythm does.
+-- With no step between two events there is no broken rhythm between them.
 use Rattle.std.proofs.Common.{◌≡◌, ◌∙◌, refl, sym, ap, List, [], ◌∷◌, Bool, true, false, cond, None, length, arith}
 use Rattle.std.proofs.Common.{◌==◌}
 use Rattle.std.proofs.lemmas.Bool.Decides.{nat_tests}

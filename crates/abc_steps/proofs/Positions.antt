@@ -1,4 +1,4 @@
--- The list before the first place that passes, by that place.
+-- The list before the first position that passes, given that position.
 use Rattle.std.proofs.Common.{◌≡◌, refl, ◌∙◌, sym, ap, ℕ, ◌-◌, ◌≤◌, List, length, take, drop, reverse, Bool, true}
 use Rattle.std.proofs.Common.{false, cond, ltb, arith, not, Option, Some, None, ◌++◌, length-drop, unwrap_or}
 use Rattle.std.proofs.lemmas.List.{reverse-append, reverse-reverse, length-reverse, take-append-drop, take-append-le}

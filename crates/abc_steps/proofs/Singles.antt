@@ -1,4 +1,4 @@
--- A length that a value has is that value alone, cut into parts.
+-- A length that a value has consists of that value alone when it is split into parts.
 use Rattle.std.proofs.Common.{◌≡◌, ◌∙◌, sym, ap, ℕ, ◌-◌, ◌≤◌, [], ◌∷◌, Some, option_map, arith}
 use Rattle.mus_units.specs.declared.value.Value.{Value}
 use Rattle.mus_units.specs.Parts.{IsValueOf, IsLongestValue, units_of, parts_list}

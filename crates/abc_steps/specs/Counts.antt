@@ -1,4 +1,4 @@
--- Measures: how many bars and whole measure rests stand before a place of a voice.
+-- Measures: how many groups of bars and whole measure rests are before a place of a voice.
 use Rattle.std.specs.Prelude.{ℕ, ◌+◌, ◌-◌, [], ◌∷◌, Bool, true, false, if◌then◌else◌}
 use Rattle.abc_steps.specs.declared.step.Step.{Step}
 use Rattle.abc_steps.specs.declared.counts.Nearest.{Nearest}
@@ -16,7 +16,7 @@ abbrev pub is_near_event : Nearest → Bool
 is_near_event Nearest.Event = true
 is_near_event _ = false
 
--- the groups of bars behind the first event: a bar behind an event begins one
+-- the groups of bars after the first event: a bar after an event begins one
 unfoldable pub begins_group : Step → Nearest → Bool
 begins_group (Step.Bar bar) near = is_near_event near
 begins_group _ near = false
@@ -34,7 +34,7 @@ abbrev pub all_further : Steps → ℕ
 all_further [] = 0
 all_further (s ∷ before) = all_further before + further_measures s.step
 
--- the measure of an event at this place; of several whole measure rests, that of the first
+-- the measure of an event at this place; for several whole measure rests, that of the first
 abbrev pub measure_at : Steps → ℕ
 measure_at before = groups before + all_further before
 
@@ -44,7 +44,7 @@ measures_begun [] = 0
 measures_begun (s ∷ before) =
     if is_event s.step then measure_at before + further_measures s.step + 1 else measures_begun before
 
--- what a walk along the steps keeps of it
+-- the counts that a walk along the steps keeps
 abbrev pub counts_of : Steps → Counts
 counts_of before = record {
   groups = groups before;

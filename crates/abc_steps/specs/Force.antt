@@ -1,5 +1,5 @@
--- Clef, key, meter and unit in force at a place: those of the last field before it that names them, else those that the
--- voice begins with.
+-- The clef, key, meter and unit in force at a place: those of the last field before it that names them, or else those
+-- with which the voice begins.
 use Rattle.std.specs.Prelude.{ℕ, ◌*◌, ◌/◌, List, [], ◌∷◌, Bool, true, false, if◌then◌else◌, Option, Some, None, is_some}
 use Rattle.std.specs.Prelude.{unwrap_or}
 use Rattle.std.specs.List.{list_any}
@@ -10,7 +10,7 @@ use Rattle.mus_score.specs.declared.score.Changes.{Changes}
 use Rattle.abc_field.specs.Keys.{key_over}
 use Rattle.abc_steps.specs.{declared.step.Step.Step, declared.force.InForce.InForce, Looks.Steps}
 
--- what is in force behind a step
+-- what is in force after a step
 unfoldable pub force_after : Step → InForce → InForce
 force_after (Step.Clef clef) now = record now { clef = clef }
 force_after (Step.Key text) now =
@@ -23,7 +23,7 @@ abbrev pub force_at : InForce → Steps → InForce
 force_at first [] = first
 force_at first (s ∷ before) = force_after s.step (force_at first before)
 
--- A text of signs or of a whole key names a key; one of a clef alone does not.
+-- A text with accidentals or a whole key names a key; one with only a clef does not.
 abbrev pub has_sign : List Sign → Bool
 has_sign [] = false
 has_sign (s ∷ ss) = true
@@ -45,7 +45,7 @@ abbrev pub some_if : {A : Type 0} → Bool → A → Option A
 some_if true x = Some x
 some_if false x = None
 
--- A change stands at an event exactly where a field that names it waits for it; the last one counts.
+-- An event has a change exactly when a field that names it is pending for the event; the last such field counts.
 unfoldable pub changes_at : InForce → Steps → Changes
 changes_at now waits = record {
   clef = some_if (list_any (λ s. names_clef s.step) waits) now.clef;

@@ -1,5 +1,5 @@
--- Good steps: the values of fields are good, a note, a chord or a rest has a length, a grace note has
--- a head, and numbers are those that a music line can write.
+-- Good steps: field values are good, a note, a chord or a rest has a length, a grace note has a head, and numbers are
+-- those that a music line can write.
 use Rattle.std.specs.Prelude.{⊤, ◌≤◌, ◌^◌}
 use Rattle.abc_music.specs.Good.{AreGoodGraces, IsGoodTuplet}
 use Rattle.mus_units.specs.Good.{IsGoodKey, IsGoodMeter, IsGoodUnit}

@@ -1,4 +1,4 @@
--- Of what kind a step is.
+-- The kinds of steps.
 use Rattle.std.specs.Prelude.{List, [], ◌∷◌, Bool, true, false, ◌||◌}
 use Rattle.{mus_units.specs.declared.note.Head.{Head}, abc_steps.specs.declared.step.Step.{Step}}
 
@@ -16,7 +16,7 @@ unfoldable pub is_note : Step → Bool
 is_note (Step.Sound s) = has_head s.heads
 is_note _ = false
 
--- a note, a chord, a rest or whole measure rests; a grace is no event
+-- a note, a chord, a rest or whole measure rests; a grace is not an event
 unfoldable pub is_event : Step → Bool
 is_event (Step.Sound s) = true
 is_event (Step.Measures seen count) = true
@@ -42,13 +42,13 @@ unfoldable pub is_slur_off : Step → Bool
 is_slur_off Step.SlurOff = true
 is_slur_off _ = false
 
--- a space or the end of a line, which parts the event behind it from the one before it
+-- a space or the end of a line, which separates the event after it from the one before it
 unfoldable pub is_parting : Step → Bool
 is_parting Step.Space = true
 is_parting Step.LineEnd = true
 is_parting _ = false
 
--- what parts the sides of a broken rhythm
+-- what separates the sides of a broken rhythm
 unfoldable pub is_event_or_bar : Step → Bool
 is_event_or_bar s = is_event s || is_bar s
 

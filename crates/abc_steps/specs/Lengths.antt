@@ -21,7 +21,7 @@ short_side dots =
     if nat_le dots 1 then record { num = 1; den = 2 }
     else (if nat_le dots 2 then record { num = 1; den = 4 } else record { num = 1; den = 8 })
 
--- behind a side that is lengthened the right one is shortened, and the other way round
+-- after a left side that is lengthened the right side is shortened, and vice versa
 unfoldable pub left_side : Step → Frac
 left_side (Step.Broken true dots) = long_side dots
 left_side (Step.Broken false dots) = short_side dots
@@ -46,7 +46,7 @@ written_length unit s before behind =
     let right = right_factor (broken_before before) in
     record { num = s.num * unit.num * (left.num * right.num); den = s.den * unit.den * (left.den * right.den) }
 
--- the parts of what stands at a step: those of the length of a note, a chord or a rest, and none of any other step
+-- the parts of a step: those of the length of a note, a chord or a rest; any other step has none
 unfoldable pub parts_at : Frac → Steps → Step → Steps → Option (List Value)
 parts_at unit before (Step.Sound s) behind =
     let length = written_length unit s before behind in parts_list length.num length.den

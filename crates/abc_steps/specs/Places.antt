@@ -1,4 +1,4 @@
--- What holds at a place of a voice: the counts of its measure, what is in force, and what the open tuplets take.
+-- The state of a voice at a point: its measure counts, what is in force, and the open tuplets.
 use Rattle.std.specs.Prelude.{ℕ, ◌+◌}
 use Rattle.abc_steps.specs.declared.force.InForce.{InForce}
 use Rattle.abc_steps.specs.Looks.{Steps}
@@ -11,6 +11,6 @@ abbrev pub state_at : InForce → Steps → VoiceState
 state_at first before =
     record { counts = counts_of before; force = force_at first before; taking = open_tuplets_at before }
 
--- the measure of an event at the place, from 0; of several whole measure rests, that of the first
+-- the measure of an event at this point, from 0; for several whole measure rests, that of the first
 abbrev pub measure_of : VoiceState → ℕ
 measure_of now = now.counts.groups + now.counts.further

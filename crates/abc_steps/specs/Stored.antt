@@ -1,4 +1,4 @@
--- A note, a chord or a rest where it is kept: a rest and a single note in place, others apart.
+-- A stored note, chord or rest: a rest and a single note are stored inline, others on the heap.
 use Rattle.std.specs.Prelude.{[], true}
 use Rattle.abc_steps.specs.declared.stored.SoundStore.{SoundStore}
 use Rattle.abc_steps.specs.declared.step.WrittenSound.{WrittenSound}

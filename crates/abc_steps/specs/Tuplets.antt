@@ -1,4 +1,4 @@
--- Tuplets: how many events the open ones still take.
+-- Tuplets: how many more events the open ones take.
 use Rattle.std.specs.Prelude.{ℕ, zero, suc, ◌-◌, [], ◌∷◌, Bool, true, false, nat_le, if◌then◌else◌, ◌==◌, ◌||◌, ◌&&◌}
 use Rattle.mus_units.specs.declared.key.Meter.{Meter}
 use Rattle.abc_steps.specs.declared.step.Step.{Step}
@@ -10,7 +10,7 @@ abbrev pub or_default : ℕ → ℕ → ℕ
 or_default usual zero = usual
 or_default usual (suc n) = suc n
 
--- a tuplet stands within one other at most, and takes no more events than that still takes
+-- a tuplet is inside at most one other, and takes at most as many events as that still takes
 unfoldable pub fits : ℕ → OpenTuplets → Bool
 fits r OpenTuplets.Nothing = true
 fits r (OpenTuplets.Single left) = nat_le r left
@@ -19,21 +19,21 @@ fits r (OpenTuplets.Nested inner outer) = false
 abbrev pub one_less : ℕ → OpenTuplets
 one_less left = if nat_le left 1 then OpenTuplets.Nothing else OpenTuplets.Single (left - 1)
 
--- each open tuplet takes an event, and closes where it takes no more
+-- each open tuplet takes an event, and closes when it takes no more
 unfoldable pub after_event : OpenTuplets → OpenTuplets
 after_event OpenTuplets.Nothing = OpenTuplets.Nothing
 after_event (OpenTuplets.Single left) = one_less left
 after_event (OpenTuplets.Nested inner outer) =
     if nat_le inner 1 then one_less outer else OpenTuplets.Nested (inner - 1) (outer - 1)
 
--- a tuplet that doesn't fit takes nothing
+-- a tuplet that does not fit takes nothing
 abbrev pub with_tuplet_opened : ℕ → OpenTuplets → OpenTuplets
 with_tuplet_opened r OpenTuplets.Nothing = OpenTuplets.Single r
 with_tuplet_opened r (OpenTuplets.Single left) =
     if nat_le r left then OpenTuplets.Nested r left else OpenTuplets.Single left
 with_tuplet_opened r (OpenTuplets.Nested inner outer) = OpenTuplets.Nested inner outer
 
--- the end of a measure closes all
+-- the end of a measure closes all tuplets
 unfoldable pub open_tuplets_after : Step → OpenTuplets → OpenTuplets
 open_tuplets_after (Step.Sound s) open_ones = after_event open_ones
 open_tuplets_after (Step.Measures seen count) open_ones = OpenTuplets.Nothing

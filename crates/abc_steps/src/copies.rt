@@ -12,7 +12,7 @@ fn copy_chord(alloc: Global, chord: &GraceChord) -> Result<GraceChord, Memory>
     })
 }
 
-/// Puts copies of grace notes behind others.
+/// Adds copies of grace notes after others.
 pub fn put_chords(
     alloc: Global,
     out: &mut Row<GraceChord>,

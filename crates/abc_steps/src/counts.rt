@@ -3,7 +3,7 @@ ghost use Rattle.abc_steps.specs.{declared.counts.Nearest.Nearest, Looks.Steps, 
 
 use crate::step::{PlacedStep, Step};
 
-/// What the nearest event or bar before a place is.
+/// The kind of the nearest event or bar before a place.
 #[derive(Clone, Copy, PartialEq, Eq)]
 pub enum Nearest {
     Nothing,
@@ -11,9 +11,8 @@ pub enum Nearest {
     Bar,
 }
 
-/// What is kept of the steps before a place, to count its measure: the groups of
-/// bars behind the first event, the further measures of whole measure rests, how
-/// many measures have begun, and the nearest event or bar.
+/// Counts of the steps before a place, from which the measure follows: the groups of bars after the first event, the
+/// further measures of whole measure rests, how many measures have begun, and the nearest event or bar.
 #[derive(Clone, Copy, PartialEq, Eq)]
 pub struct Counts {
     pub groups: u64,
@@ -28,7 +27,7 @@ fn is_near_event(nearest: Nearest) -> bool
     matches!(nearest, Nearest::Event)
 }
 
-/// Counts an event that adds so many measures to its own.
+/// Counts an event that adds this number of measures to its own.
 fn count_event(counts: &mut Counts, further: u64)
     requires groups { counts.old.groups ≤ 2 ^ 30 }
     requires before { counts.old.further ≤ 2 ^ 46 }
@@ -46,7 +45,7 @@ fn count_event(counts: &mut Counts, further: u64)
     counts.nearest = Nearest::Event;
 }
 
-/// Counts a bar. The first one behind an event begins a group.
+/// Counts a bar. The first one after an event begins a group.
 fn count_bar(counts: &mut Counts)
     requires { counts.old.groups ≤ 2 ^ 30 }
     ensures { counts.new
@@ -60,7 +59,7 @@ fn count_bar(counts: &mut Counts)
     counts.nearest = Nearest::Bar;
 }
 
-/// The counts at the beginning of a voice.
+/// Returns the counts at the beginning of a voice.
 pub fn no_counts() -> Counts
     ensures { result ≡ counts_of [] }
 {

@@ -13,7 +13,7 @@ use mus_score::Changes;
 use mus_units::{Clef, Frac, Key, Memory, Meter, Sign, WHOLE};
 use std::alloc::Global;
 
-/// Clef, key, meter and unit in force at a place of a voice.
+/// The clef, key, meter and unit in force at a place of a voice.
 #[derive(Drop)]
 pub struct InForce {
     pub clef: Clef,
@@ -22,7 +22,7 @@ pub struct InForce {
     pub unit: Frac,
 }
 
-/// The key that a text makes of the key in force.
+/// Returns the key that a text makes of the key in force.
 fn key_over(alloc: Global, key: &Key, text: &KeyText) -> Result<Key, Memory>
     requires key { IsGoodKey key.now }
     requires text { IsGoodKeyText text.now }
@@ -35,7 +35,7 @@ fn key_over(alloc: Global, key: &Key, text: &KeyText) -> Result<Key, Memory>
     }
 }
 
-/// What is in force behind a key.
+/// Updates what is in force to what holds after a key.
 #[inline(never)]
 #[tactic(auto, unfolding(crate::specs::Force::force_after))]
 fn change_key(alloc: Global, now: &mut InForce, text: &KeyText) -> Result<(), Memory>
@@ -50,7 +50,7 @@ fn change_key(alloc: Global, now: &mut InForce, text: &KeyText) -> Result<(), Me
     Ok(())
 }
 
-/// What is in force behind a step.
+/// Updates what is in force to what holds after a step.
 #[tactic(auto, unfolding(crate::specs::Force::force_after))]
 pub fn change_force(alloc: Global, now: &mut InForce, s: &Step) -> Result<(), Memory>
     requires now { IsGoodForce now.old }
@@ -129,7 +129,7 @@ fn changed_key(alloc: Global, now: &InForce, waits: &[PlacedStep]) -> Result<Opt
     Ok(None)
 }
 
-/// The changes at an event, of what is in force there and the steps that wait for it.
+/// Returns the changes at an event, given what is in force there and the steps pending for it.
 #[tactic(auto, unfolding(crate::specs::Force::changes_at))]
 pub fn changes_at(alloc: Global, now: &InForce, waits: &[PlacedStep]) -> Result<Changes, Memory>
     ensures { IfOk result (λ c. c ≡ changes_at now.now waits.now) }
@@ -150,7 +150,7 @@ pub fn changes_at(alloc: Global, now: &InForce, waits: &[PlacedStep]) -> Result<
     })
 }
 
-/// The ticks of a measure. None in free meter.
+/// Returns the ticks of a measure. `None` in free meter.
 pub fn meter_ticks(meter: Meter) -> Option<u64>
     requires { IsGoodMeter meter }
     ensures { result ≡ meter_ticks meter }

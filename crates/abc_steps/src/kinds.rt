@@ -11,7 +11,7 @@ fn has_head(heads: &[Head]) -> bool
     !heads.is_empty()
 }
 
-/// Whether a step is a note, a chord or a rest.
+/// Returns whether a step is a note, a chord or a rest.
 #[tactic(auto, unfolding(crate::specs::Kinds::is_sound))]
 pub fn is_sound(s: &Step) -> bool
     ensures { result ≡ is_sound s.now }
@@ -19,7 +19,7 @@ pub fn is_sound(s: &Step) -> bool
     matches!(s, Step::Sound(_))
 }
 
-/// Whether a step is a note or a chord.
+/// Returns whether a step is a note or a chord.
 #[tactic(auto, unfolding(crate::specs::Kinds::is_note))]
 pub fn is_note(s: &Step) -> bool
     ensures { result ≡ is_note s.now }
@@ -30,7 +30,7 @@ pub fn is_note(s: &Step) -> bool
     }
 }
 
-/// Whether a step is a note, a chord, a rest or whole measure rests.
+/// Returns whether a step is a note, a chord, a rest or whole measure rests.
 #[tactic(auto, unfolding(crate::specs::Kinds::is_event))]
 pub fn is_event(s: &Step) -> bool
     ensures { result ≡ is_event s.now }
@@ -38,7 +38,7 @@ pub fn is_event(s: &Step) -> bool
     matches!(s, Step::Sound(_) | Step::Measures { .. })
 }
 
-/// Whether a step is a bar.
+/// Returns whether a step is a bar.
 #[tactic(auto, unfolding(crate::specs::Kinds::is_bar))]
 pub fn is_bar(s: &Step) -> bool
     ensures { result ≡ is_bar s.now }
@@ -46,7 +46,7 @@ pub fn is_bar(s: &Step) -> bool
     matches!(s, Step::Bar(_))
 }
 
-/// Whether a step is a broken rhythm.
+/// Returns whether a step is a broken rhythm.
 #[tactic(auto, unfolding(crate::specs::Kinds::is_broken))]
 pub fn is_broken(s: &Step) -> bool
     ensures { result ≡ is_broken s.now }
@@ -54,7 +54,7 @@ pub fn is_broken(s: &Step) -> bool
     matches!(s, Step::Broken { .. })
 }
 
-/// Whether a step is a tie.
+/// Returns whether a step is a tie.
 #[tactic(auto, unfolding(crate::specs::Kinds::is_tie))]
 pub fn is_tie(s: &Step) -> bool
     ensures { result ≡ is_tie s.now }
@@ -62,7 +62,7 @@ pub fn is_tie(s: &Step) -> bool
     matches!(s, Step::Tie)
 }
 
-/// Whether a step begins a slur.
+/// Returns whether a step begins a slur.
 #[tactic(auto, unfolding(crate::specs::Kinds::is_slur_on))]
 pub fn is_slur_on(s: &Step) -> bool
     ensures { result ≡ is_slur_on s.now }
@@ -70,7 +70,7 @@ pub fn is_slur_on(s: &Step) -> bool
     matches!(s, Step::SlurOn)
 }
 
-/// Whether a step ends a slur.
+/// Returns whether a step ends a slur.
 #[tactic(auto, unfolding(crate::specs::Kinds::is_slur_off))]
 pub fn is_slur_off(s: &Step) -> bool
     ensures { result ≡ is_slur_off s.now }
@@ -78,7 +78,7 @@ pub fn is_slur_off(s: &Step) -> bool
     matches!(s, Step::SlurOff)
 }
 
-/// Whether a step is a space or the end of a line.
+/// Returns whether a step is a space or the end of a line.
 #[tactic(auto, unfolding(crate::specs::Kinds::is_parting))]
 pub fn is_parting(s: &Step) -> bool
     ensures { result ≡ is_parting s.now }
@@ -86,7 +86,7 @@ pub fn is_parting(s: &Step) -> bool
     matches!(s, Step::Space | Step::LineEnd)
 }
 
-/// Whether a step is an event or a bar.
+/// Returns whether a step is an event or a bar.
 #[tactic(auto, unfolding(crate::specs::Kinds::is_event_or_bar))]
 pub fn is_event_or_bar(s: &Step) -> bool
     ensures { result ≡ is_event_or_bar s.now }
@@ -94,7 +94,7 @@ pub fn is_event_or_bar(s: &Step) -> bool
     is_event(s) || is_bar(s)
 }
 
-/// Whether a step is an event, a bar or a broken rhythm.
+/// Returns whether a step is an event, a bar or a broken rhythm.
 #[tactic(auto, unfolding(crate::specs::Kinds::is_left_stop))]
 pub fn is_left_stop(s: &Step) -> bool
     ensures { result ≡ is_left_stop s.now }
@@ -102,7 +102,7 @@ pub fn is_left_stop(s: &Step) -> bool
     is_event_or_bar(s) || is_broken(s)
 }
 
-/// Whether a step is a note, a chord or the end of a line, which no tie passes.
+/// Returns whether a step is a note, a chord or the end of a line, past which no tie reaches.
 #[tactic(auto, unfolding(crate::specs::Kinds::is_tie_stop))]
 pub fn is_tie_stop(s: &Step) -> bool
     ensures { result ≡ is_tie_stop s.now }

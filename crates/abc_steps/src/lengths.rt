@@ -10,7 +10,7 @@ use crate::stored::StoredSound;
 use mus_units::{Few, Frac, Memory, Value, parts_of, value_of};
 use std::alloc::Global;
 
-/// How much longer the long side of a broken rhythm becomes.
+/// Returns the factor by which the long side of a broken rhythm becomes longer.
 fn long_side(dots: u8) -> Frac
     ensures value { result ≡ long_side dots }
     ensures factor { IsFactor result }
@@ -24,7 +24,7 @@ fn long_side(dots: u8) -> Frac
     }
 }
 
-/// How much shorter the other side becomes.
+/// Returns the factor by which the other side becomes shorter.
 fn short_side(dots: u8) -> Frac
     ensures value { result ≡ short_side dots }
     ensures factor { IsFactor result }
@@ -84,7 +84,7 @@ fn right_factor(broken: Option<&PlacedStep>) -> Frac
     }
 }
 
-/// The written length of a note, a chord or a rest, in whole notes, not reduced.
+/// Returns the written length of a note, a chord or a rest, in whole notes, not reduced.
 #[inline(always)]
 #[tactic(auto, unfolding(crate::specs::Lengths::written_length))]
 pub fn written_length(
@@ -106,7 +106,7 @@ pub fn written_length(
     }
 }
 
-/// The parts of a length, which takes no memory where it is one value.
+/// Returns the parts of a length. Takes no memory if it is a single value.
 #[inline(always)]
 #[tactic(auto, using(crate::proofs::Singles::one_part))]
 pub fn parts_in(alloc: Global, length: Frac) -> Result<Option<Few<Value>>, Memory>
@@ -122,8 +122,7 @@ pub fn parts_in(alloc: Global, length: Frac) -> Result<Option<Few<Value>>, Memor
     }
 }
 
-/// The parts of what stands at a step: of the length of a note, a chord or a rest,
-/// and none of any other step.
+/// Returns the parts of the length of a note, a chord or a rest. `None` for any other step.
 #[inline(always)]
 #[tactic(auto, unfolding(crate::specs::Lengths::parts_at))]
 pub fn parts_at(

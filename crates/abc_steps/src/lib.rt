@@ -1,5 +1,5 @@
-//! The steps of a voice: what a body has one after the other, and what stands
-//! before and behind a place among the steps of one voice.
+//! The steps of a voice: the items of a body in sequence, and what comes before and after a place among the steps of
+//! one voice.
 #![tactic(auto)]
 
 pub mod copies;

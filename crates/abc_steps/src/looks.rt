@@ -49,7 +49,7 @@ fn first_tie_stop(behind: &[PlacedStep]) -> Option<usize>
     behind.iter().position(|s| is_tie_stop(&s.step))
 }
 
-/// The steps before a place.
+/// Returns the steps before a place.
 #[tactic(auto, using(crate::proofs::Positions::up_to_place))]
 fn up_to(behind: &[PlacedStep], place: Option<usize>) -> &[PlacedStep]
     requires { IfSome place (λ n. n ≤ length behind.now) }
@@ -60,7 +60,7 @@ fn up_to(behind: &[PlacedStep], place: Option<usize>) -> &[PlacedStep]
     behind.split_at(place.unwrap_or(behind.len())).0
 }
 
-/// The steps behind a place that is counted from the end.
+/// Returns the steps after a place that is counted from the end.
 #[tactic(auto, using(crate::proofs::Positions::back_to_place))]
 fn back_to(before: &[PlacedStep], place: Option<usize>) -> &[PlacedStep]
     requires { IfSome place (λ n. n ≤ length before.now) }
@@ -72,7 +72,7 @@ fn back_to(before: &[PlacedStep], place: Option<usize>) -> &[PlacedStep]
     before.split_at(before.len() - count).1
 }
 
-/// The steps since the event before, in the order of the text.
+/// Returns the steps since the previous event, in the order of the text.
 #[tactic(auto, unfolding(crate::specs::Looks::since_event))]
 pub fn since_event(before: &[PlacedStep]) -> &[PlacedStep]
     ensures value { result.now ≡ since_event (reverse before.now) }
@@ -81,7 +81,7 @@ pub fn since_event(before: &[PlacedStep]) -> &[PlacedStep]
     back_to(before, last_event(before))
 }
 
-/// The steps since the note before, in the order of the text.
+/// Returns the steps since the previous note, in the order of the text.
 #[tactic(auto, unfolding(crate::specs::Looks::since_note))]
 pub fn since_note(before: &[PlacedStep]) -> &[PlacedStep]
     ensures value { result.now ≡ since_note (reverse before.now) }
@@ -90,7 +90,7 @@ pub fn since_note(before: &[PlacedStep]) -> &[PlacedStep]
     back_to(before, last_note(before))
 }
 
-/// The steps up to the next event.
+/// Returns the steps up to the next event.
 #[tactic(auto, unfolding(crate::specs::Looks::to_event))]
 pub fn to_event(behind: &[PlacedStep]) -> &[PlacedStep]
     ensures value { result.now ≡ to_event behind.now }
@@ -99,7 +99,7 @@ pub fn to_event(behind: &[PlacedStep]) -> &[PlacedStep]
     up_to(behind, first_event(behind))
 }
 
-/// The steps up to the next note.
+/// Returns the steps up to the next note.
 #[tactic(auto, unfolding(crate::specs::Looks::to_note))]
 pub fn to_note(behind: &[PlacedStep]) -> &[PlacedStep]
     ensures value { result.now ≡ to_note behind.now }
@@ -120,7 +120,7 @@ fn any_bar(steps: &[PlacedStep]) -> bool
     steps.iter().any(|s| is_bar(&s.step))
 }
 
-/// Whether a space or the end of a line is among some steps.
+/// Returns whether a space or the end of a line is among some steps.
 #[tactic(auto, unfolding(crate::specs::Looks::has_parting))]
 pub fn has_parting(waits: &[PlacedStep]) -> bool
     ensures { result ≡ has_parting waits.now }
@@ -128,7 +128,7 @@ pub fn has_parting(waits: &[PlacedStep]) -> bool
     waits.iter().any(|s| is_parting(&s.step))
 }
 
-/// Whether the note before the place is tied.
+/// Returns whether the note before the place is tied.
 #[tactic(auto, unfolding(crate::specs::Looks::is_sound_tied))]
 pub fn is_sound_tied(behind: &[PlacedStep]) -> bool
     ensures { result ≡ is_sound_tied behind.now }
@@ -162,7 +162,7 @@ fn count_slurs_off(steps: &[PlacedStep]) -> u32
     count
 }
 
-/// The slurs that begin at a note at the place.
+/// Returns the number of slurs that begin at a note at the place.
 #[tactic(auto, unfolding(crate::specs::Looks::slurs_begun))]
 pub fn slurs_begun(before: &[PlacedStep]) -> u32
     requires { length before.now ≤ 2 ^ 30 }
@@ -171,7 +171,7 @@ pub fn slurs_begun(before: &[PlacedStep]) -> u32
     count_slurs_on(since_note(before))
 }
 
-/// The slurs that end at the note before the place.
+/// Returns the number of slurs that end at the note before the place.
 #[tactic(auto, unfolding(crate::specs::Looks::slurs_ended))]
 pub fn slurs_ended(behind: &[PlacedStep]) -> u32
     requires { length behind.now ≤ 2 ^ 30 }
@@ -221,7 +221,7 @@ fn broken_among(between: &[PlacedStep]) -> Option<&PlacedStep>
     }
 }
 
-/// The broken rhythm between an event at the place and the event before it.
+/// Returns the broken rhythm between an event at the place and the event before it.
 #[tactic(auto, unfolding(crate::specs::Looks::broken_before))]
 pub fn broken_before(before: &[PlacedStep]) -> Option<&PlacedStep>
     ensures { option_copied result ≡ broken_before (reverse before.now) }
@@ -237,7 +237,7 @@ pub fn broken_before(before: &[PlacedStep]) -> Option<&PlacedStep>
     }
 }
 
-/// The broken rhythm between an event before the place and the event behind it.
+/// Returns the broken rhythm between an event before the place and the event after it.
 #[tactic(auto, unfolding(crate::specs::Looks::broken_behind))]
 pub fn broken_behind(behind: &[PlacedStep]) -> Option<&PlacedStep>
     ensures { option_copied result ≡ broken_behind behind.now }
@@ -265,7 +265,7 @@ fn right_stop(behind: &[PlacedStep]) -> Option<&PlacedStep>
     behind.iter().find(|s| is_event_or_bar(&s.step))
 }
 
-/// Whether a broken rhythm at the place has its left side.
+/// Returns whether a broken rhythm at the place has its left side.
 #[tactic(auto, unfolding(crate::specs::Looks::has_left))]
 pub fn has_left(before: &[PlacedStep]) -> bool
     ensures { result ≡ has_left (reverse before.now) }
@@ -273,7 +273,7 @@ pub fn has_left(before: &[PlacedStep]) -> bool
     is_some_sound(left_stop(before))
 }
 
-/// Whether a broken rhythm before the place has its right side.
+/// Returns whether a broken rhythm before the place has its right side.
 #[tactic(auto, unfolding(crate::specs::Looks::has_right))]
 pub fn has_right(behind: &[PlacedStep]) -> bool
     ensures { result ≡ has_right behind.now }

@@ -11,8 +11,7 @@ use crate::tuplets::{OpenTuplets, open_tuplets_after};
 use mus_units::Memory;
 use std::alloc::Global;
 
-/// What holds at a place of a voice: the counts of its measure, what is in force,
-/// and what the open tuplets take.
+/// The state of a voice at a point: its measure counts, what is in force, and the open tuplets.
 #[derive(Drop)]
 pub struct VoiceState {
     pub counts: Counts,
@@ -20,7 +19,7 @@ pub struct VoiceState {
     pub taking: OpenTuplets,
 }
 
-/// The place at the beginning of a voice.
+/// Returns the state at the beginning of a voice.
 pub fn beginning(alloc: Global, first: &InForce) -> Result<VoiceState, Memory>
     ensures { IfOk result (λ p. p ≡ state_at first.now []) }
 {
@@ -36,7 +35,7 @@ pub fn beginning(alloc: Global, first: &InForce) -> Result<VoiceState, Memory>
     })
 }
 
-/// Moves a place behind a step.
+/// Updates a state to the one after a step.
 #[inline(always)]
 pub fn step_over(alloc: Global, now: &mut VoiceState, s: &PlacedStep) -> Result<(), Memory>
     requires groups { now.old.counts.groups ≤ 2 ^ 30 }
@@ -56,7 +55,7 @@ pub fn step_over(alloc: Global, now: &mut VoiceState, s: &PlacedStep) -> Result<
     Ok(())
 }
 
-/// The measure of an event at a place.
+/// Returns the measure of an event at this point.
 pub fn measure_of(now: &VoiceState) -> u64
     requires groups { now.now.counts.groups ≤ 2 ^ 30 }
     requires further { now.now.counts.further ≤ 2 ^ 46 }

@@ -3,8 +3,8 @@ use abc_field::{KeyText, VoiceDef};
 use abc_music::{Boxed, GraceChord};
 use mus_units::{Bar, Clef, Deco, Few, Frac, Head, Meter, Row, Text};
 
-/// A note, a chord or a rest as it is written: a rest has no heads. Its length is
-/// `num / den` units, not reduced; `decos` are those written inside a chord.
+/// A note, a chord or a rest as it is written; a rest has no heads. Its length is `num / den` units, not reduced;
+/// `decos` are the decorations written inside a chord.
 #[derive(Drop)]
 pub struct WrittenSound {
     pub heads: Few<Head>,
@@ -14,8 +14,8 @@ pub struct WrittenSound {
     pub den: u64,
 }
 
-/// What a voice has one after the other. `Clef` is the clef of a `V:` of the body;
-/// `Break` is a line break that is on, `LineEnd` the end of a physical line.
+/// One item of a voice. `Clef` is the clef of a `V:` in the body; `Break` is a line break that is on, `LineEnd` the
+/// end of a physical line.
 #[derive(Drop)]
 pub enum Step {
     Sound(StoredSound),
@@ -39,7 +39,7 @@ pub enum Step {
     LineEnd,
 }
 
-/// A step, and the line and the column of its first byte.
+/// A step with the line and the column of its first byte.
 #[derive(Drop)]
 pub struct PlacedStep {
     pub step: Step,
@@ -47,9 +47,8 @@ pub struct PlacedStep {
     pub column: u32,
 }
 
-/// What a body has one after the other: a step of the voice that is current, the end of a music line, a
-/// voice that becomes current, or the text of a `w:` line. `joined` tells that the line ends in a
-/// backslash, `breaks` that its end is a line break.
+/// One item of a body: a step of the current voice, the end of a music line, a voice that becomes current, or the
+/// text of a `w:` line. `joined` is true if the line ends in a backslash, `breaks` if its end is a line break.
 #[derive(Drop)]
 pub enum BodyItem {
     Step(PlacedStep),

@@ -5,7 +5,7 @@ use mus_units::{Deco, Head, Memory, copy_decos};
 use std::alloc::Global;
 use std::marker::Model;
 
-/// Where a sound stands: a rest and a single note in place, others apart.
+/// Storage for a sound: a rest and a single note are stored inline, others on the heap.
 #[derive(Drop)]
 enum SoundStore {
     Rest { seen: bool, num: u32, den: u32 },
@@ -13,7 +13,7 @@ enum SoundStore {
     Other(Box<WrittenSound>),
 }
 
-/// A note, a chord or a rest, which contracts see as a `WrittenSound`. A chord alone takes memory.
+/// A note, a chord or a rest. Contracts see it as a `WrittenSound`. Only a chord takes memory.
 #[derive(Drop)]
 pub struct StoredSound {
     held: SoundStore,
@@ -28,7 +28,7 @@ impl Model for StoredSound {
 }
 
 impl StoredSound {
-    /// A rest.
+    /// Returns a rest.
     pub fn rest(seen: bool, num: u32, den: u32) -> StoredSound
         ensures { result ≡ record { heads = []; seen = seen; decos = []; num = num; den = den } }
     {
@@ -37,7 +37,7 @@ impl StoredSound {
         }
     }
 
-    /// A note.
+    /// Returns a note.
     pub fn note(head: Head, num: u32, den: u32) -> StoredSound
         ensures { result ≡ record { heads = head ∷ []; seen = true; decos = []; num = num; den = den } }
     {
@@ -50,7 +50,7 @@ impl StoredSound {
         }
     }
 
-    /// A sound of any kind.
+    /// Stores a sound of any kind.
     pub fn from_sound(alloc: Global, sound: WrittenSound) -> Result<StoredSound, Memory>
         ensures { IfOk result (λ s. s ≡ sound) }
     {
@@ -59,7 +59,7 @@ impl StoredSound {
         })
     }
 
-    /// Its heads.
+    /// Returns its heads.
     pub fn heads(&self) -> &[Head]
         ensures { result.now ≡ self.now.heads }
     {
@@ -70,7 +70,7 @@ impl StoredSound {
         }
     }
 
-    /// Whether it is drawn.
+    /// Returns whether it is drawn.
     pub fn seen(&self) -> bool
         ensures { result ≡ self.now.seen }
     {
@@ -81,7 +81,7 @@ impl StoredSound {
         }
     }
 
-    /// The decorations within it.
+    /// Returns the decorations inside it.
     pub fn decos(&self) -> &[Deco]
         ensures { result.now ≡ self.now.decos }
     {
@@ -91,7 +91,7 @@ impl StoredSound {
         }
     }
 
-    /// The first number of its length.
+    /// Returns the numerator of its length.
     pub fn num(&self) -> u64
         ensures { result ≡ self.now.num }
     {
@@ -101,7 +101,7 @@ impl StoredSound {
         }
     }
 
-    /// The second number of its length.
+    /// Returns the denominator of its length.
     pub fn den(&self) -> u64
         ensures { result ≡ self.now.den }
     {
@@ -111,7 +111,7 @@ impl StoredSound {
         }
     }
 
-    /// The same sound.
+    /// Returns a copy of the sound.
     pub fn copy(&self, alloc: Global) -> Result<StoredSound, Memory>
         ensures { IfOk result (λ it. it ≡ self.now) }
     {

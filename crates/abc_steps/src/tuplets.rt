@@ -5,7 +5,7 @@ ghost use Rattle.abc_steps.specs.Tuplets.{open_tuplets_after, is_compound, usual
 use crate::step::Step;
 use mus_units::Meter;
 
-/// How many events the open tuplets still take: none is open, one is, or one within another.
+/// How many more events the open tuplets take: none is open, one is, or one inside another.
 #[derive(Clone, Copy, PartialEq, Eq)]
 pub enum OpenTuplets {
     Nothing,
@@ -13,14 +13,14 @@ pub enum OpenTuplets {
     Nested { inner: u8, outer: u8 },
 }
 
-/// A number of a tuplet, or the usual one where it is left out.
+/// Returns a number of a tuplet, or the usual one if it is left out.
 pub fn or_default(usual: u8, given: u8) -> u8
     ensures { result ≡ or_default usual given }
 {
     if given == 0 { usual } else { given }
 }
 
-/// Whether a tuplet that takes `r` events may begin.
+/// Returns whether a tuplet that takes `r` events may begin.
 #[tactic(auto, unfolding(crate::specs::Tuplets::fits))]
 pub fn fits(r: u8, taking: OpenTuplets) -> bool
     ensures { result ≡ fits r taking }
@@ -81,7 +81,7 @@ fn with_tuplet_opened(r: u8, taking: OpenTuplets) -> OpenTuplets
     }
 }
 
-/// What the open tuplets take behind a step.
+/// Returns the open tuplets after a step.
 #[tactic(auto, unfolding(crate::specs::Tuplets::open_tuplets_after))]
 pub fn open_tuplets_after(s: &Step, taking: OpenTuplets) -> OpenTuplets
     ensures { result ≡ open_tuplets_after s.now taking }
@@ -104,7 +104,7 @@ fn is_compound(meter: Meter) -> bool
     }
 }
 
-/// The `q` of a tuplet that names none: 3 or 2 by its `p`, and for 5, 7 and 9 by the meter.
+/// Returns the `q` of a tuplet that names none: 3 or 2 by its `p`, and for 5, 7 and 9 by the meter.
 pub fn usual_q(p: u8, meter: Meter) -> u8
     ensures { result ≡ usual_q p meter }
 {

@@ -33,14 +33,14 @@ impl From<Memory> for MoveError {
 
 pub(crate) type Moved<T> = Result<T, MoveError>;
 
-/// Returns the key seven fifths further for each semitone, from a key with this number of sharps.
+/// Returns the sharps reached from a key of `sharps` sharps by seven fifths per semitone, plus 5.
 fn climbed(sharps: i8, by: i8) -> i32
     ensures { result ≡ (sharps +ℤ (pos 7 *ℤ by)) +ℤ pos 5 }
 {
     i32::from(sharps) + 7 * i32::from(by) + 5
 }
 
-/// Returns the distance of a number above the last multiple of 12.
+/// Returns the distance from the last multiple of 12 up to a number.
 fn above_twelve(z: i32) -> i32
     ensures value { result ≡ int_rem_euclid z (pos 12) }
     ensures fits { Within (pos 0) (pos 11) result }
