@@ -1,4 +1,4 @@
--- The values of signs have at most three dots.
+-- The values of tree items have at most three dots.
 use Rattle.std.proofs.Common.{◌≡◌, refl, sym, ap, ◌∙◌, subst, ℕ, zero, suc, ◌+◌, ◌-◌, ◌≤◌, List, [], ◌∷◌, ◌++◌, length}
 use Rattle.std.proofs.Common.{Bool, true, false, cond, Option, Some, None, arith, nat_le, reverse, take, drop}
 use Rattle.std.proofs.Common.{append-nil}

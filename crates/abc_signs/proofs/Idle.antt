@@ -1,4 +1,4 @@
--- Where no step that waits for an event says something of it, nothing waits for it.
+-- If no pending step means something for an event, nothing is pending for it.
 use Rattle.std.proofs.Common.{◌≡◌, ◌∙◌, refl, sym, ap, ℕ, List, [], ◌∷◌, true, false, length}
 use Rattle.std.specs.Prelude.{◌==◌}
 use Rattle.std.specs.List.{list_any}

@@ -22,7 +22,7 @@ next_rest now at seen measure i count less =
     ∷ further_rests now at seen m (count - (i + 1)))
     place
 
--- as the code says it: what was made and pushed
+-- in the form of the code: what was made and pushed
 pub rest_pushed : (now : VoiceState) (at : PlacedStep) (seen : Bool) (measure i j count : ℕ) (w : WrittenEvent)
     (waiting : Pending) (out out' all : List TreeItem)
     → i < count → j ≡ i → w ≡ rest_written now at seen (measure + j) false → waiting ≡ nothing_pending

@@ -1,4 +1,4 @@
--- The signs of a voice: its written events and the tuplets that begin in it, in the order of the text.
+-- The tree items of a voice: its written events and the tuplets that begin in it, in the order of the text.
 use Rattle.std.specs.Prelude.{ℕ, zero, suc, ◌+◌, ◌-◌, ◌≤◌, List, [], ◌∷◌, ◌++◌, map, Bool, false, ◌||◌, if◌then◌else◌}
 use Rattle.std.specs.Prelude.{nat_le, Some, None, unwrap_or, ⊤}
 use Rattle.std.specs.List.{All}
@@ -21,11 +21,11 @@ use Rattle.abc_signs.specs.declared.written.WrittenEvent.{WrittenEvent}
 use Rattle.abc_signs.specs.declared.written.TreeItem.{TreeItem}
 use Rattle.abc_signs.specs.Waits.{pending_of, nothing_pending}
 
--- a space or the end of a line stands between an event and the one before it; a voice's first event has none before it
+-- a space or the end of a line is between an event and the one before it; a voice's first event has none before it
 abbrev pub parted_at : VoiceState → Steps → Bool
 parted_at now waits = if nat_le 1 now.counts.begun then has_parting waits else false
 
--- Heads, tied or as written: a tie behind a chord ties all its heads.
+-- Heads, tied or as written: a tie after a chord ties all its heads.
 abbrev pub with_tie : Bool → Head → Head
 with_tie tie head = record head { tied = head.tied || tie }
 
@@ -61,7 +61,7 @@ sound_written now before at s behind =
       ends = for_note s.heads (slurs_ended behind);
     }
 
--- one of several whole measure rests: it lasts the meter, and its value is a whole without dots
+-- a whole measure rest: it lasts as long as the meter, and its value is a whole without dots
 abbrev pub whole_value : Value
 whole_value = record { base = Base.Whole; dots = 0 }
 
@@ -79,7 +79,7 @@ rest_written now at seen measure parted = record {
   ends = 0;
 }
 
--- the further ones, a measure each, for which nothing waits
+-- the further rests, one measure each, with nothing pending
 abbrev pub further_rests : VoiceState → PlacedStep → Bool → ℕ → ℕ → List TreeItem
 further_rests now at seen measure zero = []
 further_rests now at seen measure (suc n) =
@@ -90,7 +90,7 @@ rests_of now waits at seen count =
     TreeItem.Event (rest_written now at seen (measure_of now) (parted_at now waits)) (pending_of now.force waits [])
     ∷ further_rests now at seen (measure_of now + 1) (count - 1)
 
--- a tuplet that doesn't fit into the open ones begins nothing
+-- a tuplet that does not fit into the open ones begins nothing
 abbrev pub tuplet_of : VoiceState → ℕ → ℕ → ℕ → List TreeItem
 tuplet_of now p q r =
     if fits (or_default p r) now.taking
@@ -104,13 +104,13 @@ tree_items_of now before at behind (Step.Measures seen count) = rests_of now (si
 tree_items_of now before at behind (Step.Tuplet p q r) = tuplet_of now p q r
 tree_items_of now before at behind _ = []
 
--- every step of a voice in turn, with what stands before it, the nearest first, and what follows it
+-- each step of a voice in turn, with the steps before it, the nearest first, and the steps after it
 abbrev pub signs : InForce → Steps → Steps → List TreeItem
 signs first before [] = []
 signs first before (at ∷ behind) =
     tree_items_of (state_at first before) before at behind at.step ++ signs first (at ∷ before) behind
 
--- Good signs: each value has at most three dots.
+-- Good tree items: each value has at most three dots.
 abbrev pub HasDrawableValues : TreeItem → Type 0
 HasDrawableValues (TreeItem.Event w waiting) = All (λ v. v.dots ≤ 3) w.values
 HasDrawableValues (TreeItem.Opens measure p q r) = ⊤

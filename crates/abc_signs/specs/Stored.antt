@@ -1,4 +1,4 @@
--- What waited for an event, where it is kept.
+-- Storage for what is pending for an event.
 use Rattle.abc_signs.specs.declared.written.PendingStore.{PendingStore}
 use Rattle.abc_signs.specs.declared.written.Pending.{Pending}
 use Rattle.abc_signs.specs.Waits.{nothing_pending}

@@ -1,5 +1,5 @@
--- What waits for an event: changes, graces, decorations, texts and an ending, of the steps that stand before it behind
--- the event before.
+-- What is pending for an event: changes, graces, decorations, texts and an ending, from the steps between the
+-- previous event and this one.
 use Rattle.std.specs.Prelude.{ℕ, List, [], ◌∷◌, ◌++◌, flat_map, Bool, true, false, ◌==◌, ◌||◌, if◌then◌else◌, Option}
 use Rattle.std.specs.Prelude.{Some, None}
 use Rattle.std.specs.List.{list_any}
@@ -17,8 +17,8 @@ unfoldable pub decos_in : Step → List Deco
 decos_in (Step.Deco deco) = deco ∷ []
 decos_in _ = []
 
--- a first character of ^ < > @ is an annotation above, and _ one below, both without it; any other text is a chord
--- symbol, which stands above
+-- a first character of ^ < > @ marks an annotation above, and _ one below, both without that character; any other
+-- text is a chord symbol, which is above
 abbrev pub is_annotation_above : ℕ → Bool
 is_annotation_above c = c == 94 || (c == 60 || (c == 62 || c == 64))
 
@@ -40,7 +40,7 @@ unfoldable pub has_slash : Step → Bool
 has_slash (Step.Grace slash body) = slash
 has_slash _ = false
 
--- of several endings the last counts
+-- if there are several endings, the last counts
 unfoldable pub ending_behind : Step → Option (List ℕ) → Option (List ℕ)
 ending_behind (Step.Ending text) ending = Some text
 ending_behind _ ending = ending
@@ -49,8 +49,8 @@ abbrev pub last_ending : Option (List ℕ) → Steps → Option (List ℕ)
 last_ending ending [] = ending
 last_ending ending (s ∷ waits) = last_ending (ending_behind s.step ending) waits
 
--- several groups of graces are one, with a slash where one of them has it; the decorations within a chord come behind
--- those that waited
+-- several groups of graces are one, with a slash if one of them has it; the decorations inside a chord come after the
+-- pending ones
 unfoldable pub pending_of : InForce → Steps → List Deco → Pending
 pending_of now waits inside = record {
   changes = changes_at now waits;
@@ -61,7 +61,7 @@ pending_of now waits inside = record {
   slash = list_any (λ s. has_slash s.step) waits;
 }
 
--- whether a step says something of the event behind it
+-- whether a step means something for the event after it
 unfoldable pub tells : Step → Bool
 tells (Step.Grace slash body) = true
 tells (Step.Ending text) = true

@@ -1,6 +1,5 @@
-//! What the steps of a voice say, before any tree is made of it: its signs in the
-//! order of the text. A sign is a written event, with what waited for it since the
-//! event before, or a tuplet that begins.
+//! The tree items of a voice: what its steps mean, in the order of the text, before a tree is built from it. A tree
+//! item is a written event, with what was pending for it since the previous event, or a tuplet that begins.
 #![tactic(auto)]
 
 pub mod reading;

@@ -33,7 +33,7 @@ fn with_tie(tie: bool, head: Head) -> Head
     }
 }
 
-/// Heads that are all tied, or as they are.
+/// Returns heads as they are, or all tied.
 #[inline(always)]
 pub fn with_ties(alloc: Global, heads: &[Head], tie: bool) -> Result<Few<Head>, Memory>
     ensures { IfOk result (λ r. r ≡ map (with_tie tie) heads.now) }
@@ -98,14 +98,14 @@ fn whole_look(seen: bool) -> Look
     if seen { Look::Whole } else { Look::Unseen }
 }
 
-/// The parts of what stands at a step, no part where its length has none.
+/// Returns the parts of a step, or no parts if its length has none.
 fn values_of(alloc: Global, parts: Option<Few<Value>>) -> Few<Value>
     ensures { result ≡ unwrap_or parts [] }
 {
     parts.unwrap_or(Few::from(Row::new(alloc)))
 }
 
-/// A note, a chord or a rest as it is written, for which `waits` waits.
+/// Returns a note, a chord or a rest as it is written, for which `waits` is pending.
 #[inline(always)]
 #[tactic(auto, unfolding(crate::specs::Signs::sound_written, abc_steps::specs::Lengths::parts_at))]
 fn sound_written(
@@ -141,7 +141,7 @@ fn sound_written(
     })
 }
 
-/// The parts of a whole measure rest.
+/// Returns the parts of a whole measure rest.
 fn whole_values() -> Few<Value>
     ensures { result ≡ whole_value ∷ [] }
 {
@@ -151,7 +151,7 @@ fn whole_values() -> Few<Value>
     })
 }
 
-/// A whole measure rest as it is written.
+/// Returns a whole measure rest as it is written.
 #[tactic(auto, unfolding(crate::specs::Signs::rest_written))]
 fn rest_written(
     alloc: Global,
@@ -178,7 +178,7 @@ fn rest_written(
     }
 }
 
-/// Puts the whole measure rests behind the first of so many.
+/// Adds `count` whole measure rests, those after the first one.
 fn put_further(
     alloc: Global,
     out: &mut Row<TreeItem>,
@@ -202,7 +202,7 @@ fn put_further(
     Ok(())
 }
 
-/// Puts whole measure rests.
+/// Adds whole measure rests.
 #[inline(never)]
 fn put_rests(
     alloc: Global,
@@ -226,7 +226,7 @@ fn put_rests(
     put_further(alloc, out, now, at, seen, measure + 1, further)
 }
 
-/// Puts a tuplet that fits into the open ones.
+/// Adds a tuplet if it fits into the open ones.
 fn put_tuplet(out: &mut Row<TreeItem>, now: &VoiceState, p: u8, q: u8, r: u8) -> Result<(), Memory>
     requires groups { now.now.counts.groups ≤ 2 ^ 30 }
     requires further { now.now.counts.further ≤ 2 ^ 46 }
@@ -244,7 +244,7 @@ fn put_tuplet(out: &mut Row<TreeItem>, now: &VoiceState, p: u8, q: u8, r: u8) ->
     })
 }
 
-/// Puts the signs of a step. `parts` are those of what stands at it.
+/// Adds the tree items of a step. `parts` are the parts of the step.
 #[inline(always)]
 #[tactic(auto, unfolding(crate::specs::Signs::tree_items_of))]
 pub fn put_signs(
@@ -280,12 +280,12 @@ pub fn put_signs(
     }
 }
 
-/// How many events are among some steps.
+/// Returns the number of events among some steps.
 fn count_events(steps: &[PlacedStep]) -> usize {
     steps.iter().filter(|s| is_event(&s.step)).count()
 }
 
-/// The signs of a voice that begins with `first`, in the order of the text.
+/// Returns the tree items of a voice that begins with `first`, in the order of the text.
 #[inline(never)]
 pub fn signs(alloc: Global, first: &InForce, steps: &[PlacedStep]) -> Result<Row<TreeItem>, Memory>
     requires few { length steps.now ≤ 2 ^ 30 }

@@ -17,7 +17,7 @@ fn is_annotation_above(byte: u8) -> bool
     byte == b'^' || (byte == b'<' || (byte == b'>' || byte == b'@'))
 }
 
-/// A text between quotes: where it stands, and without the sign that says so.
+/// Returns a quoted text: whether it is below the staff, and the text without the character that says so.
 fn mention(alloc: Global, text: &[u8]) -> Result<Mention, Memory>
     ensures { IfOk result (λ m. m ≡ mention_of text.now) }
 {
@@ -55,7 +55,7 @@ fn any_slash(waits: &[PlacedStep]) -> bool
     waits.iter().any(|s| has_slash(&s.step))
 }
 
-/// Adds what a step says of the event behind it, changes and slashes aside.
+/// Adds what a step means for the event after it, except changes and slashes.
 #[tactic(auto, unfolding(crate::specs::Waits::decos_in, crate::specs::Waits::mentions_in, //
 crate::specs::Waits::ending_behind, crate::specs::Waits::graces_in))]
 fn put_waiting(alloc: Global, out: &mut Pending, s: &Step) -> Result<(), Memory>
@@ -76,7 +76,7 @@ fn put_waiting(alloc: Global, out: &mut Pending, s: &Step) -> Result<(), Memory>
     Ok(())
 }
 
-/// Whether a step says something of the event behind it.
+/// Returns whether a step means something for the event after it.
 #[tactic(auto, unfolding(crate::specs::Waits::tells))]
 fn tells(s: &Step) -> bool
     ensures { result ≡ tells s.now }
@@ -99,7 +99,7 @@ fn any_tells(waits: &[PlacedStep]) -> bool
     waits.iter().any(|s| tells(&s.step))
 }
 
-/// What waits for an event, gathered from what does.
+/// Gathers what is pending for an event.
 #[inline(never)]
 #[tactic(auto, unfolding(crate::specs::Waits::pending_of))]
 fn gathered(
@@ -120,8 +120,8 @@ fn gathered(
     StoredPending::new(alloc, waiting)
 }
 
-/// What waits for an event, of what is in force there, the steps since the event
-/// before it, and the decorations within a chord.
+/// Returns what is pending for an event, given what is in force there, the steps since the event before it, and the
+/// decorations inside a chord.
 #[inline(always)]
 #[tactic(auto, using(crate::proofs::Idle::nothing_for))]
 pub fn waiting_of(
@@ -138,7 +138,7 @@ pub fn waiting_of(
     gathered(alloc, now, waits, inside)
 }
 
-/// No changes.
+/// Returns no changes.
 pub fn no_changes() -> Changes
     ensures { result ≡ no_changes }
 {
@@ -149,7 +149,7 @@ pub fn no_changes() -> Changes
     }
 }
 
-/// What waits for an event for which nothing does.
+/// Returns an empty `Pending`.
 pub fn nothing_pending(alloc: Global) -> Pending
     ensures { result ≡ nothing_pending }
 {

@@ -8,9 +8,8 @@ use mus_units::{Deco, Few, Head, Memory, Row, Text, Value};
 use std::alloc::Global;
 use std::marker::Model;
 
-/// A note, a chord, a rest or a whole measure rest as it is written, with the
-/// line and the column of its first byte. `values` are its parts, none where its
-/// length has none; `whole` is the length of a whole measure rest in ticks.
+/// A note, a chord, a rest or a whole measure rest as it is written, with the line and the column of its first byte.
+/// `values` are its parts, or none if its length has none; `whole` is the length of a whole measure rest in ticks.
 #[derive(Drop)]
 pub struct WrittenEvent {
     pub line: u32,
@@ -25,7 +24,7 @@ pub struct WrittenEvent {
     pub ends: u32,
 }
 
-/// What waited for an event.
+/// What is pending for an event.
 #[derive(Drop)]
 pub struct Pending {
     pub changes: Changes,
@@ -36,14 +35,14 @@ pub struct Pending {
     pub slash: bool,
 }
 
-/// Where what waited stands, which is nowhere where nothing did.
+/// Storage for what is pending; takes no memory if nothing is.
 #[derive(Drop)]
 enum PendingStore {
     Nothing,
     Some(Box<Pending>),
 }
 
-/// What waited for an event, which contracts see as a `Pending`. Nothing takes no memory.
+/// What is pending for an event. Contracts see it as a `Pending`. Takes no memory if nothing is pending.
 #[derive(Drop)]
 pub struct StoredPending {
     held: PendingStore,
@@ -58,7 +57,7 @@ impl Model for StoredPending {
 }
 
 impl StoredPending {
-    /// What waited for an event for which nothing did.
+    /// Returns the value for an event with nothing pending.
     pub fn nothing() -> StoredPending
         ensures { result ≡ nothing_pending }
     {
@@ -67,7 +66,7 @@ impl StoredPending {
         }
     }
 
-    /// What waited for an event.
+    /// Stores what is pending for an event.
     pub fn new(alloc: Global, waiting: Pending) -> Result<StoredPending, Memory>
         ensures { IfOk result (λ w. w ≡ waiting) }
     {
@@ -76,14 +75,14 @@ impl StoredPending {
         })
     }
 
-    /// Whether it is known that nothing waited.
+    /// Returns whether it is known that nothing is pending.
     pub fn is_nothing(&self) -> bool
         ensures { result ≡ true → self.now ≡ nothing_pending }
     {
         matches!(self.held, PendingStore::Nothing)
     }
 
-    /// What waited, as a whole.
+    /// Returns what is pending, as a whole.
     pub fn whole(self, alloc: Global) -> Pending
         ensures { result ≡ self }
     {
@@ -94,8 +93,8 @@ impl StoredPending {
     }
 }
 
-/// What the trees of a voice are made of, in the order of the text: a written
-/// event, or a tuplet of `p` in the time of `q` that takes the next `r` of them.
+/// An item from which the trees of a voice are built, in the order of the text: a written event, or a tuplet of `p`
+/// in the time of `q` that takes the next `r` events.
 #[derive(Drop)]
 pub enum TreeItem {
     Event {
