@@ -1,4 +1,4 @@
--- Rows of bars.
+-- Lists of bars.
 use Rattle.std.proofs.Common.{◌≡◌, refl, sym, ap, ◌∙◌, ℕ, ◌+◌, ◌<◌, List, [], ◌∷◌, ◌++◌, Bool, false, Option, None}
 use Rattle.std.proofs.Common.{reverse, slice_index_or, arith}
 use Rattle.std.proofs.Math.Bool.{or_comm}

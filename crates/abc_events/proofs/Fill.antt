@@ -1,4 +1,4 @@
--- What the open tuplets take.
+-- The events that the open tuplets take.
 use Rattle.std.proofs.Common.{◌≡◌, refl, sym, ap, ◌∙◌, ℕ, zero, suc, ◌-◌, ◌≤◌, List, [], ◌∷◌, ◌++◌, arith, append-nil}
 use Rattle.std.proofs.Common.{append_assoc, subst}
 use Rattle.mus_score.specs.declared.score.Music.{Music}
@@ -34,7 +34,7 @@ pub event_one : (o : OpenTuplet) (n : ℕ) (body : List Music) (w : List Music) 
 event_one o n body w f =
     ap (λ nodes. tuplet_of o nodes (cut n f).left) (append_assoc body (w) (music_of (cut n f).taken))
 
--- a tuplet with all that it takes goes to the one around it
+-- a tuplet with all its events goes to the one around it
 pub group_one : (o : OpenTuplet) (n p q r : ℕ) (body : List Music) (f : Forest)
     → fill_one (leaving (suc n - r) o) (fill_one (record { p = p; q = q; left = r; before = body }) (filled [] f))
     ≡ fill_one (leaving (suc n) o) (filled body (group p q r (cut r f).taken (cut r f).left))
@@ -43,18 +43,18 @@ group_one o n p q r body f =
     (append_assoc body (music.Tuplet p q (music_of (cut r f).taken) ∷ [])
     (music_of (cut (suc n - r) (cut r f).left).taken))
 
--- one that takes no more closes
+-- a tuplet that takes no more closes
 pub close_one : (o : OpenTuplet) (body : List Music) (f : Forest)
     → fill_one (leaving 0 o) (filled body f) ≡ filled (o.before ++ music.Tuplet o.p o.q body ∷ []) f
 close_one o body f = ap (λ nodes. tuplet_of o nodes f) (append-nil body)
 
--- at the end each closes
+-- at the end each tuplet closes
 pub end_one : (o : OpenTuplet) (n : ℕ) (body : List Music)
     → fill_one (leaving n o) (filled body none_more) ≡ filled (o.before ++ music.Tuplet o.p o.q body ∷ []) none_more
 end_one o zero body = ap (λ nodes. tuplet_of o nodes none_more) (append-nil body)
 end_one o (suc n) body = ap (λ nodes. tuplet_of o nodes none_more) (append-nil body)
 
--- The same below others.
+-- The same inside other tuplets.
 pub event_puts : (os : List OpenTuplet) (o : OpenTuplet) (n : ℕ) (body : List Music) (w : List Music)
     → o.left ≡ suc n → (f : Forest) → whole (os ++ leaving n o ∷ []) (body ++ w) f ≡ whole (os ++ o ∷ []) body (one w f)
 event_puts os o n body w e f =
@@ -89,7 +89,7 @@ end_puts os o body =
     ap (λ z. finish (filled_tuplets os z)) (sym (end_one o o.left body))
     ∙ ap finish (sym (fill_last os o (filled body none_more)))
 
--- As the code says it: what was popped, pushed and put.
+-- In the form of the code: what was popped, pushed and put.
 pub event_answer : (stack os stack' : List OpenTuplet) (o : OpenTuplet) (left : ℕ) (body body' : List Music)
     (w : List Music) → stack ≡ os ++ o ∷ [] → body' ≡ body ++ w → stack' ≡ os ++ leaving left o ∷ []
     → TakesAnother stack → left ≡ o.left - 1

@@ -1,4 +1,4 @@
--- Heads that nothing ties are as they are.
+-- Heads that nothing ties stay as they are.
 use Rattle.std.proofs.Common.{◌≡◌, ◌∙◌, refl, ap, List, [], ◌∷◌, map, Bool, false}
 use Rattle.std.proofs.Math.Bool.{or-false}
 use Rattle.{mus_units.specs.declared.note.Head.{Head}, abc_signs.specs.Signs.{with_tie}}

@@ -1,4 +1,4 @@
--- The measures made so far, and the trees of those that are left.
+-- The measures made so far, and the trees that are left.
 use Rattle.std.proofs.Common.{◌≡◌, sym, ap, ◌∙◌, ℕ, suc, ◌+◌, ◌<◌, List, [], ◌∷◌, ◌++◌, length, slice_index_or, arith}
 use Rattle.std.proofs.lemmas.List.FromFn.{map-range_with_len_more}
 use Rattle.std.specs.Prelude.{map}
@@ -17,7 +17,7 @@ abbrev pub AreTrees : List Leaf → ℕ → ℕ → List Tree → Type 0
 AreTrees leaves n k trees =
     (j : ℕ) → k + j < n → grown (slice_index_or trees j no_tree) [] ≡ tree_of (leaves_in (k + j) leaves)
 
--- the first of them
+-- the first of these trees
 first_tree : (leaves : List Leaf) (tree : Tree) (n k : ℕ) (trees next : List Tree)
     → trees ≡ tree ∷ next → k < n → AreTrees leaves n k trees → grown tree [] ≡ tree_of (leaves_in k leaves)
 first_tree leaves tree n k trees next e less are =

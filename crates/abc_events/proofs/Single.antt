@@ -1,4 +1,4 @@
--- The nodes of a written event of one part, and of several.
+-- The nodes of a written event with one part, and with several.
 use Rattle.std.proofs.Common.{◌≡◌, ◌∙◌, ap, ℕ, ◌+◌, ◌-◌, ◌≤◌, ◌<◌, List, [], ◌∷◌, ◌++◌, map, length, take, drop}
 use Rattle.std.proofs.Common.{slice_index_or, Bool, false, arith, append_assoc}
 use Rattle.std.proofs.lemmas.List.{take_all}

@@ -1,4 +1,4 @@
--- What a walk that takes a list apart has left.
+-- What is left of a list while a walk consumes it.
 use Rattle.std.proofs.Common.{◌≡◌, ap, subst, ℕ, suc, ◌+◌, List, ◌∷◌, length, arith}
 use Rattle.std.specs.List.{All}
 

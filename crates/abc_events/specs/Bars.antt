@@ -1,4 +1,4 @@
--- The bars of a voice: those that stand at one place between two events are one, and the forced ones.
+-- The bars of a voice, where bars at one place between two events are joined into one, and its forced bars.
 use Rattle.std.specs.Prelude.{ℕ, ◌+◌, List, [], ◌∷◌, ◌++◌, map, reverse, Bool, true, false, not, ◌==◌, ◌&&◌, ◌||◌}
 use Rattle.std.specs.Prelude.{if◌then◌else◌, nat_le, nat_lt, Option, Some, None}
 use Rattle.std.specs.List.{list_any, range_with_len}
@@ -33,14 +33,14 @@ abbrev pub union_with : Option Bar → Bar → Bar
 union_with None bar = bar
 union_with (Some all) bar = union all bar
 
--- a bar is unseen only where it has no other feature
+-- a bar is unseen only if it has no other feature
 abbrev pub is_seen : Bar → Bool
 is_seen b = b.end || (b.start || (b.last || (b.initial || (b.double || b.dotted))))
 
 abbrev pub joined_bar : Bar → Bar
 joined_bar b = record b { unseen = b.unseen && not (is_seen b) }
 
--- the bars among some steps behind which `begun` measures had begun, and not more
+-- the bars among some steps before which exactly `begun` measures had begun
 unfoldable pub bars_behind : ℕ → ℕ → Step → Option Bar → Option Bar
 bars_behind begun now (Step.Bar bar) all = if begun == now then Some (union_with all bar) else all
 bars_behind begun now _ all = all
@@ -57,7 +57,7 @@ joined_or other (Some all) = joined_bar all
 abbrev pub bar_before_events : Steps → Bar
 bar_before_events steps = joined_or plain_bar (bars_at 0 (reverse steps))
 
--- A measure without a bar: the last one of the voice has an unseen bar, another a plain one.
+-- A measure without a bar: the last one of the voice gets an unseen bar, any other a plain one.
 abbrev pub missing_bar : ℕ → ℕ → Bar
 missing_bar own measure = if measure + 1 == own then unseen_bar else plain_bar
 
@@ -65,12 +65,12 @@ abbrev pub bar_of : Steps → ℕ → Bar
 bar_of steps measure =
     joined_or (missing_bar (measures_begun (reverse steps)) measure) (bars_at (measure + 1) (reverse steps))
 
--- the bars of so many measures
+-- the bars of n measures
 abbrev pub bars_of : Steps → ℕ → List Bar
 bars_of steps n = map (bar_of steps) (range_with_len 0 n)
 
--- Forced bars: the bar before a line break, where the nearest event or bar is a bar. The bar at
--- which a voice begins and the one at which it ends are none; each counts once.
+-- Forced bars: the bar before a line break, if the nearest event or bar is a bar. The bar at which a voice begins and
+-- the one at which it ends are not forced; each bar counts once.
 abbrev pub is_near_bar : Nearest → Bool
 is_near_bar Nearest.Bar = true
 is_near_bar _ = false

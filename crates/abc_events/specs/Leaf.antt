@@ -1,4 +1,4 @@
--- What the tree of a measure is made of: the nodes of a written event, or a tuplet of p in the time of q that takes the
+-- A leaf of the tree of a measure: the nodes of a written event, or a tuplet of p in the time of q that takes the
 -- next r events.
 use Rattle.{std.specs.Prelude.{ℕ, List}, mus_score.specs.declared.score.Music.{Music}}
 

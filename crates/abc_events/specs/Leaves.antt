@@ -17,12 +17,12 @@ use Rattle.abc_signs.specs.Signs.{with_tie}
 use Rattle.abc_events.specs.Leaf.{Leaf}
 use Rattle.mus_score.specs.declared.score.Music.TheVariants as music
 
--- the words of an event, a place for each verse
+-- the words of an event, one entry per verse
 abbrev pub Words : Type 0
 Words = List (Option (List ℕ))
 
--- Parts. Changes, graces, decorations, texts, the ending, slurs that begin, words and signs belong to
--- the first part, slurs that end to the last one. Each part but the last is tied; the last as written.
+-- Parts. Changes, graces, decorations, texts, the ending, slurs that begin, words and accidentals belong to the first
+-- part, slurs that end to the last one. Each part but the last is tied; the last is tied as written.
 abbrev pub ends_at : WrittenEvent → Bool → ℕ
 ends_at w more = if more then 0 else w.ends
 
@@ -108,7 +108,7 @@ grace_event heads = record {
 abbrev pub grace_note : GraceChord → Music
 grace_note g = music.Note (grace_event g.heads)
 
--- an empty group of graces is no node
+-- an empty group of graces is not a node
 abbrev pub grace_nodes : List GraceChord → Bool → List Music
 grace_nodes [] slash = []
 grace_nodes (g ∷ gs) slash = music.Grace (map grace_note (g ∷ gs)) slash ∷ []
@@ -117,7 +117,7 @@ abbrev pub nodes_of : WrittenEvent → Pending → Words → ℕ → List Music
 nodes_of w waiting words id =
     grace_nodes waiting.graces waiting.slash ++ map node_of (parts w waiting words id w.values)
 
--- Ids count the parts of a voice; words are given for each of its written events, none past their end.
+-- Ids count the parts of a voice; each of its written events has words, but none past the end of the list.
 abbrev pub words_of_event : List Words → ℕ → Words
 words_of_event words k = unwrap_or (slice_get words k) []
 

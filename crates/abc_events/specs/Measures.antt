@@ -1,4 +1,4 @@
--- The measures of a voice: in each the tree of its leaves, and its bar.
+-- The measures of a voice: each has the tree of its leaves, and its bar.
 use Rattle.std.specs.Prelude.{ℕ, ◌==◌, List, map, filter, length, slice_index_or}
 use Rattle.std.specs.List.{range_with_len}
 use Rattle.mus_units.specs.declared.note.Bar.{Bar}
@@ -19,7 +19,7 @@ leaves_in measure leaves = filter (λ l. leaf_measure l == measure) leaves
 abbrev pub measure_of_leaves : List Leaf → List Bar → ℕ → Measure
 measure_of_leaves leaves bars k = record { body = tree_of (leaves_in k leaves); bar = slice_index_or bars k plain_bar }
 
--- as many as there are bars
+-- as many measures as there are bars
 abbrev pub measures_in : List Leaf → List Bar → List Measure
 measures_in leaves bars = map (measure_of_leaves leaves bars) (range_with_len 0 (length bars))
 

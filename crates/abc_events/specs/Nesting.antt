@@ -1,4 +1,4 @@
--- The tree of a measure: its leaves in a row, in which each tuplet takes the next events behind it.
+-- The tree of a measure: its leaves in sequence, in which each tuplet takes the events that follow it.
 use Rattle.std.specs.Prelude.{◌≡◌, ℕ, zero, suc, ◌-◌, ◌≤◌, List, [], ◌∷◌, ◌++◌}
 use Rattle.mus_score.specs.declared.score.Music.{Music}
 use Rattle.abc_events.specs.Leaf.{Leaf}
@@ -6,7 +6,8 @@ use Rattle.abc_events.specs.declared.nesting.OpenTuplet.{OpenTuplet}
 use Rattle.abc_events.specs.declared.nesting.Tree.{Tree}
 use Rattle.mus_score.specs.declared.score.Music.TheVariants as music
 
--- a row of events, each with its nodes, and of tuplets that take so many events, each with a row of its own
+-- a sequence of events, each with its nodes, and of tuplets with the number of events they take, each with a sequence
+-- of its own
 pub data Forest : Type 0 where
   none_more : Forest
   one : List Music → Forest → Forest
@@ -16,7 +17,7 @@ pub record Cut : Type 0 where
   pub taken : Forest
   pub left : Forest
 
--- the next r events, with the tuplets among them whole, and what is left
+-- the next r events, with the tuplets among them kept whole, and the rest
 abbrev pub cut : ℕ → Forest → Cut
 cut zero f = record { taken = none_more; left = f }
 cut (suc r) none_more = record { taken = none_more; left = none_more }
@@ -24,7 +25,7 @@ cut (suc r) (one nodes f) = let c = cut r f in record { taken = one nodes c.take
 cut (suc r) (group p q takes inner f) =
     let c = cut (suc r - takes) f in record { taken = group p q takes inner c.taken; left = c.left }
 
--- a tuplet takes the next r events behind it
+-- a tuplet takes the next r events after it
 abbrev pub put_in_front : Leaf → Forest → Forest
 put_in_front (Leaf.Event measure nodes) f = one nodes f
 put_in_front (Leaf.Opens measure p q r) f = let c = cut r f in group p q r c.taken c.left
@@ -41,7 +42,7 @@ music_of (group p q takes inner f) = music.Tuplet p q (music_of inner) ∷ music
 abbrev pub tree_of : List Leaf → List Music
 tree_of leaves = music_of (nest leaves)
 
--- Where a row has been read in part: what the open tuplets take of what follows, outermost first.
+-- When a sequence has been read in part: what the open tuplets take from the rest, outermost first.
 pub record Filled : Type 0 where
   pub nodes : List Music
   pub forest : Forest
@@ -64,7 +65,7 @@ finish z = z.nodes ++ music_of z.forest
 abbrev pub whole : List OpenTuplet → List Music → Forest → List Music
 whole os body f = finish (filled_tuplets os (filled body f))
 
--- Whatever follows, the new state makes of it what the old one makes of it behind something.
+-- Whatever follows, the new state yields for it what the old state yields for it after what was put.
 abbrev pub Puts : List OpenTuplet → List Music → List OpenTuplet → List Music → (Forest → Forest) → Type 0
 Puts os body os' body' put = (f : Forest) → whole os' body' f ≡ whole os body (put f)
 
@@ -74,7 +75,7 @@ TakesAnother [] = Unit {0}
 TakesAnother (o ∷ []) = 1 ≤ o.left
 TakesAnother (o ∷ p ∷ os) = TakesAnother (p ∷ os)
 
--- what a tree makes of the leaves that follow
+-- what a tree becomes with the leaves that follow
 abbrev pub grown : Tree → List Leaf → List Music
 grown t leaves = whole t.stack.items t.body (nest leaves)
 

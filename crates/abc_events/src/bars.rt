@@ -81,7 +81,7 @@ fn joined_or(other: Bar, all: Option<Bar>) -> Bar
     }
 }
 
-/// The bars behind which `begun` measures have begun, with one more step.
+/// Returns the bars before which exactly `begun` measures have begun, with one more step added.
 #[tactic(auto, unfolding(crate::specs::Bars::bars_behind))]
 fn bars_behind(begun: u64, now: u64, s: &Step, all: Option<Bar>) -> Option<Bar>
     ensures { result ≡ bars_behind begun now s.now all }
@@ -98,7 +98,7 @@ fn bars_behind(begun: u64, now: u64, s: &Step, all: Option<Bar>) -> Option<Bar>
     }
 }
 
-/// How many measures a voice has of its own.
+/// Returns the number of measures that a voice has of its own.
 pub fn own_measures(steps: &[PlacedStep]) -> u64
     requires { length steps.now ≤ 2 ^ 30 }
     ensures { result ≡ measures_begun (reverse steps.now) }
@@ -124,8 +124,8 @@ fn put_bar(all: &mut [Option<Bar>], now: u64, s: &Step)
     }
 }
 
-/// The bars of each place of a voice, those before its first event and those behind each of so many
-/// measures, and how many measures it has of its own.
+/// The bars at each place of a voice, before its first event and after each of its measures, and the number of
+/// measures it has of its own.
 #[derive(Drop)]
 struct Places {
     all: Vec<Option<Bar>>,
@@ -162,7 +162,7 @@ fn missing_bar(own: u64, measure: u64) -> Bar
     }
 }
 
-/// The bar of a measure, of the bars of all places.
+/// Returns the bar of a measure, from the bars of all places.
 fn bar_of(all: &[Option<Bar>], own: u64, measure: u32) -> Bar
     requires { measure + 1 < length all.now }
     ensures { result ≡ joined_or (missing_bar own measure) (slice_index_or all.now (measure + 1) None) }
@@ -180,7 +180,7 @@ pub struct VoiceBars {
     pub bars: Row<Bar>,
 }
 
-/// The bars of a voice with `n` measures.
+/// Returns the bars of a voice with `n` measures.
 pub fn bars_of(alloc: Global, steps: &[PlacedStep], n: u32) -> Result<VoiceBars, Memory>
     requires { length steps.now ≤ 2 ^ 30 }
     ensures first { IfOk result (λ b. b.first ≡ bar_before_events steps.now) }
@@ -203,7 +203,7 @@ fn is_near_bar(nearest: Nearest) -> bool
     matches!(nearest, Nearest::Bar)
 }
 
-/// Whether a line break forces the bar before it.
+/// Returns whether a line break forces the bar before it.
 fn forces_bar(n: u32, counts: Counts) -> bool
     requires groups { counts.groups ≤ 2 ^ 30 }
     requires further { counts.further ≤ 2 ^ 46 }
@@ -213,14 +213,14 @@ fn forces_bar(n: u32, counts: Counts) -> bool
     is_near_bar(counts.nearest) && (1 <= bar && bar < u64::from(n))
 }
 
-/// Whether a bar is there, looked for from the end.
+/// Returns whether a bar is in a list, searched from the end.
 fn has_bar(forced: &[u32], bar: u32) -> bool
     ensures { result ≡ list_any (λ b. b == bar) (reverse forced.now) }
 {
     forced.iter().rev().any(|b| *b == bar)
 }
 
-/// Adds a bar that isn't there yet.
+/// Adds a bar unless it is already there.
 #[tactic(auto, using(crate::proofs::BarRows::any_reverse))]
 fn put_forced(forced: &mut Row<u32>, bar: u32) -> Result<(), Memory>
     ensures { OnOk result (forced.new ≡ with_bar bar forced.old) }
@@ -249,7 +249,7 @@ fn force_behind(forced: &mut Row<u32>, n: u32, counts: Counts, s: &Step) -> Resu
     }
 }
 
-/// The bars of a voice that its line breaks force, among `n` measures.
+/// Returns the bars of a voice that its line breaks force, among `n` measures.
 pub fn forced_bars(alloc: Global, steps: &[PlacedStep], n: u32) -> Result<Row<u32>, Memory>
     requires { length steps.now ≤ 2 ^ 30 }
     ensures { IfOk result (λ r. r ≡ forced_bars steps.now n) }

@@ -12,7 +12,7 @@ use mus_score::{Event, Look, Music};
 use mus_units::{Base, Few, Head, Memory, Row, Text, Value, copy_optional_texts, ticks_of};
 use std::alloc::Global;
 
-/// How many written events came before, and the id of the next part.
+/// The number of written events so far, and the id of the next part.
 #[derive(Clone, Copy, PartialEq, Eq)]
 pub struct Numbers {
     pub event: usize,
@@ -20,7 +20,7 @@ pub struct Numbers {
 }
 
 impl Numbers {
-    /// Steps over an event of so many parts, and gives the numbers of that event.
+    /// Advances past an event with this number of parts, and returns the numbers of that event.
     pub fn step_over(&mut self, parts: usize) -> Result<Numbers, Memory>
         ensures here { IfOk result (λ here. here ≡ self.old) }
         ensures event { OnOk result (self.new.event ≡ self.old.event + 1) }
@@ -33,7 +33,7 @@ impl Numbers {
     }
 }
 
-/// A written event of a voice, with what waited for it, its words, and the id of its first part.
+/// A written event of a voice, with what is pending for it, its words, and the id of its first part.
 #[derive(Drop)]
 pub struct VoiceEvent {
     pub written: WrittenEvent,
@@ -42,7 +42,7 @@ pub struct VoiceEvent {
     pub id: u32,
 }
 
-/// What the first part of a written event has of its own: what waited for the event, its words, and an id.
+/// What only the first part of a written event has: what is pending for the event, its words, and an id.
 #[derive(Drop)]
 struct FirstPart {
     waiting: Pending,
@@ -63,7 +63,7 @@ fn ticks_at(w: &WrittenEvent, value: Value) -> u64
     w.whole.unwrap_or(ticks_of(value))
 }
 
-/// The first part of a written event, with its heads, which are tied where there are more parts.
+/// Returns the first part of a written event, with its heads, which are tied if there are more parts.
 #[tactic(auto, unfolding(crate::specs::Leaves::first_part))]
 fn first_part(
     w: &WrittenEvent,
@@ -123,7 +123,7 @@ fn later_heads(alloc: Global, heads: &[Head], more: bool) -> Result<Few<Head>, M
     }
 }
 
-/// A row of so many verses without words.
+/// Returns a list of empty words, one entry per verse.
 fn no_words(alloc: Global, verses: usize) -> Result<Row<Option<Text>>, Memory>
     ensures { IfOk result (λ r. r ≡ replicate verses None) }
 {
@@ -174,14 +174,14 @@ fn node_of(e: Event) -> Music
     }
 }
 
-/// The number behind another. Past 2^32 there is no memory for so many events.
+/// Returns the next id. Ids past 2^32 fail as out of memory.
 fn next_id(id: u32) -> Result<u32, Memory>
     ensures { IfOk result (λ next. next ≡ id + 1) }
 {
     id.checked_add(1).ok_or(Memory)
 }
 
-/// The number so many behind another.
+/// Returns the id `count` after another.
 fn id_behind(id: u32, count: usize) -> Result<u32, Memory>
     ensures { IfOk result (λ behind. behind ≡ id + count) }
 {
@@ -197,7 +197,7 @@ fn some_more(values: &[Value]) -> bool
     !values.is_empty()
 }
 
-/// Puts the first part.
+/// Adds the first part.
 fn put_first(
     alloc: Global,
     nodes: &mut Row<Music>,
@@ -214,7 +214,7 @@ fn put_first(
     nodes.push(node_of(first_part(w, heads, first, more, value)))
 }
 
-/// Puts the parts behind the first, which has this id.
+/// Adds the parts after the first, which has this id.
 fn put_later(
     alloc: Global,
     nodes: &mut Row<Music>,
@@ -236,7 +236,7 @@ fn put_later(
     Ok(())
 }
 
-/// The one part of a written event that has no other.
+/// Returns the part of a written event that has only one.
 #[inline(always)]
 #[tactic(auto, using(crate::proofs::Heads::untied), unfolding(crate::specs::Leaves::first_part))]
 fn only_part(w: WrittenEvent, first: FirstPart, value: Value) -> Event
@@ -262,7 +262,7 @@ fn only_part(w: WrittenEvent, first: FirstPart, value: Value) -> Event
     }
 }
 
-/// Puts the parts of a written event, the first of which may have others.
+/// Adds the parts of a written event that may have more than one.
 #[inline(never)]
 fn put_several(
     alloc: Global,
@@ -317,7 +317,7 @@ fn grace_notes(alloc: Global, graces: &[GraceChord]) -> Result<Row<Music>, Memor
     Ok(notes)
 }
 
-/// Puts the group of the graces that waited, where there is one.
+/// Adds the group of pending graces, if there is one.
 #[inline(never)]
 fn put_graces(
     alloc: Global,
@@ -334,7 +334,7 @@ fn put_graces(
     nodes.push(Music::Grace { body, slash })
 }
 
-/// What waited for an event, whose graces are put.
+/// Adds the graces pending for an event, and returns all that is pending for it.
 #[inline(always)]
 fn with_graces_put(
     alloc: Global,
@@ -352,7 +352,7 @@ fn with_graces_put(
     Ok(waiting)
 }
 
-/// The words of a written event.
+/// Returns the words of a written event.
 pub fn words_of_event(
     alloc: Global,
     words: &[Row<Option<Text>>],
@@ -366,7 +366,7 @@ pub fn words_of_event(
     }
 }
 
-/// Puts the parts of a written event.
+/// Adds the parts of a written event.
 #[inline(always)]
 fn put_parts(
     alloc: Global,
@@ -387,7 +387,7 @@ fn put_parts(
     }
 }
 
-/// Puts the nodes of a written event: the group of its graces, and its parts.
+/// Adds the nodes of a written event: the group of its graces, and its parts.
 pub fn put_nodes(alloc: Global, nodes: &mut Row<Music>, e: VoiceEvent) -> Result<(), Memory>
     requires { All (λ v. v.dots ≤ 3) e.written.values }
     ensures { OnOk result (nodes.new ≡ nodes.old ++ nodes_of e.written e.waits e.words e.id) }

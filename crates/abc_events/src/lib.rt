@@ -1,5 +1,5 @@
-//! The events of a voice: from its signs, which are its written events and the
-//! tuplets that begin in it, to their parts, the measures with their trees, and the bars.
+//! The events of a voice: from its tree items, which are its written events and the tuplets that begin in it, to
+//! their parts, the measures with their trees, and the bars.
 #![tactic(auto)]
 
 pub mod bars;

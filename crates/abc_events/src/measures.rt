@@ -14,7 +14,7 @@ use mus_units::{Bar, Memory, Row, Text};
 use smallvec::SmallVec;
 use std::alloc::Global;
 
-/// So many empty trees, each with room for so many nodes.
+/// Returns `n` empty trees, each with room for `room` nodes.
 fn empty_trees(alloc: Global, n: usize, room: usize) -> Result<Vec<Tree>, Memory>
     ensures len { IfOk result (λ v. length v.items ≡ n) }
     ensures stack { IfOk result (λ v. (k : ℕ) → k < n → (slice_index_or v.items k no_tree).stack.items ≡ []) }
@@ -30,7 +30,7 @@ fn empty_trees(alloc: Global, n: usize, room: usize) -> Result<Vec<Tree>, Memory
     Ok(trees)
 }
 
-/// Puts a written event into the tree of its measure, where there is one.
+/// Adds a written event to the tree of its measure, if there is one.
 fn put_written(alloc: Global, trees: &mut [Tree], e: VoiceEvent) -> Result<(), Memory>
     requires ready { (k : ℕ) → k < length trees.old → TakesAnother (slice_index_or trees.old k no_tree).stack.items }
     requires drawn { All (λ v. v.dots ≤ 3) e.written.values }
@@ -50,7 +50,7 @@ fn put_written(alloc: Global, trees: &mut [Tree], e: VoiceEvent) -> Result<(), M
     put_event(alloc, &mut trees[measure as usize], e)
 }
 
-/// Opens a tuplet in the tree of its measure, where there is one.
+/// Opens a tuplet in the tree of its measure, if there is one.
 fn put_opening(
     alloc: Global,
     trees: &mut [Tree],
@@ -74,7 +74,7 @@ fn put_opening(
     put_tuplet(alloc, &mut trees[measure as usize], p, q, r)
 }
 
-/// Puts a sign. `words` has a row for each written event, with a place for each verse.
+/// Adds a tree item. `words` has a list for each written event, with an entry for each verse.
 fn put_sign(
     alloc: Global,
     trees: &mut [Tree],
@@ -109,7 +109,7 @@ fn put_sign(
     }
 }
 
-/// The trees of the measures of a voice of these signs.
+/// Returns the trees of the measures of a voice with these tree items.
 fn trees_of(
     alloc: Global,
     signs: Row<TreeItem>,
@@ -131,8 +131,8 @@ fn trees_of(
     Ok(trees)
 }
 
-/// The measures of a voice of these signs, one for each bar. `words` has a row for each written event,
-/// with a place for each verse; its words are those of the event's first part.
+/// Returns the measures of a voice with these tree items, one for each bar. `words` has a list for each written
+/// event, with an entry for each verse; these are the words of the event's first part.
 pub fn measures_of(
     alloc: Global,
     signs: Row<TreeItem>,

@@ -11,7 +11,7 @@ use std::alloc::Global;
 use std::default::MadeWith;
 use std::mem;
 
-/// A tuplet that still takes events, and what stands before it in its row.
+/// A tuplet that still takes events, and the nodes before it in its list.
 #[derive(Drop)]
 pub struct OpenTuplet {
     pub p: u8,
@@ -33,15 +33,15 @@ impl MadeWith<Global> for OpenTuplet {
     }
 }
 
-/// The tree of a measure as far as its leaves are put: the tuplets that still take
-/// events, outermost first, and the row behind the innermost.
+/// The tree of a measure, built up to the leaves added so far: the tuplets that still take events, outermost first,
+/// and the nodes after the beginning of the innermost.
 #[derive(Drop)]
 pub struct Tree {
     pub stack: SmallVec<OpenTuplet, 2>,
     pub body: Row<Music>,
 }
 
-/// Puts a tuplet behind what stands before it.
+/// Adds a tuplet after the nodes before it.
 fn close(alloc: Global, o: OpenTuplet, body: &mut Row<Music>) -> Result<(), Memory>
     ensures { OnOk result (body.new ≡ o.before ++ music.Tuplet o.p o.q body.old ∷ []) }
 {
@@ -54,7 +54,7 @@ fn close(alloc: Global, o: OpenTuplet, body: &mut Row<Music>) -> Result<(), Memo
     })
 }
 
-/// Closes the innermost tuplets that take no more.
+/// Closes the innermost tuplets that take no more events.
 #[inline(always)]
 fn close_full(
     alloc: Global,
@@ -74,7 +74,7 @@ fn close_full(
     Ok(())
 }
 
-/// Takes an event into the innermost tuplet, whose nodes are put behind a body.
+/// Counts an event, whose nodes are added to the body, against the innermost tuplet.
 fn take_event(stack: &mut SmallVec<OpenTuplet, 2>) -> Result<(), Memory>
     requires { TakesAnother stack.old.items }
     ensures { OnOk result
@@ -92,7 +92,7 @@ fn take_event(stack: &mut SmallVec<OpenTuplet, 2>) -> Result<(), Memory>
     Ok(())
 }
 
-/// Begins a row of its own for a tuplet.
+/// Begins a list of nodes for a tuplet.
 fn begin(
     alloc: Global,
     stack: &mut SmallVec<OpenTuplet, 2>,
@@ -115,7 +115,7 @@ fn begin(
     Ok(())
 }
 
-/// Opens a tuplet, whose events the one around it doesn't take one by one.
+/// Opens a tuplet; the tuplet around it no longer takes its events one by one.
 fn open_tuplet(
     alloc: Global,
     stack: &mut SmallVec<OpenTuplet, 2>,
@@ -140,7 +140,7 @@ fn open_tuplet(
     Ok(())
 }
 
-/// Puts a written event into the tree of its measure.
+/// Adds a written event to the tree of its measure.
 pub fn put_event(alloc: Global, tree: &mut Tree, e: VoiceEvent) -> Result<(), Memory>
     requires ready { TakesAnother tree.old.stack.items }
     requires drawn { All (λ v. v.dots ≤ 3) e.written.values }
@@ -167,7 +167,7 @@ pub fn put_tuplet(alloc: Global, tree: &mut Tree, p: u8, q: u8, r: u8) -> Result
     close_full(alloc, &mut tree.stack, &mut tree.body)
 }
 
-/// The nodes of a tree, whose open tuplets take no more.
+/// Returns the nodes of a tree, closing its open tuplets.
 pub fn nodes_of(alloc: Global, mut tree: Tree) -> Result<Row<Music>, Memory>
     ensures { IfOk result (λ r. r ≡ grown tree []) }
 {

@@ -1,4 +1,4 @@
--- Weights as they are kept: too many stand at the same places as without caps.
+-- Stored weights: the count becomes too large at the same places as without caps.
 use Rattle.std.proofs.Common.{◌≡◌, ◌∙◌, refl, ap, ℕ, ◌+◌, ◌≤◌, min, List, [], ◌∷◌, ◌++◌, map, Bool, true, false, cond}
 use Rattle.std.proofs.Common.{arith}
 use Rattle.std.proofs.lemmas.Bool.Decides.{nat_tests}
@@ -13,7 +13,7 @@ use Rattle.abc_faults.specs.Weights.{crowded}
 pub capped_append : (xs ys : List Weight) → map capped (xs ++ ys) ≡ map capped xs ++ map capped ys
 capped_append xs ys = map-append capped xs ys
 
--- a count with caps, and the whole count: the same where it is not too many
+-- a count with caps, and the whole count: equal if it is not too large
 pub record IsCapped (few all : ℕ) : Type 0 where
   pub below : few ≤ all
   pub same : few ≤ 50000 → few ≡ all

@@ -1,4 +1,4 @@
--- The first place where too many heads and rests stand so far.
+-- The first place up to which there are too many heads and rests.
 use Rattle.std.proofs.Common.{◌≡◌, ◌∙◌, refl, sym, ap, subst, ℕ, ◌+◌, ◌<◌, ◌≤◌, List, [], ◌∷◌, ◌++◌, length, drop, take}
 use Rattle.std.proofs.Common.{get_or, Bool, true, false, cond, Option, Some, None, ⊎_elim, arith}
 use Rattle.std.proofs.lemmas.List.{drop_more, take_all, take-append-drop}
@@ -23,7 +23,7 @@ below a b x y = is_below_or_tied a x (nat_lt b y)
 below_not_below : (a b x y m n : ℕ) → below a b x y ≡ true → below m n x y ≡ false → below a b m n ≡ true
 below_not_below a b x y m n h i = grind (arith, nat_tests)
 
--- v stands before w, and u doesn't
+-- v comes before w, and u does not
 before_behind : (u v w : Weight) → stands_before v w ≡ true → stands_before u w ≡ false → stands_before v u ≡ true
 unfolding stands_before
 before_behind u v w h i = below_not_below v.line v.column w.line w.column u.line u.column h i
@@ -55,7 +55,7 @@ up_to-le w v = by_test (stands_before w v) where
 crowd-le : (ws : List Weight) (w : Weight) → crowd_up_to ws w ≤ sum_by count ws
 crowd-le ws w = sum_by-le-sum_by (count_up_to w) count ws (up_to-le w)
 
--- nothing counts where all stand behind
+-- nothing counts if all come after
 pub none_up_to : (w : Weight) (vs : List Weight)
     → AllByRecursion (λ v. stands_before w v ≡ true) vs → crowd_up_to vs w ≡ 0
 none_up_to w [] h = refl
@@ -63,7 +63,7 @@ none_up_to w (v ∷ vs) h =
     let here : count_up_to w v ≡ 0 = simp h.0 in
     sum_by-cons (count_up_to w) v vs ∙ omega (arith, here, none_up_to w vs h.1)
 
--- all before a weight in the order of the text count
+-- all weights before a weight in the order of the text count
 all_up_to : (front : List Weight) (w : Weight) (behind : List Weight)
     → AreInOrder (front ++ w ∷ behind) → crowd_up_to front w ≡ sum_by count front
 all_up_to [] w behind h = refl
@@ -87,7 +87,7 @@ pub before_all : (v w : Weight) (us : List Weight)
 before_all v w [] h all = tt
 before_all v w (u ∷ us) h all = (before_behind u v w h all.0, before_all v w us h all.1)
 
--- what stands at places before a weight's is counted before it
+-- what is at places before a weight's place is counted before it
 crowd_before : (front : List Weight) (w : Weight) (behind : List Weight) (v : Weight)
     → AreInOrder (front ++ w ∷ behind) → stands_before v w ≡ true
     → crowd_up_to (front ++ w ∷ behind) v ≤ sum_by count front
@@ -97,7 +97,7 @@ crowd_before front w behind v order h =
     none_up_to v (w ∷ behind) (h, before_all v w behind h (behind_in_order front w behind order)) in
     omega (arith, parts, none, crowd-le front v)
 
--- a weight and all before it count
+-- a weight and all weights before it count
 crowd_at : (front : List Weight) (w : Weight) (behind : List Weight)
     → AreInOrder (front ++ w ∷ behind) → sum_by count front + w.count ≤ crowd_up_to (front ++ w ∷ behind) w
 crowd_at front w behind order =
@@ -169,7 +169,7 @@ fault_of all (w ∷ ws) g h =
         crowd = o.crowd;
       }
 
--- too many with a weight in the order of the text, and not too many before it
+-- too many with a weight in the order of the text, but not before it
 first_at : (front : List Weight) (w : Weight) (behind : List Weight)
     → AreInOrder (front ++ w ∷ behind) → sum_by count front ≤ 50000 → 50000 < sum_by count front + w.count
     → IsLeastFault (crowded (front ++ w ∷ behind)) (crowd_fault w)
@@ -252,7 +252,7 @@ first_along xs ys (Some f) same h = record {
   least = λ g k. h.least g (held_along xs ys g same k);
 }
 
--- ---- there is one first
+-- ---- there is exactly one first
 level : (a b x y : ℕ) → below a b x y ≡ false → below x y a b ≡ false → (a ≡ x) × (b ≡ y)
 level a b x y h i = (grind (arith, nat_tests), grind (arith, nat_tests))
 

@@ -114,7 +114,7 @@ pub first_is : (fs : List Fault) → IsFirstInOrder fs (first_of fs)
 first_is [] = refl
 first_is (f ∷ fs) = earlier_first (f ∷ []) fs (Some f) (first_of fs) (alone f) (first_is fs)
 
--- one more part of a set, joined to what was found before it
+-- one more part of a set, joined to the fault found before it
 pub found_more : (own rest whole : List Fault) (found mine next all : Option Fault)
     → whole ≡ own ++ rest → mine ≡ first_of own → next ≡ earlier found mine → earlier found (first_of whole) ≡ all
     → earlier next (first_of rest) ≡ all
@@ -123,7 +123,7 @@ found_more own rest whole found mine next all parts is_mine is_next h =
     ∙ earlier_assoc found (first_of own) (first_of rest)
     ∙ ap (earlier found) (sym (first_append own rest) ∙ ap first_of (sym parts)) ∙ h
 
--- the earlier of two, by the test of the code
+-- the earlier of two, by the code's test
 pub joined : (s t : List Fault) (a b : Option Fault) (f g : Fault) (x : Bool)
     → a ≡ Some f → b ≡ Some g → is_before g f ≡ x → IsFirstInOrder s a → IsFirstInOrder t b
     → IsFirstInOrder (s ++ t) (cond x (Some g) (Some f))

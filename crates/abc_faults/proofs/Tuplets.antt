@@ -1,4 +1,4 @@
--- How many events a tuplet could take, one step further on.
+-- How many events a tuplet could take, one step later.
 use Rattle.std.proofs.Common.{◌≡◌, ◌∙◌, ap, ℕ, ◌+◌, ◌<◌, [], ◌∷◌, length, drop, get_or, Bool, false, not, cond, arith}
 use Rattle.std.proofs.lemmas.List.{drop_more}
 use Rattle.std.proofs.lemmas.List.Sums.{sum_by-cons, take_while-cons}

@@ -46,7 +46,7 @@ weigh_parts first steps i at less is =
     ∙ ap (λ z. weights_of (state_at first before) before at behind at.step ++ weights_in first z behind)
     (sym (nearest steps i at less is))
 
--- one more part of a list, behind what was put before it
+-- one more part of a list, after what was put before it
 pub part_more : {A : Type 0} (own rest whole out more all : List A)
     → whole ≡ own ++ rest → more ≡ out ++ own → out ++ whole ≡ all → more ++ rest ≡ all
 part_more own rest whole out more all parts put e =

@@ -1,5 +1,5 @@
--- All faults that hold in a voice, each at its place, by each step in turn with what stands before it, the nearest
--- first, and what follows it.
+-- All faults of a voice, each at its place, from each step in turn with the steps before it, the nearest first, and
+-- the steps after it.
 use Rattle.std.specs.Prelude.{ℕ, ◌+◌, ◌-◌, List, [], ◌∷◌, ◌++◌, Bool, true, false, not, ◌&&◌, ◌||◌, nat_le, nat_lt}
 use Rattle.std.specs.Prelude.{int_lt, pos, negsuc, is_none, if◌then◌else◌, count_by, flat_map}
 use Rattle.std.specs.List.{before_first, list_any}
@@ -31,7 +31,7 @@ abbrev pub fault_if : Bool → FaultKind → PlacedStep → List Fault
 fault_if true kind at = step_fault kind at ∷ []
 fault_if false kind at = []
 
--- Tuplets. Bars and whole measure rests end those that are open.
+-- Tuplets. Bars and whole measure rests end the open ones.
 unfoldable pub ends_tuplets : Step → Bool
 ends_tuplets (Step.Bar bar) = true
 ends_tuplets (Step.Measures seen count) = true
@@ -41,18 +41,18 @@ ends_tuplets _ = false
 unfoldable pub sounds_behind : Steps → ℕ
 sounds_behind behind = count_by (λ s. is_sound s.step) (before_first (λ s. ends_tuplets s.step) behind)
 
--- one that doesn't fit would stand within two, or is of more events than the one around it still takes
+-- a tuplet that does not fit would be inside two, or has more events than the one around it still takes
 abbrev pub misfit_of : OpenTuplets → FaultKind
 misfit_of (OpenTuplets.Nested inner outer) = FaultKind.TooDeep
 misfit_of _ = FaultKind.TupletCrosses
 
--- one that fits is short where the measure ends before it has its events
+-- a tuplet that fits is short if the measure ends before it has its events
 abbrev pub tuplet_faults : ℕ → OpenTuplets → PlacedStep → Steps → List Fault
 tuplet_faults r open_ones at behind =
     if fits r open_ones then fault_if (nat_lt (sounds_behind behind) r) FaultKind.TupletShort at
     else step_fault (misfit_of open_ones) at ∷ []
 
--- Heads. They stand from 14 steps below the bottom line of the staff to 22 above it.
+-- Heads. They range from 14 steps below the bottom line of the staff to 22 above it.
 abbrev pub is_off : Clef → Head → Bool
 is_off clef head = let height = height_of head.pitch clef in int_lt height (negsuc 13) || int_lt (pos 22) height
 
@@ -62,7 +62,7 @@ any_off clef heads = list_any (is_off clef) heads
 abbrev pub any_grace_off : Clef → List GraceChord → Bool
 any_grace_off clef body = list_any (λ chord. any_off clef chord.heads) body
 
--- the graces among what waits for an event, each group at its own place, in the clef of the event
+-- the graces pending for an event, each group at its own place, in the clef of the event
 unfoldable pub grace_faults_of : Clef → PlacedStep → Step → List Fault
 grace_faults_of clef at (Step.Grace slash body) = fault_if (any_grace_off clef body) FaultKind.StepRange at
 grace_faults_of clef at _ = []
@@ -78,7 +78,7 @@ abbrev pub is_free : Meter → Bool
 is_free Meter.Free = true
 is_free _ = false
 
--- a note, a chord or a rest, without its graces: it is undrawable where its length has no parts
+-- a note, a chord or a rest, without its graces: it is undrawable if its length has no parts
 abbrev pub sound_faults_if : Bool → VoiceState → PlacedStep → WrittenSound → List Fault
 sound_faults_if undrawable now at s =
     fault_if undrawable FaultKind.Undrawable at
@@ -90,7 +90,7 @@ sound_faults now before at s behind =
     let length = written_length now.force.unit s before behind in
     sound_faults_if (is_none (parts_list length.num length.den)) now at s
 
--- whole measure rests, without their graces: the last of them must stand in a good measure too
+-- whole measure rests, without their graces: the last of them must be in a good measure too
 abbrev pub rest_faults : VoiceState → PlacedStep → ℕ → List Fault
 rest_faults now at count =
     fault_if (is_free now.force.meter) FaultKind.RestWithoutMeter at

@@ -1,9 +1,9 @@
--- The first of a set of faults: by line, then by column, then by the order in which faults at one place count.
+-- The first of a set of faults: by line, then by column, then by the order of faults at one place.
 use Rattle.std.specs.Prelude.{◌≡◌, ℕ, Bool, false, ◌&&◌, ◌||◌, ◌==◌, nat_lt, if◌then◌else◌, List, [], ◌∷◌, Contains}
 use Rattle.std.specs.Prelude.{Option, Some, None}
 use Rattle.abc_lines.specs.{declared.fault.FaultKind.FaultKind, declared.fault.Fault.Fault}
 
--- the place of a kind in that order
+-- the rank of a kind in that order
 abbrev pub kind_rank : FaultKind → ℕ
 kind_rank FaultKind.NoKey = 0
 kind_rank FaultKind.BadMeter = 1
@@ -31,7 +31,7 @@ kind_rank FaultKind.BadMove = 22
 kind_rank (FaultKind.NoWay reached) = 23
 kind_rank (FaultKind.TooTall block) = 24
 
--- the first numbers decide, and where they are equal the others
+-- the first numbers decide, or if they are equal the others
 abbrev pub is_below_or_tied : ℕ → ℕ → Bool → Bool
 is_below_or_tied x y rest = nat_lt x y || ((x == y) && rest)
 
@@ -39,17 +39,17 @@ unfoldable pub is_before : Fault → Fault → Bool
 is_before f g =
     is_below_or_tied f.line g.line (is_below_or_tied f.column g.column (nat_lt (kind_rank f.kind) (kind_rank g.kind)))
 
--- one of the set, before which none of the set comes
+-- a fault of the set that no fault of the set comes before
 pub record IsLeastFault (set : List Fault) (f : Fault) : Type 0 where
   pub held : Contains set f
   pub least : (g : Fault) → Contains set g → is_before g f ≡ false
 
--- None exactly where the set is empty, else the first of it
+-- None exactly when the set is empty, or else its first fault
 abbrev pub IsFirstInOrder : List Fault → Option Fault → Type 0
 IsFirstInOrder set None = set ≡ []
 IsFirstInOrder set (Some f) = IsLeastFault set f
 
--- The same as functions: the earlier of two, the former where neither comes before the other.
+-- The same as functions: the earlier of two, or the former if neither comes before the other.
 abbrev pub earlier : Option Fault → Option Fault → Option Fault
 earlier None other = other
 earlier (Some f) None = Some f

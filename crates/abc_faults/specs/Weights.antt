@@ -1,4 +1,4 @@
--- How many heads and rests stand at each place, and where there are too many of them so far.
+-- How many heads and rests are at each place, and where there are too many of them so far.
 use Rattle.std.specs.Prelude.{◌≡◌, ⊤, false, ℕ, ◌*◌, List, [], ◌∷◌, ◌++◌, length, max, min, Bool, nat_lt, if◌then◌else◌}
 use Rattle.std.specs.Prelude.{sum_by, flat_map, Option, Some, None}
 use Rattle.std.specs.List.{AllByRecursion}
@@ -20,7 +20,7 @@ use Rattle.abc_faults.specs.{declared.weights.Weight.Weight, First.is_below_or_t
 abbrev pub weight_at : ℕ → PlacedStep → Weight
 weight_at count at = record { line = at.line; column = at.column; count = count }
 
--- as it is kept: a place counts for no more than is already too many
+-- a weight as it is stored: no place counts for more than one above the limit
 abbrev pub capped : Weight → Weight
 capped w = record { line = w.line; column = w.column; count = min w.count 50001 }
 
@@ -38,7 +38,7 @@ sound_count now before s behind =
 abbrev pub grace_count : List GraceChord → ℕ
 grace_count body = sum_by (λ chord. length chord.heads) body
 
--- the groups of graces among what waits for an event, each at its own place
+-- the pending groups of graces, each at its own place
 unfoldable pub grace_weights_of : PlacedStep → Step → List Weight
 grace_weights_of at (Step.Grace slash body) = weight_at (grace_count body) at ∷ []
 grace_weights_of at _ = []
@@ -53,17 +53,17 @@ weights_of now before at behind (Step.Measures seen count) =
     grace_weights (since_event before) ++ weight_at count at ∷ []
 weights_of now before at behind _ = []
 
--- every step of a voice in turn, with what stands before it, the nearest first, and what follows it
+-- each step of a voice in turn, with the steps before it, the nearest first, and the steps after it
 abbrev pub weights_in : InForce → Steps → Steps → List Weight
 weights_in first before [] = []
 weights_in first before (at ∷ behind) =
     weights_of (state_at first before) before at behind at.step ++ weights_in first (at ∷ before) behind
 
--- whether one stands before the other in the text, whatever their voices
+-- whether one weight comes before the other in the text, whatever their voices
 unfoldable pub stands_before : Weight → Weight → Bool
 stands_before v w = is_below_or_tied v.line w.line (nat_lt v.column w.column)
 
--- in the order of the text: none stands before one that is listed earlier
+-- in the order of the text: no weight comes before one that is listed earlier
 abbrev pub IsBehind : Weight → Weight → Type 0
 IsBehind w v = stands_before v w ≡ false
 
@@ -71,14 +71,14 @@ abbrev pub AreInOrder : List Weight → Type 0
 AreInOrder [] = ⊤
 AreInOrder (w ∷ ws) = AllByRecursion (IsBehind w) ws × AreInOrder ws
 
--- what stands at places not behind that of a weight, itself included
+-- the count at places up to that of a weight, including the weight itself
 abbrev pub count_up_to : Weight → Weight → ℕ
 count_up_to w v = if stands_before w v then 0 else v.count
 
 abbrev pub crowd_up_to : List Weight → Weight → ℕ
 crowd_up_to weights w = sum_by (count_up_to w) weights
 
--- at most 50,000 heads and rests stand in a tune
+-- a tune has at most 50,000 heads and rests
 abbrev pub crowd_fault : Weight → Fault
 crowd_fault w = record { kind = FaultKind.TooManyEvents; line = w.line; column = w.column }
 

@@ -17,7 +17,7 @@ fn crowd_fault(w: Weight) -> Fault
     }
 }
 
-/// The first weight with which there are too many, of weights in the order of the text.
+/// Returns the fault at the first weight that makes the sum too large, given weights in the order of the text.
 fn first_crowded(weights: &[Weight]) -> Option<Fault>
     requires { AreInOrder weights.now }
     ensures { IsFirstInOrder (crowded weights.now) result }
@@ -32,7 +32,7 @@ fn first_crowded(weights: &[Weight]) -> Option<Fault>
     None
 }
 
-/// The weights in the order of the text.
+/// Returns the weights in the order of the text.
 fn in_order(alloc: Global, weights: Row<Weight>) -> Result<Row<Weight>, Memory>
     ensures order { IfOk result (λ r. AreInOrder r) }
     ensures same { IfOk result (λ r. IsPermutation weights r) }
@@ -42,8 +42,8 @@ fn in_order(alloc: Global, weights: Row<Weight>) -> Result<Row<Weight>, Memory>
     Ok(Row { items })
 }
 
-/// The first place of a tune where more than 50,000 heads and rests stand so far, of the weights
-/// of all its voices in any order. None exactly where there is none.
+/// Returns the fault at the first place of a tune up to which there are more than 50,000 heads and rests, given the
+/// weights of all its voices in any order. `None` exactly when there is no such place.
 pub fn crowding(alloc: Global, weights: Row<Weight>) -> Result<Option<Fault>, Memory>
     ensures value { IfOk result (λ f. f ≡ first_of (crowded weights)) }
     ensures first { IfOk result (λ f. IsFirstInOrder (crowded weights) f) }

@@ -4,7 +4,7 @@ ghost use Rattle.abc_faults.specs.First.{kind_rank, is_before, earlier, IsFirstI
 
 use abc_lines::{Fault, FaultKind};
 
-/// The place of a kind in the order in which faults at one place count.
+/// Returns the rank of a kind in the order of faults at one place.
 fn rank(kind: FaultKind) -> u8
     ensures { result ≡ kind_rank kind }
 {
@@ -37,7 +37,7 @@ fn rank(kind: FaultKind) -> u8
     }
 }
 
-/// Whether a fault comes before another: by line, then column, then kind.
+/// Returns whether a fault comes before another: by line, then column, then kind.
 #[tactic(auto, unfolding(crate::specs::First::is_before))]
 fn is_before(f: Fault, g: Fault) -> bool
     ensures { result ≡ is_before f g }
@@ -47,7 +47,7 @@ fn is_before(f: Fault, g: Fault) -> bool
             && (f.column < g.column || (f.column == g.column && rank(f.kind) < rank(g.kind))))
 }
 
-/// The earlier of the first faults of two sets: the first fault of both together.
+/// Returns the earlier of the first faults of two sets, which is the first fault of both together.
 pub fn earlier(a: Option<Fault>, b: Option<Fault>) -> Option<Fault>
     ensures value { result ≡ earlier a b }
     ensures joined { (s t : List Fault) → IsFirstInOrder s a → IsFirstInOrder t b → IsFirstInOrder (s ++ t) result }

@@ -1,4 +1,4 @@
-//! The faults that a voice has as a score, each at its place, and the first of them.
+//! The faults of a voice as a score, each at its place, and the first of them.
 #![tactic(auto)]
 
 pub mod crowd;

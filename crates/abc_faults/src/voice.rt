@@ -45,7 +45,7 @@ fn ends_tuplets(s: &Step) -> bool
     matches!(s, Step::Bar(_) | Step::Measures { .. })
 }
 
-/// Whether fewer than `r` events with a length stand before the end of the measure.
+/// Returns whether fewer than `r` events with a length come before the end of the measure.
 #[tactic(auto, unfolding(crate::specs::Faults::sounds_behind))]
 fn is_short(r: u8, behind: &[PlacedStep]) -> bool
     ensures { result ≡ nat_lt (sounds_behind behind.now) r }
@@ -82,7 +82,7 @@ fn tuplet_fault(r: u8, taking: OpenTuplets, at: &PlacedStep, behind: &[PlacedSte
     }
 }
 
-/// Whether a head stands too far from the staff.
+/// Returns whether a head is too far from the staff.
 fn is_off(clef: Clef, head: Head) -> bool
     ensures { result ≡ is_off clef head }
 {
@@ -117,7 +117,7 @@ fn grace_fault_of(clef: Clef, at: &PlacedStep) -> Option<Fault>
     }
 }
 
-/// The first fault of the graces that wait for an event, in the clef of the event.
+/// Returns the first fault of the graces pending for an event, in the clef of the event.
 #[inline(always)]
 fn grace_fault(clef: Clef, waits: &[PlacedStep]) -> Option<Fault>
     ensures { result ≡ first_of (grace_faults clef waits.now) }
@@ -141,8 +141,8 @@ fn is_free(meter: Meter) -> bool
     matches!(meter, Meter::Free)
 }
 
-/// The first fault of a note, a chord or a rest, without its graces. `undrawable`
-/// tells that its length has no parts.
+/// Returns the first fault of a note, a chord or a rest, without its graces. `undrawable` is true if its length has
+/// no parts.
 #[tactic(auto, using(crate::proofs::Firsts::first_append))]
 fn sound_fault(
     now: &VoiceState,
@@ -161,7 +161,7 @@ fn sound_fault(
     earlier(found, past)
 }
 
-/// The first fault of a note, a chord or a rest of these parts. Puts its weight, behind those of its graces.
+/// Returns the first fault of a note, a chord or a rest with these parts. Adds its weight after those of its graces.
 #[tactic(auto, using(crate::proofs::Firsts::first_append, crate::proofs::Caps::capped_append), //
 unfolding(crate::specs::Faults::sound_faults, crate::specs::Weights::sound_count, //
 abc_steps::specs::Lengths::parts_at))]
@@ -196,7 +196,7 @@ fn judge_sound(
     Ok(earlier(own, grace_fault(now.force.clef, waits)))
 }
 
-/// The first fault of whole measure rests, without their graces.
+/// Returns the first fault of whole measure rests, without their graces.
 #[tactic(auto, using(crate::proofs::Firsts::first_append))]
 fn rest_fault(now: &VoiceState, at: &PlacedStep, count: u16) -> Option<Fault>
     requires groups { now.now.counts.groups ≤ 2 ^ 30 }
@@ -211,7 +211,7 @@ fn rest_fault(now: &VoiceState, at: &PlacedStep, count: u16) -> Option<Fault>
     )
 }
 
-/// The first fault of whole measure rests. Puts their weight, behind those of their graces.
+/// Returns the first fault of whole measure rests. Adds their weight after those of their graces.
 #[inline(never)]
 #[tactic(auto, using(crate::proofs::Firsts::first_append, crate::proofs::Caps::capped_append))]
 fn judge_rests(
@@ -240,11 +240,12 @@ fn judge_rests(
     ))
 }
 
-/// The first fault of a step, of those that are seen in one voice alone: tuplets that are too deep,
-/// cross or are short, broken rhythms that lack a side, lengths without parts, heads too far from the
-/// staff, whole measure rests in free meter, and measures past the two thousandth. `parts` are those
-/// of what stands at the step. Puts the weight of an event, behind one for each group of graces that it
-/// takes: the heads of a note or a chord times its parts, 1 times its parts for a rest, n for n whole
+/// Returns the first fault of a step among those that can be seen in a single voice: tuplets that are too deep, cross
+/// or are short, broken rhythms that lack a side, lengths without parts, heads too far from the staff, whole measure
+/// rests in free meter, and measures past the two thousandth. `parts` are the parts of the step. Adds the weight of
+/// an event, after one for each group of graces that it takes: the heads of a note or a chord times its parts, 1
+/// times its parts for a rest, n for n whole measure rests, and the heads of a group of graces, each capped at
+/// 50,001.
 /// measure rests, and the heads of a group of graces, each capped at 50,001.
 #[inline(always)]
 #[tactic(auto, unfolding(crate::specs::Faults::faults_of, crate::specs::Weights::weights_of))]

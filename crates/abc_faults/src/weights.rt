@@ -6,11 +6,11 @@ use abc_music::GraceChord;
 use abc_steps::{PlacedStep, Step, StoredSound};
 use mus_units::{Few, Memory, Row, Value};
 
-/// How many heads and rests a tune has at most.
+/// The greatest number of heads and rests that a tune may have.
 pub(crate) const MOST: u32 = 50_000;
 
-/// How many heads and rests stand at a place of the text, `MOST` and one more if there are more.
-/// Weights are ordered by their places, then by their counts.
+/// The number of heads and rests at a place of the text, or `MOST` plus one if there are more. Weights are ordered by
+/// their places, then by their counts.
 #[derive(Clone, Copy, PartialEq, Eq, PartialOrd, Ord)]
 pub struct Weight {
     pub line: u32,
@@ -28,7 +28,7 @@ pub(crate) fn weight_at(count: u128, at: &PlacedStep) -> Weight
     }
 }
 
-/// How many parts a length of these parts has, one where it has none.
+/// Returns the number of parts of a length with these parts, or one if it has none.
 pub(crate) fn count_parts(parts: &Option<Few<Value>>) -> usize
     ensures { result ≡ count_parts parts.now }
 {
@@ -38,14 +38,14 @@ pub(crate) fn count_parts(parts: &Option<Few<Value>>) -> usize
     }
 }
 
-/// The heads of a note or a chord, or the one rest, times its parts.
+/// Returns the number of heads of a note or a chord, or 1 for a rest, times its parts.
 pub(crate) fn sound_count(s: &StoredSound, parts: usize) -> u128
     ensures { result ≡ max 1 (length s.now.heads) * parts }
 {
     s.heads().len().max(1) as u128 * parts as u128
 }
 
-/// How many heads a group of graces has.
+/// Returns the number of heads in a group of graces.
 fn grace_count(body: &[GraceChord]) -> u128
     ensures { result ≡ grace_count body.now }
 {
@@ -66,7 +66,7 @@ fn put_grace(out: &mut Row<Weight>, at: &PlacedStep) -> Result<(), Memory>
     }
 }
 
-/// Puts the weights of the graces that wait for an event.
+/// Adds the weights of the graces pending for an event.
 #[tactic(auto, using(crate::proofs::Caps::capped_append))]
 pub(crate) fn put_graces(out: &mut Row<Weight>, waits: &[PlacedStep]) -> Result<(), Memory>
     ensures { OnOk result (out.new ≡ out.old ++ map capped (grace_weights waits.now)) }

@@ -1,4 +1,4 @@
--- Verses, faults and numbers of verses, one verse more at a time.
+-- Verses, faults and numbers of verses, with one more verse at a time.
 use Rattle.std.proofs.Common.{◌≡◌, ℕ, suc, ◌+◌, ◌≤◌, ◌<◌, List, [], ◌∷◌, ◌++◌, Bool, true, false, cond, length, map}
 use Rattle.std.proofs.Common.{take, drop, get_or, refl, sym, ap, ◌∙◌, subst, arith, append_assoc, append-nil, drop-cons}
 use Rattle.std.proofs.Common.{nat_le}
@@ -63,7 +63,7 @@ counted_on verses i k v old new inside here so_far put =
     ∙ (ap (λ n. n + cond (v.row == k) 1 0) so_far
     ∙ (sym (number_more k (take i verses) v) ∙ ap (number_on k) (sym (one_taken verses i v inside here))))
 
--- where there is no fault, no row has more than eight
+-- if there is no fault, no row has more than eight
 AreFew : List Verse → Type 0
 AreFew verses = (row : ℕ) → number_on row verses ≤ 8
 
@@ -110,7 +110,7 @@ few_verses verses rows none =
     most_few (λ row. number_on row verses) (range_with_len 0 rows) 0 (omega arith)
     (none_few [] verses none (λ row. omega arith))
 
--- what a count at a row says
+-- the meaning of a count at a row
 pub row_inside : (verses : List Verse) (rows i : ℕ) (v : Verse)
     → ((k : ℕ) (d : Verse) → k < length verses → (get_or verses k d).row < rows)
     → i < length verses → v ≡ get_or verses i v

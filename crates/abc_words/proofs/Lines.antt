@@ -6,7 +6,7 @@ use Rattle.std.proofs.lemmas.List.Sums.{prefix_len-le-length}
 use Rattle.std.specs.List.{prefix_len}
 use Rattle.abc_words.specs.Words.{row_of}
 
--- counted on from a part of them
+-- counted on from some of them
 pub prefix_from : {X : Type 0} (p : X → Bool) (xs : List X) (k : ℕ)
     → k ≤ prefix_len p xs → prefix_len p xs ≡ k + prefix_len p (drop k xs)
 prefix_from p xs zero le = omega arith
@@ -22,7 +22,7 @@ prefix_from p (x ∷ xs) (suc k) le = by_test (p x) (prefix_from p xs k) le wher
 pub row_of_within : (ends : List ℕ) (line : ℕ) → row_of ends line ≤ length ends
 row_of_within ends line = prefix_len-le-length (λ e. nat_lt e line) ends
 
--- before a later line as many or more
+-- before a later line, as many or more
 pub row_of_later : (ends : List ℕ) (line later : ℕ) → line ≤ later → row_of ends line ≤ row_of ends later
 row_of_later [] line later le = omega arith
 row_of_later (e ∷ ends) line later le = elim (cases_lt e line) [
@@ -33,7 +33,7 @@ row_of_later (e ∷ ends) line later le = elim (cases_lt e line) [
   | inr ge ↦ rw (le-ltb e line ge) (omega arith)
 ]
 
--- before line 0 none
+-- before line 0, none
 pub row_of_zero : (ends : List ℕ) → row_of ends 0 ≡ 0
 row_of_zero [] = refl
 row_of_zero (e ∷ ends) = let ge : 0 ≤ e = omega arith in rw (le-ltb e 0 ge) refl

@@ -1,4 +1,4 @@
--- Where notes have events of their own, the words of an event are those of its own row.
+-- If notes have events of their own, the words of an event are those of its own row.
 use Rattle.std.proofs.Common.{◌≡◌, ℕ, zero, suc, ◌+◌, ◌<◌, ◌≤◌, List, [], ◌∷◌, ◌++◌, Bool, true, false, cond, length}
 use Rattle.std.proofs.Common.{map, get_or, slice_index_or, inl, inr, refl, sym, ap, ◌∙◌, arith, append_assoc}
 use Rattle.std.proofs.Common.{append-nil, reverse, nat_lt, slice_get, length-append}
@@ -75,7 +75,7 @@ unfolding sung_on
 silent event notes None free = refl
 silent event notes (Some text) free = silent_from (syllables_of text) (first_measure notes) event notes free
 
--- notes of an event stand on this row alone
+-- notes of an event are only on this row
 abbrev StandOn : List ℕ → ℕ → ℕ → List SungNote → Type 0
 StandOn ends event row notes = All (λ (n : SungNote). n.event ≡ event → row_of ends n.line ≡ row) notes
 
@@ -109,7 +109,7 @@ word_both (s ∷ one) other event = by_test (s.event == event) refl (word_both o
   by_test true here rest = rw here refl
   by_test false here rest = rw here rest
 
--- rows from one on, where all but one are silent
+-- rows from one on, all but one of them silent
 all_silent : (rows : ℕ → MusicRow) (verse event from n : ℕ)
     → ((row : ℕ) → from ≤ row → word_of (sung_in verse (rows row)) event ≡ None)
     → word_of (verse_sung (map rows (range_with_len from n)) verse) event ≡ None
@@ -146,7 +146,7 @@ one_sings rows verse event own from (suc n) none le less =
           ∙ (or_none (word_of (sung_in verse (rows from)) event)
           ∙ ap (λ r. word_of (sung_in verse (rows r)) event) here)
 
--- a body has a row more than it has ends of rows
+-- a body has one more row than ends of rows
 row_more : (i : BodyItem) (row : ℕ) → row_behind i row ≡ row + length (row_end i)
 row_more (BodyItem.Step s) row = omega arith
 row_more (BodyItem.LineEnd joined breaks line column) row = by_test joined where
@@ -178,7 +178,7 @@ row_within items line =
     let most : row_of (row_ends items) line ≤ length (row_ends items) = row_of_within (row_ends items) line in
     omega arith
 
--- the place of an event and a verse
+-- the entry of an event and a verse
 pub at_place : (rows : List MusicRow) (verses count event verse : ℕ)
     → event < count → verse < verses
     → word_at (map (event_words rows verses) (range_with_len 0 count)) event verse

@@ -1,4 +1,4 @@
--- Verses stand on rows of the body; and a row without a fault has at most eight.
+-- Verses are on rows of the body, and a row without a fault has at most eight.
 use Rattle.std.proofs.Common.{◌≡◌, ℕ, ◌+◌, ◌<◌, List, [], ◌∷◌, ◌++◌, Bool, true, false, refl, cond, reverse, sym, ap}
 use Rattle.std.proofs.Common.{◌∙◌, subst, arith, append_assoc, append-nil}
 use Rattle.std.proofs.lemmas.List.{reverse-append}
@@ -54,7 +54,7 @@ verse_within place (BodyItem.Words text line) n h = by_cases place.current place
   by_cases true None h = All-nil (IsWithin n)
   by_cases false last h = All-nil (IsWithin n)
 
--- rows only rise
+-- rows never decrease
 rows_rise : (behind before : List BodyItem) (n : ℕ) → music_row_at (behind ++ before) < n → music_row_at before < n
 rows_rise [] before n less = less
 rows_rise (i ∷ behind) before n less = rows_rise behind before n (row_before i (music_row_at (behind ++ before)) n less)

@@ -35,7 +35,7 @@ at_verses rows count event (verse ∷ verses) less =
     (get_or-map-range_with_len (word_of (verse_sung rows verse)) 0 count event event None less (omega arith))
     ∙ ap (λ ws. word_of (verse_sung rows verse) event ∷ ws) (at_verses rows count event verses less)
 
--- the words of one event, as they are taken from those of all verses
+-- the words of one event, taken from those of all verses
 pub at_event : (rows : List MusicRow) (verses count event : ℕ) (all : List (List (Option (List ℕ))))
     (words : List (Option (List ℕ)))
     → event < count

@@ -1,5 +1,5 @@
--- The rows of a body, and which of them are a voice's. Music lines that a backslash joins are one
--- row. What stands before a place is listed from the nearest on.
+-- The rows of a body, and which of them belong to a voice. Music lines joined by a backslash are one row. Items
+-- before a place are listed from the nearest on.
 use Rattle.std.specs.Prelude.{ℕ, ◌+◌, List, [], ◌∷◌, Bool, false, not, ◌&&◌, ◌||◌, if◌then◌else◌, reverse, Option, Some}
 use Rattle.std.specs.Prelude.{None}
 use Rattle.std.specs.Str.{bytes_eq}
@@ -7,7 +7,7 @@ use Rattle.abc_steps.specs.declared.step.BodyItem.{BodyItem}
 use Rattle.abc_items.specs.Voices.{claims, voice_next}
 use Rattle.abc_words.specs.declared.rows.RowState.{RowState}
 
--- the row of a place: how many music lines before it end without a backslash
+-- the row of a place: the number of music lines before it that end without a backslash
 abbrev pub row_behind : BodyItem → ℕ → ℕ
 row_behind (BodyItem.LineEnd joined breaks line column) row = if joined then row else row + 1
 row_behind _ row = row
@@ -16,11 +16,11 @@ abbrev pub music_row_at : List BodyItem → ℕ
 music_row_at [] = 0
 music_row_at (i ∷ before) = row_behind i (music_row_at before)
 
--- how many rows a body has, with that at its end
+-- the number of rows of a body, including the one at its end
 abbrev pub row_count : List BodyItem → ℕ
 row_count items = music_row_at (reverse items) + 1
 
--- the voice that is current at a place: that of the last voice field, and `unnamed` before any
+-- the current voice at a place: that of the last voice field, or `unnamed` before any
 abbrev pub voice_at : List ℕ → List BodyItem → List ℕ
 voice_at unnamed [] = unnamed
 voice_at unnamed (i ∷ before) = voice_next i (voice_at unnamed before)
@@ -28,14 +28,14 @@ voice_at unnamed (i ∷ before) = voice_next i (voice_at unnamed before)
 abbrev pub is_current : List ℕ → List ℕ → List BodyItem → Bool
 is_current id unnamed before = bytes_eq id (voice_at unnamed before)
 
--- whether a step before on the same physical line claims its voice
+-- whether an earlier step on the same physical line claims its voice
 abbrev pub is_claimed : List BodyItem → Bool
 is_claimed [] = false
 is_claimed (BodyItem.LineEnd joined breaks line column ∷ before) = false
 is_claimed (BodyItem.Step s ∷ before) = claims s.step || is_claimed before
 is_claimed (i ∷ before) = is_claimed before
 
--- whether one does while this voice is current
+-- whether such a step occurs while this voice is current
 abbrev pub is_own : List ℕ → List ℕ → List BodyItem → Bool
 is_own id unnamed [] = false
 is_own id unnamed (BodyItem.LineEnd joined breaks line column ∷ before) = false
@@ -43,8 +43,8 @@ is_own id unnamed (BodyItem.Step s ∷ before) =
     (claims s.step && is_current id unnamed before) || is_own id unnamed before
 is_own id unnamed (i ∷ before) = is_own id unnamed before
 
--- A physical line that ends at a place is a line of each voice that one of its steps claims; where
--- none claims any, it is one of the voice that is current at its end.
+-- A physical line that ends at a place is a line of each voice that one of its steps claims; if none claims any, it
+-- is a line of the voice that is current at its end.
 abbrev pub is_line_of : List ℕ → List ℕ → List BodyItem → Bool
 is_line_of id unnamed before = is_own id unnamed before || (not (is_claimed before) && is_current id unnamed before)
 
@@ -55,7 +55,7 @@ last_row id unnamed (BodyItem.LineEnd joined breaks line column ∷ before) =
     if is_line_of id unnamed before then Some (music_row_at before) else last_row id unnamed before
 last_row id unnamed (i ∷ before) = last_row id unnamed before
 
--- what a walk along the items knows of a place
+-- the state that a walk along the items keeps at a place
 abbrev pub place_at : List ℕ → List ℕ → List BodyItem → RowState
 place_at id unnamed before = record {
   row = music_row_at before;
@@ -65,7 +65,7 @@ place_at id unnamed before = record {
   last = last_row id unnamed before;
 }
 
--- what a walk knows behind a step, and behind the end of a music line
+-- the state after a step, and after the end of a music line
 abbrev pub behind_step : RowState → Bool → RowState
 behind_step place claims =
     record place { claimed = claims || place.claimed; own = (claims && place.current) || place.own }

@@ -1,5 +1,5 @@
--- The verses of a voice: the texts of its `w:` lines, each on its last row there; how many verses the voice has; and
--- which texts are too many.
+-- The verses of a voice: the texts of its `w:` lines, each on the voice's last row so far; the number of verses of
+-- the voice; and which texts are too many.
 use Rattle.std.specs.Prelude.{ℕ, ◌==◌, nat_le, max, List, [], ◌∷◌, ◌++◌, Bool, true, false, if◌then◌else◌, map, fold}
 use Rattle.std.specs.Prelude.{count_by, Option, Some, None}
 use Rattle.std.specs.List.{range_with_len}
@@ -10,7 +10,7 @@ use Rattle.abc_words.specs.declared.rows.RowState.{RowState}
 use Rattle.abc_words.specs.declared.verses.Verse.{Verse}
 use Rattle.abc_words.specs.Rows.{place_at, row_count}
 
--- Words belong to the voice that is current, on its last row; they are passed over where it has none.
+-- Words belong to the current voice, on its last row; they are skipped if it has none.
 abbrev pub verse_if : Bool → Option ℕ → List ℕ → ℕ → List Verse
 verse_if true (Some row) text line = record { row = row; line = line; text = text } ∷ []
 verse_if true None text line = []
@@ -43,7 +43,7 @@ most_on rows verses = fold max 0 (map (λ row. number_on row verses) (range_with
 abbrev pub verse_count : List ℕ → List ℕ → List BodyItem → ℕ
 verse_count id unnamed items = most_on (row_count items) (verses_of_voice id unnamed items)
 
--- a verse with eight or more before it on its row is one too many
+-- a verse with eight or more before it on its row is too many
 abbrev pub too_many : ℕ → Fault
 too_many line = record { kind = FaultKind.TooManyVerses; line = line; column = 1 }
 

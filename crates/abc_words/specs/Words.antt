@@ -1,5 +1,5 @@
--- The words of a voice's events. On each row of the body stand texts of `w:` lines, its verses, and
--- notes of the voice; a verse is sung on the notes of each row by the text that the row has for it.
+-- The words of a voice's events. Each row of the body has texts of `w:` lines, its verses, and notes of the voice; a
+-- verse is sung on the notes of each row with the text that the row has for it.
 use Rattle.std.specs.Prelude.{ℕ, ◌==◌, nat_lt, List, [], ◌∷◌, ◌++◌, Bool, true, false, map, filter, flat_map, find}
 use Rattle.std.specs.Prelude.{length, slice_get, slice_index_or, ◌≡◌, ◌<◌, Option, Some, None, option_map}
 use Rattle.std.specs.List.{All, prefix_len, range_with_len}
@@ -26,7 +26,7 @@ row_end _ = []
 abbrev pub row_ends : List BodyItem → List ℕ
 row_ends items = flat_map row_end items
 
--- the row of a physical line: how many rows end before it
+-- the row of a physical line: the number of rows that end before it
 abbrev pub row_of : List ℕ → ℕ → ℕ
 row_of ends line = prefix_len (λ e. nat_lt e line) ends
 
@@ -46,7 +46,7 @@ abbrev pub music_rows : List ℕ → List ℕ → List BodyItem → List SungNot
 music_rows id unnamed items notes =
     map (music_row (verses_of_voice id unnamed items) (row_ends items) notes) (range_with_len 0 (row_count items))
 
--- what is sung in a verse on a row: nothing where the row has no text for it
+-- what is sung in a verse on a row: nothing if the row has no text for it
 abbrev pub sung_with : List NoteAt → Option (List ℕ) → List Sung
 sung_with notes None = []
 sung_with notes (Some text) = sung_on notes (syllables_of text)
@@ -64,23 +64,23 @@ word_of sung event = option_map (λ s. s.text) (find (λ s. s.event == event) su
 abbrev pub event_words : List MusicRow → ℕ → ℕ → List (Option (List ℕ))
 event_words rows verses event = map (λ verse. word_of (verse_sung rows verse) event) (range_with_len 0 verses)
 
--- the words of so many events, for each a place per verse
+-- the words of that many events, each with one entry per verse
 abbrev pub words_of_events : List ℕ → List ℕ → List BodyItem → List SungNote → ℕ → List (List (Option (List ℕ)))
 words_of_events id unnamed items notes count =
     map (event_words (music_rows id unnamed items notes) (verse_count id unnamed items)) (range_with_len 0 count)
 
--- ---- what the words are, event by event
+-- ---- the words, event by event
 abbrev pub word_at : List (List (Option (List ℕ))) → ℕ → ℕ → Option (List ℕ)
 word_at words event verse = slice_index_or (slice_index_or words event []) verse None
 
--- what is sung on a note in a verse, by the texts and the notes of the note's own row
+-- what is sung on a note in a verse, from the texts and the notes of the note's own row
 abbrev pub own_word : List ℕ → List ℕ → List BodyItem → List SungNote → SungNote → ℕ → Option (List ℕ)
 own_word id unnamed items notes note verse =
     word_of (sung_in verse
     (music_row (verses_of_voice id unnamed items) (row_ends items) notes (row_of (row_ends items) note.line)))
     note.event
 
--- no two notes are of one event
+-- no two notes belong to the same event
 abbrev pub AreOfDistinctEvents : List SungNote → Type 0
 AreOfDistinctEvents notes =
     (i j : ℕ) (c d : SungNote)
@@ -102,7 +102,7 @@ HasNoOtherWords id unnamed items notes count words =
     (event verse : ℕ) → All (λ n. n.event ≡ event → ⊥) notes → event < count → verse < verse_count id unnamed items
     → word_at words event verse ≡ None
 
--- ---- rows as they are filled
+-- ---- rows while they are filled
 abbrev pub no_music : MusicRow
 no_music = record { texts = []; notes = [] }
 

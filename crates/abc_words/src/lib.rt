@@ -1,5 +1,5 @@
-//! The words of a voice: the `w:` lines that belong to its music lines, how many
-//! verses it has, and which of its events has which words.
+//! The words of a voice: the `w:` lines that belong to its music lines, the number of its verses, and the words of
+//! each of its events.
 #![tactic(auto)]
 
 pub mod music;

@@ -11,8 +11,8 @@ use mus_lyric::NoteAt;
 use mus_units::{Memory, Row, Text};
 use std::alloc::Global;
 
-/// A note of a voice: the number of its written event among those of the voice,
-/// from 0; the physical line on which it stands, from 1; and its measure, from 0.
+/// A note of a voice: the number of its written event among those of the voice, from 0; its physical line, from 1;
+/// and its measure, from 0.
 #[derive(Clone, Copy, PartialEq, Eq)]
 pub struct SungNote {
     pub event: u32,
@@ -20,7 +20,7 @@ pub struct SungNote {
     pub measure: u32,
 }
 
-/// What stands on a row: the texts of its `w:` lines and its notes.
+/// The content of a row: the texts of its `w:` lines and its notes.
 #[derive(Drop)]
 pub struct MusicRow {
     pub texts: Row<Text>,
@@ -41,7 +41,7 @@ fn put_row_end(ends: &mut Row<u32>, item: &BodyItem) -> Result<(), Memory>
     }
 }
 
-/// The physical lines at which rows end.
+/// Returns the physical lines at which rows end.
 fn row_ends(alloc: Global, items: &[BodyItem]) -> Result<Row<u32>, Memory>
     ensures { IfOk result (λ ends. ends ≡ row_ends items.now) }
 {
@@ -52,14 +52,14 @@ fn row_ends(alloc: Global, items: &[BodyItem]) -> Result<Row<u32>, Memory>
     Ok(ends)
 }
 
-/// How many of some rows end before a line.
+/// Returns how many of some rows end before a line.
 fn ends_before(ends: &[u32], line: u32) -> usize
     ensures { result ≡ row_of ends.now line }
 {
     ends.iter().take_while(|end| **end < line).count()
 }
 
-/// The row of a line, looked for from a row that isn't behind it.
+/// Returns the row of a line, searched from a row that is not after it.
 #[tactic(auto, using(crate::proofs::Lines::prefix_from, crate::proofs::Lines::row_of_within))]
 fn row_from(ends: &[u32], from: usize, line: u32) -> usize
     requires { from ≤ row_of ends.now line }
@@ -69,7 +69,7 @@ fn row_from(ends: &[u32], from: usize, line: u32) -> usize
     from + ends_before(left, line)
 }
 
-/// The row of a line, looked for from that of another line on where it isn't before that.
+/// Returns the row of a line, searched from that of another line unless the line is before that one.
 #[tactic(auto, using(crate::proofs::Lines::row_of_later))]
 fn next_row(ends: &[u32], row: usize, last: u32, line: u32) -> usize
     requires { row ≡ row_of ends.now last }
@@ -81,7 +81,7 @@ fn next_row(ends: &[u32], row: usize, last: u32, line: u32) -> usize
     row_from(ends, row, line)
 }
 
-/// So many rows without texts and notes.
+/// Returns `n` rows without texts and notes.
 fn empty_rows(alloc: Global, n: usize) -> Result<Vec<MusicRow>, Memory>
     ensures len { IfOk result (λ v. length v.items ≡ n) }
     ensures empty { IfOk result (λ v. (k : ℕ) → k < n → slice_index_or v.items k no_music ≡ no_music) }
@@ -164,7 +164,7 @@ fn sung_note_at(note: &SungNote) -> NoteAt
     }
 }
 
-/// What stands on each row of a voice.
+/// Returns the content of each row of a voice.
 pub(crate) fn music_rows(
     alloc: Global,
     id: &[u8],

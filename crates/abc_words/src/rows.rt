@@ -6,9 +6,9 @@ ghost use Rattle.abc_words.specs.Rows.{behind_end, behind_step, place_at};
 use abc_items::voices::claims;
 use abc_steps::BodyItem;
 
-/// What a place among the items of a body is to a voice: its row; whether the
-/// voice is current; whether a step before it on its line claims any voice, and
-/// whether one claims this voice; and the last row of the voice before it.
+/// The state of a voice at a place among the items of a body: the row of the place; whether the voice is current;
+/// whether a step before the place on its line claims any voice, and whether one claims this voice; and the last row
+/// of the voice before it.
 #[derive(Clone, Copy, PartialEq, Eq)]
 pub struct RowState {
     pub row: usize,
@@ -24,7 +24,7 @@ fn is_same(id: &[u8], other: &[u8]) -> bool
     id == other
 }
 
-/// The place before all items.
+/// Returns the state before all items.
 pub(crate) fn first_place(id: &[u8], unnamed: &[u8]) -> RowState
     ensures { result ≡ place_at id.now unnamed.now [] }
 {
@@ -37,7 +37,7 @@ pub(crate) fn first_place(id: &[u8], unnamed: &[u8]) -> RowState
     }
 }
 
-/// The place behind a step.
+/// Returns the state after a step.
 fn behind_step(place: RowState, claims: bool) -> RowState
     ensures { result ≡ behind_step place claims }
 {
@@ -48,7 +48,7 @@ fn behind_step(place: RowState, claims: bool) -> RowState
     }
 }
 
-/// The place behind the end of a music line.
+/// Returns the state after the end of a music line.
 fn behind_end(place: RowState, joined: bool) -> RowState
     requires { place.row + 1 < 2 ^ 64 }
     ensures { result ≡ behind_end place joined }
@@ -63,7 +63,7 @@ fn behind_end(place: RowState, joined: bool) -> RowState
     }
 }
 
-/// The place behind an item.
+/// Returns the state after an item.
 pub(crate) fn state_after(id: &[u8], place: RowState, item: &BodyItem) -> RowState
     requires { place.row + 1 < 2 ^ 64 }
     ensures place { (unnamed : List ℕ) (before : List BodyItem)

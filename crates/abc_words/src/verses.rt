@@ -20,14 +20,14 @@ pub struct Verse {
     pub text: Text,
 }
 
-/// The verses of a voice, and how many rows the body has.
+/// The verses of a voice, and the number of rows of the body.
 #[derive(Drop)]
 pub struct Verses {
     pub rows: usize,
     pub verses: Row<Verse>,
 }
 
-/// Adds the verse that an item is: words of the voice, where it has a row.
+/// Adds the verse of an item, if it is words of the voice and the voice has a row.
 fn put_verse(
     alloc: Global,
     verses: &mut Row<Verse>,
@@ -52,14 +52,14 @@ fn is_words_item(item: &BodyItem) -> bool
     matches!(item, BodyItem::Words { .. })
 }
 
-/// Whether a body has words.
+/// Returns whether a body has words.
 fn has_words(items: &[BodyItem]) -> bool
     ensures { result ≡ list_any is_words_item items.now }
 {
     items.iter().any(|item| is_words_item(item))
 }
 
-/// The verses of a voice, in the order of the text.
+/// Returns the verses of a voice, in the order of the text.
 pub(crate) fn verses_of_voice(
     alloc: Global,
     id: &[u8],
@@ -94,7 +94,7 @@ fn count_one(counts: &mut Vec<usize>, row: usize)
     }
 }
 
-/// How many verses each row has.
+/// Returns the number of verses on each row.
 fn counts_of(alloc: Global, verses: &[Verse], rows: usize) -> Result<Vec<usize>, Memory>
     ensures { IfOk result (λ v. v.items ≡ map (λ row. number_on row verses.now) (range_with_len 0 rows)) }
 {
@@ -115,9 +115,8 @@ fn greatest(counts: &[usize]) -> usize
     most
 }
 
-/// How many verses a voice has: the greatest number of `w:` lines on one of its
-/// rows of music. `unnamed` is the voice of what stands before any voice field.
-/// There are at most eight where `verse_fault` finds none.
+/// Returns the number of verses of a voice: the greatest number of `w:` lines on one of its rows of music. `unnamed`
+/// is the voice of the music before any voice field. There are at most eight verses if `verse_fault` finds no fault.
 #[tactic(auto, using(crate::proofs::VerseLaws::no_words_no_count))]
 pub fn verse_count(
     alloc: Global,
@@ -136,7 +135,7 @@ pub fn verse_count(
     Ok(greatest(counts.as_slice()))
 }
 
-/// How many verses stand on a row so far.
+/// Returns the number of verses on a row so far.
 fn number_at(counts: &[usize], row: usize) -> usize
     ensures { result ≡ slice_index counts.now row }
 {
@@ -153,7 +152,7 @@ fn too_many(line: u32) -> Fault
     }
 }
 
-/// The first verse of some that has eight before it on its row.
+/// Returns the fault of the first verse that has eight before it on its row.
 fn first_fault(alloc: Global, verses: &[Verse], rows: usize) -> Result<Option<Fault>, Memory>
     requires { All (λ v. v.row < rows) verses.now }
     ensures { IfOk result (λ fault. fault ≡ first_verse_fault (faults_from [] verses.now)) }
@@ -168,8 +167,8 @@ fn first_fault(alloc: Global, verses: &[Verse], rows: usize) -> Result<Option<Fa
     Ok(None)
 }
 
-/// The fault of a voice with more than eight `w:` lines on one row: it stands at column 1 of the first
-/// that is too many. `unnamed` is the voice of what stands before any voice field.
+/// Returns the fault of a voice with more than eight `w:` lines on one row, at column 1 of the first line that is too
+/// many. `unnamed` is the voice of the music before any voice field.
 #[tactic(auto, using(crate::proofs::VerseLaws::no_words_no_fault))]
 pub fn verse_fault(
     alloc: Global,

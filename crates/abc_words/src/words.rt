@@ -26,7 +26,7 @@ fn put_sung(alloc: Global, sung: &mut Row<Sung>, row: &MusicRow, verse: usize) -
     }
 }
 
-/// What is sung in a verse.
+/// Returns what is sung in a verse.
 fn verse_sung(alloc: Global, rows: &[MusicRow], verse: usize) -> Result<Row<Sung>, Memory>
     ensures { IfOk result (λ sung. sung ≡ verse_sung rows.now verse) }
 {
@@ -37,7 +37,7 @@ fn verse_sung(alloc: Global, rows: &[MusicRow], verse: usize) -> Result<Row<Sung
     Ok(sung)
 }
 
-/// So many places without words.
+/// Returns `count` entries without words.
 fn no_words(alloc: Global, count: usize) -> Result<Vec<Option<Text>>, Memory>
     ensures { IfOk result (λ v. v.items ≡ replicate count None) }
 {
@@ -48,7 +48,7 @@ fn no_words(alloc: Global, count: usize) -> Result<Vec<Option<Text>>, Memory>
     Ok(words)
 }
 
-/// Puts what is sung on the place of its event, where that has no words yet.
+/// Sets the entry of an event to what is sung there, unless it has words already.
 fn put_word(words: &mut [Option<Text>], one: Sung)
     ensures { (k : ℕ) → k < length words.old
         → slice_index_or words.new k None ≡ option_or (slice_index_or words.old k None) (word_of (one ∷ []) k) }
@@ -59,7 +59,7 @@ fn put_word(words: &mut [Option<Text>], one: Sung)
     }
 }
 
-/// The words of a verse, a place for each event.
+/// Returns the words of a verse, one entry per event.
 fn verse_words(alloc: Global, sung: Row<Sung>, count: usize) -> Result<Row<Option<Text>>, Memory>
     ensures { IfOk result (λ words. words ≡ map (word_of sung) (range_with_len 0 count)) }
 {
@@ -70,7 +70,7 @@ fn verse_words(alloc: Global, sung: Row<Sung>, count: usize) -> Result<Row<Optio
     Ok(Row { items: words })
 }
 
-/// The words of all verses, verse by verse.
+/// Returns the words of all verses, verse by verse.
 fn all_words(
     alloc: Global,
     rows: &[MusicRow],
@@ -88,7 +88,7 @@ fn all_words(
     Ok(all)
 }
 
-/// The words of all verses of a voice, verse by verse. Where it has none, its rows aren't looked for.
+/// Returns the words of all verses of a voice, verse by verse. If it has none, its rows are not built.
 fn voice_words(
     alloc: Global,
     id: &[u8],
@@ -120,7 +120,7 @@ fn copy_word(alloc: Global, word: Option<&Option<Text>>) -> Result<Option<Text>,
     }
 }
 
-/// The words of an event, of those of all verses.
+/// Returns the words of an event, from those of all verses.
 fn words_at(
     alloc: Global,
     all: &[Row<Option<Text>>],
@@ -135,9 +135,9 @@ fn words_at(
     Ok(words)
 }
 
-/// The words of so many written events of a voice: a row for each, with a place for each verse. `notes`
-/// are the notes of the voice in order; on each row of music they take the syllables of the `w:` lines of
-/// that row. `unnamed` is the voice of what stands before any voice field.
+/// Returns the words of `count` written events of a voice: a list for each, with an entry for each verse. `notes` are
+/// the notes of the voice in order; on each row of music they take the syllables of the `w:` lines of that row.
+/// `unnamed` is the voice of the music before any voice field.
 pub fn words_of_events(
     alloc: Global,
     id: &[u8],
