@@ -246,7 +246,6 @@ fn judge_rests(
 /// an event, after one for each group of graces that it takes: the heads of a note or a chord times its parts, 1
 /// times its parts for a rest, n for n whole measure rests, and the heads of a group of graces, each capped at
 /// 50,001.
-/// measure rests, and the heads of a group of graces, each capped at 50,001.
 #[inline(always)]
 #[tactic(auto, unfolding(crate::specs::Faults::faults_of, crate::specs::Weights::weights_of))]
 pub fn judge_step(

@@ -1,4 +1,4 @@
--- Facts of lists and tests that several proofs share.
+-- Facts about lists and tests that several proofs share.
 use Rattle.std.proofs.Common.{◌≡◌, refl, ℕ, List, [], ◌∷◌, ◌++◌, Bool, cond}
 use Rattle.std.proofs.lemmas.Bool.{cond_both}
 use Rattle.std.specs.List.{AllByRecursion}
@@ -16,7 +16,7 @@ pub none_behind : {X : Type 0} (xs ys : List X) → xs ++ ys ≡ [] → ys ≡ [
 none_behind [] ys e = e
 none_behind (x ∷ xs) ys e = absurd cc
 
--- what holds of both parts of a list
+-- a property of both parts of a list
 pub all_both : {X : Type 0} (P : X → Type 0) (xs ys : List X)
     → AllByRecursion P xs → AllByRecursion P ys → AllByRecursion P (xs ++ ys)
 all_both P [] ys a b = b
@@ -30,7 +30,7 @@ pub back_all : {X : Type 0} (P : X → Type 0) (xs ys : List X) → AllByRecursi
 back_all P [] ys h = h
 back_all P (x ∷ xs) ys h = back_all P xs ys h.1
 
--- what holds whatever a test says, and whether a tuplet begins or doesn't fit
+-- a property that holds for either result of a test, and whether or not a tuplet begins
 pub either : {X : Type 0} (P : X → Type 0) (b : Bool) (x y : X) → P x → P y → P (cond b x y)
 either P b x y h i = cond_both b x y P (λ e. h) (λ e. i)
 

@@ -1,4 +1,4 @@
--- What a score without faults has: voices without verses that are too many, and at most 2000 measures.
+-- What a score without faults guarantees: no voice has too many verses, and there are at most 2000 measures.
 use Rattle.std.specs.Prelude.{fold, max, flat_map, is_none}
 use Rattle.std.specs.List.{All, AllByRecursion}
 use Rattle.std.proofs.Common.{append_assoc, Bool, true, false}
@@ -24,7 +24,7 @@ use Rattle.abc_score.specs.declared.voices.ReadVoice.{ReadVoice}
 use Rattle.abc_score.specs.Faults.{voice_faults, faults_of_voices}
 use Rattle.abc_score.specs.Score.{most_measures, own_measures}
 
--- a test that gives no fault
+-- a test that yields no fault
 pub no_fault : (b : Bool) (kind : FaultKind) (at : PlacedStep) → fault_if b kind at ≡ [] → b ≡ false
 no_fault true kind at e = absurd cc
 no_fault false kind at e = refl
@@ -70,7 +70,7 @@ rest_clear now before behind at seen count e =
       graces = none_behind _ _ e;
     }
 
--- one step more: an event without a fault stands in a good measure
+-- one more step: an event without a fault is in a good measure
 step_within : (first : InForce) (before behind : Steps) (at : PlacedStep) (s : Step)
     → faults_of (state_at first before) before at behind s ≡ []
     → measures_begun before ≤ 2000

@@ -18,7 +18,7 @@ Core = Event × List Event
 abbrev pub core : Flat → Core
 core f = (f.event, f.graces)
 
--- ---- what a good voice asks, of events with their graces
+-- ---- what a good voice requires of events with their graces
 abbrev pub Reaches : Clef → Event → Type 0
 Reaches clef e = All (IsInReach clef) e.heads
 
@@ -51,7 +51,7 @@ events_of_cores verses (f ∷ fs) h =
     All-cons (IsGoodEvent verses) f fs (record { words = h.0.words; key = h.0.key; meter = h.0.meter })
     (events_of_cores verses fs h.1)
 
--- ---- rows of nodes
+-- ---- lists of nodes
 module _ (qs ps : ℕ) where
   flats-append : (xs ys : List Leafing) (w : PendingLeaf)
       → (in_row (xs ++ ys) qs ps w).flats
@@ -66,7 +66,7 @@ module _ (qs ps : ℕ) where
   waits-append [] ys w = refl
   waits-append (x ∷ xs) ys w = waits-append xs ys (x qs ps w).waits
 
--- nodes that are these events, and behind which no grace waits
+-- nodes that are these events, with no grace pending after them
 pub record Sings (ms : List Music) (cs : List Core) : Type 0 where
   pub cores : (qs ps : ℕ) (w : PendingLeaf)
       → w.graces ≡ [] → map core (in_row (map leaves_within ms) qs ps w).flats ≡ cs

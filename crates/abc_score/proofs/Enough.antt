@@ -1,4 +1,4 @@
--- Enough faults and weights tell the first fault of all.
+-- Enough faults and weights determine the first fault of all.
 use Rattle.std.proofs.{Common.{true, false, Option, Some}, lemmas.List.Sums.sum_by-append, Math.Logic.⊎_map}
 use Rattle.std.proofs.Common.{None, ⊎_elim, inl, inr, arith, ◌≡◌, ◌∙◌, refl, sym, ap, subst, List, [], ◌∷◌, ◌++◌}
 use Rattle.std.proofs.Common.{append_assoc, append-nil, map, Bool}
@@ -27,7 +27,7 @@ front_within xs ys w = (Contains-append_left xs ys w, omega (arith, sum_by-appen
 back_within : (xs ys : List Weight) (w : Weight) → IsWithin ys (xs ++ ys) w
 back_within xs ys w = (Contains-append_right xs ys w, omega (arith, sum_by-append (count_up_to w) xs ys))
 
--- ---- behind a crowd
+-- ---- after a crowd
 pub enough_behind : (some hidden : List Fault) (put light : List Weight) (at : Weight)
     → Contains put at → 50000 < crowd_up_to put at
     → AllByRecursion (λ f. is_before f (crowd_fault at) ≡ false) hidden → AllByRecursion (IsBehind at) light
@@ -142,7 +142,7 @@ module _ {some faults : List Fault} {put all : List Weight} (h : AreEnough some 
             } in
             inr (subst (HasCrowd put) (sym o.is) (⊎_elim own (λ c. c) (h.light w)))
 
-  -- one of those that are found, which the fault isn't before
+  -- one of the faults found, which the fault is not before
   told : (f : Fault)
       → Contains some f ⊎ HasCrowd put f → (g : Fault) × (Contains (some ++ crowded put) g × (is_before f g ≡ false))
   told f (inl j) = (f, (Contains-append_left some (crowded put) f j, not_before_itself f))

@@ -1,4 +1,4 @@
--- The bars that are forced among n measures rise, each behind the first measure and before the last bar.
+-- The forced bars among n measures increase; each is after the first measure and before the last bar.
 use Rattle.std.proofs.Common.{◌≡◌, refl, ℕ, ◌+◌, ◌≤◌, ◌<◌, List, [], ◌∷◌, ◌++◌, Bool, true, false, reverse, arith}
 use Rattle.std.proofs.lemmas.Bool.{Decides.nat_tests, and_parts, or_parts, cond_both, leb-true, ltb-true}
 use Rattle.std.specs.{Prelude.{⊤, ◌==◌, ◌&&◌, nat_le, nat_lt}, List.list_any}
@@ -8,7 +8,7 @@ use Rattle.abc_score.{proofs.Basics.either, specs.{declared.voices.ReadVoice.Rea
 use Rattle.abc_steps.specs.{Counts.{all_further, begins_group, counts_of, measure_at, nearest_at}, Looks.Steps}
 use Rattle.abc_steps.specs.declared.{step.{Step.Step, PlacedStep.PlacedStep}, counts.Counts.Counts}
 
--- bars that rise from behind one, before n and not past another
+-- bars that increase from above one, below n and not beyond another
 abbrev Rises : ℕ → ℕ → ℕ → List ℕ → Type 0
 Rises from n top [] = ⊤
 Rises from n top (b ∷ bs) = (from < b) × (b < n) × (b ≤ top) × Rises b n top bs

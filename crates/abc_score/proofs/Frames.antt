@@ -1,4 +1,4 @@
--- The voices of a score: each has all its measures, no two have one id, and the first begins a staff.
+-- The voices of a score: each has all its measures, no two have the same id, and the first begins a staff.
 use Rattle.std.proofs.Common.{◌≡◌, ◌≢◌, ◌∙◌, refl, ℕ, List, [], ◌∷◌, length, map}
 use Rattle.std.proofs.lemmas.List.Elements.{All-map}
 use Rattle.std.proofs.lemmas.List.FromFn.{length-map-range_with_len}
@@ -44,7 +44,7 @@ module _ (header : Header) (items : List BodyItem) (n : ℕ) where
   voices_apart [] apart = tt
   voices_apart (v ∷ voices) apart = (other_voices v voices apart.0, voices_apart voices apart.1)
 
-  -- a voice as it is read has its staff for itself
+  -- a voice as read is alone on its staff
   pub voices_led : (voices : List ReadVoice) → IsLed (map (voice_by_header header items n) voices)
   unfolding voice_by_header
   voices_led [] = tt

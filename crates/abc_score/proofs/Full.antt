@@ -1,4 +1,4 @@
--- In each measure of a voice without faults tuplets are full and events good.
+-- In each measure of a voice without faults, tuplets are full and events good.
 use Rattle.std.{proofs.lemmas.List.Elements.recursion_from_All, specs.List.AllByRecursion}
 use Rattle.std.proofs.Common.{arith, ◌≡◌, refl, sym, subst, ℕ, zero, suc, ◌+◌, ◌-◌, ◌≤◌, List, [], ◌∷◌, ◌++◌, Bool}
 use Rattle.std.proofs.Common.{true, false, cond, ◌==◌}
@@ -36,7 +36,7 @@ use Rattle.abc_score.proofs.Since.{all_wait, each_at}
 use Rattle.abc_score.proofs.Walks.{Enough, next_enough, none_open, open_with, sound_parts, sounds_on, tuplet_clear}
 use Rattle.abc_score.proofs.Walks.{walk_force}
 
--- ---- graces that wait
+-- ---- pending graces
 step_graces : (s : Step) → IsGoodStep s → AreGoodGraces (graces_in s)
 unfolding graces_in
 step_graces (Step.Grace slash body) good = good
@@ -50,9 +50,9 @@ waiting_graces now before decos all =
     (λ s good. step_graces s.step good) (since_event before)
     (all_wait IsGoodPlacedStep before all)
 
--- ---- one leaf more
+-- ---- one more leaf
 
--- what the open tuplets take of the events of a measure
+-- what the open tuplets take from the events of a measure
 abbrev pub taken_in : ℕ → ℕ → OpenTuplets → OpenTuplets
 taken_in k m t = cond (m == k) t OpenTuplets.Nothing
 
@@ -74,7 +74,7 @@ at_rest : (k m : ℕ) (nodes : List Music) (ls : List Leaf)
 unfolding after_event
 at_rest k m nodes ls good some h = either (WellNested OpenTuplets.Nothing) (m == k) _ _ (tt, good, some, h) h
 
--- ---- one step more
+-- ---- one more step
 -- the q of a tuplet
 abbrev IsGoodQ : ℕ → Type 0
 IsGoodQ q = (1 ≤ q) × (q ≤ 9)
@@ -92,7 +92,7 @@ no_further : (before : Steps) → groups before + (all_further before + 0) ≡ m
 no_further before = omega arith
 
 module _ (words : List Words) (k : ℕ) where
-  -- the leaves of signs from a measure on
+  -- the leaves of tree items from a measure on
   abbrev AreNested : ℕ → OpenTuplets → List TreeItem → Type 0
   AreNested m t ss = (j id : ℕ) → WellNested (taken_in k m t) (leaves_in k (leaves_from words j id ss))
 

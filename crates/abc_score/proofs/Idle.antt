@@ -1,4 +1,4 @@
--- A step that alone says nothing leaves all that is told of a voice as it is.
+-- A step that has no effect by itself leaves all that is known of a voice as it is.
 use Rattle.std.proofs.Common.{◌≡◌, ◌∙◌, ◌<◌, refl, sym, ap, ℕ, ◌+◌, [], ◌∷◌, ◌++◌, length, get_or, reverse, take, drop}
 use Rattle.std.proofs.Common.{true, arith, List}
 use Rattle.abc_steps.specs.declared.step.Step.{Step}

@@ -1,4 +1,4 @@
--- The voices of a body: no two have one id, and at most 16 are mentioned.
+-- The voices of a body: no two have the same id, and at most 16 are mentioned.
 use Rattle.std.specs.Prelude.{◌≢◌, count_by, fold, nat_lt}
 use Rattle.std.specs.List.{list_any}
 use Rattle.std.specs.Str.{bytes_eq}
@@ -56,7 +56,7 @@ declared_apart (def ∷ defs) distinct =
     let others = declared_apart defs (λ id. omega (arith, times_on id def defs, distinct id)) in
     (not_counted def.id defs (omega (arith, itself, times_on def.id def defs, once)), others)
 
--- those of a body
+-- the ids of a body
 item_apart : (ids : List (List ℕ)) (i : BodyItem) → AreDistinctIds ids → AreDistinctIds (ids_after_item ids i)
 item_apart ids (BodyItem.Step s) apart = step_apart ids (claims s.step) apart where
   step_apart : (ids : List (List ℕ)) (claimed : Bool) → AreDistinctIds ids → AreDistinctIds (ids_by_step ids claimed)
@@ -100,7 +100,7 @@ few_ids header lines items good body =
     subst (λ (is : List BodyItem). length (voice_ids header is) ≤ 16) (sym body.are)
     (few_given (declared_ids header) body.given (omega (arith, declared, good.few)) body.clear)
 
--- those of the voices that are read
+-- the ids of the voices that are read
 ids_read : (header : Header) (items : List BodyItem) (ids : List (List ℕ))
     → read_ids (map (voice_read header items) (map (start_of header items) ids)) ≡ ids
 ids_read header items [] = refl

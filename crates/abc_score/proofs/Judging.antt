@@ -1,5 +1,5 @@
--- The nodes of a written event are good: of a note, a chord or a rest wherever it stands,
--- and of a whole measure rest outside tuplets.
+-- The nodes of a written event are good: for a note, a chord or a rest in any context, and for a whole measure rest
+-- outside tuplets.
 use Rattle.std.proofs.Common.{◌≤◌, List, ◌∷◌, map, length, Bool, true, false, cond, ◌&&◌, ◌==◌, nat_le}
 use Rattle.std.specs.List.{AllByRecursion}
 use Rattle.std.proofs.Common.{None, unwrap_or, IsTrue, div-le_self, le_trans, mul-le-mul_right, lit≤, arith, ◌≡◌, ◌∙◌}
@@ -66,7 +66,7 @@ chords_good at (g ∷ gs) good =
     and_from _ _ (ap (λ (j : NodeContext → NodeVerdict). (j at).good) (at_note good_step (grace_event g.heads)) ∙ test)
     (chords_good at gs good.1)
 
--- events and graces at a place
+-- events and graces in a context
 module _ (deeper : ℕ) (inner : Bool) where
   abbrev place : NodeContext
   place = record { deeper = deeper; inner = inner; grace = false }

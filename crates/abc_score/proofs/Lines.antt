@@ -1,4 +1,4 @@
--- The words of a body stand on its lines in their order, so their lines rise.
+-- The words of a body are on its lines in their order, so their line numbers increase.
 use Rattle.std.{specs.Prelude.{⊤, flat_map, Result, Ok, Err}, proofs.Common.{Some, None}}
 use Rattle.std.proofs.Common.{drop, arith, ◌≡◌, ◌∙◌, refl, sym, ap, subst, ℕ, zero, suc, ◌≤◌, ◌<◌, List, [], ◌∷◌, ◌++◌}
 use Rattle.std.proofs.Common.{Bool, true, false, Option}
@@ -17,7 +17,7 @@ use Rattle.abc_items.specs.Body.{ItemOrFault, gives, fails, field_item, item_of_
 use Rattle.abc_items.specs.Body.{placed_given, item_of_line_end, KindGives}
 use Rattle.abc_items.specs.Body.{BodyGives, no_lines, one_line, items_in, IsBody}
 
--- words that are given on a line
+-- all words are on this line
 abbrev AreAt : ℕ → List ItemOrFault → Type 0
 AreAt line [] = ⊤
 AreAt line (gives (BodyItem.Words text at) ∷ given) = (at ≡ line) × AreAt line given
@@ -86,7 +86,7 @@ items_both [] h = refl
 items_both (fails fault ∷ g) h = items_both g h
 items_both (gives i ∷ g) h = ap (λ is. i ∷ is) (items_both g h)
 
--- lines that stand at a number or behind it
+-- lines at a number or after it
 abbrev IsUnder : ℕ → List Line → Type 0
 IsUnder low [] = ⊤
 IsUnder low (line ∷ lines) = low ≤ line.number

@@ -1,4 +1,4 @@
--- The tree of a measure is good where its tuplets are full and its events good.
+-- The tree of a measure is good if its tuplets are full and its events good.
 use Rattle.std.proofs.lemmas.Bool.{and_parts, and_from, or_left, or_right}
 use Rattle.std.proofs.lemmas.Bool.Decides.{nat_tests}
 use Rattle.std.proofs.Common.{false, cond, ◌&&◌}
@@ -15,7 +15,7 @@ use Rattle.abc_score.proofs.Rows.{at_tuplet}
 use Rattle.abc_events.specs.{Leaf.Leaf, Nesting.{Forest, none_more, one, group, cut, nest, music_of, tree_of}}
 use Rattle.mus_score.specs.declared.score.Music.TheVariants as music
 
--- ---- bodies at a place
+-- ---- bodies in a context
 abbrev pub judged_at : NodeContext → List Music → NodeVerdict
 judged_at at body = all_judged (map judged_within body) at
 
@@ -43,7 +43,7 @@ some_behind at (x ∷ xs) ys a = or_right (judged_within x at).some _ (some_behi
 
 -- ---- tuplets
 
--- within one tuplet another may stand, and none within two
+-- another tuplet may be inside one, but none inside two
 abbrev pub within : ℕ → NodeContext
 within deeper = record { deeper = deeper; inner = true; grace = false }
 
@@ -77,7 +77,7 @@ module _ (deeper : ℕ) (inner : Bool) (p q : ℕ) (body others : List Music) (s
   group_some =
       or_left _ _ (ap (λ (j : NodeContext → NodeVerdict). (j around).some) (at_tuplet good_step p q body) ∙ some)
 
--- ---- what the open tuplets take is good, and what is left
+-- ---- what the open tuplets take is good, and so is the rest
 abbrev pub IsOpen : OpenTuplets → Type 0
 IsOpen OpenTuplets.Nothing = ⊤
 IsOpen (OpenTuplets.Single left) = 1 ≤ left
@@ -99,7 +99,7 @@ Fine OpenTuplets.Nothing f = IsGoodAt outside (music_of f)
 Fine (OpenTuplets.Single left) f = FineOne left f
 Fine (OpenTuplets.Nested inner outer) f = FineTwo inner (outer - inner) f
 
--- what one tuplet takes behind its first event, and what two do
+-- what one tuplet takes after its first event, and what two do
 one_left : (n r : ℕ) → n ≡ suc (suc r) → one_less n ≡ OpenTuplets.Single (suc r)
 one_left n r is = grind (arith, nat_tests)
 

@@ -1,4 +1,4 @@
--- The parts of a written event as a good voice asks for them: numbered, within reach, with words and good changes.
+-- The parts of a written event as a good voice requires them: numbered, within reach, with words and good changes.
 use Rattle.std.proofs.Common.{◌≡◌, refl, sym, subst, ℕ, suc, ◌+◌, ◌≤◌, ◌<◌, List, [], ◌∷◌, ◌++◌, map, length, None}
 use Rattle.std.proofs.Common.{IfSome, unwrap_or, arith}
 use Rattle.std.proofs.lemmas.List.{length-replicate, Elements.{All-nil, All-cons, All-from_recursion}}
@@ -68,7 +68,7 @@ graces_reach clef (g ∷ gs) all =
     All-cons (Reaches clef) (grace_of g) _ (All-from_recursion (IsInReach clef) g.heads all.0)
     (graces_reach clef gs all.1)
 
--- the clef behind what waits
+-- the clef after the pending changes
 abbrev pub clef_of : Pending → Clef → Clef
 clef_of waiting before = unwrap_or waiting.changes.clef before
 
@@ -108,7 +108,7 @@ parts_good gs w waiting words id (v ∷ vs) cs verses long key meter h = (
       (later_good w verses (id + 1) vs cs h),
 )
 
--- ---- signs
+-- ---- tree items
 
 -- a written event has parts, and its changes are good
 abbrev pub IsWhole : TreeItem → Type 0

@@ -89,7 +89,7 @@ not_clef (Step.Clef clef) now e = absurd cc
 not_clef (Step.Key text) now e = no_clef text.clef now.clef e
 not_clef _ now e = refl
 
--- the clef that a step names stands, and where none does, the one before
+-- the clef that a step names is in force, or if none does, the one before
 abbrev any_clef : Steps → Bool
 any_clef steps = list_any (λ (s : PlacedStep). names_clef s.step) steps
 

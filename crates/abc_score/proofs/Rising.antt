@@ -1,4 +1,4 @@
--- No event of a voice stands in an earlier measure than one before it, and none past its own measures.
+-- No event of a voice is in an earlier measure than one before it, and none is past the voice's own measures.
 use Rattle.std.{proofs.Common.{true, false, cond, reverse}, specs.{Prelude.fold, List.AllByRecursion}}
 use Rattle.std.proofs.Common.{max, append-nil, arith, ◌≡◌, refl, sym, ap, subst, ℕ, zero, suc, ◌+◌, ◌-◌, ◌≤◌, ◌<◌, List}
 use Rattle.std.proofs.Common.{[], ◌∷◌, ◌++◌, map, Bool}
@@ -45,7 +45,7 @@ begun_walk (at ∷ behind) before =
     ap measures_begun (turned at behind before) in
     omega (arith, begun_walk behind (at ∷ before), begun_grows at before, same)
 
--- ---- one step more
+-- ---- one more step
 module _ (words : List Words) (first : InForce) (top : ℕ) where
   abbrev DoRise : ℕ → List TreeItem → Type 0
   DoRise low ss = (k id : ℕ) → Rise low top (leaves_from words k id ss)
@@ -104,7 +104,7 @@ module _ (words : List Words) (first : InForce) (top : ℕ) where
   voice_rise steps less =
       walk_rise [] steps (subst (λ (z : Steps). measures_begun z ≤ top) (sym (append-nil (reverse steps))) less) 0 0
 
--- ---- as many measures as the voice with most of them has
+-- ---- as many measures as the voice with the most has
 most_from : (ns : List ℕ) (most : ℕ) → most ≤ fold max most ns
 most_from [] most = omega arith
 most_from (n ∷ ns) most = omega (arith, most_from ns (max most n))

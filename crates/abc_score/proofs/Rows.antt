@@ -1,4 +1,4 @@
--- The events of a tree in a row: tuplets around them change neither what they are nor what they weigh.
+-- The events of a tree as a list: tuplets around them change neither the events nor their weight.
 use Rattle.std.proofs.Common.{◌≡◌, ◌∙◌, refl, sym, ap, ℕ, zero, suc, ◌+◌, ◌-◌, List, [], ◌∷◌, ◌++◌, map, sum, sum_by}
 use Rattle.std.proofs.Common.{Bool, append_assoc, arith}
 use Rattle.std.proofs.lemmas.List.{map-append, Sums.{sum_by-cons, sum_by-append}}
@@ -11,7 +11,7 @@ use Rattle.mus_score.specs.declared.score.Music.TheViews.{roll-Music}
 use Rattle.mus_score.specs.declared.score.Music.TheFolds.{fold-Music, fold-roll-Music}
 use Rattle.mus_score.specs.declared.score.Music.TheVariants as music
 
--- the nodes of each event, from the first to the last
+-- the nodes of each event, in order
 abbrev pub rows : Forest → List (List Music)
 rows none_more = []
 rows (one nodes f) = nodes ∷ rows f
@@ -34,7 +34,7 @@ nest_rows [] = refl
 nest_rows (Leaf.Event measure nodes ∷ ls) = ap (λ z. nodes ∷ z) (nest_rows ls)
 nest_rows (Leaf.Opens measure p q r ∷ ls) = cut_rows r (nest ls) ∙ nest_rows ls
 
--- What a fold makes of each kind of node.
+-- The result of a fold for each kind of node.
 module _ {A : Type 0} (step : Music-F A → A) where
   pub at_note : (e : Event) → fold-Music A step (music.Note e) ≡ step (Music-F.Note e)
   unfolding roll-Music denote.Hole.Carrier.roll

@@ -1,5 +1,4 @@
--- The measures of a voice one after the other are the voice,
--- where no event stands in an earlier measure than one before it.
+-- The measures of a voice in sequence are the voice, if no event is in an earlier measure than one before it.
 use Rattle.std.proofs.{lemmas.Bool.{cases_lt, ne_eqb, eq-eqb}, Common.{length, true, false}}
 use Rattle.std.proofs.Common.{cond, arith, ⊎_elim, ◌≡◌, ◌∙◌, refl, sym, ap, subst, ℕ, zero, suc, ◌+◌, ◌≤◌, ◌<◌, List}
 use Rattle.std.proofs.Common.{[], ◌∷◌, ◌++◌, map, sum_by}
@@ -20,7 +19,7 @@ use Rattle.abc_score.proofs.Basics.{either}
 use Rattle.abc_score.proofs.Rows.{leaf_rows, weight_of, tree_weight}
 use Rattle.abc_score.proofs.Cores.{core, IsSung, sung, tree_sings}
 
--- events that stand in no earlier measure than one before them, from a measure on, and before another
+-- events from a measure on and before another, none in an earlier measure than one before it
 abbrev pub Rise : ℕ → ℕ → List Leaf → Type 0
 Rise low top [] = ⊤
 Rise low top (Leaf.Event measure nodes ∷ ls) = (low ≤ measure) × (measure < top) × Rise measure top ls
@@ -61,7 +60,7 @@ pub flat_same : {X Y : Type 0} (f g : X → List Y)
 flat_same f g same [] = refl
 flat_same f g same (x ∷ xs) = ap (λ z. z ++ flat_map f xs) (same x) ∙ ap (λ z. g x ++ z) (flat_same f g same xs)
 
--- the events of so many measures from one on
+-- the events of n measures from one on
 abbrev rows_from : ℕ → ℕ → List Leaf → List (List Music)
 rows_from low n ls = flat_map (λ k. rows_in k ls) (range_with_len low n)
 

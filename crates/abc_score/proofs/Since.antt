@@ -1,4 +1,4 @@
--- What waits since an event: the steps behind the last one.
+-- What is pending since an event: the steps after the last one.
 use Rattle.std.specs.Prelude.{flat_map}
 use Rattle.std.specs.List.{AllByRecursion, before_first}
 use Rattle.std.proofs.lemmas.List.{reverse-append}
@@ -38,7 +38,7 @@ pub all_wait : (P : PlacedStep → Type 0) (before : Steps)
 all_wait P [] all = rw since_none tt
 all_wait P (s ∷ before) all = more_wait P s before (all_wait P before all.1) all.0
 
--- what holds of all that each of the steps gives
+-- a property of all that each step yields
 pub each_at : {X : Type 0} (P : X → Type 0) (Q : PlacedStep → Type 0) (of : PlacedStep → List X)
     → ((s : PlacedStep) → Q s → AllByRecursion P (of s))
     → (waits : Steps) → AllByRecursion Q waits → AllByRecursion P (flat_map of waits)

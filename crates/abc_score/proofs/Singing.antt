@@ -1,4 +1,4 @@
--- The nodes of a written event: its parts, the first with its graces, and what they weigh.
+-- The nodes of a written event: its parts, the first with its graces, and their weight.
 use Rattle.std.proofs.Common.{◌≡◌, ◌∙◌, refl, sym, ap, subst, ℕ, suc, ◌+◌, ◌*◌, ◌≤◌, max, List, [], ◌∷◌, ◌++◌, map}
 use Rattle.std.proofs.Common.{sum_by, length, Bool, arith}
 use Rattle.std.proofs.lemmas.List.{length-map, Sums.sum_by-cons}
@@ -58,7 +58,7 @@ graces_in_row (g ∷ gs) =
     (at_note leaves_step (grace_of g))
     ∙ ap (λ z. grace_of g ∷ z) (graces_in_row gs)
 
--- graces go to the event behind them
+-- graces go to the event after them
 group_sings : (gs : List GraceChord) (slash : Bool) (e : Event) (es : List Event)
     → Sings (music.Grace (map grace_note gs) slash ∷ node_of e ∷ map node_of es) ((e, map grace_of gs) ∷ map plain es)
 group_sings gs slash e es =
@@ -113,7 +113,7 @@ heads_weight [] e is = at_rest weight_step e
 heads_weight (h ∷ hs) e is =
     let long : length e.heads ≡ suc (length hs) = ap length is in at_note weight_step e ∙ (long ∙ omega arith)
 
--- one event more, with as many heads
+-- one more event, with as many heads
 one_more : (n m : ℕ) (e : Event) (es : List Event) → length e.heads ≡ m → weight_of (map node_of es) ≡ n * max 1 m
     → weight_of (map node_of (e ∷ es)) ≡ suc n * max 1 m
 one_more n m e es long others =

@@ -1,4 +1,4 @@
--- Behind an event with which there are too many heads and rests no fault comes first.
+-- After an event with which there are too many heads and rests there is no first fault.
 use Rattle.std.proofs.Common.{append_assoc, append-nil, take, reverse, get_or, map}
 use Rattle.std.specs.Prelude.{◌<◌}
 use Rattle.std.specs.List.{AllByRecursion, Contains, list_all}
@@ -28,7 +28,7 @@ use Rattle.abc_score.proofs.Enough.{all_enough, enough_behind}
 use Rattle.abc_score.proofs.Since.{each_at, more_wait, none_wait}
 use Rattle.abc_score.specs.Judged.{AreEnough, AreJudged, IsCrowdedAt}
 
--- ---- faults stand at the steps that follow
+-- ---- faults are at the steps that follow
 module _ (P : Fault → Type 0) where
   abbrev AtStep : PlacedStep → Type 0
   AtStep s = (kind : FaultKind) → P (step_fault kind s)
@@ -66,7 +66,7 @@ module _ (P : Fault → Type 0) where
       all_both P _ _ (step_at (state_at first before) before s behind s.step w h.0)
       (faults_at first (s ∷ before) behind (more_wait AtStep s before w h.0) h.1)
 
--- ---- and so do weights
+-- ---- and so are weights
 module _ (P : Weight → Type 0) where
   abbrev Weighs : PlacedStep → Type 0
   Weighs s = (n : ℕ) → P (weight_at n s)
@@ -98,7 +98,7 @@ module _ (P : Weight → Type 0) where
       all_both P _ _ (step_weighs (state_at first before) before s behind s.step w h.0)
       (weights_at first (s ∷ before) behind (more_wait Weighs s before w h.0) h.1)
 
--- ---- behind the event
+-- ---- after the event
 abbrev is_later : PlacedStep → PlacedStep → Bool
 is_later at s = stands_before (weight_at 0 at) (weight_at 0 s)
 
@@ -133,7 +133,7 @@ same_crowd : (ws : List Weight) (m n : ℕ) (at : PlacedStep)
 unfolding stands_before
 same_crowd ws m n at = refl
 
--- ---- a voice as far as it is judged
+-- ---- the judged part of a voice
 pub record IsSoFar (faults hidden : List Fault) (all light : List Weight) (found : Option Fault)
     (old new : List Weight) : Type 0 where
   pub some : List Fault
@@ -147,7 +147,7 @@ pub none_so_far : (faults : List Fault) (all old : List Weight) → IsSoFar faul
 none_so_far faults all old =
     record { some = []; weights = []; first = refl; faults_are = refl; put = sym (append-nil old); weights_are = refl }
 
--- one step more
+-- one more step
 more_so_far : {faults hidden rest : List Fault} {all light others : List Weight} {found mine next : Option Fault}
     {old new newer : List Weight}
     → (own : List Fault) (put : List Weight) → IsSoFar faults hidden all light found old new → hidden ≡ own ++ rest
@@ -175,7 +175,7 @@ IsAt first steps before behind found old new =
     IsSoFar (faults_in first [] steps) (faults_in first before behind) (weights_in first [] steps)
     (weights_in first before behind) found old new
 
--- what stands at a step is put
+-- the weights at a step are added
 abbrev pub IsPut : InForce → Steps → PlacedStep → Steps → List Weight → Type 0
 IsPut first before at behind put =
     (w : Weight) → Contains (weights_of (state_at first before) before at behind at.step) w → Contains put w
@@ -208,7 +208,7 @@ judged_whole {faults = faults} {all = all} {old = old} h = record {
   enough = all_enough faults all;
 }
 
--- up to an event behind which nothing comes first
+-- up to an event after which nothing comes first
 pub judged_to : {at : PlacedStep} {behind : Steps} {found : Option Fault} {old new : List Weight} (first : InForce)
     (steps before : Steps)
     → (h : IsAt first steps (at ∷ before) behind found old new) → IsPut first before at behind h.weights

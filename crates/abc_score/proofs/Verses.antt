@@ -1,4 +1,4 @@
--- The verses that are too many, in a body whose lines of words rise: the first of the list comes first.
+-- The verses that are too many, in a body whose lines of words increase: the head of the list comes first.
 use Rattle.std.{proofs.lemmas.Bool.{cond-false, Decides.nat_tests}, specs.Prelude.{⊤, nat_le}}
 use Rattle.std.proofs.Common.{◌≡◌, ◌∙◌, refl, sym, ap, subst, ℕ, ◌≤◌, List, [], ◌∷◌, ◌++◌, Bool, true, false, Option}
 use Rattle.std.proofs.Common.{Some, None, arith}
@@ -10,7 +10,7 @@ use Rattle.abc_words.specs.Verses.{verse_if, verses_from, number_on, too_many, f
 use Rattle.abc_words.specs.Verses.{first_verse_fault as head_of}
 use Rattle.abc_words.specs.declared.verses.Verse.{Verse}
 
--- verses whose lines rise, from one on
+-- verses whose lines increase, from one on
 abbrev pub DoLinesRise : ℕ → List Verse → Type 0
 DoLinesRise low [] = ⊤
 DoLinesRise low (v ∷ vs) = (low ≤ v.line) × DoLinesRise v.line vs
@@ -53,7 +53,7 @@ higher : (low high : ℕ) (o : Option Fault) → low ≤ high → IsFrom high o 
 higher low high None less from = tt
 higher low high (Some f) less from = let at : high ≤ f.line = from.0 in (omega arith, from.1)
 
--- the heads and the firsts of what follows
+-- the heads and the first faults of what follows
 heads : (low : ℕ) (before behind : List Verse) → DoLinesRise low behind
     → let faults = faults_from before behind in (head_of faults ≡ first_of faults) × IsFrom low (head_of faults)
 heads low before [] rise = (refl, tt)

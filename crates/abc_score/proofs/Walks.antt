@@ -1,4 +1,4 @@
--- What the steps of a voice without faults are: each event has parts and good changes, and tuplets are full.
+-- The steps of a voice without faults: each event has parts and good changes, and tuplets are full.
 use Rattle.std.proofs.Common.{◌≡◌, ◌∙◌, refl, sym, ap, subst, ℕ, zero, suc, ◌+◌, ◌-◌, ◌*◌, ◌/◌, ◌≤◌, List, [], ◌∷◌}
 use Rattle.std.proofs.Common.{length, Bool, true, false, cond}
 use Rattle.std.proofs.Common.{not, nat_le, ◌==◌, Option, Some, None, IfSome, unwrap_or, is_none, option_map, zero-add}
@@ -61,7 +61,7 @@ parts_some num den some e =
           let nothing : left * den ≡ 0 = ap (λ n. n * den) (eqb-true left 0 none) ∙ omega arith in
           absurd (omega (arith, eqb-true (left * den) (512 * num) is, nothing, some))
 
--- each side of a broken rhythm is some part of a note
+-- the factor of each side of a broken rhythm has a numerator of at least 1
 left_some : (o : Option PlacedStep) → 1 ≤ (left_factor o).num
 unfolding left_factor left_side
 left_some o = grind arith
@@ -100,7 +100,7 @@ walk_force first [] force good = force
 walk_force first (s ∷ before) force good =
     force_good s.step (force_at first before) (walk_force first before force good.1) good.0
 
--- ---- signs
+-- ---- tree items
 when_good : {X : Type 0} (P : X → Type 0) (b : Bool) (x : X) → P x → IfSome (some_if b x) P
 when_good P true x good = good
 when_good P false x good = tt
@@ -160,7 +160,7 @@ sounds_on s rest =
       by_test inside true = refl
       by_test inside false = sum_by-cons (λ (x : PlacedStep). cond (is_sound x.step) 1 0) s inside
 
--- so many events suffice for the open ones
+-- that many events suffice for the open ones
 abbrev pub Enough : OpenTuplets → ℕ → Type 0
 Enough OpenTuplets.Nothing n = ⊤
 Enough (OpenTuplets.Single left) n = (1 ≤ left) × (left ≤ n)

@@ -1,5 +1,5 @@
--- What the signs of a voice weigh is at most what its steps weigh,
--- and that of all voices is at most 50,000 where they aren't crowded.
+-- The tree items of a voice weigh at most as much as its steps, and those of all voices at most 50,000 if they are
+-- not crowded.
 use Rattle.std.proofs.Common.{⊎_elim, ◌≡◌, ◌∙◌, refl, sym, ap, subst, ℕ, zero, suc, ◌+◌, ◌-◌, ◌*◌, ◌≤◌, max, List, []}
 use Rattle.std.proofs.Common.{◌∷◌, sum_by, length, Bool}
 use Rattle.std.proofs.Common.{true, false, cond, Option, Some, None, mul_comm, mul-le-mul_left, arith}
@@ -32,7 +32,7 @@ use Rattle.abc_faults.specs.First.{is_below_or_tied}
 use Rattle.abc_faults.specs.Weights.{stands_before, weight_at, weights_in, weights_of, count_parts, count_up_to}
 use Rattle.abc_faults.specs.Weights.{crowd_fault, crowd_up_to, crowded}
 
--- ---- signs
+-- ---- tree items
 abbrev pub written_weight : WrittenEvent → Pending → ℕ
 written_weight w waiting = heads_of_graces waiting.graces + length w.values * max 1 (length w.heads)
 
@@ -146,7 +146,7 @@ below a b x y = is_below_or_tied a x (nat_lt b y)
 below_later : (a b x y m n : ℕ) → below a b x y ≡ true → below a b m n ≡ false → below x y m n ≡ false
 below_later a b x y m n h i = grind (arith, nat_tests)
 
--- one that stands before none
+-- a weight that comes before no other
 record Latest (ws : List Weight) : Type 0 where
   weight : Weight
   held : Contains ws weight

@@ -50,7 +50,7 @@ use Rattle.abc_score.specs.Score.{written_measures}
 
 -- ---- words
 
--- each event has a place for each verse
+-- each event has an entry for each verse
 each_words : (id unnamed : List ℕ) (items : List BodyItem) (ss : List TreeItem) (j : ℕ) → j < event_count ss
     → length (words_of_event (sung_words id unnamed items ss) j) ≡ verse_count id unnamed items
 unfolding sung_words
@@ -61,7 +61,7 @@ each_words id unnamed items ss j less =
     ∙ get_or-map-range_with_len (event_words rows verses) 0 (event_count ss) j j [] less (omega arith))
     ∙ length-map-range_with_len (λ verse. word_of (verse_sung rows verse) j) 0 verses
 
--- leaves that have the same words at each place are the same
+-- leaves with the same words in each entry are the same
 leaves_alike : (words others : List Words) (k id : ℕ) (ss : List TreeItem)
     → ((j : ℕ) → words_of_event words j ≡ words_of_event others j)
     → leaves_from words k id ss ≡ leaves_from others k id ss
@@ -75,7 +75,7 @@ no_words : (rows : List MusicRow) (events : List ℕ) (k : ℕ)
 no_words rows (event ∷ events) (suc k) = no_words rows events k
 no_words rows _ _ = refl
 
--- without verses it is the same whether each event has an empty row of words or none
+-- without verses it makes no difference whether each event has an empty list of words or none
 pub leaves_unsung : (id unnamed : List ℕ) (items : List BodyItem) (ss : List TreeItem)
     → verse_count id unnamed items ≡ 0
     → leaves_of [] ss ≡ leaves_of (sung_words id unnamed items ss) ss
@@ -86,7 +86,7 @@ leaves_unsung id unnamed items ss none =
 
 -- ---- a voice
 
--- how every voice is read: it begins with its own clef and with good values, and its steps are good
+-- properties of every voice as read: it begins with its own clef and with good values, and its steps are good
 record IsWellRead (v : ReadVoice) : Type 0 where
   pub clef : v.first.clef ≡ v.start.clef
   pub first : IsGoodForce v.first

@@ -1,5 +1,5 @@
--- What the building of a tune's score answers: the score of a body without fault, or the first fault, of the body and
--- only then of the score.
+-- The result of building a tune's score: the score of a body without a fault, or the first fault, of the body or, if
+-- it has none, of the score.
 use Rattle.std.specs.Prelude.{◌≡◌, ◌⊎◌, ⊤, List, drop, Bool, Some, None}
 use Rattle.abc_lines.specs.declared.book.Line.{Line}
 use Rattle.abc_lines.specs.declared.book.TuneText.{TuneText}
@@ -13,7 +13,7 @@ use Rattle.mus_score.specs.declared.score.Score.{Score}
 use Rattle.abc_score.specs.Faults.{score_faults}
 use Rattle.abc_score.specs.Score.{score_of}
 
--- the lines behind the header
+-- the lines after the header
 abbrev pub body_lines : Header → TuneText → List Line
 body_lines header tune = drop header.body tune.lines
 
@@ -35,7 +35,7 @@ IsFaultOf header tune TuneError.Memory = ⊤
 IsFaultOf header tune (TuneError.Fault fault) =
     HasFault header (body_lines header tune) fault ⊎ HasScoreFault header tune fault
 
--- the same of a body that is read
+-- the same for a body that has been read
 abbrev pub IsErrorIn : Header → List BodyItem → TuneError → Type 0
 IsErrorIn header items TuneError.Memory = ⊤
 IsErrorIn header items (TuneError.Fault fault) = IsFirstInOrder (score_faults header items) (Some fault)

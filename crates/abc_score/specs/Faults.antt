@@ -1,5 +1,5 @@
--- All faults that the score of a body has: those of each voice by itself, its verses that are too
--- many, and the places up to which all voices together have too many heads and rests.
+-- All faults in the score of a body: those of each voice by itself, its verses that are too many, and the places up
+-- to which all voices together have too many heads and rests.
 use Rattle.std.specs.Prelude.{ℕ, List, [], ◌++◌, flat_map}
 use Rattle.abc_lines.specs.declared.fault.Fault.{Fault}
 use Rattle.abc_fields.specs.declared.header.Header.{Header}

@@ -1,4 +1,4 @@
--- The lines of words in a body: none stands before an earlier one.
+-- The lines of words in a body: no line is before an earlier one.
 use Rattle.std.specs.Prelude.{ℕ, ◌≤◌, List, [], ◌∷◌, ⊤}
 use Rattle.abc_steps.specs.declared.step.BodyItem.{BodyItem}
 

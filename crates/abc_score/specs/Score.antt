@@ -1,4 +1,4 @@
--- The score of a body, put together from its voices.
+-- The score of a body, built from its voices.
 use Rattle.std.specs.Prelude.{ℕ, ◌+◌, List, [], ◌∷◌, ◌++◌, map, fold, max, reverse, Bool, true, false, Option}
 use Rattle.mus_units.specs.declared.note.Head.{Head}
 use Rattle.mus_score.specs.declared.score.Measure.{Measure}
@@ -33,7 +33,7 @@ event_count [] = 0
 event_count (TreeItem.Event w waiting ∷ signs) = 1 + event_count signs
 event_count (TreeItem.Opens measure p q r ∷ signs) = event_count signs
 
--- the words of each written event, a place for each verse
+-- the words of each written event, one entry per verse
 unfoldable pub sung_words : List ℕ → List ℕ → List BodyItem → List TreeItem → List (List (Option (List ℕ)))
 sung_words id unnamed items signs = words_of_events id unnamed items (sung_notes_from 0 signs) (event_count signs)
 
@@ -41,7 +41,7 @@ unfoldable pub written_measures : List ℕ → List BodyItem → ℕ → ReadVoi
 written_measures unnamed items n v =
     let all = signs v.first [] v.steps in measures_of all (sung_words v.start.id unnamed items all) (bars_of v.steps n)
 
--- a voice with so many measures: its own, and empty ones behind them
+-- a voice with n measures: its own, and empty ones after them
 unfoldable pub voice_by_header : Header → List BodyItem → ℕ → ReadVoice → Voice
 voice_by_header header items n v = record {
   id = v.start.id;
@@ -56,14 +56,14 @@ voice_by_header header items n v = record {
   measures = written_measures (unnamed_of header) items n v;
 }
 
--- as many measures as the voice with most of them has of its own
+-- as many measures as the voice with the most has of its own
 abbrev pub own_measures : ReadVoice → ℕ
 own_measures v = measures_begun (reverse v.steps)
 
 abbrev pub most_measures : List ReadVoice → ℕ
 most_measures voices = fold max 0 (map own_measures voices)
 
--- line breaks in the first voice force its bars; `flow` asks that none is forced
+-- line breaks in the first voice force its bars; with `flow` none is forced
 abbrev pub forced_in : List ReadVoice → ℕ → List ℕ
 forced_in [] n = []
 forced_in (v ∷ voices) n = forced_bars v.steps n

@@ -1,4 +1,4 @@
--- The voices of a body as they are read: each with what it begins with, and its steps.
+-- The voices of a body as read: each with what it begins with, and its steps.
 use Rattle.std.specs.{Prelude.{◌≢◌, ⊤, ℕ, ◌≤◌, ◌^◌, List, [], ◌∷◌, map, length}, List.All}
 use Rattle.abc_fields.specs.declared.header.Header.{Header}
 use Rattle.abc_steps.specs.declared.step.BodyItem.{BodyItem}
@@ -20,7 +20,7 @@ voice_read header items start =
 abbrev pub voices_read : Header → List BodyItem → List ReadVoice
 voices_read header items = map (voice_read header items) (starts_of header items)
 
--- ids of which no two are the same
+-- ids no two of which are the same
 abbrev pub IsNoneOfIds : List ℕ → List (List ℕ) → Type 0
 IsNoneOfIds id [] = ⊤
 IsNoneOfIds id (other ∷ ids) = (id ≢ other) × IsNoneOfIds id ids
@@ -32,7 +32,7 @@ AreDistinctIds (id ∷ ids) = IsNoneOfIds id ids × AreDistinctIds ids
 abbrev pub read_ids : List ReadVoice → List (List ℕ)
 read_ids voices = map (λ (v : ReadVoice). v.start.id) voices
 
--- what the walks along a voice ask of it
+-- what the walks along a voice require
 pub record IsGoodRead (v : ReadVoice) : Type 0 where
   pub few : length v.steps ≤ 2 ^ 30
   pub first : IsGoodForce v.first

@@ -21,7 +21,7 @@ use abc_steps::BodyItem;
 use mus_score::Score;
 use std::alloc::Global;
 
-/// The score of a body that is read, or its first fault.
+/// Returns the score of a body that has been read, or its first fault.
 fn score_in(
     alloc: Global,
     header: &Header,
@@ -45,8 +45,8 @@ fn score_in(
     }
 }
 
-/// The score of a tune under its header, or the first fault of its body, and where
-/// the body has none, of its score. With `flow` no bar is forced.
+/// Returns the score of a tune under its header. If its body has a fault, returns the first one, or else the first
+/// fault of its score. With `flow` no bar is forced.
 pub fn build(
     alloc: Global,
     header: &Header,

@@ -14,14 +14,14 @@ use abc_words::verse_fault;
 use mus_units::{Memory, Row};
 use std::alloc::Global;
 
-/// Voices that are judged, and their first fault.
+/// Judged voices, and their first fault.
 #[derive(Drop)]
 pub struct JudgedVoices {
     pub fault: Option<Fault>,
     pub voices: Row<JudgedVoice>,
 }
 
-/// The first fault of a voice by itself and of its verses, and its signs. Puts enough of its weights.
+/// Returns the first fault of a voice by itself and of its verses, and its tree items. Adds enough of its weights.
 fn voice_fault(
     alloc: Global,
     weights: &mut Row<Weight>,
@@ -40,7 +40,8 @@ fn voice_fault(
     Ok((earlier(own, verses), kept))
 }
 
-/// The first fault of voices by themselves and of their verses, and the voices with it. Puts enough of their weights.
+/// Returns the first fault of voices by themselves and of their verses, with the voices. Adds enough of their
+/// weights.
 fn judge_voices(
     alloc: Global,
     weights: &mut Row<Weight>,
@@ -69,8 +70,9 @@ fn judge_voices(
     })
 }
 
-/// The first fault of a score: of its voices, of their verses, or the place with which there are too many
-/// heads and rests; and the voices, judged. `unnamed` is the voice of what stands before any voice field.
+/// Returns the first fault of a score, with the judged voices. It is a fault of its voices or of their verses, or at
+/// the place where the number of heads and rests becomes too large. `unnamed` is the voice of the music before any
+/// voice field.
 pub fn fault_of_score(
     alloc: Global,
     unnamed: &[u8],

@@ -22,13 +22,13 @@ use abc_steps::{PlacedStep, Step};
 use mus_units::{Few, Memory, Row, Value};
 use std::alloc::Global;
 
-/// How many signs of a voice are kept at most; those of a longer one are read again.
+/// The greatest number of tree items kept for a voice; those of a longer one are read again.
 const MOST_KEPT: usize = 50_000;
 
-/// How many heads and rests a tune has at most.
+/// The greatest number of heads and rests that a tune may have.
 const MOST_HEADS: usize = 50_000;
 
-/// The signs of a voice and how many measures it has, where `whole` is true.
+/// The tree items of a voice and the number of its measures, if `whole` is true.
 #[derive(Drop)]
 pub struct VoiceItems {
     pub signs: Row<TreeItem>,
@@ -36,14 +36,14 @@ pub struct VoiceItems {
     pub whole: bool,
 }
 
-/// A voice that is judged: as it is read, and its signs.
+/// A judged voice: the voice as read, and its tree items.
 #[derive(Drop)]
 pub struct JudgedVoice {
     pub read: ReadVoice,
     pub kept: VoiceItems,
 }
 
-/// Keeps the signs of a step. With too many before it none is kept any more.
+/// Keeps the tree items of a step. If there are too many before it, none are kept any more.
 #[inline(always)]
 fn keep(
     alloc: Global,
@@ -77,7 +77,7 @@ fn keep(
     put_signs(alloc, &mut kept.signs, now, before, at, parts, behind)
 }
 
-/// No signs, as of a voice that isn't judged to its end.
+/// Returns no tree items, for a voice that isn't judged to its end.
 fn none_kept(alloc: Global) -> VoiceItems
     ensures { result.whole ≡ false }
 {
@@ -89,14 +89,14 @@ fn none_kept(alloc: Global) -> VoiceItems
     }
 }
 
-/// Whether a place stands behind a step.
+/// Returns whether a place is after a step.
 fn is_behind(at: &PlacedStep, line: u32, column: u32) -> bool
     ensures { result ≡ is_below_or_tied at.now.line line (nat_lt at.now.column column) }
 {
     at.line < line || (at.line == line && at.column < column)
 }
 
-/// How many heads and rests stand up to a step.
+/// Returns the number of heads and rests up to a step.
 #[tactic(auto, unfolding(abc_faults::specs::Weights::stands_before))]
 fn count_up_to(weights: &[Weight], at: &PlacedStep) -> usize
     ensures { result ≤ crowd_up_to weights.now (weight_at 0 at.now) }
@@ -110,7 +110,7 @@ fn count_up_to(weights: &[Weight], at: &PlacedStep) -> usize
     count
 }
 
-/// Whether all these steps stand behind one.
+/// Returns whether all these steps are after one.
 #[tactic(auto, unfolding(abc_faults::specs::Weights::stands_before))]
 fn all_behind(at: &PlacedStep, behind: &[PlacedStep]) -> bool
     ensures { result ≡ list_all (λ (s : PlacedStep). stands_before (weight_at 0 at.now) (weight_at 0 s)) behind.now }
@@ -118,15 +118,16 @@ fn all_behind(at: &PlacedStep, behind: &[PlacedStep]) -> bool
     behind.iter().all(|s| is_behind(at, s.line, s.column))
 }
 
-/// Whether there are too many heads and rests with an event, and all steps that follow it stand behind it.
+/// Returns whether the number of heads and rests up to an event is too large, and all steps that follow it are placed
+/// after it.
 fn is_end(weights: &[Weight], at: &PlacedStep, behind: &[PlacedStep]) -> bool
     ensures { result ≡ true → IsCrowdedAt weights.now at.now behind.now }
 {
     is_event(&at.step) && count_up_to(weights, at) > MOST_HEADS && all_behind(at, behind)
 }
 
-/// Whether a step alone says nothing: it has no fault, weighs nothing, is no sign, and changes nothing of
-/// what holds at its place. Most steps that aren't events are such ones.
+/// Returns whether a step has no effect by itself: it has no fault, no weight and no tree item, and changes nothing
+/// in the state. Most steps that aren't events have none.
 #[tactic(auto, unfolding(crate::specs::Judged::is_idle))]
 fn is_idle(s: &Step) -> bool
     ensures { result ≡ is_idle s.now }
@@ -146,8 +147,8 @@ fn is_idle(s: &Step) -> bool
     )
 }
 
-/// The first fault of a voice by itself and its signs. Puts its weights. Where these are many, what
-/// follows an event with which there are too many is left out: it has no first fault.
+/// Returns the first fault of a voice by itself, and its tree items. Adds its weights. If there are many, stops at an
+/// event with which there are too many: what follows it does not have the first fault.
 pub(crate) fn judge_voice(
     alloc: Global,
     weights: &mut Row<Weight>,
@@ -194,7 +195,7 @@ pub(crate) fn judge_voice(
     Ok((found, kept))
 }
 
-/// The signs of a voice that is judged: those that were kept, where none is lacking.
+/// Returns the tree items of a judged voice: those that were kept, if none is missing.
 pub(crate) fn signs_of_voice(
     alloc: Global,
     v: &ReadVoice,

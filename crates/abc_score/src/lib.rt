@@ -1,5 +1,5 @@
-//! The score of a tune: its body read into voices, and each voice into measures,
-//! or the first fault of the body or of the score.
+//! The score of a tune: its body read into voices, and each voice into measures, or the first fault of the body or of
+//! the score.
 #![tactic(auto)]
 
 pub mod building;

@@ -23,7 +23,7 @@ use mus_units::{Bar, Memory, Row, Text};
 use std::alloc::Global;
 use std::cmp::max;
 
-/// The words of each written event of a voice of these signs, but no rows where it has no verses.
+/// Returns the words of each written event of a voice with these tree items, or no lists if it has no verses.
 #[tactic(auto, using(crate::proofs::Wholes::leaves_unsung))]
 fn words_where_sung(
     alloc: Global,
@@ -43,7 +43,7 @@ fn words_where_sung(
     sung_words(alloc, v.start.id.as_slice(), unnamed, items, signs)
 }
 
-/// The measures of a voice, one for each bar.
+/// Returns the measures of a voice, one for each bar.
 #[tactic(auto, unfolding(crate::specs::Score::written_measures))]
 fn written_measures(
     alloc: Global,
@@ -66,7 +66,7 @@ fn written_measures(
     Ok(measures)
 }
 
-/// A voice with `n` measures.
+/// Returns a voice with `n` measures.
 #[tactic(auto, unfolding(crate::specs::Score::voice_by_header))]
 fn voice_by_header(
     alloc: Global,
@@ -121,7 +121,7 @@ fn voices_with(
     Ok(out)
 }
 
-/// How many measures a voice has, which is told where its signs are.
+/// Returns the number of measures of a voice, which is stored if its tree items were kept.
 fn measures_in(judged: &JudgedVoice) -> u64
     requires good { IsGoodRead judged.now.read }
     requires kept { HasKept judged.now }
@@ -134,7 +134,7 @@ fn measures_in(judged: &JudgedVoice) -> u64
     }
 }
 
-/// How many measures the voice with most of them has.
+/// Returns the number of measures of the voice with the most.
 fn most_measures(voices: &[JudgedVoice]) -> u64
     requires good { All (λ (j : JudgedVoice). IsGoodRead j.read) voices.now }
     requires kept { All HasKept voices.now }
@@ -147,7 +147,7 @@ fn most_measures(voices: &[JudgedVoice]) -> u64
     most
 }
 
-/// The bars that line breaks in the first voice force. Fewer than two measures have none.
+/// Returns the bars that line breaks in the first voice force. Fewer than two measures have none.
 #[tactic(auto, using(crate::proofs::Forced::none_forced))]
 fn forced_of(alloc: Global, flow: bool, voices: &[JudgedVoice], n: u32) -> Result<Row<u32>, Memory>
     requires { All (λ (j : JudgedVoice). IsGoodRead j.read) voices.now }
@@ -162,7 +162,7 @@ fn forced_of(alloc: Global, flow: bool, voices: &[JudgedVoice], n: u32) -> Resul
     }
 }
 
-/// The score of these voices, none of which has a fault.
+/// Returns the score of these voices, none of which has a fault.
 #[tactic(auto, unfolding(crate::specs::Score::score_with))]
 pub fn score_with(
     alloc: Global,

@@ -8,14 +8,14 @@ use abc_words::{SungNote, words_of_events};
 use mus_units::{Memory, Row, Text};
 use std::alloc::Global;
 
-/// The notes of a voice so far, and how many written events.
+/// The notes of a voice so far, and the number of written events.
 #[derive(Drop)]
 pub struct Notes {
     pub events: u32,
     pub notes: Row<SungNote>,
 }
 
-/// Adds the note that a written event is, which has the number `event`, where it has heads.
+/// Adds the note of a written event, which has the number `event`, if it has heads.
 fn put_note(notes: &mut Row<SungNote>, event: u32, w: &WrittenEvent) -> Result<(), Memory>
     ensures { OnOk result (notes.new ≡ notes.old ++ note_if w.now.heads event w.now) }
 {
@@ -30,7 +30,7 @@ fn put_note(notes: &mut Row<SungNote>, event: u32, w: &WrittenEvent) -> Result<(
     })
 }
 
-/// Adds a sign.
+/// Adds a tree item.
 fn put_sign(at: &mut Notes, sign: &TreeItem) -> Result<(), Memory>
     ensures notes { OnOk result
         ((signs : List TreeItem)
@@ -49,7 +49,7 @@ fn put_sign(at: &mut Notes, sign: &TreeItem) -> Result<(), Memory>
     }
 }
 
-/// The notes of a voice of these signs, and how many written events it has.
+/// Returns the notes of a voice with these tree items, and the number of its written events.
 fn notes_of(alloc: Global, signs: &[TreeItem]) -> Result<Notes, Memory>
     ensures notes { IfOk result (λ at. at.notes ≡ sung_notes_from 0 signs.now) }
     ensures events { IfOk result (λ at. at.events ≡ event_count signs.now) }
@@ -64,7 +64,7 @@ fn notes_of(alloc: Global, signs: &[TreeItem]) -> Result<Notes, Memory>
     Ok(at)
 }
 
-/// The words of each written event of a voice of these signs.
+/// Returns the words of each written event of a voice with these tree items.
 #[tactic(auto, unfolding(crate::specs::Score::sung_words))]
 pub fn sung_words(
     alloc: Global,

@@ -9,11 +9,10 @@ use abc_steps::{BodyItem, InForce, PlacedStep};
 use mus_units::{Memory, Row};
 use std::alloc::Global;
 
-/// How many steps a voice has at most; a list of more takes over a hundred gigabytes.
+/// The greatest number of steps of a voice; a longer list takes over a hundred gigabytes.
 const MOST_STEPS: usize = 1_073_741_824;
 
-/// A voice as it is read: its id, first clef and way of stems, what is in force
-/// at its beginning, and its steps.
+/// A voice as read: its id, first clef and stem direction, what is in force at its beginning, and its steps.
 #[derive(Drop)]
 pub struct ReadVoice {
     pub start: VoiceStart,
@@ -21,7 +20,7 @@ pub struct ReadVoice {
     pub steps: Row<PlacedStep>,
 }
 
-/// What is in force at the beginning of a voice.
+/// Returns what is in force at the beginning of a voice.
 fn first_force(alloc: Global, header: &Header, start: &VoiceStart) -> Result<InForce, Memory>
     ensures { IfOk result (λ f. f ≡ first_force header.now start.now) }
 {
@@ -33,7 +32,7 @@ fn first_force(alloc: Global, header: &Header, start: &VoiceStart) -> Result<InF
     })
 }
 
-/// The same steps; where they are too many for the walks along them, want of memory.
+/// Returns the same steps. Errors: `Memory` if there are too many for the walks along them.
 fn held(steps: Row<PlacedStep>) -> Result<Row<PlacedStep>, Memory>
     ensures few { IfOk result (λ r. length r ≤ 2 ^ 30) }
     ensures same { IfOk result (λ r. r ≡ steps) }
@@ -65,7 +64,7 @@ fn read_voice(
     })
 }
 
-/// The voices that begin so, each with its steps.
+/// Returns the voices with these starts, each with its steps.
 fn read_each(
     alloc: Global,
     header: &Header,
@@ -84,7 +83,7 @@ fn read_each(
     Ok(voices)
 }
 
-/// The voices of a body in order of first mention, each with its steps.
+/// Returns the voices of a body in order of first mention, each with its steps.
 pub fn read_voices(
     alloc: Global,
     header: &Header,

@@ -1,4 +1,4 @@
--- The lines of a body have a first fault, or they are a body whose items are good.
+-- The lines of a body have a first fault, or else they are a body whose items are good.
 use Rattle.std.proofs.Common.{◌≡◌, refl, sym, subst, ℕ, ◌*◌, ◌^◌, ◌≤◌, ◌⊎◌, inl, inr, List, [], ◌∷◌, ◌++◌, length, Bool}
 use Rattle.std.proofs.Common.{true, false, All, Option, Some, None, flat_map, option_map, arith}
 use Rattle.std.proofs.lemmas.List.Elements.{All-nil, All-cons}
@@ -32,7 +32,7 @@ use Rattle.abc_items.specs.Body.{cut_given, item_of_token, placed_given, item_of
 use Rattle.abc_items.specs.Body.{no_lines, one_line, judged_items, first_item_fault, items_in, IsBody, HasFault}
 use Rattle.law_every_score.proofs.GoodFields.{GoodRead, field_good, named_good}
 
--- ---- what is given is good
+-- ---- the items given are good
 abbrev AreGood : List ItemOrFault → Type 0
 AreGood [] = ⊤
 AreGood (fails fault ∷ given) = AreGood given
@@ -105,7 +105,7 @@ end_good : (sets : Breaks) (line : Line) (fault : Option Fault) → AreGood (ite
 end_good sets line None = (tt, tt)
 end_good sets line (Some fault) = tt
 
--- ---- what lines give
+-- ---- the items of lines
 line_by : (sets : Breaks) (line : Line) (kind : LineKind)
     → (given : List ItemOrFault) × KindGives sets line kind given × AreGood given
 line_by sets line LineKind.Music =

@@ -1,4 +1,4 @@
--- Each field that a line or a music line has is good.
+-- Each field of a line or of a music line is good.
 use Rattle.std.proofs.Common.{ℕ, List, Bool, arith}
 use Rattle.std.proofs.lemmas.Bool.{cond_both}
 use Rattle.std.specs.Prelude.{◌==◌, if◌then◌else◌, codes, Option, Some, None, IfSome, Result, Ok, IfOk}
@@ -48,7 +48,7 @@ key_good : (text : List ℕ) → IfSome (key_of text) (λ k. IsGoodKeyText k)
 unfolding key_of
 key_good text = key_from_good (first_words (words_of text)).0 (key_words (first_words (words_of text)).1)
 
--- ---- what is read of a text
+-- ---- the result of reading a text
 abbrev pub GoodRead : Result Field FaultKind → Type 0
 GoodRead read = IfOk read (λ f. IsGoodField f)
 
@@ -68,7 +68,7 @@ voice_read : (o : Option VoiceDef) → GoodRead (voice_field o)
 voice_read None = tt
 voice_read (Some v) = tt
 
--- either of two that are good
+-- either of two good results
 either : {X : Type 0} (P : X → Type 0) (b : Bool) (x y : X) → P x → P y → P (if b then x else y)
 either P b x y one other = cond_both b x y P (λ e. one) (λ e. other)
 

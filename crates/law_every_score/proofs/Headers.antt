@@ -43,7 +43,7 @@ fields_good : (lines : List Line) → AreGoodFields (fields_of lines)
 fields_good [] = tt
 fields_good (line ∷ lines) = put_good (field_of line.text) (fields_of lines) (field_good line.text) (fields_good lines)
 
--- ---- where no line is at fault, at most 16 voices are mentioned
+-- ---- if no line is at fault, at most 16 voices are mentioned
 few_if : (n : ℕ) (fault : Fault) (others : Option Fault) (past : Bool)
     → nat_lt 16 n ≡ past → option_or (if past then Some fault else None) others ≡ None → (n ≤ 16) × (others ≡ None)
 few_if n fault others true e none = absurd cc
@@ -66,7 +66,7 @@ few_ids : (lines : List Line) (ids : List (List ℕ))
 few_ids [] ids few none = few
 few_ids (line ∷ lines) ids few none = few_after ids line lines (field_of line.text) none (few_ids lines)
 
--- ---- what counts of good fields is good
+-- ---- the values of good fields are good
 no_signs : AreGoodSigns []
 no_signs letter = omega arith
 
@@ -106,7 +106,7 @@ values_good fs defaults staves body all good few = record {
   distinct = voices-distinct fs;
 }
 
--- ---- the header, where its `K:` stands
+-- ---- the header, by the place of its `K:`
 abbrev HasHeader : TuneText → Defaults → Option ℕ → Type 0
 HasHeader tune defaults place =
     ((f : Fault) × (fault_by tune place ≡ Some f))

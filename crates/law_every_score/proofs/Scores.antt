@@ -26,7 +26,7 @@ module _ (h : Header) (tune : TuneText) (flow : Bool) (good : HasGoodValues h) w
   HasScore =
       ((f : Fault) × IsFaultOf h tune (TuneError.Fault f)) ⊎ ((s : Score) × IsScoreOf h tune flow s × IsGoodScore s)
 
-  -- the score of a body without fault, by its first fault
+  -- the score of a body without a fault, by its first fault
   score_by : (items : List BodyItem)
       → IsBody h (body_lines h tune) items → All IsGoodItem items → (o : Option Fault)
       → IsFirstInOrder (score_faults h items) o

@@ -1,4 +1,4 @@
--- Every text of a tune is read: its header, and under it its score, are there or have a first fault.
+-- Every text of a tune is read: its header, and under it its score, either exists or has a first fault.
 use Rattle.std.specs.Prelude.{◌≡◌, ◌⊎◌, Bool, Some, None}
 use Rattle.abc_lines.specs.declared.{book.TuneText.TuneText, fault.{Fault.Fault, TuneError.TuneError}}
 use Rattle.abc_fields.specs.declared.defaults.Defaults.{Defaults}

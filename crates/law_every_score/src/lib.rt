@@ -1,7 +1,7 @@
 //! The law of reading: every text of a tune has a header and a score, or a first fault.
 //!
-//! What calls answer is right where they answer. This says that there is an answer for every text,
-//! whatever memory there is: all that is asked of a header or of a score can be met.
+//! A call returns the right result whenever it returns one. The law says that every text has a result, regardless of
+//! memory: all requirements on a header or a score can be met.
 #![tactic(auto)]
 
 pub mod law;

@@ -12,7 +12,7 @@ use Rattle.abc_score.specs.Faults.{voice_faults, voice_weights}
 use Rattle.abc_score.specs.declared.keeping.JudgedVoice.{JudgedVoice}
 use Rattle.abc_score.proofs.faults.judge_voices.Goals as goal
 
--- by equal faults, weights and a fault that is found
+-- from equal faults, weights and a found fault
 judged_of : {faults more : List Fault} {all ws : List Weight} {found next : Option Fault} {old new : List Weight}
     → more ≡ faults → ws ≡ all
     → next ≡ found → AreJudged faults all found old new → AreJudged more ws next old new
