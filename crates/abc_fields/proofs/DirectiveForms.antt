@@ -21,7 +21,7 @@ use Rattle.abc_fields.specs.Defaults.{rest_if, said_by}
 use Rattle.abc_fields.specs.DirectiveSpelling.{Lead, percents, instruction, lead_spelled, BeginsBare, HasBareEnds}
 use Rattle.abc_fields.specs.DirectiveSpelling.{IsDirective}
 
--- A text between blanks that has none at its own ends stays when they are trimmed.
+-- Trimming removes exactly the blanks around a text that has none at its own ends.
 bare-stops : (s : List ℕ) → BeginsBare s → Stops is_blank s
 bare-stops [] bare = tt
 bare-stops (b ∷ s) bare = not-true (is_blank b) bare

@@ -1,4 +1,4 @@
--- Measures: how many groups of bars and whole measure rests are before a place of a voice.
+-- Measures: how many bars and whole measure rests are before a place of a voice.
 use Rattle.std.specs.Prelude.{ℕ, ◌+◌, ◌-◌, [], ◌∷◌, Bool, true, false, if◌then◌else◌}
 use Rattle.abc_steps.specs.declared.step.Step.{Step}
 use Rattle.abc_steps.specs.declared.counts.Nearest.{Nearest}

@@ -5,7 +5,7 @@ ghost use Rattle.abc_steps.specs.Tuplets.{open_tuplets_after, is_compound, usual
 use crate::step::Step;
 use mus_units::Meter;
 
-/// How many more events the open tuplets take: none is open, one is, or one inside another.
+/// The open tuplets, by how many more events each takes: none is open, one is, or one inside another.
 #[derive(Clone, Copy, PartialEq, Eq)]
 pub enum OpenTuplets {
     Nothing,

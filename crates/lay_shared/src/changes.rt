@@ -1,4 +1,4 @@
-//! What the voices of one staff must have in common.
+//! The changes of a voice, which voices of one staff must have in common.
 
 ghost use Rattle.std.specs.Prelude.{◌≡◌, ◌≤◌, ◌*◌, ◌++◌, All, length, IfOk, OnOk};
 ghost use Rattle.mus_score.specs.Good.{IsGoodBody, longest_ticks, total_ticks};

@@ -14,7 +14,7 @@ pub struct NodeContext {
     pub grace: bool,
 }
 
-/// Whether a node is good in its context, and whether it has an event that is not a grace.
+/// The verdict on a node: whether it is good in its context, and whether it has an event that is not a grace.
 #[derive(Clone, Copy, PartialEq, Eq)]
 pub struct NodeVerdict {
     pub good: bool,
