@@ -1,4 +1,4 @@
--- The arcs that are found from the last event back are those of the rule.
+-- The arcs that are found from the last event back are those that the rule pairs.
 use Rattle.std.proofs.Common.{◌≡◌, ◌<◌, ℕ, suc, ◌+◌, ◌-◌, List, [], ◌∷◌, ◌++◌, drop, append_assoc, refl, sym, ◌∙◌, ap}
 use Rattle.std.proofs.Common.{arith, add-one}
 use Rattle.mus_arcs.specs.declared.pairing.Arc.{Arc}

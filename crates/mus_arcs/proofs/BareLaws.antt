@@ -1,4 +1,4 @@
--- Where no slur and no tie begins at the events of a voice, it has no arcs.
+-- If no slur and no tie begins at the events of a voice, the voice has no arcs.
 use Rattle.std.proofs.Common.{◌≡◌, ℕ, suc, List, [], ◌∷◌, Bool, true, false, not, ◌&&◌, ◌==◌, map, refl, sym, ◌∙◌, ap}
 use Rattle.std.proofs.Common.{subst, arith}
 use Rattle.std.proofs.lemmas.Bool.{and_parts, eqb-true, false≢true}

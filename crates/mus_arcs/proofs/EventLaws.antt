@@ -27,7 +27,7 @@ in_row-events (e ∷ ms) qs ps w =
     ∙ ap (λ x. x ++ map (λ f. f.event) others.flats) (e.1 qs ps w)
     ∙ ap (λ x. events_within e.0 ++ x) (in_row-events ms qs ps first.waits)
 
--- a layer, by its nodes and what is known of them
+-- a layer, given its nodes and what is known of them
 layer : (y : Music-F ((m : Music) × Agrees m)) (qs ps : ℕ) (w : PendingLeaf)
     → let nodes = map-Music ((m : Music) × Agrees m) Music (λ e. e.0) y in
     map (λ f. f.event) (leaves_step (map-Music Music Leafing leaves_within nodes) qs ps w).flats

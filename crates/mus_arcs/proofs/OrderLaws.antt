@@ -1,4 +1,4 @@
--- The arcs that are found from the last event back are in order, where the ids of the events rise.
+-- The arcs that are found from the last event back are in order if the ids of the events rise.
 use Rattle.std.proofs.Common.{◌≡◌, ◌<◌, ◌≤◌, ℕ, zero, suc, List, [], ◌∷◌, ◌++◌, map, true, false, ◌==◌, ◌&&◌, drop}
 use Rattle.std.proofs.Common.{get_or, reverse, sym, ◌∙◌, subst, arith}
 use Rattle.std.proofs.lemmas.List.{reverse-append}

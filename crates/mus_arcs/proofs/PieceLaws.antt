@@ -1,4 +1,4 @@
--- A system has a piece of an arc where they share a measure.
+-- A system has a piece of an arc if they share a measure.
 use Rattle.std.proofs.Common.{◌≤◌, ◌<◌, ℕ, ◌↔◌, inl, inr, arith}
 use Rattle.std.proofs.lemmas.Bool.{cases_lt}
 use Rattle.mus_arcs.specs.{declared.pairing.Arc.Arc, Pieces.HasPiece, Pieces.Touches}

@@ -1,4 +1,4 @@
--- The slurs that are found from the last event back are those that the rule pairs, and the ties are among them.
+-- The slurs that are found from the last event back are those that the rule pairs, and the ties are found with them.
 use Rattle.std.proofs.Common.{◌≡◌, ◌≤◌, ℕ, zero, suc, List, [], ◌∷◌, ◌++◌, Bool, true, false, not, ◌==◌, ◌&&◌, length}
 use Rattle.std.proofs.Common.{drop, reverse, append_assoc, append-nil, refl, sym, ◌∙◌, ap, subst, arith}
 use Rattle.std.proofs.lemmas.List.Sorted.{All-permutation, IsPermutation-refl, IsPermutation-trans}
@@ -21,7 +21,7 @@ length-copies : (n : ℕ) (at : SlurEnd) → length (slur_copies n at) ≡ n
 length-copies zero at = refl
 length-copies (suc n) at = ap suc (length-copies n at)
 
--- pairs in order, cut among the starts and cut among the ends
+-- pairs in order, with the starts and the ends split
 slurs-starts : (starts more ends : List SlurEnd)
     → slurs (starts ++ more) ends ≡ slurs starts ends ++ slurs more (drop (length starts) ends)
 slurs-starts [] more ends = refl
@@ -38,7 +38,7 @@ slurs-ends (start ∷ starts) (end ∷ ends) more =
     ap (λ x. slur start end ++ x) (slurs-ends starts ends more)
     ∙ sym (append_assoc (slur start end) (slurs starts ends) (slurs (drop (length ends) starts) more))
 
--- the middle one of three parts goes to the front
+-- the middle one of three parts moves to the front
 to_front : (xs ys zs : List Arc) → IsPermutation (xs ++ (ys ++ zs)) (ys ++ (xs ++ zs))
 to_front xs ys zs =
     subst (λ l. IsPermutation l (ys ++ (xs ++ zs))) (append_assoc xs ys zs)
@@ -49,7 +49,7 @@ slurs_of : List ArcEvent → List Arc
 slurs_of [] = []
 slurs_of (e ∷ events) = slurs_at e events ++ slurs_of events
 
--- one event: what its ends take and what its starts take are the same pairs
+-- one event: its ends and its starts take the same pairs
 around_event : (b n : ℕ) (at : SlurEnd) (starts ends : List SlurEnd)
     → slurs (slur_copies b at ++ starts) (slur_copies n at) ++ slurs (drop n (slur_copies b at ++ starts)) ends
     ≡ slurs (slur_copies b at) (slur_copies n at ++ ends) ++ slurs starts (drop b (slur_copies n at ++ ends))

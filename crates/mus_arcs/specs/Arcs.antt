@@ -24,14 +24,14 @@ slur start end =
     else record { tie = false; first = start.event; last = end.event; head = 0; from = start.measure; to = end.measure }
     ∷ []
 
--- starts and ends that pair in their order, until one of them has no more
+-- starts and ends paired in order, until one of the lists is used up
 abbrev pub slurs : List SlurEnd → List SlurEnd → List Arc
 slurs [] ends = []
 slurs (start ∷ starts) [] = []
 slurs (start ∷ starts) (end ∷ ends) = slur start end ++ slurs starts ends
 
--- Slurs by the rule: in the order of events, at one event the starts first, each end takes the
--- last start that is not taken. `starts` are those not taken before these events, the last first.
+-- Slurs by the rule: in the order of events, at one event the starts first, each end takes the last start that is not
+-- taken. `starts` are the starts that are not taken before these events, the last first.
 abbrev pub slurs_by_ends : List SlurEnd → List ArcEvent → List Arc
 slurs_by_ends starts [] = []
 slurs_by_ends starts (e ∷ events) =
@@ -41,7 +41,7 @@ slurs_by_ends starts (e ∷ events) =
 abbrev pub has_pitch : Pitch → Head → Bool
 has_pitch p head = same_letter head.pitch.letter p.letter && int_eq head.pitch.octave p.octave
 
--- a tie goes from a tied head, at this place in its event, to the next event where that has its pitch
+-- a tie goes from a tied head, at this place in its event, to the next event if that has a head of its pitch
 abbrev pub tie : ArcEvent → ℕ → Head → ArcEvent → List Arc
 tie e place head next =
     if head.tied && list_any (has_pitch head.pitch) next.heads
@@ -49,7 +49,7 @@ tie e place head next =
     ∷ []
     else []
 
--- the ties of heads, of which the first has this place
+-- the ties of heads; the first head has this place
 abbrev pub ties_from : ArcEvent → ℕ → List Head → ArcEvent → List Arc
 ties_from e place [] next = []
 ties_from e place (head ∷ heads) next = tie e place head next ++ ties_from e (suc place) heads next
@@ -62,8 +62,8 @@ abbrev pub ties_of : List ArcEvent → List Arc
 ties_of [] = []
 ties_of (e ∷ events) = ties_at e events ++ ties_of events
 
--- of two arcs that begin at one event, a slur comes before a tie, a slur that ends later before
--- one that ends earlier, and a tie of an earlier head before one of a later
+-- of two arcs that begin at one event, a slur comes before a tie, a slur that ends later before one that ends
+-- earlier, and a tie of an earlier head before one of a later head
 abbrev pub ComesFirst : Arc → Arc → Type 0
 ComesFirst a b = MatchBool a.tie (IsTrue b.tie × (a.head < b.head)) (MatchBool b.tie (Unit {0}) (b.last ≤ a.last))
 
@@ -81,9 +81,9 @@ pub record AreArcsOf (events : List ArcEvent) (arcs : List Arc) : Type 0 where
   pub ties_are : filter (λ a. a.tie) arcs ≡ ties_of events
   pub in_order : AreOrdered arcs
 
--- ---- one list of arcs, between their definition and the code: from the last event back
+-- ---- one list of arcs, found from the last event back; it links the definition to the code
 
--- the ends that no start at these events or between takes, the first of them first
+-- the ends that no start at these events or between takes, the first end first
 abbrev pub open_ends : List ArcEvent → List SlurEnd
 open_ends [] = []
 open_ends (e ∷ events) = drop e.begins (slur_copies e.ends (spot e) ++ open_ends events)

@@ -16,7 +16,7 @@ at_measure measure e = record { event = e.id; measure = measure; begins = e.begi
 abbrev pub body_events : List Music → List Event
 body_events body = map (λ f. f.event) (flats_of body)
 
--- the events of measures, of which the first has this number
+-- the events of measures; the first measure has this number
 abbrev pub events_from : ℕ → List Measure → List ArcEvent
 events_from number [] = []
 events_from number (measure ∷ measures) =
@@ -25,7 +25,7 @@ events_from number (measure ∷ measures) =
 abbrev pub events_of_voice : Voice → List ArcEvent
 events_of_voice v = events_from 0 v.measures
 
--- ---- the events of a body by a walk over its nodes, between their definition and the code
+-- ---- the events of a body by a walk over its nodes; it links the definition to the code
 abbrev pub join : List (List Event) → List Event
 join [] = []
 join (es ∷ more) = es ++ join more

@@ -14,7 +14,7 @@ pub record Touches (arc : Arc) (a b : ℕ) : Type 0 where
   pub behind : arc.from ≤ measure
   pub before : measure ≤ arc.to
 
--- the piece there, cut at the left where the arc begins before the system, and at the right where it ends behind it
+-- the piece there, cut at the left if the arc begins before the system, and at the right if it ends after it
 unfoldable pub piece_of : Arc → ℕ → ℕ → Option Piece
 piece_of arc a b =
     if nat_lt arc.from b && nat_le a arc.to

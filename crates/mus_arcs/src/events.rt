@@ -8,7 +8,7 @@ use mus_score::{Event, Head, Measure, Music, Voice};
 use mus_units::{Few, Memory, Row};
 use std::alloc::Global;
 
-/// What arcs ask of an event: its id and its measure, how many slurs begin and end there, and its heads.
+/// What arcs need of an event: its id, its measure, how many slurs begin and end there, and its heads.
 #[derive(Drop)]
 pub struct ArcEvent {
     pub event: u32,
@@ -18,7 +18,7 @@ pub struct ArcEvent {
     pub heads: Few<Head>,
 }
 
-/// The events of a voice, graces aside, each with its measure.
+/// Returns the events of a voice, graces aside, each with its measure.
 pub(crate) fn events_of_voice(alloc: Global, v: &Voice) -> Result<Row<ArcEvent>, Memory>
     requires { IsGoodVoice v.now }
     ensures events { IfOk result (λ events. events ≡ events_of_voice v.now) }
@@ -99,14 +99,14 @@ fn are_untied(heads: &[Head]) -> bool
     heads.iter().all(|head| !head.tied)
 }
 
-/// Whether neither a slur nor a tie begins at an event.
+/// Returns whether neither a slur nor a tie begins at an event.
 fn is_bare_event(e: &Event) -> bool
     ensures { result ≡ is_bare_event e.now }
 {
     e.begins == 0 && are_untied(e.heads.as_slice())
 }
 
-/// Whether a node is an event at which no arc begins.
+/// Returns whether a node is an event at which no arc begins.
 fn is_bare_music(m: &Music) -> bool
     ensures { result ≡ is_bare_music m.now }
 {
@@ -123,7 +123,7 @@ fn is_bare_body(body: &[Music]) -> bool
     body.iter().all(|m| is_bare_music(m))
 }
 
-/// Whether all nodes of measures are events at which no arc begins. Takes no memory.
+/// Returns whether all nodes of measures are events at which no arc begins. Takes no memory.
 pub(crate) fn are_bare(measures: &[Measure]) -> bool
     ensures { result ≡ list_all (λ m. list_all is_bare_music m.body) measures.now }
 {

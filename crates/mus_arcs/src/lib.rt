@@ -1,7 +1,7 @@
 //! Arcs: the slurs and ties of a voice, and their pieces in a system.
 //!
-//! A slur goes from a start to the end that it pairs with, and a tie from a head to one of its
-//! pitch in the very next event. What a system's end cuts is drawn in a piece on each side.
+//! A slur goes from a start to the end that it pairs with, a tie from a head to one of the same pitch in the very
+//! next event. An arc that is cut by the end of a system is drawn in a piece on each side.
 #![tactic(auto)]
 
 pub mod cutting;

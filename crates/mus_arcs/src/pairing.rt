@@ -11,7 +11,7 @@ use mus_units::{Memory, Pitch, Row};
 use std::alloc::Global;
 
 /// A slur or a tie from the event `first` of the measure `from` to the event `last` of the measure `to`.
-/// `head` is the place of a tie's head in its first event, and 0 for a slur.
+/// `head` is the place of the tied head in its first event, and 0 for a slur.
 #[derive(Clone, Copy, PartialEq, Eq)]
 pub struct Arc {
     pub tie: bool,
@@ -22,19 +22,19 @@ pub struct Arc {
     pub to: u32,
 }
 
-/// Where a slur begins or ends: an event and its measure.
+/// The event at which a slur begins or ends, and its measure.
 #[derive(Clone, Copy, PartialEq, Eq)]
 pub struct SlurEnd {
     pub event: u32,
     pub measure: u32,
 }
 
-/// The slurs and ties of a voice, by their first event; at one event slurs before
-/// ties, the outer slur first, ties by head.
+/// Returns the slurs and ties of a voice by their first event. At one event slurs come before ties: slurs from the
+/// outermost inwards, ties by head.
 ///
-/// Each end of a slur pairs with the last unpaired start, at one event the starts first; a pair on
-/// one event and what has no partner is no arc. A tied head pairs with one of its letter and octave
-/// in the very next event of the voice, graces aside.
+/// Each end of a slur pairs with the last unpaired start; at one event the starts come first. A pair on one event is
+/// no arc, nor is a start or an end without a partner. A tied head pairs with one of its letter and octave in the
+/// very next event of the voice, graces aside.
 #[tactic(auto, using(crate::proofs::BareLaws::no_arcs, crate::proofs::BareLaws::are_arcs))]
 pub fn arcs(alloc: Global, v: &Voice) -> Result<Row<Arc>, Memory>
     requires { IsGoodVoice v.now }
@@ -48,7 +48,7 @@ pub fn arcs(alloc: Global, v: &Voice) -> Result<Row<Arc>, Memory>
     arcs_among(alloc, events.as_slice())
 }
 
-/// The arcs of events, found from the last event back.
+/// Returns the arcs of events, found from the last event back.
 fn arcs_among(alloc: Global, events: &[ArcEvent]) -> Result<Row<Arc>, Memory>
     requires { All (λ e. length e.heads ≤ 50000) events.now }
     ensures { IfOk result (λ arcs. arcs ≡ arcs_of events.now) }
@@ -62,8 +62,8 @@ fn arcs_among(alloc: Global, events: &[ArcEvent]) -> Result<Row<Arc>, Memory>
     Ok(Row { items: backwards })
 }
 
-/// Adds the arcs that begin at an event, the last of them first. The ends that
-/// none of the events behind takes come in, and those that are left go out.
+/// Adds the arcs that begin at an event, the last arc first. On entry `ends` holds the slur ends that no later event
+/// takes, on return those that are left.
 fn put_arcs(
     event: &ArcEvent,
     behind: &[ArcEvent],
@@ -93,7 +93,7 @@ fn spot_of(event: &ArcEvent) -> SlurEnd
     }
 }
 
-/// Adds the ends of slurs at one event.
+/// Adds the slur ends at one event.
 fn put_ends(at: SlurEnd, count: u32, ends: &mut Vec<SlurEnd>) -> Result<(), Memory>
     ensures { OnOk result (reverse ends.new.items ≡ slur_copies count at ++ reverse ends.old.items) }
 {
@@ -103,8 +103,7 @@ fn put_ends(at: SlurEnd, count: u32, ends: &mut Vec<SlurEnd>) -> Result<(), Memo
     Ok(())
 }
 
-/// Adds the slurs that begin at one event, the inner first: each start takes the
-/// end that was added last.
+/// Adds the slurs that begin at one event, the inner first: each start takes the end that was added last.
 fn put_slurs(
     start: SlurEnd,
     count: u32,
@@ -124,7 +123,7 @@ fn put_slurs(
     Ok(())
 }
 
-/// Adds a slur, where it doesn't end at the event at which it begins.
+/// Adds a slur unless it ends at the event at which it begins.
 fn put_slur(start: SlurEnd, end: SlurEnd, backwards: &mut Vec<Arc>) -> Result<(), Memory>
     ensures { OnOk result (backwards.new.items ≡ backwards.old.items ++ slur start end) }
 {
@@ -141,7 +140,7 @@ fn put_slur(start: SlurEnd, end: SlurEnd, backwards: &mut Vec<Arc>) -> Result<()
     Ok(())
 }
 
-/// Adds the ties from an event to the one behind it, that of the last head first.
+/// Adds the ties from an event to the next one, that of the last head first.
 fn put_ties(event: &ArcEvent, behind: &[ArcEvent], backwards: &mut Vec<Arc>) -> Result<(), Memory>
     requires { length event.now.heads ≤ 50000 }
     ensures { OnOk result (backwards.new.items ≡ backwards.old.items ++ reverse (ties_at event.now behind.now)) }
@@ -166,7 +165,7 @@ fn put_ties(event: &ArcEvent, behind: &[ArcEvent], backwards: &mut Vec<Arc>) -> 
     Ok(())
 }
 
-/// Whether one of the heads has this letter and octave.
+/// Returns whether one of the heads has this letter and octave.
 fn has_pitch(p: Pitch, heads: &[Head]) -> bool
     ensures { result ≡ list_any (has_pitch p) heads.now }
 {

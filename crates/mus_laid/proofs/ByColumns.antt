@@ -1,4 +1,4 @@
--- Marks that are put into their columns one by one stand there part by part.
+-- Marks that are added to their columns one by one end up there part by part.
 use Rattle.std.proofs.Common.{◌≡◌, ◌∙◌, ℕ, zero, suc, ◌+◌, ◌<◌, ◌≤◌, cond, Bool, true, false, List, [], ◌∷◌, ◌++◌}
 use Rattle.std.proofs.Common.{length, get_or, set, map, Some, None, refl, sym, ap, append_assoc, arith}
 use Rattle.std.proofs.lemmas.Bool.Decides.{nat_tests}
@@ -62,7 +62,7 @@ put_far q x columns is far = sym (short 0 q x columns is (omega (arith, far)))
 pub put_nowhere : (x : Laid) (columns : List (List Laid)) → anchor_rank x.mark ≡ None → columns ≡ with_mark 0 x columns
 put_nowhere x columns is = sym (nowhere 0 x columns (λ k. ap (is_rank (0 + k)) is))
 
--- ---- columns with nothing in them
+-- ---- empty columns
 pub empty_more : (columns new : List (List Laid)) (i : ℕ)
     → columns ≡ map (at_rank []) (range_with_len 0 i) → new ≡ columns ++ [] ∷ []
     → new ≡ map (at_rank []) (range_with_len 0 (i + 1))

@@ -1,5 +1,5 @@
--- The boxes that marks fill: from the least to the greatest height, and from the left to the right
--- of the column. Stems, beams and arcs have heights alone.
+-- The boxes that marks fill: from the least to the greatest height, and from the left to the right of the column.
+-- Stems, beams and arcs have heights only.
 use Rattle.std.specs.Prelude.{ℕ, ℤ, pos, negsuc, ◌*◌, ◌≤◌, ◌+ℤ◌, ⊤, List, [], ◌∷◌, length, Option, Some, None}
 use Rattle.std.specs.Int.{int_min, int_max}
 use Rattle.std.specs.List.{AllByRecursion}
@@ -35,7 +35,7 @@ text_high Size.Big = pos 1280
 abbrev pub heights : ℤ → ℤ → HeightRange
 heights low high = record { low = low; high = high }
 
--- a glyph reaches over the points of its path, moved by its height
+-- a glyph covers the points of its path, moved by its height
 unfoldable pub glyph_heights : Glyph → ℤ → HeightRange
 glyph_heights glyph dy = heights (dy +ℤ (bounds_in glyph).low) (dy +ℤ (bounds_in glyph).high)
 
@@ -64,7 +64,7 @@ heights_of (Mark.Stem rank dx from to) = stem_heights from to
 heights_of (Mark.Beam way first last from to) = beam_heights from to
 heights_of (Mark.Arc first last from to bulge) = arc_heights from to bulge
 
--- from the column, where the mark stands at one
+-- from the column that holds the mark
 unfoldable pub glyph_sides : Glyph → ℤ → Sides
 glyph_sides glyph dx = record { left = dx +ℤ (bounds_in glyph).left; right = dx +ℤ (bounds_in glyph).right }
 

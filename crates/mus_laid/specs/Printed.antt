@@ -1,5 +1,4 @@
--- The text that is printed for a text: at most 60 characters of it, tabs as spaces,
--- and control characters as question marks.
+-- The printed form of a text: at most 60 of its characters, tabs as spaces, and control characters as question marks.
 use Rattle.std.specs.Prelude.{ℕ, ◌==◌, ◌||◌, ◌&&◌, nat_le, nat_lt, if◌then◌else◌, Bool, List, map, take}
 
 -- below 20 and from 7F to 9F, in hexadecimal
@@ -15,6 +14,6 @@ printed_within most text = map printed_byte (take most text)
 abbrev pub printed : List ℕ → List ℕ
 printed text = printed_within 60 text
 
--- what is printed has bytes that a page may show alone
+-- a printed text contains only bytes that a page may show
 abbrev pub is_printable : ℕ → Bool
 is_printable byte = (nat_le 32 byte && nat_lt byte 127) || nat_le 160 byte

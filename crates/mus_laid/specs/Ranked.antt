@@ -1,5 +1,5 @@
--- Marks by the ranks of their columns: what is drawn in a column by the rank of the column, and what goes from one
--- column to another by the ranks of both. Nothing else of a mark depends on the system that it stands in.
+-- Marks by the ranks of their columns: a mark in a column by the rank of the column, a mark between two columns by
+-- the ranks of both. Nothing else of a mark depends on its system.
 use Rattle.std.specs.Prelude.{ℕ, ◌+◌, Bool, false, ◌==◌, List, [], ◌∷◌, ◌++◌, filter, flat_map, map, if◌then◌else◌}
 use Rattle.std.specs.Prelude.{Option, Some, None}
 use Rattle.std.specs.List.{range_with_len}
@@ -23,7 +23,7 @@ ink_at r (Ink.Stem dx from to) = Mark.Stem r dx from to
 abbrev pub drawn_at : ℕ → LaneInk → Laid
 drawn_at r d = record { mark = ink_at r d.ink; lane = d.lane }
 
--- a pen that has drawn this too, in the column that it stands at
+-- a pen that has also drawn this, in its current column
 abbrev pub inked : MarkPen → List LaneInk → MarkPen
 inked pen drawn = record pen { marks = pen.marks ++ map (drawn_at pen.rank) drawn }
 
@@ -31,7 +31,7 @@ abbrev pub span_at : ℕ → ℕ → BridgeShape → Mark
 span_at first last (BridgeShape.Beam way from to) = Mark.Beam way first last from to
 span_at first last (BridgeShape.Arc from to bulge) = Mark.Arc first last from to bulge
 
--- the rank of the column in which a glyph, words or a stem stands; beams and arcs go between columns
+-- the rank of the column of a glyph, words or a stem; beams and arcs go between columns
 abbrev pub anchor_rank : Mark → Option ℕ
 anchor_rank (Mark.Glyph glyph rank dx dy) = Some rank
 anchor_rank (Mark.Words size rank dx dy text) = Some rank
@@ -46,8 +46,8 @@ is_rank n (Some r) = n == r
 abbrev pub stands_at_rank : ℕ → Laid → Bool
 stands_at_rank r x = is_rank r (anchor_rank x.mark)
 
--- Lists of marks put together by columns: in each of n columns what stands there of the first list, then of the second,
--- and so on. One list stays as it is.
+-- Lists of marks merged by column: in each of n columns first the marks of the first list, then those of the second,
+-- and so on. A single list stays as it is.
 abbrev pub at_rank : List (List Laid) → ℕ → List Laid
 at_rank parts r = flat_map (λ part. filter (stands_at_rank r) part) parts
 
@@ -55,8 +55,8 @@ abbrev pub by_columns : ℕ → List (List Laid) → List Laid
 by_columns n (part ∷ []) = part
 by_columns n parts = flat_map (at_rank parts) (range_with_len 0 n)
 
--- columns from rank r on, with a mark behind what stands in its column; and with the marks of a part,
--- and those of some parts
+-- columns from rank r on, with a mark added at the end of its column; with the marks of a part; and with those of
+-- several parts
 abbrev pub with_mark : ℕ → Laid → List (List Laid) → List (List Laid)
 with_mark r x [] = []
 with_mark r x (column ∷ columns) =

@@ -1,4 +1,4 @@
--- What of a mark doesn't hang on how far stems reach: its kind, its column or columns, its lane, where it stands beside
+-- What of a mark does not depend on how far stems reach: its kind, its column or columns, its lane, its place beside
 -- its column, and what it shows. Its heights are left out.
 use Rattle.std.specs.Prelude.{◌≡◌, pos, List, map}
 use Rattle.mus_laid.specs.declared.laid.{Laid.Laid, Mark.Mark, StaffMarks.StaffMarks, SystemMarks.SystemMarks}
@@ -16,7 +16,7 @@ laid_shape x = record { mark = mark_shape x.mark; lane = x.lane }
 abbrev pub marks_shape : List Laid → List Laid
 marks_shape all = map laid_shape all
 
--- the same marks in the same order, but for their heights
+-- the same marks in the same order, except for their heights
 abbrev pub staff_shape : StaffMarks → List Laid
 staff_shape staff = marks_shape staff.marks
 

@@ -7,14 +7,14 @@ use crate::laid::{Laid, Mark};
 use glyph_paths::bounds_of;
 use mus_units::{Glyph, Size};
 
-/// From the least to the greatest height, in u above the staff's bottom line.
+/// The range from the least to the greatest height, in u above the staff's bottom line.
 #[derive(Clone, Copy, PartialEq, Eq)]
 pub struct HeightRange {
     pub low: i64,
     pub high: i64,
 }
 
-/// How far a mark reaches from its column, in u; to the left is negative.
+/// How far a mark reaches from its column, in u; distances to the left are negative.
 #[derive(Clone, Copy, PartialEq, Eq)]
 pub struct Sides {
     pub left: i64,
@@ -112,8 +112,8 @@ fn over_four(a: i64, b: i64, c: i64, d: i64) -> HeightRange
     }
 }
 
-/// The heights that a mark covers: a glyph its points, a text its line, a stem its
-/// ends, a beam its edges, an arc its ends and how far it bulges.
+/// Returns the heights that a mark covers: the points of a glyph, the line of a text, the ends of a stem, the edges
+/// of a beam, the ends of an arc and how far it bulges.
 pub fn heights_of(mark: &Mark) -> HeightRange
     ensures { result ≡ heights_of mark.now }
 {
@@ -164,8 +164,8 @@ fn text_sides(size: Size, dx: i32, count: usize) -> Sides
     }
 }
 
-/// How far a glyph or a text reaches from its column. None for stems, beams and
-/// arcs, which no lane keeps apart.
+/// Returns how far a glyph or a text reaches from its column. `None` for stems, beams and arcs, which no lane keeps
+/// apart.
 pub fn sides_of(mark: &Mark) -> Option<Sides>
     requires { IsGoodMark mark.now }
     ensures { result ≡ sides_of mark.now }
@@ -186,7 +186,7 @@ fn widened(a: HeightRange, b: HeightRange) -> HeightRange
     }
 }
 
-/// The least and the greatest height of the boxes of all marks, at least 0 to 2000.
+/// Returns the least and the greatest height of the boxes of all marks, covering at least 0 to 2000.
 pub fn staff_heights(marks: &[Laid]) -> HeightRange
     ensures { result ≡ staff_heights marks.now }
 {

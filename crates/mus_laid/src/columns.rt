@@ -6,8 +6,7 @@ use crate::laid::{Laid, Mark};
 use mus_units::{Memory, Row};
 use std::alloc::Global;
 
-/// The rank of the column in which a glyph, words or a stem stands. None for beams and arcs, which go
-/// between columns.
+/// Returns the rank of the column of a glyph, words or a stem. `None` for beams and arcs, which go between columns.
 pub fn anchor_rank(mark: &Mark) -> Option<u32>
     ensures { result ≡ anchor_rank mark.now }
 {
@@ -19,7 +18,7 @@ pub fn anchor_rank(mark: &Mark) -> Option<u32>
     }
 }
 
-/// Puts a mark behind those of its column, if it has one.
+/// Adds a mark after those of its column, if it has one.
 #[tactic(auto, using(crate::proofs::ByColumns::put_there, crate::proofs::ByColumns::put_nowhere))]
 fn put_mark(columns: &mut Row<Row<Laid>>, laid: Laid) -> Result<(), Memory>
     ensures { OnOk result (columns.new ≡ with_mark 0 laid columns.old) }
@@ -33,7 +32,7 @@ fn put_mark(columns: &mut Row<Row<Laid>>, laid: Laid) -> Result<(), Memory>
     Ok(())
 }
 
-/// Puts each mark of a part behind those of its column.
+/// Adds each mark of a part after those of its column.
 fn put_part(columns: &mut Row<Row<Laid>>, part: Row<Laid>) -> Result<(), Memory>
     ensures { OnOk result (columns.new ≡ with_part part columns.old) }
 {
@@ -43,7 +42,7 @@ fn put_part(columns: &mut Row<Row<Laid>>, part: Row<Laid>) -> Result<(), Memory>
     Ok(())
 }
 
-/// Puts the marks of parts, one part after the other.
+/// Adds the marks of parts, one part after another.
 fn put_parts(columns: &mut Row<Row<Laid>>, parts: Row<Row<Laid>>) -> Result<(), Memory>
     ensures { OnOk result (columns.new ≡ with_parts parts columns.old) }
 {
@@ -53,7 +52,7 @@ fn put_parts(columns: &mut Row<Row<Laid>>, parts: Row<Row<Laid>>) -> Result<(), 
     Ok(())
 }
 
-/// So many columns with nothing in them.
+/// Returns `count` empty columns.
 fn empty_columns(alloc: Global, count: usize) -> Result<Row<Row<Laid>>, Memory>
     ensures { IfOk result (λ r. r ≡ map (at_rank []) (range_with_len 0 count)) }
 {
@@ -83,9 +82,9 @@ fn joined(alloc: Global, columns: Row<Row<Laid>>) -> Result<Row<Laid>, Memory>
     Ok(out)
 }
 
-/// Lists of marks put together by columns: in each of so many columns what stands there of the first
-/// list, then of the second, and so on. What stands in no such column is left out; but a list alone
-/// stays as it is. The only error is want of memory.
+/// Returns lists of marks merged by column: in each column first the marks of the first list, then those of the
+/// second, and so on. Marks in none of the columns are left out; but a single list stays as it is. The only error is
+/// out of memory.
 #[tactic(auto, using(crate::proofs::ByColumns::columns_joined))]
 pub fn by_columns(alloc: Global, columns: usize, parts: Row<Row<Laid>>) -> Result<Row<Laid>, Memory>
     ensures { IfOk result (λ r. r ≡ by_columns columns parts) }

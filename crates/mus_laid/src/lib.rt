@@ -1,6 +1,5 @@
-//! What is drawn in a column or from one to another, wherever these columns stand; the marks of a
-//! system as they are laid: each with its column by rank, its heights and its lane; the boxes that
-//! marks fill; and the text that is printed.
+//! Marks drawn in a column or between columns, wherever these columns are; the marks of a laid-out system, each with
+//! the rank of its column, its heights and its lane; the boxes that marks fill; and the text that is printed.
 #![tactic(auto)]
 
 pub mod boxes;

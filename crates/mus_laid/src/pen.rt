@@ -8,8 +8,7 @@ use mus_onsets::{ColumnKey, rank_of};
 use mus_units::{Memory, Row};
 use std::alloc::Global;
 
-/// What lays marks column by column: the rank of the column that it stands at, and the marks that it
-/// has laid.
+/// Draws marks column by column: holds the rank of the current column and the marks drawn so far.
 #[derive(Drop)]
 pub struct MarkPen {
     pub alloc: Global,
@@ -17,7 +16,7 @@ pub struct MarkPen {
     pub marks: Row<Laid>,
 }
 
-/// What is drawn in a column, as the mark of a system in which the column has this rank.
+/// Returns ink as a mark of a system in which its column has this rank.
 fn ink_at(rank: u32, ink: Ink) -> Mark
     ensures { result ≡ ink_at rank ink }
 {
@@ -40,7 +39,7 @@ fn ink_at(rank: u32, ink: Ink) -> Mark
 }
 
 impl MarkPen {
-    /// A pen that has laid nothing, at the first column.
+    /// Returns a pen that has drawn nothing, at the first column.
     pub fn new(alloc: Global) -> MarkPen
         ensures { result.marks ≡ [] }
     {
@@ -51,7 +50,7 @@ impl MarkPen {
         }
     }
 
-    /// Goes to the column of a key.
+    /// Moves to the column of a key.
     #[inline(always)]
     pub fn go_to(&mut self, keys: &[ColumnKey], key: ColumnKey)
         requires { AreRanked keys.now }
@@ -65,7 +64,7 @@ impl MarkPen {
         };
     }
 
-    /// Lays what is drawn in the column. The only error is want of memory.
+    /// Draws a mark in the current column. The only error is out of memory.
     #[inline(always)]
     pub fn put(&mut self, drawn: LaneInk) -> Result<(), Memory>
         ensures { OnOk result (self.new ≡ inked self.old (drawn ∷ [])) }

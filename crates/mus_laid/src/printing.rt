@@ -18,8 +18,7 @@ fn printed_byte(byte: u8) -> u8
     }
 }
 
-/// The first characters of a text as they are printed: tabs as spaces, and control
-/// characters as question marks.
+/// Returns the first characters of a text as printed: tabs as spaces, and control characters as question marks.
 pub fn printed_within(alloc: Global, most: usize, text: &[u8]) -> Result<Text, Memory>
     ensures value { IfOk result (λ t. t ≡ printed_within most text.now) }
     ensures printable { IfOk result (λ t. list_all is_printable t ≡ true) }
@@ -33,7 +32,7 @@ pub fn printed_within(alloc: Global, most: usize, text: &[u8]) -> Result<Text, M
     Ok(out)
 }
 
-/// At most 60 characters of a text as they are printed.
+/// Returns at most 60 characters of a text as printed.
 pub fn printed(alloc: Global, text: &[u8]) -> Result<Text, Memory>
     ensures value { IfOk result (λ t. t ≡ printed text.now) }
     ensures printable { IfOk result (λ t. list_all is_printable t ≡ true) }

@@ -6,10 +6,10 @@ use crate::laid::{Laid, Lane, Mark};
 use mus_onsets::{ColumnKey, rank_of};
 use mus_units::{Memory, Row};
 
-/// How many columns are looked at before one is searched for.
+/// How many columns are tried in turn before a binary search.
 const NEAR: usize = 16;
 
-/// The rank of a column, if that is at this place among the keys.
+/// Returns the rank of a column if the column is at this place among the keys.
 pub(crate) fn found_at(keys: &[ColumnKey], place: usize, key: ColumnKey) -> Option<u32>
     requires { AreRanked keys.now }
     ensures { IfSome result (λ rank. rank ≡ key_rank keys.now key) }
@@ -20,7 +20,7 @@ pub(crate) fn found_at(keys: &[ColumnKey], place: usize, key: ColumnKey) -> Opti
     }
 }
 
-/// The rank of a column, which mostly is few places behind that of another.
+/// Returns the rank of a column, which is usually a few places after that of another.
 fn rank_behind(keys: &[ColumnKey], other: u32, key: ColumnKey) -> u32
     requires { AreRanked keys.now }
     ensures { result ≡ key_rank keys.now key }
@@ -55,8 +55,8 @@ fn span_at(first: u32, last: u32, span: BridgeShape) -> Mark
     }
 }
 
-/// Lays beams and arcs, in order, each by the ranks of its two columns in the system of these keys.
-/// The only error is want of memory.
+/// Adds beams and arcs, in order, each by the ranks of its two columns in the system of these keys. The only error is
+/// out of memory.
 pub fn put_bridges(
     out: &mut Row<Laid>,
     keys: &[ColumnKey],

@@ -1,4 +1,4 @@
--- The tree and the events in a row have the same beats, and these tell onsets.
+-- The tree and the events in a row have the same beats, and these determine onsets.
 use Rattle.std.proofs.Common.{◌≡◌, ◌∙◌, ℕ, ◌+◌, ◌*◌, ◌≤◌, List, [], ◌∷◌, ◌++◌, ap, map, refl, subst, sym, arith}
 use Rattle.std.proofs.lemmas.List.{map-append}
 use Rattle.std.proofs.lemmas.List.Sums.{sum_by-cons}

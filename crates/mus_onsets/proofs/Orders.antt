@@ -1,5 +1,5 @@
--- The order of column keys: no key is below itself, of two keys at most one is below the other, and what is below
--- a key is below all that it is below.
+-- The order of column keys: no key is below itself, of two keys at most one is below the other, and the order is
+-- transitive.
 use Rattle.std.proofs.{Common.{◌≡◌, ℕ, ◌<◌, Bool, true, false, nat_lt, refl, arith}, lemmas.Bool.Decides.nat_tests}
 use Rattle.mus_onsets.specs.declared.keys.ColumnKey.{ColumnKey}
 use Rattle.mus_onsets.specs.Order.{is_below, class_number, is_below_or_tied}

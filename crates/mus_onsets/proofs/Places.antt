@@ -1,4 +1,4 @@
--- The keys that voices call for stand in the system's measures, and none behind its measure's end.
+-- The keys that voices call for are in the system's measures, and none is after its measure's end.
 use Rattle.std.proofs.Common.{◌≡◌, ℕ, zero, zero-add, suc, ◌+◌, ◌-◌, ◌≤◌, ◌<◌, List, [], ◌∷◌, ◌++◌, length, length-take}
 use Rattle.std.proofs.Common.{get_or, drop, take, filter, refl, sym, subst, Bool, true, false, ◌&&◌, ◌==◌, not}
 use Rattle.std.proofs.Common.{if◌then◌else◌, arith}
@@ -31,7 +31,7 @@ length_of_lengths s = length-map-range_with_len (measure_length s.voices) 0 s.me
 pub length_is : (s : Score) (k : ℕ) → k < s.measures → slice_index (timeline_of s).lengths k ≡ measure_length s.voices k
 length_is s k h = get_or-map-range_with_len (measure_length s.voices) 0 s.measures k k 0 h (omega arith)
 
--- all of a list, by recursion
+-- all elements of a list, by recursion
 all_append : (P : ColumnKey → Type 0) (xs ys : List ColumnKey)
     → AllByRecursion P xs → AllByRecursion P ys → AllByRecursion P (xs ++ ys)
 all_append P [] ys a b = b
@@ -189,7 +189,7 @@ called_in lengths a b n (v ∷ vs) order within same fits =
     (voice_in lengths a b v order (omega (arith, same.0)) (λ k h. omega (arith, fits k (omega (arith, same.0)))))
     (called_in lengths a b n vs order within same.1 (λ k h. omega (arith, fits k h)))
 
--- The rising keys stand where those that are called for do.
+-- The rising keys are where the keys that are called for are.
 pub places_of : (s : Score) (a b : ℕ) (keys : List ColumnKey)
     → IsGoodScore s → a < b → b ≤ s.measures → AreKeys keys (called_keys s (timeline_of s).lengths a b)
     → All (IsInSystem (timeline_of s).lengths a b) keys

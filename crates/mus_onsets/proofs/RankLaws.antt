@@ -1,5 +1,5 @@
--- Rising keys that stand before a key come first, and their number is its rank. Ranks rise with keys, and the rank
--- of a key of the system is below the number of its keys; the i-th has rank i.
+-- Among rising keys those before a given key come first, and their number is its rank. Ranks rise with keys, and the
+-- rank of a key of the system is below the number of its keys; the i-th key has rank i.
 use Rattle.std.proofs.Common.{◌≡◌, ℕ, zero, suc, ◌+◌, ◌≤◌, ◌<◌, Bool, true, false, List, [], ◌∷◌, ◌++◌, length, subst}
 use Rattle.std.proofs.Common.{refl, sym, ap, ◌∙◌, if◌then◌else◌, arith}
 use Rattle.std.proofs.lemmas.Bool.Decides.{nat_tests}
@@ -21,7 +21,7 @@ below_later k m [] j d inside below h = absurd (omega (arith, inside))
 below_later k m (l ∷ ls) zero d inside below h = below_through k l m below.0 h
 below_later k m (l ∷ ls) (suc j) d inside below h = below_later k m ls j d (omega (arith, inside)) below.1 h
 
--- no key that stands before one comes behind a key that doesn't
+-- no key before a given one comes after a key that is not before it
 pub parted : (ks : List ColumnKey) (m : ColumnKey) → Rises ks → IsPartitionedBy (λ k. is_below k m) ks
 parted [] m rise i j d o inside h = absurd (omega (arith, inside))
 parted (k ∷ ks) m rise zero zero d o inside h = h
@@ -36,7 +36,7 @@ no_others [] m h = refl
 no_others (k ∷ ks) m h = ap (λ b. if b then 1 + key_rank ks m else key_rank ks m) (h 0 k (omega arith) (omega arith))
     ∙ no_others ks m (λ j d from to. h (suc j) d (omega arith) (omega (arith, to)))
 
--- where the keys before one are the first i, these are its rank
+-- if the keys before one are the first i, its rank is i
 pub ranked : (ks : List ColumnKey) (m : ColumnKey) (i : ℕ)
     → i ≤ length ks → IsPartitionPoint (λ k. is_below k m ≡ true) (λ k. is_below k m ≡ false) ks i → i ≡ key_rank ks m
 ranked [] m zero inside at = refl
@@ -112,7 +112,7 @@ rank_rises (x ∷ ks) k l h = by (is_below x k) (is_below x l) (below_through x 
     by false true f more = omega (arith, more)
     by false false f more = omega (arith, more)
 
--- and strictly, where the lower key is one of them
+-- and strictly, if the lower key is one of them
 pub rank_rises_more : (ks : List ColumnKey) (k l : ColumnKey)
     → is_below k l ≡ true → Contains ks k → key_rank ks k < key_rank ks l
 rank_rises_more [] k l h (i, inside, is) = absurd (omega (arith, inside))

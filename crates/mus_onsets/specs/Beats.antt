@@ -1,5 +1,5 @@
--- Beats: what times take from the events of a body that are no graces, from left to right: the id,
--- and how long the event lasts.
+-- Beats: what onsets need of the events of a body, graces aside, from left to right: the id and the length of each
+-- event.
 use Rattle.std.specs.Prelude.{ℕ, ◌+◌, ◌*◌, List, [], ◌∷◌, ◌++◌, map}
 use Rattle.mus_score.specs.declared.score.Event.{Event}
 use Rattle.mus_score.specs.declared.score.Flat.{Flat}
@@ -16,7 +16,7 @@ beat_of f = record { event = f.event.id; ticks = f.duration }
 abbrev pub beats_of : List Music → List Beat
 beats_of body = map beat_of (flats_of body)
 
--- ---- read off the tree
+-- ---- read from the tree
 abbrev pub beat_at : Event → InTuplets Beat
 beat_at e qs ps = record { event = e.id; ticks = scaled_ticks e.ticks qs ps }
 
@@ -33,8 +33,8 @@ beats_step (Music-F.Tuplet p q body) qs ps = beats_in_row body (qs * q) (ps * p)
 abbrev pub beats_within : Music → InTuplets (List Beat)
 beats_within = fold-Music (InTuplets (List Beat)) beats_step
 
--- ---- what is made of beats
--- onsets in a measure, from a tick on
+-- ---- what is computed from beats
+-- onsets in a measure, starting at a tick
 abbrev pub beat_onsets : ℕ → ℕ → ℕ → List Beat → List Onset
 beat_onsets voice measure tick [] = []
 beat_onsets voice measure tick (b ∷ bs) =

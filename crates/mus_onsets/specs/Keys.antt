@@ -1,4 +1,4 @@
--- The keys of the columns of a system: those that its voices call for, each once, rising.
+-- The keys of a system's columns: those that its voices call for, each once, rising.
 use Rattle.std.specs.Prelude.{ℕ, ◌+◌, ◌≤◌, ◌<◌, Bool, true, false, not, ◌&&◌, ◌||◌, ◌==◌, nat_le, is_some}
 use Rattle.std.specs.Prelude.{if◌then◌else◌, List, [], ◌∷◌, ◌++◌, length, take, filter, flat_map, slice_range}
 use Rattle.std.specs.Prelude.{slice_index, Contains, Option, Some, None}
@@ -27,7 +27,7 @@ bar_key lengths m = key_at m (slice_index lengths m) Class.Bar 0
 abbrev pub has_entries : Key → Bool
 has_entries k = nat_le 1 (length k.signs)
 
--- whether the key in force has entries, behind a change
+-- whether the key in force after a change has entries
 abbrev pub signed_after : Bool → Option Key → Bool
 signed_after signed None = signed
 signed_after signed (Some k) = has_entries k
@@ -42,7 +42,7 @@ meter_has_mark None = false
 meter_has_mark (Some Meter.Free) = false
 meter_has_mark (Some _) = true
 
--- whether a change draws anything, where the key before it has entries or none
+-- whether a change draws anything, given whether the key before it has entries
 abbrev pub change_has_mark : Bool → Changes → Bool
 change_has_mark signed ch = is_some ch.clef || key_has_mark signed ch.key || meter_has_mark ch.meter
 
@@ -58,12 +58,12 @@ abbrev pub grace_keys : ℕ → ℕ → ℕ → List Event → List ColumnKey
 grace_keys m tick i [] = []
 grace_keys m tick i (g ∷ gs) = key_at m tick Class.Grace i ∷ grace_keys m tick (i + 1) gs
 
--- an event, behind its change and its graces
+-- an event, after its change and its graces
 abbrev pub event_keys : ℕ → ℕ → Bool → Bool → Flat → List ColumnKey
 event_keys m tick in_head signed f =
     change_keys m tick in_head signed f.event.changes ++ grace_keys m tick 0 f.graces ++ key_at m tick Class.Note 0 ∷ []
 
--- the events of a measure in turn, each with those before it; the head draws the change before the first of the
+-- the events of a measure in turn, each with those before it; the head draws the change before the first event of the
 -- system's first measure
 abbrev pub events_keys : ℕ → Bool → Bool → List Flat → List Flat → List ColumnKey
 events_keys m in_head signed before [] = []
@@ -75,7 +75,7 @@ abbrev pub signed_through : Bool → List Flat → Bool
 signed_through signed [] = signed
 signed_through signed (f ∷ fs) = signed_through (signed_after signed f.event.changes.key) fs
 
--- measures from number m on, each with the bar behind it
+-- measures from number m on, each followed by its bar
 abbrev pub measures_keys : List ℕ → ℕ → Bool → Bool → List Measure → List ColumnKey
 measures_keys lengths m in_head signed [] = []
 measures_keys lengths m in_head signed (x ∷ xs) =
@@ -99,7 +99,8 @@ all_keys lengths a b v =
     key_at a 0 Class.Head 0 ∷ first_keys a v.first
     ++ measures_keys lengths a true (signed_at a v) (slice_range v.measures a b)
 
--- each voice of a staff has columns of its notes and graces; all else of the staff is drawn by the first of them
+-- each voice of a staff has its own columns for its notes and graces; the first voice draws everything else of the
+-- staff
 abbrev pub is_for_each : ColumnKey → Bool
 is_for_each key = is_own_class key.class
   where
@@ -128,13 +129,13 @@ measure_keys lengths m v =
 abbrev pub further_keys : Score → List ℕ → ℕ → List ColumnKey
 further_keys s lengths m = flat_map (measure_keys lengths m) s.voices
 
--- the same keys, each once, rising: there is one such list
+-- the same keys, each once, rising: exactly one such list exists
 pub record AreKeys (keys called : List ColumnKey) : Type 0 where
   pub rise : Rises keys
   pub all : (k : ColumnKey) → Contains called k → Contains keys k
   pub only : (k : ColumnKey) → Contains keys k → Contains called k
 
--- a place in measures a to b - 1, not behind its measure's end
+-- a place in measures a to b - 1, not after the end of its measure
 pub record IsInSystem (lengths : List ℕ) (a b : ℕ) (k : ColumnKey) : Type 0 where
   pub from : a ≤ k.measure
   pub to : k.measure < b

@@ -29,7 +29,7 @@ abbrev pub greatest : List ℕ → ℕ
 greatest [] = 0
 greatest (n ∷ ns) = max n (greatest ns)
 
--- how long a measure lasts in a voice
+-- the length of a measure in a voice
 abbrev pub ticks_of_some : Option Measure → ℕ
 ticks_of_some None = 0
 ticks_of_some (Some m) = total_ticks (flats_of m.body)

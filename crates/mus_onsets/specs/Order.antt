@@ -11,11 +11,11 @@ class_number Class.Grace = 3
 class_number Class.Note = 4
 class_number Class.Bar = 5
 
--- the first numbers decide, and where they are equal the others
+-- the first numbers decide; if they are equal, the others do
 abbrev pub is_below_or_tied : ℕ → ℕ → Bool → Bool
 is_below_or_tied x y rest = nat_lt x y || ((x == y) && rest)
 
--- whether a column stands before another
+-- whether a column comes before another
 unfoldable pub is_below : ColumnKey → ColumnKey → Bool
 is_below k l =
     is_below_or_tied k.measure l.measure
@@ -23,7 +23,7 @@ is_below k l =
     (is_below_or_tied (class_number k.class) (class_number l.class)
     (nat_lt k.place l.place)))
 
--- whether two keys are those of one column
+-- whether two keys belong to one column
 unfoldable pub same_key : ColumnKey → ColumnKey → Bool
 same_key k l =
     (k.measure == l.measure)
@@ -40,7 +40,7 @@ abbrev pub Rises : List ColumnKey → Type 0
 Rises [] = Unit {0}
 Rises (k ∷ ks) = BelowAll k ks × Rises ks
 
--- the rank of a key: how many of the keys are smaller
+-- the rank of a key: the number of smaller keys
 abbrev pub key_rank : List ColumnKey → ColumnKey → ℕ
 key_rank [] k = 0
 key_rank (l ∷ ls) k = if is_below l k then 1 + key_rank ls k else key_rank ls k

@@ -1,4 +1,4 @@
-//! What times take from the events of a body, none of which is copied.
+//! What onsets need of the events of a body. No event is copied.
 
 ghost use Rattle.std.specs.Prelude.{◌≡◌, ◌≤◌, ◌*◌, ◌++◌, map, true, IfOk, OnOk, sum_by};
 ghost use Rattle.mus_score.specs.Good.{IsGoodBody, longest_ticks};
@@ -9,14 +9,14 @@ use mus_score::{Event, Music};
 use mus_units::{Memory, Row};
 use std::alloc::Global;
 
-/// An event by its id, and how long it lasts, in ticks.
+/// The id of an event and its length in ticks.
 #[derive(Clone, Copy, PartialEq, Eq)]
 pub struct Beat {
     pub event: u32,
     pub ticks: u64,
 }
 
-/// Ticks, times the tuplets around.
+/// A length in ticks, with the factors of the tuplets around it.
 #[tactic(auto, unfolding(mus_score::specs::Times::is_scalable))]
 fn scaled(ticks: u64, qs: u64, ps: u64) -> u64
     requires { is_scalable ticks qs ps ≡ true }
@@ -64,7 +64,7 @@ fn put_nodes(body: &[Music], qs: u64, ps: u64, out: &mut Row<Beat>) -> Result<()
     Ok(())
 }
 
-/// The beats of a body.
+/// Returns the beats of a body.
 #[tactic(auto, using(crate::proofs::BeatLaws::beats_bounds))]
 pub(crate) fn beats(alloc: Global, body: &[Music]) -> Result<Row<Beat>, Memory>
     requires { IsGoodBody body.now }

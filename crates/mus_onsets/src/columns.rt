@@ -6,7 +6,7 @@ use crate::keys::{Class, ColumnKey};
 use mus_score::{Bar, Changes, Event, Flat, Key, Meter};
 use mus_units::{Memory, Row};
 
-/// Whether a key has an entry.
+/// Returns whether a key has an entry.
 fn is_signed(key: &Key) -> bool
     ensures { result ≡ has_entries key.now }
 {
@@ -32,7 +32,7 @@ fn draws_meter(meter: Option<Meter>) -> bool
     }
 }
 
-/// Whether a change draws anything, where the key before it is signed or not.
+/// Returns whether a change draws anything, given whether the key before it has entries.
 fn draws(signed: bool, changes: &Changes) -> bool
     ensures { result ≡ change_has_mark signed changes.now }
 {
@@ -60,9 +60,9 @@ fn put_graces(
     Ok(())
 }
 
-/// Puts the keys of an event at a tick of a measure: of its change, unless the head draws that or it
-/// draws nothing, of its graces, and its own. `signed` tells whether the key before it has entries, which
-/// is of account where the event changes the key.
+/// Adds the column keys of an event at a tick of a measure: that of its change, unless the head draws the change or
+/// it draws nothing; those of its graces; and its own. `signed` says whether the musical key before it has entries,
+/// which matters only if the event changes the key.
 pub fn put_event_keys(
     out: &mut Row<ColumnKey>,
     measure: u32,
@@ -82,8 +82,7 @@ pub fn put_event_keys(
     Ok(())
 }
 
-/// Puts the key of the bar before the first measure, where a system begins with it and the bar has
-/// features.
+/// Adds the key of the bar before the first measure if a system begins with that measure and the bar has features.
 pub fn put_first_key(out: &mut Row<ColumnKey>, a: u32, bar: Bar) -> Result<(), Memory>
     ensures { OnOk result (out.new ≡ out.old ++ first_keys a bar) }
 {
@@ -102,7 +101,7 @@ fn is_for_each(key: ColumnKey) -> bool
     }
 }
 
-/// Puts those of the keys that each voice of a staff has for itself.
+/// Adds the keys that each voice of a staff has for itself.
 pub fn put_own_keys(out: &mut Row<ColumnKey>, keys: &[ColumnKey]) -> Result<(), Memory>
     ensures { OnOk result (out.new ≡ out.old ++ filter is_for_each keys.now) }
 {
@@ -114,7 +113,7 @@ pub fn put_own_keys(out: &mut Row<ColumnKey>, keys: &[ColumnKey]) -> Result<(), 
     Ok(())
 }
 
-/// The keys in order, each once.
+/// Returns the keys in order, each once.
 pub fn rising_keys(keys: Row<ColumnKey>) -> Row<ColumnKey>
     ensures { AreKeys result keys }
 {

@@ -1,8 +1,8 @@
 ghost use Rattle.std.specs.Prelude.{◌≡◌};
 ghost use Rattle.mus_onsets.specs.Keys.{key_at};
 
-/// What stands in a column, in the order of columns at one tick: what begins a system, the bar
-/// before the first measure, a change of clef, key or meter, a grace, an event, a bar.
+/// What a column holds, in the order of columns at one tick: what begins a system, the bar before the first measure,
+/// a change of clef, key or meter, a grace, an event, a bar.
 #[derive(Clone, Copy, PartialEq, Eq, PartialOrd, Ord)]
 pub enum Class {
     Head,
@@ -13,8 +13,8 @@ pub enum Class {
     Bar,
 }
 
-/// Where a column stands: by its measure, then by the tick in the measure, then by its class,
-/// then by its place, which counts the graces of an event and is 0 for all others.
+/// The position of a column: its measure, then the tick in the measure, then its class, then its place, which counts
+/// the graces of an event and is 0 for all others.
 #[derive(Clone, Copy, PartialEq, Eq, PartialOrd, Ord)]
 pub struct ColumnKey {
     pub measure: u32,
@@ -24,7 +24,7 @@ pub struct ColumnKey {
 }
 
 impl ColumnKey {
-    /// The key of a place.
+    /// Returns the key with these parts.
     pub fn new(measure: u32, tick: u64, class: Class, place: u32) -> ColumnKey
         ensures { result ≡ key_at measure tick class place }
     {

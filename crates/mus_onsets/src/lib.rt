@@ -1,8 +1,8 @@
-//! When events sound, and the keys of the columns that a system has.
+//! When events sound, and the keys of a system's columns.
 //!
-//! An event begins where the earlier events of its measure and voice end. A column has its place
-//! in a measure by the tick, then by what stands in it; the keys of a system rise, and the rank of a
-//! column is the number of keys before its own.
+//! An event begins where the earlier events of its measure and voice end. A column's place in its measure is given by
+//! its tick, then by what it holds. The keys of a system rise, and the rank of a column is the number of keys before
+//! its own.
 #![tactic(auto)]
 
 pub mod beats;

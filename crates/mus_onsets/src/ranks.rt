@@ -3,7 +3,7 @@ ghost use Rattle.mus_onsets.specs.{Order.class_number, Order.is_below, Order.key
 
 use crate::keys::ColumnKey;
 
-/// Whether two keys are those of one column.
+/// Returns whether two keys belong to one column.
 #[tactic(auto, unfolding(crate::specs::Order::same_key))]
 pub fn is_same(k: ColumnKey, l: ColumnKey) -> bool
     ensures { result ≡ same_key k l }
@@ -11,14 +11,14 @@ pub fn is_same(k: ColumnKey, l: ColumnKey) -> bool
     k.measure == l.measure && k.tick == l.tick && k.class == l.class && k.place == l.place
 }
 
-/// Whether a key stands before another.
+/// Returns whether a key comes before another.
 fn is_below(key: &ColumnKey, other: ColumnKey) -> bool
     ensures { result ≡ is_below key.now other }
 {
     *key < other
 }
 
-/// The rank of a column among those of its system: how many of the keys stand before its own.
+/// Returns the rank of a column among those of its system: the number of keys before its own.
 pub fn rank_of(keys: &[ColumnKey], key: ColumnKey) -> u32
     requires { AreRanked keys.now }
     ensures { result ≡ key_rank keys.now key }
@@ -26,8 +26,8 @@ pub fn rank_of(keys: &[ColumnKey], key: ColumnKey) -> u32
     keys.partition_point(|k| is_below(k, key)) as u32
 }
 
-/// The rank of a column, as `key_rank` gives it. The place `near` is looked at first, which then is the
-/// one behind: columns that are asked for in order are found at once.
+/// Returns the rank of a column, as `key_rank` defines it. Tries the place `near` first and then sets it to the next
+/// place, so columns that are asked for in order are found at once.
 pub fn next_rank(keys: &[ColumnKey], near: &mut usize, key: ColumnKey) -> u32
     requires { AreRanked keys.now }
     ensures { result ≡ key_rank keys.now key }

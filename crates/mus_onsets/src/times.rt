@@ -12,8 +12,8 @@ use mus_score::{Measure, Music, Score, Voice, body_duration};
 use mus_units::{Memory, Row};
 use std::alloc::Global;
 
-/// Where an event begins, in ticks from the beginning of its measure. `voice` is the place of its
-/// voice, `event` the event's id there.
+/// The onset of an event, in ticks from the beginning of its measure. `voice` is the place of its voice, `event` the
+/// event's id there.
 #[derive(Clone, Copy, PartialEq, Eq)]
 pub struct Onset {
     pub voice: u32,
@@ -29,7 +29,7 @@ pub struct Timeline {
     pub lengths: Row<u64>,
 }
 
-/// Puts the onsets of the events of a measure.
+/// Adds the onsets of the events of a measure.
 fn put_beats(out: &mut Row<Onset>, voice: u32, measure: u32, beats: &[Beat]) -> Result<(), Memory>
     requires { sum_by (λ b. b.ticks) beats.now ≤ 50000 * longest_ticks }
     ensures { OnOk result (out.new ≡ out.old ++ beat_onsets voice measure 0 beats.now) }
@@ -89,7 +89,7 @@ fn put_voices(alloc: Global, out: &mut Row<Onset>, voices: &[Voice]) -> Result<(
     Ok(())
 }
 
-/// How long a measure lasts in a voice.
+/// Returns the length of a measure in a voice.
 fn voice_length(v: &Voice, k: usize) -> u64
     requires { IsGoodVoice v.now }
     ensures { result ≡ length_in_voice k v.now }
@@ -123,8 +123,8 @@ fn lengths(alloc: Global, voices: &[Voice], measures: u32) -> Result<Row<u64>, M
     Ok(lengths)
 }
 
-/// When the events of a score begin, in order of voice, then event, and how long each measure
-/// lasts: as long as its longest voice.
+/// Returns the onsets of a score's events, in order of voice, then event, and the length of each measure, which is
+/// that of its longest voice.
 pub fn onsets(alloc: Global, s: &Score) -> Result<Timeline, Memory>
     requires { IsGoodScore s.now }
     ensures { IfOk result (λ t. t ≡ timeline_of s.now) }
