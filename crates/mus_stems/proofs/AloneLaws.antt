@@ -1,4 +1,4 @@
--- A head alone isn't displaced, and where no head has a sign none is placed.
+-- A single head is not displaced, and if no head has an accidental none is placed.
 use Rattle.std.proofs.Common.{◌≡◌, ℕ, zero, suc, ◌≤◌, ◌<◌, inl, ℤ, pos, Bool, true, false, List, [], ◌∷◌, length}
 use Rattle.std.proofs.Common.{replicate, slice_index_or, refl, sym, ◌∙◌, ap, Option, Some, None, arith}
 use Rattle.std.proofs.lemmas.Bool.{or_parts}
@@ -39,7 +39,7 @@ alone_stays up (d ∷ []) near few =
     (one_order up (d ∷ []) (taken up (d ∷ [])) (head_at up 0 d ∷ []) (taken_are up (d ∷ []) near) (alone_taken up d))
 alone_stays up (d ∷ e ∷ ss) near few = absurd (omega (arith, few))
 
--- the sign of a head alone stands in the first column
+-- the accidental of a single head is in the first column
 pub alone_signed : (first : ℤ) (ss : List HeadPosition) (e : HeadPosition)
     → AllNear ss → 1 ≤ length ss → length ss < 2
     → (if (slice_index_or ss 0 e).signed then Some first else None) ∷ [] ≡ signs_from first ss

@@ -1,4 +1,4 @@
--- Signs stand in their columns, and in one way alone.
+-- Accidentals are in their columns, and this determines their places.
 use Rattle.std.proofs.Common.{◌≡◌, ℕ, ◌+◌, ◌<◌, ℤ, Bool, true, false, cond, if◌then◌else◌, List, [], ◌∷◌, length}
 use Rattle.std.proofs.Common.{replicate, refl, sym, ◌∙◌, subst, Option, Some, None, length-set, get_or-set_same}
 use Rattle.std.proofs.Common.{get_or-set_other}
@@ -119,7 +119,7 @@ signs_in_columns first ss near =
           (all_free ss (taken false ss) a.only);
     }
 
--- one column for each sign
+-- one column for each accidental
 same_all : (first : ℤ) (xs ys : List (Option ℤ)) (k : ℕ) (ts : List Taken)
     → SignedAfter first xs k ts → SignedAfter first ys k ts
     → AllByRecursion (λ t. sign_of_head xs t ≡ sign_of_head ys t) ts

@@ -26,7 +26,7 @@ pub taken_step : (up : Bool) (n : ℕ) (ss : List HeadPosition) → n < 45 →
 taken_step up n ss lt =
     let e : (pos n -ℤ pos 22) +ℤ pos 1 ≡ pos (n + 1) -ℤ pos 22 = omega (arith, ints) in rw (one_less n 45 lt, e) refl
 
--- a push takes the first of what is left
+-- a push takes the first of the rest
 pub pushed : {A : Type 0} (out new whole : List A) (x y : A) (more rest : List A) →
     new ≡ out ++ x ∷ [] → x ≡ y → rest ≡ y ∷ more → out ++ rest ≡ whole → new ++ more ≡ whole
 pushed out new whole x y more rest e f g h =

@@ -1,4 +1,4 @@
--- Heads are displaced as they should be, and in one way alone.
+-- Heads are displaced by the rule, and the rule determines which.
 use Rattle.std.proofs.Common.{◌≡◌, ℕ, zero, suc, ◌<◌, ℤ, pos, Bool, true, false, cond, not, ◌&&◌, List, [], ◌∷◌, length}
 use Rattle.std.proofs.Common.{replicate, refl, sym, ◌∙◌, ap, subst, Option, Some, None, arith, length-set}
 use Rattle.std.proofs.Common.{get_or-set_same, get_or-set_other, ext_get_or}
@@ -22,7 +22,7 @@ within_list (d ∷ ss) (suc k) s is = (let h = within_list ss k s is in omega (a
 pub head_within : (up : Bool) (ss : List HeadPosition) (t : Taken) → IsHead up ss t → t.place < length ss
 head_within up ss t is = within_list ss t.place is.0 is.1
 
--- what is written for the heads ts leaves all other places as they are
+-- writing the entries of the heads ts leaves all other places unchanged
 cond_get : (b : Bool) (xs ys : List ℤ) (p : ℕ) (z : ℤ)
     → slice_index_or xs p (pos 0) ≡ z → slice_index_or ys p (pos 0) ≡ z → slice_index_or (cond b xs ys) p (pos 0) ≡ z
 cond_get true xs ys p z e f = e
@@ -104,7 +104,7 @@ follows up b (t ∷ ts) xs apart free =
       h',
     )
 
--- whether a head is displaced can be read off its dx
+-- the dx of a head says whether it is displaced
 read_off : (up g : Bool) → not (int_eq (dx_where up g) (pos 0)) ≡ g
 unfolding head_shift
 read_off true true = refl
@@ -189,7 +189,7 @@ same_all : (up : Bool) (xs ys : List ℤ) (ts : List Taken)
 same_all up xs ys [] p q = tt {0}
 same_all up xs ys (t ∷ ts) p q = (let same = p.0 ∙ sym q.0 in (same, same_after up xs ys t ts same p.1 q.1))
 
--- what lists have for all heads that are taken they have at all places
+-- lists that agree on all heads that are taken agree at all places
 pub same_lists : {A : Type 0} (up : Bool) (ss : List HeadPosition) (ts : List Taken) (none : A) (xs ys : List A)
     → AreTaken up ss ts → length xs ≡ length ss → length ys ≡ length ss
     → AllByRecursion (λ t. slice_index_or xs t.place none ≡ slice_index_or ys t.place none) ts → xs ≡ ys

@@ -1,4 +1,4 @@
--- The own ends of what `stems_of` gives are in range, and there is a plan for each event.
+-- The own ends in the plans of `stems_of` are in range, and there is a plan for each event.
 use Rattle.std.proofs.Common.{◌≡◌, ℕ, ℤ, pos, negsuc, ◌≤ℤ◌, Bool, true, false, List, [], ◌∷◌, length, suc, ap, ◌∙◌}
 use Rattle.std.proofs.Common.{refl, subst, sym, arith}
 use Rattle.std.proofs.lemmas.Int.{ints, clamps}

@@ -1,4 +1,4 @@
--- Beams are told by the groups of plans, where the ids of events rise.
+-- The groups of plans determine beams if the ids of events rise.
 use Rattle.std.proofs.Common.{◌≡◌, ℕ, suc, ◌+◌, ◌<◌, ℤ, Bool, true, false, cond, eqb, List, [], ◌∷◌, ◌++◌, length, map}
 use Rattle.std.proofs.Common.{refl, sym, subst, ap, ◌∙◌, arith}
 use Rattle.std.proofs.lemmas.Bool.{eq-eqb, ne_eqb}
@@ -20,7 +20,7 @@ use Rattle.mus_stems.specs.Groups.{same_group, IdsRise, BeamsByGroups, SlopesByB
 use Rattle.mus_stems.proofs.RunLaws.{runs_are_maximal, runs_length, runs_of_whole}
 use Rattle.mus_stems.proofs.EndLaws.{run_length}
 
--- ids that rise from event to event, the first of them above one before
+-- ids that rise from event to event, the first above an earlier id
 abbrev RiseBehind : ℕ → List StemInput → Type 0
 RiseBehind id [] = Unit {0}
 RiseBehind id (e ∷ es) = (id < e.id) × RiseBehind e.id es
@@ -42,7 +42,7 @@ all_rise : (es : List StemInput) → IdsRise es → AllRise es
 all_rise [] h = tt {0}
 all_rise (e ∷ es) h = rise_behind e es h
 
--- what is behind some of the events rises too, and above the id before them
+-- the events after some of the events rise too, and above the id before them
 behind_rises : (id : ℕ) (es more : List StemInput) → RiseBehind id (es ++ more) → AllRise more
 behind_rises id [] [] rise = tt {0}
 behind_rises id [] (d ∷ more) rise = rise.1
@@ -53,7 +53,7 @@ above : (id : ℕ) (es : List StemInput) (d : StemInput) (more : List StemInput)
 above id [] d more rise = rise.0
 above id (e ∷ es) d more rise = let h = above e.id es d more rise.1 in let g = rise.0 in omega (arith, g, h)
 
--- runs that begin with a greater id, if any
+-- runs that begin with a greater id, if there are any
 abbrev BeginAbove : ℕ → List (List StemInput) → Type 0
 BeginAbove id [] = Unit {0}
 BeginAbove id ([] ∷ rs) = ⊥
@@ -65,7 +65,7 @@ begin_above joined id es [] are rise = tt {0}
 begin_above joined id es ([] ∷ rs) are rise = are
 begin_above joined id es ((d ∷ r) ∷ rs) are rise = above id es d (r ++ flat_map (λ r. r) rs) rise
 
--- the plans of a run have one group, and those of the next another
+-- the plans of a run have one group, and those of the next run have another
 along_joined : (up : Bool) (to : ℤ) (group : ℕ) (e : StemInput) (es : List StemInput)
     → JoinedAfter same_group (plan_of up to group e) (plans_along up to group es)
 unfolding same_group plan_of
@@ -129,7 +129,7 @@ runs_of_numbers g same alike [] = refl
 runs_of_numbers g same alike (d ∷ es) =
     numbers_put g same alike d (runs same es) ∙ ap (λ t. put_before eqb (g d) t) (runs_of_numbers g same alike es)
 
--- lists of which each is as long as that in its place
+-- lists each of which is as long as the list in its place
 lengths_of : {A B : Type 0} (f : List A → List B)
     → ((r : List A) → length (f r) ≡ length r) → (rs : List (List A))
     → map (λ r. length r) (map f rs) ≡ map (λ r. length r) rs

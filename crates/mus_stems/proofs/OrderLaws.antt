@@ -22,7 +22,7 @@ pub all_of : (P Q : Taken → Type 0)
 all_of P Q f [] all = tt {0}
 all_of P Q f (t ∷ ts) all = (f t all.0, all_of P Q f ts all.1)
 
--- no head is taken before itself, and of two heads only one before the other
+-- no head is taken before itself, and of two heads only one is before the other
 pub not_itself : (a : Taken) → IsBefore a a → ⊥
 not_itself a (inl lt) = omega (arith, ints, lt)
 not_itself a (inr h) = omega (arith, h.1)
@@ -33,7 +33,7 @@ not_both a b (inl p) (inr q) = (let e = q.0 in omega (arith, ints, p, e))
 not_both a b (inr p) (inl q) = (let e = p.0 in omega (arith, ints, q, e))
 not_both a b (inr p) (inr q) = (let g = p.1 in let h = q.1 in omega (arith, g, h))
 
--- what is taken at a level and later
+-- the heads taken at a level and later
 IsFrom : ℤ → ℕ → Taken → Type 0
 IsFrom v k t = (v <ℤ t.level) ⊎ ((v ≡ t.level) × (k ≤ t.place))
 
@@ -94,7 +94,7 @@ from_order up v (suc n) ss =
       all_of (IsFrom v 0) (λ t. v ≤ℤ t.level) (not_below v) (taken_at up v 0 ss (taken_from up (v +ℤ pos 1) n ss)) h.1,
     )
 
--- heads of the event alone: ss are its heads from place k on
+-- only heads of the event: ss are its heads from place k on
 at_heads : (up : Bool) (v : ℤ) (k : ℕ) (whole ss : List HeadPosition) (rest : List Taken)
     → ((j : ℕ) → slice_get whole (k + j) ≡ slice_get ss j)
     → AllByRecursion (IsHead up whole) rest → AllByRecursion (IsHead up whole) (taken_at up v k ss rest)
@@ -215,7 +215,7 @@ taken_are up ss near = record {
   all = λ k s is. (let l = level_near up s (near_at ss k s near is) in from_all up (negsuc 21) 45 k ss s is l.0 l.1);
 }
 
--- two lists in order with the same heads are one
+-- two ordered lists of the same heads are equal
 fronts : (t u : Taken) (ts us : List Taken)
     → AreTakenInOrder (t ∷ ts) → AreTakenInOrder (u ∷ us) → IsAmong (u ∷ us) t → IsAmong (t ∷ ts) u → t ≡ u
 fronts t u ts us ot ou (inl e) back = sym e
@@ -252,7 +252,7 @@ pub one_order : (up : Bool) (ss : List HeadPosition) (ts us : List Taken)
     → AreTaken up ss ts → AreTaken up ss us → ts ≡ us
 one_order up ss ts us a b = orders_same ts us a.order b.order (all_there up ss ts us a b) (all_there up ss us ts b a)
 
--- heads that are taken stand at places of their own
+-- heads that are taken are at distinct places
 same_place : (up : Bool) (ss : List HeadPosition) (t u : Taken)
     → IsHead up ss t → IsHead up ss u → t.place ≡ u.place → t ≡ u
 same_place up ss t u p q e =

@@ -1,4 +1,4 @@
--- What `stems_of` gives are the plans of events, and there are no others.
+-- The results of `stems_of` are the plans of events, and there are no others.
 use Rattle.std.proofs.Common.{◌≡◌, List, [], ◌∷◌, ◌++◌, map, refl, sym, ◌∙◌, ap, subst}
 use Rattle.std.specs.List.{AllByRecursion, AllZip}
 use Rattle.mus_units.specs.declared.note.Wish.{Wish}

@@ -1,4 +1,4 @@
--- The runs of a list begin with the run at its front, and are its maximal runs.
+-- The runs of a list begin with its first run, and are its maximal runs.
 use Rattle.std.proofs.Common.{◌≡◌, ℕ, zero, suc, ◌+◌, Bool, true, false, cond, List, [], ◌∷◌, ◌++◌, take, drop, refl}
 use Rattle.std.proofs.Common.{sym, ◌∙◌, ap, append_assoc, length, length-append, arith}
 use Rattle.std.specs.List.{flat_map, AllByRecursion}
@@ -32,7 +32,7 @@ all_drop P (suc n) (e ∷ es) a = all_drop P n es a.1
 one_past : (n : ℕ) → n + 1 ≡ suc n
 one_past n = omega arith
 
--- the run at the front, and what is behind it
+-- the first run, and what follows it
 pub run_is : {A : Type 0} (joined : A → A → Bool) (d : A) (more rest run : List A) (n : ℕ) →
     rest ≡ d ∷ more
     → n ≡ run_more joined d more → run ≡ take (n + 1) rest → run ≡ d ∷ take (run_more joined d more) more
@@ -43,7 +43,7 @@ behind_is : {A : Type 0} (joined : A → A → Bool) (d : A) (more rest after : 
     → n ≡ run_more joined d more → after ≡ drop (n + 1) rest → after ≡ drop (run_more joined d more) more
 behind_is joined d more rest after n e1 e2 e4 = e4 ∙ rw (e1, e2, one_past (run_more joined d more)) refl
 
--- a turn of a loop over runs, which puts what is made of the run at the front
+-- one turn of a loop over runs, which adds the result for the first run
 pub run_step : {A B : Type 0} (joined : A → A → Bool) (f : List A → List B) (d : A) (more rest run after : List A)
     (n : ℕ) (out new whole : List B)
     → rest ≡ d ∷ more → n ≡ run_more joined d more → run ≡ take (n + 1) rest → after ≡ drop (n + 1) rest
@@ -58,7 +58,7 @@ run_step joined f d more rest run after n out new whole e1 e2 e3 e4 e5 inv =
     ∙ sym (ap (λ t. out ++ flat_map f t) (ap (λ t. runs joined t) e1 ∙ runs_front joined d more))
     ∙ inv)
 
--- an element in front of runs gives runs of the longer list
+-- an element before runs gives runs of the longer list
 put_whole : {A : Type 0} (joined : A → A → Bool) (d : A) (rs : List (List A))
     → flat_map (λ r. r) (put_before joined d rs) ≡ d ∷ flat_map (λ r. r) rs
 put_whole joined d [] = refl
@@ -112,7 +112,7 @@ pub all_append : {A : Type 0} (P : A → Type 0) (xs ys : List A)
 all_append P [] ys all more = more
 all_append P (x ∷ xs) ys all more = (all.0, all_append P xs ys all.1 more)
 
--- what is as long as each run is in all as long as the list
+-- lists as long as each run are together as long as the list
 whole_length : {A B : Type 0} (f : List A → List B)
     → ((r : List A) → length (f r) ≡ length r) → (rs : List (List A))
     → length (flat_map f rs) ≡ length (flat_map (λ r. r) rs)
@@ -125,7 +125,7 @@ pub runs_length : {A B : Type 0} (joined : A → A → Bool) (f : List A → Lis
     → ((r : List A) → length (f r) ≡ length r) → (es : List A) → length (flat_map f (runs joined es)) ≡ length es
 runs_length joined f same es = whole_length f same (runs joined es) ∙ ap (λ t. length t) (all_whole joined es)
 
--- what is cut into maximal runs is cut as `runs` does
+-- a list split into maximal runs is split as `runs` does it
 put_apart : {A : Type 0} (joined : A → A → Bool) (d : A) (rs : List (List A))
     → EndsBefore joined d [] rs → put_before joined d rs ≡ (d ∷ []) ∷ rs
 put_apart joined d [] ends = refl

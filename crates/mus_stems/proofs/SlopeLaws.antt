@@ -1,4 +1,4 @@
--- Lines of beams: what events stand over them, and how far they rise.
+-- Lines of beams: events lie within them, and their rise is bounded.
 use Rattle.std.proofs.Common.{◌≡◌, ℕ, zero, suc, ◌+◌, ◌*◌, ◌/◌, ◌<◌, ◌≤◌, ℤ, pos, negsuc, ◌-ℤ◌, ◌*ℤ◌, ◌≤ℤ◌, ◌<ℤ◌, Bool}
 use Rattle.std.proofs.Common.{true, false, cond, List, [], ◌∷◌, take, drop, refl, subst, sym, ap, ◌∙◌, length, arith}
 use Rattle.std.proofs.lemmas.Int.{ints, clamps, unsigned_abs-mul}
@@ -26,9 +26,9 @@ pub anchors_are : (es : List SlopeInput) (ps : List StemPlan) (xs : List ℤ)
     → es ≡ slope_inputs ps xs → AllEndsNear ps → ArePlaces xs → AreAnchors es
 anchors_are es ps xs e near places = subst AreAnchors (sym e) (all_anchors ps xs near places)
 
--- events of a beam stand over the line from its first to its last
+-- events of a beam lie within the line from its first to its last
 
--- what of a beam's events is said of any line with the same ends
+-- what is said of a beam's events holds for any line with the same ends
 between : (lo hi : ℤ) (a : SlopeInput)
     → IsAnchor a → lo ≤ℤ a.x → a.x ≤ℤ hi → (climb : ℤ) → IsOver (record { first = lo; last = hi; climb = climb }) a
 between lo hi a is after before climb = record { own_low = is.0; own_high = is.1; after = after; before = before }
@@ -51,7 +51,7 @@ last_anchor : (a : SlopeInput) (es : List SlopeInput) → IsAnchor a → AreAnch
 last_anchor a [] is are = is
 last_anchor a (b ∷ es) is are = last_anchor b es are.0 are.1
 
--- a quotient is at most 500 where 500 times the divisor is no less than what is divided
+-- a quotient is at most 500 if 500 times the divisor is no less than the dividend
 pub quotient_near : (z m : ℤ)
     → pos 0 <ℤ m → unsigned_abs z ≤ 500 * unsigned_abs m
     → (negsuc 499 ≤ℤ int_div_euclid z m) × (int_div_euclid z m ≤ℤ pos 500)
@@ -100,7 +100,7 @@ along_near up line z (a ∷ es) is near are =
     along_near up line (further_end up z (a.own -ℤ rise_at line a.x)) es is
     (further_near up z (a.own -ℤ rise_at line a.x) near (ask_near line a is are.0)) are.1
 
--- the base of a beam is near
+-- the base of a beam is in range
 pub base_near : (line : BeamLine) (a : SlopeInput) (others beam : List SlopeInput) (base : ℤ)
     → base ≡ base_along a.up line (a.own -ℤ rise_at line a.x) others
     → beam ≡ a ∷ others → IsLine line → AreOver line beam → IsBeamBase base
@@ -109,7 +109,7 @@ base_near line a others beam base e f is are =
     subst IsBeamBase (sym e)
     (along_near a.up line (a.own -ℤ rise_at line a.x) others is (ask_near line a is over.0) over.1)
 
--- the line of a beam goes to the right, and its events stand over it
+-- the line of a beam goes to the right, and its events lie within it
 pub line_goes : (a b z : SlopeInput) (beam others more : List SlopeInput) (line : BeamLine)
     → beam ≡ a ∷ others → others ≡ b ∷ more → z ≡ last_input b more → line ≡ slope_line a z
     → AreAnchors beam → Rise beam → IsLine line × AreOver line beam
@@ -132,7 +132,7 @@ line_goes a b z beam others more line e f g h are rise =
       subst (λ t. AreOver line t) (sym whole) (subst (λ l. AreOver l (a ∷ b ∷ more)) (sym same) over),
     )
 
--- the abscissas of a beam rise, and so do those behind it
+-- the abscissas of a beam rise, and so do those after it
 rise_front : (a : SlopeInput) (es : List SlopeInput)
     → RisesAfter a es → RiseFrom a (take (run_more shares_beam a es) es)
 rise_front a [] r = tt {0}

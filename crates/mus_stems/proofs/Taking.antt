@@ -1,4 +1,4 @@
--- What is taken from events that can be drawn is good.
+-- The stem inputs of events that can be drawn are good.
 use Rattle.std.proofs.Common.{◌≡◌, ◌≤◌, List, [], ◌∷◌, length, map, refl, subst, sym, ap, suc}
 use Rattle.mus_units.specs.declared.pitch.Clef.{Clef}
 use Rattle.mus_units.specs.declared.note.Head.{Head}

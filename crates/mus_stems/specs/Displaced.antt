@@ -1,12 +1,12 @@
--- Displaced heads. The head that is taken first stands at its stem. Each other one is displaced to the other side of
--- the stem exactly where it is at most one step past the head taken before it and that head isn't displaced.
+-- Displaced heads. The head that is taken first is at its stem. Each other head is displaced to the other side of the
+-- stem exactly when it is at most one step past the head taken before it and that head is not displaced.
 use Rattle.std.specs.Prelude.{◌≡◌, ℤ, pos, Bool, not, ◌&&◌, if◌then◌else◌, ⊤, List, [], ◌∷◌, length, slice_index_or}
 use Rattle.std.specs.Ordering.{int_eq}
 use Rattle.mus_stems.specs.declared.heads.HeadPosition.{HeadPosition}
 use Rattle.mus_stems.specs.Heads.{Taken, is_step_past, head_shift}
 use Rattle.mus_stems.specs.Order.{AreTaken}
 
--- the dx that a list in the order of the text has for a head
+-- the dx of a head in a list in the order of the text
 abbrev pub dx_of : List ℤ → Taken → ℤ
 dx_of xs t = slice_index_or xs t.place (pos 0)
 
@@ -16,7 +16,7 @@ is_displaced xs t = not (int_eq (dx_of xs t) (pos 0))
 abbrev pub dx_where : Bool → Bool → ℤ
 dx_where up displaced = if displaced then head_shift up else pos 0
 
--- heads that are taken one after the other, the first of them after b
+-- heads taken one after another, the first after b
 abbrev pub DisplacedAfter : Bool → List ℤ → Taken → List Taken → Type 0
 DisplacedAfter up xs b [] = ⊤
 DisplacedAfter up xs b (t ∷ ts) =

@@ -1,5 +1,5 @@
--- The distances by which stems, heads, signs, dots and ledger lines stand, in u: to the right of their column, or above
--- the bottom line of the staff.
+-- The distances at which stems, heads, accidentals, dots and ledger lines are drawn, in u: to the right of their
+-- column, or above the bottom line of the staff.
 use Rattle.std.specs.Prelude.{ℕ, ℤ, pos, negsuc}
 
 -- a step of the staff, and the middle line, four steps up
@@ -13,14 +13,14 @@ middle_line = pos 1000
 abbrev pub stem_length : ℤ
 stem_length = pos 1750
 
--- a displaced head stands beside the others of its event, to the right or to the left
+-- a displaced head is beside the others of its event, to the right or to the left
 abbrev pub right_of_stem : ℤ
 right_of_stem = pos 560
 
 abbrev pub left_of_stem : ℤ
 left_of_stem = negsuc 559
 
--- the first column of signs, the same past a head left of the stem, and how far columns are apart
+-- the first column of accidentals, the same past a head left of the stem, and the distance between columns
 abbrev pub sign_column : ℤ
 sign_column = negsuc 749
 
@@ -30,7 +30,7 @@ outer_sign_column = negsuc 1309
 abbrev pub between_columns : ℕ
 between_columns = 500
 
--- the first dot, the same past a head right of the stem, and how far dots are apart
+-- the first dot, the same past a head right of the stem, and the distance between dots
 abbrev pub dot_column : ℤ
 dot_column = pos 600
 
@@ -40,7 +40,7 @@ outer_dot_column = pos 1160
 abbrev pub between_dots : ℕ
 between_dots = 250
 
--- the first ledger line below the staff and the first above it, and how far lines are apart
+-- the first ledger line below the staff and the first above it, and the distance between ledger lines
 abbrev pub first_below : ℤ
 first_below = negsuc 499
 
@@ -50,7 +50,7 @@ first_above = pos 2500
 abbrev pub between_lines : ℕ
 between_lines = 500
 
--- a beam climbs or falls by so much at most
+-- the most that a beam climbs or falls
 abbrev pub steepest : ℤ
 steepest = pos 500
 

@@ -1,4 +1,4 @@
--- The dots behind the heads of an event.
+-- The dots after the heads of an event.
 use Rattle.std.specs.Prelude.{ℕ, zero, suc, ℤ, pos, negsuc, ◌+◌, ◌*◌, ◌%◌, ◌+ℤ◌, ◌*ℤ◌, Bool, ◌==◌, if◌then◌else◌, List}
 use Rattle.std.specs.Prelude.{[], ◌∷◌, ◌++◌}
 use Rattle.std.specs.Ordering.{int_eq}
@@ -10,7 +10,7 @@ use Rattle.mus_stems.specs.Distances.{staff_step, right_of_stem, dot_column, out
 unfoldable pub is_right : ℤ → Bool
 is_right dx = int_eq dx right_of_stem
 
--- dots of a head: 250 apart, on the space above where the head stands on a line
+-- dots of a head: 250 apart, in the space above if the head is on a line
 unfoldable pub dot_place : ℤ → ℕ → ℤ
 dot_place first j = first +ℤ pos (between_dots * j)
 

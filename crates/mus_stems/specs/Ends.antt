@@ -1,4 +1,4 @@
--- Which way the stems of a run go, and where they begin and end.
+-- The direction of the stems of a run, and where they begin and end.
 use Rattle.std.specs.Prelude.{ℤ, pos, ◌+ℤ◌, ◌-ℤ◌, ◌*ℤ◌, Bool, true, false, ◌&&◌, nat_lt, int_lt, if◌then◌else◌, List}
 use Rattle.std.specs.Prelude.{[], ◌∷◌, length}
 use Rattle.std.specs.Int.{int_min, int_max}
@@ -35,7 +35,7 @@ abbrev pub run_high : List StemInput → ℤ
 run_high [] = pos 0
 run_high (e ∷ es) = highest_in (high_of e.stands) es
 
--- the way that is wished for; else up where the lowest and the highest height sum to less than 8
+-- the direction that is asked for; else up if the lowest and the highest height sum to less than 8
 abbrev pub is_up : Wish → ℤ → ℤ → Bool
 is_up Wish.Up low high = true
 is_up Wish.Down low high = false
@@ -58,7 +58,7 @@ abbrev pub stem_own_end : Bool → List HeadPosition → ℤ
 stem_own_end up [] = pos 0
 stem_own_end up (s ∷ ss) = outer_end up (lowest s.height ss) (highest s.height ss)
 
--- the end of a run: the greatest of its events' own ends, or down the least
+-- the end of a run: for stems up the greatest of its events' own ends, for stems down the least
 unfoldable pub further_end : Bool → ℤ → ℤ → ℤ
 further_end up y z = if up then int_max y z else int_min y z
 
@@ -70,7 +70,7 @@ abbrev pub run_end : Bool → List StemInput → ℤ
 run_end up [] = pos 0
 run_end up (e ∷ es) = beam_end up (stem_own_end up e.stands) es
 
--- a stem begins at the dy of the head at its other end: up the lowest, down the highest
+-- a stem begins at the dy of the head at its other end: the lowest if it goes up, the highest if it goes down
 unfoldable pub from_of : Bool → List HeadPosition → ℤ
 from_of up ss = if up then (staff_step *ℤ low_of ss) else (staff_step *ℤ high_of ss)
 

@@ -1,4 +1,4 @@
--- Beams are told by the `group` of plans: where the ids of events rise, the plans of a beam are a maximal run of
+-- The `group` of plans determines beams: if the ids of events rise, the plans of a beam are a maximal run of
 -- neighbours with one group, the id of the event at which the beam begins.
 use Rattle.std.specs.Prelude.{◌≡◌, ℤ, Bool, ◌==◌, List, length, map}
 use Rattle.std.specs.List.Sorted.{IsStrictlyIncreasing}
@@ -24,7 +24,7 @@ BeamsByGroups =
     (wish : Wish) (es : List StemInput)
     → IdsRise es → runs same_group (plans_of_runs wish (beams es)) ≡ map (run_plans wish) (beams es)
 
--- the runs that a slope goes by are as long as the beams, one for each
+-- the runs that a slope uses are as long as the beams, one for each
 abbrev pub SlopesByBeams : Type 0
 SlopesByBeams = (wish : Wish) (es : List StemInput) (xs : List ℤ) → IdsRise es → length xs ≡ length es
     → map (λ run. length run) (runs shares_beam (slope_inputs (plans_of_runs wish (beams es)) xs))

@@ -1,6 +1,6 @@
--- Displaced heads: heads are taken from the lowest up where the stem goes up, and from the highest down where it goes
--- down, at one height in the order of the text. A head at most one step past the one taken before it goes to the other
--- side of the stem, unless that one did.
+-- Displaced heads: heads are taken from the lowest up if the stem goes up, and from the highest down if it goes down,
+-- at one height in the order of the text. A head at most one step past the one taken before it goes to the other side
+-- of the stem, unless that one did.
 use Rattle.std.specs.Prelude.{ℕ, zero, suc, ℤ, pos, negsuc, ◌+◌, ◌+ℤ◌, ◌-ℤ◌, ◌≤ℤ◌, Bool, true, false, not, ◌&&◌, int_le}
 use Rattle.std.specs.Prelude.{if◌then◌else◌, List, [], ◌∷◌, length, replicate, Option, Some, None, is_some}
 use Rattle.std.specs.Ordering.{int_eq}
@@ -13,11 +13,11 @@ use Rattle.mus_stems.specs.declared.heads.HeadPosition.{HeadPosition}
 use Rattle.mus_stems.specs.declared.heads.LastHead.{LastHead}
 use Rattle.mus_stems.specs.Distances.{right_of_stem, left_of_stem}
 
--- where a head stands in a clef, and whether a sign is written before it
+-- the position of a head in a clef, and whether an accidental is written before it
 unfoldable pub stand_of : Clef → Head → HeadPosition
 stand_of c h = record { height = height_of h.pitch c; signed = is_some h.sign }
 
--- heads stand at heights -14 to 22
+-- heads are at heights -14 to 22
 abbrev pub IsNearStaff : HeadPosition → Type 0
 IsNearStaff s = (negsuc 13 ≤ℤ s.height) × (s.height ≤ℤ pos 22)
 
@@ -34,17 +34,17 @@ abbrev pub highest : ℤ → List HeadPosition → ℤ
 highest z [] = z
 highest z (s ∷ ss) = highest (int_max z s.height) ss
 
--- how far a head stands in the way in which heads are taken
+-- how far a head is along the direction in which heads are taken
 unfoldable pub level_of : Bool → ℤ → ℤ
 level_of up h = if up then h else (pos 0 -ℤ h)
 
--- a head as it is taken: its place in the text, its level, and whether it has a sign
+-- a head as it is taken: its place in the text, its level, and whether it has an accidental
 pub record Taken : Type 0 where
   pub place : ℕ
   pub level : ℤ
   pub signed : Bool
 
--- the head at place k, if it stands at level v, in front of what is taken after it
+-- the head at place k, if it is at level v, before what is taken after it
 unfoldable pub taken_one : Bool → ℤ → ℕ → HeadPosition → List Taken → List Taken
 taken_one up v k s rest =
     if int_eq (level_of up s.height) v then record { place = k; level = v; signed = s.signed } ∷ rest else rest
@@ -60,11 +60,11 @@ taken_from up v zero ss = []
 taken_from up v (suc n) ss = taken_at up v 0 ss (taken_from up (v +ℤ pos 1) n ss)
 
 -- all heads as they are taken: from the lowest for up, from the highest for down, and heads of one height in the
--- order of the text. Their levels are -22 to 22, since they stand at -14 to 22
+-- order of the text. Their levels are -22 to 22, since their heights are -14 to 22
 unfoldable pub taken : Bool → List HeadPosition → List Taken
 taken up ss = taken_from up (negsuc 21) 45 ss
 
--- a head is displaced where it is at most one step past the head taken before it and that head isn't displaced
+-- a head is displaced if it is at most one step past the head taken before it and that head is not displaced
 unfoldable pub is_step_past : ℤ → ℤ → Bool
 is_step_past before v = int_le (v -ℤ pos 1) before
 

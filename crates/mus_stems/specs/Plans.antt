@@ -22,7 +22,7 @@ abbrev pub first_event_id : List StemInput → ℕ
 first_event_id [] = 0
 first_event_id (e ∷ es) = e.id
 
--- the plan of an event, over the way of its run, the run's end and the event at which it begins
+-- the plan of an event, given the direction of its run, the run's end and the event at which it begins
 unfoldable pub plan_of : Bool → ℤ → ℕ → StemInput → StemPlan
 plan_of up to group e =
     let shifts = shifts_of up e.stands in record {
@@ -63,7 +63,7 @@ in_run run e = record { run = run; event = e }
 abbrev pub in_runs : List (List StemInput) → List InRun
 in_runs = flat_map (λ run. map (in_run run) run)
 
--- how an event of a beam, or by itself, is drawn
+-- how an event is drawn in a beam or by itself
 pub record IsStemPlan (wish : Wish) (i : InRun) (p : StemPlan) : Type 0 where
   pub way : p.up ≡ stands_up wish i.run
   pub has : p.has ≡ has_stem i.event
@@ -77,7 +77,7 @@ pub record IsStemPlan (wish : Wish) (i : InRun) (p : StemPlan) : Type 0 where
   pub ledgers : p.ledgers ≡ ledgers_of (low_of i.event.stands) (high_of i.event.stands)
   pub dots : p.dots ≡ dots_along (first_dot p.shifts) i.event.dots i.event.stands
 
--- the plans of the events of a measure: its beams are maximal runs, and each event is drawn as one of its beam
+-- the plans of the events of a measure: its beams are maximal runs, and each event is drawn as part of its beam
 pub record ArePlans (wish : Wish) (es : List StemInput) (plans : List StemPlan) : Type 0 where
   pub runs : List (List StemInput)
   pub maximal : AreMaximalRuns is_joined es runs

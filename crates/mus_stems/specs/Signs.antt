@@ -1,4 +1,4 @@
--- Where the signs before the heads of an event stand.
+-- Where the accidentals before the heads of an event are.
 use Rattle.std.specs.Prelude.{ℕ, ℤ, pos, ◌+◌, ◌*◌, ◌-ℤ◌, Bool, false, if◌then◌else◌, List, [], ◌∷◌, length, replicate}
 use Rattle.std.specs.Prelude.{Option, Some, None}
 use Rattle.std.specs.Ordering.{int_eq}
@@ -7,7 +7,7 @@ use Rattle.mus_stems.specs.declared.heads.HeadPosition.{HeadPosition}
 use Rattle.mus_stems.specs.Distances.{left_of_stem, sign_column, outer_sign_column, between_columns}
 use Rattle.mus_stems.specs.Heads.{Taken, taken}
 
--- the dx of the k-th column of signs, from 0
+-- the dx of the k-th column of accidentals, from 0
 unfoldable pub sign_dx : ℤ → ℕ → ℤ
 sign_dx first k = first -ℤ pos (between_columns * k)
 
@@ -23,6 +23,6 @@ signs_from first ss = signs_along first 0 (taken false ss) (replicate (length ss
 unfoldable pub is_left : ℤ → Bool
 is_left dx = int_eq dx left_of_stem
 
--- signs stand 560 further left where a head stands left of the stem
+-- accidentals are 560 further left if a head is left of the stem
 unfoldable pub first_sign : List ℤ → ℤ
 first_sign shifts = if list_any is_left shifts then outer_sign_column else sign_column

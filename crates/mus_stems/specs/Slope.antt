@@ -1,5 +1,5 @@
--- Sloped beams: in a beam the stems end on a line over the abscissas of their events. The line climbs by what the last
--- event's own end is above the first one's, at most 500, and stands as far out as the own ends of its events ask.
+-- Sloped beams: in a beam the stems end on a line over the abscissas of their events. The line climbs by the last
+-- event's own end less the first one's, at most 500, and is as far out as the own ends of its events require.
 use Rattle.std.specs.Prelude.{◌≡◌, ℤ, pos, negsuc, ◌^◌, ◌+ℤ◌, ◌-ℤ◌, ◌*ℤ◌, ◌≤ℤ◌, ◌<ℤ◌, Bool, true, ◌==◌, ⊤, List, []}
 use Rattle.std.specs.Prelude.{◌∷◌}
 use Rattle.std.specs.Int.{int_min, int_max, int_div_euclid}
@@ -11,7 +11,7 @@ use Rattle.mus_stems.specs.Distances.{steepest, steepest_down}
 use Rattle.mus_stems.specs.Ends.{further_end}
 use Rattle.mus_stems.specs.Runs.{runs}
 
--- what a slope takes from a plan, and the abscissa of its event
+-- what a slope needs of a plan, and the abscissa of its event
 unfoldable pub slope_input : StemPlan → ℤ → SlopeInput
 slope_input p x = record { up = p.up; own = p.own; group = p.group; x = x }
 
@@ -28,7 +28,8 @@ abbrev pub last_input : SlopeInput → List SlopeInput → SlopeInput
 last_input a [] = a
 last_input a (b ∷ bs) = last_input b bs
 
--- the line of a beam: from its first event to its last, climbing by the last own end less the first, cut to -500 to 500
+-- the line of a beam: from its first event to its last, climbing by the last own end less the first, clamped to -500
+-- to 500
 unfoldable pub slope_line : SlopeInput → SlopeInput → BeamLine
 slope_line a b = record { first = a.x; last = b.x; climb = int_max (int_min (b.own -ℤ a.own) steepest) steepest_down }
 
@@ -36,7 +37,7 @@ slope_line a b = record { first = a.x; last = b.x; climb = int_max (int_min (b.o
 unfoldable pub rise_at : BeamLine → ℤ → ℤ
 rise_at line x = int_div_euclid (line.climb *ℤ (x -ℤ line.first)) (line.last -ℤ line.first)
 
--- the base of a beam: up the greatest own end less rise over its events, down the least
+-- the base of a beam: for stems up the greatest own end less rise over its events, for stems down the least
 abbrev pub base_along : Bool → BeamLine → ℤ → List SlopeInput → ℤ
 base_along up line z [] = z
 base_along up line z (a ∷ es) = base_along up line (further_end up z (a.own -ℤ rise_at line a.x)) es
@@ -87,7 +88,7 @@ abbrev pub RisesInBeams : List SlopeInput → Type 0
 RisesInBeams [] = ⊤
 RisesInBeams (a ∷ es) = RisesAfter a es
 
--- an event whose own end and whose abscissa are in range
+-- an event with its own end and its abscissa in range
 abbrev pub IsAnchor : SlopeInput → Type 0
 IsAnchor a = (negsuc 5249 ≤ℤ a.own) × (a.own ≤ℤ pos 7250) × IsAbscissa a.x
 
@@ -102,7 +103,7 @@ pub record IsLine (line : BeamLine) : Type 0 where
   pub low : steepest_down ≤ℤ line.climb
   pub high : line.climb ≤ℤ steepest
 
--- an event over a line
+-- an event within the extent of a line
 pub record IsOver (line : BeamLine) (a : SlopeInput) : Type 0 where
   pub own_low : negsuc 5249 ≤ℤ a.own
   pub own_high : a.own ≤ℤ pos 7250

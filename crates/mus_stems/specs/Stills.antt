@@ -1,5 +1,5 @@
--- What a stem plan takes from an event: its value, whether a space or a line end parts it from the event before it, and
--- where its heads stand in its clef.
+-- What a stem plan needs of an event: its value, whether a space or a line end separates it from the event before it,
+-- and where its heads are in its clef.
 use Rattle.std.specs.{Prelude.{ℕ, ◌≤◌, Bool, true, false, ⊤, List, [], ◌∷◌, length, map}, List.AllByRecursion}
 use Rattle.mus_units.specs.declared.value.Base.{Base}
 use Rattle.mus_units.specs.declared.pitch.Clef.{Clef}
@@ -54,7 +54,7 @@ AllCanStand [] cs = ⊤
 AllCanStand (f ∷ fs) [] = ⊤
 AllCanStand (f ∷ fs) (c ∷ cs) = CanDrawEvent f c × AllCanStand fs cs
 
--- the same of what was taken from events
+-- the same for stem inputs
 abbrev pub IsGoodStill : StemInput → Type 0
 IsGoodStill e = AllNear e.stands × (length e.stands ≤ 50000) × (e.dots ≤ 3)
 

@@ -3,7 +3,7 @@ ghost use Rattle.mus_stems.specs.{Beams.is_beamed, Beams.is_joined, Runs.run_mor
 
 use crate::stills::{StemInput, flags_for};
 
-/// Whether an event can be in a beam: a note with a flag.
+/// Returns whether an event can be in a beam: a note with a flag.
 #[tactic(auto, unfolding(crate::specs::Beams::is_beamed))]
 fn beamed(e: &StemInput) -> bool
     ensures { result ≡ is_beamed e.now }
@@ -11,7 +11,7 @@ fn beamed(e: &StemInput) -> bool
     0 < e.stands.as_slice().len() && 0 < flags_for(e.base)
 }
 
-/// Whether a beam joins two neighbours.
+/// Returns whether a beam joins two neighbours.
 #[tactic(auto, unfolding(crate::specs::Beams::is_joined))]
 fn joined(d: &StemInput, e: &StemInput) -> bool
     ensures { result ≡ is_joined d.now e.now }
@@ -19,7 +19,7 @@ fn joined(d: &StemInput, e: &StemInput) -> bool
     beamed(d) && beamed(e) && !e.parted
 }
 
-/// How many events follow the first in its run.
+/// Returns how many events follow the first in its run.
 pub fn more_in_run(d: &StemInput, es: &[StemInput]) -> usize
     ensures value { result ≡ run_more is_joined d.now es.now }
     ensures bound { result ≤ length es.now }

@@ -9,25 +9,25 @@ pub const MIDDLE_LINE: i32 = 1000;
 /// How far a stem goes past its last head.
 pub const STEM_LENGTH: i32 = 1750;
 
-/// Where a displaced head stands whose stem goes up, and whose stem goes down.
+/// The dx of a displaced head whose stem goes up, and of one whose stem goes down.
 pub const RIGHT_OF_STEM: i32 = 560;
 
 pub const LEFT_OF_STEM: i32 = -560;
 
-/// The first column of signs, and past a head left of the stem.
+/// The first column of accidentals, alone and past a head left of the stem.
 pub const SIGN_COLUMN: i32 = -750;
 
 pub const OUTER_SIGN_COLUMN: i32 = -1310;
 
-/// How far columns of signs are apart.
+/// The distance between columns of accidentals.
 pub const BETWEEN_COLUMNS: i32 = 500;
 
-/// The first dot, and past a head right of the stem.
+/// The first dot, alone and past a head right of the stem.
 pub const DOT_COLUMN: i32 = 600;
 
 pub const OUTER_DOT_COLUMN: i32 = 1160;
 
-/// How far dots are apart.
+/// The distance between dots.
 pub const BETWEEN_DOTS: i32 = 250;
 
 /// The first ledger line below the staff, and the first above it.
@@ -35,8 +35,8 @@ pub const FIRST_BELOW: i32 = -500;
 
 pub const FIRST_ABOVE: i32 = 2500;
 
-/// How far lines are apart.
+/// The distance between ledger lines.
 pub const BETWEEN_LINES: i32 = 500;
 
-/// How far a beam climbs at most.
+/// The most that a beam climbs.
 pub const STEEPEST: i64 = 500;

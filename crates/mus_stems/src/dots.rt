@@ -7,14 +7,14 @@ use crate::distances::{BETWEEN_DOTS, DOT_COLUMN, OUTER_DOT_COLUMN, RIGHT_OF_STEM
 use crate::heads::HeadPosition;
 use mus_units::{Memory, Row};
 
-/// A place beside an event: a dot's, in u.
+/// The position of a dot beside an event, in u.
 #[derive(Clone, Copy, PartialEq, Eq)]
 pub struct Spot {
     pub dx: i32,
     pub dy: i32,
 }
 
-/// The dy of the dots of a head: in the space above where the head stands on a line.
+/// Returns the dy of the dots of a head, in the space above if the head is on a line.
 #[tactic(auto, unfolding(crate::specs::Dots::dot_height))]
 fn dot_dy(height: i32) -> i32
     requires low { negsuc 13 ≤ℤ height }
@@ -28,7 +28,7 @@ fn dot_dy(height: i32) -> i32
     }
 }
 
-/// Whether a head that gave way stands right of its stem.
+/// Returns whether a displaced head is right of its stem.
 #[tactic(auto, unfolding(crate::specs::Dots::is_right))]
 fn stands_right(dx: i32) -> bool
     ensures { result ≡ is_right dx }
@@ -42,8 +42,7 @@ fn any_right(shifts: &[i32]) -> bool
     shifts.iter().any(|dx| stands_right(*dx))
 }
 
-/// The dx of the first dot of each head of an event, further right where a head stands right of its
-/// stem.
+/// Returns the dx of the first dot of each head of an event, further right if a head is right of its stem.
 #[tactic(auto, unfolding(crate::specs::Dots::first_dot))]
 pub fn dot_dx(shifts: &[i32]) -> i32
     ensures value { result ≡ first_dot shifts.now }
@@ -57,7 +56,7 @@ pub fn dot_dx(shifts: &[i32]) -> i32
     }
 }
 
-/// A dot by its number.
+/// Returns a dot by its number.
 #[tactic(auto, unfolding(crate::specs::Dots::dot_at, crate::specs::Dots::dot_place))]
 fn dot(first: i32, dy: i32, j: u8) -> Spot
     requires near { j ≤ 3 }
@@ -71,7 +70,7 @@ fn dot(first: i32, dy: i32, j: u8) -> Spot
     }
 }
 
-/// The dots of one head.
+/// Adds the dots of one head.
 fn put_dots_of(out: &mut Row<Spot>, first: i32, dy: i32, n: u8) -> Result<(), Memory>
     requires near { n ≤ 3 }
     requires low { pos 600 ≤ℤ first }
@@ -84,7 +83,7 @@ fn put_dots_of(out: &mut Row<Spot>, first: i32, dy: i32, n: u8) -> Result<(), Me
     Ok(())
 }
 
-/// The dots of the heads of an event, `n` of each.
+/// Adds the dots of the heads of an event, `n` for each.
 pub fn put_dots(out: &mut Row<Spot>, dx: i32, n: u8, stands: &[HeadPosition]) -> Result<(), Memory>
     requires dots { n ≤ 3 }
     requires low { pos 600 ≤ℤ dx }

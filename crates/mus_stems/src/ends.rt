@@ -28,7 +28,7 @@ fn high_in(stands: &[HeadPosition]) -> i32
     }
 }
 
-/// The least of a height and those of the heads of events.
+/// Returns the least of a height and those of the heads of events.
 fn lowest_along(first: i32, run: &[StemInput]) -> i32
     ensures { result ≡ lowest_in first run.now }
 {
@@ -39,7 +39,7 @@ fn lowest_along(first: i32, run: &[StemInput]) -> i32
     low
 }
 
-/// The greatest of a height and those of the heads of events.
+/// Returns the greatest of a height and those of the heads of events.
 fn highest_along(first: i32, run: &[StemInput]) -> i32
     ensures { result ≡ highest_in first run.now }
 {
@@ -50,7 +50,7 @@ fn highest_along(first: i32, run: &[StemInput]) -> i32
     high
 }
 
-/// The height of the lowest head of a run.
+/// Returns the height of the lowest head of a run.
 fn low_of_run(run: &[StemInput]) -> i32
     ensures { result ≡ run_low run.now }
 {
@@ -60,7 +60,7 @@ fn low_of_run(run: &[StemInput]) -> i32
     }
 }
 
-/// The height of the highest head of a run.
+/// Returns the height of the highest head of a run.
 fn high_of_run(run: &[StemInput]) -> i32
     ensures { result ≡ run_high run.now }
 {
@@ -70,7 +70,7 @@ fn high_of_run(run: &[StemInput]) -> i32
     }
 }
 
-/// The height of the lowest head; 0 without a head.
+/// Returns the height of the lowest head; 0 without a head.
 pub fn lowest_head(stands: &[HeadPosition]) -> i32
     requires { AllNear stands.now }
     ensures value { result ≡ low_of stands.now }
@@ -80,7 +80,7 @@ pub fn lowest_head(stands: &[HeadPosition]) -> i32
     low_in(stands)
 }
 
-/// The height of the highest head; 0 without a head.
+/// Returns the height of the highest head; 0 without a head.
 pub fn highest_head(stands: &[HeadPosition]) -> i32
     requires { AllNear stands.now }
     ensures value { result ≡ high_of stands.now }
@@ -90,7 +90,7 @@ pub fn highest_head(stands: &[HeadPosition]) -> i32
     high_in(stands)
 }
 
-/// Whether stems go up, over the lowest and the highest height.
+/// Returns whether stems go up, given the lowest and the highest height.
 fn points_up(wish: Wish, low: i32, high: i32) -> bool
     requires low_low { negsuc 13 ≤ℤ low }
     requires low_high { low ≤ℤ pos 22 }
@@ -105,7 +105,7 @@ fn points_up(wish: Wish, low: i32, high: i32) -> bool
     }
 }
 
-/// Whether the stems of a run go up.
+/// Returns whether the stems of a run go up.
 #[tactic(auto, unfolding(crate::specs::Ends::stands_up), using(crate::proofs::Ranges::run_low_near, //
 crate::proofs::Ranges::run_high_near))]
 pub fn run_points_up(wish: Wish, run: &[StemInput]) -> bool
@@ -115,7 +115,7 @@ pub fn run_points_up(wish: Wish, run: &[StemInput]) -> bool
     points_up(wish, low_of_run(run), high_of_run(run))
 }
 
-/// The end of a stem that goes up.
+/// Returns the end of a stem that goes up.
 #[tactic(auto, unfolding(crate::specs::Ends::upper_end))]
 fn end_above(high: i32) -> i32
     requires low { negsuc 13 ≤ℤ high }
@@ -125,7 +125,7 @@ fn end_above(high: i32) -> i32
     (STEP * high + STEM_LENGTH).max(MIDDLE_LINE)
 }
 
-/// The end of a stem that goes down.
+/// Returns the end of a stem that goes down.
 #[tactic(auto, unfolding(crate::specs::Ends::lower_end))]
 fn end_below(low: i32) -> i32
     requires low { negsuc 13 ≤ℤ low }
@@ -135,7 +135,7 @@ fn end_below(low: i32) -> i32
     (STEP * low - STEM_LENGTH).min(MIDDLE_LINE)
 }
 
-/// The end of a stem that is past its outermost head, on the side to which it goes.
+/// Returns the end of a stem that goes past its outermost head in its direction.
 #[tactic(auto, unfolding(crate::specs::Ends::outer_end))]
 fn end_past(up: bool, low: i32, high: i32) -> i32
     requires low_low { negsuc 13 ≤ℤ low }
@@ -147,7 +147,7 @@ fn end_past(up: bool, low: i32, high: i32) -> i32
     if up { end_above(high) } else { end_below(low) }
 }
 
-/// The dy at which the stem of an event ends by itself; 0 without a head.
+/// Returns the dy at which the stem of an event ends by itself; 0 without a head.
 pub fn own_end_of(up: bool, stands: &[HeadPosition]) -> i32
     requires { AllNear stands.now }
     ensures { result ≡ stem_own_end up stands.now }
@@ -158,7 +158,7 @@ pub fn own_end_of(up: bool, stands: &[HeadPosition]) -> i32
     }
 }
 
-/// The one of two ends that is further out.
+/// Returns the further out of two ends.
 #[tactic(auto, unfolding(crate::specs::Ends::further_end))]
 pub fn further_of(up: bool, y: i32, z: i32) -> i32
     ensures { result ≡ further_end up y z }
@@ -166,7 +166,7 @@ pub fn further_of(up: bool, y: i32, z: i32) -> i32
     if up { y.max(z) } else { y.min(z) }
 }
 
-/// The furthest of an end and the own ends of events.
+/// Returns the furthest of an end and the own ends of events.
 fn furthest_along(up: bool, first: i32, run: &[StemInput]) -> i32
     requires { AllGood run.now }
     ensures { result ≡ beam_end up first run.now }
@@ -178,7 +178,7 @@ fn furthest_along(up: bool, first: i32, run: &[StemInput]) -> i32
     end
 }
 
-/// The dy at which the stems of a run end together.
+/// Returns the dy at which the stems of a run end together.
 pub fn end_of_run(up: bool, run: &[StemInput]) -> i32
     requires { AllGood run.now }
     ensures { result ≡ run_end up run.now }
@@ -189,7 +189,7 @@ pub fn end_of_run(up: bool, run: &[StemInput]) -> i32
     }
 }
 
-/// The dy at which a stem begins.
+/// Returns the dy at which a stem begins.
 #[tactic(auto, unfolding(crate::specs::Ends::from_of))]
 pub fn stem_from(up: bool, stands: &[HeadPosition]) -> i32
     requires { AllNear stands.now }
@@ -202,7 +202,7 @@ pub fn stem_from(up: bool, stands: &[HeadPosition]) -> i32
     }
 }
 
-/// Whether an event has a stem: a note of 1/2 or less.
+/// Returns whether an event has a stem: a note of 1/2 or less.
 #[tactic(auto, unfolding(crate::specs::Ends::has_stem))]
 pub fn carries_stem(e: &StemInput) -> bool
     ensures { result ≡ has_stem e.now }

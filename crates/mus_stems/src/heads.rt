@@ -6,21 +6,21 @@ use crate::distances::{LEFT_OF_STEM, RIGHT_OF_STEM};
 use mus_units::{Clef, Few, Head, Memory, Row, height};
 use std::alloc::Global;
 
-/// Where a head stands, and whether a sign is written before it.
+/// The height of a head, and whether an accidental is written before it.
 #[derive(Clone, Copy, PartialEq, Eq)]
 pub struct HeadPosition {
     pub height: i32,
     pub signed: bool,
 }
 
-/// The head taken last: how far it stands, and whether it was moved.
+/// The head taken last: its level, and whether it is displaced.
 #[derive(Clone, Copy, PartialEq, Eq)]
 pub struct LastHead {
     pub level: i32,
     pub moved: bool,
 }
 
-/// Where a head stands in a clef.
+/// Returns the position of a head in a clef.
 #[tactic(auto, unfolding(crate::specs::Heads::stand_of))]
 pub fn stand_at(clef: Clef, head: Head) -> HeadPosition
     requires { IsNearStaff (stand_of clef head) }
@@ -32,7 +32,7 @@ pub fn stand_at(clef: Clef, head: Head) -> HeadPosition
     }
 }
 
-/// Where heads stand in a clef, in the order of the text.
+/// Returns the positions of heads in a clef, in the order of the text.
 #[inline(always)]
 pub fn stands(alloc: Global, clef: Clef, heads: &[Head]) -> Result<Few<HeadPosition>, Memory>
     requires { AllNear (map (stand_of clef) heads.now) }
@@ -48,7 +48,7 @@ pub fn stands(alloc: Global, clef: Clef, heads: &[Head]) -> Result<Few<HeadPosit
     Ok(Few::from(out))
 }
 
-/// The least of a height and those of heads.
+/// Returns the least of a height and those of heads.
 pub fn lowest_from(first: i32, stands: &[HeadPosition]) -> i32
     ensures { result ≡ lowest first stands.now }
 {
@@ -59,7 +59,7 @@ pub fn lowest_from(first: i32, stands: &[HeadPosition]) -> i32
     low
 }
 
-/// The greatest of a height and those of heads.
+/// Returns the greatest of a height and those of heads.
 pub fn highest_from(first: i32, stands: &[HeadPosition]) -> i32
     ensures { result ≡ highest first stands.now }
 {
@@ -70,7 +70,7 @@ pub fn highest_from(first: i32, stands: &[HeadPosition]) -> i32
     high
 }
 
-/// How far a head stands in the way in which heads are taken.
+/// Returns the level of a height: how far it is along the direction in which heads are taken.
 #[tactic(auto, unfolding(crate::specs::Heads::level_of))]
 pub fn level(up: bool, height: i32) -> i32
     requires low { negsuc 13 ≤ℤ height }
@@ -80,7 +80,7 @@ pub fn level(up: bool, height: i32) -> i32
     if up { height } else { 0 - height }
 }
 
-/// Whether a level is at most one step past the one before.
+/// Returns whether a level is at most one step past the one before.
 #[tactic(auto, unfolding(crate::specs::Heads::is_step_past))]
 fn is_step(before: i32, level: i32) -> bool
     requires low { negsuc 21 ≤ℤ level }
@@ -90,7 +90,7 @@ fn is_step(before: i32, level: i32) -> bool
     level - 1 <= before
 }
 
-/// Whether a head gives way to the one taken before it.
+/// Returns whether a head is displaced by the one taken before it.
 #[tactic(auto, unfolding(crate::specs::Heads::gives_way))]
 fn is_moved(last: Option<LastHead>, level: i32) -> bool
     requires low { negsuc 21 ≤ℤ level }
@@ -103,7 +103,7 @@ fn is_moved(last: Option<LastHead>, level: i32) -> bool
     }
 }
 
-/// The dx of a head that gives way.
+/// Returns the dx of a displaced head.
 #[tactic(auto, unfolding(crate::specs::Heads::head_shift))]
 fn shift(up: bool) -> i32
     ensures { result ≡ head_shift up }
@@ -111,7 +111,7 @@ fn shift(up: bool) -> i32
     if up { RIGHT_OF_STEM } else { LEFT_OF_STEM }
 }
 
-/// Moves a head, if it stands at a level and gives way.
+/// Displaces a head if it is at a level and has to be displaced.
 #[tactic(auto, unfolding(crate::specs::Heads::taken_one))]
 fn shift_one(
     up: bool,
@@ -145,7 +145,7 @@ fn shift_one(
     })
 }
 
-/// Moves the heads at one level that give way.
+/// Displaces the heads at one level that have to be.
 fn shift_level(
     up: bool,
     v: i32,
@@ -170,7 +170,7 @@ fn shift_level(
     before
 }
 
-/// Moves the heads that give way, level by level.
+/// Displaces the heads that have to be, level by level.
 #[tactic(auto, unfolding(crate::specs::Heads::taken))]
 fn shift_all(up: bool, stands: &[HeadPosition], shifts: &mut [i32])
     requires near { AllNear stands.now }
@@ -183,7 +183,7 @@ fn shift_all(up: bool, stands: &[HeadPosition], shifts: &mut [i32])
     }
 }
 
-/// The dx of each head, in the order of the text. A head alone gives way to none.
+/// Returns the dx of each head, in the order of the text. A single head is never displaced.
 #[tactic(auto, unfolding(crate::specs::Heads::shifts_of), using(crate::proofs::AloneLaws::alone_stays))]
 pub fn shifts_for(alloc: Global, up: bool, stands: &[HeadPosition]) -> Result<Few<i32>, Memory>
     requires near { AllNear stands.now }

@@ -5,7 +5,7 @@ use crate::distances::{BETWEEN_LINES, FIRST_ABOVE, FIRST_BELOW};
 use mus_units::{Memory, Row};
 use std::alloc::Global;
 
-/// How many ledger lines a head below the staff asks for.
+/// Returns how many ledger lines a head below the staff needs.
 fn count_below(low: i32) -> u32
     requires near { negsuc 13 ≤ℤ low }
     ensures value { result ≡ lines_below low }
@@ -14,7 +14,7 @@ fn count_below(low: i32) -> u32
     if low < 0 { (0 - low) as u32 / 2 } else { 0 }
 }
 
-/// How many ledger lines a head above the staff asks for.
+/// Returns how many ledger lines a head above the staff needs.
 fn count_above(high: i32) -> u32
     requires near { high ≤ℤ pos 22 }
     ensures value { result ≡ lines_above high }
@@ -23,7 +23,7 @@ fn count_above(high: i32) -> u32
     if 8 < high { (high - 8) as u32 / 2 } else { 0 }
 }
 
-/// The dy of a ledger line below the staff by its number.
+/// Returns the dy of a ledger line below the staff by its number.
 #[tactic(auto, unfolding(crate::specs::Ledgers::line_below))]
 fn ledger_below(k: u32) -> i32
     requires { k ≤ 7 }
@@ -32,7 +32,7 @@ fn ledger_below(k: u32) -> i32
     FIRST_BELOW - BETWEEN_LINES * (k as i32)
 }
 
-/// The dy of a ledger line above the staff by its number.
+/// Returns the dy of a ledger line above the staff by its number.
 #[tactic(auto, unfolding(crate::specs::Ledgers::line_above))]
 fn ledger_above(k: u32) -> i32
     requires { k ≤ 7 }
@@ -41,7 +41,7 @@ fn ledger_above(k: u32) -> i32
     FIRST_ABOVE + BETWEEN_LINES * (k as i32)
 }
 
-/// Even heights from -2 down to the lowest head, as dy.
+/// Adds the even heights from -2 down to the lowest head, as dy.
 pub fn put_below(out: &mut Row<i32>, low: i32) -> Result<(), Memory>
     requires near { negsuc 13 ≤ℤ low }
     ensures { OnOk result (out.new ≡ out.old ++ ledger_lines line_below 0 (lines_below low)) }
@@ -52,7 +52,7 @@ pub fn put_below(out: &mut Row<i32>, low: i32) -> Result<(), Memory>
     Ok(())
 }
 
-/// Even heights from 10 up to the highest head, as dy.
+/// Adds the even heights from 10 up to the highest head, as dy.
 pub fn put_above(out: &mut Row<i32>, high: i32) -> Result<(), Memory>
     requires near { high ≤ℤ pos 22 }
     ensures { OnOk result (out.new ≡ out.old ++ ledger_lines line_above 0 (lines_above high)) }
@@ -63,8 +63,8 @@ pub fn put_above(out: &mut Row<i32>, high: i32) -> Result<(), Memory>
     Ok(())
 }
 
-/// The dy of the ledger lines from the first below the staff to the lowest head, and from the first
-/// above it to the highest.
+/// Returns the dy of the ledger lines from the first below the staff to the lowest head, and from the first above it
+/// to the highest.
 #[tactic(auto, unfolding(crate::specs::Ledgers::ledgers_of))]
 pub fn ledgers_for(alloc: Global, low: i32, high: i32) -> Result<Row<i32>, Memory>
     requires low { negsuc 13 ≤ℤ low }

@@ -1,5 +1,5 @@
-//! Stems: which way they go and where they end, which events share a beam, which heads and signs
-//! give way to others, and where ledger lines and dots stand.
+//! Stems: their direction and their ends, which events share a beam, which heads and accidentals are displaced, and
+//! the ledger lines and dots.
 #![tactic(auto)]
 
 pub mod beams;

@@ -17,17 +17,17 @@ use mus_score::Flat;
 use mus_units::{Clef, Few, Memory, Row, Wish};
 use std::alloc::Global;
 
-/// How an event is drawn beside its heads. Each dx and dy is in u, a dy counted up from the bottom line.
+/// How an event is drawn besides its heads. Each dx and dy is in u, a dy counted up from the bottom line.
 ///
-/// `up` is the way of the stem and `has` whether there is one; it goes from dy `from` to dy `to`,
-/// the end that the events of its beam share, while `own` is the end that the event has by itself.
-/// `group` is the id of the event at which its beam begins, its own without a beam; `flags` the
-/// number of its flags, or of the levels of its beam. `shifts` has the dx of each head, `signs` the
-/// dx of the sign before each head that has one, both in the order of the text; `ledgers` the dy of
-/// the ledger lines, below and then above; `dots` the dots, head by head.
+/// `up` is the direction of the stem and `has` whether there is one. It goes from dy `from` to dy `to`, the end that
+/// the events of its beam share; `own` is the end that the event has by itself. `group` is the id of the event at
+/// which its beam begins, its own id without a beam. `flags` is the number of its flags, or of the levels of its
+/// beam. `shifts` has the dx of each head, `signs` the dx of the accidental before each head that has one, both in
+/// the order of the text. `ledgers` has the dy of the ledger lines, below and then above, and `dots` the dots, head
+/// by head.
 ///
-/// A rest has no stem, begins and ends at 0, and has no heads, signs, ledgers or dots; `flags` goes
-/// by its base.
+/// A rest has no stem, begins and ends at 0, and has no heads, accidentals, ledger lines or dots; its `flags` depend
+/// on its base.
 #[derive(Drop)]
 pub struct StemPlan {
     pub up: bool,
@@ -43,7 +43,7 @@ pub struct StemPlan {
     pub dots: Row<Spot>,
 }
 
-/// The id of the event at which a run begins.
+/// Returns the id of the event at which a run begins.
 fn id_of_run(run: &[StemInput]) -> u32
     ensures { result ≡ first_event_id run.now }
 {
@@ -53,7 +53,7 @@ fn id_of_run(run: &[StemInput]) -> u32
     }
 }
 
-/// Puts the plan of one event behind others.
+/// Adds the plan of one event.
 #[tactic(auto, unfolding(crate::specs::Plans::plan_of, crate::specs::Ledgers::ledgers_of))]
 fn put_plan(
     alloc: Global,
@@ -89,7 +89,7 @@ fn put_plan(
     })
 }
 
-/// The plans of the events of a run.
+/// Adds the plans of the events of a run.
 fn put_plans(
     alloc: Global,
     out: &mut Row<StemPlan>,
@@ -107,7 +107,7 @@ fn put_plans(
     Ok(())
 }
 
-/// The plans of a run.
+/// Adds the plans of a run.
 #[tactic(auto, unfolding(crate::specs::Plans::run_plans))]
 fn put_run(
     alloc: Global,
@@ -122,7 +122,7 @@ fn put_run(
     put_plans(alloc, out, up, end_of_run(up, run), id_of_run(run), run)
 }
 
-/// The plans of all runs of events.
+/// Adds the plans of all runs of events.
 fn put_all_runs(
     alloc: Global,
     out: &mut Row<StemPlan>,
@@ -142,10 +142,10 @@ fn put_all_runs(
     Ok(())
 }
 
-/// The stem plans of the events of one measure of one voice, one for each event in their order.
+/// Returns the stem plans of the events of one measure of one voice, one for each event in their order.
 ///
-/// `first` is the clef in force before them, `wish` the way of stems that the voice asks for. Each
-/// head stands at a height of -14 to 22 in its clef.
+/// `first` is the clef in force before them, `wish` the stem direction that the voice asks for. Each head is at a
+/// height of -14 to 22 in its clef.
 #[tactic(auto, using(crate::proofs::Taking::stills_are_good, crate::proofs::PlanLaws::are_plans, //
 crate::proofs::EndLaws::ends_near, crate::proofs::EndLaws::plans_length), unfolding(crate::specs::Plans::stems_of))]
 pub fn stems(

@@ -9,7 +9,7 @@ use crate::heads::{HeadPosition, level};
 use mus_units::{Few, Memory, Row};
 use std::alloc::Global;
 
-/// The dx of a sign by its number.
+/// Returns the dx of an accidental by its number.
 #[tactic(auto, unfolding(crate::specs::Signs::sign_dx))]
 fn sign_place(first: i32, k: u32) -> i32
     requires low { negsuc 1310 ≤ℤ first }
@@ -19,7 +19,7 @@ fn sign_place(first: i32, k: u32) -> i32
     first - BETWEEN_COLUMNS * (k as i32)
 }
 
-/// Gives the sign at a head its dx, if there is one and the head stands at a level; answers the next one's number.
+/// Sets the dx of the accidental at a head, if there is one and the head is at a level. Returns the next number.
 #[tactic(auto, unfolding(crate::specs::Heads::taken_one))]
 fn sign_one(first: i32, v: i32, s: HeadPosition, i: usize, k: u32, signs: &mut [Option<i32>]) -> u32
     requires near { IsNearStaff s }
@@ -40,7 +40,7 @@ fn sign_one(first: i32, v: i32, s: HeadPosition, i: usize, k: u32, signs: &mut [
     k
 }
 
-/// Gives the signs at one level their dx; answers the next one's number.
+/// Sets the dx of the accidentals at one level. Returns the next number.
 fn sign_level(first: i32, v: i32, stands: &[HeadPosition], k: u32, signs: &mut [Option<i32>]) -> u32
     requires near { AllNear stands.now }
     requires room { length stands.now ≡ length signs.old }
@@ -60,7 +60,7 @@ fn sign_level(first: i32, v: i32, stands: &[HeadPosition], k: u32, signs: &mut [
     next
 }
 
-/// Gives all signs their dx, level by level.
+/// Sets the dx of all accidentals, level by level.
 #[tactic(auto, unfolding(crate::specs::Heads::taken))]
 fn sign_all(first: i32, stands: &[HeadPosition], signs: &mut [Option<i32>])
     requires near { AllNear stands.now }
@@ -75,21 +75,21 @@ fn sign_all(first: i32, stands: &[HeadPosition], signs: &mut [Option<i32>])
     }
 }
 
-/// Whether a sign is written before any of the heads.
+/// Returns whether an accidental is written before any of the heads.
 fn any_signed(stands: &[HeadPosition]) -> bool
     ensures { result ≡ list_any (λ s. s.signed) stands.now }
 {
     stands.iter().any(|stand| stand.signed)
 }
 
-/// The dx of the sign of a head alone.
+/// Returns the dx of the accidental of a single head.
 fn sign_alone(first: i32, stand: HeadPosition) -> Option<i32>
     ensures { result ≡ if stand.signed then Some first else None }
 {
     if stand.signed { Some(first) } else { None }
 }
 
-/// The dx of the sign of each head, in the order of the text.
+/// Returns the dx of the accidental of each head, in the order of the text.
 #[tactic(auto, unfolding(crate::specs::Signs::signs_from), using(crate::proofs::AloneLaws::none_signed))]
 #[inline(always)]
 pub fn signs_for(
@@ -113,7 +113,7 @@ pub fn signs_for(
     Ok(Few::from(Row { items: signs }))
 }
 
-/// Whether a head that gave way stands left of its stem.
+/// Returns whether a displaced head is left of its stem.
 #[tactic(auto, unfolding(crate::specs::Signs::is_left))]
 fn stands_left(dx: i32) -> bool
     ensures { result ≡ is_left dx }
@@ -127,7 +127,7 @@ fn any_left(shifts: &[i32]) -> bool
     shifts.iter().any(|dx| stands_left(*dx))
 }
 
-/// The dx of the first sign of an event, further left where a head stands left of its stem.
+/// Returns the dx of the first accidental of an event, further left if a head is left of its stem.
 #[tactic(auto, unfolding(crate::specs::Signs::first_sign))]
 pub fn sign_dx(shifts: &[i32]) -> i32
     ensures value { result ≡ first_sign shifts.now }

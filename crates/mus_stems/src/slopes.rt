@@ -15,8 +15,7 @@ use crate::plans::StemPlan;
 use mus_units::{Memory, Row};
 use std::alloc::Global;
 
-/// What a slope takes from an event: the way of its stem, its own end, where its beam begins, and
-/// its abscissa.
+/// What a slope needs of an event: the direction of its stem, its own end, where its beam begins, and its abscissa.
 #[derive(Clone, Copy, PartialEq, Eq)]
 pub struct SlopeInput {
     pub up: bool,
@@ -25,8 +24,7 @@ pub struct SlopeInput {
     pub x: i64,
 }
 
-/// The line of a beam: the abscissas of its first and its last event, and how far it climbs between
-/// them.
+/// The line of a beam: the abscissas of its first and its last event, and how far it climbs between them.
 #[derive(Clone, Copy, PartialEq, Eq)]
 pub struct BeamLine {
     pub first: i64,
@@ -34,7 +32,7 @@ pub struct BeamLine {
     pub climb: i64,
 }
 
-/// What a slope takes from one event.
+/// Returns what a slope needs of one event.
 #[tactic(auto, unfolding(crate::specs::Slope::slope_input))]
 fn make_anchor(plan: &StemPlan, x: &i64) -> SlopeInput
     ensures { result ≡ slope_input plan.now x.now }
@@ -47,7 +45,7 @@ fn make_anchor(plan: &StemPlan, x: &i64) -> SlopeInput
     }
 }
 
-/// Events with their abscissas.
+/// Returns events with their abscissas.
 fn anchors_for(alloc: Global, plans: &[StemPlan], at: &[i64]) -> Result<Row<SlopeInput>, Memory>
     requires { length at.now ≡ length plans.now }
     ensures { IfOk result (λ a. a ≡ slope_inputs plans.now at.now) }
@@ -59,7 +57,7 @@ fn anchors_for(alloc: Global, plans: &[StemPlan], at: &[i64]) -> Result<Row<Slop
     Ok(out)
 }
 
-/// Whether two neighbours are in one beam.
+/// Returns whether two neighbours are in one beam.
 #[tactic(auto, unfolding(crate::specs::Slope::shares_beam))]
 fn shares(a: &SlopeInput, b: &SlopeInput) -> bool
     ensures { result ≡ shares_beam a.now b.now }
@@ -67,7 +65,7 @@ fn shares(a: &SlopeInput, b: &SlopeInput) -> bool
     a.group == b.group
 }
 
-/// How many events follow the first in its beam.
+/// Returns how many events follow the first in its beam.
 fn more_in_beam(first: &SlopeInput, others: &[SlopeInput]) -> usize
     ensures value { result ≡ run_more shares_beam first.now others.now }
     ensures bound { result ≤ length others.now }
@@ -84,7 +82,7 @@ fn more_in_beam(first: &SlopeInput, others: &[SlopeInput]) -> usize
     n
 }
 
-/// The last event of a beam.
+/// Returns the last event of a beam.
 fn last_in(first: &SlopeInput, others: &[SlopeInput]) -> SlopeInput
     ensures { result ≡ last_input first.now others.now }
 {
@@ -95,7 +93,7 @@ fn last_in(first: &SlopeInput, others: &[SlopeInput]) -> SlopeInput
     last
 }
 
-/// How far a line climbs between own ends.
+/// Returns how far a line climbs between own ends.
 fn climb_between(first: i32, last: i32) -> i64
     ensures { result ≡ int_max (int_min (last -ℤ first) steepest) steepest_down }
 {
@@ -104,7 +102,7 @@ fn climb_between(first: i32, last: i32) -> i64
         .max(-STEEPEST)
 }
 
-/// The line from an event to another.
+/// Returns the line from one event to another.
 #[tactic(auto, unfolding(crate::specs::Slope::slope_line))]
 fn line_between(a: &SlopeInput, b: &SlopeInput) -> BeamLine
     ensures { result ≡ slope_line a.now b.now }
@@ -116,7 +114,7 @@ fn line_between(a: &SlopeInput, b: &SlopeInput) -> BeamLine
     }
 }
 
-/// How far a line that climbs so much over a length has risen so far along it.
+/// Returns how far a line that climbs by `climb` over `length` has risen at `along`.
 fn risen(climb: i64, along: i64, length: i64) -> i32
     requires low { steepest_down ≤ℤ climb }
     requires high { climb ≤ℤ steepest }
@@ -131,7 +129,7 @@ fn risen(climb: i64, along: i64, length: i64) -> i32
     (climb * along).div_euclid(length) as i32
 }
 
-/// How far a line has risen at an abscissa.
+/// Returns how far a line has risen at an abscissa.
 #[tactic(auto, unfolding(crate::specs::Slope::rise_at))]
 fn rise(line: &BeamLine, x: i64) -> i32
     requires line { IsLine line.now }
@@ -144,7 +142,7 @@ fn rise(line: &BeamLine, x: i64) -> i32
     risen(line.climb, x - line.first, line.last - line.first)
 }
 
-/// What an event asks of the base of its beam: its own end, less the rise up to it.
+/// Returns the base that an event needs for its beam: its own end, less the rise up to it.
 fn base_at(line: &BeamLine, a: &SlopeInput) -> i32
     requires line { IsLine line.now }
     requires over { IsOver line.now a.now }
@@ -154,7 +152,7 @@ fn base_at(line: &BeamLine, a: &SlopeInput) -> i32
     a.own - rise(line, a.x)
 }
 
-/// The base of a beam: the furthest that its events ask.
+/// Returns the base of a beam: the furthest that any of its events needs.
 fn base_of(line: &BeamLine, first: &SlopeInput, others: &[SlopeInput]) -> i32
     requires line { IsLine line.now }
     requires first { IsOver line.now first.now }
@@ -168,7 +166,7 @@ fn base_of(line: &BeamLine, first: &SlopeInput, others: &[SlopeInput]) -> i32
     base
 }
 
-/// The end of an event over a line.
+/// Adds the end of an event over a line.
 fn put_end(out: &mut Row<i32>, line: &BeamLine, base: i32, a: &SlopeInput) -> Result<(), Memory>
     requires line { IsLine line.now }
     requires base { IsBeamBase base }
@@ -178,7 +176,7 @@ fn put_end(out: &mut Row<i32>, line: &BeamLine, base: i32, a: &SlopeInput) -> Re
     out.push(base + rise(line, a.x))
 }
 
-/// The ends of events over a line.
+/// Adds the ends of events over a line.
 fn put_ends(
     out: &mut Row<i32>,
     line: &BeamLine,
@@ -196,7 +194,7 @@ fn put_ends(
     Ok(())
 }
 
-/// The ends of the events of a beam of two or more.
+/// Adds the ends of the events of a beam of two or more.
 fn put_line(
     out: &mut Row<i32>,
     line: &BeamLine,
@@ -213,7 +211,7 @@ fn put_line(
     put_ends(out, line, base, beam)
 }
 
-/// The ends of a beam.
+/// Adds the ends of a beam.
 fn put_beam(out: &mut Row<i32>, beam: &[SlopeInput]) -> Result<(), Memory>
     requires anchors { AreAnchors beam.now }
     requires rise { Rise beam.now }
@@ -229,8 +227,8 @@ fn put_beam(out: &mut Row<i32>, beam: &[SlopeInput]) -> Result<(), Memory>
     put_line(out, &line, first, others, beam)
 }
 
-/// The ends of the stems of events, each on its beam's line: what `slope` puts into their plans. The
-/// only error is want of memory.
+/// Returns the ends of the stems of events, each on its beam's line, as `slope` puts them into their plans. The only
+/// error is out of memory.
 pub fn ends_for(alloc: Global, events: &[SlopeInput]) -> Result<Row<i32>, Memory>
     requires anchors { AreAnchors events.now }
     requires rise { RisesInBeams events.now }
@@ -247,7 +245,7 @@ pub fn ends_for(alloc: Global, events: &[SlopeInput]) -> Result<Row<i32>, Memory
     Ok(out)
 }
 
-/// A plan with another end.
+/// Returns a plan with another end.
 fn copy_with(alloc: Global, plan: &StemPlan, to: &i32) -> Result<StemPlan, Memory>
     ensures { IfOk result (λ p. p ≡ with_end plan.now to.now) }
 {
@@ -266,14 +264,14 @@ fn copy_with(alloc: Global, plan: &StemPlan, to: &i32) -> Result<StemPlan, Memor
     })
 }
 
-/// A copy of a plan with another end, put behind others.
+/// Adds a copy of a plan with another end.
 fn put_copy(alloc: Global, out: &mut Row<StemPlan>, plan: &StemPlan, to: &i32) -> Result<(), Memory>
     ensures { OnOk result (out.new ≡ out.old ++ with_end plan.now to.now ∷ []) }
 {
     out.push(copy_with(alloc, plan, to)?)
 }
 
-/// Plans with other ends.
+/// Returns plans with other ends.
 fn copy_all_with(alloc: Global, plans: &[StemPlan], ends: &[i32]) -> Result<Row<StemPlan>, Memory>
     requires { length ends.now ≡ length plans.now }
     ensures { IfOk result (λ p. p ≡ with_ends plans.now ends.now) }
@@ -285,11 +283,11 @@ fn copy_all_with(alloc: Global, plans: &[StemPlan], ends: &[i32]) -> Result<Row<
     Ok(out)
 }
 
-/// Plans that `stems` gave, with each end `to` on its beam's line and all else as it was.
+/// Returns the plans that `stems` returned, with each end `to` on its beam's line and all else unchanged.
 ///
-/// `at` has the abscissa of each event in u, from 0 to 2^40, rising within a beam. The line climbs
-/// from the first event to the last by the difference of their own ends, at most 500, and stands as
-/// far out as the own ends of its events ask. An event without a beam keeps its own end.
+/// `at` has the abscissa of each event in u, from 0 to 2^40, rising within a beam. The line climbs from the first
+/// event to the last by the difference of their own ends, at most 500, and is as far out as the own ends of its
+/// events require. An event without a beam keeps its own end.
 #[tactic(auto, using(crate::proofs::SlopeLaws::anchors_are, crate::proofs::SlopeLaws::ends_length, //
 crate::proofs::SlopeLaws::sloped_length), unfolding(crate::specs::Slope::sloped))]
 pub fn slope(alloc: Global, plans: &[StemPlan], at: &[i64]) -> Result<Row<StemPlan>, Memory>

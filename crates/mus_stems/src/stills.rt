@@ -6,8 +6,8 @@ use mus_score::Flat;
 use mus_units::{Base, Clef, Few, Memory, Row};
 use std::alloc::Global;
 
-/// What a stem plan takes from an event: its id, its value, whether it is parted from the event
-/// before it, and where its heads stand in its clef.
+/// What a stem plan needs of an event: its id, its value, whether it is separated from the event before it, and where
+/// its heads are in its clef.
 #[derive(Drop)]
 pub struct StemInput {
     pub id: u32,
@@ -17,7 +17,7 @@ pub struct StemInput {
     pub stands: Few<HeadPosition>,
 }
 
-/// How many flags a note of a base has alone, and a rest shows.
+/// Returns how many flags a note of a base has alone, and how many a rest shows.
 pub fn flags_for(base: Base) -> u8
     ensures { result ≡ flags_of base }
 {
@@ -30,7 +30,7 @@ pub fn flags_for(base: Base) -> u8
     }
 }
 
-/// Whether notes of a base have a stem.
+/// Returns whether notes of a base have a stem.
 pub fn is_short_base(base: Base) -> bool
     ensures { result ≡ is_short base }
 {
@@ -40,7 +40,7 @@ pub fn is_short_base(base: Base) -> bool
     }
 }
 
-/// What is taken from one event.
+/// Returns the stem input of one event.
 #[tactic(auto, unfolding(crate::specs::Stills::still_of))]
 fn take_still(alloc: Global, flat: &Flat<'_>, clef: Clef) -> Result<StemInput, Memory>
     requires { CanDrawEvent flat.now clef }
@@ -59,7 +59,7 @@ fn take_still(alloc: Global, flat: &Flat<'_>, clef: Clef) -> Result<StemInput, M
     })
 }
 
-/// What is taken from events, each in its own clef, the first of which stands behind `first`.
+/// Returns the stem inputs of events, each in its own clef; `first` is the clef before the first event.
 pub fn stills_for(alloc: Global, events: &[Flat<'_>], first: Clef) -> Result<Row<StemInput>, Memory>
     requires { AllCanStand events.now (clefs_from first events.now) }
     ensures { IfOk result (λ s. s ≡ stills events.now (clefs_from first events.now)) }
