@@ -1,4 +1,4 @@
--- One more of what is counted, and nothing of what isn't there.
+-- Marks counted one by one, and no accidentals if no head has one.
 use Rattle.std.proofs.Common.{◌≡◌, ℕ, suc, ◌+◌, ◌-◌, ◌*◌, ◌<◌, ℤ, pos, Bool, true, ◌&&◌, List, [], ◌∷◌, ◌++◌, Option}
 use Rattle.std.proofs.Common.{Some, None, is_none, refl, arith}
 use Rattle.std.specs.List.{list_all}

@@ -1,4 +1,4 @@
--- Cutting a height in steps before its dy is taken changes nothing.
+-- Clamping a height in steps before its dy is taken changes nothing.
 use Rattle.std.proofs.{Common.◌≡◌, Common.ℤ, Common.arith, lemmas.Int.ints, lemmas.Int.clamps}
 use Rattle.mus_ink.specs.Drawing.{cut_dy, steps_dy}
 

@@ -35,7 +35,7 @@ use Rattle.mus_ink.specs.Stems.{flag_marks, flags_or_stubs, stem_if, stem_marks,
 use Rattle.mus_ink.specs.Drawing.{glyph, loose_glyph, stem}
 use Rattle.mus_laid.specs.declared.drawn.LaneInk.{LaneInk}
 
--- what is asked of each kind of mark
+-- what each kind of mark needs
 pub record OfMarks (P : LaneInk → Type 0) : Type 0 where
   pub of_glyph : (g : Glyph) (dx dy : ℤ) → P (glyph g dx dy)
   pub of_loose : (g : Glyph) (dx dy : ℤ) → P (loose_glyph g dx dy)

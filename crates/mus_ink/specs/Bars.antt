@@ -1,11 +1,12 @@
--- A bar: its body by its features, then the dots of a repeat before it and behind it.
+-- A bar: its body by its features, then the dots of a repeat before it and after it.
 use Rattle.std.specs.Prelude.{pos, Bool, true, false, ◌&&◌, ◌||◌, if◌then◌else◌, List, [], ◌∷◌, ◌++◌}
 use Rattle.mus_units.specs.declared.glyph.Glyph.{Glyph}
 use Rattle.mus_units.specs.declared.note.Bar.{Bar}
 use Rattle.mus_laid.specs.declared.drawn.LaneInk.{LaneInk}
 use Rattle.mus_ink.specs.Drawing.{glyph}
 
--- what ends is thick on the left, what begins on the right; then come double, dotted and unseen bars
+-- a bar that ends something is thick on the left, one that begins something on the right; then come double, dotted
+-- and unseen bars
 unfoldable pub bar_glyph : Bar → Glyph
 bar_glyph b =
     let left = b.end || b.last in let right = b.start || b.initial in

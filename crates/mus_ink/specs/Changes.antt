@@ -19,12 +19,12 @@ abbrev pub clef_if : Option Clef → List LaneInk
 clef_if None = []
 clef_if (Some c) = clef_mark 0 c ∷ []
 
--- how far a clef that changes moves what stands behind it
+-- how far a change of clef moves what follows it
 abbrev pub behind_clef : Option Clef → ℕ
 behind_clef None = 0
 behind_clef (Some c) = clef_width
 
--- the entries of a new key, or a natural for each of the old one where the new one has none
+-- the entries of a new key, or a natural for each entry of the old one if the new one has none
 abbrev pub new_entries : Clef → ℕ → List Sign → List Sign → List LaneInk
 new_entries c first old [] = entry_marks c true first 0 old
 new_entries c first old (s ∷ ss) = entry_marks c false first 0 (s ∷ ss)
@@ -42,7 +42,7 @@ abbrev pub count_if : List Sign → Option Key → ℕ
 count_if old None = 0
 count_if old (Some key) = new_count old key.signs
 
--- a change: the clef in force there, the old key's signs, and what changes
+-- a change: the clef in force there, the old key's entries, and what changes
 unfoldable pub change_marks : Clef → List Sign → Changes → List LaneInk
 change_marks c old changes =
     let x = behind_clef changes.clef in

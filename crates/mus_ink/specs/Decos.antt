@@ -1,4 +1,4 @@
--- The top of an event, its decorations, and all marks of an event but its syllables and texts.
+-- The top of an event, its decorations, and all marks of an event except its syllables and texts.
 use Rattle.std.specs.Prelude.{ℕ, ℤ, pos, ◌+ℤ◌, Bool, true, false, List, [], ◌∷◌, ◌++◌, Option, Some, None}
 use Rattle.std.specs.Int.{int_max}
 use Rattle.mus_units.specs.declared.glyph.Glyph.{Glyph}
@@ -23,7 +23,7 @@ abbrev pub top_of : Clef → List Head → StemPlan → ℤ
 top_of c [] plan = pos top_line
 top_of c (h ∷ hs) plan = with_stem plan.has plan.to (highest_dy c (dy_of c h) hs)
 
--- the first stands above the staff and above the event
+-- the first is above the staff and above the event
 unfoldable pub first_deco : ℤ → ℤ
 first_deco top = cut_dy (int_max (pos deco_line) (top +ℤ pos deco_gap))
 
@@ -50,7 +50,7 @@ body_marks c raise [] e plan before after = rest_marks raise e.look e.value.base
 body_marks c raise (h ∷ hs) e plan before after =
     heads_marks c e.value.base (h ∷ hs) plan ++ stem_marks plan before after
 
--- an event: its clef, how much its rest is raised, its stem plan, and the levels of the events beside it in its beam
+-- an event: its clef, how far its rest is raised, its stem plan, and the levels of the events beside it in its beam
 unfoldable pub note_marks : Clef → ℤ → Event → StemPlan → ℕ → ℕ → List LaneInk
 note_marks c raise e plan before after =
     body_marks c raise e.heads e plan before after ++ deco_marks (first_deco (top_of c e.heads plan)) e.decos

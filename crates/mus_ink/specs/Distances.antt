@@ -1,15 +1,15 @@
--- Distances and heights in u, each with a name. Heights are counted from the bottom line of a staff.
+-- Named distances and heights in u. Heights are counted from the bottom line of a staff.
 use Rattle.std.specs.Prelude.{ℕ}
 
 -- the top line of a staff
 abbrev pub top_line : ℕ
 top_line = 2000
 
--- no height is further than this from the bottom line
+-- the greatest distance of a height from the bottom line
 abbrev pub greatest_height : ℕ
 greatest_height = 1073741824
 
--- a stem beside its column, that of a grace, and how far the stem of a grace goes beyond its highest head
+-- a stem from its column, that of a grace, and the length of the stem of a grace above its highest head
 abbrev pub stem_side : ℕ
 stem_side = 280
 
@@ -19,7 +19,7 @@ grace_stem_side = 190
 abbrev pub grace_stem_length : ℕ
 grace_stem_length = 1250
 
--- the first sign before a grace, to the left of its column
+-- the first accidental before a grace, to the left of its column
 abbrev pub grace_sign_side : ℕ
 grace_sign_side = 600
 
@@ -63,7 +63,7 @@ signature_side = 1800
 abbrev pub entry_step : ℕ
 entry_step = 500
 
--- a change: what stands behind its clef, and its first entry behind that
+-- a change: what follows its clef, and its first entry after that
 abbrev pub clef_width : ℕ
 clef_width = 1300
 
@@ -95,7 +95,7 @@ abbrev pub text_gap : ℕ
 text_gap = 400
 
 -- arcs: a slur above the tops of its events and how far it bulges, a tie beside its heads, which bulges as far, and
--- the height of a slur or tie whose ends are both cut
+-- the height of a slur or tie with both ends cut
 abbrev pub slur_gap : ℕ
 slur_gap = 400
 

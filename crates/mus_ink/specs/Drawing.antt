@@ -1,5 +1,5 @@
 -- What is drawn in a column, with its lane: a glyph, a text of big characters, a stem; and a beam from one column to
--- another. Nothing here says where these columns stand.
+-- another. The positions of the columns are not determined here.
 use Rattle.std.specs.Prelude.{ℕ, ℤ, pos, ◌*ℤ◌, ◌-ℤ◌, List}
 use Rattle.std.specs.Int.{int_min, int_max}
 use Rattle.mus_units.specs.declared.glyph.Glyph.{Glyph}
@@ -18,7 +18,7 @@ use Rattle.mus_ink.specs.Distances.{greatest_height}
 abbrev pub back : ℕ → ℤ
 back n = pos 0 -ℤ pos n
 
--- a dy is cut at 2^30 in size
+-- a dy is clamped to ±2^30
 unfoldable pub cut_dy : ℤ → ℤ
 cut_dy z = int_max (int_min z (pos greatest_height)) (back greatest_height)
 

@@ -19,7 +19,7 @@ use Rattle.mus_ink.specs.Distances.{beam_thickness, grace_sign_side, grace_stem_
 use Rattle.mus_ink.specs.Drawing.{back, beam, cut_dy, glyph, stem}
 use Rattle.mus_ink.specs.Notes.{dy_of, highest_dy, lowest_dy, sign_marks, ledger_marks}
 
--- where the stem of a grace alone ends, by its highest head
+-- where the stem of a single grace ends, by its highest head
 unfoldable pub above_head : ℤ → ℤ
 above_head dy = cut_dy (dy +ℤ pos grace_stem_length)
 
@@ -51,14 +51,14 @@ abbrev pub at_end : Bool → Glyph → ℤ → List LaneInk
 at_end true g end = glyph g (pos grace_stem_side) end ∷ []
 at_end false g end = []
 
--- signs, ledgers and heads
+-- accidentals, ledger lines and heads
 unfoldable pub grace_body : Clef → List Head → List LaneInk
 grace_body c heads =
     let stands = map (stand_of c) heads in
     sign_marks c heads (signs_from (back grace_sign_side) stands)
     ++ ledger_marks (ledgers_of (low_of stands) (high_of stands)) ++ grace_head_ink c heads
 
--- a grace alone has a flag, and the first of a group its slash
+-- a single grace has a flag, and the first of a group its slash
 abbrev pub ends : Group → Bool → List LaneInk
 ends group first = at_end group.alone Glyph.Gf group.end ++ at_end (first && group.slash) Glyph.Gs group.end
 
@@ -67,7 +67,7 @@ unfoldable pub grace_marks : Clef → Group → Bool → Event → List LaneInk
 grace_marks c group first g =
     grace_body c g.heads ++ stem (pos grace_stem_side) (grace_stem_from c g.heads) group.end ∷ [] ++ ends group first
 
--- the beam of a group of two graces or more, from the column of the first to that of the last
+-- the beam of a group of two or more graces, from the column of the first to that of the last
 unfoldable pub beam_edge : ℤ → ℤ
 beam_edge end = cut_dy (end -ℤ pos beam_thickness)
 

@@ -1,4 +1,4 @@
--- What is drawn by which glyph, and where: a row for each clef, sign, base and decoration.
+-- Which glyph draws what, and where: a row for each clef, accidental, base and decoration.
 use Rattle.std.specs.Prelude.{ℤ, pos, negsuc, Bool, true, false, Option, Some, None}
 use Rattle.mus_units.specs.declared.glyph.Glyph.{Glyph}
 use Rattle.mus_units.specs.declared.pitch.Alter.{Alter}
@@ -44,8 +44,8 @@ head_glyph Base.Whole = Glyph.Hw
 head_glyph Base.Half = Glyph.Hh
 head_glyph _ = Glyph.Hq
 
--- a rest: its glyph, and the height at which it stands in steps above the bottom line. Shorter rests than a quarter
--- have a glyph for each flag, and the first stands there
+-- a rest: its glyph, and its height in steps above the bottom line. Rests shorter than a quarter have a glyph for
+-- each flag; the first glyph is at this height
 abbrev pub rest_by : Glyph → ℤ → RestRow
 rest_by glyph line = record { glyph = glyph; line = line }
 
@@ -72,7 +72,7 @@ deco_glyph Deco.Kd = Some Glyph.Kd
 deco_glyph Deco.Kn = Some Glyph.Kn
 deco_glyph _ = None
 
--- flags by the way of the stem, and stubs to the right or to the left of it
+-- flags by the direction of the stem, and stubs to the right or to the left of it
 abbrev pub flag_glyph : Bool → Glyph
 flag_glyph true = Glyph.Fu
 flag_glyph false = Glyph.Fd

@@ -1,4 +1,4 @@
--- The heads of an event, and what stands beside them: signs, ledger lines and dots.
+-- The heads of an event and what is beside them: accidentals, ledger lines and dots.
 use Rattle.std.specs.{Prelude.{ℤ, pos, List, [], ◌∷◌, ◌++◌, Option, Some}, Int.{int_max, int_min}}
 use Rattle.mus_units.specs.Pitch.{height_of}
 use Rattle.mus_units.specs.declared.glyph.Glyph.{Glyph}
@@ -23,7 +23,7 @@ abbrev pub lowest_dy : Clef → ℤ → List Head → ℤ
 lowest_dy c z [] = z
 lowest_dy c z (h ∷ hs) = lowest_dy c (int_min z (dy_of c h)) hs
 
--- signs, in the order of their heads
+-- accidentals, in the order of their heads
 abbrev pub sign_mark : ℤ → Option Alter → Option ℤ → List LaneInk
 sign_mark dy (Some a) (Some dx) = glyph (sign_glyph a) dx dy ∷ []
 sign_mark dy _ _ = []
@@ -47,7 +47,7 @@ abbrev pub dot_marks : List Spot → List LaneInk
 dot_marks [] = []
 dot_marks (s ∷ ss) = glyph Glyph.Dt s.dx s.dy ∷ dot_marks ss
 
--- signs, ledgers, heads and dots
+-- accidentals, ledger lines, heads and dots
 unfoldable pub heads_marks : Clef → Base → List Head → StemPlan → List LaneInk
 heads_marks c base heads plan =
     sign_marks c heads plan.signs ++ ledger_marks plan.ledgers ++ note_heads c (head_glyph base) heads plan.shifts

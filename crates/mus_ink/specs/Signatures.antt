@@ -12,7 +12,7 @@ use Rattle.mus_ink.specs.Distances.{entry_step, lower_number_line, meter_sign_li
 use Rattle.mus_ink.specs.Drawing.{big_text, glyph, steps_dy}
 use Rattle.mus_ink.specs.Kinds.{clef_row, sign_glyph}
 
--- a clef stands at the line that it names
+-- a clef is at the line that it names
 abbrev pub clef_mark : ℕ → Clef → LaneInk
 clef_mark dx c = glyph (clef_row c).glyph (pos dx) (steps_dy (clef_row c).line)
 
@@ -25,7 +25,7 @@ height_at Letter.A es = es.a
 height_at Letter.E es = es.e
 height_at Letter.B es = es.b
 
--- naturals stand where sharps do, and double signs where single ones do
+-- naturals are where sharps are, and double accidentals where single ones are
 abbrev pub entries_for : Alter → ClefRow → Entries
 entries_for Alter.Flat2 row = row.flats
 entries_for Alter.Flat row = row.flats
@@ -42,13 +42,13 @@ entry_dy c a l = steps_dy (height_at l (entries_for a (clef_row c)))
 unfoldable pub entry_mark : Clef → Alter → Letter → ℕ → LaneInk
 entry_mark c a l dx = glyph (sign_glyph a) (pos dx) (entry_dy c a l)
 
--- entries side by side, the k-th first
+-- entries side by side, starting with the k-th
 abbrev pub entry_marks : Clef → Bool → ℕ → ℕ → List Sign → List LaneInk
 entry_marks c ends first k [] = []
 entry_marks c ends first k (s ∷ ss) =
     entry_mark c (shown_alter ends s.alter) s.letter (first + entry_step * k) ∷ entry_marks c ends first (k + 1) ss
 
--- two numbers, one above the other, or a sign for 4/4 and 2/2; a free meter has none
+-- two numbers, one above the other, or a sign for 4/4 and 2/2; nothing for a free meter
 unfoldable pub meter_marks : ℕ → Meter → List LaneInk
 meter_marks dx Meter.Free = []
 meter_marks dx Meter.Common = big_text (pos dx) (pos meter_sign_line) (codes "C") ∷ []

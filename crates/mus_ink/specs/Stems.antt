@@ -6,7 +6,7 @@ use Rattle.mus_ink.specs.Distances.{beam_thickness, level_step, stem_side}
 use Rattle.mus_ink.specs.Drawing.{back, cut_dy, glyph, loose_glyph, stem}
 use Rattle.mus_ink.specs.Kinds.{flag_glyph, stub_glyph}
 
--- a stem stands right of the heads, or left of them
+-- a stem is right of the heads, or left of them
 abbrev pub stem_dx : Bool → ℤ
 stem_dx true = pos stem_side
 stem_dx false = back stem_side
@@ -15,7 +15,7 @@ abbrev pub stem_if : Bool → Bool → ℤ → ℤ → List LaneInk
 stem_if true up from to = stem (stem_dx up) from to ∷ []
 stem_if false up from to = []
 
--- flags from the end towards the heads, the k-th first
+-- flags from the end towards the heads, starting with the k-th
 abbrev pub flag_dy : Bool → ℤ → ℕ → ℤ
 flag_dy true to k = cut_dy (to -ℤ pos (level_step * k))
 flag_dy false to k = cut_dy (to +ℤ pos (level_step * k))
@@ -35,8 +35,8 @@ stub_marks first up to k zero = []
 stub_marks first up to k (suc n) =
     loose_glyph (stub_glyph first) (stem_dx up) (lower_edge up to k) ∷ stub_marks first up to (k + 1) n
 
--- before and after are the levels of the events at both sides in the beam, 0 for none. An event alone has flags;
--- in a beam a level that neither side has is a stub
+-- before and after are the levels of the neighbours in the beam, 0 for none. A single event has flags; in a beam a
+-- level that neither neighbour has is a stub
 unfoldable pub flags_or_stubs : StemPlan → ℕ → ℕ → List LaneInk
 flags_or_stubs plan before after =
     if (before == 0) && (after == 0) then flag_marks plan.up plan.to 0 plan.flags

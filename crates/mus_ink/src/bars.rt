@@ -5,7 +5,7 @@ use crate::drawing::put_glyph;
 use mus_laid::MarkPen;
 use mus_units::{Bar, Glyph, Memory};
 
-/// The glyph of a bar's body.
+/// Returns the glyph of a bar's body.
 #[tactic(auto, unfolding(crate::specs::Bars::bar_glyph))]
 fn body(bar: Bar) -> Glyph
     ensures { result ≡ bar_glyph bar }
@@ -38,8 +38,8 @@ fn put_if(pen: &mut MarkPen, yes: bool, glyph: Glyph) -> Result<(), Memory>
     Ok(())
 }
 
-/// Draws a bar: its body at dx 0 and dy 0, then the dots of a repeat that ends there, then those of
-/// one that begins there.
+/// Draws a bar: its body at dx 0 and dy 0, then the dots of a repeat that ends there, then those of a repeat that
+/// begins there.
 #[tactic(auto, unfolding(crate::specs::Bars::bar_marks))]
 pub fn put_bar(pen: &mut MarkPen, bar: Bar) -> Result<(), Memory>
     ensures { OnOk result (pen.new ≡ inked pen.old (bar_marks bar)) }

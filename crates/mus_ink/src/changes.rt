@@ -10,8 +10,8 @@ use mus_laid::MarkPen;
 use mus_score::Changes;
 use mus_units::{Clef, Key, Memory, Meter, Sign};
 
-/// Draws the head of a staff: its clef at dx 200, its signature from dx 1800 on, and behind it the
-/// meter, where one is drawn there.
+/// Draws the head of a staff: its clef at dx 200, its signature from dx 1800 on, and after it the meter, if one is
+/// drawn there.
 #[tactic(auto, using(crate::proofs::Keys::few_signs), unfolding(crate::specs::Changes::head_marks))]
 pub fn put_head(
     pen: &mut MarkPen,
@@ -36,7 +36,7 @@ fn put_clef_if(pen: &mut MarkPen, clef: Option<Clef>) -> Result<(), Memory>
     }
 }
 
-/// How far a clef that changes moves what stands behind it.
+/// Returns how far a change of clef moves what follows it.
 fn behind_clef(clef: Option<Clef>) -> u32
     ensures value { result ≡ behind_clef clef }
     ensures most { result ≤ 1300 }
@@ -47,7 +47,7 @@ fn behind_clef(clef: Option<Clef>) -> u32
     }
 }
 
-/// Draws the signature of a new key, or a natural for each sign of the old one where it has none.
+/// Draws the signature of a new key or, if it has no entries, a natural for each entry of the old one.
 fn put_new_entries(
     pen: &mut MarkPen,
     clef: Clef,
@@ -96,7 +96,7 @@ fn put_key_if(
     }
 }
 
-/// How many entries a change of key draws.
+/// Returns how many entries a change of key draws.
 fn count_if(old: &[Sign], key: &Option<Key>) -> usize
     requires old { length old.now ≤ 7 }
     requires key { IfSome key.now IsGoodKey }
@@ -109,9 +109,9 @@ fn count_if(old: &[Sign], key: &Option<Key>) -> usize
     }
 }
 
-/// Draws a change before an event, in its own column: the clef at dx 0, then the key's entries
-/// in the clef in force there, `clef`, and then the meter. Where the new key has no entries, each of
-/// the old key, `old`, gives a natural.
+/// Draws a change before an event, in its own column: the clef at dx 0, then the key's entries in the clef in force
+/// there, `clef`, and then the meter. If the new key has no entries, each entry of the old key, `old`, gives a
+/// natural.
 #[tactic(auto, using(crate::proofs::Keys::few_signs), unfolding(crate::specs::Changes::change_marks))]
 pub fn put_change(
     pen: &mut MarkPen,

@@ -20,8 +20,8 @@ fn with_stem(has: bool, to: i32, top: i32) -> i32
     if has { top.max(to) } else { top }
 }
 
-/// The top of an event whose stem ends at `to`: the greater of its highest head's dy and that end
-/// where it has a stem; 2000 for a rest.
+/// Returns the top of an event whose stem ends at `to`: the greater of its highest head's dy and, if it has a stem,
+/// that end; 2000 for a rest.
 pub fn top_of(clef: Clef, heads: &[Head], plan: &StemPlan, to: i32) -> i32
     ensures { result ≡ top_of clef heads.now (with_end plan.now to) }
 {
@@ -31,7 +31,7 @@ pub fn top_of(clef: Clef, heads: &[Head], plan: &StemPlan, to: i32) -> i32
     }
 }
 
-/// The dy of the first decoration of an event.
+/// Returns the dy of the first decoration of an event.
 #[tactic(auto, unfolding(crate::specs::Decos::first_deco))]
 fn first_deco(top: i32) -> i32
     ensures { result ≡ first_deco top }
@@ -40,7 +40,7 @@ fn first_deco(top: i32) -> i32
     cut_dy(above.max(DECO_LINE))
 }
 
-/// The dy of the decoration above another.
+/// Returns the dy of the decoration above another.
 #[tactic(auto, unfolding(crate::specs::Decos::next_deco))]
 fn next_deco(dy: i32) -> i32
     ensures { result ≡ next_deco dy }
@@ -104,11 +104,11 @@ fn put_body(
     }
 }
 
-/// Draws an event in `clef`: signs, ledger lines, heads, dots, a stem that ends at `to`, flags or
-/// stubs, and the decorations that have a glyph; or a rest, `raise` higher than alone on its staff.
-/// Its syllables and texts are drawn later.
+/// Draws an event in `clef`: accidentals, ledger lines, heads, dots, a stem that ends at `to`, flags or stubs, and
+/// the decorations that have a glyph; or a rest, `raise` higher than alone on its staff. Its syllables and texts are
+/// drawn later.
 ///
-/// `before` and `after` are the levels of the events beside it in its beam, 0 where there is none.
+/// `before` and `after` are the levels of the events beside it in its beam, 0 if there is none.
 #[tactic(auto, unfolding(crate::specs::Decos::note_marks))]
 pub fn put_note(
     pen: &mut MarkPen,

@@ -1,23 +1,23 @@
-//! Distances and heights in u, by the names that the definitions have for them.
+//! Distances and heights in u, with the names that the definitions give them.
 
 /// From a line of the staff to the space above it.
 pub const STEP: i64 = 250;
 /// The top line of the staff.
 pub const TOP_LINE: i32 = 2000;
-/// No height is further than this from the bottom line.
+/// The greatest distance of a height from the bottom line.
 pub const FURTHEST: i64 = 1_073_741_824;
 
-/// A stem beside its column.
+/// A stem, from its column.
 pub const STEM_SIDE: i32 = 280;
-/// The stem of a grace beside its column.
+/// The stem of a grace, from its column.
 pub const GRACE_STEM_SIDE: i32 = 190;
-/// How far the stem of a grace goes beyond its highest head.
+/// The length of the stem of a grace above its highest head.
 pub const GRACE_STEM_LENGTH: i64 = 1250;
-/// The first sign before a grace, to the left of its column.
+/// The first accidental before a grace, to the left of its column.
 pub const GRACE_SIGN_SIDE: i32 = 600;
 /// From a flag, or a level of a beam, to the next one.
 pub const LEVEL_STEP: i64 = 375;
-/// How thick a beam is.
+/// The thickness of a beam.
 pub const BEAM_THICKNESS: i64 = 250;
 
 /// The lowest height of a decoration.
@@ -29,11 +29,11 @@ pub const DECO_STEP: i64 = 750;
 
 /// From a part of a short rest down to the next.
 pub const REST_STEP: i64 = 500;
-/// The first dot behind a rest.
+/// The first dot after a rest.
 pub const DOT_SIDE: i32 = 600;
-/// From a dot behind a rest to the next.
+/// From a dot after a rest to the next.
 pub const DOT_STEP: i32 = 250;
-/// The height of the dots behind a rest.
+/// The height of the dots after a rest.
 pub const REST_DOT_LINE: i32 = 1250;
 
 /// The clef in the head of a staff.
@@ -42,9 +42,9 @@ pub const CLEF_SIDE: u32 = 200;
 pub const SIGNATURE_SIDE: u32 = 1800;
 /// From an entry of a signature to the next.
 pub const ENTRY_STEP: u32 = 500;
-/// How far a clef that changes moves what stands behind it.
+/// How far a change of clef moves what follows it.
 pub const CLEF_WIDTH: u32 = 1300;
-/// The first entry of a key that changes, behind the clef.
+/// The first entry of a change of key, after the clef.
 pub const ENTRY_GAP: u32 = 250;
 /// The upper number of a meter.
 pub const UPPER_NUMBER_LINE: i32 = 1000;

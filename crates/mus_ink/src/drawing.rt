@@ -7,7 +7,7 @@ use mus_laid::{Bridge, BridgeShape, Ink, Lane, LaneInk, MarkPen};
 use mus_onsets::ColumnKey;
 use mus_units::{Glyph, Memory, Row, Size, Text, Way};
 
-/// A height, cut at 2^30 u in size.
+/// Returns a height clamped to ±2^30 u.
 #[tactic(auto, unfolding(crate::specs::Drawing::cut_dy))]
 pub fn cut_dy(dy: i64) -> i32
     ensures { result ≡ cut_dy dy }
@@ -15,7 +15,7 @@ pub fn cut_dy(dy: i64) -> i32
     dy.min(FURTHEST).max(-FURTHEST) as i32
 }
 
-/// The dy of a height in steps.
+/// Returns the dy of a height in steps.
 #[tactic(auto, unfolding(crate::specs::Drawing::steps_dy))]
 pub fn steps_dy(steps: i32) -> i32
     ensures { result ≡ steps_dy steps }
@@ -49,7 +49,7 @@ pub fn put_loose_glyph(pen: &mut MarkPen, sort: Glyph, dx: i32, dy: i32) -> Resu
     pen.put(LaneInk { ink, lane })
 }
 
-/// Draws a text of big characters, as meters have them.
+/// Draws a text of big characters, as used for meters.
 pub fn put_big_text(pen: &mut MarkPen, dx: i32, dy: i32, text: Text) -> Result<(), Memory>
     ensures { OnOk result (pen.new ≡ inked pen.old (big_text dx dy text ∷ [])) }
 {

@@ -19,8 +19,8 @@ use mus_score::Event;
 use mus_stems::{HeadPosition, highest_head, ledgers_for, lowest_head, signs_for, stands};
 use mus_units::{Clef, Glyph, Head, Memory, Row, Way};
 
-/// What the graces before an event share: the dy at which their stems end, whether there is just
-/// one, and whether their first has a slash.
+/// What the graces before an event share: the dy at which their stems end, whether there is exactly one grace, and
+/// whether the first has a slash.
 #[derive(Clone, Copy, PartialEq, Eq)]
 pub struct Group {
     pub end: i32,
@@ -35,7 +35,7 @@ fn above_head(dy: i32) -> i32
     cut_dy(i64::from(dy) + GRACE_STEM_LENGTH)
 }
 
-/// The dy at which the stem of a grace would end alone.
+/// Returns the dy at which the stem of a grace would end alone.
 fn own_end(clef: Clef, heads: &[Head]) -> i32
     ensures { result ≡ grace_own_end clef heads.now }
 {
@@ -64,7 +64,7 @@ fn group_end(clef: Clef, graces: &[Event]) -> i32
     }
 }
 
-/// What the graces before an event share, in the event's clef.
+/// Returns what the graces before an event share, in the event's clef.
 #[tactic(auto, unfolding(crate::specs::Graces::group_of))]
 pub fn group_of(clef: Clef, graces: &[Event], slash: bool) -> Group
     ensures { result ≡ group_of clef graces.now slash }
@@ -85,7 +85,7 @@ fn put_grace_heads(pen: &mut MarkPen, clef: Clef, heads: &[Head]) -> Result<(), 
     Ok(())
 }
 
-/// The dy at which the stem of a grace begins.
+/// Returns the dy at which the stem of a grace begins.
 fn grace_stem_from(clef: Clef, heads: &[Head]) -> i32
     ensures { result ≡ grace_stem_from clef heads.now }
 {
@@ -128,7 +128,7 @@ fn put_grace_ledgers(pen: &mut MarkPen, stands: &[HeadPosition]) -> Result<(), M
     put_ledgers(pen, ledgers.as_slice())
 }
 
-/// Draws the signs, ledger lines and heads of a grace.
+/// Draws the accidentals, ledger lines and heads of a grace.
 #[tactic(auto, unfolding(crate::specs::Graces::grace_body))]
 fn put_grace_body(pen: &mut MarkPen, clef: Clef, heads: &[Head]) -> Result<(), Memory>
     requires near { AllNear (map (stand_of clef) heads.now) }
@@ -141,7 +141,7 @@ fn put_grace_body(pen: &mut MarkPen, clef: Clef, heads: &[Head]) -> Result<(), M
     put_grace_heads(pen, clef, heads)
 }
 
-/// Draws the flag of a grace alone, and the slash at the first.
+/// Draws the flag of a single grace, and the slash at the first.
 fn put_ends(pen: &mut MarkPen, group: Group, first: bool) -> Result<(), Memory>
     ensures { OnOk result (pen.new ≡ inked pen.old (ends group first)) }
 {
@@ -149,8 +149,8 @@ fn put_ends(pen: &mut MarkPen, group: Group, first: bool) -> Result<(), Memory>
     put_at_end(pen, first && group.slash, Glyph::Gs, group.end)
 }
 
-/// Draws a grace note or chord of a group: signs, ledger lines, heads, a stem, the flag of a grace
-/// alone, and the slash at the first.
+/// Draws a grace note or chord of a group: accidentals, ledger lines, heads, a stem, the flag of a single grace, and
+/// the slash at the first.
 #[tactic(auto, unfolding(crate::specs::Graces::grace_marks))]
 pub fn put_grace(
     pen: &mut MarkPen,
@@ -181,8 +181,8 @@ fn beam_edge(end: i32) -> i32
     cut_dy(i64::from(end) - BEAM_THICKNESS)
 }
 
-/// Draws the beam of a group of two graces or more, from the column of the first to that of the last;
-/// nothing for a grace alone.
+/// Draws the beam of a group of two or more graces, from the column of the first to that of the last; draws nothing
+/// for a single grace.
 #[tactic(auto, unfolding(crate::specs::Graces::grace_beam))]
 pub fn put_grace_beam(
     out: &mut Row<Bridge>,

@@ -16,8 +16,8 @@ pub struct Entries {
     pub b: i32,
 }
 
-/// How a clef is drawn: its glyph, the height of the line that it names, in steps above the bottom
-/// line, and where sharps and flats of a signature stand.
+/// How a clef is drawn: its glyph, the height of the line that it names, in steps above the bottom line, and the
+/// heights of the sharps and flats of a signature.
 #[derive(Clone, Copy, PartialEq, Eq)]
 pub struct ClefRow {
     pub glyph: Glyph,
@@ -58,7 +58,7 @@ fn clef_by(glyph: Glyph, line: i32, sharps: Entries, flats: Entries) -> ClefRow
     }
 }
 
-/// How a clef is drawn.
+/// Returns how a clef is drawn.
 pub(crate) fn clef_row(clef: Clef) -> ClefRow
     ensures { result ≡ clef_row clef }
 {
@@ -90,7 +90,7 @@ pub(crate) fn clef_row(clef: Clef) -> ClefRow
     }
 }
 
-/// The glyph of a sign.
+/// Returns the glyph of an accidental.
 pub(crate) fn sign_glyph(alter: Alter) -> Glyph
     ensures { result ≡ sign_glyph alter }
 {
@@ -103,7 +103,7 @@ pub(crate) fn sign_glyph(alter: Alter) -> Glyph
     }
 }
 
-/// The glyph of the heads of a base.
+/// Returns the glyph of the heads of a base.
 pub(crate) fn head_glyph(base: Base) -> Glyph
     ensures { result ≡ head_glyph base }
 {
@@ -121,7 +121,7 @@ fn rest_by(glyph: Glyph, line: i32) -> RestRow
     RestRow { glyph, line }
 }
 
-/// How a rest of a base is drawn; shorter ones than a quarter have the glyph once for each flag.
+/// Returns how a rest of a base is drawn. Rests shorter than a quarter have the glyph once for each flag.
 pub(crate) fn rest_row(base: Base) -> RestRow
     ensures { result ≡ rest_row base }
 {
@@ -134,7 +134,7 @@ pub(crate) fn rest_row(base: Base) -> RestRow
     }
 }
 
-/// The glyph of a decoration. None for dynamics, fingerings and what draws nothing.
+/// Returns the glyph of a decoration. `None` for dynamics, fingerings and decorations that draw nothing.
 pub(crate) fn deco_glyph(deco: &Deco) -> Option<Glyph>
     ensures { result ≡ deco_glyph deco.now }
 {
@@ -155,14 +155,14 @@ pub(crate) fn deco_glyph(deco: &Deco) -> Option<Glyph>
     }
 }
 
-/// The glyph of a flag, by the way of its stem.
+/// Returns the glyph of a flag, by the direction of its stem.
 pub(crate) fn flag_glyph(up: bool) -> Glyph
     ensures { result ≡ flag_glyph up }
 {
     if up { Glyph::Fu } else { Glyph::Fd }
 }
 
-/// The glyph of a stub: to the right at the first event of a beam, to the left at others.
+/// Returns the glyph of a stub: to the right at the first event of a beam, to the left at others.
 pub(crate) fn stub_glyph(first: bool) -> Glyph
     ensures { result ≡ stub_glyph first }
 {

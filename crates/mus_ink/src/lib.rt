@@ -1,6 +1,5 @@
-//! The parts that a staff's marks are put together from: bars, heads of staves and changes, notes and
-//! rests, and graces with their beam. Each part says what it draws beside its column, and not where the
-//! column stands.
+//! The parts that make up a staff's marks: bars, heads of staves and changes, notes and rests, and graces with their
+//! beam. Each part determines what is drawn beside its column, not where the column is.
 #![tactic(auto)]
 
 pub mod bars;

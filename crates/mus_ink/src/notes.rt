@@ -11,21 +11,21 @@ use mus_laid::MarkPen;
 use mus_stems::{Spot, StemPlan};
 use mus_units::{Alter, Base, Clef, Glyph, Head, Memory, height};
 
-/// The height of a head in a clef, in steps.
+/// Returns the height of a head in a clef, in steps.
 fn steps(clef: Clef, head: Head) -> i32
     ensures { result ≡ cut_dy (height_of head.pitch clef) }
 {
     cut_dy(height(head.pitch, clef))
 }
 
-/// The dy of a head, cut at 2^30 in size.
+/// Returns the dy of a head, clamped to ±2^30.
 pub fn head_dy(clef: Clef, head: Head) -> i32
     ensures { result ≡ dy_of clef head }
 {
     steps_dy(steps(clef, head))
 }
 
-/// The greatest of a dy and those of heads.
+/// Returns the greatest of a dy and those of heads.
 pub fn highest_dy(clef: Clef, first: i32, heads: &[Head]) -> i32
     ensures { result ≡ highest_dy clef first heads.now }
 {
@@ -36,7 +36,7 @@ pub fn highest_dy(clef: Clef, first: i32, heads: &[Head]) -> i32
     high
 }
 
-/// The least of a dy and those of heads.
+/// Returns the least of a dy and those of heads.
 pub fn lowest_dy(clef: Clef, first: i32, heads: &[Head]) -> i32
     ensures { result ≡ lowest_dy clef first heads.now }
 {
@@ -47,7 +47,7 @@ pub fn lowest_dy(clef: Clef, first: i32, heads: &[Head]) -> i32
     low
 }
 
-/// Draws the sign before a head, if there is one.
+/// Draws the accidental before a head, if there is one.
 fn put_sign_of(pen: &mut MarkPen, clef: Clef, head: Head, dx: Option<i32>) -> Result<(), Memory>
     ensures { OnOk result (pen.new ≡ inked pen.old (sign_mark (dy_of clef head) head.sign dx)) }
 {
@@ -57,7 +57,7 @@ fn put_sign_of(pen: &mut MarkPen, clef: Clef, head: Head, dx: Option<i32>) -> Re
     }
 }
 
-/// Draws the signs before heads, in the order of the heads; `places` has the dx of each.
+/// Draws the accidentals before heads, in the order of the heads; `places` has the dx of each.
 pub fn put_signs(
     pen: &mut MarkPen,
     clef: Clef,
@@ -84,7 +84,7 @@ fn have_no_sign(heads: &[Head]) -> bool
     heads.iter().all(|head| head.sign.is_none())
 }
 
-/// Draws the signs before heads, of which most have none.
+/// Draws the accidentals before heads. Usually there are none, so this is checked first.
 fn put_signs_if(
     pen: &mut MarkPen,
     clef: Clef,
@@ -140,7 +140,7 @@ fn put_dots(pen: &mut MarkPen, dots: &[Spot]) -> Result<(), Memory>
     Ok(())
 }
 
-/// Draws the heads of an event: signs, ledger lines, heads and dots.
+/// Draws the heads of an event: accidentals, ledger lines, heads and dots.
 #[tactic(auto, unfolding(crate::specs::Notes::heads_marks))]
 pub fn put_heads_of(
     pen: &mut MarkPen,

@@ -13,7 +13,7 @@ use mus_laid::MarkPen;
 use mus_score::Look;
 use mus_units::{Base, Glyph, Memory, Value};
 
-/// A height of a rest that is raised.
+/// Returns the height of a rest that is raised.
 #[tactic(auto, unfolding(crate::specs::Rests::raised))]
 fn raised(raise: i32, dy: i32) -> i32
     ensures { result ≡ raised raise dy }
@@ -27,7 +27,7 @@ fn rest_dy(raise: i32, row: RestRow) -> i32
     raised(raise, steps_dy(row.line))
 }
 
-/// The dy of a part of a short rest by its number.
+/// Returns the dy of a part of a short rest by its number.
 #[tactic(auto, unfolding(crate::specs::Rests::short_dy))]
 fn short_dy(top: i32, k: u8) -> i32
     ensures { result ≡ short_dy top k }
@@ -35,7 +35,7 @@ fn short_dy(top: i32, k: u8) -> i32
     cut_dy(i64::from(top) - REST_STEP * i64::from(k))
 }
 
-/// Draws a rest shorter than a quarter, a part for each flag.
+/// Draws a rest shorter than a quarter, with a part for each flag.
 #[tactic(auto, using(crate::proofs::Counting::rests_step, std::proofs::lemmas::Grind::common_steps))]
 fn put_short_rests(pen: &mut MarkPen, sort: Glyph, top: i32, flags: u8) -> Result<(), Memory>
     ensures { OnOk result (pen.new ≡ inked pen.old (short_rests sort top 0 flags)) }
@@ -73,8 +73,7 @@ fn put_rest_dots(pen: &mut MarkPen, raise: i32, dots: u8) -> Result<(), Memory>
     Ok(())
 }
 
-/// Draws a rest, `raise` higher than alone on its staff, with as many parts as `flags` where it is
-/// shorter than a quarter.
+/// Draws a rest, `raise` higher than alone on its staff; a rest shorter than a quarter has `flags` parts.
 pub fn put_rest(
     pen: &mut MarkPen,
     raise: i32,

@@ -33,7 +33,8 @@ fn height_at(letter: Letter, entries: Entries) -> i32
     }
 }
 
-/// Where the entries of a signature stand: flats in places of their own, all else where sharps do.
+/// Returns the heights of the entries of a signature: flats have heights of their own, all others are where sharps
+/// are.
 fn entries_for(alter: Alter, row: ClefRow) -> Entries
     ensures { result ≡ entries_for alter row }
 {
@@ -43,7 +44,7 @@ fn entries_for(alter: Alter, row: ClefRow) -> Entries
     }
 }
 
-/// The dy of an entry of a signature.
+/// Returns the dy of an entry of a signature.
 #[tactic(auto, unfolding(crate::specs::Signatures::entry_dy))]
 fn entry_dy(clef: Clef, alter: Alter, letter: Letter) -> i32
     ensures { result ≡ entry_dy clef alter letter }
@@ -51,14 +52,14 @@ fn entry_dy(clef: Clef, alter: Alter, letter: Letter) -> i32
     steps_dy(height_at(letter, entries_for(alter, clef_row(clef))))
 }
 
-/// What an entry shows: a natural where its key ends.
+/// Returns the accidental that an entry shows: a natural if its key ends.
 fn shown_alter(ends: bool, alter: Alter) -> Alter
     ensures { result ≡ shown_alter ends alter }
 {
     if ends { Alter::Natural } else { alter }
 }
 
-/// Draws an entry of a signature, a natural where its key ends.
+/// Draws an entry of a signature, as a natural if its key ends.
 #[tactic(auto, unfolding(crate::specs::Signatures::entry_mark))]
 fn put_entry(pen: &mut MarkPen, clef: Clef, ends: bool, sign: Sign, dx: u32) -> Result<(), Memory>
     requires { dx ≤ 10000 }
@@ -70,7 +71,7 @@ fn put_entry(pen: &mut MarkPen, clef: Clef, ends: bool, sign: Sign, dx: u32) -> 
     put_glyph(pen, sign_glyph(alter), dx as i32, dy)
 }
 
-/// Draws the entries of a signature, the first at dx `first`; where the key ends, a natural for each.
+/// Draws the entries of a signature, the first at dx `first`; if the key ends, a natural for each.
 pub fn put_entries(
     pen: &mut MarkPen,
     clef: Clef,
@@ -90,7 +91,7 @@ pub fn put_entries(
     Ok(())
 }
 
-/// The digits of a number.
+/// Returns the digits of a number.
 fn digits(alloc: Global, number: u8) -> Result<Text, Memory>
     ensures { IfOk result (λ t. t ≡ decimal number) }
 {
@@ -98,7 +99,7 @@ fn digits(alloc: Global, number: u8) -> Result<Text, Memory>
     Text::from_slice(alloc, digits.as_bytes())
 }
 
-/// Draws a meter: its two numbers, or its sign; nothing for a free meter.
+/// Draws a meter: its two numbers, or its sign. Draws nothing for a free meter.
 #[tactic(auto, unfolding(crate::specs::Signatures::meter_marks))]
 fn put_meter(pen: &mut MarkPen, dx: u32, meter: Meter) -> Result<(), Memory>
     requires { dx ≤ 10000 }

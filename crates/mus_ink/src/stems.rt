@@ -12,7 +12,7 @@ use mus_laid::MarkPen;
 use mus_stems::StemPlan;
 use mus_units::Memory;
 
-/// The dx of a stem: right of the heads where it goes up, left where it goes down.
+/// Returns the dx of a stem: right of the heads if it goes up, left if it goes down.
 fn stem_dx(up: bool) -> i32
     ensures { result ≡ stem_dx up }
 {
@@ -28,7 +28,7 @@ fn put_stem_if(pen: &mut MarkPen, has: bool, up: bool, from: i32, to: i32) -> Re
     Ok(())
 }
 
-/// The dy of a flag by its number.
+/// Returns the dy of a flag by its number.
 fn flag_dy(up: bool, to: i32, k: u8) -> i32
     ensures { result ≡ flag_dy up to k }
 {
@@ -51,7 +51,7 @@ fn put_flags(pen: &mut MarkPen, up: bool, to: i32, flags: u8) -> Result<(), Memo
     Ok(())
 }
 
-/// The lower edge of a beam over an event at a level, from 0, where the event's stem ends at `to`.
+/// Returns the lower edge of a beam over an event at a level, from 0, if the event's stem ends at `to`.
 pub fn lower_edge(up: bool, to: i32, level: u8) -> i32
     ensures { result ≡ lower_edge up to level }
 {
@@ -99,8 +99,8 @@ fn put_flags_or_stubs(
     }
 }
 
-/// Draws the stem of an event, which ends at `to`, and its flags or its stubs. `before` and `after`
-/// are the levels of the events beside it in its beam, 0 where there is none.
+/// Draws the stem of an event, which ends at `to`, and its flags or its stubs. `before` and `after` are the levels of
+/// the events beside it in its beam, 0 if there is none.
 #[tactic(auto, unfolding(crate::specs::Stems::stem_marks))]
 pub fn put_stem_of(
     pen: &mut MarkPen,

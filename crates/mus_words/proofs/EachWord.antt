@@ -1,5 +1,5 @@
--- One walk over the syllables and texts of an event: what holds of a syllable of each verse, and of a text above and
--- one below, as they are printed, holds of all of them. What prints nothing is not drawn.
+-- One walk over the syllables and texts of an event: what holds of the printed form of a syllable of each verse, of a
+-- text above and of one below, holds of all of them. What prints nothing is not drawn.
 use Rattle.std.proofs.Common.{◌≡◌, ℕ, suc, ℤ, ◌+◌, ◌≤◌, ◌<◌, Bool, true, false, ◌==◌, if◌then◌else◌, List, [], ◌∷◌}
 use Rattle.std.proofs.Common.{◌++◌, length, Option, Some, None, refl, subst, arith}
 use Rattle.std.proofs.lemmas.Bool.Decides.{nat_tests}
@@ -22,13 +22,13 @@ use Rattle.mus_words.specs.Texts.{text_marks, texts_above, texts_below}
 use Rattle.mus_words.specs.Words.{shown_text, words}
 use Rattle.mus_laid.specs.declared.laid.Lane.TheVariants as lanes
 
--- what is printed of a text, if that is anything
+-- the printed form of a text, unless it is empty
 pub record IsShown (t : List ℕ) : Type 0 where
   pub text : List ℕ
   pub is : t ≡ printed text
   pub some : 1 ≤ length t
 
--- what is asked of each kind of text
+-- what each kind of text needs
 pub record OfWords (IsVerse : ℕ → Type 0) (P : LaneInk → Type 0) : Type 0 where
   pub of_syllable : (low : ℤ) (n : ℕ) (t : List ℕ)
       → IsVerse n → IsShown t → P (words (Lane.Verse n) (syllable_dx (length t)) (verse_dy low n) t)

@@ -1,4 +1,4 @@
--- Behind 2^32 texts each dy is cut, so no more of them need be counted.
+-- After 2^32 texts each dy is clamped, so further texts need not be counted.
 use Rattle.std.proofs.{Common.{◌≡◌, ℕ, ◌+◌, min, ℤ, pos, negsuc, ◌≤ℤ◌, arith}, lemmas.Int.{ints, clamps}}
 use Rattle.{mus_ink.specs.Drawing.{cut_dy}, mus_words.specs.Texts.{above_dy, below_dy}}
 

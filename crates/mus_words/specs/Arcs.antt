@@ -29,8 +29,8 @@ arc_end_event e = record { clef = e.clef; heads = e.heads.now; plan = with_end e
 abbrev pub arc_bridge : ColumnKey → ColumnKey → ℤ → ℤ → ℤ → Bridge
 arc_bridge first last from to bulge = record { first = first; last = last; span = BridgeShape.Arc from to bulge }
 
--- where an end of a piece stands, by where it would stand if no end were cut: a cut end is as high as
--- the other one, and a piece with two of them has a height of its own
+-- the dy of an end of a piece, given where it would be if no end were cut: a cut end is as high as the other end, and
+-- a piece with two cut ends has a height of its own
 abbrev pub piece_dy : Bool → Bool → ℤ → ℤ → ℤ
 piece_dy false other_cut own other = own
 piece_dy true false own other = other
@@ -45,7 +45,7 @@ piece_mark left right piece from to bulge =
 unfoldable pub slur_dy : ArcEndEvent → ℤ
 slur_dy e = cut_dy (top_of e.clef e.heads e.plan +ℤ pos slur_gap)
 
--- a tie bulges away from the stem of its first event, and upwards where that has none
+-- a tie bulges away from the stem of its first event, and upwards if that has none
 abbrev pub bulges_up : StemPlan → Bool
 bulges_up plan = not (plan.has && plan.up)
 
@@ -53,7 +53,7 @@ abbrev pub tie_bulge : Bool → ℤ
 tie_bulge true = pos tie_gap
 tie_bulge false = back tie_gap
 
--- it ends that far above or below its heads; what is no head stands at 0
+-- it ends that far above or below its heads; a missing head is at 0
 abbrev pub dy_if : Clef → Option Head → ℤ
 dy_if c None = pos 0
 dy_if c (Some h) = dy_of c h
@@ -61,7 +61,7 @@ dy_if c (Some h) = dy_of c h
 unfoldable pub beside_head : Bool → ℤ → ℤ
 beside_head up dy = cut_dy (dy +ℤ tie_bulge up)
 
--- the head of the last event that a head is tied to: the first at its letter and octave
+-- the head of the last event that a head is tied to: the first with its letter and octave
 abbrev pub tied_head : Option Head → List Head → Option Head
 tied_head None heads = None
 tied_head (Some h) heads = find (has_pitch h.pitch) heads

@@ -8,15 +8,15 @@ use Rattle.mus_ink.specs.Distances.{half_character, verse_step}
 use Rattle.mus_ink.specs.Drawing.{back, cut_dy}
 use Rattle.mus_words.specs.Words.{words}
 
--- a syllable has its middle at the column: half a character's width to the left for each of its characters
+-- a syllable is centred at the column: half a character's width to the left for each of its characters
 unfoldable pub syllable_dx : ℕ → ℤ
 syllable_dx count = back (half_character * count)
 
--- verses are under one another, the first, 1, a step below the lowest mark
+-- verses are below one another; the first, 1, is a step below the lowest mark
 unfoldable pub verse_dy : ℤ → ℕ → ℤ
 verse_dy low n = cut_dy (low -ℤ pos (verse_step * n))
 
--- what is printed of a syllable of verse n
+-- the printed form of a syllable of verse n
 abbrev pub syllable : ℤ → ℕ → List ℕ → List LaneInk
 syllable low n t = if length t == 0 then [] else words (Lane.Verse n) (syllable_dx (length t)) (verse_dy low n) t ∷ []
 

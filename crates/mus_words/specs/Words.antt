@@ -1,4 +1,4 @@
--- Small texts in a lane. A text that prints nothing is no mark and counts nowhere.
+-- Small texts in a lane. A text that prints nothing is no mark and is not counted.
 use Rattle.std.specs.Prelude.{ℕ, ℤ, ◌==◌, if◌then◌else◌, List, [], ◌∷◌, length}
 use Rattle.mus_units.specs.declared.glyph.Size.{Size}
 use Rattle.mus_laid.specs.declared.drawn.Ink.{Ink}
@@ -12,6 +12,6 @@ words lane dx dy text = record { ink = Ink.Words Size.Small dx dy text; lane = l
 abbrev pub if_any : List ℕ → List (List ℕ)
 if_any t = if length t == 0 then [] else t ∷ []
 
--- a text as it is printed, if that is anything
+-- the printed form of a text, unless it is empty
 abbrev pub shown_text : List ℕ → List (List ℕ)
 shown_text t = if_any (printed t)

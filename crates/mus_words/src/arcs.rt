@@ -14,8 +14,7 @@ use mus_onsets::ColumnKey;
 use mus_stems::StemPlan;
 use mus_units::{Clef, Head, Memory, Pitch, Row};
 
-/// What is known of the event at an end of an arc: its clef, its heads, its stem and the dy at which
-/// that ends.
+/// The event at an end of an arc: its clef, its heads, its stem and the dy at which that ends.
 #[derive(Clone, Copy)]
 pub struct ArcEnd<'a> {
     pub clef: Clef,
@@ -41,7 +40,7 @@ fn put_arc_between(
     })
 }
 
-/// The dy of an end of a piece, by whether it and the other end are cut and where both would stand uncut.
+/// Returns the dy of an end of a piece, by whether it and the other end are cut and where both would be uncut.
 fn piece_dy(is_cut: bool, is_other_cut: bool, own: i32, other: i32) -> i32
     ensures { result ≡ piece_dy is_cut is_other_cut own other }
 {
@@ -52,7 +51,7 @@ fn piece_dy(is_cut: bool, is_other_cut: bool, own: i32, other: i32) -> i32
     }
 }
 
-/// Draws a piece of an arc, which would go from dy `from` to dy `to` uncut.
+/// Draws a piece of an arc that would go from dy `from` to dy `to` if it were uncut.
 fn put_piece(
     out: &mut Row<Bridge>,
     left: ColumnKey,
@@ -69,7 +68,7 @@ fn put_piece(
     put_arc_between(out, left, right, left_dy, right_dy, bulge)
 }
 
-/// The dy of a slur at one of its events.
+/// Returns the dy of a slur at one of its events.
 #[tactic(auto, unfolding(crate::specs::Arcs::slur_dy))]
 fn slur_dy(end: ArcEnd<'_>) -> i32
     ensures { result ≡ slur_dy (arc_end_event end.entry) }
@@ -100,7 +99,7 @@ fn put_slur(
     )
 }
 
-/// Whether a tie from an event bulges upwards.
+/// Returns whether a tie from an event bulges upwards.
 fn bulges_up(plan: &StemPlan) -> bool
     ensures { result ≡ bulges_up plan.now }
 {
@@ -122,7 +121,7 @@ fn dy_if(clef: Clef, head: Option<Head>) -> i32
     }
 }
 
-/// The dy of a tie at a head of this dy.
+/// Returns the dy of a tie at a head of this dy.
 #[tactic(auto, unfolding(crate::specs::Arcs::beside_head))]
 fn beside_head(up: bool, dy: i32) -> i32
     ensures { result ≡ beside_head up dy }
@@ -136,14 +135,14 @@ fn tie_dy(up: bool, clef: Clef, head: Option<Head>) -> i32
     beside_head(up, dy_if(clef, head))
 }
 
-/// Whether a head has this letter and octave.
+/// Returns whether a head has this letter and octave.
 fn has_pitch(pitch: Pitch, head: Head) -> bool
     ensures { result ≡ has_pitch pitch head }
 {
     head.pitch.letter == pitch.letter && head.pitch.octave == pitch.octave
 }
 
-/// The first head at a letter and octave.
+/// Returns the first head with a letter and octave.
 fn head_at(pitch: Pitch, heads: &[Head]) -> Option<Head>
     ensures { result ≡ find (has_pitch pitch) heads.now }
 {
@@ -155,7 +154,7 @@ fn head_at(pitch: Pitch, heads: &[Head]) -> Option<Head>
     None
 }
 
-/// The head that a head is tied to.
+/// Returns the head that a head is tied to.
 fn tied_head(head: Option<Head>, heads: &[Head]) -> Option<Head>
     ensures { result ≡ tied_head head heads.now }
 {
@@ -165,7 +164,7 @@ fn tied_head(head: Option<Head>, heads: &[Head]) -> Option<Head>
     }
 }
 
-/// The head of this number, from 0.
+/// Returns the head of this number, from 0.
 fn numbered_head(heads: &[Head], number: u32) -> Option<Head>
     ensures { result ≡ slice_get heads.now number }
 {
@@ -193,14 +192,14 @@ fn put_tie(
     put_piece(out, left, right, piece, from_dy, to_dy, tie_bulge(up))
 }
 
-/// Draws the piece of an arc in a system, from the column of `left` to that of `right`; `from` and
-/// `to` are the arc's first and last event. A slur ends 400 u above the tops of its events and bulges
-/// by 700 u; a tie ends 400 u beside its heads and bulges by 400 u, downwards where the stem of its
-/// first event goes up. An end that the system cuts is as high as the other, and both are at 2750 u
-/// where both are cut. A dy is cut at 2^30 u in size. The only error is want of memory.
+/// Draws the piece of an arc in a system, from the column of `left` to that of `right`; `from` and `to` are the arc's
+/// first and last event. A slur ends 400 u above the tops of its events and bulges by 700 u. A tie ends 400 u beside
+/// its heads and bulges by 400 u, downwards if the stem of its first event goes up. An end that the system cuts is as
+/// high as the other end; if both are cut, both are at 2750 u. Each dy is clamped to ±2^30 u. The only error is out
+/// of memory.
 ///
-/// A tie ends at the head of its number in its first event, and at the first head of that letter and
-/// octave in its last; a head that isn't there counts as one at 0.
+/// A tie ends at the head of its number in its first event, and at the first head of that letter and octave in its
+/// last event; a missing head counts as one at 0.
 #[tactic(auto, unfolding(crate::specs::Arcs::arc_mark))]
 pub fn put_arc(
     out: &mut Row<Bridge>,

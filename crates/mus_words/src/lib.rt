@@ -1,5 +1,4 @@
-//! Of the marks of a staff the syllables, the texts above and below it, and the arcs, without the
-//! places of their columns.
+//! The syllables of a staff, the texts above and below it, and its arcs, without the positions of their columns.
 #![tactic(auto)]
 
 pub mod arcs;

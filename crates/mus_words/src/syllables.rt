@@ -9,7 +9,7 @@ use mus_ink::drawing::cut_dy;
 use mus_laid::{Lane, MarkPen, printed};
 use mus_units::{Memory, Text};
 
-/// The dx of a syllable of so many characters.
+/// Returns the dx of a syllable with this number of characters.
 #[tactic(auto, unfolding(crate::specs::Syllables::syllable_dx))]
 fn syllable_dx(count: usize) -> i32
     requires { count ≤ 60 }
@@ -18,7 +18,7 @@ fn syllable_dx(count: usize) -> i32
     -HALF_CHARACTER * count as i32
 }
 
-/// The dy of the syllables of a verse, counted from 1.
+/// Returns the dy of the syllables of a verse; verses are counted from 1.
 #[tactic(auto, unfolding(crate::specs::Syllables::verse_dy))]
 fn verse_dy(low: i32, verse: u8) -> i32
     ensures { result ≡ verse_dy low verse }
@@ -26,7 +26,7 @@ fn verse_dy(low: i32, verse: u8) -> i32
     cut_dy(i64::from(low) - VERSE_STEP * i64::from(verse))
 }
 
-/// Draws what is printed of a syllable.
+/// Draws the printed form of a syllable.
 fn put_syllable(pen: &mut MarkPen, low: i32, verse: u8, text: Text) -> Result<(), Memory>
     requires { length text ≤ 60 }
     ensures { OnOk result (pen.new ≡ inked pen.old (syllable low verse text)) }
@@ -52,10 +52,9 @@ fn put_syllable_if(
     }
 }
 
-/// Draws the syllables of an event: `words` has a place for each verse from
-/// `first` on, and those of verse n stand 1000·n u under `low`, the least dy that other marks take, each
-/// with its middle at the column. What prints nothing is no mark. A dy is cut at 2^30 u in size. The
-/// only error is want of memory.
+/// Draws the syllables of an event. `words` has a place for each verse from `first` on. Those of verse n are 1000·n u
+/// below `low`, the least dy that other marks take, each centred at its column. A syllable that prints nothing is no
+/// mark. Each dy is clamped to ±2^30 u. The only error is out of memory.
 pub fn put_syllables(
     pen: &mut MarkPen,
     first: u8,

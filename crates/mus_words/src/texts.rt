@@ -12,9 +12,9 @@ use mus_score::{Flat, Mention};
 use mus_units::{Deco, Memory, Row, Text};
 use std::alloc::Global;
 
-/// Where the texts of an event go: outside of `low` and `high`, the least and the greatest dy that
-/// other marks of the staff take, in u; those below under all `verses` of the staff; and behind the
-/// texts, `above` and `below` of them, that stand in its column already.
+/// Where the texts of an event go: outside of `low` and `high`, the least and the greatest dy that other marks of the
+/// staff take, in u; texts below the staff go under all `verses` of the staff; and all go after the texts that are
+/// already in the column, `above` and `below` in number.
 #[derive(Clone, Copy, PartialEq, Eq)]
 pub struct TextPlace {
     pub low: i32,
@@ -49,7 +49,7 @@ fn add_numbers(alloc: Global, out: &mut Row<Text>, tuplets: &[u8]) -> Result<(),
     Ok(())
 }
 
-/// Adds the text that a decoration is, if it stands on that side of the staff.
+/// Adds a decoration as a text, if it is one on that side of the staff.
 fn add_deco(alloc: Global, out: &mut Row<Text>, below: bool, deco: &Deco) -> Result<(), Memory>
     ensures { OnOk result (out.new ≡ out.old ++ shown_deco below deco.now) }
 {
@@ -70,7 +70,7 @@ fn add_decos(alloc: Global, out: &mut Row<Text>, below: bool, decos: &[Deco]) ->
     Ok(())
 }
 
-/// Adds a text between quotes, if it stands on that side of the staff.
+/// Adds a text between quotes, if it is on that side of the staff.
 fn add_mention(
     alloc: Global,
     out: &mut Row<Text>,
@@ -100,9 +100,9 @@ fn add_mentions(
     Ok(())
 }
 
-/// The texts above an event as they are printed, from the staff upwards: its ending, the numbers of
-/// the tuplets that begin there, its fingerings, and the texts between quotes. What prints nothing
-/// is left out. The only error is want of memory.
+/// Returns the printed texts above an event, from the staff upwards: its ending, the numbers of the tuplets that
+/// begin there, its fingerings, and the texts between quotes. Texts that print nothing are left out. The only error
+/// is out of memory.
 #[tactic(auto, unfolding(crate::specs::Texts::texts_above))]
 fn texts_above(alloc: Global, flat: &Flat<'_>) -> Result<Row<Text>, Memory>
     ensures { IfOk result (λ texts. texts ≡ texts_above flat.now) }
@@ -115,8 +115,8 @@ fn texts_above(alloc: Global, flat: &Flat<'_>) -> Result<Row<Text>, Memory>
     Ok(out)
 }
 
-/// The texts below an event as they are printed, from the staff downwards: its dynamic marks, and
-/// the texts between quotes. What prints nothing is left out. The only error is want of memory.
+/// Returns the printed texts below an event, from the staff downwards: its dynamic marks, and the texts between
+/// quotes. Texts that print nothing are left out. The only error is out of memory.
 #[tactic(auto, unfolding(crate::specs::Texts::texts_below))]
 fn texts_below(alloc: Global, flat: &Flat<'_>) -> Result<Row<Text>, Memory>
     ensures { IfOk result (λ texts. texts ≡ texts_below flat.now) }
@@ -127,8 +127,8 @@ fn texts_below(alloc: Global, flat: &Flat<'_>) -> Result<Row<Text>, Memory>
     Ok(out)
 }
 
-/// How many texts stand nearer to the staff than the k-th of an event, where `before` stand before
-/// the event: no more than 2^32 of each are counted, since a dy behind so many is cut.
+/// Returns how many texts are nearer to the staff than the k-th of an event, given `before` texts before the event.
+/// At most 2^32 of each are counted, since the dy after that many is clamped.
 fn nearer(before: usize, k: usize) -> u64
     ensures value { result ≡ min before 4294967296 + min k 4294967296 }
     ensures most { result ≤ 8589934592 }
@@ -136,7 +136,7 @@ fn nearer(before: usize, k: usize) -> u64
     before.min(1 << 32) as u64 + k.min(1 << 32) as u64
 }
 
-/// The dy of a text above that others stand nearer than.
+/// Returns the dy of a text above the staff, given how many texts are nearer.
 #[tactic(auto, unfolding(crate::specs::Texts::above_dy))]
 fn above_others(high: i32, others: u64) -> i32
     requires { others ≤ 8589934592 }
@@ -145,7 +145,7 @@ fn above_others(high: i32, others: u64) -> i32
     cut_dy(i64::from(high) + TEXT_GAP + TEXT_STEP * others as i64)
 }
 
-/// The dy of the k-th text above of an event.
+/// Returns the dy of the k-th text above of an event.
 #[tactic(auto, using(crate::proofs::Far::far_above))]
 fn above_dy(high: i32, before: usize, k: usize) -> i32
     ensures { result ≡ above_dy high (before + k) }
@@ -153,7 +153,7 @@ fn above_dy(high: i32, before: usize, k: usize) -> i32
     above_others(high, nearer(before, k))
 }
 
-/// How far under the lowest mark a text below stands, where others stand nearer.
+/// Returns how far a text below is under the lowest mark, given how many texts are nearer.
 fn under_verses(verses: u8, others: u64) -> u64
     requires { others ≤ 8589934592 }
     ensures value { result ≡ verse_step * verses + text_step * (1 + others) }
@@ -169,7 +169,7 @@ fn lowered(low: i32, under: u64) -> i64
     i64::from(low) - under as i64
 }
 
-/// The dy of a text below that others stand nearer than.
+/// Returns the dy of a text below the staff, given how many texts are nearer.
 #[tactic(auto, unfolding(crate::specs::Texts::below_dy))]
 fn below_others(low: i32, verses: u8, others: u64) -> i32
     requires { others ≤ 8589934592 }
@@ -178,7 +178,7 @@ fn below_others(low: i32, verses: u8, others: u64) -> i32
     cut_dy(lowered(low, under_verses(verses, others)))
 }
 
-/// The dy of the k-th text below of an event.
+/// Returns the dy of the k-th text below of an event.
 #[tactic(auto, using(crate::proofs::Far::far_below))]
 fn below_dy(low: i32, verses: u8, before: usize, k: usize) -> i32
     ensures { result ≡ below_dy low verses (before + k) }
@@ -222,10 +222,10 @@ fn put_below(
     Ok(())
 }
 
-/// Draws the texts of an event, 270 u to the left of its column: first those above, the
-/// first of a column at `high` + 400 and each next one 1000 u higher, then those below, the first 1000
-/// u under the last verse and each next one 1000 u lower. What prints nothing is no mark, and takes
-/// no place. A dy is cut at 2^30 u in size. The only error is want of memory.
+/// Draws the texts of an event, 270 u to the left of its column: first those above, the first of a column at `high` +
+/// 400 and each next one 1000 u higher, then those below, the first 1000 u under the last verse and each next one
+/// 1000 u lower. A text that prints nothing is no mark and takes no place. Each dy is clamped to ±2^30 u. The only
+/// error is out of memory.
 #[tactic(auto, unfolding(crate::specs::Texts::text_marks))]
 pub fn put_texts(pen: &mut MarkPen, place: TextPlace, flat: &Flat<'_>) -> Result<(), Memory>
     ensures { OnOk result (pen.new ≡ inked pen.old (text_marks place flat.now)) }

@@ -33,7 +33,7 @@ fn add_if_any(out: &mut Row<Text>, text: Text) -> Result<(), Memory>
     out.push(text)
 }
 
-/// Adds what is printed of a text, if that is anything.
+/// Adds the printed form of a text, unless it is empty.
 pub(crate) fn add_shown(alloc: Global, out: &mut Row<Text>, text: &[u8]) -> Result<(), Memory>
     ensures { OnOk result (out.new ≡ out.old ++ shown_text text.now) }
 {
