@@ -1,4 +1,4 @@
--- Keys move along the circle of fifths, and heads without a sign with them.
+-- Keys move along the circle of fifths, and heads without an accidental move with them.
 use Rattle.std.proofs.Common.{◌≡◌, refl, sym, ap, ◌∙◌, ℕ, suc, ◌-◌, ◌%◌, ◌<◌, ◌==◌, Bool, true, ◌&&◌, nat_le, Decides}
 use Rattle.std.proofs.Common.{List, [], ◌∷◌, length, subst, arith}
 use Rattle.std.proofs.lemmas.Bool.{agree_below_at, and_parts, eqb-true, leb-true}
@@ -141,7 +141,7 @@ fifths_are p a = let e = fifths_in p.letter in omega (arith, ints)
 
 -- ---- moves
 
--- what a move is: as many fifths further, whole octaves aside
+-- what a move is: its fifths, up to whole octaves
 pub record IsMove (m : Move) : Type 0 where
   pub octaves : ℤ
   pub fifths : (pos 7 *ℤ m.sharps) -ℤ m.semitones ≡ pos 12 *ℤ octaves
@@ -168,11 +168,11 @@ move_is sharps by =
       letters = refl;
     }
 
--- an alteration that sounds so many semitones higher at the moved pitch
+-- an alteration that sounds higher by the semitones of the move at the moved pitch
 pub record Higher (m : Move) (p : Pitch) (a b : Alter) : Type 0 where
   pub by : semitones (moved_pitch m p) b ≡ semitones p a +ℤ m.semitones
 
--- the arithmetic alone: h and s are semitones and letters, h' and s' those of the moved head, n and n + j the sharps of
+-- only arithmetic: h and s are semitones and letters, h' and s' those of the moved head, n and n + j the sharps of
 -- the two keys
 lattice : (n by j d t h s h' s' : ℤ) → (pos 7 *ℤ j) -ℤ by ≡ pos 12 *ℤ t → d ≡ (pos 4 *ℤ j) -ℤ (pos 7 *ℤ t) → s' ≡ s +ℤ d
     → InWindow n ((pos 7 *ℤ h) -ℤ (pos 12 *ℤ s)) → InWindow (n +ℤ j) ((pos 7 *ℤ h') -ℤ (pos 12 *ℤ s')) → h' ≡ h +ℤ by

@@ -1,4 +1,5 @@
--- Signs reach as far in a moved score as before, and what they reach sounds so many semitones higher.
+-- Accidentals reach as far in a moved score as before, and what they reach sounds higher by the semitones of the
+-- move.
 use Rattle.std.proofs.Common.{◌≡◌, zero, suc, refl, ap, ◌∙◌, List, [], ◌∷◌, map, Bool, true, false, ◌&&◌, cond, Decides}
 use Rattle.std.proofs.Common.{subst, arith}
 use Rattle.std.proofs.lemmas.Bool.{and_parts, false≢true}
@@ -34,7 +35,7 @@ Holds test = AllByRecursion (Passed test)
 abbrev same_pitch : Pitch → Pitch → Bool
 same_pitch p r = same_letter p.letter r.letter && int_eq p.octave r.octave
 
--- how many steps two pitches are apart tells whether they have one letter, and one octave too; no move changes that
+-- the steps between two pitches determine whether they have one letter, and one octave too; no move changes that
 apart_decides : (p r : Pitch)
     → Decides (same_letter p.letter r.letter) ((k : ℤ) × (steps p -ℤ steps r ≡ pos 7 *ℤ k))
     × Decides (same_pitch p r) (steps p -ℤ steps r ≡ pos 0)
@@ -84,7 +85,7 @@ reach_letter Spread.Pitch p r e = e
 
 -- ---- alterations
 
--- at any pitch that a sign reaches
+-- at any pitch that an accidental reaches
 pub carried : {m : Move} {a b : Alter} (p r : Pitch)
     → same_letter p.letter r.letter ≡ true → Higher m p a b → Higher m r a b
 unfolding semitones steps
@@ -137,7 +138,7 @@ both_then : {A B : Type 0} {R : B → B → Type 0} {x y : Option A} (f : A → 
 both_then f neither = neither
 both_then f (each r) = r
 
--- ---- signs
+-- ---- accidentals
 pub own_higher : (m : Move) (p : Pitch) (s : Option Alter)
     → sign_moves m p s ≡ true → Both (Higher m p) s (moved_sign m p s)
 unfolding moved_alter semitones
@@ -184,7 +185,7 @@ found_higher m spread r (h ∷ hs) may =
       find_back (is_said spread (moved_pitch m r)) (moved_head m h) (map (moved_head m) hs),
     ) (both_or (found_higher m spread r hs may.1) (found_one m spread r h may.0))
 
--- a head without a sign of its own
+-- a head without an accidental of its own
 pub unsigned_higher : (m : Move) (spread : Spread) (r : Pitch) (said : List Head) (k : Key)
     → IsMove m → key_may m k ≡ true → Holds (head_moves m) said
     → Higher m r (alteration_of r None said spread k.signs)

@@ -1,5 +1,4 @@
--- What is seen from the events of a moved score is what was seen, moved; and where the score can be moved,
--- all of it can.
+-- What the events of a moved score see is what they saw before, moved; and if the score can be moved, all of it can.
 use Rattle.std.proofs.Common.{◌≡◌, refl, sym, ◌∙◌, ap, ℕ, ◌*◌, Bool, true, List, [], ◌∷◌, ◌++◌, map, Option, Some, None}
 use Rattle.std.proofs.Common.{option_map, flat_map, subst}
 use Rattle.std.proofs.lemmas.Bool.{and_parts}
@@ -106,7 +105,7 @@ seen_in_moved m now (x ∷ ms) =
     ∙ ap (λ es. map (moved_seen m) (seen_from now [] fs) ++ es) (seen_in_moved m (standing_behind now fs) ms)
     ∙ sym (map-append (moved_seen m) (seen_from now [] fs) (seen_in (standing_behind now fs) ms))
 
--- ---- where each event of a tree passes a test, the events in a row do, and the graces before them
+-- ---- if each event of a tree passes a test, so do the events in a row, and the graces before them
 pub joined : {A : Type 0} (P : A → Type 0) (xs ys : List A)
     → AllByRecursion P xs → AllByRecursion P ys → AllByRecursion P (xs ++ ys)
 joined P [] ys a b = b

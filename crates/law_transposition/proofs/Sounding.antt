@@ -1,4 +1,4 @@
--- A moved score sounds so many semitones higher, head by head.
+-- A moved score sounds higher by the semitones of the move, head by head.
 use Rattle.std.proofs.Common.{◌≡◌, refl, sym, subst, ℕ, ◌+◌, zero, Bool, true, false, ◌&&◌, cond, List, [], ◌∷◌, ◌++◌}
 use Rattle.std.proofs.Common.{map, Option, None, arith}
 use Rattle.std.proofs.lemmas.Bool.{and_parts}
@@ -33,8 +33,8 @@ use Rattle.law_transposition.proofs.Reaching.{Passed, unsigned_higher}
 
 -- ---- a head
 
--- of heads that are moved, those before them in their event too,
--- the second sounds so many semitones higher than the first
+-- for heads that are moved together with those before them in their event, the second sounds higher than the first by
+-- the semitones of the move
 abbrev SoundsHigher : Move → Sounding → Sounding → Type 0
 SoundsHigher m f g =
     (earlier : List Head) (h : Head)
@@ -77,7 +77,7 @@ by_own (each r) s t = r
 by_own neither (each s) t = s
 by_own neither neither t = t
 
--- a head behind its own sign and the head that is tied to it
+-- a head, given its own accidental and the head that is tied to it
 head_higher : (m : Move) (spread : Spread) (e : Seen) (earlier : List Head) (h : Head) (tied tied' : Option Alter)
     → IsMove m → SeenMay m e → Holds (head_moves m) earlier → head_moves m h ≡ true → Both (Higher m h.pitch) tied tied'
     → Higher m h.pitch (alter_by h.sign tied (alteration_of h.pitch None (e.said ++ earlier) spread e.signs))

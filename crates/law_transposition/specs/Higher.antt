@@ -1,4 +1,4 @@
--- How a moved score sounds: head by head as the score does, so many semitones higher.
+-- How a moved score sounds: head by head as the score does, higher by the number of semitones of the move.
 use Rattle.std.specs.{Prelude.◌≡◌, Prelude.ℤ, Prelude.◌+ℤ◌, Prelude.List, Prelude.Some, List.AllZip}
 use Rattle.mus_units.specs.declared.key.Key.{Key}
 use Rattle.mus_pitch.specs.Steps.{steps}
@@ -6,7 +6,7 @@ use Rattle.mus_score.specs.declared.score.Score.{Score}
 use Rattle.mus_transpose.specs.Moved.{IsMoved, semitones}
 use Rattle.mus_drawn.specs.{declared.sounds.Sound.Sound, Sounds.sounds_of}
 
--- the same head of the same event and voice, written so many letters higher, sounds so many semitones higher
+-- the same head of the same event and voice, written `letters` letters higher, sounds `by` semitones higher
 pub record IsHigher (by letters : ℤ) (x y : Sound) : Type 0 where
   pub voice : y.voice ≡ x.voice
   pub event : y.event ≡ x.event
@@ -19,7 +19,7 @@ pub record AreHigher (by : ℤ) (xs ys : List Sound) : Type 0 where
   pub letters : ℤ
   pub heads : AllZip (IsHigher by letters) xs ys
 
--- what comes of a move by so many semitones sounds so many semitones higher
+-- the result of a move by some number of semitones sounds higher by that number
 abbrev pub MovedSoundsHigher : Type 0
 MovedSoundsHigher =
     (s t : Score) (header : Key) (by : ℤ) → IsMoved s header by (Some t) → AreHigher by (sounds_of s) (sounds_of t)

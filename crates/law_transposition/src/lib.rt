@@ -1,7 +1,7 @@
-//! The law of transposition: a moved score sounds as the score does, head by head, so many
-//! semitones higher.
+//! The law of transposition: a moved score sounds as the score does, head by head, higher by the number of semitones
+//! of the move.
 //!
-//! Letters alone don't tell it: a head without a sign sounds by the signs before it, by the head
+//! Letters alone don't determine this: a head without an accidental sounds by the accidentals before it, by the head
 //! that is tied to it or by its key, and each of them is moved with it.
 #![tactic(auto)]
 

@@ -1,4 +1,4 @@
--- The beams that are laid event by event are those of the levels.
+-- The beams that are drawn event by event are those of the levels.
 use Rattle.std.proofs.Common.{◌≡◌, ℕ, zero, suc, ◌+◌, ◌-◌, ◌≤◌, ◌<◌, ◌==◌, ◌⊎◌, inl, inr, nat_lt, Bool, true, false}
 use Rattle.std.proofs.Common.{cond, ◌&&◌, List, [], ◌∷◌, ◌++◌, append-nil, map, take, drop, filter, refl, sym, ◌∙◌, ap}
 use Rattle.std.proofs.Common.{arith}
@@ -15,12 +15,12 @@ use Rattle.mus_bridges.specs.Levels.{joins, Level, last_in, long_runs, is_at, Le
 use Rattle.mus_bridges.specs.Levels.{OfOtherKeys, KeysDiffer, BeamsByLevels}
 use Rattle.mus_onsets.specs.{declared.keys.ColumnKey.ColumnKey, Order.same_key}
 
--- one level less
+-- one level fewer
 pub levels_step : (k n : ℕ) (p : BeamStem) (qs : List BeamStem) → k < n →
     levels_from k (n - k) p qs ≡ level_from k p (last_at k p qs) ++ levels_from (k + 1) (n - (k + 1)) p qs
 levels_step k n p qs lt = rw (one_less k n lt) refl
 
--- the levels that begin at an event, one after the other
+-- the levels that begin at an event, one after another
 abbrev level_at : ℕ → BeamStem → List BeamStem → List Level
 level_at k p [] = []
 level_at k p (q ∷ qs) = cond (goes_on_at_level k p q) (record { level = k; first = p; last = last_at k q qs } ∷ []) []
@@ -38,7 +38,7 @@ and_both : (x y : Bool) → (x && y) ≡ true → (x ≡ true) × (y ≡ true)
 and_both true y e = (refl, e)
 and_both false y e = absurd (false≢true e)
 
--- of those that begin at an event one at most is at a level
+-- of the runs that begin at an event at most one is at a level
 filter_append : (k : ℕ) (xs ys : List Level) → filter (is_at k) (xs ++ ys) ≡ filter (is_at k) xs ++ filter (is_at k) ys
 filter_append k [] ys = refl
 filter_append k (x ∷ xs) ys = step (is_at k x) (filter_append k xs ys)
@@ -104,7 +104,7 @@ alone : (k j n : ℕ) (p : BeamStem) → filter (is_at k) (levels_at j n p []) �
 alone k j zero p = refl
 alone k j (suc n) p = alone k (j + 1) n p
 
--- the run that goes on from an event
+-- the run that continues from an event
 run_last : (k : ℕ) (q : BeamStem) (qs : List BeamStem)
     → k < q.flags → last_at k q qs ≡ last_in q (take (run_more (joins k) q qs) qs)
 unfolding goes_on_at_level
@@ -121,7 +121,7 @@ run_last k q (x ∷ xs) has = step (goes_on_at_level k q x) refl (run_last k x x
     step true e more = rw at (more (ltb-true k x.flags ((and_both (x.group == q.group) (nat_lt k x.flags) e).1)))
     step false e more = refl
 
--- whether the first of the events goes on a run at level k of an event before it, in a beam with so many flags
+-- whether the first event continues a run at level k of an event before it, in a beam with this number of flags
 goes_on_from : ℕ → ℕ → ℕ → BeamStem → Bool
 goes_on_from k group flags p = ((p.group == group) && nat_lt k p.flags) && nat_lt k flags
 
@@ -195,7 +195,7 @@ levels_are k group flags (p ∷ q ∷ qs) =
     front : runs (joins k) (q ∷ qs) ≡ (q ∷ r) ∷ rs
     front = runs_front (joins k) q qs
 
-    -- the run at the front is passed over where p goes on into it
+    -- the first run is passed over if p continues into it
     two : (j b : Bool) → (b ≡ true)
         → long_runs k (skip j ((q ∷ r) ∷ rs))
         ≡ long_runs k (skip b (cond j ((p ∷ q ∷ r) ∷ rs) ((p ∷ []) ∷ (q ∷ r) ∷ rs)))
@@ -236,7 +236,7 @@ levels_are k group flags (p ∷ q ∷ qs) =
         (and_right ((q.group == p.group) && nat_lt k q.flags) (nat_lt k p.flags) (le-ltb k p.flags few))
         ∙ ap (λ b. long_runs k (skip b (put_before (joins k) p ((q ∷ r) ∷ rs)))) (sym e)
 
--- by their first events, and at one event by level
+-- by first event, and at one event by level
 begin_there : (j n : ℕ) (p : BeamStem) (qs : List BeamStem)
     → AllByRecursion (λ (l : Level). l.first ≡ p) (levels_at j n p qs)
 begin_there j zero p qs = tt {0}
@@ -291,7 +291,7 @@ are_levels es = record {
   order = by_first 0 0 es;
 }
 
--- where the events stand at keys of their own, a beam is drawn exactly where the run goes on
+-- if the events have distinct keys, a beam is drawn exactly when the run continues
 last_is_other : (k : ℕ) (p q : BeamStem) (qs : List BeamStem)
     → OfOtherKeys p (q ∷ qs) → same_key p.key (last_at k q qs).key ≡ false
 last_is_other k p q [] others = others.0

@@ -26,7 +26,7 @@ event_at ds m id = event_in id (slice_get ds m)
 abbrev pub seen_of : DrawnEvent → ArcEndEvent
 seen_of e = record { clef = e.clef; heads = e.flat.event.heads; plan = e.plan }
 
--- an end that the system cuts stands at its head, or at the bar of its last measure
+-- an end that the system cuts is at its head, or at the bar of its last measure
 abbrev pub left_key : ℕ → Piece → ℕ → DrawnEvent → ColumnKey
 left_key a piece m e = if piece.cut_left then head_key a else note_key m e
 
@@ -44,7 +44,7 @@ piece_between lengths a b ds arc None = []
 piece_between lengths a b ds arc (Some piece) =
     arc_between lengths a b piece arc (event_at ds arc.from arc.first) (event_at ds arc.to arc.last)
 
--- what the system of measures a to b - 1 has of an arc; ds are all measures of the voice
+-- the piece of an arc in the system of measures a to b - 1; ds are all measures of the voice
 abbrev pub arc_in : List ℕ → ℕ → ℕ → List DrawnMeasure → Arc → List Bridge
 arc_in lengths a b ds arc = piece_between lengths a b ds arc (piece_of arc a b)
 

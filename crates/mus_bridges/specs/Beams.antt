@@ -17,16 +17,16 @@ abbrev pub way_of : Bool → Way
 way_of true = Way.Up
 way_of false = Way.Down
 
--- whether the next event is in the same beam and has level k, from 0, too
+-- whether the next event is in the same beam and also has level k, from 0
 unfoldable pub goes_on_at_level : ℕ → BeamStem → BeamStem → Bool
 goes_on_at_level k p q = (q.group == p.group) && nat_lt k q.flags
 
--- the last event of the run at level k that p is in, in the events behind p
+-- the last event of p's run at level k, among the events after p
 abbrev pub last_at : ℕ → BeamStem → List BeamStem → BeamStem
 last_at k p [] = p
 last_at k p (q ∷ qs) = if goes_on_at_level k p q then last_at k q qs else p
 
--- level k of the run from p to q: no beam where that is one event
+-- level k of the run from p to q: no beam if that is one event
 unfoldable pub level_from : ℕ → BeamStem → BeamStem → List Bridge
 level_from k p q =
     if same_key p.key q.key then []
@@ -41,7 +41,7 @@ levels_from k (suc n) p qs = level_from k p (last_at k p qs) ++ levels_from (k +
 unfoldable pub levels_before : BeamStem → ℕ → ℕ → ℕ
 levels_before p group flags = if p.group == group then flags else 0
 
--- the beams that begin at p, at the levels that the event before it in its beam doesn't have
+-- the beams that begin at p, at the levels that the event before it in its beam does not have
 unfoldable pub beams_at : ℕ → ℕ → BeamStem → List BeamStem → List Bridge
 beams_at group flags p qs = levels_from (levels_before p group flags) (p.flags - levels_before p group flags) p qs
 

@@ -1,6 +1,6 @@
 -- The levels of beams. Level k, from 0, of a beam joins each maximal run of neighbours in it that have more than k
--- flags. A run of two events or more is drawn, from its first to its last; a run of one is a stub. What is drawn comes
--- by its first events, and at one event by level.
+-- flags. A run of two or more events is drawn, from its first to its last; a run of one is a stub. The drawn runs are
+-- ordered by first event, and at one event by level.
 use Rattle.std.specs.Prelude.{◌≡◌, ℕ, ◌+◌, ◌≤◌, Bool, false, ◌&&◌, ◌==◌, nat_lt, ⊤, List, [], ◌∷◌, ◌++◌, map, filter}
 use Rattle.std.specs.List.{AllByRecursion}
 use Rattle.mus_stems.specs.Runs.{AreMaximalRuns}
@@ -15,7 +15,7 @@ use Rattle.mus_onsets.specs.Order.{same_key}
 abbrev pub joins : ℕ → BeamStem → BeamStem → Bool
 joins k p q = ((q.group == p.group) && nat_lt k q.flags) && nat_lt k p.flags
 
--- a run at a level, from an event to another
+-- a run at a level, from one event to another
 pub record Level : Type 0 where
   pub level : ℕ
   pub first : BeamStem
@@ -25,7 +25,7 @@ abbrev pub last_in : BeamStem → List BeamStem → BeamStem
 last_in p [] = p
 last_in p (q ∷ qs) = last_in q qs
 
--- of maximal runs at level k those of two events or more
+-- the maximal runs at level k that have two or more events
 abbrev pub long_runs : ℕ → List (List BeamStem) → List Level
 long_runs k [] = []
 long_runs k ([] ∷ rs) = long_runs k rs
@@ -40,7 +40,7 @@ abbrev pub LevelsRise : ℕ → List Level → Type 0
 LevelsRise k [] = ⊤
 LevelsRise k (l ∷ ls) = (k ≤ l.level) × LevelsRise (l.level + 1) ls
 
--- some that begin at the first of the events, by level, and then those that begin further on
+-- levels that begin at the first event, in order, and then those that begin further on
 abbrev pub ByFirst : List BeamStem → List Level → Type 0
 ByFirst [] ls = ls ≡ []
 ByFirst (e ∷ es) ls =
@@ -68,7 +68,7 @@ pub record AreBeams (es : List BeamStem) (marks : List Bridge) : Type 0 where
   pub are : AreLevels es levels
   pub drawn : marks ≡ map bridge_of levels
 
--- the events of a measure stand at keys of their own
+-- the events of a measure have distinct keys
 abbrev pub OfOtherKeys : BeamStem → List BeamStem → Type 0
 OfOtherKeys p qs = AllByRecursion (λ q. same_key p.key q.key ≡ false) qs
 
@@ -76,6 +76,6 @@ abbrev pub KeysDiffer : List BeamStem → Type 0
 KeysDiffer [] = ⊤
 KeysDiffer (p ∷ ps) = OfOtherKeys p ps × KeysDiffer ps
 
--- the beams that are laid for a measure are those of its levels
+-- the beams that are drawn for a measure are those of its levels
 abbrev pub BeamsByLevels : Type 0
 BeamsByLevels = (es : List BeamStem) → KeysDiffer es → AreBeams es (beam_marks es)

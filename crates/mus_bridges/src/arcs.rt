@@ -11,7 +11,7 @@ use mus_time::{SystemFrame, note_key};
 use mus_units::{Memory, Row};
 use mus_words::{ArcEnd, put_arc};
 
-/// The event with an id.
+/// Returns the event with an id.
 fn event_with<'a, 'b>(id: u32, events: &'a [DrawnEvent<'b>]) -> Option<&'a DrawnEvent<'b>>
     ensures { option_copied result ≡ find (has_id id) events.now }
 {
@@ -23,7 +23,7 @@ fn event_with<'a, 'b>(id: u32, events: &'a [DrawnEvent<'b>]) -> Option<&'a Drawn
     None
 }
 
-/// The event with an id in a measure of a voice.
+/// Returns the event with an id in a measure of a voice.
 fn event_at<'a, 'b>(
     measures: &'a [DrawnMeasure<'b>],
     measure: u32,
@@ -48,7 +48,7 @@ fn end_of<'a>(e: &'a DrawnEvent<'_>) -> ArcEnd<'a>
     }
 }
 
-/// The column of the left end of a piece, whose arc begins at this event.
+/// Returns the column of the left end of a piece whose arc begins at this event.
 fn left_key(a: u32, piece: Piece, measure: u32, e: &DrawnEvent<'_>) -> ColumnKey
     ensures { result ≡ left_key a piece measure e.now }
 {
@@ -59,7 +59,7 @@ fn left_key(a: u32, piece: Piece, measure: u32, e: &DrawnEvent<'_>) -> ColumnKey
     }
 }
 
-/// The column of the right end of a piece, whose arc ends at this event.
+/// Returns the column of the right end of a piece whose arc ends at this event.
 fn right_key(frame: &SystemFrame<'_>, piece: Piece, measure: u32, e: &DrawnEvent<'_>) -> ColumnKey
     ensures { result ≡ right_key frame.now.lengths.now frame.now.b piece measure e.now }
 {
@@ -93,7 +93,7 @@ fn put_arc_between(
     put_arc(out, left, right, piece, arc, end_of(first), end_of(last))
 }
 
-/// Draws what a system has of an arc.
+/// Draws the piece of an arc in a system, if there is one.
 fn put_arc_in(
     out: &mut Row<Bridge>,
     frame: &SystemFrame<'_>,
@@ -113,7 +113,7 @@ fn put_arc_in(
     }
 }
 
-/// Draws the pieces of a voice's arcs in a system; `measures` are all that the voice has.
+/// Draws the pieces of a voice's arcs in a system; `measures` are all measures of the voice.
 pub(crate) fn put_arcs_between(
     out: &mut Row<Bridge>,
     frame: &SystemFrame<'_>,

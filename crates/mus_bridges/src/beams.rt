@@ -26,7 +26,7 @@ pub(crate) fn put_beams_between(
     Ok(())
 }
 
-/// Draws the beam of the graces before an event, where they are two or more.
+/// Draws the beam of the graces before an event, if there are two or more.
 fn put_event_grace_beam(
     out: &mut Row<Bridge>,
     measure: u32,

@@ -8,8 +8,8 @@ use mus_laid::Bridge;
 use mus_time::SystemFrame;
 use mus_units::{Memory, Row};
 
-/// Draws what a voice has between the columns of a system: the beams of its notes, those of its graces,
-/// and its arcs. The only error is want of memory.
+/// Draws what a voice has between the columns of a system: the beams of its notes, those of its graces, and its arcs.
+/// The only error is out of memory.
 pub fn put_bridges_of(
     out: &mut Row<Bridge>,
     frame: &SystemFrame<'_>,

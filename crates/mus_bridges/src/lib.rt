@@ -1,5 +1,5 @@
-//! What the voices of a score have between the columns of a system: the beams of notes, level by level,
-//! those of graces, and the pieces of slurs and ties.
+//! What the voices of a score have between the columns of a system: the beams of notes, level by level, those of
+//! graces, and the pieces of slurs and ties.
 #![tactic(auto)]
 
 pub mod arcs;

@@ -11,8 +11,8 @@ use mus_onsets::{ColumnKey, is_same};
 use mus_time::note_key;
 use mus_units::{Memory, Row, Way};
 
-/// What beams need of an event: the key of its column, the way of its stem and the dy of its end,
-/// the event at which its beam begins, and how many levels its beam has there.
+/// What beams need of an event: the key of its column, the direction of its stem and the dy of its end, the event at
+/// which its beam begins, and how many levels its beam has there.
 #[derive(Clone, Copy, PartialEq, Eq)]
 pub struct BeamStem {
     pub key: ColumnKey,
@@ -22,7 +22,7 @@ pub struct BeamStem {
     pub flags: u8,
 }
 
-/// What beams need of an event of a measure.
+/// Returns what beams need of an event of a measure.
 #[tactic(auto, unfolding(crate::specs::Beams::stem_of))]
 fn beam_stem_at(measure: u32, e: &DrawnEvent<'_>) -> BeamStem
     ensures { result ≡ beam_stem_at measure e.now }
@@ -49,7 +49,7 @@ fn goes_on_at_level(level: u8, p: BeamStem, q: BeamStem) -> bool
     q.group == p.group && level < q.flags
 }
 
-/// The last event of the run at a level that an event is in, among those behind it.
+/// Returns the last event of an event's run at a level, looking through the events after it.
 fn last_at(level: u8, measure: u32, p: BeamStem, behind: &[DrawnEvent<'_>]) -> BeamStem
     ensures { result ≡ last_at level p (map (beam_stem_at measure) behind.now) }
 {
@@ -77,7 +77,7 @@ fn put_level(out: &mut Row<Bridge>, level: u8, p: BeamStem, q: BeamStem) -> Resu
     put_beam(out, way(p.up), p.key, q.key, from, to)
 }
 
-/// Draws the beams from one level to below another of the runs that begin at an event.
+/// Draws the beams of the runs that begin at an event, from `level` to `flags` - 1.
 #[tactic(auto, using(crate::proofs::LevelLaws::levels_step, std::proofs::lemmas::Grind::common_steps))]
 fn put_levels(
     out: &mut Row<Bridge>,
@@ -103,7 +103,7 @@ fn levels_before(p: BeamStem, group: u32, flags: u8) -> u8
     if p.group == group { flags } else { 0 }
 }
 
-/// Draws the beams that begin at an event, where the one before it is in `group` with `flags` levels.
+/// Draws the beams that begin at an event; the event before it is in `group` with `flags` levels.
 #[tactic(auto, unfolding(crate::specs::Beams::beams_at))]
 fn put_beams_at(
     out: &mut Row<Bridge>,

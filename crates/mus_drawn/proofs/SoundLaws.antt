@@ -1,4 +1,4 @@
--- Heads that are heard one after the other sound as they do when each looks back.
+-- Heads that are heard one after another sound as they do when each looks back.
 use Rattle.std.proofs.Common.{◌≡◌, ℕ, ◌+◌, Bool, true, false, cond, ◌&&◌, ◌||◌, List, [], ◌∷◌, ◌++◌, refl, sym, ◌∙◌, ap}
 use Rattle.std.proofs.Common.{append_assoc, append-nil, Option, Some, None, option_map, flat_map}
 use Rattle.std.specs.List.{find, list_any}
@@ -22,7 +22,7 @@ use Rattle.mus_drawn.specs.Drawn.{standing_after, standing_behind, standing_of}
 use Rattle.mus_drawn.specs.Sounds.{Seen, Sounding, tied_sound, comes_tied, alter_by, sounds_as, all_heads, seen}
 use Rattle.mus_drawn.specs.Sounds.{seen_from, seen_in, head_sounds, event_sounds, voice_sounds}
 
--- heads with what they sound as
+-- heads with how they sound
 abbrev heard_along : Sounding → List Head → List Head → List AlteredHead
 heard_along sound earlier [] = []
 heard_along sound earlier (h ∷ hs) =
@@ -85,7 +85,7 @@ by_partner (Some own) partner p said spread signs = refl
 by_partner None (Some x) p said spread signs = refl
 by_partner None None p said spread signs = refl
 
--- a head, behind those of its event
+-- a head, after those of its event
 head_is : (spread : Spread) (before : List Seen) (e : Seen) (earlier : List Head) (h : Head) →
     heard spread e.signs (heard_before spread before) (e.said ++ earlier)
     (heard_along (sounds_as spread before e) [] earlier) h
@@ -125,7 +125,7 @@ heads_are spread before e earlier (h ∷ hs) =
     ∙ heads_are spread before e (earlier ++ h ∷ []) hs
     ∙ ap (λ t. heard_along sound [] t) (append_assoc earlier (h ∷ []) hs)
 
--- an event behind those of its measure
+-- an event after those of its measure
 standing_next : (now : StaffState) (front : List Flat) (f : Flat)
     → standing_behind now (front ++ f ∷ []) ≡ standing_after (standing_behind now front) f.event.changes
 standing_next now [] f = refl

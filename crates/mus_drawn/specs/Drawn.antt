@@ -1,5 +1,5 @@
--- A voice as it is drawn: its events one after the other, each with what is in force there, its place
--- in time and its stem plan; and how it gives way to other voices on its staff.
+-- A drawn voice: its events one after another, each with what is in force there, its tick and its stem plan; and how
+-- it makes room for other voices on its staff.
 use Rattle.std.specs.Prelude.{ℕ, ◌+◌, ℤ, pos, negsuc, Bool, true, false, is_some, List, [], ◌∷◌, Option, Some, None}
 use Rattle.std.specs.Prelude.{unwrap_or}
 use Rattle.mus_units.specs.{declared.key.Key.Key, declared.key.Sign.Sign, declared.note.Wish.Wish}
@@ -22,7 +22,7 @@ use Rattle.mus_drawn.specs.declared.drawn.DrawnVoice.{DrawnVoice}
 use Rattle.mus_drawn.specs.declared.drawn.SystemOpening.{SystemOpening}
 use Rattle.mus_drawn.specs.declared.drawn.Style.{Style}
 
--- Clef, key and meter in force are those of the last event that names them, else those with which the voice begins.
+-- Clef, key and meter in force are those of the last event that changes them, else those with which the voice begins.
 abbrev pub standing_of : Voice → StaffState
 standing_of v = record { clef = v.clef; key = v.key; meter = v.meter }
 
@@ -39,7 +39,8 @@ abbrev pub old_signs : Key → Option Key → List Sign
 old_signs key None = []
 old_signs key (Some new) = key.signs
 
--- Where voices share a staff, the stems of the first go up and those of the others down, where nothing else is asked.
+-- If voices share a staff, the stems of the first go up and those of the others down, unless a voice asks for a
+-- direction.
 abbrev pub wish_in_seat : Seat → Wish → Wish
 wish_in_seat Seat.Upper Wish.Auto = Wish.Up
 wish_in_seat Seat.Lower Wish.Auto = Wish.Down
@@ -48,13 +49,13 @@ wish_in_seat seat wish = wish
 abbrev pub style_of : Voice → Style
 style_of v = record { seat = v.seat; wish = wish_in_seat v.seat v.stem }
 
--- their rests stand apart, too: those of the first higher, in u, and those of the others lower
+-- their rests are apart, too: those of the first higher, in u, and those of the others lower
 abbrev pub raise_of : Seat → ℤ
 raise_of Seat.Alone = pos 0
 raise_of Seat.Upper = pos 1000
 raise_of Seat.Lower = negsuc 999
 
--- Events, each as long after the beginning as those before it last. `now` is what is in force before the first.
+-- Events; the onset of each is the total length of those before it. `now` is what is in force before the first.
 abbrev pub drawn_event : Style → ℕ → StaffState → Flat → StemPlan → DrawnEvent
 drawn_event style tick now f p = record {
   seat = style.seat;
@@ -71,7 +72,7 @@ drawn_events style tick now (f ∷ fs) [] = []
 drawn_events style tick now (f ∷ fs) (p ∷ ps) =
     drawn_event style tick now f p ∷ drawn_events style (tick + f.duration) (standing_after now f.event.changes) fs ps
 
--- What a head shows: what is in force at the first event of the measure, or before it where it has none.
+-- What a head shows: what is in force at the first event of the measure, or before the measure if it has none.
 abbrev pub opening_at : StaffState → Bool → SystemOpening
 opening_at now anew = record { clef = now.clef; key = now.key; meter = now.meter; anew = anew }
 

@@ -1,5 +1,5 @@
--- Good drawn voices: signatures have at most one sign for a letter, and heads, those of graces too,
--- stand near the staff, and so do the ends of stems.
+-- Good drawn voices: signatures have at most one sign for a letter, and heads, those of graces too, are near the
+-- staff, and so are the ends of stems.
 use Rattle.std.specs.Prelude.{◌≤◌, ⊤, List, [], ◌∷◌, length, map, IfSome}
 use Rattle.std.specs.List.{AllByRecursion}
 use Rattle.mus_units.specs.declared.pitch.Clef.{Clef}

@@ -1,5 +1,5 @@
--- How the heads of a score sound, as they are heard one after the other: what is in force, the heads of the measure so
--- far and those of the event before are carried along. `Sounds` has what is meant.
+-- How the heads of a score sound as they are heard one after another, carrying along what is in force, the heads of
+-- the measure so far and those of the previous event. `Sounds` defines what is meant.
 use Rattle.std.specs.Prelude.{ℕ, ◌+◌, Bool, ◌&&◌, if◌then◌else◌, List, [], ◌∷◌, ◌++◌, flat_map, Option, Some, None}
 use Rattle.std.specs.List.{find, list_any}
 use Rattle.mus_units.specs.declared.key.Sign.{Sign}
@@ -21,7 +21,7 @@ use Rattle.mus_drawn.specs.declared.sounds.Sound.{Sound}
 abbrev pub is_heard_at : Pitch → AlteredHead → Bool
 is_heard_at p x = has_pitch p x.head
 
--- a tie goes to the first head of its letter and octave in the next event, and comes from the first there
+-- a tie goes to the first head of its letter and octave in the next event, and comes from the first such head
 abbrev pub is_tied_to : Pitch → AlteredHead → Bool
 is_tied_to p x = x.head.tied && has_pitch p x.head
 
@@ -33,7 +33,7 @@ heard_alter (Some own) partner p said spread signs = own
 heard_alter None (Some x) p said spread signs = x.alter
 heard_alter None None p said spread signs = alteration_of p None said spread signs
 
--- a head, behind those of its event so far; said are the heads before it in its measure
+-- a head, after the heads of its event so far; `said` are the heads before it in its measure
 abbrev pub heard : Spread → List Sign → List AlteredHead → List Head → List AlteredHead → Head → AlteredHead
 heard spread signs before said so_far h =
     record { head = h; alter = heard_alter h.sign (partner_of before so_far h.pitch) h.pitch said spread signs }
@@ -44,14 +44,14 @@ heard_from spread signs before said so_far [] = so_far
 heard_from spread signs before said so_far (h ∷ hs) =
     heard_from spread signs before (said ++ h ∷ []) (so_far ++ heard spread signs before said so_far h ∷ []) hs
 
--- the heads that are said in a measure before those of an event, and behind them
+-- the heads of a measure before those of an event, and those including them
 abbrev pub said_at : List Head → Flat → List Head
 said_at said f = said ++ flat_map (λ g. g.heads) f.graces
 
 abbrev pub said_after : List Head → Flat → List Head
 said_after said f = said_at said f ++ f.event.heads
 
--- the heads of an event; before are those of the event before it in its voice
+-- the heads of an event; `before` are those of the event before it in its voice
 abbrev pub heard_at : Spread → StaffState → List Head → List AlteredHead → Flat → List AlteredHead
 heard_at spread now said before f =
     heard_from spread (standing_after now f.event.changes).key.signs before (said_at said f) [] f.event.heads
@@ -75,7 +75,7 @@ events_sounds voice spread now said before (f ∷ fs) =
     ++ events_sounds voice spread (standing_after now f.event.changes) (said_after said f)
     (heard_at spread now said before f) fs
 
--- nothing is said at the beginning of a measure
+-- no heads are carried along at the beginning of a measure
 abbrev pub measures_sounds : ℕ → Spread → StaffState → List AlteredHead → List Measure → List Sound
 measures_sounds voice spread now before [] = []
 measures_sounds voice spread now before (m ∷ ms) =

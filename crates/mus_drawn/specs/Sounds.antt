@@ -1,6 +1,6 @@
--- How the heads of a score sound, found by looking back from each. A head has the alteration of its own sign; else it
--- sounds as the head that is tied into it; else it has that of the last sign before it in its measure and voice that
--- reaches it, the signs of graces too; else its key's. Graces are not listed.
+-- How the heads of a score sound, found by looking back from each. A head has the alteration of its own accidental;
+-- else it sounds as the head that is tied to it; else it has the alteration of the last accidental before it in its
+-- measure and voice that reaches it, those of graces too; else its key's. Graces are not listed.
 use Rattle.std.specs.Prelude.{ℕ, ◌+◌, Bool, ◌&&◌, if◌then◌else◌, List, [], ◌∷◌, ◌++◌, flat_map, Option, Some, None}
 use Rattle.std.specs.List.{list_any}
 use Rattle.mus_units.specs.declared.key.Sign.{Sign}
@@ -19,18 +19,19 @@ use Rattle.mus_drawn.specs.declared.sounds.Sound.{Sound}
 use Rattle.mus_drawn.specs.declared.standing.StaffState.{StaffState}
 use Rattle.mus_drawn.specs.Drawn.{standing_behind, standing_of}
 
--- an event with what can be seen from it: the heads before it in its measure, its own graces' too, and its key's signs
+-- an event with what it can see: the heads before it in its measure, those of its own graces too, and its key's signs
 pub record Seen : Type 0 where
   pub id : ℕ
   pub heads : List Head
   pub said : List Head
   pub signs : List Sign
 
--- heads sound by what stands before them in their event
+-- how a head sounds, given the heads before it in its event
 abbrev pub Sounding : Type 0
 Sounding = List Head → Head → Alter
 
--- a tie comes from the first tied head of its letter and octave: how that head sounds, where one of these heads is it
+-- a tie comes from the first tied head of its letter and octave: how that head sounds, if there is one among these
+-- heads
 abbrev pub tied_sound : Sounding → Pitch → List Head → List Head → Option Alter
 tied_sound sound p earlier [] = None
 tied_sound sound p earlier (g ∷ gs) =
@@ -45,7 +46,7 @@ alter_by (Some own) tied otherwise = own
 alter_by None (Some a) otherwise = a
 alter_by None None otherwise = otherwise
 
--- a head of an event behind those before it in the event, where the events before are seen from it, the nearest first
+-- a head of an event, after those before it in the event; `before` are the previous events, the nearest first
 abbrev pub sounds_as : Spread → List Seen → Seen → Sounding
 sounds_as spread [] e earlier h = alter_by h.sign None (alteration_of h.pitch None (e.said ++ earlier) spread e.signs)
 sounds_as spread (d ∷ before) e earlier h =
@@ -59,7 +60,7 @@ grace_heads f = flat_map (λ g. g.heads) f.graces
 abbrev pub all_heads : Flat → List Head
 all_heads f = grace_heads f ++ f.event.heads
 
--- an event behind those before it in its measure, at whose beginning `now` is in force
+-- an event after those before it in its measure; `now` is in force at the beginning of the measure
 abbrev pub seen : StaffState → List Flat → Flat → Seen
 seen now front f = record {
   id = f.event.id;
@@ -83,7 +84,7 @@ head_sounds sound voice event k earlier (h ∷ hs) =
     record { voice = voice; event = event; head = k; pitch = h.pitch; alter = sound earlier h }
     ∷ head_sounds sound voice event (k + 1) (earlier ++ h ∷ []) hs
 
--- events in a row, behind those before them, the nearest first
+-- events in a row, after those before them, the nearest first
 abbrev pub event_sounds : ℕ → Spread → List Seen → List Seen → List Sound
 event_sounds voice spread before [] = []
 event_sounds voice spread before (e ∷ es) =

@@ -16,8 +16,8 @@ use mus_stems::{StemPlan, stems};
 use mus_units::{Memory, Row, Wish};
 use std::alloc::Global;
 
-/// The way of the stems of a voice: on a shared staff up for the first and down for the others, where
-/// nothing else is asked.
+/// Returns the stem direction of a voice: on a shared staff up for the first voice and down for the others, unless
+/// the voice asks for one.
 fn wish_in_seat(seat: Seat, wish: Wish) -> Wish
     ensures { result ≡ wish_in_seat seat wish }
 {
@@ -37,7 +37,7 @@ fn style_of(v: &Voice) -> Style
     }
 }
 
-/// How much higher the rests of a voice stand by its seat, in u.
+/// Returns how far the rests of a voice are raised, by its seat, in u.
 pub fn raise_of(seat: Seat) -> i32
     ensures { result ≡ raise_of seat }
 {
@@ -48,7 +48,7 @@ pub fn raise_of(seat: Seat) -> i32
     }
 }
 
-/// Draws an event behind others; `now` is what is in force before it, and then behind.
+/// Adds a drawn event. `now` is what is in force before it, and on return after it.
 fn draw_event<'a>(
     alloc: Global,
     style: Style,
@@ -73,8 +73,8 @@ fn draw_event<'a>(
     })
 }
 
-/// The events of a measure as they are drawn, each with its plan; `now` is what is in force before
-/// them, and then behind.
+/// Returns the drawn events of a measure, each with its plan. `now` is what is in force before them, and on return
+/// after them.
 fn draw_events<'a>(
     alloc: Global,
     style: Style,
@@ -100,7 +100,7 @@ fn draw_events<'a>(
     Ok(out)
 }
 
-/// A measure as it is drawn; `now` is what is in force before it, and then behind.
+/// Returns a drawn measure. `now` is what is in force before it, and on return after it.
 #[tactic(auto, unfolding(crate::specs::Drawn::drawn_measure), using(crate::proofs::Reaches::can_stand))]
 fn draw_measure<'a>(
     alloc: Global,
@@ -148,7 +148,7 @@ fn draw_measures<'a>(
     Ok(out)
 }
 
-/// A voice as it is drawn.
+/// Returns a drawn voice.
 #[tactic(auto, unfolding(crate::specs::Drawn::drawn_voice))]
 pub fn draw_voice(alloc: Global, v: &Voice) -> Result<DrawnVoice<'_>, Memory>
     requires { IsGoodVoice v.now }

@@ -3,16 +3,15 @@ use mus_score::{Flat, Seat};
 use mus_stems::StemPlan;
 use mus_units::{Bar, Clef, Key, Meter, Row, Sign, Wish};
 
-/// How the events of a voice are drawn: by where it stands, and by the way of its stems.
+/// How the events of a voice are drawn: by its seat on the staff and its stem direction.
 #[derive(Clone, Copy, PartialEq, Eq)]
 pub struct Style {
     pub seat: Seat,
     pub wish: Wish,
 }
 
-/// An event as it is drawn: where its voice stands, the ticks from the beginning of its measure, the
-/// clef in force there, the signs of the key before it where it changes the key, and how its stem is
-/// drawn.
+/// A drawn event: its voice's seat, the ticks from the beginning of its measure, the clef in force there, the signs
+/// of the key before it if it changes the key, and its stem plan.
 #[derive(Drop)]
 pub struct DrawnEvent<'a> {
     pub seat: Seat,
@@ -23,8 +22,8 @@ pub struct DrawnEvent<'a> {
     pub plan: StemPlan,
 }
 
-/// What the head of a system shows that begins with a measure: clef, key and meter in force at its
-/// first event, else before it; `anew` tells that the first event changes the meter.
+/// What the head of a system that begins with a measure shows: clef, key and meter in force at its first event, or
+/// before the measure if it has none; `anew` says that the first event changes the meter.
 #[derive(Drop)]
 pub struct SystemOpening {
     pub clef: Clef,
@@ -33,7 +32,7 @@ pub struct SystemOpening {
     pub anew: bool,
 }
 
-/// A measure of a voice as it is drawn, where the voice stands, and the bar behind it.
+/// A drawn measure of a voice, with the voice's seat and the bar after it.
 #[derive(Drop)]
 pub struct DrawnMeasure<'a> {
     pub seat: Seat,
@@ -42,8 +41,7 @@ pub struct DrawnMeasure<'a> {
     pub bar: Bar,
 }
 
-/// A voice as it is drawn: where it stands, the bar before its first event, its measures, its arcs,
-/// and how many verses it has.
+/// A drawn voice: its seat, the bar before its first event, its measures, its arcs, and its number of verses.
 #[derive(Drop)]
 pub struct DrawnVoice<'a> {
     pub seat: Seat,

@@ -1,5 +1,5 @@
-//! A voice as it is drawn: its measures with their events, each with what is in force there and how
-//! its stem is drawn, and its arcs. Made once for a tune, it serves each of its systems.
+//! A drawn voice: its measures with their events, each with what is in force there and its stem plan, and its arcs.
+//! It is made once for a tune and serves each of its systems.
 #![tactic(auto)]
 
 pub mod drawing;

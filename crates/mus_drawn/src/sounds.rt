@@ -16,8 +16,8 @@ use mus_score::{Event, Flat, Head, Key, Measure, Music, Score, Spread, Voice, fl
 use mus_units::{Alter, Memory, Pitch, Row};
 use std::alloc::Global;
 
-/// How a head sounds: of the `voice`-th voice, from 0, in the event with the id `event`, the `head`-th
-/// from 0, its pitch as written and its alteration.
+/// How a head sounds: the `head`-th head, from 0, of the event with the id `event` in the `voice`-th voice, from 0,
+/// with its pitch as written and its alteration.
 #[derive(Clone, Copy, PartialEq, Eq)]
 pub struct Sound {
     pub voice: u32,
@@ -34,14 +34,14 @@ pub struct AlteredHead {
     pub alter: Alter,
 }
 
-/// Whether a head has this letter and octave.
+/// Returns whether a head has this letter and octave.
 fn has_pitch(pitch: Pitch, head: Head) -> bool
     ensures { result ≡ has_pitch pitch head }
 {
     head.pitch.letter == pitch.letter && head.pitch.octave == pitch.octave
 }
 
-/// Whether a head of this letter and octave is among these.
+/// Returns whether a head of this letter and octave is among these.
 fn is_heard(pitch: Pitch, heads: &[AlteredHead]) -> bool
     ensures { result ≡ list_any (is_heard_at pitch) heads.now }
 {
@@ -53,7 +53,7 @@ fn is_heard(pitch: Pitch, heads: &[AlteredHead]) -> bool
     false
 }
 
-/// The first head of an event that is tied to the next one's head of this letter and octave.
+/// Returns the first head of an event that is tied to the next event's head of this letter and octave.
 fn tied_to(pitch: Pitch, heads: &[AlteredHead]) -> Option<AlteredHead>
     ensures { result ≡ find (is_tied_to pitch) heads.now }
 {
@@ -65,7 +65,7 @@ fn tied_to(pitch: Pitch, heads: &[AlteredHead]) -> Option<AlteredHead>
     None
 }
 
-/// The head of the event before that is tied to a head, of which `so_far` stand in its event before it.
+/// Returns the head of the previous event that is tied to a head; `so_far` are the heads before it in its event.
 fn partner(before: &[AlteredHead], so_far: &[AlteredHead], pitch: Pitch) -> Option<AlteredHead>
     ensures { result ≡ partner_of before.now so_far.now pitch }
 {
@@ -92,7 +92,7 @@ fn alter_of(
     }
 }
 
-/// A head and its alteration, behind those of its event so far and all that its measure said.
+/// Returns a head with its alteration, given the earlier heads of its event and all earlier heads of its measure.
 fn hear(
     spread: Spread,
     key: &Key,
@@ -110,7 +110,7 @@ fn hear(
     }
 }
 
-/// The heads of an event with their alterations; they are said then.
+/// Returns the heads of an event with their alterations, and adds the heads to those of the measure, `said`.
 fn hear_heads(
     alloc: Global,
     spread: Spread,
@@ -150,7 +150,7 @@ fn say_graces(said: &mut Row<Head>, graces: &[Event]) -> Result<(), Memory>
     Ok(())
 }
 
-/// Lists the heads of an event.
+/// Adds the sounds of the heads of an event.
 fn put_sounds(
     out: &mut Row<Sound>,
     voice: u32,
@@ -172,7 +172,7 @@ fn put_sounds(
     Ok(())
 }
 
-/// Changes what is in force as an event does, and hears its heads.
+/// Updates what is in force with the changes of an event, and hears its heads.
 fn hear_event(
     alloc: Global,
     spread: Spread,
@@ -198,8 +198,8 @@ fn hear_event(
     )
 }
 
-/// Lists the heads of a measure's events. `now` is what is in force before them, and `before` what the
-/// event before them has; then they are what is so behind them.
+/// Adds the sounds of the heads of a measure's events. `now` is what is in force before the events, and `before` has
+/// the heads of the event before them; on return both are updated to what holds after the events.
 fn put_events(
     alloc: Global,
     out: &mut Row<Sound>,
@@ -286,10 +286,10 @@ fn put_voices(
     Ok(())
 }
 
-/// How the heads of a score sound, in order of voice, event and head; those of graces are not listed,
-/// but their signs count. A head has its own sign's alteration; else that of the head of the event
-/// before that is tied to it; else that of the last sign before it in its measure and voice that reaches
-/// it; else its key's. The only error is want of memory.
+/// Returns how the heads of a score sound, in order of voice, event and head. The heads of graces are not listed, but
+/// their accidentals count. A head has the alteration of its own accidental; else that of the head of the previous
+/// event that is tied to it; else that of the last accidental before it in its measure and voice that reaches it;
+/// else its key's. The only error is out of memory.
 #[tactic(auto, using(crate::proofs::SoundLaws::looked_back))]
 pub fn sounding(alloc: Global, s: &Score) -> Result<Row<Sound>, Memory>
     requires { IsGoodScore s.now }

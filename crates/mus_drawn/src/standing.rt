@@ -6,7 +6,7 @@ use mus_score::{Changes, Flat, Voice};
 use mus_units::{Clef, Key, Memory, Meter, Row, Sign};
 use std::alloc::Global;
 
-/// Clef, key and meter in force at a place of a voice.
+/// Clef, key and meter in force at a point of a voice.
 #[derive(Drop)]
 pub struct StaffState {
     pub clef: Clef,
@@ -14,7 +14,7 @@ pub struct StaffState {
     pub meter: Meter,
 }
 
-/// What is in force where a voice begins.
+/// Returns what is in force where a voice begins.
 pub fn standing_of(alloc: Global, v: &Voice) -> Result<StaffState, Memory>
     ensures { IfOk result (λ s. s ≡ standing_of v.now) }
 {
@@ -25,7 +25,7 @@ pub fn standing_of(alloc: Global, v: &Voice) -> Result<StaffState, Memory>
     })
 }
 
-/// Changes what is in force.
+/// Applies changes to what is in force.
 #[inline(always)]
 pub fn change(alloc: Global, now: &mut StaffState, changes: &Changes) -> Result<(), Memory>
     ensures { OnOk result (now.new ≡ standing_after now.old changes.now) }
@@ -38,7 +38,7 @@ pub fn change(alloc: Global, now: &mut StaffState, changes: &Changes) -> Result<
     Ok(())
 }
 
-/// The signs of the key before an event that changes it.
+/// Returns the signs of the key before an event that changes it.
 pub fn old_signs(alloc: Global, key: &Key, change: &Option<Key>) -> Result<Row<Sign>, Memory>
     ensures { IfOk result (λ r. r ≡ old_signs key.now change.now) }
 {
@@ -59,7 +59,7 @@ fn opening(now: StaffState, anew: bool) -> SystemOpening
     }
 }
 
-/// What the head of a system shows that begins with these events.
+/// Returns what the head of a system that begins with these events shows.
 pub fn opening_of(
     alloc: Global,
     before: &StaffState,

@@ -1,4 +1,4 @@
--- The voices of a score call for the columns that they have as they are drawn.
+-- The voices of a score call for the columns that they have when drawn.
 use Rattle.std.proofs.Common.{◌≡◌, ◌∙◌, ℕ, zero, suc, ◌+◌, ◌-◌, ◌<◌, ◌≤◌, Bool, true, false, not, ◌&&◌, ◌||◌, nat_le}
 use Rattle.std.proofs.Common.{if◌then◌else◌, List, [], ◌∷◌, ◌++◌, length, map, take, drop, Option, Some, None, refl}
 use Rattle.std.proofs.Common.{sym, ap, subst, arith}
@@ -38,7 +38,7 @@ use Rattle.mus_drawn.specs.Drawn.{standing_behind, standing_of, style_of}
 use Rattle.mus_time.specs.Columns.{events_columns, keys_called, measures_columns, staff_columns, voice_columns}
 
 -- ---- the columns of drawn events
--- a drawn event has the signs of the key before it where that is of account
+-- a drawn event has the signs of the key before it if they matter
 mark_same : (key : Key) (clef : Option Clef) (new : Option Key) (meter : Option Meter)
     → (is_some clef || key_has_mark (has_entries key) new || meter_has_mark meter)
     ≡ (is_some clef || key_has_mark (nat_le 1 (length (old_signs key new))) new || meter_has_mark meter)
@@ -128,8 +128,8 @@ module _ (lengths : List ℕ) (style : Style) where
       some_measures m a n in_head (signed_through signed (flats_of x.body)) (standing_behind now (flats_of x.body)) xs
       (through_same signed now (flats_of x.body) s)
 
--- a voice with a staff of its own calls for the columns that its drawing has,
--- and a lower one for those of its notes and graces
+-- a voice with a staff of its own calls for the columns of its drawing, and a lower one for those of its notes and
+-- graces
 pub voice_same : (lengths : List ℕ) (a b : ℕ) (v : Voice)
     → all_keys lengths a b v ≡ voice_columns lengths a b (drawn_voice v)
 unfolding drawn_voice
@@ -137,7 +137,7 @@ voice_same lengths a b v =
     ap (λ t. head_key a ∷ first_keys a v.first ++ t)
     (some_measures lengths (style_of v) a a (b - a) true (has_entries v.key) (standing_of v) v.measures refl)
 
--- voices call for the columns that they have on their staves, as they are drawn
+-- voices call for the columns that they have on their staves when drawn
 pub staff_same : (lengths : List ℕ) (a b : ℕ) (v : Voice)
     → voice_keys lengths a b v ≡ staff_columns true lengths a b (drawn_voice v)
 unfolding drawn_voice
@@ -166,7 +166,7 @@ called_same true s lengths m = voices_same lengths m (m + 1) s.voices
 called_same false s lengths m =
     each_same (measure_keys lengths m) (staff_columns false lengths m (m + 1)) (further_same lengths m) s.voices
 
--- the keys of a system stand in it
+-- the keys of a system are within it
 pub keys_placed : (s : Score) (t : Timeline) (a b : ℕ) (keys : List ColumnKey)
     → t ≡ timeline_of s → IsGoodScore s → a < b → b ≤ s.measures
     → AreKeys keys (called_keys s t.lengths a b) → All (IsInSystem t.lengths a b) keys

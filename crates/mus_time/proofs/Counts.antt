@@ -1,4 +1,4 @@
--- Voices have as many measures drawn as they have, and a score as many lengths as measures.
+-- A drawn voice has as many measures as the voice, and a score as many lengths as measures.
 use Rattle.std.proofs.Common.{◌≡◌, ◌∙◌, ℕ, suc, List, [], ◌∷◌, length, map, refl, sym, ap, subst}
 use Rattle.std.proofs.lemmas.List.Elements.{All-map}
 use Rattle.std.specs.List.{All}

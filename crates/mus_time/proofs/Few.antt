@@ -1,4 +1,4 @@
--- A system has fewer columns than ranks have numbers.
+-- A system has fewer columns than there are ranks.
 use Rattle.std.proofs.Common.{◌≡◌, ◌∙◌, ℕ, zero, suc, ◌+◌, ◌-◌, ◌*◌, ◌≤◌, ◌<◌, Bool, true, false, not, ◌&&◌, ◌==◌}
 use Rattle.std.proofs.Common.{if◌then◌else◌, List, [], ◌∷◌, ◌++◌, length, length-append, drop, refl, sym, ap, subst}
 use Rattle.std.proofs.Common.{arith}
@@ -26,7 +26,7 @@ use Rattle.mus_onsets.proofs.Orders.{not_itself}
 use Rattle.mus_onsets.proofs.RankLaws.{false_not_true}
 use Rattle.{mus_stems.proofs.RunLaws.{all_drop, all_take}, mus_time.specs.Columns.{keys_called}}
 
--- a list without the element at a place
+-- a list without the element at one place
 abbrev without : List ColumnKey → ℕ → List ColumnKey
 without [] i = []
 without (c ∷ cs) zero = cs
@@ -58,7 +58,7 @@ differs k l (m ∷ ls) below (zero, inside, is) same =
     not_below_itself k (subst (λ x. is_below k x ≡ true) (is ∙ sym same) below.0)
 differs k l (m ∷ ls) below (suc i, inside, is) same = differs k l ls below.1 (i, omega (arith, inside), is) same
 
--- rising keys that are all among others are no more than these
+-- rising keys that are all among others are at most as many
 no_more : (ks cs : List ColumnKey)
     → Rises ks → ((k : ColumnKey) → Contains ks k → Contains cs k) → length ks ≤ length cs
 no_more [] cs rise in_it = omega arith

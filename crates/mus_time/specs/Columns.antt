@@ -1,5 +1,5 @@
--- The columns of voices as they are drawn. A drawn event has its place in time, and of the key before it what a change
--- draws, so that nothing that stands before a measure is gone through to tell its columns.
+-- The columns of drawn voices. A drawn event has its tick, and the part of the previous key that a change draws, so
+-- its columns are determined without walking through what precedes its measure.
 use Rattle.std.specs.Prelude.{ℕ, ◌+◌, Bool, true, false, nat_le, List, [], ◌∷◌, ◌++◌, length, slice_range}
 use Rattle.{mus_units.specs.declared.note.Bar.{Bar}, mus_score.specs.{declared.score.Score.Score, Seats.is_lower}}
 use Rattle.mus_onsets.specs.declared.keys.Class.{Class}
@@ -11,7 +11,7 @@ use Rattle.mus_drawn.specs.declared.drawn.{DrawnEvent.DrawnEvent, DrawnMeasure.D
 abbrev pub note_key : ℕ → DrawnEvent → ColumnKey
 note_key m e = key_at m e.tick Class.Note 0
 
--- whether an event that changes the key has entries before it
+-- whether an event that changes the key has key entries before it
 abbrev pub has_old : DrawnEvent → Bool
 has_old e = nat_le 1 (length e.old)
 
@@ -24,12 +24,12 @@ measures_columns lengths m in_head [] = []
 measures_columns lengths m in_head (d ∷ ds) =
     events_columns m in_head d.events ++ bar_key lengths m ∷ measures_columns lengths (m + 1) false ds
 
--- before the measures, where the system begins with measure a
+-- the columns before the measures, if the system begins with measure a
 abbrev pub front_columns : Bool → ℕ → Bar → List ColumnKey
 front_columns true a first = head_key a ∷ first_keys a first
 front_columns false a first = []
 
--- measures a to b - 1 of a voice as if it had a staff for itself, in a system that begins with them or before
+-- measures a to b - 1 of a voice as if it had a staff for itself, in a system that begins with them or earlier
 abbrev pub range_columns : Bool → List ℕ → ℕ → ℕ → DrawnVoice → List ColumnKey
 range_columns begins lengths a b v =
     front_columns begins a v.first ++ measures_columns lengths a begins (slice_range v.measures a b)
@@ -37,7 +37,7 @@ range_columns begins lengths a b v =
 abbrev pub voice_columns : List ℕ → ℕ → ℕ → DrawnVoice → List ColumnKey
 voice_columns lengths a b v = range_columns true lengths a b v
 
--- those that it has on its staff
+-- the columns that it has on its staff
 abbrev pub staff_columns : Bool → List ℕ → ℕ → ℕ → DrawnVoice → List ColumnKey
 staff_columns begins lengths a b v = keys_by (is_lower v.seat) (range_columns begins lengths a b v)
 

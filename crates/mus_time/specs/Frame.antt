@@ -1,4 +1,4 @@
--- Keys are ranked in one way.
+-- `AreRanked` is a proposition.
 use Rattle.std.proofs.{Common.{List, [], ◌∷◌}, Props.props}
 use Rattle.mus_onsets.specs.{declared.keys.ColumnKey.ColumnKey, Order.BelowAll, Order.Rises, Ranks.AreRanked}
 

@@ -3,8 +3,8 @@ ghost use Rattle.{mus_onsets.specs.Ranks.{AreRanked}, mus_time.specs.Frame.{rank
 
 use mus_onsets::ColumnKey;
 
-/// The system of measures `a` to `b` - 1 that voices are drawn in: the keys of its columns, and the
-/// lengths of all measures.
+/// The system of measures `a` to `b` - 1 in which voices are drawn: the keys of its columns, and the lengths of all
+/// measures.
 #[derive(Drop)]
 pub struct SystemFrame<'a> {
     pub keys: &'a [ColumnKey],

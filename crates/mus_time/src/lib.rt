@@ -1,5 +1,5 @@
-//! The columns of a system and of a measure alone: their keys, read off the voices of a score as they
-//! are drawn. It gives out the onsets of `mus_onsets`.
+//! The columns of a system and of a single measure: their keys, read from the drawn voices of a score. It re-exports
+//! the onsets of `mus_onsets`.
 #![tactic(auto)]
 
 pub mod frame;

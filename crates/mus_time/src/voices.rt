@@ -20,8 +20,7 @@ fn draw_all(alloc: Global, voices: &[Voice]) -> Result<Row<DrawnVoice<'_>>, Memo
     Ok(drawn)
 }
 
-/// The voices of a score as they are drawn, in order: what all systems of a tune share. The only error
-/// is want of memory.
+/// Returns the drawn voices of a score, in order; all systems of a tune share them. The only error is out of memory.
 pub fn draw_voices(alloc: Global, s: &Score) -> Result<Row<DrawnVoice<'_>>, Memory>
     requires { IsGoodScore s.now }
     ensures voices { IfOk result (λ r. r ≡ map drawn_voice s.now.voices) }
