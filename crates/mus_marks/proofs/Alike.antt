@@ -1,5 +1,5 @@
--- Other ends of stems leave all but heights as it was: what is drawn of a voice has the shape of what is drawn of it
--- with all ends at 0. So tilted marks are those that are called for, but for their heights.
+-- Other ends of stems change only heights: a drawn voice's marks have the shapes that they have with all ends at 0.
+-- So tilted marks are those that are called for, except for their heights.
 use Rattle.std.proofs.Common.{◌≡◌, ◌∙◌, ℕ, zero, suc, ℤ, pos, ◌+◌, ◌-◌, max, sum, Bool, true, false, ◌&&◌, ◌||◌, ◌==◌}
 use Rattle.std.proofs.Common.{nat_lt, if◌then◌else◌, cond, List, [], ◌∷◌, ◌++◌, length, map, take, drop, Option, Some}
 use Rattle.std.proofs.Common.{None, refl, sym, ap, subst}
@@ -262,7 +262,7 @@ module _ (keys : List ColumnKey) (place : WordRoom) where
       (head_part keys a (map flat_measure ds) ++ first_bar_part keys a seat first) _
       (ap (λ t. marks_shape (t ++ first_bar_part keys a seat first)) (head a ds)) (measures lengths a true ds)
 
--- ---- columns and texts hang on the shape of marks alone
+-- ---- columns and texts depend only on the shape of marks
 rank_shaped : (m : Mark) → anchor_rank (mark_shape m) ≡ anchor_rank m
 rank_shaped (Mark.Glyph glyph rank dx dy) = refl
 rank_shaped (Mark.Words size rank dx dy text) = refl

@@ -1,4 +1,4 @@
--- Voices that are tilted all at once: what they keep, and the staves that they stand on.
+-- Voices that are all tilted at once: what they keep, and their staves.
 use Rattle.std.proofs.Common.{◌≡◌, ◌∙◌, ℕ, ℤ, List, [], ◌∷◌, length, sum, map, refl, sym, ap, subst}
 use Rattle.std.proofs.lemmas.List.Elements.{All-map}
 use Rattle.std.proofs.lemmas.Simd.{map-map}

@@ -1,5 +1,5 @@
--- Lists of marks put together by columns: what holds of all marks of the lists, which marks stand in the columns, and
--- what is taken from one column.
+-- Lists of marks merged by column: what holds of all marks of the lists, which marks are in the columns, and what is
+-- collected from one column.
 use Rattle.std.proofs.Common.{◌≡◌, ◌∙◌, ℕ, zero, suc, ◌+◌, ◌<◌, Bool, true, false, cond, ◌⊎◌, inl, inr, List, [], ◌∷◌}
 use Rattle.std.proofs.Common.{◌++◌, Option, Some, None, refl, sym, ap, subst, arith}
 use Rattle.std.proofs.lemmas.Bool.Decides.{nat_tests}
@@ -44,7 +44,7 @@ module _ (P : Laid → Type 0) where
   columned_all n (part ∷ []) all = all.0
   columned_all n (part ∷ other ∷ parts) all = ranks_all (part ∷ other ∷ parts) all 0 n
 
--- ---- what is taken from the column of rank r, where h takes nothing from marks that stand elsewhere
+-- ---- what is collected from the column of rank r, if h collects nothing from marks in other columns
 elsewhere : (r k : ℕ) (x : Laid) → (k ≡ r → ⊥) → stands_at_rank k x ≡ true → stands_at_rank r x ≡ false
 elsewhere r k x other e = by (anchor_rank x.mark) e
   where
@@ -118,7 +118,7 @@ module _ {X : Type 0} (h : Laid → Option X) (r : ℕ) (only : (x : Laid) → s
   columned_taken n (part ∷ []) less = sym (append-nil (filter_map h part))
   columned_taken n (part ∷ other ∷ parts) less = ranks_taken (part ∷ other ∷ parts) 0 r n (omega arith) less
 
--- ---- a mark of a list stands in the columns where its own is one of them
+-- ---- a mark of a list is in the merged columns if its own column is one of them
 module _ (r : ℕ) (x : Laid) (stands : stands_at_rank r x ≡ true) where
   rank_has : (parts : List (List Laid)) → Contains (flat_map (λ part. part) parts) x → Contains (at_rank parts r) x
   rank_has [] has = has

@@ -1,4 +1,4 @@
--- Events with other ends: the walks that write them, what stays as it was, and how it is undone.
+-- Events with other ends: the walks that write them, what stays unchanged, and how they are undone.
 use Rattle.std.proofs.Common.{◌≡◌, ◌∙◌, ℕ, zero, suc, ℤ, pos, ◌+◌, ◌<◌, ◌≤◌, List, [], ◌∷◌, ◌++◌, length, get_or, set}
 use Rattle.std.proofs.Common.{take, drop, map, refl, sym, ap, subst, arith}
 use Rattle.std.proofs.lemmas.List.{length-map, map-append, set-get_or, take-append-drop}
@@ -12,7 +12,7 @@ use Rattle.mus_drawn.specs.Good.{AreGoodMeasures, IsGoodDrawn, IsGoodMeasure}
 use Rattle.mus_marks.specs.Tilt.{end_left, event_ended, measure_ended, measure_left, over, voice_ended, voice_left}
 use Rattle.mus_marks.proofs.Parts.{Fits, FitsEvent, FitsMeasure}
 
--- ---- f of each element and what a list has for it
+-- ---- f of each element and the list's entry for it
 module _ {A B : Type 0} (f : B → A → A) where
   all_taken : (ts : List B) (i : ℕ) → length ts ≤ i → take i ts ≡ ts
   all_taken [] zero h = refl
@@ -32,7 +32,7 @@ module _ {A B : Type 0} (f : B → A → A) where
       → ys ≡ over f (take n ts) xs → length xs ≤ n → ys ≡ over f ts xs
   walk_done ts xs ys n so_far h = so_far ∙ enough ts xs n h
 
-  -- what f keeps of an element stays
+  -- what f keeps of an element stays unchanged
   over_map : {C : Type 0} (h : A → C)
       → ((t : B) (x : A) → h (f t x) ≡ h x) → (ts : List B) (xs : List A) → map h (over f ts xs) ≡ map h xs
   over_map h same [] xs = refl
@@ -52,7 +52,7 @@ module _ {A B : Type 0} (f : B → A → A) where
   over_all P keeps (t ∷ ts) [] all = tt
   over_all P keeps (t ∷ ts) (x ∷ xs) all = (keeps t x all.0, over_all P keeps ts xs all.1)
 
--- ---- two lists that are changed by one another: g is what an element leaves in the other list
+-- ---- two lists that change each other: g is what an element leaves in the other list
 module _ {A B : Type 0} (f : B → A → A) (g : A → B → B) where
   written : (ts : List B) (xs : List A) (i : ℕ) (t : B) (x : A) → i < length ts → i < length xs
       → set (over f (take i ts) xs) i (f (get_or (over g (take i xs) ts) i t) (get_or (over f (take i ts) xs) i x))
@@ -81,7 +81,7 @@ module _ {A B : Type 0} (f : B → A → A) (g : A → B → B) where
   undone back (t ∷ ts) (x ∷ xs) =
       ap (λ z. z ∷ over f (over g xs ts) (over f ts xs)) (back t x) ∙ ap (λ z. x ∷ z) (undone back ts xs)
 
--- two walks side by side, behind i turns; a turn where the second list has something, and where it has nothing
+-- two walks side by side, after i turns; one turn if the second list has an entry, and one if it has none
 abbrev pub Exchanged : {A B : Type 0} → (B → A → A) → (A → B → B) → ℕ → List B → List A → List B → List A → Type 0
 Exchanged f g i ts xs us ys = (ys ≡ over f (take i ts) xs) × (us ≡ over g (take i xs) ts)
 
@@ -212,7 +212,7 @@ put_back a ends left vs ws us long put leaves again =
     ∙ ap (λ z. over (voice_ended a) z (over (voice_ended a) ends vs)) leaves
     ∙ voices_back a ends vs (recursion_from_All (λ v. a ≤ length v.measures) vs long)
 
--- voices whose measures have other ends have as many
+-- voices whose measures have other ends have as many measures
 pub ended_long : (a : ℕ) (ends : List (List (List ℤ))) (vs ws : List DrawnVoice)
     → All (λ v. a ≤ length v.measures) vs → ws ≡ over (voice_ended a) ends vs → All (λ v. a ≤ length v.measures) ws
 ended_long a ends vs ws long is =

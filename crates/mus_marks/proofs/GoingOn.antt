@@ -1,4 +1,4 @@
--- Within a measure of a voice each event is later than those before it, has a greater id, and stands in a later column.
+-- Within a measure of a voice each event is later than those before it, has a greater id, and is in a later column.
 use Rattle.std.proofs.Common.{◌≡◌, ℕ, suc, ◌+◌, ◌<◌, true, List, [], ◌∷◌, ◌++◌, arith}
 use Rattle.std.proofs.lemmas.Bool.Decides.{nat_tests}
 use Rattle.std.proofs.lemmas.List.Elements.{recursion_from_All}

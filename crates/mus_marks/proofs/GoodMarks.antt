@@ -48,7 +48,7 @@ span_good : (first last : ℕ) (span : BridgeShape) → IsGoodMark (span_at firs
 span_good first last (BridgeShape.Beam way from to) = tt
 span_good first last (BridgeShape.Arc from to bulge) = tt
 
--- a text is good where it has few characters, and all else is
+-- a text is good if it has few characters, and all else is good
 pub goods : (verses : ℕ) (keys : List ColumnKey) → OfLaid verses keys IsGood
 goods verses keys = record {
   of_marks =

@@ -1,4 +1,4 @@
--- What holds of all elements holds of those behind the first; the first of good measures.
+-- What holds of all elements holds of those after the first; the first of good measures.
 use Rattle.std.proofs.Common.{◌≡◌, ◌≤◌, List, [], ◌∷◌, length, get_or, subst, sym, arith}
 use Rattle.std.proofs.lemmas.List.Elements.{All-from_recursion, recursion_from_All}
 use Rattle.std.specs.List.{All}

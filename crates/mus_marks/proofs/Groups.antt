@@ -11,7 +11,7 @@ one_past n = omega arith
 one_before : (n : ℕ) → 1 + n ≡ suc n
 one_before n = omega arith
 
--- what is left of a list behind its first elements, and behind the first alone
+-- what is left of a list after its first elements, and after the first alone
 pub rest_from : {A : Type 0} (n : ℕ) (xs : List A) → take (length xs - n) (drop n xs) ≡ drop n xs
 rest_from n xs = take_all (length xs - n) (drop n xs) (omega (arith, length-drop n xs))
 
@@ -36,7 +36,7 @@ module _ {A : Type 0} (joins : A → Bool) where
           ap (λ n. (x ∷ take n (y ∷ ys)) ∷ grouped joins (drop n (y ∷ ys))) (sym (one_before (prefix_len joins ys)))
       by false h = ap (λ t. (x ∷ []) ∷ t) (sym h)
 
-  -- a turn of a loop over groups, which puts what is made of the first
+  -- one turn of a loop over groups, which adds the result for the first group
   group_step : {B : Type 0} (f : List A → B) (x : A) (more rest group after : List A) (n : ℕ) (out new whole : List B)
       → rest ≡ x ∷ more → n ≡ prefix_len joins more → group ≡ take (n + 1) rest → after ≡ drop (n + 1) rest
       → new ≡ out ++ f group ∷ [] → out ++ map f (grouped joins rest) ≡ whole
@@ -76,7 +76,7 @@ module _ {A : Type 0} (joins : A → Bool) where
   grouped_whole [] = refl
   grouped_whole (x ∷ xs) = put_whole x (grouped joins xs) ∙ ap (λ t. x ∷ t) (grouped_whole xs)
 
-  -- what holds of all elements holds of all of each group
+  -- what holds of all elements holds of all elements of each group
   put_all : (P : A → Type 0) (x : A) (gs : List (List A))
       → P x → AllByRecursion (AllByRecursion P) gs → AllByRecursion (AllByRecursion P) (put_before joins x gs)
   put_all P x [] p all = ((p, tt), tt)
@@ -92,7 +92,7 @@ module _ {A : Type 0} (joins : A → Bool) where
   grouped_all P [] all = tt
   grouped_all P (x ∷ xs) all = put_all P x (grouped joins xs) all.0 (grouped_all P xs all.1)
 
--- other elements that join where these do are in the same groups
+-- other elements that join where these do form the same groups
 module _ {A B : Type 0} (f : A → B) (joins : A → Bool) (joins_too : B → Bool)
     (same : (x : A) → joins_too (f x) ≡ joins x) where
   put_map : (x : A) (gs : List (List A))

@@ -65,12 +65,12 @@ pub record HasEvent (keys : List ColumnKey) (m : ℕ) (e : DrawnEvent) : Type 0 
   pub note : Contains keys (note_key m e)
   pub graces : (i : ℕ) → i < length e.flat.graces → Contains keys (key_at m e.tick Class.Grace i)
 
--- those of a measure, with its bar
+-- the columns of a measure, with its bar
 pub record HasMeasure (keys : List ColumnKey) (lengths : List ℕ) (m : ℕ) (d : DrawnMeasure) : Type 0 where
   pub events : AllByRecursion (HasEvent keys m) d.events
   pub bar : Contains keys (bar_key lengths m)
 
--- those of measures from number m on
+-- the columns of measures from number m on
 abbrev pub HasMeasures : List ColumnKey → List ℕ → ℕ → List DrawnMeasure → Type 0
 HasMeasures keys lengths m [] = Unit {0}
 HasMeasures keys lengths m (d ∷ ds) = HasMeasure keys lengths m d × HasMeasures keys lengths (m + 1) ds
@@ -112,7 +112,7 @@ events_have keys m in_head (e ∷ es) h =
       events_have keys m false es (own_right own (events_columns m false es) keys h),
     )
 
--- where their bars have columns
+-- if their bars have columns
 measures_have : (keys : List ColumnKey) (lengths : List ℕ) (m : ℕ) (in_head : Bool) (ds : List DrawnMeasure)
     → HaveOwn (measures_columns lengths m in_head ds) keys
     → ((i : ℕ) → i < length ds → Contains keys (bar_key lengths (m + i))) → HasMeasures keys lengths m ds
@@ -163,7 +163,7 @@ voices_called s lengths a b keys are =
     All-from_recursion (λ v. AreAmong (voice_keys lengths a b v) keys) s.voices
     (each_among (voice_keys lengths a b) keys s.voices are.all)
 
--- all columns of the first voice, which is no lower one, are among them
+-- all columns of the first voice, which is not a lower one, are among them
 leader_among : (lengths : List ℕ) (a b : ℕ) (v : Voice) (vs : List Voice) (keys : List ColumnKey)
     → is_lower v.seat ≡ false → AreAmong (flat_map (voice_keys lengths a b) (v ∷ vs)) keys
     → AreAmong (voice_columns lengths a b (drawn_voice v)) keys

@@ -1,4 +1,4 @@
--- Marks reach at least over the lines of their staff.
+-- Marks cover at least the lines of their staff.
 use Rattle.std.proofs.{Common.{ℤ, pos, ◌≤ℤ◌, List, [], ◌∷◌, arith}, lemmas.Int.{ints, clamps}}
 use Rattle.mus_laid.specs.declared.boxes.HeightRange.{HeightRange}
 use Rattle.mus_laid.specs.declared.laid.Laid.{Laid}

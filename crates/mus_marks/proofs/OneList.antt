@@ -1,4 +1,4 @@
--- A rising list has its keys once and in order: there is one list of the keys of a system.
+-- A rising list has its keys once and in order: exactly one list has the keys of a system.
 use Rattle.std.proofs.Common.{◌≡◌, ◌∙◌, zero, suc, ◌⊎◌, inl, inr, true, List, [], ◌∷◌, refl, sym, ap, subst, arith}
 use Rattle.std.proofs.lemmas.Bool.Decides.{nat_tests}
 use Rattle.std.specs.List.{Contains}

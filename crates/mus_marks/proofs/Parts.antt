@@ -1,5 +1,5 @@
--- One walk over the marks of voices: what holds of all that is drawn in a column, whatever the rank of the column, and
--- of beams and arcs, holds of all marks of a measure, of the columns of a system, and of a staff.
+-- One walk over the marks of voices: what holds of all marks in a column, whatever its rank, and of beams and arcs,
+-- holds of all marks of a measure, of the columns of a system, and of a staff.
 use Rattle.std.proofs.Common.{◌≡◌, ℕ, zero, suc, ◌+◌, ◌-◌, ◌≤◌, ◌==◌, ◌&&◌, ◌||◌, not, Bool, true, false, if◌then◌else◌}
 use Rattle.std.proofs.Common.{List, [], ◌∷◌, ◌++◌, take, length, map, drop, Option, Some, None, arith}
 use Rattle.std.proofs.lemmas.List.Sums.{sum_by-cons}
@@ -61,13 +61,13 @@ FitsVoice v = Fits v.verses v.measures
 abbrev pub IsVerse : ℕ → ℕ → Type 0
 IsVerse verses n = (1 ≤ n) × (n ≤ verses)
 
--- what is asked of each kind of mark
+-- what each kind of mark needs
 pub record OfLaid (verses : ℕ) (keys : List ColumnKey) (P : Laid → Type 0) : Type 0 where
   pub of_marks : (r : ℕ) → OfMarks (λ d. P (drawn_at r d))
   pub of_words : (r : ℕ) → OfWords (IsVerse verses) (λ d. P (drawn_at r d))
   pub of_bridge : (b : Bridge) → P (bridge_at keys b)
 
--- a voice of so many verses has its place among those of its staff
+-- a voice with `own` verses has its place among those of its staff
 abbrev pub InPlace : ℕ → ℕ → Option WordRoom → Type 0
 InPlace verses own None = Unit {0}
 InPlace verses own (Some place) = (1 ≤ place.first) × (place.first + own ≤ verses + 1)

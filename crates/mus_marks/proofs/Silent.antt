@@ -1,4 +1,4 @@
--- Where events have no syllables and no texts, a voice has in columns what it has without them, wherever they would go.
+-- If events have no syllables and no texts, a voice has in columns what it has without them, wherever they would go.
 use Rattle.std.proofs.Common.{◌≡◌, ◌∙◌, ℕ, ℤ, ◌+◌, Bool, true, false, not, ◌&&◌, ◌||◌, ◌==◌, List, [], ◌∷◌, ◌++◌}
 use Rattle.std.proofs.Common.{length, map, Option, Some, None, is_none, refl, sym, ap, arith}
 use Rattle.std.proofs.lemmas.Bool.{and_parts}

@@ -1,6 +1,5 @@
--- The marks of events and of the measures that they are in, but for beams and arcs: the change before an event, its
--- graces, the event itself, and its syllables and texts. What each part draws is said without a place; here it comes
--- into its column.
+-- The marks of events and of their measures, except beams and arcs: the change before an event, its graces, the event
+-- itself, and its syllables and texts. Each part is defined elsewhere without its column; here it gets one.
 use Rattle.std.specs.Prelude.{ℕ, ◌+◌, Bool, true, false, ◌&&◌, ◌||◌, ◌==◌, is_none, if◌then◌else◌, List, [], ◌∷◌, ◌++◌}
 use Rattle.std.specs.Prelude.{map, slice_index_or, Option, Some, None}
 use Rattle.mus_units.specs.declared.pitch.Clef.{Clef}
@@ -40,8 +39,8 @@ note_rank keys m e = key_rank keys (note_key m e)
 abbrev pub changes_nothing : Changes → Bool
 changes_nothing changes = is_none changes.clef && is_none changes.key && is_none changes.meter
 
--- the change before the first event of a system is drawn by the head,
--- and that of a lower voice by the first of its staff
+-- the change before the first event of a system is drawn by the head, and that of a lower voice by the first voice of
+-- its staff
 abbrev pub change_part : List ColumnKey → ℕ → Bool → DrawnEvent → List Laid
 change_part keys m true e = []
 change_part keys m false e =
@@ -63,7 +62,7 @@ note_part keys m before after e =
     map (drawn_at (note_rank keys m e)) (note_marks e.clef (raise_of e.seat) e.flat.event e.plan before after)
 
 -- Where the words of a voice go: into the room that the marks of its staff leave, its verses from number `first` on,
--- and behind the texts that stand in each column already.
+-- and after the texts that each column already has.
 abbrev pub no_texts : TextCounts
 no_texts = record { above = 0; below = 0 }
 
@@ -71,7 +70,7 @@ abbrev pub text_place : StaffRoom → TextCounts → TextPlace
 text_place room before =
     record { low = room.low; high = room.high; verses = room.verses; above = before.above; below = before.below }
 
--- syllables and texts in the column of rank r, where their place is known
+-- syllables and texts in the column of rank r, if their place is known
 abbrev pub words_marks : Option WordRoom → ℕ → Flat → List LaneInk
 words_marks None r f = []
 words_marks (Some place) r f =
@@ -86,7 +85,7 @@ event_marks keys place m in_head before after e =
     change_part keys m (in_head || is_lower e.seat) e ++ graces_part keys m e ++ note_part keys m before after e
     ++ words_part (note_rank keys m e) place e.flat
 
--- the levels of an event, where its beam is that of the plan
+-- the levels of an event if its beam is that of the plan
 abbrev pub levels_in : StemPlan → ℕ → ℕ → ℕ
 levels_in plan group flags = if group == plan.group then flags else 0
 
@@ -94,19 +93,19 @@ abbrev pub levels_behind : StemPlan → List DrawnEvent → ℕ
 levels_behind plan [] = 0
 levels_behind plan (e ∷ es) = levels_in plan e.plan.group e.plan.flags
 
--- group and flags are those of the event before these, where there is none 0
+-- group and flags are those of the event before these, 0 if there is none
 abbrev pub events_marks : List ColumnKey → Option WordRoom → ℕ → Bool → ℕ → ℕ → List DrawnEvent → List Laid
 events_marks keys place m in_head group flags [] = []
 events_marks keys place m in_head group flags (e ∷ es) =
     event_marks keys place m in_head (levels_in e.plan group flags) (levels_behind e.plan es) e
     ++ events_marks keys place m false e.plan.group e.plan.flags es
 
--- a bar stands at the end of its measure; the first voice of a staff draws it
+-- a bar is at the end of its measure; the first voice of a staff draws it
 abbrev pub bar_part : List ColumnKey → List ℕ → ℕ → DrawnMeasure → List Laid
 bar_part keys lengths m d =
     if is_lower d.seat then [] else map (drawn_at (key_rank keys (bar_key lengths m))) (bar_marks d.bar)
 
--- measures from number m on; the head draws the change before the first event of the first of them
+-- measures from number m on; the head draws the change before the first event of the first measure
 abbrev pub measures_marks : List ColumnKey → List ℕ → Option WordRoom → ℕ → Bool → List DrawnMeasure → List Laid
 measures_marks keys lengths place m in_head [] = []
 measures_marks keys lengths place m in_head (d ∷ ds) =

@@ -1,4 +1,4 @@
--- What the words of a voice need of their place, and how texts are counted mark by mark.
+-- What the words of a voice need of their room, and how texts are counted mark by mark.
 use Rattle.std.specs.Prelude.{ℕ, ◌+◌, ◌≤◌, Bool, true, false, ◌&&◌, if◌then◌else◌, List, [], ◌∷◌, Option, IfSome}
 use Rattle.mus_laid.specs.declared.laid.Laid.{Laid}
 use Rattle.mus_laid.specs.Ranked.{stands_at_rank}
@@ -6,11 +6,11 @@ use Rattle.mus_marks.specs.declared.events.WordRoom.{WordRoom}
 use Rattle.mus_marks.specs.declared.events.TextCounts.{TextCounts}
 use Rattle.mus_marks.specs.Staff.{is_above, is_below_staff, is_words, texts_behind}
 
--- eight verses from the first on have numbers
+-- the numbers of eight verses from the first on are in range
 abbrev pub HasVerses : Option WordRoom → Type 0
 HasVerses place = IfSome place (λ p. p.first ≤ 240)
 
--- the texts of a column, with a mark that stands in it
+-- the text counts of a column, with a mark of it added
 abbrev pub text_counted : Laid → TextCounts → TextCounts
 text_counted x texts = record {
   above = if is_words x.mark && is_above x.lane then texts.above + 1 else texts.above;
@@ -27,7 +27,7 @@ abbrev pub with_texts_counted : List Laid → List TextCounts → List TextCount
 with_texts_counted [] texts = texts
 with_texts_counted (x ∷ xs) texts = with_texts_counted xs (with_text_counted 0 x texts)
 
--- the place of the next voice of a staff; where none follows, that of the last
+-- the word room of the next voice of a staff; if no voice follows, that of the last
 abbrev pub word_room_after : ℕ → WordRoom → ℕ → List Laid → Bool → WordRoom
 word_room_after columns place verses part false = place
 word_room_after columns place verses part true =

@@ -1,4 +1,4 @@
--- Events that have no syllables and no texts. On a staff of such events it is of no account where these would go.
+-- Events that have no syllables and no texts. On a staff of such events it does not matter where these would go.
 use Rattle.std.specs.Prelude.{◌≡◌, ℕ, Bool, true, false, not, ◌&&◌, ◌==◌, is_none, List, [], length, slice_range}
 use Rattle.std.specs.List.{list_all}
 use Rattle.mus_units.specs.declared.note.Deco.{Deco}
@@ -28,7 +28,7 @@ are_silent ds = list_all (λ d. list_all (λ e. is_silent e.flat) d.events) ds
 abbrev pub is_silent_staff : ℕ → ℕ → List DrawnVoice → Bool
 is_silent_staff a b voices = list_all (λ v. are_silent (slice_range v.measures a b)) voices
 
--- a room in which voices are written as in that which the marks of their staff leave
+-- a room in which voices are written as in the one that the marks of their staff leave
 abbrev pub FitsRoom : List ColumnKey → List ℕ → ℕ → ℕ → List DrawnVoice → StaffRoom → Type 0
 FitsRoom keys lengths a b voices room =
     written_parts keys lengths room a b 1 [] voices

@@ -1,5 +1,5 @@
--- The marks of a staff in a system, of the voices that stand on it: in the columns the head, the bar before the first
--- measure and the measures; then the beams of notes, those of graces, and the arcs.
+-- The marks of a staff in a system, for the voices on it: in the columns the head, the bar before the first measure
+-- and the measures; then the beams of notes, those of graces, and the arcs.
 use Rattle.std.specs.Prelude.{ℕ, ◌+◌, pos, ◌≤ℤ◌, ◌==◌, Bool, true, false, not, ◌&&◌, ◌||◌, if◌then◌else◌, List, [], ◌∷◌}
 use Rattle.std.specs.Prelude.{◌++◌, length, map, sum, flat_map, count_by, slice_range, slice_index_or, Option, Some}
 use Rattle.std.specs.Prelude.{None}
@@ -35,7 +35,7 @@ use Rattle.mus_marks.specs.Events.{measures_marks, no_texts}
 abbrev pub meter_shown : ℕ → SystemOpening → Option Meter
 meter_shown a o = if (a == 0) || o.anew then Some o.meter else None
 
--- the head, by the first of the system's measures; the first voice of a staff draws it
+-- the head, drawn from the first of the system's measures; the first voice of a staff draws it
 abbrev pub head_part : List ColumnKey → ℕ → List DrawnMeasure → List Laid
 head_part keys a [] = []
 head_part keys a (d ∷ ds) =
@@ -43,7 +43,7 @@ head_part keys a (d ∷ ds) =
     else map (drawn_at (key_rank keys (head_key a)))
     (head_marks d.opening.clef d.opening.key.signs (meter_shown a d.opening))
 
--- the bar before the first measure, where it has features; the first voice of a staff draws it
+-- the bar before the first measure, if it has features; the first voice of a staff draws it
 abbrev pub first_bar_part : List ColumnKey → ℕ → Seat → Bar → List Laid
 first_bar_part keys a seat bar =
     if not (is_lower seat) && (a == 0) && has_features bar
@@ -54,7 +54,7 @@ unfoldable pub columns_part : List ColumnKey → List ℕ → Option WordRoom �
 columns_part keys lengths place a seat first ds =
     head_part keys a ds ++ first_bar_part keys a seat first ++ measures_marks keys lengths place a true ds
 
--- what a voice has in the columns of measures a to b - 1, with its syllables and texts where their place is known
+-- what a voice has in the columns of measures a to b - 1, with its syllables and texts if their place is known
 abbrev pub own_part : List ColumnKey → List ℕ → Option WordRoom → ℕ → ℕ → DrawnVoice → List Laid
 own_part keys lengths place a b v = columns_part keys lengths place a v.seat v.first (slice_range v.measures a b)
 
@@ -62,21 +62,21 @@ own_part keys lengths place a b v = columns_part keys lengths place a v.seat v.f
 abbrev pub staff_bridges : List ColumnKey → List ℕ → ℕ → ℕ → List DrawnVoice → List Laid
 staff_bridges keys lengths a b voices = map (bridge_at keys) (flat_map (bridges_of lengths a b) voices)
 
--- all marks of a staff but syllables and texts
+-- all marks of a staff except syllables and texts
 abbrev pub bare_marks : List ColumnKey → List ℕ → ℕ → ℕ → List DrawnVoice → List Laid
 bare_marks keys lengths a b voices =
     flat_map (own_part keys lengths None a b) voices ++ staff_bridges keys lengths a b voices
 
--- syllables and texts stand outside of all other marks of their staff
+-- syllables and texts are outside of all other marks of their staff
 unfoldable pub room_over : ℕ → List Laid → StaffRoom
 room_over verses others =
     record { low = cut_dy (staff_heights others).low; high = cut_dy (staff_heights others).high; verses = verses }
 
--- the verses of a staff are those of its voices, one after the other
+-- the verses of a staff are those of its voices, one voice after another
 abbrev pub verses_on : List DrawnVoice → ℕ
 verses_on voices = sum (map (λ v. v.verses) voices)
 
--- a text that stands in the column of rank r, above the staff and below it
+-- a text in the column of rank r, above the staff and below it
 abbrev pub is_above : Lane → Bool
 is_above Lane.Above = true
 is_above _ = false
@@ -95,7 +95,7 @@ text_above r x = stands_at_rank r x && is_words x.mark && is_above x.lane
 abbrev pub text_below : ℕ → Laid → Bool
 text_below r x = stands_at_rank r x && is_words x.mark && is_below_staff x.lane
 
--- the texts that a column has behind those of a part, where it had some before
+-- the texts that a column has after those of a part, given what it had before
 abbrev pub texts_with : TextCounts → List Laid → ℕ → TextCounts
 texts_with before part r =
     record { above = before.above + count_by (text_above r) part; below = before.below + count_by (text_below r) part }
@@ -104,7 +104,7 @@ texts_with before part r =
 abbrev pub texts_behind : ℕ → List TextCounts → List Laid → List TextCounts
 texts_behind n before part = map (λ r. texts_with (slice_index_or before r no_texts) part r) (range_with_len 0 n)
 
--- the voices of a staff one after the other, each behind the verses and the texts of those before it
+-- the voices of a staff one after another, each after the verses and the texts of those before it
 abbrev pub written_parts : List ColumnKey
     → List ℕ → StaffRoom → ℕ → ℕ → ℕ → List TextCounts → List DrawnVoice → List (List Laid)
 written_parts keys lengths room a b first before [] = []
@@ -116,9 +116,9 @@ written_parts keys lengths room a b first before (v ∷ vs) =
 unfoldable pub staff_over : List Laid → StaffMarks
 staff_over all = record { marks = all; low = cut_dy (staff_heights all).low; high = cut_dy (staff_heights all).high }
 
--- The marks of a staff in measures a to b - 1: column by column, in each what the voices have there one after the
--- other; then what goes between columns, voice by voice. The head, the bar before the first measure, changes and bars
--- are the first voice's.
+-- The marks of a staff in measures a to b - 1: column by column, in each what the voices have there one after
+-- another; then what goes between columns, voice by voice. The head, the bar before the first measure, changes and
+-- bars are the first voice's.
 unfoldable pub staff_marks : List ColumnKey → List ℕ → ℕ → ℕ → List DrawnVoice → StaffMarks
 staff_marks keys lengths a b voices =
     let room = room_over (verses_on voices) (bare_marks keys lengths a b voices) in

@@ -1,5 +1,5 @@
--- What a score calls for in a system of measures a to b - 1: the columns that its voices stand in, and for each staff,
--- in order, its marks.
+-- What a score calls for in a system of measures a to b - 1: the columns of its voices, and for each staff, in order,
+-- its marks.
 use Rattle.std.specs.Prelude.{◌≡◌, ℕ, Bool, List, map}
 use Rattle.mus_score.specs.declared.score.Score.{Score}
 use Rattle.mus_score.specs.Seats.{grouped, is_lower}
@@ -13,7 +13,7 @@ use Rattle.mus_marks.specs.Staff.{staff_marks}
 abbrev pub is_drawn_lower : DrawnVoice → Bool
 is_drawn_lower v = is_lower v.seat
 
--- the voices of each staff, as they are drawn
+-- the drawn voices of each staff
 abbrev pub drawn_staves : Score → List (List DrawnVoice)
 drawn_staves s = grouped is_drawn_lower (map drawn_voice s.voices)
 

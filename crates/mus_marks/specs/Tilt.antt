@@ -1,5 +1,5 @@
--- The marks of a system over the abscissas of its columns: as those that the score calls for, but the stems of a beam
--- end on its line. What stands on the ends of stems (beams, decorations, texts, arcs) follows them.
+-- The marks of a system over the abscissas of its columns: like those that the score calls for, but the stems of a
+-- beam end on its line. Marks that depend on the ends of stems (beams, decorations, texts, arcs) follow them.
 use Rattle.std.specs.Prelude.{◌≡◌, ℕ, ◌+◌, ◌^◌, ℤ, pos, ◌≤ℤ◌, ◌<ℤ◌, ◌<◌, ⊤, List, [], ◌∷◌, ◌++◌, length, map, take}
 use Rattle.std.specs.Prelude.{drop, slice_range, slice_index_or}
 use Rattle.mus_score.specs.declared.score.Score.{Score}
@@ -15,7 +15,7 @@ use Rattle.mus_drawn.specs.declared.drawn.DrawnMeasure.{DrawnMeasure}
 use Rattle.mus_drawn.specs.declared.drawn.DrawnVoice.{DrawnVoice}
 use Rattle.mus_marks.specs.{Events.note_rank, Staff.staff_marks, System.drawn_staves}
 
--- what the line of its beam takes from an event of measure m: where its column stands is its abscissa
+-- what the line of its beam needs of an event of measure m; the event's abscissa is that of its column
 abbrev pub anchor_at : List ColumnKey → List ℤ → ℕ → DrawnEvent → SlopeInput
 anchor_at keys at m e = slope_input e.plan (slice_index_or at (note_rank keys m e) (pos 0))
 
@@ -33,12 +33,12 @@ AllCanTilt keys at m (d ∷ ds) = CanTilt keys at m d × AllCanTilt keys at (m +
 abbrev pub ends_over : List ColumnKey → List ℤ → ℕ → List DrawnEvent → List ℤ
 ends_over keys at m es = sloped_ends (map (anchor_at keys at m) es)
 
--- of measures from number m on, one by one
+-- the same for measures from number m on, one by one
 abbrev pub sloped_over : List ColumnKey → List ℤ → ℕ → List DrawnMeasure → List (List ℤ)
 sloped_over keys at m [] = []
 sloped_over keys at m (d ∷ ds) = ends_over keys at m d.events ∷ sloped_over keys at (m + 1) ds
 
--- f of each element and what a list has for it; where this is lacking, the rest as they are
+-- f of each element and the list's entry for it; elements without an entry stay unchanged
 abbrev pub over : {A B : Type 0} → (B → A → A) → List B → List A → List A
 over f [] xs = xs
 over f (t ∷ ts) [] = []
@@ -51,11 +51,11 @@ event_ended to e = record e { plan = with_end e.plan to }
 abbrev pub measure_ended : List ℤ → DrawnMeasure → DrawnMeasure
 measure_ended ends d = record d { events = over event_ended ends d.events }
 
--- a voice whose measures have other ends from number a on, as far as there are any
+-- a voice whose measures have other ends from number a on, as far as there are other ends
 abbrev pub voice_ended : ℕ → List (List ℤ) → DrawnVoice → DrawnVoice
 voice_ended a ends v = record v { measures = take a v.measures ++ over measure_ended ends (drop a v.measures) }
 
--- the ends that are left of others where these were put in: those that were there before
+-- the ends that remain when others were put in: the earlier ones
 abbrev pub end_left : DrawnEvent → ℤ → ℤ
 end_left e to = e.plan.to
 
@@ -65,7 +65,7 @@ measure_left d ends = over end_left d.events ends
 abbrev pub voice_left : ℕ → DrawnVoice → List (List ℤ) → List (List ℤ)
 voice_left a v ends = over measure_left (drop a v.measures) ends
 
--- measures a to b - 1 of a voice tilted, all others as they are
+-- measures a to b - 1 of a voice tilted, all others unchanged
 abbrev pub voice_tilted : List ColumnKey → List ℤ → ℕ → ℕ → DrawnVoice → DrawnVoice
 voice_tilted keys at a b v = voice_ended a (sloped_over keys at a (slice_range v.measures a b)) v
 
@@ -73,14 +73,14 @@ voice_tilted keys at a b v = voice_ended a (sloped_over keys at a (slice_range v
 abbrev pub tilted_staff : List ColumnKey → List ℕ → List ℤ → ℕ → ℕ → List DrawnVoice → StaffMarks
 tilted_staff keys lengths at a b voices = staff_marks keys lengths a b (map (voice_tilted keys at a b) voices)
 
--- What a score calls for in a system of measures a to b - 1 whose columns stand at these abscissas.
+-- What a score calls for in a system of measures a to b - 1 whose columns are at these abscissas.
 pub record IsTilted (s : Score) (t : Timeline) (a b : ℕ) (at : List ℤ) (m : SystemMarks) : Type 0 where
   pub from : m.a ≡ a
   pub to : m.b ≡ b
   pub keys : AreKeys m.keys (called_keys s t.lengths a b)
   pub staves : m.staves ≡ map (tilted_staff m.keys t.lengths at a b) (drawn_staves s)
 
--- an abscissa for each column of the system, rising from 0 on to at most 2^40
+-- an abscissa for each column of the system, rising, from 0 to at most 2^40
 pub record AreAbscissas (s : Score) (t : Timeline) (a b : ℕ) (at : List ℤ) : Type 0 where
   pub each : (keys : List ColumnKey) → AreKeys keys (called_keys s t.lengths a b) → length at ≡ length keys
   pub rise : (i : ℕ) → i + 1 < length at → slice_index_or at i (pos 0) <ℤ slice_index_or at (i + 1) (pos 0)

@@ -15,7 +15,7 @@ fn is_words(mark: &Mark) -> bool
     matches!(mark, Mark::Words { .. })
 }
 
-/// The texts of a column, with a mark that stands in it.
+/// Returns the text counts of a column, with a mark of it added.
 fn text_counted(laid: &Laid, texts: TextCounts) -> Result<TextCounts, Memory>
     ensures { IfOk result (λ t. t ≡ text_counted laid.now texts) }
 {
@@ -53,7 +53,7 @@ fn count_marks(texts: &mut Row<TextCounts>, part: &[Laid]) -> Result<(), Memory>
     Ok(())
 }
 
-/// The texts that columns have already.
+/// Returns the text counts that columns already have.
 fn texts_of(alloc: Global, columns: usize, before: &[TextCounts]) -> Result<Row<TextCounts>, Memory>
     ensures { IfOk result (λ r. r ≡ map (λ k. slice_index_or before.now k no_texts) (range_with_len 0 columns)) }
 {
@@ -64,7 +64,7 @@ fn texts_of(alloc: Global, columns: usize, before: &[TextCounts]) -> Result<Row<
     Ok(texts)
 }
 
-/// The texts that so many columns have behind those of a part, where they had some before.
+/// Returns the text counts of `columns` columns after those of a part, given what they had `before`.
 #[tactic(auto, using(crate::proofs::Counts::all_counted))]
 pub(crate) fn texts_behind(
     alloc: Global,

@@ -22,8 +22,8 @@ use mus_time::note_key;
 use mus_units::{Clef, Memory, Row};
 use mus_words::{TextPlace, put_syllables, put_texts};
 
-/// The room that the other marks of a staff leave to its syllables and texts: these stand below `low`
-/// and above `high`, in u. The staff has so many verses.
+/// The room that the other marks of a staff leave to its syllables and texts, which go below `low` and above `high`,
+/// in u; and the staff's number of verses.
 #[derive(Clone, Copy, PartialEq, Eq)]
 pub struct StaffRoom {
     pub low: i32,
@@ -31,15 +31,15 @@ pub struct StaffRoom {
     pub verses: u8,
 }
 
-/// How many texts a column has above the staff and below it.
+/// The number of texts that a column has above the staff and below it.
 #[derive(Clone, Copy, PartialEq, Eq)]
 pub struct TextCounts {
     pub above: usize,
     pub below: usize,
 }
 
-/// Where the words of a voice go: into the room of its staff, its verses from number `first` on, and
-/// behind the texts that each column has already, by rank; a column that `before` lacks has none.
+/// Where the words of a voice go: into the room of its staff, its verses from number `first` on, and after the texts
+/// that each column already has, by rank. A column that `before` lacks has none.
 #[derive(Drop)]
 pub struct WordRoom {
     pub room: StaffRoom,
@@ -47,14 +47,14 @@ pub struct WordRoom {
     pub before: Row<TextCounts>,
 }
 
-/// Whether changes have neither clef nor key nor meter.
+/// Returns whether changes have neither clef nor key nor meter.
 pub fn changes_nothing(changes: &Changes) -> bool
     ensures { result ≡ changes_nothing changes.now }
 {
     changes.clef.is_none() && changes.key.is_none() && changes.meter.is_none()
 }
 
-/// Lays the change before an event, unless it is `drawn` already: by the head, or by the voice above.
+/// Draws the change before an event, unless it is already `drawn` by the head or by the voice above.
 fn put_change_part(
     pen: &mut MarkPen,
     keys: &[ColumnKey],
@@ -77,7 +77,7 @@ fn put_change_part(
     put_change(pen, e.clef, e.old.as_slice(), changes)
 }
 
-/// Lays graces of a group, each in a column of its own.
+/// Draws the graces of a group, each in a column of its own.
 fn put_graces(
     pen: &mut MarkPen,
     keys: &[ColumnKey],
@@ -100,7 +100,7 @@ fn put_graces(
     Ok(())
 }
 
-/// Lays the graces before an event.
+/// Draws the graces before an event.
 fn put_graces_part(
     pen: &mut MarkPen,
     keys: &[ColumnKey],
@@ -119,7 +119,7 @@ fn put_graces_part(
     put_graces(pen, keys, measure, e.tick, e.clef, group, graces)
 }
 
-/// Where the texts of an event go in a column that has some already.
+/// Returns where the texts of an event go in a column that already has some.
 fn text_place(room: StaffRoom, before: TextCounts) -> TextPlace
     ensures { result ≡ text_place room before }
 {
@@ -132,7 +132,7 @@ fn text_place(room: StaffRoom, before: TextCounts) -> TextPlace
     }
 }
 
-/// The texts that the column of a rank has already.
+/// Returns the text counts that the column of a rank already has.
 pub(crate) fn texts_at(before: &[TextCounts], rank: usize) -> TextCounts
     ensures { result ≡ slice_index_or before.now rank no_texts }
 {
@@ -160,7 +160,7 @@ fn put_words(pen: &mut MarkPen, place: Option<&WordRoom>, flat: &Flat<'_>) -> Re
     put_texts(pen, text_place(place.room, before), flat)
 }
 
-/// Draws an event, but for its syllables and texts.
+/// Draws an event without its syllables and texts.
 fn draw_note(pen: &mut MarkPen, before: u8, after: u8, e: &DrawnEvent<'_>) -> Result<(), Memory>
     ensures { OnOk result
         (pen.new
@@ -171,7 +171,7 @@ fn draw_note(pen: &mut MarkPen, before: u8, after: u8, e: &DrawnEvent<'_>) -> Re
     put_note(pen, e.clef, raise, event, plan, plan.to, before, after)
 }
 
-/// Lays an event in its column, with its syllables and texts if their place is known.
+/// Draws an event in its column, with its syllables and texts if their place is known.
 fn put_note_part(
     pen: &mut MarkPen,
     keys: &[ColumnKey],
@@ -194,8 +194,8 @@ fn put_note_part(
     put_words(pen, place, &e.flat)
 }
 
-/// Lays an event with the change and the graces before it; `before` and `after` are the levels of the
-/// events beside it in its beam.
+/// Draws an event with the change and the graces before it; `before` and `after` are the levels of the events beside
+/// it in its beam.
 #[tactic(auto, unfolding(crate::specs::Events::event_marks))]
 fn put_event(
     pen: &mut MarkPen,
@@ -220,14 +220,14 @@ fn put_event(
     put_note_part(pen, keys, place, measure, before, after, e)
 }
 
-/// The levels of an event that are in a plan's beam.
+/// Returns the levels of an event that are in a plan's beam.
 fn levels_in(plan: &StemPlan, group: u32, flags: u8) -> u8
     ensures { result ≡ levels_in plan.now group flags }
 {
     if group == plan.group { flags } else { 0 }
 }
 
-/// The levels of the next event that are in a plan's beam.
+/// Returns the levels of the next event that are in a plan's beam.
 fn levels_behind(plan: &StemPlan, behind: &[DrawnEvent<'_>]) -> u8
     ensures { result ≡ levels_behind plan.now behind.now }
 {
@@ -237,8 +237,8 @@ fn levels_behind(plan: &StemPlan, behind: &[DrawnEvent<'_>]) -> u8
     }
 }
 
-/// Lays the events of a measure, each with the change and the graces before it; the first without its
-/// change, if the head draws that. Syllables and texts are laid where their place is known.
+/// Draws the events of a measure, each with the change and the graces before it; the first without its change if the
+/// head draws that. Syllables and texts are drawn if their place is known.
 pub(crate) fn put_events(
     pen: &mut MarkPen,
     keys: &[ColumnKey],

@@ -1,6 +1,5 @@
-//! The marks that a score calls for in a system: for each staff those of its columns, its beams and
-//! its arcs, each with the rank of its column, and how low and how high they reach. It gives out the types of marks
-//! of `mus_laid`.
+//! The marks that a score calls for in a system: for each staff those of its columns, its beams and its arcs, each
+//! with the rank of its column, and how low and how high they reach. It re-exports the types of marks of `mus_laid`.
 #![tactic(auto)]
 
 pub mod counting;

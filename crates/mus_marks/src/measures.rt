@@ -12,10 +12,10 @@ use mus_onsets::{Class, ColumnKey};
 use mus_score::Seat;
 use mus_units::{Bar, Memory, Meter};
 
-/// How many marks most events and bars have at most; room for so many is made at once.
+/// The number of marks that is enough for most events and bars; room for it is reserved at once.
 const MARKS_OF_EVENT: usize = 4;
 
-/// Lays the bar behind a measure, unless the voice above draws it.
+/// Draws the bar after a measure, unless the voice above draws it.
 fn put_bar_part(
     pen: &mut MarkPen,
     keys: &[ColumnKey],
@@ -35,7 +35,7 @@ fn put_bar_part(
     put_bar(pen, d.bar)
 }
 
-/// How many marks measures have where no event has more than most have.
+/// Returns how many marks measures have if no event has more than most have.
 fn room_for(measures: &[DrawnMeasure<'_>]) -> usize {
     let mut events: usize = 0;
     for d in measures {
@@ -44,9 +44,9 @@ fn room_for(measures: &[DrawnMeasure<'_>]) -> usize {
     events.saturating_mul(MARKS_OF_EVENT)
 }
 
-/// Lays the events and bars of measures of a system, from number `a` on, by the ranks of the keys; the
-/// change before the first event of the first of them is left out where the head of the system draws
-/// it. Syllables and texts are laid where their place is known. The only error is want of memory.
+/// Draws the events and bars of measures of a system, from number `a` on, by the ranks of the keys. Leaves out the
+/// change before the first event of the first measure if the head of the system draws it. Syllables and texts are
+/// drawn if their place is known. The only error is out of memory.
 pub fn put_measures(
     pen: &mut MarkPen,
     keys: &[ColumnKey],
@@ -77,7 +77,7 @@ pub fn put_measures(
     Ok(())
 }
 
-/// The meter that a head shows.
+/// Returns the meter that a head shows.
 fn meter_shown(a: u32, opening: &SystemOpening) -> Option<Meter>
     ensures { result ≡ meter_shown a opening.now }
 {
@@ -88,8 +88,7 @@ fn meter_shown(a: u32, opening: &SystemOpening) -> Option<Meter>
     }
 }
 
-/// Lays the head of the system that begins with the first of these measures, unless the voice above
-/// draws it.
+/// Draws the head of the system that begins with the first of these measures, unless the voice above draws it.
 fn put_head_part(
     pen: &mut MarkPen,
     keys: &[ColumnKey],
@@ -119,7 +118,7 @@ fn is_featured(bar: Bar) -> bool
     bar.end || bar.start || bar.last || bar.initial || bar.double || bar.dotted || bar.unseen
 }
 
-/// Lays the bar before the first measure, where it has features, unless the voice above draws it.
+/// Draws the bar before the first measure if it has features, unless the voice above draws it.
 fn put_first_part(
     pen: &mut MarkPen,
     keys: &[ColumnKey],
@@ -137,9 +136,8 @@ fn put_first_part(
     put_bar(pen, bar)
 }
 
-/// Lays what stands in the columns of a system from measure `a` on: its head, the bar before the first
-/// measure, its events and its bars. A voice that stands lower on its staff has events alone. The only
-/// error is want of memory.
+/// Draws what is in the columns of a system from measure `a` on: its head, the bar before the first measure, its
+/// events and its bars. A lower voice of a staff has events only. The only error is out of memory.
 #[tactic(auto, unfolding(crate::specs::Staff::columns_part))]
 pub fn put_columns_part(
     pen: &mut MarkPen,

@@ -5,7 +5,7 @@ use mus_drawn::{DrawnEvent, DrawnMeasure};
 use mus_score::Flat;
 use mus_units::{Deco, Text};
 
-/// Whether a decoration is a fingering or a dynamic mark.
+/// Returns whether a decoration is a fingering or a dynamic mark.
 fn is_text(deco: &Deco) -> bool
     ensures { result ≡ is_text deco.now }
 {
@@ -24,7 +24,7 @@ fn have_no_syllable(words: &[Option<Text>]) -> bool
     words.iter().all(|word| word.is_none())
 }
 
-/// Whether an event has no syllables and no texts.
+/// Returns whether an event has no syllables and no texts.
 pub(crate) fn is_silent(flat: &Flat<'_>) -> bool
     ensures { result ≡ is_silent flat.now }
 {
@@ -42,7 +42,7 @@ fn are_all_silent(events: &[DrawnEvent<'_>]) -> bool
     events.iter().all(|e| is_silent(&e.flat))
 }
 
-/// Whether the events of measures have no syllables and no texts.
+/// Returns whether the events of measures have no syllables and no texts.
 pub(crate) fn are_silent(measures: &[DrawnMeasure<'_>]) -> bool
     ensures { result ≡ are_silent measures.now }
 {

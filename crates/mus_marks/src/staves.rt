@@ -22,10 +22,10 @@ use mus_time::SystemFrame;
 use mus_units::{Memory, Row};
 use std::alloc::Global;
 
-/// How many beams and arcs most measures have at most; room for so many is made at once.
+/// The number of beams and arcs that is enough for most measures; room for it is reserved at once.
 const BRIDGES_OF_MEASURE: usize = 4;
 
-/// Lays what a voice has in the columns of a system, with syllables and texts where their place is known.
+/// Draws what a voice has in the columns of a system, with syllables and texts if their place is known.
 fn put_own_part(
     pen: &mut MarkPen,
     frame: &SystemFrame<'_>,
@@ -46,7 +46,7 @@ fn put_own_part(
     put_columns_part(pen, keys, lengths, place, a, v.seat, v.first, measures)
 }
 
-/// What voices have between columns, one after the other.
+/// Returns what voices have between columns, one voice after another.
 fn bridges_on(
     alloc: Global,
     frame: &SystemFrame<'_>,
@@ -64,7 +64,7 @@ fn bridges_on(
     Ok(out)
 }
 
-/// Lays all that voices have in columns but syllables and texts.
+/// Draws all that voices have in columns except syllables and texts.
 fn put_bare_parts(
     pen: &mut MarkPen,
     frame: &SystemFrame<'_>,
@@ -83,7 +83,7 @@ fn put_bare_parts(
     Ok(())
 }
 
-/// The room that marks leave to syllables and texts.
+/// Returns the room that marks leave to syllables and texts.
 #[tactic(auto, unfolding(crate::specs::Staff::room_over))]
 fn room_over(verses: u8, marks: &[Laid]) -> StaffRoom
     ensures { result ≡ room_over verses marks.now }
@@ -96,7 +96,7 @@ fn room_over(verses: u8, marks: &[Laid]) -> StaffRoom
     }
 }
 
-/// Marks, and how low and how high they reach.
+/// Returns marks, with how low and how high they reach.
 #[tactic(auto, unfolding(crate::specs::Staff::staff_over))]
 fn staff_over(marks: Row<Laid>) -> StaffMarks
     ensures { result ≡ staff_over marks }
@@ -109,7 +109,7 @@ fn staff_over(marks: Row<Laid>) -> StaffMarks
     }
 }
 
-/// How many verses voices have together.
+/// Returns how many verses voices have together.
 pub fn verses_on(voices: &[DrawnVoice<'_>]) -> u8
     requires { verses_on voices.now ≤ 128 }
     ensures { result ≡ verses_on voices.now }
@@ -121,7 +121,7 @@ pub fn verses_on(voices: &[DrawnVoice<'_>]) -> u8
     verses
 }
 
-/// Whether voices have no syllables and no texts in a system.
+/// Returns whether voices have no syllables and no texts in a system.
 fn is_silent_staff(frame: &SystemFrame<'_>, voices: &[DrawnVoice<'_>]) -> bool
     requires { All (λ v. length v.measures ≡ length frame.now.lengths.now) voices.now }
     ensures { result ≡ is_silent_staff frame.now.a frame.now.b voices.now }
@@ -134,8 +134,8 @@ fn is_silent_staff(frame: &SystemFrame<'_>, voices: &[DrawnVoice<'_>]) -> bool
     true
 }
 
-/// The room that all marks of a staff but syllables and texts leave to these, where it has any;
-/// `bridges` are what it has between columns.
+/// Returns the room that all other marks of a staff leave to its syllables and texts, if it has any; `bridges` are
+/// its marks between columns.
 fn room_on(
     alloc: Global,
     frame: &SystemFrame<'_>,
@@ -161,8 +161,8 @@ fn room_on(
     Ok(room_over(verses_on(voices), pen.marks.as_slice()))
 }
 
-/// The place of the next voice of a staff, behind the verses and the texts of the one before it; where
-/// none follows, that of the last.
+/// Returns the word room of the next voice of a staff, after the verses and the texts of the voice before it; if no
+/// voice follows, that of the last.
 fn word_room_after(
     alloc: Global,
     columns: usize,
@@ -184,7 +184,7 @@ fn word_room_after(
     })
 }
 
-/// What a voice has in columns, with its syllables and texts at their place.
+/// Returns what a voice has in columns, with its syllables and texts at their place.
 fn written_part(
     alloc: Global,
     frame: &SystemFrame<'_>,
@@ -202,7 +202,7 @@ fn written_part(
     Ok(pen.marks)
 }
 
-/// What each voice of a staff has in columns, behind the verses and the texts of those before it.
+/// Returns what each voice of a staff has in columns, after the verses and the texts of the voices before it.
 fn written_parts(
     alloc: Global,
     frame: &SystemFrame<'_>,
@@ -233,7 +233,7 @@ fn written_parts(
     Ok(parts)
 }
 
-/// The marks of the staff of these voices.
+/// Returns the marks of the staff of these voices.
 #[tactic(auto, unfolding(crate::specs::Staff::staff_marks))]
 fn staff_marks(
     alloc: Global,
@@ -256,7 +256,7 @@ fn staff_marks(
     Ok(staff_over(marks))
 }
 
-/// How many of these voices, from the first on, stand on the staff of the voice before them.
+/// Returns how many of these voices, from the first on, are on the staff of the voice before them.
 pub fn lower_count(voices: &[DrawnVoice<'_>]) -> usize
     ensures value { result ≡ prefix_len is_drawn_lower voices.now }
     ensures within { result ≤ length voices.now }
@@ -271,7 +271,7 @@ pub fn lower_count(voices: &[DrawnVoice<'_>]) -> usize
     count
 }
 
-/// The staves of voices.
+/// Returns the staves of voices.
 pub(crate) fn staves(
     alloc: Global,
     frame: &SystemFrame<'_>,

@@ -15,8 +15,8 @@ use mus_time::{SystemFrame, draw_voices, system_keys};
 use mus_units::{Memory, Row};
 use std::alloc::Global;
 
-/// The marks of the system of measures `a` to `b` - 1, as `marks` gives them, where the voices of the
-/// score are drawn already. The only error is want of memory.
+/// Returns the marks of the system of measures `a` to `b` - 1, like `marks`, from the voices of the score as already
+/// drawn. The only error is out of memory.
 pub fn marks_of(
     alloc: Global,
     s: &Score,
@@ -47,14 +47,14 @@ pub fn marks_of(
     Ok(SystemMarks { a, b, keys, staves })
 }
 
-/// The marks that a score calls for in the system of measures `a` to `b` - 1: the keys of its columns,
+/// Returns the marks that a score calls for in the system of measures `a` to `b` - 1: the keys of its columns,
 /// rising, and for each staff, in order, its marks; `t` is the timeline of the score.
 ///
-/// A staff has its columns from the left to the right: the head, the bar before the first measure where
-/// it has features, and each event behind its change and its graces, with its syllables and its texts
-/// outside of all other marks; then the beams of its notes, those of its graces, and its arcs. Where
-/// voices share it, each column has what the first has there, then what the second has, and so on, and
-/// the head, the bars and the changes are the first voice's. The only error is want of memory.
+/// The marks of a staff are first those of its columns from left to right: the head, the bar before the first measure
+/// if it has features, and each event after its change and its graces, with its syllables and its texts outside of
+/// all other marks. Then come the beams of its notes, those of its graces, and its arcs. If voices share the staff,
+/// each column has the marks of the first voice there, then those of the second, and so on, and the head, the bars
+/// and the changes are the first voice's. The only error is out of memory.
 pub fn marks(alloc: Global, s: &Score, t: &Timeline, a: u32, b: u32) -> Result<SystemMarks, Memory>
     requires good { IsGoodScore s.now }
     requires times { t.now ≡ timeline_of s.now }

@@ -26,10 +26,10 @@ use mus_units::{Memory, Row};
 use std::alloc::Global;
 use std::mem;
 
-/// How many events most measures have at most; room for so many is made at once.
+/// The number of events that is enough for most measures; room for it is reserved at once.
 const EVENTS_OF_MEASURE: usize = 16;
 
-/// What the line of its beam takes from an event.
+/// Returns what the line of its beam needs of an event.
 #[tactic(auto, unfolding(mus_stems::specs::Slope::slope_input))]
 fn anchor_at(at: &[i64], rank: u32, e: &DrawnEvent<'_>) -> SlopeInput
     ensures { result ≡ slope_input e.now.plan (slice_index_or at.now rank (pos 0)) }
@@ -42,7 +42,7 @@ fn anchor_at(at: &[i64], rank: u32, e: &DrawnEvent<'_>) -> SlopeInput
     }
 }
 
-/// The ends of the events of a measure on the lines of their beams; `anchors` is room to work in.
+/// Returns the ends of the events of a measure on the lines of their beams; `anchors` is working space.
 fn ends_over(
     alloc: Global,
     anchors: &mut Row<SlopeInput>,
@@ -65,7 +65,7 @@ fn ends_over(
     ends_for(alloc, anchors.as_slice())
 }
 
-/// The ends of the events of measures, from number `a` on, on the lines of their beams.
+/// Returns the ends of the events of measures, from number `a` on, on the lines of their beams.
 fn sloped_over(
     alloc: Global,
     keys: &[ColumnKey],
@@ -89,7 +89,7 @@ fn sloped_over(
     Ok(ends)
 }
 
-/// The ends of the events of voices in a system, on the lines of their beams.
+/// Returns the ends of the events of voices in a system, on the lines of their beams.
 fn sloped_voices(
     alloc: Global,
     frame: &SystemFrame<'_>,
@@ -113,7 +113,7 @@ fn sloped_voices(
     Ok(ends)
 }
 
-/// Exchanges the end of an event for another.
+/// Swaps the end of an event with another.
 fn exchange_end(e: &mut DrawnEvent<'_>, to: &mut i32)
     ensures event { e.exit.now ≡ event_ended to.entry.now e.entry.now }
     ensures end { to.exit.now ≡ end_left e.entry.now to.entry.now }
@@ -121,7 +121,7 @@ fn exchange_end(e: &mut DrawnEvent<'_>, to: &mut i32)
     mem::swap(&mut e.plan.to, to);
 }
 
-/// Exchanges the ends of events for others.
+/// Swaps the ends of events with others.
 fn exchange_ends(events: &mut [DrawnEvent<'_>], ends: &mut [i32])
     ensures events { events.new ≡ over event_ended ends.old events.old }
     ensures ends { ends.new ≡ over end_left events.old ends.old }
@@ -141,7 +141,7 @@ fn exchange_measure(d: &mut DrawnMeasure<'_>, ends: &mut Row<i32>)
     exchange_ends(events, ends.items.as_mut_slice());
 }
 
-/// Exchanges the ends of the events of measures for others.
+/// Swaps the ends of the events of measures with others.
 fn exchange_measures(measures: &mut [DrawnMeasure<'_>], ends: &mut [Row<i32>])
     ensures measures { measures.new ≡ over measure_ended ends.old measures.old }
     ensures ends { ends.new ≡ over measure_left measures.old ends.old }
@@ -153,7 +153,7 @@ fn exchange_measures(measures: &mut [DrawnMeasure<'_>], ends: &mut [Row<i32>])
     }
 }
 
-/// Exchanges the ends of the events of a voice for others, from measure `a` on.
+/// Swaps the ends of the events of a voice with others, from measure `a` on.
 fn exchange_voice(v: &mut DrawnVoice<'_>, a: u32, ends: &mut Row<Row<i32>>)
     requires { a ≤ length v.old.measures }
     ensures voice { v.new ≡ voice_ended a ends.old v.old }
@@ -163,7 +163,7 @@ fn exchange_voice(v: &mut DrawnVoice<'_>, a: u32, ends: &mut Row<Row<i32>>)
     exchange_measures(measures, ends.items.as_mut_slice());
 }
 
-/// Exchanges the ends of the events of voices for others, from measure `a` on.
+/// Swaps the ends of the events of voices with others, from measure `a` on.
 fn exchange_voices(voices: &mut [DrawnVoice<'_>], a: u32, ends: &mut [Row<Row<i32>>])
     requires { All (λ v. a ≤ length v.measures) voices.old }
     ensures voices { voices.new ≡ over (voice_ended a) ends.old voices.old }
@@ -176,7 +176,7 @@ fn exchange_voices(voices: &mut [DrawnVoice<'_>], a: u32, ends: &mut [Row<Row<i3
     }
 }
 
-/// The staves of voices over abscissas. The voices are left as they were.
+/// Returns the staves of voices over abscissas. The voices are left unchanged.
 fn tilted_staves(
     alloc: Global,
     frame: &SystemFrame<'_>,
@@ -203,9 +203,9 @@ fn tilted_staves(
     staves
 }
 
-/// The marks of the system of measures `a` to `b` - 1 over the abscissas of its columns, whose keys are
-/// `keys`, as `tilt` gives them, where the voices of the score are drawn already; these are left as they
-/// were. The only error is want of memory.
+/// Returns the marks of the system of measures `a` to `b` - 1 over the abscissas of its columns, whose keys are
+/// `keys`, like `tilt`, from the voices of the score as already drawn. The voices are left unchanged. The only error
+/// is out of memory.
 pub fn tilt_of(
     alloc: Global,
     s: &Score,
@@ -241,10 +241,10 @@ pub fn tilt_of(
     Ok(SystemMarks { a, b, keys, staves })
 }
 
-/// The marks that a score calls for in the system of measures `a` to `b` - 1 whose columns stand at
-/// the abscissas `at`, in u, one for each column, rising and from 0 to 2^40: those of `marks`, in the
-/// same order, but with the stems of each beam on its line. `t` is the timeline of the score. The only
-/// error is want of memory.
+/// Returns the marks that a score calls for in the system of measures `a` to `b` - 1 whose columns are at the
+/// abscissas `at`, in u, one for each column, rising and from 0 to 2^40. These are the marks of `marks`, in the same
+/// order, but with the stems of each beam on its line. `t` is the timeline of the score. The only error is out of
+/// memory.
 pub fn tilt(
     alloc: Global,
     s: &Score,
