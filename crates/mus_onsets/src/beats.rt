@@ -16,7 +16,7 @@ pub struct Beat {
     pub ticks: u64,
 }
 
-/// A length in ticks, with the factors of the tuplets around it.
+/// Returns a length in ticks, scaled by the tuplets around it.
 #[tactic(auto, unfolding(mus_score::specs::Times::is_scalable))]
 fn scaled(ticks: u64, qs: u64, ps: u64) -> u64
     requires { is_scalable ticks qs ps ≡ true }
