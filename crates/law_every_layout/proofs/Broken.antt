@@ -86,7 +86,7 @@ module _ (cost : ℕ → ℕ → Option ℕ) (forced : ℕ → Bool) (n : ℕ)
   ]
 
   module _ (a p : ℕ) (best : IsLeastBack cost forced a p) where
-    -- what goes on behind bar b
+    -- what continues after bar b
     abbrev GoesOn : ℕ → Type 0
     GoesOn b =
         (ps : List (Option ℕ)) (fs : List ℕ)

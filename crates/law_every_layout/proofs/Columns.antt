@@ -22,7 +22,7 @@ use Rattle.lay_tune.specs.Spans.{AreColumnsOf, score_gaps, verses_of}
 use Rattle.lay_tune.proofs.Joins.{columns_join, measure_of}
 use Rattle.lay_tune.proofs.RisingKeys.{have_keys}
 
--- what each of n places has, as a list
+-- what each of n indices has, as a list
 pub has_each : {X : Type 0} (d : X) (P : ℕ → X → Type 0) (n : ℕ)
     → ((m : ℕ) → m < n → (x : X) × P m x)
     → (xs : List X) × (length xs ≡ n) × ((m : ℕ) → m < n → P m (slice_index_or xs m d))
@@ -54,7 +54,7 @@ has_columns begins s t m verses =
       },
     )
 
--- those of all measures, each in a system that begins with the measure that `from` tells
+-- those of all measures, each in a system that begins with the measure that `from` gives
 has_measures : (s : Score) (from : ℕ → ℕ)
     → IsGoodScore s → (0 < s.measures → 1 ≤ length s.voices)
     → (rows : List (List Column)) × EachMeasure (λ m. IsMeasure s (from m) m) s.measures rows
@@ -64,7 +64,7 @@ has_measures s from good heard =
     (c.0, measure_of s (timeline_of s) (from m) m (verses_of s) c.0 good refl refl (heard (omega (arith, l))) l c.1)) in
     (all.0, record { count = all.1; each = all.2 })
 
--- the columns that the spans of a score are told from
+-- the columns that determine the spans of a score
 pub record HasMeasures (s : Score) : Type 0 where
   pub starts : List (List Column)
   pub others : List (List Column)

@@ -1,4 +1,4 @@
--- There is a greatest force, or the columns can't stand within the width at all.
+-- There is a greatest force, or the columns can't be within the width at all.
 use Rattle.std.proofs.Common.{ℕ, zero, suc, ◌<◌, ◌≤◌, inl, inr, ◌⊎◌, List, length, Option, IfSome, slice_index, arith}
 use Rattle.std.proofs.Common.{sym, subst}
 use Rattle.std.proofs.lemmas.Bool.{cases_eq}
@@ -7,7 +7,7 @@ use Rattle.lay_springs.specs.Fit.{Fits, Passes, CanStandWithin}
 use Rattle.lay_springs.proofs.Longer.{cannot_stand}
 use Rattle.lay_springs.proofs.Made.{fits_or_passes}
 
--- a force, and none greater at which the columns can stand
+-- a force, and none greater at which the columns can be within the width
 pub record IsGreatest (n : ℕ) (reach : ℕ → ℕ → Option Reach) (gaps : List ℕ) (spring : ℕ → ℕ → ℕ)
     (width force : ℕ) : Type 0 where
   pub bound : force ≤ 2048

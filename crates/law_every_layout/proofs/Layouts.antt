@@ -1,4 +1,4 @@
--- Every good score is laid out on a width, or has no way there.
+-- Every good score is laid out on a width, or has no legal breaking there.
 use Rattle.std.specs.Prelude.{◌≤◌, ◌⊎◌}
 use Rattle.std.specs.List.{All, AllByRecursion}
 use Rattle.std.proofs.Common.{ℕ, inl, inr, refl, List, [], ◌∷◌, arith}

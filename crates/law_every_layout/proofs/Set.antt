@@ -61,11 +61,11 @@ has_set n reach gaps spring width force (e, ends, l) = elim (cases_lt 1 n) [
   )
 ]
 
--- columns pressed with their force
+-- columns at their greatest force
 module _ (columns : List Column) (gaps : List ℕ) (width force : ℕ)
     (narrow : (lane : ℕ) → lane < length gaps → slice_index gaps lane ≤ 1048576)
     (h : IsForceOf gaps width columns force) where
-  -- have a place at the natural force, also where there are none
+  -- they have a place at the natural force, even if there are none
   has_natural : (x : List ℤ)
       × IsPlace (length columns) (reach_at column_reach columns) gaps (length_at column_length columns 256) x
   has_natural = elim (cases_lt 0 (length columns)) [
@@ -81,7 +81,7 @@ module _ (columns : List Column) (gaps : List ℕ) (width force : ℕ)
         (h.fits.1.x, record { count = place.count; apart = apart; least = λ y a k l. absurd (omega (arith, none, l)) })
   ]
 
-  -- and are justified
+  -- and they are justified
   has_justified : (last : Bool) → (p : Placed) × IsJustified gaps width last columns p
   has_justified last = by (is_ragged last force) refl
     where
@@ -107,7 +107,7 @@ module _ (columns : List Column) (gaps : List ℕ) (width force : ℕ)
             },
           )
 
--- a span that costs something has a system, set to the width
+-- a span that has a cost has a system, set to the width
 pub has_set_system : (s : Score) (width a b v : ℕ)
     → IsSpanCost s width a b v → (m : SystemMarks) × (p : Placed) × IsSetSystem s width a b m p
 has_set_system s width a b v cost =

@@ -60,7 +60,7 @@ module _ (gaps : List ℕ) (width : ℕ) (narrow : All (λ g. g ≤ 2 ^ 20) gaps
     abbrev Costs : ℕ → ℕ → Type 0
     Costs b v = IsCost column_reach column_length gaps width starts others forced a b v
 
-    -- what stands of it up to bar m, behind which d measures are left
+    -- the part of it up to bar m, after which d measures are left
     row_on : (d m : ℕ) (row : List ℕ)
         → m + d ≡ length starts → a + length row ≡ m
         → ((k : ℕ) → k < length row → Costs (a + 1 + k) (slice_index row k))

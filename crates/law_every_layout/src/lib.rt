@@ -1,5 +1,5 @@
-//! The law of existence of layouts: every good score whose measures have a voice is laid out on a
-//! width, or has no way there.
+//! The law that layouts exist: every good score that has a voice if it has a measure is laid out on
+//! a width, or has no legal breaking there.
 #![tactic(auto)]
 
 pub mod law;

@@ -1,4 +1,4 @@
--- Marks that are alike but for their heights have the same boxes.
+-- Marks of the same shapes, that differ only in heights, have the same boxes.
 use Rattle.std.proofs.Common.{◌≡◌, ◌∙◌, sym, ap, subst, refl, ℕ, ◌<◌, ℤ, pos, ◌+ℤ◌, ◌≤ℤ◌, List, length, get_or, arith}
 use Rattle.std.proofs.lemmas.List.{get_or-map, length-map}
 use Rattle.std.proofs.lemmas.List.Elements.{Contains-get_or}
@@ -40,7 +40,7 @@ other xs ys e y (i, inside, is) =
           ∙ ap laid_shape is,
     )
 
--- so that they are as far apart
+-- so they are as far apart
 pub same_apart : (width : ℕ) (at : List ℤ) (xs ys : List Laid)
     → marks_shape xs ≡ marks_shape ys → AreApart width at xs → AreApart width at ys
 same_apart width at xs ys e h = record {

@@ -1,4 +1,4 @@
--- The lanes of the staves of a system: where they stand among all lanes, and the gaps in them.
+-- The lanes of the staves of a system: their numbers among all lanes, and the gaps in them.
 use Rattle.std.proofs.Common.{◌≡◌, ◌∙◌, ℕ, zero, suc, ◌+◌, ◌<◌, ◌≤◌, ◌==◌, if◌then◌else◌, List, [], ◌∷◌, length, Some}
 use Rattle.std.proofs.Common.{None, refl, sym, ap, subst, arith}
 use Rattle.std.proofs.lemmas.Bool.Decides.{nat_tests}

@@ -1,4 +1,4 @@
--- The columns of a system: as many as its keys, and the first and the last stand in each lane.
+-- The columns of a system: as many as its keys, and the first and the last are in each lane.
 use Rattle.std.proofs.Common.{◌≡◌, ◌∙◌, sym, ap, subst, ℕ, ◌-◌, ◌<◌, ◌≤◌, true, List, [], length, get_or, arith}
 use Rattle.std.proofs.lemmas.List.{get_or-map, length-map}
 use Rattle.std.proofs.lemmas.Option.{slice_get-get_or}
@@ -29,7 +29,7 @@ module _ (keys : List ColumnKey) (staves : List StaffMarks) (lengths verses : Li
   abbrev no_column : Column
   no_column = record { key = key_at 0 0 Class.Head 0; reaches = []; natural = 0 }
 
-  -- a column of a class that stands in each lane does so
+  -- a column of a class that is always in each lane has a reach in each
   pub stands_at : (i : ℕ) → i < length keys → length verses ≡ length staves
       → ((d : ColumnKey) → stands_always (get_or keys i d).class ≡ true)
       → StandsInAll (reach_at column_reach columns i) (length (gaps_of verses))

@@ -1,5 +1,5 @@
--- Where columns stand within less than 2^20, no reach is cut: the first and the last column stand in each lane, and
--- what is cut would push one of them out. So the boxes of marks stay apart as the reaches of their columns do.
+-- If columns are within less than 2^20, no reach is cut: the first and the last column are in each lane, and a cut
+-- reach would push one of them out. So the boxes of marks stay apart as the reaches of their columns do.
 use Rattle.std.proofs.Common.{◌≡◌, ◌∙◌, sym, ap, subst, inl, inr, ℕ, ◌+◌, ◌-◌, ◌^◌, ◌<◌, ℤ, pos, neg_ℤ, ◌+ℤ◌, ◌≤ℤ◌}
 use Rattle.std.proofs.Common.{List, length, Option, Some, arith}
 use Rattle.std.proofs.lemmas.Bool.{cases_lt}
@@ -23,7 +23,7 @@ use Rattle.lay_tune.proofs.Within.{EndsWithin}
 use Rattle.law_marks_apart.specs.Apart.{AreApart, IsBoxed, gap_of}
 use Rattle.law_marks_apart.proofs.LaneGaps.{HasLane, number_of, place_of_lane}
 
--- columns that stand apart within a width, of which the first and the last stand in each lane
+-- columns that are apart within a width, of which the first and the last are in each lane
 pub record StandBetween (n : ℕ) (reach : ℕ → ℕ → Option Reach) (gaps : List ℕ) (spring : ℕ → ℕ) (width : ℕ)
     (at : List ℤ) : Type 0 where
   pub apart : StandApart n reach gaps spring at
@@ -101,7 +101,7 @@ box_high : (x right : ℤ) (reach width : ℕ)
     → (x +ℤ pos reach) ≤ℤ pos width → right ≤ℤ pos reach → (x +ℤ right) ≤ℤ pos width
 box_high x right reach width inside l = omega (arith, ints)
 
--- a mark that has a box stands at one of the columns
+-- a mark that has a box is at one of the columns
 ranked_below : (n r : ℕ) (mark : Mark) → IsRanked n mark → rank_of_mark mark ≡ Some r → r < n
 ranked_below n r (Mark.Glyph glyph rank dx dy) below e = subst (λ k. k < n) (same_Some rank r e) below
 ranked_below n r (Mark.Words size rank dx dy text) below e = subst (λ k. k < n) (same_Some rank r e) below

@@ -1,5 +1,5 @@
--- Boxes of marks where their columns stand: those of one lane of a staff in different columns are at least the lane's
--- gap apart, and each box of a lane lies within the width. Loose marks are in no lane.
+-- Boxes of marks at the abscissas of their columns: those of one lane of a staff in different columns are at least
+-- the lane's gap apart, and each box of a lane is within the width. Loose marks are in no lane.
 use Rattle.std.specs.Prelude.{◌≡◌, ℕ, ◌<◌, ℤ, pos, ◌+ℤ◌, ◌≤ℤ◌, List, Some, Contains}
 use Rattle.mus_laid.specs.Boxes.{sides_of}
 use Rattle.mus_laid.specs.declared.boxes.Sides.{Sides}
@@ -18,7 +18,7 @@ abbrev pub Keeps : Lane → Type 0
 Keeps Lane.Loose = ⊥
 Keeps _ = Unit {0}
 
--- a mark of a lane that has a box and stands at a rank
+-- a mark of a lane that has a box at a rank
 pub record IsBoxed (x : Laid) (rank : ℕ) (box : Sides) : Type 0 where
   pub keeps : Keeps x.lane
   pub rank_is : rank_of_mark x.mark ≡ Some rank

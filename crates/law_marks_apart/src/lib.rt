@@ -1,5 +1,5 @@
 //! Laws of a system that is set: its columns rise within the width, and the boxes of marks in one
-//! lane of a staff stay apart where their columns differ.
+//! lane of a staff stay apart if their columns differ.
 //!
-//! The crate has no code: its laws stand in `proofs`, and what they say in `specs`.
+//! The crate has no code: its laws are in `proofs`, and their statements in `specs`.
 #![tactic(auto)]

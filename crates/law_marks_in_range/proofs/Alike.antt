@@ -1,4 +1,4 @@
--- Marks that are alike but for their heights stand at the same columns and show the same texts.
+-- Marks of the same shapes, that differ only in heights, are at the same columns and show the same texts.
 use Rattle.std.proofs.Common.{◌≡◌, ◌∙◌, sym, ap, subst, refl, ℕ, ◌<◌, List, [], ◌∷◌, ◌++◌, length, map, flat_map}
 use Rattle.std.proofs.Common.{get_or, arith}
 use Rattle.std.proofs.lemmas.List.{get_or-map, length-map}
@@ -12,7 +12,7 @@ use Rattle.law_marks_in_range.specs.Ranks.{AreAnchored, AreMarksRanked, IsRanked
 use Rattle.law_marks_in_range.specs.Shown.{IsShown}
 use Rattle.law_marks_in_range.specs.Texts.{HasPrinted}
 
--- what holds of things holds of others that come to the same
+-- what holds of the members of a list holds of those of another with the same images
 pub same_in : {X Y : Type 0} (f : X → Y) (P : X → Type 0)
     → ((x y : X) → f x ≡ f y → P x → P y) → (xs ys : List X) → map f xs ≡ map f ys → All P xs → All P ys
 same_in f P h xs ys e all k d l =
@@ -59,7 +59,7 @@ all_same P is m n same =
     e)
     m.staves n.staves same.staves
 
--- so that what is shown of a system is shown of one that is alike
+-- so what is shown of a system is shown of one of the same shapes
 pub alike_shown : (m n : SystemMarks) → HaveSameShapes m n → IsShown m → IsShown n
 alike_shown m n same h = record {
   rises = let a = same.from in let b = same.to in let l = h.rises in omega arith;

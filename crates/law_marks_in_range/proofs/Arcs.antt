@@ -1,5 +1,5 @@
--- Arcs go from the column of an event to that of a later one. The head stands before all notes of a system and
--- the bar of its last measure behind them, so that an end which the system cuts stands outside of them too.
+-- Arcs go from the column of an event to that of a later one. The head comes before all notes of a system and the bar
+-- of its last measure after them, so an end that is cut by the system is outside of them too.
 use Rattle.std.proofs.Common.{◌≡◌, ◌∙◌, ℕ, zero, suc, ◌-◌, ◌<◌, ◌≤◌, ◌⊎◌, inl, inr, Bool, true, false, nat_lt, nat_le}
 use Rattle.std.proofs.Common.{◌==◌, ◌&&◌, if◌then◌else◌, List, [], ◌∷◌, ◌++◌, length, map, reverse, Option, Some, None}
 use Rattle.std.proofs.Common.{refl, sym, ap, subst, arith}
@@ -72,7 +72,7 @@ measures_numbered number (m ∷ ms) n h =
     (measures_numbered (suc number) ms k count))
     h
 
--- an event behind another, and an end at an event or behind it
+-- an event after another, and an end at an event or after it
 abbrev IsBehind : ArcEvent → ArcEvent → Type 0
 IsBehind e x = (e.event < x.event) × (e.measure ≤ x.measure)
 
@@ -268,7 +268,7 @@ not_most m n h = grind (arith, nat_tests)
 has_piece : (arc : Arc) (a b : ℕ) → (nat_lt arc.from b && nat_le a arc.to) ≡ true → (arc.from < b) × (a ≤ arc.to)
 has_piece arc a b h = grind (arith, nat_tests)
 
--- what is known of the columns of a system of measures a to b - 1
+-- facts of the columns of a system of measures a to b - 1
 pub record AreColumns (keys : List ColumnKey) (lengths : List ℕ) (a b : ℕ) (ds : List DrawnMeasure) : Type 0 where
   pub order : a < b
   pub enough : b ≤ length ds
@@ -302,7 +302,7 @@ module _ (keys : List ColumnKey) (lengths : List ℕ) (a b : ℕ) (ds : List Dra
       (event_of (HasEvent keys m) at.measure.events e
       (measure_at keys lengths a b m ds at.measure are.measures from to at.there).events at.within).note
 
-  -- an event of the system stands before its last bar
+  -- an event of the system comes before its last bar
   before_last : (m id : ℕ) (e : DrawnEvent)
       → a ≤ m → m < b → IsAt ds m id e → is_below (note_key m e) (bar_key lengths (b - 1)) ≡ true
   before_last m id e from to at =

@@ -22,7 +22,7 @@ unfolding same_key
 same_itself k = grind (arith, nat_tests)
 
 module _ (keys : List ColumnKey) where
-  -- where q stands in another column than p, it stands in a later one of the system
+  -- if q is in another column than p, it is in a later one of the system
   abbrev IsFrom : BeamStem → BeamStem → Type 0
   IsFrom p q = same_key p.key q.key ≡ false → (is_below p.key q.key ≡ true) × Contains keys q.key
 
@@ -30,7 +30,7 @@ module _ (keys : List ColumnKey) where
   AreStems [] = Unit {0}
   AreStems (p ∷ ps) = Contains keys p.key × AllByRecursion (IsFrom p) ps × AreStems ps
 
-  -- the last event of a run is the first or one behind it
+  -- the last event of a run is the first or one after it
   last_is : (P : BeamStem → Type 0) (k : ℕ) (p : BeamStem) (qs : List BeamStem)
       → P p → AllByRecursion P qs → P (last_at k p qs)
   last_is P k p [] own all = own

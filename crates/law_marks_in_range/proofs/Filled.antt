@@ -1,5 +1,5 @@
--- What is called for is drawn: an event, a grace, a bar and a head have a mark, and a change has one just where it
--- changes what is drawn.
+-- Everything that is called for is drawn: an event, a grace, a bar and a head have a mark, and a change has one
+-- exactly when it changes what is drawn.
 use Rattle.std.proofs.Common.{◌≡◌, ◌∙◌, ℕ, zero, suc, ℤ, ◌+◌, ◌*◌, ◌≤◌, Bool, true, false, ◌||◌, nat_le, List, [], ◌∷◌}
 use Rattle.std.proofs.Common.{◌++◌, length, Option, Some, None, is_some, refl, ap, arith}
 use Rattle.std.proofs.lemmas.Bool.Decides.{nat_tests}

@@ -1,4 +1,4 @@
--- The beam of graces goes from the column of the first to that of the last, where there are two or more.
+-- The beam of graces goes from the column of the first to that of the last, if there are two or more.
 use Rattle.std.proofs.Common.{◌≡◌, ℕ, suc, ◌+◌, ◌<◌, true, false, ◌==◌, List, [], ◌∷◌, length, refl, ap, subst, arith}
 use Rattle.std.proofs.lemmas.Bool.Decides.{nat_tests}
 use Rattle.std.specs.List.{AllByRecursion, flat_map}
@@ -18,7 +18,7 @@ further_below : (m tick i j : ℕ) → i < j → is_below (key_at m tick Class.G
 unfolding is_below
 further_below m tick i j h = grind (arith, nat_tests)
 
--- graces that are not one alone are more
+-- graces, if not exactly one, are more
 more_than_one : (n : ℕ) → (suc n == 1) ≡ false → 0 < n
 more_than_one n e = grind (arith, nat_tests)
 

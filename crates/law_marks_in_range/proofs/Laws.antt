@@ -35,7 +35,7 @@ use Rattle.law_marks_in_range.proofs.Printed.{texts_printed}
 use Rattle.law_marks_in_range.proofs.Standing.{HasRank, same_rank}
 use Rattle.law_marks_in_range.proofs.Staves.{IsInside, own_columns, staff_holds, staff_ranked}
 
--- what one of some things has, others have by that thing
+-- what one member of a list has, others have through it
 of_each : {X K N : Type 0} (f : X → List K) (g : X → List N) (k : K) (n : N) (xs : List X)
     → AllByRecursion (λ x. Contains (f x) k → Contains (g x) n) xs
     → Contains (flat_map f xs) k

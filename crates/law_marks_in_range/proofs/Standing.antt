@@ -1,5 +1,5 @@
--- The marks of the voices of a staff that stand in columns stand in those that these voices call for, and each of these
--- holds one. A lower voice of a staff has columns of its notes and graces alone.
+-- The marks of the voices of a staff that are in columns are in those that these voices call for, and each of these
+-- columns holds one. A lower voice of a staff has columns of its notes and graces alone.
 use Rattle.std.proofs.Common.{◌≡◌, ℕ, zero, suc, ◌+◌, ◌-◌, ◌<◌, ◌≤◌, inl, inr, Bool, true, false, not, ◌==◌, ◌&&◌, ◌||◌}
 use Rattle.std.proofs.Common.{if◌then◌else◌, List, [], ◌∷◌, ◌++◌, append_assoc, length, length-drop, length-take, map}
 use Rattle.std.proofs.Common.{drop, Option, refl, subst, arith}
@@ -46,11 +46,11 @@ use Rattle.law_marks_in_range.proofs.Planned.{ArePlanned, IsMeasureAt, IsPlanOf}
 abbrev pub Ranked : ℕ → List Laid → Type 0
 Ranked n all = AllByRecursion (λ laid. IsRanked n laid.mark) all
 
--- a mark stands in the column of rank r
+-- a mark is in the column of rank r
 abbrev pub HasRank : ℕ → List Laid → Type 0
 HasRank r xs = (x : Laid) × Contains xs x × (stands_at_rank r x ≡ true)
 
--- ---- what is drawn in one column
+-- ---- the marks of one column
 ink_ranked : (n r : ℕ) (ink : Ink) → r < n → IsRanked n (ink_at r ink)
 ink_ranked n r (Ink.Glyph glyph dx dy) less = less
 ink_ranked n r (Ink.Words size dx dy text) less = less
@@ -97,7 +97,7 @@ left_out true key other = rw other refl
 left_out false key other = refl
 
 module _ (keys : List ColumnKey) where
-  -- marks stand in the columns of some keys that a voice has on its staff, each of which holds one of them
+  -- marks are in the columns of some keys that a voice has on its staff, each of which holds one of them
   pub record Fill (lower : Bool) (ks : List ColumnKey) (xs : List Laid) : Type 0 where
     pub ranked : AreAmong (keys_by lower ks) keys → Ranked (length keys) xs
     pub anchored : (k : ColumnKey) → Contains (keys_by lower ks) k → HasRank (key_rank keys k) xs
@@ -159,7 +159,7 @@ module _ (keys : List ColumnKey) where
   by_first true key ds other some = not_lower true key other
   by_first false key ds other some = one false key ds refl some
 
-  -- what else stands among the columns of the system
+  -- what else is among the columns of the system
   beside : {lower : Bool} {ks : List ColumnKey} {xs : List Laid} (ys : List Laid)
       → (AreAmong (keys_by lower ks) keys → Ranked (length keys) ys) → Fill lower ks xs → Fill lower ks (xs ++ ys)
   beside {lower} {ks} {xs} ys h p = record {

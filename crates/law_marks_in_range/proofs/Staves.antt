@@ -1,4 +1,4 @@
--- The marks of a staff stand in columns of the system, and each column that its voices call for holds one.
+-- The marks of a staff are in columns of the system, and each column that its voices call for holds one.
 use Rattle.std.proofs.Common.{ℕ, ◌+◌, ◌<◌, ◌≤◌, inl, inr, List, [], ◌∷◌, ◌++◌, length, Option, Some, arith}
 use Rattle.std.proofs.lemmas.List.Elements.{Contains-append_cases}
 use Rattle.std.specs.List.{AllByRecursion, Contains, flat_map}

@@ -1,4 +1,4 @@
--- The rows of a title block stand within it, and their texts can be printed.
+-- The rows of a title block are within it, and their texts can be printed.
 use Rattle.std.proofs.Common.{ℕ, ◌+◌, ◌≤◌, List, [], ◌∷◌, length, Option, arith}
 use Rattle.std.proofs.lemmas.Int.{ints}
 use Rattle.std.proofs.lemmas.List.Elements.{All-from_recursion}

@@ -1,11 +1,11 @@
--- The columns at which marks stand, by their ranks.
+-- The columns of marks, by their ranks.
 use Rattle.std.specs.{Prelude.{ℕ, ◌<◌, ◌==◌, IsTrue, List, All, flat_map}, List.{filter_map, list_any}}
 use Rattle.mus_laid.specs.declared.laid.Mark.{Mark}
 use Rattle.mus_laid.specs.declared.laid.Laid.{Laid}
 use Rattle.mus_laid.specs.declared.laid.StaffMarks.{StaffMarks}
 use Rattle.mus_laid.specs.Ranked.{anchor_rank}
 
--- a mark stands at one of n columns; a beam or an arc goes from one of them to a later one
+-- a mark is at one of n columns; a beam or an arc goes from one of them to a later one
 abbrev pub IsRanked : ℕ → Mark → Type 0
 IsRanked n (Mark.Glyph glyph rank dx dy) = rank < n
 IsRanked n (Mark.Words size rank dx dy text) = rank < n
@@ -16,7 +16,7 @@ IsRanked n (Mark.Arc first last from to bulge) = (first < last) × (last < n)
 abbrev pub AreMarksRanked : ℕ → List Laid → Type 0
 AreMarksRanked n all = All (λ laid. IsRanked n laid.mark) all
 
--- the ranks at which glyphs, words and stems stand
+-- the ranks of glyphs, words and stems
 abbrev pub marks_ranks : List Laid → List ℕ
 marks_ranks all = filter_map (λ laid. anchor_rank laid.mark) all
 

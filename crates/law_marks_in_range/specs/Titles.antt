@@ -1,4 +1,4 @@
--- The rows of a title block, as they stand on a page.
+-- The rows of a title block, as shown on a page.
 use Rattle.std.specs.Prelude.{ℕ, pos, ◌≤ℤ◌}
 use Rattle.{lay_pages.specs.declared.titles.TitleRow.{TitleRow}, law_marks_in_range.specs.Texts.{IsPrinted}}
 

@@ -1,4 +1,4 @@
--- The list that the table leads back is the chosen one.
+-- The list on the way back through the table is the chosen one.
 use Rattle.std.proofs.Common.{◌≡◌, ℕ, ◌+◌, ◌<◌, ◌≤◌, Bool, List, [], ◌∷◌, Option, Some, None, unwrap_or, refl, sym, ◌∙◌}
 use Rattle.std.proofs.Common.{subst, arith, inl, inr, slice_index, slice_index_or}
 use Rattle.std.proofs.lemmas.Bool.{cases_lt, cases_eq}
@@ -15,7 +15,7 @@ pub record IsChosenBack (cost : ℕ → ℕ → Option ℕ) (forced : ℕ → Bo
   pub latest : (s : List ℕ) → IsBack cost forced s → top s ≡ i → sum_back cost s ≡ sum_back cost r → LexAtMost s r
 
 module _ (cost : ℕ → ℕ → Option ℕ) (forced : ℕ → Bool) where
-  -- a list that ends at bar 0 has no bar
+  -- a list that ends at bar 0 has no bars
   pub at_zero : (P : List ℕ → Type 0) → P [] → (s : List ℕ) → IsBack cost forced s → top s ≡ 0 → P s
   at_zero P p [] b e = p
   at_zero P p (x ∷ s) b e = let l : top s < x = b.0.rises in absurd (omega arith)
@@ -55,7 +55,7 @@ module _ (cost : ℕ → ℕ → Option ℕ) (forced : ℕ → Bool) where
   lex_under (x ∷ s) [] l = absurd (omega arith)
   lex_under (x ∷ s) (y ∷ r) l = inl l
 
-  -- the chosen list to the place where the best way to bar i begins, and then i
+  -- the chosen list to the bar where the best way to bar i begins, and then i
   pub chosen_more : (m i v a : ℕ) (r : List ℕ)
       → 0 < i → i ≤ m → IsRow cost forced m i (Some v) a → IsChosenBack cost forced a r
       → IsChosenBack cost forced i (i ∷ r)
@@ -126,7 +126,7 @@ module _ (cost : ℕ → ℕ → Option ℕ) (forced : ℕ → Bool) where
     | inr z ↦ row_least m i v (slice_index fs i) (omega arith) lm (rw is at (h.rows i (omega arith) le))
   ]
 
-  -- what the numbers in the table lead back is chosen
+  -- the list on the way back through the table is chosen
   pub follows_chosen : (n : ℕ) (ps : List (Option ℕ)) (fs : List ℕ)
       → IsBreakTable cost forced n n ps fs → (r : List ℕ) (i v : ℕ) → i ≤ n → slice_index_or ps i None ≡ Some v
       → LeadsBack fs i r

@@ -1,4 +1,5 @@
--- What an error of `least` says: NoWay that no legal breaking exists, and how far a legal prefix goes; Memory nothing.
+-- What an error of `least` says. `NoWay`: no legal breaking exists, and how far a legal prefix goes. `Memory`:
+-- nothing.
 use Rattle.std.specs.Prelude.{ℕ, Bool, Option}
 use Rattle.lay_breaks.specs.Breaking.{NoneLegal, IsReached}
 use Rattle.lay_breaks.specs.declared.breaking.BreakError.{BreakError}

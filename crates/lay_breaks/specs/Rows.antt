@@ -1,5 +1,5 @@
--- Costs kept as rows: row a has the costs of the spans from bar a to a + 1, a + 2 and so on, up to the last that fits.
--- So a span that is longer than one that doesn't fit doesn't fit either.
+-- Costs as rows: row a has the costs of the spans from bar a to a + 1, a + 2 and so on, up to the last that fits. So
+-- a span that is longer than one that doesn't fit doesn't fit either.
 use Rattle.std.specs.Prelude.{◌≡◌, ℕ, ◌-◌, ◌<◌, ◌≤◌, ◌^◌, List, length, Option, Some, None, IfSome, All}
 use Rattle.std.specs.Prelude.{option_and_then, slice_get, slice_index_or, refl}
 use Rattle.std.proofs.Common.{arith, sym, ◌∙◌, inl, inr}
@@ -21,7 +21,7 @@ stop_in xs i j l e = elim (cases_lt j (length xs)) [
   | inr ge ↦ slice_get_past xs j ge
 ]
 
--- what follows from the form: the two laws of costs
+-- consequences of the form: the two laws of costs
 pub rows_stop : (rows : List (List ℕ)) (a b c : ℕ) → a < b → b < c → row_cost rows a b ≡ None → row_cost rows a c ≡ None
 rows_stop rows a b c l m e = at (slice_get rows a) e
   where

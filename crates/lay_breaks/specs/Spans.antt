@@ -1,6 +1,6 @@
--- Costs kept as a list of the spans that fit, by the bar at which they begin and then by the bar at which they end.
--- From each bar the list has the spans from the shortest to the longest that fits, so a span that is longer than one
--- that isn't listed isn't listed either.
+-- Costs as a list of the spans that fit, by the bar at which they begin and then by the bar at which they end. From
+-- each bar the list has the spans from the shortest to the longest that fits, so a span that is longer than one that
+-- isn't listed isn't listed either.
 use Rattle.std.specs.Prelude.{◌≡◌, ℕ, ◌+◌, ◌-◌, ◌<◌, ◌≤◌, ◌^◌, ◌⊎◌, ◌==◌, ◌&&◌, Bool, true, false, List, [], ◌∷◌}
 use Rattle.std.specs.Prelude.{Option, Some, None, MatchOption, IfSome, IsSome, if◌then◌else◌, zero, suc, refl}
 use Rattle.std.proofs.Common.{arith, sym, ◌∙◌, ap, subst, inl, inr, is_some}
@@ -8,12 +8,12 @@ use Rattle.std.proofs.lemmas.Bool.{true≢false}
 use Rattle.std.proofs.lemmas.Bool.Decides.{nat_tests}
 use Rattle.lay_breaks.specs.declared.costs.Span.{Span}
 
--- the span s stands directly after the span p: it begins further on and is the shortest from its bar, or it is p with
--- one bar more
+-- the span s comes directly after the span p: it begins further on and is the shortest from its bar, or it is p with
+-- one more bar
 abbrev pub IsNextSpan : Span → Span → Type 0
 IsNextSpan p s = ((p.a < s.a) × (s.b ≡ s.a + 1)) ⊎ ((s.a ≡ p.a) × (s.b ≡ p.b + 1))
 
--- of n bars the span s may stand after the last span so far, if there is one
+-- of n bars the span s may come after the last span so far, if there is one
 pub record MayFollow (n : ℕ) (last : Option Span) (s : Span) : Type 0 where
   pub rises : s.a < s.b
   pub within : s.b ≤ n
@@ -31,12 +31,12 @@ AreSpans n spans = SpansFrom n None spans
 abbrev pub has_ends : ℕ → ℕ → Span → Bool
 has_ends a b s = (s.a == a) && (s.b == b)
 
--- the cost of the span from a to b, or None where it isn't listed
+-- the cost of the span from a to b, or None if it isn't listed
 abbrev pub listed : List Span → ℕ → ℕ → Option ℕ
 listed [] a b = None
 listed (s ∷ ss) a b = if has_ends a b s then Some s.badness else listed ss a b
 
--- What follows from the form: the two laws of costs.
+-- Consequences of the form: the two laws of costs.
 pub listed_small : (n : ℕ) (last : Option Span) (ss : List Span)
     → SpansFrom n last ss → (a b : ℕ) → IfSome (listed ss a b) (λ v. v ≤ 2 ^ 40)
 listed_small n last [] h a b = tt
@@ -52,7 +52,7 @@ ends_are a b s e = grind (arith, nat_tests)
 pub has_these : (a b : ℕ) (s : Span) → s.a ≡ a → s.b ≡ b → has_ends a b s ≡ true
 has_these a b s e f = grind (arith, nat_tests)
 
--- the list behind s has the span, or s is it
+-- the list after s has the span, or s is it
 pub listed_more : (a b : ℕ) (s : Span) (ss : List Span) → IsSome (listed ss a b) → IsSome (listed (s ∷ ss) a b)
 listed_more a b s ss h =
     elim (has_ends a b s) as (λ t. IsSome (if t then Some s.badness else listed ss a b)) [ true ↦ refl | false ↦ h ]
@@ -60,7 +60,7 @@ listed_more a b s ss h =
 pub listed_first : (a b : ℕ) (s : Span) (ss : List Span) → s.a ≡ a → s.b ≡ b → IsSome (listed (s ∷ ss) a b)
 listed_first a b s ss e f = rw (has_these a b s e f) refl
 
--- where a span is listed, the span with one bar less is, or it is the one before the list
+-- if a span is listed, so is the span with one bar less, or it is the one before the list
 span_one_less : (n : ℕ) (last : Option Span) (ss : List Span) (a c : ℕ)
     → a < c → SpansFrom n last ss → IsSome (listed ss a (c + 1))
     → IsSome (listed ss a c) ⊎ MatchOption last ⊥ (λ p. (p.a ≡ a) × (p.b ≡ c))

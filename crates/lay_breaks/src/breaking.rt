@@ -11,19 +11,19 @@ use std::alloc::{AllocError, Global};
 /// A breaking of the bars 1 to n.
 #[derive(Drop)]
 pub struct Breaking {
-    /// The bars at which its spans end, rising; the last is n. Empty where n is 0.
+    /// The bars at which its spans end, rising; the last is n. Empty if n is 0.
     pub breaks: Row<u32>,
-    /// What its spans cost together.
+    /// The total cost of its spans.
     pub total: u64,
-    /// For each bar of 0 to n the least sum of a legal prefix that ends there,
-    /// or `None` where no legal prefix does.
+    /// For each bar from 0 to n the least sum of a legal prefix that ends there, or `None` if no
+    /// legal prefix does.
     pub potentials: Row<Option<u64>>,
 }
 
 /// Why there is no breaking.
 #[derive(Clone, Copy, PartialEq, Eq)]
 pub enum BreakError {
-    /// There is no legal breaking; `reached` is the greatest bar at which a legal prefix ends.
+    /// No breaking is legal; `reached` is the greatest bar at which a legal prefix ends.
     NoWay { reached: u32 },
     /// Memory ran out.
     Memory,
@@ -37,11 +37,11 @@ impl From<AllocError> for BreakError {
     }
 }
 
-/// The legal breaking of the bars 1 to `n` that is least in sum; among equals
-/// the one that, read from its end, is lexicographically greatest.
+/// Returns the legal breaking of the bars 1 to `n` that is least in sum. Among equals it is the one
+/// that, read from its end, is lexicographically greatest.
 ///
-/// `n` is the number of bars of `costs`. `NoWay` comes exactly where no legal breaking exists. From each
-/// bar it asks for the spans from the shortest on, up to the first that doesn't fit.
+/// `n` is the number of bars of `costs`. Returns `NoWay` exactly when no legal breaking exists.
+/// From each bar it asks for the spans from the shortest on, up to the first that doesn't fit.
 pub fn least<K: Costs>(alloc: Global, costs: &K, n: u32) -> Result<Breaking, BreakError>
     requires bars { n ≡ K.bars costs.now }
     requires few { n ≤ 8388608 }
@@ -68,7 +68,7 @@ pub fn least<K: Costs>(alloc: Global, costs: &K, n: u32) -> Result<Breaking, Bre
     }
 }
 
-/// The law that one breaking alone is chosen: two calls that know the same costs agree.
+/// The law that the chosen breaking is unique: two calls with the same costs agree.
 pub fn one_is_chosen()
     ensures { OneIsChosen }
 {}

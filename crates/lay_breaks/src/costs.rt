@@ -1,24 +1,24 @@
 ghost use Rattle.std.specs.Prelude.{◌≡◌, ◌^◌, ◌<◌, ◌≤◌, ℕ, Bool, Option, false, IfSome};
 
-/// What the spans between bars cost, and which bars are forced. Bars are
-/// numbered from 1; 0 stands before the first.
+/// The costs of spans between bars, and which bars are forced. Bars are numbered from 1; 0 is
+/// before the first.
 pub trait Costs {
     /// The number of bars.
     ghost bars: { Self → ℕ };
 
-    /// What the span from one bar to another costs, where it fits.
+    /// The cost of the span from one bar to another, if it fits.
     ghost badness: { Self → ℕ → ℕ → Option ℕ };
 
     /// Whether each legal breaking has the bar.
     ghost is_forced: { Self → ℕ → Bool };
 
-    /// What the span from bar `a` to bar `b` costs, or `None` where it doesn't fit.
+    /// Returns the cost of the span from bar `a` to bar `b`, or `None` if it doesn't fit.
     fn cost(&self, a: u32, b: u32) -> Option<u64>
         requires rising { a < b }
         requires within { b ≤ bars self.now }
         ensures { result ≡ badness self.now a b };
 
-    /// Whether each legal breaking has bar `b`.
+    /// Returns whether each legal breaking has bar `b`.
     fn forced(&self, b: u32) -> bool
         requires { b ≤ bars self.now }
         ensures { result ≡ is_forced self.now b };
@@ -34,12 +34,12 @@ pub trait Costs {
     ghost begins_free: { (s : Self) → is_forced s 0 ≡ false };
 }
 
-/// A span that fits, and what it costs.
+/// A span that fits, and its cost.
 #[derive(Clone, Copy, PartialEq, Eq)]
 pub struct Span {
     /// The bar after which it begins.
     pub a: u32,
-    /// The bar with which it ends, past `a`.
+    /// The bar with which it ends, after `a`.
     pub b: u32,
     pub badness: u64,
 }

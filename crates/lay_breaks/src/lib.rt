@@ -1,7 +1,7 @@
-//! The breaking of a row of bars into spans that costs least.
+//! Breaks a row of bars into spans at the least cost.
 //!
-//! Whoever knows what the span from each bar to each later one costs implements `Costs`; `least` then
-//! gives the one legal breaking that is least in sum and, among equals, last.
+//! A type that knows the cost of the span from each bar to each later one implements `Costs`.
+//! `least` then returns the one legal breaking that is least in sum and, among equals, last.
 #![tactic(auto)]
 
 pub mod breaking;

@@ -1,4 +1,4 @@
-// The table of the search, and what is read off it.
+// The table of the search, and reading the breaking from it.
 
 ghost use Rattle.std.specs.Prelude.{◌≡◌, ◌+◌, ◌^◌, ◌<◌, ◌≤◌, ℕ, Option, List, if◌then◌else◌, nat_lt, IfOk, IsSome};
 ghost use Rattle.std.specs.Prelude.{IsTrue, length, reverse, vec_len, slice_index, slice_index_or, slice_set};
@@ -7,14 +7,16 @@ ghost use Rattle.lay_breaks.specs.Table.{IsBreakTable, IsLeastBack, IsOffered, L
 use crate::costs::Costs;
 use std::alloc::{AllocError, Global};
 
-/// For each bar the least sum of a legal prefix that ends there, and where its last span begins.
+/// For each bar the least sum of a legal prefix that ends there, and the bar at which its last span
+/// begins.
 #[derive(Drop)]
 pub struct BreakTable {
     pub potentials: Vec<Option<u64>>,
     pub froms: Vec<u32>,
 }
 
-/// Takes note that bar i is reached at `sum` by a last span from bar a, unless it is known to be reached at less.
+/// Records that bar i is reached at `sum` by a last span from bar a, unless it is known to be
+/// reached at less.
 fn offer(potentials: &mut [Option<u64>], froms: &mut [u32], i: usize, sum: u64, a: u32)
     requires one_each { i < length potentials.old }
     requires one_from { i < length froms.old }
@@ -60,6 +62,7 @@ fn try_spans<K: Costs>(
     }
 }
 
+/// Returns the table of the bars 0 to `n`, once all spans have been tried.
 pub fn fill<K: Costs>(alloc: Global, costs: &K, n: u32) -> Result<BreakTable, AllocError>
     requires bars { n ≡ K.bars costs.now }
     requires few { n ≤ 8388608 }
@@ -81,7 +84,7 @@ pub fn fill<K: Costs>(alloc: Global, costs: &K, n: u32) -> Result<BreakTable, Al
     Ok(BreakTable { potentials, froms })
 }
 
-/// The bars that `froms` leads back from n, rising.
+/// Returns the bars on the way back from n through `froms`, rising.
 pub fn walk_back(alloc: Global, froms: &[u32], n: u32) -> Result<Vec<u32>, AllocError>
     requires one_from { length froms.now ≡ n + 1 }
     requires falls { (i : ℕ) → 0 < i → i ≤ n → slice_index froms.now i < i }
@@ -97,7 +100,7 @@ pub fn walk_back(alloc: Global, froms: &[u32], n: u32) -> Result<Vec<u32>, Alloc
     Ok(back)
 }
 
-/// The last bar that has a potential.
+/// Returns the last bar that has a potential.
 pub fn last_reached(potentials: &[Option<u64>], n: u32) -> u32
     requires one_each { length potentials.now ≡ n + 1 }
     requires begins { slice_index_or potentials.now 0 Option.None ≡ Option.Some 0 }

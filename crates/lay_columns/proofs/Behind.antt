@@ -1,4 +1,4 @@
--- Behind its head, a measure that begins without a change has the columns that it has in a system which began before.
+-- After its head, a measure that begins without a change has the columns that it has in a system which began before.
 use Rattle.std.proofs.Common.{◌≡◌, ◌∙◌, ℕ, ◌+◌, ◌-◌, ◌<◌, ◌≤◌, ◌==◌, ◌&&◌, not, Bool, true, false, if◌then◌else◌, min}
 use Rattle.std.proofs.Common.{List, [], ◌∷◌, ◌++◌, length, map, drop, Option, Some, None, refl, sym, ap, subst, arith}
 use Rattle.std.proofs.lemmas.Bool.Decides.{nat_tests}
@@ -83,7 +83,7 @@ both_pass : {X : Type 0} (P Q : X → Type 0) (xs : List X)
 both_pass P Q [] p q = tt
 both_pass P Q (x ∷ xs) p q = ((p.0, q.0), both_pass P Q xs p.1 q.1)
 
--- ---- the marks behind the head
+-- ---- the marks after the head
 module _ (lengths : List ℕ) (m n : ℕ) (some : 1 ≤ m) (within : m < n) (own : List ColumnKey)
     (rise : Rises (head_key m ∷ own)) where
   abbrev Behind : DrawnVoice → Type 0
@@ -171,7 +171,7 @@ module _ (lengths : List ℕ) (m n : ℕ) (some : 1 ≤ m) (within : m < n) (own
   staves_behind [] h = tt
   staves_behind (vs ∷ staves) h = (parts_behind 1 vs h.0, staves_behind staves h.1)
 
--- ---- the columns behind the head
+-- ---- the columns after the head
 some_voice : (f : Voice → List ColumnKey) (k : ColumnKey) (vs : List Voice) → Contains (flat_map f vs) k → 1 ≤ length vs
 some_voice f k [] (i, inside, is) = absurd (omega (arith, inside))
 some_voice f k (v ∷ vs) has = omega arith

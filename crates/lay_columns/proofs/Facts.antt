@@ -1,4 +1,4 @@
--- What is true of the columns of one measure: they stand in it, the last is its bar, and texts are short.
+-- Facts of the columns of one measure: they belong to it, the last is its bar, and texts are short.
 use Rattle.std.proofs.Common.{◌≡◌, ◌∙◌, ℕ, zero, suc, ◌+◌, ◌-◌, ◌<◌, ◌≤◌, Bool, true, false, List, [], ◌∷◌, length, map}
 use Rattle.std.proofs.Common.{take, drop, Some, Ok, Err, IfOk, Result, refl, sym, ap, subst, arith}
 use Rattle.std.proofs.lemmas.Bool.Decides.{nat_tests}
@@ -49,7 +49,7 @@ slice_one m xs h =
     let count : m + 1 - m ≡ 1 = omega arith in
     (one.0, ap (λ n. take n (drop m xs)) count ∙ one.1)
 
--- ---- answers
+-- ---- returned values
 pub ok_through : {X E : Type 0} (P Q : X → Type 0) → ((x : X) → P x → Q x) → (r : Result X E) → IfOk r P → IfOk r Q
 ok_through P Q f (Ok x) h = f x h
 ok_through P Q f (Err e) h = tt
@@ -127,7 +127,7 @@ slice_bar lengths m in_head signed xs h =
     subst (λ t. Contains (measures_keys lengths m in_head signed t) (bar_key lengths m)) (sym one.1)
     (has_bar lengths m in_head signed one.0)
 
--- the first voice calls for all keys of its own
+-- all keys of the first voice are called for
 pub led_voice : (f : Voice → List ColumnKey) (n : ℕ) (k : ColumnKey) (vs : List Voice)
     → 1 ≤ length vs → IsLed vs → All (λ v. length v.measures ≡ n) vs
     → ((v : Voice) → length v.measures ≡ n → Contains (f v) k)

@@ -1,4 +1,4 @@
--- Behind the key of its head, a measure that begins without a change has the keys that it has in a system which began
+-- After the key of its head, a measure that begins without a change has the keys that it has in a system which began
 -- before.
 use Rattle.std.proofs.Common.{◌≡◌, ◌∙◌, ℕ, zero, suc, ◌+◌, ◌-◌, ◌<◌, ◌≤◌, ◌==◌, ◌&&◌, ◌||◌, ◌⊎◌, inl, inr, Bool, true}
 use Rattle.std.proofs.Common.{false, if◌then◌else◌, List, [], ◌∷◌, ◌++◌, length, take, drop, Option, None, is_none}

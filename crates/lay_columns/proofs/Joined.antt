@@ -119,7 +119,7 @@ HasBars lengths a b ks = (m : ℕ) → a ≤ m → m < b → Contains ks (bar_ke
 abbrev pub HasMeasures : List ℕ → ℕ → DrawnVoice → Type 0
 HasMeasures lengths n v = (length v.measures ≡ n) × Fit lengths 0 v.measures
 
--- its marks stand in the columns of the system
+-- its marks are in the columns of the system
 module _ (lengths : List ℕ) (a b n : ℕ) (keys : List ColumnKey) (order : a < b) (within : b ≤ n)
     (bars : HasBars lengths a b keys) where
   part_below : (first : ℕ) (v : DrawnVoice)

@@ -1,4 +1,4 @@
--- Marks with the same boxes: where words go changes heights alone, and beams and arcs have no box.
+-- Marks with the same boxes: the room of words affects heights only, and beams and arcs have no box.
 use Rattle.std.proofs.Common.{◌≡◌, ◌∙◌, ℕ, ℤ, ◌+◌, ◌<◌, ◌==◌, ◌&&◌, ◌||◌, Bool, true, false, if◌then◌else◌, List, []}
 use Rattle.std.proofs.Common.{◌∷◌, ◌++◌, length, map, Option, Some, None, refl, sym, ap, subst}
 use Rattle.std.proofs.lemmas.List.{append-nil, map-append}
@@ -174,7 +174,7 @@ bridges_none keys [] rank lane = refl
 bridges_none keys (b ∷ bs) rank lane =
     bridge_none keys lane rank b.first b.last b.span bs ∙ bridges_none keys bs rank lane
 
--- ---- a mark that stands elsewhere has no box in a column
+-- ---- a mark of another column has no box in this one
 not_here : (rank : ℕ) (m : Mark) → is_rank rank (anchor_rank m) ≡ false → is_lane_number rank (mark_rank m) ≡ false
 not_here rank (Mark.Glyph glyph r dx dy) h = h
 not_here rank (Mark.Words size r dx dy text) h = h
@@ -186,7 +186,7 @@ no_box : (rank lane : ℕ) (x : Laid) → stands_at_rank rank x ≡ false → bo
 no_box rank lane x h =
     ap (λ c. if c && is_lane_number lane (lane_number x.lane) then sides_of x.mark else None) (not_here rank x.mark h)
 
--- ---- a staff has the boxes of its columns alone, in any place
+-- ---- a staff has only the boxes of its columns, in any room
 abbrev pub core_part : List ColumnKey → List ℕ → ℕ → ℕ → ℕ → DrawnVoice → List Laid
 core_part keys lengths a b first v =
     columns_part keys lengths (Some (fixed_place first)) a v.seat v.first (slice_range v.measures a b)

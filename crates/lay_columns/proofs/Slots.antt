@@ -1,5 +1,5 @@
--- What stands in the columns of a staff, without its ranks: marks with the key of the column of each.
--- With the rank of each key they are the marks of the staff, so that what moves the ranks moves them.
+-- The slots of a staff: its marks without ranks, each with the key of its column. With the rank of each key they are
+-- the marks of the staff, so moving the ranks moves the marks.
 use Rattle.std.proofs.Common.{◌≡◌, ◌∙◌, ℕ, pos, ◌+◌, ◌<◌, ◌==◌, ◌&&◌, ◌||◌, not, Bool, true, false, if◌then◌else◌, List}
 use Rattle.std.proofs.Common.{[], ◌∷◌, ◌++◌, map, Some, refl, sym, ap}
 use Rattle.std.proofs.lemmas.List.{append-nil, append_assoc, map-append}

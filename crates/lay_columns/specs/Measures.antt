@@ -1,6 +1,5 @@
--- The columns of one measure: in a system that begins with it, and in one that began before. Heights, and what texts
--- stand in a column before, are of no account to columns, so that syllables and texts stand in a place that is always
--- the same.
+-- The columns of one measure: in a system that begins with it, and in one that began before. Columns depend neither
+-- on heights nor on the texts already in a column, so syllables and texts are placed in a fixed room.
 use Rattle.std.specs.Prelude.{◌≡◌, ℕ, pos, ◌+◌, ◌-◌, ◌==◌, Bool, true, false, List, [], ◌∷◌, ◌++◌, drop, map, min}
 use Rattle.std.specs.Prelude.{slice_get, slice_range, Option, Some, None}
 use Rattle.mus_score.specs.declared.score.Score.{Score}
@@ -22,7 +21,7 @@ use Rattle.mus_marks.specs.System.{drawn_staves}
 use Rattle.lay_reaches.specs.declared.column.Column.{Column}
 use Rattle.lay_reaches.specs.Columns.{columns_of}
 
--- over the lines of the staff
+-- a room over the lines of the staff
 abbrev pub fixed_room : StaffRoom
 fixed_room = record { low = pos 0; high = pos 2000; verses = 0 }
 
@@ -33,13 +32,13 @@ fixed_place first = record { room = fixed_room; first = first; before = [] }
 abbrev pub staff_of_columns : List Laid → StaffMarks
 staff_of_columns marks = record { marks = marks; low = pos 0; high = pos 2000 }
 
--- what the voices of a staff have, one after the other, each with its verses behind those of the voices before it
+-- the parts of the voices of a staff, one after the other, each with its verses after those of the voices before it
 abbrev pub parts_from : (ℕ → DrawnVoice → List Laid) → ℕ → List DrawnVoice → List Laid
 parts_from part first [] = []
 parts_from part first (v ∷ vs) = part first v ++ parts_from part (first + v.verses) vs
 
--- What stands in the columns of measure m of a voice: where the system begins with it, with the system's head and the
--- bar before the first measure; where it began before, each event behind its change and its graces, and the bar.
+-- The marks in the columns of measure m of a voice. If the system begins with it: with the system's head and the bar
+-- before the first measure. If the system began before: each event after its change and its graces, and the bar.
 abbrev pub measure_part : Bool → List ColumnKey → List ℕ → ℕ → ℕ → DrawnVoice → List Laid
 measure_part true keys lengths m first v =
     columns_part keys lengths (Some (fixed_place first)) m v.seat v.first (slice_range v.measures m (m + 1))
@@ -73,8 +72,8 @@ pub record AreMeasureColumns (begins : Bool) (s : Score) (t : Timeline) (m : ℕ
       ≡ columns_of (keys_in columns) (map (measure_staff begins (keys_in columns) t.lengths m) (drawn_staves s))
       t.lengths verses
 
--- those of measure m in a system that begins with the measure before it, if there is one: they have their own, or stand
--- behind the head of those in a system that begins with m
+-- those of measure m in a system that begins with the measure before it, if there is one: either its own, or those in
+-- a system that begins with m, without the head
 abbrev pub further_of : ℕ → List Column → Option (List Column) → List Column
 further_of m begun None = drop (min m 1) begun
 further_of m begun (Some own) = own

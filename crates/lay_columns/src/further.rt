@@ -15,7 +15,7 @@ use mus_score::Score;
 use mus_units::{Memory, Row};
 use std::alloc::Global;
 
-/// Whether the first of some events changes neither clef nor key nor meter.
+/// Returns whether the first of some events changes neither clef nor key nor meter.
 fn first_plain(events: &[DrawnEvent<'_>]) -> bool
     ensures { result ≡ first_plain events.now }
 {
@@ -25,7 +25,7 @@ fn first_plain(events: &[DrawnEvent<'_>]) -> bool
     }
 }
 
-/// Whether measure `m` of a voice begins without a change.
+/// Returns whether measure `m` of a voice begins without a change.
 fn begins_plain(m: u32, v: &DrawnVoice<'_>) -> bool
     ensures { result ≡ begins_plain m v.now }
 {
@@ -41,9 +41,9 @@ fn begin_plain(m: u32, voices: &[DrawnVoice<'_>]) -> bool
     voices.iter().all(|v| begins_plain(m, v))
 }
 
-/// The columns of measure `m` in a system that begins with the measure before it, as `measure_columns`
-/// gives them, where they aren't those of a system that begins with `m` itself, behind its head. The
-/// only error is want of memory.
+/// Returns the columns of measure `m` in a system that begins with the measure before it, as
+/// `measure_columns` does. `None` if they are those of a system that begins with `m` itself,
+/// without its head.
 pub fn further_columns(
     alloc: Global,
     s: &Score,
@@ -66,8 +66,9 @@ pub fn further_columns(
     Ok(Some(measure_columns(alloc, s, voices, t, m - 1, m, verses)?))
 }
 
-/// The columns of measure `m` in a system that begins with the measure before it, if there is one:
-/// `own`, as `further_columns` gives them, or those in a system that begins with `m`, behind its head.
+/// Returns the columns of measure `m` in a system that begins with the measure before it, if there
+/// is one: `own`, as `further_columns` returns them, or those in a system that begins with `m`,
+/// without its head.
 pub fn further_of<'a>(m: u32, begun: &'a [Column], own: &'a Option<Row<Column>>) -> &'a [Column]
     ensures { result.now ≡ further_of m begun.now own.now }
 {

@@ -1,6 +1,6 @@
-//! The columns of one measure at a time: put one after the other they are the columns of a system,
-//! so that spans of measures can be tried by adding a measure to the one before. It gives out the columns of a
-//! system of `lay_reaches`.
+//! Builds the columns of one measure at a time. Put one after the other, they are the columns of a
+//! system, so that spans of measures can be tried by adding one measure at a time. Re-exports the
+//! columns of a system of `lay_reaches`. The only error of its calls is out of memory.
 #![tactic(auto)]
 
 pub mod further;

@@ -22,8 +22,8 @@ use mus_time::{SystemFrame, measure_keys};
 use mus_units::{Memory, Row};
 use std::alloc::Global;
 
-/// Where the words of a voice go whose verses count from `first` on: heights, and the texts that stand
-/// there before, are of no account to columns.
+/// Returns the room for the words of a voice whose verses count from `first` on. Columns depend
+/// neither on heights nor on the texts that are there before.
 fn fixed_place(alloc: Global, first: u8) -> WordRoom
     ensures { result ≡ fixed_place first }
 {
@@ -48,8 +48,8 @@ fn staff_of_columns(marks: Row<Laid>) -> StaffMarks
     }
 }
 
-/// Lays what stands in the columns of the first measure of a frame of a voice whose verses count from
-/// `first` on; `begins` tells whether the system begins with the measure.
+/// Adds the marks in the columns of the first measure of a frame of a voice whose verses count from
+/// `first` on. `begins` says whether the system begins with the measure.
 fn put_part(
     pen: &mut MarkPen,
     frame: &SystemFrame<'_>,
@@ -75,7 +75,7 @@ fn put_part(
     }
 }
 
-/// What stands in the columns of the measure of a staff with these voices.
+/// Returns the marks in the columns of the measure of a staff with these voices.
 fn measure_staff(
     alloc: Global,
     frame: &SystemFrame<'_>,
@@ -97,7 +97,7 @@ fn measure_staff(
     Ok(staff_of_columns(pen.marks))
 }
 
-/// What stands in the columns of the measure of each staff.
+/// Returns the marks in the columns of the measure of each staff.
 fn measure_staves(
     alloc: Global,
     frame: &SystemFrame<'_>,
@@ -122,12 +122,12 @@ fn measure_staves(
     Ok(staves)
 }
 
-/// The columns of measure `m` in a system that begins with measure `a`, from the left to the right:
-/// where that is the same measure, its head, the bar before the first measure where it has features,
-/// and the measure's own; else the measure's own alone, where the change before the first event has a
-/// column too. `t` is the timeline of the score, `voices` its voices as `draw_voices` gives them, and
-/// `verses` has the number of verses of each staff. Columns are as those of `lay_reaches::columns`;
-/// the last is the measure's bar. The only error is want of memory.
+/// Returns the columns of measure `m` in a system that begins with measure `a`, from left to right.
+/// If `a` is `m`, they are the head, the bar before the first measure if it has features, and the
+/// measure's own columns. Otherwise they are the measure's own columns alone, and the change before
+/// the first event has a column too. `t` is the timeline of the score, `voices` its voices as
+/// `draw_voices` returns them, and `verses` has the number of verses of each staff. Columns are as
+/// those of `lay_reaches::columns`; the last is the measure's bar.
 pub fn measure_columns(
     alloc: Global,
     s: &Score,

@@ -6,8 +6,8 @@ use mus_marks::{lower_count, verses_on};
 use mus_units::{Memory, Row};
 use std::alloc::Global;
 
-/// How many verses each staff of these voices has, from the top. Voices of a good score have no more
-/// than 128 together. The only error is want of memory.
+/// Returns the number of verses of each staff of these voices, from the top. The voices of a good
+/// score have at most 128 together.
 pub fn staff_verses(alloc: Global, voices: &[DrawnVoice<'_>]) -> Result<Row<u8>, Memory>
     requires { verses_on voices.now ≤ 128 }
     ensures { IfOk result (λ r. r ≡ map verses_on (grouped is_drawn_lower voices.now)) }

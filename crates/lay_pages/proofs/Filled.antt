@@ -1,4 +1,4 @@
--- Where blocks are placed one after the other, each follows the one before it.
+-- If blocks are placed one after the other, each follows the one before it.
 use Rattle.std.proofs.Common.{◌≡◌, refl, ap, ◌∙◌, ℕ, ◌+◌, ◌≤◌, ℤ, pos, negsuc, ◌-ℤ◌, ◌≤ℤ◌, ◌<ℤ◌, Bool, true, false}
 use Rattle.std.proofs.Common.{List, [], ◌∷◌, arith}
 use Rattle.std.proofs.lemmas.Bool.Decides.{nat_tests}

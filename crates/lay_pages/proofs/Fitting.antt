@@ -1,4 +1,4 @@
--- A group that fits where it begins: each of its blocks lies on the page, and so does what follows.
+-- A group that fits where it begins: each of its blocks is on the page, and so is what follows.
 use Rattle.std.proofs.Common.{◌≡◌, refl, ap, sym, ◌∙◌, ℕ, suc, ◌+◌, ◌≤◌, ◌^◌, ℤ, pos, negsuc, ◌-ℤ◌, ◌≤ℤ◌, Bool, true}
 use Rattle.std.proofs.Common.{false, not, List, [], ◌∷◌, ◌++◌, append_assoc, length, subst, arith}
 use Rattle.std.proofs.lemmas.Bool.Decides.{nat_tests}
@@ -27,7 +27,7 @@ pub first_low : (block : Block) (more : List Block) → height_number block.heig
 first_low block [] = omega arith
 first_low block (next ∷ more) = kept_low block.keep (height_number block.height) (group_height (next ∷ more))
 
--- a place on the page, as an abscissa from its bottom
+-- a spot on the page, as a height above its bottom
 pub top_within : (high down : ℕ) → (pos high -ℤ pos down) ≤ℤ pos high
 top_within high down = omega (arith, ints)
 
@@ -44,7 +44,7 @@ on_the_page high place block more good ready =
     let fits = ready.fits in
     bottom_within high place.down block.height good.0.0 (omega (arith, first, fits))
 
--- no group from here on is too tall: not the one that begins here, and none behind it
+-- no group from here on is too tall: not the one that begins here, and none after it
 not_tall : (b : Bool) (n : ℕ) (others : Option ℕ) → tall_by b n others ≡ None → (b ≡ false) × (others ≡ None)
 not_tall true n others e = absurd cc
 not_tall false n others e = (refl, e)
@@ -53,7 +53,7 @@ fits_high : (tied : Bool) (high height : ℕ) → (not tied && nat_lt high heigh
 fits_high true high height e f = absurd cc
 fits_high false high height e f = grind (arith, nat_tests)
 
--- behind a block that is not tied, the first group fits where it is placed
+-- after a block that is not tied, the first group fits where it is placed
 loose_room : (keep : Bool) (page down others high : ℕ)
     → keep ≡ false → others ≤ high → (place_by (keep || nat_le (down + others) high) page down).down + others ≤ high
 loose_room true page down others high e low = absurd cc
@@ -62,7 +62,7 @@ loose_room false page down others high e low = by_test (nat_le (down + others) h
   by_test true e = grind (arith, nat_tests)
   by_test false e = omega (arith, low)
 
--- where the next block is placed, its group fits
+-- the group of the next block fits where that block is placed
 next_fits : (keep : Bool) (page down height others high : ℕ)
     → down + with_kept keep height others ≤ high → (keep ≡ false → others ≤ high)
     → (place_by (keep || nat_le (down + height + 1500 + others) high) page (down + height + 1500)).down + others ≤ high
@@ -162,7 +162,7 @@ behind_within high behind blocks place spots here at good can none =
     (within_from high (first_place high behind blocks) blocks good
     (record { fits = first_room high behind blocks can none; number = 0; tied = false; none = none }))
 
--- others may stand behind the last block, where it is not tied
+-- others may come after the last block if it is not tied
 pub end_of : (high most : ℕ) (place : BlockSpot) (blocks : List Block)
     → AreGoodBlocks blocks → IsLoose blocks → down_behind (standing_from high place blocks) ≤ most → most ≤ 2 ^ 32
     → CanFollow (standing_from high place blocks)

@@ -1,5 +1,4 @@
--- Blocks parted into pages that fit: each lies on its page, each comes behind the one before it,
--- and one parting is chosen.
+-- Blocks split into pages that fit: each is on its page, each comes after the one before it, and one split is chosen.
 use Rattle.std.proofs.Common.{◌≡◌, refl, ap, sym, ◌∙◌, subst, ℕ, zero, suc, ◌+◌, ◌-◌, ◌≤◌, ℤ, pos, negsuc, ◌≤ℤ◌, Bool}
 use Rattle.std.proofs.Common.{true, false, not, List, [], ◌∷◌, ◌++◌, append_assoc, length, take, drop, arith}
 use Rattle.std.proofs.lemmas.Bool.Decides.{nat_tests}
@@ -97,7 +96,7 @@ some_legal high n hs good none =
       fits = singles_fit high hs 0 n good;
     })
 
--- ---- behind a block the pages that are left fit
+-- ---- after a block the pages that are left fit
 
 -- a block that is tied to the next
 kept_fits : (high down group : ℕ) (ends : List ℕ) (block : Block) (more : List Block)
@@ -174,7 +173,7 @@ fits_behind high group (e ∷ ends) place block more fits = by block.keep refl (
         let f = loose k in
         turn_fits high place.down group e f.0 ends (pos (height_number block.height)) (group_heights more) f.1 t f.3
 
--- ---- one step of the parting
+-- ---- one step of the split
 pub parted_more : (high : ℕ) (ends later : List ℕ) (group next : ℕ) (place after : BlockSpot) (block : Block)
     (rest more : List Block) (spots new all : List Spot) (spot : Spot)
     → rest ≡ block ∷ more
@@ -233,7 +232,7 @@ page_next ends group place after block at =
 pub groups_next : (group next : ℕ) (block : Block) → next ≡ groups_behind group block → next ≤ group + 1
 groups_next group next block count = subst (λ n. n ≤ group + 1) (sym count) (count_next block.keep group)
 
--- ---- so each block lies on its page
+-- ---- so each block is on its page
 first_high : (block : Block) (more : List Block) (n : ℕ)
     → height_number block.height + 1500 ≤ stacked (take (suc n) (group_heights (block ∷ more)))
 first_high block more n = let low = first_low block more in omega (arith, low)
@@ -258,7 +257,7 @@ parted_within high group ends place (block ∷ more) good fits = (
       (fits_behind high group ends place block more fits),
 )
 
--- ---- and comes behind the one before it
+-- ---- and comes after the one before it
 comes : (high : ℕ) (ends : List ℕ) (group : ℕ) (place : BlockSpot) (block : Block)
     → pos 0 ≤ℤ block.height
     → ComesBehind high block (spot_at high place) (spot_at high (even_spot_after (turns ends group block) place block))
@@ -313,7 +312,7 @@ pub filled_if : (high : ℕ) (blocks : List Block) (r : Result (List Spot) PageE
 filled_if high blocks (Ok spots) within fill = filled_stacked high blocks spots within fill
 filled_if high blocks (Err e) within fill = tt
 
--- ---- of the chosen parting
+-- ---- of the chosen split
 pub chosen_fits : (high : ℕ) (blocks : List Block) (heights : List ℤ) (groups : ℕ) (breaks : List ℕ)
     → heights ≡ group_heights blocks → groups ≡ length heights
     → IsChosen (page_cost high heights) (λ b. false) groups breaks → AreFitting high 0 0 breaks (group_heights blocks)
@@ -321,7 +320,7 @@ chosen_fits high blocks heights groups breaks is count chosen =
     subst (AreFitting high 0 0 breaks) is
     (fitting high heights 0 breaks chosen.legal.rises (chosen.legal.ends ∙ count) chosen.legal.fits)
 
--- ---- one parting is chosen, so blocks have one list of spots
+-- ---- one split is chosen, so blocks have one list of spots
 pub one_spots : (even : Bool) (high : ℕ) (blocks : List Block) (spots others : List Spot)
     → AreSpots even high blocks spots → AreSpots even high blocks others → spots ≡ others
 one_spots even high blocks spots others (filled e is) (filled f other) = is ∙ sym other

@@ -1,4 +1,4 @@
--- Staves under one another are those that the function of the bases gives.
+-- Stacked staves are those that the function of the bases returns.
 use Rattle.std.proofs.Common.{◌≡◌, refl, sym, ap, ap₂, ◌∙◌, ℕ, suc, ◌+◌, ◌-◌, ◌<◌, ℤ, pos, negsuc, ◌+ℤ◌, ◌-ℤ◌, ◌≤ℤ◌}
 use Rattle.std.proofs.Common.{List, [], ◌∷◌, length, drop, get_or, add-one, drop-cons, arith, subst}
 use Rattle.std.proofs.lemmas.Int.{ints}
@@ -40,7 +40,7 @@ one_more staves gaps n bottom base low s g l m es eg up down =
 further_down : (bottom gap : ℕ) → under_top bottom -ℤ pos gap ≡ under_top (bottom + gap)
 further_down bottom gap = omega (arith, ints)
 
--- staves of which the first has its highest mark so far under the top
+-- staves of which the first has its highest mark this far below the top
 stacked_from : (top base low : ℕ) (gaps : List ℕ) (staff : StaffMarks) (more : List StaffMarks)
     → base ≡ top + above_base staff.high → low ≡ base + below_base staff.low
     → length gaps ≡ length more → AreGoodStaves (staff ∷ more)

@@ -1,6 +1,5 @@
--- Blocks on pages of which none is emptier than it must be: the groups of the blocks are parted into pages so that what
--- the pages cost together is least. A parting is a breaking of the groups:
--- the numbers of groups up to the end of each page.
+-- Blocks on evenly filled pages: the groups of the blocks are split into pages at the least total cost of the pages.
+-- A split is a breaking of the groups: the numbers of groups up to the end of each page.
 use Rattle.std.specs.Prelude.{◌≡◌, ◌<◌, ◌≤◌, ⊤, ℕ, zero, suc, ◌+◌, ◌-◌, ◌*◌, ◌/◌, ◌^◌, ◌==◌, nat_le, ℤ, pos, ◌≤ℤ◌, Bool}
 use Rattle.std.specs.Prelude.{true, false, not, ◌&&◌, if◌then◌else◌, List, [], ◌∷◌, length, take, drop, Option, Some}
 use Rattle.std.specs.Prelude.{None, IfSome, All, refl}
@@ -32,8 +31,8 @@ page_height heights = stacked heights - 1500
 abbrev pub span_height : List ℤ → ℕ → ℕ → ℕ
 span_height heights a b = page_height (take (b - a) (drop a heights))
 
--- What the page of the groups from a to b costs, where it fits: the square of what it leaves free, by 100;
--- and the last page nothing.
+-- The cost of the page of the groups from a to b, if it fits: the square of what it leaves free, by 100; the last
+-- page costs nothing.
 abbrev pub square : ℕ → ℕ
 square n = n * n
 
@@ -47,8 +46,8 @@ page_cost high heights a b =
 abbrev pub AreHeights : ℕ → List ℤ → Type 0
 AreHeights high heights = All (λ h. (pos 0 ≤ℤ h) × (h ≤ℤ pos high)) heights
 
--- Pages end behind the listed numbers of groups. Behind a block the next one stands under it, or where a page ends with
--- its group, at the top of the next page. `group` is how many groups ended before the block's own.
+-- Pages end after the listed numbers of groups. The block after another is under it or, if a page ends with that
+-- block's group, at the top of the next page. `group` is the number of groups that end before the block's own.
 abbrev pub ends_page : List ℕ → ℕ → Bool
 ends_page [] group = false
 ends_page (e ∷ ends) group = e == group + 1
@@ -67,7 +66,7 @@ even_spot_after turned place block = place_by (not turned) place.page (under pla
 abbrev pub groups_behind : ℕ → Block → ℕ
 groups_behind group block = if block.keep then group else group + 1
 
--- where blocks stand of which the first has this place
+-- the spots of blocks, the first of which has this spot
 abbrev pub parted_from : ℕ → List ℕ → ℕ → BlockSpot → List Block → List Spot
 parted_from high ends group place [] = []
 parted_from high ends group place (block ∷ more) =
@@ -78,7 +77,7 @@ parted_from high ends group place (block ∷ more) =
 abbrev pub parted_spots : ℕ → List ℕ → List Block → List Spot
 parted_spots high breaks blocks = parted_from high breaks 0 (record { page = 0; down = 0 }) blocks
 
--- Groups of which so many ended before go on pages with these ends; each page fits, the first from a place down.
+-- Groups, after `group` others, go on pages with these ends; each page fits, the first from `down` on.
 abbrev pub AreFitting : ℕ → ℕ → ℕ → List ℕ → List ℤ → Type 0
 AreFitting high down group [] heights = heights ≡ []
 AreFitting high down group (e ∷ ends) heights =
@@ -87,13 +86,13 @@ AreFitting high down group (e ∷ ends) heights =
     × (down + stacked (take (suc n) heights) ≤ high + 1500)
     × AreFitting high 0 e ends (drop (suc n) heights)
 
--- The blocks stand by the chosen parting: no other parting of the groups into pages that fit costs less.
+-- The blocks are placed by the chosen split: no other split of the groups into pages that fit costs less.
 pub record AreEven (high : ℕ) (blocks : List Block) (spots : List Spot) : Type 0 where
   pub breaks : List ℕ
   pub chosen : IsChosen (page_cost high (group_heights blocks)) (λ b. false) (length (group_heights blocks)) breaks
   pub value : spots ≡ parted_spots high breaks blocks
 
--- The spots of blocks: filled one under another, or parted evenly, unless there are more than 8,388,608 groups.
+-- The spots of blocks: filled one under another, or split evenly, unless there are more than 8,388,608 groups.
 abbrev pub most_groups : ℕ
 most_groups = 8388608
 
@@ -103,8 +102,8 @@ pub data AreSpots (even : Bool) (high : ℕ) (blocks : List Block) (spots : List
   parted : even ≡ true
       → length (group_heights blocks) ≤ most_groups → AreEven high blocks spots → AreSpots even high blocks spots
 
--- The block behind one stands 1500 under it on the same page, or at the top of the next page;
--- two of a group are never parted.
+-- The block after another is 1500 under it on the same page, or at the top of the next page; two blocks of a group
+-- are never separated.
 pub data ComesBehind (high : ℕ) (block : Block) (spot : Spot) (next : Spot) : Type 0 where
   same_page : next.page ≡ spot.page → next.top ≡ top_under block spot → ComesBehind high block spot next
   next_page : block.keep ≡ false → next.page ≡ suc spot.page → next.top ≡ pos high → ComesBehind high block spot next
@@ -117,7 +116,7 @@ ComeBehind high _ _ = ⊤
 abbrev pub StandByPages : ℕ → List Block → List Spot → Type 0
 StandByPages high blocks spots = BeginOn high spots × ComeBehind high blocks spots
 
--- What follows from the form: the two laws of costs.
+-- Consequences of the form: the two laws of costs.
 stacked_more : (n m : ℕ) (hs : List ℤ) → n ≤ m → stacked (take n hs) ≤ stacked (take m hs)
 stacked_more zero m hs le = omega arith
 stacked_more (suc n) zero hs le = absurd (omega arith)

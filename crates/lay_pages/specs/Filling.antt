@@ -1,4 +1,4 @@
--- Blocks on pages, from the top of a page down. A block that is tied to the next stands on one page with it; such a run
+-- Blocks on pages, from the top of a page down. A block that is tied to the next is on one page with it; such a run
 -- of blocks is a group.
 use Rattle.std.specs.Prelude.{◌≡◌, ◌^◌, ◌≤◌, ⊤, ℕ, suc, ◌+◌, nat_le, nat_lt, ℤ, pos, negsuc, ◌-ℤ◌, ◌≤ℤ◌, ◌<ℤ◌, Bool}
 use Rattle.std.specs.Prelude.{true, false, not, ◌&&◌, ◌||◌, List, [], ◌∷◌, Option, Some, None}
@@ -27,8 +27,8 @@ group_height [] = 0
 group_height (block ∷ []) = height_number block.height
 group_height (block ∷ next ∷ more) = with_kept block.keep (height_number block.height) (group_height (next ∷ more))
 
--- A place: the page, and how far below the top of the page. The next block stands under this one
--- where it is tied to it or its group fits there, else at the top of a new page.
+-- A spot: the page, and how far below the top of the page. The next block is under this one if it is tied to it or
+-- its group fits there, else at the top of a new page.
 abbrev pub under : BlockSpot → Block → ℕ
 under place block = place.down + height_number block.height + 1500
 
@@ -40,7 +40,7 @@ abbrev pub next_place : ℕ → BlockSpot → Block → List Block → BlockSpot
 next_place high place block more =
     place_by (block.keep || nat_le (under place block + group_height more) high) place.page (under place block)
 
--- where blocks stand of which the first has this place
+-- the spots of blocks, the first of which has this spot
 abbrev pub spot_at : ℕ → BlockSpot → Spot
 spot_at high place = record { page = place.page; top = pos high -ℤ pos place.down }
 
@@ -51,14 +51,14 @@ spots_from high place (block ∷ more) = spot_at high place ∷ spots_from high 
 abbrev pub spots_of : ℕ → List Block → List Spot
 spots_of high blocks = spots_from high (record { page = 0; down = 0 }) blocks
 
--- the last of blocks of which the first has this place
+-- the last of blocks, the first of which has this spot
 abbrev pub standing_from : ℕ → BlockSpot → List Block → Option PlacedBlock
 standing_from high place [] = None
 standing_from high place (block ∷ []) = Some (record { place = place; block = block })
 standing_from high place (block ∷ next ∷ more) =
     standing_from high (next_place high place block (next ∷ more)) (next ∷ more)
 
--- The same of blocks that come behind others: the last of the others tells where the first of them stands.
+-- The same of blocks that come after others: the last of the others determines the spot of the first.
 abbrev pub first_place : ℕ → Option PlacedBlock → List Block → BlockSpot
 first_place high None blocks = record { page = 0; down = 0 }
 first_place high (Some last) blocks = next_place high last.place last.block blocks
@@ -70,7 +70,7 @@ abbrev pub behind_after : ℕ → Option PlacedBlock → List Block → Option P
 behind_after high behind [] = behind
 behind_after high behind (block ∷ more) = standing_from high (first_place high behind (block ∷ more)) (block ∷ more)
 
--- the last block is not tied to what stands behind
+-- the last block is not tied to what comes after it
 abbrev pub IsLoose : List Block → Type 0
 IsLoose [] = ⊤
 IsLoose (block ∷ []) = block.keep ≡ false
@@ -84,7 +84,7 @@ abbrev pub down_behind : Option PlacedBlock → ℕ
 down_behind None = 0
 down_behind (Some last) = last.place.down
 
--- others may stand behind it: it is not tied, and no higher than a block may be
+-- others may come after it: it is not tied, and no higher than a block may be
 pub record IsOpenEnd (last : PlacedBlock) : Type 0 where
   pub keep : last.block.keep ≡ false
   pub height : last.block.height ≤ℤ pos (2 ^ 40)
@@ -108,19 +108,19 @@ tall_from high number tied (block ∷ more) =
 abbrev pub first_tall : ℕ → List Block → Option ℕ
 first_tall high blocks = tall_from high 0 false blocks
 
--- each block lies on its page, from 0 to its height
+-- each block is on its page, from 0 to its height
 abbrev pub AreWithin : ℕ → List Block → List Spot → Type 0
 AreWithin high [] [] = ⊤
 AreWithin high (block ∷ blocks) (spot ∷ spots) =
     ((spot.top ≤ℤ pos high) × (pos 0 ≤ℤ (spot.top -ℤ block.height))) × AreWithin high blocks spots
 AreWithin high _ _ = ⊥
 
--- the top of what stands under a block, 1500 below its bottom
+-- the top of what is under a block, 1500 below its bottom
 abbrev pub top_under : Block → Spot → ℤ
 top_under block spot = (spot.top -ℤ block.height) -ℤ pos 1500
 
--- The block behind one stands 1500 under it on the same page, or at the top of the next page: the
--- latter only where a group begins with it that doesn't fit under the other.
+-- The block after another is 1500 under it on the same page, or at the top of the next page. The latter is the case
+-- only if a group begins with it that doesn't fit under the other.
 pub data Follows (high : ℕ) (block : Block) (spot : Spot) (more : List Block) (next : Spot) : Type 0 where
   same_page : next.page ≡ spot.page → next.top ≡ top_under block spot → Follows high block spot more next
   next_page : block.keep ≡ false
@@ -132,7 +132,7 @@ FollowOn high (block ∷ next ∷ more) (spot ∷ after ∷ spots) =
     Follows high block spot (next ∷ more) after × FollowOn high (next ∷ more) (after ∷ spots)
 FollowOn high _ _ = ⊤
 
--- the first block stands at the top of the first page
+-- the first block is at the top of the first page
 abbrev pub BeginOn : ℕ → List Spot → Type 0
 BeginOn high [] = ⊤
 BeginOn high (spot ∷ spots) = (spot.page ≡ 0) × (spot.top ≡ pos high)

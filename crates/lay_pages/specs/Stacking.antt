@@ -1,4 +1,4 @@
--- The staves of a system under one another. Heights are counted from the top of the block, and are negative below it.
+-- The stacked staves of a system. Heights are counted from the top of the block, and are negative below it.
 use Rattle.std.specs.Prelude.{◌≡◌, ⊤, ℕ, suc, ◌+◌, ℤ, pos, negsuc, ◌+ℤ◌, ◌-ℤ◌, ◌≤ℤ◌, List, [], ◌∷◌}
 use Rattle.mus_laid.specs.declared.laid.StaffMarks.{StaffMarks}
 
@@ -7,8 +7,8 @@ abbrev pub AreGoodStaves : List StaffMarks → Type 0
 AreGoodStaves [] = ⊤
 AreGoodStaves (staff ∷ more) = ((staff.low ≤ℤ pos 0) × (pos 2000 ≤ℤ staff.high)) × AreGoodStaves more
 
--- The first staff has its highest mark at the top; each next one has its highest mark under the lowest mark of the one
--- before, as far as the gap before it says; and the bottom is the lowest mark of the last.
+-- The first staff has its highest mark at the top; each next one has its highest mark under the lowest mark of the
+-- one before, by the gap before it; and the bottom is the lowest mark of the last.
 abbrev pub AreStavesStacked : ℤ → List ℕ → List StaffMarks → List ℤ → ℤ → Type 0
 AreStavesStacked top [] [] [] bottom = bottom ≡ top
 AreStavesStacked top [] (staff ∷ []) (base ∷ []) bottom = (base +ℤ staff.high ≡ top) × (bottom ≡ base +ℤ staff.low)
@@ -16,7 +16,7 @@ AreStavesStacked top (gap ∷ gaps) (staff ∷ next ∷ more) (base ∷ bases) b
     (base +ℤ staff.high ≡ top) × AreStavesStacked ((base +ℤ staff.low) -ℤ pos gap) gaps (next ∷ more) bases bottom
 AreStavesStacked top _ _ _ bottom = ⊥
 
--- The same by how far each base line lies under the top of the block.
+-- The same in terms of how far each base line is below the top of the block.
 abbrev pub above_base : ℤ → ℕ
 above_base (pos n) = n
 above_base (negsuc n) = 0
@@ -28,7 +28,7 @@ below_base (negsuc n) = suc n
 abbrev pub under_top : ℕ → ℤ
 under_top down = pos 0 -ℤ pos down
 
--- staves under one whose lowest mark lies so far under the top
+-- staves under one whose lowest mark is this far below the top
 abbrev pub bases_behind : ℕ → List StaffMarks → List ℕ → List ℤ
 bases_behind bottom [] gaps = []
 bases_behind bottom (staff ∷ more) [] = []

@@ -8,7 +8,7 @@ use Rattle.lay_pages.specs.declared.titles.Alignment.{Alignment}
 use Rattle.lay_pages.specs.declared.titles.TitleRow.{TitleRow}
 use Rattle.lay_pages.specs.declared.titles.TitleBlock.{TitleBlock}
 
--- a row is so high, and its base line so far below its top
+-- the height of a row, and how far its base line is below its top
 abbrev pub row_height : Size → ℕ
 row_height Size.Big = 2400
 row_height Size.Small = 1400
@@ -34,7 +34,7 @@ row_x width Alignment.Middle count = (width - character_width Size.Big * count) 
 row_x width Alignment.Right count = width - character_width Size.Small * count
 row_x width Alignment.Left count = 0
 
--- the row of a text, its block being so high above it
+-- the row of a text, with the height of the block above it
 abbrev pub title_row_at : ℕ → ℕ → Alignment → List ℕ → TitleRow
 title_row_at width above place text = record {
   size = size_at place;
@@ -50,7 +50,7 @@ with_row width block place (byte ∷ text) = record {
   height = block.height + row_height (size_at place);
 }
 
--- the block with a row more for each text
+-- the block with one more row for each text
 abbrev pub with_text : ℕ → Alignment → TitleBlock → List ℕ → TitleBlock
 with_text width place block text = with_row width block place (row_text width place text)
 

@@ -13,11 +13,12 @@ use lay_breaks::{BreakError, Costs, least};
 use mus_units::{Memory, Row};
 use std::alloc::Global;
 
-/// So many groups may be parted evenly.
+/// The greatest number of groups that is split evenly.
 const MOST_GROUPS: usize = 8_388_608;
 
-/// What pages of groups cost: groups as bars, by their heights in u, of which each fits on a page
-/// that is `high` u high. A page costs the square of what it leaves free, by 100; the last nothing.
+/// The costs of pages of groups. Groups are the bars, given by their heights in u, each of which
+/// fits on a page that is `high` u high. A page costs the square of what it leaves free, by 100;
+/// the last page nothing.
 #[derive(Drop)]
 pub struct PageCosts {
     pub heights: Row<i64>,
@@ -26,7 +27,7 @@ pub struct PageCosts {
     ghost within: { AreHeights high heights },
 }
 
-/// The height of groups on a page, with 1500 u between two.
+/// Returns the height of groups on a page, with 1500 u between two.
 fn page_height(heights: &[i64]) -> u64
     requires few { length heights.now < 2 ^ 32 }
     requires good { All (λ h. h ≤ℤ pos (2 ^ 26)) heights.now }
@@ -70,7 +71,7 @@ impl Costs for PageCosts {
     ghost begins_free = { λ s. refl };
 }
 
-/// The heights of the groups of blocks, in order.
+/// Returns the heights of the groups of blocks, in order.
 fn group_heights(alloc: Global, blocks: &[Block], high: u32) -> Result<Row<i64>, Memory>
     requires few { length blocks.now < 2 ^ 32 }
     requires good { AreGoodBlocks blocks.now }
@@ -91,7 +92,7 @@ fn group_heights(alloc: Global, blocks: &[Block], high: u32) -> Result<Row<i64>,
     Ok(heights)
 }
 
-/// The chosen parting of groups into pages: the numbers of groups up to the end of each.
+/// Returns the chosen split of groups into pages: the numbers of groups up to the end of each page.
 fn even_breaks(alloc: Global, costs: PageCosts, groups: u32) -> Result<Row<u32>, Memory>
     requires few { groups ≤ 8388608 }
     requires all { groups ≡ length costs.heights }
@@ -104,7 +105,7 @@ fn even_breaks(alloc: Global, costs: PageCosts, groups: u32) -> Result<Row<u32>,
     }
 }
 
-/// Whether a page ends with a block that stands behind so many whole groups.
+/// Returns whether a page ends with a block, if `group` groups end before the block's own.
 fn turns(ends: &[u32], group: u32, block: Block) -> bool
     requires { group < 2 ^ 32 - 1 }
     ensures { result ≡ turns ends.now group block }
@@ -115,7 +116,7 @@ fn turns(ends: &[u32], group: u32, block: Block) -> bool
     }
 }
 
-/// The ends of the pages behind a block.
+/// Returns the ends of the pages after a block.
 fn ends_behind(turned: bool, ends: &[u32]) -> &[u32]
     ensures { result.now ≡ ends_behind turned ends.now }
 {
@@ -125,7 +126,7 @@ fn ends_behind(turned: bool, ends: &[u32]) -> &[u32]
     }
 }
 
-/// The place of the block behind one at a place.
+/// Returns the spot of the block after the one at `place`.
 fn even_spot_after(turned: bool, place: BlockSpot, block: Block) -> BlockSpot
     requires height { block.height ≤ℤ pos (2 ^ 40) }
     requires page { place.page < 2 ^ 32 - 1 }
@@ -144,7 +145,7 @@ fn even_spot_after(turned: bool, place: BlockSpot, block: Block) -> BlockSpot
     }
 }
 
-/// How many groups ended up to the end of a block.
+/// Returns the number of groups that end with a block or before it.
 fn groups_behind(group: u32, block: Block) -> u32
     requires { group < 2 ^ 32 - 1 }
     ensures { result ≡ groups_behind group block }
@@ -152,7 +153,7 @@ fn groups_behind(group: u32, block: Block) -> u32
     if block.keep { group } else { group + 1 }
 }
 
-/// Where blocks stand on pages that end behind these numbers of groups.
+/// Returns the spots of blocks on pages that end after these numbers of groups.
 fn part(alloc: Global, high: u32, breaks: &[u32], blocks: &[Block]) -> Result<Row<Spot>, Memory>
     requires few { length blocks.now < 2 ^ 32 }
     requires good { AreGoodBlocks blocks.now }
@@ -175,10 +176,10 @@ fn part(alloc: Global, high: u32, breaks: &[u32], blocks: &[Block]) -> Result<Ro
     Ok(spots)
 }
 
-/// Where blocks stand on pages that are `high` u high and filled evenly: their groups are parted into
-/// pages so that no other parting into pages that fit costs less, where each page but the last costs
-/// the square of what it leaves free, by 100. On a page blocks stand under one another as `fill`
-/// places them. More than 8,388,608 groups are filled by `fill`.
+/// Returns the spots of blocks on pages that are `high` u high and filled evenly: their groups are
+/// split into pages so that no other split into pages that fit costs less. Each page but the last
+/// costs the square of what it leaves free, by 100. On a page the blocks are under one another as
+/// `fill` places them. More than 8,388,608 groups are placed by `fill`.
 pub fn fill_even(alloc: Global, blocks: &[Block], high: u32) -> Result<Row<Spot>, PageError>
     requires few { length blocks.now < 2 ^ 32 }
     requires good { AreGoodBlocks blocks.now }

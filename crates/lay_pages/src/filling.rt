@@ -9,23 +9,24 @@ ghost use Rattle.lay_pages.specs.declared.filling.PageError.TheVariants as error
 use mus_units::{Memory, Row};
 use std::alloc::Global;
 
-/// What stands on a page as one: its height in u, and whether it is tied to the
-/// next block, so that both stand on one page.
+/// A unit on a page: its height in u, and whether it is tied to the next block, so that both are on
+/// one page.
 #[derive(Clone, Copy, PartialEq, Eq)]
 pub struct Block {
     pub height: i64,
     pub keep: bool,
 }
 
-/// Where a block stands: its page, from 0, and the height of its top, in u above the bottom of the body.
+/// The spot of a block: its page, from 0, and the height of its top, in u above the bottom of the
+/// body.
 #[derive(Clone, Copy, PartialEq, Eq)]
 pub struct Spot {
     pub page: u32,
     pub top: i64,
 }
 
-/// Why blocks fill no pages: the first group that is higher than a page, told by
-/// the block with which it begins, counted from 0; or want of memory.
+/// Why blocks can't be placed on pages: the first group that is higher than a page, reported by the
+/// block with which it begins, counted from 0; or out of memory.
 #[derive(Clone, Copy, PartialEq, Eq)]
 pub enum PageError {
     TooTall { block: u32 },
@@ -40,9 +41,9 @@ impl From<Memory> for PageError {
     }
 }
 
-/// Where blocks stand on pages that are `high` u high: under one another with
-/// 1500 u between two. A block that is tied to the next makes a group with it; a
-/// group that doesn't fit under the blocks before it goes to a new page.
+/// Returns the spots of blocks on pages that are `high` u high: under one another with 1500 u
+/// between two. A block that is tied to the next makes a group with it. A group that doesn't fit
+/// under the blocks before it goes to a new page.
 pub fn fill(alloc: Global, blocks: &[Block], high: u32) -> Result<Row<Spot>, PageError>
     requires few { length blocks.now < 2 ^ 32 }
     requires good { AreGoodBlocks blocks.now }
@@ -61,21 +62,22 @@ pub fn fill(alloc: Global, blocks: &[Block], high: u32) -> Result<Row<Spot>, Pag
     }
 }
 
-/// A place for a block: its page, from 0, and how far below the top of the page.
+/// A spot for a block: its page, from 0, and how far below the top of the page.
 #[derive(Clone, Copy, PartialEq, Eq)]
 pub struct BlockSpot {
     pub page: u32,
     pub down: u64,
 }
 
-/// A block, and its place.
+/// A block, and its spot.
 #[derive(Clone, Copy, PartialEq, Eq)]
 pub struct PlacedBlock {
     pub place: BlockSpot,
     pub block: Block,
 }
 
-/// Where blocks stand, and the last of them, or of those before them, where there is one.
+/// The spots of blocks, and the last block; if there is none, the last of those before them, if
+/// any.
 #[derive(Drop)]
 pub struct Placement {
     pub spots: Row<Spot>,
@@ -90,7 +92,7 @@ pub(crate) fn height_number(height: i64) -> u64
     if height < 0 { 0 } else { height as u64 }
 }
 
-/// The height of the group that begins here.
+/// Returns the height of the group that begins here.
 pub(crate) fn group_height(blocks: &[Block]) -> u128
     requires few { length blocks.now < 2 ^ 32 }
     requires good { AreGoodBlocks blocks.now }
@@ -110,7 +112,7 @@ pub(crate) fn group_height(blocks: &[Block]) -> u128
     sum
 }
 
-/// Whether the group that begins here is higher than a page.
+/// Returns whether the group that begins here is higher than a page.
 fn is_tall(high: u32, blocks: &[Block]) -> bool
     requires few { length blocks.now < 2 ^ 32 }
     requires good { AreGoodBlocks blocks.now }
@@ -119,7 +121,7 @@ fn is_tall(high: u32, blocks: &[Block]) -> bool
     u128::from(high) < group_height(blocks)
 }
 
-/// The block with which the first group begins that is higher than a page.
+/// Returns the number of the block with which the first group begins that is higher than a page.
 pub(crate) fn first_tall(blocks: &[Block], high: u32) -> Option<u32>
     requires few { length blocks.now < 2 ^ 32 }
     requires good { AreGoodBlocks blocks.now }
@@ -139,7 +141,7 @@ pub(crate) fn first_tall(blocks: &[Block], high: u32) -> Option<u32>
     None
 }
 
-/// Whether the group of the next blocks ends on the page.
+/// Returns whether the group of the next blocks ends on the page.
 fn fits_at(high: u32, down: u64, blocks: &[Block]) -> bool
     requires few { length blocks.now < 2 ^ 32 }
     requires good { AreGoodBlocks blocks.now }
@@ -148,7 +150,7 @@ fn fits_at(high: u32, down: u64, blocks: &[Block]) -> bool
     u128::from(down) + group_height(blocks) <= u128::from(high)
 }
 
-/// The place of the block behind one at a place.
+/// Returns the spot of the block after the one at `place`.
 fn next_place(high: u32, place: BlockSpot, block: Block, more: &[Block]) -> BlockSpot
     requires few { length more.now < 2 ^ 32 }
     requires good { AreGoodBlocks more.now }
@@ -180,7 +182,7 @@ pub(crate) fn spot_at(high: u32, place: BlockSpot) -> Spot
     }
 }
 
-/// The place of the first of some blocks, which come behind another where there is one.
+/// Returns the spot of the first of some blocks, which come after another block if there is one.
 fn first_place(high: u32, behind: Option<PlacedBlock>, blocks: &[Block]) -> BlockSpot
     requires few { length blocks.now < 2 ^ 32 }
     requires good { AreGoodBlocks blocks.now }
@@ -194,7 +196,7 @@ fn first_place(high: u32, behind: Option<PlacedBlock>, blocks: &[Block]) -> Bloc
     }
 }
 
-/// Where blocks stand of which the first has this place, and no group is too tall.
+/// Returns the spots of blocks, if the first has this spot and no group is too tall.
 fn spots_from(
     alloc: Global,
     high: u32,
@@ -230,7 +232,7 @@ fn spots_from(
     })
 }
 
-/// How many pages come before that of the last block.
+/// Returns the number of pages before that of the last block.
 fn page_behind(behind: Option<PlacedBlock>) -> u32
     ensures { result ≡ page_behind behind }
 {
@@ -240,11 +242,12 @@ fn page_behind(behind: Option<PlacedBlock>) -> u32
     }
 }
 
-/// Where blocks stand that come behind others, as `fill` places them; `behind` tells the last of
-/// the others and its place, and the answer the last of all. So blocks may be filled a list at a
-/// time: each list ends with a block that isn't tied to the next one.
+/// Returns the spots of blocks that come after others, as `fill` places them. `behind` is the last
+/// of the others and its spot; the result has the last block of all. So blocks may be placed a list
+/// at a time, if each list ends with a block that isn't tied to the next one.
 ///
-/// No group of the blocks is higher than a page. `Memory` comes also where there are 2^32 pages or more.
+/// No group of the blocks is higher than a page. `Memory` is also returned if there are 2^32 pages
+/// or more.
 pub fn fill_after(
     alloc: Global,
     high: u32,

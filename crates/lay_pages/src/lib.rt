@@ -1,5 +1,5 @@
-//! Pages: the staves of a system stacked into a block, the title block of a tune,
-//! and blocks filled into pages.
+//! Builds pages: stacks the staves of a system into a block, lays out the title block of a tune,
+//! and fills blocks into pages.
 #![tactic(auto)]
 
 pub mod even;

@@ -6,17 +6,17 @@ use mus_laid::{StaffMarks, SystemMarks};
 use mus_units::{Memory, Row};
 use std::alloc::Global;
 
-/// The staves of a block: the height of each base line, from the top of the block
-/// down and so negative, and the height of the block, in u.
+/// The staves of a block: the height of each base line, counted from the top of the block and so
+/// negative below it, and the height of the block, in u.
 #[derive(Drop)]
 pub struct Heights {
     pub bases: Row<i64>,
     pub height: i64,
 }
 
-/// The staves of a system under one another: the highest mark of the first is at the top, and each next
-/// staff's highest mark lies under the lowest mark of the one before, as far as the gap before it says.
-/// There is a gap for each staff but the first, in u. The block ends at the lowest mark of the last.
+/// Stacks the staves of a system. The highest mark of the first is at the top; each next staff's
+/// highest mark is below the lowest mark of the one before, by the gap before that staff. There is
+/// a gap for each staff but the first, in u. The block ends at the lowest mark of the last.
 pub fn stack(alloc: Global, system: &SystemMarks, gaps: &[u32]) -> Result<Heights, Memory>
     requires few { length system.now.staves ≤ 16 }
     requires good { AreGoodStaves system.now.staves }
@@ -33,7 +33,7 @@ pub fn stack(alloc: Global, system: &SystemMarks, gaps: &[u32]) -> Result<Height
     })
 }
 
-/// How far a height lies above the base line.
+/// Returns how far a height is above the base line.
 fn above_base(height: i32) -> u64
     ensures value { result ≡ above_base height }
     ensures most { result ≤ 2 ^ 31 }
@@ -41,7 +41,7 @@ fn above_base(height: i32) -> u64
     if height < 0 { 0 } else { height as u64 }
 }
 
-/// How far a height lies below the base line.
+/// Returns how far a height is below the base line.
 fn below_base(height: i32) -> u64
     ensures value { result ≡ below_base height }
     ensures most { result ≤ 2 ^ 31 }
@@ -53,7 +53,7 @@ fn below_base(height: i32) -> u64
     }
 }
 
-/// What lies so far below the top of the block.
+/// Returns the height of what is this far below the top of the block.
 fn under_top(down: u64) -> i64
     requires { down ≤ 2 ^ 40 }
     ensures { result ≡ under_top down }
@@ -61,8 +61,8 @@ fn under_top(down: u64) -> i64
     -(down as i64)
 }
 
-/// The bases of staves under one whose lowest mark lies so far below the top. Tells how far
-/// the lowest mark of the last of all lies below it.
+/// Adds the bases of staves under one whose lowest mark is this far below the top. Returns how far
+/// below the top the lowest mark of the last staff is.
 fn put_bases(
     bases: &mut Row<i64>,
     bottom: u64,
@@ -85,7 +85,7 @@ fn put_bases(
     Ok(bottom)
 }
 
-/// The bases of staves, and how far the lowest mark of the last lies below the top.
+/// Returns the bases of staves, and how far the lowest mark of the last is below the top.
 fn bases_under(
     alloc: Global,
     staves: &[StaffMarks],

@@ -9,7 +9,7 @@ use mus_units::{Memory, Row, Size, Text};
 use std::alloc::Global;
 use std::cmp::min;
 
-/// Where a row of a title block stands.
+/// The alignment of a row of a title block.
 #[derive(Clone, Copy, PartialEq, Eq)]
 pub enum Alignment {
     Middle,
@@ -17,8 +17,8 @@ pub enum Alignment {
     Left,
 }
 
-/// A row of a title block: its text begins at `x`, its base line lies `down` u below
-/// the top of the block.
+/// A row of a title block: its text begins at `x`, its base line is `down` u below the top of the
+/// block.
 #[derive(Drop)]
 pub struct TitleRow {
     pub size: Size,
@@ -27,16 +27,16 @@ pub struct TitleRow {
     pub text: Text,
 }
 
-/// The rows above the first system of a tune, and the height of them all, in u.
+/// The rows above the first system of a tune, and their total height, in u.
 #[derive(Drop)]
 pub struct TitleBlock {
     pub rows: Row<TitleRow>,
     pub height: u64,
 }
 
-/// The title block of a tune on a body that is `width` u wide: the titles in the middle, big; the
-/// composers at the right; the tempo at the left. A row is cut to what the width holds and to 60
-/// characters; a text of which nothing is printed has no row.
+/// Returns the title block of a tune on a body that is `width` u wide: the titles in the middle,
+/// big; the composers at the right; the tempo at the left. A row is cut to what the width holds and
+/// to 60 characters. A text of which nothing is printed has no row.
 pub fn title_block(
     alloc: Global,
     width: u32,
@@ -115,7 +115,7 @@ fn put_row(width: u32, place: Alignment, text: Text, block: &mut TitleBlock) -> 
     Ok(())
 }
 
-/// The text of a row as it is printed, cut to what the width holds.
+/// Returns the text of a row as printed, cut to what the width holds.
 #[tactic(auto, unfolding(crate::specs::Titles::row_text))]
 fn row_text(alloc: Global, width: u32, place: Alignment, text: &[u8]) -> Result<Text, Memory>
     ensures value { IfOk result (λ t. t ≡ row_text width place text.now) }
@@ -163,7 +163,7 @@ fn most_within(width: u32, size: Size) -> usize
     }
 }
 
-/// Where a row begins, from the left of the body.
+/// Returns where a row begins, from the left of the body.
 fn row_x(width: u32, place: Alignment, count: usize) -> i64
     requires { count ≤ most_within width (size_at place) }
     ensures { result ≡ pos (row_x width place count) }

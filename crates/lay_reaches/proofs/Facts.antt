@@ -1,4 +1,4 @@
--- What is true of each column: it is small, has a place for each lane, and stands where it must.
+-- Facts of each column: it is small, has an entry per lane, and is in each lane where it must be.
 use Rattle.std.proofs.Common.{◌≡◌, ℕ, ℤ, pos, negsuc, ◌+◌, ◌-◌, ◌*◌, ◌/◌, ◌^◌, ◌≤◌, min, Bool, true, false, List, []}
 use Rattle.std.proofs.Common.{◌∷◌, map, length, Option, Some, None, IfSome, refl, sym, ap, ◌∙◌, subst, arith}
 use Rattle.std.proofs.Common.{if◌then◌else◌, option_and_then, slice_get, get_or}
@@ -106,7 +106,7 @@ pub spring_same : (natural force : ℕ) → natural ≤ 4000 → spring_length n
 unfolding spring_length
 spring_same natural force h = let e : min natural 4000 ≡ natural = omega (arith, h) in rw e refl
 
--- ---- a place for each lane
+-- ---- an entry per lane
 staff_long : (always : Bool) (rank : ℕ) (marks : List Laid) (verses : ℕ)
     → length (staff_reaches always rank marks verses) ≡ length (staff_gaps verses)
 staff_long always rank marks verses =
@@ -125,7 +125,7 @@ reaches_long always rank (staff ∷ staves) (v ∷ verses) h =
     let d = length-append (staff_gaps v) (gaps_of verses) in
     grind (arith, a, b, c, d)
 
--- ---- stands where it must
+-- ---- in each lane where it must be
 abbrev Stands : Option Reach → Type 0
 Stands o = (reach : Reach) × (o ≡ Some reach)
 

@@ -1,4 +1,4 @@
--- The gaps of all lanes are small, and few where no staff has more than 255 verses.
+-- The gaps of all lanes are small, and few if no staff has more than 255 verses.
 use Rattle.std.proofs.Common.{ℕ, ◌+◌, ◌*◌, ◌^◌, ◌≤◌, List, [], ◌∷◌, length, replicate, arith}
 use Rattle.std.proofs.lemmas.List.{length-append, length-replicate}
 use Rattle.std.proofs.lemmas.List.Elements.{All-append, All-cons, All-head, All-nil, All-replicate, All-tail}

@@ -1,4 +1,4 @@
--- The reaches of a column that stands in one lane alone.
+-- The reaches of a column that is in one lane alone.
 use Rattle.std.proofs.Common.{[], ◌≡◌, ◌≢◌, ◌==◌, if◌then◌else◌, inl, inr, ℕ, zero, suc, ◌<◌, List, replicate, Option}
 use Rattle.std.proofs.Common.{Some, None, IfSome, refl, sym, ap, ◌∙◌, subst, set, get_or, get_or-set_same}
 use Rattle.std.proofs.Common.{get_or-set_other, slice_get, option_map, option_and_then, unwrap_or}

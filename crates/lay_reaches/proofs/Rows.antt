@@ -79,7 +79,7 @@ module _ {X : Type 0} where
 pub row_length : (marks : List Laid) (lanes rank : ℕ) → length (drawn_row marks lanes rank) ≡ lanes
 row_length marks lanes rank = length-map-range_with_len (drawn_reach marks rank) 0 lanes
 
--- a box at rank r in lane l widens that place alone
+-- a box at rank r in lane l widens that entry alone
 pub row_more : (marks : List Laid) (laid : Laid) (lanes r l : ℕ) (box : Sides)
     → ((rank lane : ℕ) → box_at rank lane laid ≡ (if (rank == r) && (lane == l) then Some box else None)) → l < lanes
     → widened_row (drawn_row marks lanes r) l box ≡ drawn_row (marks ++ laid ∷ []) lanes r
@@ -100,7 +100,7 @@ row_more marks laid lanes r l box is lt =
     apart : (k : ℕ) → k ≢ l → (if (r == r) && (k == l) then Some box else None) ≡ None
     apart k ne = grind (arith, ne)
 
--- a mark that stands at none of these places widens none
+-- a mark at none of these places widens none
 pub none_more : (marks : List Laid) (laid : Laid) (lanes rank : ℕ)
     → ((lane : ℕ) → lane < lanes → box_at rank lane laid ≡ None)
     → drawn_row marks lanes rank ≡ drawn_row (marks ++ laid ∷ []) lanes rank

@@ -23,7 +23,7 @@ use Rattle.lay_reaches.specs.Widened.{widened_by_mark, widened_by_marks, widened
 use Rattle.lay_reaches.proofs.Covering.{row_long}
 use Rattle.lay_reaches.proofs.Rows.{box_is, none_more, row_length, row_more}
 
--- ---- one place of a row
+-- ---- one entry of a row
 row_next : (x : Option Reach) (row : List (Option Reach)) (place : ℕ) (box : Sides)
     → widened_row (x ∷ row) (suc place) box ≡ x ∷ widened_row row place box
 row_next x row place box = by (nat_lt place (length row)) refl
@@ -73,7 +73,7 @@ row_stood always (o ∷ row) (suc place) box =
     ∙ ap (λ t. standing always o ∷ t) (row_stood always row place box)
     ∙ sym (ap (λ t. map (standing always) t) (row_next o row place box))
 
--- ---- columns whose reaches are told by their rank
+-- ---- columns whose reaches depend on their rank
 module _ (lengths : List ℕ) where
   abbrev made : (ℕ → Bool → List (Option Reach)) → ℕ → List ColumnKey → List Column
   made f rank [] = []
@@ -113,7 +113,7 @@ module _ (lengths : List ℕ) where
       let rest = made_widened f g r place box here apart (first + 1) i behind (omega (arith, e)) in
       at_next _ (made f (first + 1) behind) i place box _ ∙ rw (head, rest) refl
 
-  -- ---- the lanes of a staff, with those before and behind them
+  -- ---- the lanes of a staff, with those before and after them
   module _ (keys : List ColumnKey) (front : ℕ → Bool → List (Option Reach)) (back : Bool → List (Option Reach))
       (start lanes : ℕ) (long : (k : ℕ) (always : Bool) → length (front k always) ≡ start) where
     abbrev framed : List Laid → ℕ → Bool → List (Option Reach)

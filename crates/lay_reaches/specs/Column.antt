@@ -1,4 +1,4 @@
--- What a column answers where it is placed: its spring at a force.
+-- The spring of a column at a force, as placing needs it.
 use Rattle.std.{specs.Prelude.{◌≡◌, ℕ, ◌*◌, ◌/◌, ◌^◌, ◌≤◌, min}, proofs.Common.{arith, refl}}
 
 -- no natural length passes 4000

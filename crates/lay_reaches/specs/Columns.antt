@@ -1,4 +1,4 @@
--- The columns of a system: one for each key, with its reach in each lane and the natural length of the spring behind
+-- The columns of a system: one for each key, with its reach in each lane and the natural length of the spring after
 -- it.
 use Rattle.std.specs.Prelude.{◌≡◌, ℕ, ◌+◌, ◌*◌, ◌/◌, ◌<◌, ◌≤◌, ◌⊎◌, pos, neg_ℤ, ◌≤ℤ◌, true, List, [], ◌∷◌, length, All}
 use Rattle.std.specs.Prelude.{Contains, Option, Some, IfSome, option_and_then, slice_get}
@@ -29,7 +29,7 @@ columns_from rank (key ∷ behind) staves lengths verses = record {
 abbrev pub columns_of : List ColumnKey → List StaffMarks → List ℕ → List ℕ → List Column
 columns_of keys staves lengths verses = columns_from 0 keys staves lengths verses
 
--- the reach of a column where it is placed
+-- the reach of a column, as placing needs it
 abbrev pub column_reach : Column → ℕ → Option Reach
 column_reach column lane = reach_in column.reaches lane
 
@@ -51,7 +51,7 @@ CoverMarks staves verses columns =
     × (reach_at column_reach columns rank (lane_start verses s + lane) ≡ Some reach)
     × Covers reach box
 
--- a column of a head, of the bar before the first measure or of a bar stands in each lane
+-- a column of a head, of the bar before the first measure or of a bar is in each lane
 abbrev pub StandsWhereDue : List ℕ → Column → Type 0
 StandsWhereDue verses column =
     stands_always column.key.class ≡ true → StandsInAll (column_reach column) (length (gaps_of verses))
@@ -63,7 +63,7 @@ pub record IsSmall (column : Column) : Type 0 where
   pub natural : column.natural ≤ 4000
   pub reaches : All (λ o. IfSome o IsNearReach) column.reaches
 
--- where it is placed, nothing of the column is cut
+-- as placing sees it, nothing of the column is cut
 pub record IsUncut (column : Column) : Type 0 where
   pub reach : (lane : ℕ) → column_reach column lane ≡ option_and_then (λ o. o) (slice_get column.reaches lane)
   pub spring : (force : ℕ) → spring_length column.natural force ≡ column.natural * force / 256

@@ -1,5 +1,5 @@
--- Columns of two lists of measures, one after the other: they are the columns of each, where the
--- marks of the second keep their columns by ranks moved by the number of keys of the first.
+-- Columns of two lists of measures, one after the other: they are the columns of each, if the marks of the second
+-- keep their columns by ranks moved by the number of keys of the first.
 use Rattle.std.specs.Prelude.{◌≡◌, ◌≢◌, ℕ, ◌+◌, ◌<◌, ⊤, List, [], ◌∷◌, ◌++◌, length, map, All, Option, Some, None}
 use Rattle.mus_onsets.specs.declared.keys.ColumnKey.{ColumnKey}
 use Rattle.mus_laid.specs.declared.laid.Laid.{Laid}
@@ -7,8 +7,8 @@ use Rattle.mus_laid.specs.declared.laid.Mark.{Mark}
 use Rattle.mus_laid.specs.declared.laid.StaffMarks.{StaffMarks}
 use Rattle.lay_reaches.specs.{Columns.columns_of, Reaches.boxes_at, Reaches.rank_of_mark}
 
--- the marks of a staff have the boxes of the first marks in the first n columns,
--- and behind them the boxes of the second
+-- the marks of a staff have the boxes of the first marks in the first n columns, and after them the boxes of the
+-- second
 pub record AreJoined (n : ℕ) (joined first second : List Laid) : Type 0 where
   pub front : (rank lane : ℕ) → rank < n → boxes_at rank lane joined ≡ boxes_at rank lane first
   pub behind : (rank lane : ℕ) → boxes_at (n + rank) lane joined ≡ boxes_at rank lane second
@@ -23,7 +23,7 @@ StavesJoin n (x ∷ joined) (a ∷ first) [] = ⊥
 StavesJoin n (x ∷ joined) (a ∷ first) (b ∷ second) =
     AreJoined n x.marks a.marks b.marks × StavesJoin n joined first second
 
--- no key of the one list is of a measure of the other
+-- no key of one list is of a measure of the other
 abbrev pub OfOtherMeasures : List ColumnKey → List ColumnKey → Type 0
 OfOtherMeasures front behind = All (λ k. All (λ l. l.measure ≢ k.measure) behind) front
 
@@ -34,7 +34,7 @@ ColumnsJoin =
     → columns_of (front ++ behind) joined lengths verses
     ≡ columns_of front first lengths verses ++ columns_of behind second lengths verses
 
--- a mark in the column that stands n further on
+-- a mark, moved n columns further on
 abbrev pub moved_mark : ℕ → Mark → Mark
 moved_mark n (Mark.Glyph glyph rank dx dy) = Mark.Glyph glyph (n + rank) dx dy
 moved_mark n (Mark.Words size rank dx dy text) = Mark.Words size (n + rank) dx dy text
@@ -45,7 +45,7 @@ moved_mark n (Mark.Arc first last from to bulge) = Mark.Arc (n + first) (n + las
 abbrev pub moved : ℕ → Laid → Laid
 moved n laid = record { mark = moved_mark n laid.mark; lane = laid.lane }
 
--- a mark with a box stands in one of the first n columns
+-- a mark with a box is in one of the first n columns
 abbrev pub IsBelow : ℕ → Option ℕ → Type 0
 IsBelow n None = ⊤
 IsBelow n (Some rank) = rank < n

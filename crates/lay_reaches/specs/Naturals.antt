@@ -1,5 +1,5 @@
--- The natural length of the spring behind a column: by the ticks from a note column to the next note
--- column of its measure, or else to the measure's end. Other columns have none.
+-- The natural length of the spring after a column. It depends on the ticks from a note column to the next note column
+-- of its measure, or else to the measure's end. Other columns have none.
 use Rattle.std.specs.Prelude.{ℕ, ◌*◌, ◌/◌, ◌-◌, Bool, true, false, ◌&&◌, ◌==◌, nat_le, if◌then◌else◌, List, Option}
 use Rattle.std.specs.Prelude.{Some, None, unwrap_or, slice_get}
 use Rattle.std.specs.List.{find}
@@ -7,7 +7,7 @@ use Rattle.mus_units.specs.Value.{whole_note}
 use Rattle.mus_onsets.specs.declared.keys.Class.{Class}
 use Rattle.mus_onsets.specs.declared.keys.ColumnKey.{ColumnKey}
 
--- by the greatest row that isn't above the ticks
+-- that of the greatest row that isn't above the ticks
 abbrev pub natural_for : ℕ → ℕ
 natural_for ticks =
     if nat_le (2 * whole_note) ticks then 4000 else
@@ -38,7 +38,7 @@ abbrev pub tick_or_end : ℕ → Option ColumnKey → List ℕ → ℕ
 tick_or_end measure None lengths = length_of_measure lengths measure
 tick_or_end measure (Some next) lengths = next.tick
 
--- of a key and those behind it
+-- of a key, given the keys after it
 abbrev pub natural_of : ColumnKey → List ColumnKey → List ℕ → ℕ
 natural_of key behind lengths =
     if is_note_key key

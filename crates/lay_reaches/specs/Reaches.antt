@@ -1,4 +1,4 @@
--- How far a column reaches in a lane: as far as the boxes of its marks there, to the left and to the right, at least 0,
+-- The reach of a column in a lane: as far as the boxes of its marks there, to the left and to the right, at least 0,
 -- and cut at 2^20.
 use Rattle.std.specs.Prelude.{ℕ, ℤ, pos, negsuc, ◌+◌, min, Bool, true, false, ◌&&◌, ◌==◌, if◌then◌else◌, List, [], ◌∷◌}
 use Rattle.std.specs.Prelude.{◌++◌, map, filter_map, Option, Some, None}
@@ -14,7 +14,7 @@ use Rattle.lay_springs.specs.declared.traits.Reach.{Reach}
 use Rattle.lay_springs.specs.ReachView.{most_reach}
 use Rattle.lay_reaches.specs.Lanes.{lane_count, lane_number}
 
--- how far a box goes to the left, and to the right, of its column
+-- how far a box extends to the left, and to the right, of its column
 unfoldable pub left_of : ℤ → ℕ
 left_of (pos n) = 0
 left_of (negsuc n) = min (n + 1) most_reach
@@ -23,7 +23,7 @@ unfoldable pub right_of : ℤ → ℕ
 right_of (pos n) = min n most_reach
 right_of (negsuc n) = 0
 
--- a glyph and a text stand at one column
+-- a glyph and a text belong to one column
 abbrev pub rank_of_mark : Mark → Option ℕ
 rank_of_mark (Mark.Glyph glyph rank dx dy) = Some rank
 rank_of_mark (Mark.Words size rank dx dy text) = Some rank
@@ -35,7 +35,7 @@ abbrev pub is_lane_number : ℕ → Option ℕ → Bool
 is_lane_number n None = false
 is_lane_number n (Some m) = n == m
 
--- the box of a mark, where it stands at a column and in a lane of its staff
+-- the box of a mark, if it is in a given column and lane of its staff
 abbrev pub box_at : ℕ → ℕ → Laid → Option Sides
 box_at rank lane laid =
     if is_lane_number rank (rank_of_mark laid.mark) && is_lane_number lane (lane_number laid.lane)
@@ -61,7 +61,7 @@ drawn_reach marks rank lane = reach_over (boxes_at rank lane marks)
 abbrev pub drawn_row : List Laid → ℕ → ℕ → List (Option Reach)
 drawn_row marks lanes rank = map (drawn_reach marks rank) (range_with_len 0 lanes)
 
--- the head of a system, the bar before the first measure, and bars stand in each lane
+-- the head of a system, the bar before the first measure, and bars are in each lane
 abbrev pub stands_always : Class → Bool
 stands_always Class.Head = true
 stands_always Class.First = true

@@ -1,4 +1,4 @@
--- The reaches of a column in its lanes, of which a single one stands in place, and three do.
+-- The reaches of a column in its lanes: a single one is stored inline, and so are three.
 use Rattle.std.specs.Prelude.{List, Option, None, replicate, slice_set}
 use Rattle.lay_springs.specs.declared.traits.Reach.{Reach}
 use Rattle.lay_reaches.specs.declared.stands.Single.{Single}

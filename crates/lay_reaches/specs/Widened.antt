@@ -24,7 +24,7 @@ bare_columns [] lengths lanes = []
 bare_columns (key ∷ behind) lengths lanes =
     bare_column key (natural_of key behind lengths) lanes ∷ bare_columns behind lengths lanes
 
--- so that it covers a box too
+-- widened to cover a box too
 abbrev pub reach_widened : Option Reach → Sides → Reach
 reach_widened None box = record { left = left_of box.left; right = right_of box.right }
 reach_widened (Some reach) box =
@@ -46,7 +46,7 @@ with_widened columns rank place box (Some column) = slice_set columns rank (wide
 abbrev pub widened_at : List Column → ℕ → ℕ → Sides → List Column
 widened_at columns rank place box = with_widened columns rank place box (slice_get columns rank)
 
--- the place of a lane of a staff among those of the system, where the staff has `lanes` from `start` on
+-- the number of a lane of a staff among those of the system, if the staff has `lanes` from `start` on
 abbrev pub place_of_lane : ℕ → ℕ → Option ℕ → Option ℕ
 place_of_lane start lanes None = None
 place_of_lane start lanes (Some number) = if nat_lt number lanes then Some (start + number) else None

@@ -6,10 +6,10 @@ use mus_onsets::ColumnKey;
 
 const MOST_NATURAL: u32 = 4000;
 
-/// A column of a system: its key; its reach in each lane, None where it doesn't stand in it;
-/// and the natural length of the spring to the next column, in u, 0 without a spring. Lanes are
-/// for each staff, from the top, main, above, below and one for each verse. A reach is counted
-/// to at most 2^20, a natural length to at most 4000.
+/// A column of a system: its key; its reach in each lane, `None` if it isn't in the lane; and the
+/// natural length of the spring to the next column, in u, 0 without a spring. Lanes are, for each
+/// staff from the top: main, above, below and one per verse. A reach counts as at most 2^20, a
+/// natural length as at most 4000.
 #[derive(Drop)]
 pub struct Column {
     pub key: ColumnKey,

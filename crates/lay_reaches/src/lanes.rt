@@ -5,14 +5,14 @@ use mus_laid::Lane;
 use mus_units::{Memory, Row};
 use std::alloc::Global;
 
-/// How many lanes a staff has.
+/// Returns the number of lanes of a staff.
 pub(crate) fn lane_count(verses: u8) -> usize
     ensures { result ≡ lane_count verses }
 {
     3 + usize::from(verses)
 }
 
-/// The place of a lane among those of its staff.
+/// Returns the number of a lane among those of its staff, from 0.
 pub(crate) fn lane_number(lane: Lane) -> Option<usize>
     ensures { result ≡ lane_number lane }
 {
@@ -25,7 +25,7 @@ pub(crate) fn lane_number(lane: Lane) -> Option<usize>
     }
 }
 
-/// How many lanes a system has; want of memory where they are too many to be counted.
+/// Returns the number of lanes of a system; out of memory if there are too many to count.
 pub(crate) fn lanes_of(verses: &[u8]) -> Result<usize, Memory>
     ensures { IfOk result (λ n. n ≡ lanes_of verses.now) }
 {
@@ -46,9 +46,9 @@ fn put_gaps(out: &mut Row<u32>, verses: u8) -> Result<(), Memory>
     Ok(())
 }
 
-/// The gap that columns keep in each lane, in u: 100 in main lanes, 300 in all others. The lanes
-/// are, for each staff from the top, main, above, below and one for each verse; `verses` has
-/// the number of verses of each staff.
+/// Returns the gap that columns keep in each lane, in u: 100 in main lanes, 300 in all others. The
+/// lanes are, for each staff from the top: main, above, below and one per verse. `verses` has the
+/// number of verses of each staff.
 pub fn gaps_of(alloc: Global, verses: &[u8]) -> Result<Row<u32>, Memory>
     ensures value { IfOk result (λ r. r ≡ gaps_of verses.now) }
     ensures narrow { IfOk result (λ r. (lane : ℕ) → lane < length r → slice_index r lane ≤ 2 ^ 20) }

@@ -1,7 +1,7 @@
-//! The columns of a system: how far each reaches in each lane, and the natural length of
-//! the spring behind it, from the system's marks.
+//! Builds the columns of a system from its marks: the reach of each column in each lane, and the
+//! natural length of the spring after it.
 //!
-//! A column is one for all staves. Marks of one lane in different columns are kept apart.
+//! All staves share a column. Marks of one lane in different columns are kept apart.
 #![tactic(auto)]
 
 pub mod column;

@@ -13,7 +13,7 @@ use mus_laid::{Laid, Lane, Mark, Sides, StaffMarks, sides_of};
 use mus_units::Memory;
 use std::alloc::Global;
 
-/// How far a box goes to the left of its column.
+/// Returns how far a box extends to the left of its column.
 #[tactic(auto, unfolding(crate::specs::Reaches::left_of))]
 fn left_of(left: i64) -> u32
     ensures { result ≡ left_of left }
@@ -21,7 +21,7 @@ fn left_of(left: i64) -> u32
     left.clamp(-i64::from(MOST_REACH), 0).unsigned_abs() as u32
 }
 
-/// How far a box goes to the right of its column.
+/// Returns how far a box extends to the right of its column.
 #[tactic(auto, unfolding(crate::specs::Reaches::right_of))]
 fn right_of(right: i64) -> u32
     ensures { result ≡ right_of right }
@@ -29,7 +29,7 @@ fn right_of(right: i64) -> u32
     right.clamp(0, i64::from(MOST_REACH)) as u32
 }
 
-/// The rank of the column at which a mark has its box.
+/// Returns the rank of the column at which a mark has its box.
 fn rank_of(mark: &Mark) -> Option<u32>
     ensures { result ≡ rank_of_mark mark.now }
 {
@@ -40,7 +40,7 @@ fn rank_of(mark: &Mark) -> Option<u32>
     }
 }
 
-/// The reach that covers a box too.
+/// Returns the reach, widened to cover a box too.
 fn widened(reach: Option<Reach>, sides: Sides) -> Reach
     ensures { result ≡ reach_widened reach sides }
 {
@@ -54,7 +54,7 @@ fn widened(reach: Option<Reach>, sides: Sides) -> Reach
     }
 }
 
-/// The place of a lane among those of the system, where those of its staff begin at `start`.
+/// Returns the number of a lane among those of the system, if those of its staff begin at `start`.
 fn place_of_lane(start: usize, lanes: usize, lane: Lane) -> Option<usize>
     requires { start + lanes < 2 ^ 64 }
     ensures { result ≡ place_of_lane start lanes (lane_number lane) }
@@ -65,7 +65,7 @@ fn place_of_lane(start: usize, lanes: usize, lane: Lane) -> Option<usize>
     }
 }
 
-/// Widens the reach in a lane, where there is that lane.
+/// Widens the reach in a lane, if there is such a lane.
 fn widen_reach(
     alloc: Global,
     reaches: &mut Reaches,
@@ -96,7 +96,7 @@ fn widen_at(
     Ok(())
 }
 
-/// Widens the reach of the mark's column in its lane over its box. The lanes of its staff begin
+/// Widens the reach of the mark's column in its lane to cover its box. The lanes of its staff begin
 /// at `start`.
 fn widen(
     alloc: Global,
@@ -139,7 +139,7 @@ fn widen_all(
     Ok(())
 }
 
-/// Widens the reaches of the columns over the boxes of the marks of each staff, in its lanes.
+/// Widens the reaches of the columns to cover the boxes of the marks of each staff, in its lanes.
 pub(crate) fn widen_by_staves(
     alloc: Global,
     columns: &mut [Column],

@@ -5,7 +5,7 @@ ghost use Rattle.lay_reaches.specs.Naturals.{natural_of};
 use mus_onsets::{Class, ColumnKey};
 use mus_units::WHOLE;
 
-/// The natural length for some ticks: by the greatest row that isn't above them.
+/// Returns the natural length for some ticks: that of the greatest row that isn't above them.
 fn natural_for(ticks: u64) -> u32
     ensures { result ≡ natural_for ticks }
 {
@@ -68,8 +68,9 @@ fn tick_or_end(measure: u32, next: Option<ColumnKey>, lengths: &[u64]) -> u64
     }
 }
 
-/// The natural length of the spring from a column to the next: by the ticks from a note column
-/// to the next one of its measure, or else to the measure's end; 0 for all other columns.
+/// Returns the natural length of the spring from a column to the next. It depends on the ticks from
+/// a note column to the next one of its measure, or else to the measure's end. It is 0 for all
+/// other columns.
 pub(crate) fn natural_of(key: ColumnKey, behind: &[ColumnKey], lengths: &[u64]) -> u32
     ensures { result ≡ natural_of key behind.now lengths.now }
 {

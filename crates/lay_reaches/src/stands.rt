@@ -9,7 +9,8 @@ use mus_units::{Memory, Row};
 use std::alloc::Global;
 use std::marker::Model;
 
-/// So many lanes, and the reach in one of them, if it stands there; it stands in no other.
+/// A number of lanes, and the reach in one of them, if the column is in it. The column is in no
+/// other lane.
 #[derive(Clone, Copy)]
 struct Single {
     lanes: usize,
@@ -18,7 +19,7 @@ struct Single {
     ghost inside: { IfSome reach (λ r. lane < lanes) } by { Prim.hlevel props },
 }
 
-/// A reach or none for each lane, in place where these are the three of a staff without verses.
+/// A reach or none for each lane, stored inline for the three lanes of a staff without verses.
 #[derive(Drop)]
 enum LaneReaches {
     Three([Option<Reach>; 3]),
@@ -44,15 +45,15 @@ impl LaneReaches {
     }
 }
 
-/// Where a column stands: in a single lane or none, or as each lane has it.
+/// Storage for the reaches of a column: a single lane or none, or an entry per lane.
 #[derive(Drop)]
 enum ReachStore {
     Single(Single),
     Row(LaneReaches),
 }
 
-/// The reach of a column in each lane, None where it doesn't stand in it, which contracts see as a
-/// list. A column that stands in one lane at most takes no memory.
+/// The reach of a column in each lane, `None` if the column isn't in it. Contracts see it as a
+/// list. A column in at most one lane takes no memory.
 #[derive(Drop)]
 pub struct Reaches {
     held: ReachStore,
@@ -70,7 +71,7 @@ impl Model for Reaches {
 }
 
 impl Reaches {
-    /// The reaches in some lanes before any mark: 0 to both sides in each, or none.
+    /// Returns the reaches in some lanes before any mark: 0 to both sides in each, or none.
     pub(crate) fn bare(alloc: Global, always: bool, lanes: usize) -> Result<Reaches, Memory>
         ensures { IfOk result (λ r. r ≡ replicate lanes (standing always None)) }
     {
@@ -94,7 +95,7 @@ impl Reaches {
         Ok(Reaches::from(Row { items }))
     }
 
-    /// How many lanes there are.
+    /// Returns the number of lanes.
     pub fn len(&self) -> usize
         ensures { result ≡ length self.now }
     {
@@ -104,7 +105,7 @@ impl Reaches {
         }
     }
 
-    /// The reach in a lane; None past the last.
+    /// Returns the reach in a lane; `None` past the last.
     #[tactic(auto, using(crate::proofs::Lone::row_at))]
     pub fn at(&self, lane: usize) -> Option<Reach>
         ensures { result ≡ slice_index_or self.now lane None }
@@ -119,7 +120,7 @@ impl Reaches {
         }
     }
 
-    /// Where the column stands.
+    /// Returns the reaches as the column's view of its lanes.
     pub(crate) fn stands(&self) -> ReachView<'_>
         ensures { TellsReach result (reach_in self.now) }
     {
@@ -137,7 +138,7 @@ impl Reaches {
         ReachView::OneLane(LaneReach { lane, reach })
     }
 
-    /// Puts the reach in a lane.
+    /// Sets the reach in a lane.
     pub(crate) fn put(&mut self, alloc: Global, lane: usize, reach: Reach) -> Result<(), Memory>
         requires { lane < length self.old }
         ensures { OnOk result (self.new ≡ slice_set self.old lane (Some reach)) }
@@ -154,7 +155,7 @@ impl Reaches {
     }
 }
 
-/// A reach more, in a lane: in place where there was none or one of the same lane, else as a row.
+/// Adds a reach in a lane: inline if there was none or one of the same lane, else as a row.
 fn with_reach(alloc: Global, single: Single, lane: usize, reach: Reach) -> Result<Reaches, Memory>
     requires { lane < single.lanes }
     ensures { IfOk result

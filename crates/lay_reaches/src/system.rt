@@ -14,14 +14,14 @@ use mus_onsets::{Class, ColumnKey, Timeline};
 use mus_units::{Memory, Row};
 use std::alloc::Global;
 
-/// Whether a column stands in each lane, whatever its marks are.
+/// Returns whether a column is in each lane, whatever its marks are.
 fn stands_always(class: Class) -> bool
     ensures { result ≡ stands_always class }
 {
     matches!(class, Class::Head | Class::First | Class::Bar)
 }
 
-/// Columns before any mark, with all their lanes.
+/// Returns the columns before any mark, with all their lanes.
 fn bare_columns(
     alloc: Global,
     keys: &[ColumnKey],
@@ -41,14 +41,14 @@ fn bare_columns(
     Ok(out)
 }
 
-/// The columns of these keys, one for each, in their order. A mark stands in the column of its
-/// rank, and in its lane of its staff; one past the last column or lane, or in `Loose`, stands
-/// nowhere. Lanes are, for each staff from the top, main, above, below and one for each verse;
-/// `verses` has the number of verses of each staff, `lengths` how long each measure lasts, in
-/// ticks. A column reaches in a lane as far as the boxes of its marks there, at least 0 and at
-/// most 2^20; a column of a head, of the bar before the first measure or of a bar stands in each
-/// lane. A note column's natural length is that of the ticks to the next note column of its
-/// measure, or else to the measure's end: from 4000 for two whole notes to 500 below a 64th.
+/// Returns the columns of these keys, one for each, in their order. A mark belongs to the column of
+/// its rank, and to its lane of its staff; one past the last column or lane, or in `Loose`, belongs
+/// to none. Lanes are, for each staff from the top: main, above, below and one per verse. `verses`
+/// has the number of verses of each staff, `lengths` the length of each measure, in ticks. A column
+/// extends in a lane as far as the boxes of its marks there, at least 0 and at most 2^20. A column
+/// of a head, of the bar before the first measure or of a bar is in each lane. A note column's
+/// natural length is that of the ticks to the next note column of its measure, or else to the
+/// measure's end: from 4000 for two whole notes to 500 below a 64th.
 pub fn columns_in(
     alloc: Global,
     keys: &[ColumnKey],
@@ -71,7 +71,7 @@ pub fn columns_in(
     Ok(columns)
 }
 
-/// The columns of a system, one for each of its keys; `t` is the timeline of its score, and
+/// Returns the columns of a system, one for each of its keys. `t` is the timeline of its score, and
 /// `verses` has the number of verses of each staff. See `columns_in`.
 pub fn columns(
     alloc: Global,

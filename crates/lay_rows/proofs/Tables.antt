@@ -1,4 +1,4 @@
--- The rows that were made of the bars, in their order, are the table.
+-- The rows that were made of the bars, in order, are the table.
 use Rattle.std.proofs.Common.{◌≡◌, ℕ, zero, suc, ◌<◌, ◌≤◌, ◌^◌, List, [], ◌∷◌, length, All, slice_index, slice_index_or}
 use Rattle.std.proofs.Common.{arith, ◌∙◌, subst}
 use Rattle.std.proofs.lemmas.List.Elements.{All-from_get_or}

@@ -1,14 +1,14 @@
--- The costs of spans kept as rows, one for each bar.
+-- The costs of spans as rows, one for each bar.
 use Rattle.std.specs.Prelude.{◌≡◌, ℕ, ◌<◌, ◌≤◌, ◌^◌, nat_lt, true, List, Option, None, IfSome, if◌then◌else◌, refl}
 use Rattle.std.proofs.Common.{arith, sym, ◌∙◌}
 use Rattle.std.proofs.lemmas.Bool.Decides.{nat_tests}
 use Rattle.lay_breaks.specs.Rows.{row_cost, rows_stop, rows_small, AreSmall}
 
--- what the span from a to b costs, by the row of bar a
+-- the cost of the span from a to b, by the row of bar a
 abbrev pub cost_in : List (List ℕ) → ℕ → ℕ → Option ℕ
 cost_in rows a b = if nat_lt a b then row_cost rows a b else None
 
--- What follows from the form: the two laws of costs.
+-- Consequences of the form: the two laws of costs.
 cost_of_rising : (rows : List (List ℕ)) (a b : ℕ) → a < b → cost_in rows a b ≡ row_cost rows a b
 cost_of_rising rows a b l = let t : nat_lt a b ≡ true = grind (arith, nat_tests) in rw t refl
 

@@ -1,7 +1,7 @@
-//! Rows of costs made side by side: for each bar what the spans from it cost.
+//! Makes rows of costs in parallel: for each bar the costs of the spans from it.
 //!
-//! Whoever knows the row of each bar implements `RowMaker`. `make_rows` makes the rows by any
-//! number of jobs, and what comes of it are costs that a breaking is chosen by.
+//! A type that knows the row of each bar implements `RowMaker`. `make_rows` makes the rows with any
+//! number of jobs. Its result is the costs by which a breaking is chosen.
 #![tactic(auto)]
 
 pub mod maker;

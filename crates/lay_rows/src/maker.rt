@@ -9,17 +9,17 @@ use std::thread::Threads;
 
 /// A table of costs that is made row by row.
 ///
-/// What a row is made from the maker holds itself, so that several threads may share it.
+/// The maker itself holds all that a row is made from, so that several threads may share it.
 pub trait RowMaker {
     ghost use Rattle.std.specs.Prelude.{◌≡◌, ◌<◌, ◌≤◌, ◌^◌, ℕ, List, All, IfOk};
 
-    // how many rows the table has
+    // the number of rows of the table
     ghost bars: { Self → ℕ };
 
-    // the row of a bar: what the spans from it that fit cost, the shortest first
+    // the row of a bar: the costs of the spans from it that fit, the shortest first
     ghost is_row: { Self → ℕ → List ℕ → Type 0 };
 
-    /// The row of bar `a`. `Memory` alone comes in its place.
+    /// Returns the row of bar `a`. The only error is `Memory`.
     fn costs_from(&self, a: u32) -> Result<Row<u64>, Memory>
         requires { a < bars self.now }
         ensures { IfOk result (λ row. is_row self.now a row) };
@@ -48,7 +48,7 @@ impl<'a, M: RowMaker> Work<u32, Row<u64>> for Making<'a, M> {
     }
 }
 
-/// The bars below `n`.
+/// Returns the bars below `n`.
 fn bars_below(alloc: Global, n: u32) -> Result<Row<u32>, Memory>
     ensures count { IfOk result (λ bars. length bars ≡ n) }
     ensures each { IfOk result (λ bars. (a : ℕ) → a < n → slice_index bars a ≡ a) }
@@ -60,9 +60,10 @@ fn bars_below(alloc: Global, n: u32) -> Result<Row<u32>, Memory>
     Ok(bars)
 }
 
-/// The table of a maker of `n` rows, whatever the number of jobs.
+/// Returns the table of a maker of `n` rows. It doesn't depend on the number of jobs.
 ///
-/// The bars are halved by join, and the jobs with them; the halves are made side by side where threads can be made.
+/// The bars are halved recursively, and the jobs with them; the two halves are made in parallel if
+/// threads can be made.
 pub fn make_rows<R: Threads + Sync, M: RowMaker + Sync>(
     rt: &R,
     alloc: Global,

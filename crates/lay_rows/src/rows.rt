@@ -4,8 +4,8 @@ ghost use Rattle.{lay_breaks.specs.Rows.{AreSmall}, lay_rows.specs.Costs.{cost_i
 use lay_breaks::Costs;
 use mus_units::Row;
 
-/// What spans cost, as a row for each bar: the costs of the spans from it, from the
-/// shortest to the longest that fits. No bar is forced.
+/// The costs of spans, as a row for each bar: the costs of the spans from it, from the shortest to
+/// the longest that fits. No bar is forced.
 #[derive(Drop)]
 pub struct Rows {
     pub rows: Row<Row<u64>>,

@@ -1,4 +1,4 @@
--- The columns of a span, and how they grow by a measure.
+-- The columns of a span, and how they grow by one measure.
 use Rattle.std.proofs.Common.{◌≡◌, ℕ, zero, suc, ◌+◌, ◌-◌, ◌<◌, ◌≤◌, List, [], ◌∷◌, ◌++◌, length, take, drop, flat_map}
 use Rattle.std.proofs.Common.{slice_index_or, get_or, Option, option_and_then, slice_get, arith, sym, ◌∙◌, ap, subst}
 use Rattle.std.proofs.Common.{length-append}
@@ -19,7 +19,7 @@ columns_some {C} starts others a b l some =
     subst (λ k. 0 < length (flat_map (λ measure. measure) (take k (measures_from starts others a)))) (sym e)
     (omega arith)
 
--- one measure more
+-- one more measure
 pub columns_more : {C : Type 0} (starts others : List (List C)) (a m : ℕ)
     → a ≤ m → m < length starts → length others ≡ length starts
     → span_columns starts others a (m + 1)

@@ -14,7 +14,7 @@ use Rattle.lay_spans.specs.Columns.{span_columns, AreMeasures}
 use Rattle.lay_spans.specs.SpanList.{FitsAtForce, IsForce}
 use Rattle.lay_spans.proofs.Adding.{columns_some, columns_continue, ends_so}
 
--- a longer span can't stand where a shorter one can't
+-- a longer span can't be within a width if a shorter one can't
 pub longer_stands : {C : Type 0} (reach : C → ℕ → Option Reach) (len : C → ℕ → ℕ) (gaps : List ℕ) (width force : ℕ)
     (starts others : List (List C)) (a b c : ℕ)
     → AreMeasures reach (length gaps) starts others → a < b → b < c → c ≤ length starts
@@ -37,7 +37,7 @@ longer_stands reach len gaps width force starts others a b c h l m n some stands
     (ends_so reach (length gaps) (span_columns starts others a b ++ longer.0) last ends))
     (subst (λ columns. FitsAtForce reach len gaps width force columns) is stands)
 
--- a force that is too great for a span is too great for the span with one measure more
+-- a force that is too great for a span is too great for the span with one more measure
 pub still_above : {C : Type 0} (reach : C → ℕ → Option Reach) (len : C → ℕ → ℕ) (gaps : List ℕ) (width most : ℕ)
     (starts others : List (List C)) (a m : ℕ)
     → AreMeasures reach (length gaps) starts others → a < length starts → m < length starts
@@ -49,7 +49,7 @@ still_above reach len gaps width most starts others a m h inside l before g past
     shorter.1 (longer_stands reach len gaps width g starts others a m (m + 1) h some (omega arith) (omega arith)
     (columns_some starts others a m some (h.begun a inside)) stands)
 
--- Columns that stand elsewhere, by the columns that they are.
+-- Columns in another type, with the same reaches and springs.
 seen_reach : {D C : Type 0} (f : D → C) (reach : C → ℕ → Option Reach) (seen : List D)
     → reach_at (λ s lane. reach (f s) lane) seen ≡ reach_at reach (map f seen)
 seen_reach f reach seen = fun_ext (λ i. fun_ext (λ lane.
@@ -106,7 +106,7 @@ force_of f reach len gaps width most seen columns force e small bound fits great
   ];
 }
 
--- columns whose end passes the width can't stand there
+-- columns whose end passes the width can't be within it
 pub passes_never : {C : Type 0} (reach : C → ℕ → Option Reach) (len : C → ℕ → ℕ) (gaps : List ℕ) (width : ℕ)
     (columns : List C) (force : Option ℕ)
     → 0 < length columns

@@ -21,7 +21,7 @@ use Rattle.lay_spans.proofs.Adding.{columns_some, columns_more}
 use Rattle.lay_spans.proofs.Fitting.{longer_stands, seen_as}
 use Rattle.lay_spans.proofs.Listing.{in_rows, past_rows, rows_form}
 
--- the columns that are seen, with one measure more
+-- the borrowed columns, with one more measure
 pub seen_more : {D C : Type 0} (f : D → C) (old new : List D) (starts others : List (List C)) (a m : ℕ)
     → a ≤ m → m < length starts → length others ≡ length starts
     → map f old ≡ span_columns starts others a m
@@ -32,7 +32,7 @@ seen_more f old new starts others a m l k same e added =
     ∙ ap (λ cs. cs ++ slice_index_or (measures_from starts others a) (m - a) []) e
     ∙ sym (columns_more starts others a m l k same)
 
--- columns that are placed are placed among those that are seen with one measure more
+-- columns that are placed are placed among the borrowed ones with one more measure
 pub placed_more : {D C : Type 0} (f : D → C) (reach : C → ℕ → Option Reach) (len : C → ℕ → ℕ) (gaps : List ℕ)
     (p : Progress) (x x' more fronts : List ℤ) (seen : List D) (starts others : List (List C)) (a m : ℕ)
     → a ≤ m → m < length starts → length others ≡ length starts
@@ -58,7 +58,7 @@ placed_more f reach len gaps p x x' more fronts seen starts others a m l k same 
     (subst (λ cs. HasPlaced (length cs) (reach_at reach cs) gaps (length_at len cs) p (x ++ more) fronts) (sym longer)
     (placed_on reach len (span_columns starts others a m) next gaps p x more fronts (omega arith) h)))
 
--- what holds of each place of a list holds of each once one more is added
+-- what holds at each index of a list holds at each once one more is added
 pub each_more : {X : Type 0} (P : ℕ → X → Type 0) (xs : List X) (x d : X)
     → ((k : ℕ) → k < length xs → P k (get_or xs k d)) → P (length xs) x → (k : ℕ) → k < length (xs ++ x ∷ [])
     → P k (get_or (xs ++ x ∷ []) k d)
@@ -91,7 +91,7 @@ free_more forced a m free before f l k is =
     (λ l is. absurd (true≢false (sym is ∙ free)))
     l is
 
--- the row ends where the next span doesn't fit
+-- the row ends if the next span doesn't fit
 pub stops_at : {C : Type 0} (reach : C → ℕ → Option Reach) (len : C → ℕ → ℕ) (gaps : List ℕ) (width : ℕ)
     (starts others : List (List C)) (forced : ℕ → Bool)
     (a m : ℕ) (row : List ℕ)
@@ -112,7 +112,7 @@ stops_at reach len gaps width starts others forced a m row h inside l e each nev
   ]);
 }
 
--- or behind a forced bar
+-- or after a forced bar
 pub stops_behind : {C : Type 0} (reach : C → ℕ → Option Reach) (len : C → ℕ → ℕ) (gaps : List ℕ) (width : ℕ)
     (starts others : List (List C)) (forced : ℕ → Bool)
     (a m : ℕ) (row : List ℕ) → m < length starts → a + length row ≡ m + 1 → a ≤ m

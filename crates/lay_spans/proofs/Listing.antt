@@ -87,7 +87,7 @@ past_rows m (row ∷ rows) a c l n = elim (cases_eq m a) [
 abbrev pub Before : ℕ → Option Span → Type 0
 Before m last = MatchOption last (Unit {0}) (λ p. p.a < m)
 
--- a span from a to b may stand after the last so far
+-- a span from a to b may come after the last so far
 abbrev pub MayBegin : Option Span → ℕ → ℕ → Type 0
 MayBegin last a b = MatchOption last (b ≡ a + 1) (λ p. ((p.a < a) × (b ≡ a + 1)) ⊎ ((a ≡ p.a) × (b ≡ p.b + 1)))
 

@@ -1,5 +1,4 @@
--- What a span costs that is pressed with a force: the square of how far the force is from 256,
--- and four times that below 256.
+-- The cost of a span with a force: the square of the distance of the force from 256, and four times that below 256.
 -- In a last span a force of 256 or more counts as 256.
 use Rattle.std.specs.Prelude.{ℕ, ◌-◌, ◌*◌, Bool, nat_le, if◌then◌else◌}
 use Rattle.lay_springs.specs.Fit.{counted}

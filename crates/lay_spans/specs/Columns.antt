@@ -1,5 +1,5 @@
--- The columns of measures that stand in a system. `starts` has the columns of each measure in a system that begins with
--- it, `others` in one that doesn't. The span from bar a to bar b has the measures a to b - 1, counted from 0.
+-- The columns of measures in a system. `starts` has the columns of each measure in a system that begins with it,
+-- `others` in one that doesn't. The span from bar a to bar b has the measures a to b - 1, counted from 0.
 use Rattle.std.specs.Prelude.{◌≡◌, ℕ, ◌+◌, ◌-◌, ◌<◌, ◌≤◌, List, [], ◌∷◌, length, take, drop, flat_map, slice_index_or}
 use Rattle.std.specs.Prelude.{Option}
 use Rattle.lay_springs.specs.{declared.traits.Reach.Reach, Place.reach_at, Fit.StandsInAll}
@@ -12,13 +12,13 @@ measures_from starts others a = slice_index_or starts a [] ∷ drop (a + 1) othe
 abbrev pub span_columns : {C : Type 0} → List (List C) → List (List C) → ℕ → ℕ → List C
 span_columns starts others a b = flat_map (λ measure. measure) (take (b - a) (measures_from starts others a))
 
--- a list of columns, the last of which stands in each lane
+-- a list of columns, the last of which is in each lane
 pub record EndsInAll {C : Type 0} (reach : C → ℕ → Option Reach) (lanes : ℕ) (columns : List C) : Type 0 where
   pub some : 0 < length columns
   pub last : StandsInAll (reach_at reach columns (length columns - 1)) lanes
 
 -- the columns of the measures of a tune: each measure has some, and those that don't begin a system end with one that
--- stands in each lane
+-- is in each lane
 pub record AreMeasures {C : Type 0} (reach : C → ℕ → Option Reach) (lanes : ℕ)
     (starts others : List (List C)) : Type 0 where
   pub same : length others ≡ length starts

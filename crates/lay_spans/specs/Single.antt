@@ -1,4 +1,4 @@
--- What follows from what spans cost: no cost passes 2^40, columns have one force, and a bar has one row.
+-- Consequences of the costs of spans: no cost passes 2^40, columns have one greatest force, and a bar has one row.
 use Rattle.std.proofs.Common.{◌≡◌, ℕ, ◌+◌, ◌-◌, ◌*◌, ◌<◌, ◌≤◌, ◌^◌, ◌==◌, nat_le, if◌then◌else◌, true, false, Option}
 use Rattle.std.proofs.Common.{Some, Bool, List, length, All, arith, sym, ◌∙◌, ap, subst, inl, inr}
 use Rattle.std.proofs.Math.Nat.{mul-le-mul_left}
@@ -21,7 +21,7 @@ use Rattle.lay_spans.specs.Rows.{IsRowFrom}
 one_reach : (o : Option Reach) → IsProp ((s : Reach) × (o ≡ Some s))
 one_reach o a b = Σ_prop_path (λ s. hlevel props) (same_Some a.0 b.0 (sym a.1 ∙ b.1))
 
--- measures are so in one way
+-- `AreMeasures` is a proposition
 pub measures_prop : {C : Type 0} (reach : C → ℕ → Option Reach) (lanes : ℕ) (starts others : List (List C))
     → IsProp (AreMeasures reach lanes starts others)
 measures_prop reach lanes starts others = hlevel (props, one_reach)
@@ -56,7 +56,7 @@ module _ {C : Type 0} (reach : C → ℕ → Option Reach) (len : C → ℕ → 
       h.greatest g less k.bound
       (stands (length columns) (reach_at reach columns) gaps (length_at len columns) width g k.fits)
 
-  -- columns have one force
+  -- columns have one greatest force
   pub one_force : (columns : List C) (f g : ℕ)
       → IsForce reach len gaps width columns f → IsForce reach len gaps width columns g → f ≡ g
   one_force columns f g h k = elim (cases_lt f g) [
@@ -64,7 +64,7 @@ module _ {C : Type 0} (reach : C → ℕ → Option Reach) (len : C → ℕ → 
     | inr more ↦ elim (cases_lt g f) [ inl less ↦ absurd (not_weaker columns g f k h less) | inr same ↦ omega arith ]
   ]
 
-  -- columns that a force presses can stand
+  -- columns with a greatest force can be within the width
   pub can_stand : (columns : List C) (force : ℕ)
       → ((c : C) → len c 0 ≤ len c force) → IsForce reach len gaps width columns force
       → FitsAtForce reach len gaps width 0 columns

@@ -1,4 +1,4 @@
--- The spans of measures that fit within a width, and what each costs.
+-- The spans of measures that fit within a width, and the cost of each.
 use Rattle.std.specs.Prelude.{◌≡◌, ℕ, ◌<◌, ◌≤◌, ◌⊎◌, ◌==◌, Bool, List, length, Option, Some, None, IsSome}
 use Rattle.lay_springs.specs.declared.traits.Reach.{Reach}
 use Rattle.lay_springs.specs.Place.{reach_at, length_at}
@@ -17,15 +17,14 @@ abbrev pub FitsAtForce : {C : Type 0} → (C → ℕ → Option Reach) → (C �
 FitsAtForce reach len gaps width force columns =
     CanStandWithin (length columns) (reach_at reach columns) gaps (length_at len columns) width force
 
--- force is the greatest of 0 to 2048 at which the columns end within the width
+-- force is the greatest from 0 to 2048 at which the columns end within the width
 pub record IsForce {C : Type 0} (reach : C → ℕ → Option Reach) (len : C → ℕ → ℕ) (gaps : List ℕ) (width : ℕ)
     (columns : List C) (force : ℕ) : Type 0 where
   pub bound : force ≤ 2048
   pub fits : FitsAt reach len gaps width force columns
   pub greatest : (g : ℕ) → force < g → g ≤ 2048 → FitsAtForce reach len gaps width g columns → ⊥
 
--- the span from bar a to bar b fits and costs v: no forced bar stands strictly inside,
--- and v is the badness of its force
+-- the span from bar a to bar b fits and costs v: no forced bar is strictly inside, and v is the badness of its force
 pub record IsCost {C : Type 0} (reach : C → ℕ → Option Reach) (len : C → ℕ → ℕ) (gaps : List ℕ) (width : ℕ)
     (starts others : List (List C)) (forced : ℕ → Bool) (a b v : ℕ) : Type 0 where
   pub free : ForcedInside forced a b → ⊥
@@ -33,14 +32,14 @@ pub record IsCost {C : Type 0} (reach : C → ℕ → Option Reach) (len : C →
       × IsForce reach len gaps width (span_columns starts others a b) force
       × (v ≡ badness_of (b == length starts) force)
 
--- the span from bar a to bar b is none: a forced bar stands strictly inside,
--- or its columns pass the width even at force 0
+-- the span from bar a to bar b doesn't fit: a forced bar is strictly inside, or its columns pass the width even at
+-- force 0
 abbrev pub IsNoSpan : {C : Type 0}
     → (C → ℕ → Option Reach) → (C → ℕ → ℕ) → List ℕ → ℕ → List (List C) → List (List C) → (ℕ → Bool) → ℕ → ℕ → Type 0
 IsNoSpan reach len gaps width starts others forced a b =
     ForcedInside forced a b ⊎ (FitsAtForce reach len gaps width 0 (span_columns starts others a b) → ⊥)
 
--- the list has each span that fits, with what it costs, and no other
+-- the list has each span that fits, with its cost, and no other
 pub record IsSpanList {C : Type 0} (reach : C → ℕ → Option Reach) (len : C → ℕ → ℕ) (gaps : List ℕ) (width : ℕ)
     (starts others : List (List C)) (forced : ℕ → Bool) (spans : List Span) : Type 0 where
   pub each : (a b v : ℕ)

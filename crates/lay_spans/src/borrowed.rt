@@ -1,6 +1,6 @@
 use std::marker::Model;
 
-/// Columns that are lent, which contracts see as a list.
+/// Borrowed columns, which contracts see as a list.
 #[derive(Drop)]
 pub struct BorrowedColumns<'a, C> {
     pub columns: &'a [C],

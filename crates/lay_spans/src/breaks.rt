@@ -10,11 +10,11 @@ use lay_breaks::{BreakError, Breaking, least};
 use mus_units::Memory;
 use std::alloc::Global;
 
-/// The legal breaking of `n` bars into listed spans that costs least; among equals
+/// Returns the legal breaking of `n` bars into listed spans that costs least. Among equals it is
 /// the one that, read from its end, is lexicographically greatest.
 ///
-/// Bars in `forced` past `n` count for nothing, and neither does bar 0. `NoWay` comes
-/// exactly where no breaking is legal.
+/// Bars in `forced` past `n` are ignored, and so is bar 0. Returns `NoWay` exactly when no breaking
+/// is legal.
 pub fn break_of(
     alloc: Global,
     spans: &FittingSpans,

@@ -5,8 +5,8 @@ use lay_breaks::{Costs, Span};
 use lay_rows::Rows;
 use mus_units::Row;
 
-/// The spans that fit, as a list by the bar after which they begin and then by the bar
-/// with which they end, and as rows of what they cost.
+/// The spans that fit, as a list by the bar after which they begin and then by the bar with which
+/// they end, and their costs as rows.
 #[derive(Drop)]
 pub struct FittingSpans {
     pub list: Row<Span>,

@@ -1,9 +1,9 @@
 ghost use Rattle.std.specs.Prelude.{◌≡◌, ◌≤◌, ◌^◌, ℕ};
 ghost use Rattle.lay_spans.specs.Badness.{badness_at, badness_of};
 
-/// What a span costs that is pressed with a force: the square of how far the force
-/// is from 256, and four times that below 256. In a span that ends with the tune,
-/// which is `last`, a force of 256 or more counts as 256 and costs nothing.
+/// Returns the cost of a span with a force: the square of the distance of the force from 256, and
+/// four times that below 256. If the span ends with the tune, which is `last`, a force of 256 or
+/// more counts as 256 and costs nothing.
 pub fn badness(force: u16, last: bool) -> u64
     ensures value { result ≡ badness_of last force }
     ensures small { result ≤ 2 ^ 40 }
@@ -19,7 +19,7 @@ pub fn badness(force: u16, last: bool) -> u64
     }
 }
 
-/// The greatest force of 0 to 2048 whose badness is at most `cost`; 256 where that is 0.
+/// Returns the greatest force from 0 to 2048 whose badness is at most `cost`; 256 if that is 0.
 pub fn most_force(cost: u64) -> u16
     ensures bound { result ≤ 2048 }
     ensures reached { badness_at result ≤ cost }

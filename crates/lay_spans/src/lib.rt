@@ -1,7 +1,8 @@
-//! The spans of measures that fit a system, with their badness.
+//! Finds the spans of measures that fit a system, with their badness.
 //!
-//! From the columns of each measure, as they stand where it begins a system and where it doesn't, come
-//! the spans that fit within a width, what each costs, and the costs that a breaking is chosen by.
+//! The input is the columns of each measure, where it begins a system and where it doesn't. The
+//! output is the spans that fit within a width, the cost of each, and the costs by which a breaking
+//! is chosen.
 #![tactic(auto)]
 
 pub mod borrowed;

@@ -11,7 +11,7 @@ use lay_springs::{Spaced, Spring};
 use mus_units::{Memory, Row};
 use std::alloc::Global;
 
-/// The columns of measures, and all else by which it is told which of their spans fit.
+/// The columns of measures, and all else that determines which of their spans fit.
 #[derive(Drop)]
 pub(crate) struct SpanMaker<'a, C: Spaced + Spring> {
     pub(crate) alloc: Global,

@@ -4,7 +4,7 @@ ghost use Rattle.lay_spans.specs.Forced.{is_forced};
 use mus_units::{Memory, Row};
 use std::alloc::Global;
 
-/// For each bar of 0 to `n` whether it is forced; bar 0 isn't.
+/// Returns for each bar from 0 to `n` whether it is forced; bar 0 isn't.
 pub(crate) fn marks_of(alloc: Global, forced: &[u32], n: usize) -> Result<Row<bool>, Memory>
     requires { n < 2 ^ 32 }
     ensures count { IfOk result (λ marks. length marks ≡ n + 1) }

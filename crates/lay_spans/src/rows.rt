@@ -13,14 +13,14 @@ use lay_springs::{Progress, Spaced, Spring, fit_within, most_columns};
 use mus_units::{Memory, Row};
 use std::alloc::Global;
 
-/// How many columns most spans have that are tried; room for so many is made at once.
+/// The capacity for columns that is reserved at once; most tried spans have no more.
 pub(crate) const MOST_OFTEN: usize = 64;
 
-/// How many spans most rows have.
+/// The capacity for spans that is reserved for a row; most rows have no more.
 const SPANS_OFTEN: usize = 8;
 
-/// The greatest force of 0 to `most` at which the columns end within the width. None exactly where
-/// they can't stand within it; more than `most_columns` never can.
+/// Returns the greatest force from 0 to `most` at which the columns end within the width. `None`
+/// exactly when they can't be within it; more than `most_columns` never can.
 fn greatest_force<C: Spaced + Spring>(
     cols: &[C],
     gaps: &[u32],
@@ -52,7 +52,7 @@ fn greatest_force<C: Spaced + Spring>(
     fit_within(cols, gaps, width, most, at, front, placed)
 }
 
-/// The columns of measure `m` in a system that begins at bar `a`.
+/// Returns the columns of measure `m` in a system that begins at bar `a`.
 pub(crate) fn measure<'a, C>(
     starts: &'a [Row<C>],
     others: &'a [BorrowedColumns<'a, C>],
@@ -72,7 +72,7 @@ pub(crate) fn measure<'a, C>(
     }
 }
 
-/// Adds columns to those that are seen.
+/// Adds borrowed columns to those in `seen`.
 pub(crate) fn see<'a, C: Spaced + Spring>(
     seen: &mut Row<BorrowedColumn<'a, C>>,
     columns: &'a [C],
@@ -85,9 +85,10 @@ pub(crate) fn see<'a, C: Spaced + Spring>(
     Ok(())
 }
 
-/// What the spans from bar `a` cost, from the shortest to the longest that fits. It adds one measure's
-/// columns at a time, and stops at the first span that doesn't fit or behind a forced bar. Each search
-/// for a force goes on from where the one before left its columns, and takes no memory.
+/// Returns the costs of the spans from bar `a`, from the shortest to the longest that fits. It adds
+/// the columns of one measure at a time, and stops at the first span that doesn't fit or after a
+/// forced bar. Each search for a force resumes from the columns as the search before left them, and
+/// takes no memory.
 pub(crate) fn row_from<'a, C: Spaced + Spring>(
     alloc: Global,
     starts: &'a [Row<C>],
@@ -145,7 +146,7 @@ fn add_row(out: &mut Row<Span>, a: u32, row: &[u64]) -> Result<(), Memory>
     Ok(())
 }
 
-/// The rows as a list of spans.
+/// Returns the rows as a list of spans.
 pub(crate) fn list_rows(alloc: Global, rows: &[Row<u64>]) -> Result<Row<Span>, Memory>
     requires few { length rows.now ≤ 4000 }
     requires short { (a : ℕ) → a < length rows.now → length (slice_index_or rows.now a []) ≤ 4000 }

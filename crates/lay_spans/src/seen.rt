@@ -3,8 +3,8 @@ ghost use Rattle.lay_springs.specs.ReachView.{TellsReach};
 
 use lay_springs::{ReachView, Spaced, Spring};
 
-/// A borrowed column, with the reaches and the spring of the column itself: where it stands and the
-/// natural length of its spring are at hand.
+/// A borrowed column, with the reaches and the spring of the column itself. It has its view of
+/// lanes and the natural length of its spring at hand.
 #[derive(Drop)]
 pub struct BorrowedColumn<'a, C: Spaced + Spring> {
     pub column: &'a C,
@@ -15,7 +15,7 @@ pub struct BorrowedColumn<'a, C: Spaced + Spring> {
 }
 
 impl<'a, C: Spaced + Spring> BorrowedColumn<'a, C> {
-    /// A column as it is seen.
+    /// Returns a column as borrowed.
     pub(crate) fn of(column: &'a C) -> BorrowedColumn<'a, C>
         ensures { result.column.now ≡ column.now }
     {

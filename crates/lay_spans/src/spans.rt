@@ -17,16 +17,16 @@ use mus_units::{Memory, Row};
 use std::alloc::Global;
 use std::thread::Threads;
 
-/// The spans of measures that fit within a width, in u, by the bar after which they
-/// begin and then by the bar with which they end.
+/// Returns the spans of measures that fit within a width, in u, by the bar after which they begin
+/// and then by the bar with which they end.
 ///
-/// `starts` has the columns of each measure in a system that begins with it, and
-/// `others` in one that doesn't; the span from bar a to bar b has the measures a to
-/// b - 1, counted from 0. A span with a forced bar strictly inside isn't listed.
-/// Bars in `forced` that the tune doesn't have count for nothing.
+/// `starts` has the columns of each measure in a system that begins with it, and `others` in one
+/// that doesn't. The span from bar a to bar b has the measures a to b - 1, counted from 0. A span
+/// with a forced bar strictly inside isn't listed. Bars in `forced` that the tune doesn't have are
+/// ignored.
 ///
-/// The spans from the bars of either half are found side by side where
-/// threads can be made. They don't depend on it.
+/// The spans from the bars of either half are found in parallel if threads can be made. The result
+/// doesn't depend on it.
 pub fn spans_of<'a, R: Threads + Sync, C: Spaced + Spring + Sync>(
     rt: &R,
     alloc: Global,
@@ -59,7 +59,7 @@ pub fn spans_of<'a, R: Threads + Sync, C: Spaced + Spring + Sync>(
     Ok(FittingSpans { list, rows })
 }
 
-/// The columns of the span from bar `a` to bar `b`, as `spans_of` has it, in order.
+/// Returns the columns of the span from bar `a` to bar `b`, as `spans_of` has it, in order.
 pub fn columns_in<'a, C: Spaced + Spring>(
     alloc: Global,
     starts: &'a [Row<C>],

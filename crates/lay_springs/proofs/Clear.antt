@@ -1,4 +1,4 @@
--- One lane more.
+-- One more lane.
 use Rattle.std.proofs.Common.{◌≡◌, ℕ, ◌+◌, ◌<◌, ◌≤◌, ℤ, pos, ◌≤ℤ◌, Option, Some, IfSome, sym, ◌∙◌, arith, inl, inr}
 use Rattle.std.proofs.Common.{subst}
 use Rattle.std.proofs.lemmas.Bool.{cases_lt}
@@ -6,7 +6,7 @@ use Rattle.std.proofs.lemmas.Option.{same_Some}
 use Rattle.std.proofs.lemmas.Int.{ints}
 use Rattle.lay_springs.specs.{declared.traits.Reach.Reach, Place.IsInside}
 
--- what stands at k below n, or at n
+-- what holds at k below n, or at n
 pub below_or_at : (P : ℕ → Type 0) (k n : ℕ) → k < n + 1 → (k < n → P k) → P n → P k
 below_or_at P k n l p q = elim (cases_lt k n) [ inl lt ↦ p lt | inr ge ↦ let e : n ≡ k = omega arith in subst P e q ]
 

@@ -23,7 +23,7 @@ end_more reach lane at old new r er le reached least h = record {
   least = λ v p q. least v (h.least v p (λ k u lt eu. q k u (omega arith) eu)) (q lane r (omega arith) er);
 }
 
--- springs that are no longer let the columns stand where longer ones do
+-- columns that are apart with some springs are apart with springs that are no longer
 pub apart_down : (n : ℕ) (reach : ℕ → ℕ → Option Reach) (gaps : List ℕ) (weak strong : ℕ → ℕ) (x : List ℤ)
     → ((i : ℕ) → weak i ≤ strong i) → StandApart n reach gaps strong x → StandApart n reach gaps weak x
 apart_down n reach gaps weak strong x le h = record {

@@ -1,4 +1,4 @@
--- What stands furthest right in each lane.
+-- The frontiers of the lanes.
 use Rattle.std.proofs.Common.{get_or-set_same, get_or-set_other, slice_set, ◌≡◌, ℕ, ◌+◌, ◌*◌, ◌^◌, ◌<◌, ◌≤◌, inl, inr}
 use Rattle.std.proofs.Common.{ℤ, pos, negsuc, ◌+ℤ◌, ◌≤ℤ◌, List, length, Option, None, Some, IfSome, slice_index}
 use Rattle.std.proofs.Common.{slice_index_or, sym, ap, ◌∙◌, arith, subst, refl}
@@ -41,7 +41,7 @@ module _ (reach : ℕ → ℕ → Option Reach) (gaps : List ℕ) (spring : ℕ 
       let p = past lane s lt es (omega (arith, ints)) in
       omega (arith, ints)
 
-  -- past a column that stands in a list that is at most so far below, at another force too
+  -- past a column that is in a list at most this far below, at another force too
   pub front_below : (weak : ℕ → ℕ) (y : List ℤ) (d : ℕ) (w : ℤ) → StandApart (j + 1) reach gaps weak y
       → ((k : ℕ) → k < j → at x k ≤ℤ (at y k +ℤ pos d)) → (at y j +ℤ pos d) ≤ℤ w
       → IsPast (reach j) gaps (length gaps) front w
@@ -65,7 +65,7 @@ module _ (reach : ℕ → ℕ → Option Reach) (gaps : List ℕ) (spring : ℕ 
       let left = (rw es at (near j lane lt)).0 in let gap = narrow lane lt in omega (arith, ints)
 
 module _ (reach : ℕ → ℕ → Option Reach) (lanes j : ℕ) (v : ℤ) where
-  -- one lane, where column j stands at v
+  -- one lane, with column j at v
   one_covers : (o : Option Reach) (old new : ℤ) → Advances o v old new → old ≤ℤ new
   one_covers None old new h = omega (arith, ints)
   one_covers (Some r) old new h = h.0
@@ -129,7 +129,7 @@ module _ (reach : ℕ → ℕ → Option Reach) (lanes j : ℕ) (v : ℤ) where
         stood lane lt (Some r) e h some =
             elim h.2 [ inl q ↦ old lane lt q some | inr q ↦ (j, r, omega arith, e, rw here q) ]
 
--- a column past what stands before it in each lane stands behind that
+-- a column past the frontiers is clear of the columns before it
 pub each_behind : (reach : ℕ → Option Reach) (gaps : List ℕ) (lanes : ℕ) (front : List ℤ) (v : ℤ)
     → pos 0 ≤ℤ v → IsPast reach gaps lanes front v
     → (lane : ℕ) → lane < lanes → IfSome (reach lane) (λ r. at front lane ≤ℤ v)
@@ -143,7 +143,7 @@ each_behind reach gaps lanes front v begins past lane l = one (reach lane) refl
     one None e = tt
     one (Some r) e = behind (at front lane) (slice_index gaps lane + r.left) (past lane r l e)
 
--- a column stands in no lane past its row
+-- a column is in no lane past its row
 pub none_past : (row : List (Option Reach)) (lane : ℕ) → length row ≤ lane → reach_in row lane ≡ None
 unfolding reach_in
 none_past row lane l = rw (slice_get_past row lane l) refl
@@ -157,7 +157,7 @@ front_start reach lanes x front h = record {
   small = λ lane lt. let e = h lane lt in omega (arith, ints);
 }
 
--- what tells of one lane tells that it stands there alone
+-- a view of one lane says that the column is in that lane alone
 pub lone_told : (stand : LaneReach) (reach : ℕ → Option Reach)
     → TellsReach (ReachView.OneLane stand) reach → stand.lane < 4294967296 → IsLone reach stand
 lone_told stand reach told few = record {
@@ -165,7 +165,7 @@ lone_told stand reach told few = record {
   alone = λ lane l other. let apart = ne_eqb lane stand.lane other in sym (told lane (omega arith)) ∙ rw apart refl;
 }
 
--- a column that stands in one lane alone is past all that stands before it where it is past what stands in that lane
+-- a column that is in one lane alone is past all frontiers if it is past the frontier of that lane
 pub lone_clear : (reach : ℕ → Option Reach) (stand : LaneReach) (gaps : List ℕ) (front : List ℤ) (v : ℤ)
     → IsLone reach stand → length gaps < 4294967296
     → (pos 0 ≤ℤ at front stand.lane
@@ -178,7 +178,7 @@ lone_clear reach stand gaps front v lone few past lane s l es some = elim (cases
   | inr other ↦ absurd (none-some s (sym (lone.alone lane (omega arith) other) ∙ es))
 ]
 
--- a column that stands in one lane alone, at v, ends there past what stood in it before
+-- a column in one lane alone, at v, advances its frontier there
 pub lone_noted : (reach : ℕ → Option Reach) (stand : LaneReach) (front : List ℤ) (v : ℤ)
     → IsLone reach stand → length front < 4294967296 → stand.lane < length front
     → at front stand.lane ≤ℤ v → (lane : ℕ) → lane < length front

@@ -1,4 +1,4 @@
--- Columns that continue others: they need more room, and those are still placed.
+-- Columns that continue others need more room, and the others are still placed.
 use Rattle.std.proofs.Common.{◌≡◌, ℕ, zero, suc, ◌+◌, ◌-◌, ◌*◌, ◌<◌, ◌≤◌, ℤ, pos, ◌≤ℤ◌, List, [], ◌∷◌, ◌++◌, length}
 use Rattle.std.proofs.Common.{Option, option_map, option_and_then, unwrap_or, slice_get, slice_index_or, arith, sym}
 use Rattle.std.proofs.Common.{◌∙◌, ap, subst, refl, length-append}
@@ -42,7 +42,7 @@ rises n reach gaps spring y h (suc d) i l =
     let e : i + suc d ≡ i + d + 1 = omega arith in
     rw e (omega (arith, ints))
 
--- neighbors stand 100 apart
+-- neighbors are 100 apart
 spaced : (n : ℕ) (reach : ℕ → ℕ → Option Reach) (gaps : List ℕ) (spring : ℕ → ℕ) (y : List ℤ)
     → StandApart n reach gaps spring y → (d : ℕ) → d < n → pos (d * 100) ≤ℤ slice_index_or y d (pos 0)
 spaced n reach gaps spring y h zero l = h.begins l
@@ -53,7 +53,7 @@ spaced n reach gaps spring y h (suc d) l =
     let s' = rw e at s in
     omega (arith, ints)
 
--- so few stand within a width
+-- the number of columns within a width is bounded
 pub stand_few : (n : ℕ) (reach : ℕ → ℕ → Option Reach) (gaps : List ℕ) (spring : ℕ → ℕ → ℕ) (width force : ℕ)
     → 0 < n → CanStandWithin n reach gaps spring width force → n ≤ most_columns width
 stand_few n reach gaps spring width force some h =
@@ -62,7 +62,7 @@ stand_few n reach gaps spring width force some h =
     let parts = le-div (n - 1) width 100 (omega arith) (omega (arith, ints)) in
     omega (arith, parts)
 
--- what keeps columns apart keeps the first of them apart
+-- a list that keeps columns apart keeps the first of them apart
 pub fewer_apart : (n m : ℕ) (reach reach' : ℕ → ℕ → Option Reach) (gaps : List ℕ) (spring spring' : ℕ → ℕ) (y : List ℤ)
     → n ≤ m
     → ((i lane : ℕ) → i < n → reach' i lane ≡ reach i lane) → ((i : ℕ) → i < n → spring' i ≡ spring i)
@@ -115,7 +115,7 @@ longer_fits_less reach len short rest gaps width force some more all h =
     (λ i k. ap (λ o. unwrap_or (option_map (λ c. len c force) o) 0) (get_front short rest i k))
     all h
 
--- columns that are placed are placed among those that continue them, and where there are more places
+-- placed columns are also placed among columns that continue them, and in a longer list of abscissas
 pub placed_on : {C : Type 0} (reach : C → ℕ → Option Reach) (len : C → ℕ → ℕ) (short rest : List C) (gaps : List ℕ)
     (p : Progress) (x more fronts : List ℤ)
     → length short ≤ length x → HasPlaced (length short) (reach_at reach short) gaps (length_at len short) p x fronts

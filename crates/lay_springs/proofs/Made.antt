@@ -1,4 +1,4 @@
--- There is a place of any columns, and it ends within the width or passes it.
+-- Any columns have a least list of abscissas, and it ends within the width or passes it.
 use Rattle.std.specs.Int.{int_max}
 use Rattle.std.specs.Prelude.{◌<ℤ◌}
 use Rattle.std.proofs.Common.{◌≡◌, ℕ, zero, suc, ◌+◌, ◌-◌, ◌*◌, ◌<◌, ◌≤◌, ◌⊎◌, inl, inr, subst, ℤ, pos, negsuc, ◌+ℤ◌}
@@ -14,20 +14,20 @@ use Rattle.lay_springs.proofs.Clear.{below_or_at}
 use Rattle.lay_springs.proofs.Longer.{fewer_apart}
 use Rattle.lay_springs.proofs.Placing.{placed_first, placed_more, place_of}
 
--- the least number that is at least `from` and whatever is asked
+-- the least number that is at least `from` and at least all that is required
 pub record Top (from : ℤ) (Asked : ℤ → Type 0) : Type 0 where
   pub v : ℤ
   pub past : from ≤ℤ v
   pub all : (w : ℤ) → Asked w → w ≤ℤ v
   pub least : (u : ℤ) → from ≤ℤ u → ((w : ℤ) → Asked w → w ≤ℤ u) → v ≤ℤ u
 
--- asked by one of the first m
+-- required by one of the first m
 pub record AskedBelow (m : ℕ) (f : ℕ → ℤ → Type 0) (w : ℤ) : Type 0 where
   pub by : ℕ
   pub within : by < m
   pub asks : f by w
 
--- where each of the first m has a top over any number, so have all of them
+-- if each of the first m has such a number above any `from`, all of them together have one
 pub top_of : (f : ℕ → ℤ → Type 0)
     → ((i : ℕ) (from : ℤ) → Top from (f i)) → (m : ℕ) (from : ℤ) → Top from (AskedBelow m f)
 top_of f one zero from = record {
@@ -51,7 +51,7 @@ top_of f one (suc m) from =
           (λ w h. q w (record { by = m; within = omega arith; asks = h }));
     }
 
--- what a reach asks for, where a column has one
+-- the requirement of a reach, if a column has one
 abbrev pub AskedAt : Option Reach → (Reach → ℤ) → ℤ → Type 0
 AskedAt o f w = (r : Reach) × (o ≡ Some r) × (w ≡ f r)
 
@@ -69,7 +69,7 @@ top_at (Some r) f from = record {
   least = λ u p q. let t = q (f r) (r, refl, refl) in omega (arith, ints, clamps);
 }
 
--- what two reaches ask for
+-- the requirement of two reaches
 abbrev pub AskedBy : Option Reach → Option Reach → (Reach → Reach → ℤ) → ℤ → Type 0
 AskedBy o p f w = (r : Reach) × (o ≡ Some r) × AskedAt p (f r) w
 

@@ -1,4 +1,4 @@
--- Columns that are set to the width still stand apart, and end at it.
+-- Columns that are set to the width stay apart, and end at it.
 use Rattle.std.proofs.Common.{◌≡◌, sym, subst, inl, inr, ℕ, ◌+◌, ◌-◌, ◌*◌, ◌/◌, ◌<◌, ◌≤◌, ℤ, pos, ◌+ℤ◌, List, Option}
 use Rattle.std.proofs.Common.{slice_index_or, arith}
 use Rattle.std.proofs.lemmas.Int.{ints}

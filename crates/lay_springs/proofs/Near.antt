@@ -1,4 +1,4 @@
--- How far columns come nearer where the force falls.
+-- How much nearer columns come if the force falls.
 use Rattle.std.specs.Int.{int_max}
 use Rattle.std.proofs.Common.{◌≡◌, ◌≢◌, ℕ, min, ◌+◌, ◌-◌, ◌*◌, ◌/◌, ◌<◌, ◌≤◌, ℤ, pos, ◌+ℤ◌, ◌≤ℤ◌, ◌⊎◌, inl, inr, List}
 use Rattle.std.proofs.Common.{length, Option, slice_index_or, arith}
@@ -9,7 +9,7 @@ use Rattle.lay_springs.{specs.{declared.traits.Reach.Reach, Place.{IsNearLeast, 
 parts : (a b c k : ℕ) → (a + 255 * min k a) / 256 + (b + c) / 256 ≤ b / 256 + (a + c + 255 * min (k + 1) (a + c)) / 256
 parts a b c k = omega arith
 
--- one spring more
+-- one more spring
 pub slack_more : (natural count n g drop : ℕ)
     → slack natural count drop + n * (g + drop) / 256 ≤ n * g / 256 + slack (natural + n) (count + 1) drop
 slack_more natural count n g drop =
@@ -19,7 +19,7 @@ pub slack_up : (natural count natural' count' drop : ℕ)
     → natural ≤ natural' → count ≤ count' → slack natural count drop ≤ slack natural' count' drop
 slack_up natural count natural' count' drop l m = let up = mul-le-mul_right drop l in omega arith
 
--- the next column, where the spring before it alone holds it or doesn't
+-- the next column, whether or not the spring before it alone determines its abscissa
 pub next_near : (natural count natural' count' n g drop : ℕ) (before next y z : ℤ)
     → (((before +ℤ pos (n * (g + drop) / 256)) ≡ next) × (natural' ≡ natural + n) × (count' ≡ count + 1))
     ⊎ (((before +ℤ pos (n * (g + drop) / 256)) ≢ next) × (natural' ≡ natural) × (count' ≡ count))
@@ -38,7 +38,7 @@ next_near natural count natural' count' n g drop before next y z held old spring
       rw (h.1, h.2) (omega (arith, ints, clamps, ne, near, past)))
 ]
 
--- where columns can stand at a lesser force, they end so near at this one
+-- if columns can be within a width at a lesser force, their end at this one is bounded
 pub end_near : (n : ℕ) (reach : ℕ → ℕ → Option Reach) (gaps : List ℕ) (spring : ℕ → ℕ → ℕ) (force natural count : ℕ)
     (x : List ℤ) (e : ℤ)
     → 0 < n

@@ -1,4 +1,4 @@
--- One column more is placed.
+-- One more column is placed.
 use Rattle.std.proofs.Common.{◌≡◌, ℕ, ◌+◌, ◌*◌, ◌<◌, ◌≤◌, ◌≢◌, ℤ, pos, ◌+ℤ◌, ◌≤ℤ◌, List, length, take, Option, None}
 use Rattle.std.proofs.Common.{Some, IfSome, option_and_then, slice_get, slice_index_or, slice_set, ap, sym, arith}
 use Rattle.std.proofs.Common.{subst, refl, get_or-set_same, get_or-set_other}
@@ -109,7 +109,7 @@ place_of n reach gaps spring force natural count x room h = record {
       rw (get_or-take n x k (pos 0) l) (omega (arith, ints));
 }
 
--- what is at a column that was read
+-- the item at a column that was read
 pub reach_is : {C : Type 0} (reach : C → ℕ → Option Reach) (cols : List C) (i : ℕ) (c : C)
     → slice_get cols i ≡ Some c → reach_at reach cols i ≡ reach c
 reach_is reach cols i c e = ap (λ o lane. option_and_then (λ c. reach c lane) o) e

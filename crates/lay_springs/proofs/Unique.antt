@@ -1,4 +1,4 @@
--- Only one list is the place.
+-- Only one list of abscissas is the least.
 use Rattle.std.proofs.{Common.{◌≡◌, ℕ, ℤ, pos, List, Option, sym, ◌∙◌, arith}, lemmas.{List.ext_get_or, Int.ints}}
 use Rattle.lay_springs.specs.{declared.traits.Reach.Reach, Place.IsPlace}
 

@@ -1,17 +1,17 @@
--- How hard columns can be pressed apart within a width.
+-- How much force columns can take within a width.
 use Rattle.std.specs.Prelude.{◌≡◌, ℕ, ◌+◌, ◌-◌, ◌*◌, ◌/◌, Bool, ◌&&◌, nat_le, if◌then◌else◌, ◌<◌, ℤ, pos, ◌+ℤ◌, ◌≤ℤ◌}
 use Rattle.std.specs.Prelude.{◌<ℤ◌, List, ◌++◌, length, Option, Some, slice_index_or}
 use Rattle.lay_springs.specs.declared.traits.Reach.{Reach}
 use Rattle.lay_springs.specs.Place.{IsPlace, StandApart, reach_at, length_at}
 
--- e is the end of a column at `at`: the abscissa, or what its reaches come to, whichever is greatest
+-- e is the end of a column at `at`: the greatest of the abscissa and the right ends of its reaches
 pub record IsEndOf (reach : ℕ → Option Reach) (lanes : ℕ) (at e : ℤ) : Type 0 where
   pub past : at ≤ℤ e
   pub reaches : (lane : ℕ) (r : Reach) → lane < lanes → reach lane ≡ Some r → (at +ℤ pos r.right) ≤ℤ e
   pub least : (v : ℤ)
       → at ≤ℤ v → ((lane : ℕ) (r : Reach) → lane < lanes → reach lane ≡ Some r → (at +ℤ pos r.right) ≤ℤ v) → e ≤ℤ v
 
--- the place of n columns at a force, and its end
+-- the end of n columns at a force, placed at the least abscissas
 pub record EndsAt (n : ℕ) (reach : ℕ → ℕ → Option Reach) (gaps : List ℕ) (spring : ℕ → ℕ → ℕ) (force : ℕ)
     (e : ℤ) : Type 0 where
   pub x : List ℤ
@@ -42,7 +42,7 @@ pub record IsSet (n : ℕ) (reach : ℕ → ℕ → Option Reach) (gaps : List �
       × ((e +ℤ pos rest) ≡ pos width)
       × ((k : ℕ) → k < n → slice_index_or at k (pos 0) ≡ (slice_index_or x k (pos 0) +ℤ pos (rest * k / (n - 1))))
 
--- the force as it counts, and whether the system is ragged: only a last one is
+-- whether a system is ragged, which only a last one is; and the force that counts
 abbrev pub is_ragged : Bool → ℕ → Bool
 is_ragged last force = last && nat_le 256 force
 
@@ -59,16 +59,15 @@ pub record CanStandWithin (n : ℕ) (reach : ℕ → ℕ → Option Reach) (gaps
       → lane < length gaps → reach (n - 1) lane ≡ Some r
       → (slice_index_or y (n - 1) (pos 0) +ℤ pos r.right) ≤ℤ pos width
 
--- how many columns can stand within a width at the most: neighbors stand 100 apart
+-- the most columns that can be within a width, as neighbors are 100 apart
 abbrev pub most_columns : ℕ → ℕ
 most_columns width = width / 100 + 1
 
--- each column stands in each lane
+-- a column is in each lane
 abbrev pub StandsInAll : (ℕ → Option Reach) → ℕ → Type 0
 StandsInAll reach lanes = (lane : ℕ) → lane < lanes → (s : Reach) × (reach lane ≡ Some s)
 
--- a longer list of columns, whose last stands in each lane, can't stand within a width where a list that it continues
--- can't
+-- a longer list of columns, whose last is in each lane, can't be within a width if a list that it continues can't
 abbrev pub LongerFitsLess : {C : Type 0} → (C → ℕ → Option Reach) → (C → ℕ → ℕ) → Type 0
 LongerFitsLess {C} reach len =
     (short rest : List C) (gaps : List ℕ) (width force : ℕ)

@@ -1,4 +1,4 @@
--- Where columns stand: the least list of abscissas that keeps them apart.
+-- The placing of columns: the least list of abscissas that keeps them apart.
 use Rattle.std.specs.Prelude.{◌≡◌, ℕ, ◌+◌, ◌*◌, ◌/◌, ◌^◌, ◌⊎◌, min, MatchOption, ◌<◌, ◌≤◌, ℤ, pos, negsuc, ◌+ℤ◌, ◌≤ℤ◌}
 use Rattle.std.specs.Prelude.{List, length, Option, Some, option_map, option_and_then, unwrap_or, slice_get}
 use Rattle.std.specs.Prelude.{slice_index, slice_index_or}
@@ -12,33 +12,32 @@ reach_at reach cols i lane = option_and_then (λ c. reach c lane) (slice_get col
 abbrev pub length_at : {C : Type 0} → (C → ℕ → ℕ) → List C → ℕ → ℕ → ℕ
 length_at len cols force i = unwrap_or (option_map (λ c. len c force) (slice_get cols i)) 0
 
--- a column at v is clear of a column before it that stands at `at`: in each lane in which both stand,
--- its gap is between them
+-- a column at v is clear of a column before it at `at`: in each lane that both are in, its gap is between them
 abbrev pub IsClear : (ℕ → Option Reach) → (ℕ → Option Reach) → List ℕ → ℕ → ℤ → ℤ → Type 0
 IsClear first second gaps lanes at v =
     (lane : ℕ) (r s : Reach) → lane < lanes → first lane ≡ Some r → second lane ≡ Some s
     → (at +ℤ pos (r.right + slice_index gaps lane + s.left)) ≤ℤ v
 
--- a column at v begins at 0 or past it, in each lane too
+-- a column at v begins at 0 or later, in each lane too
 abbrev pub IsInside : (ℕ → Option Reach) → ℕ → ℤ → Type 0
 IsInside reach lanes v = (lane : ℕ) (s : Reach) → lane < lanes → reach lane ≡ Some s → pos s.left ≤ℤ v
 
--- v is the least abscissa at which a column begins so
+-- v is the least such abscissa of a column
 pub record IsFirst (reach : ℕ → Option Reach) (lanes : ℕ) (v : ℤ) : Type 0 where
   pub begins : pos 0 ≤ℤ v
   pub inside : IsInside reach lanes v
   pub least : (w : ℤ) → pos 0 ≤ℤ w → IsInside reach lanes w → v ≤ℤ w
 
--- the first n columns, at the first n abscissas of x, stand apart
+-- the first n columns, at the first n abscissas of x, are apart
 pub record StandApart (n : ℕ) (reach : ℕ → ℕ → Option Reach) (gaps : List ℕ) (spring : ℕ → ℕ)
     (x : List ℤ) : Type 0 where
   pub begins : 0 < n → pos 0 ≤ℤ slice_index_or x 0 (pos 0)
   pub head : 0 < n → IsInside (reach 0) (length gaps) (slice_index_or x 0 (pos 0))
   pub lanes : (i j : ℕ) → i < j → j < n
       → IsClear (reach i) (reach j) gaps (length gaps) (slice_index_or x i (pos 0)) (slice_index_or x j (pos 0))
-  -- neighbors stand 100 apart
+  -- neighbors are 100 apart
   pub steps : (i : ℕ) → i + 1 < n → (slice_index_or x i (pos 0) +ℤ pos 100) ≤ℤ slice_index_or x (i + 1) (pos 0)
-  -- and as far apart as the spring between them is long
+  -- and at least as far apart as the spring between them is long
   pub springs : (i : ℕ) → i + 1 < n → (slice_index_or x i (pos 0) +ℤ pos (spring i)) ≤ℤ slice_index_or x (i + 1) (pos 0)
 
 -- no list that keeps n columns apart is below x
@@ -47,12 +46,12 @@ IsBelowAll n reach gaps spring x =
     (y : List ℤ)
     → StandApart n reach gaps spring y → (k : ℕ) → k < n → slice_index_or x k (pos 0) ≤ℤ slice_index_or y k (pos 0)
 
--- how far columns can come nearer where the force falls by `drop`: `count` springs alone hold neighbors apart,
--- `natural` is the sum of their natural lengths, and each counts as whole u
+-- how much nearer columns can come if the force falls by `drop`: `count` tight springs, whose natural lengths sum to
+-- `natural`, and whose lengths count as whole u
 abbrev pub slack : ℕ → ℕ → ℕ → ℕ
 slack natural count drop = (natural * drop + 255 * min count (natural * drop)) / 256
 
--- no list that keeps n columns apart at a force that is less by `drop` is further below x
+-- no list that keeps n columns apart at a force that is less by `drop` is further below x than this slack
 abbrev pub IsNearLeast : ℕ → (ℕ → ℕ → Option Reach) → List ℕ → (ℕ → ℕ → ℕ) → ℕ → ℕ → ℕ → List ℤ → Type 0
 IsNearLeast n reach gaps spring force natural count x =
     (g drop : ℕ) (y : List ℤ) → g + drop ≡ force → StandApart n reach gaps (spring g) y
@@ -64,7 +63,7 @@ pub record IsPlace (n : ℕ) (reach : ℕ → ℕ → Option Reach) (gaps : List
   pub apart : StandApart n reach gaps spring x
   pub least : IsBelowAll n reach gaps spring x
 
--- the first j columns are placed at a force, behind such springs
+-- the first j columns are placed at a force, with these tight springs
 pub record IsPlacedTo (j : ℕ) (reach : ℕ → ℕ → Option Reach) (gaps : List ℕ) (spring : ℕ → ℕ → ℕ)
     (force natural count : ℕ) (x : List ℤ) : Type 0 where
   pub apart : StandApart j reach gaps (spring force) x
@@ -73,12 +72,12 @@ pub record IsPlacedTo (j : ℕ) (reach : ℕ → ℕ → Option Reach) (gaps : L
   pub small : (k : ℕ)
       → k < j → (pos 0 ≤ℤ slice_index_or x k (pos 0)) × (slice_index_or x k (pos 0) ≤ℤ pos (1048576 + 3145728 * k))
 
--- something stands there, or it is further to the left than any rod reaches
+-- the lane has a column, or the frontier is further to the left than any rod reaches
 abbrev pub IsSomewhere : ℤ → Type 0
 IsSomewhere end = (pos 0 ≤ℤ end) ⊎ (end ≤ℤ negsuc 1099511627775)
 
--- front has for each lane the greatest abscissa plus right reach of the first j columns in it, or a number far below 0
--- where none stands in it
+-- front has for each lane the greatest abscissa plus right reach of the first j columns in it, or a number far below
+-- 0 if none is in it
 pub record AreFrontiers (j : ℕ) (reach : ℕ → ℕ → Option Reach) (lanes : ℕ) (x front : List ℤ) : Type 0 where
   pub covers : (lane k : ℕ) (r : Reach)
       → lane < lanes → k < j → reach k lane ≡ Some r
@@ -92,7 +91,7 @@ pub record AreFrontiers (j : ℕ) (reach : ℕ → ℕ → Option Reach) (lanes 
   pub apart : (lane : ℕ) → lane < lanes → IsSomewhere (slice_index_or front lane (pos 0))
   pub small : (lane : ℕ) → lane < lanes → slice_index_or front lane (pos 0) ≤ℤ pos (2 ^ 61)
 
--- of n columns so many are placed as the progress tells, and fronts has what stands furthest right in each lane
+-- the columns that the progress counts, of n, are placed, and fronts has the frontier of each lane
 pub record HasPlaced (n : ℕ) (reach : ℕ → ℕ → Option Reach) (gaps : List ℕ) (spring : ℕ → ℕ → ℕ) (p : Progress)
     (x fronts : List ℤ) : Type 0 where
   pub within : p.count ≤ n
@@ -100,13 +99,13 @@ pub record HasPlaced (n : ℕ) (reach : ℕ → ℕ → Option Reach) (gaps : Li
   pub placed : IsPlacedTo p.count reach gaps spring p.force p.tight.natural p.tight.count x
   pub front : 0 < p.count → AreFrontiers p.count reach (length gaps) x fronts
 
--- a column at v is clear of what stands before it in each lane
+-- a column at v is clear of the frontier of each lane
 abbrev pub IsPast : (ℕ → Option Reach) → List ℕ → ℕ → List ℤ → ℤ → Type 0
 IsPast reach gaps lanes front v =
     (lane : ℕ) (s : Reach) → lane < lanes → reach lane ≡ Some s → pos 0 ≤ℤ slice_index_or front lane (pos 0)
     → (slice_index_or front lane (pos 0) +ℤ pos (slice_index gaps lane + s.left)) ≤ℤ v
 
--- what a column at `at` does to the front of a lane
+-- the effect of a column at `at` on the frontier of a lane
 abbrev pub Advances : Option Reach → ℤ → ℤ → ℤ → Type 0
 Advances o at old new =
     MatchOption o (new ≡ old)

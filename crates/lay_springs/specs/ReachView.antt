@@ -1,4 +1,4 @@
--- Where a column stands, lane by lane.
+-- The reaches of a column, lane by lane.
 use Rattle.std.specs.Prelude.{◌≡◌, ◌≢◌, ◌==◌, ℕ, ◌^◌, ◌<◌, ◌≤◌, if◌then◌else◌, min, List, Option, None, Some, IfSome}
 use Rattle.std.specs.Prelude.{option_map, option_and_then, slice_get}
 use Rattle.std.proofs.Common.{arith}
@@ -24,16 +24,16 @@ reach_in_near reaches lane = near (option_and_then (λ reach. reach) (slice_get 
     near None = tt
     near (Some r) = (omega arith, omega arith)
 
--- in one lane alone, or as a row has it
+-- in one lane alone, or as given by a row
 abbrev pub reach_in_view : ReachView → ℕ → Option Reach
 reach_in_view (ReachView.OneLane stand) lane = if lane == stand.lane then Some stand.reach else None
 reach_in_view (ReachView.EachLane row) lane = reach_in row.now lane
 
--- it tells the reach in each lane that can be counted
+-- the view has the reach in each lane that can be counted
 abbrev pub TellsReach : ReachView → (ℕ → Option Reach) → Type 0
 TellsReach stands reach = (lane : ℕ) → lane < 4294967296 → reach_in_view stands lane ≡ reach lane
 
--- it stands there, and in no other of the lanes that can be counted
+-- a column is in this lane, and in no other of the lanes that can be counted
 pub record IsLone (reach : ℕ → Option Reach) (stand : LaneReach) : Type 0 where
   pub here : reach stand.lane ≡ Some stand.reach
   pub alone : (lane : ℕ) → lane < 4294967296 → lane ≢ stand.lane → reach lane ≡ None

@@ -8,7 +8,7 @@ use crate::least::{larger, place_all, place_to};
 use crate::progress::Progress;
 use crate::traits::{Spaced, Spring};
 
-/// Where a column at `at` ends.
+/// Returns the end of a column at `at`.
 pub(crate) fn end_of<C: Spaced>(col: &C, lanes: usize, at: i64) -> i64
     requires few { lanes < 2 ^ 32 }
     requires begins { pos 0 ≤ℤ at }
@@ -26,8 +26,8 @@ pub(crate) fn end_of<C: Spaced>(col: &C, lanes: usize, at: i64) -> i64
     end
 }
 
-/// None where the columns end within the width at a force. Otherwise a force from which on they
-/// can't: at most that force.
+/// Returns `None` if the columns end within the width at a force. Otherwise returns a force, at
+/// most the given one, from which on they can't.
 fn too_great<C: Spaced + Spring>(
     cols: &[C],
     gaps: &[u32],
@@ -64,14 +64,14 @@ fn too_great<C: Spaced + Spring>(
     Some(lowered(force, (end - i64::from(width)) as u64, placed.tight))
 }
 
-/// The most columns that can stand within a width, in u: neighbors stand 100 apart.
+/// Returns the most columns that fit within a width, in u, if neighbors are 100 apart.
 pub fn most_columns(width: u32) -> usize
     ensures { result ≡ most_columns width }
 {
     width as usize / 100 + 1
 }
 
-/// How many columns there are up to the first from which a spring leads.
+/// Returns the number of columns up to and including the first one with a spring.
 fn head_of<C: Spring>(cols: &[C]) -> usize
     ensures { result ≤ length cols.now }
 {
@@ -83,15 +83,15 @@ fn head_of<C: Spring>(cols: &[C]) -> usize
     cols.len()
 }
 
-/// The greatest force of 0 to `most` at which the columns end within the width, in u.
-/// None exactly where their end at force 0 passes it. It tries the highest force that is left, as far
-/// as at most 15 forces in all leave it the choice. Where no column is placed, those of the head are,
-/// and it begins where the springs behind them leave the width; where the columns end past it, the
-/// springs that alone hold neighbors apart tell how far the force has to fall at least.
+/// Returns the greatest force from 0 to `most` at which the columns end within the width, in u;
+/// `None` exactly when their end at force 0 passes it. The search tries the highest remaining force
+/// that still lets it finish within 15 forces in all. If no column is placed yet, it first places
+/// those of the head, and searches below the force from which on the springs after them pass the
+/// width. If the columns end past the width, the tight springs give a lower bound on how far the
+/// force has to fall.
 ///
-/// `at` has a place for each column and `front` one for each lane. A search for columns that
-/// continue others goes on from where `placed` tells that those stand, if it begins at their force.
-/// Takes no memory.
+/// `at` has an entry per column and `front` one per lane. A search for columns that continue others
+/// resumes from the columns that `placed` counts, if it begins at their force. Takes no memory.
 pub fn fit_within<C: Spaced + Spring>(
     cols: &[C],
     gaps: &[u32],
@@ -142,8 +142,9 @@ pub fn fit_within<C: Spaced + Spring>(
     if low == 0 { None } else { Some(low - 1) }
 }
 
-/// A law of `fit_within`: a list of columns that continues another, and whose last column stands in
-/// each lane, never has a greater force, and doesn't fit where the other doesn't. Does nothing.
+/// A law of `fit_within`: a list of columns that continues another, and whose last column has a
+/// reach in each lane, never has a greater force, and doesn't fit if the other doesn't. Does
+/// nothing.
 pub fn longer_fits_less<C: Spaced + Spring>()
     ensures { LongerFitsLess C.reach_of C.length_of }
 {}

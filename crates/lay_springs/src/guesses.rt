@@ -5,8 +5,8 @@ ghost use Rattle.lay_springs.specs.{Fit.CanStandWithin, Place.{reach_at, length_
 use crate::progress::{Progress, TightSprings};
 use crate::traits::{Spaced, Spring};
 
-/// A force from which on none but `force` itself lets columns end within a width that they pass
-/// by `over` at `force`.
+/// Given columns that pass a width by `over` at `force`, returns a force from which on only `force`
+/// itself can let them end within it.
 pub(crate) fn lowered(force: u16, over: u64, tight: TightSprings) -> u16
     requires over { over ≤ 2 ^ 49 }
     requires few { tight.count ≤ 2 ^ 26 }
@@ -20,7 +20,8 @@ pub(crate) fn lowered(force: u16, over: u64, tight: TightSprings) -> u16
     u64::from(force).saturating_sub(steps) as u16
 }
 
-/// The greatest force below `high` that leaves at most `half` answers of `low` to `high` if it fits.
+/// Returns the greatest force below `high` that leaves at most `half` candidates from `low` to
+/// `high` if it fits.
 pub(crate) fn highest(low: u16, high: u16, half: u16) -> u16
     requires some { low < high }
     requires within { high ≤ 2049 }
@@ -34,15 +35,15 @@ pub(crate) fn highest(low: u16, high: u16, half: u16) -> u16
     (high - 1).min(low + half - 1)
 }
 
-/// Where the last column stands if springs alone hold those behind the placed ones, and the springs
-/// that hold it there.
+/// The abscissa of the last column if only springs hold the columns after the placed ones, and the
+/// tight springs up to it.
 struct Stretch {
     end: i64,
     springs: TightSprings,
 }
 
-/// Behind the columns that are placed springs alone. However the columns stand apart at that force,
-/// the last stands no nearer.
+/// Extends the placed columns by springs alone. In any list that keeps the columns apart at that
+/// force, the last column is no nearer.
 fn stretched<C: Spaced + Spring>(cols: &[C], at: &[i64], placed: Progress) -> Stretch
     requires few { length cols.now ≤ 2 ^ 26 }
     requires room { length cols.now ≤ length at.now }
@@ -74,8 +75,9 @@ fn stretched<C: Spaced + Spring>(cols: &[C], at: &[i64], placed: Progress) -> St
     Stretch { end, springs }
 }
 
-/// A force from which on, up to that of the placed columns, those and the springs behind them pass
-/// the width; one more where they don't.
+/// Returns a force from which on, up to that of the placed columns, the placed columns and the
+/// springs after them pass the width. If they don't pass it, returns one more than the force of the
+/// placed columns.
 pub(crate) fn too_long<C: Spaced + Spring>(
     cols: &[C],
     width: u32,

@@ -9,7 +9,7 @@ use crate::traits::{LaneReach, Reach, ReachView, Spaced, Spring, reach_in};
 use mus_units::{Memory, Row};
 use std::alloc::Global;
 
-/// The larger of two.
+/// Returns the larger of two numbers.
 pub(crate) fn larger(a: i64, b: i64) -> i64
     ensures first { a ≤ℤ result }
     ensures second { b ≤ℤ result }
@@ -18,10 +18,11 @@ pub(crate) fn larger(a: i64, b: i64) -> i64
     if a < b { b } else { a }
 }
 
-/// Further to the left than any rod reaches, in the lanes in which nothing stands yet.
+/// Further left than any rod reaches: the frontier of a lane that has no column yet.
 const NOWHERE: i64 = -1_099_511_627_776;
 
-/// The least abscissa that isn't below `from` and is past `end`, where something ends there, by `room`.
+/// Returns the least abscissa that is at least `from` and, if something ends at `end`, at least
+/// `room` past it.
 fn past_end(end: i64, room: u32, from: i64) -> i64
     requires small { end ≤ℤ pos (2 ^ 61) }
     requires nowhere { (pos 0 ≤ℤ end) ⊎ ((end +ℤ pos room) ≤ℤ from) }
@@ -33,7 +34,7 @@ fn past_end(end: i64, room: u32, from: i64) -> i64
     larger(from, end + i64::from(room))
 }
 
-/// The least abscissa that isn't below `from` and is past what stands before it in each lane.
+/// Returns the least abscissa that is at least `from` and past the frontier of each lane.
 fn past_each(row: &[Option<Reach>], gaps: &[u32], front: &[i64], from: i64) -> i64
     requires lanes { length gaps.now < 2 ^ 32 }
     requires narrow { (lane : ℕ) → lane < length gaps.now → slice_index gaps.now lane ≤ 2 ^ 20 }
@@ -56,7 +57,8 @@ fn past_each(row: &[Option<Reach>], gaps: &[u32], front: &[i64], from: i64) -> i
     next
 }
 
-/// Takes note of a column at `at`, behind what stands in its lanes.
+/// Advances the frontier of each of the column's lanes, for a column at `at`, past the columns
+/// already there.
 fn advance_each(row: &[Option<Reach>], at: i64, front: &mut [i64])
     requires lanes { length front.old < 2 ^ 32 }
     requires begins { pos 0 ≤ℤ at }
@@ -75,7 +77,7 @@ fn advance_each(row: &[Option<Reach>], at: i64, front: &mut [i64])
     }
 }
 
-/// The front of a lane in which a column at `at` that reaches so far stands first.
+/// Returns the frontier of a lane in which a column at `at` with this reach is the first.
 fn begun_at(reach: Option<Reach>, at: i64) -> i64
     requires begins { pos 0 ≤ℤ at }
     requires small { at ≤ℤ pos (2 ^ 62) }
@@ -87,8 +89,8 @@ fn begun_at(reach: Option<Reach>, at: i64) -> i64
     }
 }
 
-/// Sets a column at the least abscissa that isn't below `from` and is past what stands before it in
-/// each lane, and takes note of it there.
+/// Sets a column at the least abscissa that is at least `from` and past the frontier of each of its
+/// lanes, and advances those frontiers.
 fn set_past<C: Spaced>(col: &C, gaps: &[u32], from: i64, front: &mut [i64]) -> i64
     requires lanes { length gaps.now < 2 ^ 32 }
     requires narrow { (lane : ℕ) → lane < length gaps.now → slice_index gaps.now lane ≤ 2 ^ 20 }
@@ -118,7 +120,7 @@ fn set_past<C: Spaced>(col: &C, gaps: &[u32], from: i64, front: &mut [i64]) -> i
     at
 }
 
-/// As `set_past`, for a column that stands as a row has it.
+/// As `set_past`, for a column whose reaches are a row.
 #[inline(never)]
 fn set_past_each(row: &[Option<Reach>], gaps: &[u32], from: i64, front: &mut [i64]) -> i64
     requires lanes { length gaps.now < 2 ^ 32 }
@@ -141,7 +143,7 @@ fn set_past_each(row: &[Option<Reach>], gaps: &[u32], from: i64, front: &mut [i6
     at
 }
 
-/// The least abscissa at which a column begins at 0 or past it in each lane.
+/// Returns the least abscissa at which a column begins at 0 or later in each lane.
 fn first_of<C: Spaced>(col: &C, lanes: usize) -> i64
     requires { lanes < 2 ^ 32 }
     ensures begins { pos 0 ≤ℤ result }
@@ -166,7 +168,8 @@ fn first_of<C: Spaced>(col: &C, lanes: usize) -> i64
     first
 }
 
-/// Where the first of the columns stands, at whatever force: where it does already, if some are placed.
+/// Returns the abscissa of the first column, which is the same at every force. If some are placed,
+/// it is read from `at`.
 fn first_at<C: Spaced>(cols: &[C], lanes: usize, at: &[i64], placed: usize) -> i64
     requires some { 0 < length cols.now }
     requires lanes { lanes < 2 ^ 32 }
@@ -180,7 +183,7 @@ fn first_at<C: Spaced>(cols: &[C], lanes: usize, at: &[i64], placed: usize) -> i
     first_of(&cols[0], lanes)
 }
 
-/// The least abscissa next to a column at `before` from which a spring leads.
+/// Returns the least abscissa after a column at `before` that has a spring of this length.
 fn after(before: i64, spring: u32) -> i64
     requires begins { pos 0 ≤ℤ before }
     requires small { before ≤ℤ pos (2 ^ 60) }
@@ -191,8 +194,8 @@ fn after(before: i64, spring: u32) -> i64
     larger(before + 100, before + i64::from(spring))
 }
 
-/// Places so many columns in one pass, which keeps for each lane what stands furthest right in it. It
-/// goes on from those that are placed at this force.
+/// Places `count` columns in one pass, which keeps the frontier of each lane. Resumes from the
+/// columns that are already placed at this force.
 pub(crate) fn place_to<C: Spaced + Spring>(
     cols: &[C],
     gaps: &[u32],
@@ -261,7 +264,7 @@ pub(crate) fn place_all<C: Spaced + Spring>(
     place_to(cols, gaps, force, at, front, placed, cols.len())
 }
 
-/// The columns that are placed at this force; where none is, the first is placed.
+/// Returns the columns that are placed at this force. If none is, places the first.
 fn begun<C: Spaced + Spring>(
     cols: &[C],
     gaps: &[u32],
@@ -297,7 +300,8 @@ fn begun<C: Spaced + Spring>(
     }
 }
 
-/// Places column j, past 0, behind `tight` springs. Gives them, with the spring before it if that alone holds it.
+/// Places column j (j > 0), given the tight springs so far. Returns them, including the spring
+/// before column j if that spring alone determines its place.
 fn place_next<C: Spaced + Spring>(
     cols: &[C],
     gaps: &[u32],
@@ -331,8 +335,8 @@ fn place_next<C: Spaced + Spring>(
     tightened(tight, before, spring, natural, next)
 }
 
-/// The springs that alone hold neighbors apart, with one more that leads from `before`, if it ends at
-/// the next column.
+/// Returns the tight springs, with the one that leads from `before` added if it ends at the next
+/// column.
 fn tightened(tight: TightSprings, before: i64, spring: u32, natural: u32, next: i64) -> TightSprings
     requires few { tight.count < 2 ^ 26 }
     requires short { tight.natural ≤ 2 ^ 38 }
@@ -353,7 +357,7 @@ fn tightened(tight: TightSprings, before: i64, spring: u32, natural: u32, next: 
     }
 }
 
-/// A column at `at` stands alone.
+/// Begins the frontiers with a single column at `at`.
 fn begin_fronts<C: Spaced>(col: &C, at: i64, front: &mut [i64])
     requires lanes { length front.old < 2 ^ 32 }
     requires begins { pos 0 ≤ℤ at }
@@ -367,9 +371,9 @@ fn begin_fronts<C: Spaced>(col: &C, at: i64, front: &mut [i64])
     }
 }
 
-/// The least list of abscissas at a force, in u: pointwise least among all lists that begin at 0 or
-/// past it, keep each lane's gap between the reaches of every two columns that stand in it, leave
-/// 100 between neighbours and keep each spring. One pass over the columns.
+/// Returns the least list of abscissas at a force, in u: pointwise least among all lists that begin
+/// at 0 or later, keep each lane's gap between the reaches of every two columns in it, leave 100
+/// between neighbors and keep each spring. One pass over the columns.
 pub fn place<C: Spaced + Spring>(
     alloc: Global,
     cols: &[C],

@@ -1,8 +1,8 @@
-//! Columns held apart by rods and pressed apart by springs.
+//! Places columns that rods hold apart and springs push apart.
 //!
-//! The pointwise least list of abscissas at a force, the greatest force at which
-//! columns end within a width, and the abscissas set to the width, for every type
-//! that tells its reaches and the length of its spring.
+//! The crate computes the pointwise least list of abscissas at a force, the greatest force at which
+//! columns end within a width, and the abscissas set to the width. It works for every type that has
+//! reaches and a spring length.
 #![tactic(auto)]
 
 pub mod forces;

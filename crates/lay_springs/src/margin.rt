@@ -9,7 +9,8 @@ use crate::progress::Progress;
 use crate::traits::{Spaced, Spring};
 use mus_units::Row;
 
-/// Where columns stand, in u, and the force that counts. A ragged system ends where its force leaves it.
+/// The abscissas of columns, in u, and the force that counts. A ragged system ends where its force
+/// leaves it.
 #[derive(Drop)]
 pub struct Placed {
     pub force: u16,
@@ -32,7 +33,7 @@ fn spread(at: &mut [i64], rest: u32)
     }
 }
 
-/// The part of `rest` that falls to place k of `last`.
+/// Returns the part of `rest` that goes to place k of `last`.
 fn share(rest: u32, k: usize, last: usize) -> i64
     requires some { 0 < last }
     requires within { k ≤ last }
@@ -43,7 +44,7 @@ fn share(rest: u32, k: usize, last: usize) -> i64
     (u64::from(rest) * k as u64 / last as u64) as i64
 }
 
-/// What the width leaves past the end.
+/// Returns what the width leaves past the end.
 fn rest_of<C: Spaced>(cols: &[C], gaps: &[u32], width: u32, at: &[i64]) -> u32
     requires some { 0 < length cols.now }
     requires lanes { length gaps.now < 2 ^ 32 }
@@ -92,12 +93,12 @@ fn set<C: Spaced + Spring>(
     spread(at, rest);
 }
 
-/// The columns at a force at which they end within the width, set to it: column k of n moves
-/// right by `rest * k / (n - 1)`, where `rest` is what the width leaves past the end. A
-/// last system at a force of 256 or more is ragged, and stands as placed at 256.
+/// Sets the columns to the width, at a force at which they end within it: column k of n moves right
+/// by `rest * k / (n - 1)`, where `rest` is what the width leaves past the end. A last system at a
+/// force of 256 or more is ragged and stays as placed at 256.
 ///
-/// `at` has a place for each column and `front` one for each lane. Where `placed` tells that columns
-/// stand there at the force that counts, they aren't placed again. Takes no memory.
+/// `at` has an entry per column and `front` one per lane. Columns that `placed` counts at the force
+/// that counts aren't placed again. Takes no memory.
 pub fn justify<C: Spaced + Spring>(
     cols: &[C],
     gaps: &[u32],

@@ -1,14 +1,14 @@
 ghost use Rattle.std.specs.Prelude.{ℕ, ℤ, Option, List};
 
-/// The springs that alone hold neighbors apart: the sum of their natural lengths, and how many they are.
+/// The tight springs, those that alone hold neighbors apart: the sum of their natural lengths, and
+/// their number.
 #[derive(Clone, Copy)]
 pub(crate) struct TightSprings {
     pub(crate) natural: u64,
     pub(crate) count: u64,
 }
 
-/// How far columns are placed: at which force, how many from the first on, and the springs that
-/// alone hold those apart.
+/// How many columns, from the first on, are placed, at which force, and their tight springs.
 #[derive(Clone, Copy)]
 pub struct Progress {
     pub(crate) force: u16,
@@ -19,7 +19,7 @@ pub struct Progress {
 impl Progress {
     ghost use Rattle.lay_springs.specs.{declared.traits.Reach.Reach, Place.HasPlaced};
 
-    /// No column is placed.
+    /// Returns the progress with no column placed.
     pub fn none() -> Progress
         ensures { (n : ℕ) (reach : ℕ → ℕ → Option Reach) (gaps : List ℕ) (spring : ℕ → ℕ → ℕ) (at front : List ℤ)
             → HasPlaced n reach gaps spring result at front }

@@ -1,32 +1,32 @@
 ghost use Rattle.std.specs.Prelude.{◌≡◌, ◌*◌, ◌/◌, ◌^◌, ◌<◌, ◌≤◌, ℕ, Option, IfSome};
 ghost use Rattle.lay_springs.specs.ReachView.{cut_reach, reach_in, reach_in_view};
 
-/// What reaches of rows are counted to.
+/// The largest value that a reach of a row counts as.
 pub const MOST_REACH: u32 = 1 << 20;
 
-/// How far a column reaches to the left and to the right of its abscissa in a lane, in u.
+/// How far a column extends to the left and to the right of its abscissa in a lane, in u.
 #[derive(Clone, Copy, PartialEq, Eq)]
 pub struct Reach {
     pub left: u32,
     pub right: u32,
 }
 
-/// A lane in which a column stands, and its reach there.
+/// A lane that a column is in, and its reach there.
 #[derive(Clone, Copy)]
 pub struct LaneReach {
     pub lane: u32,
     pub reach: Reach,
 }
 
-/// Where a column stands: in one lane alone, or as a row has it, None where it doesn't stand in a
-/// lane; it stands in none past the row. A reach of a row is counted to at most 2^20.
+/// The reaches of a column: one lane alone, or a row with `None` for each lane that the column
+/// isn't in. It is in no lane past the row. A reach of a row counts as at most 2^20.
 #[derive(Clone, Copy)]
 pub enum ReachView<'a> {
     OneLane(LaneReach),
     EachLane(&'a [Option<Reach>]),
 }
 
-/// A reach, counted to at most 2^20.
+/// Returns a reach, each side counted as at most 2^20.
 pub fn cut_reach(reach: Reach) -> Reach
     ensures { result ≡ cut_reach reach }
 {
@@ -36,7 +36,7 @@ pub fn cut_reach(reach: Reach) -> Reach
     }
 }
 
-/// The reach that a row has in a lane, None past its last.
+/// Returns the reach that a row has in a lane; `None` past its last.
 #[tactic(auto, unfolding(crate::specs::ReachView::reach_in))]
 pub fn reach_in(row: &[Option<Reach>], lane: usize) -> Option<Reach>
     ensures { result ≡ reach_in row.now lane }
@@ -45,7 +45,7 @@ pub fn reach_in(row: &[Option<Reach>], lane: usize) -> Option<Reach>
 }
 
 impl<'a> ReachView<'a> {
-    /// The reach in a lane; None exactly where the column doesn't stand in it.
+    /// Returns the reach in a lane; `None` exactly when the column isn't in it.
     pub(crate) fn at(&self, lane: usize) -> Option<Reach>
         ensures { result ≡ reach_in_view self.now lane }
     {
@@ -61,10 +61,10 @@ impl<'a> ReachView<'a> {
 pub trait Spaced {
     ghost use Rattle.lay_springs.specs.{declared.traits.Reach.Reach, ReachView.TellsReach};
 
-    // the reach in a lane, where the column stands in it
+    // the reach in a lane, if the column is in it
     ghost reach_of: { Self → ℕ → Option Reach };
 
-    /// Where the column stands. Takes no memory.
+    /// Returns the reaches of the column. Takes no memory.
     fn stands(&self) -> ReachView<'_>
         ensures { TellsReach result (reach_of self.now) };
 
@@ -78,13 +78,14 @@ pub trait Spring {
     // the length at a force
     ghost length_of: { Self → ℕ → ℕ };
 
-    /// The length of the spring at a force, in u. At force 256 it is the natural length. Takes no memory.
+    /// Returns the length of the spring at a force, in u. At force 256 it is the natural length.
+    /// Takes no memory.
     fn length(&self, force: u16) -> u32
         ensures { result ≡ length_of self.now force };
 
     // the natural length is at most 2^12
     ghost is_short: { (c : Self) → length_of c 256 ≤ 2 ^ 12 };
 
-    // the length is so much of the natural one
+    // the length is this part of the natural one
     ghost scales: { (c : Self) (f : ℕ) → length_of c f ≡ length_of c 256 * f / 256 };
 }

@@ -16,20 +16,20 @@ use Rattle.lay_tune.specs.Systems.{AllSpans}
 use Rattle.lay_tune.proofs.Called.{has_system}
 use Rattle.lay_tune.proofs.Open.{past_last, some_of}
 
--- ---- the force of columns
+-- ---- the greatest force of columns
 module _ (gaps : List ℕ) (width : ℕ) (columns : List Column) where
-  -- columns have one force
+  -- columns have one greatest force
   pub one_force : (f g : ℕ) → IsForceOf gaps width columns f → IsForceOf gaps width columns g → f ≡ g
   one_force f g h k = single.one_force column_reach column_length gaps width columns f g h k
 
-  -- columns that a force presses can stand
+  -- columns with a greatest force can be within the width
   pub can_stand : (force : ℕ) → IsForceOf gaps width columns force → CanStandIn gaps width columns
   can_stand force h =
       single.can_stand column_reach column_length gaps width columns force
       (λ c. length_rises c.natural 0 force (omega arith)) h
 
 module _ (s : Score) (width : ℕ) where
-  -- a span costs one value
+  -- a span has one cost
   pub one_cost : (a b v w : ℕ) → IsSpanCost s width a b v → IsSpanCost s width a b w → v ≡ w
   one_cost a b v w h k =
       let system = has_system s a b in
@@ -45,7 +45,7 @@ module _ (s : Score) (width : ℕ) where
       let rest = one_total b bs h.1 k.1 h.3 k.3 in
       h.4 ∙ (ap (λ n. n + h.1) first ∙ (ap (λ n. k.0 + n) rest ∙ sym k.4))
 
-  -- a span that costs something can be a system
+  -- a span that has a cost can be a system
   pub cost_can_be : (a b v : ℕ) → IsSpanCost s width a b v → CanBeSystem s width a b
   cost_can_be a b v cost = record {
     free = cost.free;
@@ -109,7 +109,7 @@ module _ (s : Score) (width : ℕ) where
       fits = let e = h.ends in all_fit 0 breaks h.rises (omega (arith, e)) h.fits;
     }
 
-    -- what they cost is what is listed
+    -- their costs are the listed ones
     legal_cost : (breaks : List ℕ)
         → IsLegal (listed spans) (is_forced_in s) breaks s.measures
         → CostTogether s width 0 breaks (sum_from (listed spans) 0 breaks)
@@ -132,7 +132,7 @@ module _ (s : Score) (width : ℕ) where
           (one_total 0 other (sum_from (listed spans) 0 other) total (legal_cost other at) cost ∙ is);
     }
 
--- the same where forced bars were read off the score
+-- the same if the forced bars were read off the score
 pub least_read : (s : Score) (width : ℕ) (spans : List Span) (forced breaks : List ℕ) (total : ℕ)
     → forced ≡ s.forced → AreSpansOf s width spans
     → IsChosen (listed spans) (is_forced s.measures forced) s.measures breaks

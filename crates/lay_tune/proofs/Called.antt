@@ -29,7 +29,7 @@ has_system s a b =
       record { from = refl; to = refl; keys = keys.1; staves = refl },
     )
 
--- and it is one, whose keys tell its staves
+-- and it is one, whose keys determine its staves
 one_called : (s : Score) (a b : ℕ) (staves_of : List ColumnKey → List StaffMarks) (m n : SystemMarks)
     → m.a ≡ a → n.a ≡ a → m.b ≡ b → n.b ≡ b
     → AreKeys m.keys (called_keys s (timeline_of s).lengths a b)

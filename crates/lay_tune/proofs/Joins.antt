@@ -1,4 +1,4 @@
--- The columns of each measure are what spans of measures are tried with, and those of the systems.
+-- The columns of each measure by which spans of measures are tried are also those of the systems.
 use Rattle.std.proofs.Math.Seq.{get_or-append_seam}
 use Rattle.std.proofs.Common.{◌≡◌, ◌∙◌, ℕ, suc, ◌+◌, ◌-◌, ◌<◌, ◌≤◌, ◌==◌, true, false, Option, None, List, [], ◌∷◌}
 use Rattle.std.proofs.Common.{◌++◌, length, length-append, take, drop, flat_map, get_or, refl, sym, ap, subst, arith}
@@ -75,7 +75,7 @@ further_more s n own more h p =
           (omega arith);
     }
 
--- the columns of measure m in a system that begins with the measure before it, by what it has of its own
+-- the columns of measure m in a system that begins with the measure before it, given those of its own
 pub other_of : (s : Score) (m : ℕ) (starts : List (List Column)) (own : List (Option (List Column)))
     → IsGoodScore s → 1 ≤ length s.voices → m < s.measures
     → EachMeasure (λ m. IsMeasure s m m) s.measures starts → EachFurther s s.measures own
@@ -89,7 +89,7 @@ other_of s m starts own good some within begun h =
     itself : (m : ℕ) → (m == m) ≡ true
     itself m = grind (arith, nat_tests)
 
--- a measure behind the first of a system has the same columns wherever the system began
+-- a measure after the first of a system has the same columns wherever the system began
 abbrev AreBehind : Score → ℕ → List Column → Type 0
 AreBehind s m columns = AreMeasureColumns ((m - 1) == m) s (timeline_of s) m (verses_of s) columns
 

@@ -1,4 +1,4 @@
--- The spans of a score, and what stands open to a breaking of them.
+-- The spans of a score, and that a breaking of them can be set.
 use Rattle.std.proofs.Common.{◌≡◌, ℕ, ◌-◌, ◌<◌, ◌≤◌, ◌*◌, ◌^◌, ◌==◌, not, Bool, List, [], ◌∷◌, length, map, Option}
 use Rattle.std.proofs.Common.{Some, None, IsSome, sym, ◌∙◌, ap, subst, refl, arith}
 use Rattle.std.proofs.lemmas.Bool.{true≢false}
@@ -147,7 +147,7 @@ chosen_read s width starts others spans gaps forced breaks bars count is all end
     span_open s width starts others spans (length (score_gaps s)) count measures join exact narrow a b l m some)
     0 breaks legal.rises legal.fits (omega arith))
 
--- no way among the listed spans is none in the score
+-- if no breaking into the listed spans is legal, the score has none
 pub cause_read : (s : Score) (width : ℕ) (spans : List Span) (forced : List ℕ) (error : BreakError)
     → forced ≡ s.forced → AreSpans s.measures spans → AreSpansOf s width spans
     → IsCause (listed spans) (is_forced s.measures forced) s.measures error → IsCauseIn s width (layout_error error)
@@ -201,7 +201,7 @@ few_lanes s verses gaps good is few =
     let voices = good.few_voices in
     omega arith
 
--- as many gaps as staves but the first
+-- one gap for each staff but the first
 same_seat : (v : Voice) → is_lower (drawn_voice v).seat ≡ is_lower v.seat
 unfolding drawn_voice
 same_seat v = refl

@@ -62,7 +62,7 @@ twice k l ls e rise = record {
   only = λ x has. there x k (l ∷ ls) has;
 }
 
--- the key is put into the list behind the first
+-- the key is put into the list after the first
 put_behind : (k l : ColumnKey) (ls keys : List ColumnKey)
     → is_below l k ≡ true → BelowAll l ls → AreKeys keys (k ∷ ls) → AreKeys (l ∷ keys) (k ∷ l ∷ ls)
 put_behind k l ls keys h below are = record {

@@ -14,7 +14,7 @@ beside_more P [] [] x y h p = (p, tt)
 beside_more P (w ∷ xs) (z ∷ ys) x y h p = (h.0, beside_more P xs ys x y h.1 p)
 beside_more P _ _ x y h p = absurd h
 
--- one span's things more, whatever stands behind them
+-- one more span's things, whatever comes after them
 pub span_more : {X Y : Type 0} (P : ℕ → ℕ → X → Y → Type 0) (breaks : List ℕ) (xs : List X) (ys : List Y) (x : X)
     (y : Y) (a b i : ℕ)
     → drop i breaks ≡ b ∷ drop (i + 1) breaks

@@ -1,4 +1,4 @@
--- Columns that stand apart rise from 0, and those of a system end within the width.
+-- Columns that are apart rise from 0, and those of a system end within the width.
 use Rattle.std.proofs.Common.{◌≡◌, ◌∙◌, sym, ap, subst, refl, inl, inr, ℕ, if◌then◌else◌, ◌+◌, ◌-◌, ◌*◌, ◌/◌, ◌<◌, ◌≤◌}
 use Rattle.std.proofs.Common.{◌==◌, ◌^◌, ℤ, pos, ◌+ℤ◌, ◌≤ℤ◌, min, Bool, true, false, List, length, map, Option, Some}
 use Rattle.std.proofs.Common.{arith}
@@ -31,7 +31,7 @@ use Rattle.lay_tune.specs.Spans.{verses_of}
 use Rattle.lay_tune.specs.Systems.{CanBeSet, HaveForce, IsJustified, IsPlaced, StandWithin, x_at}
 use Rattle.lay_tune.proofs.Called.{has_system}
 
--- the last of n columns stands within the width, and reaches no further
+-- the last of n columns is within the width, and reaches no further
 pub record EndsWithin (n : ℕ) (reach : ℕ → ℕ → Option Reach) (gaps : List ℕ) (width : ℕ) (at : List ℤ) : Type 0 where
   pub past : x_at at (n - 1) ≤ℤ pos width
   pub reaches : (lane : ℕ) (r : Reach)
@@ -138,7 +138,7 @@ justified_count gaps width last columns p h = by p.ragged refl
     by true is = (h.loose is).count
     by false is = (h.set is).count
 
--- ---- columns that stand elsewhere
+-- ---- columns in another type
 pub justified_seen : {D : Type 0} (f : D → Column) (gaps : List ℕ) (width : ℕ) (last : Bool) (seen : List D) (force : ℕ)
     (p : Placed)
     → IsForceOf gaps width (map f seen) force → p.ragged ≡ is_ragged last force → p.force ≡ counted last force
@@ -173,8 +173,7 @@ ragged_last : (last : Bool) (force : ℕ) → is_ragged last force ≡ true → 
 ragged_last false force e = absurd (true≢false (sym e))
 ragged_last true force e = (refl, grind (arith, nat_tests))
 
--- the greatest force that was tried counts as the columns' own,
--- where none that costs so much is above all that were tried
+-- the greatest force that was tried counts as the columns' own, if none of the same cost is above all that were tried
 pub counts_same : (gaps : List ℕ) (width : ℕ) (last : Bool) (cost : ℕ) (columns : List Column) (most found : ℕ)
     → (h : HaveForce gaps width last cost columns) → most ≤ 2048
     → ((f : ℕ) → f ≤ 2048 → badness_at f ≤ cost → f ≤ most) → (cost ≡ 0 → most ≡ 256) → found ≤ most
@@ -227,7 +226,7 @@ system_count s m =
     sym (length-map (system_columns s m) (λ c. c.key))
     ∙ ap (λ ks. length ks) (columns_keys m.staves (timeline_of s).lengths (verses_of s) 0 m.keys)
 
--- what is known of a span that can be set, by the columns of its measures
+-- facts of a span that can be set, by the columns of its measures
 pub span_set : {s : Score} {width a b : ℕ} {costs : ℕ → ℕ → Option ℕ} {gaps : List ℕ}
     (starts others : List (List Column)) (columns : List Column)
     → (fits : CanBeSet s width costs a b) → AreColumnsOf s starts others → gaps ≡ score_gaps s
@@ -248,7 +247,7 @@ span_set {s} {width} {a} {b} {costs} {gaps} starts others columns fits join are 
           (sym (columns_keys m.staves (timeline_of s).lengths (verses_of s) 0 m.keys)) call.keys),
     )
 
--- they stand within the width wherever they are placed
+-- they are within the width wherever they are placed
 pub placed_stand : (s : Score) (width : ℕ) (m : SystemMarks) (p : Placed)
     → IsPlaced s width m p → StandWithin width (length m.keys) p.at
 placed_stand s width m p placed =

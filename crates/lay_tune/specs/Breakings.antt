@@ -1,5 +1,5 @@
--- The breakings of a score on a width that are legal, and the one of least total badness:
--- said of the score and the width alone.
+-- The breakings of a score on a width that are legal, and the one of least total badness, stated in terms of the
+-- score and the width alone.
 use Rattle.std.specs.Prelude.{◌≡◌, ℕ, ◌+◌, ◌≤◌, true, List, [], ◌∷◌, reverse, Contains}
 use Rattle.mus_score.specs.declared.score.Score.{Score}
 use Rattle.mus_laid.specs.declared.laid.SystemMarks.{SystemMarks}
@@ -8,8 +8,8 @@ use Rattle.lay_spans.specs.Forced.{ForcedInside}
 use Rattle.lay_tune.specs.Spans.{CanStandIn, IsSpanCost, IsSystemOf, is_forced_in, score_gaps, system_columns}
 use Rattle.lay_tune.specs.Systems.{AllSpans}
 
--- The measures from bar a to bar b can be a system: no forced bar stands strictly inside, and the columns of the marks
--- that the score calls for there can stand within the width.
+-- The measures from bar a to bar b can be a system: no forced bar is strictly inside, and the columns of the marks
+-- that the score calls for there can be within the width.
 pub record CanBeSystem (s : Score) (width a b : ℕ) : Type 0 where
   pub free : ForcedInside (is_forced_in s) a b → ⊥
   pub stands : (m : SystemMarks) → IsSystemOf s a b m → CanStandIn (score_gaps s) width (system_columns s m)
@@ -22,13 +22,13 @@ pub record IsLegalIn (s : Score) (width : ℕ) (breaks : List ℕ) : Type 0 wher
   pub every_forced : (f : ℕ) → f ≤ s.measures → is_forced_in s f ≡ true → Contains breaks f
   pub fits : AllSpans (CanBeSystem s width) 0 breaks
 
--- what the spans of a breaking cost together, each the badness of its greatest force; the first begins at bar a
+-- the total cost of the spans of a breaking, each the badness of its greatest force; the first begins at bar a
 abbrev pub CostTogether : Score → ℕ → ℕ → List ℕ → ℕ → Type 0
 CostTogether s width a [] total = total ≡ 0
 CostTogether s width a (b ∷ bs) total =
     (v : ℕ) × (rest : ℕ) × IsSpanCost s width a b v × CostTogether s width b bs rest × (total ≡ v + rest)
 
--- The legal breaking of least total: each legal breaking has a total, and none that is smaller; and of those with this
+-- The legal breaking of least total: each legal breaking has a total, and none a smaller one; and of those with this
 -- total it is the one that, read from its end, is lexicographically greatest.
 pub record IsLeastBreaking (s : Score) (width : ℕ) (breaks : List ℕ) (total : ℕ) : Type 0 where
   pub legal : IsLegalIn s width breaks

@@ -1,4 +1,4 @@
--- What a layout of a score is, and why a score has none.
+-- The layout of a score, and why a score has none.
 use Rattle.std.specs.Prelude.{◌≡◌, ◌+◌, ◌≤◌, ℕ, ⊤, List, length, All, None, slice_index_or}
 use Rattle.{mus_score.specs.declared.score.Score.{Score}, mus_laid.specs.Boxes.{AreGoodMarks}}
 use Rattle.lay_breaks.specs.declared.costs.Span.{Span}
@@ -12,9 +12,9 @@ use Rattle.lay_tune.specs.declared.layout.Layout.{Layout}
 use Rattle.lay_tune.specs.Breakings.{IsLeastBreaking}
 use Rattle.lay_tune.specs.Systems.{Beside, EachSpan, IsSetSystem, IsStack}
 
--- The score laid out on a width: the listed spans are exactly those that fit, the breaking is the chosen one over them
--- and the one of least total of the score, and each of its systems has the marks that the score calls for, set to the
--- width and tilted there, and its staves under one another.
+-- The score laid out on a width: the listed spans are exactly those that fit, the breaking is the chosen one over
+-- them and the one of least total of the score, and each of its systems has the marks that the score calls for, set
+-- to the width and tilted there, and its staves stacked.
 pub record IsLayout (s : Score) (width : ℕ) (l : Layout) : Type 0 where
   pub form : AreSpans s.measures l.spans
   pub spans : AreSpansOf s width l.spans
@@ -35,7 +35,7 @@ pub record IsNoWay (s : Score) (width reached : ℕ) (spans : List Span) : Type 
   pub none : NoneLegal (listed spans) (is_forced_in s) s.measures
   pub furthest : IsReached (listed spans) (is_forced_in s) s.measures reached
 
--- want of memory says nothing
+-- out of memory says nothing
 abbrev pub IsCauseIn : Score → ℕ → LayoutError → Type 0
 IsCauseIn s width (NoWay reached) = (spans : List Span) × IsNoWay s width reached spans
 IsCauseIn s width Memory = ⊤

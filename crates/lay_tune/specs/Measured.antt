@@ -1,4 +1,4 @@
--- What the systems of a score are set by: everything that is measured of the score before its breaking is chosen.
+-- The input from which the systems of a score are set: everything that is measured before its breaking is chosen.
 use Rattle.std.specs.Prelude.{◌≡◌, ℕ, ◌<◌, ◌≤◌, ◌^◌, length, slice_index}
 use Rattle.mus_score.specs.GoodScore.{IsGoodScore}
 use Rattle.mus_onsets.specs.Onsets.{timeline_of}

@@ -1,4 +1,4 @@
--- The spans of a score that fit a width, told from the marks that the score calls for in each.
+-- The spans of a score that fit a width, determined by the marks that the score calls for in each.
 use Rattle.std.specs.Prelude.{◌≡◌, ℕ, ◌<◌, ◌≤◌, ◌==◌, Bool, List, map, Some, IsSome}
 use Rattle.mus_score.specs.declared.score.Score.{Score}
 use Rattle.mus_onsets.specs.Onsets.{timeline_of}
@@ -16,7 +16,7 @@ use Rattle.lay_spans.specs.Columns.{span_columns}
 use Rattle.lay_spans.specs.Forced.{ForcedInside, is_forced}
 use Rattle.lay_spans.specs.SpanList.{IsForce, FitsAtForce}
 
--- how many verses each staff has
+-- the number of verses of each staff
 abbrev pub verses_of : Score → List ℕ
 verses_of s = map verses_on (drawn_staves s)
 
@@ -39,15 +39,15 @@ system_columns s m = columns_of m.keys m.staves (timeline_of s).lengths (verses_
 abbrev pub column_length : Column → ℕ → ℕ
 column_length column force = spring_length column.natural force
 
--- force is the greatest of 0 to 2048 at which the columns end within the width
+-- force is the greatest from 0 to 2048 at which the columns end within the width
 abbrev pub IsForceOf : List ℕ → ℕ → List Column → ℕ → Type 0
 IsForceOf gaps width columns force = IsForce column_reach column_length gaps width columns force
 
--- the columns can stand within the width, pressed as they may be
+-- the columns can be within the width at force 0
 abbrev pub CanStandIn : List ℕ → ℕ → List Column → Type 0
 CanStandIn gaps width columns = FitsAtForce column_reach column_length gaps width 0 columns
 
--- the span from bar a to bar b fits and costs v: no forced bar stands strictly inside, and v is the badness of the
+-- the span from bar a to bar b fits and costs v: no forced bar is strictly inside, and v is the badness of the
 -- greatest force of the columns that the score calls for there
 pub record IsSpanCost (s : Score) (width a b v : ℕ) : Type 0 where
   pub free : ForcedInside (is_forced_in s) a b → ⊥
@@ -55,8 +55,8 @@ pub record IsSpanCost (s : Score) (width a b v : ℕ) : Type 0 where
       × (v ≡ badness_of (b == s.measures) force)
       × ((m : SystemMarks) → IsSystemOf s a b m → IsForceOf (score_gaps s) width (system_columns s m) force)
 
--- the list has exactly the spans of the score that fit the width and have no forced bar strictly inside,
--- each with what it costs
+-- the list has exactly the spans of the score that fit the width and have no forced bar strictly inside, each with
+-- its cost
 pub record AreSpansOf (s : Score) (width : ℕ) (spans : List Span) : Type 0 where
   pub each : (a b v : ℕ) → a < b → b ≤ s.measures → listed spans a b ≡ Some v → IsSpanCost s width a b v
   pub fits : (a b : ℕ) (m : SystemMarks)
@@ -64,8 +64,8 @@ pub record AreSpansOf (s : Score) (width : ℕ) (spans : List Span) : Type 0 whe
       → CanStandIn (score_gaps s) width (system_columns s m)
       → IsSome (listed spans a b)
 
--- The columns of each measure, as they stand where it begins a system and where it doesn't, are those of the systems:
--- put one after the other they are the columns of the marks that the score calls for.
+-- The columns of each measure, where it begins a system and where it doesn't, are those of the systems: put one after
+-- the other they are the columns of the marks that the score calls for.
 abbrev pub AreColumnsOf : Score → List (List Column) → List (List Column) → Type 0
 AreColumnsOf s starts others =
     (a b : ℕ) (m : SystemMarks)

@@ -1,4 +1,4 @@
--- The systems of a breaking: where their columns stand, and their staves under one another.
+-- The systems of a breaking: the abscissas of their columns, and their stacked staves.
 use Rattle.std.specs.Prelude.{◌≡◌, ⊤, ℕ, ◌+◌, ◌<◌, ◌≤◌, ◌==◌, ◌^◌, Bool, true, false, not, ℤ, pos, ◌-ℤ◌, ◌≤ℤ◌, ◌<ℤ◌}
 use Rattle.std.specs.Prelude.{List, [], ◌∷◌, length, map, filter, drop, Option, Some, slice_index_or}
 use Rattle.mus_score.specs.declared.score.Score.{Score}
@@ -22,15 +22,15 @@ EachSpan P a [] [] [] = ⊤
 EachSpan P a (b ∷ bs) (x ∷ xs) (y ∷ ys) = P a b x y × EachSpan P b bs xs ys
 EachSpan P a _ _ _ = ⊥
 
--- two lists of equal length, whose members belong together one by one
+-- two lists of equal length, related member by member
 abbrev pub Beside : {X Y : Type 0} → (X → Y → Type 0) → List X → List Y → Type 0
 Beside P [] [] = ⊤
 Beside P [] (y ∷ ys) = ⊥
 Beside P (x ∷ xs) [] = ⊥
 Beside P (x ∷ xs) (y ∷ ys) = P x y × Beside P xs ys
 
--- Columns pressed with their greatest force, as it counts: set to the width, but for a ragged last system,
--- which stands as placed.
+-- Columns at their greatest force, as it counts: set to the width, except for a ragged last system, which stays as
+-- placed.
 pub record IsJustified (gaps : List ℕ) (width : ℕ) (last : Bool) (columns : List Column) (p : Placed) : Type 0 where
   pub pressed : (force : ℕ)
       × IsForceOf gaps width columns force
@@ -48,7 +48,7 @@ abbrev pub IsPlaced : Score → ℕ → SystemMarks → Placed → Type 0
 IsPlaced s width m p = IsJustified (score_gaps s) width (m.b == s.measures) (system_columns s m) p
 
 -- What a score has in measures a to b - 1, set to a width: the columns of the marks that it calls for are justified,
--- and over their abscissas the marks are tilted.
+-- and the marks are tilted over their abscissas.
 pub record IsSetSystem (s : Score) (width a b : ℕ) (m : SystemMarks) (p : Placed) : Type 0 where
   pub flat : SystemMarks
   pub called : IsSystemOf s a b flat
@@ -56,23 +56,23 @@ pub record IsSetSystem (s : Score) (width a b : ℕ) (m : SystemMarks) (p : Plac
   pub tilted : IsTilted s (timeline_of s) a b p.at m
   pub alike : HaveSameShapes flat m
 
--- how far the staff of each voice that isn't lower keeps from the one above it, but for the first voice
+-- the distance that the staff of each voice that isn't lower keeps from the one above it, except for the first voice
 abbrev pub gaps_between : List Voice → List ℕ
 gaps_between voices = map (λ v. v.gap) (filter (λ v. not (stands_lower v)) (drop 1 voices))
 
--- the staves of a system of the score stand under one another
+-- the staves of a system of the score are stacked
 pub record IsStack (s : Score) (m : SystemMarks) (h : Heights) : Type 0 where
   pub stacked : AreStavesStacked (pos 0) (gaps_between s.voices) m.staves h.bases (pos 0 -ℤ h.height)
   pub low : pos 0 ≤ℤ h.height
   pub high : h.height ≤ℤ pos (2 ^ 40)
 
--- Columns that can be placed, and whose force costs so much.
+-- Columns that can be placed, and whose greatest force has this cost.
 pub record HaveForce (gaps : List ℕ) (width : ℕ) (last : Bool) (cost : ℕ) (columns : List Column) : Type 0 where
   pub some : 0 < length columns
   pub few : length columns ≤ 2 ^ 26
   pub pressed : (force : ℕ) × IsForceOf gaps width columns force × (cost ≡ badness_of last force)
 
--- A span that costs something, and whose columns can be placed with a force that costs so much.
+-- A span that has a cost, and whose columns can be placed with a greatest force of that cost.
 pub record CanBeSet (s : Score) (width : ℕ) (costs : ℕ → ℕ → Option ℕ) (a b : ℕ) : Type 0 where
   pub rises : a < b
   pub within : b ≤ s.measures
@@ -86,7 +86,7 @@ abbrev pub AllSpans : (ℕ → ℕ → Type 0) → ℕ → List ℕ → Type 0
 AllSpans P a [] = ⊤
 AllSpans P a (b ∷ bs) = P a b × AllSpans P b bs
 
--- where the column of a rank stands
+-- the abscissa of the column of a rank
 abbrev pub x_at : List ℤ → ℕ → ℤ
 x_at at rank = slice_index_or at rank (pos 0)
 

@@ -5,7 +5,7 @@ use mus_score::Voice;
 use mus_units::{Memory, Row};
 use std::alloc::Global;
 
-/// How far each staff but the first keeps from the one above it, in u.
+/// Returns the distance that each staff but the first keeps from the one above it, in u.
 pub(crate) fn gaps_between(alloc: Global, voices: &[Voice]) -> Result<Row<u32>, Memory>
     ensures { IfOk result (λ r. r ≡ gaps_between voices.now) }
 {

@@ -33,9 +33,9 @@ use mus_units::{Memory, Row};
 use std::alloc::Global;
 use std::thread::Threads;
 
-/// A score laid out: the spans that fit and what each costs; the breaking that is chosen among
-/// them; and for each of its spans in order the marks of the system, where its columns stand, in u,
-/// and how its staves are stacked.
+/// A score laid out: the spans that fit and the cost of each; the breaking that is chosen among
+/// them; and for each of its spans, in order, the marks of the system, the abscissas of its
+/// columns, in u, and how its staves are stacked.
 #[derive(Drop)]
 pub struct Layout {
     pub breaking: Breaking,
@@ -71,7 +71,7 @@ fn layout_error(error: BreakError) -> LayoutError
     }
 }
 
-/// The layout of a score that is measured.
+/// Returns the layout of a score that is measured.
 fn lay_out_measures<R: Threads + Sync>(
     rt: &R,
     alloc: Global,
@@ -129,15 +129,15 @@ fn lay_out_measures<R: Threads + Sync>(
     })
 }
 
-/// A score laid out in systems of a width, in u: the spans that fit, each with the badness of its
-/// greatest force; the legal breaking of least total badness, and among equals the one that, read
-/// from its end, is lexicographically greatest; and each system of it, set to the width unless it is
-/// a ragged last one.
+/// Lays out a score in systems of a width, in u. Returns the spans that fit, each with the badness
+/// of its greatest force; the legal breaking of least total badness; and each system of it, set to
+/// the width unless it is a ragged last one. Among equals the breaking is the one that, read from
+/// its end, is lexicographically greatest.
 ///
-/// A score without voices has no measure. A score of no measures has the empty breaking. `NoWay`
-/// comes exactly where no breaking is legal. No search for a force wants memory.
+/// A score without voices has no measures. A score of no measures has the empty breaking. Returns
+/// `NoWay` exactly when no breaking is legal. No search for a force takes memory.
 ///
-/// The spans are found by so many jobs; the layout doesn't depend on it.
+/// The spans are found by `jobs` jobs; the layout doesn't depend on their number.
 pub fn lay_out<R: Threads + Sync>(
     rt: &R,
     alloc: Global,

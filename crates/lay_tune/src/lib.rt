@@ -1,5 +1,6 @@
-//! A score laid out in systems: the spans of measures that fit the width, the breaking of least
-//! badness, and for each system its marks, where its columns stand and how its staves are stacked.
+//! Lays out a score in systems: the spans of measures that fit the width, the breaking of least
+//! badness, and for each system its marks, the abscissas of its columns and how its staves are
+//! stacked.
 #![tactic(auto)]
 
 mod gaps;

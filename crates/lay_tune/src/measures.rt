@@ -14,15 +14,15 @@ use mus_score::Score;
 use mus_units::{Memory, Row};
 use std::alloc::Global;
 
-/// The columns of each measure, as they stand in a system that begins with it; and its own in one that
-/// begins with the measure before it, where they aren't those behind the head.
+/// The columns of each measure in a system that begins with it; and its own in a system that begins
+/// with the measure before it, if they differ from those after the head.
 #[derive(Drop)]
 pub(crate) struct MeasureColumns {
     pub(crate) starts: Row<Row<Column>>,
     pub(crate) own: Row<Option<Row<Column>>>,
 }
 
-/// The columns of all measures.
+/// Returns the columns of all measures.
 pub(crate) fn columns_of_measures(
     alloc: Global,
     s: &Score,
@@ -51,7 +51,8 @@ pub(crate) fn columns_of_measures(
     Ok(MeasureColumns { starts, own })
 }
 
-/// The columns of each measure in a system that begins with the measure before it, if there is one.
+/// Returns the columns of each measure in a system that begins with the measure before it, if there
+/// is one.
 pub(crate) fn others_of<'a>(
     alloc: Global,
     s: &Score,

@@ -19,8 +19,8 @@ use mus_score::Score;
 use mus_units::{Memory, Row};
 use std::alloc::Global;
 
-/// A score with what its systems are set by: its times; the columns of each measure, `starts` as they stand where it
-/// begins a system, `others` where it doesn't; the gaps of their lanes; and the width, in u.
+/// A score and what its systems are set by: its times; the columns of each measure, `starts` where
+/// it begins a system, `others` where it doesn't; the gaps of their lanes; and the width, in u.
 #[derive(Drop)]
 pub(crate) struct Measured<'a> {
     pub(crate) score: &'a Score,
@@ -31,7 +31,8 @@ pub(crate) struct Measured<'a> {
     pub(crate) width: u32,
 }
 
-/// The columns pressed with their greatest force, by what their span costs, and set to the width.
+/// Returns the columns placed at their greatest force, found by the cost of their span, and set to
+/// the width.
 fn press(
     alloc: Global,
     columns: &[BorrowedColumn<Column>],
@@ -56,7 +57,7 @@ fn press(
     Ok(justify(columns, gaps, width, force, last, at, front, placed))
 }
 
-/// The keys of columns.
+/// Returns the keys of columns.
 fn keys_in(alloc: Global, columns: &[BorrowedColumn<Column>]) -> Result<Row<ColumnKey>, Memory>
     ensures { IfOk result (λ keys. keys ≡ map (λ c. c.key) (map (λ s. s.column.now) columns.now)) }
 {
@@ -67,7 +68,7 @@ fn keys_in(alloc: Global, columns: &[BorrowedColumn<Column>]) -> Result<Row<Colu
     Ok(keys)
 }
 
-/// A system: its marks, tilted over where its columns stand, and how its staves are stacked.
+/// A system: its marks, tilted over the abscissas of its columns, and how its staves are stacked.
 #[derive(Drop)]
 struct SetSystem {
     marks: SystemMarks,
@@ -75,7 +76,7 @@ struct SetSystem {
     heights: Heights,
 }
 
-/// The system of measures `a` to `b` - 1; the voices are left as they were.
+/// Returns the system of measures `a` to `b` - 1. The voices are left as they were.
 fn set_system(
     alloc: Global,
     measured: &Measured<'_>,
@@ -116,7 +117,7 @@ fn set_system(
     })
 }
 
-/// The systems of a breaking, in order: their marks, where their columns stand, and how their
+/// The systems of a breaking, in order: their marks, the abscissas of their columns, and how their
 /// staves are stacked.
 #[derive(Drop)]
 pub(crate) struct Systems {
@@ -125,7 +126,7 @@ pub(crate) struct Systems {
     pub(crate) heights: Row<Heights>,
 }
 
-/// The systems of the breaking that ends its spans at `breaks`.
+/// Returns the systems of the breaking that ends its spans at `breaks`.
 pub(crate) fn set_systems(
     alloc: Global,
     measured: &Measured<'_>,

@@ -277,7 +277,7 @@ wordless_open y m rest w h e =
     numbers_open (mark_numbers y m) (mark_name m) rest (some_numbers y m) (wordless_numbers y m h)
     (sym (wordless_line y m w) ∙ e)
 
--- what is found behind an opening parenthesis
+-- what is found after an opening parenthesis
 pub found_words : (y : ℤ) (line rest : List ℕ) (o : Option PageMark) → line ≡ 40 ∷ rest
     → ((words : List ℕ) (zs : List ℤ) (name : List ℕ)
     → IsTrue (list_all is_shown words) → AllByRecursion IsNumber zs → list_all is_field_byte name ≡ true
@@ -317,7 +317,7 @@ unfolding words_line in_parentheses
 line_some y (PageMark.Words size x dx dy words) e = cc
 line_some y m e = numbers_some (mark_numbers y m) (mark_name m) (some_numbers y m) (sym (wordless_line y m tt) ∙ e)
 
--- what follows from a fact of an answer
+-- a consequence of a fact of a result
 pub if_ok : {T E : Type 0} (r : Result T E) (P Q : T → Type 0) → ((x : T) → P x → Q x) → IfOk r P → IfOk r Q
 if_ok (Ok x) P Q f h = f x h
 if_ok (Err e) P Q f h = h

@@ -1,4 +1,4 @@
--- Numbers of a page, as they stand in a line.
+-- Numbers of a page, as written in a line.
 use Rattle.std.proofs.Common.{◌≡◌, ℕ, ℤ, pos, negsuc, ◌<◌, ◌^◌, Bool, true, false, not, ◌==◌, List, [], ◌∷◌, ◌++◌}
 use Rattle.std.proofs.Common.{length, take, drop, append_assoc, ap, refl, sym, ◌∙◌, arith, suc, ◌-◌, int_le}
 use Rattle.std.proofs.Common.{unsigned_abs, true≢false}
@@ -31,7 +31,7 @@ pub minus_first : (z : ℤ) → int_le (pos 0) z ≡ false → 45 ∷ decimal (u
 minus_first (pos n) e = absurd (true≢false (sym (leb-zero n) ∙ e))
 minus_first (negsuc n) e = refl
 
--- a number behind others
+-- a number after others
 pub one_more : (zs : List ℤ) (z : ℤ) (name : List ℕ)
     → numbers zs ++ (numbers (z ∷ []) ++ name) ≡ numbers (zs ++ z ∷ []) ++ name
 unfolding numbers
@@ -59,7 +59,7 @@ pub signed_is_field : (z : ℤ) → IsNumber z → list_all is_field_byte (signe
 signed_is_field (pos n) h = decimal_is_field n (omega (arith, ints))
 signed_is_field (negsuc n) h = decimal_is_field (suc n) (omega (arith, ints))
 
--- a field ends where a space follows it
+-- a field ends if a space follows it
 pub prefix_len-field : (xs rest : List ℕ)
     → list_all is_field_byte xs ≡ true → prefix_len is_field_byte (xs ++ 32 ∷ rest) ≡ length xs
 prefix_len-field [] rest h = refl
@@ -72,7 +72,7 @@ prefix_len-last [] h = refl
 prefix_len-last (x ∷ xs) h =
     let p = and_parts (is_field_byte x) (list_all is_field_byte xs) h in rw (p.0, prefix_len-last xs p.1) (omega arith)
 
--- the number at the front, and what stands from its space on
+-- the number at the start, and the rest from its space on
 pub front_of_number : (z : ℤ) (rest bytes : List ℕ)
     → ReadsNumber z rest bytes → take (prefix_len is_field_byte bytes) bytes ≡ signed_decimal z
 front_of_number z rest bytes h =

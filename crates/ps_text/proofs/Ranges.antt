@@ -2,7 +2,7 @@
 use Rattle.std.proofs.Common.{ℤ, ◌+ℤ◌, Bool, IsTrue, ◌↔◌}
 use Rattle.ps_text.specs.Range.{IsNumber, IsOffset, IsPlacedMark, IsStem, IsArcEnd, IsStretch, IsSpan}
 
--- two tests for the two parts of a fact, where the first came out true
+-- two tests for the two parts of a fact, if the first is true
 pub joined_tests : {P Q R : Type 0} (a b : Bool)
     → (P → Q → R) → (R → P × Q) → (IsTrue a ↔ P) → (IsTrue b ↔ Q) → IsTrue a → IsTrue b ↔ R
 joined_tests a b f g s t h = (λ k. f (s.0 h) (t.0 k), λ r. let p = (g r).1 in t.1 p)

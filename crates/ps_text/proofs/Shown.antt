@@ -61,7 +61,7 @@ sort_of b h =
     same_or_not b 92 (Sort b) (λ e. is_slash e) (λ r.
     le_or_not b 160 (Sort b) (λ l. is_high l (shown_most b h)) (λ n. let k = shown_range b h n in is_plain k.1 p q r))))
 
--- what stands after a backslash
+-- what follows a backslash
 pub data Escaped (b : ℕ) (bytes rest : List ℕ) : Type 0 where
   as_it_is : is_special b ≡ true → bytes ≡ b ∷ rest → Escaped b bytes rest
   as_digits : 160 ≤ b → b < 256 → bytes ≡ (48 + b / 64) ∷ (48 + b / 8 % 8) ∷ (48 + b % 8) ∷ rest → Escaped b bytes rest
@@ -89,7 +89,7 @@ digit_is_plain b h = grind (arith, nat_tests)
 pub first_of : (bytes rest : List ℕ) (b : ℕ) → bytes ≡ b ∷ rest → get_or bytes 0 0 ≡ b
 first_of bytes rest b e = rw e refl
 
--- what stands at the front of a text that begins with a shown byte
+-- the start of a text that begins with a shown byte
 pub data Shows (b : ℕ) (bytes rest : List ℕ) : Type 0 where
   slashed : (more : List ℕ) → bytes ≡ 92 ∷ more → Shows b bytes rest
   bare : (b ≡ 41 → ⊥) → bytes ≡ b ∷ rest → Shows b bytes rest

@@ -1,4 +1,4 @@
--- What is left to be taken from the front of a line.
+-- What is left to be taken from the start of a line.
 use Rattle.std.proofs.Common.{◌≡◌, ℕ, ℤ, List, [], ◌∷◌, ◌++◌, refl, sym, ◌∙◌, append_assoc, append-nil, IsTrue}
 use Rattle.std.proofs.lemmas.Bool.{and_parts}
 use Rattle.std.specs.Fmt.{signed_decimal}
@@ -8,7 +8,7 @@ use Rattle.ps_text.specs.Fields.{shown}
 use Rattle.ps_text.specs.Range.{is_shown, IsNumber}
 use Rattle.ps_text.specs.Scanning.{ReadsNumber}
 
--- some words were taken, and the others stand before a closing parenthesis
+-- some words were taken, and the others precede a closing parenthesis
 pub record WordsLeft (text rest words tail : List ℕ) : Type 0 where
   pub left : List ℕ
   pub whole : text ++ left ≡ words
@@ -48,7 +48,7 @@ pub words_end : (text rest words tail : List ℕ)
     → (text ≡ words) × (rest ≡ 41 ∷ tail)
 words_end text rest words tail s none = words_last text rest words tail s.left s.whole s.good s.follows none
 
--- some numbers were taken, and the others stand before a last field
+-- some numbers were taken, and the others precede a last field
 pub record NumbersLeft (row : List ℤ) (rest : List ℕ) (zs : List ℤ) (name : List ℕ) : Type 0 where
   pub left : List ℤ
   pub whole : row ++ left ≡ zs

@@ -92,7 +92,7 @@ heading_text k = heading_line k ++ codes "\npg\n"
 unfoldable pub closing : List ℕ
 closing = codes "grestore\nshowpage\n"
 
--- what stands behind the heading of a page
+-- the part of a page after its heading
 unfoldable pub body_text : Page → List ℕ
 body_text p = items_text p.items ++ closing
 
@@ -100,7 +100,7 @@ body_text p = items_text p.items ++ closing
 unfoldable pub document_page : ℕ → Page → List ℕ
 document_page k p = heading_text k ++ items_text p.items ++ closing
 
--- the line that tells how many pages there are
+-- the line that says how many pages there are
 unfoldable pub count_line : ℕ → List ℕ
 count_line n = codes "%%Pages: " ++ decimal n
 

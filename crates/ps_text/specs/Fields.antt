@@ -1,4 +1,4 @@
--- Words in parentheses, as a line of a page has them.
+-- Words in parentheses, as in a line of a page.
 use Rattle.std.specs.Prelude.{ℕ, ◌/◌, ◌%◌, Bool, ◌||◌, ◌==◌, nat_lt, if◌then◌else◌, List, [], ◌∷◌, ◌++◌, flat_map}
 use Rattle.glyph_paths.specs.Characters.{backslash, close_parenthesis, digit, open_parenthesis, space}
 
@@ -6,7 +6,8 @@ use Rattle.glyph_paths.specs.Characters.{backslash, close_parenthesis, digit, op
 abbrev pub is_special : ℕ → Bool
 is_special b = (b == open_parenthesis) || (b == close_parenthesis) || (b == backslash)
 
--- parentheses and backslashes stand after a backslash, bytes past 7E as three octal digits, other bytes as they are
+-- a backslash precedes parentheses, backslashes and the three octal digits of a byte past 7E; other bytes are as they
+-- are
 unfoldable pub shown : ℕ → List ℕ
 shown b = if is_special b then backslash ∷ b ∷ []
     else if nat_lt b 127 then b ∷ []

@@ -18,7 +18,7 @@ first_text = codes "%!PS-Adobe-3.0\n"
 unfoldable pub box_start : List ℕ
 box_start = codes "%%BoundingBox: 0 0 "
 
--- from behind the bounding box to the procedure that begins a page
+-- from after the bounding box to the procedure that begins a page
 unfoldable pub procedures : List ℕ
 procedures =
     codes "%%LanguageLevel: 2\n"
@@ -47,7 +47,7 @@ procedures =
 unfoldable pub page_start : List ℕ
 page_start = codes "/pg {gsave 0.01 0.01 scale "
 
--- that procedure from behind the scale
+-- that procedure from after the scale
 unfoldable pub page_end : List ℕ
 page_end = codes " scale 60 setlinewidth /EngFont findfont 900 scalefont setfont} def"
 

@@ -1,4 +1,4 @@
--- What may stand on a page: the range of each number, and for each type the values that have a text.
+-- The values that may be on a page: the range of each number, and for each type the values that have a text.
 use Rattle.std.specs.Prelude.{ℕ, ℤ, pos, negsuc, ◌^◌, ◌<◌, ◌≤◌, ◌+ℤ◌, ◌<ℤ◌, ◌≤ℤ◌, Bool, ◌&&◌, ◌||◌, nat_le, IsTrue}
 use Rattle.std.specs.Prelude.{List, [], ◌∷◌, length, All, ⊤}
 use Rattle.std.specs.List.{list_all}
@@ -46,7 +46,7 @@ pub record IsStem (y x dx from to : ℤ) : Type 0 where
   pub start : IsPlacedMark y x dx from
   pub end : IsOffset to
 
--- an end of a beam or an arc: a point at a height above y, and one so far above that
+-- an end of a beam or an arc: a point at a height above y, and one this far above that
 pub record IsArcEnd (y height rise : ℤ) : Type 0 where
   pub offset : IsOffset height
   pub point : IsNumber (y +ℤ height)
@@ -66,7 +66,7 @@ pub record IsSpan (y x1 x2 from to rise : ℤ) : Type 0 where
   pub left : IsArcEnd y from rise
   pub right : IsArcEnd y to rise
 
--- a mark that may stand on a staff at y; a beam is 250 thick
+-- a mark that may be on a staff at y; a beam is 250 thick
 abbrev pub IsPageMark : ℤ → PageMark → Type 0
 IsPageMark y (PageMark.Glyph glyph x dx dy) = IsPlacedMark y x dx dy
 IsPageMark y (PageMark.Words size x dx dy words) = IsPlacedMark y x dx dy × IsWords words
@@ -74,7 +74,7 @@ IsPageMark y (PageMark.Stem x dx from to) = IsStem y x dx from to
 IsPageMark y (PageMark.Beam way x1 x2 from to) = IsSpan y x1 x2 from to (pos 250)
 IsPageMark y (PageMark.Arc x1 x2 from to bulge) = IsSpan y x1 x2 from to bulge
 
--- a staff has lines of 1 to 2^31, and marks that may stand on it
+-- a staff has lines of 1 to 2^31, and marks that may be on it
 pub record IsStaff (s : Staff) : Type 0 where
   pub base : IsNumber s.y
   pub some : 1 ≤ s.width
@@ -110,12 +110,12 @@ IsItem (Item.Tune ordinal) = IsOrdinal ordinal
 IsItem (Item.Title x y size words) = IsTitle x y words
 IsItem (Item.System a b staves) = IsSystemItem a b staves
 
--- whether a title may stand directly after an item: not after a system
+-- whether a title may come directly after an item: not after a system
 abbrev pub IsAfter : Item → Item → Type 0
 IsAfter (Item.System a b staves) (Item.Title x y size words) = ⊥
 IsAfter _ _ = ⊤
 
--- each item may stand directly after the one before it
+-- each item may come directly after the one before it
 abbrev pub InOrder : List Item → Type 0
 InOrder [] = ⊤
 InOrder (i ∷ []) = ⊤

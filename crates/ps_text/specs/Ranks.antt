@@ -4,13 +4,13 @@ use Rattle.std.specs.Prelude.{Option, Some, None}
 use Rattle.std.specs.List.{list_any}
 use Rattle.ps_text.specs.{declared.marks.PageMark.PageMark, declared.sheet.Staff.Staff}
 
--- a step that may give nothing
+-- a step that may return nothing
 infixl 10 ◌>>=◌
 abbrev pub ◌>>=◌ : {A B : Type 0} → Option A → (A → Option B) → Option B
 None >>= f = None
 (Some x) >>= f = f x
 
--- glyphs, words and stems stand at an anchor; beams and arcs go between anchors
+-- glyphs, words and stems are at an anchor; beams and arcs go between anchors
 abbrev pub anchor_of : PageMark → List ℤ
 anchor_of (PageMark.Glyph glyph x dx dy) = x ∷ []
 anchor_of (PageMark.Words size x dx dy words) = x ∷ []
@@ -25,7 +25,7 @@ anchors staves = flat_map (λ (s : Staff). flat_map anchor_of s.marks) staves
 abbrev pub is_same : ℤ → ℤ → Bool
 is_same a b = int_le a b && int_le b a
 
--- how many different numbers of a list are below x
+-- the number of different numbers of a list that are below x
 abbrev pub count_below : ℤ → List ℤ → ℕ
 count_below x [] = 0
 count_below x (a ∷ rest) =
@@ -49,6 +49,6 @@ abbrev pub all_ranked : List ℤ → List PageMark → Option (List PageMark)
 all_ranked all [] = Some []
 all_ranked all (m ∷ rest) = ranked all m >>= λ r. all_ranked all rest >>= λ rs. Some (r ∷ rs)
 
--- the ranks of a staff of a system; none where some abscissa is no anchor
+-- the ranks of a staff of a system; none if some abscissa is no anchor
 unfoldable pub ranks : List Staff → Staff → Option (List PageMark)
 ranks staves s = all_ranked (anchors staves) s.marks

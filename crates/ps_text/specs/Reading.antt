@@ -1,5 +1,5 @@
--- Between a mark and its line: the mark that some numbers and a name may be, as the reader finds it. The promise of the
--- reader is that it gives the one mark that spells the line.
+-- From a line to its mark: the mark that some numbers and a name may be, as the reader finds it. The reader promises
+-- to return the one mark that spells the line.
 use Rattle.std.specs.Prelude.{ℕ, ℤ, pos, negsuc, ◌-ℤ◌, Bool, ◌&&◌, ◌==◌, int_le, if◌then◌else◌, List, length, codes}
 use Rattle.std.specs.Prelude.{find, Option, Some, None, slice_index_or}
 use Rattle.std.specs.Str.{bytes_eq}
@@ -43,7 +43,7 @@ stem_at dx to from x = if (is_small dx && is_small to) && is_small from then Som
 unfoldable pub stem_from : List ℤ → Option PageMark
 stem_from zs = if length zs == 6 then stem_at (at zs 0) (at zs 1) (at zs 3) (at zs 4) else None
 
--- how far one number is above another, where that is a signed number of 32 bits
+-- how far one number is above another, if that is a signed number of 32 bits
 unfoldable pub offset_from : ℤ → ℤ → Option ℤ
 offset_from z y = if is_small (z -ℤ y) then Some (z -ℤ y) else None
 

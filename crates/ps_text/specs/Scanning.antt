@@ -1,4 +1,4 @@
--- What the reader of a line takes from its front.
+-- What the reader of a line takes from its start.
 use Rattle.std.specs.{Prelude.{◌≡◌, ℕ, ℤ, ◌/◌, ◌%◌, ◌≤◌, ◌<◌, ◌==◌, Bool, not, List, ◌∷◌, ◌++◌}, Fmt.signed_decimal}
 use Rattle.{glyph_paths.specs.Characters.{digit, space}, ps_text.specs.Range.{IsNumber}}
 
@@ -11,7 +11,7 @@ pub record ReadsNumber (z : ℤ) (rest bytes : List ℕ) : Type 0 where
   pub number : IsNumber z
   pub spelled : bytes ≡ signed_decimal z ++ space ∷ rest
 
--- a byte past 7E is shown by a first octal digit and two more at the front of a text
+-- a byte past 7E is shown by a first octal digit and two more at the start of a text
 pub record IsOctal (z : ℕ) (rest : List ℕ) (first : ℕ) (bytes : List ℕ) : Type 0 where
   pub low : 160 ≤ z
   pub high : z < 256

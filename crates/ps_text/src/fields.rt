@@ -5,8 +5,8 @@ ghost use Rattle.{glyph_paths.specs.Procedure.{numbers}, ps_text.specs.Fields.{s
 use itoa::write_digits;
 use mus_units::{Memory, Text};
 
-/// Writes a number, and a space behind it, into a line so that they end before `end`; tells where
-/// they begin. They have 21 bytes at most.
+/// Writes a number and a space into a line so that they end before `end`. Returns where they begin.
+/// They have 21 bytes at most.
 fn write_number(line: &mut [u8], end: usize, z: i64) -> usize
     requires { (21 ≤ end) × (end ≤ length line.old) }
     ensures short { (result ≤ end) × (end ≤ result + 21) }
@@ -21,8 +21,8 @@ fn write_number(line: &mut [u8], end: usize, z: i64) -> usize
     start - 1
 }
 
-/// Writes numbers, a space behind each, into a line so that they end before `end`; tells where they
-/// begin.
+/// Writes numbers, each followed by a space, into a line so that they end before `end`. Returns
+/// where they begin.
 #[tactic(auto, unfolding(glyph_paths::specs::Procedure::numbers))]
 fn write_numbers(line: &mut [u8], end: usize, zs: &[i64]) -> usize
     requires { (21 * length zs.now ≤ end) × (end ≤ length line.old) }
@@ -36,8 +36,8 @@ fn write_numbers(line: &mut [u8], end: usize, zs: &[i64]) -> usize
     start
 }
 
-/// Adds up to 12 numbers in decimal, a space behind each, and a name of two letters. They are put
-/// together from the last on, and added at once.
+/// Adds up to 12 numbers in decimal, each followed by a space, and a name of two letters. They are
+/// built from the last to the first, and added at once.
 pub(crate) fn put_line(out: &mut Text, zs: &[i64], name: &[u8]) -> Result<(), Memory>
     requires few { length zs.now ≤ 12 }
     requires letters { length name.now ≡ 2 }
@@ -49,8 +49,8 @@ pub(crate) fn put_line(out: &mut Text, zs: &[i64], name: &[u8]) -> Result<(), Me
     out.append(&line[start..])
 }
 
-/// How lines of marks on a staff at `y` end before the name: the height of the staff and a space,
-/// which are written once for all of them.
+/// The end of the lines of marks on a staff at `y`, before the name: the height of the staff and a
+/// space, which are written once for all of them.
 #[derive(Drop)]
 pub struct LineEnd {
     pub y: i64,
@@ -61,7 +61,7 @@ pub struct LineEnd {
 }
 
 impl LineEnd {
-    /// The end of the lines of a staff's marks, with the height of the staff, in u.
+    /// Returns the end of the lines of a staff's marks, for the height of the staff, in u.
     #[tactic(auto, unfolding(glyph_paths::specs::Procedure::numbers))]
     pub fn new(y: i64) -> LineEnd
         ensures { result.y ≡ y }
@@ -71,8 +71,8 @@ impl LineEnd {
         LineEnd { y, bytes, start }
     }
 
-    /// Adds up to 5 numbers in decimal and the height of the staff, a space behind each, and a name
-    /// of two letters.
+    /// Adds up to 5 numbers in decimal and the height of the staff, each followed by a space, and a
+    /// name of two letters.
     #[tactic(auto, using(crate::proofs::Numbers::one_more))]
     pub(crate) fn put(&self, out: &mut Text, zs: &[i64], name: &[u8]) -> Result<(), Memory>
         requires few { length zs.now ≤ 5 }

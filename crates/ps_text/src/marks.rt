@@ -1,7 +1,7 @@
 use mus_units::{Glyph, Size, Text, Way};
 
-/// A mark of a staff, as a page has it. Abscissas `x`, `x1`, `x2` are absolute;
-/// `dx` is from `x`, and `dy`, `from` and `to` are above the base of the staff. All are in u.
+/// A mark of a staff, as it is on a page. Abscissas `x`, `x1`, `x2` are absolute; `dx` is from `x`,
+/// and `dy`, `from` and `to` are above the base of the staff. All are in u.
 #[derive(Drop)]
 pub enum PageMark {
     /// A glyph, drawn `dx`, `dy` from its anchor.

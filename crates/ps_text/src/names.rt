@@ -3,7 +3,7 @@ ghost use Rattle.ps_text.specs.Names.{size_name, way_name};
 
 use mus_units::{Size, Way};
 
-/// The procedure that shows words: `t1` or `t2`.
+/// Returns the procedure that shows words: `t1` or `t2`.
 pub fn size_name_of(size: Size) -> &'static [u8]
     ensures value { result.now ≡ size_name size }
     ensures letters { length result.now ≡ 2 }
@@ -14,7 +14,7 @@ pub fn size_name_of(size: Size) -> &'static [u8]
     }
 }
 
-/// The procedure that fills a beam: `bu`, `bd` or `gb`.
+/// Returns the procedure that fills a beam: `bu`, `bd` or `gb`.
 pub fn way_name_of(way: Way) -> &'static [u8]
     ensures value { result.now ≡ way_name way }
     ensures letters { length result.now ≡ 2 }

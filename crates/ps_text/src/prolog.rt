@@ -14,7 +14,7 @@ pub const FIRST: &[u8] = b"%!PS-Adobe-3.0\n";
 /// The bounding box, up to the width.
 pub const BOX: &[u8] = b"%%BoundingBox: 0 0 ";
 
-/// From behind the bounding box to the procedure that begins a page.
+/// From after the bounding box to the procedure that begins a page.
 pub const PROCEDURES: &[u8] = b"%%LanguageLevel: 2\n\
       %%Pages: (atend)\n\
       %%EndComments\n\
@@ -39,7 +39,7 @@ pub const PROCEDURES: &[u8] = b"%%LanguageLevel: 2\n\
 /// The procedure that begins a page, up to the left margin.
 pub const PAGE_START: &[u8] = b"/pg {gsave 0.01 0.01 scale ";
 
-/// That procedure from behind the scale.
+/// That procedure from after the scale.
 pub const PAGE_END: &[u8] = b" scale 60 setlinewidth /EngFont findfont 900 scalefont setfont} def";
 
 /// The last line of the prolog.
@@ -118,6 +118,7 @@ fn put_scaling(out: &mut Text, left: u32, bottom: u32, scale: u16) -> Result<(),
     put_percent(out, scale)
 }
 
+/// Adds the line that defines how a page begins, without its LF.
 #[tactic(auto, unfolding(crate::specs::Prolog::page_line))]
 pub fn put_page_line(out: &mut Text, left: u32, bottom: u32, scale: u16) -> Result<(), Memory>
     ensures { OnOk result (out.new ≡ out.old ++ page_line left bottom scale) }
@@ -149,7 +150,7 @@ fn put_heading(out: &mut Text, frame: &Frame) -> Result<(), Memory>
     out.push(b'\n')
 }
 
-/// Adds the prolog of a document, up to and with the line `%%EndProlog`.
+/// Adds the prolog of a document, up to and including the line `%%EndProlog`.
 #[tactic(auto, unfolding(crate::specs::Prolog::prolog))]
 pub fn put_prolog(alloc: Global, out: &mut Text, frame: &Frame) -> Result<(), Memory>
     ensures { OnOk result (out.new ≡ out.old ++ prolog frame.now) }

@@ -4,14 +4,14 @@ ghost use Rattle.ps_text.specs.Range.{IsStretch, IsSpan, is_shown};
 
 const LARGEST: i64 = 1_099_511_627_776;
 
-/// Whether a number may stand on a page: within 2^40 of 0.
+/// Returns whether a number may be on a page: within 2^40 of 0.
 pub fn is_page_number(z: i64) -> bool
     ensures { IsTrue result ↔ IsNumber z }
 {
     -LARGEST <= z && z <= LARGEST
 }
 
-/// Whether two numbers may stand on a page.
+/// Returns whether two numbers may be on a page.
 pub fn are_page_numbers(x: i64, y: i64) -> bool
     ensures { IsTrue result ↔ (IsNumber x × IsNumber y) }
 {
@@ -37,28 +37,28 @@ fn can_hold(len: usize) -> bool
     1 <= len && len <= 60
 }
 
-/// Whether words may stand on a page: 1 to 60 bytes, each 20 to 7E or A0 to FF.
+/// Returns whether words may be on a page: 1 to 60 bytes, each 20 to 7E or A0 to FF.
 pub fn can_show(words: &[u8]) -> bool
     ensures { IsTrue result ↔ IsWords words.now }
 {
     are_shown(words) && can_hold(words.len())
 }
 
-/// Whether a number may be an offset of a mark: a signed one of 32 bits.
+/// Returns whether a number may be an offset of a mark: a signed one of 32 bits.
 pub fn is_offset(z: i64) -> bool
     ensures { IsTrue result ↔ IsOffset z }
 {
     -2_147_483_648 <= z && z <= 2_147_483_647
 }
 
-/// Whether two numbers may be offsets of a mark.
+/// Returns whether two numbers may be offsets of a mark.
 fn are_offsets(dx: i64, dy: i64) -> bool
     ensures { IsTrue result ↔ (IsOffset dx × IsOffset dy) }
 {
     is_offset(dx) && is_offset(dy)
 }
 
-/// A number of a page moved by one or two offsets.
+/// Moves a number by an offset: a number of a page, or one already moved by an offset.
 pub fn moved(z: i64, by: i64) -> i64
     requires from { IsNearNumber z }
     requires by { IsOffset by }
@@ -67,7 +67,7 @@ pub fn moved(z: i64, by: i64) -> i64
     z + by
 }
 
-/// Whether the two points of an end of a beam or an arc may stand on a page.
+/// Returns whether the two points of an end of a beam or an arc may be on a page.
 fn are_points(y: i64, height: i64, rise: i64) -> bool
     requires base { IsNumber y }
     requires height { IsOffset height }
@@ -79,7 +79,7 @@ fn are_points(y: i64, height: i64, rise: i64) -> bool
     are_page_numbers(point, above)
 }
 
-/// Whether an end of a beam or an arc may stand on a page.
+/// Returns whether an end of a beam or an arc may be on a page.
 fn is_end(y: i64, height: i64, rise: i64) -> bool
     requires base { IsNumber y }
     requires rise { IsOffset rise }
@@ -88,7 +88,7 @@ fn is_end(y: i64, height: i64, rise: i64) -> bool
     is_offset(height) && are_points(y, height, rise)
 }
 
-/// Whether both ends of a beam or an arc may stand on a page.
+/// Returns whether both ends of a beam or an arc may be on a page.
 fn are_ends(y: i64, from: i64, to: i64, rise: i64) -> bool
     requires base { IsNumber y }
     requires rise { IsOffset rise }
@@ -97,7 +97,7 @@ fn are_ends(y: i64, from: i64, to: i64, rise: i64) -> bool
     is_end(y, from, rise) && is_end(y, to, rise)
 }
 
-/// Whether a beam or an arc may go from one abscissa to another.
+/// Returns whether a beam or an arc may go from one abscissa to another.
 fn is_stretch(x1: i64, x2: i64) -> bool
     ensures { IsTrue result ↔ IsStretch x1 x2 }
 {
@@ -110,7 +110,7 @@ fn is_base_and_rise(y: i64, rise: i64) -> bool
     is_page_number(y) && is_offset(rise)
 }
 
-/// Whether a beam or an arc on a staff at `y` may stand on a page.
+/// Returns whether a beam or an arc on a staff at `y` may be on a page.
 pub fn is_span(y: i64, x1: i64, x2: i64, from: i64, to: i64, rise: i64) -> bool
     ensures { IsTrue result ↔ IsSpan y x1 x2 from to rise }
 {
@@ -120,21 +120,21 @@ pub fn is_span(y: i64, x1: i64, x2: i64, from: i64, to: i64, rise: i64) -> bool
     is_stretch(x1, x2) && are_ends(y, from, to, rise)
 }
 
-/// Whether a glyph or words at `x`, with offsets, may stand on a staff at `y`.
+/// Returns whether a glyph or words at `x`, with offsets, may be on a staff at `y`.
 pub fn is_placed(y: i64, x: i64, dx: i64, dy: i64) -> bool
     ensures { IsTrue result ↔ IsPlacedMark y x dx dy }
 {
     are_page_numbers(y, x) && are_offsets(dx, dy)
 }
 
-/// Whether words at `x`, with offsets, may stand on a staff at `y`.
+/// Returns whether words at `x`, with offsets, may be on a staff at `y`.
 pub fn is_words_mark(y: i64, x: i64, dx: i64, dy: i64, words: &[u8]) -> bool
     ensures { IsTrue result ↔ (IsPlacedMark y x dx dy × IsWords words.now) }
 {
     is_placed(y, x, dx, dy) && can_show(words)
 }
 
-/// Whether a stem at `x` may stand on a staff at `y`.
+/// Returns whether a stem at `x` may be on a staff at `y`.
 pub fn is_stem(y: i64, x: i64, dx: i64, from: i64, to: i64) -> bool
     ensures { IsTrue result ↔ IsStem y x dx from to }
 {

@@ -23,7 +23,7 @@ use mus_units::bytes::is_same;
 use mus_units::{Glyph, Memory, Size, Text, Way};
 use std::alloc::Global;
 
-/// Whether a number is a signed one of 32 bits.
+/// Returns whether a number is a signed one of 32 bits.
 #[tactic(auto, unfolding(crate::specs::Reading::is_small))]
 fn is_small(z: i64) -> bool
     ensures { result ≡ is_small z }
@@ -31,7 +31,7 @@ fn is_small(z: i64) -> bool
     -2_147_483_648 <= z && z <= 2_147_483_647
 }
 
-/// A number that is a signed one of 32 bits, as such.
+/// Returns a number as a signed one of 32 bits, if it is one.
 fn narrowed(z: i64) -> i32
     requires { is_small z ≡ true }
     ensures { result ≡ z }
@@ -39,7 +39,7 @@ fn narrowed(z: i64) -> i32
     z as i32
 }
 
-/// The glyph of a name.
+/// Returns the glyph of a name.
 #[tactic(auto, unfolding(crate::specs::Reading::glyph_named))]
 fn glyph_named(name: &[u8]) -> Option<Glyph>
     ensures { result ≡ glyph_named name.now }
@@ -66,7 +66,7 @@ fn glyph_at(glyph: Glyph, dx: i64, dy: i64, x: i64) -> Option<PageMark>
     }
 }
 
-/// The glyph that four numbers may place.
+/// Returns the glyph that four numbers may place.
 fn glyph_from(zs: &[i64], glyph: Option<Glyph>) -> Option<PageMark>
     ensures { result ≡ glyph_from zs.now glyph }
 {
@@ -105,7 +105,7 @@ fn size_named(name: &[u8]) -> Size
     }
 }
 
-/// The words that four numbers and a name may place.
+/// Returns the words that four numbers and a name may place.
 #[tactic(auto, unfolding(crate::specs::Reading::words_from))]
 fn words_from(text: Text, zs: &[i64], name: &[u8]) -> Option<PageMark>
     ensures { result ≡ words_from text zs.now name.now }
@@ -133,7 +133,7 @@ fn stem_at(dx: i64, to: i64, from: i64, x: i64) -> Option<PageMark>
     }
 }
 
-/// The stem that six numbers may be.
+/// Returns the stem that six numbers may be.
 #[tactic(auto, unfolding(crate::specs::Reading::stem_from))]
 fn stem_from(zs: &[i64]) -> Option<PageMark>
     ensures { result ≡ stem_from zs.now }
@@ -145,7 +145,7 @@ fn stem_from(zs: &[i64]) -> Option<PageMark>
     }
 }
 
-/// How far one number is above another, where that is a signed number of 32 bits.
+/// Returns how far one number is above another, if that is a signed number of 32 bits.
 #[tactic(auto, unfolding(crate::specs::Reading::offset_from))]
 fn offset_from(z: i64, y: i64) -> Option<i32>
     ensures { result ≡ offset_from z y }
@@ -175,7 +175,7 @@ fn beam_at(way: Way, x1: i64, x2: i64, from: Option<i32>, to: Option<i32>) -> Op
     }
 }
 
-/// The beam that eight numbers may be on a staff at `y`.
+/// Returns the beam that eight numbers may be on a staff at `y`.
 #[tactic(auto, unfolding(crate::specs::Reading::beam_from))]
 fn beam_from(way: Way, y: i64, zs: &[i64]) -> Option<PageMark>
     ensures { result ≡ beam_from way y zs.now }
@@ -214,7 +214,7 @@ fn arc_at(
     }
 }
 
-/// The arc that eight numbers may be on a staff at `y`.
+/// Returns the arc that eight numbers may be on a staff at `y`.
 #[tactic(auto, unfolding(crate::specs::Reading::arc_from))]
 fn arc_from(y: i64, zs: &[i64]) -> Option<PageMark>
     ensures { result ≡ arc_from y zs.now }
@@ -232,7 +232,7 @@ fn arc_from(y: i64, zs: &[i64]) -> Option<PageMark>
     }
 }
 
-/// The mark that numbers and a name may be on a staff at `y`.
+/// Returns the mark that numbers and a name may be on a staff at `y`.
 #[tactic(auto, unfolding(crate::specs::Reading::mark_from))]
 fn mark_from(y: i64, zs: &[i64], name: &[u8]) -> Option<PageMark>
     ensures { result ≡ mark_from y zs.now name.now }
@@ -252,7 +252,7 @@ fn mark_from(y: i64, zs: &[i64], name: &[u8]) -> Option<PageMark>
     }
 }
 
-/// The mark that a line without words may be.
+/// Returns the mark that a line without words may be.
 fn mark_without_words(alloc: Global, line: &[u8], y: i64) -> Result<Option<PageMark>, Memory>
     ensures { IfOk result (λ o.
         (zs : List ℤ) (name : List ℕ)
@@ -263,7 +263,7 @@ fn mark_without_words(alloc: Global, line: &[u8], y: i64) -> Result<Option<PageM
     Ok(mark_from(y, zs.as_slice(), name))
 }
 
-/// The mark that a line may be of which this stands behind the opening parenthesis.
+/// Returns the mark that a line may be, given its bytes after the opening parenthesis.
 fn mark_of_words(alloc: Global, line: &[u8]) -> Result<Option<PageMark>, Memory>
     ensures { IfOk result (λ o.
         (words : List ℕ) (zs : List ℤ) (name : List ℕ)
@@ -279,7 +279,7 @@ fn mark_of_words(alloc: Global, line: &[u8]) -> Result<Option<PageMark>, Memory>
     Ok(words_from(text, zs.as_slice(), name))
 }
 
-/// The mark that a line may be: where a mark spells it, it is that one.
+/// Returns the mark that a line may be. If a mark spells the line, it is that one.
 fn mark_in(alloc: Global, line: &[u8], y: i64) -> Result<Option<PageMark>, Memory>
     ensures { IfOk result (λ o. (m : PageMark) → IsPageMark y m → mark_line y m ≡ line.now → o ≡ Some m) }
 {
@@ -292,7 +292,7 @@ fn mark_in(alloc: Global, line: &[u8], y: i64) -> Result<Option<PageMark>, Memor
     mark_without_words(alloc, line, y)
 }
 
-/// Whether a mark may stand on a staff at `y` and spells the line there.
+/// Returns whether a mark may be on a staff at `y` and spells the line there.
 fn is_spelled(alloc: Global, m: &PageMark, y: i64, line: &[u8]) -> Result<bool, Memory>
     ensures { IfOk result (λ is. IsTrue is ↔ (IsPageMark y m.now × (mark_line y m.now ≡ line.now))) }
 {
@@ -302,8 +302,8 @@ fn is_spelled(alloc: Global, m: &PageMark, y: i64, line: &[u8]) -> Result<bool, 
     }
 }
 
-/// The one mark that spells a line, without its LF, on a staff at `y`; `None`
-/// exactly where no mark does.
+/// Returns the one mark that spells a line, without its LF, on a staff at `y`; `None` exactly when
+/// no mark does.
 pub fn read_op(alloc: Global, line: &[u8], y: i64) -> Result<Option<PageMark>, Memory>
     ensures mark { IfOk result (λ o.
         MatchOption o ((m : PageMark) → IsPageMark y m → mark_line y m ≡ line.now → ⊥)

@@ -9,7 +9,7 @@ ghost use Rattle.ps_text.specs.Scanning.{is_field_byte, ReadsNumber};
 use mus_units::{Memory, Row};
 use std::alloc::Global;
 
-/// How many bytes stand before the first space.
+/// Returns the number of bytes before the first space.
 fn field_len(bytes: &[u8]) -> usize
     ensures value { result ≡ prefix_len is_field_byte bytes.now }
     ensures bound { result ≤ length bytes.now }
@@ -17,7 +17,7 @@ fn field_len(bytes: &[u8]) -> usize
     bytes.iter().take_while(|b| **b != b' ').count()
 }
 
-/// The number that these bytes are; they may spell it in another way than a page does.
+/// Returns the number that these bytes spell, possibly in another way than a page does.
 fn parsed(bytes: &[u8]) -> Option<i64>
     ensures { (z : ℤ) → IsNumber z → bytes.now ≡ signed_decimal z → result ≡ Some z }
 {
@@ -30,7 +30,7 @@ fn parsed(bytes: &[u8]) -> Option<i64>
     }
 }
 
-/// The number before the first space, and what follows that.
+/// Returns the number before the first space, and the rest after that space.
 pub fn take_number(bytes: &[u8]) -> Option<(i64, &[u8])>
     ensures shorter { IfSome result (λ r. length r.1.now < length bytes.now) }
     ensures reads { (z : ℤ) (rest : List ℕ)
@@ -47,7 +47,7 @@ pub fn take_number(bytes: &[u8]) -> Option<(i64, &[u8])>
     }
 }
 
-/// The numbers at the front of these bytes, each with a space after it, and what follows them.
+/// Returns the numbers at the start of these bytes, each followed by a space, and the rest.
 pub fn take_numbers(alloc: Global, bytes: &[u8]) -> Result<(Row<i64>, &[u8]), Memory>
     ensures { IfOk result (λ r.
         (zs : List ℤ) (name : List ℕ)

@@ -1,8 +1,8 @@
 use crate::marks::PageMark;
 use mus_units::{Row, Size, Text};
 
-/// The paper: its width and height in points, its left and bottom margins in
-/// u, and its scale in percent, 40 to 150.
+/// The paper: its width and height in points, its left and bottom margins in u, and its scale in
+/// percent, 40 to 150.
 #[derive(Clone, Copy, PartialEq, Eq)]
 pub struct Frame {
     pub wide: u32,
@@ -21,7 +21,7 @@ pub struct Staff {
     pub marks: Row<PageMark>,
 }
 
-/// What stands on a page.
+/// An item of a page.
 #[derive(Drop)]
 pub enum Item {
     /// Tune `ordinal`, from 1, begins here.

@@ -31,7 +31,7 @@ fn is_special(b: u8) -> bool
     b == b'(' || b == b')' || b == b'\\'
 }
 
-/// The byte that three octal digits show, the first of which is `a`, and what follows them.
+/// Returns the byte that three octal digits show, the first of which is `a`, and the rest.
 fn take_octal(a: u8, bytes: &[u8]) -> Option<(u8, &[u8])>
     ensures shorter { IfSome result (λ r. length r.1.now < length bytes.now) }
     ensures reads { (z : ℕ) (rest : List ℕ)
@@ -46,7 +46,7 @@ fn take_octal(a: u8, bytes: &[u8]) -> Option<(u8, &[u8])>
     }
 }
 
-/// The byte that stands after a backslash, as it is or as three octal digits, and what follows it.
+/// Returns the byte that follows a backslash, as it is or as three octal digits, and the rest.
 fn take_escaped(bytes: &[u8]) -> Option<(u8, &[u8])>
     ensures shorter { IfSome result (λ r. length r.1.now < length bytes.now) }
     ensures reads { (b : ℕ) (rest : List ℕ)
@@ -65,7 +65,7 @@ fn take_escaped(bytes: &[u8]) -> Option<(u8, &[u8])>
     }
 }
 
-/// The byte that the front of words shows, and what follows it; none where the words end.
+/// Returns the byte that is shown at the start of words, and the rest; `None` if the words end.
 fn take_shown(bytes: &[u8]) -> Option<(u8, &[u8])>
     ensures shorter { IfSome result (λ r. length r.1.now < length bytes.now) }
     ensures reads { (b : ℕ) (rest : List ℕ)
@@ -82,7 +82,7 @@ fn take_shown(bytes: &[u8]) -> Option<(u8, &[u8])>
     }
 }
 
-/// The words at the front of these bytes, and what stands from their closing parenthesis on.
+/// Returns the words at the start of these bytes, and the rest from their closing parenthesis on.
 pub fn take_words(alloc: Global, bytes: &[u8]) -> Result<(Text, &[u8]), Memory>
     ensures { IfOk result (λ r.
         (words : List ℕ) (tail : List ℕ)

@@ -34,8 +34,8 @@ fn ends_of(y: i64, x1: i64, x2: i64, from: i64, to: i64, rise: i64) -> Ends
     }
 }
 
-/// Adds the four points of a beam or an arc: the one above the left end, at `p`, the one above the right
-/// end, at `q`, the right end and the left one; and a name of two letters.
+/// Adds the four points of a beam or an arc: the one above the left end, at `p`, the one above the
+/// right end, at `q`, the right end and the left one; and a name of two letters.
 #[tactic(auto, using(crate::proofs::Signs::as_passed), unfolding(crate::specs::Line::points))]
 fn put_points(
     out: &mut Text,
@@ -73,7 +73,7 @@ fn put_beam(
     put_points(out, x1, x2, x1, x2, &ends, way_name_of(way))
 }
 
-/// A quarter of the way from one abscissa to another.
+/// Returns the abscissa a quarter of the way from one to another.
 fn quarter(x1: i64, x2: i64) -> i64
     requires { IsStretch x1 x2 }
     ensures value { result ≡ quarter x1 x2 }
@@ -170,7 +170,7 @@ pub fn put_op(out: &mut Text, end: &LineEnd, m: &PageMark) -> Result<(), Memory>
     }
 }
 
-/// Whether a mark may stand on a staff at `y`.
+/// Returns whether a mark may be on a staff at `y`.
 #[tactic(auto, using(crate::proofs::Signs::as_passed))]
 pub fn is_page_mark(y: i64, m: &PageMark) -> bool
     ensures { IsTrue result ↔ IsPageMark y m.now }
@@ -215,8 +215,8 @@ pub fn is_page_mark(y: i64, m: &PageMark) -> bool
     }
 }
 
-/// The line of a mark on a staff at `y`, without the LF that ends it, or
-/// `None` exactly where the mark may not stand on that staff.
+/// Returns the line of a mark on a staff at `y`, without the LF that ends it, or `None` exactly
+/// when the mark may not be on that staff.
 pub fn write_op(alloc: Global, m: &PageMark, y: i64) -> Result<Option<Text>, Memory>
     ensures { IfOk result
         (λ op. MatchOption op (¬ IsPageMark y m.now) (λ line. IsPageMark y m.now × (line ≡ mark_line y m.now))) }

@@ -20,7 +20,7 @@ columns g c =
     c.requires.measures.same c.loop-m.invariant.columns
     (c.in_ok-see.ensures ∙ ap (λ r. map (λ s. s.column.now) c.loop-m.seen ++ r) c.measure.ensures)
 
--- what the search wrote stands where it was lent
+-- what the search wrote is in the borrowed slices
 at_is : (g : _) (c : After-greatest_force g)
     → take c.resize.new.self.len
     (c.greatest_force.new.at ++ drop (length c.greatest_force.new.at) c.resize.new.self.items)

@@ -50,7 +50,7 @@ module _ (g : _) (c : After-set_past-next g) where
   same : to_z w64 (of_z w64 v) ≡ v
   same = to_z-of_z w64 v (record { sfits = c.set_past-next.type_inv })
 
-  -- no column is placed past this
+  -- no column is placed past this bound
   bound : v ≤ℤ pos (1048576 + 3145728 * c.args.j)
   bound =
       let short = spring_short _ c.args.force _ c.length-spring.result (g.met.C.Spring.is_short c.index-cols-j-2.result)
@@ -74,7 +74,7 @@ module _ (g : _) (c : After-set_past-next g) where
   begins : pos 0 ≤ℤ v
   begins = omega (arith, ints, low, (past).0)
 
-  -- the column isn't past where it stands in a list at most so far below, nor past where the spring ends
+  -- the column isn't past its abscissa in a list at most this far below, nor past the end of the spring
   from_near : (weak : ℕ → ℕ) (y : List ℤ) (d : ℕ)
       → StandApart (c.args.j + 1) (reach_at g.C.Spaced.reach_of c.args.cols.now) c.args.gaps.now weak y
       → ((k : ℕ) → k < c.args.j → slice_index_or c.args.at.now k (pos 0) ≤ℤ (slice_index_or y k (pos 0) +ℤ pos d))
